@@ -1,0 +1,22 @@
+-- What a branch on signed numbers tells. The logic has the test of two locals as an equation of a flag, `ltZ u v ≡ true`, over what the machine reads of them, u and v; each lemma takes that these are a and b (`toZ-ofZ (c .fits .x)`, `reads64 env e tt`), and gives the fact about a and b.
+-- `x > 0` is `0 < x`, and `x >= y` is `y <= x`.
+-- Assumes nothing.
+use mathlib.Core.Path.{_≡_, refl, sym, subst, subst₂}
+use mathlib.Core.Bool.{Bool, true, false, not}
+use lib.Dec.{T, le→leb}
+use lib.IntN.{ℤ}
+use lib.Signed.{ltZ, leZ, _<ℤ_, _≤ℤ_, ltZ-yes, ltZ-no, leZ-yes}
+use Rattle.algebra.specs.Order.{leZ-no}
+
+module _ {u v a b : ℤ} (p : u ≡ a) (q : v ≡ b) where
+  pub lt-taken : ltZ u v ≡ true → a <ℤ b
+  lt-taken t = subst₂ (λ (x y : ℤ). x <ℤ y) p q (ltZ-yes (subst T (sym t) tt))
+
+  pub lt-left : ltZ u v ≡ false → b ≤ℤ a
+  lt-left t = subst₂ (λ (x y : ℤ). y ≤ℤ x) p q (ltZ-no (subst (λ (f : Bool). T (not f)) (sym t) tt))
+
+  pub le-taken : leZ u v ≡ true → a ≤ℤ b
+  le-taken t = subst₂ (λ (x y : ℤ). x ≤ℤ y) p q (leZ-yes (subst T (sym t) tt))
+
+  pub le-left : leZ u v ≡ false → b <ℤ a
+  le-left t = subst₂ (λ (x y : ℤ). y <ℤ x) p q (leZ-no (subst (λ (f : Bool). T (not f)) (sym t) tt))
