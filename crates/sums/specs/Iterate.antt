@@ -11,12 +11,12 @@ use native.Mathlib.Nat.{le-refl, suc-add, zero-add}
 use native.Mathlib.Omega.{arith}
 use lib.Dec.{T, eqb, eqb→eq}
 use lib.IntN.{ℤ, _+ℤ_}
-use Rattle.algebra.specs.Ring.{_⊕_, v0, v1, v2, num}
-use Rattle.algebra.specs.Sign.{eq-in, eq-by, _*⁰_}
+use Rattle.algebra.specs.Ring.{_⊕_, v0, v1, v2}
+use Rattle.algebra.specs.Sign.{eq-in, eq-by}
 use Rattle.sums.specs.Bit.{eq-test, or-cases, or-left, or-right}
 use Rattle.sums.specs.Bounded.{first-below, first-below-le, first-below-passes, first-below-before}
 use Rattle.sums.specs.Listed.{Listed, On, pigeonhole}
-use Rattle.sums.specs.Sum.{sum, sum-ext, sum-first}
+use Rattle.sums.specs.Sum.{sum, sum-first, sum-classes}
 
 -- the first step first
 abbrev pub iter : ℕ → (ℕ → ℕ) → ℕ → ℕ
@@ -46,10 +46,13 @@ pub iter-round : (n : ℕ) (f : ℕ → ℕ) (a : ℕ) → iter n f a ≡ a → 
 iter-round n f a e zero = e
 iter-round n f a e (suc k) = iter-round n f (f a) (iter-last n f a ∙ ap f e) k
 
--- two functions that agree on a set that f does not leave
+-- two functions that agree along the walk; and on a set that f does not leave
+pub iter-ext : (n : ℕ) (f f' : ℕ → ℕ) (a : ℕ) → ((k : ℕ) → k < n → f' (iter k f a) ≡ f (iter k f a)) → iter n f' a ≡ iter n f a
+iter-ext zero f f' a h = refl
+iter-ext (suc n) f f' a h = ap (iter n f') (h zero (omega arith)) ∙ iter-ext n f f' (f a) (λ k l. h (suc k) (omega arith))
+
 pub iter-same : {f f' : ℕ → ℕ} (D : ℕ → Type 0) → ((y : ℕ) → D y → D (f y)) → ((y : ℕ) → D y → f' y ≡ f y) → {a : ℕ} → D a → (k : ℕ) → iter k f' a ≡ iter k f a
-iter-same D closed same d zero = refl
-iter-same {f} {f'} D closed same {a} d (suc k) = ap (iter k f') (same a d) ∙ iter-same D closed same (closed a d) k
+iter-same {f} {f'} D closed same {a} d n = iter-ext n f f' a (λ k l. same (iter k f a) (iter-keeps D closed k d))
 
 -- ---- reachability
 abbrev pub Reach : (ℕ → ℕ) → ℕ → ℕ → Type 0
@@ -346,3 +349,13 @@ along h {f} A step {a} back (k, e) = ap A (sym e) ∙ go k a back
 
 pub sum-round : (h : ℕ) {f : ℕ → ℕ} (c : ℕ → ℤ) {a b : ℕ} → iter h f a ≡ a → Reach f a b → sum h (λ k. c (iter k f b)) ≡ sum h (λ k. c (iter k f a))
 sum-round h {f} c = along h (λ z. sum h (λ k. c (iter k f z))) (λ z q. sum-next h f z c q)
+
+-- ---- numbers below n that are the rounds of f from m starts: the sum goes round by round. For a mesh: over all half-edges, face by face, with f the step around a face.
+pub sum-rounds : {n : ℕ} {f g : ℕ → ℕ} → Inverse n f g → (m : ℕ) (class start size : ℕ → ℕ) → ((i : ℕ) → i < n → class i < m) → ((i : ℕ) → i < n → class (f i) ≡ class i)
+    → ((c : ℕ) → c < m → start c < n) → ((c : ℕ) → c < m → class (start c) ≡ c) → ((c : ℕ) → c < m → Period f (start c) (size c)) → ((i : ℕ) → i < n → Reach f (start (class i)) i)
+    → (t : ℕ → ℤ) → sum n t ≡ sum m (λ c. sum (size c) (λ k. t (iter k f (start c))))
+sum-rounds {n} {f} {g} inv m class start size low keeps begin own round whole =
+    sum-classes n m class size (λ c k. iter k f (start c)) low (λ c l. period-listed inv (begin c l) (round c l)) same (λ i l. reach-on inv (begin (class i) (low i l)) (round (class i) (low i l)) (whole i l))
+  where
+    same : (c k : ℕ) → c < m → k < size c → class (iter k f (start c)) ≡ c
+    same c k l u = iter-keeps (λ x. (x < n) × (class x ≡ c)) (λ x d. (inv .there x (d .0), keeps x (d .0) ∙ d .1)) k (begin c l, own c l) .1

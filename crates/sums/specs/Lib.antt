@@ -6,3 +6,6 @@ pub mod Listed
 pub mod Sum
 pub mod Iterate
 pub mod Half
+pub mod Store
+pub mod Tally
+pub mod Until
