@@ -3,18 +3,18 @@
 -- Walks survive where a number is taken out of f's path or put into it, and where places are renamed. Assumes nothing.
 use mathlib.Core.Path.{_≡_, refl, sym, _∙_, ap, subst}
 use mathlib.Core.Logic.{_≢_, _⊎_, inl, inr}
-use mathlib.Core.Bool.{Bool, true, false, _||_}
+use mathlib.Core.Bool.{Bool, false, _||_}
 use mathlib.Core.List.{[], _∷_}
 use Prim.Native.Nat.{ℕ, zero, suc, _+_, _-_, _<_, _≤_}
 use native.Mathlib.Decide.{ℕ-discrete, decLt}
-use native.Mathlib.Nat.{le-refl, suc-add, zero-add}
+use native.Mathlib.Nat.{suc-add, zero-add}
 use native.Mathlib.Omega.{arith}
 use lib.Dec.{T, eqb, eqb→eq}
 use lib.IntN.{ℤ, _+ℤ_}
 use Rattle.algebra.specs.Ring.{_⊕_, v0, v1, v2}
 use Rattle.algebra.specs.Sign.{eq-in, eq-by}
-use Rattle.sums.specs.Bit.{eq-test, or-cases, or-left, or-right}
-use Rattle.sums.specs.Bounded.{first-below, first-below-le, first-below-passes, first-below-before}
+use Rattle.sums.specs.Bit.{eq-test, or-cases, or-left, or-right, implies, implies→, implies←}
+use Rattle.sums.specs.Bounded.{all-below, all-below→, all-below←, first-below, first-below-le, first-below-passes, first-below-before}
 use Rattle.sums.specs.Listed.{Listed, On, pigeonhole}
 use Rattle.sums.specs.Sum.{sum, sum-first, sum-classes}
 
@@ -159,6 +159,15 @@ reaches← (suc n) f x y (suc k) l e = or-right (eqb x y) (reaches n f (f x) y) 
 pub reaches-reach : (n : ℕ) (f : ℕ → ℕ) (x y : ℕ) → T (reaches n f x y) → Reach f x y
 reaches-reach n f x y h = let r = reaches→ n f x y h in (r .0, r .2)
 
+-- every two numbers below n that the test t names are joined by fewer than n steps
+unfoldable pub joined : ℕ → (ℕ → ℕ → Bool) → (ℕ → ℕ) → Bool
+joined n t f = all-below n (λ x. all-below n (λ y. implies (t x y) (reaches n f x y)))
+
+pub joined→ : (n : ℕ) (t : ℕ → ℕ → Bool) (f : ℕ → ℕ) → T (joined n t f) → {x y : ℕ} → x < n → y < n → T (t x y) → Reach f x y
+unfolding joined
+joined→ n t f h {x} {y} l m u = reaches-reach n f x y (implies→ (t x y) (reaches n f x y) (all-below→ n (λ y. implies (t x y) (reaches n f x y))
+    (all-below→ n (λ x. all-below n (λ y. implies (t x y) (reaches n f x y))) h x l) y m) u)
+
 -- ---- f and g undo one another on the numbers below n
 pub record Inverse (n : ℕ) (f g : ℕ → ℕ) : Type 0 where
   pub there : (a : ℕ) → a < n → f a < n
@@ -295,6 +304,11 @@ module _ {n : ℕ} {f g : ℕ → ℕ} (inv : Inverse n f g) where
     -- so the test decides
     pub reach-reaches : {b : ℕ} → Reach f a b → T (reaches n f a b)
     reach-reaches {b} r = let o = reach-on period-is r in reaches← n f a b (o .0) (let h = o .1 in let q = period-le period-is in omega arith) (o .2)
+
+  pub joined← : (t : ℕ → ℕ → Bool) → ((x y : ℕ) → x < n → y < n → T (t x y) → Reach f x y) → T (joined n t f)
+  unfolding joined
+  joined← t h = all-below← n (λ x. all-below n (λ y. implies (t x y) (reaches n f x y)))
+      (λ x l. all-below← n (λ y. implies (t x y) (reaches n f x y)) (λ y m. implies← (t x y) (reaches n f x y) (λ u. reach-reaches l (h x y l m u))))
 
   -- the same round from any of its numbers
   pub period-next : {a h : ℕ} → a < n → Period f a h → Period f (f a) h

@@ -4,12 +4,12 @@ use mathlib.Core.Path.{_≡_, refl, sym, _∙_, ap}
 use mathlib.Core.Bool.{Bool}
 use mathlib.Core.List.{List, [], _∷_, _++_}
 use Prim.Native.Nat.{ℕ, zero, suc, _+_, _<_, _≤_}
-use native.Mathlib.Nat.{suc-add, zero-add, add-comm}
+use native.Mathlib.Nat.{suc-add, zero-add}
 use native.Mathlib.Omega.{arith}
 use lib.Dec.{T}
 use lib.ListN.{length, getD}
 use Rattle.sums.specs.Bit.{bit}
-use Rattle.sums.specs.Bounded.{count, count-suc, count-ext, count-le, count-some, count-positive, count-before, count-sole, Least, least-unique, first-below, first-below-least, first-below-at-most}
+use Rattle.sums.specs.Bounded.{count, count-ext, count-le, count-some, count-positive, count-before, count-sole, Least, least-unique, first-below, first-below-least, first-below-at-most}
 use Rattle.sums.specs.Iterate.{iter, iter-last, Reach}
 
 -- the n places from s on
