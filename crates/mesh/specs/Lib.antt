@@ -7,3 +7,5 @@ pub mod Triangle
 pub mod Frame
 pub mod Flipped
 pub mod Flip
+pub mod FaceBetween
+pub mod SingleFace
