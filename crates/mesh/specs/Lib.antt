@@ -9,3 +9,5 @@ pub mod Flipped
 pub mod Flip
 pub mod FaceBetween
 pub mod SingleFace
+pub mod FaceAdjacent
+pub mod NewFace
