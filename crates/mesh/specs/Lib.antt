@@ -1,0 +1,5 @@
+pub mod Mesh
+pub mod Operations
+pub mod Wf
+pub mod Rules
+pub mod RulesWf
