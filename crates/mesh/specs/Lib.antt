@@ -1,0 +1,8 @@
+-- The half-edge mesh: its rules, its operations, and that they keep the rules.
+pub mod Mesh
+pub mod Operations
+pub mod Wf
+pub mod Cases
+pub mod Triangle
+pub mod Flipped
+pub mod Flip
