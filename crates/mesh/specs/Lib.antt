@@ -6,3 +6,7 @@ pub mod Cases
 pub mod Triangle
 pub mod Flipped
 pub mod Flip
+pub mod Area
+pub mod BoundaryLaws
+pub mod CountsLaws
+pub mod AreaLaws
