@@ -8,10 +8,12 @@ use Rattle.mesh.specs.declared.Counts.{Counts}
 use Rattle.mesh.specs.Mesh.{Links, In, turn}
 use Rattle.mesh.specs.Operations.{flipBetween, flipCw}
 use Rattle.mesh.specs.Wf.{Wf, Ranges, Linked, Faces, Vertices}
-use Rattle.mesh.specs.Cases.{All, None, each, given}
-use Rattle.mesh.specs.Triangle.{Triangle, triangle, same-face}
+use Rattle.mesh.specs.Cases.{given}
+use Rattle.mesh.specs.Frame.{Keeps, SameFace, SameBoundary, Corners}
+use Rattle.mesh.specs.Triangle.{Triangle, triangle, same-face, rev-in}
 use Rattle.mesh.specs.Flipped.{Flipped, flipped}
-use Rattle.sums.specs.Half.{rev, rev-rev, rev-lt, rev-even, rev-odd}
+use Rattle.sums.specs.Cases.{All, None, each}
+use Rattle.sums.specs.Half.{rev, rev-rev, rev-even, rev-odd}
 use Rattle.sums.specs.Put.{put, put-same, put-other}
 use Rattle.sums.specs.Iterate.{Reach, reach-at, reach-one, reach-two, reach-trans, reach-by}
 
@@ -22,6 +24,14 @@ pub record Flippable (C : Counts) (L : Links) (u : ℕ) : Type 0 where
   pub inner-left : 0 < L .face (2 * u)
   pub inner-right : 0 < L .face (2 * u + 1)
   pub differ : L .face (2 * u) ≢ L .face (2 * u + 1)
+
+-- What a flip leaves, and the corners of the two faces after it: c is the vertex across from the edge ab in the face of e, d in that of t.
+pub record FlipFrame (C : Counts) (L L′ : Links) (e t a b c d : ℕ) : Type 0 where
+  pub other : {x : ℕ} → L .face x ≢ L .face e → L .face x ≢ L .face t → Keeps L L′ x
+  pub boundary : SameBoundary C L L′
+  pub others : {f : ℕ} → f < C .faces → f ≢ L .face e → f ≢ L .face t → SameFace L L′ f
+  pub corners-e : Corners L′ (L .face e) c d b
+  pub corners-t : Corners L′ (L .face t) d c a
 
 module _ {C : Counts} {L L′ : Links} {e en ep t tn tp : ℕ} (W : Wf C L) (A : Triangle C L e en ep) (B : Triangle C L t tn tp) (F : Flipped L L′ e en ep t tn tp)
     (fi : 0 < L .face e) (gi : 0 < L .face t) (fg : L .face e ≢ L .face t) where
@@ -151,7 +161,7 @@ module _ {C : Counts} {L L′ : Links} {e en ep t tn tp : ℕ} (W : Wf C L) (A :
         (λ z w. reach-one (F .next-rest (out-by-face (λ k. omega arith) (λ k. omega arith))))
         (h, was-outer h p .0) (W .faces .outer h k (was-outer h p .0) (was-outer k q .0));
     wide = λ {e = x} h p r. let w = was-outer h p in W .faces .wide h (w .0) (cc (F .next-rest (w .1), F .next-rest (next-out h (w .1))));
-    side = λ {e = x} h p. stays-inner (rev-lt (C .edges) h) (W .faces .side h (was-outer h p .0));
+    side = λ {e = x} h p. stays-inner (rev-in C h) (W .faces .side h (was-outer h p .0));
   }
 
   -- the turn about a vertex, past e and t
@@ -188,7 +198,7 @@ module _ {C : Counts} {L L′ : Links} {e en ep t tn tp : ℕ} (W : Wf C L) (A :
   -- what kept its origin is met as before
   kept-round : {x y : ℕ} → In C x → In C y → Far x → Far y → L .origin x ≡ L .origin y → Reach (turn L′) x y
   kept-round h k f g p = rw (past-rest f, past-rest g) at
-      (reach-by (In C) past (λ z w. rev-lt (C .edges) (W .ranges .prev< w)) turns h (W .about .round h k p))
+      (reach-by (In C) past (λ z w. rev-in C (W .ranges .prev< w)) turns h (W .about .round h k p))
 
   -- each half-edge turns to one that kept its origin, and is met from one
   abbrev Kept : (ℕ → ℕ → Type 0) → ℕ → Type 0
@@ -196,8 +206,8 @@ module _ {C : Counts} {L L′ : Links} {e en ep t tn tp : ℕ} (W : Wf C L) (A :
 
   to-kept : (x : ℕ) → In C x → Kept (λ x y. Reach (turn L′) x y) x
   to-kept = each (e ∷ t ∷ []) (
-    λ _. (rev en, rev-lt (C .edges) (A .in-b), far-rev far-en, cc, reach-one (cc)),
-    (λ _. (rev tn, rev-lt (C .edges) (B .in-b), far-rev far-tn, cc, reach-one (cc)), tt),
+    λ _. (rev en, rev-in C (A .in-b), far-rev far-en, cc, reach-one (cc)),
+    (λ _. (rev tn, rev-in C (B .in-b), far-rev far-tn, cc, reach-one (cc)), tt),
   )
       (λ x o h. let f : Far x = (o .0, o .1 .0) in (x, h, f, sym (keep f .0), reach-at refl))
 
@@ -218,6 +228,35 @@ module _ {C : Counts} {L L′ : Links} {e en ep t tn tp : ℕ} (W : Wf C L) (A :
   pub flipped-keeps : Wf C L′
   flipped-keeps = record { ranges = ranges; links = links; faces = faces; about = about; euler = W .euler; some = W .some }
 
+  -- a half-edge of another face
+  other : {x : ℕ} → L .face x ≢ L .face e → L .face x ≢ L .face t → Keeps L L′ x
+  other n m = let o = out-by-face n m in let k = keep (far o) in
+      record { next = F .next-rest o; prev = F .prev-rest o; face = F .face-rest o; origin = k .0; end = k .1 }
+
+  outer : {x : ℕ} → L .face x ≡ 0 → Keeps L L′ x
+  outer z = other (λ k. omega arith) (λ k. omega arith)
+
+  pub flipped-frame : FlipFrame C L L′ e t (L .origin e) (L .origin t) (L .origin ep) (L .origin tp)
+  flipped-frame = let k₁ = keep far-en in let k₂ = keep far-ep in let k₃ = keep far-tn in let k₄ = keep far-tp in record {
+    other = other;
+    boundary = record {
+      keeps = λ _ z. outer z;
+      was = λ h z. was-outer h z .0;
+      adjacent = F .adjacent-rest (λ k. omega arith) (λ k. omega arith);
+    };
+    others = λ {f} h n m. let s = W .faces .stored h in
+        let a = L .adjacent f in let k = W .ranges .adjacent< h in
+        let v = W .links .face-next k in let w = W .links .face-next (W .ranges .prev< k) in let r = W .links .next-prev k in
+        record {
+          adjacent = F .adjacent-rest n m;
+          first = other (λ c. n (cc)) (λ c. m (cc));
+          second = other (λ c. n (cc)) (λ c. m (cc));
+          third = other (λ c. n (cc)) (λ c. m (cc));
+        };
+    corners-e = record { first = cc; second = cc; third = cc };
+    corners-t = record { first = cc; second = cc; third = cc };
+  }
+
 -- the two triangles at an inner edge
 pub sides : {C : Counts} {L : Links} → Wf C L → (u : ℕ) → Flippable C L u
     → Triangle C L (2 * u) (L .next (2 * u)) (L .prev (2 * u)) × Triangle C L (2 * u + 1) (L .next (2 * u + 1)) (L .prev (2 * u + 1))
@@ -230,3 +269,7 @@ flip-is W u h = let s = sides W u h in flipped W (s .0) (s .1) (h .differ) (rev-
 
 pub flip-keeps : {C : Counts} {L : Links} → Wf C L → (u : ℕ) → Flippable C L u → Wf C (flipCw L u)
 flip-keeps W u h = let s = sides W u h in flipped-keeps W (s .0) (s .1) (flip-is W u h) (h .inner-left) (h .inner-right) (h .differ)
+
+pub flip-frame : {C : Counts} {L : Links} → Wf C L → (u : ℕ) → Flippable C L u
+    → FlipFrame C L (flipCw L u) (2 * u) (2 * u + 1) (L .origin (2 * u)) (L .origin (2 * u + 1)) (L .origin (L .prev (2 * u))) (L .origin (L .prev (2 * u + 1)))
+flip-frame W u h = let s = sides W u h in flipped-frame W (s .0) (s .1) (flip-is W u h) (h .inner-left) (h .inner-right) (h .differ)

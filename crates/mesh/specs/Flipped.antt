@@ -8,8 +8,9 @@ use Rattle.mesh.specs.declared.Counts.{Counts}
 use Rattle.mesh.specs.Mesh.{Links}
 use Rattle.mesh.specs.Operations.{flipBetween}
 use Rattle.mesh.specs.Wf.{Wf}
-use Rattle.mesh.specs.Cases.{None, Distinct, distinct}
+use Rattle.mesh.specs.Cases.{Differ, differ}
 use Rattle.mesh.specs.Triangle.{Triangle}
+use Rattle.sums.specs.Cases.{None}
 use Rattle.sums.specs.Half.{rev}
 use Rattle.sums.specs.Put.{stores}
 
@@ -54,40 +55,40 @@ pub record Flipped (L L′ : Links) (e en ep t tn tp : ℕ) : Type 0 where
 
 -- the six half-edges of two different triangles
 record Six (e en ep t tn tp : ℕ) : Type 0 where
-  s₁ : Distinct e en
-  s₂ : Distinct e ep
-  s₃ : Distinct en ep
-  s₄ : Distinct t tn
-  s₅ : Distinct t tp
-  s₆ : Distinct tn tp
-  c₁ : Distinct e t
-  c₂ : Distinct e tn
-  c₃ : Distinct e tp
-  c₄ : Distinct en t
-  c₅ : Distinct en tn
-  c₆ : Distinct en tp
-  c₇ : Distinct ep t
-  c₈ : Distinct ep tn
-  c₉ : Distinct ep tp
+  s₁ : Differ e en
+  s₂ : Differ e ep
+  s₃ : Differ en ep
+  s₄ : Differ t tn
+  s₅ : Differ t tp
+  s₆ : Differ tn tp
+  c₁ : Differ e t
+  c₂ : Differ e tn
+  c₃ : Differ e tp
+  c₄ : Differ en t
+  c₅ : Differ en tn
+  c₆ : Differ en tp
+  c₇ : Differ ep t
+  c₈ : Differ ep tn
+  c₉ : Differ ep tp
 
 module _ {C : Counts} {L : Links} {e en ep t tn tp : ℕ} (W : Wf C L) (A : Triangle C L e en ep) (B : Triangle C L t tn tp) (fg : L .face e ≢ L .face t) where
   six : Six e en ep t tn tp
   six = record {
-    s₁ = distinct (λ p. W .faces .apart (A .in-a) (cc));
-    s₂ = distinct (λ p. W .faces .apart (A .in-a) (cc));
-    s₃ = distinct (λ p. W .faces .apart (A .in-b) (cc));
-    s₄ = distinct (λ p. W .faces .apart (B .in-a) (cc));
-    s₅ = distinct (λ p. W .faces .apart (B .in-a) (cc));
-    s₆ = distinct (λ p. W .faces .apart (B .in-b) (cc));
-    c₁ = distinct (λ p. fg (cc));
-    c₂ = distinct (λ p. fg (cc));
-    c₃ = distinct (λ p. fg (cc));
-    c₄ = distinct (λ p. fg (cc));
-    c₅ = distinct (λ p. fg (cc));
-    c₆ = distinct (λ p. fg (cc));
-    c₇ = distinct (λ p. fg (cc));
-    c₈ = distinct (λ p. fg (cc));
-    c₉ = distinct (λ p. fg (cc));
+    s₁ = differ (λ p. W .faces .apart (A .in-a) (cc));
+    s₂ = differ (λ p. W .faces .apart (A .in-a) (cc));
+    s₃ = differ (λ p. W .faces .apart (A .in-b) (cc));
+    s₄ = differ (λ p. W .faces .apart (B .in-a) (cc));
+    s₅ = differ (λ p. W .faces .apart (B .in-a) (cc));
+    s₆ = differ (λ p. W .faces .apart (B .in-b) (cc));
+    c₁ = differ (λ p. fg (cc));
+    c₂ = differ (λ p. fg (cc));
+    c₃ = differ (λ p. fg (cc));
+    c₄ = differ (λ p. fg (cc));
+    c₅ = differ (λ p. fg (cc));
+    c₆ = differ (λ p. fg (cc));
+    c₇ = differ (λ p. fg (cc));
+    c₈ = differ (λ p. fg (cc));
+    c₉ = differ (λ p. fg (cc));
   }
 
   pub flipped : rev e ≡ t → rev t ≡ e → Flipped L (flipBetween L e en ep t tn tp) e en ep t tn tp

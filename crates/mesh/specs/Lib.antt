@@ -4,6 +4,7 @@ pub mod Operations
 pub mod Wf
 pub mod Cases
 pub mod Triangle
+pub mod Frame
 pub mod Flipped
 pub mod Flip
 pub mod Area

@@ -1,11 +1,16 @@
 -- The three half-edges of an inner face, and four half-edges of the outer face, each after the one before. Assumes nothing.
 use Prim.Native.Nat.{ℕ, _<_}
+use native.Mathlib.Omega.{arith}
 use mathlib.Core.Path.{_≡_, refl, sym}
 use mathlib.Core.Logic.{_≢_, _⊎_, ⊎-elim, inl, inr}
 use Rattle.mesh.specs.declared.Counts.{Counts}
 use Rattle.mesh.specs.Mesh.{Links, In, to}
 use Rattle.mesh.specs.Wf.{Wf}
-use Rattle.sums.specs.Half.{rev, rev-rev, rev-ne, rev-lt}
+use Rattle.sums.specs.Half.{rev, rev-rev, rev-ne}
+
+pub rev-in : (C : Counts) {e : ℕ} → In C e → In C (rev e)
+unfolding rev
+rev-in C h = omega arith
 
 -- a, b and c are the half-edges of one cycle of three, in their order
 pub record Triangle (C : Counts) (L : Links) (a b c : ℕ) : Type 0 where
@@ -80,7 +85,7 @@ module _ {C : Counts} {L : Links} (W : Wf C L) where
       let A = triangle h f in
       let r = rev-rev e in
       ⊎-elim (rev-ne e) (⊎-elim (λ q. d _ (A .in-c) (A .face-c) (cc)) (λ q. d _ (A .in-b) (A .face-b) (cc)))
-      (same-face h (rev-lt (C .edges) h) f p)
+      (same-face h (rev-in C h) f p)
 
 -- p, e, n and q are half-edges of the outer face, each the next of the one before
 pub record Outer (C : Counts) (L : Links) (p e n q : ℕ) : Type 0 where
