@@ -5,14 +5,14 @@ use mathlib.Core.List.{[], _∷_}
 use Prim.Native.Nat.{ℕ, suc, _+_, _-_, _*_, _<_}
 use native.Mathlib.Omega.{arith}
 use lib.Dec.{eqb}
-use lib.IntN.{ℤ, pos, negℤ, _+ℤ_, _-ℤ_}
+use lib.IntN.{ℤ, pos, negℤ, _+ℤ_, _-ℤ_, +ℤ-idl, negℤ-negℤ}
 use Rattle.algebra.specs.Ring.{E, num, var, _⊕_, _⊖_, _⊗_, ⊝_, v0, v1, v2, v3, ring}
 use Rattle.algebra.specs.Sign.{eq-in, eq-by, _+⁰_}
 use Rattle.math.specs.declared.Point.{Point}
 use Rattle.math.specs.Determinant.{orient2d}
 use Rattle.math.specs.Plane.{orient2d-cross}
 use Rattle.sums.specs.Half.{rev, rev-even, rev-odd}
-use Rattle.sums.specs.Iterate.{iter, iter-last, iter-keeps}
+use Rattle.sums.specs.Iterate.{iter, iter-last, iter-keeps, period-three}
 use Rattle.sums.specs.Sum.{sum, sum-ext, sum-neg, sum-none, sum-pairs, only}
 use Rattle.mesh.specs.declared.Counts.{Counts}
 use Rattle.mesh.specs.Mesh.{Links, In}
@@ -85,6 +85,13 @@ module _ {C : Counts} {L : Links} (W : Wf C L) (p : ℕ → Point) where
           cross-back (p (L .origin x)) (p (L .origin (L .prev x)))
           ∙ ap negℤ (ap (λ (n : ℕ). cross (p (L .origin (L .prev x))) (p (L .origin n))) (sym (W .links .next-prev (iter-keeps (In C) (λ e l. W .ranges .prev< l) k (first< W))))
           ∙ ap part (sym (iter-last k (L .prev) a)))
+
+  -- a boundary of three, from any of its half-edges: along next it turns the other way
+  pub outer-three : {e : ℕ} → In C e → L .face e ≡ 0 → L .next (L .next (L .next e)) ≡ e → atCorners orient2d L p e ≡ negℤ (areaTotal C L p)
+  unfolding outerParts sum
+  outer-three {e} l o q =
+      sym (three-parts e q) ∙ ap (λ (z : ℤ). z +ℤ part (L .next e) +ℤ part (L .next (L .next e))) (sym (+ℤ-idl (part e)))
+      ∙ sym (along-next W l o (period-three q (W .faces .apart l)) part) ∙ sym (negℤ-negℤ outerParts) ∙ ap negℤ (sym inner-outer)
 
   -- 01: "The boundary's doubled area is the usual cross-product sum over face 0's cycle, walked against next."
   pub area-theorem : areaTotal C L p ≡ boundaryArea C L p

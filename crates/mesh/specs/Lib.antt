@@ -11,3 +11,4 @@ pub mod Area
 pub mod BoundaryLaws
 pub mod CountsLaws
 pub mod AreaLaws
+pub mod LeftLaws
