@@ -11,3 +11,10 @@ pub mod FaceBetween
 pub mod SingleFace
 pub mod FaceAdjacent
 pub mod NewFace
+pub mod Rules
+pub mod RulesWf
+pub mod Area
+pub mod BoundaryLaws
+pub mod CountsLaws
+pub mod AreaLaws
+pub mod LeftLaws
