@@ -18,3 +18,4 @@ pub mod BoundaryLaws
 pub mod CountsLaws
 pub mod AreaLaws
 pub mod LeftLaws
+pub mod Examples
