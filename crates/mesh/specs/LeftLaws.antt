@@ -19,9 +19,9 @@ use Rattle.mesh.specs.declared.Counts.{Counts}
 use Rattle.mesh.specs.Mesh.{Links, In, to}
 use Rattle.mesh.specs.Wf.{Wf}
 use Rattle.mesh.specs.Triangle.{two-faces}
-use Rattle.mesh.specs.Frame.{Corners, by-corners}
 use Rattle.mesh.specs.Area.{boundaryLength, boundaryArea, atCorners, overFaces, areaTotal, LeftTurning}
-use Rattle.mesh.specs.BoundaryLaws.{boundary-least, outer-period, inner-stored}
+use Rattle.mesh.specs.BoundaryLaws.{boundary-least, outer-period}
+use Rattle.mesh.specs.AreaCorners.{face-at}
 use Rattle.mesh.specs.CountsLaws.{faces-least}
 use Rattle.mesh.specs.AreaLaws.{area-theorem, outer-three}
 
@@ -31,18 +31,13 @@ positive-ne h e = (subst (λ (z : ℤ). pos 0 <ℤ z) e h) .lt
 
 module _ {C : Counts} {L : Links} (W : Wf C L) {p : ℕ → Point} (T : LeftTurning C L p) where
   -- from any half-edge of an inner face
-  pub left-at : {e : ℕ} → In C e → 0 < L .face e → pos 0 <ℤ orient2d (p (L .origin e)) (p (L .origin (L .next e))) (p (L .origin (L .prev e)))
-  left-at {e} l i =
-      let a = L .adjacent (L .face e) in let m = W .ranges .face< l in
-      subst (λ (z : ℤ). pos 0 <ℤ z)
-      (ap (λ (d : ℕ). orient2d (p (L .origin a)) (p (L .origin (L .next a))) (p (L .origin d))) (W .faces .three (W .ranges .adjacent< m) (inner-stored W i m))
-      ∙ sym (by-corners W (λ a b c. orient2d (p a) (p b) (p c)) (λ a b c. orient2d-next (p a) (p b) (p c)) l i (record { first = refl; second = refl; third = refl })))
-      (T .left i m)
+  pub left-at : {e : ℕ} → In C e → 0 < L .face e → pos 0 <ℤ orient2d (p (L .origin e)) (p (to L e)) (p (L .origin (L .prev e)))
+  left-at l i = subst (λ (z : ℤ). pos 0 <ℤ z) (face-at W orient2d p orient2d-next l i) (T .left i (W .ranges .face< l))
 
   -- no side of an inner face joins a vertex to itself
   pub sides-differ : {e : ℕ} → In C e → 0 < L .face e → L .origin e ≢ L .origin (L .next e)
   sides-differ {e} l i q = positive-ne (left-at l i)
-      (ap (λ (v : ℕ). orient2d (p (L .origin e)) (p v) (p (L .origin (L .prev e)))) (sym q) ∙ orient2d-aab (p (L .origin e)) (p (L .origin (L .prev e))))
+      (ap (λ (v : ℕ). orient2d (p (L .origin e)) (p v) (p (L .origin (L .prev e)))) (sym (W .links .origin-next l) ∙ sym q) ∙ orient2d-aab (p (L .origin e)) (p (L .origin (L .prev e))))
 
   -- so the two sides of an inner edge are different faces
   pub faces-differ : {e : ℕ} → In C e → 0 < L .face e → L .face e ≢ L .face (rev e)

@@ -9,6 +9,8 @@ pub mod Flipped
 pub mod Flip
 pub mod Area
 pub mod BoundaryLaws
+pub mod AreaCorners
 pub mod CountsLaws
 pub mod AreaLaws
 pub mod LeftLaws
+pub mod HeightLaws
