@@ -3,12 +3,12 @@
 use mathlib.Core.Path.{_≡_, refl, sym, _∙_, ap, subst}
 use mathlib.Core.Logic.{_≢_, _⊎_, inl, inr}
 use mathlib.Core.Bool.{Bool, true, false, not, _&&_, _||_}
-use Prim.Native.Nat.{ℕ, zero, suc, _+_, _<_, _≤_}
+use Prim.Native.Nat.{ℕ, zero, suc, _+_, _-_, _<_, _≤_}
 use native.Mathlib.Decide.{ℕ-discrete, decLt}
-use native.Mathlib.Nat.{le-refl, le-trans, suc-add, zero-add, add-zero, add-suc}
+use native.Mathlib.Nat.{le-refl, add-zero, add-suc}
 use native.Mathlib.Omega.{arith}
-use lib.Dec.{T, eqb, eqb→eq, T-not, not-T}
-use Rattle.sums.specs.Bit.{bit, bit-yes, bit-no, bit-le, test, test-ext, sure, eq-test, and-left, and-right, and-both, or-cases, or-left, or-right}
+use lib.Dec.{T, eqb, ltb, leb, eqb→eq, ltb→lt, leb→le, T-not, not-T}
+use Rattle.sums.specs.Bit.{bit, bit-yes, bit-no, bit-le, test-ext, sure, eq-test, eq?, and-left, and-right, and-both, or-cases, or-left, or-right}
 use Rattle.sums.specs.Put.{put, put-same, put-other}
 
 -- what holds below n and at n holds below n + 1
@@ -33,6 +33,19 @@ pub all-below← : (n : ℕ) (p : ℕ → Bool) → ((i : ℕ) → i < n → T (
 unfolding all-below
 all-below← zero p h = tt
 all-below← (suc n) p h = and-both (p n) (all-below n p) (h n (le-refl (suc n))) (all-below← n p (λ i l. h i (omega arith)))
+
+-- rules of one table against another, each by one test
+pub all-eq : (n : ℕ) (f g : ℕ → ℕ) → T (all-below n (λ i. eqb (f i) (g i))) → (i : ℕ) → i < n → f i ≡ g i
+all-eq n f g t i l = eqb→eq (f i) (g i) (all-below→ n (λ i. eqb (f i) (g i)) t i l)
+
+pub all-ne : (n : ℕ) (f g : ℕ → ℕ) → T (all-below n (λ i. not (eqb (f i) (g i)))) → (i : ℕ) → i < n → f i ≢ g i
+all-ne n f g t i l = eq? (f i) (g i) .1 (all-below→ n (λ i. not (eqb (f i) (g i))) t i l)
+
+pub all-lt : (n : ℕ) (f g : ℕ → ℕ) → T (all-below n (λ i. ltb (f i) (g i))) → (i : ℕ) → i < n → f i < g i
+all-lt n f g t i l = ltb→lt (f i) (g i) (all-below→ n (λ i. ltb (f i) (g i)) t i l)
+
+pub all-le : (n : ℕ) (f g : ℕ → ℕ) → T (all-below n (λ i. leb (f i) (g i))) → (i : ℕ) → i < n → f i ≤ g i
+all-le n f g t i l = leb→le (f i) (g i) (all-below→ n (λ i. leb (f i) (g i)) t i l)
 
 -- ---- one of them passes
 unfoldable pub any-below : ℕ → (ℕ → Bool) → Bool
@@ -183,6 +196,16 @@ unfolding count
 count-add n zero p = ap (λ (k : ℕ). count k p) (add-zero n) ∙ sym (add-zero (count n p))
 count-add n (suc m) p = ap (λ (k : ℕ). count k p) (add-suc n m) ∙ (let i = count-add n m p in omega arith)
 
+pub count-mono : (m n : ℕ) (p : ℕ → Bool) → m ≤ n → count m p ≤ count n p
+unfolding count
+count-mono m n p l = ap-le (sym (count-add m (n - m) p) ∙ ap (λ (k : ℕ). count k p) (whole m n l))
+  where
+    whole : (m n : ℕ) → m ≤ n → m + (n - m) ≡ n
+    whole m n l = omega arith
+
+    ap-le : count m p + count (n - m) (λ i. p (m + i)) ≡ count n p → count m p ≤ count n p
+    ap-le e = omega arith
+
 -- one passes just where the count is not 0
 pub count-positive : (n : ℕ) (p : ℕ → Bool) (i : ℕ) → i < n → T (p i) → 0 < count n p
 unfolding count
@@ -195,6 +218,19 @@ count-positive (suc n) p i l t = go (ℕ-discrete n i) (count-positive n p i)
 
 pub count-some : (n : ℕ) (p : ℕ → Bool) → 0 < count n p → (i : ℕ) × (i < n) × T (p i)
 count-some n p h = any-below→ n p (sure (any-below n p) (λ f. let e = count-none n p (none-below→ n p f) in omega arith))
+
+-- one that passes counts after it, and not before; so with a count of 1 there is just one
+pub count-before : (k n : ℕ) (p : ℕ → Bool) → k < n → T (p k) → count k p < count n p
+unfolding count
+count-before k n p l t = let m = count-mono (suc k) n p l in let b = bit-yes (p k) t in omega arith
+
+pub count-sole : (n : ℕ) (p : ℕ → Bool) (i j : ℕ) → count n p ≤ 1 → i < n → j < n → T (p i) → T (p j) → i ≡ j
+count-sole n p i j h u v t w = go (decLt i j) (decLt j i)
+  where
+    go : Dec (i < j) → Dec (j < i) → i ≡ j
+    go (yes l) d = absurd (let a = count-positive j p i l t in let b = count-before j n p v w in omega arith)
+    go (no l) (yes m) = absurd (let a = count-positive i p j m w in let b = count-before i n p u t in omega arith)
+    go (no l) (no m) = omega arith
 
 -- two tests that differ at one number
 pub count-change : (n : ℕ) (p q : ℕ → Bool) (a : ℕ) → a < n → ((i : ℕ) → i < n → i ≢ a → p i ≡ q i) → count n q + bit (p a) ≡ count n p + bit (q a)

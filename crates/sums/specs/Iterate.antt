@@ -3,20 +3,20 @@
 -- Walks survive where a number is taken out of f's path or put into it, and where places are renamed. Assumes nothing.
 use mathlib.Core.Path.{_≡_, refl, sym, _∙_, ap, subst}
 use mathlib.Core.Logic.{_≢_, _⊎_, inl, inr}
-use mathlib.Core.Bool.{Bool, true, false, _||_}
+use mathlib.Core.Bool.{Bool, false, _||_}
 use mathlib.Core.List.{[], _∷_}
 use Prim.Native.Nat.{ℕ, zero, suc, _+_, _-_, _<_, _≤_}
 use native.Mathlib.Decide.{ℕ-discrete, decLt}
-use native.Mathlib.Nat.{le-refl, suc-add, zero-add}
+use native.Mathlib.Nat.{suc-add, zero-add}
 use native.Mathlib.Omega.{arith}
 use lib.Dec.{T, eqb, eqb→eq}
 use lib.IntN.{ℤ, _+ℤ_}
-use Rattle.algebra.specs.Ring.{_⊕_, v0, v1, v2, num}
-use Rattle.algebra.specs.Sign.{eq-in, eq-by, _*⁰_}
-use Rattle.sums.specs.Bit.{eq-test, or-cases, or-left, or-right}
-use Rattle.sums.specs.Bounded.{first-below, first-below-le, first-below-passes, first-below-before}
+use Rattle.algebra.specs.Ring.{_⊕_, v0, v1, v2}
+use Rattle.algebra.specs.Sign.{eq-in, eq-by}
+use Rattle.sums.specs.Bit.{eq-test, or-cases, or-left, or-right, implies, implies→, implies←}
+use Rattle.sums.specs.Bounded.{all-below, all-below→, all-below←, first-below, first-below-le, first-below-passes, first-below-before}
 use Rattle.sums.specs.Listed.{Listed, On, pigeonhole}
-use Rattle.sums.specs.Sum.{sum, sum-ext, sum-first}
+use Rattle.sums.specs.Sum.{sum, sum-first, sum-classes}
 
 -- the first step first
 abbrev pub iter : ℕ → (ℕ → ℕ) → ℕ → ℕ
@@ -46,10 +46,13 @@ pub iter-round : (n : ℕ) (f : ℕ → ℕ) (a : ℕ) → iter n f a ≡ a → 
 iter-round n f a e zero = e
 iter-round n f a e (suc k) = iter-round n f (f a) (iter-last n f a ∙ ap f e) k
 
--- two functions that agree on a set that f does not leave
+-- two functions that agree along the walk; and on a set that f does not leave
+pub iter-ext : (n : ℕ) (f f' : ℕ → ℕ) (a : ℕ) → ((k : ℕ) → k < n → f' (iter k f a) ≡ f (iter k f a)) → iter n f' a ≡ iter n f a
+iter-ext zero f f' a h = refl
+iter-ext (suc n) f f' a h = ap (iter n f') (h zero (omega arith)) ∙ iter-ext n f f' (f a) (λ k l. h (suc k) (omega arith))
+
 pub iter-same : {f f' : ℕ → ℕ} (D : ℕ → Type 0) → ((y : ℕ) → D y → D (f y)) → ((y : ℕ) → D y → f' y ≡ f y) → {a : ℕ} → D a → (k : ℕ) → iter k f' a ≡ iter k f a
-iter-same D closed same d zero = refl
-iter-same {f} {f'} D closed same {a} d (suc k) = ap (iter k f') (same a d) ∙ iter-same D closed same (closed a d) k
+iter-same {f} {f'} D closed same {a} d n = iter-ext n f f' a (λ k l. same (iter k f a) (iter-keeps D closed k d))
 
 -- ---- reachability
 abbrev pub Reach : (ℕ → ℕ) → ℕ → ℕ → Type 0
@@ -155,6 +158,15 @@ reaches← (suc n) f x y (suc k) l e = or-right (eqb x y) (reaches n f (f x) y) 
 
 pub reaches-reach : (n : ℕ) (f : ℕ → ℕ) (x y : ℕ) → T (reaches n f x y) → Reach f x y
 reaches-reach n f x y h = let r = reaches→ n f x y h in (r .0, r .2)
+
+-- every two numbers below n that the test t names are joined by fewer than n steps
+unfoldable pub joined : ℕ → (ℕ → ℕ → Bool) → (ℕ → ℕ) → Bool
+joined n t f = all-below n (λ x. all-below n (λ y. implies (t x y) (reaches n f x y)))
+
+pub joined→ : (n : ℕ) (t : ℕ → ℕ → Bool) (f : ℕ → ℕ) → T (joined n t f) → {x y : ℕ} → x < n → y < n → T (t x y) → Reach f x y
+unfolding joined
+joined→ n t f h {x} {y} l m u = reaches-reach n f x y (implies→ (t x y) (reaches n f x y) (all-below→ n (λ y. implies (t x y) (reaches n f x y))
+    (all-below→ n (λ x. all-below n (λ y. implies (t x y) (reaches n f x y))) h x l) y m) u)
 
 -- ---- f and g undo one another on the numbers below n
 pub record Inverse (n : ℕ) (f g : ℕ → ℕ) : Type 0 where
@@ -293,6 +305,11 @@ module _ {n : ℕ} {f g : ℕ → ℕ} (inv : Inverse n f g) where
     pub reach-reaches : {b : ℕ} → Reach f a b → T (reaches n f a b)
     reach-reaches {b} r = let o = reach-on period-is r in reaches← n f a b (o .0) (let h = o .1 in let q = period-le period-is in omega arith) (o .2)
 
+  pub joined← : (t : ℕ → ℕ → Bool) → ((x y : ℕ) → x < n → y < n → T (t x y) → Reach f x y) → T (joined n t f)
+  unfolding joined
+  joined← t h = all-below← n (λ x. all-below n (λ y. implies (t x y) (reaches n f x y)))
+      (λ x l. all-below← n (λ y. implies (t x y) (reaches n f x y)) (λ y m. implies← (t x y) (reaches n f x y) (λ u. reach-reaches l (h x y l m u))))
+
   -- the same round from any of its numbers
   pub period-next : {a h : ℕ} → a < n → Period f a h → Period f (f a) h
   period-next {a} {h} l p = record {
@@ -346,3 +363,13 @@ along h {f} A step {a} back (k, e) = ap A (sym e) ∙ go k a back
 
 pub sum-round : (h : ℕ) {f : ℕ → ℕ} (c : ℕ → ℤ) {a b : ℕ} → iter h f a ≡ a → Reach f a b → sum h (λ k. c (iter k f b)) ≡ sum h (λ k. c (iter k f a))
 sum-round h {f} c = along h (λ z. sum h (λ k. c (iter k f z))) (λ z q. sum-next h f z c q)
+
+-- ---- numbers below n that are the rounds of f from m starts: the sum goes round by round. For a mesh: over all half-edges, face by face, with f the step around a face.
+pub sum-rounds : {n : ℕ} {f g : ℕ → ℕ} → Inverse n f g → (m : ℕ) (class start size : ℕ → ℕ) → ((i : ℕ) → i < n → class i < m) → ((i : ℕ) → i < n → class (f i) ≡ class i)
+    → ((c : ℕ) → c < m → start c < n) → ((c : ℕ) → c < m → class (start c) ≡ c) → ((c : ℕ) → c < m → Period f (start c) (size c)) → ((i : ℕ) → i < n → Reach f (start (class i)) i)
+    → (t : ℕ → ℤ) → sum n t ≡ sum m (λ c. sum (size c) (λ k. t (iter k f (start c))))
+sum-rounds {n} {f} {g} inv m class start size low keeps begin own round whole =
+    sum-classes n m class size (λ c k. iter k f (start c)) low (λ c l. period-listed inv (begin c l) (round c l)) same (λ i l. reach-on inv (begin (class i) (low i l)) (round (class i) (low i l)) (whole i l))
+  where
+    same : (c k : ℕ) → c < m → k < size c → class (iter k f (start c)) ≡ c
+    same c k l u = iter-keeps (λ x. (x < n) × (class x ≡ c)) (λ x d. (inv .there x (d .0), keeps x (d .0) ∙ d .1)) k (begin c l, own c l) .1

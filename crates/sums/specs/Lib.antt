@@ -6,3 +6,7 @@ pub mod Listed
 pub mod Sum
 pub mod Iterate
 pub mod Half
+pub mod Store
+pub mod Tally
+pub mod Until
+pub mod Examples

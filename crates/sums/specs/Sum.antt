@@ -17,7 +17,7 @@ use borrow.Author.Tests.{eq-eqb, ne-eqb}
 use Rattle.algebra.specs.Laws.{swap4, *ℤ-+ℤ}
 use Rattle.algebra.specs.Ring.{ring, _⊕_, _⊖_, v0, v1, v2}
 use Rattle.algebra.specs.Order.{add-0<, add-0≤, lt-le}
-use Rattle.sums.specs.Bit.{bit, bit-yes, bit-no}
+use Rattle.sums.specs.Bit.{bit, bit-yes}
 use Rattle.sums.specs.Put.{put, put-same, put-other}
 use Rattle.sums.specs.Bounded.{count}
 use Rattle.sums.specs.Listed.{Listed, On, row, listed-one, listed-two, listed-three}
