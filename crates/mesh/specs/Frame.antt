@@ -78,3 +78,10 @@ module _ {C : Counts} {L : Links} (W : Wf C L) where
       go T (inl p) = cc (k .first, k .second, k .third)
       go T (inr (inl p)) = cc (k .first, k .second, k .third, r a b c)
       go T (inr (inr p)) = cc (k .first, k .second, k .third, r c a b)
+
+  -- an inner face keeps its half-edges, where inner half-edges keep their links
+  pub kept-face : {L′ : Links} → ((x : ℕ) → In C x → 0 < L .face x → Keeps L L′ x) → {f : ℕ} → 0 < f → f < C .faces → L′ .adjacent f ≡ L .adjacent f → SameFace L L′ f
+  kept-face k {f} z l a =
+      let i : 0 < L .face (L .adjacent f) = rw (W .faces .stored l) z in
+      let T = triangle W (W .ranges .adjacent< l) i in
+      record { adjacent = a; first = k _ (T .in-a) i; second = k _ (T .in-b) (rw (T .face-b) i); third = k _ (T .in-c) (rw (T .face-c) i) }

@@ -14,3 +14,5 @@ pub mod CountsLaws
 pub mod AreaLaws
 pub mod LeftLaws
 pub mod HeightLaws
+pub mod FaceBetween
+pub mod SingleFace
