@@ -5,15 +5,16 @@ use mathlib.Core.List.{[], _∷_}
 use Prim.Native.Nat.{ℕ, suc, _+_, _-_, _*_, _<_}
 use native.Mathlib.Decide.{ℕ-discrete}
 use native.Mathlib.Omega.{arith}
-use lib.IntN.{ℤ, pos, _+ℤ_, _-ℤ_}
-use lib.Signed.{_<ℤ_}
+use lib.IntN.{ℤ, pos, _+ℤ_, _-ℤ_, _*ℤ_, natAbs}
+use lib.Signed.{_<ℤ_, _≤ℤ_}
+use Rattle.algebra.specs.Order.{abs-falls, add-0≤, lt-le, mul-0≤, sq-0≤}
 use Rattle.algebra.specs.Ring.{_⊕_, _⊖_, v0, v1, v2, v3, v4, v5, v6}
 use Rattle.algebra.specs.Sign.{eq-in, eq-by, _+⁰_}
 use Rattle.math.specs.declared.Point.{Point}
 use Rattle.math.specs.Determinant.{orient2d, height}
 use Rattle.math.specs.Plane.{orient2d-next, height-next, flip-area, flip-height, flip-left, flip-right}
 use Rattle.sums.specs.Half.{rev-even, rev-odd}
-use Rattle.sums.specs.Sum.{sum, sum-ext, sum-change-two}
+use Rattle.sums.specs.Sum.{sum, sum-ext, sum-change-two, sum-nonneg}
 use Rattle.mesh.specs.declared.Counts.{Counts}
 use Rattle.mesh.specs.Mesh.{Links, In}
 use Rattle.mesh.specs.Wf.{Wf}
@@ -22,6 +23,19 @@ use Rattle.mesh.specs.Operations.{flipCw}
 use Rattle.mesh.specs.Flip.{Flippable, FlipFrame, flip-keeps, flip-frame}
 use Rattle.mesh.specs.Area.{atCorners, overFaces, areaTotal, heightSum, circleAt, LeftTurning}
 use Rattle.mesh.specs.AreaCorners.{corners-at, face-at, kept-at}
+
+-- ---- heights are not negative
+pub height-nonneg : (a b c : Point) → pos 0 <ℤ orient2d a b c → pos 0 ≤ℤ height a b c
+unfolding orient2d height
+height-nonneg a b c h = mul-0≤ (lt-le h) (add-0≤ (add-0≤ (lift a) (lift b)) (lift c))
+  where
+    lift : (p : Point) → pos 0 ≤ℤ (p .x *ℤ p .x +ℤ p .y *ℤ p .y)
+    lift p = add-0≤ (sq-0≤ (p .x)) (sq-0≤ (p .y))
+
+pub heights-nonneg : {C : Counts} {L : Links} {p : ℕ → Point} → LeftTurning C L p → pos 0 ≤ℤ heightSum C L p
+unfolding overFaces
+heights-nonneg {C} {L} {p} T = sum-nonneg (C .faces - 1) (λ f. atCorners height L p (L .adjacent (suc f)))
+    (λ f l. height-nonneg _ _ _ (T .left (omega arith) (omega arith)))
 
 -- ---- a new face
 -- Face number `faces` is new, with the corners a, b and c; the other inner faces keep theirs, and the vertices their positions.
@@ -125,6 +139,10 @@ module _ {C : Counts} {L : Links} (W : Wf C L) {u : ℕ} (B : Flippable C L u) (
   flip-heights =
       let ρ = heightSum C (flipCw L u) p ∷ heightSum C L p ∷ height d b c ∷ height a b c ∷ height c a d ∷ height b a d ∷ circleAt L p u ∷ [] in
       eq-by (eq-in ρ (v1 ⊕ ((v2 ⊖ v3) ⊕ (v4 ⊖ v5))) v0 (sym (flip-over height height-next)) +⁰ eq-in ρ (v3 ⊕ v5) (v4 ⊕ v2 ⊕ v6) (flip-height a b c d)) v1 (v0 ⊕ v6) refl
+
+  -- so its absolute value is a measure of what flips are left, while the faces turn left
+  pub flip-falls : LeftTurning C (flipCw L u) p → pos 0 <ℤ circleAt L p u → natAbs (heightSum C (flipCw L u) p) < natAbs (heightSum C L p)
+  flip-falls T h = abs-falls flip-heights (heights-nonneg T) h
 
   -- both new triangles turn left, where the far vertex is strictly inside the circle
   pub flip-keeps-left : LeftTurning C L p → pos 0 <ℤ circleAt L p u → LeftTurning C (flipCw L u) p

@@ -16,3 +16,5 @@ pub mod LeftLaws
 pub mod HeightLaws
 pub mod FaceBetween
 pub mod SingleFace
+pub mod Good
+pub mod GoodLaws
