@@ -18,3 +18,4 @@ pub mod FaceBetween
 pub mod SingleFace
 pub mod Good
 pub mod GoodLaws
+pub mod AreaExamples
