@@ -19,3 +19,7 @@ pub mod SingleFace
 pub mod Good
 pub mod GoodLaws
 pub mod AreaExamples
+pub mod FaceAdjacent
+pub mod NewFace
+pub mod Rules
+pub mod RulesWf

@@ -1,0 +1,2 @@
+-- What stores to the rows do to the functions that the rows are seen as.
+pub mod Rows

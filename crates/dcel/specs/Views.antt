@@ -1,0 +1,97 @@
+-- Laws of the rows seen as functions, for the callers: the links of the three rows are those of each row, a row's functions and its length fix the row over its
+-- whole length, and the far vertex by cases. Assumes nothing.
+use Prim.Native.Nat.{ℕ, zero, suc, _+_, _*_, _/_, _%_, _<_}
+use native.Mathlib.Omega.{arith}
+use mathlib.Core.Path.{_≡_, refl, ap, sym, _∙_}
+use mathlib.Core.Logic.{_≢_}
+use mathlib.Core.List.{List}
+use lib.ListN.{length, getD}
+use lib.Seq.{ext-getD}
+use Rattle.mesh.specs.Mesh.{Links}
+use Rattle.dcel.specs.declared.handles.Far.{Far}
+use Rattle.dcel.specs.Rows.{Halves, halvesOf, rowOf, linksOf, rowFrom, field, halvesIn, halvesFrom}
+use Rattle.dcel.specs.Far.{farIn, farOf}
+
+-- what an accessor ensures, `r ≡ halvesOf h .next e`, as a fact of the links: `c .next .ensures ∙ next-of _ _ _ _`
+module _ (o h a : List ℕ) (x : ℕ) where
+  pub next-of : halvesOf h .next x ≡ linksOf o h a .next x
+  unfolding linksOf
+  next-of = refl
+
+  pub prev-of : halvesOf h .prev x ≡ linksOf o h a .prev x
+  unfolding linksOf
+  prev-of = refl
+
+  pub face-of : halvesOf h .face x ≡ linksOf o h a .face x
+  unfolding linksOf
+  face-of = refl
+
+  pub origin-of : halvesOf h .origin x ≡ linksOf o h a .origin x
+  unfolding linksOf
+  origin-of = refl
+
+  pub out-of : rowOf o x ≡ linksOf o h a .out x
+  unfolding linksOf
+  out-of = refl
+
+  pub adjacent-of : rowOf a x ≡ linksOf o h a .adjacent x
+  unfolding linksOf
+  adjacent-of = refl
+
+  pub far-of : farIn (halvesOf h .face x) (halvesOf h .origin (halvesOf h .prev x)) ≡ farOf (linksOf o h a) x
+  unfolding linksOf farOf
+  far-of = refl
+
+pub far-outer : (f v : ℕ) → f ≡ 0 → farIn f v ≡ Far.Outer
+unfolding farIn
+far-outer zero v e = refl
+far-outer (suc f) v e = absurd (omega arith)
+
+pub far-inner : (f v : ℕ) → f ≢ 0 → farIn f v ≡ Far.Vertex v
+unfolding farIn
+far-inner zero v n = absurd (n refl)
+far-inner (suc f) v n = refl
+
+pub length-from : (n : ℕ) (f : ℕ → ℕ) → length (rowFrom n f) ≡ n
+unfolding rowFrom
+length-from zero f = refl
+length-from (suc n) f = ap suc (length-from n (λ i. f (suc i)))
+
+pub getD-from : (n : ℕ) (f : ℕ → ℕ) (i : ℕ) → i < n → getD (rowFrom n f) i 0 ≡ f i
+unfolding rowFrom
+getD-from zero f i l = absurd (omega arith)
+getD-from (suc n) f zero l = refl
+getD-from (suc n) f (suc i) l = getD-from n (λ i. f (suc i)) i (omega arith)
+
+-- a row is made of its own entries
+from-entries : (l : List ℕ) (f : ℕ → ℕ) → ((i : ℕ) → getD l i 0 ≡ f i) → l ≡ rowFrom (length l) f
+from-entries l f e =
+    ext-getD 0 l (rowFrom (length l) f) (sym (length-from (length l) f)) (λ i k. e i ∙ sym (getD-from (length l) f i k))
+
+field-is : (h : List ℕ) (x k : ℕ) → k < 4 → getD h (4 * x + k) 0 ≡ field (halvesOf h) x k
+unfolding field halvesOf
+field-is h x zero l = ap (λ (j : ℕ). getD h j 0) (omega arith)
+field-is h x (suc zero) l = refl
+field-is h x (suc (suc zero)) l = refl
+field-is h x (suc (suc (suc zero))) l = refl
+field-is h x (suc (suc (suc (suc k)))) l = absurd (omega arith)
+
+-- each row at the end of a call, over its whole length, from the links that the call's contract gives and the length that every call keeps
+module _ (o h a : List ℕ) (L : Links) (e : linksOf o h a ≡ L) where
+  pub outs-from : (n : ℕ) → length o ≡ n → o ≡ rowFrom n (L .out)
+  unfolding linksOf rowOf
+  outs-from n k = rw (← k) (from-entries o (L .out) (λ i. ap (λ (M : Links). M .out i) e))
+
+  pub faces-from : (n : ℕ) → length a ≡ n → a ≡ rowFrom n (L .adjacent)
+  unfolding linksOf rowOf
+  faces-from n k = rw (← k) (from-entries a (L .adjacent) (λ i. ap (λ (M : Links). M .adjacent i) e))
+
+  entry : (i : ℕ) → getD h i 0 ≡ field (halvesIn L) (i / 4) (i % 4)
+  unfolding linksOf halvesIn
+  entry i =
+      let k : i ≡ 4 * (i / 4) + i % 4 = omega arith in
+      ap (λ (j : ℕ). getD h j 0) k ∙ field-is h (i / 4) (i % 4) (omega arith) ∙ ap (λ (M : Links). field (halvesIn M) (i / 4) (i % 4)) e
+
+  pub halves-from : (n : ℕ) → length h ≡ n → h ≡ halvesFrom n L
+  unfolding halvesFrom
+  halves-from n k = rw (← k) (from-entries h (λ i. field (halvesIn L) (i / 4) (i % 4)) entry)
