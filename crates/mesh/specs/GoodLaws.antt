@@ -3,19 +3,21 @@
 use mathlib.Core.Path.{_≡_, refl, sym, _∙_, ap, subst}
 use mathlib.Core.Logic.{_≢_}
 use Prim.Native.Nat.{ℕ, _+_, _*_, _<_}
+use native.Mathlib.Decide.{ℕ-discrete}
 use native.Mathlib.Omega.{arith}
 use lib.IntN.{ℤ, pos}
 use lib.Signed.{_<ℤ_}
 use Rattle.math.specs.declared.Point.{Point}
 use Rattle.math.specs.Determinant.{orient2d, InRange}
 use Rattle.math.specs.Plane.{orient2d-next}
-use Rattle.sums.specs.Half.{rev-even}
+use Rattle.sums.specs.Half.{rev-even, rev-below}
 use Rattle.mesh.specs.declared.Counts.{Counts}
 use Rattle.mesh.specs.Mesh.{Links, In, to}
-use Rattle.mesh.specs.Operations.{flipCw, createSingleFaceBetweenEdgeAndNext, withFace}
+use Rattle.mesh.specs.Operations.{flipCw, createSingleFaceBetweenEdgeAndNext, createNewFaceAdjacentToEdge, withFace, withVertex}
 use Rattle.mesh.specs.Wf.{Wf}
 use Rattle.mesh.specs.Flip.{Flippable, flip-keeps}
 use Rattle.mesh.specs.SingleFace.{single-face-keeps, single-face-frame}
+use Rattle.mesh.specs.NewFace.{new-face-keeps, new-face-frame}
 use Rattle.mesh.specs.Area.{boundaryLength, circleAt, areaTotal, LeftTurning}
 use Rattle.mesh.specs.CountsLaws.{count-edges}
 use Rattle.mesh.specs.LeftLaws.{faces-differ, corner-four}
@@ -61,3 +63,26 @@ module _ {C : Counts} {L : Links} {p : ℕ → Point} (G : Good C L p) {e : ℕ}
 
   pub single-face-length : boundaryLength (withFace C) (createSingleFaceBetweenEdgeAndNext L C e) + 1 ≡ boundaryLength C L
   single-face-length = let a = count-edges (G .wf) in let b = count-edges single-face-wf in omega arith
+
+-- ---- the face of an outer edge and a new vertex
+module _ {C : Counts} {L : Links} {p p′ : ℕ → Point} (G : Good C L p) {e : ℕ} (l : In C e) (o : L .face e ≡ 0)
+    (same : (v : ℕ) → v < C .vertices → p′ v ≡ p v) (r : InRange (p′ (C .vertices))) (h : pos 0 <ℤ orient2d (p (L .origin e)) (p (to L e)) (p′ (C .vertices))) where
+  pub new-face-added : FaceAdded C (withVertex C) L (createNewFaceAdjacentToEdge L C e) p p′ (L .origin e) (to L e) (C .vertices)
+  new-face-added = let F = new-face-frame (G .wf) l o in
+      record { faces = refl; corners = F .corners-new; others = F .others; positions = same }
+
+  pub new-face-good : Good (withVertex C) (createNewFaceAdjacentToEdge L C e) p′
+  new-face-good = record {
+    wf = new-face-keeps (G .wf) l o;
+    turning = added-left (G .wf) (new-face-keeps (G .wf) l o) new-face-added (G .turning)
+        (rw (same (L .origin e) (G .wf .ranges .origin< l), same (to L e) (G .wf .ranges .origin< (rev-below (C .edges) l))) h);
+    range = λ {v} m. at m (ℕ-discrete v (C .vertices));
+  }
+    where
+      at : {v : ℕ} → v < C .vertices + 1 → Dec (v ≡ C .vertices) → InRange (p′ v)
+      at m (yes q) = rw q r
+      at {v} m (no n) = let k : v < C .vertices = omega arith in rw (same v k) (G .range k)
+
+pub new-face-length : {C : Counts} {L : Links} → Wf C L → {e : ℕ} → In C e → L .face e ≡ 0
+    → boundaryLength (withVertex C) (createNewFaceAdjacentToEdge L C e) ≡ boundaryLength C L + 1
+new-face-length W l o = let a = count-edges W in let b = count-edges (new-face-keeps W l o) in omega arith

@@ -16,10 +16,10 @@ pub mod LeftLaws
 pub mod HeightLaws
 pub mod FaceBetween
 pub mod SingleFace
-pub mod Good
-pub mod GoodLaws
-pub mod AreaExamples
 pub mod FaceAdjacent
 pub mod NewFace
 pub mod Rules
 pub mod RulesWf
+pub mod Good
+pub mod GoodLaws
+pub mod AreaExamples
