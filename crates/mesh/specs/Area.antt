@@ -14,6 +14,10 @@ use Rattle.mesh.specs.Mesh.{Links}
 unfoldable pub boundaryLength : Counts → Links → ℕ
 boundaryLength C L = period-below (2 * C .edges) (L .next) (L .adjacent 0)
 
+-- 01: "The walk of `HullIterator` starts at face 0's stored edge and follows next."
+abbrev pub hullEdge : Links → ℕ → ℕ
+hullEdge L k = iter k (L .next) (L .adjacent 0)
+
 -- twice the signed area of the triangle of the zero point, a and b
 unfoldable pub cross : Point → Point → ℤ
 cross a b = a .x *ℤ b .y -ℤ a .y *ℤ b .x

@@ -1,6 +1,6 @@
 -- Each of the three operations keeps a mesh good under its condition: the far vertex strictly inside the circle, a corner that turns strictly left, a new
 -- point strictly left of the edge. And what each does to the boundary's length. Assumes nothing.
-use mathlib.Core.Path.{_≡_, refl, sym, _∙_, ap, subst}
+use mathlib.Core.Path.{_≡_, refl, sym, _∙_, ap}
 use mathlib.Core.Logic.{_≢_}
 use Prim.Native.Nat.{ℕ, _+_, _*_, _<_}
 use native.Mathlib.Decide.{ℕ-discrete}
@@ -18,10 +18,10 @@ use Rattle.mesh.specs.Wf.{Wf}
 use Rattle.mesh.specs.Flip.{Flippable, flip-keeps}
 use Rattle.mesh.specs.SingleFace.{single-face-keeps, single-face-frame}
 use Rattle.mesh.specs.NewFace.{new-face-keeps, new-face-frame}
-use Rattle.mesh.specs.Area.{boundaryLength, circleAt, areaTotal, LeftTurning}
+use Rattle.mesh.specs.Area.{boundaryLength, circleAt}
 use Rattle.mesh.specs.CountsLaws.{count-edges}
 use Rattle.mesh.specs.LeftLaws.{faces-differ, corner-four}
-use Rattle.mesh.specs.HeightLaws.{FaceAdded, added-left, added-area, flip-keeps-left}
+use Rattle.mesh.specs.HeightLaws.{FaceAdded, added-left, flip-keeps-left}
 use Rattle.mesh.specs.Good.{Good}
 
 -- ---- the flip

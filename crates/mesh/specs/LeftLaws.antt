@@ -1,11 +1,11 @@
 -- A mesh that keeps the rules and whose inner faces all turn strictly left: the two sides of an inner edge are different faces, the boundary's area is
 -- positive, and a boundary of three has no corner that turns left. Assumes nothing.
-use mathlib.Core.Path.{_≡_, refl, sym, _∙_, ap, subst}
+use mathlib.Core.Path.{_≡_, sym, _∙_, ap, subst}
 use mathlib.Core.Logic.{_≢_}
 use mathlib.Core.List.{[], _∷_}
-use Prim.Native.Nat.{ℕ, suc, _-_, _*_, _<_, _≤_}
+use Prim.Native.Nat.{ℕ, suc, _-_, _<_, _≤_}
 use native.Mathlib.Omega.{arith}
-use lib.IntN.{ℤ, pos, negℤ}
+use lib.IntN.{ℤ, pos}
 use lib.Signed.{_<ℤ_}
 use Rattle.algebra.specs.Ring.{⊝_, v0}
 use Rattle.algebra.specs.Sign.{pos-in, weak, _+⁺_, refute}
@@ -13,7 +13,6 @@ use Rattle.math.specs.declared.Point.{Point}
 use Rattle.math.specs.Determinant.{orient2d}
 use Rattle.math.specs.Plane.{orient2d-next, orient2d-aab}
 use Rattle.sums.specs.Half.{rev}
-use Rattle.sums.specs.Iterate.{Period}
 use Rattle.sums.specs.Sum.{sum-positive}
 use Rattle.mesh.specs.declared.Counts.{Counts}
 use Rattle.mesh.specs.Mesh.{Links, In, to}

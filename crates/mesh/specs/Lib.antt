@@ -23,3 +23,4 @@ pub mod RulesWf
 pub mod Good
 pub mod GoodLaws
 pub mod AreaExamples
+pub mod BoundarySequence
