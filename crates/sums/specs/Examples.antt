@@ -3,7 +3,7 @@ use mathlib.Core.Path.{_≡_, refl, sym, _∙_, ap, ap₂}
 use mathlib.Core.Logic.{_≢_}
 use mathlib.Core.Bool.{Bool, true, false}
 use mathlib.Core.List.{List, [], _∷_}
-use Prim.Native.Nat.{ℕ, _+_, _*_, _%_, _^_, _<_, _≤_}
+use Prim.Native.Nat.{ℕ, suc, _+_, _*_, _%_, _^_, _<_, _≤_}
 use native.Mathlib.Nat.{mod-lt}
 use native.Mathlib.Omega.{arith}
 use lib.Dec.{T, eqb, ltb, leb}
@@ -14,12 +14,12 @@ use Rattle.sums.specs.Bit.{bit, Tells, lt?, le?}
 use Rattle.sums.specs.Put.{put, put-other, stores}
 use Rattle.sums.specs.Cases.{None, each}
 use Rattle.sums.specs.Bounded.{all-below, all-eq, any-below, first-below, count}
-use Rattle.sums.specs.Listed.{row, listed-three}
+use Rattle.sums.specs.Listed.{entry, listed-list}
 use Rattle.sums.specs.Sum.{sum, sum-change-two}
 use Rattle.sums.specs.Iterate.{iter, Reach, reach-one, reach-two, reach-trans, reach-by, reach-ind, reaches, reaches-reach, Inverse, inverse-sym, inverse-then, Period, period-below, period-is}
 use Rattle.sums.specs.Half.{rev, rev-inverse}
 use Rattle.sums.specs.Store.{store-at}
-use Rattle.sums.specs.Tally.{walk, tally, tally-round}
+use Rattle.sums.specs.Tally.{walk, tally, tally-round, count-change-list}
 use Rattle.sums.specs.Until.{until, when, Falls, Going, until-ends, going-start, going-turn, going-end}
 
 -- ---- by cases on tests: each test becomes a variable, with what it tells beside it
@@ -95,11 +95,20 @@ met = reaches-reach 7 (λ i. (i + 3) % 7) 2 6 tt
 
 -- ---- three stores into a list, as the code nests them
 stored : (l : List ℕ) (a b c u v w : ℕ) → a < length l → b < length l → c < length l → a ≢ b → a ≢ c → b ≢ c → getD (set (set (set l a u) b v) c w) b 0 ≡ v
-stored l a b c u v w la lb lc ab ac bc = store-at 3 (row a b c) (row u v w) l (listed-three la lb lc ab ac bc) 1 (omega arith)
+stored l a b c u v w la lb lc ab ac bc =
+    store-at 3 (entry (a ∷ b ∷ c ∷ [])) (entry (u ∷ v ∷ w ∷ [])) l 0 (listed-list (a ∷ b ∷ c ∷ []) (la, (lb, (lc, tt))) ((ab, (ac, tt)), ((bc, tt), (tt, tt)))) 1 (omega arith)
 
 -- ---- tallies: a round's tally from another start
 elsewhere : (b : ℕ → Bool) (f : ℕ → ℕ) (n s t : ℕ) → iter n f s ≡ s → Reach f s t → tally b (walk n f s) ≡ 1 → tally b (walk n f t) ≡ 1
 elsewhere b f n s t e r h = tally-round b f n s e r ∙ h
+
+-- ---- a count after a change at two places, of which one passed before and none does after
+fewer : (n a b : ℕ) (p q : ℕ → Bool) → a < n → b < n → a ≢ b → ((i : ℕ) → i < n → None i (a ∷ b ∷ []) → p i ≡ q i) → p a ≡ true → p b ≡ false → q a ≡ false → q b ≡ false
+    → suc (count n q) ≡ count n p
+unfolding tally
+fewer n a b p q la lb ab h e₁ e₂ e₃ e₄ =
+    let c = count-change-list n (a ∷ b ∷ []) (la, (lb, tt)) ((ab, tt), (tt, tt)) p q h in
+    omega (arith, ap bit e₁, ap bit e₂, ap bit e₃, ap bit e₄)
 
 -- ---- a loop with fuel: Euclid's algorithm at fuel 2 ^ 100 and more, computed and ending
 pub record Two : Type 0 where

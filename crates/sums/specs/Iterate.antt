@@ -47,12 +47,12 @@ iter-round n f a e zero = e
 iter-round n f a e (suc k) = iter-round n f (f a) (iter-last n f a ∙ ap f e) k
 
 -- two functions that agree along the walk; and on a set that f does not leave
-pub iter-ext : (n : ℕ) (f f' : ℕ → ℕ) (a : ℕ) → ((k : ℕ) → k < n → f' (iter k f a) ≡ f (iter k f a)) → iter n f' a ≡ iter n f a
-iter-ext zero f f' a h = refl
-iter-ext (suc n) f f' a h = ap (iter n f') (h zero (omega arith)) ∙ iter-ext n f f' (f a) (λ k l. h (suc k) (omega arith))
+pub iter-ext : (f f' : ℕ → ℕ) (n a : ℕ) → ((k : ℕ) → k < n → f' (iter k f a) ≡ f (iter k f a)) → iter n f' a ≡ iter n f a
+iter-ext f f' zero a h = refl
+iter-ext f f' (suc n) a h = ap (iter n f') (h zero (omega arith)) ∙ iter-ext f f' n (f a) (λ k l. h (suc k) (omega arith))
 
 pub iter-same : {f f' : ℕ → ℕ} (D : ℕ → Type 0) → ((y : ℕ) → D y → D (f y)) → ((y : ℕ) → D y → f' y ≡ f y) → {a : ℕ} → D a → (k : ℕ) → iter k f' a ≡ iter k f a
-iter-same {f} {f'} D closed same {a} d n = iter-ext n f f' a (λ k l. same (iter k f a) (iter-keeps D closed k d))
+iter-same {f} {f'} D closed same {a} d n = iter-ext f f' n a (λ k l. same (iter k f a) (iter-keeps D closed k d))
 
 -- ---- reachability
 abbrev pub Reach : (ℕ → ℕ) → ℕ → ℕ → Type 0
