@@ -3,3 +3,4 @@ pub mod Plane
 pub mod Vector
 pub mod Wide
 pub mod Range
+pub mod Side
