@@ -24,3 +24,4 @@ pub mod Good
 pub mod GoodLaws
 pub mod AreaExamples
 pub mod BoundarySequence
+pub mod Examples

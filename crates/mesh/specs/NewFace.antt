@@ -9,7 +9,7 @@ use Rattle.mesh.specs.Mesh.{Links, In, to, turn}
 use Rattle.mesh.specs.Operations.{createNewFaceAdjacentToEdge, withVertex}
 use Rattle.mesh.specs.Wf.{Wf, Ranges, Linked, Faces, Vertices}
 use Rattle.mesh.specs.Cases.{over}
-use Rattle.mesh.specs.Frame.{Keeps, SameFace, Corners, kept-face}
+use Rattle.mesh.specs.Frame.{Keeps, SameFace, Corners, kept-face, still-round}
 use Rattle.mesh.specs.Triangle.{Outer, outer, p-e, p-n, e-n, rev-in}
 use Rattle.mesh.specs.FaceAdjacent.{FaceAdjacent, face-adjacent}
 use Rattle.sums.specs.Cases.{All, None, each}
@@ -218,8 +218,7 @@ module _ {C C′ : Counts} {L L′ : Links} {p e n q a a′ b b′ : ℕ} (W : W
   meet (inl c) (inl d) r = reach-trans (c .1) (d .2)
   meet (inl c) (inr d) r = absurd (omega (arith, W .ranges .origin< (d .2)))
   meet (inr c) (inl d) r = absurd (omega (arith, W .ranges .origin< (c .2)))
-  meet (inr c) (inr d) r = reach-trans (c .6) (reach-trans (reach-by (In C) (λ z. z) (λ z l. rev-in C (W .ranges .prev< l)) turns (c .2)
-      (W .about .round (c .2) (d .3) (c .4 ∙ r ∙ sym (d .5)))) (d .7))
+  meet (inr c) (inr d) r = reach-trans (c .6) (reach-trans (still-round W L′ turns (c .2) (d .3) (c .4 ∙ r ∙ sym (d .5))) (d .7))
 
   about : Vertices C′ L′
   about = record {

@@ -10,7 +10,7 @@ use Rattle.mesh.specs.Mesh.{Links, In, to, turn}
 use Rattle.mesh.specs.Operations.{createSingleFaceBetweenEdgeAndNext, withFace}
 use Rattle.mesh.specs.Wf.{Wf, Ranges, Linked, Faces, Vertices}
 use Rattle.mesh.specs.Cases.{over}
-use Rattle.mesh.specs.Frame.{Keeps, SameFace, Corners, kept-face}
+use Rattle.mesh.specs.Frame.{Keeps, SameFace, Corners, kept-face, still-round}
 use Rattle.mesh.specs.Triangle.{Outer, outer, p-e, p-n, e-n, e-q, n-q, rev-in}
 use Rattle.mesh.specs.FaceBetween.{FaceBetween, face-between}
 use Rattle.sums.specs.Cases.{All, None, each}
@@ -104,10 +104,15 @@ module _ {C C′ : Counts} {L L′ : Links} {p e n q i o : ℕ} (W : Wf C L) (A 
     out< = λ {v} h. let a = F .out-rest v in let b : In C (L .out v) = W .ranges .out< (omega arith) in omega arith;
   }
 
-  -- an old inner half-edge is none of the four, and keeps its links and its face
-  inner-old : {x : ℕ} → In C x → 0 < L .face x → (L′ .next x ≡ L .next x) × (L′ .prev x ≡ L .prev x) × (L′ .face x ≡ L .face x)
-  inner-old {x} h f = let a : L .face x ≢ 0 = omega arith in
-      (next-old h (λ k. a (cc)) (λ k. a (cc)), prev-old h (λ k. a (cc)) (λ k. a (cc)), face-old h (λ k. a (cc)) (λ k. a (cc)))
+  -- an old inner half-edge is none of the four, and keeps its links, its face and its ends
+  keeps : (x : ℕ) → In C x → 0 < L .face x → Keeps L L′ x
+  keeps x h f = let a : L .face x ≢ 0 = omega arith in let k = far x h in record {
+    next = next-old h (λ k. a (cc)) (λ k. a (cc));
+    prev = prev-old h (λ k. a (cc)) (λ k. a (cc));
+    face = face-old h (λ k. a (cc)) (λ k. a (cc));
+    origin = k .0;
+    end = k .1;
+  }
 
   -- an old half-edge that is not of the new face, as to its face
   inner-was : {x : ℕ} → In C x → None x (e ∷ n ∷ []) → 0 < L′ .face x → 0 < L .face x
@@ -145,16 +150,16 @@ module _ {C C′ : Counts} {L L′ : Links} {p e n q i o : ℕ} (W : Wf C L) (A 
   faces = let ne′ = next-e′ in let pn′ = prev-n′ in let fp = face-p′ in let fq = face-q′ in record {
     stored = λ {f} h. each {P = λ f. f < C′ .faces → L′ .face (L′ .adjacent f) ≡ f} (0 ∷ C .faces ∷ []) (λ _. cc, (λ _. cc, tt))
         (λ f k h. let l : f < C .faces = omega (arith, k .1 .0) in let s = W .faces .stored l in let a = F .adjacent-rest (k .0) (k .1 .0) in
-        let b = inner-old (W .ranges .adjacent< l) (omega (arith, k .0)) in cc) f h;
+        let b = keeps _ (W .ranges .adjacent< l) (omega (arith, k .0)) in cc) f h;
     three = every (λ x. 0 < L′ .face x → L′ .next (L′ .next x) ≡ L′ .prev x) (e ∷ n ∷ []) (λ _. cc) (λ f. absurd (omega arith)) (λ _. cc, (λ _. cc, tt))
-        (λ x h k f. let g = inner-was h k f in let a = inner-old h g in let d = W .links .face-next h in
-        let b = inner-old (W .ranges .next< h) (omega arith) in let c = W .faces .three h g in cc);
+        (λ x h k f. let g = inner-was h k f in let a = keeps x h g in let d = W .links .face-next h in
+        let b = keeps _ (W .ranges .next< h) (omega arith) in let c = W .faces .three h g in cc);
     apart = every (λ x. L′ .next x ≢ x) (p ∷ n ∷ []) (omega arith) (omega arith) (omega arith, (omega arith, tt))
         (λ x h k. rw (next-old h (k .0) (k .1 .0)) (W .faces .apart h));
     inner = every (λ x. 0 < L′ .face x → (x ≡ L′ .adjacent (L′ .face x)) ⊎ (x ≡ L′ .next (L′ .adjacent (L′ .face x))) ⊎ (x ≡ L′ .prev (L′ .adjacent (L′ .face x)))) (e ∷ n ∷ [])
         (λ _. inl (cc)) (λ f. absurd (omega arith)) (λ _. inr (inl (cc)), (λ _. inr (inr (cc)), tt))
-        (λ x h k f. let g = inner-was h k f in let a = inner-old h g in let l = W .ranges .face< h in let s = W .faces .stored l in
-        let b = F .adjacent-rest {f = L .face x} (omega arith) (omega arith) in let c = inner-old (W .ranges .adjacent< l) (omega arith) in
+        (λ x h k f. let g = inner-was h k f in let a = keeps x h g in let l = W .ranges .face< h in let s = W .faces .stored l in
+        let b = F .adjacent-rest {f = L .face x} (omega arith) (omega arith) in let c = keeps _ (W .ranges .adjacent< l) (omega arith) in
         ⊎-elim (λ w. inl (cc)) (⊎-elim (λ w. inr (inl (cc))) (λ w. inr (inr (cc)))) (W .faces .inner h g));
     outer = λ {d = x} {e = y} h k a b. let v = from h a in let w = from k b in rw (v .3, w .3) at
         (reach-by (In C) past (λ z l. W .ranges .next< l) walks (v .1) (W .faces .outer (v .1) (w .1) (v .2) (w .2)));
@@ -165,7 +170,7 @@ module _ {C C′ : Counts} {L L′ : Links} {p e n q i o : ℕ} (W : Wf C L) (A 
         (λ y l r m. let b : L′ .next (L .next x) ≡ L .next (L .next x) = next-old (W .ranges .next< h) (λ t. l .0 (cc)) (λ t. w .1 .0 (cc)) in
         W .faces .wide h (w .0) (cc)) (L .next x) refl (cc)) h z;
     side = λ {e = x} h z. every (λ x. L′ .face x ≡ 0 → 0 < L′ .face (rev x)) [] (λ z. absurd (omega arith)) (λ z. rw (F .o-i, F .face-i) (W .some)) tt
-        (λ x h k z. let s = W .faces .side h (outer-was h z .0) in rw (inner-old (rev-in C h) s .2) s) h z;
+        (λ x h k z. let s = W .faces .side h (outer-was h z .0) in rw (keeps _ (rev-in C h) s .face) s) h z;
   }
 
   turns : (x : ℕ) → In C x → Reach (turn L′) x (turn L x)
@@ -187,14 +192,11 @@ module _ {C C′ : Counts} {L L′ : Links} {p e n q i o : ℕ} (W : Wf C L) (A 
   about = record {
     based = λ {v} h. let l : v < C .vertices = omega arith in let a = F .out-rest v in let b = far (L .out v) (W .ranges .out< l) in cc (W .about .based l);
     round = λ {d = x} {e = y} h k a. let v = to-old h in let w = from-old k in
-        reach-trans (v .3) (reach-trans (reach-by (In C) (λ z. z) (λ z l. rev-in C (W .ranges .prev< l)) turns (v .1) (W .about .round (v .1) (w .1) (v .2 ∙ a ∙ sym (w .2)))) (w .3));
+        reach-trans (v .3) (reach-trans (still-round W L′ turns (v .1) (w .1) (v .2 ∙ a ∙ sym (w .2))) (w .3));
   }
 
   pub between-keeps : Wf C′ L′
   between-keeps = record { ranges = ranges; links = links; faces = faces; about = about; euler = omega (arith, W .euler); some = omega arith }
-
-  keeps : (x : ℕ) → In C x → 0 < L .face x → Keeps L L′ x
-  keeps x h f = let k = inner-old h f in let a = far x h in record { next = k .0; prev = k .1; face = k .2; origin = a .0; end = a .1 }
 
   pub between-frame : SingleFaceFrame C C′ L L′ p e n q i o
   between-frame = let ne′ = next-e′ in let oe = far e (A .in-e) in let on = far n (A .in-n) in record {

@@ -1,16 +1,14 @@
 -- The three half-edges of an inner face, and four half-edges of the outer face, each after the one before. Assumes nothing.
 use Prim.Native.Nat.{ℕ, _<_}
-use native.Mathlib.Omega.{arith}
 use mathlib.Core.Path.{_≡_, refl, sym}
 use mathlib.Core.Logic.{_≢_, _⊎_, ⊎-elim, inl, inr}
 use Rattle.mesh.specs.declared.Counts.{Counts}
 use Rattle.mesh.specs.Mesh.{Links, In, to}
 use Rattle.mesh.specs.Wf.{Wf}
-use Rattle.sums.specs.Half.{rev, rev-rev, rev-ne}
+use Rattle.sums.specs.Half.{rev, rev-rev, rev-ne, rev-below}
 
 pub rev-in : (C : Counts) {e : ℕ} → In C e → In C (rev e)
-unfolding rev
-rev-in C h = omega arith
+rev-in C h = rev-below (C .edges) h
 
 -- a, b and c are the half-edges of one cycle of three, in their order
 pub record Triangle (C : Counts) (L : Links) (a b c : ℕ) : Type 0 where
