@@ -153,7 +153,8 @@ pub fn to_bits(a: f64) -> u64
 
 pub fn from_bits(bits: u64) -> f64
     requires { ⌜ IsAngle (ofBits binary64 bits) ⌝ }
-    ensures { λ r. ⌜ r ≡ ofBits binary64 bits ⌝ }
+    ensures is { λ r. ⌜ r ≡ ofBits binary64 bits ⌝ }
+    ensures angle { λ r. ⌜ IsAngle r ⌝ }
 {
     f64::from_bits(bits)
 }
