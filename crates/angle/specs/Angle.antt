@@ -1,6 +1,5 @@
 -- The pseudo-angle of a point about a centre, over the values of `lib.Ieee`, and what it is to be an angle. Definitions only.
 use Prim.Native.Nat.{ℕ, suc, _*_, _/_, _^_, _≤_}
-use mathlib.Core.Path.{_≡_}
 use mathlib.Core.Bool.{Bool, true, false, not, _&&_, _||_, cond}
 use lib.IntN.{ℤ, pos, negsuc}
 use lib.Dec.{T, leb, eqb}

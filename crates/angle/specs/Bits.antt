@@ -2,13 +2,13 @@
 -- In units of the smallest value, 2 ^ -1074, a number g keeps its 53 leading digits v and drops k: the exponent's field is k + 1 where v has all 53, and the whole number of 2 ^ -53 is
 -- g / 2 ^ 1021 = v * 2 / 2 ^ (1022 - k).
 use mathlib.Core.Path.{_≡_, refl, sym, ap, _∙_, subst}
-use mathlib.Core.Logic.{_⊎_, inl, inr}
+use mathlib.Core.Logic.{inl, inr}
 use Prim.Native.Nat.{ℕ, zero, suc, _+_, _-_, _*_, _/_, _%_, _^_, _≤_, _<_, zero-le}
 use native.Mathlib.Nat.{le-trans, le-of-eq, le-antisymm, lt-of-lt-of-le, lt-of-le-of-lt, le-refl, le-of-suc-le-suc, eq-or-lt-of-le, mul-one, zero-mul, zero-add, mul-comm, mul-assoc, mul-right-comm, mul-le-mul-right, mul-div-cancel, mul-div-mul-right, div-div-eq-div-mul, div-eq-of-lt, div-one, zero-div, le-div-iff-mul-le, add-sub-of-le, pow-suc}
 use native.Mathlib.Omega.{arith}
 use mathlib.Core.Bool.{Bool, true, false, not, cond, true≢false}
-use lib.IntN.{ℤ, pos, negsuc}
-use lib.Dec.{T, leb, eqb, leb→le, eqb→eq, lit≤, lit<}
+use lib.IntN.{ℤ}
+use lib.Dec.{T, leb→le, eqb→eq, lit≤, lit<}
 use lib.Pow.{pow-add, pow-pos, pow-mono, pow-lt, shr-shr}
 use lib.Ieee.{Float, nan, inf, fin, Format, binary64, prec, low, up, down, size, hid, top, toBits, ofBits, fits, isNan, nanBits}
 use lib.Ieee.Bits.{ofBits-toBits, nanBits-is}

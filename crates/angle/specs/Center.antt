@@ -2,14 +2,14 @@
 use mathlib.Core.Path.{_≡_, refl, sym, ap, _∙_, subst}
 use mathlib.Core.Logic.{_⊎_, inl, inr}
 use Prim.Native.Nat.{ℕ, zero, suc, _+_, _*_, _^_, _≤_, _<_}
-use native.Mathlib.Nat.{le-trans, le-of-eq, le-of-lt, lt-of-lt-of-le, mul-one, one-mul, zero-mul, mul-pos, mul-right-comm, mul-le-mul-right, le-add-left, le-add-right, eq-or-lt-of-le}
+use native.Mathlib.Nat.{le-trans, le-of-eq, le-of-lt, lt-of-lt-of-le, mul-one, zero-mul, mul-pos, mul-right-comm, mul-le-mul-right, le-add-left, le-add-right, eq-or-lt-of-le}
 use mathlib.Core.Bool.{Bool, true, false, not, _&&_, _||_, Bool·beq}
 use native.Mathlib.Omega.{arith}
 use lib.IntN.{ℤ, pos, negsuc}
 use lib.Signed.{mag}
 use lib.Pow.{pow-mono}
 use lib.Dec.{T, ltb, leb, eqb, ltb→lt, lt→ltb, leb→le, le→leb, eqb→eq, eqb·suc-zero, lit≤, lit<}
-use lib.Ieee.{Float, nan, inf, fin, binary64, up, down, lt, le, eq, level, fits, ofInt, round}
+use lib.Ieee.{Float, nan, inf, fin, binary64, up, down, le, eq, level, fits, ofInt, round}
 use lib.Ieee.Bits.{is-true}
 use lib.Ieee.Fits.{down-pos, and-l, and-r, and-i, eq→eqb, ofInt-fits}
 use lib.Ieee.Exact.{HasValue}

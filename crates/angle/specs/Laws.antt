@@ -1,11 +1,11 @@
 -- The laws of angles at binary64: `pseudoAngle` is one; and the comparisons of two are those of their whole numbers. Assumes nothing.
-use mathlib.Core.Path.{_≡_, refl, sym, ap, _∙_, subst}
-use Prim.Native.Nat.{ℕ, _*_, _/_, _^_, _≤_, _<_}
+use mathlib.Core.Path.{_≡_, sym, ap, _∙_, subst}
+use Prim.Native.Nat.{ℕ, _/_, _^_, _≤_}
 use native.Mathlib.Nat.{mul-div-cancel}
-use mathlib.Core.Bool.{Bool, true, false, not, _&&_, cond}
+use mathlib.Core.Bool.{false, cond}
 use lib.Dec.{T, ltb, leb, eqb}
 use lib.Pow.{pow-pos}
-use lib.Ieee.{Float, nan, inf, fin, binary64, up, down, add, sub, mul, fits, lt, le, eq}
+use lib.Ieee.{Float, nan, inf, fin, binary64, down, add, sub, mul, fits, lt, le, eq}
 use lib.Ieee.Fits.{down-pos, sub-fits}
 use lib.Ieee.Exact.{HasValue}
 use Rattle.angle.specs.Angle.{pseudoAngle, ofDiff, slope, zero64, one64, three64, quarter, Apart, IsAngle, turns}

@@ -1,9 +1,8 @@
 -- The marked examples of 01 that are about angles, M1, M2, M3 and M8, each computed from the definitions. Assumes nothing.
 use mathlib.Core.Path.{_≡_, refl}
-use mathlib.Core.Bool.{Bool, true, false}
-use Prim.Native.Nat.{ℕ}
-use lib.IntN.{ℤ, pos, negsuc}
-use lib.Ieee.{Float, nan, fin, ofInt, neg, add, sub, mul, div, sum, round, units, odd, size, span, climb, lt}
+use mathlib.Core.Bool.{true, false}
+use lib.IntN.{pos, negsuc}
+use lib.Ieee.{nan, fin, ofInt, neg, add, sub, mul, div, sum, round, units, odd, size, span, climb, lt}
 use Rattle.angle.specs.Angle.{angleAbout, pseudoAngle, ofDiff, slope, absoluteOf, validAngle, zero64, quarter, one64}
 
 -- "M1 centre (0,0): (-4,0) is 1.0; (0,4) 0.25; (4,0) 0.5; (0,-4) 0.75; (4,4) 0.375; (-4,-4) 0.875."

@@ -4,20 +4,20 @@
 use mathlib.Core.Path.{_≡_, refl, sym, ap, _∙_, subst}
 use mathlib.Core.Logic.{_⊎_, inl, inr}
 use Prim.Native.Nat.{ℕ, zero, suc, _+_, _-_, _*_, _%_, _^_, _≤_, _<_, zero-le}
-use native.Mathlib.Nat.{le-refl, le-of-eq, le-trans, lt-of-le-of-lt, lt-of-lt-of-le, lt-of-not-le, le-of-suc-le-suc, lt-irrefl, pos-of-ne-zero, one-mul, mul-one, zero-mul, mul-comm, mul-assoc, mul-left-comm, mul-right-comm, mul-pos, mul-le-mul-right, mul-le-mul-left, le-of-mul-le-mul-right, le-mul-of-pos-right, add-mul, mul-sub, eq-of-mul-eq-mul-right, two-pow-succ, pow-suc, add-comm}
+use native.Mathlib.Nat.{le-refl, le-of-eq, le-trans, lt-of-lt-of-le, lt-of-not-le, le-of-suc-le-suc, lt-irrefl, pos-of-ne-zero, one-mul, mul-one, zero-mul, mul-comm, mul-assoc, mul-right-comm, mul-pos, mul-le-mul-right, le-of-mul-le-mul-right, mul-sub, eq-of-mul-eq-mul-right, two-pow-succ, add-comm}
 use native.Mathlib.Omega.{arith}
-use mathlib.Core.Bool.{Bool, true, false, not, _&&_, cond, true≢false}
+use mathlib.Core.Bool.{Bool, true, false, not, _&&_, cond}
 use lib.IntN.{ℤ, pos, negsuc}
-use lib.Dec.{T, leb, ltb, eqb, leb→le, eqb→eq, T-not, lit≤, lit<}
+use lib.Dec.{T, leb, ltb, eqb, leb→le, eqb→eq, lit≤, lit<}
 use lib.Pow.{pow-add, pow-pos, pow-mono, pow-lt}
-use lib.Ieee.{Float, nan, inf, fin, Format, binary32, binary64, prec, emax, low, up, down, round, sum, add, sub, mul, div, level, eq, fits}
+use lib.Ieee.{Float, nan, inf, fin, Format, binary32, binary64, prec, emax, low, up, down, round, add, sub, mul, div, eq, fits}
 use lib.Ieee.Digits.{back}
-use lib.Ieee.Fits.{up-pos, down-pos, and-i, and-l, and-r, two, two-le-pos}
+use lib.Ieee.Fits.{up-pos, down-pos, and-l, and-r, two}
 use lib.Ieee.Exact.{HasValue}
-use lib.Ieee.Scale.{grid, overflow}
+use lib.Ieee.Scale.{grid}
 use Rattle.angle.specs.Angle.{absoluteOf, quarter, one64, three64, bounded}
 use Rattle.angle.specs.Grid.{grid-le, grid-exact, grid-pow, grid-again, grid-multiple}
-use Rattle.angle.specs.Values.{Val, add-at, sub-at, sum-like, sum-less, gap, eq-at, div-at, quarter-at, absolute-at, neg-at, round-at, under}
+use Rattle.angle.specs.Values.{Val, add-at, sub-at, sum-like, sum-less, gap, eq-at, div-at, quarter-at, absolute-at, round-at, under}
 
 -- ---- the sign and the size, in units, of a value that the format holds
 pow-le-back : (a l : ℕ) → 2 ^ a ≤ 2 ^ l → a ≤ l

@@ -1,20 +1,20 @@
 -- Valid angles, which are any floats from 0.0 to 1.0, not only whole numbers of 2 ^ -53: the test by two comparisons, and the order against an angle, which goes by the number rounded down.
 -- For a whole k, k ≤ a / c exactly where k ≤ floor (a / c), and a / c < k exactly where floor (a / c) < k. Assumes nothing.
-use mathlib.Core.Path.{_≡_, refl, sym, ap, _∙_, subst}
-use Prim.Native.Nat.{ℕ, zero, suc, _+_, _*_, _/_, _^_, _≤_, _<_, zero-le}
-use native.Mathlib.Nat.{le-trans, le-of-eq, lt-of-lt-of-le, lt-irrefl, mul-one, one-mul, zero-mul, zero-add, mul-comm, mul-assoc, mul-right-comm, mul-pos, le-add-left, le-div-iff-mul-le, div-lt-iff-lt-mul, zero-div}
+use mathlib.Core.Path.{_≡_, refl, sym, ap, _∙_}
+use Prim.Native.Nat.{ℕ, zero, suc, _+_, _*_, _/_, _^_, _<_, zero-le}
+use native.Mathlib.Nat.{lt-of-lt-of-le, mul-one, one-mul, zero-mul, zero-add, mul-assoc, mul-right-comm, mul-pos, le-add-left, le-div-iff-mul-le, div-lt-iff-lt-mul}
 use native.Mathlib.Omega.{arith}
-use mathlib.Core.Bool.{Bool, true, false, not, _&&_, _||_, Bool·beq, true≢false}
-use lib.IntN.{ℤ, pos, negsuc}
+use mathlib.Core.Bool.{Bool, true, false, _&&_, _||_, true≢false}
+use lib.IntN.{ℤ}
 use lib.Dec.{T, ltb, leb, eqb, ltb→lt, lt→ltb, leb→le, le→leb, eqb→eq, lit<}
 use lib.Pow.{pow-pos}
-use lib.Ieee.{Float, nan, inf, fin, up, down, lt, le, eq, level}
+use lib.Ieee.{Float, nan, inf, fin, up, down, lt, le, eq}
 use lib.Ieee.Bits.{is-true}
 use lib.Ieee.Fits.{up-pos, down-pos, eq→eqb}
 use lib.Ieee.Exact.{HasValue}
 use Rattle.angle.specs.Angle.{zero64, one64, IsAngle, turns, validAngle}
 use Rattle.angle.specs.Values.{same-test, lt-at, le-at, eq-at}
-use Rattle.angle.specs.Center.{or-l, or-r, yes-and, and-yes}
+use Rattle.angle.specs.Center.{or-l, yes-and, and-yes}
 
 -- ---- -0.0 compares as 0.0
 zero-product : (m : ℕ) (e : ℤ) → m * up e ≡ 0 → m ≡ 0

@@ -1,9 +1,8 @@
 -- A count of buckets, 2 ^ i, as the code reads it: its leading zeros, its mask, and shifts by a bucket's width. Assumes nothing.
-use mathlib.Core.Path.{_≡_, refl, sym, ap, _∙_, subst}
+use mathlib.Core.Path.{_≡_, sym, ap, _∙_}
 use Prim.Native.Nat.{ℕ, suc, _+_, _-_, _*_, _/_, _%_, _^_, _≤_, _<_}
-use native.Mathlib.Nat.{le-refl, le-trans, le-of-eq, lt-of-le-of-lt, one-mul, mod-eq-of-lt, mod-lt, two-pow-succ}
+use native.Mathlib.Nat.{le-refl, one-mul, mod-eq-of-lt, mod-lt, two-pow-succ}
 use native.Mathlib.Omega.{arith}
-use lib.Dec.{lit≤, lit<}
 use lib.Pow.{pow-mono, pow-lt}
 use lib.Bits.{bitAnd, and-mask}
 use lib.Count.{leadingZeros, leading-unique}

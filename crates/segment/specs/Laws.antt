@@ -2,13 +2,13 @@
 use mathlib.Core.Path.{_≡_, refl, sym, ap, _∙_, subst}
 use mathlib.Core.Logic.{_≢_}
 use Prim.Native.Nat.{ℕ, zero, suc, _+_, _-_, _*_, _/_, _%_, _^_, _≤_, _<_}
-use native.Mathlib.Nat.{le-trans, le-antisymm, lt-of-lt-of-le, lt-of-not-le, lt-irrefl, le-of-suc-le-suc, mul-comm, mul-assoc, mul-right-comm, mul-div-cancel, mul-div-mul-right, div-div-eq-div-mul, add-mul, add-sub-of-le, suc-mul, zero-div}
+use native.Mathlib.Nat.{le-trans, le-antisymm, lt-of-lt-of-le, lt-of-not-le, lt-irrefl, le-of-suc-le-suc, mul-comm, mul-assoc, mul-div-cancel, mul-div-mul-right, div-div-eq-div-mul, add-mul, add-sub-of-le, suc-mul, zero-div}
 use native.Mathlib.Omega.{arith}
 use mathlib.Core.Bool.{Bool, true, false, not, cond, _&&_, _||_}
-use lib.Dec.{T, ltb, leb, ltb→lt, nltb→le, lit≤}
+use lib.Dec.{T, ltb, leb, nltb→le, lit≤}
 use lib.Pow.{pow-add, pow-pos, pow-lt}
 use lib.Arith.{digits-div}
-use lib.Ieee.{Float, nan, inf, fin, up, down, lt, le}
+use lib.Ieee.{Float, nan, inf, fin, up, down, lt}
 use lib.Ieee.Fits.{down-pos}
 use lib.Ieee.Exact.{HasValue}
 use Rattle.angle.specs.Angle.{IsAngle, turns, validAngle}

@@ -1,6 +1,6 @@
 -- `angle::angle_about` meets its contract: a vertex that is not at a valid centre is what `pseudo_angle` asks for (`about-apart`). Assumes nothing.
 use borrow.Author.Needs.{needs}
-use mathlib.Core.Path.{_≡_, sym, ap, _∙_, subst}
+use mathlib.Core.Path.{sym, ap, _∙_, subst}
 use lib.Ieee.{Float, binary64, ofInt}
 use mir.Syntax.{w32}
 use mir.ValLaws.{toZ-ofZ}

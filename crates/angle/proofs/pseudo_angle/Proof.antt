@@ -1,11 +1,10 @@
 -- `angle::pseudo_angle` meets its contract. The body as MIR has it, with each literal by its bit pattern, is `pseudoAngle` (`as-up`, `as-down`), and that is an angle (`specs/Laws.antt`).
 -- Assumes nothing.
 use borrow.Author.Needs.{needs}
-use mathlib.Core.Path.{_≡_, refl, sym, ap, _∙_, subst}
+use mathlib.Core.Path.{_≡_, sym, ap, _∙_, subst}
 use mathlib.Core.Logic.{⊎-elim}
 use mathlib.Core.Bool.{Bool, true, false, cond}
-use lib.Dec.{T}
-use lib.Ieee.{Float, binary64, fits, ofBits, add, sub, mul, div, lt}
+use lib.Ieee.{Float, binary64, ofBits, add, sub, mul, div, lt}
 use Rattle.angle.specs.Angle.{absoluteOf, pseudoAngle, ofDiff, slope, one64, three64, zero64, quarter, IsAngle}
 use Rattle.angle.specs.Laws.{pseudo-is-angle}
 use Rattle.angle.proofs.pseudo_angle.Statement.{statement}

@@ -1,10 +1,9 @@
 -- `segment::ceiled_bucket` meets its contract, as `floored_bucket` does. Assumes nothing.
 use borrow.Author.Needs.{needs}
-use mathlib.Core.Path.{_≡_, sym, ap, _∙_, subst}
-use Prim.Native.Nat.{ℕ, _^_, _<_}
+use mathlib.Core.Path.{sym, ap, _∙_, subst}
+use Prim.Native.Nat.{ℕ, _<_}
 use native.Mathlib.Omega.{arith}
 use lib.Pow.{pow-pos}
-use Rattle.angle.specs.Angle.{turns}
 use Rattle.angle.specs.Bits.{angle-valid}
 use Rattle.segment.specs.Bucket.{ceilOf}
 use Rattle.segment.specs.Laws.{bucket-pos, ceiled-whole}

@@ -1,8 +1,7 @@
 -- `segment::floored_bucket` meets its contract: a shift by a bucket's width and a mask by the count. Assumes nothing.
 use borrow.Author.Needs.{needs}
-use mathlib.Core.Path.{_≡_, sym, ap, _∙_, subst}
+use mathlib.Core.Path.{sym, ap, _∙_, subst}
 use Prim.Native.Nat.{ℕ, _<_}
-use Rattle.angle.specs.Angle.{turns}
 use Rattle.segment.specs.Bucket.{floorOf}
 use Rattle.segment.specs.Laws.{bucket-pos, floored-whole}
 use Rattle.segment.proofs.Shift.{floor-is, below}
