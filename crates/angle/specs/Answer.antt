@@ -15,6 +15,6 @@ abbrev pub vertexAngle : ℤ → ℤ → Float → Float → VertexAngle
 vertexAngle x y cx cy = pick (atCenter x y cx cy) AtCenter (Angle (angleAbout x y cx cy))
 
 -- the angle that it carries is one
-abbrev pub GoodAngle : VertexAngle → Type 0
-GoodAngle AtCenter = Unit
-GoodAngle (Angle a) = IsAngle a
+abbrev pub CarriesAngle : VertexAngle → Type 0
+CarriesAngle AtCenter = Unit
+CarriesAngle (Angle a) = IsAngle a

@@ -4,25 +4,23 @@
 use mathlib.Core.Path.{_≡_, refl, sym, ap, _∙_, subst}
 use mathlib.Core.Logic.{_⊎_, inl, inr}
 use Prim.Native.Nat.{ℕ, zero, suc, _+_, _-_, _*_, _%_, _^_, _≤_, _<_, zero-le}
-use native.Mathlib.Nat.{le-refl, le-of-eq, le-trans, lt-of-lt-of-le, lt-of-not-le, le-of-suc-le-suc, lt-irrefl, pos-of-ne-zero, one-mul, mul-one, zero-mul, mul-comm, mul-assoc, mul-right-comm, mul-pos, mul-le-mul-right, le-of-mul-le-mul-right, mul-sub, eq-of-mul-eq-mul-right, two-pow-succ, add-comm}
+use native.Mathlib.Nat.{le-refl, le-of-eq, le-trans, lt-of-lt-of-le, lt-irrefl, pos-of-ne-zero, one-mul, mul-one, zero-mul, mul-comm, mul-assoc, mul-right-comm, mul-pos, mul-le-mul-right, le-of-mul-le-mul-right, mul-sub, eq-of-mul-eq-mul-right, two-pow-succ, add-comm}
 use native.Mathlib.Omega.{arith}
 use mathlib.Core.Bool.{Bool, true, false, not, _&&_, cond}
 use lib.IntN.{ℤ, pos, negsuc}
 use lib.Dec.{T, leb, ltb, eqb, leb→le, eqb→eq, lit≤, lit<}
-use lib.Pow.{pow-add, pow-pos, pow-mono, pow-lt}
+use lib.Pow.{pow-add, pow-pos, pow-mono}
 use lib.Ieee.{Float, nan, inf, fin, Format, binary32, binary64, prec, emax, low, up, down, round, add, sub, mul, div, eq, fits}
 use lib.Ieee.Digits.{back}
 use lib.Ieee.Fits.{up-pos, down-pos, and-l, and-r, two}
 use lib.Ieee.Exact.{HasValue}
 use lib.Ieee.Scale.{grid}
+use Rattle.angle.specs.Powers.{pow-le-back}
 use Rattle.angle.specs.Angle.{absoluteOf, quarter, one64, three64, bounded}
 use Rattle.angle.specs.Grid.{grid-le, grid-exact, grid-pow, grid-again, grid-multiple}
-use Rattle.angle.specs.Values.{Val, add-at, sub-at, sum-like, sum-less, gap, eq-at, div-at, quarter-at, absolute-at, round-at, under}
+use Rattle.angle.specs.Values.{Val, add-at, sub-at, sum-like, sum-less, difference, eq-at, div-at, quarter-at, absolute-at, round-at, under}
 
 -- ---- the sign and the size, in units, of a value that the format holds
-pow-le-back : (a l : ℕ) → 2 ^ a ≤ 2 ^ l → a ≤ l
-pow-le-back a l h = le-of-suc-le-suc (lt-of-not-le (λ (g : suc l ≤ a). lt-irrefl (2 ^ l) (lt-of-lt-of-le (pow-lt g) h)))
-
 place : (l m : ℕ) (e : ℤ) → down e ≤ 2 ^ l → (g : ℕ) × (m * up e * 2 ^ l ≡ g * down e)
 place l m (pos a) h = (m * 2 ^ a * 2 ^ l, sym (mul-one (m * 2 ^ a * 2 ^ l)))
 place l m (negsuc a) h = (
@@ -32,7 +30,7 @@ place l m (negsuc a) h = (
       ∙ sym (mul-assoc m (2 ^ (l - suc a)) (2 ^ suc a)),
 )
 
-down-le : (f : Format) (s : Bool) (m : ℕ) (e : ℤ) → T (fits f (fin s m e)) → down e ≤ 2 ^ low f
+pub down-le : (f : Format) (s : Bool) (m : ℕ) (e : ℤ) → T (fits f (fin s m e)) → down e ≤ 2 ^ low f
 unfolding fits
 down-le f s zero e h =
     le-trans (le-trans (le-of-eq (sym (one-mul (down e)))) (mul-le-mul-right (down e) (up-pos e))) (le-trans (le-of-eq (eqb→eq (up e * down e) 1 h)) (pow-pos (low f)))
@@ -93,7 +91,7 @@ pub diff : (f : Format) (a c : Float) → T (fits f a) → T (fits f c) → T (b
 diff f a c fa fc na nc =
     let A = unit-of f a fa na in
     let C = unit-of f c fc nc in
-    let G = gap f (A .0) (A .1) (C .0) (C .1) (U f) in
+    let G = difference f (A .0) (A .1) (C .0) (C .1) (U f) in
     let n = G .1 in
     let most : n ≤ 2 ^ (low f + 32) = le-trans (G .3) (double (low f) (A .1) (C .1) (A .3) (C .3)) in
     let top : grid f n (U f) ≤ 2 ^ (low f + 32) = unit-most f n (low f + 32) most in

@@ -7,7 +7,7 @@ ghost use lib.IntN.{ℤ};
 ghost use lib.Dec.{T, ltb, leb, eqb};
 ghost use lib.Ieee.{ofInt, ofBits, toBits, binary64};
 ghost use Rattle.angle.specs.Angle.{absoluteOf, pseudoAngle, angleAbout, bounded, validCenter, atCenter, Apart, IsAngle, turns, validAngle};
-ghost use Rattle.angle.specs.Answer.{vertexAngle, GoodAngle};
+ghost use Rattle.angle.specs.Answer.{vertexAngle, CarriesAngle};
 
 pub struct Point2 {
     pub x: f64,
@@ -21,7 +21,7 @@ pub enum VertexAngle {
 }
 
 // |x|, written by hand: a number has no methods here.
-pub fn absolute(x: f64) -> f64
+fn absolute(x: f64) -> f64
     ensures { λ r. ⌜ r ≡ absoluteOf x ⌝ }
 {
     if x < 0.0 {
@@ -89,7 +89,7 @@ pub fn angle_about(x: i32, y: i32, center: Point2) -> f64
 pub fn vertex_angle(x: i32, y: i32, center: Point2) -> VertexAngle
     requires { ⌜ T (validCenter (center .x) (center .y)) ⌝ }
     ensures is { λ r. ⌜ r ≡ vertexAngle x y (center .x) (center .y) ⌝ }
-    ensures angle { λ r. ⌜ GoodAngle r ⌝ }
+    ensures angle { λ r. ⌜ CarriesAngle r ⌝ }
 {
     if is_at_center(x, y, center) {
         return VertexAngle::AtCenter;

@@ -2,32 +2,35 @@
 use mathlib.Core.Path.{_≡_, refl, sym, ap, _∙_, subst}
 use mathlib.Core.Logic.{_≢_}
 use Prim.Native.Nat.{ℕ, zero, suc, _+_, _-_, _*_, _/_, _%_, _^_, _≤_, _<_}
-use native.Mathlib.Nat.{le-trans, le-antisymm, lt-of-lt-of-le, lt-of-not-le, lt-irrefl, le-of-suc-le-suc, mul-comm, mul-assoc, mul-div-cancel, mul-div-mul-right, div-div-eq-div-mul, add-mul, add-sub-of-le, suc-mul, zero-div}
+use native.Mathlib.Nat.{le-trans, le-antisymm, lt-irrefl, mul-one, mul-comm, mul-assoc, mul-pos, mul-div-cancel, mul-div-mul-right, div-div-eq-div-mul, add-mul, add-sub-of-le, suc-mul, zero-div}
 use native.Mathlib.Omega.{arith}
 use mathlib.Core.Bool.{Bool, true, false, not, cond, _&&_, _||_}
 use lib.Dec.{T, ltb, leb, nltb→le, lit≤}
-use lib.Pow.{pow-add, pow-pos, pow-lt}
+use lib.Pow.{pow-add, pow-pos}
 use lib.Arith.{digits-div}
-use lib.Ieee.{Float, nan, inf, fin, up, down, lt}
+use lib.IntN.{ℤ, pos}
+use lib.Ieee.{Float, nan, inf, fin, binary64, up, down, lt, mul, ofInt, fits}
 use lib.Ieee.Fits.{down-pos}
 use lib.Ieee.Exact.{HasValue}
 use Rattle.angle.specs.Angle.{IsAngle, turns, validAngle}
 use Rattle.angle.specs.Valid.{valid-lt, valid-le}
+use Rattle.angle.specs.Powers.{pow-le-back}
+use Rattle.angle.specs.Product.{product-exact}
 use Rattle.segment.specs.declared.Segment.{Segment}
 use Rattle.segment.specs.declared.Segment.the-variants.{Plain, Wrapping}
 use Rattle.segment.specs.Arc.{holds}
-use Rattle.segment.specs.Segment.{pick, segmentOf, Good, containsAngle, containsTurns}
+use Rattle.segment.specs.Segment.{pick, segmentOf, EndsAreAngles, containsAngle, containsTurns}
 use Rattle.segment.specs.Bucket.{Buckets, floorTimes, ceilTimes, flooredBucket, ceiledBucket, width, floorOf, ceilOf}
 
 -- ---- containment
-pub contains-turns : (s : Segment) (a : Float) → Good s → T (validAngle a) → containsAngle s a ≡ containsTurns s (turns a)
+pub contains-turns : (s : Segment) (a : Float) → EndsAreAngles s → T (validAngle a) → containsAngle s a ≡ containsTurns s (turns a)
 contains-turns (Plain s e) a g v = ap (λ (b : Bool). b && lt a e) (valid-le s a (g .0) v) ∙ ap (λ (b : Bool). leb (turns s) (turns a) && b) (valid-lt a e v (g .1))
 contains-turns (Wrapping s e) a g v = ap (λ (b : Bool). b || lt a e) (valid-le s a (g .0) v) ∙ ap (λ (b : Bool). leb (turns s) (turns a) || b) (valid-lt a e v (g .1))
 
-pub segment-good : (s e : Float) → IsAngle s → IsAngle e → Good (segmentOf s e)
+pub segment-good : (s e : Float) → IsAngle s → IsAngle e → EndsAreAngles (segmentOf s e)
 segment-good s e h k = go (ltb (turns s) (turns e))
   where
-    go : (t : Bool) → Good (pick t (Plain s e) (Wrapping s e))
+    go : (t : Bool) → EndsAreAngles (pick t (Plain s e) (Wrapping s e))
     go true = (h, k)
     go false = (h, k)
 
@@ -43,9 +46,6 @@ segment-holds s e h k = go (ltb (turns s) (turns e)) (ltb (turns e) (turns s)) (
     go false false a b = absurd (h (le-antisymm (b tt) (a tt)))
 
 -- ---- the count of buckets is a power of two that divides 2 ^ 53
-pow-le-back : (a l : ℕ) → 2 ^ a ≤ 2 ^ l → a ≤ l
-pow-le-back a l h = le-of-suc-le-suc (lt-of-not-le (λ (g : suc l ≤ a). lt-irrefl (2 ^ l) (lt-of-lt-of-le (pow-lt g) h)))
-
 -- i with n ≡ 2 ^ i
 pub bucket-digits : (n : ℕ) → Buckets n → (i : ℕ) × (n ≡ 2 ^ i) × (3 ≤ i) × (i ≤ 20) × (width n ≡ 2 ^ (53 - i)) × (2 ^ 53 ≡ 2 ^ (53 - i) * n)
 bucket-digits n h =
@@ -76,20 +76,10 @@ bucket-pos n h = let b = bucket-width n h in some n (b .1)
     some : (n : ℕ) → 8 ≤ n → 0 < n
     some n h = omega arith
 
--- ---- the floor
-floor-whole : (n w : ℕ) (x : Float) → 0 < w → 2 ^ 53 ≡ n * w → floorTimes x n ≡ turns x / w
-unfolding floorTimes turns
-floor-whole n w nan W e = sym (zero-div w)
-floor-whole n w (inf s) W e = sym (zero-div w)
-floor-whole n w (fin s m d) W e =
-    sym (div-div-eq-div-mul (m * up d * 2 ^ 53) (down d) w
-    ∙ ap (λ (x : ℕ). x / (down d * w)) (ap (λ (x : ℕ). m * up d * x) e ∙ sym (mul-assoc (m * up d) n w))
-    ∙ mul-div-mul-right (m * up d * n) (down d) W)
+-- ---- the floor, and the ceiling, of two fractions that are one number
+floor-same : (a b c d : ℕ) → 0 < b → 0 < d → a * d ≡ c * b → a / b ≡ c / d
+floor-same a b c d B D h = sym (mul-div-mul-right a b D) ∙ ap (λ (x : ℕ). x / (b * d)) h ∙ ap (λ (x : ℕ). c * b / x) (mul-comm b d) ∙ mul-div-mul-right c d B
 
-pub floored-whole : (n : ℕ) (x : Float) → Buckets n → flooredBucket x n ≡ floorOf (turns x) n
-floored-whole n x h = let b = bucket-width n h in ap (λ (y : ℕ). y % n) (floor-whole n (width n) x (b .0) (b .2))
-
--- ---- the ceiling: of a / c and of a * n / (c * n) it is the same
 ceil-scale : (a c n : ℕ) → 0 < n → 0 < c → (a * n + (c * n - 1)) / (c * n) ≡ (a + (c - 1)) / c
 ceil-scale a zero n N C = absurd (lt-irrefl 0 C)
 ceil-scale a (suc c) n N C =
@@ -109,15 +99,58 @@ ceil-scale a (suc c) n N C =
     pred-of : (c : ℕ) → c ≡ suc c - 1
     pred-of c = omega arith
 
+ceil-same : (a b c d : ℕ) → 0 < b → 0 < d → a * d ≡ c * b → (a + (b - 1)) / b ≡ (c + (d - 1)) / d
+ceil-same a b c d B D h =
+    sym (ceil-scale a b d D B) ∙ ap (λ (x : ℕ). (x + (b * d - 1)) / (b * d)) h ∙ ap (λ (x : ℕ). (c * b + (x - 1)) / x) (mul-comm b d) ∙ ceil-scale c d b B D
+
+-- ---- buckets by whole numbers
+floor-whole : (n w : ℕ) (x : Float) → 0 < w → 2 ^ 53 ≡ n * w → floorTimes x n ≡ turns x / w
+unfolding floorTimes turns
+floor-whole n w nan W e = sym (zero-div w)
+floor-whole n w (inf s) W e = sym (zero-div w)
+floor-whole n w (fin s m d) W e =
+    floor-same (m * up d * n) (down d) (m * up d * 2 ^ 53) (down d * w) (down-pos d) (mul-pos (down-pos d) W)
+    (ap (λ (x : ℕ). m * up d * n * x) (mul-comm (down d) w) ∙ sym (mul-assoc (m * up d * n) w (down d)) ∙ ap (λ (x : ℕ). x * down d) (mul-assoc (m * up d) n w ∙ ap (λ (x : ℕ). m * up d * x) (sym e)))
+    ∙ sym (div-div-eq-div-mul (m * up d * 2 ^ 53) (down d) w)
+
+pub floored-whole : (n : ℕ) (x : Float) → Buckets n → flooredBucket x n ≡ floorOf (turns x) n
+floored-whole n x h = let b = bucket-width n h in ap (λ (y : ℕ). y % n) (floor-whole n (width n) x (b .0) (b .2))
+
 ceil-whole : (n w k : ℕ) (x : Float) → 0 < w → 2 ^ 53 ≡ n * w → HasValue x false k (2 ^ 53) → ceilTimes x n ≡ (k + (w - 1)) / w
 unfolding ceilTimes
 ceil-whole n w k nan W e v = absurd v
 ceil-whole n w k (inf s) W e v = absurd v
-ceil-whole n w k (fin s m d) W e v =
-    sym (ceil-scale (m * up d * n) (down d) w W (down-pos d))
-    ∙ ap (λ (x : ℕ). (x + (down d * w - 1)) / (down d * w)) (mul-assoc (m * up d) n w ∙ ap (λ (x : ℕ). m * up d * x) (sym e) ∙ v .1)
-    ∙ ap (λ (x : ℕ). (k * down d + (x - 1)) / x) (mul-comm (down d) w)
-    ∙ ceil-scale k w (down d) (down-pos d) W
+ceil-whole n w k (fin s m d) W e v = ceil-same (m * up d * n) (down d) k w (down-pos d) W (mul-assoc (m * up d) n w ∙ ap (λ (x : ℕ). m * up d * x) (sym e) ∙ v .1)
 
 pub ceiled-whole : (n : ℕ) (x : Float) → Buckets n → IsAngle x → ceiledBucket x n ≡ ceilOf (turns x) n
 ceiled-whole n x h a = let b = bucket-width n h in ap (λ (y : ℕ). y % n) (ceil-whole n (width n) (turns x) x (b .0) (b .2) (a .value))
+
+-- ---- 01: "The bucket is read from the angle's own bits, since the product with n is exact": 000 rounds the float product, which has the same floor and ceiling
+floor-value : (z : Float) (s : Bool) (a c : ℕ) → 0 < c → HasValue z s a c → floorTimes z 1 ≡ a / c
+unfolding floorTimes
+floor-value nan s a c C v = absurd v
+floor-value (inf t) s a c C v = absurd v
+floor-value (fin t q d) s a c C v = floor-same (q * up d * 1) (down d) a c (down-pos d) C (ap (λ (x : ℕ). x * c) (mul-one (q * up d)) ∙ v .1)
+
+ceil-value : (z : Float) (s : Bool) (a c : ℕ) → 0 < c → HasValue z s a c → ceilTimes z 1 ≡ (a + (c - 1)) / c
+unfolding ceilTimes
+ceil-value nan s a c C v = absurd v
+ceil-value (inf t) s a c C v = absurd v
+ceil-value (fin t q d) s a c C v = ceil-same (q * up d * 1) (down d) a c (down-pos d) C (ap (λ (x : ℕ). x * c) (mul-one (q * up d)) ∙ v .1)
+
+product-value : (n : ℕ) (s : Bool) (m : ℕ) (e : ℤ) → Buckets n → T (fits binary64 (fin s m e)) → T (validAngle (fin s m e)) → HasValue (mul binary64 (fin s m e) (ofInt binary64 (pos n))) s (m * up e * n) (down e)
+product-value n s m e h fit v =
+    let b = bucket-digits n h in
+    subst (λ (y : ℕ). HasValue (mul binary64 (fin s m e) (ofInt binary64 (pos y))) s (m * up e * y) (down e)) (sym (b .1)) (product-exact s m e (b .0) (le-trans (b .3) (lit≤ tt)) fit v)
+
+pub floored-product : (n : ℕ) (x : Float) → Buckets n → T (fits binary64 x) → T (validAngle x) → floorTimes (mul binary64 x (ofInt binary64 (pos n))) 1 % n ≡ flooredBucket x n
+unfolding validAngle floorTimes
+floored-product n nan h fit v = absurd v
+floored-product n (inf s) h fit v = absurd v
+floored-product n (fin s m e) h fit v = ap (λ (y : ℕ). y % n) (floor-value (mul binary64 (fin s m e) (ofInt binary64 (pos n))) s (m * up e * n) (down e) (down-pos e) (product-value n s m e h fit v))
+
+pub ceiled-product : (n : ℕ) (x : Float) → Buckets n → T (fits binary64 x) → T (validAngle x) → ceilTimes (mul binary64 x (ofInt binary64 (pos n))) 1 % n ≡ ceiledBucket x n
+unfolding validAngle ceilTimes
+ceiled-product n nan h fit v = absurd v
+ceiled-product n (inf s) h fit v = absurd v
+ceiled-product n (fin s m e) h fit v = ap (λ (y : ℕ). y % n) (ceil-value (mul binary64 (fin s m e) (ofInt binary64 (pos n))) s (m * up e * n) (down e) (down-pos e) (product-value n s m e h fit v))

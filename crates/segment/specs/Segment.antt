@@ -16,9 +16,9 @@ abbrev pub segmentOf : Float → Float → Segment
 segmentOf s e = pick (ltb (turns s) (turns e)) (Plain s e) (Wrapping s e)
 
 -- both are angles
-abbrev pub Good : Segment → Type 0
-Good (Plain s e) = IsAngle s × IsAngle e
-Good (Wrapping s e) = IsAngle s × IsAngle e
+abbrev pub EndsAreAngles : Segment → Type 0
+EndsAreAngles (Plain s e) = IsAngle s × IsAngle e
+EndsAreAngles (Wrapping s e) = IsAngle s × IsAngle e
 
 -- 01: "it holds its first and not its second"
 abbrev pub containsAngle : Segment → Float → Bool

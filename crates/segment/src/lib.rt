@@ -6,7 +6,7 @@ ghost use Prim.Native.Nat.{ℕ, _^_, _<_, _≤_};
 ghost use lib.Dec.{T};
 ghost use Rattle.angle.specs.Angle.{IsAngle, turns, validAngle};
 ghost use Rattle.segment.specs.Arc.{holds, gap, wide};
-ghost use Rattle.segment.specs.Segment.{segmentOf, Good, containsAngle, containsTurns};
+ghost use Rattle.segment.specs.Segment.{segmentOf, EndsAreAngles, containsAngle, containsTurns};
 ghost use Rattle.segment.specs.Bucket.{Buckets, BucketShift, flooredBucket, ceiledBucket, floorOf, ceilOf};
 
 // From the first angle up to the second, without it; a wrapping one goes on past 1.0 at 0.0.
@@ -20,7 +20,7 @@ impl Segment {
     pub fn new(from: f64, to: f64) -> Segment
         requires { ⌜ IsAngle from × IsAngle to × (turns from ≢ turns to) ⌝ }
         ensures is { λ r. ⌜ r ≡ segmentOf from to ⌝ }
-        ensures good { λ r. ⌜ Good r ⌝ }
+        ensures angles { λ r. ⌜ EndsAreAngles r ⌝ }
         ensures arc { λ r. ⌜ ((k : ℕ) → containsTurns r k ≡ holds k (turns from) (turns to)) ⌝ }
     {
         if angle::less(from, to) {
@@ -31,7 +31,7 @@ impl Segment {
     }
 
     pub fn contains_angle(self, a: f64) -> bool
-        requires { ⌜ Good self × T (validAngle a) ⌝ }
+        requires { ⌜ EndsAreAngles self × T (validAngle a) ⌝ }
         ensures is { λ r. ⌜ r ≡ containsAngle self a ⌝ }
         ensures whole { λ r. ⌜ r ≡ containsTurns self (turns a) ⌝ }
     {

@@ -6,12 +6,12 @@ use lib.Dec.{T}
 use lib.Ieee.{Float}
 use Rattle.angle.specs.Angle.{turns, validAngle}
 use Rattle.segment.specs.declared.Segment.{Segment}
-use Rattle.segment.specs.Segment.{Good, containsAngle, containsTurns}
+use Rattle.segment.specs.Segment.{EndsAreAngles, containsAngle, containsTurns}
 use Rattle.segment.specs.Laws.{contains-turns}
 use Rattle.segment.proofs.Segment.contains_angle.Statement.{statement}
 use Rattle.segment.proofs.Segment.contains_angle.Tie as tie
 
-clauses : (s : Segment) (a : Float) (r : Bool) → Good s × T (validAngle a) → r ≡ containsAngle s a → (r ≡ containsAngle s a) × (r ≡ containsTurns s (turns a))
+clauses : (s : Segment) (a : Float) (r : Bool) → EndsAreAngles s × T (validAngle a) → r ≡ containsAngle s a → (r ≡ containsAngle s a) × (r ≡ containsTurns s (turns a))
 clauses s a r p e = (e, e ∙ contains-turns s a (p .0) (p .1))
 
 enum-known-self : tie.Need-enum-known-self

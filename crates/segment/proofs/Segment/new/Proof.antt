@@ -9,14 +9,14 @@ use Rattle.angle.specs.Angle.{IsAngle, turns}
 use Rattle.segment.specs.declared.Segment.{Segment}
 use Rattle.segment.specs.declared.Segment.the-variants.{Plain, Wrapping}
 use Rattle.segment.specs.Arc.{holds}
-use Rattle.segment.specs.Segment.{pick, segmentOf, Good, containsTurns}
+use Rattle.segment.specs.Segment.{pick, segmentOf, EndsAreAngles, containsTurns}
 use Rattle.segment.specs.Laws.{segment-good, segment-holds}
 use Rattle.segment.proofs.Segment.new.Statement.{statement}
 use Rattle.segment.proofs.Segment.new.Tie as tie
 
 -- all three clauses, from the first
-clauses : (s e : Float) (r : Segment) → IsAngle s → IsAngle e → turns s ≢ turns e → r ≡ segmentOf s e → (r ≡ segmentOf s e) × (Good r × ((k : ℕ) → containsTurns r k ≡ holds k (turns s) (turns e)))
-clauses s e r h k n is = (is, (subst Good (sym is) (segment-good s e h k), λ x. ap (λ (q : Segment). containsTurns q x) is ∙ segment-holds s e n x))
+clauses : (s e : Float) (r : Segment) → IsAngle s → IsAngle e → turns s ≢ turns e → r ≡ segmentOf s e → (r ≡ segmentOf s e) × (EndsAreAngles r × ((k : ℕ) → containsTurns r k ≡ holds k (turns s) (turns e)))
+clauses s e r h k n is = (is, (subst EndsAreAngles (sym is) (segment-good s e h k), λ x. ap (λ (q : Segment). containsTurns q x) is ∙ segment-holds s e n x))
 
 less-requires : tie.Need-less-requires
 less-requires c κs = search needs
