@@ -1,2 +1,3 @@
 pub mod Flip
 pub mod Face
+pub mod Ready
