@@ -1,0 +1,27 @@
+-- `math::orient2d` meets its contract: the cross product of the differences from p1 is the determinant.
+-- Assumes nothing.
+use mathlib.Core.Path.{_≡_, sym, _∙_, ap₂, subst}
+use mir.Facts.{toZ-ofZ}
+use borrow.Author.Needs.{needs, sfits-of}
+use Rattle.math.specs.Vector.{Short, crossOf, difference-short, orient2d-vectors}
+use Rattle.math.proofs.orient2d.Statement.{statement}
+use Rattle.math.proofs.orient2d.Tie as tie
+
+sub-requires : tie.Need-sub-requires
+sub-requires c κs = search needs
+
+sub-requires-2 : tie.Need-sub-requires-2
+sub-requires-2 c κs = search needs
+
+cross-requires : tie.Need-cross-requires
+cross-requires c κs =
+    let p = c .before .before .pre in
+    (subst Short (sym (c .before .sub .ensures)) (difference-short (p .1) (p .0)), subst Short (sym (c .sub2 .ensures)) (difference-short (p .2) (p .0)))
+
+returns : tie.Need-returns
+returns c =
+    let a = c .before .before .before .args in
+    toZ-ofZ (sfits-of (c .cross .ok)) ∙ c .cross .ensures ∙ ap₂ crossOf (c .before .before .sub .ensures) (c .before .sub2 .ensures) ∙ orient2d-vectors (a .p1) (a .p2) (a .q)
+
+pub orient2d-spec : {M : Type 1} → statement M
+orient2d-spec = tie.close (tie.spec sub-requires sub-requires-2 cross-requires returns)

@@ -1,0 +1,150 @@
+-- Laws of the plane: how `orient2d`, `incircle` and `height` behave under a change of order and under a flip. Polynomial identities, by the ring solver, and signs by certificates.
+-- Assumes nothing.
+use mathlib.Core.Path.{_≡_, refl, subst}
+use mathlib.Core.List.{List, [], _∷_}
+use mathlib.Core.Logic.{⊎-elim}
+use Prim.Native.Nat.{ℕ}
+use lib.IntN.{ℤ, pos, negℤ, _+ℤ_, _-ℤ_, _*ℤ_}
+use lib.Signed.{ltZ, _<ℤ_, _≤ℤ_}
+use Rattle.algebra.specs.Ring.{E, var, num, _⊕_, _⊖_, _⊗_, ⊝_, ⟦_⟧, norm, ring}
+use Rattle.algebra.specs.Sign.{Pos, NN, _*⁺_, _*°_, _+⁺_, _+°_, weak, sq, pos-in, nn-in, cases, refute}
+use Rattle.math.specs.declared.Point.{Point}
+use Rattle.math.specs.Determinant.{Ops, Pt, det2, det3, Lift, Orient2d, Incircle, Height, Minus, Dot, ℤ·, pt, orient2d, incircle, height, containedInCircumference}
+
+-- ---- four points as the solver has them: `ring (env a b c d) e₁ e₂ refl` proves an identity of a, b, c and d, which are A, B, C and D in e₁ and e₂
+abbrev pub E· : Ops E
+E· = record { _+_ = _⊕_; _-_ = _⊖_; _*_ = _⊗_; one = num (pos 1) }
+
+abbrev pub A : Pt E
+A = record { x = var 0; y = var 1 }
+
+abbrev pub B : Pt E
+B = record { x = var 2; y = var 3 }
+
+abbrev pub C : Pt E
+C = record { x = var 4; y = var 5 }
+
+abbrev pub D : Pt E
+D = record { x = var 6; y = var 7 }
+
+abbrev pub env : Point → Point → Point → Point → List ℤ
+env a b c d = a .x ∷ a .y ∷ b .x ∷ b .y ∷ c .x ∷ c .y ∷ d .x ∷ d .y ∷ []
+
+abbrev pub env3 : Point → Point → Point → List ℤ
+env3 a b c = a .x ∷ a .y ∷ b .x ∷ b .y ∷ c .x ∷ c .y ∷ []
+
+-- ---- the reduced forms
+module _ (a b c : Point) where
+  -- the 2x2 determinant of the differences from c, as in Shewchuk's paper
+  pub orient2d-reduced : orient2d a b c ≡ det2 ℤ· (a .x -ℤ c .x, a .y -ℤ c .y) (b .x -ℤ c .x, b .y -ℤ c .y)
+  unfolding orient2d
+  orient2d-reduced =
+      let u = Minus E· A C in let v = Minus E· B C in
+      ring (env3 a b c) (Orient2d E· A B C) (det2 E· (u .x, u .y) (v .x, v .y)) refl
+
+  -- and of those from a, as in `side_query_inaccurate` of math.rs
+  pub orient2d-from : orient2d a b c ≡ det2 ℤ· (b .x -ℤ a .x, b .y -ℤ a .y) (c .x -ℤ a .x, c .y -ℤ a .y)
+  unfolding orient2d
+  orient2d-from =
+      let u = Minus E· B A in let v = Minus E· C A in
+      ring (env3 a b c) (Orient2d E· A B C) (det2 E· (u .x, u .y) (v .x, v .y)) refl
+
+  -- ---- symmetries of `orient2d`
+  pub orient2d-next : orient2d a b c ≡ orient2d b c a
+  unfolding orient2d
+  orient2d-next = ring (env3 a b c) (Orient2d E· A B C) (Orient2d E· B C A) refl
+
+  pub orient2d-swap : orient2d b a c ≡ negℤ (orient2d a b c)
+  unfolding orient2d
+  orient2d-swap = ring (env3 a b c) (Orient2d E· B A C) (⊝ Orient2d E· A B C) refl
+
+  -- the area by the cross products of its corners, which cancel at an edge that two triangles share
+  pub orient2d-cross : orient2d a b c ≡ (a .x *ℤ b .y -ℤ a .y *ℤ b .x) +ℤ (b .x *ℤ c .y -ℤ b .y *ℤ c .x) +ℤ (c .x *ℤ a .y -ℤ c .y *ℤ a .x)
+  unfolding orient2d
+  orient2d-cross =
+      let cross : Pt E → Pt E → E = λ p q. p .x ⊗ q .y ⊖ p .y ⊗ q .x in
+      ring (env3 a b c) (Orient2d E· A B C) ((A .x ⊗ B .y ⊖ A .y ⊗ B .x) ⊕ (B .x ⊗ C .y ⊖ B .y ⊗ C .x) ⊕ (C .x ⊗ A .y ⊖ C .y ⊗ A .x)) refl
+
+  pub height-next : height a b c ≡ height b c a
+  unfolding height
+  height-next = ring (env3 a b c) (Height E· A B C) (Height E· B C A) refl
+
+  pub height-swap : height b a c ≡ negℤ (height a b c)
+  unfolding height
+  height-swap = ring (env3 a b c) (Height E· B A C) (⊝ Height E· A B C) refl
+
+-- two equal corners make no area
+pub orient2d-aab : (a b : Point) → orient2d a a b ≡ pos 0
+unfolding orient2d
+orient2d-aab a b = ring (a .x ∷ a .y ∷ b .x ∷ b .y ∷ []) (Orient2d E· A A B) (num (pos 0)) refl
+
+pub orient2d-aba : (a b : Point) → orient2d a b a ≡ pos 0
+unfolding orient2d
+orient2d-aba a b = ring (a .x ∷ a .y ∷ b .x ∷ b .y ∷ []) (Orient2d E· A B A) (num (pos 0)) refl
+
+pub orient2d-abb : (a b : Point) → orient2d a b b ≡ pos 0
+unfolding orient2d
+orient2d-abb a b = ring (a .x ∷ a .y ∷ b .x ∷ b .y ∷ []) (Orient2d E· A B B) (num (pos 0)) refl
+
+module _ (a b c d : Point) where
+  -- the 3x3 determinant of the differences from d, as in Shewchuk's paper
+  pub incircle-reduced : let u = Minus ℤ· (pt a) (pt d) in let v = Minus ℤ· (pt b) (pt d) in let w = Minus ℤ· (pt c) (pt d) in incircle a b c d ≡ det3 ℤ· (u .x, u .y, Lift ℤ· u) (v .x, v .y, Lift ℤ· v) (w .x, w .y, Lift ℤ· w)
+  unfolding incircle
+  incircle-reduced =
+      let u = Minus E· A D in let v = Minus E· B D in let w = Minus E· C D in
+      ring (env a b c d) (Incircle E· A B C D) (det3 E· (u .x, u .y, Lift E· u) (v .x, v .y, Lift E· v) (w .x, w .y, Lift E· w)) refl
+
+  -- ---- symmetries of `incircle`
+  pub incircle-next : incircle a b c d ≡ incircle b c a d
+  unfolding incircle
+  incircle-next = ring (env a b c d) (Incircle E· A B C D) (Incircle E· B C A D) refl
+
+  pub incircle-swap : incircle b a c d ≡ negℤ (incircle a b c d)
+  unfolding incircle
+  incircle-swap = ring (env a b c d) (Incircle E· B A C D) (⊝ Incircle E· A B C D) refl
+
+  -- a b c read backwards: `contained_in_circumference` of math.rs tests `incircle(v3, v2, v1, p) < 0`
+  pub incircle-reversed : incircle c b a d ≡ negℤ (incircle a b c d)
+  unfolding incircle
+  incircle-reversed = ring (env a b c d) (Incircle E· C B A D) (⊝ Incircle E· A B C D) refl
+
+  -- the circle test seen from the other side of the edge a b
+  pub incircle-other : incircle a b c d ≡ incircle b a d c
+  unfolding incircle
+  incircle-other = ring (env a b c d) (Incircle E· A B C D) (Incircle E· B A D C) refl
+
+  -- ---- a flip of the edge a b, between the triangles a b c and b a d, to the edge c d, between c a d and d b c
+  pub flip-area : orient2d a b c +ℤ orient2d b a d ≡ orient2d c a d +ℤ orient2d d b c
+  unfolding orient2d
+  flip-area = ring (env a b c d) (Orient2d E· A B C ⊕ Orient2d E· B A D) (Orient2d E· C A D ⊕ Orient2d E· D B C) refl
+
+  -- 01: "Each flip lowers the height sum by exactly the circle determinant."
+  pub flip-height : height a b c +ℤ height b a d ≡ height c a d +ℤ height d b c +ℤ incircle a b c d
+  unfolding height incircle
+  flip-height = ring (env a b c d) (Height E· A B C ⊕ Height E· B A D) (Height E· C A D ⊕ Height E· D B C ⊕ Incircle E· A B C D) refl
+
+  -- The flipped triangles turn left, where c lies left of a b, d right of it, and d in the circle of a, b and c: the first.
+  -- [p q] is the cross product of p - d and q - d, and S the area of a b c. Were [c a] ≤ 0, then [b c] = S - [a b] - [c a] > 0, and
+  -- [b c] * det + (-[c a]) * (-[a b]) * |b - c|² + S * ((-[c a]) * |b - d|² + (-[a b]) * |c - d|²) > 0, but that is 0
+  pub flip-left : pos 0 <ℤ orient2d a b c → pos 0 <ℤ orient2d b a d → pos 0 <ℤ incircle a b c d → pos 0 <ℤ orient2d c a d
+  unfolding orient2d incircle
+  flip-left hS hab hD = ⊎-elim (λ k. k .is) (λ k. absurd (no k)) (cases ρ (Orient2d E· C A D))
+    where
+      ρ : List ℤ
+      ρ = env a b c d
+
+      S : Pos ρ (Orient2d E· A B C)
+      S = pos-in ρ (Orient2d E· A B C) hS
+
+      -ab : Pos ρ (Orient2d E· B A D)
+      -ab = pos-in ρ (Orient2d E· B A D) hab
+
+      len : (p q : Pt E) → NN ρ (Lift E· (Minus E· p q))
+      len p q = sq (Minus E· p q .x) +° sq (Minus E· p q .y)
+
+      no : NN ρ (⊝ Orient2d E· C A D) → ⊥
+      no -ca = refute ((S +⁺ weak -ab +⁺ -ca) *⁺ pos-in ρ (Incircle E· A B C D) hD +⁺ -ca *° weak -ab *° len B C +⁺ weak S *° (-ca *° len B D +° weak -ab *° len C D)) tt
+
+-- the second: the first at b, a, d and c
+pub flip-right : (a b c d : Point) → pos 0 <ℤ orient2d a b c → pos 0 <ℤ orient2d b a d → pos 0 <ℤ incircle a b c d → pos 0 <ℤ orient2d d b c
+flip-right a b c d hS hab hD = flip-left b a d c hab hS (subst (λ (z : ℤ). pos 0 <ℤ z) (incircle-other a b c d) hD)

@@ -1,0 +1,21 @@
+-- The half-edge mesh: its rules, its operations, and that they keep the rules.
+pub mod Mesh
+pub mod Operations
+pub mod Wf
+pub mod Cases
+pub mod Triangle
+pub mod Frame
+pub mod Flipped
+pub mod Flip
+pub mod FaceBetween
+pub mod SingleFace
+pub mod FaceAdjacent
+pub mod NewFace
+pub mod Rules
+pub mod RulesWf
+pub mod Area
+pub mod BoundaryLaws
+pub mod CountsLaws
+pub mod AreaLaws
+pub mod LeftLaws
+pub mod Examples
