@@ -142,3 +142,21 @@ def strip(points):
         t = (i, i + 1, i + 2)
         triangles.append(t if sweep.left(*(points[j] for j in t)) else (i + 1, i, i + 2))
     return of_triangles(points, triangles)
+
+
+def zigzag_arms(points, base=40000000 // 3):
+    """A pocket between two arms that flare: the corner at its bottom closes to one side, and only then
+    to the other, so that each pass of the convexity scan closes one corner on each side.  The scan
+    starts at the bottom."""
+    chain, x, rise, y = [], 1.0, float(sweep.LIMIT) * 0.4, 0.0
+    for j in range(points):
+        chain.append((round(x) if j % 2 else -round(x), round(y)))
+        x, y, rise = x * 1.7 + 1, y + rise, max(rise * 0.6, 1.0)
+    ordered = sorted(chain)
+    apex = len(ordered)
+    mesh = of_triangles(ordered + [(0, -base)],
+                        [(apex, i + 1, i) for i in range(len(ordered) - 1)])
+    bottom = next(e for e in sweep.boundary(mesh)
+                  if {mesh.at(mesh.origin(e)), mesh.at(mesh.to(e))} == {chain[0], chain[1]})
+    mesh.stored[0] = bottom
+    return mesh
