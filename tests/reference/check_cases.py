@@ -145,6 +145,27 @@ def torus():
     return meshes.of_triangles(points, triangles[1:])
 
 
+def with_more_vertices(mesh, points):
+    """Vertices that no half-edge starts at, with out edge 0."""
+    n = mesh.vertices + len(points)
+    out = meshes.with_room(mesh, n)
+    for v, p in enumerate(points, mesh.vertices):
+        out.positions[2 * v:2 * v + 2] = list(p)
+    out.vertices = n
+    return out
+
+
+def split_names():
+    """The torus with one half-edge at each of two vertices said to start at a new vertex: turning meets
+    all that is asked, and Euler's count is kept, but origins do not agree."""
+    mesh = with_more_vertices(torus(), [(0, 9), (9, 9)])
+    for v, new in ((0, 7), (3, 8)):
+        h = sweep.turn_about(mesh, v)[1]
+        mesh.set(h, ORIGIN, new)
+        mesh.outs[new] = h
+    return mesh
+
+
 def winding_twice():
     """Vertex 0 inside, its triangles going round it twice."""
     rim = [(4, 0), (0, 4), (-4, 0), (0, -4)] * 2
@@ -272,6 +293,10 @@ def named():
     yield "a stored edge of the outer face", changed(s, "f", 2, s.stored[0]), 4, 0
     yield "the outer face's stored edge inside", changed(s, "f", 0, s.stored[0] ^ 1), 4, 0
     yield "Euler's count alone: a torus with a hole", only(sweep.euler, torus()), 4, 0
+    yield ("vertices that no half-edge starts at, all other rules kept",
+           only(sweep.vertices_are_turned, with_more_vertices(torus(), [(0, 9), (9, 9)])), 4, 0)
+    yield ("a vertex under two names, all other rules kept",
+           only(sweep.links_agree, split_names()), 4, 0)
     # 5
     yield "a flat face", triangle((0, 0), (2, 2), (4, 4)), 5, 1
     yield "a right-turning face", triangle((0, 0), (0, 4), (4, 0)), 5, 1

@@ -57,7 +57,7 @@ def angles_of(mesh, centre, rng):
             if 0.0 <= b <= 1.0:
                 angles.append(b)
     angles += [rng.random() for _ in range(3)]
-    return sorted(set(angles), key=lambda a: (a, math.copysign(1.0, a)))
+    return sorted({bits(a): a for a in angles}.values(), key=lambda a: (a, math.copysign(1.0, a)))
 
 
 def add(out, name, mesh, centre, rng, angles=None, rows=None):

@@ -26,11 +26,13 @@ NAN = float("nan")
 class Case:
     """A seed, a centre, points, and the lengths of the rows lent."""
 
-    def __init__(self, mesh, centre, points, pending=8, room=None, short=None):
+    def __init__(self, mesh, centre, points, pending=8, room=None, short=None, ring=None):
         n = mesh.vertices + len(points)
         self.mesh, self.centre, self.points = lists.with_past(mesh, room or n), centre, points
         self.lengths = {"nodes": n + 1, "freed": n + 1, "buckets": max(16, n), "pending": pending,
                         "answers": 4 * len(points)}
+        if ring is not None:
+            self.lengths.update(nodes=ring, freed=ring, buckets=ring)
         if short in self.lengths:
             self.lengths[short] -= 1
         elif short:
@@ -100,9 +102,14 @@ def refusals(points):
     empty = sweep.Mesh([], [], [], [], 0, 0, 0)
     if k == 0:
         yield "two vertices", Case(check_cases.counted(t, 2), one, points), 1, 0
+        yield "two vertices, short rows", Case(check_cases.counted(t, 2), one, points, short="nodes"), 1, 0
     yield "no vertices", Case(empty, one, points), 1 if k < 3 else 4, 0
     yield ("a seed of two vertices", Case(check_cases.counted(t, 2), one, points, room=3 + k),
            1 if k == 0 else 4, 0)
+    many = check_cases.counted(t, 1000001 - k)
+    yield "1,000,001 vertices in short rows", Case(many, one, points, room=3, ring=4), 1, 0
+    many = check_cases.counted(t, 1000000 - k)
+    yield "1,000,000 vertices in short rows", Case(many, one, points, room=3, ring=4), 2, 0
     for row in "pohf":
         yield "a mesh row one entry short: " + row, Case(s, one, points, short=row), 2, 0
     for row in ("nodes", "freed", "buckets", "pending"):

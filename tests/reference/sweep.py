@@ -2,7 +2,7 @@
 
 Every function states one sentence of 01 (cited as '01: "..."') or one function of the Rust that 01
 names (000 bulk_load.rs, 001 dcel_operations.rs, 002 triangulation_ext.rs, 003 math.rs).  Where 01 can
-be read in two ways the reading of the project's blueprint, section 8, is taken.  Plain Python 3, whole
+be read in two ways the reading of docs/DECISIONS.md is taken.  Plain Python 3, whole
 numbers of any size, floats as IEEE doubles.  Nothing here is fast: the ring is made anew from the
 boundary at every step, because that is what the words say.
 
