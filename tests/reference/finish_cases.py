@@ -56,12 +56,6 @@ def both_sides_of_full(out, name, mesh):
         assert add(out, "%s, 8 entries" % name, mesh, 8)[0] == 9
 
 
-def corner_beside_fan(triangles):
-    """A fan about (0, 0) that lacks the triangle between its last point, (1, -1), and its first: closing
-    that corner lets the others flip."""
-    return meshes.fan([(0, 0)] + [(100, i) for i in range(triangles + 1)] + [(-3, 3), (-3, -3), (1, -1)])
-
-
 def refused(out):
     t, s = check_cases.triangle(), check_cases.square()
     flat = check_cases.triangle((0, 0), (2, 2), (4, 4))
@@ -92,7 +86,7 @@ def main():
     for n in (2, 5, 9):
         add(out, "an unsettled fan of %d" % n, unsettled_fan(n), 8)
     for n in (5, 7, 8, 9, 12):
-        both_sides_of_full(out, "a corner beside a fan of %d" % n, corner_beside_fan(n))
+        both_sides_of_full(out, "a corner beside a fan of %d" % n, meshes.corner_beside_fan(n))
     for mesh in (check_cases.two_fans(True), check_cases.winding_twice(), check_cases.overlapping(),
                  check_cases.equal_positions(), check_cases.hexagon()):
         both_sides_of_full(out, "a lawful oddity", mesh)

@@ -22,10 +22,7 @@ from samples import bits
 def make(count, seed):
     rng, made = random.Random(seed), 0
     while made < count:
-        spread = rng.choice([2, 3, 4, 6, 10, 30, 1000, sweep.LIMIT])
-        mesh = selfcheck.random_seed(rng, spread)
-        centre = selfcheck.random_centre(rng, mesh, spread)
-        points = selfcheck.random_points(rng, centre, spread, rng.choice([1, 2, 3, 5, 8, 13, 30]))
+        mesh, centre, points = selfcheck.adversarial(rng)
         try:
             sweep.refuse_run(mesh, sweep.lent_for(mesh.vertices, 8), centre, [], 0)
         except sweep.Refusal:

@@ -20,12 +20,6 @@ NAN, INF = float("nan"), float("inf")
 WEST = -2.0 ** -40  # a centre's y that a vertex at y = 0 is above, by too little to count far west
 
 
-def rim(points, centre=(0, 0)):
-    """A fan about an inner vertex to a closed rim, in the order of their angles turned left."""
-    n = len(points)
-    return meshes.of_triangles([centre] + points, [(0, i + 1, (i + 1) % n + 1) for i in range(n)])
-
-
 def rows_for(mesh):
     n = mesh.vertices
     return [n + 1, n + 1, max(16, n)]
@@ -132,20 +126,20 @@ def main():
     far = sweep.LIMIT
     star = [(far, 0), (5, 4), (0, 7), (-5, 5), (-far, 0), (-3, -9), (2, -8)]
     for y in (0.0, -0.0, WEST, -WEST, -5e-324, 5e-324, -1e-300, 2.0 ** -30, -2.0 ** -30):
-        assert add(out, "a vertex dead west, or nearly so", rim(star), (0.0, y), rng) == {0}
+        assert add(out, "a vertex dead west, or nearly so", meshes.rim(star), (0.0, y), rng) == {0}
     near = [(9, 0), (5, 4), (0, 7), (-5, 5), (-1, 0), (-3, -9), (2, -8)]
-    assert add(out, "near west", rim(near), (0.0, WEST), rng) == {0}
+    assert add(out, "near west", meshes.rim(near), (0.0, WEST), rng) == {0}
 
     fine = [(1000, 3 * i) for i in range(-3, 9)] + [(0, 2000), (-2000, 0), (0, -2000)]
-    assert add(out, "many nodes in one bucket", rim(fine), (0.0, 0.0), rng) == {0}
-    assert add(out, "many nodes about east", rim(fine), (0.25, 7.5), rng) == {0}
+    assert add(out, "many nodes in one bucket", meshes.rim(fine), (0.0, 0.0), rng) == {0}
+    assert add(out, "many nodes about east", meshes.rim(fine), (0.25, 7.5), rng) == {0}
     eight = [(4, 0), (4, 4), (0, 4), (-4, 4), (-4, 0), (-4, -4), (0, -4), (4, -4)]
-    assert add(out, "an angle at every eighth", rim(eight), (0.0, 0.0), rng) == {0}
+    assert add(out, "an angle at every eighth", meshes.rim(eight), (0.0, 0.0), rng) == {0}
     assert add(out, "an angle at every eighth, 0.0 in place of 1.0",
-               rim([(x * (far // 4), y * (far // 4)) for x, y in eight]), (0.0, WEST), rng) == {0}
+               meshes.rim([(x * (far // 4), y * (far // 4)) for x, y in eight]), (0.0, WEST), rng) == {0}
     twenty = [(round(9000 * math.cos(i * math.pi / 10)), round(7000 * math.sin(i * math.pi / 10)))
               for i in range(20)]
-    assert add(out, "twenty boundary vertices", rim(twenty), (100.5, -33.25), rng) == {0}
+    assert add(out, "twenty boundary vertices", meshes.rim(twenty), (100.5, -33.25), rng) == {0}
     found = 0
     while found < 20:
         spread = rng.choice([5, 30, 1000, sweep.LIMIT])

@@ -135,13 +135,16 @@ def flat_fan(triangles):
     return fan([(0, 0)] + [(100, i) for i in range(triangles + 1)])
 
 
-def strip(points):
-    """Triangles of three points in turn, turned left."""
-    triangles = []
-    for i in range(len(points) - 2):
-        t = (i, i + 1, i + 2)
-        triangles.append(t if sweep.left(*(points[j] for j in t)) else (i + 1, i, i + 2))
-    return of_triangles(points, triangles)
+def corner_beside_fan(triangles):
+    """A fan about (0, 0) that lacks the triangle between its last point, (1, -1), and its first: closing
+    that corner lets the others flip."""
+    return fan([(0, 0)] + [(100, i) for i in range(triangles + 1)] + [(-3, 3), (-3, -3), (1, -1)])
+
+
+def rim(points, centre=(0, 0)):
+    """A fan about an inner vertex to a closed rim, whose points are in the order of turning left."""
+    n = len(points)
+    return of_triangles([centre] + points, [(0, i + 1, (i + 1) % n + 1) for i in range(n)])
 
 
 def zigzag_arms(points, base=40000000 // 3):

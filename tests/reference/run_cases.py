@@ -12,7 +12,6 @@ import random
 import sys
 
 import check_cases
-import finish_cases
 import lists
 import locate_cases
 import meshes
@@ -132,7 +131,7 @@ def refusals(points):
 
 
 def not_strict():
-    """The blueprint's example after its first step: sound, not strict."""
+    """A triangle after a step that leaves two equal neighbouring angles: sound, not strict."""
     mesh = sweep.seed_triangle([(-1, 0), (1, -1), (0, 0)], 4)
     sweep.one_step(mesh, (1, 0), (-0.5, 0.0), 8)
     return mesh
@@ -166,10 +165,10 @@ def examples():
     for points in ([], [(-50, 0), (-2, 0), (-60, 1)]):
         for pending, number in ((10, 9), (11, 0)):
             yield ("a corner beside a fan: the finish fills %d entries" % pending,
-                   Case(finish_cases.corner_beside_fan(5), (-1.0, 0.5), points, pending), number)
+                   Case(meshes.corner_beside_fan(5), (-1.0, 0.5), points, pending), number)
     star = [(sweep.LIMIT, 0), (5, 4), (0, 7), (-5, 5), (-sweep.LIMIT, 0), (-3, -9), (2, -8)]
     for y in (0.0, locate_cases.WEST, 5e-324):
-        yield ("dead west", Case(locate_cases.rim(star), (0.0, y),
+        yield ("dead west", Case(meshes.rim(star), (0.0, y),
                                  [(-sweep.LIMIT, 1), (-sweep.LIMIT, -1), (-sweep.LIMIT, 0), (-9, 8),
                                   (sweep.LIMIT, sweep.LIMIT), (-sweep.LIMIT, sweep.LIMIT)]), 0)
     yield "an unsettled seed, no points", Case(unsettled(), (1.0, 0.0), []), 0
@@ -181,7 +180,7 @@ def examples():
 def unsettled():
     rng = random.Random(5)
     rim = [(40, 0), (30, 28), (3, 41), (-29, 31), (-43, 1), (-27, -30), (1, -39), (31, -29)]
-    mesh = locate_cases.rim(rim)
+    mesh = meshes.rim(rim)
     meshes.random_flips(mesh, rng, 60)
     return mesh
 

@@ -1,13 +1,13 @@
-"""Checks of the reference itself: 01's listing, M1 to M10, the blueprint's examples, and an adversarial
+"""Checks of the reference itself: 01's listing, M1 to M10, rare cases, and an adversarial
 campaign of whole runs that asserts what demand 3 claims of them.
 
     python3 selfcheck.py [seconds of campaign, 20 if none is given] [seed]
 """
 
+import math
 import random
 import sys
 import time
-from fractions import Fraction
 
 import hull
 import meshes
@@ -62,7 +62,7 @@ def marked():
 
 
 def examples():
-    """Section 10 of the blueprint."""
+    """Rare cases, each at its smallest."""
     tri = sweep.seed_triangle
     _, lent, answer = run_of(tri([(0, 0), (0, -1), (1, 1)], 3), (1.0, -1.0), [(-2, -1)])
     assert answer[0] == 0 and lent.answers == [4, 0, 0, 0], "fate 4"
@@ -144,7 +144,7 @@ def untouched(rows, before, counts):
 
 
 def one_pass_with_counter(mesh, capacity):
-    """The pass without a stack (blueprint, section 5)."""
+    """The pass without a stack: a counter, for the stack is a chain of boundary edges."""
     length, current, depth, flips = 2 * mesh.edges - 3 * (mesh.faces - 1), mesh.stored[0], 0, 0
     for _ in range(length + 1):
         current, depth = mesh.next(current), depth + 1
@@ -224,7 +224,7 @@ def whole_run(seed, centre, points, pending, tally):
         assert set(lent.nodes + lent.pending + lent.answers) <= {7}
         return
     assert not any(lent.nodes + lent.freed + lent.buckets + lent.pending), "zeros"
-    for fate in lent.answers[0::4]:
+    for fate in filter(None, lent.answers[0::4]):
         tally["fate %d" % fate] = tally.get("fate %d" % fate, 0) + 1
     untouched(mesh.rows(), given.rows(), mesh.counts())
     assert mesh.left_out == 0, "a flip left out"
@@ -290,13 +290,53 @@ def random_seed(rng, spread):
     return meshes.renumbered(mesh, rng) if kind == 1 else mesh
 
 
+def built(rng):
+    """A seed of a special make, renumbered, with a centre that suits it and points about it."""
+    kind = rng.randrange(4)
+    if kind == 0:
+        mesh, centre, last = meshes.flat_fan(rng.randint(5, 12)), (70.0, 3.0), (1, -1)
+    elif kind == 1:
+        mesh, centre, last = meshes.corner_beside_fan(rng.randint(2, 9)), (-1.0, 0.5), (-9, 0)
+    elif kind == 2:
+        mesh, centre = meshes.zigzag_arms(rng.randint(4, 16)), (0.0, -13000000.0)
+        last = (rng.randint(-9, 9), sweep.LIMIT)
+    else:
+        n, r = rng.randint(5, 40), rng.choice([60, 9000, sweep.LIMIT - 1])
+        around = [(round(r * math.cos(6.28 * i / n)), round(r * math.sin(6.28 * i / n)))
+                  for i in range(n)]
+        mesh, centre = meshes.rim(around), (rng.uniform(-9, 9), rng.uniform(-9, 9))
+        meshes.random_flips(mesh, rng, 3 * n)
+        last = (sweep.LIMIT, sweep.LIMIT)
+    points = random_points(rng, centre, rng.choice([9, 100, 20000]), rng.randint(0, 9)) + [last]
+    points = points if rng.random() < 0.7 else []
+    # The arms' scan starts at their bottom, so they keep their numbers.
+    return (mesh if kind == 2 else meshes.renumbered(mesh, rng)), centre, points
+
+
+def outside_centre(rng):
+    """Small triangles with the centre outside, where fate 4 is met."""
+    spread = rng.choice([1, 2, 3, 5])
+    centre = (rng.randint(-4 * spread, 4 * spread) / 2, rng.randint(-4 * spread, 4 * spread) / 2)
+    return meshes.grown(rng, 3, spread), centre, random_points(rng, centre, 2 * spread, rng.randint(1, 8))
+
+
+def adversarial(rng):
+    """A seed, a centre and points."""
+    kind = rng.randrange(10)
+    if kind == 0:
+        return built(rng)
+    if kind < 5:
+        return outside_centre(rng)
+    spread = rng.choice([2, 3, 4, 6, 10, 30, 1000, sweep.LIMIT])
+    start = random_seed(rng, spread)
+    centre = random_centre(rng, start, spread)
+    return start, centre, random_points(rng, centre, spread, rng.choice([0, 1, 2, 3, 5, 8, 13, 30]))
+
+
 def campaign(seconds, seed):
     rng, tally, end, runs = random.Random(seed), {}, time.time() + seconds, 0
     while time.time() < end:
-        spread = rng.choice([2, 3, 4, 6, 10, 30, 1000, sweep.LIMIT])
-        start = random_seed(rng, spread)
-        centre = random_centre(rng, start, spread)
-        points = random_points(rng, centre, spread, rng.choice([0, 1, 2, 3, 5, 8, 13, 30]))
+        start, centre, points = adversarial(rng)
         pending = rng.choice([8, 8, 9, 10, 12, 4096])
         runs += 1
         try:
@@ -311,5 +351,5 @@ if __name__ == "__main__":
     assert sweep.listing(SAMPLE) == SAMPLE_OUT
     marked()
     examples()
-    print("the listing, M1 to M10 and the examples agree")
+    print("the listing, M1 to M10 and the rare cases agree")
     campaign(float(sys.argv[1]) if len(sys.argv) > 1 else 20, int(sys.argv[2]) if len(sys.argv) > 2 else 1)
