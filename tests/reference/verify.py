@@ -118,7 +118,8 @@ def locate_one(sweep, case, numbers):
 
 def call_one(sweep, case):
     """A run or, where there is no answers row, a step."""
-    lent = sweep.Lent(*([7] * n for n in case["n"]), pending=row(case["q"]), answers=row(case.get("w", [0, 0])))
+    lent = sweep.Lent(*([7] * n for n in case["n"]), pending=row(case["q"]),
+                      answers=row(case.get("w", [0, 0])))
     mesh, points = mesh_of(sweep, case, "mpohf"), pairs(case["v"][1:])
     centre = tuple(map(of_bits, case["x"]))
     if "w" in case:
@@ -180,7 +181,9 @@ def failures(sweep, name, first_only=False):
     return total, bad
 
 
-MUTANTS = [
+FATE_2 = "    if point == start or point == end:\n        return 2, edge\n"
+FATE_3 = "    if not left(start, end, point):\n        return 3, edge\n"
+MUTANTS = [  # name, text, what takes its place; and why, where no list can notice it
     ("a flip on a circle test of 0", "*corners, mesh.at(far_t)) > 0", "*corners, mesh.at(far_t)) >= 0"),
     ("the circle test turned", "return incircle(v3, v2, v1, p) < 0", "return incircle(v3, v2, v1, p) > 0"),
     ("a circle test that includes the circle", "return incircle(v3, v2, v1, p) < 0",
@@ -241,8 +244,8 @@ MUTANTS = [
      "return first < angle or angle < second"),
     ("the counter starts at one", "if 0.0 in angles else 0\n", "if 0.0 in angles else 1\n"),
     ("1.0 for 0.0", "if angle == 1.0:\n        return", "if False:\n        return"),
-    ("the run's first edge", "kept = [angles[i] for i in range(n) if angles[i][0] != angles[(i + 1) % n][0]]",
-     "kept = [angles[i] for i in range(n) if angles[i][0] != angles[i - 1][0]]"),
+    ("the run's first edge", "for i in range(n) if angles[i][0] != angles[(i + 1) % n][0]]",
+     "for i in range(n) if angles[i][0] != angles[i - 1][0]]"),
     ("gaps below 3/4", "gap(a, b) <= Fraction(3, 4)", "gap(a, b) < Fraction(3, 4)"),
     ("gaps not looked at", "            and all(gap(a, b) <= Fraction(3, 4) for a, b in pairs))", "            )"),
     ("two angles are enough", "return (n >= 3 and", "return (n >= 2 and"),
@@ -251,15 +254,16 @@ MUTANTS = [
      "(centre[0], centre[1]) for e in []):"),
     ("a centre at the limit refused", "abs(c) > LIMIT for c in centre", "abs(c) >= LIMIT for c in centre"),
     ("the angle 1.0 refused", "if not (0.0 <= angle <= 1.0)", "if not (0.0 <= angle < 1.0)"),
-    ("-0.0 refused", "if not (0.0 <= angle <= 1.0)", "if not (math.copysign(1.0, angle) > 0 and angle <= 1.0)"),
+    ("-0.0 refused", "if not (0.0 <= angle <= 1.0)",
+     "if not (math.copysign(1.0, angle) > 0 and angle <= 1.0)"),
     ("8 before 7", "        refuse_ring(mesh, centre)\n        refuse_angle(angle)",
      "        refuse_angle(angle)\n        refuse_ring(mesh, centre)"),
     ("behind or at the end", "return factor > dx * dx + dy * dy", "return factor >= dx * dx + dy * dy"),
-    ("the walks without the angle", "                       or angle == pseudo_angle(end, centre))", "                       )"),
+    ("the walks without the angle", "                       or angle == pseudo_angle(end, centre))",
+     "                       )"),
     ("the other walk without the angle", "                       or angle == pseudo_angle(middle, centre))",
      "                       )", "(never needed in a sound ring)"),
-    ("fate 3 before fate 2", "    if point == start or point == end:\n        return 2, edge\n    if not left(start, end, point):\n        return 3, edge\n",
-     "    if not left(start, end, point):\n        return 3, edge\n    if point == start or point == end:\n        return 2, edge\n"),
+    ("fate 3 before fate 2", FATE_2 + FATE_3, FATE_3 + FATE_2),
     ("fate 2 at the located edge's origin only", "if point == start or point == end:", "if point == start:",
      "(a segment does not hold its second angle)"),
     ("no fate 4", "        return 4, edge", "        pass"),
