@@ -259,10 +259,25 @@ def any_angle(rng):
     return min(1.0, max(0.0, math.nextafter(a, rng.choice([0.0, 1.0]))))
 
 
+AXES = ((-4, 0), (0, 4), (4, 0), (0, -4), (4, 4), (-4, -4), (4, -4), (-4, 4))
+
+
+def segment_ends(rng):
+    """Two points and a centre whose angles differ: the ends of a segment."""
+    kind = rng.randrange(3)
+    if kind == 0:  # dead west is 1.0, or 0.0 when the centre is a little below
+        return rng.choice(AXES), rng.choice(AXES), (0.0, rng.choice([0.0, -0.0, -2.0 ** -60, 2.0 ** -60]))
+    spread = rng.choice([3, 1000, LIMIT])
+    return box(rng, spread), box(rng, spread), (rng.uniform(-spread, spread), rng.uniform(-spread, spread))
+
+
 def segment_samples(rng):
     count = 0
     while count < 260:
-        first, second = min(1.0, some_angle(rng)), min(1.0, some_angle(rng))
+        p, q, c = segment_ends(rng)
+        if any(v[0] == c[0] and v[1] == c[1] for v in (p, q)):
+            continue
+        first, second = float(exact_angle(p, c)), float(exact_angle(q, c))
         if first == second:
             continue
         kind = rng.randrange(5)
@@ -273,7 +288,7 @@ def segment_samples(rng):
             angle = rng.choice([math.nextafter(first, 0.0), math.nextafter(first, 1.0),
                                 math.nextafter(second, 0.0), math.nextafter(second, 1.0)])
         count += 1
-        yield first, second, angle
+        yield p, q, c, first, second, angle
 
 
 def floor_samples(rng):
@@ -323,11 +338,11 @@ def lines():
             buckets += [math.floor(angle * n) % n, math.ceil(angle * n) % n]
         yield "a %s %d %d %d %d %s" % (flat(p), bits(c[0]), bits(c[1]), bits(float(angle)), turns,
                                        " ".join(map(str, buckets)))
-    yield "# contains_angle: s first second angle answer"
-    for first, second, angle in segment_samples(rng):
+    yield "# contains_angle: s px py qx qy centre_x centre_y angle answer"
+    for p, q, c, first, second, angle in segment_samples(rng):
         r = holds(first, second, angle)
         assert r == sweep.contains_angle(first, second, angle)
-        yield "s %d %d %d %d" % (bits(first), bits(second), bits(angle), r)
+        yield "s %s %d %d %d %d" % (flat(p, q), bits(c[0]), bits(c[1]), bits(angle), r)
     yield "# the floor bucket of any angle: f angle buckets bucket"
     for a, n in floor_samples(rng):
         yield "f %d %d %d" % (bits(a), n, math.floor(Fraction(a) * n) % n)

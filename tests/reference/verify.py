@@ -92,7 +92,9 @@ def sample(sweep, tag, n):
             found += [math.floor(angle * k) % k, math.ceil(angle * k) % k]
         return found == n[4:]
     if tag == "s":
-        return sweep.contains_angle(*map(of_bits, n[:3])) == n[3]
+        c = of_bits(n[4]), of_bits(n[5])
+        ends = [sweep.pseudo_angle(p, c) for p in pairs(n[:4])]
+        return sweep.contains_angle(*ends, of_bits(n[6])) == n[7]
     return math.floor(Fraction(of_bits(n[0])) * n[1]) % n[1] == n[2]
 
 
