@@ -3,7 +3,6 @@ ghost use mathlib.Core.Path.{_≡_};
 ghost use lib.Dec.{T};
 ghost use Rattle.angle.specs.Angle.{IsAngle, validAngle};
 ghost use Rattle.segment.specs.Bucket.{Buckets};
-
 use angle::Point2;
 use angle::VertexAngle;
 use segment::Segment;

@@ -1,3 +1,6 @@
+use lib.Dec.{lit≤}
+use mathlib.Core.Path.{refl}
+use Rattle.angle.specs.Bits.{angle-valid}
 use borrow.Author.Needs.{needs}
 use Rattle.samples.proofs.angles.angle_agrees.Statement.{statement}
 use Rattle.samples.proofs.angles.angle_agrees.Tie as tie
@@ -27,7 +30,7 @@ returns c = search needs
 
 -- src/angles.rt:79:8
 turns-of-requires : tie.Need-turns-of-requires
-turns-of-requires c κs = ?
+turns-of-requires c κs = angle-valid _ (c .before .before .before .before .before .before .pre)
 
 -- src/angles.rt:80:9
 returns-2 : tie.Need-returns-2
@@ -43,7 +46,7 @@ skip-two-requires-2 c κs = search needs
 
 -- src/angles.rt:84:9
 buckets-agree-requires : tie.Need-buckets-agree-requires
-buckets-agree-requires c κs = ?
+buckets-agree-requires c κs = (c .before .before .before .before .before .before .before .before .before .before .before .pre, record { power = (0, refl); most = lit≤ tt })
 
 -- src/angles.rt:85:9
 returns-3 : tie.Need-returns-3
@@ -51,7 +54,7 @@ returns-3 c = search needs
 
 -- src/angles.rt:87:9
 buckets-agree-requires-2 : tie.Need-buckets-agree-requires-2
-buckets-agree-requires-2 c κs = ?
+buckets-agree-requires-2 c κs = (c .before .before .before .before .before .before .before .before .before .before .before .before .before .pre, record { power = (3, refl); most = lit≤ tt })
 
 -- src/angles.rt:88:9
 returns-4 : tie.Need-returns-4
@@ -59,7 +62,7 @@ returns-4 c = search needs
 
 -- src/angles.rt:90:5
 buckets-agree-requires-3 : tie.Need-buckets-agree-requires-3
-buckets-agree-requires-3 c κs = ?
+buckets-agree-requires-3 c κs = (c .before .before .before .before .before .before .before .before .before .before .before .before .before .before .before .pre, record { power = (17, refl); most = lit≤ tt })
 
 -- src/angles.rt:71:1
 returns-5 : tie.Need-returns-5

@@ -1,3 +1,8 @@
+use Rattle.angle.specs.Answer.{CarriesAngle}
+use lib.Dec.{T}
+use mathlib.Core.Bool.{Bool, true}
+use mathlib.Core.Path.{_≡_, sym, _∙_, subst}
+use borrow.Author.Tests.{not-false}
 use borrow.Author.Needs.{needs}
 use Rattle.samples.proofs.angles.angle_sample.Statement.{statement}
 use Rattle.samples.proofs.angles.angle_sample.Tie as tie
@@ -8,6 +13,9 @@ use Rattle.angle.proofs.vertex_angle.Reads as vertex-angle-reads
 use Rattle.samples.proofs.angles.angle_agrees.Reads as angle-agrees-reads
 use Rattle.samples.proofs.angles.read_center.Reads as read-center-reads
 use Rattle.samples.proofs.angles.read_vertex.Reads as read-vertex-reads
+
+holds-true : {t : Bool} → t ≡ true → T t
+holds-true e = subst T (sym e) tt
 
 -- src/angles.rt:94:9
 read-vertex-requires : tie.Need-read-vertex-requires
@@ -27,7 +35,7 @@ returns c = search needs
 
 -- src/angles.rt:99:33
 vertex-angle-requires : tie.Need-vertex-angle-requires
-vertex-angle-requires c κs = ?
+vertex-angle-requires c κs = holds-true (sym (c .before .before .before .validate-center .ensures) ∙ not-false _ (c .before .before .if1 .left))
 
 -- src/angles.rt:99:28
 enum-known-a : tie.Need-enum-known-a
@@ -43,7 +51,7 @@ returns-2 c = search needs
 
 -- src/angles.rt:102:5
 angle-agrees-requires : tie.Need-angle-agrees-requires
-angle-agrees-requires c κs = ?
+angle-agrees-requires c κs = subst CarriesAngle (c .before .a .given .1) (c .before .before .before .vertex-angle .ensures .1)
 
 -- src/angles.rt:93:1
 returns-3 : tie.Need-returns-3

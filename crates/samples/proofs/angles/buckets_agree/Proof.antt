@@ -1,3 +1,4 @@
+use Rattle.angle.specs.Bits.{angle-valid}
 use borrow.Author.Needs.{needs}
 use Rattle.samples.proofs.angles.buckets_agree.Statement.{statement}
 use Rattle.samples.proofs.angles.buckets_agree.Tie as tie
@@ -17,7 +18,7 @@ read-number-requires-2 c κs = search needs
 
 -- src/angles.rt:58:8
 floored-bucket-requires : tie.Need-floored-bucket-requires
-floored-bucket-requires c κs = ?
+floored-bucket-requires c κs = (angle-valid _ (c .before .before .before .pre .0), c .before .before .before .pre .1)
 
 -- src/angles.rt:59:9
 returns : tie.Need-returns

@@ -1,3 +1,10 @@
+use borrow.Author.Tests.{le-ltb}
+use lib.Ieee.Bits.{nanBits-above}
+use lib.Ieee.{binary64, ones, hid, top}
+use lib.Dec.{T}
+use Prim.Native.Nat.{_*_, _%_}
+use mathlib.Core.Bool.{Bool, not}
+use mathlib.Core.Path.{sym, _∙_, subst}
 use borrow.Author.Needs.{needs}
 use Rattle.samples.proofs.angles.double.Statement.{statement}
 use Rattle.samples.proofs.angles.double.Tie as tie
@@ -10,7 +17,7 @@ returns c = search needs
 
 -- src/angles.rt:37:5
 float-from-bits-result : tie.Need-float-from-bits-result
-float-from-bits-result c = ?
+float-from-bits-result c = subst (λ (b : Bool). T (not b)) (sym (nanBits-above binary64 (c .before .args .bits) ∙ le-ltb (ones binary64 * hid binary64) (c .before .args .bits % top binary64) (c .if1 .left))) tt
 
 -- src/angles.rt:33:1
 returns-2 : tie.Need-returns-2

@@ -1,3 +1,5 @@
+use lib.Dec.{lit≤}
+use mathlib.Core.Path.{refl}
 use borrow.Author.Needs.{needs}
 use Rattle.samples.proofs.angles.floor_agrees.Statement.{statement}
 use Rattle.samples.proofs.angles.floor_agrees.Tie as tie
@@ -7,7 +9,7 @@ use Rattle.segment.proofs.floored_bucket.Reads as floored-bucket-reads
 
 -- src/angles.rt:141:16
 floored-bucket-requires : tie.Need-floored-bucket-requires
-floored-bucket-requires c κs = ?
+floored-bucket-requires c κs = (c .before .pre, record { power = (0, refl); most = lit≤ tt })
 
 -- src/angles.rt:141:9
 returns : tie.Need-returns
@@ -15,7 +17,7 @@ returns c = search needs
 
 -- src/angles.rt:144:16
 floored-bucket-requires-2 : tie.Need-floored-bucket-requires-2
-floored-bucket-requires-2 c κs = ?
+floored-bucket-requires-2 c κs = (c .before .before .pre, record { power = (1, refl); most = lit≤ tt })
 
 -- src/angles.rt:144:9
 returns-2 : tie.Need-returns-2
@@ -23,7 +25,7 @@ returns-2 c = search needs
 
 -- src/angles.rt:147:16
 floored-bucket-requires-3 : tie.Need-floored-bucket-requires-3
-floored-bucket-requires-3 c κs = ?
+floored-bucket-requires-3 c κs = (c .before .before .before .pre, record { power = (3, refl); most = lit≤ tt })
 
 -- src/angles.rt:147:9
 returns-3 : tie.Need-returns-3
@@ -31,7 +33,7 @@ returns-3 c = search needs
 
 -- src/angles.rt:150:16
 floored-bucket-requires-4 : tie.Need-floored-bucket-requires-4
-floored-bucket-requires-4 c κs = ?
+floored-bucket-requires-4 c κs = (c .before .before .before .before .pre, record { power = (7, refl); most = lit≤ tt })
 
 -- src/angles.rt:150:9
 returns-4 : tie.Need-returns-4
@@ -39,7 +41,7 @@ returns-4 c = search needs
 
 -- src/angles.rt:153:16
 floored-bucket-requires-5 : tie.Need-floored-bucket-requires-5
-floored-bucket-requires-5 c κs = ?
+floored-bucket-requires-5 c κs = (c .before .before .before .before .before .pre, record { power = (17, refl); most = lit≤ tt })
 
 -- src/angles.rt:153:9
 returns-5 : tie.Need-returns-5

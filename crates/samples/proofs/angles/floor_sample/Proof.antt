@@ -1,3 +1,7 @@
+use borrow.Author.Tests.{not-false}
+use lib.Dec.{T}
+use mathlib.Core.Bool.{Bool, true}
+use mathlib.Core.Path.{_≡_, sym, _∙_, subst}
 use borrow.Author.Needs.{needs}
 use Rattle.samples.proofs.angles.floor_sample.Statement.{statement}
 use Rattle.samples.proofs.angles.floor_sample.Tie as tie
@@ -7,6 +11,9 @@ use Rattle.angle.proofs.validate_angle.Reads as validate-angle-reads
 use Rattle.samples.proofs.angles.double.Reads as double-reads
 use Rattle.samples.proofs.angles.floor_agrees.Reads as floor-agrees-reads
 use Rattle.test_text.proofs.read_number.Reads as read-number-reads
+
+holds-true : {t : Bool} → t ≡ true → T t
+holds-true e = subst T (sym e) tt
 
 -- src/angles.rt:159:9
 read-number-requires : tie.Need-read-number-requires
@@ -34,7 +41,7 @@ returns c = search needs
 
 -- src/angles.rt:166:5
 floor-agrees-requires : tie.Need-floor-agrees-requires
-floor-agrees-requires c κs = ?
+floor-agrees-requires c κs = holds-true (sym (c .before .validate-angle .ensures) ∙ not-false _ (c .if1 .left))
 
 -- src/angles.rt:158:1
 returns-2 : tie.Need-returns-2

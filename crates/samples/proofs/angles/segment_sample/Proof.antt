@@ -1,3 +1,8 @@
+use Rattle.angle.specs.Answer.{CarriesAngle}
+use borrow.Author.Tests.{not-false}
+use lib.Dec.{T}
+use mathlib.Core.Bool.{Bool, true}
+use mathlib.Core.Path.{_≡_, sym, _∙_, subst}
 use borrow.Author.Needs.{needs}
 use Rattle.samples.proofs.angles.segment_sample.Statement.{statement}
 use Rattle.samples.proofs.angles.segment_sample.Tie as tie
@@ -10,6 +15,9 @@ use Rattle.samples.proofs.angles.read_center.Reads as read-center-reads
 use Rattle.samples.proofs.angles.read_vertex.Reads as read-vertex-reads
 use Rattle.samples.proofs.angles.segment_agrees.Reads as segment-agrees-reads
 use Rattle.test_text.proofs.read_number.Reads as read-number-reads
+
+holds-true : {t : Bool} → t ≡ true → T t
+holds-true e = subst T (sym e) tt
 
 -- src/angles.rt:119:9
 read-vertex-requires : tie.Need-read-vertex-requires
@@ -41,7 +49,7 @@ returns c = search needs
 
 -- src/angles.rt:127:36
 vertex-angle-requires : tie.Need-vertex-angle-requires
-vertex-angle-requires c κs = ?
+vertex-angle-requires c κs = holds-true (sym (c .before .before .before .validate-center .ensures) ∙ not-false _ (c .before .before .if1 .left))
 
 -- src/angles.rt:127:28
 enum-known-from : tie.Need-enum-known-from
@@ -57,7 +65,7 @@ returns-2 c = search needs
 
 -- src/angles.rt:130:34
 vertex-angle-requires-2 : tie.Need-vertex-angle-requires-2
-vertex-angle-requires-2 c κs = ?
+vertex-angle-requires-2 c κs = holds-true (sym (c .before .before .before .before .before .before .before .before .before .validate-center .ensures) ∙ not-false _ (c .before .before .before .before .before .before .before .before .if1 .left))
 
 -- src/angles.rt:130:28
 enum-known-to : tie.Need-enum-known-to
@@ -77,7 +85,7 @@ double-requires c κs = search needs
 
 -- src/angles.rt:133:5
 segment-agrees-requires : tie.Need-segment-agrees-requires
-segment-agrees-requires c κs = ?
+segment-agrees-requires c κs = (subst CarriesAngle (c .before .before .before .before .before .before .before .before .before .from .given .1) (c .before .before .before .before .before .before .before .before .before .before .before .vertex-angle .ensures .1), subst CarriesAngle (c .before .before .before .to .given .1) (c .before .before .before .before .before .vertex-angle2 .ensures .1))
 
 -- src/angles.rt:118:1
 returns-4 : tie.Need-returns-4

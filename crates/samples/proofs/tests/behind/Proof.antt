@@ -1,3 +1,5 @@
+use Rattle.math.specs.Range.{in-range}
+use mathlib.Core.Path.{sym, _∙_}
 use borrow.Author.Needs.{needs}
 use Rattle.samples.proofs.tests.behind.Statement.{statement}
 use Rattle.samples.proofs.tests.behind.Tie as tie
@@ -20,7 +22,7 @@ validate-vertex-requires-3 c κs = search needs
 
 -- src/tests.rt:46:24
 is-behind-edge-requires : tie.Need-is-behind-edge-requires
-is-behind-edge-requires c κs = ?
+is-behind-edge-requires c κs = (in-range (sym (c .before .before .before .before .before .validate-vertex .ensures) ∙ c .before .before .before .before .if1 .taken), in-range (sym (c .before .before .before .validate-vertex2 .ensures) ∙ c .before .before .if2 .taken), in-range (sym (c .before .validate-vertex3 .ensures) ∙ c .if3 .taken))
 
 -- src/tests.rt:46:17
 returns : tie.Need-returns

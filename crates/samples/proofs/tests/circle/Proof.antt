@@ -1,3 +1,5 @@
+use Rattle.math.specs.Range.{in-range}
+use mathlib.Core.Path.{sym, _∙_}
 use borrow.Author.Needs.{needs}
 use Rattle.samples.proofs.tests.circle.Statement.{statement}
 use Rattle.samples.proofs.tests.circle.Tie as tie
@@ -24,7 +26,7 @@ validate-vertex-requires-4 c κs = search needs
 
 -- src/tests.rt:59:28
 contained-in-circumference-requires : tie.Need-contained-in-circumference-requires
-contained-in-circumference-requires c κs = ?
+contained-in-circumference-requires c κs = (in-range (sym (c .before .before .before .before .before .before .before .before .before .validate-vertex .ensures) ∙ c .before .before .before .before .before .before .before .before .if1 .taken), in-range (sym (c .before .before .before .before .before .before .before .validate-vertex2 .ensures) ∙ c .before .before .before .before .before .before .if2 .taken), in-range (sym (c .before .before .before .before .before .validate-vertex3 .ensures) ∙ c .before .before .before .before .if3 .taken), in-range (sym (c .before .before .before .validate-vertex4 .ensures) ∙ c .before .before .if4 .taken))
 
 -- src/tests.rt:59:21
 returns : tie.Need-returns

@@ -1,3 +1,5 @@
+use Rattle.math.specs.Range.{in-range}
+use mathlib.Core.Path.{sym, _∙_}
 use borrow.Author.Needs.{needs}
 use Rattle.samples.proofs.tests.side.Statement.{statement}
 use Rattle.samples.proofs.tests.side.Tie as tie
@@ -21,7 +23,7 @@ validate-vertex-requires-3 c κs = search needs
 
 -- src/tests.rt:35:32
 side-query-requires : tie.Need-side-query-requires
-side-query-requires c κs = ?
+side-query-requires c κs = (in-range (sym (c .before .before .before .before .before .validate-vertex .ensures) ∙ c .before .before .before .before .if1 .taken), in-range (sym (c .before .before .before .validate-vertex2 .ensures) ∙ c .before .before .if2 .taken), in-range (sym (c .before .validate-vertex3 .ensures) ∙ c .if3 .taken))
 
 -- src/tests.rt:35:17
 is-sign-requires : tie.Need-is-sign-requires
