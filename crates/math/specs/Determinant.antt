@@ -3,7 +3,7 @@
 -- 01: "`robust::orient2d` and `robust::incircle` mean the exact sign of Shewchuk's determinants", "Left is strictly positive."
 -- A formula is written once, over any numbers R with a sum, a difference, a product and a one: at ℤ it is what a contract says, and at the expressions `E` what the ring solver computes with.
 use mathlib.Core.Bool.{Bool, true, false, _&&_}
-use Prim.Native.Nat.{ℕ, zero, suc, _≤_}
+use Prim.Native.Nat.{zero, suc, _≤_}
 use lib.Dec.{leb}
 use lib.IntN.{ℤ, pos, negsuc, natAbs, _+ℤ_, _-ℤ_, _*ℤ_}
 use lib.Signed.{ltZ, leZ}

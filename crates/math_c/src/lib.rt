@@ -1,20 +1,12 @@
 // The tests of `math` for C and Rust, on plain numbers.
 ghost use mathlib.Core.Path.{_≡_};
 ghost use Rattle.math_c.specs.Answer.{at, sideNumber, sideAnswer, circleAnswer};
-
 use math::LineSideInfo;
 use math::Point;
 
 // 0 on the line from (p1x, p1y) to (p2x, p2y), 1 left of it, 2 right of it, 3 where a coordinate is out of range.
 #[no_mangle]
-pub extern "C" fn math_side_query(
-    p1x: i32,
-    p1y: i32,
-    p2x: i32,
-    p2y: i32,
-    qx: i32,
-    qy: i32,
-) -> u8
+pub extern "C" fn math_side_query(p1x: i32, p1y: i32, p2x: i32, p2y: i32, qx: i32, qy: i32) -> u8
     ensures { λ r. ⌜ r ≡ sideAnswer (at p1x p1y) (at p2x p2y) (at qx qy) ⌝ }
 {
     let p1 = Point { x: p1x, y: p1y };

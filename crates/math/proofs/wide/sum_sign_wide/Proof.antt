@@ -1,10 +1,9 @@
 -- `math::wide::sum_sign_wide` meets its contract: the four numbers' digits are multiplied out, and a large high digit or the carries give the sign.
 -- Assumes nothing.
 use mathlib.Core.Path.{_≡_, refl, sym, _∙_, ap, subst}
-use Prim.Native.Nat.{ℕ, _≤_, _<_}
-use native.Mathlib.Nat.{le-trans}
+use Prim.Native.Nat.{_≤_, _<_}
 use native.Mathlib.Omega.{arith}
-use borrow.Author.Needs.{needs, sfits-of}
+use borrow.Author.Needs.{sfits-of}
 use lib.IntN.{ℤ, natAbs, _+ℤ_, _*ℤ_}
 use mir.Facts.{toZ-ofZ}
 use Rattle.algebra.specs.Test.{lt-taken}
@@ -90,8 +89,7 @@ low-requires c κs = two (c .before .before .before .before)
 carried-requires : tie.Need-carried-requires
 carried-requires c κs =
     let m = c .before in let h = m .before .before .before in let s = h .before in let t = two s in
-    rw (toZ-ofZ (sfits-of (h .high .ok)), toZ-ofZ (sfits-of (m .middle .ok)), toZ-ofZ (sfits-of (c .low .ok)))
-    (
+    rw (toZ-ofZ (sfits-of (h .high .ok)), toZ-ofZ (sfits-of (m .middle .ok)), toZ-ofZ (sfits-of (c .low .ok))) (
       subst (λ (z : ℤ). natAbs z ≤ 36028797018963968) (sym (h .high .ensures)) (high-abs (t .0) (t .1) (t .2) (t .3)),
       subst (λ (z : ℤ). natAbs z ≤ 18014398509481984) (sym (m .middle .ensures)) (middle-abs (t .0) (t .1) (t .2) (t .3)),
       subst (λ (z : ℤ). natAbs z ≤ 18014398509481984) (sym (c .low .ensures)) (low-abs (t .0) (t .1) (t .2) (t .3)),
