@@ -8,8 +8,8 @@ use native.Mathlib.Omega.{arith}
 use borrow.Author.Tests.{lt-ltb}
 use lib.Dec.{T, lt→ltb, ltb→lt}
 use lib.IntN.{ℤ, pos, negsuc, negℤ, natAbs, _+ℤ_, _-ℤ_, _*ℤ_}
-use lib.Signed.{ltZ, shrZ, _<ℤ_, _≤ℤ_, ltZ-yes}
-use Rattle.algebra.specs.Ring.{E, var, num, _⊕_, _⊖_, _⊗_, ⊝_, v0, v1, v2, v3, v4, v5, v6, v7, ring}
+use lib.Signed.{ltZ, shrZ, ltZ-yes}
+use Rattle.algebra.specs.Ring.{E, num, _⊕_, _⊖_, _⊗_, ⊝_, v0, v1, v2, v3, v4, v5, v6, v7, ring}
 use Rattle.algebra.specs.Sign.{_+⁺_, lt-in, le-in, lt-by, eq-in, eq-by, _*⁰_, _+⁰_}
 use Rattle.algebra.specs.Bound.{Env, []ᵉ, _∷ᵉ_, within, abs-le, abs-ge}
 use Rattle.math.specs.declared.wide.Digits.{Digits}

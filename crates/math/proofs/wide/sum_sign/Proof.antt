@@ -1,8 +1,8 @@
 -- `math::wide::sum_sign` meets its contract: narrow numbers are multiplied and added as they are.
 -- Assumes nothing.
 use mathlib.Core.Path.{_≡_, sym, _∙_, ap}
-use mathlib.Core.Bool.{true}
-use mathlib.Core.List.{List, [], _∷_}
+use mathlib.Core.Bool.{true, Bool}
+use mathlib.Core.List.{[], _∷_}
 use Prim.Native.Nat.{_≤_}
 use borrow.Author.Needs.{needs, sfits-of}
 use borrow.Author.Tests.{leb-true}
@@ -18,7 +18,7 @@ use Rattle.math.proofs.wide.sum_sign.Statement.{statement}
 use Rattle.math.proofs.wide.sum_sign.Tie as tie
 
 -- what a test that was passed says
-narrow : {r : mathlib.Core.Bool.Bool} (x : ℤ) → SFits w64 x → r ≡ leb (natAbs (toZ w64 (ofZ w64 x))) 2147483647 → r ≡ true → natAbs x ≤ 2147483647
+narrow : {r : Bool} (x : ℤ) → SFits w64 x → r ≡ leb (natAbs (toZ w64 (ofZ w64 x))) 2147483647 → r ≡ true → natAbs x ≤ 2147483647
 narrow x f e t = leb-true (natAbs x) 2147483647 (ap (λ (z : ℤ). leb (natAbs z) 2147483647) (sym (toZ-ofZ f)) ∙ sym e ∙ t)
 
 env : (c : tie.Then4) → let a = c .before .before .before .before .before .before .before .before .args in Env (a .x ∷ a .y ∷ a .z ∷ a .w ∷ []) (2147483647 ∷ 2147483647 ∷ 2147483647 ∷ 2147483647 ∷ [])

@@ -1,10 +1,9 @@
 -- `math::wide::sum_sign_wide` meets its contract: the four numbers' digits are multiplied out, and a large high digit or the carries give the sign.
 -- Assumes nothing.
 use mathlib.Core.Path.{_≡_, refl, sym, _∙_, ap, subst}
-use Prim.Native.Nat.{ℕ, _≤_, _<_}
-use native.Mathlib.Nat.{le-trans}
+use Prim.Native.Nat.{_≤_, _<_}
 use native.Mathlib.Omega.{arith}
-use borrow.Author.Needs.{needs, sfits-of}
+use borrow.Author.Needs.{sfits-of}
 use lib.IntN.{ℤ, natAbs, _+ℤ_, _*ℤ_}
 use mir.Facts.{toZ-ofZ}
 use Rattle.algebra.specs.Test.{lt-taken}
