@@ -110,6 +110,7 @@ pub use unused::{flood_fill_iterator, intersection_iterator, Barycentric};
 pub mod case;
 pub mod compare;
 pub mod generate;
+pub mod list;
 pub mod mesh;
 pub mod random;
 pub mod worker;

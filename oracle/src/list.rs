@@ -1,0 +1,154 @@
+//! The fixed list of the oracle's answers, and 01's listing as far as the Rust has it.
+
+use std::fmt::Write;
+
+use crate::case::{Answer, Case, Ending};
+use crate::generate;
+use crate::mesh::{Mesh, Position};
+use crate::worker::Oracle;
+
+/// How many entries the list has.
+pub const ENTRIES: usize = 300;
+
+/// The seed of the generator for the list.
+const SEED: u64 = 1;
+
+const REMARK: &str = "# answers of the Rust of spade 2.15.1, made by `oracle list`; the format is in oracle/FORMAT.md\n";
+
+fn given(corners: [Position; 3], centre: [f64; 2], points: &[Position]) -> Case {
+    Case { number: 0, seed: Mesh::triangle(corners), centre, points: points.to_vec() }
+}
+
+/// Inputs of the papers: 01's sample listing and its M5, then no points, a boundary that turns straight
+/// back, a second convexity pass, a ring that is sound and not strict.
+fn from_the_papers() -> Vec<Case> {
+    vec![
+        given([[0, 0], [4, 0], [0, 4]], [1.0, 1.0], &[[4, 4], [2, 2], [4, 4], [1, 1]]),
+        given([[0, 0], [4, 0], [2, 1]], [2.0, 0.5], &[[2, -1]]),
+        given([[0, 0], [4, 0], [0, 4]], [1.0, 1.0], &[]),
+        given([[-6, 4], [0, -6], [6, 4]], [6.0, -5.0], &[[6, 0], [12, -2], [6, 4]]),
+        given([[-3, 3], [6, -6], [-3, 9]], [0.0, 2.0], &[[-18, 12], [-9, 6]]),
+        given([[-1, 0], [1, -1], [0, 0]], [-0.5, 0.0], &[[1, 0], [3, 5]]),
+    ]
+}
+
+/// Few points in most entries, many in some.
+fn most_points(number: u64) -> u64 {
+    match number % 25 {
+        0 => 90,
+        1..=4 => 30,
+        _ => 12,
+    }
+}
+
+/// A case with its answer, cut before the first point that is outside the domain.
+pub fn entry(oracle: &mut Oracle, mut case: Case) -> Option<(Case, Answer)> {
+    let mut answer = oracle.answer(&case);
+    if let Ending::Outside { index, .. } = answer.ending {
+        case = case.cut((index as usize).min(case.points.len()));
+        answer = oracle.answer(&case);
+    }
+    matches!(answer.ending, Ending::Inside { .. }).then_some((case, answer))
+}
+
+/// Whether a generated entry shows something: a point that is added, or a face of the pass.
+fn tells(answer: &Answer) -> bool {
+    let pass_adds = matches!(answer.ending, Ending::Inside { pass: [faces, _], .. } if faces > 0);
+    pass_adds || answer.fates.iter().any(|fate| fate[0] == 1)
+}
+
+pub fn entries() -> Vec<(Case, Answer)> {
+    let mut oracle = Oracle::default();
+    let mut entries: Vec<_> =
+        from_the_papers().into_iter().filter_map(|case| entry(&mut oracle, case)).collect();
+    let generated = (0..).map(|number| generate::case(SEED, number, most_points(number)));
+    let mut told = generated.filter_map(|case| entry(&mut oracle, case)).filter(|e| tells(&e.1));
+    while entries.len() < ENTRIES {
+        entries.extend(told.next());
+    }
+    for (number, (case, answer)) in (0..).zip(&mut entries) {
+        case.number = number;
+        answer.number = number;
+    }
+    entries
+}
+
+pub fn text() -> String {
+    let mut text = REMARK.to_string();
+    for (case, answer) in entries() {
+        case.write(&mut text);
+        answer.write_unnumbered(&mut text);
+    }
+    text
+}
+
+/// Counts the entries that the oracle answers otherwise than the list has it.
+pub fn check(entries: &[(Case, Answer)]) -> Result<bool, String> {
+    let mut oracle = Oracle::default();
+    let [mut fates, mut links, mut changed] = [0; 3];
+    for (case, stored) in entries {
+        let answer = oracle.answer(case);
+        fates += usize::from(answer.fates != stored.fates);
+        links += usize::from(answer.ending != stored.ending);
+        changed += usize::from(answer != *stored);
+    }
+    println!(
+        "{} entries, {changed} answered otherwise ({fates} in the points' answers, {links} in the links or the pass)",
+        entries.len()
+    );
+    Ok(changed == 0)
+}
+
+// The listing
+
+fn numbers<const N: usize>(line: &str, tag: &str) -> Result<[i32; N], String> {
+    let mut fields = line.split(' ');
+    let numbers: Option<Vec<i32>> = (fields.next() == Some(tag))
+        .then(|| fields.map(|field| field.parse().ok()).collect())
+        .flatten();
+    let numbers = numbers.and_then(|numbers| numbers.try_into().ok());
+    numbers.ok_or(format!("not a line {tag}: {line}"))
+}
+
+/// The input of a listing.
+pub fn listed(text: &str) -> Result<Case, String> {
+    let mut lines = text.lines();
+    let [ax, ay, bx, by, cx, cy] = numbers(lines.next().unwrap_or_default(), "S")?;
+    let [x, y] = numbers::<2>(lines.next().unwrap_or_default(), "C")?.map(f64::from);
+    let points = lines.map(|line| numbers(line, "P")).collect::<Result<Vec<_>, _>>()?;
+    Ok(given([[ax, ay], [bx, by], [cx, cy]], [x, y], &points))
+}
+
+fn doubled_area(mesh: &Mesh) -> i64 {
+    let corner = |e: &u32| mesh.position(*e).map(i64::from);
+    let boundary = mesh.boundary();
+    let pairs = boundary.iter().zip(boundary.iter().cycle().skip(1));
+    // Face 0 runs against the area: its edges are walked against next.
+    pairs.map(|(e, next)| (corner(next), corner(e))).map(|(p, q)| p[0] * q[1] - p[1] * q[0]).sum()
+}
+
+/// 01's lines `p` for the points before the first that is outside the domain, a line `x` with that
+/// one's reason and index, and the line `t` of those points without its closing flips. The faces and
+/// flips in it are those of the first pass.
+pub fn listing(text: &str) -> Result<String, String> {
+    let mut oracle = Oracle::default();
+    let case = listed(text)?;
+    let answer = oracle.answer(&case);
+    let mut lines = String::new();
+    for (index, [fate, vertex, faces, flips]) in answer.fates.iter().enumerate() {
+        writeln!(lines, "p {index} {fate} {vertex} {faces} {flips}").unwrap();
+    }
+    if let Ending::Outside { reason, index } = answer.ending {
+        writeln!(lines, "x {reason} {index}").unwrap();
+    }
+    if let Some((_, answer)) = entry(&mut oracle, case) {
+        let Ending::Inside { pass: [faces, flips], passed, .. } = answer.ending else {
+            unreachable!("an entry is inside the domain")
+        };
+        let [vertices, edges, inner] =
+            [passed.positions.len(), passed.edges(), passed.faces.len() - 1];
+        let area = doubled_area(&passed);
+        writeln!(lines, "t {vertices} {edges} {inner} {area} {faces} {flips}").unwrap();
+    }
+    Ok(lines)
+}
