@@ -34,15 +34,33 @@ fn rounded(x: f64, y: f64) -> Position {
 // Seeds
 
 fn seed_and_centre(random: &mut Random, spread: i32) -> Option<(Mesh, [f64; 2])> {
-    match random.below(8) {
+    match random.below(10) {
         0..=2 => {
             let mesh = triangle(random, spread)?;
             let centre = centre_near(random, &mesh, spread);
             Some((mesh, centre))
         }
-        3 | 4 => swept_mesh(random, spread),
-        5 => star(random, spread),
-        6 => grid(random),
+        // The centre anywhere: outside the triangle where its ring is strict.
+        3 => {
+            let mesh = triangle(random, spread)?;
+            let part = f64::from(random.between(0, 1)) / 2.0;
+            Some((mesh, within(random, spread).map(|c| f64::from(c) + part)))
+        }
+        // The centre near a corner of the square, and the triangle about it.
+        4 => {
+            let [sx, sy] = [(); 2].map(|()| if random.one_in(2) { -spread } else { spread });
+            let [a, b, c] = [(); 3].map(|()| {
+                let [x, y] = within(random, (spread / 4).max(2));
+                rounded(f64::from(sx) + f64::from(x), f64::from(sy) + f64::from(y))
+            });
+            let [b, c] = if orient(a, b, c) > 0 { [b, c] } else { [c, b] };
+            let mesh = Mesh::triangle([a, b, c]);
+            let centre = centre_near(random, &mesh, spread);
+            Some((mesh, centre))
+        }
+        5 | 6 => swept_mesh(random, spread),
+        7 => star(random, spread),
+        8 => grid(random),
         _ => {
             let (mesh, centre) = swept_mesh(random, spread)?;
             let near = centre_near(random, &mesh, spread);
@@ -249,7 +267,7 @@ fn placed(
 ) -> Vec<Position> {
     let far = f64::from(spread);
     let [cx, cy] = centre;
-    match random.below(9) {
+    match random.below(12) {
         // Anywhere in the square.
         0 | 1 => (0..count).map(|_| within(random, spread)).collect(),
         // Clusters.
@@ -298,8 +316,29 @@ fn placed(
             };
             (0..count).map(|_| on(random)).collect()
         }
-        // About circles: many on one circle, or nearly.
+        // Far away in nearly one direction: angles that rounding makes equal, or nearly.
         7 => {
+            let [sx, sy] = [(); 2].map(|()| if random.one_in(2) { -1.0 } else { 1.0 });
+            let swapped = random.one_in(2);
+            let on = |random: &mut Random| {
+                let n = 2.0 * far - f64::from(random.between(0, 6));
+                let m = n - f64::from(random.between(0, 2));
+                let [x, y] = if swapped { [n, m] } else { [m, n] };
+                rounded(cx + sx * x, cy + sy * y)
+            };
+            (0..count).map(|_| on(random)).collect()
+        }
+        // Far west and east, level with the centre or beside that: the angles about 0.0, 0.5 and 1.0.
+        8 => {
+            let on = |random: &mut Random| {
+                let x = far * if random.one_in(4) { 1.0 } else { -1.0 };
+                let [k, l] = [(); 2].map(|()| f64::from(random.between(-2, 2)));
+                rounded(cx + x + k, cy + l)
+            };
+            (0..count).map(|_| on(random)).collect()
+        }
+        // About circles: many on one circle, or nearly.
+        9 => {
             let corner = within(random, spread);
             let [x, y] = corner.map(f64::from);
             let on = |random: &mut Random| {
@@ -309,6 +348,15 @@ fn placed(
                 rounded(cx + sx * x / k, cy + sy * y / k)
             };
             (0..count).map(|_| on(random)).collect()
+        }
+        // A great ring of nodes, then a few points far outside it that take many of its edges.
+        10 => {
+            let at = |random: &mut Random, i: usize| {
+                let part = if i + 6 < count { 0.3 + 0.02 * random.unit() } else { 0.5 + random.unit() };
+                let angle = random.unit() * std::f64::consts::TAU;
+                rounded(cx + far * part * angle.cos(), cy + far * part * angle.sin())
+            };
+            (0..count).map(|i| at(random, i)).collect()
         }
         // Round and round, outward.
         _ => {

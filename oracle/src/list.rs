@@ -34,9 +34,10 @@ fn from_the_papers() -> Vec<Case> {
 
 /// Few points in most entries, many in some.
 fn most_points(number: u64) -> u64 {
-    match number % 25 {
-        0 => 90,
-        1..=4 => 30,
+    match number % 100 {
+        0 => 200,
+        1..=4 => 80,
+        5..=24 => 30,
         _ => 12,
     }
 }
@@ -87,13 +88,16 @@ pub fn check(entries: &[(Case, Answer)]) -> Result<bool, String> {
     let mut oracle = Oracle::default();
     let [mut fates, mut links, mut changed] = [0; 3];
     for (case, stored) in entries {
-        let answer = oracle.answer(case);
+        let Some(answer) = oracle.ask(case) else {
+            [fates, links, changed] = [fates + 1, links + 1, changed + 1];
+            continue;
+        };
         fates += usize::from(answer.fates != stored.fates);
         links += usize::from(answer.ending != stored.ending);
         changed += usize::from(answer != *stored);
     }
     println!(
-        "{} entries, {changed} answered otherwise ({fates} in the points' answers, {links} in the links or the pass)",
+        "{changed} of {} entries answered otherwise ({fates} in the points' answers, {links} in the links or the pass)",
         entries.len()
     );
     Ok(changed == 0)
@@ -119,7 +123,8 @@ pub fn listed(text: &str) -> Result<Case, String> {
     Ok(given([[ax, ay], [bx, by], [cx, cy]], [x, y], &points))
 }
 
-fn doubled_area(mesh: &Mesh) -> i64 {
+/// The boundary's doubled area.
+pub fn doubled_area(mesh: &Mesh) -> i64 {
     let corner = |e: &u32| mesh.position(*e).map(i64::from);
     let boundary = mesh.boundary();
     let pairs = boundary.iter().zip(boundary.iter().cycle().skip(1));
@@ -130,8 +135,11 @@ fn doubled_area(mesh: &Mesh) -> i64 {
 /// 01's lines `p` for the points before the first that is outside the domain, a line `x` with that
 /// one's reason and index, and the line `t` of those points without its closing flips. The faces and
 /// flips in it are those of the first pass.
-pub fn listing(text: &str) -> Result<String, String> {
+///
+/// Beyond the domain, the Rust goes on after fates 4 and 5 as it does by itself.
+pub fn listing(text: &str, beyond: bool) -> Result<String, String> {
     let mut oracle = Oracle::default();
+    oracle.beyond = beyond;
     let case = listed(text)?;
     let answer = oracle.answer(&case);
     let mut lines = String::new();

@@ -16,7 +16,8 @@ const USAGE: &str = "usage:
   oracle compare COUNT SEED [MOST_POINTS] -- PROGRAM [ARGUMENT..]
                                              compare a program's answers with the Rust's
   oracle listing < LINES                     answer lines S, C, P as 01's listing does, as far as
-                                             the Rust has it";
+                                             the Rust has it
+  oracle beyond < LINES                      the same without stopping at fates 4 and 5";
 
 fn standard_input() -> String {
     let mut text = String::new();
@@ -46,7 +47,8 @@ fn numbers(arguments: &[String]) -> Result<[u64; 3], String> {
 fn run(arguments: &[String]) -> Result<bool, String> {
     let command = arguments.first().map(String::as_str).unwrap_or_default();
     match (command, &arguments[1.min(arguments.len())..]) {
-        ("worker", []) => work(),
+        ("worker", []) => work(true),
+        ("worker-beyond", []) => work(false),
         ("generate", rest) => {
             let [count, seed, most] = numbers(rest)?;
             for number in 0..count {
@@ -80,7 +82,8 @@ fn run(arguments: &[String]) -> Result<bool, String> {
             }
             return compare::at_scale(numbers(&rest[..split])?, program);
         }
-        ("listing", []) => print(&list::listing(&standard_input())?),
+        ("listing", []) => print(&list::listing(&standard_input(), false)?),
+        ("beyond", []) => print(&list::listing(&standard_input(), true)?),
         _ => return Err(USAGE.to_string()),
     }
     Ok(true)

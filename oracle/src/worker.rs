@@ -13,7 +13,7 @@ use crate::case::{read_answers, read_cases, reason, Answer, Case, Ending};
 use crate::driver;
 
 /// The time that a case may take.
-const TIME: Duration = Duration::from_secs(5);
+const TIME: Duration = Duration::from_secs(2);
 
 /// The memory that a worker may have. `Hull::insert` without end would take all there is.
 const MEMORY: u64 = 2 << 30;
@@ -25,10 +25,12 @@ extern "C" {
 const RLIMIT_AS: i32 = 9;
 
 /// The worker's own loop: inputs from standard input, each answered at once.
-pub fn work() {
+pub fn work(watched: bool) {
     // SAFETY: the array has the layout of `struct rlimit` of 64-bit Linux.
     unsafe { setrlimit(RLIMIT_AS, &[MEMORY, MEMORY]) };
-    std::panic::set_hook(Box::new(|_| {}));
+    if watched {
+        std::panic::set_hook(Box::new(|_| {}));
+    }
     let mut text = String::new();
     let mut answered = String::new();
     for line in std::io::stdin().lines() {
@@ -37,7 +39,7 @@ pub fn work() {
         text.push('\n');
         if line.starts_with('q') {
             let case = read_cases(&text).expect("an input").remove(0);
-            driver::answer(&case).write(&mut answered);
+            driver::answer(&case, watched).write(&mut answered);
             let mut out = std::io::stdout().lock();
             out.write_all(answered.as_bytes()).and_then(|()| out.flush()).expect("a reader");
             text.clear();
@@ -53,13 +55,13 @@ struct Running {
 }
 
 impl Running {
-    fn start() -> Running {
+    fn start(beyond: bool) -> Running {
         let program = std::env::current_exe().expect("this program has a place");
         let mut child = Command::new(program)
-            .arg("worker")
+            .arg(if beyond { "worker-beyond" } else { "worker" })
             .stdin(Stdio::piped())
             .stdout(Stdio::piped())
-            .stderr(Stdio::null())
+            .stderr(if beyond { Stdio::inherit() } else { Stdio::null() })
             .spawn()
             .expect("a worker starts");
         let input = child.stdin.take().unwrap();
@@ -83,6 +85,8 @@ impl Running {
 #[derive(Default)]
 pub struct Oracle {
     running: Option<Running>,
+    /// Whether the Rust runs on beyond the domain; its panics are then told on standard error.
+    pub beyond: bool,
 }
 
 impl Oracle {
@@ -113,8 +117,8 @@ impl Oracle {
     }
 
     /// The worker's answer; nothing where it does not answer in time.
-    fn ask(&mut self, case: &Case) -> Option<Answer> {
-        let running = self.running.get_or_insert_with(Running::start);
+    pub fn ask(&mut self, case: &Case) -> Option<Answer> {
+        let running = self.running.get_or_insert_with(|| Running::start(self.beyond));
         let mut text = String::new();
         case.write(&mut text);
         let sent = running.input.write_all(text.as_bytes()).and_then(|()| running.input.flush());

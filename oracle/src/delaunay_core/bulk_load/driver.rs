@@ -74,6 +74,11 @@ pub fn rows(swept: &Swept) -> Mesh {
     }
 }
 
+/// The Rust's angle of a position.
+pub fn angle(position: Position, centre: Point2<f64>) -> f64 {
+    pseudo_angle(point(position), centre).0
+}
+
 /// The angles of the boundary's vertices, along next from face 0's stored edge.
 pub fn boundary_angles(swept: &Swept, centre: Point2<f64>) -> Vec<f64> {
     swept.convex_hull().map(|e| pseudo_angle(e.from().position(), centre).0).collect()
@@ -117,6 +122,8 @@ pub struct Sweep {
     hull: Hull,
     centre: Point2<f64>,
     buffer: Vec<FixedUndirectedEdgeHandle>,
+    /// Whether a step is tested for fates 4 and 5. Without that, the Rust does as it does.
+    pub watched: bool,
 }
 
 /// What a call of the Rust came to: its answer, or the reason why the case is outside the domain.
@@ -149,14 +156,14 @@ impl Sweep {
         let centre = Point2::new(x, y);
         let hull = catch_unwind(AssertUnwindSafe(|| Hull::from_triangulation(&swept, centre)));
         match hull {
-            Ok(Some(hull)) => Ok(Sweep { swept, hull, centre, buffer: Vec::new() }),
+            Ok(Some(hull)) => Ok(Sweep { swept, hull, centre, buffer: Vec::new(), watched: true }),
             _ => Err(reason::NO_HULL),
         }
     }
 
     /// One step: fate, vertex, faces, flips.
     pub fn step(&mut self, position: Position) -> Outcome<[u32; 4]> {
-        if point(position) == self.centre {
+        if self.watched && point(position) == self.centre {
             return Err(reason::AT_CENTRE);
         }
         let [vertices, faces] = [self.swept.num_vertices(), self.swept.num_all_faces()];
@@ -169,7 +176,7 @@ impl Sweep {
         if self.swept.num_vertices() == vertices {
             return Ok([if skipped.is_some() { 3 } else { 2 }, 0, 0, 0]);
         }
-        if !is_sound(&boundary_angles(&self.swept, self.centre)) {
+        if self.watched && !is_sound(&boundary_angles(&self.swept, self.centre)) {
             return Err(reason::UNSOUND);
         }
         let faces = self.swept.num_all_faces() - faces;
@@ -190,19 +197,20 @@ impl Sweep {
     }
 }
 
-/// The Rust's answer to a case.
-pub fn answer(case: &Case) -> Answer {
+/// The Rust's answer to a case; beyond the domain too, where it is not watched.
+pub fn answer(case: &Case, watched: bool) -> Answer {
     let mut fates = Vec::new();
-    let ending = ending(case, &mut fates).unwrap_or_else(|ending| ending);
+    let ending = ending(case, watched, &mut fates).unwrap_or_else(|ending| ending);
     Answer { number: case.number, fates, ending }
 }
 
-fn ending(case: &Case, fates: &mut Vec<[u32; 4]>) -> Result<Ending, Ending> {
+fn ending(case: &Case, watched: bool, fates: &mut Vec<[u32; 4]>) -> Result<Ending, Ending> {
     let outside = |index: usize| move |reason| Ending::Outside { reason, index: index as u32 };
     if let Some(number) = refusal(case) {
         return Err(outside(number as usize)(reason::REFUSED));
     }
     let mut sweep = Sweep::new(&case.seed, case.centre).map_err(outside(0))?;
+    sweep.watched = watched;
     for (index, &position) in case.points.iter().enumerate() {
         fates.push(sweep.step(position).map_err(outside(index))?);
     }

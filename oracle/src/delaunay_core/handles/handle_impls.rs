@@ -258,6 +258,10 @@ impl<'a, V, DE, UE, F> FaceHandle<'a, InnerTag, V, DE, UE, F> {
         let edge = self.adjacent_edge();
         [edge, edge.next(), edge.prev()]
     }
+
+    pub fn vertices(&self) -> [VertexHandle<'a, V, DE, UE, F>; 3] {
+        self.adjacent_edges().map(|edge| edge.from())
+    }
 }
 
 impl<V: HasPosition, DE, UE, F> FaceHandle<'_, InnerTag, V, DE, UE, F>
@@ -265,7 +269,6 @@ where
     V::Scalar: Float,
 {
     pub fn circumcenter(&self) -> Point2<V::Scalar> {
-        let positions = self.adjacent_edges().map(|edge| edge.from().position());
-        math::circumcenter(positions).0
+        math::circumcenter(self.vertices().map(|vertex| vertex.position())).0
     }
 }
