@@ -113,4 +113,5 @@ pub mod generate;
 pub mod list;
 pub mod mesh;
 pub mod random;
+pub mod smallest;
 pub mod worker;

@@ -43,8 +43,12 @@ fn most_points(number: u64) -> u64 {
 }
 
 /// A case with its answer, cut before the first point that is outside the domain.
-pub fn entry(oracle: &mut Oracle, mut case: Case) -> Option<(Case, Answer)> {
-    let mut answer = oracle.answer(&case);
+pub fn entry(oracle: &mut Oracle, case: Case) -> Option<(Case, Answer)> {
+    let answer = oracle.answer(&case);
+    entry_of(oracle, case, answer)
+}
+
+fn entry_of(oracle: &mut Oracle, mut case: Case, mut answer: Answer) -> Option<(Case, Answer)> {
     if let Ending::Outside { index, .. } = answer.ending {
         case = case.cut((index as usize).min(case.points.len()));
         answer = oracle.answer(&case);
@@ -139,7 +143,7 @@ pub fn doubled_area(mesh: &Mesh) -> i64 {
 /// Beyond the domain, the Rust goes on after fates 4 and 5 as it does by itself.
 pub fn listing(text: &str, beyond: bool) -> Result<String, String> {
     let mut oracle = Oracle::default();
-    oracle.beyond = beyond;
+    [oracle.beyond, oracle.loud] = [beyond; 2];
     let case = listed(text)?;
     let answer = oracle.answer(&case);
     let mut lines = String::new();
@@ -149,7 +153,7 @@ pub fn listing(text: &str, beyond: bool) -> Result<String, String> {
     if let Ending::Outside { reason, index } = answer.ending {
         writeln!(lines, "x {reason} {index}").unwrap();
     }
-    if let Some((_, answer)) = entry(&mut oracle, case) {
+    if let Some((_, answer)) = entry_of(&mut oracle, case, answer) {
         let Ending::Inside { pass: [faces, flips], passed, .. } = answer.ending else {
             unreachable!("an entry is inside the domain")
         };

@@ -5,7 +5,7 @@ use std::process::ExitCode;
 
 use oracle::case::{read_cases, read_list};
 use oracle::worker::{work, Oracle};
-use oracle::{compare, generate, list};
+use oracle::{compare, generate, list, smallest};
 
 const USAGE: &str = "usage:
   oracle generate COUNT SEED [MOST_POINTS]   write inputs
@@ -15,9 +15,11 @@ const USAGE: &str = "usage:
   oracle inputs LIST                         write the inputs of a list
   oracle compare COUNT SEED [MOST_POINTS] -- PROGRAM [ARGUMENT..]
                                              compare a program's answers with the Rust's
+  oracle smallest COUNT SEED SPREAD          search small listings for the kinds of differences
   oracle listing < LINES                     answer lines S, C, P as 01's listing does, as far as
                                              the Rust has it
-  oracle beyond < LINES                      the same without stopping at fates 4 and 5";
+  oracle beyond < LINES                      the same without stopping at refusals 6 and 7
+                                             and fates 4 and 5";
 
 fn standard_input() -> String {
     let mut text = String::new();
@@ -74,6 +76,7 @@ fn run(arguments: &[String]) -> Result<bool, String> {
             }
             print(&text);
         }
+        ("smallest", [_, _, _]) => smallest::search(numbers(&arguments[1..])?),
         ("compare", rest) => {
             let split = rest.iter().position(|a| a == "--").ok_or(USAGE)?;
             let program = &rest[split + 1..];

@@ -28,6 +28,17 @@ pub fn orient(a: Position, b: Position, c: Position) -> i64 {
     (bx - ax) * (cy - ay) - (by - ay) * (cx - ax)
 }
 
+/// Positive where `d` is strictly inside the circle of `a`, `b`, `c`, these turning left.
+pub fn incircle([a, b, c, d]: [Position; 4]) -> i128 {
+    let row = |p: Position| {
+        let [x, y] = [0, 1].map(|i| i128::from(p[i]) - i128::from(d[i]));
+        [x, y, x * x + y * y]
+    };
+    let [a, b, c] = [row(a), row(b), row(c)];
+    let minor = |p: [i128; 3], q: [i128; 3]| p[0] * q[1] - q[0] * p[1];
+    a[2] * minor(b, c) + b[2] * minor(c, a) + c[2] * minor(a, b)
+}
+
 impl Mesh {
     /// The seed of a listing: half-edges 0, 2, 4 run v0, v1, v2 in face 1.
     pub fn triangle(corners: [Position; 3]) -> Mesh {

@@ -28,9 +28,11 @@ const RLIMIT_AS: i32 = 9;
 pub fn work(watched: bool) {
     // SAFETY: the array has the layout of `struct rlimit` of 64-bit Linux.
     unsafe { setrlimit(RLIMIT_AS, &[MEMORY, MEMORY]) };
-    if watched {
-        std::panic::set_hook(Box::new(|_| {}));
-    }
+    std::panic::set_hook(Box::new(move |panic| {
+        if !watched {
+            eprintln!("{}", panic.to_string().replace('\n', " "));
+        }
+    }));
     let mut text = String::new();
     let mut answered = String::new();
     for line in std::io::stdin().lines() {
@@ -55,13 +57,13 @@ struct Running {
 }
 
 impl Running {
-    fn start(beyond: bool) -> Running {
+    fn start(beyond: bool, loud: bool) -> Running {
         let program = std::env::current_exe().expect("this program has a place");
         let mut child = Command::new(program)
             .arg(if beyond { "worker-beyond" } else { "worker" })
             .stdin(Stdio::piped())
             .stdout(Stdio::piped())
-            .stderr(if beyond { Stdio::inherit() } else { Stdio::null() })
+            .stderr(if loud { Stdio::inherit() } else { Stdio::null() })
             .spawn()
             .expect("a worker starts");
         let input = child.stdin.take().unwrap();
@@ -85,8 +87,10 @@ impl Running {
 #[derive(Default)]
 pub struct Oracle {
     running: Option<Running>,
-    /// Whether the Rust runs on beyond the domain; its panics are then told on standard error.
+    /// Whether the Rust goes on beyond the domain.
     pub beyond: bool,
+    /// Whether its panics there are told on standard error.
+    pub loud: bool,
 }
 
 impl Oracle {
@@ -118,7 +122,7 @@ impl Oracle {
 
     /// The worker's answer; nothing where it does not answer in time.
     pub fn ask(&mut self, case: &Case) -> Option<Answer> {
-        let running = self.running.get_or_insert_with(|| Running::start(self.beyond));
+        let running = self.running.get_or_insert_with(|| Running::start(self.beyond, self.loud));
         let mut text = String::new();
         case.write(&mut text);
         let sent = running.input.write_all(text.as_bytes()).and_then(|()| running.input.flush());

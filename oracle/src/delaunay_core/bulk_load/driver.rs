@@ -206,7 +206,8 @@ pub fn answer(case: &Case, watched: bool) -> Answer {
 
 fn ending(case: &Case, watched: bool, fates: &mut Vec<[u32; 4]>) -> Result<Ending, Ending> {
     let outside = |index: usize| move |reason| Ending::Outside { reason, index: index as u32 };
-    if let Some(number) = refusal(case) {
+    let refused = if watched { refusal(case) } else { case.seed.refusal(&case.points) };
+    if let Some(number) = refused {
         return Err(outside(number as usize)(reason::REFUSED));
     }
     let mut sweep = Sweep::new(&case.seed, case.centre).map_err(outside(0))?;
