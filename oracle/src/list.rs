@@ -1,17 +1,21 @@
 //! The fixed list of the oracle's answers, and 01's listing as far as the Rust has it.
 
+use std::collections::{BTreeMap, BTreeSet};
 use std::fmt::Write;
 
 use crate::case::{Answer, Case, Ending};
-use crate::generate;
+use crate::driver::{boundary_angles, built, is_strict};
 use crate::mesh::{Mesh, Position};
+use crate::smallest::{has_left_corner, has_unsettled_edge};
 use crate::worker::Oracle;
+use crate::{generate, Point2};
 
 /// How many entries the list has.
 pub const ENTRIES: usize = 300;
 
-/// The seed of the generator for the list.
+/// The seed of the generator for the list, and how many of its inputs the list is chosen from.
 const SEED: u64 = 1;
+const POOL: u64 = 6000;
 
 const REMARK: &str = "# answers of the Rust of spade 2.15.1, made by `oracle list`; the format is in oracle/FORMAT.md\n";
 
@@ -32,12 +36,12 @@ fn from_the_papers() -> Vec<Case> {
     ]
 }
 
-/// Few points in most entries, many in some.
+/// Few points in most of the pool, many in some.
 fn most_points(number: u64) -> u64 {
     match number % 100 {
         0 => 200,
-        1..=4 => 80,
-        5..=24 => 30,
+        1..=9 => 80,
+        10..=49 => 30,
         _ => 12,
     }
 }
@@ -56,21 +60,88 @@ fn entry_of(oracle: &mut Oracle, mut case: Case, mut answer: Answer) -> Option<(
     matches!(answer.ending, Ending::Inside { .. }).then_some((case, answer))
 }
 
-/// Whether a generated entry shows something: a point that is added, or a face of the pass.
-fn tells(answer: &Answer) -> bool {
-    let pass_adds = matches!(answer.ending, Ending::Inside { pass: [faces, _], .. } if faces > 0);
-    pass_adds || answer.fates.iter().any(|fate| fate[0] == 1)
+/// A number told exactly while it is small, and roughly beyond.
+fn rough(number: usize) -> usize {
+    match number {
+        0..=4 => number,
+        5..=6 => 5,
+        7..=9 => 7,
+        10..=19 => 10,
+        _ => 20,
+    }
+}
+
+/// What an entry shows. The list has some entries for each feature that is met at all.
+fn features(case: &Case, answer: &Answer) -> Vec<String> {
+    let Ending::Inside { stepped, pass, passed } = &answer.ending else { return Vec::new() };
+    let most = |at: usize| answer.fates.iter().map(|f| f[at] as usize).max().unwrap_or(0);
+    let with_fate = |fate: u32| answer.fates.iter().filter(|f| f[0] == fate).count();
+    let [x, y] = case.centre;
+    let angles = boundary_angles(&built(stepped), Point2::new(x, y));
+    let greatest = passed.positions.iter().flatten().map(|n| n.unsigned_abs()).max().unwrap_or(0);
+    let mut places = stepped.positions.clone();
+    places.sort_unstable();
+    places.dedup();
+    let gaps = angles.iter().zip(angles.iter().cycle().skip(1)).map(|(a, b)| (b - a).rem_euclid(1.0));
+    let mut features = vec![
+        format!("flips {}", rough(most(3))),
+        format!("faces {}", rough(most(2))),
+        format!("pass faces {}", rough(pass[0] as usize)),
+        format!("pass flips {}", rough(pass[1] as usize)),
+        format!("boundary {}", rough(angles.len())),
+        format!("seed faces {}", rough(case.seed.faces.len() - 1)),
+        format!("dropped {}", rough(with_fate(2))),
+        format!("skipped {}", rough(with_fate(3))),
+        format!("coordinates of {} bits", greatest.ilog2().max(1) / 4 * 4),
+    ];
+    let mut note = |holds: bool, feature: &str| features.extend(holds.then(|| feature.to_string()));
+    note(!is_strict(&angles), "equal neighbouring angles");
+    note(angles.contains(&0.0), "an angle of 0.0");
+    note(angles.contains(&1.0), "an angle of 1.0");
+    note(gaps.fold(0.0, f64::max) > 0.5, "the centre outside");
+    note([x, y].iter().any(|c| c.fract() != 0.0), "the centre not whole");
+    note(places.len() < stepped.positions.len(), "two vertices at one position");
+    note(has_left_corner(passed), "a second pass");
+    note(has_unsettled_edge(passed), "an unsettled edge");
+    features
+}
+
+/// From the pool, for each feature from the rarest on, the smallest entries that have it.
+fn chosen(pool: Vec<(Case, Answer)>, wanted: usize) -> Vec<(Case, Answer)> {
+    let mut having: BTreeMap<String, Vec<usize>> = BTreeMap::new();
+    for (at, (case, answer)) in pool.iter().enumerate() {
+        for feature in features(case, answer) {
+            having.entry(feature).or_default().push(at);
+        }
+    }
+    let mut having: Vec<Vec<usize>> = having.into_values().collect();
+    for entries in &mut having {
+        // The smallest with some points or none alike: an entry that adds nothing shows little.
+        entries.sort_by_key(|&at| (pool[at].1.fates.iter().all(|f| f[0] != 1), pool[at].0.size(), at));
+    }
+    having.sort_by_key(|entries| entries.len());
+    let mut taken = BTreeSet::new();
+    for round in 0.. {
+        for entries in &having {
+            if taken.len() < wanted {
+                taken.extend(entries.get(round));
+            }
+        }
+        if taken.len() >= wanted {
+            break;
+        }
+    }
+    let mut pool: Vec<Option<(Case, Answer)>> = pool.into_iter().map(Some).collect();
+    taken.into_iter().filter_map(|at: usize| pool[at].take()).collect()
 }
 
 pub fn entries() -> Vec<(Case, Answer)> {
     let mut oracle = Oracle::default();
     let mut entries: Vec<_> =
         from_the_papers().into_iter().filter_map(|case| entry(&mut oracle, case)).collect();
-    let generated = (0..).map(|number| generate::case(SEED, number, most_points(number)));
-    let mut told = generated.filter_map(|case| entry(&mut oracle, case)).filter(|e| tells(&e.1));
-    while entries.len() < ENTRIES {
-        entries.extend(told.next());
-    }
+    let generated = (0..POOL).map(|number| generate::case(SEED, number, most_points(number)));
+    let pool = generated.filter_map(|case| entry(&mut oracle, case)).collect();
+    entries.extend(chosen(pool, ENTRIES - entries.len()));
     for (number, (case, answer)) in (0..).zip(&mut entries) {
         case.number = number;
         answer.number = number;

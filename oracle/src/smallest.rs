@@ -46,7 +46,7 @@ fn small(random: &mut Random, spread: i32) -> Option<Case> {
 }
 
 /// Whether a corner of the boundary turns left.
-fn has_left_corner(mesh: &Mesh) -> bool {
+pub fn has_left_corner(mesh: &Mesh) -> bool {
     mesh.boundary().into_iter().any(|e| {
         let [n, m] = [mesh.next(e), mesh.next(mesh.next(e))];
         orient(mesh.position(e), mesh.position(n), mesh.position(m)) > 0
@@ -54,7 +54,7 @@ fn has_left_corner(mesh: &Mesh) -> bool {
 }
 
 /// Whether an edge has the far vertex of its second half strictly inside the circle of its first half.
-fn has_unsettled_edge(mesh: &Mesh) -> bool {
+pub fn has_unsettled_edge(mesh: &Mesh) -> bool {
     (0..mesh.half_edges.len() as u32).step_by(2).any(|e| {
         let corners = [e, mesh.next(e), mesh.prev(e), mesh.prev(e + 1)].map(|e| mesh.position(e));
         mesh.face(e) != 0 && mesh.face(e + 1) != 0 && incircle(corners) > 0

@@ -113,12 +113,27 @@ fn list_covers() {
     }
     assert!(count(&|_, a| a.fates.iter().any(|f| f[2] > 2)) > 20);
     assert!(count(&|_, a| a.fates.iter().any(|f| f[3] > 2)) > 20);
-    assert!(pass(0) > 20 && pass(1) > 5);
+    assert!(count(&|_, a| a.fates.iter().any(|f| f[3] >= 8)) > 5);
+    assert!(pass(0) > 20 && pass(1) > 20);
     assert!(count(&|c, _| c.seed.faces.len() == 2) > 50);
     assert!(count(&|c, _| c.seed.faces.len() > 2) > 50);
     assert!(count(&|c, _| c.centre.iter().any(|x| x.fract() != 0.0)) > 50);
     assert!(count(&|c, _| greatest(c) == 16_777_216) > 5);
     assert!(count(&|c, _| (1..=4).contains(&greatest(c))) > 5);
+}
+
+/// The sizes that FORMAT.md promises to a reader of the list.
+#[test]
+fn list_is_small() {
+    let text = include_str!("../answers.txt");
+    assert!(text.len() < 1_000_000);
+    assert!(text.lines().all(|line| line.len() < 8_192));
+    for (_, answer) in stored() {
+        let Ending::Inside { pass, passed, .. } = answer.ending else { panic!("not inside") };
+        assert!(passed.positions.len() <= 100);
+        let flips = answer.fates.iter().map(|f| f[3]).chain([pass[1]]).max().unwrap();
+        assert!(2 + 4 * flips <= 4_096);
+    }
 }
 
 /// Demand 3's invariant at every mesh of the list, and what a pass leaves alone.
