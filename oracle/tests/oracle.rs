@@ -5,7 +5,9 @@ use std::process::{Command, Stdio};
 use oracle::case::{read_list, Answer, Case, Ending};
 use oracle::compare::difference;
 use oracle::delaunay_core::bulk_load::driver::{self, angle, answer, boundary_angles, built};
-use oracle::mesh::{orient, Mesh};
+use oracle::mesh::{orient, Mesh, Position};
+use oracle::random::Random;
+use oracle::smallest::{has_left_corner, has_unsettled_edge};
 use oracle::{generate, list, Point2};
 
 const ORACLE: &str = env!("CARGO_BIN_EXE_oracle");
@@ -80,6 +82,61 @@ fn refusals() {
     assert_eq!(refused(&|c| c.points[0] = [16_777_216, 0]), None);
     assert_eq!(refused(&|c| c.seed.half_edges[0][0] = 4), Some(4));
     assert_eq!(refused(&|c| c.seed.positions.swap(0, 1)), Some(5));
+}
+
+/// A mesh of triangles whose numbers do not matter.
+fn mesh_of(positions: &[Position], triangles: &[[u32; 3]]) -> Mesh {
+    Mesh::of_triangles(positions, triangles, &mut Random::new(0, 0)).unwrap()
+}
+
+/// The smallest inputs of docs/DIFFERENCES.md that are listings, as they stand there.
+#[test]
+fn differences_in_listings() {
+    let fate_4 = "S -1 -2 0 -1 0 0\nC -1 0\nP 2 0\n";
+    assert!(printed(&["listing"], fate_4).starts_with("x 4 0\n"));
+    assert!(printed(&["beyond"], fate_4).starts_with("p 0 1 3 2 0\nt 4 "));
+    let second_pass = "S -2 -2 0 -1 -1 2\nC 0 -2\nP 2 -2\nP 1 -1\n";
+    assert!(printed(&["listing"], second_pass).ends_with("t 5 8 4 15 1 0\n"));
+    let Ending::Inside { passed, .. } = answer(&list::listed(second_pass).unwrap(), true).ending else {
+        panic!("not inside")
+    };
+    assert!(has_left_corner(&passed));
+    let refused = |text: &str| printed(&["listing"], text);
+    let beyond = |text: &str| printed(&["beyond"], text);
+    assert_eq!(refused("S 0 0 1 0 0 1\nC 0 0\nP 16777217 0\n"), "x 6 3\n");
+    assert_eq!(refused("S 0 0 0 1 1 0\nC 0 0\n"), "x 6 5\n");
+    assert_eq!(refused("S 0 0 1 0 0 1\nC 0 0\n"), "x 6 6\n");
+    assert_eq!(beyond("S 0 0 1 0 0 1\nC 0 0\n"), "x 7 0\n");
+    assert_eq!(refused("S -1 0 0 0 0 1\nC 0 -1\n"), "x 6 7\n");
+    assert_eq!(beyond("S -1 0 0 0 0 1\nC 0 -1\n"), "x 7 0\n");
+    assert!(refused("S 0 1 -1 0 0 0\nC 2 1\nP 0 0\n").starts_with("x 6 7\n"));
+    assert!(beyond("S 0 1 -1 0 0 0\nC 2 1\nP 0 0\n").starts_with("x 1 0\n"));
+}
+
+/// The others: an edge that the Rust leaves unsettled, the fan of eight flips, a ring that is sound and
+/// not strict.
+#[test]
+fn differences_of_other_seeds() {
+    let seed = mesh_of(&[[-1, -1], [1, 1], [0, 1], [1, 0]], &[[0, 1, 2], [1, 0, 3]]);
+    assert!(has_unsettled_edge(&seed));
+    let case = Case { number: 0, seed: seed.clone(), centre: [0.25, 0.25], points: vec![] };
+    let ending = Ending::Inside { stepped: seed.clone(), pass: [0, 0], passed: seed };
+    assert_eq!(answer(&case, true).ending, ending);
+
+    let positions: Vec<Position> =
+        [[0, 0]].into_iter().chain((0..9).map(|i| [-4 * i, 40])).collect();
+    let triangles: Vec<[u32; 3]> = (0..8).map(|i| [0, i + 1, i + 2]).collect();
+    let seed = mesh_of(&positions, &triangles);
+    let case = Case { number: 0, seed, centre: [-6.0, 30.0], points: vec![[1, 6]] };
+    assert_eq!(answer(&case, true).fates, [[1, 10, 1, 8]]);
+
+    let seed = Mesh::triangle([[-1, 0], [1, -1], [0, 0]]);
+    let case = Case { number: 0, seed, centre: [-0.5, 0.0], points: vec![[1, 0], [3, 5]] };
+    let answered = answer(&case, true);
+    assert!(answered.fates.iter().all(|fate| fate[0] == 1));
+    let Ending::Inside { stepped, .. } = answer(&case.cut(1), true).ending else { panic!("not inside") };
+    let angles = boundary_angles(&built(&stepped), Point2::new(-0.5, 0.0));
+    assert!(driver::is_sound(&angles) && !driver::is_strict(&angles));
 }
 
 #[test]
