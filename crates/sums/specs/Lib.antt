@@ -9,3 +9,4 @@ pub mod Half
 pub mod Store
 pub mod Tally
 pub mod Until
+pub mod Orbits
