@@ -2,6 +2,7 @@ pub mod Mesh
 pub mod Operations
 pub mod Wf
 pub mod Rules
+pub mod WfParts
 pub mod RulesWf
 -- The half-edge mesh: its rules, its operations, and that they keep the rules.
 pub mod Cases

@@ -17,6 +17,10 @@ unfoldable pub orbitTotal : ℕ → (ℕ → ℕ) → (ℕ → ℕ) → ℕ → 
 orbitTotal n f r zero = zero
 orbitTotal n f r (suc m) = orbitTotal n f r m + period-below n f (r m)
 
+pub orbit-total-zero : (n : ℕ) (f r : ℕ → ℕ) → orbitTotal n f r 0 ≡ 0
+unfolding orbitTotal
+orbit-total-zero n f r = refl
+
 pub orbit-total-suc : (n : ℕ) (f r : ℕ → ℕ) (m : ℕ) → orbitTotal n f r (suc m) ≡ orbitTotal n f r m + period-below n f (r m)
 unfolding orbitTotal
 orbit-total-suc n f r m = refl
