@@ -5,7 +5,7 @@ use mathlib.Core.Path.{_≡_, refl, sym, _∙_}
 use mathlib.Core.Logic.{_≢_, _⊎_, ⊎-elim, inl, inr}
 use mathlib.Core.List.{List, [], _∷_}
 use Rattle.mesh.specs.declared.Counts.{Counts}
-use Rattle.mesh.specs.Mesh.{Links, In, turn}
+use Rattle.mesh.specs.Mesh.{Links, In, to, turn}
 use Rattle.mesh.specs.Operations.{flipBetween, flipCw}
 use Rattle.mesh.specs.Wf.{Wf, Ranges, Linked, Faces, Vertices}
 use Rattle.mesh.specs.Cases.{given}
@@ -27,6 +27,7 @@ pub record Flippable (C : Counts) (L : Links) (u : ℕ) : Type 0 where
 
 -- What a flip leaves, and the corners of the two faces after it: c is the vertex across from the edge ab in the face of e, d in that of t.
 pub record FlipFrame (C : Counts) (L L′ : Links) (e t a b c d : ℕ) : Type 0 where
+  pub ends : {x : ℕ} → x ≢ e → x ≢ t → (L′ .origin x ≡ L .origin x) × (to L′ x ≡ to L x)
   pub other : {x : ℕ} → L .face x ≢ L .face e → L .face x ≢ L .face t → Keeps L L′ x
   pub boundary : SameBoundary C L L′
   pub others : {f : ℕ} → f < C .faces → f ≢ L .face e → f ≢ L .face t → SameFace L L′ f
@@ -238,6 +239,7 @@ module _ {C : Counts} {L L′ : Links} {e en ep t tn tp : ℕ} (W : Wf C L) (A :
 
   pub flipped-frame : FlipFrame C L L′ e t (L .origin e) (L .origin t) (L .origin ep) (L .origin tp)
   flipped-frame = let k₁ = keep far-en in let k₂ = keep far-ep in let k₃ = keep far-tn in let k₄ = keep far-tp in record {
+    ends = λ n m. keep (n, m);
     other = other;
     boundary = record {
       keeps = λ _ z. outer z;

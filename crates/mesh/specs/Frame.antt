@@ -4,9 +4,10 @@ use Prim.Native.Nat.{ℕ, _<_}
 use mathlib.Core.Path.{_≡_, refl, sym, _∙_}
 use mathlib.Core.Logic.{_⊎_, ⊎-elim, inl, inr}
 use Rattle.mesh.specs.declared.Counts.{Counts}
-use Rattle.mesh.specs.Mesh.{Links, In, to}
+use Rattle.mesh.specs.Mesh.{Links, In, to, turn}
 use Rattle.mesh.specs.Wf.{Wf}
-use Rattle.mesh.specs.Triangle.{Triangle, triangle}
+use Rattle.mesh.specs.Triangle.{Triangle, triangle, rev-in}
+use Rattle.sums.specs.Iterate.{Reach, reach-by}
 
 -- the half-edge x keeps its links and its two ends
 pub record Keeps (L L′ : Links) (x : ℕ) : Type 0 where
@@ -78,3 +79,14 @@ module _ {C : Counts} {L : Links} (W : Wf C L) where
       go T (inl p) = cc (k .first, k .second, k .third)
       go T (inr (inl p)) = cc (k .first, k .second, k .third, r a b c)
       go T (inr (inr p)) = cc (k .first, k .second, k .third, r c a b)
+
+  -- an inner face keeps its half-edges, where inner half-edges keep their links
+  pub kept-face : {L′ : Links} → ((x : ℕ) → In C x → 0 < L .face x → Keeps L L′ x) → {f : ℕ} → 0 < f → f < C .faces → L′ .adjacent f ≡ L .adjacent f → SameFace L L′ f
+  kept-face k {f} z l a =
+      let i : 0 < L .face (L .adjacent f) = rw (W .faces .stored l) z in
+      let T = triangle W (W .ranges .adjacent< l) i in
+      record { adjacent = a; first = k _ (T .in-a) i; second = k _ (T .in-b) (rw (T .face-b) i); third = k _ (T .in-c) (rw (T .face-c) i) }
+
+  -- half-edges about one vertex meet each other still, where each comes to the one that it turned to
+  pub still-round : (L′ : Links) → ((x : ℕ) → In C x → Reach (turn L′) x (turn L x)) → {x y : ℕ} → In C x → In C y → L .origin x ≡ L .origin y → Reach (turn L′) x y
+  still-round L′ t h k p = reach-by (In C) (λ z. z) (λ z l. rev-in C (W .ranges .prev< l)) t h (W .about .round h k p)

@@ -15,3 +15,8 @@ pub mod BoundaryLaws
 pub mod CountsLaws
 pub mod AreaLaws
 pub mod LeftLaws
+pub mod FaceBetween
+pub mod SingleFace
+pub mod FaceAdjacent
+pub mod NewFace
+pub mod Examples

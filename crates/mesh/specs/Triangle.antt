@@ -1,16 +1,14 @@
 -- The three half-edges of an inner face, and four half-edges of the outer face, each after the one before. Assumes nothing.
 use Prim.Native.Nat.{ℕ, _<_}
-use native.Mathlib.Omega.{arith}
 use mathlib.Core.Path.{_≡_, refl, sym}
 use mathlib.Core.Logic.{_≢_, _⊎_, ⊎-elim, inl, inr}
 use Rattle.mesh.specs.declared.Counts.{Counts}
 use Rattle.mesh.specs.Mesh.{Links, In, to}
 use Rattle.mesh.specs.Wf.{Wf}
-use Rattle.sums.specs.Half.{rev, rev-rev, rev-ne}
+use Rattle.sums.specs.Half.{rev, rev-rev, rev-ne, rev-below}
 
 pub rev-in : (C : Counts) {e : ℕ} → In C e → In C (rev e)
-unfolding rev
-rev-in C h = omega arith
+rev-in C h = rev-below (C .edges) h
 
 -- a, b and c are the half-edges of one cycle of three, in their order
 pub record Triangle (C : Counts) (L : Links) (a b c : ℕ) : Type 0 where
@@ -106,11 +104,6 @@ pub record Outer (C : Counts) (L : Links) (p e n q : ℕ) : Type 0 where
   pub to-p : to L p ≡ L .origin e
   pub to-e : to L e ≡ L .origin n
   pub to-n : to L n ≡ L .origin q
-  pub p-e : p ≢ e
-  pub p-n : p ≢ n
-  pub e-n : e ≢ n
-  pub e-q : e ≢ q
-  pub n-q : n ≢ q
 
 pub outer : {C : Counts} {L : Links} → Wf C L → {e : ℕ} → In C e → L .face e ≡ 0 → Outer C L (L .prev e) e (L .next e) (L .next (L .next e))
 outer {C} {L} W {e} h z =
@@ -139,9 +132,21 @@ outer {C} {L} W {e} h z =
       to-p = cc;
       to-e = sym (W .links .origin-next h);
       to-n = sym (W .links .origin-next hn);
-      p-e = λ k. W .faces .apart hp (cc);
-      p-n = λ k. W .faces .wide hp (cc) (cc);
-      e-n = λ k. W .faces .apart h (cc);
-      e-q = λ k. W .faces .wide h z (cc);
-      n-q = λ k. W .faces .apart hn (cc);
     }
+
+-- the four differ, but for p and q: these are one where the boundary has three edges
+module _ {C : Counts} {L : Links} {p e n q : ℕ} (W : Wf C L) (A : Outer C L p e n q) where
+  pub p-e : p ≢ e
+  p-e k = W .faces .apart (A .in-p) (cc)
+
+  pub e-n : e ≢ n
+  e-n k = W .faces .apart (A .in-e) (cc)
+
+  pub n-q : n ≢ q
+  n-q k = W .faces .apart (A .in-n) (cc)
+
+  pub p-n : p ≢ n
+  p-n k = W .faces .wide (A .in-p) (A .face-p) (cc)
+
+  pub e-q : e ≢ q
+  e-q k = W .faces .wide (A .in-e) (A .face-e) (cc)
