@@ -2,11 +2,11 @@
 -- `orient2d` and `incircle` are the determinants of J. R. Shewchuk, "Adaptive Precision Floating-Point Arithmetic and Fast Robust Geometric Predicates", 1997.
 -- 01: "`robust::orient2d` and `robust::incircle` mean the exact sign of Shewchuk's determinants", "Left is strictly positive."
 -- A formula is written once, over any numbers R with a sum, a difference, a product and a one: at ℤ it is what a contract says, and at the expressions `E` what the ring solver computes with.
-use mathlib.Core.Bool.{Bool}
+use mathlib.Core.Bool.{Bool, true, false, _&&_}
 use Prim.Native.Nat.{ℕ, zero, suc, _≤_}
 use lib.Dec.{leb}
 use lib.IntN.{ℤ, pos, negsuc, natAbs, _+ℤ_, _-ℤ_, _*ℤ_}
-use lib.Signed.{ltZ}
+use lib.Signed.{ltZ, leZ}
 use Rattle.math.specs.declared.Point.{Point}
 use Rattle.math.specs.declared.LineSideInfo.{LineSideInfo}
 use Rattle.math.specs.declared.LineSideInfo.the-variants.{OnLeftSide, OnRightSide, OnLine}
@@ -112,6 +112,30 @@ sideOf (pos zero) = OnLine
 sideOf (pos (suc n)) = OnLeftSide
 sideOf (negsuc n) = OnRightSide
 
+abbrev pub isOnLeftSide : LineSideInfo → Bool
+isOnLeftSide OnLeftSide = true
+isOnLeftSide OnRightSide = false
+isOnLeftSide OnLine = false
+
+abbrev pub isOnRightSide : LineSideInfo → Bool
+isOnRightSide OnLeftSide = false
+isOnRightSide OnRightSide = true
+isOnRightSide OnLine = false
+
+abbrev pub isOnLine : LineSideInfo → Bool
+isOnLine OnLeftSide = false
+isOnLine OnRightSide = false
+isOnLine OnLine = true
+
+abbrev pub reverseOf : LineSideInfo → LineSideInfo
+reverseOf OnLeftSide = OnRightSide
+reverseOf OnRightSide = OnLeftSide
+reverseOf OnLine = OnLine
+
+-- math.rs: `is_ordered_ccw` is `side_query(..).is_on_left_side_or_on_line()`
+abbrev pub isOrderedCcw : Point → Point → Point → Bool
+isOrderedCcw p1 p2 q = leZ (pos 0) (orient2d p1 p2 q)
+
 -- 01: "strictly inside the circle"
 abbrev pub containedInCircumference : Point → Point → Point → Point → Bool
 containedInCircumference v1 v2 v3 p = ltZ (pos 0) (incircle v1 v2 v3 p)
@@ -123,6 +147,9 @@ isBehindEdge e1 e2 q = ltZ (length2 e1 e2) (factor e1 e2 q)
 -- ---- 01, refusal 3: "a coordinate is outside -16,777,216..16,777,216"
 abbrev pub isValidCoordinate : ℤ → Bool
 isValidCoordinate z = leb (natAbs z) 16777216
+
+abbrev pub isValidVertex : Point → Bool
+isValidVertex p = isValidCoordinate (p .x) && isValidCoordinate (p .y)
 
 pub record InRange (p : Point) : Type 0 where
   pub x : natAbs (p .x) ≤ 16777216

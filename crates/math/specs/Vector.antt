@@ -1,6 +1,6 @@
 -- Differences of points, as the code computes with them: their sizes, and the determinants by their products.
 -- Assumes nothing.
-use mathlib.Core.Path.{_≡_, refl, sym, _∙_, ap, ap₂}
+use mathlib.Core.Path.{_≡_, refl, sym, _∙_, ap, ap₂, subst}
 use mathlib.Core.List.{List, [], _∷_}
 use Prim.Native.Nat.{ℕ, _≤_}
 use native.Mathlib.Omega.{arith}
@@ -33,6 +33,9 @@ difference-short {p} {q} h k = record { x = sub-abs (p .x) (q .x) (h .x) (k .x);
     sub-abs : (a b : ℤ) → natAbs a ≤ 16777216 → natAbs b ≤ 16777216 → natAbs (a -ℤ b) ≤ 33554432
     sub-abs a b h k = within {ρ = a ∷ b ∷ []} (h ∷ᵉ k ∷ᵉ []ᵉ) (var 0 ⊖ var 1)
 
+pub short : {u : Vector} {p q : Point} → u ≡ difference p q → InRange p → InRange q → Short u
+short e h k = subst Short (sym e) (difference-short h k)
+
 module _ {u v : Vector} (h : Short u) (k : Short v) where
   shorts : Env (u .x ∷ u .y ∷ v .x ∷ v .y ∷ []) (33554432 ∷ 33554432 ∷ 33554432 ∷ 33554432 ∷ [])
   shorts = h .x ∷ᵉ h .y ∷ᵉ k .x ∷ᵉ k .y ∷ᵉ []ᵉ
@@ -53,11 +56,15 @@ orient2d-vectors a b c =
     ring (env3 a b c) (det2 E· (u .x, u .y) (v .x, v .y)) (Orient2d E· A B C) refl
 
 -- `incircle` by two products, where the determinant has three: the angles at c and at d over the edge a b
-pub incircle-vectors : (a b c d : Point) → let u = difference a c in let v = difference b c in let s = difference a d in let t = difference b d in crossOf v u *ℤ dotOf s t +ℤ dotOf u v *ℤ crossOf s t ≡ incircle a b c d
+incircle-vectors : (a b c d : Point) → let u = difference a c in let v = difference b c in let s = difference a d in let t = difference b d in crossOf v u *ℤ dotOf s t +ℤ dotOf u v *ℤ crossOf s t ≡ incircle a b c d
 unfolding crossOf dotOf difference incircle
 incircle-vectors a b c d =
     let u = Minus E· A C in let v = Minus E· B C in let s = Minus E· A D in let t = Minus E· B D in
     ring (env a b c d) (det2 E· (v .x, v .y) (u .x, u .y) ⊗ Dot E· s t ⊕ Dot E· u v ⊗ det2 E· (s .x, s .y) (t .x, t .y)) (Incircle E· A B C D) refl
+
+pub incircle-by : (a b c d : Point) {u v s t : Vector} → u ≡ difference a c → v ≡ difference b c → s ≡ difference a d → t ≡ difference b d → crossOf v u *ℤ dotOf s t +ℤ dotOf u v *ℤ crossOf s t ≡ incircle a b c d
+incircle-by a b c d eu ev es et =
+    ap₂ _+ℤ_ (ap₂ _*ℤ_ (ap₂ crossOf ev eu) (ap₂ dotOf es et)) (ap₂ _*ℤ_ (ap₂ dotOf eu ev) (ap₂ crossOf es et)) ∙ incircle-vectors a b c d
 
 pub factor-vectors : (p1 p2 q : Point) → dotOf (difference q p1) (difference p2 p1) ≡ factor p1 p2 q
 unfolding dotOf difference factor

@@ -1,10 +1,9 @@
-// Exact tests on points whose coordinates are within ±16,777,216, in 64-bit whole numbers: math.rs, line_side_info.rs and point.rs of spade.
-// What each answers is an equation with a definition of `specs/Determinant.antt`.
+// Exact tests on points whose coordinates are within ±16,777,216, in 64-bit whole numbers: math.rs, line_side_info.rs and point.rs of spade 2.15.1.
+// What each function answers is an equation with a definition of `specs/Determinant.antt`.
 ghost use mathlib.Core.Path.{_≡_};
-ghost use mathlib.Core.Bool.{true, false};
-ghost use Rattle.math.specs.Determinant.{InRange, orient2d, sideOf, containedInCircumference, isBehindEdge, isValidCoordinate};
+ghost use mathlib.Core.Bool.{not};
+ghost use Rattle.math.specs.Determinant.{InRange, orient2d, sideOf, isOnLeftSide, isOnRightSide, isOnLine, reverseOf, containedInCircumference, isOrderedCcw, isBehindEdge, isValidCoordinate, isValidVertex};
 ghost use Rattle.math.specs.Vector.{Short, difference, dotOf, crossOf};
-ghost use lib.IntN.{pos, _+ℤ_, _*ℤ_};
 
 mod wide;
 
@@ -55,6 +54,68 @@ impl Vector {
     }
 }
 
+impl LineSideInfo {
+    pub fn is_on_left_side(self) -> bool
+        ensures { λ r. ⌜ r ≡ isOnLeftSide self ⌝ }
+    {
+        match self {
+            LineSideInfo::OnLeftSide => true,
+            LineSideInfo::OnRightSide => false,
+            LineSideInfo::OnLine => false,
+        }
+    }
+
+    pub fn is_on_right_side(self) -> bool
+        ensures { λ r. ⌜ r ≡ isOnRightSide self ⌝ }
+    {
+        match self {
+            LineSideInfo::OnLeftSide => false,
+            LineSideInfo::OnRightSide => true,
+            LineSideInfo::OnLine => false,
+        }
+    }
+
+    pub fn is_on_line(self) -> bool
+        ensures { λ r. ⌜ r ≡ isOnLine self ⌝ }
+    {
+        match self {
+            LineSideInfo::OnLeftSide => false,
+            LineSideInfo::OnRightSide => false,
+            LineSideInfo::OnLine => true,
+        }
+    }
+
+    pub fn is_on_left_side_or_on_line(self) -> bool
+        ensures { λ r. ⌜ r ≡ not (isOnRightSide self) ⌝ }
+    {
+        match self {
+            LineSideInfo::OnLeftSide => true,
+            LineSideInfo::OnRightSide => false,
+            LineSideInfo::OnLine => true,
+        }
+    }
+
+    pub fn is_on_right_side_or_on_line(self) -> bool
+        ensures { λ r. ⌜ r ≡ not (isOnLeftSide self) ⌝ }
+    {
+        match self {
+            LineSideInfo::OnLeftSide => false,
+            LineSideInfo::OnRightSide => true,
+            LineSideInfo::OnLine => true,
+        }
+    }
+
+    pub fn reversed(self) -> LineSideInfo
+        ensures { λ r. ⌜ r ≡ reverseOf self ⌝ }
+    {
+        match self {
+            LineSideInfo::OnLeftSide => LineSideInfo::OnRightSide,
+            LineSideInfo::OnRightSide => LineSideInfo::OnLeftSide,
+            LineSideInfo::OnLine => LineSideInfo::OnLine,
+        }
+    }
+}
+
 // Twice the signed area of the triangle p1 p2 q: positive where q lies left of the line from p1 to p2.
 pub fn orient2d(p1: Point, p2: Point, q: Point) -> i64
     requires { ⌜ InRange p1 × InRange p2 × InRange q ⌝ }
@@ -63,4 +124,73 @@ pub fn orient2d(p1: Point, p2: Point, q: Point) -> i64
     let u = p2.sub(p1);
     let v = q.sub(p1);
     u.cross(v)
+}
+
+// On which side of the line from p1 to p2 the point q lies.
+pub fn side_query(p1: Point, p2: Point, q: Point) -> LineSideInfo
+    requires { ⌜ InRange p1 × InRange p2 × InRange q ⌝ }
+    ensures { λ r. ⌜ r ≡ sideOf (orient2d p1 p2 q) ⌝ }
+{
+    let area = orient2d(p1, p2, q);
+    if area > 0 {
+        LineSideInfo::OnLeftSide
+    } else if area < 0 {
+        LineSideInfo::OnRightSide
+    } else {
+        LineSideInfo::OnLine
+    }
+}
+
+// Whether p1 p2 q turns left or not at all.
+pub fn is_ordered_ccw(p1: Point, p2: Point, q: Point) -> bool
+    requires { ⌜ InRange p1 × InRange p2 × InRange q ⌝ }
+    ensures { λ r. ⌜ r ≡ isOrderedCcw p1 p2 q ⌝ }
+{
+    side_query(p1, p2, q).is_on_left_side_or_on_line()
+}
+
+// Whether p lies strictly inside the circle of v1, v2 and v3, which turn left. The determinant by two products, where Shewchuk's has three.
+pub fn contained_in_circumference(v1: Point, v2: Point, v3: Point, p: Point) -> bool
+    requires { ⌜ InRange v1 × InRange v2 × InRange v3 × InRange p ⌝ }
+    ensures { λ r. ⌜ r ≡ containedInCircumference v1 v2 v3 p ⌝ }
+{
+    let u = v1.sub(v3);
+    let v = v2.sub(v3);
+    let s = v1.sub(p);
+    let t = v2.sub(p);
+    wide::sum_sign(v.cross(u), s.dot(t), u.dot(v), s.cross(t)) > 0
+}
+
+// Whether the projection of q on the line from e1 to e2 lies behind e2.
+pub fn is_behind_edge(e1: Point, e2: Point, q: Point) -> bool
+    requires { ⌜ InRange e1 × InRange e2 × InRange q ⌝ }
+    ensures { λ r. ⌜ r ≡ isBehindEdge e1 e2 q ⌝ }
+{
+    let dir = e2.sub(e1);
+    let to = q.sub(e1);
+    to.dot(dir) > dir.dot(dir)
+}
+
+// Whether a coordinate is within ±16,777,216.
+pub fn validate_coordinate(value: i32) -> bool
+    ensures { λ r. ⌜ r ≡ isValidCoordinate value ⌝ }
+{
+    if value > 16777216 {
+        return false;
+    }
+    if value < -16777216 {
+        return false;
+    }
+    true
+}
+
+// Whether both coordinates are.
+pub fn validate_vertex(p: Point) -> bool
+    ensures { λ r. ⌜ r ≡ isValidVertex p ⌝ }
+{
+    if validate_coordinate(p.x) {
+        validate_coordinate(p.y)
+    } else {
+        false
+    }
 }

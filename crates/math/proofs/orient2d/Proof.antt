@@ -1,9 +1,9 @@
 -- `math::orient2d` meets its contract: the cross product of the differences from p1 is the determinant.
 -- Assumes nothing.
-use mathlib.Core.Path.{_≡_, sym, _∙_, ap₂, subst}
+use mathlib.Core.Path.{_≡_, _∙_, ap₂}
 use mir.Facts.{toZ-ofZ}
 use borrow.Author.Needs.{needs, sfits-of}
-use Rattle.math.specs.Vector.{Short, crossOf, difference-short, orient2d-vectors}
+use Rattle.math.specs.Vector.{crossOf, short, orient2d-vectors}
 use Rattle.math.proofs.orient2d.Statement.{statement}
 use Rattle.math.proofs.orient2d.Tie as tie
 
@@ -16,7 +16,7 @@ sub-requires-2 c κs = search needs
 cross-requires : tie.Need-cross-requires
 cross-requires c κs =
     let p = c .before .before .pre in
-    (subst Short (sym (c .before .sub .ensures)) (difference-short (p .1) (p .0)), subst Short (sym (c .sub2 .ensures)) (difference-short (p .2) (p .0)))
+    (short (c .before .sub .ensures) (p .1) (p .0), short (c .sub2 .ensures) (p .2) (p .0))
 
 returns : tie.Need-returns
 returns c =
