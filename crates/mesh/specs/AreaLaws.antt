@@ -5,20 +5,20 @@ use mathlib.Core.List.{[], _∷_}
 use Prim.Native.Nat.{ℕ, suc, _+_, _-_, _*_, _<_}
 use native.Mathlib.Omega.{arith}
 use lib.Dec.{eqb}
-use lib.IntN.{ℤ, pos, negℤ, _+ℤ_, _-ℤ_, +ℤ-idl, negℤ-negℤ}
-use Rattle.algebra.specs.Ring.{E, num, var, _⊕_, _⊖_, _⊗_, ⊝_, v0, v1, v2, v3, ring}
+use lib.IntN.{ℤ, pos, negℤ, _+ℤ_, +ℤ-idl, negℤ-negℤ}
+use Rattle.algebra.specs.Ring.{num, _⊕_, _⊖_, _⊗_, ⊝_, v0, v1, v2, v3, ring}
 use Rattle.algebra.specs.Sign.{eq-in, eq-by, _+⁰_}
 use Rattle.math.specs.declared.Point.{Point}
 use Rattle.math.specs.Determinant.{orient2d}
 use Rattle.math.specs.Plane.{orient2d-cross}
-use Rattle.sums.specs.Half.{rev, rev-even, rev-odd}
+use Rattle.sums.specs.Half.{rev-even, rev-odd}
 use Rattle.sums.specs.Iterate.{iter, iter-last, iter-keeps, period-three}
 use Rattle.sums.specs.Sum.{sum, sum-ext, sum-neg, sum-none, sum-pairs, only}
 use Rattle.mesh.specs.declared.Counts.{Counts}
 use Rattle.mesh.specs.Mesh.{Links, In}
 use Rattle.mesh.specs.Wf.{Wf}
 use Rattle.mesh.specs.Area.{boundaryLength, boundaryArea, cross, atCorners, overFaces, areaTotal}
-use Rattle.mesh.specs.BoundaryLaws.{next-inverse, first<, first-outer, boundary-period, inner-stored, three-back, outer-period, by-face, along-next, along-prev}
+use Rattle.mesh.specs.BoundaryLaws.{first<, first-outer, boundary-period, inner-stored, three-back, outer-period, by-face, along-next, along-prev}
 
 pub cross-back : (a b : Point) → cross a b ≡ negℤ (cross b a)
 unfolding cross

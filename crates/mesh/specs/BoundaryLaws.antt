@@ -1,14 +1,13 @@
 -- The boundary of a mesh that keeps the rules: one cycle of `boundaryLength` half-edges, at least three, that holds every half-edge of face 0.
 -- A sum over all half-edges goes along the boundary and then face by face. Assumes nothing.
-use mathlib.Core.Path.{_≡_, refl, sym, _∙_, ap, ap₂, subst}
-use mathlib.Core.Logic.{_≢_, _⊎_, inl, inr}
+use mathlib.Core.Path.{_≡_, refl, sym, _∙_, ap}
+use mathlib.Core.Logic.{_⊎_, inl, inr}
 use Prim.Native.Nat.{ℕ, zero, suc, _-_, _*_, _<_, _≤_}
 use native.Mathlib.Decide.{ℕ-discrete}
 use native.Mathlib.Omega.{arith}
 use lib.Dec.{eqb}
 use lib.IntN.{ℤ, pos, _+ℤ_, +ℤ-idl}
-use Rattle.sums.specs.Half.{rev, rev-below}
-use Rattle.sums.specs.Iterate.{iter, iter-keeps, iter-back, Reach, reach-back, reach-trans, reach-on, Inverse, inverse-sym, Period, period-is, period-le, period-listed, period-three, period-reach, period-unique}
+use Rattle.sums.specs.Iterate.{iter, iter-keeps, iter-back, Reach, reach-back, reach-on, Inverse, inverse-sym, Period, period-is, period-le, period-listed, period-three, period-reach}
 use Rattle.sums.specs.Listed.{On}
 use Rattle.sums.specs.Sum.{sum, sum-ext, sum-first, sum-along, sum-classes, only, only-yes, only-no}
 use Rattle.mesh.specs.declared.Counts.{Counts}

@@ -1,12 +1,12 @@
 -- How many edges and faces a mesh that keeps the rules has, by its vertices and its boundary's length. So rows of 6N half-edges and 2N faces hold every
 -- mesh of at most N vertices, with room for what an operation adds. Assumes nothing.
 use mathlib.Core.Path.{_≡_, sym, _∙_, ap, ap₂}
-use Prim.Native.Nat.{ℕ, _+_, _-_, _*_, _<_, _≤_}
+use Prim.Native.Nat.{ℕ, _+_, _-_, _*_, _≤_}
 use native.Mathlib.Nat.{mul-one}
 use native.Mathlib.Omega.{arith}
 use lib.IntN.{ℤ, pos, _+ℤ_, natAbs}
 use Rattle.sums.specs.Half.{rev-below}
-use Rattle.sums.specs.Sum.{sum, sum-const}
+use Rattle.sums.specs.Sum.{sum-const}
 use Rattle.mesh.specs.declared.Counts.{Counts}
 use Rattle.mesh.specs.Mesh.{Links}
 use Rattle.mesh.specs.Wf.{Wf}

@@ -20,3 +20,9 @@ pub mod SingleFace
 pub mod FaceAdjacent
 pub mod NewFace
 pub mod Examples
+pub mod AreaCorners
+pub mod HeightLaws
+pub mod Good
+pub mod GoodLaws
+pub mod BoundarySequence
+pub mod AreaExamples

@@ -5,10 +5,10 @@ use mathlib.Core.Logic.{_≢_, _⊎_, inl, inr}
 use mathlib.Core.Bool.{Bool, true, false, not, _&&_, _||_}
 use Prim.Native.Nat.{ℕ, zero, suc, _+_, _-_, _<_, _≤_}
 use native.Mathlib.Decide.{ℕ-discrete, decLt}
-use native.Mathlib.Nat.{le-refl, le-trans, suc-add, zero-add, add-zero, add-suc}
+use native.Mathlib.Nat.{le-refl, add-zero, add-suc}
 use native.Mathlib.Omega.{arith}
-use lib.Dec.{T, eqb, eqb→eq, T-not, not-T}
-use Rattle.sums.specs.Bit.{bit, bit-yes, bit-no, bit-le, test, test-ext, sure, eq-test, and-left, and-right, and-both, or-cases, or-left, or-right}
+use lib.Dec.{T, eqb, ltb, leb, eqb→eq, ltb→lt, leb→le, T-not, not-T}
+use Rattle.sums.specs.Bit.{bit, bit-yes, bit-no, bit-le, test-ext, sure, eq-test, eq?, and-left, and-right, and-both, or-cases, or-left, or-right}
 use Rattle.sums.specs.Put.{put, put-same, put-other}
 
 -- what holds below n and at n holds below n + 1
@@ -33,6 +33,19 @@ pub all-below← : (n : ℕ) (p : ℕ → Bool) → ((i : ℕ) → i < n → T (
 unfolding all-below
 all-below← zero p h = tt
 all-below← (suc n) p h = and-both (p n) (all-below n p) (h n (le-refl (suc n))) (all-below← n p (λ i l. h i (omega arith)))
+
+-- rules of one table against another, each by one test
+pub all-eq : (n : ℕ) (f g : ℕ → ℕ) → T (all-below n (λ i. eqb (f i) (g i))) → (i : ℕ) → i < n → f i ≡ g i
+all-eq n f g t i l = eqb→eq (f i) (g i) (all-below→ n (λ i. eqb (f i) (g i)) t i l)
+
+pub all-ne : (n : ℕ) (f g : ℕ → ℕ) → T (all-below n (λ i. not (eqb (f i) (g i)))) → (i : ℕ) → i < n → f i ≢ g i
+all-ne n f g t i l = eq? (f i) (g i) .1 (all-below→ n (λ i. not (eqb (f i) (g i))) t i l)
+
+pub all-lt : (n : ℕ) (f g : ℕ → ℕ) → T (all-below n (λ i. ltb (f i) (g i))) → (i : ℕ) → i < n → f i < g i
+all-lt n f g t i l = ltb→lt (f i) (g i) (all-below→ n (λ i. ltb (f i) (g i)) t i l)
+
+pub all-le : (n : ℕ) (f g : ℕ → ℕ) → T (all-below n (λ i. leb (f i) (g i))) → (i : ℕ) → i < n → f i ≤ g i
+all-le n f g t i l = leb→le (f i) (g i) (all-below→ n (λ i. leb (f i) (g i)) t i l)
 
 -- ---- one of them passes
 unfoldable pub any-below : ℕ → (ℕ → Bool) → Bool

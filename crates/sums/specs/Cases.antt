@@ -1,5 +1,5 @@
 -- A statement about every number, shown at those of a short list one by one and at the others at once: `each`. Assumes nothing.
-use mathlib.Core.Path.{_≡_, refl, sym, subst⁻¹}
+use mathlib.Core.Path.{_≡_, subst⁻¹}
 use mathlib.Core.Logic.{_≢_, _⊎_, inl, inr}
 use mathlib.Core.List.{List, [], _∷_}
 use Prim.Native.Nat.{ℕ}
@@ -12,8 +12,7 @@ All P (a ∷ l) = P a × All P l
 
 -- x is none of l
 abbrev pub None : ℕ → List ℕ → Type 0
-None x [] = Unit {0}
-None x (a ∷ l) = (x ≢ a) × None x l
+None x l = All (λ a. x ≢ a) l
 
 -- x is one of l
 abbrev pub Some : ℕ → List ℕ → Type 0
@@ -52,3 +51,7 @@ pub all-at : (P : ℕ → Type 0) (l : List ℕ) → All P l → (x : ℕ) → S
 all-at P [] p x s = absurd s
 all-at P (a ∷ l) p x (inl e) = subst⁻¹ P e (p .0)
 all-at P (a ∷ l) p x (inr s) = all-at P l (p .1) x s
+
+pub all-map : (P Q : ℕ → Type 0) → ((x : ℕ) → P x → Q x) → (l : List ℕ) → All P l → All Q l
+all-map P Q f [] p = tt
+all-map P Q f (a ∷ l) p = (f a (p .0), all-map P Q f l (p .1))

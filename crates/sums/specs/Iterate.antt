@@ -3,18 +3,18 @@
 -- Walks survive where a number is taken out of f's path or put into it, and where places are renamed. Assumes nothing.
 use mathlib.Core.Path.{_≡_, refl, sym, _∙_, ap, subst}
 use mathlib.Core.Logic.{_≢_, _⊎_, inl, inr}
-use mathlib.Core.Bool.{Bool, true, false, _||_}
+use mathlib.Core.Bool.{Bool, false, _||_}
 use mathlib.Core.List.{[], _∷_}
 use Prim.Native.Nat.{ℕ, zero, suc, _+_, _-_, _<_, _≤_}
 use native.Mathlib.Decide.{ℕ-discrete, decLt}
-use native.Mathlib.Nat.{le-refl, suc-add, zero-add}
+use native.Mathlib.Nat.{suc-add, zero-add}
 use native.Mathlib.Omega.{arith}
 use lib.Dec.{T, eqb, eqb→eq}
 use lib.IntN.{ℤ, _+ℤ_}
 use Rattle.algebra.specs.Ring.{_⊕_, v0, v1, v2}
 use Rattle.algebra.specs.Sign.{eq-in, eq-by}
-use Rattle.sums.specs.Bit.{eq-test, or-cases, or-left, or-right}
-use Rattle.sums.specs.Bounded.{first-below, first-below-le, first-below-passes, first-below-before}
+use Rattle.sums.specs.Bit.{eq-test, or-cases, or-left, or-right, implies, implies→, implies←}
+use Rattle.sums.specs.Bounded.{all-below, all-below→, all-below←, first-below, first-below-le, first-below-passes, first-below-before}
 use Rattle.sums.specs.Listed.{Listed, On, pigeonhole}
 use Rattle.sums.specs.Sum.{sum, sum-first, sum-classes}
 
@@ -47,12 +47,12 @@ iter-round n f a e zero = e
 iter-round n f a e (suc k) = iter-round n f (f a) (iter-last n f a ∙ ap f e) k
 
 -- two functions that agree along the walk; and on a set that f does not leave
-pub iter-ext : (n : ℕ) (f f' : ℕ → ℕ) (a : ℕ) → ((k : ℕ) → k < n → f' (iter k f a) ≡ f (iter k f a)) → iter n f' a ≡ iter n f a
-iter-ext zero f f' a h = refl
-iter-ext (suc n) f f' a h = ap (iter n f') (h zero (omega arith)) ∙ iter-ext n f f' (f a) (λ k l. h (suc k) (omega arith))
+pub iter-ext : (f f' : ℕ → ℕ) (n a : ℕ) → ((k : ℕ) → k < n → f' (iter k f a) ≡ f (iter k f a)) → iter n f' a ≡ iter n f a
+iter-ext f f' zero a h = refl
+iter-ext f f' (suc n) a h = ap (iter n f') (h zero (omega arith)) ∙ iter-ext f f' n (f a) (λ k l. h (suc k) (omega arith))
 
 pub iter-same : {f f' : ℕ → ℕ} (D : ℕ → Type 0) → ((y : ℕ) → D y → D (f y)) → ((y : ℕ) → D y → f' y ≡ f y) → {a : ℕ} → D a → (k : ℕ) → iter k f' a ≡ iter k f a
-iter-same {f} {f'} D closed same {a} d n = iter-ext n f f' a (λ k l. same (iter k f a) (iter-keeps D closed k d))
+iter-same {f} {f'} D closed same {a} d n = iter-ext f f' n a (λ k l. same (iter k f a) (iter-keeps D closed k d))
 
 -- ---- reachability
 abbrev pub Reach : (ℕ → ℕ) → ℕ → ℕ → Type 0
@@ -158,6 +158,15 @@ reaches← (suc n) f x y (suc k) l e = or-right (eqb x y) (reaches n f (f x) y) 
 
 pub reaches-reach : (n : ℕ) (f : ℕ → ℕ) (x y : ℕ) → T (reaches n f x y) → Reach f x y
 reaches-reach n f x y h = let r = reaches→ n f x y h in (r .0, r .2)
+
+-- every two numbers below n that the test t names are joined by fewer than n steps
+unfoldable pub joined : ℕ → (ℕ → ℕ → Bool) → (ℕ → ℕ) → Bool
+joined n t f = all-below n (λ x. all-below n (λ y. implies (t x y) (reaches n f x y)))
+
+pub joined→ : (n : ℕ) (t : ℕ → ℕ → Bool) (f : ℕ → ℕ) → T (joined n t f) → {x y : ℕ} → x < n → y < n → T (t x y) → Reach f x y
+unfolding joined
+joined→ n t f h {x} {y} l m u = reaches-reach n f x y (implies→ (t x y) (reaches n f x y) (all-below→ n (λ y. implies (t x y) (reaches n f x y))
+    (all-below→ n (λ x. all-below n (λ y. implies (t x y) (reaches n f x y))) h x l) y m) u)
 
 -- ---- f and g undo one another on the numbers below n
 pub record Inverse (n : ℕ) (f g : ℕ → ℕ) : Type 0 where
@@ -295,6 +304,11 @@ module _ {n : ℕ} {f g : ℕ → ℕ} (inv : Inverse n f g) where
     -- so the test decides
     pub reach-reaches : {b : ℕ} → Reach f a b → T (reaches n f a b)
     reach-reaches {b} r = let o = reach-on period-is r in reaches← n f a b (o .0) (let h = o .1 in let q = period-le period-is in omega arith) (o .2)
+
+  pub joined← : (t : ℕ → ℕ → Bool) → ((x y : ℕ) → x < n → y < n → T (t x y) → Reach f x y) → T (joined n t f)
+  unfolding joined
+  joined← t h = all-below← n (λ x. all-below n (λ y. implies (t x y) (reaches n f x y)))
+      (λ x l. all-below← n (λ y. implies (t x y) (reaches n f x y)) (λ y m. implies← (t x y) (reaches n f x y) (λ u. reach-reaches l (h x y l m u))))
 
   -- the same round from any of its numbers
   pub period-next : {a h : ℕ} → a < n → Period f a h → Period f (f a) h

@@ -1,14 +1,17 @@
 -- Finite lists of different numbers, as functions: `Listed n h p` says that p 0 … p (h - 1) are different numbers below n, and `On h p i` that i is one of them.
--- Lists of one, two and three numbers, two lists joined, and the pigeonhole. Assumes nothing.
-use mathlib.Core.Path.{_≡_, refl, sym, _∙_, ap, subst}
-use mathlib.Core.Logic.{_≢_, _⊎_, inl, inr}
-use mathlib.Core.Bool.{Bool, true, false, cond}
+-- Lists that are written out, two lists joined, and the pigeonhole. Assumes nothing.
+use mathlib.Core.Path.{_≡_, refl, sym, _∙_, ap}
+use mathlib.Core.Logic.{_≢_, inl, inr}
+use mathlib.Core.List.{List, [], _∷_}
+use mathlib.Core.Bool.{cond}
 use Prim.Native.Nat.{ℕ, zero, suc, _+_, _-_, _<_, _≤_}
 use native.Mathlib.Decide.{ℕ-discrete, decLt}
 use native.Mathlib.Nat.{le-refl, le-trans}
 use native.Mathlib.Omega.{arith}
 use lib.Dec.{ltb}
+use lib.ListN.{length, getD}
 use borrow.Author.Tests.{lt-ltb, le-ltb}
+use Rattle.sums.specs.Cases.{All, Some, Distinct}
 
 -- A list of h different indices below n: p 0 … p (h - 1)
 pub record Listed (n h : ℕ) (p : ℕ → ℕ) : Type 0 where
@@ -59,54 +62,29 @@ pigeonhole (suc n) (suc h) p ls =
     apart j k l m (no d) (yes e) r = absurd (last j l (sym r))
     apart j k l m (no d) (no e) r = ls .once j k (omega arith) (omega arith) r
 
--- ---- lists of one, two and three indices that are written out
-abbrev pub row : ℕ → ℕ → ℕ → ℕ → ℕ
-row a b c zero = a
-row a b c (suc zero) = b
-row a b c (suc (suc k)) = c
+-- ---- a list that is written out: `entry l k` is its number at k, and 0 past its end
+abbrev pub entry : List ℕ → ℕ → ℕ
+entry l k = getD l k 0
 
-pub listed-one : {n a : ℕ} (b c : ℕ) → a < n → Listed n 1 (row a b c)
-listed-one {n} {a} b c l = record { below = lows; once = λ j k u v e. omega arith }
+pub all-entry : (P : ℕ → Type 0) (l : List ℕ) → All P l → (k : ℕ) → k < length l → P (entry l k)
+all-entry P [] p k u = absurd (omega arith)
+all-entry P (a ∷ l) p zero u = p .0
+all-entry P (a ∷ l) p (suc k) u = all-entry P l (p .1) k (omega arith)
+
+pub listed-list : {n : ℕ} (l : List ℕ) → All (λ a. a < n) l → Distinct l → Listed n (length l) (entry l)
+listed-list {n} l low d = record { below = all-entry (λ a. a < n) l low; once = once l d }
   where
-    lows : (k : ℕ) → k < 1 → row a b c k < n
-    lows zero u = l
-    lows (suc k) u = absurd (omega arith)
+    once : (l : List ℕ) → Distinct l → (j k : ℕ) → j < length l → k < length l → entry l j ≡ entry l k → j ≡ k
+    once [] d j k u v e = absurd (omega arith)
+    once (a ∷ l) d zero zero u v e = refl
+    once (a ∷ l) d zero (suc k) u v e = absurd (all-entry (λ b. a ≢ b) l (d .0) k (omega arith) e)
+    once (a ∷ l) d (suc j) zero u v e = absurd (all-entry (λ b. a ≢ b) l (d .0) j (omega arith) (sym e))
+    once (a ∷ l) d (suc j) (suc k) u v e = ap suc (once l (d .1) j k (omega arith) (omega arith) e)
 
-pub listed-two : {n a b : ℕ} (c : ℕ) → a < n → b < n → a ≢ b → Listed n 2 (row a b c)
-listed-two {n} {a} {b} c la lb ab = record { below = lows; once = sole }
-  where
-    lows : (k : ℕ) → k < 2 → row a b c k < n
-    lows zero u = la
-    lows (suc zero) u = lb
-    lows (suc (suc k)) u = absurd (omega arith)
-
-    sole : (j k : ℕ) → j < 2 → k < 2 → row a b c j ≡ row a b c k → j ≡ k
-    sole zero zero u v e = refl
-    sole zero (suc zero) u v e = absurd (ab e)
-    sole (suc zero) zero u v e = absurd (ab (sym e))
-    sole (suc zero) (suc zero) u v e = refl
-    sole zero (suc (suc k)) u v e = absurd (omega arith)
-    sole (suc zero) (suc (suc k)) u v e = absurd (omega arith)
-    sole (suc (suc j)) k u v e = absurd (omega arith)
-
-pub listed-three : {n a b c : ℕ} → a < n → b < n → c < n → a ≢ b → a ≢ c → b ≢ c → Listed n 3 (row a b c)
-listed-three {n} {a} {b} {c} la lb lc ab ac bc = record { below = lows; once = sole }
-  where
-    lows : (k : ℕ) → k < 3 → row a b c k < n
-    lows zero u = la
-    lows (suc zero) u = lb
-    lows (suc (suc k)) u = lc
-
-    sole : (j k : ℕ) → j < 3 → k < 3 → row a b c j ≡ row a b c k → j ≡ k
-    sole zero zero u v e = refl
-    sole zero (suc zero) u v e = absurd (ab e)
-    sole zero (suc (suc k)) u v e = absurd (ac e)
-    sole (suc zero) zero u v e = absurd (ab (sym e))
-    sole (suc zero) (suc zero) u v e = refl
-    sole (suc zero) (suc (suc k)) u v e = absurd (bc e)
-    sole (suc (suc j)) zero u v e = absurd (ac (sym e))
-    sole (suc (suc j)) (suc zero) u v e = absurd (bc (sym e))
-    sole (suc (suc j)) (suc (suc k)) u v e = omega arith
+pub on-list : (l : List ℕ) {i : ℕ} → Some i l → On (length l) (entry l) i
+on-list [] s = absurd s
+on-list (a ∷ l) (inl e) = (0, (omega arith), sym e)
+on-list (a ∷ l) (inr s) = let o = on-list l s in (suc (o .0), (let u = o .1 in omega arith), o .2)
 
 -- ---- two lists of indices, one after the other
 abbrev pub join : ℕ → (ℕ → ℕ) → (ℕ → ℕ) → ℕ → ℕ

@@ -1,5 +1,5 @@
 -- `put f a v` is f with the value v at a: a store, of a row that is seen as a function. Assumes nothing.
-use mathlib.Core.Path.{_≡_, refl, sym, _∙_}
+use mathlib.Core.Path.{_≡_, refl, sym, _∙_, fun-ext}
 use mathlib.Core.Logic.{_≢_}
 use mathlib.Core.Bool.{cond}
 use Prim.Native.Nat.{ℕ}
@@ -22,28 +22,29 @@ module _ {A : Type 0} (f : ℕ → A) where
 -- `search stores` finds the value of nested updates at a place, from facts a ≢ b in scope
 pub ruleset stores = (put-same, put-other)
 
+-- ---- equations of functions
 module _ {A : Type 0} (f : ℕ → A) where
-  -- what was there already
-  pub put-id : (a x : ℕ) → put f a (f a) x ≡ f x
-  put-id a x = go (ℕ-discrete x a)
+  -- a store of what was there already
+  pub put-id : (a : ℕ) → put f a (f a) ≡ f
+  put-id a = fun-ext (λ x. go x (ℕ-discrete x a))
     where
-      go : Dec (x ≡ a) → put f a (f a) x ≡ f x
-      go (yes e) = rw e (put-same f a (f a))
-      go (no n) = put-other f a (f a) x n
+      go : (x : ℕ) → Dec (x ≡ a) → put f a (f a) x ≡ f x
+      go x (yes e) = rw e (put-same f a (f a))
+      go x (no n) = put-other f a (f a) x n
 
   -- the later of two stores at one place, and two stores at different places in either order
-  pub put-put : (a : ℕ) (u v : A) (x : ℕ) → put (put f a u) a v x ≡ put f a v x
-  put-put a u v x = go (ℕ-discrete x a)
+  pub put-put : (a : ℕ) (u v : A) → put (put f a u) a v ≡ put f a v
+  put-put a u v = fun-ext (λ x. go x (ℕ-discrete x a))
     where
-      go : Dec (x ≡ a) → put (put f a u) a v x ≡ put f a v x
-      go (yes e) = rw e (put-same (put f a u) a v ∙ sym (put-same f a v))
-      go (no n) = put-other (put f a u) a v x n ∙ put-other f a u x n ∙ sym (put-other f a v x n)
+      go : (x : ℕ) → Dec (x ≡ a) → put (put f a u) a v x ≡ put f a v x
+      go x (yes e) = rw e (put-same (put f a u) a v ∙ sym (put-same f a v))
+      go x (no n) = put-other (put f a u) a v x n ∙ put-other f a u x n ∙ sym (put-other f a v x n)
 
-  pub put-comm : (a b : ℕ) (u v : A) → a ≢ b → (x : ℕ) → put (put f a u) b v x ≡ put (put f b v) a u x
-  put-comm a b u v d x = go (ℕ-discrete x a) (ℕ-discrete x b)
+  pub put-comm : (a b : ℕ) (u v : A) → a ≢ b → put (put f a u) b v ≡ put (put f b v) a u
+  put-comm a b u v d = fun-ext (λ x. go x (ℕ-discrete x a) (ℕ-discrete x b))
     where
-      go : Dec (x ≡ a) → Dec (x ≡ b) → put (put f a u) b v x ≡ put (put f b v) a u x
-      go (yes p) (yes q) = absurd (d (sym p ∙ q))
-      go (yes p) (no m) = put-other (put f a u) b v x m ∙ rw p (put-same f a u ∙ sym (put-same (put f b v) a u))
-      go (no n) (yes q) = rw (put-other (put f b v) a u x n, q) (put-same (put f a u) b v ∙ sym (put-same f b v))
-      go (no n) (no m) = put-other (put f a u) b v x m ∙ put-other f a u x n ∙ sym (put-other (put f b v) a u x n ∙ put-other f b v x m)
+      go : (x : ℕ) → Dec (x ≡ a) → Dec (x ≡ b) → put (put f a u) b v x ≡ put (put f b v) a u x
+      go x (yes p) (yes q) = absurd (d (sym p ∙ q))
+      go x (yes p) (no m) = put-other (put f a u) b v x m ∙ rw p (put-same f a u ∙ sym (put-same (put f b v) a u))
+      go x (no n) (yes q) = rw (put-other (put f b v) a u x n, q) (put-same (put f a u) b v ∙ sym (put-same f b v))
+      go x (no n) (no m) = put-other (put f a u) b v x m ∙ put-other f a u x n ∙ sym (put-other (put f b v) a u x n ∙ put-other f b v x m)

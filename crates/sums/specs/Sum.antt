@@ -19,8 +19,9 @@ use Rattle.algebra.specs.Ring.{ring, _⊕_, _⊖_, v0, v1, v2}
 use Rattle.algebra.specs.Order.{add-0<, add-0≤, lt-le}
 use Rattle.sums.specs.Bit.{bit, bit-yes}
 use Rattle.sums.specs.Put.{put, put-same, put-other}
+use Rattle.sums.specs.Cases.{All, Some, None, Distinct, some-or-none}
 use Rattle.sums.specs.Bounded.{count}
-use Rattle.sums.specs.Listed.{Listed, On, row, listed-one, listed-two, listed-three}
+use Rattle.sums.specs.Listed.{Listed, On, entry, listed-list, on-list}
 
 unfoldable pub sum : ℕ → (ℕ → ℤ) → ℤ
 sum zero f = pos zero
@@ -173,34 +174,39 @@ sum-classes n m class size p below lists right cover f =
     where-is c i q (yes e) = inr (subst (λ (c : ℕ). On (size c) (p c) i) e (cover i q))
     where-is c i q (no d) = inl (only-no (class i) c (f i) d)
 
--- the sum where just three summands are not zero
+-- ---- the same along a list that is written out
+module _ {n : ℕ} (l : List ℕ) (low : All (λ a. a < n) l) (distinct : Distinct l) where
+  pub sum-along-list : (f : ℕ → ℤ) → ((i : ℕ) → i < n → None i l → f i ≡ pos zero) → sum n f ≡ sum (length l) (λ k. f (entry l k))
+  sum-along-list f h = sum-along (listed-list l low distinct) f (λ i u. at i u (some-or-none i l))
+    where
+      at : (i : ℕ) → i < n → Some i l ⊎ None i l → (f i ≡ pos zero) ⊎ On (length l) (entry l) i
+      at i u (inl s) = inr (on-list l s)
+      at i u (inr o) = inl (h i u o)
+
+  pub sum-change-list : (f g : ℕ → ℤ) → ((i : ℕ) → i < n → None i l → g i ≡ f i) → sum n g ≡ sum n f +ℤ sum (length l) (λ k. g (entry l k) -ℤ f (entry l k))
+  sum-change-list f g h = sum-change (listed-list l low distinct) f g (λ i u. at i u (some-or-none i l))
+    where
+      at : (i : ℕ) → i < n → Some i l ⊎ None i l → (g i ≡ f i) ⊎ On (length l) (entry l) i
+      at i u (inl s) = inr (on-list l s)
+      at i u (inr o) = inl (h i u o)
+
+-- just three summands that are not zero
 pub sum-three : {n a b c : ℕ} (f : ℕ → ℤ) → a < n → b < n → c < n → a ≢ b → a ≢ c → b ≢ c → ((i : ℕ) → i < n → i ≢ a → i ≢ b → i ≢ c → f i ≡ pos zero) → sum n f ≡ f a +ℤ f b +ℤ f c
 unfolding sum
-sum-three {n} {a} {b} {c} f la lb lc ab ac bc h = sum-along (listed-three la lb lc ab ac bc) f (λ i l. at i l (ℕ-discrete a i) (ℕ-discrete b i) (ℕ-discrete c i)) ∙ ap (λ (x : ℤ). x +ℤ f b +ℤ f c) (+ℤ-idl (f a))
-  where
-    at : (i : ℕ) → i < n → Dec (a ≡ i) → Dec (b ≡ i) → Dec (c ≡ i) → (f i ≡ pos zero) ⊎ On 3 (row a b c) i
-    at i l (yes e) y z = inr (0, (omega arith), e)
-    at i l (no x) (yes e) z = inr (1, (omega arith), e)
-    at i l (no x) (no y) (yes e) = inr (2, (omega arith), e)
-    at i l (no x) (no y) (no z) = inl (h i l (λ e. x (sym e)) (λ e. y (sym e)) (λ e. z (sym e)))
+sum-three {n} {a} {b} {c} f la lb lc ab ac bc h =
+    sum-along-list (a ∷ b ∷ c ∷ []) (la, (lb, (lc, tt))) ((ab, (ac, tt)), ((bc, tt), (tt, tt))) f (λ i u o. h i u (o .0) (o .1 .0) (o .1 .1 .0))
+    ∙ ap (λ (x : ℤ). x +ℤ f b +ℤ f c) (+ℤ-idl (f a))
 
 -- a summand changed at one index, and at two
 pub sum-change-one : {n a : ℕ} (f g : ℕ → ℤ) → a < n → ((i : ℕ) → i < n → i ≢ a → g i ≡ f i) → sum n g ≡ sum n f +ℤ (g a -ℤ f a)
 unfolding sum
-sum-change-one {n} {a} f g l h = sum-change (listed-one a a l) f g (λ i l. at i l (ℕ-discrete a i)) ∙ ap (λ (x : ℤ). sum n f +ℤ x) (+ℤ-idl (g a -ℤ f a))
-  where
-    at : (i : ℕ) → i < n → Dec (a ≡ i) → (g i ≡ f i) ⊎ On 1 (row a a a) i
-    at i l (yes e) = inr (0, (omega arith), e)
-    at i l (no x) = inl (h i l (λ e. x (sym e)))
+sum-change-one {n} {a} f g l h = sum-change-list (a ∷ []) (l, tt) (tt, tt) f g (λ i u o. h i u (o .0)) ∙ ap (λ (x : ℤ). sum n f +ℤ x) (+ℤ-idl (g a -ℤ f a))
 
 pub sum-change-two : {n a b : ℕ} (f g : ℕ → ℤ) → a < n → b < n → a ≢ b → ((i : ℕ) → i < n → i ≢ a → i ≢ b → g i ≡ f i) → sum n g ≡ sum n f +ℤ ((g a -ℤ f a) +ℤ (g b -ℤ f b))
 unfolding sum
-sum-change-two {n} {a} {b} f g la lb ab h = sum-change (listed-two a la lb ab) f g (λ i l. at i l (ℕ-discrete a i) (ℕ-discrete b i)) ∙ ap (λ (x : ℤ). sum n f +ℤ (x +ℤ (g b -ℤ f b))) (+ℤ-idl (g a -ℤ f a))
-  where
-    at : (i : ℕ) → i < n → Dec (a ≡ i) → Dec (b ≡ i) → (g i ≡ f i) ⊎ On 2 (row a b a) i
-    at i l (yes e) y = inr (0, (omega arith), e)
-    at i l (no x) (yes e) = inr (1, (omega arith), e)
-    at i l (no x) (no y) = inl (h i l (λ e. x (sym e)) (λ e. y (sym e)))
+sum-change-two {n} {a} {b} f g la lb ab h =
+    sum-change-list (a ∷ b ∷ []) (la, (lb, tt)) ((ab, tt), (tt, tt)) f g (λ i u o. h i u (o .0) (o .1 .0))
+    ∙ ap (λ (x : ℤ). sum n f +ℤ (x +ℤ (g b -ℤ f b))) (+ℤ-idl (g a -ℤ f a))
 
 -- a point update
 pub sum-put : {n k : ℕ} (f : ℕ → ℤ) (v : ℤ) → k < n → sum n (put f k v) ≡ sum n f -ℤ f k +ℤ v
@@ -208,11 +214,11 @@ sum-put {n} {k} f v l =
     sum-change-one f (put f k v) l (λ i m d. put-other f k v i d) ∙ ap (λ (x : ℤ). sum n f +ℤ (x -ℤ f k)) (put-same f k v)
     ∙ ring (sum n f ∷ f k ∷ v ∷ []) (v0 ⊕ (v2 ⊖ v1)) (v0 ⊖ v1 ⊕ v2) refl
 
--- ---- over an array, one of whose entries is stored to
-pub sum-set : {n k : ℕ} (F : ℕ → ℕ → ℤ) (l : List ℕ) (v : ℕ) → k < n → n ≤ length l → sum n (λ i. F i (getD (set l k v) i 0)) ≡ sum n (λ i. F i (getD l i 0)) +ℤ (F k v -ℤ F k (getD l k 0))
-sum-set {n} {k} F l v u w =
-    sum-change-one (λ i. F i (getD l i 0)) (λ i. F i (getD (set l k v) i 0)) u (λ i m d. ap (F i) (getD-set-other l k i v 0 d))
-    ∙ ap (λ (m : ℕ). sum n (λ i. F i (getD l i 0)) +ℤ (F k m -ℤ F k (getD l k 0))) (getD-set-same l k v 0 (le-trans u w))
+-- ---- over a list, one of whose entries is stored to
+pub sum-set : {A : Type 0} {n k : ℕ} (F : ℕ → A → ℤ) (l : List A) (d v : A) → k < n → n ≤ length l → sum n (λ i. F i (getD (set l k v) i d)) ≡ sum n (λ i. F i (getD l i d)) +ℤ (F k v -ℤ F k (getD l k d))
+sum-set {A} {n} {k} F l d v u w =
+    sum-change-one (λ i. F i (getD l i d)) (λ i. F i (getD (set l k v) i d)) u (λ i m q. ap (F i) (getD-set-other l k i v d q))
+    ∙ ap (λ (x : A). sum n (λ i. F i (getD l i d)) +ℤ (F k x -ℤ F k (getD l k d))) (getD-set-same l k v d (le-trans u w))
 
 -- ---- signs, in the order that the code's comparisons leave (`lib.Signed`)
 pub sum-positive : (n : ℕ) (f : ℕ → ℤ) → 0 < n → ((i : ℕ) → i < n → pos zero <ℤ f i) → pos zero <ℤ sum n f

@@ -1,15 +1,19 @@
 -- Walks as lists, and tallies: `walk n f s` is the list of the n places from s on, `tally b l` is how many of a list pass the test b, and `First b f n s k` says that the walk's first place to pass is k steps on.
 -- A round's tally is the same from any of its places. The tally of a walk is a `count` of its steps, and the first place a `first-below`. Assumes nothing.
 use mathlib.Core.Path.{_≡_, refl, sym, _∙_, ap}
+use mathlib.Core.Logic.{_≢_}
 use mathlib.Core.Bool.{Bool}
 use mathlib.Core.List.{List, [], _∷_, _++_}
 use Prim.Native.Nat.{ℕ, zero, suc, _+_, _<_, _≤_}
-use native.Mathlib.Nat.{suc-add, zero-add, add-comm}
+use native.Mathlib.Decide.{ℕ-discrete}
+use native.Mathlib.Nat.{suc-add, zero-add}
 use native.Mathlib.Omega.{arith}
 use lib.Dec.{T}
 use lib.ListN.{length, getD}
 use Rattle.sums.specs.Bit.{bit}
-use Rattle.sums.specs.Bounded.{count, count-suc, count-ext, count-le, count-some, count-positive, count-before, count-sole, Least, least-unique, first-below, first-below-least, first-below-at-most}
+use Rattle.sums.specs.Put.{put, put-same, put-other}
+use Rattle.sums.specs.Cases.{All, None, Distinct, all-map}
+use Rattle.sums.specs.Bounded.{count, count-ext, count-le, count-change, count-some, count-positive, count-before, count-sole, Least, least-unique, first-below, first-below-least, first-below-at-most}
 use Rattle.sums.specs.Iterate.{iter, iter-last, Reach}
 
 -- the n places from s on
@@ -45,11 +49,11 @@ walk-add f zero k s = ap (λ (m : ℕ). walk m f s) (zero-add k)
 walk-add f (suc j) k s = ap (λ (m : ℕ). walk m f s) (suc-add j k) ∙ ap (λ (l : List ℕ). s ∷ l) (walk-add f j k (f s))
 
 -- where two steps agree, so do the walks (the last place's step is not taken)
-pub walk-ext : (n : ℕ) (f f' : ℕ → ℕ) (s : ℕ) → ((k : ℕ) → suc k < n → f' (iter k f s) ≡ f (iter k f s)) → walk n f' s ≡ walk n f s
+pub walk-ext : (f f' : ℕ → ℕ) (n s : ℕ) → ((k : ℕ) → suc k < n → f' (iter k f s) ≡ f (iter k f s)) → walk n f' s ≡ walk n f s
 unfolding walk
-walk-ext zero f f' s h = refl
-walk-ext (suc zero) f f' s h = refl
-walk-ext (suc (suc n)) f f' s h = ap (λ (t : ℕ). s ∷ walk (suc n) f' t) (h zero (omega arith)) ∙ ap (λ (l : List ℕ). s ∷ l) (walk-ext (suc n) f f' (f s) (λ k l. h (suc k) (omega arith)))
+walk-ext f f' zero s h = refl
+walk-ext f f' (suc zero) s h = refl
+walk-ext f f' (suc (suc n)) s h = ap (λ (t : ℕ). s ∷ walk (suc n) f' t) (h zero (omega arith)) ∙ ap (λ (l : List ℕ). s ∷ l) (walk-ext f f' (suc n) (f s) (λ k l. h (suc k) (omega arith)))
 
 -- ---- tallies of walks
 pub tally-add : (b : ℕ → Bool) (f : ℕ → ℕ) (j k s : ℕ) → tally b (walk (j + k) f s) ≡ tally b (walk j f s) + tally b (walk k f (iter j f s))
@@ -124,3 +128,24 @@ module _ (b : ℕ → Bool) (f : ℕ → ℕ) (n s : ℕ) where
 
   pub sole : (j k : ℕ) → tally b (walk n f s) ≤ 1 → j < n → k < n → T (b (iter j f s)) → T (b (iter k f s)) → j ≡ k
   sole j k h = count-sole n (λ k. b (iter k f s)) j k (rw tally-count at h)
+
+-- ---- how many below n pass, where two tests differ at the numbers of a list only
+tally-all : (p q : ℕ → Bool) (l : List ℕ) → All (λ x. p x ≡ q x) l → tally p l ≡ tally q l
+unfolding tally
+tally-all p q [] h = refl
+tally-all p q (x ∷ l) h = let i = tally-all p q l (h .1) in let b = ap bit (h .0) in omega arith
+
+pub count-change-list : (n : ℕ) (l : List ℕ) → All (λ a. a < n) l → Distinct l → (p q : ℕ → Bool) → ((i : ℕ) → i < n → None i l → p i ≡ q i) → count n q + tally p l ≡ count n p + tally q l
+unfolding tally
+count-change-list n [] low d p q h = let e = count-ext n p q (λ i u. h i u tt) in omega arith
+count-change-list n (a ∷ l) low d p q h =
+    let r = put p a (q a) in
+    let one = count-change n p r a (low .0) (λ i u o. sym (put-other p a (q a) i o)) in
+    let rest = count-change-list n l (low .1) (d .1) r q (λ i u o. agree i u o (ℕ-discrete i a)) in
+    let off = tally-all r p l (all-map (λ b. a ≢ b) (λ b. r b ≡ p b) (λ b o. put-other p a (q a) b (λ e. o (sym e))) l (d .0)) in
+    let at = ap bit (put-same p a (q a)) in
+    omega arith
+  where
+    agree : (i : ℕ) → i < n → None i l → Dec (i ≡ a) → put p a (q a) i ≡ q i
+    agree i u o (yes e) = rw e (put-same p a (q a))
+    agree i u o (no m) = put-other p a (q a) i m ∙ h i u (m, o)
