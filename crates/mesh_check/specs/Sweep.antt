@@ -42,9 +42,7 @@ facesWhole C L = eqb (period-below (2 * C .edges) (L .next) (L .adjacent 0) + 3 
 unfoldable pub verticesWhole : Counts → Links → Bool
 verticesWhole C L = eqb (orbitTotal (2 * C .edges) (turn L) (L .out) (C .vertices)) (2 * C .edges)
 
--- the rows hold what the counts say: every half-edge, vertex and face in use is there
-pub record Rows (C : Counts) (o h a : List ℕ) : Type 0 where
-  pub halves : 8 * C .edges ≤ length h
-  pub outs : C .vertices ≤ length o
-  pub faces : C .faces ≤ length a
+-- the row of half-edges holds what the counts say
+pub record HalvesThere (C : Counts) (h : List ℕ) : Type 0 where
+  pub long : 8 * C .edges ≤ length h
   pub small : C .edges < 2 ^ 31

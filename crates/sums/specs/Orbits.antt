@@ -10,7 +10,7 @@ use native.Mathlib.Omega.{arith}
 use lib.Dec.{ltb}
 use borrow.Author.Tests.{lt-ltb, le-ltb}
 use Rattle.sums.specs.Iterate.{iter, iter-keeps, Reach, Inverse, Period, period-below, period-is, period-listed, reach-on, reach-keeps}
-use Rattle.sums.specs.Listed.{Listed, On, pigeonhole, join, listed-join, listed-one}
+use Rattle.sums.specs.Listed.{Listed, On, pigeonhole, join, listed-join}
 
 -- the orbits of r 0 .. r (m - 1), in total
 unfoldable pub orbitTotal : ℕ → (ℕ → ℕ) → (ℕ → ℕ) → ℕ → ℕ
