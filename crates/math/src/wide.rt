@@ -53,11 +53,7 @@ pub fn carried(hi: i64, mid: i64, lo: i64) -> i64
     let l = split(lo);
     let m = split(mid + l.hi);
     let h = hi + m.hi;
-    if h != 0 {
-        h
-    } else {
-        m.lo * 67108864 + l.lo
-    }
+    if h != 0 { h } else { m.lo * 67108864 + l.lo }
 }
 
 // A number with the sign of x * y + z * w, each of at most 2^51. A high digit above 2^29 outweighs the others.

@@ -90,8 +90,7 @@ low-requires c κs = two (c .before .before .before .before)
 carried-requires : tie.Need-carried-requires
 carried-requires c κs =
     let m = c .before in let h = m .before .before .before in let s = h .before in let t = two s in
-    rw (toZ-ofZ (sfits-of (h .high .ok)), toZ-ofZ (sfits-of (m .middle .ok)), toZ-ofZ (sfits-of (c .low .ok)))
-    (
+    rw (toZ-ofZ (sfits-of (h .high .ok)), toZ-ofZ (sfits-of (m .middle .ok)), toZ-ofZ (sfits-of (c .low .ok))) (
       subst (λ (z : ℤ). natAbs z ≤ 36028797018963968) (sym (h .high .ensures)) (high-abs (t .0) (t .1) (t .2) (t .3)),
       subst (λ (z : ℤ). natAbs z ≤ 18014398509481984) (sym (m .middle .ensures)) (middle-abs (t .0) (t .1) (t .2) (t .3)),
       subst (λ (z : ℤ). natAbs z ≤ 18014398509481984) (sym (c .low .ensures)) (low-abs (t .0) (t .1) (t .2) (t .3)),
