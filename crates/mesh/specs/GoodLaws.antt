@@ -34,7 +34,7 @@ flippable {L = L} G {u} l i j = record {
   differ = λ q. faces-differ (G .wf) (G .turning) {e = 2 * u} (omega arith) i (q ∙ ap (L .face) (sym (rev-even u)));
 }
 
-pub flip-good : {C : Counts} {L : Links} {p : ℕ → Point} → Good C L p → {u : ℕ} → Flippable C L u → pos 0 <ℤ circleAt L p u → Good C (flipCw L u) p
+pub flip-good : {C : Counts} {L : Links} {p : ℕ → Point} → Good C L p → {u : ℕ} → Flippable C L u → pos 0 <ℤ circleAt L p (2 * u) → Good C (flipCw L u) p
 flip-good {p = p} G {u} B h = record { wf = flip-keeps (G .wf) u B; turning = flip-keeps-left (G .wf) B p (G .turning) h; range = G .range }
 
 pub flip-length : {C : Counts} {L : Links} → Wf C L → {u : ℕ} → Flippable C L u → boundaryLength C (flipCw L u) ≡ boundaryLength C L
