@@ -4,7 +4,7 @@ use native.Mathlib.Omega.{arith}
 use mathlib.Core.Path.{_≡_, subst⁻¹}
 use mathlib.Core.List.{List}
 use lib.ListN.{length}
-use Rattle.sums.specs.Half.{rev, rev-lt}
+use Rattle.sums.specs.Half.{rev, rev-below}
 use Rattle.mesh.specs.declared.Counts.{Counts}
 use Rattle.mesh.specs.Mesh.{Links, In}
 use Rattle.mesh.specs.Wf.{Wf}
@@ -28,7 +28,7 @@ module _ {C : Counts} {o h a : List ℕ} (H : Held C o h a) where
   there l = omega arith
 
   pub there-rev : {e : ℕ} → In C e → There h (rev e)
-  there-rev l = let r = rev-lt (C .edges) l in omega arith
+  there-rev l = let r = rev-below (C .edges) l in omega arith
 
   -- what `out` and `adjacent` ask of a vertex and a face in use
   pub there-out : {v : ℕ} → v < C .vertices → v < length o
@@ -55,7 +55,7 @@ module _ {C : Counts} {o h a : List ℕ} (H : Held C o h a) where
   origin-in l = H .rules .ranges .origin< l
 
   pub to-in : {e : ℕ} → In C e → halvesOf h .origin (rev e) < C .vertices
-  to-in l = origin-in (rev-lt (C .edges) l)
+  to-in l = origin-in (rev-below (C .edges) l)
 
   pub out-in : {v : ℕ} → v < C .vertices → In C (rowOf o v)
   unfolding linksOf

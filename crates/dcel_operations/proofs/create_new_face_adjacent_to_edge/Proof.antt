@@ -1,82 +1,59 @@
+-- `dcel_operations::create_new_face_adjacent_to_edge` meets its contract. Assumes nothing.
 use borrow.Author.Needs.{needs}
 use native.Mathlib.Omega.{arith}
 use mathlib.Core.Path.{refl}
 use Rattle.dcel_operations.proofs.Stored.{new-face}
 use Rattle.dcel_operations.proofs.create_new_face_adjacent_to_edge.Statement.{statement}
 use Rattle.dcel_operations.proofs.create_new_face_adjacent_to_edge.Tie as tie
-use Rattle.dcel_operations.proofs.create_new_face_adjacent_to_edge.Reads as reads
-use Rattle.dcel_operations.proofs.create_new_face_adjacent_to_edge.Lts as lts
-use Rattle.dcel.proofs.half_edge.Reads as half-edge-reads
-use Rattle.dcel.proofs.store.Reads as store-reads
-use Rattle.dcel.proofs.to.Reads as to-reads
-use Rattle.dcel_operations.proofs.new_edges.Reads as new-edges-reads
-use Rattle.dcel_operations.proofs.new_links.Reads as new-links-reads
 
--- src/lib.rt:130:13
 mul-a : tie.Need-mul-a
 mul-a c = search needs
 
--- src/lib.rt:131:13
 add-b : tie.Need-add-b
 add-b c = search needs
 
--- src/lib.rt:132:13
 add-o : tie.Need-add-o
 add-o c = search needs
 
--- src/lib.rt:133:36
 add-t12 : tie.Need-add-t12
 add-t12 c = search needs
 
--- src/lib.rt:133:64
 add-t13 : tie.Need-add-t13
 add-t13 c = search needs
 
--- src/lib.rt:133:89
 add-t14 : tie.Need-add-t14
 add-t14 c = search needs
 
--- src/lib.rt:134:9
 half-edge-requires : tie.Need-half-edge-requires
 half-edge-requires c κs = search needs
 
--- src/lib.rt:135:9
 to-requires : tie.Need-to-requires
 to-requires c κs = search needs
 
--- src/lib.rt:136:5
 new-edges-requires : tie.Need-new-edges-requires
 new-edges-requires c κs = search needs
 
--- src/lib.rt:137:5
 new-links-requires : tie.Need-new-links-requires
 new-links-requires c κs = search needs
 
--- src/lib.rt:138:5
 store-requires : tie.Need-store-requires
 store-requires c κs = search needs
 
--- src/lib.rt:139:5
 store-requires-2 : tie.Need-store-requires-2
 store-requires-2 c κs = omega (arith, c .before .before .before .before .before .before .before .before .before .before .before .before .before .before .before .before .before .before .before .before .before .before .before .before .pre)
 
--- src/lib.rt:140:5
 store-requires-3 : tie.Need-store-requires-3
 store-requires-3 c κs = omega (arith, c .before .before .before .store2 .kept .0, c .before .before .before .before .before .before .before .before .before .before .before .before .before .before .before .before .before .before .before .half-edge .ensures, c .before .before .before .before .before .before .before .before .before .before .before .before .before .before .before .before .before .before .before .before .before .before .before .before .before .before .before .before .pre)
 
--- src/lib.rt:126:1
 same-length : tie.Need-same-length
 same-length c = search needs
 
--- src/lib.rt:126:1
 same-length-2 : tie.Need-same-length-2
 same-length-2 c = search needs
 
--- src/lib.rt:126:1
 same-length-3 : tie.Need-same-length-3
 same-length-3 c = search needs
 
--- src/lib.rt:126:1
 returns : tie.Need-returns
 returns c =
     let s₂ = c .before .before in

@@ -1,3 +1,4 @@
+-- `dcel_operations::create_single_face_between_edge_and_next` meets its contract. Assumes nothing.
 use borrow.Author.Needs.{needs}
 use native.Mathlib.Omega.{arith}
 use mathlib.Core.Path.{refl}
@@ -6,50 +7,33 @@ use Rattle.dcel_operations.proofs.create_single_face_between_edge_and_n
   statement,
 }
 use Rattle.dcel_operations.proofs.create_single_face_between_edge_and_next.Tie as tie
-use Rattle.dcel_operations.proofs.create_single_face_between_edge_and_next.Reads as reads
-use Rattle.dcel_operations.proofs.create_single_face_between_edge_and_next.Lts as lts
-use Rattle.dcel.proofs.half_edge.Reads as half-edge-reads
-use Rattle.dcel.proofs.next.Reads as next-reads
-use Rattle.dcel.proofs.store.Reads as store-reads
-use Rattle.dcel.proofs.to.Reads as to-reads
-use Rattle.dcel_operations.proofs.single_links.Reads as single-links-reads
-use Rattle.dcel_operations.proofs.single_marks.Reads as single-marks-reads
 
--- src/lib.rt:87:13
 mul-i : tie.Need-mul-i
 mul-i c = search needs
 
--- src/lib.rt:88:13
 add-o : tie.Need-add-o
 add-o c = search needs
 
--- src/lib.rt:89:60
 add-t11 : tie.Need-add-t11
 add-t11 c = search needs
 
--- src/lib.rt:89:85
 add-t12 : tie.Need-add-t12
 add-t12 c = search needs
 
--- src/lib.rt:90:9
 half-edge-requires : tie.Need-half-edge-requires
 half-edge-requires c κs = search needs
 
--- src/lib.rt:91:9
 next-requires : tie.Need-next-requires
 next-requires c κs = search needs
 
--- src/lib.rt:92:9
 to-requires : tie.Need-to-requires
 to-requires c κs =
     let e = c .before .before .before in
     rw (e .half-edge .ensures .next) (e .before .before .before .before .before .before .before .pre .back)
 
--- src/lib.rt:93:5
 single-marks-requires : tie.Need-single-marks-requires
 single-marks-requires c κs = search needs
 
--- src/lib.rt:94:5
 single-links-requires : tie.Need-single-links-requires
 single-links-requires c κs =
     let m = c .before .before .before in
@@ -58,23 +42,18 @@ single-links-requires c κs =
     let s = e .before .before .before .before .before .before .before in
     omega (arith, m .single-marks .kept .0, e .half-edge .ensures, s .pre, after-there (s .pre) (e .half-edge .ensures) (n .next .ensures))
 
--- src/lib.rt:95:5
 store-requires : tie.Need-store-requires
 store-requires c κs = search needs
 
--- src/lib.rt:96:5
 store-requires-2 : tie.Need-store-requires-2
 store-requires-2 c κs = omega (arith, c .before .before .before .store .kept .0, c .before .before .before .before .before .before .before .before .before .before .before .before .before .before .before .before .before .before .before .before .before .before .before .before .pre)
 
--- src/lib.rt:83:1
 same-length : tie.Need-same-length
 same-length c = search needs
 
--- src/lib.rt:83:1
 same-length-2 : tie.Need-same-length-2
 same-length-2 c = search needs
 
--- src/lib.rt:83:1
 returns : tie.Need-returns
 returns c =
     let s₂ = c .before .before in

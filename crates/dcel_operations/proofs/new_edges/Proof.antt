@@ -1,52 +1,39 @@
+-- `dcel_operations::new_edges` meets its contract. Assumes nothing.
 use borrow.Author.Needs.{needs}
 use Rattle.dcel_operations.specs.Face.{newEdges}
 use Rattle.dcel_operations.proofs.new_edges.Statement.{statement}
 use Rattle.dcel_operations.proofs.new_edges.Tie as tie
-use Rattle.dcel_operations.proofs.new_edges.Reads as reads
-use Rattle.dcel_operations.proofs.new_edges.Lts as lts
-use Rattle.dcel.proofs.set_half_edge.Reads as set-half-edge-reads
 
--- src/lib.rt:104:13
 add-b : tie.Need-add-b
 add-b c = search needs
 
--- src/lib.rt:105:5
 set-half-edge-requires : tie.Need-set-half-edge-requires
 set-half-edge-requires c κs = search needs
 
--- src/lib.rt:106:33
 add-set-half-edge : tie.Need-add-set-half-edge
 add-set-half-edge c = search needs
 
--- src/lib.rt:106:80
 add-set-half-edge-2 : tie.Need-add-set-half-edge-2
 add-set-half-edge-2 c = search needs
 
--- src/lib.rt:106:5
 set-half-edge-requires-2 : tie.Need-set-half-edge-requires-2
 set-half-edge-requires-2 c κs = search needs
 
--- src/lib.rt:107:5
 set-half-edge-requires-3 : tie.Need-set-half-edge-requires-3
 set-half-edge-requires-3 c κs = search needs
 
--- src/lib.rt:108:33
 add-set-half-edge-3 : tie.Need-add-set-half-edge-3
 add-set-half-edge-3 c = search needs
 
--- src/lib.rt:108:62
 add-t15 : tie.Need-add-t15
 add-t15 c = search needs
 
--- src/lib.rt:108:5
 set-half-edge-requires-4 : tie.Need-set-half-edge-requires-4
 set-half-edge-requires-4 c κs = search needs
 
--- src/lib.rt:100:1
 same-length : tie.Need-same-length
 same-length c = search needs
 
--- src/lib.rt:100:1
 returns : tie.Need-returns
 unfolding newEdges
 returns c =

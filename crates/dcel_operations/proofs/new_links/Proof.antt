@@ -1,50 +1,36 @@
+-- `dcel_operations::new_links` meets its contract. Assumes nothing.
 use borrow.Author.Needs.{needs}
 use Rattle.dcel_operations.specs.Face.{newLinks}
 use Rattle.dcel_operations.proofs.new_links.Statement.{statement}
 use Rattle.dcel_operations.proofs.new_links.Tie as tie
-use Rattle.dcel_operations.proofs.new_links.Reads as reads
-use Rattle.dcel_operations.proofs.new_links.Lts as lts
-use Rattle.dcel.proofs.set_face.Reads as set-face-reads
-use Rattle.dcel.proofs.set_next.Reads as set-next-reads
-use Rattle.dcel.proofs.set_prev.Reads as set-prev-reads
 
--- src/lib.rt:116:13
 add-b : tie.Need-add-b
 add-b c = search needs
 
--- src/lib.rt:117:5
 set-next-requires : tie.Need-set-next-requires
 set-next-requires c κs = search needs
 
--- src/lib.rt:118:5
 set-prev-requires : tie.Need-set-prev-requires
 set-prev-requires c κs = search needs
 
--- src/lib.rt:119:5
 set-face-requires : tie.Need-set-face-requires
 set-face-requires c κs = search needs
 
--- src/lib.rt:120:31
 add-set-prev : tie.Need-add-set-prev
 add-set-prev c = search needs
 
--- src/lib.rt:120:5
 set-prev-requires-2 : tie.Need-set-prev-requires-2
 set-prev-requires-2 c κs = search needs
 
--- src/lib.rt:121:31
 add-set-next : tie.Need-add-set-next
 add-set-next c = search needs
 
--- src/lib.rt:121:5
 set-next-requires-2 : tie.Need-set-next-requires-2
 set-next-requires-2 c κs = search needs
 
--- src/lib.rt:112:1
 same-length : tie.Need-same-length
 same-length c = search needs
 
--- src/lib.rt:112:1
 returns : tie.Need-returns
 unfolding newLinks
 returns c =

@@ -1,32 +1,24 @@
+-- `dcel_operations::single_links` meets its contract. Assumes nothing.
 use borrow.Author.Needs.{needs}
 use Rattle.dcel_operations.specs.Face.{singleLinks}
 use Rattle.dcel_operations.proofs.single_links.Statement.{statement}
 use Rattle.dcel_operations.proofs.single_links.Tie as tie
-use Rattle.dcel_operations.proofs.single_links.Reads as reads
-use Rattle.dcel_operations.proofs.single_links.Lts as lts
-use Rattle.dcel.proofs.set_link.Reads as set-link-reads
 
--- src/lib.rt:63:5
 set-link-requires : tie.Need-set-link-requires
 set-link-requires c κs = search needs
 
--- src/lib.rt:64:5
 set-link-requires-2 : tie.Need-set-link-requires-2
 set-link-requires-2 c κs = search needs
 
--- src/lib.rt:65:5
 set-link-requires-3 : tie.Need-set-link-requires-3
 set-link-requires-3 c κs = search needs
 
--- src/lib.rt:66:5
 set-link-requires-4 : tie.Need-set-link-requires-4
 set-link-requires-4 c κs = search needs
 
--- src/lib.rt:59:1
 same-length : tie.Need-same-length
 same-length c = search needs
 
--- src/lib.rt:59:1
 returns : tie.Need-returns
 unfolding singleLinks
 returns c =
