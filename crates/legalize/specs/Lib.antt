@@ -1,0 +1,5 @@
+pub mod Legalize
+pub mod Turns
+pub mod LegalizeLaws
+pub mod HullCase
+pub mod LegalizeRows
