@@ -72,9 +72,11 @@ module _ {C : Counts} {L : Links} {p : ℕ → Point} where
       (ltZ-no (not-T (ltZ (pos 0) (circleAt L p (2 * (e / 2)))) (λ t. false≢true (sym (S .edge {u = e / 2} (omega arith)) ∙ breaks-test L p (e / 2) (record { inner-left = h .0; inner-right = h .1; inside = ltZ-yes t })))))
 
   pub settled-by : ((e : ℕ) → In C e → 0 < L .face e → 0 < L .face (rev e) → circleAt L p e ≤ℤ pos 0) → Settled C L p
-  settled-by h = record { edge = λ {u} l. is-false _ (λ t.
-      let B = breaks L p u (is-true _ t) in
-      clashℤ (B .inside) (h (2 * u) (omega arith) (B .inner-left) (subst (λ (x : ℕ). 0 < L .face x) (sym (rev-even u)) (B .inner-right)))) }
+  settled-by h = record {
+    edge = λ {u} l. is-false _ (λ t.
+        let B = breaks L p u (is-true _ t) in
+        clashℤ (B .inside) (h (2 * u) (omega arith) (B .inner-left) (subst (λ (x : ℕ). 0 < L .face x) (sym (rev-even u)) (B .inner-right))));
+  }
 
 -- ---- the flip of an edge that breaks the rule
 module _ {C : Counts} {L : Links} {p : ℕ → Point} (G : Good C L p) {u : ℕ} (l : u < C .edges) (B : Breaks L p u) where

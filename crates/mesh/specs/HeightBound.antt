@@ -77,9 +77,11 @@ module _ {C : Counts} {L : Links} {p : ℕ → Point} where
 -- a new face raises the bound at least as much as the height sum
 module _ {C C′ : Counts} {L L′ : Links} {p p′ : ℕ → Point} {a b c : ℕ} (W : Wf C L) (W′ : Wf C′ L′) (A : FaceAdded C C′ L L′ p p′ a b c) where
   pub flips-face : {n : ℕ} → InRange (p′ a) → InRange (p′ b) → InRange (p′ c) → FlipsBound C L p n → FlipsBound C′ L′ p′ n
-  flips-face {n} h k m B = record { bound =
-      more (C .faces) (C′ .faces) (2 ^ 102) _ _ _ (A .faces) (W .some) (B .bound)
-      (le-trans (le-of-eq (ap natAbs (added-over W W′ A height))) (natAbs-+ (heightSum C L p) (height (p′ a) (p′ b) (p′ c)))) (height-small h k m) }
+  flips-face {n} h k m B = record {
+    bound =
+        more (C .faces) (C′ .faces) (2 ^ 102) _ _ _ (A .faces) (W .some) (B .bound)
+        (le-trans (le-of-eq (ap natAbs (added-over W W′ A height))) (natAbs-+ (heightSum C L p) (height (p′ a) (p′ b) (p′ c)))) (height-small h k m);
+  }
     where
       more : (f f′ K h h′ d : ℕ) → f′ ≡ f + 1 → 0 < f → n + h ≤ (f - 1) * K → h′ ≤ h + d → d ≤ K → n + h′ ≤ (f′ - 1) * K
       more (suc f) f′ K h h′ d q i b r t = let e : f′ - 1 ≡ suc f = omega arith in let s : suc f - 1 ≡ f = omega arith in rw (e, suc-mul f K) (omega (arith, rw s at b))

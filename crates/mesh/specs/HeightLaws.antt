@@ -45,16 +45,20 @@ circle-rev L p e =
     ap (λ (x : ℕ). incircle (p (L .origin (rev e))) (p (L .origin x)) (p (L .origin (L .prev (rev e)))) (p (L .origin (L .prev x)))) (rev-rev e)
     ∙ sym (incircle-other (p (L .origin e)) (p (L .origin (rev e))) (p (L .origin (L .prev e))) (p (L .origin (L .prev (rev e)))))
 
-pub circle-half : (L : Links) (p : ℕ → Point) (e : ℕ) → circleAt L p (2 * (e / 2)) ≡ circleAt L p e
+-- the even half of the edge of e is e or its reverse
+pub even-half : (P : ℕ → Type 0) (e : ℕ) → P e → P (rev e) → P (2 * (e / 2))
 unfolding rev
-circle-half L p e = go (ℕ-discrete (2 * (e / 2)) e)
+even-half P e x y = go (ℕ-discrete (2 * (e / 2)) e)
   where
     odd : 2 * (e / 2) ≢ e → 2 * (e / 2) ≡ rev e
     odd n = omega arith
 
-    go : Dec (2 * (e / 2) ≡ e) → circleAt L p (2 * (e / 2)) ≡ circleAt L p e
-    go (yes q) = ap (circleAt L p) q
-    go (no n) = ap (circleAt L p) (odd n) ∙ circle-rev L p e
+    go : Dec (2 * (e / 2) ≡ e) → P (2 * (e / 2))
+    go (yes q) = rw q x
+    go (no n) = rw (odd n) y
+
+pub circle-half : (L : Links) (p : ℕ → Point) (e : ℕ) → circleAt L p (2 * (e / 2)) ≡ circleAt L p e
+circle-half L p e = even-half (λ x. circleAt L p x ≡ circleAt L p e) e refl (circle-rev L p e)
 
 -- ---- a new face
 -- Face number `faces` is new, with the corners a, b and c; the other inner faces keep theirs, and the vertices their positions.

@@ -29,3 +29,4 @@ pub mod BoundarySequence
 pub mod FlipRun
 pub mod Examples
 pub mod AreaExamples
+pub mod WfParts

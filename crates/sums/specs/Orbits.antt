@@ -10,12 +10,16 @@ use native.Mathlib.Omega.{arith}
 use lib.Dec.{ltb}
 use borrow.Author.Tests.{lt-ltb, le-ltb}
 use Rattle.sums.specs.Iterate.{iter, iter-keeps, Reach, Inverse, Period, period-below, period-is, period-listed, reach-on, reach-keeps}
-use Rattle.sums.specs.Listed.{Listed, On, pigeonhole, join, listed-join, listed-one}
+use Rattle.sums.specs.Listed.{Listed, On, pigeonhole, join, listed-join}
 
 -- the orbits of r 0 .. r (m - 1), in total
 unfoldable pub orbitTotal : ℕ → (ℕ → ℕ) → (ℕ → ℕ) → ℕ → ℕ
 orbitTotal n f r zero = zero
 orbitTotal n f r (suc m) = orbitTotal n f r m + period-below n f (r m)
+
+pub orbit-total-zero : (n : ℕ) (f r : ℕ → ℕ) → orbitTotal n f r 0 ≡ 0
+unfolding orbitTotal
+orbit-total-zero n f r = refl
 
 pub orbit-total-suc : (n : ℕ) (f r : ℕ → ℕ) (m : ℕ) → orbitTotal n f r (suc m) ≡ orbitTotal n f r m + period-below n f (r m)
 unfolding orbitTotal
