@@ -1,0 +1,1 @@
+// `fix_convexity` and the passes of a finish.
