@@ -37,7 +37,6 @@ shared-slice-read-if1 c = search needs
 returns : tie.Need-returns Inv-loop μ-loop
 returns c = sym (contains-here _ _ _ (c .before .before .loop-test .taken) (c .if1 .taken)) ∙ c .before .before .before .loop .inv .1
 
-
 -- src/lib.rt:26:9
 sub-i : tie.Need-sub-i Inv-loop μ-loop
 sub-i c = search needs

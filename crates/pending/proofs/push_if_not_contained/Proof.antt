@@ -35,7 +35,7 @@ same-length-2 c = search needs
 
 -- src/lib.rt:46:1
 returns-3 : tie.Need-returns-3
-returns-3 c = λ l h. pushed-missing h (omega arith) _ (sym (c .before .before .before .before .before .contains .ensures) ∙ c .before .before .before .before .if2 .left) (c .before .before .push .ensures (_ ) h)
+returns-3 c = λ l h. pushed-missing h (omega arith) _ (sym (c .before .before .before .before .before .contains .ensures) ∙ c .before .before .before .before .if2 .left) (c .before .before .push .ensures (_) h)
 
 pub push-if-not-contained-spec : {M : Type 1} → statement M
 push-if-not-contained-spec =

@@ -7,21 +7,17 @@ use Rattle.flip_count.specs.CountLaws.{carry-fits}
 use Rattle.flip_count.proofs.FlipCount.increment.Statement.{statement}
 use Rattle.flip_count.proofs.FlipCount.increment.Tie as tie
 
--- src/lib.rt:25:23
 add-t4 : tie.Need-add-t4
 unfolding flipCountOf
 add-t4 c = let s = c .before .before .before .args .self in record { fits = carry-fits (2 ^ 64) (s .high) (s .low) (omega arith) (c .before .before .before .pre) }
 
--- src/lib.rt:31:22
 add-t5 : tie.Need-add-t5
 add-t5 c = search needs
 
--- src/lib.rt:19:5
 returns : tie.Need-returns
 unfolding flipCountOf
 returns c = omega arith
 
--- src/lib.rt:19:5
 returns-2 : tie.Need-returns-2
 unfolding flipCountOf
 returns-2 c = omega arith

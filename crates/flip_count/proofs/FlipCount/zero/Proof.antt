@@ -3,7 +3,6 @@ use Rattle.flip_count.specs.FlipCount.{flipCountOf}
 use Rattle.flip_count.proofs.FlipCount.zero.Statement.{statement}
 use Rattle.flip_count.proofs.FlipCount.zero.Tie as tie
 
--- src/lib.rt:12:5
 returns : tie.Need-returns
 unfolding flipCountOf
 returns c = refl

@@ -1,0 +1,4 @@
+pub mod Legalize
+pub mod Turns
+pub mod LegalizeLaws
+pub mod HullCase
