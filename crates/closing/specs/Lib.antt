@@ -1,2 +1,3 @@
 pub mod Closing
 pub mod ClosingLaws
+pub mod Held

@@ -1,6 +1,7 @@
 // A count of flips. Nothing but the height sum bounds the number of flips, and that passes 2^64: so 128 bits, in two words, and every count is exact.
 ghost use mathlib.Core.Path.{_≡_};
 ghost use Prim.Native.Nat.{_+_, _<_, _^_};
+ghost use lib.Dec.{eqb};
 ghost use Rattle.flip_count.specs.FlipCount.{flipCountOf};
 
 pub struct FlipCount {
@@ -30,6 +31,17 @@ impl FlipCount {
                 high: self.high,
                 low: self.low + 1,
             }
+        }
+    }
+
+    // Whether two counts are the same number.
+    pub fn equals(self, other: FlipCount) -> bool
+        ensures { λ r. ⌜ r ≡ eqb (flipCountOf self) (flipCountOf other) ⌝ }
+    {
+        if self.high == other.high {
+            self.low == other.low
+        } else {
+            false
         }
     }
 }

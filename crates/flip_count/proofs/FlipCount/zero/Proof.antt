@@ -1,3 +1,4 @@
+-- `FlipCount::zero` meets its contract. Assumes nothing.
 use mathlib.Core.Path.{refl}
 use Rattle.flip_count.specs.FlipCount.{flipCountOf}
 use Rattle.flip_count.proofs.FlipCount.zero.Statement.{statement}
