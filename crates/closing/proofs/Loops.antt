@@ -20,8 +20,8 @@ use Rattle.mesh.specs.Mesh.{Links}
 use Rattle.mesh.specs.Area.{heightSum}
 use Rattle.mesh.specs.Operations.{flipCw}
 use Rattle.mesh.specs.Circle.{breaksCircle}
-use Rattle.mesh.specs.HeightBound.{FlipsBound, flips-none, flips-more, flips-fit}
-use Rattle.mesh.specs.FlipRun.{run-good, run-falls}
+use Rattle.mesh.specs.HeightBound.{FlipsBound, flips-none, flips-fit}
+use Rattle.mesh.specs.FlipRun.{run-good, run-bound}
 use Rattle.sums.specs.Until.{Going, going-start, going-turn, going-less, going-end}
 use Rattle.closing.specs.Closing.{Closing, closeEdge, closeBelow, Turned, closeTurn, unturned, closingPass}
 use Rattle.closing.specs.ClosingLaws.{edge-flips, edge-stays, Flipping, flipping-edge, flipping-below, Turning, turnsLeft, turns-fall, begins, enough}
@@ -51,7 +51,7 @@ closable-on {C} {q} {o} {h} {a} {o′} {h′} {a′} {c} {c′} {s} K F e l =
       rows = good-again (K .rows) o′ h′ a′ (l .outs) (l .halves) (l .faces) links (run-good G (F .run));
       few = K .few;
       bound = subst⁻¹ (λ (L : Links). FlipsBound C L (positionOf q) (flipCountOf c′)) links
-          (subst⁻¹ (FlipsBound C (s .links) (positionOf q)) count (flips-more (F .made) (K .bound) (run-falls G (F .run))));
+          (subst⁻¹ (FlipsBound C (s .links) (positionOf q)) count (run-bound G (F .run) (K .bound)));
     }
 
 -- ---- one edge, by whether it breaks the rule

@@ -8,16 +8,19 @@ use Prim.Native.Nat.{ℕ, zero, suc, _+_, _*_, _<_, _≤_}
 use native.Mathlib.Omega.{arith}
 use borrow.Author.Tests.{eqb-true, eqb-false}
 use lib.Dec.{eqb}
-use lib.IntN.{natAbs, _+ℤ_}
+use lib.IntN.{pos, natAbs, _+ℤ_}
+use lib.Signed.{_≤ℤ_}
 use Rattle.math.specs.declared.Point.{Point}
 use Rattle.mesh.specs.declared.Counts.{Counts}
-use Rattle.mesh.specs.Mesh.{Links}
+use Rattle.mesh.specs.Mesh.{Links, In}
 use Rattle.mesh.specs.Operations.{flipCw}
 use Rattle.mesh.specs.Frame.{SameBoundary}
 use Rattle.mesh.specs.Circle.{breaksCircle, Settled}
-use Rattle.mesh.specs.Area.{heightSum, areaTotal, boundaryLength}
+use Rattle.mesh.specs.Area.{heightSum, areaTotal, boundaryLength, circleAt}
+use Rattle.mesh.specs.CircleLaws.{settled-half}
 use Rattle.mesh.specs.FlipRun.{FlipRun, none, then, run-join, run-good, run-boundary, run-length, run-area, run-heights, run-falls, determinants}
 use Rattle.mesh.specs.Good.{Good}
+use Rattle.sums.specs.Half.{rev}
 use Rattle.sums.specs.Bounded.{up-to}
 use Rattle.sums.specs.Until.{until, until-ends, until-fuel, until-ind, Falls}
 use Rattle.closing.specs.Closing.{Closing, closeEdge, closeBelow, Turned, closeTurn, unturned, closingPass}
@@ -174,6 +177,10 @@ module _ {C : Counts} {p : ℕ → Point} {L : Links} (G : Good C L p) where
 
   pub closing-good : Good C (closingPass C p L .links) p
   closing-good = run-good G (closing-closes .run)
+
+  -- no triangle's circle strictly contains a neighbour's far vertex, seen from any half-edge
+  pub closing-settled : {e : ℕ} → In C e → 0 < closingPass C p L .links .face e → 0 < closingPass C p L .links .face (rev e) → circleAt (closingPass C p L .links) p e ≤ℤ pos 0
+  closing-settled = settled-half (closing-closes .settled)
 
   pub closing-boundary : SameBoundary C L (closingPass C p L .links)
   closing-boundary = run-boundary G (closing-closes .run)

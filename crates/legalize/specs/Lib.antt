@@ -2,3 +2,4 @@ pub mod Legalize
 pub mod Turns
 pub mod LegalizeLaws
 pub mod HullCase
+pub mod LegalizeRows

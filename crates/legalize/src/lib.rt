@@ -1,7 +1,105 @@
-// `legalize_edge` and `legalize_edges_after_removal` of triangulation_ext.rs.
+// `legalize_edge` and `legalize_edges_after_removal` of triangulation_ext.rs, with the pending list in a row that the caller lends.
+ghost use mathlib.Core.List.{List, [], _∷_};
+ghost use mathlib.Core.Path.{_≡_};
+ghost use Prim.Native.Nat.{ℕ, _+_, _*_, _^_, _<_};
+ghost use lib.ListN.{length};
+ghost use Rattle.mesh.specs.Mesh.{In};
+ghost use Rattle.dcel.specs.Rows.{linksOf, positionOf, There};
+ghost use Rattle.sums.specs.Half.{rev};
+ghost use Rattle.flip_count.specs.FlipCount.{flipCountOf};
+ghost use Rattle.legalize.specs.Legalize.{edgeOf, turn, legalize, legalizeEdge, legalizeEdgesAfterRemoval};
+ghost use Rattle.legalize.specs.LegalizeRows.{PushReady, Pushes, PopReady, Pops, LegalizeReady, TurnReady, stateOf, TurnLeaves, Leaves};
+ghost use Rattle.legalize.specs.declared.Entry.the-variants.{HalfEdge, Edge};
+use flip_count::FlipCount;
+use mesh::Counts;
 
 // What an entry of the pending list is: a half-edge in `legalize_edge`, an edge in `legalize_edges_after_removal`.
 pub enum Entry {
     HalfEdge,
     Edge,
+}
+
+// The flips so far, those before the call among them, and whether the pushes of a flip would have overfilled the pending list.
+pub struct Legalized {
+    pub flips: FlipCount,
+    pub full: bool,
+}
+
+// An entry that was taken from the pending list: its edge, whether that is to be flipped, and the list's length after the pushes.
+pub struct Popped {
+    pub edge: u32,
+    pub flip: bool,
+    pub length: usize,
+}
+
+// What a turn leaves of the pending list and of the count.
+pub struct Turned {
+    pub length: usize,
+    pub flips: FlipCount,
+    pub full: bool,
+}
+
+fn edge_of(entry: Entry, x: u32) -> u32
+    ensures { λ r. ⌜ r ≡ edgeOf entry x ⌝ }
+{
+    match entry {
+        Entry::HalfEdge => x / 2,
+        Entry::Edge => x,
+    }
+}
+
+// What `legalize_edge` pushes at the flip of the half-edge e.
+fn push_half_edges(halves: &[u32], pending: &mut [u32], n: usize, e: u32) -> usize
+    requires { ⌜ There (now halves) (rev e) ⌝ }
+    ensures { λ r. ⌜ Pushes HalfEdge (now (halves .entry)) e (now (pending .entry)) n (now (pending .exit)) r ⌝ }
+{
+    let t = dcel::rev(e);
+    let rev = dcel::half_edge(halves, t);
+    let m = pending::push(pending, n, rev.next);
+    pending::push(pending, m, rev.prev)
+}
+
+// What `legalize_edges_after_removal` pushes at the flip of the edge u.
+fn push_edges(halves: &[u32], pending: &mut [u32], n: usize, u: u32) -> usize
+    requires { ⌜ (2 * u + 1 < 2 ^ 32) × There (now halves) (2 * u + 1) ⌝ }
+    ensures { λ r. ⌜ Pushes Edge (now (halves .entry)) u (now (pending .entry)) n (now (pending .exit)) r ⌝ }
+{
+    let edge = dcel::half_edge(halves, 2 * u);
+    let rev = dcel::half_edge(halves, 2 * u + 1);
+    let n1 = pending::push_if_not_contained(pending, n, edge.next / 2);
+    let n2 = pending::push_if_not_contained(pending, n1, edge.prev / 2);
+    let n3 = pending::push_if_not_contained(pending, n2, rev.next / 2);
+    pending::push_if_not_contained(pending, n3, rev.prev / 2)
+}
+
+fn push_neighbours(halves: &[u32], pending: &mut [u32], n: usize, x: u32, entry: Entry) -> usize
+    requires { ⌜ PushReady entry (now halves) x ⌝ }
+    ensures { λ r. ⌜ Pushes entry (now (halves .entry)) x (now (pending .entry)) n (now (pending .exit)) r ⌝ }
+{
+    match entry {
+        Entry::HalfEdge => push_half_edges(halves, pending, n, x),
+        Entry::Edge => push_edges(halves, pending, n, x),
+    }
+}
+
+// Takes the last entry and tests its edge. The pushes come before the flip, which changes the links that they read.
+fn pop(positions: &[i32], halves: &[u32], pending: &mut [u32], n: usize, entry: Entry) -> Popped
+    requires { ⌜ PopReady entry (now positions) (now halves) (now pending) n ⌝ }
+    ensures { λ r. ⌜ Pops entry (now (positions .entry)) (now (halves .entry)) (now (pending .entry)) n (now (pending .exit)) r ⌝ }
+{
+    let x = pending::last(pending, n);
+    let u = edge_of(entry, x);
+    if circle_test::should_flip(positions, halves, u) {
+        let m = push_neighbours(halves, pending, n - 1, x, entry);
+        return Popped {
+            edge: u,
+            flip: true,
+            length: m,
+        };
+    }
+    Popped {
+        edge: u,
+        flip: false,
+        length: n - 1,
+    }
 }

@@ -49,7 +49,7 @@ heights-small {C} {L} {p} G = sum-small (C .faces - 1) (2 ^ 102) (λ f. atCorner
     let b = G .wf .ranges .next< a in
     height-small (G .range (G .wf .ranges .origin< a)) (G .range (G .wf .ranges .origin< b)) (G .range (G .wf .ranges .origin< (G .wf .ranges .next< b))))
 
--- ---- flips made and height left
+-- ---- flips made and height left: this never grows at a flip of an edge that breaks the circle rule
 pub record FlipsBound (C : Counts) (L : Links) (p : ℕ → Point) (flips : ℕ) : Type 0 where
   pub bound : flips + natAbs (heightSum C L p) ≤ (C .faces - 1) * 2 ^ 102
 
@@ -58,8 +58,17 @@ below : (n h f F K : ℕ) → n + h ≤ (f - 1) * K → 1 ≤ F → f ≤ F → 
 below n h zero F K b i l k = let m : 1 * 1 ≤ F * K = mul-le-mul i k in omega arith
 below n h (suc f) F K b i l k = let m = mul-le-mul l (le-refl K) in let q = suc-mul f K in let e : suc f - 1 ≡ f = omega arith in omega (arith, rw e at b)
 
+strict : (n A : ℕ) → n + 1 ≤ A → n < A
+strict n A l = omega arith
+
 double : (n A : ℕ) → 1 ≤ A → n + 1 ≤ A → n + 1 < A + A
 double n A i l = omega arith
+
+pub heights-fit : {C : Counts} {L : Links} {p : ℕ → Point} → Good C L p → C .faces ≤ 2 ^ 25 → natAbs (heightSum C L p) < 2 ^ 127
+heights-fit {C} {L} {p} G l =
+    let H = natAbs (heightSum C L p) in
+    let h = heights-small G in
+    strict H (2 ^ 127) (below H 0 (C .faces) (2 ^ 25) (2 ^ 102) (omega arith) (omega arith) l (omega arith))
 
 module _ {C : Counts} {L : Links} {p : ℕ → Point} where
   -- where a count begins
