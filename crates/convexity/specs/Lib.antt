@@ -1,0 +1,6 @@
+pub mod Convexity
+pub mod Walk
+pub mod CornerLaws
+pub mod WalkLaws
+pub mod StackLaws
+pub mod ConvexityLaws
