@@ -2,7 +2,7 @@
 
 use std::process::{Command, Stdio};
 
-use oracle::case::{read_list, Answer, Case, Ending};
+use oracle::case::{read_list, reason, Answer, Case, Ending};
 use oracle::compare::difference;
 use oracle::delaunay_core::bulk_load::driver::{self, angle, answer, boundary_angles, built};
 use oracle::mesh::{orient, Mesh, Position};
@@ -132,6 +132,17 @@ fn differences_of_other_seeds() {
     let Ending::Inside { stepped, .. } = answer(&case.cut(1), true).ending else { panic!("not inside") };
     let angles = boundary_angles(&built(&stepped), Point2::new(-0.5, 0.0));
     assert!(driver::is_sound(&angles) && !driver::is_strict(&angles));
+}
+
+/// The watch for flips beside the outer face can fire: on a mesh with a triangle that turns right, which
+/// every call refuses.
+#[test]
+fn other_flips_are_noticed() {
+    let positions = [[0, 0], [-1, 0], [-1, 1], [0, -1], [0, -2]];
+    let seed = mesh_of(&positions, &[[0, 1, 2], [2, 1, 3], [2, 3, 4]]);
+    assert_eq!(seed.refusal(&[]), Some(5));
+    let mut sweep = driver::Sweep::new(&seed, [2.5, -0.75]).ok().unwrap();
+    assert_eq!(sweep.pass(), Err(reason::OTHER_FLIP));
 }
 
 #[test]
