@@ -22,6 +22,11 @@ pub mod Rules
 pub mod RulesWf
 pub mod Good
 pub mod GoodLaws
+pub mod Circle
+pub mod CircleLaws
+pub mod HeightBound
 pub mod BoundarySequence
+pub mod FlipRun
 pub mod Examples
 pub mod AreaExamples
+pub mod WfParts

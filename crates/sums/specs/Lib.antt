@@ -10,3 +10,4 @@ pub mod Store
 pub mod Tally
 pub mod Until
 pub mod Examples
+pub mod Orbits
