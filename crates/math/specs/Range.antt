@@ -1,16 +1,16 @@
 -- A bound on an absolute value, as the code tests it: from above and from below. And what the range of coordinates says of a point.
 -- Assumes nothing.
-use mathlib.Core.Path.{_≡_, refl, sym, subst}
-use mathlib.Core.Bool.{Bool, true, false}
+use mathlib.Core.Path.{_≡_, refl, ap₂}
+use mathlib.Core.Bool.{Bool, true, false, _&&_, false≢true}
 use Prim.Native.Nat.{ℕ, zero, suc, _<_, _≤_, suc-le-suc, zero-le}
 use native.Mathlib.Nat.{not-suc-le-zero}
-use borrow.Author.Tests.{le-leb, lt-leb}
-use lib.Dec.{T, leb, leb→le, ltb→lt}
+use borrow.Author.Tests.{le-leb, lt-leb, leb-true}
+use lib.Dec.{T, leb, ltb→lt}
 use lib.IntN.{ℤ, pos, negsuc, negℤ, natAbs}
 use lib.Signed.{ltZ, _<ℤ_, _≤ℤ_}
 use Rattle.algebra.specs.Bound.{abs-by}
 use Rattle.math.specs.declared.Point.{Point}
-use Rattle.math.specs.Determinant.{InRange, isValidCoordinate}
+use Rattle.math.specs.Determinant.{InRange, isValidCoordinate, isValidVertex}
 
 pub abs-above : (B : ℕ) {z : ℤ} → pos B <ℤ z → B < natAbs z
 abs-above B {z} h = go z (h .lt)
@@ -38,12 +38,15 @@ test-above B {z} h = lt-leb (natAbs z) B (abs-above B h)
 pub test-below : (B : ℕ) {z : ℤ} → z <ℤ negℤ (pos B) → leb (natAbs z) B ≡ false
 test-below B {z} h = lt-leb (natAbs z) B (abs-below B h)
 
--- ---- a point in range is one whose coordinates are valid
-pub in-range : {p : Point} → isValidCoordinate (p .x) ≡ true → isValidCoordinate (p .y) ≡ true → InRange p
-in-range {p} h k = record { x = leb→le (natAbs (p .x)) 16777216 (subst T (sym h) tt); y = leb→le (natAbs (p .y)) 16777216 (subst T (sym k) tt) }
+-- ---- a point in range is a valid vertex
+both : (a b : Bool) → (a && b) ≡ true → (a ≡ true) × (b ≡ true)
+both true b e = (refl, e)
+both false b e = absurd (false≢true e)
 
-pub range-x : {p : Point} → InRange p → isValidCoordinate (p .x) ≡ true
-range-x {p} h = le-leb (natAbs (p .x)) 16777216 (h .x)
+pub in-range : {p : Point} → isValidVertex p ≡ true → InRange p
+in-range {p} e =
+    let h = both (isValidCoordinate (p .x)) (isValidCoordinate (p .y)) e in
+    record { x = leb-true (natAbs (p .x)) 16777216 (h .0); y = leb-true (natAbs (p .y)) 16777216 (h .1) }
 
-pub range-y : {p : Point} → InRange p → isValidCoordinate (p .y) ≡ true
-range-y {p} h = le-leb (natAbs (p .y)) 16777216 (h .y)
+pub valid-vertex : {p : Point} → InRange p → isValidVertex p ≡ true
+valid-vertex {p} h = ap₂ _&&_ (le-leb (natAbs (p .x)) 16777216 (h .x)) (le-leb (natAbs (p .y)) 16777216 (h .y))

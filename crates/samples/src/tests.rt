@@ -1,0 +1,83 @@
+// The samples of the exact tests.
+use math::LineSideInfo;
+use math::Point;
+
+struct At {
+    p: Point,
+    at: usize,
+}
+
+fn point(text: &[u8], at: usize) -> At {
+    let x = test_text::read_number(text, at);
+    let y = test_text::read_number(text, x.at);
+    At {
+        p: Point {
+            x: test_text::signed(x),
+            y: test_text::signed(y),
+        },
+        at: y.at,
+    }
+}
+
+// A sign as the list writes it: 1, 0 or -1.
+fn is_sign(side: LineSideInfo, n: test_text::Number) -> bool {
+    match side {
+        LineSideInfo::OnLeftSide => n.magnitude == 1 && !n.negative,
+        LineSideInfo::OnRightSide => n.magnitude == 1 && n.negative,
+        LineSideInfo::OnLine => n.magnitude == 0,
+    }
+}
+
+fn side(a: Point, b: Point, c: Point, expected: test_text::Number) -> bool {
+    if math::validate_vertex(a) {
+        if math::validate_vertex(b) {
+            if math::validate_vertex(c) {
+                return is_sign(math::side_query(a, b, c), expected);
+            }
+        }
+    }
+    false
+}
+
+fn behind(a: Point, b: Point, c: Point, expected: test_text::Number) -> bool {
+    if math::validate_vertex(a) {
+        if math::validate_vertex(b) {
+            if math::validate_vertex(c) {
+                return math::is_behind_edge(a, b, c) == (expected.magnitude == 1);
+            }
+        }
+    }
+    false
+}
+
+fn circle(a: Point, b: Point, c: Point, d: Point, expected: test_text::Number) -> bool {
+    if math::validate_vertex(a) {
+        if math::validate_vertex(b) {
+            if math::validate_vertex(c) {
+                if math::validate_vertex(d) {
+                    let inside = expected.magnitude == 1 && !expected.negative;
+                    return math::contained_in_circumference(a, b, c, d) == inside;
+                }
+            }
+        }
+    }
+    false
+}
+
+// The sample behind the tag at a place.
+pub fn holds(text: &[u8], at: usize, tag: u8) -> bool {
+    let start = if at < text.len() { at + 1 } else { at };
+    let a = point(text, start);
+    let b = point(text, a.at);
+    let c = point(text, b.at);
+    if tag == b'i' {
+        let d = point(text, c.at);
+        let n = test_text::read_number(text, d.at);
+        return circle(a.p, b.p, c.p, d.p, n);
+    }
+    let n = test_text::read_number(text, c.at);
+    if tag == b'o' {
+        return side(a.p, b.p, c.p, n);
+    }
+    behind(a.p, b.p, c.p, n)
+}

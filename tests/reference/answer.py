@@ -1,0 +1,73 @@
+"""The reference as the side that is compared with the Rust oracle: inputs on stdin, answers on stdout, in
+the oracle's text format (oracle/FORMAT.md).
+
+    python3 answer.py < inputs.txt > answers.txt
+"""
+
+import struct
+import sys
+
+import meshes
+import sweep
+
+PLENTY = 1 << 30  # pending entries: refusal 9 is never given
+
+
+def of_bits(b):
+    return struct.unpack("<d", struct.pack("<Q", b))[0]
+
+
+def pairs(numbers):
+    return list(zip(numbers[0::2], numbers[1::2]))
+
+
+def inputs(stream):
+    """The lines `i m p o h f c q` of each case."""
+    case = {}
+    for line in stream:
+        if line.startswith("#"):
+            continue
+        tag, *numbers = line.split()
+        case[tag] = [int(n) for n in numbers]
+        if tag == "q":
+            yield case
+            case = {}
+
+
+def mesh_of(case):
+    v, e, f = case["m"]
+    return sweep.Mesh(case["p"], case["o"], case["h"], case["f"], v, e, f)
+
+
+def line(tag, numbers):
+    return " ".join([tag] + [str(n) for n in numbers])
+
+
+def mesh_lines(mesh):
+    v, e, f = mesh.counts()
+    return [line("m", (v, e, f)), line("p", mesh.positions[:2 * v]), line("o", mesh.outs[:v]),
+            line("h", mesh.halves[:8 * e]), line("f", mesh.stored[:f])]
+
+
+def answer(case):
+    points = pairs(case["q"])
+    centre = tuple(of_bits(b) for b in case["c"])
+    given = mesh_of(case)
+    n = given.vertices + len(points)
+    mesh = meshes.with_room(given, max(n, given.vertices))
+    try:
+        sweep.refuse_run(mesh, sweep.lent_for(n, 8, len(points)), centre, points, len(points))
+    except sweep.Refusal as r:
+        return [line("r", (r.number, r.place))]
+    answers = []
+    for p in points:
+        answers += sweep.one_step(mesh, p, centre, PLENTY)
+    out = [line("a", answers)] + mesh_lines(mesh)
+    faces = mesh.faces
+    flips = sweep.fix_convexity(mesh, PLENTY)
+    return out + [line("g", (mesh.faces - faces, flips))] + mesh_lines(mesh)
+
+
+if __name__ == "__main__":
+    for case in inputs(sys.stdin):
+        print("\n".join([line("i", case["i"])] + answer(case) + ["e"]))

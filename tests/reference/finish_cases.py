@@ -1,0 +1,119 @@
+"""Meshes for the call `finish`, with the mesh, the counts and the refusal that it must leave.
+
+    python3 finish_cases.py > lists/finish.txt
+
+The answers come from sweep.py; those of accepted cases are held against what demand 3 claims of a
+finished mesh.
+"""
+
+import random
+
+import check_cases
+import lists
+import meshes
+import selfcheck
+import sweep
+
+ENOUGH = 1000
+
+
+def need(mesh):
+    """The least number of pending entries, 8 or more, with which a finish is not refused 9."""
+    for pending in range(sweep.LEAST_PENDING, ENOUGH):
+        # A short list is refused early, so trying one after another is cheap.
+        if sweep.finish(mesh.copy(), sweep.Lent(pending=[7] * pending))[0] != 9:
+            return pending
+    raise ValueError
+
+
+def add(out, name, mesh, pending):
+    given = lists.with_past(mesh, max(mesh.vertices, len(mesh.outs)))
+    after, lent = given.copy(), sweep.Lent(pending=[7] * pending)
+    answer = sweep.finish(after, lent)
+    out.remark(name)
+    out.add(*lists.mesh_lines(given), lists.line("q", (pending, 7)))
+    if answer[0] in (0, 9):
+        selfcheck.standing(after)
+        assert not any(lent.pending) and after.left_out == 0
+        selfcheck.untouched(after.rows(), given.rows(), after.counts())
+        out.add(*lists.mesh_lines(after, "MPOHF"))
+    else:
+        assert after.rows() == given.rows() and set(lent.pending) <= {7}
+    if answer[0] == 0:
+        selfcheck.finished(after)
+    out.add(lists.line("r", answer))
+    return answer
+
+
+def both_sides_of_full(out, name, mesh):
+    """With just enough pending entries, and with one fewer where that may be lent."""
+    n = need(mesh)
+    answer = add(out, "%s, %d entries" % (name, n), mesh, n)
+    assert answer[0] == 0
+    if n > sweep.LEAST_PENDING:
+        assert add(out, "%s, %d entries" % (name, n - 1), mesh, n - 1)[0] == 9
+    if n > sweep.LEAST_PENDING + 1:
+        assert add(out, "%s, 8 entries" % name, mesh, 8)[0] == 9
+
+
+def refused(out):
+    t, s = check_cases.triangle(), check_cases.square()
+    flat = check_cases.triangle((0, 0), (2, 2), (4, 4))
+    add(out, "two vertices", check_cases.counted(t, 2), 8)
+    add(out, "seven pending entries", t, 7)
+    add(out, "no pending entries", t, 0)
+    for row in "pohf":
+        given = check_cases.cut(s, row)
+        out.remark("one entry short: " + row)
+        out.add(*lists.mesh_lines(given), lists.line("q", (8, 7)),
+                lists.line("r", sweep.finish(given, sweep.Lent(pending=[7] * 8))))
+    add(out, "seven pending entries and a coordinate beyond", check_cases.changed(t, "p", 3, 1 << 25), 7)
+    add(out, "a coordinate beyond", check_cases.changed(t, "p", 3, 1 << 25), 8)
+    add(out, "a broken link", check_cases.changed(s, "h", 0, 9), 8)
+    add(out, "a flat face", flat, 8)
+
+
+def main():
+    out, rng = lists.List("finish_cases.py"), random.Random(52)
+    refused(out)
+    add(out, "a triangle: nothing to do", check_cases.triangle(), 8)
+    add(out, "a square: four on a circle keep their diagonal", check_cases.square(), 8)
+    five = sweep.seed_triangle([(0, 0), (4, 0), (2, 1)], 4)
+    sweep.create_new_face_adjacent_to_edge(five, 1, (2, -1))
+    add(out, "M5's two triangles: one closing flip", five, 8)
+    for n in (4, 6, 9, 13, 20, 30):
+        add(out, "zigzag arms of %d" % n, meshes.zigzag_arms(n), 8)
+    for n in (2, 5, 9):
+        add(out, "an unsettled fan of %d" % n, unsettled_fan(n), 8)
+    for n in (5, 7, 8, 9, 12):
+        both_sides_of_full(out, "a corner beside a fan of %d" % n, meshes.corner_beside_fan(n))
+    for mesh in (check_cases.two_fans(True), check_cases.winding_twice(), check_cases.overlapping(),
+                 check_cases.equal_positions(), check_cases.hexagon()):
+        both_sides_of_full(out, "a lawful oddity", mesh)
+    pinched = meshes.of_triangles([(0, 0), (4, 1), (4, 4), (-4, 1), (-4, -4), (1, -9), (4, -9)],
+                                  [(0, 1, 2), (0, 3, 4), (0, 5, 6)])
+    both_sides_of_full(out, "three fans at a vertex", pinched)
+    for i in range(24):
+        mesh = meshes.grown(rng, rng.randint(4, 11), rng.choice([4, 10, 1000, sweep.LIMIT]), flips=30)
+        both_sides_of_full(out, "random %d" % i, meshes.renumbered(mesh, rng))
+    found = 0
+    while found < 14:  # random meshes that fill eight entries
+        mesh = meshes.grown(rng, rng.randint(9, 14), rng.choice([10, 100, 10000]), flips=60, closing=0.1)
+        mesh = meshes.renumbered(mesh, rng)
+        if sweep.finish(mesh.copy(), sweep.Lent(pending=[7] * 8))[0] == 9:
+            found += 1
+            both_sides_of_full(out, "filling %d" % found, mesh)
+    out.print()
+
+
+def unsettled_fan(triangles):
+    """A fan whose circles hold the neighbours' far vertices."""
+    mesh = meshes.flat_fan(triangles)
+    mesh = meshes.with_room(mesh, mesh.vertices + 1)
+    e = next(e for e in sweep.boundary(mesh) if mesh.to(e) == 0)
+    sweep.create_new_face_adjacent_to_edge(mesh, e, (1, -1))
+    return mesh
+
+
+if __name__ == "__main__":
+    main()

@@ -1,0 +1,355 @@
+"""Checks of the reference itself: 01's listing, M1 to M10, rare cases, and an adversarial
+campaign of whole runs that asserts what demand 3 claims of them.
+
+    python3 selfcheck.py [seconds of campaign, 20 if none is given] [seed]
+"""
+
+import math
+import random
+import sys
+import time
+
+import hull
+import meshes
+import sweep
+
+SAMPLE = b"S 0 0 4 0 0 4\nC 1 1\nP 4 4\nP 2 2\nP 4 4\nP 1 1\n"
+SAMPLE_OUT = (b"p 0 1 3 1 0\np 1 3 0 0 0\np 2 2 0 0 0\np 3 5 0 0 0\nt 4 5 2 32 0 0 0\n")
+
+
+def run_of(seed, centre, points, pending=4096):
+    n = seed.vertices + len(points)
+    mesh, lent = meshes.with_room(seed, n), sweep.lent_for(n, pending, len(points))
+    return mesh, lent, sweep.run(mesh, lent, centre, points)
+
+
+def marked():
+    """M1 to M10."""
+    o = (0.0, 0.0)
+    for p, a in (((-4, 0), 1.0), ((0, 4), 0.25), ((4, 0), 0.5), ((0, -4), 0.75), ((4, 4), 0.375),
+                 ((-4, -4), 0.875)):
+        assert sweep.pseudo_angle(p, o) == a, "M1"
+    assert sweep.pseudo_angle((-16777216, 0), (0.0, -2.0 ** -40)) == 0.0, "M2"
+    corners = [(0, 0), (4, 0), (0, 4)]
+    seed = sweep.seed_triangle(corners, 3)
+    assert [sweep.pseudo_angle(p, (1.0, 1.0)) for p in corners] == [0.875, 0.5625, 0.1875], "M3"
+    assert ([a for a, _ in sweep.boundary_angles(seed, (1.0, 1.0))] == [0.5625, 0.875, 0.1875]), "M3"
+    mesh, _, answer = run_of(seed, (1.0, 1.0), [(4, 4), (2, 2), (4, 4), (1, 1)])
+    assert answer[0] == 0 and sweep.height_sum(mesh) == 1536, "M4"
+
+    five = sweep.seed_triangle([(0, 0), (4, 0), (2, 1)], 4)
+    assert sweep.incircle((0, 0), (4, 0), (2, 1), (2, -1)) == 24, "M5"
+    before = five.copy()
+    sweep.create_new_face_adjacent_to_edge(before, 1, (2, -1))
+    assert sweep.height_sum(before) == 168, "M5"
+    lent = sweep.lent_for(4, 8)
+    assert sweep.step(five, lent, (2.0, 0.5), (2, -1)) == (0, 0, (1, 3, 1, 1)), "M5"
+    assert sweep.height_sum(five) == 144, "M5"
+
+    big = sweep.seed_triangle([(0, 0), (16777216, 0), (0, 16777216)], 3)
+    assert sweep.check(big) == (0, 0), "M6"
+    big.positions[2] += 1
+    assert sweep.check(big) == (3, 1), "M6"
+    two = sweep.seed_triangle(corners, 3)
+    two.vertices = 2
+    assert sweep.check(two) == (1, 0), "M7"
+    assert sweep.locate(seed, sweep.lent_for(3, 8), (1.0, 1.0), 1.0)[0] == 0, "M8"
+    assert sweep.locate(seed, sweep.lent_for(3, 8), (1.0, 1.0), float("nan"))[:2] == (8, 0), "M8"
+    assert run_of(seed, (9.0, 9.0), [])[2][:2] == (7, 0), "M9"
+    mesh, _, answer = run_of(five, (2.0, 0.5), [])
+    alone = five.copy()
+    assert answer == sweep.finish(alone, sweep.lent_for(4, 8)) and alone.rows() == mesh.rows(), "M10"
+
+
+def examples():
+    """Rare cases, each at its smallest."""
+    tri = sweep.seed_triangle
+    _, lent, answer = run_of(tri([(0, 0), (0, -1), (1, 1)], 3), (1.0, -1.0), [(-2, -1)])
+    assert answer[0] == 0 and lent.answers == [4, 0, 0, 0], "fate 4"
+
+    mesh, lent, answer = run_of(tri([(-6, 4), (0, -6), (6, 4)], 3), (6.0, -5.0),
+                                [(6, 0), (12, -2), (6, 4)])
+    assert answer[0] == 0 and lent.answers[0::4] == [1, 1, 1], "a vertex at an existing position"
+    assert mesh.at(2) == mesh.at(5) == (6, 4)
+    ring = [mesh.at(mesh.origin(e)) for e in sweep.boundary(mesh)]
+    n = len(ring)
+    corners = [(ring[i], ring[(i + 1) % n], ring[(i + 2) % n]) for i in range(n)]
+    assert any(a == c or (sweep.orient2d(a, b, c) == 0
+                          and (b[0] - a[0]) * (c[0] - b[0]) + (b[1] - a[1]) * (c[1] - b[1]) < 0)
+               for a, b, c in corners), "turns straight back"
+
+    mesh = tri([(-3, 3), (6, -6), (-3, 9)], 5)
+    for p in ((-18, 12), (-9, 6)):
+        sweep.one_step(mesh, p, (0.0, 2.0), 4096)
+    assert sweep.convexity_passes(mesh, 4096)[1] == 3, "one extra pass"
+
+    seed = tri([(-1, 0), (1, -1), (0, 0)], 5)
+    centre = (-0.5, 0.0)
+    assert sweep.strict(sweep.boundary_angles(seed, centre))
+    assert sweep.one_step(seed, (1, 0), centre, 8)[0] == 1
+    angles = sweep.boundary_angles(seed, centre)
+    assert sweep.sound(angles) and not sweep.strict(angles), "sound but not strict"
+    assert sweep.one_step(seed, (3, 5), centre, 8)[0] == 1
+
+    for triangles, pending, number in ((7, 8, 0), (8, 8, 9), (8, 9, 0), (9, 9, 9)):
+        seed = meshes.flat_fan(triangles)
+        _, _, answer = run_of(seed, (70.0, 3.0), [(1, -1)], pending)
+        assert answer[0] == number, "a fan of n triangles needs n + 1 pending entries"
+
+
+# ---------------------------------------------------------------------------------------------------
+# Demand 3 on whole runs
+
+
+def corners_of(mesh):
+    """01: "a corner is the origins of e, of next(e) and of the one after, for each e of face 0" """
+    for e in sweep.boundary(mesh):
+        n = mesh.next(e)
+        yield tuple(mesh.at(mesh.origin(h)) for h in (e, n, mesh.next(n)))
+
+
+def standing(mesh):
+    """Linked, left-turning, its areas adding up."""
+    assert sweep.check(mesh) == (0, 0), "rules"
+    assert sweep.inner_area(mesh) == sweep.boundary_area(mesh), "areas"
+
+
+def finished(mesh):
+    standing(mesh)
+    assert not any(sweep.left(*c) for c in corners_of(mesh)), "left corner"
+    for f in range(1, mesh.faces):
+        for e in sweep.cycle(mesh.next, mesh.stored[f], 3):
+            far = mesh.far(sweep.rev(e))
+            if far is not None:
+                assert sweep.incircle(*sweep.face_corners(mesh, f), mesh.at(far)) <= 0, "circle"
+
+
+def vertices_kept(mesh, seed, points, answers):
+    """The vertices are the seed's and the points of fate 1, each at its position, numbered in order."""
+    expected = [seed.at(v) for v in range(seed.vertices)]
+    for i, p in enumerate(points):
+        if answers[4 * i] == 1:
+            assert answers[4 * i + 1] == len(expected), "vertex number"
+            expected.append(p)
+        else:
+            assert answers[4 * i + 1:4 * i + 4] == [0, 0, 0]
+    assert [mesh.at(v) for v in range(mesh.vertices)] == expected, "vertices"
+
+
+def untouched(rows, before, counts):
+    """Entries past the counts in use."""
+    v, e, f = counts
+    for row, was, used in zip(rows, before, (2 * v, v, 8 * e, f)):
+        assert row[used:] == was[used:], "entries past the counts"
+
+
+def one_pass_with_counter(mesh, capacity):
+    """The pass without a stack: a counter, for the stack is a chain of boundary edges."""
+    length, current, depth, flips = 2 * mesh.edges - 3 * (mesh.faces - 1), mesh.stored[0], 0, 0
+    for _ in range(length + 1):
+        current, depth = mesh.next(current), depth + 1
+        while depth >= 2:
+            e2 = mesh.prev(current)
+            e1 = mesh.prev(e2)
+            if not sweep.left(mesh.at(mesh.origin(e1)), mesh.at(mesh.to(e1)), mesh.at(mesh.to(e2))):
+                break
+            sweep.create_single_face_between_edge_and_next(mesh, e1)
+            depth -= 1
+            flips += sweep.legalize_edges_after_removal(mesh, [e1 // 2, e2 // 2], capacity)
+    return flips
+
+
+def steps_watched(seed, centre, points, pending, tally):
+    """The run's steps once more, one by one, with the carried ring beside them and the height sum's
+    fall held against the flips; answers the mesh that they leave."""
+    mesh = meshes.with_room(seed, seed.vertices + len(points))
+    carried = hull.Hull(mesh, centre)
+    carried.agree(mesh)
+    for p in points:
+        fate, edge = sweep.fate_of(mesh, p, centre)
+        if fate != 5:
+            assert carried.get(sweep.pseudo_angle(p, centre))[0] == edge, "located"
+        if fate != 1:
+            continue
+        angle = sweep.pseudo_angle(p, centre)
+        chain = sweep.chain_of(mesh, edge, p, angle, centre)
+        bare = mesh.copy()
+        before, counts = mesh.copy(), mesh.counts()
+        vertex, faces, flips = sweep.insertion(mesh, edge, p, centre, pending)
+        assert faces == len(chain) and mesh.counts() == (counts[0] + 1, counts[1] + faces + 1,
+                                                         counts[2] + faces), "counts of a step"
+        sweep.create_new_face_adjacent_to_edge(bare, edge, p)  # the same faces without flips
+        for e in reversed(chain[:chain.index(edge)]):
+            sweep.create_single_face_between_edge_and_next(bare, e)
+        for _ in chain[chain.index(edge) + 1:]:
+            out = next(e for e in sweep.turn_about(bare, vertex) if bare.face(e) == 0)
+            sweep.create_single_face_between_edge_and_next(bare, out)
+        assert sweep.height_sum(bare) - sweep.height_sum(mesh) >= flips, "height"
+        assert sweep.sound(sweep.boundary_angles(mesh, centre))
+        carried.insert_vertex(mesh, vertex)
+        size, buckets, nodes = carried.agree(mesh)
+        n = seed.vertices + len(points)
+        assert nodes <= n + 1 and buckets <= max(16, n), "ring rows"
+        tally["most buckets"] = max(tally.get("most buckets", 0), buckets)
+    return mesh
+
+
+def finish_watched(mesh, pending, tally):
+    """The finish once more, pass by pass."""
+    twin = mesh.copy()
+    flips = 0
+    passes = 0
+    while True:
+        faces = mesh.faces
+        flips += sweep.fix_convexity(mesh, pending)
+        one_pass_with_counter(twin, pending)
+        assert mesh.rows() == twin.rows() and mesh.counts() == twin.counts(), "stack and counter"
+        passes += 1
+        if mesh.faces == faces:
+            break
+    tally["most passes"] = max(tally.get("most passes", 0), passes)
+    height = sweep.height_sum(mesh)
+    closing = sweep.closing_pass(mesh)
+    assert height - sweep.height_sum(mesh) >= closing, "height"
+    return flips, closing
+
+
+def whole_run(seed, centre, points, pending, tally):
+    mesh, lent, answer = run_of(seed, centre, points, pending)
+    key = "refused %d" % answer[0] if answer[0] else "accepted"
+    tally[key] = tally.get(key, 0) + 1
+    given = meshes.with_room(seed, seed.vertices + len(points))
+    if answer[0] and answer[0] != 9:
+        assert mesh.rows() == given.rows() and mesh.counts() == given.counts(), "refused: untouched"
+        assert set(lent.nodes + lent.pending + lent.answers) <= {7}
+        return
+    assert not any(lent.nodes + lent.freed + lent.buckets + lent.pending), "zeros"
+    for fate in filter(None, lent.answers[0::4]):
+        tally["fate %d" % fate] = tally.get("fate %d" % fate, 0) + 1
+    untouched(mesh.rows(), given.rows(), mesh.counts())
+    assert mesh.left_out == 0, "a flip left out"
+    if answer[0] == 9:
+        standing(mesh)
+        assert not any(lent.answers[4 * answer[1]:])
+        return
+    vertices_kept(mesh, seed, points, lent.answers)
+    finished(mesh)
+    again = steps_watched(seed, centre, points, pending, tally)
+    standing(again)
+    flips, closing = finish_watched(again, pending, tally)
+    assert (flips, closing) == answer[3:] and again.rows() == mesh.rows(), "the run step by step"
+    tally["flips"] = tally.get("flips", 0) + sum(lent.answers[3::4]) + flips
+    tally["closing flips"] = tally.get("closing flips", 0) + closing
+    settled = meshes.with_room(mesh, mesh.vertices)
+    same = settled.copy()
+    assert sweep.finish(settled, sweep.lent_for(mesh.vertices, 8)) == (0, 0, 0, 0, 0), "finished twice"
+    assert settled.rows() == same.rows()
+
+
+def random_points(rng, centre, spread, count):
+    """Lists that are sorted by distance, unsorted, spiral, on few rays, repeated."""
+    kind = rng.randrange(6)
+    box = lambda: (rng.randint(-spread, spread), rng.randint(-spread, spread))
+    points = [box() for _ in range(count)]
+    if kind == 1:
+        points.sort(key=lambda p: (p[0] - centre[0]) ** 2 + (p[1] - centre[1]) ** 2)
+    elif kind == 2:
+        points.sort(key=lambda p: sweep.pseudo_angle(p, (centre[0] + 0.125, centre[1] + 0.0625)))
+    elif kind == 3:
+        rays = [(rng.randint(-3, 3), rng.randint(-3, 3)) for _ in range(4)]
+        cx, cy = round(centre[0]), round(centre[1])
+        for i in range(count):
+            (dx, dy), k = rng.choice(rays), rng.randint(0, 6)
+            points[i] = (cx + k * dx, cy + k * dy)
+    elif kind == 4:
+        points = [rng.choice(points[:max(1, count // 3)]) for _ in range(count)]
+    elif kind == 5:
+        points = [(x if rng.random() < 0.7 else round(centre[0]), y) for x, y in points]
+    clip = lambda c: max(-sweep.LIMIT, min(sweep.LIMIT, c))
+    return [(clip(x), clip(y)) for x, y in points]
+
+
+def random_centre(rng, seed, spread):
+    kind = rng.randrange(4)
+    if kind == 0:
+        f = rng.randrange(1, seed.faces)
+        xs = sweep.face_corners(seed, f)
+        return (sum(x for x, _ in xs) * (1.0 / 3.0), sum(y for _, y in xs) * (1.0 / 3.0))
+    if kind == 1:
+        return (float(rng.randint(-spread, spread)), float(rng.randint(-spread, spread)))
+    if kind == 2:
+        return (rng.randint(-2 * spread, 2 * spread) / 2, rng.randint(-2 * spread, 2 * spread) / 2)
+    return (rng.uniform(-spread, spread), rng.uniform(-spread, spread) * 2.0 ** -rng.randint(0, 60))
+
+
+def random_seed(rng, spread):
+    kind = rng.randrange(3)
+    if kind == 0:
+        return meshes.grown(rng, 3, spread)
+    mesh = meshes.grown(rng, rng.randint(3, 12), spread, flips=rng.randrange(20))
+    return meshes.renumbered(mesh, rng) if kind == 1 else mesh
+
+
+def built(rng):
+    """A seed of a special make, renumbered, with a centre that suits it and points about it."""
+    kind = rng.randrange(4)
+    if kind == 0:
+        mesh, centre, last = meshes.flat_fan(rng.randint(5, 12)), (70.0, 3.0), (1, -1)
+    elif kind == 1:
+        mesh, centre, last = meshes.corner_beside_fan(rng.randint(2, 9)), (-1.0, 0.5), (-9, 0)
+    elif kind == 2:
+        mesh, centre = meshes.zigzag_arms(rng.randint(4, 16)), (0.0, -13000000.0)
+        last = (rng.randint(-9, 9), sweep.LIMIT)
+    else:
+        n, r = rng.randint(5, 40), rng.choice([60, 9000, sweep.LIMIT - 1])
+        around = [(round(r * math.cos(6.28 * i / n)), round(r * math.sin(6.28 * i / n)))
+                  for i in range(n)]
+        mesh, centre = meshes.rim(around), (rng.uniform(-9, 9), rng.uniform(-9, 9))
+        meshes.random_flips(mesh, rng, 3 * n)
+        last = (sweep.LIMIT, sweep.LIMIT)
+    points = random_points(rng, centre, rng.choice([9, 100, 20000]), rng.randint(0, 9)) + [last]
+    points = points if rng.random() < 0.7 else []
+    # The arms' scan starts at their bottom, so they keep their numbers.
+    return (mesh if kind == 2 else meshes.renumbered(mesh, rng)), centre, points
+
+
+def outside_centre(rng):
+    """Small triangles with the centre outside, where fate 4 is met."""
+    spread = rng.choice([1, 2, 3, 5])
+    centre = (rng.randint(-4 * spread, 4 * spread) / 2, rng.randint(-4 * spread, 4 * spread) / 2)
+    return meshes.grown(rng, 3, spread), centre, random_points(rng, centre, 2 * spread, rng.randint(1, 8))
+
+
+def adversarial(rng):
+    """A seed, a centre and points."""
+    kind = rng.randrange(10)
+    if kind == 0:
+        return built(rng)
+    if kind < 5:
+        return outside_centre(rng)
+    spread = rng.choice([2, 3, 4, 6, 10, 30, 1000, sweep.LIMIT])
+    start = random_seed(rng, spread)
+    centre = random_centre(rng, start, spread)
+    return start, centre, random_points(rng, centre, spread, rng.choice([0, 1, 2, 3, 5, 8, 13, 30]))
+
+
+def campaign(seconds, seed):
+    rng, tally, end, runs = random.Random(seed), {}, time.time() + seconds, 0
+    while time.time() < end:
+        start, centre, points = adversarial(rng)
+        pending = rng.choice([8, 8, 9, 10, 12, 4096])
+        runs += 1
+        try:
+            whole_run(start, centre, points, pending, tally)
+        except AssertionError:
+            print("run", runs, [start.at(v) for v in range(start.vertices)], centre, points, pending)
+            raise
+    print("%d runs:" % runs, ", ".join("%s %d" % kv for kv in sorted(tally.items())))
+
+
+if __name__ == "__main__":
+    assert sweep.listing(SAMPLE) == SAMPLE_OUT
+    marked()
+    examples()
+    print("the listing, M1 to M10 and the rare cases agree")
+    campaign(float(sys.argv[1]) if len(sys.argv) > 1 else 20, int(sys.argv[2]) if len(sys.argv) > 2 else 1)

@@ -1,0 +1,919 @@
+"""An executable reading of 01-scope.md, independent of the proved code.
+
+Every function states one sentence of 01 (cited as '01: "..."') or one function of the Rust that 01
+names (000 bulk_load.rs, 001 dcel_operations.rs, 002 triangulation_ext.rs, 003 math.rs).  Where 01 can
+be read in two ways the reading of docs/DECISIONS.md is taken.  Plain Python 3, whole
+numbers of any size, floats as IEEE doubles.  Nothing here is fast: the ring is made anew from the
+boundary at every step, because that is what the words say.
+
+Rows are Python lists, laid out as the proved code has them:
+  positions x, y per vertex; outs one half-edge per vertex; halves next, prev, face, origin per
+  half-edge; stored one half-edge per face; answers fate, vertex, faces, flips per point.
+Only the lengths of the ring's rows (nodes, freed, buckets) and of pending matter here.
+"""
+
+from fractions import Fraction
+import math
+
+LIMIT = 16777216
+MOST_VERTICES = 1000000
+LEAST_PENDING = 8
+NEXT, PREV, FACE, ORIGIN = 0, 1, 2, 3
+
+
+class Refusal(Exception):
+    """A row of 01's table: its number and a place."""
+
+    def __init__(self, number, place=0):
+        super().__init__(number, place)
+        self.number, self.place = number, place
+
+
+class PendingFull(Exception):
+    """Row 9 while the flips are being made; the call that is under way names the place."""
+
+
+# ---------------------------------------------------------------------------------------------------
+# The mesh and its accessors
+
+
+class Mesh:
+    """The lent rows of a mesh and the counts in use."""
+
+    def __init__(self, positions, outs, halves, stored, vertices, edges, faces):
+        self.positions, self.outs, self.halves, self.stored = positions, outs, halves, stored
+        self.vertices, self.edges, self.faces = vertices, edges, faces
+        self.left_out = 0  # flips of legalize_edges_after_removal left out, "recorded"
+
+    def copy(self):
+        return Mesh(self.positions[:], self.outs[:], self.halves[:], self.stored[:],
+                    self.vertices, self.edges, self.faces)
+
+    def rows(self):
+        return (self.positions, self.outs, self.halves, self.stored)
+
+    def counts(self):
+        return (self.vertices, self.edges, self.faces)
+
+    def next(self, e):
+        return self.halves[4 * e + NEXT]
+
+    def prev(self, e):
+        return self.halves[4 * e + PREV]
+
+    def face(self, e):
+        return self.halves[4 * e + FACE]
+
+    def origin(self, e):
+        return self.halves[4 * e + ORIGIN]
+
+    def set(self, e, field, value):
+        self.halves[4 * e + field] = value
+
+    def to(self, e):
+        return self.origin(rev(e))
+
+    def at(self, v):
+        return (self.positions[2 * v], self.positions[2 * v + 1])
+
+    def far(self, e):
+        """01: "A far vertex is the origin of prev; a half-edge of the outer face has no far vertex." """
+        return None if self.face(e) == 0 else self.origin(self.prev(e))
+
+
+def rev(e):
+    """01: "Half-edges 2u and 2u+1 are each other's reverse." """
+    return e ^ 1
+
+
+def cycle(step, start, most):
+    """start, step(start), .. until start comes again; None if it does not within `most` steps."""
+    seen, e = [start], step(start)
+    while e != start:
+        if len(seen) >= most:
+            return None
+        seen.append(e)
+        e = step(e)
+    return seen
+
+
+def boundary(mesh):
+    """01: "The walk of `HullIterator` starts at face 0's stored edge and follows next." """
+    return cycle(mesh.next, mesh.stored[0], 2 * mesh.edges)
+
+
+def turn_about(mesh, v):
+    """01: "`out_edges` starts at the stored out edge; each further one is the reverse of prev." """
+    return cycle(lambda e: rev(mesh.prev(e)), mesh.outs[v], 2 * mesh.edges)
+
+
+# ---------------------------------------------------------------------------------------------------
+# Exact tests (003)
+
+
+def orient2d(a, b, c):
+    """Shewchuk's orient2d as a determinant; positive: c is left of a -> b."""
+    return (b[0] - a[0]) * (c[1] - a[1]) - (b[1] - a[1]) * (c[0] - a[0])
+
+
+def incircle(a, b, c, d):
+    """Shewchuk's incircle as a determinant; positive: d is strictly inside the circle of a, b, c that
+    turn left."""
+    rows = []
+    for p in (a, b, c):
+        x, y = p[0] - d[0], p[1] - d[1]
+        rows.append((x, y, x * x + y * y))
+    (ax, ay, az), (bx, by, bz), (cx, cy, cz) = rows
+    return (ax * (by * cz - bz * cy) - ay * (bx * cz - bz * cx) + az * (bx * cy - by * cx))
+
+
+def left(a, b, c):
+    """01: "Left is strictly positive." """
+    return orient2d(a, b, c) > 0
+
+
+def contained_in_circumference(v1, v2, v3, p):
+    """003: robust::incircle(v3, v2, v1, p) < 0.0"""
+    return incircle(v3, v2, v1, p) < 0
+
+
+def is_behind_edge(e1, e2, query):
+    """01: "`is_behind_edge` equals the whole-number comparison factor > length_2." """
+    dx, dy = e2[0] - e1[0], e2[1] - e1[1]
+    factor = (query[0] - e1[0]) * dx + (query[1] - e1[1]) * dy
+    return factor > dx * dx + dy * dy
+
+
+def face_corners(mesh, f):
+    """The positions of an inner face's vertices, from its stored edge by next."""
+    e = mesh.stored[f]
+    return [mesh.at(mesh.origin(h)) for h in (e, mesh.next(e), mesh.next(mesh.next(e)))]
+
+
+def boundary_area(mesh):
+    """01: "The boundary's doubled area is the usual cross-product sum over face 0's cycle, walked
+    against next." """
+    total, start = 0, mesh.stored[0]
+    for e in cycle(mesh.prev, start, 2 * mesh.edges):
+        # Walked against next: from the end of e to its origin.
+        (ax, ay), (bx, by) = mesh.at(mesh.to(e)), mesh.at(mesh.origin(e))
+        total += ax * by - ay * bx
+    return total
+
+
+def inner_area(mesh):
+    """The doubled areas of the inner faces, added up."""
+    return sum(orient2d(*face_corners(mesh, f)) for f in range(1, mesh.faces))
+
+
+def height_sum(mesh):
+    """Over all triangles: doubled area times the sum of the three squared distances from the origin
+    (M4, M5; each flip lowers it by exactly the circle determinant)."""
+    total = 0
+    for f in range(1, mesh.faces):
+        corners = face_corners(mesh, f)
+        total += orient2d(*corners) * sum(x * x + y * y for x, y in corners)
+    return total
+
+
+# ---------------------------------------------------------------------------------------------------
+# Refusals 1 to 5
+
+
+def refuse_count(n):
+    """1: "fewer than 3 or more than 1,000,000 vertices, seed plus points" """
+    if n < 3 or n > MOST_VERTICES:
+        raise Refusal(1)
+
+
+def refuse_mesh_rows(mesh, n):
+    """2, 01: "For N vertices: N positions, N out edges, 6N half-edges, 2N faces" """
+    if (len(mesh.positions) < 2 * n or len(mesh.outs) < n or len(mesh.halves) < 4 * 6 * n
+            or len(mesh.stored) < 2 * n):
+        raise Refusal(2)
+
+
+def refuse_ring_rows(lent, n):
+    """2, 01: "N + 1 ring nodes and freed nodes, max(16, N) buckets" """
+    if len(lent.nodes) < n + 1 or len(lent.freed) < n + 1 or len(lent.buckets) < max(16, n):
+        raise Refusal(2)
+
+
+def refuse_pending_row(lent):
+    """2, 01: "at least 8 pending entries" """
+    if len(lent.pending) < LEAST_PENDING:
+        raise Refusal(2)
+
+
+def refuse_answer_row(lent, points):
+    """2, 01: "one answer (fate, vertex, faces, flips) per point" """
+    if len(lent.answers) < 4 * points:
+        raise Refusal(2)
+
+
+def refuse_coordinates(mesh, points):
+    """3: "a coordinate is outside -16,777,216..16,777,216 (place = the first such vertex, points counted
+    on after the seed's)" """
+    for i, p in enumerate([mesh.at(v) for v in range(mesh.vertices)] + list(points)):
+        if any(c < -LIMIT or c > LIMIT for c in p):
+            raise Refusal(3, i)
+
+
+def in_range(mesh):
+    """Every link, face, origin, out edge and stored edge is in use, and the rows hold the counts in use
+    (otherwise the sentences below have no meaning: a mesh rule fails)."""
+    v, e, f = mesh.counts()
+    if 8 * e > len(mesh.halves) or f > len(mesh.stored) or f < 1:
+        return False
+    return (all(mesh.next(h) < 2 * e and mesh.prev(h) < 2 * e and mesh.face(h) < f
+                and mesh.origin(h) < v for h in range(2 * e))
+            and all(mesh.outs[i] < 2 * e for i in range(v))
+            and all(mesh.stored[i] < 2 * e for i in range(f)))
+
+
+def links_agree(mesh):
+    """01: "next and prev undo each other, and next keeps the face. The origin of next(e) is the origin of
+    e's reverse." """
+    return all(mesh.prev(mesh.next(h)) == h and mesh.next(mesh.prev(h)) == h
+               and mesh.face(mesh.next(h)) == mesh.face(h)
+               and mesh.origin(mesh.next(h)) == mesh.origin(rev(h)) for h in range(2 * mesh.edges))
+
+
+def faces_are_cycles(mesh):
+    """01: "An inner face is a cycle of three through its stored edge. Face 0 is one cycle of at least
+    three." """
+    edges_of = [set() for _ in range(mesh.faces)]
+    for h in range(2 * mesh.edges):
+        edges_of[mesh.face(h)].add(h)
+    for f in range(mesh.faces):
+        ring = cycle(mesh.next, mesh.stored[f], 2 * mesh.edges)
+        if ring is None or set(ring) != edges_of[f]:
+            return False
+        if (len(ring) < 3) if f == 0 else (len(ring) != 3):
+            return False
+    return True
+
+
+def edges_have_inner_face(mesh):
+    """01: "Every edge has an inner face on a side." """
+    return all(mesh.face(2 * u) != 0 or mesh.face(2 * u + 1) != 0 for u in range(mesh.edges))
+
+
+def vertices_are_turned(mesh):
+    """01: "Every vertex has an out edge, and turning about the vertex from it meets every half-edge that
+    starts there." """
+    starts_at = [set() for _ in range(mesh.vertices)]
+    for h in range(2 * mesh.edges):
+        starts_at[mesh.origin(h)].add(h)
+    for v in range(mesh.vertices):
+        if mesh.origin(mesh.outs[v]) != v:
+            return False
+        turn = turn_about(mesh, v)
+        if turn is None or not starts_at[v] <= set(turn):
+            return False
+    return True
+
+
+def euler(mesh):
+    """01: "vertices - edges + faces = 2, the outer face counted." """
+    return mesh.vertices - mesh.edges + mesh.faces == 2
+
+
+def mesh_rules(mesh):
+    """01, "Mesh rules" """
+    return (in_range(mesh) and links_agree(mesh) and faces_are_cycles(mesh)
+            and edges_have_inner_face(mesh) and vertices_are_turned(mesh) and euler(mesh))
+
+
+def refuse_mesh(mesh):
+    """4: "a mesh rule fails"; 5: "an inner face doesn't turn strictly left (place = lowest face)" """
+    if not mesh_rules(mesh):
+        raise Refusal(4)
+    for f in range(1, mesh.faces):
+        if not left(*face_corners(mesh, f)):
+            raise Refusal(5, f)
+
+
+# ---------------------------------------------------------------------------------------------------
+# Angles
+
+
+def pseudo_angle(p, centre):
+    """000, `pseudo_angle`; 01: "each float operation rounded once. .. A point at the centre has no
+    angle." """
+    dx, dy = float(p[0]) - centre[0], float(p[1]) - centre[1]
+    if dx == 0.0 and dy == 0.0:
+        raise ValueError("a point at the centre has no angle")
+    q = dx / (abs(dx) + abs(dy))
+    return 1.0 - ((3.0 - q) if dy > 0.0 else (1.0 + q)) * 0.25
+
+
+def turns(angle):
+    """01: "every angle is a whole number of 2^-53 from 0.0 to 1.0" """
+    t = Fraction(angle) * 2 ** 53
+    assert t.denominator == 1 and 0 <= t <= 2 ** 53, angle
+    return int(t)
+
+
+def contains_angle(first, second, angle):
+    """01: "A segment is either plain or wrapping, and carries its two angles; it holds its first and not
+    its second." """
+    if first < second:
+        return first <= angle < second
+    return first <= angle or angle < second
+
+
+def gap(first, second):
+    """01: "each gap (second minus first, plus 1 where it wraps)", exactly"""
+    g = Fraction(second) - Fraction(first)
+    return g if first < second else g + 1
+
+
+# ---------------------------------------------------------------------------------------------------
+# Ring: (angle, edge) in boundary order, made from a list of boundary edges and their origins' angles
+
+
+def boundary_angles(mesh, centre):
+    """Each boundary edge with the angle of its origin, in the order of the walk."""
+    return [(pseudo_angle(mesh.at(mesh.origin(e)), centre), e) for e in boundary(mesh)]
+
+
+def merge(angles):
+    """01: "Equal neighbouring boundary angles count as one, and the run's last edge stands for it."
+    The walk is a cycle, so a run may pass its end."""
+    n = len(angles)
+    kept = [angles[i] for i in range(n) if angles[i][0] != angles[(i + 1) % n][0]]
+    return kept if kept else [angles[-1]]  # all equal: one remains
+
+
+def sound(angles):
+    """01: "A ring is sound when at least three angles remain, all differ, exactly one is followed by a
+    smaller one, and each gap (second minus first, plus 1 where it wraps) is at most 3/4." """
+    remain = [a for a, _ in merge(angles)]
+    n = len(remain)
+    pairs = [(remain[i], remain[(i + 1) % n]) for i in range(n)]
+    return (n >= 3 and len(set(remain)) == n and sum(b < a for a, b in pairs) == 1
+            and all(gap(a, b) <= Fraction(3, 4) for a, b in pairs))
+
+
+def strict(angles):
+    """01: "It is strict when in addition no neighbours were equal." """
+    n = len(angles)
+    return sound(angles) and all(angles[i][0] != angles[(i + 1) % n][0] for i in range(n))
+
+
+def located(ring, angle):
+    """The edge whose segment holds the angle, of a merged ring: by looking at every segment."""
+    n = len(ring)
+    found = [ring[i][1] for i in range(n) if contains_angle(ring[i][0], ring[(i + 1) % n][0], angle)]
+    assert len(found) == 1, (ring, angle)
+    return found[0]
+
+
+def nodes_passed(ring, angle):
+    """01: "With n = 8 and i = floor(8a), that count is the number of boundary angles above i/8 and up to
+    a. At a = 1.0 it is ring size minus 1 if some boundary angle is 0.0, otherwise 0." """
+    angles = [a for a, _ in ring]
+    if angle == 1.0:
+        return len(angles) - 1 if 0.0 in angles else 0
+    i = math.floor(Fraction(angle) * 8)
+    return sum(Fraction(i, 8) < Fraction(a) <= Fraction(angle) for a in angles)
+
+
+def nodes_passed_by_walk(ring, angle):
+    """The same by a walk: from the node that bucket floor(8a) mod 8 holds (01: "Bucket i holds the node
+    whose segment holds i/n") to the right until a segment holds the angle."""
+    n, passed = len(ring), 0
+    i = math.floor(Fraction(angle) * 8) % 8
+    at = [j for j in range(n) if contains_angle(ring[j][0], ring[(j + 1) % n][0], i / 8)][0]
+    while not contains_angle(ring[at][0], ring[(at + 1) % n][0], angle):
+        at, passed = (at + 1) % n, passed + 1
+    return passed
+
+
+def refuse_centre(mesh, centre):
+    """6: "the centre isn't finite, has a coordinate outside the range of 3, or equals a boundary
+    vertex" """
+    if any(not math.isfinite(c) or abs(c) > LIMIT for c in centre):
+        raise Refusal(6)
+    if any(mesh.at(mesh.origin(e)) == (centre[0], centre[1]) for e in boundary(mesh)):
+        raise Refusal(6)
+
+
+def refuse_ring(mesh, centre):
+    """7: "the start ring is not strict" """
+    if not strict(boundary_angles(mesh, centre)):
+        raise Refusal(7)
+
+
+def refuse_angle(angle):
+    """8: "the angle is NaN, below 0.0 or above 1.0" """
+    if not (0.0 <= angle <= 1.0):
+        raise Refusal(8)
+
+
+# ---------------------------------------------------------------------------------------------------
+# The three operations of 001, link by link
+
+
+def flip_cw(mesh, u):
+    e = 2 * u
+    en, ep, e_face, e_origin = mesh.next(e), mesh.prev(e), mesh.face(e), mesh.origin(e)
+    t = rev(e)
+    tn, tp, t_face, t_origin = mesh.next(t), mesh.prev(t), mesh.face(t), mesh.origin(t)
+
+    mesh.set(en, NEXT, e)
+    mesh.set(en, PREV, tp)
+    mesh.set(e, NEXT, tp)
+    mesh.set(e, PREV, en)
+    mesh.set(e, ORIGIN, mesh.origin(ep))
+    mesh.set(tp, NEXT, en)
+    mesh.set(tp, PREV, e)
+    mesh.set(tp, FACE, e_face)
+
+    mesh.set(tn, NEXT, t)
+    mesh.set(tn, PREV, ep)
+    mesh.set(t, NEXT, ep)
+    mesh.set(t, PREV, tn)
+    mesh.set(t, ORIGIN, mesh.origin(tp))
+    mesh.set(ep, NEXT, tn)
+    mesh.set(ep, PREV, t)
+    mesh.set(ep, FACE, t_face)
+
+    mesh.outs[e_origin] = tn
+    mesh.outs[t_origin] = en
+    mesh.stored[e_face] = e
+    mesh.stored[t_face] = t
+
+
+def put_half(mesh, e, next_, prev_, face, origin):
+    mesh.halves[4 * e:4 * e + 4] = [next_, prev_, face, origin]
+
+
+def create_single_face_between_edge_and_next(mesh, edge):
+    """Answers the new outer half-edge."""
+    following = mesh.next(edge)
+    before, after, origin = mesh.prev(edge), mesh.next(following), mesh.origin(edge)
+    next_to = mesh.to(following)
+    new_face, new_inner = mesh.faces, 2 * mesh.edges
+    new_outer = rev(new_inner)
+
+    put_half(mesh, new_inner, edge, following, new_face, next_to)
+    put_half(mesh, new_outer, after, before, 0, origin)
+    mesh.set(before, NEXT, new_outer)
+    mesh.set(edge, PREV, new_inner)
+    mesh.set(following, NEXT, new_inner)
+    mesh.set(after, PREV, new_outer)
+    mesh.set(edge, FACE, new_face)
+    mesh.set(following, FACE, new_face)
+    mesh.stored[0] = new_outer
+    mesh.stored[new_face] = new_inner
+    mesh.edges += 1
+    mesh.faces += 1
+    return new_outer
+
+
+def create_new_face_adjacent_to_edge(mesh, edge, point):
+    """The new vertex is appended first (`VertexToInsert::NewVertex`); 01: "An added vertex takes the next
+    number after those in use." Answers it."""
+    vertex = mesh.vertices
+    mesh.positions[2 * vertex:2 * vertex + 2] = list(point)
+    mesh.vertices += 1
+
+    entry_next, entry_prev, entry_face = mesh.next(edge), mesh.prev(edge), mesh.face(edge)
+    edge_from, edge_to = mesh.origin(edge), mesh.to(edge)
+    new_next, new_prev, new_face = 2 * mesh.edges, 2 * mesh.edges + 2, mesh.faces
+
+    put_half(mesh, new_next, new_prev, edge, new_face, edge_to)
+    put_half(mesh, rev(new_next), entry_next, rev(new_prev), entry_face, vertex)
+    put_half(mesh, new_prev, edge, new_next, new_face, vertex)
+    put_half(mesh, rev(new_prev), rev(new_next), entry_prev, entry_face, edge_from)
+    mesh.stored[new_face] = edge
+    mesh.edges += 2
+    mesh.faces += 1
+    mesh.outs[vertex] = new_prev
+    put_half(mesh, edge, new_next, new_prev, new_face, edge_from)
+    mesh.stored[entry_face] = rev(new_prev)
+    mesh.set(entry_next, PREV, rev(new_next))
+    mesh.set(entry_prev, NEXT, rev(new_prev))
+    return vertex
+
+
+# ---------------------------------------------------------------------------------------------------
+# Flipping with a pending list (002)
+
+
+def legalize_edge(mesh, edge, capacity):
+    """002, `legalize_edge` with fully_legalize false; answers the number of flips.
+    9: "the pushes of a flip would overfill the pending list; that flip isn't made" """
+    pending, flips = [edge], 0
+    while pending:
+        e = pending.pop()
+        v2, v3 = mesh.far(rev(e)), mesh.far(e)
+        if v2 is None or v3 is None:
+            continue
+        v0, v1 = mesh.at(mesh.origin(e)), mesh.at(mesh.to(e))
+        if contained_in_circumference(mesh.at(v2), v1, v0, mesh.at(v3)):
+            pushes = [mesh.next(rev(e)), mesh.prev(rev(e))]
+            if len(pending) + len(pushes) > capacity:
+                raise PendingFull
+            pending += pushes
+            flip_cw(mesh, e // 2)
+            flips += 1
+    return flips
+
+
+def legalize_edges_after_removal(mesh, pending, capacity):
+    """002, `legalize_edges_after_removal`; answers the number of flips.  01: "If it flips for any reason
+    but the circle test, that flip is left out and recorded." """
+    flips = 0
+    while pending:
+        u = pending.pop()
+        e, t = 2 * u, 2 * u + 1
+        e2, e4 = mesh.prev(e), mesh.prev(t)
+        start, end = mesh.at(mesh.origin(e)), mesh.at(mesh.to(e))
+        far_left, far_right = mesh.far(e), mesh.far(t)
+        if far_left is None or far_right is None:
+            if far_left is None:
+                hull_flip = orient2d(mesh.at(far_right), start, end) >= 0
+            else:
+                hull_flip = orient2d(mesh.at(far_left), end, start) >= 0
+            mesh.left_out += hull_flip
+            continue
+        if contained_in_circumference(start, end, mesh.at(far_left), mesh.at(far_right)):
+            e1, e3 = mesh.next(e), mesh.next(t)
+            pushed = pending[:]
+            for h in (e1, e2, e3, e4):
+                if h // 2 not in pushed:
+                    pushed.append(h // 2)
+            if len(pushed) > capacity:
+                raise PendingFull
+            pending[:] = pushed
+            flip_cw(mesh, u)
+            flips += 1
+    return flips
+
+
+# ---------------------------------------------------------------------------------------------------
+# Step
+
+
+def wants_face_before(mesh, prev_edge, point, angle, centre):
+    """The counterclockwise walk's test in `single_bulk_insertion_step`, of the boundary edge before."""
+    start, end = mesh.at(mesh.origin(prev_edge)), mesh.at(mesh.to(prev_edge))
+    angle_condition = (not is_behind_edge(point, end, start)
+                       or angle == pseudo_angle(end, centre))
+    return angle_condition and left(start, end, point)
+
+
+def wants_face_after(mesh, next_edge, point, angle, centre):
+    """The clockwise walk's test, of the boundary edge after."""
+    middle, end = mesh.at(mesh.origin(next_edge)), mesh.at(mesh.to(next_edge))
+    angle_condition = (not is_behind_edge(middle, point, end)
+                       or angle == pseudo_angle(middle, centre))
+    return angle_condition and left(middle, end, point)
+
+
+def chain_of(mesh, edge, point, angle, centre):
+    """The boundary edges that get a face from the new vertex, in boundary order.  01: "The two walks look
+    at boundary edges only, and flips never move those" """
+    chain = [edge]
+    most = len(boundary(mesh))
+    while wants_face_before(mesh, mesh.prev(chain[0]), point, angle, centre):
+        chain.insert(0, mesh.prev(chain[0]))
+        assert len(chain) < most
+    while wants_face_after(mesh, mesh.next(chain[-1]), point, angle, centre):
+        chain.append(mesh.next(chain[-1]))
+        assert len(chain) < most
+    return chain
+
+
+def angles_after(mesh, chain, angle, centre):
+    """The boundary that the step would leave: the chain gives way to the new vertex's two edges (whose
+    numbers do not matter for soundness)."""
+    rest, e = [], mesh.next(chain[-1])
+    while e != chain[0]:
+        rest.append(e)
+        e = mesh.next(e)
+    kept = [(pseudo_angle(mesh.at(mesh.origin(e)), centre), e) for e in rest]
+    start = (pseudo_angle(mesh.at(mesh.origin(chain[0])), centre), -1)
+    return [start, (angle, -2)] + kept
+
+
+def fate_of(mesh, point, centre):
+    """01: "Fates, tested in this order": 5, 2, 3, 4, 1.  Answers the fate and the located edge."""
+    if (float(point[0]), float(point[1])) == (centre[0], centre[1]):
+        return 5, None
+    angle = pseudo_angle(point, centre)
+    edge = located(merge(boundary_angles(mesh, centre)), angle)
+    start, end = mesh.at(mesh.origin(edge)), mesh.at(mesh.to(edge))
+    if point == start or point == end:
+        return 2, edge
+    if not left(start, end, point):
+        return 3, edge
+    if not sound(angles_after(mesh, chain_of(mesh, edge, point, angle, centre), angle, centre)):
+        return 4, edge
+    return 1, edge
+
+
+def insertion(mesh, edge, point, centre, capacity):
+    """000, `single_bulk_insertion_step` from the new face on; answers vertex, faces, flips."""
+    angle = pseudo_angle(point, centre)
+    faces_before = mesh.faces
+    vertex = create_new_face_adjacent_to_edge(mesh, edge, point)
+    ccw_walk_start, cw_walk_start = rev(mesh.prev(edge)), rev(mesh.next(edge))
+    flips = legalize_edge(mesh, edge, capacity)
+
+    current = ccw_walk_start
+    while wants_face_before(mesh, mesh.prev(current), point, angle, centre):
+        before = mesh.prev(current)
+        new_edge = create_single_face_between_edge_and_next(mesh, before)
+        flips += legalize_edges_after_removal(mesh, [current // 2, before // 2], capacity)
+        current = new_edge
+
+    current = cw_walk_start
+    while wants_face_after(mesh, mesh.next(current), point, angle, centre):
+        after = mesh.next(current)
+        new_edge = create_single_face_between_edge_and_next(mesh, current)
+        flips += legalize_edges_after_removal(mesh, [current // 2, after // 2], capacity)
+        current = new_edge
+    return vertex, mesh.faces - faces_before, flips
+
+
+def one_step(mesh, point, centre, capacity):
+    """01: "An answer is a fate together with its counts"; "Fates 2 to 5 leave the mesh alone." """
+    fate, edge = fate_of(mesh, point, centre)
+    if fate != 1:
+        return (fate, 0, 0, 0)
+    return (1,) + insertion(mesh, edge, point, centre, capacity)
+
+
+# ---------------------------------------------------------------------------------------------------
+# Finish
+
+
+def fix_convexity(mesh, capacity):
+    """000, `fix_convexity`: one pass, with its stack; answers the flips."""
+    flips, convex_edges = 0, []
+    current = mesh.stored[0]
+    while True:
+        convex_edges.append(current)
+        current = mesh.next(current)
+        while len(convex_edges) >= 2:
+            edge1, edge2 = convex_edges[-2], convex_edges[-1]
+            if not left(mesh.at(mesh.origin(edge1)), mesh.at(mesh.to(edge1)), mesh.at(mesh.to(edge2))):
+                break
+            new_edge = create_single_face_between_edge_and_next(mesh, edge1)
+            convex_edges[-2:] = [new_edge]
+            flips += legalize_edges_after_removal(mesh, [edge1 // 2, edge2 // 2], capacity)
+        if len(convex_edges) > 1 and convex_edges[1] == current:
+            return flips
+
+
+def convexity_passes(mesh, capacity):
+    """01: "Finish makes the first pass of `fix_convexity`, then repeats passes until one adds no face."
+    Answers the flips of all passes and the number of passes."""
+    flips, passes = 0, 0
+    while True:
+        faces_before = mesh.faces
+        flips += fix_convexity(mesh, capacity)
+        passes += 1
+        if mesh.faces == faces_before:
+            return flips, passes
+
+
+def breaks_circle(mesh, u):
+    """01: "where both half-edges of edge u have a far vertex and that of 2u+1 is strictly inside the
+    circle of 2u's triangle" """
+    e, t = 2 * u, 2 * u + 1
+    far_e, far_t = mesh.far(e), mesh.far(t)
+    if far_e is None or far_t is None:
+        return False
+    corners = [mesh.at(mesh.origin(e)), mesh.at(mesh.to(e)), mesh.at(far_e)]
+    return incircle(*corners, mesh.at(far_t)) > 0
+
+
+def closing_pass(mesh):
+    """01: "It tests the edges by rising number from 0 .. a turn that flipped is followed by another from
+    0, and one that flipped nothing ends the pass." Answers the count."""
+    count = 0
+    while True:
+        flipped = False
+        for u in range(mesh.edges):
+            if breaks_circle(mesh, u):
+                flip_cw(mesh, u)
+                count += 1
+                flipped = True
+        if not flipped:
+            return count
+
+
+def finishing(mesh, capacity):
+    """Answers faces added, convexity flips, closing flips."""
+    faces_before = mesh.faces
+    flips, _ = convexity_passes(mesh, capacity)
+    return mesh.faces - faces_before, flips, closing_pass(mesh)
+
+
+# ---------------------------------------------------------------------------------------------------
+# The five public calls
+
+
+class Lent:
+    """The rows that a call is lent besides the mesh's."""
+
+    def __init__(self, nodes=(), freed=(), buckets=(), pending=(), answers=()):
+        self.nodes, self.freed, self.buckets = list(nodes), list(freed), list(buckets)
+        self.pending, self.answers = list(pending), list(answers)
+
+    def clear_ring(self):
+        """01: "After 9 and after every accepted call the ring, freed, bucket and pending rows hold
+        zeros" """
+        self.nodes[:] = [0] * len(self.nodes)
+        self.freed[:] = [0] * len(self.freed)
+        self.buckets[:] = [0] * len(self.buckets)
+
+    def clear_pending(self):
+        self.pending[:] = [0] * len(self.pending)
+
+
+def lent_for(n, pending, points=0):
+    """Rows of exactly the sizes that 01 names for N vertices."""
+    return Lent([7] * (n + 1), [7] * (n + 1), [7] * max(16, n), [7] * pending, [7] * (4 * points))
+
+
+def check(mesh):
+    """Answers (number, place), (0, 0) for an accepted mesh.  01: "Check needs the mesh's rows only" """
+    try:
+        refuse_count(mesh.vertices)
+        refuse_mesh_rows(mesh, mesh.vertices)
+        refuse_coordinates(mesh, [])
+        refuse_mesh(mesh)
+    except Refusal as r:
+        return (r.number, r.place)
+    return (0, 0)
+
+
+def locate(mesh, lent, centre, angle):
+    """Answers (0, 0, edge, nodes passed) or (number, place, 0, 0).  01: "locate those and the ring's" """
+    try:
+        refuse_count(mesh.vertices)
+        refuse_mesh_rows(mesh, mesh.vertices)
+        refuse_ring_rows(lent, mesh.vertices)
+        refuse_coordinates(mesh, [])
+        refuse_mesh(mesh)
+        refuse_centre(mesh, centre)
+        refuse_ring(mesh, centre)
+        refuse_angle(angle)
+    except Refusal as r:
+        return (r.number, r.place, 0, 0)
+    ring = merge(boundary_angles(mesh, centre))
+    passed = nodes_passed(ring, angle)
+    assert passed == nodes_passed_by_walk(ring, angle)
+    lent.clear_ring()
+    return (0, 0, located(ring, angle), passed)
+
+
+def refuse_run(mesh, lent, centre, points, answered):
+    """The checks of step and run, from the top of the table down."""
+    n = mesh.vertices + len(points)
+    refuse_count(n)
+    refuse_mesh_rows(mesh, n)
+    refuse_ring_rows(lent, n)
+    refuse_pending_row(lent)
+    refuse_answer_row(lent, answered)
+    refuse_coordinates(mesh, points)
+    refuse_mesh(mesh)
+    refuse_centre(mesh, centre)
+    refuse_ring(mesh, centre)
+
+
+def step(mesh, lent, centre, point):
+    """Answers (number, place, answer).  The answer is given back, not written to a row."""
+    try:
+        refuse_run(mesh, lent, centre, [point], 0)
+    except Refusal as r:
+        return (r.number, r.place, (0, 0, 0, 0))
+    try:
+        answer, number = one_step(mesh, point, centre, len(lent.pending)), 0
+    except PendingFull:
+        answer, number = (0, 0, 0, 0), 9
+    lent.clear_ring()
+    lent.clear_pending()
+    return (number, 0, answer)
+
+
+def finish(mesh, lent):
+    """Answers (number, place, faces added, convexity flips, closing flips).  01: "finish those of the
+    mesh and pending" """
+    try:
+        refuse_count(mesh.vertices)
+        refuse_mesh_rows(mesh, mesh.vertices)
+        refuse_pending_row(lent)
+        refuse_coordinates(mesh, [])
+        refuse_mesh(mesh)
+    except Refusal as r:
+        return (r.number, r.place, 0, 0, 0)
+    try:
+        answer = (0, 0) + finishing(mesh, len(lent.pending))
+    except PendingFull:
+        answer = (9, 0, 0, 0, 0)
+    lent.clear_pending()
+    return answer
+
+
+def run(mesh, lent, centre, points):
+    """Answers (number, place, faces added, convexity flips, closing flips); the points' answers go to
+    the row.  01: "A run takes its points in list order." """
+    try:
+        refuse_run(mesh, lent, centre, points, len(points))
+    except Refusal as r:
+        return (r.number, r.place, 0, 0, 0)
+    capacity, done = len(lent.pending), 0
+    lent.answers[:4 * len(points)] = [0] * (4 * len(points))
+    try:
+        for i, point in enumerate(points):
+            lent.answers[4 * i:4 * i + 4] = list(one_step(mesh, point, centre, capacity))
+            done = i + 1
+        answer = (0, 0) + finishing(mesh, capacity)
+    except PendingFull:
+        # 9 "answers the point's index (.. the point count in a finish within a run ..)"
+        answer = (9, done, 0, 0, 0)
+    lent.clear_ring()
+    lent.clear_pending()
+    return answer
+
+
+# ---------------------------------------------------------------------------------------------------
+# The listing program
+
+
+def seed_triangle(corners, n):
+    """Half-edges 0, 2, 4 are v0 -> v1, v1 -> v2, v2 -> v0 in face 1, the odd ones their reverses in face
+    0; rows lent for n vertices."""
+    mesh = Mesh([0] * (2 * n), [0] * n, [0] * (24 * n), [0] * (2 * n), 3, 3, 2)
+    for v, (x, y) in enumerate(corners):
+        mesh.positions[2 * v:2 * v + 2] = [x, y]
+        mesh.outs[v] = 2 * v
+        put_half(mesh, 2 * v, 2 * ((v + 1) % 3), 2 * ((v + 2) % 3), 1, v)
+        put_half(mesh, 2 * v + 1, 2 * ((v + 2) % 3) + 1, 2 * ((v + 1) % 3) + 1, 0, (v + 1) % 3)
+    mesh.stored[0], mesh.stored[1] = 1, 0
+    return mesh
+
+
+LISTING_MOST, LISTING_PENDING = 400, 4096
+
+
+def numbers_of(line, tag, count):
+    """A line's numbers, None if it is malformed: the tag and exactly `count` whole numbers of 32 signed
+    bits, one blank between two fields."""
+    fields = line.split(b" ")
+    if len(fields) != count + 1 or fields[0] != tag:
+        return None
+    numbers = []
+    for field in fields[1:]:
+        digits = field[1:] if field[:1] == b"-" else field
+        if not digits or any(d not in b"0123456789" for d in digits):
+            return None
+        value = int(digits) if digits is field else -int(digits)
+        if not -2 ** 31 <= value < 2 ** 31:
+            return None
+        numbers.append(value)
+    return numbers
+
+
+def listing(text):
+    """01: "It prints `p index fate vertex faces flips` per point, then `t ..`. A refusal prints `r number
+    place` alone; a line that is malformed, missing, out of order or past the 400 prints `r 0 line`
+    alone, lines from 1." """
+    lines = text.split(b"\n")
+    if lines[-1] == b"":
+        lines.pop()  # bytes after the last line feed are a line unless there are none
+    wanted = [(b"S", 6), (b"C", 2)]
+    read = []
+    for i, line in enumerate(lines):
+        tag, count = wanted[i] if i < 2 else (b"P", 2)
+        numbers = numbers_of(line, tag, count)
+        if numbers is None or i - 2 >= LISTING_MOST - 3:
+            return b"r 0 %d\n" % (i + 1)
+        read.append(numbers)
+    if len(read) < 2:
+        return b"r 0 %d\n" % (len(read) + 1)
+
+    s, centre, points = read[0], read[1], [tuple(p) for p in read[2:]]
+    n = 3 + len(points)
+    mesh = seed_triangle([(s[0], s[1]), (s[2], s[3]), (s[4], s[5])], n)
+    lent = lent_for(n, LISTING_PENDING, len(points))
+    number, place, faces, convex, closing = run(mesh, lent, (float(centre[0]), float(centre[1])), points)
+    if number:
+        return b"r %d %d\n" % (number, place)
+    out = [b"p %d %d %d %d %d\n" % ((i,) + tuple(lent.answers[4 * i:4 * i + 4]))
+           for i in range(len(points))]
+    out.append(b"t %d %d %d %d %d %d %d\n" % (mesh.vertices, mesh.edges, mesh.faces - 1,
+                                             boundary_area(mesh), faces, convex, closing))
+    return b"".join(out)
+
+
+if __name__ == "__main__":
+    import sys
+    sys.stdout.buffer.write(listing(sys.stdin.buffer.read()))

@@ -1,0 +1,316 @@
+"""Reads the lists by the words of README.md and holds each case against sweep.py; then changes sweep.py
+in one place at a time and shows that some list notices each change, so that the lists can fail.
+
+    python3 verify.py            # the lists as they stand
+    python3 verify.py mutants    # and the changes
+"""
+
+import math
+import os
+import signal
+import struct
+import sys
+import types
+from fractions import Fraction
+
+HERE = os.path.dirname(os.path.abspath(__file__))
+SECONDS = 5.0  # the longest case takes well under one
+NAMES = ("samples", "check", "finish", "locate", "step", "run", "listing")
+
+
+def of_bits(b):
+    return struct.unpack("<d", struct.pack("<Q", b))[0]
+
+
+def bits(x):
+    return struct.unpack("<Q", struct.pack("<d", x))[0]
+
+
+def read(name):
+    """The lines of a list as (tag, numbers)."""
+    with open(os.path.join(HERE, "lists", name + ".txt"), "rb") as f:
+        data = f.read()
+    lines, rows = data.split(b"\n"), []
+    assert lines.pop() == b""
+    for line in lines:
+        if line[:1] == b"#":
+            continue
+        fields = line.split(b" ")
+        assert all(f.lstrip(b"-").isdigit() for f in fields[1:]) and len(fields[0]) == 1, line
+        rows.append((fields[0].decode(), [int(f) for f in fields[1:]]))
+    tag, (count,) = rows.pop()
+    assert tag == "z" and count == len(rows), name
+    return rows
+
+
+def row(numbers):
+    length, past, *written = numbers
+    return written + [past] * (length - len(written))
+
+
+def mesh_of(sweep, case, tags):
+    rows = [row(case[t]) for t in tags[1:]]
+    return sweep.Mesh(*rows, *case[tags[0]])
+
+
+def cases(rows, last):
+    case = {}
+    for tag, numbers in rows:
+        case[tag] = numbers
+        if tag == last:
+            yield case
+            case = {}
+
+
+def left_as_told(sweep, case, mesh):
+    """The counts and rows are those of `M P O H F`, or the given ones where these are missing."""
+    told = mesh_of(sweep, case, "MPOHF" if "M" in case else "mpohf")
+    return mesh.rows() == told.rows() and mesh.counts() == told.counts()
+
+
+def cleared(number, *rows):
+    return all(x == (0 if number in (0, 9) else 7) for r in rows for x in r)
+
+
+def pairs(numbers):
+    return list(zip(numbers[0::2], numbers[1::2]))
+
+
+def sample(sweep, tag, n):
+    sign = lambda x: (x > 0) - (x < 0)
+    if tag == "o":
+        return sign(sweep.orient2d(*pairs(n[:6]))) == n[6]
+    if tag == "i":
+        p = pairs(n[:8])
+        return sign(sweep.incircle(*p)) == n[8] and sweep.contained_in_circumference(*p) == (n[8] == 1)
+    if tag == "b":
+        return sweep.is_behind_edge(*pairs(n[:6])) == n[6]
+    if tag == "a":
+        angle = sweep.pseudo_angle((n[0], n[1]), (of_bits(n[2]), of_bits(n[3])))
+        found = [bits(angle), sweep.turns(angle)]
+        for k in (8, 64, 1 << 20):
+            found += [math.floor(angle * k) % k, math.ceil(angle * k) % k]
+        return found == n[4:]
+    if tag == "s":
+        c = of_bits(n[4]), of_bits(n[5])
+        ends = [sweep.pseudo_angle(p, c) for p in pairs(n[:4])]
+        return sweep.contains_angle(*ends, of_bits(n[6])) == n[7]
+    return math.floor(Fraction(of_bits(n[0])) * n[1]) % n[1] == n[2]
+
+
+def check_one(sweep, case):
+    mesh = mesh_of(sweep, case, "mpohf")
+    return list(sweep.check(mesh)) == case["r"] and left_as_told(sweep, case, mesh)
+
+
+def finish_one(sweep, case):
+    mesh, lent = mesh_of(sweep, case, "mpohf"), sweep.Lent(pending=row(case["q"]))
+    answer = sweep.finish(mesh, lent)
+    return (list(answer) == case["r"] and left_as_told(sweep, case, mesh)
+            and cleared(answer[0], lent.pending))
+
+
+def locate_one(sweep, case, numbers):
+    lent = sweep.Lent(*([7] * n for n in case["n"]))
+    mesh = mesh_of(sweep, case, "mpohf")
+    answer = sweep.locate(mesh, lent, tuple(map(of_bits, case["x"])), of_bits(numbers[0]))
+    return (list(answer) == numbers[1:] and left_as_told(sweep, case, mesh)
+            and cleared(answer[0], lent.nodes, lent.freed, lent.buckets))
+
+
+def call_one(sweep, case):
+    """A run or, where there is no answers row, a step."""
+    lent = sweep.Lent(*([7] * n for n in case["n"]), pending=row(case["q"]),
+                      answers=row(case.get("w", [0, 0])))
+    mesh, points = mesh_of(sweep, case, "mpohf"), pairs(case["v"][1:])
+    centre = tuple(map(of_bits, case["x"]))
+    if "w" in case:
+        answer = sweep.run(mesh, lent, centre, points)
+        told = row(case["W"] if "W" in case else case["w"])
+    else:
+        number, place, given = sweep.step(mesh, lent, centre, points[0])
+        answer, told = (number, place) + tuple(given), []
+    return (list(answer) == case["r"] and left_as_told(sweep, case, mesh) and lent.answers == told
+            and cleared(answer[0], lent.nodes, lent.freed, lent.buckets, lent.pending))
+
+
+def listing_one(sweep, case):
+    return sweep.listing(bytes(case["b"][1:])) == bytes(case["e"][1:])
+
+
+def held(test, *arguments):
+    """False also where a changed sweep.py fails or runs for ever."""
+    signal.setitimer(signal.ITIMER_REAL, SECONDS)
+    try:
+        return test(*arguments)
+    except Exception:
+        return False
+    finally:
+        signal.setitimer(signal.ITIMER_REAL, 0)
+
+
+def too_long(*_):
+    raise TimeoutError
+
+
+def failures(sweep, name, first_only=False):
+    """The number of cases of a list, and of those that sweep.py answers otherwise."""
+    total = bad = 0
+    rows = read(name)
+    if name == "samples":
+        tests = ((sample, tag, n) for tag, n in rows)
+    elif name == "locate":
+        def queries():
+            case = {}
+            for tag, n in rows:
+                if tag == "m":
+                    case = {}
+                if tag == "l":
+                    yield locate_one, dict(case), n
+                else:
+                    case[tag] = n
+        tests = queries()
+    else:
+        one, last = {"check": (check_one, "r"), "finish": (finish_one, "r"), "step": (call_one, "r"),
+                     "run": (call_one, "r"), "listing": (listing_one, "e")}[name]
+        tests = ((one, case) for case in cases(rows, last))
+    for test, *arguments in tests:
+        total += 1
+        if not held(test, sweep, *arguments):
+            bad += 1
+            if first_only:
+                break
+    return total, bad
+
+
+FATE_2 = "    if point == start or point == end:\n        return 2, edge\n"
+FATE_3 = "    if not left(start, end, point):\n        return 3, edge\n"
+MUTANTS = [  # name, text, what takes its place; and why, where no list can notice it
+    ("a flip on a circle test of 0", "*corners, mesh.at(far_t)) > 0", "*corners, mesh.at(far_t)) >= 0"),
+    ("the circle test turned", "return incircle(v3, v2, v1, p) < 0", "return incircle(v3, v2, v1, p) > 0"),
+    ("a circle test that includes the circle", "return incircle(v3, v2, v1, p) < 0",
+     "return incircle(v3, v2, v1, p) <= 0"),
+    ("9 one entry early in legalize_edge", "len(pending) + len(pushes) > capacity",
+     "len(pending) + len(pushes) >= capacity"),
+    ("9 one entry late in legalize_edge", "len(pending) + len(pushes) > capacity",
+     "len(pending) + len(pushes) > capacity + 1"),
+    ("9 one entry early after removal", "len(pushed) > capacity", "len(pushed) >= capacity"),
+    ("9 one entry late after removal", "len(pushed) > capacity", "len(pushed) > capacity + 1"),
+    ("9 by four entries, pushed or not", "len(pushed) > capacity", "len(pending) + 4 > capacity"),
+    ("the flip made before 9 is given", "                raise PendingFull\n            pending[:] = pushed",
+     "                flip_cw(mesh, u)\n                raise PendingFull\n            pending[:] = pushed"),
+    ("pushes twice what is there already", "if h // 2 not in pushed:", "if True:"),
+    ("another pushing order", "for h in (e1, e2, e3, e4):", "for h in (e4, e3, e2, e1):"),
+    ("another pushing order in legalize_edge", "[mesh.next(rev(e)), mesh.prev(rev(e))]",
+     "[mesh.prev(rev(e)), mesh.next(rev(e))]"),
+    ("a single convexity pass", "        if mesh.faces == faces_before:\n            return flips, passes",
+     "        return flips, passes"),
+    ("a closing pass of one turn", "        if not flipped:\n            return count", "        return count"),
+    ("the closing pass from the last edge down", "for u in range(mesh.edges):\n            if breaks",
+     "for u in reversed(range(mesh.edges)):\n            if breaks"),
+    ("a flip that forgets the out edge", "    mesh.outs[t_origin] = en\n", ""),
+    ("a flip that forgets the face's edge", "    mesh.stored[t_face] = t\n", ""),
+    ("the outer face's stored edge kept", "    mesh.stored[0] = new_outer\n", ""),
+    ("the new face's stored edge", "mesh.stored[new_face] = new_inner", "mesh.stored[new_face] = edge"),
+    ("left or on the line", "return orient2d(a, b, c) > 0", "return orient2d(a, b, c) >= 0"),
+    ("the left-over half-edges not counted", "ring is None or set(ring) != edges_of[f]",
+     "ring is None or not set(ring) <= edges_of[f]"),
+    ("an outer cycle of two accepted", "(len(ring) < 3) if f == 0", "(len(ring) < 2) if f == 0"),
+    ("an inner cycle of any length", "else (len(ring) != 3)", "else (len(ring) < 3)"),
+    ("an edge with the outer face twice", "            and edges_have_inner_face(mesh) and", "            and"),
+    ("vertices not turned", "if turn is None or not starts_at[v] <= set(turn)", "if turn is None"),
+    ("an out edge that starts elsewhere", "if mesh.origin(mesh.outs[v]) != v:", "if False:"),
+    ("no count of Euler", "and vertices_are_turned(mesh) and euler(mesh))", "and vertices_are_turned(mesh))"),
+    ("next need not keep the face", "               and mesh.face(mesh.next(h)) == mesh.face(h)\n", "",
+     "(the other rules imply it)"),
+    ("origins not compared", "               and mesh.origin(mesh.next(h)) == mesh.origin(rev(h)) for",
+     "               for"),
+    ("the highest face named", "for f in range(1, mesh.faces):\n        if not left",
+     "for f in reversed(range(1, mesh.faces)):\n        if not left"),
+    ("a coordinate limit one too high", "any(c < -LIMIT or c > LIMIT for c in p)",
+     "any(c < -LIMIT or c > LIMIT + 1 for c in p)"),
+    ("a coordinate limit one too low", "any(c < -LIMIT or c > LIMIT for c in p)",
+     "any(c <= -LIMIT or c > LIMIT for c in p)"),
+    ("points counted from 0", "for v in range(mesh.vertices)] + list(points))",
+     "for v in range(mesh.vertices)][:0] + list(points))"),
+    ("2 before 1", "    refuse_count(n)\n    refuse_mesh_rows(mesh, n)\n    refuse_ring",
+     "    refuse_mesh_rows(mesh, n)\n    refuse_count(n)\n    refuse_ring"),
+    ("buckets for N alone", "len(lent.buckets) < max(16, n)", "len(lent.buckets) < n"),
+    ("16 buckets alone", "len(lent.buckets) < max(16, n)", "len(lent.buckets) < 16"),
+    ("N freed nodes", "len(lent.freed) < n + 1", "len(lent.freed) < n"),
+    ("seven pending entries", "LEAST_PENDING = 8", "LEAST_PENDING = 7"),
+    ("a quarter for a half", "(1.0 + q)) * 0.25", "(1.5 + q)) * 0.25"),
+    ("dy of 0 counts as positive", "if dy > 0.0 else", "if dy >= 0.0 else"),
+    ("a segment without its first", "return first <= angle < second", "return first < angle <= second"),
+    ("a wrapping segment without its first", "return first <= angle or angle < second",
+     "return first < angle or angle < second"),
+    ("the counter starts at one", "if 0.0 in angles else 0\n", "if 0.0 in angles else 1\n"),
+    ("1.0 for 0.0", "if angle == 1.0:\n        return", "if False:\n        return"),
+    ("the run's first edge", "for i in range(n) if angles[i][0] != angles[(i + 1) % n][0]]",
+     "for i in range(n) if angles[i][0] != angles[i - 1][0]]"),
+    ("gaps below 3/4", "gap(a, b) <= Fraction(3, 4)", "gap(a, b) < Fraction(3, 4)"),
+    ("gaps not looked at", "            and all(gap(a, b) <= Fraction(3, 4) for a, b in pairs))", "            )"),
+    ("two angles are enough", "return (n >= 3 and", "return (n >= 2 and"),
+    ("7 for a ring that is only not sound", "if not strict(boundary_angles", "if not sound(boundary_angles"),
+    ("a centre on a boundary vertex accepted", "(centre[0], centre[1]) for e in boundary(mesh)):",
+     "(centre[0], centre[1]) for e in []):"),
+    ("a centre at the limit refused", "abs(c) > LIMIT for c in centre", "abs(c) >= LIMIT for c in centre"),
+    ("the angle 1.0 refused", "if not (0.0 <= angle <= 1.0)", "if not (0.0 <= angle < 1.0)"),
+    ("-0.0 refused", "if not (0.0 <= angle <= 1.0)",
+     "if not (math.copysign(1.0, angle) > 0 and angle <= 1.0)"),
+    ("8 before 7", "        refuse_ring(mesh, centre)\n        refuse_angle(angle)",
+     "        refuse_angle(angle)\n        refuse_ring(mesh, centre)"),
+    ("behind or at the end", "return factor > dx * dx + dy * dy", "return factor >= dx * dx + dy * dy"),
+    ("the walks without the angle", "                       or angle == pseudo_angle(end, centre))",
+     "                       )"),
+    ("the other walk without the angle", "                       or angle == pseudo_angle(middle, centre))",
+     "                       )", "(never needed in a sound ring)"),
+    ("fate 3 before fate 2", FATE_2 + FATE_3, FATE_3 + FATE_2),
+    ("fate 2 at the located edge's origin only", "if point == start or point == end:", "if point == start:",
+     "(a segment does not hold its second angle)"),
+    ("no fate 4", "        return 4, edge", "        pass"),
+    ("no fate 5", "        return 5, None", "        return 3, None"),
+    ("answers after 9 kept", "lent.answers[:4 * len(points)] = [0] * (4 * len(points))", "pass"),
+    ("9 names no place", "answer = (9, done, 0, 0, 0)", "answer = (9, 0, 0, 0, 0)"),
+    ("the pending row not cleared", "        self.pending[:] = [0] * len(self.pending)", "        pass"),
+    ("the buckets not cleared", "        self.buckets[:] = [0] * len(self.buckets)", "        pass"),
+    ("a plus sign read", 'digits = field[1:] if field[:1] == b"-" else field',
+     'digits = field[1:] if field[:1] in (b"-", b"+") else field'),
+    ("32 bits not kept", "if not -2 ** 31 <= value < 2 ** 31:", "if not -2 ** 31 <= value <= 2 ** 31:"),
+    ("398 points read", "i - 2 >= LISTING_MOST - 3", "i - 2 > LISTING_MOST - 3"),
+    ("blanks run together", 'fields = line.split(b" ")', "fields = line.split()"),
+    ("the outer face counted", "mesh.faces - 1,\n", "mesh.faces,\n"),
+]
+
+
+def changed(source, old, new):
+    """sweep.py with one place changed."""
+    assert source.count(old) == 1, (source.count(old), old)
+    module = types.ModuleType("changed")
+    exec(compile(source.replace(old, new), "changed", "exec"), module.__dict__)
+    return module
+
+
+def mutants():
+    with open(os.path.join(HERE, "sweep.py")) as f:
+        source = f.read()
+    silent = 0
+    for name, old, new, *implied in MUTANTS:
+        module = changed(source, old, new)
+        noticed = [n for n in NAMES if failures(module, n, first_only=True)[1]]
+        silent += not noticed and not implied
+        print("%-45s %s" % (name, " ".join(noticed + implied) or "NOTICED BY NONE"))
+    return silent
+
+
+if __name__ == "__main__":
+    import sweep
+    signal.signal(signal.SIGALRM, too_long)
+    wrong = 0
+    for name in NAMES:
+        total, bad = failures(sweep, name)
+        wrong += bad
+        print("%-8s %5d cases, %d answered otherwise" % (name, total, bad))
+    if len(sys.argv) > 1:
+        wrong += mutants()
+    sys.exit(1 if wrong else 0)
