@@ -1,3 +1,4 @@
 pub mod Check
-pub mod Sweep
-pub mod SweepRules
+pub mod Readable
+pub mod CheckLaws
+pub mod Accepted

@@ -1,25 +1,28 @@
--- The sweeps' tests together are the mesh rules: from them the rules follow (`swept-wf`), and where the rules hold each of them passes (`wf-..`). Assumes nothing.
+-- The sweeps' tests together are the mesh rules (`sweep-rules`): from them the rules follow (`swept-wf`), and where the rules hold each of them passes (`wf-..`).
+-- Assumes nothing.
 use mathlib.Core.Path.{_≡_, refl, sym, _∙_, ap, subst}
 use mathlib.Core.Logic.{_≢_, _⊎_, inl, inr}
-use mathlib.Core.Bool.{Bool, true, false, not, _&&_, _||_}
+use mathlib.Core.Bool.{Bool, not, _&&_, _||_}
 use mathlib.Core.List.{List, [], _∷_}
-use Prim.Native.Nat.{ℕ, zero, suc, _+_, _-_, _*_, _<_, _≤_}
+use Prim.Native.Nat.{ℕ, zero, suc, _+_, _*_, _<_}
 use native.Mathlib.Decide.{decLt}
+use native.Mathlib.Nat.{le-refl}
 use native.Mathlib.Omega.{arith}
-use lib.Dec.{T, ltb, eqb, ltb→lt, lt→ltb, eqb→eq, T-not}
+use lib.Dec.{T, ltb, leb, eqb, ltb→lt, lt→ltb, le→leb, eqb→eq, T-not}
 use Rattle.mesh.specs.declared.Counts.{Counts}
 use Rattle.mesh.specs.Mesh.{Links, In, turn}
-use Rattle.mesh.specs.Rules.{every, halfEdgeInUse, halfEdgeLinked}
-use Rattle.mesh.specs.RulesWf.{Each, each-of, every-of}
-use Rattle.mesh.specs.Wf.{Ranges, Linked, Faces, Vertices, Wf}
+use Rattle.mesh.specs.CountsLaws.{halves-fit, faces-fit}
+use Rattle.mesh.specs.Rules.{every, halfEdgeInUse, halfEdgeLinked, rules}
+use Rattle.mesh.specs.RulesWf.{Each, each-of, every-of, rules-wf, wf-rules}
+use Rattle.mesh.specs.Wf.{Ranges, Linked, Wf}
 use Rattle.mesh.specs.WfParts.{InnerFace, OuterFace, AboutVertex, next-inverse, turn-inverse, wf-of, inner-is, outer-is, about-is}
-use Rattle.mesh_check.specs.Sweep.{halfEdgeHolds, vertexHolds, faceHolds, outerHolds, facesWhole, verticesWhole}
-use Rattle.sums.specs.Bit.{and-left, and-right, and-both, or-cases, or-left, or-right, eq-test, ne-test}
+use Rattle.mesh_rules.specs.Sweep.{halfEdgeHolds, vertexHolds, faceHolds, innerFaceHolds, outerHolds, facesWhole, verticesWhole, verticesHold, countsHold, sweep}
+use Rattle.sums.specs.Bit.{test-ext, and-left, and-right, and-both, or-cases, or-left, or-right, implies→, implies←, eq-test, ne-test}
 use Rattle.sums.specs.Bounded.{all-below, all-below→, all-below←}
-use Rattle.sums.specs.Half.{rev, rev-rev, rev-below}
+use Rattle.sums.specs.Half.{rev}
 use Rattle.sums.specs.Listed.{On}
-use Rattle.sums.specs.Iterate.{iter, Reach, reach-at, reach-one, reach-two, reach-trans, Inverse, Period, period-below, period-is, period-three, period-unique, reach-on, reach-sym}
-use Rattle.sums.specs.Orbits.{orbitTotal, orbit-total-zero, orbit-total-suc, Classes, orbits-most, orbits-all, orbits-whole}
+use Rattle.sums.specs.Iterate.{iter, Reach, reach-at, reach-one, reach-two, Period, period-below, period-is, period-three, period-unique, reach-on}
+use Rattle.sums.specs.Orbits.{orbitTotal, orbit-total-zero, orbit-total-suc, Classes, orbits-all, orbits-whole}
 
 module _ (C : Counts) (L : Links) where
   abbrev E : ℕ
@@ -326,3 +329,61 @@ module _ (C : Counts) (L : Links) where
     unfolding verticesWhole
     wf-vertices-whole = eq-test (orbits-all (vertex-classes (W .ranges) (W .links) (λ v l. W .about .based l)) (λ e l.
         about-is C L W (L .origin e) (W .ranges .origin< l) .all e l refl))
+
+  -- ---- the sweeps answer what the rules say
+  from-sweep : T (sweep C L) → T (rules C L)
+  unfolding sweep countsHold verticesHold innerFaceHolds
+  from-sweep h =
+      let whole = verticesWhole C L in
+      let based = all-below (C .vertices) (vertexHolds C L) in
+      let inner = all-below (C .faces) (innerFaceHolds C L) in
+      let some = ltb 0 (C .faces) in
+      let euler = eqb (C .vertices + C .faces) (C .edges + 2) in
+      let fit = leb (C .edges) (3 * C .vertices) && leb (C .faces) (2 * C .vertices) in
+      let halves = all-below E (halfEdgeHolds C L) in
+      let r₄ = inner && (based && whole) in
+      let r₃ = facesWhole C L && r₄ in
+      let r₂ = outerHolds C L && r₃ in
+      let hc = and-left (countsHold C) (halves && r₂) h in
+      let h₁ = and-right (countsHold C) (halves && r₂) h in
+      let h₂ = and-right halves r₂ h₁ in
+      let h₃ = and-right (outerHolds C L) r₃ h₂ in
+      let h₄ = and-right (facesWhole C L) r₄ h₃ in
+      let h₅ = and-right inner (based && whole) h₄ in
+      wf-rules C L (swept-wf
+      (λ e l. half-of e (all-below→ E (halfEdgeHolds C L) (and-left halves r₂ h₁) e l))
+      (λ v l. based-of v (all-below→ (C .vertices) (vertexHolds C L) (and-left based whole h₅) v l))
+      (wide-of (and-left (outerHolds C L) r₃ h₂))
+      (λ f l p. three-of f (implies→ (ltb 0 f) (faceHolds C L f) (all-below→ (C .faces) (innerFaceHolds C L) (and-left inner (based && whole) h₄) f l) (lt→ltb 0 f p)))
+      (ltb→lt 0 (C .faces) (and-left some (euler && fit) hc))
+      (and-left (facesWhole C L) r₄ h₃)
+      (and-right based whole h₅)
+      (eqb→eq (C .vertices + C .faces) (C .edges + 2) (and-left euler fit (and-right some (euler && fit) hc))))
+
+  to-sweep : T (rules C L) → T (sweep C L)
+  unfolding sweep countsHold verticesHold innerFaceHolds
+  to-sweep r =
+      let W = rules-wf C L r in
+      let whole = verticesWhole C L in
+      let based = all-below (C .vertices) (vertexHolds C L) in
+      let inner = all-below (C .faces) (innerFaceHolds C L) in
+      let halves = all-below E (halfEdgeHolds C L) in
+      let fh = halves-fit W (le-refl (C .vertices)) in
+      let ff = faces-fit W (le-refl (C .vertices)) in
+      let e₁ = leb (C .edges) (3 * C .vertices) in
+      let e₂ = leb (C .faces) (2 * C .vertices) in
+      let euler = eqb (C .vertices + C .faces) (C .edges + 2) in
+      let r₄ = inner && (based && whole) in
+      let r₃ = facesWhole C L && r₄ in
+      let r₂ = outerHolds C L && r₃ in
+      and-both (countsHold C) (halves && r₂)
+      (and-both (ltb 0 (C .faces)) (euler && (e₁ && e₂)) (lt→ltb 0 (C .faces) (W .some)) (and-both euler (e₁ && e₂) (eq-test (W .euler))
+      (and-both e₁ e₂ (le→leb (C .edges) (3 * C .vertices) (omega arith)) (le→leb (C .faces) (2 * C .vertices) (omega arith)))))
+      (and-both halves r₂ (all-below← E (halfEdgeHolds C L) (wf-half W))
+      (and-both (outerHolds C L) r₃ (wf-outer W)
+      (and-both (facesWhole C L) r₄ (wf-faces-whole W)
+      (and-both inner (based && whole) (all-below← (C .faces) (innerFaceHolds C L) (λ f l. implies← (ltb 0 f) (faceHolds C L f) (λ t. wf-face W f l (ltb→lt 0 f t))))
+      (and-both based whole (all-below← (C .vertices) (vertexHolds C L) (wf-vertex W)) (wf-vertices-whole W))))))
+
+  pub sweep-rules : sweep C L ≡ rules C L
+  sweep-rules = test-ext (sweep C L) (rules C L) from-sweep to-sweep
