@@ -9,7 +9,7 @@ use lib.Dec.{T, ltb, ltb→lt, lt→ltb, T-not}
 use lib.Signed.{ltZ-yes}
 use Rattle.math.specs.declared.Point.{Point}
 use Rattle.math.specs.Determinant.{InRange, isValidCoordinate, isValidVertex}
-use Rattle.math.specs.Range.{in-range, range-x, range-y}
+use Rattle.math.specs.Range.{in-range, valid-vertex}
 use Rattle.mesh.specs.declared.Counts.{Counts}
 use Rattle.mesh.specs.Mesh.{Links}
 use Rattle.mesh.specs.Area.{LeftTurning}
@@ -107,12 +107,10 @@ pub passes-good : {n : ℕ} {short : Bool} {C : Counts} {L : Links} {p : ℕ →
 passes-good k P = record { wf = P .wf; turning = P .turning; range = λ l. P .range (omega arith) }
 
 valid-range : {q : Point} → T (isValidVertex q) → InRange q
-valid-range {q} t =
-    let a = isValidCoordinate (q .x) in let b = isValidCoordinate (q .y) in
-    in-range (is-true a (and-left a b t)) (is-true b (and-right a b t))
+valid-range {q} t = in-range (is-true (isValidVertex q) t)
 
 range-valid : {q : Point} → InRange q → T (isValidVertex q)
-range-valid {q} r = and-both (isValidCoordinate (q .x)) (isValidCoordinate (q .y)) (from-true (range-x r)) (from-true (range-y r))
+range-valid r = from-true (valid-vertex r)
 
 -- none is outside: all are in range, and the other way round
 pub inside-range : (n : ℕ) (p : ℕ → Point) → n ≤ firstOutside n p → {v : ℕ} → v < n → InRange (p v)

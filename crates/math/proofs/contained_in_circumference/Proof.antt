@@ -67,8 +67,7 @@ small e h = record { abs = subst (λ (z : ℤ). natAbs z ≤ 2251799813685248) (
 
 sum-sign-requires : tie.Need-sum-sign-requires
 sum-sign-requires c κs =
-    let f = c .before in let e = f .before in let p = e .before in let h = shorts (p .before) in
-    (
+    let f = c .before in let e = f .before in let p = e .before in let h = shorts (p .before) in (
       small (toZ-ofZ (sfits-of (p .cross .ok)) ∙ p .cross .ensures) (cross-small (h .1) (h .0)),
       small (toZ-ofZ (sfits-of (e .dot .ok)) ∙ e .dot .ensures) (dot-small (h .2) (h .3)),
       small (toZ-ofZ (sfits-of (f .dot2 .ok)) ∙ f .dot2 .ensures) (dot-small (h .0) (h .1)),
