@@ -142,16 +142,20 @@ module _ {q : List ℤ} {o h a row : List ℕ} {g : Added} {c : ℕ} (R : CloseR
     links-are = S .links o ∙ ap (createSingleFaceBetweenEdgeAndNext L (g .counts)) first-is
 
     pub legalize-ready : length h′ ≡ length h → length a′ ≡ length a → LegalizeReady (r .counts) q o h′ a′ row (g .flips) × (e₁ / 2 < r .counts .edges) × (e₂ / 2 < r .counts .edges)
-    legalize-ready u v = rw counts-are (record {
-      rows = record {
-        room = sized-room o o h′ a′ (R .ready .rows .room .outs) (R .ready .sized) refl new-good refl u v;
-        positions = R .ready .rows .positions;
-        good = rw links-are new-good;
-      };
-      count = rw links-are (corner-bound G (R .current .edge) (R .current .outer) (R .left) (R .ready .flips));
-      faces = (let f = faces-fit (new-good .wf) (le-refl _) in let s = R .ready .sized .small in omega arith);
-      room = R .ready .sized .pending;
-    }, (let i = first-in in omega arith), (let i = last-in in omega arith))
+    legalize-ready u v = rw counts-are (
+      record {
+        rows = record {
+          room = sized-room o o h′ a′ (R .ready .rows .room .outs) (R .ready .sized) refl new-good refl u v;
+          positions = R .ready .rows .positions;
+          good = rw links-are new-good;
+        };
+        bound = rw links-are (corner-bound G (R .current .edge) (R .current .outer) (R .left) (R .ready .flips));
+        few = (let f = faces-fit (new-good .wf) (le-refl _) in let s = R .ready .sized .small in omega arith);
+        room = R .ready .sized .pending;
+      },
+      (let i = first-in in omega arith),
+      (let i = last-in in omega arith),
+    )
 
     pub closed-row : (n : ℕ) (o″ h″ a″ : List ℕ) (done : Legalized)
         → Leaves o″ h″ a″ done (legalizeEdgesAfterRemoval n (r .counts) (positionOf q) (linksOf o h′ a′) (flipCountOf (g .flips)) (e₁ / 2) (e₂ / 2))

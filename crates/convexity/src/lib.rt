@@ -75,7 +75,12 @@ fn close_behind(
     let edge1 = dcel::prev(halves, edge2);
     let counts = added.counts;
     let flips = added.flips;
-    let new = dcel_operations::create_single_face_between_edge_and_next(halves, faces, counts, edge1);
+    let new = dcel_operations::create_single_face_between_edge_and_next(
+        halves,
+        faces,
+        counts,
+        edge1,
+    );
     let after = new.counts;
     let done = legalize::legalize_edges_after_removal(
         positions,

@@ -3,10 +3,6 @@ use native.Mathlib.Omega.{arith}
 use Rattle.convexity.proofs.InnerLoop.{ClosingAt, closing-starts, closing-behind, closing-ready, closing-two, closing-on, closing-end}
 use Rattle.convexity.proofs.close_all_behind.Statement.{statement}
 use Rattle.convexity.proofs.close_all_behind.Tie as tie
-use Rattle.convexity.proofs.close_all_behind.Reads as reads
-use Rattle.convexity.proofs.close_all_behind.Lts as lts
-use Rattle.convexity.proofs.close_behind.Reads as close-behind-reads
-use Rattle.convexity.proofs.left_behind.Reads as left-behind-reads
 
 abbrev Inv-loop : tie.InvT-loop
 Inv-loop positions outs₀ halves₀ faces₀ pending₀ current depth now₀ behind₀ outs halves faces pending now behind =
@@ -15,35 +11,29 @@ Inv-loop positions outs₀ halves₀ faces₀ pending₀ current depth now₀ be
 abbrev μ-loop : tie.MeasureT-loop
 μ-loop positions outs₀ halves₀ faces₀ pending₀ current depth now₀ behind₀ outs halves faces pending now behind = behind
 
--- src/lib.rt:139:5
 loop-holds : tie.Need-loop-holds Inv-loop μ-loop
 loop-holds c = closing-starts (c .before .before .before .before .pre)
 
--- src/lib.rt:139:11
 left-behind-requires : tie.Need-left-behind-requires Inv-loop μ-loop
 left-behind-requires c κs = closing-behind (c .before .loop .inv)
 
--- src/lib.rt:140:9
 close-behind-requires : tie.Need-close-behind-requires Inv-loop μ-loop
 close-behind-requires c κs =
     let t = c .before .before .before .before in
     closing-ready (t .before .before .before .loop .inv) (t .before .left-behind .ensures) (t .if1 .taken)
 
--- src/lib.rt:141:9
 sub-behind : tie.Need-sub-behind Inv-loop μ-loop
 sub-behind c =
     let t = c .before .before .before .before .before .before .before .before .before .before .before .before .before in
     let i = t .before .before .before .loop .inv in
     omega (arith, closing-two i (t .before .left-behind .ensures) (t .if1 .taken))
 
--- src/lib.rt:139:5
 loop-less : tie.Need-loop-less Inv-loop μ-loop
 loop-less c =
     let t = c .before .before .before .before .before .before .before .before .before .before .before .before .before in
     let i = t .before .before .before .loop .inv in
     omega (arith, closing-two i (t .before .left-behind .ensures) (t .if1 .taken))
 
--- src/lib.rt:139:5
 loop-again : tie.Need-loop-again Inv-loop μ-loop
 loop-again c =
     let t = c .before .before .before .before .before .before .before .before .before .before .before .before .before in
@@ -52,23 +42,18 @@ loop-again c =
     closing-on i (t .before .left-behind .ensures) (t .if1 .taken) (e .ensures)
     (record { outs = e .kept .1 .0; halves = e .kept .1 .1 .0; faces = e .kept .1 .1 .1 .0; pending = e .kept .1 .1 .1 .1 .0 })
 
--- src/lib.rt:124:1
 same-length : tie.Need-same-length Inv-loop μ-loop
 same-length c = c .before .before .before .loop .inv .lengths .outs
 
--- src/lib.rt:124:1
 same-length-2 : tie.Need-same-length-2 Inv-loop μ-loop
 same-length-2 c = c .before .before .before .loop .inv .lengths .halves
 
--- src/lib.rt:124:1
 same-length-3 : tie.Need-same-length-3 Inv-loop μ-loop
 same-length-3 c = c .before .before .before .loop .inv .lengths .faces
 
--- src/lib.rt:124:1
 same-length-4 : tie.Need-same-length-4 Inv-loop μ-loop
 same-length-4 c = c .before .before .before .loop .inv .lengths .pending
 
--- src/lib.rt:124:1
 returns : tie.Need-returns Inv-loop μ-loop
 returns c = closing-end (c .before .before .before .loop .inv) (c .before .left-behind .ensures) (c .if1 .left)
 

@@ -4,28 +4,19 @@ use mathlib.Core.Path.{refl}
 use Rattle.convexity.proofs.Rows.{last-there, single-ready, legalize-ready, faces-fit-32, closed-row}
 use Rattle.convexity.proofs.close_behind.Statement.{statement}
 use Rattle.convexity.proofs.close_behind.Tie as tie
-use Rattle.convexity.proofs.close_behind.Reads as reads
-use Rattle.convexity.proofs.close_behind.Lts as lts
-use Rattle.legalize.proofs.legalize_edges_after_removal.Reads as legalize-edges-after-removal-reads
-use Rattle.dcel.proofs.prev.Reads as prev-reads
-use Rattle.dcel_operations.proofs.create_single_face_between_edge_and_next.Reads as create-single-face-between-edge-and-next-reads
 
--- src/lib.rt:97:9
 prev-requires : tie.Need-prev-requires
 prev-requires c κs = search needs
 
--- src/lib.rt:98:9
 prev-requires-2 : tie.Need-prev-requires-2
 prev-requires-2 c κs = last-there (c .before .before .before .before .before .before .before .pre) (c .before .prev .ensures) refl
 
--- src/lib.rt:101:9
 create-single-face-between-edge-and-next-requires :
     tie.Need-create-single-face-between-edge-and-next-requires
 create-single-face-between-edge-and-next-requires c κs =
     let e = c .before .before .before .before in
     single-ready (e .before .before .before .before .before .before .before .before .pre) (e .before .before .prev .ensures) (e .prev2 .ensures)
 
--- src/lib.rt:103:9
 legalize-edges-after-removal-requires : tie.Need-legalize-edges-after-removal-requires
 legalize-edges-after-removal-requires c κs =
     let n = c .before .before .before .before .before .before .before .before .before in
@@ -33,29 +24,23 @@ legalize-edges-after-removal-requires c κs =
     let f = n .create-single-face-between-edge-and-next in
     legalize-ready (e .before .before .before .before .before .before .before .before .pre) (e .before .before .prev .ensures) (e .prev2 .ensures) (f .ensures) (f .kept .0) (f .kept .1 .0)
 
--- src/lib.rt:117:16
 add-t32 : tie.Need-add-t32
 add-t32 c =
     let e = c .before .before .before .before .before .before .before .before .before .before .before .before .before .before .before .before .before .before .before .before .before .before .before .before .before in
     record { fits = faces-fit-32 (e .before .before .before .before .before .before .before .before .pre) (e .before .before .prev .ensures) (e .prev2 .ensures) }
 
--- src/lib.rt:85:1
 same-length : tie.Need-same-length
 same-length c = search needs
 
--- src/lib.rt:85:1
 same-length-2 : tie.Need-same-length-2
 same-length-2 c = search needs
 
--- src/lib.rt:85:1
 same-length-3 : tie.Need-same-length-3
 same-length-3 c = search needs
 
--- src/lib.rt:85:1
 same-length-4 : tie.Need-same-length-4
 same-length-4 c = search needs
 
--- src/lib.rt:85:1
 returns : tie.Need-returns
 returns c =
     let l = c .before .before .before .before .before .before .before .before .before .before in

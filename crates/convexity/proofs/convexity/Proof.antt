@@ -5,11 +5,6 @@ use Rattle.convexity.specs.ConvexityRows.{convexityOf}
 use Rattle.convexity.proofs.PassesLoop.{PassesAt, passes-begin, again-ready, passes-on, passes-less, passes-end}
 use Rattle.convexity.proofs.convexity.Statement.{statement}
 use Rattle.convexity.proofs.convexity.Tie as tie
-use Rattle.convexity.proofs.convexity.Reads as reads
-use Rattle.convexity.proofs.convexity.Lts as lts
-use Rattle.convexity.proofs.fix_convexity.Reads as fix-convexity-reads
-use Rattle.convexity.proofs.is_still.Reads as is-still-reads
-use Rattle.flip_count.proofs.FlipCount.zero.Reads as zero-reads
 
 abbrev Inv-loop : tie.InvT-loop
 Inv-loop positions outs₀ halves₀ faces₀ pending₀ now₀ still₀ outs halves faces pending now still =
@@ -19,30 +14,24 @@ abbrev μ-loop : tie.MeasureT-loop
 μ-loop positions outs₀ halves₀ faces₀ pending₀ now₀ still₀ outs halves faces pending now still =
     passesLeft (record { mesh = convexityOf outs halves faces now; still = still })
 
--- src/lib.rt:216:9
 zero-requires : tie.Need-zero-requires Inv-loop μ-loop
 zero-requires c κs = tt
 
--- src/lib.rt:224:5
 loop-holds : tie.Need-loop-holds Inv-loop μ-loop
 loop-holds c = passes-begin (c .before .before .before .before .before .pre) _ (c .zero .ensures)
 
--- src/lib.rt:226:9
 fix-convexity-requires : tie.Need-fix-convexity-requires Inv-loop μ-loop
 fix-convexity-requires c κs = again-ready (c .before .before .before .before .before .loop .inv) (c .before .before .before .before .loop-test .taken)
 
--- src/lib.rt:227:9
 is-still-requires : tie.Need-is-still-requires Inv-loop μ-loop
 is-still-requires c κs = tt
 
--- src/lib.rt:224:5
 loop-less : tie.Need-loop-less Inv-loop μ-loop
 loop-less c =
     let f = c .before .before .before .before .before .before .before .before .before in
     let t = f .before .before .before .before .before in
     passes-less (t .before .loop .inv) (t .loop-test .taken) _ _ _ _ (f .fix-convexity .ensures) (c .is-still .ensures)
 
--- src/lib.rt:224:5
 loop-again : tie.Need-loop-again Inv-loop μ-loop
 loop-again c =
     let f = c .before .before .before .before .before .before .before .before .before in
@@ -51,23 +40,18 @@ loop-again c =
     passes-on (t .before .loop .inv) (t .loop-test .taken) _ _ _ _ (f .fix-convexity .ensures) (c .is-still .ensures)
     (record { outs = k .1 .0; halves = k .1 .1 .0; faces = k .1 .1 .1 .0; pending = k .1 .1 .1 .1 .0 })
 
--- src/lib.rt:205:1
 same-length : tie.Need-same-length Inv-loop μ-loop
 same-length c = c .before .loop .inv .lengths .outs
 
--- src/lib.rt:205:1
 same-length-2 : tie.Need-same-length-2 Inv-loop μ-loop
 same-length-2 c = c .before .loop .inv .lengths .halves
 
--- src/lib.rt:205:1
 same-length-3 : tie.Need-same-length-3 Inv-loop μ-loop
 same-length-3 c = c .before .loop .inv .lengths .faces
 
--- src/lib.rt:205:1
 same-length-4 : tie.Need-same-length-4 Inv-loop μ-loop
 same-length-4 c = c .before .loop .inv .lengths .pending
 
--- src/lib.rt:205:1
 returns : tie.Need-returns Inv-loop μ-loop
 returns c = passes-end (c .before .loop .inv) (c .loop-test .left)
 

@@ -3,12 +3,6 @@ use native.Mathlib.Omega.{arith}
 use Rattle.convexity.proofs.OuterLoop.{PassAt, outer-there, turns-fit, pass-starts, next-there, depth-fits, walk-ready, turn-left, pass-on, pass-end}
 use Rattle.convexity.proofs.fix_convexity.Statement.{statement}
 use Rattle.convexity.proofs.fix_convexity.Tie as tie
-use Rattle.convexity.proofs.fix_convexity.Reads as reads
-use Rattle.convexity.proofs.fix_convexity.Lts as lts
-use Rattle.convexity.proofs.close_all_behind.Reads as close-all-behind-reads
-use Rattle.convexity.proofs.walk_ends.Reads as walk-ends-reads
-use Rattle.dcel.proofs.adjacent.Reads as adjacent-reads
-use Rattle.dcel.proofs.next.Reads as next-reads
 
 abbrev Inv-loop : tie.InvT-loop
 Inv-loop positions outs₀ halves₀ faces₀ pending₀ now₀ current₀ depth₀ left₀ outs halves faces pending now current depth left =
@@ -17,57 +11,45 @@ Inv-loop positions outs₀ halves₀ faces₀ pending₀ now₀ current₀ depth
 abbrev μ-loop : tie.MeasureT-loop
 μ-loop positions outs₀ halves₀ faces₀ pending₀ now₀ current₀ depth₀ left₀ outs halves faces pending now current depth left = left
 
--- src/lib.rt:171:9
 adjacent-requires : tie.Need-adjacent-requires Inv-loop μ-loop
 adjacent-requires c κs = outer-there (c .before .before .before .before .before .pre)
 
--- src/lib.rt:174:20
 mul-left : tie.Need-mul-left Inv-loop μ-loop
 mul-left c = record { fits = turns-fit (c .before .before .before .before .before .before .before .before .pre) .0 }
 
--- src/lib.rt:174:20
 sub-left : tie.Need-sub-left Inv-loop μ-loop
 sub-left c = turns-fit (c .before .before .before .before .before .before .before .before .pre) .1
 
--- src/lib.rt:174:20
 sub-left-2 : tie.Need-sub-left-2 Inv-loop μ-loop
 sub-left-2 c = turns-fit (c .before .before .before .before .before .before .before .before .before .pre) .2
 
--- src/lib.rt:175:5
 loop-holds : tie.Need-loop-holds Inv-loop μ-loop
 loop-holds c = pass-starts (c .before .before .before .before .before .before .before .before .before .pre) (c .before .before .before .adjacent .ensures)
 
--- src/lib.rt:175:12
 walk-ends-requires : tie.Need-walk-ends-requires Inv-loop μ-loop
 walk-ends-requires c κs = tt
 
--- src/lib.rt:176:9
 next-requires : tie.Need-next-requires Inv-loop μ-loop
 next-requires c κs = next-there (c .before .before .before .loop .inv)
 
--- src/lib.rt:185:13
 add-close-all-behind : tie.Need-add-close-all-behind Inv-loop μ-loop
 add-close-all-behind c = record { fits = depth-fits (c .before .before .before .before .before .before .before .before .loop .inv) }
 
--- src/lib.rt:177:13
 close-all-behind-requires : tie.Need-close-all-behind-requires Inv-loop μ-loop
 close-all-behind-requires c κs =
     let t = c .before .before .before .before .before .before in
     walk-ready (t .before .before .loop .inv) (t .before .walk-ends .ensures) (t .if1 .taken) (c .before .before .before .before .next .ensures)
 
--- src/lib.rt:190:9
 sub-left-3 : tie.Need-sub-left-3 Inv-loop μ-loop
 sub-left-3 c =
     let t = c .before .before .before .before .before .before .before .before .before .before .before .before .before .before .before .before in
     turn-left (t .before .before .loop .inv) (t .before .walk-ends .ensures) (t .if1 .taken)
 
--- src/lib.rt:175:5
 loop-less : tie.Need-loop-less Inv-loop μ-loop
 loop-less c =
     let t = c .before .before .before .before .before .before .before .before .before .before .before .before .before .before .before .before in
     omega (arith, turn-left (t .before .before .loop .inv) (t .before .walk-ends .ensures) (t .if1 .taken))
 
--- src/lib.rt:175:5
 loop-again : tie.Need-loop-again Inv-loop μ-loop
 loop-again c =
     let e = c .before .before .before .before .before .before .before .before .before in
@@ -77,23 +59,18 @@ loop-again c =
     pass-on (t .before .before .loop .inv) (t .before .walk-ends .ensures) (t .if1 .taken) (n .next .ensures) _ _ _ _ _ (e .close-all-behind .ensures)
     (record { outs = k .1 .0; halves = k .1 .1 .0; faces = k .1 .1 .1 .0; pending = k .1 .1 .1 .1 .0 })
 
--- src/lib.rt:159:1
 same-length : tie.Need-same-length Inv-loop μ-loop
 same-length c = c .before .before .loop .inv .lengths .outs
 
--- src/lib.rt:159:1
 same-length-2 : tie.Need-same-length-2 Inv-loop μ-loop
 same-length-2 c = c .before .before .loop .inv .lengths .halves
 
--- src/lib.rt:159:1
 same-length-3 : tie.Need-same-length-3 Inv-loop μ-loop
 same-length-3 c = c .before .before .loop .inv .lengths .faces
 
--- src/lib.rt:159:1
 same-length-4 : tie.Need-same-length-4 Inv-loop μ-loop
 same-length-4 c = c .before .before .loop .inv .lengths .pending
 
--- src/lib.rt:159:1
 returns : tie.Need-returns Inv-loop μ-loop
 returns c = pass-end (c .before .before .loop .inv) (c .before .walk-ends .ensures) (c .if1 .left) (c .before .before .before .before .before .before .before .before .before .before .before .before .pre)
 

@@ -3,32 +3,22 @@ use borrow.Author.Needs.{needs}
 use Rattle.convexity.proofs.Corners.{behind-full, behind-few, corner-ready, behind-tested}
 use Rattle.convexity.proofs.left_behind.Statement.{statement}
 use Rattle.convexity.proofs.left_behind.Tie as tie
-use Rattle.convexity.proofs.left_behind.Reads as reads
-use Rattle.convexity.proofs.left_behind.Lts as lts
-use Rattle.convexity.proofs.turns_left_at.Reads as turns-left-at-reads
-use Rattle.dcel.proofs.prev.Reads as prev-reads
 
--- src/lib.rt:55:9
 returns : tie.Need-returns
 returns c = λ o a. behind-full _ _ _ _ (c .if1 .taken)
 
--- src/lib.rt:58:9
 returns-2 : tie.Need-returns-2
 returns-2 c = λ o a. behind-few _ _ _ _ (c .before .if1 .left) (c .if2 .taken)
 
--- src/lib.rt:60:9
 prev-requires : tie.Need-prev-requires
 prev-requires c κs = search needs
 
--- src/lib.rt:61:9
 prev-requires-2 : tie.Need-prev-requires-2
 prev-requires-2 c κs = search needs
 
--- src/lib.rt:62:5
 turns-left-at-requires : tie.Need-turns-left-at-requires
 turns-left-at-requires c κs = corner-ready _ _ _ (c .before .prev .ensures) (c .prev2 .ensures) (c .before .before .before .before .before .pre .corner)
 
--- src/lib.rt:50:1
 returns-3 : tie.Need-returns-3
 returns-3 c =
     let e = c .before in

@@ -3,39 +3,25 @@ use borrow.Author.Needs.{needs}
 use Rattle.convexity.proofs.Corners.{in-range, side-left}
 use Rattle.convexity.proofs.turns_left_at.Statement.{statement}
 use Rattle.convexity.proofs.turns_left_at.Tie as tie
-use Rattle.convexity.proofs.turns_left_at.Reads as reads
-use Rattle.convexity.proofs.turns_left_at.Lts as lts
-use Rattle.dcel.proofs.origin.Reads as origin-reads
-use Rattle.dcel.proofs.position.Reads as position-reads
-use Rattle.dcel.proofs.to.Reads as to-reads
-use Rattle.math.proofs.LineSideInfo.is_on_left_side.Reads as is-on-left-side-reads
-use Rattle.math.proofs.side_query.Reads as side-query-reads
 
--- src/lib.rt:40:9
 origin-requires : tie.Need-origin-requires
 origin-requires c κs = search needs
 
--- src/lib.rt:41:9
 to-requires : tie.Need-to-requires
 to-requires c κs = search needs
 
--- src/lib.rt:42:9
 to-requires-2 : tie.Need-to-requires-2
 to-requires-2 c κs = search needs
 
--- src/lib.rt:43:9
 position-requires : tie.Need-position-requires
 position-requires c κs = search needs
 
--- src/lib.rt:44:9
 position-requires-2 : tie.Need-position-requires-2
 position-requires-2 c κs = search needs
 
--- src/lib.rt:45:9
 position-requires-3 : tie.Need-position-requires-3
 position-requires-3 c κs = search needs
 
--- src/lib.rt:46:5
 side-query-requires : tie.Need-side-query-requires
 side-query-requires c κs =
     let s = c .before .before .before .before .before .before .before in (
@@ -44,11 +30,9 @@ side-query-requires c κs =
       in-range _ (c .position3 .ensures) (c .before .before .before .to2 .ensures) (s .pre .target),
     )
 
--- src/lib.rt:46:5
 is-on-left-side-requires : tie.Need-is-on-left-side-requires
 is-on-left-side-requires c κs = search needs
 
--- src/lib.rt:36:1
 returns : tie.Need-returns
 returns c =
     let p = c .before .before in
