@@ -32,19 +32,19 @@ use Rattle.convexity.specs.StackLaws.{fix-walks}
 
 -- ---- the corners that a walk has tested
 -- the corner of the two half-edges that are k and k + 1 steps behind the last one behind c
-abbrev leftBehind : (ℕ → Point) → Links → ℕ → ℕ → Bool
-leftBehind p L c k = turnsLeftAt L p (iter (suc (suc k)) (L .prev) c) (iter (suc k) (L .prev) c)
+abbrev cornerBehind : (ℕ → Point) → Links → ℕ → ℕ → Bool
+cornerBehind p L c k = turnsLeftAt L p (iter (suc (suc k)) (L .prev) c) (iter (suc k) (L .prev) c)
 
 Tested : (ℕ → Point) → Walk → Type 0
-Tested p w = (k : ℕ) → suc k < w .depth → leftBehind p (w .mesh .links) (w .current) k ≡ false
+Tested p w = (k : ℕ) → suc k < w .depth → cornerBehind p (w .mesh .links) (w .current) k ≡ false
 
 -- a turn that closes no corner tests one more
 tested-turn : {p : ℕ → Point} (w r : Walk) → Walking p w → Turned p w r → r .mesh ≡ w .mesh → w .mesh .full ≡ false → Tested p w → Tested p r
 unfolding Tested
 tested-turn {p} w r i t q f T zero u = stopped p r (t .ends) (ap (λ (m : Convexity). m .full) q ∙ f) u
 tested-turn {p} w r i t q f T (suc j) u =
-    ap₂ (λ (m : Convexity) (c : ℕ). leftBehind p (m .links) c (suc j)) q (t .current)
-    ∙ ap (λ (c : ℕ). leftBehind p (w .mesh .links) c j) (i .good .wf .links .prev-next (i .current .0))
+    ap₂ (λ (m : Convexity) (c : ℕ). cornerBehind p (m .links) c (suc j)) q (t .current)
+    ∙ ap (λ (c : ℕ). cornerBehind p (w .mesh .links) c j) (i .good .wf .links .prev-next (i .current .0))
     ∙ T j (let a = i .count in let b = t .walking .count in let c = t .left in let h = ap (λ (m : Convexity). boundaryLength (m .counts) (m .links)) q in omega arith)
 
 -- all of them, once around

@@ -51,14 +51,35 @@ pub record Sized (vertices : ℕ) (h a row : List ℕ) : Type 0 where
   pub small : vertices ≤ 2 ^ 24
 
 -- the rows hold a good mesh that passes can be made on, with a count of flips that can go on
-pub record StartReady (q : List ℤ) (o h a row : List ℕ) (g : Added) : Type 0 where
+pub record Ready (q : List ℤ) (o h a row : List ℕ) (g : Added) : Type 0 where
   pub rows : GoodRows (g .counts) q o h a
   pub sized : Sized (g .counts .vertices) h a row
   pub flips : FlipsBound (g .counts) (linksOf o h a) (positionOf q) (flipCountOf (g .flips))
   pub faces : g .faces ≤ g .counts .faces
+
+-- the current half-edge is on the boundary
+pub record OnBoundary (C : Counts) (L : Links) (current : ℕ) : Type 0 where
+  pub edge : In C current
+  pub outer : L .face current ≡ 0
+
+-- a corner behind it is to be closed
+pub record CloseReady (q : List ℤ) (o h a row : List ℕ) (g : Added) (c : ℕ) : Type 0 where
+  pub ready : Ready q o h a row g
+  pub current : OnBoundary (g .counts) (linksOf o h a) c
+  pub left : turnsLeftAt (linksOf o h a) (positionOf q) (linksOf o h a .prev (linksOf o h a .prev c)) (linksOf o h a .prev c) ≡ true
+
+-- all corners behind it are
+pub record WalkReady (q : List ℤ) (o h a row : List ℕ) (g : Added) (c d : ℕ) : Type 0 where
+  pub ready : Ready q o h a row g
+  pub current : OnBoundary (g .counts) (linksOf o h a) c
+  pub depth : d ≤ boundaryLength (g .counts) (linksOf o h a) + 1
+
+-- a pass
+pub record StartReady (q : List ℤ) (o h a row : List ℕ) (g : Added) : Type 0 where
+  pub ready : Ready q o h a row g
   pub full : g .full ≡ false
 
--- before the first
+-- all passes
 pub record MeshReady (q : List ℤ) (o h a row : List ℕ) (C : Counts) : Type 0 where
   pub rows : GoodRows C q o h a
   pub sized : Sized (C .vertices) h a row

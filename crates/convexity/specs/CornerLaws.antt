@@ -87,6 +87,14 @@ module _ {C : Counts} {L : Links} {p : ℕ → Point} (G : Good C L p) {c : ℕ}
   pub corner-shorter : boundaryLength (withFace C) K + 1 ≡ boundaryLength C L
   corner-shorter = single-face-length G (corner-in .0) (corner-in .1) corner-left
 
+  -- flips that were counted before stay within their bound
+  pub corner-bound : {n : ℕ} → FlipsBound C L p n → FlipsBound (withFace C) K p n
+  corner-bound B =
+      let A = single-face-added G (corner-in .0) (corner-in .1) corner-left in
+      let W = G .wf in
+      let n = W .ranges .next< (corner-in .0) in
+      flips-face W (corner-good .wf) A (G .range (W .ranges .origin< (rev-below (C .edges) n))) (G .range (W .ranges .origin< (corner-in .0))) (G .range (W .ranges .origin< n)) B
+
   -- c stays on the boundary, and the new half-edge is behind it
   least : 2 < boundaryLength C L
   least = let k = corner-shorter in let n = boundary-least (corner-good .wf) in omega arith

@@ -17,11 +17,11 @@ use Rattle.mesh.specs.Area.{boundaryLength}
 use Rattle.mesh.specs.BoundaryLaws.{boundary-least, boundary-most}
 use Rattle.mesh.specs.Good.{Good}
 use Rattle.sums.specs.Iterate.{iter}
-use Rattle.sums.specs.Until.{until, until-related, until-turn, until-fuel}
+use Rattle.sums.specs.Until.{until, until-related, until-turn, until-fuel, until-ends}
 use Rattle.convexity.specs.Convexity.{Convexity, Pass, turnsLeftAt, closeCorner, lastTurnsLeft, closeLast, closeCorners, passTurn, isSecond, passStart, fixConvexity}
 use Rattle.convexity.specs.CornerLaws.{behind-period, closes, closes-behind, closed-length}
-use Rattle.convexity.specs.Walk.{Walk, edge1, edge2, stops, closeBehind, closeAllBehind, onward, walkTurn, walkEnds, walkStart, walkPass}
-use Rattle.convexity.specs.WalkLaws.{Walking, Turns, turns, close-keeps, closing-ends, onward-keeps, left-over, turned, walk-falls, walk-starts}
+use Rattle.convexity.specs.Walk.{Walk, edge1, edge2, leftBehind, stops, closeBehind, closeAllBehind, onward, walkTurn, walkEnds, walkStart, walkPass}
+use Rattle.convexity.specs.WalkLaws.{Walking, Turns, turns, close-keeps, closing-ends, onward-keeps, left-over, Turned, turned, walk-falls, walk-starts}
 
 abbrev pub passOf : Walk → List ℕ → Pass
 passOf w l = record { mesh = w .mesh; current = w .current; edges = l }
@@ -66,7 +66,7 @@ module _ {p : ℕ → Point} (w : Walk) (i : Walking p w) (l : List ℕ) (c : Ch
 
   -- the tests agree
   test-same : (w .mesh .full || not (lastTurnsLeft p (w .mesh .links) l)) ≡ stops p w
-  unfolding stops
+  unfolding stops leftBehind
   test-same = let n = boundary-least (i .good .wf) in
       ap (λ (t : Bool). w .mesh .full || not t) (last-test p (w .mesh .links) l (w .depth) (edge2 w) (edge1 w) (c .depth)
       (λ u. c .entries 0 u (omega arith)) (λ u. c .entries 1 u (omega arith)))
@@ -137,10 +137,10 @@ pub record Stacked (p : ℕ → Point) (s : Pass) (w : Walk) : Type 0 where
   pub walking : Walking p w
 
 module _ (room : ℕ) (p : ℕ → Point) where
-  abbrev done : Pass → Bool
+  abbrev pub done : Pass → Bool
   done s = s .mesh .full || not (lastTurnsLeft p (s .mesh .links) (s .edges))
 
-  abbrev ends : Pass → Bool
+  abbrev pub ends : Pass → Bool
   ends s = s .mesh .full || isSecond (s .current) (s .edges)
 
   stacked-test : (s : Pass) (w : Walk) → Stacked p s w → done s ≡ stops p w
@@ -183,19 +183,33 @@ module _ (room : ℕ) (p : ℕ → Point) where
   unfolding walkStart
   start-full m = refl
 
-  -- THE PASS WITH O(1) STATE IS THE PASS
-  pub fix-walks : (m : Convexity) → Good (m .counts) (m .links) p → m .full ≡ false → fixConvexity room p m ≡ walkPass room p m
-  unfolding fixConvexity walkPass
-  fix-walks m G f =
-      let w = walkStart m in let i = walk-starts room p m G in let F = walk-falls room p in
-      let n = 2 * m .counts .edges + 2 in
-      let l : w .left ≡ boundaryLength (m .counts) (m .links) + 1 = start-left m in
-      let go : walkEnds w ≡ false = rw (start-full m ∙ f, ne-eqb (w .left) 0 (omega arith)) refl in
-      let t = turned room p w i go in
-      let R = until-related ends (passTurn room p) walkEnds (walkTurn room p) (Stacked p) stacked-ends
-      (λ s w S e. stacked-turn s w S (left-over w (sym (stacked-ends s w S) ∙ e) .1)) n (passTurn room p (passStart m)) (walkTurn room p w)
-      (stacked-turn (passStart m) w (stacked-start m G) (omega arith)) in
-      ap (λ (s : Pass). s .mesh) (R .is)
-      ∙ ap (λ (w : Walk). w .mesh) (until-fuel walkEnds (walkTurn room p) F n (w .left + 1) (walkTurn room p w) (t .walking)
-      (let k = t .left in let b = boundary-most (G .wf) in omega arith) (let k = t .left in omega arith)
-      ∙ sym (until-turn walkEnds (walkTurn room p) F (w .left + 1) w i (omega arith) go))
+  module _ (m : Convexity) (G : Good (m .counts) (m .links) p) (f : m .full ≡ false) where
+    abbrev fuel : ℕ
+    fuel = 2 * m .counts .edges + 2
+
+    goes : walkEnds (walkStart m) ≡ false
+    goes = let l = start-left m in rw (start-full m ∙ f, ne-eqb (walkStart m .left) 0 (omega arith)) refl
+
+    first : Turned p (walkStart m) (walkTurn room p (walkStart m))
+    first = turned room p (walkStart m) (walk-starts room p m G) goes
+
+    enough : walkTurn room p (walkStart m) .left < fuel
+    enough = let l = start-left m in let k = first .left in let b = boundary-most (G .wf) in omega arith
+
+    together : Stacked p (until ends (passTurn room p) fuel (passTurn room p (passStart m))) (until walkEnds (walkTurn room p) fuel (walkTurn room p (walkStart m)))
+    together = let l = start-left m in
+        until-related ends (passTurn room p) walkEnds (walkTurn room p) (Stacked p) stacked-ends (λ s w S e. stacked-turn s w S (left-over w (sym (stacked-ends s w S) ∙ e) .1))
+        fuel (passTurn room p (passStart m)) (walkTurn room p (walkStart m)) (stacked-turn (passStart m) (walkStart m) (stacked-start m G) (omega arith))
+
+    -- the fuel suffices: the pass ends by its own test
+    pub fix-ends : ends (until ends (passTurn room p) fuel (passTurn room p (passStart m))) ≡ true
+    fix-ends = stacked-ends _ _ together ∙ until-ends walkEnds (walkTurn room p) (walk-falls room p) fuel (walkTurn room p (walkStart m)) (first .walking) enough
+
+    -- THE PASS WITH O(1) STATE IS THE PASS
+    pub fix-walks : fixConvexity room p m ≡ walkPass room p m
+    unfolding fixConvexity walkPass
+    fix-walks =
+        let w = walkStart m in
+        ap (λ (s : Pass). s .mesh) (together .is)
+        ∙ ap (λ (w : Walk). w .mesh) (until-fuel walkEnds (walkTurn room p) (walk-falls room p) fuel (w .left + 1) (walkTurn room p w) (first .walking) enough (let k = first .left in omega arith)
+        ∙ sym (until-turn walkEnds (walkTurn room p) (walk-falls room p) (w .left + 1) w (walk-starts room p m G) (omega arith) goes))

@@ -4,6 +4,7 @@ use mathlib.Core.Bool.{Bool, not, _&&_, _||_}
 use Prim.Native.Nat.{ℕ, _+_, _-_}
 use lib.Dec.{eqb, ltb}
 use Rattle.math.specs.declared.Point.{Point}
+use Rattle.mesh.specs.Mesh.{Links}
 use Rattle.mesh.specs.Area.{boundaryLength}
 use Rattle.sums.specs.Until.{until}
 use Rattle.convexity.specs.Convexity.{Convexity, turnsLeftAt, closeCorner}
@@ -22,12 +23,18 @@ edge2 w = w .mesh .links .prev (w .current)
 abbrev pub edge1 : Walk → ℕ
 edge1 w = w .mesh .links .prev (edge2 w)
 
--- no corner is to be closed
+-- they are a corner to be closed: there are two, and they turn left
+unfoldable pub leftBehind : (ℕ → Point) → Links → ℕ → ℕ → Bool
+leftBehind p L current depth = ltb 1 depth && turnsLeftAt L p (L .prev (L .prev current)) (L .prev current)
+
 unfoldable pub stops : (ℕ → Point) → Walk → Bool
-stops p w = w .mesh .full || not (ltb 1 (w .depth) && turnsLeftAt (w .mesh .links) p (edge1 w) (edge2 w))
+stops p w = w .mesh .full || not (leftBehind p (w .mesh .links) (w .current) (w .depth))
+
+abbrev pub closedBehind : ℕ → (ℕ → Point) → Convexity → ℕ → Convexity
+closedBehind room p m current = closeCorner room p m (m .links .prev (m .links .prev current)) (m .links .prev current)
 
 unfoldable pub closeBehind : ℕ → (ℕ → Point) → Walk → Walk
-closeBehind room p w = record { mesh = closeCorner room p (w .mesh) (edge1 w) (edge2 w); current = w .current; depth = w .depth - 1; left = w .left }
+closeBehind room p w = record { mesh = closedBehind room p (w .mesh) (w .current); current = w .current; depth = w .depth - 1; left = w .left }
 
 -- the inner loop
 unfoldable pub closeAllBehind : ℕ → (ℕ → Point) → Walk → Walk

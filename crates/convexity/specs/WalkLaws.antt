@@ -14,7 +14,7 @@ use Rattle.mesh.specs.Good.{Good}
 use Rattle.sums.specs.Until.{until, Falls, until-ind, until-keeps}
 use Rattle.convexity.specs.Convexity.{Convexity, turnsLeftAt, closeCorner}
 use Rattle.convexity.specs.CornerLaws.{Closings, none, then, closings-join, closes, closes-behind, closed-good, closed-length}
-use Rattle.convexity.specs.Walk.{Walk, edge1, edge2, stops, closeBehind, closeAllBehind, onward, walkTurn, walkEnds, walkStart, walkPass}
+use Rattle.convexity.specs.Walk.{Walk, edge1, edge2, leftBehind, stops, closeBehind, closeAllBehind, onward, walkTurn, walkEnds, walkStart, walkPass}
 
 -- the current half-edge is on the boundary of a good mesh, and each turn left is for one of the half-edges that are not behind it, or the last
 pub record Walking (p : ℕ → Point) (w : Walk) : Type 0 where
@@ -30,7 +30,7 @@ pub record Turns (p : ℕ → Point) (w : Walk) : Type 0 where
   pub left : turnsLeftAt (w .mesh .links) p (edge1 w) (edge2 w) ≡ true
 
 pub turns : (p : ℕ → Point) (w : Walk) → stops p w ≡ false → Turns p w
-unfolding stops
+unfolding stops leftBehind
 turns p w e = go (w .mesh .full) (ltb 1 (w .depth)) (turnsLeftAt (w .mesh .links) p (edge1 w) (edge2 w)) refl refl refl e
   where
     go : (a b c : Bool) → w .mesh .full ≡ a → ltb 1 (w .depth) ≡ b → turnsLeftAt (w .mesh .links) p (edge1 w) (edge2 w) ≡ c → (a || not (b && c)) ≡ false → Turns p w
@@ -41,7 +41,7 @@ turns p w e = go (w .mesh .full) (ltb 1 (w .depth)) (turnsLeftAt (w .mesh .links
 
 -- where it says that there is none
 pub stopped : (p : ℕ → Point) (w : Walk) → stops p w ≡ true → w .mesh .full ≡ false → 1 < w .depth → turnsLeftAt (w .mesh .links) p (edge1 w) (edge2 w) ≡ false
-unfolding stops
+unfolding stops leftBehind
 stopped p w e f l = go (turnsLeftAt (w .mesh .links) p (edge1 w) (edge2 w)) (rw (f, lt-ltb 1 (w .depth) l) at e)
   where
     go : (c : Bool) → not c ≡ true → c ≡ false

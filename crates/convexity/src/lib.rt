@@ -9,8 +9,8 @@ ghost use lib.ListN.{length};
 ghost use Rattle.dcel.specs.Rows.{linksOf, positionOf};
 ghost use Rattle.mesh.specs.Area.{boundaryLength};
 ghost use Rattle.convexity.specs.Convexity.{turnsLeftAt, fixConvexity, convexity};
-ghost use Rattle.convexity.specs.Walk.{stops, closeAllBehind};
-ghost use Rattle.convexity.specs.ConvexityRows.{convexityOf, walkOf, closedBehind, CornerReady, BehindReady, CloseReady, WalkReady, StartReady, MeshReady};
+ghost use Rattle.convexity.specs.Walk.{leftBehind, closedBehind, closeAllBehind};
+ghost use Rattle.convexity.specs.ConvexityRows.{convexityOf, walkOf, CornerReady, BehindReady, CloseReady, WalkReady, StartReady, MeshReady};
 use flip_count::FlipCount;
 use mesh::Counts;
 
@@ -45,7 +45,7 @@ fn turns_left_at(positions: &[i32], halves: &[u32], edge1: u32, edge2: u32) -> b
 // Whether the two half-edges behind the current one are a corner to be closed.
 fn left_behind(positions: &[i32], halves: &[u32], full: bool, current: u32, depth: u32) -> bool
     requires { ⌜ BehindReady (now positions) (now halves) current ⌝ }
-    ensures { λ r. ⌜ ((o a : List ℕ) → r ≡ leftBehind (positionOf (now (positions .entry))) (linksOf o (now (halves .entry)) a) full current depth) ⌝ }
+    ensures { λ r. ⌜ ((o a : List ℕ) → r ≡ not (full || not (leftBehind (positionOf (now (positions .entry))) (linksOf o (now (halves .entry)) a) current depth))) ⌝ }
 {
     if full {
         return false;
@@ -73,22 +73,31 @@ fn close_behind(
 {
     let edge2 = dcel::prev(halves, current);
     let edge1 = dcel::prev(halves, edge2);
-    let new = dcel_operations::create_single_face_between_edge_and_next(halves, faces, added.counts, edge1);
+    let counts = added.counts;
+    let flips = added.flips;
+    let new = dcel_operations::create_single_face_between_edge_and_next(
+        halves,
+        faces,
+        counts,
+        edge1,
+    );
+    let after = new.counts;
     let done = legalize::legalize_edges_after_removal(
         positions,
         outs,
         halves,
         faces,
         pending,
-        new.counts,
+        after,
         edge1 / 2,
         edge2 / 2,
-        added.flips,
+        flips,
     );
+    let made = done.flips;
     Added {
-        counts: new.counts,
+        counts: after,
         faces: added.faces + 1,
-        flips: done.flips,
+        flips: made,
         full: done.full,
     }
 }
@@ -143,7 +152,8 @@ pub fn fix_convexity(
     let mut now = added;
     let mut current = dcel::adjacent(faces, 0);
     let mut depth = 0;
-    let mut left = 3 * added.counts.vertices - 2 - added.counts.edges;
+    let counts = added.counts;
+    let mut left = 3 * counts.vertices - 2 - counts.edges;
     while !walk_ends(now.full, left) {
         current = dcel::next(halves, current);
         let walked = close_all_behind(
@@ -156,7 +166,8 @@ pub fn fix_convexity(
             current,
             depth + 1,
         );
-        now = walked.added;
+        let after = walked.added;
+        now = after;
         depth = walked.depth;
         left -= 1;
     }
@@ -184,10 +195,11 @@ pub fn convexity(
     requires { ⌜ MeshReady (now positions) (now outs) (now halves) (now faces) (now pending) counts ⌝ }
     ensures { λ r. ⌜ convexityOf (now (outs .exit)) (now (halves .exit)) (now (faces .exit)) r ≡ convexity (length (now (pending .entry))) counts (positionOf (now (positions .entry))) (linksOf (now (outs .entry)) (now (halves .entry)) (now (faces .entry))) ⌝ }
 {
+    let zero = FlipCount::zero();
     let mut now = Added {
         counts: counts,
         faces: 0,
-        flips: FlipCount::zero(),
+        flips: zero,
         full: false,
     };
     let mut still = false;

@@ -5,6 +5,7 @@ use mathlib.Core.Bool.{Bool, true, false, false≢true, _||_}
 use mathlib.Core.List.{List, [], _∷_}
 use mathlib.Core.Path.{_≡_, refl, sym, _∙_, ap, subst}
 use Prim.Native.Nat.{ℕ, suc, _+_, _*_, _≤_, _<_}
+use native.Mathlib.Numerals.{add-one}
 use native.Mathlib.Omega.{arith}
 use lib.IntN.{natAbs}
 use lib.ListN.{length}
@@ -76,6 +77,16 @@ module _ (room : ℕ) (k : Entry) (C : Counts) (p : ℕ → Point) where
 
   pub falls : Falls isDone (turn room k p) (Ongoing room k C p) (measure C p)
   falls = record { keeps = keeps; less = less }
+
+  -- flips made and height left stay within their bound
+  pub turn-bound : (s : Legalizing) → Ongoing room k C p s → isDone s ≡ false → FlipsBound C (s .links) p (s .flips)
+      → FlipsBound C (turn room k p s .links) p (turn room k p s .flips)
+  turn-bound s O e B = going-on s e (λ x l q f.
+      let h = subst (EntriesIn C k) q (O .entries) in
+      turn-cases room k p s q (λ t. FlipsBound C (t .links) p (t .flips))
+      (λ b. B)
+      (λ b. rw (← add-one (s .flips)) (flips-more 1 B (let d = breaks-falls (O .good) (h .0) (breaks (s .links) p (edgeOf k x) b) in omega arith)))
+      (λ b m. B))
 
   -- a turn put before what follows
   back : (s r : Legalizing) → Ongoing room k C p s → isDone s ≡ false → Ran C p (turn room k p s) r → Ran C p s r

@@ -46,8 +46,8 @@ pub record Pops (k : Entry) (q : List ℤ) (h row : List ℕ) (n : ℕ) (row′ 
 -- a good mesh with a count of flips that can go on
 pub record LegalizeReady (C : Counts) (q : List ℤ) (o h a row : List ℕ) (flips : FlipCount) : Type 0 where
   pub rows : GoodRows C q o h a
-  pub count : FlipsBound C (linksOf o h a) (positionOf q) (flipCountOf flips)
-  pub faces : C .faces ≤ 2 ^ 25
+  pub few : C .faces ≤ 2 ^ 25
+  pub bound : FlipsBound C (linksOf o h a) (positionOf q) (flipCountOf flips)
   -- 01: "at least 8 pending entries"
   pub room : 8 ≤ length row
 

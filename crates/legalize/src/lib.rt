@@ -103,3 +103,145 @@ fn pop(positions: &[i32], halves: &[u32], pending: &mut [u32], n: usize, entry: 
         length: n - 1,
     }
 }
+
+// One turn of the loop: an entry is taken, and its edge flipped where it breaks the circle rule. A flip whose pushes would overfill the pending list is not made.
+fn turn(
+    positions: &[i32],
+    outs: &mut [u32],
+    halves: &mut [u32],
+    faces: &mut [u32],
+    pending: &mut [u32],
+    counts: Counts,
+    n: usize,
+    flips: FlipCount,
+    entry: Entry,
+) -> Turned
+    requires { ⌜ TurnReady entry counts (now positions) (now outs) (now halves) (now faces) (now pending) n flips × (0 < n) ⌝ }
+    ensures { λ r. ⌜ TurnLeaves (now (outs .exit)) (now (halves .exit)) (now (faces .exit)) (now (pending .exit)) r (turn (length (now (pending .entry))) entry (positionOf (now (positions .entry))) (stateOf (now (outs .entry)) (now (halves .entry)) (now (faces .entry)) (now (pending .entry)) n flips)) ⌝ }
+{
+    let popped = pop(positions, halves, pending, n, entry);
+    if !popped.flip {
+        return Turned {
+            length: popped.length,
+            flips: flips,
+            full: false,
+        };
+    }
+    if popped.length > pending.len() {
+        return Turned {
+            length: popped.length,
+            flips: flips,
+            full: true,
+        };
+    }
+    dcel_operations::flip_cw(outs, halves, faces, popped.edge);
+    let more = flips.increment();
+    Turned {
+        length: popped.length,
+        flips: more,
+        full: false,
+    }
+}
+
+// Turn after turn, until the pending list of n entries is empty or a flip is refused.
+fn legalize_pending(
+    positions: &[i32],
+    outs: &mut [u32],
+    halves: &mut [u32],
+    faces: &mut [u32],
+    pending: &mut [u32],
+    counts: Counts,
+    n: usize,
+    flips: FlipCount,
+    entry: Entry,
+) -> Legalized
+    requires { ⌜ TurnReady entry counts (now positions) (now outs) (now halves) (now faces) (now pending) n flips ⌝ }
+    ensures { λ r. ⌜ Leaves (now (outs .exit)) (now (halves .exit)) (now (faces .exit)) r (legalize (length (now (pending .entry))) entry counts (positionOf (now (positions .entry))) (stateOf (now (outs .entry)) (now (halves .entry)) (now (faces .entry)) (now (pending .entry)) n flips)) ⌝ }
+{
+    let mut left = n;
+    let mut made = flips;
+    while left > 0 {
+        let t = turn(
+            positions,
+            outs,
+            halves,
+            faces,
+            pending,
+            counts,
+            left,
+            made,
+            entry,
+        );
+        let after = t.flips;
+        if t.full {
+            return Legalized {
+                flips: after,
+                full: true,
+            };
+        }
+        left = t.length;
+        made = after;
+    }
+    Legalized {
+        flips: made,
+        full: false,
+    }
+}
+
+// `legalize_edge` with fully_legalize false: what the flip of an edge pushes lies on the side of its reverse.
+pub fn legalize_edge(
+    positions: &[i32],
+    outs: &mut [u32],
+    halves: &mut [u32],
+    faces: &mut [u32],
+    pending: &mut [u32],
+    counts: Counts,
+    e: u32,
+    flips: FlipCount,
+) -> Legalized
+    requires { ⌜ LegalizeReady counts (now positions) (now outs) (now halves) (now faces) (now pending) flips × In counts e ⌝ }
+    ensures { λ r. ⌜ Leaves (now (outs .exit)) (now (halves .exit)) (now (faces .exit)) r (legalizeEdge (length (now (pending .entry))) counts (positionOf (now (positions .entry))) (linksOf (now (outs .entry)) (now (halves .entry)) (now (faces .entry))) (flipCountOf flips) e) ⌝ }
+{
+    let n = pending::push(pending, 0, e);
+    legalize_pending(
+        positions,
+        outs,
+        halves,
+        faces,
+        pending,
+        counts,
+        n,
+        flips,
+        Entry::HalfEdge,
+    )
+}
+
+// `legalize_edges_after_removal` of two edges, pushed in this order.
+pub fn legalize_edges_after_removal(
+    positions: &[i32],
+    outs: &mut [u32],
+    halves: &mut [u32],
+    faces: &mut [u32],
+    pending: &mut [u32],
+    counts: Counts,
+    first: u32,
+    second: u32,
+    flips: FlipCount,
+) -> Legalized
+    requires { ⌜ LegalizeReady counts (now positions) (now outs) (now halves) (now faces) (now pending) flips × (first < counts .edges) × (second < counts .edges) ⌝ }
+    ensures { λ r. ⌜ Leaves (now (outs .exit)) (now (halves .exit)) (now (faces .exit)) r (legalizeEdgesAfterRemoval (length (now (pending .entry))) counts (positionOf (now (positions .entry))) (linksOf (now (outs .entry)) (now (halves .entry)) (now (faces .entry))) (flipCountOf flips) first second) ⌝ }
+{
+    let n = pending::push(pending, 0, first);
+    let m = pending::push(pending, n, second);
+    legalize_pending(
+        positions,
+        outs,
+        halves,
+        faces,
+        pending,
+        counts,
+        m,
+        flips,
+        Entry::Edge,
+    )
+}
