@@ -1,0 +1,2 @@
+-- What the functions' proofs cite beside the laws of specs/.
+mod Shift
