@@ -14,4 +14,6 @@ pub mod Free
 pub mod Grow
 pub mod Hull
 pub mod Step
+pub mod Boundary
+pub mod Covered
 pub mod Examples
