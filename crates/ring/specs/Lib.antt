@@ -16,4 +16,7 @@ pub mod Hull
 pub mod Step
 pub mod Boundary
 pub mod Covered
+pub mod Chain
+pub mod ChainLaws
+pub mod ChainMesh
 pub mod Examples
