@@ -20,5 +20,6 @@ pub mod Chain
 pub mod ChainLaws
 pub mod ChainMesh
 pub mod Located
+pub mod RingOf
 pub mod HullExample
 pub mod Examples
