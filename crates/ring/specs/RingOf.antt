@@ -31,7 +31,7 @@ use Rattle.ring.specs.Insert.{Ring, On, Bucketed, ring-sound, ring-begin
 use Rattle.ring.specs.Build.{Built, built}
 use Rattle.ring.specs.Stores.{Linked, Stores}
 use Rattle.ring.specs.Free.{Free, Pushed, Taken}
-use Rattle.ring.specs.Hull.{Hull, hull-turns, hull-home, kth, start-sound}
+use Rattle.ring.specs.Hull.{Hull, hull-turns, hull-home, kth, node-edge}
 use Rattle.ring.specs.WholeInsert.{Names, insert-keeps-hull, insert-keeps-freed, insert-keeps-total}
 use Rattle.ring.specs.Boundary.{outer-round, outer-walk, outer-on, sound-first, sound-outer, outer-sound, length-same}
 use Rattle.ring.specs.Located.{node-place, node-located, locate-passed}
@@ -78,6 +78,12 @@ module _ {C : Counts} {L : Links} (W : Wf C L) (α : ℕ → ℕ) (t : T (isSoun
         sym (p .2) ∙ ap (λ (i : ℕ). nodes (L .next) (edgeAngle L α) i e) s ∙ q .2;
   })
 
+-- the nodes' angles are on the circle
+pub node-low : {N : ℕ} {next α left right angle edge bucket : ℕ → ℕ} {e h s B w : ℕ} → Hull N next α left right angle edge bucket e h s B w → (k : ℕ) → k < nodes next α h e → angle (iter k right s) ≤ N
+node-low {N} {next} {α} {left} {right} {angle} {edge} {bucket} {e} {h} {s} H k u =
+    let r = node-place H (iter k right s) (k, u, refl) in
+    subst (λ (x : ℕ). x ≤ N) (ap α (sym (r .2)) ∙ node-edge (H .ring) k u .0) (H .low (r .0) (r .1))
+
 -- ---- from any boundary edge, and back
 module _ {C : Counts} {L : Links} (W : Wf C L) {α left right angle edge bucket : ℕ → ℕ} {B : ℕ} where
   pub ring-of : {e s : ℕ} → In C e → L .face e ≡ 0 → Hull fullTurn (L .next) (edgeAngle L α) left right angle edge bucket e (boundaryLength C L) s B (width B)
@@ -100,10 +106,11 @@ module _ {C : Counts} {L : Links} (W : Wf C L) {α left right angle edge bucket 
         → (s : ℕ) × Hull fullTurn (L .next) (edgeAngle L α) left right angle edge bucket e (boundaryLength C L) s B (width B) × (nodes (L .next) (edgeAngle L α) (boundaryLength C L) e ≡ size)
     ring-from {e} l o =
         let r = outer-on W (R .in-use) (R .outer) l o in
-        let a = edgeAngle L α in let d = edge (bucket 0) in let n = boundaryLength C L in
-        (iter (nodes (L .next) a (r .0) d) right (bucket 0),
-        subst (λ (x : ℕ). Hull fullTurn (L .next) a left right angle edge bucket x n (iter (nodes (L .next) a (r .0) d) right (bucket 0)) B (width B)) (r .2) (hull-turns (R .hull) (r .0)),
-        ap (λ (x : ℕ). nodes (L .next) a n x) (sym (r .2)) ∙ tally-at (atEnds proper (L .next) a) (L .next) n d (outer-round W (R .in-use) (R .outer)) (r .0) ∙ R .count)
+        let a = edgeAngle L α in let d = edge (bucket 0) in let n = boundaryLength C L in (
+          iter (nodes (L .next) a (r .0) d) right (bucket 0),
+          subst (λ (x : ℕ). Hull fullTurn (L .next) a left right angle edge bucket x n (iter (nodes (L .next) a (r .0) d) right (bucket 0)) B (width B)) (r .2) (hull-turns (R .hull) (r .0)),
+          ap (λ (x : ℕ). nodes (L .next) a n x) (sym (r .2)) ∙ tally-at (atEnds proper (L .next) a) (L .next) n d (outer-round W (R .in-use) (R .outer)) (r .0) ∙ R .count,
+        )
 
     pub ring-size : size ≤ C .vertices
     ring-size = subst (λ (x : ℕ). x ≤ C .vertices) (R .count) (nodes-most W α ring-sound-ring (R .in-use) (R .outer))
