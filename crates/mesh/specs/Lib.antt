@@ -30,3 +30,4 @@ pub mod FlipRun
 pub mod Examples
 pub mod AreaExamples
 pub mod WfParts
+pub mod RulesExamples
