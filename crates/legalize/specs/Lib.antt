@@ -3,3 +3,4 @@ pub mod Turns
 pub mod LegalizeLaws
 pub mod HullCase
 pub mod LegalizeRows
+pub mod Examples
