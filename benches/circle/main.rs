@@ -91,26 +91,18 @@ fn quads(random: &mut Random, r: i32, n: usize) -> Vec<Quad> {
         .collect()
 }
 
-/// The best of nine rounds, in nanoseconds a call, and the sum of the answers.
-fn time(quads: &[Quad], f: impl Fn(&Quad) -> u8) -> (f64, u64) {
-    let mut best = f64::MAX;
-    let mut sum = 0;
-    for _ in 0..9 {
-        sum = 0;
-        let start = Instant::now();
-        for _ in 0..64 {
-            for q in quads {
-                sum += black_box(f(black_box(q))) as u64;
-            }
-        }
-        best = best.min(start.elapsed().as_nanos() as f64 / (64 * quads.len()) as f64);
+/// Nanoseconds a call, over all quadruples sixteen times.
+fn round(quads: &[Quad], f: &dyn Fn(&[Quad]) -> u64) -> f64 {
+    let start = Instant::now();
+    for _ in 0..16 {
+        black_box(f(black_box(quads)));
     }
-    (best, sum)
+    start.elapsed().as_nanos() as f64 / (16 * quads.len()) as f64
 }
 
 fn main() {
     let mut random = Random(0x9e37_79b9_7f4a_7c15);
-    println!("{:>12} | {:>8} {:>8} {:>8} | {:>8} {:>8} | {:>9}", "differences", "circle", "i128", "mixed", "side", "i64", "unlike");
+    println!("{:>14} | {:>7} {:>7} {:>7} | {:>7} {:>7} | {:>7}", "differences", "circle", "i128", "mixed", "side", "i64", "unlike");
     for r in [100, 4_000, 16_000, 100_000, 1_000_000, 8_000_000] {
         let quads = quads(&mut random, r, 16_384);
         let ours = |q: &Quad| unsafe { math_contained_in_circumference(q[0], q[1], q[2], q[3], q[4], q[5], q[6], q[7]) };
@@ -119,8 +111,20 @@ fn main() {
         let side = |q: &Quad| unsafe { math_side_query(q[0], q[1], q[2], q[3], q[4], q[5]) };
         let plain = |q: &Quad| side_i64(q[0], q[1], q[2], q[3], q[4], q[5]);
         let unlike = quads.iter().filter(|q| ours(q) != wide(q) || ours(q) != mixed(q) || side(q) != plain(q)).count();
-        let times = [time(&quads, ours), time(&quads, wide), time(&quads, mixed)];
-        let sides = [time(&quads, side), time(&quads, plain)];
-        println!("{:>12} | {:>8.2} {:>8.2} {:>8.2} | {:>8.2} {:>8.2} | {:>9}", format!("up to {}", 2 * r), times[0].0, times[1].0, times[2].0, sides[0].0, sides[1].0, unlike);
+        // the five take turns, so that a busy moment of the machine falls on all of them; the best of 61 turns counts
+        let all: [&dyn Fn(&[Quad]) -> u64; 5] = [
+            &|qs| qs.iter().map(|q| black_box(ours(q)) as u64).sum(),
+            &|qs| qs.iter().map(|q| black_box(wide(q)) as u64).sum(),
+            &|qs| qs.iter().map(|q| black_box(mixed(q)) as u64).sum(),
+            &|qs| qs.iter().map(|q| black_box(side(q)) as u64).sum(),
+            &|qs| qs.iter().map(|q| black_box(plain(q)) as u64).sum(),
+        ];
+        let mut best = [f64::MAX; 5];
+        for _ in 0..61 {
+            for (b, f) in best.iter_mut().zip(all) {
+                *b = b.min(round(&quads, f));
+            }
+        }
+        println!("{:>14} | {:>7.2} {:>7.2} {:>7.2} | {:>7.2} {:>7.2} | {:>7}", format!("up to {}", 2 * r), best[0], best[1], best[2], best[3], best[4], unlike);
     }
 }

@@ -1,12 +1,11 @@
 -- What `incircle` says of the circle of a, b and c. Its centre is the point (centreX / k, centreY / k), where k is four times the signed area of a b c; all is said of k times the coordinates, so that every number is whole.
 -- Assumes nothing.
-use mathlib.Core.Path.{_≡_, refl, sym, _∙_, ap}
+use mathlib.Core.Path.{_≡_, refl}
 use mathlib.Core.List.{List, [], _∷_}
 use mathlib.Core.Logic.{⊎-elim}
-use Prim.Native.Nat.{ℕ}
-use lib.IntN.{ℤ, pos, _+ℤ_, _-ℤ_, _*ℤ_}
-use lib.Signed.{_<ℤ_, _≤ℤ_}
-use Rattle.algebra.specs.Ring.{E, var, num, _⊕_, _⊖_, _⊗_, ⊝_, v0, v1, v2, v3, ring}
+use lib.IntN.{ℤ, pos, _-ℤ_, _*ℤ_, negsuc}
+use lib.Signed.{_<ℤ_, ltZ-yes}
+use Rattle.algebra.specs.Ring.{E, var, num, _⊖_, _⊗_, ⊝_, v0, v1, v2, v3, ring}
 use Rattle.algebra.specs.Sign.{_*⁺_, _*°_, _+⁺_, weak, pos-in, lt-in, lt-by, cases, refute, eq-in, eq-by, zero°, _*⁰_, _+⁰_}
 use Rattle.math.specs.declared.Point.{Point}
 use Rattle.math.specs.Determinant.{Ops, Pt, Lift, Orient2d, Incircle, ℤ·, pt, orient2d, incircle}
@@ -81,12 +80,12 @@ module _ (a b c d : Point) (left : pos 0 <ℤ orient2d a b c) where
   inside→ h =
       let S = pos-in ρ′ v0 left in let e = eq-in ρ′ (k² ⊗ v1) (v0 ⊗ (v2 ⊖ v3)) (incircle-power a b c d) in
       ⊎-elim (λ g. lt-by g v3 v2 refl)
-      (λ g. absurd (refute (pos-in ρ′ (num (pos 4)) (lib.Signed.ltZ-yes tt) *⁺ (S *⁺ S *⁺ pos-in ρ′ v1 h) +⁺ weak S *° g +⁺ zero° (num (lib.IntN.negsuc 0) *⁰ e)) tt))
+      (λ g. absurd (refute (pos-in ρ′ (num (pos 4)) (ltZ-yes tt) *⁺ (S *⁺ S *⁺ pos-in ρ′ v1 h) +⁺ weak S *° g +⁺ zero° (num (negsuc 0) *⁰ e)) tt))
       (cases ρ′ (v2 ⊖ v3))
 
   pub inside← : fromCentre a b c d <ℤ fromCentre a b c a → pos 0 <ℤ incircle a b c d
   inside← h =
       let S = pos-in ρ′ v0 left in let e = eq-in ρ′ (k² ⊗ v1) (v0 ⊗ (v2 ⊖ v3)) (incircle-power a b c d) in
       ⊎-elim (λ g. g .is)
-      (λ g. absurd (refute (S *⁺ lt-in ρ′ v3 v2 h +⁺ weak (pos-in ρ′ (num (pos 4)) (lib.Signed.ltZ-yes tt) *⁺ (S *⁺ S)) *° g +⁺ zero° e) tt))
+      (λ g. absurd (refute (S *⁺ lt-in ρ′ v3 v2 h +⁺ weak (pos-in ρ′ (num (pos 4)) (ltZ-yes tt) *⁺ (S *⁺ S)) *° g +⁺ zero° e) tt))
       (cases ρ′ v1)

@@ -1,9 +1,9 @@
--- The meanings of this crate's functions, for points with whole coordinates. Definitions only; their laws are in `Plane`, `Side`, `Wide` and `Projection`.
+-- The meanings of this crate's functions, for points with whole coordinates. Definitions only; their laws are in `Plane`, `Circle`, `Side`, `Range` and `Projection`.
 -- `orient2d` and `incircle` are the determinants of J. R. Shewchuk, "Adaptive Precision Floating-Point Arithmetic and Fast Robust Geometric Predicates", 1997.
 -- 01: "`robust::orient2d` and `robust::incircle` mean the exact sign of Shewchuk's determinants", "Left is strictly positive."
 -- A formula is written once, over any numbers R with a sum, a difference, a product and a one: at ℤ it is what a contract says, and at the expressions `E` what the ring solver computes with.
 use mathlib.Core.Bool.{Bool, true, false, _&&_}
-use Prim.Native.Nat.{ℕ, zero, suc, _≤_}
+use Prim.Native.Nat.{zero, suc, _≤_}
 use lib.Dec.{leb}
 use lib.IntN.{ℤ, pos, negsuc, natAbs, _+ℤ_, _-ℤ_, _*ℤ_}
 use lib.Signed.{ltZ, leZ}
@@ -63,7 +63,7 @@ module _ {R : Type 0} (o : Ops R) where
       (c .x, c .y, Lift c, one)
       (d .x, d .y, Lift d, one)
 
-  -- six times the volume between a triangle of the plane and its image on the paraboloid
+  -- six times the volume between the triangle a b c and the triangle of its corners' images on the paraboloid
   abbrev pub Height : Pt R → Pt R → Pt R → R
   Height a b c = Orient2d a b c * (Lift a + Lift b + Lift c)
 
@@ -95,7 +95,7 @@ orient2d a b c = Orient2d ℤ· (pt a) (pt b) (pt c)
 unfoldable pub incircle : Point → Point → Point → Point → ℤ
 incircle a b c d = Incircle ℤ· (pt a) (pt b) (pt c) (pt d)
 
--- 01: "Each flip lowers the height sum by exactly the circle determinant": the sum of this over the triangles
+-- 01: "Each flip lowers the height sum by exactly the circle determinant." The height sum is the sum of this over the triangles
 unfoldable pub height : Point → Point → Point → ℤ
 height a b c = Height ℤ· (pt a) (pt b) (pt c)
 

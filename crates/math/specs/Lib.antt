@@ -6,3 +6,5 @@ pub mod Range
 pub mod Side
 pub mod Circle
 pub mod Samples
+pub mod Whole
+pub mod Projection

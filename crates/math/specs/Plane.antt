@@ -3,16 +3,16 @@
 use mathlib.Core.Path.{_≡_, refl, sym, _∙_, ap, subst}
 use mathlib.Core.List.{List, [], _∷_}
 use mathlib.Core.Logic.{⊎-elim}
-use mathlib.Core.Bool.{Bool, true, false}
-use Prim.Native.Nat.{ℕ, zero, suc, zero-le, suc-le-suc}
+use mathlib.Core.Bool.{false}
+use Prim.Native.Nat.{zero, suc, zero-le, suc-le-suc}
 use borrow.Author.Tests.{lt-ltb, le-ltb}
 use lib.Dec.{T}
 use lib.IntN.{ℤ, pos, negsuc, negℤ, _+ℤ_, _-ℤ_, _*ℤ_}
 use lib.Signed.{ltZ, leZ, _<ℤ_, _≤ℤ_, <ℤ-irrefl}
-use Rattle.algebra.specs.Ring.{E, var, num, _⊕_, _⊖_, _⊗_, ⊝_, ⟦_⟧, norm, ring}
+use Rattle.algebra.specs.Ring.{E, var, num, _⊕_, _⊖_, _⊗_, ⊝_, ring}
 use Rattle.algebra.specs.Sign.{Pos, NN, _*⁺_, _*°_, _+⁺_, _+°_, weak, sq, pos-in, lt-by, cases, refute, eq-in, zero°}
 use Rattle.math.specs.declared.Point.{Point}
-use Rattle.math.specs.Determinant.{Ops, Pt, det2, det3, Lift, Orient2d, Incircle, Height, Minus, Dot, ℤ·, pt, orient2d, incircle, height, isOrderedCcw, containedInCircumference}
+use Rattle.math.specs.Determinant.{Ops, Pt, det2, det3, Lift, Orient2d, Incircle, Height, Minus, ℤ·, pt, orient2d, incircle, height, isOrderedCcw, containedInCircumference}
 
 -- ---- four points as the solver has them: `ring (env a b c d) e₁ e₂ refl` proves an identity of a, b, c and d, which are A, B, C and D in e₁ and e₂
 abbrev pub E· : Ops E

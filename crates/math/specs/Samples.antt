@@ -4,7 +4,7 @@ use mathlib.Core.Path.{_≡_, refl}
 use mathlib.Core.Bool.{true}
 use lib.IntN.{ℤ, pos, negsuc, _+ℤ_}
 use Rattle.math.specs.declared.Point.{Point}
-use Rattle.math.specs.Determinant.{orient2d, incircle, height, containedInCircumference}
+use Rattle.math.specs.Determinant.{incircle, height, containedInCircumference}
 
 abbrev at : ℤ → ℤ → Point
 at x y = record { x = x; y = y }

@@ -1,17 +1,16 @@
 -- What an answer of `side_query` says of the determinant, and the other way round.
 -- Assumes nothing.
-use mathlib.Core.Path.{_≡_, refl, sym, _∙_, ap}
-use mathlib.Core.Bool.{Bool, true, false, not}
+use mathlib.Core.Path.{_≡_, refl, sym, _∙_, ap, subst}
+use mathlib.Core.Bool.{true, false, not, false≢true}
 use Prim.Native.Nat.{ℕ, zero, suc, zero-le, suc-le-suc}
 use borrow.Author.Tests.{lt-ltb, le-ltb, le-leb, lt-leb}
-use lib.Dec.{T, ltb→lt, lt→ltb}
+use lib.Dec.{T, ltb→lt}
 use lib.IntN.{ℤ, pos, negsuc, negℤ}
-use lib.Signed.{ltZ, leZ, _<ℤ_, _≤ℤ_, ltZ-yes}
+use lib.Signed.{ltZ, leZ, _<ℤ_, ltZ-yes}
 use native.Mathlib.Omega.{arith}
 use Rattle.math.specs.declared.Point.{Point}
-use Rattle.math.specs.declared.LineSideInfo.{LineSideInfo}
 use Rattle.math.specs.declared.LineSideInfo.the-variants.{OnLeftSide, OnRightSide, OnLine}
-use Rattle.math.specs.Determinant.{orient2d, sideOf, isOnLeftSide, isOnRightSide, isOnLine, reverseOf}
+use Rattle.math.specs.Determinant.{orient2d, sideOf, isOnLeftSide, isOnRightSide, reverseOf}
 use Rattle.math.specs.Plane.{orient2d-swap}
 
 -- ---- the tests, as comparisons with 0
@@ -55,15 +54,15 @@ right-side {z} h = go z (h .lt)
     go (negsuc n) t = refl
 
 pub is-left : (z : ℤ) → sideOf z ≡ OnLeftSide → pos 0 <ℤ z
-is-left z e = ltZ-yes (mathlib.Core.Path.subst T (sym (ap isOnLeftSide e) ∙ on-left z) tt)
+is-left z e = ltZ-yes (subst T (sym (ap isOnLeftSide e) ∙ on-left z) tt)
 
 pub is-right : (z : ℤ) → sideOf z ≡ OnRightSide → z <ℤ pos 0
-is-right z e = ltZ-yes (mathlib.Core.Path.subst T (sym (ap isOnRightSide e) ∙ on-right z) tt)
+is-right z e = ltZ-yes (subst T (sym (ap isOnRightSide e) ∙ on-right z) tt)
 
 pub is-on-line : (z : ℤ) → sideOf z ≡ OnLine → z ≡ pos 0
 is-on-line (pos zero) e = refl
-is-on-line (pos (suc n)) e = let k : true ≡ false = ap isOnLeftSide e in absurd (mathlib.Core.Bool.false≢true (sym k))
-is-on-line (negsuc n) e = let k : true ≡ false = ap isOnRightSide e in absurd (mathlib.Core.Bool.false≢true (sym k))
+is-on-line (pos (suc n)) e = let k : true ≡ false = ap isOnLeftSide e in absurd (false≢true (sym k))
+is-on-line (negsuc n) e = let k : true ≡ false = ap isOnRightSide e in absurd (false≢true (sym k))
 
 -- ---- the other direction of the line
 pub side-negated : (z : ℤ) → sideOf (negℤ z) ≡ reverseOf (sideOf z)

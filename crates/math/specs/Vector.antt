@@ -1,15 +1,14 @@
 -- Differences of points, as the code computes with them: their sizes, and the determinants by their products.
 -- Assumes nothing.
-use mathlib.Core.Path.{_≡_, refl, sym, _∙_, ap, ap₂, subst}
-use mathlib.Core.List.{List, [], _∷_}
-use Prim.Native.Nat.{ℕ, _≤_}
-use native.Mathlib.Omega.{arith}
-use lib.IntN.{ℤ, pos, natAbs, _+ℤ_, _-ℤ_, _*ℤ_}
-use Rattle.algebra.specs.Ring.{E, var, num, _⊕_, _⊖_, _⊗_, ⊝_, ring}
+use mathlib.Core.Path.{_≡_, refl, sym, _∙_, ap₂, subst}
+use mathlib.Core.List.{[], _∷_}
+use Prim.Native.Nat.{_≤_}
+use lib.IntN.{ℤ, natAbs, _+ℤ_, _-ℤ_, _*ℤ_}
+use Rattle.algebra.specs.Ring.{var, _⊕_, _⊖_, _⊗_, ring}
 use Rattle.algebra.specs.Bound.{Env, []ᵉ, _∷ᵉ_, within}
 use Rattle.math.specs.declared.Point.{Point}
 use Rattle.math.specs.declared.Vector.{Vector}
-use Rattle.math.specs.Determinant.{InRange, Pt, Dot, det2, Minus, ℤ·, Orient2d, Incircle, orient2d, incircle, factor, length2}
+use Rattle.math.specs.Determinant.{InRange, Dot, det2, Minus, Orient2d, Incircle, orient2d, incircle, factor, length2}
 use Rattle.math.specs.Plane.{E·, A, B, C, D, env, env3}
 
 unfoldable pub difference : Point → Point → Vector

@@ -3,13 +3,13 @@
 use mathlib.Core.Path.{_≡_, refl, sym, _∙_, ap, ap₂}
 use mathlib.Core.List.{List, [], _∷_}
 use Prim.Native.Nat.{ℕ, zero, suc, _+_, _*_, _-_, _/_, _%_, _<_, _≤_, zero-le, suc-le-suc}
-use native.Mathlib.Nat.{div-add-mod', le-refl, le-trans, le-of-eq, not-suc-le-zero}
+use native.Mathlib.Nat.{div-add-mod', le-refl, le-trans, le-of-eq, not-suc-le-zero, lt-of-le-of-lt}
 use native.Mathlib.Omega.{arith}
 use borrow.Author.Tests.{lt-ltb}
 use lib.Dec.{T, lt→ltb, ltb→lt}
 use lib.IntN.{ℤ, pos, negsuc, negℤ, natAbs, _+ℤ_, _-ℤ_, _*ℤ_}
-use lib.Signed.{ltZ, shrZ, _<ℤ_, _≤ℤ_, ltZ-yes}
-use Rattle.algebra.specs.Ring.{E, var, num, _⊕_, _⊖_, _⊗_, ⊝_, v0, v1, v2, v3, v4, v5, v6, v7, ring}
+use lib.Signed.{ltZ, shrZ, ltZ-yes}
+use Rattle.algebra.specs.Ring.{E, num, _⊕_, _⊖_, _⊗_, ⊝_, v0, v1, v2, v3, v4, v5, v6, v7, ring}
 use Rattle.algebra.specs.Sign.{_+⁺_, lt-in, le-in, lt-by, eq-in, eq-by, _*⁰_, _+⁰_}
 use Rattle.algebra.specs.Bound.{Env, []ᵉ, _∷ᵉ_, within, abs-le, abs-ge}
 use Rattle.math.specs.declared.wide.Digits.{Digits}
@@ -144,10 +144,53 @@ module _ {x y z w : Digits} (p : TwoDigits x) (q : TwoDigits y) (r : TwoDigits z
   unfolding lowOf
   low-abs = omega (arith, within factors (v1 ⊗ v3 ⊕ v5 ⊗ v7))
 
--- ---- the sign of three digits: a first digit above 2 ^ 29 outweighs the others
-pub outweighs : (hi mid lo : ℤ) → natAbs mid ≤ 18014398509481984 → natAbs lo ≤ 18014398509481984 → 536870912 < natAbs hi → sgn hi ≡ sgn (wideOf hi mid lo)
-unfolding wideOf
-outweighs hi mid lo p q h = lead hi (mid *ℤ pos 67108864 +ℤ lo) (omega (arith, within {ρ = mid ∷ lo ∷ []} (p ∷ᵉ q ∷ᵉ []ᵉ) (v0 ⊗ K ⊕ v1), h))
+-- ---- the four numbers that are multiplied: at most 2 ^ 51
+pub record AtMost51 (x : ℤ) : Type 0 where
+  pub abs : natAbs x ≤ 2251799813685248
+
+unfoldable pub totalOf : ℤ → ℤ → ℤ → ℤ → ℕ
+totalOf x y z w = natAbs x + natAbs y + (natAbs z + natAbs w)
+
+pub total-small : {x y z w : ℤ} → AtMost51 x → AtMost51 y → AtMost51 z → AtMost51 w → totalOf x y z w ≤ 9007199254740992
+unfolding totalOf
+total-small p q r s = omega (arith, p .abs, q .abs, r .abs, s .abs)
+
+-- ---- the sign of three digits: a first digit above what the others can add to it
+reachOf : Digits → Digits → Digits → Digits → ℕ
+reachOf x y z w = natAbs (x .hi) + natAbs (y .hi) + (natAbs (z .hi) + natAbs (w .hi)) + 2
+
+-- which is known without the digits
+reach-total : {a b c d : ℤ} {x y z w : Digits} → SplitOf a x → SplitOf b y → SplitOf c z → SplitOf d w → reachOf x y z w ≤ totalOf a b c d / 67108864 + 6
+unfolding reachOf totalOf
+reach-total p q r s = omega (arith, p .hi, q .hi, r .hi, s .hi)
+
+module _ {x y z w : Digits} (p : TwoDigits x) (q : TwoDigits y) (r : TwoDigits z) (s : TwoDigits w) where
+  middle-reach : natAbs (middleOf x y z w) ≤ (natAbs (x .hi) + natAbs (y .hi) + (natAbs (z .hi) + natAbs (w .hi))) * 67108863
+  unfolding middleOf
+  middle-reach =
+      omega (
+        arith,
+        within
+            {ρ = digits x y z w}
+            (le-refl (natAbs (x .hi)) ∷ᵉ p .lo ∷ᵉ le-refl (natAbs (y .hi)) ∷ᵉ q .lo ∷ᵉ le-refl (natAbs (z .hi)) ∷ᵉ r .lo ∷ᵉ le-refl (natAbs (w .hi)) ∷ᵉ s .lo ∷ᵉ []ᵉ)
+            (v0 ⊗ v3 ⊕ v1 ⊗ v2 ⊕ (v4 ⊗ v7 ⊕ v5 ⊗ v6)),
+      )
+
+  low-reach : natAbs (lowOf x y z w) ≤ 9007198986305538
+  unfolding lowOf
+  low-reach = within (factors p q r s) (v1 ⊗ v3 ⊕ v5 ⊗ v7)
+
+  reach-outweighs : (h : ℤ) → reachOf x y z w < natAbs h → sgn h ≡ sgn (wideOf h (middleOf x y z w) (lowOf x y z w))
+  unfolding wideOf reachOf
+  reach-outweighs h k =
+      let m = middleOf x y z w in let l = lowOf x y z w in
+      lead h (m *ℤ pos 67108864 +ℤ l) (omega (arith, within {ρ = m ∷ l ∷ []} (middle-reach ∷ᵉ low-reach ∷ᵉ []ᵉ) (v0 ⊗ K ⊕ v1), k))
+
+module _ {a b c d : ℤ} {x y z w : Digits} (p : SplitOf a x) (q : SplitOf b y) (r : SplitOf c z) (s : SplitOf d w) (A : AtMost51 a) (B : AtMost51 b) (C : AtMost51 c) (D : AtMost51 d) where
+  pub outweighs : (h : ℤ) → h ≡ highOf x y z w → totalOf a b c d / 67108864 + 6 < natAbs h → sgn h ≡ sgn (a *ℤ b +ℤ c *ℤ d)
+  outweighs h e k =
+      reach-outweighs (two-digits p (A .abs)) (two-digits q (B .abs)) (two-digits r (C .abs)) (two-digits s (D .abs)) h (lt-of-le-of-lt (reach-total p q r s) k)
+      ∙ ap (λ (t : ℤ). sgn (wideOf t (middleOf x y z w) (lowOf x y z w))) e ∙ ap sgn (products p q r s)
 
 abs-pos : (z : ℤ) → (z ≡ pos 0 → ⊥) → 0 < natAbs z
 abs-pos (pos zero) h = absurd (h refl)

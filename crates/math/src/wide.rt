@@ -1,9 +1,8 @@
 // The sign of x * y + z * w, which can pass 2^98, in 64-bit numbers: by digits base 2^26.
 ghost use mathlib.Core.Path.{_≡_};
 ghost use Prim.Native.Nat.{_≤_};
-ghost use lib.Dec.{leb};
-ghost use lib.IntN.{natAbs, _+ℤ_, _*ℤ_};
-ghost use Rattle.math.specs.Wide.{SplitOf, TwoDigits, sgn, highOf, middleOf, lowOf, wideOf};
+ghost use lib.IntN.{pos, natAbs, _+ℤ_, _*ℤ_};
+ghost use Rattle.math.specs.Wide.{SplitOf, TwoDigits, sgn, highOf, middleOf, lowOf, totalOf, AtMost51, wideOf};
 
 // hi * 2^26 + lo, where lo is below 2^26 in absolute value.
 pub struct Digits {
@@ -56,9 +55,26 @@ pub fn carried(hi: i64, mid: i64, lo: i64) -> i64
     if h != 0 { h } else { m.lo * 67108864 + l.lo }
 }
 
-// A number with the sign of x * y + z * w, each of at most 2^51. A high digit above 2^29 outweighs the others.
-pub fn sum_sign_wide(x: i64, y: i64, z: i64, w: i64) -> i64
-    requires { ⌜ (natAbs x ≤ 2251799813685248) × (natAbs y ≤ 2251799813685248) × (natAbs z ≤ 2251799813685248) × (natAbs w ≤ 2251799813685248) ⌝ }
+pub fn magnitude(x: i64) -> i64
+    requires { ⌜ natAbs x ≤ 36028797018963968 ⌝ }
+    ensures { λ r. ⌜ r ≡ pos (natAbs x) ⌝ }
+{
+    if x < 0 {
+        return 0 - x;
+    }
+    x
+}
+
+pub fn magnitudes(x: i64, y: i64, z: i64, w: i64) -> i64
+    requires { ⌜ AtMost51 x × AtMost51 y × AtMost51 z × AtMost51 w ⌝ }
+    ensures { λ r. ⌜ r ≡ pos (totalOf x y z w) ⌝ }
+{
+    magnitude(x) + magnitude(y) + (magnitude(z) + magnitude(w))
+}
+
+// A number with the sign of x * y + z * w, where total is the sum of their magnitudes. The middle and the low digits add less than total / 2^26 + 6 to the high one, so mostly they are left out.
+pub fn sum_sign_wide(x: i64, y: i64, z: i64, w: i64, total: i64) -> i64
+    requires { ⌜ AtMost51 x × AtMost51 y × AtMost51 z × AtMost51 w × (total ≡ pos (totalOf x y z w)) ⌝ }
     ensures { λ r. ⌜ sgn r ≡ sgn (x *ℤ y +ℤ z *ℤ w) ⌝ }
 {
     let a = split(x);
@@ -66,41 +82,20 @@ pub fn sum_sign_wide(x: i64, y: i64, z: i64, w: i64) -> i64
     let c = split(z);
     let d = split(w);
     let hi = high(a, b, c, d);
-    if hi > 536870912 {
-        return hi;
-    }
-    if hi < -536870912 {
+    if magnitude(hi) > (total >> 26) + 6 {
         return hi;
     }
     carried(hi, middle(a, b, c, d), low(a, b, c, d))
 }
 
-// Whether x has at most 31 bits and a sign.
-pub fn is_narrow(x: i64) -> bool
-    ensures { λ r. ⌜ r ≡ leb (natAbs x) 2147483647 ⌝ }
-{
-    if x > 2147483647 {
-        return false;
-    }
-    if x < -2147483647 {
-        return false;
-    }
-    true
-}
-
-// The same as `sum_sign_wide`. Where the four are narrow the sum itself fits.
+// A number with the sign of x * y + z * w. Where the four are small the sum itself fits.
 pub fn sum_sign(x: i64, y: i64, z: i64, w: i64) -> i64
-    requires { ⌜ (natAbs x ≤ 2251799813685248) × (natAbs y ≤ 2251799813685248) × (natAbs z ≤ 2251799813685248) × (natAbs w ≤ 2251799813685248) ⌝ }
+    requires { ⌜ AtMost51 x × AtMost51 y × AtMost51 z × AtMost51 w ⌝ }
     ensures { λ r. ⌜ sgn r ≡ sgn (x *ℤ y +ℤ z *ℤ w) ⌝ }
 {
-    if is_narrow(x) {
-        if is_narrow(y) {
-            if is_narrow(z) {
-                if is_narrow(w) {
-                    return x * y + z * w;
-                }
-            }
-        }
+    let total = magnitudes(x, y, z, w);
+    if total > 2147483647 {
+        return sum_sign_wide(x, y, z, w, total);
     }
-    sum_sign_wide(x, y, z, w)
+    x * y + z * w
 }

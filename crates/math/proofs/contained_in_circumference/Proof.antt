@@ -10,7 +10,7 @@ use borrow.Author.Needs.{needs, sfits-of}
 use Rattle.math.specs.declared.Vector.{Vector}
 use Rattle.math.specs.Determinant.{incircle}
 use Rattle.math.specs.Vector.{Short, dotOf, crossOf, short, dot-small, cross-small, incircle-by}
-use Rattle.math.specs.Wide.{sgn, sgn-test}
+use Rattle.math.specs.Wide.{AtMost51, sgn, sgn-test}
 use Rattle.math.proofs.contained_in_circumference.Statement.{statement}
 use Rattle.math.proofs.contained_in_circumference.Tie as tie
 
@@ -62,8 +62,8 @@ dot-requires-2 c κs = let h = shorts (c .before .before) in (h .0, h .1)
 cross-requires-2 : tie.Need-cross-requires-2
 cross-requires-2 c κs = let h = shorts (c .before .before .before) in (h .2, h .3)
 
-small : {r z : ℤ} → r ≡ z → natAbs z ≤ 2251799813685248 → natAbs r ≤ 2251799813685248
-small e h = subst (λ (z : ℤ). natAbs z ≤ 2251799813685248) (sym e) h
+small : {r z : ℤ} → r ≡ z → natAbs z ≤ 2251799813685248 → AtMost51 r
+small e h = record { abs = subst (λ (z : ℤ). natAbs z ≤ 2251799813685248) (sym e) h }
 
 sum-sign-requires : tie.Need-sum-sign-requires
 sum-sign-requires c κs =

@@ -1,6 +1,6 @@
 -- `math::is_behind_edge` meets its contract: the two products are the factor and the squared length.
 -- Assumes nothing.
-use mathlib.Core.Path.{_≡_, _∙_, ap₂}
+use mathlib.Core.Path.{_∙_, ap₂}
 use lib.Signed.{ltZ}
 use mir.Facts.{toZ-ofZ}
 use borrow.Author.Needs.{needs, sfits-of}

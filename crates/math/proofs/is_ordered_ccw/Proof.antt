@@ -1,6 +1,6 @@
 -- `math::is_ordered_ccw` meets its contract: not on the right is an area of at least 0.
 -- Assumes nothing.
-use mathlib.Core.Path.{_≡_, _∙_, ap}
+use mathlib.Core.Path.{_∙_, ap}
 use mathlib.Core.Bool.{not}
 use borrow.Author.Needs.{needs}
 use Rattle.math.specs.declared.LineSideInfo.{LineSideInfo}

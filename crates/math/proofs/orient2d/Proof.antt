@@ -1,6 +1,6 @@
 -- `math::orient2d` meets its contract: the cross product of the differences from p1 is the determinant.
 -- Assumes nothing.
-use mathlib.Core.Path.{_≡_, _∙_, ap₂}
+use mathlib.Core.Path.{_∙_, ap₂}
 use mir.Facts.{toZ-ofZ}
 use borrow.Author.Needs.{needs, sfits-of}
 use Rattle.math.specs.Vector.{crossOf, short, orient2d-vectors}

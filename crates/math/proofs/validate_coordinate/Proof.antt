@@ -1,6 +1,6 @@
 -- `math::validate_coordinate` meets its contract: the bound is tested from above and from below.
 -- Assumes nothing.
-use mathlib.Core.Path.{_≡_, refl, sym}
+use mathlib.Core.Path.{refl, sym}
 use mir.Facts.{toZ-ofZ}
 use Rattle.algebra.specs.Test.{lt-taken, lt-left}
 use Rattle.math.specs.Range.{test-within, test-above, test-below}

@@ -1,9 +1,8 @@
 -- `math_c::math_side_query` meets its contract: the points are made of the numbers.
 -- Assumes nothing.
-use mathlib.Core.Path.{_≡_, _∙_, ap}
 use mir.Facts.{toZ-ofZ}
 use borrow.Author.Needs.{needs}
-use Rattle.math_c.specs.Answer.{at, sideAnswer}
+use Rattle.math_c.specs.Answer.{at}
 use Rattle.math_c.proofs.math_side_query.Statement.{statement}
 use Rattle.math_c.proofs.math_side_query.Tie as tie
 

@@ -1,14 +1,13 @@
 -- `math::Point::sub` meets its contract: coordinates in range are widened and subtracted without overflow.
 -- Assumes nothing.
-use mathlib.Core.Path.{_≡_, _∙_, ap₂}
-use mathlib.Core.List.{List, [], _∷_}
+use mathlib.Core.Path.{_∙_, ap₂}
+use mathlib.Core.List.{[], _∷_}
 use lib.IntN.{ℤ, _-ℤ_}
-use mir.Syntax.{w32, w64}
+use mir.Syntax.{w32}
 use mir.Val.{toZ, ofZ}
 use mir.Facts.{toZ-ofZ}
 use Rattle.algebra.specs.Ring.{v0, v1, v2, v3, _⊖_}
 use Rattle.algebra.specs.Bound.{Env, []ᵉ, _∷ᵉ_, fits64, reads64, small-fits, small-read}
-use Rattle.math.specs.declared.Vector.{Vector}
 use Rattle.math.specs.Vector.{difference}
 use Rattle.math.proofs.Point.sub.Statement.{statement}
 use Rattle.math.proofs.Point.sub.Tie as tie

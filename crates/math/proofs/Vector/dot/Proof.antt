@@ -1,6 +1,6 @@
 -- `math::Vector::dot` meets its contract: no operation overflows.
 -- Assumes nothing.
-use mathlib.Core.List.{List, [], _∷_}
+use mathlib.Core.List.{[], _∷_}
 use Rattle.algebra.specs.Ring.{v0, v1, v2, v3, _⊕_, _⊗_}
 use Rattle.algebra.specs.Bound.{Env, []ᵉ, _∷ᵉ_, fits64, reads64}
 use Rattle.math.specs.Vector.{dotOf}

@@ -1,7 +1,7 @@
 -- `math::wide::split` meets its contract: the shift rounds down, and what is left is below 2 ^ 26.
 -- Assumes nothing.
-use mathlib.Core.Path.{_≡_, refl, sym, _∙_, ap, subst}
-use mathlib.Core.List.{List, [], _∷_}
+use mathlib.Core.Path.{_≡_, sym, _∙_, ap, subst}
+use mathlib.Core.List.{[], _∷_}
 use Prim.Native.Nat.{_≤_}
 use native.Mathlib.Omega.{arith}
 use lib.IntN.{ℤ, pos, natAbs, _-ℤ_, _*ℤ_}
@@ -11,7 +11,7 @@ use mir.Val.{toZ, ofZ}
 use mir.Facts.{toZ-ofZ}
 use Rattle.algebra.specs.Ring.{E, num, v0, v1, _⊖_, _⊗_}
 use Rattle.algebra.specs.Bound.{Env, []ᵉ, _∷ᵉ_, fits64, reads64}
-use Rattle.math.specs.Wide.{SplitOf, shr-abs, split-of}
+use Rattle.math.specs.Wide.{shr-abs, split-of}
 use Rattle.math.proofs.wide.split.Statement.{statement}
 use Rattle.math.proofs.wide.split.Tie as tie
 

@@ -1,0 +1,239 @@
+//! Another program's answers beside the Rust's, on thousands of inputs.
+
+use std::collections::BTreeMap;
+use std::io::{Read, Write};
+use std::process::{Command, Stdio};
+use std::thread;
+
+use crate::case::{read_answers, reason, Answer, Case, Ending, Lines};
+use crate::generate;
+use crate::mesh::Mesh;
+use crate::worker::Oracle;
+
+/// The points of a generated input number at most this, unless the command says otherwise.
+pub const MOST_POINTS: u64 = 40;
+
+/// Inputs that the program gets in one run of it.
+const CHUNK: u64 = 500;
+
+/// The program's answers, as far as it gives them in the format.
+fn answers_of(program: &[String], cases: &[(Case, Answer)]) -> Result<Vec<Answer>, String> {
+    let mut text = String::new();
+    for (case, _) in cases {
+        case.write(&mut text);
+    }
+    let mut child = Command::new(&program[0])
+        .args(&program[1..])
+        .stdin(Stdio::piped())
+        .stdout(Stdio::piped())
+        .spawn()
+        .map_err(|error| format!("{}: {error}", program[0]))?;
+    let mut input = child.stdin.take().unwrap();
+    let writer = thread::spawn(move || {
+        // A program that ends early leaves the rest unanswered, which is reported below.
+        let _ = input.write_all(text.as_bytes());
+    });
+    let mut output = String::new();
+    let read = child.stdout.take().unwrap().read_to_string(&mut output);
+    let _ = writer.join();
+    let _ = child.wait();
+    read.map_err(|error| format!("{}: {error}", program[0]))?;
+    let mut lines = Lines::new(&output);
+    let mut answers = Vec::new();
+    while !lines.is_empty() {
+        match lines.answer() {
+            Ok(answer) => answers.push(answer),
+            Err(text) => {
+                eprintln!("{}: {text}", program[0]);
+                break;
+            }
+        }
+    }
+    Ok(answers)
+}
+
+/// The first difference of two meshes, in words.
+fn mesh_difference(rust: &Mesh, other: &Mesh) -> Option<String> {
+    fn rows<T: PartialEq + std::fmt::Debug>(name: &str, a: &[T], b: &[T]) -> Option<String> {
+        if a.len() != b.len() {
+            return Some(format!("{name}: {} against {}", a.len(), b.len()));
+        }
+        let at = (0..a.len()).find(|&i| a[i] != b[i])?;
+        Some(format!("{name} {at}: {:?} against {:?}", a[at], b[at]))
+    }
+    rows("half-edge (next prev face origin)", &rust.half_edges, &other.half_edges)
+        .or_else(|| rows("out edge of vertex", &rust.out_edges, &other.out_edges))
+        .or_else(|| rows("stored edge of face", &rust.faces, &other.faces))
+        .or_else(|| rows("position", &rust.positions, &other.positions))
+}
+
+/// What the other answer says otherwise than the Rust's; the Rust's comes first.
+pub fn difference(rust: &Answer, other: &Answer) -> Option<String> {
+    if rust.number != other.number {
+        return Some(format!("case {} answered as {}", rust.number, other.number));
+    }
+    if let Ending::Refused { number, place } = other.ending {
+        return Some(format!("refused {number}, place {place}"));
+    }
+    for (index, fate) in rust.fates.iter().enumerate() {
+        let theirs = other.fates.get(index);
+        if theirs != Some(fate) {
+            return Some(format!("point {index} (fate vertex faces flips): {fate:?} against {theirs:?}"));
+        }
+    }
+    match (&rust.ending, &other.ending) {
+        (Ending::Inside { stepped, pass, passed }, Ending::Inside { stepped: s, pass: p, passed: q }) => {
+            let after = |when: &'static str| move |text| format!("{when}: {text}");
+            let extra = (rust.fates.len() != other.fates.len()).then(|| "more points answered".to_string());
+            let flips = (pass != p).then(|| format!("pass (faces flips): {pass:?} against {p:?}"));
+            extra
+                .or(mesh_difference(stepped, s).map(after("after the last step")))
+                .or(flips)
+                .or(mesh_difference(passed, q).map(after("after the pass")))
+        }
+        (Ending::Outside { reason, index }, _) => outside_difference(*reason, *index, other),
+        (_, ending) => Some(format!("no answer of the domain: {ending:?}")),
+    }
+}
+
+/// Where the Rust panics or does not return, 01 has a fate 4 or 5.
+fn outside_difference(reason: u32, index: u32, other: &Answer) -> Option<String> {
+    if matches!(other.ending, Ending::Outside { .. }) {
+        let same = other.ending == Ending::Outside { reason, index };
+        return (!same).then(|| format!("outside for {reason} at {index} against {:?}", other.ending));
+    }
+    let expected: &[u32] = match reason {
+        reason::STEP_PANICS | reason::STEP_RUNS_ON => &[4, 5],
+        reason::AT_CENTRE => &[5],
+        reason::UNSOUND => &[4],
+        _ => return None,
+    };
+    let fate = other.fates.get(index as usize).map(|fate| fate[0]);
+    let agrees = fate.is_some_and(|fate| expected.contains(&fate));
+    (!agrees).then(|| format!("point {index}: outside for {reason} against fate {fate:?}"))
+}
+
+/// A disagreement with its input.
+struct Disagreement {
+    case: Case,
+    text: String,
+}
+
+/// What was compared, in numbers.
+#[derive(Default)]
+struct Tally {
+    compared: u64,
+    outside: BTreeMap<u32, u64>,
+    disagreements: u64,
+    fates: [u64; 4],
+    faces: u64,
+    flips: u64,
+    pass: [u64; 2],
+}
+
+impl Tally {
+    fn add(&mut self, rust: &Answer) {
+        let Ending::Inside { pass, .. } = &rust.ending else { return };
+        self.compared += 1;
+        for &[fate, _, faces, flips] in &rust.fates {
+            self.fates[fate as usize] += 1;
+            self.faces += u64::from(faces);
+            self.flips += u64::from(flips);
+        }
+        self.pass = [self.pass[0] + u64::from(pass[0]), self.pass[1] + u64::from(pass[1])];
+    }
+
+    fn print(&self) {
+        let reasons = [
+            "",
+            "the Rust panics in a step",
+            "the Rust does not return from a step",
+            "a point at the centre (fate 5)",
+            "no sound ring (fate 4), the Rust returns",
+            "a flip for another reason",
+            "refused",
+            "no hull",
+            "the pass fails",
+        ];
+        println!("compared inside the domain: {}", self.compared);
+        println!(
+            "  with points added {} (faces {}, flips {}), dropped {}, skipped {}; passes' faces {}, flips {}",
+            self.fates[1], self.faces, self.flips, self.fates[2], self.fates[3], self.pass[0], self.pass[1]
+        );
+        println!("outside the domain: {}", self.outside.values().sum::<u64>());
+        for (&reason, count) in &self.outside {
+            println!("  {}: {count}", reasons[reason as usize]);
+        }
+        println!("disagreements: {}", self.disagreements);
+    }
+}
+
+/// Compares `count` generated inputs. An input outside the domain is compared up to the point where it
+/// leaves it, and then once more as the input of the points before.
+pub fn at_scale([count, seed, most]: [u64; 3], program: &[String]) -> Result<bool, String> {
+    let mut oracle = Oracle::default();
+    let mut tally = Tally::default();
+    let mut smallest: Option<Disagreement> = None;
+    for start in (0..count).step_by(CHUNK as usize) {
+        let mut cases = Vec::new();
+        for number in start..count.min(start + CHUNK) {
+            let case = generate::case(seed, number, most);
+            let answer = oracle.answer(&case);
+            if let Ending::Outside { reason, index } = answer.ending {
+                *tally.outside.entry(reason).or_default() += 1;
+                let cut = case.cut((index as usize).min(case.points.len()));
+                let answer = oracle.answer(&cut);
+                cases.push((cut, answer));
+            }
+            cases.push((case, answer));
+        }
+        let answers = answers_of(program, &cases)?;
+        for (at, (case, rust)) in cases.into_iter().enumerate() {
+            tally.add(&rust);
+            let text = match answers.get(at) {
+                Some(answer) => difference(&rust, answer),
+                None => Some("no answer".to_string()),
+            };
+            let Some(text) = text else { continue };
+            tally.disagreements += 1;
+            if smallest.as_ref().is_none_or(|d| case.size() < d.case.size()) {
+                smallest = Some(Disagreement { case, text });
+            }
+        }
+    }
+    tally.print();
+    if let Some(found) = smallest {
+        report(&mut oracle, program, found)?;
+    }
+    Ok(tally.disagreements == 0)
+}
+
+fn disagreement(oracle: &mut Oracle, program: &[String], case: Case) -> Result<Option<Disagreement>, String> {
+    let rust = oracle.answer(&case);
+    let cases = [(case, rust)];
+    let answers = answers_of(program, &cases)?;
+    let [(case, rust)] = cases;
+    let text = match answers.first() {
+        Some(answer) => difference(&rust, answer),
+        None => Some("no answer".to_string()),
+    };
+    Ok(text.map(|text| Disagreement { case, text }))
+}
+
+/// Leaves out points as long as a disagreement remains, and prints what is left.
+fn report(oracle: &mut Oracle, program: &[String], mut found: Disagreement) -> Result<(), String> {
+    let mut at = found.case.points.len();
+    while at > 0 {
+        at -= 1;
+        let mut fewer = found.case.clone();
+        fewer.points.remove(at);
+        if let Some(smaller) = disagreement(oracle, program, fewer)? {
+            found = smaller;
+        }
+    }
+    let mut text = String::new();
+    found.case.write(&mut text);
+    println!("the smallest disagreement, the Rust's answer first: {}", found.text);
+    print!("{text}");
+    Ok(())
+}

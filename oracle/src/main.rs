@@ -1,0 +1,105 @@
+//! The commands of the oracle. README.md tells what each is for.
+
+use std::io::{Read, Write};
+use std::process::ExitCode;
+
+use oracle::case::{read_cases, read_list};
+use oracle::worker::{work, Oracle};
+use oracle::{compare, generate, list, smallest};
+
+const USAGE: &str = "usage:
+  oracle generate COUNT SEED [MOST_POINTS]   write inputs
+  oracle answer < INPUTS                     write the Rust's answers
+  oracle list                                write the fixed list, inputs and answers
+  oracle check LIST                          count the entries that the Rust answers otherwise
+  oracle inputs LIST                         write the inputs of a list
+  oracle compare COUNT SEED [MOST_POINTS] -- PROGRAM [ARGUMENT..]
+                                             compare a program's answers with the Rust's
+  oracle smallest COUNT SEED SPREAD          search small listings for the kinds of differences
+  oracle listing < LINES                     answer lines S, C, P as 01's listing does, as far as
+                                             the Rust has it
+  oracle beyond < LINES                      the same without stopping at refusals 6 and 7
+                                             and fates 4 and 5";
+
+fn standard_input() -> String {
+    let mut text = String::new();
+    std::io::stdin().read_to_string(&mut text).expect("standard input is text");
+    text
+}
+
+fn print(text: &str) {
+    let _ = std::io::stdout().write_all(text.as_bytes());
+}
+
+fn file(path: &str) -> Result<String, String> {
+    std::fs::read_to_string(path).map_err(|error| format!("{path}: {error}"))
+}
+
+/// COUNT SEED [MOST_POINTS].
+fn numbers(arguments: &[String]) -> Result<[u64; 3], String> {
+    let number = |text: &String| text.parse().map_err(|_| format!("{text} is no number\n{USAGE}"));
+    let given: Vec<u64> = arguments.iter().map(number).collect::<Result<_, _>>()?;
+    match given[..] {
+        [count, seed] => Ok([count, seed, compare::MOST_POINTS]),
+        [count, seed, most] => Ok([count, seed, most]),
+        _ => Err(USAGE.to_string()),
+    }
+}
+
+fn run(arguments: &[String]) -> Result<bool, String> {
+    let command = arguments.first().map(String::as_str).unwrap_or_default();
+    match (command, &arguments[1.min(arguments.len())..]) {
+        ("worker", []) => work(true),
+        ("worker-beyond", []) => work(false),
+        ("generate", rest) => {
+            let [count, seed, most] = numbers(rest)?;
+            for number in 0..count {
+                let mut text = String::new();
+                generate::case(seed, number, most).write(&mut text);
+                print(&text);
+            }
+        }
+        ("answer", []) => {
+            let mut oracle = Oracle::default();
+            for case in read_cases(&standard_input())? {
+                let mut text = String::new();
+                oracle.answer(&case).write(&mut text);
+                print(&text);
+            }
+        }
+        ("list", []) => print(&list::text()),
+        ("check", [path]) => return list::check(&read_list(&file(path)?)?),
+        ("inputs", [path]) => {
+            let mut text = String::new();
+            for (case, _) in read_list(&file(path)?)? {
+                case.write(&mut text);
+            }
+            print(&text);
+        }
+        ("smallest", [_, _, _]) => smallest::search(numbers(&arguments[1..])?),
+        ("compare", rest) => {
+            let split = rest.iter().position(|a| a == "--").ok_or(USAGE)?;
+            let program = &rest[split + 1..];
+            if program.is_empty() {
+                return Err(USAGE.to_string());
+            }
+            return compare::at_scale(numbers(&rest[..split])?, program);
+        }
+        ("listing", []) => print(&list::listing(&standard_input(), false)?),
+        ("beyond", []) => print(&list::listing(&standard_input(), true)?),
+        _ => return Err(USAGE.to_string()),
+    }
+    Ok(true)
+}
+
+fn main() -> ExitCode {
+    let arguments: Vec<String> = std::env::args().skip(1).collect();
+    match run(&arguments) {
+        Ok(true) => ExitCode::SUCCESS,
+        Ok(false) => ExitCode::FAILURE,
+        Err(text) => {
+            eprintln!("{text}");
+            ExitCode::from(2)
+        }
+    }
+}

@@ -1,0 +1,270 @@
+//! The oracle's own tests.
+
+use std::process::{Command, Stdio};
+
+use oracle::case::{read_list, reason, Answer, Case, Ending};
+use oracle::compare::difference;
+use oracle::delaunay_core::bulk_load::driver::{self, angle, answer, boundary_angles, built};
+use oracle::mesh::{orient, Mesh, Position};
+use oracle::random::Random;
+use oracle::smallest::{has_left_corner, has_unsettled_edge};
+use oracle::{generate, list, Point2};
+
+const ORACLE: &str = env!("CARGO_BIN_EXE_oracle");
+const SAMPLE: &str = "S 0 0 4 0 0 4\nC 1 1\nP 4 4\nP 2 2\nP 4 4\nP 1 1\n";
+
+fn stored() -> Vec<(Case, Answer)> {
+    read_list(include_str!("../answers.txt")).expect("the list keeps its format")
+}
+
+/// What a command of the oracle prints for an input.
+fn printed(arguments: &[&str], input: &str) -> String {
+    use std::io::Write;
+    let mut child =
+        Command::new(ORACLE).args(arguments).stdin(Stdio::piped()).stdout(Stdio::piped()).spawn().unwrap();
+    child.stdin.take().unwrap().write_all(input.as_bytes()).unwrap();
+    String::from_utf8(child.wait_with_output().unwrap().stdout).unwrap()
+}
+
+/// 01's sample listing up to its fate 5, and its totals but for the closing flips.
+#[test]
+fn sample_listing() {
+    let expected = "p 0 1 3 1 0\np 1 3 0 0 0\np 2 2 0 0 0\nx 3 3\nt 4 5 2 32 0 0\n";
+    assert_eq!(printed(&["listing"], SAMPLE), expected);
+}
+
+/// The Rust itself does not return from a point at the centre: the worker is ended.
+#[test]
+fn point_at_the_centre() {
+    let listed = printed(&["beyond"], "S 1 0 0 1 0 -1\nC 0 0\nP 0 0\n");
+    assert_eq!(listed, "x 2 0\nt 3 3 1 2 0 0\n");
+}
+
+/// M1, M2 and M3 by the Rust's `pseudo_angle`.
+#[test]
+fn marked_angles() {
+    let origin = Point2::new(0.0, 0.0);
+    let angles = [[-4, 0], [0, 4], [4, 0], [0, -4], [4, 4], [-4, -4]].map(|p| angle(p, origin));
+    assert_eq!(angles, [1.0, 0.25, 0.5, 0.75, 0.375, 0.875]);
+    assert_eq!(angle([-16_777_216, 0], Point2::new(0.0, -(2f64.powi(-40)))), 0.0);
+    let case = list::listed(SAMPLE).unwrap();
+    let mut angles = boundary_angles(&built(&case.seed), Point2::new(1.0, 1.0));
+    angles.sort_by(f64::total_cmp);
+    assert_eq!(angles, [0.1875, 0.5625, 0.875]);
+}
+
+/// M5: one flip.
+#[test]
+fn marked_flip() {
+    let seed = Mesh::triangle([[0, 0], [4, 0], [2, 1]]);
+    let case = Case { number: 0, seed, centre: [2.0, 0.5], points: vec![[2, -1]] };
+    assert_eq!(answer(&case, true).fates, [[1, 3, 1, 1]]);
+}
+
+/// M9: that seed with the centre (9,9) is refused 7; and the other refusals of a run.
+#[test]
+fn refusals() {
+    let case = list::listed(SAMPLE).unwrap();
+    let refused = |change: &dyn Fn(&mut Case)| {
+        let mut case = case.clone();
+        change(&mut case);
+        driver::refusal(&case)
+    };
+    assert_eq!(refused(&|_| {}), None);
+    assert_eq!(refused(&|c| c.centre = [9.0, 9.0]), Some(7));
+    assert_eq!(refused(&|c| c.centre = [4.0, 0.0]), Some(6));
+    assert_eq!(refused(&|c| c.centre = [f64::NAN, 0.0]), Some(6));
+    assert_eq!(refused(&|c| c.points[0] = [16_777_217, 0]), Some(3));
+    assert_eq!(refused(&|c| c.points[0] = [16_777_216, 0]), None);
+    assert_eq!(refused(&|c| c.seed.half_edges[0][0] = 4), Some(4));
+    assert_eq!(refused(&|c| c.seed.positions.swap(0, 1)), Some(5));
+}
+
+/// A mesh of triangles whose numbers do not matter.
+fn mesh_of(positions: &[Position], triangles: &[[u32; 3]]) -> Mesh {
+    Mesh::of_triangles(positions, triangles, &mut Random::new(0, 0)).unwrap()
+}
+
+/// The smallest inputs of docs/DIFFERENCES.md that are listings, as they stand there.
+#[test]
+fn differences_in_listings() {
+    let fate_4 = "S -1 -2 0 -1 0 0\nC -1 0\nP 2 0\n";
+    assert!(printed(&["listing"], fate_4).starts_with("x 4 0\n"));
+    assert!(printed(&["beyond"], fate_4).starts_with("p 0 1 3 2 0\nt 4 "));
+    let second_pass = "S -2 -2 0 -1 -1 2\nC 0 -2\nP 2 -2\nP 1 -1\n";
+    assert!(printed(&["listing"], second_pass).ends_with("t 5 8 4 15 1 0\n"));
+    let Ending::Inside { passed, .. } = answer(&list::listed(second_pass).unwrap(), true).ending else {
+        panic!("not inside")
+    };
+    assert!(has_left_corner(&passed));
+    let refused = |text: &str| printed(&["listing"], text);
+    let beyond = |text: &str| printed(&["beyond"], text);
+    assert_eq!(refused("S 0 0 1 0 0 1\nC 0 0\nP 16777217 0\n"), "x 6 3\n");
+    assert_eq!(refused("S 0 0 0 1 1 0\nC 0 0\n"), "x 6 5\n");
+    assert_eq!(refused("S 0 0 1 0 0 1\nC 0 0\n"), "x 6 6\n");
+    assert_eq!(beyond("S 0 0 1 0 0 1\nC 0 0\n"), "x 7 0\n");
+    assert_eq!(refused("S -1 0 0 0 0 1\nC 0 -1\n"), "x 6 7\n");
+    assert_eq!(beyond("S -1 0 0 0 0 1\nC 0 -1\n"), "x 7 0\n");
+    assert!(refused("S 0 1 -1 0 0 0\nC 2 1\nP 0 0\n").starts_with("x 6 7\n"));
+    assert!(beyond("S 0 1 -1 0 0 0\nC 2 1\nP 0 0\n").starts_with("x 1 0\n"));
+}
+
+/// The others: an edge that the Rust leaves unsettled, the fan of eight flips, a ring that is sound and
+/// not strict.
+#[test]
+fn differences_of_other_seeds() {
+    let seed = mesh_of(&[[-1, -1], [1, 1], [0, 1], [1, 0]], &[[0, 1, 2], [1, 0, 3]]);
+    assert!(has_unsettled_edge(&seed));
+    let case = Case { number: 0, seed: seed.clone(), centre: [0.25, 0.25], points: vec![] };
+    let ending = Ending::Inside { stepped: seed.clone(), pass: [0, 0], passed: seed };
+    assert_eq!(answer(&case, true).ending, ending);
+
+    let positions: Vec<Position> = [[0, 0]].into_iter().chain((0..9).map(|i| [-4 * i, 40])).collect();
+    let triangles: Vec<[u32; 3]> = (0..8).map(|i| [0, i + 1, i + 2]).collect();
+    let seed = mesh_of(&positions, &triangles);
+    let case = Case { number: 0, seed, centre: [-6.0, 30.0], points: vec![[1, 6]] };
+    assert_eq!(answer(&case, true).fates, [[1, 10, 1, 8]]);
+
+    let seed = Mesh::triangle([[-1, 0], [1, -1], [0, 0]]);
+    let case = Case { number: 0, seed, centre: [-0.5, 0.0], points: vec![[1, 0], [3, 5]] };
+    let answered = answer(&case, true);
+    assert!(answered.fates.iter().all(|fate| fate[0] == 1));
+    let Ending::Inside { stepped, .. } = answer(&case.cut(1), true).ending else { panic!("not inside") };
+    let angles = boundary_angles(&built(&stepped), Point2::new(-0.5, 0.0));
+    assert!(driver::is_sound(&angles) && !driver::is_strict(&angles));
+}
+
+/// The watch for flips beside the outer face can fire: on a mesh with a triangle that turns right, which
+/// every call refuses.
+#[test]
+fn other_flips_are_noticed() {
+    let positions = [[0, 0], [-1, 0], [-1, 1], [0, -1], [0, -2]];
+    let seed = mesh_of(&positions, &[[0, 1, 2], [2, 1, 3], [2, 3, 4]]);
+    assert_eq!(seed.refusal(&[]), Some(5));
+    let mut sweep = driver::Sweep::new(&seed, [2.5, -0.75]).ok().unwrap();
+    assert_eq!(sweep.pass(), Err(reason::OTHER_FLIP));
+}
+
+#[test]
+fn list_is_what_the_oracle_answers() {
+    for (case, stored) in stored() {
+        assert_eq!(answer(&case, true), stored, "entry {}", case.number);
+    }
+}
+
+#[test]
+fn list_is_what_its_command_makes() {
+    assert!(printed(&["list"], "") == include_str!("../answers.txt"));
+}
+
+/// What the list has: every fate of the Rust, flips in steps and passes, faces of passes, seeds of
+/// both kinds, centres that are not whole, coordinates from tiny to the greatest.
+#[test]
+fn list_covers() {
+    let entries = stored();
+    assert!(entries.len() >= 300);
+    let count = |holds: &dyn Fn(&Case, &Answer) -> bool| {
+        entries.iter().filter(|(case, answer)| holds(case, answer)).count()
+    };
+    let fate = |fate: u32| count(&|_, a| a.fates.iter().any(|f| f[0] == fate));
+    let pass = |at: usize| count(&|_, a| matches!(a.ending, Ending::Inside { pass, .. } if pass[at] > 0));
+    let greatest = |c: &Case| c.points.iter().flatten().map(|n| n.abs()).max().unwrap_or(0);
+    for fate in [fate(1), fate(2), fate(3)] {
+        assert!(fate > 20);
+    }
+    assert!(count(&|_, a| a.fates.iter().any(|f| f[2] > 2)) > 20);
+    assert!(count(&|_, a| a.fates.iter().any(|f| f[3] > 2)) > 20);
+    assert!(count(&|_, a| a.fates.iter().any(|f| f[3] >= 8)) > 5);
+    assert!(pass(0) > 20 && pass(1) > 20);
+    assert!(count(&|c, _| c.seed.faces.len() == 2) > 50);
+    assert!(count(&|c, _| c.seed.faces.len() > 2) > 50);
+    assert!(count(&|c, _| c.centre.iter().any(|x| x.fract() != 0.0)) > 50);
+    assert!(count(&|c, _| greatest(c) == 16_777_216) > 5);
+    assert!(count(&|c, _| (1..=4).contains(&greatest(c))) > 5);
+}
+
+/// The sizes that FORMAT.md promises to a reader of the list.
+#[test]
+fn list_is_small() {
+    let text = include_str!("../answers.txt");
+    assert!(text.len() < 1_000_000);
+    assert!(text.lines().all(|line| line.len() < 8_192));
+    for (_, answer) in stored() {
+        let Ending::Inside { pass, passed, .. } = answer.ending else { panic!("not inside") };
+        assert!(passed.positions.len() <= 100);
+        let flips = answer.fates.iter().map(|f| f[3]).chain([pass[1]]).max().unwrap();
+        assert!(2 + 4 * flips <= 4_096);
+    }
+}
+
+/// Demand 3's invariant at every mesh of the list, and what a pass leaves alone.
+#[test]
+fn meshes_of_the_list_keep_the_rules() {
+    for (case, answer) in stored() {
+        let Ending::Inside { stepped, passed, .. } = answer.ending else { panic!("not inside") };
+        assert_eq!(driver::refusal(&case), None);
+        assert_eq!(stepped.refusal(&[]), None);
+        assert_eq!(passed.refusal(&[]), None);
+        assert_eq!(stepped.positions, passed.positions);
+        let areas = |m: &Mesh| -> i64 {
+            let corner = |t: [u32; 3]| t.map(|v| m.positions[v as usize]);
+            m.triangles().into_iter().map(corner).map(|[a, b, c]| orient(a, b, c)).sum()
+        };
+        assert_eq!(areas(&passed), list::doubled_area(&passed));
+    }
+}
+
+/// A generated input depends on its seed and number alone, and no other input has its number.
+#[test]
+fn generator_is_fixed() {
+    let alone = generate::case(5, 17, 40);
+    assert_eq!(generate::case(5, 17, 40), alone);
+    assert_ne!(generate::case(6, 17, 40), alone);
+    assert_eq!(printed(&["generate", "3", "5"], ""), printed(&["generate", "3", "5"], ""));
+}
+
+/// Each number of an answer is compared.
+#[test]
+fn comparison_can_fail() {
+    let entries = stored();
+    let (_, rust) = entries.iter().find(|(_, a)| a.fates.iter().any(|f| f[3] > 0)).unwrap();
+    assert_eq!(difference(rust, rust), None);
+    let differs = |change: &dyn Fn(&mut Answer)| {
+        let mut other = rust.clone();
+        change(&mut other);
+        difference(rust, &other).is_some()
+    };
+    for at in 0..4 {
+        assert!(differs(&|a| a.fates.last_mut().unwrap()[at] += 1));
+    }
+    for after_pass in [false, true] {
+        let mesh_differs = |change: &dyn Fn(&mut Mesh)| {
+            differs(&|a| {
+                let Ending::Inside { stepped, passed, .. } = &mut a.ending else { panic!() };
+                change(if after_pass { passed } else { stepped });
+            })
+        };
+        for at in 0..4 {
+            assert!(mesh_differs(&|m| m.half_edges.last_mut().unwrap()[at] ^= 1));
+        }
+        assert!(mesh_differs(&|m| *m.out_edges.last_mut().unwrap() ^= 1));
+        assert!(mesh_differs(&|m| *m.faces.last_mut().unwrap() ^= 1));
+        assert!(mesh_differs(&|m| m.positions.last_mut().unwrap()[0] ^= 1));
+    }
+    for at in 0..2 {
+        assert!(differs(&|a| {
+            let Ending::Inside { pass, .. } = &mut a.ending else { panic!() };
+            pass[at] += 1;
+        }));
+    }
+}
+
+/// `oracle compare` beside itself agrees; beside a program that answers nothing it does not.
+#[test]
+fn compare_command() {
+    let same = printed(&["compare", "300", "2", "--", ORACLE, "answer"], "");
+    assert!(same.contains("compared inside the domain: 300\n"), "{same}");
+    assert!(same.ends_with("disagreements: 0\n"), "{same}");
+    let none = printed(&["compare", "3", "2", "--", "true"], "");
+    assert!(none.contains("the smallest disagreement"), "{none}");
+}
