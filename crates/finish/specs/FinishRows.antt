@@ -1,9 +1,9 @@
 -- The lent rows and what a finish answers, as the definitions have them, and what the checks give the passes. Assumes nothing.
 use mathlib.Core.List.{List}
 use mathlib.Core.Path.{_≡_, sym}
-use Prim.Native.Nat.{ℕ}
+use Prim.Native.Nat.{ℕ, _≤_}
 use native.Mathlib.Omega.{arith}
-use borrow.Author.Tests.{ltb-false}
+use borrow.Author.Tests.{ltb-false, le-ltb}
 use lib.IntN.{ℤ}
 use lib.ListN.{length}
 use Rattle.convexity.specs.ConvexityRows.{MeshReady}
@@ -12,8 +12,8 @@ use Rattle.flip_count.specs.FlipCount.{flipCountOf}
 use Rattle.mesh.specs.declared.Counts.{Counts}
 use Rattle.mesh.specs.CountsLaws.{count-edges, count-faces}
 use Rattle.mesh_check.specs.declared.Checked.{Checked}
-use Rattle.mesh_check.specs.Accepted.{with-accepts}
-use Rattle.mesh_check.specs.Check.{vertexCount, pointCount}
+use Rattle.mesh_check.specs.Accepted.{with-accepts, with-none}
+use Rattle.mesh_check.specs.Check.{checkOf, vertexCount, pointCount}
 use Rattle.finish.specs.declared.Ended.{Ended}
 use Rattle.finish.specs.Finish.{Finishing, seedChecked}
 
@@ -42,3 +42,8 @@ accepted-ready C q o h a row e =
       rows = record { room = record { outs = omega arith; halves = omega arith; faces = omega arith; small = omega arith }; positions = omega arith; good = A .0 .good };
       sized = record { halves = omega arith; faces = omega arith; pending = s; small = omega arith };
     }
+
+-- with enough pending entries a seed is refused exactly as `check` refuses it
+pub seed-check : (C : Counts) (q : List ℤ) (o h a row : List ℕ) → 8 ≤ length row → seedChecked C q o h a row ≡ checkOf C q o h a
+unfolding seedChecked
+seed-check C q o h a row l = rw (le-ltb (length row) 8 l) (with-none C q o h a)
