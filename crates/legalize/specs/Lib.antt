@@ -1,0 +1,6 @@
+pub mod Legalize
+pub mod Turns
+pub mod LegalizeLaws
+pub mod HullCase
+pub mod LegalizeRows
+pub mod Examples
