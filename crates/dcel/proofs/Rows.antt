@@ -2,13 +2,15 @@
 use Prim.Native.Nat.{ℕ, _+_, _*_, _<_, _≤_}
 use native.Mathlib.Omega.{arith}
 use native.Mathlib.Decide.{ℕ-discrete}
-use mathlib.Core.Path.{_≡_, refl, sym, _∙_, ap, fun-ext, subst⁻¹}
+use mathlib.Core.Path.{_≡_, refl, sym, _∙_, ap, ap₂, fun-ext}
 use mathlib.Core.Logic.{_≢_}
 use mathlib.Core.List.{List}
 use lib.ListN.{length, getD, set}
-use lib.Seq.{getD-set-same, getD-set-other}
+use lib.IntN.{ℤ, pos}
+use lib.Seq.{getD-set-same, getD-set-other, lt-length-set}
+use Rattle.math.specs.declared.Point.{Point}
 use Rattle.sums.specs.Put.{put, put-same, put-other}
-use Rattle.dcel.specs.Rows.{Halves, halvesOf, rowOf, There, setNext, setPrev, setFace, setOrigin}
+use Rattle.dcel.specs.Rows.{Halves, halvesOf, rowOf, positionOf, There, setNext, setPrev, setFace, setOrigin}
 
 -- a store at the place i a, of places that differ where their numbers do
 stored : (i : ℕ → ℕ) (h : List ℕ) (a v : ℕ) → ((x : ℕ) → x ≢ a → i x ≢ i a) → i a < length h
@@ -63,3 +65,21 @@ module _ (h : List ℕ) (a v : ℕ) (l : There h a) where
     face = missed (λ x. 4 * x + 2) h (4 * a + 3) v (λ x. omega arith) i;
     origin = stored (λ x. 4 * x + 3) h a v (λ x n. omega arith) (omega arith) i;
   }
+
+-- the two stores of a position
+pub store-position : (p : List ℤ) (v : ℕ) (w : Point) (x y : ℤ) → 2 * v + 1 < length p → x ≡ w .x → y ≡ w .y
+    → positionOf (set (set p (2 * v) x) (2 * v + 1) y) ≡ put (positionOf p) v w
+unfolding positionOf
+store-position p v w x y l ex ey = fun-ext (λ u. go u (ℕ-discrete u v))
+  where
+    go : (u : ℕ) → Dec (u ≡ v) → positionOf (set (set p (2 * v) x) (2 * v + 1) y) u ≡ put (positionOf p) v w u
+    go u (yes e) =
+        rw (e, put-same)
+        (ap₂ (λ (a b : ℤ). record { x = a; y = b })
+        (getD-set-other (set p (2 * v) x) (2 * v + 1) (2 * v) y (pos 0) (omega arith) ∙ getD-set-same p (2 * v) x (pos 0) (omega arith) ∙ ex)
+        (getD-set-same (set p (2 * v) x) (2 * v + 1) y (pos 0) (lt-length-set p (2 * v) x l) ∙ ey))
+    go u (no n) =
+        rw (put-other (positionOf p) v w u n)
+        (ap₂ (λ (a b : ℤ). record { x = a; y = b })
+        (getD-set-other (set p (2 * v) x) (2 * v + 1) (2 * u) y (pos 0) (omega arith) ∙ getD-set-other p (2 * v) (2 * u) x (pos 0) (omega arith))
+        (getD-set-other (set p (2 * v) x) (2 * v + 1) (2 * u + 1) y (pos 0) (omega arith) ∙ getD-set-other p (2 * v) (2 * u + 1) x (pos 0) (omega arith)))

@@ -1,3 +1,4 @@
 pub mod Rows
 pub mod Far
 pub mod Views
+pub mod Held

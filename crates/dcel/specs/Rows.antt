@@ -7,8 +7,10 @@
 use Prim.Native.Nat.{ℕ, zero, suc, _+_, _*_, _/_, _%_, _<_}
 use mathlib.Core.Path.{_≡_}
 use mathlib.Core.List.{List, [], _∷_}
+use lib.IntN.{ℤ, pos}
 use lib.ListN.{length, getD}
 use Rattle.sums.specs.Put.{put}
+use Rattle.math.specs.declared.Point.{Point}
 use Rattle.mesh.specs.Mesh.{Links}
 use Rattle.dcel.specs.declared.handles.HalfEdgeEntry.{HalfEdgeEntry}
 
@@ -31,6 +33,10 @@ halvesOf h = record {
 -- a row of one number to each place: out edges by vertex, stored edges by face
 unfoldable pub rowOf : List ℕ → ℕ → ℕ
 rowOf l x = getD l x 0
+
+-- the row of positions, two numbers to each vertex, as the points that the mesh's area and height take
+unfoldable pub positionOf : List ℤ → ℕ → Point
+positionOf p v = record { x = getD p (2 * v) (pos 0); y = getD p (2 * v + 1) (pos 0) }
 
 -- the three rows together: out edges, half-edges, faces
 unfoldable pub linksOf : List ℕ → List ℕ → List ℕ → Links
@@ -75,7 +81,7 @@ abbrev pub setCycle : Halves → ℕ → ℕ → ℕ → Halves
 setCycle H a b c = setLink (setLink (setLink H a b) b c) c a
 
 -- Back from functions to rows, for a statement on whole rows: the row of n entries
-unfoldable pub rowFrom : ℕ → (ℕ → ℕ) → List ℕ
+unfoldable pub rowFrom : {A : Type 0} → ℕ → (ℕ → A) → List A
 rowFrom zero f = []
 rowFrom (suc n) f = f 0 ∷ rowFrom n (λ i. f (suc i))
 
@@ -91,3 +97,10 @@ halvesIn L = record { next = L .next; prev = L .prev; face = L .face; origin = L
 
 unfoldable pub halvesFrom : ℕ → Links → List ℕ
 halvesFrom n L = rowFrom n (λ i. field (halvesIn L) (i / 4) (i % 4))
+
+unfoldable pub coordinate : Point → ℕ → ℤ
+coordinate w zero = w .x
+coordinate w (suc k) = w .y
+
+unfoldable pub positionsFrom : ℕ → (ℕ → Point) → List ℤ
+positionsFrom n P = rowFrom n (λ i. coordinate (P (i / 2)) (i % 2))

@@ -5,11 +5,13 @@ use native.Mathlib.Omega.{arith}
 use mathlib.Core.Path.{_≡_, refl, ap, sym, _∙_}
 use mathlib.Core.Logic.{_≢_}
 use mathlib.Core.List.{List}
+use lib.IntN.{ℤ, pos}
 use lib.ListN.{length, getD}
 use lib.Seq.{ext-getD}
+use Rattle.math.specs.declared.Point.{Point}
 use Rattle.mesh.specs.Mesh.{Links}
 use Rattle.dcel.specs.declared.handles.Far.{Far}
-use Rattle.dcel.specs.Rows.{Halves, halvesOf, rowOf, linksOf, rowFrom, field, halvesIn, halvesFrom}
+use Rattle.dcel.specs.Rows.{halvesOf, rowOf, positionOf, linksOf, rowFrom, field, halvesIn, halvesFrom, coordinate, positionsFrom}
 use Rattle.dcel.specs.Far.{farIn, farOf}
 
 -- what an accessor ensures, `r ≡ halvesOf h .next e`, as a fact of the links: `c .next .ensures ∙ next-of _ _ _ _`
@@ -52,21 +54,22 @@ unfolding farIn
 far-inner zero v n = absurd (n refl)
 far-inner (suc f) v n = refl
 
-pub length-from : (n : ℕ) (f : ℕ → ℕ) → length (rowFrom n f) ≡ n
-unfolding rowFrom
-length-from zero f = refl
-length-from (suc n) f = ap suc (length-from n (λ i. f (suc i)))
+module _ {A : Type 0} where
+  pub length-from : (n : ℕ) (f : ℕ → A) → length (rowFrom n f) ≡ n
+  unfolding rowFrom
+  length-from zero f = refl
+  length-from (suc n) f = ap suc (length-from n (λ i. f (suc i)))
 
-pub getD-from : (n : ℕ) (f : ℕ → ℕ) (i : ℕ) → i < n → getD (rowFrom n f) i 0 ≡ f i
-unfolding rowFrom
-getD-from zero f i l = absurd (omega arith)
-getD-from (suc n) f zero l = refl
-getD-from (suc n) f (suc i) l = getD-from n (λ i. f (suc i)) i (omega arith)
+  pub getD-from : (n : ℕ) (f : ℕ → A) (d : A) (i : ℕ) → i < n → getD (rowFrom n f) i d ≡ f i
+  unfolding rowFrom
+  getD-from zero f d i l = absurd (omega arith)
+  getD-from (suc n) f d zero l = refl
+  getD-from (suc n) f d (suc i) l = getD-from n (λ i. f (suc i)) d i (omega arith)
 
--- a row is made of its own entries
-from-entries : (l : List ℕ) (f : ℕ → ℕ) → ((i : ℕ) → getD l i 0 ≡ f i) → l ≡ rowFrom (length l) f
-from-entries l f e =
-    ext-getD 0 l (rowFrom (length l) f) (sym (length-from (length l) f)) (λ i k. e i ∙ sym (getD-from (length l) f i k))
+  -- a row is made of its own entries
+  from-entries : (l : List A) (f : ℕ → A) (d : A) → ((i : ℕ) → getD l i d ≡ f i) → l ≡ rowFrom (length l) f
+  from-entries l f d e =
+      ext-getD d l (rowFrom (length l) f) (sym (length-from (length l) f)) (λ i k. e i ∙ sym (getD-from (length l) f d i k))
 
 field-is : (h : List ℕ) (x k : ℕ) → k < 4 → getD h (4 * x + k) 0 ≡ field (halvesOf h) x k
 unfolding field halvesOf
@@ -80,11 +83,11 @@ field-is h x (suc (suc (suc (suc k)))) l = absurd (omega arith)
 module _ (o h a : List ℕ) (L : Links) (e : linksOf o h a ≡ L) where
   pub outs-from : (n : ℕ) → length o ≡ n → o ≡ rowFrom n (L .out)
   unfolding linksOf rowOf
-  outs-from n k = rw (← k) (from-entries o (L .out) (λ i. ap (λ (M : Links). M .out i) e))
+  outs-from n k = rw (← k) (from-entries o (L .out) 0 (λ i. ap (λ (M : Links). M .out i) e))
 
   pub faces-from : (n : ℕ) → length a ≡ n → a ≡ rowFrom n (L .adjacent)
   unfolding linksOf rowOf
-  faces-from n k = rw (← k) (from-entries a (L .adjacent) (λ i. ap (λ (M : Links). M .adjacent i) e))
+  faces-from n k = rw (← k) (from-entries a (L .adjacent) 0 (λ i. ap (λ (M : Links). M .adjacent i) e))
 
   entry : (i : ℕ) → getD h i 0 ≡ field (halvesIn L) (i / 4) (i % 4)
   unfolding linksOf halvesIn
@@ -94,4 +97,19 @@ module _ (o h a : List ℕ) (L : Links) (e : linksOf o h a ≡ L) where
 
   pub halves-from : (n : ℕ) → length h ≡ n → h ≡ halvesFrom n L
   unfolding halvesFrom
-  halves-from n k = rw (← k) (from-entries h (λ i. field (halvesIn L) (i / 4) (i % 4)) entry)
+  halves-from n k = rw (← k) (from-entries h (λ i. field (halvesIn L) (i / 4) (i % 4)) 0 entry)
+
+coordinate-is : (p : List ℤ) (v k : ℕ) → k < 2 → getD p (2 * v + k) (pos 0) ≡ coordinate (positionOf p v) k
+unfolding coordinate positionOf
+coordinate-is p v zero l = ap (λ (j : ℕ). getD p j (pos 0)) (omega arith)
+coordinate-is p v (suc zero) l = refl
+coordinate-is p v (suc (suc k)) l = absurd (omega arith)
+
+pub positions-from : (p : List ℤ) (P : ℕ → Point) → positionOf p ≡ P → (n : ℕ) → length p ≡ n → p ≡ positionsFrom n P
+unfolding positionsFrom
+positions-from p P e n k = rw (← k) (from-entries p (λ i. coordinate (P (i / 2)) (i % 2)) (pos 0) entry-at)
+  where
+    entry-at : (i : ℕ) → getD p i (pos 0) ≡ coordinate (P (i / 2)) (i % 2)
+    entry-at i =
+        let k : i ≡ 2 * (i / 2) + i % 2 = omega arith in
+        ap (λ (j : ℕ). getD p j (pos 0)) k ∙ coordinate-is p (i / 2) (i % 2) (omega arith) ∙ ap (λ (Q : ℕ → Point). coordinate (Q (i / 2)) (i % 2)) e

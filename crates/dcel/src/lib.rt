@@ -5,19 +5,20 @@ ghost use mathlib.Core.List.{List};
 ghost use lib.ListN.{length};
 ghost use Rattle.sums.specs.Half.{rev};
 ghost use Rattle.sums.specs.Put.{put};
-ghost use Rattle.dcel.specs.Rows.{halvesOf, rowOf, linksOf, There, setNext, setPrev, setFace, setOrigin, setLink, setCycle, EntryOf, setHalfEdge};
+ghost use Rattle.dcel.specs.Rows.{halvesOf, rowOf, positionOf, There, setNext, setPrev, setFace, setOrigin, setLink, setCycle, EntryOf, setHalfEdge};
 ghost use Rattle.dcel.specs.Far.{farIn};
 
 pub mod handles;
 
 use handles::Far;
 use handles::HalfEdgeEntry;
+use math::Point;
 
 // The other half of a half-edge's edge.
 pub fn rev(e: u32) -> u32
     ensures { λ r. ⌜ r ≡ rev e ⌝ }
 {
-    if e % 2 == 0 { e + 1 } else { e - 1 }
+    e ^ 1
 }
 
 pub fn next(halves: &[u32], e: u32) -> u32
@@ -90,6 +91,17 @@ pub fn adjacent(faces: &[u32], f: u32) -> u32
     faces[f as usize]
 }
 
+pub fn position(positions: &[i32], v: u32) -> Point
+    requires { ⌜ 2 * v + 1 < length (now positions) ⌝ }
+    ensures { λ r. ⌜ r ≡ positionOf (now (positions .entry)) v ⌝ }
+{
+    let i = 2 * (v as usize);
+    let j = i + 1;
+    let x = positions[i];
+    let y = positions[j];
+    Point { x: x, y: y }
+}
+
 // The far vertex over a half-edge.
 pub fn far(halves: &[u32], e: u32) -> Far
     requires { ⌜ There (now halves) e × There (now halves) (halvesOf (now halves) .prev e) ⌝ }
@@ -152,6 +164,19 @@ pub fn store(row: &mut [u32], at: u32, v: u32)
     ensures { λ r. ⌜ rowOf (now (row .exit)) ≡ put (rowOf (now (row .entry))) at v ⌝ }
 {
     row[at as usize] = v;
+}
+
+// The position of a vertex, a new one's above all: `append_unconnected_vertex` of the Rust.
+pub fn set_position(positions: &mut [i32], v: u32, point: Point)
+    requires { ⌜ 2 * v + 1 < length (now positions) ⌝ }
+    ensures { λ r. ⌜ positionOf (now (positions .exit)) ≡ put (positionOf (now (positions .entry))) v point ⌝ }
+{
+    let i = 2 * (v as usize);
+    let j = i + 1;
+    let x = point.x;
+    let y = point.y;
+    positions[i] = x;
+    positions[j] = y;
 }
 
 // The half-edge b follows a.

@@ -1,1 +1,3 @@
 pub mod Flip
+pub mod Face
+pub mod Ready

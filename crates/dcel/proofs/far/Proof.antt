@@ -1,3 +1,4 @@
+-- `dcel::far` meets its contract. Assumes nothing.
 use borrow.Author.Needs.{needs}
 use native.Mathlib.Omega.{arith}
 use mathlib.Core.Path.{sym, ap, _∙_}
@@ -5,29 +6,19 @@ use Rattle.dcel.specs.declared.handles.Far.{Far}
 use Rattle.dcel.specs.Views.{far-outer, far-inner}
 use Rattle.dcel.proofs.far.Statement.{statement}
 use Rattle.dcel.proofs.far.Tie as tie
-use Rattle.dcel.proofs.far.Reads as reads
-use Rattle.dcel.proofs.far.Lts as lts
-use Rattle.dcel.proofs.face.Reads as face-reads
-use Rattle.dcel.proofs.origin.Reads as origin-reads
-use Rattle.dcel.proofs.prev.Reads as prev-reads
 
--- src/lib.rt:84:9
 face-requires : tie.Need-face-requires
 face-requires c κs = search needs
 
--- src/lib.rt:86:9
 returns : tie.Need-returns
 returns c = sym (far-outer _ _ (omega arith))
 
--- src/lib.rt:88:9
 prev-requires : tie.Need-prev-requires
 prev-requires c κs = search needs
 
--- src/lib.rt:89:9
 origin-requires : tie.Need-origin-requires
 origin-requires c κs = search needs
 
--- src/lib.rt:80:1
 returns-2 : tie.Need-returns-2
 returns-2 c = ap Far.Vertex (cc) ∙ sym (far-inner _ _ (omega arith))
 

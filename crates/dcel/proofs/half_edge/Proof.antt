@@ -1,59 +1,45 @@
+-- `dcel::half_edge` meets its contract. Assumes nothing.
 use borrow.Author.Needs.{needs}
 use Rattle.dcel.specs.Rows.{halvesOf}
 use Rattle.dcel.proofs.half_edge.Statement.{statement}
 use Rattle.dcel.proofs.half_edge.Tie as tie
-use Rattle.dcel.proofs.half_edge.Reads as reads
-use Rattle.dcel.proofs.half_edge.Lts as lts
 
--- src/lib.rt:60:13
 mul-i : tie.Need-mul-i
 mul-i c = search needs
 
--- src/lib.rt:61:27
 mul-t4 : tie.Need-mul-t4
 mul-t4 c = search needs
 
--- src/lib.rt:61:27
 shared-slice-read-t6 : tie.Need-shared-slice-read-t6
 shared-slice-read-t6 c = search needs
 
--- src/lib.rt:61:51
 add-t7 : tie.Need-add-t7
 add-t7 c = search needs
 
--- src/lib.rt:61:44
 mul-t8 : tie.Need-mul-t8
 mul-t8 c = search needs
 
--- src/lib.rt:61:44
 shared-slice-read-t10 : tie.Need-shared-slice-read-t10
 shared-slice-read-t10 c = search needs
 
--- src/lib.rt:61:72
 add-t11 : tie.Need-add-t11
 add-t11 c = search needs
 
--- src/lib.rt:61:65
 mul-t12 : tie.Need-mul-t12
 mul-t12 c = search needs
 
--- src/lib.rt:61:65
 shared-slice-read-t14 : tie.Need-shared-slice-read-t14
 shared-slice-read-t14 c = search needs
 
--- src/lib.rt:61:95
 add-t15 : tie.Need-add-t15
 add-t15 c = search needs
 
--- src/lib.rt:61:88
 mul-t16 : tie.Need-mul-t16
 mul-t16 c = search needs
 
--- src/lib.rt:61:88
 shared-slice-read-t18 : tie.Need-shared-slice-read-t18
 shared-slice-read-t18 c = search needs
 
--- src/lib.rt:56:1
 returns : tie.Need-returns
 unfolding halvesOf
 returns c = search needs

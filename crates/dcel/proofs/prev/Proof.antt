@@ -1,27 +1,21 @@
+-- `dcel::prev` meets its contract. Assumes nothing.
 use borrow.Author.Needs.{needs}
 use Rattle.dcel.specs.Rows.{halvesOf}
 use Rattle.dcel.proofs.prev.Statement.{statement}
 use Rattle.dcel.proofs.prev.Tie as tie
-use Rattle.dcel.proofs.prev.Reads as reads
-use Rattle.dcel.proofs.prev.Lts as lts
 
--- src/lib.rt:20:13
 mul-i : tie.Need-mul-i
 mul-i c = search needs
 
--- src/lib.rt:20:13
 add-i : tie.Need-add-i
 add-i c = search needs
 
--- src/lib.rt:21:5
 mul-result : tie.Need-mul-result
 mul-result c = search needs
 
--- src/lib.rt:21:5
 shared-slice-read-result : tie.Need-shared-slice-read-result
 shared-slice-read-result c = search needs
 
--- src/lib.rt:16:1
 returns : tie.Need-returns
 unfolding halvesOf
 returns c = search needs

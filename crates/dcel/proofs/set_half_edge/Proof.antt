@@ -1,34 +1,23 @@
+-- `dcel::set_half_edge` meets its contract. Assumes nothing.
 use borrow.Author.Needs.{needs}
 use Rattle.dcel.proofs.set_half_edge.Statement.{statement}
 use Rattle.dcel.proofs.set_half_edge.Tie as tie
-use Rattle.dcel.proofs.set_half_edge.Reads as reads
-use Rattle.dcel.proofs.set_half_edge.Lts as lts
-use Rattle.dcel.proofs.set_face.Reads as set-face-reads
-use Rattle.dcel.proofs.set_next.Reads as set-next-reads
-use Rattle.dcel.proofs.set_origin.Reads as set-origin-reads
-use Rattle.dcel.proofs.set_prev.Reads as set-prev-reads
 
--- src/lib.rt:139:5
 set-next-requires : tie.Need-set-next-requires
 set-next-requires c κs = search needs
 
--- src/lib.rt:140:5
 set-prev-requires : tie.Need-set-prev-requires
 set-prev-requires c κs = search needs
 
--- src/lib.rt:141:5
 set-face-requires : tie.Need-set-face-requires
 set-face-requires c κs = search needs
 
--- src/lib.rt:142:5
 set-origin-requires : tie.Need-set-origin-requires
 set-origin-requires c κs = search needs
 
--- src/lib.rt:135:1
 same-length : tie.Need-same-length
 same-length c = search needs
 
--- src/lib.rt:135:1
 returns : tie.Need-returns
 returns c =
     let c₄ = c .before .before in

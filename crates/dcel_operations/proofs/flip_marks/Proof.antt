@@ -1,42 +1,30 @@
+-- `dcel_operations::flip_marks` meets its contract. Assumes nothing.
 use borrow.Author.Needs.{needs}
 use Rattle.dcel_operations.specs.Flip.{flipMarks}
 use Rattle.dcel_operations.proofs.flip_marks.Statement.{statement}
 use Rattle.dcel_operations.proofs.flip_marks.Tie as tie
-use Rattle.dcel_operations.proofs.flip_marks.Reads as reads
-use Rattle.dcel_operations.proofs.flip_marks.Lts as lts
-use Rattle.dcel.proofs.origin.Reads as origin-reads
-use Rattle.dcel.proofs.set_face.Reads as set-face-reads
-use Rattle.dcel.proofs.set_origin.Reads as set-origin-reads
 
--- src/lib.rt:24:9
 origin-requires : tie.Need-origin-requires
 origin-requires c κs = search needs
 
--- src/lib.rt:25:9
 origin-requires-2 : tie.Need-origin-requires-2
 origin-requires-2 c κs = search needs
 
--- src/lib.rt:26:5
 set-origin-requires : tie.Need-set-origin-requires
 set-origin-requires c κs = search needs
 
--- src/lib.rt:27:5
 set-origin-requires-2 : tie.Need-set-origin-requires-2
 set-origin-requires-2 c κs = search needs
 
--- src/lib.rt:28:5
 set-face-requires : tie.Need-set-face-requires
 set-face-requires c κs = search needs
 
--- src/lib.rt:29:5
 set-face-requires-2 : tie.Need-set-face-requires-2
 set-face-requires-2 c κs = search needs
 
--- src/lib.rt:20:1
 same-length : tie.Need-same-length
 same-length c = search needs
 
--- src/lib.rt:20:1
 returns : tie.Need-returns
 unfolding flipMarks
 returns c =
