@@ -1,5 +1,5 @@
--- BUCKETS: n buckets of w places each, on a circle of N = n * w. The point of bucket i is i * w. The buckets whose points an arc holds are a range of numbers,
--- from the ceiling of its first angle up to that of its second, both taken from n to 0; no such range is empty where it should be whole, since no arc is wide. Assumes nothing.
+-- BUCKETS: n buckets of w places each, on a circle of N = n * w. The point of bucket i is i * w. The buckets whose points a segment holds are a range of numbers,
+-- from the ceiling of its first angle up to that of its second, both taken from n to 0; no such range is empty where it should be whole, since no segment is wide. Assumes nothing.
 use mathlib.Core.Path.{_≡_, refl, sym, _∙_, ap, ap₂, subst}
 use mathlib.Core.Logic.{_≢_, _⊎_, inl, inr}
 use mathlib.Core.Bool.{Bool, true, false, not, cond, _&&_, _||_}
@@ -84,7 +84,7 @@ null-within i L = bit-no (within i L L) (λ t. go (range→ i L L t))
     go (above p q) = omega arith
     go (below p q) = omega arith
 
--- ---- an arc that is not wide
+-- ---- a segment that is not wide
 pub narrow-plain : (N a b : ℕ) → (T (wide N a b) → ⊥) → a < b → 4 * (b - a) ≤ 3 * N
 unfolding wide gap
 narrow-plain N a b h l = go (ltb b a) (lt? b a) (λ z. h z)
@@ -176,7 +176,7 @@ pub record Sized (N n w : ℕ) : Type 0 where
   pub room : 0 < w
   pub all : N ≡ n * w
 
--- the arc from a to b is proper, not wide, and on the circle
+-- the segment from a to b is proper, not wide, and on the circle
 pub record NarrowSegment (N a b : ℕ) : Type 0 where
   pub a-in : a ≤ N
   pub b-in : b ≤ N

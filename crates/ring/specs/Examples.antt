@@ -1,171 +1,129 @@
--- The rules can be met: a sound boundary of four edges on a circle of 16 places, two of whose angles are equal neighbours, its three nodes, and an insert between two of them,
--- at a new angle (11) and at the left node's own (9). The theorems then say what the records hold. Assumes nothing.
-use mathlib.Core.Path.{_≡_, refl, sym, _∙_, ap, subst}
-use mathlib.Core.Logic.{_≢_}
-use mathlib.Core.Bool.{Bool, true, false}
+-- The definitions by computation: lists of angles on a circle of 16 places, the triangle of 01's listing (M3, M9), a mesh whose ring has a run, and chains of points seen from outside.
+-- Assumes nothing.
+use mathlib.Core.Path.{_≡_, refl}
+use mathlib.Core.Bool.{true, false}
 use mathlib.Core.List.{List, [], _∷_}
-use Prim.Native.Nat.{ℕ, zero, suc, _+_, _-_, _<_, _≤_}
-use native.Mathlib.Omega.{arith}
-use lib.Dec.{T, lit≤}
+use Prim.Native.Nat.{ℕ, _+_, _*_, _^_}
+use lib.IntN.{ℤ, pos, negsuc}
 use lib.ListN.{getD}
-use Rattle.segment.specs.Arc.{gap, holds, wide}
-use Rattle.ring.specs.Ring.{atEnds, proper, wraps}
-use Rattle.ring.specs.Segments.{null-proper}
-use Rattle.ring.specs.Sound.{Sound, tile}
-use Rattle.ring.specs.Splice.{Spliced, Fit, fit-sound}
-use Rattle.ring.specs.Node.{nodes, Match}
-use Rattle.ring.specs.Insert.{Ring, Inserted, inserted, Bucketed}
-use Rattle.ring.specs.Hull.{Hull}
-use Rattle.sums.specs.Bit.{bit}
-use Rattle.sums.specs.Iterate.{iter}
-use Rattle.sums.specs.Tally.{First, tally, walk}
+use Rattle.math.specs.declared.Point.{Point}
+use Rattle.math.specs.Determinant.{orient2d, factor, length2}
+use Rattle.mesh.specs.declared.Counts.{Counts}
+use Rattle.mesh.specs.Mesh.{Links}
+use Rattle.mesh.specs.Area.{boundaryLength}
+use Rattle.mesh.specs.Operations.{createNewFaceAdjacentToEdge, faceAdjacent, withVertex}
+use Rattle.mesh.specs.Examples.{seed, seedCounts}
+use Rattle.segment.specs.Arc.{holds, gap, wide}
+use Rattle.sums.specs.Bounded.{first-below}
+use Rattle.sums.specs.Half.{rev}
+use Rattle.sums.specs.Iterate.{period-below}
+use Rattle.sums.specs.Put.{put}
+use Rattle.sums.specs.Tally.{walk, tally}
+use Rattle.ring.specs.Ring.{proper, wraps, countBefore, countAround, mergedBefore, merged, member, allDiffer, isSound, isStrict, between, passedCount, boundaryEdges, boundaryAngles, isSoundRing, isStrictRing, filter, ringNodes, located}
+use Rattle.ring.specs.Chain.{coversLeft, coversRight, leftChain, rightChain, anglesAfter, soundAfter}
 
+-- ---- angles on a circle of 16 places
+-- a run counts as one, also where the list begins within it; where all are equal one remains
+pub runs : (merged (3 ∷ 9 ∷ 9 ∷ 14 ∷ []) ≡ 3 ∷ 9 ∷ 14 ∷ []) × (merged (9 ∷ 14 ∷ 3 ∷ 9 ∷ []) ≡ 9 ∷ 14 ∷ 3 ∷ []) × (merged (5 ∷ 5 ∷ 5 ∷ []) ≡ 5 ∷ [])
+unfolding merged mergedBefore
+runs = (refl, refl, refl)
+
+-- a ring with a run is sound and not strict
+pub run-sound : (isSound 16 (9 ∷ 14 ∷ 3 ∷ 9 ∷ []) ≡ true) × (isStrict 16 (9 ∷ 14 ∷ 3 ∷ 9 ∷ []) ≡ false)
+unfolding isSound isStrict merged mergedBefore allDiffer member countAround countBefore wraps wide gap
+run-sound = (refl, refl)
+
+-- a gap of exactly 3/4 is sound, and one more is not
+pub three-quarters : (isStrict 16 (0 ∷ 12 ∷ 14 ∷ []) ≡ true) × (isSound 16 (0 ∷ 13 ∷ 14 ∷ []) ≡ false)
+unfolding isSound isStrict merged mergedBefore allDiffer member countAround countBefore wraps wide gap
+three-quarters = (refl, refl)
+
+-- two angles are too few, and an order that goes around twice is not sound
+pub unsound : (isSound 16 (3 ∷ 9 ∷ 9 ∷ []) ≡ false) × (isSound 16 (1 ∷ 9 ∷ 3 ∷ 11 ∷ []) ≡ false)
+unfolding isSound merged mergedBefore allDiffer member countAround countBefore wraps wide gap
+unsound = (refl, refl)
+
+-- 1.0 and 0.0 are two angles: the segment from 1.0 to 0.0 wraps, its gap is 0, and it holds 1.0 alone
+pub top-to-zero : (isStrict 16 (0 ∷ 6 ∷ 11 ∷ 16 ∷ []) ≡ true) × (holds 16 16 0 ≡ true) × (holds 0 16 0 ≡ false) × (holds 15 16 0 ≡ false)
+unfolding isSound isStrict merged mergedBefore allDiffer member countAround countBefore wraps wide gap holds
+top-to-zero = (refl, refl, refl, refl)
+
+-- the count at 1.0: ring size minus 1 where some angle is 0.0, and otherwise 0; below it, the angles above i/8 and up to a
+pub counts : (passedCount 16 16 (0 ∷ 6 ∷ 11 ∷ 16 ∷ []) ≡ 3) × (passedCount 16 16 (1 ∷ 6 ∷ 11 ∷ []) ≡ 0) × (passedCount 16 7 (0 ∷ 6 ∷ 7 ∷ 11 ∷ []) ≡ 1) × (passedCount 16 6 (0 ∷ 6 ∷ 7 ∷ 11 ∷ []) ≡ 0)
+unfolding passedCount member merged mergedBefore tally between
+counts = (refl, refl, refl, refl)
+
+-- ---- the triangle (0,0) (4,0) (0,4)
 abbrev row : List ℕ → ℕ → ℕ
 row l i = getD l i 0
 
--- the edges 0 to 3, from the angles 3, 9, 9, 14; the edges 4 and 5 are added
-abbrev next : ℕ → ℕ
-next = row (1 ∷ 2 ∷ 3 ∷ 0 ∷ [])
+-- its vertices' angles about (1,1): 0.875, 0.5625, 0.1875
+abbrev about-1-1 : ℕ → ℕ
+about-1-1 = row (7 * 2 ^ 50 ∷ 9 * 2 ^ 49 ∷ 3 * 2 ^ 49 ∷ [])
 
-abbrev α : ℕ → ℕ
-α = row (3 ∷ 9 ∷ 9 ∷ 14 ∷ [])
+-- M3: "the seed above has boundary angles 0.5625, 0.875, 0.1875."
+pub M3-boundary : (boundaryAngles seedCounts seed about-1-1 ≡ 9 * 2 ^ 49 ∷ 7 * 2 ^ 50 ∷ 3 * 2 ^ 49 ∷ []) × (isStrictRing seedCounts seed about-1-1 ≡ true)
+unfolding seed boundaryAngles boundaryEdges boundaryLength period-below first-below walk isStrictRing isSound isStrict merged mergedBefore allDiffer member countAround countBefore wraps wide gap
+M3-boundary = (refl, refl)
 
-abbrev next' : ℕ → ℕ
-next' = row (4 ∷ 2 ∷ 3 ∷ 0 ∷ 5 ∷ 3 ∷ [])
+-- 0.6 is held by the half-edge 1, and 0.1, 1.0 and 0.0 by the half-edge 5, which wraps; on the way to 0.6 from 0.5 one angle is passed
+pub seed-located : (located seedCounts seed about-1-1 5404319552844595 ≡ 1) × (located seedCounts seed about-1-1 900719925474099 ≡ 5) × (located seedCounts seed about-1-1 (2 ^ 53) ≡ 5)
+    × (located seedCounts seed about-1-1 0 ≡ 5) × (passedCount (2 ^ 53) 5404319552844595 (boundaryAngles seedCounts seed about-1-1) ≡ 1)
+unfolding seed located holds boundaryAngles boundaryEdges boundaryLength period-below first-below walk passedCount merged mergedBefore member tally between
+seed-located = (refl, refl, refl, refl, refl)
 
-abbrev α' : ℕ → ℕ → ℕ
-α' q = row (3 ∷ 9 ∷ 9 ∷ 14 ∷ 9 ∷ q ∷ [])
+-- its vertices' angles about (9,9)
+abbrev about-9-9 : ℕ → ℕ
+about-9-9 = row (7881299347898368 ∷ 7559613660229047 ∷ 8202985035567689 ∷ [])
 
--- the nodes 0, 1, 2 have the edges 0, 2, 3
-abbrev right : ℕ → ℕ
-right = row (1 ∷ 2 ∷ 0 ∷ [])
+-- M9: "that seed with centre (9,9): 7", the ring is not strict: the gap around the far side is wide
+pub M9-ring : isStrictRing seedCounts seed about-9-9 ≡ false
+unfolding seed boundaryAngles boundaryEdges boundaryLength period-below first-below walk isStrictRing isSound isStrict merged mergedBefore allDiffer member countAround countBefore wraps wide gap
+M9-ring = refl
 
-abbrev angle : ℕ → ℕ
-angle = row (3 ∷ 9 ∷ 14 ∷ [])
+-- ---- a vertex 3 beside the half-edge 1, at the angle of vertex 1: the half-edge 9 between them has no node, and 7, the run's last, stands for their angle
+abbrev with-run : Links
+with-run = createNewFaceAdjacentToEdge seed seedCounts 1
 
-abbrev edge : ℕ → ℕ
-edge = row (0 ∷ 2 ∷ 3 ∷ [])
+abbrev run-angles : ℕ → ℕ
+run-angles = row (7 * 2 ^ 50 ∷ 9 * 2 ^ 49 ∷ 3 * 2 ^ 49 ∷ 9 * 2 ^ 49 ∷ [])
 
--- sound from edge 1 on, and node 1 is the first of the list from there
-old : Ring 16 next α right angle edge 1 4 1
-unfolding walk tally holds proper wraps gap wide Match
-old = record {
-  sound = record { closed = refl; three = lit≤ tt; once = refl; gaps = refl };
-  match = ((λ t. absurd t), ((λ t. (refl, refl)), ((λ t. (refl, refl)), ((λ t. (refl, refl)), tt))));
-  back = refl;
-}
+pub run-nodes : (boundaryEdges (withVertex seedCounts) with-run ≡ 9 ∷ 7 ∷ 5 ∷ 3 ∷ []) × (ringNodes (withVertex seedCounts) with-run run-angles ≡ 7 ∷ 5 ∷ 3 ∷ [])
+    × (isSoundRing (withVertex seedCounts) with-run run-angles ≡ true) × (isStrictRing (withVertex seedCounts) with-run run-angles ≡ false) × (located (withVertex seedCounts) with-run run-angles (9 * 2 ^ 49) ≡ 7)
+unfolding createNewFaceAdjacentToEdge faceAdjacent put rev seed ringNodes filter proper located holds boundaryAngles boundaryEdges boundaryLength period-below first-below walk isSoundRing isStrictRing isSound isStrict merged mergedBefore allDiffer member countAround countBefore wraps wide gap
+run-nodes = (refl, refl, refl, refl, refl)
 
-spliced : (q : ℕ) → Spliced next α next' (α' q) 1 2 2 4 5 q 3
-spliced q = record { some = lit≤ tt; more = lit≤ tt; right = refl; round = refl; l-p = refl; p-r = refl; at-l = refl; at-p = refl; at-rest = at; rest = step; last = end }
-  where
-    at : (k : ℕ) → k < 2 → α' q (iter k next 3) ≡ α (iter k next 3)
-    at zero l = refl
-    at (suc zero) l = refl
-    at (suc (suc k)) l = absurd (omega arith)
+-- ---- chains
+abbrev points : List Point → ℕ → Point
+points l i = getD l i (record { x = pos 0; y = pos 0 })
 
-    step : (k : ℕ) → suc k < 2 → next' (iter k next 3) ≡ next (iter k next 3)
-    step zero l = refl
-    step (suc k) l = absurd (omega arith)
+abbrev at : ℤ → ℤ → Point
+at x y = record { x = x; y = y }
 
-    end : (k : ℕ) → suc k ≡ 2 → next' (iter k next 3) ≡ 4
-    end zero e = absurd (omega arith)
-    end (suc zero) e = refl
-    end (suc (suc k)) e = absurd (omega arith)
+abbrev corners : ℕ → Point
+corners = points (at (pos 0) (pos 0) ∷ at (pos 4) (pos 0) ∷ at (pos 0) (pos 4) ∷ [])
 
--- at 11: node 1 takes the edge 4, and the new node 3, of the edge 5, comes after it
-new : Sound 16 next' (α' 11) 4 4
-unfolding walk tally holds proper wraps gap wide
-new = fit-sound (old .sound) (spliced 11) 1 (lit≤ tt) tt (record { off-right = λ e. omega arith; left-gap = refl; right-gap = refl; size = lit≤ tt })
+-- 01's listing: (4,4), at the angle 0.375, covers the located half-edge 3 alone
+pub lone-edge : (located seedCounts seed about-1-1 (3 * 2 ^ 50) ≡ 3) × (leftChain seedCounts seed corners about-1-1 (at (pos 4) (pos 4)) (3 * 2 ^ 50) 3 ≡ 0)
+    × (rightChain seedCounts seed corners about-1-1 (at (pos 4) (pos 4)) (3 * 2 ^ 50) 3 ≡ 0) × (soundAfter seedCounts seed corners about-1-1 (at (pos 4) (pos 4)) (3 * 2 ^ 50) 3 ≡ true)
+unfolding seed located holds leftChain rightChain coversLeft coversRight soundAfter anglesAfter boundaryLength period-below first-below walk rev orient2d factor length2 isSound merged mergedBefore allDiffer member countAround countBefore wraps wide gap
+lone-edge = (refl, refl, refl, refl)
 
-tables : Inserted right angle edge (row (1 ∷ 3 ∷ 0 ∷ 2 ∷ [])) (row (3 ∷ 9 ∷ 14 ∷ 11 ∷ [])) (row (0 ∷ 4 ∷ 3 ∷ 5 ∷ [])) 2 2 3 1 4 5 11 9
-tables = record { edge-rest = each; angle-rest = each'; right-rest = step; right-last = end; v-edge = refl; v-angle = refl; v-right = refl; gone = λ e. absurd (omega arith); s-edge = λ n. refl; s-angle = λ n. refl; s-right = λ n. refl }
-  where
-    each : (j : ℕ) → j < 2 → row (0 ∷ 4 ∷ 3 ∷ 5 ∷ []) (iter j right 2) ≡ edge (iter j right 2)
-    each zero l = refl
-    each (suc zero) l = refl
-    each (suc (suc j)) l = absurd (omega arith)
+-- (9,-1), at the angle 0.55, covers the half-edge 1 too, which comes after 3
+pub two-edges : (located seedCounts seed about-1-1 4953959590107546 ≡ 3) × (leftChain seedCounts seed corners about-1-1 (at (pos 9) (negsuc 0)) 4953959590107546 3 ≡ 0)
+    × (rightChain seedCounts seed corners about-1-1 (at (pos 9) (negsuc 0)) 4953959590107546 3 ≡ 1) × (soundAfter seedCounts seed corners about-1-1 (at (pos 9) (negsuc 0)) 4953959590107546 3 ≡ true)
+unfolding seed located holds leftChain rightChain coversLeft coversRight soundAfter anglesAfter boundaryLength period-below first-below walk rev orient2d factor length2 isSound merged mergedBefore allDiffer member countAround countBefore wraps wide gap
+two-edges = (refl, refl, refl, refl)
 
-    each' : (j : ℕ) → j < 2 → row (3 ∷ 9 ∷ 14 ∷ 11 ∷ []) (iter j right 2) ≡ angle (iter j right 2)
-    each' zero l = refl
-    each' (suc zero) l = refl
-    each' (suc (suc j)) l = absurd (omega arith)
+-- Fate 4: seed (0,0) (0,-1) (1,1), centre (1,-1), point (-2,-1), at the angle 1.0 of vertex 1. The seed's ring is strict, with a gap of exactly 3/4; of the boundary after, two angles remain.
+abbrev far-corners : ℕ → Point
+far-corners = points (at (pos 0) (pos 0) ∷ at (pos 0) (negsuc 0) ∷ at (pos 1) (pos 1) ∷ [])
 
-    step : (j : ℕ) → suc j < 2 → row (1 ∷ 3 ∷ 0 ∷ 2 ∷ []) (iter j right 2) ≡ right (iter j right 2)
-    step zero l = refl
-    step (suc j) l = absurd (omega arith)
+abbrev far-angles : ℕ → ℕ
+far-angles = row (2 ^ 50 ∷ 2 ^ 53 ∷ 2 ^ 51 ∷ [])
 
-    end : (j : ℕ) → suc j ≡ 2 → row (1 ∷ 3 ∷ 0 ∷ 2 ∷ []) (iter j right 2) ≡ 1
-    end zero e = absurd (omega arith)
-    end (suc zero) e = refl
-    end (suc (suc j)) e = absurd (omega arith)
-
-pub ring-11 : Ring 16 next' (α' 11) (row (1 ∷ 3 ∷ 0 ∷ 2 ∷ [])) (row (3 ∷ 9 ∷ 14 ∷ 11 ∷ [])) (row (0 ∷ 4 ∷ 3 ∷ 5 ∷ [])) 4 4 1
-unfolding walk tally holds proper wraps gap wide
-ring-11 = inserted old (spliced 11) 1 (lit≤ tt) tt new refl tables
-
--- at 9, the left node's angle: node 1 goes, and the new node 3 takes its place
-new-9 : Sound 16 next' (α' 9) 4 4
-unfolding walk tally holds proper wraps gap wide
-new-9 = fit-sound (old .sound) (spliced 9) 1 (lit≤ tt) tt (record { off-right = λ e. omega arith; left-gap = refl; right-gap = refl; size = lit≤ tt })
-
-tables-9 : Inserted right angle edge (row (3 ∷ 2 ∷ 0 ∷ 2 ∷ [])) (row (3 ∷ 9 ∷ 14 ∷ 9 ∷ [])) (row (0 ∷ 2 ∷ 3 ∷ 5 ∷ [])) 2 2 3 3 4 5 9 9
-tables-9 = record { edge-rest = each; angle-rest = each'; right-rest = step; right-last = end; v-edge = refl; v-angle = refl; v-right = refl; gone = λ e. refl; s-edge = λ n. absurd (n refl); s-angle = λ n. absurd (n refl); s-right = λ n. absurd (n refl) }
-  where
-    each : (j : ℕ) → j < 2 → row (0 ∷ 2 ∷ 3 ∷ 5 ∷ []) (iter j right 2) ≡ edge (iter j right 2)
-    each zero l = refl
-    each (suc zero) l = refl
-    each (suc (suc j)) l = absurd (omega arith)
-
-    each' : (j : ℕ) → j < 2 → row (3 ∷ 9 ∷ 14 ∷ 9 ∷ []) (iter j right 2) ≡ angle (iter j right 2)
-    each' zero l = refl
-    each' (suc zero) l = refl
-    each' (suc (suc j)) l = absurd (omega arith)
-
-    step : (j : ℕ) → suc j < 2 → row (3 ∷ 2 ∷ 0 ∷ 2 ∷ []) (iter j right 2) ≡ right (iter j right 2)
-    step zero l = refl
-    step (suc j) l = absurd (omega arith)
-
-    end : (j : ℕ) → suc j ≡ 2 → row (3 ∷ 2 ∷ 0 ∷ 2 ∷ []) (iter j right 2) ≡ 3
-    end zero e = absurd (omega arith)
-    end (suc zero) e = refl
-    end (suc (suc j)) e = absurd (omega arith)
-
-pub ring-9 : Ring 16 next' (α' 9) (row (3 ∷ 2 ∷ 0 ∷ 2 ∷ [])) (row (3 ∷ 9 ∷ 14 ∷ 9 ∷ [])) (row (0 ∷ 2 ∷ 3 ∷ 5 ∷ [])) 4 4 3
-unfolding walk tally holds proper wraps gap wide
-ring-9 = inserted old (spliced 9) 1 (lit≤ tt) tt new-9 refl tables-9
-
--- with 8 buckets of 2 places, the whole hull
-abbrev left : ℕ → ℕ
-left = row (2 ∷ 0 ∷ 1 ∷ [])
-
-abbrev bucket : ℕ → ℕ
-bucket = row (2 ∷ 2 ∷ 0 ∷ 0 ∷ 0 ∷ 1 ∷ 1 ∷ 2 ∷ [])
-
-filled : Bucketed right angle bucket 8 2 1 3
-unfolding holds
-filled zero l = ((1, lit≤ tt, refl), tt)
-filled (suc zero) l = ((1, lit≤ tt, refl), tt)
-filled (suc (suc zero)) l = ((2, lit≤ tt, refl), tt)
-filled (suc (suc (suc zero))) l = ((2, lit≤ tt, refl), tt)
-filled (suc (suc (suc (suc zero)))) l = ((2, lit≤ tt, refl), tt)
-filled (suc (suc (suc (suc (suc zero))))) l = ((0, lit≤ tt, refl), tt)
-filled (suc (suc (suc (suc (suc (suc zero)))))) l = ((0, lit≤ tt, refl), tt)
-filled (suc (suc (suc (suc (suc (suc (suc zero))))))) l = ((1, lit≤ tt, refl), tt)
-filled (suc (suc (suc (suc (suc (suc (suc (suc i)))))))) l = absurd (omega arith)
-
-pub hull : Hull 16 next α left right angle edge bucket 1 4 1 8 2
-unfolding walk tally proper
-hull = record { ring = old; links = linked; low = low; sized = record { eight = lit≤ tt; room = lit≤ tt; all = refl }; buckets = filled }
-  where
-    linked : (i : ℕ) → i < 3 → left (right (iter i right 1)) ≡ iter i right 1
-    linked zero l = refl
-    linked (suc zero) l = refl
-    linked (suc (suc zero)) l = refl
-    linked (suc (suc (suc i))) l = absurd (omega arith)
-
-    low : (k : ℕ) → k < 4 → α (iter k next 1) ≤ 16
-    low zero l = lit≤ tt
-    low (suc zero) l = lit≤ tt
-    low (suc (suc zero)) l = lit≤ tt
-    low (suc (suc (suc zero))) l = lit≤ tt
-    low (suc (suc (suc (suc k)))) l = absurd (omega arith)
+pub fate-4 : (isStrictRing seedCounts seed far-angles ≡ true) × (located seedCounts seed far-angles (2 ^ 53) ≡ 1)
+    × (leftChain seedCounts seed far-corners far-angles (at (negsuc 1) (negsuc 0)) (2 ^ 53) 1 ≡ 0) × (rightChain seedCounts seed far-corners far-angles (at (negsuc 1) (negsuc 0)) (2 ^ 53) 1 ≡ 1)
+    × (anglesAfter seedCounts seed far-angles (2 ^ 53) 1 2 ≡ 2 ^ 53 ∷ 2 ^ 53 ∷ 2 ^ 51 ∷ []) × (soundAfter seedCounts seed far-corners far-angles (at (negsuc 1) (negsuc 0)) (2 ^ 53) 1 ≡ false)
+unfolding seed located holds boundaryAngles boundaryEdges isStrictRing isStrict leftChain rightChain coversLeft coversRight soundAfter anglesAfter boundaryLength period-below first-below walk rev orient2d factor length2 isSound merged mergedBefore allDiffer member countAround countBefore wraps wide gap
+fate-4 = (refl, refl, refl, refl, refl, refl)

@@ -234,7 +234,7 @@ module _ {N : ℕ} {next α right angle edge next' α' right' angle' edge' : ℕ
       go (yes z) = ap angle' (I .gone z) ∙ I .v-angle ∙ sym z
       go (no z) = I .s-angle z
 
-  -- a node of the rest keeps its arc
+  -- a node of the rest keeps its segment
   rest-arc : (φ : ℕ → ℕ → Bool) (d : ℕ) → d < nodes next α n r → atEnds φ right' angle' (iter d right t) ≡ atEnds φ right angle (iter d right t)
   rest-arc φ d u = ap₂ φ (I .angle-rest d u) (go (decLt (suc d) (nodes next α n r)))
     where

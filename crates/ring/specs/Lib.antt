@@ -13,5 +13,12 @@ pub mod Stores
 pub mod Free
 pub mod Grow
 pub mod Hull
-pub mod Step
+pub mod WholeInsert
+pub mod Boundary
+pub mod Covered
+pub mod Chain
+pub mod ChainLaws
+pub mod ChainMesh
+pub mod Located
+pub mod HullExample
 pub mod Examples

@@ -113,7 +113,7 @@ module _ {N : ℕ} {f α : ℕ → ℕ} {s n k x y : ℕ} (S : Sound N f α s n)
   level z zero l = refl
   level z (suc j) l = v-past (suc j) (omega arith) l
 
-  -- some edge falls, and the angles of its ends cannot both be close above y
+  -- some edge wraps, and the angles of its ends cannot both be close above y
   close : 4 * (x - y) ≤ N → v 0 ≡ 0
   unfolding v
   close c = go (decLt 0 k) (ℕ-discrete (v 0) 0)
@@ -191,7 +191,7 @@ module _ {N : ℕ} {f α : ℕ → ℕ} {s n k : ℕ} (S : Sound N f α s n) (he
       go (yes p) (no u) = let h = K .below in omega arith
 
 -- the count over the nodes is the count over the boundary: of the proper edges, whose first angles are the boundary's angles with equal neighbours taken once
-pub angleIn : ℕ → ℕ → ℕ → ℕ → Bool
+unfoldable pub angleIn : ℕ → ℕ → ℕ → ℕ → Bool
 angleIn y x a b = proper a b && between y x a
 
 pub count-boundary : {N : ℕ} {next α right angle edge : ℕ → ℕ} {e h s : ℕ} (R : Ring N next α right angle edge e h s) (y x : ℕ)

@@ -188,7 +188,7 @@ sound← N l S =
 
 -- ---- the angles of a walk
 module _ (next α : ℕ → ℕ) where
-  angles-head : (h e : ℕ) → headOr (map α (walk h next e)) (α (iter h next e)) ≡ α e
+  pub angles-head : (h e : ℕ) → headOr (map α (walk h next e)) (α (iter h next e)) ≡ α e
   unfolding walk
   angles-head zero e = refl
   angles-head (suc h) e = refl

@@ -1,5 +1,5 @@
 -- NODES: a list of nodes, linked by `right`, stands for a round of boundary edges, linked by `next`: one node for each proper edge, in the same order. Node i has the edge `edge i`
--- and the angle `angle i`. A node's arc goes from its angle to its right node's. The nodes' counts are then the edges' counts, so the one ring is sound where the other is. Assumes nothing.
+-- and the angle `angle i`. A node's segment goes from its angle to its right node's. The nodes' counts are then the edges' counts, so the one ring is sound where the other is. Assumes nothing.
 use mathlib.Core.Path.{_≡_, refl, sym, _∙_, ap, ap₂, subst}
 use mathlib.Core.Logic.{_≢_, _⊎_, inl, inr}
 use mathlib.Core.Bool.{Bool, true, false, not}
@@ -70,7 +70,7 @@ module _ (next α right angle edge : ℕ → ℕ) where
       go true A m i M d = sym (m tt .1)
       go false A m i M d = A .1 tt ∙ i s M (omega arith)
 
-  -- COUNTS: a test that no arc from a to a passes is passed by as many nodes as edges
+  -- COUNTS: a test that no segment from a to a passes is passed by as many nodes as edges
   pub match-tally : (φ : ℕ → ℕ → Bool) → ((a : ℕ) → bit (φ a a) ≡ 0) → (h e s : ℕ) → Match next α right angle edge h e s → α (iter h next e) ≡ angle (iter (nodes next α h e) right s)
       → tally (atEnds φ next α) (walk h next e) ≡ tally (atEnds φ right angle) (walk (nodes next α h e) right s)
   unfolding Match walk tally

@@ -1,5 +1,5 @@
--- Arcs of a circle of N places: the arc from a to b holds the places from a up to and without b, going up, and past N back at 0 where b is less than a.
--- What an arc holds is told by three order tests, and that is an equation of 0s and 1s (`held`), from which all about rings follows by adding up. Assumes nothing.
+-- Segments of a circle of N places: the segment from a to b holds the places from a up to and without b, going up, and past N back at 0 where b is less than a.
+-- What a segment holds is told by three order tests, and that is an equation of 0s and 1s (`held`), from which all about rings follows by adding up. Assumes nothing.
 use mathlib.Core.Path.{_≡_, refl, sym, _∙_, ap, subst}
 use mathlib.Core.Logic.{_≢_, _⊎_, inl, inr}
 use mathlib.Core.Bool.{Bool, true, false, not, cond, _&&_, _||_}
@@ -12,7 +12,7 @@ use Rattle.ring.specs.Ring.{proper, wraps}
 use Rattle.segment.specs.Arc.{holds, gap, wide}
 use Rattle.sums.specs.Bit.{Tells, bit, bit-no, eq?, le?, lt?, sure}
 
--- holds = falls + (a ≤ x) - (b ≤ x)
+-- holds = wraps + (a ≤ x) - (b ≤ x)
 pub held : (x a b : ℕ) → bit (holds x a b) + bit (leb b x) ≡ bit (wraps a b) + bit (leb a x)
 unfolding holds wraps
 held x a b = go (ltb a b) (ltb b a) (leb a x) (leb b x) (ltb x b) (lt? a b) (lt? b a) (le? a x) (le? b x) (lt? x b)
@@ -36,7 +36,7 @@ held x a b = go (ltb a b) (ltb b a) (leb a x) (leb b x) (ltb x b) (lt? a b) (lt?
     go false false false true false A B C D E = absurd (let p = A .1 tt in let q = B .1 tt in let s = C .1 tt in let r = D .0 tt in omega arith)
     go false false false false true A B C D E = refl
 
--- ---- what an arc holds, as facts
+-- ---- what a segment holds, as facts
 pub data Holds (x a b : ℕ) : Type 0 where
   plain : a < b → a ≤ x → x < b → Holds x a b
   late : b < a → a ≤ x → Holds x a b
@@ -110,7 +110,7 @@ pub wraps← : (a b : ℕ) → b < a → T (wraps a b)
 unfolding wraps
 wraps← a b = lt→ltb b a
 
--- an arc that holds something is proper, and a proper one holds its first
+-- a segment that holds something is proper, and a proper one holds its first
 pub holds-proper : (x a b : ℕ) → T (holds x a b) → T (proper a b)
 holds-proper x a b h = proper← a b (go (holds→ x a b h))
   where
@@ -150,7 +150,7 @@ le-proper q b = go (leb b q) (eqb q b) (ltb b q) (le? b q) (eq? q b) (lt? b q)
     go false false true A B C = absurd (let p = A .1 tt in let r = C .0 tt in omega arith)
     go false false false A B C = refl
 
--- an arc from a to a passes none of the tests
+-- a segment from a to a passes none of the tests
 pub null-holds : (x a : ℕ) → bit (holds x a a) ≡ 0
 null-holds x a = bit-no (holds x a a) (λ t. proper→ a a (holds-proper x a a t) refl)
 

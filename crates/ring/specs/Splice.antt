@@ -67,7 +67,7 @@ module _ {f α f' α' : ℕ → ℕ} {s m n l p q r : ℕ} (P : Spliced f α f' 
       tally-add (atEnds φ f α) f m n s ∙ ap (λ (t : ℕ). tally (atEnds φ f α) (walk m f s) + tally (atEnds φ f α) (walk n f t)) (P .right) in
       omega arith
 
--- no edge of a walk that comes back to the same angle without falling is proper
+-- no edge of a walk that comes back to the same angle without wrapping is proper
 pub flat : (f α : ℕ → ℕ) (n r : ℕ) → α (iter n f r) ≡ α r → tally (atEnds wraps f α) (walk n f r) ≡ 0 → tally (atEnds proper f α) (walk n f r) ≡ 0
 flat f α n r e z = go (decLt 0 (tally (atEnds proper f α) (walk n f r)))
   where

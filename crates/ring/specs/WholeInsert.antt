@@ -87,8 +87,8 @@ module _ {N : ℕ} {next α left right angle edge bucket next' α' left' right' 
   count = size-new (H .ring) P k k-in k-holds Z t-is (stores-inserted bef S angle-s)
 
   -- THE STACK
-  pub step-free : Free (On right' (nodes next' α' (suc (suc n)) l) s') freed₂ f₂ len₁
-  step-free = go (ℕ-discrete (α e) q)
+  pub insert-keeps-freed : Free (On right' (nodes next' α' (suc (suc n)) l) s') freed₂ f₂ len₁
+  insert-keeps-freed = go (ℕ-discrete (α e) q)
     where
       K : ℕ
       K = nodes next α n r
@@ -107,8 +107,8 @@ module _ {N : ℕ} {next α left right angle edge bucket next' α' left' right' 
           subst (λ (i : ℕ). Free (On right' i s') freed₂ f₂ len₁) d (subst (λ (i : ℕ). Free (On right' (suc (suc K)) s') freed₂ i len₁) (sym (M .same z)) (free-same (M .stack) (free-stays bef S angle-s z (taken free₁ X))))
 
   -- no number is lost
-  pub step-total : nodes next α (m + n) e + f ≡ len → nodes next' α' (suc (suc n)) l + f₂ ≡ len₁
-  step-total g = go (ℕ-discrete (α e) q) (taken-sum X)
+  pub insert-keeps-total : nodes next α (m + n) e + f ≡ len → nodes next' α' (suc (suc n)) l + f₂ ≡ len₁
+  insert-keeps-total g = go (ℕ-discrete (α e) q) (taken-sum X)
     where
       go : Dec (α e ≡ q) → ((f + (nodes next α m e - 1) ≡ suc f₁) × (len₁ ≡ len)) ⊎ ((f + (nodes next α m e - 1) ≡ 0) × (f₁ ≡ 0) × (len₁ ≡ suc len)) → nodes next' α' (suc (suc n)) l + f₂ ≡ len₁
       go (yes z) (inl y) = let b = ap (λ (x : ℕ). bit (proper (α e) x)) (sym z) ∙ null-proper (α e) in let c = count in let d = size in let h = some in let i = M .more z .0 in omega arith
@@ -117,6 +117,6 @@ module _ {N : ℕ} {next α left right angle edge bucket next' α' left' right' 
       go (no z) (inr y) = let b = bit-yes (proper (α e) q) (proper← (α e) q z) in let c = count in let d = size in let h = some in let i = M .same z in omega arith
 
   -- THE HULL
-  pub step-hull : {bucket₁ bucket' : ℕ → ℕ} → ((i : ℕ) → i < B → bucket₁ i ≡ cond (within i (ceiling w (α e) % B) (ceiling w q % B)) s' (bucket i))
+  pub insert-keeps-hull : {bucket₁ bucket' : ℕ → ℕ} → ((i : ℕ) → i < B → bucket₁ i ≡ cond (within i (ceiling w (α e) % B) (ceiling w q % B)) s' (bucket i))
       → ((i : ℕ) → i < B → bucket' i ≡ cond (within i (ceiling w q % B) (ceiling w (α r) % B)) v (bucket₁ i)) → Hull N next' α' left' right' angle' edge' bucket' l (suc (suc n)) s' B w
-  step-hull {bucket₁} {bucket'} a b = hull-insert H P k k-in k-holds F q-low t-is placed S (rebucketed {bucket₁ = bucket₁} a b)
+  insert-keeps-hull {bucket₁} {bucket'} a b = hull-insert H P k k-in k-holds F q-low t-is placed S (rebucketed {bucket₁ = bucket₁} a b)
