@@ -4,3 +4,5 @@ pub mod Vector
 pub mod Wide
 pub mod Range
 pub mod Side
+pub mod Circle
+pub mod Samples

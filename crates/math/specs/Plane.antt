@@ -1,15 +1,18 @@
 -- Laws of the plane: how `orient2d`, `incircle` and `height` behave under a change of order and under a flip. Polynomial identities, by the ring solver, and signs by certificates.
 -- Assumes nothing.
-use mathlib.Core.Path.{_≡_, refl, subst}
+use mathlib.Core.Path.{_≡_, refl, sym, _∙_, ap, subst}
 use mathlib.Core.List.{List, [], _∷_}
 use mathlib.Core.Logic.{⊎-elim}
-use Prim.Native.Nat.{ℕ}
-use lib.IntN.{ℤ, pos, negℤ, _+ℤ_, _-ℤ_, _*ℤ_}
-use lib.Signed.{ltZ, _<ℤ_, _≤ℤ_}
+use mathlib.Core.Bool.{Bool, true, false}
+use Prim.Native.Nat.{ℕ, zero, suc, zero-le, suc-le-suc}
+use borrow.Author.Tests.{lt-ltb, le-ltb}
+use lib.Dec.{T}
+use lib.IntN.{ℤ, pos, negsuc, negℤ, _+ℤ_, _-ℤ_, _*ℤ_}
+use lib.Signed.{ltZ, leZ, _<ℤ_, _≤ℤ_, <ℤ-irrefl}
 use Rattle.algebra.specs.Ring.{E, var, num, _⊕_, _⊖_, _⊗_, ⊝_, ⟦_⟧, norm, ring}
-use Rattle.algebra.specs.Sign.{Pos, NN, _*⁺_, _*°_, _+⁺_, _+°_, weak, sq, pos-in, nn-in, cases, refute}
+use Rattle.algebra.specs.Sign.{Pos, NN, _*⁺_, _*°_, _+⁺_, _+°_, weak, sq, pos-in, lt-by, cases, refute, eq-in, zero°}
 use Rattle.math.specs.declared.Point.{Point}
-use Rattle.math.specs.Determinant.{Ops, Pt, det2, det3, Lift, Orient2d, Incircle, Height, Minus, Dot, ℤ·, pt, orient2d, incircle, height, containedInCircumference}
+use Rattle.math.specs.Determinant.{Ops, Pt, det2, det3, Lift, Orient2d, Incircle, Height, Minus, Dot, ℤ·, pt, orient2d, incircle, height, isOrderedCcw, containedInCircumference}
 
 -- ---- four points as the solver has them: `ring (env a b c d) e₁ e₂ refl` proves an identity of a, b, c and d, which are A, B, C and D in e₁ and e₂
 abbrev pub E· : Ops E
@@ -62,7 +65,6 @@ module _ (a b c : Point) where
   pub orient2d-cross : orient2d a b c ≡ (a .x *ℤ b .y -ℤ a .y *ℤ b .x) +ℤ (b .x *ℤ c .y -ℤ b .y *ℤ c .x) +ℤ (c .x *ℤ a .y -ℤ c .y *ℤ a .x)
   unfolding orient2d
   orient2d-cross =
-      let cross : Pt E → Pt E → E = λ p q. p .x ⊗ q .y ⊖ p .y ⊗ q .x in
       ring (env3 a b c) (Orient2d E· A B C) ((A .x ⊗ B .y ⊖ A .y ⊗ B .x) ⊕ (B .x ⊗ C .y ⊖ B .y ⊗ C .x) ⊕ (C .x ⊗ A .y ⊖ C .y ⊗ A .x)) refl
 
   pub height-next : height a b c ≡ height b c a
@@ -148,3 +150,57 @@ module _ (a b c d : Point) where
 -- the second: the first at b, a, d and c
 pub flip-right : (a b c d : Point) → pos 0 <ℤ orient2d a b c → pos 0 <ℤ orient2d b a d → pos 0 <ℤ incircle a b c d → pos 0 <ℤ orient2d d b c
 flip-right a b c d hS hab hD = flip-left b a d c hab hS (subst (λ (z : ℤ). pos 0 <ℤ z) (incircle-other a b c d) hD)
+
+-- ---- the tests of math.rs
+neg-test : (z : ℤ) → ltZ (negℤ z) (pos 0) ≡ ltZ (pos 0) z
+neg-test (pos zero) = refl
+neg-test (pos (suc n)) = sym (lt-ltb 0 (suc n) (suc-le-suc zero-le))
+neg-test (negsuc n) = le-ltb (suc n) 0 zero-le
+
+-- math.rs: "incircle expects all vertices to be ordered CW for right-handed systems. For consistency, the public interface of this method will expect the points to be ordered ccw." Its test is `incircle(v3, v2, v1, p) < 0`
+pub contained-reversed : (v1 v2 v3 p : Point) → containedInCircumference v1 v2 v3 p ≡ ltZ (incircle v3 v2 v1 p) (pos 0)
+contained-reversed v1 v2 v3 p = sym (ap (λ (z : ℤ). ltZ z (pos 0)) (incircle-reversed v1 v2 v3 p) ∙ neg-test (incircle v1 v2 v3 p))
+
+-- an edge is tested alike from both its sides
+pub contained-other : (a b c d : Point) → containedInCircumference a b c d ≡ containedInCircumference b a d c
+contained-other a b c d = ap (ltZ (pos 0)) (incircle-other a b c d)
+
+-- the three corners may be given from any of them on
+pub contained-next : (a b c d : Point) → containedInCircumference a b c d ≡ containedInCircumference b c a d
+contained-next a b c d = ap (ltZ (pos 0)) (incircle-next a b c d)
+
+-- The hull cases of `legalize_edges_after_removal` of triangulation_ext.rs, `is_ordered_ccw(right, from, to)` and `is_ordered_ccw(left, to, from)`, ask whether the one triangle at the edge turns right or not at all:
+-- with the triangle (to, from, right), or (from, to, left), as a b c, both are `is_ordered_ccw(c, b, a)`, which does not hold where that triangle turns left
+pub hull-legal : (a b c : Point) → pos 0 <ℤ orient2d a b c → isOrderedCcw c b a ≡ false
+hull-legal a b c h = ap (leZ (pos 0)) (orient2d-next c b a ∙ orient2d-swap a b c) ∙ below (orient2d a b c) (h .lt)
+  where
+    below : (z : ℤ) → T (ltZ (pos 0) z) → leZ (pos 0) (negℤ z) ≡ false
+    below (pos zero) t = absurd t
+    below (pos (suc n)) t = refl
+    below (negsuc n) t = absurd t
+
+-- three that turn left have no two equal corners
+pub turns-left-ab : (a b c : Point) → pos 0 <ℤ orient2d a b c → a ≡ b → ⊥
+turns-left-ab a b c h e = <ℤ-irrefl (subst (λ (z : ℤ). pos 0 <ℤ z) (ap (λ (p : Point). orient2d a p c) (sym e) ∙ orient2d-aab a c) h)
+
+pub turns-left-bc : (a b c : Point) → pos 0 <ℤ orient2d a b c → b ≡ c → ⊥
+turns-left-bc a b c h = turns-left-ab b c a (subst (λ (z : ℤ). pos 0 <ℤ z) (orient2d-next a b c) h)
+
+pub turns-left-ca : (a b c : Point) → pos 0 <ℤ orient2d a b c → c ≡ a → ⊥
+turns-left-ca a b c h = turns-left-bc b c a (subst (λ (z : ℤ). pos 0 <ℤ z) (orient2d-next a b c) h)
+
+-- the height of a triangle that turns left is at least 0, so that a height sum can serve as a measure
+pub height-not-negative : (a b c : Point) → pos 0 <ℤ orient2d a b c → pos 0 ≤ℤ height a b c
+unfolding orient2d height
+height-not-negative a b c h =
+    let ρ = env3 a b c in
+    (weak (pos-in ρ (Orient2d E· A B C) h) *° (len A +° len B +° len C)) .is
+  where
+    len : {ρ : List ℤ} (p : Pt E) → NN ρ (Lift E· p)
+    len p = sq (p .x) +° sq (p .y)
+
+-- a flip lowers the height sum where the circle test holds
+pub flip-falls : (a b c d : Point) → pos 0 <ℤ incircle a b c d → (height c a d +ℤ height d b c) <ℤ (height a b c +ℤ height b a d)
+flip-falls a b c d h =
+    let ρ = height a b c ∷ height b a d ∷ height c a d ∷ height d b c ∷ incircle a b c d ∷ [] in
+    lt-by (pos-in ρ (var 4) h +⁺ zero° (eq-in ρ (var 0 ⊕ var 1) (var 2 ⊕ var 3 ⊕ var 4) (flip-height a b c d))) (var 2 ⊕ var 3) (var 0 ⊕ var 1) refl

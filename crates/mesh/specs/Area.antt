@@ -1,14 +1,15 @@
 -- The boundary of a mesh, and the areas and heights of its faces where its vertices have the positions p. Definitions only; their laws are in
 -- `BoundaryLaws`, `CountsLaws`, `AreaCorners`, `AreaLaws`, `LeftLaws` and `HeightLaws`.
-use Prim.Native.Nat.{ℕ, suc, _+_, _-_, _*_, _<_}
+use Prim.Native.Nat.{ℕ, suc, _-_, _*_, _<_}
 use lib.IntN.{ℤ, pos, _-ℤ_, _*ℤ_}
 use lib.Signed.{_<ℤ_}
 use Rattle.math.specs.declared.Point.{Point}
 use Rattle.math.specs.Determinant.{orient2d, incircle, height}
+use Rattle.sums.specs.Half.{rev}
 use Rattle.sums.specs.Iterate.{iter, period-below}
 use Rattle.sums.specs.Sum.{sum}
 use Rattle.mesh.specs.declared.Counts.{Counts}
-use Rattle.mesh.specs.Mesh.{Links}
+use Rattle.mesh.specs.Mesh.{Links, to}
 
 -- how many half-edges the boundary has: the steps of next from face 0's stored edge that first lead back to it
 unfoldable pub boundaryLength : Counts → Links → ℕ
@@ -44,9 +45,10 @@ areaTotal C L p = overFaces orient2d C L p
 abbrev pub heightSum : Counts → Links → (ℕ → Point) → ℤ
 heightSum C L p = overFaces height C L p
 
--- the circle determinant of the edge u: positive where the far vertex of 2u + 1 is strictly inside the circle of the triangle of 2u
-abbrev pub circleAt : Links → (ℕ → Point) → ℕ → ℤ
-circleAt L p u = incircle (p (L .origin (2 * u))) (p (L .origin (2 * u + 1))) (p (L .origin (L .prev (2 * u)))) (p (L .origin (L .prev (2 * u + 1))))
+-- the circle determinant over the half-edge e: positive where the neighbour's far vertex is strictly inside the circle of the triangle of e
+-- 01: "The neighbour's far vertex over a half-edge is the far vertex of its reverse", "A far vertex is the origin of prev".
+unfoldable pub circleAt : Links → (ℕ → Point) → ℕ → ℤ
+circleAt L p e = incircle (p (L .origin e)) (p (to L e)) (p (L .origin (L .prev e))) (p (L .origin (L .prev (rev e))))
 
 -- every inner face turns strictly left
 -- 01, refusal 5: "an inner face doesn't turn strictly left"

@@ -2,15 +2,15 @@
 -- point strictly left of the edge. And what each does to the boundary's length. Assumes nothing.
 use mathlib.Core.Path.{_≡_, refl, sym, _∙_, ap}
 use mathlib.Core.Logic.{_≢_}
-use Prim.Native.Nat.{ℕ, _+_, _*_, _<_}
+use Prim.Native.Nat.{ℕ, _+_, _*_, _/_, _<_}
 use native.Mathlib.Decide.{ℕ-discrete}
 use native.Mathlib.Omega.{arith}
-use lib.IntN.{ℤ, pos}
+use lib.IntN.{ℤ, pos, natAbs}
 use lib.Signed.{_<ℤ_}
 use Rattle.math.specs.declared.Point.{Point}
 use Rattle.math.specs.Determinant.{orient2d, InRange}
 use Rattle.math.specs.Plane.{orient2d-next}
-use Rattle.sums.specs.Half.{rev-even, rev-below}
+use Rattle.sums.specs.Half.{rev, rev-rev, rev-even, rev-below}
 use Rattle.mesh.specs.declared.Counts.{Counts}
 use Rattle.mesh.specs.Mesh.{Links, In, to}
 use Rattle.mesh.specs.Operations.{flipCw, createSingleFaceBetweenEdgeAndNext, createNewFaceAdjacentToEdge, withFace, withVertex}
@@ -18,10 +18,10 @@ use Rattle.mesh.specs.Wf.{Wf}
 use Rattle.mesh.specs.Flip.{Flippable, flip-keeps}
 use Rattle.mesh.specs.SingleFace.{single-face-keeps, single-face-frame}
 use Rattle.mesh.specs.NewFace.{new-face-keeps, new-face-frame}
-use Rattle.mesh.specs.Area.{boundaryLength, circleAt}
+use Rattle.mesh.specs.Area.{boundaryLength, circleAt, heightSum}
 use Rattle.mesh.specs.CountsLaws.{count-edges}
 use Rattle.mesh.specs.LeftLaws.{faces-differ, corner-four}
-use Rattle.mesh.specs.HeightLaws.{FaceAdded, added-left, flip-keeps-left}
+use Rattle.mesh.specs.HeightLaws.{FaceAdded, added-left, even-half, circle-half, flip-falls, flip-keeps-left}
 use Rattle.mesh.specs.Good.{Good}
 
 -- ---- the flip
@@ -34,8 +34,22 @@ flippable {L = L} G {u} l i j = record {
   differ = λ q. faces-differ (G .wf) (G .turning) {e = 2 * u} (omega arith) i (q ∙ ap (L .face) (sym (rev-even u)));
 }
 
-pub flip-good : {C : Counts} {L : Links} {p : ℕ → Point} → Good C L p → {u : ℕ} → Flippable C L u → pos 0 <ℤ circleAt L p u → Good C (flipCw L u) p
+pub flip-good : {C : Counts} {L : Links} {p : ℕ → Point} → Good C L p → {u : ℕ} → Flippable C L u → pos 0 <ℤ circleAt L p (2 * u) → Good C (flipCw L u) p
 flip-good {p = p} G {u} B h = record { wf = flip-keeps (G .wf) u B; turning = flip-keeps-left (G .wf) B p (G .turning) h; range = G .range }
+
+-- the same by a half-edge e of the edge, e / 2
+pub flippable-at : {C : Counts} {L : Links} {p : ℕ → Point} → Good C L p → {e : ℕ} → In C e → 0 < L .face e → 0 < L .face (rev e) → Flippable C L (e / 2)
+flippable-at {L = L} G {e} l i j = flippable G (omega arith) (even-half (λ x. 0 < L .face x) e i j)
+    (rw (rev-even (e / 2)) at (even-half (λ x. 0 < L .face (rev x)) e j (rw (rev-rev e) i)))
+
+pub flip-good-at : {C : Counts} {L : Links} {p : ℕ → Point} → Good C L p → {e : ℕ} → In C e → 0 < L .face e → 0 < L .face (rev e) → pos 0 <ℤ circleAt L p e
+    → Good C (flipCw L (e / 2)) p
+flip-good-at {L = L} {p = p} G {e} l i j h = flip-good G (flippable-at G l i j) (rw (circle-half L p e) h)
+
+-- each such flip brings the height sum's absolute value down
+pub flip-good-falls : {C : Counts} {L : Links} {p : ℕ → Point} → Good C L p → {u : ℕ} → Flippable C L u → pos 0 <ℤ circleAt L p (2 * u)
+    → natAbs (heightSum C (flipCw L u) p) < natAbs (heightSum C L p)
+flip-good-falls {p = p} G B h = flip-falls (G .wf) B p (flip-good G B h .turning) h
 
 pub flip-length : {C : Counts} {L : Links} → Wf C L → {u : ℕ} → Flippable C L u → boundaryLength C (flipCw L u) ≡ boundaryLength C L
 flip-length W {u} B = let a = count-edges W in let b = count-edges (flip-keeps W u B) in omega arith

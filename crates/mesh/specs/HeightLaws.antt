@@ -1,8 +1,9 @@
 -- What the operations do to a sum over the inner faces, to left turning, to the areas' total and to the height sum. Each comes from the corners after the
 -- operation: the faces that have new ones, and that the others keep theirs. Assumes nothing.
 use mathlib.Core.Path.{_≡_, refl, sym, _∙_, ap, ap₂, subst}
+use mathlib.Core.Logic.{_≢_}
 use mathlib.Core.List.{[], _∷_}
-use Prim.Native.Nat.{ℕ, suc, _+_, _-_, _*_, _<_}
+use Prim.Native.Nat.{ℕ, suc, _+_, _-_, _*_, _/_, _<_}
 use native.Mathlib.Decide.{ℕ-discrete}
 use native.Mathlib.Omega.{arith}
 use lib.IntN.{ℤ, pos, _+ℤ_, _-ℤ_, _*ℤ_, natAbs}
@@ -11,9 +12,9 @@ use Rattle.algebra.specs.Order.{abs-falls, add-0≤, lt-le, mul-0≤, sq-0≤}
 use Rattle.algebra.specs.Ring.{_⊕_, _⊖_, v0, v1, v2, v3, v4, v5, v6}
 use Rattle.algebra.specs.Sign.{eq-in, eq-by, _+⁰_}
 use Rattle.math.specs.declared.Point.{Point}
-use Rattle.math.specs.Determinant.{orient2d, height}
-use Rattle.math.specs.Plane.{orient2d-next, height-next, flip-area, flip-height, flip-left, flip-right}
-use Rattle.sums.specs.Half.{rev-even, rev-odd}
+use Rattle.math.specs.Determinant.{orient2d, incircle, height}
+use Rattle.math.specs.Plane.{orient2d-next, incircle-other, height-next, flip-area, flip-height, flip-left, flip-right}
+use Rattle.sums.specs.Half.{rev, rev-rev, rev-even, rev-odd}
 use Rattle.sums.specs.Sum.{sum, sum-ext, sum-change-two, sum-nonneg}
 use Rattle.mesh.specs.declared.Counts.{Counts}
 use Rattle.mesh.specs.Mesh.{Links, In}
@@ -36,6 +37,28 @@ pub heights-nonneg : {C : Counts} {L : Links} {p : ℕ → Point} → LeftTurnin
 unfolding overFaces
 heights-nonneg {C} {L} {p} T = sum-nonneg (C .faces - 1) (λ f. atCorners height L p (L .adjacent (suc f)))
     (λ f l. height-nonneg _ _ _ (T .left (omega arith) (omega arith)))
+
+-- ---- the circle determinant is the same over both halves of an edge
+pub circle-rev : (L : Links) (p : ℕ → Point) (e : ℕ) → circleAt L p (rev e) ≡ circleAt L p e
+unfolding circleAt
+circle-rev L p e =
+    ap (λ (x : ℕ). incircle (p (L .origin (rev e))) (p (L .origin x)) (p (L .origin (L .prev (rev e)))) (p (L .origin (L .prev x)))) (rev-rev e)
+    ∙ sym (incircle-other (p (L .origin e)) (p (L .origin (rev e))) (p (L .origin (L .prev e))) (p (L .origin (L .prev (rev e)))))
+
+-- the even half of the edge of e is e or its reverse
+pub even-half : (P : ℕ → Type 0) (e : ℕ) → P e → P (rev e) → P (2 * (e / 2))
+unfolding rev
+even-half P e x y = go (ℕ-discrete (2 * (e / 2)) e)
+  where
+    odd : 2 * (e / 2) ≢ e → 2 * (e / 2) ≡ rev e
+    odd n = omega arith
+
+    go : Dec (2 * (e / 2) ≡ e) → P (2 * (e / 2))
+    go (yes q) = rw q x
+    go (no n) = rw (odd n) y
+
+pub circle-half : (L : Links) (p : ℕ → Point) (e : ℕ) → circleAt L p (2 * (e / 2)) ≡ circleAt L p e
+circle-half L p e = even-half (λ x. circleAt L p x ≡ circleAt L p e) e refl (circle-rev L p e)
 
 -- ---- a new face
 -- Face number `faces` is new, with the corners a, b and c; the other inner faces keep theirs, and the vertices their positions.
@@ -134,18 +157,22 @@ module _ {C : Counts} {L : Links} (W : Wf C L) {u : ℕ} (B : Flippable C L u) (
       let ρ = areaTotal C (flipCw L u) p ∷ areaTotal C L p ∷ orient2d d b c ∷ orient2d a b c ∷ orient2d c a d ∷ orient2d b a d ∷ [] in
       eq-by (eq-in ρ v0 (v1 ⊕ ((v2 ⊖ v3) ⊕ (v4 ⊖ v5))) (flip-over orient2d orient2d-next) +⁰ eq-in ρ (v4 ⊕ v2) (v3 ⊕ v5) (sym (flip-area a b c d))) v0 v1 refl
 
+  circle : circleAt L p (2 * u) ≡ incircle a b c d
+  unfolding circleAt
+  circle = ap (λ (x : ℕ). incircle a (p (L .origin x)) c (p (L .origin (L .prev x)))) (rev-even u)
+
   -- 01: "Each flip lowers the height sum by exactly the circle determinant."
-  pub flip-heights : heightSum C L p ≡ heightSum C (flipCw L u) p +ℤ circleAt L p u
-  flip-heights =
-      let ρ = heightSum C (flipCw L u) p ∷ heightSum C L p ∷ height d b c ∷ height a b c ∷ height c a d ∷ height b a d ∷ circleAt L p u ∷ [] in
-      eq-by (eq-in ρ (v1 ⊕ ((v2 ⊖ v3) ⊕ (v4 ⊖ v5))) v0 (sym (flip-over height height-next)) +⁰ eq-in ρ (v3 ⊕ v5) (v4 ⊕ v2 ⊕ v6) (flip-height a b c d)) v1 (v0 ⊕ v6) refl
+  pub flip-heights : heightSum C L p ≡ heightSum C (flipCw L u) p +ℤ circleAt L p (2 * u)
+  flip-heights = rw circle (
+      let ρ = heightSum C (flipCw L u) p ∷ heightSum C L p ∷ height d b c ∷ height a b c ∷ height c a d ∷ height b a d ∷ incircle a b c d ∷ [] in
+      eq-by (eq-in ρ (v1 ⊕ ((v2 ⊖ v3) ⊕ (v4 ⊖ v5))) v0 (sym (flip-over height height-next)) +⁰ eq-in ρ (v3 ⊕ v5) (v4 ⊕ v2 ⊕ v6) (flip-height a b c d)) v1 (v0 ⊕ v6) refl)
 
   -- so its absolute value is a measure of what flips are left, while the faces turn left
-  pub flip-falls : LeftTurning C (flipCw L u) p → pos 0 <ℤ circleAt L p u → natAbs (heightSum C (flipCw L u) p) < natAbs (heightSum C L p)
+  pub flip-falls : LeftTurning C (flipCw L u) p → pos 0 <ℤ circleAt L p (2 * u) → natAbs (heightSum C (flipCw L u) p) < natAbs (heightSum C L p)
   flip-falls T h = abs-falls flip-heights (heights-nonneg T) h
 
   -- both new triangles turn left, where the far vertex is strictly inside the circle
-  pub flip-keeps-left : LeftTurning C L p → pos 0 <ℤ circleAt L p u → LeftTurning C (flipCw L u) p
+  pub flip-keeps-left : LeftTurning C L p → pos 0 <ℤ circleAt L p (2 * u) → LeftTurning C (flipCw L u) p
   flip-keeps-left T h = record { left = λ {f} i l. go i l (ℕ-discrete f (L .face (2 * u))) (ℕ-discrete f (L .face (2 * u + 1))) }
     where
       S : pos 0 <ℤ orient2d a b c
@@ -154,7 +181,10 @@ module _ {C : Counts} {L : Links} (W : Wf C L) {u : ℕ} (B : Flippable C L u) (
       R : pos 0 <ℤ orient2d b a d
       R = subst (λ (z : ℤ). pos 0 <ℤ z) (at-t orient2d orient2d-next) (T .left (B .inner-right) (W .ranges .face< t<))
 
+      D : pos 0 <ℤ incircle a b c d
+      D = subst (λ (z : ℤ). pos 0 <ℤ z) circle h
+
       go : {f : ℕ} → 0 < f → f < C .faces → Dec (f ≡ L .face (2 * u)) → Dec (f ≡ L .face (2 * u + 1)) → pos 0 <ℤ atCorners orient2d (flipCw L u) p (flipCw L u .adjacent f)
-      go i l (yes q) k = rw q (subst (λ (z : ℤ). pos 0 <ℤ z) (sym (after-e orient2d orient2d-next)) (flip-right a b c d S R h))
-      go i l (no n) (yes q) = rw q (subst (λ (z : ℤ). pos 0 <ℤ z) (sym (after-t orient2d orient2d-next)) (flip-left a b c d S R h))
+      go i l (yes q) k = rw q (subst (λ (z : ℤ). pos 0 <ℤ z) (sym (after-e orient2d orient2d-next)) (flip-right a b c d S R D))
+      go i l (no n) (yes q) = rw q (subst (λ (z : ℤ). pos 0 <ℤ z) (sym (after-t orient2d orient2d-next)) (flip-left a b c d S R D))
       go i l (no n) (no m) = subst (λ (z : ℤ). pos 0 <ℤ z) (sym (kept-at W orient2d p (λ v _. refl) i l (frame .others l n m))) (T .left i l)

@@ -5,14 +5,15 @@ use mathlib.Core.Logic.{_≢_}
 use mathlib.Core.List.{[], _∷_}
 use Prim.Native.Nat.{ℕ, suc, _-_, _<_, _≤_}
 use native.Mathlib.Omega.{arith}
-use lib.IntN.{ℤ, pos}
+use lib.IntN.{ℤ, pos, negℤ}
 use lib.Signed.{_<ℤ_}
+use Rattle.algebra.specs.Order.{neg-<0}
 use Rattle.algebra.specs.Ring.{⊝_, v0}
 use Rattle.algebra.specs.Sign.{pos-in, weak, _+⁺_, refute}
 use Rattle.math.specs.declared.Point.{Point}
 use Rattle.math.specs.Determinant.{orient2d}
-use Rattle.math.specs.Plane.{orient2d-next, orient2d-aab}
-use Rattle.sums.specs.Half.{rev}
+use Rattle.math.specs.Plane.{orient2d-next, orient2d-swap, orient2d-aab}
+use Rattle.sums.specs.Half.{rev, rev-rev, rev-below}
 use Rattle.sums.specs.Sum.{sum-positive}
 use Rattle.mesh.specs.declared.Counts.{Counts}
 use Rattle.mesh.specs.Mesh.{Links, In, to}
@@ -41,6 +42,13 @@ module _ {C : Counts} {L : Links} (W : Wf C L) {p : ℕ → Point} (T : LeftTurn
   -- so the two sides of an inner edge are different faces
   pub faces-differ : {e : ℕ} → In C e → 0 < L .face e → L .face e ≢ L .face (rev e)
   faces-differ l i = two-faces W l i (λ x m q. sides-differ m (rw q i))
+
+  -- `legalize_edges_after_removal` asks of an edge with one outer side e whether the far vertex f, from and to are ordered counterclockwise: they are not
+  pub hull-edge : {e : ℕ} → In C e → L .face e ≡ 0 → orient2d (p (L .origin (L .prev (rev e)))) (p (L .origin e)) (p (to L e)) <ℤ pos 0
+  hull-edge {e} l o =
+      let a = p (L .origin e) in let b = p (to L e) in let f = p (L .origin (L .prev (rev e))) in
+      let h : pos 0 <ℤ orient2d b a f = subst (λ (x : ℕ). pos 0 <ℤ orient2d b (p (L .origin x)) f) (rev-rev e) (left-at (rev-below (C .edges) l) (W .faces .side l o)) in
+      subst (λ (z : ℤ). z <ℤ pos 0) (sym (orient2d-swap a f b ∙ ap negℤ (sym (orient2d-next b a f)))) (neg-<0 h)
 
   -- ---- areas
   pub area-positive : pos 0 <ℤ areaTotal C L p

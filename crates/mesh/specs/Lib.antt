@@ -22,6 +22,6 @@ pub mod Rules
 pub mod RulesWf
 pub mod Good
 pub mod GoodLaws
-pub mod AreaExamples
 pub mod BoundarySequence
 pub mod Examples
+pub mod AreaExamples

@@ -1,8 +1,7 @@
 -- BUILD: nodes numbered from 0 in the order of the boundary's proper edges stand for it; and buckets filled node by node have, in the end, each the node that holds its point. Assumes nothing.
-use mathlib.Core.Path.{_≡_, refl, sym, _∙_, ap, ap₂, subst}
-use mathlib.Core.Logic.{_≢_, _⊎_, inl, inr}
-use mathlib.Core.Bool.{Bool, true, false, not, cond}
-use Prim.Native.Nat.{ℕ, zero, suc, _+_, _-_, _*_, _%_, _<_, _≤_}
+use mathlib.Core.Path.{_≡_, refl, sym, _∙_, ap, subst}
+use mathlib.Core.Bool.{Bool, true, false, cond}
+use Prim.Native.Nat.{ℕ, zero, suc, _*_, _%_, _<_, _≤_}
 use native.Mathlib.Decide.{ℕ-discrete, decLt}
 use native.Mathlib.Omega.{arith}
 use lib.Dec.{T}
@@ -13,9 +12,8 @@ use Rattle.ring.specs.Sound.{Sound, tile, tile-sole}
 use Rattle.ring.specs.Buckets.{ceiling, within, Sized, NarrowSegment, bucket-range}
 use Rattle.ring.specs.Node.{nodes, Stands, match-of}
 use Rattle.ring.specs.Insert.{Ring, all-proper, Bucketed}
-use Rattle.sums.specs.Bit.{bit}
 use Rattle.sums.specs.Iterate.{iter, iter-last}
-use Rattle.sums.specs.Tally.{First, counts, tally, tally-before, walk}
+use Rattle.sums.specs.Tally.{counts, tally, tally-before, walk}
 
 -- m nodes, for h edges from e on
 pub record Built (next α right angle edge : ℕ → ℕ) (e h m : ℕ) : Type 0 where
@@ -25,21 +23,22 @@ pub record Built (next α right angle edge : ℕ → ℕ) (e h m : ℕ) : Type 0
   pub turn : (i : ℕ) → suc i ≡ m → right i ≡ 0
 
 module _ {N : ℕ} {next α right angle edge : ℕ → ℕ} {e h m : ℕ} (S : Sound N next α e h) (B : Built next α right angle edge e h m) where
-  count : (i : ℕ) → i < m → iter i right 0 ≡ i
-  count zero l = refl
-  count (suc i) l = iter-last i right 0 ∙ ap right (count i (omega arith)) ∙ B .step i l
+  -- the i-th node is i
+  pub built-at : (i : ℕ) → i < m → iter i right 0 ≡ i
+  built-at zero l = refl
+  built-at (suc i) l = iter-last i right 0 ∙ ap right (built-at i (omega arith)) ∙ B .step i l
 
   pub built : Ring N next α right angle edge e h 0
   unfolding Stands
   built = record {
     sound = S;
-    match = match-of next α right angle edge h e 0 (λ k l t. let c = count (nodes next α k e) (let b = tally-before (atEnds proper next α) next h e k l t in let z = B .size in omega arith) in (ap edge c ∙ B .at k l t .0, ap angle c ∙ B .at k l t .1));
+    match = match-of next α right angle edge h e 0 (λ k l t. let c = built-at (nodes next α k e) (let b = tally-before (atEnds proper next α) next h e k l t in let z = B .size in omega arith) in (ap edge c ∙ B .at k l t .0, ap angle c ∙ B .at k l t .1));
     back = ap (λ (i : ℕ). iter i right 0) (B .size) ∙ go m refl;
   }
     where
       go : (j : ℕ) → j ≡ m → iter j right 0 ≡ 0
       go zero z = refl
-      go (suc j) z = iter-last j right 0 ∙ ap right (count j (omega arith)) ∙ B .turn j z
+      go (suc j) z = iter-last j right 0 ∙ ap right (built-at j (omega arith)) ∙ B .turn j z
 
 -- ---- buckets from nothing: d nodes are done
 unfoldable pub Filling : (ℕ → ℕ) → (ℕ → ℕ) → (ℕ → ℕ) → ℕ → ℕ → ℕ → ℕ → Type 0

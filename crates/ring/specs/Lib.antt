@@ -15,10 +15,14 @@ pub mod Grow
 pub mod Hull
 pub mod WholeInsert
 pub mod Boundary
+pub mod Center
 pub mod Covered
 pub mod Chain
+pub mod CoveredEnds
 pub mod ChainLaws
 pub mod ChainMesh
 pub mod Located
+pub mod RingOf
+pub mod Resize
 pub mod HullExample
 pub mod Examples

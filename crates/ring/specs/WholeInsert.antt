@@ -2,7 +2,7 @@
 use mathlib.Core.Path.{_≡_, refl, sym, _∙_, ap, subst}
 use mathlib.Core.Logic.{_≢_, _⊎_, inl, inr}
 use mathlib.Core.Bool.{Bool, true, false, cond}
-use Prim.Native.Nat.{ℕ, zero, suc, _+_, _-_, _*_, _%_, _<_, _≤_}
+use Prim.Native.Nat.{ℕ, suc, _+_, _-_, _%_, _<_, _≤_}
 use native.Mathlib.Decide.{ℕ-discrete}
 use native.Mathlib.Omega.{arith}
 use lib.Dec.{T}
@@ -11,14 +11,14 @@ use Rattle.ring.specs.Ring.{atEnds, proper}
 use Rattle.ring.specs.Segments.{proper←, null-proper}
 use Rattle.ring.specs.Sound.{Sound}
 use Rattle.ring.specs.Splice.{Spliced, Fit, fit-sound}
-use Rattle.ring.specs.Buckets.{ceiling, within, null-within}
+use Rattle.ring.specs.Buckets.{ceiling, within}
 use Rattle.ring.specs.Node.{nodes}
-use Rattle.ring.specs.Insert.{On, Rebucketed, node-sole, ring-sound, ring-proper, size-old, left-some, rest-some, left-angle, last-t, size-new}
+use Rattle.ring.specs.Insert.{On, Rebucketed, node-sole, ring-sound, ring-proper, size-old, left-some, left-angle, size-new}
 use Rattle.ring.specs.Stores.{Stores, Before, stores-inserted, not-s}
 use Rattle.ring.specs.Free.{Free, free-same, Stay, Pushed, pushed, Taken, taken, taken-sum, taken-fresh, free-stays, free-gone}
 use Rattle.ring.specs.Hull.{Hull, Placed, hull-insert, before}
 use Rattle.sums.specs.Bit.{bit, bit-yes}
-use Rattle.sums.specs.Iterate.{iter, iter-add}
+use Rattle.sums.specs.Iterate.{iter}
 
 -- two loops over buckets, one after the other
 pub rebucketed : {bucket bucket₁ bucket' : ℕ → ℕ} {B L Q R a v : ℕ} → ((i : ℕ) → i < B → bucket₁ i ≡ cond (within i L Q) a (bucket i)) → ((i : ℕ) → i < B → bucket' i ≡ cond (within i Q R) v (bucket₁ i))
@@ -115,6 +115,14 @@ module _ {N : ℕ} {next α left right angle edge bucket next' α' left' right' 
       go (yes z) (inr y) = let b = ap (λ (x : ℕ). bit (proper (α e) x)) (sym z) ∙ null-proper (α e) in let c = count in let d = size in let h = some in let i = M .more z .0 in omega arith
       go (no z) (inl y) = let b = bit-yes (proper (α e) q) (proper← (α e) q z) in let c = count in let d = size in let h = some in let i = M .same z in omega arith
       go (no z) (inr y) = let b = bit-yes (proper (α e) q) (proper← (α e) q z) in let c = count in let d = size in let h = some in let i = M .same z in omega arith
+
+  -- the numbers in use pass none that the nodes of the longest ring and one more need
+  pub insert-keeps-len : nodes next α (m + n) e + f ≡ len → {top : ℕ} → nodes next α (m + n) e ≤ top → len ≤ suc top → len₁ ≤ suc top
+  insert-keeps-len g {top} a b = go (taken-sum X)
+    where
+      go : ((f + (nodes next α m e - 1) ≡ suc f₁) × (len₁ ≡ len)) ⊎ ((f + (nodes next α m e - 1) ≡ 0) × (f₁ ≡ 0) × (len₁ ≡ suc len)) → len₁ ≤ suc top
+      go (inl y) = omega arith
+      go (inr y) = omega arith
 
   -- THE HULL
   pub insert-keeps-hull : {bucket₁ bucket' : ℕ → ℕ} → ((i : ℕ) → i < B → bucket₁ i ≡ cond (within i (ceiling w (α e) % B) (ceiling w q % B)) s' (bucket i))

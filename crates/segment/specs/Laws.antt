@@ -113,8 +113,12 @@ floor-whole n w (fin s m d) W e =
     (ap (λ (x : ℕ). m * up d * n * x) (mul-comm (down d) w) ∙ sym (mul-assoc (m * up d * n) w (down d)) ∙ ap (λ (x : ℕ). x * down d) (mul-assoc (m * up d) n w ∙ ap (λ (x : ℕ). m * up d * x) (sym e)))
     ∙ sym (div-div-eq-div-mul (m * up d * 2 ^ 53) (down d) w)
 
+-- before the remainder: i = floor (n * a) is turns a / width n
+pub floor-turns : (n : ℕ) (x : Float) → Buckets n → floorTimes x n ≡ turns x / width n
+floor-turns n x h = let b = bucket-width n h in floor-whole n (width n) x (b .0) (b .2)
+
 pub floored-whole : (n : ℕ) (x : Float) → Buckets n → flooredBucket x n ≡ floorOf (turns x) n
-floored-whole n x h = let b = bucket-width n h in ap (λ (y : ℕ). y % n) (floor-whole n (width n) x (b .0) (b .2))
+floored-whole n x h = ap (λ (y : ℕ). y % n) (floor-turns n x h)
 
 ceil-whole : (n w k : ℕ) (x : Float) → 0 < w → 2 ^ 53 ≡ n * w → HasValue x false k (2 ^ 53) → ceilTimes x n ≡ (k + (w - 1)) / w
 unfolding ceilTimes
