@@ -1,29 +1,25 @@
 -- The invariant of the loop, to go on from here is to go on from the start, and what each step of it needs. Over plain rows, so that the needs of the code are
 -- single applications. Assumes nothing.
-use mathlib.Core.Bool.{Bool, true, false}
-use mathlib.Core.List.{List, [], _∷_}
+use mathlib.Core.Bool.{true, false}
+use mathlib.Core.List.{List}
 use mathlib.Core.Path.{_≡_, refl, sym, _∙_, ap, subst}
-use Prim.Native.Nat.{ℕ, zero, suc, _+_, _*_, _<_, _≤_}
+use Prim.Native.Nat.{ℕ, zero, suc, _+_, _<_, _≤_}
 use native.Mathlib.Omega.{arith}
 use lib.IntN.{ℤ}
 use lib.ListN.{length}
 use Rattle.mesh.specs.declared.Counts.{Counts}
-use Rattle.mesh.specs.Mesh.{Links}
 use Rattle.mesh.specs.HeightBound.{FlipsBound}
-use Rattle.dcel.specs.Rows.{linksOf, positionOf}
+use Rattle.dcel.specs.Rows.{positionOf}
 use Rattle.flip_count.specs.declared.FlipCount.{FlipCount}
-use Rattle.flip_count.specs.FlipCount.{flipCountOf}
-use Rattle.circle_test.specs.GoodRows.{GoodRows, good-again}
+use Rattle.circle_test.specs.GoodRows.{good-again}
 use Rattle.pending.specs.Pending.{pendingOf}
 use Rattle.pending.specs.PendingLaws.{pending-last}
 use Rattle.sums.specs.Until.{Going, going-start, going-turn, going-less, going-end}
 use Rattle.legalize.specs.declared.Entry.{Entry}
 use Rattle.legalize.specs.declared.Turned.{Turned}
-use Rattle.legalize.specs.declared.Legalized.{Legalized}
 use Rattle.legalize.specs.Legalize.{Legalizing, turn, isDone, isEmpty, measure, legalize}
-use Rattle.legalize.specs.Turns.{EntriesIn}
 use Rattle.legalize.specs.LegalizeLaws.{Ongoing, falls, turn-bound, legalize-start}
-use Rattle.legalize.specs.LegalizeRows.{LegalizeReady, TurnReady, stateOf, TurnLeaves, Leaves}
+use Rattle.legalize.specs.LegalizeRows.{TurnReady, stateOf, TurnLeaves, Leaves}
 
 pub record SameLengths (o h a row o′ h′ a′ row′ : List ℕ) : Type 0 where
   pub outs : length o′ ≡ length o

@@ -1,15 +1,15 @@
 -- One entry taken from the pending list, in the code's terms. Assumes nothing.
 use mathlib.Core.Bool.{Bool, true, false}
 use mathlib.Core.List.{List, _∷_}
-use mathlib.Core.Path.{_≡_, refl, sym, _∙_, ap, subst}
-use Prim.Native.Nat.{ℕ, _+_, _-_, _*_, _<_, _≤_}
+use mathlib.Core.Path.{_≡_, sym, _∙_, ap}
+use Prim.Native.Nat.{ℕ, _-_}
 use native.Mathlib.Omega.{arith}
 use lib.IntN.{ℤ}
 use lib.ListN.{length, getD}
 use Rattle.mesh.specs.Circle.{breaksCircle}
 use Rattle.dcel.specs.Rows.{linksOf, positionOf}
 use Rattle.circle_test.specs.GoodRows.{CircleReady}
-use Rattle.pending.specs.Pending.{pendingOf, Holds}
+use Rattle.pending.specs.Pending.{pendingOf}
 use Rattle.pending.specs.PendingLaws.{pending-last, holds}
 use Rattle.legalize.specs.declared.Entry.{Entry}
 use Rattle.legalize.specs.Legalize.{edgeOf}

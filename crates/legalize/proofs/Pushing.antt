@@ -1,6 +1,6 @@
 -- The pushes of a flip, one after the other, in the code's terms. Assumes nothing.
 use mathlib.Core.List.{List, _∷_}
-use mathlib.Core.Path.{_≡_, refl, sym, _∙_, ap, subst}
+use mathlib.Core.Path.{_≡_, subst}
 use Prim.Native.Nat.{ℕ, _+_, _*_, _/_, _<_, _^_}
 use native.Mathlib.Omega.{arith}
 use Rattle.dcel.specs.declared.handles.HalfEdgeEntry.{HalfEdgeEntry}

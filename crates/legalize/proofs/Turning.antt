@@ -2,13 +2,12 @@
 use mathlib.Core.Bool.{Bool, true, false, false≢true, cond}
 use mathlib.Core.List.{List, _∷_}
 use mathlib.Core.Path.{_≡_, refl, sym, _∙_, ap, subst}
-use Prim.Native.Nat.{ℕ, suc, _+_, _-_, _*_, _<_, _≤_, _^_}
+use Prim.Native.Nat.{ℕ, _+_, _-_, _<_, _≤_, _^_}
 use native.Mathlib.Numerals.{add-one}
 use native.Mathlib.Omega.{arith}
 use lib.IntN.{ℤ}
 use lib.ListN.{length, getD}
 use Rattle.mesh.specs.declared.Counts.{Counts}
-use Rattle.mesh.specs.Mesh.{Links}
 use Rattle.mesh.specs.Circle.{breaksCircle}
 use Rattle.mesh.specs.HeightBound.{flips-fit}
 use Rattle.mesh.specs.Operations.{flipCw}
@@ -22,7 +21,6 @@ use Rattle.pending.specs.Pending.{pendingOf, Holds}
 use Rattle.pending.specs.PendingLaws.{pending-length, pending-last, holds-length, holds-fits}
 use Rattle.legalize.specs.declared.Entry.{Entry}
 use Rattle.legalize.specs.declared.Popped.{Popped}
-use Rattle.legalize.specs.declared.Turned.{Turned}
 use Rattle.legalize.specs.Legalize.{Legalizing, edgeOf, pushed, turn}
 use Rattle.legalize.specs.Turns.{EntriesIn, turn-kept, turn-flipped, turn-refused}
 use Rattle.legalize.specs.LegalizeRows.{PopReady, Pops, TurnReady, stateOf, TurnLeaves}

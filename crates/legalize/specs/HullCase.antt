@@ -1,9 +1,9 @@
 -- The tests of the Rust's two functions, and that in a good mesh each is the circle test of 01. So `legalize_edges_after_removal` never flips for any other
 -- reason: its special case for edges next to the convex hull does not arise, and no flip is left out. Assumes nothing.
 -- 01: "If it flips for any reason but the circle test, that flip is left out and recorded."
-use mathlib.Core.Bool.{Bool, true, false}
+use mathlib.Core.Bool.{Bool, false}
 use mathlib.Core.Logic.{_≢_}
-use mathlib.Core.Path.{_≡_, refl, sym, _∙_, ap, ap₂, subst}
+use mathlib.Core.Path.{_≡_, refl, sym, _∙_, ap, subst}
 use Prim.Native.Nat.{ℕ, zero, suc, _+_, _*_, _/_, _<_}
 use native.Mathlib.Decide.{ℕ-discrete}
 use native.Mathlib.Omega.{arith}
@@ -18,13 +18,13 @@ use Rattle.math.specs.Plane.{contained-next, hull-legal}
 use Rattle.mesh.specs.declared.Counts.{Counts}
 use Rattle.mesh.specs.Mesh.{Links, In, to}
 use Rattle.mesh.specs.Area.{circleAt}
-use Rattle.mesh.specs.HeightLaws.{circle-half, circle-rev}
+use Rattle.mesh.specs.HeightLaws.{even-half, circle-half, circle-rev}
 use Rattle.mesh.specs.LeftLaws.{left-at}
 use Rattle.mesh.specs.Good.{Good}
 use Rattle.mesh.specs.Circle.{breaksCircle}
 use Rattle.mesh.specs.CircleLaws.{breaks}
 use Rattle.sums.specs.Bit.{is-true, is-false}
-use Rattle.sums.specs.Half.{rev, rev-rev, rev-below}
+use Rattle.sums.specs.Half.{rev, rev-rev, rev-even, rev-below}
 
 -- `should_flip` of `legalize_edges_after_removal`, of the far vertices left and right of an edge. With neither the Rust panics
 unfoldable pub removalTest : (ℕ → Point) → Point → Point → Far → Far → Bool
@@ -40,17 +40,12 @@ edgeTest p v0 v1 Far.Outer v = false
 edgeTest p v0 v1 (Far.Vertex v3) Far.Outer = false
 
 -- ---- the circle test from either half of an edge
-either : (e : ℕ) (P : ℕ → Type 0) → P e → P (rev e) → P (2 * (e / 2)) × P (2 * (e / 2) + 1)
-unfolding rev
-either e P a b = go (ℕ-discrete e (2 * (e / 2)))
-  where
-    go : Dec (e ≡ 2 * (e / 2)) → P (2 * (e / 2)) × P (2 * (e / 2) + 1)
-    go (yes q) = (subst P q a, subst P (omega arith) b)
-    go (no n) = (subst P (omega arith) b, subst P (omega arith) a)
+either : (P : ℕ → Type 0) (e : ℕ) → P e → P (rev e) → P (2 * (e / 2)) × P (2 * (e / 2) + 1)
+either P e a b = (even-half P e a b, rw (← rev-even (e / 2)) (even-half (λ x. P (rev x)) e b (rw (rev-rev e) a)))
 
-both : (e : ℕ) (P : ℕ → Type 0) → P (2 * (e / 2)) → P (2 * (e / 2) + 1) → P e × P (rev e)
+both : (P : ℕ → Type 0) (e : ℕ) → P (2 * (e / 2)) → P (2 * (e / 2) + 1) → P e × P (rev e)
 unfolding rev
-both e P a b = go (ℕ-discrete e (2 * (e / 2)))
+both P e a b = go (ℕ-discrete e (2 * (e / 2)))
   where
     go : Dec (e ≡ 2 * (e / 2)) → P e × P (rev e)
     go (yes q) = (subst P (sym q) a, subst P (omega arith) b)
@@ -60,13 +55,13 @@ module _ (L : Links) (p : ℕ → Point) (e : ℕ) where
   pub breaks-inner : 0 < L .face e → 0 < L .face (rev e) → breaksCircle L p (e / 2) ≡ ltZ (pos 0) (circleAt L p e)
   unfolding breaksCircle
   breaks-inner i j =
-      let h = either e (λ x. 0 < L .face x) i j in
+      let h = either (λ x. 0 < L .face x) e i j in
       rw (lt-ltb 0 (L .face (2 * (e / 2))) (h .0), lt-ltb 0 (L .face (2 * (e / 2) + 1)) (h .1)) (ap (ltZ (pos 0)) (circle-half L p e))
 
   pub breaks-outer : (0 < L .face e → 0 < L .face (rev e) → ⊥) → breaksCircle L p (e / 2) ≡ false
   breaks-outer n = is-false _ (λ t.
       let B = breaks L p (e / 2) (is-true _ t) in
-      let h = both e (λ x. 0 < L .face x) (B .inner-left) (B .inner-right) in n (h .0) (h .1))
+      let h = both (λ x. 0 < L .face x) e (B .inner-left) (B .inner-right) in n (h .0) (h .1))
 
   -- ---- `legalize_edge` asks that, for any links
   pub edge-test : edgeTest p (p (L .origin e)) (p (to L e)) (farOf L e) (farOf L (rev e)) ≡ breaksCircle L p (e / 2)

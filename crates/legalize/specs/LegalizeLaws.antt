@@ -1,10 +1,10 @@
 -- Legalizing a good mesh ends, and is a run of exactly as many flips as it counts, each at an edge that broke the circle rule at that moment. So the mesh
 -- stays good, with its boundary and its area, and the height sum falls by at least the flips. It ends with an empty pending list, or before a flip whose pushes
 -- would overfill it. Assumes nothing.
-use mathlib.Core.Bool.{Bool, true, false, false≢true, _||_}
-use mathlib.Core.List.{List, [], _∷_}
-use mathlib.Core.Path.{_≡_, refl, sym, _∙_, ap, subst}
-use Prim.Native.Nat.{ℕ, suc, _+_, _*_, _≤_, _<_}
+use mathlib.Core.Bool.{true, false, false≢true}
+use mathlib.Core.List.{List, []}
+use mathlib.Core.Path.{_≡_, _∙_, ap, subst}
+use Prim.Native.Nat.{ℕ, suc, _+_, _≤_, _<_}
 use native.Mathlib.Numerals.{add-one}
 use native.Mathlib.Omega.{arith}
 use lib.IntN.{natAbs}
@@ -21,7 +21,7 @@ use Rattle.mesh.specs.Good.{Good}
 use Rattle.mesh.specs.HeightBound.{FlipsBound, flips-more}
 use Rattle.sums.specs.Until.{until, Falls, until-ends, until-keeps, until-ind, until-fuel}
 use Rattle.legalize.specs.declared.Entry.{Entry}
-use Rattle.legalize.specs.Legalize.{Legalizing, edgeOf, pushed, turn, isDone, isEmpty, measure, legalize}
+use Rattle.legalize.specs.Legalize.{Legalizing, edgeOf, pushed, turn, isDone, measure, legalize}
 use Rattle.legalize.specs.Turns.{turn-cases, going-on, ended, EntriesIn, pushed-in, pushed-few}
 
 -- the flip that was not made: an edge that breaks the rule, whose pushes do not fit the pending list

@@ -1,7 +1,7 @@
 -- One turn of legalizing: its three ways as equations, and what its pushes do to the pending list. Assumes nothing.
 use mathlib.Core.Bool.{Bool, true, false, false≢true, _||_}
 use mathlib.Core.List.{List, [], _∷_}
-use mathlib.Core.Path.{_≡_, refl, sym, _∙_, ap}
+use mathlib.Core.Path.{_≡_, refl, sym}
 use Prim.Native.Nat.{ℕ, suc, _+_, _*_, _/_, _≤_, _<_}
 use native.Mathlib.Omega.{arith}
 use borrow.Author.Tests.{le-leb, lt-leb, leb-true, leb-false}
@@ -16,7 +16,7 @@ use Rattle.mesh.specs.Circle.{breaksCircle}
 use Rattle.pending.specs.Pending.{contains, pushIfNotContained}
 use Rattle.pending.specs.PendingLaws.{push-length, push-contained, push-missing}
 use Rattle.sums.specs.Cases.{All}
-use Rattle.sums.specs.Half.{rev, rev-below, rev-edge}
+use Rattle.sums.specs.Half.{rev, rev-below}
 use Rattle.legalize.specs.declared.Entry.{Entry}
 use Rattle.legalize.specs.declared.Entry.the-variants.{HalfEdge, Edge}
 use Rattle.legalize.specs.Legalize.{Legalizing, edgeOf, pushed, flipped, popped, turn, isDone, isEmpty}
@@ -74,6 +74,15 @@ ended s e q = go (s .full) (s .pending) e q
 -- every entry's edge is in use
 abbrev pub EntriesIn : Counts → Entry → List ℕ → Type 0
 EntriesIn C k l = All (λ x. edgeOf k x < C .edges) l
+
+-- where a call begins
+pub half-edge-in : (C : Counts) (e : ℕ) → In C e → EntriesIn C HalfEdge (e ∷ [])
+unfolding edgeOf
+half-edge-in C e l = (omega arith, tt)
+
+pub edges-in : (C : Counts) (u v : ℕ) → u < C .edges → v < C .edges → EntriesIn C Edge (v ∷ u ∷ [])
+unfolding edgeOf
+edges-in C u v h k = (k, (h, tt))
 
 module _ {C : Counts} {L : Links} (W : Wf C L) where
   half-below : {d : ℕ} → In C d → d / 2 < C .edges

@@ -1,7 +1,8 @@
-// `legalize_edge` and `legalize_edges_after_removal` of triangulation_ext.rs, with the pending list in a row that the caller lends.
-ghost use mathlib.Core.List.{List, [], _∷_};
+// `legalize_edge` and `legalize_edges_after_removal` of triangulation_ext.rs, with the pending list in a row that the caller lends. Both are one loop, which
+// differs in what an entry of the list is and in what a flip pushes. What they leave is `legalizeEdge` and `legalizeEdgesAfterRemoval` of specs/Legalize.antt; that
+// they end, and what that means for the mesh, is in specs/LegalizeLaws.antt. `counts` says which mesh the rows hold: the contracts speak of it, the code needs it not.
 ghost use mathlib.Core.Path.{_≡_};
-ghost use Prim.Native.Nat.{ℕ, _+_, _*_, _^_, _<_};
+ghost use Prim.Native.Nat.{_+_, _*_, _^_, _<_};
 ghost use lib.ListN.{length};
 ghost use Rattle.mesh.specs.Mesh.{In};
 ghost use Rattle.dcel.specs.Rows.{linksOf, positionOf, There};

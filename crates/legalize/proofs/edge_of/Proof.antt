@@ -1,24 +1,19 @@
+-- `legalize::edge_of` meets its contract. Assumes nothing.
 use Rattle.legalize.specs.Legalize.{edgeOf}
 use borrow.Author.Needs.{needs}
 use Rattle.legalize.proofs.edge_of.Statement.{statement}
 use Rattle.legalize.proofs.edge_of.Tie as tie
-use Rattle.legalize.proofs.edge_of.Reads as reads
-use Rattle.legalize.proofs.edge_of.Lts as lts
 
--- src/lib.rt:45:28
 enum-told : tie.Need-enum-told
 enum-told c = search needs
 
--- src/lib.rt:46:24
 enum-told-2 : tie.Need-enum-told-2
 enum-told-2 c = search needs
 
--- src/lib.rt:41:1
 returns : tie.Need-returns
 unfolding edgeOf
 returns c = rw (c .enum-told .given .1)
 
--- src/lib.rt:41:1
 returns-2 : tie.Need-returns-2
 unfolding edgeOf
 returns-2 c = rw (c .enum-told2 .given .1)

@@ -1,3 +1,5 @@
+-- `legalize::legalize_pending` meets its contract. The loop's invariant: to go on from here is to go on from the start. The measure is 4 · height sum and the
+-- entries left. Assumes nothing.
 use mathlib.Core.Path.{_∙_}
 use Rattle.dcel.specs.Rows.{positionOf}
 use Rattle.legalize.specs.Legalize.{measure}
@@ -6,9 +8,6 @@ use Rattle.legalize.proofs.Looping as at
 use Rattle.legalize.proofs.Looping.{LoopAt}
 use Rattle.legalize.proofs.legalize_pending.Statement.{statement}
 use Rattle.legalize.proofs.legalize_pending.Tie as tie
-use Rattle.legalize.proofs.legalize_pending.Reads as reads
-use Rattle.legalize.proofs.legalize_pending.Lts as lts
-use Rattle.legalize.proofs.turn.Reads as turn-reads
 
 abbrev Inv-loop : tie.InvT-loop
 Inv-loop positions outs₀ halves₀ faces₀ pending₀ counts n entry left₀ made₀ outs halves faces pending left made =
@@ -18,68 +17,54 @@ abbrev μ-loop : tie.MeasureT-loop
 μ-loop positions outs₀ halves₀ faces₀ pending₀ counts n entry left₀ made₀ outs halves faces pending left made =
     measure counts (positionOf positions) (stateOf outs halves faces pending left made)
 
--- src/lib.rt:163:5
 loop-holds : tie.Need-loop-holds Inv-loop μ-loop
 loop-holds c = at.loop-starts (c .before .before .before .before .pre)
 
--- src/lib.rt:164:13
 turn-requires : tie.Need-turn-requires Inv-loop μ-loop
 turn-requires c κs = (c .before .before .before .before .before .loop .inv .ready, c .before .before .before .before .loop-test .taken)
 
--- src/lib.rt:167:13
 same-length : tie.Need-same-length Inv-loop μ-loop
 same-length c = c .before .before .before .before .before .before .before .before .before .before .turn .kept .1 .0 ∙ c .before .before .before .before .before .before .before .before .before .before .before .before .before .before .before .before .loop .inv .lengths .outs
 
--- src/lib.rt:167:13
 same-length-2 : tie.Need-same-length-2 Inv-loop μ-loop
 same-length-2 c = c .before .before .before .before .before .before .before .before .before .before .turn .kept .1 .1 .0 ∙ c .before .before .before .before .before .before .before .before .before .before .before .before .before .before .before .before .loop .inv .lengths .halves
 
--- src/lib.rt:167:13
 same-length-3 : tie.Need-same-length-3 Inv-loop μ-loop
 same-length-3 c = c .before .before .before .before .before .before .before .before .before .before .turn .kept .1 .1 .1 .0 ∙ c .before .before .before .before .before .before .before .before .before .before .before .before .before .before .before .before .loop .inv .lengths .faces
 
--- src/lib.rt:167:13
 same-length-4 : tie.Need-same-length-4 Inv-loop μ-loop
 same-length-4 c = c .before .before .before .before .before .before .before .before .before .before .turn .kept .1 .1 .1 .1 .0 ∙ c .before .before .before .before .before .before .before .before .before .before .before .before .before .before .before .before .loop .inv .lengths .pending
 
--- src/lib.rt:167:13
 returns : tie.Need-returns Inv-loop μ-loop
 returns c =
     let t = c .before .before .before .before .before .before .before .before .before .before .turn in
     let i = c .before .before .before .before .before .before .before .before .before .before .before .before .before .before .before .before .loop .inv in
     at.loop-refused i (c .before .before .before .before .before .before .before .before .before .before .before .before .before .before .before .loop-test .taken) (t .ensures) (record { outs = t .kept .1 .0; halves = t .kept .1 .1 .0; faces = t .kept .1 .1 .1 .0; pending = t .kept .1 .1 .1 .1 .0 }) (c .if1 .taken)
 
--- src/lib.rt:163:5
 loop-less : tie.Need-loop-less Inv-loop μ-loop
 loop-less c =
     let t = c .before .before .before .before .before .before .before .before .before .before .turn in
     let i = c .before .before .before .before .before .before .before .before .before .before .before .before .before .before .before .before .loop .inv in
     at.loop-less i (c .before .before .before .before .before .before .before .before .before .before .before .before .before .before .before .loop-test .taken) (t .ensures) (record { outs = t .kept .1 .0; halves = t .kept .1 .1 .0; faces = t .kept .1 .1 .1 .0; pending = t .kept .1 .1 .1 .1 .0 }) (c .if1 .left)
 
--- src/lib.rt:163:5
 loop-again : tie.Need-loop-again Inv-loop μ-loop
 loop-again c =
     let t = c .before .before .before .before .before .before .before .before .before .before .turn in
     let i = c .before .before .before .before .before .before .before .before .before .before .before .before .before .before .before .before .loop .inv in
     at.loop-on i (c .before .before .before .before .before .before .before .before .before .before .before .before .before .before .before .loop-test .taken) (t .ensures) (record { outs = t .kept .1 .0; halves = t .kept .1 .1 .0; faces = t .kept .1 .1 .1 .0; pending = t .kept .1 .1 .1 .1 .0 }) (c .if1 .left)
 
--- src/lib.rt:147:1
 same-length-5 : tie.Need-same-length-5 Inv-loop μ-loop
 same-length-5 c = c .before .loop .inv .lengths .outs
 
--- src/lib.rt:147:1
 same-length-6 : tie.Need-same-length-6 Inv-loop μ-loop
 same-length-6 c = c .before .loop .inv .lengths .halves
 
--- src/lib.rt:147:1
 same-length-7 : tie.Need-same-length-7 Inv-loop μ-loop
 same-length-7 c = c .before .loop .inv .lengths .faces
 
--- src/lib.rt:147:1
 same-length-8 : tie.Need-same-length-8 Inv-loop μ-loop
 same-length-8 c = c .before .loop .inv .lengths .pending
 
--- src/lib.rt:147:1
 returns-2 : tie.Need-returns-2 Inv-loop μ-loop
 returns-2 c = at.loop-ends (c .before .loop .inv) (c .loop-test .left)
 

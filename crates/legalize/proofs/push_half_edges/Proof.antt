@@ -1,36 +1,30 @@
+-- `legalize::push_half_edges` meets its contract. Assumes nothing.
 use Rattle.legalize.proofs.Pushing.{half-edges-pushed}
 use borrow.Author.Needs.{needs}
 use Rattle.legalize.proofs.push_half_edges.Statement.{statement}
 use Rattle.legalize.proofs.push_half_edges.Tie as tie
-use Rattle.legalize.proofs.push_half_edges.Reads as reads
-use Rattle.legalize.proofs.push_half_edges.Lts as lts
-use Rattle.dcel.proofs.half_edge.Reads as half-edge-reads
-use Rattle.dcel.proofs.rev.Reads as rev-reads
-use Rattle.pending.proofs.push.Reads as push-reads
 
--- src/lib.rt:56:9
 rev-requires : tie.Need-rev-requires
 rev-requires c κs = search needs
 
--- src/lib.rt:57:9
 half-edge-requires : tie.Need-half-edge-requires
 half-edge-requires c κs = search needs
 
--- src/lib.rt:58:9
 push-requires : tie.Need-push-requires
 push-requires c κs = search needs
 
--- src/lib.rt:59:5
 push-requires-2 : tie.Need-push-requires-2
 push-requires-2 c κs = search needs
 
--- src/lib.rt:52:1
 same-length : tie.Need-same-length
 same-length c = search needs
 
--- src/lib.rt:52:1
 returns : tie.Need-returns
-returns c = half-edges-pushed _ _ _ _ _ _ _ _ _ _ (c .before .before .before .before .before .before .before .before .before .rev .ensures) (c .before .before .before .before .before .before .before .before .half-edge .ensures) (c .before .before .before .before .before .before .push .ensures) (c .before .before .push2 .ensures)
+returns c =
+    let d = c .before .before in
+    let e = d .before .before .before .before in
+    let r = e .before .before in
+    half-edges-pushed _ _ _ _ _ _ _ _ _ _ (r .before .rev .ensures) (r .half-edge .ensures) (e .push .ensures) (d .push2 .ensures)
 
 pub push-half-edges-spec : {M : Type 1} → statement M
 push-half-edges-spec =

@@ -1,6 +1,7 @@
+-- `pending::contains` meets its contract. The loop goes from the last entry down; the invariant: x is among the entries that are left exactly where it is among
+-- all. The measure is how many are left. Assumes nothing.
 use mathlib.Core.Path.{_≡_, refl, sym, _∙_}
 use Prim.Native.Nat.{_≤_}
-use native.Mathlib.Omega.{arith}
 use borrow.Author.Needs.{needs}
 use lib.ListN.{length}
 use Rattle.pending.specs.Pending.{pendingOf}
@@ -8,8 +9,6 @@ use Rattle.pending.specs.Pending as list
 use Rattle.pending.specs.PendingLaws.{contains-none, contains-here, contains-not-here}
 use Rattle.pending.proofs.contains.Statement.{statement}
 use Rattle.pending.proofs.contains.Tie as tie
-use Rattle.pending.proofs.contains.Reads as reads
-use Rattle.pending.proofs.contains.Lts as lts
 
 abbrev Inv-loop : tie.InvT-loop
 Inv-loop pending n x i₀ i = (i ≤ length pending) × (list.contains x (pendingOf pending i) ≡ list.contains x (pendingOf pending n))
@@ -17,39 +16,30 @@ Inv-loop pending n x i₀ i = (i ≤ length pending) × (list.contains x (pendin
 abbrev μ-loop : tie.MeasureT-loop
 μ-loop pending n x i₀ i = i
 
--- src/lib.rt:22:5
 loop-holds : tie.Need-loop-holds Inv-loop μ-loop
 loop-holds c = (search needs, refl)
 
--- src/lib.rt:23:25
 sub-if1 : tie.Need-sub-if1 Inv-loop μ-loop
 sub-if1 c = search needs
 
--- src/lib.rt:23:17
 mul-if1 : tie.Need-mul-if1 Inv-loop μ-loop
 mul-if1 c = search needs
 
--- src/lib.rt:23:17
 shared-slice-read-if1 : tie.Need-shared-slice-read-if1 Inv-loop μ-loop
 shared-slice-read-if1 c = search needs
 
--- src/lib.rt:24:13
 returns : tie.Need-returns Inv-loop μ-loop
 returns c = sym (contains-here _ _ _ (c .before .before .loop-test .taken) (c .if1 .taken)) ∙ c .before .before .before .loop .inv .1
 
--- src/lib.rt:26:9
 sub-i : tie.Need-sub-i Inv-loop μ-loop
 sub-i c = search needs
 
--- src/lib.rt:22:5
 loop-less : tie.Need-loop-less Inv-loop μ-loop
 loop-less c = search needs
 
--- src/lib.rt:22:5
 loop-again : tie.Need-loop-again Inv-loop μ-loop
 loop-again c = (search needs, sym (contains-not-here _ _ _ (c .before .before .loop-test .taken) (c .if1 .left)) ∙ c .before .before .before .loop .inv .1)
 
--- src/lib.rt:17:1
 returns-2 : tie.Need-returns-2 Inv-loop μ-loop
 returns-2 c = sym (contains-none _ _ _ (c .loop-test .left)) ∙ c .before .loop .inv .1
 

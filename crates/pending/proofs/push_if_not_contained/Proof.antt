@@ -1,39 +1,29 @@
+-- `pending::push_if_not_contained` meets its contract. Assumes nothing.
 use native.Mathlib.Omega.{arith}
 use Rattle.pending.specs.PendingLaws.{push-past, push-length, pushed-contained, pushed-missing}
 use mathlib.Core.Path.{sym, _∙_}
 use borrow.Author.Needs.{needs}
 use Rattle.pending.proofs.push_if_not_contained.Statement.{statement}
 use Rattle.pending.proofs.push_if_not_contained.Tie as tie
-use Rattle.pending.proofs.push_if_not_contained.Reads as reads
-use Rattle.pending.proofs.push_if_not_contained.Lts as lts
-use Rattle.pending.proofs.contains.Reads as contains-reads
-use Rattle.pending.proofs.push.Reads as push-reads
 
--- src/lib.rt:50:9
 returns : tie.Need-returns
 returns c = λ l h. push-past h (push-length _ l .0) (c .if1 .taken)
 
--- src/lib.rt:52:8
 contains-requires : tie.Need-contains-requires
 contains-requires c κs = search needs
 
--- src/lib.rt:53:9
 same-length : tie.Need-same-length
 same-length c = search needs
 
--- src/lib.rt:53:9
 returns-2 : tie.Need-returns-2
 returns-2 c = λ l h. pushed-contained h (omega arith) _ (sym (c .before .contains .ensures) ∙ c .if2 .taken)
 
--- src/lib.rt:55:5
 push-requires : tie.Need-push-requires
 push-requires c κs = search needs
 
--- src/lib.rt:46:1
 same-length-2 : tie.Need-same-length-2
 same-length-2 c = search needs
 
--- src/lib.rt:46:1
 returns-3 : tie.Need-returns-3
 returns-3 c = λ l h. pushed-missing h (omega arith) _ (sym (c .before .before .before .before .before .contains .ensures) ∙ c .before .before .before .before .if2 .left) (c .before .before .push .ensures (_) h)
 
