@@ -18,7 +18,7 @@ use Rattle.sums.specs.Until.{Going, going-start, going-turn, going-end}
 use Rattle.convexity.specs.declared.Added.{Added}
 use Rattle.convexity.specs.Convexity.{fixConvexity}
 use Rattle.convexity.specs.Walk.{Walk, closeAllBehind, onward, walkTurn, walkEnds, walkStart, walkPass}
-use Rattle.convexity.specs.WalkLaws.{Walking, turns, onward-keeps, left-over, turned, walk-falls, walk-starts}
+use Rattle.convexity.specs.WalkLaws.{Walking, onward-keeps, left-over, turned, walk-falls, walk-starts}
 use Rattle.convexity.specs.StackLaws.{fix-walks}
 use Rattle.convexity.specs.ConvexityRows.{convexityOf, walkOf, Ready, OnBoundary, WalkReady, StartReady}
 use Rattle.convexity.specs.RowsLaws.{SameLengths, same-refl, same-trans, ready-again}
