@@ -25,11 +25,11 @@ use Rattle.ring.specs.Hull.{on-from}
 use Rattle.ring_rows.specs.declared.Node.{Node}
 use Rattle.ring_rows.specs.declared.Hull.{Hull}
 use Rattle.ring_rows.specs.declared.Found.{Found}
-use Rattle.ring_rows.specs.Rows.{nodesOf, angleOf, leftOf, rightOf, sizeOf, NodeRing, ValidNode, Got}
+use Rattle.ring_rows.specs.Rows.{nodesOf, angleOf, leftOf, rightOf, sizeOf, NodeRing, ValidNode, ValidNodes, Got}
 use Rattle.ring_rows.specs.Laws.{ring-from, walk-below}
 use Rattle.ring_insert.specs.declared.Choice.{Choice}
-use Rattle.ring_insert.specs.Insert.{ToRelease, ReleasedTo, ToChoose, Chosen, ToPlace, ToInsert}
-use Rattle.ring_insert.specs.Placed.{valid-up}
+use Rattle.ring_insert.specs.Insert.{ToRelease, ReleasedTo, ToChoose, Chosen, ToPlace, ToInsert, placeNodes}
+use Rattle.ring_insert.specs.Placed.{valid-up, placed-valid}
 use Rattle.ring_insert.proofs.Freeing.{goes-names, stays-names}
 
 -- ---- `choose`
@@ -174,3 +174,10 @@ module _ {nodes : List (List ℕ)} {freed buckets : List ℕ} {h : Hull} {al q a
         room = let a = grown .2 in let b = I .node-room in omega arith;
         small = let a = grown .2 in let b = I .small in omega arith;
       }
+
+      pub new-valid : {t′ : ℕ → Node} {l p : ℕ} → l < 2 ^ 32 → p < 2 ^ 32 → t′ ≡ placeNodes (nodesOf nodes) c l p q → ValidNodes t′ (c .nodes)
+      unfolding to-place
+      new-valid u w z = let P = to-place in placed-valid c (P .others) (P .is-angle) w u (P .before-in) (P .right-in) (P .start-in) (P .node-in) z
+
+      pub new-room : c .nodes ≤ length nodes
+      new-room = let a = grown .2 in let b = I .node-room in omega arith

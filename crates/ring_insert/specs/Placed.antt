@@ -50,6 +50,11 @@ module _ {t : ℕ → Node} (c : Choice) {len : ℕ} where
       go true = v
       go false = let w = v (c .start) b in valid-put (c .start) (λ j l d. v j l) (record { angle = w .angle; edge = n; left = w .left; right = w .right })
 
+pub placed-valid : {t t′ : ℕ → Node} {len : ℕ} (c : Choice) {l p : ℕ} {q : Float} → ((j : ℕ) → j < len → j ≢ c .node → ValidNode (t j) len) → IsAngle q → p < 2 ^ 32 → l < 2 ^ 32 → c .before < len → c .right < len → c .start < len → c .node < len
+    → t′ ≡ placeNodes t c l p q → ValidNodes t′ len
+placed-valid {t} {t′} {len} c {l} {p} {q} others a p-small l-small b r s v e =
+    subst (λ (f : ℕ → Node). ValidNodes f len) (sym e) (edge-valid c (left-valid c (right-valid c (new-valid c others a p-small b r) b v) r v) s l-small)
+
 -- ---- field by field
 abbrev field : {A : Type 0} → (Node → A) → (ℕ → Node) → ℕ → A
 field g t x = g (t x)
