@@ -1,12 +1,12 @@
 -- AN INSERT AFTER A STEP: what it asks of rows that hold the ring of the boundary before, and that the rows then hold the ring of the boundary after. Assumes nothing.
-use Prim.Native.Nat.{ℕ, zero, suc, _+_, _-_, _*_, _%_, _<_, _≤_, _^_}
+use Prim.Native.Nat.{ℕ, suc, _+_, _-_, _%_, _<_, _≤_, _^_}
 use native.Mathlib.Decide.{ℕ-discrete, decLt}
 use native.Mathlib.Omega.{arith}
 use mathlib.Core.Path.{_≡_, refl, sym, _∙_, ap, ap₂, subst}
-use mathlib.Core.Logic.{_≢_, _⊎_, inl, inr}
+use mathlib.Core.Logic.{_≢_, inl, inr}
 use mathlib.Core.Bool.{cond}
 use mathlib.Core.List.{List}
-use lib.Dec.{T, eqb}
+use lib.Dec.{T}
 use lib.Ieee.{Float}
 use lib.ListN.{length}
 use Rattle.mesh.specs.declared.Counts.{Counts}
@@ -24,7 +24,7 @@ use Rattle.ring.specs.Sound.{Sound}
 use Rattle.ring.specs.Splice.{Spliced, Fit, fit-sound}
 use Rattle.ring.specs.Buckets.{ceiling, within}
 use Rattle.ring.specs.Node.{nodes as nodeCount}
-use Rattle.ring.specs.Insert.{On, Bucketed, ring-sound, ring-proper, node-sole, left-angle, right-angle, left-some, rest-some, size-old, right-first, last-t}
+use Rattle.ring.specs.Insert.{On, Bucketed, ring-sound, ring-proper, node-sole, left-angle, right-angle, left-some, rest-some, size-old, right-first}
 use Rattle.ring.specs.Free.{Free, Stay, Pushed, Taken, pushed, taken-fresh}
 use Rattle.ring.specs.Stores.{Stores}
 use Rattle.ring.specs.WholeInsert.{Names, insert-keeps-total, insert-keeps-len}
@@ -35,7 +35,6 @@ use Rattle.ring.specs.Resize.{adjustedBuckets, adjusted-buckets, adjusted-most,
 use Rattle.ring_rows.specs.declared.Node.{Node}
 use Rattle.ring_rows.specs.declared.Hull.{Hull}
 use Rattle.ring_rows.specs.Rows.{nodesOf, angleOf, edgeOf, leftOf, rightOf, sizeOf, ValidNodes}
-use Rattle.ring_insert.specs.declared.Choice.{Choice}
 use Rattle.ring_insert.specs.Insert.{ToInsert, InsertedRows, Adjusted, ReleasedTo}
 use Rattle.ring_insert.specs.Placed.{placed-stores}
 use Rattle.hull.specs.Held.{Held}

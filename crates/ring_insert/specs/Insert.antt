@@ -10,7 +10,7 @@ use lib.ListN.{length}
 use Rattle.sums.specs.Iterate.{iter}
 use Rattle.sums.specs.Put.{put}
 use Rattle.angle.specs.Angle.{IsAngle, turns}
-use Rattle.segment.specs.Bucket.{Buckets, width, ceilOf}
+use Rattle.segment.specs.Bucket.{width, ceilOf}
 use Rattle.dcel.specs.Rows.{rowOf}
 use Rattle.ring.specs.Insert.{On, Bucketed}
 use Rattle.ring.specs.Free.{Free, Pushed, Taken}
