@@ -1,0 +1,136 @@
+-- The rows of the table as `check_with` meets them: what each answer says, and what the next function may read. Assumes nothing.
+use mathlib.Core.Path.{_≡_, refl, sym, _∙_, ap, subst}
+use mathlib.Core.Bool.{Bool, true, false, not, _&&_, _||_}
+use mathlib.Core.List.{List}
+use Prim.Native.Nat.{ℕ, _+_, _*_, _<_, _≤_}
+use native.Mathlib.Nat.{le-refl}
+use native.Mathlib.Omega.{arith}
+use lib.Dec.{ltb}
+use lib.IntN.{ℤ}
+use lib.ListN.{length}
+use borrow.Author.Tests.{ltb-false}
+use Rattle.dcel.specs.Rows.{There, halvesOf, rowOf, linksOf, positionOf}
+use Rattle.math.specs.declared.Point.{Point}
+use Rattle.math.specs.Determinant.{InRange}
+use Rattle.mesh.specs.declared.Counts.{Counts}
+use Rattle.mesh.specs.CountsLaws.{halves-fit, faces-fit}
+use Rattle.mesh.specs.Mesh.{Links}
+use Rattle.mesh.specs.Rules.{rules}
+use Rattle.mesh.specs.RulesWf.{rules-wf}
+use Rattle.mesh.specs.Wf.{Wf}
+use Rattle.mesh_check.specs.declared.Checked.{Checked}
+use Rattle.mesh_check.specs.declared.Checked.the-variants.{Accepted}
+use Rattle.mesh_check.specs.Accepted.{or-false, MeshRows, not-short-rows, vertex-is}
+use Rattle.mesh_check.specs.Check.{refused, countRefused, meshRowsShort, firstOutside, vertexOrPoint, firstNotLeft, checkMesh, checkWith, pointCount, vertexCount, rowsShort}
+use Rattle.mesh_check.specs.CheckLaws.{check-count, check-short, check-outside, check-rules, check-turn, check-accepted, not-left-agree, count-within, inside-range}
+use Rattle.mesh_check.specs.Readable.{Placed, Corners, Readable}
+use Rattle.mesh_rules.specs.Sweep.{RowsThere}
+use Rattle.sums.specs.Bit.{from-true}
+
+-- the sizes, where neither 1 nor 2 was answered. n: seed plus points
+pub record Sized (points : List ℤ) (C : Counts) (p : List ℤ) (o h a : List ℕ) (n : ℕ) : Type 0 where
+  pub all : n ≡ C .vertices + pointCount points
+  pub most : n ≤ 1000000
+  pub pairs : 2 * pointCount points ≤ length points
+  pub rows : MeshRows n p o h a
+
+pub few : (n : ℕ) → countRefused n ≡ false → n ≤ 1000000
+few n e = count-within n e .1
+
+module _ (points : List ℤ) (short : Bool) (C : Counts) (p : List ℤ) (o h a : List ℕ) {n : ℕ} (ns : n ≡ vertexCount C points) where
+  abbrev places : ℕ → Point
+  places = vertexOrPoint (C .vertices) (positionOf p) (positionOf points)
+
+  pub with-count : countRefused n ≡ true → refused 1 0 ≡ checkWith points short C p o h a
+  unfolding checkWith
+  with-count e = check-count (vertexCount C points) (short || rowsShort (vertexCount C points) points p o h a) C (linksOf o h a) places (rw ns at e)
+
+  module _ (e : countRefused n ≡ false) where
+    e′ : countRefused (vertexCount C points) ≡ false
+    e′ = rw ns at e
+
+    pub with-short : short ≡ true → refused 2 0 ≡ checkWith points short C p o h a
+    unfolding checkWith
+    with-short b = check-short (vertexCount C points) (short || rowsShort (vertexCount C points) points p o h a) C (linksOf o h a) places e′ (rw b)
+
+    module _ (b : short ≡ false) where
+      pub with-rows : rowsShort n points p o h a ≡ true → refused 2 0 ≡ checkWith points short C p o h a
+      unfolding checkWith
+      with-rows d = check-short (vertexCount C points) (short || rowsShort (vertexCount C points) points p o h a) C (linksOf o h a) places e′ (rw (b, ← ns) d)
+
+      module _ (d : rowsShort n points p o h a ≡ false) where
+        b′ : (short || rowsShort (vertexCount C points) points p o h a) ≡ false
+        b′ = rw (b, ← ns) d
+
+        pub sized : Sized points C p o h a n
+        unfolding rowsShort vertexCount
+        sized =
+            let r = or-false (ltb (length points) (2 * pointCount points)) (meshRowsShort n (length p) (length o) (length h) (length a)) d in
+            record { all = ns; most = few n e; pairs = ltb-false (length points) (2 * pointCount points) (r .0); rows = not-short-rows (r .1) }
+
+        module _ {i m : ℕ} (ms : m ≡ pointCount points) (q : i ≡ firstOutside (C .vertices + m) places) where
+          q′ : i ≡ firstOutside (vertexCount C points) places
+          unfolding vertexCount
+          q′ = rw ms at q
+
+          pub with-outside : i < n → refused 3 i ≡ checkWith points short C p o h a
+          unfolding checkWith
+          with-outside l = check-outside (vertexCount C points) (short || rowsShort (vertexCount C points) points p o h a) C (linksOf o h a) places e′ b′ q′ (rw ns at l)
+
+          module _ (l : n ≤ i) where
+            pub with-rules : rules C (linksOf o h a) ≡ false → refused 4 0 ≡ checkWith points short C p o h a
+            unfolding checkWith
+            with-rules r = check-rules (vertexCount C points) (short || rowsShort (vertexCount C points) points p o h a) C (linksOf o h a) places e′ b′ q′ (rw ns at l) r
+
+            module _ (r : rules C (linksOf o h a) ≡ true) where
+              W : Wf C (linksOf o h a)
+              W = rules-wf C (linksOf o h a) (from-true r)
+
+              seed : C .vertices ≤ vertexCount C points
+              unfolding vertexCount
+              seed = omega arith
+
+              placed : {v : ℕ} → v < C .vertices → Placed p v
+              placed {v} k =
+                  let S = sized in
+                  let u = seed in
+                  let x = inside-range (vertexCount C points) places (rw q′ at (rw ns at l)) {v = v} (omega arith) in
+                  record { there = omega arith; range = subst InRange (vertex-is (C .vertices) (positionOf p) (positionOf points) v k) x }
+
+              half-there : {x : ℕ} → x < 2 * C .edges → There h x
+              half-there k = let S = sized in let u = halves-fit W (le-refl (C .vertices)) in omega arith
+
+              pub readable : Readable C p h a
+              unfolding linksOf
+              readable = record {
+                some = W .some;
+                faces = let S = sized in let u = faces-fit W (le-refl (C .vertices)) in omega arith;
+                corners = λ f k.
+                    let a< = W .ranges .adjacent< k in
+                    let b< = W .ranges .next< a< in
+                    let c< = W .ranges .next< b< in
+                    record {
+                      first = half-there a<;
+                      second = half-there b<;
+                      third = half-there c<;
+                      one = placed (W .ranges .origin< a<);
+                      two = placed (W .ranges .origin< b<);
+                      three = placed (W .ranges .origin< c<);
+                    };
+              }
+
+              module _ {f : ℕ} (fs : f ≡ firstNotLeft C (linksOf o h a) (positionOf p)) where
+                fs′ : f ≡ firstNotLeft C (linksOf o h a) places
+                fs′ = fs ∙ sym (not-left-agree (vertex-is (C .vertices) (positionOf p) (positionOf points)) W (le-refl (C .vertices)))
+
+                pub with-turn : f < C .faces → refused 5 f ≡ checkWith points short C p o h a
+                unfolding checkWith
+                with-turn k = check-turn (vertexCount C points) (short || rowsShort (vertexCount C points) points p o h a) C (linksOf o h a) places e′ b′ q′ (rw ns at l) r fs′ k
+
+                pub with-accepted : C .faces ≤ f → Accepted ≡ checkWith points short C p o h a
+                unfolding checkWith
+                with-accepted k = check-accepted (vertexCount C points) (short || rowsShort (vertexCount C points) points p o h a) C (linksOf o h a) places e′ b′ q′ (rw ns at l) r fs′ k
+
+-- what the sweeps over the mesh ask
+pub mesh-there : {points : List ℤ} {C : Counts} {p : List ℤ} {o h a : List ℕ} {n : ℕ} → Sized points C p o h a n → RowsThere C o h a
+mesh-there S = record { outs = omega arith; halves = omega arith; faces = omega arith; small = omega arith }

@@ -1,0 +1,169 @@
+-- What the calls may rely on: the rows of an accepted mesh are long enough and hold a good mesh, and every such mesh is accepted (`check-accepts`,
+-- `accepts-check`; with points: `with-accepts`, `accepts-with`). Assumes nothing.
+use mathlib.Core.Path.{_≡_, refl, sym, _∙_, ap, subst}
+use mathlib.Core.Bool.{Bool, true, false, not, _&&_, _||_, cond}
+use mathlib.Core.List.{List, []}
+use Prim.Native.Nat.{ℕ, zero, suc, _+_, _-_, _*_, _/_, _<_, _≤_}
+use native.Mathlib.Decide.{decLt}
+use native.Mathlib.Nat.{le-refl}
+use native.Mathlib.Omega.{arith}
+use borrow.Author.Tests.{lt-ltb, le-ltb, ltb-false}
+use lib.Dec.{T, ltb, ltb→lt, lt→ltb}
+use lib.IntN.{ℤ}
+use lib.ListN.{length}
+use Rattle.dcel.specs.Rows.{linksOf, positionOf}
+use Rattle.math.specs.declared.Point.{Point}
+use Rattle.math.specs.Determinant.{InRange}
+use Rattle.mesh.specs.declared.Counts.{Counts}
+use Rattle.mesh.specs.Mesh.{Links}
+use Rattle.mesh.specs.Area.{LeftTurning}
+use Rattle.mesh.specs.Good.{Good}
+use Rattle.mesh.specs.Wf.{Wf}
+use Rattle.mesh_check.specs.declared.Checked.{Checked}
+use Rattle.mesh_check.specs.declared.Checked.the-variants.{Accepted, Refused}
+use Rattle.mesh_check.specs.Check.{meshRowsShort, vertexOrPoint, checkMesh, checkOf, pointCount, vertexCount, rowsShort, checkWith}
+use Rattle.mesh_check.specs.CheckLaws.{Passes, passes-good, accepted-passes, passes-accepted, check-agree}
+use Rattle.sums.specs.Bit.{is-true, is-false, from-true, from-false}
+
+pub or-false : (a b : Bool) → (a || b) ≡ false → (a ≡ false) × (b ≡ false)
+or-false true b e = absurd (let t = from-false e in t)
+or-false false b e = (refl, e)
+
+-- the mesh's rows have 01's sizes for n vertices
+pub record MeshRows (n : ℕ) (p : List ℤ) (o h a : List ℕ) : Type 0 where
+  pub positions : 2 * n ≤ length p
+  pub outs : n ≤ length o
+  pub halves : 24 * n ≤ length h
+  pub faces : 2 * n ≤ length a
+
+module _ {n : ℕ} {p : List ℤ} {o h a : List ℕ} where
+  pub not-short-rows : meshRowsShort n (length p) (length o) (length h) (length a) ≡ false → MeshRows n p o h a
+  unfolding meshRowsShort
+  not-short-rows e =
+      let x = or-false (ltb (length p) (2 * n)) (ltb (length o) n || (ltb (length h) (24 * n) || ltb (length a) (2 * n))) e in
+      let y = or-false (ltb (length o) n) (ltb (length h) (24 * n) || ltb (length a) (2 * n)) (x .1) in
+      let z = or-false (ltb (length h) (24 * n)) (ltb (length a) (2 * n)) (y .1) in
+      record {
+        positions = ltb-false (length p) (2 * n) (x .0);
+        outs = ltb-false (length o) n (y .0);
+        halves = ltb-false (length h) (24 * n) (z .0);
+        faces = ltb-false (length a) (2 * n) (z .1);
+      }
+
+  pub rows-not-short : MeshRows n p o h a → meshRowsShort n (length p) (length o) (length h) (length a) ≡ false
+  unfolding meshRowsShort
+  rows-not-short R =
+      rw (le-ltb (length p) (2 * n) (R .positions), le-ltb (length o) n (R .outs), le-ltb (length h) (24 * n) (R .halves), le-ltb (length a) (2 * n) (R .faces))
+
+-- ---- the call `check`
+pub record AcceptedMesh (C : Counts) (p : List ℤ) (o h a : List ℕ) : Type 0 where
+  pub least : 3 ≤ C .vertices
+  pub most : C .vertices ≤ 1000000
+  pub rows : MeshRows (C .vertices) p o h a
+  pub good : Good C (linksOf o h a) (positionOf p)
+
+module _ {C : Counts} {p : List ℤ} {o h a : List ℕ} where
+  pub check-accepts : checkOf C p o h a ≡ Accepted → AcceptedMesh C p o h a
+  unfolding checkOf
+  check-accepts e =
+      let P = accepted-passes e in
+      record { least = P .least; most = P .most; rows = not-short-rows (P .long); good = passes-good (le-refl (C .vertices)) P }
+
+  pub accepts-check : AcceptedMesh C p o h a → checkOf C p o h a ≡ Accepted
+  unfolding checkOf
+  accepts-check A = passes-accepted (record {
+    least = A .least;
+    most = A .most;
+    long = rows-not-short (A .rows);
+    range = A .good .range;
+    wf = A .good .wf;
+    turning = A .good .turning;
+  })
+
+-- ---- a call with points
+module _ (s : ℕ) (p q : ℕ → Point) where
+  pub vertex-is : (v : ℕ) → v < s → vertexOrPoint s p q v ≡ p v
+  unfolding vertexOrPoint
+  vertex-is v l = rw (lt-ltb v s l)
+
+  pub point-is : (i : ℕ) → vertexOrPoint s p q (s + i) ≡ q i
+  unfolding vertexOrPoint
+  point-is i = rw (le-ltb (s + i) s (omega arith)) (ap q (gone s i))
+    where
+      gone : (s i : ℕ) → s + i - s ≡ i
+      gone s i = omega arith
+
+-- only the positions of the counted vertices matter to the faces
+turning-agree : {C : Counts} {L : Links} {q r : ℕ → Point} → Wf C L → ((v : ℕ) → v < C .vertices → q v ≡ r v) → LeftTurning C L q → LeftTurning C L r
+turning-agree {C} {L} {q} {r} W same H = record {
+  left = λ {f} u l.
+      let a< = W .ranges .adjacent< l in
+      let b< = W .ranges .next< a< in
+      rw (← at a<, ← at b<, ← at (W .ranges .next< b<)) (H .left u l);
+}
+  where
+    at : {e : ℕ} → e < 2 * C .edges → q (L .origin e) ≡ r (L .origin e)
+    at {e} l = same (L .origin e) (W .ranges .origin< l)
+
+pub record AcceptedWith (points : List ℤ) (C : Counts) (p : List ℤ) (o h a : List ℕ) : Type 0 where
+  pub least : 3 ≤ vertexCount C points
+  pub most : vertexCount C points ≤ 1000000
+  pub pairs : 2 * pointCount points ≤ length points
+  pub rows : MeshRows (vertexCount C points) p o h a
+  pub range : {i : ℕ} → i < pointCount points → InRange (positionOf points i)
+  pub good : Good C (linksOf o h a) (positionOf p)
+
+module _ {points : List ℤ} {short : Bool} {C : Counts} {p : List ℤ} {o h a : List ℕ} where
+  pub with-accepts : checkWith points short C p o h a ≡ Accepted → AcceptedWith points C p o h a × (short ≡ false)
+  unfolding checkWith rowsShort vertexCount
+  with-accepts e =
+      let P = accepted-passes e in
+      let n = C .vertices + pointCount points in
+      let mesh = meshRowsShort n (length p) (length o) (length h) (length a) in
+      let alone = ltb (length points) (2 * pointCount points) in
+      let u = or-false short (alone || mesh) (P .long) in
+      let w = or-false alone mesh (u .1) in
+      let same = vertex-is (C .vertices) (positionOf p) (positionOf points) in (
+        record {
+          least = P .least;
+          most = P .most;
+          pairs = ltb-false (length points) (2 * pointCount points) (w .0);
+          rows = not-short-rows (w .1);
+          range = λ {i} l. subst InRange (point-is (C .vertices) (positionOf p) (positionOf points) i) (P .range (omega arith));
+          good = record {
+            wf = P .wf;
+            turning = turning-agree (P .wf) same (P .turning);
+            range = λ {v} l. subst InRange (same v l) (P .range (omega arith));
+          };
+        },
+        u .0,
+      )
+
+  pub accepts-with : short ≡ false → AcceptedWith points C p o h a → checkWith points short C p o h a ≡ Accepted
+  unfolding checkWith rowsShort vertexCount
+  accepts-with e A =
+      let same = vertex-is (C .vertices) (positionOf p) (positionOf points) in
+      passes-accepted (record {
+        least = A .least;
+        most = A .most;
+        long = rw (e, le-ltb (length points) (2 * pointCount points) (A .pairs)) (rows-not-short (A .rows));
+        range = λ {v} l. all v l (decLt v (C .vertices));
+        wf = A .good .wf;
+        turning = turning-agree (A .good .wf) (λ v l. sym (same v l)) (A .good .turning);
+      })
+    where
+      all : (v : ℕ) → v < C .vertices + pointCount points → Dec (v < C .vertices) → InRange (vertexOrPoint (C .vertices) (positionOf p) (positionOf points) v)
+      all v l (yes k) = subst InRange (sym (vertex-is (C .vertices) (positionOf p) (positionOf points) v k)) (A .good .range k)
+      all v l (no k) =
+          let i : v ≡ C .vertices + (v - C .vertices) = omega arith in
+          rw i (subst InRange (sym (point-is (C .vertices) (positionOf p) (positionOf points) (v - C .vertices))) (A .range (omega arith)))
+
+-- no points: what `check` answers
+pub with-none : (C : Counts) (p : List ℤ) (o h a : List ℕ) → checkWith [] false C p o h a ≡ checkOf C p o h a
+unfolding checkWith checkOf rowsShort vertexCount pointCount
+with-none C p o h a =
+    ap (λ (n : ℕ). checkMesh n (meshRowsShort n (length p) (length o) (length h) (length a)) C (linksOf o h a) (vertexOrPoint (C .vertices) (positionOf p) (positionOf []))) (same (C .vertices))
+    ∙ check-agree (vertex-is (C .vertices) (positionOf p) (positionOf [])) (meshRowsShort (C .vertices) (length p) (length o) (length h) (length a)) C (linksOf o h a) (le-refl (C .vertices))
+  where
+    same : (n : ℕ) → n + 0 ≡ n
+    same n = omega arith

@@ -1,0 +1,4 @@
+pub mod Check
+pub mod Readable
+pub mod CheckLaws
+pub mod Accepted
