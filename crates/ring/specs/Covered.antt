@@ -36,6 +36,9 @@ module _ {f α : ℕ → ℕ} {C : Counts} {L : Links} {α′ : ℕ → ℕ} {s 
   pub covered-in : (k : ℕ) → k < n → In C (iter k f r)
   covered-in k h = subst (In C) (covered-rest k h) (outer-walk W (K .in-use) (K .outer) (suc (suc k)) .0)
 
+  pub covered-outer : (k : ℕ) → k < n → L .face (iter k f r) ≡ 0
+  covered-outer k h = ap (L .face) (sym (covered-rest k h)) ∙ outer-walk W (K .in-use) (K .outer) (suc (suc k)) .1
+
   pub p-in : In C p
   p-in = subst (In C) (K .spliced .l-p) (W .ranges .next< (K .in-use))
 
@@ -89,6 +92,10 @@ module _ {C : Counts} {L : Links} (W : Wf C L) {e : ℕ} (l : In C e) (o : L .fa
       differ : (j k : ℕ) → j < boundaryLength C L → k < boundaryLength C L → j ≢ k → iter j (L .next) e ≢ iter k (L .next) e
       differ j k u v d z = d (outer-once W l o j k u v z)
 
+-- the edge before l is the last that is not covered
+pub last-l : {f α : ℕ → ℕ} {C : Counts} {L : Links} {α′ : ℕ → ℕ} {s m n l p q r : ℕ} (W : Wf C L) → Covered f α C L α′ s m (suc n) l p q r → L .prev l ≡ iter n f r
+last-l {L = L} {n = n} W K = ap (L .prev) (sym (K .spliced .last n refl)) ∙ W .links .prev-next (covered-in W K n (omega arith))
+
 -- ---- a further face, to the right: between p and the edge after it
 module _ {f α : ℕ → ℕ} {C : Counts} {L : Links} {α′ : ℕ → ℕ} {s m n l p q r : ℕ} (W : Wf C L) (K : Covered f α C L α′ s m (suc n) l p q r) (more : 0 < n) where
   P : Spliced f α (L .next) (edgeAngle L α′) s m (suc n) l p q r
@@ -125,16 +132,13 @@ module _ {f α : ℕ → ℕ} {C : Counts} {L : Links} {α′ : ℕ → ℕ} {s 
       }
 
   -- ---- to the left: between the edge before l, the last that is not covered, and l
-  last-l : L .prev l ≡ iter n f r
-  last-l = ap (L .prev) (sym (P .last n refl)) ∙ W .links .prev-next (covered-in W K n (omega arith))
-
-  prev-in : In C (L .prev l)
+  pub prev-in : In C (L .prev l)
   prev-in = W .ranges .prev< (K .in-use)
 
   next-prev-l : L .next (L .prev l) ≡ l
   next-prev-l = W .links .next-prev (K .in-use)
 
-  prev-outer : L .face (L .prev l) ≡ 0
+  pub prev-outer : L .face (L .prev l) ≡ 0
   prev-outer = sym (W .links .face-next prev-in) ∙ ap (L .face) next-prev-l ∙ K .outer
 
   less : (n : ℕ) → 0 < n → suc (n - 1) ≡ n
@@ -143,7 +147,7 @@ module _ {f α : ℕ → ℕ} {C : Counts} {L : Links} {α′ : ℕ → ℕ} {s 
   -- the one before that
   prev-prev-l : L .prev (L .prev l) ≡ iter (n - 1) f r
   prev-prev-l =
-      ap (L .prev) (last-l ∙ ap (λ (k : ℕ). iter k f r) (sym (less n more)) ∙ iter-last (n - 1) f r ∙ sym (P .rest (n - 1) (omega arith)))
+      ap (L .prev) (last-l W K ∙ ap (λ (k : ℕ). iter k f r) (sym (less n more)) ∙ iter-last (n - 1) f r ∙ sym (P .rest (n - 1) (omega arith)))
       ∙ W .links .prev-next (covered-in W K (n - 1) (omega arith))
 
   next-next-prev : L .next (L .next (L .prev l)) ≡ p
@@ -159,7 +163,7 @@ module _ {f α : ℕ → ℕ} {C : Counts} {L : Links} {α′ : ℕ → ℕ} {s 
         spliced = grow-left P more (record {
           l-p = F .next-o ∙ next-next-prev;
           p-r = F .next-rest (p-in W K) (λ z. rest-p W K (n - 1) (omega arith) (sym (z ∙ prev-prev-l))) (λ z. p-l W K (z ∙ next-prev-l)) ∙ P .p-r;
-          at-l = ap α′ (F .origin-o) ∙ ap (edgeAngle L α′) last-l;
+          at-l = ap α′ (F .origin-o) ∙ ap (edgeAngle L α′) (last-l W K);
           at-p = ap α′ (F .ends (p-in W K) .0) ∙ P .at-p;
           at-rest = λ k u. ap α′ (F .ends (covered-in W K k (omega arith)) .0);
           rest = λ k u. F .next-rest (covered-in W K k (omega arith)) (λ z. rest-apart W K k (n - 1) (omega arith) (omega arith) (omega arith) (z ∙ prev-prev-l)) (λ z. rest-l W K k (omega arith) (z ∙ next-prev-l));
@@ -189,14 +193,11 @@ cover-same {f} {α} {C} {L} {L′} {α′} {s} {m} {n} {l} {p} {q} {r} W W′ S 
         p-r = keep-p .next ∙ P .p-r;
         at-l = ap α′ (keep-l .origin) ∙ P .at-l;
         at-p = ap α′ (keep-p .origin) ∙ P .at-p;
-        at-rest = λ k u. ap α′ (S .keeps (covered-in W K k u) (covered-outer k u) .origin) ∙ P .at-rest k u;
-        rest = λ k u. S .keeps (covered-in W K k (omega arith)) (covered-outer k (omega arith)) .next ∙ P .rest k u;
-        last = λ k u. S .keeps (covered-in W K k (omega arith)) (covered-outer k (omega arith)) .next ∙ P .last k u;
+        at-rest = λ k u. ap α′ (S .keeps (covered-in W K k u) (covered-outer W K k u) .origin) ∙ P .at-rest k u;
+        rest = λ k u. S .keeps (covered-in W K k (omega arith)) (covered-outer W K k (omega arith)) .next ∙ P .rest k u;
+        last = λ k u. S .keeps (covered-in W K k (omega arith)) (covered-outer W K k (omega arith)) .next ∙ P .last k u;
       };
       in-use = K .in-use;
       outer = keep-l .face ∙ K .outer;
       length = length-same W W′ S ∙ K .length;
     }
-  where
-    covered-outer : (k : ℕ) → k < n → L .face (iter k f r) ≡ 0
-    covered-outer k u = ap (L .face) (sym (covered-rest W K k u)) ∙ outer-walk W (K .in-use) (K .outer) (suc (suc k)) .1

@@ -17,8 +17,11 @@ pub mod WholeInsert
 pub mod Boundary
 pub mod Covered
 pub mod Chain
+pub mod CoveredEnds
 pub mod ChainLaws
 pub mod ChainMesh
 pub mod Located
+pub mod RingOf
+pub mod Resize
 pub mod HullExample
 pub mod Examples

@@ -116,6 +116,14 @@ module _ {N : ℕ} {next α left right angle edge bucket next' α' left' right' 
       go (no z) (inl y) = let b = bit-yes (proper (α e) q) (proper← (α e) q z) in let c = count in let d = size in let h = some in let i = M .same z in omega arith
       go (no z) (inr y) = let b = bit-yes (proper (α e) q) (proper← (α e) q z) in let c = count in let d = size in let h = some in let i = M .same z in omega arith
 
+  -- the numbers in use pass none that the nodes of the longest ring and one more need
+  pub insert-keeps-len : nodes next α (m + n) e + f ≡ len → {top : ℕ} → nodes next α (m + n) e ≤ top → len ≤ suc top → len₁ ≤ suc top
+  insert-keeps-len g {top} a b = go (taken-sum X)
+    where
+      go : ((f + (nodes next α m e - 1) ≡ suc f₁) × (len₁ ≡ len)) ⊎ ((f + (nodes next α m e - 1) ≡ 0) × (f₁ ≡ 0) × (len₁ ≡ suc len)) → len₁ ≤ suc top
+      go (inl y) = omega arith
+      go (inr y) = omega arith
+
   -- THE HULL
   pub insert-keeps-hull : {bucket₁ bucket' : ℕ → ℕ} → ((i : ℕ) → i < B → bucket₁ i ≡ cond (within i (ceiling w (α e) % B) (ceiling w q % B)) s' (bucket i))
       → ((i : ℕ) → i < B → bucket' i ≡ cond (within i (ceiling w q % B) (ceiling w (α r) % B)) v (bucket₁ i)) → Hull N next' α' left' right' angle' edge' bucket' l (suc (suc n)) s' B w
