@@ -2,3 +2,4 @@
 pub mod Nodes
 pub mod Walk
 pub mod Range
+pub mod Filling

@@ -9,7 +9,7 @@ use Rattle.sums.specs.Iterate.{iter}
 use Rattle.sums.specs.Tally.{walk, tally, First}
 use Rattle.angle.specs.Angle.{IsAngle, turns}
 use Rattle.segment.specs.Arc.{holds}
-use Rattle.segment.specs.Bucket.{Buckets, width}
+use Rattle.segment.specs.Bucket.{Buckets, width, ceilOf}
 use Rattle.dcel.specs.Rows.{rowOf}
 use Rattle.ring.specs.Ring.{fullTurn, proper, atEnds}
 use Rattle.ring.specs.Sound.{Sound}
@@ -103,3 +103,24 @@ pub record Run (old new : List ℕ) (from to v : ℕ) : Type 0 where
   pub inside : (i : ℕ) → from ≤ i → i < to → rowOf new i ≡ v
   pub before : (i : ℕ) → i < from → rowOf new i ≡ rowOf old i
   pub past : (i : ℕ) → to ≤ i → rowOf new i ≡ rowOf old i
+
+-- node i and its right one can be read, and the buckets are there
+pub record NodeBuckets (nodes : List (List ℕ)) (buckets : List ℕ) (count i : ℕ) : Type 0 where
+  pub here : i < length nodes
+  pub there : nodesOf nodes i .right < length nodes
+  pub from : Readable (nodesOf nodes i)
+  pub to : Readable (nodesOf nodes (nodesOf nodes i .right))
+  pub counted : Buckets count
+  pub room : count ≤ length buckets
+
+pub record NodeUpdated (t : ℕ → Node) (old new : List ℕ) (count i r : ℕ) : Type 0 where
+  pub updated : Updated old new count (ceilOf (angleOf t i) count) (ceilOf (angleOf t (rightOf t i)) count) i
+  pub right : r ≡ rightOf t i
+
+-- a ring of nodes, and room for its buckets
+pub record ToFill (nodes : List (List ℕ)) (buckets : List ℕ) (count start size : ℕ) : Type 0 where
+  pub len : ℕ
+  pub ring : NodeRing (nodesOf nodes) len size start
+  pub node-room : len ≤ length nodes
+  pub counted : Buckets count
+  pub bucket-room : count ≤ length buckets

@@ -7,9 +7,10 @@ ghost use lib.ListN.{length, replicate};
 ghost use lib.Dec.{T};
 ghost use Rattle.sums.specs.Put.{put};
 ghost use Rattle.angle.specs.Angle.{IsAngle, validAngle, turns};
-ghost use Rattle.segment.specs.Bucket.{floorOf};
+ghost use Rattle.segment.specs.Bucket.{floorOf, width};
+ghost use Rattle.ring.specs.Insert.{Bucketed};
 ghost use Rattle.dcel.specs.Rows.{rowOf};
-ghost use Rattle.ring_rows.specs.Rows.{nodesOf, Readable, withEdge, withLeft, withRight, RingRows, sizeOf, Got, Updated, Run};
+ghost use Rattle.ring_rows.specs.Rows.{nodesOf, Readable, withEdge, withLeft, withRight, RingRows, sizeOf, Got, Updated, Run, rightOf, angleOf, NodeBuckets, NodeUpdated, ToFill};
 use segment::Segment;
 
 pub struct Node {
@@ -156,6 +157,38 @@ pub fn update_bucket_segment(buckets: &mut [u32], count: usize, from: usize, to:
     } else {
         fill(buckets, from, count, v);
         fill(buckets, 0, to, v);
+    }
+}
+
+// The buckets whose points the segment of node i holds. Answers the node after it.
+fn update_node_buckets(nodes: &[[u64; 4]], buckets: &mut [u32], count: usize, i: u32) -> u32
+    requires { ⌜ NodeBuckets (now nodes) (now buckets) count i ⌝ }
+    ensures { λ r. ⌜ NodeUpdated (nodesOf (now (nodes .entry))) (now (buckets .entry)) (now (buckets .exit)) count i r ⌝ }
+{
+    let from = load(nodes, i);
+    let to = load(nodes, from.right);
+    let first = segment::ceiled_bucket(from.angle, count);
+    let last = segment::ceiled_bucket(to.angle, count);
+    update_bucket_segment(buckets, count, first, last, i);
+    from.right
+}
+
+// Every bucket's node, from the ring's own nodes, of which there are `size` from `start` on.
+pub fn initialize_buckets(
+    nodes: &[[u64; 4]],
+    buckets: &mut [u32],
+    count: usize,
+    start: u32,
+    size: u32,
+)
+    requires { ⌜ ToFill (now nodes) (now buckets) count start size ⌝ }
+    ensures { λ r. ⌜ Bucketed (rightOf (nodesOf (now (nodes .entry)))) (angleOf (nodesOf (now (nodes .entry)))) (rowOf (now (buckets .exit))) count (width count) start size ⌝ }
+{
+    let mut i = start;
+    let mut k: u32 = 0;
+    while k < size {
+        i = update_node_buckets(nodes, buckets, count, i);
+        k += 1;
     }
 }
 
