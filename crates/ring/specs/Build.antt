@@ -25,21 +25,22 @@ pub record Built (next α right angle edge : ℕ → ℕ) (e h m : ℕ) : Type 0
   pub turn : (i : ℕ) → suc i ≡ m → right i ≡ 0
 
 module _ {N : ℕ} {next α right angle edge : ℕ → ℕ} {e h m : ℕ} (S : Sound N next α e h) (B : Built next α right angle edge e h m) where
-  count : (i : ℕ) → i < m → iter i right 0 ≡ i
-  count zero l = refl
-  count (suc i) l = iter-last i right 0 ∙ ap right (count i (omega arith)) ∙ B .step i l
+  -- the i-th node is i
+  pub built-at : (i : ℕ) → i < m → iter i right 0 ≡ i
+  built-at zero l = refl
+  built-at (suc i) l = iter-last i right 0 ∙ ap right (built-at i (omega arith)) ∙ B .step i l
 
   pub built : Ring N next α right angle edge e h 0
   unfolding Stands
   built = record {
     sound = S;
-    match = match-of next α right angle edge h e 0 (λ k l t. let c = count (nodes next α k e) (let b = tally-before (atEnds proper next α) next h e k l t in let z = B .size in omega arith) in (ap edge c ∙ B .at k l t .0, ap angle c ∙ B .at k l t .1));
+    match = match-of next α right angle edge h e 0 (λ k l t. let c = built-at (nodes next α k e) (let b = tally-before (atEnds proper next α) next h e k l t in let z = B .size in omega arith) in (ap edge c ∙ B .at k l t .0, ap angle c ∙ B .at k l t .1));
     back = ap (λ (i : ℕ). iter i right 0) (B .size) ∙ go m refl;
   }
     where
       go : (j : ℕ) → j ≡ m → iter j right 0 ≡ 0
       go zero z = refl
-      go (suc j) z = iter-last j right 0 ∙ ap right (count j (omega arith)) ∙ B .turn j z
+      go (suc j) z = iter-last j right 0 ∙ ap right (built-at j (omega arith)) ∙ B .turn j z
 
 -- ---- buckets from nothing: d nodes are done
 unfoldable pub Filling : (ℕ → ℕ) → (ℕ → ℕ) → (ℕ → ℕ) → ℕ → ℕ → ℕ → ℕ → Type 0

@@ -6,6 +6,8 @@ use mathlib.Core.List.{List, [], _∷_}
 use Prim.Native.Nat.{ℕ, _+_, _*_, _^_}
 use lib.IntN.{ℤ, pos, negsuc}
 use lib.ListN.{getD}
+use lib.Ieee.{Float, fin, ofInt, neg, add, sub, mul, div, sum, round, units, odd, size, span, climb, lt}
+use Rattle.angle.specs.Angle.{zero64, one64, angleAbout, pseudoAngle, ofDiff, slope, absoluteOf, validCenter, bounded, atCenter, isNumber, turns}
 use Rattle.math.specs.declared.Point.{Point}
 use Rattle.math.specs.Determinant.{orient2d, factor, length2}
 use Rattle.mesh.specs.declared.Counts.{Counts}
@@ -14,12 +16,13 @@ use Rattle.mesh.specs.Area.{boundaryLength}
 use Rattle.mesh.specs.Operations.{createNewFaceAdjacentToEdge, faceAdjacent, withVertex}
 use Rattle.mesh.specs.Examples.{seed, seedCounts}
 use Rattle.segment.specs.Arc.{holds, gap, wide}
-use Rattle.sums.specs.Bounded.{first-below}
+use Rattle.sums.specs.Bounded.{first-below, any-below}
 use Rattle.sums.specs.Half.{rev}
 use Rattle.sums.specs.Iterate.{period-below}
 use Rattle.sums.specs.Put.{put}
 use Rattle.sums.specs.Tally.{walk, tally}
 use Rattle.ring.specs.Ring.{proper, wraps, countBefore, countAround, mergedBefore, merged, member, allDiffer, isSound, isStrict, between, passedCount, boundaryEdges, boundaryAngles, isSoundRing, isStrictRing, filter, ringNodes, located}
+use Rattle.ring.specs.Center.{turnsAbout, refusesCenter, refusesRing}
 use Rattle.ring.specs.Chain.{coversLeft, coversRight, leftChain, rightChain, anglesAfter, soundAfter}
 
 -- ---- angles on a circle of 16 places
@@ -61,10 +64,19 @@ row l i = getD l i 0
 abbrev about-1-1 : ℕ → ℕ
 about-1-1 = row (7 * 2 ^ 50 ∷ 9 * 2 ^ 49 ∷ 3 * 2 ^ 49 ∷ [])
 
--- M3: "the seed above has boundary angles 0.5625, 0.875, 0.1875."
-pub M3-boundary : (boundaryAngles seedCounts seed about-1-1 ≡ 9 * 2 ^ 49 ∷ 7 * 2 ^ 50 ∷ 3 * 2 ^ 49 ∷ []) × (isStrictRing seedCounts seed about-1-1 ≡ true)
-unfolding seed boundaryAngles boundaryEdges boundaryLength period-below first-below walk isStrictRing isSound isStrict merged mergedBefore allDiffer member countAround countBefore wraps wide gap
-M3-boundary = (refl, refl)
+abbrev points : List Point → ℕ → Point
+points l i = getD l i (record { x = pos 0; y = pos 0 })
+
+abbrev at : ℤ → ℤ → Point
+at x y = record { x = x; y = y }
+
+abbrev corners : ℕ → Point
+corners = points (at (pos 0) (pos 0) ∷ at (pos 4) (pos 0) ∷ at (pos 0) (pos 4) ∷ [])
+
+-- M3: "the seed above has boundary angles 0.5625, 0.875, 0.1875." The ring is strict
+pub M3-boundary : (boundaryAngles seedCounts seed (turnsAbout one64 one64 corners) ≡ 9 * 2 ^ 49 ∷ 7 * 2 ^ 50 ∷ 3 * 2 ^ 49 ∷ []) × (refusesCenter seedCounts seed corners one64 one64 ≡ false) × (refusesRing seedCounts seed corners one64 one64 ≡ false)
+unfolding seed boundaryAngles boundaryEdges boundaryLength period-below first-below walk refusesCenter refusesRing isStrictRing isSound isStrict merged mergedBefore allDiffer member countAround countBefore wraps wide gap turnsAbout turns angleAbout pseudoAngle ofDiff slope absoluteOf validCenter bounded atCenter isNumber any-below ofInt neg add sub mul div sum round units odd size span climb lt
+M3-boundary = (refl, refl, refl)
 
 -- 0.6 is held by the half-edge 1, and 0.1, 1.0 and 0.0 by the half-edge 5, which wraps; on the way to 0.6 from 0.5 one angle is passed
 pub seed-located : (located seedCounts seed about-1-1 5404319552844595 ≡ 1) × (located seedCounts seed about-1-1 900719925474099 ≡ 5) × (located seedCounts seed about-1-1 (2 ^ 53) ≡ 5)
@@ -72,14 +84,18 @@ pub seed-located : (located seedCounts seed about-1-1 5404319552844595 ≡ 1) ×
 unfolding seed located holds boundaryAngles boundaryEdges boundaryLength period-below first-below walk passedCount merged mergedBefore member tally between
 seed-located = (refl, refl, refl, refl, refl)
 
--- its vertices' angles about (9,9)
-abbrev about-9-9 : ℕ → ℕ
-about-9-9 = row (7881299347898368 ∷ 7559613660229047 ∷ 8202985035567689 ∷ [])
+-- M9: "that seed with centre (9,9): 7", and not 6: the gap around the far side is wide
+abbrev nine64 : Float
+nine64 = fin false 9 (pos 0)
 
--- M9: "that seed with centre (9,9): 7", the ring is not strict: the gap around the far side is wide
-pub M9-ring : isStrictRing seedCounts seed about-9-9 ≡ false
-unfolding seed boundaryAngles boundaryEdges boundaryLength period-below first-below walk isStrictRing isSound isStrict merged mergedBefore allDiffer member countAround countBefore wraps wide gap
-M9-ring = refl
+pub M9-ring : (refusesCenter seedCounts seed corners nine64 nine64 ≡ false) × (refusesRing seedCounts seed corners nine64 nine64 ≡ true)
+unfolding seed boundaryAngles boundaryEdges boundaryLength period-below first-below walk refusesCenter refusesRing isStrictRing isSound isStrict merged mergedBefore allDiffer member countAround countBefore wraps wide gap turnsAbout turns angleAbout pseudoAngle ofDiff slope absoluteOf validCenter bounded atCenter isNumber any-below ofInt neg add sub mul div sum round units odd size span climb lt
+M9-ring = (refl, refl)
+
+-- a centre on a boundary vertex is refused
+pub center-on-vertex : refusesCenter seedCounts seed corners zero64 zero64 ≡ true
+unfolding seed boundaryLength period-below first-below refusesCenter validCenter bounded atCenter isNumber any-below
+center-on-vertex = refl
 
 -- ---- a vertex 3 beside the half-edge 1, at the angle of vertex 1: the half-edge 9 between them has no node, and 7, the run's last, stands for their angle
 abbrev with-run : Links
@@ -94,15 +110,6 @@ unfolding createNewFaceAdjacentToEdge faceAdjacent put rev seed ringNodes filter
 run-nodes = (refl, refl, refl, refl, refl)
 
 -- ---- chains
-abbrev points : List Point → ℕ → Point
-points l i = getD l i (record { x = pos 0; y = pos 0 })
-
-abbrev at : ℤ → ℤ → Point
-at x y = record { x = x; y = y }
-
-abbrev corners : ℕ → Point
-corners = points (at (pos 0) (pos 0) ∷ at (pos 4) (pos 0) ∷ at (pos 0) (pos 4) ∷ [])
-
 -- 01's listing: (4,4), at the angle 0.375, covers the located half-edge 3 alone
 pub lone-edge : (located seedCounts seed about-1-1 (3 * 2 ^ 50) ≡ 3) × (leftChain seedCounts seed corners about-1-1 (at (pos 4) (pos 4)) (3 * 2 ^ 50) 3 ≡ 0)
     × (rightChain seedCounts seed corners about-1-1 (at (pos 4) (pos 4)) (3 * 2 ^ 50) 3 ≡ 0) × (soundAfter seedCounts seed corners about-1-1 (at (pos 4) (pos 4)) (3 * 2 ^ 50) 3 ≡ true)

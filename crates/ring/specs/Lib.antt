@@ -15,6 +15,7 @@ pub mod Grow
 pub mod Hull
 pub mod WholeInsert
 pub mod Boundary
+pub mod Center
 pub mod Covered
 pub mod Chain
 pub mod CoveredEnds

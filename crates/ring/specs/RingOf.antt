@@ -28,10 +28,10 @@ use Rattle.ring.specs.Splice.{Spliced, Fit}
 use Rattle.ring.specs.Buckets.{ceiling, within, Sized}
 use Rattle.ring.specs.Node.{nodes, Kept, kept-tally, kept-match}
 use Rattle.ring.specs.Insert.{Ring, On, Bucketed, ring-sound, ring-begins}
-use Rattle.ring.specs.Build.{Built, built}
+use Rattle.ring.specs.Build.{Built, built, built-at}
 use Rattle.ring.specs.Stores.{Linked, Stores}
-use Rattle.ring.specs.Free.{Free, Pushed, Taken}
-use Rattle.ring.specs.Hull.{Hull, hull-turns, hull-home, kth, node-edge}
+use Rattle.ring.specs.Free.{Free, Pushed, Taken, free-fewer}
+use Rattle.ring.specs.Hull.{Hull, hull-turns, hull-home, kth, node-edge, on-to, on-from}
 use Rattle.ring.specs.WholeInsert.{Names, insert-keeps-hull, insert-keeps-freed, insert-keeps-total}
 use Rattle.ring.specs.Boundary.{outer-round, outer-walk, outer-on, sound-first, sound-outer, outer-sound, length-same}
 use Rattle.ring.specs.Located.{node-place, node-located, locate-passed}
@@ -208,6 +208,22 @@ ring-built {C} {L} W {α} {left} {right} {angle} {edge} {bucket} {e} {m} {B} t l
       buckets = subst (Bucketed right angle bucket B (width B) 0) (sym (A .size)) U;
     }))
 
+-- none is freed yet
+pub free-built : {N : ℕ} {next α right angle edge : ℕ → ℕ} {e h m : ℕ} → Sound N next α e h → Built next α right angle edge e h m → (freed : ℕ → ℕ) → Free (On right m 0) freed 0 m
+free-built {m = m} S A freed = record {
+  live-below = λ x o. subst (λ (y : ℕ). y < m) (sym (built-at S A (o .0) (o .1)) ∙ o .2) (o .1);
+  below = λ j u. absurd (omega arith);
+  dead = λ j u. absurd (omega arith);
+  once = λ i j u. absurd (omega arith);
+}
+
+-- the stack of freed nodes does not depend on the node that one starts from
+pub free-from : {right freed : ℕ → ℕ} {m s y n len : ℕ} → iter m right s ≡ s → On right m s y → Free (On right m s) freed n len → Free (On right m y) freed n len
+free-from {right} {freed} {m} {s} {y} c (k, u, z) F = free-fewer (λ x o. on-from x c k (subst (λ (i : ℕ). On right m i x) (sym z) o)) F
+
+pub free-to : {right freed : ℕ → ℕ} {m s y n len : ℕ} → iter m right s ≡ s → On right m s y → Free (On right m y) freed n len → Free (On right m s) freed n len
+free-to {right} {freed} {m} {s} {y} c (k, u, z) F = free-fewer (λ x o. subst (λ (i : ℕ). On right m i x) z (on-to x c k o)) F
+
 -- ---- AN INSERT, across a step: from what the ring's code stores, and from the boundary that the step's faces left; `next` and α are those of the boundary before
 module _ {C′ : Counts} {L′ : Links} (W′ : Wf C′ L′) {next α α′ left right angle edge bucket left' right' angle' edge' freed freed₁ freed₂ : ℕ → ℕ} {e m n s l p q r t v u s' B f f₁ f₂ len len₁ : ℕ}
     (H : Hull fullTurn next α left right angle edge bucket e (m + n) s B (width B)) (K : Covered next α C′ L′ α′ e m n l p q r)
@@ -215,9 +231,15 @@ module _ {C′ : Counts} {L′ : Links} (W′ : Wf C′ L′) {next α α′ lef
     (t-is : iter (nodes next α m e) right s ≡ t) (A : Free (On right (nodes next α (m + n) e) s) freed f len)
     (U : Pushed right freed freed₁ s (nodes next α m e) f) (X : Taken freed₁ (f + (nodes next α m e - 1)) len v f₁ len₁)
     (M : Names left freed₁ freed₂ s v u s' (α e) q f₁ f₂) (S : Stores left right angle edge left' right' angle' edge' s t v u l p q (α e)) where
-  pub ring-insert : {bucket₁ bucket' : ℕ → ℕ} → ((i : ℕ) → i < B → bucket₁ i ≡ cond (within i (ceiling (width B) (α e) % B) (ceiling (width B) q % B)) s' (bucket i))
-      → ((i : ℕ) → i < B → bucket' i ≡ cond (within i (ceiling (width B) q % B) (ceiling (width B) (α r) % B)) v (bucket₁ i))
-      → RingOf C′ L′ α′ left' right' angle' edge' bucket' B (nodes (L′ .next) (edgeAngle L′ α′) (boundaryLength C′ L′) l)
-  ring-insert {bucket₁} {bucket'} x y = ring-of W′ (K .in-use) (K .outer)
-      (subst (λ (i : ℕ). Hull fullTurn (L′ .next) (edgeAngle L′ α′) left' right' angle' edge' bucket' l i s' B (width B)) (sym (K .length))
-      (insert-keeps-hull H (K .spliced) k k-in k-holds F q-low t-is A U X M S {bucket₁ = bucket₁} x y))
+  module _ {bucket₁ bucket' : ℕ → ℕ} (left-range : (i : ℕ) → i < B → bucket₁ i ≡ cond (within i (ceiling (width B) (α e) % B) (ceiling (width B) q % B)) s' (bucket i))
+      (right-range : (i : ℕ) → i < B → bucket' i ≡ cond (within i (ceiling (width B) q % B) (ceiling (width B) (α r) % B)) v (bucket₁ i)) where
+    after : Hull fullTurn (L′ .next) (edgeAngle L′ α′) left' right' angle' edge' bucket' l (boundaryLength C′ L′) s' B (width B)
+    after = subst (λ (i : ℕ). Hull fullTurn (L′ .next) (edgeAngle L′ α′) left' right' angle' edge' bucket' l i s' B (width B)) (sym (K .length))
+        (insert-keeps-hull H (K .spliced) k k-in k-holds F q-low t-is A U X M S {bucket₁ = bucket₁} left-range right-range)
+
+    pub ring-insert : RingOf C′ L′ α′ left' right' angle' edge' bucket' B (nodes (L′ .next) (edgeAngle L′ α′) (boundaryLength C′ L′) l)
+    ring-insert = ring-of W′ (K .in-use) (K .outer) after
+
+    pub ring-insert-freed : Free (On right' (nodes (L′ .next) (edgeAngle L′ α′) (boundaryLength C′ L′) l) (bucket' 0)) freed₂ f₂ len₁
+    ring-insert-freed = free-from (after .ring .back) (after .buckets 0 (let b = H .sized .eight in omega arith) .0)
+        (subst (λ (i : ℕ). Free (On right' (nodes (L′ .next) (edgeAngle L′ α′) i l) s') freed₂ f₂ len₁) (sym (K .length)) (insert-keeps-freed H (K .spliced) k k-in k-holds F q-low t-is A U X M S))
