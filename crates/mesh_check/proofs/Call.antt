@@ -1,6 +1,6 @@
 -- The rows of the table as `check_with` meets them: what each answer says, and what the next function may read. Assumes nothing.
-use mathlib.Core.Path.{_≡_, refl, sym, _∙_, ap, subst}
-use mathlib.Core.Bool.{Bool, true, false, not, _&&_, _||_}
+use mathlib.Core.Path.{_≡_, sym, _∙_, subst}
+use mathlib.Core.Bool.{Bool, true, false, _||_}
 use mathlib.Core.List.{List}
 use Prim.Native.Nat.{ℕ, _+_, _*_, _<_, _≤_}
 use native.Mathlib.Nat.{le-refl}
@@ -9,21 +9,19 @@ use lib.Dec.{ltb}
 use lib.IntN.{ℤ}
 use lib.ListN.{length}
 use borrow.Author.Tests.{ltb-false}
-use Rattle.dcel.specs.Rows.{There, halvesOf, rowOf, linksOf, positionOf}
+use Rattle.dcel.specs.Rows.{There, linksOf, positionOf}
 use Rattle.math.specs.declared.Point.{Point}
 use Rattle.math.specs.Determinant.{InRange}
 use Rattle.mesh.specs.declared.Counts.{Counts}
 use Rattle.mesh.specs.CountsLaws.{halves-fit, faces-fit}
-use Rattle.mesh.specs.Mesh.{Links}
 use Rattle.mesh.specs.Rules.{rules}
 use Rattle.mesh.specs.RulesWf.{rules-wf}
 use Rattle.mesh.specs.Wf.{Wf}
-use Rattle.mesh_check.specs.declared.Checked.{Checked}
 use Rattle.mesh_check.specs.declared.Checked.the-variants.{Accepted}
 use Rattle.mesh_check.specs.Accepted.{or-false, MeshRows, not-short-rows, vertex-is}
-use Rattle.mesh_check.specs.Check.{refused, countRefused, meshRowsShort, firstOutside, vertexOrPoint, firstNotLeft, checkMesh, checkWith, pointCount, vertexCount, rowsShort}
+use Rattle.mesh_check.specs.Check.{refused, countRefused, meshRowsShort, firstOutside, vertexOrPoint, firstNotLeft, checkWith, pointCount, vertexCount, rowsShort}
 use Rattle.mesh_check.specs.CheckLaws.{check-count, check-short, check-outside, check-rules, check-turn, check-accepted, not-left-agree, count-within, inside-range}
-use Rattle.mesh_check.specs.Readable.{Placed, Corners, Readable}
+use Rattle.mesh_check.specs.Readable.{Placed, Readable}
 use Rattle.mesh_rules.specs.Sweep.{RowsThere}
 use Rattle.sums.specs.Bit.{from-true}
 

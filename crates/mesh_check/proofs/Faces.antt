@@ -1,23 +1,18 @@
 -- The corners of a face, as they are read. Assumes nothing.
-use mathlib.Core.Path.{_≡_, refl, sym, _∙_, ap, subst}
+use mathlib.Core.Path.{_≡_, _∙_}
 use mathlib.Core.Bool.{Bool, true, false, not, _&&_}
 use mathlib.Core.List.{List}
-use Prim.Native.Nat.{ℕ, _+_, _*_, _<_, _≤_}
-use native.Mathlib.Omega.{arith}
+use Prim.Native.Nat.{ℕ, _<_}
 use borrow.Author.Tests.{lt-ltb}
 use lib.Dec.{ltb}
-use lib.IntN.{ℤ, pos}
-use lib.ListN.{length}
+use lib.IntN.{ℤ}
 use Rattle.dcel.specs.Rows.{There, halvesOf, rowOf, linksOf, positionOf}
 use Rattle.math.specs.declared.Point.{Point}
 use Rattle.math.specs.Determinant.{InRange, orient2d, sideOf, isOnLeftSide}
 use Rattle.math.specs.Side.{on-left}
 use Rattle.mesh.specs.declared.Counts.{Counts}
-use Rattle.mesh.specs.Wf.{Wf}
-use Rattle.mesh_check.specs.Accepted.{MeshRows}
-use Rattle.mesh_check.specs.Check.{turnsLeft, firstOutside, vertexOrPoint}
+use Rattle.mesh_check.specs.Check.{turnsLeft}
 use Rattle.mesh_check.specs.Readable.{Placed, Corners, Readable}
-use Rattle.mesh.specs.CountsLaws.{halves-fit, faces-fit}
 
 module _ {h : List ℕ} {P : List ℤ} {a b : ℕ} (K : Corners P h a) (bs : b ≡ halvesOf h .next a) where
   pub second-there : There h b

@@ -1,14 +1,14 @@
 -- What the calls may rely on: the rows of an accepted mesh are long enough and hold a good mesh, and every such mesh is accepted (`check-accepts`,
 -- `accepts-check`; with points: `with-accepts`, `accepts-with`). Assumes nothing.
 use mathlib.Core.Path.{_≡_, refl, sym, _∙_, ap, subst}
-use mathlib.Core.Bool.{Bool, true, false, not, _&&_, _||_, cond}
+use mathlib.Core.Bool.{Bool, true, false, _||_}
 use mathlib.Core.List.{List, []}
-use Prim.Native.Nat.{ℕ, zero, suc, _+_, _-_, _*_, _/_, _<_, _≤_}
+use Prim.Native.Nat.{ℕ, _+_, _-_, _*_, _<_, _≤_}
 use native.Mathlib.Decide.{decLt}
 use native.Mathlib.Nat.{le-refl}
 use native.Mathlib.Omega.{arith}
 use borrow.Author.Tests.{lt-ltb, le-ltb, ltb-false}
-use lib.Dec.{T, ltb, ltb→lt, lt→ltb}
+use lib.Dec.{ltb}
 use lib.IntN.{ℤ}
 use lib.ListN.{length}
 use Rattle.dcel.specs.Rows.{linksOf, positionOf}
@@ -19,11 +19,10 @@ use Rattle.mesh.specs.Mesh.{Links}
 use Rattle.mesh.specs.Area.{LeftTurning}
 use Rattle.mesh.specs.Good.{Good}
 use Rattle.mesh.specs.Wf.{Wf}
-use Rattle.mesh_check.specs.declared.Checked.{Checked}
-use Rattle.mesh_check.specs.declared.Checked.the-variants.{Accepted, Refused}
+use Rattle.mesh_check.specs.declared.Checked.the-variants.{Accepted}
 use Rattle.mesh_check.specs.Check.{meshRowsShort, vertexOrPoint, checkMesh, checkOf, pointCount, vertexCount, rowsShort, checkWith}
-use Rattle.mesh_check.specs.CheckLaws.{Passes, passes-good, accepted-passes, passes-accepted, check-agree}
-use Rattle.sums.specs.Bit.{is-true, is-false, from-true, from-false}
+use Rattle.mesh_check.specs.CheckLaws.{passes-good, accepted-passes, passes-accepted, check-agree}
+use Rattle.sums.specs.Bit.{from-false}
 
 pub or-false : (a b : Bool) → (a || b) ≡ false → (a ≡ false) × (b ≡ false)
 or-false true b e = absurd (let t = from-false e in t)

@@ -1,8 +1,8 @@
 -- Refusals 1 to 5 of 01, in the order of its table: "Each makes its checks afresh from the top of this table down; the first row that applies is answered."
 -- Definitions only; what they say is in `CheckLaws`. All five calls share them: a call has the seed's mesh and the points that it is given, which for check,
 -- locate and finish are none.
-use mathlib.Core.Bool.{Bool, true, false, not, _&&_, _||_, cond}
-use mathlib.Core.List.{List, []}
+use mathlib.Core.Bool.{Bool, not, _&&_, _||_, cond}
+use mathlib.Core.List.{List}
 use Prim.Native.Nat.{ℕ, _+_, _-_, _*_, _/_}
 use lib.Dec.{ltb}
 use lib.IntN.{ℤ, pos}
@@ -15,7 +15,6 @@ use Rattle.mesh.specs.declared.Counts.{Counts}
 use Rattle.mesh.specs.Mesh.{Links}
 use Rattle.mesh.specs.Area.{atCorners}
 use Rattle.mesh.specs.Rules.{rules}
-use Rattle.mesh_check.specs.declared.Refusal.{Refusal}
 use Rattle.mesh_check.specs.declared.Checked.{Checked}
 use Rattle.mesh_check.specs.declared.Checked.the-variants.{Accepted, Refused}
 use Rattle.sums.specs.Bounded.{first-below}

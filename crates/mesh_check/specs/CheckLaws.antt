@@ -1,21 +1,18 @@
 -- Each row of the table, as it is met (`check-..`); only the positions of the counted vertices matter (`check-agree`); and a mesh passes exactly when it is good
 -- and within the limits (`accepted-passes`, `passes-accepted`). Assumes nothing.
-use mathlib.Core.Path.{_≡_, refl, sym, _∙_, ap, ap₂, subst}
+use mathlib.Core.Path.{_≡_, refl, sym, ap, subst}
 use mathlib.Core.Bool.{Bool, true, false, not, _&&_, _||_, cond}
-use Prim.Native.Nat.{ℕ, zero, suc, _+_, _-_, _*_, _<_, _≤_}
-use native.Mathlib.Decide.{decLt}
-use native.Mathlib.Nat.{le-refl}
+use Prim.Native.Nat.{ℕ, _*_, _<_, _≤_}
 use native.Mathlib.Omega.{arith}
-use borrow.Author.Tests.{lt-ltb, le-ltb, ltb-false, not-true, not-false}
-use lib.Dec.{T, ltb, ltb→lt, lt→ltb, T-not, not-T}
-use lib.IntN.{ℤ, pos}
-use lib.Signed.{ltZ, _<ℤ_, ltZ-yes}
+use borrow.Author.Tests.{lt-ltb, le-ltb, ltb-false, not-false}
+use lib.Dec.{T, ltb, ltb→lt, lt→ltb, T-not}
+use lib.Signed.{ltZ-yes}
 use Rattle.math.specs.declared.Point.{Point}
-use Rattle.math.specs.Determinant.{orient2d, InRange, isValidCoordinate, isValidVertex}
+use Rattle.math.specs.Determinant.{InRange, isValidCoordinate, isValidVertex}
 use Rattle.math.specs.Range.{in-range, range-x, range-y}
 use Rattle.mesh.specs.declared.Counts.{Counts}
 use Rattle.mesh.specs.Mesh.{Links}
-use Rattle.mesh.specs.Area.{LeftTurning, atCorners}
+use Rattle.mesh.specs.Area.{LeftTurning}
 use Rattle.mesh.specs.Good.{Good}
 use Rattle.mesh.specs.Rules.{rules}
 use Rattle.mesh.specs.RulesWf.{rules-wf, wf-rules}
@@ -24,7 +21,7 @@ use Rattle.mesh_check.specs.declared.Refusal.{Refusal}
 use Rattle.mesh_check.specs.declared.Checked.{Checked}
 use Rattle.mesh_check.specs.declared.Checked.the-variants.{Accepted, Refused}
 use Rattle.mesh_check.specs.Check.{refused, countRefused, isOutside, firstOutside, turnsLeft, firstNotLeft, checkMesh}
-use Rattle.sums.specs.Bit.{is-true, is-false, from-true, from-false, sure, and-left, and-right, and-both, or-cases, or-left, or-right}
+use Rattle.sums.specs.Bit.{is-true, is-false, from-true, from-false, sure, and-left, and-right, and-both, or-left, or-right}
 use Rattle.sums.specs.Bounded.{first-below, first-below-is, first-below-le, first-below-passes, first-below-before, first-below-none, first-below-any}
 
 -- ---- the table, row by row

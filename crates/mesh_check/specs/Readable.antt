@@ -1,5 +1,5 @@
 -- What the sweep over the inner faces asks of the rows: an accepted mesh's corners can be read. Definitions only.
-use Prim.Native.Nat.{ℕ, _+_, _*_, _<_, _≤_, _^_}
+use Prim.Native.Nat.{ℕ, _+_, _*_, _<_, _≤_}
 use mathlib.Core.List.{List}
 use lib.IntN.{ℤ}
 use lib.ListN.{length}

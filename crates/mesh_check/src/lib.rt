@@ -1,7 +1,6 @@
 // Refusals 1 to 5 of 01's table, which every public call tests first: is a lent mesh one that the calls accept? And the call `check`, which tests nothing else.
 // Nothing is written, and nothing is remembered but counts. What each function answers is an equation with a definition of `specs/Check.antt`.
 ghost use mathlib.Core.Path.{_≡_};
-ghost use mathlib.Core.Bool.{_||_};
 ghost use mathlib.Core.List.{List};
 ghost use Prim.Native.Nat.{ℕ, _+_, _*_, _<_, _≤_};
 ghost use lib.ListN.{length};

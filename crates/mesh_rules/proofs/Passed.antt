@@ -1,18 +1,16 @@
 -- A loop that tests number by number: what it has passed, where it stops, and what it says at its end. And what a sweep over the half-edges leaves behind.
 -- Assumes nothing.
-use mathlib.Core.Path.{_≡_, refl, sym, _∙_, ap, subst}
-use mathlib.Core.Bool.{Bool, true, false, _&&_, _||_}
-use mathlib.Core.List.{List, [], _∷_}
-use Prim.Native.Nat.{ℕ, zero, suc, _+_, _*_, _<_, _≤_}
-use native.Mathlib.Omega.{arith}
+use mathlib.Core.Path.{_≡_, sym, subst}
+use mathlib.Core.Bool.{Bool, true, false}
+use mathlib.Core.List.{List, []}
+use Prim.Native.Nat.{ℕ, suc, _+_, _*_, _<_}
 use native.Mathlib.Numerals.{add-one}
 use lib.Dec.{T, ltb→lt, eqb→eq}
-use Rattle.dcel.specs.Rows.{Halves, halvesOf, linksOf}
+use Rattle.dcel.specs.Rows.{halvesOf, linksOf}
 use Rattle.mesh.specs.declared.Counts.{Counts}
-use Rattle.mesh.specs.Mesh.{turn}
 use Rattle.mesh_rules.specs.Sweep.{halfEdgeHolds, HalvesSwept}
 use Rattle.mesh_rules.specs.SweepRules.{Half, half-of}
-use Rattle.sums.specs.Bit.{is-true, is-false, from-true}
+use Rattle.sums.specs.Bit.{is-true, is-false}
 use Rattle.sums.specs.Bounded.{all-below, all-below→, all-below←, up-to}
 use Rattle.sums.specs.Half.{rev, rev-inverse}
 use Rattle.sums.specs.Iterate.{Inverse, inverse-sym, inverse-then}

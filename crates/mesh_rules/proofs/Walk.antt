@@ -1,14 +1,14 @@
 -- A walk by f from a, counted until it comes back. f permutes the numbers below n, so the count is the period, which is at most n, and the walk stays below n.
 -- A loop knows m, which is at least n, and not n itself: the period is the same. Assumes nothing.
-use mathlib.Core.Path.{_≡_, refl, sym, _∙_, ap, subst}
+use mathlib.Core.Path.{_≡_, sym, _∙_, ap, subst}
 use mathlib.Core.Logic.{_≢_}
-use Prim.Native.Nat.{ℕ, suc, _+_, _-_, _<_, _≤_}
+use Prim.Native.Nat.{ℕ, suc, _+_, _<_, _≤_}
 use native.Mathlib.Decide.{decLt}
 use native.Mathlib.Numerals.{add-one}
 use native.Mathlib.Omega.{arith}
 use lib.Dec.{eqb}
 use Rattle.sums.specs.Bit.{eq-test}
-use Rattle.sums.specs.Bounded.{first-below, first-below-is, first-below-before}
+use Rattle.sums.specs.Bounded.{first-below-is, first-below-before}
 use Rattle.sums.specs.Iterate.{iter, iter-last, iter-below, Inverse, Period, period-below, period-is, period-le}
 
 -- e is k steps from a, and the walk has not come back before

@@ -9,7 +9,7 @@ use Rattle.dcel.specs.declared.handles.HalfEdgeEntry.{HalfEdgeEntry}
 use Rattle.dcel.specs.Rows.{linksOf}
 use Rattle.mesh.specs.declared.Counts.{Counts}
 use Rattle.mesh.specs.Mesh.{Links, turn}
-use Rattle.mesh.specs.Rules.{halfEdgeInUse, halfEdgeLinked, every}
+use Rattle.mesh.specs.Rules.{halfEdgeInUse, halfEdgeLinked}
 use Rattle.sums.specs.Bit.{implies}
 use Rattle.sums.specs.Bounded.{all-below}
 use Rattle.sums.specs.Half.{rev}

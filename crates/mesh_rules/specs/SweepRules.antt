@@ -2,9 +2,9 @@
 -- Assumes nothing.
 use mathlib.Core.Path.{_≡_, refl, sym, _∙_, ap, subst}
 use mathlib.Core.Logic.{_≢_, _⊎_, inl, inr}
-use mathlib.Core.Bool.{Bool, true, false, not, _&&_, _||_}
+use mathlib.Core.Bool.{Bool, not, _&&_, _||_}
 use mathlib.Core.List.{List, [], _∷_}
-use Prim.Native.Nat.{ℕ, zero, suc, _+_, _-_, _*_, _<_, _≤_}
+use Prim.Native.Nat.{ℕ, zero, suc, _+_, _*_, _<_}
 use native.Mathlib.Decide.{decLt}
 use native.Mathlib.Nat.{le-refl}
 use native.Mathlib.Omega.{arith}
@@ -14,15 +14,15 @@ use Rattle.mesh.specs.Mesh.{Links, In, turn}
 use Rattle.mesh.specs.CountsLaws.{halves-fit, faces-fit}
 use Rattle.mesh.specs.Rules.{every, halfEdgeInUse, halfEdgeLinked, rules}
 use Rattle.mesh.specs.RulesWf.{Each, each-of, every-of, rules-wf, wf-rules}
-use Rattle.mesh.specs.Wf.{Ranges, Linked, Faces, Vertices, Wf}
+use Rattle.mesh.specs.Wf.{Ranges, Linked, Wf}
 use Rattle.mesh.specs.WfParts.{InnerFace, OuterFace, AboutVertex, next-inverse, turn-inverse, wf-of, inner-is, outer-is, about-is}
 use Rattle.mesh_rules.specs.Sweep.{halfEdgeHolds, vertexHolds, faceHolds, innerFaceHolds, outerHolds, facesWhole, verticesWhole, verticesHold, countsHold, sweep}
 use Rattle.sums.specs.Bit.{test-ext, and-left, and-right, and-both, or-cases, or-left, or-right, implies→, implies←, eq-test, ne-test}
 use Rattle.sums.specs.Bounded.{all-below, all-below→, all-below←}
-use Rattle.sums.specs.Half.{rev, rev-rev, rev-below}
+use Rattle.sums.specs.Half.{rev}
 use Rattle.sums.specs.Listed.{On}
-use Rattle.sums.specs.Iterate.{iter, Reach, reach-at, reach-one, reach-two, reach-trans, Inverse, Period, period-below, period-is, period-three, period-unique, reach-on, reach-sym}
-use Rattle.sums.specs.Orbits.{orbitTotal, orbit-total-zero, orbit-total-suc, Classes, orbits-most, orbits-all, orbits-whole}
+use Rattle.sums.specs.Iterate.{iter, Reach, reach-at, reach-one, reach-two, Period, period-below, period-is, period-three, period-unique, reach-on}
+use Rattle.sums.specs.Orbits.{orbitTotal, orbit-total-zero, orbit-total-suc, Classes, orbits-all, orbits-whole}
 
 module _ (C : Counts) (L : Links) where
   abbrev E : ℕ

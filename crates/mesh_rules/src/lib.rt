@@ -2,7 +2,7 @@
 // vertex once. What each function answers is an equation with a definition of `specs/Sweep.antt`, and `mesh_rules` with `rules` of the crate mesh.
 // A function that is lent the row of half-edges alone says so whatever the other rows hold: o are the out edges and a the faces.
 ghost use mathlib.Core.Path.{_≡_};
-ghost use mathlib.Core.Bool.{true, _&&_};
+ghost use mathlib.Core.Bool.{true};
 ghost use mathlib.Core.List.{List};
 ghost use Prim.Native.Nat.{ℕ, _+_, _*_, _<_, _≤_, _^_};
 ghost use lib.ListN.{length};

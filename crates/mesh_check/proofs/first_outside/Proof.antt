@@ -1,10 +1,9 @@
 -- `mesh_check::first_outside` meets its contract. Assumes nothing.
 use borrow.Author.Needs.{needs}
 use native.Mathlib.Omega.{arith}
-use Prim.Native.Nat.{ℕ, _*_, _-_, _≤_}
-use mathlib.Core.Path.{_≡_, refl, sym, _∙_, ap}
+use Prim.Native.Nat.{_-_, _≤_}
+use mathlib.Core.Path.{sym, _∙_, ap}
 use mathlib.Core.Bool.{not}
-use borrow.Author.Tests.{not-true, not-false}
 use Rattle.dcel.specs.Rows.{positionOf}
 use Rattle.math.specs.Determinant.{isValidVertex}
 use Rattle.mesh_check.specs.Check.{isOutside, firstOutside}

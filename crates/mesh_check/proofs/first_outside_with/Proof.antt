@@ -1,7 +1,6 @@
 -- `mesh_check::first_outside_with` meets its contract. Assumes nothing.
 use borrow.Author.Needs.{needs}
 use native.Mathlib.Omega.{arith}
-use mathlib.Core.Path.{_∙_}
 use Rattle.mesh_check.proofs.Search.{in-seed, in-points, outside-most}
 use Rattle.mesh_check.proofs.first_outside_with.Statement.{statement}
 use Rattle.mesh_check.proofs.first_outside_with.Tie as tie

@@ -1,10 +1,9 @@
 -- `mesh_rules::cycle_length` meets its contract. The invariant: e is k steps from a, and the walk has not come back before. Assumes nothing.
 use borrow.Author.Needs.{needs}
 use native.Mathlib.Omega.{arith}
-use Prim.Native.Nat.{ℕ, _*_, _-_, _≤_}
+use Prim.Native.Nat.{_-_}
 use lib.ListN.{length}
 use Rattle.dcel.specs.Rows.{halvesOf, linksOf}
-use Rattle.mesh_rules.specs.Sweep.{HalvesSwept}
 use Rattle.sums.specs.Iterate.{period-below}
 use Rattle.mesh_rules.proofs.Passed.{next-permutes}
 use Rattle.mesh_rules.proofs.Walk.{Walked, walk-start, walk-below, walk-end, walk-before, walk-most, walk-on}

@@ -6,7 +6,7 @@ use Prim.Native.Nat.{ℕ, _*_}
 use borrow.Author.Needs.{needs}
 use borrow.Author.Tests.{not-true, not-false}
 use Rattle.dcel.specs.Rows.{linksOf}
-use Rattle.mesh_rules.specs.Sweep.{HalvesSwept, halfEdgeHolds, innerFaceHolds, outerHolds, facesWhole, countsHold}
+use Rattle.mesh_rules.specs.Sweep.{HalvesSwept, halfEdgeHolds, outerHolds, countsHold}
 use Rattle.sums.specs.Bit.{from-true}
 use Rattle.sums.specs.Bounded.{all-below}
 use Rattle.mesh_rules.proofs.Tests.{fails-counts, fails-halves, fails-outer, fails-whole, fails-inner, at-vertices, halves-there, faces-there, some-face, face-there, outer-in}

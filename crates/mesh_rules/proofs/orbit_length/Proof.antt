@@ -1,7 +1,7 @@
 -- `mesh_rules::orbit_length` meets its contract. The invariant: e is k turns from a, and the walk has not come back before. Assumes nothing.
 use borrow.Author.Needs.{needs}
 use native.Mathlib.Omega.{arith}
-use Prim.Native.Nat.{ℕ, _*_, _-_, _≤_}
+use Prim.Native.Nat.{_-_}
 use lib.ListN.{length}
 use mathlib.Core.List.{[]}
 use Rattle.dcel.specs.Rows.{halvesOf, linksOf}

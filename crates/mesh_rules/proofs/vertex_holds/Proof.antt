@@ -1,6 +1,5 @@
 -- `mesh_rules::vertex_holds` meets its contract. Assumes nothing.
 use borrow.Author.Needs.{needs}
-use mathlib.Core.Path.{_∙_}
 use Rattle.mesh_rules.proofs.Tests.{vertex-far, vertex-based}
 use Rattle.mesh_rules.proofs.vertex_holds.Statement.{statement}
 use Rattle.mesh_rules.proofs.vertex_holds.Tie as tie
