@@ -14,8 +14,10 @@ ghost use Rattle.ring.specs.Insert.{Bucketed};
 ghost use Rattle.ring_rows.specs.Rows.{nodesOf, rightOf, angleOf};
 ghost use Rattle.segment.specs.Bucket.{width};
 ghost use Rattle.hull.specs.Boundary.{BoundaryRows, AngledBoundary, Angled, AngleAt, originAtCenter, edgeAt, anglesOf, NodesOfEdges, ToBuild};
+ghost use Rattle.hull.specs.Held.{FromBoundary};
 use angle::Point2;
 use mesh::Counts;
+use ring_rows::Hull;
 use ring_rows::Node;
 
 // `convex_hull_size`: how many half-edges the boundary has, each inner face having three of the others.
@@ -138,5 +140,27 @@ fn build_nodes(
         e = dcel::next(halves, e);
         left = k;
         k += 1;
+    }
+}
+
+// The ring of a strict boundary: its nodes, and 8 buckets.
+pub fn from_triangulation(
+    positions: &[i32],
+    halves: &[u32],
+    nodes: &mut [[u64; 4]],
+    buckets: &mut [u32],
+    start: u32,
+    size: u32,
+    center: Point2,
+) -> Hull
+    requires { ⌜ ToBuild (now positions) (now halves) (center .x) (center .y) start size (length (now nodes)) (length (now buckets)) ⌝ }
+    ensures { λ r. ⌜ FromBoundary (now (positions .entry)) (now (halves .entry)) (center .x) (center .y) start size (now (nodes .exit)) (now (buckets .exit)) r ⌝ }
+{
+    build_nodes(positions, halves, nodes, start, size, center);
+    ring_rows::initialize_buckets(nodes, buckets, 8, 0, size);
+    Hull {
+        buckets: 8,
+        nodes: size,
+        freed: 0,
     }
 }

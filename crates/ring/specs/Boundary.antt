@@ -1,9 +1,8 @@
 -- The ring of a mesh that keeps the rules: the walk by next from any boundary edge is the round of the theory and meets every boundary edge; in a sound ring each angle is held by exactly
 -- one boundary edge, and that is `located`. What leaves the boundary leaves the ring. Assumes nothing.
 use mathlib.Core.Path.{_≡_, refl, sym, _∙_, ap, ap₂, subst}
-use mathlib.Core.Bool.{Bool}
 use mathlib.Core.List.{List, [], _∷_, map}
-use Prim.Native.Nat.{ℕ, zero, suc, _+_, _-_, _*_, _<_, _≤_}
+use Prim.Native.Nat.{ℕ, zero, suc, _-_, _<_, _≤_}
 use native.Mathlib.Omega.{arith}
 use lib.Dec.{T}
 use Rattle.mesh.specs.declared.Counts.{Counts}
@@ -12,13 +11,11 @@ use Rattle.mesh.specs.Wf.{Wf}
 use Rattle.mesh.specs.Area.{boundaryLength, hullEdge}
 use Rattle.mesh.specs.BoundaryLaws.{next-inverse, first<, first-outer, boundary-period, boundary-below, boundary-outer, boundary-least, outer-period}
 use Rattle.mesh.specs.Frame.{SameBoundary}
-use Rattle.mesh.specs.BoundarySequence.{boundary-same}
-use Rattle.segment.specs.Arc.{holds, wide}
+use Rattle.segment.specs.Arc.{holds}
 use Rattle.sums.specs.Bounded.{first-below}
-use Rattle.sums.specs.Iterate.{iter, iter-last, iter-keeps, iter-ext, Reach, reach-on, Period, period-listed, period-same, period-unique}
-use Rattle.sums.specs.Tally.{First, first-of, tally, tally-round, walk, walk-ext}
-use Rattle.ring.specs.Ring.{fullTurn, proper, wraps, edgeAngle, atEnds, boundaryEdges, boundaryAngles, isSound, isStrict, isSoundRing, isStrictRing, merged, ringNodes, located}
-use Rattle.ring.specs.Segments.{holds-proper, proper→}
+use Rattle.sums.specs.Iterate.{iter, iter-last, iter-keeps, reach-on, Period, period-listed, period-same, period-unique}
+use Rattle.sums.specs.Tally.{First, first-of, tally, walk, walk-ext}
+use Rattle.ring.specs.Ring.{fullTurn, proper, edgeAngle, atEnds, boundaryEdges, boundaryAngles, isSound, isStrict, isSoundRing, isStrictRing, merged, ringNodes, located}
 use Rattle.ring.specs.Sound.{Sound, sound-at, tile, tile-sole}
 use Rattle.ring.specs.Merged.{sound-round, round-sound, nodes-merged, strict-sound, strict-all}
 

@@ -1,16 +1,16 @@
 -- BUCKETS: n buckets of w places each, on a circle of N = n * w. The point of bucket i is i * w. The buckets whose points a segment holds are a range of numbers,
 -- from the ceiling of its first angle up to that of its second, both taken from n to 0; no such range is empty where it should be whole, since no segment is wide. Assumes nothing.
-use mathlib.Core.Path.{_≡_, refl, sym, _∙_, ap, ap₂, subst}
+use mathlib.Core.Path.{_≡_, refl, _∙_, ap}
 use mathlib.Core.Logic.{_≢_, _⊎_, inl, inr}
 use mathlib.Core.Bool.{Bool, true, false, not, cond, _&&_, _||_}
-use Prim.Native.Nat.{ℕ, zero, suc, _+_, _-_, _*_, _/_, _%_, _<_, _≤_}
+use Prim.Native.Nat.{ℕ, suc, _+_, _-_, _*_, _/_, _%_, _<_, _≤_}
 use native.Mathlib.Nat.{le-refl, le-div-iff-mul-le, div-lt-iff-lt-mul, mul-le-mul-right, mod-eq-of-lt, mod-self}
 use native.Mathlib.Decide.{ℕ-discrete, decLt}
 use native.Mathlib.Omega.{arith}
-use lib.Dec.{T, ltb, leb, eqb}
+use lib.Dec.{T, ltb, leb}
 use Rattle.segment.specs.Arc.{gap, holds, wide}
 use Rattle.ring.specs.Segments.{Holds, plain, late, early, holds→, holds←}
-use Rattle.sums.specs.Bit.{Tells, bit, bit-0, bit-no, le?, lt?, sure}
+use Rattle.sums.specs.Bit.{Tells, bit, bit-no, le?, lt?, sure}
 
 -- the ceiling of x / w; the number of the first bucket whose point is not below x, from n taken to 0
 unfoldable pub ceiling : ℕ → ℕ → ℕ

@@ -1,8 +1,7 @@
 -- BUILD: nodes numbered from 0 in the order of the boundary's proper edges stand for it; and buckets filled node by node have, in the end, each the node that holds its point. Assumes nothing.
-use mathlib.Core.Path.{_≡_, refl, sym, _∙_, ap, ap₂, subst}
-use mathlib.Core.Logic.{_≢_, _⊎_, inl, inr}
-use mathlib.Core.Bool.{Bool, true, false, not, cond}
-use Prim.Native.Nat.{ℕ, zero, suc, _+_, _-_, _*_, _%_, _<_, _≤_}
+use mathlib.Core.Path.{_≡_, refl, sym, _∙_, ap, subst}
+use mathlib.Core.Bool.{Bool, true, false, cond}
+use Prim.Native.Nat.{ℕ, zero, suc, _*_, _%_, _<_, _≤_}
 use native.Mathlib.Decide.{ℕ-discrete, decLt}
 use native.Mathlib.Omega.{arith}
 use lib.Dec.{T}
@@ -13,9 +12,8 @@ use Rattle.ring.specs.Sound.{Sound, tile, tile-sole}
 use Rattle.ring.specs.Buckets.{ceiling, within, Sized, NarrowSegment, bucket-range}
 use Rattle.ring.specs.Node.{nodes, Stands, match-of}
 use Rattle.ring.specs.Insert.{Ring, all-proper, Bucketed}
-use Rattle.sums.specs.Bit.{bit}
 use Rattle.sums.specs.Iterate.{iter, iter-last}
-use Rattle.sums.specs.Tally.{First, counts, tally, tally-before, walk}
+use Rattle.sums.specs.Tally.{counts, tally, tally-before, walk}
 
 -- m nodes, for h edges from e on
 pub record Built (next α right angle edge : ℕ → ℕ) (e h m : ℕ) : Type 0 where

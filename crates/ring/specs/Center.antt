@@ -1,8 +1,8 @@
 -- The vertices' angles about a centre, and 01's refusals 6 and 7. Definitions, each of which computes, and the law that an accepted centre gives every boundary vertex an angle up to 1.0.
 -- Assumes nothing.
-use mathlib.Core.Path.{_≡_, refl, sym, ap, subst}
+use mathlib.Core.Path.{_≡_, sym, subst}
 use mathlib.Core.Bool.{Bool, not, _||_}
-use Prim.Native.Nat.{ℕ, zero, suc, _+_, _*_, _^_, _<_, _≤_}
+use Prim.Native.Nat.{ℕ, _^_, _<_, _≤_}
 use native.Mathlib.Omega.{arith}
 use lib.Dec.{T, T-not, not-T}
 use lib.IntN.{ℤ, pos, negsuc, natAbs}
@@ -19,7 +19,6 @@ use Rattle.mesh.specs.Area.{boundaryLength, hullEdge}
 use Rattle.mesh.specs.BoundaryLaws.{first<, first-outer}
 use Rattle.sums.specs.Bit.{or-left, or-right, sure}
 use Rattle.sums.specs.Bounded.{any-below, any-below←}
-use Rattle.sums.specs.Iterate.{iter}
 use Rattle.ring.specs.Ring.{fullTurn, edgeAngle, isStrictRing}
 use Rattle.ring.specs.Boundary.{outer-on}
 

@@ -1,7 +1,7 @@
 -- Which boundary edges a step covers (the chain), and whether the boundary that it would leave has a sound ring, from the boundary as it stands.
 -- 01: "The two walks look at boundary edges only, and flips never move those, so 4 can be decided beforehand."
 -- Throughout, p gives each vertex its position and α its angle, v is the point to be added and q its angle. Definitions only, and each computes; `ChainLaws` has their laws.
-use Prim.Native.Nat.{ℕ, suc, _+_, _-_, _<_}
+use Prim.Native.Nat.{ℕ, suc, _+_, _-_}
 use mathlib.Core.Bool.{Bool, not, _&&_, _||_}
 use mathlib.Core.List.{List, _∷_, map}
 use lib.Dec.{leb, eqb}

@@ -1,15 +1,15 @@
 -- The chain that a step covers of a mesh's boundary. A new point never sees the whole boundary, so that an edge is left over; the located edge is on the chain; and whether the boundary that
 -- the step would leave has a sound ring is decided by the local test, and is so of the boundary that it does leave. Assumes nothing.
 use mathlib.Core.Path.{_≡_, refl, sym, _∙_, ap, ap₂, subst}
-use mathlib.Core.Logic.{_≢_, _⊎_, inl, inr}
-use mathlib.Core.Bool.{Bool, true, false, not, _&&_, _||_}
-use mathlib.Core.List.{List, [], _∷_, map}
-use Prim.Native.Nat.{ℕ, zero, suc, _+_, _-_, _*_, _<_, _≤_}
+use mathlib.Core.Logic.{_⊎_, inl, inr}
+use mathlib.Core.Bool.{Bool, not, _||_}
+use mathlib.Core.List.{[], _∷_, map}
+use Prim.Native.Nat.{ℕ, zero, suc, _+_, _-_, _<_}
 use native.Mathlib.Omega.{arith}
 use lib.Dec.{T, eqb, T-not, not-T}
 use lib.IntN.{ℤ, pos, negℤ, _+ℤ_, _-ℤ_}
-use lib.Signed.{ltZ, _<ℤ_, ltZ-yes}
-use Rattle.algebra.specs.Ring.{num, _⊕_, _⊖_, ⊝_, v0, v1, v2, v3, ring}
+use lib.Signed.{_<ℤ_, ltZ-yes}
+use Rattle.algebra.specs.Ring.{num, _⊕_, _⊖_, ⊝_, v0, v1, v2, ring}
 use Rattle.algebra.specs.Sign.{pos-in, weak, _+⁺_, refute}
 use Rattle.math.specs.declared.Point.{Point}
 use Rattle.math.specs.Determinant.{orient2d, isBehindEdge}
@@ -22,11 +22,11 @@ use Rattle.mesh.specs.AreaLaws.{cross-back, area-cross}
 use Rattle.mesh.specs.BoundaryLaws.{next-inverse, first<, first-outer, boundary-least, boundary-period, period-back}
 use Rattle.mesh.specs.LeftLaws.{boundary-positive}
 use Rattle.segment.specs.Arc.{holds}
-use Rattle.sums.specs.Bit.{test, test-ext, and-left, and-right, sure}
-use Rattle.sums.specs.Bounded.{first-below, first-below-at-most, first-below-before, first-below-passes, any-below, any-below→, none-below→}
+use Rattle.sums.specs.Bit.{test, test-ext, and-right, sure}
+use Rattle.sums.specs.Bounded.{first-below-at-most, first-below-before, first-below-passes, any-below, any-below→, none-below→}
 use Rattle.sums.specs.Iterate.{iter, iter-add, iter-last, iter-keeps, iter-back, inverse-sym}
 use Rattle.sums.specs.Sum.{sum, sum-ext, sum-add, sum-neg, sum-positive}
-use Rattle.sums.specs.Tally.{tally, tally-add, walk}
+use Rattle.sums.specs.Tally.{tally, walk}
 use Rattle.ring.specs.Ring.{fullTurn, proper, edgeAngle, atEnds, isSound, isSoundRing}
 use Rattle.ring.specs.Sound.{Sound}
 use Rattle.ring.specs.Merged.{sound-round, round-sound}

@@ -2,8 +2,8 @@
 -- The first face, each further one to the left or the right, and flips keep this relation to the boundary before. Assumes nothing.
 use mathlib.Core.Path.{_≡_, refl, sym, _∙_, ap, subst}
 use mathlib.Core.Logic.{_≢_}
-use mathlib.Core.List.{[], _∷_, map}
-use Prim.Native.Nat.{ℕ, zero, suc, _+_, _-_, _*_, _<_, _≤_}
+use mathlib.Core.List.{[]}
+use Prim.Native.Nat.{ℕ, suc, _+_, _-_, _*_, _<_, _≤_}
 use native.Mathlib.Omega.{arith}
 use Rattle.mesh.specs.declared.Counts.{Counts}
 use Rattle.mesh.specs.Mesh.{Links, In}
@@ -17,8 +17,8 @@ use Rattle.mesh.specs.NewFace.{new-face-keeps, new-face-frame}
 use Rattle.mesh.specs.SingleFace.{single-face-keeps, single-face-frame}
 use Rattle.sums.specs.Iterate.{iter, iter-last, iter-ext}
 use Rattle.ring.specs.Ring.{edgeAngle}
-use Rattle.ring.specs.Splice.{Spliced, round-new}
-use Rattle.ring.specs.Grow.{ToRight, grow-right, ToLeft, grow-left}
+use Rattle.ring.specs.Splice.{Spliced}
+use Rattle.ring.specs.Grow.{grow-right, grow-left}
 use Rattle.ring.specs.Boundary.{outer-round, outer-walk, outer-once, outer-last, length-same}
 
 -- f and α are next and the angle of the boundary's edges before; C, L and α′ are the mesh after and its vertices' angles; r is the first edge after the chain, q the new vertex's angle

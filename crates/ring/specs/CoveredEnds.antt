@@ -1,10 +1,10 @@
 -- While a step goes on, the boundary edges that are not covered yet keep their two ends, so that the tests of the step's loops, made on the mesh as it stands, are those of the chain's
 -- definition, made on the mesh before. Assumes nothing.
-use mathlib.Core.Path.{_≡_, refl, sym, _∙_, ap, ap₂, subst}
+use mathlib.Core.Path.{_≡_, sym, _∙_, ap, ap₂}
 use mathlib.Core.Bool.{Bool, not, _&&_, _||_}
-use Prim.Native.Nat.{ℕ, zero, suc, _+_, _-_, _*_, _<_, _≤_}
+use Prim.Native.Nat.{ℕ, suc, _-_, _<_}
 use native.Mathlib.Omega.{arith}
-use lib.Dec.{T, eqb}
+use lib.Dec.{eqb}
 use lib.IntN.{pos}
 use lib.Signed.{ltZ}
 use Rattle.math.specs.declared.Point.{Point}
@@ -15,11 +15,10 @@ use Rattle.mesh.specs.Wf.{Wf}
 use Rattle.mesh.specs.Area.{boundaryLength}
 use Rattle.mesh.specs.Triangle.{rev-in}
 use Rattle.mesh.specs.Frame.{SameBoundary}
-use Rattle.mesh.specs.Operations.{createSingleFaceBetweenEdgeAndNext, withFace, createNewFaceAdjacentToEdge, withVertex}
+use Rattle.mesh.specs.Operations.{createSingleFaceBetweenEdgeAndNext, createNewFaceAdjacentToEdge}
 use Rattle.mesh.specs.NewFace.{new-face-frame}
 use Rattle.mesh.specs.SingleFace.{single-face-frame}
 use Rattle.sums.specs.Iterate.{iter, iter-last, iter-keeps}
-use Rattle.ring.specs.Ring.{edgeAngle}
 use Rattle.ring.specs.Boundary.{outer-walk}
 use Rattle.ring.specs.Chain.{coversLeft, coversRight}
 use Rattle.ring.specs.Covered.{Covered, covered-in, covered-outer, right-four, left-four, p-in, p-outer, last-l, prev-in, prev-outer}

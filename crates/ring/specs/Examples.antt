@@ -3,14 +3,13 @@
 use mathlib.Core.Path.{_≡_, refl}
 use mathlib.Core.Bool.{true, false}
 use mathlib.Core.List.{List, [], _∷_}
-use Prim.Native.Nat.{ℕ, _+_, _*_, _^_}
+use Prim.Native.Nat.{ℕ, _*_, _^_}
 use lib.IntN.{ℤ, pos, negsuc}
 use lib.ListN.{getD}
 use lib.Ieee.{Float, fin, ofInt, neg, add, sub, mul, div, sum, round, units, odd, size, span, climb, lt}
 use Rattle.angle.specs.Angle.{zero64, one64, angleAbout, pseudoAngle, ofDiff, slope, absoluteOf, validCenter, bounded, atCenter, isNumber, turns}
 use Rattle.math.specs.declared.Point.{Point}
 use Rattle.math.specs.Determinant.{orient2d, factor, length2}
-use Rattle.mesh.specs.declared.Counts.{Counts}
 use Rattle.mesh.specs.Mesh.{Links}
 use Rattle.mesh.specs.Area.{boundaryLength}
 use Rattle.mesh.specs.Operations.{createNewFaceAdjacentToEdge, faceAdjacent, withVertex}

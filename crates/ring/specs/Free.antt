@@ -2,12 +2,12 @@
 -- and pushes the left node if its angle is the new one. So the new node is none of those that stay, and the stack is right for the new ring. Assumes nothing.
 use mathlib.Core.Path.{_≡_, refl, sym, _∙_, ap, subst}
 use mathlib.Core.Logic.{_≢_, _⊎_, inl, inr}
-use Prim.Native.Nat.{ℕ, zero, suc, _+_, _-_, _<_, _≤_}
+use Prim.Native.Nat.{ℕ, zero, suc, _+_, _-_, _<_}
 use native.Mathlib.Decide.{ℕ-discrete, decLt}
 use native.Mathlib.Omega.{arith}
 use Rattle.ring.specs.Insert.{On}
 use Rattle.ring.specs.Stores.{Before, Stores, rest-same}
-use Rattle.sums.specs.Iterate.{iter, iter-add, iter-last}
+use Rattle.sums.specs.Iterate.{iter, iter-add}
 
 -- ---- the stack of freed nodes, against a set of nodes that are in use: freed 0 .. freed (n - 1), of the numbers below len
 pub record Free (Live : ℕ → Type 0) (freed : ℕ → ℕ) (n len : ℕ) : Type 0 where

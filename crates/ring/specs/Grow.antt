@@ -1,9 +1,7 @@
 -- The chain that a new vertex replaces grows by one edge at a time: a face between the new edge and its neighbour on the boundary takes the neighbour away, and puts a new half-edge in the place of the new edge.
 -- `Spliced` always tells of the boundary before the first of these faces, so that one theorem on inserting serves for any number of them. Assumes nothing.
-use mathlib.Core.Path.{_≡_, refl, sym, _∙_, ap, subst}
-use mathlib.Core.Logic.{_≢_}
-use Prim.Native.Nat.{ℕ, zero, suc, _+_, _-_, _<_, _≤_}
-use native.Mathlib.Decide.{decLt}
+use mathlib.Core.Path.{_≡_, refl, sym, _∙_, ap}
+use Prim.Native.Nat.{ℕ, suc, _<_}
 use native.Mathlib.Omega.{arith}
 use Rattle.ring.specs.Splice.{Spliced}
 use Rattle.sums.specs.Iterate.{iter, iter-last}

@@ -1,7 +1,7 @@
 -- The whole of what a run carries: the nodes stand for the boundary, their links to the left, and the buckets. It does not depend on the node that one starts from, an insert keeps it.
 -- Assumes nothing.
-use mathlib.Core.Path.{_≡_, refl, sym, _∙_, ap, ap₂, subst}
-use mathlib.Core.Logic.{_≢_, _⊎_, inl, inr}
+use mathlib.Core.Path.{_≡_, refl, sym, _∙_, ap, subst}
+use mathlib.Core.Logic.{_≢_}
 use mathlib.Core.Bool.{Bool, true, false}
 use Prim.Native.Nat.{ℕ, zero, suc, _+_, _-_, _*_, _/_, _%_, _<_, _≤_}
 use native.Mathlib.Decide.{ℕ-discrete, decLt}
@@ -15,12 +15,12 @@ use Rattle.ring.specs.Sound.{Sound, sound-at}
 use Rattle.ring.specs.Splice.{Spliced, Fit, fit-sound}
 use Rattle.ring.specs.Buckets.{ceiling, Sized}
 use Rattle.ring.specs.Node.{nodes, Stands, match-at}
-use Rattle.ring.specs.Insert.{Ring, ring-turn, ring-begins, ring-sound, ring-proper, node-sole, On, Bucketed, Rebucketed, off, size-old, rest-some, left-some, left-angle, right-angle, last-t, inserted, bucketed-insert, size-new}
+use Rattle.ring.specs.Insert.{Ring, ring-turn, ring-begins, ring-sound, ring-proper, node-sole, On, Bucketed, Rebucketed, size-old, rest-some, left-some, left-angle, last-t, inserted, bucketed-insert, size-new}
 use Rattle.ring.specs.Locate.{angleIn, count-boundary, bucket-count, top-none, top-some}
 use Rattle.ring.specs.Stores.{Linked, Before, Stores, stores-inserted, linked-gone, linked-stays}
-use Rattle.sums.specs.Bit.{bit, bit-1, bit-le, bit-yes}
+use Rattle.sums.specs.Bit.{bit, bit-yes}
 use Rattle.sums.specs.Iterate.{iter, iter-add, iter-ext, iter-last}
-use Rattle.sums.specs.Tally.{First, counts, tally, tally-add, tally-at, tally-turn, walk}
+use Rattle.sums.specs.Tally.{First, tally, tally-at, tally-turn, walk}
 
 -- ---- from any edge, and from any node
 pub ring-turns : {N : ℕ} {next α right angle edge : ℕ → ℕ} {e h s : ℕ} → Ring N next α right angle edge e h s → (j : ℕ) → Ring N next α right angle edge (iter j next e) h (iter (nodes next α j e) right s)

@@ -1,24 +1,20 @@
 -- The rules can be met: a sound boundary of four edges on a circle of 16 places, two of whose angles are equal neighbours, its three nodes, and an insert between two of them,
 -- at a new angle (11) and at the left node's own (9). The theorems then say what the records hold. Assumes nothing.
-use mathlib.Core.Path.{_≡_, refl, sym, _∙_, ap, subst}
-use mathlib.Core.Logic.{_≢_}
-use mathlib.Core.Bool.{Bool, true, false}
+use mathlib.Core.Path.{_≡_, refl}
 use mathlib.Core.List.{List, [], _∷_}
-use Prim.Native.Nat.{ℕ, zero, suc, _+_, _-_, _<_, _≤_}
+use Prim.Native.Nat.{ℕ, zero, suc, _<_, _≤_}
 use native.Mathlib.Omega.{arith}
-use lib.Dec.{T, lit≤}
+use lib.Dec.{lit≤}
 use lib.ListN.{getD}
 use Rattle.segment.specs.Arc.{gap, holds, wide}
-use Rattle.ring.specs.Ring.{atEnds, proper, wraps}
-use Rattle.ring.specs.Segments.{null-proper}
-use Rattle.ring.specs.Sound.{Sound, tile}
-use Rattle.ring.specs.Splice.{Spliced, Fit, fit-sound}
-use Rattle.ring.specs.Node.{nodes, Match}
+use Rattle.ring.specs.Ring.{proper, wraps}
+use Rattle.ring.specs.Sound.{Sound}
+use Rattle.ring.specs.Splice.{Spliced, fit-sound}
+use Rattle.ring.specs.Node.{Match}
 use Rattle.ring.specs.Insert.{Ring, Inserted, inserted, Bucketed}
 use Rattle.ring.specs.Hull.{Hull}
-use Rattle.sums.specs.Bit.{bit}
 use Rattle.sums.specs.Iterate.{iter}
-use Rattle.sums.specs.Tally.{First, tally, walk}
+use Rattle.sums.specs.Tally.{tally, walk}
 
 abbrev row : List ℕ → ℕ → ℕ
 row l i = getD l i 0

@@ -1,22 +1,22 @@
 -- INSERT: the linked nodes stand for the boundary before; after the local change of the boundary, and a few stores, they stand for it again. Assumes nothing.
 use mathlib.Core.Path.{_≡_, refl, sym, _∙_, ap, ap₂, subst}
-use mathlib.Core.Logic.{_≢_, _⊎_, inl, inr}
-use mathlib.Core.Bool.{Bool, true, false, not}
-use mathlib.Core.List.{List, [], _∷_}
+use mathlib.Core.Logic.{_≢_}
+use mathlib.Core.Bool.{Bool, true, false}
+use mathlib.Core.List.{[]}
 use Prim.Native.Nat.{ℕ, zero, suc, _+_, _-_, _*_, _%_, _<_, _≤_}
 use native.Mathlib.Decide.{ℕ-discrete, decLt}
 use native.Mathlib.Omega.{arith}
-use lib.Dec.{T, ltb, leb, eqb}
+use lib.Dec.{T}
 use Rattle.segment.specs.Arc.{holds, wide}
 use Rattle.ring.specs.Ring.{atEnds, proper, wraps}
 use Rattle.ring.specs.Segments.{holds-first, proper→, proper←, holds-proper, null-proper, null-wraps, null-wide, null-holds}
-use Rattle.ring.specs.Sound.{held-along, Sound, sound-turn, tile-count, tile-sole}
-use Rattle.ring.specs.Splice.{Spliced, ends, local, Fit, sound-fit, ends-differ}
-use Rattle.ring.specs.Buckets.{ceiling, within, null-within, Sized, NarrowSegment, bucket-range}
-use Rattle.ring.specs.Node.{nodes, Match, match-split, match-join, match-at, begins, begins-node, match-tally, Kept, kept-tally, kept-match}
-use Rattle.sums.specs.Bit.{bit, bit-0, bit-1, bit-le, bit-no, bit-yes}
+use Rattle.ring.specs.Sound.{Sound, sound-turn, tile-count, tile-sole}
+use Rattle.ring.specs.Splice.{Spliced, ends, local, Fit, sound-fit}
+use Rattle.ring.specs.Buckets.{ceiling, within, null-within, Sized, bucket-range}
+use Rattle.ring.specs.Node.{nodes, Match, match-split, match-join, begins-node, match-tally, Kept, kept-tally, kept-match}
+use Rattle.sums.specs.Bit.{bit, bit-0, bit-1, bit-le, bit-yes}
 use Rattle.sums.specs.Iterate.{iter, iter-add, iter-ext, iter-last}
-use Rattle.sums.specs.Tally.{First, counts, first, sole, tally, tally-add, tally-most, tally-turn, walk, walk-ext}
+use Rattle.sums.specs.Tally.{counts, tally, tally-add, tally-most, tally-turn, walk}
 
 -- a sound boundary of h edges from e on, and the nodes from s on that stand for it
 pub record Ring (N : ℕ) (next α right angle edge : ℕ → ℕ) (e h s : ℕ) : Type 0 where

@@ -1,23 +1,23 @@
 -- LOCATE: how many nodes the walk passes from the node that holds y to the node that holds x, where y ≤ x: as many as there are angles above y and up to x.
 -- Let v be 1 at an angle above y and up to x, and else 0. By `held` for x and for y, v changes only after the node that holds y (up) and after the one that holds x (down). Assumes nothing.
-use mathlib.Core.Path.{_≡_, refl, sym, _∙_, ap, ap₂, subst}
-use mathlib.Core.Logic.{_≢_, _⊎_, inl, inr}
-use mathlib.Core.Bool.{Bool, true, false, not, _&&_}
-use Prim.Native.Nat.{ℕ, zero, suc, _+_, _-_, _*_, _/_, _%_, _<_, _≤_}
-use native.Mathlib.Nat.{le-refl, div-add-mod', mod-lt, mul-le-mul-right, div-lt-iff-lt-mul}
+use mathlib.Core.Path.{_≡_, refl, sym, _∙_, ap, subst}
+use mathlib.Core.Logic.{_≢_}
+use mathlib.Core.Bool.{Bool, true, false, _&&_}
+use Prim.Native.Nat.{ℕ, zero, suc, _+_, _-_, _*_, _/_, _<_, _≤_}
+use native.Mathlib.Nat.{div-add-mod', mod-lt, mul-le-mul-right}
 use native.Mathlib.Decide.{ℕ-discrete, decLt}
 use native.Mathlib.Omega.{arith}
-use lib.Dec.{T, ltb, leb, eqb, lt→ltb}
-use Rattle.segment.specs.Arc.{gap, holds, wide}
+use lib.Dec.{T, ltb, leb}
+use Rattle.segment.specs.Arc.{holds, wide}
 use Rattle.ring.specs.Ring.{atEnds, between, proper, wraps}
 use Rattle.ring.specs.Segments.{wide-wraps, wraps→, null-proper}
 use Rattle.ring.specs.Sound.{held-along, Sound, tile-count}
 use Rattle.ring.specs.Buckets.{Sized}
 use Rattle.ring.specs.Node.{nodes}
 use Rattle.ring.specs.Insert.{Ring, ring-tally, ring-proper, all-proper, node-sole}
-use Rattle.sums.specs.Bit.{Tells, bit, bit-0, bit-1, bit-le, bit-no, bit-yes, le?, lt?}
+use Rattle.sums.specs.Bit.{Tells, bit, bit-1, bit-le, bit-no, le?, lt?}
 use Rattle.sums.specs.Iterate.{iter, iter-add, iter-last}
-use Rattle.sums.specs.Tally.{First, counts, first, sole, tally, tally-add, tally-ext, walk}
+use Rattle.sums.specs.Tally.{First, counts, first, tally, tally-add, tally-ext, walk}
 
 between-is : (y x a : ℕ) → y ≤ x → bit (between y x a) + bit (leb a y) ≡ bit (leb a x)
 unfolding between

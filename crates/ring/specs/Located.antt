@@ -1,30 +1,29 @@
 -- What the nodes find is what the boundary says: the edge of the node that holds x is `located`, and the nodes that the walk from the bucket of x passes after the first are counted by
 -- 01's formula over the boundary's angles. Assumes nothing.
 use mathlib.Core.Path.{_≡_, refl, sym, _∙_, ap, ap₂, subst}
-use mathlib.Core.Logic.{_≢_, _⊎_, inl, inr}
-use mathlib.Core.Bool.{Bool, true, false, not, cond, _&&_, _||_}
-use mathlib.Core.List.{List, [], _∷_, map}
-use Prim.Native.Nat.{ℕ, zero, suc, _+_, _-_, _*_, _/_, _%_, _<_, _≤_}
+use mathlib.Core.Logic.{_⊎_, inl, inr}
+use mathlib.Core.Bool.{Bool, true, false, cond}
+use mathlib.Core.List.{[], map}
+use Prim.Native.Nat.{ℕ, zero, suc, _-_, _*_, _/_, _%_, _<_, _≤_}
 use native.Mathlib.Nat.{mul-comm, mul-assoc, mul-div-cancel, mul-div-mul-right, mod-eq-of-lt, div-lt-iff-lt-mul}
 use native.Mathlib.Decide.{ℕ-discrete}
 use native.Mathlib.Omega.{arith}
-use lib.Dec.{T, eqb, T-not, eqb→eq}
+use lib.Dec.{T, eqb, eqb→eq}
 use lib.ListN.{length}
 use Rattle.mesh.specs.declared.Counts.{Counts}
 use Rattle.mesh.specs.Mesh.{Links, In}
 use Rattle.mesh.specs.Wf.{Wf}
 use Rattle.mesh.specs.Area.{boundaryLength}
 use Rattle.segment.specs.Arc.{holds}
-use Rattle.sums.specs.Bit.{bit, test, eq-test, ne-test, or-cases, or-left, or-right, is-true, is-false}
+use Rattle.sums.specs.Bit.{eq-test, or-cases, or-left, or-right, is-true, is-false}
 use Rattle.sums.specs.Iterate.{iter}
 use Rattle.sums.specs.Tally.{First, tally, walk}
-use Rattle.ring.specs.Ring.{fullTurn, proper, atEnds, between, member, merged, passedCount, edgeAngle, isSoundRing, located}
+use Rattle.ring.specs.Ring.{fullTurn, proper, atEnds, between, member, merged, passedCount, edgeAngle, located}
 use Rattle.ring.specs.Merged.{angles-tally, angles-size}
 use Rattle.ring.specs.Node.{nodes, Stands, match-at}
 use Rattle.ring.specs.Insert.{On}
 use Rattle.ring.specs.Locate.{angleIn}
-use Rattle.ring.specs.Buckets.{Sized}
-use Rattle.ring.specs.Hull.{Hull, hull-at, kth, node-edge, locate-hull, locate-top-none, locate-top-some}
+use Rattle.ring.specs.Hull.{Hull, kth, node-edge, locate-hull, locate-top-none, locate-top-some}
 use Rattle.ring.specs.Boundary.{outer-walk, outer-sound, located-sole}
 
 -- ---- the angle x stands on a walk

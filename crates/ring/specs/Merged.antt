@@ -3,16 +3,15 @@
 -- of the nodes (`nodes-merged`). Assumes nothing.
 use mathlib.Core.Path.{_≡_, refl, sym, _∙_, ap, ap₂, subst}
 use mathlib.Core.Logic.{_≢_, _⊎_, inl, inr}
-use mathlib.Core.Bool.{Bool, true, false, not, cond, _&&_, _||_}
+use mathlib.Core.Bool.{Bool, true, false, not, cond, _&&_}
 use mathlib.Core.List.{List, [], _∷_, map}
-use Prim.Native.Nat.{ℕ, zero, suc, _+_, _-_, _<_, _≤_}
-use native.Mathlib.Decide.{ℕ-discrete}
+use Prim.Native.Nat.{ℕ, zero, suc, _+_, _<_, _≤_}
 use native.Mathlib.Omega.{arith}
 use lib.Dec.{T, leb, eqb, leb→le, le→leb, eqb→eq, not-T}
 use lib.ListN.{length}
 use Rattle.segment.specs.Arc.{holds, wide}
-use Rattle.sums.specs.Bit.{Tells, bit, bit-le, bit-no, bit-yes, eq?, eq-test, and-left, and-right, and-both, or-cases, is-true, is-false}
-use Rattle.sums.specs.Bounded.{count, count-not, count-ext}
+use Rattle.sums.specs.Bit.{Tells, bit, bit-yes, eq?, eq-test, and-left, and-right, and-both, or-cases}
+use Rattle.sums.specs.Bounded.{count-not}
 use Rattle.sums.specs.Iterate.{iter}
 use Rattle.sums.specs.Tally.{tally, walk, tally-count}
 use Rattle.ring.specs.Ring.{proper, wraps, headOr, countBefore, countAround, mergedBefore, orOne, merged, member, allDiffer, isSound, isStrict, atEnds, filter}

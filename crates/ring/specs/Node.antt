@@ -1,22 +1,18 @@
 -- NODES: a list of nodes, linked by `right`, stands for a round of boundary edges, linked by `next`: one node for each proper edge, in the same order. Node i has the edge `edge i`
 -- and the angle `angle i`. A node's segment goes from its angle to its right node's. The nodes' counts are then the edges' counts, so the one ring is sound where the other is. Assumes nothing.
 use mathlib.Core.Path.{_≡_, refl, sym, _∙_, ap, ap₂, subst}
-use mathlib.Core.Logic.{_≢_, _⊎_, inl, inr}
-use mathlib.Core.Bool.{Bool, true, false, not}
-use mathlib.Core.List.{List, [], _∷_}
-use Prim.Native.Nat.{ℕ, zero, suc, _+_, _-_, _*_, _<_, _≤_}
+use mathlib.Core.Logic.{_≢_}
+use mathlib.Core.Bool.{Bool, true, false}
+use mathlib.Core.List.{[]}
+use Prim.Native.Nat.{ℕ, zero, suc, _+_, _<_, _≤_}
 use native.Mathlib.Nat.{suc-add, zero-add}
-use native.Mathlib.Decide.{ℕ-discrete, decLt}
 use native.Mathlib.Omega.{arith}
-use lib.Dec.{T, ltb, leb, eqb}
-use Rattle.segment.specs.Arc.{gap, holds, wide}
-use Rattle.ring.specs.Ring.{atEnds, proper, wraps}
-use Rattle.ring.specs.Segments.{holds-first, holds-proper, proper→, proper←, proper?}
-use Rattle.ring.specs.Sound.{held-along, Sound, tile-count, tile-sole}
-use Rattle.ring.specs.Splice.{Spliced}
-use Rattle.sums.specs.Bit.{Tells, bit, bit-0, bit-1, bit-le, bit-no, bit-yes, sure}
-use Rattle.sums.specs.Iterate.{iter, iter-add, iter-ext, iter-last}
-use Rattle.sums.specs.Tally.{First, counts, first, sole, tally, tally-add, tally-before, tally-ext, tally-last, walk, walk-ext}
+use lib.Dec.{T}
+use Rattle.ring.specs.Ring.{atEnds, proper}
+use Rattle.ring.specs.Segments.{proper?}
+use Rattle.sums.specs.Bit.{Tells, bit}
+use Rattle.sums.specs.Iterate.{iter, iter-add, iter-ext}
+use Rattle.sums.specs.Tally.{tally, tally-before, tally-ext, walk, walk-ext}
 
 -- how many nodes h edges from e on have
 abbrev pub nodes : (ℕ → ℕ) → (ℕ → ℕ) → ℕ → ℕ → ℕ

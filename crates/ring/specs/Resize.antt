@@ -2,23 +2,20 @@
 -- of crate segment. Assumes nothing.
 use mathlib.Core.Path.{_≡_, refl, sym, _∙_, ap, subst}
 use mathlib.Core.Bool.{Bool, true, false, cond, _&&_}
-use Prim.Native.Nat.{ℕ, zero, suc, _+_, _-_, _*_, _/_, _%_, _^_, _<_, _≤_}
-use native.Mathlib.Nat.{mul-comm, mul-assoc, mul-div-cancel, two-pow-succ}
+use Prim.Native.Nat.{ℕ, zero, suc, _+_, _*_, _/_, _%_, _^_, _<_, _≤_}
+use native.Mathlib.Nat.{mul-div-cancel, two-pow-succ}
 use native.Mathlib.Omega.{arith}
 use lib.Dec.{T, ltb, leb, ltb→lt, leb→le, lit≤}
 use Rattle.mesh.specs.declared.Counts.{Counts}
 use Rattle.mesh.specs.Mesh.{Links}
 use Rattle.mesh.specs.Wf.{Wf}
-use Rattle.mesh.specs.Area.{boundaryLength}
 use Rattle.segment.specs.Bucket.{Buckets, width, ceilOf}
 use Rattle.segment.specs.Laws.{bucket-width}
-use Rattle.sums.specs.Bit.{Tells, lt?, and-left, and-right}
-use Rattle.ring.specs.Ring.{fullTurn, edgeAngle}
+use Rattle.sums.specs.Bit.{and-right}
+use Rattle.ring.specs.Ring.{fullTurn}
 use Rattle.ring.specs.Buckets.{ceiling, Sized}
-use Rattle.ring.specs.Node.{nodes}
-use Rattle.ring.specs.Insert.{Bucketed, ring-sound, ring-proper}
+use Rattle.ring.specs.Insert.{ring-sound, ring-proper}
 use Rattle.ring.specs.Build.{Filling, filling-done}
-use Rattle.ring.specs.Hull.{Hull}
 use Rattle.ring.specs.RingOf.{RingOf, ring-of, node-low}
 
 -- `adjust_bucket_size_if_necessary` of 000, where num is the number of buckets and size that of the nodes

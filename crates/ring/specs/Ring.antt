@@ -1,7 +1,7 @@
 -- The ring of boundary angles, defined from the boundary alone: sound, strict, its nodes, the edge at an angle, and the count that locate answers.
 -- An angle is a whole number of 2 ^ -53, from 0 to 2 ^ 53 = 1.0; N stands for that 1.0, so that an example may take a smaller circle. `α` gives each vertex its angle; a vertex at the
 -- centre has none, and 01's refusal 6 keeps such a vertex off the boundary. Definitions only, and each computes; `Merged`, `Sound` and `Boundary` have their laws.
-use Prim.Native.Nat.{ℕ, zero, suc, _+_, _-_, _*_, _/_, _^_}
+use Prim.Native.Nat.{ℕ, _+_, _-_, _*_, _/_, _^_}
 use mathlib.Core.Bool.{Bool, true, false, not, cond, _&&_, _||_}
 use mathlib.Core.List.{List, [], _∷_, map}
 use lib.Dec.{ltb, leb, eqb}

@@ -1,10 +1,8 @@
 -- THE INVARIANT: the nodes and buckets are the ring of the mesh's boundary. It names rows and numbers only, and starts at the node of bucket 0; from any boundary edge there is a node with
 -- which the theory's `Hull` holds, and the other way round. What leaves the boundary leaves it, and an insert carries it over a step. Assumes nothing.
 use mathlib.Core.Path.{_≡_, refl, sym, _∙_, ap, ap₂, subst}
-use mathlib.Core.Logic.{_≢_, _⊎_, inl, inr}
 use mathlib.Core.Bool.{Bool, _&&_, cond}
-use mathlib.Core.List.{map}
-use Prim.Native.Nat.{ℕ, zero, suc, _+_, _-_, _*_, _/_, _%_, _<_, _≤_}
+use Prim.Native.Nat.{ℕ, suc, _+_, _-_, _%_, _<_, _≤_}
 use native.Mathlib.Decide.{decLt}
 use native.Mathlib.Omega.{arith}
 use lib.Dec.{T, eqb, eqb→eq}
@@ -12,29 +10,28 @@ use Rattle.mesh.specs.declared.Counts.{Counts}
 use Rattle.mesh.specs.Mesh.{Links, In}
 use Rattle.mesh.specs.Wf.{Wf}
 use Rattle.mesh.specs.Area.{boundaryLength}
-use Rattle.mesh.specs.BoundaryLaws.{first<, first-outer, boundary-below}
 use Rattle.mesh.specs.Frame.{Keeps, SameBoundary}
 use Rattle.segment.specs.Arc.{holds, wide}
 use Rattle.segment.specs.Bucket.{width}
 use Rattle.sums.specs.Bit.{and-left, and-right, and-both, eq-test}
 use Rattle.sums.specs.Bounded.{first-below, first-below-at-most, first-below-passes}
 use Rattle.sums.specs.Iterate.{iter, iter-last, iter-ext}
-use Rattle.sums.specs.Listed.{Listed, pigeonhole}
-use Rattle.sums.specs.Tally.{First, tally, tally-at, tally-ext, walk, walk-ext}
-use Rattle.ring.specs.Ring.{fullTurn, proper, wraps, edgeAngle, atEnds, isSoundRing, located, passedCount, boundaryEdges, boundaryAngles}
+use Rattle.sums.specs.Listed.{pigeonhole}
+use Rattle.sums.specs.Tally.{tally, tally-at, tally-ext, walk-ext}
+use Rattle.ring.specs.Ring.{fullTurn, proper, wraps, edgeAngle, atEnds, isSoundRing, located}
 use Rattle.ring.specs.Segments.{holds-first, proper→}
 use Rattle.ring.specs.Sound.{Sound, tile-sole}
-use Rattle.ring.specs.Splice.{Spliced, Fit}
+use Rattle.ring.specs.Splice.{Fit}
 use Rattle.ring.specs.Buckets.{ceiling, within, Sized}
 use Rattle.ring.specs.Node.{nodes, Kept, kept-tally, kept-match}
-use Rattle.ring.specs.Insert.{Ring, On, Bucketed, ring-sound, ring-begins}
+use Rattle.ring.specs.Insert.{On, Bucketed, ring-sound, ring-begins}
 use Rattle.ring.specs.Build.{Built, built, built-at}
 use Rattle.ring.specs.Stores.{Linked, Stores}
 use Rattle.ring.specs.Free.{Free, Pushed, Taken, free-fewer}
 use Rattle.ring.specs.Hull.{Hull, hull-turns, hull-home, kth, node-edge, on-to, on-from}
-use Rattle.ring.specs.WholeInsert.{Names, insert-keeps-hull, insert-keeps-freed, insert-keeps-total}
-use Rattle.ring.specs.Boundary.{outer-round, outer-walk, outer-on, sound-first, sound-outer, outer-sound, length-same}
-use Rattle.ring.specs.Located.{node-place, node-located, locate-passed}
+use Rattle.ring.specs.WholeInsert.{Names, insert-keeps-hull, insert-keeps-freed}
+use Rattle.ring.specs.Boundary.{outer-round, outer-walk, outer-on, sound-outer, outer-sound, length-same}
+use Rattle.ring.specs.Located.{node-place, node-located}
 use Rattle.ring.specs.Covered.{Covered}
 
 -- B buckets; `size` nodes

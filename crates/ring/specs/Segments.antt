@@ -1,13 +1,12 @@
 -- Segments of a circle of N places: the segment from a to b holds the places from a up to and without b, going up, and past N back at 0 where b is less than a.
 -- What a segment holds is told by three order tests, and that is an equation of 0s and 1s (`held`), from which all about rings follows by adding up. Assumes nothing.
-use mathlib.Core.Path.{_≡_, refl, sym, _∙_, ap, subst}
-use mathlib.Core.Logic.{_≢_, _⊎_, inl, inr}
+use mathlib.Core.Path.{_≡_, refl}
+use mathlib.Core.Logic.{_≢_}
 use mathlib.Core.Bool.{Bool, true, false, not, cond, _&&_, _||_}
-use Prim.Native.Nat.{ℕ, zero, suc, _+_, _-_, _*_, _<_, _≤_}
+use Prim.Native.Nat.{ℕ, _+_, _-_, _*_, _<_, _≤_}
 use native.Mathlib.Decide.{ℕ-discrete}
 use native.Mathlib.Omega.{arith}
-use lib.Dec.{T, ltb, leb, eqb, ltb→lt, nltb→le, leb→le, nleb→lt, eqb→eq, eqb-refl, lt→ltb, le→leb}
-use lib.Arith.{lt→nleb, le→nltb}
+use lib.Dec.{T, ltb, leb, eqb, ltb→lt, eqb→eq, lt→ltb, le→leb}
 use Rattle.ring.specs.Ring.{proper, wraps}
 use Rattle.segment.specs.Arc.{holds, gap, wide}
 use Rattle.sums.specs.Bit.{Tells, bit, bit-no, eq?, le?, lt?, sure}

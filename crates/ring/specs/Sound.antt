@@ -1,17 +1,15 @@
 -- Rounds: s, f s, f (f s), .. n steps on and back at s. How many of its edges pass a test is a sum over the walk; an edge e goes from the angle α e to the angle α (f e).
 -- TILE: in a round with one wrapping edge each place is held by exactly one edge. Assumes nothing.
-use mathlib.Core.Path.{_≡_, refl, sym, _∙_, ap, subst}
-use mathlib.Core.Logic.{_≢_, _⊎_, inl, inr}
-use mathlib.Core.Bool.{Bool, true, false, not, cond, _&&_, _||_}
-use mathlib.Core.List.{List, [], _∷_, _++_}
-use Prim.Native.Nat.{ℕ, zero, suc, _+_, _-_, _*_, _<_, _≤_}
-use native.Mathlib.Nat.{suc-add, zero-add}
+use mathlib.Core.Path.{_≡_, refl, _∙_, ap}
+use mathlib.Core.Bool.{Bool}
+use mathlib.Core.List.{[]}
+use Prim.Native.Nat.{ℕ, zero, suc, _+_, _<_, _≤_}
 use native.Mathlib.Omega.{arith}
-use lib.Dec.{T, ltb, leb, eqb}
+use lib.Dec.{T, leb}
 use Rattle.segment.specs.Arc.{holds, wide}
 use Rattle.ring.specs.Ring.{atEnds, proper, wraps}
 use Rattle.ring.specs.Segments.{held}
-use Rattle.sums.specs.Bit.{bit, bit-le}
+use Rattle.sums.specs.Bit.{bit}
 use Rattle.sums.specs.Iterate.{iter, iter-last}
 use Rattle.sums.specs.Tally.{First, first, sole, tally, tally-turn, walk}
 

@@ -1,20 +1,20 @@
 -- LOCAL CHANGE: in a round of m + n edges from s, the first m (the chain, from s to r) give way to two, l to p and p to r; the other n (the rest, from r) stay.
 -- Each count of the new round is the old one less the chain's and with the two; so the new round is sound or not by a few numbers. Assumes nothing.
-use mathlib.Core.Path.{_≡_, refl, sym, _∙_, ap, ap₂, subst}
-use mathlib.Core.Logic.{_≢_, _⊎_, inl, inr}
-use mathlib.Core.Bool.{Bool, true, false, not}
-use mathlib.Core.List.{List, [], _∷_}
-use Prim.Native.Nat.{ℕ, zero, suc, _+_, _-_, _*_, _<_, _≤_}
-use native.Mathlib.Decide.{ℕ-discrete, decLt}
+use mathlib.Core.Path.{_≡_, refl, sym, _∙_, ap, ap₂}
+use mathlib.Core.Logic.{_≢_}
+use mathlib.Core.Bool.{Bool}
+use mathlib.Core.List.{[]}
+use Prim.Native.Nat.{ℕ, zero, suc, _+_, _<_, _≤_}
+use native.Mathlib.Decide.{decLt}
 use native.Mathlib.Omega.{arith}
-use lib.Dec.{T, ltb, leb, eqb}
+use lib.Dec.{T, leb}
 use Rattle.segment.specs.Arc.{holds, wide}
 use Rattle.ring.specs.Ring.{atEnds, proper, wraps}
 use Rattle.ring.specs.Segments.{holds-first, proper→, proper←, wraps-le, le-proper}
 use Rattle.ring.specs.Sound.{held-along, Sound, SoundCounts, tile-count}
-use Rattle.sums.specs.Bit.{bit, bit-0, bit-1, bit-le, bit-no, bit-yes}
-use Rattle.sums.specs.Iterate.{iter, iter-add, iter-ext, iter-last}
-use Rattle.sums.specs.Tally.{First, counts, first, sole, tally, tally-add, tally-ext, walk, walk-ext}
+use Rattle.sums.specs.Bit.{bit, bit-1, bit-le, bit-yes}
+use Rattle.sums.specs.Iterate.{iter, iter-ext, iter-last}
+use Rattle.sums.specs.Tally.{counts, first, tally, tally-add, tally-ext, walk, walk-ext}
 
 -- f and α before, f' and α' after; r is after m f s, and q the angle of p
 pub record Spliced (f α f' α' : ℕ → ℕ) (s m n l p q r : ℕ) : Type 0 where

@@ -1,8 +1,8 @@
 -- The stores of an insert, node by node, make the tables that `Inserted` asks for, and keep the links to the left. Assumes nothing.
 -- s is the left node, c nodes on is t, the right one, k nodes on from there is s again; v is the new node, and u the node before it: s, or the node before s if the left angle `al` is q.
-use mathlib.Core.Path.{_≡_, refl, sym, _∙_, ap, ap₂, subst}
-use mathlib.Core.Logic.{_≢_, _⊎_, inl, inr}
-use Prim.Native.Nat.{ℕ, zero, suc, _+_, _-_, _<_, _≤_}
+use mathlib.Core.Path.{_≡_, sym, _∙_, ap, subst}
+use mathlib.Core.Logic.{_≢_}
+use Prim.Native.Nat.{ℕ, zero, suc, _+_, _-_, _<_}
 use native.Mathlib.Decide.{ℕ-discrete, decLt}
 use native.Mathlib.Omega.{arith}
 use Rattle.ring.specs.Insert.{Inserted}

@@ -2,7 +2,7 @@
 use mathlib.Core.Path.{_≡_, refl, sym, _∙_, ap, subst}
 use mathlib.Core.Logic.{_≢_, _⊎_, inl, inr}
 use mathlib.Core.Bool.{Bool, true, false, cond}
-use Prim.Native.Nat.{ℕ, zero, suc, _+_, _-_, _*_, _%_, _<_, _≤_}
+use Prim.Native.Nat.{ℕ, suc, _+_, _-_, _%_, _<_, _≤_}
 use native.Mathlib.Decide.{ℕ-discrete}
 use native.Mathlib.Omega.{arith}
 use lib.Dec.{T}
@@ -11,14 +11,14 @@ use Rattle.ring.specs.Ring.{atEnds, proper}
 use Rattle.ring.specs.Segments.{proper←, null-proper}
 use Rattle.ring.specs.Sound.{Sound}
 use Rattle.ring.specs.Splice.{Spliced, Fit, fit-sound}
-use Rattle.ring.specs.Buckets.{ceiling, within, null-within}
+use Rattle.ring.specs.Buckets.{ceiling, within}
 use Rattle.ring.specs.Node.{nodes}
-use Rattle.ring.specs.Insert.{On, Rebucketed, node-sole, ring-sound, ring-proper, size-old, left-some, rest-some, left-angle, last-t, size-new}
+use Rattle.ring.specs.Insert.{On, Rebucketed, node-sole, ring-sound, ring-proper, size-old, left-some, left-angle, size-new}
 use Rattle.ring.specs.Stores.{Stores, Before, stores-inserted, not-s}
 use Rattle.ring.specs.Free.{Free, free-same, Stay, Pushed, pushed, Taken, taken, taken-sum, taken-fresh, free-stays, free-gone}
 use Rattle.ring.specs.Hull.{Hull, Placed, hull-insert, before}
 use Rattle.sums.specs.Bit.{bit, bit-yes}
-use Rattle.sums.specs.Iterate.{iter, iter-add}
+use Rattle.sums.specs.Iterate.{iter}
 
 -- two loops over buckets, one after the other
 pub rebucketed : {bucket bucket₁ bucket' : ℕ → ℕ} {B L Q R a v : ℕ} → ((i : ℕ) → i < B → bucket₁ i ≡ cond (within i L Q) a (bucket i)) → ((i : ℕ) → i < B → bucket' i ≡ cond (within i Q R) v (bucket₁ i))
