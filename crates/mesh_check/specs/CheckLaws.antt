@@ -9,7 +9,7 @@ use lib.Dec.{T, ltb, ltb→lt, lt→ltb, T-not}
 use lib.Signed.{ltZ-yes}
 use Rattle.math.specs.declared.Point.{Point}
 use Rattle.math.specs.Determinant.{InRange, isValidCoordinate, isValidVertex}
-use Rattle.math.specs.Range.{in-range, range-x, range-y}
+use Rattle.math.specs.Range.{in-range, valid-vertex}
 use Rattle.mesh.specs.declared.Counts.{Counts}
 use Rattle.mesh.specs.Mesh.{Links}
 use Rattle.mesh.specs.Area.{LeftTurning}
@@ -106,22 +106,15 @@ pub record Passes (n : ℕ) (short : Bool) (C : Counts) (L : Links) (p : ℕ →
 pub passes-good : {n : ℕ} {short : Bool} {C : Counts} {L : Links} {p : ℕ → Point} → C .vertices ≤ n → Passes n short C L p → Good C L p
 passes-good k P = record { wf = P .wf; turning = P .turning; range = λ l. P .range (omega arith) }
 
-valid-range : {q : Point} → T (isValidVertex q) → InRange q
-valid-range {q} t =
-    let a = isValidCoordinate (q .x) in let b = isValidCoordinate (q .y) in
-    in-range (is-true a (and-left a b t)) (is-true b (and-right a b t))
-
-range-valid : {q : Point} → InRange q → T (isValidVertex q)
-range-valid {q} r = and-both (isValidCoordinate (q .x)) (isValidCoordinate (q .y)) (from-true (range-x r)) (from-true (range-y r))
-
 -- none is outside: all are in range, and the other way round
 pub inside-range : (n : ℕ) (p : ℕ → Point) → n ≤ firstOutside n p → {v : ℕ} → v < n → InRange (p v)
 unfolding firstOutside
-inside-range n p l {v} k = valid-range (sure (isValidVertex (p v)) (λ t. first-below-any n (λ v. isOutside (p v)) (let m = first-below-le n (λ v. isOutside (p v)) in omega arith) v k t))
+inside-range n p l {v} k = in-range (is-true (isValidVertex (p v)) (sure (isValidVertex (p v)) (λ t.
+    first-below-any n (λ v. isOutside (p v)) (let m = first-below-le n (λ v. isOutside (p v)) in omega arith) v k t)))
 
 pub range-inside : (n : ℕ) (p : ℕ → Point) → ((v : ℕ) → v < n → InRange (p v)) → n ≤ firstOutside n p
 unfolding firstOutside
-range-inside n p R = let e = first-below-none n (λ v. isOutside (p v)) (λ v l t. T-not (isValidVertex (p v)) t (range-valid (R v l))) in omega arith
+range-inside n p R = let e = first-below-none n (λ v. isOutside (p v)) (λ v l t. T-not (isValidVertex (p v)) t (from-true (valid-vertex (R v l)))) in omega arith
 
 module _ (C : Counts) (L : Links) (p : ℕ → Point) where
   fails : ℕ → Bool
