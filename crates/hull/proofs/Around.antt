@@ -18,7 +18,8 @@ use Rattle.segment.specs.Arc.{wide}
 use Rattle.math.specs.declared.Point.{Point}
 use Rattle.dcel.specs.Rows.{halvesOf, positionOf, There}
 use Rattle.ring.specs.Ring.{fullTurn, atEnds, wraps, isStrict}
-use Rattle.hull.specs.Boundary.{BoundaryRows, AngledBoundary, Angled, AngleAt, edgeAt, originTurns, originAtCenter, anglesOf, vertexTurns, vertexAtCenter}
+use Rattle.ring.specs.Center.{turnsAbout}
+use Rattle.hull.specs.Boundary.{BoundaryRows, AngledBoundary, Angled, AngleAt, edgeAt, originTurns, originAtCenter, anglesOf, vertexAtCenter}
 use Rattle.hull.specs.Strict.{strict-counts}
 
 one : (k : ℕ) → suc k ≡ k + 1
@@ -38,7 +39,7 @@ module _ (p : List ℤ) (h : List ℕ) (e : ℕ) {v : ℕ} {P : Point} {x y : �
   center-at cx cy = rw (x-is, y-is, r, q)
 
   pub angle-is : {cx cy : Float} {a : Float} → a ≡ angleAbout x y cx cy → IsAngle a → AngleAt p h cx cy e a
-  unfolding vertexTurns
+  unfolding turnsAbout
   angle-is {cx} {cy} {a} z i = record { is-angle = i; turns-are = ap turns z ∙ rw (x-is, y-is, r, q) }
 
 -- ---- is one at the centre?

@@ -8,37 +8,26 @@ use lib.IntN.{ℤ}
 use lib.Ieee.{Float}
 use lib.ListN.{length}
 use Rattle.math.specs.declared.Point.{Point}
-use Rattle.mesh.specs.declared.Counts.{Counts}
-use Rattle.mesh.specs.Mesh.{Links}
-use Rattle.mesh.specs.Area.{boundaryLength, hullEdge}
-use Rattle.sums.specs.Bounded.{any-below}
 use Rattle.sums.specs.Iterate.{iter}
 use Rattle.sums.specs.Tally.{walk}
-use Rattle.angle.specs.Angle.{IsAngle, turns, angleAbout, atCenter, validCenter}
+use Rattle.angle.specs.Angle.{IsAngle, turns, atCenter, validCenter}
 use Rattle.dcel.specs.Rows.{halvesOf, positionOf, There}
 use Rattle.ring.specs.Ring.{fullTurn, isStrict}
+use Rattle.ring.specs.Center.{turnsAbout}
 use Rattle.ring_rows.specs.declared.Node.{Node}
-
--- the angle of a vertex about the centre, as a whole number of 2 ^ -53
-unfoldable pub vertexTurns : (ℕ → Point) → Float → Float → ℕ → ℕ
-vertexTurns p cx cy v = turns (angleAbout (p v .x) (p v .y) cx cy)
 
 -- the vertex equals the centre
 unfoldable pub vertexAtCenter : (ℕ → Point) → Float → Float → ℕ → Bool
 vertexAtCenter p cx cy v = atCenter (p v .x) (p v .y) cx cy
 
--- 01, row 6: the centre "equals a boundary vertex"
-unfoldable pub centerOnBoundary : Counts → Links → (ℕ → Point) → Float → Float → Bool
-centerOnBoundary C L p cx cy = any-below (boundaryLength C L) (λ k. vertexAtCenter p cx cy (L .origin (hullEdge L k)))
-
--- ---- the same in the rows of positions and half-edges
+-- ---- the boundary in the rows of positions and half-edges
 -- the k-th boundary edge from `start` on
 abbrev pub edgeAt : List ℕ → ℕ → ℕ → ℕ
 edgeAt h start k = iter k (halvesOf h .next) start
 
 -- the angle at a half-edge's origin
 abbrev pub originTurns : List ℤ → List ℕ → Float → Float → ℕ → ℕ
-originTurns p h cx cy e = vertexTurns (positionOf p) cx cy (halvesOf h .origin e)
+originTurns p h cx cy e = turnsAbout cx cy (positionOf p) (halvesOf h .origin e)
 
 abbrev pub originAtCenter : List ℤ → List ℕ → Float → Float → ℕ → Bool
 originAtCenter p h cx cy e = vertexAtCenter (positionOf p) cx cy (halvesOf h .origin e)

@@ -1,42 +1,41 @@
 -- Nodes numbered in the order of a strict boundary's edges are its ring, and with their buckets filled the rows hold it. Assumes nothing.
-use Prim.Native.Nat.{ℕ, zero, suc, _+_, _-_, _*_, _%_, _<_, _≤_, _^_}
+use Prim.Native.Nat.{ℕ, zero, suc, _+_, _-_, _%_, _<_, _≤_, _^_}
 use native.Mathlib.Nat.{mod-eq-of-lt, mod-self, mod-lt}
 use native.Mathlib.Decide.{decLt}
 use native.Mathlib.Omega.{arith}
 use mathlib.Core.Path.{_≡_, refl, sym, _∙_, ap, subst}
 use mathlib.Core.List.{List}
-use lib.Dec.{T, lit≤}
+use lib.Dec.{T}
 use lib.IntN.{ℤ}
 use lib.Ieee.{Float}
 use lib.ListN.{length}
 use Rattle.mesh.specs.declared.Counts.{Counts}
-use Rattle.mesh.specs.Mesh.{Links}
+use Rattle.mesh.specs.Wf.{Wf}
 use Rattle.mesh.specs.Area.{boundaryLength}
-use Rattle.angle.specs.Angle.{IsAngle, turns}
-use Rattle.segment.specs.Bucket.{Buckets, width}
+use Rattle.mesh.specs.BoundaryLaws.{first<, first-outer}
+use Rattle.segment.specs.Bucket.{Buckets}
 use Rattle.sums.specs.Bit.{bit-yes}
-use Rattle.sums.specs.Iterate.{iter, iter-last}
 use Rattle.sums.specs.Tally.{walk, tally}
 use Rattle.dcel.specs.Rows.{halvesOf, rowOf, linksOf, positionOf}
-use Rattle.ring.specs.Ring.{fullTurn, proper, atEnds, edgeAngle, isStrict}
+use Rattle.ring.specs.Ring.{fullTurn, proper, atEnds}
+use Rattle.ring.specs.Center.{turnsAbout}
 use Rattle.ring.specs.Merged.{sound-round, strict-sound, strict-all}
 use Rattle.ring.specs.Sound.{Sound}
 use Rattle.ring.specs.Node.{nodes as nodeCount}
 use Rattle.ring.specs.Locate.{tally-whole}
 use Rattle.ring.specs.Free.{Free}
-use Rattle.ring.specs.Hull.{Hull as HullOf}
-use Rattle.ring.specs.Insert.{Ring, On, Bucketed, all-proper, ring-sound, ring-proper}
+use Rattle.ring.specs.Insert.{Ring, On, all-proper, ring-sound, ring-proper}
 use Rattle.ring.specs.Stores.{Linked}
-use Rattle.ring.specs.Build.{Built, built}
+use Rattle.ring.specs.Build.{Built, built, built-at}
+use Rattle.ring.specs.Boundary.{outer-sound}
+use Rattle.ring.specs.RingOf.{RingOf, ring-built, free-built, free-from}
+use Rattle.ring.specs.Resize.{eight-buckets}
 use Rattle.ring_rows.specs.declared.Node.{Node}
 use Rattle.ring_rows.specs.declared.Hull.{Hull}
-use Rattle.ring_rows.specs.Rows.{nodesOf, angleOf, edgeOf, leftOf, rightOf, sizeOf, ValidNodes, NodeRing, ToFill}
-use Rattle.ring_rows.specs.Laws.{sized, walk-below}
-use Rattle.hull.specs.Boundary.{vertexTurns, edgeAt, originTurns, anglesOf, NodeOfEdge, NodesOfEdges, ToBuild}
+use Rattle.ring_rows.specs.Rows.{nodesOf, angleOf, edgeOf, leftOf, rightOf, ValidNodes, NodeRing, ToFill}
+use Rattle.ring_rows.specs.Laws.{sized}
+use Rattle.hull.specs.Boundary.{edgeAt, originTurns, anglesOf, NodesOfEdges, ToBuild}
 use Rattle.hull.specs.Held.{Held, FromBoundary}
-
-pub eight-buckets : Buckets 8
-eight-buckets = record { power = (0, refl); most = lit≤ tt }
 
 module _ {p : List ℤ} {h : List ℕ} {cx cy : Float} {start size nodes buckets : ℕ} (B : ToBuild p h cx cy start size nodes buckets) where
   boundary-sound : Sound fullTurn (halvesOf h .next) (originTurns p h cx cy) start size
@@ -67,10 +66,6 @@ module _ {p : List ℤ} {h : List ℕ} {cx cy : Float} {start size nodes buckets
       where
         one : (i : ℕ) → i + 1 ≡ suc i
         one i = omega arith
-
-    count : (i : ℕ) → i < size → iter i (rightOf t) 0 ≡ i
-    count zero l = refl
-    count (suc i) l = iter-last i (rightOf t) 0 ∙ ap (rightOf t) (count i (omega arith)) ∙ right-more i l
 
     pub numbered-built : Built (halvesOf h .next) (originTurns p h cx cy) (rightOf t) (angleOf t) (edgeOf t) start size size
     numbered-built = record {
@@ -106,7 +101,7 @@ module _ {p : List ℤ} {h : List ℕ} {cx cy : Float} {start size nodes buckets
     }
 
     numbered-links : Linked (leftOf t) (rightOf t) 0 size
-    numbered-links i l = subst (λ (x : ℕ). leftOf t (rightOf t x) ≡ x) (sym (count i l)) (go (decLt (suc i) size))
+    numbered-links i l = subst (λ (x : ℕ). leftOf t (rightOf t x) ≡ x) (sym (built-at boundary-sound numbered-built i l)) (go (decLt (suc i) size))
       where
         go : Dec (suc i < size) → leftOf t (rightOf t i) ≡ i
         go (yes u) = ap (leftOf t) (right-more i u) ∙ D (suc i) u .left-more (omega arith) ∙ less i
@@ -125,31 +120,24 @@ to-fill {size = size} B u v D = record { len = size; ring = numbered-nodes B D; 
 
 -- THE RING OF A MESH'S BOUNDARY, built: the rows hold it
 pub built-held : (o a : List ℕ) {C : Counts} {p : List ℤ} {h : List ℕ} {cx cy : Float} {size n b : ℕ} {nodes : List (List ℕ)} {freed buckets : List ℕ} {r : Hull}
-    → ToBuild p h cx cy (rowOf a 0) size n b → size ≡ boundaryLength C (linksOf o h a) → FromBoundary p h cx cy (rowOf a 0) size nodes buckets r
-    → size ≤ length nodes → size ≤ length freed → 8 ≤ length buckets → Held C (linksOf o h a) (vertexTurns (positionOf p) cx cy) nodes freed buckets r
+    → Wf C (linksOf o h a) → ToBuild p h cx cy (rowOf a 0) size n b → size ≡ boundaryLength C (linksOf o h a) → FromBoundary p h cx cy (rowOf a 0) size nodes buckets r
+    → size ≤ length nodes → size ≤ length freed → 8 ≤ length buckets → Held C (linksOf o h a) (turnsAbout cx cy (positionOf p)) nodes freed buckets r
 unfolding linksOf
-built-held o a {C} {p} {h} {cx} {cy} {size} {n} {b} {nodes} {freed} {buckets} {r} B z F u v w =
+built-held o a {C} {p} {h} {cx} {cy} {size} {n} {b} {nodes} {freed} {buckets} {r} K B z F u v w =
     let t = nodesOf nodes in
-    let R = numbered-ring B (F .numbered) in
-    let W = whole B in
-    let N = sizes (r .nodes) (r .freed) size (F .used) (F .none-freed) in
+    let N : r .nodes - r .freed ≡ size = sizes (r .nodes) (r .freed) size (F .used) (F .none-freed) in
+    let A = subst (λ (i : ℕ). Built (halvesOf h .next) (originTurns p h cx cy) (rightOf t) (angleOf t) (edgeOf t) (rowOf a 0) i size) z (numbered-built B (F .numbered)) in
+    let S = subst (Sound fullTurn (halvesOf h .next) (originTurns p h cx cy) (rowOf a 0)) z (boundary-sound B) in
+    let R : RingOf C (linksOf o h a) (turnsAbout cx cy (positionOf p)) (leftOf t) (rightOf t) (angleOf t) (edgeOf t) (rowOf buckets) 8 size =
+    ring-built K (outer-sound K (turnsAbout cx cy (positionOf p)) (first< K) (first-outer K) S) (first< K) (first-outer K) A (numbered-links B (F .numbered))
+    (λ k l. let m : k < size = omega arith in subst (λ (x : ℕ). x ≤ fullTurn) (F .numbered k m .angle) (F .numbered k m .is-angle .small)) (sized eight-buckets) (F .filled) in
     record {
-      start = 0;
-      hull = subst (λ (i : ℕ). HullOf fullTurn (halvesOf h .next) (originTurns p h cx cy) (leftOf t) (rightOf t) (angleOf t) (edgeOf t) (rowOf buckets) (rowOf a 0) (boundaryLength C (linksOf o h a)) 0 i (width i)) (sym (F .eight))
-          (subst (λ (i : ℕ). HullOf fullTurn (halvesOf h .next) (originTurns p h cx cy) (leftOf t) (rightOf t) (angleOf t) (edgeOf t) (rowOf buckets) (rowOf a 0) i 0 8 (width 8)) z (record {
-            ring = R;
-            links = λ i l. numbered-links B (F .numbered) i (let e = W in omega arith);
-            low = λ k l. subst (λ (x : ℕ). x ≤ fullTurn) (F .numbered k l .angle) (F .numbered k l .is-angle .small);
-            sized = sized eight-buckets;
-            buckets = subst (λ (m : ℕ). Bucketed (rightOf t) (angleOf t) (rowOf buckets) 8 (width 8) 0 m) (sym W) (F .filled);
-          }));
-      size = ap (λ (i : ℕ). nodeCount (halvesOf h .next) (originTurns p h cx cy) i (rowOf a 0)) (sym z) ∙ W ∙ sym N;
-      free = subst (λ (m : ℕ). Free (On (rightOf t) m (rowOf buckets 0)) (rowOf freed) (r .freed) (r .nodes)) (sym N) (record {
-        live-below = λ x l. subst (λ (i : ℕ). x < i) (sym (F .used)) (live x l);
-        below = λ j l. absurd (let e = F .none-freed in omega arith);
-        dead = λ j l q. (let e = F .none-freed in omega arith);
-        once = λ i j l m q. absurd (let e = F .none-freed in omega arith);
-      });
+      ring = subst (λ (i : ℕ). RingOf C (linksOf o h a) (turnsAbout cx cy (positionOf p)) (leftOf t) (rightOf t) (angleOf t) (edgeOf t) (rowOf buckets) (r .buckets) i) (sym N)
+          (subst (λ (i : ℕ). RingOf C (linksOf o h a) (turnsAbout cx cy (positionOf p)) (leftOf t) (rightOf t) (angleOf t) (edgeOf t) (rowOf buckets) i size) (sym (F .eight)) R);
+      free = subst (λ (m : ℕ). Free (On (rightOf t) m (rowOf buckets 0)) (rowOf freed) (r .freed) (r .nodes)) (sym N)
+          (subst (λ (i : ℕ). Free (On (rightOf t) size (rowOf buckets 0)) (rowOf freed) i (r .nodes)) (sym (F .none-freed))
+          (subst (Free (On (rightOf t) size (rowOf buckets 0)) (rowOf freed) 0) (sym (F .used))
+          (free-from (numbered-nodes B (F .numbered) .sound .closed) (F .filled 0 (omega arith) .0) (free-built S A (rowOf freed)))));
       freed-most = let e = F .none-freed in omega arith;
       valid = subst (ValidNodes t) (sym (F .used)) (numbered-valid B (F .numbered));
       counted = subst Buckets (sym (F .eight)) eight-buckets;
@@ -161,9 +149,3 @@ built-held o a {C} {p} {h} {cx} {cy} {size} {n} {b} {nodes} {freed} {buckets} {r
   where
     sizes : (m k size : ℕ) → m ≡ size → k ≡ 0 → m - k ≡ size
     sizes m k size e f = omega arith
-
-    live : (x : ℕ) → On (rightOf (nodesOf nodes)) size (rowOf buckets 0) x → x < size
-    live x (k, l, q) = subst (λ (y : ℕ). y < size) q (walk-below (numbered-valid B (F .numbered)) first k)
-      where
-        first : rowOf buckets 0 < size
-        first = let f = F .filled 0 (omega arith) .0 in subst (λ (y : ℕ). y < size) (f .2) (walk-below (numbered-valid B (F .numbered)) (let s = size-three B in omega arith) (f .0))

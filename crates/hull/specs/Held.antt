@@ -1,5 +1,5 @@
 -- The rows hold exactly the ring of a mesh's boundary about the centre: a record over the rows and the numbers of the hull only. Definitions only; `Find` and `Build` have its laws.
-use Prim.Native.Nat.{ℕ, _+_, _-_, _<_, _≤_, _^_}
+use Prim.Native.Nat.{ℕ, _<_, _≤_, _^_}
 use mathlib.Core.Path.{_≡_}
 use mathlib.Core.List.{List}
 use lib.IntN.{ℤ}
@@ -7,23 +7,17 @@ use lib.Ieee.{Float}
 use lib.ListN.{length}
 use Rattle.mesh.specs.declared.Counts.{Counts}
 use Rattle.mesh.specs.Mesh.{Links}
-use Rattle.mesh.specs.Area.{boundaryLength}
 use Rattle.segment.specs.Bucket.{Buckets, width}
 use Rattle.dcel.specs.Rows.{rowOf}
-use Rattle.ring.specs.Ring.{fullTurn, edgeAngle}
-use Rattle.ring.specs.Node.{nodes as nodeCount}
 use Rattle.ring.specs.Insert.{On, Bucketed}
 use Rattle.ring.specs.Free.{Free}
-use Rattle.ring.specs.Hull.{Hull as HullOf}
+use Rattle.ring.specs.RingOf.{RingOf}
 use Rattle.ring_rows.specs.declared.Hull.{Hull}
 use Rattle.ring_rows.specs.Rows.{nodesOf, angleOf, edgeOf, leftOf, rightOf, sizeOf, ValidNodes}
 use Rattle.hull.specs.Boundary.{NodesOfEdges}
 
 pub record Held (C : Counts) (L : Links) (α : ℕ → ℕ) (nodes : List (List ℕ)) (freed buckets : List ℕ) (h : Hull) : Type 0 where
-  -- the node at or after face 0's stored edge
-  pub start : ℕ
-  pub hull : HullOf fullTurn (L .next) (edgeAngle L α) (leftOf (nodesOf nodes)) (rightOf (nodesOf nodes)) (angleOf (nodesOf nodes)) (edgeOf (nodesOf nodes)) (rowOf buckets) (L .adjacent 0) (boundaryLength C L) start (h .buckets) (width (h .buckets))
-  pub size : nodeCount (L .next) (edgeAngle L α) (boundaryLength C L) (L .adjacent 0) ≡ sizeOf h
+  pub ring : RingOf C L α (leftOf (nodesOf nodes)) (rightOf (nodesOf nodes)) (angleOf (nodesOf nodes)) (edgeOf (nodesOf nodes)) (rowOf buckets) (h .buckets) (sizeOf h)
   -- of the nodes ever in use, those that are not in the ring are on the stack of freed ones
   pub free : Free (On (rightOf (nodesOf nodes)) (sizeOf h) (rowOf buckets 0)) (rowOf freed) (h .freed) (h .nodes)
   pub freed-most : h .freed ≤ h .nodes

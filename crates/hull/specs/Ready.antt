@@ -2,9 +2,9 @@
 use Prim.Native.Nat.{ℕ, zero, suc, _+_, _-_, _*_, _<_, _≤_, _^_}
 use native.Mathlib.Omega.{arith}
 use mathlib.Core.Path.{_≡_, refl, sym, _∙_, ap, subst}
-use mathlib.Core.Bool.{Bool, not}
+use mathlib.Core.Bool.{Bool, not, _||_}
 use mathlib.Core.List.{List}
-use lib.Dec.{T, not-T}
+use lib.Dec.{T, T-not, not-T}
 use lib.IntN.{ℤ}
 use lib.Ieee.{Float}
 use lib.ListN.{length}
@@ -15,7 +15,8 @@ use Rattle.mesh.specs.Area.{boundaryLength}
 use Rattle.mesh.specs.BoundaryLaws.{next-inverse, first<, boundary-period, boundary-below, boundary-least}
 use Rattle.mesh.specs.CountsLaws.{count-halves, faces-least}
 use Rattle.angle.specs.Angle.{validCenter}
-use Rattle.sums.specs.Bounded.{any-below, none-below→}
+use Rattle.sums.specs.Bit.{sure, or-left, or-right}
+use Rattle.sums.specs.Bounded.{any-below, any-below←}
 use Rattle.sums.specs.Iterate.{iter, reach-on}
 use Rattle.sums.specs.Listed.{Listed, pigeonhole}
 use Rattle.sums.specs.Tally.{walk, tally}
@@ -24,7 +25,8 @@ use Rattle.dcel.specs.Held.{Held as MeshHeld, there, origin-in}
 use Rattle.ring.specs.Ring.{fullTurn, proper, atEnds, edgeAngle, isStrict, isStrictRing, boundaryAngles, boundaryEdges}
 use Rattle.ring.specs.Insert.{node-sole}
 use Rattle.ring.specs.Boundary.{sound-first, strict-ring, strict-nodes}
-use Rattle.hull.specs.Boundary.{vertexTurns, vertexAtCenter, centerOnBoundary, edgeAt, originTurns, originAtCenter, anglesOf, BoundaryRows, AngledBoundary, ToBuild}
+use Rattle.ring.specs.Center.{turnsAbout, refusesCenter}
+use Rattle.hull.specs.Boundary.{vertexAtCenter, edgeAt, originAtCenter, anglesOf, BoundaryRows, AngledBoundary, ToBuild}
 
 module _ {C : Counts} {o h a : List ℕ} (M : MeshHeld C o h a) where
   -- `convex_hull_size`
@@ -55,37 +57,43 @@ module _ {C : Counts} {o h a : List ℕ} (M : MeshHeld C o h a) where
     }
 
     module _ (cx cy : Float) where
-      -- what `meets_center` and `is_strict` answer
-      pub center-test : {size : ℕ} → size ≡ boundaryLength C (linksOf o h a) → any-below size (λ k. originAtCenter p h cx cy (edgeAt h (rowOf a 0) k)) ≡ centerOnBoundary C (linksOf o h a) (positionOf p) cx cy
-      unfolding centerOnBoundary linksOf
-      center-test e = ap (λ (n : ℕ). any-below n (λ k. originAtCenter p h cx cy (edgeAt h (rowOf a 0) k))) e
+      -- what `validate_center` and `meets_center` answer is refusal 6, and `is_strict` refusal 7
+      pub center-test : {size : ℕ} → size ≡ boundaryLength C (linksOf o h a) → (not (validCenter cx cy) || any-below size (λ k. originAtCenter p h cx cy (edgeAt h (rowOf a 0) k))) ≡ refusesCenter C (linksOf o h a) (positionOf p) cx cy
+      unfolding refusesCenter vertexAtCenter linksOf
+      center-test e = ap (λ (n : ℕ). not (validCenter cx cy) || any-below n (λ k. originAtCenter p h cx cy (edgeAt h (rowOf a 0) k))) e
 
-      pub strict-test : {size : ℕ} → size ≡ boundaryLength C (linksOf o h a) → isStrict fullTurn (anglesOf p h cx cy (rowOf a 0) size) ≡ isStrictRing C (linksOf o h a) (vertexTurns (positionOf p) cx cy)
+      pub strict-test : {size : ℕ} → size ≡ boundaryLength C (linksOf o h a) → isStrict fullTurn (anglesOf p h cx cy (rowOf a 0) size) ≡ isStrictRing C (linksOf o h a) (turnsAbout cx cy (positionOf p))
       unfolding isStrictRing boundaryAngles boundaryEdges linksOf
       strict-test e = ap (λ (n : ℕ). isStrict fullTurn (anglesOf p h cx cy (rowOf a 0) n)) e
 
       -- no boundary vertex at the centre
-      pub angled-boundary : T (validCenter cx cy) → T (not (centerOnBoundary C (linksOf o h a) (positionOf p) cx cy)) → AngledBoundary p h cx cy (rowOf a 0)
-      unfolding centerOnBoundary linksOf
-      angled-boundary v n = record { rows = boundary-rows; valid = v; apart = λ k. not-T (originAtCenter p h cx cy (edgeAt h (rowOf a 0) k)) (λ t. away k t) }
+      pub angled-boundary : T (not (refusesCenter C (linksOf o h a) (positionOf p) cx cy)) → AngledBoundary p h cx cy (rowOf a 0)
+      unfolding refusesCenter vertexAtCenter linksOf
+      angled-boundary n = record { rows = boundary-rows; valid = sure (validCenter cx cy) (λ t. T-not (off || met) n (or-left off met t)); apart = λ k. not-T (originAtCenter p h cx cy (edgeAt h (rowOf a 0) k)) (λ t. away k t) }
         where
+          off : Bool
+          off = not (validCenter cx cy)
+
+          met : Bool
+          met = any-below (boundaryLength C (linksOf o h a)) (λ j. originAtCenter p h cx cy (edgeAt h (rowOf a 0) j))
+
           away : (k : ℕ) → T (originAtCenter p h cx cy (edgeAt h (rowOf a 0) k)) → ⊥
           away k t =
               let r = reach-on (next-inverse (M .rules)) (first< (M .rules)) (boundary-period (M .rules)) (k, refl) in
-              none-below→ (boundaryLength C (linksOf o h a)) (λ j. originAtCenter p h cx cy (edgeAt h (rowOf a 0) j)) n (r .0) (r .1) (subst (λ (x : ℕ). T (originAtCenter p h cx cy x)) (sym (r .2)) t)
+              T-not (off || met) n (or-right off met (any-below← (boundaryLength C (linksOf o h a)) (λ j. originAtCenter p h cx cy (edgeAt h (rowOf a 0) j)) (r .0) (r .1) (subst (λ (x : ℕ). T (originAtCenter p h cx cy x)) (sym (r .2)) t)))
 
       -- THE RING FITS: a strict ring's angles differ, so its vertices do
-      pub strict-size : T (isStrictRing C (linksOf o h a) (vertexTurns (positionOf p) cx cy)) → boundaryLength C (linksOf o h a) ≤ C .vertices
+      pub strict-size : T (isStrictRing C (linksOf o h a) (turnsAbout cx cy (positionOf p))) → boundaryLength C (linksOf o h a) ≤ C .vertices
       unfolding boundaryEdges
       strict-size t =
-          let L = linksOf o h a in let α = vertexTurns (positionOf p) cx cy in
+          let L = linksOf o h a in let α = turnsAbout cx cy (positionOf p) in
           pigeonhole (C .vertices) (boundaryLength C L) (λ k. L .origin (iter k (L .next) (L .adjacent 0))) (record {
             below = λ k u. M .rules .ranges .origin< (boundary-below (M .rules) k);
             once = λ j k u w z. node-sole (sound-first (M .rules) α (strict-ring (M .rules) α t)) (strict-nodes (M .rules) α t) j k u w (ap α z);
           })
 
       -- what `from_triangulation` asks
-      pub to-build : {size nodes buckets : ℕ} → size ≡ boundaryLength C (linksOf o h a) → AngledBoundary p h cx cy (rowOf a 0) → T (isStrictRing C (linksOf o h a) (vertexTurns (positionOf p) cx cy)) → C .vertices ≤ nodes → 8 ≤ buckets
+      pub to-build : {size nodes buckets : ℕ} → size ≡ boundaryLength C (linksOf o h a) → AngledBoundary p h cx cy (rowOf a 0) → T (isStrictRing C (linksOf o h a) (turnsAbout cx cy (positionOf p))) → C .vertices ≤ nodes → 8 ≤ buckets
           → ToBuild p h cx cy (rowOf a 0) size nodes buckets
       to-build {size} e A t u w = record {
         boundary = A;
