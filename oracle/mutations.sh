@@ -86,11 +86,16 @@ seen "the second walk as the mirror image of the first" $bulk_load \
     'middle_position,' 'next_position.to_f64(),' 'next_position.to_f64(),' 'middle_position,'
 seen "no test of equal angles in the first walk" $bulk_load \
     '|| current_angle == pseudo_angle(prev_to, hull.center);' ';'
-seen "no test of equal angles in the second walk" $bulk_load \
+# The located segment does not hold the angle of its second end, nor do those after it, unless the walk
+# went all round: then the ring is unsound.
+unseen "no test of equal angles in the second walk" $bulk_load \
     '|| current_angle == pseudo_angle(middle_position, hull.center);' ';'
 seen "the first walk goes on over a point on the line" $bulk_load \
     'if angle_condition && prev.side_query(next_position).is_on_left_side() {' \
     'if angle_condition && prev.side_query(next_position).is_on_left_side_or_on_line() {'
+seen "the second walk goes on over a point on the line" $bulk_load \
+    'let is_on_left_side = next.side_query(next_position).is_on_left_side();' \
+    'let is_on_left_side = next.side_query(next_position).is_on_left_side_or_on_line();'
 seen "the first walk's two edges pending in the other order" $bulk_load \
     'buffer_for_edge_legalization.push(current_edge.as_undirected());' \
     'buffer_for_edge_legalization.insert(0, current_edge.as_undirected());'
@@ -104,13 +109,16 @@ seen "the pass ends when it comes round" $bulk_load \
     'if Some(&current_fixed) == convex_edges.get(1) {' 'if Some(&current_fixed) == convex_edges.get(0) {'
 seen "the located edge not legalized" $bulk_load \
     'result.legalize_edge(edge, false);' ''
-seen "dead west is 0.0" $bulk_load \
+# In one run either all that is dead west is level with the centre and has 1.0, or none is: the other
+# number moves the place where the ring wraps, and nothing else.
+unseen "dead west is 0.0" $bulk_load \
     'FloatOrd(1.0 - (if diff.y > 0.0 { 3.0 - p } else { 1.0 + p }) * 0.25)' \
     'FloatOrd(1.0 - (if diff.y >= 0.0 { 3.0 - p } else { 1.0 + p }) * 0.25)'
 seen "a segment holds its second angle and not its first" $bulk_load \
     'self.from <= angle && angle < self.to' 'self.from < angle && angle <= self.to' \
     'self.from <= angle || angle < self.to' 'self.from < angle || angle <= self.to'
-seen "fate 2 at the first end alone" $bulk_load \
+# A point at the second end has that end's angle, which the located segment does not hold.
+unseen "fate 2 at the first end alone" $bulk_load \
     'if next_position == from || next_position == to {' 'if next_position == from {'
 seen "legalize_edge pushes in the other order" $ext \
     'edges.push(edge.rev().next().fix());' 'edges.push(edge.rev().prev().fix());' \

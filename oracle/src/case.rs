@@ -23,9 +23,19 @@ pub struct Answer {
 #[derive(Clone, Debug, PartialEq, Eq)]
 pub enum Ending {
     /// The mesh after the last step, the faces and flips of the first pass, the mesh after it.
-    Inside { stepped: Mesh, pass: [u32; 2], passed: Mesh },
-    Outside { reason: u32, index: u32 },
-    Refused { number: u32, place: u32 },
+    Inside {
+        stepped: Mesh,
+        pass: [u32; 2],
+        passed: Mesh,
+    },
+    Outside {
+        reason: u32,
+        index: u32,
+    },
+    Refused {
+        number: u32,
+        place: u32,
+    },
 }
 
 /// Why a case is outside the domain.
@@ -130,9 +140,7 @@ impl<'a> Lines<'a> {
         if fields.next() != Some(tag.to_string().as_str()) {
             return Err(format!("line {}: not a line {tag}: {:.40}", self.at, line));
         }
-        let number = |field: &str| {
-            field.parse().map_err(|_| format!("line {}: no number: {field}", self.at))
-        };
+        let number = |field: &str| field.parse().map_err(|_| format!("line {}: no number: {field}", self.at));
         fields.map(number).collect()
     }
 
@@ -142,10 +150,7 @@ impl<'a> Lines<'a> {
         numbers.try_into().map_err(|_| format!("line {at}: not {N} numbers"))
     }
 
-    fn take_groups<T: std::str::FromStr + Copy, const N: usize>(
-        &mut self,
-        tag: char,
-    ) -> Read<Vec<[T; N]>> {
+    fn take_groups<T: std::str::FromStr + Copy, const N: usize>(&mut self, tag: char) -> Read<Vec<[T; N]>> {
         let numbers: Vec<T> = self.take(tag)?;
         if numbers.len() % N != 0 {
             return Err(format!("line {}: not groups of {N} numbers", self.at));

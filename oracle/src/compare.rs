@@ -145,9 +145,15 @@ impl Tally {
 
     fn print(&self) {
         let reasons = [
-            "", "the Rust panics in a step", "the Rust does not return from a step",
-            "a point at the centre (fate 5)", "no sound ring (fate 4), the Rust returns",
-            "a flip for another reason", "refused", "no hull", "the pass fails",
+            "",
+            "the Rust panics in a step",
+            "the Rust does not return from a step",
+            "a point at the centre (fate 5)",
+            "no sound ring (fate 4), the Rust returns",
+            "a flip for another reason",
+            "refused",
+            "no hull",
+            "the pass fails",
         ];
         println!("compared inside the domain: {}", self.compared);
         println!(

@@ -10,9 +10,7 @@ pub struct DelaunayTriangulation<V, DE = (), UE = (), F = (), L = LastUsedVertex
     pub(crate) hint_generator: L,
 }
 
-impl<V, DE: Default, UE: Default, F: Default, L: Default> Default
-    for DelaunayTriangulation<V, DE, UE, F, L>
-{
+impl<V, DE: Default, UE: Default, F: Default, L: Default> Default for DelaunayTriangulation<V, DE, UE, F, L> {
     fn default() -> Self {
         DelaunayTriangulation { dcel: Dcel::default(), hint_generator: L::default() }
     }

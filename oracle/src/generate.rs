@@ -176,8 +176,7 @@ fn grid(random: &mut Random) -> Option<(Mesh, [f64; 2])> {
             if x == side || y == side {
                 continue;
             }
-            let [a, b, c, d] =
-                [corner(x, y), corner(x + 1, y), corner(x + 1, y + 1), corner(x, y + 1)];
+            let [a, b, c, d] = [corner(x, y), corner(x + 1, y), corner(x + 1, y + 1), corner(x, y + 1)];
             triangles.extend(match random.below(2) {
                 0 => [[a, b, c], [a, c, d]],
                 _ => [[b, c, d], [b, d, a]],
@@ -222,13 +221,7 @@ fn centre_near(random: &mut Random, mesh: &Mesh, spread: i32) -> [f64; 2] {
 
 // Points
 
-fn points(
-    random: &mut Random,
-    seed: &Mesh,
-    centre: [f64; 2],
-    spread: i32,
-    most: u64,
-) -> Vec<Position> {
+fn points(random: &mut Random, seed: &Mesh, centre: [f64; 2], spread: i32, most: u64) -> Vec<Position> {
     let count = random.below(most + 1) as usize;
     let mut points = placed(random, seed, centre, spread, count);
     if random.one_in(4) {
@@ -258,13 +251,7 @@ fn repeat_some(random: &mut Random, seed: &Mesh, points: &mut [Position]) {
     }
 }
 
-fn placed(
-    random: &mut Random,
-    seed: &Mesh,
-    centre: [f64; 2],
-    spread: i32,
-    count: usize,
-) -> Vec<Position> {
+fn placed(random: &mut Random, seed: &Mesh, centre: [f64; 2], spread: i32, count: usize) -> Vec<Position> {
     let far = f64::from(spread);
     let [cx, cy] = centre;
     match random.below(12) {
@@ -286,7 +273,10 @@ fn placed(
             let on = |random: &mut Random| {
                 let [start, way] = *random.pick(&lines);
                 let k = f64::from(random.between(-9, 9));
-                rounded(f64::from(start[0]) + k * f64::from(way[0]), f64::from(start[1]) + k * f64::from(way[1]))
+                rounded(
+                    f64::from(start[0]) + k * f64::from(way[0]),
+                    f64::from(start[1]) + k * f64::from(way[1]),
+                )
             };
             (0..count).map(|_| on(random)).collect()
         }
@@ -312,7 +302,11 @@ fn placed(
         6 => {
             let on = |random: &mut Random| {
                 let k = far * (2.0 * random.unit() - 1.0);
-                if random.one_in(2) { rounded(cx + k, cy) } else { rounded(cx, cy + k) }
+                if random.one_in(2) {
+                    rounded(cx + k, cy)
+                } else {
+                    rounded(cx, cy + k)
+                }
             };
             (0..count).map(|_| on(random)).collect()
         }

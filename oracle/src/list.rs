@@ -17,7 +17,8 @@ pub const ENTRIES: usize = 300;
 const SEED: u64 = 1;
 const POOL: u64 = 6000;
 
-const REMARK: &str = "# answers of the Rust of spade 2.15.1, made by `oracle list`; the format is in oracle/FORMAT.md\n";
+const REMARK: &str =
+    "# answers of the Rust of spade 2.15.1, made by `oracle list`; the format is in oracle/FORMAT.md\n";
 
 fn given(corners: [Position; 3], centre: [f64; 2], points: &[Position]) -> Case {
     Case { number: 0, seed: Mesh::triangle(corners), centre, points: points.to_vec() }
@@ -35,6 +36,14 @@ fn from_the_papers() -> Vec<Case> {
         given([[-1, 0], [1, -1], [0, 0]], [-0.5, 0.0], &[[1, 0], [3, 5]]),
     ]
 }
+
+/// Inputs of the generator's seed 5, with up to 40 points, that tell orders apart which few inputs tell:
+/// those of the pending edges in the two walks, those of the pushes in `legalize_edges_after_removal`, and
+/// a walk that ends at a point on the line. `mutations.sh` has the alterations that they notice.
+const TELLING: [u64; 18] = [
+    13074, 4230, 11178, 16345, 19612, 7255, 10623, 13613, 17831, 7328, 6233, 15217, 17169, 18662, 17199,
+    15715, 8522, 9673,
+];
 
 /// Few points in most of the pool, many in some.
 fn most_points(number: u64) -> u64 {
@@ -137,8 +146,9 @@ fn chosen(pool: Vec<(Case, Answer)>, wanted: usize) -> Vec<(Case, Answer)> {
 
 pub fn entries() -> Vec<(Case, Answer)> {
     let mut oracle = Oracle::default();
-    let mut entries: Vec<_> =
-        from_the_papers().into_iter().filter_map(|case| entry(&mut oracle, case)).collect();
+    let telling = TELLING.into_iter().map(|number| generate::case(5, number, 40));
+    let given = from_the_papers().into_iter().chain(telling);
+    let mut entries: Vec<_> = given.filter_map(|case| entry(&mut oracle, case)).collect();
     let generated = (0..POOL).map(|number| generate::case(SEED, number, most_points(number)));
     let pool = generated.filter_map(|case| entry(&mut oracle, case)).collect();
     entries.extend(chosen(pool, ENTRIES - entries.len()));
@@ -182,9 +192,8 @@ pub fn check(entries: &[(Case, Answer)]) -> Result<bool, String> {
 
 fn numbers<const N: usize>(line: &str, tag: &str) -> Result<[i32; N], String> {
     let mut fields = line.split(' ');
-    let numbers: Option<Vec<i32>> = (fields.next() == Some(tag))
-        .then(|| fields.map(|field| field.parse().ok()).collect())
-        .flatten();
+    let numbers: Option<Vec<i32>> =
+        (fields.next() == Some(tag)).then(|| fields.map(|field| field.parse().ok()).collect()).flatten();
     let numbers = numbers.and_then(|numbers| numbers.try_into().ok());
     numbers.ok_or(format!("not a line {tag}: {line}"))
 }
@@ -228,8 +237,7 @@ pub fn listing(text: &str, beyond: bool) -> Result<String, String> {
         let Ending::Inside { pass: [faces, flips], passed, .. } = answer.ending else {
             unreachable!("an entry is inside the domain")
         };
-        let [vertices, edges, inner] =
-            [passed.positions.len(), passed.edges(), passed.faces.len() - 1];
+        let [vertices, edges, inner] = [passed.positions.len(), passed.edges(), passed.faces.len() - 1];
         let area = doubled_area(&passed);
         writeln!(lines, "t {vertices} {edges} {inner} {area} {faces} {flips}").unwrap();
     }

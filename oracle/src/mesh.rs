@@ -140,9 +140,10 @@ impl Mesh {
             && faces >= 1
             && self.out_edges.len() == self.positions.len()
             && self.out_edges.iter().chain(&self.faces).all(|&e| e < halves)
-            && self.half_edges.iter().all(|&[n, p, f, o]| {
-                n < halves && p < halves && f < faces && o < vertices
-            })
+            && self
+                .half_edges
+                .iter()
+                .all(|&[n, p, f, o]| n < halves && p < halves && f < faces && o < vertices)
     }
 
     fn links_agree(&self) -> bool {
@@ -195,18 +196,13 @@ impl Mesh {
 
     /// The mesh of these triangles, its vertices, edges, faces, halves, stored and out edges numbered
     /// and chosen at random; nothing where the mesh rules would not be met. Unused positions go.
-    pub fn of_triangles(
-        positions: &[Position],
-        triangles: &[[u32; 3]],
-        random: &mut Random,
-    ) -> Option<Mesh> {
+    pub fn of_triangles(positions: &[Position], triangles: &[[u32; 3]], random: &mut Random) -> Option<Mesh> {
         let mut used: Vec<u32> = triangles.iter().flatten().copied().collect();
         used.sort_unstable();
         used.dedup();
         random.shuffle(&mut used);
         let renamed: HashMap<u32, u32> = used.iter().zip(0..).map(|(&v, n)| (v, n)).collect();
-        let mut triangles: Vec<[u32; 3]> =
-            triangles.iter().map(|t| t.map(|v| renamed[&v])).collect();
+        let mut triangles: Vec<[u32; 3]> = triangles.iter().map(|t| t.map(|v| renamed[&v])).collect();
         random.shuffle(&mut triangles);
 
         let mut ends: Vec<[u32; 2]> = Vec::new();
@@ -258,8 +254,7 @@ impl Mesh {
 
     /// Links the half-edges that no triangle took; each vertex may start only one of them.
     fn link_outer_face(&mut self, random: &mut Random) -> Option<()> {
-        let outer: Vec<u32> =
-            (0..self.half_edges.len() as u32).filter(|&e| self.face(e) == 0).collect();
+        let outer: Vec<u32> = (0..self.half_edges.len() as u32).filter(|&e| self.face(e) == 0).collect();
         let mut starts = HashMap::new();
         for &e in &outer {
             if starts.insert(self.origin(e), e).is_some() {

@@ -81,7 +81,9 @@ fn kinds(case: &Case, answer: &Answer, beyond: impl FnOnce(&Case) -> Answer) -> 
             vec![("fate 4", upto(*index)), (what, case.clone())]
         }
         Ending::Outside { reason: reason::REFUSED, index: 7 } => match beyond(case).ending {
-            Ending::Outside { reason: reason::NO_HULL, .. } => vec![("refusal 7, the Rust has no hull", case.cut(0))],
+            Ending::Outside { reason: reason::NO_HULL, .. } => {
+                vec![("refusal 7, the Rust has no hull", case.cut(0))]
+            }
             Ending::Outside { reason: reason::STEP_PANICS, index } => {
                 vec![("refusal 7, the Rust panics", upto(index))]
             }

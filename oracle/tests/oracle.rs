@@ -2,7 +2,7 @@
 
 use std::process::{Command, Stdio};
 
-use oracle::case::{read_list, Answer, Case, Ending};
+use oracle::case::{read_list, reason, Answer, Case, Ending};
 use oracle::compare::difference;
 use oracle::delaunay_core::bulk_load::driver::{self, angle, answer, boundary_angles, built};
 use oracle::mesh::{orient, Mesh, Position};
@@ -20,12 +20,8 @@ fn stored() -> Vec<(Case, Answer)> {
 /// What a command of the oracle prints for an input.
 fn printed(arguments: &[&str], input: &str) -> String {
     use std::io::Write;
-    let mut child = Command::new(ORACLE)
-        .args(arguments)
-        .stdin(Stdio::piped())
-        .stdout(Stdio::piped())
-        .spawn()
-        .unwrap();
+    let mut child =
+        Command::new(ORACLE).args(arguments).stdin(Stdio::piped()).stdout(Stdio::piped()).spawn().unwrap();
     child.stdin.take().unwrap().write_all(input.as_bytes()).unwrap();
     String::from_utf8(child.wait_with_output().unwrap().stdout).unwrap()
 }
@@ -123,8 +119,7 @@ fn differences_of_other_seeds() {
     let ending = Ending::Inside { stepped: seed.clone(), pass: [0, 0], passed: seed };
     assert_eq!(answer(&case, true).ending, ending);
 
-    let positions: Vec<Position> =
-        [[0, 0]].into_iter().chain((0..9).map(|i| [-4 * i, 40])).collect();
+    let positions: Vec<Position> = [[0, 0]].into_iter().chain((0..9).map(|i| [-4 * i, 40])).collect();
     let triangles: Vec<[u32; 3]> = (0..8).map(|i| [0, i + 1, i + 2]).collect();
     let seed = mesh_of(&positions, &triangles);
     let case = Case { number: 0, seed, centre: [-6.0, 30.0], points: vec![[1, 6]] };
@@ -137,6 +132,17 @@ fn differences_of_other_seeds() {
     let Ending::Inside { stepped, .. } = answer(&case.cut(1), true).ending else { panic!("not inside") };
     let angles = boundary_angles(&built(&stepped), Point2::new(-0.5, 0.0));
     assert!(driver::is_sound(&angles) && !driver::is_strict(&angles));
+}
+
+/// The watch for flips beside the outer face can fire: on a mesh with a triangle that turns right, which
+/// every call refuses.
+#[test]
+fn other_flips_are_noticed() {
+    let positions = [[0, 0], [-1, 0], [-1, 1], [0, -1], [0, -2]];
+    let seed = mesh_of(&positions, &[[0, 1, 2], [2, 1, 3], [2, 3, 4]]);
+    assert_eq!(seed.refusal(&[]), Some(5));
+    let mut sweep = driver::Sweep::new(&seed, [2.5, -0.75]).ok().unwrap();
+    assert_eq!(sweep.pass(), Err(reason::OTHER_FLIP));
 }
 
 #[test]
@@ -161,9 +167,7 @@ fn list_covers() {
         entries.iter().filter(|(case, answer)| holds(case, answer)).count()
     };
     let fate = |fate: u32| count(&|_, a| a.fates.iter().any(|f| f[0] == fate));
-    let pass = |at: usize| {
-        count(&|_, a| matches!(a.ending, Ending::Inside { pass, .. } if pass[at] > 0))
-    };
+    let pass = |at: usize| count(&|_, a| matches!(a.ending, Ending::Inside { pass, .. } if pass[at] > 0));
     let greatest = |c: &Case| c.points.iter().flatten().map(|n| n.abs()).max().unwrap_or(0);
     for fate in [fate(1), fate(2), fate(3)] {
         assert!(fate > 20);

@@ -1,10 +1,7 @@
+-- The half-edge mesh: its rules, its operations, and that they keep the rules.
 pub mod Mesh
 pub mod Operations
 pub mod Wf
-pub mod Rules
-pub mod WfParts
-pub mod RulesWf
--- The half-edge mesh: its rules, its operations, and that they keep the rules.
 pub mod Cases
 pub mod Triangle
 pub mod Frame
@@ -12,17 +9,25 @@ pub mod Flipped
 pub mod Flip
 pub mod Area
 pub mod BoundaryLaws
+pub mod AreaCorners
 pub mod CountsLaws
 pub mod AreaLaws
 pub mod LeftLaws
+pub mod HeightLaws
 pub mod FaceBetween
 pub mod SingleFace
 pub mod FaceAdjacent
 pub mod NewFace
-pub mod Examples
-pub mod AreaCorners
-pub mod HeightLaws
+pub mod Rules
+pub mod RulesWf
 pub mod Good
 pub mod GoodLaws
+pub mod Circle
+pub mod CircleLaws
+pub mod HeightBound
 pub mod BoundarySequence
+pub mod FlipRun
+pub mod Examples
 pub mod AreaExamples
+pub mod WfParts
+pub mod RulesExamples

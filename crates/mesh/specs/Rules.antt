@@ -77,14 +77,19 @@ vertexRule C L v = every (
 unfoldable pub eulerRule : Counts → Bool
 eulerRule C = eqb (C .vertices + C .faces) (C .edges + 2)
 
--- all of them; there is an outer face
+-- each of them, in this order, after the test that there is an outer face
+abbrev pub ruleTests : Counts → Links → List Bool
+ruleTests C L =
+    ltb 0 (C .faces)
+    ∷ eulerRule C
+    ∷ linksInUse C L
+    ∷ all-below (2 * C .edges) (halfEdgeLinked L)
+    ∷ all-below (C .edges) (sideRule L)
+    ∷ outerFaceRule C L
+    ∷ all-below (C .faces) (λ f. implies (ltb 0 f) (innerFaceRule C L f))
+    ∷ all-below (C .vertices) (vertexRule C L)
+    ∷ []
+
+-- all of them
 unfoldable pub rules : Counts → Links → Bool
-rules C L = every (
-    ltb 0 (C .faces) ∷
-    eulerRule C ∷
-    linksInUse C L ∷
-    all-below (2 * C .edges) (halfEdgeLinked L) ∷
-    all-below (C .edges) (sideRule L) ∷
-    outerFaceRule C L ∷
-    all-below (C .faces) (λ f. implies (ltb 0 f) (innerFaceRule C L f)) ∷
-    all-below (C .vertices) (vertexRule C L) ∷ [])
+rules C L = every (ruleTests C L)

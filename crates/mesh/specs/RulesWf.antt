@@ -9,7 +9,7 @@ use native.Mathlib.Omega.{arith}
 use lib.Dec.{T, ltb, eqb, ltb→lt, lt→ltb, eqb→eq, T-not}
 use Rattle.mesh.specs.declared.Counts.{Counts}
 use Rattle.mesh.specs.Mesh.{Links, In, turn}
-use Rattle.mesh.specs.Rules.{halfEdgeInUse, linksInUse, halfEdgeLinked, innerFaceRule, outerFaceRule, sideRule, vertexRule, eulerRule, rules, every}
+use Rattle.mesh.specs.Rules.{halfEdgeInUse, linksInUse, halfEdgeLinked, innerFaceRule, outerFaceRule, sideRule, vertexRule, eulerRule, ruleTests, rules, every}
 use Rattle.mesh.specs.WfParts.{InnerFace, OuterFace, AboutVertex, next-inverse, turn-inverse, wf-of, inner-is, outer-is, about-is}
 use Rattle.mesh.specs.Wf.{Ranges, Linked, Faces, Vertices, Wf}
 use Rattle.sums.specs.Bit.{implies, implies→, implies←, eq-test, ne-test, and-left, and-right, and-both, or-cases, or-left, or-right}
@@ -238,11 +238,6 @@ module _ (C : Counts) (L : Links) where
       go u (inr q) (inr t) = let m = ltb→lt 0 (L .face (2 * u + 1)) t in let n = ap (L .face) q in absurd (omega arith)
 
   -- ---- the theorem
-  abbrev ruleTests : List Bool
-  ruleTests =
-      ltb 0 (C .faces) ∷ eulerRule C ∷ linksInUse C L ∷ all-below E (halfEdgeLinked L) ∷ all-below (C .edges) (sideRule L) ∷ outerFaceRule C L
-      ∷ all-below (C .faces) (λ f. implies (ltb 0 f) (innerFaceRule C L f)) ∷ all-below (C .vertices) (vertexRule C L) ∷ []
-
   euler-of : T (eulerRule C) → C .vertices + C .faces ≡ C .edges + 2
   unfolding eulerRule
   euler-of h = eqb→eq (C .vertices + C .faces) (C .edges + 2) h
@@ -254,7 +249,7 @@ module _ (C : Counts) (L : Links) where
   pub rules-wf : T (rules C L) → Wf C L
   unfolding rules
   rules-wf h =
-      let t = each-of ruleTests h in
+      let t = each-of (ruleTests C L) h in
       let some = ltb→lt 0 (C .faces) (t .0) in
       let R = in-use (t .1 .1 .0) in
       let K = linked (t .1 .1 .1 .0) in
@@ -277,7 +272,7 @@ module _ (C : Counts) (L : Links) where
 
     pub wf-rules : T (rules C L)
     unfolding rules
-    wf-rules = every-of ruleTests (
+    wf-rules = every-of (ruleTests C L) (
       lt→ltb 0 (C .faces) (W .some),
       (
         of-euler (W .euler),

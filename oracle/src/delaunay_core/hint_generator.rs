@@ -31,13 +31,7 @@ impl<S: SpadeNum> HintGenerator<S> for LastUsedVertexHintGenerator {
 
     fn notify_vertex_inserted(&mut self, _: FixedVertexHandle, _: Point2<S>) {}
 
-    fn notify_vertex_removed(
-        &mut self,
-        _: Option<Point2<S>>,
-        _: FixedVertexHandle,
-        _: Point2<S>,
-    ) {
-    }
+    fn notify_vertex_removed(&mut self, _: Option<Point2<S>>, _: FixedVertexHandle, _: Point2<S>) {}
 
     fn initialize_from_triangulation<TR: Triangulation>(_: &TR) -> Self
     where

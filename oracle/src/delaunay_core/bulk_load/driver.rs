@@ -43,8 +43,8 @@ pub fn point([x, y]: Position) -> Point2<f64> {
 /// The rows as the Rust's mesh, link by link.
 pub fn built(mesh: &Mesh) -> Swept {
     let vertices = mesh.positions.iter().zip(&mesh.out_edges);
-    let vertices = vertices
-        .map(|(&position, &out)| VertexEntry { data: point(position), out_edge: Some(edge(out)) });
+    let vertices =
+        vertices.map(|(&position, &out)| VertexEntry { data: point(position), out_edge: Some(edge(out)) });
     let edges = mesh.half_edges.chunks(2).map(|halves| EdgeEntry {
         entries: [half_edge(&halves[0]), half_edge(&halves[1])],
         directed_data: [(), ()],
@@ -88,13 +88,10 @@ pub fn boundary_angles(swept: &Swept, centre: Point2<f64>) -> Vec<f64> {
 /// followed by a smaller one, and each gap is at most 3/4. All differ when one alone descends.
 pub fn is_sound(angles: &[f64]) -> bool {
     let after = |i: usize| angles[(i + 1) % angles.len()];
-    let kept: Vec<f64> =
-        (0..angles.len()).filter(|&i| angles[i] != after(i)).map(|i| angles[i]).collect();
+    let kept: Vec<f64> = (0..angles.len()).filter(|&i| angles[i] != after(i)).map(|i| angles[i]).collect();
     let pairs = || (0..kept.len()).map(|i| (kept[i], kept[(i + 1) % kept.len()]));
     let gap = |(a, b): (f64, f64)| if b < a { b - a + 1.0 } else { b - a };
-    kept.len() >= 3
-        && pairs().filter(|(a, b)| b < a).count() == 1
-        && pairs().all(|pair| gap(pair) <= 0.75)
+    kept.len() >= 3 && pairs().filter(|(a, b)| b < a).count() == 1 && pairs().all(|pair| gap(pair) <= 0.75)
 }
 
 pub fn is_strict(angles: &[f64]) -> bool {

@@ -68,18 +68,13 @@ impl FixedFaceHandle<PossiblyOuterTag> {
     }
 }
 
-impl<V, DE, UE, F, Type: Copy, IO: InnerOuterMarker> Clone
-    for DynamicHandleImpl<'_, V, DE, UE, F, Type, IO>
-{
+impl<V, DE, UE, F, Type: Copy, IO: InnerOuterMarker> Clone for DynamicHandleImpl<'_, V, DE, UE, F, Type, IO> {
     fn clone(&self) -> Self {
         *self
     }
 }
 
-impl<V, DE, UE, F, Type: Copy, IO: InnerOuterMarker> Copy
-    for DynamicHandleImpl<'_, V, DE, UE, F, Type, IO>
-{
-}
+impl<V, DE, UE, F, Type: Copy, IO: InnerOuterMarker> Copy for DynamicHandleImpl<'_, V, DE, UE, F, Type, IO> {}
 
 impl<V, DE, UE, F, Type: PartialEq, IO: InnerOuterMarker> PartialEq
     for DynamicHandleImpl<'_, V, DE, UE, F, Type, IO>
@@ -89,17 +84,13 @@ impl<V, DE, UE, F, Type: PartialEq, IO: InnerOuterMarker> PartialEq
     }
 }
 
-impl<V, DE, UE, F, Type, IO: InnerOuterMarker> fmt::Debug
-    for DynamicHandleImpl<'_, V, DE, UE, F, Type, IO>
-{
+impl<V, DE, UE, F, Type, IO: InnerOuterMarker> fmt::Debug for DynamicHandleImpl<'_, V, DE, UE, F, Type, IO> {
     fn fmt(&self, f: &mut fmt::Formatter<'_>) -> fmt::Result {
         self.handle.fmt(f)
     }
 }
 
-impl<V, DE, UE, F, Type: Copy + Default, IO: InnerOuterMarker>
-    DynamicHandleImpl<'_, V, DE, UE, F, Type, IO>
-{
+impl<V, DE, UE, F, Type: Copy + Default, IO: InnerOuterMarker> DynamicHandleImpl<'_, V, DE, UE, F, Type, IO> {
     pub fn fix(&self) -> FixedHandleImpl<Type, IO> {
         self.handle
     }

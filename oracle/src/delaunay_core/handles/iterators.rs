@@ -116,8 +116,7 @@ pub type DirectedEdgeIterator<'a, V, DE, UE, F> =
     DynamicIterator<'a, V, DE, UE, F, DirectedEdgeTag, InnerTag>;
 pub type UndirectedEdgeIterator<'a, V, DE, UE, F> =
     DynamicIterator<'a, V, DE, UE, F, UndirectedEdgeTag, InnerTag>;
-pub type FaceIterator<'a, V, DE, UE, F> =
-    DynamicIterator<'a, V, DE, UE, F, FaceTag, PossiblyOuterTag>;
+pub type FaceIterator<'a, V, DE, UE, F> = DynamicIterator<'a, V, DE, UE, F, FaceTag, PossiblyOuterTag>;
 pub type InnerFaceIterator<'a, V, DE, UE, F> = DynamicIterator<'a, V, DE, UE, F, FaceTag, InnerTag>;
 pub type VoronoiFaceIterator<'a, V, DE, UE, F> =
     DynamicIterator<'a, V, DE, UE, F, VoronoiFaceTag, PossiblyOuterTag>;

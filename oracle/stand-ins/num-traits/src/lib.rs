@@ -15,10 +15,7 @@ pub fn zero<T: Zero>() -> T {
     T::zero()
 }
 
-pub trait Num:
-    PartialEq + Zero + One + Sub<Output = Self> + Div<Output = Self> + Rem<Output = Self>
-{
-}
+pub trait Num: PartialEq + Zero + One + Sub<Output = Self> + Div<Output = Self> + Rem<Output = Self> {}
 
 pub trait Signed: Num + Neg<Output = Self> {
     fn abs(&self) -> Self;

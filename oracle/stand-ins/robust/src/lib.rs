@@ -15,10 +15,7 @@ const RANGE: f64 = 16_777_216.0;
 
 fn whole<T: Into<f64>>(value: T) -> i128 {
     let value: f64 = value.into();
-    assert!(
-        value.abs() <= RANGE && value == value.trunc(),
-        "{value} is no whole number from -2^24 to 2^24"
-    );
+    assert!(value.abs() <= RANGE && value == value.trunc(), "{value} is no whole number from -2^24 to 2^24");
     value as i128
 }
 

@@ -1,0 +1,150 @@
+-- The invariants of the two loops, and what each step of a loop needs: over plain rows, so that the needs of the code are single applications. Assumes nothing.
+use mathlib.Core.Bool.{Bool, true, false, not}
+use mathlib.Core.List.{List}
+use mathlib.Core.Path.{_≡_, refl, sym, _∙_, ap, ap₂, subst⁻¹}
+use Prim.Native.Nat.{ℕ, _+_, _<_, _≤_, _^_}
+use native.Mathlib.Numerals.{add-one}
+use native.Mathlib.Omega.{arith}
+use lib.Dec.{eqb}
+use lib.IntN.{ℤ, natAbs}
+use lib.ListN.{length}
+use Rattle.circle_test.specs.GoodRows.{GoodRows, CircleReady, held, circle-ready, good-again}
+use Rattle.dcel.specs.Rows.{linksOf, positionOf}
+use Rattle.dcel_operations.specs.Flip.{FlipReady}
+use Rattle.dcel_operations.specs.Ready.{flip-ready}
+use Rattle.flip_count.specs.declared.FlipCount.{FlipCount}
+use Rattle.flip_count.specs.FlipCount.{flipCountOf}
+use Rattle.math.specs.declared.Point.{Point}
+use Rattle.mesh.specs.declared.Counts.{Counts}
+use Rattle.mesh.specs.Mesh.{Links}
+use Rattle.mesh.specs.Area.{heightSum}
+use Rattle.mesh.specs.Operations.{flipCw}
+use Rattle.mesh.specs.Circle.{breaksCircle}
+use Rattle.mesh.specs.HeightBound.{FlipsBound, flips-none, flips-fit}
+use Rattle.mesh.specs.FlipRun.{run-good, run-bound}
+use Rattle.sums.specs.Until.{Going, going-start, going-turn, going-less, going-end}
+use Rattle.closing.specs.Closing.{Closing, closeEdge, closeBelow, Turned, closeTurn, unturned, closingPass}
+use Rattle.closing.specs.ClosingLaws.{edge-flips, edge-stays, Flipping, flipping-edge, flipping-below, Turning, turnsLeft, turns-fall, begins, enough}
+use Rattle.closing.specs.Held.{closingOf, Closable}
+
+-- the rows keep their lengths
+pub record SameLengths (o h a o′ h′ a′ : List ℕ) : Type 0 where
+  pub outs : length o′ ≡ length o
+  pub halves : length h′ ≡ length h
+  pub faces : length a′ ≡ length a
+
+same-refl : {o h a : List ℕ} → SameLengths o h a o h a
+same-refl = record { outs = refl; halves = refl; faces = refl }
+
+same-trans : {o h a o′ h′ a′ o″ h″ a″ : List ℕ} → SameLengths o h a o′ h′ a′ → SameLengths o′ h′ a′ o″ h″ a″ → SameLengths o h a o″ h″ a″
+same-trans x y = record { outs = y .outs ∙ x .outs; halves = y .halves ∙ x .halves; faces = y .faces ∙ x .faces }
+
+-- counted flips keep what a turn needs
+closable-on : {C : Counts} {q : List ℤ} {o h a o′ h′ a′ : List ℕ} {c c′ : FlipCount} {s : Closing} → Closable C q o h a c → Flipping C (positionOf q) (closingOf o h a c) s
+    → closingOf o′ h′ a′ c′ ≡ s → SameLengths o h a o′ h′ a′ → Closable C q o′ h′ a′ c′
+unfolding closingOf
+closable-on {C} {q} {o} {h} {a} {o′} {h′} {a′} {c} {c′} {s} K F e l =
+    let G = K .rows .good in
+    let links = ap (λ (t : Closing). t .links) e in
+    let count = ap (λ (t : Closing). t .flips) e ∙ F .count in
+    record {
+      rows = good-again (K .rows) o′ h′ a′ (l .outs) (l .halves) (l .faces) links (run-good G (F .run));
+      few = K .few;
+      bound = subst⁻¹ (λ (L : Links). FlipsBound C L (positionOf q) (flipCountOf c′)) links
+          (subst⁻¹ (FlipsBound C (s .links) (positionOf q)) count (run-bound G (F .run) (K .bound)));
+    }
+
+-- ---- one edge, by whether it breaks the rule
+module _ (P : ℕ → Point) (u : ℕ) (o h a : List ℕ) (c : FlipCount) {r : Bool} (tests : (o a : List ℕ) → r ≡ breaksCircle (linksOf o h a) P u) where
+  pub edge-flipped : (o′ h′ a′ : List ℕ) (c′ : FlipCount) → r ≡ true → linksOf o′ h′ a′ ≡ flipCw (linksOf o h a) u → flipCountOf c′ ≡ flipCountOf c + 1
+      → closingOf o′ h′ a′ c′ ≡ closeEdge P u (closingOf o h a c)
+  unfolding closingOf
+  edge-flipped o′ h′ a′ c′ t links count =
+      ap₂ (λ (L : Links) (n : ℕ). record { links = L; flips = n }) links (count ∙ add-one (flipCountOf c))
+      ∙ sym (edge-flips P u (closingOf o h a c) (sym (tests o a) ∙ t))
+
+  pub edge-kept : r ≡ false → closingOf o h a c ≡ closeEdge P u (closingOf o h a c)
+  unfolding closingOf
+  edge-kept t = sym (edge-stays P u (closingOf o h a c) (sym (tests o a) ∙ t))
+
+-- ---- a turn: the edges below u are done
+pub record TurnAt (C : Counts) (q : List ℤ) (o₀ h₀ a₀ : List ℕ) (c₀ : FlipCount) (o h a : List ℕ) (c : FlipCount) (u : ℕ) : Type 0 where
+  pub at : u ≤ C .edges
+  pub ready : Closable C q o h a c
+  pub same : closingOf o h a c ≡ closeBelow (positionOf q) u (closingOf o₀ h₀ a₀ c₀)
+  pub lengths : SameLengths o₀ h₀ a₀ o h a
+
+pub turn-starts : {C : Counts} {q : List ℤ} {o h a : List ℕ} {c : FlipCount} → Closable C q o h a c → TurnAt C q o h a c o h a c 0
+unfolding closeBelow
+turn-starts K = record { at = omega arith; ready = K; same = refl; lengths = same-refl }
+
+module _ {C : Counts} {q : List ℤ} {o₀ h₀ a₀ : List ℕ} {c₀ : FlipCount} {o h a : List ℕ} {c : FlipCount} {u : ℕ} (I : TurnAt C q o₀ h₀ a₀ c₀ o h a c u) where
+  pub edge-ready : u < C .edges → CircleReady q h u × FlipReady o h a u × (flipCountOf c + 1 < 2 ^ 128)
+  edge-ready l = let K = I .ready in (circle-ready (K .rows) l, flip-ready (held (K .rows)) l, flips-fit (K .bound) (K .few))
+
+  pub turn-on : {o′ h′ a′ : List ℕ} {c′ : FlipCount} → u < C .edges → closingOf o′ h′ a′ c′ ≡ closeEdge (positionOf q) u (closingOf o h a c) → SameLengths o h a o′ h′ a′
+      → TurnAt C q o₀ h₀ a₀ c₀ o′ h′ a′ c′ (u + 1)
+  unfolding closeBelow
+  turn-on l e s = record {
+    at = omega arith;
+    ready = closable-on (I .ready) (flipping-edge C (positionOf q) u l (closingOf o h a c)) e s;
+    same = e ∙ ap (closeEdge (positionOf q) u) (I .same) ∙ ap (λ (n : ℕ). closeBelow (positionOf q) n (closingOf o₀ h₀ a₀ c₀)) (sym (add-one u));
+    lengths = same-trans (I .lengths) s;
+  }
+
+  pub turn-ends : C .edges ≤ u → closingOf o h a c ≡ closeBelow (positionOf q) (C .edges) (closingOf o₀ h₀ a₀ c₀)
+  turn-ends l = let k = I .at in I .same ∙ ap (λ (n : ℕ). closeBelow (positionOf q) n (closingOf o₀ h₀ a₀ c₀)) (omega arith)
+
+-- ---- the pass: to go on from here is to go on from the start
+abbrev pub passed : List ℕ → List ℕ → List ℕ → FlipCount → Bool → Turned
+passed o h a c s = record { state = closingOf o h a c; still = s }
+
+pub record PassAt (C : Counts) (q : List ℤ) (o₀ h₀ a₀ o h a : List ℕ) (c : FlipCount) (s : Bool) : Type 0 where
+  pub ready : Closable C q o h a c
+  pub going : Going (λ t. t .still) (closeTurn C (positionOf q)) (Turning C (positionOf q)) (turnsLeft C (positionOf q)) (natAbs (heightSum C (linksOf o₀ h₀ a₀) (positionOf q)) + 2)
+      (unturned (linksOf o₀ h₀ a₀)) (passed o h a c s)
+  pub lengths : SameLengths o₀ h₀ a₀ o h a
+
+pub pass-starts : {C : Counts} {q : List ℤ} {o h a : List ℕ} {c : FlipCount} → GoodRows C q o h a → C .faces ≤ 2 ^ 25 → flipCountOf c ≡ 0 → PassAt C q o h a o h a c false
+unfolding closingOf
+pass-starts {C} {q} {o} {h} {a} {c} R l e = record {
+  ready = record { rows = R; few = l; bound = subst⁻¹ (FlipsBound C (linksOf o h a) (positionOf q)) e (flips-none (R .good)) };
+  going = subst⁻¹
+      (λ (n : ℕ). Going (λ t. t .still) (closeTurn C (positionOf q)) (Turning C (positionOf q)) (turnsLeft C (positionOf q)) (natAbs (heightSum C (linksOf o h a) (positionOf q)) + 2)
+      (unturned (linksOf o h a)) (record { state = record { links = linksOf o h a; flips = n }; still = false }))
+      e
+      (going-start (λ t. t .still) (closeTurn C (positionOf q)) (turns-fall C (positionOf q)) _ (unturned (linksOf o h a)) (begins (R .good)) (enough (R .good)));
+  lengths = same-refl;
+}
+
+-- the loop's test is `!still`
+goes : (s : Bool) → not s ≡ true → s ≡ false
+goes true e = sym e
+goes false e = refl
+
+ends : (s : Bool) → not s ≡ false → s ≡ true
+ends true e = refl
+ends false e = sym e
+
+module _ {C : Counts} {q : List ℤ} {o₀ h₀ a₀ o h a : List ℕ} {c : FlipCount} {s : Bool} (I : PassAt C q o₀ h₀ a₀ o h a c s) where
+  module _ (o′ h′ a′ : List ℕ) (c′ : FlipCount) {s′ : Bool} (n : not s ≡ true) (e : closingOf o′ h′ a′ c′ ≡ closeBelow (positionOf q) (C .edges) (closingOf o h a c))
+      (b : s′ ≡ eqb (flipCountOf c′) (flipCountOf c)) where
+    next : passed o′ h′ a′ c′ s′ ≡ closeTurn C (positionOf q) (passed o h a c s)
+    unfolding closeTurn closingOf
+    next =
+        ap (λ (x : Bool). record { state = closingOf o′ h′ a′ c′; still = x }) b
+        ∙ ap (λ (t : Closing). record { state = t; still = eqb (t .flips) (flipCountOf c) }) e
+
+    pub pass-on : SameLengths o h a o′ h′ a′ → PassAt C q o₀ h₀ a₀ o′ h′ a′ c′ s′
+    pass-on k = record {
+      ready = closable-on (I .ready) (flipping-below C (positionOf q) (C .edges) (omega arith) (closingOf o h a c)) e k;
+      going = subst⁻¹ (Going _ _ _ _ _ _) next (going-turn _ _ (turns-fall C (positionOf q)) (I .going) (goes s n));
+      lengths = same-trans (I .lengths) k;
+    }
+
+    pub pass-less : turnsLeft C (positionOf q) (passed o′ h′ a′ c′ s′) < turnsLeft C (positionOf q) (passed o h a c s)
+    pass-less = subst⁻¹ (λ (t : Turned). turnsLeft C (positionOf q) t < turnsLeft C (positionOf q) (passed o h a c s)) next (going-less _ _ (turns-fall C (positionOf q)) (I .going) (goes s n))
+
+  pub pass-ends : not s ≡ false → closingOf o h a c ≡ closingPass C (positionOf q) (linksOf o₀ h₀ a₀)
+  unfolding closingPass
+  pass-ends d = ap (λ (t : Turned). t .state) (going-end _ _ (turns-fall C (positionOf q)) (I .going) (ends s d))

@@ -1,0 +1,58 @@
+-- `closing::close_turn` meets its contract. The loop's invariant: the edges below u are done. The measure is what is left of the edges. Assumes nothing.
+use Prim.Native.Nat.{_-_}
+use native.Mathlib.Omega.{arith}
+use Rattle.closing.proofs.Loops.{TurnAt, turn-starts, edge-ready, turn-on, turn-ends}
+use Rattle.closing.proofs.close_turn.Statement.{statement}
+use Rattle.closing.proofs.close_turn.Tie as tie
+
+abbrev Inv-loop : tie.InvT-loop
+Inv-loop positions outs₀ halves₀ faces₀ counts made₀ u₀ outs halves faces made u = TurnAt counts positions outs₀ halves₀ faces₀ made₀ outs halves faces made u
+
+abbrev μ-loop : tie.MeasureT-loop
+μ-loop positions outs₀ halves₀ faces₀ counts made₀ u₀ outs halves faces made u = counts .edges - u
+
+loop-holds : tie.Need-loop-holds Inv-loop μ-loop
+loop-holds c = turn-starts (c .before .before .before .pre)
+
+close-edge-requires : tie.Need-close-edge-requires Inv-loop μ-loop
+close-edge-requires c κs = edge-ready (c .before .before .before .before .before .loop .inv) (c .before .before .before .if1 .taken)
+
+add-u : tie.Need-add-u Inv-loop μ-loop
+add-u c = record { fits = omega (arith, c .before .before .before .before .before .before .before .before .before .before .if1 .taken, c .before .before .before .before .before .before .before .before .before .before .before .before .loop .inv .ready .rows .room .small) }
+
+loop-less : tie.Need-loop-less Inv-loop μ-loop
+loop-less c = omega (arith, c .before .before .before .before .before .before .before .before .before .before .if1 .taken)
+
+loop-again : tie.Need-loop-again Inv-loop μ-loop
+loop-again c =
+    let e = c .before .before .before .before .before .before .close-edge in
+    let t = c .before .before .before .before .before .before .before .before .before .before in
+    turn-on (t .before .before .loop .inv) (t .if1 .taken) (e .ensures) (record { outs = e .kept .1 .0; halves = e .kept .1 .1 .0; faces = e .kept .1 .1 .1 .0 })
+
+same-length : tie.Need-same-length Inv-loop μ-loop
+same-length c = c .before .before .loop .inv .lengths .outs
+
+same-length-2 : tie.Need-same-length-2 Inv-loop μ-loop
+same-length-2 c = c .before .before .loop .inv .lengths .halves
+
+same-length-3 : tie.Need-same-length-3 Inv-loop μ-loop
+same-length-3 c = c .before .before .loop .inv .lengths .faces
+
+returns : tie.Need-returns Inv-loop μ-loop
+returns c = turn-ends (c .before .before .loop .inv) (c .if1 .left)
+
+pub close-turn-spec : {M : Type 1} → statement M
+close-turn-spec =
+    tie.close
+    (tie.spec
+    Inv-loop
+    μ-loop
+    loop-holds
+    close-edge-requires
+    add-u
+    loop-less
+    loop-again
+    same-length
+    same-length-2
+    same-length-3
+    returns)

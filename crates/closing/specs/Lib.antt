@@ -1,0 +1,4 @@
+pub mod Closing
+pub mod ClosingLaws
+pub mod Held
+pub mod Examples

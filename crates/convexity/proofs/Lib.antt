@@ -1,0 +1,5 @@
+pub mod Corners
+pub mod Rows
+pub mod InnerLoop
+pub mod OuterLoop
+pub mod PassesLoop

@@ -1,0 +1,8 @@
+pub mod Convexity
+pub mod Walk
+pub mod ConvexityRows
+pub mod CornerLaws
+pub mod WalkLaws
+pub mod StackLaws
+pub mod ConvexityLaws
+pub mod Examples

@@ -1,0 +1,2 @@
+pub mod FlipCount
+pub mod CountLaws

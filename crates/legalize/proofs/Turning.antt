@@ -1,0 +1,91 @@
+-- One turn in the code's terms: what it needs, and its three ways. Over plain rows, so that the needs of the code are single applications. Assumes nothing.
+use mathlib.Core.Bool.{Bool, true, false, false≢true, cond}
+use mathlib.Core.List.{List, _∷_}
+use mathlib.Core.Path.{_≡_, refl, sym, _∙_, ap, subst}
+use Prim.Native.Nat.{ℕ, _+_, _-_, _<_, _≤_, _^_}
+use native.Mathlib.Numerals.{add-one}
+use native.Mathlib.Omega.{arith}
+use lib.IntN.{ℤ}
+use lib.ListN.{length, getD}
+use Rattle.mesh.specs.declared.Counts.{Counts}
+use Rattle.mesh.specs.Circle.{breaksCircle}
+use Rattle.mesh.specs.HeightBound.{flips-fit}
+use Rattle.mesh.specs.Operations.{flipCw}
+use Rattle.dcel.specs.Rows.{linksOf, positionOf}
+use Rattle.dcel_operations.specs.Flip.{FlipReady}
+use Rattle.dcel_operations.specs.Ready.{flip-ready}
+use Rattle.flip_count.specs.declared.FlipCount.{FlipCount}
+use Rattle.flip_count.specs.FlipCount.{flipCountOf}
+use Rattle.circle_test.specs.GoodRows.{held, circle-ready}
+use Rattle.pending.specs.Pending.{pendingOf, Holds}
+use Rattle.pending.specs.PendingLaws.{pending-length, pending-last, holds-length, holds-fits}
+use Rattle.legalize.specs.declared.Entry.{Entry}
+use Rattle.legalize.specs.declared.Popped.{Popped}
+use Rattle.legalize.specs.Legalize.{Legalizing, edgeOf, pushed, turn}
+use Rattle.legalize.specs.Turns.{EntriesIn, turn-kept, turn-flipped, turn-refused}
+use Rattle.legalize.specs.LegalizeRows.{PopReady, Pops, TurnReady, stateOf, TurnLeaves}
+
+module _ {k : Entry} {C : Counts} {q : List ℤ} {o h a row : List ℕ} {n : ℕ} {flips : FlipCount} (R : TurnReady k C q o h a row n flips) (z : 0 < n) where
+  -- the last entry, and the rest
+  abbrev x : ℕ
+  x = getD row (n - 1) 0
+
+  abbrev l : List ℕ
+  l = pendingOf row (n - 1)
+
+  abbrev s : Legalizing
+  s = stateOf o h a row n flips
+
+  last : s .pending ≡ x ∷ l
+  last = pending-last row n z
+
+  in-use : edgeOf k x < C .edges
+  in-use = subst (EntriesIn C k) last (R .entries) .0
+
+  pub pop-ready : PopReady k q h row n
+  pop-ready = record { some = z; fits = R .fits; circle = circle-ready (R .mesh .rows) in-use }
+
+  pub count-fits : flipCountOf flips + 1 < 2 ^ 128
+  count-fits = flips-fit (R .mesh .bound) (R .mesh .few)
+
+  module _ {row′ : List ℕ} {r : Popped} (P : Pops k q h row n row′ r) (same : length row′ ≡ length row) where
+    tested : {b : Bool} → r .flip ≡ b → breaksCircle (s .links) (positionOf q) (edgeOf k x) ≡ b
+    tested e = sym (P .flip o a) ∙ e
+
+    not-pushed : r .flip ≡ false → Holds row′ (r .length) l
+    not-pushed e = subst (λ (b : Bool). Holds row′ (r .length) (cond b (pushed k (s .links) x l) l)) e (P .pending o a)
+
+    pushes : r .flip ≡ true → Holds row′ (r .length) (pushed k (s .links) x l)
+    pushes e = subst (λ (b : Bool). Holds row′ (r .length) (cond b (pushed k (s .links) x l) l)) e (P .pending o a)
+
+    pub turn-keeps : r .flip ≡ false → TurnLeaves o h a row′ (record { length = r .length; flips = flips; full = false }) (turn (length row) k (positionOf q) s)
+    turn-keeps e =
+        let H = not-pushed e in
+        let m = pending-length row (n - 1) in
+        let f = R .fits in
+        rw (turn-kept (length row) k (positionOf q) s last (tested e))
+        (record { links = refl; flips = refl; full = refl; fits = λ _. holds-fits H (omega arith); pending = λ _. H .fits (holds-fits H (omega arith)) })
+
+    pub turn-refuses : r .flip ≡ true → length row′ < r .length → TurnLeaves o h a row′ (record { length = r .length; flips = flips; full = true }) (turn (length row) k (positionOf q) s)
+    turn-refuses e f =
+        let m = pushes e .over f in
+        rw (turn-refused (length row) k (positionOf q) s last (tested e) (rw same at m))
+        (record { links = refl; flips = refl; full = refl; fits = λ t. absurd (false≢true (sym t)); pending = λ t. absurd (false≢true (sym t)) })
+
+    pub turn-flip-ready : r .flip ≡ true → FlipReady o h a (r .edge)
+    turn-flip-ready e = rw (P .edge) (flip-ready (held (R .mesh .rows)) in-use)
+
+    pub turn-flips : r .flip ≡ true → r .length ≤ length row′ → {o′ h′ a′ : List ℕ} {more : FlipCount} → linksOf o′ h′ a′ ≡ flipCw (linksOf o h a) (r .edge)
+        → flipCountOf more ≡ flipCountOf flips + 1
+        → TurnLeaves o′ h′ a′ row′ (record { length = r .length; flips = more; full = false }) (turn (length row) k (positionOf q) s)
+    turn-flips e f links count =
+        let H = pushes e in
+        let m = holds-length H f in
+        rw (turn-flipped (length row) k (positionOf q) s last (tested e) (omega arith))
+        (record {
+          links = links ∙ ap (flipCw (linksOf o h a)) (P .edge);
+          flips = count ∙ add-one (flipCountOf flips);
+          full = refl;
+          fits = λ _. f;
+          pending = λ _. H .fits f;
+        })

@@ -1,0 +1,22 @@
+-- `legalize::edge_of` meets its contract. Assumes nothing.
+use Rattle.legalize.specs.Legalize.{edgeOf}
+use borrow.Author.Needs.{needs}
+use Rattle.legalize.proofs.edge_of.Statement.{statement}
+use Rattle.legalize.proofs.edge_of.Tie as tie
+
+enum-told : tie.Need-enum-told
+enum-told c = search needs
+
+enum-told-2 : tie.Need-enum-told-2
+enum-told-2 c = search needs
+
+returns : tie.Need-returns
+unfolding edgeOf
+returns c = rw (c .enum-told .given .1)
+
+returns-2 : tie.Need-returns-2
+unfolding edgeOf
+returns-2 c = rw (c .enum-told2 .given .1)
+
+pub edge-of-spec : {M : Type 1} → statement M
+edge-of-spec = tie.close (tie.spec enum-told enum-told-2 returns returns-2)

@@ -1,0 +1,76 @@
+-- What the functions ask of the rows that are lent, and what they ensure. Definitions only.
+use mathlib.Core.Bool.{false, cond}
+use mathlib.Core.List.{List}
+use mathlib.Core.Path.{_≡_}
+use Prim.Native.Nat.{ℕ, _+_, _-_, _*_, _^_, _<_, _≤_}
+use lib.IntN.{ℤ}
+use lib.ListN.{length, getD}
+use Rattle.mesh.specs.declared.Counts.{Counts}
+use Rattle.mesh.specs.Circle.{breaksCircle}
+use Rattle.mesh.specs.HeightBound.{FlipsBound}
+use Rattle.dcel.specs.Rows.{linksOf, positionOf, There}
+use Rattle.flip_count.specs.declared.FlipCount.{FlipCount}
+use Rattle.flip_count.specs.FlipCount.{flipCountOf}
+use Rattle.circle_test.specs.GoodRows.{GoodRows, CircleReady}
+use Rattle.pending.specs.Pending.{pendingOf, Holds}
+use Rattle.legalize.specs.declared.Entry.{Entry}
+use Rattle.legalize.specs.declared.Popped.{Popped}
+use Rattle.legalize.specs.declared.Turned.{Turned}
+use Rattle.legalize.specs.declared.Legalized.{Legalized}
+use Rattle.legalize.specs.Legalize.{Legalizing, edgeOf, pushed}
+use Rattle.legalize.specs.Turns.{EntriesIn}
+
+-- ---- pushes
+-- both halves of an entry's edge are in the row of half-edges
+pub record PushReady (k : Entry) (h : List ℕ) (x : ℕ) : Type 0 where
+  pub small : 2 * edgeOf k x + 1 < 2 ^ 32
+  pub there : There h (2 * edgeOf k x + 1)
+
+-- the pending row before and after the pushes of a flip, whatever the rows of out edges and faces, which the pushes do not read
+abbrev pub Pushes : Entry → List ℕ → ℕ → List ℕ → ℕ → List ℕ → ℕ → Type 0
+Pushes k h x row n row′ n′ = (o a l : List ℕ) → Holds row n l → Holds row′ n′ (pushed k (linksOf o h a) x l)
+
+-- ---- one entry
+pub record PopReady (k : Entry) (q : List ℤ) (h row : List ℕ) (n : ℕ) : Type 0 where
+  pub some : 0 < n
+  pub fits : n ≤ length row
+  pub circle : CircleReady q h (edgeOf k (getD row (n - 1) 0))
+
+-- the last entry is taken, its edge tested, and what its flip pushes is pushed
+pub record Pops (k : Entry) (q : List ℤ) (h row : List ℕ) (n : ℕ) (row′ : List ℕ) (r : Popped) : Type 0 where
+  pub edge : r .edge ≡ edgeOf k (getD row (n - 1) 0)
+  pub flip : (o a : List ℕ) → r .flip ≡ breaksCircle (linksOf o h a) (positionOf q) (edgeOf k (getD row (n - 1) 0))
+  pub pending : (o a : List ℕ) → Holds row′ (r .length) (cond (r .flip) (pushed k (linksOf o h a) (getD row (n - 1) 0) (pendingOf row (n - 1))) (pendingOf row (n - 1)))
+
+-- ---- the loop
+-- a good mesh with a count of flips that can go on
+pub record LegalizeReady (C : Counts) (q : List ℤ) (o h a row : List ℕ) (flips : FlipCount) : Type 0 where
+  pub rows : GoodRows C q o h a
+  pub few : C .faces ≤ 2 ^ 25
+  pub bound : FlipsBound C (linksOf o h a) (positionOf q) (flipCountOf flips)
+  -- 01: "at least 8 pending entries"
+  pub room : 8 ≤ length row
+
+-- and the entries that are pending
+pub record TurnReady (k : Entry) (C : Counts) (q : List ℤ) (o h a row : List ℕ) (n : ℕ) (flips : FlipCount) : Type 0 where
+  pub mesh : LegalizeReady C q o h a row flips
+  pub fits : n ≤ length row
+  pub entries : EntriesIn C k (pendingOf row n)
+
+-- the state that the rows, the list's length and the count hold
+abbrev pub stateOf : List ℕ → List ℕ → List ℕ → List ℕ → ℕ → FlipCount → Legalizing
+stateOf o h a row n flips = record { links = linksOf o h a; pending = pendingOf row n; flips = flipCountOf flips; full = false }
+
+-- what a turn leaves; after a refusal the pending row is not read again
+pub record TurnLeaves (o h a row : List ℕ) (r : Turned) (s : Legalizing) : Type 0 where
+  pub links : linksOf o h a ≡ s .links
+  pub flips : flipCountOf (r .flips) ≡ s .flips
+  pub full : r .full ≡ s .full
+  pub fits : r .full ≡ false → r .length ≤ length row
+  pub pending : r .full ≡ false → pendingOf row (r .length) ≡ s .pending
+
+-- what a call leaves
+pub record Leaves (o h a : List ℕ) (r : Legalized) (s : Legalizing) : Type 0 where
+  pub links : linksOf o h a ≡ s .links
+  pub flips : flipCountOf (r .flips) ≡ s .flips
+  pub full : r .full ≡ s .full
