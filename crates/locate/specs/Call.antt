@@ -1,36 +1,30 @@
 -- The call `locate` row by row, as it is met: a refusal leaves everything as it was, and an accepted call's ring is asked. Assumes nothing.
-use mathlib.Core.Path.{_≡_, refl, sym, _∙_, ap, ap₂, subst}
-use mathlib.Core.Bool.{Bool, true, false, not, cond, _||_}
+use mathlib.Core.Path.{_≡_, refl, sym, _∙_, ap, subst}
+use mathlib.Core.Bool.{Bool, true, false, cond}
 use mathlib.Core.List.{List, []}
-use Prim.Native.Nat.{ℕ, _+_, _-_, _*_, _<_, _≤_, _^_}
+use Prim.Native.Nat.{ℕ, _-_, _*_, _<_, _≤_, _^_}
 use native.Mathlib.Omega.{arith}
-use lib.Dec.{T, T-not, not-T}
+use lib.Dec.{T}
 use lib.Ieee.{Float}
 use lib.IntN.{ℤ}
 use lib.ListN.{length, replicate}
-use Rattle.angle.specs.Angle.{validCenter, validAngle, turns}
-use Rattle.dcel.specs.Held.{Held}
+use Rattle.angle.specs.Angle.{validAngle, turns}
 use Rattle.dcel.specs.Rows.{rowOf, linksOf, positionOf}
-use Rattle.hull.specs.Boundary.{ToBuild, AngledBoundary, vertexTurns, centerOnBoundary}
+use Rattle.hull.specs.Boundary.{ToBuild, AngledBoundary}
 use Rattle.hull.specs.Ready.{angled-boundary, to-build, size-is, size-asks}
 use Rattle.mesh.specs.declared.Counts.{Counts}
 use Rattle.mesh_check.specs.declared.Checked.{Checked}
 use Rattle.mesh_check.specs.declared.Checked.the-variants.{Accepted, Refused}
 use Rattle.mesh_check.specs.declared.Refusal.{Refusal}
 use Rattle.mesh_check.specs.Check.{refused}
-use Rattle.ring.specs.Ring.{isStrictRing}
-use Rattle.ring.specs.Center.{turnsAbout, refusesCenter}
-use Rattle.sums.specs.Bit.{or-left, or-right, sure, from-true}
+use Rattle.ring.specs.Center.{turnsAbout}
+use Rattle.sums.specs.Bit.{from-true}
 use Rattle.locate.specs.declared.Located.{Located}
 use Rattle.locate.specs.declared.Located.the-variants.{Found}
 use Rattle.locate.specs.declared.Place.{Place}
 use Rattle.locate.specs.Locate.{Outcome, andThen, ringRowsShort, checkStart, checkAngle, placeAt, outcomeOf, locateOf}
 use Rattle.locate.specs.Rows.{BoundaryOf, ToAsk, PlaceOnBoundary, RingCleared}
-use Rattle.locate.specs.Start.{RingRoom, ring-room, then-accepts, same-turns, same-center, accepted-held, accepted-placed, AcceptedStart, start-accepts}
-
--- the centre is valid, and no boundary vertex equals it
-center-parts : (a b : Bool) → T (not (not a || b)) → T a × T (not b)
-center-parts true false t = (tt, tt)
+use Rattle.locate.specs.Start.{RingRoom, ring-room, then-accepts, accepted-held, accepted-placed, AcceptedStart, start-accepts}
 
 pub angle-accepts : (x : Float) → checkAngle x ≡ Accepted → T (validAngle x)
 unfolding checkAngle
@@ -46,15 +40,13 @@ module _ {points : List ℤ} {C : Counts} {p : List ℤ} {o h a : List ℕ} {cx 
   accepted-boundary s z = let M = accepted-held (A .mesh) in record { rules = M .rules; first = s; whole = z ∙ size-is M }
 
   pub accepted-angled : AngledBoundary p h cx cy (rowOf a 0)
-  accepted-angled =
-      let c = center-parts (validCenter cx cy) (centerOnBoundary C (linksOf o h a) (positionOf p) cx cy) (subst (λ (t : Bool). T (not t)) (same-center C (linksOf o h a) (positionOf p) cx cy) (A .center)) in
-      angled-boundary (accepted-held (A .mesh)) p (accepted-placed (A .mesh)) cx cy (c .0) (c .1)
+  accepted-angled = angled-boundary (accepted-held (A .mesh)) p (accepted-placed (A .mesh)) cx cy (A .center)
 
   pub accepted-build : {start size nodes buckets : ℕ} → start ≡ rowOf a 0 → size ≡ 2 * C .edges - 3 * (C .faces - 1) → C .vertices ≤ nodes → 8 ≤ buckets → ToBuild p h cx cy start size nodes buckets
   accepted-build {start} {size} {nodes} {buckets} s z u v =
       let M = accepted-held (A .mesh) in
       subst (λ (x : ℕ). ToBuild p h cx cy x size nodes buckets) (sym s)
-      (to-build M p (accepted-placed (A .mesh)) cx cy (z ∙ size-is M) accepted-angled (subst (λ (f : ℕ → ℕ). T (isStrictRing C (linksOf o h a) f)) (sym (same-turns (positionOf p) cx cy)) (A .strict)) u v)
+      (to-build M p (accepted-placed (A .mesh)) cx cy (z ∙ size-is M) accepted-angled (A .strict) u v)
 
 -- rows 1 to 8 let pass; the ring's rows have these lengths
 module _ (C : Counts) (p : List ℤ) (o h a : List ℕ) (cx cy x : Float) (nodes freed buckets : ℕ) {short : Bool} (s : short ≡ ringRowsShort (C .vertices) nodes freed buckets)
@@ -106,7 +98,7 @@ module _ (C : Counts) (p : List ℤ) (o h a : List ℕ) (nodes : List (List ℕ)
       let j = K .freed-zero ∙ ap (λ (k : ℕ). replicate k 0) v in
       let k = K .buckets-zero ∙ ap (λ (k : ℕ). replicate k 0) w in
       let m : _≡_ {A = Outcome} (record { answer = Found r; nodes = n′; freed = f′; buckets = b′ }) (outcomeOf Accepted (placeAt C (linksOf o h a) (turnsAbout cx cy (positionOf p)) (turns x)) nodes freed buckets) =
-          rw (q, i, j, k) in
+      rw (q, i, j, k) in
       m
       ∙ ap (λ (c : Checked). outcomeOf c (placeAt C (linksOf o h a) (turnsAbout cx cy (positionOf p)) (turns x)) nodes freed buckets)
       (sym e ∙ ap (λ (t : Bool). andThen (checkStart [] t C p o h a cx cy) (checkAngle x)) s)

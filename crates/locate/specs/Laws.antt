@@ -1,8 +1,7 @@
 -- What an accepted call of `locate` answers: the boundary edge whose segment, from the angle at its origin to the angle at its end, holds the given angle, and the only one. Angles are floats
 -- here, compared as floats. Assumes nothing.
-use mathlib.Core.Path.{_≡_, refl, sym, _∙_, ap, ap₂, subst}
+use mathlib.Core.Path.{_≡_, refl, sym, _∙_, ap, subst}
 use mathlib.Core.Logic.{_≢_}
-use mathlib.Core.Bool.{Bool, not}
 use mathlib.Core.List.{List, []}
 use Prim.Native.Nat.{ℕ, _<_}
 use native.Mathlib.Omega.{arith}
@@ -56,7 +55,7 @@ unfolding boundaryEdges
 strict-apart {C} {L} W α t {d} l o =
     let r = outer-on W (first< W) (first-outer W) l o in
     let n : edgeAngle L α d ≢ edgeAngle L α (L .next d) = subst (λ (e : ℕ). edgeAngle L α e ≢ edgeAngle L α (L .next e)) (r .2)
-        (proper→ _ _ (all-proper (atEnds proper (L .next) (edgeAngle L α)) (L .next) (boundaryLength C L) (L .adjacent 0) (strict-nodes W α t) (r .0) (r .1))) in
+    (proper→ _ _ (all-proper (atEnds proper (L .next) (edgeAngle L α)) (L .next) (boundaryLength C L) (L .adjacent 0) (strict-nodes W α t) (r .0) (r .1))) in
     λ z. n (z ∙ sym (edge-end W α l))
 
 module _ {points : List ℤ} {C : Counts} {p : List ℤ} {o h a : List ℕ} {cx cy : Float} (A : AcceptedStart points C p o h a cx cy) (fx : T (fits binary64 cx)) (fy : T (fits binary64 cy)) (x : Float) (v : T (validAngle x)) where
@@ -73,7 +72,7 @@ module _ {points : List ℤ} {C : Counts} {p : List ℤ} {o h a : List ℕ} {cx 
       let W = A .mesh .good .wf in
       let from = boundary-angle W q (λ u m. A .mesh .good .range m) cx cy fx fy (A .center) l f in
       let end = subst (λ (w : ℕ). IsAngle (angleOfVertex q cx cy w)) (W .links .origin-next l)
-          (boundary-angle W q (λ u m. A .mesh .good .range m) cx cy fx fy (A .center) (W .ranges .next< l) (W .links .face-next l ∙ f)) in
+      (boundary-angle W q (λ u m. A .mesh .good .range m) cx cy fx fy (A .center) (W .ranges .next< l) (W .links .face-next l ∙ f)) in
       contains-turns (edgeSegment L q cx cy d) x (segment-good _ _ from end) v
       ∙ segment-holds _ _ (strict-apart W (turnsAbout cx cy q) (A .strict) l f) (turns x)
 

@@ -1,6 +1,6 @@
 -- The call `locate` of 01: its refusals, in the order of the table, its answer, and what it leaves in the lent rows of the ring. Definitions only; each computes. `Laws` says what an
 -- accepted call's edge is. A centre is two floats, an angle one; links and positions are those of the lent rows.
-use mathlib.Core.Bool.{Bool, not, cond, _||_}
+use mathlib.Core.Bool.{Bool, cond, _||_}
 use mathlib.Core.List.{List, []}
 use Prim.Native.Nat.{ℕ, _+_}
 use lib.Dec.{ltb}

@@ -5,15 +5,14 @@ use mathlib.Core.Bool.{Bool, true, false, not, cond, _||_}
 use mathlib.Core.List.{List}
 use Prim.Native.Nat.{ℕ, _+_, _-_, _*_, _<_, _≤_, _^_}
 use native.Mathlib.Omega.{arith}
-use lib.Dec.{T, ltb, T-not, not-T}
+use lib.Dec.{T, ltb, T-not}
 use lib.Ieee.{Float}
 use lib.IntN.{ℤ}
 use lib.ListN.{length}
 use borrow.Author.Tests.{ltb-false}
-use Rattle.angle.specs.Angle.{validCenter}
 use Rattle.dcel.specs.Held.{Held}
 use Rattle.dcel.specs.Rows.{rowOf, linksOf, positionOf}
-use Rattle.hull.specs.Boundary.{AngledBoundary, edgeAt, anglesOf, originAtCenter, vertexTurns, vertexAtCenter, centerOnBoundary}
+use Rattle.hull.specs.Boundary.{edgeAt}
 use Rattle.hull.specs.Ready.{boundary-rows, boundary-closed, strict-test, center-test, size-is, size-asks}
 use Rattle.math.specs.declared.Point.{Point}
 use Rattle.mesh.specs.declared.Counts.{Counts}
@@ -26,10 +25,9 @@ use Rattle.mesh_check.specs.declared.Checked.the-variants.{Accepted, Refused}
 use Rattle.mesh_check.specs.declared.Refusal.{Refusal}
 use Rattle.mesh_check.specs.Accepted.{AcceptedWith, with-accepts, or-false}
 use Rattle.mesh_check.specs.Check.{refused, checkWith, vertexCount}
-use Rattle.ring.specs.Ring.{fullTurn, isStrict, isStrictRing}
+use Rattle.ring.specs.Ring.{isStrictRing}
 use Rattle.ring.specs.Center.{turnsAbout, refusesCenter, refusesRing}
-use Rattle.sums.specs.Bit.{from-true, from-false, is-true, is-false, sure}
-use Rattle.sums.specs.Bounded.{any-below}
+use Rattle.sums.specs.Bit.{from-false, sure}
 use Rattle.sums.specs.Iterate.{reach-on}
 use Rattle.locate.specs.Locate.{andThen, ringRowsShort, checkRing, checkStart}
 use Rattle.locate.specs.Rows.{ClosedBoundary, ringChecked}
@@ -65,15 +63,6 @@ ring-room n nodes freed buckets e =
     record { nodes-fit = ltb-false nodes (n + 1) (x .0); freed-fit = ltb-false freed (n + 1) (y .0); sixteen = ltb-false buckets 16 (z .0); buckets-fit = ltb-false buckets n (z .1) }
 
 -- ---- rows 6 and 7
--- the angles are named by two crates
-pub same-turns : (p : ℕ → Point) (cx cy : Float) → vertexTurns p cx cy ≡ turnsAbout cx cy p
-unfolding vertexTurns turnsAbout
-same-turns p cx cy = refl
-
-pub same-center : (C : Counts) (L : Links) (p : ℕ → Point) (cx cy : Float) → refusesCenter C L p cx cy ≡ (not (validCenter cx cy) || centerOnBoundary C L p cx cy)
-unfolding refusesCenter centerOnBoundary vertexAtCenter
-same-center C L p cx cy = refl
-
 -- the rows of an accepted mesh hold it
 pub accepted-held : {points : List ℤ} {C : Counts} {p : List ℤ} {o h a : List ℕ} → AcceptedWith points C p o h a → Held C o h a
 unfolding vertexCount
@@ -105,8 +94,7 @@ module _ {C : Counts} (p : List ℤ) {o h a : List ℕ} (M : Held C o h a) (plac
   unfolding ringChecked checkRing refusesRing
   ring-checked cx cy =
       ap (λ (x : ℕ). ringChecked p h cx cy x size) s
-      ∙ ap₂ (λ (t u : Bool). cond (not (validCenter cx cy) || t) (refused 6 0) (cond (not u) (refused 7 0) Accepted)) (center-test M p placed cx cy z) (strict-test M p placed cx cy z)
-      ∙ ap₂ (λ (t : Bool) (f : ℕ → ℕ). cond t (refused 6 0) (cond (not (isStrictRing C (linksOf o h a) f)) (refused 7 0) Accepted)) (sym (same-center C (linksOf o h a) (positionOf p) cx cy)) (same-turns (positionOf p) cx cy)
+      ∙ ap₂ (λ (t u : Bool). cond t (refused 6 0) (cond (not u) (refused 7 0) Accepted)) (center-test M p placed cx cy z) (strict-test M p placed cx cy z)
 
 -- ---- what is met
 module _ (C : Counts) (L : Links) (p : ℕ → Point) (cx cy : Float) where

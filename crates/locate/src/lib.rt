@@ -166,7 +166,12 @@ pub fn locate(
 ) -> Located
     ensures { λ r. ⌜ record { answer = r; nodes = now (nodes .exit); freed = now (freed .exit); buckets = now (buckets .exit) } ≡ locateOf counts (now (positions .entry)) (now (outs .entry)) (now (halves .entry)) (now (faces .entry)) (now (nodes .entry)) (now (freed .entry)) (now (buckets .entry)) (center .x) (center .y) a ⌝ }
 {
-    let short = ring_rows_short(counts.vertices as usize, nodes.len(), freed.len(), buckets.len());
+    let short = ring_rows_short(
+        counts.vertices as usize,
+        nodes.len(),
+        freed.len(),
+        buckets.len(),
+    );
     match check_locate(short, counts, positions, outs, halves, faces, center, a) {
         Checked::Refused(r) => Located::Refused(r),
         Checked::Accepted => {
