@@ -32,7 +32,7 @@ fn is_line(text: &[u8], start: usize, tag: u8, end: usize) -> bool {
     test_text::byte(text, end) == b'\n'
 }
 
-pub fn read_counts(text: &[u8], at: usize) -> CountsLine {
+fn tagged_counts(text: &[u8], at: usize, tag: u8) -> CountsLine {
     let start = behind(text, at);
     let v = test_text::read_number(text, start);
     let e = test_text::read_number(text, v.at);
@@ -45,8 +45,18 @@ pub fn read_counts(text: &[u8], at: usize) -> CountsLine {
             faces: test_text::unsigned(f),
         },
         at: behind(text, end),
-        is_whole: is_line(text, at, b'm', end),
+        is_whole: is_line(text, at, tag, end),
     }
+}
+
+// The line `m`.
+pub fn read_counts(text: &[u8], at: usize) -> CountsLine {
+    tagged_counts(text, at, b'm')
+}
+
+// The line `M`: the counts that a call must leave.
+pub fn read_counts_after(text: &[u8], at: usize) -> CountsLine {
+    tagged_counts(text, at, b'M')
 }
 
 // The row's next entry: what is written there, or what fills the rest.
@@ -121,4 +131,39 @@ pub fn read_coordinates(text: &[u8], at: usize, tag: u8, row: &mut [i32]) -> Row
         at: behind(text, place),
         is_whole: is_line(text, at, tag, place),
     }
+}
+
+// Whether a row is the one that a line has: as long, and with its entries.
+pub fn compare_words(text: &[u8], at: usize, tag: u8, row: &[u32]) -> RowLine {
+    let start = behind(text, at);
+    let n = test_text::read_number(text, start);
+    let past = test_text::read_number(text, n.at);
+    let mut place = past.at;
+    let mut same = n.magnitude == row.len() as u64;
+    let mut i: usize = 0;
+    while i < row.len() {
+        let entry = next_entry(text, place, past);
+        if entry.magnitude != row[i] as u64 {
+            same = false;
+        }
+        place = entry.at;
+        i += 1;
+    }
+    RowLine {
+        length: row.len(),
+        at: behind(text, place),
+        is_whole: same && is_line(text, at, tag, place),
+    }
+}
+
+// Whether a row holds zeros over its whole length.
+pub fn is_zero(row: &[u32]) -> bool {
+    let mut i: usize = 0;
+    while i < row.len() {
+        if row[i] != 0 {
+            return false;
+        }
+        i += 1;
+    }
+    true
 }
