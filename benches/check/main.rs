@@ -35,10 +35,9 @@ fn ours(m: &Mesh) -> u64 {
     }
 }
 
-/// Next, prev, face and origin of a half-edge.
-fn half(h: &[u32], e: u32) -> [u32; 4] {
-    let i = 4 * e as usize;
-    [h[i], h[i + 1], h[i + 2], h[i + 3]]
+/// Next, prev, face and origin of a half-edge, with one test of the index.
+fn half(h: &[[u32; 4]], e: u32) -> [u32; 4] {
+    h[e as usize]
 }
 
 fn refused(number: u64, place: u64) -> u64 {
@@ -64,19 +63,30 @@ fn plain(m: &Mesh) -> u64 {
     if !rules(m) {
         return refused(4, 0);
     }
+    let h = m.halves.as_chunks().0;
     let at = |e: u32| {
-        let v = half(&m.halves, e)[3] as usize;
+        let v = half(h, e)[3] as usize;
         (m.positions[2 * v] as i64, m.positions[2 * v + 1] as i64)
     };
     for f in 1..m.faces {
         let a = m.stored[f as usize];
-        let b = half(&m.halves, a)[0];
-        let (p, q, r) = (at(a), at(b), at(half(&m.halves, b)[0]));
+        let b = half(h, a)[0];
+        let (p, q, r) = (at(a), at(b), at(half(h, b)[0]));
         if (q.0 - p.0) * (r.1 - p.1) - (q.1 - p.1) * (r.0 - p.0) <= 0 {
             return refused(5, f as u64);
         }
     }
     0
+}
+
+/// How many steps lead from a back to a.
+fn walk(a: u32, step: impl Fn(u32) -> u32) -> u64 {
+    let (mut e, mut k) = (step(a), 1);
+    while e != a {
+        e = step(e);
+        k += 1;
+    }
+    k
 }
 
 fn rules(m: &Mesh) -> bool {
@@ -85,7 +95,7 @@ fn rules(m: &Mesh) -> bool {
         return false;
     }
     let ends = 2 * m.edges;
-    let h = &m.halves[..];
+    let h = m.halves.as_chunks().0;
     for e in 0..ends {
         let [next, prev, face, origin] = half(h, e);
         if next >= ends || prev >= ends || face >= m.faces || origin >= m.vertices {
@@ -96,20 +106,13 @@ fn rules(m: &Mesh) -> bool {
             return false;
         }
     }
-    let walk = |a: u32, step: &dyn Fn(u32) -> u32| {
-        let (mut e, mut k) = (step(a), 1u64);
-        while e != a {
-            e = step(e);
-            k += 1;
-        }
-        k
-    };
     let next = |e: u32| half(h, e)[0];
+    let turn = |e: u32| half(h, e)[1] ^ 1;
     let outer = m.stored[0];
     if outer >= ends || half(h, outer)[2] != 0 || next(outer) == outer || next(next(outer)) == outer {
         return false;
     }
-    if walk(outer, &next) + 3 * f != 2 * e + 3 {
+    if walk(outer, next) + 3 * f != 2 * e + 3 {
         return false;
     }
     for f in 1..m.faces {
@@ -124,12 +127,7 @@ fn rules(m: &Mesh) -> bool {
         if a >= ends || half(h, a)[3] != v {
             return false;
         }
-        let (mut e, mut k) = (half(h, a)[1] ^ 1, 1u64);
-        while e != a {
-            e = half(h, e)[1] ^ 1;
-            k += 1;
-        }
-        total += k;
+        total += walk(a, turn);
     }
     total == 2 * e
 }

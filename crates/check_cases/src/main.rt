@@ -31,6 +31,10 @@ fn unread(at: usize) -> Answer {
     }
 }
 
+fn all(a: bool, b: bool, c: bool, d: bool, e: bool) -> bool {
+    a && b && c && d && e
+}
+
 // What `check` answers on the mesh at a place.
 fn answer_of(text: &[u8], at: usize) -> Answer {
     let mut positions = [0i32; SHORT_ROW];
@@ -42,7 +46,7 @@ fn answer_of(text: &[u8], at: usize) -> Answer {
     let o = test_mesh::read_words(text, p.at, b'o', &mut outs);
     let h = test_mesh::read_words(text, o.at, b'h', &mut halves);
     let f = test_mesh::read_words(text, h.at, b'f', &mut faces);
-    if !(m.is_whole && p.is_whole && o.is_whole && h.is_whole && f.is_whole) {
+    if !all(m.is_whole, p.is_whole, o.is_whole, h.is_whole, f.is_whole) {
         return unread(f.at);
     }
     let pn = p.length;

@@ -1,36 +1,26 @@
 -- The first entries of the pending list, and the loop from there. Assumes nothing.
 use mathlib.Core.Bool.{false}
-use mathlib.Core.List.{List, [], _∷_}
+use mathlib.Core.List.{List, []}
 use mathlib.Core.Path.{_≡_, subst}
-use Prim.Native.Nat.{ℕ, _<_, _≤_}
+use Prim.Native.Nat.{ℕ, _≤_}
 use native.Mathlib.Omega.{arith}
 use lib.IntN.{ℤ}
 use lib.ListN.{length}
 use Rattle.mesh.specs.declared.Counts.{Counts}
-use Rattle.mesh.specs.Mesh.{In}
 use Rattle.dcel.specs.Rows.{linksOf, positionOf}
 use Rattle.flip_count.specs.declared.FlipCount.{FlipCount}
 use Rattle.flip_count.specs.FlipCount.{flipCountOf}
 use Rattle.pending.specs.Pending.{pendingOf, Holds}
 use Rattle.pending.specs.PendingLaws.{holds, holds-fits}
 use Rattle.legalize.specs.declared.Entry.{Entry}
-use Rattle.legalize.specs.declared.Entry.the-variants.{HalfEdge, Edge}
 use Rattle.legalize.specs.declared.Legalized.{Legalized}
-use Rattle.legalize.specs.Legalize.{edgeOf, legalize}
+use Rattle.legalize.specs.Legalize.{legalize}
 use Rattle.legalize.specs.Turns.{EntriesIn}
 use Rattle.legalize.specs.LegalizeRows.{LegalizeReady, TurnReady, stateOf, Leaves}
 
 pub empty : (row : List ℕ) → Holds row 0 []
 unfolding pendingOf
 empty row = holds row 0 (omega arith)
-
-pub half-edge-in : (C : Counts) (e : ℕ) → In C e → EntriesIn C HalfEdge (e ∷ [])
-unfolding edgeOf
-half-edge-in C e l = (omega arith, tt)
-
-pub edges-in : (C : Counts) (u v : ℕ) → u < C .edges → v < C .edges → EntriesIn C Edge (v ∷ u ∷ [])
-unfolding edgeOf
-edges-in C u v h k = (k, (h, tt))
 
 module _ (k : Entry) {C : Counts} {q : List ℤ} {o h a row : List ℕ} {c : FlipCount} (M : LegalizeReady C q o h a row c)
     {row′ : List ℕ} {n : ℕ} {l : List ℕ} (H : Holds row′ n l) (same : length row′ ≡ length row) (few : length l ≤ 8) (E : EntriesIn C k l) where

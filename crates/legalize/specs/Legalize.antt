@@ -26,8 +26,8 @@ pub record Legalizing : Type 0 where
   pub full : Bool
 
 -- the edge that an entry of the pending list has tested
--- `legalize_edge` has a half-edge e, and asks whether its far vertex lies inside the circle of the triangle of its reverse: the same determinant from the
--- other side (`circle-rev` in the mesh's `HeightLaws`)
+-- `legalize_edge` has a half-edge, and asks whether its far vertex lies inside the circle of the triangle of its reverse: the same determinant from the other
+-- side (`edge-test` in `HullCase`)
 unfoldable pub edgeOf : Entry → ℕ → ℕ
 edgeOf HalfEdge e = e / 2
 edgeOf Edge u = u
@@ -50,7 +50,7 @@ flipped room k s x l =
     (record { links = s .links; pending = l; flips = s .flips; full = true })
 
 -- one entry is taken from the list and tested. An edge of the boundary breaks no circle and is not flipped
--- 01: "If it flips for any reason but the circle test, that flip is left out and recorded." There is no such flip (`no-flip-left-out` in `LegalizeLaws`)
+-- 01: "If it flips for any reason but the circle test, that flip is left out and recorded." There is no such flip (`no-flip-left-out` in `HullCase`)
 unfoldable pub popped : ℕ → Entry → (ℕ → Point) → Legalizing → List ℕ → Legalizing
 popped room k p s [] = s
 popped room k p s (x ∷ l) =

@@ -3,4 +3,5 @@ pub mod Turns
 pub mod LegalizeLaws
 pub mod HullCase
 pub mod LegalizeRows
+pub mod ReadyAgain
 pub mod Examples

@@ -75,6 +75,15 @@ ended s e q = go (s .full) (s .pending) e q
 abbrev pub EntriesIn : Counts → Entry → List ℕ → Type 0
 EntriesIn C k l = All (λ x. edgeOf k x < C .edges) l
 
+-- where a call begins
+pub half-edge-in : (C : Counts) (e : ℕ) → In C e → EntriesIn C HalfEdge (e ∷ [])
+unfolding edgeOf
+half-edge-in C e l = (omega arith, tt)
+
+pub edges-in : (C : Counts) (u v : ℕ) → u < C .edges → v < C .edges → EntriesIn C Edge (v ∷ u ∷ [])
+unfolding edgeOf
+edges-in C u v h k = (k, (h, tt))
+
 module _ {C : Counts} {L : Links} (W : Wf C L) where
   half-below : {d : ℕ} → In C d → d / 2 < C .edges
   half-below l = omega arith

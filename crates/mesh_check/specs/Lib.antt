@@ -2,3 +2,4 @@ pub mod Check
 pub mod Readable
 pub mod CheckLaws
 pub mod Accepted
+pub mod CheckExamples

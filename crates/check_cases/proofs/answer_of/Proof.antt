@@ -32,6 +32,9 @@ slice-aggregate-read-words-3 c = search needs
 read-words-requires-3 : tie.Need-read-words-requires-3
 read-words-requires-3 c κs = search needs
 
+all-requires : tie.Need-all-requires
+all-requires c κs = search needs
+
 unread-requires : tie.Need-unread-requires
 unread-requires c κs = search needs
 
@@ -42,25 +45,25 @@ array-share-prefix-positions : tie.Need-array-share-prefix-positions
 array-share-prefix-positions c = search needs
 
 slice-aggregate-check : tie.Need-slice-aggregate-check
-slice-aggregate-check c = sym (length-take-le _ _ (c .before .before .before .before .before .before .before .before .before .before .before .before .before .before .before .before .before .read-coordinates .ensures))
+slice-aggregate-check c = sym (length-take-le _ _ (c .before .before .before .before .before .before .before .before .before .before .before .before .before .read-coordinates .ensures))
 
 array-share-prefix-outs : tie.Need-array-share-prefix-outs
 array-share-prefix-outs c = search needs
 
 slice-aggregate-check-2 : tie.Need-slice-aggregate-check-2
-slice-aggregate-check-2 c = sym (length-take-le _ _ (c .before .before .before .before .before .before .before .before .before .before .before .before .before .before .before .read-words .ensures))
+slice-aggregate-check-2 c = sym (length-take-le _ _ (c .before .before .before .before .before .before .before .before .before .before .before .read-words .ensures))
 
 array-share-prefix-halves : tie.Need-array-share-prefix-halves
 array-share-prefix-halves c = search needs
 
 slice-aggregate-check-3 : tie.Need-slice-aggregate-check-3
-slice-aggregate-check-3 c = sym (length-take-le _ _ (c .before .before .before .before .before .before .before .before .before .before .before .before .before .read-words2 .ensures))
+slice-aggregate-check-3 c = sym (length-take-le _ _ (c .before .before .before .before .before .before .before .before .before .read-words2 .ensures))
 
 array-share-prefix-faces : tie.Need-array-share-prefix-faces
 array-share-prefix-faces c = search needs
 
 slice-aggregate-check-4 : tie.Need-slice-aggregate-check-4
-slice-aggregate-check-4 c = sym (length-take-le _ _ (c .before .before .before .before .before .before .before .before .before .before .before .read-words3 .ensures))
+slice-aggregate-check-4 c = sym (length-take-le _ _ (c .before .before .before .before .before .before .before .read-words3 .ensures))
 
 check-requires : tie.Need-check-requires
 check-requires c κs = search needs
@@ -90,6 +93,7 @@ answer-of-spec =
     read-words-requires-2
     slice-aggregate-read-words-3
     read-words-requires-3
+    all-requires
     unread-requires
     returns
     array-share-prefix-positions

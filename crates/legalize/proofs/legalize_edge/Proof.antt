@@ -3,7 +3,8 @@ use mathlib.Core.List.{[]}
 use mathlib.Core.Path.{_∙_}
 use native.Mathlib.Omega.{arith}
 use Rattle.legalize.specs.declared.Entry.the-variants.{HalfEdge}
-use Rattle.legalize.proofs.Starting.{empty, half-edge-in, start-ready, start-leaves}
+use Rattle.legalize.specs.Turns.{half-edge-in}
+use Rattle.legalize.proofs.Starting.{empty, start-ready, start-leaves}
 use borrow.Author.Needs.{needs}
 use Rattle.legalize.proofs.legalize_edge.Statement.{statement}
 use Rattle.legalize.proofs.legalize_edge.Tie as tie

@@ -3,7 +3,8 @@ use mathlib.Core.Path.{_∙_}
 use mathlib.Core.List.{[]}
 use native.Mathlib.Omega.{arith}
 use Rattle.legalize.specs.declared.Entry.the-variants.{Edge}
-use Rattle.legalize.proofs.Starting.{empty, edges-in, start-ready, start-leaves}
+use Rattle.legalize.specs.Turns.{edges-in}
+use Rattle.legalize.proofs.Starting.{empty, start-ready, start-leaves}
 use borrow.Author.Needs.{needs}
 use Rattle.legalize.proofs.legalize_edges_after_removal.Statement.{statement}
 use Rattle.legalize.proofs.legalize_edges_after_removal.Tie as tie

@@ -1,0 +1,8 @@
+-- `Boundary` and `Held` have what the contracts cite, the others the laws.
+pub mod Boundary
+pub mod Held
+pub mod Strict
+pub mod Find
+pub mod Build
+pub mod Ready
+pub mod Insert

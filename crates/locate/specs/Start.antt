@@ -1,0 +1,150 @@
+-- Rows 1 to 7 of the table, as they are met: the tests on the rows are the table's (`ring-checked`), and a call that they let pass has a good mesh in its rows, whose ring about the centre is
+-- strict (`start-accepts`). Assumes nothing.
+use mathlib.Core.Path.{_≡_, refl, sym, _∙_, ap, ap₂, subst}
+use mathlib.Core.Bool.{Bool, true, false, not, cond, _||_}
+use mathlib.Core.List.{List}
+use Prim.Native.Nat.{ℕ, _+_, _-_, _*_, _<_, _≤_, _^_}
+use native.Mathlib.Omega.{arith}
+use lib.Dec.{T, ltb, T-not}
+use lib.Ieee.{Float}
+use lib.IntN.{ℤ}
+use lib.ListN.{length}
+use borrow.Author.Tests.{ltb-false}
+use Rattle.dcel.specs.Held.{Held}
+use Rattle.dcel.specs.Rows.{rowOf, linksOf, positionOf}
+use Rattle.hull.specs.Boundary.{edgeAt}
+use Rattle.hull.specs.Ready.{boundary-rows, boundary-closed, strict-test, center-test, size-is, size-asks}
+use Rattle.math.specs.declared.Point.{Point}
+use Rattle.mesh.specs.declared.Counts.{Counts}
+use Rattle.mesh.specs.Mesh.{Links}
+use Rattle.mesh.specs.Area.{boundaryLength}
+use Rattle.mesh.specs.BoundaryLaws.{next-inverse, first<, boundary-period}
+use Rattle.mesh.specs.CountsLaws.{count-edges, faces-fit, halves-fit}
+use Rattle.mesh_check.specs.declared.Checked.{Checked}
+use Rattle.mesh_check.specs.declared.Checked.the-variants.{Accepted, Refused}
+use Rattle.mesh_check.specs.declared.Refusal.{Refusal}
+use Rattle.mesh_check.specs.Accepted.{AcceptedWith, with-accepts, or-false}
+use Rattle.mesh_check.specs.Check.{refused, checkWith, vertexCount}
+use Rattle.ring.specs.Ring.{isStrictRing}
+use Rattle.ring.specs.Center.{turnsAbout, refusesCenter, refusesRing}
+use Rattle.sums.specs.Bit.{from-false, sure}
+use Rattle.sums.specs.Iterate.{reach-on}
+use Rattle.locate.specs.Locate.{andThen, ringRowsShort, checkRing, checkStart}
+use Rattle.locate.specs.Rows.{ClosedBoundary, ringChecked}
+
+-- ---- one row after the other
+pub then-next : {first : Checked} (next : Checked) → first ≡ Accepted → andThen first next ≡ next
+unfolding andThen
+then-next next e = ap (λ (c : Checked). andThen c next) e
+
+pub then-refused : {first : Checked} {r : Refusal} (next : Checked) → first ≡ Refused r → andThen first next ≡ Refused r
+unfolding andThen
+then-refused next e = ap (λ (c : Checked). andThen c next) e
+
+-- both let pass
+pub then-accepts : (first next : Checked) → andThen first next ≡ Accepted → (first ≡ Accepted) × (next ≡ Accepted)
+unfolding andThen
+then-accepts Accepted next e = (refl, e)
+then-accepts (Refused r) next e = absurd (let z : _≡_ {A = ℕ} 0 1 = cc in omega arith)
+
+-- ---- the ring's rows
+pub record RingRoom (n nodes freed buckets : ℕ) : Type 0 where
+  pub nodes-fit : n + 1 ≤ nodes
+  pub freed-fit : n + 1 ≤ freed
+  pub sixteen : 16 ≤ buckets
+  pub buckets-fit : n ≤ buckets
+
+pub ring-room : (n nodes freed buckets : ℕ) → ringRowsShort n nodes freed buckets ≡ false → RingRoom n nodes freed buckets
+unfolding ringRowsShort
+ring-room n nodes freed buckets e =
+    let x = or-false (ltb nodes (n + 1)) (ltb freed (n + 1) || (ltb buckets 16 || ltb buckets n)) e in
+    let y = or-false (ltb freed (n + 1)) (ltb buckets 16 || ltb buckets n) (x .1) in
+    let z = or-false (ltb buckets 16) (ltb buckets n) (y .1) in
+    record { nodes-fit = ltb-false nodes (n + 1) (x .0); freed-fit = ltb-false freed (n + 1) (y .0); sixteen = ltb-false buckets 16 (z .0); buckets-fit = ltb-false buckets n (z .1) }
+
+-- ---- rows 6 and 7
+-- the rows of an accepted mesh hold it
+pub accepted-held : {points : List ℤ} {C : Counts} {p : List ℤ} {o h a : List ℕ} → AcceptedWith points C p o h a → Held C o h a
+unfolding vertexCount
+accepted-held {points} {C} {p} {o} {h} {a} A =
+    let W = A .good .wf in
+    record {
+      room = record {
+        outs = let r = A .rows .outs in omega arith;
+        halves = let r = A .rows .halves in let f = halves-fit W {N = C .vertices} (omega arith) in omega arith;
+        faces = let r = A .rows .faces in let f = faces-fit W {N = C .vertices} (omega arith) in omega arith;
+        small = let m = A .most in let e = count-edges W in omega arith;
+      };
+      rules = W;
+    }
+
+pub accepted-placed : {points : List ℤ} {C : Counts} {p : List ℤ} {o h a : List ℕ} → AcceptedWith points C p o h a → 2 * C .vertices ≤ length p
+unfolding vertexCount
+accepted-placed A = let r = A .rows .positions in omega arith
+
+module _ {C : Counts} (p : List ℤ) {o h a : List ℕ} (M : Held C o h a) (placed : 2 * C .vertices ≤ length p) {start size : ℕ} (s : start ≡ rowOf a 0) (z : size ≡ boundaryLength C (linksOf o h a)) where
+  pub closed-boundary : ClosedBoundary p h start size
+  unfolding linksOf
+  closed-boundary = subst (λ (x : ℕ). ClosedBoundary p h x size) (sym s) (record { rows = boundary-rows M p placed; closed = boundary-closed M z; round = λ k. meets k })
+    where
+      meets : (k : ℕ) → (j : ℕ) × (j < size) × (edgeAt h (rowOf a 0) j ≡ edgeAt h (rowOf a 0) k)
+      meets k = let r = reach-on (next-inverse (M .rules)) (first< (M .rules)) (boundary-period (M .rules)) (k, refl) in (r .0, (let l = r .1 in omega arith), r .2)
+
+  pub ring-checked : (cx cy : Float) → ringChecked p h cx cy start size ≡ checkRing C (linksOf o h a) (positionOf p) cx cy
+  unfolding ringChecked checkRing refusesRing
+  ring-checked cx cy =
+      ap (λ (x : ℕ). ringChecked p h cx cy x size) s
+      ∙ ap₂ (λ (t u : Bool). cond t (refused 6 0) (cond (not u) (refused 7 0) Accepted)) (center-test M p placed cx cy z) (strict-test M p placed cx cy z)
+
+-- ---- what is met
+module _ (C : Counts) (L : Links) (p : ℕ → Point) (cx cy : Float) where
+  pub ring-accepts : checkRing C L p cx cy ≡ Accepted → (refusesCenter C L p cx cy ≡ false) × (refusesRing C L p cx cy ≡ false)
+  unfolding checkRing
+  ring-accepts e = go (refusesCenter C L p cx cy) (refusesRing C L p cx cy) e
+    where
+      go : (t u : Bool) → cond t (refused 6 0) (cond u (refused 7 0) Accepted) ≡ Accepted → (t ≡ false) × (u ≡ false)
+      go true u e = absurd (let z : _≡_ {A = ℕ} 0 1 = cc in omega arith)
+      go false true e = absurd (let z : _≡_ {A = ℕ} 0 1 = cc in omega arith)
+      go false false e = (refl, refl)
+
+-- a good mesh, long rows, and a strict ring about a centre that no boundary vertex equals
+pub record AcceptedStart (points : List ℤ) (C : Counts) (p : List ℤ) (o h a : List ℕ) (cx cy : Float) : Type 0 where
+  pub mesh : AcceptedWith points C p o h a
+  pub center : T (not (refusesCenter C (linksOf o h a) (positionOf p) cx cy))
+  pub strict : T (isStrictRing C (linksOf o h a) (turnsAbout cx cy (positionOf p)))
+
+pub start-accepts : (points : List ℤ) (short : Bool) (C : Counts) (p : List ℤ) (o h a : List ℕ) (cx cy : Float) → checkStart points short C p o h a cx cy ≡ Accepted → AcceptedStart points C p o h a cx cy × (short ≡ false)
+unfolding checkStart refusesRing
+start-accepts points short C p o h a cx cy e =
+    let t = then-accepts (checkWith points short C p o h a) (checkRing C (linksOf o h a) (positionOf p) cx cy) e in
+    let m = with-accepts {points = points} {short = short} {C = C} {p = p} {o = o} {h = h} {a = a} (t .0) in
+    let r = ring-accepts C (linksOf o h a) (positionOf p) cx cy (t .1) in
+    let S = isStrictRing C (linksOf o h a) (turnsAbout cx cy (positionOf p)) in
+    (record { mesh = m .0; center = from-false (r .0); strict = sure S (T-not (not S) (from-false (r .1))) }, m .1)
+
+-- the table goes on where rows 1 to 5 let pass, and stops where they do not
+module _ (points : List ℤ) (short : Bool) (C : Counts) (p : List ℤ) (o h a : List ℕ) (e : checkWith points short C p o h a ≡ Accepted) where
+  pub start-mesh : AcceptedWith points C p o h a
+  start-mesh = with-accepts {points = points} {short = short} {C = C} {p = p} {o = o} {h = h} {a = a} e .0
+
+  pub start-face : 0 < length a
+  start-face = let r = accepted-held start-mesh in let f = r .rules .some in let g = r .room .faces in omega arith
+
+  pub start-size : (2 * C .edges < 2 ^ 32) × (1 ≤ C .faces) × (3 * (C .faces - 1) ≤ 2 * C .edges)
+  start-size = size-asks (accepted-held start-mesh)
+
+  pub start-boundary : {start size : ℕ} → start ≡ rowOf a 0 → size ≡ 2 * C .edges - 3 * (C .faces - 1) → ClosedBoundary p h start size
+  start-boundary s z = let M = accepted-held start-mesh in closed-boundary p M (accepted-placed start-mesh) s (z ∙ size-is M)
+
+module _ (points : List ℤ) (short : Bool) (C : Counts) (p : List ℤ) (o h a : List ℕ) (cx cy : Float) where
+  pub start-refused : {r : Refusal} → checkWith points short C p o h a ≡ Refused r → Refused r ≡ checkStart points short C p o h a cx cy
+  unfolding checkStart
+  start-refused e = sym (then-refused (checkRing C (linksOf o h a) (positionOf p) cx cy) e)
+
+  pub start-goes-on : checkWith points short C p o h a ≡ Accepted → {start size : ℕ} → start ≡ rowOf a 0 → size ≡ 2 * C .edges - 3 * (C .faces - 1) → {r : Checked} → r ≡ ringChecked p h cx cy start size
+      → r ≡ checkStart points short C p o h a cx cy
+  unfolding checkStart
+  start-goes-on e s z q =
+      let A = start-mesh points short C p o h a e in
+      let M = accepted-held A in
+      q ∙ ring-checked p M (accepted-placed A) s (z ∙ size-is M) cx cy ∙ sym (then-next (checkRing C (linksOf o h a) (positionOf p) cx cy) e)

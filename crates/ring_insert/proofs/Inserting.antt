@@ -1,0 +1,183 @@
+-- What the parts of an insert ask, from what the insert asks and what the parts before have left. Assumes nothing.
+use Prim.Native.Nat.{ℕ, suc, _+_, _-_, _/_, _<_, _≤_, _^_}
+use native.Mathlib.Decide.{ℕ-discrete, decLt}
+use native.Mathlib.Nat.{mod-lt}
+use native.Mathlib.Omega.{arith}
+use mathlib.Core.Path.{_≡_, sym, _∙_, ap, subst}
+use mathlib.Core.Logic.{_≢_}
+use mathlib.Core.Bool.{Bool, true, false}
+use mathlib.Core.List.{List}
+use lib.Dec.{T, eqb}
+use lib.Ieee.{Float}
+use lib.ListN.{length, set}
+use Rattle.sums.specs.Iterate.{iter}
+use Rattle.angle.specs.Angle.{turns}
+use Rattle.segment.specs.Arc.{holds}
+use Rattle.segment.specs.Bucket.{Buckets, floorOf, width}
+use Rattle.segment.specs.Laws.{bucket-pos}
+use Rattle.dcel.specs.Rows.{rowOf}
+use Rattle.ring.specs.Ring.{proper, atEnds}
+use Rattle.ring.specs.Segments.{holds-first, proper→}
+use Rattle.ring.specs.Sound.{tile-sole}
+use Rattle.ring.specs.Insert.{On, all-proper}
+use Rattle.ring.specs.Free.{Taken}
+use Rattle.ring.specs.Hull.{on-from}
+use Rattle.ring_rows.specs.declared.Node.{Node}
+use Rattle.ring_rows.specs.declared.Hull.{Hull}
+use Rattle.ring_rows.specs.declared.Found.{Found}
+use Rattle.ring_rows.specs.Rows.{nodesOf, angleOf, leftOf, rightOf, sizeOf, ValidNode, ValidNodes, Got}
+use Rattle.ring_rows.specs.Laws.{ring-from, walk-below}
+use Rattle.ring_insert.specs.declared.Choice.{Choice}
+use Rattle.ring_insert.specs.Insert.{ToRelease, ReleasedTo, ToChoose, Chosen, ToPlace, ToInsert, placeNodes}
+use Rattle.ring_insert.specs.Placed.{valid-up, placed-valid}
+use Rattle.ring_insert.proofs.Freeing.{goes-names, stays-names}
+
+-- ---- `choose`
+module _ {nodes : List (List ℕ)} {old mid : List ℕ} {first right top₁ n : ℕ} {a : Float} (G : ToRelease nodes old n first a) (R : ReleasedTo (nodesOf nodes) old mid n first (turns a) right top₁) where
+  pub passed-most : R .passed ≤ G .steps
+  passed-most = go (decLt (G .steps) (R .passed))
+    where
+      go : Dec (G .steps < R .passed) → R .passed ≤ G .steps
+      go (yes l) = absurd (R .least (G .steps) (G .some) l (G .there))
+      go (no l) = omega arith
+
+  pub top-less : top₁ < n + G .size
+  top-less = let a = R .stack in let b = R .some in let c = passed-most in let d = G .less in omega arith
+
+pub chosen-goes : {t : ℕ → Node} {old mid : List ℕ} {h : Hull} {left : ℕ} {g : Bool} {x right top₁ v top₂ len₁ : ℕ} {node : Node} → ReleasedTo t old mid (h .freed) left x right top₁ → Taken (rowOf mid) top₁ (h .nodes) v top₂ len₁ → g ≡ true
+    → top₂ < length mid → node ≡ t left → Chosen t old (set mid top₂ left) h left g x (record { right = right; node = v; before = node .left; start = v; freed = top₂ + 1; nodes = len₁ })
+chosen-goes {t} {old} {mid} {h} {left} {g} {x} {right} {top₁} {v} {top₂} R X y l e = record {
+  mid = mid;
+  top₁ = top₁;
+  top₂ = top₂;
+  released = R;
+  taken = X;
+  names = goes-names (leftOf t) mid y l (ap (λ (n : Node). n .left) e);
+}
+
+pub chosen-stays : {t : ℕ → Node} {old mid : List ℕ} {h : Hull} {left : ℕ} {g : Bool} {x right top₁ v top₂ len₁ : ℕ} → ReleasedTo t old mid (h .freed) left x right top₁ → Taken (rowOf mid) top₁ (h .nodes) v top₂ len₁ → g ≡ false
+    → Chosen t old mid h left g x (record { right = right; node = v; before = left; start = left; freed = top₂; nodes = len₁ })
+chosen-stays {t} {old} {mid} {h} {left} {g} {x} {right} {top₁} {v} {top₂} R X y = record { mid = mid; top₁ = top₁; top₂ = top₂; released = R; taken = X; names = stays-names (leftOf t) (rowOf mid) y }
+
+pub chosen-as : {t : ℕ → Node} {old new : List ℕ} {h : Hull} {left x : ℕ} {g g′ : Bool} {c : Choice} → g ≡ g′ → Chosen t old new h left g x c → Chosen t old new h left g′ x c
+chosen-as {t} {old} {new} {h} {left} {x} {g} {g′} {c} e D = subst (λ (b : Bool). Chosen t old new h left b x c) e D
+
+-- ---- `insert`
+-- the bucket of an angle is one of theirs
+pub floor-below : (k : ℕ) {n : ℕ} → Buckets n → floorOf k n < n
+floor-below k {n} B = mod-lt (k / width n) (bucket-pos n B)
+
+module _ {nodes : List (List ℕ)} {freed buckets : List ℕ} {h : Hull} {al q ar : Float} (I : ToInsert nodes freed buckets h al q ar) where
+  -- the node of the left angle holds it
+  own : T (atEnds (holds (turns al)) (rightOf (nodesOf nodes)) (angleOf (nodesOf nodes)) (iter (I .left) (rightOf (nodesOf nodes)) (rowOf buckets 0)))
+  own =
+      let t = nodesOf nodes in
+      let s = iter (I .left) (rightOf t) (rowOf buckets 0) in
+      subst (λ (x : ℕ). T (holds x (angleOf t s) (angleOf t (rightOf t s)))) (I .left-angle)
+      (holds-first (angleOf t s) (angleOf t (rightOf t s)) (proper→ (angleOf t s) (angleOf t (rightOf t s)) (all-proper (atEnds proper (rightOf t) (angleOf t)) (rightOf t) (sizeOf h) (rowOf buckets 0) (I .rows .ring .all-proper) (I .left) (I .left-in))))
+
+  module _ {i : ℕ} (l : i < h .buckets) {r : Found} (G : Got (nodesOf nodes) (sizeOf h) (rowOf buckets i) (turns al) r) where
+    pub found-on : On (rightOf (nodesOf nodes)) (sizeOf h) (rowOf buckets 0) (r .node)
+    found-on =
+        let b = I .rows .filled i l .0 in
+        on-from {right = rightOf (nodesOf nodes)} {m = sizeOf h} {s = rowOf buckets 0} (r .node) (I .rows .ring .sound .closed) (b .0)
+        (r .passed, G .first .below, ap (iter (r .passed) (rightOf (nodesOf nodes))) (b .2) ∙ sym (G .node))
+
+    -- it is the one that is found
+    found-is : r .node ≡ iter (I .left) (rightOf (nodesOf nodes)) (rowOf buckets 0)
+    found-is =
+        let o = found-on in
+        let t = nodesOf nodes in
+        let w = subst (λ (y : ℕ). T (atEnds (holds (turns al)) (rightOf t) (angleOf t) y)) (sym (G .node) ∙ sym (o .2)) (G .first .passes) in
+        sym (o .2) ∙ ap (λ (k : ℕ). iter k (rightOf t) (rowOf buckets 0)) (tile-sole (I .rows .ring .sound) (turns al) (o .0) (I .left) (o .1) (I .left-in) w own)
+
+    pub found-angle : angleOf (nodesOf nodes) (r .node) ≡ turns al
+    found-angle = ap (angleOf (nodesOf nodes)) found-is ∙ I .left-angle
+
+    pub to-choose : ToChoose nodes freed h (r .node) ar
+    to-choose = record {
+      release = record {
+        len = h .nodes;
+        size = sizeOf h;
+        steps = I .steps;
+        ring = ring-from (I .rows .ring) (r .node) found-on;
+        some = I .some;
+        less = I .less;
+        there = ap (λ (y : ℕ). angleOf (nodesOf nodes) (iter (I .steps) (rightOf (nodesOf nodes)) y)) found-is ∙ I .right-angle;
+        is-angle = I .ar-angle;
+        node-room = I .rows .node-room;
+        freed-room = let a = I .freed-most in let b = I .len-most in let c = I .freed-room in omega arith;
+        small = let a = I .freed-most in let b = I .len-most in let c = I .small in omega arith;
+      };
+      small = let b = I .len-most in let c = I .small in omega arith;
+    }
+
+    -- the nodes that are chosen
+    module _ {new : List ℕ} {g : Bool} (e : g ≡ eqb (turns al) (turns q)) {c : Choice} (D : Chosen (nodesOf nodes) freed new h (r .node) g (turns ar) c) where
+      valid : (j : ℕ) → j < h .nodes → ValidNode (nodesOf nodes j) (h .nodes)
+      valid = I .rows .ring .valid
+
+      left-in : r .node < h .nodes
+      unfolding to-choose
+      left-in = to-choose .release .ring .first
+
+      right-in : c .right < h .nodes
+      right-in = subst (λ (y : ℕ). y < h .nodes) (sym (D .released .there)) (walk-below valid left-in (D .released .passed))
+
+      -- what is on the stack is in use
+      stacked : (j : ℕ) → j < D .top₁ → rowOf (D .mid) j < h .nodes
+      stacked j u = go (decLt j (h .freed))
+        where
+          go : Dec (j < h .freed) → rowOf (D .mid) j < h .nodes
+          go (yes w) = subst (λ (y : ℕ). y < h .nodes) (sym (D .released .pushed .old j w)) (I .free .below j w)
+          go (no w) =
+              let d = j - h .freed in
+              let z : h .freed + d ≡ j = omega arith in
+              subst (λ (y : ℕ). y < h .nodes) (sym (D .released .pushed .new d (let a = D .released .stack in let b = D .released .some in omega arith)) ∙ ap (rowOf (D .mid)) z) (walk-below valid left-in (suc d))
+
+      -- the new number of nodes in use
+      grown : (h .nodes ≤ c .nodes) × (c .node < c .nodes) × (c .nodes ≤ suc (I .most)) × ((j : ℕ) → j < c .nodes → j ≢ c .node → j < h .nodes)
+      grown = go (D .taken)
+        where
+          go : {v n len₁ : ℕ} → Taken (rowOf (D .mid)) (D .top₁) (h .nodes) v n len₁ → (h .nodes ≤ len₁) × (v < len₁) × (len₁ ≤ suc (I .most)) × ((j : ℕ) → j < len₁ → j ≢ v → j < h .nodes)
+          go (Taken.top {i = k} z) = (omega arith, stacked k (omega arith), I .len-most, λ j u d. u)
+          go (Taken.next-one z) = (
+            omega arith,
+            omega arith,
+            (let a = D .released .stack in let b = D .released .some in let s = I .size-most in let f = I .freed-most in omega arith),
+            λ j u d. omega arith,
+          )
+
+      before-in : c .before < h .nodes
+      before-in = go (ℕ-discrete (turns al) (turns q))
+        where
+          go : Dec (turns al ≡ turns q) → c .before < h .nodes
+          go (yes z) = subst (λ (y : ℕ). y < h .nodes) (sym (D .names (turns al) (turns q) e .u-left z)) (valid (r .node) left-in .left)
+          go (no z) = subst (λ (y : ℕ). y < h .nodes) (sym (D .names (turns al) (turns q) e .u-stays z)) left-in
+
+      start-in : c .start < c .nodes
+      start-in = go (ℕ-discrete (turns al) (turns q))
+        where
+          go : Dec (turns al ≡ turns q) → c .start < c .nodes
+          go (yes z) = subst (λ (y : ℕ). y < c .nodes) (sym (D .names (turns al) (turns q) e .s-new z)) (grown .1)
+          go (no z) = subst (λ (y : ℕ). y < c .nodes) (sym (D .names (turns al) (turns q) e .s-stays z)) (let a = left-in in let b = grown .0 in omega arith)
+
+      pub to-place : ToPlace nodes c q
+      to-place = record {
+        len = c .nodes;
+        others = λ j u d. valid-up (grown .0) (valid j (grown .3 j u d));
+        node-in = grown .1;
+        before-in = let a = before-in in let b = grown .0 in omega arith;
+        right-in = let a = right-in in let b = grown .0 in omega arith;
+        start-in = start-in;
+        is-angle = I .q-angle;
+        room = let a = grown .2 in let b = I .node-room in omega arith;
+        small = let a = grown .2 in let b = I .small in omega arith;
+      }
+
+      pub new-valid : {t′ : ℕ → Node} {l p : ℕ} → l < 2 ^ 32 → p < 2 ^ 32 → t′ ≡ placeNodes (nodesOf nodes) c l p q → ValidNodes t′ (c .nodes)
+      unfolding to-place
+      new-valid u w z = let P = to-place in placed-valid c (P .others) (P .is-angle) w u (P .before-in) (P .right-in) (P .start-in) (P .node-in) z
+
+      pub new-room : c .nodes ≤ length nodes
+      new-room = let a = grown .2 in let b = I .node-room in omega arith

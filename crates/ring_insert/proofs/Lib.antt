@@ -1,0 +1,5 @@
+-- What the functions' proofs cite beside the laws of specs/.
+pub mod Freeing
+pub mod Placing
+pub mod Deciding
+pub mod Inserting

@@ -1,0 +1,46 @@
+-- Laws of rings in rows, for the functions of this crate and of those above it. Assumes nothing.
+use Prim.Native.Nat.{ℕ, _-_, _<_, _^_}
+use native.Mathlib.Decide.{ℕ-discrete}
+use native.Mathlib.Omega.{arith}
+use mathlib.Core.Path.{_≡_, sym, _∙_, ap, subst, fun-ext}
+use mathlib.Core.List.{List}
+use Rattle.sums.specs.Iterate.{iter, iter-keeps}
+use Rattle.sums.specs.Put.{put, put-same, put-other}
+use Rattle.sums.specs.Tally.{tally-at}
+use Rattle.dcel.specs.Rows.{rowOf}
+use Rattle.ring.specs.Ring.{proper, atEnds}
+use Rattle.ring.specs.Sound.{sound-at}
+use Rattle.ring.specs.Insert.{On}
+use Rattle.ring_rows.specs.declared.Node.{Node}
+use Rattle.ring_rows.specs.declared.Hull.{Hull}
+use Rattle.ring_rows.specs.Rows.{Readable, ValidNode, ValidNodes, NodeRing, RingRows, nodesOf, angleOf, rightOf, sizeOf}
+
+pub readable : {n : Node} {len : ℕ} → ValidNode n len → len < 2 ^ 32 → Readable n
+readable n h = record { angle = n .angle; edge = n .edge; left = let a = n .left in omega arith; right = let a = n .right in omega arith }
+
+-- a walk to the right stays among the nodes in use
+pub walk-below : {t : ℕ → Node} {len s : ℕ} → ValidNodes t len → s < len → (k : ℕ) → iter k (rightOf t) s < len
+walk-below {t} {len} v l k = iter-keeps (λ x. x < len) (λ x m. v x m .right) k l
+
+-- the ring from any of its nodes
+pub ring-from : {t : ℕ → Node} {len size start : ℕ} → NodeRing t len size start → (x : ℕ) → On (rightOf t) size start x → NodeRing t len size x
+ring-from {t} {len} {size} {start} R x (k, l, z) = subst (NodeRing t len size) z (record {
+  sound = sound-at (R .sound) k;
+  all-proper = tally-at (atEnds proper (rightOf t) (angleOf t)) (rightOf t) size start (R .sound .closed) k ∙ R .all-proper;
+  valid = R .valid;
+  first = walk-below (R .valid) (R .first) k;
+  size-small = R .size-small;
+  len-small = R .len-small;
+})
+
+-- from a bucket's
+pub bucket-ring : {nodes : List (List ℕ)} {buckets : List ℕ} {h : Hull} → RingRows nodes buckets h → (i : ℕ) → i < h .buckets → NodeRing (nodesOf nodes) (h .nodes) (sizeOf h) (rowOf buckets i)
+bucket-ring {nodes} {buckets} {h} R i l = ring-from (R .ring) (rowOf buckets i) (R .filled i l .0)
+
+-- a field of a row with one node changed
+pub put-map : {A B : Type 0} (g : A → B) (f : ℕ → A) (a : ℕ) (v : A) → (λ x. g (put f a v x)) ≡ put (λ x. g (f x)) a (g v)
+put-map g f a v = fun-ext (λ x. at x (ℕ-discrete x a))
+  where
+    at : (x : ℕ) → Dec (x ≡ a) → g (put f a v x) ≡ put (λ y. g (f y)) a (g v) x
+    at x (yes e) = rw e (ap g (put-same f a v) ∙ sym (put-same (λ y. g (f y)) a (g v)))
+    at x (no n) = ap g (put-other f a v x n) ∙ sym (put-other (λ y. g (f y)) a (g v) x n)

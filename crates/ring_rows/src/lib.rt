@@ -1,0 +1,211 @@
+// The ring in the rows that the caller lends (bulk_load.rs, `Hull`, `Node`): a node is four numbers, its angle's bits, its edge, its left and its right node.
+// `load`, `store` and the three relinks are all that touches the row; everything else works with `Node` by value.
+ghost use mathlib.Core.Path.{_≡_};
+ghost use Prim.Native.Nat.{_<_, _≤_};
+ghost use lib.ListN.{length, replicate};
+ghost use lib.Dec.{T};
+ghost use Rattle.sums.specs.Put.{put};
+ghost use Rattle.angle.specs.Angle.{IsAngle, validAngle, turns};
+ghost use Rattle.segment.specs.Bucket.{floorOf, width};
+ghost use Rattle.ring.specs.Insert.{Bucketed};
+ghost use Rattle.dcel.specs.Rows.{rowOf};
+ghost use Rattle.ring_rows.specs.Rows.{nodesOf, Readable, withEdge, withLeft, withRight, RingRows, sizeOf, Got, Updated, Run, rightOf, angleOf, NodeBuckets, NodeUpdated, ToFill};
+use segment::Segment;
+
+pub struct Node {
+    pub angle: f64,
+    pub edge: u32,
+    pub left: u32,
+    pub right: u32,
+}
+
+// What a ring is beside its rows: how many buckets there are, how many nodes were ever in use, and how many of those are freed.
+pub struct Hull {
+    pub buckets: u32,
+    pub nodes: u32,
+    pub freed: u32,
+}
+
+// A node, its edge, and how many nodes were passed after the first on the way to it.
+pub struct Found {
+    pub node: u32,
+    pub edge: u32,
+    pub passed: u32,
+}
+
+pub fn load(nodes: &[[u64; 4]], i: u32) -> Node
+    requires { ⌜ (i < length (now nodes)) × Readable (nodesOf (now nodes) i) ⌝ }
+    ensures { λ r. ⌜ r ≡ nodesOf (now (nodes .entry)) i ⌝ }
+{
+    let w = nodes[i as usize];
+    let bits = w[0];
+    let edge = w[1];
+    let left = w[2];
+    let right = w[3];
+    Node {
+        angle: angle::from_bits(bits),
+        edge: edge as u32,
+        left: left as u32,
+        right: right as u32,
+    }
+}
+
+pub fn store(nodes: &mut [[u64; 4]], i: u32, node: Node)
+    requires { ⌜ (i < length (now nodes)) × IsAngle (node .angle) ⌝ }
+    ensures { λ r. ⌜ nodesOf (now (nodes .exit)) ≡ put (nodesOf (now (nodes .entry))) i node ⌝ }
+{
+    let bits = angle::to_bits(node.angle);
+    let w = [bits, node.edge as u64, node.left as u64, node.right as u64];
+    nodes[i as usize] = w;
+}
+
+pub fn set_edge(nodes: &mut [[u64; 4]], i: u32, edge: u32)
+    requires { ⌜ (i < length (now nodes)) × Readable (nodesOf (now nodes) i) ⌝ }
+    ensures { λ r. ⌜ nodesOf (now (nodes .exit)) ≡ put (nodesOf (now (nodes .entry))) i (withEdge (nodesOf (now (nodes .entry)) i) edge) ⌝ }
+{
+    let node = load(nodes, i);
+    store(
+        nodes,
+        i,
+        Node {
+            angle: node.angle,
+            edge: edge,
+            left: node.left,
+            right: node.right,
+        },
+    );
+}
+
+pub fn set_left(nodes: &mut [[u64; 4]], i: u32, left: u32)
+    requires { ⌜ (i < length (now nodes)) × Readable (nodesOf (now nodes) i) ⌝ }
+    ensures { λ r. ⌜ nodesOf (now (nodes .exit)) ≡ put (nodesOf (now (nodes .entry))) i (withLeft (nodesOf (now (nodes .entry)) i) left) ⌝ }
+{
+    let node = load(nodes, i);
+    store(
+        nodes,
+        i,
+        Node {
+            angle: node.angle,
+            edge: node.edge,
+            left: left,
+            right: node.right,
+        },
+    );
+}
+
+pub fn set_right(nodes: &mut [[u64; 4]], i: u32, right: u32)
+    requires { ⌜ (i < length (now nodes)) × Readable (nodesOf (now nodes) i) ⌝ }
+    ensures { λ r. ⌜ nodesOf (now (nodes .exit)) ≡ put (nodesOf (now (nodes .entry))) i (withRight (nodesOf (now (nodes .entry)) i) right) ⌝ }
+{
+    let node = load(nodes, i);
+    store(
+        nodes,
+        i,
+        Node {
+            angle: node.angle,
+            edge: node.edge,
+            left: node.left,
+            right: right,
+        },
+    );
+}
+
+// The node whose segment holds an angle, from the node of the angle's bucket on to the right.
+pub fn get(nodes: &[[u64; 4]], buckets: &[u32], hull: Hull, angle: f64) -> Found
+    requires { ⌜ RingRows (now nodes) (now buckets) hull × T (validAngle angle) ⌝ }
+    ensures { λ r. ⌜ Got (nodesOf (now (nodes .entry))) (sizeOf hull) (rowOf (now (buckets .entry)) (floorOf (turns angle) (hull .buckets))) (turns angle) r ⌝ }
+{
+    let bucket = segment::floored_bucket(angle, hull.buckets as usize);
+    let mut handle = buckets[bucket];
+    let mut passed: u32 = 0;
+    loop {
+        let node = load(nodes, handle);
+        let next = load(nodes, node.right);
+        let segment = Segment::new(node.angle, next.angle);
+        if segment.contains_angle(angle) {
+            return Found {
+                node: handle,
+                edge: node.edge,
+                passed: passed,
+            };
+        }
+        handle = node.right;
+        passed += 1;
+    }
+}
+
+// v to the places from `from` up to `to`.
+fn fill(row: &mut [u32], from: usize, to: usize, v: u32)
+    requires { ⌜ (from ≤ to) × (to ≤ length (now row)) ⌝ }
+    ensures { λ r. ⌜ Run (now (row .entry)) (now (row .exit)) from to v ⌝ }
+{
+    let mut i = from;
+    while i < to {
+        row[i] = v;
+        i += 1;
+    }
+}
+
+// v to the buckets from `from` up to `to`, of `count`, past the last one on at the first where `to` is less.
+pub fn update_bucket_segment(buckets: &mut [u32], count: usize, from: usize, to: usize, v: u32)
+    requires { ⌜ (count ≤ length (now buckets)) × (from ≤ count) × (to ≤ count) ⌝ }
+    ensures { λ r. ⌜ Updated (now (buckets .entry)) (now (buckets .exit)) count from to v ⌝ }
+{
+    if from <= to {
+        fill(buckets, from, to, v);
+    } else {
+        fill(buckets, from, count, v);
+        fill(buckets, 0, to, v);
+    }
+}
+
+// The buckets whose points the segment of node i holds. Answers the node after it.
+fn update_node_buckets(nodes: &[[u64; 4]], buckets: &mut [u32], count: usize, i: u32) -> u32
+    requires { ⌜ NodeBuckets (now nodes) (now buckets) count i ⌝ }
+    ensures { λ r. ⌜ NodeUpdated (nodesOf (now (nodes .entry))) (now (buckets .entry)) (now (buckets .exit)) count i r ⌝ }
+{
+    let from = load(nodes, i);
+    let to = load(nodes, from.right);
+    let first = segment::ceiled_bucket(from.angle, count);
+    let last = segment::ceiled_bucket(to.angle, count);
+    update_bucket_segment(buckets, count, first, last, i);
+    from.right
+}
+
+// Every bucket's node, from the ring's own nodes, of which there are `size` from `start` on.
+pub fn initialize_buckets(
+    nodes: &[[u64; 4]],
+    buckets: &mut [u32],
+    count: usize,
+    start: u32,
+    size: u32,
+)
+    requires { ⌜ ToFill (now nodes) (now buckets) count start size ⌝ }
+    ensures { λ r. ⌜ Bucketed (rightOf (nodesOf (now (nodes .entry)))) (angleOf (nodesOf (now (nodes .entry)))) (rowOf (now (buckets .exit))) count (width count) start size ⌝ }
+{
+    let mut i = start;
+    let mut k: u32 = 0;
+    while k < size {
+        i = update_node_buckets(nodes, buckets, count, i);
+        k += 1;
+    }
+}
+
+// A row of zeros, over its whole length.
+pub fn clear(row: &mut [u32])
+    ensures { λ r. ⌜ now (row .exit) ≡ replicate (length (now (row .entry))) 0 ⌝ }
+{
+    let n = row.len();
+    fill(row, 0, n, 0);
+}
+
+pub fn clear_nodes(nodes: &mut [[u64; 4]])
+    ensures { λ r. ⌜ now (nodes .exit) ≡ replicate (length (now (nodes .entry))) (replicate 4 0) ⌝ }
+{
+    let zero = [0, 0, 0, 0];
+    let mut i = 0;
+    while i < nodes.len() {
+        nodes[i] = zero;
+        i += 1;
+    }
+}
