@@ -3,3 +3,4 @@ pub mod FinishRows
 pub mod Untouched
 pub mod MeshLaws
 pub mod FinishLaws
+pub mod Examples
