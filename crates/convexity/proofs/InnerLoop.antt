@@ -15,7 +15,8 @@ use Rattle.convexity.specs.CornerLaws.{none, then, closes}
 use Rattle.convexity.specs.Walk.{Walk, leftBehind, stops, closedBehind, closeBehind, closeAllBehind}
 use Rattle.convexity.specs.WalkLaws.{Walking, turns, closes-fall}
 use Rattle.convexity.specs.ConvexityRows.{convexityOf, walkOf, BehindReady, Ready, OnBoundary, CloseReady, WalkReady}
-use Rattle.convexity.proofs.Rows.{SameLengths, same-refl, same-trans, ready-again, behind-ready, holds-not, fails-not}
+use Rattle.convexity.specs.RowsLaws.{SameLengths, same-refl, same-trans, ready-again}
+use Rattle.convexity.proofs.Rows.{behind-ready, holds-not, fails-not}
 
 -- ---- the inner loop: to go on from here is to go on from the start
 -- the turns that are left, which the loop does not change

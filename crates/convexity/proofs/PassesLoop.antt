@@ -17,7 +17,8 @@ use Rattle.convexity.specs.declared.Added.{Added}
 use Rattle.convexity.specs.Convexity.{Convexity, fixConvexity, Passes, passAgain, unpassed, convexity}
 use Rattle.convexity.specs.ConvexityLaws.{Passing, passesLeft, passes-fall, passes-start, passes-enough, again-closings}
 use Rattle.convexity.specs.ConvexityRows.{convexityOf, Ready, StartReady, MeshReady}
-use Rattle.convexity.proofs.Rows.{SameLengths, same-refl, same-trans, ready-again, holds-not, fails-not}
+use Rattle.convexity.specs.RowsLaws.{SameLengths, same-refl, same-trans, ready-again}
+use Rattle.convexity.proofs.Rows.{holds-not, fails-not}
 
 -- ---- pass after pass
 pub record PassesAt (q : List ℤ) (o₀ h₀ a₀ row₀ : List ℕ) (C : Counts) (o h a row : List ℕ) (g : Added) (s : Bool) : Type 0 where

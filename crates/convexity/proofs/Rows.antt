@@ -1,9 +1,8 @@
--- Rows that passes can be made on: what closing a corner needs of them and leaves of them. Over plain rows, so that the needs of the code are single applications.
--- Assumes nothing.
+-- What closing a corner needs of the rows, and what it leaves. Over plain rows, so that the needs of the code are single applications. Assumes nothing.
 use mathlib.Core.Bool.{Bool, true, false, not}
 use mathlib.Core.List.{List}
-use mathlib.Core.Path.{_≡_, refl, sym, _∙_, ap, subst, subst⁻¹}
-use Prim.Native.Nat.{ℕ, suc, _+_, _/_, _^_, _<_, _≤_}
+use mathlib.Core.Path.{_≡_, refl, sym, _∙_, ap}
+use Prim.Native.Nat.{ℕ, suc, _+_, _/_, _^_, _<_}
 use native.Mathlib.Numerals.{add-one}
 use native.Mathlib.Nat.{le-refl}
 use native.Mathlib.Omega.{arith}
@@ -11,7 +10,7 @@ use lib.IntN.{ℤ}
 use lib.ListN.{length}
 use Rattle.circle_test.specs.GoodRows.{GoodRows, Placed, held}
 use Rattle.dcel.specs.Rows.{halvesOf, linksOf, positionOf, There}
-use Rattle.dcel.specs.Held.{Room, there, there-rev, prev-in, origin-in, to-in}
+use Rattle.dcel.specs.Held.{there, there-rev, prev-in, origin-in, to-in}
 use Rattle.dcel_operations.specs.declared.NewEdge.{NewEdge}
 use Rattle.dcel_operations.specs.Face.{SingleReady, SingleFace}
 use Rattle.dcel_operations.specs.Ready.{single-face-ready}
@@ -19,30 +18,17 @@ use Rattle.flip_count.specs.FlipCount.{flipCountOf}
 use Rattle.legalize.specs.declared.Legalized.{Legalized}
 use Rattle.legalize.specs.Legalize.{legalizeEdgesAfterRemoval}
 use Rattle.legalize.specs.LegalizeRows.{LegalizeReady, Leaves}
-use Rattle.math.specs.declared.Point.{Point}
 use Rattle.mesh.specs.declared.Counts.{Counts}
 use Rattle.mesh.specs.Mesh.{Links, In}
 use Rattle.mesh.specs.Operations.{createSingleFaceBetweenEdgeAndNext, withFace}
-use Rattle.mesh.specs.CountsLaws.{halves-fit, faces-fit}
+use Rattle.mesh.specs.CountsLaws.{faces-fit}
 use Rattle.mesh.specs.Good.{Good}
 use Rattle.convexity.specs.declared.Added.{Added}
 use Rattle.convexity.specs.Convexity.{Convexity, closeCorner}
-use Rattle.convexity.specs.CornerLaws.{Closings, closings-good, closings-bound, closings-count, corner-in, corner-good, corner-bound, behind-in}
+use Rattle.convexity.specs.CornerLaws.{corner-in, corner-good, corner-bound, behind-in}
 use Rattle.convexity.specs.Walk.{closedBehind}
-use Rattle.convexity.specs.ConvexityRows.{convexityOf, BehindReady, Sized, Ready, CloseReady}
-
--- the rows keep their lengths
-pub record SameLengths (o h a r o′ h′ a′ r′ : List ℕ) : Type 0 where
-  pub outs : length o′ ≡ length o
-  pub halves : length h′ ≡ length h
-  pub faces : length a′ ≡ length a
-  pub pending : length r′ ≡ length r
-
-pub same-refl : {o h a r : List ℕ} → SameLengths o h a r o h a r
-same-refl = record { outs = refl; halves = refl; faces = refl; pending = refl }
-
-pub same-trans : {o h a r o′ h′ a′ r′ o″ h″ a″ r″ : List ℕ} → SameLengths o h a r o′ h′ a′ r′ → SameLengths o′ h′ a′ r′ o″ h″ a″ r″ → SameLengths o h a r o″ h″ a″ r″
-same-trans x y = record { outs = y .outs ∙ x .outs; halves = y .halves ∙ x .halves; faces = y .faces ∙ x .faces; pending = y .pending ∙ x .pending }
+use Rattle.convexity.specs.ConvexityRows.{convexityOf, BehindReady, CloseReady}
+use Rattle.convexity.specs.RowsLaws.{sized-room}
 
 -- a test that was negated
 pub holds-not : (b : Bool) → not b ≡ true → b ≡ false
@@ -52,33 +38,6 @@ holds-not false e = refl
 pub fails-not : (b : Bool) → not b ≡ false → b ≡ true
 fails-not true e = refl
 fails-not false e = sym e
-
--- ---- rows that are sized for the vertices have room for every mesh of them
-sized-room : {n : ℕ} {C : Counts} {p : ℕ → Point} {L : Links} {h a row : List ℕ} (o o′ h′ a′ : List ℕ) → n ≤ length o → Sized n h a row → C .vertices ≡ n → Good C L p
-    → length o′ ≡ length o → length h′ ≡ length h → length a′ ≡ length a → Room C o′ h′ a′
-sized-room o o′ h′ a′ k s v G x y z =
-    let e = halves-fit (G .wf) (le-refl _) in let f = faces-fit (G .wf) (le-refl _) in
-    record { outs = omega arith; halves = omega arith; faces = omega arith; small = omega arith }
-
--- corners closed keep what a function needs
-pub ready-again : {q : List ℤ} {o h a row o′ h′ a′ row′ : List ℕ} {g g′ : Added} {m : Convexity} → Ready q o h a row g → Closings (positionOf q) (convexityOf o h a g) m
-    → convexityOf o′ h′ a′ g′ ≡ m → SameLengths o h a row o′ h′ a′ row′ → Ready q o′ h′ a′ row′ g′
-unfolding convexityOf
-ready-again {q} {o} {h} {a} {row} {o′} {h′} {a′} {row′} {g} {g′} R c e l =
-    let c′ : Closings (positionOf q) (convexityOf o h a g) (convexityOf o′ h′ a′ g′) = subst⁻¹ (Closings (positionOf q) (convexityOf o h a g)) e c in
-    let n = closings-count c′ in
-    let G = closings-good (R .rows .good) c′ in
-    let s = R .sized in
-    record {
-      rows = record {
-        room = sized-room o o′ h′ a′ (R .rows .room .outs) s (n .vertices) G (l .outs) (l .halves) (l .faces);
-        positions = (let v = n .vertices in let k = R .rows .positions in omega arith);
-        good = G;
-      };
-      sized = rw (n .vertices) (record { halves = omega arith; faces = omega arith; pending = omega arith; small = s .small });
-      flips = closings-bound (R .rows .good) c′ (R .flips);
-      faces = (let f = n .faces in let k = R .faces in let i = n .more in omega arith);
-    }
 
 -- ---- the corner behind c
 module _ {C : Counts} {q : List ℤ} {o h a : List ℕ} (R : GoodRows C q o h a) {c : ℕ} (l : In C c) where

@@ -1,6 +1,6 @@
 -- `fix_convexity` of bulk_load.rs, one pass with its stack `convex_edges`, and the passes of a finish. Definitions only; the laws are in `ConvexityLaws`.
 -- 01: "Finish makes the first pass of `fix_convexity`, then repeats passes until one adds no face."
-use mathlib.Core.Bool.{Bool, true, false, not, _||_}
+use mathlib.Core.Bool.{Bool, false, not, _||_}
 use mathlib.Core.List.{List, [], _∷_}
 use mathlib.Core.Path.{_≡_}
 use Prim.Native.Nat.{ℕ, suc, _+_, _*_, _/_}

@@ -25,9 +25,9 @@ use Rattle.sums.specs.Bit.{from-false}
 use Rattle.sums.specs.Iterate.{iter, iter-last, inverse-sym, reach-back, reach-on}
 use Rattle.sums.specs.Until.{until, Falls, until-ind, until-ends, until-fuel, until-keeps}
 use Rattle.convexity.specs.Convexity.{Convexity, turnsLeftAt, fixConvexity, Passes, passAgain, unpassed, convexity, NoLeftCorner}
-use Rattle.convexity.specs.CornerLaws.{behind-in, behind-period, Closings, none, closings-join, closings-good, closings-bound, Counted, closings-count, closings-none}
+use Rattle.convexity.specs.CornerLaws.{behind-in, behind-period, Closings, none, closings-join, closings-good, closings-bound, closings-count, closings-none}
 use Rattle.convexity.specs.Walk.{Walk, walkTurn, walkEnds, walkStart, walkPass}
-use Rattle.convexity.specs.WalkLaws.{Walking, stopped, left-over, Turned, turned, walk-falls, walk-starts, pass-closings}
+use Rattle.convexity.specs.WalkLaws.{Walking, stopped, left-over, Turned, turned, walk-falls, walk-starts}
 use Rattle.convexity.specs.StackLaws.{fix-walks}
 
 -- ---- the corners that a walk has tested

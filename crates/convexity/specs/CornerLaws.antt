@@ -1,10 +1,10 @@
 -- Closing a corner of the boundary that turns left, in a good mesh: one face more, a run of flips, a boundary shorter by one that is as it was behind the corner.
 -- `Closings` is a sequence of such steps: what passes make of a mesh, with what it keeps. Assumes nothing.
-use mathlib.Core.Bool.{Bool, true, false}
-use mathlib.Core.List.{List, [], _∷_}
+use mathlib.Core.Bool.{true, false}
+use mathlib.Core.List.{[], _∷_}
 use mathlib.Core.Path.{_≡_, refl, sym, _∙_, ap, subst}
 use mathlib.Core.Logic.{_≢_}
-use Prim.Native.Nat.{ℕ, zero, suc, _+_, _*_, _/_, _<_, _≤_}
+use Prim.Native.Nat.{ℕ, suc, _+_, _*_, _/_, _<_, _≤_}
 use native.Mathlib.Omega.{arith}
 use lib.IntN.{pos}
 use lib.Signed.{_<ℤ_, ltZ-yes}
@@ -54,6 +54,15 @@ module _ {C : Counts} {L : Links} (W : Wf C L) where
     pub behind-once : (j k : ℕ) → j < boundaryLength C L → k < boundaryLength C L → j ≢ k → iter j (L .prev) c ≢ iter k (L .prev) c
     behind-once j k u v n q = n (period-listed (inverse-sym (next-inverse W)) l behind-period .once j k u v q)
 
+-- ---- flips that were counted before a face was added stay within their bound
+face-bound : {C : Counts} {L : Links} {p : ℕ → Point} → Good C L p → {e : ℕ} → In C e → L .face e ≡ 0 → pos 0 <ℤ orient2d (p (L .origin e)) (p (to L e)) (p (to L (L .next e)))
+    → {n : ℕ} → FlipsBound C L p n → FlipsBound (withFace C) (createSingleFaceBetweenEdgeAndNext L C e) p n
+face-bound {C} G l o h B =
+    let W = G .wf in
+    let n = W .ranges .next< l in
+    flips-face W (single-face-good G l o h .wf) (single-face-added G l o h)
+    (G .range (W .ranges .origin< (rev-below (C .edges) n))) (G .range (W .ranges .origin< l)) (G .range (W .ranges .origin< n)) B
+
 -- ---- the corner of the two half-edges behind c
 module _ {C : Counts} {L : Links} {p : ℕ → Point} (G : Good C L p) {c : ℕ} (l : In C c) (o : L .face c ≡ 0) (h : turnsLeftAt L p (L .prev (L .prev c)) (L .prev c) ≡ true) where
   abbrev d : ℕ
@@ -87,13 +96,8 @@ module _ {C : Counts} {L : Links} {p : ℕ → Point} (G : Good C L p) {c : ℕ}
   pub corner-shorter : boundaryLength (withFace C) K + 1 ≡ boundaryLength C L
   corner-shorter = single-face-length G (corner-in .0) (corner-in .1) corner-left
 
-  -- flips that were counted before stay within their bound
   pub corner-bound : {n : ℕ} → FlipsBound C L p n → FlipsBound (withFace C) K p n
-  corner-bound B =
-      let A = single-face-added G (corner-in .0) (corner-in .1) corner-left in
-      let W = G .wf in
-      let n = W .ranges .next< (corner-in .0) in
-      flips-face W (corner-good .wf) A (G .range (W .ranges .origin< (rev-below (C .edges) n))) (G .range (W .ranges .origin< (corner-in .0))) (G .range (W .ranges .origin< n)) B
+  corner-bound = face-bound G (corner-in .0) (corner-in .1) corner-left
 
   -- c stays on the boundary, and the new half-edge is behind it
   least : 2 < boundaryLength C L
@@ -139,12 +143,9 @@ module _ {p : ℕ → Point} {m m′ : Convexity} {e : ℕ} (G : Good (m .counts
   -- the count of flips stays within its bound
   pub closed-bound : FlipsBound (m .counts) (m .links) p (m .flips) → FlipsBound (m′ .counts) (m′ .links) p (m′ .flips)
   closed-bound B =
-      let A = single-face-added G (S .edge) (S .outer) (S .left) in
-      let W = G .wf in
-      let n = W .ranges .next< (S .edge) in
-      let B′ = flips-face W (added .wf) A (G .range (W .ranges .origin< (rev-below (m .counts .edges) n))) (G .range (W .ranges .origin< (S .edge))) (G .range (W .ranges .origin< n)) B in
       subst (λ (C : Counts). FlipsBound C (m′ .links) p (m′ .flips)) (sym (S .counts))
-      (subst (FlipsBound (withFace (m .counts)) (m′ .links) p) (sym (S .flips)) (flips-more (S .made) B′ (run-falls added (S .run))))
+      (subst (FlipsBound (withFace (m .counts)) (m′ .links) p) (sym (S .flips))
+      (flips-more (S .made) (face-bound G (S .edge) (S .outer) (S .left) B) (run-falls added (S .run))))
 
 -- ---- corners closed one after another
 pub data Closings (p : ℕ → Point) : Convexity → Convexity → Type 0 where

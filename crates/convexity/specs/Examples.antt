@@ -1,9 +1,9 @@
 -- The passes by computation, on a mesh that needs two of them: a triangle with a vertex beside each of two sides. The first pass closes a corner in its last turn,
 -- flips an edge, and leaves a corner that turns left; the second closes that one; the third adds no face. Assumes nothing.
-use mathlib.Core.Bool.{Bool, true, false}
-use mathlib.Core.List.{List, [], _∷_}
+use mathlib.Core.Bool.{Bool, false}
+use mathlib.Core.List.{[], _∷_}
 use mathlib.Core.Path.{_≡_, refl}
-use Prim.Native.Nat.{ℕ, _+_, _*_}
+use Prim.Native.Nat.{ℕ}
 use lib.IntN.{ℤ, pos, negsuc}
 use lib.ListN.{getD}
 use Rattle.legalize.specs.Legalize.{edgeOf, pushed, flipped, popped, legalize}

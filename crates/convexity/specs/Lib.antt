@@ -5,4 +5,5 @@ pub mod CornerLaws
 pub mod WalkLaws
 pub mod StackLaws
 pub mod ConvexityLaws
+pub mod RowsLaws
 pub mod Examples

@@ -4,7 +4,6 @@
 use mathlib.Core.Bool.{Bool, true, false, _&&_, _||_, not}
 use mathlib.Core.List.{List, [], _∷_}
 use mathlib.Core.Path.{_≡_, refl, sym, _∙_, ap, ap₂, subst}
-use mathlib.Core.Logic.{_≢_}
 use Prim.Native.Nat.{ℕ, zero, suc, _+_, _-_, _*_, _<_, _≤_}
 use native.Mathlib.Decide.{ℕ-discrete, decLt}
 use native.Mathlib.Omega.{arith}
@@ -12,7 +11,7 @@ use borrow.Author.Tests.{lt-ltb, le-ltb, eq-eqb, ne-eqb}
 use lib.Dec.{ltb, eqb}
 use lib.ListN.{length, getD}
 use Rattle.math.specs.declared.Point.{Point}
-use Rattle.mesh.specs.Mesh.{Links, In}
+use Rattle.mesh.specs.Mesh.{Links}
 use Rattle.mesh.specs.Area.{boundaryLength}
 use Rattle.mesh.specs.BoundaryLaws.{boundary-least, boundary-most}
 use Rattle.mesh.specs.Good.{Good}
@@ -21,7 +20,7 @@ use Rattle.sums.specs.Until.{until, until-related, until-turn, until-fuel, unti
 use Rattle.convexity.specs.Convexity.{Convexity, Pass, turnsLeftAt, closeCorner, lastTurnsLeft, closeLast, closeCorners, passTurn, isSecond, passStart, fixConvexity}
 use Rattle.convexity.specs.CornerLaws.{behind-period, closes, closes-behind, closed-length}
 use Rattle.convexity.specs.Walk.{Walk, edge1, edge2, leftBehind, stops, closeBehind, closeAllBehind, onward, walkTurn, walkEnds, walkStart, walkPass}
-use Rattle.convexity.specs.WalkLaws.{Walking, Turns, turns, close-keeps, closing-ends, onward-keeps, left-over, Turned, turned, walk-falls, walk-starts}
+use Rattle.convexity.specs.WalkLaws.{Walking, Turns, turns, close-keeps, onward-keeps, left-over, Turned, turned, walk-falls, walk-starts}
 
 abbrev pub passOf : Walk → List ℕ → Pass
 passOf w l = record { mesh = w .mesh; current = w .current; edges = l }

@@ -1,18 +1,18 @@
 -- A pass with O(1) state: each of its loops ends, and what it does is a sequence of corners closed. Assumes nothing.
 use mathlib.Core.Bool.{Bool, true, false, false≢true, not, _&&_, _||_}
-use mathlib.Core.Path.{_≡_, refl, sym, _∙_, ap, subst}
+use mathlib.Core.Path.{_≡_, refl, sym, _∙_}
 use mathlib.Core.Logic.{_≢_}
-use Prim.Native.Nat.{ℕ, suc, _+_, _-_, _*_, _<_, _≤_}
+use Prim.Native.Nat.{ℕ, _+_, _-_, _<_}
 use native.Mathlib.Omega.{arith}
-use borrow.Author.Tests.{ltb-true, lt-ltb, eqb-true, eqb-false}
+use borrow.Author.Tests.{ltb-true, lt-ltb, eqb-false}
 use lib.Dec.{ltb, eqb}
 use Rattle.math.specs.declared.Point.{Point}
-use Rattle.mesh.specs.Mesh.{Links, In}
+use Rattle.mesh.specs.Mesh.{In}
 use Rattle.mesh.specs.Area.{boundaryLength}
-use Rattle.mesh.specs.BoundaryLaws.{first<, first-outer, boundary-most}
+use Rattle.mesh.specs.BoundaryLaws.{first<, first-outer}
 use Rattle.mesh.specs.Good.{Good}
-use Rattle.sums.specs.Until.{until, Falls, until-ind, until-keeps}
-use Rattle.convexity.specs.Convexity.{Convexity, turnsLeftAt, closeCorner}
+use Rattle.sums.specs.Until.{Falls, until-ind}
+use Rattle.convexity.specs.Convexity.{Convexity, turnsLeftAt}
 use Rattle.convexity.specs.CornerLaws.{Closings, none, then, closings-join, closes, closes-behind, closed-good, closed-length}
 use Rattle.convexity.specs.Walk.{Walk, edge1, edge2, leftBehind, stops, closeBehind, closeAllBehind, onward, walkTurn, walkEnds, walkStart, walkPass}
 

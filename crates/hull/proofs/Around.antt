@@ -1,17 +1,17 @@
 -- What holds on the way around the boundary: no vertex so far at the centre, the counts so far. Assumes nothing.
-use Prim.Native.Nat.{ℕ, zero, suc, _+_, _-_, _*_, _<_, _≤_, _^_}
+use Prim.Native.Nat.{ℕ, suc, _+_, _-_, _*_, _<_, _≤_}
 use native.Mathlib.Decide.{ℕ-discrete}
 use native.Mathlib.Omega.{arith}
 use mathlib.Core.Path.{_≡_, refl, sym, _∙_, ap, ap₂, subst}
-use mathlib.Core.Bool.{Bool, true, false, not, _&&_}
+use mathlib.Core.Bool.{Bool, true, false, _&&_}
 use mathlib.Core.List.{List}
 use lib.Dec.{T, ltb, leb, eqb}
 use lib.IntN.{ℤ}
 use lib.Ieee.{Float}
 use lib.ListN.{length}
-use Rattle.sums.specs.Bit.{bit, bit-le, is-true, is-false}
+use Rattle.sums.specs.Bit.{bit, is-true, is-false}
 use Rattle.sums.specs.Bounded.{any-below, any-below→, any-below←}
-use Rattle.sums.specs.Iterate.{iter, iter-last}
+use Rattle.sums.specs.Iterate.{iter-last}
 use Rattle.sums.specs.Tally.{walk, tally, tally-last, tally-most}
 use Rattle.angle.specs.Angle.{IsAngle, turns, atCenter, angleAbout}
 use Rattle.segment.specs.Arc.{wide}

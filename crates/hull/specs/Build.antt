@@ -1,5 +1,5 @@
 -- Nodes numbered in the order of a strict boundary's edges are its ring, and with their buckets filled the rows hold it. Assumes nothing.
-use Prim.Native.Nat.{ℕ, zero, suc, _+_, _-_, _%_, _<_, _≤_, _^_}
+use Prim.Native.Nat.{ℕ, suc, _+_, _-_, _%_, _<_, _≤_, _^_}
 use native.Mathlib.Nat.{mod-eq-of-lt, mod-self, mod-lt}
 use native.Mathlib.Decide.{decLt}
 use native.Mathlib.Omega.{arith}
@@ -29,11 +29,10 @@ use Rattle.ring.specs.Stores.{Linked}
 use Rattle.ring.specs.Build.{Built, built, built-at}
 use Rattle.ring.specs.Boundary.{outer-sound}
 use Rattle.ring.specs.RingOf.{RingOf, ring-built, free-built, free-from}
-use Rattle.ring.specs.Resize.{eight-buckets}
+use Rattle.ring.specs.Resize.{eight-buckets, buckets-sized}
 use Rattle.ring_rows.specs.declared.Node.{Node}
 use Rattle.ring_rows.specs.declared.Hull.{Hull}
 use Rattle.ring_rows.specs.Rows.{nodesOf, angleOf, edgeOf, leftOf, rightOf, ValidNodes, NodeRing, ToFill}
-use Rattle.ring_rows.specs.Laws.{sized}
 use Rattle.hull.specs.Boundary.{edgeAt, originTurns, anglesOf, NodesOfEdges, ToBuild}
 use Rattle.hull.specs.Held.{Held, FromBoundary}
 
@@ -130,7 +129,7 @@ built-held o a {C} {p} {h} {cx} {cy} {size} {n} {b} {nodes} {freed} {buckets} {r
     let S = subst (Sound fullTurn (halvesOf h .next) (originTurns p h cx cy) (rowOf a 0)) z (boundary-sound B) in
     let R : RingOf C (linksOf o h a) (turnsAbout cx cy (positionOf p)) (leftOf t) (rightOf t) (angleOf t) (edgeOf t) (rowOf buckets) 8 size =
     ring-built K (outer-sound K (turnsAbout cx cy (positionOf p)) (first< K) (first-outer K) S) (first< K) (first-outer K) A (numbered-links B (F .numbered))
-    (λ k l. let m : k < size = omega arith in subst (λ (x : ℕ). x ≤ fullTurn) (F .numbered k m .angle) (F .numbered k m .is-angle .small)) (sized eight-buckets) (F .filled) in
+    (λ k l. let m : k < size = omega arith in subst (λ (x : ℕ). x ≤ fullTurn) (F .numbered k m .angle) (F .numbered k m .is-angle .small)) (buckets-sized eight-buckets) (F .filled) in
     record {
       ring = subst (λ (i : ℕ). RingOf C (linksOf o h a) (turnsAbout cx cy (positionOf p)) (leftOf t) (rightOf t) (angleOf t) (edgeOf t) (rowOf buckets) (r .buckets) i) (sym N)
           (subst (λ (i : ℕ). RingOf C (linksOf o h a) (turnsAbout cx cy (positionOf p)) (leftOf t) (rightOf t) (angleOf t) (edgeOf t) (rowOf buckets) i size) (sym (F .eight)) R);

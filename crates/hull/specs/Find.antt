@@ -19,7 +19,7 @@ use Rattle.ring.specs.Sound.{Sound}
 use Rattle.ring.specs.Insert.{On, ring-proper, ring-sound}
 use Rattle.ring.specs.Hull.{Hull as HullOf, on-from}
 use Rattle.ring.specs.Located.{locate-passed}
-use Rattle.ring.specs.RingOf.{RingOf, ring-located, ring-from}
+use Rattle.ring.specs.RingOf.{ring-located, ring-from}
 use Rattle.ring_rows.specs.declared.Hull.{Hull}
 use Rattle.ring_rows.specs.declared.Found.{Found}
 use Rattle.ring_rows.specs.Rows.{nodesOf, angleOf, edgeOf, leftOf, rightOf, sizeOf, NodeRing, RingRows, Got}

@@ -5,3 +5,4 @@ pub mod Strict
 pub mod Find
 pub mod Build
 pub mod Ready
+pub mod Insert

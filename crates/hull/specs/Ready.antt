@@ -1,5 +1,5 @@
 -- A mesh in its rows is ready for the tests and for building: what those ask, and what their answers are as facts of the mesh. Assumes nothing.
-use Prim.Native.Nat.{ℕ, zero, suc, _+_, _-_, _*_, _<_, _≤_, _^_}
+use Prim.Native.Nat.{ℕ, _-_, _*_, _<_, _≤_, _^_}
 use native.Mathlib.Omega.{arith}
 use mathlib.Core.Path.{_≡_, refl, sym, _∙_, ap, subst}
 use mathlib.Core.Bool.{Bool, not, _||_}
@@ -9,20 +9,18 @@ use lib.IntN.{ℤ}
 use lib.Ieee.{Float}
 use lib.ListN.{length}
 use Rattle.mesh.specs.declared.Counts.{Counts}
-use Rattle.mesh.specs.Mesh.{Links, In}
-use Rattle.mesh.specs.Wf.{Wf}
+use Rattle.mesh.specs.Mesh.{In}
 use Rattle.mesh.specs.Area.{boundaryLength}
-use Rattle.mesh.specs.BoundaryLaws.{next-inverse, first<, boundary-period, boundary-below, boundary-least}
+use Rattle.mesh.specs.BoundaryLaws.{next-inverse, first<, boundary-period, boundary-below}
 use Rattle.mesh.specs.CountsLaws.{count-halves, faces-least}
 use Rattle.angle.specs.Angle.{validCenter}
 use Rattle.sums.specs.Bit.{sure, or-left, or-right}
 use Rattle.sums.specs.Bounded.{any-below, any-below←}
 use Rattle.sums.specs.Iterate.{iter, reach-on}
-use Rattle.sums.specs.Listed.{Listed, pigeonhole}
-use Rattle.sums.specs.Tally.{walk, tally}
-use Rattle.dcel.specs.Rows.{halvesOf, rowOf, linksOf, positionOf, There}
+use Rattle.sums.specs.Listed.{pigeonhole}
+use Rattle.dcel.specs.Rows.{rowOf, linksOf, positionOf}
 use Rattle.dcel.specs.Held.{Held as MeshHeld, there, origin-in}
-use Rattle.ring.specs.Ring.{fullTurn, proper, atEnds, edgeAngle, isStrict, isStrictRing, boundaryAngles, boundaryEdges}
+use Rattle.ring.specs.Ring.{fullTurn, isStrict, isStrictRing, boundaryAngles, boundaryEdges}
 use Rattle.ring.specs.Insert.{node-sole}
 use Rattle.ring.specs.Boundary.{sound-first, strict-ring, strict-nodes}
 use Rattle.ring.specs.Center.{turnsAbout, refusesCenter}

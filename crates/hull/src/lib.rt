@@ -1,18 +1,14 @@
 // The ring of a mesh's boundary about a centre (bulk_load.rs, `Hull`): the tests before it is built, and building it. The boundary is the `size` half-edges from `start` on, by next.
 // The rows of the ring itself are those of crate `ring_rows`.
 ghost use mathlib.Core.Path.{_≡_};
-ghost use mathlib.Core.Bool.{Bool, not, _&&_};
-ghost use mathlib.Core.List.{List};
-ghost use Prim.Native.Nat.{ℕ, _+_, _-_, _*_, _<_, _≤_, _^_};
-ghost use lib.Dec.{T, leb, eqb};
+ghost use mathlib.Core.Bool.{_&&_};
+ghost use Prim.Native.Nat.{_+_, _-_, _*_, _<_, _≤_, _^_};
+ghost use lib.Dec.{leb, eqb};
 ghost use lib.ListN.{length};
 ghost use Rattle.sums.specs.Bit.{bit};
 ghost use Rattle.sums.specs.Bounded.{any-below};
-ghost use Rattle.dcel.specs.Rows.{rowOf};
 ghost use Rattle.ring.specs.Ring.{fullTurn, isStrict};
-ghost use Rattle.ring.specs.Insert.{Bucketed};
-ghost use Rattle.ring_rows.specs.Rows.{nodesOf, rightOf, angleOf};
-ghost use Rattle.segment.specs.Bucket.{width};
+ghost use Rattle.ring_rows.specs.Rows.{nodesOf};
 ghost use Rattle.hull.specs.Boundary.{BoundaryRows, AngledBoundary, Angled, AngleAt, originAtCenter, edgeAt, anglesOf, NodesOfEdges, ToBuild};
 ghost use Rattle.hull.specs.Held.{FromBoundary};
 use angle::Point2;

@@ -1,5 +1,5 @@
 -- What holds on the way from the left node to the right one, where the nodes between are put on a stack; and the stack's top. Assumes nothing.
-use Prim.Native.Nat.{ℕ, zero, suc, _+_, _-_, _<_, _≤_, _^_}
+use Prim.Native.Nat.{ℕ, suc, _+_, _-_, _<_, _≤_, _^_}
 use native.Mathlib.Decide.{ℕ-discrete}
 use native.Mathlib.Omega.{arith}
 use mathlib.Core.Path.{_≡_, refl, sym, _∙_, ap, subst}
@@ -21,7 +21,7 @@ use Rattle.ring.specs.Resize.{adjustedBuckets, adjusted-buckets}
 use Rattle.ring.specs.WholeInsert.{Names}
 use Rattle.ring_rows.specs.declared.Node.{Node}
 use Rattle.ring_rows.specs.declared.Hull.{Hull}
-use Rattle.ring_rows.specs.Rows.{nodesOf, angleOf, leftOf, rightOf, sizeOf, Readable, Updated, ToFill}
+use Rattle.ring_rows.specs.Rows.{nodesOf, angleOf, rightOf, sizeOf, Readable, Updated, ToFill}
 use Rattle.ring_rows.specs.Laws.{readable, walk-below}
 use Rattle.ring_insert.specs.Insert.{ToRelease, ReleasedTo, Rebuckets, ToAdjust, Adjusted}
 

@@ -1,17 +1,17 @@
 -- What the parts of an insert ask, from what the insert asks and what the parts before have left. Assumes nothing.
-use Prim.Native.Nat.{ℕ, zero, suc, _+_, _-_, _/_, _<_, _≤_, _^_}
+use Prim.Native.Nat.{ℕ, suc, _+_, _-_, _/_, _<_, _≤_, _^_}
 use native.Mathlib.Decide.{ℕ-discrete, decLt}
 use native.Mathlib.Nat.{mod-lt}
 use native.Mathlib.Omega.{arith}
-use mathlib.Core.Path.{_≡_, refl, sym, _∙_, ap, subst}
-use mathlib.Core.Logic.{_≢_, _⊎_, inl, inr}
+use mathlib.Core.Path.{_≡_, sym, _∙_, ap, subst}
+use mathlib.Core.Logic.{_≢_}
 use mathlib.Core.Bool.{Bool, true, false}
 use mathlib.Core.List.{List}
 use lib.Dec.{T, eqb}
 use lib.Ieee.{Float}
 use lib.ListN.{length, set}
 use Rattle.sums.specs.Iterate.{iter}
-use Rattle.angle.specs.Angle.{IsAngle, turns}
+use Rattle.angle.specs.Angle.{turns}
 use Rattle.segment.specs.Arc.{holds}
 use Rattle.segment.specs.Bucket.{Buckets, floorOf, width}
 use Rattle.segment.specs.Laws.{bucket-pos}
@@ -20,16 +20,16 @@ use Rattle.ring.specs.Ring.{proper, atEnds}
 use Rattle.ring.specs.Segments.{holds-first, proper→}
 use Rattle.ring.specs.Sound.{tile-sole}
 use Rattle.ring.specs.Insert.{On, all-proper}
-use Rattle.ring.specs.Free.{Free, Pushed, Taken, taken-sum}
+use Rattle.ring.specs.Free.{Taken}
 use Rattle.ring.specs.Hull.{on-from}
 use Rattle.ring_rows.specs.declared.Node.{Node}
 use Rattle.ring_rows.specs.declared.Hull.{Hull}
 use Rattle.ring_rows.specs.declared.Found.{Found}
-use Rattle.ring_rows.specs.Rows.{nodesOf, angleOf, leftOf, rightOf, sizeOf, NodeRing, ValidNode, Got}
+use Rattle.ring_rows.specs.Rows.{nodesOf, angleOf, leftOf, rightOf, sizeOf, ValidNode, ValidNodes, Got}
 use Rattle.ring_rows.specs.Laws.{ring-from, walk-below}
 use Rattle.ring_insert.specs.declared.Choice.{Choice}
-use Rattle.ring_insert.specs.Insert.{ToRelease, ReleasedTo, ToChoose, Chosen, ToPlace, ToInsert}
-use Rattle.ring_insert.specs.Placed.{valid-up}
+use Rattle.ring_insert.specs.Insert.{ToRelease, ReleasedTo, ToChoose, Chosen, ToPlace, ToInsert, placeNodes}
+use Rattle.ring_insert.specs.Placed.{valid-up, placed-valid}
 use Rattle.ring_insert.proofs.Freeing.{goes-names, stays-names}
 
 -- ---- `choose`
@@ -174,3 +174,10 @@ module _ {nodes : List (List ℕ)} {freed buckets : List ℕ} {h : Hull} {al q a
         room = let a = grown .2 in let b = I .node-room in omega arith;
         small = let a = grown .2 in let b = I .small in omega arith;
       }
+
+      pub new-valid : {t′ : ℕ → Node} {l p : ℕ} → l < 2 ^ 32 → p < 2 ^ 32 → t′ ≡ placeNodes (nodesOf nodes) c l p q → ValidNodes t′ (c .nodes)
+      unfolding to-place
+      new-valid u w z = let P = to-place in placed-valid c (P .others) (P .is-angle) w u (P .before-in) (P .right-in) (P .start-in) (P .node-in) z
+
+      pub new-room : c .nodes ≤ length nodes
+      new-room = let a = grown .2 in let b = I .node-room in omega arith

@@ -1,18 +1,16 @@
 -- The stores of an insert keep the nodes valid, and are the definition's. Assumes nothing.
-use Prim.Native.Nat.{ℕ, _<_, _≤_, _^_}
-use native.Mathlib.Decide.{ℕ-discrete}
+use Prim.Native.Nat.{ℕ, _<_, _^_}
 use native.Mathlib.Omega.{arith}
-use mathlib.Core.Path.{_≡_, refl, sym, _∙_, ap, subst}
+use mathlib.Core.Path.{_≡_, sym, _∙_, ap, subst}
 use mathlib.Core.Logic.{_≢_}
-use mathlib.Core.Bool.{Bool, cond, true, false}
+use mathlib.Core.Bool.{Bool, cond}
 use mathlib.Core.List.{List}
-use lib.Dec.{eqb}
 use lib.Ieee.{Float}
 use lib.ListN.{length}
 use borrow.Author.Tests.{eq-eqb, ne-eqb}
-use Rattle.sums.specs.Put.{put, put-same, put-other}
+use Rattle.sums.specs.Put.{put}
 use Rattle.ring_rows.specs.declared.Node.{Node}
-use Rattle.ring_rows.specs.Rows.{nodesOf, withEdge, withLeft, withRight, Readable, ValidNode, ValidNodes}
+use Rattle.ring_rows.specs.Rows.{nodesOf, withEdge, withLeft, withRight, Readable, ValidNodes}
 use Rattle.ring_rows.specs.Laws.{readable}
 use Rattle.ring_insert.specs.declared.Choice.{Choice}
 use Rattle.ring_insert.specs.Insert.{ToPlace, newNode, linkRight, linkLeft, leftEdge, placeNodes}

@@ -10,7 +10,7 @@ use lib.ListN.{length}
 use Rattle.sums.specs.Iterate.{iter}
 use Rattle.sums.specs.Put.{put}
 use Rattle.angle.specs.Angle.{IsAngle, turns}
-use Rattle.segment.specs.Bucket.{Buckets, width, ceilOf}
+use Rattle.segment.specs.Bucket.{width, ceilOf}
 use Rattle.dcel.specs.Rows.{rowOf}
 use Rattle.ring.specs.Insert.{On, Bucketed}
 use Rattle.ring.specs.Free.{Free, Pushed, Taken}
@@ -18,7 +18,7 @@ use Rattle.ring.specs.WholeInsert.{Names}
 use Rattle.ring.specs.Resize.{adjustedBuckets}
 use Rattle.ring_rows.specs.declared.Node.{Node}
 use Rattle.ring_rows.specs.declared.Hull.{Hull}
-use Rattle.ring_rows.specs.Rows.{nodesOf, angleOf, leftOf, rightOf, sizeOf, withEdge, withLeft, withRight, ValidNode, NodeRing, RingRows, Updated}
+use Rattle.ring_rows.specs.Rows.{nodesOf, angleOf, leftOf, rightOf, sizeOf, withEdge, withLeft, withRight, ValidNode, ValidNodes, NodeRing, RingRows, Updated}
 use Rattle.ring_insert.specs.declared.Choice.{Choice}
 
 -- the node of the angle a stands `steps` to the right of `first`, and the stack of freed nodes has room
@@ -123,6 +123,8 @@ pub record InsertedRows (nodes : List (List ℕ)) (freed buckets : List ℕ) (no
   pub chosen : Chosen (nodesOf nodes) freed freed′ h left (eqb (turns al) (turns q)) (turns ar) choice
   pub placed : nodesOf nodes′ ≡ placeNodes (nodesOf nodes) choice l p q
   pub rebuckets : Rebuckets buckets buckets′ (h .buckets) (ceilOf (turns al) (h .buckets)) (ceilOf (turns q) (h .buckets)) (ceilOf (turns ar) (h .buckets)) (choice .start) (choice .node)
+  pub valid : ValidNodes (nodesOf nodes′) (r .nodes)
+  pub room : r .nodes ≤ length nodes
   pub same-buckets : r .buckets ≡ h .buckets
   pub used : r .nodes ≡ choice .nodes
   pub freed-now : r .freed ≡ choice .freed

@@ -5,7 +5,6 @@ use native.Mathlib.Omega.{arith}
 use mathlib.Core.Path.{_≡_, refl, sym, _∙_, ap, subst}
 use mathlib.Core.Logic.{_≢_}
 use mathlib.Core.Bool.{Bool, cond, true, false}
-use mathlib.Core.List.{List}
 use lib.Dec.{eqb}
 use lib.Ieee.{Float}
 use borrow.Author.Tests.{eq-eqb, ne-eqb}
@@ -49,6 +48,11 @@ module _ {t : ℕ → Node} (c : Choice) {len : ℕ} where
       go : (y : Bool) → ValidNodes (cond y t (put t (c .start) (withEdge (t (c .start)) e))) len
       go true = v
       go false = let w = v (c .start) b in valid-put (c .start) (λ j l d. v j l) (record { angle = w .angle; edge = n; left = w .left; right = w .right })
+
+pub placed-valid : {t t′ : ℕ → Node} {len : ℕ} (c : Choice) {l p : ℕ} {q : Float} → ((j : ℕ) → j < len → j ≢ c .node → ValidNode (t j) len) → IsAngle q → p < 2 ^ 32 → l < 2 ^ 32 → c .before < len → c .right < len → c .start < len → c .node < len
+    → t′ ≡ placeNodes t c l p q → ValidNodes t′ len
+placed-valid {t} {t′} {len} c {l} {p} {q} others a p-small l-small b r s v e =
+    subst (λ (f : ℕ → Node). ValidNodes f len) (sym e) (edge-valid c (left-valid c (right-valid c (new-valid c others a p-small b r) b v) r v) s l-small)
 
 -- ---- field by field
 abbrev field : {A : Type 0} → (Node → A) → (ℕ → Node) → ℕ → A

@@ -1,8 +1,7 @@
 // A new vertex enters the ring (bulk_load.rs, `Hull::insert`): the nodes that its two edges cover go, one is made for it, the buckets follow; and the number of buckets
 // (`adjust_bucket_size_if_necessary`). Over the rows of the ring alone; what it does to the ring of a mesh is in crate `hull`.
 ghost use mathlib.Core.Path.{_≡_};
-ghost use mathlib.Core.List.{List};
-ghost use Prim.Native.Nat.{ℕ, _+_, _-_, _<_, _≤_, _^_};
+ghost use Prim.Native.Nat.{_+_, _-_, _<_, _≤_, _^_};
 ghost use lib.ListN.{length};
 ghost use Rattle.angle.specs.Angle.{IsAngle, turns};
 ghost use Rattle.segment.specs.Bucket.{Buckets, ceilOf};
@@ -11,7 +10,7 @@ ghost use Rattle.ring.specs.Ring.{fullTurn};
 ghost use Rattle.ring.specs.Chain.{isFit};
 ghost use Rattle.ring.specs.Resize.{adjustedBuckets};
 ghost use Rattle.ring.specs.Free.{Taken};
-ghost use Rattle.ring_rows.specs.Rows.{nodesOf, RingRows, sizeOf};
+ghost use Rattle.ring_rows.specs.Rows.{nodesOf};
 ghost use Rattle.ring_insert.specs.Insert.{ToRelease, ReleasedTo, ToChoose, Chosen, placeNodes, ToPlace, Rebuckets, ToInsert, InsertedRows, ToAdjust, Adjusted};
 use ring_rows::Hull;
 use ring_rows::Node;

@@ -1,21 +1,22 @@
 -- What holds while the buckets are filled, node by node. Assumes nothing.
-use Prim.Native.Nat.{ℕ, zero, suc, _+_, _-_, _<_, _≤_}
+use Prim.Native.Nat.{ℕ, suc, _+_, _-_, _<_, _≤_}
 use native.Mathlib.Omega.{arith}
 use mathlib.Core.Path.{_≡_, refl, sym, _∙_, ap, subst}
 use mathlib.Core.Bool.{cond}
 use mathlib.Core.List.{List}
 use lib.ListN.{length}
 use Rattle.angle.specs.Angle.{IsAngle, turns}
-use Rattle.segment.specs.Bucket.{Buckets, width, ceilOf}
+use Rattle.segment.specs.Bucket.{width, ceilOf}
 use Rattle.sums.specs.Iterate.{iter, iter-last}
 use Rattle.dcel.specs.Rows.{rowOf}
 use Rattle.ring.specs.Ring.{fullTurn}
 use Rattle.ring.specs.Buckets.{ceiling, within}
 use Rattle.ring.specs.Insert.{Bucketed}
+use Rattle.ring.specs.Resize.{buckets-sized}
 use Rattle.ring.specs.Build.{Filling, filling-start, filling-step, filling-done}
 use Rattle.ring_rows.specs.declared.Node.{Node}
 use Rattle.ring_rows.specs.Rows.{nodesOf, angleOf, rightOf, Readable, Updated, NodeUpdated, NodeBuckets, NodeRing, ToFill}
-use Rattle.ring_rows.specs.Laws.{sized, readable, walk-below}
+use Rattle.ring_rows.specs.Laws.{readable, walk-below}
 
 pub record Going (nodes : List (List ℕ)) (old new : List ℕ) (count start size i k : ℕ) : Type 0 where
   pub given : ToFill nodes old count start size
@@ -32,7 +33,7 @@ begin {nodes} {old} {count} {start} {size} G = record {
   given = G;
   at = refl;
   most = omega arith;
-  filled = filling-start (G .ring .sound) (G .ring .all-proper) (angles-low (G .ring)) (sized (G .counted)) (rowOf old);
+  filled = filling-start (G .ring .sound) (G .ring .all-proper) (angles-low (G .ring)) (buckets-sized (G .counted)) (rowOf old);
   same = refl;
 }
 
@@ -59,7 +60,7 @@ module _ {nodes : List (List ℕ)} {old new : List ℕ} {count start size i k : 
     given = K .given;
     at = U .right ∙ ap (rightOf (nodesOf nodes)) (K .at) ∙ sym (iter-last k (rightOf (nodesOf nodes)) start);
     most = l;
-    filled = filling-step (K .given .ring .sound) (K .given .ring .all-proper) (angles-low (K .given .ring)) (sized (K .given .counted)) (rowOf new) (rowOf new′) k l
+    filled = filling-step (K .given .ring .sound) (K .given .ring .all-proper) (angles-low (K .given .ring)) (buckets-sized (K .given .counted)) (rowOf new) (rowOf new′) k l
         (subst (λ (x : ℕ). (j : ℕ) → j < count → rowOf new′ j ≡ cond (within j (ceilOf (angleOf (nodesOf nodes) x) count) (ceilOf (angleOf (nodesOf nodes) (rightOf (nodesOf nodes) x)) count)) x (rowOf new j)) (K .at) (U .updated .each)) (K .filled);
     same = q ∙ K .same;
   })
@@ -69,7 +70,7 @@ module _ {nodes : List (List ℕ)} {old new : List ℕ} {count start size i k : 
 
   pub end : size ≤ k → Bucketed (rightOf (nodesOf nodes)) (angleOf (nodesOf nodes)) (rowOf new) count (width count) start size
   end l =
-      filling-done (K .given .ring .sound) (K .given .ring .all-proper) (angles-low (K .given .ring)) (sized (K .given .counted)) (rowOf new)
+      filling-done (K .given .ring .sound) (K .given .ring .all-proper) (angles-low (K .given .ring)) (buckets-sized (K .given .counted)) (rowOf new)
       (subst (Filling (rightOf (nodesOf nodes)) (angleOf (nodesOf nodes)) (rowOf new) count (width count) start) (let m = K .most in the k size m l) (K .filled))
     where
       the : (k size : ℕ) → k ≤ size → size ≤ k → k ≡ size

@@ -1,26 +1,23 @@
 -- What holds on the walk to the node that holds x. Assumes nothing.
-use Prim.Native.Nat.{ℕ, zero, suc, _+_, _-_, _<_, _≤_, _^_}
+use Prim.Native.Nat.{ℕ, suc, _+_, _-_, _<_}
 use native.Mathlib.Decide.{decLt, ℕ-discrete}
 use native.Mathlib.Omega.{arith}
 use mathlib.Core.Path.{_≡_, refl, sym, _∙_, ap, ap₂, subst}
 use mathlib.Core.Logic.{_≢_}
 use mathlib.Core.Bool.{Bool, true, false}
-use mathlib.Core.List.{List}
 use lib.Dec.{T}
-use lib.ListN.{length}
 use Rattle.angle.specs.Angle.{IsAngle, turns}
 use Rattle.segment.specs.Arc.{holds}
 use Rattle.segment.specs.Segment.{containsTurns}
 use Rattle.segment.specs.declared.Segment.{Segment}
 use Rattle.sums.specs.Iterate.{iter, iter-last}
-use Rattle.sums.specs.Tally.{First, tally-most}
+use Rattle.sums.specs.Tally.{tally-most}
 use Rattle.ring.specs.Ring.{atEnds, proper}
 use Rattle.ring.specs.Segments.{proper→}
 use Rattle.ring.specs.Sound.{tile}
 use Rattle.ring.specs.Insert.{all-proper}
 use Rattle.ring_rows.specs.declared.Node.{Node}
-use Rattle.ring_rows.specs.declared.Found.{Found}
-use Rattle.ring_rows.specs.Rows.{NodeRing, Got, Readable, angleOf, edgeOf, rightOf}
+use Rattle.ring_rows.specs.Rows.{NodeRing, Got, Readable, angleOf, rightOf}
 use Rattle.ring_rows.specs.Laws.{readable, walk-below}
 
 pub record Walking (t : ℕ → Node) (len size start x handle passed : ℕ) : Type 0 where

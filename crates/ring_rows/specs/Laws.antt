@@ -1,24 +1,16 @@
 -- Laws of rings in rows, for the functions of this crate and of those above it. Assumes nothing.
-use Prim.Native.Nat.{ℕ, zero, suc, _+_, _-_, _*_, _/_, _%_, _<_, _≤_, _^_}
+use Prim.Native.Nat.{ℕ, _-_, _<_, _^_}
+use native.Mathlib.Decide.{ℕ-discrete}
 use native.Mathlib.Omega.{arith}
-use mathlib.Core.Path.{_≡_, refl, sym, _∙_, ap, subst, fun-ext}
-use mathlib.Core.Logic.{_≢_}
-use mathlib.Core.Bool.{Bool}
+use mathlib.Core.Path.{_≡_, sym, _∙_, ap, subst, fun-ext}
 use mathlib.Core.List.{List}
-use lib.Dec.{T}
-use lib.ListN.{length}
-use Rattle.angle.specs.Angle.{IsAngle, turns}
-use Rattle.segment.specs.Bucket.{Buckets, width}
-use Rattle.segment.specs.Laws.{bucket-width}
 use Rattle.sums.specs.Iterate.{iter, iter-keeps}
 use Rattle.sums.specs.Put.{put, put-same, put-other}
-use Rattle.sums.specs.Tally.{walk, tally, tally-at}
+use Rattle.sums.specs.Tally.{tally-at}
 use Rattle.dcel.specs.Rows.{rowOf}
-use Rattle.ring.specs.Ring.{fullTurn, proper, atEnds}
-use Rattle.ring.specs.Segments.{proper→}
-use Rattle.ring.specs.Sound.{Sound, sound-at}
+use Rattle.ring.specs.Ring.{proper, atEnds}
+use Rattle.ring.specs.Sound.{sound-at}
 use Rattle.ring.specs.Insert.{On}
-use Rattle.ring.specs.Buckets.{Sized}
 use Rattle.ring_rows.specs.declared.Node.{Node}
 use Rattle.ring_rows.specs.declared.Hull.{Hull}
 use Rattle.ring_rows.specs.Rows.{Readable, ValidNode, ValidNodes, NodeRing, RingRows, nodesOf, angleOf, rightOf, sizeOf}
@@ -45,13 +37,9 @@ ring-from {t} {len} {size} {start} R x (k, l, z) = subst (NodeRing t len size) z
 pub bucket-ring : {nodes : List (List ℕ)} {buckets : List ℕ} {h : Hull} → RingRows nodes buckets h → (i : ℕ) → i < h .buckets → NodeRing (nodesOf nodes) (h .nodes) (sizeOf h) (rowOf buckets i)
 bucket-ring {nodes} {buckets} {h} R i l = ring-from (R .ring) (rowOf buckets i) (R .filled i l .0)
 
--- n buckets of the circle
-pub sized : {n : ℕ} → Buckets n → Sized fullTurn n (width n)
-sized {n} B = let w = bucket-width n B in record { eight = w .1; room = w .0; all = w .2 }
-
 -- a field of a row with one node changed
 pub put-map : {A B : Type 0} (g : A → B) (f : ℕ → A) (a : ℕ) (v : A) → (λ x. g (put f a v x)) ≡ put (λ x. g (f x)) a (g v)
-put-map g f a v = fun-ext (λ x. at x (native.Mathlib.Decide.ℕ-discrete x a))
+put-map g f a v = fun-ext (λ x. at x (ℕ-discrete x a))
   where
     at : (x : ℕ) → Dec (x ≡ a) → g (put f a v x) ≡ put (λ y. g (f y)) a (g v) x
     at x (yes e) = rw e (ap g (put-same f a v) ∙ sym (put-same (λ y. g (f y)) a (g v)))

@@ -1,8 +1,7 @@
 // The ring in the rows that the caller lends (bulk_load.rs, `Hull`, `Node`): a node is four numbers, its angle's bits, its edge, its left and its right node.
 // `load`, `store` and the three relinks are all that touches the row; everything else works with `Node` by value.
 ghost use mathlib.Core.Path.{_≡_};
-ghost use mathlib.Core.List.{List};
-ghost use Prim.Native.Nat.{ℕ, _<_, _≤_, _^_};
+ghost use Prim.Native.Nat.{_<_, _≤_};
 ghost use lib.ListN.{length, replicate};
 ghost use lib.Dec.{T};
 ghost use Rattle.sums.specs.Put.{put};

@@ -32,16 +32,6 @@ fn is_line(text: &[u8], start: usize, tag: u8, end: usize) -> bool {
     test_text::byte(text, end) == b'\n'
 }
 
-// A coordinate: 32 signed bits.
-pub fn coordinate(n: Number) -> i32 {
-    if n.negative {
-        if n.magnitude == 2147483648 {
-            return -2147483648;
-        }
-    }
-    test_text::signed(n)
-}
-
 pub fn read_counts(text: &[u8], at: usize) -> CountsLine {
     let start = behind(text, at);
     let v = test_text::read_number(text, start);
@@ -121,7 +111,7 @@ pub fn read_coordinates(text: &[u8], at: usize, tag: u8, row: &mut [i32]) -> Row
     let mut i: usize = 0;
     while i < count {
         let entry = next_entry(text, place, past);
-        let value = coordinate(entry);
+        let value = test_text::signed(entry);
         row[i] = value;
         place = entry.at;
         i += 1;

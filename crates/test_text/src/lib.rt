@@ -29,7 +29,13 @@ fn with_digit(magnitude: u64, digit: u8) -> u64 {
     if d > 9 {
         return magnitude;
     }
-    if magnitude > 1844674407370955160 {
+    if magnitude < 1844674407370955161 {
+        return magnitude * 10 + (d as u64);
+    }
+    if magnitude > 1844674407370955161 {
+        return magnitude;
+    }
+    if d > 5 {
         return magnitude;
     }
     magnitude * 10 + (d as u64)
@@ -85,6 +91,9 @@ pub fn next_line(text: &[u8], at: usize) -> usize {
 // The number as 32 signed bits, 0 where it does not fit.
 pub fn signed(n: Number) -> i32 {
     if n.magnitude > 2147483647 {
+        if n.magnitude == 2147483648 && n.negative {
+            return -2147483648;
+        }
         return 0;
     }
     let m = n.magnitude as i32;

@@ -1,7 +1,7 @@
 -- `ring_insert::insert` meets its contract. Assumes nothing.
 use mathlib.Core.Path.{refl}
 use Rattle.angle.specs.Bits.{angle-valid}
-use Rattle.ring_insert.proofs.Inserting.{floor-below, chosen-as, found-on, found-angle, to-choose, to-place}
+use Rattle.ring_insert.proofs.Inserting.{floor-below, chosen-as, found-on, found-angle, to-choose, to-place, new-valid, new-room}
 use borrow.Author.Needs.{needs}
 use Rattle.ring_insert.proofs.insert.Statement.{statement}
 use Rattle.ring_insert.proofs.insert.Tie as tie
@@ -35,7 +35,7 @@ same-length-3 c = search needs
 
 returns : tie.Need-returns
 returns c =
-    let b = c .before .before in let p = b .before .before .before .before in let h = p .before .before .before .before in let e = h .before .before .before in let g = e .before in let I = g .before .before .before .before .before .pre in
+    let b = c .before .before in let p = b .before .before .before .before in let h = p .before .before .before .before in let e = h .before .before .before in let g = e .before in let Z = g .before .before .before .before .before in let I = Z .pre in
     record {
       left = g .get .result .node;
       left-on = found-on I (floor-below _ (I .rows .counted)) (g .get .ensures);
@@ -44,6 +44,8 @@ returns c =
       chosen = chosen-as (e .equal .ensures) (h .choose .ensures);
       placed = p .place .ensures;
       rebuckets = b .update-buckets .ensures;
+      valid = new-valid I (floor-below _ (I .rows .counted)) (g .get .ensures) (e .equal .ensures) (h .choose .ensures) (Z .fits .leftedge .fits) (Z .fits .rightedge .fits) (p .place .ensures);
+      room = new-room I (floor-below _ (I .rows .counted)) (g .get .ensures) (e .equal .ensures) (h .choose .ensures);
       same-buckets = refl;
       used = refl;
       freed-now = refl;

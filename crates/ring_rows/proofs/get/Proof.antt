@@ -2,11 +2,10 @@
 use borrow.Author.Needs.{needs}
 use Prim.Native.Nat.{ℕ, _-_}
 use native.Mathlib.Omega.{arith}
-use mathlib.Core.Path.{subst, sym}
 use lib.ListN.{length}
 use Rattle.angle.specs.Angle.{turns}
 use Rattle.dcel.specs.Rows.{rowOf}
-use Rattle.ring_rows.specs.Rows.{NodeRing, Got, nodesOf, sizeOf}
+use Rattle.ring_rows.specs.Rows.{NodeRing, nodesOf}
 use Rattle.ring_rows.specs.Laws.{bucket-ring}
 use Rattle.ring_rows.proofs.Walk.{Walking, begin, here, here-readable, next-here, next-readable, apart, found, again}
 use Rattle.ring_rows.proofs.get.Statement.{statement}

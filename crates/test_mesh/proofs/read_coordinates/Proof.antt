@@ -31,8 +31,8 @@ loop-holds c = search needs
 next-entry-requires : tie.Need-next-entry-requires Inv-loop μ-loop
 next-entry-requires c κs = search needs
 
-coordinate-requires : tie.Need-coordinate-requires Inv-loop μ-loop
-coordinate-requires c κs = search needs
+signed-requires : tie.Need-signed-requires Inv-loop μ-loop
+signed-requires c κs = search needs
 
 mul-value : tie.Need-mul-value Inv-loop μ-loop
 mul-value c = search needs
@@ -73,7 +73,7 @@ read-coordinates-spec =
     returns
     loop-holds
     next-entry-requires
-    coordinate-requires
+    signed-requires
     mul-value
     slice-set-from-value
     add-i

@@ -1,0 +1,236 @@
+-- The call `finish` on the lent rows: what an accepted call leaves (`finish-accepted`), what refusal 9 leaves (`finish-full`), and that every other refusal is one of
+-- the checks' and changes nothing (`finish-refused`). Assumes nothing.
+use mathlib.Core.Bool.{Bool, true, false, not, cond}
+use mathlib.Core.List.{List}
+use mathlib.Core.Logic.{_⊎_, inl, inr}
+use mathlib.Core.Path.{_≡_, refl, sym, _∙_, ap, subst}
+use Prim.Native.Nat.{ℕ, _+_, _^_, _≤_}
+use native.Mathlib.Nat.{div-add-mod'}
+use native.Mathlib.Omega.{arith}
+use lib.Dec.{ltb}
+use lib.IntN.{ℤ, natAbs}
+use lib.ListN.{length, replicate}
+use Rattle.closing.specs.Closing.{Closing, closingPass}
+use Rattle.convexity.specs.Convexity.{Convexity, convexity, unpassed, NoLeftCorner}
+use Rattle.convexity.specs.ConvexityLaws.{convexity-closings}
+use Rattle.convexity.specs.CornerLaws.{Closings}
+use Rattle.dcel.specs.Rows.{linksOf, positionOf, rowFrom, halvesFrom}
+use Rattle.dcel.specs.Views.{length-from}
+use Rattle.convexity.specs.ConvexityRows.{MeshReady}
+use Rattle.flip_count.specs.FlipCount.{flipCountOf}
+use Rattle.math.specs.declared.Point.{Point}
+use Rattle.mesh.specs.declared.Counts.{Counts}
+use Rattle.mesh.specs.Mesh.{Links}
+use Rattle.mesh.specs.Area.{areaTotal, boundaryArea, heightSum}
+use Rattle.mesh.specs.Circle.{Settled}
+use Rattle.mesh.specs.CountsLaws.{count-edges, count-faces}
+use Rattle.mesh.specs.FlipRun.{FlipRun}
+use Rattle.mesh.specs.Good.{Good}
+use Rattle.mesh.specs.Rules.{rules}
+use Rattle.mesh_check.specs.declared.Checked.{Checked}
+use Rattle.mesh_check.specs.declared.Refusal.{Refusal}
+use Rattle.mesh_check.specs.Check.{refused, countRefused, firstOutside, firstNotLeft, checkMesh, checkWith}
+use Rattle.finish.specs.declared.Finished.{Finished}
+use Rattle.finish.specs.declared.Totals.{Totals}
+use Rattle.finish.specs.Finish.{Finishing, finishMesh, Outcome, flipCountFrom, finishedFrom, outcomeOf, seedChecked, finishOf}
+use Rattle.finish.specs.FinishRows.{accepted-ready}
+use Rattle.finish.specs.MeshLaws.{finish-flips, finish-good, finish-counts, finish-area, finish-falls, finish-untouched, finish-closing, finish-convex, finish-settled}
+use Rattle.finish.specs.Untouched.{Untouched, Holding, rows-back}
+
+-- the links that the rows hold after a call
+abbrev pub linksAfter : Outcome → Links
+linksAfter r = linksOf (r .outs) (r .halves) (r .faces)
+
+-- the counts after a call: the same vertices, an edge and a face more for each face added
+abbrev pub withFaces : Counts → ℕ → Counts
+withFaces C n = record { vertices = C .vertices; edges = C .edges + n; faces = C .faces + n }
+
+-- a number in two words is that number
+count-of : (n : ℕ) → flipCountOf (flipCountFrom n) ≡ n
+unfolding flipCountOf flipCountFrom
+count-of n = div-add-mod' n (2 ^ 64)
+
+-- what a call on a good mesh leaves: the mesh is good, its areas add up, what is past the counts is untouched, and the pending row holds zeros
+pub record Left (C : Counts) (q : List ℤ) (o h a row : List ℕ) (r : Outcome) (n : ℕ) : Type 0 where
+  pub counts : r .answer .counts ≡ withFaces C n
+  pub good : Good (r .answer .counts) (linksAfter r) (positionOf q)
+  pub area : areaTotal (r .answer .counts) (linksAfter r) (positionOf q) ≡ boundaryArea (r .answer .counts) (linksAfter r) (positionOf q)
+  pub untouched : Untouched (r .answer .counts) (linksOf o h a) (linksAfter r)
+  pub outs : length (r .outs) ≡ length o
+  pub halves : length (r .halves) ≡ length h
+  pub faces : length (r .faces) ≡ length a
+  pub pending : r .pending ≡ replicate (length row) 0
+
+-- what an accepted call leaves besides. `passed`: the mesh after the convexity passes
+pub record Done (C : Counts) (q : List ℤ) (o h a row : List ℕ) (r : Outcome) (t : Totals) : Type 0 where
+  pub left : Left C q o h a row r (t .faces)
+  -- no boundary corner turns left, and no triangle's circle strictly contains a neighbour's far vertex
+  pub convex : NoLeftCorner (r .answer .counts) (linksAfter r) (positionOf q)
+  pub settled : Settled (r .answer .counts) (linksAfter r) (positionOf q)
+  -- corners closed one after another, each followed by its flips, as many of both as reported
+  pub passed : Convexity
+  pub passes : Closings (positionOf q) (unpassed C (linksOf o h a) .mesh) passed
+  pub faces : t .faces ≡ passed .faces
+  pub convexflips : flipCountOf (t .convexflips) ≡ passed .flips
+  -- then the closing pass: as many flips as reported, and the height sum falls by at least that many
+  pub closing : _≡_ {A = Closing} (record { links = linksAfter r; flips = flipCountOf (t .closingflips) }) (closingPass (passed .counts) (positionOf q) (passed .links))
+  pub closingflips : FlipRun (r .answer .counts) (positionOf q) (passed .links) (linksAfter r) (flipCountOf (t .closingflips))
+  pub falls : flipCountOf (t .closingflips) + natAbs (heightSum (r .answer .counts) (linksAfter r) (positionOf q)) ≤ natAbs (heightSum (r .answer .counts) (passed .links) (positionOf q))
+
+-- 01: "All but 9 change nothing lent"
+pub record Unchanged (C : Counts) (o h a row : List ℕ) (r : Outcome) : Type 0 where
+  pub counts : r .answer .counts ≡ C
+  pub outs : r .outs ≡ o
+  pub halves : r .halves ≡ h
+  pub faces : r .faces ≡ a
+  pub pending : r .pending ≡ row
+
+-- ---- the checks' refusals are numbered 1 to 5
+unfoldable Few : Checked → Type 0
+Few Checked.Accepted = Unit {0}
+Few (Checked.Refused x) = x .number ≤ 5
+
+few-none : Few Checked.Accepted
+unfolding Few
+few-none = tt
+
+few-cond : (t : Bool) (n k : ℕ) (c : Checked) → n ≤ 5 → Few c → Few (cond t (refused n k) c)
+unfolding Few
+few-cond true n k c l f = l
+few-cond false n k c l f = f
+
+few-checks : (n : ℕ) (short : Bool) (C : Counts) (L : Links) (p : ℕ → Point) → Few (checkMesh n short C L p)
+unfolding checkMesh
+few-checks n short C L p =
+    few-cond (countRefused n) 1 0 _ (omega arith)
+    (few-cond short 2 0 _ (omega arith)
+    (few-cond (ltb (firstOutside n p) n) 3 (firstOutside n p) _ (omega arith)
+    (few-cond (not (rules C L)) 4 0 _ (omega arith)
+    (few-cond (ltb (firstNotLeft C L p) (C .faces)) 5 (firstNotLeft C L p) _ (omega arith) few-none))))
+
+module _ (C : Counts) (q : List ℤ) (o h a row : List ℕ) where
+  few-seed : Few (seedChecked C q o h a row)
+  unfolding seedChecked checkWith
+  few-seed = few-checks _ _ _ _ _
+
+  abbrev p : ℕ → Point
+  p = positionOf q
+
+  abbrev L : Links
+  L = linksOf o h a
+
+  abbrev m : Finishing
+  m = finishMesh (length row) C p L
+
+  abbrev totals : Totals
+  totals = record { faces = m .faces; convexflips = flipCountFrom (m .convexflips); closingflips = flipCountFrom (m .closingflips) }
+
+  -- ---- the checks accept
+  module _ (e : seedChecked C q o h a row ≡ Checked.Accepted) where
+    abbrev R : Outcome
+    R = record {
+      answer = record { counts = m .counts; finished = finishedFrom m };
+      outs = rowFrom (length o) (m .links .out);
+      halves = halvesFrom (length h) (m .links);
+      faces = rowFrom (length a) (m .links .adjacent);
+      pending = replicate (length row) 0;
+    }
+
+    is-accepted : finishOf C q o h a row ≡ R
+    unfolding finishOf outcomeOf
+    is-accepted = rw e refl
+
+    ready : MeshReady q o h a row C
+    ready = accepted-ready C q o h a row (sym e)
+
+    G : Good C L p
+    G = ready .rows .good
+
+    holding : Holding (m .counts) o h a
+    holding =
+        let c = ap (λ (K : Counts). K .vertices) (finish-counts (length row) C p L G) in
+        let u = count-edges (finish-good (length row) C p L G .wf) in
+        let w = count-faces (finish-good (length row) C p L G .wf) in
+        let s = ready .sized in
+        let n = ready .rows .room in
+        record { outs = omega arith; halves = omega arith; faces = omega arith }
+
+    back : linksAfter R ≡ m .links
+    back = rows-back holding (finish-untouched (length row) C p L G)
+
+    left : Left C q o h a row R (m .faces)
+    unfolding halvesFrom
+    left = record {
+      counts = finish-counts (length row) C p L G;
+      good = subst (λ (K : Links). Good (m .counts) K p) (sym back) (finish-good (length row) C p L G);
+      area = subst (λ (K : Links). areaTotal (m .counts) K p ≡ boundaryArea (m .counts) K p) (sym back) (finish-area (length row) C p L G);
+      untouched = subst (Untouched (m .counts) L) (sym back) (finish-untouched (length row) C p L G);
+      outs = length-from (length o) (m .links .out);
+      halves = length-from (length h) _;
+      faces = length-from (length a) (m .links .adjacent);
+      pending = refl;
+    }
+
+    done : m .full ≡ false → Done C q o h a row R totals
+    unfolding finishMesh
+    done f =
+        let n = count-of (m .closingflips) in
+        record {
+          left = left;
+          convex = subst (λ (K : Links). NoLeftCorner (m .counts) K p) (sym back) (finish-convex (length row) C p L G f);
+          settled = subst (λ (K : Links). Settled (m .counts) K p) (sym back) (finish-settled (length row) C p L G f);
+          passed = convexity (length row) C p L;
+          passes = convexity-closings (length row) C p L G;
+          faces = refl;
+          convexflips = count-of (m .convexflips);
+          closing = rw (back, n) (finish-closing (length row) C p L G f);
+          closingflips = rw (back, n) (finish-flips (length row) C p L G);
+          falls = rw (back, n) (finish-falls (length row) C p L G);
+        }
+
+  -- ---- by what is answered
+  -- accepted: the mesh is good, no boundary corner turns left, and it is settled
+  pub finish-accepted : (t : Totals) → finishOf C q o h a row .answer .finished ≡ Finished.Accepted t → Done C q o h a row (finishOf C q o h a row) t
+  unfolding finishedFrom finishOf outcomeOf
+  finish-accepted t e = by (seedChecked C q o h a row) refl
+    where
+      at : (k : seedChecked C q o h a row ≡ Checked.Accepted) → (b : Bool) → m .full ≡ b → Done C q o h a row (finishOf C q o h a row) t
+      at k true f =
+          let x : Finished.Refused (record { number = 9; place = 0 }) ≡ Finished.Accepted t = sym (rw (is-accepted k, f) refl) ∙ e in
+          absurd (let z : _≡_ {A = ℕ} 0 1 = cc in omega arith)
+      at k false f =
+          let x : Finished.Accepted totals ≡ Finished.Accepted t = sym (rw (is-accepted k, f) refl) ∙ e in
+          let y : totals ≡ t = cc in
+          subst (Done C q o h a row (finishOf C q o h a row)) y (subst (λ (r : Outcome). Done C q o h a row r totals) (sym (is-accepted k)) (done k f))
+
+      by : (c : Checked) → seedChecked C q o h a row ≡ c → Done C q o h a row (finishOf C q o h a row) t
+      by Checked.Accepted k = at k (m .full) refl
+      by (Checked.Refused x) k =
+          let y : Finished.Refused x ≡ Finished.Accepted t = rw k at e in
+          absurd (let z : _≡_ {A = ℕ} 0 1 = cc in omega arith)
+
+  -- refused: by the checks, and nothing has changed, or before a flip whose pushes would overfill the pending list, and the mesh is good
+  pub finish-refused : (x : Refusal) → finishOf C q o h a row .answer .finished ≡ Finished.Refused x
+      → ((x .number ≤ 5) × Unchanged C o h a row (finishOf C q o h a row))
+      ⊎ ((x .number ≡ 9) × (x .place ≡ 0) × Left C q o h a row (finishOf C q o h a row) (m .faces))
+  unfolding finishedFrom finishOf outcomeOf Few
+  finish-refused x e = by (seedChecked C q o h a row) refl few-seed
+    where
+      Wanted : Type 0
+      Wanted = ((x .number ≤ 5) × Unchanged C o h a row (finishOf C q o h a row)) ⊎ ((x .number ≡ 9) × (x .place ≡ 0) × Left C q o h a row (finishOf C q o h a row) (m .faces))
+
+      at : (k : seedChecked C q o h a row ≡ Checked.Accepted) → (b : Bool) → m .full ≡ b → Wanted
+      at k true f =
+          let y : Finished.Refused (record { number = 9; place = 0 }) ≡ Finished.Refused x = sym (rw (is-accepted k, f) refl) ∙ e in
+          let z : record { number = 9; place = 0 } ≡ x = cc in
+          inr (ap (λ (r : Refusal). r .number) (sym z), ap (λ (r : Refusal). r .place) (sym z), subst (λ (r : Outcome). Left C q o h a row r (m .faces)) (sym (is-accepted k)) (left k))
+      at k false f =
+          let y : Finished.Accepted totals ≡ Finished.Refused x = sym (rw (is-accepted k, f) refl) ∙ e in
+          absurd (let z : _≡_ {A = ℕ} 0 1 = cc in omega arith)
+
+      by : (c : Checked) → seedChecked C q o h a row ≡ c → Few c → Wanted
+      by Checked.Accepted k l = at k (m .full) refl
+      by (Checked.Refused y) k l =
+          let z : Finished.Refused y ≡ Finished.Refused x = rw k at e in
+          let w : y ≡ x = cc in
+          inl (subst (λ (r : Refusal). r .number ≤ 5) w l, (rw k (record { counts = refl; outs = refl; halves = refl; faces = refl; pending = refl })))

@@ -1,0 +1,80 @@
+-- What a finish makes of a good mesh. It closes corners of the boundary that turn left, each followed by flips, and then flips until no edge breaks the circle rule.
+-- Where no flip is refused, no corner is left that turns left, and the mesh is settled; in any case it stays good, with its vertices. Assumes nothing.
+use mathlib.Core.Bool.{Bool, true, false, cond}
+use mathlib.Core.Path.{_≡_, sym, ap, subst}
+use Prim.Native.Nat.{ℕ, _+_, _≤_}
+use lib.IntN.{natAbs, _+ℤ_}
+use Rattle.closing.specs.Closing.{Closing, closingPass}
+use Rattle.closing.specs.ClosingLaws.{closing-closes}
+use Rattle.convexity.specs.Convexity.{Convexity, convexity, NoLeftCorner}
+use Rattle.convexity.specs.ConvexityLaws.{convexity-closings, convexity-good, convexity-counts, convexity-convex, run-corners}
+use Rattle.math.specs.declared.Point.{Point}
+use Rattle.mesh.specs.declared.Counts.{Counts}
+use Rattle.mesh.specs.Mesh.{Links}
+use Rattle.mesh.specs.Area.{areaTotal, boundaryArea, heightSum}
+use Rattle.mesh.specs.AreaLaws.{area-theorem}
+use Rattle.mesh.specs.Circle.{Settled}
+use Rattle.mesh.specs.FlipRun.{FlipRun, none, run-good, run-falls, run-heights, determinants}
+use Rattle.mesh.specs.Good.{Good}
+use Rattle.finish.specs.Finish.{Finishing, closeAfter, finishMesh}
+use Rattle.finish.specs.Untouched.{Untouched, run-untouched, closings-untouched, untouched-flips}
+
+-- in any case, a refused flip too
+module _ (room : ℕ) (C : Counts) (p : ℕ → Point) (L : Links) (G : Good C L p) where
+  abbrev v : Convexity
+  v = convexity room C p L
+
+  abbrev m : Finishing
+  m = finishMesh room C p L
+
+  -- flips alone follow the convexity passes
+  pub finish-flips : FlipRun (m .counts) p (v .links) (m .links) (m .closingflips)
+  unfolding finishMesh closeAfter
+  finish-flips = go (v .full)
+    where
+      go : (b : Bool) → let c = cond b (record { links = v .links; flips = 0 }) (closingPass (v .counts) p (v .links)) in FlipRun (v .counts) p (v .links) (c .links) (c .flips)
+      go true = none
+      go false = closing-closes (convexity-good room C p L G) .run
+
+  pub finish-good : Good (m .counts) (m .links) p
+  unfolding finishMesh
+  finish-good = run-good (convexity-good room C p L G) finish-flips
+
+  -- the same vertices, and an edge and a face more for each face that is reported
+  pub finish-counts : m .counts ≡ record { vertices = C .vertices; edges = C .edges + m .faces; faces = C .faces + m .faces }
+  unfolding finishMesh
+  finish-counts = convexity-counts room C p L G
+
+  -- the inner faces' doubled areas total the boundary's
+  pub finish-area : areaTotal (m .counts) (m .links) p ≡ boundaryArea (m .counts) (m .links) p
+  finish-area = area-theorem (finish-good .wf) p
+
+  -- the height sum falls by the circle determinants of the closing flips, so by at least their number
+  pub finish-heights : heightSum (m .counts) (v .links) p ≡ heightSum (m .counts) (m .links) p +ℤ determinants finish-flips
+  unfolding finishMesh
+  finish-heights = run-heights (convexity-good room C p L G) finish-flips
+
+  pub finish-falls : m .closingflips + natAbs (heightSum (m .counts) (m .links) p) ≤ natAbs (heightSum (m .counts) (v .links) p)
+  unfolding finishMesh
+  finish-falls = run-falls (convexity-good room C p L G) finish-flips
+
+  pub finish-untouched : Untouched (m .counts) L (m .links)
+  unfolding finishMesh
+  finish-untouched = untouched-flips (closings-untouched G (convexity-closings room C p L G)) (run-untouched (convexity-good room C p L G) finish-flips)
+
+  -- where no flip is refused
+  module _ (f : m .full ≡ false) where
+    -- the closing flips are those of the closing pass
+    pub finish-closing : _≡_ {A = Closing} (record { links = m .links; flips = m .closingflips }) (closingPass (v .counts) p (v .links))
+    unfolding finishMesh closeAfter
+    finish-closing = ap (λ (b : Bool). cond b (record { links = v .links; flips = 0 }) (closingPass (v .counts) p (v .links))) f
+
+    -- no boundary corner turns left
+    pub finish-convex : NoLeftCorner (m .counts) (m .links) p
+    unfolding finishMesh
+    finish-convex = run-corners (convexity-good room C p L G) finish-flips (convexity-convex room C p L G f)
+
+    -- no triangle's circle strictly contains a neighbour's far vertex
+    pub finish-settled : Settled (m .counts) (m .links) p
+    unfolding finishMesh
+    finish-settled = subst (λ (s : Closing). Settled (v .counts) (s .links) p) (sym finish-closing) (closing-closes (convexity-good room C p L G) .settled)

@@ -1,0 +1,169 @@
+-- 01: "mesh and answer entries past the counts in use are untouched": of flips, of corners closed, and of the rows that are made of the links again.
+-- Assumes nothing.
+use mathlib.Core.List.{List}
+use mathlib.Core.Path.{_≡_, refl, sym, _∙_, ap, fun-ext}
+use Prim.Native.Nat.{ℕ, _+_, _*_, _/_, _%_, _<_, _≤_}
+use native.Mathlib.Decide.{decLt}
+use native.Mathlib.Omega.{arith}
+use lib.ListN.{length, getD, List·getD-eq-default}
+use Rattle.convexity.specs.Convexity.{Convexity}
+use Rattle.convexity.specs.CornerLaws.{Closings, none, then, CornerClosed, closings-good}
+use Rattle.dcel.specs.Rows.{halvesOf, rowOf, linksOf, rowFrom, field, halvesIn, halvesFrom}
+use Rattle.dcel.specs.Views.{length-from, getD-from}
+use Rattle.math.specs.declared.Point.{Point}
+use Rattle.mesh.specs.declared.Counts.{Counts}
+use Rattle.mesh.specs.Mesh.{Links, In}
+use Rattle.mesh.specs.Operations.{flipBetween, flipCw, faceBetween, createSingleFaceBetweenEdgeAndNext, withFace}
+use Rattle.mesh.specs.FlipRun as runs
+use Rattle.mesh.specs.FlipRun.{FlipRun, run-good}
+use Rattle.mesh.specs.Good.{Good}
+use Rattle.mesh.specs.GoodLaws.{single-face-good}
+use Rattle.mesh.specs.Wf.{Wf}
+use Rattle.sums.specs.Put.{put, put-other}
+
+pub record Untouched (C : Counts) (L L′ : Links) : Type 0 where
+  pub next : (e : ℕ) → 2 * C .edges ≤ e → L′ .next e ≡ L .next e
+  pub prev : (e : ℕ) → 2 * C .edges ≤ e → L′ .prev e ≡ L .prev e
+  pub face : (e : ℕ) → 2 * C .edges ≤ e → L′ .face e ≡ L .face e
+  pub origin : (e : ℕ) → 2 * C .edges ≤ e → L′ .origin e ≡ L .origin e
+  pub out : (v : ℕ) → C .vertices ≤ v → L′ .out v ≡ L .out v
+  pub adjacent : (f : ℕ) → C .faces ≤ f → L′ .adjacent f ≡ L .adjacent f
+
+-- nothing was changed, or one change after another with counts that do not shrink
+untouched-none : {C : Counts} {L : Links} → Untouched C L L
+untouched-none = record { next = λ e _. refl; prev = λ e _. refl; face = λ e _. refl; origin = λ e _. refl; out = λ v _. refl; adjacent = λ f _. refl }
+
+-- counts that have not shrunk
+record Grown (C C′ : Counts) : Type 0 where
+  vertices : C .vertices ≤ C′ .vertices
+  edges : C .edges ≤ C′ .edges
+  faces : C .faces ≤ C′ .faces
+
+untouched-join : {C C′ : Counts} {L L′ L″ : Links} → Grown C C′ → Untouched C L L′ → Untouched C′ L′ L″ → Untouched C′ L L″
+untouched-join g a b = record {
+  next = λ e l. b .next e l ∙ a .next e (omega arith);
+  prev = λ e l. b .prev e l ∙ a .prev e (omega arith);
+  face = λ e l. b .face e l ∙ a .face e (omega arith);
+  origin = λ e l. b .origin e l ∙ a .origin e (omega arith);
+  out = λ v l. b .out v l ∙ a .out v (omega arith);
+  adjacent = λ f l. b .adjacent f l ∙ a .adjacent f (omega arith);
+}
+
+-- ---- the two operations of a finish
+-- a store below n is not seen from n on
+past : (f : ℕ → ℕ) (a v : ℕ) {n x : ℕ} → n ≤ x → a < n → put f a v x ≡ f x
+past f a v {n} {x} l m = put-other f a v x (λ q. omega arith)
+
+pub flip-untouched : {C : Counts} {L : Links} → Wf C L → {u : ℕ} → u < C .edges → Untouched C L (flipCw L u)
+unfolding flipCw flipBetween
+flip-untouched {C} {L} W {u} l =
+    let e : In C (2 * u) = omega arith in
+    let t : In C (2 * u + 1) = omega arith in
+    let en = W .ranges .next< e in let ep = W .ranges .prev< e in
+    let tn = W .ranges .next< t in let tp = W .ranges .prev< t in
+    record {
+      next = λ x k. past _ _ _ k tn ∙ past _ _ _ k ep ∙ past _ _ _ k t ∙ past _ _ _ k en ∙ past _ _ _ k tp ∙ past _ _ _ k e;
+      prev = λ x k. past _ _ _ k t ∙ past _ _ _ k tn ∙ past _ _ _ k ep ∙ past _ _ _ k e ∙ past _ _ _ k en ∙ past _ _ _ k tp;
+      face = λ x k. past _ _ _ k ep ∙ past _ _ _ k tp;
+      origin = λ x k. past _ _ _ k t ∙ past _ _ _ k e;
+      out = λ v k. past _ _ _ k (W .ranges .origin< t) ∙ past _ _ _ k (W .ranges .origin< e);
+      adjacent = λ f k. past _ _ _ k (W .ranges .face< t) ∙ past _ _ _ k (W .ranges .face< e);
+    }
+
+pub single-face-untouched : {C : Counts} {L : Links} → Wf C L → {e : ℕ} → In C e → Untouched (withFace C) L (createSingleFaceBetweenEdgeAndNext L C e)
+unfolding createSingleFaceBetweenEdgeAndNext faceBetween
+single-face-untouched {C} {L} W {e} l =
+    let p = W .ranges .prev< l in let n = W .ranges .next< l in let q = W .ranges .next< n in
+    let e′ : In (withFace C) e = omega arith in
+    let p′ : In (withFace C) (L .prev e) = omega arith in
+    let n′ : In (withFace C) (L .next e) = omega arith in
+    let q′ : In (withFace C) (L .next (L .next e)) = omega arith in
+    let i : In (withFace C) (2 * C .edges) = omega arith in
+    let o : In (withFace C) (2 * C .edges + 1) = omega arith in
+    record {
+      next = λ x k. past _ _ _ k p′ ∙ past _ _ _ k o ∙ past _ _ _ k n′ ∙ past _ _ _ k i;
+      prev = λ x k. past _ _ _ k o ∙ past _ _ _ k q′ ∙ past _ _ _ k i ∙ past _ _ _ k e′;
+      face = λ x k. past _ _ _ k n′ ∙ past _ _ _ k e′ ∙ past _ _ _ k o ∙ past _ _ _ k i;
+      origin = λ x k. past _ _ _ k o ∙ past _ _ _ k i;
+      out = λ v k. refl;
+      adjacent = λ f k. past _ _ _ k (let g : C .faces < C .faces + 1 = omega arith in g) ∙ past _ _ _ k (let g : 0 < C .faces + 1 = omega arith in g);
+    }
+
+-- ---- sequences of them
+grown-same : {C : Counts} → Grown C C
+grown-same = record { vertices = omega arith; edges = omega arith; faces = omega arith }
+
+pub run-untouched : {C : Counts} {p : ℕ → Point} {L M : Links} {n : ℕ} → Good C L p → FlipRun C p L M n → Untouched C L M
+run-untouched G runs.none = untouched-none
+run-untouched G (runs.then r u l b) = untouched-join grown-same (run-untouched G r) (flip-untouched (run-good G r .wf) l)
+
+corner-untouched : {p : ℕ → Point} {m m′ : Convexity} {e : ℕ} → Good (m .counts) (m .links) p → CornerClosed p m m′ e → Untouched (m′ .counts) (m .links) (m′ .links)
+corner-untouched {p} {m} {m′} G S =
+    rw (S .counts) (untouched-join grown-same (single-face-untouched (G .wf) (S .edge)) (run-untouched (single-face-good G (S .edge) (S .outer) (S .left)) (S .run)))
+
+pub closings-untouched : {p : ℕ → Point} {m n : Convexity} → Good (m .counts) (m .links) p → Closings p m n → Untouched (n .counts) (m .links) (n .links)
+closings-untouched G none = untouched-none
+closings-untouched {n = n} G (then {k = k} a e S) =
+    let v = ap (λ (C : Counts). C .vertices) (S .counts) in
+    let u = ap (λ (C : Counts). C .edges) (S .counts) in
+    let w = ap (λ (C : Counts). C .faces) (S .counts) in
+    untouched-join (record { vertices = omega arith; edges = omega arith; faces = omega arith }) (closings-untouched G a) (corner-untouched (closings-good G a) S)
+
+-- flips after them
+pub untouched-flips : {C : Counts} {L L′ L″ : Links} → Untouched C L L′ → Untouched C L′ L″ → Untouched C L L″
+untouched-flips a b = untouched-join grown-same a b
+
+-- ---- the rows that are made of such links hold them
+-- rows with room for the counts
+pub record Holding (C : Counts) (o h a : List ℕ) : Type 0 where
+  pub outs : C .vertices ≤ length o
+  pub halves : 8 * C .edges ≤ length h
+  pub faces : C .faces ≤ length a
+
+row-back : (l : List ℕ) (f : ℕ → ℕ) (n : ℕ) → n ≤ length l → ((i : ℕ) → n ≤ i → f i ≡ getD l i 0) → (i : ℕ) → getD (rowFrom (length l) f) i 0 ≡ f i
+row-back l f n k u i = go (decLt i (length l))
+  where
+    go : Dec (i < length l) → getD (rowFrom (length l) f) i 0 ≡ f i
+    go (yes b) = getD-from (length l) f 0 i b
+    go (no b) =
+        let m : length l ≤ i = omega arith in
+        let s = length-from (length l) f in
+        List·getD-eq-default (rowFrom (length l) f) 0 (omega arith) ∙ sym (u i (omega arith) ∙ List·getD-eq-default l 0 m)
+
+-- field k of half-edge x
+half-back : (h : List ℕ) (L : Links) (n k : ℕ) → k < 4 → 8 * n ≤ length h → ((x : ℕ) → 2 * n ≤ x → field (halvesIn L) x k ≡ getD h (4 * x + k) 0)
+    → (x : ℕ) → getD (halvesFrom (length h) L) (4 * x + k) 0 ≡ field (halvesIn L) x k
+unfolding halvesFrom
+half-back h L n k l m u x = go (decLt (4 * x + k) (length h))
+  where
+    q : (4 * x + k) / 4 ≡ x
+    q = omega arith
+
+    r : (4 * x + k) % 4 ≡ k
+    r = omega arith
+
+    go : Dec (4 * x + k < length h) → getD (rowFrom (length h) (λ i. field (halvesIn L) (i / 4) (i % 4))) (4 * x + k) 0 ≡ field (halvesIn L) x k
+    go (yes b) = getD-from (length h) (λ i. field (halvesIn L) (i / 4) (i % 4)) 0 (4 * x + k) b ∙ rw (q, r) refl
+    go (no b) =
+        let s = length-from (length h) (λ i. field (halvesIn L) (i / 4) (i % 4)) in
+        let w : length h ≤ 4 * x + k = omega arith in
+        List·getD-eq-default (rowFrom (length h) (λ i. field (halvesIn L) (i / 4) (i % 4))) 0 (omega arith)
+        ∙ sym (u x (omega arith) ∙ List·getD-eq-default h 0 w)
+
+links-of : (ℕ → ℕ) → (ℕ → ℕ) → (ℕ → ℕ) → (ℕ → ℕ) → (ℕ → ℕ) → (ℕ → ℕ) → Links
+links-of n p f o u a = record { next = n; prev = p; face = f; origin = o; out = u; adjacent = a }
+
+pub rows-back : {C : Counts} {o h a : List ℕ} {L : Links} → Holding C o h a → Untouched C (linksOf o h a) L
+    → linksOf (rowFrom (length o) (L .out)) (halvesFrom (length h) L) (rowFrom (length a) (L .adjacent)) ≡ L
+unfolding linksOf halvesOf rowOf field halvesIn links-of
+rows-back {C} {o} {h} {a} {L} R U =
+    let n = fun-ext (λ x. ap (λ (j : ℕ). getD (halvesFrom (length h) L) j 0) (zero-more x) ∙ half-back h L (C .edges) 0 (omega arith) (R .halves) (λ x l. U .next x l ∙ ap (λ (j : ℕ). getD h j 0) (zero-more x)) x) in
+    let p = fun-ext (half-back h L (C .edges) 1 (omega arith) (R .halves) (U .prev)) in
+    let f = fun-ext (half-back h L (C .edges) 2 (omega arith) (R .halves) (U .face)) in
+    let g = fun-ext (half-back h L (C .edges) 3 (omega arith) (R .halves) (U .origin)) in
+    let u = fun-ext (row-back o (L .out) (C .vertices) (R .outs) (U .out)) in
+    let v = fun-ext (row-back a (L .adjacent) (C .faces) (R .faces) (U .adjacent)) in
+    rw (n, p, f, g, u, v) refl
+  where
+    zero-more : (x : ℕ) → 4 * x ≡ 4 * x + 0
+    zero-more x = omega arith
