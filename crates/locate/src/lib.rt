@@ -162,9 +162,9 @@ pub fn locate(
     freed: &mut [u32],
     buckets: &mut [u32],
     center: Point2,
-    a: f64,
+    angle: f64,
 ) -> Located
-    ensures { λ r. ⌜ record { answer = r; nodes = now (nodes .exit); freed = now (freed .exit); buckets = now (buckets .exit) } ≡ locateOf counts (now (positions .entry)) (now (outs .entry)) (now (halves .entry)) (now (faces .entry)) (now (nodes .entry)) (now (freed .entry)) (now (buckets .entry)) (center .x) (center .y) a ⌝ }
+    ensures { λ r. ⌜ record { answer = r; nodes = now (nodes .exit); freed = now (freed .exit); buckets = now (buckets .exit) } ≡ locateOf counts (now (positions .entry)) (now (outs .entry)) (now (halves .entry)) (now (faces .entry)) (now (nodes .entry)) (now (freed .entry)) (now (buckets .entry)) (center .x) (center .y) angle ⌝ }
 {
     let short = ring_rows_short(
         counts.vertices as usize,
@@ -172,12 +172,12 @@ pub fn locate(
         freed.len(),
         buckets.len(),
     );
-    match check_locate(short, counts, positions, outs, halves, faces, center, a) {
+    match check_locate(short, counts, positions, outs, halves, faces, center, angle) {
         Checked::Refused(r) => Located::Refused(r),
         Checked::Accepted => {
             let start = dcel::adjacent(faces, 0);
             let size = hull::convex_hull_size(counts);
-            let place = place_at(positions, halves, nodes, buckets, start, size, center, a);
+            let place = place_at(positions, halves, nodes, buckets, start, size, center, angle);
             clear_ring(nodes, freed, buckets);
             Located::Found(place)
         }

@@ -28,21 +28,13 @@ fn read_vertex(text: &[u8], at: usize) -> VertexAt {
     }
 }
 
-// A double from its bits; 2.0 stands for a pattern that is no number, which no sample has.
-fn double(bits: u64) -> f64 {
-    if bits % 0x8000_0000_0000_0000 > 0x7ff0_0000_0000_0000 {
-        return 2.0;
-    }
-    f64::from_bits(bits)
-}
-
 fn read_center(text: &[u8], at: usize) -> CenterAt {
     let x = test_text::read_number(text, at);
     let y = test_text::read_number(text, x.at);
     CenterAt {
         p: Point2 {
-            x: double(x.magnitude),
-            y: double(y.magnitude),
+            x: test_text::double(x.magnitude),
+            y: test_text::double(y.magnitude),
         },
         at: y.at,
     }
@@ -129,7 +121,7 @@ fn segment_sample(text: &[u8], at: usize) -> bool {
     let VertexAngle::Angle(to) = angle::vertex_angle(q.x, q.y, c.p) else {
         return false;
     };
-    segment_agrees(from, to, double(n.magnitude), r.magnitude == 1)
+    segment_agrees(from, to, test_text::double(n.magnitude), r.magnitude == 1)
 }
 
 // Whether the floor bucket of a given double is as expected, for the counts that the list has.
@@ -158,7 +150,7 @@ fn floor_sample(text: &[u8], at: usize) -> bool {
     let a = test_text::read_number(text, at);
     let n = test_text::read_number(text, a.at);
     let r = test_text::read_number(text, n.at);
-    let given = double(a.magnitude);
+    let given = test_text::double(a.magnitude);
     if !angle::validate_angle(given) {
         return false;
     }

@@ -20,7 +20,7 @@ pub struct RowLine {
 }
 
 // The place behind a tag.
-fn behind(text: &[u8], at: usize) -> usize {
+pub fn behind(text: &[u8], at: usize) -> usize {
     if at < text.len() { at + 1 } else { at }
 }
 

@@ -107,3 +107,12 @@ pub fn unsigned(n: Number) -> u32 {
     }
     n.magnitude as u32
 }
+
+// A double from its 64 bits, a NaN for every pattern of one.
+pub fn double(bits: u64) -> f64 {
+    if bits % 0x8000_0000_0000_0000 > 0x7ff0_0000_0000_0000 {
+        let zero = 0.0;
+        return zero / zero;
+    }
+    f64::from_bits(bits)
+}

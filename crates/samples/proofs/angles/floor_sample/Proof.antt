@@ -8,7 +8,7 @@ use Rattle.samples.proofs.angles.floor_sample.Tie as tie
 use Rattle.samples.proofs.angles.floor_sample.Reads as reads
 use Rattle.samples.proofs.angles.floor_sample.Lts as lts
 use Rattle.angle.proofs.validate_angle.Reads as validate-angle-reads
-use Rattle.samples.proofs.angles.double.Reads as double-reads
+use Rattle.test_text.proofs.double.Reads as double-reads
 use Rattle.samples.proofs.angles.floor_agrees.Reads as floor-agrees-reads
 use Rattle.test_text.proofs.read_number.Reads as read-number-reads
 

@@ -10,7 +10,7 @@ use Rattle.samples.proofs.angles.segment_sample.Reads as reads
 use Rattle.samples.proofs.angles.segment_sample.Lts as lts
 use Rattle.angle.proofs.validate_center.Reads as validate-center-reads
 use Rattle.angle.proofs.vertex_angle.Reads as vertex-angle-reads
-use Rattle.samples.proofs.angles.double.Reads as double-reads
+use Rattle.test_text.proofs.double.Reads as double-reads
 use Rattle.samples.proofs.angles.read_center.Reads as read-center-reads
 use Rattle.samples.proofs.angles.read_vertex.Reads as read-vertex-reads
 use Rattle.samples.proofs.angles.segment_agrees.Reads as segment-agrees-reads

@@ -1,0 +1,2 @@
+-- A lemma for the rows that are lent in part.
+pub mod Lent
