@@ -23,6 +23,7 @@ use Rattle.ring.specs.RingOf.{ring-located, ring-from}
 use Rattle.ring_rows.specs.declared.Hull.{Hull}
 use Rattle.ring_rows.specs.declared.Found.{Found}
 use Rattle.ring_rows.specs.Rows.{nodesOf, angleOf, edgeOf, leftOf, rightOf, sizeOf, NodeRing, RingRows, Got}
+use Rattle.ring_rows.specs.Laws.{floor-below}
 use Rattle.hull.specs.Held.{Held}
 
 module _ {C : Counts} {L : Links} {α : ℕ → ℕ} {nodes : List (List ℕ)} {freed buckets : List ℕ} {h : Hull} (H : Held C L α nodes freed buckets h) where
@@ -66,6 +67,10 @@ module _ {C : Counts} {L : Links} {α : ℕ → ℕ} {nodes : List (List ℕ)} {
     -- THE EDGE
     pub got-located : Wf C L → r .edge ≡ located C L α x
     got-located W = G .edge ∙ ring-located W (H .ring) x (r .node) got-on got-holds
+
+  -- as `get` answers, from the bucket of x
+  pub get-located : {x : ℕ} {r : Found} → Wf C L → Got (nodesOf nodes) (sizeOf h) (rowOf buckets (floorOf x (h .buckets))) x r → r .edge ≡ located C L α x
+  get-located {x} W G = got-located (floor-below x (H .counted)) G W
 
   -- THE COUNT, with 8 buckets
   pub got-passed : {x : ℕ} {r : Found} → Wf C L → h .buckets ≡ 8 → x ≤ fullTurn → Got (nodesOf nodes) (sizeOf h) (rowOf buckets (floorOf x (h .buckets))) x r → r .passed ≡ passedCount fullTurn x (boundaryAngles C L α)

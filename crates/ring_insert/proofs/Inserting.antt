@@ -1,7 +1,6 @@
 -- What the parts of an insert ask, from what the insert asks and what the parts before have left. Assumes nothing.
-use Prim.Native.Nat.{ℕ, suc, _+_, _-_, _/_, _<_, _≤_, _^_}
+use Prim.Native.Nat.{ℕ, suc, _+_, _-_, _<_, _≤_, _^_}
 use native.Mathlib.Decide.{ℕ-discrete, decLt}
-use native.Mathlib.Nat.{mod-lt}
 use native.Mathlib.Omega.{arith}
 use mathlib.Core.Path.{_≡_, sym, _∙_, ap, subst}
 use mathlib.Core.Logic.{_≢_}
@@ -13,8 +12,6 @@ use lib.ListN.{length, set}
 use Rattle.sums.specs.Iterate.{iter}
 use Rattle.angle.specs.Angle.{turns}
 use Rattle.segment.specs.Arc.{holds}
-use Rattle.segment.specs.Bucket.{Buckets, floorOf, width}
-use Rattle.segment.specs.Laws.{bucket-pos}
 use Rattle.dcel.specs.Rows.{rowOf}
 use Rattle.ring.specs.Ring.{proper, atEnds}
 use Rattle.ring.specs.Segments.{holds-first, proper→}
@@ -63,10 +60,6 @@ pub chosen-as : {t : ℕ → Node} {old new : List ℕ} {h : Hull} {left x : ℕ
 chosen-as {t} {old} {new} {h} {left} {x} {g} {g′} {c} e D = subst (λ (b : Bool). Chosen t old new h left b x c) e D
 
 -- ---- `insert`
--- the bucket of an angle is one of theirs
-pub floor-below : (k : ℕ) {n : ℕ} → Buckets n → floorOf k n < n
-floor-below k {n} B = mod-lt (k / width n) (bucket-pos n B)
-
 module _ {nodes : List (List ℕ)} {freed buckets : List ℕ} {h : Hull} {al q ar : Float} (I : ToInsert nodes freed buckets h al q ar) where
   -- the node of the left angle holds it
   own : T (atEnds (holds (turns al)) (rightOf (nodesOf nodes)) (angleOf (nodesOf nodes)) (iter (I .left) (rightOf (nodesOf nodes)) (rowOf buckets 0)))

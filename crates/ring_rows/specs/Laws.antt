@@ -1,9 +1,12 @@
 -- Laws of rings in rows, for the functions of this crate and of those above it. Assumes nothing.
-use Prim.Native.Nat.{ℕ, _-_, _<_, _^_}
+use Prim.Native.Nat.{ℕ, _-_, _<_, _^_, _/_}
+use native.Mathlib.Nat.{mod-lt}
 use native.Mathlib.Decide.{ℕ-discrete}
 use native.Mathlib.Omega.{arith}
 use mathlib.Core.Path.{_≡_, sym, _∙_, ap, subst, fun-ext}
 use mathlib.Core.List.{List}
+use Rattle.segment.specs.Bucket.{Buckets, floorOf, width}
+use Rattle.segment.specs.Laws.{bucket-pos}
 use Rattle.sums.specs.Iterate.{iter, iter-keeps}
 use Rattle.sums.specs.Put.{put, put-same, put-other}
 use Rattle.sums.specs.Tally.{tally-at}
@@ -36,6 +39,10 @@ ring-from {t} {len} {size} {start} R x (k, l, z) = subst (NodeRing t len size) z
 -- from a bucket's
 pub bucket-ring : {nodes : List (List ℕ)} {buckets : List ℕ} {h : Hull} → RingRows nodes buckets h → (i : ℕ) → i < h .buckets → NodeRing (nodesOf nodes) (h .nodes) (sizeOf h) (rowOf buckets i)
 bucket-ring {nodes} {buckets} {h} R i l = ring-from (R .ring) (rowOf buckets i) (R .filled i l .0)
+
+-- the bucket of an angle is one of its buckets
+pub floor-below : (k : ℕ) {n : ℕ} → Buckets n → floorOf k n < n
+floor-below k {n} B = mod-lt (k / width n) (bucket-pos n B)
 
 -- a field of a row with one node changed
 pub put-map : {A B : Type 0} (g : A → B) (f : ℕ → A) (a : ℕ) (v : A) → (λ x. g (put f a v x)) ≡ put (λ x. g (f x)) a (g v)

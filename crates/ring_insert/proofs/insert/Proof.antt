@@ -1,7 +1,8 @@
 -- `ring_insert::insert` meets its contract. Assumes nothing.
 use mathlib.Core.Path.{refl}
+use Rattle.ring_rows.specs.Laws.{floor-below}
 use Rattle.angle.specs.Bits.{angle-valid}
-use Rattle.ring_insert.proofs.Inserting.{floor-below, chosen-as, found-on, found-angle, to-choose, to-place, new-valid, new-room}
+use Rattle.ring_insert.proofs.Inserting.{chosen-as, found-on, found-angle, to-choose, to-place, new-valid, new-room}
 use borrow.Author.Needs.{needs}
 use Rattle.ring_insert.proofs.insert.Statement.{statement}
 use Rattle.ring_insert.proofs.insert.Tie as tie
