@@ -22,7 +22,7 @@ use Rattle.mesh.specs.CountsLaws.{count-edges, count-faces}
 use Rattle.mesh.specs.Good.{Good}
 use Rattle.mesh_check.specs.declared.Checked.{Checked}
 use Rattle.mesh_check.specs.declared.Refusal.{Refusal}
-use Rattle.finish.specs.declared.Answer.{Answer}
+use Rattle.finish.specs.declared.FinishAnswer.{FinishAnswer}
 use Rattle.finish.specs.declared.Ended.{Ended}
 use Rattle.finish.specs.declared.Finished.{Finished}
 use Rattle.finish.specs.Finish.{closeAfter, finishMesh, Outcome, flipCountFrom, finishedFrom, outcomeOf, seedChecked, finishOf}
@@ -38,12 +38,12 @@ count-from c l =
     rw (h, k) refl
 
 module _ (r : Ended) (o h a : List ℕ) where
-  pub answer-full : r .full ≡ true → _≡_ {A = Answer} (record { counts = r .counts; finished = Finished.Refused (record { number = 9; place = 0 }) }) (record { counts = r .counts; finished = finishedFrom (finishingOf o h a r) })
+  pub answer-full : r .full ≡ true → _≡_ {A = FinishAnswer} (record { counts = r .counts; finished = Finished.Refused (record { number = 9; place = 0 }) }) (record { counts = r .counts; finished = finishedFrom (finishingOf o h a r) })
   unfolding finishedFrom finishingOf
   answer-full e = rw e
 
   pub answer-done : r .full ≡ false → r .totals .convexflips .low < 2 ^ 64 → r .totals .closingflips .low < 2 ^ 64
-      → _≡_ {A = Answer} (record { counts = r .counts; finished = Finished.Accepted (r .totals) }) (record { counts = r .counts; finished = finishedFrom (finishingOf o h a r) })
+      → _≡_ {A = FinishAnswer} (record { counts = r .counts; finished = Finished.Accepted (r .totals) }) (record { counts = r .counts; finished = finishedFrom (finishingOf o h a r) })
   unfolding finishedFrom finishingOf
   answer-done e k l =
       let x = count-from (r .totals .convexflips) k in
@@ -83,11 +83,11 @@ module _ (C : Counts) (q : List ℤ) (o h a row : List ℕ) where
   unfolding finishOf outcomeOf
   refused-outcome x e = rw (← e) refl
 
-  outcome-is : {x x′ : Answer} {u u′ v v′ w w′ z z′ : List ℕ} → x ≡ x′ → u ≡ u′ → v ≡ v′ → w ≡ w′ → z ≡ z′
+  outcome-is : {x x′ : FinishAnswer} {u u′ v v′ w w′ z z′ : List ℕ} → x ≡ x′ → u ≡ u′ → v ≡ v′ → w ≡ w′ → z ≡ z′
       → _≡_ {A = Outcome} (record { answer = x; outs = u; halves = v; faces = w; pending = z }) (record { answer = x′; outs = u′; halves = v′; faces = w′; pending = z′ })
   outcome-is a b c d e = rw (a, b, c, d, e) refl
 
-  pub accepted-outcome : Checked.Accepted ≡ seedChecked C q o h a row → (o′ h′ a′ row′ : List ℕ) (r : Ended) (x : Answer)
+  pub accepted-outcome : Checked.Accepted ≡ seedChecked C q o h a row → (o′ h′ a′ row′ : List ℕ) (r : Ended) (x : FinishAnswer)
       → finishingOf o′ h′ a′ r ≡ finishMesh (length row) C (positionOf q) (linksOf o h a)
       → length o′ ≡ length o → length h′ ≡ length h → length a′ ≡ length a → row′ ≡ replicate (length row) 0
       → x ≡ record { counts = r .counts; finished = finishedFrom (finishingOf o′ h′ a′ r) }

@@ -15,7 +15,7 @@ use Rattle.mesh.specs.declared.Counts.{Counts}
 use Rattle.mesh.specs.Mesh.{Links}
 use Rattle.mesh_check.specs.declared.Checked.{Checked}
 use Rattle.mesh_check.specs.Check.{checkWith}
-use Rattle.finish.specs.declared.Answer.{Answer}
+use Rattle.finish.specs.declared.FinishAnswer.{FinishAnswer}
 use Rattle.finish.specs.declared.Finished.{Finished}
 
 -- ---- of a mesh
@@ -42,7 +42,7 @@ finishMesh room C p L =
 -- ---- of the lent rows
 -- what a call comes to: its answer, and what every row that it may write holds afterwards
 pub record Outcome : Type 0 where
-  pub answer : Answer
+  pub answer : FinishAnswer
   pub outs : List ℕ
   pub halves : List ℕ
   pub faces : List ℕ

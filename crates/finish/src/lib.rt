@@ -26,7 +26,7 @@ pub enum Finished {
 }
 
 // The mesh's counts after the call, and what it has done.
-pub struct Answer {
+pub struct FinishAnswer {
     pub counts: Counts,
     pub finished: Finished,
 }
@@ -111,13 +111,13 @@ fn clear(row: &mut [u32])
 }
 
 // 9: "the pushes of a flip would overfill the pending list".
-fn answer_of(ended: Ended) -> Answer
+fn answer_of(ended: Ended) -> FinishAnswer
     ensures { λ r. ⌜ ((o h a : List ℕ) → r ≡ record { counts = ended .counts; finished = finishedFrom (finishingOf o h a ended) }) ⌝ }
 {
     let counts = ended.counts;
     let totals = ended.totals;
     if ended.full {
-        return Answer {
+        return FinishAnswer {
             counts: counts,
             finished: Finished::Refused(Refusal {
                 number: 9,
@@ -125,7 +125,7 @@ fn answer_of(ended: Ended) -> Answer
             }),
         };
     }
-    Answer {
+    FinishAnswer {
         counts: counts,
         finished: Finished::Accepted(totals),
     }
@@ -139,13 +139,13 @@ pub fn finish(
     halves: &mut [u32],
     faces: &mut [u32],
     pending: &mut [u32],
-) -> Answer
+) -> FinishAnswer
     ensures { λ r. ⌜ _≡_ {A = Outcome} (record { answer = r; outs = now (outs .exit); halves = now (halves .exit); faces = now (faces .exit); pending = now (pending .exit) }) (finishOf counts (now (positions .entry)) (now (outs .entry)) (now (halves .entry)) (now (faces .entry)) (now (pending .entry))) ⌝ }
 {
     match check_seed(counts, positions, outs, halves, faces, pending) {
         Checked::Accepted => {}
         Checked::Refused(refusal) => {
-            return Answer {
+            return FinishAnswer {
                 counts: counts,
                 finished: Finished::Refused(refusal),
             };
