@@ -177,7 +177,16 @@ pub fn locate(
         Checked::Accepted => {
             let start = dcel::adjacent(faces, 0);
             let size = hull::convex_hull_size(counts);
-            let place = place_at(positions, halves, nodes, buckets, start, size, center, angle);
+            let place = place_at(
+                positions,
+                halves,
+                nodes,
+                buckets,
+                start,
+                size,
+                center,
+                angle,
+            );
             clear_ring(nodes, freed, buckets);
             Located::Found(place)
         }
