@@ -1,14 +1,16 @@
 -- Each mesh rule can fail by itself: for each a mesh at which its test fails and every other one passes, by computation. (`seed-wf` of `Examples`: all can be met.)
--- The two parts of "next and prev undo each other, and next keeps the face" are one test; that next keeps the face follows from the rules of the faces. Assumes nothing.
+-- "next and prev undo each other, and next keeps the face" and the rule of origins are one test, and each has a mesh; that next keeps the face has none, since it
+-- follows from the rules of the faces, and neither has the test that there is an outer face. Assumes nothing.
 use mathlib.Core.Bool.{true, false}
 use mathlib.Core.List.{[], _∷_}
 use mathlib.Core.Path.{_≡_, refl}
+use lib.Dec.{eqb}
 use lib.ListN.{getD}
 use Rattle.mesh.specs.declared.Counts.{Counts}
 use Rattle.mesh.specs.Examples.{seed, seedCounts}
 use Rattle.mesh.specs.Mesh.{Links}
 use Rattle.mesh.specs.Operations.{createSingleFaceBetweenEdgeAndNext, faceBetween, withFace}
-use Rattle.mesh.specs.Rules.{halfEdgeInUse, linksInUse, halfEdgeLinked, innerFaceRule, outerFaceRule, sideRule, vertexRule, eulerRule, ruleTests}
+use Rattle.mesh.specs.Rules.{halfEdgeInUse, linksInUse, halfEdgeLinked, innerFaceRule, outerFaceRule, sideRule, vertexRule, eulerRule, ruleTests, every}
 use Rattle.sums.specs.Bounded.{all-below}
 use Rattle.sums.specs.Half.{rev}
 use Rattle.sums.specs.Iterate.{reaches}
@@ -58,6 +60,30 @@ oneWay = record {
 pub oneWay-fails : ruleTests (record { vertices = 3; edges = 3; faces = 2 }) oneWay ≡ true ∷ true ∷ true ∷ false ∷ true ∷ true ∷ true ∷ true ∷ []
 unfolding oneWay halfEdgeInUse linksInUse halfEdgeLinked innerFaceRule outerFaceRule sideRule vertexRule eulerRule all-below reaches rev
 oneWay-fails = refl
+
+-- "The origin of next(e) is the origin of e's reverse": the torus with one half-edge at each of two vertices said to start at a new vertex, 9 - 21 + 14 = 2
+unfoldable pub namesSplit : Links
+namesSplit = record {
+  next = λ x. getD (2 ∷ 27 ∷ 4 ∷ 11 ∷ 0 ∷ 13 ∷ 8 ∷ 33 ∷ 10 ∷ 17 ∷ 6 ∷ 19 ∷ 14 ∷ 38 ∷ 16 ∷ 23 ∷ 12 ∷ 25 ∷ 20 ∷ 3 ∷ 22 ∷ 29 ∷ 18 ∷ 31 ∷ 26 ∷ 9 ∷ 28 ∷ 35 ∷ 24 ∷ 40 ∷ 32 ∷ 15 ∷ 34 ∷ 36 ∷ 30 ∷ 1 ∷ 7 ∷ 41 ∷ 5 ∷ 37 ∷ 21 ∷ 39 ∷ []) x 0;
+  prev = λ x. getD (4 ∷ 35 ∷ 0 ∷ 19 ∷ 2 ∷ 38 ∷ 10 ∷ 36 ∷ 6 ∷ 25 ∷ 8 ∷ 3 ∷ 16 ∷ 5 ∷ 12 ∷ 31 ∷ 14 ∷ 9 ∷ 22 ∷ 11 ∷ 18 ∷ 40 ∷ 20 ∷ 15 ∷ 28 ∷ 17 ∷ 24 ∷ 1 ∷ 26 ∷ 21 ∷ 34 ∷ 23 ∷ 30 ∷ 7 ∷ 32 ∷ 27 ∷ 33 ∷ 39 ∷ 13 ∷ 41 ∷ 29 ∷ 37 ∷ []) x 0;
+  face = λ x. getD (1 ∷ 13 ∷ 1 ∷ 9 ∷ 1 ∷ 8 ∷ 2 ∷ 7 ∷ 2 ∷ 10 ∷ 2 ∷ 9 ∷ 3 ∷ 8 ∷ 3 ∷ 11 ∷ 3 ∷ 10 ∷ 4 ∷ 9 ∷ 4 ∷ 12 ∷ 4 ∷ 11 ∷ 5 ∷ 10 ∷ 5 ∷ 13 ∷ 5 ∷ 12 ∷ 6 ∷ 11 ∷ 6 ∷ 7 ∷ 6 ∷ 13 ∷ 7 ∷ 0 ∷ 8 ∷ 0 ∷ 12 ∷ 0 ∷ []) x 0;
+  origin = λ x. getD (1 ∷ 2 ∷ 2 ∷ 4 ∷ 4 ∷ 1 ∷ 2 ∷ 3 ∷ 3 ∷ 5 ∷ 5 ∷ 2 ∷ 8 ∷ 4 ∷ 4 ∷ 6 ∷ 6 ∷ 3 ∷ 4 ∷ 5 ∷ 5 ∷ 0 ∷ 0 ∷ 4 ∷ 5 ∷ 6 ∷ 6 ∷ 1 ∷ 1 ∷ 5 ∷ 6 ∷ 0 ∷ 0 ∷ 2 ∷ 2 ∷ 6 ∷ 7 ∷ 3 ∷ 3 ∷ 1 ∷ 1 ∷ 0 ∷ []) x 0;
+  out = λ x. getD (41 ∷ 40 ∷ 34 ∷ 38 ∷ 23 ∷ 29 ∷ 35 ∷ 36 ∷ 12 ∷ []) x 0;
+  adjacent = λ x. getD (37 ∷ 0 ∷ 6 ∷ 12 ∷ 18 ∷ 24 ∷ 30 ∷ 36 ∷ 5 ∷ 11 ∷ 17 ∷ 23 ∷ 29 ∷ 35 ∷ []) x 0;
+}
+
+pub namesSplit-fails : ruleTests (record { vertices = 9; edges = 21; faces = 14 }) namesSplit ≡ true ∷ true ∷ true ∷ false ∷ true ∷ true ∷ true ∷ true ∷ []
+unfolding namesSplit halfEdgeInUse linksInUse halfEdgeLinked innerFaceRule outerFaceRule sideRule vertexRule eulerRule all-below reaches rev
+namesSplit-fails = refl
+
+-- of its test only that part fails
+pub namesSplit-linked : all-below 42 (λ e. every (
+    eqb (namesSplit .prev (namesSplit .next e)) e
+    ∷ eqb (namesSplit .next (namesSplit .prev e)) e
+    ∷ eqb (namesSplit .face (namesSplit .next e)) (namesSplit .face e)
+    ∷ [])) ≡ true
+unfolding namesSplit all-below
+namesSplit-linked = refl
 
 -- "Every edge has an inner face on a side": a triangle with an edge to a fourth vertex in the outer face
 unfoldable pub dangling : Links
