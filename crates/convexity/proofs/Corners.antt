@@ -53,10 +53,3 @@ behind-full p L c depth f = rw f refl
 pub behind-few : (p : ℕ → Point) (L : Links) (c depth : ℕ) {full : Bool} → full ≡ false → depth < 2 → false ≡ not (full || not (leftBehind p L c depth))
 unfolding leftBehind
 behind-few p L c depth f l = rw (f, le-ltb 1 depth (omega arith)) refl
-
--- ---- a test that one of two things holds
-pub either-first : (a b : Bool) → a ≡ true → true ≡ (a || b)
-either-first a b e = rw e refl
-
-pub either-second : (a b : Bool) → a ≡ false → b ≡ (a || b)
-either-second a b e = rw e refl

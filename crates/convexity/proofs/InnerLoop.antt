@@ -6,16 +6,18 @@ use Prim.Native.Nat.{ℕ, _+_, _-_, _≤_}
 use native.Mathlib.Omega.{arith}
 use lib.IntN.{ℤ}
 use lib.ListN.{length}
+use Rattle.corner.specs.declared.Added.{Added}
+use Rattle.corner.specs.Corner.{Extended}
+use Rattle.corner.specs.CornerLaws.{none, then}
+use Rattle.corner.specs.CornerRows.{extendedOf, Ready}
+use Rattle.corner.specs.RowsLaws.{SameLengths, same-refl, same-trans, ready-again}
 use Rattle.dcel.specs.Rows.{linksOf, positionOf}
 use Rattle.mesh.specs.Area.{boundaryLength}
 use Rattle.sums.specs.Until.{Going, going-start, going-turn, going-end}
-use Rattle.convexity.specs.declared.Added.{Added}
-use Rattle.convexity.specs.Convexity.{Convexity}
-use Rattle.convexity.specs.CornerLaws.{none, then, closes}
+use Rattle.convexity.specs.BehindLaws.{closes}
 use Rattle.convexity.specs.Walk.{Walk, leftBehind, stops, closedBehind, closeBehind, closeAllBehind}
 use Rattle.convexity.specs.WalkLaws.{Walking, turns, closes-fall}
-use Rattle.convexity.specs.ConvexityRows.{convexityOf, walkOf, BehindReady, Ready, OnBoundary, CloseReady, WalkReady}
-use Rattle.convexity.specs.RowsLaws.{SameLengths, same-refl, same-trans, ready-again}
+use Rattle.convexity.specs.ConvexityRows.{walkOf, BehindReady, OnBoundary, CloseBehindReady, WalkReady}
 use Rattle.convexity.proofs.Rows.{behind-ready, holds-not, fails-not}
 
 -- ---- the inner loop: to go on from here is to go on from the start
@@ -32,7 +34,7 @@ pub record ClosingAt (q : List ℤ) (c d₀ : ℕ) (o₀ h₀ a₀ row₀ : List
 -- a walk in rows that are ready
 walking-in : {q : List ℤ} {o h a row : List ℕ} {g : Added} {c d n : ℕ} → Ready q o h a row g → OnBoundary (g .counts) (linksOf o h a) c
     → d + n ≡ boundaryLength (g .counts) (linksOf o h a) + 1 → Walking (positionOf q) (walkOf o h a g c d n)
-unfolding convexityOf
+unfolding extendedOf
 walking-in R b e = record { good = R .rows .good; current = (b .edge, b .outer); count = e }
 
 pub closing-starts : {q : List ℤ} {o h a row : List ℕ} {g : Added} {c d : ℕ} → WalkReady q o h a row g c d → ClosingAt q c d o h a row g o h a row g d
@@ -48,7 +50,7 @@ module _ {q : List ℤ} {c d₀ : ℕ} {o₀ h₀ a₀ row₀ : List ℕ} {g₀ 
   w = walkOf o h a g c d (turnsOver o₀ h₀ a₀ g₀ d₀)
 
   on-boundary : OnBoundary (g .counts) (linksOf o h a) c
-  unfolding convexityOf
+  unfolding extendedOf
   on-boundary = record { edge = I .going .claim .current .0; outer = I .going .claim .current .1 }
 
   pub closing-behind : BehindReady q h c
@@ -57,7 +59,7 @@ module _ {q : List ℤ} {c d₀ : ℕ} {o₀ h₀ a₀ row₀ : List ℕ} {g₀ 
   -- what the test says
   module _ {r : Bool} (t : (o a : List ℕ) → r ≡ not (g .full || not (leftBehind (positionOf q) (linksOf o h a) c d))) where
     test-is : r ≡ not (stops (positionOf q) w)
-    unfolding stops convexityOf
+    unfolding stops extendedOf
     test-is = t o a
 
     goes-on : r ≡ true → stops (positionOf q) w ≡ false
@@ -66,25 +68,25 @@ module _ {q : List ℤ} {c d₀ : ℕ} {o₀ h₀ a₀ row₀ : List ℕ} {g₀ 
     comes-to-end : r ≡ false → stops (positionOf q) w ≡ true
     comes-to-end e = fails-not (stops (positionOf q) w) (sym test-is ∙ e)
 
-    pub closing-ready : r ≡ true → CloseReady q o h a row g c
-    unfolding convexityOf
+    pub closing-ready : r ≡ true → CloseBehindReady q o h a row g c
+    unfolding extendedOf
     closing-ready e = record { ready = I .ready; current = on-boundary; left = turns (positionOf q) w (goes-on e) .left }
 
     pub closing-two : r ≡ true → 2 ≤ d
     closing-two e = turns (positionOf q) w (goes-on e) .two
 
-    pub closing-on : r ≡ true → {o′ h′ a′ row′ : List ℕ} {g′ : Added} → convexityOf o′ h′ a′ g′ ≡ closedBehind (length row) (positionOf q) (convexityOf o h a g) c
+    pub closing-on : r ≡ true → {o′ h′ a′ row′ : List ℕ} {g′ : Added} → extendedOf o′ h′ a′ g′ ≡ closedBehind (length row) (positionOf q) (extendedOf o h a g) c
         → SameLengths o h a row o′ h′ a′ row′ → ClosingAt q c d₀ o₀ h₀ a₀ row₀ g₀ o′ h′ a′ row′ g′ (d - 1)
     unfolding closeBehind
     closing-on e {o′} {h′} {a′} {row′} {g′} x l =
         let i = I .going .claim in
         let b = goes-on e in
         record {
-          ready = ready-again (I .ready) (then none _ (closes (length row) (positionOf q) (convexityOf o h a g) (i .good) (i .current .0) (i .current .1) (turns (positionOf q) w b .left))) x l;
+          ready = ready-again (I .ready) (then none _ (closes (length row) (positionOf q) (extendedOf o h a g) (i .good) (i .current .0) (i .current .1) (turns (positionOf q) w b .left))) x l;
           lengths = same-trans (I .lengths) l;
-          going = subst⁻¹ (λ (m : Convexity). Going (stops (positionOf q)) (closeBehind (length row₀) (positionOf q)) (Walking (positionOf q)) (λ w. w .depth) (d₀ + 1)
+          going = subst⁻¹ (λ (m : Extended). Going (stops (positionOf q)) (closeBehind (length row₀) (positionOf q)) (Walking (positionOf q)) (λ w. w .depth) (d₀ + 1)
               (walkOf o₀ h₀ a₀ g₀ c d₀ (turnsOver o₀ h₀ a₀ g₀ d₀)) (record { mesh = m; current = c; depth = d - 1; left = turnsOver o₀ h₀ a₀ g₀ d₀ }))
-              (x ∙ ap (λ (n : ℕ). closedBehind n (positionOf q) (convexityOf o h a g) c) (I .lengths .pending))
+              (x ∙ ap (λ (n : ℕ). closedBehind n (positionOf q) (extendedOf o h a g) c) (I .lengths .pending))
               (going-turn _ _ (closes-fall (length row₀) (positionOf q)) (I .going) b);
         }
 

@@ -7,17 +7,19 @@ use native.Mathlib.Omega.{arith}
 use lib.Dec.{eqb}
 use lib.IntN.{ℤ}
 use lib.ListN.{length}
+use Rattle.corner.specs.declared.Added.{Added}
+use Rattle.corner.specs.Corner.{Extended}
+use Rattle.corner.specs.CornerRows.{extendedOf, Ready}
+use Rattle.corner.specs.RowsLaws.{SameLengths, same-refl, same-trans, ready-again}
 use Rattle.dcel.specs.Rows.{linksOf, positionOf}
 use Rattle.flip_count.specs.declared.FlipCount.{FlipCount}
 use Rattle.flip_count.specs.FlipCount.{flipCountOf}
 use Rattle.mesh.specs.declared.Counts.{Counts}
 use Rattle.mesh.specs.HeightBound.{flips-none}
 use Rattle.sums.specs.Until.{Going, going-start, going-turn, going-less, going-end}
-use Rattle.convexity.specs.declared.Added.{Added}
-use Rattle.convexity.specs.Convexity.{Convexity, fixConvexity, Passes, passAgain, unpassed, convexity}
+use Rattle.convexity.specs.Convexity.{fixConvexity, Passes, passAgain, unpassed, convexity}
 use Rattle.convexity.specs.ConvexityLaws.{Passing, passesLeft, passes-fall, passes-start, passes-enough, again-closings}
-use Rattle.convexity.specs.ConvexityRows.{convexityOf, Ready, StartReady, MeshReady}
-use Rattle.convexity.specs.RowsLaws.{SameLengths, same-refl, same-trans, ready-again}
+use Rattle.convexity.specs.ConvexityRows.{StartReady, MeshReady}
 use Rattle.convexity.proofs.Rows.{holds-not, fails-not}
 
 -- ---- pass after pass
@@ -25,11 +27,11 @@ pub record PassesAt (q : List ℤ) (o₀ h₀ a₀ row₀ : List ℕ) (C : Count
   pub ready : Ready q o h a row g
   pub lengths : SameLengths o₀ h₀ a₀ row₀ o h a row
   pub going : Going (λ t. t .still) (passAgain (length row₀) (positionOf q)) (Passing (positionOf q)) passesLeft (2 * C .vertices + 2) (unpassed C (linksOf o₀ h₀ a₀))
-      (record { mesh = convexityOf o h a g; still = s })
+      (record { mesh = extendedOf o h a g; still = s })
 
 pub passes-begin : {q : List ℤ} {o h a row : List ℕ} {C : Counts} → MeshReady q o h a row C → (z : FlipCount) → flipCountOf z ≡ 0
     → PassesAt q o h a row C o h a row (record { counts = C; faces = 0; flips = z; full = false }) false
-unfolding convexityOf
+unfolding extendedOf
 passes-begin {q} {o} {h} {a} {row} {C} R z e = record {
   ready = record { rows = R .rows; sized = R .sized; flips = rw e (flips-none (R .rows .good)); faces = omega arith };
   lengths = same-refl;
@@ -39,20 +41,20 @@ passes-begin {q} {o} {h} {a} {row} {C} R z e = record {
 
 module _ {q : List ℤ} {o₀ h₀ a₀ row₀ : List ℕ} {C : Counts} {o h a row : List ℕ} {g : Added} {s : Bool} (I : PassesAt q o₀ h₀ a₀ row₀ C o h a row g s) where
   abbrev passed : Passes
-  passed = record { mesh = convexityOf o h a g; still = s }
+  passed = record { mesh = extendedOf o h a g; still = s }
 
   module _ (e : not s ≡ true) where
     pub again-ready : StartReady q o h a row g
-    unfolding convexityOf
+    unfolding extendedOf
     again-ready = record { ready = I .ready; full = I .going .claim .full (holds-not s e) }
 
-    module _ (o′ h′ a′ : List ℕ) (g′ : Added) {r : Bool} (x : convexityOf o′ h′ a′ g′ ≡ fixConvexity (length row) (positionOf q) (convexityOf o h a g))
+    module _ (o′ h′ a′ : List ℕ) (g′ : Added) {r : Bool} (x : extendedOf o′ h′ a′ g′ ≡ fixConvexity (length row) (positionOf q) (extendedOf o h a g))
         (t : r ≡ (g′ .full || eqb (g′ .faces) (g .faces))) where
-      again-is : (n : ℕ) → length row ≡ n → _≡_ {A = Passes} (record { mesh = convexityOf o′ h′ a′ g′; still = r }) (passAgain n (positionOf q) passed)
-      unfolding passAgain convexityOf
+      again-is : (n : ℕ) → length row ≡ n → _≡_ {A = Passes} (record { mesh = extendedOf o′ h′ a′ g′; still = r }) (passAgain n (positionOf q) passed)
+      unfolding passAgain extendedOf
       again-is n k =
-          rw t (ap (λ (m : Convexity). record { mesh = m; still = m .full || eqb (m .faces) (g .faces) })
-          (x ∙ ap (λ (n : ℕ). fixConvexity n (positionOf q) (convexityOf o h a g)) k))
+          rw t (ap (λ (m : Extended). record { mesh = m; still = m .full || eqb (m .faces) (g .faces) })
+          (x ∙ ap (λ (n : ℕ). fixConvexity n (positionOf q) (extendedOf o h a g)) k))
 
       pub passes-on : {row′ : List ℕ} → SameLengths o h a row o′ h′ a′ row′ → PassesAt q o₀ h₀ a₀ row₀ C o′ h′ a′ row′ g′ r
       passes-on l = record {
@@ -62,10 +64,10 @@ module _ {q : List ℤ} {o₀ h₀ a₀ row₀ : List ℕ} {C : Counts} {o h a r
             (going-turn _ _ (passes-fall (length row₀) (positionOf q)) (I .going) (holds-not s e));
       }
 
-      pub passes-less : passesLeft (record { mesh = convexityOf o′ h′ a′ g′; still = r }) < passesLeft passed
+      pub passes-less : passesLeft (record { mesh = extendedOf o′ h′ a′ g′; still = r }) < passesLeft passed
       passes-less = subst⁻¹ (λ (t : Passes). passesLeft t < passesLeft passed) (again-is (length row₀) (I .lengths .pending))
           (going-less _ _ (passes-fall (length row₀) (positionOf q)) (I .going) (holds-not s e))
 
-  pub passes-end : not s ≡ false → convexityOf o h a g ≡ convexity (length row₀) C (positionOf q) (linksOf o₀ h₀ a₀)
+  pub passes-end : not s ≡ false → extendedOf o h a g ≡ convexity (length row₀) C (positionOf q) (linksOf o₀ h₀ a₀)
   unfolding convexity
   passes-end e = ap (λ (t : Passes). t .mesh) (going-end _ _ (passes-fall (length row₀) (positionOf q)) (I .going) (fails-not s e))

@@ -8,38 +8,21 @@ use lib.Dec.{eqb}
 use lib.IntN.{pos}
 use lib.ListN.{length}
 use lib.Signed.{ltZ, _≤ℤ_}
-use Rattle.legalize.specs.Legalize.{legalizeEdgesAfterRemoval}
+use Rattle.corner.specs.Corner.{Extended, closeCorner}
 use Rattle.math.specs.declared.Point.{Point}
 use Rattle.math.specs.Determinant.{orient2d}
 use Rattle.mesh.specs.declared.Counts.{Counts}
 use Rattle.mesh.specs.Mesh.{Links, In, to}
-use Rattle.mesh.specs.Operations.{createSingleFaceBetweenEdgeAndNext, withFace}
 use Rattle.mesh.specs.Area.{atCorners}
 use Rattle.sums.specs.Until.{until}
-
--- the mesh, the faces added and the flips made so far, and whether a flip's pushes would have overfilled the pending list
-pub record Convexity : Type 0 where
-  pub counts : Counts
-  pub links : Links
-  pub faces : ℕ
-  pub flips : ℕ
-  pub full : Bool
 
 -- `edge1.side_query(edge2.to().position()).is_on_left_side()`
 unfoldable pub turnsLeftAt : Links → (ℕ → Point) → ℕ → ℕ → Bool
 turnsLeftAt L p edge1 edge2 = ltZ (pos 0) (orient2d (p (L .origin edge1)) (p (to L edge1)) (p (to L edge2)))
 
--- "Violation detected. It is resolved by inserting a new edge"; `edge1` and `edge2` are pushed in this order and legalized
-unfoldable pub closeCorner : ℕ → (ℕ → Point) → Convexity → ℕ → ℕ → Convexity
-closeCorner room p m edge1 edge2 =
-    let C = withFace (m .counts) in
-    let K = createSingleFaceBetweenEdgeAndNext (m .links) (m .counts) edge1 in
-    let g = legalizeEdgesAfterRemoval room C p K (m .flips) (edge1 / 2) (edge2 / 2) in
-    record { counts = C; links = g .links; faces = suc (m .faces); flips = g .flips; full = g .full }
-
 -- a pass under way: `current_fixed`, and `convex_edges` with its last entry first
 pub record Pass : Type 0 where
-  pub mesh : Convexity
+  pub mesh : Extended
   pub current : ℕ
   pub edges : List ℕ
 
@@ -49,12 +32,12 @@ lastTurnsLeft p L [] = false
 lastTurnsLeft p L (edge2 ∷ []) = false
 lastTurnsLeft p L (edge2 ∷ edge1 ∷ l) = turnsLeftAt L p edge1 edge2
 
--- the corner of the last two is closed, and the new edge, which `create_single_face_between_edge_and_next` returns, takes their place
+-- "Violation detected. It is resolved by inserting a new edge"; `edge1` and `edge2` are pushed in this order and legalized, and the new edge, which `create_single_face_between_edge_and_next` returns, takes their place
 unfoldable pub closeLast : ℕ → (ℕ → Point) → Pass → List ℕ → Pass
 closeLast room p s [] = s
 closeLast room p s (edge2 ∷ []) = s
 closeLast room p s (edge2 ∷ edge1 ∷ l) = record {
-  mesh = closeCorner room p (s .mesh) edge1 edge2;
+  mesh = closeCorner room p (s .mesh) edge1 (edge1 / 2) (edge2 / 2);
   current = s .current;
   edges = (2 * s .mesh .counts .edges + 1) ∷ l;
 }
@@ -76,17 +59,17 @@ isSecond x (a ∷ b ∷ []) = eqb x a
 isSecond x (a ∷ b ∷ c ∷ l) = isSecond x (b ∷ c ∷ l)
 
 -- `outer_face().adjacent_edge()`
-abbrev pub passStart : Convexity → Pass
+abbrev pub passStart : Extended → Pass
 passStart m = record { mesh = m; current = m .links .adjacent 0; edges = [] }
 
 -- one pass; a turn for each half-edge of the boundary, and one more
-unfoldable pub fixConvexity : ℕ → (ℕ → Point) → Convexity → Convexity
+unfoldable pub fixConvexity : ℕ → (ℕ → Point) → Extended → Extended
 fixConvexity room p m =
     until (λ s. s .mesh .full || isSecond (s .current) (s .edges)) (passTurn room p) (2 * m .counts .edges + 2) (passTurn room p (passStart m)) .mesh
 
 -- the passes, and whether the last of them added no face or was refused a flip
 pub record Passes : Type 0 where
-  pub mesh : Convexity
+  pub mesh : Extended
   pub still : Bool
 
 unfoldable pub passAgain : ℕ → (ℕ → Point) → Passes → Passes
@@ -99,7 +82,7 @@ abbrev pub unpassed : Counts → Links → Passes
 unpassed C L = record { mesh = record { counts = C; links = L; faces = 0; flips = 0; full = false }; still = false }
 
 -- passes until one adds no face; each of the others adds one of the fewer than 2 · vertices faces
-unfoldable pub convexity : ℕ → Counts → (ℕ → Point) → Links → Convexity
+unfoldable pub convexity : ℕ → Counts → (ℕ → Point) → Links → Extended
 convexity room C p L = until (λ s. s .still) (passAgain room p) (2 * C .vertices + 2) (unpassed C L) .mesh
 
 -- 01: "Boundary corners are judged along next: a corner is the origins of e, of next(e) and of the one after, for each e of face 0." None turns left

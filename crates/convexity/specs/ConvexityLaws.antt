@@ -10,6 +10,8 @@ use borrow.Author.Tests.{eqb-true, eqb-false}
 use lib.Dec.{eqb}
 use lib.IntN.{ℤ, pos}
 use lib.Signed.{_≤ℤ_, ltZ-no}
+use Rattle.corner.specs.Corner.{Extended}
+use Rattle.corner.specs.CornerLaws.{Closings, none, closings-join, closings-good, closings-bound, closings-count, closings-none}
 use Rattle.math.specs.declared.Point.{Point}
 use Rattle.math.specs.Determinant.{orient2d}
 use Rattle.mesh.specs.declared.Counts.{Counts}
@@ -24,8 +26,8 @@ use Rattle.mesh.specs.HeightBound.{FlipsBound, flips-none}
 use Rattle.sums.specs.Bit.{from-false}
 use Rattle.sums.specs.Iterate.{iter, iter-last, inverse-sym, reach-back, reach-on}
 use Rattle.sums.specs.Until.{until, Falls, until-ind, until-ends, until-fuel, until-keeps}
-use Rattle.convexity.specs.Convexity.{Convexity, turnsLeftAt, fixConvexity, Passes, passAgain, unpassed, convexity, NoLeftCorner}
-use Rattle.convexity.specs.CornerLaws.{behind-in, behind-period, Closings, none, closings-join, closings-good, closings-bound, closings-count, closings-none}
+use Rattle.convexity.specs.Convexity.{turnsLeftAt, fixConvexity, Passes, passAgain, unpassed, convexity, NoLeftCorner}
+use Rattle.convexity.specs.BehindLaws.{behind-in, behind-period}
 use Rattle.convexity.specs.Walk.{Walk, walkTurn, walkEnds, walkStart, walkPass}
 use Rattle.convexity.specs.WalkLaws.{Walking, stopped, left-over, Turned, turned, walk-falls, walk-starts}
 use Rattle.convexity.specs.StackLaws.{fix-walks}
@@ -41,11 +43,11 @@ Tested p w = (k : ℕ) → suc k < w .depth → cornerBehind p (w .mesh .links) 
 -- a turn that closes no corner tests one more
 tested-turn : {p : ℕ → Point} (w r : Walk) → Walking p w → Turned p w r → r .mesh ≡ w .mesh → w .mesh .full ≡ false → Tested p w → Tested p r
 unfolding Tested
-tested-turn {p} w r i t q f T zero u = stopped p r (t .ends) (ap (λ (m : Convexity). m .full) q ∙ f) u
+tested-turn {p} w r i t q f T zero u = stopped p r (t .ends) (ap (λ (m : Extended). m .full) q ∙ f) u
 tested-turn {p} w r i t q f T (suc j) u =
-    ap₂ (λ (m : Convexity) (c : ℕ). cornerBehind p (m .links) c (suc j)) q (t .current)
+    ap₂ (λ (m : Extended) (c : ℕ). cornerBehind p (m .links) c (suc j)) q (t .current)
     ∙ ap (λ (c : ℕ). cornerBehind p (w .mesh .links) c j) (i .good .wf .links .prev-next (i .current .0))
-    ∙ T j (let a = i .count in let b = t .walking .count in let c = t .left in let h = ap (λ (m : Convexity). boundaryLength (m .counts) (m .links)) q in omega arith)
+    ∙ T j (let a = i .count in let b = t .walking .count in let c = t .left in let h = ap (λ (m : Extended). boundaryLength (m .counts) (m .links)) q in omega arith)
 
 -- all of them, once around
 tested-all : {p : ℕ → Point} (w : Walk) → Walking p w → w .left ≡ 0 → Tested p w → NoLeftCorner (w .mesh .counts) (w .mesh .links) p
@@ -68,7 +70,7 @@ tested-all {p} w i z T = record { corner = at }
         rw (W .links .origin-next (W .ranges .next< l), W .links .origin-next l) (ltZ-no (from-false (ap₂ (λ (d e : ℕ). turnsLeftAt L p d e) (sym (on .2)) (sym n) ∙ h)))
 
 -- ---- one pass
-module _ (room : ℕ) (p : ℕ → Point) (m : Convexity) (G : Good (m .counts) (m .links) p) (f : m .full ≡ false) where
+module _ (room : ℕ) (p : ℕ → Point) (m : Extended) (G : Good (m .counts) (m .links) p) (f : m .full ≡ false) where
   -- a walk within the pass
   record Within (w : Walk) : Type 0 where
     walking : Walking p w
@@ -116,10 +118,10 @@ module _ (room : ℕ) (p : ℕ → Point) (m : Convexity) (G : Good (m .counts) 
   -- a pass that adds no face leaves everything as it is, and no corner turns left
   pub fix-still : fixConvexity room p m .faces ≡ m .faces → NoLeftCorner (fixConvexity room p m .counts) (fixConvexity room p m .links) p
   fix-still s =
-      let q : walked .mesh .faces ≡ m .faces = ap (λ (m : Convexity). m .faces) (sym walked-mesh) ∙ s in
-      let full : walked .mesh .full ≡ false = ap (λ (m : Convexity). m .full) (closings-none (walked-within .closings) q) ∙ f in
+      let q : walked .mesh .faces ≡ m .faces = ap (λ (m : Extended). m .faces) (sym walked-mesh) ∙ s in
+      let full : walked .mesh .full ≡ false = ap (λ (m : Extended). m .full) (closings-none (walked-within .closings) q) ∙ f in
       let left : walked .left ≡ 0 = eqb-true _ _ (rw full at walked-ends) in
-      subst (λ (m : Convexity). NoLeftCorner (m .counts) (m .links) p) (sym walked-mesh) (tested-all walked (walked-within .walking) left (walked-within .tested q))
+      subst (λ (m : Extended). NoLeftCorner (m .counts) (m .links) p) (sym walked-mesh) (tested-all walked (walked-within .walking) left (walked-within .tested q))
 
 -- ---- pass after pass
 pub record Passing (p : ℕ → Point) (s : Passes) : Type 0 where
@@ -152,7 +154,7 @@ module _ (room : ℕ) (p : ℕ → Point) where
   unfolding passAgain passesLeft
   again-less s i e = rw e (go (fixConvexity room p (s .mesh) .full) (eqb (fixConvexity room p (s .mesh) .faces) (s .mesh .faces)) refl)
     where
-      m : Convexity
+      m : Extended
       m = fixConvexity room p (s .mesh)
 
       go : (a b : Bool) → eqb (m .faces) (s .mesh .faces) ≡ b → cond (a || b) 0 (boundaryLength (m .counts) (m .links) + 1) < boundaryLength (s .mesh .counts) (s .mesh .links) + 1

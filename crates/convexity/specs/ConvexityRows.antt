@@ -2,28 +2,22 @@
 use mathlib.Core.Bool.{true, false}
 use mathlib.Core.List.{List}
 use mathlib.Core.Path.{_≡_}
-use Prim.Native.Nat.{ℕ, _+_, _*_, _^_, _≤_}
+use Prim.Native.Nat.{ℕ, _+_, _≤_}
 use lib.IntN.{ℤ}
-use lib.ListN.{length}
+use Rattle.corner.specs.declared.Added.{Added}
+use Rattle.corner.specs.CornerRows.{extendedOf, MeshRoom, Ready}
 use Rattle.circle_test.specs.GoodRows.{GoodRows, Placed}
 use Rattle.dcel.specs.Rows.{halvesOf, linksOf, positionOf, There}
-use Rattle.flip_count.specs.FlipCount.{flipCountOf}
 use Rattle.mesh.specs.declared.Counts.{Counts}
 use Rattle.mesh.specs.Mesh.{Links, In}
 use Rattle.mesh.specs.Area.{boundaryLength}
-use Rattle.mesh.specs.HeightBound.{FlipsBound}
 use Rattle.sums.specs.Half.{rev}
-use Rattle.convexity.specs.declared.Added.{Added}
-use Rattle.convexity.specs.Convexity.{Convexity, turnsLeftAt}
+use Rattle.convexity.specs.Convexity.{turnsLeftAt}
 use Rattle.convexity.specs.Walk.{Walk}
-
--- the links that the rows hold, with what was added
-unfoldable pub convexityOf : List ℕ → List ℕ → List ℕ → Added → Convexity
-convexityOf o h a g = record { counts = g .counts; links = linksOf o h a; faces = g .faces; flips = flipCountOf (g .flips); full = g .full }
 
 -- a walk within a pass
 abbrev pub walkOf : List ℕ → List ℕ → List ℕ → Added → ℕ → ℕ → ℕ → Walk
-walkOf o h a g current depth left = record { mesh = convexityOf o h a g; current = current; depth = depth; left = left }
+walkOf o h a g current depth left = record { mesh = extendedOf o h a g; current = current; depth = depth; left = left }
 
 -- ---- one corner
 -- all that its test reads is in the rows
@@ -42,27 +36,13 @@ pub record BehindReady (q : List ℤ) (h : List ℕ) (current : ℕ) : Type 0 wh
   pub corner : CornerReady q h (halvesOf h .prev (halvesOf h .prev current)) (halvesOf h .prev current)
 
 -- ---- passes
--- the rows are sized for the vertices, as 01 has it for N of them: 6N half-edges of four numbers each, 2N faces, at least 8 pending entries
-pub record Sized (vertices : ℕ) (h a row : List ℕ) : Type 0 where
-  pub halves : 24 * vertices ≤ length h
-  pub faces : 2 * vertices ≤ length a
-  pub pending : 8 ≤ length row
-  pub small : vertices ≤ 2 ^ 24
-
--- the rows hold a good mesh that passes can be made on, with a count of flips that can go on
-pub record Ready (q : List ℤ) (o h a row : List ℕ) (g : Added) : Type 0 where
-  pub rows : GoodRows (g .counts) q o h a
-  pub sized : Sized (g .counts .vertices) h a row
-  pub flips : FlipsBound (g .counts) (linksOf o h a) (positionOf q) (flipCountOf (g .flips))
-  pub faces : g .faces ≤ g .counts .faces
-
 -- the current half-edge is on the boundary
 pub record OnBoundary (C : Counts) (L : Links) (current : ℕ) : Type 0 where
   pub edge : In C current
   pub outer : L .face current ≡ 0
 
 -- a corner behind it is to be closed
-pub record CloseReady (q : List ℤ) (o h a row : List ℕ) (g : Added) (c : ℕ) : Type 0 where
+pub record CloseBehindReady (q : List ℤ) (o h a row : List ℕ) (g : Added) (c : ℕ) : Type 0 where
   pub ready : Ready q o h a row g
   pub current : OnBoundary (g .counts) (linksOf o h a) c
   pub left : turnsLeftAt (linksOf o h a) (positionOf q) (linksOf o h a .prev (linksOf o h a .prev c)) (linksOf o h a .prev c) ≡ true
@@ -81,4 +61,4 @@ pub record StartReady (q : List ℤ) (o h a row : List ℕ) (g : Added) : Type 0
 -- all passes
 pub record MeshReady (q : List ℤ) (o h a row : List ℕ) (C : Counts) : Type 0 where
   pub rows : GoodRows C q o h a
-  pub sized : Sized (C .vertices) h a row
+  pub sized : MeshRoom (C .vertices) h a row

@@ -6,6 +6,7 @@ use mathlib.Core.Path.{_≡_, refl}
 use Prim.Native.Nat.{ℕ}
 use lib.IntN.{ℤ, pos, negsuc}
 use lib.ListN.{getD}
+use Rattle.corner.specs.Corner.{Extended, closeCorner}
 use Rattle.legalize.specs.Legalize.{edgeOf, pushed, flipped, popped, legalize}
 use Rattle.math.specs.declared.Point.{Point}
 use Rattle.math.specs.Determinant.{orient2d, incircle, height}
@@ -20,7 +21,7 @@ use Rattle.sums.specs.Half.{rev}
 use Rattle.sums.specs.Put.{put}
 use Rattle.sums.specs.Sum.{sum}
 use Rattle.sums.specs.Until.{until, when}
-use Rattle.convexity.specs.Convexity.{Convexity, turnsLeftAt, closeCorner, lastTurnsLeft, closeLast, closeCorners, passTurn, isSecond, fixConvexity, passAgain, unpassed, convexity}
+use Rattle.convexity.specs.Convexity.{turnsLeftAt, lastTurnsLeft, closeLast, closeCorners, passTurn, isSecond, fixConvexity, passAgain, unpassed, convexity}
 
 abbrev at : ℤ → ℤ → Point
 at x y = record { x = x; y = y }
@@ -37,7 +38,7 @@ abbrev bentCounts : Counts
 bentCounts = withVertex squareCounts
 
 -- the faces added, the flips, and whether a flip was refused
-abbrev answer : Convexity → ℕ × ℕ × Bool
+abbrev answer : Extended → ℕ × ℕ × Bool
 answer m = (m .faces, m .flips, m .full)
 
 one-pass : answer (fixConvexity 8 places (unpassed bentCounts bent .mesh)) ≡ (1, 1, false)

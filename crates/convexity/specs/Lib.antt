@@ -1,7 +1,7 @@
 pub mod Convexity
 pub mod Walk
 pub mod ConvexityRows
-pub mod CornerLaws
+pub mod BehindLaws
 pub mod WalkLaws
 pub mod StackLaws
 pub mod ConvexityLaws

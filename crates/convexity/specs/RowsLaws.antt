@@ -1,79 +1,24 @@
 -- Rows that passes were made on: they hold a good mesh still, with room for what passes can add, and so a caller can go on with them. Assumes nothing.
 use mathlib.Core.List.{List}
-use mathlib.Core.Path.{_≡_, refl, _∙_, subst, subst⁻¹}
-use Prim.Native.Nat.{ℕ, _*_, _^_, _≤_}
-use native.Mathlib.Nat.{le-refl}
+use mathlib.Core.Path.{_≡_, subst⁻¹}
+use Prim.Native.Nat.{ℕ}
 use native.Mathlib.Omega.{arith}
 use lib.IntN.{ℤ}
 use lib.ListN.{length}
+use Rattle.corner.specs.declared.Added.{Added}
+use Rattle.corner.specs.CornerLaws.{Closings}
+use Rattle.corner.specs.CornerRows.{extendedOf, Ready}
+use Rattle.corner.specs.RowsLaws.{SameLengths, kept}
 use Rattle.dcel.specs.Rows.{linksOf, positionOf}
-use Rattle.dcel.specs.Held.{Room}
-use Rattle.math.specs.declared.Point.{Point}
 use Rattle.mesh.specs.declared.Counts.{Counts}
-use Rattle.mesh.specs.Mesh.{Links}
-use Rattle.mesh.specs.CountsLaws.{halves-fit, faces-fit}
-use Rattle.mesh.specs.Good.{Good}
-use Rattle.mesh.specs.HeightBound.{FlipsBound, flips-none}
-use Rattle.convexity.specs.declared.Added.{Added}
-use Rattle.convexity.specs.Convexity.{Convexity, unpassed, convexity}
-use Rattle.convexity.specs.CornerLaws.{Closings, closings-good, closings-bound, closings-count}
-use Rattle.convexity.specs.ConvexityRows.{convexityOf, Sized, Ready, MeshReady}
+use Rattle.mesh.specs.HeightBound.{flips-none}
+use Rattle.convexity.specs.Convexity.{unpassed, convexity}
+use Rattle.convexity.specs.ConvexityRows.{MeshReady}
 use Rattle.convexity.specs.ConvexityLaws.{convexity-closings}
 
--- the rows keep their lengths
-pub record SameLengths (o h a r o′ h′ a′ r′ : List ℕ) : Type 0 where
-  pub outs : length o′ ≡ length o
-  pub halves : length h′ ≡ length h
-  pub faces : length a′ ≡ length a
-  pub pending : length r′ ≡ length r
-
-pub same-refl : {o h a r : List ℕ} → SameLengths o h a r o h a r
-same-refl = record { outs = refl; halves = refl; faces = refl; pending = refl }
-
-pub same-trans : {o h a r o′ h′ a′ r′ o″ h″ a″ r″ : List ℕ} → SameLengths o h a r o′ h′ a′ r′ → SameLengths o′ h′ a′ r′ o″ h″ a″ r″ → SameLengths o h a r o″ h″ a″ r″
-same-trans x y = record { outs = y .outs ∙ x .outs; halves = y .halves ∙ x .halves; faces = y .faces ∙ x .faces; pending = y .pending ∙ x .pending }
-
--- ---- rows that are sized for the vertices have room for every mesh of them
-pub sized-room : {n : ℕ} {C : Counts} {p : ℕ → Point} {L : Links} {h a row : List ℕ} (o o′ h′ a′ : List ℕ) → n ≤ length o → Sized n h a row → C .vertices ≡ n → Good C L p
-    → length o′ ≡ length o → length h′ ≡ length h → length a′ ≡ length a → Room C o′ h′ a′
-sized-room o o′ h′ a′ k s v G x y z =
-    let e = halves-fit (G .wf) (le-refl _) in let f = faces-fit (G .wf) (le-refl _) in
-    record { outs = omega arith; halves = omega arith; faces = omega arith; small = omega arith }
-
--- corners closed one after another leave what a function needs
-module _ {q : List ℤ} {o h a row : List ℕ} where
-  kept : (m : Convexity) → Good (m .counts) (m .links) (positionOf q) → FlipsBound (m .counts) (m .links) (positionOf q) (m .flips) → m .faces ≤ m .counts .faces
-      → m .counts .vertices ≤ length o → 2 * m .counts .vertices ≤ length q → Sized (m .counts .vertices) h a row
-      → {o′ h′ a′ row′ : List ℕ} {g : Added} → Closings (positionOf q) m (convexityOf o′ h′ a′ g) → SameLengths o h a row o′ h′ a′ row′ → Ready q o′ h′ a′ row′ g
-  unfolding convexityOf
-  kept m G B f u v s {o′} {h′} {a′} c l =
-      let n = closings-count c in
-      let G′ = closings-good G c in
-      record {
-        rows = record {
-          room = sized-room o o′ h′ a′ u s (n .vertices) G′ (l .outs) (l .halves) (l .faces);
-          positions = (let k = n .vertices in omega arith);
-          good = G′;
-        };
-        sized = rw (n .vertices) (record { halves = omega arith; faces = omega arith; pending = omega arith; small = s .small });
-        flips = closings-bound G c B;
-        faces = (let k = n .faces in let i = n .more in omega arith);
-      }
-
-  pub ready-again : {g : Added} {m : Convexity} → Ready q o h a row g → Closings (positionOf q) (convexityOf o h a g) m
-      → {o′ h′ a′ row′ : List ℕ} {g′ : Added} → convexityOf o′ h′ a′ g′ ≡ m → SameLengths o h a row o′ h′ a′ row′ → Ready q o′ h′ a′ row′ g′
-  unfolding convexityOf
-  ready-again {g} R c {o′} {h′} {a′} {row′} {g′} e l =
-      kept (convexityOf o h a g) (R .rows .good) (R .flips) (R .faces) (R .rows .room .outs) (R .rows .positions) (R .sized)
-      (subst⁻¹ (Closings (positionOf q) (convexityOf o h a g)) e c) l
-
-  -- after all passes
-  pub convexity-ready : {C : Counts} → MeshReady q o h a row C → {o′ h′ a′ row′ : List ℕ} {g : Added} → convexityOf o′ h′ a′ g ≡ convexity (length row) C (positionOf q) (linksOf o h a)
-      → SameLengths o h a row o′ h′ a′ row′ → Ready q o′ h′ a′ row′ g
-  convexity-ready {C} R {o′} {h′} {a′} {row′} {g} e l =
-      kept (unpassed C (linksOf o h a) .mesh) (R .rows .good) (flips-none (R .rows .good)) (omega arith) (R .rows .room .outs) (R .rows .positions) (R .sized)
-      (subst⁻¹ (Closings (positionOf q) (unpassed C (linksOf o h a) .mesh)) e (convexity-closings (length row) C (positionOf q) (linksOf o h a) (R .rows .good))) l
-
--- few enough faces for a count of flips in 128 bits
-pub ready-few : {q : List ℤ} {o h a row : List ℕ} {g : Added} → Ready q o h a row g → g .counts .faces ≤ 2 ^ 25
-ready-few R = let f = faces-fit (R .rows .good .wf) (le-refl _) in let s = R .sized .small in omega arith
+-- after all passes
+pub convexity-ready : {q : List ℤ} {o h a row : List ℕ} {C : Counts} → MeshReady q o h a row C → {o′ h′ a′ row′ : List ℕ} {g : Added} → extendedOf o′ h′ a′ g ≡ convexity (length row) C (positionOf q) (linksOf o h a)
+    → SameLengths o h a row o′ h′ a′ row′ → Ready q o′ h′ a′ row′ g
+convexity-ready {q} {o} {h} {a} {row} {C} R {o′} {h′} {a′} {row′} {g} e l =
+    kept (unpassed C (linksOf o h a) .mesh) (R .rows .good) (flips-none (R .rows .good)) (omega arith) (R .rows .room .outs) (R .rows .positions) (R .sized)
+    (subst⁻¹ (Closings (positionOf q) (unpassed C (linksOf o h a) .mesh)) e (convexity-closings (length row) C (positionOf q) (linksOf o h a) (R .rows .good))) l

@@ -4,12 +4,14 @@
 use mathlib.Core.Bool.{Bool, true, false, _&&_, _||_, not}
 use mathlib.Core.List.{List, [], _∷_}
 use mathlib.Core.Path.{_≡_, refl, sym, _∙_, ap, ap₂, subst}
-use Prim.Native.Nat.{ℕ, zero, suc, _+_, _-_, _*_, _<_, _≤_}
+use Prim.Native.Nat.{ℕ, zero, suc, _+_, _-_, _*_, _/_, _<_, _≤_}
 use native.Mathlib.Decide.{ℕ-discrete, decLt}
 use native.Mathlib.Omega.{arith}
 use borrow.Author.Tests.{lt-ltb, le-ltb, eq-eqb, ne-eqb}
 use lib.Dec.{ltb, eqb}
 use lib.ListN.{length, getD}
+use Rattle.corner.specs.Corner.{Extended, closeCorner}
+use Rattle.corner.specs.CornerLaws.{closed-length}
 use Rattle.math.specs.declared.Point.{Point}
 use Rattle.mesh.specs.Mesh.{Links}
 use Rattle.mesh.specs.Area.{boundaryLength}
@@ -17,8 +19,8 @@ use Rattle.mesh.specs.BoundaryLaws.{boundary-least, boundary-most}
 use Rattle.mesh.specs.Good.{Good}
 use Rattle.sums.specs.Iterate.{iter}
 use Rattle.sums.specs.Until.{until, until-related, until-turn, until-fuel, until-ends}
-use Rattle.convexity.specs.Convexity.{Convexity, Pass, turnsLeftAt, closeCorner, lastTurnsLeft, closeLast, closeCorners, passTurn, isSecond, passStart, fixConvexity}
-use Rattle.convexity.specs.CornerLaws.{behind-period, closes, closes-behind, closed-length}
+use Rattle.convexity.specs.Convexity.{Pass, turnsLeftAt, lastTurnsLeft, closeLast, closeCorners, passTurn, isSecond, passStart, fixConvexity}
+use Rattle.convexity.specs.BehindLaws.{behind-period, closes, closes-behind}
 use Rattle.convexity.specs.Walk.{Walk, edge1, edge2, leftBehind, stops, closeBehind, closeAllBehind, onward, walkTurn, walkEnds, walkStart, walkPass}
 use Rattle.convexity.specs.WalkLaws.{Walking, Turns, turns, close-keeps, onward-keeps, left-over, Turned, turned, walk-falls, walk-starts}
 
@@ -98,7 +100,7 @@ module _ {p : ℕ → Point} (w : Walk) (i : Walking p w) (l : List ℕ) (c : Ch
     unfolding closeLast closeBehind new
     close-same = let n = boundary-least (i .good .wf) in let k = turns p w e .two in
         ap (closeLast room p (passOf w l)) q
-        ∙ ap₂ (λ (u v : ℕ). record { mesh = closeCorner room p (w .mesh) u v; current = w .current; edges = (2 * w .mesh .counts .edges + 1) ∷ t })
+        ∙ ap₂ (λ (u v : ℕ). record { mesh = closeCorner room p (w .mesh) u (u / 2) (v / 2); current = w .current; edges = (2 * w .mesh .counts .edges + 1) ∷ t })
         (ap (λ (l : List ℕ). getD l 1 0) (sym q) ∙ c .entries 1 k (omega arith)) (ap (λ (l : List ℕ). getD l 0 0) (sym q) ∙ c .entries 0 (omega arith) (omega arith))
 
     close-chain : Chain (closeBehind room p w) (new ∷ t)
@@ -108,8 +110,8 @@ module _ {p : ℕ → Point} (w : Walk) (i : Walking p w) (l : List ℕ) (c : Ch
         T : Turns p w
         T = turns p w e
 
-        at : (k : ℕ) → k < w .depth - 1 → k < boundaryLength (closeCorner room p (w .mesh) (edge1 w) (edge2 w) .counts) (closeCorner room p (w .mesh) (edge1 w) (edge2 w) .links)
-            → getD ((2 * w .mesh .counts .edges + 1) ∷ t) k 0 ≡ iter (suc k) (closeCorner room p (w .mesh) (edge1 w) (edge2 w) .links .prev) (w .current)
+        at : (k : ℕ) → k < w .depth - 1 → k < boundaryLength (closeCorner room p (w .mesh) (edge1 w) (edge1 w / 2) (edge2 w / 2) .counts) (closeCorner room p (w .mesh) (edge1 w) (edge1 w / 2) (edge2 w / 2) .links)
+            → getD ((2 * w .mesh .counts .edges + 1) ∷ t) k 0 ≡ iter (suc k) (closeCorner room p (w .mesh) (edge1 w) (edge1 w / 2) (edge2 w / 2) .links .prev) (w .current)
         at zero u v = sym (closes-behind room p (w .mesh) (i .good) (i .current .0) (i .current .1) (T .left) .last)
         at (suc j) u v =
             let n = closed-length (i .good) (closes room p (w .mesh) (i .good) (i .current .0) (i .current .1) (T .left)) in
@@ -170,19 +172,19 @@ module _ (room : ℕ) (p : ℕ → Point) where
   stacked-ends : (s : Pass) (w : Walk) → Stacked p s w → ends s ≡ walkEnds w
   stacked-ends s w S = ap ends (S .is) ∙ ap (λ (b : Bool). w .mesh .full || b) (end-same w (S .walking) (S .stack) (S .chain))
 
-  stacked-start : (m : Convexity) → Good (m .counts) (m .links) p → Stacked p (passStart m) (walkStart m)
+  stacked-start : (m : Extended) → Good (m .counts) (m .links) p → Stacked p (passStart m) (walkStart m)
   unfolding walkStart
   stacked-start m G = record { stack = []; is = refl; chain = record { depth = refl; entries = λ k u v. absurd (omega arith) }; walking = walk-starts room p m G }
 
-  start-left : (m : Convexity) → walkStart m .left ≡ boundaryLength (m .counts) (m .links) + 1
+  start-left : (m : Extended) → walkStart m .left ≡ boundaryLength (m .counts) (m .links) + 1
   unfolding walkStart
   start-left m = refl
 
-  start-full : (m : Convexity) → walkStart m .mesh .full ≡ m .full
+  start-full : (m : Extended) → walkStart m .mesh .full ≡ m .full
   unfolding walkStart
   start-full m = refl
 
-  module _ (m : Convexity) (G : Good (m .counts) (m .links) p) (f : m .full ≡ false) where
+  module _ (m : Extended) (G : Good (m .counts) (m .links) p) (f : m .full ≡ false) where
     abbrev fuel : ℕ
     fuel = 2 * m .counts .edges + 2
 

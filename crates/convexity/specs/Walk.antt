@@ -1,17 +1,18 @@
 -- A pass with O(1) state, as the code makes it: the stack `convex_edges` is the chain of half-edges behind the current one, so its depth stands for it, and a
 -- pass has a turn for each half-edge of the boundary and one more. Definitions only; `WalkLaws` has that it is the pass of `Convexity`.
 use mathlib.Core.Bool.{Bool, not, _&&_, _||_}
-use Prim.Native.Nat.{ℕ, _+_, _-_}
+use Prim.Native.Nat.{ℕ, _+_, _-_, _/_}
 use lib.Dec.{eqb, ltb}
+use Rattle.corner.specs.Corner.{Extended, closeCorner}
 use Rattle.math.specs.declared.Point.{Point}
 use Rattle.mesh.specs.Mesh.{Links}
 use Rattle.mesh.specs.Area.{boundaryLength}
 use Rattle.sums.specs.Until.{until}
-use Rattle.convexity.specs.Convexity.{Convexity, turnsLeftAt, closeCorner}
+use Rattle.convexity.specs.Convexity.{turnsLeftAt}
 
 -- the mesh, `current_fixed`, the length of `convex_edges`, and how many turns are left
 pub record Walk : Type 0 where
-  pub mesh : Convexity
+  pub mesh : Extended
   pub current : ℕ
   pub depth : ℕ
   pub left : ℕ
@@ -30,8 +31,9 @@ leftBehind p L current depth = ltb 1 depth && turnsLeftAt L p (L .prev (L .prev 
 unfoldable pub stops : (ℕ → Point) → Walk → Bool
 stops p w = w .mesh .full || not (leftBehind p (w .mesh .links) (w .current) (w .depth))
 
-abbrev pub closedBehind : ℕ → (ℕ → Point) → Convexity → ℕ → Convexity
-closedBehind room p m current = closeCorner room p m (m .links .prev (m .links .prev current)) (m .links .prev current)
+abbrev pub closedBehind : ℕ → (ℕ → Point) → Extended → ℕ → Extended
+closedBehind room p m current =
+    closeCorner room p m (m .links .prev (m .links .prev current)) (m .links .prev (m .links .prev current) / 2) (m .links .prev current / 2)
 
 unfoldable pub closeBehind : ℕ → (ℕ → Point) → Walk → Walk
 closeBehind room p w = record { mesh = closedBehind room p (w .mesh) (w .current); current = w .current; depth = w .depth - 1; left = w .left }
@@ -51,9 +53,9 @@ walkTurn room p w = closeAllBehind room p (onward w)
 abbrev pub walkEnds : Walk → Bool
 walkEnds w = w .mesh .full || eqb (w .left) 0
 
-unfoldable pub walkStart : Convexity → Walk
+unfoldable pub walkStart : Extended → Walk
 walkStart m = record { mesh = m; current = m .links .adjacent 0; depth = 0; left = boundaryLength (m .counts) (m .links) + 1 }
 
 -- one pass
-unfoldable pub walkPass : ℕ → (ℕ → Point) → Convexity → Convexity
+unfoldable pub walkPass : ℕ → (ℕ → Point) → Extended → Extended
 walkPass room p m = until walkEnds (walkTurn room p) (walkStart m .left + 1) (walkStart m) .mesh

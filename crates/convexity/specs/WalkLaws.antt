@@ -6,14 +6,16 @@ use Prim.Native.Nat.{ℕ, _+_, _-_, _<_}
 use native.Mathlib.Omega.{arith}
 use borrow.Author.Tests.{ltb-true, lt-ltb, eqb-false}
 use lib.Dec.{ltb, eqb}
+use Rattle.corner.specs.Corner.{Extended}
+use Rattle.corner.specs.CornerLaws.{Closings, none, then, closings-join, closed-good, closed-length}
 use Rattle.math.specs.declared.Point.{Point}
 use Rattle.mesh.specs.Mesh.{In}
 use Rattle.mesh.specs.Area.{boundaryLength}
 use Rattle.mesh.specs.BoundaryLaws.{first<, first-outer}
 use Rattle.mesh.specs.Good.{Good}
 use Rattle.sums.specs.Until.{Falls, until-ind}
-use Rattle.convexity.specs.Convexity.{Convexity, turnsLeftAt}
-use Rattle.convexity.specs.CornerLaws.{Closings, none, then, closings-join, closes, closes-behind, closed-good, closed-length}
+use Rattle.convexity.specs.Convexity.{turnsLeftAt}
+use Rattle.convexity.specs.BehindLaws.{closes, closes-behind}
 use Rattle.convexity.specs.Walk.{Walk, edge1, edge2, leftBehind, stops, closeBehind, closeAllBehind, onward, walkTurn, walkEnds, walkStart, walkPass}
 
 -- the current half-edge is on the boundary of a good mesh, and each turn left is for one of the half-edges that are not behind it, or the last
@@ -123,7 +125,7 @@ module _ (room : ℕ) (p : ℕ → Point) where
   pub walk-falls : Falls walkEnds (walkTurn room p) (Walking p) (λ w. w .left)
   walk-falls = record { keeps = λ w i e. turned w i e .walking; less = λ w i e. let l = turned w i e .left in omega arith }
 
-  module _ (m : Convexity) (G : Good (m .counts) (m .links) p) where
+  module _ (m : Extended) (G : Good (m .counts) (m .links) p) where
     pub walk-starts : Walking p (walkStart m)
     unfolding walkStart
     walk-starts = record { good = G; current = (first< (G .wf), first-outer (G .wf)); count = omega arith }

@@ -6,23 +6,17 @@ ghost use mathlib.Core.Path.{_≡_};
 ghost use Prim.Native.Nat.{ℕ, _+_};
 ghost use lib.Dec.{eqb};
 ghost use lib.ListN.{length};
+ghost use Rattle.corner.specs.CornerRows.{extendedOf};
 ghost use Rattle.dcel.specs.Rows.{linksOf, positionOf};
 ghost use Rattle.mesh.specs.Area.{boundaryLength};
 ghost use Rattle.convexity.specs.Convexity.{turnsLeftAt, fixConvexity, convexity};
 ghost use Rattle.convexity.specs.Walk.{leftBehind, closedBehind, closeAllBehind};
-ghost use Rattle.convexity.specs.ConvexityRows.{convexityOf, walkOf, CornerReady, BehindReady, CloseReady, WalkReady, StartReady, MeshReady};
+ghost use Rattle.convexity.specs.ConvexityRows.{walkOf, CornerReady, BehindReady, CloseBehindReady, WalkReady, StartReady, MeshReady};
+use corner::Added;
 use flip_count::FlipCount;
 use mesh::Counts;
 
-// What passes have made of a mesh: its counts, the faces added, the flips, and whether a flip's pushes would have overfilled the pending list.
-pub struct Added {
-    pub counts: Counts,
-    pub faces: u32,
-    pub flips: FlipCount,
-    pub full: bool,
-}
-
-// The same, with how many half-edges of the walk are behind the current one: `convex_edges.len()`.
+// What has become of a mesh, and how many half-edges of the walk are behind the current one: `convex_edges.len()`.
 pub struct Walked {
     pub added: Added,
     pub depth: u32,
@@ -68,38 +62,22 @@ fn close_behind(
     added: Added,
     current: u32,
 ) -> Added
-    requires { ⌜ CloseReady (now positions) (now outs) (now halves) (now faces) (now pending) added current ⌝ }
-    ensures { λ r. ⌜ convexityOf (now (outs .exit)) (now (halves .exit)) (now (faces .exit)) r ≡ closedBehind (length (now (pending .entry))) (positionOf (now (positions .entry))) (convexityOf (now (outs .entry)) (now (halves .entry)) (now (faces .entry)) added) current ⌝ }
+    requires { ⌜ CloseBehindReady (now positions) (now outs) (now halves) (now faces) (now pending) added current ⌝ }
+    ensures { λ r. ⌜ extendedOf (now (outs .exit)) (now (halves .exit)) (now (faces .exit)) r ≡ closedBehind (length (now (pending .entry))) (positionOf (now (positions .entry))) (extendedOf (now (outs .entry)) (now (halves .entry)) (now (faces .entry)) added) current ⌝ }
 {
     let edge2 = dcel::prev(halves, current);
     let edge1 = dcel::prev(halves, edge2);
-    let counts = added.counts;
-    let flips = added.flips;
-    let new = dcel_operations::create_single_face_between_edge_and_next(
-        halves,
-        faces,
-        counts,
-        edge1,
-    );
-    let after = new.counts;
-    let done = legalize::legalize_edges_after_removal(
+    corner::close_corner(
         positions,
         outs,
         halves,
         faces,
         pending,
-        after,
+        added,
+        edge1,
         edge1 / 2,
         edge2 / 2,
-        flips,
-    );
-    let made = done.flips;
-    Added {
-        counts: after,
-        faces: added.faces + 1,
-        flips: made,
-        full: done.full,
-    }
+    )
 }
 
 // The inner loop of `fix_convexity`.
@@ -128,15 +106,6 @@ fn close_all_behind(
     }
 }
 
-fn walk_ends(full: bool, left: u32) -> bool
-    ensures { λ r. ⌜ r ≡ (full || eqb left 0) ⌝ }
-{
-    if full {
-        return true;
-    }
-    left == 0
-}
-
 // One pass: a turn for each half-edge of the boundary, and one more.
 pub fn fix_convexity(
     positions: &[i32],
@@ -147,14 +116,14 @@ pub fn fix_convexity(
     added: Added,
 ) -> Added
     requires { ⌜ StartReady (now positions) (now outs) (now halves) (now faces) (now pending) added ⌝ }
-    ensures { λ r. ⌜ convexityOf (now (outs .exit)) (now (halves .exit)) (now (faces .exit)) r ≡ fixConvexity (length (now (pending .entry))) (positionOf (now (positions .entry))) (convexityOf (now (outs .entry)) (now (halves .entry)) (now (faces .entry)) added) ⌝ }
+    ensures { λ r. ⌜ extendedOf (now (outs .exit)) (now (halves .exit)) (now (faces .exit)) r ≡ fixConvexity (length (now (pending .entry))) (positionOf (now (positions .entry))) (extendedOf (now (outs .entry)) (now (halves .entry)) (now (faces .entry)) added) ⌝ }
 {
     let mut now = added;
     let mut current = dcel::adjacent(faces, 0);
     let mut depth = 0;
     let counts = added.counts;
     let mut left = 3 * counts.vertices - 2 - counts.edges;
-    while !walk_ends(now.full, left) {
+    while !corner::walk_ends(now.full, left) {
         current = dcel::next(halves, current);
         let walked = close_all_behind(
             positions,
@@ -193,7 +162,7 @@ pub fn convexity(
     counts: Counts,
 ) -> Added
     requires { ⌜ MeshReady (now positions) (now outs) (now halves) (now faces) (now pending) counts ⌝ }
-    ensures { λ r. ⌜ convexityOf (now (outs .exit)) (now (halves .exit)) (now (faces .exit)) r ≡ convexity (length (now (pending .entry))) counts (positionOf (now (positions .entry))) (linksOf (now (outs .entry)) (now (halves .entry)) (now (faces .entry))) ⌝ }
+    ensures { λ r. ⌜ extendedOf (now (outs .exit)) (now (halves .exit)) (now (faces .exit)) r ≡ convexity (length (now (pending .entry))) counts (positionOf (now (positions .entry))) (linksOf (now (outs .entry)) (now (halves .entry)) (now (faces .entry))) ⌝ }
 {
     let zero = FlipCount::zero();
     let mut now = Added {

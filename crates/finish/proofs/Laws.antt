@@ -2,21 +2,24 @@
 use mathlib.Core.Bool.{true, false}
 use mathlib.Core.List.{List}
 use mathlib.Core.Path.{_≡_, refl, sym, _∙_, ap, subst}
-use Prim.Native.Nat.{ℕ, _+_, _*_, _/_, _%_, _^_, _<_, _≤_}
+use Prim.Native.Nat.{ℕ, _+_, _*_, _^_, _<_, _≤_}
 use native.Mathlib.Omega.{arith}
 use lib.IntN.{ℤ}
 use lib.ListN.{length, replicate}
+use Rattle.corner.specs.declared.Added.{Added}
+use Rattle.corner.specs.Corner.{Extended}
+use Rattle.corner.specs.CornerRows.{extendedOf}
 use Rattle.circle_test.specs.GoodRows.{GoodRows}
 use Rattle.closing.specs.Closing.{closingPass}
 use Rattle.closing.specs.Held.{closingOf}
-use Rattle.convexity.specs.declared.Added.{Added}
-use Rattle.convexity.specs.Convexity.{Convexity, convexity}
+use Rattle.convexity.specs.Convexity.{convexity}
 use Rattle.convexity.specs.ConvexityLaws.{convexity-good, convexity-counts}
-use Rattle.convexity.specs.ConvexityRows.{convexityOf, MeshReady}
+use Rattle.convexity.specs.ConvexityRows.{MeshReady}
 use Rattle.dcel.specs.Rows.{linksOf, positionOf}
 use Rattle.dcel.specs.Views.{outs-from, halves-from, faces-from}
 use Rattle.flip_count.specs.declared.FlipCount.{FlipCount}
 use Rattle.flip_count.specs.FlipCount.{flipCountOf}
+use Rattle.flip_count.specs.CountLaws.{count-from}
 use Rattle.mesh.specs.declared.Counts.{Counts}
 use Rattle.mesh.specs.CountsLaws.{count-edges, count-faces}
 use Rattle.mesh.specs.Good.{Good}
@@ -25,25 +28,17 @@ use Rattle.mesh_check.specs.declared.Refusal.{Refusal}
 use Rattle.finish.specs.declared.FinishAnswer.{FinishAnswer}
 use Rattle.finish.specs.declared.Ended.{Ended}
 use Rattle.finish.specs.declared.Finished.{Finished}
-use Rattle.finish.specs.Finish.{closeAfter, finishMesh, Outcome, flipCountFrom, finishedFrom, outcomeOf, seedChecked, finishOf}
+use Rattle.finish.specs.Finish.{closeAfter, finishMesh, Outcome, finishedFrom, outcomeOf, seedChecked, finishOf}
 use Rattle.finish.specs.FinishRows.{finishingOf}
 
 -- ---- the answer
--- a count in two words is the one that its number has
-count-from : (c : FlipCount) → c .low < 2 ^ 64 → c ≡ flipCountFrom (flipCountOf c)
-unfolding flipCountFrom flipCountOf
-count-from c l =
-    let h : (c .high * 2 ^ 64 + c .low) / 2 ^ 64 ≡ c .high = omega arith in
-    let k : (c .high * 2 ^ 64 + c .low) % 2 ^ 64 ≡ c .low = omega arith in
-    rw (h, k) refl
-
-module _ (r : Ended) (o h a : List ℕ) where
-  pub answer-full : r .full ≡ true → _≡_ {A = FinishAnswer} (record { counts = r .counts; finished = Finished.Refused (record { number = 9; place = 0 }) }) (record { counts = r .counts; finished = finishedFrom (finishingOf o h a r) })
+module _ (r : Ended) (place : ℕ) (o h a : List ℕ) where
+  pub answer-full : r .full ≡ true → _≡_ {A = FinishAnswer} (record { counts = r .counts; finished = Finished.Refused (record { number = 9; place = place }) }) (record { counts = r .counts; finished = finishedFrom place (finishingOf o h a r) })
   unfolding finishedFrom finishingOf
   answer-full e = rw e
 
   pub answer-done : r .full ≡ false → r .totals .convexflips .low < 2 ^ 64 → r .totals .closingflips .low < 2 ^ 64
-      → _≡_ {A = FinishAnswer} (record { counts = r .counts; finished = Finished.Accepted (r .totals) }) (record { counts = r .counts; finished = finishedFrom (finishingOf o h a r) })
+      → _≡_ {A = FinishAnswer} (record { counts = r .counts; finished = Finished.Accepted (r .totals) }) (record { counts = r .counts; finished = finishedFrom place (finishingOf o h a r) })
   unfolding finishedFrom finishingOf
   answer-done e k l =
       let x = count-from (r .totals .convexflips) k in
@@ -52,19 +47,19 @@ module _ (r : Ended) (o h a : List ℕ) where
 
 -- ---- the passes
 module _ {q : List ℤ} {o h a row : List ℕ} {C : Counts} (R : MeshReady q o h a row C) (o₁ h₁ a₁ : List ℕ) (r : Added)
-    (e : convexityOf o₁ h₁ a₁ r ≡ convexity (length row) C (positionOf q) (linksOf o h a)) where
+    (e : extendedOf o₁ h₁ a₁ r ≡ convexity (length row) C (positionOf q) (linksOf o h a)) where
   -- refused a flip
   pub passes-full : (z : FlipCount) → flipCountOf z ≡ 0 → r .full ≡ true
       → finishingOf o₁ h₁ a₁ (record { counts = r .counts; totals = record { faces = r .faces; convexflips = r .flips; closingflips = z }; full = true }) ≡ finishMesh (length row) C (positionOf q) (linksOf o h a)
-  unfolding finishMesh closeAfter finishingOf convexityOf
+  unfolding finishMesh closeAfter finishingOf extendedOf
   passes-full z n f = rw (← e, f, n) refl
 
   -- what the closing pass asks
   pub passes-rows : length o₁ ≡ length o → length h₁ ≡ length h → length a₁ ≡ length a → GoodRows (r .counts) q o₁ h₁ a₁ × (r .counts .faces ≤ 2 ^ 25)
-  unfolding convexityOf
+  unfolding extendedOf
   passes-rows x y z =
-      let G : Good (r .counts) (linksOf o₁ h₁ a₁) (positionOf q) = subst (λ (v : Convexity). Good (v .counts) (v .links) (positionOf q)) (sym e) (convexity-good (length row) C (positionOf q) (linksOf o h a) (R .rows .good)) in
-      let c = ap (λ (v : Convexity). v .counts .vertices) e ∙ ap (λ (K : Counts). K .vertices) (convexity-counts (length row) C (positionOf q) (linksOf o h a) (R .rows .good)) in
+      let G : Good (r .counts) (linksOf o₁ h₁ a₁) (positionOf q) = subst (λ (v : Extended). Good (v .counts) (v .links) (positionOf q)) (sym e) (convexity-good (length row) C (positionOf q) (linksOf o h a) (R .rows .good)) in
+      let c = ap (λ (v : Extended). v .counts .vertices) e ∙ ap (λ (K : Counts). K .vertices) (convexity-counts (length row) C (positionOf q) (linksOf o h a) (R .rows .good)) in
       let s = R .sized in
       let n = R .rows .room in
       let u = count-edges (G .wf) in
@@ -73,7 +68,7 @@ module _ {q : List ℤ} {o h a row : List ℕ} {C : Counts} (R : MeshReady q o h
 
   pub passes-closed : (o₂ h₂ a₂ : List ℕ) (k : FlipCount) → closingOf o₂ h₂ a₂ k ≡ closingPass (r .counts) (positionOf q) (linksOf o₁ h₁ a₁) → r .full ≡ false
       → finishingOf o₂ h₂ a₂ (record { counts = r .counts; totals = record { faces = r .faces; convexflips = r .flips; closingflips = k }; full = false }) ≡ finishMesh (length row) C (positionOf q) (linksOf o h a)
-  unfolding finishMesh closeAfter finishingOf convexityOf closingOf
+  unfolding finishMesh closeAfter finishingOf extendedOf closingOf
   passes-closed o₂ h₂ a₂ k d f = rw (← e, f, ← d) refl
 
 -- ---- the call
@@ -90,7 +85,7 @@ module _ (C : Counts) (q : List ℤ) (o h a row : List ℕ) where
   pub accepted-outcome : Checked.Accepted ≡ seedChecked C q o h a row → (o′ h′ a′ row′ : List ℕ) (r : Ended) (x : FinishAnswer)
       → finishingOf o′ h′ a′ r ≡ finishMesh (length row) C (positionOf q) (linksOf o h a)
       → length o′ ≡ length o → length h′ ≡ length h → length a′ ≡ length a → row′ ≡ replicate (length row) 0
-      → x ≡ record { counts = r .counts; finished = finishedFrom (finishingOf o′ h′ a′ r) }
+      → x ≡ record { counts = r .counts; finished = finishedFrom 0 (finishingOf o′ h′ a′ r) }
       → _≡_ {A = Outcome} (record { answer = x; outs = o′; halves = h′; faces = a′; pending = row′ }) (finishOf C q o h a row)
   unfolding finishOf outcomeOf finishingOf
   accepted-outcome e o′ h′ a′ row′ r x d i j k z y =

@@ -5,8 +5,9 @@ use mathlib.Core.List.{List, [], _∷_}
 use Prim.Native.Nat.{ℕ}
 use lib.IntN.{ℤ, pos, negsuc}
 use lib.ListN.{getD}
+use Rattle.corner.specs.Corner.{closeCorner}
 use Rattle.closing.specs.Closing.{closeEdge, closeBelow, closeTurn, closingPass}
-use Rattle.convexity.specs.Convexity.{turnsLeftAt, closeCorner, lastTurnsLeft, closeLast, closeCorners, passTurn, isSecond, fixConvexity, passAgain, convexity}
+use Rattle.convexity.specs.Convexity.{turnsLeftAt, lastTurnsLeft, closeLast, closeCorners, passTurn, isSecond, fixConvexity, passAgain, convexity}
 use Rattle.legalize.specs.Legalize.{edgeOf, pushed, flipped, popped, legalize}
 use Rattle.pending.specs.Pending.{contains, pushIfNotContained}
 use Rattle.math.specs.declared.Point.{Point}

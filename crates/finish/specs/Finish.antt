@@ -2,14 +2,15 @@
 -- 01: "Finish makes the first pass of `fix_convexity`, then repeats passes until one adds no face. Last comes the closing pass (added), fed the mesh alone."
 use mathlib.Core.Bool.{Bool, cond}
 use mathlib.Core.List.{List, []}
-use Prim.Native.Nat.{ℕ, _/_, _%_, _^_}
+use Prim.Native.Nat.{ℕ}
 use lib.Dec.{ltb}
 use lib.IntN.{ℤ}
 use lib.ListN.{length, replicate}
+use Rattle.corner.specs.Corner.{Extended}
 use Rattle.closing.specs.Closing.{Closing, closingPass}
-use Rattle.convexity.specs.Convexity.{Convexity, convexity}
+use Rattle.convexity.specs.Convexity.{convexity}
 use Rattle.dcel.specs.Rows.{linksOf, positionOf, rowFrom, halvesFrom}
-use Rattle.flip_count.specs.declared.FlipCount.{FlipCount}
+use Rattle.flip_count.specs.FlipCount.{flipCountFrom}
 use Rattle.math.specs.declared.Point.{Point}
 use Rattle.mesh.specs.declared.Counts.{Counts}
 use Rattle.mesh.specs.Mesh.{Links}
@@ -29,7 +30,7 @@ pub record Finishing : Type 0 where
   pub full : Bool
 
 -- the closing pass after the convexity passes, unless they were refused a flip
-unfoldable pub closeAfter : (ℕ → Point) → Convexity → Closing
+unfoldable pub closeAfter : (ℕ → Point) → Extended → Closing
 closeAfter p v = cond (v .full) (record { links = v .links; flips = 0 }) (closingPass (v .counts) p (v .links))
 
 -- with `room` pending entries
@@ -48,15 +49,11 @@ pub record Outcome : Type 0 where
   pub faces : List ℕ
   pub pending : List ℕ
 
--- a number of flips in two words
-unfoldable pub flipCountFrom : ℕ → FlipCount
-flipCountFrom n = record { high = n / 2 ^ 64; low = n % 2 ^ 64 }
-
--- 01, refusal 9: it answers "0 in a finish alone"
-unfoldable pub finishedFrom : Finishing → Finished
-finishedFrom m =
+-- 01, refusal 9: it answers "the point count in a finish within a run, 0 in a finish alone": the place
+unfoldable pub finishedFrom : ℕ → Finishing → Finished
+finishedFrom place m =
     cond (m .full)
-    (Finished.Refused (record { number = 9; place = 0 }))
+    (Finished.Refused (record { number = 9; place = place }))
     (Finished.Accepted (record { faces = m .faces; convexflips = flipCountFrom (m .convexflips); closingflips = flipCountFrom (m .closingflips) }))
 
 -- 01: "All but 9 change nothing lent and answer the number and a place (0 where none is named)." "After 9 and after every accepted call the ring, freed, bucket and
@@ -70,7 +67,7 @@ outcomeOf C outs halves faces pending (Checked.Refused r) m = record {
   pending = pending;
 }
 outcomeOf C outs halves faces pending Checked.Accepted m = record {
-  answer = record { counts = m .counts; finished = finishedFrom m };
+  answer = record { counts = m .counts; finished = finishedFrom 0 m };
   outs = rowFrom (length outs) (m .links .out);
   halves = halvesFrom (length halves) (m .links);
   faces = rowFrom (length faces) (m .links .adjacent);

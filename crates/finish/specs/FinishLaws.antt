@@ -4,20 +4,22 @@ use mathlib.Core.Bool.{Bool, true, false, not, cond}
 use mathlib.Core.List.{List}
 use mathlib.Core.Logic.{_⊎_, inl, inr}
 use mathlib.Core.Path.{_≡_, refl, sym, _∙_, ap, subst}
-use Prim.Native.Nat.{ℕ, _+_, _^_, _≤_}
-use native.Mathlib.Nat.{div-add-mod'}
+use Prim.Native.Nat.{ℕ, _+_, _≤_}
 use native.Mathlib.Omega.{arith}
 use lib.Dec.{ltb}
 use lib.IntN.{ℤ, natAbs}
 use lib.ListN.{length, replicate}
+use Rattle.corner.specs.Corner.{Extended}
+use Rattle.corner.specs.CornerLaws.{Closings}
+use Rattle.corner.specs.Untouched.{Untouched, Holding, rows-back}
 use Rattle.closing.specs.Closing.{Closing, closingPass}
-use Rattle.convexity.specs.Convexity.{Convexity, convexity, unpassed, NoLeftCorner}
+use Rattle.convexity.specs.Convexity.{convexity, unpassed, NoLeftCorner}
 use Rattle.convexity.specs.ConvexityLaws.{convexity-closings}
-use Rattle.convexity.specs.CornerLaws.{Closings}
 use Rattle.dcel.specs.Rows.{linksOf, positionOf, rowFrom, halvesFrom}
 use Rattle.dcel.specs.Views.{length-from}
 use Rattle.convexity.specs.ConvexityRows.{MeshReady}
-use Rattle.flip_count.specs.FlipCount.{flipCountOf}
+use Rattle.flip_count.specs.FlipCount.{flipCountOf, flipCountFrom}
+use Rattle.flip_count.specs.CountLaws.{count-of}
 use Rattle.math.specs.declared.Point.{Point}
 use Rattle.mesh.specs.declared.Counts.{Counts}
 use Rattle.mesh.specs.Mesh.{Links}
@@ -32,10 +34,9 @@ use Rattle.mesh_check.specs.declared.Refusal.{Refusal}
 use Rattle.mesh_check.specs.Check.{refused, countRefused, firstOutside, firstNotLeft, checkMesh, checkWith}
 use Rattle.finish.specs.declared.Finished.{Finished}
 use Rattle.finish.specs.declared.Totals.{Totals}
-use Rattle.finish.specs.Finish.{Finishing, finishMesh, Outcome, flipCountFrom, finishedFrom, outcomeOf, seedChecked, finishOf}
+use Rattle.finish.specs.Finish.{Finishing, finishMesh, Outcome, finishedFrom, outcomeOf, seedChecked, finishOf}
 use Rattle.finish.specs.FinishRows.{accepted-ready}
 use Rattle.finish.specs.MeshLaws.{finish-flips, finish-good, finish-counts, finish-area, finish-falls, finish-untouched, finish-closing, finish-convex, finish-settled}
-use Rattle.finish.specs.Untouched.{Untouched, Holding, rows-back}
 
 -- the links that the rows hold after a call
 abbrev pub linksAfter : Outcome → Links
@@ -44,11 +45,6 @@ linksAfter r = linksOf (r .outs) (r .halves) (r .faces)
 -- the counts after a call: the same vertices, an edge and a face more for each face added
 abbrev pub withFaces : Counts → ℕ → Counts
 withFaces C n = record { vertices = C .vertices; edges = C .edges + n; faces = C .faces + n }
-
--- a number in two words is that number
-count-of : (n : ℕ) → flipCountOf (flipCountFrom n) ≡ n
-unfolding flipCountOf flipCountFrom
-count-of n = div-add-mod' n (2 ^ 64)
 
 -- what a call on a good mesh leaves: the mesh is good, its areas add up, what is past the counts is untouched, and the pending row holds zeros
 pub record Left (C : Counts) (q : List ℤ) (o h a row : List ℕ) (r : Outcome) (n : ℕ) : Type 0 where
@@ -68,7 +64,7 @@ pub record Done (C : Counts) (q : List ℤ) (o h a row : List ℕ) (r : Outcome)
   pub convex : NoLeftCorner (r .answer .counts) (linksAfter r) (positionOf q)
   pub settled : Settled (r .answer .counts) (linksAfter r) (positionOf q)
   -- corners closed one after another, each followed by its flips, as many of both as reported
-  pub passed : Convexity
+  pub passed : Extended
   pub passes : Closings (positionOf q) (unpassed C (linksOf o h a) .mesh) passed
   pub faces : t .faces ≡ passed .faces
   pub convexflips : flipCountOf (t .convexflips) ≡ passed .flips
@@ -129,7 +125,7 @@ module _ (C : Counts) (q : List ℤ) (o h a row : List ℕ) where
   module _ (e : seedChecked C q o h a row ≡ Checked.Accepted) where
     abbrev R : Outcome
     R = record {
-      answer = record { counts = m .counts; finished = finishedFrom m };
+      answer = record { counts = m .counts; finished = finishedFrom 0 m };
       outs = rowFrom (length o) (m .links .out);
       halves = halvesFrom (length h) (m .links);
       faces = rowFrom (length a) (m .links .adjacent);

@@ -1,6 +1,5 @@
 pub mod Finish
 pub mod FinishRows
-pub mod Untouched
 pub mod MeshLaws
 pub mod FinishLaws
 pub mod Examples

@@ -4,9 +4,11 @@ use mathlib.Core.Bool.{Bool, true, false, cond}
 use mathlib.Core.Path.{_≡_, sym, ap, subst}
 use Prim.Native.Nat.{ℕ, _+_, _≤_}
 use lib.IntN.{natAbs, _+ℤ_}
+use Rattle.corner.specs.Corner.{Extended}
+use Rattle.corner.specs.Untouched.{Untouched, run-untouched, closings-untouched, untouched-flips}
 use Rattle.closing.specs.Closing.{Closing, closingPass}
 use Rattle.closing.specs.ClosingLaws.{closing-closes}
-use Rattle.convexity.specs.Convexity.{Convexity, convexity, NoLeftCorner}
+use Rattle.convexity.specs.Convexity.{convexity, NoLeftCorner}
 use Rattle.convexity.specs.ConvexityLaws.{convexity-closings, convexity-good, convexity-counts, convexity-convex, run-corners}
 use Rattle.math.specs.declared.Point.{Point}
 use Rattle.mesh.specs.declared.Counts.{Counts}
@@ -17,11 +19,10 @@ use Rattle.mesh.specs.Circle.{Settled}
 use Rattle.mesh.specs.FlipRun.{FlipRun, none, run-good, run-falls, run-heights, determinants}
 use Rattle.mesh.specs.Good.{Good}
 use Rattle.finish.specs.Finish.{Finishing, closeAfter, finishMesh}
-use Rattle.finish.specs.Untouched.{Untouched, run-untouched, closings-untouched, untouched-flips}
 
 -- in any case, a refused flip too
 module _ (room : ℕ) (C : Counts) (p : ℕ → Point) (L : Links) (G : Good C L p) where
-  abbrev v : Convexity
+  abbrev v : Extended
   v = convexity room C p L
 
   abbrev m : Finishing

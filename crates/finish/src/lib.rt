@@ -62,7 +62,7 @@ fn check_seed(
 }
 
 // The passes on a good mesh.
-fn finish_mesh(
+pub fn finish_mesh(
     positions: &[i32],
     outs: &mut [u32],
     halves: &mut [u32],
@@ -110,9 +110,9 @@ fn clear(row: &mut [u32])
     }
 }
 
-// 9: "the pushes of a flip would overfill the pending list".
-fn answer_of(ended: Ended) -> FinishAnswer
-    ensures { λ r. ⌜ ((o h a : List ℕ) → r ≡ record { counts = ended .counts; finished = finishedFrom (finishingOf o h a ended) }) ⌝ }
+// 9: "the pushes of a flip would overfill the pending list", with the place that the call names.
+pub fn answer_of(ended: Ended, place: u32) -> FinishAnswer
+    ensures { λ r. ⌜ ((o h a : List ℕ) → r ≡ record { counts = ended .counts; finished = finishedFrom place (finishingOf o h a ended) }) ⌝ }
 {
     let counts = ended.counts;
     let totals = ended.totals;
@@ -121,7 +121,7 @@ fn answer_of(ended: Ended) -> FinishAnswer
             counts: counts,
             finished: Finished::Refused(Refusal {
                 number: 9,
-                place: 0,
+                place: place,
             }),
         };
     }
@@ -153,5 +153,5 @@ pub fn finish(
     }
     let ended = finish_mesh(positions, outs, halves, faces, pending, counts);
     clear(pending);
-    answer_of(ended)
+    answer_of(ended, 0)
 }

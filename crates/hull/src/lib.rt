@@ -50,7 +50,7 @@ pub fn meets_center(
 }
 
 // The angle at the origin of a boundary edge.
-fn angle_at(positions: &[i32], halves: &[u32], e: u32, center: Point2) -> f64
+pub fn angle_at(positions: &[i32], halves: &[u32], e: u32, center: Point2) -> f64
     requires { ⌜ Angled (now positions) (now halves) (center .x) (center .y) e ⌝ }
     ensures { λ r. ⌜ AngleAt (now (positions .entry)) (now (halves .entry)) (center .x) (center .y) e r ⌝ }
 {

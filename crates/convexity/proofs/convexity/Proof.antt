@@ -1,7 +1,7 @@
 -- `convexity::convexity` meets its contract. The loop's invariant: to go on from here is to go on from the start. The measure is the boundary's length, and one for
 -- the pass that adds no face. Assumes nothing.
+use Rattle.corner.specs.CornerRows.{extendedOf}
 use Rattle.convexity.specs.ConvexityLaws.{passesLeft}
-use Rattle.convexity.specs.ConvexityRows.{convexityOf}
 use Rattle.convexity.proofs.PassesLoop.{PassesAt, passes-begin, again-ready, passes-on, passes-less, passes-end}
 use Rattle.convexity.proofs.convexity.Statement.{statement}
 use Rattle.convexity.proofs.convexity.Tie as tie
@@ -12,7 +12,7 @@ Inv-loop positions outs₀ halves₀ faces₀ pending₀ now₀ still₀ outs ha
 
 abbrev μ-loop : tie.MeasureT-loop
 μ-loop positions outs₀ halves₀ faces₀ pending₀ now₀ still₀ outs halves faces pending now still =
-    passesLeft (record { mesh = convexityOf outs halves faces now; still = still })
+    passesLeft (record { mesh = extendedOf outs halves faces now; still = still })
 
 zero-requires : tie.Need-zero-requires Inv-loop μ-loop
 zero-requires c κs = tt

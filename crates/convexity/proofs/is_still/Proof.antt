@@ -1,5 +1,5 @@
 -- `convexity::is_still` meets its contract. Assumes nothing.
-use Rattle.convexity.proofs.Corners.{either-first, either-second}
+use Rattle.corner.specs.RowsLaws.{either-first, either-second}
 use Rattle.convexity.proofs.is_still.Statement.{statement}
 use Rattle.convexity.proofs.is_still.Tie as tie
 

@@ -6,14 +6,14 @@ use Prim.Native.Nat.{ℕ, _+_, _*_, _/_, _%_, _<_, _≤_}
 use native.Mathlib.Decide.{decLt}
 use native.Mathlib.Omega.{arith}
 use lib.ListN.{length, getD, List·getD-eq-default}
-use Rattle.convexity.specs.Convexity.{Convexity}
-use Rattle.convexity.specs.CornerLaws.{Closings, none, then, CornerClosed, closings-good}
+use Rattle.corner.specs.Corner.{Extended}
+use Rattle.corner.specs.CornerLaws.{Closings, none, then, CornerClosed, closings-good}
 use Rattle.dcel.specs.Rows.{halvesOf, rowOf, linksOf, rowFrom, field, halvesIn, halvesFrom}
 use Rattle.dcel.specs.Views.{length-from, getD-from}
 use Rattle.math.specs.declared.Point.{Point}
 use Rattle.mesh.specs.declared.Counts.{Counts}
 use Rattle.mesh.specs.Mesh.{Links, In}
-use Rattle.mesh.specs.Operations.{flipBetween, flipCw, faceBetween, createSingleFaceBetweenEdgeAndNext, withFace}
+use Rattle.mesh.specs.Operations.{flipBetween, flipCw, faceBetween, createSingleFaceBetweenEdgeAndNext, withFace, faceAdjacent, createNewFaceAdjacentToEdge, withVertex}
 use Rattle.mesh.specs.FlipRun as runs
 use Rattle.mesh.specs.FlipRun.{FlipRun, run-good}
 use Rattle.mesh.specs.Good.{Good}
@@ -30,16 +30,16 @@ pub record Untouched (C : Counts) (L L′ : Links) : Type 0 where
   pub adjacent : (f : ℕ) → C .faces ≤ f → L′ .adjacent f ≡ L .adjacent f
 
 -- nothing was changed, or one change after another with counts that do not shrink
-untouched-none : {C : Counts} {L : Links} → Untouched C L L
+pub untouched-none : {C : Counts} {L : Links} → Untouched C L L
 untouched-none = record { next = λ e _. refl; prev = λ e _. refl; face = λ e _. refl; origin = λ e _. refl; out = λ v _. refl; adjacent = λ f _. refl }
 
 -- counts that have not shrunk
-record Grown (C C′ : Counts) : Type 0 where
-  vertices : C .vertices ≤ C′ .vertices
-  edges : C .edges ≤ C′ .edges
-  faces : C .faces ≤ C′ .faces
+pub record Grown (C C′ : Counts) : Type 0 where
+  pub vertices : C .vertices ≤ C′ .vertices
+  pub edges : C .edges ≤ C′ .edges
+  pub faces : C .faces ≤ C′ .faces
 
-untouched-join : {C C′ : Counts} {L L′ L″ : Links} → Grown C C′ → Untouched C L L′ → Untouched C′ L′ L″ → Untouched C′ L L″
+pub untouched-join : {C C′ : Counts} {L L′ L″ : Links} → Grown C C′ → Untouched C L L′ → Untouched C′ L′ L″ → Untouched C′ L L″
 untouched-join g a b = record {
   next = λ e l. b .next e l ∙ a .next e (omega arith);
   prev = λ e l. b .prev e l ∙ a .prev e (omega arith);
@@ -49,7 +49,7 @@ untouched-join g a b = record {
   adjacent = λ f l. b .adjacent f l ∙ a .adjacent f (omega arith);
 }
 
--- ---- the two operations of a finish
+-- ---- the three operations
 -- a store below n is not seen from n on
 past : (f : ℕ → ℕ) (a v : ℕ) {n x : ℕ} → n ≤ x → a < n → put f a v x ≡ f x
 past f a v {n} {x} l m = put-other f a v x (λ q. omega arith)
@@ -89,6 +89,27 @@ single-face-untouched {C} {L} W {e} l =
       adjacent = λ f k. past _ _ _ k (let g : C .faces < C .faces + 1 = omega arith in g) ∙ past _ _ _ k (let g : 0 < C .faces + 1 = omega arith in g);
     }
 
+-- the new vertex and its first face
+pub new-face-untouched : {C : Counts} {L : Links} → Wf C L → {e : ℕ} → In C e → Untouched (withVertex C) L (createNewFaceAdjacentToEdge L C e)
+unfolding createNewFaceAdjacentToEdge faceAdjacent
+new-face-untouched {C} {L} W {e} l =
+    let p = W .ranges .prev< l in let n = W .ranges .next< l in
+    let e′ : In (withVertex C) e = omega arith in
+    let p′ : In (withVertex C) (L .prev e) = omega arith in
+    let n′ : In (withVertex C) (L .next e) = omega arith in
+    let a : In (withVertex C) (2 * C .edges) = omega arith in
+    let a′ : In (withVertex C) (2 * C .edges + 1) = omega arith in
+    let b : In (withVertex C) (2 * C .edges + 2) = omega arith in
+    let b′ : In (withVertex C) (2 * C .edges + 2 + 1) = omega arith in
+    record {
+      next = λ x k. past _ _ _ k p′ ∙ past _ _ _ k e′ ∙ past _ _ _ k b′ ∙ past _ _ _ k b ∙ past _ _ _ k a′ ∙ past _ _ _ k a;
+      prev = λ x k. past _ _ _ k n′ ∙ past _ _ _ k e′ ∙ past _ _ _ k b′ ∙ past _ _ _ k b ∙ past _ _ _ k a′ ∙ past _ _ _ k a;
+      face = λ x k. past _ _ _ k e′ ∙ past _ _ _ k b′ ∙ past _ _ _ k b ∙ past _ _ _ k a′ ∙ past _ _ _ k a;
+      origin = λ x k. past _ _ _ k b′ ∙ past _ _ _ k b ∙ past _ _ _ k a′ ∙ past _ _ _ k a;
+      out = λ v k. past _ _ _ k (let g : C .vertices < C .vertices + 1 = omega arith in g);
+      adjacent = λ f k. past _ _ _ k (let g = W .ranges .face< l in let h : L .face e < C .faces + 1 = omega arith in h) ∙ past _ _ _ k (let g : C .faces < C .faces + 1 = omega arith in g);
+    }
+
 -- ---- sequences of them
 grown-same : {C : Counts} → Grown C C
 grown-same = record { vertices = omega arith; edges = omega arith; faces = omega arith }
@@ -97,11 +118,11 @@ pub run-untouched : {C : Counts} {p : ℕ → Point} {L M : Links} {n : ℕ} →
 run-untouched G runs.none = untouched-none
 run-untouched G (runs.then r u l b) = untouched-join grown-same (run-untouched G r) (flip-untouched (run-good G r .wf) l)
 
-corner-untouched : {p : ℕ → Point} {m m′ : Convexity} {e : ℕ} → Good (m .counts) (m .links) p → CornerClosed p m m′ e → Untouched (m′ .counts) (m .links) (m′ .links)
+corner-untouched : {p : ℕ → Point} {m m′ : Extended} {e : ℕ} → Good (m .counts) (m .links) p → CornerClosed p m m′ e → Untouched (m′ .counts) (m .links) (m′ .links)
 corner-untouched {p} {m} {m′} G S =
     rw (S .counts) (untouched-join grown-same (single-face-untouched (G .wf) (S .edge)) (run-untouched (single-face-good G (S .edge) (S .outer) (S .left)) (S .run)))
 
-pub closings-untouched : {p : ℕ → Point} {m n : Convexity} → Good (m .counts) (m .links) p → Closings p m n → Untouched (n .counts) (m .links) (n .links)
+pub closings-untouched : {p : ℕ → Point} {m n : Extended} → Good (m .counts) (m .links) p → Closings p m n → Untouched (n .counts) (m .links) (n .links)
 closings-untouched G none = untouched-none
 closings-untouched {n = n} G (then {k = k} a e S) =
     let v = ap (λ (C : Counts). C .vertices) (S .counts) in

@@ -1,0 +1,4 @@
+pub mod FirstRows
+pub mod TurnRows
+pub mod TurnsLoop
+pub mod AddRows
