@@ -4,4 +4,5 @@ pub mod Walks
 pub mod Turns
 pub mod FirstFace
 pub mod ApplyLaws
+pub mod Origins
 pub mod ApplyRows

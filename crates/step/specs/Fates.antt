@@ -1,0 +1,75 @@
+-- What an added point's fate says: it has an angle, is at no end of the located edge, is strictly left of it, and the boundary that the step would leave has a sound ring. Assumes nothing.
+use mathlib.Core.Bool.{Bool, true, false, not, cond}
+use mathlib.Core.Path.{_≡_, refl, sym, _∙_, ap}
+use Prim.Native.Nat.{ℕ}
+use native.Mathlib.Omega.{arith}
+use lib.Dec.{T}
+use lib.Ieee.{Float}
+use Rattle.angle.specs.Angle.{angleAbout, atCenter, turns}
+use Rattle.decide.specs.declared.Fate.{Fate}
+use Rattle.decide.specs.declared.Fate.the-variants.{Added, Dropped, NotLeft, Unsound, AtCenter}
+use Rattle.decide.specs.Decide.{Decided, ifAdded, atEnd, fateAt, decidedAt, decided}
+use Rattle.math.specs.declared.Point.{Point}
+use Rattle.mesh.specs.declared.Counts.{Counts}
+use Rattle.mesh.specs.Mesh.{Links}
+use Rattle.ring.specs.Ring.{located}
+use Rattle.sums.specs.Bit.{from-false}
+use Rattle.ring.specs.Center.{turnsAbout}
+use Rattle.ring.specs.Chain.{seesEdge, soundAfter, leftChain, rightChain}
+
+pub record IsAdded (cx cy : Float) (C : Counts) (L : Links) (p : ℕ → Point) (v : Point) (n : ℕ) (D : Decided) : Type 0 where
+  pub off-center : T (not (atCenter (v .x) (v .y) cx cy))
+  pub next : n ≡ C .vertices
+  pub edge : D .edge ≡ located C L (turnsAbout cx cy p) (turns (angleAbout (v .x) (v .y) cx cy))
+  pub seen : T (seesEdge L p v (located C L (turnsAbout cx cy p) (turns (angleAbout (v .x) (v .y) cx cy))))
+  pub sound : T (soundAfter C L p (turnsAbout cx cy p) v (turns (angleAbout (v .x) (v .y) cx cy)) (located C L (turnsAbout cx cy p) (turns (angleAbout (v .x) (v .y) cx cy))))
+  pub left : D .left ≡ leftChain C L p (turnsAbout cx cy p) v (turns (angleAbout (v .x) (v .y) cx cy)) (located C L (turnsAbout cx cy p) (turns (angleAbout (v .x) (v .y) cx cy)))
+  pub right : D .right ≡ rightChain C L p (turnsAbout cx cy p) v (turns (angleAbout (v .x) (v .y) cx cy)) (located C L (turnsAbout cx cy p) (turns (angleAbout (v .x) (v .y) cx cy)))
+
+-- of a point off the centre, and of one with an angle
+center-cases : (c : Bool) (X : Decided) {n : ℕ} → (cond c (record { fate = AtCenter; edge = 0; left = 0; right = 0 }) X) .fate ≡ Added n → c ≡ false
+center-cases true X e = absurd (let z : _≡_ {A = ℕ} 0 1 = cc in omega arith)
+center-cases false X e = refl
+
+fate-cases : (a s t : Bool) {m n : ℕ} → cond a Dropped (cond (not s) NotLeft (cond (not t) Unsound (Added m))) ≡ Added n → T s × T t × (m ≡ n)
+fate-cases true s t e = absurd (let z : _≡_ {A = ℕ} 0 1 = cc in omega arith)
+fate-cases false false t e = absurd (let z : _≡_ {A = ℕ} 0 1 = cc in omega arith)
+fate-cases false true false e = absurd (let z : _≡_ {A = ℕ} 0 1 = cc in omega arith)
+fate-cases false true true e = (tt, tt, cc)
+
+added-is : (f : Fate) {m n : ℕ} → f ≡ Added m → ifAdded f n ≡ n
+unfolding ifAdded
+added-is f e = rw e refl
+
+module _ (cx cy : Float) (C : Counts) (L : Links) (p : ℕ → Point) (v : Point) where
+  abbrev q : ℕ
+  q = turns (angleAbout (v .x) (v .y) cx cy)
+
+  abbrev e : ℕ
+  e = located C L (turnsAbout cx cy p) q
+
+  -- a point off the centre
+  pub decided-off : atCenter (v .x) (v .y) cx cy ≡ false → decided cx cy C L p v ≡ decidedAt C L p (turnsAbout cx cy p) v q e
+  unfolding decided
+  decided-off z = rw z refl
+
+  pub added-off : {n : ℕ} → decided cx cy C L p v .fate ≡ Added n → atCenter (v .x) (v .y) cx cy ≡ false
+  unfolding decided
+  added-off z = center-cases (atCenter (v .x) (v .y) cx cy) (decidedAt C L p (turnsAbout cx cy p) v q e) z
+
+  pub is-added : {n : ℕ} → decided cx cy C L p v .fate ≡ Added n → IsAdded cx cy C L p v n (decided cx cy C L p v)
+  unfolding decidedAt fateAt
+  is-added z =
+      let c = added-off z in
+      let d = decided-off c in
+      let f = sym (ap (λ (D : Decided). D .fate) d) ∙ z in
+      let k = fate-cases (atEnd L p v e) (seesEdge L p v e) (soundAfter C L p (turnsAbout cx cy p) v q e) f in
+      record {
+        off-center = from-false c;
+        next = sym (k .2);
+        edge = ap (λ (D : Decided). D .edge) d ∙ added-is (fateAt C L p (turnsAbout cx cy p) v q e) f;
+        seen = k .0;
+        sound = k .1;
+        left = ap (λ (D : Decided). D .left) d ∙ added-is (fateAt C L p (turnsAbout cx cy p) v q e) f;
+        right = ap (λ (D : Decided). D .right) d ∙ added-is (fateAt C L p (turnsAbout cx cy p) v q e) f;
+      }

@@ -1,0 +1,4 @@
+-- `Step` has the definitions, the others the laws.
+pub mod Step
+pub mod Fates
+pub mod StepMesh

@@ -1,0 +1,141 @@
+-- What a step makes of a good mesh with a sound ring about a centre that no boundary vertex equals: the same again, with the point as its next vertex where that was added. Assumes nothing.
+use mathlib.Core.Bool.{Bool, true, false, not, _||_}
+use mathlib.Core.Logic.{_⊎_, inl, inr, ⊎-elim}
+use mathlib.Core.Path.{_≡_, refl, sym, _∙_, ap, subst, subst⁻¹}
+use Prim.Native.Nat.{ℕ, suc, _+_, _-_, _*_, _<_, _≤_}
+use native.Mathlib.Omega.{arith}
+use lib.Dec.{T, T-not, not-T}
+use lib.Ieee.{Float}
+use Rattle.angle.specs.Angle.{angleAbout, atCenter, validCenter, turns}
+use Rattle.apply.specs.Apply.{Applied, firstFace, addVertex, addTurns}
+use Rattle.apply.specs.ApplyLaws.{add-turns, add-good, add-bound, add-counts, add-untouched, add-sound, add-along, add-closings, add-faces}
+use Rattle.apply.specs.FirstFace.{first-run}
+use Rattle.apply.specs.Origins.{OldVertex, along-origin}
+use Rattle.apply.specs.Walks.{Before}
+use Rattle.corner.specs.Corner.{Extended}
+use Rattle.corner.specs.CornerLaws.{Closings}
+use Rattle.corner.specs.Untouched.{Untouched, untouched-none}
+use Rattle.decide.specs.declared.Fate.{Fate}
+use Rattle.decide.specs.declared.Fate.the-variants.{Added, Dropped, NotLeft, Unsound, AtCenter}
+use Rattle.decide.specs.Decide.{Decided, decided}
+use Rattle.math.specs.declared.Point.{Point}
+use Rattle.math.specs.Determinant.{InRange}
+use Rattle.mesh.specs.declared.Counts.{Counts}
+use Rattle.mesh.specs.Mesh.{Links, In}
+use Rattle.mesh.specs.Operations.{createNewFaceAdjacentToEdge, withVertex}
+use Rattle.mesh.specs.Area.{boundaryLength, hullEdge}
+use Rattle.mesh.specs.BoundaryLaws.{first<, first-outer, boundary-below, boundary-outer}
+use Rattle.mesh.specs.FlipRun.{FlipRun}
+use Rattle.mesh.specs.Good.{Good}
+use Rattle.mesh.specs.HeightBound.{FlipsBound, flips-none}
+use Rattle.mesh.specs.Wf.{Wf}
+use Rattle.ring.specs.Ring.{isSoundRing, located}
+use Rattle.ring.specs.Boundary.{located<, located-outer, outer-on}
+use Rattle.ring.specs.Center.{turnsAbout, refusesCenter}
+use Rattle.ring.specs.Chain.{leftChain, rightChain}
+use Rattle.sums.specs.Bit.{sure, or-cases, or-left, or-right}
+use Rattle.sums.specs.Bounded.{any-below, any-below→, any-below←}
+use Rattle.sums.specs.Put.{put, put-same, put-other}
+use Rattle.step.specs.Step.{Stepping, leftAlone, addedAt, appliedBy, applied, stepMesh}
+use Rattle.step.specs.Fates.{IsAdded, is-added}
+
+-- the mesh between two steps
+pub record Swept (cx cy : Float) (C : Counts) (L : Links) (p : ℕ → Point) : Type 0 where
+  pub good : Good C L p
+  -- refusal 6 does not apply
+  pub center : T (not (refusesCenter C L p cx cy))
+  pub sound : T (isSoundRing C L (turnsAbout cx cy p))
+
+-- ---- the centre: no boundary vertex is there
+module _ (cx cy : Float) {C : Counts} {L : Links} (p : ℕ → Point) (W : Wf C L) where
+  -- the origin of a half-edge is at the centre
+  abbrev meets : ℕ → Bool
+  meets d = atCenter (p (L .origin d) .x) (p (L .origin d) .y) cx cy
+
+  off : Bool
+  off = not (validCenter cx cy)
+
+  any : Bool
+  any = any-below (boundaryLength C L) (λ k. meets (hullEdge L k))
+
+  pub center-apart : T (not (refusesCenter C L p cx cy)) → {d : ℕ} → In C d → L .face d ≡ 0 → T (meets d) → ⊥
+  unfolding refusesCenter off any
+  center-apart ok {d} i o t =
+      let g = outer-on W (first< W) (first-outer W) i o in
+      T-not (off || any) ok (or-right off any (any-below← (boundaryLength C L) (λ k. meets (hullEdge L k)) (g .0) (g .1) (subst (λ (x : ℕ). T (meets x)) (sym (g .2)) t)))
+
+  pub center-valid : T (not (refusesCenter C L p cx cy)) → T (validCenter cx cy)
+  unfolding refusesCenter off any
+  center-valid ok = sure (validCenter cx cy) (λ t. T-not (off || any) ok (or-left off any t))
+
+  pub center-accepts : T (validCenter cx cy) → ((d : ℕ) → In C d → L .face d ≡ 0 → T (meets d) → ⊥) → T (not (refusesCenter C L p cx cy))
+  unfolding refusesCenter off any
+  center-accepts ok apart = not-T (off || any) (λ t. go (or-cases off any t))
+    where
+      go : T off ⊎ T any → ⊥
+      go (inl t) = T-not (validCenter cx cy) t ok
+      go (inr t) = let r = any-below→ (boundaryLength C L) (λ k. meets (hullEdge L k)) t in apart (hullEdge L (r .0)) (boundary-below W (r .0)) (boundary-outer W (r .0)) (r .2)
+
+-- ---- a point that is added
+module _ {cx cy : Float} {C : Counts} {L : Links} {p : ℕ → Point} (S : Swept cx cy C L p) {v : Point} (i : InRange v) where
+  abbrev α : ℕ → ℕ
+  α = turnsAbout cx cy p
+
+  abbrev q : ℕ
+  q = turns (angleAbout (v .x) (v .y) cx cy)
+
+  abbrev e : ℕ
+  e = located C L α q
+
+  -- the positions with the new vertex's
+  abbrev p′ : ℕ → Point
+  p′ = put p (C .vertices) v
+
+  abbrev α′ : ℕ → ℕ
+  α′ = turnsAbout cx cy p′
+
+  old : (u : ℕ) → u < C .vertices → p′ u ≡ p u
+  old u l = put-other p (C .vertices) v u (λ z. omega arith)
+
+  module _ {n : ℕ} (f : decided cx cy C L p v .fate ≡ Added n) where
+    A : IsAdded cx cy C L p v n (decided cx cy C L p v)
+    A = is-added cx cy C L p v f
+
+    pub step-before : Before C L p α p′ α′ v q e
+    unfolding turnsAbout
+    step-before = record {
+      good = S .good;
+      edge = located< (S .good .wf) α (S .sound) q;
+      outer = located-outer (S .good .wf) α (S .sound) q;
+      seen = A .seen;
+      places = old;
+      angles = λ u l. ap (λ (w : Point). turns (angleAbout (w .x) (w .y) cx cy)) (old u l);
+      new-place = put-same p (C .vertices) v;
+      new-angle = ap (λ (w : Point). turns (angleAbout (w .x) (w .y) cx cy)) (put-same p (C .vertices) v);
+      range = i;
+    }
+
+    module _ (room : ℕ) where
+      -- the step, by the turns that were decided
+      abbrev r : Applied
+      r = addTurns room p′ C L e (leftChain C L p α v q e) (rightChain C L p α v q e)
+
+      pub step-added : stepMesh room cx cy C L p v ≡ record { fate = Added n; positions = p′; mesh = r .mesh }
+      unfolding stepMesh applied appliedBy addedAt
+      step-added = rw (f, A .edge, add-turns step-before room) refl
+
+      -- the ring of the boundary that it leaves
+      pub added-swept : r .mesh .full ≡ false → Swept cx cy (r .mesh .counts) (r .mesh .links) p′
+      added-swept g = record {
+        good = add-good step-before room;
+        center = center-accepts cx cy p′ (add-good step-before room .wf) (center-valid cx cy p (S .good .wf) (S .center))
+            (λ d l o t. apart (along-origin step-before (add-along step-before room) l o) t);
+        sound = subst⁻¹ T (add-sound step-before room g) (A .sound);
+      }
+        where
+          apart : {u : ℕ} → (u ≡ C .vertices) ⊎ OldVertex C L u → T (atCenter (p′ u .x) (p′ u .y) cx cy) → ⊥
+          apart (inl z) t =
+              T-not (atCenter (v .x) (v .y) cx cy) (A .off-center) (subst (λ (w : Point). T (atCenter (w .x) (w .y) cx cy)) (ap p′ z ∙ put-same p (C .vertices) v) t)
+          apart (inr o) t =
+              center-apart cx cy p (S .good .wf) (S .center) (o .in-use) (o .outer)
+              (subst (λ (w : Point). T (atCenter (w .x) (w .y) cx cy)) (ap p′ (o .is) ∙ old (L .origin (o .edge)) (S .good .wf .ranges .origin< (o .in-use))) t)
