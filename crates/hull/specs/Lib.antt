@@ -1,4 +1,4 @@
--- `Boundary` and `Held` have what the contracts cite, the others the laws.
+-- `Boundary`, `Held` and `EntersRing` have what the contracts cite, the others the laws.
 pub mod Boundary
 pub mod Held
 pub mod Strict
@@ -6,3 +6,4 @@ pub mod Find
 pub mod Build
 pub mod Ready
 pub mod Insert
+pub mod EntersRing

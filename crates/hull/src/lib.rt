@@ -1,4 +1,4 @@
-// The ring of a mesh's boundary about a centre (bulk_load.rs, `Hull`): the tests before it is built, and building it. The boundary is the `size` half-edges from `start` on, by next.
+// The ring of a mesh's boundary about a centre (bulk_load.rs, `Hull`): the tests before it is built, building it, and a new vertex's way into it. The boundary is the `size` half-edges from `start` on, by next.
 // The rows of the ring itself are those of crate `ring_rows`.
 ghost use mathlib.Core.Path.{_≡_};
 ghost use mathlib.Core.Bool.{_&&_};
@@ -11,6 +11,7 @@ ghost use Rattle.ring.specs.Ring.{fullTurn, isStrict};
 ghost use Rattle.ring_rows.specs.Rows.{nodesOf};
 ghost use Rattle.hull.specs.Boundary.{BoundaryRows, AngledBoundary, Angled, AngleAt, originAtCenter, edgeAt, anglesOf, NodesOfEdges, ToBuild};
 ghost use Rattle.hull.specs.Held.{FromBoundary};
+ghost use Rattle.hull.specs.EntersRing.{ToEnterRing, EnteredRing};
 use angle::Point2;
 use mesh::Counts;
 use ring_rows::Hull;
@@ -159,4 +160,37 @@ pub fn from_triangulation(
         nodes: size,
         freed: 0,
     }
+}
+
+// `insert`: a step has added a vertex at the angle `middle`; its edges `leftedge` and `rightedge` stand for those between the angles `left`
+// and `right`. Then the number of buckets follows that of the nodes.
+pub fn insert(
+    nodes: &mut [[u64; 4]],
+    freed: &mut [u32],
+    buckets: &mut [u32],
+    hull: Hull,
+    left: f64,
+    middle: f64,
+    right: f64,
+    leftedge: u32,
+    rightedge: u32,
+) -> Hull
+    requires { ⌜ ToEnterRing (now nodes) (now freed) (now buckets) hull left middle right leftedge rightedge ⌝ }
+    ensures { λ r. ⌜ EnteredRing
+        (now (nodes .entry)) (now (freed .entry)) (now (buckets .entry))
+        (now (nodes .exit)) (now (freed .exit)) (now (buckets .exit))
+        hull left middle right leftedge rightedge r ⌝ }
+{
+    let entered = ring_insert::insert(
+        nodes,
+        freed,
+        buckets,
+        hull,
+        left,
+        middle,
+        right,
+        leftedge,
+        rightedge,
+    );
+    ring_insert::adjust_bucket_size_if_necessary(nodes, buckets, entered)
 }
