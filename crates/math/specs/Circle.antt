@@ -13,17 +13,17 @@ use Rattle.math.specs.Plane.{E·, A, B, C, D, env3}
 
 -- ---- the circle through a, b and c
 module _ {R : Type 0} (o : Ops R) where
-  open Ops o using (_+_, _-_, _*_)
+  open Ops o using (_⊞_, _⊟_, _⊠_)
 
   abbrev pub CentreX : Pt R → Pt R → Pt R → R
-  CentreX a b c = Lift o a * (b .y - c .y) + Lift o b * (c .y - a .y) + Lift o c * (a .y - b .y)
+  CentreX a b c = Lift o a ⊠ (b .y ⊟ c .y) ⊞ Lift o b ⊠ (c .y ⊟ a .y) ⊞ Lift o c ⊠ (a .y ⊟ b .y)
 
   abbrev pub CentreY : Pt R → Pt R → Pt R → R
-  CentreY a b c = Lift o a * (c .x - b .x) + Lift o b * (a .x - c .x) + Lift o c * (b .x - a .x)
+  CentreY a b c = Lift o a ⊠ (c .x ⊟ b .x) ⊞ Lift o b ⊠ (a .x ⊟ c .x) ⊞ Lift o c ⊠ (b .x ⊟ a .x)
 
   -- the squared distance of k times p from m
   abbrev pub Distance2 : R → R → R → Pt R → R
-  Distance2 k mx my p = (k * p .x - mx) * (k * p .x - mx) + (k * p .y - my) * (k * p .y - my)
+  Distance2 k mx my p = (k ⊠ p .x ⊟ mx) ⊠ (k ⊠ p .x ⊟ mx) ⊞ (k ⊠ p .y ⊟ my) ⊠ (k ⊠ p .y ⊟ my)
 
 abbrev pub scale : Point → Point → Point → ℤ
 scale a b c = pos 2 *ℤ orient2d a b c

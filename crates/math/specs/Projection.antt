@@ -28,7 +28,7 @@ use Rattle.math.specs.Whole.{Whole, signed, whole-int, whole-add, whole-
 
 -- ---- the Rust's test
 abbrev pub f64· : Ops Float
-f64· = record { _+_ = add binary64; _-_ = sub binary64; _*_ = mul binary64; one = ofInt binary64 (pos 1) }
+f64· = record { _⊞_ = add binary64; _⊟_ = sub binary64; _⊠_ = mul binary64; one = ofInt binary64 (pos 1) }
 
 -- `Point2::to_f64`
 abbrev pub to-f64 : Point → Pt Float
