@@ -145,8 +145,8 @@ pub fn clear_ring(nodes: &mut [[u64; 4]], freed: &mut [u32], buckets: &mut [u32]
     ensures { λ r. ⌜ RingCleared (now (nodes .entry)) (now (nodes .exit)) (now (freed .entry)) (now (freed .exit)) (now (buckets .entry)) (now (buckets .exit)) ⌝ }
 {
     ring_rows::clear_nodes(nodes);
-    ring_rows::clear(freed);
-    ring_rows::clear(buckets);
+    dcel::clear(freed);
+    dcel::clear(buckets);
 }
 
 // The public call: the boundary edge whose segment holds an angle about a centre, and how many nodes of the ring were passed to find it.
