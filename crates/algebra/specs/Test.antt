@@ -1,5 +1,5 @@
 -- What a branch on signed numbers tells. The logic has the test of two locals as an equation of a flag, `ltZ u v ≡ true`, over what the machine reads of them, u and v; each lemma takes that these are a and b (`toZ-ofZ (c .fits .x)`, `reads64 env e tt`), and gives the fact about a and b.
--- `x > 0` is `0 < x`, and `x >= y` is `y <= x`.
+-- `x > 0` is `0 < x`, and `x >= y` is `y <= x`. And two tests that pass alike are equal.
 -- Assumes nothing.
 use mathlib.Core.Path.{_≡_, refl, sym, subst, subst₂}
 use mathlib.Core.Bool.{Bool, true, false, not}
@@ -20,3 +20,10 @@ module _ {u v a b : ℤ} (p : u ≡ a) (q : v ≡ b) where
 
   pub le-left : leZ u v ≡ false → b <ℤ a
   le-left t = subst₂ (λ (x y : ℤ). y <ℤ x) p q (leZ-no (subst (λ (f : Bool). T (not f)) (sym t) tt))
+
+-- two tests that pass alike
+pub test-ext : (a b : Bool) → (T a → T b) → (T b → T a) → a ≡ b
+test-ext true true f g = refl
+test-ext true false f g = absurd (f tt)
+test-ext false true f g = absurd (g tt)
+test-ext false false f g = refl

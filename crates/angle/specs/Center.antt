@@ -16,7 +16,8 @@ use lib.Ieee.Exact.{HasValue}
 use lib.Ieee.Back.{round-whole}
 use Rattle.angle.specs.Angle.{bounded, validCenter, isNumber, atCenter, Apart, IsAngle, angleAbout}
 use Rattle.angle.specs.Laws.{pseudo-is-angle}
-use Rattle.angle.specs.Values.{same-test, le-at, eq-at}
+use Rattle.algebra.specs.Test.{test-ext}
+use Rattle.angle.specs.Values.{le-at, eq-at}
 
 -- 2 ^ 24, and -2 ^ 24
 abbrev pub most : Float
@@ -47,7 +48,7 @@ and-yes false b c p q = p
 -- X ≤ A, as two negative values are compared
 flipped : (X A B : ℕ) → A ≡ B → (ltb (X * 1) A || (eqb A (X * 1) && true)) ≡ leb X B
 flipped X A B e =
-    same-test (ltb (X * 1) A || (eqb A (X * 1) && true)) (leb X B)
+    test-ext (ltb (X * 1) A || (eqb A (X * 1) && true)) (leb X B)
     (λ t. le→leb X B (elim (or-split (ltb (X * 1) A) (eqb A (X * 1) && true) t) [
       | inl u ↦ le-trans (le-of-eq (sym (mul-one X))) (le-trans (le-of-lt (ltb→lt (X * 1) A u)) (le-of-eq e))
       | inr u ↦ le-trans (le-of-eq (sym (mul-one X) ∙ sym (eqb→eq A (X * 1) (and-l (eqb A (X * 1)) true u)))) (le-of-eq e)
@@ -114,7 +115,7 @@ eq-none (inf t) s n v = absurd v
 eq-none (fin t m e) s n v = (refl, λ u. refl)
 
 zero-times : (n d : ℕ) → 0 < d → eqb (n * d) 0 ≡ eqb n 0
-zero-times n d h = same-test (eqb (n * d) 0) (eqb n 0) (λ t. eq→eqb (left n (eqb→eq (n * d) 0 t))) (λ t. eq→eqb (ap (λ (x : ℕ). x * d) (eqb→eq n 0 t) ∙ zero-mul d))
+zero-times n d h = test-ext (eqb (n * d) 0) (eqb n 0) (λ t. eq→eqb (left n (eqb→eq (n * d) 0 t))) (λ t. eq→eqb (ap (λ (x : ℕ). x * d) (eqb→eq n 0 t) ∙ zero-mul d))
   where
     none : (a : ℕ) → a ≡ 0 → 0 < a → ⊥
     none a e l = omega arith

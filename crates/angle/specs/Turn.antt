@@ -18,7 +18,8 @@ use lib.Ieee.Scale.{grid}
 use Rattle.angle.specs.Powers.{pow-le-back}
 use Rattle.angle.specs.Angle.{absoluteOf, quarter, one64, three64, bounded}
 use Rattle.angle.specs.Grid.{grid-le, grid-exact, grid-pow, grid-again, grid-multiple}
-use Rattle.angle.specs.Values.{Val, add-at, sub-at, sum-like, sum-less, difference, eq-at, div-at, quarter-at, absolute-at, round-at, under}
+use Rattle.algebra.specs.Fractions.{sum-like}
+use Rattle.angle.specs.Values.{Val, add-at, sub-at, sum-less, difference, eq-at, div-at, quarter-at, absolute-at, round-at, under}
 
 -- ---- the sign and the size, in units, of a value that the format holds
 place : (l m : ℕ) (e : ℤ) → down e ≤ 2 ^ l → (g : ℕ) × (m * up e * 2 ^ l ≡ g * down e)

@@ -13,7 +13,8 @@ use lib.Ieee.Bits.{is-true}
 use lib.Ieee.Fits.{up-pos, down-pos, eq→eqb}
 use lib.Ieee.Exact.{HasValue}
 use Rattle.angle.specs.Angle.{zero64, one64, IsAngle, turns, validAngle}
-use Rattle.angle.specs.Values.{same-test, lt-at, le-at, eq-at}
+use Rattle.algebra.specs.Test.{test-ext}
+use Rattle.angle.specs.Values.{lt-at, le-at, eq-at}
 use Rattle.angle.specs.Center.{or-l, yes-and, and-yes}
 
 -- ---- -0.0 compares as 0.0
@@ -30,7 +31,7 @@ zero-product (suc m) e h = absurd (none (suc m * up e) h (mul-pos (some-suc m) (
 negative-zero : (m : ℕ) (e : ℤ) → eq zero64 (fin true m e) ≡ eqb m 0
 negative-zero m e =
     eq-at zero64 (fin true m e) false true 0 (m * up e) (down e) (down-pos e) (refl, zero-mul (down e)) (refl, refl)
-    ∙ same-test (eqb 0 (m * up e) && true) (eqb m 0) (λ t. eq→eqb (zero-product m e (sym (eqb→eq 0 (m * up e) (first (eqb 0 (m * up e)) t)))))
+    ∙ test-ext (eqb 0 (m * up e) && true) (eqb m 0) (λ t. eq→eqb (zero-product m e (sym (eqb→eq 0 (m * up e) (first (eqb 0 (m * up e)) t)))))
     (λ t. second (eqb 0 (m * up e)) (eq→eqb (sym (ap (λ (x : ℕ). x * up e) (eqb→eq m 0 t) ∙ zero-mul (up e)))))
   where
     first : (b : Bool) → T (b && true) → T b
@@ -66,10 +67,10 @@ angle-value (inf s) k d v = v
 angle-value (fin s m e) k d v = (v .0, sym (mul-assoc (m * up e) (2 ^ 53) d) ∙ ap (λ (x : ℕ). x * d) (v .1) ∙ mul-right-comm k (down e) d)
 
 lt-floor : (a c k : ℕ) → 0 < c → ltb a (k * c) ≡ ltb (a / c) k
-lt-floor a c k C = same-test (ltb a (k * c)) (ltb (a / c) k) (λ t. lt→ltb (a / c) k (div-lt-iff-lt-mul C .1 (ltb→lt a (k * c) t))) (λ t. lt→ltb a (k * c) (div-lt-iff-lt-mul C .0 (ltb→lt (a / c) k t)))
+lt-floor a c k C = test-ext (ltb a (k * c)) (ltb (a / c) k) (λ t. lt→ltb (a / c) k (div-lt-iff-lt-mul C .1 (ltb→lt a (k * c) t))) (λ t. lt→ltb a (k * c) (div-lt-iff-lt-mul C .0 (ltb→lt (a / c) k t)))
 
 le-floor : (a c k : ℕ) → 0 < c → leb (k * c) a ≡ leb k (a / c)
-le-floor a c k C = same-test (leb (k * c) a) (leb k (a / c)) (λ t. le→leb k (a / c) (le-div-iff-mul-le C .1 (leb→le (k * c) a t))) (λ t. le→leb (k * c) a (le-div-iff-mul-le C .0 (leb→le k (a / c) t)))
+le-floor a c k C = test-ext (leb (k * c) a) (leb k (a / c)) (λ t. le→leb k (a / c) (le-div-iff-mul-le C .1 (leb→le (k * c) a t))) (λ t. le→leb (k * c) a (le-div-iff-mul-le C .0 (leb→le k (a / c) t)))
 
 lt-positive : (m : ℕ) (e : ℤ) (y : Float) (k : ℕ) → HasValue y false k (2 ^ 53) → lt (fin false m e) y ≡ ltb (m * up e * 2 ^ 53 / down e) k
 lt-positive m e y k v =

@@ -2,7 +2,7 @@
 ghost use mathlib.Core.Path.{_≡_};
 ghost use Prim.Native.Nat.{ℕ, _+_, _*_, _<_, _≤_, _^_};
 ghost use mathlib.Core.List.{List};
-ghost use lib.ListN.{length};
+ghost use lib.ListN.{length, replicate};
 ghost use Rattle.sums.specs.Half.{rev};
 ghost use Rattle.sums.specs.Put.{put};
 ghost use Rattle.dcel.specs.Rows.{halvesOf, rowOf, positionOf, There, setNext, setPrev, setFace, setOrigin, setLink, setCycle, EntryOf, setHalfEdge};
@@ -164,6 +164,17 @@ pub fn store(row: &mut [u32], at: u32, v: u32)
     ensures { λ r. ⌜ rowOf (now (row .exit)) ≡ put (rowOf (now (row .entry))) at v ⌝ }
 {
     row[at as usize] = v;
+}
+
+// A row of zeros, over its whole length.
+pub fn clear(row: &mut [u32])
+    ensures { λ r. ⌜ now (row .exit) ≡ replicate (length (now (row .entry))) 0 ⌝ }
+{
+    let mut i = 0;
+    while i < row.len() {
+        row[i] = 0;
+        i += 1;
+    }
 }
 
 // The position of a vertex, a new one's above all: `append_unconnected_vertex` of the Rust.

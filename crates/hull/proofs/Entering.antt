@@ -15,7 +15,7 @@ use Rattle.ring_insert.specs.Insert.{ToInsert, InsertedRows, ToAdjust, Adjusted
 use Rattle.hull.specs.Held.{Held}
 use Rattle.hull.specs.Find.{held-rows}
 use Rattle.hull.specs.Insert.{to-insert, insert-len, insert-held, adjusted-held, buckets-fit}
-use Rattle.hull.specs.EntersRing.{EntersRing, ToEnterRing, EnteredRing}
+use Rattle.hull.specs.EntersRing.{EntersRing}
 
 module _ {C : Counts} {L : Links} {α : ℕ → ℕ} {C′ : Counts} {L′ : Links} {α′ : ℕ → ℕ} {e m n q r N : ℕ}
     {nodes : List (List ℕ)} {freed buckets : List ℕ} {h : Hull} {left middle right : Float} {leftedge rightedge : ℕ}

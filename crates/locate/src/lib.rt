@@ -2,7 +2,6 @@
 // Then the ring is built in the lent rows, asked once, and its rows are cleared.
 ghost use mathlib.Core.Path.{_≡_};
 ghost use mathlib.Core.List.{List, []};
-ghost use Prim.Native.Nat.{ℕ, _≤_, _<_, _^_};
 ghost use lib.ListN.{length};
 ghost use Rattle.mesh_check.specs.Check.{refused};
 ghost use Rattle.locate.specs.Locate.{andThen, ringRowsShort, checkStart, checkAngle, locateOf};
@@ -25,13 +24,12 @@ pub enum Located {
 
 // One of the ring's rows, given by their lengths, is too short for n vertices.
 pub fn ring_rows_short(n: usize, nodes: usize, freed: usize, buckets: usize) -> bool
-    requires { ⌜ n < 2 ^ 32 ⌝ }
     ensures { λ r. ⌜ r ≡ ringRowsShort n nodes freed buckets ⌝ }
 {
-    if nodes < n + 1 {
+    if nodes <= n {
         return true;
     }
-    if freed < n + 1 {
+    if freed <= n {
         return true;
     }
     if buckets < 16 {
@@ -147,8 +145,8 @@ pub fn clear_ring(nodes: &mut [[u64; 4]], freed: &mut [u32], buckets: &mut [u32]
     ensures { λ r. ⌜ RingCleared (now (nodes .entry)) (now (nodes .exit)) (now (freed .entry)) (now (freed .exit)) (now (buckets .entry)) (now (buckets .exit)) ⌝ }
 {
     ring_rows::clear_nodes(nodes);
-    ring_rows::clear(freed);
-    ring_rows::clear(buckets);
+    dcel::clear(freed);
+    dcel::clear(buckets);
 }
 
 // The public call: the boundary edge whose segment holds an angle about a centre, and how many nodes of the ring were passed to find it.

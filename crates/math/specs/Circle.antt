@@ -1,6 +1,6 @@
 -- What `incircle` says of the circle of a, b and c. Its centre is the point (centreX / k, centreY / k), where k is four times the signed area of a b c; all is said of k times the coordinates, so that every number is whole.
 -- Assumes nothing.
-use mathlib.Core.Path.{_≡_, refl}
+use mathlib.Core.Path.{_≡_, refl, sym, _∙_, ap, ap₂}
 use mathlib.Core.List.{List, [], _∷_}
 use mathlib.Core.Logic.{⊎-elim}
 use lib.IntN.{ℤ, pos, _-ℤ_, _*ℤ_, negsuc}
@@ -9,21 +9,21 @@ use Rattle.algebra.specs.Ring.{E, var, num, _⊖_, _⊗_, ⊝_, v0, v1, v2, v3,
 use Rattle.algebra.specs.Sign.{_*⁺_, _*°_, _+⁺_, weak, pos-in, lt-in, lt-by, cases, refute, eq-in, eq-by, zero°, _*⁰_, _+⁰_}
 use Rattle.math.specs.declared.Point.{Point}
 use Rattle.math.specs.Determinant.{Ops, Pt, Lift, Orient2d, Incircle, ℤ·, pt, orient2d, incircle}
-use Rattle.math.specs.Plane.{E·, A, B, C, D, env3}
+use Rattle.math.specs.Plane.{E·, A, B, C, D, env3, orient2d-next}
 
 -- ---- the circle through a, b and c
 module _ {R : Type 0} (o : Ops R) where
-  open Ops o using (_+_, _-_, _*_)
+  open Ops o using (_⊞_, _⊟_, _⊠_)
 
   abbrev pub CentreX : Pt R → Pt R → Pt R → R
-  CentreX a b c = Lift o a * (b .y - c .y) + Lift o b * (c .y - a .y) + Lift o c * (a .y - b .y)
+  CentreX a b c = Lift o a ⊠ (b .y ⊟ c .y) ⊞ Lift o b ⊠ (c .y ⊟ a .y) ⊞ Lift o c ⊠ (a .y ⊟ b .y)
 
   abbrev pub CentreY : Pt R → Pt R → Pt R → R
-  CentreY a b c = Lift o a * (c .x - b .x) + Lift o b * (a .x - c .x) + Lift o c * (b .x - a .x)
+  CentreY a b c = Lift o a ⊠ (c .x ⊟ b .x) ⊞ Lift o b ⊠ (a .x ⊟ c .x) ⊞ Lift o c ⊠ (b .x ⊟ a .x)
 
   -- the squared distance of k times p from m
   abbrev pub Distance2 : R → R → R → Pt R → R
-  Distance2 k mx my p = (k * p .x - mx) * (k * p .x - mx) + (k * p .y - my) * (k * p .y - my)
+  Distance2 k mx my p = (k ⊠ p .x ⊟ mx) ⊠ (k ⊠ p .x ⊟ mx) ⊞ (k ⊠ p .y ⊟ my) ⊠ (k ⊠ p .y ⊟ my)
 
 abbrev pub scale : Point → Point → Point → ℤ
 scale a b c = pos 2 *ℤ orient2d a b c
@@ -47,6 +47,19 @@ module _ (a b c : Point) where
   pub centre-c : fromCentre a b c c ≡ fromCentre a b c a
   unfolding fromCentre orient2d
   centre-c = ring (env3 a b c) (from C) (from A) refl
+
+  -- and it is the same centre from b on, with the same distances
+  pub centre-next : (p : Point) → fromCentre a b c p ≡ fromCentre b c a p
+  unfolding fromCentre
+  centre-next p =
+      let distance : ℤ → ℤ → ℤ → ℤ = λ s x y. Distance2 ℤ· (pos 2 *ℤ s) x y (pt p) in
+      ap (λ (s : ℤ). distance s (CentreX ℤ· (pt a) (pt b) (pt c)) (CentreY ℤ· (pt a) (pt b) (pt c))) (orient2d-next a b c)
+      ∙ ap₂ (distance (orient2d b c a))
+      (ring (env3 a b c) (CentreX E· A B C) (CentreX E· B C A) refl)
+      (ring (env3 a b c) (CentreY E· A B C) (CentreY E· B C A) refl)
+
+  pub radius-next : fromCentre a b c a ≡ fromCentre b c a b
+  radius-next = sym centre-b ∙ centre-next b
 
 -- ---- any circle through a, b and c: the power of d is the determinant over the area
 module _ (a b c d : Point) (k mx my r : ℤ) where

@@ -1,51 +1,52 @@
 -- The meanings of this crate's functions, for points with whole coordinates. Definitions only; their laws are in `Plane`, `Circle`, `Side`, `Range` and `Projection`.
 -- `orient2d` and `incircle` are the determinants of J. R. Shewchuk, "Adaptive Precision Floating-Point Arithmetic and Fast Robust Geometric Predicates", 1997.
 -- 01: "`robust::orient2d` and `robust::incircle` mean the exact sign of Shewchuk's determinants", "Left is strictly positive."
--- A formula is written once, over any numbers R with a sum, a difference, a product and a one: at ℤ it is what a contract says, and at the expressions `E` what the ring solver computes with.
+-- A formula is written once, over any numbers R with a sum ⊞, a difference ⊟, a product ⊠ and a one: at ℤ it is what a contract says, and at the expressions `E` what the ring solver computes with.
 use mathlib.Core.Bool.{Bool, true, false, _&&_}
 use Prim.Native.Nat.{zero, suc, _≤_}
 use lib.Dec.{leb}
 use lib.IntN.{ℤ, pos, negsuc, natAbs, _+ℤ_, _-ℤ_, _*ℤ_}
 use lib.Signed.{ltZ, leZ}
 use Rattle.math.specs.declared.Point.{Point}
+use Rattle.math.specs.declared.PointProjection.{PointProjection}
 use Rattle.math.specs.declared.LineSideInfo.{LineSideInfo}
 use Rattle.math.specs.declared.LineSideInfo.the-variants.{OnLeftSide, OnRightSide, OnLine}
 
 pub record Ops (R : Type 0) : Type 0 where
-  pub _+_ : R → R → R
-  pub _-_ : R → R → R
-  pub _*_ : R → R → R
+  pub _⊞_ : R → R → R
+  pub _⊟_ : R → R → R
+  pub _⊠_ : R → R → R
   pub one : R
-  infixl 6 _+_ _-_
-  infixl 7 _*_
+  infixl 6 _⊞_ _⊟_
+  infixl 7 _⊠_
 
 pub record Pt (R : Type 0) : Type 0 where
   pub x : R
   pub y : R
 
 module _ {R : Type 0} (o : Ops R) where
-  open Ops o using (_+_, _-_, _*_, one)
+  open Ops o using (_⊞_, _⊟_, _⊠_, one)
 
   -- ---- determinants by rows, expanded along the first row
   abbrev pub det2 : R × R → R × R → R
-  det2 a b = a .0 * b .1 - a .1 * b .0
+  det2 a b = a .0 ⊠ b .1 ⊟ a .1 ⊠ b .0
 
   abbrev pub det3 : R × R × R → R × R × R → R × R × R → R
   det3 a b c =
-      a .0 * det2 (b .1, b .2) (c .1, c .2)
-      - a .1 * det2 (b .0, b .2) (c .0, c .2)
-      + a .2 * det2 (b .0, b .1) (c .0, c .1)
+      a .0 ⊠ det2 (b .1, b .2) (c .1, c .2)
+      ⊟ a .1 ⊠ det2 (b .0, b .2) (c .0, c .2)
+      ⊞ a .2 ⊠ det2 (b .0, b .1) (c .0, c .1)
 
   abbrev pub det4 : R × R × R × R → R × R × R × R → R × R × R × R → R × R × R × R → R
   det4 a b c d =
-      a .0 * det3 (b .1, b .2, b .3) (c .1, c .2, c .3) (d .1, d .2, d .3)
-      - a .1 * det3 (b .0, b .2, b .3) (c .0, c .2, c .3) (d .0, d .2, d .3)
-      + a .2 * det3 (b .0, b .1, b .3) (c .0, c .1, c .3) (d .0, d .1, d .3)
-      - a .3 * det3 (b .0, b .1, b .2) (c .0, c .1, c .2) (d .0, d .1, d .2)
+      a .0 ⊠ det3 (b .1, b .2, b .3) (c .1, c .2, c .3) (d .1, d .2, d .3)
+      ⊟ a .1 ⊠ det3 (b .0, b .2, b .3) (c .0, c .2, c .3) (d .0, d .2, d .3)
+      ⊞ a .2 ⊠ det3 (b .0, b .1, b .3) (c .0, c .1, c .3) (d .0, d .1, d .3)
+      ⊟ a .3 ⊠ det3 (b .0, b .1, b .2) (c .0, c .1, c .2) (d .0, d .1, d .2)
 
   -- the height of a point's image on the paraboloid z = x² + y²
   abbrev pub Lift : Pt R → R
-  Lift p = p .x * p .x + p .y * p .y
+  Lift p = p .x ⊠ p .x ⊞ p .y ⊠ p .y
 
   -- ---- Shewchuk's determinants
   abbrev pub Orient2d : Pt R → Pt R → Pt R → R
@@ -65,14 +66,14 @@ module _ {R : Type 0} (o : Ops R) where
 
   -- six times the volume between the triangle a b c and the triangle of its corners' images on the paraboloid
   abbrev pub Height : Pt R → Pt R → Pt R → R
-  Height a b c = Orient2d a b c * (Lift a + Lift b + Lift c)
+  Height a b c = Orient2d a b c ⊠ (Lift a ⊞ Lift b ⊞ Lift c)
 
   -- ---- vectors
   abbrev pub Minus : Pt R → Pt R → Pt R
-  Minus p q = record { x = p .x - q .x; y = p .y - q .y }
+  Minus p q = record { x = p .x ⊟ q .x; y = p .y ⊟ q .y }
 
   abbrev pub Dot : Pt R → Pt R → R
-  Dot p q = p .x * q .x + p .y * q .y
+  Dot p q = p .x ⊠ q .x ⊞ p .y ⊠ q .y
 
   -- `project_point(p1, p2, query_point)` of math.rs: `query_point.sub(p1).dot(dir)` and `dir.length2()`, where `dir` is `p2.sub(p1)`
   abbrev pub Factor : Pt R → Pt R → Pt R → R
@@ -82,7 +83,7 @@ module _ {R : Type 0} (o : Ops R) where
   Length2 p1 p2 = Dot (Minus p2 p1) (Minus p2 p1)
 
 abbrev pub ℤ· : Ops ℤ
-ℤ· = record { _+_ = _+ℤ_; _-_ = _-ℤ_; _*_ = _*ℤ_; one = pos 1 }
+ℤ· = record { _⊞_ = _+ℤ_; _⊟_ = _-ℤ_; _⊠_ = _*ℤ_; one = pos 1 }
 
 abbrev pub pt : Point → Pt ℤ
 pt p = record { x = p .x; y = p .y }
@@ -139,6 +140,16 @@ isOrderedCcw p1 p2 q = leZ (pos 0) (orient2d p1 p2 q)
 -- 01: "strictly inside the circle"
 abbrev pub containedInCircumference : Point → Point → Point → Point → Bool
 containedInCircumference v1 v2 v3 p = ltZ (pos 0) (incircle v1 v2 v3 p)
+
+-- math.rs: `project_point`, and `is_before_edge` and `is_behind_edge` of the `PointProjection` that it answers
+abbrev pub projectionOf : Point → Point → Point → PointProjection
+projectionOf p1 p2 q = record { factor = factor p1 p2 q; «length_2» = length2 p1 p2 }
+
+abbrev pub isBefore : PointProjection → Bool
+isBefore p = ltZ (p .factor) (pos 0)
+
+abbrev pub isBehind : PointProjection → Bool
+isBehind p = ltZ (p .«length_2») (p .factor)
 
 -- 01: "With these coordinates `is_behind_edge` equals the whole-number comparison factor > length_2."
 abbrev pub isBehindEdge : Point → Point → Point → Bool

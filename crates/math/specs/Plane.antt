@@ -16,7 +16,7 @@ use Rattle.math.specs.Determinant.{Ops, Pt, det2, det3, Lift, Orient2d, 
 
 -- ---- four points as the solver has them: `ring (env a b c d) e₁ e₂ refl` proves an identity of a, b, c and d, which are A, B, C and D in e₁ and e₂
 abbrev pub E· : Ops E
-E· = record { _+_ = _⊕_; _-_ = _⊖_; _*_ = _⊗_; one = num (pos 1) }
+E· = record { _⊞_ = _⊕_; _⊟_ = _⊖_; _⊠_ = _⊗_; one = num (pos 1) }
 
 abbrev pub A : Pt E
 A = record { x = var 0; y = var 1 }

@@ -22,13 +22,15 @@ use lib.Ieee.Positive.{num, den, positive, den-pos, own-value, positive-of-value
 use Rattle.algebra.specs.Ring.{_⊕_, _⊖_, _⊗_, v0, v1, v2, v3}
 use Rattle.algebra.specs.Order.{add-0≤, sq-0≤}
 use Rattle.algebra.specs.Bound.{Env, []ᵉ, _∷ᵉ_, within}
+use Rattle.algebra.specs.Test.{test-ext}
+use Rattle.algebra.specs.Fractions.{add-fractions, sum-like, ltb-scale, left-scale, right-scale}
 use Rattle.math.specs.declared.Point.{Point}
 use Rattle.math.specs.Determinant.{Ops, Pt, Factor, Length2, InRange, factor, length2, isBehindEdge}
-use Rattle.math.specs.Whole.{Whole, signed, whole-int, whole-add, whole-sub, whole-mul, add-at, sum-like, ltb-scale, left-scale, right-scale, same-test}
+use Rattle.math.specs.Whole.{Whole, signed, whole-int, whole-add, whole-sub, whole-mul}
 
 -- ---- the Rust's test
 abbrev pub f64· : Ops Float
-f64· = record { _+_ = add binary64; _-_ = sub binary64; _*_ = mul binary64; one = ofInt binary64 (pos 1) }
+f64· = record { _⊞_ = add binary64; _⊟_ = sub binary64; _⊠_ = mul binary64; one = ofInt binary64 (pos 1) }
 
 -- `Point2::to_f64`
 abbrev pub to-f64 : Point → Pt Float
@@ -147,7 +149,7 @@ module _ (f : Format) where
       go true zero n d D u k = sym (le-ltb l 0 zero-le)
       go true (suc b) n d D u k = refl
       go false b n d D u k =
-          same-test (ltb n (b * d)) (ltb l b)
+          test-ext (ltb n (b * d)) (ltb l b)
           (λ t. lt→ltb l b (lt-of-mul-lt-mul-right d (lt-of-le-of-lt k (ltb→lt n (b * d) t))))
           (λ t. lt→ltb n (b * d) (strict b n d D u (ltb→lt l b t)))
         where
@@ -178,10 +180,10 @@ module _ (f : Format) where
     where
       go : (s : Bool) (n : ℕ) → HasValue x s n 1 → signed s n ≡ pos l → add f x e ≡ round f false (l * P + 1) P
       go false n v i =
-          add-at f x e false false (n * P) 1 P (pow-pos (prec f - 1)) (scaled x false n v) ev
+          add-fractions f x e false false (n * P) 1 P (pow-pos (prec f - 1)) (scaled x false n v) ev
           ∙ sum-like f false (n * P) 1 P ∙ ap (λ (k : ℕ). round f false (k * P + 1) P) (ap natAbs i)
       go true zero v i =
-          add-at f x e true false (0 * P) 1 P (pow-pos (prec f - 1)) (scaled x true 0 v) ev
+          add-fractions f x e true false (0 * P) 1 P (pow-pos (prec f - 1)) (scaled x true 0 v) ev
           ∙ ap (λ (k : ℕ). sum f true k false 1 P) (zero-mul P)
           ∙ zero-sum P ∙ ap (λ (k : ℕ). round f false (k + 1) P) (sym (zero-mul P)) ∙ ap (λ (k : ℕ). round f false (k * P + 1) P) (ap natAbs i)
       go true (suc n) v i = absurd (false≢true (ap nonNeg i))

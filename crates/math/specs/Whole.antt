@@ -1,12 +1,12 @@
 -- Whole numbers in floats: up to 2 ^ prec a difference, a sum and a product of whole numbers are exact. `Whole x z` says that x is the whole number z, a zero of either sign included.
 -- Assumes nothing.
 use mathlib.Core.Path.{_≡_, refl, sym, ap, ap₂, _∙_, subst}
-use mathlib.Core.Bool.{Bool, true, false, not, _&&_, Bool·beq, cond}
+use mathlib.Core.Bool.{Bool, true, false, not, cond}
 use mathlib.Core.List.{[], _∷_}
 use Prim.Native.Nat.{ℕ, suc, _+_, _-_, _*_, _^_, _≤_, _<_}
-use native.Mathlib.Nat.{mul-one, mul-comm, mul-assoc, mul-right-comm, mul-pos, add-mul, mul-sub, lt-of-mul-lt-mul-right, mul-lt-mul-of-pos-right}
+use native.Mathlib.Nat.{mul-one, mul-comm, mul-assoc, mul-pos}
 use native.Mathlib.Omega.{arith}
-use lib.Dec.{T, ltb, ltb→lt, lt→ltb, nltb→le, lit<}
+use lib.Dec.{T, ltb, ltb→lt, nltb→le, lit<}
 use lib.IntN.{ℤ, pos, negsuc, negℤ, natAbs, _+ℤ_, _-ℤ_, _*ℤ_}
 use lib.Ieee.{Float, nan, inf, fin, Format, prec, unlike, up, down, round, neg, sum, add, sub, mul, ofInt}
 use lib.Ieee.Fits.{down-pos}
@@ -15,6 +15,7 @@ use lib.Ieee.Back.{round-whole}
 use lib.Ieee.Scale.{round-same}
 use Rattle.algebra.specs.Ring.{_⊕_, _⊖_, _⊗_, ⊝_, v0, v1, ring}
 use Rattle.algebra.specs.Bound.{natAbs-neg}
+use Rattle.algebra.specs.Fractions.{add-fractions, neg-fraction, sub-is, sum-like}
 
 abbrev pub signed : Bool → ℕ → ℤ
 signed false n = pos n
@@ -41,65 +42,6 @@ pub whole-int : (f : Format) (z : ℤ) → natAbs z ≤ 2 ^ prec f → Whole (of
 unfolding ofInt
 whole-int f (pos n) h = whole-round f false n (pos n) refl h
 whole-int f (negsuc n) h = whole-round f true (suc n) (negsuc n) refl h
-
--- ---- A / C and a / U are one number, and so are B / C and b / U
-pub same-test : (a b : Bool) → (T a → T b) → (T b → T a) → a ≡ b
-same-test true true p q = refl
-same-test true false p q = absurd (p tt)
-same-test false true p q = absurd (q tt)
-same-test false false p q = refl
-
-lt-scale : (A B C a b U : ℕ) → 0 < U → A * U ≡ a * C → B * U ≡ b * C → A < B → a < b
-lt-scale A B C a b U hU p q h = lt-of-mul-lt-mul-right C (subst (λ (x : ℕ). x < b * C) p (subst (λ (x : ℕ). A * U < x) q (mul-lt-mul-of-pos-right h hU)))
-
-pub ltb-scale : (A B C a b U : ℕ) → 0 < C → 0 < U → A * U ≡ a * C → B * U ≡ b * C → ltb A B ≡ ltb a b
-ltb-scale A B C a b U hC hU p q =
-    same-test (ltb A B) (ltb a b) (λ t. lt→ltb a b (lt-scale A B C a b U hU p q (ltb→lt A B t))) (λ t. lt→ltb A B (lt-scale a b U A B C hC (sym p) (sym q) (ltb→lt a b t)))
-
-add-scale : (A B C a b U : ℕ) → A * U ≡ a * C → B * U ≡ b * C → (A + B) * U ≡ (a + b) * C
-add-scale A B C a b U p q = add-mul A B U ∙ ap₂ _+_ p q ∙ sym (add-mul a b C)
-
-sub-mul : (a b c : ℕ) → (a - b) * c ≡ a * c - b * c
-sub-mul a b c = mul-comm (a - b) c ∙ mul-sub c a b ∙ ap₂ _-_ (mul-comm c a) (mul-comm c b)
-
-sub-scale : (A B C a b U : ℕ) → A * U ≡ a * C → B * U ≡ b * C → (A - B) * U ≡ (a - b) * C
-sub-scale A B C a b U p q = sub-mul A B U ∙ ap₂ _-_ p q ∙ sym (sub-mul a b C)
-
-sum-scale : (f : Format) (s : Bool) (A : ℕ) (t : Bool) (B C a b U : ℕ) → 0 < C → 0 < U → A * U ≡ a * C → B * U ≡ b * C → sum f s A t B C ≡ sum f s a t b U
-unfolding sum
-sum-scale f s A t B C a b U hC hU p q =
-    ap (λ (x : Float). cond (Bool·beq s t) x (cond (ltb A B) (round f t (B - A) C) (round f (s && ltb B A) (A - B) C))) (round-same f s (A + B) C (a + b) U hC hU (add-scale A B C a b U p q))
-    ∙ ap (λ (x : Bool). cond (Bool·beq s t) (round f s (a + b) U) (cond x (round f t (B - A) C) (round f (s && ltb B A) (A - B) C))) (ltb-scale A B C a b U hC hU p q)
-    ∙ ap (λ (x : Float). cond (Bool·beq s t) (round f s (a + b) U) (cond (ltb a b) x (round f (s && ltb B A) (A - B) C))) (round-same f t (B - A) C (b - a) U hC hU (sub-scale B A C b a U q p))
-    ∙ ap (λ (x : Bool). cond (Bool·beq s t) (round f s (a + b) U) (cond (ltb a b) (round f t (b - a) U) (round f (s && x) (A - B) C))) (ltb-scale B A C b a U hC hU q p)
-    ∙ ap (λ (x : Float). cond (Bool·beq s t) (round f s (a + b) U) (cond (ltb a b) (round f t (b - a) U) x)) (round-same f (s && ltb b a) (A - B) C (a - b) U hC hU (sub-scale A B C a b U p q))
-
--- two values over their common denominator
-pub left-scale : (X de dd a c : ℕ) → X * c ≡ a * de → X * dd * c ≡ a * (de * dd)
-left-scale X de dd a c h = mul-right-comm X dd c ∙ ap (λ (z : ℕ). z * dd) h ∙ mul-assoc a de dd
-
-pub right-scale : (Y de dd b c : ℕ) → Y * c ≡ b * dd → Y * de * c ≡ b * (de * dd)
-right-scale Y de dd b c h = left-scale Y dd de b c h ∙ ap (λ (z : ℕ). b * z) (mul-comm dd de)
-
--- ---- the sum of two values with one denominator
-pub add-at : (f : Format) (x y : Float) (s t : Bool) (a b U : ℕ) → 0 < U → HasValue x s a U → HasValue y t b U → add f x y ≡ sum f s a t b U
-unfolding add
-add-at f nan y s t a b U h v w = absurd v
-add-at f (inf r) y s t a b U h v w = absurd v
-add-at f (fin r m e) nan s t a b U h v w = absurd w
-add-at f (fin r m e) (inf z) s t a b U h v w = absurd w
-add-at f (fin r m e) (fin z n d) s t a b U h v w =
-    let A = m * up e * down d in
-    let B = n * up d * down e in
-    let C = down e * down d in
-    ap (λ (k : Bool). sum f k A z B C) (v .0)
-    ∙ ap (λ (k : Bool). sum f s A k B C) (w .0)
-    ∙ sum-scale f s A t B C a b U (mul-pos (down-pos e) (down-pos d)) h (left-scale (m * up e) (down e) (down d) a U (v .1)) (right-scale (n * up d) (down e) (down d) b U (w .1))
-
-pub sum-like : (f : Format) (s : Bool) (a b c : ℕ) → sum f s a s b c ≡ round f s (a + b) c
-unfolding sum
-sum-like f true a b c = refl
-sum-like f false a b c = refl
 
 -- ---- the difference of two naturals as an integer
 minus-is : (a b : ℕ) → b ≤ a → pos (a - b) ≡ pos a -ℤ pos b
@@ -140,7 +82,7 @@ module _ (f : Format) {x y : Float} {a b : ℤ} (v : Whole x a) (w : Whole y b) 
   pub whole-add : natAbs (a +ℤ b) ≤ 2 ^ prec f → Whole (add f x y) (a +ℤ b)
   whole-add h =
       let e = ap₂ _+ℤ_ (v .is) (w .is) in
-      subst (λ (z : Float). Whole z (a +ℤ b)) (sym (add-at f x y (v .sign) (w .sign) (v .size) (w .size) 1 (lit< tt) (v .value) (w .value)))
+      subst (λ (z : Float). Whole z (a +ℤ b)) (sym (add-fractions f x y (v .sign) (w .sign) (v .size) (w .size) 1 (lit< tt) (v .value) (w .value)))
       (subst (Whole (sum f (v .sign) (v .size) (w .sign) (w .size) 1)) e
       (any-sum f (v .sign) (w .sign) (v .size) (w .size) (subst (λ (z : ℤ). natAbs z ≤ 2 ^ prec f) (sym e) h)))
 
@@ -148,18 +90,8 @@ signed-not : (s : Bool) (n : ℕ) → signed (not s) n ≡ negℤ (signed s n)
 signed-not false n = refl
 signed-not true n = ring (pos n ∷ []) v0 (⊝ (⊝ v0)) refl
 
-neg-value : (x : Float) (s : Bool) (a c : ℕ) → HasValue x s a c → HasValue (neg x) (not s) a c
-unfolding neg
-neg-value nan s a c v = absurd v
-neg-value (inf r) s a c v = absurd v
-neg-value (fin r m e) s a c v = (ap not (v .0), v .1)
-
 whole-neg : {x : Float} {a : ℤ} → Whole x a → Whole (neg x) (negℤ a)
-whole-neg {x} {a} v = record { sign = not (v .sign); size = v .size; value = neg-value x (v .sign) (v .size) 1 (v .value); is = signed-not (v .sign) (v .size) ∙ ap negℤ (v .is) }
-
-sub-is : (f : Format) (x y : Float) → sub f x y ≡ add f x (neg y)
-unfolding sub
-sub-is f x y = refl
+whole-neg {x} {a} v = record { sign = not (v .sign); size = v .size; value = neg-fraction x (v .sign) (v .size) 1 (v .value); is = signed-not (v .sign) (v .size) ∙ ap negℤ (v .is) }
 
 pub whole-sub : (f : Format) {x y : Float} {a b : ℤ} → Whole x a → Whole y b → natAbs (a -ℤ b) ≤ 2 ^ prec f → Whole (sub f x y) (a -ℤ b)
 whole-sub f {x} {y} {a} {b} v w h = subst (λ (z : Float). Whole z (a -ℤ b)) (sym (sub-is f x y)) (whole-add f v (whole-neg w) h)

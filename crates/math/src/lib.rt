@@ -1,8 +1,8 @@
 // Exact tests on points whose coordinates are within ±16,777,216, in 64-bit whole numbers: math.rs, line_side_info.rs and point.rs of spade 2.15.1.
 // What each function answers is an equation with a definition of `specs/Determinant.antt`.
 ghost use mathlib.Core.Path.{_≡_};
-ghost use mathlib.Core.Bool.{not};
-ghost use Rattle.math.specs.Determinant.{InRange, orient2d, sideOf, isOnLeftSide, isOnRightSide, isOnLine, reverseOf, containedInCircumference, isOrderedCcw, isBehindEdge, isValidCoordinate, isValidVertex};
+ghost use mathlib.Core.Bool.{not, _&&_};
+ghost use Rattle.math.specs.Determinant.{InRange, orient2d, sideOf, isOnLeftSide, isOnRightSide, isOnLine, reverseOf, containedInCircumference, isOrderedCcw, projectionOf, isBefore, isBehind, isBehindEdge, isValidCoordinate, isValidVertex};
 ghost use Rattle.math.specs.Vector.{Short, difference, dotOf, crossOf};
 
 mod wide;
@@ -17,6 +17,12 @@ pub struct Point {
 pub struct Vector {
     pub x: i64,
     pub y: i64,
+}
+
+// Where the projection of a point on the line from p1 to p2 falls: at `factor` / `length_2` of the way. `length_2` is the squared length.
+pub struct PointProjection {
+    pub factor: i64,
+    pub length_2: i64,
 }
 
 // On which side of a line a point lies.
@@ -51,6 +57,26 @@ impl Vector {
         ensures { λ r. ⌜ r ≡ crossOf self other ⌝ }
     {
         self.x * other.y - self.y * other.x
+    }
+}
+
+impl PointProjection {
+    pub fn is_before_edge(self) -> bool
+        ensures { λ r. ⌜ r ≡ isBefore self ⌝ }
+    {
+        self.factor < 0
+    }
+
+    pub fn is_behind_edge(self) -> bool
+        ensures { λ r. ⌜ r ≡ isBehind self ⌝ }
+    {
+        self.factor > self.length_2
+    }
+
+    pub fn is_on_edge(self) -> bool
+        ensures { λ r. ⌜ r ≡ (not (isBefore self) && not (isBehind self)) ⌝ }
+    {
+        !self.is_before_edge() && !self.is_behind_edge()
     }
 }
 
@@ -161,14 +187,25 @@ pub fn contained_in_circumference(v1: Point, v2: Point, v3: Point, p: Point) -> 
     wide::sum_sign(v.cross(u), s.dot(t), u.dot(v), s.cross(t)) > 0
 }
 
-// Whether the projection of q on the line from e1 to e2 lies behind e2.
+pub fn project_point(p1: Point, p2: Point, q: Point) -> PointProjection
+    requires { ⌜ InRange p1 × InRange p2 × InRange q ⌝ }
+    ensures { λ r. ⌜ r ≡ projectionOf p1 p2 q ⌝ }
+{
+    let dir = p2.sub(p1);
+    let to = q.sub(p1);
+    PointProjection {
+        factor: to.dot(dir),
+        length_2: dir.dot(dir),
+    }
+}
+
+// Whether the projection of q on the line from e1 to e2 lies behind e2. The Rust adds f64::EPSILON to the length, against rounding: the answer
+// is the same (`specs/Projection.antt`).
 pub fn is_behind_edge(e1: Point, e2: Point, q: Point) -> bool
     requires { ⌜ InRange e1 × InRange e2 × InRange q ⌝ }
     ensures { λ r. ⌜ r ≡ isBehindEdge e1 e2 q ⌝ }
 {
-    let dir = e2.sub(e1);
-    let to = q.sub(e1);
-    to.dot(dir) > dir.dot(dir)
+    project_point(e1, e2, q).is_behind_edge()
 }
 
 // Whether a coordinate is within ±16,777,216.

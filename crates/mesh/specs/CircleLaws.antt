@@ -1,7 +1,8 @@
--- What it means that an edge breaks the circle rule, from either side of the edge, and what its flip does to a good mesh. Assumes nothing.
+-- What it means that an edge breaks the circle rule, from either side of the edge, and what its flip does to a good mesh; and that a good mesh in which
+-- none does is one in which no triangle's circle strictly contains a neighbour's far vertex. Assumes nothing.
 use mathlib.Core.Bool.{Bool, true, false, false≢true, _&&_}
 use mathlib.Core.Logic.{_≢_}
-use mathlib.Core.Path.{_≡_, sym, _∙_, ap, subst}
+use mathlib.Core.Path.{_≡_, sym, _∙_, ap, ap₂, subst, transport}
 use Prim.Native.Nat.{ℕ, _+_, _*_, _/_, _<_}
 use native.Mathlib.Omega.{arith}
 use borrow.Author.Tests.{lt-ltb}
@@ -10,18 +11,21 @@ use lib.IntN.{ℤ, pos, natAbs}
 use lib.Signed.{ltZ, _<ℤ_, _≤ℤ_, ltZ-yes, ltZ-no, clashℤ}
 use Rattle.math.specs.declared.Point.{Point}
 use Rattle.math.specs.Determinant.{incircle, containedInCircumference}
+use Rattle.math.specs.Circle.{fromCentre, centre-next, radius-next, inside→, inside←}
 use Rattle.sums.specs.Bit.{and-left, and-right, and-both, is-true, is-false, from-true}
 use Rattle.sums.specs.Half.{rev, rev-rev, rev-even}
 use Rattle.mesh.specs.declared.Counts.{Counts}
-use Rattle.mesh.specs.Mesh.{Links, In}
+use Rattle.mesh.specs.Mesh.{Links, In, to}
 use Rattle.mesh.specs.Operations.{flipCw}
 use Rattle.mesh.specs.Frame.{SameBoundary}
 use Rattle.mesh.specs.Flip.{Flippable, flip-frame}
 use Rattle.mesh.specs.Area.{heightSum, circleAt}
+use Rattle.mesh.specs.AreaCorners.{face-at}
+use Rattle.mesh.specs.LeftLaws.{left-at}
 use Rattle.mesh.specs.HeightLaws.{circle-rev, even-half, circle-half}
 use Rattle.mesh.specs.Good.{Good}
 use Rattle.mesh.specs.GoodLaws.{flippable, flip-good, flip-good-falls}
-use Rattle.mesh.specs.Circle.{breaksCircle, Settled}
+use Rattle.mesh.specs.Circle.{breaksCircle, Settled, InsideCircle, LocallyDelaunay}
 
 -- ---- the test's meaning
 pub record Breaks (L : Links) (p : ℕ → Point) (u : ℕ) : Type 0 where
@@ -87,6 +91,42 @@ module _ {C : Counts} {L : Links} {p : ℕ → Point} where
         let B = breaks L p u (is-true _ t) in
         clashℤ (B .inside) (h (2 * u) (omega arith) (B .inner-left) (subst (λ (x : ℕ). 0 < L .face x) (sym (rev-even u)) (B .inner-right))));
   }
+
+-- ---- by circles
+-- by the determinant of the triangle's corners and the neighbour's far vertex
+pub settled-incircle : {C : Counts} {L : Links} {p : ℕ → Point} → Settled C L p → {e : ℕ} → In C e → 0 < L .face e → 0 < L .face (rev e)
+    → incircle (p (L .origin e)) (p (to L e)) (p (L .origin (L .prev e))) (p (L .origin (L .prev (rev e)))) ≤ℤ pos 0
+unfolding circleAt
+settled-incircle S l i j = settled-half S l i j
+
+module _ {C : Counts} {L : Links} {p : ℕ → Point} (G : Good C L p) where
+  -- the circle of the triangle of e, from e's own corners
+  circle-at : {e : ℕ} → In C e → 0 < L .face e → (q : Point)
+      → InsideCircle L p (L .face e) q
+      ≡ (fromCentre (p (L .origin e)) (p (to L e)) (p (L .origin (L .prev e))) q
+      <ℤ fromCentre (p (L .origin e)) (p (to L e)) (p (L .origin (L .prev e))) (p (L .origin e)))
+  circle-at l i q =
+      ap₂ (λ (x y : ℤ). x <ℤ y)
+      (face-at (G .wf) (λ a b c. fromCentre a b c q) p (λ a b c. centre-next a b c q) l i)
+      (face-at (G .wf) (λ a b c. fromCentre a b c a) p radius-next l i)
+
+  -- THE CIRCLE RULE IS WHAT IT SAYS: a settled mesh is locally Delaunay, and one that is locally Delaunay is settled
+  pub settled-far : Settled C L p → LocallyDelaunay C L p
+  settled-far S = record {
+    outside = λ {e} l i j h.
+        clashℤ
+        (inside← (p (L .origin e)) (p (to L e)) (p (L .origin (L .prev e))) (p (L .origin (L .prev (rev e)))) (left-at (G .wf) (G .turning) l i)
+        (transport (circle-at l i (p (L .origin (L .prev (rev e))))) h))
+        (settled-incircle S l i j);
+  }
+
+  pub far-settled : LocallyDelaunay C L p → Settled C L p
+  unfolding circleAt
+  far-settled D = settled-by (λ e l i j.
+      ltZ-no (not-T (ltZ (pos 0) (circleAt L p e)) (λ t.
+      D .outside l i j
+      (transport (sym (circle-at l i (p (L .origin (L .prev (rev e))))))
+      (inside→ (p (L .origin e)) (p (to L e)) (p (L .origin (L .prev e))) (p (L .origin (L .prev (rev e)))) (left-at (G .wf) (G .turning) l i) (ltZ-yes t))))))
 
 -- ---- the flip of an edge that breaks the rule
 module _ {C : Counts} {L : Links} {p : ℕ → Point} (G : Good C L p) {u : ℕ} (l : u < C .edges) (B : Breaks L p u) where

@@ -6,14 +6,14 @@ use mathlib.Core.List.{[], _∷_}
 use Prim.Native.Nat.{ℕ, suc, _+_, _-_, _*_, _/_, _<_}
 use native.Mathlib.Decide.{ℕ-discrete}
 use native.Mathlib.Omega.{arith}
-use lib.IntN.{ℤ, pos, _+ℤ_, _-ℤ_, _*ℤ_, natAbs}
+use lib.IntN.{ℤ, pos, _+ℤ_, _-ℤ_, natAbs}
 use lib.Signed.{_<ℤ_, _≤ℤ_}
-use Rattle.algebra.specs.Order.{abs-falls, add-0≤, lt-le, mul-0≤, sq-0≤}
+use Rattle.algebra.specs.Order.{abs-falls}
 use Rattle.algebra.specs.Ring.{_⊕_, _⊖_, v0, v1, v2, v3, v4, v5, v6}
 use Rattle.algebra.specs.Sign.{eq-in, eq-by, _+⁰_}
 use Rattle.math.specs.declared.Point.{Point}
 use Rattle.math.specs.Determinant.{orient2d, incircle, height}
-use Rattle.math.specs.Plane.{orient2d-next, incircle-other, height-next, flip-area, flip-height, flip-left, flip-right}
+use Rattle.math.specs.Plane.{orient2d-next, incircle-other, height-next, height-not-negative, flip-area, flip-height, flip-left, flip-right}
 use Rattle.sums.specs.Half.{rev, rev-rev, rev-even, rev-odd}
 use Rattle.sums.specs.Sum.{sum, sum-ext, sum-change-two, sum-nonneg}
 use Rattle.mesh.specs.declared.Counts.{Counts}
@@ -26,17 +26,10 @@ use Rattle.mesh.specs.Area.{atCorners, overFaces, areaTotal, heightSum, 
 use Rattle.mesh.specs.AreaCorners.{corners-at, face-at, kept-at}
 
 -- ---- heights are not negative
-pub height-nonneg : (a b c : Point) → pos 0 <ℤ orient2d a b c → pos 0 ≤ℤ height a b c
-unfolding orient2d height
-height-nonneg a b c h = mul-0≤ (lt-le h) (add-0≤ (add-0≤ (lift a) (lift b)) (lift c))
-  where
-    lift : (p : Point) → pos 0 ≤ℤ (p .x *ℤ p .x +ℤ p .y *ℤ p .y)
-    lift p = add-0≤ (sq-0≤ (p .x)) (sq-0≤ (p .y))
-
 pub heights-nonneg : {C : Counts} {L : Links} {p : ℕ → Point} → LeftTurning C L p → pos 0 ≤ℤ heightSum C L p
 unfolding overFaces
 heights-nonneg {C} {L} {p} T = sum-nonneg (C .faces - 1) (λ f. atCorners height L p (L .adjacent (suc f)))
-    (λ f l. height-nonneg _ _ _ (T .left (omega arith) (omega arith)))
+    (λ f l. height-not-negative _ _ _ (T .left (omega arith) (omega arith)))
 
 -- ---- the circle determinant is the same over both halves of an edge
 pub circle-rev : (L : Links) (p : ℕ → Point) (e : ℕ) → circleAt L p (rev e) ≡ circleAt L p e

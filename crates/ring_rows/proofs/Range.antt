@@ -1,13 +1,13 @@
--- What holds on the way of the stores to a range, and a row of one value. Assumes nothing.
+-- What holds on the way of the stores to a range. Assumes nothing.
 use Prim.Native.Nat.{ℕ, _+_, _-_, _<_, _≤_}
 use native.Mathlib.Decide.{ℕ-discrete}
 use native.Mathlib.Omega.{arith}
-use mathlib.Core.Path.{_≡_, refl, sym, _∙_, ap, subst}
+use mathlib.Core.Path.{_≡_, refl, _∙_, ap, subst}
 use mathlib.Core.Bool.{Bool, true, false, cond, _&&_, _||_}
 use mathlib.Core.List.{List}
 use lib.Dec.{leb, ltb}
-use lib.ListN.{length, getD, set, length-set, replicate, length-replicate, getD-replicate}
-use lib.Seq.{getD-set-same, getD-set-other, ext-getD}
+use lib.ListN.{length, getD, set, length-set}
+use lib.Seq.{getD-set-same, getD-set-other}
 use Rattle.sums.specs.Bit.{Tells, lt?, le?}
 use Rattle.dcel.specs.Rows.{rowOf}
 use Rattle.ring.specs.Buckets.{within}
@@ -70,29 +70,3 @@ updated-two {old} {mid} {new} {count} {from} {to} {v} h k P Q = record { each = 
     go i l false true false A C E = Q .past i (E .1 tt) ∙ P .inside i (C .0 tt) l
     go i l false false true A C E = Q .inside i (omega arith) (E .0 tt)
     go i l false false false A C E = Q .past i (E .1 tt) ∙ P .before i (C .1 tt)
-
--- a row all of whose entries are v
-pub all-same : {A : Type 0} (old new : List A) (d v : A) → length new ≡ length old → ((i : ℕ) → i < length old → getD new i d ≡ v) → new ≡ replicate (length old) v
-all-same old new d v e h =
-    ext-getD d new (replicate (length old) v) (e ∙ sym (length-replicate (length old) v)) (λ i l. h i (omega arith) ∙ sym (getD-replicate (length old) i v d (omega arith)))
-
-pub run-same : {old new : List ℕ} {n v : ℕ} → n ≡ length old → length new ≡ length old → Run old new 0 n v → new ≡ replicate (length old) v
-unfolding rowOf
-run-same {old} {new} {n} {v} e q R = all-same old new 0 v q (λ i l. R .inside i (omega arith) (omega arith))
-
--- the first i entries are v
-pub record Clearing {A : Type 0} (old new : List A) (d v : A) (i : ℕ) : Type 0 where
-  pub done : (j : ℕ) → j < i → getD new j d ≡ v
-  pub high : i ≤ length old
-  pub same : length new ≡ length old
-
-module _ {A : Type 0} {old new : List A} {d v : A} {i : ℕ} (K : Clearing old new d v i) where
-  pub cleared-more : i < length new → Clearing old (set new i v) d v (i + 1)
-  cleared-more l = record { done = λ j u. at j u (ℕ-discrete j i); high = let e = K .same in omega arith; same = length-set new i v ∙ K .same }
-    where
-      at : (j : ℕ) → j < i + 1 → Dec (j ≡ i) → getD (set new i v) j d ≡ v
-      at j u (yes z) = ap (λ (k : ℕ). getD (set new i v) k d) z ∙ getD-set-same new i v d l
-      at j u (no z) = getD-set-other new i j v d z ∙ K .done j (omega arith)
-
-  pub cleared-end : length new ≤ i → new ≡ replicate (length old) v
-  cleared-end l = all-same old new d v (K .same) (λ j u. K .done j (let e = K .same in omega arith))

@@ -191,14 +191,7 @@ pub fn initialize_buckets(
     }
 }
 
-// A row of zeros, over its whole length.
-pub fn clear(row: &mut [u32])
-    ensures { λ r. ⌜ now (row .exit) ≡ replicate (length (now (row .entry))) 0 ⌝ }
-{
-    let n = row.len();
-    fill(row, 0, n, 0);
-}
-
+// The row of nodes, all of zeros; the other rows are cleared by `dcel::clear`.
 pub fn clear_nodes(nodes: &mut [[u64; 4]])
     ensures { λ r. ⌜ now (nodes .exit) ≡ replicate (length (now (nodes .entry))) (replicate 4 0) ⌝ }
 {

@@ -7,6 +7,8 @@ use mathlib.Core.Bool.{Bool, true, false, not, _&&_, _||_}
 use Prim.Native.Nat.{ℕ, _<_, _≤_}
 use native.Mathlib.Omega.{arith}
 use lib.Dec.{T, ltb, leb, eqb, ltb→lt, nltb→le, leb→le, nleb→lt, eqb→eq, eqb-refl, T-not, not-T}
+-- two tests that pass alike are equal
+pub use Rattle.algebra.specs.Test.{test-ext}
 
 abbrev pub bit : Bool → ℕ
 bit true = 1
@@ -55,13 +57,6 @@ from-true e = subst T (sym e) tt
 
 pub from-false : {t : Bool} → t ≡ false → T (not t)
 from-false e = subst (λ (t : Bool). T (not t)) (sym e) tt
-
--- two tests that pass alike
-pub test-ext : (a b : Bool) → (T a → T b) → (T b → T a) → a ≡ b
-test-ext true true f g = refl
-test-ext true false f g = absurd (f tt)
-test-ext false true f g = absurd (g tt)
-test-ext false false f g = refl
 
 -- ---- and, or, if
 pub and-left : (a b : Bool) → T (a && b) → T a

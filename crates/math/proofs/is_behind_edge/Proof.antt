@@ -1,33 +1,18 @@
--- `math::is_behind_edge` meets its contract: the two products are the factor and the squared length.
--- Assumes nothing.
-use mathlib.Core.Path.{_∙_, ap₂}
-use lib.Signed.{ltZ}
-use mir.Facts.{toZ-ofZ}
-use borrow.Author.Needs.{needs, sfits-of}
-use Rattle.math.specs.Vector.{dotOf, short, factor-vectors, length2-vectors}
+-- `math::is_behind_edge` meets its contract. Assumes nothing.
+use mathlib.Core.Path.{_∙_, ap}
+use borrow.Author.Needs.{needs}
+use Rattle.math.specs.Determinant.{isBehind}
 use Rattle.math.proofs.is_behind_edge.Statement.{statement}
 use Rattle.math.proofs.is_behind_edge.Tie as tie
 
-sub-requires : tie.Need-sub-requires
-sub-requires c κs = search needs
+project-point-requires : tie.Need-project-point-requires
+project-point-requires c κs = search needs
 
-sub-requires-2 : tie.Need-sub-requires-2
-sub-requires-2 c κs = search needs
-
-dot-requires : tie.Need-dot-requires
-dot-requires c κs = let p = c .before .before .pre in (short (c .sub2 .ensures) (p .2) (p .0), short (c .before .sub .ensures) (p .1) (p .0))
-
-dot-requires-2 : tie.Need-dot-requires-2
-dot-requires-2 c κs =
-    let s = c .before .before in let p = s .before .pre in
-    (short (s .sub .ensures) (p .1) (p .0), short (s .sub .ensures) (p .1) (p .0))
+is-behind-edge-requires : tie.Need-is-behind-edge-requires
+is-behind-edge-requires c κs = search needs
 
 returns : tie.Need-returns
-returns c =
-    let to = c .before .before in let dir = to .before in let a = dir .before .args in
-    ap₂ ltZ
-    (toZ-ofZ (sfits-of (c .dot2 .ok)) ∙ c .dot2 .ensures ∙ ap₂ dotOf (dir .sub .ensures) (dir .sub .ensures) ∙ length2-vectors (a .e1) (a .e2))
-    (toZ-ofZ (sfits-of (c .before .dot .ok)) ∙ c .before .dot .ensures ∙ ap₂ dotOf (to .sub2 .ensures) (dir .sub .ensures) ∙ factor-vectors (a .e1) (a .e2) (a .q))
+returns c = c .is-behind-edge .ensures ∙ ap isBehind (c .before .project-point .ensures)
 
 pub is-behind-edge-spec : {M : Type 1} → statement M
-is-behind-edge-spec = tie.close (tie.spec sub-requires sub-requires-2 dot-requires dot-requires-2 returns)
+is-behind-edge-spec = tie.close (tie.spec project-point-requires is-behind-edge-requires returns)

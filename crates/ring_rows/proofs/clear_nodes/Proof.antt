@@ -2,10 +2,9 @@
 use borrow.Author.Needs.{needs}
 use Prim.Native.Nat.{_-_}
 use native.Mathlib.Omega.{arith}
-use mathlib.Core.Path.{refl}
 use mathlib.Core.List.{[]}
 use lib.ListN.{length, replicate}
-use Rattle.ring_rows.proofs.Range.{Clearing, cleared-more, cleared-end}
+use Rattle.dcel.specs.Cleared.{Clearing, clearing-start, cleared-more, cleared-end}
 use Rattle.ring_rows.proofs.clear_nodes.Statement.{statement}
 use Rattle.ring_rows.proofs.clear_nodes.Tie as tie
 
@@ -16,7 +15,7 @@ abbrev μ-loop : tie.MeasureT-loop
 μ-loop nodes₀ zero i₀ nodes i = length nodes₀ - i
 
 loop-holds : tie.Need-loop-holds Inv-loop μ-loop
-loop-holds c = record { done = λ j u. absurd (omega arith); high = omega arith; same = refl }
+loop-holds c = clearing-start _ [] (replicate 4 0)
 
 mul-zero : tie.Need-mul-zero Inv-loop μ-loop
 mul-zero c = search needs
