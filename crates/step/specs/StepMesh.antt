@@ -139,3 +139,94 @@ module _ {cx cy : Float} {C : Counts} {L : Links} {p : ℕ → Point} (S : Swept
           apart (inr o) t =
               center-apart cx cy p (S .good .wf) (S .center) (o .in-use) (o .outer)
               (subst (λ (w : Point). T (atCenter (w .x) (w .y) cx cy)) (ap p′ (o .is) ∙ old (L .origin (o .edge)) (S .good .wf .ranges .origin< (o .in-use))) t)
+
+-- ---- a step of any fate, a refused flip too
+-- added, or left alone
+module _ (cx cy : Float) (C : Counts) (L : Links) (p : ℕ → Point) (v : Point) where
+  fate-cases : (f : Fate) → ((n : ℕ) × (f ≡ Added n)) ⊎ ((room e : ℕ) → appliedBy room cx cy C L p v e f ≡ leftAlone C L p f)
+  unfolding appliedBy
+  fate-cases (Added n) = inl (n, refl)
+  fate-cases Dropped = inr (λ room e. refl)
+  fate-cases NotLeft = inr (λ room e. refl)
+  fate-cases Unsound = inr (λ room e. refl)
+  fate-cases AtCenter = inr (λ room e. refl)
+
+-- 01: "Fates 2 to 5 leave the mesh alone."
+pub step-cases : (room : ℕ) (cx cy : Float) (C : Counts) (L : Links) (p : ℕ → Point) (v : Point)
+    → ((n : ℕ) × (decided cx cy C L p v .fate ≡ Added n)) ⊎ (stepMesh room cx cy C L p v ≡ leftAlone C L p (decided cx cy C L p v .fate))
+unfolding stepMesh applied
+step-cases room cx cy C L p v = go (fate-cases cx cy C L p v (decided cx cy C L p v .fate))
+  where
+    go : ((n : ℕ) × (decided cx cy C L p v .fate ≡ Added n)) ⊎ ((room e : ℕ) → appliedBy room cx cy C L p v e (decided cx cy C L p v .fate) ≡ leftAlone C L p (decided cx cy C L p v .fate))
+        → ((n : ℕ) × (decided cx cy C L p v .fate ≡ Added n))
+        ⊎ (appliedBy room cx cy C L p v (decided cx cy C L p v .edge) (decided cx cy C L p v .fate) ≡ leftAlone C L p (decided cx cy C L p v .fate))
+    go (inl a) = inl a
+    go (inr b) = inr (b room (decided cx cy C L p v .edge))
+
+-- the mesh stays good, with the old vertices where they are; what is past its counts is untouched; the flips are within their bound; and where no flip was refused it is as a step is given it
+pub record StepKeeps (cx cy : Float) (C : Counts) (L : Links) (p : ℕ → Point) (s : Stepping) : Type 0 where
+  pub good : Good (s .mesh .counts) (s .mesh .links) (s .positions)
+  pub untouched : Untouched (s .mesh .counts) L (s .mesh .links)
+  pub bound : FlipsBound (s .mesh .counts) (s .mesh .links) (s .positions) (s .mesh .flips)
+  pub vertices : C .vertices ≤ s .mesh .counts .vertices
+  pub one-more : s .mesh .counts .vertices ≤ C .vertices + 1
+  pub places : (u : ℕ) → u < C .vertices → s .positions u ≡ p u
+  pub past : (u : ℕ) → s .mesh .counts .vertices ≤ u → s .positions u ≡ p u
+  pub swept : s .mesh .full ≡ false → Swept cx cy (s .mesh .counts) (s .mesh .links) (s .positions)
+
+pub step-keeps : {cx cy : Float} {C : Counts} {L : Links} {p : ℕ → Point} → Swept cx cy C L p → {v : Point} → InRange v → (room : ℕ) → StepKeeps cx cy C L p (stepMesh room cx cy C L p v)
+unfolding leftAlone
+step-keeps {cx} {cy} {C} {L} {p} S {v} i room = go (step-cases room cx cy C L p v)
+  where
+    alone : (f : Fate) → StepKeeps cx cy C L p (leftAlone C L p f)
+    alone f = record {
+      good = S .good;
+      untouched = untouched-none;
+      bound = flips-none (S .good);
+      vertices = omega arith;
+      one-more = omega arith;
+      places = λ u l. refl;
+      past = λ u l. refl;
+      swept = λ g. S;
+    }
+
+    go : ((n : ℕ) × (decided cx cy C L p v .fate ≡ Added n)) ⊎ (stepMesh room cx cy C L p v ≡ leftAlone C L p (decided cx cy C L p v .fate)) → StepKeeps cx cy C L p (stepMesh room cx cy C L p v)
+    go (inr z) = subst⁻¹ (StepKeeps cx cy C L p) z (alone (decided cx cy C L p v .fate))
+    go (inl (n, f)) =
+        let B = step-before S i f in
+        let k = ap (λ (K : Counts). K .vertices) (add-counts B room) in
+        subst⁻¹ (StepKeeps cx cy C L p) (step-added S i f room) (record {
+          good = add-good B room;
+          untouched = add-untouched B room;
+          bound = add-bound B room;
+          vertices = omega arith;
+          one-more = omega arith;
+          places = λ u l. put-other p (C .vertices) v u (λ z. omega arith);
+          past = λ u l. put-other p (C .vertices) v u (λ z. omega arith);
+          swept = added-swept S i f room;
+        })
+
+-- ---- an added point: the next vertex, at that position; k faces and k + 1 edges; the first face, its flips, and then for each further face its flips, as many in all as are counted
+pub record StepAdds (room : ℕ) (C : Counts) (L : Links) (p : ℕ → Point) (v : Point) (e n left right : ℕ) (s : Stepping) : Type 0 where
+  pub fate : s .fate ≡ Added n
+  pub next : n ≡ C .vertices
+  pub place : s .positions n ≡ v
+  pub counts : s .mesh .counts ≡ record { vertices = C .vertices + 1; edges = C .edges + s .mesh .faces + 1; faces = C .faces + s .mesh .faces }
+  pub first : FlipRun (withVertex C) (s .positions) (createNewFaceAdjacentToEdge L C e) (firstFace room (s .positions) C L e .links) (firstFace room (s .positions) C L e .flips)
+  pub closings : Closings (s .positions) (firstFace room (s .positions) C L e) (s .mesh)
+  pub faces : s .mesh .full ≡ false → s .mesh .faces ≡ left + 1 + right
+
+pub step-adds : {cx cy : Float} {C : Counts} {L : Links} {p : ℕ → Point} → Swept cx cy C L p → {v : Point} → InRange v → (room : ℕ) {n : ℕ} → decided cx cy C L p v .fate ≡ Added n
+    → StepAdds room C L p v (decided cx cy C L p v .edge) n (decided cx cy C L p v .left) (decided cx cy C L p v .right) (stepMesh room cx cy C L p v)
+step-adds {cx} {cy} {C} {L} {p} S {v} i room {n} f =
+    let B = step-before S i f in
+    let A = is-added cx cy C L p v f in
+    rw (step-added S i f room, A .edge, A .left, A .right) (record {
+      fate = refl;
+      next = A .next;
+      place = ap (put p (C .vertices) v) (A .next) ∙ put-same p (C .vertices) v;
+      counts = add-counts B room;
+      first = first-run B room;
+      closings = add-closings B room;
+      faces = add-faces B room;
+    })

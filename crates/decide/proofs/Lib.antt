@@ -1,0 +1,5 @@
+pub mod Tests
+pub mod Walking
+pub mod Counting
+pub mod Deciding
+pub mod Answers

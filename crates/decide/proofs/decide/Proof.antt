@@ -1,0 +1,63 @@
+-- `decide::decide` meets its contract. Assumes nothing.
+use borrow.Author.Needs.{needs, sfits-of}
+use mir.Facts.{toZ-ofZ}
+use Rattle.angle.specs.Bits.{angle-valid}
+use Rattle.hull.specs.Find.{held-rows}
+use Rattle.decide.specs.SweepLaws.{sweep-center}
+use Rattle.decide.proofs.Answers.{carried, at-center, asks-at, at-located}
+use Rattle.decide.proofs.decide.Statement.{statement}
+use Rattle.decide.proofs.decide.Tie as tie
+
+vertex-angle-requires : tie.Need-vertex-angle-requires
+vertex-angle-requires c κs = sweep-center (c .before .before .before .before .pre .sweep)
+
+enum-known-angle : tie.Need-enum-known-angle
+enum-known-angle c = search needs
+
+enum-told : tie.Need-enum-told
+enum-told c = search needs
+
+leave-requires : tie.Need-leave-requires
+leave-requires c κs = search needs
+
+returns : tie.Need-returns
+returns c o a f S =
+    let e = c .before in let g = e .before .before in let y = g .before in
+    let px = toZ-ofZ (sfits-of (y .before .struct-told .given .0 .1)) in let py = toZ-ofZ (sfits-of (y .struct-told2 .given .1 .0 .1)) in
+    at-center _ _ _ (g .vertex-angle .ensures .0) px py (e .enum-told .given .1) (c .leave .ensures)
+
+get-requires : tie.Need-get-requires
+get-requires c κs =
+    let n = c .before in let g = n .before .before in let s = g .before .before .before .before .before in
+    (held-rows (s .pre .sweep .ring), angle-valid _ (carried (g .vertex-angle .ensures .1) (n .angle .given .1)))
+
+sub-decide-at : tie.Need-sub-decide-at
+sub-decide-at c = search needs
+
+decide-at-requires : tie.Need-decide-at-requires
+decide-at-requires c κs =
+    let r = c .before in let n = r .before .before in let g = n .before .before in let y = g .before in
+    let px = toZ-ofZ (sfits-of (y .before .struct-told .given .0 .1)) in let py = toZ-ofZ (sfits-of (y .struct-told2 .given .1 .0 .1)) in
+    asks-at _ _ _ (g .vertex-angle .ensures .0) px py (n .angle .given .1) (carried (g .vertex-angle .ensures .1) (n .angle .given .1))
+    (r .get .ensures) (y .before .before .before .before .pre)
+
+returns-2 : tie.Need-returns-2
+returns-2 c =
+    let r = c .before .before in let n = r .before .before in let g = n .before .before in let y = g .before in
+    let px = toZ-ofZ (sfits-of (y .before .struct-told .given .0 .1)) in let py = toZ-ofZ (sfits-of (y .struct-told2 .given .1 .0 .1)) in
+    at-located _ _ _ (g .vertex-angle .ensures .0) px py (n .angle .given .1) (carried (g .vertex-angle .ensures .1) (n .angle .given .1))
+    (r .get .ensures) (y .before .before .before .before .pre .range) (c .decide-at .ensures)
+
+pub decide-spec : {M : Type 1} → statement M
+decide-spec =
+    tie.close
+    (tie.spec
+    vertex-angle-requires
+    enum-known-angle
+    enum-told
+    leave-requires
+    returns
+    get-requires
+    sub-decide-at
+    decide-at-requires
+    returns-2)

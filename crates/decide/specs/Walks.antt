@@ -1,0 +1,147 @@
+-- What the parts of a decision ask of the rows, and what they answer. The tests and the walks are for any point in range and any angle
+-- that they are handed, and read the rows of positions and half-edges alone. Definitions only.
+use Prim.Native.Nat.{ℕ, suc, _<_, _^_}
+use mathlib.Core.Bool.{Bool, not}
+use mathlib.Core.List.{List, []}
+use mathlib.Core.Path.{_≡_}
+use lib.Dec.{T}
+use lib.Ieee.{Float}
+use lib.IntN.{ℤ}
+use Rattle.angle.specs.Angle.{IsAngle, turns, angleAbout, validCenter}
+use Rattle.circle_test.specs.GoodRows.{GoodRows, Placed}
+use Rattle.dcel.specs.Rows.{halvesOf, linksOf, positionOf, There}
+use Rattle.hull.specs.Boundary.{AngleAt, AngledBoundary, edgeAt, originAtCenter, originTurns}
+use Rattle.math.specs.declared.Point.{Point}
+use Rattle.math.specs.Determinant.{InRange}
+use Rattle.mesh.specs.declared.Counts.{Counts}
+use Rattle.mesh.specs.Mesh.{In}
+use Rattle.mesh.specs.Area.{boundaryLength}
+use Rattle.ring.specs.Ring.{atEnds, edgeAngle, isSoundRing}
+use Rattle.ring.specs.Center.{refusesCenter, turnsAbout}
+use Rattle.ring.specs.Chain.{coversLeft, coversRight}
+use Rattle.ring.specs.Node.{nodes as nodeCount}
+use Rattle.segment.specs.Arc.{holds}
+use Rattle.sums.specs.Half.{rev}
+use Rattle.sums.specs.Iterate.{iter}
+use Rattle.decide.specs.declared.Ends.{Ends}
+use Rattle.decide.specs.declared.Covered.{Covered}
+use Rattle.decide.specs.declared.Chain.{Chain}
+use Rattle.decide.specs.declared.Decision.{Decision}
+use Rattle.decide.specs.declared.Fate.{Fate}
+use Rattle.decide.specs.Decide.{decidedAt, notAdded}
+use Rattle.decide.specs.Sweep.{Decides}
+
+-- ---- the ends of a half-edge
+-- the position at its origin
+abbrev pub originPosition : List ℤ → List ℕ → ℕ → Point
+originPosition q h e = positionOf q (halvesOf h .origin e)
+
+-- they are in the rows, and in range
+pub record EndsIn (q : List ℤ) (h : List ℕ) (e : ℕ) : Type 0 where
+  pub here : There h e
+  pub reverse : There h (rev e)
+  pub from : Placed q (halvesOf h .origin e)
+  pub to : Placed q (halvesOf h .origin (rev e))
+
+-- r has their positions
+pub record EndsOf (q : List ℤ) (h : List ℕ) (e : ℕ) (r : Ends) : Type 0 where
+  pub from : r .from ≡ originPosition q h e
+  pub to : r .to ≡ originPosition q h (rev e)
+
+-- neither is at the centre: each has an angle
+pub record EdgeAbout (q : List ℤ) (h : List ℕ) (cx cy : Float) (e : ℕ) : Type 0 where
+  pub ends : EndsIn q h e
+  pub valid : T (validCenter cx cy)
+  pub from : T (not (originAtCenter q h cx cy e))
+  pub to : T (not (originAtCenter q h cx cy (rev e)))
+
+-- ---- the tests of the two walks, for the point v and the angle a
+-- They read origins alone, so that the rows of out edges and of faces do not matter (`left-rows`, `right-rows` in `WalkLaws`).
+unfoldable pub leftTest : List ℤ → List ℕ → Float → Float → Point → Float → ℕ → Bool
+leftTest q h cx cy v a d = coversLeft (linksOf [] h []) (positionOf q) (turnsAbout cx cy (positionOf q)) v (turns a) d
+
+unfoldable pub rightTest : List ℤ → List ℕ → Float → Float → Point → Float → ℕ → Bool
+rightTest q h cx cy v a d = coversRight (linksOf [] h []) (positionOf q) (turnsAbout cx cy (positionOf q)) v (turns a) d
+
+-- what either asks of a half-edge d
+pub record ToTest (q : List ℤ) (h : List ℕ) (cx cy : Float) (v : Point) (a : Float) (d : ℕ) : Type 0 where
+  pub edge : EdgeAbout q h cx cy d
+  pub range : InRange v
+  pub is-angle : IsAngle a
+
+-- ---- a walk by `step` from e, over the half-edges after e that pass a test
+-- what it asks: it can test each that it comes to, and one fails, so that it ends
+pub record ToWalk (q : List ℤ) (h : List ℕ) (cx cy : Float) (v : Point) (a : Float) (step : ℕ → ℕ) (test : ℕ → Bool)
+    (e : ℕ) : Type 0 where
+  pub here : There h e
+  pub each : (k : ℕ) → ToTest q h cx cy v a (iter (suc k) step e)
+  pub most : ℕ
+  pub fails : T (not (test (iter (suc most) step e)))
+  pub small : most < 2 ^ 32
+
+-- n half-edges are covered, and the one after them is not
+pub record Covers (step : ℕ → ℕ) (test : ℕ → Bool) (e n : ℕ) : Type 0 where
+  pub covered : (k : ℕ) → k < n → T (test (iter (suc k) step e))
+  pub stops : T (not (test (iter (suc n) step e)))
+
+abbrev pub ToWalkLeft : List ℤ → List ℕ → Float → Float → Point → Float → ℕ → Type 0
+ToWalkLeft q h cx cy v a e = ToWalk q h cx cy v a (halvesOf h .prev) (leftTest q h cx cy v a) e
+
+abbrev pub ToWalkRight : List ℤ → List ℕ → Float → Float → Point → Float → ℕ → Type 0
+ToWalkRight q h cx cy v a e = ToWalk q h cx cy v a (halvesOf h .next) (rightTest q h cx cy v a) e
+
+-- against next: the edge that is answered is the last that is covered, or e
+pub record WalkedLeft (q : List ℤ) (h : List ℕ) (cx cy : Float) (v : Point) (a : Float) (e : ℕ) (r : Covered) : Type 0 where
+  pub covers : Covers (halvesOf h .prev) (leftTest q h cx cy v a) e (r .count)
+  pub edge : r .edge ≡ iter (r .count) (halvesOf h .prev) e
+
+-- along next: it is the first that is not covered
+pub record WalkedRight (q : List ℤ) (h : List ℕ) (cx cy : Float) (v : Point) (a : Float) (e : ℕ) (r : Covered) : Type 0 where
+  pub covers : Covers (halvesOf h .next) (rightTest q h cx cy v a) e (r .count)
+  pub edge : r .edge ≡ iter (suc (r .count)) (halvesOf h .next) e
+
+-- ---- the nodes of a chain
+-- what counting them asks: the chain is on a boundary whose vertices have angles, and a is the first
+pub record ToCount (q : List ℤ) (h : List ℕ) (cx cy : Float) (start : ℕ) (a : Float) : Type 0 where
+  pub boundary : AngledBoundary q h cx cy start
+  pub first : AngleAt q h cx cy start a
+
+pub record CountedChain (q : List ℤ) (h : List ℕ) (cx cy : Float) (start count : ℕ) (r : Chain) : Type 0 where
+  pub nodes : r .nodes ≡ nodeCount (halvesOf h .next) (originTurns q h cx cy) count start
+  pub end : AngleAt q h cx cy (edgeAt h start count) (r .endangle)
+
+-- ---- the located edge
+-- e is a boundary edge of a good mesh, whose ring about the centre is sound and has `size` nodes; it holds a, the angle of the point v;
+-- `next` is the next vertex
+pub record LocatedRows (C : Counts) (q : List ℤ) (o h f : List ℕ) (cx cy : Float) (e size next : ℕ) (v : Point) (a : Float)
+    : Type 0 where
+  pub mesh : GoodRows C q o h f
+  pub center : T (not (refusesCenter C (linksOf o h f) (positionOf q) cx cy))
+  pub sound : T (isSoundRing C (linksOf o h f) (turnsAbout cx cy (positionOf q)))
+  pub in-use : In C e
+  pub outer : linksOf o h f .face e ≡ 0
+  pub at : T (atEnds (holds (turns a)) (linksOf o h f .next) (edgeAngle (linksOf o h f) (turnsAbout cx cy (positionOf q))) e)
+  pub count :
+      nodeCount (linksOf o h f .next) (edgeAngle (linksOf o h f) (turnsAbout cx cy (positionOf q))) (boundaryLength C (linksOf o h f)) e
+      ≡ size
+  pub vertex : C .vertices ≡ next
+  pub range : InRange v
+  pub is-angle : IsAngle a
+  pub angle : turns a ≡ turns (angleAbout (v .x) (v .y) cx cy)
+
+-- some such mesh, of which the rows of positions and half-edges are read
+pub record ToDecideAt (q : List ℤ) (h : List ℕ) (cx cy : Float) (e size next : ℕ) (v : Point) (a : Float) : Type 0 where
+  pub counts : Counts
+  pub outs : List ℕ
+  pub faces : List ℕ
+  pub located : LocatedRows counts q outs h faces cx cy e size next v a
+
+-- r is the decision about v, by that edge
+abbrev pub DecidesAt : Counts → List ℤ → List ℕ → List ℕ → List ℕ → Float → Float → ℕ → Point → Float → Decision → Type 0
+DecidesAt C q o h f cx cy e v a r =
+    Decides C (linksOf o h f) (positionOf q) cx cy v
+    (decidedAt C (linksOf o h f) (positionOf q) (turnsAbout cx cy (positionOf q)) v (turns a) e) r
+
+-- r leaves a point out, with this fate
+abbrev pub LeavesOut : Fate → Decision → Type 0
+LeavesOut f r = record { fate = r .fate; edge = r .edge; left = r .left; right = r .right } ≡ notAdded f
