@@ -36,7 +36,7 @@ use Rattle.decide.specs.Sweep.{Decides}
 abbrev pub originPosition : List ℤ → List ℕ → ℕ → Point
 originPosition q h e = positionOf q (halvesOf h .origin e)
 
--- they are in the rows, and in range
+-- both ends are in the rows, and in range
 pub record EndsIn (q : List ℤ) (h : List ℕ) (e : ℕ) : Type 0 where
   pub here : There h e
   pub reverse : There h (rev e)

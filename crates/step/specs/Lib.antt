@@ -2,3 +2,5 @@
 pub mod Step
 pub mod Fates
 pub mod StepMesh
+pub mod StepRing
+pub mod StepRows

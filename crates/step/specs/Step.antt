@@ -1,6 +1,6 @@
 -- One step on a mesh: what is decided about a point, and what is applied of it. Definitions only, and each computes; `StepMesh` has the laws.
 -- The centre is (cx, cy), `room` the number of pending entries; v is the point.
-use mathlib.Core.Bool.{false}
+use mathlib.Core.Bool.{Bool, true, false}
 use Prim.Native.Nat.{ℕ}
 use lib.Ieee.{Float}
 use Rattle.angle.specs.Angle.{angleAbout, turns}
@@ -20,6 +20,13 @@ pub record Stepping : Type 0 where
   pub fate : Fate
   pub positions : ℕ → Point
   pub mesh : Extended
+
+unfoldable pub isAdded : Fate → Bool
+isAdded (Added n) = true
+isAdded Dropped = false
+isAdded NotLeft = false
+isAdded Unsound = false
+isAdded AtCenter = false
 
 -- 01: "Fates 2 to 5 leave the mesh alone."
 unfoldable pub leftAlone : Counts → Links → (ℕ → Point) → Fate → Stepping

@@ -1,5 +1,5 @@
 -- What a step makes of a good mesh with a sound ring about a centre that no boundary vertex equals: the same again, with the point as its next vertex where that was added. Assumes nothing.
-use mathlib.Core.Bool.{Bool, true, false, not, _||_}
+use mathlib.Core.Bool.{Bool, true, false, not, false≢true, _||_}
 use mathlib.Core.Logic.{_⊎_, inl, inr, ⊎-elim}
 use mathlib.Core.Path.{_≡_, refl, sym, _∙_, ap, subst, subst⁻¹}
 use Prim.Native.Nat.{ℕ, suc, _+_, _-_, _*_, _<_, _≤_}
@@ -36,7 +36,7 @@ use Rattle.ring.specs.Chain.{leftChain, rightChain}
 use Rattle.sums.specs.Bit.{sure, or-cases, or-left, or-right}
 use Rattle.sums.specs.Bounded.{any-below, any-below→, any-below←}
 use Rattle.sums.specs.Put.{put, put-same, put-other}
-use Rattle.step.specs.Step.{Stepping, leftAlone, addedAt, appliedBy, applied, stepMesh}
+use Rattle.step.specs.Step.{Stepping, isAdded, leftAlone, addedAt, appliedBy, applied, stepMesh}
 use Rattle.step.specs.Fates.{IsAdded, is-added}
 
 -- the mesh between two steps
@@ -141,27 +141,27 @@ module _ {cx cy : Float} {C : Counts} {L : Links} {p : ℕ → Point} (S : Swept
               (subst (λ (w : Point). T (atCenter (w .x) (w .y) cx cy)) (ap p′ (o .is) ∙ old (L .origin (o .edge)) (S .good .wf .ranges .origin< (o .in-use))) t)
 
 -- ---- a step of any fate, a refused flip too
--- added, or left alone
-module _ (cx cy : Float) (C : Counts) (L : Links) (p : ℕ → Point) (v : Point) where
-  fate-cases : (f : Fate) → ((n : ℕ) × (f ≡ Added n)) ⊎ ((room e : ℕ) → appliedBy room cx cy C L p v e f ≡ leftAlone C L p f)
-  unfolding appliedBy
-  fate-cases (Added n) = inl (n, refl)
-  fate-cases Dropped = inr (λ room e. refl)
-  fate-cases NotLeft = inr (λ room e. refl)
-  fate-cases Unsound = inr (λ room e. refl)
-  fate-cases AtCenter = inr (λ room e. refl)
+-- added, or left alone. 01: "Fates 2 to 5 leave the mesh alone."
+pub added-of : (f : Fate) → isAdded f ≡ true → (n : ℕ) × (f ≡ Added n)
+unfolding isAdded
+added-of (Added n) e = (n, refl)
+added-of Dropped e = absurd (false≢true e)
+added-of NotLeft e = absurd (false≢true e)
+added-of Unsound e = absurd (false≢true e)
+added-of AtCenter e = absurd (false≢true e)
 
--- 01: "Fates 2 to 5 leave the mesh alone."
-pub step-cases : (room : ℕ) (cx cy : Float) (C : Counts) (L : Links) (p : ℕ → Point) (v : Point)
-    → ((n : ℕ) × (decided cx cy C L p v .fate ≡ Added n)) ⊎ (stepMesh room cx cy C L p v ≡ leftAlone C L p (decided cx cy C L p v .fate))
+alone-of : (room : ℕ) (cx cy : Float) (C : Counts) (L : Links) (p : ℕ → Point) (v : Point) (e : ℕ) (f : Fate) → isAdded f ≡ false → appliedBy room cx cy C L p v e f ≡ leftAlone C L p f
+unfolding isAdded appliedBy
+alone-of room cx cy C L p v e (Added n) z = absurd (false≢true (sym z))
+alone-of room cx cy C L p v e Dropped z = refl
+alone-of room cx cy C L p v e NotLeft z = refl
+alone-of room cx cy C L p v e Unsound z = refl
+alone-of room cx cy C L p v e AtCenter z = refl
+
+pub step-alone : (room : ℕ) (cx cy : Float) (C : Counts) (L : Links) (p : ℕ → Point) (v : Point) → isAdded (decided cx cy C L p v .fate) ≡ false
+    → stepMesh room cx cy C L p v ≡ leftAlone C L p (decided cx cy C L p v .fate)
 unfolding stepMesh applied
-step-cases room cx cy C L p v = go (fate-cases cx cy C L p v (decided cx cy C L p v .fate))
-  where
-    go : ((n : ℕ) × (decided cx cy C L p v .fate ≡ Added n)) ⊎ ((room e : ℕ) → appliedBy room cx cy C L p v e (decided cx cy C L p v .fate) ≡ leftAlone C L p (decided cx cy C L p v .fate))
-        → ((n : ℕ) × (decided cx cy C L p v .fate ≡ Added n))
-        ⊎ (appliedBy room cx cy C L p v (decided cx cy C L p v .edge) (decided cx cy C L p v .fate) ≡ leftAlone C L p (decided cx cy C L p v .fate))
-    go (inl a) = inl a
-    go (inr b) = inr (b room (decided cx cy C L p v .edge))
+step-alone room cx cy C L p v z = alone-of room cx cy C L p v (decided cx cy C L p v .edge) (decided cx cy C L p v .fate) z
 
 -- the mesh stays good, with the old vertices where they are; what is past its counts is untouched; the flips are within their bound; and where no flip was refused it is as a step is given it
 pub record StepKeeps (cx cy : Float) (C : Counts) (L : Links) (p : ℕ → Point) (s : Stepping) : Type 0 where
@@ -176,7 +176,7 @@ pub record StepKeeps (cx cy : Float) (C : Counts) (L : Links) (p : ℕ → Point
 
 pub step-keeps : {cx cy : Float} {C : Counts} {L : Links} {p : ℕ → Point} → Swept cx cy C L p → {v : Point} → InRange v → (room : ℕ) → StepKeeps cx cy C L p (stepMesh room cx cy C L p v)
 unfolding leftAlone
-step-keeps {cx} {cy} {C} {L} {p} S {v} i room = go (step-cases room cx cy C L p v)
+step-keeps {cx} {cy} {C} {L} {p} S {v} i room = go (isAdded (decided cx cy C L p v .fate)) refl
   where
     alone : (f : Fate) → StepKeeps cx cy C L p (leftAlone C L p f)
     alone f = record {
@@ -190,9 +190,10 @@ step-keeps {cx} {cy} {C} {L} {p} S {v} i room = go (step-cases room cx cy C L p 
       swept = λ g. S;
     }
 
-    go : ((n : ℕ) × (decided cx cy C L p v .fate ≡ Added n)) ⊎ (stepMesh room cx cy C L p v ≡ leftAlone C L p (decided cx cy C L p v .fate)) → StepKeeps cx cy C L p (stepMesh room cx cy C L p v)
-    go (inr z) = subst⁻¹ (StepKeeps cx cy C L p) z (alone (decided cx cy C L p v .fate))
-    go (inl (n, f)) =
+    go : (b : Bool) → isAdded (decided cx cy C L p v .fate) ≡ b → StepKeeps cx cy C L p (stepMesh room cx cy C L p v)
+    go false z = subst⁻¹ (StepKeeps cx cy C L p) (step-alone room cx cy C L p v z) (alone (decided cx cy C L p v .fate))
+    go true z =
+        let f = added-of (decided cx cy C L p v .fate) z .1 in
         let B = step-before S i f in
         let k = ap (λ (K : Counts). K .vertices) (add-counts B room) in
         subst⁻¹ (StepKeeps cx cy C L p) (step-added S i f room) (record {

@@ -1,0 +1,2 @@
+pub mod PointRows
+pub mod StepDone

@@ -1,0 +1,73 @@
+-- Rows, counts and a ring as a step is given them, and as it leaves them. Definitions only.
+use mathlib.Core.Bool.{false}
+use mathlib.Core.List.{List}
+use mathlib.Core.Path.{_≡_}
+use Prim.Native.Nat.{ℕ, suc, _+_, _*_, _<_, _≤_}
+use lib.Ieee.{Float}
+use lib.IntN.{ℤ}
+use lib.ListN.{length}
+use Rattle.apply.specs.Apply.{addTurns}
+use Rattle.apply.specs.ApplyRows.{AddReady, appliedOf}
+use Rattle.apply.specs.declared.Entered.{Entered}
+use Rattle.corner.specs.declared.Added.{Added}
+use Rattle.corner.specs.CornerRows.{MeshRoom}
+use Rattle.dcel.specs.Rows.{linksOf, positionOf}
+use Rattle.decide.specs.declared.Decision.{Decision}
+use Rattle.decide.specs.declared.Fate.{Fate}
+use Rattle.decide.specs.Sweep.{Sweep}
+use Rattle.flip_count.specs.FlipCount.{flipCountOf}
+use Rattle.math.specs.declared.Point.{Point}
+use Rattle.math.specs.Determinant.{InRange}
+use Rattle.mesh.specs.declared.Counts.{Counts}
+use Rattle.ring_rows.specs.declared.Hull.{Hull}
+use Rattle.sums.specs.Put.{put}
+use Rattle.step.specs.declared.Progress.{Progress}
+use Rattle.step.specs.Step.{Stepping, stepMesh}
+
+-- what a step of these parts comes to
+abbrev pub progressOf : Added → Hull → Fate → Progress
+progressOf g hull f = record { counts = g .counts; hull = hull; answer = record { fate = f; faces = g .faces; flips = g .flips }; full = g .full }
+
+-- the rows as what has become of a point and of the mesh
+unfoldable pub steppingOf : List ℤ → List ℕ → List ℕ → List ℕ → Progress → Stepping
+steppingOf q o h a r = record {
+  fate = r .answer .fate;
+  positions = positionOf q;
+  mesh = record { counts = r .counts; links = linksOf o h a; faces = r .answer .faces; flips = flipCountOf (r .answer .flips); full = r .full };
+}
+
+-- the rows do for N vertices, one more than there are, by 01's sizes
+pub record StepRoom (N : ℕ) (C : Counts) (q : List ℤ) (o h a row : List ℕ) (nodes : List (List ℕ)) (freed buckets : List ℕ) (hull : Hull) : Type 0 where
+  pub more : C .vertices + 1 ≤ N
+  pub most : N ≤ 1000000
+  pub positions : 2 * N ≤ length q
+  pub outs : N ≤ length o
+  pub sized : MeshRoom N h a row
+  pub node-room : suc N ≤ length nodes
+  pub freed-room : suc N ≤ length freed
+  pub bucket-room : N ≤ length buckets
+  pub nodes-most : hull .nodes ≤ suc N
+
+-- a mesh with its ring in rows with room for a point in range
+pub record StepReady (C : Counts) (q : List ℤ) (o h a row : List ℕ) (nodes : List (List ℕ)) (freed buckets : List ℕ) (hull : Hull) (cx cy : Float) (v : Point) : Type 0 where
+  pub sweep : Sweep C q o h a nodes freed buckets hull cx cy
+  pub range : InRange v
+  pub vertices : ℕ
+  pub room : StepRoom vertices C q o h a row nodes freed buckets hull
+
+-- What it leaves: the step as it is defined, and where no flip was refused again a mesh with its ring, whose nodes the rows have room for
+pub record StepLeaves (C : Counts) (q q′ : List ℤ) (o h a row o′ h′ a′ : List ℕ) (nodes : List (List ℕ)) (freed buckets : List ℕ) (nodes′ : List (List ℕ)) (freed′ buckets′ : List ℕ)
+    (hull : Hull) (cx cy : Float) (v : Point) (r : Progress) : Type 0 where
+  pub is : steppingOf q′ o′ h′ a′ r ≡ stepMesh (length row) cx cy C (linksOf o h a) (positionOf q) v
+  pub sweep : r .full ≡ false → Sweep (r .counts) q′ o′ h′ a′ nodes′ freed′ buckets′ (r .hull) cx cy
+  pub nodes-most : (N : ℕ) → StepRoom N C q o h a row nodes freed buckets hull → r .hull .nodes ≤ suc N
+
+-- the point as a vertex in the rows
+pub record PointReady (C : Counts) (q : List ℤ) (o h a row : List ℕ) (v : Point) (D : Decision) : Type 0 where
+  pub place : 2 * C .vertices + 1 < length q
+  -- with the positions that the row holds then
+  pub add : (q′ : List ℤ) → length q′ ≡ length q → positionOf q′ ≡ put (positionOf q) (C .vertices) v → AddReady C q′ o h a row (D .edge) (D .left) (D .right)
+
+pub record PointAdded (C : Counts) (q q′ : List ℤ) (o h a row o′ h′ a′ : List ℕ) (v : Point) (D : Decision) (r : Entered) : Type 0 where
+  pub places : positionOf q′ ≡ put (positionOf q) (C .vertices) v
+  pub is : appliedOf o′ h′ a′ r ≡ addTurns (length row) (put (positionOf q) (C .vertices) v) C (linksOf o h a) (D .edge) (D .left) (D .right)
