@@ -1,0 +1,49 @@
+-- `listing_text::reading::end` meets its contract. The invariant: the first mark from here on is the first one from the start on.
+-- Assumes nothing.
+use Prim.Native.Nat.{_-_}
+use lib.ListN.{length}
+use borrow.Author.Needs.{needs}
+use Rattle.listing_text.proofs.Pieces.{Sought, sought-start, sought-end, sought-here, sought-next}
+use Rattle.listing_text.proofs.reading.end.Statement.{statement}
+use Rattle.listing_text.proofs.reading.end.Tie as tie
+
+abbrev Inv-loop : tie.InvT-loop
+Inv-loop text mark from i₀ i = Sought mark text from i
+
+abbrev μ-loop : tie.MeasureT-loop
+μ-loop text mark from i₀ i = length text - i
+
+loop-holds : tie.Need-loop-holds Inv-loop μ-loop
+loop-holds c = sought-start _
+
+shared-slice-read-if1 : tie.Need-shared-slice-read-if1 Inv-loop μ-loop
+shared-slice-read-if1 c = search needs
+
+returns : tie.Need-returns Inv-loop μ-loop
+returns c = sought-here (c .before .before .before .loop .inv) (c .before .before .loop-test .taken) (c .if1 .taken)
+
+add-i : tie.Need-add-i Inv-loop μ-loop
+add-i c = search needs
+
+loop-less : tie.Need-loop-less Inv-loop μ-loop
+loop-less c = search needs
+
+loop-again : tie.Need-loop-again Inv-loop μ-loop
+loop-again c = sought-next (c .before .before .before .loop .inv) (c .before .before .loop-test .taken) (c .if1 .left)
+
+returns-2 : tie.Need-returns-2 Inv-loop μ-loop
+returns-2 c = sought-end (c .before .loop .inv) (c .loop-test .left)
+
+pub end-spec : {M : Type 1} → statement M
+end-spec =
+    tie.close
+    (tie.spec
+    Inv-loop
+    μ-loop
+    loop-holds
+    shared-slice-read-if1
+    returns
+    add-i
+    loop-less
+    loop-again
+    returns-2)
