@@ -14,7 +14,7 @@ use Rattle.apply.specs.Origins.{OldVertex, along-origin}
 use Rattle.apply.specs.Walks.{Before}
 use Rattle.corner.specs.Corner.{Extended}
 use Rattle.corner.specs.CornerLaws.{Closings}
-use Rattle.corner.specs.Untouched.{Untouched, untouched-none}
+use Rattle.corner.specs.Untouched.{Untouched, Grown, untouched-none}
 use Rattle.decide.specs.declared.Fate.{Fate}
 use Rattle.decide.specs.declared.Fate.the-variants.{Added, Dropped, NotLeft, Unsound, AtCenter}
 use Rattle.decide.specs.Decide.{Decided, decided}
@@ -168,7 +168,7 @@ pub record StepKeeps (cx cy : Float) (C : Counts) (L : Links) (p : ℕ → Point
   pub good : Good (s .mesh .counts) (s .mesh .links) (s .positions)
   pub untouched : Untouched (s .mesh .counts) L (s .mesh .links)
   pub bound : FlipsBound (s .mesh .counts) (s .mesh .links) (s .positions) (s .mesh .flips)
-  pub vertices : C .vertices ≤ s .mesh .counts .vertices
+  pub grown : Grown C (s .mesh .counts)
   pub one-more : s .mesh .counts .vertices ≤ C .vertices + 1
   pub places : (u : ℕ) → u < C .vertices → s .positions u ≡ p u
   pub past : (u : ℕ) → s .mesh .counts .vertices ≤ u → s .positions u ≡ p u
@@ -183,7 +183,7 @@ step-keeps {cx} {cy} {C} {L} {p} S {v} i room = go (isAdded (decided cx cy C L p
       good = S .good;
       untouched = untouched-none;
       bound = flips-none (S .good);
-      vertices = omega arith;
+      grown = record { vertices = omega arith; edges = omega arith; faces = omega arith };
       one-more = omega arith;
       places = λ u l. refl;
       past = λ u l. refl;
@@ -200,7 +200,8 @@ step-keeps {cx} {cy} {C} {L} {p} S {v} i room = go (isAdded (decided cx cy C L p
           good = add-good B room;
           untouched = add-untouched B room;
           bound = add-bound B room;
-          vertices = omega arith;
+          grown = (let w = ap (λ (K : Counts). K .edges) (add-counts B room) in let z = ap (λ (K : Counts). K .faces) (add-counts B room) in
+              record { vertices = omega arith; edges = omega arith; faces = omega arith });
           one-more = omega arith;
           places = λ u l. put-other p (C .vertices) v u (λ z. omega arith);
           past = λ u l. put-other p (C .vertices) v u (λ z. omega arith);

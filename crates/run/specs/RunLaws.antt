@@ -1,0 +1,413 @@
+-- THE THEOREM of the whole run, for every seed, centre and list of points: a run that is answered with no refusal number meets demand 3; one that is refused 9 leaves earlier answers and a good
+-- mesh; and one that is refused another number changes nothing. Assumes nothing.
+use mathlib.Core.Bool.{Bool, true, false, cond, not, false≢true}
+use mathlib.Core.List.{List}
+use mathlib.Core.Logic.{_⊎_, inl, inr}
+use mathlib.Core.Path.{_≡_, refl, sym, _∙_, ap, ap₂, subst, subst⁻¹, fun-ext}
+use Prim.Native.Nat.{ℕ, zero, suc, _+_, _-_, _*_, _/_, _%_, _<_, _≤_}
+use native.Mathlib.Decide.{decLt}
+use native.Mathlib.Omega.{arith}
+use borrow.Author.Tests.{lt-ltb, le-ltb, ltb-false, eq-eqb}
+use lib.Dec.{T, ltb, eqb, le→leb}
+use lib.Ieee.{Float}
+use lib.IntN.{ℤ, pos, natAbs, _-ℤ_, +ℤ-negℤ-cancel}
+use lib.ListN.{length, getD, replicate, List·getD-eq-default}
+use lib.Signed.{_≤ℤ_, leZ-yes}
+use Rattle.algebra.specs.Order.{abs-0≤}
+use Rattle.closing.specs.Closing.{Closing, closingPass}
+use Rattle.convexity.specs.Convexity.{convexity, NoLeftCorner}
+use Rattle.convexity.specs.ConvexityLaws.{convexity-good}
+use Rattle.corner.specs.Untouched.{Untouched, Grown, Holding, untouched-join, rows-back}
+use Rattle.dcel.specs.Rows.{linksOf, positionOf, rowOf, rowFrom, halvesFrom, positionsFrom, coordinate}
+use Rattle.dcel.specs.Views.{length-from, getD-from}
+use Rattle.decide.specs.declared.Fate.{Fate}
+use Rattle.decide.specs.declared.Fate.the-variants.{Added, Dropped, NotLeft, Unsound, AtCenter}
+use Rattle.decide.specs.Decide.{fateNumber, fateVertex}
+use Rattle.finish.specs.declared.Finished.{Finished}
+use Rattle.finish.specs.declared.Totals.{Totals}
+use Rattle.finish.specs.Finish.{Finishing, finishMesh, finishedFrom}
+use Rattle.finish.specs.MeshLaws.{finish-flips, finish-good, finish-counts, finish-falls, finish-untouched, finish-closing, finish-convex, finish-settled}
+use Rattle.flip_count.specs.FlipCount.{flipCountOf, flipCountFrom}
+use Rattle.flip_count.specs.CountLaws.{count-of}
+use Rattle.locate.specs.Start.{AcceptedStart}
+use Rattle.math.specs.declared.Point.{Point}
+use Rattle.math.specs.Determinant.{InRange}
+use Rattle.mesh.specs.declared.Counts.{Counts}
+use Rattle.mesh.specs.Mesh.{Links}
+use Rattle.mesh.specs.Area.{LeftTurning, areaTotal, boundaryArea, heightSum}
+use Rattle.mesh.specs.AreaLaws.{area-theorem}
+use Rattle.mesh.specs.Circle.{LocallyDelaunay, Settled}
+use Rattle.mesh.specs.CircleLaws.{settled-far}
+use Rattle.mesh.specs.CountsLaws.{count-edges, count-faces}
+use Rattle.mesh.specs.FlipRun.{FlipRun, run-good}
+use Rattle.mesh.specs.HeightLaws.{heights-nonneg}
+use Rattle.mesh.specs.Good.{Good}
+use Rattle.mesh.specs.Wf.{Wf}
+use Rattle.mesh_check.specs.declared.Checked.{Checked}
+use Rattle.mesh_check.specs.declared.Refusal.{Refusal}
+use Rattle.mesh_check.specs.Check.{pointCount, vertexCount}
+use Rattle.ring.specs.Boundary.{strict-ring}
+use Rattle.ring.specs.Center.{turnsAbout}
+use Rattle.start.specs.StartLaws.{AcceptedSweep, sweep-accepts}
+use Rattle.step.specs.Step.{Stepping, isAdded}
+use Rattle.step.specs.StepMesh.{Swept}
+use Rattle.sums.specs.Bounded.{count, count-ext}
+use Rattle.run.specs.Run.{Sweeping, sweepAfter, finishAfter, answerWord, answersAfter, Lent, Outcome, runChecked, sweepOf, stepsOf, finishOf, outcomeOf, runOf}
+use Rattle.run.specs.SweepLaws.{SweepKeeps, sweep-keeps}
+use Rattle.run.specs.Demand3.{linksAfter, placesAfter, fateOf, vertexOf, addedBefore, passed, Demand3, Cleared, Full, Unchanged}
+
+-- ---- rows made of functions that agree with the lent row past the counts
+past : (q : List ℤ) (u k : ℕ) → k < 2 → length q ≤ 2 * u + k → coordinate (positionOf q u) k ≡ pos 0
+unfolding positionOf coordinate
+past q u zero l z = List·getD-eq-default q (pos 0) (omega arith)
+past q u (suc zero) l z = List·getD-eq-default q (pos 0) (omega arith)
+past q u (suc (suc k)) l z = absurd (omega arith)
+
+coordinate-back : (q : List ℤ) (P : ℕ → Point) (n u k : ℕ) → k < 2 → 2 * n ≤ length q → ((u : ℕ) → n ≤ u → P u ≡ positionOf q u)
+    → getD (positionsFrom (length q) P) (2 * u + k) (pos 0) ≡ coordinate (P u) k
+unfolding positionsFrom
+coordinate-back q P n u k l m f = go (decLt (2 * u + k) (length q))
+  where
+    go : Dec (2 * u + k < length q) → getD (rowFrom (length q) (λ i. coordinate (P (i / 2)) (i % 2))) (2 * u + k) (pos 0) ≡ coordinate (P u) k
+    go (yes b) =
+        let x : (2 * u + k) / 2 ≡ u = omega arith in
+        let y : (2 * u + k) % 2 ≡ k = omega arith in
+        getD-from (length q) (λ i. coordinate (P (i / 2)) (i % 2)) (pos 0) (2 * u + k) b ∙ rw (x, y) refl
+    go (no b) =
+        let w = length-from (length q) (λ i. coordinate (P (i / 2)) (i % 2)) in
+        List·getD-eq-default (rowFrom (length q) (λ i. coordinate (P (i / 2)) (i % 2))) (pos 0) (omega arith)
+        ∙ sym (ap (λ (v : Point). coordinate v k) (f u (omega arith)) ∙ past q u k l (omega arith))
+
+point-of : {x y : ℤ} (v : Point) → x ≡ v .x → y ≡ v .y → _≡_ {A = Point} (record { x = x; y = y }) v
+point-of v a b = rw (a, b) refl
+
+pub positions-back : (q : List ℤ) (P : ℕ → Point) (n : ℕ) → 2 * n ≤ length q → ((u : ℕ) → n ≤ u → P u ≡ positionOf q u) → positionOf (positionsFrom (length q) P) ≡ P
+unfolding positionOf coordinate
+positions-back q P n m f = fun-ext (λ u.
+    let z : 2 * u ≡ 2 * u + 0 = omega arith in
+    point-of (P u) (ap (λ (i : ℕ). getD (positionsFrom (length q) P) i (pos 0)) z ∙ coordinate-back q P n u 0 (omega arith) m f) (coordinate-back q P n u 1 (omega arith) m f))
+
+-- ---- a fall in whole numbers
+fall-by : (n : ℕ) (a b : ℤ) → pos 0 ≤ℤ a → pos 0 ≤ℤ b → n + natAbs b ≤ natAbs a → pos n ≤ℤ (a -ℤ b)
+fall-by n a b u v l =
+    subst⁻¹ (λ (z : ℤ). pos n ≤ℤ z)
+    (ap₂ (λ (x y : ℤ). x -ℤ y) (sym (abs-0≤ u) ∙ ap pos (more (natAbs a) (natAbs b) (omega arith))) (sym (abs-0≤ v)) ∙ +ℤ-negℤ-cancel (pos (natAbs a - natAbs b)) (pos (natAbs b)))
+    (leZ-yes {a = pos n} {b = pos (natAbs a - natAbs b)} (le→leb n (natAbs a - natAbs b) (omega arith)))
+  where
+    more : (x y : ℕ) → y ≤ x → x ≡ x - y + y
+    more x y l = omega arith
+
+-- ---- the answers
+-- fate 1 is that of an added point, and its vertex is in the answer
+number-added : (f : Fate) → eqb (fateNumber f) 1 ≡ isAdded f
+unfolding fateNumber isAdded
+number-added (Added v) = refl
+number-added Dropped = refl
+number-added NotLeft = refl
+number-added Unsound = refl
+number-added AtCenter = refl
+
+vertex-added : (f : Fate) → fateNumber f ≡ 1 → f ≡ Added (fateVertex f)
+unfolding fateNumber fateVertex
+vertex-added (Added v) z = refl
+vertex-added Dropped z = absurd (omega arith)
+vertex-added NotLeft z = absurd (omega arith)
+vertex-added Unsound z = absurd (omega arith)
+vertex-added AtCenter z = absurd (omega arith)
+
+module _ (step : ℕ → Stepping) (answered count : ℕ) (row : List ℕ) (k : 5 * count ≤ length row) where
+  abbrev rows : List ℕ
+  rows = rowFrom (length row) (answersAfter step answered count (rowOf row))
+
+  at : (x : ℕ) → x < length row → rowOf rows x ≡ answersAfter step answered count (rowOf row) x
+  unfolding rowOf
+  at x l = getD-from (length row) (answersAfter step answered count (rowOf row)) 0 x l
+
+  -- of a point that was answered
+  pub answer-at : (i j : ℕ) → i < answered → i < count → j < 5 → rowOf rows (5 * i + j) ≡ answerWord (step i) j
+  unfolding answersAfter
+  answer-at i j a c l =
+      let x : (5 * i + j) / 5 ≡ i = omega arith in
+      let y : (5 * i + j) % 5 ≡ j = omega arith in
+      at (5 * i + j) (omega arith) ∙ rw (lt-ltb (5 * i + j) (5 * count) (omega arith), x, y, lt-ltb i answered a) refl
+
+  -- of one that was not
+  pub answer-none : (x : ℕ) → 5 * answered ≤ x → x < 5 * count → rowOf rows x ≡ 0
+  unfolding answersAfter
+  answer-none x a c = at x (omega arith) ∙ rw (lt-ltb x (5 * count) c, le-ltb (x / 5) answered (omega arith)) refl
+
+  pub answer-past : (x : ℕ) → 5 * count ≤ x → rowOf rows x ≡ rowOf row x
+  unfolding answersAfter rowOf
+  answer-past x c = go (decLt x (length row))
+    where
+      go : Dec (x < length row) → getD rows x 0 ≡ getD row x 0
+      go (yes b) = getD-from (length row) (answersAfter step answered count (rowOf row)) 0 x b ∙ rw (le-ltb x (5 * count) c) refl
+      go (no b) =
+          let w = length-from (length row) (answersAfter step answered count (rowOf row)) in
+          List·getD-eq-default rows 0 (omega arith) ∙ sym (List·getD-eq-default row 0 (omega arith))
+
+-- ---- what the checks accept
+module _ (l : Lent) (e : runChecked l ≡ Checked.Accepted) where
+  abbrev n : ℕ
+  n = pointCount (l .points)
+
+  abbrev L : Links
+  L = linksOf (l .outs) (l .halves) (l .faces)
+
+  abbrev p : ℕ → Point
+  p = positionOf (l .positions)
+
+  abbrev s : Sweeping
+  s = sweepOf l n
+
+  abbrev m : Finishing
+  m = finishOf l
+
+  pub run-accepts : AcceptedSweep (l .points) (ltb (length (l .answers)) (5 * n)) (l .counts) (l .positions) (l .outs) (l .halves) (l .faces)
+      (length (l .nodes)) (length (l .freed)) (length (l .buckets)) (length (l .pending)) (l .centerx) (l .centery)
+  unfolding runChecked
+  run-accepts = sweep-accepts e
+
+  pub run-start : AcceptedStart (l .points) (l .counts) (l .positions) (l .outs) (l .halves) (l .faces) (l .centerx) (l .centery)
+  run-start = run-accepts .start
+
+  answers-room : 5 * n ≤ length (l .answers)
+  answers-room = ltb-false (length (l .answers)) (5 * n) (run-accepts .others)
+
+  pub run-swept : Swept (l .centerx) (l .centery) (l .counts) L p
+  run-swept = record {
+    good = run-start .mesh .good;
+    center = run-start .center;
+    sound = strict-ring (run-start .mesh .good .wf) (turnsAbout (l .centerx) (l .centery) p) (run-start .strict);
+  }
+
+  -- the steps
+  pub run-keeps : SweepKeeps (length (l .pending)) (l .centerx) (l .centery) (l .counts) L p (positionOf (l .points)) n s
+  run-keeps = sweep-keeps (length (l .pending)) run-swept (positionOf (l .points)) n (λ i k. run-start .mesh .range k)
+
+  -- ---- the finish
+  finished-is : s .full ≡ false → m ≡ finishMesh (length (l .pending)) (s .counts) (s .positions) (s .links)
+  unfolding finishAfter
+  finished-is f = rw f refl
+
+  refused-is : s .full ≡ true → m ≡ record { counts = s .counts; links = s .links; faces = 0; convexflips = 0; closingflips = 0; full = true }
+  unfolding finishAfter
+  refused-is f = rw f refl
+
+  -- what it keeps, by whether a step was refused a flip
+  record Keeps (m : Finishing) : Type 0 where
+    good : Good (m .counts) (m .links) (s .positions)
+    untouched : Untouched (m .counts) L (m .links)
+    vertices : m .counts .vertices ≡ s .counts .vertices
+
+  finish-keeps : Keeps m
+  finish-keeps = go (s .full) refl
+    where
+      go : (b : Bool) → s .full ≡ b → Keeps m
+      go true f = subst⁻¹ Keeps (refused-is f) (record { good = run-keeps .good; untouched = run-keeps .untouched; vertices = refl })
+      go false f =
+          let room = length (l .pending) in
+          let c = finish-counts room (s .counts) (s .positions) (s .links) (run-keeps .good) in
+          subst⁻¹ Keeps (finished-is f) (record {
+            good = finish-good room (s .counts) (s .positions) (s .links) (run-keeps .good);
+            untouched = untouched-join (record {
+              vertices = (let x = ap (λ (K : Counts). K .vertices) c in omega arith);
+              edges = (let x = ap (λ (K : Counts). K .edges) c in omega arith);
+              faces = (let x = ap (λ (K : Counts). K .faces) c in omega arith);
+            }) (run-keeps .untouched) (finish-untouched room (s .counts) (s .positions) (s .links) (run-keeps .good));
+            vertices = ap (λ (K : Counts). K .vertices) c;
+          })
+
+  -- ---- the rows hold all of it
+  holding : Holding (m .counts) (l .outs) (l .halves) (l .faces)
+  unfolding vertexCount
+  holding =
+      let c = finish-keeps .vertices in
+      let k = run-keeps .most in
+      let u = count-edges (finish-keeps .good .wf) in
+      let w = count-faces (finish-keeps .good .wf) in
+      let r = run-start .mesh .rows in
+      let x = r .outs in let y = r .halves in let z = r .faces in
+      record { outs = omega arith; halves = omega arith; faces = omega arith }
+
+  links-back : linksOf (rowFrom (length (l .outs)) (m .links .out)) (halvesFrom (length (l .halves)) (m .links)) (rowFrom (length (l .faces)) (m .links .adjacent)) ≡ m .links
+  links-back = rows-back holding (finish-keeps .untouched)
+
+  places-back : positionOf (positionsFrom (length (l .positions)) (s .positions)) ≡ s .positions
+  unfolding vertexCount
+  places-back = positions-back (l .positions) (s .positions) (s .counts .vertices) (let k = run-keeps .most in let r = run-start .mesh .rows .positions in omega arith) (run-keeps .past)
+
+  -- ---- the outcome
+  abbrev R : Outcome
+  R = record {
+    answer = record { counts = m .counts; finished = finishedFrom (s .answered) m };
+    positions = positionsFrom (length (l .positions)) (s .positions);
+    outs = rowFrom (length (l .outs)) (m .links .out);
+    halves = halvesFrom (length (l .halves)) (m .links);
+    faces = rowFrom (length (l .faces)) (m .links .adjacent);
+    nodes = replicate (length (l .nodes)) (replicate 4 0);
+    freed = replicate (length (l .freed)) 0;
+    buckets = replicate (length (l .buckets)) 0;
+    pending = replicate (length (l .pending)) 0;
+    answers = rowFrom (length (l .answers)) (answersAfter (stepsOf l) (s .answered) n (rowOf (l .answers)));
+  }
+
+  run-is : runOf l ≡ R
+  unfolding runOf outcomeOf
+  run-is = rw e refl
+
+  cleared : Cleared l R
+  unfolding halvesFrom positionsFrom
+  cleared = record {
+    nodes = refl;
+    freed = refl;
+    buckets = refl;
+    pending = refl;
+    links = subst⁻¹ (Untouched (m .counts) L) links-back (finish-keeps .untouched);
+    places = λ u k. ap (λ (P : ℕ → Point). P u) places-back ∙ run-keeps .past u (let c = finish-keeps .vertices in omega arith);
+    answers = answer-past (stepsOf l) (s .answered) n (l .answers) answers-room;
+    positions-length = length-from (length (l .positions)) _;
+    outs-length = length-from (length (l .outs)) _;
+    halves-length = length-from (length (l .halves)) _;
+    faces-length = length-from (length (l .faces)) _;
+    answers-length = length-from (length (l .answers)) _;
+  }
+
+  seed-places : (u : ℕ) → u < l .counts .vertices → positionOf (positionsFrom (length (l .positions)) (s .positions)) u ≡ p u
+  seed-places u k = ap (λ (P : ℕ → Point). P u) places-back ∙ run-keeps .places u k
+
+  good-after : Good (m .counts) (linksAfter R) (placesAfter R)
+  good-after = subst⁻¹ (λ (K : Links). Good (m .counts) K (placesAfter R)) links-back (subst⁻¹ (Good (m .counts) (m .links)) places-back (finish-keeps .good))
+
+  -- ---- 9
+  full : Full l R (s .answered)
+  full = record {
+    within = run-keeps .answered-most;
+    earlier = λ i k a c. answer-at (stepsOf l) (s .answered) n (l .answers) answers-room i k a (let b = run-keeps .answered-most in omega arith) c;
+    later = answer-none (stepsOf l) (s .answered) n (l .answers) answers-room;
+    good = good-after;
+    area = area-theorem (good-after .wf) (placesAfter R);
+    seed = seed-places;
+  }
+
+  -- ---- no flip was refused
+  module _ (f : m .full ≡ false) where
+    steps-made : s .full ≡ false
+    steps-made = go (s .full) refl
+      where
+        go : (b : Bool) → s .full ≡ b → s .full ≡ false
+        go true z = absurd (false≢true (sym f ∙ ap (λ (x : Finishing). x .full) (refused-is z)))
+        go false z = z
+
+    abbrev room : ℕ
+    room = length (l .pending)
+
+    G : Good (s .counts) (s .links) (s .positions)
+    G = run-keeps .good
+
+    made : m ≡ finishMesh room (s .counts) (s .positions) (s .links)
+    made = finished-is steps-made
+
+    full-not : finishMesh room (s .counts) (s .positions) (s .links) .full ≡ false
+    full-not = ap (λ (x : Finishing). x .full) (sym made) ∙ f
+
+    -- the answer of point i
+    word : (i k : ℕ) → i < n → k < 5 → rowOf (R .answers) (5 * i + k) ≡ answerWord (stepsOf l i) k
+    word i k a c = answer-at (stepsOf l) (s .answered) n (l .answers) answers-room i k (let z = run-keeps .answered steps-made in omega arith) a c
+
+    fate-is : (i : ℕ) → i < n → fateOf R i ≡ fateNumber (stepsOf l i .fate)
+    unfolding answerWord
+    fate-is i a = let z : 5 * i ≡ 5 * i + 0 = omega arith in ap (rowOf (R .answers)) z ∙ word i 0 a (omega arith)
+
+    vertex-is : (i : ℕ) → i < n → vertexOf R i ≡ fateVertex (stepsOf l i .fate)
+    unfolding answerWord
+    vertex-is i a = word i 1 a (omega arith)
+
+    count-is : (k : ℕ) → k ≤ n → count k (λ i. isAdded (stepsOf l i .fate)) ≡ addedBefore R k
+    count-is k a = count-ext k (λ i. isAdded (stepsOf l i .fate)) (λ i. eqb (fateOf R i) 1)
+        (λ i b. sym (ap (λ (x : ℕ). eqb x 1) (fate-is i (omega arith)) ∙ number-added (stepsOf l i .fate)))
+
+    added-is : (i : ℕ) → i < n → fateOf R i ≡ 1 → (fateVertex (stepsOf l i .fate) ≡ l .counts .vertices + count i (λ j. isAdded (stepsOf l j .fate))) × (s .positions (fateVertex (stepsOf l i .fate)) ≡ positionOf (l .points) i)
+    added-is i a z = run-keeps .added steps-made i (fateVertex (stepsOf l i .fate)) a (vertex-added (stepsOf l i .fate) (sym (fate-is i a) ∙ z))
+
+    demand-3 : (t : Totals) → flipCountOf (t .closingflips) ≡ m .closingflips → Demand3 l R t
+    unfolding finishMesh
+    demand-3 t c = record {
+      seed = seed-places;
+      place = λ i a z. ap₂ (λ (P : ℕ → Point) (u : ℕ). P u) places-back (vertex-is i a) ∙ added-is i a z .1;
+      vertex = λ i a z. vertex-is i a ∙ added-is i a z .0 ∙ ap (λ (k : ℕ). l .counts .vertices + k) (count-is i (omega arith));
+      number = finish-keeps .vertices ∙ run-keeps .number steps-made ∙ ap (λ (k : ℕ). l .counts .vertices + k) (count-is n (omega arith));
+      rules = good-after .wf;
+      turning = good-after .turning;
+      area = area-theorem (good-after .wf) (placesAfter R);
+      corners = there (λ C K P k. NoLeftCorner C K P) (finish-convex room (s .counts) (s .positions) (s .links) G full-not);
+      circles = settled-far good-after (there (λ C K P k. Settled C K P) (finish-settled room (s .counts) (s .positions) (s .links) G full-not));
+      closing = there (λ C K P k. _≡_ {A = Closing} (record { links = K; flips = k }) (closingPass C P (passed l))) (finish-closing room (s .counts) (s .positions) (s .links) G full-not);
+      flips = there (λ C K P k. FlipRun C P (passed l) K k) (finish-flips room (s .counts) (s .positions) (s .links) G);
+      fall = there (λ C K P k. pos k ≤ℤ (heightSum C (passed l) P -ℤ heightSum C K P))
+          (fall-by _ _ _ (heights-nonneg (convexity-good room (s .counts) (s .positions) (s .links) G .turning)) (heights-nonneg (finish-good room (s .counts) (s .positions) (s .links) G .turning))
+          (finish-falls room (s .counts) (s .positions) (s .links) G));
+    }
+      where
+        -- a fact of the finished mesh and of its closing flips is one of the rows and of the answer
+        there : (F : Counts → Links → (ℕ → Point) → ℕ → Type 0)
+            → (let z = finishMesh room (s .counts) (s .positions) (s .links) in F (z .counts) (z .links) (s .positions) (z .closingflips))
+            → F (m .counts) (linksAfter R) (placesAfter R) (flipCountOf (t .closingflips))
+        there F x =
+            subst⁻¹ (F (m .counts) (linksAfter R) (placesAfter R)) c
+            (subst⁻¹ (λ (K : Links). F (m .counts) K (placesAfter R) (m .closingflips)) links-back
+            (subst⁻¹ (λ (P : ℕ → Point). F (m .counts) (m .links) P (m .closingflips)) places-back
+            (subst⁻¹ (λ (z : Finishing). F (z .counts) (z .links) (s .positions) (z .closingflips)) made x)))
+
+-- ---- by what is answered
+module _ (l : Lent) where
+  abbrev totals : Totals
+  totals = record { faces = finishOf l .faces; convexflips = flipCountFrom (finishOf l .convexflips); closingflips = flipCountFrom (finishOf l .closingflips) }
+
+  -- DEMAND 3, with no hypothesis beyond acceptance
+  pub run-accepted : (t : Totals) → runOf l .answer .finished ≡ Finished.Accepted t → Demand3 l (runOf l) t × Cleared l (runOf l)
+  unfolding runOf outcomeOf finishedFrom
+  run-accepted t z = by (runChecked l) refl
+    where
+      at : (e : runChecked l ≡ Checked.Accepted) (b : Bool) → finishOf l .full ≡ b → Demand3 l (runOf l) t × Cleared l (runOf l)
+      at e true f =
+          let x : Finished.Refused (record { number = 9; place = sweepOf l (pointCount (l .points)) .answered }) ≡ Finished.Accepted t = sym (rw (run-is l e, f) refl) ∙ z in
+          absurd (let w : _≡_ {A = ℕ} 0 1 = cc in omega arith)
+      at e false f =
+          let x : Finished.Accepted totals ≡ Finished.Accepted t = sym (rw (run-is l e, f) refl) ∙ z in
+          let y : totals ≡ t = cc in
+          subst⁻¹ (λ (r : Outcome). Demand3 l r t × Cleared l r) (run-is l e)
+          (demand-3 l e f t (ap (λ (u : Totals). flipCountOf (u .closingflips)) (sym y) ∙ count-of (finishOf l .closingflips)), cleared l e)
+
+      by : (c : Checked) → runChecked l ≡ c → Demand3 l (runOf l) t × Cleared l (runOf l)
+      by Checked.Accepted e = at e (finishOf l .full) refl
+      by (Checked.Refused x) e =
+          let y : Finished.Refused x ≡ Finished.Accepted t = rw e at z in
+          absurd (let w : _≡_ {A = ℕ} 0 1 = cc in omega arith)
+
+  -- a refusal: of the checks, and nothing has changed; or 9
+  pub run-refused : (x : Refusal) → runOf l .answer .finished ≡ Finished.Refused x
+      → (Unchanged l (runOf l) × (runChecked l ≡ Checked.Refused x)) ⊎ ((x .number ≡ 9) × Full l (runOf l) (x .place) × Cleared l (runOf l))
+  unfolding runOf outcomeOf finishedFrom
+  run-refused x z = by (runChecked l) refl
+    where
+      Wanted : Type 0
+      Wanted = (Unchanged l (runOf l) × (runChecked l ≡ Checked.Refused x)) ⊎ ((x .number ≡ 9) × Full l (runOf l) (x .place) × Cleared l (runOf l))
+
+      at : (e : runChecked l ≡ Checked.Accepted) (b : Bool) → finishOf l .full ≡ b → Wanted
+      at e true f =
+          let y : Finished.Refused (record { number = 9; place = sweepOf l (pointCount (l .points)) .answered }) ≡ Finished.Refused x = sym (rw (run-is l e, f) refl) ∙ z in
+          let w : record { number = 9; place = sweepOf l (pointCount (l .points)) .answered } ≡ x = cc in
+          inr (ap (λ (r : Refusal). r .number) (sym w), subst⁻¹ (λ (r : Outcome). Full l r (x .place)) (run-is l e) (subst (Full l (R l e)) (ap (λ (r : Refusal). r .place) w) (full l e)),
+              subst⁻¹ (Cleared l) (run-is l e) (cleared l e))
+      at e false f =
+          let y : Finished.Accepted totals ≡ Finished.Refused x = sym (rw (run-is l e, f) refl) ∙ z in
+          absurd (let w : _≡_ {A = ℕ} 0 1 = cc in omega arith)
+
+      by : (c : Checked) → runChecked l ≡ c → Wanted
+      by Checked.Accepted e = at e (finishOf l .full) refl
+      by (Checked.Refused y) e =
+          let u : Finished.Refused y ≡ Finished.Refused x = rw e at z in
+          let w : y ≡ x = cc in
+          inl (rw e (record { counts = refl; positions = refl; outs = refl; halves = refl; faces = refl; nodes = refl; freed = refl; buckets = refl; pending = refl; answers = refl }),
+              e ∙ ap Checked.Refused w)
