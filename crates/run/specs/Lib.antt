@@ -3,3 +3,4 @@ pub mod Run
 pub mod SweepLaws
 pub mod Demand3
 pub mod RunLaws
+pub mod RunRows

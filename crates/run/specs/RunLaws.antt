@@ -398,8 +398,11 @@ module _ (l : Lent) where
       at e true f =
           let y : Finished.Refused (record { number = 9; place = sweepOf l (pointCount (l .points)) .answered }) ≡ Finished.Refused x = sym (rw (run-is l e, f) refl) ∙ z in
           let w : record { number = 9; place = sweepOf l (pointCount (l .points)) .answered } ≡ x = cc in
-          inr (ap (λ (r : Refusal). r .number) (sym w), subst⁻¹ (λ (r : Outcome). Full l r (x .place)) (run-is l e) (subst (Full l (R l e)) (ap (λ (r : Refusal). r .place) w) (full l e)),
-              subst⁻¹ (Cleared l) (run-is l e) (cleared l e))
+          inr (
+            ap (λ (r : Refusal). r .number) (sym w),
+            subst⁻¹ (λ (r : Outcome). Full l r (x .place)) (run-is l e) (subst (Full l (R l e)) (ap (λ (r : Refusal). r .place) w) (full l e)),
+            subst⁻¹ (Cleared l) (run-is l e) (cleared l e),
+          )
       at e false f =
           let y : Finished.Accepted totals ≡ Finished.Refused x = sym (rw (run-is l e, f) refl) ∙ z in
           absurd (let w : _≡_ {A = ℕ} 0 1 = cc in omega arith)
@@ -409,5 +412,7 @@ module _ (l : Lent) where
       by (Checked.Refused y) e =
           let u : Finished.Refused y ≡ Finished.Refused x = rw e at z in
           let w : y ≡ x = cc in
-          inl (rw e (record { counts = refl; positions = refl; outs = refl; halves = refl; faces = refl; nodes = refl; freed = refl; buckets = refl; pending = refl; answers = refl }),
-              e ∙ ap Checked.Refused w)
+          inl (
+            rw e (record { counts = refl; positions = refl; outs = refl; halves = refl; faces = refl; nodes = refl; freed = refl; buckets = refl; pending = refl; answers = refl }),
+            e ∙ ap Checked.Refused w,
+          )

@@ -31,14 +31,14 @@ is-added-added v = refl
 
 -- ---- one point
 -- how a step that is made changes the state
-sweep-point : (room : ℕ) (cx cy : Float) (s : Sweeping) (v : Point) → s .full ≡ false
+pub sweep-point : (room : ℕ) (cx cy : Float) (s : Sweeping) (v : Point) → s .full ≡ false
     → (let t = stepOn room cx cy s v in
     sweepPoint room cx cy s v
     ≡ record { counts = t .mesh .counts; links = t .mesh .links; positions = t .positions; answered = cond (t .mesh .full) (s .answered) (suc (s .answered)); full = t .mesh .full })
 unfolding sweepPoint
 sweep-point room cx cy s v f = rw f refl
 
-sweep-stays : (room : ℕ) (cx cy : Float) (s : Sweeping) (v : Point) → s .full ≡ true → sweepPoint room cx cy s v ≡ s
+pub sweep-stays : (room : ℕ) (cx cy : Float) (s : Sweeping) (v : Point) → s .full ≡ true → sweepPoint room cx cy s v ≡ s
 unfolding sweepPoint
 sweep-stays room cx cy s v f = rw f refl
 

@@ -1,1 +1,188 @@
-// The call `run`.
+// The call `run`: the seed's ring, all steps in list order, the finish, on lent rows. What it answers and leaves is `runOf` of specs/Run.antt for every input; what that means for the mesh is demand 3,
+// specs/Demand3.antt, which is the second clause of the call's contract.
+ghost use mathlib.Core.Path.{_≡_};
+ghost use mathlib.Core.List.{List};
+ghost use Prim.Native.Nat.{ℕ, _+_, _*_, _≤_};
+ghost use lib.Dec.{ltb};
+ghost use lib.ListN.{length};
+ghost use Rattle.dcel.specs.Rows.{rowOf};
+ghost use Rattle.decide.specs.Decide.{fateNumber, fateVertex};
+ghost use Rattle.finish.specs.declared.Finished.{Finished};
+ghost use Rattle.finish.specs.declared.Totals.{Totals};
+ghost use Rattle.finish.specs.FinishRows.{finishingOf};
+ghost use Rattle.mesh_check.specs.Check.{pointCount};
+ghost use Rattle.run.specs.Run.{Outcome, Lent, finishAfter, runOf};
+ghost use Rattle.run.specs.Demand3.{Demand3};
+ghost use Rattle.run.specs.RunRows.{withAnswer, Zeroed, sweepingOf, SweepReady, SweepLeaves, FinishReady};
+use angle::Point2;
+use decide::Fate;
+use finish::Ended;
+use finish::FinishAnswer;
+use finish::Finished;
+use finish::Totals;
+use flip_count::FlipCount;
+use mesh::Counts;
+use mesh_check::Checked;
+use ring_rows::Hull;
+use step::Answer;
+
+// Where the steps have come to: the mesh's counts, how many points have been answered, and whether a flip's pushes would have overfilled the pending list.
+pub struct SweepEnd {
+    pub counts: Counts,
+    pub answered: u32,
+    pub full: bool,
+}
+
+// 01's number of a fate.
+pub fn fate_number(fate: Fate) -> u64
+    ensures { λ r. ⌜ r ≡ fateNumber fate ⌝ }
+{
+    match fate {
+        Fate::Added(_) => 1,
+        Fate::Dropped => 2,
+        Fate::NotLeft => 3,
+        Fate::Unsound => 4,
+        Fate::AtCenter => 5,
+    }
+}
+
+// The new vertex; 0 unless the fate is 1.
+pub fn fate_vertex(fate: Fate) -> u64
+    ensures { λ r. ⌜ r ≡ fateVertex fate ⌝ }
+{
+    match fate {
+        Fate::Added(v) => v as u64,
+        Fate::Dropped => 0,
+        Fate::NotLeft => 0,
+        Fate::Unsound => 0,
+        Fate::AtCenter => 0,
+    }
+}
+
+// The answer of point i, in five words.
+fn store_answer(answers: &mut [u64], i: u32, answer: Answer)
+    requires { ⌜ 5 * i + 5 ≤ length (now answers) ⌝ }
+    ensures { λ r. ⌜ rowOf (now (answers .exit)) ≡ withAnswer (rowOf (now (answers .entry))) i answer ⌝ }
+{
+    let at = 5 * (i as usize);
+    let fate = answer.fate;
+    answers[at] = fate_number(fate);
+    answers[at + 1] = fate_vertex(fate);
+    answers[at + 2] = answer.faces as u64;
+    answers[at + 3] = answer.flips.high;
+    answers[at + 4] = answer.flips.low;
+}
+
+// Zeros for the points from `from` up to `to`.
+fn zero_answers(answers: &mut [u64], from: u32, to: u32)
+    requires { ⌜ (from ≤ to) × (5 * to ≤ length (now answers)) ⌝ }
+    ensures { λ r. ⌜ Zeroed (now (answers .entry)) (now (answers .exit)) (5 * from) (5 * to) ⌝ }
+{
+    let end = 5 * (to as usize);
+    let mut x = 5 * (from as usize);
+    while x < end {
+        answers[x] = 0;
+        x += 1;
+    }
+}
+
+// 2, of the answers row: it has five words for each point.
+fn answers_short(answers: usize, points: &[i32]) -> bool
+    ensures { λ r. ⌜ r ≡ ltb answers (5 * pointCount (now (points .entry))) ⌝ }
+{
+    answers / 5 < mesh_check::point_count(points)
+}
+
+// All steps, in list order, until a flip is refused.
+fn sweep(
+    positions: &mut [i32],
+    outs: &mut [u32],
+    halves: &mut [u32],
+    faces: &mut [u32],
+    pending: &mut [u32],
+    nodes: &mut [[u64; 4]],
+    freed: &mut [u32],
+    buckets: &mut [u32],
+    answers: &mut [u64],
+    counts: Counts,
+    hull: Hull,
+    center: Point2,
+    points: &[i32],
+    count: u32,
+) -> SweepEnd
+    requires { ⌜ SweepReady counts (now positions) (now outs) (now halves) (now faces) (now pending)
+        (now nodes) (now freed) (now buckets) (now answers) hull (center .x) (center .y) (now points) count ⌝ }
+    ensures { λ r. ⌜ SweepLeaves counts (now (positions .entry)) (now (outs .entry)) (now (halves .entry)) (now (faces .entry))
+        (now (pending .entry)) (now (answers .entry)) (center .x) (center .y) (now (points .entry)) count
+        (now (positions .exit)) (now (outs .exit)) (now (halves .exit)) (now (faces .exit)) (now (answers .exit)) r ⌝ }
+{
+    let mut now = counts;
+    let mut ring = hull;
+    let mut i: u32 = 0;
+    while i < count {
+        let point = dcel::position(points, i);
+        let done = step::single_bulk_insertion_step(
+            positions,
+            outs,
+            halves,
+            faces,
+            pending,
+            nodes,
+            freed,
+            buckets,
+            now,
+            ring,
+            center,
+            point,
+        );
+        let after = done.counts;
+        if done.full {
+            return SweepEnd {
+                counts: after,
+                answered: i,
+                full: true,
+            };
+        }
+        let answer = done.answer;
+        store_answer(answers, i, answer);
+        let next = done.hull;
+        now = after;
+        ring = next;
+        i += 1;
+    }
+    SweepEnd {
+        counts: now,
+        answered: i,
+        full: false,
+    }
+}
+
+// The finish of the mesh that the steps left; none after a refused flip.
+fn finish_after(
+    positions: &[i32],
+    outs: &mut [u32],
+    halves: &mut [u32],
+    faces: &mut [u32],
+    pending: &mut [u32],
+    end: SweepEnd,
+) -> Ended
+    requires { ⌜ FinishReady (now positions) (now outs) (now halves) (now faces) (now pending) end ⌝ }
+    ensures { λ r. ⌜ finishingOf (now (outs .exit)) (now (halves .exit)) (now (faces .exit)) r
+        ≡ finishAfter (length (now (pending .entry)))
+        (sweepingOf (now (positions .entry)) (now (outs .entry)) (now (halves .entry)) (now (faces .entry)) end) ⌝ }
+{
+    let counts = end.counts;
+    if end.full {
+        let none = FlipCount::zero();
+        return Ended {
+            counts: counts,
+            totals: Totals {
+                faces: 0,
+                convexflips: none,
+                closingflips: none,
+            },
+            full: true,
+        };
+    }
+    finish::finish_mesh(positions, outs, halves, faces, pending, counts)
+}

@@ -1,0 +1,24 @@
+-- The finish after the steps, by whether a flip was refused. Assumes nothing.
+use mathlib.Core.Bool.{true, false}
+use mathlib.Core.List.{List}
+use mathlib.Core.Path.{_≡_, refl, sym}
+use Prim.Native.Nat.{ℕ}
+use lib.IntN.{ℤ}
+use Rattle.dcel.specs.Rows.{linksOf, positionOf}
+use Rattle.finish.specs.Finish.{finishMesh}
+use Rattle.finish.specs.FinishRows.{finishingOf}
+use Rattle.flip_count.specs.declared.FlipCount.{FlipCount}
+use Rattle.flip_count.specs.FlipCount.{flipCountOf}
+use Rattle.run.specs.declared.SweepEnd.{SweepEnd}
+use Rattle.run.specs.Run.{finishAfter}
+use Rattle.run.specs.RunRows.{sweepingOf}
+
+module _ (e : SweepEnd) (q : List ℤ) (o h a : List ℕ) (room : ℕ) where
+  pub refused-before : e .full ≡ true → (z : FlipCount) → flipCountOf z ≡ 0
+      → finishingOf o h a (record { counts = e .counts; totals = record { faces = 0; convexflips = z; closingflips = z }; full = true }) ≡ finishAfter room (sweepingOf q o h a e)
+  unfolding finishAfter sweepingOf finishingOf
+  refused-before f z n = rw (f, n) refl
+
+  pub finished-after : e .full ≡ false → finishMesh room (e .counts) (positionOf q) (linksOf o h a) ≡ finishAfter room (sweepingOf q o h a e)
+  unfolding finishAfter sweepingOf
+  finished-after f = rw f refl

@@ -1,0 +1,3 @@
+pub mod AnswerRows
+pub mod SweepLoop
+pub mod FinishRows

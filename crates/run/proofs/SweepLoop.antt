@@ -1,0 +1,264 @@
+-- The loop over the points: after i of them the rows hold the mesh and the ring of the definition's sweep, and the answers of those i. Assumes nothing.
+use mathlib.Core.Bool.{Bool, true, false, cond, _&&_}
+use mathlib.Core.List.{List}
+use mathlib.Core.Logic.{_≢_}
+use mathlib.Core.Path.{_≡_, refl, sym, _∙_, ap, ap₂, subst}
+use Prim.Native.Nat.{ℕ, zero, suc, _+_, _-_, _*_, _/_, _%_, _^_, _<_, _≤_}
+use native.Mathlib.Nat.{add-suc, add-zero}
+use native.Mathlib.Numerals.{add-one}
+use native.Mathlib.Decide.{ℕ-discrete, decLt}
+use native.Mathlib.Omega.{arith}
+use borrow.Author.Tests.{lt-ltb, le-ltb, le-leb, lt-leb}
+use lib.Dec.{ltb, leb}
+use lib.Ieee.{Float}
+use lib.IntN.{ℤ}
+use lib.ListN.{length}
+use Rattle.dcel.specs.Rows.{linksOf, positionOf, rowOf}
+use Rattle.decide.specs.Decide.{fateNumber, fateVertex}
+use Rattle.decide.specs.Sweep.{Sweep}
+use Rattle.decide.specs.SweepLaws.{sweep-sound}
+use Rattle.flip_count.specs.declared.FlipCount.{FlipCount}
+use Rattle.flip_count.specs.FlipCount.{flipCountOf, flipCountFrom}
+use Rattle.flip_count.specs.CountLaws.{count-from}
+use Rattle.math.specs.declared.Point.{Point}
+use Rattle.mesh.specs.declared.Counts.{Counts}
+use Rattle.mesh.specs.Mesh.{Links}
+use Rattle.ring_rows.specs.declared.Hull.{Hull}
+use Rattle.step.specs.declared.Answer.{Answer}
+use Rattle.step.specs.declared.Progress.{Progress}
+use Rattle.step.specs.Step.{Stepping, stepMesh}
+use Rattle.step.specs.StepMesh.{Swept}
+use Rattle.step.specs.StepRows.{steppingOf, StepRoom, StepReady, StepLeaves}
+use Rattle.sums.specs.Put.{put, put-same, put-other}
+use Rattle.run.specs.declared.SweepEnd.{SweepEnd}
+use Rattle.run.specs.Run.{Sweeping, sweepPoint, sweepAfter, stepAt, answerWord}
+use Rattle.run.specs.SweepLaws.{sweep-point, sweep-stays, sweep-keeps}
+use Rattle.run.specs.RunRows.{withAnswer, sweepingOf, SweepRoom, SweepReady, SweepLeaves}
+
+-- ---- the words of one answer
+module _ (row : ℕ → ℕ) (i : ℕ) (r : Answer) (s : Stepping) (fate : s .fate ≡ r .fate) (faces : s .mesh .faces ≡ r .faces) (flips : s .mesh .flips ≡ flipCountOf (r .flips)) (low : r .flips .low < 2 ^ 64) where
+  abbrev w : ℕ → ℕ
+  w = withAnswer row i r
+
+  -- elsewhere nothing has changed
+  words-other : (x : ℕ) → (x ≢ 5 * i) × (x ≢ 5 * i + 1) × (x ≢ 5 * i + 2) × (x ≢ 5 * i + 3) × (x ≢ 5 * i + 4) → w x ≡ row x
+  unfolding withAnswer
+  words-other x d =
+      put-other _ (5 * i + 4) (r .flips .low) x (d .4) ∙ put-other _ (5 * i + 3) (r .flips .high) x (d .3) ∙ put-other _ (5 * i + 2) (r .faces) x (d .2)
+      ∙ put-other _ (5 * i + 1) (fateVertex (r .fate)) x (d .1) ∙ put-other row (5 * i) (fateNumber (r .fate)) x (d .0)
+
+  halves : (s .mesh .flips / 2 ^ 64 ≡ r .flips .high) × (s .mesh .flips % 2 ^ 64 ≡ r .flips .low)
+  unfolding flipCountFrom
+  halves =
+      let c = count-from (r .flips) low in
+      (ap (λ (n : ℕ). n / 2 ^ 64) flips ∙ sym (ap (λ (k : FlipCount). k .high) c), ap (λ (n : ℕ). n % 2 ^ 64) flips ∙ sym (ap (λ (k : FlipCount). k .low) c))
+
+  word-0 : w (5 * i) ≡ answerWord s 0
+  unfolding withAnswer answerWord
+  word-0 =
+      put-other _ (5 * i + 4) (r .flips .low) (5 * i) (λ z. omega arith) ∙ put-other _ (5 * i + 3) (r .flips .high) (5 * i) (λ z. omega arith)
+      ∙ put-other _ (5 * i + 2) (r .faces) (5 * i) (λ z. omega arith) ∙ put-other _ (5 * i + 1) (fateVertex (r .fate)) (5 * i) (λ z. omega arith)
+      ∙ put-same row (5 * i) (fateNumber (r .fate)) ∙ ap fateNumber (sym fate)
+
+  word-1 : w (5 * i + 1) ≡ answerWord s 1
+  unfolding withAnswer answerWord
+  word-1 =
+      put-other _ (5 * i + 4) (r .flips .low) (5 * i + 1) (λ z. omega arith) ∙ put-other _ (5 * i + 3) (r .flips .high) (5 * i + 1) (λ z. omega arith)
+      ∙ put-other _ (5 * i + 2) (r .faces) (5 * i + 1) (λ z. omega arith) ∙ put-same _ (5 * i + 1) (fateVertex (r .fate)) ∙ ap fateVertex (sym fate)
+
+  word-2 : w (5 * i + 2) ≡ answerWord s 2
+  unfolding withAnswer answerWord
+  word-2 =
+      put-other _ (5 * i + 4) (r .flips .low) (5 * i + 2) (λ z. omega arith) ∙ put-other _ (5 * i + 3) (r .flips .high) (5 * i + 2) (λ z. omega arith)
+      ∙ put-same _ (5 * i + 2) (r .faces) ∙ sym faces
+
+  word-3 : w (5 * i + 3) ≡ answerWord s 3
+  unfolding withAnswer answerWord
+  word-3 = put-other _ (5 * i + 4) (r .flips .low) (5 * i + 3) (λ z. omega arith) ∙ put-same _ (5 * i + 3) (r .flips .high) ∙ sym (halves .0)
+
+  word-4 : w (5 * i + 4) ≡ answerWord s 4
+  unfolding withAnswer answerWord
+  word-4 = put-same _ (5 * i + 4) (r .flips .low) ∙ sym (halves .1)
+
+  -- each of the five
+  words-at : (k : ℕ) → k < 5 → w (5 * i + k) ≡ answerWord s k
+  words-at zero l = ap w (add-zero (5 * i)) ∙ word-0
+  words-at (suc zero) l = word-1
+  words-at (suc (suc zero)) l = word-2
+  words-at (suc (suc (suc zero))) l = word-3
+  words-at (suc (suc (suc (suc zero)))) l = word-4
+  words-at (suc (suc (suc (suc (suc k))))) l = absurd (omega arith)
+
+  -- the row with the answers of i points has that of point i too
+  words-more : (old : ℕ → ℕ) (step : ℕ → Stepping) → step i ≡ s → ((x : ℕ) → row x ≡ cond (ltb x (5 * i)) (answerWord (step (x / 5)) (x % 5)) (old x))
+      → (x : ℕ) → w x ≡ cond (ltb x (5 * (i + 1))) (answerWord (step (x / 5)) (x % 5)) (old x)
+  words-more old step e h x = go (decLt x (5 * i)) (decLt x (5 * (i + 1)))
+    where
+      go : Dec (x < 5 * i) → Dec (x < 5 * (i + 1)) → w x ≡ cond (ltb x (5 * (i + 1))) (answerWord (step (x / 5)) (x % 5)) (old x)
+      go (yes a) b =
+          words-other x ((λ z. omega arith), (λ z. omega arith), (λ z. omega arith), (λ z. omega arith), (λ z. omega arith)) ∙ h x
+          ∙ rw (lt-ltb x (5 * i) a, lt-ltb x (5 * (i + 1)) (omega arith)) refl
+      go (no a) (yes b) =
+          let k : 5 * i + x % 5 ≡ x = omega arith in
+          let d : x / 5 ≡ i = omega arith in
+          ap w (sym k) ∙ words-at (x % 5) (omega arith) ∙ rw (lt-ltb x (5 * (i + 1)) b, d, e) refl
+      go (no a) (no b) =
+          words-other x ((λ z. omega arith), (λ z. omega arith), (λ z. omega arith), (λ z. omega arith), (λ z. omega arith)) ∙ h x
+          ∙ rw (le-ltb x (5 * i) (omega arith), le-ltb x (5 * (i + 1)) (omega arith)) refl
+
+-- ---- one more point of the definition
+module _ (room : ℕ) (cx cy : Float) (C : Counts) (L : Links) (p point : ℕ → Point) where
+  abbrev after : ℕ → Sweeping
+  after n = sweepAfter room cx cy C L p point n
+
+  abbrev steps : ℕ → Stepping
+  steps i = stepAt room cx cy C L p point i
+
+  after-next : (n : ℕ) → after n .full ≡ false
+      → after (suc n) ≡ record { counts = steps n .mesh .counts; links = steps n .mesh .links; positions = steps n .positions;
+      answered = cond (steps n .mesh .full) (after n .answered) (suc (after n .answered)); full = steps n .mesh .full }
+  unfolding sweepAfter
+  after-next n f = sweep-point room cx cy (after n) (point n) f
+
+  after-stays : (n : ℕ) → after n .full ≡ true → after (suc n) ≡ after n
+  unfolding sweepAfter
+  after-stays n f = sweep-stays room cx cy (after n) (point n) f
+
+  -- after a refused flip nothing follows
+  frozen : (n k : ℕ) → after n .full ≡ true → after (n + k) ≡ after n
+  frozen n zero f = ap after (add-zero n)
+  frozen n (suc k) f = let r = frozen n k f in ap after (add-suc n k) ∙ after-stays (n + k) (ap (λ (s : Sweeping). s .full) r ∙ f) ∙ r
+
+-- ---- the rows keep their lengths
+pub record SameRows (q : List ℤ) (o h a row : List ℕ) (n : List (List ℕ)) (f b w : List ℕ)
+    (q′ : List ℤ) (o′ h′ a′ row′ : List ℕ) (n′ : List (List ℕ)) (f′ b′ w′ : List ℕ) : Type 0 where
+  pub positions : length q′ ≡ length q
+  pub outs : length o′ ≡ length o
+  pub halves : length h′ ≡ length h
+  pub faces : length a′ ≡ length a
+  pub pending : length row′ ≡ length row
+  pub nodes : length n′ ≡ length n
+  pub freed : length f′ ≡ length f
+  pub buckets : length b′ ≡ length b
+  pub answers : length w′ ≡ length w
+
+-- ---- the loop
+pub record SweepingAt (q₀ : List ℤ) (o₀ h₀ a₀ row₀ : List ℕ) (nodes₀ : List (List ℕ)) (freed₀ buckets₀ answers₀ : List ℕ) (cx cy : Float) (points : List ℤ) (count : ℕ) (C₀ : Counts) (hull₀ : Hull)
+    (q : List ℤ) (o h a row : List ℕ) (nodes : List (List ℕ)) (freed buckets answers : List ℕ) (C : Counts) (hull : Hull) (i : ℕ) : Type 0 where
+  pub ready : SweepReady C₀ q₀ o₀ h₀ a₀ row₀ nodes₀ freed₀ buckets₀ answers₀ hull₀ cx cy points count
+  pub lengths : SameRows q₀ o₀ h₀ a₀ row₀ nodes₀ freed₀ buckets₀ answers₀ q o h a row nodes freed buckets answers
+  pub at : sweepAfter (length row₀) cx cy C₀ (linksOf o₀ h₀ a₀) (positionOf q₀) (positionOf points) i
+      ≡ record { counts = C; links = linksOf o h a; positions = positionOf q; answered = i; full = false }
+  pub sweep : Sweep C q o h a nodes freed buckets hull cx cy
+  pub vertices : C .vertices ≤ C₀ .vertices + i
+  pub nodes-most : hull .nodes ≤ suc (C₀ .vertices + count)
+  pub answers-are : (x : ℕ) → rowOf answers x
+      ≡ cond (ltb x (5 * i)) (answerWord (stepAt (length row₀) cx cy C₀ (linksOf o₀ h₀ a₀) (positionOf q₀) (positionOf points) (x / 5)) (x % 5)) (rowOf answers₀ x)
+  pub most : i ≤ count
+
+pub sweeping-starts : {q : List ℤ} {o h a row : List ℕ} {nodes : List (List ℕ)} {freed buckets answers : List ℕ} {cx cy : Float} {points : List ℤ} {count : ℕ} {C : Counts} {hull : Hull}
+    → SweepReady C q o h a row nodes freed buckets answers hull cx cy points count
+    → SweepingAt q o h a row nodes freed buckets answers cx cy points count C hull q o h a row nodes freed buckets answers C hull 0
+unfolding sweepAfter
+sweeping-starts R = record {
+  ready = R;
+  lengths = record { positions = refl; outs = refl; halves = refl; faces = refl; pending = refl; nodes = refl; freed = refl; buckets = refl; answers = refl };
+  at = refl;
+  sweep = R .sweep;
+  vertices = omega arith;
+  nodes-most = R .room .nodes-most;
+  answers-are = λ x. sym (rw (le-ltb x 0 (omega arith)) refl);
+  most = omega arith;
+}
+
+module _ {q₀ : List ℤ} {o₀ h₀ a₀ row₀ : List ℕ} {nodes₀ : List (List ℕ)} {freed₀ buckets₀ answers₀ : List ℕ} {cx cy : Float} {points : List ℤ} {count : ℕ} {C₀ : Counts} {hull₀ : Hull}
+    {q : List ℤ} {o h a row : List ℕ} {nodes : List (List ℕ)} {freed buckets answers : List ℕ} {C : Counts} {hull : Hull} {i : ℕ}
+    (I : SweepingAt q₀ o₀ h₀ a₀ row₀ nodes₀ freed₀ buckets₀ answers₀ cx cy points count C₀ hull₀ q o h a row nodes freed buckets answers C hull i) where
+  abbrev L₀ : Links
+  L₀ = linksOf o₀ h₀ a₀
+
+  abbrev p₀ : ℕ → Point
+  p₀ = positionOf q₀
+
+  abbrev point : ℕ → Point
+  point = positionOf points
+
+  -- the seed
+  swept₀ : Swept cx cy C₀ L₀ p₀
+  swept₀ = record { good = I .ready .sweep .mesh .good; center = I .ready .sweep .center; sound = sweep-sound (I .ready .sweep) }
+
+  module _ (l : i < count) where
+    pub sweeping-point : 2 * i + 1 < length points
+    sweeping-point = let k = I .ready .pairs in omega arith
+
+    room : StepRoom (C₀ .vertices + count) C q o h a row nodes freed buckets hull
+    room =
+        let R = I .ready .room in let K = I .lengths in
+        record {
+          more = let v = I .vertices in omega arith;
+          most = R .most;
+          positions = let x = R .positions in let y = K .positions in omega arith;
+          outs = let x = R .outs in let y = K .outs in omega arith;
+          sized = let x = R .sized in let y = K .halves in let z = K .faces in let w = K .pending in record { halves = omega arith; faces = omega arith; pending = omega arith; small = x .small };
+          node-room = let x = R .node-room in let y = K .nodes in omega arith;
+          freed-room = let x = R .freed-room in let y = K .freed in omega arith;
+          bucket-room = let x = R .bucket-room in let y = K .buckets in omega arith;
+          nodes-most = I .nodes-most;
+        }
+
+    module _ {v : Point} (e : v ≡ point i) where
+      pub sweeping-ready : StepReady C q o h a row nodes freed buckets hull cx cy v
+      sweeping-ready = record { sweep = I .sweep; range = rw e (I .ready .range i l); vertices = C₀ .vertices + count; room = room }
+
+      module _ {q′ : List ℤ} {o′ h′ a′ : List ℕ} {nodes′ : List (List ℕ)} {freed′ buckets′ : List ℕ} {r : Progress}
+          (X : StepLeaves C q q′ o h a row o′ h′ a′ nodes freed buckets nodes′ freed′ buckets′ hull cx cy v r) where
+        step-is : stepAt (length row₀) cx cy C₀ L₀ p₀ point i ≡ steppingOf q′ o′ h′ a′ r
+        step-is =
+            ap (λ (s : Sweeping). stepMesh (length row₀) cx cy (s .counts) (s .links) (s .positions) (point i)) (I .at)
+            ∙ ap₂ (λ (n : ℕ) (w : Point). stepMesh n cx cy C (linksOf o h a) (positionOf q) w) (sym (I .lengths .pending)) (sym e) ∙ sym (X .is)
+
+        next-is : sweepAfter (length row₀) cx cy C₀ L₀ p₀ point (suc i)
+            ≡ record { counts = r .counts; links = linksOf o′ h′ a′; positions = positionOf q′; answered = cond (r .full) i (suc i); full = r .full }
+        unfolding steppingOf
+        next-is =
+            after-next (length row₀) cx cy C₀ L₀ p₀ point i (ap (λ (s : Sweeping). s .full) (I .at))
+            ∙ ap₂ (λ (t : Stepping) (n : ℕ). record { counts = t .mesh .counts; links = t .mesh .links; positions = t .positions; answered = cond (t .mesh .full) n (suc n); full = t .mesh .full })
+            step-is (ap (λ (s : Sweeping). s .answered) (I .at))
+
+        -- a flip was refused
+        pub sweeping-full : r .full ≡ true → SweepLeaves C₀ q₀ o₀ h₀ a₀ row₀ answers₀ cx cy points count q′ o′ h′ a′ answers (record { counts = r .counts; answered = i; full = true })
+        unfolding sweepingOf
+        sweeping-full f =
+            let k : suc i + (count - suc i) ≡ count = omega arith in
+            let z : sweepAfter (length row₀) cx cy C₀ L₀ p₀ point (suc i) ≡ record { counts = r .counts; links = linksOf o′ h′ a′; positions = positionOf q′; answered = i; full = true } = next-is ∙ rw f refl in
+            record {
+              is = sym (ap (sweepAfter (length row₀) cx cy C₀ L₀ p₀ point) (sym k) ∙ frozen (length row₀) cx cy C₀ L₀ p₀ point (suc i) (count - suc i) (ap (λ (s : Sweeping). s .full) z) ∙ z);
+              answers-are = I .answers-are;
+            }
+
+        -- the answer is stored, and the loop goes on
+        pub sweeping-on : r .full ≡ false → r .answer .flips .low < 2 ^ 64
+            → length q′ ≡ length q → length o′ ≡ length o → length h′ ≡ length h → length a′ ≡ length a → {row′ : List ℕ} → length row′ ≡ length row
+            → length nodes′ ≡ length nodes → length freed′ ≡ length freed → length buckets′ ≡ length buckets
+            → (answers′ : List ℕ) → rowOf answers′ ≡ withAnswer (rowOf answers) i (r .answer) → length answers′ ≡ length answers
+            → SweepingAt q₀ o₀ h₀ a₀ row₀ nodes₀ freed₀ buckets₀ answers₀ cx cy points count C₀ hull₀ q′ o′ h′ a′ row′ nodes′ freed′ buckets′ answers′ (r .counts) (r .hull) (i + 1)
+        unfolding steppingOf
+        sweeping-on f low lq lo lh la lr ln lf lb answers′ w lw =
+            let K = I .lengths in
+            record {
+              ready = I .ready;
+              lengths = record { positions = lq ∙ K .positions; outs = lo ∙ K .outs; halves = lh ∙ K .halves; faces = la ∙ K .faces; pending = lr ∙ K .pending; nodes = ln ∙ K .nodes;
+                  freed = lf ∙ K .freed; buckets = lb ∙ K .buckets; answers = lw ∙ K .answers };
+              at = ap (sweepAfter (length row₀) cx cy C₀ L₀ p₀ point) (add-one i) ∙ next-is ∙ rw (f, add-one i) refl;
+              sweep = X .sweep f;
+              vertices = (let k = sweep-keeps (length row₀) swept₀ point (suc i) (λ j z. I .ready .range j (omega arith)) .most in
+                  let z = ap (λ (s : Sweeping). s .counts .vertices) next-is in omega arith);
+              nodes-most = X .nodes-most (C₀ .vertices + count) room;
+              answers-are = λ x. ap (λ (g : ℕ → ℕ). g x) w
+                  ∙ words-more (rowOf answers) i (r .answer) (steppingOf q′ o′ h′ a′ r) refl refl refl low (rowOf answers₀) (stepAt (length row₀) cx cy C₀ L₀ p₀ point) step-is (I .answers-are) x;
+              most = omega arith;
+            }
+
+  pub sweeping-end : count ≤ i → SweepLeaves C₀ q₀ o₀ h₀ a₀ row₀ answers₀ cx cy points count q o h a answers (record { counts = C; answered = i; full = false })
+  unfolding sweepingOf
+  sweeping-end l = let z : i ≡ count = (let m = I .most in omega arith) in record { is = sym (ap (sweepAfter (length row₀) cx cy C₀ L₀ p₀ point) (sym z) ∙ I .at); answers-are = I .answers-are }

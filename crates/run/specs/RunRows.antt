@@ -1,0 +1,64 @@
+-- Rows as the states of a run, and what each function asks of them and leaves. Definitions only.
+use mathlib.Core.Bool.{Bool, false, cond, _&&_}
+use mathlib.Core.List.{List}
+use mathlib.Core.Path.{_≡_}
+use Prim.Native.Nat.{ℕ, suc, _+_, _*_, _/_, _%_, _<_, _≤_}
+use lib.Dec.{leb, ltb}
+use lib.Ieee.{Float}
+use lib.IntN.{ℤ}
+use lib.ListN.{length}
+use Rattle.convexity.specs.ConvexityRows.{MeshReady}
+use Rattle.corner.specs.CornerRows.{MeshRoom}
+use Rattle.dcel.specs.Rows.{linksOf, positionOf, rowOf}
+use Rattle.decide.specs.Decide.{fateNumber, fateVertex}
+use Rattle.decide.specs.Sweep.{Sweep}
+use Rattle.math.specs.Determinant.{InRange}
+use Rattle.mesh.specs.declared.Counts.{Counts}
+use Rattle.ring_rows.specs.declared.Hull.{Hull}
+use Rattle.step.specs.declared.Answer.{Answer}
+use Rattle.sums.specs.Put.{put}
+use Rattle.run.specs.declared.SweepEnd.{SweepEnd}
+use Rattle.run.specs.Run.{Sweeping, sweepAfter, stepAt, answerWord}
+
+-- ---- answers
+-- the five words of an answer, for point i
+unfoldable pub withAnswer : (ℕ → ℕ) → ℕ → Answer → ℕ → ℕ
+withAnswer row i r =
+    put (put (put (put (put row (5 * i) (fateNumber (r .fate))) (5 * i + 1) (fateVertex (r .fate))) (5 * i + 2) (r .faces)) (5 * i + 3) (r .flips .high)) (5 * i + 4) (r .flips .low)
+
+-- zeros from `from` up to `to`
+pub record Zeroed (row row′ : List ℕ) (from to : ℕ) : Type 0 where
+  pub each : (x : ℕ) → rowOf row′ x ≡ cond (leb from x && ltb x to) 0 (rowOf row x)
+
+-- ---- the steps
+unfoldable pub sweepingOf : List ℤ → List ℕ → List ℕ → List ℕ → SweepEnd → Sweeping
+sweepingOf q o h a r = record { counts = r .counts; links = linksOf o h a; positions = positionOf q; answered = r .answered; full = r .full }
+
+-- the rows do for N vertices, the seed's and all points
+pub record SweepRoom (N : ℕ) (q : List ℤ) (o h a row : List ℕ) (nodes : List (List ℕ)) (freed buckets : List ℕ) (hull : Hull) : Type 0 where
+  pub most : N ≤ 1000000
+  pub positions : 2 * N ≤ length q
+  pub outs : N ≤ length o
+  pub sized : MeshRoom N h a row
+  pub node-room : suc N ≤ length nodes
+  pub freed-room : suc N ≤ length freed
+  pub bucket-room : N ≤ length buckets
+  pub nodes-most : hull .nodes ≤ suc N
+
+-- a mesh with its ring, and rows that do for it and all points, which are in range
+pub record SweepReady (C : Counts) (q : List ℤ) (o h a row : List ℕ) (nodes : List (List ℕ)) (freed buckets answers : List ℕ) (hull : Hull) (cx cy : Float) (points : List ℤ) (count : ℕ) : Type 0 where
+  pub sweep : Sweep C q o h a nodes freed buckets hull cx cy
+  pub room : SweepRoom (C .vertices + count) q o h a row nodes freed buckets hull
+  pub range : (i : ℕ) → i < count → InRange (positionOf points i)
+  pub pairs : 2 * count ≤ length points
+  pub answers-room : 5 * count ≤ length answers
+
+-- the steps as they are defined, and the answers of the points that were answered
+pub record SweepLeaves (C : Counts) (q : List ℤ) (o h a row answers : List ℕ) (cx cy : Float) (points : List ℤ) (count : ℕ) (q′ : List ℤ) (o′ h′ a′ answers′ : List ℕ) (r : SweepEnd) : Type 0 where
+  pub is : sweepingOf q′ o′ h′ a′ r ≡ sweepAfter (length row) cx cy C (linksOf o h a) (positionOf q) (positionOf points) count
+  pub answers-are : (x : ℕ) → rowOf answers′ x
+      ≡ cond (ltb x (5 * r .answered)) (answerWord (stepAt (length row) cx cy C (linksOf o h a) (positionOf q) (positionOf points) (x / 5)) (x % 5)) (rowOf answers x)
+
+-- ---- the finish
+pub record FinishReady (q : List ℤ) (o h a row : List ℕ) (end : SweepEnd) : Type 0 where
+  pub mesh : end .full ≡ false → MeshReady q o h a row (end .counts)
