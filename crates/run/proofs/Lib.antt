@@ -1,3 +1,4 @@
 pub mod AnswerRows
 pub mod SweepLoop
 pub mod FinishRows
+pub mod RunDone

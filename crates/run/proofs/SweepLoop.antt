@@ -115,8 +115,13 @@ module _ (room : ℕ) (cx cy : Float) (C : Counts) (L : Links) (p point : ℕ �
   steps i = stepAt room cx cy C L p point i
 
   after-next : (n : ℕ) → after n .full ≡ false
-      → after (suc n) ≡ record { counts = steps n .mesh .counts; links = steps n .mesh .links; positions = steps n .positions;
-      answered = cond (steps n .mesh .full) (after n .answered) (suc (after n .answered)); full = steps n .mesh .full }
+      → after (suc n) ≡ record {
+        counts = steps n .mesh .counts;
+        links = steps n .mesh .links;
+        positions = steps n .positions;
+        answered = cond (steps n .mesh .full) (after n .answered) (suc (after n .answered));
+        full = steps n .mesh .full;
+      }
   unfolding sweepAfter
   after-next n f = sweep-point room cx cy (after n) (point n) f
 
@@ -247,8 +252,17 @@ module _ {q₀ : List ℤ} {o₀ h₀ a₀ row₀ : List ℕ} {nodes₀ : List (
             let K = I .lengths in
             record {
               ready = I .ready;
-              lengths = record { positions = lq ∙ K .positions; outs = lo ∙ K .outs; halves = lh ∙ K .halves; faces = la ∙ K .faces; pending = lr ∙ K .pending; nodes = ln ∙ K .nodes;
-                  freed = lf ∙ K .freed; buckets = lb ∙ K .buckets; answers = lw ∙ K .answers };
+              lengths = record {
+                positions = lq ∙ K .positions;
+                outs = lo ∙ K .outs;
+                halves = lh ∙ K .halves;
+                faces = la ∙ K .faces;
+                pending = lr ∙ K .pending;
+                nodes = ln ∙ K .nodes;
+                freed = lf ∙ K .freed;
+                buckets = lb ∙ K .buckets;
+                answers = lw ∙ K .answers;
+              };
               at = ap (sweepAfter (length row₀) cx cy C₀ L₀ p₀ point) (add-one i) ∙ next-is ∙ rw (f, add-one i) refl;
               sweep = X .sweep f;
               vertices = (let k = sweep-keeps (length row₀) swept₀ point (suc i) (λ j z. I .ready .range j (omega arith)) .most in

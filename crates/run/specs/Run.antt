@@ -104,6 +104,37 @@ pub record Lent : Type 0 where
   pub centery : Float
   pub points : List ℤ
 
+abbrev pub lent : Counts → List ℤ → List ℕ → List ℕ → List ℕ → List (List ℕ) → List ℕ → List ℕ → List ℕ → List ℕ → Float → Float → List ℤ → Lent
+lent C positions outs halves faces nodes freed buckets pending answers cx cy points = record {
+  counts = C;
+  positions = positions;
+  outs = outs;
+  halves = halves;
+  faces = faces;
+  nodes = nodes;
+  freed = freed;
+  buckets = buckets;
+  pending = pending;
+  answers = answers;
+  centerx = cx;
+  centery = cy;
+  points = points;
+}
+
+abbrev pub outcome : FinishAnswer → List ℤ → List ℕ → List ℕ → List ℕ → List (List ℕ) → List ℕ → List ℕ → List ℕ → List ℕ → Outcome
+outcome r positions outs halves faces nodes freed buckets pending answers = record {
+  answer = r;
+  positions = positions;
+  outs = outs;
+  halves = halves;
+  faces = faces;
+  nodes = nodes;
+  freed = freed;
+  buckets = buckets;
+  pending = pending;
+  answers = answers;
+}
+
 -- 01's refusals 1 to 7; 2, of the answers row: "one answer .. per point"
 unfoldable pub runChecked : Lent → Checked
 runChecked l =

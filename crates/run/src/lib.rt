@@ -10,8 +10,9 @@ ghost use Rattle.decide.specs.Decide.{fateNumber, fateVertex};
 ghost use Rattle.finish.specs.declared.Finished.{Finished};
 ghost use Rattle.finish.specs.declared.Totals.{Totals};
 ghost use Rattle.finish.specs.FinishRows.{finishingOf};
+ghost use Rattle.mesh_check.specs.declared.Checked.the-variants.{Accepted};
 ghost use Rattle.mesh_check.specs.Check.{pointCount};
-ghost use Rattle.run.specs.Run.{Outcome, Lent, finishAfter, runOf};
+ghost use Rattle.run.specs.Run.{lent, outcome, finishAfter, runChecked, runOf};
 ghost use Rattle.run.specs.Demand3.{Demand3};
 ghost use Rattle.run.specs.RunRows.{withAnswer, Zeroed, sweepingOf, SweepReady, SweepLeaves, FinishReady};
 use angle::Point2;
@@ -185,4 +186,114 @@ fn finish_after(
         };
     }
     finish::finish_mesh(positions, outs, halves, faces, pending, counts)
+}
+
+// What the checks accept.
+fn run_accepted(
+    counts: Counts,
+    positions: &mut [i32],
+    outs: &mut [u32],
+    halves: &mut [u32],
+    faces: &mut [u32],
+    nodes: &mut [[u64; 4]],
+    freed: &mut [u32],
+    buckets: &mut [u32],
+    pending: &mut [u32],
+    answers: &mut [u64],
+    center: Point2,
+    points: &[i32],
+) -> FinishAnswer
+    requires { ⌜ runChecked (lent counts (now positions) (now outs) (now halves) (now faces)
+        (now nodes) (now freed) (now buckets) (now pending) (now answers) (center .x) (center .y) (now points)) ≡ Accepted ⌝ }
+    ensures { λ r. ⌜ outcome r (now (positions .exit)) (now (outs .exit)) (now (halves .exit)) (now (faces .exit))
+        (now (nodes .exit)) (now (freed .exit)) (now (buckets .exit)) (now (pending .exit)) (now (answers .exit))
+        ≡ runOf (lent counts (now (positions .entry)) (now (outs .entry)) (now (halves .entry)) (now (faces .entry))
+        (now (nodes .entry)) (now (freed .entry)) (now (buckets .entry)) (now (pending .entry)) (now (answers .entry))
+        (center .x) (center .y) (now (points .entry))) ⌝ }
+{
+    let count = mesh_check::point_count(points) as u32;
+    let hull = start::start_ring(positions, halves, faces, nodes, buckets, counts, center);
+    let end = sweep(
+        positions,
+        outs,
+        halves,
+        faces,
+        pending,
+        nodes,
+        freed,
+        buckets,
+        answers,
+        counts,
+        hull,
+        center,
+        points,
+        count,
+    );
+    let place = end.answered;
+    zero_answers(answers, place, count);
+    let ended = finish_after(positions, outs, halves, faces, pending, end);
+    start::clear_rows(nodes, freed, buckets, pending);
+    finish::answer_of(ended, place)
+}
+
+// The public call: a seed, a centre and a list of points, to a finished mesh.
+pub fn run(
+    counts: Counts,
+    positions: &mut [i32],
+    outs: &mut [u32],
+    halves: &mut [u32],
+    faces: &mut [u32],
+    nodes: &mut [[u64; 4]],
+    freed: &mut [u32],
+    buckets: &mut [u32],
+    pending: &mut [u32],
+    answers: &mut [u64],
+    center: Point2,
+    points: &[i32],
+) -> FinishAnswer
+    ensures is { λ r. ⌜ outcome r (now (positions .exit)) (now (outs .exit)) (now (halves .exit)) (now (faces .exit))
+        (now (nodes .exit)) (now (freed .exit)) (now (buckets .exit)) (now (pending .exit)) (now (answers .exit))
+        ≡ runOf (lent counts (now (positions .entry)) (now (outs .entry)) (now (halves .entry)) (now (faces .entry))
+        (now (nodes .entry)) (now (freed .entry)) (now (buckets .entry)) (now (pending .entry)) (now (answers .entry))
+        (center .x) (center .y) (now (points .entry))) ⌝ }
+    ensures demand3 { λ r. ⌜ ((t : Totals) → r .finished ≡ Finished.Accepted t → Demand3 (lent counts (now (positions .entry)) (now (outs .entry)) (now (halves .entry)) (now (faces .entry))
+        (now (nodes .entry)) (now (freed .entry)) (now (buckets .entry)) (now (pending .entry)) (now (answers .entry))
+        (center .x) (center .y) (now (points .entry)))
+        (outcome r (now (positions .exit)) (now (outs .exit)) (now (halves .exit)) (now (faces .exit))
+        (now (nodes .exit)) (now (freed .exit)) (now (buckets .exit)) (now (pending .exit)) (now (answers .exit))) t) ⌝ }
+{
+    let short = answers_short(answers.len(), points);
+    match start::check_sweep(
+        points,
+        short,
+        counts,
+        positions,
+        outs,
+        halves,
+        faces,
+        nodes.len(),
+        freed.len(),
+        buckets.len(),
+        pending.len(),
+        center,
+    ) {
+        Checked::Refused(refusal) => FinishAnswer {
+            counts: counts,
+            finished: Finished::Refused(refusal),
+        },
+        Checked::Accepted => run_accepted(
+            counts,
+            positions,
+            outs,
+            halves,
+            faces,
+            nodes,
+            freed,
+            buckets,
+            pending,
+            answers,
+            center,
+            points,
+        ),
+    }
 }

@@ -1,0 +1,210 @@
+-- A run from its checks to its answer: what the checks give each call, and the calls' contracts one after another as the definition of a run has them. Assumes nothing.
+use mathlib.Core.Bool.{Bool, true, false, cond, _&&_}
+use mathlib.Core.List.{List}
+use mathlib.Core.Path.{_≡_, refl, sym, _∙_, ap, ap₂, subst}
+use Prim.Native.Nat.{ℕ, suc, _+_, _*_, _/_, _%_, _^_, _<_, _≤_}
+use native.Mathlib.Decide.{decLt}
+use native.Mathlib.Omega.{arith}
+use borrow.Author.Tests.{lt-ltb, le-ltb, le-leb, lt-leb, ltb-false}
+use lib.Dec.{ltb, leb}
+use lib.Ieee.{Float}
+use lib.IntN.{ℤ}
+use lib.ListN.{length, getD, replicate}
+use lib.Seq.{ext-getD}
+use Rattle.convexity.specs.ConvexityRows.{MeshReady}
+use Rattle.dcel.specs.Rows.{linksOf, positionOf, rowOf, rowFrom}
+use Rattle.dcel.specs.Views.{length-from, getD-from, outs-from, halves-from, faces-from, positions-from}
+use Rattle.finish.specs.declared.Ended.{Ended}
+use Rattle.finish.specs.declared.FinishAnswer.{FinishAnswer}
+use Rattle.finish.specs.declared.Finished.{Finished}
+use Rattle.finish.specs.declared.Totals.{Totals}
+use Rattle.finish.specs.Finish.{Finishing, finishedFrom}
+use Rattle.finish.specs.FinishRows.{finishingOf}
+use Rattle.math.specs.declared.Point.{Point}
+use Rattle.mesh.specs.declared.Counts.{Counts}
+use Rattle.mesh.specs.Mesh.{Links}
+use Rattle.mesh.specs.CountsLaws.{count-edges, count-faces}
+use Rattle.mesh.specs.Good.{Good}
+use Rattle.mesh_check.specs.declared.Checked.{Checked}
+use Rattle.mesh_check.specs.declared.Refusal.{Refusal}
+use Rattle.mesh_check.specs.Check.{pointCount, vertexCount}
+use Rattle.ring_rows.specs.declared.Hull.{Hull}
+use Rattle.start.specs.Start.{sweepChecked}
+use Rattle.start.specs.StartRows.{ToStart, Started, RowsCleared}
+use Rattle.step.specs.Step.{Stepping}
+use Rattle.run.specs.declared.SweepEnd.{SweepEnd}
+use Rattle.run.specs.Run.{Sweeping, finishAfter, answerWord, answersAfter, Lent, Outcome, outcome, runChecked, sweepOf, stepsOf, finishOf, outcomeOf, runOf}
+use Rattle.run.specs.Demand3.{Demand3}
+use Rattle.run.specs.RunLaws.{run-accepts, run-start, run-keeps, run-accepted}
+use Rattle.run.specs.RunRows.{Zeroed, sweepingOf, SweepReady, SweepLeaves, FinishReady}
+
+-- ---- rows by their entries
+-- the answers of those that were answered, and zeros for the others
+answers-from : (old mid new : List ℕ) (step : ℕ → Stepping) (answered count : ℕ) → answered ≤ count → length new ≡ length old
+    → ((x : ℕ) → rowOf mid x ≡ cond (ltb x (5 * answered)) (answerWord (step (x / 5)) (x % 5)) (rowOf old x)) → Zeroed mid new (5 * answered) (5 * count)
+    → new ≡ rowFrom (length old) (answersAfter step answered count (rowOf old))
+unfolding rowOf answersAfter
+answers-from old mid new step answered count most k e Z =
+    let f = answersAfter step answered count (rowOf old) in
+    ext-getD 0 new (rowFrom (length old) f) (k ∙ sym (length-from (length old) f))
+    (λ x l. Z .each x ∙ at x (decLt x (5 * answered)) (decLt x (5 * count)) ∙ sym (getD-from (length old) f 0 x (omega arith)))
+  where
+    at : (x : ℕ) → Dec (x < 5 * answered) → Dec (x < 5 * count)
+        → cond (leb (5 * answered) x && ltb x (5 * count)) 0 (getD mid x 0) ≡ cond (ltb x (5 * count)) (cond (ltb (x / 5) answered) (answerWord (step (x / 5)) (x % 5)) 0) (getD old x 0)
+    at x (yes a) b = rw (lt-leb (5 * answered) x a, lt-ltb x (5 * count) (omega arith), lt-ltb (x / 5) answered (omega arith)) (e x ∙ rw (lt-ltb x (5 * answered) a) refl)
+    at x (no a) (yes b) = rw (le-leb (5 * answered) x (omega arith), lt-ltb x (5 * count) b, le-ltb (x / 5) answered (omega arith)) refl
+    at x (no a) (no b) = rw (le-leb (5 * answered) x (omega arith), le-ltb x (5 * count) (omega arith)) (e x ∙ rw (le-ltb x (5 * answered) (omega arith)) refl)
+
+-- ---- what the checks give
+module _ (l : Lent) (e : runChecked l ≡ Checked.Accepted) where
+  abbrev C : Counts
+  C = l .counts
+
+  abbrev n : ℕ
+  n = pointCount (l .points)
+
+  pub points-fit : n < 2 ^ 32
+  unfolding vertexCount
+  points-fit = let m = run-start l e .mesh .most in omega arith
+
+  pub to-start : ToStart C (l .positions) (l .halves) (l .faces) (length (l .nodes)) (length (l .buckets)) (l .centerx) (l .centery)
+  unfolding vertexCount
+  to-start =
+      let r = run-accepts l e .ring-rows in
+      record { points = l .points; outs = l .outs; start = run-start l e; node-room = let k = r .nodes-fit in omega arith; bucket-room = let k = r .sixteen in omega arith }
+
+  pub to-sweep : (nodes : List (List ℕ)) (buckets : List ℕ) (hull : Hull) → Started C (l .positions) (l .halves) (l .faces) nodes buckets hull (l .centerx) (l .centery)
+      → length nodes ≡ length (l .nodes) → length buckets ≡ length (l .buckets) → (count : ℕ) → count ≡ n
+      → SweepReady C (l .positions) (l .outs) (l .halves) (l .faces) (l .pending) nodes (l .freed) buckets (l .answers) hull (l .centerx) (l .centery) (l .points) count
+  unfolding vertexCount
+  to-sweep nodes buckets hull S u v count c =
+      let A = run-accepts l e in
+      let M = run-start l e .mesh in
+      let m = M .most in
+      let p = M .rows .positions in let o = M .rows .outs in let h = M .rows .halves in let f = M .rows .faces in
+      let x = A .ring-rows .nodes-fit in let y = A .ring-rows .freed-fit in let z = A .ring-rows .buckets-fit in
+      record {
+        sweep = S .sweep (run-start l e) (omega arith);
+        room = record {
+          most = omega arith;
+          positions = omega arith;
+          outs = omega arith;
+          sized = record { halves = omega arith; faces = omega arith; pending = A .pending-rows; small = omega arith };
+          node-room = omega arith;
+          freed-room = omega arith;
+          bucket-room = omega arith;
+          nodes-most = let k = S .nodes-most in omega arith;
+        };
+        range = λ i k. M .range (omega arith);
+        pairs = let k = M .pairs in omega arith;
+        answers-room = let k = ltb-false (length (l .answers)) (5 * n) (A .others) in omega arith;
+      }
+
+  -- ---- after the steps
+  module _ (count : ℕ) (c : count ≡ n) (q₁ : List ℤ) (o₁ h₁ a₁ answers₁ : List ℕ) (end : SweepEnd)
+      (S : SweepLeaves C (l .positions) (l .outs) (l .halves) (l .faces) (l .pending) (l .answers) (l .centerx) (l .centery) (l .points) count q₁ o₁ h₁ a₁ answers₁ end) where
+    swept-is : sweepingOf q₁ o₁ h₁ a₁ end ≡ sweepOf l n
+    swept-is = S .is ∙ ap (sweepOf l) c
+
+    pub answered-most : end .answered ≤ count
+    unfolding sweepingOf
+    answered-most = let k = run-keeps l e .answered-most in let w = ap (λ (s : Sweeping). s .answered) swept-is in omega arith
+
+    pub to-zero : length answers₁ ≡ length (l .answers) → (end .answered ≤ count) × (5 * count ≤ length answers₁)
+    to-zero k = (answered-most, let r = ltb-false (length (l .answers)) (5 * n) (run-accepts l e .others) in omega arith)
+
+    pub to-finish : (row₁ : List ℕ) → length q₁ ≡ length (l .positions) → length o₁ ≡ length (l .outs) → length h₁ ≡ length (l .halves) → length a₁ ≡ length (l .faces)
+        → length row₁ ≡ length (l .pending) → FinishReady q₁ o₁ h₁ a₁ row₁ end
+    unfolding vertexCount sweepingOf
+    to-finish row₁ kq ko kh ka kr =
+        let G : Good (end .counts) (linksOf o₁ h₁ a₁) (positionOf q₁) = subst (λ (s : Sweeping). Good (s .counts) (s .links) (s .positions)) (sym swept-is) (run-keeps l e .good) in
+        let v = ap (λ (s : Sweeping). s .counts .vertices) swept-is in
+        let k = run-keeps l e .most in
+        let M = run-start l e .mesh in
+        let m = M .most in
+        let p = M .rows .positions in let o = M .rows .outs in let h = M .rows .halves in let f = M .rows .faces in
+        let pr = run-accepts l e .pending-rows in
+        let u = count-edges (G .wf) in
+        let w = count-faces (G .wf) in
+        record {
+          mesh = λ z. record {
+            rows = record { room = record { outs = omega arith; halves = omega arith; faces = omega arith; small = omega arith }; positions = omega arith; good = G };
+            sized = record { halves = omega arith; faces = omega arith; pending = omega arith; small = omega arith };
+          };
+        }
+
+    -- ---- after the finish
+    module _ (room : ℕ) (o₂ h₂ a₂ : List ℕ) (ended : Ended) (p : room ≡ length (l .pending))
+        (F : finishingOf o₂ h₂ a₂ ended ≡ finishAfter room (sweepingOf q₁ o₁ h₁ a₁ end)) where
+      finished-is : finishingOf o₂ h₂ a₂ ended ≡ finishOf l
+      finished-is = F ∙ ap₂ finishAfter p swept-is
+
+      links-are : linksOf o₂ h₂ a₂ ≡ finishOf l .links
+      unfolding finishingOf
+      links-are = ap (λ (m : Finishing). m .links) finished-is
+
+      counts-are : ended .counts ≡ finishOf l .counts
+      unfolding finishingOf
+      counts-are = ap (λ (m : Finishing). m .counts) finished-is
+
+      places-are : positionOf q₁ ≡ sweepOf l n .positions
+      unfolding sweepingOf
+      places-are = ap (λ (s : Sweeping). s .positions) swept-is
+
+      answered-is : end .answered ≡ sweepOf l n .answered
+      unfolding sweepingOf
+      answered-is = ap (λ (s : Sweeping). s .answered) swept-is
+
+      pub run-done : (r : FinishAnswer) (answers₂ : List ℕ) (nodes₁ nodes₃ : List (List ℕ)) (freed₁ freed₃ buckets₁ buckets₃ pending₂ pending₃ : List ℕ)
+          → length q₁ ≡ length (l .positions) → length o₂ ≡ length (l .outs) → length h₂ ≡ length (l .halves) → length a₂ ≡ length (l .faces)
+          → length nodes₁ ≡ length (l .nodes) → length freed₁ ≡ length (l .freed) → length buckets₁ ≡ length (l .buckets) → length pending₂ ≡ length (l .pending)
+          → length answers₂ ≡ length (l .answers)
+          → Zeroed answers₁ answers₂ (5 * end .answered) (5 * count) → RowsCleared nodes₁ freed₁ buckets₁ pending₂ nodes₃ freed₃ buckets₃ pending₃
+          → r ≡ record { counts = ended .counts; finished = finishedFrom (end .answered) (finishingOf o₂ h₂ a₂ ended) }
+          → outcome r q₁ o₂ h₂ a₂ nodes₃ freed₃ buckets₃ pending₃ answers₂ ≡ runOf l
+      unfolding runOf outcomeOf
+      run-done r answers₂ nodes₁ nodes₃ freed₁ freed₃ buckets₁ buckets₃ pending₂ pending₃ kq ko kh ka kn kf kb kp kw Z K A =
+          rw e
+          (rw (
+            answer,
+            positions-from q₁ (sweepOf l n .positions) places-are (length (l .positions)) kq,
+            outs-from o₂ h₂ a₂ (finishOf l .links) links-are (length (l .outs)) ko,
+            halves-from o₂ h₂ a₂ (finishOf l .links) links-are (length (l .halves)) kh,
+            faces-from o₂ h₂ a₂ (finishOf l .links) links-are (length (l .faces)) ka,
+            K .nodes-zero,
+            K .freed-zero,
+            K .buckets-zero,
+            K .pending-zero,
+            kn,
+            kf,
+            kb,
+            kp,
+            answers,
+          ) refl)
+        where
+          answer : r ≡ record { counts = finishOf l .counts; finished = finishedFrom (sweepOf l n .answered) (finishOf l) }
+          answer = A ∙ ap₂ (λ (K : Counts) (f : Finished). record { counts = K; finished = f }) counts-are (ap₂ finishedFrom answered-is finished-is)
+
+          answers : answers₂ ≡ rowFrom (length (l .answers)) (answersAfter (stepsOf l) (sweepOf l n .answered) n (rowOf (l .answers)))
+          answers =
+              answers-from (l .answers) answers₁ answers₂ (stepsOf l) (end .answered) count answered-most kw (S .answers-are) Z
+              ∙ ap₂ (λ (x y : ℕ). rowFrom (length (l .answers)) (answersAfter (stepsOf l) x y (rowOf (l .answers)))) answered-is c
+
+-- ---- the call
+-- refused
+pub refused-run : (l : Lent) (x : Refusal) → Checked.Refused x ≡ runChecked l
+    → outcome (record { counts = l .counts; finished = Finished.Refused x }) (l .positions) (l .outs) (l .halves) (l .faces) (l .nodes) (l .freed) (l .buckets) (l .pending) (l .answers) ≡ runOf l
+unfolding runOf outcomeOf
+refused-run l x e = rw (← e) refl
+
+-- the checks, with the test of the answers row
+pub run-checks : (l : Lent) {short : Bool} {r : Checked} → short ≡ ltb (length (l .answers)) (5 * pointCount (l .points))
+    → r ≡ sweepChecked (l .points) short (l .counts) (l .positions) (l .outs) (l .halves) (l .faces)
+    (length (l .nodes)) (length (l .freed)) (length (l .buckets)) (length (l .pending)) (l .centerx) (l .centery)
+    → r ≡ runChecked l
+unfolding runChecked
+run-checks l s e = e ∙ rw s refl
+
+-- demand 3 of what a run answers and leaves, from the equation
+pub run-demand : (l : Lent) (R : Outcome) → R ≡ runOf l → (t : Totals) → R .answer .finished ≡ Finished.Accepted t → Demand3 l R t
+run-demand l R e t z = subst (λ (x : Outcome). Demand3 l x t) (sym e) (run-accepted l t (sym (ap (λ (x : Outcome). x .answer .finished) e) ∙ z) .0)
