@@ -1,0 +1,40 @@
+-- A run of no points is the finish of the seed, for every mesh, centre and rows that the checks accept. Assumes nothing.
+use mathlib.Core.List.{List, []}
+use mathlib.Core.Path.{_≡_, refl, sym, _∙_, ap, subst}
+use Prim.Native.Nat.{ℕ}
+use borrow.Author.Tests.{le-ltb}
+use lib.IntN.{ℤ}
+use lib.ListN.{length}
+use Rattle.dcel.specs.Rows.{positionOf}
+use Rattle.dcel.specs.Views.{positions-from}
+use Rattle.finish.specs.Finish as finish
+use Rattle.mesh_check.specs.declared.Checked.{Checked}
+use Rattle.mesh_check.specs.Accepted.{AcceptedWith, accepts-with}
+use Rattle.mesh_check.specs.Check.{pointCount}
+use Rattle.run.specs.Run as run
+use Rattle.run.specs.RunLaws.{run-accepts, run-start}
+
+-- the answer and every row that a finish may write are those of `finish`, called with the seed, and the positions stand
+pub record FinishOfSeed (l : run.Lent) (r : run.Outcome) : Type 0 where
+  pub call : _≡_ {A = finish.Outcome}
+      (record { answer = r .answer; outs = r .outs; halves = r .halves; faces = r .faces; pending = r .pending })
+      (finish.finishOf (l .counts) (l .positions) (l .outs) (l .halves) (l .faces) (l .pending))
+  pub positions : r .positions ≡ l .positions
+
+none : {points : List ℤ} → points ≡ [] → pointCount points ≡ 0
+unfolding pointCount
+none z = ap pointCount z
+
+module _ (l : run.Lent) (z : l .points ≡ []) (e : run.runChecked l ≡ Checked.Accepted) where
+  seed-accepted : finish.seedChecked (l .counts) (l .positions) (l .outs) (l .halves) (l .faces) (l .pending) ≡ Checked.Accepted
+  unfolding finish.seedChecked
+  seed-accepted =
+      accepts-with {points = []} (le-ltb (length (l .pending)) 8 (run-accepts l e .pending-rows))
+      (subst (λ (points : List ℤ). AcceptedWith points (l .counts) (l .positions) (l .outs) (l .halves) (l .faces)) z (run-start l e .mesh))
+
+  pub no-points : FinishOfSeed l (run.runOf l)
+  unfolding run.runOf run.outcomeOf run.sweepAfter run.finishAfter finish.finishOf finish.outcomeOf
+  no-points = record {
+    call = rw (e, seed-accepted, none z) refl;
+    positions = rw (e, none z) (sym (positions-from (l .positions) (positionOf (l .positions)) refl (length (l .positions)) refl));
+  }

@@ -1,0 +1,1 @@
+// The marked examples of the specification: specs/Marked.antt has them in one list, with the theorem that establishes them together. No code.
