@@ -7,8 +7,9 @@ use mathlib.Core.Path.{_≡_, refl, sym, _∙_, ap, subst}
 use Prim.Native.Nat.{ℕ, _+_, _≤_}
 use native.Mathlib.Omega.{arith}
 use lib.Dec.{ltb}
-use lib.IntN.{ℤ, natAbs}
+use lib.IntN.{ℤ, pos, _-ℤ_}
 use lib.ListN.{length, replicate}
+use lib.Signed.{_≤ℤ_}
 use Rattle.corner.specs.Corner.{Extended}
 use Rattle.corner.specs.CornerLaws.{Closings}
 use Rattle.corner.specs.Untouched.{Untouched, Holding, rows-back}
@@ -24,7 +25,8 @@ use Rattle.math.specs.declared.Point.{Point}
 use Rattle.mesh.specs.declared.Counts.{Counts}
 use Rattle.mesh.specs.Mesh.{Links}
 use Rattle.mesh.specs.Area.{areaTotal, boundaryArea, heightSum}
-use Rattle.mesh.specs.Circle.{Settled}
+use Rattle.mesh.specs.Circle.{LocallyDelaunay, Settled}
+use Rattle.mesh.specs.CircleLaws.{settled-far}
 use Rattle.mesh.specs.CountsLaws.{count-edges, count-faces}
 use Rattle.mesh.specs.FlipRun.{FlipRun}
 use Rattle.mesh.specs.Good.{Good}
@@ -36,7 +38,7 @@ use Rattle.finish.specs.declared.Finished.{Finished}
 use Rattle.finish.specs.declared.Totals.{Totals}
 use Rattle.finish.specs.Finish.{Finishing, finishMesh, Outcome, finishedFrom, outcomeOf, seedChecked, finishOf}
 use Rattle.finish.specs.FinishRows.{accepted-ready}
-use Rattle.finish.specs.MeshLaws.{finish-flips, finish-good, finish-counts, finish-area, finish-falls, finish-untouched, finish-closing, finish-convex, finish-settled}
+use Rattle.finish.specs.MeshLaws.{finish-flips, finish-good, finish-counts, finish-area, finish-fall, finish-untouched, finish-closing, finish-convex, finish-settled}
 
 -- the links that the rows hold after a call
 abbrev pub linksAfter : Outcome → Links
@@ -57,21 +59,27 @@ pub record Left (C : Counts) (q : List ℤ) (o h a row : List ℕ) (r : Outcome)
   pub faces : length (r .faces) ≡ length a
   pub pending : r .pending ≡ replicate (length row) 0
 
--- what an accepted call leaves besides. `passed`: the mesh after the convexity passes
+-- the mesh after the convexity passes
+abbrev pub passed : Counts → List ℤ → List ℕ → List ℕ → List ℕ → List ℕ → Extended
+passed C q o h a row = convexity (length row) C (positionOf q) (linksOf o h a)
+
+-- what an accepted call leaves besides
 pub record Done (C : Counts) (q : List ℤ) (o h a row : List ℕ) (r : Outcome) (t : Totals) : Type 0 where
   pub left : Left C q o h a row r (t .faces)
   -- no boundary corner turns left, and no triangle's circle strictly contains a neighbour's far vertex
   pub convex : NoLeftCorner (r .answer .counts) (linksAfter r) (positionOf q)
-  pub settled : Settled (r .answer .counts) (linksAfter r) (positionOf q)
+  pub circles : LocallyDelaunay (r .answer .counts) (linksAfter r) (positionOf q)
   -- corners closed one after another, each followed by its flips, as many of both as reported
-  pub passed : Extended
-  pub passes : Closings (positionOf q) (unpassed C (linksOf o h a) .mesh) passed
-  pub faces : t .faces ≡ passed .faces
-  pub convexflips : flipCountOf (t .convexflips) ≡ passed .flips
-  -- then the closing pass: as many flips as reported, and the height sum falls by at least that many
-  pub closing : _≡_ {A = Closing} (record { links = linksAfter r; flips = flipCountOf (t .closingflips) }) (closingPass (passed .counts) (positionOf q) (passed .links))
-  pub closingflips : FlipRun (r .answer .counts) (positionOf q) (passed .links) (linksAfter r) (flipCountOf (t .closingflips))
-  pub falls : flipCountOf (t .closingflips) + natAbs (heightSum (r .answer .counts) (linksAfter r) (positionOf q)) ≤ natAbs (heightSum (r .answer .counts) (passed .links) (positionOf q))
+  pub passes : Closings (positionOf q) (unpassed C (linksOf o h a) .mesh) (passed C q o h a row)
+  pub faces : t .faces ≡ passed C q o h a row .faces
+  pub convexflips : flipCountOf (t .convexflips) ≡ passed C q o h a row .flips
+  -- then the closing pass: as many flips as reported,
+  pub closing : _≡_ {A = Closing} (record { links = linksAfter r; flips = flipCountOf (t .closingflips) })
+      (closingPass (r .answer .counts) (positionOf q) (passed C q o h a row .links))
+  pub closingflips : FlipRun (r .answer .counts) (positionOf q) (passed C q o h a row .links) (linksAfter r) (flipCountOf (t .closingflips))
+  -- which are at most the fall of the height sum
+  pub fall : pos (flipCountOf (t .closingflips))
+      ≤ℤ (heightSum (r .answer .counts) (passed C q o h a row .links) (positionOf q) -ℤ heightSum (r .answer .counts) (linksAfter r) (positionOf q))
 
 -- 01: "All but 9 change nothing lent"
 pub record Unchanged (C : Counts) (o h a row : List ℕ) (r : Outcome) : Type 0 where
@@ -174,14 +182,13 @@ module _ (C : Counts) (q : List ℤ) (o h a row : List ℕ) where
         record {
           left = left;
           convex = subst (λ (K : Links). NoLeftCorner (m .counts) K p) (sym back) (finish-convex (length row) C p L G f);
-          settled = subst (λ (K : Links). Settled (m .counts) K p) (sym back) (finish-settled (length row) C p L G f);
-          passed = convexity (length row) C p L;
+          circles = settled-far (left .good) (subst (λ (K : Links). Settled (m .counts) K p) (sym back) (finish-settled (length row) C p L G f));
           passes = convexity-closings (length row) C p L G;
           faces = refl;
           convexflips = count-of (m .convexflips);
           closing = rw (back, n) (finish-closing (length row) C p L G f);
           closingflips = rw (back, n) (finish-flips (length row) C p L G);
-          falls = rw (back, n) (finish-falls (length row) C p L G);
+          fall = rw (back, n) (finish-fall (length row) C p L G);
         }
 
   -- ---- by what is answered

@@ -1,9 +1,13 @@
 -- What a finish makes of a good mesh. It closes corners of the boundary that turn left, each followed by flips, and then flips until no edge breaks the circle rule.
 -- Where no flip is refused, no corner is left that turns left, and the mesh is settled; in any case it stays good, with its vertices. Assumes nothing.
 use mathlib.Core.Bool.{Bool, true, false, cond}
-use mathlib.Core.Path.{_≡_, sym, ap, subst}
-use Prim.Native.Nat.{ℕ, _+_, _≤_}
-use lib.IntN.{natAbs, _+ℤ_}
+use mathlib.Core.Path.{_≡_, sym, _∙_, ap, ap₂, subst, subst⁻¹}
+use Prim.Native.Nat.{ℕ, _+_, _-_, _≤_}
+use native.Mathlib.Omega.{arith}
+use lib.Dec.{le→leb}
+use lib.IntN.{ℤ, pos, natAbs, _+ℤ_, _-ℤ_, +ℤ-negℤ-cancel}
+use lib.Signed.{_≤ℤ_, leZ-yes}
+use Rattle.algebra.specs.Order.{abs-0≤}
 use Rattle.corner.specs.Corner.{Extended}
 use Rattle.corner.specs.Untouched.{Untouched, run-untouched, closings-untouched, untouched-flips}
 use Rattle.closing.specs.Closing.{Closing, closingPass}
@@ -18,7 +22,18 @@ use Rattle.mesh.specs.AreaLaws.{area-theorem}
 use Rattle.mesh.specs.Circle.{Settled}
 use Rattle.mesh.specs.FlipRun.{FlipRun, none, run-good, run-falls, run-heights, determinants}
 use Rattle.mesh.specs.Good.{Good}
+use Rattle.mesh.specs.HeightLaws.{heights-nonneg}
 use Rattle.finish.specs.Finish.{Finishing, closeAfter, finishMesh}
+
+-- ---- a fall in whole numbers
+fall-by : (n : ℕ) (a b : ℤ) → pos 0 ≤ℤ a → pos 0 ≤ℤ b → n + natAbs b ≤ natAbs a → pos n ≤ℤ (a -ℤ b)
+fall-by n a b u v l =
+    subst⁻¹ (λ (z : ℤ). pos n ≤ℤ z)
+    (ap₂ (λ (x y : ℤ). x -ℤ y) (sym (abs-0≤ u) ∙ ap pos (more (natAbs a) (natAbs b) (omega arith))) (sym (abs-0≤ v)) ∙ +ℤ-negℤ-cancel (pos (natAbs a - natAbs b)) (pos (natAbs b)))
+    (leZ-yes {a = pos n} {b = pos (natAbs a - natAbs b)} (le→leb n (natAbs a - natAbs b) (omega arith)))
+  where
+    more : (x y : ℕ) → y ≤ x → x ≡ x - y + y
+    more x y l = omega arith
 
 -- in any case, a refused flip too
 module _ (room : ℕ) (C : Counts) (p : ℕ → Point) (L : Links) (G : Good C L p) where
@@ -55,9 +70,11 @@ module _ (room : ℕ) (C : Counts) (p : ℕ → Point) (L : Links) (G : Good C L
   unfolding finishMesh
   finish-heights = run-heights (convexity-good room C p L G) finish-flips
 
-  pub finish-falls : m .closingflips + natAbs (heightSum (m .counts) (m .links) p) ≤ natAbs (heightSum (m .counts) (v .links) p)
+  pub finish-fall : pos (m .closingflips) ≤ℤ (heightSum (m .counts) (v .links) p -ℤ heightSum (m .counts) (m .links) p)
   unfolding finishMesh
-  finish-falls = run-falls (convexity-good room C p L G) finish-flips
+  finish-fall =
+      fall-by _ _ _ (heights-nonneg (convexity-good room C p L G .turning)) (heights-nonneg (finish-good .turning))
+      (run-falls (convexity-good room C p L G) finish-flips)
 
   pub finish-untouched : Untouched (m .counts) L (m .links)
   unfolding finishMesh

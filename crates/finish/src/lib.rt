@@ -3,7 +3,7 @@
 ghost use mathlib.Core.Path.{_≡_};
 ghost use mathlib.Core.List.{List};
 ghost use Prim.Native.Nat.{ℕ};
-ghost use lib.ListN.{length, replicate};
+ghost use lib.ListN.{length};
 ghost use Rattle.convexity.specs.ConvexityRows.{MeshReady};
 ghost use Rattle.dcel.specs.Rows.{linksOf, positionOf};
 ghost use Rattle.finish.specs.Finish.{Outcome, finishMesh, finishedFrom, finishOf, seedChecked};
@@ -47,7 +47,8 @@ fn check_seed(
     faces: &[u32],
     pending: &[u32],
 ) -> Checked
-    ensures { λ r. ⌜ r ≡ seedChecked counts (now (positions .entry)) (now (outs .entry)) (now (halves .entry)) (now (faces .entry)) (now (pending .entry)) ⌝ }
+    ensures { λ r. ⌜ r ≡ seedChecked counts (now (positions .entry)) (now (outs .entry)) (now (halves .entry)) (now (faces .entry))
+        (now (pending .entry)) ⌝ }
 {
     let none = &positions[0..0];
     mesh_check::check_with(
@@ -71,7 +72,9 @@ pub fn finish_mesh(
     counts: Counts,
 ) -> Ended
     requires { ⌜ MeshReady (now positions) (now outs) (now halves) (now faces) (now pending) counts ⌝ }
-    ensures { λ r. ⌜ finishingOf (now (outs .exit)) (now (halves .exit)) (now (faces .exit)) r ≡ finishMesh (length (now (pending .entry))) counts (positionOf (now (positions .entry))) (linksOf (now (outs .entry)) (now (halves .entry)) (now (faces .entry))) ⌝ }
+    ensures { λ r. ⌜ finishingOf (now (outs .exit)) (now (halves .exit)) (now (faces .exit)) r
+        ≡ finishMesh (length (now (pending .entry))) counts (positionOf (now (positions .entry)))
+        (linksOf (now (outs .entry)) (now (halves .entry)) (now (faces .entry))) ⌝ }
 {
     let added = convexity::convexity(positions, outs, halves, faces, pending, counts);
     let after = added.counts;
@@ -99,20 +102,10 @@ pub fn finish_mesh(
     }
 }
 
-// Zeros over the whole row.
-fn clear(row: &mut [u32])
-    ensures { λ _. ⌜ now (row .exit) ≡ replicate (length (now (row .entry))) 0 ⌝ }
-{
-    let mut i = 0;
-    while i < row.len() {
-        row[i] = 0;
-        i += 1;
-    }
-}
-
 // 9: "the pushes of a flip would overfill the pending list", with the place that the call names.
 pub fn answer_of(ended: Ended, place: u32) -> FinishAnswer
-    ensures { λ r. ⌜ ((o h a : List ℕ) → r ≡ record { counts = ended .counts; finished = finishedFrom place (finishingOf o h a ended) }) ⌝ }
+    ensures { λ r. ⌜ ((o h a : List ℕ)
+        → r ≡ record { counts = ended .counts; finished = finishedFrom place (finishingOf o h a ended) }) ⌝ }
 {
     let counts = ended.counts;
     let totals = ended.totals;
@@ -140,7 +133,9 @@ pub fn finish(
     faces: &mut [u32],
     pending: &mut [u32],
 ) -> FinishAnswer
-    ensures { λ r. ⌜ _≡_ {A = Outcome} (record { answer = r; outs = now (outs .exit); halves = now (halves .exit); faces = now (faces .exit); pending = now (pending .exit) }) (finishOf counts (now (positions .entry)) (now (outs .entry)) (now (halves .entry)) (now (faces .entry)) (now (pending .entry))) ⌝ }
+    ensures { λ r. ⌜ _≡_ {A = Outcome}
+        (record { answer = r; outs = now (outs .exit); halves = now (halves .exit); faces = now (faces .exit); pending = now (pending .exit) })
+        (finishOf counts (now (positions .entry)) (now (outs .entry)) (now (halves .entry)) (now (faces .entry)) (now (pending .entry))) ⌝ }
 {
     match check_seed(counts, positions, outs, halves, faces, pending) {
         Checked::Accepted => {}
@@ -152,6 +147,6 @@ pub fn finish(
         }
     }
     let ended = finish_mesh(positions, outs, halves, faces, pending, counts);
-    clear(pending);
+    dcel::clear(pending);
     answer_of(ended, 0)
 }

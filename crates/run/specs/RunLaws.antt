@@ -26,7 +26,7 @@ use Rattle.decide.specs.Decide.{fateNumber, fateVertex}
 use Rattle.finish.specs.declared.Finished.{Finished}
 use Rattle.finish.specs.declared.Totals.{Totals}
 use Rattle.finish.specs.Finish.{Finishing, finishMesh, finishedFrom}
-use Rattle.finish.specs.MeshLaws.{finish-flips, finish-good, finish-counts, finish-falls, finish-untouched, finish-closing, finish-convex, finish-settled}
+use Rattle.finish.specs.MeshLaws.{finish-flips, finish-good, finish-counts, finish-fall, finish-untouched, finish-closing, finish-convex, finish-settled}
 use Rattle.flip_count.specs.FlipCount.{flipCountOf, flipCountFrom}
 use Rattle.flip_count.specs.CountLaws.{count-of}
 use Rattle.locate.specs.Start.{AcceptedStart}
@@ -86,16 +86,6 @@ unfolding positionOf coordinate
 positions-back q P n m f = fun-ext (λ u.
     let z : 2 * u ≡ 2 * u + 0 = omega arith in
     point-of (P u) (ap (λ (i : ℕ). getD (positionsFrom (length q) P) i (pos 0)) z ∙ coordinate-back q P n u 0 (omega arith) m f) (coordinate-back q P n u 1 (omega arith) m f))
-
--- ---- a fall in whole numbers
-fall-by : (n : ℕ) (a b : ℤ) → pos 0 ≤ℤ a → pos 0 ≤ℤ b → n + natAbs b ≤ natAbs a → pos n ≤ℤ (a -ℤ b)
-fall-by n a b u v l =
-    subst⁻¹ (λ (z : ℤ). pos n ≤ℤ z)
-    (ap₂ (λ (x y : ℤ). x -ℤ y) (sym (abs-0≤ u) ∙ ap pos (more (natAbs a) (natAbs b) (omega arith))) (sym (abs-0≤ v)) ∙ +ℤ-negℤ-cancel (pos (natAbs a - natAbs b)) (pos (natAbs b)))
-    (leZ-yes {a = pos n} {b = pos (natAbs a - natAbs b)} (le→leb n (natAbs a - natAbs b) (omega arith)))
-  where
-    more : (x y : ℕ) → y ≤ x → x ≡ x - y + y
-    more x y l = omega arith
 
 -- ---- the answers
 -- fate 1 is that of an added point, and its vertex is in the answer
@@ -345,8 +335,7 @@ module _ (l : Lent) (e : runChecked l ≡ Checked.Accepted) where
       closing = there (λ C K P k. _≡_ {A = Closing} (record { links = K; flips = k }) (closingPass C P (passed l))) (finish-closing room (s .counts) (s .positions) (s .links) G full-not);
       flips = there (λ C K P k. FlipRun C P (passed l) K k) (finish-flips room (s .counts) (s .positions) (s .links) G);
       fall = there (λ C K P k. pos k ≤ℤ (heightSum C (passed l) P -ℤ heightSum C K P))
-          (fall-by _ _ _ (heights-nonneg (convexity-good room (s .counts) (s .positions) (s .links) G .turning)) (heights-nonneg (finish-good room (s .counts) (s .positions) (s .links) G .turning))
-          (finish-falls room (s .counts) (s .positions) (s .links) G));
+          (finish-fall room (s .counts) (s .positions) (s .links) G);
     }
       where
         -- a fact of the finished mesh and of its closing flips is one of the rows and of the answer
