@@ -1,0 +1,96 @@
+-- A call that the checks let pass has a good mesh with a strict ring about its centre, and rows with room (`sweep-accepts`); building from it leaves the mesh with its ring in the rows
+-- (`ring-started`). Assumes nothing.
+use mathlib.Core.Bool.{Bool, false, _||_}
+use mathlib.Core.List.{List}
+use mathlib.Core.Path.{_≡_, _∙_, subst}
+use Prim.Native.Nat.{ℕ, _-_, _*_, _<_, _≤_, _^_}
+use native.Mathlib.Omega.{arith}
+use borrow.Author.Tests.{ltb-false}
+use lib.Dec.{ltb}
+use lib.Ieee.{Float}
+use lib.IntN.{ℤ}
+use lib.ListN.{length}
+use Rattle.circle_test.specs.GoodRows.{GoodRows}
+use Rattle.dcel.specs.Rows.{rowOf, linksOf}
+use Rattle.decide.specs.Sweep.{Sweep}
+use Rattle.hull.specs.Boundary.{ToBuild}
+use Rattle.hull.specs.Build.{built-held}
+use Rattle.hull.specs.Held.{FromBoundary}
+use Rattle.hull.specs.Ready.{size-is, size-asks, strict-size}
+use Rattle.locate.specs.Call.{accepted-build}
+use Rattle.locate.specs.Locate.{ringRowsShort}
+use Rattle.locate.specs.Start.{RingRoom, ring-room, AcceptedStart, start-accepts, accepted-held, accepted-placed}
+use Rattle.mesh.specs.declared.Counts.{Counts}
+use Rattle.mesh.specs.Area.{boundaryLength}
+use Rattle.mesh_check.specs.declared.Checked.the-variants.{Accepted}
+use Rattle.mesh_check.specs.Accepted.{AcceptedWith, or-false}
+use Rattle.mesh_check.specs.Check.{vertexCount}
+use Rattle.ring_rows.specs.declared.Hull.{Hull}
+use Rattle.start.specs.Start.{sweepRowsShort, sweepChecked}
+use Rattle.start.specs.StartRows.{ToStart, Started}
+
+-- ---- the checks
+-- rows 1 to 7 let pass
+pub record AcceptedSweep (points : List ℤ) (short : Bool) (C : Counts) (q : List ℤ) (o h a : List ℕ) (nodes freed buckets pending : ℕ)
+    (cx cy : Float) : Type 0 where
+  pub start : AcceptedStart points C q o h a cx cy
+  pub ring-rows : RingRoom (vertexCount C points) nodes freed buckets
+  pub pending-rows : 8 ≤ pending
+  pub others : short ≡ false
+
+pub sweep-accepts : {points : List ℤ} {short : Bool} {C : Counts} {q : List ℤ} {o h a : List ℕ} {nodes freed buckets pending : ℕ} {cx cy : Float}
+    → sweepChecked points short C q o h a nodes freed buckets pending cx cy ≡ Accepted
+    → AcceptedSweep points short C q o h a nodes freed buckets pending cx cy
+unfolding sweepChecked sweepRowsShort
+sweep-accepts {points} {short} {C} {q} {o} {h} {a} {nodes} {freed} {buckets} {pending} {cx} {cy} e =
+    let n = vertexCount C points in
+    let s = start-accepts points (short || (ringRowsShort n nodes freed buckets || ltb pending 8)) C q o h a cx cy e in
+    let x = or-false short (ringRowsShort n nodes freed buckets || ltb pending 8) (s .1) in
+    let y = or-false (ringRowsShort n nodes freed buckets) (ltb pending 8) (x .1) in
+    record { start = s .0; ring-rows = ring-room n nodes freed buckets (y .0); pending-rows = ltb-false pending 8 (y .1); others = x .0 }
+
+-- ---- the rows of an accepted mesh
+pub accepted-rows : {points : List ℤ} {C : Counts} {q : List ℤ} {o h a : List ℕ} → AcceptedWith points C q o h a → GoodRows C q o h a
+accepted-rows A = record { room = accepted-held A .room; positions = accepted-placed A; good = A .good }
+
+module _ {points : List ℤ} {C : Counts} {q : List ℤ} {o h a : List ℕ} {cx cy : Float} (A : AcceptedStart points C q o h a cx cy) where
+  -- what `adjacent` and `convex_hull_size` ask
+  pub started-face : 0 < length a
+  started-face = let M = accepted-held (A .mesh) in let f = M .rules .some in let g = M .room .faces in omega arith
+
+  pub started-size : (2 * C .edges < 2 ^ 32) × (1 ≤ C .faces) × (3 * (C .faces - 1) ≤ 2 * C .edges)
+  started-size = size-asks (accepted-held (A .mesh))
+
+  -- a strict boundary has no more edges than the mesh has vertices
+  pub ring-most : boundaryLength C (linksOf o h a) ≤ C .vertices
+  ring-most = strict-size (accepted-held (A .mesh)) q (accepted-placed (A .mesh)) cx cy (A .strict)
+
+-- THE RING IS BUILT: for every row of out edges and every row for freed nodes
+module _ {C : Counts} {q : List ℤ} {h a : List ℕ} {n b : ℕ} {cx cy : Float} (T : ToStart C q h a n b cx cy) {start size : ℕ}
+    (s : start ≡ rowOf a 0) (z : size ≡ 2 * C .edges - 3 * (C .faces - 1)) where
+  pub started-build : ToBuild q h cx cy start size n b
+  started-build = accepted-build (T .start) s z (T .node-room) (T .bucket-room)
+
+  pub ring-started : {nodes : List (List ℕ)} {buckets : List ℕ} {r : Hull} → FromBoundary q h cx cy start size nodes buckets r
+      → length nodes ≡ n → length buckets ≡ b → Started C q h a nodes buckets r cx cy
+  ring-started {nodes} {buckets} {r} F u v = record {
+    sweep = λ {points} {o} {freed} A l. held A l;
+    nodes-most =
+        let most = ring-most (T .start) in
+        let whole = size-is (accepted-held (T .start .mesh)) in
+        let used = F .used in
+        omega arith;
+  }
+    where
+      held : {points : List ℤ} {o freed : List ℕ} → AcceptedStart points C q o h a cx cy → C .vertices ≤ length freed → Sweep C q o h a nodes freed buckets r cx cy
+      held {points} {o} {freed} A l =
+          let M = accepted-held (A .mesh) in
+          let most = ring-most A in
+          let whole = z ∙ size-is M in
+          record {
+            mesh = accepted-rows (A .mesh);
+            center = A .center;
+            ring = built-held o a (M .rules) (subst (λ (x : ℕ). ToBuild q h cx cy x size n b) s started-build) whole
+                (subst (λ (x : ℕ). FromBoundary q h cx cy x size nodes buckets r) s F)
+                (let k = T .node-room in omega arith) (omega arith) (let k = T .bucket-room in omega arith);
+          }
