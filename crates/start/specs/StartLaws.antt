@@ -19,12 +19,13 @@ use Rattle.hull.specs.Held.{FromBoundary}
 use Rattle.hull.specs.Ready.{size-is, size-asks, strict-size}
 use Rattle.locate.specs.Call.{accepted-build}
 use Rattle.locate.specs.Locate.{ringRowsShort}
-use Rattle.locate.specs.Start.{RingRoom, ring-room, AcceptedStart, start-accepts, accepted-held, accepted-placed}
+use Rattle.locate.specs.Start.{RingRoom, ring-room, AcceptedStart, start-accepts, accepted-held, accepted-placed, start-numbered}
 use Rattle.mesh.specs.declared.Counts.{Counts}
 use Rattle.mesh.specs.Area.{boundaryLength}
 use Rattle.mesh_check.specs.declared.Checked.the-variants.{Accepted}
 use Rattle.mesh_check.specs.Accepted.{AcceptedWith, or-false}
 use Rattle.mesh_check.specs.Check.{vertexCount}
+use Rattle.mesh_check.specs.CheckLaws.{NumberedTo}
 use Rattle.ring_rows.specs.declared.Hull.{Hull}
 use Rattle.start.specs.Start.{sweepRowsShort, sweepChecked}
 use Rattle.start.specs.StartRows.{ToStart, Started}
@@ -48,6 +49,12 @@ sweep-accepts {points} {short} {C} {q} {o} {h} {a} {nodes} {freed} {buckets} {pe
     let x = or-false short (ringRowsShort n nodes freed buckets || ltb pending 8) (s .1) in
     let y = or-false (ringRowsShort n nodes freed buckets) (ltb pending 8) (x .1) in
     record { start = s .0; ring-rows = ring-room n nodes freed buckets (y .0); pending-rows = ltb-false pending 8 (y .1); others = x .0 }
+
+-- a refusal has one of the numbers 1 to 7
+pub sweep-numbered : (points : List ℤ) (short : Bool) (C : Counts) (q : List ℤ) (o h a : List ℕ) (nodes freed buckets pending : ℕ) (cx cy : Float)
+    → NumberedTo 7 (sweepChecked points short C q o h a nodes freed buckets pending cx cy)
+unfolding sweepChecked
+sweep-numbered points short C q o h a nodes freed buckets pending cx cy = start-numbered points _ C q o h a cx cy
 
 -- ---- the rows of an accepted mesh
 pub accepted-rows : {points : List ℤ} {C : Counts} {q : List ℤ} {o h a : List ℕ} → AcceptedWith points C q o h a → GoodRows C q o h a

@@ -5,3 +5,4 @@ pub mod Fates
 pub mod StepMesh
 pub mod StepRing
 pub mod StepRows
+pub mod CallLaws
