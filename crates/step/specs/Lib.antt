@@ -6,3 +6,4 @@ pub mod StepMesh
 pub mod StepRing
 pub mod StepRows
 pub mod CallLaws
+pub mod Examples
