@@ -30,7 +30,8 @@ use Rattle.step.specs.StepRows.{steppingOf, StepRoom, StepReady, StepLea
 -- ---- the answer
 module _ (r : Progress) (place : ℕ) (q : List ℤ) (o h a : List ℕ) where
   pub answer-full : r .full ≡ true
-      → record { counts = r .counts; stepped = Stepped.Refused (record { number = 9; place = place }) } ≡ answerFrom place (steppingOf q o h a r)
+      → record { counts = r .counts; stepped = Stepped.Refused (record { number = 9; place = place }) }
+      ≡ answerFrom place (steppingOf q o h a r)
   unfolding answerFrom steppingOf
   answer-full e = rw e
 
@@ -43,8 +44,10 @@ module _ (r : Progress) (place : ℕ) (q : List ℤ) (o h a : List ℕ) where
 
 -- ---- the checks
 -- the row that is lent holds the point's coordinates
-pub point-checked : {x y : ℤ} {v : Point} → x ≡ v .x → y ≡ v .y → (C : Counts) (q : List ℤ) (o h a : List ℕ) (nodes freed buckets pending : ℕ) (cx cy : Float) {r : Checked}
-    → r ≡ sweepChecked (x ∷ y ∷ []) false C q o h a nodes freed buckets pending cx cy → r ≡ stepChecked C q o h a nodes freed buckets pending cx cy v
+pub point-checked : {x y : ℤ} {v : Point} → x ≡ v .x → y ≡ v .y
+    → (C : Counts) (q : List ℤ) (o h a : List ℕ) (nodes freed buckets pending : ℕ) (cx cy : Float) {r : Checked}
+    → r ≡ sweepChecked (x ∷ y ∷ []) false C q o h a nodes freed buckets pending cx cy
+    → r ≡ stepChecked C q o h a nodes freed buckets pending cx cy v
 unfolding stepChecked
 point-checked e f C q o h a nodes freed buckets pending cx cy z = rw (z, e, f)
 
@@ -54,7 +57,8 @@ count-is : (C : Counts) (v : Point) → vertexCount C (pointRow v) ≡ C .vertic
 unfolding vertexCount pointCount
 count-is C v = refl
 
-module _ {C : Counts} {q : List ℤ} {o h a : List ℕ} {n f b k : ℕ} {cx cy : Float} {v : Point} (A : AcceptedSweep (pointRow v) false C q o h a n f b k cx cy) where
+module _ {C : Counts} {q : List ℤ} {o h a : List ℕ} {n f b k : ℕ} {cx cy : Float} {v : Point}
+    (A : AcceptedSweep (pointRow v) false C q o h a n f b k cx cy) where
   in-range : InRange v
   unfolding pointCount positionOf
   in-range = A .start .mesh .range {i = 0} (omega arith)
@@ -69,7 +73,8 @@ module _ {C : Counts} {q : List ℤ} {o h a : List ℕ} {n f b k : ℕ} {cx cy :
   }
 
   -- with the ring in its rows
-  module _ {nodes : List (List ℕ)} {buckets : List ℕ} {hull : Hull} (S : Started C q h a nodes buckets hull cx cy) (ln : length nodes ≡ n) (lb : length buckets ≡ b) where
+  module _ {nodes : List (List ℕ)} {buckets : List ℕ} {hull : Hull} (S : Started C q h a nodes buckets hull cx cy)
+      (ln : length nodes ≡ n) (lb : length buckets ≡ b) where
     pub to-step : {freed row : List ℕ} → length freed ≡ f → length row ≡ k → StepReady C q o h a row nodes freed buckets hull cx cy v
     to-step lf lr =
         let c = count-is C v in
@@ -93,7 +98,8 @@ module _ {C : Counts} {q : List ℤ} {o h a : List ℕ} {n f b k : ℕ} {cx cy :
           };
         }
 
-pub swept-once : {C : Counts} {q q′ : List ℤ} {o h a row o′ h′ a′ row₂ : List ℕ} {nodes nodes₁ nodes₂ : List (List ℕ)} {freed buckets buckets₁ freed₂ buckets₂ : List ℕ}
+pub swept-once : {C : Counts} {q q′ : List ℤ} {o h a row o′ h′ a′ row₂ : List ℕ}
+    {nodes nodes₁ nodes₂ : List (List ℕ)} {freed buckets buckets₁ freed₂ buckets₂ : List ℕ}
     {hull : Hull} {cx cy : Float} {v : Point} {r : Progress}
     → StepLeaves C q q′ o h a row o′ h′ a′ nodes₁ freed buckets₁ nodes₂ freed₂ buckets₂ hull cx cy v r
     → length nodes₂ ≡ length nodes₁ → length nodes₁ ≡ length nodes → length freed₂ ≡ length freed
@@ -113,7 +119,8 @@ swept-once K i i′ j k k′ l Z = record {
 -- ---- the call
 -- k is what the checks answer
 pub step-accepted : {k : Checked} → k ≡ Checked.Accepted
-    → {C : Counts} {q : List ℤ} {o h a : List ℕ} {nodes freed buckets row : ℕ} {cx cy : Float} {v : Point} → k ≡ stepChecked C q o h a nodes freed buckets row cx cy v
+    → {C : Counts} {q : List ℤ} {o h a : List ℕ} {nodes freed buckets row : ℕ} {cx cy : Float} {v : Point}
+    → k ≡ stepChecked C q o h a nodes freed buckets row cx cy v
     → AcceptedSweep (pointRow v) false C q o h a nodes freed buckets row cx cy
 unfolding stepChecked
 step-accepted e f = sweep-accepts (sym f ∙ e)
@@ -124,16 +131,38 @@ module _ (C : Counts) (q : List ℤ) (o h a : List ℕ) (nodes : List (List ℕ)
 
   pub refused-outcome : {k : Checked} {x : Refusal} → k ≡ Checked.Refused x → k ≡ checks
       → _≡_ {A = Outcome}
-      (record { answer = record { counts = C; stepped = Stepped.Refused x }; positions = q; outs = o; halves = h; faces = a; nodes = nodes; freed = freed; buckets = buckets; pending = row })
+      (record {
+        answer = record { counts = C; stepped = Stepped.Refused x };
+        positions = q;
+        outs = o;
+        halves = h;
+        faces = a;
+        nodes = nodes;
+        freed = freed;
+        buckets = buckets;
+        pending = row;
+      })
       (stepOf C q o h a nodes freed buckets row cx cy v)
   unfolding stepOf outcomeOf
   refused-outcome e f = rw (← f, e) refl
 
-  mesh-rows : (r : Progress) {s : Stepping} {x : StepAnswer} {q′ : List ℤ} {o′ h′ a′ : List ℕ} {nodes′ : List (List ℕ)} {freed′ buckets′ row′ : List ℕ}
+  mesh-rows : (r : Progress) {s : Stepping} {x : StepAnswer} {q′ : List ℤ} {o′ h′ a′ : List ℕ}
+      {nodes′ : List (List ℕ)} {freed′ buckets′ row′ : List ℕ}
       → steppingOf q′ o′ h′ a′ r ≡ s → RowsCleared nodes freed buckets row nodes′ freed′ buckets′ row′
-      → length q′ ≡ length q → length o′ ≡ length o → length h′ ≡ length h → length a′ ≡ length a → x ≡ answerFrom 0 (steppingOf q′ o′ h′ a′ r)
+      → length q′ ≡ length q → length o′ ≡ length o → length h′ ≡ length h → length a′ ≡ length a
+      → x ≡ answerFrom 0 (steppingOf q′ o′ h′ a′ r)
       → _≡_ {A = Outcome}
-      (record { answer = x; positions = q′; outs = o′; halves = h′; faces = a′; nodes = nodes′; freed = freed′; buckets = buckets′; pending = row′ })
+      (record {
+        answer = x;
+        positions = q′;
+        outs = o′;
+        halves = h′;
+        faces = a′;
+        nodes = nodes′;
+        freed = freed′;
+        buckets = buckets′;
+        pending = row′;
+      })
       (outcomeOf C q o h a nodes freed buckets row Checked.Accepted s)
   unfolding outcomeOf steppingOf
   mesh-rows r {s} {x} {q′} {o′} {h′} {a′} e Z i j k l y =
@@ -144,13 +173,26 @@ module _ (C : Counts) (q : List ℤ) (o h a : List ℕ) (nodes : List (List ℕ)
       let p₄ = faces-from o′ h′ a′ L refl (length a) l in
       rw (← e) (cc (Z .nodes-zero, Z .freed-zero, Z .buckets-zero, Z .pending-zero))
 
-  pub accepted-outcome : {k : Checked} → k ≡ Checked.Accepted → k ≡ checks → {x : StepAnswer} {q′ : List ℤ} {o′ h′ a′ : List ℕ} {nodes′ : List (List ℕ)} {freed′ buckets′ row′ : List ℕ} {r : Progress}
+  pub accepted-outcome : {k : Checked} → k ≡ Checked.Accepted → k ≡ checks → {x : StepAnswer} {q′ : List ℤ} {o′ h′ a′ : List ℕ}
+      {nodes′ : List (List ℕ)} {freed′ buckets′ row′ : List ℕ} {r : Progress}
       → SweptOnce C q o h a nodes freed buckets row q′ o′ h′ a′ nodes′ freed′ buckets′ row′ cx cy v r
-      → length q′ ≡ length q → length o′ ≡ length o → length h′ ≡ length h → length a′ ≡ length a → x ≡ answerFrom 0 (steppingOf q′ o′ h′ a′ r)
+      → length q′ ≡ length q → length o′ ≡ length o → length h′ ≡ length h → length a′ ≡ length a
+      → x ≡ answerFrom 0 (steppingOf q′ o′ h′ a′ r)
       → _≡_ {A = Outcome}
-      (record { answer = x; positions = q′; outs = o′; halves = h′; faces = a′; nodes = nodes′; freed = freed′; buckets = buckets′; pending = row′ })
+      (record {
+        answer = x;
+        positions = q′;
+        outs = o′;
+        halves = h′;
+        faces = a′;
+        nodes = nodes′;
+        freed = freed′;
+        buckets = buckets′;
+        pending = row′;
+      })
       (stepOf C q o h a nodes freed buckets row cx cy v)
   unfolding stepOf
   accepted-outcome e f {r = r} K i j k l y =
       mesh-rows r (K .is) (K .zeros) i j k l y
-      ∙ ap (λ (c : Checked). outcomeOf C q o h a nodes freed buckets row c (stepMesh (length row) cx cy C (linksOf o h a) (positionOf q) v)) (sym e ∙ f)
+      ∙ ap (λ (c : Checked). outcomeOf C q o h a nodes freed buckets row c (stepMesh (length row) cx cy C (linksOf o h a) (positionOf q) v))
+      (sym e ∙ f)

@@ -1,5 +1,6 @@
--- The call `step` of 01: its refusals, in the order of the table, its answer, and what it leaves in the lent rows. Definitions only, and each computes; `CallLaws` says what they come to.
--- 01: "Locate and a lone step build the ring from the mesh": the ring is no part of what is defined here, which knows the mesh's boundary alone.
+-- The call `step` of 01: its refusals, in the order of the table, its answer, and what it leaves in the lent rows. Definitions only, and
+-- each computes; `CallLaws` says what they come to. 01: "Locate and a lone step build the ring from the mesh": the ring is no part of what
+-- is defined here, which knows the mesh's boundary alone.
 use mathlib.Core.Bool.{false, cond}
 use mathlib.Core.List.{List, [], _∷_}
 use Prim.Native.Nat.{ℕ}
@@ -50,9 +51,11 @@ pub record Outcome : Type 0 where
   pub buckets : List ℕ
   pub pending : List ℕ
 
--- 01: "All but 9 change nothing lent and answer the number and a place (0 where none is named)." "After 9 and after every accepted call the ring, freed, bucket and pending rows hold zeros, and
--- mesh and answer entries past the counts in use are untouched": the functions of the links and positions have every entry of their rows
-unfoldable pub outcomeOf : Counts → List ℤ → List ℕ → List ℕ → List ℕ → List (List ℕ) → List ℕ → List ℕ → List ℕ → Checked → Stepping → Outcome
+-- 01: "All but 9 change nothing lent and answer the number and a place (0 where none is named)." "After 9 and after every accepted call the
+-- ring, freed, bucket and pending rows hold zeros, and mesh and answer entries past the counts in use are untouched": the functions of the
+-- links and positions have every entry of their rows
+unfoldable pub outcomeOf : Counts → List ℤ → List ℕ → List ℕ → List ℕ
+    → List (List ℕ) → List ℕ → List ℕ → List ℕ → Checked → Stepping → Outcome
 outcomeOf C positions outs halves faces nodes freed buckets pending (Checked.Refused r) s = record {
   answer = record { counts = C; stepped = Stepped.Refused r };
   positions = positions;
@@ -77,7 +80,8 @@ outcomeOf C positions outs halves faces nodes freed buckets pending Checked.Acce
 }
 
 -- the rows as they are lent, the centre, and the point
-unfoldable pub stepOf : Counts → List ℤ → List ℕ → List ℕ → List ℕ → List (List ℕ) → List ℕ → List ℕ → List ℕ → Float → Float → Point → Outcome
+unfoldable pub stepOf : Counts → List ℤ → List ℕ → List ℕ → List ℕ
+    → List (List ℕ) → List ℕ → List ℕ → List ℕ → Float → Float → Point → Outcome
 stepOf C positions outs halves faces nodes freed buckets pending cx cy v =
     outcomeOf C positions outs halves faces nodes freed buckets pending
     (stepChecked C positions outs halves faces (length nodes) (length freed) (length buckets) (length pending) cx cy v)

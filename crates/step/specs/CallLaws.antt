@@ -1,6 +1,6 @@
--- The call `step` on the lent rows: what an accepted call leaves, with an added point and without one (`call-accepted`); what refusal 9 leaves; and that every other refusal is one of the checks'
--- and changes nothing (`call-refused`). That a boundary has a sound ring after an added point exactly when that was decided beforehand is `add-sound` of crate apply's ApplyLaws.
--- Assumes nothing.
+-- The call `step` on the lent rows: what an accepted call leaves, with an added point and without one (`call-accepted`); what refusal 9
+-- leaves; and that every other refusal is one of the checks' and changes nothing (`call-refused`). That a boundary has a sound ring after
+-- an added point exactly when that was decided beforehand is `add-sound` of crate apply's ApplyLaws. Assumes nothing.
 use mathlib.Core.Bool.{Bool, true, false, false≢true}
 use mathlib.Core.List.{List}
 use mathlib.Core.Logic.{_⊎_, inl, inr}
@@ -54,11 +54,12 @@ linksAfter r = linksOf (r .outs) (r .halves) (r .faces)
 abbrev pub positionsAfter : Outcome → ℕ → Point
 positionsAfter r = positionOf (r .positions)
 
--- an accepted call leaves, and refusal 9 too: the mesh is good and its areas add up, no vertex has moved, entries past the counts are untouched, every row is as long as it was, and those of the
--- ring and the pending list hold zeros
+-- an accepted call leaves, and refusal 9 too: the mesh is good and its areas add up, no vertex has moved, entries past the counts are
+-- untouched, every row is as long as it was, and those of the ring and the pending list hold zeros
 pub record Left (C : Counts) (q : List ℤ) (o h a : List ℕ) (nodes : List (List ℕ)) (freed buckets row : List ℕ) (r : Outcome) : Type 0 where
   pub good : Good (r .answer .counts) (linksAfter r) (positionsAfter r)
-  pub area : areaTotal (r .answer .counts) (linksAfter r) (positionsAfter r) ≡ boundaryArea (r .answer .counts) (linksAfter r) (positionsAfter r)
+  pub area : areaTotal (r .answer .counts) (linksAfter r) (positionsAfter r)
+      ≡ boundaryArea (r .answer .counts) (linksAfter r) (positionsAfter r)
   pub places : (u : ℕ) → u < C .vertices → positionsAfter r u ≡ positionOf q u
   pub past : (u : ℕ) → r .answer .counts .vertices ≤ u → positionsAfter r u ≡ positionOf q u
   pub untouched : Untouched (r .answer .counts) (linksOf o h a) (linksAfter r)
@@ -71,8 +72,9 @@ pub record Left (C : Counts) (q : List ℤ) (o h a : List ℕ) (nodes : List (Li
   pub buckets-zero : r .buckets ≡ replicate (length buckets) 0
   pub pending-zero : r .pending ≡ replicate (length row) 0
 
--- 01: "1 added, with the new vertex, k faces and the flips. The step adds one vertex, k faces and k + 1 edges": vertex n, with k faces and f flips, over the edge at the point's angle.
--- The new vertex's first face and its flips, then corners closed one after another, each followed by its flips
+-- 01: "1 added, with the new vertex, k faces and the flips. The step adds one vertex, k faces and k + 1 edges": vertex n, with k faces and
+-- f flips, over the edge at the point's angle. The new vertex's first face and its flips, then corners closed one after another, each
+-- followed by its flips
 pub record Adds (C : Counts) (q : List ℤ) (o h a row : List ℕ) (cx cy : Float) (v : Point) (r : Outcome) (n k f : ℕ) : Type 0 where
   pub next : n ≡ C .vertices
   pub place : positionsAfter r n ≡ v
@@ -80,7 +82,8 @@ pub record Adds (C : Counts) (q : List ℤ) (o h a row : List ℕ) (cx cy : Floa
   pub edge : ℕ
   pub located-edge : edge ≡ located C (linksOf o h a) (turnsAbout cx cy (positionOf q)) (turns (angleAbout (v .x) (v .y) cx cy))
   pub first : FlipRun (withVertex C) (positionsAfter r) (createNewFaceAdjacentToEdge (linksOf o h a) C edge)
-      (firstFace (length row) (positionsAfter r) C (linksOf o h a) edge .links) (firstFace (length row) (positionsAfter r) C (linksOf o h a) edge .flips)
+      (firstFace (length row) (positionsAfter r) C (linksOf o h a) edge .links)
+      (firstFace (length row) (positionsAfter r) C (linksOf o h a) edge .flips)
   pub mesh : Extended
   pub closings : Closings (positionsAfter r) (firstFace (length row) (positionsAfter r) C (linksOf o h a) edge) mesh
   pub links : mesh .links ≡ linksAfter r
@@ -96,8 +99,8 @@ pub record MeshAlone (C : Counts) (q : List ℤ) (o h a : List ℕ) (r : Outcome
   pub faces : r .faces ≡ a
 
 -- what an accepted call leaves besides: the fate is the decided one, no boundary vertex is at the centre, and the boundary has a sound ring
-pub record Done (C : Counts) (q : List ℤ) (o h a : List ℕ) (nodes : List (List ℕ)) (freed buckets row : List ℕ) (cx cy : Float) (v : Point)
-    (r : Outcome) (x : Answer) : Type 0 where
+pub record Done (C : Counts) (q : List ℤ) (o h a : List ℕ) (nodes : List (List ℕ)) (freed buckets row : List ℕ)
+    (cx cy : Float) (v : Point) (r : Outcome) (x : Answer) : Type 0 where
   pub left : Left C q o h a nodes freed buckets row r
   pub fate : x .fate ≡ decided cx cy C (linksOf o h a) (positionOf q) v .fate
   pub swept : Swept cx cy (r .answer .counts) (linksAfter r) (positionsAfter r)
@@ -106,16 +109,18 @@ pub record Done (C : Counts) (q : List ℤ) (o h a : List ℕ) (nodes : List (Li
       → (let D = decided cx cy C (linksOf o h a) (positionOf q) v in x .faces ≡ D .left + 1 + D .right)
   pub alone : isAdded (x .fate) ≡ false → MeshAlone C q o h a r × (x .faces ≡ 0) × (flipCountOf (x .flips) ≡ 0)
 
--- 01, refusal 9: "the mesh stays as it was before that flip: linked, left-turning, its areas adding up": the point is in, with the faces and the flips that were made
-pub record Stopped (C : Counts) (q : List ℤ) (o h a : List ℕ) (nodes : List (List ℕ)) (freed buckets row : List ℕ) (cx cy : Float) (v : Point)
-    (r : Outcome) : Type 0 where
+-- 01, refusal 9: "the mesh stays as it was before that flip: linked, left-turning, its areas adding up": the point is in, with the faces
+-- and the flips that were made
+pub record Stopped (C : Counts) (q : List ℤ) (o h a : List ℕ) (nodes : List (List ℕ)) (freed buckets row : List ℕ)
+    (cx cy : Float) (v : Point) (r : Outcome) : Type 0 where
   pub left : Left C q o h a nodes freed buckets row r
   pub faces : ℕ
   pub flips : ℕ
   pub added : Adds C q o h a row cx cy v r (C .vertices) faces flips
 
 -- 01: "All but 9 change nothing lent"
-pub record Unchanged (C : Counts) (q : List ℤ) (o h a : List ℕ) (nodes : List (List ℕ)) (freed buckets row : List ℕ) (r : Outcome) : Type 0 where
+pub record Unchanged (C : Counts) (q : List ℤ) (o h a : List ℕ) (nodes : List (List ℕ)) (freed buckets row : List ℕ)
+    (r : Outcome) : Type 0 where
   pub mesh : MeshAlone C q o h a r
   pub nodes-same : r .nodes ≡ nodes
   pub freed-same : r .freed ≡ freed
@@ -123,7 +128,8 @@ pub record Unchanged (C : Counts) (q : List ℤ) (o h a : List ℕ) (nodes : Lis
   pub pending-same : r .pending ≡ row
 
 -- ---- the step keeps its decided fate, and a refused flip is one of an added point
-fate-of : (room : ℕ) (cx cy : Float) (C : Counts) (L : Links) (p : ℕ → Point) (v : Point) (e : ℕ) (f : Fate) → appliedBy room cx cy C L p v e f .fate ≡ f
+fate-of : (room : ℕ) (cx cy : Float) (C : Counts) (L : Links) (p : ℕ → Point) (v : Point) (e : ℕ) (f : Fate)
+    → appliedBy room cx cy C L p v e f .fate ≡ f
 unfolding appliedBy addedAt leftAlone
 fate-of room cx cy C L p v e (Added n) = refl
 fate-of room cx cy C L p v e Dropped = refl
@@ -212,7 +218,8 @@ module _ (C : Counts) (q : List ℤ) (o h a : List ℕ) (nodes : List (List ℕ)
     positions-are : positionsAfter R ≡ s .positions
     unfolding vertexCount pointCount
     positions-are =
-        positions-back q (s .positions) (s .mesh .counts .vertices) (let r = accepted .start .mesh .rows .positions in let m = kept .one-more in omega arith)
+        positions-back q (s .positions) (s .mesh .counts .vertices)
+        (let r = accepted .start .mesh .rows .positions in let m = kept .one-more in omega arith)
         (kept .past)
 
     left : Left C q o h a nodes freed buckets row R
@@ -324,10 +331,22 @@ module _ (C : Counts) (q : List ℤ) (o h a : List ℕ) (nodes : List (List ℕ)
   unfolding stepChecked
   numbered = sweep-numbered (pointRow v) false C q o h a (length nodes) (length freed) (length buckets) (length row) cx cy
 
+  unchanged : (x : Refusal)
+      → Unchanged C q o h a nodes freed buckets row (outcomeOf C q o h a nodes freed buckets row (Checked.Refused x) s)
+  unfolding outcomeOf
+  unchanged x = record {
+    mesh = record { counts = refl; positions = refl; outs = refl; halves = refl; faces = refl };
+    nodes-same = refl;
+    freed-same = refl;
+    buckets-same = refl;
+    pending-same = refl;
+  }
+
   -- refused: by the checks, and nothing has changed, or before a flip whose pushes would overfill the pending list
   pub call-refused : (x : Refusal) → stepOf C q o h a nodes freed buckets row cx cy v .answer .stepped ≡ Stepped.Refused x
       → ((x .number ≤ 7) × Unchanged C q o h a nodes freed buckets row (stepOf C q o h a nodes freed buckets row cx cy v))
-      ⊎ ((x .number ≡ 9) × (x .place ≡ 0) × Stopped C q o h a nodes freed buckets row cx cy v (stepOf C q o h a nodes freed buckets row cx cy v))
+      ⊎ ((x .number ≡ 9) × (x .place ≡ 0)
+      × Stopped C q o h a nodes freed buckets row cx cy v (stepOf C q o h a nodes freed buckets row cx cy v))
   unfolding answerFrom stepOf outcomeOf
   call-refused x e = by checks refl numbered
     where
@@ -354,6 +373,5 @@ module _ (C : Counts) (q : List ℤ) (o h a : List ℕ) (nodes : List (List ℕ)
       by (Checked.Refused y) k l =
           let z : Stepped.Refused y ≡ Stepped.Refused x = rw k at e in
           let w : y ≡ x = cc in
-          let same : Unchanged C q o h a nodes freed buckets row whole =
-          rw k (record { mesh = record { counts = refl; positions = refl; outs = refl; halves = refl; faces = refl }; nodes-same = refl; freed-same = refl; buckets-same = refl; pending-same = refl }) in
+          let same : Unchanged C q o h a nodes freed buckets row whole = rw k (unchanged y) in
           inl (subst (λ (r : Refusal). r .number ≤ 7) w (numbered-at l), same)

@@ -1,5 +1,6 @@
-// One step of the sweep (bulk_load.rs, `single_bulk_insertion_step`): what is decided about a point, and then done; the mesh and its ring go from step to step in the lent rows. And the call
-// `step`, which makes one step on a lent mesh, whose ring it builds first. What they answer and leave is `stepMesh` and `stepOf` of specs/Step.antt and specs/Call.antt.
+// One step of the sweep (bulk_load.rs, `single_bulk_insertion_step`): what is decided about a point, and then done; the mesh and its ring
+// go from step to step in the lent rows. And the call `step`, which makes one step on a lent mesh, whose ring it builds first. What they
+// answer and leave is `stepMesh` and `stepOf` of specs/Step.antt and specs/Call.antt.
 ghost use mathlib.Core.List.{List};
 ghost use mathlib.Core.Path.{_≡_};
 ghost use mathlib.Core.Bool.{false};
