@@ -1,14 +1,16 @@
 -- 01: "mesh and answer entries past the counts in use are untouched": of flips, of corners closed, and of the rows that are made of the links again.
 -- Assumes nothing.
 use mathlib.Core.List.{List}
-use mathlib.Core.Path.{_≡_, refl, sym, _∙_, ap, fun-ext}
-use Prim.Native.Nat.{ℕ, _+_, _*_, _/_, _%_, _<_, _≤_}
+use mathlib.Core.Path.{_≡_, refl, sym, _∙_, ap, ap₂, fun-ext}
+use Prim.Native.Nat.{ℕ, suc, _+_, _*_, _/_, _%_, _<_, _≤_}
 use native.Mathlib.Decide.{decLt}
+use native.Mathlib.Nat.{add-zero, mul-suc, mul-add-div, div-eq-of-lt, mul-add-mod-self-left, mod-eq-of-lt, lt-of-mul-lt-mul-left}
 use native.Mathlib.Omega.{arith}
+use lib.IntN.{ℤ, pos}
 use lib.ListN.{length, getD, List·getD-eq-default}
 use Rattle.corner.specs.Corner.{Extended}
 use Rattle.corner.specs.CornerLaws.{Closings, none, then, CornerClosed, closings-good}
-use Rattle.dcel.specs.Rows.{halvesOf, rowOf, linksOf, rowFrom, field, halvesIn, halvesFrom}
+use Rattle.dcel.specs.Rows.{halvesOf, rowOf, positionOf, linksOf, rowFrom, field, halvesIn, halvesFrom, coordinate, positionsFrom}
 use Rattle.dcel.specs.Views.{length-from, getD-from}
 use Rattle.math.specs.declared.Point.{Point}
 use Rattle.mesh.specs.declared.Counts.{Counts}
@@ -141,35 +143,53 @@ pub record Holding (C : Counts) (o h a : List ℕ) : Type 0 where
   pub halves : 8 * C .edges ≤ length h
   pub faces : C .faces ≤ length a
 
-row-back : (l : List ℕ) (f : ℕ → ℕ) (n : ℕ) → n ≤ length l → ((i : ℕ) → n ≤ i → f i ≡ getD l i 0) → (i : ℕ) → getD (rowFrom (length l) f) i 0 ≡ f i
-row-back l f n k u i = go (decLt i (length l))
+-- a row that is made of f has what f has also past its end, where f has nothing
+row-back : {A : Type 0} (l : List A) (d : A) (f : ℕ → A) (i : ℕ) → (length l ≤ i → f i ≡ d) → getD (rowFrom (length l) f) i d ≡ f i
+row-back {A} l d f i absent = go (decLt i (length l))
   where
-    go : Dec (i < length l) → getD (rowFrom (length l) f) i 0 ≡ f i
-    go (yes b) = getD-from (length l) f 0 i b
-    go (no b) =
-        let m : length l ≤ i = omega arith in
-        let s = length-from (length l) f in
-        List·getD-eq-default (rowFrom (length l) f) 0 (omega arith) ∙ sym (u i (omega arith) ∙ List·getD-eq-default l 0 m)
+    go : Dec (i < length l) → getD (rowFrom (length l) f) i d ≡ f i
+    go (yes b) = getD-from (length l) f d i b
+    go (no b) = let s = length-from (length l) f in List·getD-eq-default (rowFrom (length l) f) d (omega arith) ∙ sym (absent (omega arith))
+
+-- s entries to each number x: entry s * x + k is g x k. From the number n on they are those of the row before
+strided-back : {A : Type 0} (s : ℕ) (l : List A) (d : A) (g : ℕ → ℕ → A) (n k : ℕ) → k < s → s * n ≤ length l → ((x : ℕ) → n ≤ x → g x k ≡ getD l (s * x + k) d)
+    → (x : ℕ) → getD (rowFrom (length l) (λ i. g (i / s) (i % s))) (s * x + k) d ≡ g x k
+strided-back {A} s l d g n k b m u x = row-back l d (λ i. g (i / s) (i % s)) (s * x + k) (λ w. at-place ∙ u x (past-n w) ∙ List·getD-eq-default l d w) ∙ at-place
+  where
+    at-place : g ((s * x + k) / s) ((s * x + k) % s) ≡ g x k
+    at-place = ap₂ g (mul-add-div (omega arith) x k ∙ ap (λ (y : ℕ). x + y) (div-eq-of-lt b) ∙ add-zero x) (mul-add-mod-self-left s x k ∙ mod-eq-of-lt b)
+
+    past-n : length l ≤ s * x + k → n ≤ x
+    past-n w = let e = mul-suc s x in let y : n < suc x = lt-of-mul-lt-mul-left s (omega arith) in omega arith
 
 -- field k of half-edge x
 half-back : (h : List ℕ) (L : Links) (n k : ℕ) → k < 4 → 8 * n ≤ length h → ((x : ℕ) → 2 * n ≤ x → field (halvesIn L) x k ≡ getD h (4 * x + k) 0)
     → (x : ℕ) → getD (halvesFrom (length h) L) (4 * x + k) 0 ≡ field (halvesIn L) x k
 unfolding halvesFrom
-half-back h L n k l m u x = go (decLt (4 * x + k) (length h))
+half-back h L n k l m = strided-back 4 h 0 (field (halvesIn L)) (2 * n) k l (omega arith)
+
+-- nothing more stands between a number and its first entry
+zero-more : (s x : ℕ) → s * x ≡ s * x + 0
+zero-more s x = omega arith
+
+-- the row that is made of positions holds them, where it held those of the vertices from n on
+pub positions-back : (q : List ℤ) (P : ℕ → Point) (n : ℕ) → 2 * n ≤ length q → ((v : ℕ) → n ≤ v → P v ≡ positionOf q v) → positionOf (positionsFrom (length q) P) ≡ P
+unfolding positionOf positionsFrom coordinate
+positions-back q P n m u = fun-ext (λ v. ap₂ point-of (first v) (second v))
   where
-    q : (4 * x + k) / 4 ≡ x
-    q = omega arith
+    point-of : ℤ → ℤ → Point
+    point-of x y = record { x = x; y = y }
 
-    r : (4 * x + k) % 4 ≡ k
-    r = omega arith
+    row : List ℤ
+    row = rowFrom (length q) (λ i. coordinate (P (i / 2)) (i % 2))
 
-    go : Dec (4 * x + k < length h) → getD (rowFrom (length h) (λ i. field (halvesIn L) (i / 4) (i % 4))) (4 * x + k) 0 ≡ field (halvesIn L) x k
-    go (yes b) = getD-from (length h) (λ i. field (halvesIn L) (i / 4) (i % 4)) 0 (4 * x + k) b ∙ rw (q, r) refl
-    go (no b) =
-        let s = length-from (length h) (λ i. field (halvesIn L) (i / 4) (i % 4)) in
-        let w : length h ≤ 4 * x + k = omega arith in
-        List·getD-eq-default (rowFrom (length h) (λ i. field (halvesIn L) (i / 4) (i % 4))) 0 (omega arith)
-        ∙ sym (u x (omega arith) ∙ List·getD-eq-default h 0 w)
+    first : (v : ℕ) → getD row (2 * v) (pos 0) ≡ P v .x
+    first v =
+        ap (λ (j : ℕ). getD row j (pos 0)) (zero-more 2 v)
+        ∙ strided-back 2 q (pos 0) (λ v k. coordinate (P v) k) n 0 (omega arith) m (λ v l. ap (λ (w : Point). w .x) (u v l) ∙ ap (λ (j : ℕ). getD q j (pos 0)) (zero-more 2 v)) v
+
+    second : (v : ℕ) → getD row (2 * v + 1) (pos 0) ≡ P v .y
+    second v = strided-back 2 q (pos 0) (λ v k. coordinate (P v) k) n 1 (omega arith) m (λ v l. ap (λ (w : Point). w .y) (u v l)) v
 
 links-of : (ℕ → ℕ) → (ℕ → ℕ) → (ℕ → ℕ) → (ℕ → ℕ) → (ℕ → ℕ) → (ℕ → ℕ) → Links
 links-of n p f o u a = record { next = n; prev = p; face = f; origin = o; out = u; adjacent = a }
@@ -178,13 +198,10 @@ pub rows-back : {C : Counts} {o h a : List ℕ} {L : Links} → Holding C o h a 
     → linksOf (rowFrom (length o) (L .out)) (halvesFrom (length h) L) (rowFrom (length a) (L .adjacent)) ≡ L
 unfolding linksOf halvesOf rowOf field halvesIn links-of
 rows-back {C} {o} {h} {a} {L} R U =
-    let n = fun-ext (λ x. ap (λ (j : ℕ). getD (halvesFrom (length h) L) j 0) (zero-more x) ∙ half-back h L (C .edges) 0 (omega arith) (R .halves) (λ x l. U .next x l ∙ ap (λ (j : ℕ). getD h j 0) (zero-more x)) x) in
+    let n = fun-ext (λ x. ap (λ (j : ℕ). getD (halvesFrom (length h) L) j 0) (zero-more 4 x) ∙ half-back h L (C .edges) 0 (omega arith) (R .halves) (λ x l. U .next x l ∙ ap (λ (j : ℕ). getD h j 0) (zero-more 4 x)) x) in
     let p = fun-ext (half-back h L (C .edges) 1 (omega arith) (R .halves) (U .prev)) in
     let f = fun-ext (half-back h L (C .edges) 2 (omega arith) (R .halves) (U .face)) in
     let g = fun-ext (half-back h L (C .edges) 3 (omega arith) (R .halves) (U .origin)) in
-    let u = fun-ext (row-back o (L .out) (C .vertices) (R .outs) (U .out)) in
-    let v = fun-ext (row-back a (L .adjacent) (C .faces) (R .faces) (U .adjacent)) in
+    let u = fun-ext (λ i. row-back o 0 (L .out) i (λ w. U .out i (let k = R .outs in omega arith) ∙ List·getD-eq-default o 0 w)) in
+    let v = fun-ext (λ i. row-back a 0 (L .adjacent) i (λ w. U .adjacent i (let k = R .faces in omega arith) ∙ List·getD-eq-default a 0 w)) in
     rw (n, p, f, g, u, v) refl
-  where
-    zero-more : (x : ℕ) → 4 * x ≡ 4 * x + 0
-    zero-more x = omega arith

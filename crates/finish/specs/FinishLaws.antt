@@ -1,12 +1,11 @@
 -- The call `finish` on the lent rows: what an accepted call leaves (`finish-accepted`), what refusal 9 leaves (`finish-full`), and that every other refusal is one of
 -- the checks' and changes nothing (`finish-refused`). Assumes nothing.
-use mathlib.Core.Bool.{Bool, true, false, not, cond}
+use mathlib.Core.Bool.{Bool, true, false}
 use mathlib.Core.List.{List}
 use mathlib.Core.Logic.{_⊎_, inl, inr}
 use mathlib.Core.Path.{_≡_, refl, sym, _∙_, ap, subst}
 use Prim.Native.Nat.{ℕ, _+_, _≤_}
 use native.Mathlib.Omega.{arith}
-use lib.Dec.{ltb}
 use lib.IntN.{ℤ, pos, _-ℤ_}
 use lib.ListN.{length, replicate}
 use lib.Signed.{_≤ℤ_}
@@ -30,10 +29,10 @@ use Rattle.mesh.specs.CircleLaws.{settled-far}
 use Rattle.mesh.specs.CountsLaws.{count-edges, count-faces}
 use Rattle.mesh.specs.FlipRun.{FlipRun}
 use Rattle.mesh.specs.Good.{Good}
-use Rattle.mesh.specs.Rules.{rules}
 use Rattle.mesh_check.specs.declared.Checked.{Checked}
 use Rattle.mesh_check.specs.declared.Refusal.{Refusal}
-use Rattle.mesh_check.specs.Check.{refused, countRefused, firstOutside, firstNotLeft, checkMesh, checkWith}
+use Rattle.mesh_check.specs.Check.{checkWith}
+use Rattle.mesh_check.specs.CheckLaws.{NumberedTo, numbered-at, check-numbered}
 use Rattle.finish.specs.declared.Finished.{Finished}
 use Rattle.finish.specs.declared.Totals.{Totals}
 use Rattle.finish.specs.Finish.{Finishing, finishMesh, Outcome, finishedFrom, outcomeOf, seedChecked, finishOf}
@@ -89,33 +88,11 @@ pub record Unchanged (C : Counts) (o h a row : List ℕ) (r : Outcome) : Type 0 
   pub faces : r .faces ≡ a
   pub pending : r .pending ≡ row
 
--- ---- the checks' refusals are numbered 1 to 5
-unfoldable Few : Checked → Type 0
-Few Checked.Accepted = Unit {0}
-Few (Checked.Refused x) = x .number ≤ 5
-
-few-none : Few Checked.Accepted
-unfolding Few
-few-none = tt
-
-few-cond : (t : Bool) (n k : ℕ) (c : Checked) → n ≤ 5 → Few c → Few (cond t (refused n k) c)
-unfolding Few
-few-cond true n k c l f = l
-few-cond false n k c l f = f
-
-few-checks : (n : ℕ) (short : Bool) (C : Counts) (L : Links) (p : ℕ → Point) → Few (checkMesh n short C L p)
-unfolding checkMesh
-few-checks n short C L p =
-    few-cond (countRefused n) 1 0 _ (omega arith)
-    (few-cond short 2 0 _ (omega arith)
-    (few-cond (ltb (firstOutside n p) n) 3 (firstOutside n p) _ (omega arith)
-    (few-cond (not (rules C L)) 4 0 _ (omega arith)
-    (few-cond (ltb (firstNotLeft C L p) (C .faces)) 5 (firstNotLeft C L p) _ (omega arith) few-none))))
-
 module _ (C : Counts) (q : List ℤ) (o h a row : List ℕ) where
-  few-seed : Few (seedChecked C q o h a row)
+  -- the checks' refusals have the numbers 1 to 5
+  seed-numbered : NumberedTo 5 (seedChecked C q o h a row)
   unfolding seedChecked checkWith
-  few-seed = few-checks _ _ _ _ _
+  seed-numbered = check-numbered _ _ _ _ _
 
   abbrev p : ℕ → Point
   p = positionOf q
@@ -216,8 +193,8 @@ module _ (C : Counts) (q : List ℤ) (o h a row : List ℕ) where
   pub finish-refused : (x : Refusal) → finishOf C q o h a row .answer .finished ≡ Finished.Refused x
       → ((x .number ≤ 5) × Unchanged C o h a row (finishOf C q o h a row))
       ⊎ ((x .number ≡ 9) × (x .place ≡ 0) × Left C q o h a row (finishOf C q o h a row) (m .faces))
-  unfolding finishedFrom finishOf outcomeOf Few
-  finish-refused x e = by (seedChecked C q o h a row) refl few-seed
+  unfolding finishedFrom finishOf outcomeOf
+  finish-refused x e = by (seedChecked C q o h a row) refl seed-numbered
     where
       Wanted : Type 0
       Wanted = ((x .number ≤ 5) × Unchanged C o h a row (finishOf C q o h a row)) ⊎ ((x .number ≡ 9) × (x .place ≡ 0) × Left C q o h a row (finishOf C q o h a row) (m .faces))
@@ -231,9 +208,9 @@ module _ (C : Counts) (q : List ℤ) (o h a row : List ℕ) where
           let y : Finished.Accepted totals ≡ Finished.Refused x = sym (rw (is-accepted k, f) refl) ∙ e in
           absurd (let z : _≡_ {A = ℕ} 0 1 = cc in omega arith)
 
-      by : (c : Checked) → seedChecked C q o h a row ≡ c → Few c → Wanted
+      by : (c : Checked) → seedChecked C q o h a row ≡ c → NumberedTo 5 c → Wanted
       by Checked.Accepted k l = at k (m .full) refl
       by (Checked.Refused y) k l =
           let z : Finished.Refused y ≡ Finished.Refused x = rw k at e in
           let w : y ≡ x = cc in
-          inl (subst (λ (r : Refusal). r .number ≤ 5) w l, (rw k (record { counts = refl; outs = refl; halves = refl; faces = refl; pending = refl })))
+          inl (subst (λ (r : Refusal). r .number ≤ 5) w (numbered-at l), (rw k (record { counts = refl; outs = refl; halves = refl; faces = refl; pending = refl })))

@@ -25,6 +25,7 @@ use Rattle.mesh_check.specs.declared.Checked.the-variants.{Accepted, Refused}
 use Rattle.mesh_check.specs.declared.Refusal.{Refusal}
 use Rattle.mesh_check.specs.Accepted.{AcceptedWith, with-accepts, or-false}
 use Rattle.mesh_check.specs.Check.{refused, checkWith, vertexCount}
+use Rattle.mesh_check.specs.CheckLaws.{NumberedTo, accepts, refuses, numbered-more, numbered-cond, check-numbered}
 use Rattle.ring.specs.Ring.{isStrictRing}
 use Rattle.ring.specs.Center.{turnsAbout, refusesCenter, refusesRing}
 use Rattle.sums.specs.Bit.{from-false, sure}
@@ -46,6 +47,11 @@ pub then-accepts : (first next : Checked) → andThen first next ≡ Accepted �
 unfolding andThen
 then-accepts Accepted next e = (refl, e)
 then-accepts (Refused r) next e = absurd (let z : _≡_ {A = ℕ} 0 1 = cc in omega arith)
+
+pub then-numbered : {n : ℕ} {first next : Checked} → NumberedTo n first → NumberedTo n next → NumberedTo n (andThen first next)
+unfolding andThen
+then-numbered accepts g = g
+then-numbered (refuses l) g = refuses l
 
 -- ---- the ring's rows
 pub record RingRoom (n nodes freed buckets : ℕ) : Type 0 where
@@ -121,6 +127,14 @@ start-accepts points short C p o h a cx cy e =
     let r = ring-accepts C (linksOf o h a) (positionOf p) cx cy (t .1) in
     let S = isStrictRing C (linksOf o h a) (turnsAbout cx cy (positionOf p)) in
     (record { mesh = m .0; center = from-false (r .0); strict = sure S (T-not (not S) (from-false (r .1))) }, m .1)
+
+-- a refusal has one of the numbers 1 to 7
+pub start-numbered : (points : List ℤ) (short : Bool) (C : Counts) (p : List ℤ) (o h a : List ℕ) (cx cy : Float) → NumberedTo 7 (checkStart points short C p o h a cx cy)
+unfolding checkStart checkWith checkRing
+start-numbered points short C p o h a cx cy =
+    then-numbered (numbered-more (omega arith) (check-numbered _ _ _ _ _))
+    (numbered-cond (refusesCenter C (linksOf o h a) (positionOf p) cx cy) 6 0 (omega arith)
+    (numbered-cond (refusesRing C (linksOf o h a) (positionOf p) cx cy) 7 0 (omega arith) accepts))
 
 -- the table goes on where rows 1 to 5 let pass, and stops where they do not
 module _ (points : List ℤ) (short : Bool) (C : Counts) (p : List ℤ) (o h a : List ℕ) (e : checkWith points short C p o h a ≡ Accepted) where

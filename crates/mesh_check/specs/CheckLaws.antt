@@ -1,5 +1,5 @@
 -- Each row of the table, as it is met (`check-..`); only the positions of the counted vertices matter (`check-agree`); and a mesh passes exactly when it is good
--- and within the limits (`accepted-passes`, `passes-accepted`). Assumes nothing.
+-- and within the limits (`accepted-passes`, `passes-accepted`); a refusal's number is at most 5 (`check-numbered`). Assumes nothing.
 use mathlib.Core.Path.{_≡_, refl, sym, ap, subst}
 use mathlib.Core.Bool.{Bool, true, false, not, _&&_, _||_, cond}
 use Prim.Native.Nat.{ℕ, _*_, _<_, _≤_}
@@ -53,6 +53,31 @@ module _ (n : ℕ) (short : Bool) (C : Counts) (L : Links) (p : ℕ → Point) w
           pub check-accepted : C .faces ≤ f → Accepted ≡ checkMesh n short C L p
           unfolding checkMesh
           check-accepted l = rw (a, b, ← q, le-ltb i n c, d, ← r, le-ltb f (C .faces) l)
+
+-- ---- the numbers of the table: a refusal has one up to n
+pub data NumberedTo (n : ℕ) : Checked → Type 0 where
+  accepts : NumberedTo n Accepted
+  refuses : {r : Refusal} → r .number ≤ n → NumberedTo n (Refused r)
+
+pub numbered-at : {n : ℕ} {r : Refusal} → NumberedTo n (Refused r) → r .number ≤ n
+numbered-at (refuses l) = l
+
+pub numbered-more : {m n : ℕ} {c : Checked} → m ≤ n → NumberedTo m c → NumberedTo n c
+numbered-more l accepts = accepts
+numbered-more l (refuses {r = r} k) = refuses {r = r} (omega arith)
+
+pub numbered-cond : {n : ℕ} (t : Bool) (k i : ℕ) {c : Checked} → k ≤ n → NumberedTo n c → NumberedTo n (cond t (refused k i) c)
+numbered-cond true k i l f = refuses l
+numbered-cond false k i l f = f
+
+pub check-numbered : (n : ℕ) (short : Bool) (C : Counts) (L : Links) (p : ℕ → Point) → NumberedTo 5 (checkMesh n short C L p)
+unfolding checkMesh
+check-numbered n short C L p =
+    numbered-cond (countRefused n) 1 0 (omega arith)
+    (numbered-cond short 2 0 (omega arith)
+    (numbered-cond (ltb (firstOutside n p) n) 3 (firstOutside n p) (omega arith)
+    (numbered-cond (not (rules C L)) 4 0 (omega arith)
+    (numbered-cond (ltb (firstNotLeft C L p) (C .faces)) 5 (firstNotLeft C L p) (omega arith) accepts))))
 
 -- ---- only what is below the counts matters
 first-below-ext : (n : ℕ) (s t : ℕ → Bool) → ((i : ℕ) → i < n → s i ≡ t i) → first-below n s ≡ first-below n t

@@ -17,7 +17,7 @@ use Rattle.algebra.specs.Order.{abs-0≤}
 use Rattle.closing.specs.Closing.{Closing, closingPass}
 use Rattle.convexity.specs.Convexity.{convexity, NoLeftCorner}
 use Rattle.convexity.specs.ConvexityLaws.{convexity-good}
-use Rattle.corner.specs.Untouched.{Untouched, Grown, Holding, untouched-join, rows-back}
+use Rattle.corner.specs.Untouched.{Untouched, Grown, Holding, untouched-join, rows-back, positions-back}
 use Rattle.dcel.specs.Rows.{linksOf, positionOf, rowOf, rowFrom, halvesFrom, positionsFrom, coordinate}
 use Rattle.dcel.specs.Views.{length-from, getD-from}
 use Rattle.decide.specs.declared.Fate.{Fate}
@@ -55,37 +55,6 @@ use Rattle.sums.specs.Bounded.{count, count-ext}
 use Rattle.run.specs.Run.{Sweeping, sweepAfter, finishAfter, answerWord, answersAfter, Lent, Outcome, runChecked, sweepOf, stepsOf, finishOf, outcomeOf, runOf}
 use Rattle.run.specs.SweepLaws.{SweepKeeps, sweep-keeps}
 use Rattle.run.specs.Demand3.{linksAfter, placesAfter, fateOf, vertexOf, addedBefore, passed, Demand3, Cleared, Full, Unchanged}
-
--- ---- rows made of functions that agree with the lent row past the counts
-past : (q : List ℤ) (u k : ℕ) → k < 2 → length q ≤ 2 * u + k → coordinate (positionOf q u) k ≡ pos 0
-unfolding positionOf coordinate
-past q u zero l z = List·getD-eq-default q (pos 0) (omega arith)
-past q u (suc zero) l z = List·getD-eq-default q (pos 0) (omega arith)
-past q u (suc (suc k)) l z = absurd (omega arith)
-
-coordinate-back : (q : List ℤ) (P : ℕ → Point) (n u k : ℕ) → k < 2 → 2 * n ≤ length q → ((u : ℕ) → n ≤ u → P u ≡ positionOf q u)
-    → getD (positionsFrom (length q) P) (2 * u + k) (pos 0) ≡ coordinate (P u) k
-unfolding positionsFrom
-coordinate-back q P n u k l m f = go (decLt (2 * u + k) (length q))
-  where
-    go : Dec (2 * u + k < length q) → getD (rowFrom (length q) (λ i. coordinate (P (i / 2)) (i % 2))) (2 * u + k) (pos 0) ≡ coordinate (P u) k
-    go (yes b) =
-        let x : (2 * u + k) / 2 ≡ u = omega arith in
-        let y : (2 * u + k) % 2 ≡ k = omega arith in
-        getD-from (length q) (λ i. coordinate (P (i / 2)) (i % 2)) (pos 0) (2 * u + k) b ∙ rw (x, y) refl
-    go (no b) =
-        let w = length-from (length q) (λ i. coordinate (P (i / 2)) (i % 2)) in
-        List·getD-eq-default (rowFrom (length q) (λ i. coordinate (P (i / 2)) (i % 2))) (pos 0) (omega arith)
-        ∙ sym (ap (λ (v : Point). coordinate v k) (f u (omega arith)) ∙ past q u k l (omega arith))
-
-point-of : {x y : ℤ} (v : Point) → x ≡ v .x → y ≡ v .y → _≡_ {A = Point} (record { x = x; y = y }) v
-point-of v a b = rw (a, b) refl
-
-pub positions-back : (q : List ℤ) (P : ℕ → Point) (n : ℕ) → 2 * n ≤ length q → ((u : ℕ) → n ≤ u → P u ≡ positionOf q u) → positionOf (positionsFrom (length q) P) ≡ P
-unfolding positionOf coordinate
-positions-back q P n m f = fun-ext (λ u.
-    let z : 2 * u ≡ 2 * u + 0 = omega arith in
-    point-of (P u) (ap (λ (i : ℕ). getD (positionsFrom (length q) P) i (pos 0)) z ∙ coordinate-back q P n u 0 (omega arith) m f) (coordinate-back q P n u 1 (omega arith) m f))
 
 -- ---- the answers
 -- fate 1 is that of an added point, and its vertex is in the answer

@@ -1,4 +1,5 @@
--- Refusals 1 to 7 of a call that sweeps: it is given a mesh, points, a centre, and rows for the ring and the pending list. Definitions only; `StartLaws` says what an accepted call has.
+-- Refusals 1 to 7 of a call that sweeps: it is given a mesh, points, a centre, and rows for the ring and the pending list. Definitions
+-- only; `StartLaws` says what an accepted call has.
 use mathlib.Core.Bool.{Bool, _||_}
 use mathlib.Core.List.{List}
 use Prim.Native.Nat.{ℕ}
@@ -10,7 +11,8 @@ use Rattle.mesh.specs.declared.Counts.{Counts}
 use Rattle.mesh_check.specs.declared.Checked.{Checked}
 use Rattle.mesh_check.specs.Check.{vertexCount}
 
--- 2, of the rows that are not the mesh's, by their lengths: the ring's, and "at least 8 pending entries". short: another one, a run's answers, is too short
+-- 2, of the rows that are not the mesh's, by their lengths: the ring's, and "at least 8 pending entries". short: another one, a run's
+-- answers, is too short
 unfoldable pub sweepRowsShort : Bool → ℕ → ℕ → ℕ → ℕ → ℕ → Bool
 sweepRowsShort short n nodes freed buckets pending = short || (ringRowsShort n nodes freed buckets || ltb pending 8)
 

@@ -1,5 +1,5 @@
--- A call that the checks let pass has a good mesh with a strict ring about its centre, and rows with room (`sweep-accepts`); building from it leaves the mesh with its ring in the rows
--- (`ring-started`). Assumes nothing.
+-- A call that the checks let pass has a good mesh with a strict ring about its centre, and rows with room (`sweep-accepts`); building from
+-- it leaves the mesh with its ring in the rows (`ring-started`). Assumes nothing.
 use mathlib.Core.Bool.{Bool, false, _||_}
 use mathlib.Core.List.{List}
 use mathlib.Core.Path.{_≡_, _∙_, subst}
@@ -19,12 +19,13 @@ use Rattle.hull.specs.Held.{FromBoundary}
 use Rattle.hull.specs.Ready.{size-is, size-asks, strict-size}
 use Rattle.locate.specs.Call.{accepted-build}
 use Rattle.locate.specs.Locate.{ringRowsShort}
-use Rattle.locate.specs.Start.{RingRoom, ring-room, AcceptedStart, start-accepts, accepted-held, accepted-placed}
+use Rattle.locate.specs.Start.{RingRoom, ring-room, AcceptedStart, start-accepts, accepted-held, accepted-placed, start-numbered}
 use Rattle.mesh.specs.declared.Counts.{Counts}
 use Rattle.mesh.specs.Area.{boundaryLength}
 use Rattle.mesh_check.specs.declared.Checked.the-variants.{Accepted}
 use Rattle.mesh_check.specs.Accepted.{AcceptedWith, or-false}
 use Rattle.mesh_check.specs.Check.{vertexCount}
+use Rattle.mesh_check.specs.CheckLaws.{NumberedTo}
 use Rattle.ring_rows.specs.declared.Hull.{Hull}
 use Rattle.start.specs.Start.{sweepRowsShort, sweepChecked}
 use Rattle.start.specs.StartRows.{ToStart, Started}
@@ -38,7 +39,8 @@ pub record AcceptedSweep (points : List ℤ) (short : Bool) (C : Counts) (q : Li
   pub pending-rows : 8 ≤ pending
   pub others : short ≡ false
 
-pub sweep-accepts : {points : List ℤ} {short : Bool} {C : Counts} {q : List ℤ} {o h a : List ℕ} {nodes freed buckets pending : ℕ} {cx cy : Float}
+pub sweep-accepts : {points : List ℤ} {short : Bool} {C : Counts} {q : List ℤ} {o h a : List ℕ}
+    {nodes freed buckets pending : ℕ} {cx cy : Float}
     → sweepChecked points short C q o h a nodes freed buckets pending cx cy ≡ Accepted
     → AcceptedSweep points short C q o h a nodes freed buckets pending cx cy
 unfolding sweepChecked sweepRowsShort
@@ -48,6 +50,13 @@ sweep-accepts {points} {short} {C} {q} {o} {h} {a} {nodes} {freed} {buckets} {pe
     let x = or-false short (ringRowsShort n nodes freed buckets || ltb pending 8) (s .1) in
     let y = or-false (ringRowsShort n nodes freed buckets) (ltb pending 8) (x .1) in
     record { start = s .0; ring-rows = ring-room n nodes freed buckets (y .0); pending-rows = ltb-false pending 8 (y .1); others = x .0 }
+
+-- a refusal has one of the numbers 1 to 7
+pub sweep-numbered : (points : List ℤ) (short : Bool) (C : Counts) (q : List ℤ) (o h a : List ℕ)
+    (nodes freed buckets pending : ℕ) (cx cy : Float)
+    → NumberedTo 7 (sweepChecked points short C q o h a nodes freed buckets pending cx cy)
+unfolding sweepChecked
+sweep-numbered points short C q o h a nodes freed buckets pending cx cy = start-numbered points _ C q o h a cx cy
 
 -- ---- the rows of an accepted mesh
 pub accepted-rows : {points : List ℤ} {C : Counts} {q : List ℤ} {o h a : List ℕ} → AcceptedWith points C q o h a → GoodRows C q o h a
@@ -82,7 +91,8 @@ module _ {C : Counts} {q : List ℤ} {h a : List ℕ} {n b : ℕ} {cx cy : Float
         omega arith;
   }
     where
-      held : {points : List ℤ} {o freed : List ℕ} → AcceptedStart points C q o h a cx cy → C .vertices ≤ length freed → Sweep C q o h a nodes freed buckets r cx cy
+      held : {points : List ℤ} {o freed : List ℕ} → AcceptedStart points C q o h a cx cy → C .vertices ≤ length freed
+          → Sweep C q o h a nodes freed buckets r cx cy
       held {points} {o} {freed} A l =
           let M = accepted-held (A .mesh) in
           let most = ring-most A in

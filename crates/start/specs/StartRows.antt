@@ -19,7 +19,8 @@ pub record ToStart (C : Counts) (q : List ℤ) (h a : List ℕ) (nodes buckets :
   pub bucket-room : 8 ≤ buckets
 
 -- the rows hold the mesh with its ring; a strict ring has no more nodes than the mesh has vertices
-pub record Started (C : Counts) (q : List ℤ) (h a : List ℕ) (nodes : List (List ℕ)) (buckets : List ℕ) (hull : Hull) (cx cy : Float) : Type 0 where
+pub record Started (C : Counts) (q : List ℤ) (h a : List ℕ) (nodes : List (List ℕ)) (buckets : List ℕ) (hull : Hull)
+    (cx cy : Float) : Type 0 where
   pub sweep : {points : List ℤ} {o freed : List ℕ} → AcceptedStart points C q o h a cx cy → C .vertices ≤ length freed
       → Sweep C q o h a nodes freed buckets hull cx cy
   pub nodes-most : hull .nodes ≤ C .vertices

@@ -1,5 +1,5 @@
-// What a step and a run do before their first point and after their last: refusals 1 to 7 for a lent mesh, the points and the other rows; the ring of the mesh's boundary, built in the lent rows;
-// and zeros in the rows that end so.
+// What a step and a run do before their first point and after their last: refusals 1 to 7 for a lent mesh, the points and the other rows;
+// the ring of the mesh's boundary, built in the lent rows; and zeros in the rows that end so.
 ghost use mathlib.Core.Path.{_≡_};
 ghost use lib.ListN.{length};
 ghost use Rattle.start.specs.Start.{sweepRowsShort, sweepChecked};
@@ -29,7 +29,8 @@ fn sweep_rows_short(
     pending < 8
 }
 
-// Rows 1 to 7 of the table, for a call that is given points, a centre, and rows for the ring and the pending list, which are given by their lengths.
+// Rows 1 to 7 of the table, for a call that is given points, a centre, and rows for the ring and the pending list, which are given by their
+// lengths.
 pub fn check_sweep(
     points: &[i32],
     short: bool,
@@ -63,7 +64,8 @@ pub fn start_ring(
     counts: Counts,
     center: Point2,
 ) -> Hull
-    requires { ⌜ ToStart counts (now positions) (now halves) (now faces) (length (now nodes)) (length (now buckets)) (center .x) (center .y) ⌝ }
+    requires { ⌜ ToStart counts (now positions) (now halves) (now faces)
+        (length (now nodes)) (length (now buckets)) (center .x) (center .y) ⌝ }
     ensures { λ r. ⌜ Started counts (now (positions .entry)) (now (halves .entry)) (now (faces .entry))
         (now (nodes .exit)) (now (buckets .exit)) r (center .x) (center .y) ⌝ }
 {

@@ -1,2 +1,3 @@
 pub mod PointRows
 pub mod StepDone
+pub mod CallRows

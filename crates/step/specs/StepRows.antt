@@ -20,6 +20,7 @@ use Rattle.math.specs.declared.Point.{Point}
 use Rattle.math.specs.Determinant.{InRange}
 use Rattle.mesh.specs.declared.Counts.{Counts}
 use Rattle.ring_rows.specs.declared.Hull.{Hull}
+use Rattle.start.specs.StartRows.{RowsCleared}
 use Rattle.sums.specs.Put.{put}
 use Rattle.step.specs.declared.Progress.{Progress}
 use Rattle.step.specs.Step.{Stepping, stepMesh}
@@ -71,3 +72,10 @@ pub record PointReady (C : Counts) (q : List ℤ) (o h a row : List ℕ) (v : Po
 pub record PointAdded (C : Counts) (q q′ : List ℤ) (o h a row o′ h′ a′ : List ℕ) (v : Point) (D : Decision) (r : Entered) : Type 0 where
   pub places : positionOf q′ ≡ put (positionOf q) (C .vertices) v
   pub is : appliedOf o′ h′ a′ r ≡ addTurns (length row) (put (positionOf q) (C .vertices) v) C (linksOf o h a) (D .edge) (D .left) (D .right)
+
+-- ---- the call
+-- The step as it is defined, and zeros
+pub record SweptOnce (C : Counts) (q : List ℤ) (o h a : List ℕ) (nodes : List (List ℕ)) (freed buckets row : List ℕ)
+    (q′ : List ℤ) (o′ h′ a′ : List ℕ) (nodes′ : List (List ℕ)) (freed′ buckets′ row′ : List ℕ) (cx cy : Float) (v : Point) (r : Progress) : Type 0 where
+  pub is : steppingOf q′ o′ h′ a′ r ≡ stepMesh (length row) cx cy C (linksOf o h a) (positionOf q) v
+  pub zeros : RowsCleared nodes freed buckets row nodes′ freed′ buckets′ row′

@@ -1,8 +1,16 @@
-// One step of the sweep (bulk_load.rs, `single_bulk_insertion_step`): what is decided about a point, and then done; the mesh and its ring go from step to step in the lent rows. And the call
-// `step`, which makes one step on a lent mesh, whose ring it builds first. What they answer and leave is `stepMesh` and `stepOf` of specs/Step.antt and specs/Call.antt.
+// One step of the sweep (bulk_load.rs, `single_bulk_insertion_step`): what is decided about a point, and then done; the mesh and its ring
+// go from step to step in the lent rows. And the call `step`, which makes one step on a lent mesh, whose ring it builds first. What they
+// answer and leave is `stepMesh` and `stepOf` of specs/Step.antt and specs/Call.antt.
+ghost use mathlib.Core.List.{List};
 ghost use mathlib.Core.Path.{_≡_};
+ghost use mathlib.Core.Bool.{false};
+ghost use lib.IntN.{ℤ};
+ghost use lib.ListN.{length};
+ghost use Prim.Native.Nat.{ℕ};
+ghost use Rattle.start.specs.StartLaws.{AcceptedSweep};
 ghost use Rattle.step.specs.Step.{isAdded};
-ghost use Rattle.step.specs.StepRows.{progressOf, PointReady, PointAdded, StepReady, StepLeaves};
+ghost use Rattle.step.specs.StepRows.{progressOf, steppingOf, PointReady, PointAdded, StepReady, StepLeaves, SweptOnce};
+ghost use Rattle.step.specs.Call.{Outcome, pointRow, answerFrom, stepChecked, stepOf};
 use angle::Point2;
 use apply::Entered;
 use corner::Added;
@@ -11,6 +19,8 @@ use decide::Fate;
 use flip_count::FlipCount;
 use math::Point;
 use mesh::Counts;
+use mesh_check::Checked;
+use mesh_check::Refusal;
 use ring_rows::Hull;
 
 // A point's fate, the faces and the flips of its step.
@@ -18,6 +28,17 @@ pub struct Answer {
     pub fate: Fate,
     pub faces: u32,
     pub flips: FlipCount,
+}
+
+pub enum Stepped {
+    Accepted(Answer),
+    Refused(Refusal),
+}
+
+// The mesh's counts after the call, and what it has done.
+pub struct StepAnswer {
+    pub counts: Counts,
+    pub stepped: Stepped,
 }
 
 // The mesh's counts and its ring after a step, the point's answer, and whether a flip's pushes would have overfilled the pending list.
@@ -159,4 +180,166 @@ pub fn single_bulk_insertion_step(
         entered.rightedge,
     );
     progress_of(added, ring, fate)
+}
+
+// Rows 1 to 7 of the table for a step, with the point as a row of one. The rows that are not the mesh's are given by their lengths.
+fn check_step(
+    counts: Counts,
+    positions: &[i32],
+    outs: &[u32],
+    halves: &[u32],
+    faces: &[u32],
+    nodes: usize,
+    freed: usize,
+    buckets: usize,
+    pending: usize,
+    center: Point2,
+    point: Point,
+) -> Checked
+    ensures { λ r. ⌜ r ≡ stepChecked counts (now (positions .entry)) (now (outs .entry)) (now (halves .entry)) (now (faces .entry))
+        nodes freed buckets pending (center .x) (center .y) point ⌝ }
+{
+    let row = [point.x, point.y];
+    start::check_sweep(
+        &row,
+        false,
+        counts,
+        positions,
+        outs,
+        halves,
+        faces,
+        nodes,
+        freed,
+        buckets,
+        pending,
+        center,
+    )
+}
+
+// The ring of an accepted mesh, one step with it, and zeros in the rows that end so.
+fn sweep_once(
+    positions: &mut [i32],
+    outs: &mut [u32],
+    halves: &mut [u32],
+    faces: &mut [u32],
+    nodes: &mut [[u64; 4]],
+    freed: &mut [u32],
+    buckets: &mut [u32],
+    pending: &mut [u32],
+    counts: Counts,
+    center: Point2,
+    point: Point,
+) -> Progress
+    requires { ⌜ AcceptedSweep (pointRow point) false counts (now positions) (now outs) (now halves) (now faces)
+        (length (now nodes)) (length (now freed)) (length (now buckets)) (length (now pending)) (center .x) (center .y) ⌝ }
+    ensures { λ r. ⌜ SweptOnce counts (now (positions .entry)) (now (outs .entry)) (now (halves .entry)) (now (faces .entry))
+        (now (nodes .entry)) (now (freed .entry)) (now (buckets .entry)) (now (pending .entry))
+        (now (positions .exit)) (now (outs .exit)) (now (halves .exit)) (now (faces .exit))
+        (now (nodes .exit)) (now (freed .exit)) (now (buckets .exit)) (now (pending .exit))
+        (center .x) (center .y) point r ⌝ }
+{
+    let hull = start::start_ring(positions, halves, faces, nodes, buckets, counts, center);
+    let progress = single_bulk_insertion_step(
+        positions,
+        outs,
+        halves,
+        faces,
+        pending,
+        nodes,
+        freed,
+        buckets,
+        counts,
+        hull,
+        center,
+        point,
+    );
+    start::clear_rows(nodes, freed, buckets, pending);
+    progress
+}
+
+// 9: "the pushes of a flip would overfill the pending list", with the place that the call names.
+fn answer_of(progress: Progress, place: u32) -> StepAnswer
+    ensures { λ r. ⌜ ((q : List ℤ) (o h a : List ℕ) → r ≡ answerFrom place (steppingOf q o h a progress)) ⌝ }
+{
+    let counts = progress.counts;
+    let answer = progress.answer;
+    if progress.full {
+        return StepAnswer {
+            counts: counts,
+            stepped: Stepped::Refused(Refusal {
+                number: 9,
+                place: place,
+            }),
+        };
+    }
+    StepAnswer {
+        counts: counts,
+        stepped: Stepped::Accepted(answer),
+    }
+}
+
+// The public call: one point, on a lent mesh.
+pub fn step(
+    counts: Counts,
+    positions: &mut [i32],
+    outs: &mut [u32],
+    halves: &mut [u32],
+    faces: &mut [u32],
+    nodes: &mut [[u64; 4]],
+    freed: &mut [u32],
+    buckets: &mut [u32],
+    pending: &mut [u32],
+    center: Point2,
+    point: Point,
+) -> StepAnswer
+    ensures { λ r. ⌜ _≡_ {A = Outcome}
+        (record {
+          answer = r;
+          positions = now (positions .exit);
+          outs = now (outs .exit);
+          halves = now (halves .exit);
+          faces = now (faces .exit);
+          nodes = now (nodes .exit);
+          freed = now (freed .exit);
+          buckets = now (buckets .exit);
+          pending = now (pending .exit);
+        })
+        (stepOf counts (now (positions .entry)) (now (outs .entry)) (now (halves .entry)) (now (faces .entry))
+        (now (nodes .entry)) (now (freed .entry)) (now (buckets .entry)) (now (pending .entry)) (center .x) (center .y) point) ⌝ }
+{
+    match check_step(
+        counts,
+        positions,
+        outs,
+        halves,
+        faces,
+        nodes.len(),
+        freed.len(),
+        buckets.len(),
+        pending.len(),
+        center,
+        point,
+    ) {
+        Checked::Accepted => {}
+        Checked::Refused(refusal) => {
+            return StepAnswer {
+                counts: counts,
+                stepped: Stepped::Refused(refusal),
+            };
+        }
+    }
+    let progress = sweep_once(
+        positions,
+        outs,
+        halves,
+        faces,
+        nodes,
+        freed,
+        buckets,
+        pending,
+        counts,
+        center,
+        point,
+    );
+    answer_of(progress, 0)
 }
