@@ -12,26 +12,30 @@ import random
 import sys
 
 import check_cases
+import hull
 import lists
 import locate_cases
 import meshes
 import selfcheck
 import sweep
+import verify
 from samples import bits
 
 NAN = float("nan")
 
 
 class Case:
-    """A seed, a centre, points, and the lengths of the rows lent."""
+    """A seed, a centre, points, and the lengths of the rows lent: exactly long enough, or with room for
+    `spare` more."""
 
-    def __init__(self, mesh, centre, points, pending=8, room=None, short=None, ring=None):
+    def __init__(self, mesh, centre, points, pending=8, room=None, short=None, ring=None, spare=0):
         n = mesh.vertices + len(points)
-        self.mesh, self.centre, self.points = lists.with_past(mesh, room or n), centre, points
+        self.mesh, self.centre, self.points = lists.with_past(mesh, room or n + spare), centre, points
         self.lengths = {"nodes": n + 1, "freed": n + 1, "buckets": max(16, n), "pending": pending,
-                        "answers": 4 * len(points)}
+                        "answers": sweep.WORDS * len(points)}
         if ring is not None:
             self.lengths.update(nodes=ring, freed=ring, buckets=ring)
+        self.lengths = {row: length + spare for row, length in self.lengths.items()}
         if short in self.lengths:
             self.lengths[short] -= 1
         elif short:
@@ -185,6 +189,195 @@ def unsettled():
     return mesh
 
 
+def turned(p, quarters):
+    """A point after so many quarter turns about the origin."""
+    x, y = p
+    for _ in range(quarters):
+        x, y = -y, x
+    return x, y
+
+
+def beside(a, b):
+    """The points nearest to the middle of the edge from a to b that lie just left and just right of it."""
+    x, y = (a[0] + b[0]) // 2, (a[1] + b[1]) // 2
+    near = [(x + i, y + j) for i in range(-4, 5) for j in range(-4, 5)]
+    areas = [(sweep.orient2d(a, b, p), p) for p in near]
+    return min(t for t in areas if t[0] > 0)[1], max(t for t in areas if t[0] < 0)[1]
+
+
+def about_an_edge():
+    """Name, case: points at an edge's ends, on its line and beside it. The edge is one that holds dead
+    west, or the centre lies on it, or neither."""
+    rim = [(4000, 0), (3000, 2800), (300, 4100), (-2900, 3100), (-4300, 100), (-2700, -3000), (100, -3900),
+           (3100, -2900)]
+    wheel, square = meshes.rim(rim), meshes.of_triangles([(0, 0), (40, 0), (40, 40), (0, 40)],
+                                                         [(0, 1, 2), (0, 2, 3)])
+    for mesh, centre, edges in ((wheel, (0.5, -0.25), (0, 3, 4, 6)), (wheel, (0.0, 0.0), (5,)),
+                                (square, (40.0, 20.0), (0, 1, 2, 3)), (square, (13.0, 0.0), (0,))):
+        walk = sweep.boundary(mesh)
+        for e in (walk[i] for i in edges):
+            a, b = mesh.at(mesh.origin(e)), mesh.at(mesh.to(e))
+            d = (b[0] - a[0], b[1] - a[1])
+            middle, (outside, inside) = ((a[0] + b[0]) // 2, (a[1] + b[1]) // 2), beside(a, b)
+            yield "at an edge's first end", Case(mesh, centre, [a])
+            yield "at its second end", Case(mesh, centre, [b])
+            yield "on its line before its first end", Case(mesh, centre, [(a[0] - d[0], a[1] - d[1])])
+            yield "in its middle", Case(mesh, centre, [middle])
+            yield "on its line after its second end", Case(mesh, centre, [(b[0] + d[0], b[1] + d[1])])
+            yield "just left of it", Case(mesh, centre, [outside])
+            yield "just right of it", Case(mesh, centre, [inside])
+    for centre in ((20.0, 20.0), (40.0, 20.0), (1.0, 39.0)):
+        point = tuple(round(c) for c in centre)
+        yield "at the centre", Case(square, centre, [point])
+        yield "one east of the centre", Case(square, centre, [(point[0] + 1, point[1])])
+
+
+def at_the_limit():
+    """Name, case, number: points at the limit of the coordinates and beyond."""
+    limit, square = sweep.LIMIT, check_cases.square()
+    wide = tri((-limit, -limit), (limit, -limit), (3, limit - 5))
+    for x in (-limit, 0, limit):
+        for y in (-limit, 0, limit):
+            yield "at the limit", Case(square, (1.0, 1.0), [(x, y)]), 0
+            yield "at the limit, a seed that reaches it", Case(wide, (0.0, -0.5), [(x, y)]), 0
+    for point in ((limit + 1, 0), (-limit - 1, 0), (0, limit + 1), (0, -limit - 1), (2147483647, 1),
+                  (-2147483648, 1), (1, 2147483647), (1, -2147483648)):
+        yield "beyond the limit", Case(square, (1.0, 1.0), [point]), 3
+        yield "beyond the limit, a seed that reaches it", Case(wide, (0.0, -0.5), [point]), 3
+
+
+def sized_rows():
+    """Name, case, number: rows exactly long enough for one more vertex, one entry short and with spare
+    entries, for 15, 16 and 17 vertices: 16 buckets are the fewest."""
+    for seed in (14, 15, 16):
+        rim = [(round(500 * math.cos(2 * math.pi * i / (seed - 1))),
+                round(500 * math.sin(2 * math.pi * i / (seed - 1)))) for i in range(seed - 1)]
+        mesh, centre, point = meshes.rim(rim), (0.5, 0.25), [(900, 700)]
+        yield "every row exactly long enough", Case(mesh, centre, point), 0
+        yield "spare entries in every row", Case(mesh, centre, point, spare=3), 0
+        for row in ("p", "o", "h", "f", "nodes", "freed", "buckets", "pending"):
+            yield "a row one entry short: " + row, Case(mesh, centre, point, short=row), 2
+
+
+def spiked_fan(triangles, x, spikes, mirrored=False):
+    """A fan about (0, 0) to points on a vertical line, and new vertices outside boundary edges that
+    nobody legalizes: where its edges flip, the pending list grows."""
+    line = [(x, -i if mirrored else i) for i in range(triangles + 1)]
+    mesh = meshes.with_room(meshes.fan([(0, 0)] + (line[::-1] if mirrored else line)),
+                            triangles + 2 + len(spikes))
+    for edge, p in spikes:
+        sweep.create_new_face_adjacent_to_edge(mesh, edge, p)
+    return mesh
+
+
+def filling():
+    """Name, case, flips before 9: a legalization that starts with one edge and adds one by each flip has
+    eight entries after seven flips, so the eighth flip is the first that can overfill them; one after a
+    removal starts with two and adds two, so there the fourth is."""
+    yield ("8 entries, the eighth flip of legalize_edge, its last",
+           Case(spiked_fan(8, 100, []), (33.0, 1.0), [(20, -2)]), 7)
+    yield ("8 entries, the eighth flip of legalize_edge of nine",
+           Case(spiked_fan(9, 100, [], True), (20.5, 10.0), [(54, -41)]), 7)
+    yield ("8 entries, the ninth flip of legalize_edge, its last",
+           Case(spiked_fan(8, 100, [(1, (-19, -16))], True), (-1.5, -2.0), [(42, -46)]), 8)
+    yield ("8 entries, the ninth flip of legalize_edge of ten",
+           Case(spiked_fan(9, 100, [(1, (4, -18))], True), (30.0, 10.0), [(58, -23)]), 8)
+    yield ("8 entries, the tenth flip of legalize_edge of eleven",
+           Case(spiked_fan(9, 100, [(1, (-3, -4)), (41, (-12, -19))], True), (18.5, 8.5), [(35, -46)]), 9)
+    yield ("8 entries, the fourth flip of the first walk, its last",
+           Case(spiked_fan(4, 50, [(17, (-12, 2))], True), (-3.5, 4.5), [(11, -20)]), 3)
+    yield ("8 entries, the fourth flip of the first walk of five",
+           Case(spiked_fan(5, 100, [(21, (-13, 4))]), (-1.0, 1.0), [(13, -15)]), 3)
+    yield ("8 entries, the fifth flip of the second walk, its last",
+           Case(spiked_fan(7, 50, [(29, (-12, 7)), (33, (14, -19))]), (-5.0, 3.5), [(57, -3)]), 4)
+    yield ("8 entries, the fifth flip of the second walk of six",
+           Case(spiked_fan(5, 50, [(21, (-25, 35)), (25, (4, -12))], True), (-4.0, 8.5), [(43, -30)]), 4)
+    yield ("8 entries, the seventh flip of the second walk, its last, after a first walk of seven edges",
+           Case(spiked_fan(8, 20, [(1, (39, -6))]), (7.0, -4.5), [(47, 12)]), 6)
+
+
+def flips_of(case, capacity):
+    """The flips that a step makes with so many pending entries, and the faces that it adds."""
+    mesh, made, flip_cw = case.mesh.copy(), [], sweep.flip_cw
+    sweep.flip_cw = lambda m, u: made.append(u) or flip_cw(m, u)
+    try:
+        sweep.one_step(mesh, case.points[0], case.centre, capacity)
+    except sweep.PendingFull:
+        pass
+    sweep.flip_cw = flip_cw
+    return len(made), mesh.faces - case.mesh.faces
+
+
+def least_pending(case):
+    """The least number of entries with which a step is not refused 9."""
+    flips = flips_of(case, 1 << 30)[0]
+    return next(n for n in range(sweep.LEAST_PENDING, 100) if flips_of(case, n)[0] == flips)
+
+
+def bowl(half, quarters):
+    """A fan from below to a parabola that opens upwards: a point above sees all of it, and its walks
+    cover it, since the boundary comes towards the point on both sides."""
+    chain = [(i, i * i) for i in range(half, -half - 1, -1)]
+    return meshes.fan([turned(p, quarters) for p in [(0, -2 * half * half)] + chain])
+
+
+def long_walks():
+    """Name, case, the least number of faces."""
+    for quarters in range(4):
+        centre = tuple(float(c) for c in turned((0.25, -700.5), quarters))
+        for point, faces in (((0, 401), 40), ((0, 4000), 40), ((0, 150), 33), ((3, 60), 5)):
+            yield ("a walk over dozens of edges",
+                   Case(bowl(20, quarters), centre, [turned(point, quarters)], pending=64), faces)
+
+
+def one_angle(count):
+    """A seed with so many boundary vertices in one direction from the centre (0, 0)."""
+    ray = [(3 * i, 2 * i) for i in range(1, count + 1)]
+    west, south = count, count + 1
+    return meshes.of_triangles(ray + [(-9, 1), (2, -9)],
+                               [(west, south, 0)] + [(i, i + 1, west) for i in range(count - 1)])
+
+
+WALKS = ("another pushing order in legalize_edge",
+         "is_behind_edge turned in the first walk", "is_behind_edge of another edge in the first walk",
+         "is_behind_edge turned in the second walk", "is_behind_edge of another edge in the second walk")
+
+
+def telling(rng, name, count):
+    """Cases of one point on general seeds, unsettled ones too, whose step would be another one if
+    sweep.py were changed in the named way."""
+    module = verify.changed_as(name)
+    while count:
+        spread = rng.choice([6, 30, 300])
+        mesh = selfcheck.random_seed(rng, spread) if rng.random() < 0.5 else unsettled_rim(rng, spread)
+        centre = selfcheck.random_centre(rng, mesh, spread)
+        case = Case(mesh, centre, selfcheck.random_points(rng, centre, 2 * spread, 1), pending=64)
+        given, told = (result_of(m, case) for m in (sweep, module))
+        if given[0][:1] == (0,) and given != told:
+            count -= 1
+            yield case
+
+
+def unsettled_rim(rng, spread):
+    n = rng.randint(5, 12)
+    around = [(round(spread * math.cos(2 * math.pi * i / n) * rng.uniform(0.4, 1.0)),
+               round(spread * math.sin(2 * math.pi * i / n) * rng.uniform(0.4, 1.0))) for i in range(n)]
+    if any(not sweep.left((0, 0), a, b) for a, b in zip(around, around[1:] + around[:1])):
+        return unsettled_rim(rng, spread)
+    mesh = meshes.rim(around)
+    meshes.random_flips(mesh, rng, 4 * n)
+    return meshes.renumbered(mesh, rng)
+
+
+def result_of(module, case):
+    mesh, lent = module.Mesh(*map(list, case.mesh.rows()), *case.mesh.counts()), case.lent()
+    try:
+        answer = module.step(mesh, lent, case.centre, case.points[0])
+    except AssertionError:  # a changed walk may go on for ever
+        answer = None
+    return answer, mesh.rows(), mesh.counts()
+
+
 def listed(kind, rng, count, spread):
     """Points of one kind."""
     box = lambda s: (rng.randint(-s, s), rng.randint(-s, s))
@@ -220,13 +413,85 @@ def listed(kind, rng, count, spread):
 KINDS = ("near to far", "far to near", "unsorted", "spiral", "grid", "rays", "line", "repeated", "circle")
 
 
+def round_about(count, radius, centre, step=1):
+    """Points on a circle; with a step that has no factor in common with the count they come in another
+    order than round the circle."""
+    return [(centre[0] + round(radius * math.cos(2 * math.pi * step * i / count)),
+             centre[1] + round(radius * math.sin(2 * math.pi * step * i / count))) for i in range(count)]
+
+
+def rings():
+    """Name, case, the largest ring, the bucket counts in turn, the most faces of a step: rings that grow
+    and shrink, whose freed nodes are taken again."""
+    seed, low = tri((-2, -2), (3, -1), (-1, 3)), tri((0, -30000), (2, 0), (-2, 0))
+    for count, few, buckets, faces in ((18, 5, [8, 16], 5), (34, 5, [8, 16, 32], 9),
+                                       (66, 8, [8, 16, 32, 64, 16], 17),
+                                       (130, 12, [8, 16, 32, 64, 128, 32], 33)):
+        points = (round_about(count, 9000, (0, 0), 7) + round_about(few, 2000000, (0, 0))
+                  + round_about(count // 4, 9000000, (0, 0)))
+        yield ("a ring of %d angles, covered and grown again" % count,
+               Case(seed, (0.0, 0.0), points, pending=256), count, buckets, faces)
+    chain = [(i, i * i - 4) for i in range(3, 133)]
+    for turn in (1, -1):
+        points = chain + [(0, 40000)] + round_about(40, 200000, (0, -25000), turn)
+        yield ("130 angles close together, covered by one point and grown again",
+               Case(low, (0.25, -25000.0), points, pending=1024), 133, [8, 16, 32, 64, 128, 32], 131)
+    for quarters in range(4):
+        centre = tuple(float(c) for c in turned((0.25, -700.5), quarters))
+        points = [turned(p, quarters)
+                  for p in ((900, -700), (-900, -700), (3, 60), (-2, 150), (0, 401), (1, 4000))]
+        yield ("walks over dozens of edges in a seed",
+               Case(bowl(20, quarters), centre, points, pending=128), 44, [8, 16, 32], 30)
+    ray = [(4 * k, 0) for k in range(1, 25)]
+    for quarters in range(4):
+        for west in ((-40, 0), (-40, -1)):
+            corners = [turned(p, quarters) for p in (west, (40, -30), (0, 0))]
+            points = [turned(p, quarters) for p in ray + [(50, 60), (120, 0), (150, -9), (110, -1)]]
+            centre = tuple(float(c) for c in turned((-20, 0), quarters))
+            yield "one angle, covered", Case(tri(*corners), centre, points, pending=64), 5, [8], 25
+    yield "one angle, outwards", Case(seed, (0.0, 0.0), ray, pending=64), 4, [8], 3
+    yield "one angle, inwards", Case(seed, (0.0, 0.0), ray[::-1], pending=64), 3, [8], 2
+    spokes = [[(4 * k * x, 4 * k * y) for k in range(1, 13)]
+              for x, y in ((3, 1), (-3, 1), (-1, 0), (1, -3), (0, 1))]
+    by_turns = [p for ps in zip(*spokes) for p in ps]
+    yield "five angles by turns", Case(seed, (0.0, 0.0), by_turns, pending=64), 4, [8], 3
+    yield "five angles, one after another", Case(seed, (0.0, 0.0), sum(spokes, []), pending=64), 5, [8], 3
+
+
+def carried_ring(case):
+    """The largest ring of a run, the bucket counts that it has in turn, the most faces of a step, and how
+    often a freed node is taken again."""
+    mesh = meshes.with_room(case.mesh, case.mesh.vertices + len(case.points))
+    carried = hull.Hull(mesh, case.centre)
+    size, buckets, most, again = len(carried.data), [8], 0, 0
+    for p in case.points:
+        fate, edge = sweep.fate_of(mesh, p, case.centre)
+        if fate != 1:
+            continue
+        vertex, faces, _ = sweep.insertion(mesh, edge, p, case.centre, 1 << 30)
+        nodes = len(carried.data)
+        carried.insert_vertex(mesh, vertex)
+        again, most = again + (nodes == len(carried.data)), max(most, faces)
+        size = max(size, len(carried.data) - len(carried.empty))
+        if buckets[-1] != len(carried.buckets):
+            buckets.append(len(carried.buckets))
+    return [size, buckets, most, again]
+
+
 def run_list():
     out, rng = lists.List("run_cases.py run"), random.Random(74)
     for points in ([], [(9, 9)], [(9, 9), (-9, 9), (9, -9)]):
         for name, case, number, place in refusals(points):
             assert add_run(out, name, case)[:2] == (number, place), (name, len(points))
-    short = Case(check_cases.square(), (1.0, 1.0), [(9, 9), (1, 8)], short="answers")
+    two = [(9, 9), (1, 8)]
+    short = Case(check_cases.square(), (1.0, 1.0), two, short="answers")
     assert add_run(out, "the answers one number short", short)[:2] == (2, 0)
+    short.lengths["answers"] = 4 * len(two)
+    assert add_run(out, "four numbers for each answer", short)[:2] == (2, 0)
+    beyond = Case(check_cases.square(), (1.0, 1.0), [(9, 9), (sweep.LIMIT + 1, 8)], short="answers")
+    assert add_run(out, "the answers one number short, a point beyond", beyond)[:2] == (2, 0)
+    spare = Case(check_cases.square(), (1.0, 1.0), two, spare=3)
+    assert add_run(out, "spare entries in every row", spare)[:2] == (0, 0)
     for name, case, number in examples():
         answer = add_run(out, name, case)
         assert answer[0] == number, (name, answer)
@@ -252,6 +517,9 @@ def run_list():
             if found[9] < 8 and add_run(lists.List(""), "", case)[0] == 9:
                 found[9] += 1
                 add_run(out, "filling %d" % found[9], case)
+    for name, case, *told in rings():
+        *found, again = carried_ring(case)
+        assert found == told and again and add_run(out, name, case)[0] == 0, (name, found, again)
     return out
 
 
@@ -262,6 +530,22 @@ def step_list():
     for name, case, number in examples():
         if len(case.points) == 1:
             assert add_step(out, name, case)[0] == number, name
+    for name, case in about_an_edge():
+        assert add_step(out, name, case)[0] == 0, name
+    for name, case, number in [*at_the_limit(), *sized_rows()]:
+        assert add_step(out, name, case)[0] == number, name
+    for name, case, flips in filling():
+        assert flips_of(case, 8)[0] == flips and add_step(out, name, case)[0] == 9, name
+        case.lengths["pending"] = least_pending(case)
+        assert add_step(out, "the same with just as many entries as it takes", case)[0] == 0
+    for name, case, faces in long_walks():
+        assert flips_of(case, 1 << 30)[1] == faces and add_step(out, name, case)[0] == 0, name
+    for count in (1, 2, 3, 9):
+        case = Case(one_angle(count), (0.0, 0.0), [(90, 60)])
+        assert add_step(out, "vertices at one angle: %d" % count, case)[0] == (7 if count > 1 else 0)
+    for name in WALKS:
+        for case in telling(rng, name, 3):
+            assert add_step(out, "told from: " + name, case)[0] == 0
     wanted = {1: 40, 2: 8, 3: 12, 4: 3, 5: 4}
     tries = 0
     while any(wanted.values()) and tries < 40000:

@@ -65,11 +65,11 @@ def examples():
     """Rare cases, each at its smallest."""
     tri = sweep.seed_triangle
     _, lent, answer = run_of(tri([(0, 0), (0, -1), (1, 1)], 3), (1.0, -1.0), [(-2, -1)])
-    assert answer[0] == 0 and lent.answers == [4, 0, 0, 0], "fate 4"
+    assert answer[0] == 0 and lent.answers == [4, 0, 0, 0, 0], "fate 4"
 
     mesh, lent, answer = run_of(tri([(-6, 4), (0, -6), (6, 4)], 3), (6.0, -5.0),
                                 [(6, 0), (12, -2), (6, 4)])
-    assert answer[0] == 0 and lent.answers[0::4] == [1, 1, 1], "a vertex at an existing position"
+    assert answer[0] == 0 and lent.answers[0::sweep.WORDS] == [1, 1, 1], "a vertex at an existing position"
     assert mesh.at(2) == mesh.at(5) == (6, 4)
     ring = [mesh.at(mesh.origin(e)) for e in sweep.boundary(mesh)]
     n = len(ring)
@@ -128,11 +128,12 @@ def vertices_kept(mesh, seed, points, answers):
     """The vertices are the seed's and the points of fate 1, each at its position, numbered in order."""
     expected = [seed.at(v) for v in range(seed.vertices)]
     for i, p in enumerate(points):
-        if answers[4 * i] == 1:
-            assert answers[4 * i + 1] == len(expected), "vertex number"
+        fate, vertex, faces, flips = sweep.answer_at(answers, i)
+        if fate == 1:
+            assert vertex == len(expected), "vertex number"
             expected.append(p)
         else:
-            assert answers[4 * i + 1:4 * i + 4] == [0, 0, 0]
+            assert (vertex, faces, flips) == (0, 0, 0)
     assert [mesh.at(v) for v in range(mesh.vertices)] == expected, "vertices"
 
 
@@ -224,13 +225,13 @@ def whole_run(seed, centre, points, pending, tally):
         assert set(lent.nodes + lent.pending + lent.answers) <= {7}
         return
     assert not any(lent.nodes + lent.freed + lent.buckets + lent.pending), "zeros"
-    for fate in filter(None, lent.answers[0::4]):
+    for fate in filter(None, lent.answers[0::sweep.WORDS]):
         tally["fate %d" % fate] = tally.get("fate %d" % fate, 0) + 1
     untouched(mesh.rows(), given.rows(), mesh.counts())
     assert mesh.left_out == 0, "a flip left out"
     if answer[0] == 9:
         standing(mesh)
-        assert not any(lent.answers[4 * answer[1]:])
+        assert not any(lent.answers[sweep.WORDS * answer[1]:])
         return
     vertices_kept(mesh, seed, points, lent.answers)
     finished(mesh)
@@ -238,7 +239,8 @@ def whole_run(seed, centre, points, pending, tally):
     standing(again)
     flips, closing = finish_watched(again, pending, tally)
     assert (flips, closing) == answer[3:] and again.rows() == mesh.rows(), "the run step by step"
-    tally["flips"] = tally.get("flips", 0) + sum(lent.answers[3::4]) + flips
+    flips += sum(sweep.answer_at(lent.answers, i)[3] for i in range(len(points)))
+    tally["flips"] = tally.get("flips", 0) + flips
     tally["closing flips"] = tally.get("closing flips", 0) + closing
     settled = meshes.with_room(mesh, mesh.vertices)
     same = settled.copy()

@@ -8,7 +8,8 @@ boundary at every step, because that is what the words say.
 
 Rows are Python lists, laid out as the proved code has them:
   positions x, y per vertex; outs one half-edge per vertex; halves next, prev, face, origin per
-  half-edge; stored one half-edge per face; answers fate, vertex, faces, flips per point.
+  half-edge; stored one half-edge per face; answers fate, vertex, faces and the flips in two words of 64
+  bits, high then low, per point.
 Only the lengths of the ring's rows (nodes, freed, buckets) and of pending matter here.
 """
 
@@ -19,6 +20,7 @@ LIMIT = 16777216
 MOST_VERTICES = 1000000
 LEAST_PENDING = 8
 NEXT, PREV, FACE, ORIGIN = 0, 1, 2, 3
+WORDS = 5  # of an answer in the answers row
 
 
 class Refusal(Exception):
@@ -207,7 +209,7 @@ def refuse_pending_row(lent):
 
 def refuse_answer_row(lent, points):
     """2, 01: "one answer (fate, vertex, faces, flips) per point" """
-    if len(lent.answers) < 4 * points:
+    if len(lent.answers) < WORDS * points:
         raise Refusal(2)
 
 
@@ -739,7 +741,7 @@ class Lent:
 
 def lent_for(n, pending, points=0):
     """Rows of exactly the sizes that 01 names for N vertices."""
-    return Lent([7] * (n + 1), [7] * (n + 1), [7] * max(16, n), [7] * pending, [7] * (4 * points))
+    return Lent([7] * (n + 1), [7] * (n + 1), [7] * max(16, n), [7] * pending, [7] * (WORDS * points))
 
 
 def check(mesh):
@@ -822,6 +824,18 @@ def finish(mesh, lent):
     return answer
 
 
+def words_of(answer):
+    """An answer in the answers row."""
+    fate, vertex, faces, flips = answer
+    return [fate, vertex, faces, flips >> 64, flips % 2 ** 64]
+
+
+def answer_at(row, i):
+    """The answer of point i, back from the row."""
+    fate, vertex, faces, high, low = row[WORDS * i:WORDS * i + WORDS]
+    return (fate, vertex, faces, (high << 64) + low)
+
+
 def run(mesh, lent, centre, points):
     """Answers (number, place, faces added, convexity flips, closing flips); the points' answers go to
     the row.  01: "A run takes its points in list order." """
@@ -830,10 +844,11 @@ def run(mesh, lent, centre, points):
     except Refusal as r:
         return (r.number, r.place, 0, 0, 0)
     capacity, done = len(lent.pending), 0
-    lent.answers[:4 * len(points)] = [0] * (4 * len(points))
+    lent.answers[:WORDS * len(points)] = [0] * (WORDS * len(points))
     try:
         for i, point in enumerate(points):
-            lent.answers[4 * i:4 * i + 4] = list(one_step(mesh, point, centre, capacity))
+            answer = one_step(mesh, point, centre, capacity)
+            lent.answers[WORDS * i:WORDS * i + WORDS] = words_of(answer)
             done = i + 1
         answer = (0, 0) + finishing(mesh, capacity)
     except PendingFull:
@@ -907,8 +922,7 @@ def listing(text):
     number, place, faces, convex, closing = run(mesh, lent, (float(centre[0]), float(centre[1])), points)
     if number:
         return b"r %d %d\n" % (number, place)
-    out = [b"p %d %d %d %d %d\n" % ((i,) + tuple(lent.answers[4 * i:4 * i + 4]))
-           for i in range(len(points))]
+    out = [b"p %d %d %d %d %d\n" % ((i,) + answer_at(lent.answers, i)) for i in range(len(points))]
     out.append(b"t %d %d %d %d %d %d %d\n" % (mesh.vertices, mesh.edges, mesh.faces - 1,
                                              boundary_area(mesh), faces, convex, closing))
     return b"".join(out)

@@ -203,6 +203,18 @@ MUTANTS = [  # name, text, what takes its place; and why, where no list can noti
     ("another pushing order", "for h in (e1, e2, e3, e4):", "for h in (e4, e3, e2, e1):"),
     ("another pushing order in legalize_edge", "[mesh.next(rev(e)), mesh.prev(rev(e))]",
      "[mesh.prev(rev(e)), mesh.next(rev(e))]"),
+    ("is_behind_edge turned in the first walk", "is_behind_edge(point, end, start)",
+     "is_behind_edge(end, point, start)"),
+    ("is_behind_edge turned in the second walk", "is_behind_edge(middle, point, end)",
+     "is_behind_edge(point, middle, end)"),
+    ("is_behind_edge of another edge in the first walk", "is_behind_edge(point, end, start)",
+     "is_behind_edge(point, start, end)"),
+    ("is_behind_edge of another edge in the second walk", "is_behind_edge(middle, point, end)",
+     "is_behind_edge(middle, end, point)"),
+    ("the other end asked in the first walk", "is_behind_edge(point, end, start)",
+     "is_behind_edge(start, end, point)", "(the same test)"),
+    ("the other end asked in the second walk", "is_behind_edge(middle, point, end)",
+     "is_behind_edge(end, point, middle)", "(the same test)"),
     ("a single convexity pass", "        if mesh.faces == faces_before:\n            return flips, passes",
      "        return flips, passes"),
     ("a closing pass of one turn", "        if not flipped:\n            return count", "        return count"),
@@ -270,7 +282,9 @@ MUTANTS = [  # name, text, what takes its place; and why, where no list can noti
      "(a segment does not hold its second angle)"),
     ("no fate 4", "        return 4, edge", "        pass"),
     ("no fate 5", "        return 5, None", "        return 3, None"),
-    ("answers after 9 kept", "lent.answers[:4 * len(points)] = [0] * (4 * len(points))", "pass"),
+    ("an answers row of four words", "WORDS = 5", "WORDS = 4"),
+    ("the flips' words turned round", "flips >> 64, flips % 2 ** 64]", "flips % 2 ** 64, flips >> 64]"),
+    ("answers after 9 kept", "lent.answers[:WORDS * len(points)] = [0] * (WORDS * len(points))", "pass"),
     ("9 names no place", "answer = (9, done, 0, 0, 0)", "answer = (9, 0, 0, 0, 0)"),
     ("the pending row not cleared", "        self.pending[:] = [0] * len(self.pending)", "        pass"),
     ("the buckets not cleared", "        self.buckets[:] = [0] * len(self.buckets)", "        pass"),
@@ -283,20 +297,29 @@ MUTANTS = [  # name, text, what takes its place; and why, where no list can noti
 ]
 
 
-def changed(source, old, new):
+def changed(text, old, new):
     """sweep.py with one place changed."""
-    assert source.count(old) == 1, (source.count(old), old)
+    assert text.count(old) == 1, (text.count(old), old)
     module = types.ModuleType("changed")
-    exec(compile(source.replace(old, new), "changed", "exec"), module.__dict__)
+    exec(compile(text.replace(old, new), "changed", "exec"), module.__dict__)
     return module
 
 
-def mutants():
+def source():
     with open(os.path.join(HERE, "sweep.py")) as f:
-        source = f.read()
-    silent = 0
+        return f.read()
+
+
+def changed_as(name):
+    """sweep.py changed as the list above names it."""
+    old, new = next(m[1:3] for m in MUTANTS if m[0] == name)
+    return changed(source(), old, new)
+
+
+def mutants():
+    text, silent = source(), 0
     for name, old, new, *implied in MUTANTS:
-        module = changed(source, old, new)
+        module = changed(text, old, new)
         noticed = [n for n in NAMES if failures(module, n, first_only=True)[1]]
         silent += not noticed and not implied
         print("%-45s %s" % (name, " ".join(noticed + implied) or "NOTICED BY NONE"))

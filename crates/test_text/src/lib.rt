@@ -1,4 +1,5 @@
-// Decimal numbers from a text of bytes, for the programs that run lists of cases. A cursor is a place in the text; past its end there is nothing to read.
+// Lines of a tag and decimal numbers in a text of bytes, for the program that runs lists of cases. A cursor is a place in the text; past its end there is nothing to
+// read.
 pub struct Number {
     pub negative: bool,
     pub magnitude: u64,
@@ -8,6 +9,11 @@ pub struct Number {
 // The byte at a place, 0 past the end.
 pub fn byte(text: &[u8], at: usize) -> u8 {
     if at < text.len() { text[at] } else { 0 }
+}
+
+// The place behind a byte.
+pub fn behind(text: &[u8], at: usize) -> usize {
+    if at < text.len() { at + 1 } else { at }
 }
 
 // The place behind a blank, if one stands here.
@@ -86,6 +92,68 @@ pub fn next_line(text: &[u8], at: usize) -> usize {
         i = i + 1;
     }
     i
+}
+
+// The place behind the next line with a tag, or the text's end.
+pub fn behind_line(text: &[u8], at: usize, tag: u8) -> usize {
+    let mut is_start = true;
+    let mut i = at;
+    while i < text.len() {
+        let b = text[i];
+        if is_start && b == tag {
+            return next_line(text, i);
+        }
+        is_start = b == b'\n';
+        i += 1;
+    }
+    i
+}
+
+// Whether a line is a tag and these numbers.
+pub fn is_line_of(text: &[u8], at: usize, tag: u8, numbers: &[u64]) -> bool {
+    let mut place = behind(text, at);
+    let mut same = byte(text, at) == tag;
+    let mut i: usize = 0;
+    while i < numbers.len() {
+        let n = read_number(text, place);
+        if byte(text, place) != b' ' || n.negative || n.magnitude != numbers[i] {
+            same = false;
+        }
+        place = n.at;
+        i += 1;
+    }
+    same && byte(text, place) == b'\n'
+}
+
+// Whether a line `z` is the last one and has a number.
+fn is_closing(text: &[u8], at: usize, lines: u32) -> bool {
+    let n = read_number(text, behind(text, at));
+    let end = n.at;
+    n.magnitude == lines as u64 && byte(text, end) == b'\n' && behind(text, end) == text.len()
+}
+
+// One more, up to the largest.
+pub fn one_more(n: u32) -> u32 {
+    if n < 4294967295 { n + 1 } else { n }
+}
+
+// Whether the text is a whole list: its last line is `z` and the number of lines before it, comments not counted.
+pub fn is_whole_list(text: &[u8]) -> bool {
+    let mut lines: u32 = 0;
+    let mut is_start = true;
+    let mut i: usize = 0;
+    while i < text.len() {
+        let b = text[i];
+        if is_start && b == b'z' {
+            return is_closing(text, i, lines);
+        }
+        if is_start && b != b'#' {
+            lines = one_more(lines);
+        }
+        is_start = b == b'\n';
+        i += 1;
+    }
+    false
 }
 
 // The number as 32 signed bits, 0 where it does not fit.

@@ -1,84 +1,59 @@
--- `test_mesh::read_words` meets its contract. The invariant: the row keeps its length. Assumes nothing.
-use Prim.Native.Nat.{_≤_, _-_}
-use mathlib.Core.Path.{_≡_}
-use lib.ListN.{length, length-set}
+-- `test_mesh::read_words` meets its contract. Assumes nothing.
+use mathlib.Core.Path.{sym}
 use native.Mathlib.Omega.{arith}
+use lib.Seq.{length-take-le}
 use borrow.Author.Needs.{needs}
 use Rattle.test_mesh.proofs.read_words.Statement.{statement}
 use Rattle.test_mesh.proofs.read_words.Tie as tie
 
-abbrev Inv-loop : tie.InvT-loop
-Inv-loop text at tag row₀ start past place₀ count i₀ row place i = (i ≤ count) × (length row ≡ length row₀) × (count ≤ length row₀)
-
-abbrev μ-loop : tie.MeasureT-loop
-μ-loop text at tag row₀ start past place₀ count i₀ row place i = count - i
-
-behind-requires : tie.Need-behind-requires Inv-loop μ-loop
+behind-requires : tie.Need-behind-requires
 behind-requires c κs = search needs
 
-read-number-requires : tie.Need-read-number-requires Inv-loop μ-loop
+read-number-requires : tie.Need-read-number-requires
 read-number-requires c κs = search needs
 
-read-number-requires-2 : tie.Need-read-number-requires-2 Inv-loop μ-loop
+read-number-requires-2 : tie.Need-read-number-requires-2
 read-number-requires-2 c κs = search needs
 
-returns : tie.Need-returns Inv-loop μ-loop
+too-long-requires : tie.Need-too-long-requires
+too-long-requires c κs = search needs
+
+returns : tie.Need-returns
 returns c = search needs
 
-loop-holds : tie.Need-loop-holds Inv-loop μ-loop
-loop-holds c = search needs
+slice-relend-prefix-fill-words : tie.Need-slice-relend-prefix-fill-words
+slice-relend-prefix-fill-words c = search needs
 
-next-entry-requires : tie.Need-next-entry-requires Inv-loop μ-loop
-next-entry-requires c κs = search needs
+slice-aggregate-fill-words : tie.Need-slice-aggregate-fill-words
+slice-aggregate-fill-words c = sym (length-take-le _ _ (omega arith))
 
-unsigned-requires : tie.Need-unsigned-requires Inv-loop μ-loop
-unsigned-requires c κs = search needs
+fill-words-requires : tie.Need-fill-words-requires
+fill-words-requires c κs = search needs
 
-mul-row : tie.Need-mul-row Inv-loop μ-loop
-mul-row c = search needs
-
-slice-write-row : tie.Need-slice-write-row Inv-loop μ-loop
-slice-write-row c = search needs
-
-add-i : tie.Need-add-i Inv-loop μ-loop
-add-i c = search needs
-
-loop-less : tie.Need-loop-less Inv-loop μ-loop
-loop-less c = search needs
-
-loop-again : tie.Need-loop-again Inv-loop μ-loop
-loop-again c = simp length-set (omega arith)
-
-behind-requires-2 : tie.Need-behind-requires-2 Inv-loop μ-loop
+behind-requires-2 : tie.Need-behind-requires-2
 behind-requires-2 c κs = search needs
 
-is-line-requires : tie.Need-is-line-requires Inv-loop μ-loop
+is-line-requires : tie.Need-is-line-requires
 is-line-requires c κs = search needs
 
-same-length : tie.Need-same-length Inv-loop μ-loop
+same-length : tie.Need-same-length
 same-length c = search needs
 
-returns-2 : tie.Need-returns-2 Inv-loop μ-loop
+returns-2 : tie.Need-returns-2
 returns-2 c = search needs
 
 pub read-words-spec : {M : Type 1} → statement M
 read-words-spec =
     tie.close
     (tie.spec
-    Inv-loop
-    μ-loop
     behind-requires
     read-number-requires
     read-number-requires-2
+    too-long-requires
     returns
-    loop-holds
-    next-entry-requires
-    unsigned-requires
-    mul-row
-    slice-write-row
-    add-i
-    loop-less
-    loop-again
+    slice-relend-prefix-fill-words
+    slice-aggregate-fill-words
+    fill-words-requires
     behind-requires-2
     is-line-requires
     same-length

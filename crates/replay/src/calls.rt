@@ -1,0 +1,202 @@
+// The lines that the cases of several calls share.
+ghost use Prim.Native.Nat.{_≤_};
+use super::rows;
+use angle::Point2;
+use decide::Fate;
+use finish::Finished;
+use math::Point;
+use mesh::Counts;
+use test_mesh::Agreed;
+use test_mesh::RowLine;
+use test_text::Number;
+
+// The lengths of the ring's rows.
+pub struct RingLine {
+    pub nodes: usize,
+    pub freed: usize,
+    pub buckets: usize,
+    pub at: usize,
+    pub is_whole: bool,
+}
+
+pub struct CenterLine {
+    pub center: Point2,
+    pub at: usize,
+    pub is_whole: bool,
+}
+
+pub struct PointLine {
+    pub point: Point,
+    pub at: usize,
+    pub is_whole: bool,
+}
+
+// A length of a row that can be lent so many entries, 0 for one that is too large.
+fn within(n: Number, most: usize) -> usize
+    ensures { λ r. ⌜ r ≤ most ⌝ }
+{
+    if n.magnitude > most as u64 {
+        return 0;
+    }
+    n.magnitude as usize
+}
+
+// Whether a length can be lent.
+fn fits(n: Number, most: usize) -> bool {
+    !n.negative && n.magnitude <= most as u64
+}
+
+// `n nodes freed buckets`
+pub fn read_ring(text: &[u8], at: usize) -> RingLine
+    ensures { λ r. ⌜ r .nodes ≤ 256 ⌝ }
+    ensures { λ r. ⌜ r .freed ≤ 256 ⌝ }
+    ensures { λ r. ⌜ r .buckets ≤ 256 ⌝ }
+{
+    let nodes = test_text::read_number(text, test_text::behind(text, at));
+    let freed = test_text::read_number(text, nodes.at);
+    let buckets = test_text::read_number(text, freed.at);
+    let end = buckets.at;
+    RingLine {
+        nodes: within(nodes, rows::RING),
+        freed: within(freed, rows::RING),
+        buckets: within(buckets, rows::RING),
+        at: test_text::behind(text, end),
+        is_whole: test_mesh::is_line(text, at, b'n', end)
+            && fits(nodes, rows::RING)
+            && fits(freed, rows::RING)
+            && fits(buckets, rows::RING),
+    }
+}
+
+// A line of a row that is lent with 7 in every entry.
+pub fn read_sevens(text: &[u8], at: usize, tag: u8, most: usize) -> RowLine
+    ensures { λ r. ⌜ r .length ≤ most ⌝ }
+{
+    let n = test_text::read_number(text, test_text::behind(text, at));
+    let past = test_text::read_number(text, n.at);
+    let end = past.at;
+    RowLine {
+        length: within(n, most),
+        at: test_text::behind(text, end),
+        is_whole: test_mesh::is_line(text, at, tag, end) && past.magnitude == 7 && fits(n, most),
+    }
+}
+
+// A line with a centre.
+pub fn read_center(text: &[u8], at: usize, tag: u8) -> CenterLine {
+    let c = test_mesh::read_center(text, test_text::behind(text, at));
+    let center = c.p;
+    let end = c.at;
+    CenterLine {
+        center: center,
+        at: test_text::behind(text, end),
+        is_whole: test_mesh::is_line(text, at, tag, end),
+    }
+}
+
+// The line `v` with a single point.
+pub fn read_point(text: &[u8], at: usize) -> PointLine {
+    let count = test_text::read_number(text, test_text::behind(text, at));
+    let v = test_mesh::read_point(text, count.at);
+    let point = v.p;
+    let end = v.at;
+    PointLine {
+        point: point,
+        at: test_text::behind(text, end),
+        is_whole: test_mesh::is_line(text, at, b'v', end) && count.magnitude == 1,
+    }
+}
+
+// Whether the list says at a place what mesh the call must leave; where it does not, the call must change nothing.
+pub fn is_told(text: &[u8], at: usize) -> bool {
+    test_text::byte(text, at) == b'M'
+}
+
+// What the ring's rows and pending must hold after the call.
+pub fn cleared(text: &[u8], at: usize) -> u32 {
+    if is_told(text, at) { 0 } else { 7 }
+}
+
+// Whether a call has left the mesh as it must; the place of the line after that.
+pub fn compare_mesh(
+    text: &[u8],
+    lent: usize,
+    told: usize,
+    counts: Counts,
+    positions: &[i32],
+    outs: &[u32],
+    halves: &[u32],
+    faces: &[u32],
+) -> Agreed {
+    if is_told(text, told) {
+        return test_mesh::compare_mesh(
+            text,
+            told,
+            test_mesh::LEFT,
+            counts,
+            positions,
+            outs,
+            halves,
+            faces,
+        );
+    }
+    let a = test_mesh::compare_mesh(
+        text,
+        lent,
+        test_mesh::LENT,
+        counts,
+        positions,
+        outs,
+        halves,
+        faces,
+    );
+    Agreed {
+        agrees: a.agrees,
+        at: told,
+    }
+}
+
+// Whether the ring's rows hold v in every entry.
+pub fn ring_holds(nodes: &[[u64; 4]], freed: &[u32], buckets: &[u32], v: u32) -> bool {
+    test_mesh::nodes_hold(nodes, v as u64)
+        && test_mesh::holds(freed, v)
+        && test_mesh::holds(buckets, v)
+}
+
+// Numbers of an answer: refusal, place, faces, flips of the convexity passes and of the closing pass. No list has a count of flips that needs two words: such an
+// answer is 99.
+pub fn numbers_of(finished: Finished) -> [u64; 5] {
+    match finished {
+        Finished::Refused(r) => [r.number as u64, r.place as u64, 0, 0, 0],
+        Finished::Accepted(t) => [
+            if t.convexflips.high == 0 && t.closingflips.high == 0 {
+                0
+            } else {
+                99
+            },
+            0,
+            t.faces as u64,
+            t.convexflips.low,
+            t.closingflips.low,
+        ],
+    }
+}
+
+// 01's numbers of the fates.
+pub fn fate_number(fate: Fate) -> u64 {
+    match fate {
+        Fate::Added(_) => 1,
+        Fate::Dropped => 2,
+        Fate::NotLeft => 3,
+        Fate::Unsound => 4,
+        Fate::AtCenter => 5,
+    }
+}
+
+// The new vertex, 0 where there is none.
+pub fn fate_vertex(fate: Fate) -> u64 {
+    match fate {
+        Fate::Added(v) => v as u64,
+        _ => 0,
+    }
+}

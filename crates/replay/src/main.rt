@@ -1,0 +1,178 @@
+// Runs every fixed list of cases and prints one line for each: its name, and how many cases agree and differ. The lists are in data/, copies of those that
+// tests/reference makes from an independent reading of the specification, and of oracle/answers.txt, the answers of the Rust itself (their formats are in
+// tests/reference/README.md and oracle/FORMAT.md). A list that is not whole counts as one difference more.
+mod angles;
+mod answers_cases;
+mod calls;
+mod check_cases;
+mod finish_cases;
+mod locate_cases;
+mod rows;
+mod run_cases;
+mod samples;
+mod step_cases;
+mod tests;
+
+// A list, by the call that it is about; `Answers` are those of the Rust.
+enum List {
+    Samples,
+    Check,
+    Finish,
+    Locate,
+    Step,
+    Run,
+    Answers,
+}
+
+// How many cases agree and differ, where the first difference is, the last line `m`, and the place of the next line.
+struct Tally {
+    agree: u32,
+    differ: u32,
+    first: usize,
+    mesh: usize,
+    at: usize,
+}
+
+// One case more, and the place of the line after it.
+fn counted(t: Tally, agrees: bool, at: usize) -> Tally {
+    if agrees {
+        return Tally {
+            agree: test_text::one_more(t.agree),
+            differ: t.differ,
+            first: t.first,
+            mesh: t.mesh,
+            at: at,
+        };
+    }
+    Tally {
+        agree: t.agree,
+        differ: test_text::one_more(t.differ),
+        first: if t.differ == 0 { t.at } else { t.first },
+        mesh: t.mesh,
+        at: at,
+    }
+}
+
+// A line that is no case.
+fn passed(t: Tally, mesh: usize, at: usize) -> Tally {
+    Tally {
+        agree: t.agree,
+        differ: t.differ,
+        first: t.first,
+        mesh: mesh,
+        at: at,
+    }
+}
+
+// A line of the list for `locate`: a mesh has several lines `l`, and each is a case.
+fn locate_line(text: &[u8], t: Tally, tag: u8) -> Tally {
+    let after = test_text::next_line(text, t.at);
+    if tag == b'l' {
+        return counted(t, locate_cases::agrees(text, t.mesh, t.at), after);
+    }
+    let mesh = if tag == b'm' { t.at } else { t.mesh };
+    passed(t, mesh, after)
+}
+
+// The case whose first line stands at a place, and the place behind its last.
+fn case(text: &[u8], t: Tally, list: List) -> Tally {
+    let after = test_text::behind_line(text, t.at, b'r');
+    match list {
+        List::Check => counted(t, check_cases::agrees(text, t.at), after),
+        List::Finish => counted(t, finish_cases::agrees(text, t.at), after),
+        List::Step => counted(t, step_cases::agrees(text, t.at), after),
+        List::Run => counted(t, run_cases::agrees(text, t.at), after),
+        List::Answers => counted(
+            t,
+            answers_cases::agrees(text, t.at),
+            test_text::behind_line(text, t.at, b'e'),
+        ),
+        List::Samples => counted(
+            t,
+            samples::agrees(text, t.at),
+            test_text::next_line(text, t.at),
+        ),
+        List::Locate => locate_line(text, t, test_text::byte(text, t.at)),
+    }
+}
+
+// A comment, the closing line, or a case.
+fn line(text: &[u8], t: Tally, list: List) -> Tally {
+    let tag = test_text::byte(text, t.at);
+    if tag == b'#' || tag == b'z' {
+        return passed(t, t.mesh, test_text::next_line(text, t.at));
+    }
+    case(text, t, list)
+}
+
+// Every case of a list.
+fn run_list(text: &[u8], list: List) -> Tally {
+    let mut t = Tally {
+        agree: 0,
+        differ: 0,
+        first: 0,
+        mesh: 0,
+        at: 0,
+    };
+    let mut turns: usize = 0;
+    while turns < text.len() {
+        if t.at < text.len() {
+            t = line(text, t, list);
+        }
+        turns += 1;
+    }
+    t
+}
+
+// Whether nothing of a list was cut off. The oracle's list has no closing line.
+fn is_whole(text: &[u8], list: List) -> bool {
+    if text.len() == rows::TEXT {
+        return false;
+    }
+    match list {
+        List::Answers => true,
+        _ => test_text::is_whole_list(text),
+    }
+}
+
+// The result of a list.
+fn result(text: &[u8], list: List) -> Tally {
+    let t = run_list(text, list);
+    if is_whole(text, list) {
+        return t;
+    }
+    counted(t, false, text.len())
+}
+
+// One line: the list's name, the totals, and where the first difference is.
+fn print(name: &[u8], t: Tally) {
+    io::write_all(1, name);
+    io::write_all(1, b" agree ");
+    io::print_decimal(1, t.agree as u64);
+    io::write_all(1, b" differ ");
+    io::print_decimal(1, t.differ as u64);
+    if t.differ != 0 {
+        io::write_all(1, b" first at byte ");
+        io::print_decimal(1, t.first as u64);
+    }
+    io::write_all(1, b"\n");
+}
+
+// The list of a file.
+fn replay(name: &[u8], path: &[u8], list: List) {
+    let mut buffer = [0u8; rows::TEXT];
+    let file = os::open_read(path);
+    let n = io::read_full(file, &mut buffer);
+    libc::close(file);
+    print(name, result(&buffer[..n], list));
+}
+
+fn main() {
+    replay(b"samples", b"samples.txt", List::Samples);
+    replay(b"check", b"check.txt", List::Check);
+    replay(b"finish", b"finish.txt", List::Finish);
+    replay(b"locate", b"locate.txt", List::Locate);
+    replay(b"step", b"step.txt", List::Step);
+    replay(b"run", b"run.txt", List::Run);
+    replay(b"answers", b"answers.txt", List::Answers);
+}
