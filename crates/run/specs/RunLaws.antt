@@ -374,3 +374,24 @@ module _ (l : Lent) where
             rw e (record { counts = refl; positions = refl; outs = refl; halves = refl; faces = refl; nodes = refl; freed = refl; buckets = refl; pending = refl; answers = refl }),
             e ∙ ap Checked.Refused w,
           )
+
+  -- what a caller may rely on that reads the finished mesh
+  pub record Finishes : Type 0 where
+    pub checked : runChecked l ≡ Checked.Accepted
+    pub good : Good (runOf l .answer .counts) (linksAfter (runOf l)) (placesAfter (runOf l))
+    pub most : runOf l .answer .counts .vertices ≤ l .counts .vertices + pointCount (l .points)
+
+  pub run-finishes : (t : Totals) → runOf l .answer .finished ≡ Finished.Accepted t → Finishes
+  unfolding runOf outcomeOf
+  run-finishes t z = by (runChecked l) refl
+    where
+      by : (c : Checked) → runChecked l ≡ c → Finishes
+      by Checked.Accepted e = record {
+        checked = e;
+        good = subst⁻¹ (λ (r : Outcome). Good (r .answer .counts) (linksAfter r) (placesAfter r)) (run-is l e) (good-after l e);
+        most = subst⁻¹ (λ (r : Outcome). r .answer .counts .vertices ≤ l .counts .vertices + pointCount (l .points)) (run-is l e)
+            (let c = finish-keeps l e .vertices in let k = run-keeps l e .most in omega arith);
+      }
+      by (Checked.Refused x) e =
+          let y : Finished.Refused x ≡ Finished.Accepted t = rw e at z in
+          absurd (let w : _≡_ {A = ℕ} 0 1 = cc in omega arith)

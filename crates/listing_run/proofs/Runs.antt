@@ -1,0 +1,95 @@
+-- What a run on lent rows leaves can be listed, and its listing by what it answered. Assumes nothing.
+use mathlib.Core.List.{List, _++_}
+use mathlib.Core.Path.{_≡_, refl, sym, _∙_, ap, subst}
+use Prim.Native.Nat.{ℕ, _+_, _*_, _/_, _<_, _≤_}
+use native.Mathlib.Nat.{le-refl}
+use native.Mathlib.Omega.{arith}
+use borrow.Author.Tests.{ltb-false}
+use lib.Dec.{ltb}
+use lib.IntN.{ℤ}
+use lib.ListN.{length, drop, length-drop}
+use Rattle.dcel.specs.Rows.{There, linksOf, positionOf, rowOf}
+use Rattle.finish.specs.declared.Finished.{Finished}
+use Rattle.finish.specs.declared.Totals.{Totals}
+use Rattle.listing_text.specs.Listing.{totalsLine, refusalLine}
+use Rattle.mesh.specs.declared.Counts.{Counts}
+use Rattle.mesh.specs.Area.{areaTotal}
+use Rattle.mesh.specs.CountsLaws.{halves-fit, faces-fit}
+use Rattle.mesh.specs.Good.{Good}
+use Rattle.mesh_check.specs.declared.Refusal.{Refusal}
+use Rattle.mesh_check.specs.Check.{pointCount, vertexCount}
+use Rattle.mesh_check.specs.Readable.{Placed, Readable}
+use Rattle.run.specs.Run.{Lent, Outcome, runOf}
+use Rattle.run.specs.RunLaws.{run-accepts, run-start, run-accepted, run-finishes}
+use Rattle.listing_run.specs.ListingRun.{finishedListing, outcomeListing, lentListing, pointLines, totalsOf}
+use Rattle.listing_run.specs.ListingRunRows.{Summable, Listable}
+
+-- the corners of a good mesh can be read in rows that are long enough
+module _ {C : Counts} (o h a : List ℕ) (P : List ℤ) (G : Good C (linksOf o h a) (positionOf P)) (ps : 2 * C .vertices ≤ length P) (hs : 24 * C .vertices ≤ length h)
+    (fs : 2 * C .vertices ≤ length a) where
+  placed : {v : ℕ} → v < C .vertices → Placed P v
+  placed k = record { there = omega arith; range = G .range k }
+
+  half-there : {x : ℕ} → x < 2 * C .edges → There h x
+  half-there k = let u = halves-fit (G .wf) (le-refl (C .vertices)) in omega arith
+
+  readable : Readable C P h a
+  unfolding linksOf
+  readable = record {
+    some = G .wf .some;
+    faces = let u = faces-fit (G .wf) (le-refl (C .vertices)) in omega arith;
+    corners = λ f k.
+        let W = G .wf in
+        let a< = W .ranges .adjacent< k in
+        let b< = W .ranges .next< a< in
+        let c< = W .ranges .next< b< in
+        record {
+          first = half-there a<;
+          second = half-there b<;
+          third = half-there c<;
+          one = placed (W .ranges .origin< a<);
+          two = placed (W .ranges .origin< b<);
+          three = placed (W .ranges .origin< c<);
+        };
+  }
+
+-- ---- a run with at most 400 vertices
+module _ (l : Lent) (few : l .counts .vertices + pointCount (l .points) ≤ 400) where
+  abbrev R : Outcome
+  R = runOf l
+
+  run-listable : (t : Totals) → R .answer .finished ≡ Finished.Accepted t
+      → Listable (R .answer .counts) (R .positions) (R .halves) (R .faces) (R .answers) (pointCount (l .points))
+  unfolding vertexCount
+  run-listable t z =
+      let F = run-finishes l t z in
+      let K = run-accepted l t z .1 in
+      let M = run-start l (F .checked) .mesh .rows in
+      let m = F .most in
+      let p = M .positions in let h = M .halves in let a = M .faces in
+      let p′ = K .positions-length in let h′ = K .halves-length in let a′ = K .faces-length in let w = K .answers-length in
+      let u = faces-fit (F .good .wf) (le-refl (R .answer .counts .vertices)) in
+      let b = ltb-false (length (l .answers)) (5 * pointCount (l .points)) (run-accepts l (F .checked) .others) in
+      record {
+        mesh = record { readable = readable _ _ _ _ (F .good) (omega arith) (omega arith) (omega arith); few = omega arith };
+        answers = omega arith;
+      }
+
+  -- the rows as they were found
+  pub outcome-listable : {r : Outcome} {count : ℕ} → r ≡ runOf l → count ≡ pointCount (l .points) → (t : Totals) → r .answer .finished ≡ Finished.Accepted t
+      → Listable (r .answer .counts) (r .positions) (r .halves) (r .faces) (r .answers) count
+  outcome-listable {r} {count} e n t z = rw (n, e) (run-listable t (rw e at z))
+
+-- ---- what is printed
+pub listing-refused : (count : ℕ) (r : Outcome) {x : Refusal} → r .answer .finished ≡ Finished.Refused x → refusalLine (x .number) (x .place) ≡ outcomeListing count r
+unfolding finishedListing
+listing-refused count r e = rw e refl
+
+pub listing-accepted : (count : ℕ) (r : Outcome) {t : Totals} → r .answer .finished ≡ Finished.Accepted t
+    → pointLines (rowOf (r .answers)) count
+    ++ totalsLine (totalsOf (r .answer .counts) (areaTotal (r .answer .counts) (linksOf (r .outs) (r .halves) (r .faces)) (positionOf (r .positions))) t) ≡ outcomeListing count r
+unfolding finishedListing
+listing-accepted count r e = rw e refl
+
+pub listing-run : (l : Lent) {r : Outcome} {count : ℕ} → r ≡ runOf l → count ≡ pointCount (l .points) → outcomeListing count r ≡ lentListing l
+listing-run l e n = rw (e, n) refl

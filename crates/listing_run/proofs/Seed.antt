@@ -1,0 +1,32 @@
+-- The numbers of a text as they are lent to a run. Assumes nothing.
+use mathlib.Core.List.{List}
+use mathlib.Core.Path.{_≡_, refl, sym, _∙_, ap}
+use Prim.Native.Nat.{ℕ, _+_, _-_, _/_, _≤_}
+use native.Mathlib.Nat.{le-refl}
+use native.Mathlib.Omega.{arith}
+use lib.Ieee.{Float, ofInt, binary64}
+use lib.IntN.{ℤ, pos}
+use lib.ListN.{length, getD, take, drop, length-drop}
+use lib.Seq.{sets, take-all}
+use mir.Syntax.{w32}
+use mir.Val.{SFits, toZ, ofZ}
+use mir.Facts.{toZ-ofZ}
+use Rattle.mesh_check.specs.Check.{pointCount}
+use Rattle.run.specs.Run.{Lent, lent}
+use Rattle.listing_run.specs.ListingRun.{seedCounts, seedOuts, seedHalves, seedFaces, lentIn}
+
+module _ (zs : List ℤ) where
+  pub rest-is : take (length zs - 8) (drop 8 zs) ≡ drop 8 zs
+  rest-is = take-all (length zs - 8) (drop 8 zs) (let z = length-drop 8 zs in omega arith)
+
+  pub points-few : 8 ≤ length zs → length zs ≤ 802 → 3 + pointCount (take (length zs - 8) (drop 8 zs)) ≤ 400
+  unfolding pointCount
+  points-few l m = rw rest-is (let z = length-drop 8 zs in omega arith)
+
+  module _ (p : List ℤ) (o h a : List ℕ) (nodes : List (List ℕ)) (freed buckets pending answers : List ℕ) where
+    pub seed-lent : {p′ : List ℤ} {o′ h′ a′ : List ℕ} {cx cy : Float} → p′ ≡ sets p 0 (take 6 zs) → o′ ≡ sets o 0 seedOuts → h′ ≡ sets h 0 seedHalves
+        → a′ ≡ sets a 0 seedFaces → SFits w32 (getD zs 6 (pos 0)) → SFits w32 (getD zs 7 (pos 0))
+        → cx ≡ ofInt binary64 (toZ w32 (ofZ w32 (getD zs 6 (pos 0)))) → cy ≡ ofInt binary64 (toZ w32 (ofZ w32 (getD zs 7 (pos 0))))
+        → lent seedCounts p′ o′ h′ a′ nodes freed buckets pending answers cx cy (take (length zs - 8) (drop 8 zs))
+        ≡ lentIn zs p o h a nodes freed buckets pending answers
+    seed-lent ep eo eh ea fx fy ex ey = rw (ep, eo, eh, ea, ex, ey, toZ-ofZ fx, toZ-ofZ fy, rest-is) refl

@@ -1,0 +1,111 @@
+-- The listing of a text: 01, "Runs to reproduce", from bytes to bytes. Definitions only.
+-- `listingOf text` is what the listing program prints for any bytes whatever; what a text says is `readOf` of listing_text, what a run comes to is `runOf` of run.
+use mathlib.Core.List.{List, [], _∷_, _++_}
+use Prim.Native.Nat.{ℕ, zero, suc, _+_, _*_, _-_}
+use lib.Ieee.{ofInt, binary64}
+use lib.IntN.{ℤ, pos}
+use lib.ListN.{getD, take, drop, replicate}
+use lib.Seq.{sets}
+use Rattle.dcel.specs.Rows.{linksOf, positionOf, rowOf}
+use Rattle.finish.specs.declared.Finished.{Finished}
+use Rattle.finish.specs.declared.Totals.{Totals}
+use Rattle.listing_text.specs.declared.writing.PointLine.{PointLine}
+use Rattle.listing_text.specs.declared.writing.TotalsLine.{TotalsLine}
+use Rattle.listing_text.specs.Listing.{pointLine, totalsLine, refusalLine}
+use Rattle.listing_text.specs.Reading.{Reading, malformed, numbers, readOf}
+use Rattle.mesh.specs.declared.Counts.{Counts}
+use Rattle.mesh.specs.Area.{areaTotal}
+use Rattle.mesh_check.specs.Check.{pointCount}
+use Rattle.run.specs.Run.{Lent, Outcome, lent, runOf}
+
+-- ---- the seed: docs/DECISIONS.md, "How is the seed triangle linked?"
+abbrev pub seedCounts : Counts
+seedCounts = record { vertices = 3; edges = 3; faces = 2 }
+
+-- "out edges 0, 2, 4"
+unfoldable pub seedOuts : List ℕ
+seedOuts = 0 ∷ 2 ∷ 4 ∷ []
+
+-- next, prev, face, origin of each. "Half-edges 0, 2, 4 are v0→v1, v1→v2, v2→v0 in face 1, the odd ones their reverses in face 0"
+unfoldable pub seedHalves : List ℕ
+seedHalves =
+    2 ∷ 4 ∷ 1 ∷ 0
+    ∷ 5 ∷ 3 ∷ 0 ∷ 1
+    ∷ 4 ∷ 0 ∷ 1 ∷ 1
+    ∷ 1 ∷ 5 ∷ 0 ∷ 2
+    ∷ 0 ∷ 2 ∷ 1 ∷ 2
+    ∷ 3 ∷ 1 ∷ 0 ∷ 0
+    ∷ []
+
+-- "stored edges: face 0: 1, face 1: 0"
+unfoldable pub seedFaces : List ℕ
+seedFaces = 1 ∷ 0 ∷ []
+
+-- ---- what is lent for the numbers of a text: x0 y0 x1 y1 x2 y2, the centre's x y, and each point's
+-- the seed over the first entries of the mesh's rows
+abbrev pub lentIn : List ℤ → List ℤ → List ℕ → List ℕ → List ℕ → List (List ℕ) → List ℕ → List ℕ → List ℕ → List ℕ → Lent
+lentIn zs positions outs halves faces nodes freed buckets pending answers =
+    lent seedCounts (sets positions 0 (take 6 zs)) (sets outs 0 seedOuts) (sets halves 0 seedHalves) (sets faces 0 seedFaces)
+    nodes freed buckets pending answers
+    (ofInt binary64 (getD zs 6 (pos 0))) (ofInt binary64 (getD zs 7 (pos 0))) (drop 8 zs)
+
+-- 01: "at most 400 vertices with the seed's; it lends 4,096 pending entries": every row has its size for 400 vertices, and holds zeros but for the seed
+unfoldable pub lentOf : List ℤ → Lent
+lentOf zs =
+    lentIn zs (replicate 800 (pos 0)) (replicate 400 0) (replicate 9600 0) (replicate 800 0)
+    (replicate 401 (replicate 4 0)) (replicate 401 0) (replicate 400 0) (replicate 4096 0) (replicate 1985 0)
+
+-- ---- what is printed
+-- 01: "one answer (fate, vertex, faces, flips) per point", as a row of answers has it, five words for each
+unfoldable pub answerLine : (ℕ → ℕ) → ℕ → PointLine
+answerLine word i = record {
+  index = i;
+  fate = word (5 * i);
+  vertex = word (5 * i + 1);
+  faces = word (5 * i + 2);
+  flips = record { high = word (5 * i + 3); low = word (5 * i + 4) };
+}
+
+-- 01: "It prints `p index fate vertex faces flips` per point": of the first n
+unfoldable pub pointLines : (ℕ → ℕ) → ℕ → List ℕ
+pointLines word zero = []
+pointLines word (suc n) = pointLines word n ++ pointLine (answerLine word n)
+
+-- 01: "then `t vertices edges innerfaces doubledarea finishfaces convexflips closingflips`". Face 0 is the outer one
+unfoldable pub totalsOf : Counts → ℤ → Totals → TotalsLine
+totalsOf C area t = record {
+  vertices = C .vertices;
+  edges = C .edges;
+  «inner_faces» = C .faces - 1;
+  «doubled_area» = area;
+  «finish_faces» = t .faces;
+  «convex_flips» = t .convexflips;
+  «closing_flips» = t .closingflips;
+}
+
+-- the doubled area is the inner faces', in total; by demand 3 it is the boundary's too
+unfoldable pub finishedListing : ℕ → Outcome → Finished → List ℕ
+-- 01: "A refusal prints `r number place` alone"
+finishedListing count r (Finished.Refused x) = refusalLine (x .number) (x .place)
+finishedListing count r (Finished.Accepted t) =
+    pointLines (rowOf (r .answers)) count
+    ++ totalsLine (totalsOf (r .answer .counts) (areaTotal (r .answer .counts) (linksOf (r .outs) (r .halves) (r .faces)) (positionOf (r .positions))) t)
+
+-- of a run with so many points
+abbrev pub outcomeListing : ℕ → Outcome → List ℕ
+outcomeListing count r = finishedListing count r (r .answer .finished)
+
+abbrev pub lentListing : Lent → List ℕ
+lentListing l = outcomeListing (pointCount (l .points)) (runOf l)
+
+abbrev pub numbersListing : List ℤ → List ℕ
+numbersListing zs = lentListing (lentOf zs)
+
+-- 01: "a line that is malformed, missing, out of order or past the 400 prints `r 0 line` alone, lines from 1"
+unfoldable pub readingListing : Reading → List ℕ
+readingListing (malformed line) = refusalLine 0 line
+readingListing (numbers zs) = numbersListing zs
+
+-- THE LISTING, for any bytes
+unfoldable pub listingOf : List ℕ → List ℕ
+listingOf text = readingListing (readOf text)

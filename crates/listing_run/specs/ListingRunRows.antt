@@ -1,0 +1,17 @@
+-- What the parts of the listing ask of the rows. Definitions only.
+use mathlib.Core.List.{List}
+use Prim.Native.Nat.{ℕ, _*_, _≤_}
+use lib.IntN.{ℤ}
+use lib.ListN.{length}
+use Rattle.mesh.specs.declared.Counts.{Counts}
+use Rattle.mesh_check.specs.Readable.{Readable}
+
+-- the corners of every face can be read, and there are so few faces that their doubled areas add up within 64 bits
+pub record Summable (C : Counts) (q : List ℤ) (h a : List ℕ) : Type 0 where
+  pub readable : Readable C q h a
+  pub few : C .faces ≤ 800
+
+-- and there is an answer for each point
+pub record Listable (C : Counts) (q : List ℤ) (h a words : List ℕ) (count : ℕ) : Type 0 where
+  pub mesh : Summable C q h a
+  pub answers : 5 * count ≤ length words

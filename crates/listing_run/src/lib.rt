@@ -1,0 +1,396 @@
+// The listing of a text: bytes to bytes, for any bytes whatever. What is listed is `listingOf` of specs/ListingRun.antt.
+ghost use mathlib.Core.Path.{_≡_};
+ghost use mathlib.Core.List.{List, _++_};
+ghost use Prim.Native.Nat.{ℕ, _+_, _*_, _≤_, _<_};
+ghost use lib.ListN.{length, take};
+ghost use lib.Seq.{sets};
+ghost use Rattle.dcel.specs.Rows.{linksOf, positionOf, rowOf};
+ghost use Rattle.finish.specs.declared.Finished.{Finished};
+ghost use Rattle.finish.specs.declared.Totals.{Totals};
+ghost use Rattle.listing_text.specs.Decimal.{Appended};
+ghost use Rattle.listing_text.specs.Listing.{pointLine, totalsLine};
+ghost use Rattle.mesh.specs.Area.{atCorners, areaTotal};
+ghost use Rattle.math.specs.Determinant.{orient2d};
+ghost use Rattle.mesh_check.specs.Check.{pointCount};
+ghost use Rattle.mesh_check.specs.Readable.{Corners};
+ghost use Rattle.run.specs.Run.{lent, outcome};
+ghost use Rattle.listing_run.specs.ListingRun.{seedOuts, seedHalves, seedFaces, lentIn};
+ghost use Rattle.listing_run.specs.ListingRun.{answerLine, pointLines, totalsOf, outcomeListing, lentListing, numbersListing, listingOf};
+ghost use Rattle.listing_run.specs.ListingRunRows.{Summable, Listable};
+use angle::Point2;
+use finish::FinishAnswer;
+use finish::Finished;
+use finish::Totals;
+use flip_count::FlipCount;
+use listing_text::reading::Input;
+use listing_text::writing::PointLine;
+use listing_text::writing::TotalsLine;
+use mesh::Counts;
+
+// The values over the first entries of a row.
+fn store(row: &mut [u32], values: &[u32])
+    requires { ⌜ length (now values) ≤ length (now row) ⌝ }
+    ensures { λ _. ⌜ now (row .exit) ≡ sets (now (row .entry)) 0 (now (values .entry)) ⌝ }
+{
+    let mut i = 0;
+    while i < values.len() {
+        row[i] = values[i];
+        i += 1;
+    }
+}
+
+// The same of coordinates.
+fn store_coordinates(row: &mut [i32], values: &[i32])
+    requires { ⌜ length (now values) ≤ length (now row) ⌝ }
+    ensures { λ _. ⌜ now (row .exit) ≡ sets (now (row .entry)) 0 (now (values .entry)) ⌝ }
+{
+    let mut i = 0;
+    while i < values.len() {
+        row[i] = values[i];
+        i += 1;
+    }
+}
+
+// Twice the area of the triangle of the corners along next from half-edge a.
+fn doubled_area_at(positions: &[i32], halves: &[u32], a: u32) -> i64
+    requires { ⌜ Corners (now positions) (now halves) a ⌝ }
+    ensures { λ r. ⌜ ((o s : List ℕ) → r ≡ atCorners orient2d (linksOf o (now (halves .entry)) s) (positionOf (now (positions .entry))) a) ⌝ }
+{
+    let b = dcel::next(halves, a);
+    let c = dcel::next(halves, b);
+    let u = dcel::origin(halves, a);
+    let v = dcel::origin(halves, b);
+    let w = dcel::origin(halves, c);
+    let p = dcel::position(positions, u);
+    let q = dcel::position(positions, v);
+    let r = dcel::position(positions, w);
+    math::orient2d(p, q, r)
+}
+
+// The inner faces' doubled areas, in total.
+fn doubled_area(positions: &[i32], halves: &[u32], faces: &[u32], counts: Counts) -> i64
+    requires { ⌜ Summable counts (now positions) (now halves) (now faces) ⌝ }
+    ensures { λ r. ⌜ ((o : List ℕ) → r
+        ≡ areaTotal counts (linksOf o (now (halves .entry)) (now (faces .entry))) (positionOf (now (positions .entry)))) ⌝ }
+{
+    let count = counts.faces;
+    let mut total: i64 = 0;
+    let mut f: u32 = 1;
+    while f < count {
+        let a = dcel::adjacent(faces, f);
+        total += doubled_area_at(positions, halves, a);
+        f += 1;
+    }
+    total
+}
+
+// The answer of point i.
+fn answer_line(answers: &[u64], i: usize) -> PointLine
+    requires { ⌜ 5 * i + 5 ≤ length (now answers) ⌝ }
+    ensures is { λ r. ⌜ r ≡ answerLine (rowOf (now (answers .entry))) i ⌝ }
+    ensures short { λ r. ⌜ length (pointLine r) ≤ 126 ⌝ }
+{
+    let at = 5 * i;
+    PointLine {
+        index: i as u64,
+        fate: answers[at],
+        vertex: answers[at + 1],
+        faces: answers[at + 2],
+        flips: FlipCount {
+            high: answers[at + 3],
+            low: answers[at + 4],
+        },
+    }
+}
+
+// A line for each point.
+fn put_points(answers: &[u64], count: usize, row: &mut [u8]) -> usize
+    requires { ⌜ 5 * count ≤ length (now answers) ⌝ }
+    ensures is { λ r. ⌜ Appended (now (row .entry)) 0 (pointLines (rowOf (now (answers .entry))) count) (now (row .exit)) r ⌝ }
+    ensures short { λ r. ⌜ length (pointLines (rowOf (now (answers .entry))) count) ≤ 126 * count ⌝ }
+{
+    let mut place = 0;
+    let mut i = 0;
+    while i < count {
+        let line = answer_line(answers, i);
+        place = listing_text::writing::put_point(row, place, line);
+        i += 1;
+    }
+    place
+}
+
+// The last line, of an accepted run.
+fn totals_line(counts: Counts, area: i64, totals: Totals) -> TotalsLine
+    requires { ⌜ 0 < counts .faces ⌝ }
+    ensures is { λ r. ⌜ r ≡ totalsOf counts area totals ⌝ }
+    ensures short { λ r. ⌜ length (totalsLine r) ≤ 187 ⌝ }
+{
+    let convex = totals.convexflips;
+    let closing = totals.closingflips;
+    TotalsLine {
+        vertices: counts.vertices as u64,
+        edges: counts.edges as u64,
+        inner_faces: (counts.faces - 1) as u64,
+        doubled_area: area,
+        finish_faces: totals.faces as u64,
+        convex_flips: convex,
+        closing_flips: closing,
+    }
+}
+
+// A line for each point, and the totals.
+fn list_accepted(
+    counts: Counts,
+    totals: Totals,
+    positions: &[i32],
+    halves: &[u32],
+    faces: &[u32],
+    answers: &[u64],
+    count: usize,
+    row: &mut [u8],
+) -> usize
+    requires { ⌜ Listable counts (now positions) (now halves) (now faces) (now answers) count ⌝ }
+    ensures is { λ r. ⌜ ((o : List ℕ) → Appended (now (row .entry)) 0
+        (pointLines (rowOf (now (answers .entry))) count
+        ++ totalsLine (totalsOf counts
+        (areaTotal counts (linksOf o (now (halves .entry)) (now (faces .entry))) (positionOf (now (positions .entry)))) totals))
+        (now (row .exit)) r) ⌝ }
+    ensures short { λ r. ⌜ ((o : List ℕ) → length (pointLines (rowOf (now (answers .entry))) count
+        ++ totalsLine (totalsOf counts
+        (areaTotal counts (linksOf o (now (halves .entry)) (now (faces .entry))) (positionOf (now (positions .entry)))) totals))
+        ≤ 126 * count + 187) ⌝ }
+{
+    let area = doubled_area(positions, halves, faces, counts);
+    let place = put_points(answers, count, row);
+    let line = totals_line(counts, area, totals);
+    listing_text::writing::put_totals(row, place, line)
+}
+
+// What a run has answered.
+fn list_answer(
+    answer: FinishAnswer,
+    positions: &[i32],
+    halves: &[u32],
+    faces: &[u32],
+    answers: &[u64],
+    count: usize,
+    row: &mut [u8],
+) -> usize
+    requires { ⌜ ((t : Totals) → answer .finished ≡ Finished.Accepted t
+        → Listable (answer .counts) (now positions) (now halves) (now faces) (now answers) count) ⌝ }
+    ensures is { λ r. ⌜ ((o : List ℕ) (nodes : List (List ℕ)) (freed buckets pending : List ℕ) → Appended (now (row .entry)) 0
+        (outcomeListing count (outcome answer (now (positions .entry)) o (now (halves .entry)) (now (faces .entry))
+        nodes freed buckets pending (now (answers .entry))))
+        (now (row .exit)) r) ⌝ }
+    ensures short { λ r. ⌜ ((o : List ℕ) (nodes : List (List ℕ)) (freed buckets pending : List ℕ) → length
+        (outcomeListing count (outcome answer (now (positions .entry)) o (now (halves .entry)) (now (faces .entry))
+        nodes freed buckets pending (now (answers .entry)))) ≤ 126 * count + 187) ⌝ }
+{
+    let counts = answer.counts;
+    let finished = answer.finished;
+    match finished {
+        Finished::Refused(refusal) => listing_text::writing::put_refusal(
+            row,
+            0,
+            refusal.number as u64,
+            refusal.place as u64,
+        ),
+        Finished::Accepted(totals) => {
+            list_accepted(
+                counts,
+                totals,
+                positions,
+                halves,
+                faces,
+                answers,
+                count,
+                row,
+            )
+        }
+    }
+}
+
+// A run on what is lent, and its listing.
+fn list_lent(
+    counts: Counts,
+    positions: &mut [i32],
+    outs: &mut [u32],
+    halves: &mut [u32],
+    faces: &mut [u32],
+    nodes: &mut [[u64; 4]],
+    freed: &mut [u32],
+    buckets: &mut [u32],
+    pending: &mut [u32],
+    answers: &mut [u64],
+    center: Point2,
+    points: &[i32],
+    row: &mut [u8],
+) -> usize
+    requires { ⌜ counts .vertices + pointCount (now points) ≤ 400 ⌝ }
+    ensures is { λ r. ⌜ Appended (now (row .entry)) 0
+        (lentListing (lent counts (now (positions .entry)) (now (outs .entry)) (now (halves .entry)) (now (faces .entry))
+        (now (nodes .entry)) (now (freed .entry)) (now (buckets .entry)) (now (pending .entry)) (now (answers .entry))
+        (center .x) (center .y) (now (points .entry))))
+        (now (row .exit)) r ⌝ }
+    ensures short { λ r. ⌜ length
+        (lentListing (lent counts (now (positions .entry)) (now (outs .entry)) (now (halves .entry)) (now (faces .entry))
+        (now (nodes .entry)) (now (freed .entry)) (now (buckets .entry)) (now (pending .entry)) (now (answers .entry))
+        (center .x) (center .y) (now (points .entry)))) ≤ 50587 ⌝ }
+{
+    let count = mesh_check::point_count(points);
+    let answer = run::run(
+        counts,
+        positions,
+        outs,
+        halves,
+        faces,
+        nodes,
+        freed,
+        buckets,
+        pending,
+        answers,
+        center,
+        points,
+    );
+    list_answer(answer, positions, halves, faces, answers, count, row)
+}
+
+// The seed's links and positions, over the first entries of the mesh's rows.
+fn store_seed(
+    numbers: &[i32],
+    positions: &mut [i32],
+    outs: &mut [u32],
+    halves: &mut [u32],
+    faces: &mut [u32],
+)
+    requires { ⌜ (6 ≤ length (now numbers)) × (6 ≤ length (now positions)) × (3 ≤ length (now outs))
+        × (24 ≤ length (now halves)) × (2 ≤ length (now faces)) ⌝ }
+    ensures { λ _. ⌜ (now (positions .exit) ≡ sets (now (positions .entry)) 0 (take 6 (now (numbers .entry))))
+        × (now (outs .exit) ≡ sets (now (outs .entry)) 0 seedOuts)
+        × (now (halves .exit) ≡ sets (now (halves .entry)) 0 seedHalves)
+        × (now (faces .exit) ≡ sets (now (faces .entry)) 0 seedFaces) ⌝ }
+{
+    let seed_outs = [0u32, 2, 4];
+    let seed_halves = [
+        2u32,
+        4,
+        1,
+        0,
+        5,
+        3,
+        0,
+        1,
+        4,
+        0,
+        1,
+        1,
+        1,
+        5,
+        0,
+        2,
+        0,
+        2,
+        1,
+        2,
+        3,
+        1,
+        0,
+        0,
+    ];
+    let seed_faces = [1u32, 0];
+    store_coordinates(positions, &numbers[..6]);
+    store(outs, &seed_outs);
+    store(halves, &seed_halves);
+    store(faces, &seed_faces);
+}
+
+// The seed into lent rows, and the run on them.
+fn list_seed(
+    numbers: &[i32],
+    positions: &mut [i32],
+    outs: &mut [u32],
+    halves: &mut [u32],
+    faces: &mut [u32],
+    nodes: &mut [[u64; 4]],
+    freed: &mut [u32],
+    buckets: &mut [u32],
+    pending: &mut [u32],
+    answers: &mut [u64],
+    row: &mut [u8],
+) -> usize
+    requires { ⌜ (8 ≤ length (now numbers)) × (length (now numbers) ≤ 802) ⌝ }
+    requires { ⌜ (6 ≤ length (now positions)) × (3 ≤ length (now outs)) × (24 ≤ length (now halves)) × (2 ≤ length (now faces)) ⌝ }
+    ensures is { λ r. ⌜ Appended (now (row .entry)) 0
+        (lentListing (lentIn (now (numbers .entry)) (now (positions .entry)) (now (outs .entry)) (now (halves .entry)) (now (faces .entry))
+        (now (nodes .entry)) (now (freed .entry)) (now (buckets .entry)) (now (pending .entry)) (now (answers .entry))))
+        (now (row .exit)) r ⌝ }
+    ensures short { λ r. ⌜ length
+        (lentListing (lentIn (now (numbers .entry)) (now (positions .entry)) (now (outs .entry)) (now (halves .entry)) (now (faces .entry))
+        (now (nodes .entry)) (now (freed .entry)) (now (buckets .entry)) (now (pending .entry)) (now (answers .entry)))) ≤ 50587 ⌝ }
+{
+    store_seed(numbers, positions, outs, halves, faces);
+    let center = angle::to_f64(numbers[6], numbers[7]);
+    let counts = Counts {
+        vertices: 3,
+        edges: 3,
+        faces: 2,
+    };
+    list_lent(
+        counts,
+        positions,
+        outs,
+        halves,
+        faces,
+        nodes,
+        freed,
+        buckets,
+        pending,
+        answers,
+        center,
+        &numbers[8..],
+        row,
+    )
+}
+
+// Rows for 400 vertices, and the run on them.
+fn list_numbers(numbers: &[i32], row: &mut [u8]) -> usize
+    requires { ⌜ (8 ≤ length (now numbers)) × (length (now numbers) ≤ 802) ⌝ }
+    ensures is { λ r. ⌜ Appended (now (row .entry)) 0 (numbersListing (now (numbers .entry))) (now (row .exit)) r ⌝ }
+    ensures short { λ r. ⌜ length (numbersListing (now (numbers .entry))) ≤ 50587 ⌝ }
+{
+    let mut positions = [0i32; 800];
+    let mut outs = [0u32; 400];
+    let mut halves = [0u32; 9600];
+    let mut faces = [0u32; 800];
+    let mut nodes = [[0u64; 4]; 401];
+    let mut freed = [0u32; 401];
+    let mut buckets = [0u32; 400];
+    let mut pending = [0u32; 4096];
+    let mut answers = [0u64; 1985];
+    list_seed(
+        numbers,
+        &mut positions,
+        &mut outs,
+        &mut halves,
+        &mut faces,
+        &mut nodes,
+        &mut freed,
+        &mut buckets,
+        &mut pending,
+        &mut answers,
+        row,
+    )
+}
+
+// The listing of any bytes, from the row's start on. The answer is where it ends; in a row of 50,587 bytes or more it always fits.
+pub fn list(text: &[u8], row: &mut [u8]) -> usize
+    ensures is { λ r. ⌜ Appended (now (row .entry)) 0 (listingOf (now (text .entry))) (now (row .exit)) r ⌝ }
+    ensures short { λ r. ⌜ length (listingOf (now (text .entry))) ≤ 50587 ⌝ }
+{
+    let mut numbers = [0i32; 802];
+    let input = listing_text::reading::read(text, &mut numbers);
+    match input {
+        Input::Malformed(line) => listing_text::writing::put_refusal(row, 0, 0, line as u64),
+        Input::Numbers(count) => list_numbers(&numbers[..count], row),
+    }
+}
