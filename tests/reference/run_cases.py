@@ -322,7 +322,7 @@ def bowl(half, quarters):
 
 
 def long_walks():
-    """Name, case, the least number of faces."""
+    """Name, case, the faces that the step adds."""
     for quarters in range(4):
         centre = tuple(float(c) for c in turned((0.25, -700.5), quarters))
         for point, faces in (((0, 401), 40), ((0, 4000), 40), ((0, 150), 33), ((3, 60), 5)):
@@ -420,6 +420,17 @@ def round_about(count, radius, centre, step=1):
              centre[1] + round(radius * math.sin(2 * math.pi * step * i / count))) for i in range(count)]
 
 
+def growing_rays(rng):
+    """Points ever farther out, each in one of few directions, so that a node is often taken away at the
+    very angle at which the next one comes."""
+    directions = [(x, y) for x in range(-3, 4) for y in range(-3, 4) if math.gcd(x, y) == 1]
+    points, size = [], 30.0
+    for _ in range(70):
+        (x, y), size = rng.choice(directions), size * 1.12
+        points.append((round(size) * x, round(size) * y))
+    return points
+
+
 def rings():
     """Name, case, the largest ring, the bucket counts in turn, the most faces of a step: rings that grow
     and shrink, whose freed nodes are taken again."""
@@ -442,6 +453,15 @@ def rings():
                   for p in ((900, -700), (-900, -700), (3, 60), (-2, 150), (0, 401), (1, 4000))]
         yield ("walks over dozens of edges in a seed",
                Case(bowl(20, quarters), centre, points, pending=128), 44, [8, 16, 32], 30)
+    for quarters in range(4):
+        chain = [(50 * k, 100 + k * k) for k in range(10, -11, -1)]
+        shallow = meshes.fan([turned(p, quarters) for p in [(0, -300)] + chain])
+        points = [turned(p, quarters)
+                  for p in ((0, 2000), (-900, 1500), (900, 1500), (-2000, 3000), (2000, 3000), (100, 9000))]
+        yield ("a wide part of a ring covered to both sides, then asked for",
+               Case(shallow, (0.0, 0.0), points, pending=128), 22, [8], 20)
+    points = growing_rays(random.Random(3))
+    yield "growing rays", Case(seed, (0.0, 0.0), points, pending=64), 11, [8], 5
     ray = [(4 * k, 0) for k in range(1, 25)]
     for quarters in range(4):
         for west in ((-40, 0), (-40, -1)):
@@ -449,6 +469,12 @@ def rings():
             points = [turned(p, quarters) for p in ray + [(50, 60), (120, 0), (150, -9), (110, -1)]]
             centre = tuple(float(c) for c in turned((-20, 0), quarters))
             yield "one angle, covered", Case(tri(*corners), centre, points, pending=64), 5, [8], 25
+        corners = [turned(p, quarters) for p in ((-100, -20), (0, -300), (100, -20))]
+        points = [turned(p, quarters)
+                  for p in ((-300, -18), (200, -40), (-600, -12), (300, -60), (-900, -5), (400, -80),
+                            (50, 200), (-200, 300), (300, 300), (0, -900))]
+        yield ("one angle while the angle before it changes",
+               Case(tri(*corners), (0.0, 0.0), points, pending=64), 9, [8], 5)
     yield "one angle, outwards", Case(seed, (0.0, 0.0), ray, pending=64), 4, [8], 3
     yield "one angle, inwards", Case(seed, (0.0, 0.0), ray[::-1], pending=64), 3, [8], 2
     spokes = [[(4 * k * x, 4 * k * y) for k in range(1, 13)]
