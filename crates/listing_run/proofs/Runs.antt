@@ -19,8 +19,8 @@ use Rattle.mesh.specs.Good.{Good}
 use Rattle.mesh_check.specs.declared.Refusal.{Refusal}
 use Rattle.mesh_check.specs.Check.{pointCount, vertexCount}
 use Rattle.mesh_check.specs.Readable.{Placed, Readable}
-use Rattle.run.specs.Run.{Lent, Outcome, runOf}
-use Rattle.run.specs.RunLaws.{run-accepts, run-start, run-accepted, run-finishes}
+use Rattle.sweep.specs.Run.{Lent, Outcome, runOf}
+use Rattle.sweep.specs.RunLaws.{run-accepts, run-start, run-accepted, run-finishes}
 use Rattle.listing_run.specs.ListingRun.{finishedListing, outcomeListing, lentListing, pointLines, totalsOf}
 use Rattle.listing_run.specs.ListingRunRows.{Summable, Listable}
 

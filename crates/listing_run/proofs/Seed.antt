@@ -12,7 +12,7 @@ use mir.Syntax.{w32}
 use mir.Val.{SFits, toZ, ofZ}
 use mir.Facts.{toZ-ofZ}
 use Rattle.mesh_check.specs.Check.{pointCount}
-use Rattle.run.specs.Run.{Lent, lent}
+use Rattle.sweep.specs.Run.{Lent, lent}
 use Rattle.listing_run.specs.ListingRun.{seedCounts, seedOuts, seedHalves, seedFaces, lentIn}
 
 module _ (zs : List ℤ) where

@@ -16,7 +16,7 @@ use Rattle.listing_text.specs.Reading.{Reading, malformed, numbers, readOf}
 use Rattle.mesh.specs.declared.Counts.{Counts}
 use Rattle.mesh.specs.Area.{areaTotal}
 use Rattle.mesh_check.specs.Check.{pointCount}
-use Rattle.run.specs.Run.{Lent, Outcome, lent, runOf}
+use Rattle.sweep.specs.Run.{Lent, Outcome, lent, runOf}
 
 -- ---- the seed: docs/DECISIONS.md, "How is the seed triangle linked?"
 abbrev pub seedCounts : Counts

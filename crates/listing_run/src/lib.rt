@@ -13,7 +13,7 @@ ghost use Rattle.mesh.specs.Area.{atCorners, areaTotal};
 ghost use Rattle.math.specs.Determinant.{orient2d};
 ghost use Rattle.mesh_check.specs.Check.{pointCount};
 ghost use Rattle.mesh_check.specs.Readable.{Corners};
-ghost use Rattle.run.specs.Run.{lent, outcome};
+ghost use Rattle.sweep.specs.Run.{lent, outcome};
 ghost use Rattle.listing_run.specs.ListingRun.{seedOuts, seedHalves, seedFaces, lentIn};
 ghost use Rattle.listing_run.specs.ListingRun.{answerLine, pointLines, totalsOf, outcomeListing, lentListing, numbersListing, listingOf};
 ghost use Rattle.listing_run.specs.ListingRunRows.{Summable, Listable};

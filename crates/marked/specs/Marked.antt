@@ -18,12 +18,12 @@ use Rattle.mesh.specs.Mesh.{Links}
 use Rattle.mesh.specs.Area.{heightSum}
 use Rattle.mesh.specs.Operations.{withVertex}
 use Rattle.mesh_check.specs.declared.Checked.{Checked}
-use Rattle.run.specs.Run.{Lent, Outcome, lent, stepsOf, sweepOf}
-use Rattle.run.specs.Demand3.{linksAfter, placesAfter}
+use Rattle.sweep.specs.Run.{Lent, Outcome, lent, stepsOf, sweepOf}
+use Rattle.sweep.specs.Demand3.{linksAfter, placesAfter}
 use Rattle.marked.specs.NoPoints.{FinishOfSeed, no-points}
-use Rattle.run.specs.Run.{sweepPoint, sweepAfter, finishAfter, answerWord, answersAfter, runChecked, outcomeOf, runOf}
+use Rattle.sweep.specs.Run.{sweepPoint, sweepAfter, finishAfter, answerWord, answersAfter, runChecked, outcomeOf, runOf}
 use Rattle.start.specs.Start.{sweepRowsShort, sweepChecked}
-use Rattle.step.specs.Step.{isAdded, leftAlone, addedAt, appliedBy, applied, stepMesh}
+use Rattle.sweep.specs.Step.{isAdded, leftAlone, addedAt, appliedBy, applied, stepMesh}
 use Rattle.decide.specs.Decide.{fateNumber, fateVertex, isCoordinate, isPosition, atEnd, fateAt, ifAdded, decidedAt, decided}
 use Rattle.apply.specs.Apply.{firstFace, beside, covers, faceEdge, walkEnds, walkTurn, walk, addVertex, turns, addTurns}
 use Rattle.corner.specs.Corner.{closeCorner}

@@ -11,8 +11,8 @@ use Rattle.finish.specs.Finish as finish
 use Rattle.mesh_check.specs.declared.Checked.{Checked}
 use Rattle.mesh_check.specs.Accepted.{AcceptedWith, accepts-with}
 use Rattle.mesh_check.specs.Check.{pointCount}
-use Rattle.run.specs.Run as run
-use Rattle.run.specs.RunLaws.{run-accepts, run-start}
+use Rattle.sweep.specs.Run as run
+use Rattle.sweep.specs.RunLaws.{run-accepts, run-start}
 
 -- the answer and every row that a finish may write are those of `finish`, called with the seed, and the positions stand
 pub record FinishOfSeed (l : run.Lent) (r : run.Outcome) : Type 0 where

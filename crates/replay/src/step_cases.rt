@@ -6,8 +6,8 @@ use super::rows;
 use angle::Point2;
 use math::Point;
 use mesh::Counts;
-use step::Answer;
-use step::Stepped;
+use sweep::Answer;
+use sweep::Stepped;
 
 // Fate, vertex, faces and flips after the refusal and its place.
 fn accepted(a: Answer) -> [u64; 6] {

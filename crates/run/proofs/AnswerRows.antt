@@ -13,7 +13,7 @@ use lib.Seq.{getD-set-same, getD-set-other}
 use Rattle.dcel.specs.Rows.{rowOf}
 use Rattle.sums.specs.Put.{put, put-same, put-other}
 use Rattle.decide.specs.Decide.{fateNumber, fateVertex}
-use Rattle.step.specs.declared.Answer.{Answer}
+use Rattle.sweep.specs.declared.Answer.{Answer}
 use Rattle.run.specs.RunRows.{withAnswer, Zeroed}
 
 pub store-row : (l : List ℕ) (a v : ℕ) → a < length l → rowOf (set l a v) ≡ put (rowOf l) a v

@@ -10,7 +10,7 @@ use Rattle.finish.specs.FinishRows.{finishingOf}
 use Rattle.flip_count.specs.declared.FlipCount.{FlipCount}
 use Rattle.flip_count.specs.FlipCount.{flipCountOf}
 use Rattle.run.specs.declared.SweepEnd.{SweepEnd}
-use Rattle.run.specs.Run.{finishAfter}
+use Rattle.sweep.specs.Run.{finishAfter}
 use Rattle.run.specs.RunRows.{sweepingOf}
 
 module _ (e : SweepEnd) (q : List ℤ) (o h a : List ℕ) (room : ℕ) where

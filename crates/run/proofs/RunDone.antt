@@ -31,11 +31,11 @@ use Rattle.mesh_check.specs.Check.{pointCount, vertexCount}
 use Rattle.ring_rows.specs.declared.Hull.{Hull}
 use Rattle.start.specs.Start.{sweepChecked}
 use Rattle.start.specs.StartRows.{ToStart, Started, RowsCleared}
-use Rattle.step.specs.Step.{Stepping}
+use Rattle.sweep.specs.Step.{Stepping}
 use Rattle.run.specs.declared.SweepEnd.{SweepEnd}
-use Rattle.run.specs.Run.{Sweeping, finishAfter, answerWord, answersAfter, Lent, Outcome, outcome, runChecked, sweepOf, stepsOf, finishOf, outcomeOf, runOf}
-use Rattle.run.specs.Demand3.{Demand3}
-use Rattle.run.specs.RunLaws.{run-accepts, run-start, run-keeps, run-accepted}
+use Rattle.sweep.specs.Run.{Sweeping, finishAfter, answerWord, answersAfter, Lent, Outcome, outcome, runChecked, sweepOf, stepsOf, finishOf, outcomeOf, runOf}
+use Rattle.sweep.specs.Demand3.{Demand3}
+use Rattle.sweep.specs.RunLaws.{run-accepts, run-start, run-keeps, run-accepted}
 use Rattle.run.specs.RunRows.{Zeroed, sweepingOf, SweepReady, SweepLeaves, FinishReady}
 
 -- ---- rows by their entries

@@ -24,15 +24,15 @@ use Rattle.math.specs.declared.Point.{Point}
 use Rattle.mesh.specs.declared.Counts.{Counts}
 use Rattle.mesh.specs.Mesh.{Links}
 use Rattle.ring_rows.specs.declared.Hull.{Hull}
-use Rattle.step.specs.declared.Answer.{Answer}
+use Rattle.sweep.specs.declared.Answer.{Answer}
 use Rattle.step.specs.declared.Progress.{Progress}
-use Rattle.step.specs.Step.{Stepping, stepMesh}
-use Rattle.step.specs.StepMesh.{Swept}
+use Rattle.sweep.specs.Step.{Stepping, stepMesh}
+use Rattle.sweep.specs.StepMesh.{Swept}
 use Rattle.step.specs.StepRows.{steppingOf, StepRoom, StepReady, StepLeaves}
 use Rattle.sums.specs.Put.{put, put-same, put-other}
 use Rattle.run.specs.declared.SweepEnd.{SweepEnd}
-use Rattle.run.specs.Run.{Sweeping, sweepPoint, sweepAfter, stepAt, answerWord}
-use Rattle.run.specs.SweepLaws.{sweep-point, sweep-stays, sweep-keeps}
+use Rattle.sweep.specs.Run.{Sweeping, sweepPoint, sweepAfter, stepAt, answerWord}
+use Rattle.sweep.specs.SweepLaws.{sweep-point, sweep-stays, sweep-keeps}
 use Rattle.run.specs.RunRows.{withAnswer, sweepingOf, SweepRoom, SweepReady, SweepLeaves}
 
 -- ---- the words of one answer

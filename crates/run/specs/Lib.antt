@@ -1,6 +1,2 @@
--- `Run` has the definitions, `Demand3` what a finished run means, the others the laws.
-pub mod Run
-pub mod SweepLaws
-pub mod Demand3
-pub mod RunLaws
+-- `RunRows` has what the functions ask of rows and leave.
 pub mod RunRows

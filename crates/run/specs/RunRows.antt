@@ -15,10 +15,10 @@ use Rattle.decide.specs.Sweep.{Sweep}
 use Rattle.math.specs.Determinant.{InRange}
 use Rattle.mesh.specs.declared.Counts.{Counts}
 use Rattle.ring_rows.specs.declared.Hull.{Hull}
-use Rattle.step.specs.declared.Answer.{Answer}
+use Rattle.sweep.specs.declared.Answer.{Answer}
 use Rattle.sums.specs.Put.{put}
 use Rattle.run.specs.declared.SweepEnd.{SweepEnd}
-use Rattle.run.specs.Run.{Sweeping, sweepAfter, stepAt, answerWord}
+use Rattle.sweep.specs.Run.{Sweeping, sweepAfter, stepAt, answerWord}
 
 -- ---- answers
 -- the five words of an answer, for point i

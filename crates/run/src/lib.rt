@@ -1,5 +1,6 @@
-// The call `run`: the seed's ring, all steps in list order, the finish, on lent rows. What it answers and leaves is `runOf` of specs/Run.antt for every input; what that means for the mesh is demand 3,
-// specs/Demand3.antt, which is the second clause of the call's contract.
+// The call `run`: the seed's ring, all steps in list order, the finish, on lent rows. What it answers and leaves is `runOf` of the crate
+// `sweep`, specs/Run.antt, for every input; what that means for the mesh is demand 3, specs/Demand3.antt there, which is the second clause
+// of the call's contract.
 ghost use mathlib.Core.Path.{_≡_};
 ghost use mathlib.Core.List.{List};
 ghost use Prim.Native.Nat.{ℕ, _+_, _*_, _≤_};
@@ -12,8 +13,8 @@ ghost use Rattle.finish.specs.declared.Totals.{Totals};
 ghost use Rattle.finish.specs.FinishRows.{finishingOf};
 ghost use Rattle.mesh_check.specs.declared.Checked.the-variants.{Accepted};
 ghost use Rattle.mesh_check.specs.Check.{pointCount};
-ghost use Rattle.run.specs.Run.{lent, outcome, finishAfter, runChecked, runOf};
-ghost use Rattle.run.specs.Demand3.{Demand3};
+ghost use Rattle.sweep.specs.Run.{lent, outcome, finishAfter, runChecked, runOf};
+ghost use Rattle.sweep.specs.Demand3.{Demand3};
 ghost use Rattle.run.specs.RunRows.{withAnswer, Zeroed, sweepingOf, SweepReady, SweepLeaves, FinishReady};
 use angle::Point2;
 use decide::Fate;
@@ -25,7 +26,7 @@ use flip_count::FlipCount;
 use mesh::Counts;
 use mesh_check::Checked;
 use ring_rows::Hull;
-use step::Answer;
+use sweep::Answer;
 
 // Where the steps have come to: the mesh's counts, how many points have been answered, and whether a flip's pushes would have overfilled the pending list.
 pub struct SweepEnd {
@@ -256,7 +257,8 @@ pub fn run(
         ≡ runOf (lent counts (now (positions .entry)) (now (outs .entry)) (now (halves .entry)) (now (faces .entry))
         (now (nodes .entry)) (now (freed .entry)) (now (buckets .entry)) (now (pending .entry)) (now (answers .entry))
         (center .x) (center .y) (now (points .entry))) ⌝ }
-    ensures demand3 { λ r. ⌜ ((t : Totals) → r .finished ≡ Finished.Accepted t → Demand3 (lent counts (now (positions .entry)) (now (outs .entry)) (now (halves .entry)) (now (faces .entry))
+    ensures demand3 { λ r. ⌜ ((t : Totals) → r .finished ≡ Finished.Accepted t → Demand3
+        (lent counts (now (positions .entry)) (now (outs .entry)) (now (halves .entry)) (now (faces .entry))
         (now (nodes .entry)) (now (freed .entry)) (now (buckets .entry)) (now (pending .entry)) (now (answers .entry))
         (center .x) (center .y) (now (points .entry)))
         (outcome r (now (positions .exit)) (now (outs .exit)) (now (halves .exit)) (now (faces .exit))

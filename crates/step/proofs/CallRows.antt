@@ -21,10 +21,10 @@ use Rattle.start.specs.Start.{sweepChecked}
 use Rattle.start.specs.StartLaws.{AcceptedSweep, sweep-accepts}
 use Rattle.start.specs.StartRows.{ToStart, Started, RowsCleared}
 use Rattle.step.specs.declared.Progress.{Progress}
-use Rattle.step.specs.declared.StepAnswer.{StepAnswer}
-use Rattle.step.specs.declared.Stepped.{Stepped}
-use Rattle.step.specs.Call.{Outcome, pointRow, answerFrom, stepChecked, outcomeOf, stepOf}
-use Rattle.step.specs.Step.{Stepping, stepMesh}
+use Rattle.sweep.specs.declared.StepAnswer.{StepAnswer}
+use Rattle.sweep.specs.declared.Stepped.{Stepped}
+use Rattle.sweep.specs.StepCall.{Outcome, pointRow, answerFrom, stepChecked, outcomeOf, stepOf}
+use Rattle.sweep.specs.Step.{Stepping, stepMesh}
 use Rattle.step.specs.StepRows.{steppingOf, StepRoom, StepReady, StepLeaves, SweptOnce}
 
 -- ---- the answer

@@ -46,9 +46,9 @@ use Rattle.ring_rows.specs.declared.Hull.{Hull}
 use Rattle.sums.specs.Iterate.{iter, iter-add}
 use Rattle.sums.specs.Put.{put}
 use Rattle.step.specs.declared.Progress.{Progress}
-use Rattle.step.specs.Fates.{IsAdded, is-added}
-use Rattle.step.specs.Step.{Stepping, isAdded, leftAlone, stepMesh}
-use Rattle.step.specs.StepMesh.{Swept, step-before, step-added, step-alone, added-of, added-swept}
+use Rattle.sweep.specs.Fates.{IsAdded, is-added}
+use Rattle.sweep.specs.Step.{Stepping, isAdded, leftAlone, stepMesh}
+use Rattle.sweep.specs.StepMesh.{Swept, step-before, step-added, step-alone, added-of, added-swept}
 use Rattle.step.specs.StepRing.{chain-end, step-change}
 use Rattle.step.specs.StepRows.{progressOf, steppingOf, StepRoom, StepReady, StepLeaves, PointReady, PointAdded}
 

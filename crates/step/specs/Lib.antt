@@ -1,9 +1,3 @@
--- `Step` has the definitions of a step and `Call` those of the call, the others the laws.
-pub mod Step
-pub mod Call
-pub mod Fates
-pub mod StepMesh
+-- `StepRows` has what the functions ask of rows and leave, `StepRing` what a step makes of the ring.
 pub mod StepRing
 pub mod StepRows
-pub mod CallLaws
-pub mod Examples

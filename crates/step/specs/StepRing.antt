@@ -1,4 +1,5 @@
--- The ring of the boundary that a step leaves is the ring before with the chain's nodes replaced: what `insert` of crate hull asks. Assumes nothing.
+-- The ring of the boundary that a step leaves is the ring before with the chain's nodes replaced: what `insert` of crate hull asks. Assumes
+-- nothing.
 use mathlib.Core.Bool.{false}
 use mathlib.Core.Path.{_≡_, refl, sym, _∙_, ap, subst}
 use Prim.Native.Nat.{ℕ, suc, _+_, _-_, _<_, _≤_}
@@ -26,9 +27,10 @@ use Rattle.ring.specs.ChainMesh.{before-walk, start-walk, chain-short}
 use Rattle.segment.specs.Arc.{holds}
 use Rattle.sums.specs.Iterate.{iter, iter-add}
 use Rattle.sums.specs.Put.{put}
-use Rattle.step.specs.StepMesh.{Swept, step-before, added-swept}
+use Rattle.sweep.specs.StepMesh.{Swept, step-before, added-swept}
 
-module _ {cx cy : Float} {C : Counts} {L : Links} {p : ℕ → Point} (S : Swept cx cy C L p) {v : Point} (i : InRange v) {n : ℕ} (f : decided cx cy C L p v .fate ≡ Added n) (room : ℕ) where
+module _ {cx cy : Float} {C : Counts} {L : Links} {p : ℕ
+    → Point} (S : Swept cx cy C L p) {v : Point} (i : InRange v) {n : ℕ} (f : decided cx cy C L p v .fate ≡ Added n) (room : ℕ) where
   abbrev α : ℕ → ℕ
   α = turnsAbout cx cy p
 

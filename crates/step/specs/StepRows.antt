@@ -23,7 +23,7 @@ use Rattle.ring_rows.specs.declared.Hull.{Hull}
 use Rattle.start.specs.StartRows.{RowsCleared}
 use Rattle.sums.specs.Put.{put}
 use Rattle.step.specs.declared.Progress.{Progress}
-use Rattle.step.specs.Step.{Stepping, stepMesh}
+use Rattle.sweep.specs.Step.{Stepping, stepMesh}
 
 -- what a step of these parts comes to
 abbrev pub progressOf : Added → Hull → Fate → Progress
@@ -67,11 +67,13 @@ pub record StepLeaves (C : Counts) (q q′ : List ℤ) (o h a row o′ h′ a′
 pub record PointReady (C : Counts) (q : List ℤ) (o h a row : List ℕ) (v : Point) (D : Decision) : Type 0 where
   pub place : 2 * C .vertices + 1 < length q
   -- with the positions that the row holds then
-  pub add : (q′ : List ℤ) → length q′ ≡ length q → positionOf q′ ≡ put (positionOf q) (C .vertices) v → AddReady C q′ o h a row (D .edge) (D .left) (D .right)
+  pub add : (q′ : List ℤ) → length q′ ≡ length q → positionOf q′ ≡ put (positionOf q) (C .vertices) v
+      → AddReady C q′ o h a row (D .edge) (D .left) (D .right)
 
 pub record PointAdded (C : Counts) (q q′ : List ℤ) (o h a row o′ h′ a′ : List ℕ) (v : Point) (D : Decision) (r : Entered) : Type 0 where
   pub places : positionOf q′ ≡ put (positionOf q) (C .vertices) v
-  pub is : appliedOf o′ h′ a′ r ≡ addTurns (length row) (put (positionOf q) (C .vertices) v) C (linksOf o h a) (D .edge) (D .left) (D .right)
+  pub is : appliedOf o′ h′ a′ r
+      ≡ addTurns (length row) (put (positionOf q) (C .vertices) v) C (linksOf o h a) (D .edge) (D .left) (D .right)
 
 -- ---- the call
 -- The step as it is defined, and zeros

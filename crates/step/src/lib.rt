@@ -1,6 +1,6 @@
 // One step of the sweep (bulk_load.rs, `single_bulk_insertion_step`): what is decided about a point, and then done; the mesh and its ring
 // go from step to step in the lent rows. And the call `step`, which makes one step on a lent mesh, whose ring it builds first. What they
-// answer and leave is `stepMesh` and `stepOf` of specs/Step.antt and specs/Call.antt.
+// answer and leave is `stepMesh` and `stepOf` of the crate `sweep`, specs/Step.antt and specs/StepCall.antt.
 ghost use mathlib.Core.List.{List};
 ghost use mathlib.Core.Path.{_≡_};
 ghost use mathlib.Core.Bool.{false};
@@ -8,9 +8,9 @@ ghost use lib.IntN.{ℤ};
 ghost use lib.ListN.{length};
 ghost use Prim.Native.Nat.{ℕ};
 ghost use Rattle.start.specs.StartLaws.{AcceptedSweep};
-ghost use Rattle.step.specs.Step.{isAdded};
+ghost use Rattle.sweep.specs.Step.{isAdded};
 ghost use Rattle.step.specs.StepRows.{progressOf, steppingOf, PointReady, PointAdded, StepReady, StepLeaves, SweptOnce};
-ghost use Rattle.step.specs.Call.{Outcome, pointRow, answerFrom, stepChecked, stepOf};
+ghost use Rattle.sweep.specs.StepCall.{Outcome, pointRow, answerFrom, stepChecked, stepOf};
 use angle::Point2;
 use apply::Entered;
 use corner::Added;
@@ -22,24 +22,9 @@ use mesh::Counts;
 use mesh_check::Checked;
 use mesh_check::Refusal;
 use ring_rows::Hull;
-
-// A point's fate, the faces and the flips of its step.
-pub struct Answer {
-    pub fate: Fate,
-    pub faces: u32,
-    pub flips: FlipCount,
-}
-
-pub enum Stepped {
-    Accepted(Answer),
-    Refused(Refusal),
-}
-
-// The mesh's counts after the call, and what it has done.
-pub struct StepAnswer {
-    pub counts: Counts,
-    pub stepped: Stepped,
-}
+use sweep::Answer;
+use sweep::StepAnswer;
+use sweep::Stepped;
 
 // The mesh's counts and its ring after a step, the point's answer, and whether a flip's pushes would have overfilled the pending list.
 pub struct Progress {

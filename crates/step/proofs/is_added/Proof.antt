@@ -1,6 +1,6 @@
 -- `step::is_added` meets its contract. Assumes nothing.
 use borrow.Author.Needs.{needs}
-use Rattle.step.specs.Step.{isAdded}
+use Rattle.sweep.specs.Step.{isAdded}
 use Rattle.step.proofs.is_added.Statement.{statement}
 use Rattle.step.proofs.is_added.Tie as tie
 

@@ -13,9 +13,9 @@ use Rattle.math.specs.declared.Point.{Point}
 use Rattle.mesh.specs.declared.Counts.{Counts}
 use Rattle.mesh_check.specs.declared.Checked.{Checked}
 use Rattle.start.specs.Start.{sweepChecked}
-use Rattle.step.specs.declared.StepAnswer.{StepAnswer}
-use Rattle.step.specs.declared.Stepped.{Stepped}
-use Rattle.step.specs.Step.{Stepping, stepMesh}
+use Rattle.sweep.specs.declared.StepAnswer.{StepAnswer}
+use Rattle.sweep.specs.declared.Stepped.{Stepped}
+use Rattle.sweep.specs.Step.{Stepping, stepMesh}
 
 -- ---- the refusals
 -- the point as a row of points: an x and a y

@@ -1,4 +1,5 @@
--- One step on a mesh: what is decided about a point, and what is applied of it. Definitions only, and each computes; `StepMesh` has the laws.
+-- One step on a mesh: what is decided about a point, and what is applied of it. Definitions only, and each computes; `StepMesh` has the
+-- laws.
 -- The centre is (cx, cy), `room` the number of pending entries; v is the point.
 use mathlib.Core.Bool.{Bool, true, false}
 use Prim.Native.Nat.{ℕ}
@@ -36,7 +37,11 @@ leftAlone C L p f = record { fate = f; positions = p; mesh = record { counts = C
 unfoldable pub addedAt : ℕ → Float → Float → Counts → Links → (ℕ → Point) → Point → Fate → ℕ → Stepping
 addedAt room cx cy C L p v f e =
     let p′ = put p (C .vertices) v in
-    record { fate = f; positions = p′; mesh = addVertex room p′ (turnsAbout cx cy p′) C L v (turns (angleAbout (v .x) (v .y) cx cy)) e .mesh }
+    record {
+      fate = f;
+      positions = p′;
+      mesh = addVertex room p′ (turnsAbout cx cy p′) C L v (turns (angleAbout (v .x) (v .y) cx cy)) e .mesh;
+    }
 
 unfoldable pub appliedBy : ℕ → Float → Float → Counts → Links → (ℕ → Point) → Point → ℕ → Fate → Stepping
 appliedBy room cx cy C L p v e (Added n) = addedAt room cx cy C L p v (Added n) e

@@ -38,9 +38,9 @@ use Rattle.sums.specs.Put.{put}
 use Rattle.sums.specs.Sum as sums
 use Rattle.sums.specs.Tally as tally
 use Rattle.sums.specs.Until.{until, when}
-use Rattle.step.specs.declared.Stepped.{Stepped}
-use Rattle.step.specs.Call.{Outcome, answerFrom, stepChecked, outcomeOf, stepOf}
-use Rattle.step.specs.Step.{Stepping, leftAlone, addedAt, appliedBy, applied, stepMesh}
+use Rattle.sweep.specs.declared.Stepped.{Stepped}
+use Rattle.sweep.specs.StepCall.{Outcome, answerFrom, stepChecked, outcomeOf, stepOf}
+use Rattle.sweep.specs.Step.{Stepping, leftAlone, addedAt, appliedBy, applied, stepMesh}
 
 abbrev at : ℤ → ℤ → Point
 at x y = record { x = x; y = y }
@@ -52,7 +52,8 @@ stepSeed v =
     ((2 ∷ 4 ∷ 1 ∷ 0 ∷ 5 ∷ 3 ∷ 0 ∷ 1 ∷ 4 ∷ 0 ∷ 1 ∷ 1 ∷ 1 ∷ 5 ∷ 0 ∷ 2 ∷ 0 ∷ 2 ∷ 1 ∷ 2 ∷ 3 ∷ 1 ∷ 0 ∷ 0 ∷ []) ++ replicate 72 7) ((1 ∷ 0 ∷ []) ++ replicate 6 7)
     (replicate 5 (replicate 4 7)) (replicate 5 7) (replicate 16 7) (replicate 8 7) one64 one64 v
 
--- 01: "p 0 1 3 1 0"; the point's position and the new vertex's entries are written, the sevens past them stay, and the pending list holds zeros
+-- 01: "p 0 1 3 1 0"; the point's position and the new vertex's entries are written, the sevens past them stay, and the pending list holds
+-- zeros
 first-point : (stepSeed (at (pos 4) (pos 4)) .answer
     ≡ record { counts = record { vertices = 4; edges = 5; faces = 3 }; stepped = Stepped.Accepted (record { fate = Added 3; faces = 1; flips = record { high = 0; low = 0 } }) })
     × (stepSeed (at (pos 4) (pos 4)) .positions ≡ pos 0 ∷ pos 0 ∷ pos 4 ∷ pos 0 ∷ pos 0 ∷ pos 4 ∷ pos 4 ∷ pos 4 ∷ pos 7 ∷ [])
@@ -72,7 +73,8 @@ first = stepMesh 8 one64 one64 seedCounts seed (points (at (pos 0) (pos 0) ∷ a
 abbrev after : Point → Stepping
 after v = stepMesh 8 one64 one64 (first .mesh .counts) (first .mesh .links) (first .positions) v
 
-further-points : (after (at (pos 2) (pos 2)) .fate ≡ NotLeft) × (after (at (pos 4) (pos 4)) .fate ≡ Dropped) × (after (at (pos 1) (pos 1)) .fate ≡ AtCenter)
+further-points : (after (at (pos 2) (pos 2)) .fate ≡ NotLeft) × (after (at (pos 4) (pos 4)) .fate ≡ Dropped)
+    × (after (at (pos 1) (pos 1)) .fate ≡ AtCenter)
 unfolding seed points first-below orient2d rev boundaryAngles boundaryEdges boundaryLength period-below tally.walk isSoundRing isSound merged mergedBefore allDiffer member countAround countBefore wraps proper wide gap turnsAbout turns angleAbout pseudoAngle ofDiff slope absoluteOf atCenter isNumber ofInt neg add sub mul div sum round units odd size span climb lt located holds tally.tally stepMesh applied appliedBy addedAt leftAlone decided decidedAt fateAt ifAdded atEnd isPosition isCoordinate soundAfter anglesAfter leftChain rightChain coversLeft coversRight factor length2 addVertex firstFace walk walkTurn walkEnds covers beside faceEdge closeCorner createNewFaceAdjacentToEdge faceAdjacent createSingleFaceBetweenEdgeAndNext faceBetween flipCw flipBetween put legalize edgeOf pushed flipped popped contains pushIfNotContained breaksCircle circleAt incircle height overFaces sums.sum until when
 further-points = (refl, refl, refl)
 
@@ -85,6 +87,7 @@ kite-flip : (kite 8 .fate ≡ Added 3) × (kite 8 .mesh .faces ≡ 1) × (kite 8
 unfolding seed points first-below orient2d rev boundaryAngles boundaryEdges boundaryLength period-below tally.walk isSoundRing isSound merged mergedBefore allDiffer member countAround countBefore wraps proper wide gap turnsAbout turns angleAbout pseudoAngle ofDiff slope absoluteOf atCenter isNumber ofInt neg add sub mul div sum round units odd size span climb lt located holds tally.tally stepMesh applied appliedBy addedAt leftAlone decided decidedAt fateAt ifAdded atEnd isPosition isCoordinate soundAfter anglesAfter leftChain rightChain coversLeft coversRight factor length2 addVertex firstFace walk walkTurn walkEnds covers beside faceEdge closeCorner createNewFaceAdjacentToEdge faceAdjacent createSingleFaceBetweenEdgeAndNext faceBetween flipCw flipBetween put legalize edgeOf pushed flipped popped contains pushIfNotContained breaksCircle circleAt incircle height overFaces sums.sum until when
 kite-flip = (refl, refl, refl, refl)
 
-kite-refused : (kite 1 .mesh .full ≡ true) × (kite 1 .mesh .flips ≡ 0) × (kite 1 .mesh .counts ≡ record { vertices = 4; edges = 5; faces = 3 })
+kite-refused : (kite 1 .mesh .full ≡ true) × (kite 1 .mesh .flips ≡ 0)
+    × (kite 1 .mesh .counts ≡ record { vertices = 4; edges = 5; faces = 3 })
 unfolding seed points first-below orient2d rev boundaryAngles boundaryEdges boundaryLength period-below tally.walk isSoundRing isSound merged mergedBefore allDiffer member countAround countBefore wraps proper wide gap turnsAbout turns angleAbout pseudoAngle ofDiff slope absoluteOf atCenter isNumber ofInt neg add sub mul div sum round units odd size span climb lt located holds tally.tally stepMesh applied appliedBy addedAt leftAlone decided decidedAt fateAt ifAdded atEnd isPosition isCoordinate soundAfter anglesAfter leftChain rightChain coversLeft coversRight factor length2 addVertex firstFace walk walkTurn walkEnds covers beside faceEdge closeCorner createNewFaceAdjacentToEdge faceAdjacent createSingleFaceBetweenEdgeAndNext faceBetween flipCw flipBetween put legalize edgeOf pushed flipped popped contains pushIfNotContained breaksCircle circleAt incircle height overFaces sums.sum until when
 kite-refused = (refl, refl, refl)

@@ -1,4 +1,5 @@
--- What an added point's fate says: it has an angle, is at no end of the located edge, is strictly left of it, and the boundary that the step would leave has a sound ring. Assumes nothing.
+-- What an added point's fate says: it has an angle, is at no end of the located edge, is strictly left of it, and the boundary that the
+-- step would leave has a sound ring. Assumes nothing.
 use mathlib.Core.Bool.{Bool, true, false, not, cond}
 use mathlib.Core.Path.{_≡_, refl, sym, _∙_, ap}
 use Prim.Native.Nat.{ℕ}
@@ -21,17 +22,25 @@ pub record IsAdded (cx cy : Float) (C : Counts) (L : Links) (p : ℕ → Point) 
   pub off-center : T (not (atCenter (v .x) (v .y) cx cy))
   pub next : n ≡ C .vertices
   pub edge : D .edge ≡ located C L (turnsAbout cx cy p) (turns (angleAbout (v .x) (v .y) cx cy))
-  pub seen : T (seesEdge L p v (located C L (turnsAbout cx cy p) (turns (angleAbout (v .x) (v .y) cx cy))))
-  pub sound : T (soundAfter C L p (turnsAbout cx cy p) v (turns (angleAbout (v .x) (v .y) cx cy)) (located C L (turnsAbout cx cy p) (turns (angleAbout (v .x) (v .y) cx cy))))
-  pub left : D .left ≡ leftChain C L p (turnsAbout cx cy p) v (turns (angleAbout (v .x) (v .y) cx cy)) (located C L (turnsAbout cx cy p) (turns (angleAbout (v .x) (v .y) cx cy)))
-  pub right : D .right ≡ rightChain C L p (turnsAbout cx cy p) v (turns (angleAbout (v .x) (v .y) cx cy)) (located C L (turnsAbout cx cy p) (turns (angleAbout (v .x) (v .y) cx cy)))
+  pub seen : T (seesEdge L p v
+      (located C L (turnsAbout cx cy p) (turns (angleAbout (v .x) (v .y) cx cy))))
+  pub sound : T (soundAfter C L p (turnsAbout cx cy p) v (turns (angleAbout (v .x) (v .y) cx cy))
+      (located C L (turnsAbout cx cy p) (turns (angleAbout (v .x) (v .y) cx cy))))
+  pub left : D .left
+      ≡ leftChain C L p (turnsAbout cx cy p) v (turns (angleAbout (v .x) (v .y) cx cy))
+      (located C L (turnsAbout cx cy p) (turns (angleAbout (v .x) (v .y) cx cy)))
+  pub right : D .right
+      ≡ rightChain C L p (turnsAbout cx cy p) v (turns (angleAbout (v .x) (v .y) cx cy))
+      (located C L (turnsAbout cx cy p) (turns (angleAbout (v .x) (v .y) cx cy)))
 
 -- of a point off the centre, and of one with an angle
-center-cases : (c : Bool) (X : Decided) {n : ℕ} → (cond c (record { fate = AtCenter; edge = 0; left = 0; right = 0 }) X) .fate ≡ Added n → c ≡ false
+center-cases : (c : Bool) (X : Decided) {n : ℕ} → (cond c (record { fate = AtCenter; edge = 0; left = 0; right = 0 }) X) .fate ≡ Added n → c
+    ≡ false
 center-cases true X e = absurd (let z : _≡_ {A = ℕ} 0 1 = cc in omega arith)
 center-cases false X e = refl
 
-fate-cases : (a s t : Bool) {m n : ℕ} → cond a Dropped (cond (not s) NotLeft (cond (not t) Unsound (Added m))) ≡ Added n → T s × T t × (m ≡ n)
+fate-cases : (a s t : Bool) {m n : ℕ} → cond a Dropped (cond (not s) NotLeft (cond (not t) Unsound (Added m))) ≡ Added n → T s × T t
+    × (m ≡ n)
 fate-cases true s t e = absurd (let z : _≡_ {A = ℕ} 0 1 = cc in omega arith)
 fate-cases false false t e = absurd (let z : _≡_ {A = ℕ} 0 1 = cc in omega arith)
 fate-cases false true false e = absurd (let z : _≡_ {A = ℕ} 0 1 = cc in omega arith)

@@ -1,5 +1,5 @@
--- What the steps of a run make of a good seed with a sound ring, after any number of points, by induction over the list: a good mesh, with the seed's vertices where they were and a vertex for each
--- added point. Assumes nothing.
+-- What the steps of a run make of a good seed with a sound ring, after any number of points, by induction over the list: a good mesh, with
+-- the seed's vertices where they were and a vertex for each added point. Assumes nothing.
 use mathlib.Core.Bool.{Bool, true, false, cond, false≢true}
 use mathlib.Core.Path.{_≡_, refl, sym, _∙_, ap, subst, subst⁻¹}
 use Prim.Native.Nat.{ℕ, zero, suc, _+_, _<_, _≤_}
@@ -15,11 +15,11 @@ use Rattle.math.specs.Determinant.{InRange}
 use Rattle.mesh.specs.declared.Counts.{Counts}
 use Rattle.mesh.specs.Mesh.{Links}
 use Rattle.mesh.specs.Good.{Good}
-use Rattle.step.specs.Step.{Stepping, isAdded, leftAlone, stepMesh}
-use Rattle.step.specs.StepMesh.{Swept, StepKeeps, StepAdds, step-keeps, step-adds, step-alone, added-of}
+use Rattle.sweep.specs.Step.{Stepping, isAdded, leftAlone, stepMesh}
+use Rattle.sweep.specs.StepMesh.{Swept, StepKeeps, StepAdds, step-keeps, step-adds, step-alone, added-of}
 use Rattle.sums.specs.Bit.{bit, from-true}
 use Rattle.sums.specs.Bounded.{count, count-suc, count-before}
-use Rattle.run.specs.Run.{Sweeping, sweepStart, stepOn, sweepPoint, sweepAfter, stepAt}
+use Rattle.sweep.specs.Run.{Sweeping, sweepStart, stepOn, sweepPoint, sweepAfter, stepAt}
 
 -- ---- fates
 added-same : {m v : ℕ} → Added m ≡ Added v → m ≡ v
@@ -48,7 +48,8 @@ step-count : {cx cy : Float} {C : Counts} {L : Links} {p : ℕ → Point} → Sw
 unfolding leftAlone
 step-count {cx} {cy} {C} {L} {p} S {v} i room = go (isAdded (decided cx cy C L p v .fate)) refl
   where
-    go : (b : Bool) → isAdded (decided cx cy C L p v .fate) ≡ b → stepMesh room cx cy C L p v .mesh .counts .vertices ≡ C .vertices + bit (isAdded (stepMesh room cx cy C L p v .fate))
+    go : (b : Bool) → isAdded (decided cx cy C L p v .fate) ≡ b → stepMesh room cx cy C L p v .mesh .counts .vertices
+        ≡ C .vertices + bit (isAdded (stepMesh room cx cy C L p v .fate))
     go true z =
         let n = added-of (decided cx cy C L p v .fate) z in
         let A = step-adds S i room (n .1) in
@@ -61,7 +62,8 @@ step-count {cx} {cy} {C} {L} {p} S {v} i room = go (isAdded (decided cx cy C L p
         omega arith
 
 -- a point that is left alone is not added
-alone-not : (room : ℕ) (cx cy : Float) (C : Counts) (L : Links) (p : ℕ → Point) (v : Point) → isAdded (decided cx cy C L p v .fate) ≡ false → isAdded (stepMesh room cx cy C L p v .fate) ≡ false
+alone-not : (room : ℕ) (cx cy : Float) (C : Counts) (L : Links) (p : ℕ → Point) (v : Point) → isAdded (decided cx cy C L p v .fate) ≡ false
+    → isAdded (stepMesh room cx cy C L p v .fate) ≡ false
 unfolding leftAlone
 alone-not room cx cy C L p v z = ap (λ (s : Stepping). isAdded (s .fate)) (step-alone room cx cy C L p v z) ∙ z
 
@@ -107,7 +109,8 @@ module _ (room : ℕ) {cx cy : Float} {C : Counts} {L : Links} {p : ℕ → Poin
     newest : (v : ℕ) → t .fate ≡ Added v → (v ≡ C .vertices + count n adds) × (t .positions v ≡ point n)
     newest v z = go (isAdded (decided cx cy (after n .counts) (after n .links) (after n .positions) (point n) .fate)) refl
       where
-        go : (b : Bool) → isAdded (decided cx cy (after n .counts) (after n .links) (after n .positions) (point n) .fate) ≡ b → (v ≡ C .vertices + count n adds) × (t .positions v ≡ point n)
+        go : (b : Bool) → isAdded (decided cx cy (after n .counts) (after n .links) (after n .positions) (point n) .fate) ≡ b
+            → (v ≡ C .vertices + count n adds) × (t .positions v ≡ point n)
         go true k =
             let m = added-of (decided cx cy (after n .counts) (after n .links) (after n .positions) (point n) .fate) k in
             let A = step-adds (K .swept f) i room (m .1) in
@@ -119,7 +122,8 @@ module _ (room : ℕ) {cx cy : Float} {C : Counts} {L : Links} {p : ℕ → Poin
     added′ j v l z = go (ℕ-discrete j n)
       where
         go : Dec (j ≡ n) → (v ≡ C .vertices + count j adds) × (t .positions v ≡ point j)
-        go (yes e) = subst (λ (k : ℕ). (v ≡ C .vertices + count k adds) × (t .positions v ≡ point k)) (sym e) (newest v (subst (λ (k : ℕ). steps k .fate ≡ Added v) e z))
+        go (yes e) = subst (λ (k : ℕ). (v ≡ C .vertices + count k adds) × (t .positions v
+            ≡ point k)) (sym e) (newest v (subst (λ (k : ℕ). steps k .fate ≡ Added v) e z))
         go (no d) =
             let r = K .added f j v (omega arith) z in
             let c = count-before j n adds (omega arith) (from-true (ap isAdded z ∙ is-added-added v)) in
@@ -167,7 +171,8 @@ module _ (room : ℕ) {cx cy : Float} {C : Counts} {L : Links} {p : ℕ → Poin
       start = omega arith
   sweep-keeps (suc n) range = go (after n .full) refl (sweep-keeps n (λ i l. range i (omega arith)))
     where
-      go : (b : Bool) → after n .full ≡ b → SweepKeeps room cx cy C L p point n (after n) → SweepKeeps room cx cy C L p point (suc n) (sweepPoint room cx cy (after n) (point n))
+      go : (b : Bool) → after n .full ≡ b → SweepKeeps room cx cy C L p point n (after n)
+          → SweepKeeps room cx cy C L p point (suc n) (sweepPoint room cx cy (after n) (point n))
       go false f K = subst⁻¹ (SweepKeeps room cx cy C L p point (suc n)) (sweep-point room cx cy (after n) (point n) f) (one-more K f (range n (omega arith)))
       go true f K = subst⁻¹ (SweepKeeps room cx cy C L p point (suc n)) (sweep-stays room cx cy (after n) (point n) f) (record {
         good = K .good;

@@ -1,5 +1,5 @@
--- THE THEOREM of the whole run, for every seed, centre and list of points: a run that is answered with no refusal number meets demand 3; one that is refused 9 leaves earlier answers and a good
--- mesh; and one that is refused another number changes nothing. Assumes nothing.
+-- THE THEOREM of the whole run, for every seed, centre and list of points: a run that is answered with no refusal number meets demand 3;
+-- one that is refused 9 leaves earlier answers and a good mesh; and one that is refused another number changes nothing. Assumes nothing.
 use mathlib.Core.Bool.{Bool, true, false, cond, not, false≢true}
 use mathlib.Core.List.{List}
 use mathlib.Core.Logic.{_⊎_, inl, inr}
@@ -49,12 +49,12 @@ use Rattle.mesh_check.specs.Check.{pointCount, vertexCount}
 use Rattle.ring.specs.Boundary.{strict-ring}
 use Rattle.ring.specs.Center.{turnsAbout}
 use Rattle.start.specs.StartLaws.{AcceptedSweep, sweep-accepts}
-use Rattle.step.specs.Step.{Stepping, isAdded}
-use Rattle.step.specs.StepMesh.{Swept}
+use Rattle.sweep.specs.Step.{Stepping, isAdded}
+use Rattle.sweep.specs.StepMesh.{Swept}
 use Rattle.sums.specs.Bounded.{count, count-ext}
-use Rattle.run.specs.Run.{Sweeping, sweepAfter, finishAfter, answerWord, answersAfter, Lent, Outcome, runChecked, sweepOf, stepsOf, finishOf, outcomeOf, runOf}
-use Rattle.run.specs.SweepLaws.{SweepKeeps, sweep-keeps}
-use Rattle.run.specs.Demand3.{linksAfter, placesAfter, fateOf, vertexOf, addedBefore, passed, Demand3, Cleared, Full, Unchanged}
+use Rattle.sweep.specs.Run.{Sweeping, sweepAfter, finishAfter, answerWord, answersAfter, Lent, Outcome, runChecked, sweepOf, stepsOf, finishOf, outcomeOf, runOf}
+use Rattle.sweep.specs.SweepLaws.{SweepKeeps, sweep-keeps}
+use Rattle.sweep.specs.Demand3.{linksAfter, placesAfter, fateOf, vertexOf, addedBefore, passed, Demand3, Cleared, Full, Unchanged}
 
 -- ---- the answers
 -- fate 1 is that of an added point, and its vertex is in the answer
@@ -149,7 +149,8 @@ module _ (l : Lent) (e : runChecked l ≡ Checked.Accepted) where
   unfolding finishAfter
   finished-is f = rw f refl
 
-  refused-is : s .full ≡ true → m ≡ record { counts = s .counts; links = s .links; faces = 0; convexflips = 0; closingflips = 0; full = true }
+  refused-is : s .full ≡ true → m
+      ≡ record { counts = s .counts; links = s .links; faces = 0; convexflips = 0; closingflips = 0; full = true }
   unfolding finishAfter
   refused-is f = rw f refl
 
@@ -189,7 +190,8 @@ module _ (l : Lent) (e : runChecked l ≡ Checked.Accepted) where
       let x = r .outs in let y = r .halves in let z = r .faces in
       record { outs = omega arith; halves = omega arith; faces = omega arith }
 
-  links-back : linksOf (rowFrom (length (l .outs)) (m .links .out)) (halvesFrom (length (l .halves)) (m .links)) (rowFrom (length (l .faces)) (m .links .adjacent)) ≡ m .links
+  links-back : linksOf (rowFrom (length (l .outs)) (m .links .out)) (halvesFrom (length (l .halves)) (m .links)) (rowFrom (length (l .faces)) (m .links .adjacent))
+      ≡ m .links
   links-back = rows-back holding (finish-keeps .untouched)
 
   places-back : positionOf (positionsFrom (length (l .positions)) (s .positions)) ≡ s .positions
@@ -286,7 +288,9 @@ module _ (l : Lent) (e : runChecked l ≡ Checked.Accepted) where
     count-is k a = count-ext k (λ i. isAdded (stepsOf l i .fate)) (λ i. eqb (fateOf R i) 1)
         (λ i b. sym (ap (λ (x : ℕ). eqb x 1) (fate-is i (omega arith)) ∙ number-added (stepsOf l i .fate)))
 
-    added-is : (i : ℕ) → i < n → fateOf R i ≡ 1 → (fateVertex (stepsOf l i .fate) ≡ l .counts .vertices + count i (λ j. isAdded (stepsOf l j .fate))) × (s .positions (fateVertex (stepsOf l i .fate)) ≡ positionOf (l .points) i)
+    added-is : (i : ℕ) → i < n → fateOf R i ≡ 1
+        → (fateVertex (stepsOf l i .fate) ≡ l .counts .vertices + count i (λ j. isAdded (stepsOf l j .fate)))
+        × (s .positions (fateVertex (stepsOf l i .fate)) ≡ positionOf (l .points) i)
     added-is i a z = run-keeps .added steps-made i (fateVertex (stepsOf l i .fate)) a (vertex-added (stepsOf l i .fate) (sym (fate-is i a) ∙ z))
 
     demand-3 : (t : Totals) → flipCountOf (t .closingflips) ≡ m .closingflips → Demand3 l R t
@@ -329,7 +333,8 @@ module _ (l : Lent) where
     where
       at : (e : runChecked l ≡ Checked.Accepted) (b : Bool) → finishOf l .full ≡ b → Demand3 l (runOf l) t × Cleared l (runOf l)
       at e true f =
-          let x : Finished.Refused (record { number = 9; place = sweepOf l (pointCount (l .points)) .answered }) ≡ Finished.Accepted t = sym (rw (run-is l e, f) refl) ∙ z in
+          let x : Finished.Refused (record { number = 9; place = sweepOf l (pointCount (l .points)) .answered })
+          ≡ Finished.Accepted t = sym (rw (run-is l e, f) refl) ∙ z in
           absurd (let w : _≡_ {A = ℕ} 0 1 = cc in omega arith)
       at e false f =
           let x : Finished.Accepted totals ≡ Finished.Accepted t = sym (rw (run-is l e, f) refl) ∙ z in
@@ -354,7 +359,8 @@ module _ (l : Lent) where
 
       at : (e : runChecked l ≡ Checked.Accepted) (b : Bool) → finishOf l .full ≡ b → Wanted
       at e true f =
-          let y : Finished.Refused (record { number = 9; place = sweepOf l (pointCount (l .points)) .answered }) ≡ Finished.Refused x = sym (rw (run-is l e, f) refl) ∙ z in
+          let y : Finished.Refused (record { number = 9; place = sweepOf l (pointCount (l .points)) .answered })
+          ≡ Finished.Refused x = sym (rw (run-is l e, f) refl) ∙ z in
           let w : record { number = 9; place = sweepOf l (pointCount (l .points)) .answered } ≡ x = cc in
           inr (
             ap (λ (r : Refusal). r .number) (sym w),

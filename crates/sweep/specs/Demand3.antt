@@ -1,5 +1,6 @@
--- DEMAND 3: what a run that is answered with no refusal number leaves, one field for each of its clauses, each beside its words; and what a run leaves that is refused. Stated of the rows and the
--- answer alone, as a caller finds them. `RunLaws` proves it for every seed, centre and list of points.
+-- DEMAND 3: what a run that is answered with no refusal number leaves, one field for each of its clauses, each beside its words; and what a
+-- run leaves that is refused. Stated of the rows and the answer alone, as a caller finds them. `RunLaws` proves it for every seed, centre
+-- and list of points.
 use mathlib.Core.List.{List}
 use mathlib.Core.Path.{_≡_}
 use Prim.Native.Nat.{ℕ, _+_, _*_, _<_, _≤_}
@@ -23,7 +24,7 @@ use Rattle.mesh.specs.Good.{Good}
 use Rattle.mesh.specs.Wf.{Wf}
 use Rattle.mesh_check.specs.Check.{pointCount}
 use Rattle.sums.specs.Bounded.{count}
-use Rattle.run.specs.Run.{Lent, Outcome, answerWord, stepsOf, sweepOf}
+use Rattle.sweep.specs.Run.{Lent, Outcome, answerWord, stepsOf, sweepOf}
 
 -- ---- what the rows hold afterwards
 abbrev pub linksAfter : Outcome → Links
@@ -70,10 +71,12 @@ pub record Demand3 (l : Lent) (r : Outcome) (t : Totals) : Type 0 where
   -- no triangle's circle strictly contains a neighbour's far vertex;
   pub circles : LocallyDelaunay (r .answer .counts) (linksAfter r) (placesAfter r)
   -- and the closing flips reported are exactly as many as the closing pass made
-  pub closing : _≡_ {A = Closing} (record { links = linksAfter r; flips = flipCountOf (t .closingflips) }) (closingPass (r .answer .counts) (placesAfter r) (passed l))
+  pub closing : _≡_ {A = Closing} (record { links = linksAfter r; flips = flipCountOf (t .closingflips) })
+      (closingPass (r .answer .counts) (placesAfter r) (passed l))
   pub flips : FlipRun (r .answer .counts) (placesAfter r) (passed l) (linksAfter r) (flipCountOf (t .closingflips))
   -- and at most the fall of the height sum during it."
-  pub fall : pos (flipCountOf (t .closingflips)) ≤ℤ (heightSum (r .answer .counts) (passed l) (placesAfter r) -ℤ heightSum (r .answer .counts) (linksAfter r) (placesAfter r))
+  pub fall : pos (flipCountOf (t .closingflips))
+      ≤ℤ (heightSum (r .answer .counts) (passed l) (placesAfter r) -ℤ heightSum (r .answer .counts) (linksAfter r) (placesAfter r))
 
 -- ---- the rows beside the mesh, after 9 and after every accepted run
 pub record Cleared (l : Lent) (r : Outcome) : Type 0 where

@@ -1,4 +1,5 @@
--- The call `run`: the seed's ring, all steps in list order, the finish. Definitions only, and each computes; `Demand3` says what a finished run means.
+-- The call `run`: the seed's ring, all steps in list order, the finish. Definitions only, and each computes; `Demand3` says what a finished
+-- run means.
 -- `point` gives each point of the list its position, by its index; `room` is the number of pending entries.
 use mathlib.Core.Bool.{Bool, true, false, cond}
 use mathlib.Core.List.{List}
@@ -18,7 +19,7 @@ use Rattle.mesh.specs.Mesh.{Links}
 use Rattle.mesh_check.specs.declared.Checked.{Checked}
 use Rattle.mesh_check.specs.Check.{pointCount}
 use Rattle.start.specs.Start.{sweepChecked}
-use Rattle.step.specs.Step.{Stepping, stepMesh}
+use Rattle.sweep.specs.Step.{Stepping, stepMesh}
 
 -- ---- the steps
 -- the mesh under way, how many points have been answered, and whether a flip was refused
@@ -42,7 +43,13 @@ unfoldable pub sweepPoint : ℕ → Float → Float → Sweeping → Point → S
 sweepPoint room cx cy s v =
     let t = stepOn room cx cy s v in
     cond (s .full) s
-    (record { counts = t .mesh .counts; links = t .mesh .links; positions = t .positions; answered = cond (t .mesh .full) (s .answered) (suc (s .answered)); full = t .mesh .full })
+    (record {
+      counts = t .mesh .counts;
+      links = t .mesh .links;
+      positions = t .positions;
+      answered = cond (t .mesh .full) (s .answered) (suc (s .answered));
+      full = t .mesh .full;
+    })
 
 -- 01: "A run takes its points in list order.": the mesh after the first n of them
 unfoldable pub sweepAfter : ℕ → Float → Float → Counts → Links → (ℕ → Point) → (ℕ → Point) → ℕ → Sweeping
@@ -72,7 +79,10 @@ answerWord s (suc (suc (suc (suc k)))) = s .mesh .flips % 2 ^ 64
 
 -- 01, of 9: "Earlier points' answers stay, those from that index on are all 0"; "answer entries past the counts in use are untouched"
 unfoldable pub answersAfter : (ℕ → Stepping) → ℕ → ℕ → (ℕ → ℕ) → ℕ → ℕ
-answersAfter step answered count row x = cond (ltb x (5 * count)) (cond (ltb (x / 5) answered) (answerWord (step (x / 5)) (x % 5)) 0) (row x)
+answersAfter step answered count row x =
+    cond (ltb x (5 * count))
+    (cond (ltb (x / 5) answered) (answerWord (step (x / 5)) (x % 5)) 0)
+    (row x)
 
 -- ---- the call
 -- its answer, and what every row that it may write holds afterwards
@@ -104,7 +114,8 @@ pub record Lent : Type 0 where
   pub centery : Float
   pub points : List ℤ
 
-abbrev pub lent : Counts → List ℤ → List ℕ → List ℕ → List ℕ → List (List ℕ) → List ℕ → List ℕ → List ℕ → List ℕ → Float → Float → List ℤ → Lent
+abbrev pub lent : Counts → List ℤ → List ℕ → List ℕ → List ℕ → List (List ℕ) → List ℕ → List ℕ → List ℕ → List ℕ → Float → Float → List ℤ
+    → Lent
 lent C positions outs halves faces nodes freed buckets pending answers cx cy points = record {
   counts = C;
   positions = positions;
@@ -138,21 +149,27 @@ outcome r positions outs halves faces nodes freed buckets pending answers = reco
 -- 01's refusals 1 to 7; 2, of the answers row: "one answer .. per point"
 unfoldable pub runChecked : Lent → Checked
 runChecked l =
-    sweepChecked (l .points) (ltb (length (l .answers)) (5 * pointCount (l .points))) (l .counts) (l .positions) (l .outs) (l .halves) (l .faces)
+    sweepChecked (l .points) (ltb (length (l .answers)) (5 * pointCount (l .points)))
+    (l .counts) (l .positions) (l .outs) (l .halves) (l .faces)
     (length (l .nodes)) (length (l .freed)) (length (l .buckets)) (length (l .pending)) (l .centerx) (l .centery)
 
 -- the mesh after the first n points, and the step of point i
 abbrev pub sweepOf : Lent → ℕ → Sweeping
-sweepOf l n = sweepAfter (length (l .pending)) (l .centerx) (l .centery) (l .counts) (linksOf (l .outs) (l .halves) (l .faces)) (positionOf (l .positions)) (positionOf (l .points)) n
+sweepOf l n =
+    sweepAfter (length (l .pending)) (l .centerx) (l .centery)
+    (l .counts) (linksOf (l .outs) (l .halves) (l .faces)) (positionOf (l .positions)) (positionOf (l .points)) n
 
 abbrev pub stepsOf : Lent → ℕ → Stepping
-stepsOf l i = stepAt (length (l .pending)) (l .centerx) (l .centery) (l .counts) (linksOf (l .outs) (l .halves) (l .faces)) (positionOf (l .positions)) (positionOf (l .points)) i
+stepsOf l i =
+    stepAt (length (l .pending)) (l .centerx) (l .centery)
+    (l .counts) (linksOf (l .outs) (l .halves) (l .faces)) (positionOf (l .positions)) (positionOf (l .points)) i
 
 abbrev pub finishOf : Lent → Finishing
 finishOf l = finishAfter (length (l .pending)) (sweepOf l (pointCount (l .points)))
 
--- 01: "All but 9 change nothing lent"; "9 answers the point's index (.. the point count in a finish within a run ..)": as many as have been answered. "After 9 and after every accepted call the
--- ring, freed, bucket and pending rows hold zeros, and mesh and answer entries past the counts in use are untouched": the functions have every entry of their rows
+-- 01: "All but 9 change nothing lent"; "9 answers the point's index (.. the point count in a finish within a run ..)": as many as have been
+-- answered. "After 9 and after every accepted call the ring, freed, bucket and pending rows hold zeros, and mesh and answer entries past
+-- the counts in use are untouched": the functions have every entry of their rows
 unfoldable pub outcomeOf : Lent → Checked → Outcome
 outcomeOf l (Checked.Refused r) = record {
   answer = record { counts = l .counts; finished = Finished.Refused r };

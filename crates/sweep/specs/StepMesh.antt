@@ -1,4 +1,5 @@
--- What a step makes of a good mesh with a sound ring about a centre that no boundary vertex equals: the same again, with the point as its next vertex where that was added. Assumes nothing.
+-- What a step makes of a good mesh with a sound ring about a centre that no boundary vertex equals: the same again, with the point as its
+-- next vertex where that was added. Assumes nothing.
 use mathlib.Core.Bool.{Bool, true, false, not, false≢true, _||_}
 use mathlib.Core.Logic.{_⊎_, inl, inr, ⊎-elim}
 use mathlib.Core.Path.{_≡_, refl, sym, _∙_, ap, subst, subst⁻¹}
@@ -36,8 +37,8 @@ use Rattle.ring.specs.Chain.{leftChain, rightChain}
 use Rattle.sums.specs.Bit.{sure, or-cases, or-left, or-right}
 use Rattle.sums.specs.Bounded.{any-below, any-below→, any-below←}
 use Rattle.sums.specs.Put.{put, put-same, put-other}
-use Rattle.step.specs.Step.{Stepping, isAdded, leftAlone, addedAt, appliedBy, applied, stepMesh}
-use Rattle.step.specs.Fates.{IsAdded, is-added}
+use Rattle.sweep.specs.Step.{Stepping, isAdded, leftAlone, addedAt, appliedBy, applied, stepMesh}
+use Rattle.sweep.specs.Fates.{IsAdded, is-added}
 
 -- the mesh between two steps
 pub record Swept (cx cy : Float) (C : Counts) (L : Links) (p : ℕ → Point) : Type 0 where
@@ -150,7 +151,8 @@ added-of NotLeft e = absurd (false≢true e)
 added-of Unsound e = absurd (false≢true e)
 added-of AtCenter e = absurd (false≢true e)
 
-alone-of : (room : ℕ) (cx cy : Float) (C : Counts) (L : Links) (p : ℕ → Point) (v : Point) (e : ℕ) (f : Fate) → isAdded f ≡ false → appliedBy room cx cy C L p v e f ≡ leftAlone C L p f
+alone-of : (room : ℕ) (cx cy : Float) (C : Counts) (L : Links) (p : ℕ → Point) (v : Point) (e : ℕ) (f : Fate) → isAdded f ≡ false
+    → appliedBy room cx cy C L p v e f ≡ leftAlone C L p f
 unfolding isAdded appliedBy
 alone-of room cx cy C L p v e (Added n) z = absurd (false≢true (sym z))
 alone-of room cx cy C L p v e Dropped z = refl
@@ -158,12 +160,14 @@ alone-of room cx cy C L p v e NotLeft z = refl
 alone-of room cx cy C L p v e Unsound z = refl
 alone-of room cx cy C L p v e AtCenter z = refl
 
-pub step-alone : (room : ℕ) (cx cy : Float) (C : Counts) (L : Links) (p : ℕ → Point) (v : Point) → isAdded (decided cx cy C L p v .fate) ≡ false
+pub step-alone : (room : ℕ) (cx cy : Float) (C : Counts) (L : Links) (p : ℕ → Point) (v : Point) → isAdded (decided cx cy C L p v .fate)
+    ≡ false
     → stepMesh room cx cy C L p v ≡ leftAlone C L p (decided cx cy C L p v .fate)
 unfolding stepMesh applied
 step-alone room cx cy C L p v z = alone-of room cx cy C L p v (decided cx cy C L p v .edge) (decided cx cy C L p v .fate) z
 
--- the mesh stays good, with the old vertices where they are; what is past its counts is untouched; the flips are within their bound; and where no flip was refused it is as a step is given it
+-- the mesh stays good, with the old vertices where they are; what is past its counts is untouched; the flips are within their bound; and
+-- where no flip was refused it is as a step is given it
 pub record StepKeeps (cx cy : Float) (C : Counts) (L : Links) (p : ℕ → Point) (s : Stepping) : Type 0 where
   pub good : Good (s .mesh .counts) (s .mesh .links) (s .positions)
   pub untouched : Untouched (s .mesh .counts) L (s .mesh .links)
@@ -174,7 +178,8 @@ pub record StepKeeps (cx cy : Float) (C : Counts) (L : Links) (p : ℕ → Point
   pub past : (u : ℕ) → s .mesh .counts .vertices ≤ u → s .positions u ≡ p u
   pub swept : s .mesh .full ≡ false → Swept cx cy (s .mesh .counts) (s .mesh .links) (s .positions)
 
-pub step-keeps : {cx cy : Float} {C : Counts} {L : Links} {p : ℕ → Point} → Swept cx cy C L p → {v : Point} → InRange v → (room : ℕ) → StepKeeps cx cy C L p (stepMesh room cx cy C L p v)
+pub step-keeps : {cx cy : Float} {C : Counts} {L : Links} {p : ℕ → Point} → Swept cx cy C L p → {v : Point} → InRange v → (room : ℕ)
+    → StepKeeps cx cy C L p (stepMesh room cx cy C L p v)
 unfolding leftAlone
 step-keeps {cx} {cy} {C} {L} {p} S {v} i room = go (isAdded (decided cx cy C L p v .fate)) refl
   where
@@ -208,18 +213,23 @@ step-keeps {cx} {cy} {C} {L} {p} S {v} i room = go (isAdded (decided cx cy C L p
           swept = added-swept S i f room;
         })
 
--- ---- an added point: the next vertex, at that position; k faces and k + 1 edges; the first face, its flips, and then for each further face its flips, as many in all as are counted
+-- ---- an added point: the next vertex, at that position; k faces and k + 1 edges; the first face, its flips, and then for each further
+-- face its flips, as many in all as are counted
 pub record StepAdds (room : ℕ) (C : Counts) (L : Links) (p : ℕ → Point) (v : Point) (e n left right : ℕ) (s : Stepping) : Type 0 where
   pub fate : s .fate ≡ Added n
   pub next : n ≡ C .vertices
   pub place : s .positions n ≡ v
-  pub counts : s .mesh .counts ≡ record { vertices = C .vertices + 1; edges = C .edges + s .mesh .faces + 1; faces = C .faces + s .mesh .faces }
-  pub first : FlipRun (withVertex C) (s .positions) (createNewFaceAdjacentToEdge L C e) (firstFace room (s .positions) C L e .links) (firstFace room (s .positions) C L e .flips)
+  pub counts : s .mesh .counts
+      ≡ record { vertices = C .vertices + 1; edges = C .edges + s .mesh .faces + 1; faces = C .faces + s .mesh .faces }
+  pub first : FlipRun (withVertex C) (s .positions) (createNewFaceAdjacentToEdge L C e)
+      (firstFace room (s .positions) C L e .links) (firstFace room (s .positions) C L e .flips)
   pub closings : Closings (s .positions) (firstFace room (s .positions) C L e) (s .mesh)
   pub faces : s .mesh .full ≡ false → s .mesh .faces ≡ left + 1 + right
 
-pub step-adds : {cx cy : Float} {C : Counts} {L : Links} {p : ℕ → Point} → Swept cx cy C L p → {v : Point} → InRange v → (room : ℕ) {n : ℕ} → decided cx cy C L p v .fate ≡ Added n
-    → StepAdds room C L p v (decided cx cy C L p v .edge) n (decided cx cy C L p v .left) (decided cx cy C L p v .right) (stepMesh room cx cy C L p v)
+pub step-adds : {cx cy : Float} {C : Counts} {L : Links} {p : ℕ → Point} → Swept cx cy C L p → {v : Point} → InRange v → (room : ℕ) {n : ℕ}
+    → decided cx cy C L p v .fate ≡ Added n
+    → StepAdds room C L p v (decided cx cy C L p v .edge) n (decided cx cy C L p v .left) (decided cx cy C L p v .right)
+    (stepMesh room cx cy C L p v)
 step-adds {cx} {cy} {C} {L} {p} S {v} i room {n} f =
     let B = step-before S i f in
     let A = is-added cx cy C L p v f in

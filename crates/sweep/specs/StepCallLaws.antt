@@ -40,12 +40,12 @@ use Rattle.ring.specs.Boundary.{strict-ring}
 use Rattle.ring.specs.Center.{turnsAbout}
 use Rattle.ring.specs.Ring.{located}
 use Rattle.start.specs.StartLaws.{AcceptedSweep, sweep-accepts, sweep-numbered}
-use Rattle.step.specs.declared.Answer.{Answer}
-use Rattle.step.specs.declared.Stepped.{Stepped}
-use Rattle.step.specs.Call.{Outcome, pointRow, answerFrom, stepChecked, outcomeOf, stepOf}
-use Rattle.step.specs.Fates.{is-added}
-use Rattle.step.specs.Step.{Stepping, isAdded, leftAlone, addedAt, appliedBy, applied, stepMesh}
-use Rattle.step.specs.StepMesh.{Swept, StepKeeps, StepAdds, step-keeps, step-adds, step-alone, added-of}
+use Rattle.sweep.specs.declared.Answer.{Answer}
+use Rattle.sweep.specs.declared.Stepped.{Stepped}
+use Rattle.sweep.specs.StepCall.{Outcome, pointRow, answerFrom, stepChecked, outcomeOf, stepOf}
+use Rattle.sweep.specs.Fates.{is-added}
+use Rattle.sweep.specs.Step.{Stepping, isAdded, leftAlone, addedAt, appliedBy, applied, stepMesh}
+use Rattle.sweep.specs.StepMesh.{Swept, StepKeeps, StepAdds, step-keeps, step-adds, step-alone, added-of}
 
 -- ---- what the rows hold after a call
 abbrev pub linksAfter : Outcome → Links
