@@ -1,6 +1,9 @@
 -- Bounds on absolute values, and what the machine's signed integers hold.
--- A signed local holds bits, so the logic has `toZ w (ofZ w z)` where the code reads a number z that it wrote: the machine's number of `x * y - z` is a tower of these. The tower is its number where nothing overflows, and that is a test of bounds, which computes.
--- A proof gives an `Env ρ β`: for each number of ρ that its absolute value is at most the bound in β, `h₁ ∷ᵉ h₂ ∷ᵉ []ᵉ`. Then, for an expression e over those numbers,
+-- A signed local holds bits, so the logic has `toZ w (ofZ w z)` where the code reads a number z that it wrote: the
+-- machine's number of `x * y - z` is a tower of these. The tower is its number where nothing overflows, and that is a
+-- test of bounds, which computes.
+-- A proof gives an `Env ρ β`: for each number of ρ that its absolute value is at most the bound in β,
+-- `h₁ ∷ᵉ h₂ ∷ᵉ []ᵉ`. Then, for an expression e over those numbers,
 --     fits64 env e tt      the last operation of e does not overflow an i64 (a need `add-..`, `sub-..`, `mul-..`)
 --     reads64 env e tt     the local that e was written to is ⟦ e ⟧ ρ (in `returns`, at a call's argument)
 --     raws64 env e tt      the same before it was written, for a test of equality, which the logic makes on the bits `ofZ w64 (raw ..)`
@@ -140,7 +143,8 @@ within {ρ} s (⊝ a) = le-trans (le-of-eq (natAbs-neg (⟦ a ⟧ ρ))) (within 
 
 module _ (w : Width) (ρ : List ℤ) (β : List ℕ) (s : Env ρ β) where
   -- an operation's operands, and its bound
-  two : (a b : E) (n : ℕ) → T (both (both (ok w β a) (ok w β b)) (ltb n (2 ^ hbits w))) → T (ok w β a) × T (ok w β b) × T (ltb n (2 ^ hbits w))
+  two : (a b : E) (n : ℕ) → T (both (both (ok w β a) (ok w β b)) (ltb n (2 ^ hbits w)))
+      → T (ok w β a) × T (ok w β b) × T (ltb n (2 ^ hbits w))
   two a b n t =
       let u = both-l (both (ok w β a) (ok w β b)) (ltb n (2 ^ hbits w)) t in
       (both-l (ok w β a) (ok w β b) u, both-r (ok w β a) (ok w β b) u, both-r (both (ok w β a) (ok w β b)) (ltb n (2 ^ hbits w)) t)

@@ -1,4 +1,5 @@
--- One example of each tool of this crate, to copy from. The names: v0, v1, .. are the numbers of the list ρ, in order, and # n is a numeral.
+-- One example of each tool of this crate, to copy from. The names: v0, v1, .. are the numbers of the list ρ, in order,
+-- and # n is a numeral.
 -- Assumes nothing.
 use mathlib.Core.Path.{_≡_, refl}
 use mathlib.Core.Logic.{⊎-elim}

@@ -1,5 +1,6 @@
--- Floats by the fractions that they equal, for any format: fractions over one denominator and over another, and the sum of two floats from their
--- fractions. `HasValue x s a c` of `lib.Ieee.Exact` says that x has the sign s and is a / c in size. Assumes nothing.
+-- Floats by the fractions that they equal, for any format: fractions over one denominator and over another, and the sum
+-- of two floats from their fractions. `HasValue x s a c` of `lib.Ieee.Exact` says that x has the sign s and is a / c in
+-- size. Assumes nothing.
 use mathlib.Core.Path.{_≡_, refl, sym, ap, ap₂, _∙_, subst}
 use mathlib.Core.Bool.{Bool, true, false, not, _&&_, Bool·beq, cond}
 use Prim.Native.Nat.{ℕ, _+_, _-_, _*_, _<_}
@@ -55,7 +56,8 @@ pub right-scale : (Y de dd b c : ℕ) → Y * c ≡ b * dd → Y * de * c ≡ b 
 right-scale Y de dd b c h = left-scale Y dd de b c h ∙ ap (λ (z : ℕ). b * z) (mul-comm dd de)
 
 -- ---- the sum and the difference of two floats over one denominator
-pub add-fractions : (f : Format) (x y : Float) (s t : Bool) (a b U : ℕ) → 0 < U → HasValue x s a U → HasValue y t b U → add f x y ≡ sum f s a t b U
+pub add-fractions : (f : Format) (x y : Float) (s t : Bool) (a b U : ℕ) → 0 < U → HasValue x s a U
+    → HasValue y t b U → add f x y ≡ sum f s a t b U
 unfolding add
 add-fractions f nan y s t a b U h v w = absurd v
 add-fractions f (inf r) y s t a b U h v w = absurd v
@@ -79,7 +81,8 @@ pub sub-is : (f : Format) (x y : Float) → sub f x y ≡ add f x (neg y)
 unfolding sub
 sub-is f x y = refl
 
-pub sub-fractions : (f : Format) (x y : Float) (s t : Bool) (a b U : ℕ) → 0 < U → HasValue x s a U → HasValue y t b U → sub f x y ≡ sum f s a (not t) b U
+pub sub-fractions : (f : Format) (x y : Float) (s t : Bool) (a b U : ℕ) → 0 < U → HasValue x s a U
+    → HasValue y t b U → sub f x y ≡ sum f s a (not t) b U
 sub-fractions f x y s t a b U h v w = sub-is f x y ∙ add-fractions f x (neg y) s (not t) a b U h v (neg-fraction y t b U w)
 
 -- like signs

@@ -1,4 +1,6 @@
--- `omega` for ℤ. Each variable is a difference of two naturals, z = up z - dn z, and so each expression is one: `upᴱ e ρ - dnᴱ e ρ`, sums of products of these parts. So an order or an equation in ℤ is one in ℕ, which `omega` reads, with the parts and their products for its unknowns:
+-- `omega` for ℤ. Each variable is a difference of two naturals, z = up z - dn z, and so each expression is one:
+-- `upᴱ e ρ - dnᴱ e ρ`, sums of products of these parts. So an order or an equation in ℤ is one in ℕ, which `omega`
+-- reads, with the parts and their products for its unknowns:
 --     lt→ ρ a b h, le→ ρ a b h, eq→ ρ a b h      a hypothesis ⟦ a ⟧ ρ < ⟦ b ⟧ ρ, for omega's list
 --     lt← ρ a b (omega (arith, ..)), le← , eq←    the goal
 -- Assumes nothing.

@@ -1,6 +1,8 @@
 -- A solver for identities of commutative rings, at ℤ.
--- An identity is written twice: as the goal, over ℤ, and as two expressions `E` over an environment, the list of the values of the variables.
--- `ring ρ a b refl` proves ⟦ a ⟧ ρ ≡ ⟦ b ⟧ ρ. The checker computes the normal form of a - b, which must be zero, and sees by computation that ⟦ a ⟧ ρ is the goal's left side.
+-- An identity is written twice: as the goal, over ℤ, and as two expressions `E` over an environment, the list of the
+-- values of the variables.
+-- `ring ρ a b refl` proves ⟦ a ⟧ ρ ≡ ⟦ b ⟧ ρ. The checker computes the normal form of a - b, which must be zero, and
+-- sees by computation that ⟦ a ⟧ ρ is the goal's left side.
 -- Assumes nothing.
 use mathlib.Core.Path.{_≡_, refl, sym, _∙_, ap, ap₂}
 use mathlib.Core.List.{List, [], _∷_}
@@ -90,7 +92,8 @@ abbrev low : List ℤ → List ℤ
 low [] = []
 low (x ∷ ρ) = ρ
 
-ev-scal : (f : P → P) (p : P) → ((s : P) (ρ : List ℤ) → ev (f s) ρ ≡ ev p ρ *ℤ ev s ρ) → (r : P) (ρ : List ℤ) → ev (scal f r) ρ ≡ ev p (low ρ) *ℤ ev r ρ
+ev-scal : (f : P → P) (p : P) → ((s : P) (ρ : List ℤ) → ev (f s) ρ ≡ ev p ρ *ℤ ev s ρ) → (r : P) (ρ : List ℤ)
+    → ev (scal f r) ρ ≡ ev p (low ρ) *ℤ ev r ρ
 ev-scal f p h (con b) [] = ev-hr (f (con b)) (con (pos zero)) [] ∙ h (con b) []
 ev-scal f p h (con b) (x ∷ ρ) = ev-hr (f (con b)) (con (pos zero)) (x ∷ ρ) ∙ ap (λ (t : ℤ). ev (f (con b)) ρ +ℤ t) (*ℤ-zero x) ∙ +ℤ-idr (ev (f (con b)) ρ) ∙ h (con b) ρ
 ev-scal f p h (hor s t) [] = ev-hr (f s) (scal f t) [] ∙ h s []

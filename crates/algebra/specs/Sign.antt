@@ -1,5 +1,7 @@
--- Signs of expressions: `Pos ρ e` is 0 < ⟦ e ⟧ ρ, and `NN ρ e` is 0 ≤ ⟦ e ⟧ ρ. Each rule says the sign of a sum, a product or a square, and antt infers the expression.
--- So a proof of a sign is a certificate: hypotheses are multiplied and added, and the solver compares the outcome with what is to be shown (`pos-by`), or sees that it cannot be positive (`refute`).
+-- Signs of expressions: `Pos ρ e` is 0 < ⟦ e ⟧ ρ, and `NN ρ e` is 0 ≤ ⟦ e ⟧ ρ. Each rule says the sign of a sum, a
+-- product or a square, and antt infers the expression.
+-- So a proof of a sign is a certificate: hypotheses are multiplied and added, and the solver compares the outcome with
+-- what is to be shown (`pos-by`), or sees that it cannot be positive (`refute`).
 -- Assumes nothing.
 use mathlib.Core.Path.{_≡_, refl, sym, _∙_, ap, ap₂, subst}
 use mathlib.Core.Logic.{_⊎_, inl, inr, ⊎-elim}

@@ -1,4 +1,6 @@
--- What a branch on signed numbers tells. The logic has the test of two locals as an equation of a flag, `ltZ u v ≡ true`, over what the machine reads of them, u and v; each lemma takes that these are a and b (`toZ-ofZ (c .fits .x)`, `reads64 env e tt`), and gives the fact about a and b.
+-- What a branch on signed numbers tells. The logic has the test of two locals as an equation of a flag,
+-- `ltZ u v ≡ true`, over what the machine reads of them, u and v; each lemma takes that these are a and b
+-- (`toZ-ofZ (c .fits .x)`, `reads64 env e tt`), and gives the fact about a and b.
 -- `x > 0` is `0 < x`, and `x >= y` is `y <= x`. And two tests that pass alike are equal.
 -- Assumes nothing.
 use mathlib.Core.Path.{_≡_, refl, sym, subst, subst₂}

@@ -33,7 +33,8 @@ slope x y = div binary64 x (add binary64 (absoluteOf x) (absoluteOf y))
 
 -- 1 - (if y > 0 { 3 - p } else { 1 + p }) * 0.25, of the differences x and y
 unfoldable pub ofDiff : Float → Float → Float
-ofDiff x y = sub binary64 one64 (mul binary64 (cond (lt zero64 y) (sub binary64 three64 (slope x y)) (add binary64 one64 (slope x y))) quarter)
+ofDiff x y = sub binary64 one64
+    (mul binary64 (cond (lt zero64 y) (sub binary64 three64 (slope x y)) (add binary64 one64 (slope x y))) quarter)
 
 unfoldable pub pseudoAngle : Float → Float → Float → Float → Float
 pseudoAngle ax ay cx cy = ofDiff (sub binary64 ax cx) (sub binary64 ay cy)

@@ -1,6 +1,6 @@
 -- A float's bit pattern, and the whole number of a valid angle read from its exponent and mantissa. Assumes nothing.
--- In units of the smallest value, 2 ^ -1074, a number g keeps its 53 leading digits v and drops k: the exponent's field is k + 1 where v has all 53, and the whole number of 2 ^ -53 is
--- g / 2 ^ 1021 = v * 2 / 2 ^ (1022 - k).
+-- In units of the smallest value, 2 ^ -1074, a number g keeps its 53 leading digits v and drops k: the exponent's field
+-- is k + 1 where v has all 53, and the whole number of 2 ^ -53 is g / 2 ^ 1021 = v * 2 / 2 ^ (1022 - k).
 use mathlib.Core.Path.{_≡_, refl, sym, ap, _∙_, subst}
 use mathlib.Core.Logic.{inl, inr}
 use Prim.Native.Nat.{ℕ, zero, suc, _+_, _-_, _*_, _/_, _%_, _^_, _≤_, _<_, zero-le}
@@ -19,11 +19,13 @@ use lib.Ieee.Exact.{HasValue}
 use Rattle.angle.specs.Angle.{IsAngle, turns, validAngle}
 
 -- ---- the pattern of a number that is g of the smallest values
-bits-are : (f : Format) (s : Bool) (m : ℕ) (e : ℤ) (n : ℕ) → m * up e * 2 ^ low f / down e ≡ n → toBits f (fin s m e) ≡ cond s (top f) 0 + (size n - prec f) * hid f + n / 2 ^ (size n - prec f)
+bits-are : (f : Format) (s : Bool) (m : ℕ) (e : ℤ) (n : ℕ) → m * up e * 2 ^ low f / down e ≡ n
+    → toBits f (fin s m e) ≡ cond s (top f) 0 + (size n - prec f) * hid f + n / 2 ^ (size n - prec f)
 unfolding toBits
 bits-are f s m e n p = ap (λ (x : ℕ). cond s (top f) 0 + (size x - prec f) * hid f + x / 2 ^ (size x - prec f)) p
 
-bits-of : (f : Format) (x : Float) (g : ℕ) → HasValue x false g (2 ^ low f) → toBits f x ≡ (size g - prec f) * hid f + g / 2 ^ (size g - prec f)
+bits-of : (f : Format) (x : Float) (g : ℕ) → HasValue x false g (2 ^ low f)
+    → toBits f x ≡ (size g - prec f) * hid f + g / 2 ^ (size g - prec f)
 bits-of f nan g v = absurd v
 bits-of f (inf s) g v = absurd v
 bits-of f (fin true m e) g v = absurd (true≢false (v .0))
@@ -37,11 +39,13 @@ full-field : (s : Bool) (k v : ℕ) → k ≤ 1022 → 4503599627370496 ≤ v �
 full-field true k v a b c = omega arith
 full-field false k v a b c = omega arith
 
-full-digits : (s : Bool) (k v : ℕ) → 4503599627370496 ≤ v → v < 9007199254740992 → (cond s 9223372036854775808 0 + k * 4503599627370496 + v) % 4503599627370496 + 4503599627370496 ≡ v
+full-digits : (s : Bool) (k v : ℕ) → 4503599627370496 ≤ v → v < 9007199254740992
+    → (cond s 9223372036854775808 0 + k * 4503599627370496 + v) % 4503599627370496 + 4503599627370496 ≡ v
 full-digits true k v b c = omega arith
 full-digits false k v b c = omega arith
 
-short-field : (s : Bool) (v : ℕ) → v < 9007199254740992 → (cond s 9223372036854775808 0 + 0 * 4503599627370496 + v) / 4503599627370496 % 2048 < 970
+short-field : (s : Bool) (v : ℕ) → v < 9007199254740992
+    → (cond s 9223372036854775808 0 + 0 * 4503599627370496 + v) / 4503599627370496 % 2048 < 970
 short-field true v c = omega arith
 short-field false v c = omega arith
 
@@ -76,7 +80,10 @@ some-left d g k q h whole = elim (eq-or-lt-of-le h) [
 
 -- ---- what the code reads from the pattern b: the whole number t
 abbrev pub Read : ℕ → ℕ → Type 0
-Read b t = (b / 4503599627370496 % 2048 < 970 → 0 ≡ t) × (970 ≤ b / 4503599627370496 % 2048 → (b / 4503599627370496 % 2048 ≤ 1023) × ((b % 4503599627370496 + 4503599627370496) * 2 / 2 ^ (1023 - b / 4503599627370496 % 2048) ≡ t))
+Read b t = (b / 4503599627370496 % 2048 < 970 → 0 ≡ t)
+    × (970 ≤ b / 4503599627370496 % 2048
+    → (b / 4503599627370496 % 2048 ≤ 1023)
+    × ((b % 4503599627370496 + 4503599627370496) * 2 / 2 ^ (1023 - b / 4503599627370496 % 2048) ≡ t))
 
 clash : (n : ℕ) → n < 970 → 970 ≤ n → ⊥
 clash n h k = omega arith
@@ -86,7 +93,8 @@ read-short s g z h =
     let small = short-field s g h in
     ((λ l. sym (none-left 1021 g (le-trans z (lit≤ tt)))), (λ l. absurd (clash _ small l)))
 
-read-full : (s : Bool) (g k v : ℕ) → v ≡ g / 2 ^ k → size g ≡ k + 53 → k ≤ 1022 → (k ≡ 1022 → g ≡ 2 ^ 52 * 2 ^ 1022) → 2 ^ 52 ≤ v → v < 2 ^ 53 → Read (cond s 9223372036854775808 0 + k * 4503599627370496 + v) (g / 2 ^ 1021)
+read-full : (s : Bool) (g k v : ℕ) → v ≡ g / 2 ^ k → size g ≡ k + 53 → k ≤ 1022 → (k ≡ 1022 → g ≡ 2 ^ 52 * 2 ^ 1022)
+    → 2 ^ 52 ≤ v → v < 2 ^ 53 → Read (cond s 9223372036854775808 0 + k * 4503599627370496 + v) (g / 2 ^ 1021)
 read-full s g k v v-is z k-le whole lo hi =
     let b = cond s 9223372036854775808 0 + k * 4503599627370496 + v in
     let field : b / 4503599627370496 % 2048 ≡ suc k = full-field s k v k-le lo hi in (
@@ -108,7 +116,8 @@ read-full s g k v v-is z k-le whole lo hi =
     less : (k : ℕ) → 1023 - suc k ≡ 1022 - k
     less k = omega arith
 
-read : (s : Bool) (g : ℕ) → g ≤ 2 ^ 1074 → Read (cond s 9223372036854775808 0 + (size g - 53) * 4503599627370496 + g / 2 ^ (size g - 53)) (g / 2 ^ 1021)
+read : (s : Bool) (g : ℕ) → g ≤ 2 ^ 1074
+    → Read (cond s 9223372036854775808 0 + (size g - 53) * 4503599627370496 + g / 2 ^ (size g - 53)) (g / 2 ^ 1021)
 read s g h = go (size g - 53) refl
   where
     most : size g ≤ 1075

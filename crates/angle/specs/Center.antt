@@ -1,4 +1,5 @@
--- The centre's tests: the range by two comparisons, and a whole number against a float by `==`; and that a vertex that is not at a valid centre has an angle. Assumes nothing.
+-- The centre's tests: the range by two comparisons, and a whole number against a float by `==`; and that a vertex that
+-- is not at a valid centre has an angle. Assumes nothing.
 use mathlib.Core.Path.{_≡_, refl, sym, ap, _∙_, subst}
 use mathlib.Core.Logic.{_⊎_, inl, inr}
 use Prim.Native.Nat.{ℕ, zero, suc, _+_, _*_, _^_, _≤_, _<_}
@@ -105,7 +106,8 @@ finer nan s k w v = v
 finer (inf t) s k w v = v
 finer (fin t m e) s k w v = (v .0, ap (λ (z : ℕ). z * w) (sym (mul-one (m * up e)) ∙ v .1) ∙ mul-right-comm k (down e) w)
 
-eq-whole : (x : Float) (s : Bool) (n : ℕ) (t : Bool) (m : ℕ) (e : ℤ) → HasValue x s n 1 → eq x (fin t m e) ≡ level s (n * down e) t (m * up e)
+eq-whole : (x : Float) (s : Bool) (n : ℕ) (t : Bool) (m : ℕ) (e : ℤ) → HasValue x s n 1
+    → eq x (fin t m e) ≡ level s (n * down e) t (m * up e)
 eq-whole x s n t m e v = eq-at x (fin t m e) s t (n * down e) (m * up e) (down e) (down-pos e) (finer x s n (down e) v) (refl, refl)
 
 eq-none : (x : Float) (s : Bool) (n : ℕ) → HasValue x s n 1 → (eq x nan ≡ false) × ((t : Bool) → eq x (inf t) ≡ false)
@@ -150,12 +152,14 @@ number-is (negsuc n) (fin t m e) h =
     like true = refl
     like false = refl
 
-pub center-is : (x y : ℤ) (cx cy : Float) → mag x < 2 ^ 31 → mag y < 2 ^ 31 → (eq (ofInt binary64 x) cx && eq (ofInt binary64 y) cy) ≡ atCenter x y cx cy
+pub center-is : (x y : ℤ) (cx cy : Float) → mag x < 2 ^ 31 → mag y < 2 ^ 31
+    → (eq (ofInt binary64 x) cx && eq (ofInt binary64 y) cy) ≡ atCenter x y cx cy
 unfolding atCenter
 center-is x y cx cy hx hy = ap (λ (k : Bool). k && eq (ofInt binary64 y) cy) (number-is x cx hx) ∙ ap (λ (k : Bool). isNumber x cx && k) (number-is y cy hy)
 
 -- ---- a vertex that is not at a valid centre
-pub about-apart : (x y : ℤ) (cx cy : Float) → mag x < 2 ^ 31 → mag y < 2 ^ 31 → T (validCenter cx cy) → T (not (atCenter x y cx cy)) → Apart (ofInt binary64 x) (ofInt binary64 y) cx cy
+pub about-apart : (x y : ℤ) (cx cy : Float) → mag x < 2 ^ 31 → mag y < 2 ^ 31 → T (validCenter cx cy)
+    → T (not (atCenter x y cx cy)) → Apart (ofInt binary64 x) (ofInt binary64 y) cx cy
 unfolding validCenter
 about-apart x y cx cy hx hy v a =
     record {
@@ -167,7 +171,8 @@ about-apart x y cx cy hx hy v a =
     }
 
 -- 01: "every angle is a whole number of 2^-53 from 0.0 to 1.0"
-pub about-is-angle : (x y : ℤ) (cx cy : Float) → mag x < 2 ^ 31 → mag y < 2 ^ 31 → T (fits binary64 cx) → T (fits binary64 cy) → T (validCenter cx cy) → T (not (atCenter x y cx cy)) → IsAngle (angleAbout x y cx cy)
+pub about-is-angle : (x y : ℤ) (cx cy : Float) → mag x < 2 ^ 31 → mag y < 2 ^ 31 → T (fits binary64 cx)
+    → T (fits binary64 cy) → T (validCenter cx cy) → T (not (atCenter x y cx cy)) → IsAngle (angleAbout x y cx cy)
 unfolding angleAbout
 about-is-angle x y cx cy hx hy fx fy v a =
     pseudo-is-angle (ofInt binary64 x) (ofInt binary64 y) cx cy (ofInt-fits binary64 x) (ofInt-fits binary64 y) fx fy (about-apart x y cx cy hx hy v a)

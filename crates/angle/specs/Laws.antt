@@ -24,7 +24,8 @@ angle-of x f t =
     record { held = f; value = subst (λ (k : ℕ). HasValue x false k (2 ^ 53)) (sym e) (t .2); small = subst (λ (k : ℕ). k ≤ 2 ^ 53) (sym e) (t .1) }
 
 -- every pseudo-angle is a whole number of 2 ^ -53 from 0.0 to 1.0
-pub pseudo-is-angle : (ax ay cx cy : Float) → T (fits binary64 ax) → T (fits binary64 ay) → T (fits binary64 cx) → T (fits binary64 cy) → Apart ax ay cx cy → IsAngle (pseudoAngle ax ay cx cy)
+pub pseudo-is-angle : (ax ay cx cy : Float) → T (fits binary64 ax) → T (fits binary64 ay) → T (fits binary64 cx)
+    → T (fits binary64 cy) → Apart ax ay cx cy → IsAngle (pseudoAngle ax ay cx cy)
 unfolding pseudoAngle ofDiff slope
 pseudo-is-angle ax ay cx cy fax fay fcx fcy h =
     angle-of (pseudoAngle ax ay cx cy) (sub-fits binary64 one64 (mul binary64 (cond (lt zero64 (sub binary64 ay cy)) (sub binary64 three64 (slope (sub binary64 ax cx) (sub binary64 ay cy))) (add binary64 one64 (slope (sub binary64 ax cx) (sub binary64 ay cy)))) quarter))

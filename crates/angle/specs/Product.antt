@@ -26,7 +26,8 @@ product-scale M Q n de dd h =
     ∙ mul-right-comm (M * n) dd de
     ∙ mul-assoc (M * n) de dd
 
-times-at : (f : Format) (s : Bool) (m : ℕ) (e : ℤ) (y : Float) (n : ℕ) → HasValue y false n 1 → mul f (fin s m e) y ≡ round f s (m * up e * n) (down e)
+times-at : (f : Format) (s : Bool) (m : ℕ) (e : ℤ) (y : Float) (n : ℕ) → HasValue y false n 1
+    → mul f (fin s m e) y ≡ round f s (m * up e * n) (down e)
 unfolding mul
 times-at f s m e nan n v = absurd v
 times-at f s m e (inf t) n v = absurd v
@@ -66,7 +67,8 @@ rescale (fin t q d) s G U N D W h v = (
       (mul-right-comm (q * up d) D U ∙ ap (λ (x : ℕ). x * D) (v .1) ∙ mul-right-comm G (down d) D ∙ ap (λ (x : ℕ). x * down d) (sym h) ∙ mul-right-comm N U (down d)),
 )
 
-exact-at : (f : Format) (s : Bool) (m : ℕ) (e : ℤ) (i : ℕ) (y : Float) → T (fits f (fin s m e)) → m * up e ≤ down e → i ≤ 64 → HasValue y false (2 ^ i) 1 → HasValue (mul f (fin s m e) y) s (m * up e * 2 ^ i) (down e)
+exact-at : (f : Format) (s : Bool) (m : ℕ) (e : ℤ) (i : ℕ) (y : Float) → T (fits f (fin s m e)) → m * up e ≤ down e
+    → i ≤ 64 → HasValue y false (2 ^ i) 1 → HasValue (mul f (fin s m e) y) s (m * up e * 2 ^ i) (down e)
 exact-at f s m e i y fit h I v =
     let U = 2 ^ low f in
     let N = m * up e * 2 ^ i in
@@ -89,7 +91,9 @@ unfolding validAngle
 valid-le-one false m e h = leb→le (m * up e) (down e) h
 valid-le-one true m e h = le-trans (le-of-eq (ap (λ (x : ℕ). x * up e) (eqb→eq m 0 h) ∙ zero-mul (up e))) zero-le
 
-pub product-exact : (s : Bool) (m : ℕ) (e : ℤ) (i : ℕ) → i ≤ 53 → T (fits binary64 (fin s m e)) → T (validAngle (fin s m e)) → HasValue (mul binary64 (fin s m e) (ofInt binary64 (pos (2 ^ i)))) s (m * up e * 2 ^ i) (down e)
+pub product-exact : (s : Bool) (m : ℕ) (e : ℤ) (i : ℕ) → i ≤ 53 → T (fits binary64 (fin s m e))
+    → T (validAngle (fin s m e))
+    → HasValue (mul binary64 (fin s m e) (ofInt binary64 (pos (2 ^ i)))) s (m * up e * 2 ^ i) (down e)
 unfolding ofInt
 product-exact s m e i h fit v =
     exact-at binary64 s m e i (round binary64 false (2 ^ i) 1) fit (valid-le-one s m e v) (le-trans h (lit≤ tt)) (round-whole binary64 false (2 ^ i) (pow-mono h))

@@ -1,6 +1,7 @@
 -- The pseudo-angle at any format f: a whole number of 2 ^ -prec, from 0 to 1. Assumes nothing.
--- U is 1.0 in units of the format's smallest value. |p| ≤ U, since rounding keeps the order and |x| is fixed by it. 3 - p lies in [2U, 4U], so a quarter of it, rounded, in [U/2, U], where
--- rounding gives multiples of 2 ^ -prec, and 1 less that is exact. 1 + p lies in [0, 2U], a quarter of it in [0, U/2], and 1 less that in [U/2, U].
+-- U is 1.0 in units of the format's smallest value. |p| ≤ U, since rounding keeps the order and |x| is fixed by it.
+-- 3 - p lies in [2U, 4U], so a quarter of it, rounded, in [U/2, U], where rounding gives multiples of 2 ^ -prec, and 1
+-- less that is exact. 1 + p lies in [0, 2U], a quarter of it in [0, U/2], and 1 less that in [U/2, U].
 use mathlib.Core.Path.{_≡_, refl, sym, ap, _∙_, subst}
 use mathlib.Core.Logic.{_⊎_, inl, inr}
 use Prim.Native.Nat.{ℕ, zero, suc, _+_, _-_, _*_, _%_, _^_, _≤_, _<_, zero-le}
@@ -126,7 +127,8 @@ at-most-one f a b B h =
 zero-room : (l : ℕ) → l ≤ l + 0
 zero-room l = omega arith
 
-pub slope-at : (f : Format) (x y : Float) (s t : Bool) (a b : ℕ) → Val f x s a → Val f y t b → a ≤ 2 ^ (low f + 32) → b ≤ 2 ^ (low f + 32) → grid f a (U f) ≡ a → 0 < a + b
+pub slope-at : (f : Format) (x y : Float) (s t : Bool) (a b : ℕ) → Val f x s a → Val f y t b → a ≤ 2 ^ (low f + 32)
+    → b ≤ 2 ^ (low f + 32) → grid f a (U f) ≡ a → 0 < a + b
     → (g : ℕ) × Val f (div f x (add f (absoluteOf x) (absoluteOf y))) s g × (g ≤ U f)
 slope-at f x y s t a b v w ha hb fixed some =
     let S = add f (absoluteOf x) (absoluteOf y) in
@@ -160,7 +162,8 @@ pow-two l = pow-add 2 l 2 ∙ mul-comm (2 ^ l) 4
 pow-one : (l : ℕ) → 2 ^ (l + 1) ≡ 2 * 2 ^ l
 pow-one l = pow-add 2 l 1 ∙ mul-comm (2 ^ l) 2
 
-rounded : (f : Format) (x : Float) (n lo : ℕ) → x ≡ round f false n (U f) → lo ≤ grid f n (U f) → n ≤ 2 ^ (low f + 2) → Within f x lo (2 ^ (low f + 2))
+rounded : (f : Format) (x : Float) (n lo : ℕ) → x ≡ round f false n (U f) → lo ≤ grid f n (U f)
+    → n ≤ 2 ^ (low f + 2) → Within f x lo (2 ^ (low f + 2))
 rounded f x n lo is h k =
     let top : grid f n (U f) ≤ 2 ^ (low f + 2) = unit-most f n (low f + 2) k in
     (grid f n (U f), subst (λ (z : Float). Val f z false (grid f n (U f))) (sym is) (round-at f false n (U f) (under f (grid f n (U f)) 2 (lit≤ tt) top)), h, top)
@@ -180,7 +183,8 @@ less-hi u a q e = omega arith
 thrice : (u a : ℕ) → a ≤ u → a ≤ 3 * u
 thrice u a h = omega arith
 
-three-less : (f : Format) (p : Float) (s : Bool) (a : ℕ) → Val f p s a → a ≤ U f → Within f (sub f three64 p) (2 ^ (low f + 1)) (2 ^ (low f + 2))
+three-less : (f : Format) (p : Float) (s : Bool) (a : ℕ) → Val f p s a → a ≤ U f
+    → Within f (sub f three64 p) (2 ^ (low f + 1)) (2 ^ (low f + 2))
 three-less f p true a v h =
     rounded f (sub f three64 p) (3 * U f + a) (2 ^ (low f + 1)) (sub-at f three64 p false true (3 * U f) a (three-at f) v ∙ sum-like f false (3 * U f) a (U f))
     (unit-least f (3 * U f + a) (low f + 1) (more-lo (U f) a (2 ^ (low f + 1)) (pow-one (low f)))) (more-hi (U f) a (2 ^ (low f + 2)) (pow-two (low f)) h)
@@ -272,7 +276,8 @@ last-at f m g v h =
     fall : (a b : ℕ) → a - b ≤ a
     fall a b = omega arith
 
-quarter-val : (f : Format) (x : Float) (g j : ℕ) → Val f x false g → j ≤ low f → g ≤ 2 ^ (j + 2) → Val f (mul f x quarter) false (grid f g (U f * 4))
+quarter-val : (f : Format) (x : Float) (g j : ℕ) → Val f x false g → j ≤ low f → g ≤ 2 ^ (j + 2)
+    → Val f (mul f x quarter) false (grid f g (U f * 4))
 quarter-val f x g j v J h =
     subst (λ (z : Float). Val f z false (grid f g (U f * 4))) (sym (quarter-at f x g v))
     (round-at f false g (U f * 4) (under f (grid f g (U f * 4)) 0 zero-le (le-trans (quarter-most f g j h) (pow-mono (le-trans J (zero-room (low f)))))))
@@ -335,7 +340,8 @@ lower f t (g, v, lo, hi) =
     left : (u h m : ℕ) → u ≡ h + h → m ≤ h → h ≤ u - m
     left u h m e k = omega arith
 
-pub halves : (f : Format) (b : Bool) (p : Float) (s : Bool) (a : ℕ) → Val f p s a → a ≤ U f → Turn f (sub f one64 (mul f (cond b (sub f three64 p) (add f one64 p)) quarter))
+pub halves : (f : Format) (b : Bool) (p : Float) (s : Bool) (a : ℕ) → Val f p s a → a ≤ U f
+    → Turn f (sub f one64 (mul f (cond b (sub f three64 p) (add f one64 p)) quarter))
 halves f true p s a v h = upper f (sub f three64 p) (three-less f p s a v h)
 halves f false p s a v h = lower f (add f one64 p) (one-more f p s a v h)
 
@@ -349,8 +355,12 @@ some-of : (a b : ℕ) → (0 < a) ⊎ (0 < b) → 0 < a + b
 some-of a b (inl h) = omega arith
 some-of a b (inr h) = omega arith
 
-pub whole-turn : (f : Format) (b : Bool) (ax ay cx cy : Float) → T (fits f ax) → T (fits f ay) → T (fits f cx) → T (fits f cy) → T (bounded 31 ax) → T (bounded 31 ay) → T (bounded 31 cx) → T (bounded 31 cy) → T (not (eq ax cx && eq ay cy))
-    → Turn f (sub f one64 (mul f (cond b (sub f three64 (div f (sub f ax cx) (add f (absoluteOf (sub f ax cx)) (absoluteOf (sub f ay cy))))) (add f one64 (div f (sub f ax cx) (add f (absoluteOf (sub f ax cx)) (absoluteOf (sub f ay cy)))))) quarter))
+pub whole-turn : (f : Format) (b : Bool) (ax ay cx cy : Float) → T (fits f ax) → T (fits f ay) → T (fits f cx)
+    → T (fits f cy) → T (bounded 31 ax) → T (bounded 31 ay) → T (bounded 31 cx) → T (bounded 31 cy)
+    → T (not (eq ax cx && eq ay cy))
+    → Turn f (sub f one64 (mul f (cond b
+    (sub f three64 (div f (sub f ax cx) (add f (absoluteOf (sub f ax cx)) (absoluteOf (sub f ay cy)))))
+    (add f one64 (div f (sub f ax cx) (add f (absoluteOf (sub f ax cx)) (absoluteOf (sub f ay cy)))))) quarter))
 whole-turn f b ax ay cx cy fax fay fcx fcy nax nay ncx ncy apart =
     let X = diff f ax cx fax fcx nax ncx in
     let Y = diff f ay cy fay fcy nay ncy in

@@ -1,4 +1,5 @@
--- Valid angles, which are any floats from 0.0 to 1.0, not only whole numbers of 2 ^ -53: the test by two comparisons, and the order against an angle, which goes by the number rounded down.
+-- Valid angles, which are any floats from 0.0 to 1.0, not only whole numbers of 2 ^ -53: the test by two comparisons,
+-- and the order against an angle, which goes by the number rounded down.
 -- For a whole k, k ≤ a / c exactly where k ≤ floor (a / c), and a / c < k exactly where floor (a / c) < k. Assumes nothing.
 use mathlib.Core.Path.{_≡_, refl, sym, ap, _∙_}
 use Prim.Native.Nat.{ℕ, zero, suc, _+_, _*_, _/_, _^_, _<_, zero-le}

@@ -1,5 +1,5 @@
-// Pseudo-angles (bulk_load.rs, `pseudo_angle`): the angle of a vertex about a centre, a whole number of 2 ^ -53 from 0.0 to 1.0, and that whole
-// number, which everything above goes by.
+// Pseudo-angles (bulk_load.rs, `pseudo_angle`): the angle of a vertex about a centre, a whole number of 2 ^ -53 from
+// 0.0 to 1.0, and that whole number, which everything above goes by.
 ghost use mathlib.Core.Path.{_≡_};
 ghost use Prim.Native.Nat.{_≤_, _^_};
 ghost use mathlib.Core.Bool.{Bool, not};

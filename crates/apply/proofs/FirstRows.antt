@@ -10,7 +10,7 @@ use Rattle.corner.specs.Corner.{Extended}
 use Rattle.corner.specs.CornerRows.{extendedOf}
 use Rattle.corner.specs.RowsLaws.{sized-room}
 use Rattle.dcel.specs.Rows.{linksOf, positionOf}
-use Rattle.dcel.specs.Held.{Room, Held}
+use Rattle.dcel.specs.MeshHeld.{Room, MeshHeld}
 use Rattle.dcel_operations.specs.Face.{NewReady, NewFace}
 use Rattle.dcel_operations.specs.Ready.{new-face-ready}
 use Rattle.flip_count.specs.declared.FlipCount.{FlipCount}

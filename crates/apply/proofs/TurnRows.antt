@@ -10,7 +10,7 @@ use Rattle.corner.specs.declared.Added.{Added}
 use Rattle.corner.specs.Corner.{Extended, closeCorner}
 use Rattle.corner.specs.CornerRows.{extendedOf, CloseReady}
 use Rattle.dcel.specs.Rows.{halvesOf, linksOf, positionOf, There}
-use Rattle.dcel.specs.Held.{there, prev-in, next-in}
+use Rattle.dcel.specs.MeshHeld.{there, prev-in, next-in}
 use Rattle.mesh.specs.Mesh.{In}
 use Rattle.apply.specs.declared.Side.{Side}
 use Rattle.apply.specs.declared.Side.the-variants.{Left, Right}

@@ -1,5 +1,6 @@
--- What an added point does to the mesh (bulk_load.rs, `single_bulk_insertion_step` from its first change on): the new vertex and its first face, `legalize_edge`, and the two loops, each of which
--- tests at every turn the mesh as it then stands. Definitions only, and each computes; `Walks` and `ApplyLaws` have the laws.
+-- What an added point does to the mesh (bulk_load.rs, `single_bulk_insertion_step` from its first change on): the new
+-- vertex and its first face, `legalize_edge`, and the two loops, each of which tests at every turn the mesh as it then
+-- stands. Definitions only, and each computes; `Walks` and `ApplyLaws` have the laws.
 -- Throughout, p gives each vertex its position, the new one's too, and α its angle; v is the new vertex's position and q its angle.
 use mathlib.Core.Bool.{Bool, not, cond, _||_}
 use Prim.Native.Nat.{ℕ, zero, suc, _+_, _*_, _/_}
@@ -45,11 +46,15 @@ faceEdge Right current d = current
 unfoldable pub walkEnds : Side → (ℕ → Point) → (ℕ → ℕ) → Point → ℕ → Walking → Bool
 walkEnds side p α v q s = s .mesh .full || not (covers side (s .mesh .links) p α v q (beside side (s .mesh .links) (s .current)))
 
--- a turn: the new face; then `handle`, the current edge, and the edge beside it are pushed in this order and legalized; the new edge is the current one
+-- a turn: the new face; then `handle`, the current edge, and the edge beside it are pushed in this order and legalized;
+-- the new edge is the current one
 unfoldable pub walkTurn : Side → ℕ → (ℕ → Point) → Walking → Walking
 walkTurn side room p s =
     let d = beside side (s .mesh .links) (s .current) in
-    record { mesh = closeCorner room p (s .mesh) (faceEdge side (s .current) d) (s .current / 2) (d / 2); current = 2 * s .mesh .counts .edges + 1 }
+    record {
+      mesh = closeCorner room p (s .mesh) (faceEdge side (s .current) d) (s .current / 2) (d / 2);
+      current = 2 * s .mesh .counts .edges + 1;
+    }
 
 -- each turn makes the boundary shorter by one (`walk-fuel`)
 unfoldable pub walk : Side → ℕ → (ℕ → Point) → (ℕ → ℕ) → Point → ℕ → Walking → Walking
@@ -69,7 +74,8 @@ addVertex room p α C L v q e =
     let b = walk Right room p α v q (record { mesh = a .mesh; current = 2 * C .edges + 1 }) in
     record { mesh = b .mesh; leftEdge = a .current; rightEdge = b .current }
 
--- ---- as many turns as were decided, unless a flip is refused: what the code does. From the first face on, as many as the chain has edges on that side are the loop (`walk-turns` in `Turns`)
+-- ---- as many turns as were decided, unless a flip is refused: what the code does. From the first face on, as many as
+-- the chain has edges on that side are the loop (`walk-turns` in `Turns`)
 unfoldable pub turns : Side → ℕ → (ℕ → Point) → ℕ → Walking → Walking
 turns side room p zero s = s
 turns side room p (suc n) s = cond (s .mesh .full) s (turns side room p n (walkTurn side room p s))

@@ -1,5 +1,7 @@
--- What an added point leaves: a good mesh with one vertex, as many faces as are counted and one edge more than those, whose boundary is the one before with the covered chain replaced by the two
--- edges at the new vertex. Where no flip is refused the chain is the decided one, so that the boundary has a sound ring exactly when that was decided. Assumes nothing.
+-- What an added point leaves: a good mesh with one vertex, as many faces as are counted and one edge more than those,
+-- whose boundary is the one before with the covered chain replaced by the two edges at the new vertex. Where no flip is
+-- refused the chain is the decided one, so that the boundary has a sound ring exactly when that was decided. Assumes
+-- nothing.
 use mathlib.Core.Bool.{Bool, true, false, false≢true}
 use mathlib.Core.Path.{_≡_, refl, sym, _∙_, ap, ap₂, subst}
 use Prim.Native.Nat.{ℕ, zero, suc, _+_, _-_, _*_, _<_, _≤_}
@@ -27,10 +29,12 @@ use Rattle.apply.specs.Turns.{AlongOn, Turned, turns-leave, walk-turns, 
 use Rattle.apply.specs.FirstFace.{along-first, first-good, first-run, first-bound, new-good}
 
 -- the chain's start, its lengths and its end by other names
-covered-to : {f α : ℕ → ℕ} {C : Counts} {L : Links} {α′ : ℕ → ℕ} {s s′ m m′ n n′ l p q r r′ : ℕ} → s ≡ s′ → m ≡ m′ → n ≡ n′ → r ≡ r′ → Covered f α C L α′ s m n l p q r → Covered f α C L α′ s′ m′ n′ l p q r′
+covered-to : {f α : ℕ → ℕ} {C : Counts} {L : Links} {α′ : ℕ → ℕ} {s s′ m m′ n n′ l p q r r′ : ℕ} → s ≡ s′ → m ≡ m′
+    → n ≡ n′ → r ≡ r′ → Covered f α C L α′ s m n l p q r → Covered f α C L α′ s′ m′ n′ l p q r′
 covered-to a b c d K = rw (← a, ← b, ← c, ← d) K
 
-module _ {C : Counts} {L : Links} {p₀ : ℕ → Point} {α₀ : ℕ → ℕ} {p : ℕ → Point} {α : ℕ → ℕ} {v : Point} {q e : ℕ} (B : Before C L p₀ α₀ p α v q e) (room : ℕ) where
+module _ {C : Counts} {L : Links} {p₀ : ℕ → Point} {α₀ : ℕ → ℕ} {p : ℕ → Point} {α : ℕ → ℕ} {v : Point} {q e : ℕ}
+    (B : Before C L p₀ α₀ p α v q e) (room : ℕ) where
   abbrev left : ℕ
   left = leftChain C L p₀ α₀ v q e
 
@@ -87,7 +91,8 @@ module _ {C : Counts} {L : Links} {p₀ : ℕ → Point} {α₀ : ℕ → ℕ} {
   add-bound = closings-bound (first-good B room) add-closings (first-bound B room)
 
   -- one vertex, a face for each that is counted, and an edge more than those
-  pub add-counts : r .mesh .counts ≡ record { vertices = C .vertices + 1; edges = C .edges + r .mesh .faces + 1; faces = C .faces + r .mesh .faces }
+  pub add-counts : r .mesh .counts
+      ≡ record { vertices = C .vertices + 1; edges = C .edges + r .mesh .faces + 1; faces = C .faces + r .mesh .faces }
   unfolding firstFace
   add-counts =
       let c = closings-count add-closings in
@@ -95,7 +100,8 @@ module _ {C : Counts} {L : Links} {p₀ : ℕ → Point} {α₀ : ℕ → ℕ} {
       let w : r .mesh .counts .faces ≡ C .faces + r .mesh .faces = (let x = c .faces in omega arith) in
       counts-are (c .vertices) u w
     where
-      counts-are : {K : Counts} {a b d : ℕ} → K .vertices ≡ a → K .edges ≡ b → K .faces ≡ d → K ≡ record { vertices = a; edges = b; faces = d }
+      counts-are : {K : Counts} {a b d : ℕ} → K .vertices ≡ a → K .edges ≡ b → K .faces ≡ d
+          → K ≡ record { vertices = a; edges = b; faces = d }
       counts-are x y z = rw (← x, ← y, ← z) refl
 
   pub add-untouched : Untouched (r .mesh .counts) L (r .mesh .links)
@@ -121,7 +127,8 @@ module _ {C : Counts} {L : Links} {p₀ : ℕ → Point} {α₀ : ℕ → ℕ} {
     add-faces = add-along .faces ∙ ap₂ (λ (i j : ℕ). i + 1 + j) (add-all .0) (add-all .1)
 
     -- the boundary: the chain of the mesh before is covered
-    pub add-covered : Covered (L .next) (edgeAngle L α₀) (r .mesh .counts) (r .mesh .links) α (chainStart C L p₀ α₀ v q e) (chainLength C L p₀ α₀ v q e)
+    pub add-covered : Covered (L .next) (edgeAngle L α₀) (r .mesh .counts) (r .mesh .links) α
+        (chainStart C L p₀ α₀ v q e) (chainLength C L p₀ α₀ v q e)
         (boundaryLength C L - chainLength C L p₀ α₀ v q e) (r .leftEdge) (r .rightEdge) q (iter (chainLength C L p₀ α₀ v q e) (L .next) (chainStart C L p₀ α₀ v q e))
     add-covered = go (add-all .0) (add-all .1) add-along
       where
@@ -134,7 +141,8 @@ module _ {C : Counts} {L : Links} {p₀ : ℕ → Point} {α₀ : ℕ → ℕ} {
             more i j = omega arith
 
         go : {i j : ℕ} → i ≡ left → j ≡ right → Along C L α₀ p α q e i j (r .mesh) (r .leftEdge) (r .rightEdge)
-            → Covered (L .next) (edgeAngle L α₀) (r .mesh .counts) (r .mesh .links) α (iter left (L .prev) e) (left + 1 + right) (boundaryLength C L - (left + 1 + right)) (r .leftEdge) (r .rightEdge) q
+            → Covered (L .next) (edgeAngle L α₀) (r .mesh .counts) (r .mesh .links) α (iter left (L .prev) e)
+            (left + 1 + right) (boundaryLength C L - (left + 1 + right)) (r .leftEdge) (r .rightEdge) q
             (iter (left + 1 + right) (L .next) (iter left (L .prev) e))
         go {i} {j} x y A =
             let w : A .rest ≡ boundaryLength C L - (left + 1 + right) = (let z = A .whole in omega arith) in

@@ -7,7 +7,7 @@ use lib.ListN.{length}
 use Rattle.circle_test.specs.GoodRows.{GoodRows}
 use Rattle.corner.specs.CornerLaws.{CornerClosed}
 use Rattle.corner.specs.CornerRows.{extendedOf, MeshRoom, Ready}
-use Rattle.dcel.specs.Held.{Room}
+use Rattle.dcel.specs.MeshHeld.{Room}
 use Rattle.dcel.specs.Rows.{Halves, linksOf, positionOf}
 use Rattle.math.specs.declared.Point.{Point}
 use Rattle.mesh.specs.declared.Counts.{Counts}
@@ -48,7 +48,8 @@ pub record FirstReady (C : Counts) (q : List ℤ) (o h a row : List ℕ) (e : �
 pub record TurnReady (side : Side) (q : List ℤ) (o h a row : List ℕ) (w : Walked) : Type 0 where
   pub ready : Ready q o h a row (w .added)
   pub current : In (w .added .counts) (w .edge)
-  pub closes : CornerClosed (positionOf q) (extendedOf o h a (w .added)) (walkTurn side (length row) (positionOf q) (walkingOf o h a w) .mesh)
+  pub closes : CornerClosed (positionOf q) (extendedOf o h a (w .added))
+      (walkTurn side (length row) (positionOf q) (walkingOf o h a w) .mesh)
       (faceEdge side (w .edge) (beside side (linksOf o h a) (w .edge)))
 
 -- the loop of a side is under way about some mesh before, and has at least so many turns to make

@@ -8,7 +8,7 @@ use native.Mathlib.Omega.{arith}
 use lib.IntN.{pos}
 use lib.Signed.{_<ℤ_, ltZ-yes}
 use Rattle.legalize.specs.declared.Entry.the-variants.{HalfEdge}
-use Rattle.legalize.specs.Legalize.{edgeOf, legalizeEdge}
+use Rattle.legalize.specs.Legalize.{entryEdge, legalizeEdge}
 use Rattle.legalize.specs.LegalizeLaws.{Outcome, legalize-outcome, legalize-start, outcome-good, outcome-boundary, outcome-bound}
 use Rattle.math.specs.declared.Point.{Point}
 use Rattle.math.specs.Determinant.{InRange, orient2d}
@@ -28,15 +28,17 @@ use Rattle.ring.specs.CoveredEnds.{ends-edge, ends-same}
 use Rattle.apply.specs.Apply.{firstFace}
 use Rattle.apply.specs.Walks.{Before, Along}
 
-module _ {C : Counts} {L : Links} {p₀ : ℕ → Point} {α₀ : ℕ → ℕ} {p : ℕ → Point} {α : ℕ → ℕ} {v : Point} {q e : ℕ} (B : Before C L p₀ α₀ p α v q e) (room : ℕ) where
+module _ {C : Counts} {L : Links} {p₀ : ℕ → Point} {α₀ : ℕ → ℕ} {p : ℕ → Point} {α : ℕ → ℕ} {v : Point} {q e : ℕ}
+    (B : Before C L p₀ α₀ p α v q e) (room : ℕ) where
   abbrev K : Links
   K = createNewFaceAdjacentToEdge L C e
 
   pub new-good : Good (withVertex C) K p
   new-good = new-face-good (B .good) (B .edge) (B .outer) (B .places) (rw (B .new-place) (B .range)) (rw (B .new-place) (ltZ-yes (B .seen)))
 
-  pub first-outcome : Outcome room HalfEdge (withVertex C) p (record { links = K; pending = e ∷ []; flips = 0; full = false }) (legalizeEdge room (withVertex C) p K 0 e)
-  unfolding edgeOf
+  pub first-outcome : Outcome room HalfEdge (withVertex C) p
+      (record { links = K; pending = e ∷ []; flips = 0; full = false }) (legalizeEdge room (withVertex C) p K 0 e)
+  unfolding entryEdge
   first-outcome = legalize-outcome room HalfEdge (withVertex C) p (record { links = K; pending = e ∷ []; flips = 0; full = false })
       (legalize-start new-good ((let l = B .edge in omega arith), tt))
 

@@ -22,14 +22,19 @@ pub record OldVertex (C : Counts) (L : Links) (u : ℕ) : Type 0 where
   pub outer : L .face edge ≡ 0
   pub is : u ≡ L .origin edge
 
-module _ {C : Counts} {L : Links} {p₀ : ℕ → Point} {α₀ : ℕ → ℕ} {p : ℕ → Point} {α : ℕ → ℕ} {v : Point} {q e : ℕ} (B : Before C L p₀ α₀ p α v q e)
+module _ {C : Counts} {L : Links} {p₀ : ℕ → Point} {α₀ : ℕ → ℕ} {p : ℕ → Point} {α : ℕ → ℕ} {v : Point} {q e : ℕ}
+    (B : Before C L p₀ α₀ p α v q e)
     {left right : ℕ} {m : Extended} {l r : ℕ} (A : Along C L α₀ p α q e left right m l r) where
   -- the edges that are not covered are the boundary's before
-  rest-in : (k : ℕ) → In C (iter k (L .next) (iter (suc right) (L .next) e)) × (L .face (iter k (L .next) (iter (suc right) (L .next) e)) ≡ 0)
+  rest-in : (k : ℕ)
+      → In C (iter k (L .next) (iter (suc right) (L .next) e))
+      × (L .face (iter k (L .next) (iter (suc right) (L .next) e)) ≡ 0)
   rest-in k = let b = outer-walk (B .good .wf) (B .edge) (B .outer) (suc right) in outer-walk (B .good .wf) (b .0) (b .1) k
 
   -- the edge to the new vertex starts where the last of them ends
-  start-old : (n : ℕ) → 0 < n → Covered (L .next) (edgeAngle L α₀) (m .counts) (m .links) α (iter left (L .prev) e) (left + 1 + right) n l r q (iter (suc right) (L .next) e)
+  start-old : (n : ℕ) → 0 < n
+      → Covered (L .next) (edgeAngle L α₀) (m .counts) (m .links) α (iter left (L .prev) e) (left + 1 + right) n l r
+      q (iter (suc right) (L .next) e)
       → RestEnds L (m .links) n (iter (suc right) (L .next) e) → OldVertex C L (m .links .origin l)
   start-old zero h K E = absurd (omega arith)
   start-old (suc n) h K E =
@@ -43,10 +48,12 @@ module _ {C : Counts} {L : Links} {p₀ : ℕ → Point} {α₀ : ℕ → ℕ} {
             ∙ E .at n (omega arith) .end ∙ sym (B .good .wf .links .origin-next (i .0));
       }
 
-  pub along-origin : {d : ℕ} → In (m .counts) d → m .links .face d ≡ 0 → (m .links .origin d ≡ C .vertices) ⊎ OldVertex C L (m .links .origin d)
+  pub along-origin : {d : ℕ} → In (m .counts) d → m .links .face d ≡ 0
+      → (m .links .origin d ≡ C .vertices) ⊎ OldVertex C L (m .links .origin d)
   along-origin {d} i o = let g = outer-on (A .good .wf) (A .covered .in-use) (A .covered .outer) i o in go (g .0) (g .1) (g .2)
     where
-      go : (k : ℕ) → k < boundaryLength (m .counts) (m .links) → iter k (m .links .next) l ≡ d → (m .links .origin d ≡ C .vertices) ⊎ OldVertex C L (m .links .origin d)
+      go : (k : ℕ) → k < boundaryLength (m .counts) (m .links) → iter k (m .links .next) l ≡ d
+          → (m .links .origin d ≡ C .vertices) ⊎ OldVertex C L (m .links .origin d)
       go zero h z = inr (subst (λ (x : ℕ). OldVertex C L (m .links .origin x)) z (start-old (A .rest) (A .covered .spliced .more) (A .covered) (A .ends)))
       go (suc zero) h z = inl (ap (m .links .origin) (sym z ∙ A .covered .spliced .l-p) ∙ A .from)
       go (suc (suc k)) h z =

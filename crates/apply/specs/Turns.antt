@@ -1,4 +1,5 @@
--- The loops of a step, turn by turn: a loop makes exactly as many turns as the chain has edges on its side, unless a flip is refused, and closes a corner at each. Assumes nothing.
+-- The loops of a step, turn by turn: a loop makes exactly as many turns as the chain has edges on its side, unless a
+-- flip is refused, and closes a corner at each. Assumes nothing.
 use mathlib.Core.Bool.{Bool, true, false, not, cond, false≢true, _||_}
 use mathlib.Core.Path.{_≡_, refl, sym, _∙_, ap, subst}
 use Prim.Native.Nat.{ℕ, zero, suc, _+_, _*_, _<_, _≤_}
@@ -31,7 +32,8 @@ unfolding turns
 turns-full side room p zero s f = refl
 turns-full side room p (suc k) s f = rw f refl
 
-module _ {C : Counts} {L : Links} {p₀ : ℕ → Point} {α₀ : ℕ → ℕ} {p : ℕ → Point} {α : ℕ → ℕ} {v : Point} {q e : ℕ} (B : Before C L p₀ α₀ p α v q e) where
+module _ {C : Counts} {L : Links} {p₀ : ℕ → Point} {α₀ : ℕ → ℕ} {p : ℕ → Point} {α : ℕ → ℕ} {v : Point} {q e : ℕ}
+    (B : Before C L p₀ α₀ p α v q e) where
   -- how many edges of the chain are on a side, and on the other
   abbrev pub chainOn : Side → ℕ
   chainOn Left = leftChain C L p₀ α₀ v q e
@@ -55,17 +57,20 @@ module _ {C : Counts} {L : Links} {p₀ : ℕ → Point} {α₀ : ℕ → ℕ} {
   short = chain-short (B .good .wf) p₀ α₀ v q (B .edge) (B .outer) (B .good .turning) (B .seen)
 
   -- two edges are left before a turn
-  left-more : (a b : ℕ) {n : ℕ} → a + 1 + b + n ≡ boundaryLength C L → suc (a + 1 + b) < boundaryLength C L → (k : ℕ) × (n ≡ suc k) × (0 < k)
+  left-more : (a b : ℕ) {n : ℕ} → a + 1 + b + n ≡ boundaryLength C L → suc (a + 1 + b) < boundaryLength C L
+      → (k : ℕ) × (n ≡ suc k) × (0 < k)
   left-more a b {n = zero} w h = absurd (omega arith)
   left-more a b {n = suc k} w h = (k, refl, omega arith)
 
   -- ---- the test
-  covered-on : (side : Side) {i o n : ℕ} {s : Walking} → AlongOn side i o n s → n < chainOn side → T (covers side (s .mesh .links) p α v q (beside side (s .mesh .links) (s .current)))
+  covered-on : (side : Side) {i o n : ℕ} {s : Walking} → AlongOn side i o n s → n < chainOn side
+      → T (covers side (s .mesh .links) p α v q (beside side (s .mesh .links) (s .current)))
   unfolding covers beside
   covered-on Left {n = n} A h = subst T (sym (test-left B (A .along))) (left-covered (B .good .wf) p₀ α₀ v q (B .edge) (B .outer) n h)
   covered-on Right {n = n} A h = subst T (sym (test-right B (A .along))) (right-covered (B .good .wf) p₀ α₀ v q (B .edge) (B .outer) n h)
 
-  stops-on : (side : Side) {i o n : ℕ} {s : Walking} → AlongOn side i o n s → n ≡ chainOn side → T (not (covers side (s .mesh .links) p α v q (beside side (s .mesh .links) (s .current))))
+  stops-on : (side : Side) {i o n : ℕ} {s : Walking} → AlongOn side i o n s → n ≡ chainOn side
+      → T (not (covers side (s .mesh .links) p α v q (beside side (s .mesh .links) (s .current))))
   unfolding covers beside
   stops-on Left A h =
       subst (λ (t : Bool). T (not t)) (sym (test-left B (A .along) ∙ ap (λ (k : ℕ). coversLeft L p₀ α₀ v q (iter (suc k) (L .prev) e)) h))
@@ -76,7 +81,8 @@ module _ {C : Counts} {L : Links} {p₀ : ℕ → Point} {α₀ : ℕ → ℕ} {
 
   -- ---- a turn
   module _ (room : ℕ) where
-    pub turn-on : (side : Side) {i o n : ℕ} {s : Walking} → AlongOn side i o n s → n < chainOn side → AlongOn side i o (suc n) (walkTurn side room p s)
+    pub turn-on : (side : Side) {i o n : ℕ} {s : Walking} → AlongOn side i o n s → n < chainOn side
+        → AlongOn side i o (suc n) (walkTurn side room p s)
     unfolding covers beside faceEdge walkTurn
     turn-on Left {i} {o} {n} {s} A h =
         let x = short in let y = A .other in let r = left-more n i (A .along .whole) (omega arith) in
@@ -121,13 +127,15 @@ module _ {C : Counts} {L : Links} {p₀ : ℕ → Point} {α₀ : ℕ → ℕ} {
     unfolding walkEnds
     ends-full side s f = is-true _ (or-left (s .mesh .full) _ (from-true f))
 
-    goes-on : (side : Side) {i o n : ℕ} {s : Walking} → AlongOn side i o n s → n < chainOn side → s .mesh .full ≡ false → walkEnds side p α v q s ≡ false
+    goes-on : (side : Side) {i o n : ℕ} {s : Walking} → AlongOn side i o n s → n < chainOn side
+        → s .mesh .full ≡ false → walkEnds side p α v q s ≡ false
     unfolding walkEnds
     goes-on side {s = s} A h f =
         let z : covers side (s .mesh .links) p α v q (beside side (s .mesh .links) (s .current)) ≡ true = is-true _ (covered-on side A h) in
         rw (f, z) refl
 
-    pub turns-until : (side : Side) (k : ℕ) {i o n : ℕ} {s : Walking} → AlongOn side i o n s → n + k ≡ chainOn side → (fuel : ℕ) → boundaryLength (s .mesh .counts) (s .mesh .links) < fuel
+    pub turns-until : (side : Side) (k : ℕ) {i o n : ℕ} {s : Walking} → AlongOn side i o n s → n + k ≡ chainOn side
+        → (fuel : ℕ) → boundaryLength (s .mesh .counts) (s .mesh .links) < fuel
         → until (walkEnds side p α v q) (walkTurn side room p) fuel s ≡ turns side room p k s
     unfolding turns
     turns-until side zero {s = s} A h fuel l = until-done (walkEnds side p α v q) (walkTurn side room p) fuel s (ends-here side A (omega arith))
@@ -135,7 +143,8 @@ module _ {C : Counts} {L : Links} {p₀ : ℕ → Point} {α₀ : ℕ → ℕ} {
     turns-until side (suc k) {i} {o} {n} {s} A h (suc fuel) l = go (turns-until side k {n = suc n} {s = walkTurn side room p s}) (s .mesh .full) refl
       where
         go : (AlongOn side i o (suc n) (walkTurn side room p s) → suc n + k ≡ chainOn side → (fuel : ℕ) → boundaryLength (walkTurn side room p s .mesh .counts) (walkTurn side room p s .mesh .links) < fuel
-            → until (walkEnds side p α v q) (walkTurn side room p) fuel (walkTurn side room p s) ≡ turns side room p k (walkTurn side room p s))
+            → until (walkEnds side p α v q) (walkTurn side room p) fuel (walkTurn side room p s)
+            ≡ turns side room p k (walkTurn side room p s))
             → (t : Bool) → s .mesh .full ≡ t
             → until (walkEnds side p α v q) (walkTurn side room p) (suc fuel) s ≡ cond t s (turns side room p k (walkTurn side room p s))
         go rest true f = until-done (walkEnds side p α v q) (walkTurn side room p) (suc fuel) s (ends-full side s f)
@@ -145,7 +154,8 @@ module _ {C : Counts} {L : Links} {p₀ : ℕ → Point} {α₀ : ℕ → ℕ} {
             until-next (walkEnds side p α v q) (walkTurn side room p) fuel s (goes-on side A m f) ∙ rest (turn-on side A m) (omega arith) fuel (omega arith)
 
     -- THE LOOP: it makes as many turns as the chain has edges on its side
-    pub walk-turns : (side : Side) {i o : ℕ} {s : Walking} → AlongOn side i o 0 s → walk side room p α v q s ≡ turns side room p (chainOn side) s
+    pub walk-turns : (side : Side) {i o : ℕ} {s : Walking} → AlongOn side i o 0 s
+        → walk side room p α v q s ≡ turns side room p (chainOn side) s
     unfolding walk
     walk-turns side {s = s} A =
         let z = count-halves (along-good side A .wf) in
@@ -158,12 +168,14 @@ module _ {C : Counts} {L : Links} {p₀ : ℕ → Point} {α₀ : ℕ → ℕ} {
       pub all : r .mesh .full ≡ false → count ≡ chainOn side
       pub closings : Closings p (s .mesh) (r .mesh)
 
-    pub turns-leave : (side : Side) (k : ℕ) {i o n : ℕ} {s : Walking} → AlongOn side i o n s → n + k ≡ chainOn side → Turned side i o s (turns side room p k s)
+    pub turns-leave : (side : Side) (k : ℕ) {i o n : ℕ} {s : Walking} → AlongOn side i o n s → n + k ≡ chainOn side
+        → Turned side i o s (turns side room p k s)
     unfolding turns
     turns-leave side zero {n = n} A h = record { count = n; on = A; all = λ f. omega arith; closings = none }
     turns-leave side (suc k) {i} {o} {n} {s} A h = go (turns-leave side k {n = suc n} {s = walkTurn side room p s}) (s .mesh .full) refl
       where
-        go : (AlongOn side i o (suc n) (walkTurn side room p s) → suc n + k ≡ chainOn side → Turned side i o (walkTurn side room p s) (turns side room p k (walkTurn side room p s)))
+        go : (AlongOn side i o (suc n) (walkTurn side room p s) → suc n + k ≡ chainOn side → Turned side i o
+            (walkTurn side room p s) (turns side room p k (walkTurn side room p s)))
             → (t : Bool) → s .mesh .full ≡ t → Turned side i o s (cond t s (turns side room p k (walkTurn side room p s)))
         go rest true f = record { count = n; on = A; all = λ g. absurd (false≢true (sym g ∙ f)); closings = none }
         go rest false f =

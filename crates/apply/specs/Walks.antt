@@ -1,5 +1,7 @@
--- The two loops of a step on a good mesh. While they go on, the new vertex covers a chain of the boundary as it was before, and what is not covered keeps its ends; so the test of each turn, made
--- on the mesh as it then stands, is that of the chain's definition, made on the mesh before: each loop covers exactly the chain's edges on its side, and ends. Assumes nothing.
+-- The two loops of a step on a good mesh. While they go on, the new vertex covers a chain of the boundary as it was
+-- before, and what is not covered keeps its ends; so the test of each turn, made on the mesh as it then stands, is that
+-- of the chain's definition, made on the mesh before: each loop covers exactly the chain's edges on its side, and ends.
+-- Assumes nothing.
 use mathlib.Core.Bool.{Bool, true, false, not, false≢true, _||_}
 use mathlib.Core.Logic.{_≢_}
 use mathlib.Core.Path.{_≡_, refl, sym, _∙_, ap, ap₂, subst}
@@ -35,7 +37,8 @@ use Rattle.apply.specs.declared.Side.{Side}
 use Rattle.apply.specs.declared.Side.the-variants.{Left, Right}
 use Rattle.apply.specs.Apply.{Walking, beside, covers, faceEdge, walkEnds, walkTurn, walk}
 
--- The mesh before, in which v is strictly left of the boundary edge e; p and α are the positions and the angles with the new vertex's, v and q
+-- The mesh before, in which v is strictly left of the boundary edge e; p and α are the positions and the angles with
+-- the new vertex's, v and q
 pub record Before (C : Counts) (L : Links) (p₀ : ℕ → Point) (α₀ : ℕ → ℕ) (p : ℕ → Point) (α : ℕ → ℕ) (v : Point) (q e : ℕ) : Type 0 where
   pub good : Good C L p₀
   pub edge : In C e
@@ -47,29 +50,36 @@ pub record Before (C : Counts) (L : Links) (p₀ : ℕ → Point) (α₀ : ℕ �
   pub new-angle : α (C .vertices) ≡ q
   pub range : InRange v
 
--- The mesh m after the first face and as many faces to the left and to the right, of which the boundary before has so many edges less `rest`; l and r lead to the new vertex and from it
-pub record Along (C : Counts) (L : Links) (α₀ : ℕ → ℕ) (p : ℕ → Point) (α : ℕ → ℕ) (q e left right : ℕ) (m : Extended) (l r : ℕ) : Type 0 where
+-- The mesh m after the first face and as many faces to the left and to the right, of which the boundary before has so
+-- many edges less `rest`; l and r lead to the new vertex and from it
+pub record Along (C : Counts) (L : Links) (α₀ : ℕ → ℕ) (p : ℕ → Point) (α : ℕ → ℕ) (q e left right : ℕ)
+    (m : Extended) (l r : ℕ) : Type 0 where
   pub good : Good (m .counts) (m .links) p
   pub rest : ℕ
   pub whole : left + 1 + right + rest ≡ boundaryLength C L
-  pub covered : Covered (L .next) (edgeAngle L α₀) (m .counts) (m .links) α (iter left (L .prev) e) (left + 1 + right) rest l r q (iter (suc right) (L .next) e)
+  pub covered : Covered (L .next) (edgeAngle L α₀) (m .counts) (m .links) α (iter left (L .prev) e)
+      (left + 1 + right) rest l r q (iter (suc right) (L .next) e)
   pub ends : RestEnds L (m .links) rest (iter (suc right) (L .next) e)
   pub from : m .links .origin r ≡ C .vertices
   pub faces : m .faces ≡ left + 1 + right
 
 -- the chain's start, its length and its end by other names
-covered-by : {f α : ℕ → ℕ} {C : Counts} {L : Links} {α′ : ℕ → ℕ} {s s′ m m′ n l p q r r′ : ℕ} → s ≡ s′ → m ≡ m′ → r ≡ r′ → Covered f α C L α′ s m n l p q r → Covered f α C L α′ s′ m′ n l p q r′
+covered-by : {f α : ℕ → ℕ} {C : Counts} {L : Links} {α′ : ℕ → ℕ} {s s′ m m′ n l p q r r′ : ℕ} → s ≡ s′ → m ≡ m′
+    → r ≡ r′ → Covered f α C L α′ s m n l p q r → Covered f α C L α′ s′ m′ n l p q r′
 covered-by a b c K = rw (← a, ← b, ← c) K
 
-module _ {C : Counts} {L : Links} {p₀ : ℕ → Point} {α₀ : ℕ → ℕ} {p : ℕ → Point} {α : ℕ → ℕ} {v : Point} {q e : ℕ} (B : Before C L p₀ α₀ p α v q e) where
+module _ {C : Counts} {L : Links} {p₀ : ℕ → Point} {α₀ : ℕ → ℕ} {p : ℕ → Point} {α : ℕ → ℕ} {v : Point} {q e : ℕ}
+    (B : Before C L p₀ α₀ p α v q e) where
   -- ---- one turn, at a corner of the mesh m that is closed: what is known after the new face is known after the flips
-  module _ (room : ℕ) (m : Extended) (G : Good (m .counts) (m .links) p) {d : ℕ} (i : In (m .counts) d) (o : m .links .face d ≡ 0) (h : LeftCorner (m .links) p d)
+  module _ (room : ℕ) (m : Extended) (G : Good (m .counts) (m .links) p) {d : ℕ} (i : In (m .counts) d)
+      (o : m .links .face d ≡ 0) (h : LeftCorner (m .links) p d)
       {first second : ℕ} (u : first < m .counts .edges) (w : second < m .counts .edges) where
     abbrev K : Links
     K = createSingleFaceBetweenEdgeAndNext (m .links) (m .counts) d
 
     after-flips : {left right l r n : ℕ} → left + 1 + right + n ≡ boundaryLength C L
-        → Covered (L .next) (edgeAngle L α₀) (withFace (m .counts)) K α (iter left (L .prev) e) (left + 1 + right) n l r q (iter (suc right) (L .next) e)
+        → Covered (L .next) (edgeAngle L α₀) (withFace (m .counts)) K α (iter left (L .prev) e) (left + 1 + right) n
+        l r q (iter (suc right) (L .next) e)
         → RestEnds L K n (iter (suc right) (L .next) e) → K .origin r ≡ C .vertices → suc (m .faces) ≡ left + 1 + right
         → Along C L α₀ p α q e left right (closeCorner room p m d first second) l r
     unfolding closeCorner
@@ -99,7 +109,8 @@ module _ {C : Counts} {L : Links} {p₀ : ℕ → Point} {α₀ : ℕ → ℕ} {
     end-l = ap p (sym (W .links .origin-next l-in) ∙ ap (m .links .origin) (A .covered .spliced .l-p) ∙ A .from) ∙ B .new-place
 
     module _ {n : ℕ} (k : A .rest ≡ suc n) (more : 0 < n) where
-      X : Covered (L .next) (edgeAngle L α₀) (m .counts) (m .links) α (iter left (L .prev) e) (left + 1 + right) (suc n) l r q (iter (suc right) (L .next) e)
+      X : Covered (L .next) (edgeAngle L α₀) (m .counts) (m .links) α (iter left (L .prev) e) (left + 1 + right)
+          (suc n) l r q (iter (suc right) (L .next) e)
       X = subst (λ (i : ℕ). Covered (L .next) (edgeAngle L α₀) (m .counts) (m .links) α (iter left (L .prev) e) (left + 1 + right) i l r q (iter (suc right) (L .next) e)) k (A .covered)
 
       E : RestEnds L (m .links) (suc n) (iter (suc right) (L .next) e)
@@ -113,7 +124,8 @@ module _ {C : Counts} {L : Links} {p₀ : ℕ → Point} {α₀ : ℕ → ℕ} {
           (sym (ap (λ (x : ℕ). p (to (m .links) x)) (W .links .next-prev l-in) ∙ end-l)) (ltZ-yes t)
 
       pub along-left : T (seesEdge (m .links) p v (m .links .prev l))
-          → Along C L α₀ p α q e (suc left) right (closeCorner room p m (m .links .prev l) (l / 2) (m .links .prev l / 2)) (2 * m .counts .edges + 1) r
+          → Along C L α₀ p α q e (suc left) right
+          (closeCorner room p m (m .links .prev l) (l / 2) (m .links .prev l / 2)) (2 * m .counts .edges + 1) r
       along-left t =
           let i = prev-in W X more in let o = prev-outer W X more in
           let z = left-next (B .good .wf) W (outer-walk (B .good .wf) (B .edge) (B .outer) (suc right) .0) X in
@@ -150,12 +162,15 @@ module _ {C : Counts} {L : Links} {p₀ : ℕ → Point} {α₀ : ℕ → ℕ} {
           one i = omega arith
 
       -- ---- the corner that a turn closes
-      pub closes-left : T (seesEdge (m .links) p v (m .links .prev l)) → CornerClosed p m (closeCorner room p m (m .links .prev l) (l / 2) (m .links .prev l / 2)) (m .links .prev l)
+      pub closes-left : T (seesEdge (m .links) p v (m .links .prev l))
+          → CornerClosed p m (closeCorner room p m (m .links .prev l) (l / 2) (m .links .prev l / 2))
+          (m .links .prev l)
       closes-left t =
           let i = prev-in W X more in
           closes-corner room p m (A .good) i (prev-outer W X more) (left-corner t) (let x = l-in in omega arith) (omega arith)
 
-      pub closes-right : T (seesEdge (m .links) p v (m .links .next r)) → CornerClosed p m (closeCorner room p m r (r / 2) (m .links .next r / 2)) r
+      pub closes-right : T (seesEdge (m .links) p v (m .links .next r))
+          → CornerClosed p m (closeCorner room p m r (r / 2) (m .links .next r / 2)) r
       closes-right t =
           let i = p-in W X in let j = W .ranges .next< i in
           closes-corner room p m (A .good) i (p-outer W X) (right-corner t) (omega arith) (omega arith)
@@ -165,7 +180,9 @@ module _ {C : Counts} {L : Links} {p₀ : ℕ → Point} {α₀ : ℕ → ℕ} {
     beside-left : m .links .prev l ≡ iter (suc left) (L .prev) e
     beside-left = go (A .rest) (A .covered .spliced .more) (A .covered)
       where
-        go : (n : ℕ) → 0 < n → Covered (L .next) (edgeAngle L α₀) (m .counts) (m .links) α (iter left (L .prev) e) (left + 1 + right) n l r q (iter (suc right) (L .next) e)
+        go : (n : ℕ) → 0 < n
+            → Covered (L .next) (edgeAngle L α₀) (m .counts) (m .links) α (iter left (L .prev) e) (left + 1 + right)
+            n l r q (iter (suc right) (L .next) e)
             → m .links .prev l ≡ iter (suc left) (L .prev) e
         go zero h K = absurd (omega arith)
         go (suc n) h K = left-next (B .good .wf) (A .good .wf) (outer-walk (B .good .wf) (B .edge) (B .outer) (suc right) .0) K .0 ∙ sym (iter-last left (L .prev) e)
@@ -173,7 +190,9 @@ module _ {C : Counts} {L : Links} {p₀ : ℕ → Point} {α₀ : ℕ → ℕ} {
     pub test-left : coversLeft (m .links) p α v q (m .links .prev l) ≡ coversLeft L p₀ α₀ v q (iter (suc left) (L .prev) e)
     test-left = ap (coversLeft (m .links) p α v q) beside-left ∙ left-test (B .good .wf) (B .places) (B .angles) (before-walk (B .good .wf) p₀ α₀ v q (B .edge) (B .outer) (suc left) .0) same v q
       where
-        last : (n : ℕ) → 0 < n → Covered (L .next) (edgeAngle L α₀) (m .counts) (m .links) α (iter left (L .prev) e) (left + 1 + right) n l r q (iter (suc right) (L .next) e)
+        last : (n : ℕ) → 0 < n
+            → Covered (L .next) (edgeAngle L α₀) (m .counts) (m .links) α (iter left (L .prev) e) (left + 1 + right)
+            n l r q (iter (suc right) (L .next) e)
             → RestEnds L (m .links) n (iter (suc right) (L .next) e) → SameEnds L (m .links) (iter (suc left) (L .prev) e)
         last zero h K E = absurd (omega arith)
         last (suc n) h K E =

@@ -1,5 +1,7 @@
-// An added point goes into the mesh (bulk_load.rs, `single_bulk_insertion_step` from its first change on): the new vertex and its first face, `legalize_edge`, and as many faces to the left and to
-// the right as were decided. What is left is `addTurns` of specs/Apply.antt; `add-turns` in specs/ApplyLaws.antt says that this is `addVertex`, whose loops test the mesh as it then stands.
+// An added point goes into the mesh (bulk_load.rs, `single_bulk_insertion_step` from its first change on): the new
+// vertex and its first face, `legalize_edge`, and as many faces to the left and to the right as were decided. What is
+// left is `addTurns` of specs/Apply.antt; `add-turns` in specs/ApplyLaws.antt says that this is `addVertex`, whose
+// loops test the mesh as it then stands.
 ghost use mathlib.Core.Path.{_≡_};
 ghost use lib.ListN.{length};
 ghost use Rattle.corner.specs.CornerRows.{extendedOf};

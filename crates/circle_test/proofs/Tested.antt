@@ -12,8 +12,7 @@ use Rattle.mesh.specs.Circle.{breaksCircle}
 use Rattle.mesh.specs.CircleLaws.{outer-left, outer-right, both-inner}
 use Rattle.dcel.specs.declared.handles.Far.{Far}
 use Rattle.dcel.specs.Far.{farIn}
-use Rattle.dcel.specs.Rows.{halvesOf, linksOf}
-use Rattle.circle_test.specs.GoodRows.{Placed}
+use Rattle.dcel.specs.Rows.{halvesOf, linksOf, Placed}
 
 is-outer : {r : Far} (f v : ℕ) → r ≡ farIn f v → r ≡ Far.Outer → f ≡ 0
 unfolding farIn

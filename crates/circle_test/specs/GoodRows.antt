@@ -5,23 +5,17 @@ use mathlib.Core.Path.{_≡_, subst⁻¹}
 use mathlib.Core.List.{List}
 use lib.IntN.{ℤ}
 use lib.ListN.{length}
-use Rattle.math.specs.Determinant.{InRange}
 use Rattle.mesh.specs.declared.Counts.{Counts}
 use Rattle.mesh.specs.Mesh.{Links, In}
 use Rattle.mesh.specs.Good.{Good}
-use Rattle.dcel.specs.Rows.{halvesOf, linksOf, positionOf, There}
-use Rattle.dcel.specs.Held.{Room, Held, there, prev-in, origin-in}
+use Rattle.dcel.specs.Rows.{halvesOf, linksOf, positionOf, There, Placed}
+use Rattle.dcel.specs.MeshHeld.{Room, MeshHeld, there, prev-in, origin-in}
 
 -- positions, out edges, half-edges and faces hold a good mesh of these counts
 pub record GoodRows (C : Counts) (q : List ℤ) (o h a : List ℕ) : Type 0 where
   pub room : Room C o h a
   pub positions : 2 * C .vertices ≤ length q
   pub good : Good C (linksOf o h a) (positionOf q)
-
--- vertex v has a position in the row, and it is in range
-pub record Placed (q : List ℤ) (v : ℕ) : Type 0 where
-  pub there : 2 * v + 1 < length q
-  pub range : InRange (positionOf q v)
 
 -- half-edge e and its prev are in the row, and both start at vertices with positions
 pub record Corner (q : List ℤ) (h : List ℕ) (e : ℕ) : Type 0 where
@@ -37,7 +31,7 @@ pub record CircleReady (q : List ℤ) (h : List ℕ) (u : ℕ) : Type 0 where
   pub t : Corner q h (2 * u + 1)
 
 module _ {C : Counts} {q : List ℤ} {o h a : List ℕ} (R : GoodRows C q o h a) where
-  pub held : Held C o h a
+  pub held : MeshHeld C o h a
   held = record { room = R .room; rules = R .good .wf }
 
   placed : {v : ℕ} → v < C .vertices → Placed q v
@@ -55,7 +49,8 @@ module _ {C : Counts} {q : List ℤ} {o h a : List ℕ} (R : GoodRows C q o h a)
   circle-ready {u} l = record { small = let s = R .room .small in omega arith; e = corner (omega arith); t = corner (omega arith) }
 
 -- after an operation: rows of the same lengths whose links are a good mesh
-pub good-again : {C : Counts} {q : List ℤ} {o h a : List ℕ} → GoodRows C q o h a → (o′ h′ a′ : List ℕ) → length o′ ≡ length o → length h′ ≡ length h → length a′ ≡ length a
+pub good-again : {C : Counts} {q : List ℤ} {o h a : List ℕ} → GoodRows C q o h a → (o′ h′ a′ : List ℕ)
+    → length o′ ≡ length o → length h′ ≡ length h → length a′ ≡ length a
     → {L : Links} → linksOf o′ h′ a′ ≡ L → Good C L (positionOf q) → GoodRows C q o′ h′ a′
 good-again {C} {q} R o′ h′ a′ x y z e G =
     let r = R .room in

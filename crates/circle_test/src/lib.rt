@@ -4,14 +4,16 @@ ghost use mathlib.Core.Path.{_≡_};
 ghost use Prim.Native.Nat.{ℕ};
 ghost use Rattle.math.specs.Determinant.{containedInCircumference};
 ghost use Rattle.mesh.specs.Circle.{breaksCircle};
-ghost use Rattle.dcel.specs.Rows.{linksOf, positionOf};
-ghost use Rattle.circle_test.specs.GoodRows.{Placed, CircleReady};
+ghost use Rattle.dcel.specs.Rows.{linksOf, positionOf, Placed};
+ghost use Rattle.circle_test.specs.GoodRows.{CircleReady};
 use dcel::handles::Far;
 
 // Whether vertex d is strictly inside the circle of the vertices a, b and c, which turn left.
 fn is_inside(positions: &[i32], a: u32, b: u32, c: u32, d: u32) -> bool
     requires { ⌜ Placed (now positions) a × Placed (now positions) b × Placed (now positions) c × Placed (now positions) d ⌝ }
-    ensures { λ r. ⌜ r ≡ containedInCircumference (positionOf (now (positions .entry)) a) (positionOf (now (positions .entry)) b) (positionOf (now (positions .entry)) c) (positionOf (now (positions .entry)) d) ⌝ }
+    ensures { λ r. ⌜ r ≡ containedInCircumference
+        (positionOf (now (positions .entry)) a) (positionOf (now (positions .entry)) b)
+        (positionOf (now (positions .entry)) c) (positionOf (now (positions .entry)) d) ⌝ }
 {
     let v1 = dcel::position(positions, a);
     let v2 = dcel::position(positions, b);

@@ -24,8 +24,8 @@ use Rattle.mesh.specs.HeightBound.{FlipsBound, flips-none, flips-fit}
 use Rattle.mesh.specs.FlipRun.{run-good, run-bound}
 use Rattle.sums.specs.Until.{Going, going-start, going-turn, going-less, going-end}
 use Rattle.closing.specs.Closing.{Closing, closeEdge, closeBelow, Turned, closeTurn, unturned, closingPass}
-use Rattle.closing.specs.ClosingLaws.{edge-flips, edge-stays, Flipping, flipping-edge, flipping-below, Turning, turnsLeft, turns-fall, begins, enough}
-use Rattle.closing.specs.Held.{closingOf, Closable}
+use Rattle.closing.specs.ClosingLaws.{edge-flips, edge-stays, Flipping, flipping-edge, flipping-below, Turning, heightLeft, turns-fall, begins, enough}
+use Rattle.closing.specs.ClosingRows.{closingOf, Closable}
 
 -- the rows keep their lengths
 pub record SameLengths (o h a o′ h′ a′ : List ℕ) : Type 0 where
@@ -101,7 +101,7 @@ passed o h a c s = record { state = closingOf o h a c; still = s }
 
 pub record PassAt (C : Counts) (q : List ℤ) (o₀ h₀ a₀ o h a : List ℕ) (c : FlipCount) (s : Bool) : Type 0 where
   pub ready : Closable C q o h a c
-  pub going : Going (λ t. t .still) (closeTurn C (positionOf q)) (Turning C (positionOf q)) (turnsLeft C (positionOf q)) (natAbs (heightSum C (linksOf o₀ h₀ a₀) (positionOf q)) + 2)
+  pub going : Going (λ t. t .still) (closeTurn C (positionOf q)) (Turning C (positionOf q)) (heightLeft C (positionOf q)) (natAbs (heightSum C (linksOf o₀ h₀ a₀) (positionOf q)) + 2)
       (unturned (linksOf o₀ h₀ a₀)) (passed o h a c s)
   pub lengths : SameLengths o₀ h₀ a₀ o h a
 
@@ -110,7 +110,7 @@ unfolding closingOf
 pass-starts {C} {q} {o} {h} {a} {c} R l e = record {
   ready = record { rows = R; few = l; bound = subst⁻¹ (FlipsBound C (linksOf o h a) (positionOf q)) e (flips-none (R .good)) };
   going = subst⁻¹
-      (λ (n : ℕ). Going (λ t. t .still) (closeTurn C (positionOf q)) (Turning C (positionOf q)) (turnsLeft C (positionOf q)) (natAbs (heightSum C (linksOf o h a) (positionOf q)) + 2)
+      (λ (n : ℕ). Going (λ t. t .still) (closeTurn C (positionOf q)) (Turning C (positionOf q)) (heightLeft C (positionOf q)) (natAbs (heightSum C (linksOf o h a) (positionOf q)) + 2)
       (unturned (linksOf o h a)) (record { state = record { links = linksOf o h a; flips = n }; still = false }))
       e
       (going-start (λ t. t .still) (closeTurn C (positionOf q)) (turns-fall C (positionOf q)) _ (unturned (linksOf o h a)) (begins (R .good)) (enough (R .good)));
@@ -142,8 +142,8 @@ module _ {C : Counts} {q : List ℤ} {o₀ h₀ a₀ o h a : List ℕ} {c : Flip
       lengths = same-trans (I .lengths) k;
     }
 
-    pub pass-less : turnsLeft C (positionOf q) (passed o′ h′ a′ c′ s′) < turnsLeft C (positionOf q) (passed o h a c s)
-    pass-less = subst⁻¹ (λ (t : Turned). turnsLeft C (positionOf q) t < turnsLeft C (positionOf q) (passed o h a c s)) next (going-less _ _ (turns-fall C (positionOf q)) (I .going) (goes s n))
+    pub pass-less : heightLeft C (positionOf q) (passed o′ h′ a′ c′ s′) < heightLeft C (positionOf q) (passed o h a c s)
+    pass-less = subst⁻¹ (λ (t : Turned). heightLeft C (positionOf q) t < heightLeft C (positionOf q) (passed o h a c s)) next (going-less _ _ (turns-fall C (positionOf q)) (I .going) (goes s n))
 
   pub pass-ends : not s ≡ false → closingOf o h a c ≡ closingPass C (positionOf q) (linksOf o₀ h₀ a₀)
   unfolding closingPass

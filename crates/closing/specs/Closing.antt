@@ -1,7 +1,8 @@
 -- The closing pass of 01. Definitions only; its laws are in `ClosingLaws`.
--- 01: "It tests the edges by rising number from 0: where both half-edges of edge u have a far vertex and that of 2u+1 is strictly inside the circle of
--- 2u's triangle, `flip_cw` of 001 flips u, and the count, at first 0, rises by one. A turn ends after the last edge; a turn that flipped is followed by
--- another from 0, and one that flipped nothing ends the pass. That count is the number of closing flips reported."
+-- 01: "It tests the edges by rising number from 0: where both half-edges of edge u have a far vertex and that of 2u+1
+-- is strictly inside the circle of 2u's triangle, `flip_cw` of 001 flips u, and the count, at first 0, rises by one. A
+-- turn ends after the last edge; a turn that flipped is followed by another from 0, and one that flipped nothing ends
+-- the pass. That count is the number of closing flips reported."
 use mathlib.Core.Bool.{Bool, false, cond}
 use Prim.Native.Nat.{ℕ, zero, suc, _+_}
 use lib.Dec.{eqb}

@@ -1,6 +1,7 @@
--- The closing pass of a good mesh: it ends, it is a sequence of exactly as many flips as it counts, each at an edge that breaks the circle rule at that
--- moment, and it leaves a settled mesh. With `FlipRun` of mesh: what it leaves is good, with the same boundary and the same area, and the height sum is lowered by
--- the determinants of the flips. Assumes nothing.
+-- The closing pass of a good mesh: it ends, it is a sequence of exactly as many flips as it counts, each at an edge
+-- that breaks the circle rule at that moment, and it leaves a settled mesh. With `FlipRun` of mesh: what it leaves is
+-- good, with the same boundary and the same area, and the height sum is lowered by the determinants of the flips.
+-- Assumes nothing.
 use mathlib.Core.Bool.{Bool, true, false, false≢true, cond}
 use mathlib.Core.Path.{_≡_, refl, sym, _∙_, ap, subst}
 use mathlib.Core.Logic.{_≢_}
@@ -83,7 +84,8 @@ unfolding closeBelow
 still-below p zero s e = record { same = refl; keeps = λ u l. absurd (omega arith) }
 still-below p (suc n) s e = go (flips-grow p n s) (breaksCircle (closeBelow p n s .links) p n) refl (still-below p n s)
   where
-    go : s .flips ≤ closeBelow p n s .flips → (b : Bool) → breaksCircle (closeBelow p n s .links) p n ≡ b → (closeBelow p n s .flips ≡ s .flips → Still p n s) → Still p (suc n) s
+    go : s .flips ≤ closeBelow p n s .flips → (b : Bool) → breaksCircle (closeBelow p n s .links) p n ≡ b
+        → (closeBelow p n s .flips ≡ s .flips → Still p n s) → Still p (suc n) s
     go l true q rest = absurd (let k = ap (λ (x : Closing). x .flips) (edge-flips p n (closeBelow p n s) q) in omega arith)
     go l false q rest =
         let k = edge-stays p n (closeBelow p n s) q in
@@ -102,8 +104,8 @@ pub record Turning (C : Counts) (p : ℕ → Point) (t : Turned) : Type 0 where
   pub settled : t .still ≡ true → Settled C (t .state .links) p
 
 -- what falls: the height sum, and one for the turn that finds nothing
-unfoldable pub turnsLeft : Counts → (ℕ → Point) → Turned → ℕ
-turnsLeft C p t = cond (t .still) 0 (natAbs (heightSum C (t .state .links) p) + 1)
+unfoldable pub heightLeft : Counts → (ℕ → Point) → Turned → ℕ
+heightLeft C p t = cond (t .still) 0 (natAbs (heightSum C (t .state .links) p) + 1)
 
 module _ (C : Counts) (p : ℕ → Point) where
   turn-keeps : (t : Turned) → Turning C p t → Turning C p (closeTurn C p t)
@@ -115,8 +117,8 @@ module _ (C : Counts) (p : ℕ → Point) where
         subst (λ (s : Closing). Settled C (s .links) p) (sym (S .same)) (record { edge = λ {u} l. S .keeps u l });
   }
 
-  turn-falls : (t : Turned) → Turning C p t → t .still ≡ false → turnsLeft C p (closeTurn C p t) < turnsLeft C p t
-  unfolding turnsLeft closeTurn
+  turn-falls : (t : Turned) → Turning C p t → t .still ≡ false → heightLeft C p (closeTurn C p t) < heightLeft C p t
+  unfolding heightLeft closeTurn
   turn-falls t i e = rw e (go (eqb (closeBelow p (C .edges) (t .state) .flips) (t .state .flips)) refl)
     where
       F : Flipping C p (t .state) (closeBelow p (C .edges) (t .state))
@@ -137,7 +139,7 @@ module _ (C : Counts) (p : ℕ → Point) where
           let m : 0 < F .made = omega arith in
           omega arith
 
-  pub turns-fall : Falls (λ t. t .still) (closeTurn C p) (Turning C p) (turnsLeft C p)
+  pub turns-fall : Falls (λ t. t .still) (closeTurn C p) (Turning C p) (heightLeft C p)
   turns-fall = record { keeps = λ t i e. turn-keeps t i; less = turn-falls }
 
 -- ---- the pass
@@ -150,13 +152,14 @@ module _ {C : Counts} {p : ℕ → Point} {L : Links} (G : Good C L p) where
   pub begins : Turning C p (unturned L)
   begins = record { good = G; settled = λ e. absurd (false≢true e) }
 
-  pub enough : turnsLeft C p (unturned L) < natAbs (heightSum C L p) + 2
-  unfolding turnsLeft
+  pub enough : heightLeft C p (unturned L) < natAbs (heightSum C L p) + 2
+  unfolding heightLeft
   enough = omega arith
 
   -- the fuel suffices: with more of it the pass ends the same
-  pub closing-fuel : (n : ℕ) → natAbs (heightSum C L p) + 1 < n → until (λ t. t .still) (closeTurn C p) n (unturned L) .state ≡ closingPass C p L
-  unfolding closingPass turnsLeft
+  pub closing-fuel : (n : ℕ) → natAbs (heightSum C L p) + 1 < n
+      → until (λ t. t .still) (closeTurn C p) n (unturned L) .state ≡ closingPass C p L
+  unfolding closingPass heightLeft
   closing-fuel n l = ap (λ (t : Turned). t .state) (until-fuel (λ t. t .still) (closeTurn C p) (turns-fall C p) n (natAbs (heightSum C L p) + 2) (unturned L) begins l enough)
 
   pub closing-closes : Closed C p L (closingPass C p L)
@@ -179,7 +182,8 @@ module _ {C : Counts} {p : ℕ → Point} {L : Links} (G : Good C L p) where
   closing-good = run-good G (closing-closes .run)
 
   -- no triangle's circle strictly contains a neighbour's far vertex, seen from any half-edge
-  pub closing-settled : {e : ℕ} → In C e → 0 < closingPass C p L .links .face e → 0 < closingPass C p L .links .face (rev e) → circleAt (closingPass C p L .links) p e ≤ℤ pos 0
+  pub closing-settled : {e : ℕ} → In C e → 0 < closingPass C p L .links .face e
+      → 0 < closingPass C p L .links .face (rev e) → circleAt (closingPass C p L .links) p e ≤ℤ pos 0
   closing-settled = settled-half (closing-closes .settled)
 
   pub closing-boundary : SameBoundary C L (closingPass C p L .links)

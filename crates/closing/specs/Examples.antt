@@ -1,5 +1,5 @@
--- Closing passes of small meshes, by computation. The meshes are those of `Examples` in mesh: the triangle of half-edges 0, 2, 4 with a vertex 3 beside its
--- edge 0, and here a vertex 4 beside its edge 1. Assumes nothing.
+-- Closing passes of small meshes, by computation. The meshes are those of `Examples` in mesh: the triangle of
+-- half-edges 0, 2, 4 with a vertex 3 beside its edge 0, and here a vertex 4 beside its edge 1. Assumes nothing.
 use mathlib.Core.Path.{_≡_, refl}
 use mathlib.Core.List.{List, [], _∷_}
 use Prim.Native.Nat.{ℕ}

@@ -1,4 +1,4 @@
 pub mod Closing
 pub mod ClosingLaws
-pub mod Held
+pub mod ClosingRows
 pub mod Examples

@@ -1,4 +1,5 @@
-// The closing pass: the edges by rising number, turn after turn, until a turn flips nothing. It is fed the mesh alone, with no pending list.
+// The closing pass: the edges by rising number, turn after turn, until a turn flips nothing. It is fed the mesh alone,
+// with no pending list.
 // What it leaves is `closingPass` of specs/Closing.antt; that it ends, and what it leaves, is in specs/ClosingLaws.antt.
 ghost use mathlib.Core.Path.{_≡_};
 ghost use Prim.Native.Nat.{_+_, _<_, _≤_, _^_};
@@ -7,7 +8,7 @@ ghost use Rattle.dcel.specs.Rows.{linksOf, positionOf};
 ghost use Rattle.dcel_operations.specs.Flip.{FlipReady};
 ghost use Rattle.flip_count.specs.FlipCount.{flipCountOf};
 ghost use Rattle.closing.specs.Closing.{closeEdge, closeBelow, closingPass};
-ghost use Rattle.closing.specs.Held.{closingOf, Closable};
+ghost use Rattle.closing.specs.ClosingRows.{closingOf, Closable};
 use flip_count::FlipCount;
 use mesh::Counts;
 
@@ -20,8 +21,12 @@ fn close_edge(
     u: u32,
     flips: FlipCount,
 ) -> FlipCount
-    requires { ⌜ CircleReady (now positions) (now halves) u × FlipReady (now outs) (now halves) (now faces) u × (flipCountOf flips + 1 < 2 ^ 128) ⌝ }
-    ensures { λ r. ⌜ closingOf (now (outs .exit)) (now (halves .exit)) (now (faces .exit)) r ≡ closeEdge (positionOf (now (positions .entry))) u (closingOf (now (outs .entry)) (now (halves .entry)) (now (faces .entry)) flips) ⌝ }
+    requires { ⌜ CircleReady (now positions) (now halves) u
+        × FlipReady (now outs) (now halves) (now faces) u
+        × (flipCountOf flips + 1 < 2 ^ 128) ⌝ }
+    ensures { λ r. ⌜ closingOf (now (outs .exit)) (now (halves .exit)) (now (faces .exit)) r
+        ≡ closeEdge (positionOf (now (positions .entry))) u
+        (closingOf (now (outs .entry)) (now (halves .entry)) (now (faces .entry)) flips) ⌝ }
 {
     if circle_test::should_flip(positions, halves, u) {
         dcel_operations::flip_cw(outs, halves, faces, u);
@@ -40,7 +45,9 @@ fn close_turn(
     flips: FlipCount,
 ) -> FlipCount
     requires { ⌜ Closable counts (now positions) (now outs) (now halves) (now faces) flips ⌝ }
-    ensures { λ r. ⌜ closingOf (now (outs .exit)) (now (halves .exit)) (now (faces .exit)) r ≡ closeBelow (positionOf (now (positions .entry))) (counts .edges) (closingOf (now (outs .entry)) (now (halves .entry)) (now (faces .entry)) flips) ⌝ }
+    ensures { λ r. ⌜ closingOf (now (outs .exit)) (now (halves .exit)) (now (faces .exit)) r
+        ≡ closeBelow (positionOf (now (positions .entry))) (counts .edges)
+        (closingOf (now (outs .entry)) (now (halves .entry)) (now (faces .entry)) flips) ⌝ }
 {
     let mut made = flips;
     let mut u = 0;
@@ -60,7 +67,9 @@ pub fn closing_pass(
     counts: Counts,
 ) -> FlipCount
     requires { ⌜ GoodRows counts (now positions) (now outs) (now halves) (now faces) × (counts .faces ≤ 2 ^ 25) ⌝ }
-    ensures { λ r. ⌜ closingOf (now (outs .exit)) (now (halves .exit)) (now (faces .exit)) r ≡ closingPass counts (positionOf (now (positions .entry))) (linksOf (now (outs .entry)) (now (halves .entry)) (now (faces .entry))) ⌝ }
+    ensures { λ r. ⌜ closingOf (now (outs .exit)) (now (halves .exit)) (now (faces .exit)) r
+        ≡ closingPass counts (positionOf (now (positions .entry)))
+        (linksOf (now (outs .entry)) (now (halves .entry)) (now (faces .entry))) ⌝ }
 {
     let mut flips = FlipCount::zero();
     let mut still = false;

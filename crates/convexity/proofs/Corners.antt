@@ -6,8 +6,7 @@ use Prim.Native.Nat.{ℕ, _<_, _≤_}
 use native.Mathlib.Omega.{arith}
 use borrow.Author.Tests.{lt-ltb, le-ltb}
 use lib.IntN.{ℤ}
-use Rattle.circle_test.specs.GoodRows.{Placed}
-use Rattle.dcel.specs.Rows.{halvesOf, linksOf, positionOf}
+use Rattle.dcel.specs.Rows.{halvesOf, linksOf, positionOf, Placed}
 use Rattle.math.specs.declared.LineSideInfo.{LineSideInfo}
 use Rattle.math.specs.declared.Point.{Point}
 use Rattle.math.specs.Determinant.{InRange, orient2d, sideOf, isOnLeftSide}

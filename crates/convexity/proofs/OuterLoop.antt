@@ -13,7 +13,7 @@ use Rattle.corner.specs.CornerRows.{extendedOf, Ready}
 use Rattle.corner.specs.RowsLaws.{SameLengths, same-refl, same-trans, ready-again}
 use Rattle.circle_test.specs.GoodRows.{held}
 use Rattle.dcel.specs.Rows.{halvesOf, rowOf, linksOf, positionOf, There}
-use Rattle.dcel.specs.Held.{there}
+use Rattle.dcel.specs.MeshHeld.{there}
 use Rattle.mesh.specs.Area.{boundaryLength}
 use Rattle.mesh.specs.CountsLaws.{count-edges, count-faces, faces-fit}
 use Rattle.mesh.specs.Good.{Good}

@@ -5,12 +5,12 @@ use mathlib.Core.Path.{_≡_, refl, sym, _∙_, ap}
 use Prim.Native.Nat.{ℕ, _/_, _<_}
 use native.Mathlib.Omega.{arith}
 use lib.IntN.{ℤ}
-use Rattle.circle_test.specs.GoodRows.{GoodRows, Placed, held}
+use Rattle.circle_test.specs.GoodRows.{GoodRows, held}
 use Rattle.corner.specs.declared.Added.{Added}
 use Rattle.corner.specs.Corner.{closeCorner}
 use Rattle.corner.specs.CornerRows.{extendedOf, CloseReady}
-use Rattle.dcel.specs.Rows.{halvesOf, linksOf, positionOf, There}
-use Rattle.dcel.specs.Held.{there, there-rev, prev-in, origin-in, to-in}
+use Rattle.dcel.specs.Rows.{halvesOf, linksOf, positionOf, There, Placed}
+use Rattle.dcel.specs.MeshHeld.{there, there-rev, prev-in, origin-in, to-in}
 use Rattle.mesh.specs.declared.Counts.{Counts}
 use Rattle.mesh.specs.Mesh.{Links, In}
 use Rattle.mesh.specs.Good.{Good}

@@ -1,4 +1,5 @@
--- The half-edges of the boundary behind a half-edge c of it, and the corner of the two behind c when it turns left and is closed: the boundary is shorter by one, and as it was behind the corner.
+-- The half-edges of the boundary behind a half-edge c of it, and the corner of the two behind c when it turns left and
+-- is closed: the boundary is shorter by one, and as it was behind the corner.
 -- Assumes nothing.
 use mathlib.Core.Bool.{true}
 use mathlib.Core.Path.{_≡_, sym, _∙_, ap}
@@ -33,7 +34,8 @@ module _ {C : Counts} {L : Links} (W : Wf C L) where
   behind-stays e (m, z) = (W .ranges .prev< m, face-prev m ∙ z)
 
   -- where the boundary's links are kept, they are the same
-  pub behind-same : {L′ : Links} → SameBoundary C L L′ → {c : ℕ} → In C c → L .face c ≡ 0 → (k : ℕ) → iter k (L′ .prev) c ≡ iter k (L .prev) c
+  pub behind-same : {L′ : Links} → SameBoundary C L L′ → {c : ℕ} → In C c → L .face c ≡ 0 → (k : ℕ)
+      → iter k (L′ .prev) c ≡ iter k (L .prev) c
   behind-same S l o = iter-same (λ e. In C e × (L .face e ≡ 0)) behind-stays (λ e (m, z). S .keeps m z .prev) (l, o)
 
   module _ {c : ℕ} (l : In C c) (o : L .face c ≡ 0) where
@@ -48,7 +50,8 @@ module _ {C : Counts} {L : Links} (W : Wf C L) where
     behind-once j k u v n q = n (period-listed (inverse-sym (next-inverse W)) l behind-period .once j k u v q)
 
 -- ---- the corner of the two half-edges behind c
-module _ {C : Counts} {L : Links} {p : ℕ → Point} (G : Good C L p) {c : ℕ} (l : In C c) (o : L .face c ≡ 0) (h : turnsLeftAt L p (L .prev (L .prev c)) (L .prev c) ≡ true) where
+module _ {C : Counts} {L : Links} {p : ℕ → Point} (G : Good C L p) {c : ℕ} (l : In C c) (o : L .face c ≡ 0)
+    (h : turnsLeftAt L p (L .prev (L .prev c)) (L .prev c) ≡ true) where
   abbrev d : ℕ
   d = L .prev (L .prev c)
 
@@ -106,7 +109,8 @@ pub record Behind (C C′ : Counts) (L L′ : Links) (c : ℕ) : Type 0 where
   pub last : L′ .prev c ≡ 2 * C .edges + 1
   pub rest : (k : ℕ) → suc (suc k) < boundaryLength C L → iter (suc (suc k)) (L′ .prev) c ≡ iter (suc (suc (suc k))) (L .prev) c
 
-module _ (room : ℕ) (p : ℕ → Point) (m : Extended) (G : Good (m .counts) (m .links) p) {c : ℕ} (l : In (m .counts) c) (o : m .links .face c ≡ 0)
+module _ (room : ℕ) (p : ℕ → Point) (m : Extended) (G : Good (m .counts) (m .links) p) {c : ℕ} (l : In (m .counts) c)
+    (o : m .links .face c ≡ 0)
     (h : turnsLeftAt (m .links) p (m .links .prev (m .links .prev c)) (m .links .prev c) ≡ true) where
   abbrev e₂ : ℕ
   e₂ = m .links .prev c
@@ -118,7 +122,8 @@ module _ (room : ℕ) (p : ℕ → Point) (m : Extended) (G : Good (m .counts) (
   closes = closes-corner room p m G (corner-in G l o h .0) (corner-in G l o h .1) (corner-left G l o h)
       (let i = behind-in (G .wf) l o 2 .0 in omega arith) (let i = behind-in (G .wf) l o 1 .0 in omega arith)
 
-  pub closes-behind : Behind (m .counts) (closeCorner room p m e₁ (e₁ / 2) (e₂ / 2) .counts) (m .links) (closeCorner room p m e₁ (e₁ / 2) (e₂ / 2) .links) c
+  pub closes-behind : Behind (m .counts) (closeCorner room p m e₁ (e₁ / 2) (e₂ / 2) .counts) (m .links)
+      (closeCorner room p m e₁ (e₁ / 2) (e₂ / 2) .links) c
   unfolding closeCorner
   closes-behind =
       let G′ = corner-good G l o h in

@@ -15,7 +15,8 @@ module _ (room : ℕ) (p : ℕ → Point) where
   cornersClosed s = s .mesh .full || not (lastTurnsLeft p (s .mesh .links) (s .edges))
 
   -- a turn leaves `convex_edges` shorter by one
-  shorter : (s : Pass) (l : List ℕ) (b : Bool) → (b || not (lastTurnsLeft p (s .mesh .links) l)) ≡ false → length (closeLast room p s l .edges) < length l
+  shorter : (s : Pass) (l : List ℕ) (b : Bool) → (b || not (lastTurnsLeft p (s .mesh .links) l)) ≡ false
+      → length (closeLast room p s l .edges) < length l
   unfolding lastTurnsLeft closeLast
   shorter s l true e = absurd (false≢true (sym e))
   shorter s [] false e = absurd (false≢true (sym e))

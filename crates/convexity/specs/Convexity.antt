@@ -1,4 +1,5 @@
--- `fix_convexity` of bulk_load.rs, one pass with its stack `convex_edges`, and the passes of a finish. Definitions only; the laws are in `ConvexityLaws`.
+-- `fix_convexity` of bulk_load.rs, one pass with its stack `convex_edges`, and the passes of a finish. Definitions
+-- only; the laws are in `ConvexityLaws`.
 -- 01: "Finish makes the first pass of `fix_convexity`, then repeats passes until one adds no face."
 use mathlib.Core.Bool.{Bool, false, not, _||_}
 use mathlib.Core.List.{List, [], _∷_}
@@ -32,7 +33,8 @@ lastTurnsLeft p L [] = false
 lastTurnsLeft p L (edge2 ∷ []) = false
 lastTurnsLeft p L (edge2 ∷ edge1 ∷ l) = turnsLeftAt L p edge1 edge2
 
--- "Violation detected. It is resolved by inserting a new edge"; `edge1` and `edge2` are pushed in this order and legalized, and the new edge, which `create_single_face_between_edge_and_next` returns, takes their place
+-- "Violation detected. It is resolved by inserting a new edge"; `edge1` and `edge2` are pushed in this order and
+-- legalized, and the new edge, which `create_single_face_between_edge_and_next` returns, takes their place
 unfoldable pub closeLast : ℕ → (ℕ → Point) → Pass → List ℕ → Pass
 closeLast room p s [] = s
 closeLast room p s (edge2 ∷ []) = s
@@ -45,11 +47,13 @@ closeLast room p s (edge2 ∷ edge1 ∷ l) = record {
 -- the inner loop; each turn leaves `convex_edges` shorter by one
 unfoldable pub closeCorners : ℕ → (ℕ → Point) → Pass → Pass
 closeCorners room p s =
-    until (λ t. t .mesh .full || not (lastTurnsLeft p (t .mesh .links) (t .edges))) (λ t. closeLast room p t (t .edges)) (length (s .edges) + 1) s
+    until (λ t. t .mesh .full || not (lastTurnsLeft p (t .mesh .links) (t .edges)))
+    (λ t. closeLast room p t (t .edges)) (length (s .edges) + 1) s
 
 -- a turn of the outer loop: `current_fixed` is pushed, and the walk goes on to its next
 unfoldable pub passTurn : ℕ → (ℕ → Point) → Pass → Pass
-passTurn room p s = closeCorners room p (record { mesh = s .mesh; current = s .mesh .links .next (s .current); edges = s .current ∷ s .edges })
+passTurn room p s = closeCorners room p
+    (record { mesh = s .mesh; current = s .mesh .links .next (s .current); edges = s .current ∷ s .edges })
 
 -- `Some(&current_fixed) == convex_edges.get(1)`: the second entry, where the last comes first
 unfoldable pub isSecond : ℕ → List ℕ → Bool
@@ -65,7 +69,8 @@ passStart m = record { mesh = m; current = m .links .adjacent 0; edges = [] }
 -- one pass; a turn for each half-edge of the boundary, and one more
 unfoldable pub fixConvexity : ℕ → (ℕ → Point) → Extended → Extended
 fixConvexity room p m =
-    until (λ s. s .mesh .full || isSecond (s .current) (s .edges)) (passTurn room p) (2 * m .counts .edges + 2) (passTurn room p (passStart m)) .mesh
+    until (λ s. s .mesh .full || isSecond (s .current) (s .edges)) (passTurn room p) (2 * m .counts .edges + 2)
+    (passTurn room p (passStart m)) .mesh
 
 -- the passes, and whether the last of them added no face or was refused a flip
 pub record Passes : Type 0 where
@@ -85,6 +90,7 @@ unpassed C L = record { mesh = record { counts = C; links = L; faces = 0; flips 
 unfoldable pub convexity : ℕ → Counts → (ℕ → Point) → Links → Extended
 convexity room C p L = until (λ s. s .still) (passAgain room p) (2 * C .vertices + 2) (unpassed C L) .mesh
 
--- 01: "Boundary corners are judged along next: a corner is the origins of e, of next(e) and of the one after, for each e of face 0." None turns left
+-- 01: "Boundary corners are judged along next: a corner is the origins of e, of next(e) and of the one after, for each
+-- e of face 0." None turns left
 pub record NoLeftCorner (C : Counts) (L : Links) (p : ℕ → Point) : Type 0 where
   pub corner : {e : ℕ} → In C e → L .face e ≡ 0 → atCorners orient2d L p e ≤ℤ pos 0

@@ -1,6 +1,7 @@
--- The passes of a finish on a good mesh. A pass that adds no face has tested every corner of the boundary; each other pass adds one of the faces that the
--- boundary's length leaves, so the passes end. What they make of the mesh is a sequence of corners closed (`Closings`), each followed by a run of flips, and where
--- no flip was refused, no corner of the boundary turns left afterwards. Assumes nothing.
+-- The passes of a finish on a good mesh. A pass that adds no face has tested every corner of the boundary; each other
+-- pass adds one of the faces that the boundary's length leaves, so the passes end. What they make of the mesh is a
+-- sequence of corners closed (`Closings`), each followed by a run of flips, and where no flip was refused, no corner of
+-- the boundary turns left afterwards. Assumes nothing.
 use mathlib.Core.Bool.{Bool, true, false, false≢true, _||_, cond}
 use mathlib.Core.Path.{_≡_, refl, sym, _∙_, ap, ap₂, subst}
 use mathlib.Core.Logic.{_≢_}
@@ -41,7 +42,8 @@ Tested : (ℕ → Point) → Walk → Type 0
 Tested p w = (k : ℕ) → suc k < w .depth → cornerBehind p (w .mesh .links) (w .current) k ≡ false
 
 -- a turn that closes no corner tests one more
-tested-turn : {p : ℕ → Point} (w r : Walk) → Walking p w → Turned p w r → r .mesh ≡ w .mesh → w .mesh .full ≡ false → Tested p w → Tested p r
+tested-turn : {p : ℕ → Point} (w r : Walk) → Walking p w → Turned p w r → r .mesh ≡ w .mesh → w .mesh .full ≡ false
+    → Tested p w → Tested p r
 unfolding Tested
 tested-turn {p} w r i t q f T zero u = stopped p r (t .ends) (ap (λ (m : Extended). m .full) q ∙ f) u
 tested-turn {p} w r i t q f T (suc j) u =
@@ -157,7 +159,9 @@ module _ (room : ℕ) (p : ℕ → Point) where
       m : Extended
       m = fixConvexity room p (s .mesh)
 
-      go : (a b : Bool) → eqb (m .faces) (s .mesh .faces) ≡ b → cond (a || b) 0 (boundaryLength (m .counts) (m .links) + 1) < boundaryLength (s .mesh .counts) (s .mesh .links) + 1
+      go : (a b : Bool) → eqb (m .faces) (s .mesh .faces) ≡ b
+          → cond (a || b) 0 (boundaryLength (m .counts) (m .links) + 1)
+          < boundaryLength (s .mesh .counts) (s .mesh .links) + 1
       go true b q = omega arith
       go false true q = omega arith
       go false false q =
@@ -190,7 +194,8 @@ module _ (room : ℕ) (C : Counts) (p : ℕ → Point) (L : Links) (G : Good C L
       (until-ends (λ s. s .still) (passAgain room p) (passes-fall room p) (2 * C .vertices + 2) (unpassed C L) passes-start passes-enough) f
 
   -- the fuel suffices: with more of it the passes end the same
-  pub convexity-fuel : (n : ℕ) → boundaryLength C L + 1 < n → until (λ s. s .still) (passAgain room p) n (unpassed C L) .mesh ≡ convexity room C p L
+  pub convexity-fuel : (n : ℕ) → boundaryLength C L + 1 < n
+      → until (λ s. s .still) (passAgain room p) n (unpassed C L) .mesh ≡ convexity room C p L
   unfolding convexity passesLeft
   convexity-fuel n l = ap (λ (s : Passes). s .mesh) (until-fuel (λ s. s .still) (passAgain room p) (passes-fall room p) n (2 * C .vertices + 2) (unpassed C L) passes-start l passes-enough)
 
@@ -198,20 +203,25 @@ module _ (room : ℕ) (C : Counts) (p : ℕ → Point) (L : Links) (G : Good C L
   convexity-good = closings-good G convexity-closings
 
   -- the same vertices, and an edge and a face more for each face that was added
-  pub convexity-counts : convexity room C p L .counts ≡ record { vertices = C .vertices; edges = C .edges + convexity room C p L .faces; faces = C .faces + convexity room C p L .faces }
+  pub convexity-counts : convexity room C p L .counts
+      ≡ record { vertices = C .vertices; edges = C .edges + convexity room C p L .faces; faces = C .faces + convexity room C p L .faces }
   convexity-counts = let c = closings-count convexity-closings in counts-are _ C (convexity room C p L .faces) (c .vertices) (let e = c .edges in omega arith) (let e = c .faces in omega arith)
     where
-      counts-are : (A C : Counts) (n : ℕ) → A .vertices ≡ C .vertices → A .edges ≡ C .edges + n → A .faces ≡ C .faces + n → A ≡ record { vertices = C .vertices; edges = C .edges + n; faces = C .faces + n }
+      counts-are : (A C : Counts) (n : ℕ) → A .vertices ≡ C .vertices → A .edges ≡ C .edges + n
+          → A .faces ≡ C .faces + n
+          → A ≡ record { vertices = C .vertices; edges = C .edges + n; faces = C .faces + n }
       counts-are A C n v e f = rw (← v, ← e, ← f) refl
 
   pub convexity-bound : FlipsBound (convexity room C p L .counts) (convexity room C p L .links) p (convexity room C p L .flips)
   convexity-bound = closings-bound G convexity-closings (flips-none G)
 
-  pub convexity-area : areaTotal (convexity room C p L .counts) (convexity room C p L .links) p ≡ boundaryArea (convexity room C p L .counts) (convexity room C p L .links) p
+  pub convexity-area : areaTotal (convexity room C p L .counts) (convexity room C p L .links) p
+      ≡ boundaryArea (convexity room C p L .counts) (convexity room C p L .links) p
   convexity-area = area-theorem (convexity-good .wf) p
 
 -- ---- flips keep the boundary's corners
-pub run-corners : {C : Counts} {p : ℕ → Point} {L M : Links} {n : ℕ} → Good C L p → FlipRun C p L M n → NoLeftCorner C L p → NoLeftCorner C M p
+pub run-corners : {C : Counts} {p : ℕ → Point} {L M : Links} {n : ℕ} → Good C L p → FlipRun C p L M n
+    → NoLeftCorner C L p → NoLeftCorner C M p
 run-corners {C} {p} {L} {M} G r N = record { corner = at }
   where
     at : {e : ℕ} → In C e → M .face e ≡ 0 → atCorners orient2d M p e ≤ℤ pos 0

@@ -6,8 +6,8 @@ use Prim.Native.Nat.{ℕ, _+_, _≤_}
 use lib.IntN.{ℤ}
 use Rattle.corner.specs.declared.Added.{Added}
 use Rattle.corner.specs.CornerRows.{extendedOf, MeshRoom, Ready}
-use Rattle.circle_test.specs.GoodRows.{GoodRows, Placed}
-use Rattle.dcel.specs.Rows.{halvesOf, linksOf, positionOf, There}
+use Rattle.circle_test.specs.GoodRows.{GoodRows}
+use Rattle.dcel.specs.Rows.{halvesOf, linksOf, positionOf, There, Placed}
 use Rattle.mesh.specs.declared.Counts.{Counts}
 use Rattle.mesh.specs.Mesh.{Links, In}
 use Rattle.mesh.specs.Area.{boundaryLength}

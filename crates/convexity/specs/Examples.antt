@@ -1,5 +1,6 @@
--- The passes by computation, on a mesh that needs two of them: a triangle with a vertex beside each of two sides. The first pass closes a corner in its last turn,
--- flips an edge, and leaves a corner that turns left; the second closes that one; the third adds no face. Assumes nothing.
+-- The passes by computation, on a mesh that needs two of them: a triangle with a vertex beside each of two sides. The
+-- first pass closes a corner in its last turn, flips an edge, and leaves a corner that turns left; the second closes
+-- that one; the third adds no face. Assumes nothing.
 use mathlib.Core.Bool.{Bool, false}
 use mathlib.Core.List.{[], _∷_}
 use mathlib.Core.Path.{_≡_, refl}
@@ -7,7 +8,7 @@ use Prim.Native.Nat.{ℕ}
 use lib.IntN.{ℤ, pos, negsuc}
 use lib.ListN.{getD}
 use Rattle.corner.specs.Corner.{Extended, closeCorner}
-use Rattle.legalize.specs.Legalize.{edgeOf, pushed, flipped, popped, legalize}
+use Rattle.legalize.specs.Legalize.{entryEdge, pushed, flipped, popped, legalize}
 use Rattle.math.specs.declared.Point.{Point}
 use Rattle.math.specs.Determinant.{orient2d, incircle, height}
 use Rattle.mesh.specs.declared.Counts.{Counts}
@@ -42,9 +43,9 @@ abbrev answer : Extended → ℕ × ℕ × Bool
 answer m = (m .faces, m .flips, m .full)
 
 one-pass : answer (fixConvexity 8 places (unpassed bentCounts bent .mesh)) ≡ (1, 1, false)
-unfolding fixConvexity isSecond passTurn closeCorners closeLast lastTurnsLeft closeCorner turnsLeftAt legalize popped flipped pushed edgeOf contains pushIfNotContained breaksCircle circleAt overFaces orient2d incircle height createSingleFaceBetweenEdgeAndNext faceBetween flipCw flipBetween faceAdjacent put rev sum until when seed bent places
+unfolding fixConvexity isSecond passTurn closeCorners closeLast lastTurnsLeft closeCorner turnsLeftAt legalize popped flipped pushed entryEdge contains pushIfNotContained breaksCircle circleAt overFaces orient2d incircle height createSingleFaceBetweenEdgeAndNext faceBetween flipCw flipBetween faceAdjacent put rev sum until when seed bent places
 one-pass = refl
 
 all-passes : answer (convexity 8 bentCounts places bent) ≡ (2, 1, false)
-unfolding convexity passAgain fixConvexity isSecond passTurn closeCorners closeLast lastTurnsLeft closeCorner turnsLeftAt legalize popped flipped pushed edgeOf contains pushIfNotContained breaksCircle circleAt overFaces orient2d incircle height createSingleFaceBetweenEdgeAndNext faceBetween flipCw flipBetween faceAdjacent put rev sum until when seed bent places
+unfolding convexity passAgain fixConvexity isSecond passTurn closeCorners closeLast lastTurnsLeft closeCorner turnsLeftAt legalize popped flipped pushed entryEdge contains pushIfNotContained breaksCircle circleAt overFaces orient2d incircle height createSingleFaceBetweenEdgeAndNext faceBetween flipCw flipBetween faceAdjacent put rev sum until when seed bent places
 all-passes = refl

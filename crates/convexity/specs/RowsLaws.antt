@@ -1,4 +1,5 @@
--- Rows that passes were made on: they hold a good mesh still, with room for what passes can add, and so a caller can go on with them. Assumes nothing.
+-- Rows that passes were made on: they hold a good mesh still, with room for what passes can add, and so a caller can go
+-- on with them. Assumes nothing.
 use mathlib.Core.List.{List}
 use mathlib.Core.Path.{_≡_, subst⁻¹}
 use Prim.Native.Nat.{ℕ}
@@ -17,7 +18,9 @@ use Rattle.convexity.specs.ConvexityRows.{MeshReady}
 use Rattle.convexity.specs.ConvexityLaws.{convexity-closings}
 
 -- after all passes
-pub convexity-ready : {q : List ℤ} {o h a row : List ℕ} {C : Counts} → MeshReady q o h a row C → {o′ h′ a′ row′ : List ℕ} {g : Added} → extendedOf o′ h′ a′ g ≡ convexity (length row) C (positionOf q) (linksOf o h a)
+pub convexity-ready : {q : List ℤ} {o h a row : List ℕ} {C : Counts} → MeshReady q o h a row C
+    → {o′ h′ a′ row′ : List ℕ} {g : Added}
+    → extendedOf o′ h′ a′ g ≡ convexity (length row) C (positionOf q) (linksOf o h a)
     → SameLengths o h a row o′ h′ a′ row′ → Ready q o′ h′ a′ row′ g
 convexity-ready {q} {o} {h} {a} {row} {C} R {o′} {h′} {a′} {row′} {g} e l =
     kept (unpassed C (linksOf o h a) .mesh) (R .rows .good) (flips-none (R .rows .good)) (omega arith) (R .rows .room .outs) (R .rows .positions) (R .sized)

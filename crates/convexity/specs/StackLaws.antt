@@ -1,6 +1,7 @@
--- The pass of `Convexity`, with its stack, is the pass of `Walk`, with the stack's depth: the stack is the chain of half-edges behind the current one. Only in the
--- last turn, when the walk has come around, can its first entry have left the boundary; that one is not looked at. So the stack's second entry is the current
--- half-edge just where no turn is left. Assumes nothing.
+-- The pass of `Convexity`, with its stack, is the pass of `Walk`, with the stack's depth: the stack is the chain of
+-- half-edges behind the current one. Only in the last turn, when the walk has come around, can its first entry have
+-- left the boundary; that one is not looked at. So the stack's second entry is the current half-edge just where no turn
+-- is left. Assumes nothing.
 use mathlib.Core.Bool.{Bool, true, false, _&&_, _||_, not}
 use mathlib.Core.List.{List, [], _∷_}
 use mathlib.Core.Path.{_≡_, refl, sym, _∙_, ap, ap₂, subst}
@@ -30,7 +31,8 @@ passOf w l = record { mesh = w .mesh; current = w .current; edges = l }
 -- the list l is the stack at w
 pub record Chain (w : Walk) (l : List ℕ) : Type 0 where
   pub depth : length l ≡ w .depth
-  pub entries : (k : ℕ) → k < w .depth → k < boundaryLength (w .mesh .counts) (w .mesh .links) → getD l k 0 ≡ iter (suc k) (w .mesh .links .prev) (w .current)
+  pub entries : (k : ℕ) → k < w .depth → k < boundaryLength (w .mesh .counts) (w .mesh .links)
+      → getD l k 0 ≡ iter (suc k) (w .mesh .links .prev) (w .current)
 
 -- ---- lists of two and more
 two-least : (l : List ℕ) → 1 < length l → (x : ℕ) × (y : ℕ) × (t : List ℕ) × (l ≡ x ∷ y ∷ t)
@@ -110,8 +112,13 @@ module _ {p : ℕ → Point} (w : Walk) (i : Walking p w) (l : List ℕ) (c : Ch
         T : Turns p w
         T = turns p w e
 
-        at : (k : ℕ) → k < w .depth - 1 → k < boundaryLength (closeCorner room p (w .mesh) (edge1 w) (edge1 w / 2) (edge2 w / 2) .counts) (closeCorner room p (w .mesh) (edge1 w) (edge1 w / 2) (edge2 w / 2) .links)
-            → getD ((2 * w .mesh .counts .edges + 1) ∷ t) k 0 ≡ iter (suc k) (closeCorner room p (w .mesh) (edge1 w) (edge1 w / 2) (edge2 w / 2) .links .prev) (w .current)
+        at : (k : ℕ) → k < w .depth - 1
+            → k
+            < boundaryLength (closeCorner room p (w .mesh) (edge1 w) (edge1 w / 2) (edge2 w / 2) .counts)
+            (closeCorner room p (w .mesh) (edge1 w) (edge1 w / 2) (edge2 w / 2) .links)
+            → getD ((2 * w .mesh .counts .edges + 1) ∷ t) k 0
+            ≡ iter (suc k) (closeCorner room p (w .mesh) (edge1 w) (edge1 w / 2) (edge2 w / 2) .links .prev)
+            (w .current)
         at zero u v = sym (closes-behind room p (w .mesh) (i .good) (i .current .0) (i .current .1) (T .left) .last)
         at (suc j) u v =
             let n = closed-length (i .good) (closes room p (w .mesh) (i .good) (i .current .0) (i .current .1) (T .left)) in
@@ -126,7 +133,8 @@ module _ {p : ℕ → Point} (w : Walk) (i : Walking p w) (l : List ℕ) (c : Ch
       back : w .mesh .links .prev (w .mesh .links .next (w .current)) ≡ w .current
       back = i .good .wf .links .prev-next (i .current .0)
 
-      at : (k : ℕ) → k < w .depth + 1 → k < h → getD (w .current ∷ l) k 0 ≡ iter (suc k) (w .mesh .links .prev) (w .mesh .links .next (w .current))
+      at : (k : ℕ) → k < w .depth + 1 → k < h
+          → getD (w .current ∷ l) k 0 ≡ iter (suc k) (w .mesh .links .prev) (w .mesh .links .next (w .current))
       at zero u v = sym back
       at (suc j) u v = c .entries j (omega arith) (omega arith) ∙ ap (iter (suc j) (w .mesh .links .prev)) (sym back)
 
@@ -197,7 +205,8 @@ module _ (room : ℕ) (p : ℕ → Point) where
     enough : walkTurn room p (walkStart m) .left < fuel
     enough = let l = start-left m in let k = first .left in let b = boundary-most (G .wf) in omega arith
 
-    together : Stacked p (until ends (passTurn room p) fuel (passTurn room p (passStart m))) (until walkEnds (walkTurn room p) fuel (walkTurn room p (walkStart m)))
+    together : Stacked p (until ends (passTurn room p) fuel (passTurn room p (passStart m)))
+        (until walkEnds (walkTurn room p) fuel (walkTurn room p (walkStart m)))
     together = let l = start-left m in
         until-related ends (passTurn room p) walkEnds (walkTurn room p) (Stacked p) stacked-ends (λ s w S e. stacked-turn s w S (left-over w (sym (stacked-ends s w S) ∙ e) .1))
         fuel (passTurn room p (passStart m)) (walkTurn room p (walkStart m)) (stacked-turn (passStart m) (walkStart m) (stacked-start m G) (omega arith))

@@ -1,5 +1,6 @@
--- A pass with O(1) state, as the code makes it: the stack `convex_edges` is the chain of half-edges behind the current one, so its depth stands for it, and a
--- pass has a turn for each half-edge of the boundary and one more. Definitions only; `WalkLaws` has that it is the pass of `Convexity`.
+-- A pass with O(1) state, as the code makes it: the stack `convex_edges` is the chain of half-edges behind the current
+-- one, so its depth stands for it, and a pass has a turn for each half-edge of the boundary and one more. Definitions
+-- only; `WalkLaws` has that it is the pass of `Convexity`.
 use mathlib.Core.Bool.{Bool, not, _&&_, _||_}
 use Prim.Native.Nat.{ℕ, _+_, _-_, _/_}
 use lib.Dec.{eqb, ltb}
@@ -33,10 +34,12 @@ stops p w = w .mesh .full || not (leftBehind p (w .mesh .links) (w .current) (w 
 
 abbrev pub closedBehind : ℕ → (ℕ → Point) → Extended → ℕ → Extended
 closedBehind room p m current =
-    closeCorner room p m (m .links .prev (m .links .prev current)) (m .links .prev (m .links .prev current) / 2) (m .links .prev current / 2)
+    closeCorner room p m (m .links .prev (m .links .prev current))
+    (m .links .prev (m .links .prev current) / 2) (m .links .prev current / 2)
 
 unfoldable pub closeBehind : ℕ → (ℕ → Point) → Walk → Walk
-closeBehind room p w = record { mesh = closedBehind room p (w .mesh) (w .current); current = w .current; depth = w .depth - 1; left = w .left }
+closeBehind room p w =
+    record { mesh = closedBehind room p (w .mesh) (w .current); current = w .current; depth = w .depth - 1; left = w .left }
 
 -- the inner loop
 unfoldable pub closeAllBehind : ℕ → (ℕ → Point) → Walk → Walk

@@ -18,7 +18,8 @@ use Rattle.convexity.specs.Convexity.{turnsLeftAt}
 use Rattle.convexity.specs.BehindLaws.{closes, closes-behind}
 use Rattle.convexity.specs.Walk.{Walk, edge1, edge2, leftBehind, stops, closeBehind, closeAllBehind, onward, walkTurn, walkEnds, walkStart, walkPass}
 
--- the current half-edge is on the boundary of a good mesh, and each turn left is for one of the half-edges that are not behind it, or the last
+-- the current half-edge is on the boundary of a good mesh, and each turn left is for one of the half-edges that are not
+-- behind it, or the last
 pub record Walking (p : ℕ → Point) (w : Walk) : Type 0 where
   pub good : Good (w .mesh .counts) (w .mesh .links) p
   pub current : In (w .mesh .counts) (w .current) × (w .mesh .links .face (w .current) ≡ 0)
@@ -35,14 +36,16 @@ pub turns : (p : ℕ → Point) (w : Walk) → stops p w ≡ false → Turns p w
 unfolding stops leftBehind
 turns p w e = go (w .mesh .full) (ltb 1 (w .depth)) (turnsLeftAt (w .mesh .links) p (edge1 w) (edge2 w)) refl refl refl e
   where
-    go : (a b c : Bool) → w .mesh .full ≡ a → ltb 1 (w .depth) ≡ b → turnsLeftAt (w .mesh .links) p (edge1 w) (edge2 w) ≡ c → (a || not (b && c)) ≡ false → Turns p w
+    go : (a b c : Bool) → w .mesh .full ≡ a → ltb 1 (w .depth) ≡ b
+        → turnsLeftAt (w .mesh .links) p (edge1 w) (edge2 w) ≡ c → (a || not (b && c)) ≡ false → Turns p w
     go true b c x y z e = absurd (false≢true (sym e))
     go false false c x y z e = absurd (false≢true (sym e))
     go false true false x y z e = absurd (false≢true (sym e))
     go false true true x y z e = record { room = x; two = ltb-true _ _ y; left = z }
 
 -- where it says that there is none
-pub stopped : (p : ℕ → Point) (w : Walk) → stops p w ≡ true → w .mesh .full ≡ false → 1 < w .depth → turnsLeftAt (w .mesh .links) p (edge1 w) (edge2 w) ≡ false
+pub stopped : (p : ℕ → Point) (w : Walk) → stops p w ≡ true → w .mesh .full ≡ false → 1 < w .depth
+    → turnsLeftAt (w .mesh .links) p (edge1 w) (edge2 w) ≡ false
 unfolding stops leftBehind
 stopped p w e f l = go (turnsLeftAt (w .mesh .links) p (edge1 w) (edge2 w)) (rw (f, lt-ltb 1 (w .depth) l) at e)
   where

@@ -1,5 +1,6 @@
-// `fix_convexity` of bulk_load.rs, and its passes in a finish. The Rust keeps the half-edges that it has walked over in `convex_edges`; they are the chain behind
-// the current half-edge, so their number is enough (specs/StackLaws.antt). What is left is `convexity` of specs/Convexity.antt; its laws are in specs/ConvexityLaws.antt.
+// `fix_convexity` of bulk_load.rs, and its passes in a finish. The Rust keeps the half-edges that it has walked over in
+// `convex_edges`; they are the chain behind the current half-edge, so their number is enough (specs/StackLaws.antt).
+// What is left is `convexity` of specs/Convexity.antt; its laws are in specs/ConvexityLaws.antt.
 ghost use mathlib.Core.Bool.{not, _||_};
 ghost use mathlib.Core.List.{List};
 ghost use mathlib.Core.Path.{_≡_};
@@ -25,7 +26,8 @@ pub struct Walked {
 // Whether the corner of edge1 and edge2 after it turns strictly left.
 fn turns_left_at(positions: &[i32], halves: &[u32], edge1: u32, edge2: u32) -> bool
     requires { ⌜ CornerReady (now positions) (now halves) edge1 edge2 ⌝ }
-    ensures { λ r. ⌜ ((o a : List ℕ) → r ≡ turnsLeftAt (linksOf o (now (halves .entry)) a) (positionOf (now (positions .entry))) edge1 edge2) ⌝ }
+    ensures { λ r. ⌜ ((o a : List ℕ)
+        → r ≡ turnsLeftAt (linksOf o (now (halves .entry)) a) (positionOf (now (positions .entry))) edge1 edge2) ⌝ }
 {
     let a = dcel::origin(halves, edge1);
     let b = dcel::to(halves, edge1);
@@ -39,7 +41,9 @@ fn turns_left_at(positions: &[i32], halves: &[u32], edge1: u32, edge2: u32) -> b
 // Whether the two half-edges behind the current one are a corner to be closed.
 fn left_behind(positions: &[i32], halves: &[u32], full: bool, current: u32, depth: u32) -> bool
     requires { ⌜ BehindReady (now positions) (now halves) current ⌝ }
-    ensures { λ r. ⌜ ((o a : List ℕ) → r ≡ not (full || not (leftBehind (positionOf (now (positions .entry))) (linksOf o (now (halves .entry)) a) current depth))) ⌝ }
+    ensures { λ r. ⌜ ((o a : List ℕ)
+        → r ≡ not (full || not
+        (leftBehind (positionOf (now (positions .entry))) (linksOf o (now (halves .entry)) a) current depth))) ⌝ }
 {
     if full {
         return false;
@@ -63,7 +67,9 @@ fn close_behind(
     current: u32,
 ) -> Added
     requires { ⌜ CloseBehindReady (now positions) (now outs) (now halves) (now faces) (now pending) added current ⌝ }
-    ensures { λ r. ⌜ extendedOf (now (outs .exit)) (now (halves .exit)) (now (faces .exit)) r ≡ closedBehind (length (now (pending .entry))) (positionOf (now (positions .entry))) (extendedOf (now (outs .entry)) (now (halves .entry)) (now (faces .entry)) added) current ⌝ }
+    ensures { λ r. ⌜ extendedOf (now (outs .exit)) (now (halves .exit)) (now (faces .exit)) r
+        ≡ closedBehind (length (now (pending .entry))) (positionOf (now (positions .entry)))
+        (extendedOf (now (outs .entry)) (now (halves .entry)) (now (faces .entry)) added) current ⌝ }
 {
     let edge2 = dcel::prev(halves, current);
     let edge1 = dcel::prev(halves, edge2);
@@ -92,7 +98,12 @@ fn close_all_behind(
     depth: u32,
 ) -> Walked
     requires { ⌜ WalkReady (now positions) (now outs) (now halves) (now faces) (now pending) added current depth ⌝ }
-    ensures { λ r. ⌜ ((n : ℕ) → depth + n ≡ boundaryLength (added .counts) (linksOf (now (outs .entry)) (now (halves .entry)) (now (faces .entry))) + 1 → walkOf (now (outs .exit)) (now (halves .exit)) (now (faces .exit)) (r .added) current (r .depth) n ≡ closeAllBehind (length (now (pending .entry))) (positionOf (now (positions .entry))) (walkOf (now (outs .entry)) (now (halves .entry)) (now (faces .entry)) added current depth n)) ⌝ }
+    ensures { λ r. ⌜ ((n : ℕ)
+        → depth + n
+        ≡ boundaryLength (added .counts) (linksOf (now (outs .entry)) (now (halves .entry)) (now (faces .entry))) + 1
+        → walkOf (now (outs .exit)) (now (halves .exit)) (now (faces .exit)) (r .added) current (r .depth) n
+        ≡ closeAllBehind (length (now (pending .entry))) (positionOf (now (positions .entry)))
+        (walkOf (now (outs .entry)) (now (halves .entry)) (now (faces .entry)) added current depth n)) ⌝ }
 {
     let mut now = added;
     let mut behind = depth;
@@ -116,7 +127,9 @@ pub fn fix_convexity(
     added: Added,
 ) -> Added
     requires { ⌜ StartReady (now positions) (now outs) (now halves) (now faces) (now pending) added ⌝ }
-    ensures { λ r. ⌜ extendedOf (now (outs .exit)) (now (halves .exit)) (now (faces .exit)) r ≡ fixConvexity (length (now (pending .entry))) (positionOf (now (positions .entry))) (extendedOf (now (outs .entry)) (now (halves .entry)) (now (faces .entry)) added) ⌝ }
+    ensures { λ r. ⌜ extendedOf (now (outs .exit)) (now (halves .exit)) (now (faces .exit)) r
+        ≡ fixConvexity (length (now (pending .entry))) (positionOf (now (positions .entry)))
+        (extendedOf (now (outs .entry)) (now (halves .entry)) (now (faces .entry)) added) ⌝ }
 {
     let mut now = added;
     let mut current = dcel::adjacent(faces, 0);
@@ -162,7 +175,9 @@ pub fn convexity(
     counts: Counts,
 ) -> Added
     requires { ⌜ MeshReady (now positions) (now outs) (now halves) (now faces) (now pending) counts ⌝ }
-    ensures { λ r. ⌜ extendedOf (now (outs .exit)) (now (halves .exit)) (now (faces .exit)) r ≡ convexity (length (now (pending .entry))) counts (positionOf (now (positions .entry))) (linksOf (now (outs .entry)) (now (halves .entry)) (now (faces .entry))) ⌝ }
+    ensures { λ r. ⌜ extendedOf (now (outs .exit)) (now (halves .exit)) (now (faces .exit)) r
+        ≡ convexity (length (now (pending .entry))) counts (positionOf (now (positions .entry)))
+        (linksOf (now (outs .entry)) (now (halves .entry)) (now (faces .entry))) ⌝ }
 {
     let zero = FlipCount::zero();
     let mut now = Added {

@@ -1,5 +1,6 @@
--- Closing a corner of the boundary that turns left, in a good mesh: one face more, a run of flips, a boundary shorter by one. `Closings` is a sequence of such steps: what walks and passes make
--- of a mesh, with what it keeps. Assumes nothing.
+-- Closing a corner of the boundary that turns left, in a good mesh: one face more, a run of flips, a boundary shorter
+-- by one. `Closings` is a sequence of such steps: what walks and passes make of a mesh, with what it keeps. Assumes
+-- nothing.
 use mathlib.Core.Bool.{false}
 use mathlib.Core.List.{[], _∷_}
 use mathlib.Core.Path.{_≡_, refl, sym, _∙_, ap, subst}
@@ -8,7 +9,7 @@ use native.Mathlib.Omega.{arith}
 use lib.IntN.{pos}
 use lib.Signed.{_<ℤ_}
 use Rattle.legalize.specs.declared.Entry.the-variants.{Edge}
-use Rattle.legalize.specs.Legalize.{edgeOf, legalizeEdgesAfterRemoval}
+use Rattle.legalize.specs.Legalize.{entryEdge, legalizeEdgesAfterRemoval}
 use Rattle.legalize.specs.LegalizeLaws.{Outcome, legalize-outcome, legalize-start}
 use Rattle.math.specs.declared.Point.{Point}
 use Rattle.math.specs.Determinant.{orient2d}
@@ -83,7 +84,8 @@ module _ {p : ℕ → Point} {m : Extended} (G : Good (m .counts) (m .links) p) 
   closings-good none = G
   closings-good (then a e S) = closed-good (closings-good a) S
 
-  pub closings-bound : {n : Extended} → Closings p m n → FlipsBound (m .counts) (m .links) p (m .flips) → FlipsBound (n .counts) (n .links) p (n .flips)
+  pub closings-bound : {n : Extended} → Closings p m n → FlipsBound (m .counts) (m .links) p (m .flips)
+      → FlipsBound (n .counts) (n .links) p (n .flips)
   closings-bound none B = B
   closings-bound (then a e S) B = closed-bound (closings-good a) S (closings-bound a B)
 
@@ -109,7 +111,8 @@ closings-none none e = refl
 closings-none (then {k = k} a x S) e = absurd (let c = closings-count a in let f = S .faces in omega arith)
 
 -- ---- `closeCorner` closes a corner that turns left
-module _ (room : ℕ) (p : ℕ → Point) (m : Extended) (G : Good (m .counts) (m .links) p) {e : ℕ} (l : In (m .counts) e) (o : m .links .face e ≡ 0) (h : LeftCorner (m .links) p e)
+module _ (room : ℕ) (p : ℕ → Point) (m : Extended) (G : Good (m .counts) (m .links) p) {e : ℕ} (l : In (m .counts) e)
+    (o : m .links .face e ≡ 0) (h : LeftCorner (m .links) p e)
     {first second : ℕ} (u : first < m .counts .edges) (v : second < m .counts .edges) where
   abbrev C : Counts
   C = withFace (m .counts)
@@ -117,8 +120,10 @@ module _ (room : ℕ) (p : ℕ → Point) (m : Extended) (G : Good (m .counts) (
   abbrev K : Links
   K = createSingleFaceBetweenEdgeAndNext (m .links) (m .counts) e
 
-  pub corner-outcome : Outcome room Edge C p (record { links = K; pending = second ∷ first ∷ []; flips = m .flips; full = false }) (legalizeEdgesAfterRemoval room C p K (m .flips) first second)
-  unfolding edgeOf
+  pub corner-outcome : Outcome room Edge C p
+      (record { links = K; pending = second ∷ first ∷ []; flips = m .flips; full = false })
+      (legalizeEdgesAfterRemoval room C p K (m .flips) first second)
+  unfolding entryEdge
   corner-outcome = legalize-outcome room Edge C p (record { links = K; pending = second ∷ first ∷ []; flips = m .flips; full = false })
       (legalize-start (single-face-good G l o h) ((omega arith), ((omega arith), tt)))
 

@@ -1,4 +1,5 @@
--- Rows in which corners were closed: they hold a good mesh still, with room for what can be added, and so a caller can go on with them. Assumes nothing.
+-- Rows in which corners were closed: they hold a good mesh still, with room for what can be added, and so a caller can
+-- go on with them. Assumes nothing.
 use mathlib.Core.Bool.{Bool, true, false, _||_}
 use mathlib.Core.List.{List}
 use mathlib.Core.Path.{_≡_, refl, _∙_, subst⁻¹}
@@ -8,7 +9,7 @@ use native.Mathlib.Omega.{arith}
 use lib.IntN.{ℤ}
 use lib.ListN.{length}
 use Rattle.dcel.specs.Rows.{linksOf, positionOf}
-use Rattle.dcel.specs.Held.{Room}
+use Rattle.dcel.specs.MeshHeld.{Room}
 use Rattle.math.specs.declared.Point.{Point}
 use Rattle.mesh.specs.declared.Counts.{Counts}
 use Rattle.mesh.specs.Mesh.{Links}
@@ -30,11 +31,13 @@ pub record SameLengths (o h a r o′ h′ a′ r′ : List ℕ) : Type 0 where
 pub same-refl : {o h a r : List ℕ} → SameLengths o h a r o h a r
 same-refl = record { outs = refl; halves = refl; faces = refl; pending = refl }
 
-pub same-trans : {o h a r o′ h′ a′ r′ o″ h″ a″ r″ : List ℕ} → SameLengths o h a r o′ h′ a′ r′ → SameLengths o′ h′ a′ r′ o″ h″ a″ r″ → SameLengths o h a r o″ h″ a″ r″
+pub same-trans : {o h a r o′ h′ a′ r′ o″ h″ a″ r″ : List ℕ} → SameLengths o h a r o′ h′ a′ r′
+    → SameLengths o′ h′ a′ r′ o″ h″ a″ r″ → SameLengths o h a r o″ h″ a″ r″
 same-trans x y = record { outs = y .outs ∙ x .outs; halves = y .halves ∙ x .halves; faces = y .faces ∙ x .faces; pending = y .pending ∙ x .pending }
 
 -- ---- rows that are sized for the vertices have room for every mesh of them
-pub sized-room : {n : ℕ} {C : Counts} {p : ℕ → Point} {L : Links} {h a row : List ℕ} (o o′ h′ a′ : List ℕ) → n ≤ length o → MeshRoom n h a row → C .vertices ≡ n → Good C L p
+pub sized-room : {n : ℕ} {C : Counts} {p : ℕ → Point} {L : Links} {h a row : List ℕ} (o o′ h′ a′ : List ℕ)
+    → n ≤ length o → MeshRoom n h a row → C .vertices ≡ n → Good C L p
     → length o′ ≡ length o → length h′ ≡ length h → length a′ ≡ length a → Room C o′ h′ a′
 sized-room o o′ h′ a′ k s v G x y z =
     let e = halves-fit (G .wf) (le-refl _) in let f = faces-fit (G .wf) (le-refl _) in
@@ -42,9 +45,11 @@ sized-room o o′ h′ a′ k s v G x y z =
 
 -- corners closed one after another leave what a function needs
 module _ {q : List ℤ} {o h a row : List ℕ} where
-  pub kept : (m : Extended) → Good (m .counts) (m .links) (positionOf q) → FlipsBound (m .counts) (m .links) (positionOf q) (m .flips) → m .faces ≤ m .counts .faces
+  pub kept : (m : Extended) → Good (m .counts) (m .links) (positionOf q)
+      → FlipsBound (m .counts) (m .links) (positionOf q) (m .flips) → m .faces ≤ m .counts .faces
       → m .counts .vertices ≤ length o → 2 * m .counts .vertices ≤ length q → MeshRoom (m .counts .vertices) h a row
-      → {o′ h′ a′ row′ : List ℕ} {g : Added} → Closings (positionOf q) m (extendedOf o′ h′ a′ g) → SameLengths o h a row o′ h′ a′ row′ → Ready q o′ h′ a′ row′ g
+      → {o′ h′ a′ row′ : List ℕ} {g : Added} → Closings (positionOf q) m (extendedOf o′ h′ a′ g)
+      → SameLengths o h a row o′ h′ a′ row′ → Ready q o′ h′ a′ row′ g
   unfolding extendedOf
   kept m G B f u v s {o′} {h′} {a′} c l =
       let n = closings-count c in

@@ -1,4 +1,5 @@
--- 01: "mesh and answer entries past the counts in use are untouched": of flips, of corners closed, and of the rows that are made of the links again.
+-- 01: "mesh and answer entries past the counts in use are untouched": of flips, of corners closed, and of the rows that
+-- are made of the links again.
 -- Assumes nothing.
 use mathlib.Core.List.{List}
 use mathlib.Core.Path.{_≡_, refl, sym, _∙_, ap, ap₂, fun-ext}
@@ -72,7 +73,8 @@ flip-untouched {C} {L} W {u} l =
       adjacent = λ f k. past _ _ _ k (W .ranges .face< t) ∙ past _ _ _ k (W .ranges .face< e);
     }
 
-pub single-face-untouched : {C : Counts} {L : Links} → Wf C L → {e : ℕ} → In C e → Untouched (withFace C) L (createSingleFaceBetweenEdgeAndNext L C e)
+pub single-face-untouched : {C : Counts} {L : Links} → Wf C L → {e : ℕ} → In C e
+    → Untouched (withFace C) L (createSingleFaceBetweenEdgeAndNext L C e)
 unfolding createSingleFaceBetweenEdgeAndNext faceBetween
 single-face-untouched {C} {L} W {e} l =
     let p = W .ranges .prev< l in let n = W .ranges .next< l in let q = W .ranges .next< n in
@@ -92,7 +94,8 @@ single-face-untouched {C} {L} W {e} l =
     }
 
 -- the new vertex and its first face
-pub new-face-untouched : {C : Counts} {L : Links} → Wf C L → {e : ℕ} → In C e → Untouched (withVertex C) L (createNewFaceAdjacentToEdge L C e)
+pub new-face-untouched : {C : Counts} {L : Links} → Wf C L → {e : ℕ} → In C e
+    → Untouched (withVertex C) L (createNewFaceAdjacentToEdge L C e)
 unfolding createNewFaceAdjacentToEdge faceAdjacent
 new-face-untouched {C} {L} W {e} l =
     let p = W .ranges .prev< l in let n = W .ranges .next< l in
@@ -120,11 +123,13 @@ pub run-untouched : {C : Counts} {p : ℕ → Point} {L M : Links} {n : ℕ} →
 run-untouched G runs.none = untouched-none
 run-untouched G (runs.then r u l b) = untouched-join grown-same (run-untouched G r) (flip-untouched (run-good G r .wf) l)
 
-corner-untouched : {p : ℕ → Point} {m m′ : Extended} {e : ℕ} → Good (m .counts) (m .links) p → CornerClosed p m m′ e → Untouched (m′ .counts) (m .links) (m′ .links)
+corner-untouched : {p : ℕ → Point} {m m′ : Extended} {e : ℕ} → Good (m .counts) (m .links) p → CornerClosed p m m′ e
+    → Untouched (m′ .counts) (m .links) (m′ .links)
 corner-untouched {p} {m} {m′} G S =
     rw (S .counts) (untouched-join grown-same (single-face-untouched (G .wf) (S .edge)) (run-untouched (single-face-good G (S .edge) (S .outer) (S .left)) (S .run)))
 
-pub closings-untouched : {p : ℕ → Point} {m n : Extended} → Good (m .counts) (m .links) p → Closings p m n → Untouched (n .counts) (m .links) (n .links)
+pub closings-untouched : {p : ℕ → Point} {m n : Extended} → Good (m .counts) (m .links) p → Closings p m n
+    → Untouched (n .counts) (m .links) (n .links)
 closings-untouched G none = untouched-none
 closings-untouched {n = n} G (then {k = k} a e S) =
     let v = ap (λ (C : Counts). C .vertices) (S .counts) in
@@ -152,7 +157,8 @@ row-back {A} l d f i absent = go (decLt i (length l))
     go (no b) = let s = length-from (length l) f in List·getD-eq-default (rowFrom (length l) f) d (omega arith) ∙ sym (absent (omega arith))
 
 -- s entries to each number x: entry s * x + k is g x k. From the number n on they are those of the row before
-strided-back : {A : Type 0} (s : ℕ) (l : List A) (d : A) (g : ℕ → ℕ → A) (n k : ℕ) → k < s → s * n ≤ length l → ((x : ℕ) → n ≤ x → g x k ≡ getD l (s * x + k) d)
+strided-back : {A : Type 0} (s : ℕ) (l : List A) (d : A) (g : ℕ → ℕ → A) (n k : ℕ) → k < s → s * n ≤ length l
+    → ((x : ℕ) → n ≤ x → g x k ≡ getD l (s * x + k) d)
     → (x : ℕ) → getD (rowFrom (length l) (λ i. g (i / s) (i % s))) (s * x + k) d ≡ g x k
 strided-back {A} s l d g n k b m u x = row-back l d (λ i. g (i / s) (i % s)) (s * x + k) (λ w. at-place ∙ u x (past-n w) ∙ List·getD-eq-default l d w) ∙ at-place
   where
@@ -163,7 +169,8 @@ strided-back {A} s l d g n k b m u x = row-back l d (λ i. g (i / s) (i % s)) (s
     past-n w = let e = mul-suc s x in let y : n < suc x = lt-of-mul-lt-mul-left s (omega arith) in omega arith
 
 -- field k of half-edge x
-half-back : (h : List ℕ) (L : Links) (n k : ℕ) → k < 4 → 8 * n ≤ length h → ((x : ℕ) → 2 * n ≤ x → field (halvesIn L) x k ≡ getD h (4 * x + k) 0)
+half-back : (h : List ℕ) (L : Links) (n k : ℕ) → k < 4 → 8 * n ≤ length h
+    → ((x : ℕ) → 2 * n ≤ x → field (halvesIn L) x k ≡ getD h (4 * x + k) 0)
     → (x : ℕ) → getD (halvesFrom (length h) L) (4 * x + k) 0 ≡ field (halvesIn L) x k
 unfolding halvesFrom
 half-back h L n k l m = strided-back 4 h 0 (field (halvesIn L)) (2 * n) k l (omega arith)
@@ -173,7 +180,8 @@ zero-more : (s x : ℕ) → s * x ≡ s * x + 0
 zero-more s x = omega arith
 
 -- the row that is made of positions holds them, where it held those of the vertices from n on
-pub positions-back : (q : List ℤ) (P : ℕ → Point) (n : ℕ) → 2 * n ≤ length q → ((v : ℕ) → n ≤ v → P v ≡ positionOf q v) → positionOf (positionsFrom (length q) P) ≡ P
+pub positions-back : (q : List ℤ) (P : ℕ → Point) (n : ℕ) → 2 * n ≤ length q
+    → ((v : ℕ) → n ≤ v → P v ≡ positionOf q v) → positionOf (positionsFrom (length q) P) ≡ P
 unfolding positionOf positionsFrom coordinate
 positions-back q P n m u = fun-ext (λ v. ap₂ point-of (first v) (second v))
   where

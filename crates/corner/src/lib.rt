@@ -1,5 +1,6 @@
-// A corner of the boundary that turns left is closed: one face more (`create_single_face_between_edge_and_next`), and two edges legalized after it. This is what the walks of a step and the
-// passes of `fix_convexity` do again and again (bulk_load.rs). What is left is `closeCorner` of specs/Corner.antt; its laws are in specs/CornerLaws.antt.
+// A corner of the boundary that turns left is closed: one face more (`create_single_face_between_edge_and_next`), and
+// two edges legalized after it. This is what the walks of a step and the passes of `fix_convexity` do again and again
+// (bulk_load.rs). What is left is `closeCorner` of specs/Corner.antt; its laws are in specs/CornerLaws.antt.
 ghost use mathlib.Core.Bool.{_||_};
 ghost use mathlib.Core.Path.{_≡_};
 ghost use lib.Dec.{eqb};

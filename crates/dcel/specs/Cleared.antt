@@ -1,4 +1,5 @@
--- A row that is filled with one value from the front, as `clear` does with zeros: what holds on the way, and at the end. For rows of anything. Assumes nothing.
+-- A row that is filled with one value from the front, as `clear` does with zeros: what holds on the way, and at the
+-- end. For rows of anything. Assumes nothing.
 use Prim.Native.Nat.{ℕ, _+_, _<_, _≤_}
 use native.Mathlib.Decide.{ℕ-discrete}
 use native.Mathlib.Omega.{arith}

@@ -1,5 +1,5 @@
 pub mod Rows
 pub mod Far
 pub mod Views
-pub mod Held
+pub mod MeshHeld
 pub mod Cleared

@@ -1,9 +1,11 @@
--- The rows of a mesh that the caller lends, seen as functions: a contract says what becomes of these functions, and nothing of how a row is laid out.
+-- The rows of a mesh that the caller lends, seen as functions: a contract says what becomes of these functions, and
+-- nothing of how a row is laid out.
 -- The rows come in the order of the signatures: out edges, half-edges, faces. Definitions only; their laws are in `Views`.
 --
--- A function sees every entry of its row, and 0 past the end: entry 4x + k of the row of half-edges is field k of half-edge x for every x, whether or not x is
--- in use, and also where the row's end cuts x off. So an equation of functions and the kept lengths fix each row over its whole length (`halves-from`,
--- `outs-from` and `faces-from` in `Views`), an entry that no store names keeps its value, and no contract needs a second clause on lists.
+-- A function sees every entry of its row, and 0 past the end: entry 4x + k of the row of half-edges is field k of
+-- half-edge x for every x, whether or not x is in use, and also where the row's end cuts x off. So an equation of
+-- functions and the kept lengths fix each row over its whole length (`halves-from`, `outs-from` and `faces-from` in
+-- `Views`), an entry that no store names keeps its value, and no contract needs a second clause on lists.
 use Prim.Native.Nat.{ℕ, zero, suc, _+_, _*_, _/_, _%_, _<_}
 use mathlib.Core.Path.{_≡_}
 use mathlib.Core.List.{List, [], _∷_}
@@ -11,6 +13,7 @@ use lib.IntN.{ℤ, pos}
 use lib.ListN.{length, getD}
 use Rattle.sums.specs.Put.{put}
 use Rattle.math.specs.declared.Point.{Point}
+use Rattle.math.specs.Determinant.{InRange}
 use Rattle.mesh.specs.Mesh.{Links}
 use Rattle.dcel.specs.declared.handles.HalfEdgeEntry.{HalfEdgeEntry}
 
@@ -47,6 +50,11 @@ linksOf o h a =
 -- the four numbers of half-edge e are in the row
 abbrev pub There : List ℕ → ℕ → Type 0
 There h e = 4 * e + 3 < length h
+
+-- vertex v has a position in the row, and it is in range
+pub record Placed (q : List ℤ) (v : ℕ) : Type 0 where
+  pub there : 2 * v + 1 < length q
+  pub range : InRange (positionOf q v)
 
 -- stores to one field of one half-edge
 unfoldable pub setNext : Halves → ℕ → ℕ → Halves

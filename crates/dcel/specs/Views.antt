@@ -1,5 +1,5 @@
--- Laws of the rows seen as functions, for the callers: the links of the three rows are those of each row, a row's functions and its length fix the row over its
--- whole length, and the far vertex by cases. Assumes nothing.
+-- Laws of the rows seen as functions, for the callers: the links of the three rows are those of each row, a row's
+-- functions and its length fix the row over its whole length, and the far vertex by cases. Assumes nothing.
 use Prim.Native.Nat.{ℕ, zero, suc, _+_, _*_, _/_, _%_, _<_}
 use native.Mathlib.Omega.{arith}
 use mathlib.Core.Path.{_≡_, refl, ap, sym, _∙_}
@@ -67,7 +67,7 @@ module _ {A : Type 0} where
   getD-from (suc n) f d (suc i) l = getD-from n (λ i. f (suc i)) d i (omega arith)
 
   -- a row is made of its own entries
-  from-entries : (l : List A) (f : ℕ → A) (d : A) → ((i : ℕ) → getD l i d ≡ f i) → l ≡ rowFrom (length l) f
+  pub from-entries : (l : List A) (f : ℕ → A) (d : A) → ((i : ℕ) → getD l i d ≡ f i) → l ≡ rowFrom (length l) f
   from-entries l f d e =
       ext-getD d l (rowFrom (length l) f) (sym (length-from (length l) f)) (λ i k. e i ∙ sym (getD-from (length l) f d i k))
 

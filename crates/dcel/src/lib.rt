@@ -1,4 +1,5 @@
-// The rows of a half-edge mesh, which the caller lends: what stands there, and stores. A contract says what becomes of the rows seen as functions (specs/Rows.antt).
+// The rows of a half-edge mesh, which the caller lends: what stands there, and stores. A contract says what becomes of
+// the rows seen as functions (specs/Rows.antt).
 ghost use mathlib.Core.Path.{_≡_};
 ghost use Prim.Native.Nat.{ℕ, _+_, _*_, _<_, _≤_, _^_};
 ghost use mathlib.Core.List.{List};
@@ -105,7 +106,8 @@ pub fn position(positions: &[i32], v: u32) -> Point
 // The far vertex over a half-edge.
 pub fn far(halves: &[u32], e: u32) -> Far
     requires { ⌜ There (now halves) e × There (now halves) (halvesOf (now halves) .prev e) ⌝ }
-    ensures { λ r. ⌜ r ≡ farIn (halvesOf (now (halves .entry)) .face e) (halvesOf (now (halves .entry)) .origin (halvesOf (now (halves .entry)) .prev e)) ⌝ }
+    ensures { λ r. ⌜ r ≡ farIn (halvesOf (now (halves .entry)) .face e)
+        (halvesOf (now (halves .entry)) .origin (halvesOf (now (halves .entry)) .prev e)) ⌝ }
 {
     let f = face(halves, e);
     if f == 0 {

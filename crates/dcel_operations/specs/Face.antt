@@ -1,5 +1,6 @@
--- What the two operations that add a face store in the row of half-edges, what they touch, and what they ensure. The links that they make are
--- `createSingleFaceBetweenEdgeAndNext` and `createNewFaceAdjacentToEdge` in the mesh's `Operations`.
+-- What the two operations that add a face store in the row of half-edges, what they touch, and what they ensure. The
+-- links that they make are `createSingleFaceBetweenEdgeAndNext` and `createNewFaceAdjacentToEdge` in the mesh's
+-- `Operations`.
 use Prim.Native.Nat.{ℕ, _+_, _*_, _<_, _^_}
 use mathlib.Core.Path.{_≡_}
 use mathlib.Core.List.{List}
@@ -11,7 +12,8 @@ use Rattle.dcel.specs.declared.handles.HalfEdgeEntry.{HalfEdgeEntry}
 use Rattle.dcel.specs.Rows.{Halves, halvesOf, linksOf, There, setNext, setPrev, setFace, setOrigin, setLink, setHalfEdge}
 use Rattle.dcel_operations.specs.declared.NewEdge.{NewEdge}
 
--- `create_single_face_between_edge_and_next`: the new half-edge i closes the triangle e, n, i, and o takes the place of e and n between p and q
+-- `create_single_face_between_edge_and_next`: the new half-edge i closes the triangle e, n, i, and o takes the place of
+-- e and n between p and q
 unfoldable pub singleLinks : Halves → ℕ → ℕ → ℕ → ℕ → ℕ → ℕ → Halves
 singleLinks H p e n q i o = setLink (setLink (setLink (setLink H i e) n i) o q) p o
 
@@ -31,13 +33,15 @@ pub record SingleReady (h a : List ℕ) (C : Counts) (e : ℕ) : Type 0 where
   pub after : There h (halvesOf h .next (halvesOf h .next e))
   pub back : There h (rev (halvesOf h .next e))
 
--- what it leaves: the links, whatever the out edges, which it does not touch; the counts with one edge and one face more; the new half-edge of the outer face
+-- what it leaves: the links, whatever the out edges, which it does not touch; the counts with one edge and one face
+-- more; the new half-edge of the outer face
 pub record SingleFace (h a h′ a′ : List ℕ) (C : Counts) (e : ℕ) (r : NewEdge) : Type 0 where
   pub links : (o : List ℕ) → linksOf o h′ a′ ≡ createSingleFaceBetweenEdgeAndNext (linksOf o h a) C e
   pub result : r ≡ record { counts = withFace C; edge = 2 * C .edges + 1 }
 
--- `create_new_face_adjacent_to_edge`: the four new half-edges, a = new_next and b = new_prev with their reverses, about the outer half-edge e between p and n,
--- with the new face g and the new vertex v. w is what stood at e, to is where e leads
+-- `create_new_face_adjacent_to_edge`: the four new half-edges, a = new_next and b = new_prev with their reverses, about
+-- the outer half-edge e between p and n, with the new face g and the new vertex v. w is what stood at e, to is where e
+-- leads
 unfoldable pub newEdges : Halves → ℕ → ℕ → ℕ → ℕ → ℕ → HalfEdgeEntry → Halves
 newEdges H a e g v to w =
     let b = a + 2 in

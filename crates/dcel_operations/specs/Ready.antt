@@ -7,11 +7,11 @@ use Rattle.mesh.specs.declared.Counts.{Counts}
 use Rattle.mesh.specs.Mesh.{In}
 use Rattle.mesh.specs.Operations.{withFace, withVertex}
 use Rattle.dcel.specs.Rows.{halvesOf, There}
-use Rattle.dcel.specs.Held.{Room, Held, there, there-rev, next-in, prev-in, face-in, origin-in, counts-fit}
+use Rattle.dcel.specs.MeshHeld.{Room, MeshHeld, there, there-rev, next-in, prev-in, face-in, origin-in, counts-fit}
 use Rattle.dcel_operations.specs.Flip.{Names, FlipReady}
 use Rattle.dcel_operations.specs.Face.{SingleReady, NewReady}
 
-module _ {C : Counts} {o h a : List ℕ} (H : Held C o h a) where
+module _ {C : Counts} {o h a : List ℕ} (H : MeshHeld C o h a) where
   names : {e : ℕ} → In C e → Names o h a e
   names l =
       let f = face-in H l in

@@ -1,5 +1,6 @@
-// The operations that change links, each link as dcel_operations.rs stores it, on rows that the caller lends. Each requires only that what it touches is in the
-// rows and that the numbers fit; `Ready` in specs/ gives that for a mesh that keeps the rules.
+// The operations that change links, each link as dcel_operations.rs stores it, on rows that the caller lends. Each
+// requires only that what it touches is in the rows and that the numbers fit; `Ready` in specs/ gives that for a mesh
+// that keeps the rules.
 ghost use mathlib.Core.Path.{_≡_};
 ghost use Prim.Native.Nat.{ℕ, _+_, _*_, _<_, _≤_, _^_};
 ghost use mathlib.Core.List.{List};
@@ -18,7 +19,8 @@ pub struct NewEdge {
 
 // The links of the flip: the triangles e, en, ep and t, tn, tp become e, tp, en and t, ep, tn.
 fn flip_links(halves: &mut [u32], e: u32, en: u32, ep: u32, t: u32, tn: u32, tp: u32)
-    requires { ⌜ There (now halves) e × There (now halves) en × There (now halves) ep × There (now halves) t × There (now halves) tn × There (now halves) tp ⌝ }
+    requires { ⌜ There (now halves) e × There (now halves) en × There (now halves) ep
+        × There (now halves) t × There (now halves) tn × There (now halves) tp ⌝ }
     ensures { λ r. ⌜ halvesOf (now (halves .exit)) ≡ flipLinks (halvesOf (now (halves .entry))) e en ep t tn tp ⌝ }
 {
     dcel::set_cycle(halves, e, tp, en);
@@ -41,7 +43,8 @@ fn flip_marks(halves: &mut [u32], e: u32, ep: u32, t: u32, tp: u32, ef: u32, tf:
 // Turns the edge u between two triangles into the other diagonal of their quadrilateral.
 pub fn flip_cw(outs: &mut [u32], halves: &mut [u32], faces: &mut [u32], u: u32)
     requires { ⌜ FlipReady (now outs) (now halves) (now faces) u ⌝ }
-    ensures { λ r. ⌜ linksOf (now (outs .exit)) (now (halves .exit)) (now (faces .exit)) ≡ flipCw (linksOf (now (outs .entry)) (now (halves .entry)) (now (faces .entry))) u ⌝ }
+    ensures { λ r. ⌜ linksOf (now (outs .exit)) (now (halves .exit)) (now (faces .exit))
+        ≡ flipCw (linksOf (now (outs .entry)) (now (halves .entry)) (now (faces .entry))) u ⌝ }
 {
     let e = 2 * u;
     let t = e + 1;
@@ -57,7 +60,8 @@ pub fn flip_cw(outs: &mut [u32], halves: &mut [u32], faces: &mut [u32], u: u32)
 
 // The links of the new triangle e, n, i and of the boundary p, o, q.
 fn single_links(halves: &mut [u32], p: u32, e: u32, n: u32, q: u32, i: u32, o: u32)
-    requires { ⌜ There (now halves) p × There (now halves) e × There (now halves) n × There (now halves) q × There (now halves) i × There (now halves) o ⌝ }
+    requires { ⌜ There (now halves) p × There (now halves) e × There (now halves) n
+        × There (now halves) q × There (now halves) i × There (now halves) o ⌝ }
     ensures { λ r. ⌜ halvesOf (now (halves .exit)) ≡ singleLinks (halvesOf (now (halves .entry))) p e n q i o ⌝ }
 {
     dcel::set_link(halves, i, e);
@@ -179,7 +183,8 @@ pub fn create_new_face_adjacent_to_edge(
     e: u32,
 ) -> Counts
     requires { ⌜ NewReady (now outs) (now halves) (now faces) counts e ⌝ }
-    ensures { λ r. ⌜ NewFace (now (outs .entry)) (now (halves .entry)) (now (faces .entry)) (now (outs .exit)) (now (halves .exit)) (now (faces .exit)) counts e r ⌝ }
+    ensures { λ r. ⌜ NewFace (now (outs .entry)) (now (halves .entry)) (now (faces .entry))
+        (now (outs .exit)) (now (halves .exit)) (now (faces .exit)) counts e r ⌝ }
 {
     let a = 2 * counts.edges;
     let b = a + 2;

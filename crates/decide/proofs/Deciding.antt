@@ -10,7 +10,7 @@ use lib.IntN.{ℤ}
 use Rattle.angle.specs.Angle.{IsAngle, turns}
 use Rattle.circle_test.specs.GoodRows.{held}
 use Rattle.dcel.specs.Rows.{halvesOf, linksOf, positionOf}
-use Rattle.dcel.specs.Held.{counts-fit}
+use Rattle.dcel.specs.MeshHeld.{counts-fit}
 use Rattle.hull.specs.Boundary.{Angled, AngleAt, AngledBoundary, edgeAt, originTurns}
 use Rattle.hull.specs.Ready.{size-small}
 use Rattle.math.specs.declared.LineSideInfo.{LineSideInfo}

@@ -13,7 +13,7 @@ use mir.Syntax.{w32}
 use mir.Val.{SFits, ofZ, toZ}
 use Rattle.angle.specs.Angle.{turns, angleAbout, atCenter}
 use Rattle.dcel.specs.Rows.{linksOf}
-use Rattle.hull.specs.Boundary.{originAtCenter, originTurns, vertexAtCenter}
+use Rattle.hull.specs.Boundary.{vertexAtCenter}
 use Rattle.math.specs.declared.LineSideInfo.{LineSideInfo}
 use Rattle.math.specs.declared.Point.{Point}
 use Rattle.math.specs.Determinant.{InRange, orient2d, sideOf, isOnLeftSide, isBehindEdge}
@@ -24,7 +24,7 @@ use Rattle.sums.specs.Bit.{eq-test, test-ext}
 use Rattle.sums.specs.Half.{rev}
 use Rattle.decide.specs.declared.Ends.{Ends}
 use Rattle.decide.specs.Decide.{isCoordinate, isPosition}
-use Rattle.decide.specs.Walks.{originPosition, EndsIn, EndsOf, leftTest, rightTest}
+use Rattle.decide.specs.Walks.{originPosition, EndsIn, EndsOf, ToCover, coverTest, leftTest, rightTest, ToTest}
 
 -- ---- equal positions
 same-coordinate : (a b : ℤ) → T (isCoordinate a b) → a ≡ b
@@ -60,17 +60,6 @@ module _ (a b : Point) (f : SFits w32 (a .x)) (g : SFits w32 (b .x)) where
       coordinate-bits i j
       ∙ ap (λ (t : Bool). t && isCoordinate (a .y) (b .y)) (sym (eq-eqb (ofZ w32 (a .x)) (ofZ w32 (b .x)) e) ∙ coordinate-bits f g)
 
--- ---- a position that is read, and the angle there
-module _ (q : List ℤ) (h : List ℕ) (cx cy : Float) (e : ℕ) {P : Point} {x y : ℤ}
-    (r : P ≡ originPosition q h e) (x-is : x ≡ P .x) (y-is : y ≡ P .y) where
-  pub apart-at : T (not (originAtCenter q h cx cy e)) → T (not (atCenter x y cx cy))
-  unfolding vertexAtCenter
-  apart-at t = rw (x-is, y-is, r) t
-
-  pub turns-at : {g : Float} → g ≡ angleAbout x y cx cy → turns g ≡ originTurns q h cx cy e
-  unfolding turnsAbout
-  turns-at z = ap turns z ∙ rw (x-is, y-is, r)
-
 -- ---- the tests of the walks, by the side first and by the angle last
 unseen : (x : Bool) {t s : Bool} → t ≡ s → not t ≡ true → false ≡ (x && s)
 unseen true {t} e z = sym (not-true t z) ∙ e
@@ -86,6 +75,35 @@ level {u} {w} {t} {s} {b} e z f y g = g ∙ rw (← f, ← e, not-false t z, not
     same true = refl
     same false = refl
 
+-- the side, from what was read
+module _ (r : Ends) (v : Point) {s : LineSideInfo} {t : Bool} (i : s ≡ sideOf (orient2d (r .from) (r .to) v)) (j : t ≡ isOnLeftSide s) where
+  left-read : t ≡ ltZ (pos 0) (orient2d (r .from) (r .to) v)
+  left-read = j ∙ ap isOnLeftSide i ∙ on-left (orient2d (r .from) (r .to) v)
+
+  module _ (behind : Bool) (near : Point) (cx cy a : Float) where
+    abbrev level-with : Bool
+    level-with = eqb (turns a) (turns (angleAbout (near .x) (near .y) cx cy))
+
+    pub test-unseen : not t ≡ true → false ≡ coverTest r v behind near cx cy a
+    unfolding coverTest
+    test-unseen = unseen (not behind || level-with) left-read
+
+    module _ (z : not t ≡ false) where
+      pub test-ahead : not behind ≡ true → true ≡ coverTest r v behind near cx cy a
+      unfolding coverTest
+      test-ahead = ahead level-with {b = behind} left-read z refl
+
+      pub test-level : not behind ≡ false → {x y : ℤ} {g : Float} {u : Bool} → x ≡ near .x → y ≡ near .y
+          → g ≡ angleAbout x y cx cy → u ≡ eqb (turns a) (turns g) → u ≡ coverTest r v behind near cx cy a
+      unfolding coverTest
+      test-level k x-is y-is g-is u-is =
+          level {w = level-with} {b = behind} left-read z refl k
+          (u-is ∙ ap (λ (g : Float). eqb (turns a) (turns g)) {y = angleAbout (near .x) (near .y) cx cy} (g-is ∙ rw (x-is, y-is)))
+
+pub apart-read : (near : Point) (cx cy : Float) {x y : ℤ} → x ≡ near .x → y ≡ near .y → T (not (atCenter (near .x) (near .y) cx cy))
+    → T (not (atCenter x y cx cy))
+apart-read near cx cy x-is y-is t = rw (x-is, y-is) t
+
 module _ (q : List ℤ) (h : List ℕ) (d : ℕ) {r : Ends} (E : EndsOf q h d r) where
   pub from-range : EndsIn q h d → InRange (r .from)
   from-range R = rw (E .from) (R .from .range)
@@ -93,47 +111,37 @@ module _ (q : List ℤ) (h : List ℕ) (d : ℕ) {r : Ends} (E : EndsOf q h d r)
   pub to-range : EndsIn q h d → InRange (r .to)
   to-range R = rw (E .to) (R .to .range)
 
-  module _ (v : Point) {s : LineSideInfo} {t : Bool} (i : s ≡ sideOf (orient2d (r .from) (r .to) v)) (j : t ≡ isOnLeftSide s) where
-    pub sees-is : t ≡ ltZ (pos 0) (orient2d (originPosition q h d) (originPosition q h (rev d)) v)
-    sees-is =
-        j ∙ ap isOnLeftSide i ∙ on-left (orient2d (r .from) (r .to) v)
-        ∙ ap₂ (λ (x y : Point). ltZ (pos 0) (orient2d x y v)) (E .from) (E .to)
+  module _ (v : Point) where
+    pub sees-is : {s : LineSideInfo} {t : Bool} → s ≡ sideOf (orient2d (r .from) (r .to) v) → t ≡ isOnLeftSide s
+        → t ≡ ltZ (pos 0) (orient2d (originPosition q h d) (originPosition q h (rev d)) v)
+    sees-is i j = left-read r v i j ∙ ap₂ (λ (x y : Point). ltZ (pos 0) (orient2d x y v)) (E .from) (E .to)
 
+    -- the two tests, by the ends that were read
     module _ (cx cy a : Float) where
-      pub left-unseen : not t ≡ true → false ≡ leftTest q h cx cy v a d
-      unfolding leftTest coversLeft linksOf
-      left-unseen = unseen
-          (not (isBehindEdge v (originPosition q h (rev d)) (originPosition q h d)) || eqb (turns a) (originTurns q h cx cy (rev d)))
-          sees-is
+      to-cover : (P : ToTest q h cx cy v a d) (near : Point) → T (not (atCenter (near .x) (near .y) cx cy)) → ToCover r v near cx cy a
+      to-cover P near apart = record {
+        from = from-range (P .edge .ends);
+        to = to-range (P .edge .ends);
+        range = P .range;
+        is-angle = P .is-angle;
+        valid = P .edge .valid;
+        apart = apart;
+      }
 
-      pub right-unseen : not t ≡ true → false ≡ rightTest q h cx cy v a d
-      unfolding rightTest coversRight linksOf
-      right-unseen = unseen
-          (not (isBehindEdge (originPosition q h d) v (originPosition q h (rev d))) || eqb (turns a) (originTurns q h cx cy d))
-          sees-is
+      pub to-cover-left : ToTest q h cx cy v a d → ToCover r v (r .to) cx cy a
+      unfolding vertexAtCenter
+      to-cover-left P = to-cover P (r .to) (rw (E .to) (P .edge .to))
 
-      module _ (z : not t ≡ false) {b : Bool} (k : b ≡ isBehindEdge v (r .to) (r .from)) where
-        left-behind : b ≡ isBehindEdge v (originPosition q h (rev d)) (originPosition q h d)
-        left-behind = k ∙ ap₂ (isBehindEdge v) (E .to) (E .from)
+      pub to-cover-right : ToTest q h cx cy v a d → ToCover r v (r .from) cx cy a
+      unfolding vertexAtCenter
+      to-cover-right P = to-cover P (r .from) (rw (E .from) (P .edge .from))
 
-        pub left-ahead : not b ≡ true → true ≡ leftTest q h cx cy v a d
-        unfolding leftTest coversLeft linksOf
-        left-ahead = ahead _ sees-is z left-behind
+      pub left-is : {b t : Bool} → b ≡ isBehindEdge v (r .to) (r .from) → t ≡ coverTest r v b (r .to) cx cy a
+          → t ≡ leftTest q h cx cy v a d
+      unfolding leftTest coversLeft coverTest linksOf turnsAbout
+      left-is k e = e ∙ rw (k, E .from, E .to)
 
-        pub left-level : not b ≡ false → {g : ℕ} {u : Bool} → g ≡ originTurns q h cx cy (rev d) → u ≡ eqb (turns a) g
-            → u ≡ leftTest q h cx cy v a d
-        unfolding leftTest coversLeft linksOf
-        left-level y g-is u-is = level sees-is z left-behind y (u-is ∙ ap (eqb (turns a)) g-is)
-
-      module _ (z : not t ≡ false) {b : Bool} (k : b ≡ isBehindEdge (r .from) v (r .to)) where
-        right-behind : b ≡ isBehindEdge (originPosition q h d) v (originPosition q h (rev d))
-        right-behind = k ∙ ap₂ (λ (x y : Point). isBehindEdge x v y) (E .from) (E .to)
-
-        pub right-ahead : not b ≡ true → true ≡ rightTest q h cx cy v a d
-        unfolding rightTest coversRight linksOf
-        right-ahead = ahead _ sees-is z right-behind
-
-        pub right-level : not b ≡ false → {g : ℕ} {u : Bool} → g ≡ originTurns q h cx cy d → u ≡ eqb (turns a) g
-            → u ≡ rightTest q h cx cy v a d
-        unfolding rightTest coversRight linksOf
-        right-level y g-is u-is = level sees-is z right-behind y (u-is ∙ ap (eqb (turns a)) g-is)
+      pub right-is : {b t : Bool} → b ≡ isBehindEdge (r .from) v (r .to) → t ≡ coverTest r v b (r .from) cx cy a
+          → t ≡ rightTest q h cx cy v a d
+      unfolding rightTest coversRight coverTest linksOf turnsAbout
+      right-is k e = e ∙ rw (k, E .from, E .to)

@@ -10,9 +10,9 @@ use lib.Dec.{T, T-not, not-T}
 use lib.Ieee.{Float}
 use lib.IntN.{ℤ}
 use Rattle.angle.specs.Angle.{IsAngle, turns}
-use Rattle.circle_test.specs.GoodRows.{GoodRows, Placed, held}
-use Rattle.dcel.specs.Rows.{halvesOf, linksOf, positionOf, rowOf}
-use Rattle.dcel.specs.Held.{there, there-rev, origin-in, to-in}
+use Rattle.circle_test.specs.GoodRows.{GoodRows, held}
+use Rattle.dcel.specs.Rows.{halvesOf, linksOf, positionOf, rowOf, Placed}
+use Rattle.dcel.specs.MeshHeld.{there, there-rev, origin-in, to-in}
 use Rattle.hull.specs.Boundary.{AngledBoundary, originAtCenter, vertexAtCenter}
 use Rattle.hull.specs.Ready.{angled-boundary, size-small}
 use Rattle.math.specs.declared.Point.{Point}

@@ -1,18 +1,19 @@
 -- What the parts of a decision ask of the rows, and what they answer. The tests and the walks are for any point in range and any angle
 -- that they are handed, and read the rows of positions and half-edges alone. Definitions only.
 use Prim.Native.Nat.{ℕ, suc, _<_, _^_}
-use mathlib.Core.Bool.{Bool, not}
+use mathlib.Core.Bool.{Bool, not, _&&_, _||_}
 use mathlib.Core.List.{List, []}
 use mathlib.Core.Path.{_≡_}
-use lib.Dec.{T}
+use lib.Dec.{T, eqb}
 use lib.Ieee.{Float}
-use lib.IntN.{ℤ}
-use Rattle.angle.specs.Angle.{IsAngle, turns, angleAbout, validCenter}
-use Rattle.circle_test.specs.GoodRows.{GoodRows, Placed}
-use Rattle.dcel.specs.Rows.{halvesOf, linksOf, positionOf, There}
+use lib.IntN.{ℤ, pos}
+use lib.Signed.{ltZ}
+use Rattle.angle.specs.Angle.{IsAngle, turns, angleAbout, atCenter, validCenter}
+use Rattle.circle_test.specs.GoodRows.{GoodRows}
+use Rattle.dcel.specs.Rows.{halvesOf, linksOf, positionOf, There, Placed}
 use Rattle.hull.specs.Boundary.{AngleAt, AngledBoundary, edgeAt, originAtCenter, originTurns}
 use Rattle.math.specs.declared.Point.{Point}
-use Rattle.math.specs.Determinant.{InRange}
+use Rattle.math.specs.Determinant.{InRange, orient2d}
 use Rattle.mesh.specs.declared.Counts.{Counts}
 use Rattle.mesh.specs.Mesh.{In}
 use Rattle.mesh.specs.Area.{boundaryLength}
@@ -56,6 +57,21 @@ pub record EdgeAbout (q : List ℤ) (h : List ℕ) (cx cy : Float) (e : ℕ) : T
   pub to : T (not (originAtCenter q h cx cy (rev e)))
 
 -- ---- the tests of the two walks, for the point v and the angle a
+-- what they share, where the ends of the edge and the position `near` of one of them are read: v is strictly left of
+-- the edge, and is not behind or has the angle at `near`
+unfoldable pub coverTest : Ends → Point → Bool → Point → Float → Float → Float → Bool
+coverTest r v behind near cx cy a =
+    (not behind || eqb (turns a) (turns (angleAbout (near .x) (near .y) cx cy)))
+    && ltZ (pos 0) (orient2d (r .from) (r .to) v)
+
+pub record ToCover (r : Ends) (v near : Point) (cx cy a : Float) : Type 0 where
+  pub from : InRange (r .from)
+  pub to : InRange (r .to)
+  pub range : InRange v
+  pub is-angle : IsAngle a
+  pub valid : T (validCenter cx cy)
+  pub apart : T (not (atCenter (near .x) (near .y) cx cy))
+
 -- They read origins alone, so that the rows of out edges and of faces do not matter (`left-rows`, `right-rows` in `WalkLaws`).
 unfoldable pub leftTest : List ℤ → List ℕ → Float → Float → Point → Float → ℕ → Bool
 leftTest q h cx cy v a d = coversLeft (linksOf [] h []) (positionOf q) (turnsAbout cx cy (positionOf q)) v (turns a) d

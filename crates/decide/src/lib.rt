@@ -1,13 +1,14 @@
-// What a step decides about a point before it changes anything (bulk_load.rs, `single_bulk_insertion_step` up to its first change, and the tests of its two loops): the located edge, the fate,
-// and how many boundary edges the two walks cover. Nothing is written. What is decided is `decided` of specs/Decide.antt.
+// What a step decides about a point before it changes anything (bulk_load.rs, `single_bulk_insertion_step` up to its
+// first change, and the tests of its two loops): the located edge, the fate, and how many boundary edges the two walks
+// cover. Nothing is written. What is decided is `decided` of specs/Decide.antt.
 ghost use mathlib.Core.List.{List};
 ghost use mathlib.Core.Path.{_≡_};
 ghost use Prim.Native.Nat.{ℕ};
 ghost use Rattle.dcel.specs.Rows.{linksOf, positionOf};
 ghost use Rattle.mesh.specs.declared.Counts.{Counts};
-ghost use Rattle.decide.specs.Decide.{decided, isPosition};
+ghost use Rattle.decide.specs.Decide.{fateNumber, fateVertex, decided, isPosition};
 ghost use Rattle.decide.specs.Sweep.{Sweep, ToDecide, Decides};
-ghost use Rattle.decide.specs.Walks.{EndsIn, EndsOf, leftTest, rightTest, ToTest};
+ghost use Rattle.decide.specs.Walks.{EndsIn, EndsOf, ToCover, coverTest, leftTest, rightTest, ToTest};
 ghost use Rattle.decide.specs.Walks.{ToWalkLeft, ToWalkRight, WalkedLeft, WalkedRight};
 ghost use Rattle.decide.specs.Walks.{ToCount, CountedChain, LocatedRows, ToDecideAt, DecidesAt, LeavesOut};
 use angle::Point2;
@@ -16,7 +17,8 @@ use math::Point;
 use mesh::Counts;
 use ring_rows::Hull;
 
-// 01's fates: 1 added, with the new vertex; 2 dropped; 3 skipped, not left of the located edge; 4 skipped, no sound ring; 5 skipped, at the centre.
+// 01's fates: 1 added, with the new vertex; 2 dropped; 3 skipped, not left of the located edge; 4 skipped, no sound
+// ring; 5 skipped, at the centre.
 pub enum Fate {
     Added(u32),
     Dropped,
@@ -25,7 +27,34 @@ pub enum Fate {
     AtCenter,
 }
 
-// A fate, and for an added point the located edge, how many edges the walks cover before and after it, and the angles of the point and of the covered chain's two ends.
+// 01's number of a fate.
+pub fn fate_number(fate: Fate) -> u64
+    ensures { λ r. ⌜ r ≡ fateNumber fate ⌝ }
+{
+    match fate {
+        Fate::Added(_) => 1,
+        Fate::Dropped => 2,
+        Fate::NotLeft => 3,
+        Fate::Unsound => 4,
+        Fate::AtCenter => 5,
+    }
+}
+
+// The new vertex; 0 unless the fate is 1.
+pub fn fate_vertex(fate: Fate) -> u64
+    ensures { λ r. ⌜ r ≡ fateVertex fate ⌝ }
+{
+    match fate {
+        Fate::Added(v) => v as u64,
+        Fate::Dropped => 0,
+        Fate::NotLeft => 0,
+        Fate::Unsound => 0,
+        Fate::AtCenter => 0,
+    }
+}
+
+// A fate, and for an added point the located edge, how many edges the walks cover before and after it, and the angles
+// of the point and of the covered chain's two ends.
 pub struct Decision {
     pub fate: Fate,
     pub edge: u32,
@@ -72,6 +101,24 @@ fn is_position(a: Point, b: Point) -> bool
     a.x == b.x && a.y == b.y
 }
 
+// What the tests of the two loops share: is an edge with these ends covered by a point with this angle? `behind` says
+// where the point lies, `near` is the end on the side of the located edge.
+fn covers(ends: Ends, point: Point, behind: bool, near: Point, angle: f64, center: Point2) -> bool
+    requires { ⌜ ToCover ends point near (center .x) (center .y) angle ⌝ }
+    ensures { λ r. ⌜ r ≡ coverTest ends point behind near (center .x) (center .y) angle ⌝ }
+{
+    let from = ends.from;
+    let to = ends.to;
+    if !math::side_query(from, to, point).is_on_left_side() {
+        return false;
+    }
+    if !behind {
+        return true;
+    }
+    // Prevents inserting the same angle twice into the hull.
+    angle::equal(angle, angle::angle_about(near.x, near.y, center))
+}
+
 // The test of the first loop, which goes against next: is the edge d covered by a point with this angle?
 fn covers_left(
     positions: &[i32],
@@ -87,14 +134,8 @@ fn covers_left(
     let prev = ends_of(positions, halves, d);
     let from = prev.from;
     let to = prev.to;
-    if !math::side_query(from, to, point).is_on_left_side() {
-        return false;
-    }
-    if !math::is_behind_edge(point, to, from) {
-        return true;
-    }
-    // Prevents inserting the same angle twice into the hull.
-    angle::equal(angle, angle::angle_about(to.x, to.y, center))
+    let behind = math::is_behind_edge(point, to, from);
+    covers(prev, point, behind, to, angle, center)
 }
 
 // The test of the second loop, which goes along next.
@@ -112,13 +153,8 @@ fn covers_right(
     let next = ends_of(positions, halves, d);
     let middle = next.from;
     let to = next.to;
-    if !math::side_query(middle, to, point).is_on_left_side() {
-        return false;
-    }
-    if !math::is_behind_edge(middle, point, to) {
-        return true;
-    }
-    angle::equal(angle, angle::angle_about(middle.x, middle.y, center))
+    let behind = math::is_behind_edge(middle, point, to);
+    covers(next, point, behind, middle, angle, center)
 }
 
 // Against next from e: the edges that the point covers before e.
@@ -171,7 +207,8 @@ fn walk_right(
     }
 }
 
-// The chain of `count` edges from `start` on, whose first vertex has the angle `startangle`: an edge whose ends have different angles has a node.
+// The chain of `count` edges from `start` on, whose first vertex has the angle `startangle`: an edge whose ends have
+// different angles has a node.
 fn chain_nodes(
     positions: &[i32],
     halves: &[u32],
@@ -217,7 +254,8 @@ fn leave(fate: Fate) -> Decision
     }
 }
 
-// Fates 2, 3, 4 and 1 of a point with an angle, of which e is the located edge. `size` is the number of the ring's nodes, `next` the next vertex.
+// Fates 2, 3, 4 and 1 of a point with an angle, of which e is the located edge. `size` is the number of the ring's
+// nodes, `next` the next vertex.
 fn decide_at(
     positions: &[i32],
     halves: &[u32],

@@ -11,7 +11,7 @@ use Rattle.corner.specs.Corner.{Extended}
 use Rattle.corner.specs.CornerRows.{extendedOf}
 use Rattle.circle_test.specs.GoodRows.{GoodRows}
 use Rattle.closing.specs.Closing.{closingPass}
-use Rattle.closing.specs.Held.{closingOf}
+use Rattle.closing.specs.ClosingRows.{closingOf}
 use Rattle.convexity.specs.Convexity.{convexity}
 use Rattle.convexity.specs.ConvexityLaws.{convexity-good, convexity-counts}
 use Rattle.convexity.specs.ConvexityRows.{MeshReady}

@@ -1,4 +1,5 @@
--- Finishes of small meshes, by computation. The mesh is the triangle of half-edges 0, 2, 4 of `Examples` in mesh, with a vertex 3 beside its edge 0.
+-- Finishes of small meshes, by computation. The mesh is the triangle of half-edges 0, 2, 4 of `Examples` in mesh, with
+-- a vertex 3 beside its edge 0.
 -- Assumes nothing.
 use mathlib.Core.Path.{_≡_, refl}
 use mathlib.Core.List.{List, [], _∷_}
@@ -8,7 +9,7 @@ use lib.ListN.{getD}
 use Rattle.corner.specs.Corner.{closeCorner}
 use Rattle.closing.specs.Closing.{closeEdge, closeBelow, closeTurn, closingPass}
 use Rattle.convexity.specs.Convexity.{turnsLeftAt, lastTurnsLeft, closeLast, closeCorners, passTurn, isSecond, fixConvexity, passAgain, convexity}
-use Rattle.legalize.specs.Legalize.{edgeOf, pushed, flipped, popped, legalize}
+use Rattle.legalize.specs.Legalize.{entryEdge, pushed, flipped, popped, legalize}
 use Rattle.pending.specs.Pending.{contains, pushIfNotContained}
 use Rattle.math.specs.declared.Point.{Point}
 use Rattle.math.specs.Determinant.{orient2d, incircle, height}
@@ -33,11 +34,11 @@ tips : ℕ → Point
 tips = points (at (pos 0) (pos 0) ∷ at (pos 4) (pos 0) ∷ at (pos 2) (pos 1) ∷ at (pos 2) (negsuc 0) ∷ [])
 
 kite-closing : finishMesh 8 squareCounts tips square .closingflips ≡ 1
-unfolding seed square tips createNewFaceAdjacentToEdge faceAdjacent createSingleFaceBetweenEdgeAndNext faceBetween flipCw flipBetween put rev overFaces sum height orient2d circleAt incircle breaksCircle closeEdge closeBelow closeTurn closingPass until when turnsLeftAt closeCorner lastTurnsLeft closeLast closeCorners passTurn isSecond fixConvexity passAgain convexity edgeOf pushed flipped popped legalize contains pushIfNotContained closeAfter finishMesh
+unfolding seed square tips createNewFaceAdjacentToEdge faceAdjacent createSingleFaceBetweenEdgeAndNext faceBetween flipCw flipBetween put rev overFaces sum height orient2d circleAt incircle breaksCircle closeEdge closeBelow closeTurn closingPass until when turnsLeftAt closeCorner lastTurnsLeft closeLast closeCorners passTurn isSecond fixConvexity passAgain convexity entryEdge pushed flipped popped legalize contains pushIfNotContained closeAfter finishMesh
 kite-closing = refl
 
 kite-faces : finishMesh 8 squareCounts tips square .faces ≡ 0
-unfolding seed square tips createNewFaceAdjacentToEdge faceAdjacent createSingleFaceBetweenEdgeAndNext faceBetween flipCw flipBetween put rev overFaces sum height orient2d circleAt incircle breaksCircle closeEdge closeBelow closeTurn closingPass until when turnsLeftAt closeCorner lastTurnsLeft closeLast closeCorners passTurn isSecond fixConvexity passAgain convexity edgeOf pushed flipped popped legalize contains pushIfNotContained closeAfter finishMesh
+unfolding seed square tips createNewFaceAdjacentToEdge faceAdjacent createSingleFaceBetweenEdgeAndNext faceBetween flipCw flipBetween put rev overFaces sum height orient2d circleAt incircle breaksCircle closeEdge closeBelow closeTurn closingPass until when turnsLeftAt closeCorner lastTurnsLeft closeLast closeCorners passTurn isSecond fixConvexity passAgain convexity entryEdge pushed flipped popped legalize contains pushIfNotContained closeAfter finishMesh
 kite-faces = refl
 
 -- a dart: its reflex corner is closed by one face
@@ -45,5 +46,5 @@ dart : ℕ → Point
 dart = points (at (pos 3) (pos 0) ∷ at (pos 8) (pos 0) ∷ at (pos 1) (pos 8) ∷ at (pos 2) (negsuc 7) ∷ [])
 
 dart-faces : finishMesh 8 squareCounts dart square .faces ≡ 1
-unfolding seed square dart createNewFaceAdjacentToEdge faceAdjacent createSingleFaceBetweenEdgeAndNext faceBetween flipCw flipBetween put rev overFaces sum height orient2d circleAt incircle breaksCircle closeEdge closeBelow closeTurn closingPass until when turnsLeftAt closeCorner lastTurnsLeft closeLast closeCorners passTurn isSecond fixConvexity passAgain convexity edgeOf pushed flipped popped legalize contains pushIfNotContained closeAfter finishMesh
+unfolding seed square dart createNewFaceAdjacentToEdge faceAdjacent createSingleFaceBetweenEdgeAndNext faceBetween flipCw flipBetween put rev overFaces sum height orient2d circleAt incircle breaksCircle closeEdge closeBelow closeTurn closingPass until when turnsLeftAt closeCorner lastTurnsLeft closeLast closeCorners passTurn isSecond fixConvexity passAgain convexity entryEdge pushed flipped popped legalize contains pushIfNotContained closeAfter finishMesh
 dart-faces = refl

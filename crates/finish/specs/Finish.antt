@@ -1,5 +1,7 @@
--- The call `finish`: convexity passes, then the closing pass, on a mesh that the checks accept. Definitions only; the laws are in `MeshLaws` and `FinishLaws`.
--- 01: "Finish makes the first pass of `fix_convexity`, then repeats passes until one adds no face. Last comes the closing pass (added), fed the mesh alone."
+-- The call `finish`: convexity passes, then the closing pass, on a mesh that the checks accept. Definitions only; the
+-- laws are in `MeshLaws` and `FinishLaws`.
+-- 01: "Finish makes the first pass of `fix_convexity`, then repeats passes until one adds no face. Last comes the
+-- closing pass (added), fed the mesh alone."
 use mathlib.Core.Bool.{Bool, cond}
 use mathlib.Core.List.{List, []}
 use Prim.Native.Nat.{ℕ}
@@ -54,10 +56,15 @@ unfoldable pub finishedFrom : ℕ → Finishing → Finished
 finishedFrom place m =
     cond (m .full)
     (Finished.Refused (record { number = 9; place = place }))
-    (Finished.Accepted (record { faces = m .faces; convexflips = flipCountFrom (m .convexflips); closingflips = flipCountFrom (m .closingflips) }))
+    (Finished.Accepted (record {
+      faces = m .faces;
+      convexflips = flipCountFrom (m .convexflips);
+      closingflips = flipCountFrom (m .closingflips);
+    }))
 
--- 01: "All but 9 change nothing lent and answer the number and a place (0 where none is named)." "After 9 and after every accepted call the ring, freed, bucket and
--- pending rows hold zeros, and mesh and answer entries past the counts in use are untouched": the links' functions have every entry of their rows
+-- 01: "All but 9 change nothing lent and answer the number and a place (0 where none is named)." "After 9 and after
+-- every accepted call the ring, freed, bucket and pending rows hold zeros, and mesh and answer entries past the counts
+-- in use are untouched": the links' functions have every entry of their rows
 unfoldable pub outcomeOf : Counts → List ℕ → List ℕ → List ℕ → List ℕ → Checked → Finishing → Outcome
 outcomeOf C outs halves faces pending (Checked.Refused r) m = record {
   answer = record { counts = C; finished = Finished.Refused r };

@@ -1,5 +1,6 @@
--- The call `finish` on the lent rows: what an accepted call leaves (`finish-accepted`), what refusal 9 leaves (`finish-full`), and that every other refusal is one of
--- the checks' and changes nothing (`finish-refused`). Assumes nothing.
+-- The call `finish` on the lent rows: what an accepted call leaves (`finish-accepted`), what refusal 9 leaves
+-- (`finish-full`), and that every other refusal is one of the checks' and changes nothing (`finish-refused`). Assumes
+-- nothing.
 use mathlib.Core.Bool.{Bool, true, false}
 use mathlib.Core.List.{List}
 use mathlib.Core.Logic.{_⊎_, inl, inr}
@@ -47,7 +48,8 @@ linksAfter r = linksOf (r .outs) (r .halves) (r .faces)
 abbrev pub withFaces : Counts → ℕ → Counts
 withFaces C n = record { vertices = C .vertices; edges = C .edges + n; faces = C .faces + n }
 
--- what a call on a good mesh leaves: the mesh is good, its areas add up, what is past the counts is untouched, and the pending row holds zeros
+-- what a call on a good mesh leaves: the mesh is good, its areas add up, what is past the counts is untouched, and the
+-- pending row holds zeros
 pub record Left (C : Counts) (q : List ℤ) (o h a row : List ℕ) (r : Outcome) (n : ℕ) : Type 0 where
   pub counts : r .answer .counts ≡ withFaces C n
   pub good : Good (r .answer .counts) (linksAfter r) (positionOf q)
@@ -78,7 +80,8 @@ pub record Done (C : Counts) (q : List ℤ) (o h a row : List ℕ) (r : Outcome)
   pub closingflips : FlipRun (r .answer .counts) (positionOf q) (passed C q o h a row .links) (linksAfter r) (flipCountOf (t .closingflips))
   -- which are at most the fall of the height sum
   pub fall : pos (flipCountOf (t .closingflips))
-      ≤ℤ (heightSum (r .answer .counts) (passed C q o h a row .links) (positionOf q) -ℤ heightSum (r .answer .counts) (linksAfter r) (positionOf q))
+      ≤ℤ (heightSum (r .answer .counts) (passed C q o h a row .links) (positionOf q)
+      -ℤ heightSum (r .answer .counts) (linksAfter r) (positionOf q))
 
 -- 01: "All but 9 change nothing lent"
 pub record Unchanged (C : Counts) (o h a row : List ℕ) (r : Outcome) : Type 0 where
@@ -170,7 +173,8 @@ module _ (C : Counts) (q : List ℤ) (o h a row : List ℕ) where
 
   -- ---- by what is answered
   -- accepted: the mesh is good, no boundary corner turns left, and it is settled
-  pub finish-accepted : (t : Totals) → finishOf C q o h a row .answer .finished ≡ Finished.Accepted t → Done C q o h a row (finishOf C q o h a row) t
+  pub finish-accepted : (t : Totals) → finishOf C q o h a row .answer .finished ≡ Finished.Accepted t
+      → Done C q o h a row (finishOf C q o h a row) t
   unfolding finishedFrom finishOf outcomeOf
   finish-accepted t e = by (seedChecked C q o h a row) refl
     where

@@ -1,5 +1,7 @@
--- What a finish makes of a good mesh. It closes corners of the boundary that turn left, each followed by flips, and then flips until no edge breaks the circle rule.
--- Where no flip is refused, no corner is left that turns left, and the mesh is settled; in any case it stays good, with its vertices. Assumes nothing.
+-- What a finish makes of a good mesh. It closes corners of the boundary that turn left, each followed by flips, and
+-- then flips until no edge breaks the circle rule.
+-- Where no flip is refused, no corner is left that turns left, and the mesh is settled; in any case it stays good, with
+-- its vertices. Assumes nothing.
 use mathlib.Core.Bool.{Bool, true, false, cond}
 use mathlib.Core.Path.{_≡_, sym, _∙_, ap, ap₂, subst, subst⁻¹}
 use Prim.Native.Nat.{ℕ, _+_, _-_, _≤_}
@@ -48,7 +50,9 @@ module _ (room : ℕ) (C : Counts) (p : ℕ → Point) (L : Links) (G : Good C L
   unfolding finishMesh closeAfter
   finish-flips = go (v .full)
     where
-      go : (b : Bool) → let c = cond b (record { links = v .links; flips = 0 }) (closingPass (v .counts) p (v .links)) in FlipRun (v .counts) p (v .links) (c .links) (c .flips)
+      go : (b : Bool)
+          → let c = cond b (record { links = v .links; flips = 0 }) (closingPass (v .counts) p (v .links)) in
+          FlipRun (v .counts) p (v .links) (c .links) (c .flips)
       go true = none
       go false = closing-closes (convexity-good room C p L G) .run
 

@@ -1,5 +1,6 @@
-// The call `finish`: convexity passes until one adds no face, then the closing pass, on a lent mesh. What it answers and leaves is `finishOf` of specs/Finish.antt
-// for every input; what that means for the mesh is in specs/FinishLaws.antt.
+// The call `finish`: convexity passes until one adds no face, then the closing pass, on a lent mesh. What it answers
+// and leaves is `finishOf` of specs/Finish.antt for every input; what that means for the mesh is in
+// specs/FinishLaws.antt.
 ghost use mathlib.Core.Path.{_≡_};
 ghost use mathlib.Core.List.{List};
 ghost use Prim.Native.Nat.{ℕ};
@@ -134,8 +135,15 @@ pub fn finish(
     pending: &mut [u32],
 ) -> FinishAnswer
     ensures { λ r. ⌜ _≡_ {A = Outcome}
-        (record { answer = r; outs = now (outs .exit); halves = now (halves .exit); faces = now (faces .exit); pending = now (pending .exit) })
-        (finishOf counts (now (positions .entry)) (now (outs .entry)) (now (halves .entry)) (now (faces .entry)) (now (pending .entry))) ⌝ }
+        (record {
+          answer = r;
+          outs = now (outs .exit);
+          halves = now (halves .exit);
+          faces = now (faces .exit);
+          pending = now (pending .exit);
+        })
+        (finishOf counts (now (positions .entry)) (now (outs .entry)) (now (halves .entry)) (now (faces .entry))
+        (now (pending .entry))) ⌝ }
 {
     match check_seed(counts, positions, outs, halves, faces, pending) {
         Checked::Accepted => {}

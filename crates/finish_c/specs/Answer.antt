@@ -23,7 +23,8 @@ pub record Answers (r : ℕ) (o h a row : List ℕ) (x : Outcome) : Type 0 where
   pub faces : a ≡ x .faces
   pub pending : row ≡ x .pending
 
-pub answers : (y : FinishAnswer) (o h a row : List ℕ) (x : Outcome) → _≡_ {A = Outcome} (record { answer = y; outs = o; halves = h; faces = a; pending = row }) x
+pub answers : (y : FinishAnswer) (o h a row : List ℕ) (x : Outcome)
+    → _≡_ {A = Outcome} (record { answer = y; outs = o; halves = h; faces = a; pending = row }) x
     → (r : ℕ) → r ≡ answerNumber (y .finished) → Answers r o h a row x
 answers y o h a row x e r n = record {
   number = n ∙ ap (λ (z : Outcome). answerNumber (z .answer .finished)) e;

@@ -5,7 +5,8 @@ ghost use mathlib.Core.Path.{_≡_};
 use finish::Finished;
 use mesh::Counts;
 
-// The faces added where the mesh is accepted: so many edges and faces more are in use. Else the refusal's number in the high half and its place in the low half.
+// The faces added where the mesh is accepted: so many edges and faces more are in use. Else the refusal's number in the
+// high half and its place in the low half.
 #[no_mangle]
 pub extern "C" fn finish_finish(
     vertices: u32,
@@ -17,7 +18,9 @@ pub extern "C" fn finish_finish(
     stored: &mut [u32],
     pending: &mut [u32],
 ) -> u64
-    ensures { λ r. ⌜ Answers r (now (outs .exit)) (now (halves .exit)) (now (stored .exit)) (now (pending .exit)) (finishOf (counted vertices edges faces) (now (positions .entry)) (now (outs .entry)) (now (halves .entry)) (now (stored .entry)) (now (pending .entry))) ⌝ }
+    ensures { λ r. ⌜ Answers r (now (outs .exit)) (now (halves .exit)) (now (stored .exit)) (now (pending .exit))
+        (finishOf (counted vertices edges faces)
+        (now (positions .entry)) (now (outs .entry)) (now (halves .entry)) (now (stored .entry)) (now (pending .entry))) ⌝ }
 {
     let counts = Counts {
         vertices: vertices,

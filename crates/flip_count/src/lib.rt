@@ -1,4 +1,5 @@
-// A count of flips. Nothing but the height sum bounds the number of flips, and that passes 2^64: so 128 bits, in two words, and every count is exact.
+// A count of flips. Nothing but the height sum bounds the number of flips, and that passes 2^64: so 128 bits, in two
+// words, and every count is exact.
 ghost use mathlib.Core.Path.{_≡_};
 ghost use Prim.Native.Nat.{_+_, _<_, _^_};
 ghost use lib.Dec.{eqb};

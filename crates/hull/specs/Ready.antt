@@ -19,7 +19,7 @@ use Rattle.sums.specs.Bounded.{any-below, any-below←}
 use Rattle.sums.specs.Iterate.{iter, reach-on}
 use Rattle.sums.specs.Listed.{pigeonhole}
 use Rattle.dcel.specs.Rows.{rowOf, linksOf, positionOf}
-use Rattle.dcel.specs.Held.{Held as MeshHeld, there, origin-in}
+use Rattle.dcel.specs.MeshHeld.{MeshHeld, there, origin-in}
 use Rattle.ring.specs.Ring.{fullTurn, isStrict, isStrictRing, boundaryAngles, boundaryEdges}
 use Rattle.ring.specs.Insert.{node-sole}
 use Rattle.ring.specs.Boundary.{sound-first, strict-ring, strict-nodes}

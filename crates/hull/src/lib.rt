@@ -1,4 +1,5 @@
-// The ring of a mesh's boundary about a centre (bulk_load.rs, `Hull`): the tests before it is built, building it, and a new vertex's way into it. The boundary is the `size` half-edges from `start` on, by next.
+// The ring of a mesh's boundary about a centre (bulk_load.rs, `Hull`): the tests before it is built, building it, and a
+// new vertex's way into it. The boundary is the `size` half-edges from `start` on, by next.
 // The rows of the ring itself are those of crate `ring_rows`.
 ghost use mathlib.Core.Path.{_≡_};
 ghost use mathlib.Core.Bool.{_&&_};
@@ -34,7 +35,8 @@ pub fn meets_center(
     center: Point2,
 ) -> bool
     requires { ⌜ BoundaryRows (now positions) (now halves) start ⌝ }
-    ensures { λ r. ⌜ r ≡ any-below size (λ k. originAtCenter (now (positions .entry)) (now (halves .entry)) (center .x) (center .y) (edgeAt (now (halves .entry)) start k)) ⌝ }
+    ensures { λ r. ⌜ r ≡ any-below size (λ k. originAtCenter (now (positions .entry)) (now (halves .entry))
+        (center .x) (center .y) (edgeAt (now (halves .entry)) start k)) ⌝ }
 {
     let mut e = start;
     let mut k: u32 = 0;
@@ -116,7 +118,8 @@ fn build_nodes(
     center: Point2,
 )
     requires { ⌜ AngledBoundary (now positions) (now halves) (center .x) (center .y) start × (size ≤ length (now nodes)) × (0 < size) ⌝ }
-    ensures { λ r. ⌜ NodesOfEdges (now (positions .entry)) (now (halves .entry)) (center .x) (center .y) start size (nodesOf (now (nodes .exit))) ⌝ }
+    ensures { λ r. ⌜ NodesOfEdges (now (positions .entry)) (now (halves .entry)) (center .x) (center .y) start size
+        (nodesOf (now (nodes .exit))) ⌝ }
 {
     let mut e = start;
     let mut left = size - 1;
@@ -151,7 +154,8 @@ pub fn from_triangulation(
     center: Point2,
 ) -> Hull
     requires { ⌜ ToBuild (now positions) (now halves) (center .x) (center .y) start size (length (now nodes)) (length (now buckets)) ⌝ }
-    ensures { λ r. ⌜ FromBoundary (now (positions .entry)) (now (halves .entry)) (center .x) (center .y) start size (now (nodes .exit)) (now (buckets .exit)) r ⌝ }
+    ensures { λ r. ⌜ FromBoundary (now (positions .entry)) (now (halves .entry)) (center .x) (center .y) start size
+        (now (nodes .exit)) (now (buckets .exit)) r ⌝ }
 {
     build_nodes(positions, halves, nodes, start, size, center);
     ring_rows::initialize_buckets(nodes, buckets, 8, 0, size);

@@ -12,10 +12,10 @@ use Rattle.circle_test.specs.GoodRows.{CircleReady}
 use Rattle.pending.specs.Pending.{pendingOf}
 use Rattle.pending.specs.PendingLaws.{pending-last, holds}
 use Rattle.legalize.specs.declared.Entry.{Entry}
-use Rattle.legalize.specs.Legalize.{edgeOf}
+use Rattle.legalize.specs.Legalize.{entryEdge}
 use Rattle.legalize.specs.LegalizeRows.{PushReady, Pushes, PopReady, Pops}
 
-module _ (k : Entry) (q : List ℤ) (h row : List ℕ) (n x u : ℕ) (R : PopReady k q h row n) (e : pendingOf row n ≡ x ∷ pendingOf row (n - 1)) (v : u ≡ edgeOf k x) where
+module _ (k : Entry) (q : List ℤ) (h row : List ℕ) (n x u : ℕ) (R : PopReady k q h row n) (e : pendingOf row n ≡ x ∷ pendingOf row (n - 1)) (v : u ≡ entryEdge k x) where
   is-last : x ≡ getD row (n - 1) 0
   is-last = let l = pending-last row n (R .some) in cc
 
@@ -30,8 +30,8 @@ module _ (k : Entry) (q : List ℤ) (h row : List ℕ) (n x u : ℕ) (R : PopRea
     pop-flipped y P =
         let f = R .fits in
         record {
-          edge = v ∙ ap (edgeOf k) is-last;
-          flip = λ o a. sym y ∙ t o a ∙ ap (breaksCircle (linksOf o h a) (positionOf q)) (v ∙ ap (edgeOf k) is-last);
+          edge = v ∙ ap (entryEdge k) is-last;
+          flip = λ o a. sym y ∙ t o a ∙ ap (breaksCircle (linksOf o h a) (positionOf q)) (v ∙ ap (entryEdge k) is-last);
           pending = λ o a. rw (← is-last) (P o a (pendingOf row (n - 1)) (holds row (n - 1) (omega arith)));
         }
 
@@ -39,7 +39,7 @@ module _ (k : Entry) (q : List ℤ) (h row : List ℕ) (n x u : ℕ) (R : PopRea
     pop-kept y =
         let f = R .fits in
         record {
-          edge = v ∙ ap (edgeOf k) is-last;
-          flip = λ o a. sym y ∙ t o a ∙ ap (breaksCircle (linksOf o h a) (positionOf q)) (v ∙ ap (edgeOf k) is-last);
+          edge = v ∙ ap (entryEdge k) is-last;
+          flip = λ o a. sym y ∙ t o a ∙ ap (breaksCircle (linksOf o h a) (positionOf q)) (v ∙ ap (entryEdge k) is-last);
           pending = λ o a. holds row (n - 1) (omega arith);
         }

@@ -9,7 +9,7 @@ use Rattle.pending.specs.Pending.{pushIfNotContained, Holds}
 use Rattle.sums.specs.Half.{rev}
 use Rattle.legalize.specs.declared.Entry.{Entry}
 use Rattle.legalize.specs.declared.Entry.the-variants.{HalfEdge, Edge}
-use Rattle.legalize.specs.Legalize.{edgeOf, pushed}
+use Rattle.legalize.specs.Legalize.{entryEdge, pushed}
 use Rattle.legalize.specs.LegalizeRows.{PushReady, Pushes}
 
 -- what one push does
@@ -35,11 +35,11 @@ edges-pushed h u w v row n row₁ n₁ row₂ n₂ row₃ n₃ row₄ n₄ E F a
 -- what both ask of the row of half-edges
 module _ (k : Entry) (h : List ℕ) (x : ℕ) where
   pub half-edges-ready : k ≡ HalfEdge → PushReady k h x → There h (rev x)
-  unfolding edgeOf rev
+  unfolding entryEdge rev
   half-edges-ready e R = let R′ = subst (λ (k : Entry). PushReady k h x) e R in let t = R′ .there in omega arith
 
   pub edges-ready : k ≡ Edge → PushReady k h x → (2 * x + 1 < 2 ^ 32) × There h (2 * x + 1)
-  unfolding edgeOf
+  unfolding entryEdge
   edges-ready e R = let R′ = subst (λ (k : Entry). PushReady k h x) e R in (R′ .small, R′ .there)
 
   pub pushes-of : {k′ : Entry} → k ≡ k′ → {row : List ℕ} {n : ℕ} {row′ : List ℕ} {n′ : ℕ} → Pushes k′ h x row n row′ n′ → Pushes k h x row n row′ n′

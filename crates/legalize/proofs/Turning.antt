@@ -21,7 +21,7 @@ use Rattle.pending.specs.Pending.{pendingOf, Holds}
 use Rattle.pending.specs.PendingLaws.{pending-length, pending-last, holds-length, holds-fits}
 use Rattle.legalize.specs.declared.Entry.{Entry}
 use Rattle.legalize.specs.declared.Popped.{Popped}
-use Rattle.legalize.specs.Legalize.{Legalizing, edgeOf, pushed, turn}
+use Rattle.legalize.specs.Legalize.{Legalizing, entryEdge, pushed, turn}
 use Rattle.legalize.specs.Turns.{EntriesIn, turn-kept, turn-flipped, turn-refused}
 use Rattle.legalize.specs.LegalizeRows.{PopReady, Pops, TurnReady, stateOf, TurnLeaves}
 
@@ -39,7 +39,7 @@ module _ {k : Entry} {C : Counts} {q : List ℤ} {o h a row : List ℕ} {n : ℕ
   last : s .pending ≡ x ∷ l
   last = pending-last row n z
 
-  in-use : edgeOf k x < C .edges
+  in-use : entryEdge k x < C .edges
   in-use = subst (EntriesIn C k) last (R .entries) .0
 
   pub pop-ready : PopReady k q h row n
@@ -49,7 +49,7 @@ module _ {k : Entry} {C : Counts} {q : List ℤ} {o h a row : List ℕ} {n : ℕ
   count-fits = flips-fit (R .mesh .bound) (R .mesh .few)
 
   module _ {row′ : List ℕ} {r : Popped} (P : Pops k q h row n row′ r) (same : length row′ ≡ length row) where
-    tested : {b : Bool} → r .flip ≡ b → breaksCircle (s .links) (positionOf q) (edgeOf k x) ≡ b
+    tested : {b : Bool} → r .flip ≡ b → breaksCircle (s .links) (positionOf q) (entryEdge k x) ≡ b
     tested e = sym (P .flip o a) ∙ e
 
     not-pushed : r .flip ≡ false → Holds row′ (r .length) l

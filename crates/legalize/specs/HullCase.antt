@@ -1,5 +1,6 @@
--- The tests of the Rust's two functions, and that in a good mesh each is the circle test of 01. So `legalize_edges_after_removal` never flips for any other
--- reason: its special case for edges next to the convex hull does not arise, and no flip is left out. Assumes nothing.
+-- The tests of the Rust's two functions, and that in a good mesh each is the circle test of 01. So
+-- `legalize_edges_after_removal` never flips for any other reason: its special case for edges next to the convex hull
+-- does not arise, and no flip is left out. Assumes nothing.
 -- 01: "If it flips for any reason but the circle test, that flip is left out and recorded."
 use mathlib.Core.Bool.{Bool, false}
 use mathlib.Core.Logic.{_≢_}
@@ -69,7 +70,8 @@ module _ (L : Links) (p : ℕ → Point) (e : ℕ) where
   edge-test = go (L .face e) (L .face (rev e)) refl refl
     where
       go : (f g : ℕ) → L .face e ≡ f → L .face (rev e) ≡ g
-          → edgeTest p (p (L .origin e)) (p (to L e)) (farIn f (L .origin (L .prev e))) (farIn g (L .origin (L .prev (rev e)))) ≡ breaksCircle L p (e / 2)
+          → edgeTest p (p (L .origin e)) (p (to L e)) (farIn f (L .origin (L .prev e)))
+          (farIn g (L .origin (L .prev (rev e)))) ≡ breaksCircle L p (e / 2)
       go (suc f) (suc g) a b =
           contained-next (p (L .origin (L .prev (rev e)))) (p (to L e)) (p (L .origin e)) (p (L .origin (L .prev e)))
           ∙ ap (ltZ (pos 0)) (ap (λ (x : ℕ). incircle (p (to L e)) (p (L .origin x)) (p (L .origin (L .prev (rev e)))) (p (L .origin (L .prev x)))) (sym (rev-rev e)) ∙ circle-rev L p e)
@@ -89,7 +91,8 @@ module _ {C : Counts} {L : Links} {p : ℕ → Point} (G : Good C L p) where
   removal-test {e} l = go (L .face e) (L .face (rev e)) refl refl
     where
       go : (f g : ℕ) → L .face e ≡ f → L .face (rev e) ≡ g
-          → removalTest p (p (L .origin e)) (p (to L e)) (farIn f (L .origin (L .prev e))) (farIn g (L .origin (L .prev (rev e)))) ≡ breaksCircle L p (e / 2)
+          → removalTest p (p (L .origin e)) (p (to L e)) (farIn f (L .origin (L .prev e)))
+          (farIn g (L .origin (L .prev (rev e)))) ≡ breaksCircle L p (e / 2)
       go (suc f) (suc g) a b = sym (breaks-inner L p e (omega arith) (omega arith))
       go zero (suc g) a b =
           rw (hull-legal (p (to L e)) (p (L .origin e)) (p (L .origin (L .prev (rev e))))

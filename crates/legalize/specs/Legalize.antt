@@ -1,5 +1,7 @@
--- `legalize_edge` and `legalize_edges_after_removal` of triangulation_ext.rs: the pending list, the pushing orders and the flips. Definitions only.
--- 01: "Every flip count, in step, convexity or closing pass, is the number of flips in the sequence that these rules and 002's pushing order define."
+-- `legalize_edge` and `legalize_edges_after_removal` of triangulation_ext.rs: the pending list, the pushing orders and
+-- the flips. Definitions only.
+-- 01: "Every flip count, in step, convexity or closing pass, is the number of flips in the sequence that these rules
+-- and 002's pushing order define."
 use mathlib.Core.Bool.{Bool, true, false, _||_, cond}
 use mathlib.Core.List.{List, [], _∷_}
 use Prim.Native.Nat.{ℕ, suc, _+_, _*_, _/_}
@@ -26,11 +28,11 @@ pub record Legalizing : Type 0 where
   pub full : Bool
 
 -- the edge that an entry of the pending list has tested
--- `legalize_edge` has a half-edge, and asks whether its far vertex lies inside the circle of the triangle of its reverse: the same determinant from the other
--- side (`edge-test` in `HullCase`)
-unfoldable pub edgeOf : Entry → ℕ → ℕ
-edgeOf HalfEdge e = e / 2
-edgeOf Edge u = u
+-- `legalize_edge` has a half-edge, and asks whether its far vertex lies inside the circle of the triangle of its
+-- reverse: the same determinant from the other side (`edge-test` in `HullCase`)
+unfoldable pub entryEdge : Entry → ℕ → ℕ
+entryEdge HalfEdge e = e / 2
+entryEdge Edge u = u
 
 -- what the flip of an entry's edge pushes, in 002's order. `legalize_edge` has fully_legalize false
 -- 01: "`legalize_edges_after_removal` keeps its own pushing order from 002."
@@ -46,15 +48,16 @@ pushed Edge L u l =
 unfoldable pub flipped : ℕ → Entry → Legalizing → ℕ → List ℕ → Legalizing
 flipped room k s x l =
     cond (leb (length (pushed k (s .links) x l)) room)
-    (record { links = flipCw (s .links) (edgeOf k x); pending = pushed k (s .links) x l; flips = suc (s .flips); full = false })
+    (record { links = flipCw (s .links) (entryEdge k x); pending = pushed k (s .links) x l; flips = suc (s .flips); full = false })
     (record { links = s .links; pending = l; flips = s .flips; full = true })
 
 -- one entry is taken from the list and tested. An edge of the boundary breaks no circle and is not flipped
--- 01: "If it flips for any reason but the circle test, that flip is left out and recorded." There is no such flip (`no-flip-left-out` in `HullCase`)
+-- 01: "If it flips for any reason but the circle test, that flip is left out and recorded." There is no such flip
+-- (`no-flip-left-out` in `HullCase`)
 unfoldable pub popped : ℕ → Entry → (ℕ → Point) → Legalizing → List ℕ → Legalizing
 popped room k p s [] = s
 popped room k p s (x ∷ l) =
-    cond (breaksCircle (s .links) p (edgeOf k x))
+    cond (breaksCircle (s .links) p (entryEdge k x))
     (flipped room k s x l)
     (record { links = s .links; pending = l; flips = s .flips; full = false })
 
@@ -83,4 +86,5 @@ legalizeEdge room C p L flips e = legalize room HalfEdge C p (record { links = L
 
 -- `legalize_edges_after_removal` of two edges, pushed in this order
 abbrev pub legalizeEdgesAfterRemoval : ℕ → Counts → (ℕ → Point) → Links → ℕ → ℕ → ℕ → Legalizing
-legalizeEdgesAfterRemoval room C p L flips first second = legalize room Edge C p (record { links = L; pending = second ∷ first ∷ []; flips = flips; full = false })
+legalizeEdgesAfterRemoval room C p L flips first second =
+    legalize room Edge C p (record { links = L; pending = second ∷ first ∷ []; flips = flips; full = false })

@@ -1,6 +1,7 @@
--- Legalizing a good mesh ends, and is a run of exactly as many flips as it counts, each at an edge that broke the circle rule at that moment. So the mesh
--- stays good, with its boundary and its area, and the height sum falls by at least the flips. It ends with an empty pending list, or before a flip whose pushes
--- would overfill it. Assumes nothing.
+-- Legalizing a good mesh ends, and is a run of exactly as many flips as it counts, each at an edge that broke the
+-- circle rule at that moment. So the mesh stays good, with its boundary and its area, and the height sum falls by at
+-- least the flips. It ends with an empty pending list, or before a flip whose pushes would overfill it. Assumes
+-- nothing.
 use mathlib.Core.Bool.{true, false, false≢true}
 use mathlib.Core.List.{List, []}
 use mathlib.Core.Path.{_≡_, _∙_, ap, subst}
@@ -21,13 +22,13 @@ use Rattle.mesh.specs.Good.{Good}
 use Rattle.mesh.specs.HeightBound.{FlipsBound, flips-more}
 use Rattle.sums.specs.Until.{until, Falls, until-ends, until-keeps, until-ind, until-fuel}
 use Rattle.legalize.specs.declared.Entry.{Entry}
-use Rattle.legalize.specs.Legalize.{Legalizing, edgeOf, pushed, turn, isDone, measure, legalize}
+use Rattle.legalize.specs.Legalize.{Legalizing, entryEdge, pushed, turn, isDone, measure, legalize}
 use Rattle.legalize.specs.Turns.{turn-cases, going-on, ended, EntriesIn, pushed-in, pushed-few}
 
 -- the flip that was not made: an edge that breaks the rule, whose pushes do not fit the pending list
 pub record Refused (room : ℕ) (k : Entry) (p : ℕ → Point) (s : Legalizing) : Type 0 where
   pub entry : ℕ
-  pub breaks : breaksCircle (s .links) p (edgeOf k entry) ≡ true
+  pub breaks : breaksCircle (s .links) p (entryEdge k entry) ≡ true
   pub over : room < length (pushed k (s .links) entry (s .pending))
 
 -- what each turn keeps
@@ -57,7 +58,7 @@ module _ (room : ℕ) (k : Entry) (C : Counts) (p : ℕ → Point) where
       turn-cases room k p s q (Ongoing room k C p)
       (λ b. record { good = O .good; entries = h .1; refused = λ t. absurd (false≢true t) })
       (λ b. record {
-        good = breaks-good (O .good) (h .0) (breaks (s .links) p (edgeOf k x) b);
+        good = breaks-good (O .good) (h .0) (breaks (s .links) p (entryEdge k x) b);
         entries = pushed-in (O .good .wf) k x l (h .0) (h .1);
         refused = λ t. absurd (false≢true t);
       })
@@ -70,7 +71,7 @@ module _ (room : ℕ) (k : Entry) (C : Counts) (p : ℕ → Point) where
       turn-cases room k p s q (λ t. measure C p t < measure C p s)
       (λ b. omega arith)
       (λ b.
-      let d = breaks-falls (O .good) (h .0) (breaks (s .links) p (edgeOf k x) b) in
+      let d = breaks-falls (O .good) (h .0) (breaks (s .links) p (entryEdge k x) b) in
       let m = pushed-few k (s .links) x l in
       omega arith)
       (λ b m. omega arith))
@@ -85,7 +86,7 @@ module _ (room : ℕ) (k : Entry) (C : Counts) (p : ℕ → Point) where
       let h = subst (EntriesIn C k) q (O .entries) in
       turn-cases room k p s q (λ t. FlipsBound C (t .links) p (t .flips))
       (λ b. B)
-      (λ b. rw (← add-one (s .flips)) (flips-more 1 B (let d = breaks-falls (O .good) (h .0) (breaks (s .links) p (edgeOf k x) b) in omega arith)))
+      (λ b. rw (← add-one (s .flips)) (flips-more 1 B (let d = breaks-falls (O .good) (h .0) (breaks (s .links) p (entryEdge k x) b) in omega arith)))
       (λ b m. B))
 
   -- a turn put before what follows

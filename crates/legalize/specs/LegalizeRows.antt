@@ -17,14 +17,14 @@ use Rattle.legalize.specs.declared.Entry.{Entry}
 use Rattle.legalize.specs.declared.Popped.{Popped}
 use Rattle.legalize.specs.declared.Turned.{Turned}
 use Rattle.legalize.specs.declared.Legalized.{Legalized}
-use Rattle.legalize.specs.Legalize.{Legalizing, edgeOf, pushed}
+use Rattle.legalize.specs.Legalize.{Legalizing, entryEdge, pushed}
 use Rattle.legalize.specs.Turns.{EntriesIn}
 
 -- ---- pushes
 -- both halves of an entry's edge are in the row of half-edges
 pub record PushReady (k : Entry) (h : List ℕ) (x : ℕ) : Type 0 where
-  pub small : 2 * edgeOf k x + 1 < 2 ^ 32
-  pub there : There h (2 * edgeOf k x + 1)
+  pub small : 2 * entryEdge k x + 1 < 2 ^ 32
+  pub there : There h (2 * entryEdge k x + 1)
 
 -- the pending row before and after the pushes of a flip, whatever the rows of out edges and faces, which the pushes do not read
 abbrev pub Pushes : Entry → List ℕ → ℕ → List ℕ → ℕ → List ℕ → ℕ → Type 0
@@ -34,13 +34,15 @@ Pushes k h x row n row′ n′ = (o a l : List ℕ) → Holds row n l → Holds 
 pub record PopReady (k : Entry) (q : List ℤ) (h row : List ℕ) (n : ℕ) : Type 0 where
   pub some : 0 < n
   pub fits : n ≤ length row
-  pub circle : CircleReady q h (edgeOf k (getD row (n - 1) 0))
+  pub circle : CircleReady q h (entryEdge k (getD row (n - 1) 0))
 
 -- the last entry is taken, its edge tested, and what its flip pushes is pushed
 pub record Pops (k : Entry) (q : List ℤ) (h row : List ℕ) (n : ℕ) (row′ : List ℕ) (r : Popped) : Type 0 where
-  pub edge : r .edge ≡ edgeOf k (getD row (n - 1) 0)
-  pub flip : (o a : List ℕ) → r .flip ≡ breaksCircle (linksOf o h a) (positionOf q) (edgeOf k (getD row (n - 1) 0))
-  pub pending : (o a : List ℕ) → Holds row′ (r .length) (cond (r .flip) (pushed k (linksOf o h a) (getD row (n - 1) 0) (pendingOf row (n - 1))) (pendingOf row (n - 1)))
+  pub edge : r .edge ≡ entryEdge k (getD row (n - 1) 0)
+  pub flip : (o a : List ℕ) → r .flip ≡ breaksCircle (linksOf o h a) (positionOf q) (entryEdge k (getD row (n - 1) 0))
+  pub pending : (o a : List ℕ)
+      → Holds row′ (r .length) (cond (r .flip)
+      (pushed k (linksOf o h a) (getD row (n - 1) 0) (pendingOf row (n - 1))) (pendingOf row (n - 1)))
 
 -- ---- the loop
 -- a good mesh with a count of flips that can go on

@@ -1,4 +1,5 @@
--- For the callers: what a call of `legalize_edge` or `legalize_edges_after_removal` leaves is a good mesh that is ready for the next. Assumes nothing.
+-- For the callers: what a call of `legalize_edge` or `legalize_edges_after_removal` leaves is a good mesh that is ready
+-- for the next. Assumes nothing.
 use mathlib.Core.Bool.{false}
 use mathlib.Core.List.{List}
 use mathlib.Core.Path.{_≡_, subst⁻¹}
@@ -20,7 +21,8 @@ use Rattle.legalize.specs.Turns.{EntriesIn}
 use Rattle.legalize.specs.LegalizeLaws.{Outcome, legalize-start, legalize-outcome, outcome-good, outcome-bound}
 use Rattle.legalize.specs.LegalizeRows.{LegalizeReady, Leaves}
 
-module _ (k : Entry) {C : Counts} {q : List ℤ} {o h a row : List ℕ} {c : FlipCount} (M : LegalizeReady C q o h a row c) (l : List ℕ) (E : EntriesIn C k l) where
+module _ (k : Entry) {C : Counts} {q : List ℤ} {o h a row : List ℕ} {c : FlipCount}
+    (M : LegalizeReady C q o h a row c) (l : List ℕ) (E : EntriesIn C k l) where
   abbrev s : Legalizing
   s = record { links = linksOf o h a; pending = l; flips = flipCountOf c; full = false }
 
@@ -29,7 +31,8 @@ module _ (k : Entry) {C : Counts} {q : List ℤ} {o h a row : List ℕ} {c : Fli
   legalized = legalize-outcome (length row) k C (positionOf q) s (legalize-start (M .rows .good) E)
 
   pub ready-again : {o′ h′ a′ row′ : List ℕ} {r : Legalized} → Leaves o′ h′ a′ r (legalize (length row) k C (positionOf q) s)
-      → length o′ ≡ length o → length h′ ≡ length h → length a′ ≡ length a → length row′ ≡ length row → LegalizeReady C q o′ h′ a′ row′ (r .flips)
+      → length o′ ≡ length o → length h′ ≡ length h → length a′ ≡ length a → length row′ ≡ length row
+      → LegalizeReady C q o′ h′ a′ row′ (r .flips)
   ready-again {o′} {h′} {a′} {row′} {r} F x y z w = record {
     rows = good-again (M .rows) o′ h′ a′ x y z (F .links) (outcome-good (M .rows .good) legalized);
     few = M .few;

@@ -19,36 +19,41 @@ use Rattle.sums.specs.Cases.{All}
 use Rattle.sums.specs.Half.{rev, rev-below}
 use Rattle.legalize.specs.declared.Entry.{Entry}
 use Rattle.legalize.specs.declared.Entry.the-variants.{HalfEdge, Edge}
-use Rattle.legalize.specs.Legalize.{Legalizing, edgeOf, pushed, flipped, popped, turn, isDone, isEmpty}
+use Rattle.legalize.specs.Legalize.{Legalizing, entryEdge, pushed, flipped, popped, turn, isDone, isEmpty}
 
 -- ---- the three ways of a turn
 module _ (room : ℕ) (k : Entry) (p : ℕ → Point) (s : Legalizing) {x : ℕ} {l : List ℕ} (e : s .pending ≡ x ∷ l) where
   -- the edge keeps the rule: the entry goes
-  pub turn-kept : breaksCircle (s .links) p (edgeOf k x) ≡ false → turn room k p s ≡ record { links = s .links; pending = l; flips = s .flips; full = false }
+  pub turn-kept : breaksCircle (s .links) p (entryEdge k x) ≡ false
+      → turn room k p s ≡ record { links = s .links; pending = l; flips = s .flips; full = false }
   unfolding popped
   turn-kept b = rw (e, b) refl
 
   -- it breaks the rule, and the list has room for the pushes
-  pub turn-flipped : breaksCircle (s .links) p (edgeOf k x) ≡ true → length (pushed k (s .links) x l) ≤ room
-      → turn room k p s ≡ record { links = flipCw (s .links) (edgeOf k x); pending = pushed k (s .links) x l; flips = suc (s .flips); full = false }
+  pub turn-flipped : breaksCircle (s .links) p (entryEdge k x) ≡ true → length (pushed k (s .links) x l) ≤ room
+      → turn room k p s
+      ≡ record { links = flipCw (s .links) (entryEdge k x); pending = pushed k (s .links) x l; flips = suc (s .flips); full = false }
   unfolding popped flipped
   turn-flipped b m = rw (e, b, le-leb (length (pushed k (s .links) x l)) room m) refl
 
   -- it has not: the flip is not made
-  pub turn-refused : breaksCircle (s .links) p (edgeOf k x) ≡ true → room < length (pushed k (s .links) x l)
+  pub turn-refused : breaksCircle (s .links) p (entryEdge k x) ≡ true → room < length (pushed k (s .links) x l)
       → turn room k p s ≡ record { links = s .links; pending = l; flips = s .flips; full = true }
   unfolding popped flipped
   turn-refused b m = rw (e, b, lt-leb (length (pushed k (s .links) x l)) room m) refl
 
   -- so what holds of the three holds after a turn
   pub turn-cases : (P : Legalizing → Type 0)
-      → (breaksCircle (s .links) p (edgeOf k x) ≡ false → P (record { links = s .links; pending = l; flips = s .flips; full = false }))
-      → (breaksCircle (s .links) p (edgeOf k x) ≡ true → P (record { links = flipCw (s .links) (edgeOf k x); pending = pushed k (s .links) x l; flips = suc (s .flips); full = false }))
-      → (breaksCircle (s .links) p (edgeOf k x) ≡ true → room < length (pushed k (s .links) x l) → P (record { links = s .links; pending = l; flips = s .flips; full = true }))
+      → (breaksCircle (s .links) p (entryEdge k x) ≡ false → P (record { links = s .links; pending = l; flips = s .flips; full = false }))
+      → (breaksCircle (s .links) p (entryEdge k x) ≡ true → P
+      (record { links = flipCw (s .links) (entryEdge k x); pending = pushed k (s .links) x l; flips = suc (s .flips); full = false }))
+      → (breaksCircle (s .links) p (entryEdge k x) ≡ true → room < length (pushed k (s .links) x l) → P
+      (record { links = s .links; pending = l; flips = s .flips; full = true }))
       → P (turn room k p s)
-  turn-cases P f g h = go (breaksCircle (s .links) p (edgeOf k x)) (leb (length (pushed k (s .links) x l)) room) refl refl
+  turn-cases P f g h = go (breaksCircle (s .links) p (entryEdge k x)) (leb (length (pushed k (s .links) x l)) room) refl refl
     where
-      go : (b m : Bool) → breaksCircle (s .links) p (edgeOf k x) ≡ b → leb (length (pushed k (s .links) x l)) room ≡ m → P (turn room k p s)
+      go : (b m : Bool) → breaksCircle (s .links) p (entryEdge k x) ≡ b
+          → leb (length (pushed k (s .links) x l)) room ≡ m → P (turn room k p s)
       go false m b q = rw (turn-kept b) (f b)
       go true true b q = rw (turn-flipped b (leb-true _ _ q)) (g b)
       go true false b q = rw (turn-refused b (leb-false _ _ q)) (h b (leb-false _ _ q))
@@ -73,15 +78,15 @@ ended s e q = go (s .full) (s .pending) e q
 -- ---- what is pushed
 -- every entry's edge is in use
 abbrev pub EntriesIn : Counts → Entry → List ℕ → Type 0
-EntriesIn C k l = All (λ x. edgeOf k x < C .edges) l
+EntriesIn C k l = All (λ x. entryEdge k x < C .edges) l
 
 -- where a call begins
 pub half-edge-in : (C : Counts) (e : ℕ) → In C e → EntriesIn C HalfEdge (e ∷ [])
-unfolding edgeOf
+unfolding entryEdge
 half-edge-in C e l = (omega arith, tt)
 
 pub edges-in : (C : Counts) (u v : ℕ) → u < C .edges → v < C .edges → EntriesIn C Edge (v ∷ u ∷ [])
-unfolding edgeOf
+unfolding entryEdge
 edges-in C u v h k = (k, (h, tt))
 
 module _ {C : Counts} {L : Links} (W : Wf C L) where
@@ -89,15 +94,15 @@ module _ {C : Counts} {L : Links} (W : Wf C L) where
   half-below l = omega arith
 
   push-in : (u : ℕ) (l : List ℕ) → u < C .edges → EntriesIn C Edge l → EntriesIn C Edge (pushIfNotContained u l)
-  unfolding edgeOf
+  unfolding entryEdge
   push-in u l h a = go (contains u l) refl
     where
       go : (t : Bool) → contains u l ≡ t → EntriesIn C Edge (pushIfNotContained u l)
       go true e = rw (push-contained u l e) a
       go false e = rw (push-missing u l e) (h, a)
 
-  pub pushed-in : (k : Entry) (x : ℕ) (l : List ℕ) → edgeOf k x < C .edges → EntriesIn C k l → EntriesIn C k (pushed k L x l)
-  unfolding edgeOf pushed
+  pub pushed-in : (k : Entry) (x : ℕ) (l : List ℕ) → entryEdge k x < C .edges → EntriesIn C k l → EntriesIn C k (pushed k L x l)
+  unfolding entryEdge pushed
   pushed-in HalfEdge x l h a =
       let i : In C (rev x) = rev-below (C .edges) (omega arith) in
       (half-below (W .ranges .prev< i), (half-below (W .ranges .next< i), a))

@@ -1,6 +1,8 @@
-// `legalize_edge` and `legalize_edges_after_removal` of triangulation_ext.rs, with the pending list in a row that the caller lends. Both are one loop, which
-// differs in what an entry of the list is and in what a flip pushes. What they leave is `legalizeEdge` and `legalizeEdgesAfterRemoval` of specs/Legalize.antt; that
-// they end, and what that means for the mesh, is in specs/LegalizeLaws.antt. `counts` says which mesh the rows hold: the contracts speak of it, the code needs it not.
+// `legalize_edge` and `legalize_edges_after_removal` of triangulation_ext.rs, with the pending list in a row that the
+// caller lends. Both are one loop, which differs in what an entry of the list is and in what a flip pushes. What they
+// leave is `legalizeEdge` and `legalizeEdgesAfterRemoval` of specs/Legalize.antt; that they end, and what that means
+// for the mesh, is in specs/LegalizeLaws.antt. `counts` says which mesh the rows hold: the contracts speak of it, the
+// code needs it not.
 ghost use mathlib.Core.Path.{_≡_};
 ghost use Prim.Native.Nat.{_+_, _*_, _^_, _<_};
 ghost use lib.ListN.{length};
@@ -8,7 +10,7 @@ ghost use Rattle.mesh.specs.Mesh.{In};
 ghost use Rattle.dcel.specs.Rows.{linksOf, positionOf, There};
 ghost use Rattle.sums.specs.Half.{rev};
 ghost use Rattle.flip_count.specs.FlipCount.{flipCountOf};
-ghost use Rattle.legalize.specs.Legalize.{edgeOf, turn, legalize, legalizeEdge, legalizeEdgesAfterRemoval};
+ghost use Rattle.legalize.specs.Legalize.{entryEdge, turn, legalize, legalizeEdge, legalizeEdgesAfterRemoval};
 ghost use Rattle.legalize.specs.LegalizeRows.{PushReady, Pushes, PopReady, Pops, LegalizeReady, TurnReady, stateOf, TurnLeaves, Leaves};
 ghost use Rattle.legalize.specs.declared.Entry.the-variants.{HalfEdge, Edge};
 use flip_count::FlipCount;
@@ -40,8 +42,8 @@ pub struct Turned {
     pub full: bool,
 }
 
-fn edge_of(entry: Entry, x: u32) -> u32
-    ensures { λ r. ⌜ r ≡ edgeOf entry x ⌝ }
+fn entry_edge(entry: Entry, x: u32) -> u32
+    ensures { λ r. ⌜ r ≡ entryEdge entry x ⌝ }
 {
     match entry {
         Entry::HalfEdge => x / 2,
@@ -89,7 +91,7 @@ fn pop(positions: &[i32], halves: &[u32], pending: &mut [u32], n: usize, entry: 
     ensures { λ r. ⌜ Pops entry (now (positions .entry)) (now (halves .entry)) (now (pending .entry)) n (now (pending .exit)) r ⌝ }
 {
     let x = pending::last(pending, n);
-    let u = edge_of(entry, x);
+    let u = entry_edge(entry, x);
     if circle_test::should_flip(positions, halves, u) {
         let m = push_neighbours(halves, pending, n - 1, x, entry);
         return Popped {
@@ -105,7 +107,8 @@ fn pop(positions: &[i32], halves: &[u32], pending: &mut [u32], n: usize, entry: 
     }
 }
 
-// One turn of the loop: an entry is taken, and its edge flipped where it breaks the circle rule. A flip whose pushes would overfill the pending list is not made.
+// One turn of the loop: an entry is taken, and its edge flipped where it breaks the circle rule. A flip whose pushes
+// would overfill the pending list is not made.
 fn turn(
     positions: &[i32],
     outs: &mut [u32],
@@ -118,7 +121,9 @@ fn turn(
     entry: Entry,
 ) -> Turned
     requires { ⌜ TurnReady entry counts (now positions) (now outs) (now halves) (now faces) (now pending) n flips × (0 < n) ⌝ }
-    ensures { λ r. ⌜ TurnLeaves (now (outs .exit)) (now (halves .exit)) (now (faces .exit)) (now (pending .exit)) r (turn (length (now (pending .entry))) entry (positionOf (now (positions .entry))) (stateOf (now (outs .entry)) (now (halves .entry)) (now (faces .entry)) (now (pending .entry)) n flips)) ⌝ }
+    ensures { λ r. ⌜ TurnLeaves (now (outs .exit)) (now (halves .exit)) (now (faces .exit)) (now (pending .exit)) r
+        (turn (length (now (pending .entry))) entry (positionOf (now (positions .entry)))
+        (stateOf (now (outs .entry)) (now (halves .entry)) (now (faces .entry)) (now (pending .entry)) n flips)) ⌝ }
 {
     let popped = pop(positions, halves, pending, n, entry);
     if !popped.flip {
@@ -157,7 +162,9 @@ fn legalize_pending(
     entry: Entry,
 ) -> Legalized
     requires { ⌜ TurnReady entry counts (now positions) (now outs) (now halves) (now faces) (now pending) n flips ⌝ }
-    ensures { λ r. ⌜ Leaves (now (outs .exit)) (now (halves .exit)) (now (faces .exit)) r (legalize (length (now (pending .entry))) entry counts (positionOf (now (positions .entry))) (stateOf (now (outs .entry)) (now (halves .entry)) (now (faces .entry)) (now (pending .entry)) n flips)) ⌝ }
+    ensures { λ r. ⌜ Leaves (now (outs .exit)) (now (halves .exit)) (now (faces .exit)) r
+        (legalize (length (now (pending .entry))) entry counts (positionOf (now (positions .entry)))
+        (stateOf (now (outs .entry)) (now (halves .entry)) (now (faces .entry)) (now (pending .entry)) n flips)) ⌝ }
 {
     let mut left = n;
     let mut made = flips;
@@ -201,7 +208,9 @@ pub fn legalize_edge(
     flips: FlipCount,
 ) -> Legalized
     requires { ⌜ LegalizeReady counts (now positions) (now outs) (now halves) (now faces) (now pending) flips × In counts e ⌝ }
-    ensures { λ r. ⌜ Leaves (now (outs .exit)) (now (halves .exit)) (now (faces .exit)) r (legalizeEdge (length (now (pending .entry))) counts (positionOf (now (positions .entry))) (linksOf (now (outs .entry)) (now (halves .entry)) (now (faces .entry))) (flipCountOf flips) e) ⌝ }
+    ensures { λ r. ⌜ Leaves (now (outs .exit)) (now (halves .exit)) (now (faces .exit)) r
+        (legalizeEdge (length (now (pending .entry))) counts (positionOf (now (positions .entry)))
+        (linksOf (now (outs .entry)) (now (halves .entry)) (now (faces .entry))) (flipCountOf flips) e) ⌝ }
 {
     let n = pending::push(pending, 0, e);
     legalize_pending(
@@ -229,8 +238,12 @@ pub fn legalize_edges_after_removal(
     second: u32,
     flips: FlipCount,
 ) -> Legalized
-    requires { ⌜ LegalizeReady counts (now positions) (now outs) (now halves) (now faces) (now pending) flips × (first < counts .edges) × (second < counts .edges) ⌝ }
-    ensures { λ r. ⌜ Leaves (now (outs .exit)) (now (halves .exit)) (now (faces .exit)) r (legalizeEdgesAfterRemoval (length (now (pending .entry))) counts (positionOf (now (positions .entry))) (linksOf (now (outs .entry)) (now (halves .entry)) (now (faces .entry))) (flipCountOf flips) first second) ⌝ }
+    requires { ⌜ LegalizeReady counts (now positions) (now outs) (now halves) (now faces) (now pending) flips
+        × (first < counts .edges)
+        × (second < counts .edges) ⌝ }
+    ensures { λ r. ⌜ Leaves (now (outs .exit)) (now (halves .exit)) (now (faces .exit)) r
+        (legalizeEdgesAfterRemoval (length (now (pending .entry))) counts (positionOf (now (positions .entry)))
+        (linksOf (now (outs .entry)) (now (halves .entry)) (now (faces .entry))) (flipCountOf flips) first second) ⌝ }
 {
     let n = pending::push(pending, 0, first);
     let m = pending::push(pending, n, second);

@@ -1,4 +1,4 @@
--- The doubled area of one face as it is read, and of all inner faces in total: within 64 bits. Assumes nothing.
+-- The doubled area of one face, and of all inner faces in total: within 64 bits. Assumes nothing.
 use mathlib.Core.List.{List, [], _∷_}
 use mathlib.Core.Path.{_≡_, refl, sym, _∙_, ap, ap₂, subst}
 use Prim.Native.Nat.{ℕ, suc, _+_, _-_, _*_, _<_, _≤_}
@@ -10,46 +10,17 @@ use mir.Syntax.{w64}
 use mir.Val.{SFits, toZ, ofZ}
 use mir.Facts.{toZ-ofZ}
 use Rattle.algebra.specs.Bound.{natAbs-+, small-fits}
-use Rattle.dcel.specs.Rows.{There, halvesOf, rowOf, linksOf, positionOf}
+use Rattle.dcel.specs.Rows.{rowOf, linksOf, positionOf}
 use Rattle.math.specs.declared.Point.{Point}
 use Rattle.math.specs.Determinant.{InRange, orient2d}
 use Rattle.math.specs.Vector.{difference-short, cross-small, orient2d-vectors}
 use Rattle.mesh.specs.declared.Counts.{Counts}
 use Rattle.mesh.specs.Area.{atCorners, areaTotal, overFaces}
-use Rattle.mesh_check.specs.Readable.{Placed, Corners, Readable}
+use Rattle.mesh_check.specs.ReadableLaws.{corners-of}
 use Rattle.sums.specs.Sum.{sum}
 use Rattle.listing_run.specs.ListingRunRows.{Summable}
 
 -- ---- one face
-module _ {h : List ℕ} {P : List ℤ} {a b : ℕ} (K : Corners P h a) (bs : b ≡ halvesOf h .next a) where
-  pub second-there : There h b
-  second-there = rw bs (K .second)
-
-  pub placed-one : {u : ℕ} → u ≡ halvesOf h .origin a → Placed P u
-  placed-one us = rw us (K .one)
-
-  pub placed-two : {v : ℕ} → v ≡ halvesOf h .origin b → Placed P v
-  placed-two vs = rw (vs, bs) (K .two)
-
-  module _ {c : ℕ} (cs : c ≡ halvesOf h .next b) where
-    pub third-there : There h c
-    third-there = rw (cs, bs) (K .third)
-
-    pub placed-three : {w : ℕ} → w ≡ halvesOf h .origin c → Placed P w
-    placed-three ws = rw (ws, cs, bs) (K .three)
-
-pub placed-range : {P : List ℤ} {v : ℕ} {p : Point} → Placed P v → p ≡ positionOf P v → InRange p
-placed-range K e = rw e (K .range)
-
-pub area-is : (o h s : List ℕ) (P : List ℤ) (a : ℕ) {b c u v w : ℕ} {p q r : Point} → b ≡ halvesOf h .next a → c ≡ halvesOf h .next b
-    → u ≡ halvesOf h .origin a → v ≡ halvesOf h .origin b → w ≡ halvesOf h .origin c → p ≡ positionOf P u → q ≡ positionOf P v → r ≡ positionOf P w
-    → orient2d p q r ≡ atCorners orient2d (linksOf o h s) (positionOf P) a
-unfolding linksOf
-area-is o h s P a bs cs us vs ws ps qs rs = rw (← bs, ← cs, ← us, ← vs, ← ws, ← ps, ← qs, ← rs)
-
-pub corners-of : {C : Counts} {p : List ℤ} {h a : List ℕ} → Summable C p h a → {f : ℕ} → f < C .faces → {e : ℕ} → e ≡ rowOf a f → Corners p h e
-corners-of R l q = rw q (R .readable .corners _ l)
-
 -- points in range are at most 2 ^ 25 apart
 pub area-small : (a b c : Point) → InRange a → InRange b → InRange c → natAbs (orient2d a b c) ≤ 2251799813685248
 area-small a b c x y z = subst (λ (k : ℤ). natAbs k ≤ 2251799813685248) (orient2d-vectors a b c) (cross-small (difference-short y x) (difference-short z x))
@@ -78,7 +49,7 @@ module _ (P : List ℤ) (h a : List ℕ) where
     face-small : natAbs r ≤ 2251799813685248
     unfolding linksOf
     face-small =
-        let K = corners-of S l es in
+        let K = corners-of (S .readable) l es in
         subst (λ (k : ℤ). natAbs k ≤ 2251799813685248) (sym (rs [] []))
         (area-small _ _ _ (K .one .range) (K .two .range) (K .three .range))
 

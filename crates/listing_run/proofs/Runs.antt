@@ -8,50 +8,28 @@ use borrow.Author.Tests.{ltb-false}
 use lib.Dec.{ltb}
 use lib.IntN.{ℤ}
 use lib.ListN.{length, drop, length-drop}
-use Rattle.dcel.specs.Rows.{There, linksOf, positionOf, rowOf}
+use Rattle.dcel.specs.Rows.{linksOf, positionOf, rowOf}
 use Rattle.finish.specs.declared.Finished.{Finished}
 use Rattle.finish.specs.declared.Totals.{Totals}
 use Rattle.listing_text.specs.Listing.{totalsLine, refusalLine}
 use Rattle.mesh.specs.declared.Counts.{Counts}
 use Rattle.mesh.specs.Area.{areaTotal}
-use Rattle.mesh.specs.CountsLaws.{halves-fit, faces-fit}
+use Rattle.mesh.specs.CountsLaws.{faces-fit}
 use Rattle.mesh.specs.Good.{Good}
 use Rattle.mesh_check.specs.declared.Refusal.{Refusal}
 use Rattle.mesh_check.specs.Check.{pointCount, vertexCount}
-use Rattle.mesh_check.specs.Readable.{Placed, Readable}
+use Rattle.mesh_check.specs.Readable.{Readable}
+use Rattle.mesh_check.specs.ReadableLaws.{readable-rows}
 use Rattle.sweep.specs.Run.{Lent, Outcome, runOf}
 use Rattle.sweep.specs.RunLaws.{run-accepts, run-start, run-accepted, run-finishes}
 use Rattle.listing_run.specs.ListingRun.{finishedListing, outcomeListing, lentListing, pointLines, totalsOf}
 use Rattle.listing_run.specs.ListingRunRows.{Summable, Listable}
 
 -- the corners of a good mesh can be read in rows that are long enough
-module _ {C : Counts} (o h a : List ℕ) (P : List ℤ) (G : Good C (linksOf o h a) (positionOf P)) (ps : 2 * C .vertices ≤ length P) (hs : 24 * C .vertices ≤ length h)
-    (fs : 2 * C .vertices ≤ length a) where
-  placed : {v : ℕ} → v < C .vertices → Placed P v
-  placed k = record { there = omega arith; range = G .range k }
-
-  half-there : {x : ℕ} → x < 2 * C .edges → There h x
-  half-there k = let u = halves-fit (G .wf) (le-refl (C .vertices)) in omega arith
-
-  readable : Readable C P h a
-  unfolding linksOf
-  readable = record {
-    some = G .wf .some;
-    faces = let u = faces-fit (G .wf) (le-refl (C .vertices)) in omega arith;
-    corners = λ f k.
-        let W = G .wf in
-        let a< = W .ranges .adjacent< k in
-        let b< = W .ranges .next< a< in
-        let c< = W .ranges .next< b< in
-        record {
-          first = half-there a<;
-          second = half-there b<;
-          third = half-there c<;
-          one = placed (W .ranges .origin< a<);
-          two = placed (W .ranges .origin< b<);
-          three = placed (W .ranges .origin< c<);
-        };
-  }
+readable : {C : Counts} (o h a : List ℕ) (P : List ℤ) → Good C (linksOf o h a) (positionOf P) → 2 * C .vertices ≤ length P
+    → 24 * C .vertices ≤ length h → 2 * C .vertices ≤ length a → Readable C P h a
+readable o h a P G ps hs fs =
+    readable-rows o h a P (G .wf) (λ v k. record { there = omega arith; range = G .range k }) hs fs
 
 -- ---- a run with at most 400 vertices
 module _ (l : Lent) (few : l .counts .vertices + pointCount (l .points) ≤ 400) where

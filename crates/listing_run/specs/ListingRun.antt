@@ -1,5 +1,6 @@
 -- The listing of a text: 01, "Runs to reproduce", from bytes to bytes. Definitions only.
--- `listingOf text` is what the listing program prints for any bytes whatever; what a text says is `readOf` of listing_text, what a run comes to is `runOf` of run.
+-- `listingOf text` is what the listing program prints for any bytes whatever; what a text says is `readOf` of
+-- listing_text, what a run comes to is `runOf` of run.
 use mathlib.Core.List.{List, [], _∷_, _++_}
 use Prim.Native.Nat.{ℕ, zero, suc, _+_, _*_, _-_}
 use lib.Ieee.{ofInt, binary64}
@@ -49,7 +50,8 @@ lentIn zs positions outs halves faces nodes freed buckets pending answers =
     nodes freed buckets pending answers
     (ofInt binary64 (getD zs 6 (pos 0))) (ofInt binary64 (getD zs 7 (pos 0))) (drop 8 zs)
 
--- 01: "at most 400 vertices with the seed's; it lends 4,096 pending entries": every row has its size for 400 vertices, and holds zeros but for the seed
+-- 01: "at most 400 vertices with the seed's; it lends 4,096 pending entries": every row has its size for 400 vertices,
+-- and holds zeros but for the seed
 unfoldable pub lentOf : List ℤ → Lent
 lentOf zs =
     lentIn zs (replicate 800 (pos 0)) (replicate 400 0) (replicate 9600 0) (replicate 800 0)
@@ -89,7 +91,8 @@ unfoldable pub finishedListing : ℕ → Outcome → Finished → List ℕ
 finishedListing count r (Finished.Refused x) = refusalLine (x .number) (x .place)
 finishedListing count r (Finished.Accepted t) =
     pointLines (rowOf (r .answers)) count
-    ++ totalsLine (totalsOf (r .answer .counts) (areaTotal (r .answer .counts) (linksOf (r .outs) (r .halves) (r .faces)) (positionOf (r .positions))) t)
+    ++ totalsLine (totalsOf (r .answer .counts)
+    (areaTotal (r .answer .counts) (linksOf (r .outs) (r .halves) (r .faces)) (positionOf (r .positions))) t)
 
 -- of a run with so many points
 abbrev pub outcomeListing : ℕ → Outcome → List ℕ

@@ -9,10 +9,8 @@ ghost use Rattle.finish.specs.declared.Finished.{Finished};
 ghost use Rattle.finish.specs.declared.Totals.{Totals};
 ghost use Rattle.listing_text.specs.Decimal.{Appended};
 ghost use Rattle.listing_text.specs.Listing.{pointLine, totalsLine};
-ghost use Rattle.mesh.specs.Area.{atCorners, areaTotal};
-ghost use Rattle.math.specs.Determinant.{orient2d};
+ghost use Rattle.mesh.specs.Area.{areaTotal};
 ghost use Rattle.mesh_check.specs.Check.{pointCount};
-ghost use Rattle.mesh_check.specs.Readable.{Corners};
 ghost use Rattle.sweep.specs.Run.{lent, outcome};
 ghost use Rattle.listing_run.specs.ListingRun.{seedOuts, seedHalves, seedFaces, lentIn};
 ghost use Rattle.listing_run.specs.ListingRun.{answerLine, pointLines, totalsOf, outcomeListing, lentListing, numbersListing, listingOf};
@@ -51,22 +49,6 @@ fn store_coordinates(row: &mut [i32], values: &[i32])
     }
 }
 
-// Twice the area of the triangle of the corners along next from half-edge a.
-fn doubled_area_at(positions: &[i32], halves: &[u32], a: u32) -> i64
-    requires { ⌜ Corners (now positions) (now halves) a ⌝ }
-    ensures { λ r. ⌜ ((o s : List ℕ) → r ≡ atCorners orient2d (linksOf o (now (halves .entry)) s) (positionOf (now (positions .entry))) a) ⌝ }
-{
-    let b = dcel::next(halves, a);
-    let c = dcel::next(halves, b);
-    let u = dcel::origin(halves, a);
-    let v = dcel::origin(halves, b);
-    let w = dcel::origin(halves, c);
-    let p = dcel::position(positions, u);
-    let q = dcel::position(positions, v);
-    let r = dcel::position(positions, w);
-    math::orient2d(p, q, r)
-}
-
 // The inner faces' doubled areas, in total.
 fn doubled_area(positions: &[i32], halves: &[u32], faces: &[u32], counts: Counts) -> i64
     requires { ⌜ Summable counts (now positions) (now halves) (now faces) ⌝ }
@@ -78,7 +60,7 @@ fn doubled_area(positions: &[i32], halves: &[u32], faces: &[u32], counts: Counts
     let mut f: u32 = 1;
     while f < count {
         let a = dcel::adjacent(faces, f);
-        total += doubled_area_at(positions, halves, a);
+        total += mesh_check::doubled_area_at(positions, halves, a);
         f += 1;
     }
     total

@@ -1,4 +1,5 @@
--- The digits of a number as bytes, and rows of bytes that are written from a place on. Definitions only; laws in `DecimalLaws` and `RowLaws`.
+-- The digits of a number as bytes, and rows of bytes that are written from a place on. Definitions only; laws in
+-- `DecimalLaws` and `RowLaws`.
 use mathlib.Core.Bool.{Bool, true, false}
 use mathlib.Core.List.{List, [], _∷_, _++_}
 use mathlib.Core.Path.{_≡_}

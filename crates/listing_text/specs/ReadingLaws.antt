@@ -20,36 +20,36 @@ use Rattle.listing_text.specs.Reading.{linesOf, fieldsOf, numberOf, foll
 use Rattle.listing_text.specs.Reading.{letterOf, countOf, Reading, malformed, numbers, lineThen, readFrom, readOf, rowOf}
 
 -- ---- a line
-abbrev Sized : ℕ → Option (List ℤ) → Type 0
-Sized k none = Unit {0}
-Sized k (some zs) = length zs ≡ k
+abbrev OfLength : ℕ → Option (List ℤ) → Type 0
+OfLength k none = Unit {0}
+OfLength k (some zs) = length zs ≡ k
 
-followed-sized : (k : ℕ) (a : Option ℤ) (o : Option (List ℤ)) → Sized k o → Sized (suc k) (followed a o)
+followed-sized : (k : ℕ) (a : Option ℤ) (o : Option (List ℤ)) → OfLength k o → OfLength (suc k) (followed a o)
 followed-sized k none o h = tt
 followed-sized k (some z) none h = tt
 followed-sized k (some z) (some zs) h = ap suc h
 
-numbers-sized : (k : ℕ) (fs : List (List ℕ)) → Sized k (numbersOf k fs)
+numbers-sized : (k : ℕ) (fs : List (List ℕ)) → OfLength k (numbersOf k fs)
 unfolding numbersOf
 numbers-sized zero [] = refl
 numbers-sized zero (f ∷ fs) = tt
 numbers-sized (suc k) [] = tt
 numbers-sized (suc k) (f ∷ fs) = followed-sized k (numberOf f) (numbersOf k fs) (numbers-sized k fs)
 
-labelled-sized : (letter k : ℕ) (fs : List (List ℕ)) → Sized k (labelled letter k fs)
+labelled-sized : (letter k : ℕ) (fs : List (List ℕ)) → OfLength k (labelled letter k fs)
 labelled-sized letter k [] = tt
 labelled-sized letter k (f ∷ fs) = go (isLetter letter f)
   where
-    go : (t : Bool) → Sized k (cond t (numbersOf k fs) none)
+    go : (t : Bool) → OfLength k (cond t (numbersOf k fs) none)
     go true = numbers-sized k fs
     go false = tt
 
-line-sized : (letter k : ℕ) (line : List ℕ) → Sized k (lineOf letter k line)
+line-sized : (letter k : ℕ) (line : List ℕ) → OfLength k (lineOf letter k line)
 unfolding lineOf
 line-sized letter k line = labelled-sized letter k (fieldsOf line)
 
 pub line-length : (letter k : ℕ) (line : List ℕ) {zs : List ℤ} → lineOf letter k line ≡ some zs → length zs ≡ k
-line-length letter k line e = subst (Sized k) e (line-sized letter k line)
+line-length letter k line e = subst (OfLength k) e (line-sized letter k line)
 
 -- ---- how many numbers stand before line n
 abbrev pub startOf : ℕ → ℕ
@@ -82,7 +82,7 @@ within-none n l m = go (decLt n 3)
     go (yes h) = rw (lt-ltb n 3 h) (omega arith, m)
     go (no h) = rw (le-ltb n 3 (omega arith)) (n, omega arith, omega arith, m, rw (ne-eqb n 1 (λ e. omega arith)) (omega arith))
 
-within-line : (n : ℕ) → 1 ≤ n → n < 400 → (o : Option (List ℤ)) → Sized (countOf n) o → (r : Reading) → Within (n + 1) r
+within-line : (n : ℕ) → 1 ≤ n → n < 400 → (o : Option (List ℤ)) → OfLength (countOf n) o → (r : Reading) → Within (n + 1) r
     → Within n (lineThen n o r)
 within-line n l m none s r w = (omega arith, omega arith)
 within-line n l m (some zs) s (malformed k) w = (omega (arith, w .0), w .1)

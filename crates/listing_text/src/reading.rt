@@ -117,7 +117,8 @@ fn number(field: &[u8]) -> Signed
 // Whether so many numbers and no more stand behind the end of a field. They are stored from a place on.
 fn fields(line: &[u8], from: usize, count: usize, numbers: &mut [i32; 802], at: usize) -> bool
     requires { ⌜ at + count ≤ 802 ⌝ }
-    ensures { λ r. ⌜ Stored (now (numbers .entry)) at (numbersOf count (fieldsBehind (drop from (now (line .entry))))) (now (numbers .exit)) r ⌝ }
+    ensures { λ r. ⌜ Stored (now (numbers .entry)) at (numbersOf count (fieldsBehind (drop from (now (line .entry)))))
+        (now (numbers .exit)) r ⌝ }
 {
     let mut place = from;
     let mut k = 0;

@@ -10,7 +10,7 @@ use lib.Ieee.{Float}
 use lib.IntN.{ℤ}
 use lib.ListN.{length}
 use borrow.Author.Tests.{ltb-false}
-use Rattle.dcel.specs.Held.{Held}
+use Rattle.dcel.specs.MeshHeld.{MeshHeld}
 use Rattle.dcel.specs.Rows.{rowOf, linksOf, positionOf}
 use Rattle.hull.specs.Boundary.{edgeAt}
 use Rattle.hull.specs.Ready.{boundary-rows, boundary-closed, strict-test, center-test, size-is, size-asks}
@@ -70,7 +70,7 @@ ring-room n nodes freed buckets e =
 
 -- ---- rows 6 and 7
 -- the rows of an accepted mesh hold it
-pub accepted-held : {points : List ℤ} {C : Counts} {p : List ℤ} {o h a : List ℕ} → AcceptedWith points C p o h a → Held C o h a
+pub accepted-held : {points : List ℤ} {C : Counts} {p : List ℤ} {o h a : List ℕ} → AcceptedWith points C p o h a → MeshHeld C o h a
 unfolding vertexCount
 accepted-held {points} {C} {p} {o} {h} {a} A =
     let W = A .good .wf in
@@ -88,7 +88,7 @@ pub accepted-placed : {points : List ℤ} {C : Counts} {p : List ℤ} {o h a : L
 unfolding vertexCount
 accepted-placed A = let r = A .rows .positions in omega arith
 
-module _ {C : Counts} (p : List ℤ) {o h a : List ℕ} (M : Held C o h a) (placed : 2 * C .vertices ≤ length p) {start size : ℕ} (s : start ≡ rowOf a 0) (z : size ≡ boundaryLength C (linksOf o h a)) where
+module _ {C : Counts} (p : List ℤ) {o h a : List ℕ} (M : MeshHeld C o h a) (placed : 2 * C .vertices ≤ length p) {start size : ℕ} (s : start ≡ rowOf a 0) (z : size ≡ boundaryLength C (linksOf o h a)) where
   pub closed-boundary : ClosedBoundary p h start size
   unfolding linksOf
   closed-boundary = subst (λ (x : ℕ). ClosedBoundary p h x size) (sym s) (record { rows = boundary-rows M p placed; closed = boundary-closed M z; round = λ k. meets k })

@@ -1,4 +1,5 @@
-// The call `locate` (01): the boundary edge at an angle about a centre. `check_start` has the refusals 1 to 7, which every call that is given a centre tests first; they read the mesh alone.
+// The call `locate` (01): the boundary edge at an angle about a centre. `check_start` has the refusals 1 to 7, which
+// every call that is given a centre tests first; they read the mesh alone.
 // Then the ring is built in the lent rows, asked once, and its rows are cleared.
 ghost use mathlib.Core.Path.{_≡_};
 ghost use mathlib.Core.List.{List, []};
@@ -65,7 +66,8 @@ fn check_ring(positions: &[i32], halves: &[u32], start: u32, size: u32, center: 
     Checked::Accepted
 }
 
-// Rows 1 to 7, for a call that is also given points, none or more. `short`: a row that is not the mesh's, nor that of the points, is too short.
+// Rows 1 to 7, for a call that is also given points, none or more. `short`: a row that is not the mesh's, nor that of
+// the points, is too short.
 pub fn check_start(
     points: &[i32],
     short: bool,
@@ -76,7 +78,8 @@ pub fn check_start(
     faces: &[u32],
     center: Point2,
 ) -> Checked
-    ensures { λ r. ⌜ r ≡ checkStart (now (points .entry)) short counts (now (positions .entry)) (now (outs .entry)) (now (halves .entry)) (now (faces .entry)) (center .x) (center .y) ⌝ }
+    ensures { λ r. ⌜ r ≡ checkStart (now (points .entry)) short counts
+        (now (positions .entry)) (now (outs .entry)) (now (halves .entry)) (now (faces .entry)) (center .x) (center .y) ⌝ }
 {
     match mesh_check::check_with(points, short, counts, positions, outs, halves, faces) {
         Checked::Refused(r) => Checked::Refused(r),
@@ -109,7 +112,10 @@ fn check_locate(
     center: Point2,
     a: f64,
 ) -> Checked
-    ensures { λ r. ⌜ r ≡ andThen (checkStart [] short counts (now (positions .entry)) (now (outs .entry)) (now (halves .entry)) (now (faces .entry)) (center .x) (center .y)) (checkAngle a) ⌝ }
+    ensures { λ r. ⌜ r ≡ andThen
+        (checkStart [] short counts (now (positions .entry)) (now (outs .entry)) (now (halves .entry)) (now (faces .entry))
+        (center .x) (center .y))
+        (checkAngle a) ⌝ }
 {
     let none = &positions[0..0];
     match check_start(none, short, counts, positions, outs, halves, faces, center) {
@@ -142,7 +148,8 @@ fn place_at(
 
 // The ring's rows to zeros, each over its whole length.
 pub fn clear_ring(nodes: &mut [[u64; 4]], freed: &mut [u32], buckets: &mut [u32])
-    ensures { λ r. ⌜ RingCleared (now (nodes .entry)) (now (nodes .exit)) (now (freed .entry)) (now (freed .exit)) (now (buckets .entry)) (now (buckets .exit)) ⌝ }
+    ensures { λ r. ⌜ RingCleared (now (nodes .entry)) (now (nodes .exit)) (now (freed .entry)) (now (freed .exit))
+        (now (buckets .entry)) (now (buckets .exit)) ⌝ }
 {
     ring_rows::clear_nodes(nodes);
     dcel::clear(freed);
@@ -162,7 +169,9 @@ pub fn locate(
     center: Point2,
     angle: f64,
 ) -> Located
-    ensures { λ r. ⌜ record { answer = r; nodes = now (nodes .exit); freed = now (freed .exit); buckets = now (buckets .exit) } ≡ locateOf counts (now (positions .entry)) (now (outs .entry)) (now (halves .entry)) (now (faces .entry)) (now (nodes .entry)) (now (freed .entry)) (now (buckets .entry)) (center .x) (center .y) angle ⌝ }
+    ensures { λ r. ⌜ record { answer = r; nodes = now (nodes .exit); freed = now (freed .exit); buckets = now (buckets .exit) }
+        ≡ locateOf counts (now (positions .entry)) (now (outs .entry)) (now (halves .entry)) (now (faces .entry))
+        (now (nodes .entry)) (now (freed .entry)) (now (buckets .entry)) (center .x) (center .y) angle ⌝ }
 {
     let short = ring_rows_short(
         counts.vertices as usize,

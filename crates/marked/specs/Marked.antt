@@ -30,7 +30,7 @@ use Rattle.corner.specs.Corner.{closeCorner}
 use Rattle.convexity.specs.Convexity.{turnsLeftAt, lastTurnsLeft, closeLast, closeCorners, passTurn, isSecond, fixConvexity, passAgain, convexity}
 use Rattle.closing.specs.Closing.{closeEdge, closeBelow, closeTurn, closingPass}
 use Rattle.finish.specs.Finish.{closeAfter, finishMesh, finishedFrom}
-use Rattle.legalize.specs.Legalize.{edgeOf, pushed, flipped, popped, legalize}
+use Rattle.legalize.specs.Legalize.{entryEdge, pushed, flipped, popped, legalize}
 use Rattle.pending.specs.Pending.{pendingOf, contains, pushIfNotContained}
 use Rattle.mesh.specs.Area.{boundaryLength, cross, boundaryArea, overFaces, circleAt}
 use Rattle.mesh.specs.Circle.{breaksCircle}
@@ -132,7 +132,7 @@ M10 = (l : Lent) → l .points ≡ [] → runChecked l ≡ Checked.Accepted → 
 
 -- ---- the theorem
 pub marked : angles.M1 × angles.M2 × angles.M3 × M4 × M5 × M6 × M7 × M8 × M9 × M10
-unfolding sweepPoint sweepAfter finishAfter answerWord answersAfter runChecked outcomeOf runOf sweepRowsShort sweepChecked isAdded leftAlone addedAt appliedBy applied stepMesh fateNumber fateVertex isCoordinate isPosition atEnd fateAt ifAdded decidedAt decided firstFace beside covers faceEdge walkEnds walkTurn walk addVertex turns addTurns closeCorner turnsLeftAt lastTurnsLeft closeLast closeCorners passTurn isSecond fixConvexity passAgain convexity closeEdge closeBelow closeTurn closingPass closeAfter finishMesh finishedFrom edgeOf pushed flipped popped legalize pendingOf contains pushIfNotContained boundaryLength cross boundaryArea overFaces circleAt breaksCircle flipBetween flipCw faceBetween createSingleFaceBetweenEdgeAndNext faceAdjacent createNewFaceAdjacentToEdge halfEdgeInUse linksInUse halfEdgeLinked innerFaceRule outerFaceRule sideRule vertexRule eulerRule rules countRefused meshRowsShort firstOutside vertexOrPoint turnsLeft firstNotLeft checkMesh checkOf pointCount vertexCount rowsShort checkWith andThen ringRowsShort checkRing checkStart checkAngle placeAt locateOf turnsAbout refusesCenter refusesRing coversLeft coversRight leftChain rightChain anglesAfter soundAfter isFit proper wraps countBefore countAround mergedBefore merged member allDiffer isSound isStrict between passedCount boundaryEdges boundaryAngles isSoundRing isStrictRing filter ringNodes located holds gap wide absoluteOf slope ofDiff pseudoAngle angleAbout bounded validCenter isNumber atCenter validAngle halvesOf rowOf positionOf linksOf rowFrom field halvesIn halvesFrom coordinate positionsFrom farIn farOf orient2d incircle height factor length2 difference dotOf crossOf all-below any-below first-below count rev reaches joined period-below put when until flipCountOf flipCountFrom sums.sum tallies.walk tallies.tally angle.turns locate.outcomeOf ofInt neg add sub mul div sum round units odd size span climb lt
+unfolding sweepPoint sweepAfter finishAfter answerWord answersAfter runChecked outcomeOf runOf sweepRowsShort sweepChecked isAdded leftAlone addedAt appliedBy applied stepMesh fateNumber fateVertex isCoordinate isPosition atEnd fateAt ifAdded decidedAt decided firstFace beside covers faceEdge walkEnds walkTurn walk addVertex turns addTurns closeCorner turnsLeftAt lastTurnsLeft closeLast closeCorners passTurn isSecond fixConvexity passAgain convexity closeEdge closeBelow closeTurn closingPass closeAfter finishMesh finishedFrom entryEdge pushed flipped popped legalize pendingOf contains pushIfNotContained boundaryLength cross boundaryArea overFaces circleAt breaksCircle flipBetween flipCw faceBetween createSingleFaceBetweenEdgeAndNext faceAdjacent createNewFaceAdjacentToEdge halfEdgeInUse linksInUse halfEdgeLinked innerFaceRule outerFaceRule sideRule vertexRule eulerRule rules countRefused meshRowsShort firstOutside vertexOrPoint turnsLeft firstNotLeft checkMesh checkOf pointCount vertexCount rowsShort checkWith andThen ringRowsShort checkRing checkStart checkAngle placeAt locateOf turnsAbout refusesCenter refusesRing coversLeft coversRight leftChain rightChain anglesAfter soundAfter isFit proper wraps countBefore countAround mergedBefore merged member allDiffer isSound isStrict between passedCount boundaryEdges boundaryAngles isSoundRing isStrictRing filter ringNodes located holds gap wide absoluteOf slope ofDiff pseudoAngle angleAbout bounded validCenter isNumber atCenter validAngle halvesOf rowOf positionOf linksOf rowFrom field halvesIn halvesFrom coordinate positionsFrom farIn farOf orient2d incircle height factor length2 difference dotOf crossOf all-below any-below first-below count rev reaches joined period-below put when until flipCountOf flipCountFrom sums.sum tallies.walk tallies.tally angle.turns locate.outcomeOf ofInt neg add sub mul div sum round units odd size span climb lt
 marked =
     let m = angles.marked in
     (m .0, m .1, m .2, refl, (refl, refl, refl, refl), (refl, refl), refl, (refl, refl), refl, no-points)

@@ -1,4 +1,5 @@
--- What `incircle` says of the circle of a, b and c. Its centre is the point (centreX / k, centreY / k), where k is four times the signed area of a b c; all is said of k times the coordinates, so that every number is whole.
+-- What `incircle` says of the circle of a, b and c. Its centre is the point (centreX / k, centreY / k), where k is four
+-- times the signed area of a b c; all is said of k times the coordinates, so that every number is whole.
 -- Assumes nothing.
 use mathlib.Core.Path.{_≡_, refl, sym, _∙_, ap, ap₂}
 use mathlib.Core.List.{List, [], _∷_}
@@ -69,18 +70,21 @@ module _ (a b c d : Point) (k mx my r : ℤ) where
   abbrev f : Pt E → E
   f p = Distance2 E· (var 8) (var 9) (var 10) p
 
-  power : Distance2 ℤ· k mx my (pt a) ≡ r → Distance2 ℤ· k mx my (pt b) ≡ r → Distance2 ℤ· k mx my (pt c) ≡ r → k *ℤ k *ℤ incircle a b c d ≡ orient2d a b c *ℤ (r -ℤ Distance2 ℤ· k mx my (pt d))
+  power : Distance2 ℤ· k mx my (pt a) ≡ r → Distance2 ℤ· k mx my (pt b) ≡ r → Distance2 ℤ· k mx my (pt c) ≡ r
+      → k *ℤ k *ℤ incircle a b c d ≡ orient2d a b c *ℤ (r -ℤ Distance2 ℤ· k mx my (pt d))
   unfolding incircle orient2d
   power p q s =
       eq-by (Orient2d E· B C D *⁰ eq-in ρ (f A) (var 11) p +⁰ (⊝ Orient2d E· A C D) *⁰ eq-in ρ (f B) (var 11) q +⁰ Orient2d E· A B D *⁰ eq-in ρ (f C) (var 11) s)
       (var 8 ⊗ var 8 ⊗ Incircle E· A B C D) (Orient2d E· A B C ⊗ (var 11 ⊖ f D)) refl
 
-pub incircle-power : (a b c d : Point) → scale a b c *ℤ scale a b c *ℤ incircle a b c d ≡ orient2d a b c *ℤ (fromCentre a b c a -ℤ fromCentre a b c d)
+pub incircle-power : (a b c d : Point)
+    → scale a b c *ℤ scale a b c *ℤ incircle a b c d ≡ orient2d a b c *ℤ (fromCentre a b c a -ℤ fromCentre a b c d)
 unfolding fromCentre
 incircle-power a b c d =
     power a b c d (scale a b c) (CentreX ℤ· (pt a) (pt b) (pt c)) (CentreY ℤ· (pt a) (pt b) (pt c)) (fromCentre a b c a) refl (centre-b a b c) (centre-c a b c)
 
--- ---- where a b c turns left, the determinant is positive exactly where d is nearer to the centre than a, b and c are: strictly inside the circle
+-- ---- where a b c turns left, the determinant is positive exactly where d is nearer to the centre than a, b and c are:
+-- strictly inside the circle
 module _ (a b c d : Point) (left : pos 0 <ℤ orient2d a b c) where
   -- the area S, the determinant, and the squared distances of a and of d
   abbrev ρ′ : List ℤ

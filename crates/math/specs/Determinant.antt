@@ -1,7 +1,10 @@
--- The meanings of this crate's functions, for points with whole coordinates. Definitions only; their laws are in `Plane`, `Circle`, `Side`, `Range` and `Projection`.
--- `orient2d` and `incircle` are the determinants of J. R. Shewchuk, "Adaptive Precision Floating-Point Arithmetic and Fast Robust Geometric Predicates", 1997.
+-- The meanings of this crate's functions, for points with whole coordinates. Definitions only; their laws are in
+-- `Plane`, `Circle`, `Side`, `Range` and `Projection`.
+-- `orient2d` and `incircle` are the determinants of J. R. Shewchuk, "Adaptive Precision Floating-Point Arithmetic and
+-- Fast Robust Geometric Predicates", 1997.
 -- 01: "`robust::orient2d` and `robust::incircle` mean the exact sign of Shewchuk's determinants", "Left is strictly positive."
--- A formula is written once, over any numbers R with a sum ⊞, a difference ⊟, a product ⊠ and a one: at ℤ it is what a contract says, and at the expressions `E` what the ring solver computes with.
+-- A formula is written once, over any numbers R with a sum ⊞, a difference ⊟, a product ⊠ and a one: at ℤ it is what a
+-- contract says, and at the expressions `E` what the ring solver computes with.
 use mathlib.Core.Bool.{Bool, true, false, _&&_}
 use Prim.Native.Nat.{zero, suc, _≤_}
 use lib.Dec.{leb}

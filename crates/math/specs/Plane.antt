@@ -1,4 +1,5 @@
--- Laws of the plane: how `orient2d`, `incircle` and `height` behave under a change of order and under a flip. Polynomial identities, by the ring solver, and signs by certificates.
+-- Laws of the plane: how `orient2d`, `incircle` and `height` behave under a change of order and under a flip.
+-- Polynomial identities, by the ring solver, and signs by certificates.
 -- Assumes nothing.
 use mathlib.Core.Path.{_≡_, refl, sym, _∙_, ap, subst}
 use mathlib.Core.List.{List, [], _∷_}
@@ -14,7 +15,8 @@ use Rattle.algebra.specs.Sign.{Pos, NN, _*⁺_, _*°_, _+⁺_, _+°_, weak, sq,
 use Rattle.math.specs.declared.Point.{Point}
 use Rattle.math.specs.Determinant.{Ops, Pt, det2, det3, Lift, Orient2d, Incircle, Height, Minus, ℤ·, pt, orient2d, incircle, height, isOrderedCcw, containedInCircumference}
 
--- ---- four points as the solver has them: `ring (env a b c d) e₁ e₂ refl` proves an identity of a, b, c and d, which are A, B, C and D in e₁ and e₂
+-- ---- four points as the solver has them: `ring (env a b c d) e₁ e₂ refl` proves an identity of a, b, c and d, which
+-- are A, B, C and D in e₁ and e₂
 abbrev pub E· : Ops E
 E· = record { _⊞_ = _⊕_; _⊟_ = _⊖_; _⊠_ = _⊗_; one = num (pos 1) }
 
@@ -90,7 +92,9 @@ orient2d-abb a b = ring (a .x ∷ a .y ∷ b .x ∷ b .y ∷ []) (Orient2d E· A
 
 module _ (a b c d : Point) where
   -- the 3x3 determinant of the differences from d, as in Shewchuk's paper
-  pub incircle-reduced : let u = Minus ℤ· (pt a) (pt d) in let v = Minus ℤ· (pt b) (pt d) in let w = Minus ℤ· (pt c) (pt d) in incircle a b c d ≡ det3 ℤ· (u .x, u .y, Lift ℤ· u) (v .x, v .y, Lift ℤ· v) (w .x, w .y, Lift ℤ· w)
+  pub incircle-reduced : let u = Minus ℤ· (pt a) (pt d) in let v = Minus ℤ· (pt b) (pt d) in
+      let w = Minus ℤ· (pt c) (pt d) in incircle a b c d
+      ≡ det3 ℤ· (u .x, u .y, Lift ℤ· u) (v .x, v .y, Lift ℤ· v) (w .x, w .y, Lift ℤ· w)
   unfolding incircle
   incircle-reduced =
       let u = Minus E· A D in let v = Minus E· B D in let w = Minus E· C D in
@@ -157,7 +161,8 @@ neg-test (pos zero) = refl
 neg-test (pos (suc n)) = sym (lt-ltb 0 (suc n) (suc-le-suc zero-le))
 neg-test (negsuc n) = le-ltb (suc n) 0 zero-le
 
--- math.rs: "incircle expects all vertices to be ordered CW for right-handed systems. For consistency, the public interface of this method will expect the points to be ordered ccw." Its test is `incircle(v3, v2, v1, p) < 0`
+-- math.rs: "incircle expects all vertices to be ordered CW for right-handed systems. For consistency, the public
+-- interface of this method will expect the points to be ordered ccw." Its test is `incircle(v3, v2, v1, p) < 0`
 pub contained-reversed : (v1 v2 v3 p : Point) → containedInCircumference v1 v2 v3 p ≡ ltZ (incircle v3 v2 v1 p) (pos 0)
 contained-reversed v1 v2 v3 p = sym (ap (λ (z : ℤ). ltZ z (pos 0)) (incircle-reversed v1 v2 v3 p) ∙ neg-test (incircle v1 v2 v3 p))
 
@@ -169,8 +174,10 @@ contained-other a b c d = ap (ltZ (pos 0)) (incircle-other a b c d)
 pub contained-next : (a b c d : Point) → containedInCircumference a b c d ≡ containedInCircumference b c a d
 contained-next a b c d = ap (ltZ (pos 0)) (incircle-next a b c d)
 
--- The hull cases of `legalize_edges_after_removal` of triangulation_ext.rs, `is_ordered_ccw(right, from, to)` and `is_ordered_ccw(left, to, from)`, ask whether the one triangle at the edge turns right or not at all:
--- with the triangle (to, from, right), or (from, to, left), as a b c, both are `is_ordered_ccw(c, b, a)`, which does not hold where that triangle turns left
+-- The hull cases of `legalize_edges_after_removal` of triangulation_ext.rs, `is_ordered_ccw(right, from, to)` and
+-- `is_ordered_ccw(left, to, from)`, ask whether the one triangle at the edge turns right or not at all:
+-- with the triangle (to, from, right), or (from, to, left), as a b c, both are `is_ordered_ccw(c, b, a)`, which does
+-- not hold where that triangle turns left
 pub hull-legal : (a b c : Point) → pos 0 <ℤ orient2d a b c → isOrderedCcw c b a ≡ false
 hull-legal a b c h = ap (leZ (pos 0)) (orient2d-next c b a ∙ orient2d-swap a b c) ∙ below (orient2d a b c) (h .lt)
   where

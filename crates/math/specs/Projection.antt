@@ -188,7 +188,8 @@ module _ (f : Format) where
           ∙ zero-sum P ∙ ap (λ (k : ℕ). round f false (k + 1) P) (sym (zero-mul P)) ∙ ap (λ (k : ℕ). round f false (k * P + 1) P) (ap natAbs i)
       go true (suc n) v i = absurd (false≢true (ap nonNeg i))
 
-pub lt-plus-epsilon : (x y : Float) (l : ℕ) (z : ℤ) → l ≤ 2251799813685248 → Whole x (pos l) → Whole y z → lt (add binary64 x epsilon) y ≡ ltZ (pos l) z
+pub lt-plus-epsilon : (x y : Float) (l : ℕ) (z : ℤ) → l ≤ 2251799813685248 → Whole x (pos l) → Whole y z
+    → lt (add binary64 x epsilon) y ≡ ltZ (pos l) z
 lt-plus-epsilon x y l z h v w = ap (λ (k : Float). lt k y) (plus binary64 x epsilon l (refl, refl) v) ∙ above binary64 l (omega arith) y z w
 
 -- ---- the products, from coordinates in range
@@ -208,7 +209,8 @@ side a b h k =
     let e : natAbs (a -ℤ b) ≤ 33554432 = within {ρ = a ∷ b ∷ []} (h ∷ᵉ k ∷ᵉ []ᵉ) (v0 ⊖ v1) in
     record { whole = whole-sub binary64 (coordinate a h) (coordinate b k) (small (a -ℤ b) e (lit≤ tt)); abs = e }
 
-dot : {x y x′ y′ : Float} {a b a′ b′ : ℤ} → Side x a → Side y b → Side x′ a′ → Side y′ b′ → Whole (add binary64 (mul binary64 x x′) (mul binary64 y y′)) (a *ℤ a′ +ℤ b *ℤ b′)
+dot : {x y x′ y′ : Float} {a b a′ b′ : ℤ} → Side x a → Side y b → Side x′ a′ → Side y′ b′
+    → Whole (add binary64 (mul binary64 x x′) (mul binary64 y y′)) (a *ℤ a′ +ℤ b *ℤ b′)
 dot {a = a} {b = b} {a′ = a′} {b′ = b′} p q r s =
     let n : Env (a ∷ b ∷ a′ ∷ b′ ∷ []) (33554432 ∷ 33554432 ∷ 33554432 ∷ 33554432 ∷ []) = p .abs ∷ᵉ q .abs ∷ᵉ r .abs ∷ᵉ s .abs ∷ᵉ []ᵉ in
     whole-add binary64 (whole-mul binary64 (p .whole) (r .whole) (small (a *ℤ a′) (within n (v0 ⊗ v2)) (lit≤ tt))) (whole-mul binary64 (q .whole) (s .whole) (small (b *ℤ b′) (within n (v1 ⊗ v3)) (lit≤ tt)))

@@ -10,7 +10,8 @@ abbrev at : ℤ → ℤ → Point
 at x y = record { x = x; y = y }
 
 -- M4: `S 0 0 4 0 0 4` and `P 4 4` make two triangles over the edge from (4,0) to (0,4): "height sum 1536"
-pub m4-height : height (at (pos 0) (pos 0)) (at (pos 4) (pos 0)) (at (pos 0) (pos 4)) +ℤ height (at (pos 0) (pos 4)) (at (pos 4) (pos 0)) (at (pos 4) (pos 4)) ≡ pos 1536
+pub m4-height : height (at (pos 0) (pos 0)) (at (pos 4) (pos 0)) (at (pos 0) (pos 4))
+    +ℤ height (at (pos 0) (pos 4)) (at (pos 4) (pos 0)) (at (pos 4) (pos 4)) ≡ pos 1536
 unfolding height
 m4-height = refl
 

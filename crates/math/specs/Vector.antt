@@ -55,13 +55,17 @@ orient2d-vectors a b c =
     ring (env3 a b c) (det2 E· (u .x, u .y) (v .x, v .y)) (Orient2d E· A B C) refl
 
 -- `incircle` by two products, where the determinant has three: the angles at c and at d over the edge a b
-incircle-vectors : (a b c d : Point) → let u = difference a c in let v = difference b c in let s = difference a d in let t = difference b d in crossOf v u *ℤ dotOf s t +ℤ dotOf u v *ℤ crossOf s t ≡ incircle a b c d
+incircle-vectors : (a b c d : Point)
+    → let u = difference a c in let v = difference b c in let s = difference a d in let t = difference b d in
+    crossOf v u *ℤ dotOf s t +ℤ dotOf u v *ℤ crossOf s t ≡ incircle a b c d
 unfolding crossOf dotOf difference incircle
 incircle-vectors a b c d =
     let u = Minus E· A C in let v = Minus E· B C in let s = Minus E· A D in let t = Minus E· B D in
     ring (env a b c d) (det2 E· (v .x, v .y) (u .x, u .y) ⊗ Dot E· s t ⊕ Dot E· u v ⊗ det2 E· (s .x, s .y) (t .x, t .y)) (Incircle E· A B C D) refl
 
-pub incircle-by : (a b c d : Point) {u v s t : Vector} → u ≡ difference a c → v ≡ difference b c → s ≡ difference a d → t ≡ difference b d → crossOf v u *ℤ dotOf s t +ℤ dotOf u v *ℤ crossOf s t ≡ incircle a b c d
+pub incircle-by : (a b c d : Point) {u v s t : Vector} → u ≡ difference a c → v ≡ difference b c
+    → s ≡ difference a d → t ≡ difference b d
+    → crossOf v u *ℤ dotOf s t +ℤ dotOf u v *ℤ crossOf s t ≡ incircle a b c d
 incircle-by a b c d eu ev es et =
     ap₂ _+ℤ_ (ap₂ _*ℤ_ (ap₂ crossOf ev eu) (ap₂ dotOf es et)) (ap₂ _*ℤ_ (ap₂ dotOf eu ev) (ap₂ crossOf es et)) ∙ incircle-vectors a b c d
 

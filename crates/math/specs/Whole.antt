@@ -1,4 +1,5 @@
--- Whole numbers in floats: up to 2 ^ prec a difference, a sum and a product of whole numbers are exact. `Whole x z` says that x is the whole number z, a zero of either sign included.
+-- Whole numbers in floats: up to 2 ^ prec a difference, a sum and a product of whole numbers are exact. `Whole x z`
+-- says that x is the whole number z, a zero of either sign included.
 -- Assumes nothing.
 use mathlib.Core.Path.{_≡_, refl, sym, ap, ap₂, _∙_, subst}
 use mathlib.Core.Bool.{Bool, true, false, not, cond}
@@ -49,29 +50,34 @@ minus-is a b h =
     let e : a - b + b ≡ a = omega arith in
     ring (pos (a - b) ∷ pos b ∷ []) v0 (v0 ⊕ v1 ⊖ v1) refl ∙ ap (λ (n : ℕ). pos n -ℤ pos b) e
 
-unlike-sum : (f : Format) (s : Bool) (a b : ℕ) → natAbs (signed s a +ℤ signed (not s) b) ≤ 2 ^ prec f → Whole (sum f s a (not s) b 1) (signed s a +ℤ signed (not s) b)
+unlike-sum : (f : Format) (s : Bool) (a b : ℕ) → natAbs (signed s a +ℤ signed (not s) b) ≤ 2 ^ prec f
+    → Whole (sum f s a (not s) b 1) (signed s a +ℤ signed (not s) b)
 unfolding sum
 unlike-sum f false a b h = go (ltb a b) (ltb→lt a b) (nltb→le a b)
   where
-    go : (t : Bool) → (T t → a < b) → (T (not t) → b ≤ a) → Whole (cond t (round f true (b - a) 1) (round f false (a - b) 1)) (pos a +ℤ negℤ (pos b))
+    go : (t : Bool) → (T t → a < b) → (T (not t) → b ≤ a)
+        → Whole (cond t (round f true (b - a) 1) (round f false (a - b) 1)) (pos a +ℤ negℤ (pos b))
     go true p q = whole-round f true (b - a) (pos a +ℤ negℤ (pos b)) (ap negℤ (minus-is b a (omega (arith, p tt))) ∙ ring (pos a ∷ pos b ∷ []) (⊝ (v1 ⊖ v0)) (v0 ⊕ ⊝ v1) refl) h
     go false p q = whole-round f false (a - b) (pos a +ℤ negℤ (pos b)) (minus-is a b (q tt)) h
 unlike-sum f true a b h = go (ltb a b) (ltb→lt a b) (nltb→le a b) (ltb b a) (ltb→lt b a) (nltb→le b a)
   where
-    go : (t : Bool) → (T t → a < b) → (T (not t) → b ≤ a) → (u : Bool) → (T u → b < a) → (T (not u) → a ≤ b) → Whole (cond t (round f false (b - a) 1) (round f u (a - b) 1)) (negℤ (pos a) +ℤ pos b)
+    go : (t : Bool) → (T t → a < b) → (T (not t) → b ≤ a) → (u : Bool) → (T u → b < a) → (T (not u) → a ≤ b)
+        → Whole (cond t (round f false (b - a) 1) (round f u (a - b) 1)) (negℤ (pos a) +ℤ pos b)
     go true p q u r s = whole-round f false (b - a) (negℤ (pos a) +ℤ pos b) (minus-is b a (omega (arith, p tt)) ∙ ring (pos a ∷ pos b ∷ []) (v1 ⊖ v0) (⊝ v0 ⊕ v1) refl) h
     go false p q true r s = whole-round f true (a - b) (negℤ (pos a) +ℤ pos b) (ap negℤ (minus-is a b (q tt)) ∙ ring (pos a ∷ pos b ∷ []) (⊝ (v0 ⊖ v1)) (⊝ v0 ⊕ v1) refl) h
     go false p q false r s =
         let e : a ≡ b = omega (arith, q tt, s tt) in
         whole-round f false (a - b) (negℤ (pos a) +ℤ pos b) (minus-is a b (q tt) ∙ ap₂ (λ (m n : ℕ). pos m -ℤ pos n) e (sym e) ∙ ring (pos a ∷ pos b ∷ []) (v1 ⊖ v0) (⊝ v0 ⊕ v1) refl) h
 
-like-sum : (f : Format) (s : Bool) (a b : ℕ) → natAbs (signed s a +ℤ signed s b) ≤ 2 ^ prec f → Whole (sum f s a s b 1) (signed s a +ℤ signed s b)
+like-sum : (f : Format) (s : Bool) (a b : ℕ) → natAbs (signed s a +ℤ signed s b) ≤ 2 ^ prec f
+    → Whole (sum f s a s b 1) (signed s a +ℤ signed s b)
 like-sum f false a b h = subst (λ (x : Float). Whole x (pos (a + b))) (sym (sum-like f false a b 1)) (whole-round f false (a + b) (pos (a + b)) refl h)
 like-sum f true a b h =
     subst (λ (x : Float). Whole x (negℤ (pos a) +ℤ negℤ (pos b))) (sym (sum-like f true a b 1))
     (whole-round f true (a + b) (negℤ (pos a) +ℤ negℤ (pos b)) (ring (pos a ∷ pos b ∷ []) (⊝ (v0 ⊕ v1)) (⊝ v0 ⊕ ⊝ v1) refl) h)
 
-any-sum : (f : Format) (s t : Bool) (a b : ℕ) → natAbs (signed s a +ℤ signed t b) ≤ 2 ^ prec f → Whole (sum f s a t b 1) (signed s a +ℤ signed t b)
+any-sum : (f : Format) (s t : Bool) (a b : ℕ) → natAbs (signed s a +ℤ signed t b) ≤ 2 ^ prec f
+    → Whole (sum f s a t b 1) (signed s a +ℤ signed t b)
 any-sum f false false a b h = like-sum f false a b h
 any-sum f false true a b h = unlike-sum f false a b h
 any-sum f true false a b h = unlike-sum f true a b h
@@ -108,7 +114,8 @@ mul-scale X Y de dd a b p q =
     mul-one (X * Y) ∙ ap₂ _*_ (sym (mul-one X) ∙ p) (sym (mul-one Y) ∙ q)
     ∙ mul-assoc a de (b * dd) ∙ ap (λ (z : ℕ). a * z) (sym (mul-assoc de b dd) ∙ ap (λ (z : ℕ). z * dd) (mul-comm de b) ∙ mul-assoc b de dd) ∙ sym (mul-assoc a b (de * dd))
 
-mul-at : (f : Format) (x y : Float) (s t : Bool) (a b : ℕ) → HasValue x s a 1 → HasValue y t b 1 → mul f x y ≡ round f (unlike s t) (a * b) 1
+mul-at : (f : Format) (x y : Float) (s t : Bool) (a b : ℕ) → HasValue x s a 1 → HasValue y t b 1
+    → mul f x y ≡ round f (unlike s t) (a * b) 1
 unfolding mul
 mul-at f nan y s t a b v w = absurd v
 mul-at f (inf r) y s t a b v w = absurd v

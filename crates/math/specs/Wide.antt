@@ -119,7 +119,8 @@ lowOf x y z w = x .lo *ℤ y .lo +ℤ z .lo *ℤ w .lo
 abbrev pub digits : Digits → Digits → Digits → Digits → List ℤ
 digits x y z w = x .hi ∷ x .lo ∷ y .hi ∷ y .lo ∷ z .hi ∷ z .lo ∷ w .hi ∷ w .lo ∷ []
 
-pub products : {a b c d : ℤ} {x y z w : Digits} → SplitOf a x → SplitOf b y → SplitOf c z → SplitOf d w → wideOf (highOf x y z w) (middleOf x y z w) (lowOf x y z w) ≡ a *ℤ b +ℤ c *ℤ d
+pub products : {a b c d : ℤ} {x y z w : Digits} → SplitOf a x → SplitOf b y → SplitOf c z → SplitOf d w
+    → wideOf (highOf x y z w) (middleOf x y z w) (lowOf x y z w) ≡ a *ℤ b +ℤ c *ℤ d
 unfolding wideOf highOf middleOf lowOf
 products {x = x} {y = y} {z = z} {w = w} p q r s =
     ring (digits x y z w) ((v0 ⊗ v2 ⊕ v4 ⊗ v6) ⊗ K² ⊕ ((v0 ⊗ v3 ⊕ v1 ⊗ v2 ⊕ (v4 ⊗ v7 ⊕ v5 ⊗ v6)) ⊗ K ⊕ (v1 ⊗ v3 ⊕ v5 ⊗ v7))) ((v0 ⊗ K ⊕ v1) ⊗ (v2 ⊗ K ⊕ v3) ⊕ (v4 ⊗ K ⊕ v5) ⊗ (v6 ⊗ K ⊕ v7)) refl
@@ -160,7 +161,8 @@ reachOf : Digits → Digits → Digits → Digits → ℕ
 reachOf x y z w = natAbs (x .hi) + natAbs (y .hi) + (natAbs (z .hi) + natAbs (w .hi)) + 2
 
 -- which is known without the digits
-reach-total : {a b c d : ℤ} {x y z w : Digits} → SplitOf a x → SplitOf b y → SplitOf c z → SplitOf d w → reachOf x y z w ≤ totalOf a b c d / 67108864 + 6
+reach-total : {a b c d : ℤ} {x y z w : Digits} → SplitOf a x → SplitOf b y → SplitOf c z → SplitOf d w
+    → reachOf x y z w ≤ totalOf a b c d / 67108864 + 6
 unfolding reachOf totalOf
 reach-total p q r s = omega (arith, p .hi, q .hi, r .hi, s .hi)
 
@@ -186,7 +188,8 @@ module _ {x y z w : Digits} (p : TwoDigits x) (q : TwoDigits y) (r : TwoDigits z
       let m = middleOf x y z w in let l = lowOf x y z w in
       lead h (m *ℤ pos 67108864 +ℤ l) (omega (arith, within {ρ = m ∷ l ∷ []} (middle-reach ∷ᵉ low-reach ∷ᵉ []ᵉ) (v0 ⊗ K ⊕ v1), k))
 
-module _ {a b c d : ℤ} {x y z w : Digits} (p : SplitOf a x) (q : SplitOf b y) (r : SplitOf c z) (s : SplitOf d w) (A : AtMost51 a) (B : AtMost51 b) (C : AtMost51 c) (D : AtMost51 d) where
+module _ {a b c d : ℤ} {x y z w : Digits} (p : SplitOf a x) (q : SplitOf b y) (r : SplitOf c z) (s : SplitOf d w)
+    (A : AtMost51 a) (B : AtMost51 b) (C : AtMost51 c) (D : AtMost51 d) where
   pub outweighs : (h : ℤ) → h ≡ highOf x y z w → totalOf a b c d / 67108864 + 6 < natAbs h → sgn h ≡ sgn (a *ℤ b +ℤ c *ℤ d)
   outweighs h e k =
       reach-outweighs (two-digits p (A .abs)) (two-digits q (B .abs)) (two-digits r (C .abs)) (two-digits s (D .abs)) h (lt-of-le-of-lt (reach-total p q r s) k)

@@ -1,4 +1,5 @@
-// Exact tests on points whose coordinates are within ±16,777,216, in 64-bit whole numbers: math.rs, line_side_info.rs and point.rs of spade 2.15.1.
+// Exact tests on points whose coordinates are within ±16,777,216, in 64-bit whole numbers: math.rs, line_side_info.rs
+// and point.rs of spade 2.15.1.
 // What each function answers is an equation with a definition of `specs/Determinant.antt`.
 ghost use mathlib.Core.Path.{_≡_};
 ghost use mathlib.Core.Bool.{not, _&&_};
@@ -199,8 +200,8 @@ pub fn project_point(p1: Point, p2: Point, q: Point) -> PointProjection
     }
 }
 
-// Whether the projection of q on the line from e1 to e2 lies behind e2. The Rust adds f64::EPSILON to the length, against rounding: the answer
-// is the same (`specs/Projection.antt`).
+// Whether the projection of q on the line from e1 to e2 lies behind e2. The Rust adds f64::EPSILON to the length,
+// against rounding: the answer is the same (`specs/Projection.antt`).
 pub fn is_behind_edge(e1: Point, e2: Point, q: Point) -> bool
     requires { ⌜ InRange e1 × InRange e2 × InRange q ⌝ }
     ensures { λ r. ⌜ r ≡ isBehindEdge e1 e2 q ⌝ }

@@ -44,7 +44,8 @@ pub fn low(x: Digits, y: Digits, z: Digits, w: Digits) -> i64
     x.lo * y.lo + z.lo * w.lo
 }
 
-// A number with the sign of hi * 2^52 + mid * 2^26 + lo: the carries make h, below which stand two digits that together are less than 1 of h.
+// A number with the sign of hi * 2^52 + mid * 2^26 + lo: the carries make h, below which stand two digits that together
+// are less than 1 of h.
 pub fn carried(hi: i64, mid: i64, lo: i64) -> i64
     requires { ⌜ (natAbs hi ≤ 36028797018963968) × (natAbs mid ≤ 18014398509481984) × (natAbs lo ≤ 18014398509481984) ⌝ }
     ensures { λ r. ⌜ sgn r ≡ sgn (wideOf hi mid lo) ⌝ }
@@ -72,7 +73,8 @@ pub fn magnitudes(x: i64, y: i64, z: i64, w: i64) -> i64
     magnitude(x) + magnitude(y) + (magnitude(z) + magnitude(w))
 }
 
-// A number with the sign of x * y + z * w, where total is the sum of their magnitudes. The middle and the low digits add less than total / 2^26 + 6 to the high one, so mostly they are left out.
+// A number with the sign of x * y + z * w, where total is the sum of their magnitudes. The middle and the low digits
+// add less than total / 2^26 + 6 to the high one, so mostly they are left out.
 pub fn sum_sign_wide(x: i64, y: i64, z: i64, w: i64, total: i64) -> i64
     requires { ⌜ AtMost51 x × AtMost51 y × AtMost51 z × AtMost51 w × (total ≡ pos (totalOf x y z w)) ⌝ }
     ensures { λ r. ⌜ sgn r ≡ sgn (x *ℤ y +ℤ z *ℤ w) ⌝ }

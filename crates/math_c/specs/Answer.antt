@@ -29,4 +29,5 @@ sideAnswer p1 p2 q = inRangeOr (isValidVertex p1 && (isValidVertex p2 && isValid
 
 abbrev pub circleAnswer : Point → Point → Point → Point → ℕ
 circleAnswer v1 v2 v3 p =
-    inRangeOr (isValidVertex v1 && (isValidVertex v2 && (isValidVertex v3 && isValidVertex p))) 2 (insideNumber (containedInCircumference v1 v2 v3 p))
+    inRangeOr (isValidVertex v1 && (isValidVertex v2 && (isValidVertex v3 && isValidVertex p))) 2
+    (insideNumber (containedInCircumference v1 v2 v3 p))

@@ -1,5 +1,5 @@
--- The boundary of a mesh, and the areas and heights of its faces where its vertices have the positions p. Definitions only; their laws are in
--- `BoundaryLaws`, `CountsLaws`, `AreaCorners`, `AreaLaws`, `LeftLaws` and `HeightLaws`.
+-- The boundary of a mesh, and the areas and heights of its faces where its vertices have the positions p. Definitions
+-- only; their laws are in `BoundaryLaws`, `CountsLaws`, `AreaCorners`, `AreaLaws`, `LeftLaws` and `HeightLaws`.
 use Prim.Native.Nat.{ℕ, suc, _-_, _*_, _<_}
 use lib.IntN.{ℤ, pos, _-ℤ_, _*ℤ_}
 use lib.Signed.{_<ℤ_}

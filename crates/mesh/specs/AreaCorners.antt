@@ -1,4 +1,5 @@
--- A function of the corners of an inner face, such as its area: by the names of the corners, from any of its half-edges, and where the face is kept.
+-- A function of the corners of an inner face, such as its area: by the names of the corners, from any of its
+-- half-edges, and where the face is kept.
 -- Assumes nothing.
 use mathlib.Core.Path.{_≡_, refl, sym, _∙_, ap}
 use Prim.Native.Nat.{ℕ, _<_}

@@ -1,5 +1,6 @@
--- Areas, heights and circle determinants of small meshes, by computation: the triangle of `Examples` with a vertex added outside one of its edges, and the
--- flip of the edge between the two triangles. The numbers are those of 01's listing and of its marked values M4 and M5. Assumes nothing.
+-- Areas, heights and circle determinants of small meshes, by computation: the triangle of `Examples` with a vertex
+-- added outside one of its edges, and the flip of the edge between the two triangles. The numbers are those of 01's
+-- listing and of its marked values M4 and M5. Assumes nothing.
 use mathlib.Core.Path.{_≡_, refl}
 use mathlib.Core.List.{List, [], _∷_}
 use Prim.Native.Nat.{ℕ, zero, suc, _<_}

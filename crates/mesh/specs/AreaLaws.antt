@@ -1,5 +1,5 @@
--- The area theorem: the inner faces' doubled areas total the boundary's doubled area. The two halves of an edge cancel, so the sum over all half-edges is
--- 0; it goes along the boundary and face by face. Assumes nothing.
+-- The area theorem: the inner faces' doubled areas total the boundary's doubled area. The two halves of an edge cancel,
+-- so the sum over all half-edges is 0; it goes along the boundary and face by face. Assumes nothing.
 use mathlib.Core.Path.{_≡_, refl, sym, _∙_, ap, ap₂}
 use mathlib.Core.List.{[], _∷_}
 use Prim.Native.Nat.{ℕ, suc, _+_, _-_, _*_, _<_}
@@ -35,7 +35,8 @@ module _ {C : Counts} {L : Links} (W : Wf C L) (p : ℕ → Point) where
   part e = cross (p (L .origin e)) (p (L .origin (L .next e)))
 
   -- a cycle of three has its parts' area
-  pub three-parts : (e : ℕ) → L .next (L .next (L .next e)) ≡ e → part e +ℤ part (L .next e) +ℤ part (L .next (L .next e)) ≡ atCorners orient2d L p e
+  pub three-parts : (e : ℕ) → L .next (L .next (L .next e)) ≡ e
+      → part e +ℤ part (L .next e) +ℤ part (L .next (L .next e)) ≡ atCorners orient2d L p e
   three-parts e q =
       ap (λ (d : ℕ). part e +ℤ part (L .next e) +ℤ cross (p (L .origin (L .next (L .next e)))) (p (L .origin d))) q
       ∙ sym (area-cross (p (L .origin e)) (p (L .origin (L .next e))) (p (L .origin (L .next (L .next e)))))

@@ -1,4 +1,5 @@
--- The boundary of a mesh that keeps the rules: one cycle of `boundaryLength` half-edges, at least three, that holds every half-edge of face 0.
+-- The boundary of a mesh that keeps the rules: one cycle of `boundaryLength` half-edges, at least three, that holds
+-- every half-edge of face 0.
 -- A sum over all half-edges goes along the boundary and then face by face. Assumes nothing.
 use mathlib.Core.Path.{_≡_, refl, sym, _∙_, ap}
 use mathlib.Core.Logic.{_⊎_, inl, inr}
@@ -123,7 +124,8 @@ module _ {C : Counts} {L : Links} (W : Wf C L) where
       (sum-ext (C .faces - 1) (λ f l. let e = L .adjacent (suc f) in ap (λ (z : ℤ). z +ℤ c (L .next e) +ℤ c (L .next (L .next e))) (+ℤ-idl (c e))))
 
   -- ---- a sum over the half-edges of face 0, along next or prev and from any of them
-  outer-along : {f g : ℕ → ℕ} → Inverse (2 * C .edges) f g → ((e : ℕ) → In C e → L .face (f e) ≡ L .face e) → {a h : ℕ} → In C a → L .face a ≡ 0
+  outer-along : {f g : ℕ → ℕ} → Inverse (2 * C .edges) f g → ((e : ℕ) → In C e → L .face (f e) ≡ L .face e)
+      → {a h : ℕ} → In C a → L .face a ≡ 0
       → ((e : ℕ) → In C e → L .face e ≡ 0 → Reach f a e) → Period f a h
       → (c : ℕ → ℤ) → sum (2 * C .edges) (λ e. only (eqb (L .face e) 0) (c e)) ≡ sum h (λ k. c (iter k f a))
   outer-along {f} inv same {a} {h} l o reach P c =

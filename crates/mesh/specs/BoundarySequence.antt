@@ -1,5 +1,6 @@
--- What the operations do to the boundary as a sequence of half-edges. A flip leaves it. With e, n, .. the walk around it from e, a face between e and n
--- makes it o, .. and a face at e makes it b, a, .., where the rest is as it was. Assumes nothing.
+-- What the operations do to the boundary as a sequence of half-edges. A flip leaves it. With e, n, .. the walk around
+-- it from e, a face between e and n makes it o, .. and a face at e makes it b, a, .., where the rest is as it was.
+-- Assumes nothing.
 use mathlib.Core.Path.{_≡_, refl, sym, _∙_, ap}
 use mathlib.Core.Logic.{_≢_}
 use Prim.Native.Nat.{ℕ, zero, suc, _+_, _-_, _*_, _<_, _≤_}
@@ -66,7 +67,8 @@ module _ {C : Counts} {L : Links} (W : Wf C L) {e : ℕ} (l : In C e) (o : L .fa
     pub single-face-first : hullEdge (createSingleFaceBetweenEdgeAndNext L C e) 0 ≡ 2 * C .edges + 1
     single-face-first = single-face-frame W l o four .stored-outer
 
-    pub single-face-rest : (k : ℕ) → 2 + k < boundaryLength C L → hullEdge (createSingleFaceBetweenEdgeAndNext L C e) (suc k) ≡ iter k (L .next) (L .next (L .next e))
+    pub single-face-rest : (k : ℕ) → 2 + k < boundaryLength C L
+        → hullEdge (createSingleFaceBetweenEdgeAndNext L C e) (suc k) ≡ iter k (L .next) (L .next (L .next e))
     unfolding h
     single-face-rest k u = let F = single-face-frame W l o four in let f = createSingleFaceBetweenEdgeAndNext L C e .next in
         ap (λ (x : ℕ). iter k f (f x)) (F .stored-outer) ∙ ap (iter k f) (F .next-o) ∙ rest-same f 1 2 (omega arith) (λ x m. F .next-rest m) k u
@@ -78,7 +80,8 @@ module _ {C : Counts} {L : Links} (W : Wf C L) {e : ℕ} (l : In C e) (o : L .fa
   pub new-face-second : hullEdge (createNewFaceAdjacentToEdge L C e) 1 ≡ 2 * C .edges + 1
   new-face-second = let F = new-face-frame W l o in ap (createNewFaceAdjacentToEdge L C e .next) (F .stored-outer) ∙ F .next-b′
 
-  pub new-face-rest : (k : ℕ) → 1 + k < boundaryLength C L → hullEdge (createNewFaceAdjacentToEdge L C e) (suc (suc k)) ≡ iter k (L .next) (L .next e)
+  pub new-face-rest : (k : ℕ) → 1 + k < boundaryLength C L
+      → hullEdge (createNewFaceAdjacentToEdge L C e) (suc (suc k)) ≡ iter k (L .next) (L .next e)
   unfolding h
   new-face-rest k u = let F = new-face-frame W l o in let f = createNewFaceAdjacentToEdge L C e .next in
       ap (λ (x : ℕ). iter k f (f x)) new-face-second ∙ ap (iter k f) (F .next-a′) ∙ rest-same f 0 1 (omega arith) (λ x m. F .next-rest m) k u

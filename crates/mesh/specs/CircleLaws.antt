@@ -1,5 +1,6 @@
--- What it means that an edge breaks the circle rule, from either side of the edge, and what its flip does to a good mesh; and that a good mesh in which
--- none does is one in which no triangle's circle strictly contains a neighbour's far vertex. Assumes nothing.
+-- What it means that an edge breaks the circle rule, from either side of the edge, and what its flip does to a good
+-- mesh; and that a good mesh in which none does is one in which no triangle's circle strictly contains a neighbour's
+-- far vertex. Assumes nothing.
 use mathlib.Core.Bool.{Bool, true, false, false≢true, _&&_}
 use mathlib.Core.Logic.{_≢_}
 use mathlib.Core.Path.{_≡_, sym, _∙_, ap, ap₂, subst, transport}
@@ -64,7 +65,9 @@ module _ (L : Links) (p : ℕ → Point) (u : ℕ) where
   outer-right e = is-false _ (λ t. let k : 0 < L .face (2 * u + 1) = ltb→lt 0 _ (and-left right circle (and-right left (right && circle) t)) in omega arith)
 
   pub both-inner : L .face (2 * u) ≢ 0 → L .face (2 * u + 1) ≢ 0
-      → breaksCircle L p u ≡ containedInCircumference (p (L .origin (2 * u))) (p (L .origin (2 * u + 1))) (p (L .origin (L .prev (2 * u)))) (p (L .origin (L .prev (2 * u + 1))))
+      → breaksCircle L p u
+      ≡ containedInCircumference (p (L .origin (2 * u))) (p (L .origin (2 * u + 1)))
+      (p (L .origin (L .prev (2 * u)))) (p (L .origin (L .prev (2 * u + 1))))
   unfolding breaksCircle circleAt
   both-inner i j =
       rw (lt-ltb 0 (L .face (2 * u)) (omega arith), lt-ltb 0 (L .face (2 * u + 1)) (omega arith))

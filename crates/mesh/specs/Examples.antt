@@ -1,4 +1,5 @@
--- Meshes by computation: that the rules can be met, that each operation's condition can be met, and why each condition is there. Assumes nothing.
+-- Meshes by computation: that the rules can be met, that each operation's condition can be met, and why each condition
+-- is there. Assumes nothing.
 use Prim.Native.Nat.{ℕ, _+_, _*_, _<_}
 use mathlib.Core.Path.{_≡_, refl}
 use mathlib.Core.Bool.{not}
@@ -71,8 +72,9 @@ pub two-left : T (not (rules (withFace seedCounts) (createSingleFaceBetweenEdgeA
 unfolding seed createSingleFaceBetweenEdgeAndNext faceBetween put rules halfEdgeInUse linksInUse halfEdgeLinked innerFaceRule outerFaceRule sideRule vertexRule eulerRule all-below reaches rev
 two-left = tt
 
--- A mesh within the rules with an inner edge that has one face on both sides, so the rules alone do not let every inner edge flip: a loop at vertex 0
--- (half-edges 0 and 1) that holds edge 1, to vertex 1, in one face; the loop's other half in a face with vertex 2; a face beside it.
+-- A mesh within the rules with an inner edge that has one face on both sides, so the rules alone do not let every inner
+-- edge flip: a loop at vertex 0 (half-edges 0 and 1) that holds edge 1, to vertex 1, in one face; the loop's other half
+-- in a face with vertex 2; a face beside it.
 abbrev pub loopCounts : Counts
 loopCounts = record { vertices = 4; edges = 6; faces = 4 }
 

@@ -1,5 +1,5 @@
--- What `create_new_face_adjacent_to_edge` stores, as a relation between the mesh before and after: an equation for each half-edge and field that is touched,
--- and that the rest stays. `faceAdjacent` is such. Assumes nothing.
+-- What `create_new_face_adjacent_to_edge` stores, as a relation between the mesh before and after: an equation for each
+-- half-edge and field that is touched, and that the rest stays. `faceAdjacent` is such. Assumes nothing.
 use Prim.Native.Nat.{ℕ, _+_, _*_, _<_}
 use native.Mathlib.Omega.{arith}
 use mathlib.Core.Path.{_≡_, refl, sym, _∙_, ap}

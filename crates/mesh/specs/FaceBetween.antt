@@ -1,5 +1,5 @@
--- What `create_single_face_between_edge_and_next` stores, as a relation between the mesh before and after: an equation for each half-edge and field that is
--- touched, and that the rest stays. `faceBetween` is such. Assumes nothing.
+-- What `create_single_face_between_edge_and_next` stores, as a relation between the mesh before and after: an equation
+-- for each half-edge and field that is touched, and that the rest stays. `faceBetween` is such. Assumes nothing.
 use Prim.Native.Nat.{ℕ, _+_, _*_, _<_}
 use native.Mathlib.Omega.{arith}
 use mathlib.Core.Path.{_≡_, refl, sym}

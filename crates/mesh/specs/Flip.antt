@@ -17,8 +17,8 @@ use Rattle.sums.specs.Half.{rev, rev-rev, rev-even, rev-odd}
 use Rattle.sums.specs.Put.{put, put-same, put-other}
 use Rattle.sums.specs.Iterate.{Reach, reach-at, reach-one, reach-two, reach-trans, reach-by}
 
--- what a flip of the edge u asks: an inner edge between two faces. (`Examples` has a mesh within the rules that has an inner edge with one face on both
--- sides; where every inner face turns strictly left there is none, by `two-faces`.)
+-- what a flip of the edge u asks: an inner edge between two faces. (`Examples` has a mesh within the rules that has an
+-- inner edge with one face on both sides; where every inner face turns strictly left there is none, by `two-faces`.)
 pub record Flippable (C : Counts) (L : Links) (u : ℕ) : Type 0 where
   pub edge : u < C .edges
   pub inner-left : 0 < L .face (2 * u)
@@ -34,7 +34,8 @@ pub record FlipFrame (C : Counts) (L L′ : Links) (e t a b c d : ℕ) : Type 0 
   pub corners-e : Corners L′ (L .face e) c d b
   pub corners-t : Corners L′ (L .face t) d c a
 
-module _ {C : Counts} {L L′ : Links} {e en ep t tn tp : ℕ} (W : Wf C L) (A : Triangle C L e en ep) (B : Triangle C L t tn tp) (F : Flipped L L′ e en ep t tn tp)
+module _ {C : Counts} {L L′ : Links} {e en ep t tn tp : ℕ} (W : Wf C L) (A : Triangle C L e en ep)
+    (B : Triangle C L t tn tp) (F : Flipped L L′ e en ep t tn tp)
     (fi : 0 < L .face e) (gi : 0 < L .face t) (fg : L .face e ≢ L .face t) where
   abbrev six : List ℕ
   six = e ∷ en ∷ ep ∷ t ∷ tn ∷ tp ∷ []
@@ -273,5 +274,6 @@ pub flip-keeps : {C : Counts} {L : Links} → Wf C L → (u : ℕ) → Flippable
 flip-keeps W u h = let s = sides W u h in flipped-keeps W (s .0) (s .1) (flip-is W u h) (h .inner-left) (h .inner-right) (h .differ)
 
 pub flip-frame : {C : Counts} {L : Links} → Wf C L → (u : ℕ) → Flippable C L u
-    → FlipFrame C L (flipCw L u) (2 * u) (2 * u + 1) (L .origin (2 * u)) (L .origin (2 * u + 1)) (L .origin (L .prev (2 * u))) (L .origin (L .prev (2 * u + 1)))
+    → FlipFrame C L (flipCw L u) (2 * u) (2 * u + 1) (L .origin (2 * u)) (L .origin (2 * u + 1))
+    (L .origin (L .prev (2 * u))) (L .origin (L .prev (2 * u + 1)))
 flip-frame W u h = let s = sides W u h in flipped-frame W (s .0) (s .1) (flip-is W u h) (h .inner-left) (h .inner-right) (h .differ)

@@ -1,5 +1,6 @@
 -- A sequence of flips, each at an edge that breaks the circle rule at that moment: what legalizing and the closing pass make of a mesh.
--- It keeps a good mesh good, its boundary and its area, and lowers the height sum by the sum of the determinants, so by at least the number of flips.
+-- It keeps a good mesh good, its boundary and its area, and lowers the height sum by the sum of the determinants, so by
+-- at least the number of flips.
 -- Assumes nothing.
 use mathlib.Core.Bool.{true}
 use mathlib.Core.Path.{_≡_, refl, sym, _∙_, ap, subst}

@@ -1,4 +1,5 @@
--- What a flip stores, as a relation between the links before and after: an equation for each half-edge and field that is touched, and that the rest stays.
+-- What a flip stores, as a relation between the links before and after: an equation for each half-edge and field that
+-- is touched, and that the rest stays.
 -- `flipBetween` is such a flip, where the six half-edges differ. Assumes nothing.
 use Prim.Native.Nat.{ℕ, _<_}
 use mathlib.Core.Path.{_≡_, sym}
@@ -71,7 +72,8 @@ record Six (e en ep t tn tp : ℕ) : Type 0 where
   c₈ : Differ ep tn
   c₉ : Differ ep tp
 
-module _ {C : Counts} {L : Links} {e en ep t tn tp : ℕ} (W : Wf C L) (A : Triangle C L e en ep) (B : Triangle C L t tn tp) (fg : L .face e ≢ L .face t) where
+module _ {C : Counts} {L : Links} {e en ep t tn tp : ℕ} (W : Wf C L) (A : Triangle C L e en ep)
+    (B : Triangle C L t tn tp) (fg : L .face e ≢ L .face t) where
   six : Six e en ep t tn tp
   six = record {
     s₁ = differ (λ p. W .faces .apart (A .in-a) (cc));

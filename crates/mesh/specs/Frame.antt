@@ -1,4 +1,5 @@
--- What an operation leaves: half-edges that keep their links, faces that keep their half-edges, a boundary that stays; and the corners of a face.
+-- What an operation leaves: half-edges that keep their links, faces that keep their half-edges, a boundary that stays;
+-- and the corners of a face.
 -- Assumes nothing.
 use Prim.Native.Nat.{ℕ, _<_}
 use mathlib.Core.Path.{_≡_, refl, sym, _∙_}
@@ -64,7 +65,8 @@ same-corners s k = let u = s .first in let v = s .second in let w = s .third in 
 
 module _ {C : Counts} {L : Links} (W : Wf C L) where
   -- what is the same for the three corners of a face from whichever of them on is found at any of its half-edges
-  pub by-corners : {X : Type 0} (A : ℕ → ℕ → ℕ → X) → ((a b c : ℕ) → A a b c ≡ A b c a) → {e : ℕ} → In C e → 0 < L .face e → {a b c : ℕ} → Corners L (L .face e) a b c
+  pub by-corners : {X : Type 0} (A : ℕ → ℕ → ℕ → X) → ((a b c : ℕ) → A a b c ≡ A b c a) → {e : ℕ} → In C e
+      → 0 < L .face e → {a b c : ℕ} → Corners L (L .face e) a b c
       → A (L .origin e) (L .origin (L .next e)) (L .origin (L .prev e)) ≡ A a b c
   by-corners {X} A r {e} h f {a} {b} {c} k = go (triangle W (W .ranges .adjacent< l) (rw (W .faces .stored l) f)) (W .faces .inner h f)
     where
@@ -81,12 +83,14 @@ module _ {C : Counts} {L : Links} (W : Wf C L) where
       go T (inr (inr p)) = cc (k .first, k .second, k .third, r c a b)
 
   -- an inner face keeps its half-edges, where inner half-edges keep their links
-  pub kept-face : {L′ : Links} → ((x : ℕ) → In C x → 0 < L .face x → Keeps L L′ x) → {f : ℕ} → 0 < f → f < C .faces → L′ .adjacent f ≡ L .adjacent f → SameFace L L′ f
+  pub kept-face : {L′ : Links} → ((x : ℕ) → In C x → 0 < L .face x → Keeps L L′ x) → {f : ℕ} → 0 < f → f < C .faces
+      → L′ .adjacent f ≡ L .adjacent f → SameFace L L′ f
   kept-face k {f} z l a =
       let i : 0 < L .face (L .adjacent f) = rw (W .faces .stored l) z in
       let T = triangle W (W .ranges .adjacent< l) i in
       record { adjacent = a; first = k _ (T .in-a) i; second = k _ (T .in-b) (rw (T .face-b) i); third = k _ (T .in-c) (rw (T .face-c) i) }
 
   -- half-edges about one vertex meet each other still, where each comes to the one that it turned to
-  pub still-round : (L′ : Links) → ((x : ℕ) → In C x → Reach (turn L′) x (turn L x)) → {x y : ℕ} → In C x → In C y → L .origin x ≡ L .origin y → Reach (turn L′) x y
+  pub still-round : (L′ : Links) → ((x : ℕ) → In C x → Reach (turn L′) x (turn L x)) → {x y : ℕ} → In C x → In C y
+      → L .origin x ≡ L .origin y → Reach (turn L′) x y
   still-round L′ t h k p = reach-by (In C) (λ z. z) (λ z l. rev-in C (W .ranges .prev< l)) t h (W .about .round h k p)

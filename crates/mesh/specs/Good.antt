@@ -1,4 +1,5 @@
--- A good mesh: what the operations keep, and what every accepted call may rely on. Definition only; `GoodLaws` has the preservation theorems.
+-- A good mesh: what the operations keep, and what every accepted call may rely on. Definition only; `GoodLaws` has the
+-- preservation theorems.
 use Prim.Native.Nat.{ℕ, _<_}
 use Rattle.math.specs.declared.Point.{Point}
 use Rattle.math.specs.Determinant.{InRange}

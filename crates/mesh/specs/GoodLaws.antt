@@ -1,5 +1,6 @@
--- Each of the three operations keeps a mesh good under its condition: the far vertex strictly inside the circle, a corner that turns strictly left, a new
--- point strictly left of the edge. And what each does to the boundary's length. Assumes nothing.
+-- Each of the three operations keeps a mesh good under its condition: the far vertex strictly inside the circle, a
+-- corner that turns strictly left, a new point strictly left of the edge. And what each does to the boundary's length.
+-- Assumes nothing.
 use mathlib.Core.Path.{_≡_, refl, sym, _∙_, ap}
 use mathlib.Core.Logic.{_≢_}
 use Prim.Native.Nat.{ℕ, _+_, _*_, _/_, _<_}
@@ -26,7 +27,8 @@ use Rattle.mesh.specs.Good.{Good}
 
 -- ---- the flip
 -- an inner edge of a good mesh can be flipped: its two faces differ
-pub flippable : {C : Counts} {L : Links} {p : ℕ → Point} → Good C L p → {u : ℕ} → u < C .edges → 0 < L .face (2 * u) → 0 < L .face (2 * u + 1) → Flippable C L u
+pub flippable : {C : Counts} {L : Links} {p : ℕ → Point} → Good C L p → {u : ℕ} → u < C .edges → 0 < L .face (2 * u)
+    → 0 < L .face (2 * u + 1) → Flippable C L u
 flippable {L = L} G {u} l i j = record {
   edge = l;
   inner-left = i;
@@ -34,15 +36,18 @@ flippable {L = L} G {u} l i j = record {
   differ = λ q. faces-differ (G .wf) (G .turning) {e = 2 * u} (omega arith) i (q ∙ ap (L .face) (sym (rev-even u)));
 }
 
-pub flip-good : {C : Counts} {L : Links} {p : ℕ → Point} → Good C L p → {u : ℕ} → Flippable C L u → pos 0 <ℤ circleAt L p (2 * u) → Good C (flipCw L u) p
+pub flip-good : {C : Counts} {L : Links} {p : ℕ → Point} → Good C L p → {u : ℕ} → Flippable C L u
+    → pos 0 <ℤ circleAt L p (2 * u) → Good C (flipCw L u) p
 flip-good {p = p} G {u} B h = record { wf = flip-keeps (G .wf) u B; turning = flip-keeps-left (G .wf) B p (G .turning) h; range = G .range }
 
 -- the same by a half-edge e of the edge, e / 2
-pub flippable-at : {C : Counts} {L : Links} {p : ℕ → Point} → Good C L p → {e : ℕ} → In C e → 0 < L .face e → 0 < L .face (rev e) → Flippable C L (e / 2)
+pub flippable-at : {C : Counts} {L : Links} {p : ℕ → Point} → Good C L p → {e : ℕ} → In C e → 0 < L .face e
+    → 0 < L .face (rev e) → Flippable C L (e / 2)
 flippable-at {L = L} G {e} l i j = flippable G (omega arith) (even-half (λ x. 0 < L .face x) e i j)
     (rw (rev-even (e / 2)) at (even-half (λ x. 0 < L .face (rev x)) e j (rw (rev-rev e) i)))
 
-pub flip-good-at : {C : Counts} {L : Links} {p : ℕ → Point} → Good C L p → {e : ℕ} → In C e → 0 < L .face e → 0 < L .face (rev e) → pos 0 <ℤ circleAt L p e
+pub flip-good-at : {C : Counts} {L : Links} {p : ℕ → Point} → Good C L p → {e : ℕ} → In C e → 0 < L .face e
+    → 0 < L .face (rev e) → pos 0 <ℤ circleAt L p e
     → Good C (flipCw L (e / 2)) p
 flip-good-at {L = L} {p = p} G {e} l i j h = flip-good G (flippable-at G l i j) (rw (circle-half L p e) h)
 
@@ -60,7 +65,8 @@ module _ {C : Counts} {L : Links} {p : ℕ → Point} (G : Good C L p) {e : ℕ}
   four : L .prev e ≢ L .next (L .next e)
   four = corner-four (G .wf) (G .turning) l o h
 
-  pub single-face-added : FaceAdded C (withFace C) L (createSingleFaceBetweenEdgeAndNext L C e) p p (to L (L .next e)) (L .origin e) (L .origin (L .next e))
+  pub single-face-added : FaceAdded C (withFace C) L (createSingleFaceBetweenEdgeAndNext L C e) p p
+      (to L (L .next e)) (L .origin e) (L .origin (L .next e))
   single-face-added = let F = single-face-frame (G .wf) l o four in
       record { faces = refl; corners = F .corners-new; others = F .others; positions = λ v _. refl }
 
@@ -80,7 +86,8 @@ module _ {C : Counts} {L : Links} {p : ℕ → Point} (G : Good C L p) {e : ℕ}
 
 -- ---- the face of an outer edge and a new vertex
 module _ {C : Counts} {L : Links} {p p′ : ℕ → Point} (G : Good C L p) {e : ℕ} (l : In C e) (o : L .face e ≡ 0)
-    (same : (v : ℕ) → v < C .vertices → p′ v ≡ p v) (r : InRange (p′ (C .vertices))) (h : pos 0 <ℤ orient2d (p (L .origin e)) (p (to L e)) (p′ (C .vertices))) where
+    (same : (v : ℕ) → v < C .vertices → p′ v ≡ p v) (r : InRange (p′ (C .vertices)))
+    (h : pos 0 <ℤ orient2d (p (L .origin e)) (p (to L e)) (p′ (C .vertices))) where
   pub new-face-added : FaceAdded C (withVertex C) L (createNewFaceAdjacentToEdge L C e) p p′ (L .origin e) (to L e) (C .vertices)
   new-face-added = let F = new-face-frame (G .wf) l o in
       record { faces = refl; corners = F .corners-new; others = F .others; positions = same }

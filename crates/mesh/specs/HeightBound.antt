@@ -1,5 +1,6 @@
--- How large a height sum can be, and so how many flips there can be: nothing else bounds their number. With coordinates within 2 ^ 24 a triangle's height is
--- at most 2 ^ 102, so flips made and height left together stay at most 2 ^ 102 for each face (`FlipsBound`): a flip does not raise it, and a new face pays for itself.
+-- How large a height sum can be, and so how many flips there can be: nothing else bounds their number. With coordinates
+-- within 2 ^ 24 a triangle's height is at most 2 ^ 102, so flips made and height left together stay at most 2 ^ 102 for
+-- each face (`FlipsBound`): a flip does not raise it, and a new face pays for itself.
 -- A count of flips in 128 bits is exact for up to 2 ^ 25 faces. Assumes nothing.
 use mathlib.Core.Path.{_≡_, refl, sym, _∙_, ap, subst}
 use mathlib.Core.List.{[], _∷_}
@@ -76,7 +77,8 @@ module _ {C : Counts} {L : Links} {p : ℕ → Point} where
   flips-none G = record { bound = let h = heights-small G in omega arith }
 
   -- after n flips, which lowered the height sum by at least n (`run-falls` in `FlipRun`)
-  pub flips-more : {M : Links} {m : ℕ} (n : ℕ) → FlipsBound C L p m → n + natAbs (heightSum C M p) ≤ natAbs (heightSum C L p) → FlipsBound C M p (m + n)
+  pub flips-more : {M : Links} {m : ℕ} (n : ℕ) → FlipsBound C L p m
+      → n + natAbs (heightSum C M p) ≤ natAbs (heightSum C L p) → FlipsBound C M p (m + n)
   flips-more n B l = record { bound = let h = B .bound in omega arith }
 
   -- one more can be counted
@@ -84,7 +86,8 @@ module _ {C : Counts} {L : Links} {p : ℕ → Point} where
   flips-fit {n} B l = double n (2 ^ 127) (leb→le 1 (2 ^ 127) tt) (below n (natAbs (heightSum C L p)) (C .faces) (2 ^ 25) (2 ^ 102) (B .bound) (omega arith) l (omega arith))
 
 -- a new face raises the bound at least as much as the height sum
-module _ {C C′ : Counts} {L L′ : Links} {p p′ : ℕ → Point} {a b c : ℕ} (W : Wf C L) (W′ : Wf C′ L′) (A : FaceAdded C C′ L L′ p p′ a b c) where
+module _ {C C′ : Counts} {L L′ : Links} {p p′ : ℕ → Point} {a b c : ℕ} (W : Wf C L) (W′ : Wf C′ L′)
+    (A : FaceAdded C C′ L L′ p p′ a b c) where
   pub flips-face : {n : ℕ} → InRange (p′ a) → InRange (p′ b) → InRange (p′ c) → FlipsBound C L p n → FlipsBound C′ L′ p′ n
   flips-face {n} h k m B = record {
     bound =

@@ -1,5 +1,6 @@
--- What the operations do to a sum over the inner faces, to left turning, to the areas' total and to the height sum. Each comes from the corners after the
--- operation: the faces that have new ones, and that the others keep theirs. Assumes nothing.
+-- What the operations do to a sum over the inner faces, to left turning, to the areas' total and to the height sum.
+-- Each comes from the corners after the operation: the faces that have new ones, and that the others keep theirs.
+-- Assumes nothing.
 use mathlib.Core.Path.{_≡_, refl, sym, _∙_, ap, ap₂, subst}
 use mathlib.Core.Logic.{_≢_}
 use mathlib.Core.List.{[], _∷_}
@@ -61,7 +62,8 @@ pub record FaceAdded (C C′ : Counts) (L L′ : Links) (p p′ : ℕ → Point)
   pub others : {f : ℕ} → 0 < f → f < C .faces → SameFace L L′ f
   pub positions : (v : ℕ) → v < C .vertices → p′ v ≡ p v
 
-module _ {C C′ : Counts} {L L′ : Links} {p p′ : ℕ → Point} {a b c : ℕ} (W : Wf C L) (W′ : Wf C′ L′) (A : FaceAdded C C′ L L′ p p′ a b c) where
+module _ {C C′ : Counts} {L L′ : Links} {p p′ : ℕ → Point} {a b c : ℕ} (W : Wf C L) (W′ : Wf C′ L′)
+    (A : FaceAdded C C′ L L′ p p′ a b c) where
   new-at : (F : Point → Point → Point → ℤ) → atCorners F L′ p′ (L′ .adjacent (C .faces)) ≡ F (p′ a) (p′ b) (p′ c)
   new-at F = corners-at W′ F p′ (W .some) (let q = A .faces in omega arith) (A .corners)
 
@@ -112,7 +114,8 @@ module _ {C : Counts} {L : Links} (W : Wf C L) {u : ℕ} (B : Flippable C L u) (
   t< : In C (2 * u + 1)
   t< = let l = B .edge in omega arith
 
-  frame : FlipFrame C L (flipCw L u) (2 * u) (2 * u + 1) (L .origin (2 * u)) (L .origin (2 * u + 1)) (L .origin (L .prev (2 * u))) (L .origin (L .prev (2 * u + 1)))
+  frame : FlipFrame C L (flipCw L u) (2 * u) (2 * u + 1) (L .origin (2 * u)) (L .origin (2 * u + 1))
+      (L .origin (L .prev (2 * u))) (L .origin (L .prev (2 * u + 1)))
   frame = flip-frame W u B
 
   module _ (F : Point → Point → Point → ℤ) (turn : (a b c : Point) → F a b c ≡ F b c a) where
@@ -161,7 +164,8 @@ module _ {C : Counts} {L : Links} (W : Wf C L) {u : ℕ} (B : Flippable C L u) (
       eq-by (eq-in ρ (v1 ⊕ ((v2 ⊖ v3) ⊕ (v4 ⊖ v5))) v0 (sym (flip-over height height-next)) +⁰ eq-in ρ (v3 ⊕ v5) (v4 ⊕ v2 ⊕ v6) (flip-height a b c d)) v1 (v0 ⊕ v6) refl)
 
   -- so its absolute value is a measure of what flips are left, while the faces turn left
-  pub flip-falls : LeftTurning C (flipCw L u) p → pos 0 <ℤ circleAt L p (2 * u) → natAbs (heightSum C (flipCw L u) p) < natAbs (heightSum C L p)
+  pub flip-falls : LeftTurning C (flipCw L u) p → pos 0 <ℤ circleAt L p (2 * u)
+      → natAbs (heightSum C (flipCw L u) p) < natAbs (heightSum C L p)
   flip-falls T h = abs-falls flip-heights (heights-nonneg T) h
 
   -- both new triangles turn left, where the far vertex is strictly inside the circle
@@ -177,7 +181,8 @@ module _ {C : Counts} {L : Links} (W : Wf C L) {u : ℕ} (B : Flippable C L u) (
       D : pos 0 <ℤ incircle a b c d
       D = subst (λ (z : ℤ). pos 0 <ℤ z) circle h
 
-      go : {f : ℕ} → 0 < f → f < C .faces → Dec (f ≡ L .face (2 * u)) → Dec (f ≡ L .face (2 * u + 1)) → pos 0 <ℤ atCorners orient2d (flipCw L u) p (flipCw L u .adjacent f)
+      go : {f : ℕ} → 0 < f → f < C .faces → Dec (f ≡ L .face (2 * u)) → Dec (f ≡ L .face (2 * u + 1))
+          → pos 0 <ℤ atCorners orient2d (flipCw L u) p (flipCw L u .adjacent f)
       go i l (yes q) k = rw q (subst (λ (z : ℤ). pos 0 <ℤ z) (sym (after-e orient2d orient2d-next)) (flip-right a b c d S R D))
       go i l (no n) (yes q) = rw q (subst (λ (z : ℤ). pos 0 <ℤ z) (sym (after-t orient2d orient2d-next)) (flip-left a b c d S R D))
       go i l (no n) (no m) = subst (λ (z : ℤ). pos 0 <ℤ z) (sym (kept-at W orient2d p (λ v _. refl) i l (frame .others l n m))) (T .left i l)

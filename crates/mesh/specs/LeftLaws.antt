@@ -1,5 +1,6 @@
--- A mesh that keeps the rules and whose inner faces all turn strictly left: the two sides of an inner edge are different faces, the boundary's area is
--- positive, and a boundary of three has no corner that turns left. Assumes nothing.
+-- A mesh that keeps the rules and whose inner faces all turn strictly left: the two sides of an inner edge are
+-- different faces, the boundary's area is positive, and a boundary of three has no corner that turns left. Assumes
+-- nothing.
 use mathlib.Core.Path.{_≡_, sym, _∙_, ap, subst}
 use mathlib.Core.Logic.{_≢_}
 use mathlib.Core.List.{[], _∷_}
@@ -43,7 +44,8 @@ module _ {C : Counts} {L : Links} (W : Wf C L) {p : ℕ → Point} (T : LeftTurn
   pub faces-differ : {e : ℕ} → In C e → 0 < L .face e → L .face e ≢ L .face (rev e)
   faces-differ l i = two-faces W l i (λ x m q. sides-differ m (rw q i))
 
-  -- `legalize_edges_after_removal` asks of an edge with one outer side e whether the far vertex f, from and to are ordered counterclockwise: they are not
+  -- `legalize_edges_after_removal` asks of an edge with one outer side e whether the far vertex f, from and to are
+  -- ordered counterclockwise: they are not
   pub hull-edge : {e : ℕ} → In C e → L .face e ≡ 0 → orient2d (p (L .origin (L .prev (rev e)))) (p (L .origin e)) (p (to L e)) <ℤ pos 0
   hull-edge {e} l o =
       let a = p (L .origin e) in let b = p (to L e) in let f = p (L .origin (L .prev (rev e))) in
@@ -67,7 +69,8 @@ module _ {C : Counts} {L : Links} (W : Wf C L) {p : ℕ → Point} (T : LeftTurn
       refute (pos-in ρ (⊝ v0) (subst (λ (z : ℤ). pos 0 <ℤ z) (outer-three W p l o q) h) +⁺ weak (pos-in ρ v0 area-positive)) tt
 
   -- the same by the ends of e and of next e, as `create_single_face_between_edge_and_next` has the corner
-  corner-ends : {e : ℕ} → In C e → pos 0 <ℤ orient2d (p (L .origin e)) (p (to L e)) (p (to L (L .next e))) → pos 0 <ℤ atCorners orient2d L p e
+  corner-ends : {e : ℕ} → In C e → pos 0 <ℤ orient2d (p (L .origin e)) (p (to L e)) (p (to L (L .next e)))
+      → pos 0 <ℤ atCorners orient2d L p e
   corner-ends {e} l h = rw (W .links .origin-next (W .ranges .next< l), W .links .origin-next l) h
 
   pub corner-four : {e : ℕ} → In C e → L .face e ≡ 0 → pos 0 <ℤ orient2d (p (L .origin e)) (p (to L e)) (p (to L (L .next e)))

@@ -46,7 +46,8 @@ pub record NewFaceFrame (C C′ : Counts) (L L′ : Links) (p e n a a′ b b′ 
 below : {x m a a′ b b′ : ℕ} → a ≡ m → a′ ≡ m + 1 → b ≡ m + 2 → b′ ≡ m + 3 → x < m + 4 → x ≢ a → x ≢ a′ → x ≢ b → x ≢ b′ → x < m
 below p q r s h i j k l = omega arith
 
-module _ {C C′ : Counts} {L L′ : Links} {p e n q a a′ b b′ : ℕ} (W : Wf C L) (A : Outer C L p e n q) (F : FaceAdjacent C C′ L L′ p e n a a′ b b′) where
+module _ {C C′ : Counts} {L L′ : Links} {p e n q a a′ b b′ : ℕ} (W : Wf C L) (A : Outer C L p e n q)
+    (F : FaceAdjacent C C′ L L′ p e n a a′ b b′) where
   abbrev new : List ℕ
   new = a ∷ a′ ∷ b ∷ b′ ∷ []
 
@@ -259,12 +260,14 @@ module _ {C C′ : Counts} {L L′ : Links} {p e n q a a′ b b′ : ℕ} (W : W
   }
 
 module _ {C : Counts} {L : Links} (W : Wf C L) {e : ℕ} (h : In C e) (z : L .face e ≡ 0) where
-  pub new-face-is : FaceAdjacent C (withVertex C) L (createNewFaceAdjacentToEdge L C e) (L .prev e) e (L .next e) (2 * C .edges) (2 * C .edges + 1) (2 * C .edges + 2) (2 * C .edges + 2 + 1)
+  pub new-face-is : FaceAdjacent C (withVertex C) L (createNewFaceAdjacentToEdge L C e) (L .prev e) e (L .next e)
+      (2 * C .edges) (2 * C .edges + 1) (2 * C .edges + 2) (2 * C .edges + 2 + 1)
   unfolding createNewFaceAdjacentToEdge
   new-face-is = face-adjacent W (outer W h z)
 
   pub new-face-keeps : Wf (withVertex C) (createNewFaceAdjacentToEdge L C e)
   new-face-keeps = adjacent-keeps W (outer W h z) new-face-is
 
-  pub new-face-frame : NewFaceFrame C (withVertex C) L (createNewFaceAdjacentToEdge L C e) (L .prev e) e (L .next e) (2 * C .edges) (2 * C .edges + 1) (2 * C .edges + 2) (2 * C .edges + 2 + 1)
+  pub new-face-frame : NewFaceFrame C (withVertex C) L (createNewFaceAdjacentToEdge L C e) (L .prev e) e (L .next e)
+      (2 * C .edges) (2 * C .edges + 1) (2 * C .edges + 2) (2 * C .edges + 2 + 1)
   new-face-frame = adjacent-frame W (outer W h z) new-face-is

@@ -13,7 +13,8 @@ cycle f a b c = put (put (put f a b) b c) c a
 abbrev pub backCycle : (ℕ → ℕ) → ℕ → ℕ → ℕ → ℕ → ℕ
 backCycle f a b c = put (put (put f b a) c b) a c
 
--- `flip_cw` of the edge with the half-edges e and t, whose neighbours are named: its triangles e, en, ep and t, tn, tp become e, tp, en and t, ep, tn
+-- `flip_cw` of the edge with the half-edges e and t, whose neighbours are named: its triangles e, en, ep and t, tn, tp
+-- become e, tp, en and t, ep, tn
 unfoldable pub flipBetween : Links → ℕ → ℕ → ℕ → ℕ → ℕ → ℕ → Links
 flipBetween L e en ep t tn tp = record {
   next = cycle (cycle (L .next) e tp en) t ep tn;
@@ -28,8 +29,8 @@ flipBetween L e en ep t tn tp = record {
 unfoldable pub flipCw : Links → ℕ → Links
 flipCw L u = flipBetween L (2 * u) (L .next (2 * u)) (L .prev (2 * u)) (2 * u + 1) (L .next (2 * u + 1)) (L .prev (2 * u + 1))
 
--- `create_single_face_between_edge_and_next` of the outer half-edge e, between p and n, with q after n: the new edge's half-edge i lies in the new
--- face g, its half-edge o in the outer face
+-- `create_single_face_between_edge_and_next` of the outer half-edge e, between p and n, with q after n: the new edge's
+-- half-edge i lies in the new face g, its half-edge o in the outer face
 unfoldable pub faceBetween : Links → Counts → ℕ → ℕ → ℕ → ℕ → Links
 faceBetween L C p e n q =
     let i = 2 * C .edges in
@@ -51,8 +52,8 @@ createSingleFaceBetweenEdgeAndNext L C e = faceBetween L C (L .prev e) e (L .nex
 abbrev pub withFace : Counts → Counts
 withFace C = record { vertices = C .vertices; edges = C .edges + 1; faces = C .faces + 1 }
 
--- `create_new_face_adjacent_to_edge` of the outer half-edge e, between p and n, with the new vertex: a = new_next and b = new_prev lie in the new face g
--- with e, their reverses a + 1 and b + 1 in the outer face
+-- `create_new_face_adjacent_to_edge` of the outer half-edge e, between p and n, with the new vertex: a = new_next and
+-- b = new_prev lie in the new face g with e, their reverses a + 1 and b + 1 in the outer face
 unfoldable pub faceAdjacent : Links → Counts → ℕ → ℕ → ℕ → Links
 faceAdjacent L C p e n =
     let a = 2 * C .edges in

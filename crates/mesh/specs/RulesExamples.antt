@@ -1,6 +1,7 @@
--- Each mesh rule can fail by itself: for each a mesh at which its test fails and every other one passes, by computation. (`seed-wf` of `Examples`: all can be met.)
--- "next and prev undo each other, and next keeps the face" and the rule of origins are one test, and each has a mesh; that next keeps the face has none, since it
--- follows from the rules of the faces, and neither has the test that there is an outer face. Assumes nothing.
+-- Each mesh rule can fail by itself: for each a mesh at which its test fails and every other one passes, by
+-- computation. (`seed-wf` of `Examples`: all can be met.) "next and prev undo each other, and next keeps the face" and
+-- the rule of origins are one test, and each has a mesh; that next keeps the face has none, since it follows from the
+-- rules of the faces, and neither has the test that there is an outer face. Assumes nothing.
 use mathlib.Core.Bool.{true, false}
 use mathlib.Core.List.{[], _∷_}
 use mathlib.Core.Path.{_≡_, refl}
@@ -27,7 +28,8 @@ torus = record {
   adjacent = λ x. getD (41 ∷ 0 ∷ 5 ∷ 10 ∷ 15 ∷ 7 ∷ 21 ∷ 17 ∷ 27 ∷ 23 ∷ 33 ∷ 29 ∷ 39 ∷ 35 ∷ []) x 0;
 }
 
-pub torus-fails : ruleTests (record { vertices = 7; edges = 21; faces = 14 }) torus ≡ true ∷ false ∷ true ∷ true ∷ true ∷ true ∷ true ∷ true ∷ []
+pub torus-fails : ruleTests (record { vertices = 7; edges = 21; faces = 14 }) torus
+    ≡ true ∷ false ∷ true ∷ true ∷ true ∷ true ∷ true ∷ true ∷ []
 unfolding torus halfEdgeInUse linksInUse halfEdgeLinked innerFaceRule outerFaceRule sideRule vertexRule eulerRule all-below reaches rev
 torus-fails = refl
 
@@ -42,7 +44,8 @@ pastEnd = record {
   adjacent = λ x. getD (1 ∷ 0 ∷ []) x 0;
 }
 
-pub pastEnd-fails : ruleTests (record { vertices = 3; edges = 3; faces = 2 }) pastEnd ≡ true ∷ true ∷ false ∷ true ∷ true ∷ true ∷ true ∷ true ∷ []
+pub pastEnd-fails : ruleTests (record { vertices = 3; edges = 3; faces = 2 }) pastEnd
+    ≡ true ∷ true ∷ false ∷ true ∷ true ∷ true ∷ true ∷ true ∷ []
 unfolding pastEnd halfEdgeInUse linksInUse halfEdgeLinked innerFaceRule outerFaceRule sideRule vertexRule eulerRule all-below reaches rev
 pastEnd-fails = refl
 
@@ -57,11 +60,13 @@ oneWay = record {
   adjacent = λ x. getD (1 ∷ 0 ∷ []) x 0;
 }
 
-pub oneWay-fails : ruleTests (record { vertices = 3; edges = 3; faces = 2 }) oneWay ≡ true ∷ true ∷ true ∷ false ∷ true ∷ true ∷ true ∷ true ∷ []
+pub oneWay-fails : ruleTests (record { vertices = 3; edges = 3; faces = 2 }) oneWay
+    ≡ true ∷ true ∷ true ∷ false ∷ true ∷ true ∷ true ∷ true ∷ []
 unfolding oneWay halfEdgeInUse linksInUse halfEdgeLinked innerFaceRule outerFaceRule sideRule vertexRule eulerRule all-below reaches rev
 oneWay-fails = refl
 
--- "The origin of next(e) is the origin of e's reverse": the torus with one half-edge at each of two vertices said to start at a new vertex, 9 - 21 + 14 = 2
+-- "The origin of next(e) is the origin of e's reverse": the torus with one half-edge at each of two vertices said to
+-- start at a new vertex, 9 - 21 + 14 = 2
 unfoldable pub namesSplit : Links
 namesSplit = record {
   next = λ x. getD (2 ∷ 27 ∷ 4 ∷ 11 ∷ 0 ∷ 13 ∷ 8 ∷ 33 ∷ 10 ∷ 17 ∷ 6 ∷ 19 ∷ 14 ∷ 38 ∷ 16 ∷ 23 ∷ 12 ∷ 25 ∷ 20 ∷ 3 ∷ 22 ∷ 29 ∷ 18 ∷ 31 ∷ 26 ∷ 9 ∷ 28 ∷ 35 ∷ 24 ∷ 40 ∷ 32 ∷ 15 ∷ 34 ∷ 36 ∷ 30 ∷ 1 ∷ 7 ∷ 41 ∷ 5 ∷ 37 ∷ 21 ∷ 39 ∷ []) x 0;
@@ -72,7 +77,8 @@ namesSplit = record {
   adjacent = λ x. getD (37 ∷ 0 ∷ 6 ∷ 12 ∷ 18 ∷ 24 ∷ 30 ∷ 36 ∷ 5 ∷ 11 ∷ 17 ∷ 23 ∷ 29 ∷ 35 ∷ []) x 0;
 }
 
-pub namesSplit-fails : ruleTests (record { vertices = 9; edges = 21; faces = 14 }) namesSplit ≡ true ∷ true ∷ true ∷ false ∷ true ∷ true ∷ true ∷ true ∷ []
+pub namesSplit-fails : ruleTests (record { vertices = 9; edges = 21; faces = 14 }) namesSplit
+    ≡ true ∷ true ∷ true ∷ false ∷ true ∷ true ∷ true ∷ true ∷ []
 unfolding namesSplit halfEdgeInUse linksInUse halfEdgeLinked innerFaceRule outerFaceRule sideRule vertexRule eulerRule all-below reaches rev
 namesSplit-fails = refl
 
@@ -96,12 +102,14 @@ dangling = record {
   adjacent = λ x. getD (5 ∷ 0 ∷ []) x 0;
 }
 
-pub dangling-fails : ruleTests (record { vertices = 4; edges = 4; faces = 2 }) dangling ≡ true ∷ true ∷ true ∷ true ∷ false ∷ true ∷ true ∷ true ∷ []
+pub dangling-fails : ruleTests (record { vertices = 4; edges = 4; faces = 2 }) dangling
+    ≡ true ∷ true ∷ true ∷ true ∷ false ∷ true ∷ true ∷ true ∷ []
 unfolding dangling halfEdgeInUse linksInUse halfEdgeLinked innerFaceRule outerFaceRule sideRule vertexRule eulerRule all-below reaches rev
 dangling-fails = refl
 
 -- "Face 0 is one cycle of at least three": a face between two edges of the boundary of three leaves two
-pub two-fails : ruleTests (withFace seedCounts) (createSingleFaceBetweenEdgeAndNext seed seedCounts 1) ≡ true ∷ true ∷ true ∷ true ∷ true ∷ false ∷ true ∷ true ∷ []
+pub two-fails : ruleTests (withFace seedCounts) (createSingleFaceBetweenEdgeAndNext seed seedCounts 1)
+    ≡ true ∷ true ∷ true ∷ true ∷ true ∷ false ∷ true ∷ true ∷ []
 unfolding seed createSingleFaceBetweenEdgeAndNext faceBetween put halfEdgeInUse linksInUse halfEdgeLinked innerFaceRule outerFaceRule sideRule vertexRule eulerRule all-below reaches rev
 two-fails = refl
 
@@ -116,7 +124,8 @@ four = record {
   adjacent = λ x. getD (5 ∷ 0 ∷ []) x 0;
 }
 
-pub four-fails : ruleTests (record { vertices = 4; edges = 4; faces = 2 }) four ≡ true ∷ true ∷ true ∷ true ∷ true ∷ true ∷ false ∷ true ∷ []
+pub four-fails : ruleTests (record { vertices = 4; edges = 4; faces = 2 }) four
+    ≡ true ∷ true ∷ true ∷ true ∷ true ∷ true ∷ false ∷ true ∷ []
 unfolding four halfEdgeInUse linksInUse halfEdgeLinked innerFaceRule outerFaceRule sideRule vertexRule eulerRule all-below reaches rev
 four-fails = refl
 
@@ -131,6 +140,7 @@ elsewhere = record {
   adjacent = λ x. getD (1 ∷ 0 ∷ []) x 0;
 }
 
-pub elsewhere-fails : ruleTests (record { vertices = 3; edges = 3; faces = 2 }) elsewhere ≡ true ∷ true ∷ true ∷ true ∷ true ∷ true ∷ true ∷ false ∷ []
+pub elsewhere-fails : ruleTests (record { vertices = 3; edges = 3; faces = 2 }) elsewhere
+    ≡ true ∷ true ∷ true ∷ true ∷ true ∷ true ∷ true ∷ false ∷ []
 unfolding elsewhere halfEdgeInUse linksInUse halfEdgeLinked innerFaceRule outerFaceRule sideRule vertexRule eulerRule all-below reaches rev
 elsewhere-fails = refl

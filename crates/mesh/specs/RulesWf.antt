@@ -42,12 +42,15 @@ module _ (C : Counts) (L : Links) where
   E = 2 * C .edges
 
   -- ---- every link names something in use
-  half-parts : (e : ℕ) → T (halfEdgeInUse C L e) → Each (ltb (L .next e) E ∷ ltb (L .prev e) E ∷ ltb (L .face e) (C .faces) ∷ ltb (L .origin e) (C .vertices) ∷ [])
+  half-parts : (e : ℕ) → T (halfEdgeInUse C L e)
+      → Each
+      (ltb (L .next e) E ∷ ltb (L .prev e) E ∷ ltb (L .face e) (C .faces) ∷ ltb (L .origin e) (C .vertices) ∷ [])
   unfolding halfEdgeInUse
   half-parts e h = each-of (ltb (L .next e) E ∷ ltb (L .prev e) E ∷ ltb (L .face e) (C .faces) ∷ ltb (L .origin e) (C .vertices) ∷ []) h
 
   use-parts : T (linksInUse C L)
-      → Each (all-below E (halfEdgeInUse C L) ∷ all-below (C .faces) (λ f. ltb (L .adjacent f) E) ∷ all-below (C .vertices) (λ v. ltb (L .out v) E) ∷ [])
+      → Each (all-below E (halfEdgeInUse C L) ∷ all-below (C .faces) (λ f. ltb (L .adjacent f) E) ∷ all-below
+      (C .vertices) (λ v. ltb (L .out v) E) ∷ [])
   unfolding linksInUse
   use-parts h = each-of (all-below E (halfEdgeInUse C L) ∷ all-below (C .faces) (λ f. ltb (L .adjacent f) E) ∷ all-below (C .vertices) (λ v. ltb (L .out v) E) ∷ []) h
 

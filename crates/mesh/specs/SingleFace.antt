@@ -1,4 +1,5 @@
--- `create_single_face_between_edge_and_next` at an outer half-edge keeps the rules, where the boundary has at least four edges: it has one less afterwards.
+-- `create_single_face_between_edge_and_next` at an outer half-edge keeps the rules, where the boundary has at least
+-- four edges: it has one less afterwards.
 -- Assumes nothing.
 use Prim.Native.Nat.{ℕ, _+_, _*_, _<_}
 use native.Mathlib.Omega.{arith}
@@ -38,7 +39,8 @@ pub record SingleFaceFrame (C C′ : Counts) (L L′ : Links) (p e n q i o : ℕ
   pub prev-rest : {x : ℕ} → In C x → x ≢ e → x ≢ q → L′ .prev x ≡ L .prev x
   pub was : {x : ℕ} → In C′ x → L′ .face x ≡ 0 → (x ≡ o) ⊎ (In C x × (L .face x ≡ 0) × (x ≢ e) × (x ≢ n))
 
-module _ {C C′ : Counts} {L L′ : Links} {p e n q i o : ℕ} (W : Wf C L) (A : Outer C L p e n q) (F : FaceBetween C C′ L L′ p e n q i o) (four : p ≢ q) where
+module _ {C C′ : Counts} {L L′ : Links} {p e n q i o : ℕ} (W : Wf C L) (A : Outer C L p e n q)
+    (F : FaceBetween C C′ L L′ p e n q i o) (four : p ≢ q) where
   -- an old half-edge is none of the two new ones
   old : {x : ℕ} → In C x → (x ≢ i) × (x ≢ o)
   old h = (omega arith, omega arith)
@@ -221,12 +223,14 @@ module _ {C C′ : Counts} {L L′ : Links} {p e n q i o : ℕ} (W : Wf C L) (A 
   }
 
 module _ {C : Counts} {L : Links} (W : Wf C L) {e : ℕ} (h : In C e) (z : L .face e ≡ 0) (four : L .prev e ≢ L .next (L .next e)) where
-  pub single-face-is : FaceBetween C (withFace C) L (createSingleFaceBetweenEdgeAndNext L C e) (L .prev e) e (L .next e) (L .next (L .next e)) (2 * C .edges) (2 * C .edges + 1)
+  pub single-face-is : FaceBetween C (withFace C) L (createSingleFaceBetweenEdgeAndNext L C e) (L .prev e) e
+      (L .next e) (L .next (L .next e)) (2 * C .edges) (2 * C .edges + 1)
   unfolding createSingleFaceBetweenEdgeAndNext
   single-face-is = face-between W (outer W h z) four
 
   pub single-face-keeps : Wf (withFace C) (createSingleFaceBetweenEdgeAndNext L C e)
   single-face-keeps = between-keeps W (outer W h z) single-face-is four
 
-  pub single-face-frame : SingleFaceFrame C (withFace C) L (createSingleFaceBetweenEdgeAndNext L C e) (L .prev e) e (L .next e) (L .next (L .next e)) (2 * C .edges) (2 * C .edges + 1)
+  pub single-face-frame : SingleFaceFrame C (withFace C) L (createSingleFaceBetweenEdgeAndNext L C e) (L .prev e) e
+      (L .next e) (L .next (L .next e)) (2 * C .edges) (2 * C .edges + 1)
   single-face-frame = between-frame W (outer W h z) single-face-is four

@@ -64,7 +64,8 @@ module _ {C : Counts} {L : Links} (W : Wf C L) where
       T : Triangle C L a (L .next a) (L .prev a)
       T = triangle (W .ranges .adjacent< (W .ranges .face< h)) (rw (W .faces .stored (W .ranges .face< h)) f)
 
-      go : Triangle C L a (L .next a) (L .prev a) → (x ≡ a) ⊎ (x ≡ L .next a) ⊎ (x ≡ L .prev a) → (y ≡ a) ⊎ (y ≡ L .next a) ⊎ (y ≡ L .prev a)
+      go : Triangle C L a (L .next a) (L .prev a) → (x ≡ a) ⊎ (x ≡ L .next a) ⊎ (x ≡ L .prev a)
+          → (y ≡ a) ⊎ (y ≡ L .next a) ⊎ (y ≡ L .prev a)
           → (y ≡ x) ⊎ (y ≡ L .next x) ⊎ (y ≡ L .prev x)
       go t (inl q) (inl r) = inl (cc)
       go t (inl q) (inr (inl r)) = inr (inl (cc))

@@ -1,4 +1,5 @@
--- The mesh rules of 01 as facts, in the form in which proofs use them. `Rules` states the same sentence by sentence as a test that computes.
+-- The mesh rules of 01 as facts, in the form in which proofs use them. `Rules` states the same sentence by sentence as
+-- a test that computes.
 use Prim.Native.Nat.{ℕ, _+_, _*_, _<_}
 use mathlib.Core.Path.{_≡_}
 use mathlib.Core.Logic.{_≢_, _⊎_}
@@ -23,7 +24,8 @@ pub record Linked (C : Counts) (L : Links) : Type 0 where
   pub face-next : {e : ℕ} → In C e → L .face (L .next e) ≡ L .face e
   pub origin-next : {e : ℕ} → In C e → L .origin (L .next e) ≡ L .origin (rev e)
 
--- 01: "An inner face is a cycle of three through its stored edge. Face 0 is one cycle of at least three. Every edge has an inner face on a side."
+-- 01: "An inner face is a cycle of three through its stored edge. Face 0 is one cycle of at least three. Every edge has
+-- an inner face on a side."
 pub record Faces (C : Counts) (L : Links) : Type 0 where
   pub stored : {f : ℕ} → f < C .faces → L .face (L .adjacent f) ≡ f
   pub three : {e : ℕ} → In C e → 0 < L .face e → L .next (L .next e) ≡ L .prev e

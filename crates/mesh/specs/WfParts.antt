@@ -1,5 +1,5 @@
--- The mesh rules from the rules of each face and of each vertex, and back. A rule about a face or a vertex speaks of its stored half-edge; `Wf` of every
--- half-edge. Assumes nothing.
+-- The mesh rules from the rules of each face and of each vertex, and back. A rule about a face or a vertex speaks of
+-- its stored half-edge; `Wf` of every half-edge. Assumes nothing.
 use mathlib.Core.Path.{_≡_, refl, sym, _∙_, ap, subst}
 use mathlib.Core.Logic.{_≢_, _⊎_, inl, inr}
 use mathlib.Core.Bool.{Bool, true, false, not, _&&_, _||_}
@@ -41,11 +41,14 @@ module _ (C : Counts) (L : Links) where
   pub turn-inverse : Ranges C L → Linked C L → Inverse (2 * C .edges) (turn L) (λ e. L .next (rev e))
   turn-inverse R K = inverse-then (inverse-sym (next-inverse R K)) (rev-inverse (C .edges))
 
-  module _ (R : Ranges C L) (K : Linked C L) (O : OuterFace C L) (some : 0 < C .faces) (I : (f : ℕ) → f < C .faces → 0 < f → InnerFace C L f) where
+  module _ (R : Ranges C L) (K : Linked C L) (O : OuterFace C L) (some : 0 < C .faces)
+      (I : (f : ℕ) → f < C .faces → 0 < f → InnerFace C L f) where
     cube : (e : ℕ) → In C e → 0 < L .face e → L .next (L .next (L .next e)) ≡ e
     cube e l p = let J = I (L .face e) (R .face< l) p in go J (J .all e l refl)
       where
-        go : InnerFace C L (L .face e) → (e ≡ L .adjacent (L .face e)) ⊎ (e ≡ L .next (L .adjacent (L .face e))) ⊎ (e ≡ L .next (L .next (L .adjacent (L .face e)))) → L .next (L .next (L .next e)) ≡ e
+        go : InnerFace C L (L .face e)
+            → (e ≡ L .adjacent (L .face e)) ⊎ (e ≡ L .next (L .adjacent (L .face e))) ⊎
+            (e ≡ L .next (L .next (L .adjacent (L .face e)))) → L .next (L .next (L .next e)) ≡ e
         go J (inl q) = let b = J .back in cc
         go J (inr (inl q)) = let b = J .back in cc
         go J (inr (inr q)) = let b = J .back in cc
@@ -68,7 +71,9 @@ module _ (C : Counts) (L : Links) where
     inner-apart : (e : ℕ) → In C e → 0 < L .face e → L .next e ≢ e
     inner-apart e l p m = let J = I (L .face e) (R .face< l) p in go J (J .all e l refl)
       where
-        go : InnerFace C L (L .face e) → (e ≡ L .adjacent (L .face e)) ⊎ (e ≡ L .next (L .adjacent (L .face e))) ⊎ (e ≡ L .next (L .next (L .adjacent (L .face e)))) → ⊥
+        go : InnerFace C L (L .face e)
+            → (e ≡ L .adjacent (L .face e)) ⊎ (e ≡ L .next (L .adjacent (L .face e))) ⊎
+            (e ≡ L .next (L .next (L .adjacent (L .face e)))) → ⊥
         go J (inl q) = let n = J .apart in n (cc)
         go J (inr (inl q)) = let n = J .apart in let b = J .back in n (cc)
         go J (inr (inr q)) = let n = J .apart in let b = J .back in n (cc)
@@ -81,7 +86,9 @@ module _ (C : Counts) (L : Links) where
         → (e ≡ L .adjacent (L .face e)) ⊎ (e ≡ L .next (L .adjacent (L .face e))) ⊎ (e ≡ L .prev (L .adjacent (L .face e)))
     inner-at e l p = let J = I (L .face e) (R .face< l) p in go J (J .all e l refl)
       where
-        go : InnerFace C L (L .face e) → (e ≡ L .adjacent (L .face e)) ⊎ (e ≡ L .next (L .adjacent (L .face e))) ⊎ (e ≡ L .next (L .next (L .adjacent (L .face e))))
+        go : InnerFace C L (L .face e)
+            → (e ≡ L .adjacent (L .face e)) ⊎ (e ≡ L .next (L .adjacent (L .face e))) ⊎
+            (e ≡ L .next (L .next (L .adjacent (L .face e))))
             → (e ≡ L .adjacent (L .face e)) ⊎ (e ≡ L .next (L .adjacent (L .face e))) ⊎ (e ≡ L .prev (L .adjacent (L .face e)))
         go J (inl q) = inl q
         go J (inr (inl q)) = inr (inl q)
@@ -123,7 +130,8 @@ module _ (C : Counts) (L : Links) where
             reach-trans (reach-sym (turn-inverse R K) (R .out< m) (from d k (L .origin e) m p)) (from e l (L .origin e) m refl)
 
   -- ---- the mesh rules from those of each face and vertex
-  pub wf-of : Ranges C L → Linked C L → OuterFace C L → ((f : ℕ) → f < C .faces → 0 < f → InnerFace C L f) → ((e : ℕ) → In C e → L .face e ≡ 0 → 0 < L .face (rev e))
+  pub wf-of : Ranges C L → Linked C L → OuterFace C L → ((f : ℕ) → f < C .faces → 0 < f → InnerFace C L f)
+      → ((e : ℕ) → In C e → L .face e ≡ 0 → 0 < L .face (rev e))
       → ((v : ℕ) → v < C .vertices → AboutVertex C L v) → C .vertices + C .faces ≡ C .edges + 2 → 0 < C .faces → Wf C L
   wf-of R K O I S A euler some =
       record { ranges = R; links = K; faces = faces-of R K O some I S; about = vertices-of R K O some I A; euler = euler; some = some }

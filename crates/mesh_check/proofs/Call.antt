@@ -9,11 +9,10 @@ use lib.Dec.{ltb}
 use lib.IntN.{ℤ}
 use lib.ListN.{length}
 use borrow.Author.Tests.{ltb-false}
-use Rattle.dcel.specs.Rows.{There, linksOf, positionOf}
+use Rattle.dcel.specs.Rows.{Placed, linksOf, positionOf}
 use Rattle.math.specs.declared.Point.{Point}
 use Rattle.math.specs.Determinant.{InRange}
 use Rattle.mesh.specs.declared.Counts.{Counts}
-use Rattle.mesh.specs.CountsLaws.{halves-fit, faces-fit}
 use Rattle.mesh.specs.Rules.{rules}
 use Rattle.mesh.specs.RulesWf.{rules-wf}
 use Rattle.mesh.specs.Wf.{Wf}
@@ -21,12 +20,13 @@ use Rattle.mesh_check.specs.declared.Checked.the-variants.{Accepted}
 use Rattle.mesh_check.specs.Accepted.{or-false, MeshRows, not-short-rows, vertex-is}
 use Rattle.mesh_check.specs.Check.{refused, countRefused, meshRowsShort, firstOutside, vertexOrPoint, firstNotLeft, checkWith, pointCount, vertexCount, rowsShort}
 use Rattle.mesh_check.specs.CheckLaws.{check-count, check-short, check-outside, check-rules, check-turn, check-accepted, not-left-agree, count-within, inside-range}
-use Rattle.mesh_check.specs.Readable.{Placed, Readable}
+use Rattle.mesh_check.specs.Readable.{Readable}
+use Rattle.mesh_check.specs.ReadableLaws.{readable-rows}
 use Rattle.mesh_rules.specs.Sweep.{RowsThere}
 use Rattle.sums.specs.Bit.{from-true}
 
 -- the sizes, where neither 1 nor 2 was answered. n: seed plus points
-pub record Sized (points : List ℤ) (C : Counts) (p : List ℤ) (o h a : List ℕ) (n : ℕ) : Type 0 where
+pub record SizesAccepted (points : List ℤ) (C : Counts) (p : List ℤ) (o h a : List ℕ) (n : ℕ) : Type 0 where
   pub all : n ≡ C .vertices + pointCount points
   pub most : n ≤ 1000000
   pub pairs : 2 * pointCount points ≤ length points
@@ -60,7 +60,7 @@ module _ (points : List ℤ) (short : Bool) (C : Counts) (p : List ℤ) (o h a :
         b′ : (short || rowsShort (vertexCount C points) points p o h a) ≡ false
         b′ = rw (b, ← ns) d
 
-        pub sized : Sized points C p o h a n
+        pub sized : SizesAccepted points C p o h a n
         unfolding rowsShort vertexCount
         sized =
             let r = or-false (ltb (length points) (2 * pointCount points)) (meshRowsShort n (length p) (length o) (length h) (length a)) d in
@@ -95,27 +95,8 @@ module _ (points : List ℤ) (short : Bool) (C : Counts) (p : List ℤ) (o h a :
                   let x = inside-range (vertexCount C points) places (rw q′ at (rw ns at l)) {v = v} (omega arith) in
                   record { there = omega arith; range = subst InRange (vertex-is (C .vertices) (positionOf p) (positionOf points) v k) x }
 
-              half-there : {x : ℕ} → x < 2 * C .edges → There h x
-              half-there k = let S = sized in let u = halves-fit W (le-refl (C .vertices)) in omega arith
-
               pub readable : Readable C p h a
-              unfolding linksOf
-              readable = record {
-                some = W .some;
-                faces = let S = sized in let u = faces-fit W (le-refl (C .vertices)) in omega arith;
-                corners = λ f k.
-                    let a< = W .ranges .adjacent< k in
-                    let b< = W .ranges .next< a< in
-                    let c< = W .ranges .next< b< in
-                    record {
-                      first = half-there a<;
-                      second = half-there b<;
-                      third = half-there c<;
-                      one = placed (W .ranges .origin< a<);
-                      two = placed (W .ranges .origin< b<);
-                      three = placed (W .ranges .origin< c<);
-                    };
-              }
+              readable = let S = sized in readable-rows o h a p W (λ v k. placed k) (omega arith) (omega arith)
 
               module _ {f : ℕ} (fs : f ≡ firstNotLeft C (linksOf o h a) (positionOf p)) where
                 fs′ : f ≡ firstNotLeft C (linksOf o h a) places
@@ -130,5 +111,5 @@ module _ (points : List ℤ) (short : Bool) (C : Counts) (p : List ℤ) (o h a :
                 with-accepted k = check-accepted (vertexCount C points) (short || rowsShort (vertexCount C points) points p o h a) C (linksOf o h a) places e′ b′ q′ (rw ns at l) r fs′ k
 
 -- what the sweeps over the mesh ask
-pub mesh-there : {points : List ℤ} {C : Counts} {p : List ℤ} {o h a : List ℕ} {n : ℕ} → Sized points C p o h a n → RowsThere C o h a
+pub mesh-there : {points : List ℤ} {C : Counts} {p : List ℤ} {o h a : List ℕ} {n : ℕ} → SizesAccepted points C p o h a n → RowsThere C o h a
 mesh-there S = record { outs = omega arith; halves = omega arith; faces = omega arith; small = omega arith }

@@ -1,18 +1,16 @@
 -- The corners of a face, as they are read. Assumes nothing.
-use mathlib.Core.Path.{_≡_, _∙_}
+use mathlib.Core.Path.{_≡_}
 use mathlib.Core.Bool.{Bool, true, false, not, _&&_}
 use mathlib.Core.List.{List}
 use Prim.Native.Nat.{ℕ, _<_}
 use borrow.Author.Tests.{lt-ltb}
 use lib.Dec.{ltb}
 use lib.IntN.{ℤ}
-use Rattle.dcel.specs.Rows.{There, halvesOf, rowOf, linksOf, positionOf}
+use Rattle.dcel.specs.Rows.{There, Placed, halvesOf, linksOf, positionOf}
 use Rattle.math.specs.declared.Point.{Point}
-use Rattle.math.specs.Determinant.{InRange, orient2d, sideOf, isOnLeftSide}
-use Rattle.math.specs.Side.{on-left}
-use Rattle.mesh.specs.declared.Counts.{Counts}
-use Rattle.mesh_check.specs.Check.{turnsLeft}
-use Rattle.mesh_check.specs.Readable.{Placed, Corners, Readable}
+use Rattle.math.specs.Determinant.{InRange, orient2d}
+use Rattle.mesh.specs.Area.{atCorners}
+use Rattle.mesh_check.specs.Readable.{Corners}
 
 module _ {h : List ℕ} {P : List ℤ} {a b : ℕ} (K : Corners P h a) (bs : b ≡ halvesOf h .next a) where
   pub second-there : There h b
@@ -34,11 +32,11 @@ module _ {h : List ℕ} {P : List ℤ} {a b : ℕ} (K : Corners P h a) (bs : b �
 pub placed-range : {P : List ℤ} {v : ℕ} {p : Point} → Placed P v → p ≡ positionOf P v → InRange p
 placed-range K e = rw e (K .range)
 
-pub left-is : (o h s : List ℕ) (P : List ℤ) (a : ℕ) {b c u v w : ℕ} {p q r : Point} → b ≡ halvesOf h .next a → c ≡ halvesOf h .next b
+pub area-is : (o h s : List ℕ) (P : List ℤ) (a : ℕ) {b c u v w : ℕ} {p q r : Point} → b ≡ halvesOf h .next a → c ≡ halvesOf h .next b
     → u ≡ halvesOf h .origin a → v ≡ halvesOf h .origin b → w ≡ halvesOf h .origin c → p ≡ positionOf P u → q ≡ positionOf P v → r ≡ positionOf P w
-    → isOnLeftSide (sideOf (orient2d p q r)) ≡ turnsLeft (linksOf o h s) (positionOf P) a
-unfolding turnsLeft linksOf
-left-is o h s P a {p = p} {q = q} {r = r} bs cs us vs ws ps qs rs = on-left (orient2d p q r) ∙ rw (← bs, ← cs, ← us, ← vs, ← ws, ← ps, ← qs, ← rs)
+    → orient2d p q r ≡ atCorners orient2d (linksOf o h s) (positionOf P) a
+unfolding linksOf
+area-is o h s P a bs cs us vs ws ps qs rs = rw (← bs, ← cs, ← us, ← vs, ← ws, ← ps, ← qs, ← rs)
 
 -- an inner face's test, from what was read
 pub face-left : (f : ℕ) {t u : Bool} → 0 < f → t ≡ u → t ≡ true → (ltb 0 f && not u) ≡ false
@@ -46,6 +44,3 @@ face-left f l e k = rw (lt-ltb 0 f l, ← e, k)
 
 pub face-not-left : (f : ℕ) {t u : Bool} → 0 < f → t ≡ u → t ≡ false → (ltb 0 f && not u) ≡ true
 face-not-left f l e k = rw (lt-ltb 0 f l, ← e, k)
-
-pub corners-of : {C : Counts} {p : List ℤ} {h a : List ℕ} → Readable C p h a → {f : ℕ} → f < C .faces → {e : ℕ} → e ≡ rowOf a f → Corners p h e
-corners-of R l q = rw q (R .corners _ l)

@@ -1,5 +1,5 @@
--- What the calls may rely on: the rows of an accepted mesh are long enough and hold a good mesh, and every such mesh is accepted (`check-accepts`,
--- `accepts-check`; with points: `with-accepts`, `accepts-with`). Assumes nothing.
+-- What the calls may rely on: the rows of an accepted mesh are long enough and hold a good mesh, and every such mesh is
+-- accepted (`check-accepts`, `accepts-check`; with points: `with-accepts`, `accepts-with`). Assumes nothing.
 use mathlib.Core.Path.{_≡_, refl, sym, _∙_, ap, subst}
 use mathlib.Core.Bool.{Bool, true, false, _||_}
 use mathlib.Core.List.{List, []}
@@ -93,7 +93,8 @@ module _ (s : ℕ) (p q : ℕ → Point) where
       gone s i = omega arith
 
 -- only the positions of the counted vertices matter to the faces
-turning-agree : {C : Counts} {L : Links} {q r : ℕ → Point} → Wf C L → ((v : ℕ) → v < C .vertices → q v ≡ r v) → LeftTurning C L q → LeftTurning C L r
+turning-agree : {C : Counts} {L : Links} {q r : ℕ → Point} → Wf C L → ((v : ℕ) → v < C .vertices → q v ≡ r v)
+    → LeftTurning C L q → LeftTurning C L r
 turning-agree {C} {L} {q} {r} W same H = record {
   left = λ {f} u l.
       let a< = W .ranges .adjacent< l in
@@ -151,7 +152,8 @@ module _ {points : List ℤ} {short : Bool} {C : Counts} {p : List ℤ} {o h a :
         turning = turning-agree (A .good .wf) (λ v l. sym (same v l)) (A .good .turning);
       })
     where
-      all : (v : ℕ) → v < C .vertices + pointCount points → Dec (v < C .vertices) → InRange (vertexOrPoint (C .vertices) (positionOf p) (positionOf points) v)
+      all : (v : ℕ) → v < C .vertices + pointCount points → Dec (v < C .vertices)
+          → InRange (vertexOrPoint (C .vertices) (positionOf p) (positionOf points) v)
       all v l (yes k) = subst InRange (sym (vertex-is (C .vertices) (positionOf p) (positionOf points) v k)) (A .good .range k)
       all v l (no k) =
           let i : v ≡ C .vertices + (v - C .vertices) = omega arith in

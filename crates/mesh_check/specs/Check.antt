@@ -1,6 +1,7 @@
--- Refusals 1 to 5 of 01, in the order of its table: "Each makes its checks afresh from the top of this table down; the first row that applies is answered."
--- Definitions only; what they say is in `CheckLaws`. All five calls share them: a call has the seed's mesh and the points that it is given, which for check,
--- locate and finish are none.
+-- Refusals 1 to 5 of 01, in the order of its table: "Each makes its checks afresh from the top of this table down; the
+-- first row that applies is answered."
+-- Definitions only; what they say is in `CheckLaws`. All five calls share them: a call has the seed's mesh and the
+-- points that it is given, which for check, locate and finish are none.
 use mathlib.Core.Bool.{Bool, not, _&&_, _||_, cond}
 use mathlib.Core.List.{List}
 use Prim.Native.Nat.{ℕ, _+_, _-_, _*_, _/_}
@@ -27,11 +28,13 @@ refused number place = Refused (record { number = number; place = place })
 unfoldable pub countRefused : ℕ → Bool
 countRefused n = ltb n 3 || ltb 1000000 n
 
--- 2, of the mesh's rows, by their lengths. "For N vertices: N positions, N out edges, 6N half-edges, 2N faces": a position is two numbers, a half-edge four
+-- 2, of the mesh's rows, by their lengths. "For N vertices: N positions, N out edges, 6N half-edges, 2N faces": a
+-- position is two numbers, a half-edge four
 unfoldable pub meshRowsShort : ℕ → ℕ → ℕ → ℕ → ℕ → Bool
 meshRowsShort n positions outs halves faces = ltb positions (2 * n) || (ltb outs n || (ltb halves (24 * n) || ltb faces (2 * n)))
 
--- 3: "a coordinate is outside -16,777,216..16,777,216 (place = the first such vertex, points counted on after the seed's)"; n where there is none
+-- 3: "a coordinate is outside -16,777,216..16,777,216 (place = the first such vertex, points counted on after the
+-- seed's)"; n where there is none
 abbrev pub isOutside : Point → Bool
 isOutside q = not (isValidVertex q)
 
@@ -49,7 +52,8 @@ turnsLeft L p e = ltZ (pos 0) (atCorners orient2d L p e)
 unfoldable pub firstNotLeft : Counts → Links → (ℕ → Point) → ℕ
 firstNotLeft C L p = first-below (C .faces) (λ f. ltb 0 f && not (turnsLeft L p (L .adjacent f)))
 
--- the table's first five rows. n: "seed plus points"; short: a row of the call is shorter than its size for n; p: the vertices' positions, the points' after them.
+-- the table's first five rows. n: "seed plus points"; short: a row of the call is shorter than its size for n; p: the
+-- vertices' positions, the points' after them.
 -- A link outside the counts, or counts that the rows could not hold, break a mesh rule: 4
 unfoldable pub checkMesh : ℕ → Bool → Counts → Links → (ℕ → Point) → Checked
 checkMesh n short C L p =
@@ -64,9 +68,12 @@ checkMesh n short C L p =
 -- the call `check`
 unfoldable pub checkOf : Counts → List ℤ → List ℕ → List ℕ → List ℕ → Checked
 checkOf C positions outs halves faces =
-    checkMesh (C .vertices) (meshRowsShort (C .vertices) (length positions) (length outs) (length halves) (length faces)) C (linksOf outs halves faces) (positionOf positions)
+    checkMesh (C .vertices)
+    (meshRowsShort (C .vertices) (length positions) (length outs) (length halves) (length faces))
+    C (linksOf outs halves faces) (positionOf positions)
 
--- how many points a row has, each an x and a y. A last number that stands alone is counted: its point is not all there, so the row is too short
+-- how many points a row has, each an x and a y. A last number that stands alone is counted: its point is not all there,
+-- so the row is too short
 unfoldable pub pointCount : List ℤ → ℕ
 pointCount points = (length points + 1) / 2
 
@@ -83,4 +90,5 @@ rowsShort n points positions outs halves faces =
 unfoldable pub checkWith : List ℤ → Bool → Counts → List ℤ → List ℕ → List ℕ → List ℕ → Checked
 checkWith points short C positions outs halves faces =
     let n = vertexCount C points in
-    checkMesh n (short || rowsShort n points positions outs halves faces) C (linksOf outs halves faces) (vertexOrPoint (C .vertices) (positionOf positions) (positionOf points))
+    checkMesh n (short || rowsShort n points positions outs halves faces)
+    C (linksOf outs halves faces) (vertexOrPoint (C .vertices) (positionOf positions) (positionOf points))

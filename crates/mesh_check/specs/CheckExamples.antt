@@ -1,4 +1,5 @@
--- The table's rows on small meshes, by computation: the definitions evaluate, a triangle is accepted, and each of 1 to 5 is given. Assumes nothing.
+-- The table's rows on small meshes, by computation: the definitions evaluate, a triangle is accepted, and each of 1 to
+-- 5 is given. Assumes nothing.
 use mathlib.Core.Path.{_≡_, refl}
 use mathlib.Core.Bool.{false}
 use mathlib.Core.List.{List, [], _∷_, _++_}
@@ -18,7 +19,8 @@ use Rattle.sums.specs.Iterate.{reaches}
 abbrev counts : ℕ → Counts
 counts n = record { vertices = n; edges = 3; faces = 2 }
 
--- a triangle: half-edges 0, 2 and 4 in face 1, their reverses in face 0. The rows have the sizes for three vertices, zeros past the links in use
+-- a triangle: half-edges 0, 2 and 4 in face 1, their reverses in face 0. The rows have the sizes for three vertices,
+-- zeros past the links in use
 abbrev outs : List ℕ
 outs = 0 ∷ 2 ∷ 4 ∷ []
 
@@ -62,10 +64,13 @@ unfolding checkOf checkMesh countRefused meshRowsShort firstOutside turnsLeft fi
 flat-refused = refl
 
 -- points are counted on after the seed's vertices: rows for four, and a fourth position out of range; a number that stands alone
-pub point-refused : checkWith (pos 5 ∷ pos 16777217 ∷ []) false (counts 3) (triangle (pos 4) (pos 4) ++ (pos 0 ∷ pos 0 ∷ [])) (outs ++ (0 ∷ [])) (halves 2 ++ replicate 24 0) (faces ++ (0 ∷ 0 ∷ [])) ≡ refused 3 3
+pub point-refused : checkWith (pos 5 ∷ pos 16777217 ∷ []) false (counts 3)
+    (triangle (pos 4) (pos 4) ++ (pos 0 ∷ pos 0 ∷ [])) (outs ++ (0 ∷ [])) (halves 2 ++ replicate 24 0)
+    (faces ++ (0 ∷ 0 ∷ [])) ≡ refused 3 3
 unfolding checkWith vertexCount pointCount rowsShort vertexOrPoint checkMesh countRefused meshRowsShort firstOutside first-below positionOf
 point-refused = refl
 
-pub alone-refused : checkWith (pos 5 ∷ []) false (counts 3) (triangle (pos 4) (pos 4) ++ (pos 0 ∷ pos 0 ∷ [])) (outs ++ (0 ∷ [])) (halves 2 ++ replicate 24 0) (faces ++ (0 ∷ 0 ∷ [])) ≡ refused 2 0
+pub alone-refused : checkWith (pos 5 ∷ []) false (counts 3) (triangle (pos 4) (pos 4) ++ (pos 0 ∷ pos 0 ∷ []))
+    (outs ++ (0 ∷ [])) (halves 2 ++ replicate 24 0) (faces ++ (0 ∷ 0 ∷ [])) ≡ refused 2 0
 unfolding checkWith vertexCount pointCount rowsShort checkMesh countRefused
 alone-refused = refl

@@ -1,16 +1,11 @@
--- What the sweep over the inner faces asks of the rows: an accepted mesh's corners can be read. Definitions only.
+-- What the sweep over the inner faces asks of the rows: an accepted mesh's corners can be read. Definitions only;
+-- laws in `ReadableLaws`.
 use Prim.Native.Nat.{ℕ, _+_, _*_, _<_, _≤_}
 use mathlib.Core.List.{List}
 use lib.IntN.{ℤ}
 use lib.ListN.{length}
-use Rattle.dcel.specs.Rows.{There, halvesOf, rowOf, positionOf}
-use Rattle.math.specs.Determinant.{InRange}
+use Rattle.dcel.specs.Rows.{There, Placed, halvesOf, rowOf}
 use Rattle.mesh.specs.declared.Counts.{Counts}
-
--- the row has the position of v, and it is in range
-pub record Placed (p : List ℤ) (v : ℕ) : Type 0 where
-  pub there : 2 * v + 1 < length p
-  pub range : InRange (positionOf p v)
 
 -- half-edge a, the next one and the one after are in the row, and so are the positions of their origins
 pub record Corners (p : List ℤ) (h : List ℕ) (a : ℕ) : Type 0 where

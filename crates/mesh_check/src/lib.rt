@@ -1,10 +1,14 @@
-// Refusals 1 to 5 of 01's table, which every public call tests first: is a lent mesh one that the calls accept? And the call `check`, which tests nothing else.
-// Nothing is written, and nothing is remembered but counts. What each function answers is an equation with a definition of `specs/Check.antt`.
+// Refusals 1 to 5 of 01's table, which every public call tests first: is a lent mesh one that the calls accept? And the
+// call `check`, which tests nothing else.
+// Nothing is written, and nothing is remembered but counts. What each function answers is an equation with a definition
+// of `specs/Check.antt`.
 ghost use mathlib.Core.Path.{_≡_};
 ghost use mathlib.Core.List.{List};
 ghost use Prim.Native.Nat.{ℕ, _+_, _*_, _<_, _≤_};
 ghost use lib.ListN.{length};
 ghost use Rattle.dcel.specs.Rows.{linksOf, positionOf};
+ghost use Rattle.math.specs.Determinant.{orient2d};
+ghost use Rattle.mesh.specs.Area.{atCorners};
 ghost use Rattle.mesh_check.specs.Check.{countRefused, meshRowsShort, firstOutside, vertexOrPoint, turnsLeft, firstNotLeft, checkOf, checkWith, pointCount, vertexCount, rowsShort, refused};
 ghost use Rattle.mesh_check.specs.Readable.{Corners, Readable};
 use mesh::Counts;
@@ -69,7 +73,8 @@ fn rows_short(
     faces: &[u32],
 ) -> bool
     requires { ⌜ n ≤ 1000000 ⌝ }
-    ensures { λ r. ⌜ r ≡ rowsShort n (now (points .entry)) (now (positions .entry)) (now (outs .entry)) (now (halves .entry)) (now (faces .entry)) ⌝ }
+    ensures { λ r. ⌜ r ≡ rowsShort n (now (points .entry))
+        (now (positions .entry)) (now (outs .entry)) (now (halves .entry)) (now (faces .entry)) ⌝ }
 {
     if points.len() % 2 != 0 {
         return true;
@@ -105,10 +110,11 @@ fn first_outside_with(positions: &[i32], s: u32, points: &[i32], m: u32) -> u32
     s + first_outside(points, m)
 }
 
-// The three corners along next from half-edge a turn strictly left.
-fn turns_left(positions: &[i32], halves: &[u32], a: u32) -> bool
+// Twice the area of the triangle of the corners along next from half-edge a.
+pub fn doubled_area_at(positions: &[i32], halves: &[u32], a: u32) -> i64
     requires { ⌜ Corners (now positions) (now halves) a ⌝ }
-    ensures { λ r. ⌜ ((o s : List ℕ) → r ≡ turnsLeft (linksOf o (now (halves .entry)) s) (positionOf (now (positions .entry))) a) ⌝ }
+    ensures { λ r. ⌜ ((o s : List ℕ)
+        → r ≡ atCorners orient2d (linksOf o (now (halves .entry)) s) (positionOf (now (positions .entry))) a) ⌝ }
 {
     let b = dcel::next(halves, a);
     let c = dcel::next(halves, b);
@@ -118,13 +124,23 @@ fn turns_left(positions: &[i32], halves: &[u32], a: u32) -> bool
     let p = dcel::position(positions, u);
     let q = dcel::position(positions, v);
     let r = dcel::position(positions, w);
-    math::side_query(p, q, r).is_on_left_side()
+    math::orient2d(p, q, r)
+}
+
+// The three corners along next from half-edge a turn strictly left.
+fn turns_left(positions: &[i32], halves: &[u32], a: u32) -> bool
+    requires { ⌜ Corners (now positions) (now halves) a ⌝ }
+    ensures { λ r. ⌜ ((o s : List ℕ) → r ≡ turnsLeft (linksOf o (now (halves .entry)) s) (positionOf (now (positions .entry))) a) ⌝ }
+{
+    0 < doubled_area_at(positions, halves, a)
 }
 
 // The lowest inner face that does not turn strictly left, or the number of faces.
 fn first_not_left(positions: &[i32], halves: &[u32], faces: &[u32], counts: Counts) -> u32
     requires { ⌜ Readable counts (now positions) (now halves) (now faces) ⌝ }
-    ensures { λ r. ⌜ ((o : List ℕ) → r ≡ firstNotLeft counts (linksOf o (now (halves .entry)) (now (faces .entry))) (positionOf (now (positions .entry)))) ⌝ }
+    ensures { λ r. ⌜ ((o : List ℕ)
+        → r ≡ firstNotLeft counts (linksOf o (now (halves .entry)) (now (faces .entry)))
+        (positionOf (now (positions .entry)))) ⌝ }
 {
     let count = counts.faces;
     let mut f: u32 = 1;
@@ -157,7 +173,8 @@ pub fn check_with(
     halves: &[u32],
     faces: &[u32],
 ) -> Checked
-    ensures { λ r. ⌜ r ≡ checkWith (now (points .entry)) short counts (now (positions .entry)) (now (outs .entry)) (now (halves .entry)) (now (faces .entry)) ⌝ }
+    ensures { λ r. ⌜ r ≡ checkWith (now (points .entry)) short counts
+        (now (positions .entry)) (now (outs .entry)) (now (halves .entry)) (now (faces .entry)) ⌝ }
 {
     let n = vertex_count(counts, points);
     if count_refused(n) {

@@ -16,7 +16,8 @@ pub extern "C" fn mesh_check_check(
     halves: &[u32],
     stored: &[u32],
 ) -> u64
-    ensures { λ r. ⌜ r ≡ answerNumber (checkOf (counted vertices edges faces) (now (positions .entry)) (now (outs .entry)) (now (halves .entry)) (now (stored .entry))) ⌝ }
+    ensures { λ r. ⌜ r ≡ answerNumber (checkOf (counted vertices edges faces)
+        (now (positions .entry)) (now (outs .entry)) (now (halves .entry)) (now (stored .entry))) ⌝ }
 {
     let counts = Counts {
         vertices: vertices,

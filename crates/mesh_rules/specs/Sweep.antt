@@ -1,5 +1,5 @@
--- What the sweeps of this crate answer, in the order in which they look: each is a test that needs no memory of what was met, and together they are `rules`
--- (`SweepRules`). Definitions only.
+-- What the sweeps of this crate answer, in the order in which they look: each is a test that needs no memory of what
+-- was met, and together they are `rules` (`SweepRules`). Definitions only.
 use mathlib.Core.Bool.{Bool, not, _&&_, _||_}
 use mathlib.Core.List.{List, [], _∷_}
 use Prim.Native.Nat.{ℕ, _+_, _*_, _<_, _≤_, _^_}
@@ -20,7 +20,8 @@ use Rattle.sums.specs.Orbits.{orbitTotal}
 abbrev pub useTests : Counts → HalfEdgeEntry → List Bool
 useTests C w = ltb (w .next) (2 * C .edges) ∷ ltb (w .prev) (2 * C .edges) ∷ ltb (w .face) (C .faces) ∷ ltb (w .origin) (C .vertices) ∷ []
 
--- half-edge e has the links w, the next one those of `after`, the next one of the previous one is `back`, the reverse of e has those of `other`
+-- half-edge e has the links w, the next one those of `after`, the next one of the previous one is `back`, the reverse
+-- of e has those of `other`
 abbrev pub linkTests : ℕ → HalfEdgeEntry → HalfEdgeEntry → ℕ → HalfEdgeEntry → List Bool
 linkTests e w after back other = eqb (after .prev) e ∷ eqb back e ∷ eqb (after .face) (w .face) ∷ eqb (after .origin) (other .origin) ∷ []
 
@@ -66,7 +67,8 @@ innerFaceHolds C L f = implies (ltb 0 f) (faceHolds C L f)
 -- the counts: there is an outer face, Euler's count, and no more half-edges and faces than 01's rows hold, 6N and 2N
 unfoldable pub countsHold : Counts → Bool
 countsHold C =
-    ltb 0 (C .faces) && (eqb (C .vertices + C .faces) (C .edges + 2) && (leb (C .edges) (3 * C .vertices) && leb (C .faces) (2 * C .vertices)))
+    ltb 0 (C .faces) && (eqb (C .vertices + C .faces) (C .edges + 2)
+    && (leb (C .edges) (3 * C .vertices) && leb (C .faces) (2 * C .vertices)))
 
 -- all tests, in the order in which they are made
 unfoldable pub sweep : Counts → Links → Bool

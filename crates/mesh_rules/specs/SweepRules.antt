@@ -1,4 +1,5 @@
--- The sweeps' tests together are the mesh rules (`sweep-rules`): from them the rules follow (`swept-wf`), and where the rules hold each of them passes (`wf-..`).
+-- The sweeps' tests together are the mesh rules (`sweep-rules`): from them the rules follow (`swept-wf`), and where the
+-- rules hold each of them passes (`wf-..`).
 -- Assumes nothing.
 use mathlib.Core.Path.{_≡_, refl, sym, _∙_, ap, subst}
 use mathlib.Core.Logic.{_≢_, _⊎_, inl, inr}
@@ -163,7 +164,8 @@ module _ (C : Counts) (L : Links) where
     origin-turn : (e : ℕ) → In C e → L .origin (turn L e) ≡ L .origin e
     origin-turn e l = sym (K .origin-next (R .prev< l)) ∙ ap (L .origin) (K .next-prev l)
 
-    pub vertex-classes : ((v : ℕ) → v < C .vertices → L .origin (L .out v) ≡ v) → Classes E (C .vertices) (turn L) (λ e. L .next (rev e)) (L .origin) (L .out)
+    pub vertex-classes : ((v : ℕ) → v < C .vertices → L .origin (L .out v) ≡ v)
+        → Classes E (C .vertices) (turn L) (λ e. L .next (rev e)) (L .origin) (L .out)
     vertex-classes B = record { permutes = turn-inverse C L R K; keeps = origin-turn; known = λ e l. R .origin< l; chosen = λ v l. R .out< l; of = B }
 
     face-classes : ((f : ℕ) → f < C .faces → L .face (L .adjacent f) ≡ f) → Classes E (C .faces) (L .next) (L .prev) (L .face) (L .adjacent)
@@ -189,7 +191,8 @@ module _ (C : Counts) (L : Links) where
         go (suc m) q l = let t = face-total P m (omega arith) in omega arith
 
   -- ---- the theorem: from the tests to the rules
-  module _ (H : (e : ℕ) → In C e → Half e) (B : (v : ℕ) → v < C .vertices → Based v) (O : Wide) (T3 : (f : ℕ) → f < C .faces → 0 < f → Three f) (some : 0 < C .faces) where
+  module _ (H : (e : ℕ) → In C e → Half e) (B : (v : ℕ) → v < C .vertices → Based v) (O : Wide)
+      (T3 : (f : ℕ) → f < C .faces → 0 < f → Three f) (some : 0 < C .faces) where
     here : (f : ℕ) → f < C .faces → Dec (0 < f) → In C (L .adjacent f)
     here f l (yes p) = T3 f l p .here
     here f l (no p) = subst (λ (g : ℕ). In C (L .adjacent g)) (none f p) (O .here)
@@ -255,7 +258,8 @@ module _ (C : Counts) (L : Links) where
           all = λ e m q. among e (reach-on (next-inverse C L R K) (T3 f l p .here) (three-period f l p) (subst (λ (g : ℕ). Reach (L .next) (L .adjacent g) e) q (met e m)));
         }
           where
-            among : (e : ℕ) → On 3 (λ k. iter k (L .next) (L .adjacent f)) e → (e ≡ L .adjacent f) ⊎ (e ≡ L .next (L .adjacent f)) ⊎ (e ≡ L .next (L .next (L .adjacent f)))
+            among : (e : ℕ) → On 3 (λ k. iter k (L .next) (L .adjacent f)) e
+                → (e ≡ L .adjacent f) ⊎ (e ≡ L .next (L .adjacent f)) ⊎ (e ≡ L .next (L .next (L .adjacent f)))
             among e (zero, u, s) = inl (sym s)
             among e (suc zero, u, s) = inr (inl (sym s))
             among e (suc (suc zero), u, s) = inr (inr (sym s))
@@ -317,7 +321,8 @@ module _ (C : Counts) (L : Links) where
         met : (e : ℕ) → In C e → Dec (0 < L .face e) → Reach (L .next) (L .adjacent (L .face e)) e
         met e l (yes p) = among (W .faces .inner l p)
           where
-            among : (e ≡ L .adjacent (L .face e)) ⊎ (e ≡ L .next (L .adjacent (L .face e))) ⊎ (e ≡ L .prev (L .adjacent (L .face e))) → Reach (L .next) (L .adjacent (L .face e)) e
+            among : (e ≡ L .adjacent (L .face e)) ⊎ (e ≡ L .next (L .adjacent (L .face e))) ⊎
+                (e ≡ L .prev (L .adjacent (L .face e))) → Reach (L .next) (L .adjacent (L .face e)) e
             among (inl q) = reach-at (sym q)
             among (inr (inl q)) = reach-one (sym q)
             among (inr (inr q)) = reach-two (W .faces .three (W .ranges .adjacent< (W .ranges .face< l)) (let s = W .faces .stored (W .ranges .face< l) in omega arith) ∙ sym q)

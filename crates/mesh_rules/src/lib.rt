@@ -1,5 +1,6 @@
-// The mesh rules of 01, decided in time proportional to the mesh and with no memory of what was met but counts: each sweep looks at every half-edge, face or
-// vertex once. What each function answers is an equation with a definition of `specs/Sweep.antt`, and `mesh_rules` with `rules` of the crate mesh.
+// The mesh rules of 01, decided in time proportional to the mesh and with no memory of what was met but counts: each
+// sweep looks at every half-edge, face or vertex once. What each function answers is an equation with a definition of
+// `specs/Sweep.antt`, and `mesh_rules` with `rules` of the crate mesh.
 // A function that is lent the row of half-edges alone says so whatever the other rows hold: o are the out edges and a the faces.
 ghost use mathlib.Core.Path.{_≡_};
 ghost use mathlib.Core.Bool.{true};
@@ -131,7 +132,9 @@ fn face_holds(halves: &[u32], faces: &[u32], counts: Counts, f: u32) -> bool
 
 fn inner_faces_hold(halves: &[u32], faces: &[u32], counts: Counts) -> bool
     requires { ⌜ HalvesSwept counts (now halves) × ((0 < counts .faces) × (counts .faces ≤ length (now faces))) ⌝ }
-    ensures { λ r. ⌜ ((o : List ℕ) → r ≡ all-below (counts .faces) (innerFaceHolds counts (linksOf o (now (halves .entry)) (now (faces .entry))))) ⌝ }
+    ensures { λ r. ⌜ ((o : List ℕ)
+        → r ≡ all-below (counts .faces)
+        (innerFaceHolds counts (linksOf o (now (halves .entry)) (now (faces .entry))))) ⌝ }
 {
     let count = counts.faces;
     let mut f: u32 = 1;
@@ -248,7 +251,8 @@ fn vertices_hold(outs: &[u32], halves: &[u32], counts: Counts) -> bool
     total == 2 * (counts.edges as u64)
 }
 
-// The counts agree with each other, and the rows for so many vertices hold so many edges and faces. Otherwise a rule fails, and no row is read.
+// The counts agree with each other, and the rows for so many vertices hold so many edges and faces. Otherwise a rule
+// fails, and no row is read.
 fn counts_hold(counts: Counts) -> bool
     ensures { λ r. ⌜ r ≡ countsHold counts ⌝ }
 {

@@ -1,4 +1,5 @@
--- The pending list in a lent row: `edges` of `legalize_edge` and `edges_to_validate` of `legalize_edges_after_removal`. Definitions only; laws in `PendingLaws`.
+-- The pending list in a lent row: `edges` of `legalize_edge` and `edges_to_validate` of `legalize_edges_after_removal`.
+-- Definitions only; laws in `PendingLaws`.
 -- A list has its last entry, which is taken first, as its head.
 use mathlib.Core.Bool.{Bool, false, _||_, cond}
 use mathlib.Core.List.{List, [], _∷_}

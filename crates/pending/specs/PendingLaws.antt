@@ -84,7 +84,8 @@ module _ {row : List ℕ} {n : ℕ} {l : List ℕ} (h : Holds row n l) (k : n �
   pub pushed-contained : contains x (pendingOf row n) ≡ true → Holds row n (pushIfNotContained x l)
   pushed-contained e = rw (push-contained x l (rw (h .fits k) at e)) h
 
-  pub pushed-missing : contains x (pendingOf row n) ≡ false → {row′ : List ℕ} {n′ : ℕ} → Holds row′ n′ (x ∷ l) → Holds row′ n′ (pushIfNotContained x l)
+  pub pushed-missing : contains x (pendingOf row n) ≡ false → {row′ : List ℕ} {n′ : ℕ} → Holds row′ n′ (x ∷ l)
+      → Holds row′ n′ (pushIfNotContained x l)
   pushed-missing e h′ = rw (push-missing x l (rw (h .fits k) at e)) h′
 
 -- ---- `contains`, entry by entry from the last
@@ -97,6 +98,7 @@ pub contains-here : (x n : ℕ) (row : List ℕ) → 0 < n → x ≡ getD row (n
 unfolding contains
 contains-here x n row l e = rw (pending-last row n l, eq-eqb x (getD row (n - 1) 0) e) refl
 
-pub contains-not-here : (x n : ℕ) (row : List ℕ) → 0 < n → (x ≡ getD row (n - 1) 0 → ⊥) → contains x (pendingOf row n) ≡ contains x (pendingOf row (n - 1))
+pub contains-not-here : (x n : ℕ) (row : List ℕ) → 0 < n → (x ≡ getD row (n - 1) 0 → ⊥)
+    → contains x (pendingOf row n) ≡ contains x (pendingOf row (n - 1))
 unfolding contains
 contains-not-here x n row l e = rw (pending-last row n l, ne-eqb x (getD row (n - 1) 0) e) refl

@@ -1,4 +1,5 @@
-// The pending list of edges in a row that the caller lends, with its length by value. A length past the row's end says that a push would have overfilled the row.
+// The pending list of edges in a row that the caller lends, with its length by value. A length past the row's end says
+// that a push would have overfilled the row.
 ghost use mathlib.Core.Path.{_≡_};
 ghost use mathlib.Core.List.{List, _∷_};
 ghost use Prim.Native.Nat.{ℕ, _-_, _<_, _≤_};

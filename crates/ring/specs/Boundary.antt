@@ -1,5 +1,6 @@
--- The ring of a mesh that keeps the rules: the walk by next from any boundary edge is the round of the theory and meets every boundary edge; in a sound ring each angle is held by exactly
--- one boundary edge, and that is `located`. What leaves the boundary leaves the ring. Assumes nothing.
+-- The ring of a mesh that keeps the rules: the walk by next from any boundary edge is the round of the theory and meets
+-- every boundary edge; in a sound ring each angle is held by exactly one boundary edge, and that is `located`. What
+-- leaves the boundary leaves the ring. Assumes nothing.
 use mathlib.Core.Path.{_≡_, refl, sym, _∙_, ap, ap₂, subst}
 use mathlib.Core.List.{List, [], _∷_, map}
 use Prim.Native.Nat.{ℕ, zero, suc, _-_, _<_, _≤_}
@@ -20,7 +21,8 @@ use Rattle.ring.specs.Sound.{Sound, sound-at, tile, tile-sole}
 use Rattle.ring.specs.Merged.{sound-round, round-sound, nodes-merged, strict-sound, strict-all}
 
 -- two functions that agree along a walk
-pub map-walk : (a b : ℕ → ℕ) (f : ℕ → ℕ) (n s : ℕ) → ((k : ℕ) → k < n → b (iter k f s) ≡ a (iter k f s)) → map b (walk n f s) ≡ map a (walk n f s)
+pub map-walk : (a b : ℕ → ℕ) (f : ℕ → ℕ) (n s : ℕ) → ((k : ℕ) → k < n → b (iter k f s) ≡ a (iter k f s))
+    → map b (walk n f s) ≡ map a (walk n f s)
 unfolding walk
 map-walk a b f zero s h = refl
 map-walk a b f (suc n) s h = ap₂ (λ (x : ℕ) (l : List ℕ). x ∷ l) (h zero (omega arith)) (map-walk a b f n (f s) (λ k l. h (suc k) (omega arith)))
@@ -63,12 +65,14 @@ module _ {C : Counts} {L : Links} (W : Wf C L) where
     unfolding isSoundRing boundaryAngles boundaryEdges
     sound-first t = sound-round fullTurn (L .next) (edgeAngle L α) (L .adjacent 0) (boundaryLength C L) (boundary-period W .back) t
 
-    pub sound-outer : T (isSoundRing C L α) → {e : ℕ} → In C e → L .face e ≡ 0 → Sound fullTurn (L .next) (edgeAngle L α) e (boundaryLength C L)
+    pub sound-outer : T (isSoundRing C L α) → {e : ℕ} → In C e → L .face e ≡ 0
+        → Sound fullTurn (L .next) (edgeAngle L α) e (boundaryLength C L)
     sound-outer t l o =
         let r = outer-on (first< W) (first-outer W) l o in
         subst (λ (x : ℕ). Sound fullTurn (L .next) (edgeAngle L α) x (boundaryLength C L)) (r .2) (sound-at (sound-first t) (r .0))
 
-    pub outer-sound : {e : ℕ} → In C e → L .face e ≡ 0 → Sound fullTurn (L .next) (edgeAngle L α) e (boundaryLength C L) → T (isSoundRing C L α)
+    pub outer-sound : {e : ℕ} → In C e → L .face e ≡ 0
+        → Sound fullTurn (L .next) (edgeAngle L α) e (boundaryLength C L) → T (isSoundRing C L α)
     unfolding isSoundRing boundaryAngles boundaryEdges
     outer-sound l o S =
         let r = outer-on l o (first< W) (first-outer W) in

@@ -1,5 +1,6 @@
--- BUCKETS: n buckets of w places each, on a circle of N = n * w. The point of bucket i is i * w. The buckets whose points a segment holds are a range of numbers,
--- from the ceiling of its first angle up to that of its second, both taken from n to 0; no such range is empty where it should be whole, since no segment is wide. Assumes nothing.
+-- BUCKETS: n buckets of w places each, on a circle of N = n * w. The point of bucket i is i * w. The buckets whose
+-- points a segment holds are a range of numbers, from the ceiling of its first angle up to that of its second, both
+-- taken from n to 0; no such range is empty where it should be whole, since no segment is wide. Assumes nothing.
 use mathlib.Core.Path.{_≡_, refl, _∙_, ap}
 use mathlib.Core.Logic.{_≢_, _⊎_, inl, inr}
 use mathlib.Core.Bool.{Bool, true, false, not, cond, _&&_, _||_}
@@ -47,7 +48,8 @@ range→ : (i L R : ℕ) → T (within i L R) → Range i L R
 unfolding within
 range→ i L R h = go (leb L R) (leb L i) (ltb i R) (le? L R) (le? L i) (lt? i R) h
   where
-    go : (u c e : Bool) → Tells u (L ≤ R) (R < L) → Tells c (L ≤ i) (i < L) → Tells e (i < R) (R ≤ i) → T (cond u (c && e) (c || e)) → Range i L R
+    go : (u c e : Bool) → Tells u (L ≤ R) (R < L) → Tells c (L ≤ i) (i < L) → Tells e (i < R) (R ≤ i)
+        → T (cond u (c && e) (c || e)) → Range i L R
     go true true true A C E h = inside (C .0 tt) (E .0 tt)
     go true true false A C E h = absurd h
     go true false e A C E h = absurd h
@@ -59,7 +61,8 @@ range← : {i L R : ℕ} → Range i L R → T (within i L R)
 unfolding within
 range← {i} {L} {R} r = go (leb L R) (leb L i) (ltb i R) (le? L R) (le? L i) (lt? i R) r
   where
-    go : (u c e : Bool) → Tells u (L ≤ R) (R < L) → Tells c (L ≤ i) (i < L) → Tells e (i < R) (R ≤ i) → Range i L R → T (cond u (c && e) (c || e))
+    go : (u c e : Bool) → Tells u (L ≤ R) (R < L) → Tells c (L ≤ i) (i < L) → Tells e (i < R) (R ≤ i) → Range i L R
+        → T (cond u (c && e) (c || e))
     go u true true A C E r = both u
       where
         both : (u : Bool) → T (cond u (true && true) (true || true))

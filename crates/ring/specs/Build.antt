@@ -1,4 +1,5 @@
--- BUILD: nodes numbered from 0 in the order of the boundary's proper edges stand for it; and buckets filled node by node have, in the end, each the node that holds its point. Assumes nothing.
+-- BUILD: nodes numbered from 0 in the order of the boundary's proper edges stand for it; and buckets filled node by
+-- node have, in the end, each the node that holds its point. Assumes nothing.
 use mathlib.Core.Path.{_≡_, refl, sym, _∙_, ap, subst}
 use mathlib.Core.Bool.{Bool, true, false, cond}
 use Prim.Native.Nat.{ℕ, zero, suc, _*_, _%_, _<_, _≤_}
@@ -18,7 +19,8 @@ use Rattle.sums.specs.Tally.{counts, tally, tally-before, walk}
 -- m nodes, for h edges from e on
 pub record Built (next α right angle edge : ℕ → ℕ) (e h m : ℕ) : Type 0 where
   pub size : nodes next α h e ≡ m
-  pub at : (k : ℕ) → k < h → T (atEnds proper next α (iter k next e)) → (edge (nodes next α k e) ≡ iter k next e) × (angle (nodes next α k e) ≡ α (iter k next e))
+  pub at : (k : ℕ) → k < h → T (atEnds proper next α (iter k next e))
+      → (edge (nodes next α k e) ≡ iter k next e) × (angle (nodes next α k e) ≡ α (iter k next e))
   pub step : (i : ℕ) → suc i < m → right i ≡ suc i
   pub turn : (i : ℕ) → suc i ≡ m → right i ≡ 0
 
@@ -43,9 +45,13 @@ module _ {N : ℕ} {next α right angle edge : ℕ → ℕ} {e h m : ℕ} (S : S
 -- ---- buckets from nothing: d nodes are done
 unfoldable pub Filling : (ℕ → ℕ) → (ℕ → ℕ) → (ℕ → ℕ) → ℕ → ℕ → ℕ → ℕ → Type 0
 Filling right angle bucket B w s d =
-    (i : ℕ) → i < B → (k : ℕ) → k < d → T (within i (ceiling w (angle (iter k right s)) % B) (ceiling w (angle (right (iter k right s))) % B)) → bucket i ≡ iter k right s
+    (i : ℕ) → i < B → (k : ℕ) → k < d
+    → T (within i (ceiling w (angle (iter k right s)) % B) (ceiling w (angle (right (iter k right s))) % B))
+    → bucket i ≡ iter k right s
 
-module _ {N : ℕ} {right angle : ℕ → ℕ} {s m B w : ℕ} (S : Sound N right angle s m) (all : tally (atEnds proper right angle) (walk m right s) ≡ m) (low : (k : ℕ) → k < m → angle (iter k right s) ≤ N) (W : Sized N B w) where
+module _ {N : ℕ} {right angle : ℕ → ℕ} {s m B w : ℕ} (S : Sound N right angle s m)
+    (all : tally (atEnds proper right angle) (walk m right s) ≡ m)
+    (low : (k : ℕ) → k < m → angle (iter k right s) ≤ N) (W : Sized N B w) where
   pub narrow-nodes : (k : ℕ) → k < m → NarrowSegment N (angle (iter k right s)) (angle (right (iter k right s)))
   narrow-nodes k l = record {
     a-in = low k l;
@@ -58,7 +64,9 @@ module _ {N : ℕ} {right angle : ℕ → ℕ} {s m B w : ℕ} (S : Sound N righ
       low-next (yes u) = low (suc k) u
       low-next (no u) = let z : suc k ≡ m = omega arith in subst (λ (x : ℕ). angle x ≤ N) (sym (ap (λ (i : ℕ). iter i right s) z ∙ S .closed)) (low 0 (omega arith))
 
-  pub range : (i k : ℕ) → i < B → k < m → atEnds (holds (i * w)) right angle (iter k right s) ≡ within i (ceiling w (angle (iter k right s)) % B) (ceiling w (angle (right (iter k right s))) % B)
+  pub range : (i k : ℕ) → i < B → k < m
+      → atEnds (holds (i * w)) right angle (iter k right s)
+      ≡ within i (ceiling w (angle (iter k right s)) % B) (ceiling w (angle (right (iter k right s))) % B)
   range i k l u = bucket-range W (narrow-nodes k u) i l
 
   pub filling-start : (bucket : ℕ → ℕ) → Filling right angle bucket B w s 0
@@ -66,15 +74,21 @@ module _ {N : ℕ} {right angle : ℕ → ℕ} {s m B w : ℕ} (S : Sound N righ
   filling-start bucket i l k u t = absurd (omega arith)
 
   pub filling-step : (bucket bucket' : ℕ → ℕ) (d : ℕ) → d < m
-      → ((i : ℕ) → i < B → bucket' i ≡ cond (within i (ceiling w (angle (iter d right s)) % B) (ceiling w (angle (right (iter d right s))) % B)) (iter d right s) (bucket i))
+      → ((i : ℕ) → i < B → bucket' i ≡ cond
+      (within i (ceiling w (angle (iter d right s)) % B) (ceiling w (angle (right (iter d right s))) % B))
+      (iter d right s) (bucket i))
       → Filling right angle bucket B w s d → Filling right angle bucket' B w s (suc d)
   unfolding Filling
   filling-step bucket bucket' d dm st F i l k u t = st i l ∙ go (within i (ceiling w (angle (iter d right s)) % B) (ceiling w (angle (right (iter d right s))) % B)) refl (ℕ-discrete k d)
     where
-      held : (j : ℕ) → j < m → T (within i (ceiling w (angle (iter j right s)) % B) (ceiling w (angle (right (iter j right s))) % B)) → T (atEnds (holds (i * w)) right angle (iter j right s))
+      held : (j : ℕ) → j < m
+          → T (within i (ceiling w (angle (iter j right s)) % B) (ceiling w (angle (right (iter j right s))) % B))
+          → T (atEnds (holds (i * w)) right angle (iter j right s))
       held j y = subst T (sym (range i j l y))
 
-      go : (b : Bool) → within i (ceiling w (angle (iter d right s)) % B) (ceiling w (angle (right (iter d right s))) % B) ≡ b → Dec (k ≡ d) → cond b (iter d right s) (bucket i) ≡ iter k right s
+      go : (b : Bool)
+          → within i (ceiling w (angle (iter d right s)) % B) (ceiling w (angle (right (iter d right s))) % B) ≡ b
+          → Dec (k ≡ d) → cond b (iter d right s) (bucket i) ≡ iter k right s
       go true z q = ap (λ (j : ℕ). iter j right s) (tile-sole S (i * w) d k dm (omega arith) (held d dm (subst T (sym z) tt)) (held k (omega arith) t))
       go false z (yes q) = absurd (subst T (ap (λ (j : ℕ). within i (ceiling w (angle (iter j right s)) % B) (ceiling w (angle (right (iter j right s))) % B)) q ∙ z) t)
       go false z (no q) = F i l k (omega arith) t

@@ -1,4 +1,5 @@
--- The vertices' angles about a centre, and 01's refusals 6 and 7. Definitions, each of which computes, and the law that an accepted centre gives every boundary vertex an angle up to 1.0.
+-- The vertices' angles about a centre, and 01's refusals 6 and 7. Definitions, each of which computes, and the law that
+-- an accepted centre gives every boundary vertex an angle up to 1.0.
 -- Assumes nothing.
 use mathlib.Core.Path.{_≡_, sym, subst}
 use mathlib.Core.Bool.{Bool, not, _||_}
@@ -28,7 +29,8 @@ turnsAbout cx cy p v = turns (angleAbout (p v .x) (p v .y) cx cy)
 
 -- 01, refusal 6: "the centre isn't finite, has a coordinate outside the range of 3, or equals a boundary vertex"
 unfoldable pub refusesCenter : Counts → Links → (ℕ → Point) → Float → Float → Bool
-refusesCenter C L p cx cy = not (validCenter cx cy) || any-below (boundaryLength C L) (λ k. atCenter (p (L .origin (hullEdge L k)) .x) (p (L .origin (hullEdge L k)) .y) cx cy)
+refusesCenter C L p cx cy = not (validCenter cx cy)
+    || any-below (boundaryLength C L) (λ k. atCenter (p (L .origin (hullEdge L k)) .x) (p (L .origin (hullEdge L k)) .y) cx cy)
 
 -- 01, refusal 7: "the start ring is not strict"
 unfoldable pub refusesRing : Counts → Links → (ℕ → Point) → Float → Float → Bool
@@ -39,7 +41,8 @@ mag-range : (z : ℤ) → natAbs z ≤ 16777216 → mag z < 2 ^ 31
 mag-range (pos n) h = omega (arith, h)
 mag-range (negsuc n) h = omega (arith, h)
 
-module _ {C : Counts} {L : Links} (W : Wf C L) (p : ℕ → Point) (range : (v : ℕ) → v < C .vertices → InRange (p v)) (cx cy : Float) (fx : T (fits binary64 cx)) (fy : T (fits binary64 cy))
+module _ {C : Counts} {L : Links} (W : Wf C L) (p : ℕ → Point) (range : (v : ℕ) → v < C .vertices → InRange (p v))
+    (cx cy : Float) (fx : T (fits binary64 cx)) (fy : T (fits binary64 cy))
     (ok : T (not (refusesCenter C L p cx cy))) {e : ℕ} (l : In C e) (o : L .face e ≡ 0) where
   -- gives a boundary vertex an angle
   pub boundary-angle : IsAngle (angleAbout (p (L .origin e) .x) (p (L .origin e) .y) cx cy)

@@ -1,6 +1,8 @@
--- Which boundary edges a step covers (the chain), and whether the boundary that it would leave has a sound ring, from the boundary as it stands.
+-- Which boundary edges a step covers (the chain), and whether the boundary that it would leave has a sound ring, from
+-- the boundary as it stands.
 -- 01: "The two walks look at boundary edges only, and flips never move those, so 4 can be decided beforehand."
--- Throughout, p gives each vertex its position and α its angle, v is the point to be added and q its angle. Definitions only, and each computes; `ChainLaws` has their laws.
+-- Throughout, p gives each vertex its position and α its angle, v is the point to be added and q its angle. Definitions
+-- only, and each computes; `ChainLaws` has their laws.
 use Prim.Native.Nat.{ℕ, suc, _+_, _-_}
 use mathlib.Core.Bool.{Bool, not, _&&_, _||_}
 use mathlib.Core.List.{List, _∷_, map}
@@ -24,12 +26,14 @@ abbrev pub seesEdge : Links → (ℕ → Point) → Point → ℕ → Bool
 seesEdge L p v d = ltZ (pos 0) (orient2d (p (L .origin d)) (p (to L d)) v)
 
 -- `single_bulk_insertion_step`, the first loop, against next: `prev` is covered if
--- (!is_behind_edge(next_position, prev_to, prev_from) || current_angle == pseudo_angle(prev_to)) && prev.side_query(next_position).is_on_left_side()
+-- (!is_behind_edge(next_position, prev_to, prev_from) || current_angle == pseudo_angle(prev_to)) &&
+-- prev.side_query(next_position).is_on_left_side()
 unfoldable pub coversLeft : Links → (ℕ → Point) → (ℕ → ℕ) → Point → ℕ → ℕ → Bool
 coversLeft L p α v q d = (not (isBehindEdge v (p (to L d)) (p (L .origin d))) || eqb q (α (to L d))) && seesEdge L p v d
 
 -- the second loop, along next: `next` is covered if
--- (!is_behind_edge(middle_position, next_position, next_to) || current_angle == pseudo_angle(middle_position)) && next.side_query(next_position).is_on_left_side(), where the middle is next's origin
+-- (!is_behind_edge(middle_position, next_position, next_to) || current_angle == pseudo_angle(middle_position)) &&
+-- next.side_query(next_position).is_on_left_side(), where the middle is next's origin
 unfoldable pub coversRight : Links → (ℕ → Point) → (ℕ → ℕ) → Point → ℕ → ℕ → Bool
 coversRight L p α v q d = (not (isBehindEdge (p (L .origin d)) v (p (to L d))) || eqb q (α (L .origin d))) && seesEdge L p v d
 
@@ -55,6 +59,8 @@ anglesAfter C L α q s m = edgeAngle L α s ∷ q ∷ map (edgeAngle L α) (walk
 unfoldable pub soundAfter : Counts → Links → (ℕ → Point) → (ℕ → ℕ) → Point → ℕ → ℕ → Bool
 soundAfter C L p α v q e = isSound fullTurn (anglesAfter C L α q (chainStart C L p α v q e) (chainLength C L p α v q e))
 
--- The same decided from the chain alone (`sound-after`): from the angles at its two ends, the nodes among its edges and those of the whole ring
+-- The same decided from the chain alone (`sound-after`): from the angles at its two ends, the nodes among its edges and
+-- those of the whole ring
 unfoldable pub isFit : ℕ → ℕ → ℕ → ℕ → ℕ → ℕ → Bool
-isFit N left q right chain size = proper q right && not (wide N left q) && not (wide N q right) && leb (3 + chain) (size + bit (proper left q) + 1)
+isFit N left q right chain size =
+    proper q right && not (wide N left q) && not (wide N q right) && leb (3 + chain) (size + bit (proper left q) + 1)

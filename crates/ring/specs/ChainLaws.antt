@@ -1,4 +1,5 @@
--- The decision whether the boundary that a step would leave has a sound ring is local: `isFit` decides it from the chain alone. On links and angles, without a mesh. Assumes nothing.
+-- The decision whether the boundary that a step would leave has a sound ring is local: `isFit` decides it from the
+-- chain alone. On links and angles, without a mesh. Assumes nothing.
 use mathlib.Core.Path.{_≡_, sym, _∙_, ap, ap₂}
 use mathlib.Core.Bool.{not, _&&_}
 use mathlib.Core.List.{List, [], _∷_, map}
@@ -25,7 +26,8 @@ module _ (N : ℕ) (f α : ℕ → ℕ) (s m n q r : ℕ) where
   size : ℕ
   size = tally (atEnds proper f α) (walk (m + n) f s)
 
-  pub fit→ : T (isFit N (α s) q (α r) (tally (atEnds proper f α) (walk m f s)) (tally (atEnds proper f α) (walk (m + n) f s))) → Fit N f α s m n q r
+  pub fit→ : T (isFit N (α s) q (α r) (tally (atEnds proper f α) (walk m f s))
+      (tally (atEnds proper f α) (walk (m + n) f s))) → Fit N f α s m n q r
   unfolding isFit chain size
   fit→ t =
       let a = proper q (α r) in let b = not (wide N (α s) q) in let c = not (wide N q (α r)) in let d = leb (3 + chain) (size + bit (proper (α s) q) + 1) in
@@ -36,7 +38,9 @@ module _ (N : ℕ) (f α : ℕ → ℕ) (s m n q r : ℕ) where
         size = leb→le (3 + chain) (size + bit (proper (α s) q) + 1) (and-right (a && b && c) d t);
       }
 
-  pub fit← : Fit N f α s m n q r → T (isFit N (α s) q (α r) (tally (atEnds proper f α) (walk m f s)) (tally (atEnds proper f α) (walk (m + n) f s)))
+  pub fit← : Fit N f α s m n q r
+      → T (isFit N (α s) q (α r) (tally (atEnds proper f α) (walk m f s))
+      (tally (atEnds proper f α) (walk (m + n) f s)))
   unfolding isFit chain size
   fit← F =
       let a = proper q (α r) in let b = not (wide N (α s) q) in let c = not (wide N q (α r)) in let d = leb (3 + chain) (size + bit (proper (α s) q) + 1) in
@@ -64,7 +68,9 @@ module _ (f α : ℕ → ℕ) (s m n q r : ℕ) (right : iter m f s ≡ r) (roun
 
   -- the decision is local
   pub sound-after : {N : ℕ} → Sound N f α s (m + n) → (k : ℕ) → k < m → T (atEnds (holds q) f α (iter k f s))
-      → isSound N (α s ∷ q ∷ map α (walk n f r)) ≡ isFit N (α s) q (α r) (tally (atEnds proper f α) (walk m f s)) (tally (atEnds proper f α) (walk (m + n) f s))
+      → isSound N (α s ∷ q ∷ map α (walk n f r))
+      ≡ isFit N (α s) q (α r) (tally (atEnds proper f α) (walk m f s))
+      (tally (atEnds proper f α) (walk (m + n) f s))
   sound-after {N} S k l t =
       let after = α s ∷ q ∷ map α (walk n f r) in
       test-ext (isSound N after) (isFit N (α s) q (α r) (tally (atEnds proper f α) (walk m f s)) (tally (atEnds proper f α) (walk (m + n) f s)))
@@ -72,7 +78,8 @@ module _ (f α : ℕ → ℕ) (s m n q r : ℕ) (right : iter m f s ≡ r) (roun
       (λ u. sound← N after (fit-counts S after-counts k l t (fit→ N f α s m n q r u)))
 
 -- the angles of the links after
-pub spliced-angles : {f α f' α' : ℕ → ℕ} {s m n l p q r : ℕ} → Spliced f α f' α' s m n l p q r → map α' (walk (suc (suc n)) f' l) ≡ α s ∷ q ∷ map α (walk n f r)
+pub spliced-angles : {f α f' α' : ℕ → ℕ} {s m n l p q r : ℕ} → Spliced f α f' α' s m n l p q r
+    → map α' (walk (suc (suc n)) f' l) ≡ α s ∷ q ∷ map α (walk n f r)
 unfolding walk
 spliced-angles {f} {α} {f'} {α'} {s} {m} {n} {l} {p} {q} {r} P =
     ap₂ (λ (x : ℕ) (k : List ℕ). x ∷ k) (P .at-l)

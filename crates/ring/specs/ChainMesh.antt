@@ -1,5 +1,6 @@
--- The chain that a step covers of a mesh's boundary. A new point never sees the whole boundary, so that an edge is left over; the located edge is on the chain; and whether the boundary that
--- the step would leave has a sound ring is decided by the local test, and is so of the boundary that it does leave. Assumes nothing.
+-- The chain that a step covers of a mesh's boundary. A new point never sees the whole boundary, so that an edge is left
+-- over; the located edge is on the chain; and whether the boundary that the step would leave has a sound ring is
+-- decided by the local test, and is so of the boundary that it does leave. Assumes nothing.
 use mathlib.Core.Path.{_≡_, refl, sym, _∙_, ap, ap₂, subst}
 use mathlib.Core.Logic.{_⊎_, inl, inr}
 use mathlib.Core.Bool.{Bool, not, _||_}
@@ -93,7 +94,9 @@ module _ {C : Counts} {L : Links} (W : Wf C L) {p : ℕ → Point} (F : LeftTurn
       stay k = iter-keeps (λ x. In C x × (L .face x ≡ 0))
           (λ x m. (W .ranges .prev< (m .0), sym (W .links .face-next (W .ranges .prev< (m .0))) ∙ ap (L .face) (W .links .next-prev (m .0)) ∙ m .1)) k (first< W, first-outer W)
 
-      go : T (any-below (boundaryLength C L) (λ k. not (sees k))) ⊎ T (not (any-below (boundaryLength C L) (λ k. not (sees k)))) → (d : ℕ) × In C d × (L .face d ≡ 0) × T (not (seesEdge L p v d))
+      go : T (any-below (boundaryLength C L) (λ k. not (sees k))) ⊎ T
+          (not (any-below (boundaryLength C L) (λ k. not (sees k))))
+          → (d : ℕ) × In C d × (L .face d ≡ 0) × T (not (seesEdge L p v d))
       go (inl t) = let r = any-below→ (boundaryLength C L) (λ k. not (sees k)) t in (back (suc (r .0)), stay (suc (r .0)) .0, stay (suc (r .0)) .1, r .2)
       go (inr t) =
           let n = none-below→ (boundaryLength C L) (λ k. not (sees k)) t in
@@ -102,7 +105,8 @@ module _ {C : Counts} {L : Links} (W : Wf C L) {p : ℕ → Point} (F : LeftTurn
           absurd (refute (pos-in ρ (⊝ v0) (subst (λ (z : ℤ). pos 0 <ℤ z) sees-total all) +⁺ weak (pos-in ρ v0 (boundary-positive W F))) tt)
 
 -- ---- the chain of a boundary edge e
-module _ {C : Counts} {L : Links} (W : Wf C L) (p : ℕ → Point) (α : ℕ → ℕ) (v : Point) (q : ℕ) {e : ℕ} (l : In C e) (o : L .face e ≡ 0) where
+module _ {C : Counts} {L : Links} (W : Wf C L) (p : ℕ → Point) (α : ℕ → ℕ) (v : Point) (q : ℕ) {e : ℕ} (l : In C e)
+    (o : L .face e ≡ 0) where
   -- the edges of either walk are covered, and the one after them is not
   pub left-covered : (k : ℕ) → k < leftChain C L p α v q e → T (coversLeft L p α v q (iter (suc k) (L .prev) e))
   unfolding leftChain
@@ -112,11 +116,13 @@ module _ {C : Counts} {L : Links} (W : Wf C L) (p : ℕ → Point) (α : ℕ →
   unfolding rightChain
   right-covered k u = sure (coversRight L p α v q (iter (suc k) (L .next) e)) (first-below-before (boundaryLength C L) (λ k. not (coversRight L p α v q (iter (suc k) (L .next) e))) k u)
 
-  pub left-stops : leftChain C L p α v q e < boundaryLength C L → T (not (coversLeft L p α v q (iter (suc (leftChain C L p α v q e)) (L .prev) e)))
+  pub left-stops : leftChain C L p α v q e < boundaryLength C L
+      → T (not (coversLeft L p α v q (iter (suc (leftChain C L p α v q e)) (L .prev) e)))
   unfolding leftChain
   left-stops u = first-below-passes (boundaryLength C L) (λ k. not (coversLeft L p α v q (iter (suc k) (L .prev) e))) u
 
-  pub right-stops : rightChain C L p α v q e < boundaryLength C L → T (not (coversRight L p α v q (iter (suc (rightChain C L p α v q e)) (L .next) e)))
+  pub right-stops : rightChain C L p α v q e < boundaryLength C L
+      → T (not (coversRight L p α v q (iter (suc (rightChain C L p α v q e)) (L .next) e)))
   unfolding rightChain
   right-stops u = first-below-passes (boundaryLength C L) (λ k. not (coversRight L p α v q (iter (suc k) (L .next) e))) u
 
@@ -144,7 +150,8 @@ module _ {C : Counts} {L : Links} (W : Wf C L) (p : ℕ → Point) (α : ℕ →
     unfolding leftChain rightChain
     chain-short = let r = some-unseen W F v in go (r .0) (r .3) (outer-on W l o (r .1) (r .2))
       where
-        go : (d : ℕ) → T (not (seesEdge L p v d)) → (k : ℕ) × (k < boundaryLength C L) × (iter k (L .next) e ≡ d) → chainLength C L p α v q e < boundaryLength C L
+        go : (d : ℕ) → T (not (seesEdge L p v d)) → (k : ℕ) × (k < boundaryLength C L) × (iter k (L .next) e ≡ d)
+            → chainLength C L p α v q e < boundaryLength C L
         go d t (zero, u, z) = absurd (T-not (seesEdge L p v e) (subst (λ (x : ℕ). T (not (seesEdge L p v x))) (sym z) t) seen)
         go d t (suc j, u, z) =
             let n = boundaryLength C L in
@@ -160,7 +167,8 @@ module _ {C : Counts} {L : Links} (W : Wf C L) (p : ℕ → Point) (α : ℕ →
             omega arith
 
     -- the rest of the boundary leads from the chain's end back to its start
-    pub chain-round : iter (boundaryLength C L - chainLength C L p α v q e) (L .next) (iter (chainLength C L p α v q e) (L .next) (chainStart C L p α v q e)) ≡ chainStart C L p α v q e
+    pub chain-round : iter (boundaryLength C L - chainLength C L p α v q e) (L .next)
+        (iter (chainLength C L p α v q e) (L .next) (chainStart C L p α v q e)) ≡ chainStart C L p α v q e
     chain-round =
         let m = chainLength C L p α v q e in let n = boundaryLength C L in let s = chainStart C L p α v q e in
         let b = before-walk (leftChain C L p α v q e) in
@@ -188,7 +196,8 @@ module _ {C : Counts} {L : Links} (W : Wf C L) (p : ℕ → Point) (α : ℕ →
 
 -- ---- the boundary that the step leaves is the one that was decided about
 pub covered-sound : (C : Counts) (L : Links) (α : ℕ → ℕ) {C′ : Counts} {L′ : Links} {α′ : ℕ → ℕ} {s m l p q : ℕ} → Wf C′ L′
-    → Covered (L .next) (edgeAngle L α) C′ L′ α′ s m (boundaryLength C L - m) l p q (iter m (L .next) s) → isSoundRing C′ L′ α′ ≡ isSound fullTurn (anglesAfter C L α q s m)
+    → Covered (L .next) (edgeAngle L α) C′ L′ α′ s m (boundaryLength C L - m) l p q (iter m (L .next) s)
+    → isSoundRing C′ L′ α′ ≡ isSound fullTurn (anglesAfter C L α q s m)
 unfolding anglesAfter
 covered-sound C L α {C′} {L′} {α′} {s} {m} {l} {p} {q} W K =
     let n = suc (suc (boundaryLength C L - m)) in

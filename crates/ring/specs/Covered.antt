@@ -1,4 +1,5 @@
--- The boundary while a step goes on: of the boundary before, m edges from s on (the chain) are covered by the new vertex, and the edges l to it and p from it stand for them.
+-- The boundary while a step goes on: of the boundary before, m edges from s on (the chain) are covered by the new
+-- vertex, and the edges l to it and p from it stand for them.
 -- The first face, each further one to the left or the right, and flips keep this relation to the boundary before. Assumes nothing.
 use mathlib.Core.Path.{_≡_, refl, sym, _∙_, ap, subst}
 use mathlib.Core.Logic.{_≢_}
@@ -21,7 +22,8 @@ use Rattle.ring.specs.Splice.{Spliced}
 use Rattle.ring.specs.Grow.{grow-right, grow-left}
 use Rattle.ring.specs.Boundary.{outer-round, outer-walk, outer-once, outer-last, length-same}
 
--- f and α are next and the angle of the boundary's edges before; C, L and α′ are the mesh after and its vertices' angles; r is the first edge after the chain, q the new vertex's angle
+-- f and α are next and the angle of the boundary's edges before; C, L and α′ are the mesh after and its vertices'
+-- angles; r is the first edge after the chain, q the new vertex's angle
 pub record Covered (f α : ℕ → ℕ) (C : Counts) (L : Links) (α′ : ℕ → ℕ) (s m n l p q r : ℕ) : Type 0 where
   pub spliced : Spliced f α (L .next) (edgeAngle L α′) s m n l p q r
   pub in-use : In C l
@@ -61,8 +63,10 @@ module _ {f α : ℕ → ℕ} {C : Counts} {L : Links} {α′ : ℕ → ℕ} {s 
   p-l z = apart 1 0 (omega arith) (omega arith) (omega arith) (K .spliced .l-p ∙ z)
 
 -- ---- the first face: the chain is the edge e alone
-module _ {C : Counts} {L : Links} (W : Wf C L) {e : ℕ} (l : In C e) (o : L .face e ≡ 0) {α α′ : ℕ → ℕ} (same : (u : ℕ) → u < C .vertices → α′ u ≡ α u) where
-  pub cover-edge : Covered (L .next) (edgeAngle L α) (withVertex C) (createNewFaceAdjacentToEdge L C e) α′ e 1 (boundaryLength C L - 1) (2 * C .edges + 2 + 1) (2 * C .edges + 1) (α′ (C .vertices)) (L .next e)
+module _ {C : Counts} {L : Links} (W : Wf C L) {e : ℕ} (l : In C e) (o : L .face e ≡ 0) {α α′ : ℕ → ℕ}
+    (same : (u : ℕ) → u < C .vertices → α′ u ≡ α u) where
+  pub cover-edge : Covered (L .next) (edgeAngle L α) (withVertex C) (createNewFaceAdjacentToEdge L C e) α′ e 1
+      (boundaryLength C L - 1) (2 * C .edges + 2 + 1) (2 * C .edges + 1) (α′ (C .vertices)) (L .next e)
   cover-edge =
       let F = new-face-frame W l o in
       record {
@@ -93,11 +97,13 @@ module _ {C : Counts} {L : Links} (W : Wf C L) {e : ℕ} (l : In C e) (o : L .fa
       differ j k u v d z = d (outer-once W l o j k u v z)
 
 -- the edge before l is the last that is not covered
-pub last-l : {f α : ℕ → ℕ} {C : Counts} {L : Links} {α′ : ℕ → ℕ} {s m n l p q r : ℕ} (W : Wf C L) → Covered f α C L α′ s m (suc n) l p q r → L .prev l ≡ iter n f r
+pub last-l : {f α : ℕ → ℕ} {C : Counts} {L : Links} {α′ : ℕ → ℕ} {s m n l p q r : ℕ} (W : Wf C L)
+    → Covered f α C L α′ s m (suc n) l p q r → L .prev l ≡ iter n f r
 last-l {L = L} {n = n} W K = ap (L .prev) (sym (K .spliced .last n refl)) ∙ W .links .prev-next (covered-in W K n (omega arith))
 
 -- ---- a further face, to the right: between p and the edge after it
-module _ {f α : ℕ → ℕ} {C : Counts} {L : Links} {α′ : ℕ → ℕ} {s m n l p q r : ℕ} (W : Wf C L) (K : Covered f α C L α′ s m (suc n) l p q r) (more : 0 < n) where
+module _ {f α : ℕ → ℕ} {C : Counts} {L : Links} {α′ : ℕ → ℕ} {s m n l p q r : ℕ} (W : Wf C L)
+    (K : Covered f α C L α′ s m (suc n) l p q r) (more : 0 < n) where
   P : Spliced f α (L .next) (edgeAngle L α′) s m (suc n) l p q r
   P = K .spliced
 
@@ -156,7 +162,8 @@ module _ {f α : ℕ → ℕ} {C : Counts} {L : Links} {α′ : ℕ → ℕ} {s 
   pub left-four : L .prev (L .prev l) ≢ L .next (L .next (L .prev l))
   left-four z = rest-p W K (n - 1) (omega arith) (sym prev-prev-l ∙ z ∙ next-next-prev)
 
-  pub cover-left : Covered f α (withFace C) (createSingleFaceBetweenEdgeAndNext L C (L .prev l)) α′ (iter n f r) (suc m) n (2 * C .edges + 1) p q r
+  pub cover-left : Covered f α (withFace C) (createSingleFaceBetweenEdgeAndNext L C (L .prev l)) α′ (iter n f r)
+      (suc m) n (2 * C .edges + 1) p q r
   cover-left =
       let F = single-face-frame W prev-in prev-outer left-four in
       record {
@@ -178,7 +185,8 @@ module _ {f α : ℕ → ℕ} {C : Counts} {L : Links} {α′ : ℕ → ℕ} {s 
       pred k n u = omega arith
 
 -- ---- what leaves the boundary, as flips do
-pub cover-same : {f α : ℕ → ℕ} {C : Counts} {L L′ : Links} {α′ : ℕ → ℕ} {s m n l p q r : ℕ} → Wf C L → Wf C L′ → SameBoundary C L L′ → Covered f α C L α′ s m n l p q r → Covered f α C L′ α′ s m n l p q r
+pub cover-same : {f α : ℕ → ℕ} {C : Counts} {L L′ : Links} {α′ : ℕ → ℕ} {s m n l p q r : ℕ} → Wf C L → Wf C L′
+    → SameBoundary C L L′ → Covered f α C L α′ s m n l p q r → Covered f α C L′ α′ s m n l p q r
 cover-same {f} {α} {C} {L} {L′} {α′} {s} {m} {n} {l} {p} {q} {r} W W′ S K =
     let P = K .spliced in
     let keep-p = S .keeps (p-in W K) (p-outer W K) in

@@ -1,5 +1,6 @@
--- While a step goes on, the boundary edges that are not covered yet keep their two ends, so that the tests of the step's loops, made on the mesh as it stands, are those of the chain's
--- definition, made on the mesh before. Assumes nothing.
+-- While a step goes on, the boundary edges that are not covered yet keep their two ends, so that the tests of the
+-- step's loops, made on the mesh as it stands, are those of the chain's definition, made on the mesh before. Assumes
+-- nothing.
 use mathlib.Core.Path.{_≡_, sym, _∙_, ap, ap₂}
 use mathlib.Core.Bool.{Bool, not, _&&_, _||_}
 use Prim.Native.Nat.{ℕ, suc, _-_, _<_}
@@ -33,10 +34,12 @@ pub record RestEnds (L₀ L : Links) (n r : ℕ) : Type 0 where
   pub at : (k : ℕ) → k < n → SameEnds L₀ L (iter k (L₀ .next) r)
 
 -- ---- kept by each face and by flips
-pub ends-edge : {C : Counts} {L : Links} (W : Wf C L) {e : ℕ} (l : In C e) (o : L .face e ≡ 0) → RestEnds L (createNewFaceAdjacentToEdge L C e) (boundaryLength C L - 1) (L .next e)
+pub ends-edge : {C : Counts} {L : Links} (W : Wf C L) {e : ℕ} (l : In C e) (o : L .face e ≡ 0)
+    → RestEnds L (createNewFaceAdjacentToEdge L C e) (boundaryLength C L - 1) (L .next e)
 ends-edge W l o = record { at = λ k u. (let a = new-face-frame W l o .ends (outer-walk W l o (suc k) .0) in record { origin = a .0; end = a .1 }) }
 
-module _ {L₀ : Links} {α : ℕ → ℕ} {C : Counts} {L : Links} {α′ : ℕ → ℕ} {s m n l p q r : ℕ} (W : Wf C L) (K : Covered (L₀ .next) α C L α′ s m (suc n) l p q r) (E : RestEnds L₀ L (suc n) r) where
+module _ {L₀ : Links} {α : ℕ → ℕ} {C : Counts} {L : Links} {α′ : ℕ → ℕ} {s m n l p q r : ℕ} (W : Wf C L)
+    (K : Covered (L₀ .next) α C L α′ s m (suc n) l p q r) (E : RestEnds L₀ L (suc n) r) where
   pub ends-right : (more : 0 < n) → RestEnds L₀ (createSingleFaceBetweenEdgeAndNext L C p) n (L₀ .next r)
   ends-right more = record {
     at = λ k u.
@@ -53,7 +56,8 @@ module _ {L₀ : Links} {α : ℕ → ℕ} {C : Counts} {L : Links} {α′ : ℕ
         record { origin = a .0 ∙ b .origin; end = a .1 ∙ b .end };
   }
 
-pub ends-same : {L₀ : Links} {α : ℕ → ℕ} {C : Counts} {L L′ : Links} {α′ : ℕ → ℕ} {s m n l p q r : ℕ} (W : Wf C L) → SameBoundary C L L′ → Covered (L₀ .next) α C L α′ s m n l p q r
+pub ends-same : {L₀ : Links} {α : ℕ → ℕ} {C : Counts} {L L′ : Links} {α′ : ℕ → ℕ} {s m n l p q r : ℕ} (W : Wf C L)
+    → SameBoundary C L L′ → Covered (L₀ .next) α C L α′ s m n l p q r
     → RestEnds L₀ L n r → RestEnds L₀ L′ n r
 ends-same W S K E = record {
   at = λ k u.
@@ -63,7 +67,8 @@ ends-same W S K E = record {
 }
 
 -- ---- the tests of the loops
-module _ {C₀ : Counts} {L₀ : Links} (W₀ : Wf C₀ L₀) {L : Links} {p p′ : ℕ → Point} {α α′ : ℕ → ℕ} (places : (v : ℕ) → v < C₀ .vertices → p′ v ≡ p v) (angles : (v : ℕ) → v < C₀ .vertices → α′ v ≡ α v)
+module _ {C₀ : Counts} {L₀ : Links} (W₀ : Wf C₀ L₀) {L : Links} {p p′ : ℕ → Point} {α α′ : ℕ → ℕ}
+    (places : (v : ℕ) → v < C₀ .vertices → p′ v ≡ p v) (angles : (v : ℕ) → v < C₀ .vertices → α′ v ≡ α v)
     {d : ℕ} (i : In C₀ d) (E : SameEnds L₀ L d) where
   from< : L₀ .origin d < C₀ .vertices
   from< = W₀ .ranges .origin< i
@@ -92,7 +97,8 @@ module _ {C₀ : Counts} {L₀ : Links} (W₀ : Wf C₀ L₀) {L : Links} {p p�
       (ap₂ (λ (x y : Point). ltZ (pos 0) (orient2d x y v)) p-from p-to)
 
 -- the edge that the loop to the left looks at, before l, is the one before the chain; that to the right looks at r
-pub left-next : {C₀ : Counts} {L₀ : Links} (W₀ : Wf C₀ L₀) {α : ℕ → ℕ} {C : Counts} {L : Links} {α′ : ℕ → ℕ} {s m n l p q r : ℕ} (W : Wf C L) → In C₀ r → Covered (L₀ .next) α C L α′ s m (suc n) l p q r
+pub left-next : {C₀ : Counts} {L₀ : Links} (W₀ : Wf C₀ L₀) {α : ℕ → ℕ} {C : Counts} {L : Links} {α′ : ℕ → ℕ}
+    {s m n l p q r : ℕ} (W : Wf C L) → In C₀ r → Covered (L₀ .next) α C L α′ s m (suc n) l p q r
     → (L .prev l ≡ L₀ .prev s) × (iter n (L₀ .next) r ≡ L₀ .prev s)
 left-next {C₀} {L₀} W₀ {α} {C} {L} {α′} {s} {m} {n} {l} {p} {q} {r} W i K =
     let x = iter n (L₀ .next) r in

@@ -1,4 +1,5 @@
--- The definitions by computation: lists of angles on a circle of 16 places, the triangle of 01's listing (M3, M9), a mesh whose ring has a run, and chains of points seen from outside.
+-- The definitions by computation: lists of angles on a circle of 16 places, the triangle of 01's listing (M3, M9), a
+-- mesh whose ring has a run, and chains of points seen from outside.
 -- Assumes nothing.
 use mathlib.Core.Path.{_≡_, refl}
 use mathlib.Core.Bool.{true, false}
@@ -26,7 +27,8 @@ use Rattle.ring.specs.Chain.{coversLeft, coversRight, leftChain, rightCh
 
 -- ---- angles on a circle of 16 places
 -- a run counts as one, also where the list begins within it; where all are equal one remains
-pub runs : (merged (3 ∷ 9 ∷ 9 ∷ 14 ∷ []) ≡ 3 ∷ 9 ∷ 14 ∷ []) × (merged (9 ∷ 14 ∷ 3 ∷ 9 ∷ []) ≡ 9 ∷ 14 ∷ 3 ∷ []) × (merged (5 ∷ 5 ∷ 5 ∷ []) ≡ 5 ∷ [])
+pub runs : (merged (3 ∷ 9 ∷ 9 ∷ 14 ∷ []) ≡ 3 ∷ 9 ∷ 14 ∷ []) × (merged (9 ∷ 14 ∷ 3 ∷ 9 ∷ []) ≡ 9 ∷ 14 ∷ 3 ∷ [])
+    × (merged (5 ∷ 5 ∷ 5 ∷ []) ≡ 5 ∷ [])
 unfolding merged mergedBefore
 runs = (refl, refl, refl)
 
@@ -51,7 +53,8 @@ unfolding isSound isStrict merged mergedBefore allDiffer member countAround coun
 top-to-zero = (refl, refl, refl, refl)
 
 -- the count at 1.0: ring size minus 1 where some angle is 0.0, and otherwise 0; below it, the angles above i/8 and up to a
-pub counts : (passedCount 16 16 (0 ∷ 6 ∷ 11 ∷ 16 ∷ []) ≡ 3) × (passedCount 16 16 (1 ∷ 6 ∷ 11 ∷ []) ≡ 0) × (passedCount 16 7 (0 ∷ 6 ∷ 7 ∷ 11 ∷ []) ≡ 1) × (passedCount 16 6 (0 ∷ 6 ∷ 7 ∷ 11 ∷ []) ≡ 0)
+pub counts : (passedCount 16 16 (0 ∷ 6 ∷ 11 ∷ 16 ∷ []) ≡ 3) × (passedCount 16 16 (1 ∷ 6 ∷ 11 ∷ []) ≡ 0)
+    × (passedCount 16 7 (0 ∷ 6 ∷ 7 ∷ 11 ∷ []) ≡ 1) × (passedCount 16 6 (0 ∷ 6 ∷ 7 ∷ 11 ∷ []) ≡ 0)
 unfolding passedCount member merged mergedBefore tally between
 counts = (refl, refl, refl, refl)
 
@@ -73,12 +76,16 @@ abbrev corners : ℕ → Point
 corners = points (at (pos 0) (pos 0) ∷ at (pos 4) (pos 0) ∷ at (pos 0) (pos 4) ∷ [])
 
 -- M3: "the seed above has boundary angles 0.5625, 0.875, 0.1875." The ring is strict
-pub M3-boundary : (boundaryAngles seedCounts seed (turnsAbout one64 one64 corners) ≡ 9 * 2 ^ 49 ∷ 7 * 2 ^ 50 ∷ 3 * 2 ^ 49 ∷ []) × (refusesCenter seedCounts seed corners one64 one64 ≡ false) × (refusesRing seedCounts seed corners one64 one64 ≡ false)
+pub M3-boundary : (boundaryAngles seedCounts seed (turnsAbout one64 one64 corners)
+    ≡ 9 * 2 ^ 49 ∷ 7 * 2 ^ 50 ∷ 3 * 2 ^ 49 ∷ [])
+    × (refusesCenter seedCounts seed corners one64 one64 ≡ false)
+    × (refusesRing seedCounts seed corners one64 one64 ≡ false)
 unfolding seed boundaryAngles boundaryEdges boundaryLength period-below first-below walk refusesCenter refusesRing isStrictRing isSound isStrict merged mergedBefore allDiffer member countAround countBefore wraps wide gap turnsAbout turns angleAbout pseudoAngle ofDiff slope absoluteOf validCenter bounded atCenter isNumber any-below ofInt neg add sub mul div sum round units odd size span climb lt
 M3-boundary = (refl, refl, refl)
 
 -- 0.6 is held by the half-edge 1, and 0.1, 1.0 and 0.0 by the half-edge 5, which wraps; on the way to 0.6 from 0.5 one angle is passed
-pub seed-located : (located seedCounts seed about-1-1 5404319552844595 ≡ 1) × (located seedCounts seed about-1-1 900719925474099 ≡ 5) × (located seedCounts seed about-1-1 (2 ^ 53) ≡ 5)
+pub seed-located : (located seedCounts seed about-1-1 5404319552844595 ≡ 1)
+    × (located seedCounts seed about-1-1 900719925474099 ≡ 5) × (located seedCounts seed about-1-1 (2 ^ 53) ≡ 5)
     × (located seedCounts seed about-1-1 0 ≡ 5) × (passedCount (2 ^ 53) 5404319552844595 (boundaryAngles seedCounts seed about-1-1) ≡ 1)
 unfolding seed located holds boundaryAngles boundaryEdges boundaryLength period-below first-below walk passedCount merged mergedBefore member tally between
 seed-located = (refl, refl, refl, refl, refl)
@@ -96,32 +103,37 @@ pub center-on-vertex : refusesCenter seedCounts seed corners zero64 zero64 ≡ t
 unfolding seed boundaryLength period-below first-below refusesCenter validCenter bounded atCenter isNumber any-below
 center-on-vertex = refl
 
--- ---- a vertex 3 beside the half-edge 1, at the angle of vertex 1: the half-edge 9 between them has no node, and 7, the run's last, stands for their angle
+-- ---- a vertex 3 beside the half-edge 1, at the angle of vertex 1: the half-edge 9 between them has no node, and 7,
+-- the run's last, stands for their angle
 abbrev with-run : Links
 with-run = createNewFaceAdjacentToEdge seed seedCounts 1
 
 abbrev run-angles : ℕ → ℕ
 run-angles = row (7 * 2 ^ 50 ∷ 9 * 2 ^ 49 ∷ 3 * 2 ^ 49 ∷ 9 * 2 ^ 49 ∷ [])
 
-pub run-nodes : (boundaryEdges (withVertex seedCounts) with-run ≡ 9 ∷ 7 ∷ 5 ∷ 3 ∷ []) × (ringNodes (withVertex seedCounts) with-run run-angles ≡ 7 ∷ 5 ∷ 3 ∷ [])
+pub run-nodes : (boundaryEdges (withVertex seedCounts) with-run ≡ 9 ∷ 7 ∷ 5 ∷ 3 ∷ [])
+    × (ringNodes (withVertex seedCounts) with-run run-angles ≡ 7 ∷ 5 ∷ 3 ∷ [])
     × (isSoundRing (withVertex seedCounts) with-run run-angles ≡ true) × (isStrictRing (withVertex seedCounts) with-run run-angles ≡ false) × (located (withVertex seedCounts) with-run run-angles (9 * 2 ^ 49) ≡ 7)
 unfolding createNewFaceAdjacentToEdge faceAdjacent put rev seed ringNodes filter proper located holds boundaryAngles boundaryEdges boundaryLength period-below first-below walk isSoundRing isStrictRing isSound isStrict merged mergedBefore allDiffer member countAround countBefore wraps wide gap
 run-nodes = (refl, refl, refl, refl, refl)
 
 -- ---- chains
 -- 01's listing: (4,4), at the angle 0.375, covers the located half-edge 3 alone
-pub lone-edge : (located seedCounts seed about-1-1 (3 * 2 ^ 50) ≡ 3) × (leftChain seedCounts seed corners about-1-1 (at (pos 4) (pos 4)) (3 * 2 ^ 50) 3 ≡ 0)
+pub lone-edge : (located seedCounts seed about-1-1 (3 * 2 ^ 50) ≡ 3)
+    × (leftChain seedCounts seed corners about-1-1 (at (pos 4) (pos 4)) (3 * 2 ^ 50) 3 ≡ 0)
     × (rightChain seedCounts seed corners about-1-1 (at (pos 4) (pos 4)) (3 * 2 ^ 50) 3 ≡ 0) × (soundAfter seedCounts seed corners about-1-1 (at (pos 4) (pos 4)) (3 * 2 ^ 50) 3 ≡ true)
 unfolding seed located holds leftChain rightChain coversLeft coversRight soundAfter anglesAfter boundaryLength period-below first-below walk rev orient2d factor length2 isSound merged mergedBefore allDiffer member countAround countBefore wraps wide gap
 lone-edge = (refl, refl, refl, refl)
 
 -- (9,-1), at the angle 0.55, covers the half-edge 1 too, which comes after 3
-pub two-edges : (located seedCounts seed about-1-1 4953959590107546 ≡ 3) × (leftChain seedCounts seed corners about-1-1 (at (pos 9) (negsuc 0)) 4953959590107546 3 ≡ 0)
+pub two-edges : (located seedCounts seed about-1-1 4953959590107546 ≡ 3)
+    × (leftChain seedCounts seed corners about-1-1 (at (pos 9) (negsuc 0)) 4953959590107546 3 ≡ 0)
     × (rightChain seedCounts seed corners about-1-1 (at (pos 9) (negsuc 0)) 4953959590107546 3 ≡ 1) × (soundAfter seedCounts seed corners about-1-1 (at (pos 9) (negsuc 0)) 4953959590107546 3 ≡ true)
 unfolding seed located holds leftChain rightChain coversLeft coversRight soundAfter anglesAfter boundaryLength period-below first-below walk rev orient2d factor length2 isSound merged mergedBefore allDiffer member countAround countBefore wraps wide gap
 two-edges = (refl, refl, refl, refl)
 
--- Fate 4: seed (0,0) (0,-1) (1,1), centre (1,-1), point (-2,-1), at the angle 1.0 of vertex 1. The seed's ring is strict, with a gap of exactly 3/4; of the boundary after, two angles remain.
+-- Fate 4: seed (0,0) (0,-1) (1,1), centre (1,-1), point (-2,-1), at the angle 1.0 of vertex 1. The seed's ring is
+-- strict, with a gap of exactly 3/4; of the boundary after, two angles remain.
 abbrev far-corners : ℕ → Point
 far-corners = points (at (pos 0) (pos 0) ∷ at (pos 0) (negsuc 0) ∷ at (pos 1) (pos 1) ∷ [])
 

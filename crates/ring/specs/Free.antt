@@ -1,5 +1,7 @@
--- FREED NODES: a stack of node numbers that are not in use. An insert pushes the nodes strictly between the left and the right one, takes the top one, or the next number if there is none, for the new node,
--- and pushes the left node if its angle is the new one. So the new node is none of those that stay, and the stack is right for the new ring. Assumes nothing.
+-- FREED NODES: a stack of node numbers that are not in use. An insert pushes the nodes strictly between the left and
+-- the right one, takes the top one, or the next number if there is none, for the new node, and pushes the left node if
+-- its angle is the new one. So the new node is none of those that stay, and the stack is right for the new ring.
+-- Assumes nothing.
 use mathlib.Core.Path.{_≡_, refl, sym, _∙_, ap, subst}
 use mathlib.Core.Logic.{_≢_, _⊎_, inl, inr}
 use Prim.Native.Nat.{ℕ, zero, suc, _+_, _-_, _<_}
@@ -17,10 +19,12 @@ pub record Free (Live : ℕ → Type 0) (freed : ℕ → ℕ) (n len : ℕ) : Ty
   pub once : (i j : ℕ) → i < n → j < n → freed i ≡ freed j → i ≡ j
 
 -- fewer are in use; one more is freed; the top one is taken; none is left, and the next number is taken
-pub free-fewer : {Live Live' : ℕ → Type 0} {freed : ℕ → ℕ} {n len : ℕ} → ((x : ℕ) → Live' x → Live x) → Free Live freed n len → Free Live' freed n len
+pub free-fewer : {Live Live' : ℕ → Type 0} {freed : ℕ → ℕ} {n len : ℕ} → ((x : ℕ) → Live' x → Live x)
+    → Free Live freed n len → Free Live' freed n len
 free-fewer f A = record { live-below = λ x l. A .live-below x (f x l); below = A .below; dead = λ j l t. A .dead j l (f _ t); once = A .once }
 
-pub free-push : {Live : ℕ → Type 0} {freed freed' : ℕ → ℕ} {n len : ℕ} (x : ℕ) → x < len → (Live x → ⊥) → ((j : ℕ) → j < n → freed j ≢ x) → ((j : ℕ) → j < n → freed' j ≡ freed j) → freed' n ≡ x
+pub free-push : {Live : ℕ → Type 0} {freed freed' : ℕ → ℕ} {n len : ℕ} (x : ℕ) → x < len → (Live x → ⊥)
+    → ((j : ℕ) → j < n → freed j ≢ x) → ((j : ℕ) → j < n → freed' j ≡ freed j) → freed' n ≡ x
     → Free Live freed n len → Free Live freed' (suc n) len
 free-push {Live} {freed} {freed'} {n} {len} x xl off new same top A = record {
   live-below = A .live-below;
@@ -46,7 +50,8 @@ free-push {Live} {freed} {freed'} {n} {len} x xl off new same top A = record {
     only i j l m z (no a) (yes b) = absurd (new i (omega arith) (sym (same i (omega arith)) ∙ z ∙ at j b))
     only i j l m z (no a) (no b) = A .once i j (omega arith) (omega arith) (sym (same i (omega arith)) ∙ z ∙ same j (omega arith))
 
-pub free-pop : {Live : ℕ → Type 0} {freed : ℕ → ℕ} {n len : ℕ} → Free Live freed (suc n) len → Free (λ x. Live x ⊎ (x ≡ freed n)) freed n len
+pub free-pop : {Live : ℕ → Type 0} {freed : ℕ → ℕ} {n len : ℕ} → Free Live freed (suc n) len
+    → Free (λ x. Live x ⊎ (x ≡ freed n)) freed n len
 free-pop {Live} {freed} {n} {len} A = record {
   live-below = λ x l. low x l;
   below = λ j l. A .below j (omega arith);
@@ -69,7 +74,8 @@ free-fresh {Live} {freed} {len} A = record { live-below = λ x l. low x l; below
     low x (inl t) = let a = A .live-below x t in omega arith
     low x (inr z) = omega arith
 
-pub free-same : {Live : ℕ → Type 0} {freed freed' : ℕ → ℕ} {n len : ℕ} → ((j : ℕ) → j < n → freed' j ≡ freed j) → Free Live freed n len → Free Live freed' n len
+pub free-same : {Live : ℕ → Type 0} {freed freed' : ℕ → ℕ} {n len : ℕ} → ((j : ℕ) → j < n → freed' j ≡ freed j)
+    → Free Live freed n len → Free Live freed' n len
 free-same {Live} {freed} {freed'} {n} {len} same A = record {
   live-below = A .live-below;
   below = λ j l. subst (λ (x : ℕ). x < len) (sym (same j l)) (A .below j l);
@@ -86,7 +92,8 @@ pub record Pushed (right freed freed' : ℕ → ℕ) (s c n : ℕ) : Type 0 wher
   pub old : (j : ℕ) → j < n → freed' j ≡ freed j
   pub new : (i : ℕ) → suc i < c → freed' (n + i) ≡ iter (suc i) right s
 
-module _ {right freed freed' : ℕ → ℕ} {s c t n len : ℕ} (k : ℕ) (some : 0 < c) (t-is : iter c right s ≡ t) (apart : (i j : ℕ) → i < c + k → j < c + k → iter i right s ≡ iter j right s → i ≡ j)
+module _ {right freed freed' : ℕ → ℕ} {s c t n len : ℕ} (k : ℕ) (some : 0 < c) (t-is : iter c right s ≡ t)
+    (apart : (i j : ℕ) → i < c + k → j < c + k → iter i right s ≡ iter j right s → i ≡ j)
     (A : Free (On right (c + k) s) freed n len) (P : Pushed right freed freed' s c n) where
   at : (d : ℕ) → iter d right t ≡ iter (c + d) right s
   at d = ap (iter d right) (sym t-is) ∙ sym (iter-add c d right s)
@@ -129,20 +136,25 @@ pub data Taken (freed : ℕ → ℕ) (n len : ℕ) : ℕ → ℕ → ℕ → Typ
   top : {i : ℕ} → n ≡ suc i → Taken freed n len (freed i) i len
   next-one : n ≡ 0 → Taken freed n len len 0 (suc len)
 
-pub taken-sum : {freed : ℕ → ℕ} {n len v n' len' : ℕ} → Taken freed n len v n' len' → ((n ≡ suc n') × (len' ≡ len)) ⊎ ((n ≡ 0) × (n' ≡ 0) × (len' ≡ suc len))
+pub taken-sum : {freed : ℕ → ℕ} {n len v n' len' : ℕ} → Taken freed n len v n' len'
+    → ((n ≡ suc n') × (len' ≡ len)) ⊎ ((n ≡ 0) × (n' ≡ 0) × (len' ≡ suc len))
 taken-sum (top e) = inl (e, refl)
 taken-sum (next-one e) = inr (e, refl, refl)
 
-pub taken-fresh : {Live : ℕ → Type 0} {freed : ℕ → ℕ} {n len v n' len' : ℕ} → Free Live freed n len → Taken freed n len v n' len' → Live v → ⊥
+pub taken-fresh : {Live : ℕ → Type 0} {freed : ℕ → ℕ} {n len v n' len' : ℕ} → Free Live freed n len
+    → Taken freed n len v n' len' → Live v → ⊥
 taken-fresh A (top {i = i} e) t = A .dead i (omega arith) t
 taken-fresh {len = len} A (next-one e) t = let z = A .live-below len t in omega arith
 
-pub taken : {Live : ℕ → Type 0} {freed : ℕ → ℕ} {n len v n' len' : ℕ} → Free Live freed n len → Taken freed n len v n' len' → Free (λ x. Live x ⊎ (x ≡ v)) freed n' len'
+pub taken : {Live : ℕ → Type 0} {freed : ℕ → ℕ} {n len v n' len' : ℕ} → Free Live freed n len
+    → Taken freed n len v n' len' → Free (λ x. Live x ⊎ (x ≡ v)) freed n' len'
 taken {Live} {freed} {n} {len} A (top {i = i} e) = free-pop (subst (λ (m : ℕ). Free Live freed m len) e A)
 taken {Live} {freed} {n} {len} A (next-one e) = free-fresh (subst (λ (m : ℕ). Free Live freed m len) e A)
 
 -- ---- the nodes of the new ring are the new one, the left one if it stays, and the rest
-module _ {left right angle edge left' right' angle' edge' : ℕ → ℕ} {s c t k v u s' l p q al : ℕ} (B : Before left right s c t k v u s' al q) (S : Stores left right angle edge left' right' angle' edge' s t v u l p q al) (s-angle : angle s ≡ al) where
+module _ {left right angle edge left' right' angle' edge' : ℕ → ℕ} {s c t k v u s' l p q al : ℕ}
+    (B : Before left right s c t k v u s' al q)
+    (S : Stores left right angle edge left' right' angle' edge' s t v u l p q al) (s-angle : angle s ≡ al) where
   from-t : (x d : ℕ) → d < k → iter d right' t ≡ x → On right k t x
   from-t x d m z = (d, m, sym (rest-same B S s-angle d m) ∙ z)
 
@@ -157,10 +169,12 @@ module _ {left right angle edge left' right' angle' edge' : ℕ → ℕ} {s c t 
       inl (inr (from-t x d (omega arith) (ap (iter d right') (sym (S .right-v) ∙ ap right' (sym (ap right' (B .s-stays y ∙ sym (B .u-stays y)) ∙ S .right-u))) ∙ z)))
 
   -- the stack after the insert
-  pub free-stays : al ≢ q → {freed : ℕ → ℕ} {n len : ℕ} → Free (λ x. Stay right s t k x ⊎ (x ≡ v)) freed n len → Free (On right' (suc (suc k)) s') freed n len
+  pub free-stays : al ≢ q → {freed : ℕ → ℕ} {n len : ℕ} → Free (λ x. Stay right s t k x ⊎ (x ≡ v)) freed n len
+      → Free (On right' (suc (suc k)) s') freed n len
   free-stays y = free-fewer (live-stays y)
 
-  pub free-gone : al ≡ q → {freed freed' : ℕ → ℕ} {n len : ℕ} → s ≢ v → (On right k t s → ⊥) → ((j : ℕ) → j < n → freed' j ≡ freed j) → freed' n ≡ s
+  pub free-gone : al ≡ q → {freed freed' : ℕ → ℕ} {n len : ℕ} → s ≢ v → (On right k t s → ⊥)
+      → ((j : ℕ) → j < n → freed' j ≡ freed j) → freed' n ≡ s
       → Free (λ x. Stay right s t k x ⊎ (x ≡ v)) freed n len → Free (On right' (suc k) s') freed' (suc n) len
   free-gone y {freed} {freed'} {n} {len} sv off same up A =
       free-push s (A .live-below s (inl (inl refl))) (λ t. gone (live-gone y s t)) (λ j m z. A .dead j m (inl (inl z))) same up (free-fewer wide A)

@@ -1,5 +1,7 @@
--- The chain that a new vertex replaces grows by one edge at a time: a face between the new edge and its neighbour on the boundary takes the neighbour away, and puts a new half-edge in the place of the new edge.
--- `Spliced` always tells of the boundary before the first of these faces, so that one theorem on inserting serves for any number of them. Assumes nothing.
+-- The chain that a new vertex replaces grows by one edge at a time: a face between the new edge and its neighbour on
+-- the boundary takes the neighbour away, and puts a new half-edge in the place of the new edge.
+-- `Spliced` always tells of the boundary before the first of these faces, so that one theorem on inserting serves for
+-- any number of them. Assumes nothing.
 use mathlib.Core.Path.{_≡_, refl, sym, _∙_, ap}
 use Prim.Native.Nat.{ℕ, suc, _<_}
 use native.Mathlib.Omega.{arith}
@@ -15,7 +17,8 @@ pub record ToRight (f f' α' f'' α'' : ℕ → ℕ) (n l p p' q r : ℕ) : Type
   pub at-rest : (k : ℕ) → k < n → α'' (iter (suc k) f r) ≡ α' (iter (suc k) f r)
   pub rest : (k : ℕ) → k < n → f'' (iter (suc k) f r) ≡ f' (iter (suc k) f r)
 
-pub grow-right : {f α f' α' f'' α'' : ℕ → ℕ} {s m n l p p' q r : ℕ} → Spliced f α f' α' s m (suc n) l p q r → 0 < n → ToRight f f' α' f'' α'' n l p p' q r → Spliced f α f'' α'' s (suc m) n l p' q (f r)
+pub grow-right : {f α f' α' f'' α'' : ℕ → ℕ} {s m n l p p' q r : ℕ} → Spliced f α f' α' s m (suc n) l p q r → 0 < n
+    → ToRight f f' α' f'' α'' n l p p' q r → Spliced f α f'' α'' s (suc m) n l p' q (f r)
 grow-right {f} {α} {f'} {α'} {f''} {α''} {s} {m} {n} {l} {p} {p'} {q} {r} P h G = record {
   some = omega arith;
   more = h;
@@ -40,7 +43,8 @@ pub record ToLeft (f α f' α' f'' α'' : ℕ → ℕ) (n l' p q r : ℕ) : Type
   pub rest : (k : ℕ) → suc k < n → f'' (iter k f r) ≡ f' (iter k f r)
   pub last : (k : ℕ) → suc k ≡ n → f'' (iter k f r) ≡ l'
 
-pub grow-left : {f α f' α' f'' α'' : ℕ → ℕ} {s m n l l' p q r : ℕ} → Spliced f α f' α' s m (suc n) l p q r → 0 < n → ToLeft f α f' α' f'' α'' n l' p q r → Spliced f α f'' α'' (iter n f r) (suc m) n l' p q r
+pub grow-left : {f α f' α' f'' α'' : ℕ → ℕ} {s m n l l' p q r : ℕ} → Spliced f α f' α' s m (suc n) l p q r → 0 < n
+    → ToLeft f α f' α' f'' α'' n l' p q r → Spliced f α f'' α'' (iter n f r) (suc m) n l' p q r
 grow-left {f} {α} {f'} {α'} {f''} {α''} {s} {m} {n} {l} {l'} {p} {q} {r} P h G = record {
   some = omega arith;
   more = h;

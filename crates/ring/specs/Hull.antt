@@ -1,4 +1,5 @@
--- The whole of what a run carries: the nodes stand for the boundary, their links to the left, and the buckets. It does not depend on the node that one starts from, an insert keeps it.
+-- The whole of what a run carries: the nodes stand for the boundary, their links to the left, and the buckets. It does
+-- not depend on the node that one starts from, an insert keeps it.
 -- Assumes nothing.
 use mathlib.Core.Path.{_≡_, refl, sym, _∙_, ap, subst}
 use mathlib.Core.Logic.{_≢_}
@@ -23,26 +24,31 @@ use Rattle.sums.specs.Iterate.{iter, iter-add, iter-ext, iter-last}
 use Rattle.sums.specs.Tally.{First, tally, tally-at, tally-turn, walk}
 
 -- ---- from any edge, and from any node
-pub ring-turns : {N : ℕ} {next α right angle edge : ℕ → ℕ} {e h s : ℕ} → Ring N next α right angle edge e h s → (j : ℕ) → Ring N next α right angle edge (iter j next e) h (iter (nodes next α j e) right s)
+pub ring-turns : {N : ℕ} {next α right angle edge : ℕ → ℕ} {e h s : ℕ} → Ring N next α right angle edge e h s
+    → (j : ℕ) → Ring N next α right angle edge (iter j next e) h (iter (nodes next α j e) right s)
 unfolding walk tally
 ring-turns R zero = R
 ring-turns {N} {next} {α} {right} {angle} {edge} {e} {h} {s} R (suc j) =
     subst (λ (x : ℕ). Ring N next α right angle edge (iter (suc j) next e) h x) (sym (iter-add (bit (atEnds proper next α e)) (nodes next α j (next e)) right s)) (ring-turns (ring-turn R) j)
 
 -- where the k-th that passes stands
-pub kth : (b : ℕ → Bool) (f : ℕ → ℕ) (n s k : ℕ) → k < tally b (walk n f s) → (j : ℕ) × (j < n) × T (b (iter j f s)) × (tally b (walk j f s) ≡ k)
+pub kth : (b : ℕ → Bool) (f : ℕ → ℕ) (n s k : ℕ) → k < tally b (walk n f s)
+    → (j : ℕ) × (j < n) × T (b (iter j f s)) × (tally b (walk j f s) ≡ k)
 unfolding walk tally
 kth b f zero s k l = absurd (omega arith)
 kth b f (suc n) s k l = go (b s) refl k (kth b f n (f s)) l
   where
-    go : (t : Bool) → b s ≡ t → (k : ℕ) → ((i : ℕ) → i < tally b (walk n f (f s)) → (j : ℕ) × (j < n) × T (b (iter j f (f s))) × (tally b (walk j f (f s)) ≡ i)) → k < bit t + tally b (walk n f (f s))
+    go : (t : Bool) → b s ≡ t → (k : ℕ)
+        → ((i : ℕ) → i < tally b (walk n f (f s)) → (j : ℕ) × (j < n) × T (b (iter j f (f s))) ×
+        (tally b (walk j f (f s)) ≡ i)) → k < bit t + tally b (walk n f (f s))
         → (j : ℕ) × (j < suc n) × T (b (iter j f s)) × (tally b (walk j f s) ≡ k)
     go true e zero ih l = (0, omega arith, subst T (sym e) tt, refl)
     go true e (suc k) ih l = let r = ih k (omega arith) in let z = ap bit e in let w = r .3 in (suc (r .0), (let a = r .1 in omega arith), r .2, omega arith)
     go false e k ih l = let r = ih k (omega arith) in let z = ap bit e in let w = r .3 in (suc (r .0), (let a = r .1 in omega arith), r .2, omega arith)
 
 -- each node's edge is a boundary edge, and the ring can be taken from there
-pub ring-at : {N : ℕ} {next α right angle edge : ℕ → ℕ} {e h s : ℕ} (R : Ring N next α right angle edge e h s) (k : ℕ) → k < nodes next α h e → Ring N next α right angle edge (edge (iter k right s)) h (iter k right s)
+pub ring-at : {N : ℕ} {next α right angle edge : ℕ → ℕ} {e h s : ℕ} (R : Ring N next α right angle edge e h s)
+    (k : ℕ) → k < nodes next α h e → Ring N next α right angle edge (edge (iter k right s)) h (iter k right s)
 unfolding Stands
 ring-at {N} {next} {α} {right} {angle} {edge} {e} {h} {s} R k l =
     let r = kth (atEnds proper next α) next h e k l in
@@ -51,7 +57,8 @@ ring-at {N} {next} {α} {right} {angle} {edge} {e} {h} {s} R k l =
     subst (λ (x : ℕ). Ring N next α right angle edge x h (iter k right s)) (sym (ap edge (sym c) ∙ w .0)) (subst (λ (x : ℕ). Ring N next α right angle edge (iter (r .0) next e) h x) c (ring-turns R (r .0)))
 
 -- a node's edge has the node's two angles: the edge that locate answers holds the angle that was asked for
-pub node-edge : {N : ℕ} {next α right angle edge : ℕ → ℕ} {e h s : ℕ} (R : Ring N next α right angle edge e h s) (k : ℕ) → k < nodes next α h e
+pub node-edge : {N : ℕ} {next α right angle edge : ℕ → ℕ} {e h s : ℕ} (R : Ring N next α right angle edge e h s)
+    (k : ℕ) → k < nodes next α h e
     → (α (edge (iter k right s)) ≡ angle (iter k right s)) × (α (next (edge (iter k right s))) ≡ angle (right (iter k right s)))
 unfolding Stands
 node-edge {N} {next} {α} {right} {angle} {edge} {e} {h} {s} R k l =
@@ -97,7 +104,8 @@ linked-turn left right s m c K i l = go (decLt (suc i) m)
     go (yes u) = K (suc i) u
     go (no u) = let z : suc i ≡ m = omega arith in let y = ap (λ (j : ℕ). iter j right s) z ∙ c in ap (λ (x : ℕ). left (right x)) y ∙ K 0 (omega arith) ∙ sym y
 
-pub bucketed-turn : (right angle bucket : ℕ → ℕ) (B w s m : ℕ) → iter m right s ≡ s → Bucketed right angle bucket B w s m → Bucketed right angle bucket B w (right s) m
+pub bucketed-turn : (right angle bucket : ℕ → ℕ) (B w s m : ℕ) → iter m right s ≡ s
+    → Bucketed right angle bucket B w s m → Bucketed right angle bucket B w (right s) m
 bucketed-turn right angle bucket B w s m c O i l = let o = O i l in (on-turn (bucket i) c (o .0), o .1)
 
 -- ---- all together
@@ -133,15 +141,18 @@ hull-turn {N} {next} {α} {left} {right} {angle} {edge} {bucket} {e} {h} {s} {B}
     low' k l (yes u) = H .low (suc k) u
     low' k l (no u) = let y : suc k ≡ h = omega arith in subst (λ (x : ℕ). α x ≤ N) (sym (ap (λ (j : ℕ). iter j next e) y ∙ H .ring .sound .closed)) (H .low 0 (omega arith))
 
-pub hull-turns : {N : ℕ} {next α left right angle edge bucket : ℕ → ℕ} {e h s B w : ℕ} → Hull N next α left right angle edge bucket e h s B w → (j : ℕ)
+pub hull-turns : {N : ℕ} {next α left right angle edge bucket : ℕ → ℕ} {e h s B w : ℕ}
+    → Hull N next α left right angle edge bucket e h s B w → (j : ℕ)
     → Hull N next α left right angle edge bucket (iter j next e) h (iter (nodes next α j e) right s) B w
 unfolding walk tally
 hull-turns H zero = H
 hull-turns {N} {next} {α} {left} {right} {angle} {edge} {bucket} {e} {h} {s} {B} {w} H (suc j) =
     subst (λ (x : ℕ). Hull N next α left right angle edge bucket (iter (suc j) next e) h x B w) (sym (iter-add (bit (atEnds proper next α e)) (nodes next α j (next e)) right s)) (hull-turns (hull-turn H) j)
 
--- the hull from any of its nodes, and in particular from the node of bucket 0, so that an invariant need name neither an edge nor a node to start from
-pub hull-at : {N : ℕ} {next α left right angle edge bucket : ℕ → ℕ} {e h s B w : ℕ} → Hull N next α left right angle edge bucket e h s B w → (x : ℕ) → On right (nodes next α h e) s x
+-- the hull from any of its nodes, and in particular from the node of bucket 0, so that an invariant need name neither
+-- an edge nor a node to start from
+pub hull-at : {N : ℕ} {next α left right angle edge bucket : ℕ → ℕ} {e h s B w : ℕ}
+    → Hull N next α left right angle edge bucket e h s B w → (x : ℕ) → On right (nodes next α h e) s x
     → Hull N next α left right angle edge bucket (edge x) h x B w
 unfolding Stands
 hull-at {N} {next} {α} {left} {right} {angle} {edge} {bucket} {e} {h} {s} {B} {w} H x (k, l, z) =
@@ -150,15 +161,21 @@ hull-at {N} {next} {α} {left} {right} {angle} {edge} {bucket} {e} {h} {s} {B} {
     let y = match-at next α right angle edge h e s (H .ring .match) (r .0) (r .1) (r .2) .0 in
     subst (λ (i : ℕ). Hull N next α left right angle edge bucket i h x B w) (sym (ap edge (sym c) ∙ y)) (subst (λ (i : ℕ). Hull N next α left right angle edge bucket (iter (r .0) next e) h i B w) c (hull-turns H (r .0)))
 
-pub hull-home : {N : ℕ} {next α left right angle edge bucket : ℕ → ℕ} {e h s B w : ℕ} → Hull N next α left right angle edge bucket e h s B w → Hull N next α left right angle edge bucket (edge (bucket 0)) h (bucket 0) B w
+pub hull-home : {N : ℕ} {next α left right angle edge bucket : ℕ → ℕ} {e h s B w : ℕ}
+    → Hull N next α left right angle edge bucket e h s B w
+    → Hull N next α left right angle edge bucket (edge (bucket 0)) h (bucket 0) B w
 hull-home {bucket = bucket} H = hull-at H (bucket 0) (H .buckets 0 (let a = H .sized .eight in omega arith) .0)
 
--- ---- LOCATE from a bucket: the ring is sound from the bucket's node, and the nodes that the walk passes are counted by the boundary's angles
-module _ {N : ℕ} {next α left right angle edge bucket : ℕ → ℕ} {e h s B w : ℕ} (H : Hull N next α left right angle edge bucket e h s B w) where
+-- ---- LOCATE from a bucket: the ring is sound from the bucket's node, and the nodes that the walk passes are counted
+-- by the boundary's angles
+module _ {N : ℕ} {next α left right angle edge bucket : ℕ → ℕ} {e h s B w : ℕ}
+    (H : Hull N next α left right angle edge bucket e h s B w) where
   pub start-sound : (x : ℕ) → On right (nodes next α h e) s x → Sound N right angle x (nodes next α h e)
   start-sound x (k, l, z) = subst (λ (y : ℕ). Sound N right angle y (nodes next α h e)) z (sound-at (ring-sound (H .ring)) k)
 
-  pub locate-hull : (x k : ℕ) → x < N → First (atEnds (holds x) right angle) right (nodes next α h e) (bucket (x / w)) k → tally (atEnds (angleIn (x / w * w) x) next α) (walk h next e) ≡ k
+  pub locate-hull : (x k : ℕ) → x < N
+      → First (atEnds (holds x) right angle) right (nodes next α h e) (bucket (x / w)) k
+      → tally (atEnds (angleIn (x / w * w) x) next α) (walk h next e) ≡ k
   locate-hull x k l F =
       let i : x / w < B = div-lt-iff-lt-mul {k = w} {x = x} {y = B} (H .sized .room) .1 (let a = H .sized .all in omega arith) in
       let o = H .buckets (x / w) i in
@@ -208,7 +225,7 @@ module _ {N : ℕ} {next α left right angle edge bucket : ℕ → ℕ} {e h s B
         (o .0) (o .1) (ap angle (o .2) ∙ a .2 ∙ z)
 
 -- what an insert stores, and what of it is needed of the nodes u, v, s'
-pub record Placed (left right : ℕ → ℕ) (s t k v u s' al q : ℕ) : Type 0 where
+pub record InsertNodes (left right : ℕ → ℕ) (s t k v u s' al q : ℕ) : Type 0 where
   pub fresh : (d : ℕ) → d < k → iter d right t ≢ v
   pub other : al ≢ q → s ≢ v
   pub u-stays : al ≢ q → u ≡ s
@@ -217,8 +234,10 @@ pub record Placed (left right : ℕ → ℕ) (s t k v u s' al q : ℕ) : Type 0 
   pub s-new : al ≡ q → s' ≡ v
 
 module _ {N : ℕ} {next α left right angle edge bucket next' α' left' right' angle' edge' : ℕ → ℕ} {e m n s l p q r t v u s' B w : ℕ}
-    (H : Hull N next α left right angle edge bucket e (m + n) s B w) (P : Spliced next α next' α' e m n l p q r) (k : ℕ) (k-in : k < m) (k-holds : T (atEnds (holds q) next α (iter k next e)))
-    (F : Fit N next α e m n q r) (q-low : q ≤ N) (t-is : iter (nodes next α m e) right s ≡ t) (L : Placed left right s t (nodes next α n r) v u s' (α e) q)
+    (H : Hull N next α left right angle edge bucket e (m + n) s B w) (P : Spliced next α next' α' e m n l p q r)
+    (k : ℕ) (k-in : k < m) (k-holds : T (atEnds (holds q) next α (iter k next e)))
+    (F : Fit N next α e m n q r) (q-low : q ≤ N) (t-is : iter (nodes next α m e) right s ≡ t)
+    (L : InsertNodes left right s t (nodes next α n r) v u s' (α e) q)
     (S : Stores left right angle edge left' right' angle' edge' s t v u l p q (α e)) where
   pub new-sound : Sound N next' α' l (suc (suc n))
   new-sound = fit-sound (H .ring .sound) P k k-in k-holds F
@@ -252,7 +271,9 @@ module _ {N : ℕ} {next α left right angle edge bucket next' α' left' right' 
       subst (λ (x : ℕ). x ≤ N) (sym (ap (λ (x : ℕ). α' (iter j next' x)) (ap next' (P .l-p) ∙ P .p-r) ∙ ap α' (iter-ext next next' j r (λ i b. P .rest i (omega arith))) ∙ P .at-rest j (omega arith)
       ∙ ap α (ap (iter j next) (sym (P .right)) ∙ sym (iter-add m j next e)))) (H .low (m + j) (omega arith))
 
-  pub hull-insert : {bucket' : ℕ → ℕ} → Rebucketed bucket bucket' B (ceiling w (α e) % B) (ceiling w q % B) (ceiling w (α r) % B) s' v → Hull N next' α' left' right' angle' edge' bucket' l (suc (suc n)) s' B w
+  pub hull-insert : {bucket' : ℕ → ℕ}
+      → Rebucketed bucket bucket' B (ceiling w (α e) % B) (ceiling w q % B) (ceiling w (α r) % B) s' v
+      → Hull N next' α' left' right' angle' edge' bucket' l (suc (suc n)) s' B w
   hull-insert {bucket'} U =
       let I = stores-inserted before S angle-s in
       let g = size-new (H .ring) P k k-in k-holds new-sound t-is I in
@@ -264,6 +285,7 @@ module _ {N : ℕ} {next α left right angle edge bucket next' α' left' right' 
         buckets = bucketed-insert (H .ring) P k k-in k-holds new-sound t-is I (H .sized) (H .low 0 (let a = P .some in omega arith)) q-low (subst (λ (x : ℕ). α x ≤ N) (P .right) (H .low m (let a = P .more in omega arith))) (H .buckets) U;
       }
     where
-      linked : Dec (α e ≡ q) → (i : ℕ) → i < bit (proper (α e) q) + 1 + nodes next α n r → left' (right' (iter i right' s')) ≡ iter i right' s'
+      linked : Dec (α e ≡ q) → (i : ℕ) → i < bit (proper (α e) q) + 1 + nodes next α n r
+          → left' (right' (iter i right' s')) ≡ iter i right' s'
       linked (yes z) i a = linked-gone before S angle-s z i (let b = ap (λ (x : ℕ). bit (proper (α e) x)) (sym z) ∙ null-proper (α e) in omega arith)
       linked (no z) i a = linked-stays before S angle-s z i (let b = bit-yes (proper (α e) q) (proper← (α e) q z) in omega arith)

@@ -1,5 +1,6 @@
--- The rules can be met: a sound boundary of four edges on a circle of 16 places, two of whose angles are equal neighbours, its three nodes, and an insert between two of them,
--- at a new angle (11) and at the left node's own (9). The theorems then say what the records hold. Assumes nothing.
+-- The rules can be met: a sound boundary of four edges on a circle of 16 places, two of whose angles are equal
+-- neighbours, its three nodes, and an insert between two of them, at a new angle (11) and at the left node's own (9).
+-- The theorems then say what the records hold. Assumes nothing.
 use mathlib.Core.Path.{_≡_, refl}
 use mathlib.Core.List.{List, [], _∷_}
 use Prim.Native.Nat.{ℕ, zero, suc, _<_, _≤_}

@@ -1,4 +1,5 @@
--- INSERT: the linked nodes stand for the boundary before; after the local change of the boundary, and a few stores, they stand for it again. Assumes nothing.
+-- INSERT: the linked nodes stand for the boundary before; after the local change of the boundary, and a few stores,
+-- they stand for it again. Assumes nothing.
 use mathlib.Core.Path.{_≡_, refl, sym, _∙_, ap, ap₂, subst}
 use mathlib.Core.Logic.{_≢_}
 use mathlib.Core.Bool.{Bool, true, false}
@@ -31,7 +32,8 @@ module _ {N : ℕ} {next α right angle edge : ℕ → ℕ} {e h s : ℕ} (R : R
   ring-ends : α (iter h next e) ≡ angle (iter (nodes next α h e) right s)
   ring-ends = ap α (R .sound .closed) ∙ ring-begins ∙ ap angle (sym (R .back))
 
-  pub ring-tally : (φ : ℕ → ℕ → Bool) → ((a : ℕ) → bit (φ a a) ≡ 0) → tally (atEnds φ next α) (walk h next e) ≡ tally (atEnds φ right angle) (walk (nodes next α h e) right s)
+  pub ring-tally : (φ : ℕ → ℕ → Bool) → ((a : ℕ) → bit (φ a a) ≡ 0)
+      → tally (atEnds φ next α) (walk h next e) ≡ tally (atEnds φ right angle) (walk (nodes next α h e) right s)
   ring-tally φ null = match-tally next α right angle edge φ null h e s (R .match) ring-ends
 
   -- the nodes are a sound ring, and each is proper
@@ -53,7 +55,8 @@ all-proper b f zero s h k l = absurd (omega arith)
 all-proper b f (suc n) s h zero l = bit-1 (b s) (let a = tally-most b f n (f s) in omega arith)
 all-proper b f (suc n) s h (suc k) l = all-proper b f n (f s) (let a = tally-most b f n (f s) in let c = bit-le (b s) in omega arith) k (omega arith)
 
-pub node-sole : {N : ℕ} {f α : ℕ → ℕ} {s n : ℕ} → Sound N f α s n → tally (atEnds proper f α) (walk n f s) ≡ n → (j k : ℕ) → j < n → k < n → α (iter j f s) ≡ α (iter k f s) → j ≡ k
+pub node-sole : {N : ℕ} {f α : ℕ → ℕ} {s n : ℕ} → Sound N f α s n → tally (atEnds proper f α) (walk n f s) ≡ n
+    → (j k : ℕ) → j < n → k < n → α (iter j f s) ≡ α (iter k f s) → j ≡ k
 node-sole {N} {f} {α} {s} {n} S A j k u w z =
     tile-sole S (α (iter j f s)) j k u w (own j u) (subst (λ (x : ℕ). T (holds x (α (iter k f s)) (α (f (iter k f s))))) (sym z) (own k w))
   where
@@ -64,7 +67,8 @@ node-sole {N} {f} {α} {s} {n} S A j k u w z =
 add-comm : (a b : ℕ) → a + b ≡ b + a
 add-comm a b = omega arith
 
-pub ring-turn : {N : ℕ} {next α right angle edge : ℕ → ℕ} {e h s : ℕ} → Ring N next α right angle edge e h s → Ring N next α right angle edge (next e) h (iter (bit (atEnds proper next α e)) right s)
+pub ring-turn : {N : ℕ} {next α right angle edge : ℕ → ℕ} {e h s : ℕ} → Ring N next α right angle edge e h s
+    → Ring N next α right angle edge (next e) h (iter (bit (atEnds proper next α e)) right s)
 unfolding Match walk tally
 ring-turn {N} {next} {α} {right} {angle} {edge} {e} {h = zero} {s} R = absurd (let t = R .sound .three in omega arith)
 ring-turn {N} {next} {α} {right} {angle} {edge} {e} {h = suc h} {s} R = record {
@@ -103,8 +107,9 @@ pub record Rebucketed (bucket bucket' : ℕ → ℕ) (B L Q R a v : ℕ) : Type 
   pub left : (i : ℕ) → i < B → bit (within i Q R) ≡ 0 → T (within i L Q) → bucket' i ≡ a
   pub old : (i : ℕ) → i < B → bit (within i Q R) ≡ 0 → bit (within i L Q) ≡ 0 → bucket' i ≡ bucket i
 
--- The nodes' tables before and after. The k nodes from t on, the rest's, stay; v is the new node, of the edge p and the angle q; before it stands the node s',
--- which has the edge l if the left angle `al` is not q, and is v itself if it is.
+-- The nodes' tables before and after. The k nodes from t on, the rest's, stay; v is the new node, of the edge p and the
+-- angle q; before it stands the node s', which has the edge l if the left angle `al` is not q, and is v itself if it
+-- is.
 pub record Inserted (right angle edge right' angle' edge' : ℕ → ℕ) (t k v s' l p q al : ℕ) : Type 0 where
   pub edge-rest : (j : ℕ) → j < k → edge' (iter j right t) ≡ edge (iter j right t)
   pub angle-rest : (j : ℕ) → j < k → angle' (iter j right t) ≡ angle (iter j right t)
@@ -118,9 +123,12 @@ pub record Inserted (right angle edge right' angle' edge' : ℕ → ℕ) (t k v 
   pub s-angle : al ≢ q → angle' s' ≡ al
   pub s-right : al ≢ q → right' s' ≡ v
 
--- What is known of the old ring and the new boundary, before any store: the left node is s, the right one t, and both are known by their angles
-module _ {N : ℕ} {next α right angle edge next' α' : ℕ → ℕ} {e m n s l p q r t : ℕ} (R : Ring N next α right angle edge e (m + n) s) (P : Spliced next α next' α' e m n l p q r)
-    (k : ℕ) (k-in : k < m) (k-holds : T (atEnds (holds q) next α (iter k next e))) (Z : Sound N next' α' l (suc (suc n))) (t-is : iter (nodes next α m e) right s ≡ t) where
+-- What is known of the old ring and the new boundary, before any store: the left node is s, the right one t, and both
+-- are known by their angles
+module _ {N : ℕ} {next α right angle edge next' α' : ℕ → ℕ} {e m n s l p q r t : ℕ}
+    (R : Ring N next α right angle edge e (m + n) s) (P : Spliced next α next' α' e m n l p q r)
+    (k : ℕ) (k-in : k < m) (k-holds : T (atEnds (holds q) next α (iter k next e)))
+    (Z : Sound N next' α' l (suc (suc n))) (t-is : iter (nodes next α m e) right s ≡ t) where
   -- the rest's nodes
   pub rest-match : Match next α right angle edge n r t
   rest-match = subst (λ (x : ℕ). Match next α right angle edge n r x) t-is (subst (λ (x : ℕ). Match next α right angle edge n x (iter (nodes next α m e) right s)) (P .right) (match-split next α right angle edge m n e s (R .match) .1))
@@ -145,7 +153,8 @@ module _ {N : ℕ} {next α right angle edge next' α' : ℕ → ℕ} {e m n s l
   pub left-some : 0 < nodes next α m e
   left-some = counts (atEnds proper next α) next m e k k-in (holds-proper q (α (iter k next e)) (α (next (iter k next e))) k-holds)
 
-  -- no node between has the right angle, so that a walk to the right from s that stops there stops at t, after as many moves as the chain has nodes
+  -- no node between has the right angle, so that a walk to the right from s that stops there stops at t, after as many
+  -- moves as the chain has nodes
   pub right-first : (j : ℕ) → j < nodes next α m e → angle (iter j right s) ≢ α r
   right-first j u z =
       let a = size-old in let b = rest-some in
@@ -159,15 +168,18 @@ module _ {N : ℕ} {next α right angle edge next' α' : ℕ → ℕ} {e m n s l
   pub last-t : iter (nodes next α n r) right t ≡ s
   last-t = ap (iter (nodes next α n r) right) (sym t-is) ∙ sym (iter-add (nodes next α m e) (nodes next α n r) right s) ∙ ap (λ (i : ℕ). iter i right s) (sym size-old) ∙ R .back
 
-  pub chain-node : (x j : ℕ) → j < nodes next α m e → T (atEnds (holds x) right angle (iter j right s)) → 0 < bit (holds x (α e) q) + bit (holds x q (α r))
+  pub chain-node : (x j : ℕ) → j < nodes next α m e → T (atEnds (holds x) right angle (iter j right s))
+      → 0 < bit (holds x (α e) q) + bit (holds x q (α r))
   chain-node x j u h =
       let a = match-tally next α right angle edge (holds x) (null-holds x) m e s (match-split next α right angle edge m n e s (R .match) .0) (ap α (P .right) ∙ sym right-angle ∙ ap angle (sym t-is)) in
       let b = counts (atEnds (holds x) right angle) right (nodes next α m e) s j u h in
       let c = same-places x in
       omega arith
 
-module _ {N : ℕ} {next α right angle edge next' α' right' angle' edge' : ℕ → ℕ} {e m n s l p q r t v s' : ℕ} (R : Ring N next α right angle edge e (m + n) s) (P : Spliced next α next' α' e m n l p q r)
-    (k : ℕ) (k-in : k < m) (k-holds : T (atEnds (holds q) next α (iter k next e))) (Z : Sound N next' α' l (suc (suc n))) (t-is : iter (nodes next α m e) right s ≡ t)
+module _ {N : ℕ} {next α right angle edge next' α' right' angle' edge' : ℕ → ℕ} {e m n s l p q r t v s' : ℕ}
+    (R : Ring N next α right angle edge e (m + n) s) (P : Spliced next α next' α' e m n l p q r)
+    (k : ℕ) (k-in : k < m) (k-holds : T (atEnds (holds q) next α (iter k next e)))
+    (Z : Sound N next' α' l (suc (suc n))) (t-is : iter (nodes next α m e) right s ≡ t)
     (I : Inserted right angle edge right' angle' edge' t (nodes next α n r) v s' l p q (α e)) where
   kept : Kept next α right angle edge next' α' right' angle' edge' n r t
   kept = record { from = P .at-rest; to = ends P; step = P .rest; edge-same = I .edge-rest; angle-same = I .angle-rest; right-same = I .right-rest }
@@ -235,7 +247,8 @@ module _ {N : ℕ} {next α right angle edge next' α' right' angle' edge' : ℕ
       go (no z) = I .s-angle z
 
   -- a node of the rest keeps its segment
-  rest-arc : (φ : ℕ → ℕ → Bool) (d : ℕ) → d < nodes next α n r → atEnds φ right' angle' (iter d right t) ≡ atEnds φ right angle (iter d right t)
+  rest-arc : (φ : ℕ → ℕ → Bool) (d : ℕ) → d < nodes next α n r
+      → atEnds φ right' angle' (iter d right t) ≡ atEnds φ right angle (iter d right t)
   rest-arc φ d u = ap₂ φ (I .angle-rest d u) (go (decLt (suc d) (nodes next α n r)))
     where
       go : Dec (suc d < nodes next α n r) → angle' (right' (iter d right t)) ≡ angle (right (iter d right t))
@@ -251,14 +264,17 @@ module _ {N : ℕ} {next α right angle edge next' α' right' angle' edge' : ℕ
   pub left-holds : (x : ℕ) → T (holds x (α e) q) → T (atEnds (holds x) right' angle' s')
   left-holds x h = let d = proper→ (α e) q (holds-proper x (α e) q h) in subst T (ap₂ (holds x) (sym start-angle) (sym (ap angle' (I .s-right d) ∙ I .v-angle))) h
 
-  pub old-holds : (x j : ℕ) → j < nodes next α (m + n) e → T (atEnds (holds x) right angle (iter j right s)) → bit (holds x (α e) q) ≡ 0 → bit (holds x q (α r)) ≡ 0
+  pub old-holds : (x j : ℕ) → j < nodes next α (m + n) e → T (atEnds (holds x) right angle (iter j right s))
+      → bit (holds x (α e) q) ≡ 0 → bit (holds x q (α r)) ≡ 0
       → On right' (nodes next' α' (suc (suc n)) l) s' (iter j right s) × T (atEnds (holds x) right' angle' (iter j right s))
   old-holds x j u h z₁ z₂ = go (decLt j c)
     where
       c : ℕ
       c = nodes next α m e
 
-      go : Dec (j < c) → On right' (nodes next' α' (suc (suc n)) l) s' (iter j right s) × T (atEnds (holds x) right' angle' (iter j right s))
+      go : Dec (j < c)
+          → On right' (nodes next' α' (suc (suc n)) l) s' (iter j right s)
+          × T (atEnds (holds x) right' angle' (iter j right s))
       go (yes w) = absurd (let a = chain-node R P k k-in k-holds Z t-is x j w h in omega arith)
       go (no w) =
           let d = j - c in
@@ -274,8 +290,10 @@ module _ {N : ℕ} {next α right angle edge next' α' right' angle' edge' : ℕ
           ((b + 1 + d, omega arith, there ∙ sym here), subst (λ (y : ℕ). T (atEnds (holds x) right' angle' y)) (sym here) (subst T (sym (rest-arc (holds x) d du)) (subst (λ (y : ℕ). T (atEnds (holds x) right angle y)) here h)))
 
   -- the code's two loops over buckets, the left node first
-  pub bucketed-insert : {w B : ℕ} {bucket bucket' : ℕ → ℕ} → Sized N B w → α e ≤ N → q ≤ N → α r ≤ N → Bucketed right angle bucket B w s (nodes next α (m + n) e)
-      → Rebucketed bucket bucket' B (ceiling w (α e) % B) (ceiling w q % B) (ceiling w (α r) % B) s' v → Bucketed right' angle' bucket' B w s' (nodes next' α' (suc (suc n)) l)
+  pub bucketed-insert : {w B : ℕ} {bucket bucket' : ℕ → ℕ} → Sized N B w → α e ≤ N → q ≤ N → α r ≤ N
+      → Bucketed right angle bucket B w s (nodes next α (m + n) e)
+      → Rebucketed bucket bucket' B (ceiling w (α e) % B) (ceiling w q % B) (ceiling w (α r) % B) s' v
+      → Bucketed right' angle' bucket' B w s' (nodes next' α' (suc (suc n)) l)
   bucketed-insert {w} {B} {bucket} {bucket'} W le lq lr O U i il = which (within i Q' R') refl (within i L' Q') refl
     where
       L' : ℕ

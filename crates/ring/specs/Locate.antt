@@ -1,5 +1,7 @@
--- LOCATE: how many nodes the walk passes from the node that holds y to the node that holds x, where y ≤ x: as many as there are angles above y and up to x.
--- Let v be 1 at an angle above y and up to x, and else 0. By `held` for x and for y, v changes only after the node that holds y (up) and after the one that holds x (down). Assumes nothing.
+-- LOCATE: how many nodes the walk passes from the node that holds y to the node that holds x, where y ≤ x: as many as
+-- there are angles above y and up to x.
+-- Let v be 1 at an angle above y and up to x, and else 0. By `held` for x and for y, v changes only after the node that
+-- holds y (up) and after the one that holds x (down). Assumes nothing.
 use mathlib.Core.Path.{_≡_, refl, sym, _∙_, ap, subst}
 use mathlib.Core.Logic.{_≢_}
 use mathlib.Core.Bool.{Bool, true, false, _&&_}
@@ -64,7 +66,8 @@ pub tally-part : (b : ℕ → Bool) (f : ℕ → ℕ) (j n s : ℕ) → j ≤ n 
 tally-part b f j n s h = let a = tally-add b f j (n - j) s in let e : j + (n - j) ≡ n = omega arith in let c = ap (λ (i : ℕ). tally b (walk i f s)) e in omega arith
 
 -- The walk starts at s, which holds y; k steps on is the first that holds x
-module _ {N : ℕ} {f α : ℕ → ℕ} {s n k x y : ℕ} (S : Sound N f α s n) (here : T (atEnds (holds y) f α s)) (up : y ≤ x) (K : First (atEnds (holds x) f α) f n s k) where
+module _ {N : ℕ} {f α : ℕ → ℕ} {s n k x y : ℕ} (S : Sound N f α s n) (here : T (atEnds (holds y) f α s)) (up : y ≤ x)
+    (K : First (atEnds (holds x) f α) f n s k) where
   v : ℕ → ℕ
   v j = bit (between y x (α (iter j f s)))
 
@@ -142,14 +145,16 @@ module _ {N : ℕ} {f α : ℕ → ℕ} {s n k x y : ℕ} (S : Sound N f α s n)
   locate-count c = count-if (close c)
 
 -- from the bucket of x, one of B ≥ 8, of w places each
-pub bucket-count : {N B w : ℕ} {f α : ℕ → ℕ} {s n k : ℕ} (x : ℕ) → Sized N B w → Sound N f α s n → T (atEnds (holds (x / w * w)) f α s) → First (atEnds (holds x) f α) f n s k
+pub bucket-count : {N B w : ℕ} {f α : ℕ → ℕ} {s n k : ℕ} (x : ℕ) → Sized N B w → Sound N f α s n
+    → T (atEnds (holds (x / w * w)) f α s) → First (atEnds (holds x) f α) f n s k
     → tally (λ e. between (x / w * w) x (α e)) (walk n f s) ≡ k
 bucket-count {N} {B} {w} {f} {α} {s} {n} {k} x W S here K =
     let a = div-add-mod' x w in let b = mod-lt x (W .room) in let c = mul-le-mul-right w (W .eight) in let d = W .all in
     locate-count S here (omega arith) K (omega arith)
 
 -- at x = N, from the bucket 0
-module _ {N : ℕ} {f α : ℕ → ℕ} {s n k : ℕ} (S : Sound N f α s n) (here : T (atEnds (holds 0) f α s)) (K : First (atEnds (holds N) f α) f n s k) (low : (j : ℕ) → j < n → α (iter j f s) ≤ N) where
+module _ {N : ℕ} {f α : ℕ → ℕ} {s n k : ℕ} (S : Sound N f α s n) (here : T (atEnds (holds 0) f α s))
+    (K : First (atEnds (holds N) f α) f n s k) (low : (j : ℕ) → j < n → α (iter j f s) ≤ N) where
   at-zero : (j : ℕ) → j < n → bit (between 0 N (α (iter j f s))) ≡ 0 → α (iter j f s) ≡ 0
   at-zero j l z = go (decLt 0 (α (iter j f s)))
     where
@@ -190,7 +195,8 @@ module _ {N : ℕ} {f α : ℕ → ℕ} {s n k : ℕ} (S : Sound N f α s n) (he
           absurd (omega arith)
       go (yes p) (no u) = let h = K .below in omega arith
 
--- the count over the nodes is the count over the boundary: of the proper edges, whose first angles are the boundary's angles with equal neighbours taken once
+-- the count over the nodes is the count over the boundary: of the proper edges, whose first angles are the boundary's
+-- angles with equal neighbours taken once
 unfoldable pub angleIn : ℕ → ℕ → ℕ → ℕ → Bool
 angleIn y x a b = proper a b && between y x a
 

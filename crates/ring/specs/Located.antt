@@ -1,5 +1,6 @@
--- What the nodes find is what the boundary says: the edge of the node that holds x is `located`, and the nodes that the walk from the bucket of x passes after the first are counted by
--- 01's formula over the boundary's angles. Assumes nothing.
+-- What the nodes find is what the boundary says: the edge of the node that holds x is `located`, and the nodes that the
+-- walk from the bucket of x passes after the first are counted by 01's formula over the boundary's angles. Assumes
+-- nothing.
 use mathlib.Core.Path.{_≡_, refl, sym, _∙_, ap, ap₂, subst}
 use mathlib.Core.Logic.{_⊎_, inl, inr}
 use mathlib.Core.Bool.{Bool, true, false, cond}
@@ -32,7 +33,8 @@ unfolding walk member
 member→ next α x zero e t = absurd t
 member→ next α x (suc h) e t = go (or-cases (eqb (α e) x) (member x (map α (walk h next (next e)))) t) (member→ next α x h (next e))
   where
-    go : T (eqb (α e) x) ⊎ T (member x (map α (walk h next (next e)))) → (T (member x (map α (walk h next (next e)))) → (j : ℕ) × (j < h) × (α (iter j next (next e)) ≡ x))
+    go : T (eqb (α e) x) ⊎ T (member x (map α (walk h next (next e))))
+        → (T (member x (map α (walk h next (next e)))) → (j : ℕ) × (j < h) × (α (iter j next (next e)) ≡ x))
         → (j : ℕ) × (j < suc h) × (α (iter j next e) ≡ x)
     go (inl u) i = (0, omega arith, eqb→eq (α e) x u)
     go (inr u) i = let r = i u in (suc (r .0), (let l = r .1 in omega arith), r .2)
@@ -44,12 +46,15 @@ member← next α x (suc h) e zero l z = or-left (eqb (α e) x) (member x (map �
 member← next α x (suc h) e (suc j) l z = or-right (eqb (α e) x) (member x (map α (walk h next (next e)))) (member← next α x h (next e) j (omega arith) z)
 
 -- ---- THE COUNT, with 8 buckets
-module _ {N : ℕ} {next α left right angle edge bucket : ℕ → ℕ} {e h s w : ℕ} (H : Hull N next α left right angle edge bucket e h s 8 w) where
+module _ {N : ℕ} {next α left right angle edge bucket : ℕ → ℕ} {e h s w : ℕ}
+    (H : Hull N next α left right angle edge bucket e h s 8 w) where
   some : 0 < nodes next α h e
   some = let t = H .ring .sound .three in omega arith
 
   -- below 1.0, from the bucket floor(8a)
-  passed-below : (x k : ℕ) → x < N → First (atEnds (holds x) right angle) right (nodes next α h e) (bucket (x / w)) k → passedCount N x (map α (walk h next e)) ≡ k
+  passed-below : (x k : ℕ) → x < N
+      → First (atEnds (holds x) right angle) right (nodes next α h e) (bucket (x / w)) k
+      → passedCount N x (map α (walk h next e)) ≡ k
   unfolding passedCount angleIn
   passed-below x k l F =
       let i : 8 * x / N ≡ x / w = ap (λ (n : ℕ). 8 * x / n) (H .sized .all) ∙ ap₂ (λ (a b : ℕ). a / b) (mul-comm 8 x) (mul-comm 8 w) ∙ mul-div-mul-right x w (omega arith) in
@@ -60,7 +65,8 @@ module _ {N : ℕ} {next α left right angle edge bucket : ℕ → ℕ} {e h s w
       ∙ locate-hull H x k l F
 
   -- at 1.0, from bucket 0
-  passed-top : (k : ℕ) → First (atEnds (holds N) right angle) right (nodes next α h e) (bucket 0) k → passedCount N N (map α (walk h next e)) ≡ k
+  passed-top : (k : ℕ) → First (atEnds (holds N) right angle) right (nodes next α h e) (bucket 0) k
+      → passedCount N N (map α (walk h next e)) ≡ k
   unfolding passedCount
   passed-top k F =
       let l = map α (walk h next e) in
@@ -75,8 +81,11 @@ module _ {N : ℕ} {next α left right angle edge bucket : ℕ → ℕ} {e h s w
           omega arith
       go false z = sym (locate-top-none H k F (λ j l y. subst T z (member← next α 0 h e j l y)))
 
-  -- 01: "With n = 8 and i = floor(8a), that count is the number of boundary angles above i/8 and up to a. At a = 1.0 it is ring size minus 1 if some boundary angle is 0.0, otherwise 0."
-  pub locate-passed : (x k : ℕ) → x ≤ N → First (atEnds (holds x) right angle) right (nodes next α h e) (bucket (x / w % 8)) k → passedCount N x (map α (walk h next e)) ≡ k
+  -- 01: "With n = 8 and i = floor(8a), that count is the number of boundary angles above i/8 and up to a. At a = 1.0 it
+  -- is ring size minus 1 if some boundary angle is 0.0, otherwise 0."
+  pub locate-passed : (x k : ℕ) → x ≤ N
+      → First (atEnds (holds x) right angle) right (nodes next α h e) (bucket (x / w % 8)) k
+      → passedCount N x (map α (walk h next e)) ≡ k
   locate-passed x k l F = go (ℕ-discrete x N)
     where
       go : Dec (x ≡ N) → passedCount N x (map α (walk h next e)) ≡ k
@@ -90,7 +99,8 @@ module _ {N : ℕ} {next α left right angle edge bucket : ℕ → ℕ} {e h s w
           passed-below x k u (subst (λ (n : ℕ). First (atEnds (holds x) right angle) right (nodes next α h e) (bucket n) k) b F)
 
 -- ---- THE EDGE: a node's edge is one of the boundary's
-pub node-place : {N : ℕ} {next α left right angle edge bucket : ℕ → ℕ} {e h s B w : ℕ} → Hull N next α left right angle edge bucket e h s B w → (y : ℕ) → On right (nodes next α h e) s y
+pub node-place : {N : ℕ} {next α left right angle edge bucket : ℕ → ℕ} {e h s B w : ℕ}
+    → Hull N next α left right angle edge bucket e h s B w → (y : ℕ) → On right (nodes next α h e) s y
     → (j : ℕ) × (j < h) × (edge y ≡ iter j next e)
 unfolding Stands
 node-place {N} {next} {α} {left} {right} {angle} {edge} {bucket} {e} {h} {s} H y (k, l, z) =
@@ -98,9 +108,11 @@ node-place {N} {next} {α} {left} {right} {angle} {edge} {bucket} {e} {h} {s} H 
     (r .0, r .1, ap edge (sym z) ∙ ap (λ (i : ℕ). edge (iter i right s)) (sym (r .3)) ∙ match-at next α right angle edge h e s (H .ring .match) (r .0) (r .1) (r .2) .0)
 
 -- the node that holds x has the located edge, whatever the number of buckets
-pub node-located : {C : Counts} {L : Links} (W : Wf C L) (α : ℕ → ℕ) {left right angle edge bucket : ℕ → ℕ} {e s B w : ℕ} → In C e → L .face e ≡ 0
+pub node-located : {C : Counts} {L : Links} (W : Wf C L) (α : ℕ → ℕ) {left right angle edge bucket : ℕ → ℕ}
+    {e s B w : ℕ} → In C e → L .face e ≡ 0
     → Hull fullTurn (L .next) (edgeAngle L α) left right angle edge bucket e (boundaryLength C L) s B w
-    → (x y : ℕ) → On right (nodes (L .next) (edgeAngle L α) (boundaryLength C L) e) s y → T (atEnds (holds x) right angle y) → edge y ≡ located C L α x
+    → (x y : ℕ) → On right (nodes (L .next) (edgeAngle L α) (boundaryLength C L) e) s y
+    → T (atEnds (holds x) right angle y) → edge y ≡ located C L α x
 node-located {C} {L} W α {left} {right} {angle} {edge} {bucket} {e} {s} l o H x y (k, u, z) t =
     let r = node-place H y (k, u, z) in
     let b = outer-walk W l o (r .0) in

@@ -1,6 +1,7 @@
--- 01's words about a ring, on the list of the boundary's angles with equal neighbours merged, say the same as counts over the boundary's edges (`sound→`, `sound←`, `sound-round`,
--- `round-sound`): an edge whose ends have equal angles passes none of the tests, and "all differ" follows from "exactly one is followed by a smaller one". The merged angles are those
--- of the nodes (`nodes-merged`). Assumes nothing.
+-- 01's words about a ring, on the list of the boundary's angles with equal neighbours merged, say the same as counts
+-- over the boundary's edges (`sound→`, `sound←`, `sound-round`, `round-sound`): an edge whose ends have equal angles
+-- passes none of the tests, and "all differ" follows from "exactly one is followed by a smaller one". The merged angles
+-- are those of the nodes (`nodes-merged`). Assumes nothing.
 use mathlib.Core.Path.{_≡_, refl, sym, _∙_, ap, ap₂, subst}
 use mathlib.Core.Logic.{_≢_, _⊎_, inl, inr}
 use mathlib.Core.Bool.{Bool, true, false, not, cond, _&&_}
@@ -25,7 +26,8 @@ module _ (z : ℕ) where
   merged-head [] = refl
   merged-head (a ∷ l) = go (eqb a (headOr l z)) (eq? a (headOr l z)) (merged-head l)
     where
-      go : (t : Bool) → Tells t (a ≡ headOr l z) (a ≢ headOr l z) → headOr (mergedBefore l z) z ≡ headOr l z → headOr (cond t (mergedBefore l z) (a ∷ mergedBefore l z)) z ≡ a
+      go : (t : Bool) → Tells t (a ≡ headOr l z) (a ≢ headOr l z) → headOr (mergedBefore l z) z ≡ headOr l z
+          → headOr (cond t (mergedBefore l z) (a ∷ mergedBefore l z)) z ≡ a
       go true A i = i ∙ sym (A .0 tt)
       go false A i = refl
 
@@ -35,7 +37,8 @@ module _ (z : ℕ) where
   merged-count φ null [] = refl
   merged-count φ null (a ∷ l) = go (eqb a (headOr l z)) (eq? a (headOr l z)) (merged-head l) (merged-count φ null l)
     where
-      go : (t : Bool) → Tells t (a ≡ headOr l z) (a ≢ headOr l z) → headOr (mergedBefore l z) z ≡ headOr l z → countBefore φ (mergedBefore l z) z ≡ countBefore φ l z
+      go : (t : Bool) → Tells t (a ≡ headOr l z) (a ≢ headOr l z) → headOr (mergedBefore l z) z ≡ headOr l z
+          → countBefore φ (mergedBefore l z) z ≡ countBefore φ l z
           → countBefore φ (cond t (mergedBefore l z) (a ∷ mergedBefore l z)) z ≡ bit (φ a (headOr l z)) + countBefore φ l z
       go true A b i = let n = ap (λ (x : ℕ). bit (φ a x)) (sym (A .0 tt)) ∙ null a in omega arith
       go false A b i = ap₂ (λ (x y : ℕ). bit (φ a x) + y) b i
@@ -56,7 +59,8 @@ module _ (z : ℕ) where
   merged-length [] = refl
   merged-length (a ∷ l) = go (eqb a (headOr l z)) (merged-length l)
     where
-      go : (t : Bool) → length (mergedBefore l z) ≡ countBefore proper l z → length (cond t (mergedBefore l z) (a ∷ mergedBefore l z)) ≡ bit (not t) + countBefore proper l z
+      go : (t : Bool) → length (mergedBefore l z) ≡ countBefore proper l z
+          → length (cond t (mergedBefore l z) (a ∷ mergedBefore l z)) ≡ bit (not t) + countBefore proper l z
       go true i = omega arith
       go false i = omega arith
 
@@ -65,7 +69,8 @@ module _ (z : ℕ) where
   merged-same [] h = refl
   merged-same (a ∷ l) h = go (eqb a (headOr l z)) (merged-same l) h
     where
-      go : (t : Bool) → (countBefore eqb l z ≡ 0 → mergedBefore l z ≡ l) → bit t + countBefore eqb l z ≡ 0 → cond t (mergedBefore l z) (a ∷ mergedBefore l z) ≡ a ∷ l
+      go : (t : Bool) → (countBefore eqb l z ≡ 0 → mergedBefore l z ≡ l) → bit t + countBefore eqb l z ≡ 0
+          → cond t (mergedBefore l z) (a ∷ mergedBefore l z) ≡ a ∷ l
       go true i h = absurd (omega arith)
       go false i h = ap (λ (m : List ℕ). a ∷ m) (i (omega arith))
 
@@ -136,7 +141,8 @@ unfolding countBefore proper
 copies-held x z [] = omega arith
 copies-held x z (a ∷ l) = go (eqb a (headOr l z)) (eqb a x) (eq? a (headOr l z)) (eq? a x) (copies-held x z l)
   where
-    go : (t u : Bool) → Tells t (a ≡ headOr l z) (a ≢ headOr l z) → Tells u (a ≡ x) (a ≢ x) → countBefore (λ a c. proper a c && eqb a x) l z ≤ countBefore (holds x) l z
+    go : (t u : Bool) → Tells t (a ≡ headOr l z) (a ≢ headOr l z) → Tells u (a ≡ x) (a ≢ x)
+        → countBefore (λ a c. proper a c && eqb a x) l z ≤ countBefore (holds x) l z
         → bit (not t && u) + countBefore (λ a c. proper a c && eqb a x) l z ≤ bit (holds x a (headOr l z)) + countBefore (holds x) l z
     go true u A B i = omega arith
     go false false A B i = omega arith
@@ -192,22 +198,27 @@ module _ (next α : ℕ → ℕ) where
   angles-head zero e = refl
   angles-head (suc h) e = refl
 
-  pub angles-count : (φ : ℕ → ℕ → Bool) (h e : ℕ) → countBefore φ (map α (walk h next e)) (α (iter h next e)) ≡ tally (atEnds φ next α) (walk h next e)
+  pub angles-count : (φ : ℕ → ℕ → Bool) (h e : ℕ)
+      → countBefore φ (map α (walk h next e)) (α (iter h next e)) ≡ tally (atEnds φ next α) (walk h next e)
   unfolding walk tally countBefore
   angles-count φ zero e = refl
   angles-count φ (suc h) e = ap₂ (λ (x y : ℕ). bit (φ (α e) x) + y) (angles-head h (next e)) (angles-count φ h (next e))
 
   -- the one that follows the last of a round
-  angles-first : (h e : ℕ) → iter h next e ≡ e → (φ : ℕ → ℕ → Bool) → countAround φ (map α (walk h next e)) ≡ countBefore φ (map α (walk h next e)) (α (iter h next e))
+  angles-first : (h e : ℕ) → iter h next e ≡ e → (φ : ℕ → ℕ → Bool)
+      → countAround φ (map α (walk h next e)) ≡ countBefore φ (map α (walk h next e)) (α (iter h next e))
   unfolding walk countAround countBefore
   angles-first zero e c φ = refl
   angles-first (suc h) e c φ = ap (λ (x : ℕ). countBefore φ (α e ∷ map α (walk h next (next e))) (α x)) (sym c)
 
-  pub angles-around : (h e : ℕ) → iter h next e ≡ e → (φ : ℕ → ℕ → Bool) → countAround φ (map α (walk h next e)) ≡ tally (atEnds φ next α) (walk h next e)
+  pub angles-around : (h e : ℕ) → iter h next e ≡ e → (φ : ℕ → ℕ → Bool)
+      → countAround φ (map α (walk h next e)) ≡ tally (atEnds φ next α) (walk h next e)
   angles-around h e c φ = angles-first h e c φ ∙ angles-count φ h e
 
   -- the angles of the edges that differ from the next are the merged ones
-  pub nodes-before : (h e : ℕ) → map α (filter (atEnds proper next α) (walk h next e)) ≡ mergedBefore (map α (walk h next e)) (α (iter h next e))
+  pub nodes-before : (h e : ℕ)
+      → map α (filter (atEnds proper next α) (walk h next e))
+      ≡ mergedBefore (map α (walk h next e)) (α (iter h next e))
   unfolding walk filter mergedBefore proper
   nodes-before zero e = refl
   nodes-before (suc h) e = go (eqb (α e) (α (next e))) (eqb (α e) (headOr (map α (walk h next (next e))) (α (iter h next (next e))))) (ap (eqb (α e)) (sym (angles-head h (next e)))) (nodes-before h (next e))
@@ -215,19 +226,25 @@ module _ (next α : ℕ → ℕ) where
       z : ℕ
       z = α (iter h next (next e))
 
-      go : (t u : Bool) → t ≡ u → map α (filter (atEnds proper next α) (walk h next (next e))) ≡ mergedBefore (map α (walk h next (next e))) (α (iter h next (next e)))
-          → map α (cond (not t) (e ∷ filter (atEnds proper next α) (walk h next (next e))) (filter (atEnds proper next α) (walk h next (next e))))
+      go : (t u : Bool) → t ≡ u
+          → map α (filter (atEnds proper next α) (walk h next (next e)))
+          ≡ mergedBefore (map α (walk h next (next e))) (α (iter h next (next e)))
+          → map α (cond (not t) (e ∷ filter (atEnds proper next α) (walk h next (next e)))
+          (filter (atEnds proper next α) (walk h next (next e))))
           ≡ cond u (mergedBefore (map α (walk h next (next e))) (α (iter h next (next e)))) (α e ∷ mergedBefore (map α (walk h next (next e))) (α (iter h next (next e))))
       go true true q i = i
       go true false q i = absurd (mathlib.Core.Bool.false≢true (sym q))
       go false true q i = absurd (mathlib.Core.Bool.false≢true q)
       go false false q i = ap (λ (m : List ℕ). α e ∷ m) i
 
-  pub nodes-merged : (h e : ℕ) → iter h next e ≡ e → 0 < tally (atEnds proper next α) (walk h next e) → map α (filter (atEnds proper next α) (walk h next e)) ≡ merged (map α (walk h next e))
+  pub nodes-merged : (h e : ℕ) → iter h next e ≡ e → 0 < tally (atEnds proper next α) (walk h next e)
+      → map α (filter (atEnds proper next α) (walk h next e)) ≡ merged (map α (walk h next e))
   unfolding walk mergedBefore
   nodes-merged h e c p = nodes-before h e ∙ back h c ∙ sym (merged-before (map α (walk h next e)) (let a = angles-around h e c proper in omega arith))
     where
-      back : (h : ℕ) → iter h next e ≡ e → mergedBefore (map α (walk h next e)) (α (iter h next e)) ≡ mergedBefore (map α (walk h next e)) (headOr (map α (walk h next e)) 0)
+      back : (h : ℕ) → iter h next e ≡ e
+          → mergedBefore (map α (walk h next e)) (α (iter h next e))
+          ≡ mergedBefore (map α (walk h next e)) (headOr (map α (walk h next e)) 0)
       back zero c = refl
       back (suc h) c = ap (λ (x : ℕ). mergedBefore (α e ∷ map α (walk h next (next e))) (α x)) c
 
@@ -239,7 +256,8 @@ module _ (next α : ℕ → ℕ) where
       let l = map α (walk h next e) in
       ap (tally b) (merged-before l (let a = angles-around h e c proper in omega arith)) ∙ merged-tally (headOr l 0) b l ∙ angles-around h e c (λ a c. proper a c && b a)
 
-  pub angles-size : (h e : ℕ) → iter h next e ≡ e → 0 < tally (atEnds proper next α) (walk h next e) → length (merged (map α (walk h next e))) ≡ tally (atEnds proper next α) (walk h next e)
+  pub angles-size : (h e : ℕ) → iter h next e ≡ e → 0 < tally (atEnds proper next α) (walk h next e)
+      → length (merged (map α (walk h next e))) ≡ tally (atEnds proper next α) (walk h next e)
   angles-size h e c p = let a = angles-around h e c proper in merged-size (map α (walk h next e)) (omega arith) ∙ a
 
 -- ---- THE WORDS ARE THE COUNTS, over the edges of a round
@@ -271,7 +289,8 @@ unfolding isStrict countAround
 strict-merged N l h = merged-before l (let t = sound→ N l (strict-sound N l h) .three in omega arith) ∙ merged-same (headOr l 0) l (eqb→eq (countAround eqb l) 0 (and-right (isSound N l) (eqb (countAround eqb l) 0) h))
 
 -- and each edge has a node
-pub strict-all : (N : ℕ) (next α : ℕ → ℕ) (e h : ℕ) → iter h next e ≡ e → T (isStrict N (map α (walk h next e))) → tally (atEnds proper next α) (walk h next e) ≡ h
+pub strict-all : (N : ℕ) (next α : ℕ → ℕ) (e h : ℕ) → iter h next e ≡ e → T (isStrict N (map α (walk h next e)))
+    → tally (atEnds proper next α) (walk h next e) ≡ h
 unfolding isStrict proper
 strict-all N next α e h c t =
     let l = map α (walk h next e) in

@@ -1,5 +1,7 @@
--- NODES: a list of nodes, linked by `right`, stands for a round of boundary edges, linked by `next`: one node for each proper edge, in the same order. Node i has the edge `edge i`
--- and the angle `angle i`. A node's segment goes from its angle to its right node's. The nodes' counts are then the edges' counts, so the one ring is sound where the other is. Assumes nothing.
+-- NODES: a list of nodes, linked by `right`, stands for a round of boundary edges, linked by `next`: one node for each
+-- proper edge, in the same order. Node i has the edge `edge i` and the angle `angle i`. A node's segment goes from its
+-- angle to its right node's. The nodes' counts are then the edges' counts, so the one ring is sound where the other is.
+-- Assumes nothing.
 use mathlib.Core.Path.{_≡_, refl, sym, _∙_, ap, ap₂, subst}
 use mathlib.Core.Logic.{_≢_}
 use mathlib.Core.Bool.{Bool, true, false}
@@ -21,11 +23,14 @@ nodes next α h e = tally (atEnds proper next α) (walk h next e)
 -- the nodes from s on stand for the h edges from e on
 unfoldable pub Match : (ℕ → ℕ) → (ℕ → ℕ) → (ℕ → ℕ) → (ℕ → ℕ) → (ℕ → ℕ) → ℕ → ℕ → ℕ → Type 0
 Match next α right angle edge zero e s = Unit {0}
-Match next α right angle edge (suc h) e s = (T (atEnds proper next α e) → (edge s ≡ e) × (angle s ≡ α e)) × Match next α right angle edge h (next e) (iter (bit (atEnds proper next α e)) right s)
+Match next α right angle edge (suc h) e s = (T (atEnds proper next α e) → (edge s ≡ e) × (angle s ≡ α e))
+    × Match next α right angle edge h (next e) (iter (bit (atEnds proper next α e)) right s)
 
 module _ (next α right angle edge : ℕ → ℕ) where
   -- parts
-  pub match-split : (h k e s : ℕ) → Match next α right angle edge (h + k) e s → Match next α right angle edge h e s × Match next α right angle edge k (iter h next e) (iter (nodes next α h e) right s)
+  pub match-split : (h k e s : ℕ) → Match next α right angle edge (h + k) e s
+      → Match next α right angle edge h e s
+      × Match next α right angle edge k (iter h next e) (iter (nodes next α h e) right s)
   unfolding Match walk tally
   match-split zero k e s M = (tt, subst (λ (i : ℕ). Match next α right angle edge i e s) (zero-add k) M)
   match-split (suc h) k e s M =
@@ -33,7 +38,9 @@ module _ (next α right angle edge : ℕ → ℕ) where
       let r = match-split h k (next e) (iter (bit (atEnds proper next α e)) right s) (W .1) in
       ((W .0, r .0), subst (Match next α right angle edge k (iter h next (next e))) (sym (iter-add (bit (atEnds proper next α e)) (nodes next α h (next e)) right s)) (r .1))
 
-  pub match-join : (h k e s : ℕ) → Match next α right angle edge h e s → Match next α right angle edge k (iter h next e) (iter (nodes next α h e) right s) → Match next α right angle edge (h + k) e s
+  pub match-join : (h k e s : ℕ) → Match next α right angle edge h e s
+      → Match next α right angle edge k (iter h next e) (iter (nodes next α h e) right s)
+      → Match next α right angle edge (h + k) e s
   unfolding Match walk tally
   match-join zero k e s M R = subst (λ (i : ℕ). Match next α right angle edge i e s) (sym (zero-add k)) R
   match-join (suc h) k e s M R =
@@ -44,13 +51,15 @@ module _ (next α right angle edge : ℕ → ℕ) where
       )
 
   -- the angle that the edges and the nodes begin with is one, if that is so where they end
-  pub begins : (h e s : ℕ) → Match next α right angle edge h e s → α (iter h next e) ≡ angle (iter (nodes next α h e) right s) → α e ≡ angle s
+  pub begins : (h e s : ℕ) → Match next α right angle edge h e s
+      → α (iter h next e) ≡ angle (iter (nodes next α h e) right s) → α e ≡ angle s
   unfolding Match walk tally
   begins zero e s M d = d
   begins (suc h) e s M d =
       go (atEnds proper next α e) (proper? (α e) (α (next e))) (M .0) (begins h (next e) (iter (bit (atEnds proper next α e)) right s) (M .1) (d ∙ ap angle (iter-add (bit (atEnds proper next α e)) (nodes next α h (next e)) right s)))
     where
-      go : (t : Bool) → Tells t (α e ≢ α (next e)) (α e ≡ α (next e)) → (T t → (edge s ≡ e) × (angle s ≡ α e)) → α (next e) ≡ angle (iter (bit t) right s) → α e ≡ angle s
+      go : (t : Bool) → Tells t (α e ≢ α (next e)) (α e ≡ α (next e)) → (T t → (edge s ≡ e) × (angle s ≡ α e))
+          → α (next e) ≡ angle (iter (bit t) right s) → α e ≡ angle s
       go true A m i = sym (m tt .1)
       go false A m i = A .1 tt ∙ i
 
@@ -67,7 +76,8 @@ module _ (next α right angle edge : ℕ → ℕ) where
       go false A m i M d = A .1 tt ∙ i s M (omega arith)
 
   -- COUNTS: a test that no segment from a to a passes is passed by as many nodes as edges
-  pub match-tally : (φ : ℕ → ℕ → Bool) → ((a : ℕ) → bit (φ a a) ≡ 0) → (h e s : ℕ) → Match next α right angle edge h e s → α (iter h next e) ≡ angle (iter (nodes next α h e) right s)
+  pub match-tally : (φ : ℕ → ℕ → Bool) → ((a : ℕ) → bit (φ a a) ≡ 0) → (h e s : ℕ)
+      → Match next α right angle edge h e s → α (iter h next e) ≡ angle (iter (nodes next α h e) right s)
       → tally (atEnds φ next α) (walk h next e) ≡ tally (atEnds φ right angle) (walk (nodes next α h e) right s)
   unfolding Match walk tally
   match-tally φ null zero e s M d = refl
@@ -76,9 +86,12 @@ module _ (next α right angle edge : ℕ → ℕ) where
       let d' : α (iter h next (next e)) ≡ angle (iter (nodes next α h (next e)) right s') = d ∙ ap angle (iter-add (bit (atEnds proper next α e)) (nodes next α h (next e)) right s) in
       go (atEnds proper next α e) (proper? (α e) (α (next e))) (M .0) (begins h (next e) s' (M .1) d') (match-tally φ null h (next e) s' (M .1) d')
     where
-      go : (t : Bool) → Tells t (α e ≢ α (next e)) (α e ≡ α (next e)) → (T t → (edge s ≡ e) × (angle s ≡ α e)) → α (next e) ≡ angle (iter (bit t) right s)
-          → tally (atEnds φ next α) (walk h next (next e)) ≡ tally (atEnds φ right angle) (walk (nodes next α h (next e)) right (iter (bit t) right s))
-          → bit (atEnds φ next α e) + tally (atEnds φ next α) (walk h next (next e)) ≡ tally (atEnds φ right angle) (walk (bit t + nodes next α h (next e)) right s)
+      go : (t : Bool) → Tells t (α e ≢ α (next e)) (α e ≡ α (next e)) → (T t → (edge s ≡ e) × (angle s ≡ α e))
+          → α (next e) ≡ angle (iter (bit t) right s)
+          → tally (atEnds φ next α) (walk h next (next e))
+          ≡ tally (atEnds φ right angle) (walk (nodes next α h (next e)) right (iter (bit t) right s))
+          → bit (atEnds φ next α e) + tally (atEnds φ next α) (walk h next (next e))
+          ≡ tally (atEnds φ right angle) (walk (bit t + nodes next α h (next e)) right s)
       go true A m b i =
           ap₂ (λ (x y : ℕ). x + y) (ap₂ (λ (x y : ℕ). bit (φ x y)) (sym (m tt .1)) b) i
           ∙ ap (λ (k : ℕ). tally (atEnds φ right angle) (walk k right s)) (sym (one (nodes next α h (next e))))
@@ -111,7 +124,10 @@ module _ (next α right angle edge : ℕ → ℕ) where
   match-of zero e s A = tt
   match-of (suc h) e s A = (λ t. A zero (omega arith) t, match-of h (next e) (iter (bit (atEnds proper next α e)) right s) (λ k l t. back k (A (suc k) (omega arith) t)))
     where
-      back : (k : ℕ) → (edge (iter (bit (atEnds proper next α e) + nodes next α k (next e)) right s) ≡ iter k next (next e)) × (angle (iter (bit (atEnds proper next α e) + nodes next α k (next e)) right s) ≡ α (iter k next (next e)))
+      back : (k : ℕ)
+          → (edge (iter (bit (atEnds proper next α e) + nodes next α k (next e)) right s) ≡ iter k next (next e))
+          ×
+          (angle (iter (bit (atEnds proper next α e) + nodes next α k (next e)) right s) ≡ α (iter k next (next e)))
           → (edge (iter (nodes next α k (next e)) right (iter (bit (atEnds proper next α e)) right s)) ≡ iter k next (next e))
           × (angle (iter (nodes next α k (next e)) right (iter (bit (atEnds proper next α e)) right s)) ≡ α (iter k next (next e)))
       back k r = let c = iter-add (bit (atEnds proper next α e)) (nodes next α k (next e)) right s in (ap edge (sym c) ∙ r .0, ap angle (sym c) ∙ r .1)
@@ -125,7 +141,8 @@ pub record Kept (next α right angle edge next' α' right' angle' edge' : ℕ �
   pub angle-same : (j : ℕ) → j < nodes next α n r → angle' (iter j right t) ≡ angle (iter j right t)
   pub right-same : (j : ℕ) → suc j < nodes next α n r → right' (iter j right t) ≡ right (iter j right t)
 
-module _ {next α right angle edge next' α' right' angle' edge' : ℕ → ℕ} {n r t : ℕ} (K : Kept next α right angle edge next' α' right' angle' edge' n r t) where
+module _ {next α right angle edge next' α' right' angle' edge' : ℕ → ℕ} {n r t : ℕ}
+    (K : Kept next α right angle edge next' α' right' angle' edge' n r t) where
   kept-after : (k : ℕ) → k < n → iter k next' r ≡ iter k next r
   kept-after k l = iter-ext next next' k r (λ j m. K .step j (omega arith))
 
@@ -140,7 +157,8 @@ module _ {next α right angle edge next' α' right' angle' edge' : ℕ → ℕ} 
   kept-match M = match-of next' α' right' angle' edge' n r t (λ k l u. there k l (subst (λ (y : ℕ). T (atEnds proper next' α' y)) (kept-after k l) u))
     where
       there : (k : ℕ) → k < n → T (atEnds proper next' α' (iter k next r))
-          → (edge' (iter (nodes next' α' k r) right' t) ≡ iter k next' r) × (angle' (iter (nodes next' α' k r) right' t) ≡ α' (iter k next' r))
+          → (edge' (iter (nodes next' α' k r) right' t) ≡ iter k next' r)
+          × (angle' (iter (nodes next' α' k r) right' t) ≡ α' (iter k next' r))
       there k l u =
           let u' : T (atEnds proper next α (iter k next r)) = subst T (kept-arc proper k l) u in
           let b = tally-before (atEnds proper next α) next n r k l u' in

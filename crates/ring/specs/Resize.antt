@@ -1,5 +1,5 @@
--- The number of buckets: `adjust_bucket_size_if_necessary`. It stays 8 times a power of two, and within the lent row; the buckets are then filled anew. The ceiling and the width are those
--- of crate segment. Assumes nothing.
+-- The number of buckets: `adjust_bucket_size_if_necessary`. It stays 8 times a power of two, and within the lent row;
+-- the buckets are then filled anew. The ceiling and the width are those of crate segment. Assumes nothing.
 use mathlib.Core.Path.{_≡_, refl, sym, _∙_, ap, subst}
 use mathlib.Core.Bool.{Bool, true, false, cond, _&&_}
 use Prim.Native.Nat.{ℕ, zero, suc, _+_, _*_, _/_, _%_, _^_, _<_, _≤_}
@@ -23,7 +23,8 @@ unfoldable pub adjustedBuckets : ℕ → ℕ → ℕ
 adjustedBuckets num size = cond (ltb (num * 2) size) (num * 2) (cond (ltb (size * 4) num && ltb 16 num && leb 16 (num / 4)) (num / 4) num)
 
 -- by what it is
-adjusted : (P : ℕ → Type 0) (num size : ℕ) → (num * 2 < size → P (num * 2)) → (16 ≤ num / 4 → P (num / 4)) → P num → P (adjustedBuckets num size)
+adjusted : (P : ℕ → Type 0) (num size : ℕ) → (num * 2 < size → P (num * 2)) → (16 ≤ num / 4 → P (num / 4)) → P num
+    → P (adjustedBuckets num size)
 unfolding adjustedBuckets
 adjusted P num size up down same = go (ltb (num * 2) size) (ltb (size * 4) num && ltb 16 num && leb 16 (num / 4)) (ltb→lt (num * 2) size)
     (λ t. down (leb→le 16 (num / 4) (and-right (ltb (size * 4) num && ltb 16 num) (leb 16 (num / 4)) t)))
@@ -80,7 +81,8 @@ unfolding ceiling
 ceiling-bucket x B = refl
 
 -- ---- buckets filled anew, another number of them: the nodes from the old bucket 0's on, each to its range
-pub ring-refilled : {C : Counts} {L : Links} (W : Wf C L) {α left right angle edge bucket bucket' : ℕ → ℕ} {B B' size : ℕ} → RingOf C L α left right angle edge bucket B size → Buckets B'
+pub ring-refilled : {C : Counts} {L : Links} (W : Wf C L) {α left right angle edge bucket bucket' : ℕ → ℕ}
+    {B B' size : ℕ} → RingOf C L α left right angle edge bucket B size → Buckets B'
     → Filling right angle bucket' B' (width B') (bucket 0) size → RingOf C L α left right angle edge bucket' B' size
 ring-refilled {C} {L} W {α} {left} {right} {angle} {edge} {bucket} {bucket'} {B} {B'} {size} R b F =
     let H = R .hull in

@@ -1,5 +1,6 @@
--- THE INVARIANT: the nodes and buckets are the ring of the mesh's boundary. It names rows and numbers only, and starts at the node of bucket 0; from any boundary edge there is a node with
--- which the theory's `Hull` holds, and the other way round. What leaves the boundary leaves it, and an insert carries it over a step. Assumes nothing.
+-- THE INVARIANT: the nodes and buckets are the ring of the mesh's boundary. It names rows and numbers only, and starts
+-- at the node of bucket 0; from any boundary edge there is a node with which the theory's `Hull` holds, and the other
+-- way round. What leaves the boundary leaves it, and an insert carries it over a step. Assumes nothing.
 use mathlib.Core.Path.{_≡_, refl, sym, _∙_, ap, ap₂, subst}
 use mathlib.Core.Bool.{Bool, _&&_, cond}
 use Prim.Native.Nat.{ℕ, suc, _+_, _-_, _%_, _<_, _≤_}
@@ -36,7 +37,8 @@ use Rattle.ring.specs.Covered.{Covered}
 
 -- B buckets; `size` nodes
 pub record RingOf (C : Counts) (L : Links) (α left right angle edge bucket : ℕ → ℕ) (B size : ℕ) : Type 0 where
-  pub hull : Hull fullTurn (L .next) (edgeAngle L α) left right angle edge bucket (edge (bucket 0)) (boundaryLength C L) (bucket 0) B (width B)
+  pub hull : Hull fullTurn (L .next) (edgeAngle L α) left right angle edge bucket (edge (bucket 0))
+      (boundaryLength C L) (bucket 0) B (width B)
   pub in-use : In C (edge (bucket 0))
   pub outer : L .face (edge (bucket 0)) ≡ 0
   pub count : nodes (L .next) (edgeAngle L α) (boundaryLength C L) (edge (bucket 0)) ≡ size
@@ -51,7 +53,8 @@ module _ {C : Counts} {L : Links} (W : Wf C L) (α : ℕ → ℕ) (t : T (isSoun
   place k = first-below (boundaryLength C L) (isKth k)
 
   place-is : (k : ℕ) → k < nodes (L .next) (edgeAngle L α) (boundaryLength C L) e
-      → (place k < boundaryLength C L) × T (atEnds proper (L .next) (edgeAngle L α) (iter (place k) (L .next) e)) × (nodes (L .next) (edgeAngle L α) (place k) e ≡ k)
+      → (place k < boundaryLength C L) × T (atEnds proper (L .next) (edgeAngle L α) (iter (place k) (L .next) e))
+      × (nodes (L .next) (edgeAngle L α) (place k) e ≡ k)
   unfolding place isKth
   place-is k u =
       let r = kth (atEnds proper (L .next) (edgeAngle L α)) (L .next) (boundaryLength C L) e k u in
@@ -76,14 +79,17 @@ module _ {C : Counts} {L : Links} (W : Wf C L) (α : ℕ → ℕ) (t : T (isSoun
   })
 
 -- the nodes' angles are on the circle
-pub node-low : {N : ℕ} {next α left right angle edge bucket : ℕ → ℕ} {e h s B w : ℕ} → Hull N next α left right angle edge bucket e h s B w → (k : ℕ) → k < nodes next α h e → angle (iter k right s) ≤ N
+pub node-low : {N : ℕ} {next α left right angle edge bucket : ℕ → ℕ} {e h s B w : ℕ}
+    → Hull N next α left right angle edge bucket e h s B w → (k : ℕ) → k < nodes next α h e
+    → angle (iter k right s) ≤ N
 node-low {N} {next} {α} {left} {right} {angle} {edge} {bucket} {e} {h} {s} H k u =
     let r = node-place H (iter k right s) (k, u, refl) in
     subst (λ (x : ℕ). x ≤ N) (ap α (sym (r .2)) ∙ node-edge (H .ring) k u .0) (H .low (r .0) (r .1))
 
 -- ---- from any boundary edge, and back
 module _ {C : Counts} {L : Links} (W : Wf C L) {α left right angle edge bucket : ℕ → ℕ} {B : ℕ} where
-  pub ring-of : {e s : ℕ} → In C e → L .face e ≡ 0 → Hull fullTurn (L .next) (edgeAngle L α) left right angle edge bucket e (boundaryLength C L) s B (width B)
+  pub ring-of : {e s : ℕ} → In C e → L .face e ≡ 0
+      → Hull fullTurn (L .next) (edgeAngle L α) left right angle edge bucket e (boundaryLength C L) s B (width B)
       → RingOf C L α left right angle edge bucket B (nodes (L .next) (edgeAngle L α) (boundaryLength C L) e)
   ring-of {e} l o H =
       let r = node-place H (bucket 0) (H .buckets 0 (let b = H .sized .eight in omega arith) .0) in
@@ -100,7 +106,9 @@ module _ {C : Counts} {L : Links} (W : Wf C L) {α left right angle edge bucket 
     ring-sound-ring = outer-sound W α (R .in-use) (R .outer) (R .hull .ring .sound)
 
     pub ring-from : {e : ℕ} → In C e → L .face e ≡ 0
-        → (s : ℕ) × Hull fullTurn (L .next) (edgeAngle L α) left right angle edge bucket e (boundaryLength C L) s B (width B) × (nodes (L .next) (edgeAngle L α) (boundaryLength C L) e ≡ size)
+        → (s : ℕ)
+        × Hull fullTurn (L .next) (edgeAngle L α) left right angle edge bucket e (boundaryLength C L) s B (width B)
+        × (nodes (L .next) (edgeAngle L α) (boundaryLength C L) e ≡ size)
     ring-from {e} l o =
         let r = outer-on W (R .in-use) (R .outer) l o in
         let a = edgeAngle L α in let d = edge (bucket 0) in let n = boundaryLength C L in (
@@ -117,20 +125,26 @@ module _ {C : Counts} {L : Links} (W : Wf C L) {α left right angle edge bucket 
     ring-located x y m u = node-located W α (R .in-use) (R .outer) (R .hull) x y (subst (λ (i : ℕ). On right i (bucket 0) y) (sym (R .count)) m) u
 
     -- and it is the only one
-    pub ring-node-sole : (x y z : ℕ) → On right size (bucket 0) y → On right size (bucket 0) z → T (atEnds (holds x) right angle y) → T (atEnds (holds x) right angle z) → y ≡ z
+    pub ring-node-sole : (x y z : ℕ) → On right size (bucket 0) y → On right size (bucket 0) z
+        → T (atEnds (holds x) right angle y) → T (atEnds (holds x) right angle z) → y ≡ z
     ring-node-sole x y z (j, u, p) (k, w, q) f g =
         let c = R .count in
         let i = tile-sole (ring-sound (R .hull .ring)) x j k (omega arith) (omega arith) (subst (λ (n : ℕ). T (atEnds (holds x) right angle n)) (sym p) f) (subst (λ (n : ℕ). T (atEnds (holds x) right angle n)) (sym q) g) in
         sym p ∙ ap (λ (n : ℕ). iter n right (bucket 0)) i ∙ q
 
     -- so the node of an edge's first angle is the one that holds it
-    pub ring-left : {e s : ℕ} → Hull fullTurn (L .next) (edgeAngle L α) left right angle edge bucket e (boundaryLength C L) s B (width B) → angle s ≡ edgeAngle L α e
+    pub ring-left : {e s : ℕ}
+        → Hull fullTurn (L .next) (edgeAngle L α) left right angle edge bucket e (boundaryLength C L) s B (width B)
+        → angle s ≡ edgeAngle L α e
     ring-left H = sym (ring-begins (H .ring))
 
 -- ---- what leaves the boundary
 -- the same hull, with links and angles that agree with it along the boundary
-pub hull-same : {N : ℕ} {next α left right angle edge bucket : ℕ → ℕ} {e h s B w : ℕ} (next' α' : ℕ → ℕ) → Hull N next α left right angle edge bucket e h s B w
-    → ((k : ℕ) → k < h → next' (iter k next e) ≡ next (iter k next e)) → ((k : ℕ) → k < h → α' (iter k next e) ≡ α (iter k next e)) → Hull N next' α' left right angle edge bucket e h s B w
+pub hull-same : {N : ℕ} {next α left right angle edge bucket : ℕ → ℕ} {e h s B w : ℕ} (next' α' : ℕ → ℕ)
+    → Hull N next α left right angle edge bucket e h s B w
+    → ((k : ℕ) → k < h → next' (iter k next e) ≡ next (iter k next e))
+    → ((k : ℕ) → k < h → α' (iter k next e) ≡ α (iter k next e))
+    → Hull N next' α' left right angle edge bucket e h s B w
 hull-same {N} {next} {α} {left} {right} {angle} {edge} {bucket} {e} {h} {s} {B} {w} next' α' H same at =
     let S = H .ring .sound in
     let z = kept-tally K proper h (omega arith) in
@@ -171,7 +185,8 @@ hull-same {N} {next} {α} {left} {right} {angle} {edge} {bucket} {e} {h} {s} {B}
       right-same = λ j u. refl;
     }
 
-pub ring-same : {C : Counts} {L L′ : Links} (W : Wf C L) (W′ : Wf C L′) → SameBoundary C L L′ → {α left right angle edge bucket : ℕ → ℕ} {B size : ℕ}
+pub ring-same : {C : Counts} {L L′ : Links} (W : Wf C L) (W′ : Wf C L′) → SameBoundary C L L′
+    → {α left right angle edge bucket : ℕ → ℕ} {B size : ℕ}
     → RingOf C L α left right angle edge bucket B size → RingOf C L′ α left right angle edge bucket B size
 ring-same {C} {L} {L′} W W′ S {α} {left} {right} {angle} {edge} {bucket} {B} {size} R =
     let d = edge (bucket 0) in
@@ -185,15 +200,19 @@ ring-same {C} {L} {L′} W W′ S {α} {left} {right} {angle} {edge} {bucket} {B
       count = ap (λ (n : ℕ). nodes (L′ .next) (edgeAngle L′ α) n d) (length-same W W′ S) ∙ even keeps ∙ R .count;
     }
   where
-    even : ((k : ℕ) → Keeps L L′ (iter k (L .next) (edge (bucket 0)))) → nodes (L′ .next) (edgeAngle L′ α) (boundaryLength C L) (edge (bucket 0)) ≡ nodes (L .next) (edgeAngle L α) (boundaryLength C L) (edge (bucket 0))
+    even : ((k : ℕ) → Keeps L L′ (iter k (L .next) (edge (bucket 0))))
+        → nodes (L′ .next) (edgeAngle L′ α) (boundaryLength C L) (edge (bucket 0))
+        ≡ nodes (L .next) (edgeAngle L α) (boundaryLength C L) (edge (bucket 0))
     even keeps =
         ap (tally (atEnds proper (L′ .next) (edgeAngle L′ α))) (walk-ext (L .next) (L′ .next) (boundaryLength C L) (edge (bucket 0)) (λ k u. keeps k .next))
         ∙ tally-ext (atEnds proper (L .next) (edgeAngle L α)) (atEnds proper (L′ .next) (edgeAngle L′ α)) (L .next) (boundaryLength C L) (edge (bucket 0))
         (λ k u. ap₂ proper (ap α (keeps k .origin)) (ap (edgeAngle L′ α) (keeps k .next) ∙ ap (edgeAngle L′ α) (sym (iter-last k (L .next) (edge (bucket 0)))) ∙ ap α (keeps (suc k) .origin) ∙ ap (edgeAngle L α) (iter-last k (L .next) (edge (bucket 0)))))
 
 -- ---- a fresh build, nodes numbered from 0 along the boundary from e
-pub ring-built : {C : Counts} {L : Links} (W : Wf C L) {α left right angle edge bucket : ℕ → ℕ} {e m B : ℕ} → T (isSoundRing C L α) → In C e → L .face e ≡ 0
-    → Built (L .next) (edgeAngle L α) right angle edge e (boundaryLength C L) m → Linked left right 0 m → ((k : ℕ) → k < boundaryLength C L → edgeAngle L α (iter k (L .next) e) ≤ fullTurn)
+pub ring-built : {C : Counts} {L : Links} (W : Wf C L) {α left right angle edge bucket : ℕ → ℕ} {e m B : ℕ}
+    → T (isSoundRing C L α) → In C e → L .face e ≡ 0
+    → Built (L .next) (edgeAngle L α) right angle edge e (boundaryLength C L) m → Linked left right 0 m
+    → ((k : ℕ) → k < boundaryLength C L → edgeAngle L α (iter k (L .next) e) ≤ fullTurn)
     → Sized fullTurn B (width B) → Bucketed right angle bucket B (width B) 0 m → RingOf C L α left right angle edge bucket B m
 ring-built {C} {L} W {α} {left} {right} {angle} {edge} {bucket} {e} {m} {B} t l o A K low Z U =
     subst (RingOf C L α left right angle edge bucket B) (A .size)
@@ -206,7 +225,8 @@ ring-built {C} {L} W {α} {left} {right} {angle} {edge} {bucket} {e} {m} {B} t l
     }))
 
 -- none is freed yet
-pub free-built : {N : ℕ} {next α right angle edge : ℕ → ℕ} {e h m : ℕ} → Sound N next α e h → Built next α right angle edge e h m → (freed : ℕ → ℕ) → Free (On right m 0) freed 0 m
+pub free-built : {N : ℕ} {next α right angle edge : ℕ → ℕ} {e h m : ℕ} → Sound N next α e h
+    → Built next α right angle edge e h m → (freed : ℕ → ℕ) → Free (On right m 0) freed 0 m
 free-built {m = m} S A freed = record {
   live-below = λ x o. subst (λ (y : ℕ). y < m) (sym (built-at S A (o .0) (o .1)) ∙ o .2) (o .1);
   below = λ j u. absurd (omega arith);
@@ -215,20 +235,28 @@ free-built {m = m} S A freed = record {
 }
 
 -- the stack of freed nodes does not depend on the node that one starts from
-pub free-from : {right freed : ℕ → ℕ} {m s y n len : ℕ} → iter m right s ≡ s → On right m s y → Free (On right m s) freed n len → Free (On right m y) freed n len
+pub free-from : {right freed : ℕ → ℕ} {m s y n len : ℕ} → iter m right s ≡ s → On right m s y
+    → Free (On right m s) freed n len → Free (On right m y) freed n len
 free-from {right} {freed} {m} {s} {y} c (k, u, z) F = free-fewer (λ x o. on-from x c k (subst (λ (i : ℕ). On right m i x) (sym z) o)) F
 
-pub free-to : {right freed : ℕ → ℕ} {m s y n len : ℕ} → iter m right s ≡ s → On right m s y → Free (On right m y) freed n len → Free (On right m s) freed n len
+pub free-to : {right freed : ℕ → ℕ} {m s y n len : ℕ} → iter m right s ≡ s → On right m s y
+    → Free (On right m y) freed n len → Free (On right m s) freed n len
 free-to {right} {freed} {m} {s} {y} c (k, u, z) F = free-fewer (λ x o. subst (λ (i : ℕ). On right m i x) z (on-to x c k o)) F
 
--- ---- AN INSERT, across a step: from what the ring's code stores, and from the boundary that the step's faces left; `next` and α are those of the boundary before
-module _ {C′ : Counts} {L′ : Links} (W′ : Wf C′ L′) {next α α′ left right angle edge bucket left' right' angle' edge' freed freed₁ freed₂ : ℕ → ℕ} {e m n s l p q r t v u s' B f f₁ f₂ len len₁ : ℕ}
+-- ---- AN INSERT, across a step: from what the ring's code stores, and from the boundary that the step's faces left;
+-- `next` and α are those of the boundary before
+module _ {C′ : Counts} {L′ : Links} (W′ : Wf C′ L′)
+    {next α α′ left right angle edge bucket left' right' angle' edge' freed freed₁ freed₂ : ℕ → ℕ}
+    {e m n s l p q r t v u s' B f f₁ f₂ len len₁ : ℕ}
     (H : Hull fullTurn next α left right angle edge bucket e (m + n) s B (width B)) (K : Covered next α C′ L′ α′ e m n l p q r)
-    (k : ℕ) (k-in : k < m) (k-holds : T (atEnds (holds q) next α (iter k next e))) (F : Fit fullTurn next α e m n q r) (q-low : q ≤ fullTurn)
+    (k : ℕ) (k-in : k < m) (k-holds : T (atEnds (holds q) next α (iter k next e))) (F : Fit fullTurn next α e m n q r)
+    (q-low : q ≤ fullTurn)
     (t-is : iter (nodes next α m e) right s ≡ t) (A : Free (On right (nodes next α (m + n) e) s) freed f len)
     (U : Pushed right freed freed₁ s (nodes next α m e) f) (X : Taken freed₁ (f + (nodes next α m e - 1)) len v f₁ len₁)
-    (M : Names left freed₁ freed₂ s v u s' (α e) q f₁ f₂) (S : Stores left right angle edge left' right' angle' edge' s t v u l p q (α e)) where
-  module _ {bucket₁ bucket' : ℕ → ℕ} (left-range : (i : ℕ) → i < B → bucket₁ i ≡ cond (within i (ceiling (width B) (α e) % B) (ceiling (width B) q % B)) s' (bucket i))
+    (M : Names left freed₁ freed₂ s v u s' (α e) q f₁ f₂)
+    (S : Stores left right angle edge left' right' angle' edge' s t v u l p q (α e)) where
+  module _ {bucket₁ bucket' : ℕ → ℕ}
+      (left-range : (i : ℕ) → i < B → bucket₁ i ≡ cond (within i (ceiling (width B) (α e) % B) (ceiling (width B) q % B)) s' (bucket i))
       (right-range : (i : ℕ) → i < B → bucket' i ≡ cond (within i (ceiling (width B) q % B) (ceiling (width B) (α r) % B)) v (bucket₁ i)) where
     after : Hull fullTurn (L′ .next) (edgeAngle L′ α′) left' right' angle' edge' bucket' l (boundaryLength C′ L′) s' B (width B)
     after = subst (λ (i : ℕ). Hull fullTurn (L′ .next) (edgeAngle L′ α′) left' right' angle' edge' bucket' l i s' B (width B)) (sym (K .length))

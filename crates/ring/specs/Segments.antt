@@ -1,5 +1,7 @@
--- Segments of a circle of N places: the segment from a to b holds the places from a up to and without b, going up, and past N back at 0 where b is less than a.
--- What a segment holds is told by three order tests, and that is an equation of 0s and 1s (`held`), from which all about rings follows by adding up. Assumes nothing.
+-- Segments of a circle of N places: the segment from a to b holds the places from a up to and without b, going up, and
+-- past N back at 0 where b is less than a.
+-- What a segment holds is told by three order tests, and that is an equation of 0s and 1s (`held`), from which all
+-- about rings follows by adding up. Assumes nothing.
 use mathlib.Core.Path.{_≡_, refl}
 use mathlib.Core.Logic.{_≢_}
 use mathlib.Core.Bool.{Bool, true, false, not, cond, _&&_, _||_}
@@ -16,7 +18,8 @@ pub held : (x a b : ℕ) → bit (holds x a b) + bit (leb b x) ≡ bit (wraps a 
 unfolding holds wraps
 held x a b = go (ltb a b) (ltb b a) (leb a x) (leb b x) (ltb x b) (lt? a b) (lt? b a) (le? a x) (le? b x) (lt? x b)
   where
-    go : (u v c d e : Bool) → Tells u (a < b) (b ≤ a) → Tells v (b < a) (a ≤ b) → Tells c (a ≤ x) (x < a) → Tells d (b ≤ x) (x < b) → Tells e (x < b) (b ≤ x)
+    go : (u v c d e : Bool) → Tells u (a < b) (b ≤ a) → Tells v (b < a) (a ≤ b) → Tells c (a ≤ x) (x < a)
+        → Tells d (b ≤ x) (x < b) → Tells e (x < b) (b ≤ x)
         → bit (cond u (c && e) (cond v (c || e) false)) + bit d ≡ bit v + bit c
     go u v c true true A B C D E = absurd (let p = D .0 tt in let q = E .0 tt in omega arith)
     go u v c false false A B C D E = absurd (let p = D .1 tt in let q = E .1 tt in omega arith)
@@ -45,7 +48,8 @@ pub holds→ : (x a b : ℕ) → T (holds x a b) → Holds x a b
 unfolding holds
 holds→ x a b h = go (ltb a b) (ltb b a) (leb a x) (ltb x b) (lt? a b) (lt? b a) (le? a x) (lt? x b) h
   where
-    go : (u v c e : Bool) → Tells u (a < b) (b ≤ a) → Tells v (b < a) (a ≤ b) → Tells c (a ≤ x) (x < a) → Tells e (x < b) (b ≤ x) → T (cond u (c && e) (cond v (c || e) false)) → Holds x a b
+    go : (u v c e : Bool) → Tells u (a < b) (b ≤ a) → Tells v (b < a) (a ≤ b) → Tells c (a ≤ x) (x < a)
+        → Tells e (x < b) (b ≤ x) → T (cond u (c && e) (cond v (c || e) false)) → Holds x a b
     go true v true true A B C E h = plain (A .0 tt) (C .0 tt) (E .0 tt)
     go true v true false A B C E h = absurd h
     go true v false e A B C E h = absurd h

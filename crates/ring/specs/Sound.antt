@@ -1,4 +1,5 @@
--- Rounds: s, f s, f (f s), .. n steps on and back at s. How many of its edges pass a test is a sum over the walk; an edge e goes from the angle α e to the angle α (f e).
+-- Rounds: s, f s, f (f s), .. n steps on and back at s. How many of its edges pass a test is a sum over the walk; an
+-- edge e goes from the angle α e to the angle α (f e).
 -- TILE: in a round with one wrapping edge each place is held by exactly one edge. Assumes nothing.
 use mathlib.Core.Path.{_≡_, refl, _∙_, ap}
 use mathlib.Core.Bool.{Bool}
@@ -14,7 +15,9 @@ use Rattle.sums.specs.Iterate.{iter, iter-last}
 use Rattle.sums.specs.Tally.{First, first, sole, tally, tally-turn, walk}
 
 -- ---- the count of edges that hold x, along a walk: those that wrap, and 1 more or less by where the walk begins and ends
-pub held-along : (f α : ℕ → ℕ) (x n s : ℕ) → tally (atEnds (holds x) f α) (walk n f s) + bit (leb (α (iter n f s)) x) ≡ tally (atEnds wraps f α) (walk n f s) + bit (leb (α s) x)
+pub held-along : (f α : ℕ → ℕ) (x n s : ℕ)
+    → tally (atEnds (holds x) f α) (walk n f s) + bit (leb (α (iter n f s)) x)
+    ≡ tally (atEnds wraps f α) (walk n f s) + bit (leb (α s) x)
 unfolding tally walk
 held-along f α x zero s = refl
 held-along f α x (suc n) s = let i = held-along f α x n (f s) in let j = held x (α s) (α (f s)) in omega arith

@@ -1,5 +1,7 @@
--- LOCAL CHANGE: in a round of m + n edges from s, the first m (the chain, from s to r) give way to two, l to p and p to r; the other n (the rest, from r) stay.
--- Each count of the new round is the old one less the chain's and with the two; so the new round is sound or not by a few numbers. Assumes nothing.
+-- LOCAL CHANGE: in a round of m + n edges from s, the first m (the chain, from s to r) give way to two, l to p and p to
+-- r; the other n (the rest, from r) stay.
+-- Each count of the new round is the old one less the chain's and with the two; so the new round is sound or not by a
+-- few numbers. Assumes nothing.
 use mathlib.Core.Path.{_≡_, refl, sym, _∙_, ap, ap₂}
 use mathlib.Core.Logic.{_≢_}
 use mathlib.Core.Bool.{Bool}
@@ -57,7 +59,8 @@ module _ {f α f' α' : ℕ → ℕ} {s m n l p q r : ℕ} (P : Spliced f α f' 
 
   -- new + chain = old + the two
   pub local : (φ : ℕ → ℕ → Bool)
-      → tally (atEnds φ f' α') (walk (suc (suc n)) f' l) + tally (atEnds φ f α) (walk m f s) ≡ tally (atEnds φ f α) (walk (m + n) f s) + bit (φ (α s) q) + bit (φ q (α r))
+      → tally (atEnds φ f' α') (walk (suc (suc n)) f' l) + tally (atEnds φ f α) (walk m f s)
+      ≡ tally (atEnds φ f α) (walk (m + n) f s) + bit (φ (α s) q) + bit (φ q (α r))
   unfolding walk tally
   local φ =
       let two : tally (atEnds φ f' α') (walk n f' (f' (f' l))) ≡ tally (atEnds φ f α) (walk n f r) = ap (λ (t : ℕ). tally (atEnds φ f' α') (walk n f' t)) (ap f' (P .l-p) ∙ P .p-r) ∙ rest-arcs φ in
@@ -68,7 +71,8 @@ module _ {f α f' α' : ℕ → ℕ} {s m n l p q r : ℕ} (P : Spliced f α f' 
       omega arith
 
 -- no edge of a walk that comes back to the same angle without wrapping is proper
-pub flat : (f α : ℕ → ℕ) (n r : ℕ) → α (iter n f r) ≡ α r → tally (atEnds wraps f α) (walk n f r) ≡ 0 → tally (atEnds proper f α) (walk n f r) ≡ 0
+pub flat : (f α : ℕ → ℕ) (n r : ℕ) → α (iter n f r) ≡ α r → tally (atEnds wraps f α) (walk n f r) ≡ 0
+    → tally (atEnds proper f α) (walk n f r) ≡ 0
 flat f α n r e z = go (decLt 0 (tally (atEnds proper f α) (walk n f r)))
   where
     go : Dec (0 < tally (atEnds proper f α) (walk n f r)) → tally (atEnds proper f α) (walk n f r) ≡ 0
@@ -93,10 +97,13 @@ pub record Fit (N : ℕ) (f α : ℕ → ℕ) (s m n q r : ℕ) : Type 0 where
 pub record Replaced (new : (ℕ → ℕ → Bool) → ℕ) (f α : ℕ → ℕ) (s m n q r : ℕ) : Type 0 where
   pub right : iter m f s ≡ r
   pub round : iter n f r ≡ s
-  pub local : (φ : ℕ → ℕ → Bool) → new φ + tally (atEnds φ f α) (walk m f s) ≡ tally (atEnds φ f α) (walk (m + n) f s) + bit (φ (α s) q) + bit (φ q (α r))
+  pub local : (φ : ℕ → ℕ → Bool)
+      → new φ + tally (atEnds φ f α) (walk m f s)
+      ≡ tally (atEnds φ f α) (walk (m + n) f s) + bit (φ (α s) q) + bit (φ q (α r))
 
 -- The old round is sound, and an edge of the chain, k steps from s, holds q
-module _ {N : ℕ} {new : (ℕ → ℕ → Bool) → ℕ} {f α : ℕ → ℕ} {s m n q r : ℕ} (S : Sound N f α s (m + n)) (P : Replaced new f α s m n q r) (k : ℕ) (k-in : k < m) (k-holds : T (atEnds (holds q) f α (iter k f s))) where
+module _ {N : ℕ} {new : (ℕ → ℕ → Bool) → ℕ} {f α : ℕ → ℕ} {s m n q r : ℕ} (S : Sound N f α s (m + n))
+    (P : Replaced new f α s m n q r) (k : ℕ) (k-in : k < m) (k-holds : T (atEnds (holds q) f α (iter k f s))) where
   in-chain : tally (atEnds (holds q) f α) (walk m f s) ≡ 1
   in-chain = let a = tally-add (atEnds (holds q) f α) f m n s in let b = tile-count S q in let c = counts (atEnds (holds q) f α) f m s k k-in k-holds in omega arith
 
@@ -149,13 +156,16 @@ module _ {N : ℕ} {new : (ℕ → ℕ → Bool) → ℕ} {f α : ℕ → ℕ} {
       omega arith
 
 -- the same of the links after
-pub spliced-counts : {f α f' α' : ℕ → ℕ} {s m n l p q r : ℕ} → Spliced f α f' α' s m n l p q r → Replaced (λ φ. tally (atEnds φ f' α') (walk (suc (suc n)) f' l)) f α s m n q r
+pub spliced-counts : {f α f' α' : ℕ → ℕ} {s m n l p q r : ℕ} → Spliced f α f' α' s m n l p q r
+    → Replaced (λ φ. tally (atEnds φ f' α') (walk (suc (suc n)) f' l)) f α s m n q r
 spliced-counts P = record { right = P .right; round = P .round; local = local P }
 
 pub sound-counts : {N : ℕ} {f α : ℕ → ℕ} {s n : ℕ} → Sound N f α s n → SoundCounts N (λ φ. tally (atEnds φ f α) (walk n f s))
 sound-counts S = record { three = S .three; once = S .once; gaps = S .gaps }
 
-module _ {N : ℕ} {f α f' α' : ℕ → ℕ} {s m n l p q r : ℕ} (S : Sound N f α s (m + n)) (P : Spliced f α f' α' s m n l p q r) (k : ℕ) (k-in : k < m) (k-holds : T (atEnds (holds q) f α (iter k f s))) where
+module _ {N : ℕ} {f α f' α' : ℕ → ℕ} {s m n l p q r : ℕ} (S : Sound N f α s (m + n))
+    (P : Spliced f α f' α' s m n l p q r) (k : ℕ) (k-in : k < m)
+    (k-holds : T (atEnds (holds q) f α (iter k f s))) where
   pub fit-sound : Fit N f α s m n q r → Sound N f' α' l (suc (suc n))
   fit-sound F = let Z = fit-counts S (spliced-counts P) k k-in k-holds F in record { closed = round-new P; three = Z .three; once = Z .once; gaps = Z .gaps }
 

@@ -1,5 +1,6 @@
 -- The stores of an insert, node by node, make the tables that `Inserted` asks for, and keep the links to the left. Assumes nothing.
--- s is the left node, c nodes on is t, the right one, k nodes on from there is s again; v is the new node, and u the node before it: s, or the node before s if the left angle `al` is q.
+-- s is the left node, c nodes on is t, the right one, k nodes on from there is s again; v is the new node, and u the
+-- node before it: s, or the node before s if the left angle `al` is q.
 use mathlib.Core.Path.{_≡_, sym, _∙_, ap, subst}
 use mathlib.Core.Logic.{_≢_}
 use Prim.Native.Nat.{ℕ, zero, suc, _+_, _-_, _<_}
@@ -40,7 +41,9 @@ pub record Stores (left right angle edge left' right' angle' edge' : ℕ → ℕ
   pub edge-s : al ≢ q → edge' s ≡ l
   pub edge-else : (x : ℕ) → x ≢ s → x ≢ v → edge' x ≡ edge x
 
-module _ {left right angle edge left' right' angle' edge' : ℕ → ℕ} {s c t k v u s' l p q al : ℕ} (B : Before left right s c t k v u s' al q) (S : Stores left right angle edge left' right' angle' edge' s t v u l p q al) (s-angle : angle s ≡ al) where
+module _ {left right angle edge left' right' angle' edge' : ℕ → ℕ} {s c t k v u s' l p q al : ℕ}
+    (B : Before left right s c t k v u s' al q)
+    (S : Stores left right angle edge left' right' angle' edge' s t v u l p q al) (s-angle : angle s ≡ al) where
   at : (d : ℕ) → iter d right t ≡ iter (c + d) right s
   at d = ap (iter d right) (sym (B .t-is)) ∙ sym (iter-add c d right s)
 
@@ -136,7 +139,8 @@ module _ {left right angle edge left' right' angle' edge' : ℕ → ℕ} {s c t 
       go zero l = ap left' r ∙ S .left-v ∙ B .u-stays z
       go (suc i) l = subst (λ (x : ℕ). left' (right' (iter i right' x)) ≡ iter i right' x) (sym r) (linked-v i (omega arith))
 
--- ---- the stores as point updates, in the code's order: right[u] = v, left[t] = v, edge[s] = l if the left node stays, and then the new node's four fields
+-- ---- the stores as point updates, in the code's order: right[u] = v, left[t] = v, edge[s] = l if the left node stays,
+-- and then the new node's four fields
 twice : (f : ℕ → ℕ) (a b c d x : ℕ) → x ≢ a → x ≢ c → put (put f a b) c d x ≡ f x
 twice f a b c d x m n = put-other (put f a b) c d x n ∙ put-other f a b x m
 

@@ -16,12 +16,14 @@ use Rattle.ring.specs.Node.{nodes}
 use Rattle.ring.specs.Insert.{On, Rebucketed, node-sole, ring-sound, ring-proper, size-old, left-some, left-angle, size-new}
 use Rattle.ring.specs.Stores.{Stores, Before, stores-inserted, not-s}
 use Rattle.ring.specs.Free.{Free, free-same, Stay, Pushed, pushed, Taken, taken, taken-sum, taken-fresh, free-stays, free-gone}
-use Rattle.ring.specs.Hull.{Hull, Placed, hull-insert, before}
+use Rattle.ring.specs.Hull.{Hull, InsertNodes, hull-insert, before}
 use Rattle.sums.specs.Bit.{bit, bit-yes}
 use Rattle.sums.specs.Iterate.{iter}
 
 -- two loops over buckets, one after the other
-pub rebucketed : {bucket bucket₁ bucket' : ℕ → ℕ} {B L Q R a v : ℕ} → ((i : ℕ) → i < B → bucket₁ i ≡ cond (within i L Q) a (bucket i)) → ((i : ℕ) → i < B → bucket' i ≡ cond (within i Q R) v (bucket₁ i))
+pub rebucketed : {bucket bucket₁ bucket' : ℕ → ℕ} {B L Q R a v : ℕ}
+    → ((i : ℕ) → i < B → bucket₁ i ≡ cond (within i L Q) a (bucket i))
+    → ((i : ℕ) → i < B → bucket' i ≡ cond (within i Q R) v (bucket₁ i))
     → Rebucketed bucket bucket' B L Q R a v
 rebucketed {bucket} {bucket₁} {bucket'} {B} {L} {Q} {R} {a} {v} f g = record {
   new = λ i l t. g i l ∙ yes-is (within i Q R) t v (bucket₁ i);
@@ -47,11 +49,16 @@ pub record Names (left freed freed' : ℕ → ℕ) (s v u s' al q n n' : ℕ) : 
   pub more : al ≡ q → (n' ≡ suc n) × (freed' n ≡ s)
   pub same : al ≢ q → n' ≡ n
 
-module _ {N : ℕ} {next α left right angle edge bucket next' α' left' right' angle' edge' freed freed₁ freed₂ : ℕ → ℕ} {e m n s l p q r t v u s' B w f f₁ f₂ len len₁ : ℕ}
-    (H : Hull N next α left right angle edge bucket e (m + n) s B w) (P : Spliced next α next' α' e m n l p q r) (k : ℕ) (k-in : k < m) (k-holds : T (atEnds (holds q) next α (iter k next e)))
+module _ {N : ℕ} {next α left right angle edge bucket next' α' left' right' angle' edge' freed freed₁ freed₂ : ℕ → ℕ}
+    {e m n s l p q r t v u s' B w f f₁ f₂ len len₁ : ℕ}
+    (H : Hull N next α left right angle edge bucket e (m + n) s B w) (P : Spliced next α next' α' e m n l p q r)
+    (k : ℕ) (k-in : k < m) (k-holds : T (atEnds (holds q) next α (iter k next e)))
     (F : Fit N next α e m n q r) (q-low : q ≤ N) (t-is : iter (nodes next α m e) right s ≡ t)
-    (A : Free (On right (nodes next α (m + n) e) s) freed f len) (U : Pushed right freed freed₁ s (nodes next α m e) f) (X : Taken freed₁ (f + (nodes next α m e - 1)) len v f₁ len₁)
-    (M : Names left freed₁ freed₂ s v u s' (α e) q f₁ f₂) (S : Stores left right angle edge left' right' angle' edge' s t v u l p q (α e)) where
+    (A : Free (On right (nodes next α (m + n) e) s) freed f len)
+    (U : Pushed right freed freed₁ s (nodes next α m e) f)
+    (X : Taken freed₁ (f + (nodes next α m e - 1)) len v f₁ len₁)
+    (M : Names left freed₁ freed₂ s v u s' (α e) q f₁ f₂)
+    (S : Stores left right angle edge left' right' angle' edge' s t v u l p q (α e)) where
   Z : Sound N next' α' l (suc (suc n))
   Z = fit-sound (H .ring .sound) P k k-in k-holds F
 
@@ -67,7 +74,7 @@ module _ {N : ℕ} {next α left right angle edge bucket next' α' left' right' 
       (subst (λ (i : ℕ). Free (On right i s) freed f len) size A) U
 
   -- the new node is none of those that stay
-  pub placed : Placed left right s t (nodes next α n r) v u s' (α e) q
+  pub placed : InsertNodes left right s t (nodes next α n r) v u s' (α e) q
   placed = record {
     fresh = λ d l z. taken-fresh free₁ X (inr (d, l, z));
     other = λ z y. taken-fresh free₁ X (inl (sym y));
@@ -110,7 +117,10 @@ module _ {N : ℕ} {next α left right angle edge bucket next' α' left' right' 
   pub insert-keeps-total : nodes next α (m + n) e + f ≡ len → nodes next' α' (suc (suc n)) l + f₂ ≡ len₁
   insert-keeps-total g = go (ℕ-discrete (α e) q) (taken-sum X)
     where
-      go : Dec (α e ≡ q) → ((f + (nodes next α m e - 1) ≡ suc f₁) × (len₁ ≡ len)) ⊎ ((f + (nodes next α m e - 1) ≡ 0) × (f₁ ≡ 0) × (len₁ ≡ suc len)) → nodes next' α' (suc (suc n)) l + f₂ ≡ len₁
+      go : Dec (α e ≡ q)
+          → ((f + (nodes next α m e - 1) ≡ suc f₁) × (len₁ ≡ len)) ⊎
+          ((f + (nodes next α m e - 1) ≡ 0) × (f₁ ≡ 0) × (len₁ ≡ suc len))
+          → nodes next' α' (suc (suc n)) l + f₂ ≡ len₁
       go (yes z) (inl y) = let b = ap (λ (x : ℕ). bit (proper (α e) x)) (sym z) ∙ null-proper (α e) in let c = count in let d = size in let h = some in let i = M .more z .0 in omega arith
       go (yes z) (inr y) = let b = ap (λ (x : ℕ). bit (proper (α e) x)) (sym z) ∙ null-proper (α e) in let c = count in let d = size in let h = some in let i = M .more z .0 in omega arith
       go (no z) (inl y) = let b = bit-yes (proper (α e) q) (proper← (α e) q z) in let c = count in let d = size in let h = some in let i = M .same z in omega arith
@@ -120,11 +130,14 @@ module _ {N : ℕ} {next α left right angle edge bucket next' α' left' right' 
   pub insert-keeps-len : nodes next α (m + n) e + f ≡ len → {top : ℕ} → nodes next α (m + n) e ≤ top → len ≤ suc top → len₁ ≤ suc top
   insert-keeps-len g {top} a b = go (taken-sum X)
     where
-      go : ((f + (nodes next α m e - 1) ≡ suc f₁) × (len₁ ≡ len)) ⊎ ((f + (nodes next α m e - 1) ≡ 0) × (f₁ ≡ 0) × (len₁ ≡ suc len)) → len₁ ≤ suc top
+      go : ((f + (nodes next α m e - 1) ≡ suc f₁) × (len₁ ≡ len)) ⊎
+          ((f + (nodes next α m e - 1) ≡ 0) × (f₁ ≡ 0) × (len₁ ≡ suc len)) → len₁ ≤ suc top
       go (inl y) = omega arith
       go (inr y) = omega arith
 
   -- THE HULL
-  pub insert-keeps-hull : {bucket₁ bucket' : ℕ → ℕ} → ((i : ℕ) → i < B → bucket₁ i ≡ cond (within i (ceiling w (α e) % B) (ceiling w q % B)) s' (bucket i))
-      → ((i : ℕ) → i < B → bucket' i ≡ cond (within i (ceiling w q % B) (ceiling w (α r) % B)) v (bucket₁ i)) → Hull N next' α' left' right' angle' edge' bucket' l (suc (suc n)) s' B w
+  pub insert-keeps-hull : {bucket₁ bucket' : ℕ → ℕ}
+      → ((i : ℕ) → i < B → bucket₁ i ≡ cond (within i (ceiling w (α e) % B) (ceiling w q % B)) s' (bucket i))
+      → ((i : ℕ) → i < B → bucket' i ≡ cond (within i (ceiling w q % B) (ceiling w (α r) % B)) v (bucket₁ i))
+      → Hull N next' α' left' right' angle' edge' bucket' l (suc (suc n)) s' B w
   insert-keeps-hull {bucket₁} {bucket'} a b = hull-insert H P k k-in k-holds F q-low t-is placed S (rebucketed {bucket₁ = bucket₁} a b)

@@ -1,5 +1,6 @@
-// A new vertex enters the ring (bulk_load.rs, `Hull::insert`): the nodes that its two edges cover go, one is made for it, the buckets follow; and the number of buckets
-// (`adjust_bucket_size_if_necessary`). Over the rows of the ring alone; what it does to the ring of a mesh is in crate `hull`.
+// A new vertex enters the ring (bulk_load.rs, `Hull::insert`): the nodes that its two edges cover go, one is made for
+// it, the buckets follow; and the number of buckets (`adjust_bucket_size_if_necessary`). Over the rows of the ring
+// alone; what it does to the ring of a mesh is in crate `hull`.
 ghost use mathlib.Core.Path.{_≡_};
 ghost use Prim.Native.Nat.{_+_, _-_, _<_, _≤_, _^_};
 ghost use lib.ListN.{length};
@@ -61,7 +62,8 @@ pub fn is_fit(left: f64, middle: f64, right: f64, chain: u32, size: u32) -> bool
 // The nodes strictly between `first` and the node of an angle, going right, are freed.
 fn release(nodes: &[[u64; 4]], freed: &mut [u32], top: u32, first: u32, angle: f64) -> Released
     requires { ⌜ ToRelease (now nodes) (now freed) top first angle ⌝ }
-    ensures { λ r. ⌜ ReleasedTo (nodesOf (now (nodes .entry))) (now (freed .entry)) (now (freed .exit)) top first (turns angle) (r .right) (r .freed) ⌝ }
+    ensures { λ r. ⌜ ReleasedTo (nodesOf (now (nodes .entry))) (now (freed .entry)) (now (freed .exit)) top first
+        (turns angle) (r .right) (r .freed) ⌝ }
 {
     let from = ring_rows::load(nodes, first);
     let mut i = from.right;
@@ -167,7 +169,8 @@ fn update_buckets(
     node: u32,
 )
     requires { ⌜ IsAngle left × IsAngle middle × IsAngle right × Buckets count × (count ≤ length (now buckets)) ⌝ }
-    ensures { λ r. ⌜ Rebuckets (now (buckets .entry)) (now (buckets .exit)) count (ceilOf (turns left) count) (ceilOf (turns middle) count) (ceilOf (turns right) count) start node ⌝ }
+    ensures { λ r. ⌜ Rebuckets (now (buckets .entry)) (now (buckets .exit)) count (ceilOf (turns left) count)
+        (ceilOf (turns middle) count) (ceilOf (turns right) count) start node ⌝ }
 {
     let first = segment::ceiled_bucket(left, count);
     let second = segment::ceiled_bucket(middle, count);
@@ -212,7 +215,8 @@ pub fn adjust_bucket_size_if_necessary(nodes: &[[u64; 4]], buckets: &mut [u32], 
     }
 }
 
-// `insert`: a vertex at the angle `middle` has entered the boundary between those of the angles `left` and `right`, with the edges `leftedge` to it and `rightedge` from it.
+// `insert`: a vertex at the angle `middle` has entered the boundary between those of the angles `left` and `right`,
+// with the edges `leftedge` to it and `rightedge` from it.
 pub fn insert(
     nodes: &mut [[u64; 4]],
     freed: &mut [u32],
@@ -225,7 +229,8 @@ pub fn insert(
     rightedge: u32,
 ) -> Hull
     requires { ⌜ ToInsert (now nodes) (now freed) (now buckets) hull left middle right ⌝ }
-    ensures { λ r. ⌜ InsertedRows (now (nodes .entry)) (now (freed .entry)) (now (buckets .entry)) (now (nodes .exit)) (now (freed .exit)) (now (buckets .exit)) hull left middle right leftedge rightedge r ⌝ }
+    ensures { λ r. ⌜ InsertedRows (now (nodes .entry)) (now (freed .entry)) (now (buckets .entry))
+        (now (nodes .exit)) (now (freed .exit)) (now (buckets .exit)) hull left middle right leftedge rightedge r ⌝ }
 {
     let found = ring_rows::get(nodes, buckets, hull, left);
     let goes = angle::equal(left, middle);

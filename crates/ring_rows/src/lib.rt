@@ -1,4 +1,5 @@
-// The ring in the rows that the caller lends (bulk_load.rs, `Hull`, `Node`): a node is four numbers, its angle's bits, its edge, its left and its right node.
+// The ring in the rows that the caller lends (bulk_load.rs, `Hull`, `Node`): a node is four numbers, its angle's bits,
+// its edge, its left and its right node.
 // `load`, `store` and the three relinks are all that touches the row; everything else works with `Node` by value.
 ghost use mathlib.Core.Path.{_≡_};
 ghost use Prim.Native.Nat.{_<_, _≤_};
@@ -95,7 +96,8 @@ pub fn set_left(nodes: &mut [[u64; 4]], i: u32, left: u32)
 
 pub fn set_right(nodes: &mut [[u64; 4]], i: u32, right: u32)
     requires { ⌜ (i < length (now nodes)) × Readable (nodesOf (now nodes) i) ⌝ }
-    ensures { λ r. ⌜ nodesOf (now (nodes .exit)) ≡ put (nodesOf (now (nodes .entry))) i (withRight (nodesOf (now (nodes .entry)) i) right) ⌝ }
+    ensures { λ r. ⌜ nodesOf (now (nodes .exit))
+        ≡ put (nodesOf (now (nodes .entry))) i (withRight (nodesOf (now (nodes .entry)) i) right) ⌝ }
 {
     let node = load(nodes, i);
     store(
@@ -113,7 +115,8 @@ pub fn set_right(nodes: &mut [[u64; 4]], i: u32, right: u32)
 // The node whose segment holds an angle, from the node of the angle's bucket on to the right.
 pub fn get(nodes: &[[u64; 4]], buckets: &[u32], hull: Hull, angle: f64) -> Found
     requires { ⌜ RingRows (now nodes) (now buckets) hull × T (validAngle angle) ⌝ }
-    ensures { λ r. ⌜ Got (nodesOf (now (nodes .entry))) (sizeOf hull) (rowOf (now (buckets .entry)) (floorOf (turns angle) (hull .buckets))) (turns angle) r ⌝ }
+    ensures { λ r. ⌜ Got (nodesOf (now (nodes .entry))) (sizeOf hull)
+        (rowOf (now (buckets .entry)) (floorOf (turns angle) (hull .buckets))) (turns angle) r ⌝ }
 {
     let bucket = segment::floored_bucket(angle, hull.buckets as usize);
     let mut handle = buckets[bucket];
@@ -181,7 +184,8 @@ pub fn initialize_buckets(
     size: u32,
 )
     requires { ⌜ ToFill (now nodes) (now buckets) count start size ⌝ }
-    ensures { λ r. ⌜ Bucketed (rightOf (nodesOf (now (nodes .entry)))) (angleOf (nodesOf (now (nodes .entry)))) (rowOf (now (buckets .exit))) count (width count) start size ⌝ }
+    ensures { λ r. ⌜ Bucketed (rightOf (nodesOf (now (nodes .entry)))) (angleOf (nodesOf (now (nodes .entry))))
+        (rowOf (now (buckets .exit))) count (width count) start size ⌝ }
 {
     let mut i = start;
     let mut k: u32 = 0;

@@ -10,10 +10,9 @@ use lib.Dec.{ltb, leb}
 use lib.Ieee.{Float}
 use lib.IntN.{ℤ}
 use lib.ListN.{length, getD, replicate}
-use lib.Seq.{ext-getD}
 use Rattle.convexity.specs.ConvexityRows.{MeshReady}
 use Rattle.dcel.specs.Rows.{linksOf, positionOf, rowOf, rowFrom}
-use Rattle.dcel.specs.Views.{length-from, getD-from, outs-from, halves-from, faces-from, positions-from}
+use Rattle.dcel.specs.Views.{from-entries, outs-from, halves-from, faces-from, positions-from}
 use Rattle.finish.specs.declared.Ended.{Ended}
 use Rattle.finish.specs.declared.FinishAnswer.{FinishAnswer}
 use Rattle.finish.specs.declared.Finished.{Finished}
@@ -46,8 +45,8 @@ answers-from : (old mid new : List ℕ) (step : ℕ → Stepping) (answered coun
 unfolding rowOf answersAfter
 answers-from old mid new step answered count most k e Z =
     let f = answersAfter step answered count (rowOf old) in
-    ext-getD 0 new (rowFrom (length old) f) (k ∙ sym (length-from (length old) f))
-    (λ x l. Z .each x ∙ at x (decLt x (5 * answered)) (decLt x (5 * count)) ∙ sym (getD-from (length old) f 0 x (omega arith)))
+    from-entries new f 0 (λ x. Z .each x ∙ at x (decLt x (5 * answered)) (decLt x (5 * count)))
+    ∙ ap (λ (n : ℕ). rowFrom n f) k
   where
     at : (x : ℕ) → Dec (x < 5 * answered) → Dec (x < 5 * count)
         → cond (leb (5 * answered) x && ltb x (5 * count)) 0 (getD mid x 0) ≡ cond (ltb x (5 * count)) (cond (ltb (x / 5) answered) (answerWord (step (x / 5)) (x % 5)) 0) (getD old x 0)

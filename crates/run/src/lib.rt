@@ -7,7 +7,6 @@ ghost use Prim.Native.Nat.{ℕ, _+_, _*_, _≤_};
 ghost use lib.Dec.{ltb};
 ghost use lib.ListN.{length};
 ghost use Rattle.dcel.specs.Rows.{rowOf};
-ghost use Rattle.decide.specs.Decide.{fateNumber, fateVertex};
 ghost use Rattle.finish.specs.declared.Finished.{Finished};
 ghost use Rattle.finish.specs.declared.Totals.{Totals};
 ghost use Rattle.finish.specs.FinishRows.{finishingOf};
@@ -17,7 +16,6 @@ ghost use Rattle.sweep.specs.Run.{lent, outcome, finishAfter, runChecked, runOf
 ghost use Rattle.sweep.specs.Demand3.{Demand3};
 ghost use Rattle.run.specs.RunRows.{withAnswer, Zeroed, sweepingOf, SweepReady, SweepLeaves, FinishReady};
 use angle::Point2;
-use decide::Fate;
 use finish::Ended;
 use finish::FinishAnswer;
 use finish::Finished;
@@ -28,37 +26,12 @@ use mesh_check::Checked;
 use ring_rows::Hull;
 use sweep::Answer;
 
-// Where the steps have come to: the mesh's counts, how many points have been answered, and whether a flip's pushes would have overfilled the pending list.
+// Where the steps have come to: the mesh's counts, how many points have been answered, and whether a flip's pushes
+// would have overfilled the pending list.
 pub struct SweepEnd {
     pub counts: Counts,
     pub answered: u32,
     pub full: bool,
-}
-
-// 01's number of a fate.
-pub fn fate_number(fate: Fate) -> u64
-    ensures { λ r. ⌜ r ≡ fateNumber fate ⌝ }
-{
-    match fate {
-        Fate::Added(_) => 1,
-        Fate::Dropped => 2,
-        Fate::NotLeft => 3,
-        Fate::Unsound => 4,
-        Fate::AtCenter => 5,
-    }
-}
-
-// The new vertex; 0 unless the fate is 1.
-pub fn fate_vertex(fate: Fate) -> u64
-    ensures { λ r. ⌜ r ≡ fateVertex fate ⌝ }
-{
-    match fate {
-        Fate::Added(v) => v as u64,
-        Fate::Dropped => 0,
-        Fate::NotLeft => 0,
-        Fate::Unsound => 0,
-        Fate::AtCenter => 0,
-    }
 }
 
 // The answer of point i, in five words.
@@ -68,8 +41,8 @@ fn store_answer(answers: &mut [u64], i: u32, answer: Answer)
 {
     let at = 5 * (i as usize);
     let fate = answer.fate;
-    answers[at] = fate_number(fate);
-    answers[at + 1] = fate_vertex(fate);
+    answers[at] = decide::fate_number(fate);
+    answers[at + 1] = decide::fate_vertex(fate);
     answers[at + 2] = answer.faces as u64;
     answers[at + 3] = answer.flips.high;
     answers[at + 4] = answer.flips.low;
@@ -262,7 +235,8 @@ pub fn run(
         (now (nodes .entry)) (now (freed .entry)) (now (buckets .entry)) (now (pending .entry)) (now (answers .entry))
         (center .x) (center .y) (now (points .entry)))
         (outcome r (now (positions .exit)) (now (outs .exit)) (now (halves .exit)) (now (faces .exit))
-        (now (nodes .exit)) (now (freed .exit)) (now (buckets .exit)) (now (pending .exit)) (now (answers .exit))) t) ⌝ }
+        (now (nodes .exit)) (now (freed .exit)) (now (buckets .exit)) (now (pending .exit)) (now (answers .exit)))
+        t) ⌝ }
 {
     let short = answers_short(answers.len(), points);
     match start::check_sweep(

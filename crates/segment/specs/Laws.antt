@@ -40,14 +40,16 @@ unfolding holds
 segment-holds s e h k = go (ltb (turns s) (turns e)) (ltb (turns e) (turns s)) (nltb→le (turns s) (turns e)) (nltb→le (turns e) (turns s))
   where
     go : (t u : Bool) → (T (not t) → turns e ≤ turns s) → (T (not u) → turns s ≤ turns e)
-        → containsTurns (pick t (Plain s e) (Wrapping s e)) k ≡ cond t (leb (turns s) k && ltb k (turns e)) (cond u (leb (turns s) k || ltb k (turns e)) false)
+        → containsTurns (pick t (Plain s e) (Wrapping s e)) k
+        ≡ cond t (leb (turns s) k && ltb k (turns e)) (cond u (leb (turns s) k || ltb k (turns e)) false)
     go true u a b = refl
     go false true a b = refl
     go false false a b = absurd (h (le-antisymm (b tt) (a tt)))
 
 -- ---- the count of buckets is a power of two that divides 2 ^ 53
 -- i with n ≡ 2 ^ i
-pub bucket-digits : (n : ℕ) → Buckets n → (i : ℕ) × (n ≡ 2 ^ i) × (3 ≤ i) × (i ≤ 20) × (width n ≡ 2 ^ (53 - i)) × (2 ^ 53 ≡ 2 ^ (53 - i) * n)
+pub bucket-digits : (n : ℕ) → Buckets n
+    → (i : ℕ) × (n ≡ 2 ^ i) × (3 ≤ i) × (i ≤ 20) × (width n ≡ 2 ^ (53 - i)) × (2 ^ 53 ≡ 2 ^ (53 - i) * n)
 bucket-digits n h =
     let j = h .power .0 in
     let i = 3 + j in
@@ -129,7 +131,8 @@ ceil-whole n w k (fin s m d) W e v = ceil-same (m * up d * n) (down d) k w (down
 pub ceiled-whole : (n : ℕ) (x : Float) → Buckets n → IsAngle x → ceiledBucket x n ≡ ceilOf (turns x) n
 ceiled-whole n x h a = let b = bucket-width n h in ap (λ (y : ℕ). y % n) (ceil-whole n (width n) (turns x) x (b .0) (b .2) (a .value))
 
--- ---- 01: "The bucket is read from the angle's own bits, since the product with n is exact": 000 rounds the float product, which has the same floor and ceiling
+-- ---- 01: "The bucket is read from the angle's own bits, since the product with n is exact": 000 rounds the float
+-- product, which has the same floor and ceiling
 floor-value : (z : Float) (s : Bool) (a c : ℕ) → 0 < c → HasValue z s a c → floorTimes z 1 ≡ a / c
 unfolding floorTimes
 floor-value nan s a c C v = absurd v
@@ -142,18 +145,22 @@ ceil-value nan s a c C v = absurd v
 ceil-value (inf t) s a c C v = absurd v
 ceil-value (fin t q d) s a c C v = ceil-same (q * up d * 1) (down d) a c (down-pos d) C (ap (λ (x : ℕ). x * c) (mul-one (q * up d)) ∙ v .1)
 
-product-value : (n : ℕ) (s : Bool) (m : ℕ) (e : ℤ) → Buckets n → T (fits binary64 (fin s m e)) → T (validAngle (fin s m e)) → HasValue (mul binary64 (fin s m e) (ofInt binary64 (pos n))) s (m * up e * n) (down e)
+product-value : (n : ℕ) (s : Bool) (m : ℕ) (e : ℤ) → Buckets n → T (fits binary64 (fin s m e))
+    → T (validAngle (fin s m e))
+    → HasValue (mul binary64 (fin s m e) (ofInt binary64 (pos n))) s (m * up e * n) (down e)
 product-value n s m e h fit v =
     let b = bucket-digits n h in
     subst (λ (y : ℕ). HasValue (mul binary64 (fin s m e) (ofInt binary64 (pos y))) s (m * up e * y) (down e)) (sym (b .1)) (product-exact s m e (b .0) (le-trans (b .3) (lit≤ tt)) fit v)
 
-pub floored-product : (n : ℕ) (x : Float) → Buckets n → T (fits binary64 x) → T (validAngle x) → floorTimes (mul binary64 x (ofInt binary64 (pos n))) 1 % n ≡ flooredBucket x n
+pub floored-product : (n : ℕ) (x : Float) → Buckets n → T (fits binary64 x) → T (validAngle x)
+    → floorTimes (mul binary64 x (ofInt binary64 (pos n))) 1 % n ≡ flooredBucket x n
 unfolding validAngle floorTimes
 floored-product n nan h fit v = absurd v
 floored-product n (inf s) h fit v = absurd v
 floored-product n (fin s m e) h fit v = ap (λ (y : ℕ). y % n) (floor-value (mul binary64 (fin s m e) (ofInt binary64 (pos n))) s (m * up e * n) (down e) (down-pos e) (product-value n s m e h fit v))
 
-pub ceiled-product : (n : ℕ) (x : Float) → Buckets n → T (fits binary64 x) → T (validAngle x) → ceilTimes (mul binary64 x (ofInt binary64 (pos n))) 1 % n ≡ ceiledBucket x n
+pub ceiled-product : (n : ℕ) (x : Float) → Buckets n → T (fits binary64 x) → T (validAngle x)
+    → ceilTimes (mul binary64 x (ofInt binary64 (pos n))) 1 % n ≡ ceiledBucket x n
 unfolding validAngle ceilTimes
 ceiled-product n nan h fit v = absurd v
 ceiled-product n (inf s) h fit v = absurd v

@@ -1,5 +1,6 @@
-// Segments of the circle of angles and its buckets (bulk_load.rs, `Segment`, `Hull::floored_bucket`, `Hull::ceiled_bucket`). An angle that is
-// looked up may be any float from 0.0 to 1.0; every answer goes by its whole number of 2 ^ -53, rounded down.
+// Segments of the circle of angles and its buckets (bulk_load.rs, `Segment`, `Hull::floored_bucket`,
+// `Hull::ceiled_bucket`). An angle that is looked up may be any float from 0.0 to 1.0; every answer goes by its whole
+// number of 2 ^ -53, rounded down.
 ghost use mathlib.Core.Path.{_≡_};
 ghost use mathlib.Core.Logic.{_≢_};
 ghost use Prim.Native.Nat.{ℕ, _^_, _<_, _≤_};

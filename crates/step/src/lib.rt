@@ -68,13 +68,7 @@ fn add_point(
 fn is_added(fate: Fate) -> bool
     ensures { λ r. ⌜ r ≡ isAdded fate ⌝ }
 {
-    match fate {
-        Fate::Added(_) => true,
-        Fate::Dropped => false,
-        Fate::NotLeft => false,
-        Fate::Unsound => false,
-        Fate::AtCenter => false,
-    }
+    decide::fate_number(fate) == 1
 }
 
 // What a step of these parts comes to.

@@ -1,5 +1,7 @@
--- Tests that compute, as facts and as the numbers 0 and 1: `T t` says that the test t passes (`lib.Dec`), and `bit t` is 1 where it does and 0 where not.
--- `Tells t P Q` is what a test tells by passing and by failing: a proof by cases on a test takes t as a variable and `Tells t P Q` beside it.
+-- Tests that compute, as facts and as the numbers 0 and 1: `T t` says that the test t passes (`lib.Dec`), and `bit t`
+-- is 1 where it does and 0 where not.
+-- `Tells t P Q` is what a test tells by passing and by failing: a proof by cases on a test takes t as a variable and
+-- `Tells t P Q` beside it.
 -- Assumes nothing.
 use mathlib.Core.Path.{_≡_, refl, sym, subst}
 use mathlib.Core.Logic.{_≢_, _⊎_, inl, inr}

@@ -108,7 +108,8 @@ unfolding first-below
 first-below-least zero p = record { at-most = omega arith; passes = λ l. absurd (omega arith); before = λ j l t. omega arith }
 first-below-least (suc n) p = go (p zero) refl (first-below-least n (λ i. p (suc i)))
   where
-    go : (t : Bool) → p zero ≡ t → Least n (λ i. p (suc i)) (first-below n (λ i. p (suc i))) → Least (suc n) p (later t (first-below n) (λ i. p (suc i)))
+    go : (t : Bool) → p zero ≡ t → Least n (λ i. p (suc i)) (first-below n (λ i. p (suc i)))
+        → Least (suc n) p (later t (first-below n) (λ i. p (suc i)))
     go true e r = record { at-most = omega arith; passes = λ l. subst T (sym e) tt; before = λ j l t. omega arith }
     go false e r = record { at-most = let h = r .at-most in omega arith; passes = λ l. r .passes (omega arith); before = early }
       where
@@ -233,12 +234,14 @@ count-sole n p i j h u v t w = go (decLt i j) (decLt j i)
     go (no l) (no m) = omega arith
 
 -- two tests that differ at one number
-pub count-change : (n : ℕ) (p q : ℕ → Bool) (a : ℕ) → a < n → ((i : ℕ) → i < n → i ≢ a → p i ≡ q i) → count n q + bit (p a) ≡ count n p + bit (q a)
+pub count-change : (n : ℕ) (p q : ℕ → Bool) (a : ℕ) → a < n → ((i : ℕ) → i < n → i ≢ a → p i ≡ q i)
+    → count n q + bit (p a) ≡ count n p + bit (q a)
 unfolding count
 count-change zero p q a l h = absurd (omega arith)
 count-change (suc n) p q a l h = go (ℕ-discrete n a) (λ k. count-change n p q a k (λ i m. h i (omega arith)))
   where
-    go : Dec (n ≡ a) → (a < n → count n q + bit (p a) ≡ count n p + bit (q a)) → bit (q n) + count n q + bit (p a) ≡ bit (p n) + count n p + bit (q a)
+    go : Dec (n ≡ a) → (a < n → count n q + bit (p a) ≡ count n p + bit (q a))
+        → bit (q n) + count n q + bit (p a) ≡ bit (p n) + count n p + bit (q a)
     go (yes e) ih =
         let c = count-ext n p q (λ i m. h i (omega arith) (λ d. omega arith)) in
         let u = ap (λ (j : ℕ). bit (p j)) e in let v = ap (λ (j : ℕ). bit (q j)) e in omega arith

@@ -37,7 +37,8 @@ first-of-two : (f : ℕ → ℕ) (a b u v : ℕ) → a ≢ b → put (put f a u)
 first-of-two f a b u v d = search stores
 
 -- ---- a statement at two touched places and at the others at once: f and g swap a and b
-swapped : (f g : ℕ → ℕ) (a b : ℕ) → f a ≡ b → f b ≡ a → g a ≡ b → g b ≡ a → ((x : ℕ) → None x (a ∷ b ∷ []) → f x ≡ x) → ((x : ℕ) → None x (a ∷ b ∷ []) → g x ≡ x)
+swapped : (f g : ℕ → ℕ) (a b : ℕ) → f a ≡ b → f b ≡ a → g a ≡ b → g b ≡ a
+    → ((x : ℕ) → None x (a ∷ b ∷ []) → f x ≡ x) → ((x : ℕ) → None x (a ∷ b ∷ []) → g x ≡ x)
     → (x : ℕ) → g (f x) ≡ x
 swapped f g a b p q r s h k = each {P = λ x. g (f x) ≡ x} (a ∷ b ∷ []) ((cc), ((cc), tt)) (λ x o. ap g (h x o) ∙ k x o)
 
@@ -82,7 +83,8 @@ same-origin : (f origin : ℕ → ℕ) → ((x : ℕ) → origin (f x) ≡ origi
 same-origin f origin h a b = reach-ind (λ x. origin x ≡ origin b) refl (λ z r e. sym (h z) ∙ e)
 
 -- the turn about a vertex has an inverse, so its walks come back
-turn-round : (n : ℕ) (next prev : ℕ → ℕ) → Inverse (2 * n) next prev → (e : ℕ) → e < 2 * n → Period (λ x. rev (prev x)) e (period-below (2 * n) (λ x. rev (prev x)) e)
+turn-round : (n : ℕ) (next prev : ℕ → ℕ) → Inverse (2 * n) next prev → (e : ℕ) → e < 2 * n
+    → Period (λ x. rev (prev x)) e (period-below (2 * n) (λ x. rev (prev x)) e)
 turn-round n next prev i e l = period-is (inverse-then (inverse-sym i) (rev-inverse n)) l
 
 seven : period-below 10 (λ i. (i + 3) % 7) 2 ≡ 7
@@ -94,7 +96,8 @@ unfolding reaches
 met = reaches-reach 7 (λ i. (i + 3) % 7) 2 6 tt
 
 -- ---- three stores into a list, as the code nests them
-stored : (l : List ℕ) (a b c u v w : ℕ) → a < length l → b < length l → c < length l → a ≢ b → a ≢ c → b ≢ c → getD (set (set (set l a u) b v) c w) b 0 ≡ v
+stored : (l : List ℕ) (a b c u v w : ℕ) → a < length l → b < length l → c < length l → a ≢ b → a ≢ c → b ≢ c
+    → getD (set (set (set l a u) b v) c w) b 0 ≡ v
 stored l a b c u v w la lb lc ab ac bc =
     store-at 3 (entry (a ∷ b ∷ c ∷ [])) (entry (u ∷ v ∷ w ∷ [])) l 0 (listed-list (a ∷ b ∷ c ∷ []) (la, (lb, (lc, tt))) ((ab, (ac, tt)), ((bc, tt), (tt, tt)))) 1 (omega arith)
 
@@ -103,7 +106,8 @@ elsewhere : (b : ℕ → Bool) (f : ℕ → ℕ) (n s t : ℕ) → iter n f s �
 elsewhere b f n s t e r h = tally-round b f n s e r ∙ h
 
 -- ---- a count after a change at two places, of which one passed before and none does after
-fewer : (n a b : ℕ) (p q : ℕ → Bool) → a < n → b < n → a ≢ b → ((i : ℕ) → i < n → None i (a ∷ b ∷ []) → p i ≡ q i) → p a ≡ true → p b ≡ false → q a ≡ false → q b ≡ false
+fewer : (n a b : ℕ) (p q : ℕ → Bool) → a < n → b < n → a ≢ b → ((i : ℕ) → i < n → None i (a ∷ b ∷ []) → p i ≡ q i)
+    → p a ≡ true → p b ≡ false → q a ≡ false → q b ≡ false
     → suc (count n q) ≡ count n p
 unfolding tally
 fewer n a b p q la lb ab h e₁ e₂ e₃ e₄ =

@@ -1,5 +1,7 @@
--- Iterates of a function on numbers: `iter k f a` is f applied k times to a, and `Reach f a b` says that some number of steps leads from a to b.
--- Where f has an inverse below n (`Inverse`), each walk comes back: the least positive period (`Period`), and the iterates before it are a list of different numbers.
+-- Iterates of a function on numbers: `iter k f a` is f applied k times to a, and `Reach f a b` says that some number of
+-- steps leads from a to b.
+-- Where f has an inverse below n (`Inverse`), each walk comes back: the least positive period (`Period`), and the
+-- iterates before it are a list of different numbers.
 -- Walks survive where a number is taken out of f's path or put into it, and where places are renamed. Assumes nothing.
 use mathlib.Core.Path.{_≡_, refl, sym, _∙_, ap, subst}
 use mathlib.Core.Logic.{_≢_, _⊎_, inl, inr}
@@ -51,7 +53,8 @@ pub iter-ext : (f f' : ℕ → ℕ) (n a : ℕ) → ((k : ℕ) → k < n → f' 
 iter-ext f f' zero a h = refl
 iter-ext f f' (suc n) a h = ap (iter n f') (h zero (omega arith)) ∙ iter-ext f f' n (f a) (λ k l. h (suc k) (omega arith))
 
-pub iter-same : {f f' : ℕ → ℕ} (D : ℕ → Type 0) → ((y : ℕ) → D y → D (f y)) → ((y : ℕ) → D y → f' y ≡ f y) → {a : ℕ} → D a → (k : ℕ) → iter k f' a ≡ iter k f a
+pub iter-same : {f f' : ℕ → ℕ} (D : ℕ → Type 0) → ((y : ℕ) → D y → D (f y)) → ((y : ℕ) → D y → f' y ≡ f y) → {a : ℕ}
+    → D a → (k : ℕ) → iter k f' a ≡ iter k f a
 iter-same {f} {f'} D closed same {a} d n = iter-ext f f' n a (λ k l. same (iter k f a) (iter-keeps D closed k d))
 
 -- ---- reachability
@@ -104,7 +107,8 @@ reach-by {f} {g} P s stays each {x} {y} p (k, e) = subst (λ (z : ℕ). Reach g 
     go (suc k) x p = reach-trans (each x p) (go k (f x) (stays x p))
 
 -- two functions that agree on a set that f does not leave
-pub reach-same : {f f' : ℕ → ℕ} (D : ℕ → Type 0) → ((y : ℕ) → D y → D (f y)) → ((y : ℕ) → D y → f' y ≡ f y) → {a b : ℕ} → D a → Reach f a b → Reach f' a b
+pub reach-same : {f f' : ℕ → ℕ} (D : ℕ → Type 0) → ((y : ℕ) → D y → D (f y)) → ((y : ℕ) → D y → f' y ≡ f y)
+    → {a b : ℕ} → D a → Reach f a b → Reach f' a b
 reach-same D closed same d (k, e) = (k, iter-same D closed same d k ∙ e)
 
 -- INSERT: f' walks over x between y₀ and f y₀
@@ -117,7 +121,8 @@ reach-insert {f} {f'} D x y₀ closed e₁ e₂ same d = reach-by D (λ y. y) cl
     step y dy (no n) = (1, same y dy n)
 
 -- BYPASS: f' goes past x
-pub reach-bypass : {f f' : ℕ → ℕ} (D : ℕ → Type 0) (x : ℕ) → ((y : ℕ) → D y → D (f y)) → D x → ((y : ℕ) → D y → y ≢ x → f y ≡ x → f' y ≡ f x)
+pub reach-bypass : {f f' : ℕ → ℕ} (D : ℕ → Type 0) (x : ℕ) → ((y : ℕ) → D y → D (f y)) → D x
+    → ((y : ℕ) → D y → y ≢ x → f y ≡ x → f' y ≡ f x)
     → ((y : ℕ) → D y → y ≢ x → f y ≢ x → f' y ≡ f y) → {a b : ℕ} → D a → a ≢ x → b ≢ x → Reach f a b → Reach f' a b
 reach-bypass {f} {f'} D x closed dx skip same {a} {b} da na nb (k, e) = go k a da na e
   where
@@ -130,7 +135,8 @@ reach-bypass {f} {f'} D x closed dx skip same {a} {b} da na nb (k, e) = go k a d
         one (no h) = (1, same a d n h ∙ e)
     go (suc (suc k)) a d n e = two (go (suc k) (f a)) (go k (f x)) (ℕ-discrete (f a) x) (ℕ-discrete (f x) x)
       where
-        two : (D (f a) → f a ≢ x → iter (suc k) f (f a) ≡ b → Reach f' (f a) b) → (D (f x) → f x ≢ x → iter k f (f x) ≡ b → Reach f' (f x) b)
+        two : (D (f a) → f a ≢ x → iter (suc k) f (f a) ≡ b → Reach f' (f a) b)
+            → (D (f x) → f x ≢ x → iter k f (f x) ≡ b → Reach f' (f x) b)
             → Dec (f a ≡ x) → Dec (f x ≡ x) → Reach f' a b
         two r₁ r₂ (no h) s = reach-trans (1, same a d n h) (r₁ (closed a d) h e)
         two r₁ r₂ (yes h) (yes q) = absurd (nb (sym e ∙ ap (iter (suc k) f) h ∙ iter-fixed (suc k) f x q))
@@ -146,7 +152,9 @@ unfolding reaches
 reaches→ zero f x y h = absurd h
 reaches→ (suc n) f x y h = go (or-cases (eqb x y) (reaches n f (f x) y) h) (reaches→ n f (f x) y)
   where
-    go : T (eqb x y) ⊎ T (reaches n f (f x) y) → (T (reaches n f (f x) y) → (k : ℕ) × (k < n) × (iter k f (f x) ≡ y)) → (k : ℕ) × (k < suc n) × (iter k f x ≡ y)
+    go : T (eqb x y) ⊎ T (reaches n f (f x) y)
+        → (T (reaches n f (f x) y) → (k : ℕ) × (k < n) × (iter k f (f x) ≡ y))
+        → (k : ℕ) × (k < suc n) × (iter k f x ≡ y)
     go (inl t) ih = (0, (omega arith), eqb→eq x y t)
     go (inr t) ih = let r = ih t in (suc (r .0), (let l = r .1 in omega arith), r .2)
 
@@ -193,7 +201,8 @@ pub record Period (f : ℕ → ℕ) (a h : ℕ) : Type 0 where
   pub back : iter h f a ≡ a
   pub least : (k : ℕ) → zero < k → k < h → iter k f a ≢ a
 
-pub period-same : {f f' : ℕ → ℕ} (D : ℕ → Type 0) → ((y : ℕ) → D y → D (f y)) → ((y : ℕ) → D y → f' y ≡ f y) → {a h : ℕ} → D a → Period f a h → Period f' a h
+pub period-same : {f f' : ℕ → ℕ} (D : ℕ → Type 0) → ((y : ℕ) → D y → D (f y)) → ((y : ℕ) → D y → f' y ≡ f y)
+    → {a h : ℕ} → D a → Period f a h → Period f' a h
 period-same {f} {f'} D closed same {a} {h} d p = record {
   positive = p .positive;
   back = iter-same D closed same d h ∙ p .back;
@@ -354,19 +363,24 @@ sum-next h f a c back =
     less n = omega arith
 
 -- what a step around a round of h does not change is the same all along it
-pub along : (h : ℕ) {f : ℕ → ℕ} (A : ℕ → ℤ) → ((z : ℕ) → iter h f z ≡ z → A (f z) ≡ A z) → {a b : ℕ} → iter h f a ≡ a → Reach f a b → A b ≡ A a
+pub along : (h : ℕ) {f : ℕ → ℕ} (A : ℕ → ℤ) → ((z : ℕ) → iter h f z ≡ z → A (f z) ≡ A z) → {a b : ℕ}
+    → iter h f a ≡ a → Reach f a b → A b ≡ A a
 along h {f} A step {a} back (k, e) = ap A (sym e) ∙ go k a back
   where
     go : (k a : ℕ) → iter h f a ≡ a → A (iter k f a) ≡ A a
     go zero a back = refl
     go (suc k) a back = go k (f a) (iter-last h f a ∙ ap f back) ∙ step a back
 
-pub sum-round : (h : ℕ) {f : ℕ → ℕ} (c : ℕ → ℤ) {a b : ℕ} → iter h f a ≡ a → Reach f a b → sum h (λ k. c (iter k f b)) ≡ sum h (λ k. c (iter k f a))
+pub sum-round : (h : ℕ) {f : ℕ → ℕ} (c : ℕ → ℤ) {a b : ℕ} → iter h f a ≡ a → Reach f a b
+    → sum h (λ k. c (iter k f b)) ≡ sum h (λ k. c (iter k f a))
 sum-round h {f} c = along h (λ z. sum h (λ k. c (iter k f z))) (λ z q. sum-next h f z c q)
 
--- ---- numbers below n that are the rounds of f from m starts: the sum goes round by round. For a mesh: over all half-edges, face by face, with f the step around a face.
-pub sum-rounds : {n : ℕ} {f g : ℕ → ℕ} → Inverse n f g → (m : ℕ) (class start size : ℕ → ℕ) → ((i : ℕ) → i < n → class i < m) → ((i : ℕ) → i < n → class (f i) ≡ class i)
-    → ((c : ℕ) → c < m → start c < n) → ((c : ℕ) → c < m → class (start c) ≡ c) → ((c : ℕ) → c < m → Period f (start c) (size c)) → ((i : ℕ) → i < n → Reach f (start (class i)) i)
+-- ---- numbers below n that are the rounds of f from m starts: the sum goes round by round. For a mesh: over all
+-- half-edges, face by face, with f the step around a face.
+pub sum-rounds : {n : ℕ} {f g : ℕ → ℕ} → Inverse n f g → (m : ℕ) (class start size : ℕ → ℕ)
+    → ((i : ℕ) → i < n → class i < m) → ((i : ℕ) → i < n → class (f i) ≡ class i)
+    → ((c : ℕ) → c < m → start c < n) → ((c : ℕ) → c < m → class (start c) ≡ c)
+    → ((c : ℕ) → c < m → Period f (start c) (size c)) → ((i : ℕ) → i < n → Reach f (start (class i)) i)
     → (t : ℕ → ℤ) → sum n t ≡ sum m (λ c. sum (size c) (λ k. t (iter k f (start c))))
 sum-rounds {n} {f} {g} inv m class start size low keeps begin own round whole =
     sum-classes n m class size (λ c k. iter k f (start c)) low (λ c l. period-listed inv (begin c l) (round c l)) same (λ i l. reach-on inv (begin (class i) (low i l)) (round (class i) (low i l)) (whole i l))

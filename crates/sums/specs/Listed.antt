@@ -1,4 +1,5 @@
--- Finite lists of different numbers, as functions: `Listed n h p` says that p 0 … p (h - 1) are different numbers below n, and `On h p i` that i is one of them.
+-- Finite lists of different numbers, as functions: `Listed n h p` says that p 0 … p (h - 1) are different numbers below
+-- n, and `On h p i` that i is one of them.
 -- Lists that are written out, two lists joined, and the pigeonhole. Assumes nothing.
 use mathlib.Core.Path.{_≡_, refl, sym, _∙_, ap}
 use mathlib.Core.Logic.{_≢_, inl, inr}
@@ -90,7 +91,8 @@ on-list (a ∷ l) (inr s) = let o = on-list l s in (suc (o .0), (let u = o .1 in
 abbrev pub join : ℕ → (ℕ → ℕ) → (ℕ → ℕ) → ℕ → ℕ
 join h p q k = cond (ltb k h) (p k) (q (k - h))
 
-pub listed-join : {n h m : ℕ} {p q : ℕ → ℕ} → Listed n h p → Listed n m q → ((j k : ℕ) → j < h → k < m → p j ≢ q k) → Listed n (h + m) (join h p q)
+pub listed-join : {n h m : ℕ} {p q : ℕ → ℕ} → Listed n h p → Listed n m q → ((j k : ℕ) → j < h → k < m → p j ≢ q k)
+    → Listed n (h + m) (join h p q)
 listed-join {n} {h} {m} {p} {q} P Q apart = record { below = λ k u. low k u (decLt k h); once = λ j k u v e. one j k u v (decLt j h) (decLt k h) e }
   where
     first : (k : ℕ) → k < h → join h p q k ≡ p k

@@ -1,5 +1,6 @@
--- Orbits counted. f permutes the numbers below n and keeps each number's class; each class below m has one chosen number. Then the orbits of the chosen
--- numbers are together at most n long, and exactly n long just where every number is met from the chosen one of its class.
+-- Orbits counted. f permutes the numbers below n and keeps each number's class; each class below m has one chosen
+-- number. Then the orbits of the chosen numbers are together at most n long, and exactly n long just where every number
+-- is met from the chosen one of its class.
 -- So a sweep that adds up lengths, with no memory of what it met, decides whether the orbits hold every number. Assumes nothing.
 use mathlib.Core.Path.{_≡_, refl, sym, _∙_, ap, subst}
 use mathlib.Core.Logic.{_≢_, _⊎_, inl, inr}

@@ -1,5 +1,7 @@
--- Stores into a list, one after the other: `store h p v l` has v k at the index p k, for k from 0. With h a numeral and p and v written out it computes to the code's nested `set`.
--- A store is a point update of the list seen as a function; walks over a list of links where a number is put in or taken out. Assumes nothing.
+-- Stores into a list, one after the other: `store h p v l` has v k at the index p k, for k from 0. With h a numeral and
+-- p and v written out it computes to the code's nested `set`.
+-- A store is a point update of the list seen as a function; walks over a list of links where a number is put in or
+-- taken out. Assumes nothing.
 use mathlib.Core.Path.{_≡_, refl, sym, _∙_, ap, fun-ext}
 use mathlib.Core.Logic.{_≢_}
 use mathlib.Core.List.{List}
@@ -23,12 +25,14 @@ module _ {A : Type 0} where
   length-store (suc h) p v l = length-set (store h p v l) (p h) (v h) ∙ length-store h p v l
 
   -- an index that is stored to nowhere
-  pub store-off : (h : ℕ) (p : ℕ → ℕ) (v : ℕ → A) (l : List A) (d : A) (z : ℕ) → ((k : ℕ) → k < h → z ≢ p k) → getD (store h p v l) z d ≡ getD l z d
+  pub store-off : (h : ℕ) (p : ℕ → ℕ) (v : ℕ → A) (l : List A) (d : A) (z : ℕ) → ((k : ℕ) → k < h → z ≢ p k)
+      → getD (store h p v l) z d ≡ getD l z d
   store-off zero p v l d z o = refl
   store-off (suc h) p v l d z o = getD-set-other (store h p v l) (p h) z (v h) d (o h (le-refl (suc h))) ∙ store-off h p v l d z (λ k u. o k (omega arith))
 
   -- an index that is stored to once
-  pub store-at : (h : ℕ) (p : ℕ → ℕ) (v : ℕ → A) (l : List A) (d : A) → Listed (length l) h p → (k : ℕ) → k < h → getD (store h p v l) (p k) d ≡ v k
+  pub store-at : (h : ℕ) (p : ℕ → ℕ) (v : ℕ → A) (l : List A) (d : A) → Listed (length l) h p → (k : ℕ) → k < h
+      → getD (store h p v l) (p k) d ≡ v k
   store-at zero p v l d ls k u = absurd (omega arith)
   store-at (suc h) p v l d ls k u = go (store-at h p v l d (listed-first h (omega arith) ls) k) (ℕ-discrete h k)
     where
@@ -49,7 +53,8 @@ module _ {A : Type 0} where
 
 -- ---- walks over a list of links: `entry l y` is the number after y
 -- x is put in after y₀
-pub reach-insert-list : (l : List ℕ) {x y₀ : ℕ} → x < length l → y₀ < length l → y₀ ≢ x → ((y : ℕ) → y < length l → entry l y < length l) → ((y : ℕ) → y < length l → y ≢ x → entry l y ≢ x)
+pub reach-insert-list : (l : List ℕ) {x y₀ : ℕ} → x < length l → y₀ < length l → y₀ ≢ x
+    → ((y : ℕ) → y < length l → entry l y < length l) → ((y : ℕ) → y < length l → y ≢ x → entry l y ≢ x)
     → {a b : ℕ} → a < length l → a ≢ x → Reach (entry l) a b → Reach (entry (set (set l y₀ x) x (entry l y₀))) a b
 reach-insert-list l {x} {y₀} lx ly ne below fresh la na = reach-insert (λ y. (y < length l) × (y ≢ x)) x y₀ (λ y d. (below y (d .0), fresh y (d .0) (d .1)))
     (getD-set-other (set l y₀ x) x y₀ (entry l y₀) 0 ne ∙ getD-set-same l y₀ x 0 ly)
@@ -57,7 +62,9 @@ reach-insert-list l {x} {y₀} lx ly ne below fresh la na = reach-insert (λ y. 
     (λ y d o. getD-set-other (set l y₀ x) x y (entry l y₀) 0 (d .1) ∙ getD-set-other l y₀ y x 0 o) (la, na)
 
 -- x is taken out after y₀, the one number before it
-pub reach-bypass-list : (l : List ℕ) {x y₀ : ℕ} → x < length l → y₀ < length l → ((y : ℕ) → y < length l → entry l y < length l) → entry l y₀ ≡ x → ((y : ℕ) → y < length l → entry l y ≡ x → y ≡ y₀)
+pub reach-bypass-list : (l : List ℕ) {x y₀ : ℕ} → x < length l → y₀ < length l
+    → ((y : ℕ) → y < length l → entry l y < length l) → entry l y₀ ≡ x
+    → ((y : ℕ) → y < length l → entry l y ≡ x → y ≡ y₀)
     → {a b : ℕ} → a < length l → a ≢ x → b ≢ x → Reach (entry l) a b → Reach (entry (set l y₀ (entry l x))) a b
 reach-bypass-list l {x} {y₀} lx ly below before sole = reach-bypass (λ y. y < length l) x below lx
     (λ y d n h. ap (entry (set l y₀ (entry l x))) (sole y d h) ∙ getD-set-same l y₀ (entry l x) 0 ly)

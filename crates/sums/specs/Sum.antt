@@ -1,5 +1,6 @@
--- Finite sums of integers: `sum n f` is f 0 + … + f (n - 1). Linearity, exchange of two sums, a sum whose summands are zero but along a list of indices,
--- what a sum becomes where the summand is changed along such a list, a sum by classes, signs of sums, and a count as a sum. Assumes nothing.
+-- Finite sums of integers: `sum n f` is f 0 + … + f (n - 1). Linearity, exchange of two sums, a sum whose summands are
+-- zero but along a list of indices, what a sum becomes where the summand is changed along such a list, a sum by
+-- classes, signs of sums, and a count as a sum. Assumes nothing.
 use mathlib.Core.Path.{_≡_, refl, sym, _∙_, ap, ap₂, subst}
 use mathlib.Core.Logic.{_≢_, _⊎_, inl, inr}
 use mathlib.Core.Bool.{Bool, true, false, cond}
@@ -105,7 +106,8 @@ sum-pairs (suc n) f =
 abbrev pub only : Bool → ℤ → ℤ
 only b x = cond b x (pos zero)
 
-pub sum-split : (n : ℕ) (b : ℕ → Bool) (f : ℕ → ℤ) → sum n (λ i. cond (b i) (f i) (pos zero)) +ℤ sum n (λ i. cond (b i) (pos zero) (f i)) ≡ sum n f
+pub sum-split : (n : ℕ) (b : ℕ → Bool) (f : ℕ → ℤ)
+    → sum n (λ i. cond (b i) (f i) (pos zero)) +ℤ sum n (λ i. cond (b i) (pos zero) (f i)) ≡ sum n f
 sum-split n b f = sym (sum-add n (λ i. cond (b i) (f i) (pos zero)) (λ i. cond (b i) (pos zero) (f i))) ∙ sum-ext n (λ i l. each (b i) (f i))
   where
     each : (b : Bool) (x : ℤ) → cond b x (pos zero) +ℤ cond b (pos zero) x ≡ x
@@ -161,7 +163,8 @@ module _ {n h : ℕ} {p : ℕ → ℕ} (ls : Listed n h p) where
       still i (inr o) = inr o
 
 -- Indices below n, each in one of m classes; the class c is listed by p c 0 … p c (size c - 1). The sum goes class by class.
-pub sum-classes : (n m : ℕ) (class : ℕ → ℕ) (size : ℕ → ℕ) (p : ℕ → ℕ → ℕ) → ((i : ℕ) → i < n → class i < m) → ((c : ℕ) → c < m → Listed n (size c) (p c))
+pub sum-classes : (n m : ℕ) (class : ℕ → ℕ) (size : ℕ → ℕ) (p : ℕ → ℕ → ℕ) → ((i : ℕ) → i < n → class i < m)
+    → ((c : ℕ) → c < m → Listed n (size c) (p c))
     → ((c k : ℕ) → c < m → k < size c → class (p c k) ≡ c) → ((i : ℕ) → i < n → On (size (class i)) (p (class i)) i)
     → (f : ℕ → ℤ) → sum n f ≡ sum m (λ c. sum (size c) (λ k. f (p c k)))
 sum-classes n m class size p below lists right cover f =
@@ -183,7 +186,8 @@ module _ {n : ℕ} (l : List ℕ) (low : All (λ a. a < n) l) (distinct : Distin
       at i u (inl s) = inr (on-list l s)
       at i u (inr o) = inl (h i u o)
 
-  pub sum-change-list : (f g : ℕ → ℤ) → ((i : ℕ) → i < n → None i l → g i ≡ f i) → sum n g ≡ sum n f +ℤ sum (length l) (λ k. g (entry l k) -ℤ f (entry l k))
+  pub sum-change-list : (f g : ℕ → ℤ) → ((i : ℕ) → i < n → None i l → g i ≡ f i)
+      → sum n g ≡ sum n f +ℤ sum (length l) (λ k. g (entry l k) -ℤ f (entry l k))
   sum-change-list f g h = sum-change (listed-list l low distinct) f g (λ i u. at i u (some-or-none i l))
     where
       at : (i : ℕ) → i < n → Some i l ⊎ None i l → (g i ≡ f i) ⊎ On (length l) (entry l) i
@@ -191,7 +195,8 @@ module _ {n : ℕ} (l : List ℕ) (low : All (λ a. a < n) l) (distinct : Distin
       at i u (inr o) = inl (h i u o)
 
 -- just three summands that are not zero
-pub sum-three : {n a b c : ℕ} (f : ℕ → ℤ) → a < n → b < n → c < n → a ≢ b → a ≢ c → b ≢ c → ((i : ℕ) → i < n → i ≢ a → i ≢ b → i ≢ c → f i ≡ pos zero) → sum n f ≡ f a +ℤ f b +ℤ f c
+pub sum-three : {n a b c : ℕ} (f : ℕ → ℤ) → a < n → b < n → c < n → a ≢ b → a ≢ c → b ≢ c
+    → ((i : ℕ) → i < n → i ≢ a → i ≢ b → i ≢ c → f i ≡ pos zero) → sum n f ≡ f a +ℤ f b +ℤ f c
 unfolding sum
 sum-three {n} {a} {b} {c} f la lb lc ab ac bc h =
     sum-along-list (a ∷ b ∷ c ∷ []) (la, (lb, (lc, tt))) ((ab, (ac, tt)), ((bc, tt), (tt, tt))) f (λ i u o. h i u (o .0) (o .1 .0) (o .1 .1 .0))
@@ -202,7 +207,8 @@ pub sum-change-one : {n a : ℕ} (f g : ℕ → ℤ) → a < n → ((i : ℕ) �
 unfolding sum
 sum-change-one {n} {a} f g l h = sum-change-list (a ∷ []) (l, tt) (tt, tt) f g (λ i u o. h i u (o .0)) ∙ ap (λ (x : ℤ). sum n f +ℤ x) (+ℤ-idl (g a -ℤ f a))
 
-pub sum-change-two : {n a b : ℕ} (f g : ℕ → ℤ) → a < n → b < n → a ≢ b → ((i : ℕ) → i < n → i ≢ a → i ≢ b → g i ≡ f i) → sum n g ≡ sum n f +ℤ ((g a -ℤ f a) +ℤ (g b -ℤ f b))
+pub sum-change-two : {n a b : ℕ} (f g : ℕ → ℤ) → a < n → b < n → a ≢ b
+    → ((i : ℕ) → i < n → i ≢ a → i ≢ b → g i ≡ f i) → sum n g ≡ sum n f +ℤ ((g a -ℤ f a) +ℤ (g b -ℤ f b))
 unfolding sum
 sum-change-two {n} {a} {b} f g la lb ab h =
     sum-change-list (a ∷ b ∷ []) (la, (lb, tt)) ((ab, tt), (tt, tt)) f g (λ i u o. h i u (o .0) (o .1 .0))
@@ -215,7 +221,8 @@ sum-put {n} {k} f v l =
     ∙ ring (sum n f ∷ f k ∷ v ∷ []) (v0 ⊕ (v2 ⊖ v1)) (v0 ⊖ v1 ⊕ v2) refl
 
 -- ---- over a list, one of whose entries is stored to
-pub sum-set : {A : Type 0} {n k : ℕ} (F : ℕ → A → ℤ) (l : List A) (d v : A) → k < n → n ≤ length l → sum n (λ i. F i (getD (set l k v) i d)) ≡ sum n (λ i. F i (getD l i d)) +ℤ (F k v -ℤ F k (getD l k d))
+pub sum-set : {A : Type 0} {n k : ℕ} (F : ℕ → A → ℤ) (l : List A) (d v : A) → k < n → n ≤ length l
+    → sum n (λ i. F i (getD (set l k v) i d)) ≡ sum n (λ i. F i (getD l i d)) +ℤ (F k v -ℤ F k (getD l k d))
 sum-set {A} {n} {k} F l d v u w =
     sum-change-one (λ i. F i (getD l i d)) (λ i. F i (getD (set l k v) i d)) u (λ i m q. ap (F i) (getD-set-other l k i v d q))
     ∙ ap (λ (x : A). sum n (λ i. F i (getD l i d)) +ℤ (F k x -ℤ F k (getD l k d))) (getD-set-same l k v d (le-trans u w))
@@ -239,7 +246,8 @@ count-sum zero p = refl
 count-sum (suc n) p = ap pos (add-comm (bit (p n)) (count n p)) ∙ ap (λ (x : ℤ). x +ℤ pos (bit (p n))) (count-sum n p)
 
 -- those that pass are listed: the count is the list's length
-pub count-listed : {n h : ℕ} {l : ℕ → ℕ} → Listed n h l → (p : ℕ → Bool) → ((k : ℕ) → k < h → T (p (l k))) → ((i : ℕ) → i < n → T (p i) → On h l i) → count n p ≡ h
+pub count-listed : {n h : ℕ} {l : ℕ → ℕ} → Listed n h l → (p : ℕ → Bool) → ((k : ℕ) → k < h → T (p (l k)))
+    → ((i : ℕ) → i < n → T (p i) → On h l i) → count n p ≡ h
 count-listed {n} {h} {l} ls p pass cover = whole (count-sum n p
     ∙ sum-along ls (λ i. pos (bit (p i))) (λ i m. at i m (p i) refl)
     ∙ sum-ext h (λ k m. ap pos (bit-yes (p (l k)) (pass k m)))

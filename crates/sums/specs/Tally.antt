@@ -1,5 +1,7 @@
--- Walks as lists, and tallies: `walk n f s` is the list of the n places from s on, `tally b l` is how many of a list pass the test b, and `First b f n s k` says that the walk's first place to pass is k steps on.
--- A round's tally is the same from any of its places. The tally of a walk is a `count` of its steps, and the first place a `first-below`. Assumes nothing.
+-- Walks as lists, and tallies: `walk n f s` is the list of the n places from s on, `tally b l` is how many of a list
+-- pass the test b, and `First b f n s k` says that the walk's first place to pass is k steps on.
+-- A round's tally is the same from any of its places. The tally of a walk is a `count` of its steps, and the first
+-- place a `first-below`. Assumes nothing.
 use mathlib.Core.Path.{_≡_, refl, sym, _∙_, ap}
 use mathlib.Core.Logic.{_≢_}
 use mathlib.Core.Bool.{Bool}
@@ -74,7 +76,8 @@ tally-count b f zero s = refl
 tally-count b f (suc n) s = tally-last b f n s ∙ (let i = tally-count b f n s in omega arith)
 
 -- where two tests agree, so do the tallies
-pub tally-ext : (b b' : ℕ → Bool) (f : ℕ → ℕ) (n s : ℕ) → ((k : ℕ) → k < n → b' (iter k f s) ≡ b (iter k f s)) → tally b' (walk n f s) ≡ tally b (walk n f s)
+pub tally-ext : (b b' : ℕ → Bool) (f : ℕ → ℕ) (n s : ℕ) → ((k : ℕ) → k < n → b' (iter k f s) ≡ b (iter k f s))
+    → tally b' (walk n f s) ≡ tally b (walk n f s)
 tally-ext b b' f n s h = tally-count b' f n s ∙ count-ext n (λ k. b' (iter k f s)) (λ k. b (iter k f s)) h ∙ sym (tally-count b f n s)
 
 -- a round's tally is the same from its next place, and from any
@@ -85,7 +88,8 @@ pub tally-at : (b : ℕ → Bool) (f : ℕ → ℕ) (n s : ℕ) → iter n f s �
 tally-at b f n s e zero = refl
 tally-at b f n s e (suc k) = tally-at b f n (f s) (iter-last n f s ∙ ap f e) k ∙ tally-turn b f n s e
 
-pub tally-round : (b : ℕ → Bool) (f : ℕ → ℕ) (n s : ℕ) → iter n f s ≡ s → {t : ℕ} → Reach f s t → tally b (walk n f t) ≡ tally b (walk n f s)
+pub tally-round : (b : ℕ → Bool) (f : ℕ → ℕ) (n s : ℕ) → iter n f s ≡ s → {t : ℕ} → Reach f s t
+    → tally b (walk n f t) ≡ tally b (walk n f s)
 tally-round b f n s e (k, q) = ap (λ (x : ℕ). tally b (walk n f x)) (sym q) ∙ tally-at b f n s e k
 
 pub tally-most : (b : ℕ → Bool) (f : ℕ → ℕ) (n s : ℕ) → tally b (walk n f s) ≤ n
@@ -135,7 +139,8 @@ unfolding tally
 tally-all p q [] h = refl
 tally-all p q (x ∷ l) h = let i = tally-all p q l (h .1) in let b = ap bit (h .0) in omega arith
 
-pub count-change-list : (n : ℕ) (l : List ℕ) → All (λ a. a < n) l → Distinct l → (p q : ℕ → Bool) → ((i : ℕ) → i < n → None i l → p i ≡ q i) → count n q + tally p l ≡ count n p + tally q l
+pub count-change-list : (n : ℕ) (l : List ℕ) → All (λ a. a < n) l → Distinct l → (p q : ℕ → Bool)
+    → ((i : ℕ) → i < n → None i l → p i ≡ q i) → count n q + tally p l ≡ count n p + tally q l
 unfolding tally
 count-change-list n [] low d p q h = let e = count-ext n p q (λ i u. h i u tt) in omega arith
 count-change-list n (a ∷ l) low d p q h =

@@ -9,7 +9,8 @@
 --     until-ind       induction over the loop: from its end, turn by turn back to its start
 --     until-fuel      any two amounts of fuel give the same
 --     until-turn      one turn more changes nothing, with the fuel left as it is
---     Going           the invariant of a loop of code: to go on from here is to go on from the start. `going-start`, `going-turn`, `going-end` answer a loop's three needs
+--     Going           the invariant of a loop of code: to go on from here is to go on from the start.
+--                     `going-start`, `going-turn`, `going-end` answer a loop's three needs
 -- Two loops: until-related (a relation that each turn keeps), until-map (one loop seen through a function).
 -- Assumes nothing.
 use mathlib.Core.Path.{_≡_, refl, sym, _∙_, ap, subst}
@@ -41,7 +42,8 @@ module _ {S : Type 0} (done : S → Bool) (f : S → S) where
   until-more zero m s e = until-done (zero + m) s e
   until-more (suc n) m s e = go (until-more n m (f s)) (done s) refl
     where
-      go : (done (until done f n (f s)) ≡ true → until done f (n + m) (f s) ≡ until done f n (f s)) → (t : Bool) → done s ≡ t → until done f (suc n + m) s ≡ until done f (suc n) s
+      go : (done (until done f n (f s)) ≡ true → until done f (n + m) (f s) ≡ until done f n (f s)) → (t : Bool)
+          → done s ≡ t → until done f (suc n + m) s ≡ until done f (suc n) s
       go rest true q = until-done (suc n + m) s q ∙ sym (until-done (suc n) s q)
       go rest false q =
           ap (λ (k : ℕ). until done f k s) (suc-add n m) ∙ until-next (n + m) s q
@@ -75,7 +77,8 @@ module _ {S : Type 0} (done : S → Bool) (f : S → S) where
     pub until-fuel : (n m : ℕ) (s : S) → I s → μ s < n → μ s < m → until done f n s ≡ until done f m s
     until-fuel n m s i l k = sym (until-ind (λ s r. (m : ℕ) → μ s < m → until done f m s ≡ r) (λ s i e m k. until-done m s e) turn n s i l m k)
       where
-        turn : (s r : S) → I s → done s ≡ false → ((m : ℕ) → μ (f s) < m → until done f m (f s) ≡ r) → (m : ℕ) → μ s < m → until done f m s ≡ r
+        turn : (s r : S) → I s → done s ≡ false → ((m : ℕ) → μ (f s) < m → until done f m (f s) ≡ r) → (m : ℕ)
+            → μ s < m → until done f m s ≡ r
         turn s r i e q zero k = absurd (omega arith)
         turn s r i e q (suc m) k = until-next m s e ∙ q m (let h = falls .less s i e in omega arith)
 
@@ -114,19 +117,23 @@ module _ {S : Type 0} (done : S → Bool) (f : S → S) where
       going-end e = sym (until-done n s e) ∙ g .same
 
 -- ---- two loops, with states that stay related
-pub until-related : {S S′ : Type 0} (done : S → Bool) (f : S → S) (done′ : S′ → Bool) (f′ : S′ → S′) (R : S → S′ → Type 0) → ((s : S) (t : S′) → R s t → done s ≡ done′ t)
-    → ((s : S) (t : S′) → R s t → done s ≡ false → R (f s) (f′ t)) → (n : ℕ) (s : S) (t : S′) → R s t → R (until done f n s) (until done′ f′ n t)
+pub until-related : {S S′ : Type 0} (done : S → Bool) (f : S → S) (done′ : S′ → Bool) (f′ : S′ → S′)
+    (R : S → S′ → Type 0) → ((s : S) (t : S′) → R s t → done s ≡ done′ t)
+    → ((s : S) (t : S′) → R s t → done s ≡ false → R (f s) (f′ t)) → (n : ℕ) (s : S) (t : S′) → R s t
+    → R (until done f n s) (until done′ f′ n t)
 unfolding until when
 until-related done f done′ f′ R test turn zero s t r = r
 until-related {S} {S′} done f done′ f′ R test turn (suc n) s t r = go (until-related done f done′ f′ R test turn n) (done s) (done′ t) refl (test s t r)
   where
-    go : ((s : S) (t : S′) → R s t → R (until done f n s) (until done′ f′ n t)) → (a b : Bool) → done s ≡ a → a ≡ b → R (when a (until done f n) f s) (when b (until done′ f′ n) f′ t)
+    go : ((s : S) (t : S′) → R s t → R (until done f n s) (until done′ f′ n t)) → (a b : Bool) → done s ≡ a → a ≡ b
+        → R (when a (until done f n) f s) (when b (until done′ f′ n) f′ t)
     go rest true true e q = r
     go rest true false e q = absurd (false≢true (sym q))
     go rest false true e q = absurd (false≢true q)
     go rest false false e q = rest (f s) (f′ t) (turn s t r e)
 
 -- one loop seen through a function h, where each turn commutes with it
-pub until-map : {S S′ : Type 0} (done : S → Bool) (f : S → S) (done′ : S′ → Bool) (f′ : S′ → S′) (h : S → S′) → ((s : S) → done s ≡ done′ (h s))
+pub until-map : {S S′ : Type 0} (done : S → Bool) (f : S → S) (done′ : S′ → Bool) (f′ : S′ → S′) (h : S → S′)
+    → ((s : S) → done s ≡ done′ (h s))
     → ((s : S) → done s ≡ false → h (f s) ≡ f′ (h s)) → (n : ℕ) (s : S) → h (until done f n s) ≡ until done′ f′ n (h s)
 until-map done f done′ f′ h test turn n s = until-related done f done′ f′ (λ s t. h s ≡ t) (λ s t e. test s ∙ ap done′ e) (λ s t e q. turn s q ∙ ap f′ e) n s (h s) refl

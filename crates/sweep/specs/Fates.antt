@@ -4,12 +4,12 @@ use mathlib.Core.Bool.{Bool, true, false, not, cond}
 use mathlib.Core.Path.{_≡_, refl, sym, _∙_, ap}
 use Prim.Native.Nat.{ℕ}
 use native.Mathlib.Omega.{arith}
-use lib.Dec.{T}
+use lib.Dec.{T, eqb}
 use lib.Ieee.{Float}
 use Rattle.angle.specs.Angle.{angleAbout, atCenter, turns}
 use Rattle.decide.specs.declared.Fate.{Fate}
 use Rattle.decide.specs.declared.Fate.the-variants.{Added, Dropped, NotLeft, Unsound, AtCenter}
-use Rattle.decide.specs.Decide.{Decided, ifAdded, atEnd, fateAt, decidedAt, decided}
+use Rattle.decide.specs.Decide.{Decided, fateNumber, ifAdded, atEnd, fateAt, decidedAt, decided}
 use Rattle.math.specs.declared.Point.{Point}
 use Rattle.mesh.specs.declared.Counts.{Counts}
 use Rattle.mesh.specs.Mesh.{Links}
@@ -17,6 +17,16 @@ use Rattle.ring.specs.Ring.{located}
 use Rattle.sums.specs.Bit.{from-false}
 use Rattle.ring.specs.Center.{turnsAbout}
 use Rattle.ring.specs.Chain.{seesEdge, soundAfter, leftChain, rightChain}
+use Rattle.sweep.specs.Step.{isAdded}
+
+-- fate 1 is that of an added point
+pub number-added : (f : Fate) → eqb (fateNumber f) 1 ≡ isAdded f
+unfolding fateNumber isAdded
+number-added (Added v) = refl
+number-added Dropped = refl
+number-added NotLeft = refl
+number-added Unsound = refl
+number-added AtCenter = refl
 
 pub record IsAdded (cx cy : Float) (C : Counts) (L : Links) (p : ℕ → Point) (v : Point) (n : ℕ) (D : Decided) : Type 0 where
   pub off-center : T (not (atCenter (v .x) (v .y) cx cy))

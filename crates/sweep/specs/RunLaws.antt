@@ -49,6 +49,7 @@ use Rattle.mesh_check.specs.Check.{pointCount, vertexCount}
 use Rattle.ring.specs.Boundary.{strict-ring}
 use Rattle.ring.specs.Center.{turnsAbout}
 use Rattle.start.specs.StartLaws.{AcceptedSweep, sweep-accepts}
+use Rattle.sweep.specs.Fates.{number-added}
 use Rattle.sweep.specs.Step.{Stepping, isAdded}
 use Rattle.sweep.specs.StepMesh.{Swept}
 use Rattle.sums.specs.Bounded.{count, count-ext}
@@ -58,14 +59,6 @@ use Rattle.sweep.specs.Demand3.{linksAfter, placesAfter, fateOf, vertexO
 
 -- ---- the answers
 -- fate 1 is that of an added point, and its vertex is in the answer
-number-added : (f : Fate) → eqb (fateNumber f) 1 ≡ isAdded f
-unfolding fateNumber isAdded
-number-added (Added v) = refl
-number-added Dropped = refl
-number-added NotLeft = refl
-number-added Unsound = refl
-number-added AtCenter = refl
-
 vertex-added : (f : Fate) → fateNumber f ≡ 1 → f ≡ Added (fateVertex f)
 unfolding fateNumber fateVertex
 vertex-added (Added v) z = refl

@@ -13,7 +13,7 @@ use Rattle.dcel.specs.Rows.{halvesOf, rowOf, positionOf, linksOf, rowFrom, fiel
 use Rattle.decide.specs.declared.Fate.the-variants.{Added, Dropped, NotLeft, Unsound, AtCenter}
 use Rattle.decide.specs.Decide.{isCoordinate, isPosition, atEnd, fateAt, ifAdded, decidedAt, decided}
 use Rattle.flip_count.specs.FlipCount.{flipCountFrom}
-use Rattle.legalize.specs.Legalize.{edgeOf, pushed, flipped, popped, legalize}
+use Rattle.legalize.specs.Legalize.{entryEdge, pushed, flipped, popped, legalize}
 use Rattle.locate.specs.Locate.{andThen, ringRowsShort, checkRing, checkStart}
 use Rattle.math.specs.declared.Point.{Point}
 use Rattle.math.specs.Determinant.{orient2d, incircle, height, factor, length2}
@@ -60,7 +60,7 @@ first-point : (stepSeed (at (pos 4) (pos 4)) .answer
     × (stepSeed (at (pos 4) (pos 4)) .outs ≡ 0 ∷ 2 ∷ 4 ∷ 8 ∷ 7 ∷ [])
     × (stepSeed (at (pos 4) (pos 4)) .faces ≡ 9 ∷ 0 ∷ 3 ∷ 7 ∷ 7 ∷ 7 ∷ 7 ∷ 7 ∷ [])
     × (stepSeed (at (pos 4) (pos 4)) .pending ≡ replicate 8 0)
-unfolding stepOf outcomeOf answerFrom stepChecked sweepChecked sweepRowsShort andThen checkStart checkRing ringRowsShort checkWith checkMesh countRefused vertexCount pointCount rowsShort vertexOrPoint meshRowsShort firstOutside turnsLeft firstNotLeft first-below halvesOf rowOf positionOf linksOf orient2d rules halfEdgeInUse linksInUse halfEdgeLinked innerFaceRule outerFaceRule sideRule vertexRule eulerRule all-below reaches rev boundaryAngles boundaryEdges boundaryLength period-below tally.walk refusesCenter refusesRing isStrictRing isSoundRing isSound isStrict merged mergedBefore allDiffer member countAround countBefore wraps proper wide gap turnsAbout turns angleAbout pseudoAngle ofDiff slope absoluteOf validCenter bounded atCenter isNumber any-below ofInt neg add sub mul div sum round units odd size span climb lt located holds tally.tally stepMesh applied appliedBy addedAt leftAlone decided decidedAt fateAt ifAdded atEnd isPosition isCoordinate soundAfter anglesAfter leftChain rightChain coversLeft coversRight factor length2 addVertex firstFace walk walkTurn walkEnds covers beside faceEdge closeCorner createNewFaceAdjacentToEdge faceAdjacent createSingleFaceBetweenEdgeAndNext faceBetween flipCw flipBetween put legalize edgeOf pushed flipped popped contains pushIfNotContained breaksCircle circleAt incircle height overFaces sums.sum until when flipCountFrom rowFrom field halvesIn halvesFrom coordinate positionsFrom
+unfolding stepOf outcomeOf answerFrom stepChecked sweepChecked sweepRowsShort andThen checkStart checkRing ringRowsShort checkWith checkMesh countRefused vertexCount pointCount rowsShort vertexOrPoint meshRowsShort firstOutside turnsLeft firstNotLeft first-below halvesOf rowOf positionOf linksOf orient2d rules halfEdgeInUse linksInUse halfEdgeLinked innerFaceRule outerFaceRule sideRule vertexRule eulerRule all-below reaches rev boundaryAngles boundaryEdges boundaryLength period-below tally.walk refusesCenter refusesRing isStrictRing isSoundRing isSound isStrict merged mergedBefore allDiffer member countAround countBefore wraps proper wide gap turnsAbout turns angleAbout pseudoAngle ofDiff slope absoluteOf validCenter bounded atCenter isNumber any-below ofInt neg add sub mul div sum round units odd size span climb lt located holds tally.tally stepMesh applied appliedBy addedAt leftAlone decided decidedAt fateAt ifAdded atEnd isPosition isCoordinate soundAfter anglesAfter leftChain rightChain coversLeft coversRight factor length2 addVertex firstFace walk walkTurn walkEnds covers beside faceEdge closeCorner createNewFaceAdjacentToEdge faceAdjacent createSingleFaceBetweenEdgeAndNext faceBetween flipCw flipBetween put legalize entryEdge pushed flipped popped contains pushIfNotContained breaksCircle circleAt incircle height overFaces sums.sum until when flipCountFrom rowFrom field halvesIn halvesFrom coordinate positionsFrom
 first-point = (refl, refl, refl, refl, refl)
 
 points : List Point → ℕ → Point
@@ -75,7 +75,7 @@ after v = stepMesh 8 one64 one64 (first .mesh .counts) (first .mesh .links) (fir
 
 further-points : (after (at (pos 2) (pos 2)) .fate ≡ NotLeft) × (after (at (pos 4) (pos 4)) .fate ≡ Dropped)
     × (after (at (pos 1) (pos 1)) .fate ≡ AtCenter)
-unfolding seed points first-below orient2d rev boundaryAngles boundaryEdges boundaryLength period-below tally.walk isSoundRing isSound merged mergedBefore allDiffer member countAround countBefore wraps proper wide gap turnsAbout turns angleAbout pseudoAngle ofDiff slope absoluteOf atCenter isNumber ofInt neg add sub mul div sum round units odd size span climb lt located holds tally.tally stepMesh applied appliedBy addedAt leftAlone decided decidedAt fateAt ifAdded atEnd isPosition isCoordinate soundAfter anglesAfter leftChain rightChain coversLeft coversRight factor length2 addVertex firstFace walk walkTurn walkEnds covers beside faceEdge closeCorner createNewFaceAdjacentToEdge faceAdjacent createSingleFaceBetweenEdgeAndNext faceBetween flipCw flipBetween put legalize edgeOf pushed flipped popped contains pushIfNotContained breaksCircle circleAt incircle height overFaces sums.sum until when
+unfolding seed points first-below orient2d rev boundaryAngles boundaryEdges boundaryLength period-below tally.walk isSoundRing isSound merged mergedBefore allDiffer member countAround countBefore wraps proper wide gap turnsAbout turns angleAbout pseudoAngle ofDiff slope absoluteOf atCenter isNumber ofInt neg add sub mul div sum round units odd size span climb lt located holds tally.tally stepMesh applied appliedBy addedAt leftAlone decided decidedAt fateAt ifAdded atEnd isPosition isCoordinate soundAfter anglesAfter leftChain rightChain coversLeft coversRight factor length2 addVertex firstFace walk walkTurn walkEnds covers beside faceEdge closeCorner createNewFaceAdjacentToEdge faceAdjacent createSingleFaceBetweenEdgeAndNext faceBetween flipCw flipBetween put legalize entryEdge pushed flipped popped contains pushIfNotContained breaksCircle circleAt incircle height overFaces sums.sum until when
 further-points = (refl, refl, refl)
 
 -- M5: "seed (0,0) (4,0) (2,1), centre (2, 0.5), point (2,-1): .. one flip"; with a pending list of one entry that flip is refused
@@ -84,10 +84,10 @@ kite room =
     stepMesh room (fin false 2 (pos 0)) (fin false 1 (negsuc 0)) seedCounts seed (points (at (pos 0) (pos 0) ∷ at (pos 4) (pos 0) ∷ at (pos 2) (pos 1) ∷ [])) (at (pos 2) (negsuc 0))
 
 kite-flip : (kite 8 .fate ≡ Added 3) × (kite 8 .mesh .faces ≡ 1) × (kite 8 .mesh .flips ≡ 1) × (kite 8 .mesh .full ≡ false)
-unfolding seed points first-below orient2d rev boundaryAngles boundaryEdges boundaryLength period-below tally.walk isSoundRing isSound merged mergedBefore allDiffer member countAround countBefore wraps proper wide gap turnsAbout turns angleAbout pseudoAngle ofDiff slope absoluteOf atCenter isNumber ofInt neg add sub mul div sum round units odd size span climb lt located holds tally.tally stepMesh applied appliedBy addedAt leftAlone decided decidedAt fateAt ifAdded atEnd isPosition isCoordinate soundAfter anglesAfter leftChain rightChain coversLeft coversRight factor length2 addVertex firstFace walk walkTurn walkEnds covers beside faceEdge closeCorner createNewFaceAdjacentToEdge faceAdjacent createSingleFaceBetweenEdgeAndNext faceBetween flipCw flipBetween put legalize edgeOf pushed flipped popped contains pushIfNotContained breaksCircle circleAt incircle height overFaces sums.sum until when
+unfolding seed points first-below orient2d rev boundaryAngles boundaryEdges boundaryLength period-below tally.walk isSoundRing isSound merged mergedBefore allDiffer member countAround countBefore wraps proper wide gap turnsAbout turns angleAbout pseudoAngle ofDiff slope absoluteOf atCenter isNumber ofInt neg add sub mul div sum round units odd size span climb lt located holds tally.tally stepMesh applied appliedBy addedAt leftAlone decided decidedAt fateAt ifAdded atEnd isPosition isCoordinate soundAfter anglesAfter leftChain rightChain coversLeft coversRight factor length2 addVertex firstFace walk walkTurn walkEnds covers beside faceEdge closeCorner createNewFaceAdjacentToEdge faceAdjacent createSingleFaceBetweenEdgeAndNext faceBetween flipCw flipBetween put legalize entryEdge pushed flipped popped contains pushIfNotContained breaksCircle circleAt incircle height overFaces sums.sum until when
 kite-flip = (refl, refl, refl, refl)
 
 kite-refused : (kite 1 .mesh .full ≡ true) × (kite 1 .mesh .flips ≡ 0)
     × (kite 1 .mesh .counts ≡ record { vertices = 4; edges = 5; faces = 3 })
-unfolding seed points first-below orient2d rev boundaryAngles boundaryEdges boundaryLength period-below tally.walk isSoundRing isSound merged mergedBefore allDiffer member countAround countBefore wraps proper wide gap turnsAbout turns angleAbout pseudoAngle ofDiff slope absoluteOf atCenter isNumber ofInt neg add sub mul div sum round units odd size span climb lt located holds tally.tally stepMesh applied appliedBy addedAt leftAlone decided decidedAt fateAt ifAdded atEnd isPosition isCoordinate soundAfter anglesAfter leftChain rightChain coversLeft coversRight factor length2 addVertex firstFace walk walkTurn walkEnds covers beside faceEdge closeCorner createNewFaceAdjacentToEdge faceAdjacent createSingleFaceBetweenEdgeAndNext faceBetween flipCw flipBetween put legalize edgeOf pushed flipped popped contains pushIfNotContained breaksCircle circleAt incircle height overFaces sums.sum until when
+unfolding seed points first-below orient2d rev boundaryAngles boundaryEdges boundaryLength period-below tally.walk isSoundRing isSound merged mergedBefore allDiffer member countAround countBefore wraps proper wide gap turnsAbout turns angleAbout pseudoAngle ofDiff slope absoluteOf atCenter isNumber ofInt neg add sub mul div sum round units odd size span climb lt located holds tally.tally stepMesh applied appliedBy addedAt leftAlone decided decidedAt fateAt ifAdded atEnd isPosition isCoordinate soundAfter anglesAfter leftChain rightChain coversLeft coversRight factor length2 addVertex firstFace walk walkTurn walkEnds covers beside faceEdge closeCorner createNewFaceAdjacentToEdge faceAdjacent createSingleFaceBetweenEdgeAndNext faceBetween flipCw flipBetween put legalize entryEdge pushed flipped popped contains pushIfNotContained breaksCircle circleAt incircle height overFaces sums.sum until when
 kite-refused = (refl, refl, refl)

@@ -1,7 +1,7 @@
 -- `circle_test::should_flip` meets its contract. Assumes nothing.
 use borrow.Author.Needs.{needs}
 use mathlib.Core.Path.{subst⁻¹}
-use Rattle.circle_test.specs.GoodRows.{Placed}
+use Rattle.dcel.specs.Rows.{Placed}
 use Rattle.circle_test.proofs.Tested.{outer-e, outer-t, inner, far-placed}
 use Rattle.circle_test.proofs.should_flip.Statement.{statement}
 use Rattle.circle_test.proofs.should_flip.Tie as tie

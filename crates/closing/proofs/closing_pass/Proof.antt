@@ -1,7 +1,7 @@
 -- `closing::closing_pass` meets its contract. The loop's invariant: to go on from here is to go on from the start. The measure is the height sum, and one for the
 -- turn that flips nothing. Assumes nothing.
 use Rattle.dcel.specs.Rows.{positionOf}
-use Rattle.closing.specs.ClosingLaws.{turnsLeft}
+use Rattle.closing.specs.ClosingLaws.{heightLeft}
 use Rattle.closing.proofs.Loops.{PassAt, passed, pass-starts, pass-on, pass-less, pass-ends}
 use Rattle.closing.proofs.closing_pass.Statement.{statement}
 use Rattle.closing.proofs.closing_pass.Tie as tie
@@ -10,7 +10,7 @@ abbrev Inv-loop : tie.InvT-loop
 Inv-loop positions outs₀ halves₀ faces₀ counts flips₀ still₀ outs halves faces flips still = PassAt counts positions outs₀ halves₀ faces₀ outs halves faces flips still
 
 abbrev μ-loop : tie.MeasureT-loop
-μ-loop positions outs₀ halves₀ faces₀ counts flips₀ still₀ outs halves faces flips still = turnsLeft counts (positionOf positions) (passed outs halves faces flips still)
+μ-loop positions outs₀ halves₀ faces₀ counts flips₀ still₀ outs halves faces flips still = heightLeft counts (positionOf positions) (passed outs halves faces flips still)
 
 zero-requires : tie.Need-zero-requires Inv-loop μ-loop
 zero-requires c κs = tt

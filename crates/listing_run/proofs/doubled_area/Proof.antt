@@ -4,7 +4,8 @@ use native.Mathlib.Omega.{arith}
 use borrow.Author.Needs.{sfits-of}
 use mir.Syntax.{w64}
 use mir.Val.{toZ}
-use Rattle.listing_run.proofs.Areas.{Totalled, totalled-none, corners-of, total-fits, totalled-next, totalled-all}
+use Rattle.mesh_check.specs.ReadableLaws.{corners-of}
+use Rattle.listing_run.proofs.Areas.{Totalled, totalled-none, total-fits, totalled-next, totalled-all}
 use Rattle.listing_run.proofs.doubled_area.Statement.{statement}
 use Rattle.listing_run.proofs.doubled_area.Tie as tie
 
@@ -21,7 +22,7 @@ adjacent-requires : tie.Need-adjacent-requires Inv-loop μ-loop
 adjacent-requires c κs = let a = c .before .before .before .before .pre .readable .faces in let b = c .loop-test .taken in omega arith
 
 doubled-area-at-requires : tie.Need-doubled-area-at-requires Inv-loop μ-loop
-doubled-area-at-requires c κs = corners-of (c .before .before .before .before .before .pre) (c .before .loop-test .taken) (c .adjacent .ensures)
+doubled-area-at-requires c κs = corners-of (c .before .before .before .before .before .pre .readable) (c .before .loop-test .taken) (c .adjacent .ensures)
 
 add-total : tie.Need-add-total Inv-loop μ-loop
 add-total c = total-fits _ _ _ (c .before .before .before .before .before .before .pre) (c .before .before .before .loop .inv) (c .before .before .loop-test .taken) (c .before .adjacent .ensures) (c .doubled-area-at .ensures) (sfits-of (c .doubled-area-at .ok))

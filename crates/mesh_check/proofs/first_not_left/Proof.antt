@@ -8,8 +8,9 @@ use lib.Dec.{ltb}
 use borrow.Author.Tests.{not-true, not-false}
 use Rattle.dcel.specs.Rows.{positionOf, linksOf}
 use Rattle.mesh_check.specs.Check.{turnsLeft, firstNotLeft}
+use Rattle.mesh_check.specs.ReadableLaws.{corners-of}
 use Rattle.mesh_check.proofs.Search.{Missed, missed-none, missed-more, found, found-none}
-use Rattle.mesh_check.proofs.Faces.{face-left, face-not-left, corners-of}
+use Rattle.mesh_check.proofs.Faces.{face-left, face-not-left}
 use Rattle.mesh_check.proofs.first_not_left.Statement.{statement}
 use Rattle.mesh_check.proofs.first_not_left.Tie as tie
 

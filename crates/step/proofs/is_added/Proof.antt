@@ -1,55 +1,21 @@
 -- `step::is_added` meets its contract. Assumes nothing.
+use mathlib.Core.Path.{_∙_, ap}
+use Prim.Native.Nat.{ℕ}
 use borrow.Author.Needs.{needs}
-use Rattle.sweep.specs.Step.{isAdded}
+use lib.Dec.{eqb}
+use Rattle.sweep.specs.Fates.{number-added}
 use Rattle.step.proofs.is_added.Statement.{statement}
 use Rattle.step.proofs.is_added.Tie as tie
 
-enum-told : tie.Need-enum-told
-enum-told c = search needs
-
-enum-told-2 : tie.Need-enum-told-2
-enum-told-2 c = search needs
-
-enum-told-3 : tie.Need-enum-told-3
-enum-told-3 c = search needs
-
-enum-told-4 : tie.Need-enum-told-4
-enum-told-4 c = search needs
-
-enum-told-5 : tie.Need-enum-told-5
-enum-told-5 c = search needs
+fate-number-requires : tie.Need-fate-number-requires
+fate-number-requires c κs = search needs
 
 returns : tie.Need-returns
-unfolding isAdded
-returns c = rw (c .enum-told .given .1)
-
-returns-2 : tie.Need-returns-2
-unfolding isAdded
-returns-2 c = rw (c .enum-told2 .given .1)
-
-returns-3 : tie.Need-returns-3
-unfolding isAdded
-returns-3 c = rw (c .enum-told3 .given .1)
-
-returns-4 : tie.Need-returns-4
-unfolding isAdded
-returns-4 c = rw (c .enum-told4 .given .1)
-
-returns-5 : tie.Need-returns-5
-unfolding isAdded
-returns-5 c = rw (c .enum-told5 .given .1)
+returns c = ap (λ (n : ℕ). eqb n 1) (c .fate-number .ensures) ∙ number-added _
 
 pub is-added-spec : {M : Type 1} → statement M
 is-added-spec =
     tie.close
     (tie.spec
-    enum-told
-    enum-told-2
-    enum-told-3
-    enum-told-4
-    enum-told-5
-    returns
-    returns-2
-    returns-3
-    returns-4
-    returns-5)
+    fate-number-requires
+    returns)

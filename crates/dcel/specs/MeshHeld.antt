@@ -1,4 +1,5 @@
--- Rows that hold a mesh that keeps the rules, and what an accessor asks of them. The operations' own conditions are in `Ready` of dcel_operations. Assumes nothing.
+-- Rows that hold a mesh that keeps the rules, and what an accessor asks of them. The operations' own conditions are in
+-- `Ready` of dcel_operations. Assumes nothing.
 use Prim.Native.Nat.{ℕ, _+_, _*_, _<_, _≤_, _^_}
 use native.Mathlib.Omega.{arith}
 use mathlib.Core.Path.{_≡_, subst⁻¹}
@@ -18,11 +19,11 @@ pub record Room (C : Counts) (o h a : List ℕ) : Type 0 where
   pub small : C .edges < 2 ^ 31
 
 -- the rows hold a mesh of these counts that keeps the rules
-pub record Held (C : Counts) (o h a : List ℕ) : Type 0 where
+pub record MeshHeld (C : Counts) (o h a : List ℕ) : Type 0 where
   pub room : Room C o h a
   pub rules : Wf C (linksOf o h a)
 
-module _ {C : Counts} {o h a : List ℕ} (H : Held C o h a) where
+module _ {C : Counts} {o h a : List ℕ} (H : MeshHeld C o h a) where
   -- what `next`, `prev`, `face`, `origin`, `half_edge` ask of a half-edge in use, and `to`
   pub there : {e : ℕ} → In C e → There h e
   there l = omega arith
@@ -74,8 +75,9 @@ module _ {C : Counts} {o h a : List ℕ} (H : Held C o h a) where
   counts-fit = let e = H .rules .euler in omega arith
 
 -- after an operation: rows of the same lengths whose links keep the rules
-pub held-again : {C : Counts} {o h a : List ℕ} → Room C o h a → (o′ h′ a′ : List ℕ) → length o′ ≡ length o → length h′ ≡ length h → length a′ ≡ length a
-    → {L : Links} → linksOf o′ h′ a′ ≡ L → Wf C L → Held C o′ h′ a′
+pub held-again : {C : Counts} {o h a : List ℕ} → Room C o h a → (o′ h′ a′ : List ℕ) → length o′ ≡ length o
+    → length h′ ≡ length h → length a′ ≡ length a
+    → {L : Links} → linksOf o′ h′ a′ ≡ L → Wf C L → MeshHeld C o′ h′ a′
 held-again {C} R o′ h′ a′ p q r e W = record {
   room = record { outs = omega arith; halves = omega arith; faces = omega arith; small = R .small };
   rules = subst⁻¹ (Wf C) e W;

@@ -1,10 +1,10 @@
--- `listing_run::doubled_area_at` meets its contract. Assumes nothing.
+-- `mesh_check::doubled_area_at` meets its contract. Assumes nothing.
 use mir.Facts.{toZ-ofZ}
 use borrow.Author.Needs.{needs, sfits-of}
-use Rattle.listing_run.proofs.Areas.{second-there, third-there, placed-one, placed-two, placed-three, placed-range, area-is}
+use Rattle.mesh_check.proofs.Faces.{second-there, third-there, placed-one, placed-two, placed-three, placed-range, area-is}
 use mathlib.Core.Path.{_∙_}
-use Rattle.listing_run.proofs.doubled_area_at.Statement.{statement}
-use Rattle.listing_run.proofs.doubled_area_at.Tie as tie
+use Rattle.mesh_check.proofs.doubled_area_at.Statement.{statement}
+use Rattle.mesh_check.proofs.doubled_area_at.Tie as tie
 
 next-requires : tie.Need-next-requires
 next-requires c κs = c .before .pre .first

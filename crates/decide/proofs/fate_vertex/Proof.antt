@@ -1,8 +1,8 @@
--- `run::fate_vertex` meets its contract. Assumes nothing.
+-- `decide::fate_vertex` meets its contract. Assumes nothing.
 use Rattle.decide.specs.Decide.{fateVertex}
 use borrow.Author.Needs.{needs}
-use Rattle.run.proofs.fate_vertex.Statement.{statement}
-use Rattle.run.proofs.fate_vertex.Tie as tie
+use Rattle.decide.proofs.fate_vertex.Statement.{statement}
+use Rattle.decide.proofs.fate_vertex.Tie as tie
 
 enum-known-fate : tie.Need-enum-known-fate
 enum-known-fate c = search needs

@@ -1,8 +1,8 @@
--- `run::fate_number` meets its contract. Assumes nothing.
+-- `decide::fate_number` meets its contract. Assumes nothing.
 use Rattle.decide.specs.Decide.{fateNumber}
 use borrow.Author.Needs.{needs}
-use Rattle.run.proofs.fate_number.Statement.{statement}
-use Rattle.run.proofs.fate_number.Tie as tie
+use Rattle.decide.proofs.fate_number.Statement.{statement}
+use Rattle.decide.proofs.fate_number.Tie as tie
 
 enum-told : tie.Need-enum-told
 enum-told c = search needs
