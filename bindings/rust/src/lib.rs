@@ -78,16 +78,6 @@ impl Answer {
     pub fn flips(&self) -> u128 {
         wide(self.flips_high, self.flips_low)
     }
-
-    fn of(words: &[u64]) -> Answer {
-        Answer {
-            fate: words[0],
-            vertex: words[1],
-            faces: words[2],
-            flips_high: words[3],
-            flips_low: words[4],
-        }
-    }
 }
 
 fn wide(high: u64, low: u64) -> u128 {
@@ -212,10 +202,10 @@ impl Mesh {
     /// After [`Refusal::Pending`] the mesh is good, and the points before the named one are in it.
     pub fn run(&mut self, center: [f64; 2], points: &[[i32; 2]]) -> Result<Run, Refusal> {
         let room = self.rows.reserve(points.len());
-        let mut words = vec![0u64; 5 * points.len()];
-        let result = self.rows.run(&mut Scratch::new(room), &mut words, center, points.as_flattened());
+        let mut answers = vec![Answer::default(); points.len()];
+        let result = self.rows.run(&mut Scratch::new(room), &mut answers, center, points);
         refusal::of(result.refusal, result.place)?;
-        Ok(Run { answers: words.chunks_exact(5).map(Answer::of).collect(), totals: totals_of(&result) })
+        Ok(Run { answers, totals: totals_of(&result) })
     }
 
     pub fn vertex_count(&self) -> usize {

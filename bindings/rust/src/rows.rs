@@ -2,7 +2,7 @@
 
 use crate::refusal::Refusal;
 use crate::sys::{self, CheckResult, FinishResult, LocateResult, Node, StepResult};
-use crate::MOST_VERTICES;
+use crate::{Answer, MOST_VERTICES};
 
 #[derive(Clone, Copy, Debug, PartialEq, Eq)]
 pub struct Counts {
@@ -214,9 +214,9 @@ impl Rows {
     pub fn run(
         &mut self,
         scratch: &mut Scratch,
-        answers: &mut [u64],
+        answers: &mut [Answer],
         [x, y]: [f64; 2],
-        points: &[i32],
+        points: &[[i32; 2]],
     ) -> FinishResult {
         let Counts { vertices, edges, faces } = self.counts;
         let result = unsafe {
@@ -240,12 +240,13 @@ impl Rows {
                 scratch.buckets.len(),
                 scratch.pending.as_mut_ptr(),
                 scratch.pending.len(),
-                answers.as_mut_ptr(),
-                answers.len(),
+                // an answer is five words
+                answers.as_mut_ptr().cast(),
+                5 * answers.len(),
                 x,
                 y,
-                points.as_ptr(),
-                points.len(),
+                points.as_ptr().cast(),
+                2 * points.len(),
             )
         };
         self.counts = Counts { vertices: result.vertices, edges: result.edges, faces: result.faces };
