@@ -189,6 +189,27 @@ impl Sweep {
         Ok([faces, budget::flips() - flips].map(|n| n as u32))
     }
 
+    /// Room for a mesh of so many vertices, as `bulk_load` makes it.
+    pub fn reserve(&mut self, vertices: usize) {
+        let dcel = self.swept.s_mut();
+        dcel.vertices.reserve(vertices);
+        dcel.edges.reserve(3 * vertices);
+        dcel.faces.reserve(2 * vertices);
+    }
+
+    /// Every step, with nothing around the Rust's own function: what a benchmark times.
+    pub fn steps_alone(&mut self, points: &[Position]) {
+        for &position in points {
+            let vertex = VertexToInsert::NewVertex(point(position));
+            single_bulk_insertion_step(&mut self.swept, false, &mut self.hull, vertex, &mut self.buffer);
+        }
+    }
+
+    /// `fix_convexity` once, likewise.
+    pub fn pass_alone(&mut self) {
+        fix_convexity(&mut self.swept);
+    }
+
     pub fn rows(&self) -> Mesh {
         rows(&self.swept)
     }

@@ -43,7 +43,7 @@ impl FixedUndirectedEdgeHandle {
     /// `flip_cw` calls this once, and it alone of dcel_operations.rs in a sweep: so flips are counted.
     #[track_caller]
     pub fn as_directed(self) -> FixedDirectedEdgeHandle {
-        if Location::caller().file().ends_with("dcel_operations.rs") {
+        if cfg!(feature = "budget") && Location::caller().file().ends_with("dcel_operations.rs") {
             budget::flip();
         }
         self.normalized()

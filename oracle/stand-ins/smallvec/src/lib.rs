@@ -1,16 +1,27 @@
-//! `SmallVec` as spade uses it: a growing list. The inline capacity is not kept.
+//! `SmallVec` as spade uses it: a growing list. The inline capacity is not kept, but with the feature `inline`, for benchmarks.
 
 use core::ops::{Deref, DerefMut};
 
+#[cfg(feature = "inline")]
+mod inline;
+
+#[cfg(feature = "inline")]
+use inline::List;
+
+#[cfg(not(feature = "inline"))]
+type List<A> = Vec<<A as Array>::Item>;
+
 pub trait Array {
     type Item;
+    const ROOM: usize;
 }
 
 impl<T, const N: usize> Array for [T; N] {
     type Item = T;
+    const ROOM: usize = N;
 }
 
-pub struct SmallVec<A: Array>(Vec<A::Item>);
+pub struct SmallVec<A: Array>(List<A>);
 
 impl<A: Array> SmallVec<A> {
     pub fn push(&mut self, value: A::Item) {
@@ -24,7 +35,7 @@ impl<A: Array> SmallVec<A> {
 
 impl<A: Array> Default for SmallVec<A> {
     fn default() -> Self {
-        SmallVec(Vec::new())
+        SmallVec(List::<A>::new())
     }
 }
 

@@ -1,0 +1,91 @@
+//! The points of a benchmark: the same numbers give the same points.
+
+use fithmoul::{by_distance, middle, seed_of};
+
+/// A seed triangle, a centre in it, and the points to run.
+pub struct Input {
+    pub corners: [[i32; 2]; 3],
+    pub center: [f64; 2],
+    pub points: Vec<[i32; 2]>,
+}
+
+pub const KINDS: [&str; 6] = ["uniform", "clustered", "gridded", "along lines", "spiral", "random order"];
+
+struct Random(u64);
+
+impl Random {
+    fn next(&mut self) -> u64 {
+        self.0 ^= self.0 << 13;
+        self.0 ^= self.0 >> 7;
+        self.0 ^= self.0 << 17;
+        self.0
+    }
+
+    /// From -r to r.
+    fn within(&mut self, r: i32) -> i32 {
+        (self.next() % (2 * r as u64 + 1)) as i32 - r
+    }
+}
+
+const REACH: i32 = 8_000_000;
+
+fn clustered(random: &mut Random, count: usize) -> Vec<[i32; 2]> {
+    let middles: Vec<[i32; 2]> = (0..64).map(|_| [random.within(REACH), random.within(REACH)]).collect();
+    let near = |random: &mut Random| (0..4).map(|_| random.within(60_000)).sum::<i32>();
+    (0..count)
+        .map(|i| {
+            let [x, y] = middles[i % 64];
+            [x + near(random), y + near(random)]
+        })
+        .collect()
+}
+
+fn gridded(count: usize) -> Vec<[i32; 2]> {
+    let side = (count as f64).sqrt().ceil() as usize;
+    let place = |k: usize| (k as i32 - side as i32 / 2) * 1_000;
+    (0..count).map(|i| [place(i % side), place(i / side)]).collect()
+}
+
+/// Profiles: thirty lines in all directions, each with as many points.
+fn along_lines(random: &mut Random, count: usize) -> Vec<[i32; 2]> {
+    let lines: Vec<[i32; 4]> = (0..30)
+        .map(|_| [random.within(REACH / 2), random.within(REACH / 2), random.within(1_000), random.within(1_000)])
+        .collect();
+    (0..count)
+        .map(|i| {
+            let [x, y, dx, dy] = lines[i % 30];
+            let t = random.within(REACH / 2_000);
+            [x + t * dx, y + t * dy]
+        })
+        .collect()
+}
+
+/// Along Archimedes' spiral, at even distances.
+fn spiral(count: usize) -> Vec<[i32; 2]> {
+    let turn = std::f64::consts::TAU;
+    (0..count)
+        .map(|i| {
+            let angle = (2.0 * turn * (i as f64 + 1.0)).sqrt();
+            let radius = 3_000.0 * angle / turn;
+            [(radius * angle.cos()).round() as i32, (radius * angle.sin()).round() as i32]
+        })
+        .collect()
+}
+
+/// The points of a kind, with the seed's: as `bulk_load` sorts them, but for the spiral and the random order.
+pub fn make(kind: &str, count: usize) -> Input {
+    let random = &mut Random(0x9e37_79b9_7f4a_7c15);
+    let all = match kind {
+        "clustered" => clustered(random, count),
+        "gridded" => gridded(count),
+        "along lines" => along_lines(random, count),
+        "spiral" => spiral(count),
+        _ => (0..count).map(|_| [random.within(REACH), random.within(REACH)]).collect(),
+    };
+    let sorted = by_distance(&all);
+    let seed = seed_of(&all, &sorted).expect("three points that are not on one line");
+    let order = if matches!(kind, "spiral" | "random order") { (0..count).collect() } else { sorted };
+    let corners = seed.map(|i| all[i]);
+    let points = order.into_iter().filter(|i| !seed.contains(i)).map(|i| all[i]).collect();
+    Input { corners, center: middle(corners), points }
+}

@@ -1,0 +1,250 @@
+//! Seconds and memory of a run: this library's, through its exports, beside the Rust's sweep from the same seed and centre, and beside CGAL.
+//!
+//! `bench_run [TURNS [LARGEST]]` prints the tables; `bench_run once SIDE KIND COUNT` makes one run, for a profiler; `bench_run memory SIDE KIND COUNT`
+//! prints the peak of one run's memory. In each turn all sides take the same input one after the other, and the median of the turns counts.
+//! Every run is compared: the same vertices, and our finished mesh is what our finish makes of the mesh after the Rust's last step, link by link.
+
+mod inputs;
+
+use std::hint::black_box;
+use std::path::Path;
+use std::process::Command;
+use std::time::Instant;
+
+use fithmoul::{Fate, Mesh, Run};
+use inputs::{make, Input, KINDS};
+use oracle::driver::Sweep;
+use oracle::mesh;
+
+const SIZES: [usize; 4] = [1_000, 10_000, 100_000, 1_000_000];
+
+/// From the seed to the finished mesh, memory and all.
+fn ours(input: &Input) -> (Mesh, Run) {
+    let mut mesh = Mesh::triangle(input.corners).expect("a seed");
+    let run = mesh.run(input.center, &input.points).expect("an accepted run");
+    (mesh, run)
+}
+
+/// The same of the Rust: to the mesh after the first convexity pass, which is where its bulk load ends but for the points that it skipped.
+fn rust(input: &Input) -> Sweep {
+    let mut sweep = rust_stepped(input);
+    sweep.pass_alone();
+    sweep
+}
+
+fn rust_stepped(input: &Input) -> Sweep {
+    let Ok(mut sweep) = Sweep::new(&mesh::Mesh::triangle(input.corners), input.center) else {
+        panic!("the Rust finds no hull")
+    };
+    sweep.reserve(input.points.len());
+    sweep.steps_alone(&input.points);
+    sweep
+}
+
+fn seconds<T>(work: impl FnOnce() -> T) -> (f64, T) {
+    let start = Instant::now();
+    let made = black_box(work());
+    (start.elapsed().as_secs_f64(), made)
+}
+
+/// Seconds of one of so many.
+fn each<T>(times: usize, mut work: impl FnMut() -> T) -> f64 {
+    let start = Instant::now();
+    for _ in 0..times {
+        black_box(work());
+    }
+    start.elapsed().as_secs_f64() / times as f64
+}
+
+fn median(mut all: Vec<f64>) -> f64 {
+    all.sort_by(f64::total_cmp);
+    all[all.len() / 2]
+}
+
+/// A time in milliseconds, with three digits.
+fn ms(seconds: f64) -> String {
+    let ms = seconds * 1e3;
+    let digits = if ms < 10.0 { 2 } else { usize::from(ms < 100.0) };
+    format!("{ms:.digits$}")
+}
+
+fn of_rows(m: &mesh::Mesh) -> Mesh {
+    Mesh::from_rows(&m.positions, &m.out_edges, &m.half_edges, &m.faces).expect("a good mesh")
+}
+
+/// The parts of our run, in seconds, taken on the meshes that the Rust leaves after its steps and after its first pass, which are ours too.
+struct Parts {
+    check: f64,
+    first_pass: f64,
+    rest: f64,
+}
+
+struct Checked {
+    added: usize,
+    comparable: bool,
+    parts: Parts,
+}
+
+/// Both sides once, compared; and the parts.
+fn compared(input: &Input, turns: usize) -> Checked {
+    let (finished, run) = ours(input);
+    let count = |wanted: fn(Fate) -> bool| run.answers.iter().filter(|a| wanted(a.fate())).count();
+    let added = count(|f| matches!(f, Fate::Added(_)));
+    let beyond = count(|f| matches!(f, Fate::Unsound | Fate::AtCenter));
+    let mut parts = Parts { check: f64::NAN, first_pass: f64::NAN, rest: f64::NAN };
+    if beyond != 0 {
+        return Checked { added, comparable: false, parts };
+    }
+    let mut sweep = rust_stepped(input);
+    let stepped = of_rows(&sweep.rows());
+    sweep.pass_alone();
+    let passed = of_rows(&sweep.rows());
+    let timed = |mesh: &Mesh| {
+        let mut copy = mesh.clone();
+        let (time, totals) = seconds(|| copy.finish().expect("a good mesh"));
+        assert!(copy == finished, "the finished meshes differ");
+        (time, totals)
+    };
+    assert_eq!(timed(&stepped).1, run.totals);
+    let take = |work: &dyn Fn() -> f64| median((0..turns).map(|_| work()).collect());
+    parts.check = take(&|| seconds(|| stepped.check().expect("a good mesh")).0);
+    let whole = take(&|| timed(&stepped).0);
+    let after = take(&|| timed(&passed).0);
+    parts.first_pass = whole - after;
+    parts.rest = after - parts.check;
+    Checked { added, comparable: true, parts }
+}
+
+/// What /proc has of this process, in kB.
+fn status(name: &str) -> u64 {
+    let text = std::fs::read_to_string("/proc/self/status").unwrap_or_default();
+    let line = text.lines().find(|l| l.starts_with(name)).unwrap_or_default();
+    line.split_whitespace().nth(1).and_then(|w| w.parse().ok()).unwrap_or(0)
+}
+
+fn once(side: &str, input: &Input) {
+    match side {
+        "ours" => drop(black_box(ours(input))),
+        _ => drop(black_box(rust(input))),
+    }
+}
+
+/// The peak of one side's memory, in MB, with the list of points: a process of its own.
+fn peak(side: &str, kind: &str, count: usize) -> f64 {
+    let program = std::env::current_exe().expect("this program");
+    let output = Command::new(program).args(["memory", side, kind, &count.to_string()]).output();
+    let text = String::from_utf8(output.expect("it runs").stdout).unwrap_or_default();
+    text.trim().parse::<f64>().unwrap_or(f64::NAN) / 1024.0
+}
+
+/// CGAL's seconds and MB on points that were written to a file; none where its program was not built.
+fn cgal(program: &Path, file: &Path) -> Option<[f64; 2]> {
+    let output = Command::new(program).arg(file).output().ok()?;
+    let text = String::from_utf8(output.stdout).ok()?;
+    let mut numbers = text.split_whitespace().map(|w| w.parse::<f64>());
+    Some([numbers.next()?.ok()?, numbers.next()?.ok()? / 1024.0])
+}
+
+fn write_points(file: &Path, input: &Input) {
+    let all = input.corners.iter().chain(&input.points);
+    let bytes: Vec<u8> = all.flatten().flat_map(|c| c.to_le_bytes()).collect();
+    std::fs::write(file, bytes).expect("the folder target/ can be written");
+}
+
+struct Row {
+    kind: &'static str,
+    count: usize,
+    ours: f64,
+    rust: f64,
+    cgal: Option<[f64; 2]>,
+    checked: Checked,
+    steps: [f64; 2],
+}
+
+fn measure(kind: &'static str, count: usize, turns: usize, beside: Option<&Path>) -> Row {
+    let input = make(kind, count);
+    let checked = compared(&input, turns);
+    let times = (100_000 / count).max(1);
+    let file = Path::new("target/bench_points.bin");
+    let sorted = !matches!(kind, "spiral" | "random order");
+    let beside = beside.filter(|_| sorted && count >= 100_000);
+    if beside.is_some() {
+        write_points(file, &input);
+    }
+    let [mut a, mut b, mut s, mut c, mut m] = [const { Vec::new() }; 5];
+    for _ in 0..turns {
+        a.push(each(times, || ours(&input)));
+        if checked.comparable {
+            b.push(each(times, || rust(&input)));
+            s.push(each(times, || rust_stepped(&input)));
+        }
+        if let Some([time, memory]) = beside.and_then(|program| cgal(program, file)) {
+            c.push(time);
+            m.push(memory);
+        }
+    }
+    let one = |all: Vec<f64>| if all.is_empty() { f64::NAN } else { median(all) };
+    let cgal = (!c.is_empty()).then(|| [one(c), one(m)]);
+    let [ours, rust, rust_steps] = [one(a), one(b), one(s)];
+    let parts = &checked.parts;
+    let steps = [ours - parts.first_pass - parts.rest, rust_steps];
+    Row { kind, count, ours, rust, cgal, checked, steps }
+}
+
+fn main() {
+    let words: Vec<String> = std::env::args().skip(1).collect();
+    if let [mode, side, kind, count] = &words[..] {
+        let input = make(kind, count.parse().expect("a number of points"));
+        // the peak from here on
+        let _ = std::fs::write("/proc/self/clear_refs", "5");
+        once(side, &input);
+        if mode == "memory" {
+            println!("{}", status("VmHWM:"));
+        }
+        return;
+    }
+    let number = |i: usize, other: usize| words.get(i).and_then(|w| w.parse().ok()).unwrap_or(other);
+    let (turns, largest) = (number(0, 5), number(1, 1_000_000));
+    let program = Path::new("target/bench_cgal");
+    let beside = program.exists().then_some(program);
+    tables(turns, largest, beside);
+}
+
+fn tables(turns: usize, largest: usize, beside: Option<&Path>) {
+    let cases = KINDS.iter().flat_map(|&kind| SIZES.map(|count| (kind, count)));
+    let rows: Vec<Row> = cases
+        .filter(|&(_, count)| count <= largest)
+        .map(|(kind, count)| {
+            eprintln!("{kind} {count}");
+            measure(kind, count, turns, beside)
+        })
+        .collect();
+    println!("| points | number | added | ours (ms) | Rust (ms) | ours / Rust | steps: ours | Rust | ratio | finish: ours | Rust's pass | check |");
+    println!("|---|---|---|---|---|---|---|---|---|---|---|---|");
+    for r in &rows {
+        let Parts { check, first_pass, rest } = r.checked.parts;
+        let added = r.checked.added + 3;
+        let [ours, rust] = r.steps;
+        print!("| {} | {} | {added} | {} | {} | {:.2} ", r.kind, r.count, ms(r.ours), ms(r.rust), r.ours / r.rust);
+        print!("| {} | {} | {:.2} | {} ", ms(ours), ms(rust), ours / rust, ms(first_pass + rest));
+        println!("| {} | {} |", ms((r.rust - rust).max(0.0)), ms(check));
+    }
+    println!();
+    println!("| points | number | ours (MB) | Rust (MB) |\n|---|---|---|---|");
+    for r in rows.iter().filter(|r| r.count >= 100_000) {
+        let [a, b] = ["ours", "rust"].map(|side| peak(side, r.kind, r.count));
+        println!("| {} | {} | {a:.0} | {b:.0} |", r.kind, r.count);
+    }
+    println!();
+    if beside.is_none() {
+        println!("CGAL: target/bench_cgal was not built (libcgal-dev and c++ are needed)");
+        return;
+    }
+    println!("| points | number | ours (ms) | CGAL (ms) | ours / CGAL | CGAL (MB) |\n|---|---|---|---|---|---|");
+    for r in &rows {
+        if let Some([time, memory]) = r.cgal {
+            let ratio = r.ours / time;
+            println!("| {} | {} | {} | {} | {ratio:.2} | {memory:.0} |", r.kind, r.count, ms(r.ours), ms(time));
+        }
+    }
+}

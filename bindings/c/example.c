@@ -1,0 +1,69 @@
+/* A triangle, a centre and four points, to a finished mesh: the sample of the specification, through include/fithmoul.h. Prints each point's answer, the
+ * triangles, and what a refused call answers. It is C and C++. */
+#include "fithmoul.h"
+
+#include <inttypes.h>
+#include <stdio.h>
+
+#define SEED 3
+#define POINTS 4
+#define N (SEED + POINTS)
+
+/* the seed: half-edges 0, 2, 4 run through vertices 0, 1, 2 in face 1; the odd ones are their reverses in the outer face, 0 */
+static int32_t positions[FITHMOUL_POSITIONS(N)] = {0, 0, 4, 0, 0, 4};
+static uint32_t outs[FITHMOUL_OUTS(N)] = {0, 2, 4};
+static uint32_t halves[FITHMOUL_HALVES(N)] = {2, 4, 1, 0, 5, 3, 0, 1, 4, 0, 1, 1, 1, 5, 0, 2, 0, 2, 1, 2, 3, 1, 0, 0};
+static uint32_t adjacent[FITHMOUL_ADJACENT(N)] = {1, 0};
+
+/* rows that hold nothing between calls */
+static fithmoul_node nodes[FITHMOUL_NODES(N)];
+static uint32_t freed[FITHMOUL_FREED(N)];
+static uint32_t buckets[FITHMOUL_BUCKETS(N)];
+static uint32_t pending[4096];
+static uint64_t answers[FITHMOUL_ANSWERS(POINTS)];
+
+static const int32_t points[2 * POINTS] = {4, 4, 2, 2, 4, 4, 1, 1};
+
+#define LENGTH(row) (sizeof(row) / sizeof((row)[0]))
+
+static fithmoul_finish_result run(double x, double y) {
+    return fithmoul_run(
+        SEED, 3, 2, positions, LENGTH(positions), outs, LENGTH(outs), halves, LENGTH(halves), adjacent, LENGTH(adjacent),
+        nodes, LENGTH(nodes), freed, LENGTH(freed), buckets, LENGTH(buckets), pending, LENGTH(pending), answers, LENGTH(answers),
+        x, y, points, LENGTH(points));
+}
+
+static void print_triangles(uint32_t faces) {
+    for (uint32_t f = 1; f < faces; f++) {
+        uint32_t a = adjacent[f];
+        uint32_t b = halves[4 * a];
+        uint32_t c = halves[4 * b];
+        printf("triangle %" PRIu32 " %" PRIu32 " %" PRIu32 "\n", halves[4 * a + 3], halves[4 * b + 3], halves[4 * c + 3]);
+    }
+}
+
+int main(void) {
+    fithmoul_finish_result refused = run(9.0, 9.0);
+    printf("about (9, 9): refusal %" PRIu32 "\n", refused.refusal);
+
+    fithmoul_finish_result done = run(1.0, 1.0);
+    if (done.refusal != 0) {
+        printf("refusal %" PRIu32 " at %" PRIu32 "\n", done.refusal, done.place);
+        return 1;
+    }
+    for (int i = 0; i < POINTS; i++) {
+        const uint64_t *a = &answers[5 * i];
+        printf("point %d: fate %" PRIu64 ", vertex %" PRIu64 ", %" PRIu64 " faces, %" PRIu64 " flips\n", i, a[0], a[1], a[2], a[4]);
+    }
+    printf("%" PRIu32 " vertices, %" PRIu32 " edges, %" PRIu32 " triangles\n", done.vertices, done.edges, done.faces - 1);
+    print_triangles(done.faces);
+
+    fithmoul_check_result good = fithmoul_check(
+        done.vertices, done.edges, done.faces, positions, LENGTH(positions), outs, LENGTH(outs), halves, LENGTH(halves),
+        adjacent, LENGTH(adjacent));
+    fithmoul_locate_result east = fithmoul_locate(
+        done.vertices, done.edges, done.faces, positions, LENGTH(positions), outs, LENGTH(outs), halves, LENGTH(halves),
+        adjacent, LENGTH(adjacent), nodes, LENGTH(nodes), freed, LENGTH(freed), buckets, LENGTH(buckets), 1.0, 1.0, 0.5);
+    printf("check: refusal %" PRIu32 "; due east: edge from vertex %" PRIu32 "\n", good.refusal, halves[4 * east.edge + 3]);
+    return 0;
+}

@@ -1,0 +1,334 @@
+//! A mesh of triangles over points on a whole-number grid: points in, triangles out.
+//!
+//! The work is done by libfithmoul.a, whose every function is proved; this crate owns the rows that it works on, so that a call cannot be given wrong
+//! ones, and turns its numbers into Rust's types. Every call answers a result or a [`Refusal`]; none panics, whatever it is given.
+//!
+//! ```
+//! # fn main() -> Result<(), fithmoul::LoadError> {
+//! let loaded = fithmoul::Mesh::bulk_load(&[[0, 0], [40, 0], [0, 40], [40, 40], [90, 10]])?;
+//! for [a, b, c] in loaded.mesh.triangles() {
+//!     println!("{a} {b} {c}");
+//! }
+//! assert_eq!(loaded.mesh.triangles().count(), 3);
+//! # Ok(())
+//! # }
+//! ```
+//!
+//! Coordinates are whole numbers, millimetres say, from -16,777,216 to 16,777,216; a mesh has at most 1,000,000 vertices. In a finished mesh every
+//! triangle turns left (counterclockwise), no corner of the boundary turns left, and no triangle's circle strictly contains the far vertex of a neighbour.
+
+mod refusal;
+mod rows;
+pub mod sys;
+
+use std::cmp::Reverse;
+use std::fmt;
+
+pub use refusal::{LoadError, Refusal};
+use rows::{Rows, Scratch};
+
+/// The greatest coordinate.
+pub const RANGE: i32 = 16_777_216;
+
+/// The most vertices of a mesh.
+pub const MOST_VERTICES: usize = 1_000_000;
+
+/// What became of a point.
+#[derive(Clone, Copy, Debug, PartialEq, Eq)]
+pub enum Fate {
+    /// It is this vertex.
+    Added(u32),
+    /// It equals an end of the boundary edge at its angle.
+    Dropped,
+    /// It is not outside the boundary edge at its angle: inside the mesh, or on that edge's line.
+    NotLeft,
+    /// The boundary that it would leave has no sound ring about the centre.
+    Unsound,
+    /// It is the centre.
+    AtCenter,
+    /// It was not reached: the run was refused before it.
+    NotReached,
+}
+
+/// A point's answer as the library writes it, word by word; [`Answer::fate`], [`Answer::flips`] and `faces` read it.
+#[repr(C)]
+#[derive(Clone, Copy, Debug, Default, PartialEq, Eq)]
+pub struct Answer {
+    fate: u64,
+    vertex: u64,
+    /// The faces that its step added.
+    pub faces: u64,
+    flips_high: u64,
+    flips_low: u64,
+}
+
+impl Answer {
+    pub fn fate(&self) -> Fate {
+        match self.fate {
+            1 => Fate::Added(self.vertex as u32),
+            2 => Fate::Dropped,
+            3 => Fate::NotLeft,
+            4 => Fate::Unsound,
+            5 => Fate::AtCenter,
+            _ => Fate::NotReached,
+        }
+    }
+
+    /// The flips of its step.
+    pub fn flips(&self) -> u128 {
+        wide(self.flips_high, self.flips_low)
+    }
+}
+
+fn wide(high: u64, low: u64) -> u128 {
+    u128::from(high) << 64 | u128::from(low)
+}
+
+/// A boundary edge, and how many nodes of the ring were passed after the first on the way to it.
+#[derive(Clone, Copy, Debug, PartialEq, Eq)]
+pub struct Place {
+    pub edge: u32,
+    pub passed: u32,
+}
+
+/// What a finish did.
+#[derive(Clone, Copy, Debug, PartialEq, Eq)]
+pub struct Totals {
+    /// The faces that the convexity passes added.
+    pub faces: u32,
+    pub convex_flips: u128,
+    pub closing_flips: u128,
+}
+
+/// What a run did: an answer for each point, and its finish.
+#[derive(Clone, Debug, PartialEq, Eq)]
+pub struct Run {
+    pub answers: Vec<Answer>,
+    pub totals: Totals,
+}
+
+/// A mesh that was made of points alone.
+#[derive(Clone, Debug)]
+pub struct Loaded {
+    pub mesh: Mesh,
+    /// For each point, in the order in which they were given, its vertex; `None` where the point is not in the mesh: it equals another one, or the sweep
+    /// left it out. None is lost silently.
+    pub vertices: Vec<Option<u32>>,
+    pub run: Run,
+}
+
+/// A mesh with its rows. Vertices, edges, half-edges and faces are numbers; half-edges 2u and 2u + 1 are each other's reverse; face 0 is the outer one.
+#[derive(Clone)]
+pub struct Mesh {
+    rows: Rows,
+}
+
+impl Mesh {
+    /// One triangle, which turns left.
+    pub fn triangle(corners: [[i32; 2]; 3]) -> Result<Mesh, Refusal> {
+        let halves = [[2, 4, 1, 0], [5, 3, 0, 1], [4, 0, 1, 1], [1, 5, 0, 2], [0, 2, 1, 2], [3, 1, 0, 0]];
+        Mesh::from_rows(&corners, &[0, 2, 4], &halves, &[1, 0])
+    }
+
+    /// A mesh of given links: an out edge of each vertex; next, prev, face and origin of each half-edge; a half-edge of each face.
+    pub fn from_rows(
+        positions: &[[i32; 2]],
+        outs: &[u32],
+        halves: &[[u32; 4]],
+        adjacent: &[u32],
+    ) -> Result<Mesh, Refusal> {
+        let mesh = Mesh { rows: Rows::new(positions, outs, halves, adjacent)? };
+        mesh.check()?;
+        Ok(mesh)
+    }
+
+    /// The mesh of a list of points, as spade's `bulk_load` goes about it: sorted by their distance from their average; the first three that are not on
+    /// one line are the seed, the middle of the seed is the centre, and the others are run.
+    pub fn bulk_load(points: &[[i32; 2]]) -> Result<Loaded, LoadError> {
+        let order = by_distance(points);
+        let seed = seed_of(points, &order).ok_or(LoadError::NoTriangle)?;
+        let corners = seed.map(|i| points[i]);
+        let rest: Vec<usize> = order.into_iter().filter(|i| !seed.contains(i)).collect();
+        let swept: Vec<[i32; 2]> = rest.iter().map(|&i| points[i]).collect();
+        let mut mesh = Mesh::triangle(corners)?;
+        let run = mesh.run(middle(corners), &swept)?;
+        let mut vertices = vec![None; points.len()];
+        for (vertex, &i) in (0..).zip(&seed) {
+            vertices[i] = Some(vertex);
+        }
+        for (answer, &i) in run.answers.iter().zip(&rest) {
+            if let Fate::Added(vertex) = answer.fate() {
+                vertices[i] = Some(vertex);
+            }
+        }
+        Ok(Loaded { mesh, vertices, run })
+    }
+
+    /// Whether the mesh is one that every call takes. A mesh that a call of this crate left always is.
+    pub fn check(&self) -> Result<(), Refusal> {
+        let result = self.rows.check();
+        refusal::of(result.refusal, result.place)
+    }
+
+    /// The boundary edge at an angle, from 0.0 to 1.0, about a centre.
+    pub fn locate(&self, center: [f64; 2], angle: f64) -> Result<Place, Refusal> {
+        let result = self.rows.locate(&mut Scratch::new(self.vertex_count()), center, angle);
+        refusal::of(result.refusal, result.place)?;
+        Ok(Place { edge: result.edge, passed: result.passed })
+    }
+
+    /// One point of a sweep about a centre. The whole mesh is checked each time: for a list use [`Mesh::run`].
+    ///
+    /// After [`Refusal::Pending`] the mesh is good, and may have grown.
+    pub fn step(&mut self, center: [f64; 2], point: [i32; 2]) -> Result<Answer, Refusal> {
+        let room = self.rows.reserve(1);
+        let result = self.rows.step(&mut Scratch::new(room), center, point);
+        refusal::of(result.refusal, result.place)?;
+        Ok(result.answer)
+    }
+
+    /// Makes the boundary convex and every edge Delaunay.
+    ///
+    /// After [`Refusal::Pending`] the mesh is good, and may have grown.
+    pub fn finish(&mut self) -> Result<Totals, Refusal> {
+        let result = self.rows.finish(&mut Scratch::new(self.vertex_count()));
+        refusal::of(result.refusal, result.place)?;
+        Ok(totals_of(&result))
+    }
+
+    /// A step for each point in list order, about a centre inside the mesh, then the finish. The sweep grows outwards: points that come before others
+    /// nearer to the centre may leave those out, which their answers tell.
+    ///
+    /// After [`Refusal::Pending`] the mesh is good, and the points before the named one are in it.
+    pub fn run(&mut self, center: [f64; 2], points: &[[i32; 2]]) -> Result<Run, Refusal> {
+        let room = self.rows.reserve(points.len());
+        let mut answers = vec![Answer::default(); points.len()];
+        let result = self.rows.run(&mut Scratch::new(room), &mut answers, center, points);
+        refusal::of(result.refusal, result.place)?;
+        Ok(Run { answers, totals: totals_of(&result) })
+    }
+
+    pub fn vertex_count(&self) -> usize {
+        self.rows.counts.vertices as usize
+    }
+
+    /// Undirected edges.
+    pub fn edge_count(&self) -> usize {
+        self.rows.counts.edges as usize
+    }
+
+    /// Faces, the outer one counted.
+    pub fn face_count(&self) -> usize {
+        self.rows.counts.faces as usize
+    }
+
+    pub fn positions(&self) -> &[[i32; 2]] {
+        self.rows.positions()
+    }
+
+    /// An out edge of each vertex.
+    pub fn outs(&self) -> &[u32] {
+        self.rows.outs()
+    }
+
+    /// Next, prev, face and origin of each half-edge.
+    pub fn halves(&self) -> &[[u32; 4]] {
+        self.rows.halves()
+    }
+
+    /// A half-edge of each face.
+    pub fn adjacent(&self) -> &[u32] {
+        self.rows.adjacent()
+    }
+
+    /// The vertices of each triangle, counterclockwise, by rising face.
+    pub fn triangles(&self) -> impl Iterator<Item = [u32; 3]> + '_ {
+        let halves = self.halves();
+        self.adjacent().iter().skip(1).map(move |&a| {
+            let [b, _, _, u] = halves[a as usize];
+            let [c, _, _, v] = halves[b as usize];
+            [u, v, halves[c as usize][3]]
+        })
+    }
+
+    /// The boundary's vertices, clockwise.
+    pub fn boundary(&self) -> Vec<u32> {
+        let halves = self.halves();
+        let start = self.adjacent()[0];
+        let mut around = vec![halves[start as usize][3]];
+        let mut e = halves[start as usize][0];
+        while e != start {
+            around.push(halves[e as usize][3]);
+            e = halves[e as usize][0];
+        }
+        around
+    }
+}
+
+/// The same links: counts, positions, out edges, half-edges, stored edges.
+impl PartialEq for Mesh {
+    fn eq(&self, other: &Mesh) -> bool {
+        self.positions() == other.positions()
+            && self.outs() == other.outs()
+            && self.halves() == other.halves()
+            && self.adjacent() == other.adjacent()
+    }
+}
+
+impl Eq for Mesh {}
+
+impl fmt::Debug for Mesh {
+    fn fmt(&self, f: &mut fmt::Formatter<'_>) -> fmt::Result {
+        write!(
+            f,
+            "Mesh({} vertices, {} edges, {} faces)",
+            self.vertex_count(),
+            self.edge_count(),
+            self.face_count()
+        )
+    }
+}
+
+fn totals_of(result: &sys::FinishResult) -> Totals {
+    Totals {
+        faces: result.faces_added,
+        convex_flips: wide(result.convex_flips_high, result.convex_flips_low),
+        closing_flips: wide(result.closing_flips_high, result.closing_flips_low),
+    }
+}
+
+/// The points' indices by their distance from their average, nearest first; of equal ones that with the greater x, then y, as the Rust has them.
+pub fn by_distance(points: &[[i32; 2]]) -> Vec<usize> {
+    let mut sum = [0.0f64; 2];
+    for p in points {
+        sum = [sum[0] + f64::from(p[0]), sum[1] + f64::from(p[1])];
+    }
+    let [x, y] = sum.map(|s| s * (1.0 / points.len() as f64));
+    let distance = |p: [i32; 2]| {
+        let [dx, dy] = [f64::from(p[0]) - x, f64::from(p[1]) - y];
+        // not negative, so its bits rise with it
+        (dx * dx + dy * dy).to_bits()
+    };
+    let mut order: Vec<usize> = (0..points.len()).collect();
+    order.sort_by_cached_key(|&i| (distance(points[i]), Reverse(points[i])));
+    order
+}
+
+/// Positive where c is left of the line from a to b.
+fn orient(a: [i32; 2], b: [i32; 2], c: [i32; 2]) -> i128 {
+    let [ax, ay, bx, by, cx, cy] = [a[0], a[1], b[0], b[1], c[0], c[1]].map(i128::from);
+    (bx - ax) * (cy - ay) - (by - ay) * (cx - ax)
+}
+
+/// The first three of an order that are not on one line, turning left.
+pub fn seed_of(points: &[[i32; 2]], order: &[usize]) -> Option<[usize; 3]> {
+    let &a = order.first()?;
+    let &b = order.iter().find(|&&i| points[i] != points[a])?;
+    let &c = order.iter().find(|&&i| orient(points[a], points[b], points[i]) != 0)?;
+    Some(if orient(points[a], points[b], points[c]) > 0 { [a, b, c] } else { [a, c, b] })
+}
+
+/// The middle of a triangle.
+pub fn middle(corners: [[i32; 2]; 3]) -> [f64; 2] {
+    [0, 1].map(|k| corners.iter().map(|p| f64::from(p[k])).sum::<f64>() / 3.0)
+}

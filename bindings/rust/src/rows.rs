@@ -1,0 +1,255 @@
+//! The rows that the library works on, and the five calls on them. Every pointer and length comes from a vector, so what C cannot check holds.
+
+use crate::refusal::Refusal;
+use crate::sys::{self, CheckResult, FinishResult, LocateResult, Node, StepResult};
+use crate::{Answer, MOST_VERTICES};
+
+#[derive(Clone, Copy, Debug, PartialEq, Eq)]
+pub struct Counts {
+    pub vertices: u32,
+    pub edges: u32,
+    pub faces: u32,
+}
+
+/// The mesh's rows, with room for some vertices more than are in use.
+#[derive(Clone)]
+pub struct Rows {
+    pub counts: Counts,
+    positions: Vec<[i32; 2]>,
+    outs: Vec<u32>,
+    halves: Vec<[u32; 4]>,
+    adjacent: Vec<u32>,
+}
+
+/// The rows that hold nothing between calls.
+pub struct Scratch {
+    nodes: Vec<Node>,
+    freed: Vec<u32>,
+    buckets: Vec<u32>,
+    pending: Vec<u32>,
+}
+
+impl Scratch {
+    /// For a mesh of so many vertices at the end of the call.
+    pub fn new(vertices: usize) -> Scratch {
+        Scratch {
+            nodes: vec![Node::default(); vertices + 1],
+            freed: vec![0; vertices + 1],
+            buckets: vec![0; vertices.max(16)],
+            pending: vec![0; vertices.max(4096)],
+        }
+    }
+}
+
+fn number(length: usize) -> Result<u32, Refusal> {
+    u32::try_from(length).map_err(|_| Refusal::Count)
+}
+
+impl Rows {
+    pub fn new(
+        positions: &[[i32; 2]],
+        outs: &[u32],
+        halves: &[[u32; 4]],
+        adjacent: &[u32],
+    ) -> Result<Rows, Refusal> {
+        let n = positions.len();
+        if !(3..=MOST_VERTICES).contains(&n) {
+            return Err(Refusal::Count);
+        }
+        if outs.len() != n || halves.len() % 2 != 0 {
+            return Err(Refusal::Rules);
+        }
+        let counts =
+            Counts { vertices: number(n)?, edges: number(halves.len() / 2)?, faces: number(adjacent.len())? };
+        let mut rows = Rows {
+            counts,
+            positions: positions.to_vec(),
+            outs: outs.to_vec(),
+            halves: halves.to_vec(),
+            adjacent: adjacent.to_vec(),
+        };
+        rows.grow(n);
+        Ok(rows)
+    }
+
+    fn grow(&mut self, vertices: usize) {
+        fn grown<T: Copy>(row: &mut Vec<T>, length: usize, zero: T) {
+            row.resize(row.len().max(length), zero);
+        }
+        grown(&mut self.positions, vertices, [0; 2]);
+        grown(&mut self.outs, vertices, 0);
+        grown(&mut self.halves, 6 * vertices, [0; 4]);
+        grown(&mut self.adjacent, 2 * vertices, 0);
+    }
+
+    /// Room for so many vertices more; how many there is room for. Past the limit nothing is made: the call refuses.
+    pub fn reserve(&mut self, more: usize) -> usize {
+        let vertices = (self.counts.vertices as usize).saturating_add(more);
+        if vertices > MOST_VERTICES {
+            return 0;
+        }
+        self.grow(vertices);
+        vertices
+    }
+
+    pub fn positions(&self) -> &[[i32; 2]] {
+        &self.positions[..self.counts.vertices as usize]
+    }
+
+    pub fn outs(&self) -> &[u32] {
+        &self.outs[..self.counts.vertices as usize]
+    }
+
+    pub fn halves(&self) -> &[[u32; 4]] {
+        &self.halves[..2 * self.counts.edges as usize]
+    }
+
+    pub fn adjacent(&self) -> &[u32] {
+        &self.adjacent[..self.counts.faces as usize]
+    }
+
+    pub fn check(&self) -> CheckResult {
+        let Counts { vertices, edges, faces } = self.counts;
+        unsafe {
+            sys::fithmoul_check(
+                vertices,
+                edges,
+                faces,
+                self.positions.as_ptr().cast(),
+                2 * self.positions.len(),
+                self.outs.as_ptr(),
+                self.outs.len(),
+                self.halves.as_ptr().cast(),
+                4 * self.halves.len(),
+                self.adjacent.as_ptr(),
+                self.adjacent.len(),
+            )
+        }
+    }
+
+    pub fn locate(&self, scratch: &mut Scratch, [x, y]: [f64; 2], angle: f64) -> LocateResult {
+        let Counts { vertices, edges, faces } = self.counts;
+        unsafe {
+            sys::fithmoul_locate(
+                vertices,
+                edges,
+                faces,
+                self.positions.as_ptr().cast(),
+                2 * self.positions.len(),
+                self.outs.as_ptr(),
+                self.outs.len(),
+                self.halves.as_ptr().cast(),
+                4 * self.halves.len(),
+                self.adjacent.as_ptr(),
+                self.adjacent.len(),
+                scratch.nodes.as_mut_ptr(),
+                scratch.nodes.len(),
+                scratch.freed.as_mut_ptr(),
+                scratch.freed.len(),
+                scratch.buckets.as_mut_ptr(),
+                scratch.buckets.len(),
+                x,
+                y,
+                angle,
+            )
+        }
+    }
+
+    pub fn step(&mut self, scratch: &mut Scratch, [x, y]: [f64; 2], point: [i32; 2]) -> StepResult {
+        let Counts { vertices, edges, faces } = self.counts;
+        let result = unsafe {
+            sys::fithmoul_step(
+                vertices,
+                edges,
+                faces,
+                self.positions.as_mut_ptr().cast(),
+                2 * self.positions.len(),
+                self.outs.as_mut_ptr(),
+                self.outs.len(),
+                self.halves.as_mut_ptr().cast(),
+                4 * self.halves.len(),
+                self.adjacent.as_mut_ptr(),
+                self.adjacent.len(),
+                scratch.nodes.as_mut_ptr(),
+                scratch.nodes.len(),
+                scratch.freed.as_mut_ptr(),
+                scratch.freed.len(),
+                scratch.buckets.as_mut_ptr(),
+                scratch.buckets.len(),
+                scratch.pending.as_mut_ptr(),
+                scratch.pending.len(),
+                x,
+                y,
+                point[0],
+                point[1],
+            )
+        };
+        self.counts = Counts { vertices: result.vertices, edges: result.edges, faces: result.faces };
+        result
+    }
+
+    pub fn finish(&mut self, scratch: &mut Scratch) -> FinishResult {
+        let Counts { vertices, edges, faces } = self.counts;
+        let result = unsafe {
+            sys::fithmoul_finish(
+                vertices,
+                edges,
+                faces,
+                self.positions.as_ptr().cast(),
+                2 * self.positions.len(),
+                self.outs.as_mut_ptr(),
+                self.outs.len(),
+                self.halves.as_mut_ptr().cast(),
+                4 * self.halves.len(),
+                self.adjacent.as_mut_ptr(),
+                self.adjacent.len(),
+                scratch.pending.as_mut_ptr(),
+                scratch.pending.len(),
+            )
+        };
+        self.counts = Counts { vertices: result.vertices, edges: result.edges, faces: result.faces };
+        result
+    }
+
+    pub fn run(
+        &mut self,
+        scratch: &mut Scratch,
+        answers: &mut [Answer],
+        [x, y]: [f64; 2],
+        points: &[[i32; 2]],
+    ) -> FinishResult {
+        let Counts { vertices, edges, faces } = self.counts;
+        let result = unsafe {
+            sys::fithmoul_run(
+                vertices,
+                edges,
+                faces,
+                self.positions.as_mut_ptr().cast(),
+                2 * self.positions.len(),
+                self.outs.as_mut_ptr(),
+                self.outs.len(),
+                self.halves.as_mut_ptr().cast(),
+                4 * self.halves.len(),
+                self.adjacent.as_mut_ptr(),
+                self.adjacent.len(),
+                scratch.nodes.as_mut_ptr(),
+                scratch.nodes.len(),
+                scratch.freed.as_mut_ptr(),
+                scratch.freed.len(),
+                scratch.buckets.as_mut_ptr(),
+                scratch.buckets.len(),
+                scratch.pending.as_mut_ptr(),
+                scratch.pending.len(),
+                // an answer is five words
+                answers.as_mut_ptr().cast(),
+                5 * answers.len(),
+                x,
+                y,
+                points.as_ptr().cast(),
+                2 * points.len(),
+            )
+        };
+        self.counts = Counts { vertices: result.vertices, edges: result.edges, faces: result.faces };
+        result
+    }
+}

@@ -1,0 +1,161 @@
+//! The exports of libfithmoul.a as they are: include/fithmoul.h says what each takes, refuses and leaves.
+
+use crate::Answer;
+
+/// One entry of the row of ring nodes.
+#[repr(C)]
+#[derive(Clone, Copy, Debug, Default, PartialEq, Eq)]
+pub struct Node {
+    pub words: [u64; 4],
+}
+
+#[repr(C)]
+#[derive(Clone, Copy, Debug, Default, PartialEq, Eq)]
+pub struct CheckResult {
+    pub refusal: u32,
+    pub place: u32,
+}
+
+#[repr(C)]
+#[derive(Clone, Copy, Debug, Default, PartialEq, Eq)]
+pub struct LocateResult {
+    pub refusal: u32,
+    pub place: u32,
+    pub edge: u32,
+    pub passed: u32,
+}
+
+#[repr(C)]
+#[derive(Clone, Copy, Debug, Default, PartialEq, Eq)]
+pub struct StepResult {
+    pub refusal: u32,
+    pub place: u32,
+    pub vertices: u32,
+    pub edges: u32,
+    pub faces: u32,
+    pub answer: Answer,
+}
+
+#[repr(C)]
+#[derive(Clone, Copy, Debug, Default, PartialEq, Eq)]
+pub struct FinishResult {
+    pub refusal: u32,
+    pub place: u32,
+    pub vertices: u32,
+    pub edges: u32,
+    pub faces: u32,
+    pub faces_added: u32,
+    pub convex_flips_high: u64,
+    pub convex_flips_low: u64,
+    pub closing_flips_high: u64,
+    pub closing_flips_low: u64,
+}
+
+extern "C" {
+    pub fn fithmoul_check(
+        vertices: u32,
+        edges: u32,
+        faces: u32,
+        positions: *const i32,
+        positions_length: usize,
+        outs: *const u32,
+        outs_length: usize,
+        halves: *const u32,
+        halves_length: usize,
+        adjacent: *const u32,
+        adjacent_length: usize,
+    ) -> CheckResult;
+
+    pub fn fithmoul_locate(
+        vertices: u32,
+        edges: u32,
+        faces: u32,
+        positions: *const i32,
+        positions_length: usize,
+        outs: *const u32,
+        outs_length: usize,
+        halves: *const u32,
+        halves_length: usize,
+        adjacent: *const u32,
+        adjacent_length: usize,
+        nodes: *mut Node,
+        nodes_length: usize,
+        freed: *mut u32,
+        freed_length: usize,
+        buckets: *mut u32,
+        buckets_length: usize,
+        center_x: f64,
+        center_y: f64,
+        angle: f64,
+    ) -> LocateResult;
+
+    pub fn fithmoul_step(
+        vertices: u32,
+        edges: u32,
+        faces: u32,
+        positions: *mut i32,
+        positions_length: usize,
+        outs: *mut u32,
+        outs_length: usize,
+        halves: *mut u32,
+        halves_length: usize,
+        adjacent: *mut u32,
+        adjacent_length: usize,
+        nodes: *mut Node,
+        nodes_length: usize,
+        freed: *mut u32,
+        freed_length: usize,
+        buckets: *mut u32,
+        buckets_length: usize,
+        pending: *mut u32,
+        pending_length: usize,
+        center_x: f64,
+        center_y: f64,
+        x: i32,
+        y: i32,
+    ) -> StepResult;
+
+    pub fn fithmoul_finish(
+        vertices: u32,
+        edges: u32,
+        faces: u32,
+        positions: *const i32,
+        positions_length: usize,
+        outs: *mut u32,
+        outs_length: usize,
+        halves: *mut u32,
+        halves_length: usize,
+        adjacent: *mut u32,
+        adjacent_length: usize,
+        pending: *mut u32,
+        pending_length: usize,
+    ) -> FinishResult;
+
+    pub fn fithmoul_run(
+        vertices: u32,
+        edges: u32,
+        faces: u32,
+        positions: *mut i32,
+        positions_length: usize,
+        outs: *mut u32,
+        outs_length: usize,
+        halves: *mut u32,
+        halves_length: usize,
+        adjacent: *mut u32,
+        adjacent_length: usize,
+        nodes: *mut Node,
+        nodes_length: usize,
+        freed: *mut u32,
+        freed_length: usize,
+        buckets: *mut u32,
+        buckets_length: usize,
+        pending: *mut u32,
+        pending_length: usize,
+        answers: *mut u64,
+        answers_length: usize,
+        center_x: f64,
+        center_y: f64,
+        points: *const i32,
+        points_length: usize,
+    ) -> FinishResult;
+}

@@ -1,0 +1,94 @@
+//! The wrapper's own tests: the specification's sample, each refusal that can be met, meshes of points.
+
+use fithmoul::{Fate, LoadError, Mesh, Place, Refusal};
+
+fn seed() -> Mesh {
+    Mesh::triangle([[0, 0], [4, 0], [0, 4]]).unwrap()
+}
+
+#[test]
+fn sample() {
+    let mut mesh = seed();
+    let run = mesh.run([1.0, 1.0], &[[4, 4], [2, 2], [4, 4], [1, 1]]).unwrap();
+    let fates: Vec<Fate> = run.answers.iter().map(|a| a.fate()).collect();
+    assert_eq!(fates, [Fate::Added(3), Fate::NotLeft, Fate::Dropped, Fate::AtCenter]);
+    assert_eq!([mesh.vertex_count(), mesh.edge_count(), mesh.face_count()], [4, 5, 3]);
+    assert_eq!(run.totals, fithmoul::Totals { faces: 0, convex_flips: 0, closing_flips: 0 });
+    assert_eq!(mesh.triangles().count(), 2);
+    let mut boundary = mesh.boundary();
+    boundary.sort();
+    assert_eq!(boundary, [0, 1, 2, 3]);
+}
+
+#[test]
+fn a_flip() {
+    let mut mesh = Mesh::triangle([[0, 0], [4, 0], [2, 1]]).unwrap();
+    let answer = mesh.step([2.0, 0.5], [2, -1]).unwrap();
+    assert_eq!((answer.fate(), answer.faces, answer.flips()), (Fate::Added(3), 1, 1));
+    assert_eq!(mesh.finish().unwrap().closing_flips, 0);
+}
+
+#[test]
+fn located() {
+    let Place { edge, passed } = seed().locate([1.0, 1.0], 0.5).unwrap();
+    assert_eq!(seed().halves()[edge as usize][2], 0);
+    assert_eq!(passed, 0);
+}
+
+#[test]
+fn refusals() {
+    let two = Mesh::from_rows(&[[0, 0], [4, 0]], &[0, 1], &[], &[]);
+    assert_eq!(two.unwrap_err(), Refusal::Count);
+    let far = Mesh::triangle([[0, 0], [16_777_217, 0], [0, 4]]);
+    assert_eq!(far.unwrap_err(), Refusal::Coordinate { vertex: 1 });
+    let open = Mesh::from_rows(&[[0, 0], [4, 0], [0, 4]], &[0, 0, 0], &[[0; 4]; 6], &[0, 0]);
+    assert_eq!(open.unwrap_err(), Refusal::Rules);
+    let right = Mesh::triangle([[0, 0], [0, 4], [4, 0]]);
+    assert_eq!(right.unwrap_err(), Refusal::NotLeft { face: 1 });
+    assert_eq!(seed().run([0.0, 0.0], &[]).unwrap_err(), Refusal::Center);
+    assert_eq!(seed().run([f64::NAN, 0.0], &[]).unwrap_err(), Refusal::Center);
+    assert_eq!(seed().step([9.0, 9.0], [7, 7]).unwrap_err(), Refusal::Ring);
+    assert_eq!(seed().locate([1.0, 1.0], f64::NAN).unwrap_err(), Refusal::Angle);
+    let point = seed().run([1.0, 1.0], &[[5, 5], [0, -16_777_217]]).unwrap_err();
+    assert_eq!(point, Refusal::Coordinate { vertex: 4 });
+    assert_eq!(seed().run([1.0, 1.0], &vec![[5, 5]; 1_000_000]).unwrap_err(), Refusal::Count);
+    for (number, refusal) in (1..).zip([
+        Refusal::Count,
+        Refusal::Rows,
+        Refusal::Coordinate { vertex: 0 },
+        Refusal::Rules,
+        Refusal::NotLeft { face: 0 },
+        Refusal::Center,
+        Refusal::Ring,
+        Refusal::Angle,
+        Refusal::Pending { point: 0 },
+    ]) {
+        assert_eq!(refusal.number(), number);
+        assert!(!refusal.to_string().is_empty());
+    }
+}
+
+#[test]
+fn refused_changes_nothing() {
+    let mut mesh = seed();
+    assert!(mesh.run([9.0, 9.0], &[[5, 5]]).is_err());
+    assert_eq!(mesh, seed());
+}
+
+#[test]
+fn loads_points() {
+    assert_eq!(Mesh::bulk_load(&[]).unwrap_err(), LoadError::NoTriangle);
+    assert_eq!(Mesh::bulk_load(&[[0, 0], [1, 1], [2, 2], [2, 2]]).unwrap_err(), LoadError::NoTriangle);
+    let points: Vec<[i32; 2]> = (0..400).map(|i| [i * 7919 % 1009, i * 104_729 % 1013]).collect();
+    let loaded = Mesh::bulk_load(&points).unwrap();
+    loaded.mesh.check().unwrap();
+    for (point, vertex) in points.iter().zip(&loaded.vertices) {
+        if let Some(v) = vertex {
+            assert_eq!(loaded.mesh.positions()[*v as usize], *point);
+        }
+    }
+    let vertices = loaded.vertices.iter().flatten().count();
+    assert_eq!(vertices, loaded.mesh.vertex_count());
+    assert!(vertices > 390, "{vertices}");
+    assert_eq!(loaded.mesh.clone().finish().unwrap().closing_flips, 0);
+}

@@ -1,0 +1,26 @@
+-- `fithmoul::results::point_answer` meets its contract. Assumes nothing.
+use mathlib.Core.Path.{ap₂}
+use Prim.Native.Nat.{ℕ}
+use Rattle.sweep.specs.declared.Answer.{Answer}
+use Rattle.fithmoul.specs.declared.results.PointAnswer.{PointAnswer}
+use borrow.Author.Needs.{needs}
+use Rattle.fithmoul.proofs.results.point_answer.Statement.{statement}
+use Rattle.fithmoul.proofs.results.point_answer.Tie as tie
+
+abbrev words : Answer → ℕ → ℕ → PointAnswer
+words a f v = record { fate = f; vertex = v; faces = a .faces; «flips_high» = a .flips .high; «flips_low» = a .flips .low }
+
+fate-number-requires : tie.Need-fate-number-requires
+fate-number-requires c κs = search needs
+
+fate-vertex-requires : tie.Need-fate-vertex-requires
+fate-vertex-requires c κs = search needs
+
+cast-t5 : tie.Need-cast-t5
+cast-t5 c = search needs
+
+returns : tie.Need-returns
+returns c = ap₂ (words (c .before .before .before .args .answer)) (c .before .before .fate-number .ensures) (c .before .fate-vertex .ensures)
+
+pub point-answer-spec : {M : Type 1} → statement M
+point-answer-spec = tie.close (tie.spec fate-number-requires fate-vertex-requires cast-t5 returns)

@@ -1,0 +1,108 @@
+-- The calls' answers as flat records of numbers, for C: `refusal` is 0 where the call is accepted, else a row of 01's table, with its place.
+-- What a refused call has no answer for is 0. Definitions only. `Laws`: no refusal has the number 0.
+use Prim.Native.Nat.{ℕ}
+use lib.IntN.{ℤ}
+use Rattle.decide.specs.Decide.{fateNumber, fateVertex}
+use Rattle.finish.specs.declared.FinishAnswer.{FinishAnswer}
+use Rattle.finish.specs.declared.Finished.{Finished}
+use Rattle.finish.specs.declared.Totals.{Totals}
+use Rattle.locate.specs.declared.Located.{Located}
+use Rattle.math.specs.declared.Point.{Point}
+use Rattle.mesh.specs.declared.Counts.{Counts}
+use Rattle.mesh_check.specs.declared.Checked.{Checked}
+use Rattle.sweep.specs.declared.Answer.{Answer}
+use Rattle.sweep.specs.declared.StepAnswer.{StepAnswer}
+use Rattle.sweep.specs.declared.Stepped.{Stepped}
+use Rattle.fithmoul.specs.declared.results.CheckResult.{CheckResult}
+use Rattle.fithmoul.specs.declared.results.LocateResult.{LocateResult}
+use Rattle.fithmoul.specs.declared.results.PointAnswer.{PointAnswer}
+use Rattle.fithmoul.specs.declared.results.StepResult.{StepResult}
+use Rattle.fithmoul.specs.declared.results.FinishResult.{FinishResult}
+
+-- ---- what goes in as numbers
+abbrev pub counted : ℕ → ℕ → ℕ → Counts
+counted v e f = record { vertices = v; edges = e; faces = f }
+
+abbrev pub pointAt : ℤ → ℤ → Point
+pointAt x y = record { x = x; y = y }
+
+-- ---- what comes out as numbers
+abbrev pub checkResult : Checked → CheckResult
+checkResult Checked.Accepted = record { refusal = 0; place = 0 }
+checkResult (Checked.Refused x) = record { refusal = x .number; place = x .place }
+
+abbrev pub locateResult : Located → LocateResult
+locateResult (Located.Found p) = record { refusal = 0; place = 0; edge = p .edge; passed = p .passed }
+locateResult (Located.Refused x) = record { refusal = x .number; place = x .place; edge = 0; passed = 0 }
+
+-- five words, as in a run's answers row
+abbrev pub pointAnswer : Answer → PointAnswer
+pointAnswer a = record {
+  fate = fateNumber (a .fate);
+  vertex = fateVertex (a .fate);
+  faces = a .faces;
+  «flips_high» = a .flips .high;
+  «flips_low» = a .flips .low;
+}
+
+abbrev pub noAnswer : PointAnswer
+noAnswer = record { fate = 0; vertex = 0; faces = 0; «flips_high» = 0; «flips_low» = 0 }
+
+-- the counts are those after the call, refused or not
+abbrev pub steppedResult : Counts → Stepped → StepResult
+steppedResult C (Stepped.Accepted a) = record {
+  refusal = 0;
+  place = 0;
+  vertices = C .vertices;
+  edges = C .edges;
+  faces = C .faces;
+  answer = pointAnswer a;
+}
+steppedResult C (Stepped.Refused x) = record {
+  refusal = x .number;
+  place = x .place;
+  vertices = C .vertices;
+  edges = C .edges;
+  faces = C .faces;
+  answer = noAnswer;
+}
+
+abbrev pub stepResult : StepAnswer → StepResult
+stepResult a = steppedResult (a .counts) (a .stepped)
+
+abbrev pub finishedResult : Counts → Finished → FinishResult
+finishedResult C (Finished.Accepted t) = record {
+  refusal = 0;
+  place = 0;
+  vertices = C .vertices;
+  edges = C .edges;
+  faces = C .faces;
+  «faces_added» = t .faces;
+  «convex_flips_high» = t .convexflips .high;
+  «convex_flips_low» = t .convexflips .low;
+  «closing_flips_high» = t .closingflips .high;
+  «closing_flips_low» = t .closingflips .low;
+}
+finishedResult C (Finished.Refused x) = record {
+  refusal = x .number;
+  place = x .place;
+  vertices = C .vertices;
+  edges = C .edges;
+  faces = C .faces;
+  «faces_added» = 0;
+  «convex_flips_high» = 0;
+  «convex_flips_low» = 0;
+  «closing_flips_high» = 0;
+  «closing_flips_low» = 0;
+}
+
+abbrev pub finishResult : FinishAnswer → FinishResult
+finishResult a = finishedResult (a .counts) (a .finished)
+
+-- the totals that an accepted finish or run reports
+abbrev pub totals : FinishResult → Totals
+totals r = record {
+  faces = r .«faces_added»;
+  convexflips = record { high = r .«convex_flips_high»; low = r .«convex_flips_low» };
+  closingflips = record { high = r .«closing_flips_high»; low = r .«closing_flips_low» };
+}

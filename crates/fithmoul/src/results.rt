@@ -1,0 +1,189 @@
+// What the calls answer, as structs of numbers that C can read, and how they are made of the library's answers. `refusal` is 0 where the call is accepted, else a row of 01's table with its place;
+// what a refused call has no answer for is 0.
+ghost use mathlib.Core.Path.{_≡_};
+ghost use Rattle.fithmoul.specs.Results.{checkResult, locateResult, pointAnswer, steppedResult, stepResult, finishedResult, finishResult};
+use finish::FinishAnswer;
+use finish::Finished;
+use locate::Located;
+use mesh::Counts;
+use mesh_check::Checked;
+use sweep::Answer;
+use sweep::StepAnswer;
+use sweep::Stepped;
+
+#[repr(C)]
+pub struct CheckResult {
+    pub refusal: u32,
+    pub place: u32,
+}
+
+// A boundary edge, and how many nodes of the ring were passed after the first on the way to it.
+#[repr(C)]
+pub struct LocateResult {
+    pub refusal: u32,
+    pub place: u32,
+    pub edge: u32,
+    pub passed: u32,
+}
+
+// A point's answer, word by word as in a run's answers row: 01's number of its fate, its vertex where it was added, the faces added, the flips in two words.
+#[repr(C)]
+pub struct PointAnswer {
+    pub fate: u64,
+    pub vertex: u64,
+    pub faces: u64,
+    pub flips_high: u64,
+    pub flips_low: u64,
+}
+
+// The mesh's counts after the call, and the point's answer.
+#[repr(C)]
+pub struct StepResult {
+    pub refusal: u32,
+    pub place: u32,
+    pub vertices: u32,
+    pub edges: u32,
+    pub faces: u32,
+    pub answer: PointAnswer,
+}
+
+// The mesh's counts after the call, the faces added by the convexity passes, their flips and those of the closing pass, each in two words.
+#[repr(C)]
+pub struct FinishResult {
+    pub refusal: u32,
+    pub place: u32,
+    pub vertices: u32,
+    pub edges: u32,
+    pub faces: u32,
+    pub faces_added: u32,
+    pub convex_flips_high: u64,
+    pub convex_flips_low: u64,
+    pub closing_flips_high: u64,
+    pub closing_flips_low: u64,
+}
+
+pub fn check_result(checked: Checked) -> CheckResult
+    ensures { λ r. ⌜ r ≡ checkResult checked ⌝ }
+{
+    match checked {
+        Checked::Accepted => CheckResult {
+            refusal: 0,
+            place: 0,
+        },
+        Checked::Refused(x) => CheckResult {
+            refusal: x.number,
+            place: x.place,
+        },
+    }
+}
+
+pub fn locate_result(located: Located) -> LocateResult
+    ensures { λ r. ⌜ r ≡ locateResult located ⌝ }
+{
+    match located {
+        Located::Found(p) => LocateResult {
+            refusal: 0,
+            place: 0,
+            edge: p.edge,
+            passed: p.passed,
+        },
+        Located::Refused(x) => LocateResult {
+            refusal: x.number,
+            place: x.place,
+            edge: 0,
+            passed: 0,
+        },
+    }
+}
+
+fn point_answer(answer: Answer) -> PointAnswer
+    ensures { λ r. ⌜ r ≡ pointAnswer answer ⌝ }
+{
+    let fate = answer.fate;
+    PointAnswer {
+        fate: run::fate_number(fate),
+        vertex: run::fate_vertex(fate),
+        faces: answer.faces as u64,
+        flips_high: answer.flips.high,
+        flips_low: answer.flips.low,
+    }
+}
+
+fn stepped_result(counts: Counts, stepped: Stepped) -> StepResult
+    ensures { λ r. ⌜ r ≡ steppedResult counts stepped ⌝ }
+{
+    match stepped {
+        Stepped::Accepted(answer) => {
+            let words = point_answer(answer);
+            StepResult {
+                refusal: 0,
+                place: 0,
+                vertices: counts.vertices,
+                edges: counts.edges,
+                faces: counts.faces,
+                answer: words,
+            }
+        }
+        Stepped::Refused(x) => StepResult {
+            refusal: x.number,
+            place: x.place,
+            vertices: counts.vertices,
+            edges: counts.edges,
+            faces: counts.faces,
+            answer: PointAnswer {
+                fate: 0,
+                vertex: 0,
+                faces: 0,
+                flips_high: 0,
+                flips_low: 0,
+            },
+        },
+    }
+}
+
+pub fn step_result(answer: StepAnswer) -> StepResult
+    ensures { λ r. ⌜ r ≡ stepResult answer ⌝ }
+{
+    let counts = answer.counts;
+    let stepped = answer.stepped;
+    stepped_result(counts, stepped)
+}
+
+fn finished_result(counts: Counts, finished: Finished) -> FinishResult
+    ensures { λ r. ⌜ r ≡ finishedResult counts finished ⌝ }
+{
+    match finished {
+        Finished::Accepted(totals) => FinishResult {
+            refusal: 0,
+            place: 0,
+            vertices: counts.vertices,
+            edges: counts.edges,
+            faces: counts.faces,
+            faces_added: totals.faces,
+            convex_flips_high: totals.convexflips.high,
+            convex_flips_low: totals.convexflips.low,
+            closing_flips_high: totals.closingflips.high,
+            closing_flips_low: totals.closingflips.low,
+        },
+        Finished::Refused(x) => FinishResult {
+            refusal: x.number,
+            place: x.place,
+            vertices: counts.vertices,
+            edges: counts.edges,
+            faces: counts.faces,
+            faces_added: 0,
+            convex_flips_high: 0,
+            convex_flips_low: 0,
+            closing_flips_high: 0,
+            closing_flips_low: 0,
+        },
+    }
+}
+
+pub fn finish_result(answer: FinishAnswer) -> FinishResult
+    ensures { λ r. ⌜ r ≡ finishResult answer ⌝ }
+{
+    let counts = answer.counts;
+    let finished = answer.finished;
+    finished_result(counts, finished)
+}
