@@ -1,20 +1,31 @@
 // The lines that the cases of several calls share.
 ghost use Prim.Native.Nat.{_≤_};
-use super::rows;
 use angle::Point2;
 use decide::Fate;
 use finish::Finished;
 use math::Point;
-use mesh::Counts;
 use test_mesh::Agreed;
-use test_mesh::RowLine;
+use test_mesh::Mesh;
+use test_mesh::NODES;
+use test_mesh::WORDS;
 use test_text::Number;
 
 // The lengths of the ring's rows.
-pub struct RingLine {
+pub struct Ring {
     pub nodes: usize,
     pub freed: usize,
     pub buckets: usize,
+}
+
+pub struct RingLine {
+    pub ring: Ring,
+    pub at: usize,
+    pub is_whole: bool,
+}
+
+// So many entries of a row are lent.
+pub struct SevensLine {
+    pub length: usize,
     pub at: usize,
     pub is_whole: bool,
 }
@@ -31,54 +42,51 @@ pub struct PointLine {
     pub is_whole: bool,
 }
 
-// A length of a row that can be lent so many entries, 0 for one that is too large.
-fn within(n: Number, most: usize) -> usize
-    ensures { λ r. ⌜ r ≤ most ⌝ }
-{
-    if n.magnitude > most as u64 {
-        return 0;
-    }
-    n.magnitude as usize
-}
-
-// Whether a length can be lent.
-fn fits(n: Number, most: usize) -> bool {
-    !n.negative && n.magnitude <= most as u64
-}
-
 // `n nodes freed buckets`
 pub fn read_ring(text: &[u8], at: usize) -> RingLine
-    ensures { λ r. ⌜ r .nodes ≤ 256 ⌝ }
-    ensures { λ r. ⌜ r .freed ≤ 256 ⌝ }
-    ensures { λ r. ⌜ r .buckets ≤ 256 ⌝ }
+    ensures { λ r. ⌜ r .ring .nodes ≤ 256 ⌝ }
+    ensures { λ r. ⌜ r .ring .freed ≤ 6144 ⌝ }
+    ensures { λ r. ⌜ r .ring .buckets ≤ 6144 ⌝ }
 {
     let nodes = test_text::read_number(text, test_text::behind(text, at));
     let freed = test_text::read_number(text, nodes.at);
     let buckets = test_text::read_number(text, freed.at);
     let end = buckets.at;
+    let ring = Ring {
+        nodes: test_mesh::within(nodes.magnitude, NODES),
+        freed: test_mesh::within(freed.magnitude, WORDS),
+        buckets: test_mesh::within(buckets.magnitude, WORDS),
+    };
     RingLine {
-        nodes: within(nodes, rows::RING),
-        freed: within(freed, rows::RING),
-        buckets: within(buckets, rows::RING),
+        ring: ring,
         at: test_text::behind(text, end),
         is_whole: test_mesh::is_line(text, at, b'n', end)
-            && fits(nodes, rows::RING)
-            && fits(freed, rows::RING)
-            && fits(buckets, rows::RING),
+            & is_length(nodes, ring.nodes)
+            & is_length(freed, ring.freed)
+            & is_length(buckets, ring.buckets),
     }
 }
 
+// Whether a number is a length.
+fn is_length(n: Number, length: usize) -> bool {
+    !n.negative && n.magnitude == length as u64
+}
+
 // A line of a row that is lent with 7 in every entry.
-pub fn read_sevens(text: &[u8], at: usize, tag: u8, most: usize) -> RowLine
+pub fn read_sevens(text: &[u8], at: usize, tag: u8, most: usize) -> SevensLine
     ensures { λ r. ⌜ r .length ≤ most ⌝ }
 {
-    let n = test_text::read_number(text, test_text::behind(text, at));
-    let past = test_text::read_number(text, n.at);
+    let start = test_mesh::read_start(text, at, tag, false, most);
+    let past = start.past;
     let end = past.at;
-    RowLine {
-        length: within(n, most),
+    let length = test_mesh::within(start.length, most);
+    SevensLine {
+        length: length,
         at: test_text::behind(text, end),
-        is_whole: test_mesh::is_line(text, at, tag, end) && past.magnitude == 7 && fits(n, most),
+        is_whole: start.is_right
+            & (start.length == length as u64)
+            & (past.magnitude == 7)
+            & (test_text::byte(text, end) == b'\n'),
     }
 }
 
@@ -118,38 +126,11 @@ pub fn cleared(text: &[u8], at: usize) -> u32 {
 }
 
 // Whether a call has left the mesh as it must; the place of the line after that.
-pub fn compare_mesh(
-    text: &[u8],
-    lent: usize,
-    told: usize,
-    counts: Counts,
-    positions: &[i32],
-    outs: &[u32],
-    halves: &[u32],
-    faces: &[u32],
-) -> Agreed {
+pub fn compare_mesh(text: &[u8], lent: usize, told: usize, mesh: Mesh) -> Agreed {
     if is_told(text, told) {
-        return test_mesh::compare_mesh(
-            text,
-            told,
-            test_mesh::LEFT,
-            counts,
-            positions,
-            outs,
-            halves,
-            faces,
-        );
+        return test_mesh::compare_mesh(text, told, test_mesh::LEFT, mesh);
     }
-    let a = test_mesh::compare_mesh(
-        text,
-        lent,
-        test_mesh::LENT,
-        counts,
-        positions,
-        outs,
-        halves,
-        faces,
-    );
+    let a = test_mesh::compare_mesh(text, lent, test_mesh::LENT, mesh);
     Agreed {
         agrees: a.agrees,
         at: told,
@@ -157,10 +138,16 @@ pub fn compare_mesh(
 }
 
 // Whether the ring's rows hold v in every entry.
-pub fn ring_holds(nodes: &[[u64; 4]], freed: &[u32], buckets: &[u32], v: u32) -> bool {
-    test_mesh::nodes_hold(nodes, v as u64)
-        && test_mesh::holds(freed, v)
-        && test_mesh::holds(buckets, v)
+pub fn ring_holds(
+    ring: Ring,
+    nodes: [[u64; 4]; NODES],
+    freed: [u32; WORDS],
+    buckets: [u32; WORDS],
+    v: u32,
+) -> bool {
+    test_mesh::nodes_hold(nodes, ring.nodes, v as u64)
+        & test_mesh::holds(freed, ring.freed, v)
+        & test_mesh::holds(buckets, ring.buckets, v)
 }
 
 // Numbers of an answer: refusal, place, faces, flips of the convexity passes and of the closing pass. No list has a count of flips that needs two words: such an

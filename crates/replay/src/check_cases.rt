@@ -1,7 +1,9 @@
 // Meshes and what `check` answers on them (tests/reference/check_cases.py): good meshes and lawful oddities, rows one entry short, coordinates at the limit and
 // beyond, links out of range and wrong in every way that a rule forbids, flat and right-turning faces.
-use super::rows;
+ghost use Prim.Native.Nat.{_≤_};
+ghost use lib.ListN.{length};
 use mesh_check::Checked;
+use test_mesh::Mesh;
 
 fn numbers_of(checked: Checked) -> [u64; 2] {
     match checked {
@@ -10,23 +12,33 @@ fn numbers_of(checked: Checked) -> [u64; 2] {
     }
 }
 
-// The case whose line `m` stands at a place.
-pub fn agrees(text: &[u8], at: usize) -> bool {
-    let mut positions = [0i32; rows::POSITIONS];
-    let mut outs = [0u32; rows::OUTS];
-    let mut halves = [0u32; rows::HALVES];
-    let mut faces = [0u32; rows::FACES];
-    let m = test_mesh::read_mesh(text, at, &mut positions, &mut outs, &mut halves, &mut faces);
-    let positions_length = m.positions;
-    let outs_length = m.outs;
-    let halves_length = m.halves;
-    let faces_length = m.faces;
-    let answer = numbers_of(mesh_check::check(
-        m.counts,
+// The numbers that a check answers on rows that are lent.
+fn check_on(mesh: Mesh) -> [u64; 2]
+    requires { ⌜ mesh .positions .length ≤ length (mesh .positions .row) ⌝ }
+    requires { ⌜ mesh .outs .length ≤ length (mesh .outs .row) ⌝ }
+    requires { ⌜ mesh .halves .length ≤ length (mesh .halves .row) ⌝ }
+    requires { ⌜ mesh .faces .length ≤ length (mesh .faces .row) ⌝ }
+{
+    let positions = mesh.positions.row;
+    let outs = mesh.outs.row;
+    let halves = mesh.halves.row;
+    let faces = mesh.faces.row;
+    let positions_length = mesh.positions.length;
+    let outs_length = mesh.outs.length;
+    let halves_length = mesh.halves.length;
+    let faces_length = mesh.faces.length;
+    numbers_of(mesh_check::check(
+        mesh.counts,
         &positions[..positions_length],
         &outs[..outs_length],
         &halves[..halves_length],
         &faces[..faces_length],
-    ));
-    m.is_whole && test_text::is_line_of(text, m.at, b'r', &answer)
+    ))
+}
+
+// The case whose line `m` stands at a place.
+pub fn agrees(text: &[u8], at: usize) -> bool {
+    let m = test_mesh::read_mesh(text, at, test_mesh::LENT, false);
+    let numbers = check_on(m.mesh);
+    m.is_whole && test_text::is_line_of(text, m.at, b'r', &numbers)
 }

@@ -4,129 +4,68 @@
 ghost use Prim.Native.Nat.{_≤_};
 ghost use lib.ListN.{length};
 use super::calls;
-use super::rows;
+use super::calls::Ring;
 use angle::Point2;
-use mesh::Counts;
+use finish::FinishAnswer;
 use test_mesh::Agreed;
-use test_mesh::RowLine;
+use test_mesh::Coordinates;
+use test_mesh::CoordinatesLine;
+use test_mesh::LONGS;
+use test_mesh::Longs;
+use test_mesh::Mesh;
+use test_mesh::NODES;
+use test_mesh::WORDS;
+use test_mesh::Words;
 
-// `v count x y x y ..`
-fn read_points(text: &[u8], at: usize, row: &mut [i32]) -> RowLine
-    ensures { λ r. ⌜ r .length ≤ length (now (row .exit)) ⌝ }
-{
-    let count = test_text::read_number(text, test_text::behind(text, at));
-    let v = test_mesh::read_points(text, count.at, row);
-    let numbers = v.length;
-    RowLine {
-        length: numbers,
-        at: v.at,
-        is_whole: v.is_whole
-            && test_text::byte(text, at) == b'v'
-            && numbers % 2 == 0
-            && count.magnitude == (numbers / 2) as u64,
-    }
+// What a run has answered and left; whether the ring's rows and pending hold what they must.
+pub struct Ran {
+    pub answer: FinishAnswer,
+    pub mesh: Mesh,
+    pub answers: Longs,
+    pub cleared: bool,
 }
 
-// Whether the mesh is as it must be, and the answers are those of the line `W` behind it, or untouched as in the line `w` where there is none; the place of the line
-// after that.
-fn compare_answers(text: &[u8], lent: usize, mesh: Agreed, answers: &[u64]) -> Agreed {
-    let told = mesh.at;
-    if test_text::byte(text, told) == b'W' {
-        let a = test_mesh::compare_longs(text, told, b'W', answers);
-        return Agreed {
-            agrees: mesh.agrees && a.agrees,
-            at: a.at,
-        };
-    }
-    let a = test_mesh::compare_longs(text, lent, b'w', answers);
-    Agreed {
-        agrees: mesh.agrees && a.agrees,
-        at: told,
-    }
-}
-
-// The case whose mesh stands at a place, whose line `w` stands at another and whose points end at a third, on rows that are lent.
-fn run_agrees(
-    text: &[u8],
-    at: usize,
-    lent: usize,
-    end: usize,
-    counts: Counts,
-    positions: &mut [i32],
-    outs: &mut [u32],
-    halves: &mut [u32],
-    faces: &mut [u32],
-    nodes: &mut [[u64; 4]],
-    freed: &mut [u32],
-    buckets: &mut [u32],
-    pending: &mut [u32],
-    answers: &mut [u64],
+// A run on rows that are lent, the answers, the ring's and pending full of sevens, of which those of the ring and pending must then hold v.
+pub fn run_on(
+    mesh: Mesh,
+    ring: Ring,
+    pending_length: usize,
+    answers_length: usize,
     center: Point2,
-    points: &[i32],
-) -> bool {
+    points: Coordinates,
+    v: u32,
+) -> Ran
+    requires { ⌜ mesh .positions .length ≤ length (mesh .positions .row) ⌝ }
+    requires { ⌜ mesh .outs .length ≤ length (mesh .outs .row) ⌝ }
+    requires { ⌜ mesh .halves .length ≤ length (mesh .halves .row) ⌝ }
+    requires { ⌜ mesh .faces .length ≤ length (mesh .faces .row) ⌝ }
+    requires { ⌜ ring .nodes ≤ 256 ⌝ }
+    requires { ⌜ ring .freed ≤ 6144 ⌝ }
+    requires { ⌜ ring .buckets ≤ 6144 ⌝ }
+    requires { ⌜ «pending_length» ≤ 6144 ⌝ }
+    requires { ⌜ «answers_length» ≤ 1280 ⌝ }
+    requires { ⌜ points .length ≤ length (points .row) ⌝ }
+{
+    let mut positions = mesh.positions.row;
+    let mut outs = mesh.outs.row;
+    let mut halves = mesh.halves.row;
+    let mut faces = mesh.faces.row;
+    let mut nodes = [[7u64; 4]; NODES];
+    let mut freed = [7u32; WORDS];
+    let mut buckets = [7u32; WORDS];
+    let mut pending = [7u32; WORDS];
+    let mut answers = [7u64; LONGS];
+    let list = points.row;
+    let positions_length = mesh.positions.length;
+    let outs_length = mesh.outs.length;
+    let halves_length = mesh.halves.length;
+    let faces_length = mesh.faces.length;
+    let nodes_length = ring.nodes;
+    let freed_length = ring.freed;
+    let buckets_length = ring.buckets;
+    let points_length = points.length;
     let answer = run::run(
-        counts,
-        positions,
-        outs,
-        halves,
-        faces,
-        nodes,
-        freed,
-        buckets,
-        pending,
-        answers,
-        center,
-        points,
-    );
-    let left = answer.counts;
-    let finished = answer.finished;
-    let mesh = calls::compare_mesh(text, at, end, left, positions, outs, halves, faces);
-    let rows = compare_answers(text, lent, mesh, answers);
-    let cleared = calls::cleared(text, end);
-    let ring = calls::ring_holds(nodes, freed, buckets, cleared);
-    let list = test_mesh::holds(pending, cleared);
-    let numbers = calls::numbers_of(finished);
-    let line = test_text::is_line_of(text, rows.at, b'r', &numbers);
-    rows.agrees & ring & list & line
-}
-
-// The case whose line `m` stands at a place.
-pub fn agrees(text: &[u8], at: usize) -> bool {
-    let mut positions = [0i32; rows::POSITIONS];
-    let mut outs = [0u32; rows::OUTS];
-    let mut halves = [0u32; rows::HALVES];
-    let mut faces = [0u32; rows::FACES];
-    let mut nodes = [[7u64; 4]; rows::RING];
-    let mut freed = [7u32; rows::RING];
-    let mut buckets = [7u32; rows::RING];
-    let mut pending = [7u32; rows::PENDING];
-    let mut answers = [7u64; rows::ANSWERS];
-    let mut points = [0i32; rows::POINTS];
-    let m = test_mesh::read_mesh(text, at, &mut positions, &mut outs, &mut halves, &mut faces);
-    let n = calls::read_ring(text, m.at);
-    let q = calls::read_sevens(text, n.at, b'q', rows::PENDING);
-    let x = calls::read_center(text, q.at, b'x');
-    let w = calls::read_sevens(text, x.at, b'w', rows::ANSWERS);
-    let v = read_points(text, w.at, &mut points);
-    if !(m.is_whole & n.is_whole & q.is_whole & x.is_whole & w.is_whole & v.is_whole) {
-        return false;
-    }
-    let positions_length = m.positions;
-    let outs_length = m.outs;
-    let halves_length = m.halves;
-    let faces_length = m.faces;
-    let nodes_length = n.nodes;
-    let freed_length = n.freed;
-    let buckets_length = n.buckets;
-    let pending_length = q.length;
-    let answers_length = w.length;
-    let points_length = v.length;
-    run_agrees(
-        text,
-        at,
-        x.at,
-        v.at,
-        m.counts,
+        mesh.counts,
         &mut positions[..positions_length],
         &mut outs[..outs_length],
         &mut halves[..halves_length],
@@ -136,7 +75,106 @@ pub fn agrees(text: &[u8], at: usize) -> bool {
         &mut buckets[..buckets_length],
         &mut pending[..pending_length],
         &mut answers[..answers_length],
+        center,
+        &list[..points_length],
+    );
+    let left = answer.counts;
+    Ran {
+        answer: answer,
+        mesh: Mesh {
+            counts: left,
+            positions: Coordinates {
+                row: positions,
+                length: positions_length,
+            },
+            outs: Words {
+                row: outs,
+                length: outs_length,
+            },
+            halves: Words {
+                row: halves,
+                length: halves_length,
+            },
+            faces: Words {
+                row: faces,
+                length: faces_length,
+            },
+        },
+        answers: Longs {
+            row: answers,
+            length: answers_length,
+        },
+        cleared: calls::ring_holds(ring, nodes, freed, buckets, v)
+            & test_mesh::holds(pending, pending_length, v),
+    }
+}
+
+// `v count x y x y ..`
+fn read_points(text: &[u8], at: usize) -> CoordinatesLine
+    ensures { λ r. ⌜ r .coordinates .length ≤ length (r .coordinates .row) ⌝ }
+{
+    let count = test_text::read_number(text, test_text::behind(text, at));
+    let v = test_mesh::read_points(text, count.at);
+    let points = v.coordinates;
+    let numbers = points.length;
+    CoordinatesLine {
+        coordinates: points,
+        at: v.at,
+        is_whole: v.is_whole
+            & (test_text::byte(text, at) == b'v')
+            & (numbers % 2 == 0)
+            & (count.magnitude == (numbers / 2) as u64),
+    }
+}
+
+// Whether the answers are those of the line `W` at a place, or untouched as in the line `w` where there is none; the place of the line after that.
+fn compare_answers(text: &[u8], lent: usize, told: usize, answers: Longs) -> Agreed {
+    if test_text::byte(text, told) == b'W' {
+        let start = test_mesh::read_start(text, told, b'W', false, LONGS);
+        return test_mesh::compare_longs(text, start, false, answers);
+    }
+    let start = test_mesh::read_start(text, lent, b'w', false, LONGS);
+    let a = test_mesh::compare_longs(text, start, false, answers);
+    Agreed {
+        agrees: a.agrees,
+        at: told,
+    }
+}
+
+// Whether a run has left what the lines from a place on have; the places of the mesh and of the answers that were lent.
+fn run_agrees(text: &[u8], mesh: usize, answers: usize, at: usize, ran: Ran) -> bool {
+    let answer = ran.answer;
+    let finished = answer.finished;
+    let m = calls::compare_mesh(text, mesh, at, ran.mesh);
+    let a = compare_answers(text, answers, m.at, ran.answers);
+    let numbers = calls::numbers_of(finished);
+    let line = test_text::is_line_of(text, a.at, b'r', &numbers);
+    m.agrees & a.agrees & ran.cleared & line
+}
+
+// The case whose line `m` stands at a place.
+pub fn agrees(text: &[u8], at: usize) -> bool {
+    let m = test_mesh::read_mesh(text, at, test_mesh::LENT, false);
+    let n = calls::read_ring(text, m.at);
+    let q = calls::read_sevens(text, n.at, b'q', WORDS);
+    let x = calls::read_center(text, q.at, b'x');
+    let w = calls::read_sevens(text, x.at, b'w', LONGS);
+    let v = read_points(text, w.at);
+    let cleared = calls::cleared(text, v.at);
+    let ran = run_on(
+        m.mesh,
+        n.ring,
+        q.length,
+        w.length,
         x.center,
-        &points[..points_length],
-    )
+        v.coordinates,
+        cleared,
+    );
+    run_agrees(text, at, x.at, v.at, ran)
+        & m.is_whole
+        & n.is_whole
+        & q.is_whole
+        & x.is_whole
+        & w.is_whole
+        & v.is_whole
 }

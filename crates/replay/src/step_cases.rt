@@ -1,13 +1,27 @@
 // Single steps (tests/reference/run_cases.py step): every refusal and fate, rows exactly long enough and one entry short, points at and beside an edge's ends and line
 // and at the limit of the coordinates, pending lists that fill, long walks, unsettled seeds. A case agrees where the answer, the counts and every row over its whole
 // length do: the ring's rows and pending are lent full of sevens.
+ghost use Prim.Native.Nat.{_≤_};
+ghost use lib.ListN.{length};
 use super::calls;
-use super::rows;
+use super::calls::Ring;
 use angle::Point2;
 use math::Point;
-use mesh::Counts;
 use sweep::Answer;
+use sweep::StepAnswer;
 use sweep::Stepped;
+use test_mesh::Coordinates;
+use test_mesh::Mesh;
+use test_mesh::NODES;
+use test_mesh::WORDS;
+use test_mesh::Words;
+
+// What a step has answered and left; whether the ring's rows and pending hold what they must.
+struct After {
+    answer: StepAnswer,
+    mesh: Mesh,
+    cleared: bool,
+}
 
 // Fate, vertex, faces and flips after the refusal and its place.
 fn accepted(a: Answer) -> [u64; 6] {
@@ -30,78 +44,41 @@ fn numbers_of(stepped: Stepped) -> [u64; 6] {
     }
 }
 
-// The case whose mesh stands at a place and whose point ends at another, on rows that are lent.
-fn step_agrees(
-    text: &[u8],
-    at: usize,
-    end: usize,
-    counts: Counts,
-    positions: &mut [i32],
-    outs: &mut [u32],
-    halves: &mut [u32],
-    faces: &mut [u32],
-    nodes: &mut [[u64; 4]],
-    freed: &mut [u32],
-    buckets: &mut [u32],
-    pending: &mut [u32],
+// A step on rows that are lent, the ring's and pending full of sevens, which must then hold v.
+fn step_on(
+    mesh: Mesh,
+    ring: Ring,
+    pending_length: usize,
     center: Point2,
     point: Point,
-) -> bool {
+    v: u32,
+) -> After
+    requires { ⌜ mesh .positions .length ≤ length (mesh .positions .row) ⌝ }
+    requires { ⌜ mesh .outs .length ≤ length (mesh .outs .row) ⌝ }
+    requires { ⌜ mesh .halves .length ≤ length (mesh .halves .row) ⌝ }
+    requires { ⌜ mesh .faces .length ≤ length (mesh .faces .row) ⌝ }
+    requires { ⌜ ring .nodes ≤ 256 ⌝ }
+    requires { ⌜ ring .freed ≤ 6144 ⌝ }
+    requires { ⌜ ring .buckets ≤ 6144 ⌝ }
+    requires { ⌜ «pending_length» ≤ 6144 ⌝ }
+{
+    let mut positions = mesh.positions.row;
+    let mut outs = mesh.outs.row;
+    let mut halves = mesh.halves.row;
+    let mut faces = mesh.faces.row;
+    let mut nodes = [[7u64; 4]; NODES];
+    let mut freed = [7u32; WORDS];
+    let mut buckets = [7u32; WORDS];
+    let mut pending = [7u32; WORDS];
+    let positions_length = mesh.positions.length;
+    let outs_length = mesh.outs.length;
+    let halves_length = mesh.halves.length;
+    let faces_length = mesh.faces.length;
+    let nodes_length = ring.nodes;
+    let freed_length = ring.freed;
+    let buckets_length = ring.buckets;
     let answer = step::step(
-        counts,
-        positions,
-        outs,
-        halves,
-        faces,
-        nodes,
-        freed,
-        buckets,
-        pending,
-        center,
-        point,
-    );
-    let left = answer.counts;
-    let stepped = answer.stepped;
-    let mesh = calls::compare_mesh(text, at, end, left, positions, outs, halves, faces);
-    let cleared = calls::cleared(text, end);
-    let ring = calls::ring_holds(nodes, freed, buckets, cleared);
-    let list = test_mesh::holds(pending, cleared);
-    let numbers = numbers_of(stepped);
-    let line = test_text::is_line_of(text, mesh.at, b'r', &numbers);
-    mesh.agrees & ring & list & line
-}
-
-// The case whose line `m` stands at a place.
-pub fn agrees(text: &[u8], at: usize) -> bool {
-    let mut positions = [0i32; rows::POSITIONS];
-    let mut outs = [0u32; rows::OUTS];
-    let mut halves = [0u32; rows::HALVES];
-    let mut faces = [0u32; rows::FACES];
-    let mut nodes = [[7u64; 4]; rows::RING];
-    let mut freed = [7u32; rows::RING];
-    let mut buckets = [7u32; rows::RING];
-    let mut pending = [7u32; rows::PENDING];
-    let m = test_mesh::read_mesh(text, at, &mut positions, &mut outs, &mut halves, &mut faces);
-    let n = calls::read_ring(text, m.at);
-    let q = calls::read_sevens(text, n.at, b'q', rows::PENDING);
-    let x = calls::read_center(text, q.at, b'x');
-    let v = calls::read_point(text, x.at);
-    if !(m.is_whole & n.is_whole & q.is_whole & x.is_whole & v.is_whole) {
-        return false;
-    }
-    let positions_length = m.positions;
-    let outs_length = m.outs;
-    let halves_length = m.halves;
-    let faces_length = m.faces;
-    let nodes_length = n.nodes;
-    let freed_length = n.freed;
-    let buckets_length = n.buckets;
-    let pending_length = q.length;
-    step_agrees(
-        text,
-        at,
-        v.at,
-        m.counts,
+        mesh.counts,
         &mut positions[..positions_length],
         &mut outs[..outs_length],
         &mut halves[..halves_length],
@@ -110,7 +87,59 @@ pub fn agrees(text: &[u8], at: usize) -> bool {
         &mut freed[..freed_length],
         &mut buckets[..buckets_length],
         &mut pending[..pending_length],
-        x.center,
-        v.point,
-    )
+        center,
+        point,
+    );
+    let left = answer.counts;
+    After {
+        answer: answer,
+        mesh: Mesh {
+            counts: left,
+            positions: Coordinates {
+                row: positions,
+                length: positions_length,
+            },
+            outs: Words {
+                row: outs,
+                length: outs_length,
+            },
+            halves: Words {
+                row: halves,
+                length: halves_length,
+            },
+            faces: Words {
+                row: faces,
+                length: faces_length,
+            },
+        },
+        cleared: calls::ring_holds(ring, nodes, freed, buckets, v)
+            & test_mesh::holds(pending, pending_length, v),
+    }
+}
+
+// Whether a step has left what the lines from a place on have; the place of the mesh that was lent.
+fn step_agrees(text: &[u8], mesh: usize, at: usize, after: After) -> bool {
+    let answer = after.answer;
+    let stepped = answer.stepped;
+    let m = calls::compare_mesh(text, mesh, at, after.mesh);
+    let numbers = numbers_of(stepped);
+    let line = test_text::is_line_of(text, m.at, b'r', &numbers);
+    m.agrees & after.cleared & line
+}
+
+// The case whose line `m` stands at a place.
+pub fn agrees(text: &[u8], at: usize) -> bool {
+    let m = test_mesh::read_mesh(text, at, test_mesh::LENT, false);
+    let n = calls::read_ring(text, m.at);
+    let q = calls::read_sevens(text, n.at, b'q', WORDS);
+    let x = calls::read_center(text, q.at, b'x');
+    let v = calls::read_point(text, x.at);
+    let cleared = calls::cleared(text, v.at);
+    let after = step_on(m.mesh, n.ring, q.length, x.center, v.point, cleared);
+    step_agrees(text, at, v.at, after)
+        & m.is_whole
+        & n.is_whole
+        & q.is_whole
+        & x.is_whole
+        & v.is_whole
 }

@@ -1,13 +1,23 @@
 // Meshes, rows, points and centres from the text of a list of cases, and rows held against such a text (tests/reference/README.md and oracle/FORMAT.md have the
 // formats). A line of a row is its tag, the row's length, the number that fills it, and the row's first entries; a plain line is its tag and entries. A reader answers
 // where the next line begins and whether the line was as it should be; what it cannot read is never taken for something else.
-ghost use mathlib.Core.Path.{_≡_};
+//
+// A row is an array with the number of its entries that are lent, passed and answered by value: only the function that makes a public call lends the rows.
 ghost use Prim.Native.Nat.{_≤_};
 ghost use lib.ListN.{length};
 use angle::Point2;
 use math::Point;
 use mesh::Counts;
 use test_text::Number;
+
+// No row of a list is longer than these.
+pub const COORDINATES: usize = 512;
+
+pub const WORDS: usize = 6144;
+
+pub const LONGS: usize = 1280;
+
+pub const NODES: usize = 256;
 
 // Whether something is as the list has it, and where the next line begins.
 pub struct Agreed {
@@ -21,20 +31,43 @@ pub struct CountsLine {
     pub is_whole: bool,
 }
 
-// So many entries of the row are lent to the call.
-pub struct RowLine {
+pub struct Coordinates {
+    pub row: [i32; COORDINATES],
     pub length: usize,
+}
+
+pub struct Words {
+    pub row: [u32; WORDS],
+    pub length: usize,
+}
+
+pub struct Longs {
+    pub row: [u64; LONGS],
+    pub length: usize,
+}
+
+pub struct Mesh {
+    pub counts: Counts,
+    pub positions: Coordinates,
+    pub outs: Words,
+    pub halves: Words,
+    pub faces: Words,
+}
+
+pub struct CoordinatesLine {
+    pub coordinates: Coordinates,
     pub at: usize,
     pub is_whole: bool,
 }
 
-// The counts, and so many entries of each row.
+struct WordsLine {
+    words: Words,
+    at: usize,
+    is_whole: bool,
+}
+
 pub struct MeshLines {
-    pub counts: Counts,
-    pub positions: usize,
-    pub outs: usize,
-    pub halves: usize,
-    pub faces: usize,
+    pub mesh: Mesh,
     pub at: usize,
     pub is_whole: bool,
 }
@@ -47,6 +80,13 @@ pub struct PointAt {
 pub struct CenterAt {
     pub p: Point2,
     pub at: usize,
+}
+
+// The start of a line of a row: whether it has its tag, how many entries the row has, what fills it, and where its written entries begin (`past.at`).
+pub struct RowStart {
+    pub is_right: bool,
+    pub length: u64,
+    pub past: Number,
 }
 
 // The tags of a mesh that is lent.
@@ -119,13 +159,40 @@ fn next_entry(text: &[u8], at: usize, past: Number) -> Number {
     }
 }
 
-// What fills the rest of a row on a plain line.
-fn zero() -> Number {
-    Number {
-        negative: false,
-        magnitude: 0,
-        at: 0,
+// A plain line of a row, which something fills behind what is written.
+pub fn plain_start(text: &[u8], at: usize, tag: u8, length: usize, past: u64) -> RowStart {
+    RowStart {
+        is_right: test_text::byte(text, at) == tag,
+        length: length as u64,
+        past: Number {
+            negative: false,
+            magnitude: past,
+            at: test_text::behind(text, at),
+        },
     }
+}
+
+// A line of a row, or a plain line of a row that has so many entries.
+pub fn read_start(text: &[u8], at: usize, tag: u8, plain: bool, length: usize) -> RowStart {
+    if plain {
+        return plain_start(text, at, tag, length, 0);
+    }
+    let n = test_text::read_number(text, test_text::behind(text, at));
+    RowStart {
+        is_right: test_text::byte(text, at) == tag && !n.negative,
+        length: n.magnitude,
+        past: test_text::read_number(text, n.at),
+    }
+}
+
+// A length of a row that can be lent so many entries, 0 for one that is too large.
+pub fn within(length: u64, most: usize) -> usize
+    ensures { λ r. ⌜ r ≤ most ⌝ }
+{
+    if length > most as u64 {
+        return 0;
+    }
+    length as usize
 }
 
 // The entries that begin at a place into a row of u32; the place behind them.
@@ -156,121 +223,73 @@ fn fill_coordinates(text: &[u8], at: usize, past: Number, row: &mut [i32]) -> us
     place
 }
 
-// A line of a row whose length is too large.
-fn too_long(at: usize) -> RowLine
-    ensures { λ r. ⌜ r .length ≡ 0 ⌝ }
+// A row of u32 whose line began so.
+fn read_words(text: &[u8], start: RowStart) -> WordsLine
+    ensures { λ r. ⌜ r .words .length ≤ length (r .words .row) ⌝ }
 {
-    RowLine {
-        length: 0,
-        at: at,
-        is_whole: false,
-    }
-}
-
-// A row of u32.
-pub fn read_words(text: &[u8], at: usize, tag: u8, row: &mut [u32]) -> RowLine
-    ensures { λ r. ⌜ r .length ≤ length (now (row .exit)) ⌝ }
-{
-    let start = test_text::behind(text, at);
-    let n = test_text::read_number(text, start);
-    let past = test_text::read_number(text, n.at);
-    if n.magnitude > row.len() as u64 {
-        return too_long(past.at);
-    }
-    let count = n.magnitude as usize;
+    let mut row = [0u32; WORDS];
+    let past = start.past;
+    let count = within(start.length, WORDS);
     let end = fill_words(text, past.at, past, &mut row[..count]);
-    RowLine {
-        length: count,
+    WordsLine {
+        words: Words {
+            row: row,
+            length: count,
+        },
         at: test_text::behind(text, end),
-        is_whole: is_line(text, at, tag, end),
+        is_whole: start.is_right
+            & (start.length == count as u64)
+            & (test_text::byte(text, end) == b'\n'),
     }
 }
 
-// A row of coordinates.
-pub fn read_coordinates(text: &[u8], at: usize, tag: u8, row: &mut [i32]) -> RowLine
-    ensures { λ r. ⌜ r .length ≤ length (now (row .exit)) ⌝ }
+// A row of coordinates whose line began so.
+fn read_coordinates(text: &[u8], start: RowStart) -> CoordinatesLine
+    ensures { λ r. ⌜ r .coordinates .length ≤ length (r .coordinates .row) ⌝ }
 {
-    let start = test_text::behind(text, at);
-    let n = test_text::read_number(text, start);
-    let past = test_text::read_number(text, n.at);
-    if n.magnitude > row.len() as u64 {
-        return too_long(past.at);
-    }
-    let count = n.magnitude as usize;
+    let mut row = [0i32; COORDINATES];
+    let past = start.past;
+    let count = within(start.length, COORDINATES);
     let end = fill_coordinates(text, past.at, past, &mut row[..count]);
-    RowLine {
-        length: count,
+    CoordinatesLine {
+        coordinates: Coordinates {
+            row: row,
+            length: count,
+        },
         at: test_text::behind(text, end),
-        is_whole: is_line(text, at, tag, end),
+        is_whole: start.is_right
+            & (start.length == count as u64)
+            & (test_text::byte(text, end) == b'\n'),
     }
 }
 
-// The lines `m p o h f`.
-pub fn read_mesh(
-    text: &[u8],
-    at: usize,
-    positions: &mut [i32],
-    outs: &mut [u32],
-    halves: &mut [u32],
-    faces: &mut [u32],
-) -> MeshLines
-    ensures { λ r. ⌜ r .positions ≤ length (now (positions .exit)) ⌝ }
-    ensures { λ r. ⌜ r .outs ≤ length (now (outs .exit)) ⌝ }
-    ensures { λ r. ⌜ r .halves ≤ length (now (halves .exit)) ⌝ }
-    ensures { λ r. ⌜ r .faces ≤ length (now (faces .exit)) ⌝ }
+// Five lines with these tags.
+pub fn read_mesh(text: &[u8], at: usize, tags: [u8; 5], plain: bool) -> MeshLines
+    ensures { λ r. ⌜ r .mesh .positions .length ≤ length (r .mesh .positions .row) ⌝ }
+    ensures { λ r. ⌜ r .mesh .outs .length ≤ length (r .mesh .outs .row) ⌝ }
+    ensures { λ r. ⌜ r .mesh .halves .length ≤ length (r .mesh .halves .row) ⌝ }
+    ensures { λ r. ⌜ r .mesh .faces .length ≤ length (r .mesh .faces .row) ⌝ }
 {
-    let m = read_counts(text, at, b'm');
-    let p = read_coordinates(text, m.at, b'p', positions);
-    let o = read_words(text, p.at, b'o', outs);
-    let h = read_words(text, o.at, b'h', halves);
-    let f = read_words(text, h.at, b'f', faces);
+    let m = read_counts(text, at, tags[0]);
+    let p = read_coordinates(text, read_start(text, m.at, tags[1], plain, COORDINATES));
+    let o = read_words(text, read_start(text, p.at, tags[2], plain, WORDS));
+    let h = read_words(text, read_start(text, o.at, tags[3], plain, WORDS));
+    let f = read_words(text, read_start(text, h.at, tags[4], plain, WORDS));
+    let counts = m.counts;
+    let positions = p.coordinates;
+    let outs = o.words;
+    let halves = h.words;
+    let faces = f.words;
     MeshLines {
-        counts: m.counts,
-        positions: p.length,
-        outs: o.length,
-        halves: h.length,
-        faces: f.length,
+        mesh: Mesh {
+            counts: counts,
+            positions: positions,
+            outs: outs,
+            halves: halves,
+            faces: faces,
+        },
         at: f.at,
-        is_whole: m.is_whole && p.is_whole && o.is_whole && h.is_whole && f.is_whole,
-    }
-}
-
-// A plain line of u32.
-fn read_plain_words(text: &[u8], at: usize, tag: u8, row: &mut [u32]) -> Agreed {
-    let end = fill_words(text, test_text::behind(text, at), zero(), row);
-    Agreed {
-        agrees: is_line(text, at, tag, end),
-        at: test_text::behind(text, end),
-    }
-}
-
-// A plain line of coordinates.
-fn read_plain_coordinates(text: &[u8], at: usize, tag: u8, row: &mut [i32]) -> Agreed {
-    let end = fill_coordinates(text, test_text::behind(text, at), zero(), row);
-    Agreed {
-        agrees: is_line(text, at, tag, end),
-        at: test_text::behind(text, end),
-    }
-}
-
-// The lines `m p o h f` of the oracle's answers. What is not written is 0.
-pub fn read_plain_mesh(
-    text: &[u8],
-    at: usize,
-    positions: &mut [i32],
-    outs: &mut [u32],
-    halves: &mut [u32],
-    faces: &mut [u32],
-) -> CountsLine {
-    let m = read_counts(text, at, b'm');
-    let p = read_plain_coordinates(text, m.at, b'p', positions);
-    let o = read_plain_words(text, p.at, b'o', outs);
-    let h = read_plain_words(text, o.at, b'h', halves);
-    let f = read_plain_words(text, h.at, b'f', faces);
-    CountsLine {
-        counts: m.counts,
-        at: f.at,
-        is_whole: m.is_whole && p.agrees && o.agrees && h.agrees && f.agrees,
+        is_whole: m.is_whole & p.is_whole & o.is_whole & h.is_whole & f.is_whole,
     }
 }
 
@@ -292,212 +311,34 @@ fn numbers_from(text: &[u8], at: usize) -> usize {
 }
 
 // The coordinates of points, as many as the line has from a place on.
-pub fn read_points(text: &[u8], at: usize, row: &mut [i32]) -> RowLine
-    ensures { λ r. ⌜ r .length ≤ length (now (row .exit)) ⌝ }
+pub fn read_points(text: &[u8], at: usize) -> CoordinatesLine
+    ensures { λ r. ⌜ r .coordinates .length ≤ length (r .coordinates .row) ⌝ }
 {
-    let count = numbers_from(text, at);
-    if count > row.len() {
-        return too_long(at);
-    }
-    let end = fill_coordinates(text, at, zero(), row);
-    RowLine {
-        length: count,
-        at: test_text::behind(text, end),
-        is_whole: test_text::byte(text, end) == b'\n',
-    }
-}
-
-// Whether the entries that begin at a place are those of a row of u32; the place behind them.
-fn compare_entries(text: &[u8], at: usize, past: Number, row: &[u32]) -> Agreed {
-    let mut place = at;
-    let mut same = true;
-    let mut i: usize = 0;
-    while i < row.len() {
-        let entry = next_entry(text, place, past);
-        if entry.negative || entry.magnitude != wide(row[i]) {
-            same = false;
-        }
-        place = entry.at;
-        i += 1;
-    }
-    Agreed {
-        agrees: same,
-        at: place,
-    }
-}
-
-fn wide(x: u32) -> u64 {
-    x as u64
-}
-
-// The same for a row of coordinates.
-fn compare_coordinate_entries(text: &[u8], at: usize, past: Number, row: &[i32]) -> Agreed {
-    let mut place = at;
-    let mut same = true;
-    let mut i: usize = 0;
-    while i < row.len() {
-        let entry = next_entry(text, place, past);
-        if test_text::signed(entry) != row[i] {
-            same = false;
-        }
-        place = entry.at;
-        i += 1;
-    }
-    Agreed {
-        agrees: same,
-        at: place,
-    }
-}
-
-// The same for a row of u64.
-fn compare_long_entries(text: &[u8], at: usize, past: Number, row: &[u64]) -> Agreed {
-    let mut place = at;
-    let mut same = true;
-    let mut i: usize = 0;
-    while i < row.len() {
-        let entry = next_entry(text, place, past);
-        if entry.negative || entry.magnitude != row[i] {
-            same = false;
-        }
-        place = entry.at;
-        i += 1;
-    }
-    Agreed {
-        agrees: same,
-        at: place,
-    }
-}
-
-// The start of a line of a row: its tag, its length, and what fills it.
-struct RowStart {
-    is_right: bool,
-    past: Number,
-}
-
-fn read_start(text: &[u8], at: usize, tag: u8, length: usize) -> RowStart {
-    let start = test_text::behind(text, at);
-    let n = test_text::read_number(text, start);
-    RowStart {
-        is_right: test_text::byte(text, at) == tag && n.magnitude == length as u64,
-        past: test_text::read_number(text, n.at),
-    }
-}
-
-// A line of a row whose entries were compared.
-fn compared(text: &[u8], is_right: bool, entries: Agreed) -> Agreed {
-    let end = entries.at;
-    Agreed {
-        agrees: is_right && entries.agrees && test_text::byte(text, end) == b'\n',
-        at: test_text::behind(text, end),
-    }
-}
-
-// Whether a row of u32 is the one that a line has: as long, and with its entries.
-pub fn compare_words(text: &[u8], at: usize, tag: u8, row: &[u32]) -> Agreed {
-    let s = read_start(text, at, tag, row.len());
-    let past = s.past;
-    compared(text, s.is_right, compare_entries(text, past.at, past, row))
-}
-
-// The same for a row of coordinates.
-pub fn compare_coordinates(text: &[u8], at: usize, tag: u8, row: &[i32]) -> Agreed {
-    let s = read_start(text, at, tag, row.len());
-    let past = s.past;
-    compared(
+    read_coordinates(
         text,
-        s.is_right,
-        compare_coordinate_entries(text, past.at, past, row),
+        RowStart {
+            is_right: true,
+            length: numbers_from(text, at) as u64,
+            past: Number {
+                negative: false,
+                magnitude: 0,
+                at: at,
+            },
+        },
     )
-}
-
-// The same for a row of u64.
-pub fn compare_longs(text: &[u8], at: usize, tag: u8, row: &[u64]) -> Agreed {
-    let s = read_start(text, at, tag, row.len());
-    let past = s.past;
-    compared(
-        text,
-        s.is_right,
-        compare_long_entries(text, past.at, past, row),
-    )
-}
-
-// Whether a row of coordinates is the one that a plain line has, and zeros after it.
-pub fn compare_plain_coordinates(text: &[u8], at: usize, tag: u8, row: &[i32]) -> Agreed {
-    let start = test_text::behind(text, at);
-    compared(
-        text,
-        test_text::byte(text, at) == tag,
-        compare_coordinate_entries(text, start, zero(), row),
-    )
-}
-
-pub fn same_counts(a: Counts, b: Counts) -> bool {
-    a.vertices == b.vertices && a.edges == b.edges && a.faces == b.faces
-}
-
-// Whether counts and rows are those of five lines with these tags.
-pub fn compare_mesh(
-    text: &[u8],
-    at: usize,
-    tags: [u8; 5],
-    counts: Counts,
-    positions: &[i32],
-    outs: &[u32],
-    halves: &[u32],
-    faces: &[u32],
-) -> Agreed {
-    let m = read_counts(text, at, tags[0]);
-    let p = compare_coordinates(text, m.at, tags[1], positions);
-    let o = compare_words(text, p.at, tags[2], outs);
-    let h = compare_words(text, o.at, tags[3], halves);
-    let f = compare_words(text, h.at, tags[4], faces);
-    Agreed {
-        agrees: m.is_whole
-            && same_counts(m.counts, counts)
-            && p.agrees
-            && o.agrees
-            && h.agrees
-            && f.agrees,
-        at: f.at,
-    }
-}
-
-// Whether every entry of a row is v.
-pub fn holds(row: &[u32], v: u32) -> bool {
-    let mut i: usize = 0;
-    while i < row.len() {
-        if row[i] != v {
-            return false;
-        }
-        i += 1;
-    }
-    true
-}
-
-fn node_holds(node: [u64; 4], v: u64) -> bool {
-    node[0] == v && node[1] == v && node[2] == v && node[3] == v
-}
-
-// Whether every number of every node is v.
-pub fn nodes_hold(row: &[[u64; 4]], v: u64) -> bool {
-    let mut i: usize = 0;
-    while i < row.len() {
-        if !node_holds(row[i], v) {
-            return false;
-        }
-        i += 1;
-    }
-    true
 }
 
 // Whether two rows of u32 are the same.
-pub fn same_words(a: &[u32], b: &[u32]) -> bool {
-    if a.len() != b.len() {
+pub fn same_words(a: Words, b: Words) -> bool {
+    let left = a.row;
+    let right = b.row;
+    let n = a.length;
+    if n != b.length || n > WORDS {
         return false;
     }
     let mut i: usize = 0;
-    while i < a.len() {
-        if a[i] != b[i] {
+    while i < n {
+        if left[i] != right[i] {
             return false;
         }
         i += 1;
@@ -506,16 +347,102 @@ pub fn same_words(a: &[u32], b: &[u32]) -> bool {
 }
 
 // Whether two rows of coordinates are the same.
-pub fn same_coordinates(a: &[i32], b: &[i32]) -> bool {
-    if a.len() != b.len() {
+pub fn same_coordinates(a: Coordinates, b: Coordinates) -> bool {
+    let left = a.row;
+    let right = b.row;
+    let n = a.length;
+    if n != b.length || n > COORDINATES {
         return false;
     }
     let mut i: usize = 0;
-    while i < a.len() {
-        if a[i] != b[i] {
+    while i < n {
+        if left[i] != right[i] {
             return false;
         }
         i += 1;
     }
     true
+}
+
+pub fn same_counts(a: Counts, b: Counts) -> bool {
+    a.vertices == b.vertices && a.edges == b.edges && a.faces == b.faces
+}
+
+pub fn same_mesh(a: Mesh, b: Mesh) -> bool {
+    same_counts(a.counts, b.counts)
+        & same_coordinates(a.positions, b.positions)
+        & same_words(a.outs, b.outs)
+        & same_words(a.halves, b.halves)
+        & same_words(a.faces, b.faces)
+}
+
+// Whether counts and rows are those of five lines with these tags.
+pub fn compare_mesh(text: &[u8], at: usize, tags: [u8; 5], mesh: Mesh) -> Agreed {
+    let due = read_mesh(text, at, tags, false);
+    Agreed {
+        agrees: due.is_whole & same_mesh(due.mesh, mesh),
+        at: due.at,
+    }
+}
+
+// What a line says of an entry of the answers. The plain line has four numbers for each point, where the row has five words, the fourth of them the flips' high word.
+fn due_long(text: &[u8], at: usize, past: Number, plain: bool, i: usize) -> Number {
+    if plain && i % 5 == 3 && test_text::byte(text, at) == b' ' {
+        return Number {
+            negative: false,
+            magnitude: 0,
+            at: at,
+        };
+    }
+    next_entry(text, at, past)
+}
+
+// Whether the answers are those of the line that began so.
+pub fn compare_longs(text: &[u8], start: RowStart, plain: bool, answers: Longs) -> Agreed {
+    let row = answers.row;
+    let n = answers.length;
+    let past = start.past;
+    let mut place = past.at;
+    let mut same = start.is_right && start.length == n as u64 && n <= LONGS;
+    let mut i: usize = 0;
+    while i < LONGS {
+        if i < n {
+            let entry = due_long(text, place, past, plain, i);
+            same = same && !entry.negative && entry.magnitude == row[i];
+            place = entry.at;
+        }
+        i += 1;
+    }
+    Agreed {
+        agrees: same && test_text::byte(text, place) == b'\n',
+        at: test_text::behind(text, place),
+    }
+}
+
+// Whether each of the first n entries of a row is v.
+pub fn holds(row: [u32; WORDS], n: usize, v: u32) -> bool {
+    let mut i: usize = 0;
+    while i < WORDS {
+        if i < n && row[i] != v {
+            return false;
+        }
+        i += 1;
+    }
+    n <= WORDS
+}
+
+fn node_holds(node: [u64; 4], v: u64) -> bool {
+    node[0] == v && node[1] == v && node[2] == v && node[3] == v
+}
+
+// Whether every number of each of the first n nodes is v.
+pub fn nodes_hold(row: [[u64; 4]; NODES], n: usize, v: u64) -> bool {
+    let mut i: usize = 0;
+    while i < NODES {
+        if i < n && !node_holds(row[i], v) {
+            return false;
+        }
+        i += 1;
+    }
+    n <= NODES
 }

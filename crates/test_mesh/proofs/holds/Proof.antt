@@ -1,24 +1,23 @@
 -- `test_mesh::holds` meets its contract: the loop stays within the row. Assumes nothing.
 use Prim.Native.Nat.{_≤_, _-_}
-use lib.ListN.{length}
 use borrow.Author.Needs.{needs}
 use Rattle.test_mesh.proofs.holds.Statement.{statement}
 use Rattle.test_mesh.proofs.holds.Tie as tie
 
 abbrev Inv-loop : tie.InvT-loop
-Inv-loop row v i₀ i = i ≤ length row
+Inv-loop n v row i₀ i = i ≤ 6144
 
 abbrev μ-loop : tie.MeasureT-loop
-μ-loop row v i₀ i = length row - i
+μ-loop n v row i₀ i = 6144 - i
 
 loop-holds : tie.Need-loop-holds Inv-loop μ-loop
 loop-holds c = search needs
 
-mul-if1 : tie.Need-mul-if1 Inv-loop μ-loop
-mul-if1 c = search needs
+mul-if2 : tie.Need-mul-if2 Inv-loop μ-loop
+mul-if2 c = search needs
 
-shared-slice-read-if1 : tie.Need-shared-slice-read-if1 Inv-loop μ-loop
-shared-slice-read-if1 c = search needs
+array-read-if2 : tie.Need-array-read-if2 Inv-loop μ-loop
+array-read-if2 c = search needs
 
 returns : tie.Need-returns Inv-loop μ-loop
 returns c = search needs
@@ -42,8 +41,8 @@ holds-spec =
     Inv-loop
     μ-loop
     loop-holds
-    mul-if1
-    shared-slice-read-if1
+    mul-if2
+    array-read-if2
     returns
     add-i
     loop-less

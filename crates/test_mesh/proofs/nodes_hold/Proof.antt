@@ -1,15 +1,14 @@
 -- `test_mesh::nodes_hold` meets its contract: the loop stays within the row. Assumes nothing.
 use Prim.Native.Nat.{_≤_, _-_}
-use lib.ListN.{length}
 use borrow.Author.Needs.{needs}
 use Rattle.test_mesh.proofs.nodes_hold.Statement.{statement}
 use Rattle.test_mesh.proofs.nodes_hold.Tie as tie
 
 abbrev Inv-loop : tie.InvT-loop
-Inv-loop row v i₀ i = i ≤ length row
+Inv-loop n v row i₀ i = i ≤ 256
 
 abbrev μ-loop : tie.MeasureT-loop
-μ-loop row v i₀ i = length row - i
+μ-loop n v row i₀ i = 256 - i
 
 loop-holds : tie.Need-loop-holds Inv-loop μ-loop
 loop-holds c = search needs
@@ -17,8 +16,8 @@ loop-holds c = search needs
 mul-node-holds : tie.Need-mul-node-holds Inv-loop μ-loop
 mul-node-holds c = search needs
 
-shared-slice-copy-out-node-holds : tie.Need-shared-slice-copy-out-node-holds Inv-loop μ-loop
-shared-slice-copy-out-node-holds c = search needs
+array-copy-out-node-holds : tie.Need-array-copy-out-node-holds Inv-loop μ-loop
+array-copy-out-node-holds c = search needs
 
 node-holds-requires : tie.Need-node-holds-requires Inv-loop μ-loop
 node-holds-requires c κs = search needs
@@ -46,7 +45,7 @@ nodes-hold-spec =
     μ-loop
     loop-holds
     mul-node-holds
-    shared-slice-copy-out-node-holds
+    array-copy-out-node-holds
     node-holds-requires
     returns
     add-i

@@ -1,15 +1,15 @@
 -- `test_mesh::same_coordinates` meets its contract: the loop stays within the two rows. Assumes nothing.
 use Prim.Native.Nat.{_≤_, _-_}
-use lib.ListN.{length}
+use native.Mathlib.Omega.{arith}
 use borrow.Author.Needs.{needs}
 use Rattle.test_mesh.proofs.same_coordinates.Statement.{statement}
 use Rattle.test_mesh.proofs.same_coordinates.Tie as tie
 
 abbrev Inv-loop : tie.InvT-loop
-Inv-loop a b i₀ i = i ≤ length a
+Inv-loop left right n i₀ i = (i ≤ n) × (n ≤ 512)
 
 abbrev μ-loop : tie.MeasureT-loop
-μ-loop a b i₀ i = length a - i
+μ-loop left right n i₀ i = n - i
 
 returns : tie.Need-returns Inv-loop μ-loop
 returns c = search needs
@@ -17,17 +17,17 @@ returns c = search needs
 loop-holds : tie.Need-loop-holds Inv-loop μ-loop
 loop-holds c = search needs
 
-mul-if2 : tie.Need-mul-if2 Inv-loop μ-loop
-mul-if2 c = search needs
+mul-if3 : tie.Need-mul-if3 Inv-loop μ-loop
+mul-if3 c = search needs
 
-shared-slice-copy-out-if2 : tie.Need-shared-slice-copy-out-if2 Inv-loop μ-loop
-shared-slice-copy-out-if2 c = search needs
+array-copy-out-if3 : tie.Need-array-copy-out-if3 Inv-loop μ-loop
+array-copy-out-if3 c = search needs
 
-mul-if2-2 : tie.Need-mul-if2-2 Inv-loop μ-loop
-mul-if2-2 c = search needs
+mul-if3-2 : tie.Need-mul-if3-2 Inv-loop μ-loop
+mul-if3-2 c = search needs
 
-shared-slice-copy-out-if2-2 : tie.Need-shared-slice-copy-out-if2-2 Inv-loop μ-loop
-shared-slice-copy-out-if2-2 c = search needs
+array-copy-out-if3-2 : tie.Need-array-copy-out-if3-2 Inv-loop μ-loop
+array-copy-out-if3-2 c = search needs
 
 returns-2 : tie.Need-returns-2 Inv-loop μ-loop
 returns-2 c = search needs
@@ -52,10 +52,10 @@ same-coordinates-spec =
     μ-loop
     returns
     loop-holds
-    mul-if2
-    shared-slice-copy-out-if2
-    mul-if2-2
-    shared-slice-copy-out-if2-2
+    mul-if3
+    array-copy-out-if3
+    mul-if3-2
+    array-copy-out-if3-2
     returns-2
     add-i
     loop-less

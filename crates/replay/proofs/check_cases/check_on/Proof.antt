@@ -1,0 +1,55 @@
+-- `replay::check_cases::check_on` meets its contract: what is lent of a row is within it. Assumes nothing.
+use mathlib.Core.Path.{refl}
+use Rattle.test_mesh.proofs.Lent.{part}
+use borrow.Author.Needs.{needs}
+use Rattle.replay.proofs.check_cases.check_on.Statement.{statement}
+use Rattle.replay.proofs.check_cases.check_on.Tie as tie
+
+array-share-prefix-positions : tie.Need-array-share-prefix-positions
+array-share-prefix-positions c = c .before .before .before .before .pre .0
+
+slice-aggregate-check : tie.Need-slice-aggregate-check
+slice-aggregate-check c = part _ _ (c .before .before .before .before .before .args .mesh .positions .row) refl (c .before .before .before .before .before .pre .0)
+
+array-share-prefix-outs : tie.Need-array-share-prefix-outs
+array-share-prefix-outs c = c .before .before .before .before .before .pre .1 .0
+
+slice-aggregate-check-2 : tie.Need-slice-aggregate-check-2
+slice-aggregate-check-2 c = part _ _ (c .before .before .before .before .before .before .args .mesh .outs .row) refl (c .before .before .before .before .before .before .pre .1 .0)
+
+array-share-prefix-halves : tie.Need-array-share-prefix-halves
+array-share-prefix-halves c = c .before .before .before .before .before .before .pre .1 .1 .0
+
+slice-aggregate-check-3 : tie.Need-slice-aggregate-check-3
+slice-aggregate-check-3 c = part _ _ (c .before .before .before .before .before .before .before .args .mesh .halves .row) refl (c .before .before .before .before .before .before .before .pre .1 .1 .0)
+
+array-share-prefix-faces : tie.Need-array-share-prefix-faces
+array-share-prefix-faces c = c .before .before .before .before .before .before .before .pre .1 .1 .1
+
+slice-aggregate-check-4 : tie.Need-slice-aggregate-check-4
+slice-aggregate-check-4 c = part _ _ (c .before .before .before .before .before .before .before .before .args .mesh .faces .row) refl (c .before .before .before .before .before .before .before .before .pre .1 .1 .1)
+
+check-requires : tie.Need-check-requires
+check-requires c κs = search needs
+
+numbers-of-requires : tie.Need-numbers-of-requires
+numbers-of-requires c κs = search needs
+
+returns : tie.Need-returns
+returns c = search needs
+
+pub check-on-spec : {M : Type 1} → statement M
+check-on-spec =
+    tie.close
+    (tie.spec
+    array-share-prefix-positions
+    slice-aggregate-check
+    array-share-prefix-outs
+    slice-aggregate-check-2
+    array-share-prefix-halves
+    slice-aggregate-check-3
+    array-share-prefix-faces
+    slice-aggregate-check-4
+    check-requires
+    numbers-of-requires
+    returns)
