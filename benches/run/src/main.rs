@@ -19,6 +19,7 @@ use oracle::mesh;
 const SIZES: [usize; 4] = [1_000, 10_000, 100_000, 1_000_000];
 
 /// From the seed to the finished mesh, memory and all.
+#[inline(never)]
 fn ours(input: &Input) -> (Mesh, Run) {
     let mut mesh = Mesh::triangle(input.corners).expect("a seed");
     let run = mesh.run(input.center, &input.points).expect("an accepted run");
@@ -26,6 +27,7 @@ fn ours(input: &Input) -> (Mesh, Run) {
 }
 
 /// The same of the Rust: to the mesh after the first convexity pass, which is where its bulk load ends but for the points that it skipped.
+#[inline(never)]
 fn rust(input: &Input) -> Sweep {
     let mut sweep = rust_stepped(input);
     sweep.pass_alone();
@@ -213,7 +215,7 @@ fn main() {
 fn tables(turns: usize, largest: usize, beside: Option<&Path>) {
     let cases = KINDS.iter().flat_map(|&kind| SIZES.map(|count| (kind, count)));
     let rows: Vec<Row> = cases
-        .filter(|&(_, count)| count <= largest)
+        .filter(|&(kind, count)| count <= largest && !(kind == "along lines" && count > 100_000))
         .map(|(kind, count)| {
             eprintln!("{kind} {count}");
             measure(kind, count, turns, beside)
@@ -225,7 +227,14 @@ fn tables(turns: usize, largest: usize, beside: Option<&Path>) {
         let Parts { check, first_pass, rest } = r.checked.parts;
         let added = r.checked.added + 3;
         let [ours, rust] = r.steps;
-        print!("| {} | {} | {added} | {} | {} | {:.2} ", r.kind, r.count, ms(r.ours), ms(r.rust), r.ours / r.rust);
+        print!(
+            "| {} | {} | {added} | {} | {} | {:.2} ",
+            r.kind,
+            r.count,
+            ms(r.ours),
+            ms(r.rust),
+            r.ours / r.rust
+        );
         print!("| {} | {} | {:.2} | {} ", ms(ours), ms(rust), ours / rust, ms(first_pass + rest));
         println!("| {} | {} |", ms((r.rust - rust).max(0.0)), ms(check));
     }
@@ -240,11 +249,19 @@ fn tables(turns: usize, largest: usize, beside: Option<&Path>) {
         println!("CGAL: target/bench_cgal was not built (libcgal-dev and c++ are needed)");
         return;
     }
-    println!("| points | number | ours (ms) | CGAL (ms) | ours / CGAL | CGAL (MB) |\n|---|---|---|---|---|---|");
+    println!(
+        "| points | number | ours (ms) | CGAL (ms) | ours / CGAL | CGAL (MB) |\n|---|---|---|---|---|---|"
+    );
     for r in &rows {
         if let Some([time, memory]) = r.cgal {
             let ratio = r.ours / time;
-            println!("| {} | {} | {} | {} | {ratio:.2} | {memory:.0} |", r.kind, r.count, ms(r.ours), ms(time));
+            println!(
+                "| {} | {} | {} | {} | {ratio:.2} | {memory:.0} |",
+                r.kind,
+                r.count,
+                ms(r.ours),
+                ms(time)
+            );
         }
     }
 }
