@@ -1,16 +1,22 @@
-//! Milliseconds that `check` takes on a mesh of 1,000,000 vertices: this library's (`libmesh_check_c.a`) beside the same sweep in plain Rust, on the same rows, in turn.
+//! Milliseconds that `check` takes on a mesh of 1,000,000 vertices: this library's (`libfithmoul.a`) beside the same sweep in plain Rust, on the same rows, in turn.
 //! The mesh is a grid of 1,000 by 1,000, its numbers in the grid's order, and again with vertices, edges and faces numbered at random. Every answer is compared.
 use std::hint::black_box;
 use std::time::Instant;
 
 extern "C" {
-    fn mesh_check_check(
+    fn fithmoul_check(
         vertices: u32, edges: u32, faces: u32,
         positions: *const i32, positions_len: usize,
         outs: *const u32, outs_len: usize,
         halves: *const u32, halves_len: usize,
         stored: *const u32, stored_len: usize,
-    ) -> u64;
+    ) -> CheckResult;
+}
+
+#[repr(C)]
+struct CheckResult {
+    refusal: u32,
+    place: u32,
 }
 
 struct Mesh {
@@ -24,15 +30,16 @@ struct Mesh {
 }
 
 fn ours(m: &Mesh) -> u64 {
-    unsafe {
-        mesh_check_check(
+    let r = unsafe {
+        fithmoul_check(
             m.vertices, m.edges, m.faces,
             m.positions.as_ptr(), m.positions.len(),
             m.outs.as_ptr(), m.outs.len(),
             m.halves.as_ptr(), m.halves.len(),
             m.stored.as_ptr(), m.stored.len(),
         )
-    }
+    };
+    refused(r.refusal.into(), r.place.into())
 }
 
 /// Next, prev, face and origin of a half-edge, with one test of the index.

@@ -1,17 +1,29 @@
-//! Seconds that `finish` takes on a mesh of 1,000,000 vertices: this library's (`libfinish_c.a`), refusals 1 to 5, convexity passes and closing pass together.
+//! Seconds that `finish` takes on a mesh of 1,000,000 vertices: this library's (`libfithmoul.a`), refusals 1 to 5, convexity passes and closing pass together.
 //! The mesh is a grid of 1,000 by 1,000, each vertex moved at random and each cell cut along the same diagonal, so that the boundary has left corners to close and
 //! many edges break the circle rule; its numbers in the grid's order, and again vertices, edges and faces numbered at random. Then the same mesh once more, finished.
 use std::time::Instant;
 
 extern "C" {
-    fn finish_finish(
+    fn fithmoul_finish(
         vertices: u32, edges: u32, faces: u32,
         positions: *const i32, positions_len: usize,
         outs: *mut u32, outs_len: usize,
         halves: *mut u32, halves_len: usize,
         stored: *mut u32, stored_len: usize,
         pending: *mut u32, pending_len: usize,
-    ) -> u64;
+    ) -> FinishResult;
+}
+
+#[repr(C)]
+struct FinishResult {
+    refusal: u32,
+    place: u32,
+    vertices: u32,
+    edges: u32,
+    faces: u32,
+    faces_added: u32,
+    convex_flips: [u64; 2],
+    closing_flips: [u64; 2],
 }
 
 struct Mesh {
@@ -24,9 +36,10 @@ struct Mesh {
     stored: Vec<u32>,
 }
 
-fn finish(m: &mut Mesh, pending: &mut [u32]) -> u64 {
+/// The faces added, and the flips.
+fn finish(m: &mut Mesh, pending: &mut [u32]) -> [u64; 2] {
     let r = unsafe {
-        finish_finish(
+        fithmoul_finish(
             m.vertices, m.edges, m.faces,
             m.positions.as_ptr(), m.positions.len(),
             m.outs.as_mut_ptr(), m.outs.len(),
@@ -35,11 +48,11 @@ fn finish(m: &mut Mesh, pending: &mut [u32]) -> u64 {
             pending.as_mut_ptr(), pending.len(),
         )
     };
-    if r < 1 << 32 {
-        m.edges += r as u32;
-        m.faces += r as u32;
-    }
-    r
+    assert!(r.refusal == 0, "refusal {} at {}", r.refusal, r.place);
+    assert!(r.vertices == m.vertices);
+    m.edges = r.edges;
+    m.faces = r.faces;
+    [r.faces_added.into(), r.convex_flips[1] + r.closing_flips[1]]
 }
 
 /// A grid of w by w vertices, each moved by up to `shake` of 32, each cell two triangles that turn left; `number` gives vertices, edges and faces their numbers
@@ -122,7 +135,7 @@ fn main() {
     };
     let mut ordered = |n: usize| (0..n as u32).collect();
     let mut pending = vec![0u32; 4096];
-    println!("| mesh | finish (s) | faces added | once more (s) | faces added |\n|---|---|---|---|---|");
+    println!("| mesh | finish (s) | faces added | flips | once more (s) | faces added | flips |\n|---|---|---|---|---|---|---|");
     for (name, mut m) in [
         ("grid's order", grid(1000, 7, &mut random, &mut ordered)),
         ("numbered at random", grid(1000, 7, &mut random, &mut shuffled)),
@@ -133,6 +146,7 @@ fn main() {
         let t = Instant::now();
         let second = finish(&mut m, &mut pending);
         let b = t.elapsed().as_secs_f64();
-        println!("| {name} | {a:.2} | {first} | {b:.2} | {second} |");
+        let [[faces, flips], [no_faces, no_flips]] = [first, second];
+        println!("| {name} | {a:.2} | {faces} | {flips} | {b:.2} | {no_faces} | {no_flips} |");
     }
 }

@@ -1,11 +1,10 @@
-// Seconds that CGAL takes to triangulate the points of a file (pairs of 32-bit whole numbers), as it is meant to be used: one insertion of all of them,
+// Processor seconds that CGAL takes to triangulate the points of a file (pairs of 32-bit whole numbers), as it is meant to be used: one insertion of all of them,
 // which it sorts along a curve first. Then the peak of its memory in kB, and its vertices.
 #include <CGAL/Delaunay_triangulation_2.h>
 #include <CGAL/Exact_predicates_inexact_constructions_kernel.h>
 
-#include <chrono>
 #include <cstdint>
-#include <cstdio>
+#include <ctime>
 #include <fstream>
 #include <iostream>
 #include <string>
@@ -30,10 +29,10 @@ int main(int count, char **words) {
     std::vector<Kernel::Point_2> points;
     std::int32_t pair[2];
     while (file.read(reinterpret_cast<char *>(pair), sizeof pair)) points.emplace_back(pair[0], pair[1]);
-    auto start = std::chrono::steady_clock::now();
+    std::clock_t start = std::clock();
     Triangulation triangulation;
     triangulation.insert(points.begin(), points.end());
-    std::chrono::duration<double> took = std::chrono::steady_clock::now() - start;
-    std::cout << took.count() << ' ' << peak() << ' ' << triangulation.number_of_vertices() << '\n';
+    double took = double(std::clock() - start) / CLOCKS_PER_SEC;
+    std::cout << took << ' ' << peak() << ' ' << triangulation.number_of_vertices() << '\n';
     return 0;
 }

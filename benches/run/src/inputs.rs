@@ -49,12 +49,12 @@ fn gridded(count: usize) -> Vec<[i32; 2]> {
 /// Profiles: thirty lines in all directions, each with as many points.
 fn along_lines(random: &mut Random, count: usize) -> Vec<[i32; 2]> {
     let lines: Vec<[i32; 4]> = (0..30)
-        .map(|_| [random.within(REACH / 2), random.within(REACH / 2), random.within(1_000), random.within(1_000)])
+        .map(|_| [random.within(REACH / 2), random.within(REACH / 2), random.within(20), random.within(20)])
         .collect();
     (0..count)
         .map(|i| {
             let [x, y, dx, dy] = lines[i % 30];
-            let t = random.within(REACH / 2_000);
+            let t = random.within(REACH / 40);
             [x + t * dx, y + t * dy]
         })
         .collect()

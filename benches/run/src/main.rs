@@ -1,4 +1,4 @@
-//! Seconds and memory of a run: this library's, through its exports, beside the Rust's sweep from the same seed and centre, and beside CGAL.
+//! Processor seconds and memory of a run: this library's, through its exports, beside the Rust's sweep from the same seed and centre, and beside CGAL.
 //!
 //! `bench_run [TURNS [LARGEST]]` prints the tables; `bench_run once SIDE KIND COUNT` makes one run, for a profiler; `bench_run memory SIDE KIND COUNT`
 //! prints the peak of one run's memory. In each turn all sides take the same input one after the other, and the median of the turns counts.
@@ -9,7 +9,6 @@ mod inputs;
 use std::hint::black_box;
 use std::path::Path;
 use std::process::Command;
-use std::time::Instant;
 
 use fithmoul::{Fate, Mesh, Run};
 use inputs::{make, Input, KINDS};
@@ -19,6 +18,7 @@ use oracle::mesh;
 const SIZES: [usize; 4] = [1_000, 10_000, 100_000, 1_000_000];
 
 /// From the seed to the finished mesh, memory and all.
+#[inline(never)]
 fn ours(input: &Input) -> (Mesh, Run) {
     let mut mesh = Mesh::triangle(input.corners).expect("a seed");
     let run = mesh.run(input.center, &input.points).expect("an accepted run");
@@ -26,6 +26,7 @@ fn ours(input: &Input) -> (Mesh, Run) {
 }
 
 /// The same of the Rust: to the mesh after the first convexity pass, which is where its bulk load ends but for the points that it skipped.
+#[inline(never)]
 fn rust(input: &Input) -> Sweep {
     let mut sweep = rust_stepped(input);
     sweep.pass_alone();
@@ -41,19 +42,49 @@ fn rust_stepped(input: &Input) -> Sweep {
     sweep
 }
 
+/// `struct timespec` of 64-bit Linux.
+#[repr(C)]
+struct Timespec {
+    seconds: i64,
+    nanoseconds: i64,
+}
+
+extern "C" {
+    fn clock_gettime(clock: i32, time: *mut Timespec) -> i32;
+}
+
+/// Seconds that this thread had a processor, so that other work on the machine weighs less.
+fn now() -> f64 {
+    const THREAD: i32 = 3;
+    let mut time = Timespec { seconds: 0, nanoseconds: 0 };
+    assert_eq!(unsafe { clock_gettime(THREAD, &mut time) }, 0);
+    time.seconds as f64 + time.nanoseconds as f64 / 1e9
+}
+
 fn seconds<T>(work: impl FnOnce() -> T) -> (f64, T) {
-    let start = Instant::now();
+    let start = now();
     let made = black_box(work());
-    (start.elapsed().as_secs_f64(), made)
+    (now() - start, made)
 }
 
 /// Seconds of one of so many.
 fn each<T>(times: usize, mut work: impl FnMut() -> T) -> f64 {
-    let start = Instant::now();
+    let start = now();
     for _ in 0..times {
         black_box(work());
     }
-    start.elapsed().as_secs_f64() / times as f64
+    (now() - start) / times as f64
+}
+
+/// Seconds of the Rust's run and of its pass alone, one of so many.
+fn rust_times(input: &Input, times: usize) -> [f64; 2] {
+    let mut sums = [0.0; 2];
+    for _ in 0..times {
+        let (steps, mut sweep) = seconds(|| rust_stepped(input));
+        let pass = seconds(|| sweep.pass_alone()).0;
+        sums = [sums[0] + steps + pass, sums[1] + pass];
+    }
+    sums.map(|s| s / times as f64)
 }
 
 fn median(mut all: Vec<f64>) -> f64 {
@@ -156,9 +187,9 @@ struct Row {
     count: usize,
     ours: f64,
     rust: f64,
+    pass: f64,
     cgal: Option<[f64; 2]>,
     checked: Checked,
-    steps: [f64; 2],
 }
 
 fn measure(kind: &'static str, count: usize, turns: usize, beside: Option<&Path>) -> Row {
@@ -171,12 +202,13 @@ fn measure(kind: &'static str, count: usize, turns: usize, beside: Option<&Path>
     if beside.is_some() {
         write_points(file, &input);
     }
-    let [mut a, mut b, mut s, mut c, mut m] = [const { Vec::new() }; 5];
+    let [mut a, mut b, mut p, mut c, mut m] = [const { Vec::new() }; 5];
     for _ in 0..turns {
         a.push(each(times, || ours(&input)));
         if checked.comparable {
-            b.push(each(times, || rust(&input)));
-            s.push(each(times, || rust_stepped(&input)));
+            let [whole, pass] = rust_times(&input, times);
+            b.push(whole);
+            p.push(pass);
         }
         if let Some([time, memory]) = beside.and_then(|program| cgal(program, file)) {
             c.push(time);
@@ -185,10 +217,7 @@ fn measure(kind: &'static str, count: usize, turns: usize, beside: Option<&Path>
     }
     let one = |all: Vec<f64>| if all.is_empty() { f64::NAN } else { median(all) };
     let cgal = (!c.is_empty()).then(|| [one(c), one(m)]);
-    let [ours, rust, rust_steps] = [one(a), one(b), one(s)];
-    let parts = &checked.parts;
-    let steps = [ours - parts.first_pass - parts.rest, rust_steps];
-    Row { kind, count, ours, rust, cgal, checked, steps }
+    Row { kind, count, ours: one(a), rust: one(b), pass: one(p), cgal, checked }
 }
 
 fn main() {
@@ -213,21 +242,28 @@ fn main() {
 fn tables(turns: usize, largest: usize, beside: Option<&Path>) {
     let cases = KINDS.iter().flat_map(|&kind| SIZES.map(|count| (kind, count)));
     let rows: Vec<Row> = cases
-        .filter(|&(_, count)| count <= largest)
+        .filter(|&(kind, count)| count <= largest && !(kind == "along lines" && count > 100_000))
         .map(|(kind, count)| {
             eprintln!("{kind} {count}");
             measure(kind, count, turns, beside)
         })
         .collect();
-    println!("| points | number | added | ours (ms) | Rust (ms) | ours / Rust | steps: ours | Rust | ratio | finish: ours | Rust's pass | check |");
-    println!("|---|---|---|---|---|---|---|---|---|---|---|---|");
+    println!("| points | number | in the mesh | ours | Rust | ours / Rust | steps: ours | Rust | ours / Rust | first pass: ours | Rust | further passes, closing | check |");
+    println!("|---|---|---|---|---|---|---|---|---|---|---|---|---|");
     for r in &rows {
         let Parts { check, first_pass, rest } = r.checked.parts;
         let added = r.checked.added + 3;
-        let [ours, rust] = r.steps;
-        print!("| {} | {} | {added} | {} | {} | {:.2} ", r.kind, r.count, ms(r.ours), ms(r.rust), r.ours / r.rust);
-        print!("| {} | {} | {:.2} | {} ", ms(ours), ms(rust), ours / rust, ms(first_pass + rest));
-        println!("| {} | {} |", ms((r.rust - rust).max(0.0)), ms(check));
+        let [ours, rust] = [r.ours - first_pass - rest, r.rust - r.pass];
+        print!(
+            "| {} | {} | {added} | {} | {} | {:.2} ",
+            r.kind,
+            r.count,
+            ms(r.ours),
+            ms(r.rust),
+            r.ours / r.rust
+        );
+        print!("| {} | {} | {:.2} ", ms(ours), ms(rust), ours / rust);
+        println!("| {} | {} | {} | {} |", ms(first_pass), ms(r.pass), ms(rest), ms(check));
     }
     println!();
     println!("| points | number | ours (MB) | Rust (MB) |\n|---|---|---|---|");
@@ -240,11 +276,19 @@ fn tables(turns: usize, largest: usize, beside: Option<&Path>) {
         println!("CGAL: target/bench_cgal was not built (libcgal-dev and c++ are needed)");
         return;
     }
-    println!("| points | number | ours (ms) | CGAL (ms) | ours / CGAL | CGAL (MB) |\n|---|---|---|---|---|---|");
+    println!(
+        "| points | number | ours (ms) | CGAL (ms) | ours / CGAL | CGAL (MB) |\n|---|---|---|---|---|---|"
+    );
     for r in &rows {
         if let Some([time, memory]) = r.cgal {
             let ratio = r.ours / time;
-            println!("| {} | {} | {} | {} | {ratio:.2} | {memory:.0} |", r.kind, r.count, ms(r.ours), ms(time));
+            println!(
+                "| {} | {} | {} | {} | {ratio:.2} | {memory:.0} |",
+                r.kind,
+                r.count,
+                ms(r.ours),
+                ms(time)
+            );
         }
     }
 }

@@ -73,13 +73,17 @@ impl Rows {
     }
 
     fn grow(&mut self, vertices: usize) {
-        fn grown<T: Copy>(row: &mut Vec<T>, length: usize, zero: T) {
-            row.resize(row.len().max(length), zero);
+        // a new row of zeros is not touched by anybody before it is used
+        fn grown<T: Copy>(row: &mut Vec<T>, length: usize, zeros: fn(usize) -> Vec<T>) {
+            if row.len() < length {
+                let old = std::mem::replace(row, zeros(length));
+                row[..old.len()].copy_from_slice(&old);
+            }
         }
-        grown(&mut self.positions, vertices, [0; 2]);
-        grown(&mut self.outs, vertices, 0);
-        grown(&mut self.halves, 6 * vertices, [0; 4]);
-        grown(&mut self.adjacent, 2 * vertices, 0);
+        grown(&mut self.positions, vertices, |n| vec![[0; 2]; n]);
+        grown(&mut self.outs, vertices, |n| vec![0; n]);
+        grown(&mut self.halves, 6 * vertices, |n| vec![[0; 4]; n]);
+        grown(&mut self.adjacent, 2 * vertices, |n| vec![0; n]);
     }
 
     /// Room for so many vertices more; how many there is room for. Past the limit nothing is made: the call refuses.
