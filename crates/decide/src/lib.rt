@@ -101,8 +101,8 @@ fn is_position(a: Point, b: Point) -> bool
     a.x == b.x && a.y == b.y
 }
 
-// What the tests of the two loops share: is an edge with these ends covered by a point with this angle? `behind` says
-// where the point lies, `near` is the end on the side of the located edge.
+// What the tests of the two loops share: is an edge with these ends covered by a point with this angle? `behind` is
+// what `is_behind_edge` says of the point, `near` the end on the side of the located edge.
 fn covers(ends: Ends, point: Point, behind: bool, near: Point, angle: f64, center: Point2) -> bool
     requires { ⌜ ToCover ends point near (center .x) (center .y) angle ⌝ }
     ensures { λ r. ⌜ r ≡ coverTest ends point behind near (center .x) (center .y) angle ⌝ }
