@@ -134,6 +134,16 @@ def refusals(points):
     yield "a ring that is not strict", Case(not_strict(), (-0.5, 0.0), points), 7, 0
 
 
+def alone():
+    """Name, case, number: a row of points whose last number stands alone. It counts for refusal 1."""
+    t, s, one, x = check_cases.triangle(), check_cases.square(), (1.0, 1.0), (9,)
+    yield "a number alone in the row of points", Case(s, one, [x]), 2
+    yield ("a number alone behind a point, beyond", Case(s, (NAN, 0.0), [(9, 9), (sweep.LIMIT + 1,)]), 2)
+    yield "a number alone for the third vertex", Case(check_cases.counted(t, 2), one, [x]), 2
+    yield ("a number alone for the 1,000,001st vertex",
+           Case(check_cases.counted(t, 1000000), one, [x], room=3, ring=4), 1)
+
+
 def not_strict():
     """A triangle after a step that leaves two equal neighbouring angles: sound, not strict."""
     mesh = sweep.seed_triangle([(-1, 0), (1, -1), (0, 0)], 4)
@@ -516,6 +526,8 @@ def run_list():
     assert add_run(out, "four numbers for each answer", short)[:2] == (2, 0)
     beyond = Case(check_cases.square(), (1.0, 1.0), [(9, 9), (sweep.LIMIT + 1, 8)], short="answers")
     assert add_run(out, "the answers one number short, a point beyond", beyond)[:2] == (2, 0)
+    for name, case, number in alone():
+        assert add_run(out, name, case)[:2] == (number, 0), name
     spare = Case(check_cases.square(), (1.0, 1.0), two, spare=3)
     assert add_run(out, "spare entries in every row", spare)[:2] == (0, 0)
     for name, case, number in examples():

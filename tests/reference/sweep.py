@@ -207,6 +207,13 @@ def refuse_pending_row(lent):
         raise Refusal(2)
 
 
+def refuse_point_row(points):
+    """2: "a lent row is shorter than the sizes": a number that stands alone at the end of the row of
+    points is a point whose y is missing (docs/DECISIONS.md). It is given here as a tuple of one."""
+    if any(len(p) < 2 for p in points):
+        raise Refusal(2)
+
+
 def refuse_answer_row(lent, points):
     """2, 01: "one answer (fate, vertex, faces, flips) per point" """
     if len(lent.answers) < WORDS * points:
@@ -783,6 +790,7 @@ def refuse_run(mesh, lent, centre, points, answered):
     refuse_mesh_rows(mesh, n)
     refuse_ring_rows(lent, n)
     refuse_pending_row(lent)
+    refuse_point_row(points)
     refuse_answer_row(lent, answered)
     refuse_coordinates(mesh, points)
     refuse_mesh(mesh)

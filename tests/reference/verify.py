@@ -73,7 +73,8 @@ def cleared(number, *rows):
 
 
 def pairs(numbers):
-    return list(zip(numbers[0::2], numbers[1::2]))
+    """Two by two; a last number that stands alone is a tuple of one."""
+    return [tuple(numbers[i:i + 2]) for i in range(0, len(numbers), 2)]
 
 
 def sample(sweep, tag, n):
@@ -282,6 +283,9 @@ MUTANTS = [  # name, text, what takes its place; and why, where no list can noti
      "(a segment does not hold its second angle)"),
     ("no fate 4", "        return 4, edge", "        pass"),
     ("no fate 5", "        return 5, None", "        return 3, None"),
+    ("a number alone taken for a point", "if any(len(p) < 2 for p in points):", "if False:"),
+    ("a number alone not counted", "n = mesh.vertices + len(points)",
+     "n = mesh.vertices + sum(len(p) == 2 for p in points)"),
     ("an answers row of four words", "WORDS = 5", "WORDS = 4"),
     ("the flips' words turned round", "flips >> 64, flips % 2 ** 64]", "flips % 2 ** 64, flips >> 64]"),
     ("answers after 9 kept", "lent.answers[:WORDS * len(points)] = [0] * (WORDS * len(points))", "pass"),

@@ -55,15 +55,17 @@ fn read_pass(text: &[u8], at: usize) -> PassLine {
 fn add_up(run: Totals, pass: PassLine, rest: Totals) -> bool {
     let all = run.convexflips;
     let later = rest.convexflips;
-    if all.high != 0 || later.high != 0 {
+    if (run.faces as u64) < pass.faces {
         return false;
     }
-    if (run.faces as u64) < pass.faces || all.low < pass.flips {
+    if all.low < pass.flips {
         return false;
     }
-    (run.faces as u64) - pass.faces == rest.faces as u64
-        && all.low - pass.flips == later.low
-        && run.closingflips.equals(rest.closingflips)
+    (all.high == 0)
+        & (later.high == 0)
+        & ((run.faces as u64) - pass.faces == rest.faces as u64)
+        & (all.low - pass.flips == later.low)
+        & run.closingflips.equals(rest.closingflips)
 }
 
 // The same where both are accepted.

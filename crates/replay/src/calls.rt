@@ -69,7 +69,7 @@ pub fn read_ring(text: &[u8], at: usize) -> RingLine
 
 // Whether a number is a length.
 fn is_length(n: Number, length: usize) -> bool {
-    !n.negative && n.magnitude == length as u64
+    !n.negative & (n.magnitude == length as u64)
 }
 
 // A line of a row that is lent with 7 in every entry.
@@ -111,7 +111,7 @@ pub fn read_point(text: &[u8], at: usize) -> PointLine {
     PointLine {
         point: point,
         at: test_text::behind(text, end),
-        is_whole: test_mesh::is_line(text, at, b'v', end) && count.magnitude == 1,
+        is_whole: test_mesh::is_line(text, at, b'v', end) & (count.magnitude == 1),
     }
 }
 
@@ -156,7 +156,7 @@ pub fn numbers_of(finished: Finished) -> [u64; 5] {
     match finished {
         Finished::Refused(r) => [r.number as u64, r.place as u64, 0, 0, 0],
         Finished::Accepted(t) => [
-            if t.convexflips.high == 0 && t.closingflips.high == 0 {
+            if (t.convexflips.high == 0) & (t.closingflips.high == 0) {
                 0
             } else {
                 99

@@ -40,5 +40,5 @@ fn check_on(mesh: Mesh) -> [u64; 2]
 pub fn agrees(text: &[u8], at: usize) -> bool {
     let m = test_mesh::read_mesh(text, at, test_mesh::LENT, false);
     let numbers = check_on(m.mesh);
-    m.is_whole && test_text::is_line_of(text, m.at, b'r', &numbers)
+    m.is_whole & test_text::is_line_of(text, m.at, b'r', &numbers)
 }

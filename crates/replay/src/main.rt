@@ -99,7 +99,7 @@ fn case(text: &[u8], t: Tally, list: List) -> Tally {
 // A comment, the closing line, or a case.
 fn line(text: &[u8], t: Tally, list: List) -> Tally {
     let tag = test_text::byte(text, t.at);
-    if tag == b'#' || tag == b'z' {
+    if (tag == b'#') | (tag == b'z') {
         return passed(t, t.mesh, test_text::next_line(text, t.at));
     }
     case(text, t, list)

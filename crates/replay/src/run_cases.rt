@@ -109,7 +109,7 @@ pub fn run_on(
     }
 }
 
-// `v count x y x y ..`
+// `v count x y x y ..`; a last number that stands alone counts as a point.
 fn read_points(text: &[u8], at: usize) -> CoordinatesLine
     ensures { λ r. ⌜ r .coordinates .length ≤ length (r .coordinates .row) ⌝ }
 {
@@ -122,8 +122,7 @@ fn read_points(text: &[u8], at: usize) -> CoordinatesLine
         at: v.at,
         is_whole: v.is_whole
             & (test_text::byte(text, at) == b'v')
-            & (numbers % 2 == 0)
-            & (count.magnitude == (numbers / 2) as u64),
+            & (count.magnitude == (numbers / 2 + numbers % 2) as u64),
     }
 }
 

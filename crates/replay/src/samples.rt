@@ -6,7 +6,7 @@ use super::tests;
 pub fn agrees(text: &[u8], at: usize) -> bool {
     let tag = test_text::byte(text, at);
     let start = test_text::behind(text, at);
-    if tag == b'o' || tag == b'i' || tag == b'b' {
+    if (tag == b'o') | (tag == b'i') | (tag == b'b') {
         tests::holds(text, start, tag)
     } else {
         angles::holds(text, start, tag)

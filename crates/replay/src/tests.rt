@@ -5,8 +5,8 @@ use math::Point;
 // A sign as the list writes it: 1, 0 or -1.
 fn is_sign(side: LineSideInfo, n: test_text::Number) -> bool {
     match side {
-        LineSideInfo::OnLeftSide => n.magnitude == 1 && !n.negative,
-        LineSideInfo::OnRightSide => n.magnitude == 1 && n.negative,
+        LineSideInfo::OnLeftSide => (n.magnitude == 1) & !n.negative,
+        LineSideInfo::OnRightSide => (n.magnitude == 1) & n.negative,
         LineSideInfo::OnLine => n.magnitude == 0,
     }
 }
@@ -38,7 +38,7 @@ fn circle(a: Point, b: Point, c: Point, d: Point, expected: test_text::Number) -
         if math::validate_vertex(b) {
             if math::validate_vertex(c) {
                 if math::validate_vertex(d) {
-                    let inside = expected.magnitude == 1 && !expected.negative;
+                    let inside = (expected.magnitude == 1) & !expected.negative;
                     return math::contained_in_circumference(a, b, c, d) == inside;
                 }
             }

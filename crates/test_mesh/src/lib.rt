@@ -179,7 +179,7 @@ pub fn read_start(text: &[u8], at: usize, tag: u8, plain: bool, length: usize) -
     }
     let n = test_text::read_number(text, test_text::behind(text, at));
     RowStart {
-        is_right: test_text::byte(text, at) == tag && !n.negative,
+        is_right: (test_text::byte(text, at) == tag) & !n.negative,
         length: n.magnitude,
         past: test_text::read_number(text, n.at),
     }
@@ -333,17 +333,14 @@ pub fn same_words(a: Words, b: Words) -> bool {
     let left = a.row;
     let right = b.row;
     let n = a.length;
-    if n != b.length || n > WORDS {
-        return false;
-    }
     let mut i: usize = 0;
-    while i < n {
-        if left[i] != right[i] {
+    while i < WORDS {
+        if (i < n) & (left[i] != right[i]) {
             return false;
         }
         i += 1;
     }
-    true
+    (n == b.length) & (n <= WORDS)
 }
 
 // Whether two rows of coordinates are the same.
@@ -351,21 +348,18 @@ pub fn same_coordinates(a: Coordinates, b: Coordinates) -> bool {
     let left = a.row;
     let right = b.row;
     let n = a.length;
-    if n != b.length || n > COORDINATES {
-        return false;
-    }
     let mut i: usize = 0;
-    while i < n {
-        if left[i] != right[i] {
+    while i < COORDINATES {
+        if (i < n) & (left[i] != right[i]) {
             return false;
         }
         i += 1;
     }
-    true
+    (n == b.length) & (n <= COORDINATES)
 }
 
 pub fn same_counts(a: Counts, b: Counts) -> bool {
-    a.vertices == b.vertices && a.edges == b.edges && a.faces == b.faces
+    (a.vertices == b.vertices) & (a.edges == b.edges) & (a.faces == b.faces)
 }
 
 pub fn same_mesh(a: Mesh, b: Mesh) -> bool {
@@ -387,7 +381,7 @@ pub fn compare_mesh(text: &[u8], at: usize, tags: [u8; 5], mesh: Mesh) -> Agreed
 
 // What a line says of an entry of the answers. The plain line has four numbers for each point, where the row has five words, the fourth of them the flips' high word.
 fn due_long(text: &[u8], at: usize, past: Number, plain: bool, i: usize) -> Number {
-    if plain && i % 5 == 3 && test_text::byte(text, at) == b' ' {
+    if plain & (i % 5 == 3) & (test_text::byte(text, at) == b' ') {
         return Number {
             negative: false,
             magnitude: 0,
@@ -403,18 +397,18 @@ pub fn compare_longs(text: &[u8], start: RowStart, plain: bool, answers: Longs) 
     let n = answers.length;
     let past = start.past;
     let mut place = past.at;
-    let mut same = start.is_right && start.length == n as u64 && n <= LONGS;
+    let mut same = start.is_right & (start.length == n as u64) & (n <= LONGS);
     let mut i: usize = 0;
     while i < LONGS {
         if i < n {
             let entry = due_long(text, place, past, plain, i);
-            same = same && !entry.negative && entry.magnitude == row[i];
+            same = same & !entry.negative & (entry.magnitude == row[i]);
             place = entry.at;
         }
         i += 1;
     }
     Agreed {
-        agrees: same && test_text::byte(text, place) == b'\n',
+        agrees: same & (test_text::byte(text, place) == b'\n'),
         at: test_text::behind(text, place),
     }
 }
@@ -423,7 +417,7 @@ pub fn compare_longs(text: &[u8], start: RowStart, plain: bool, answers: Longs) 
 pub fn holds(row: [u32; WORDS], n: usize, v: u32) -> bool {
     let mut i: usize = 0;
     while i < WORDS {
-        if i < n && row[i] != v {
+        if (i < n) & (row[i] != v) {
             return false;
         }
         i += 1;
@@ -432,14 +426,14 @@ pub fn holds(row: [u32; WORDS], n: usize, v: u32) -> bool {
 }
 
 fn node_holds(node: [u64; 4], v: u64) -> bool {
-    node[0] == v && node[1] == v && node[2] == v && node[3] == v
+    (node[0] == v) & (node[1] == v) & (node[2] == v) & (node[3] == v)
 }
 
 // Whether every number of each of the first n nodes is v.
 pub fn nodes_hold(row: [[u64; 4]; NODES], n: usize, v: u64) -> bool {
     let mut i: usize = 0;
     while i < NODES {
-        if i < n && !node_holds(row[i], v) {
+        if (i < n) & !node_holds(row[i], v) {
             return false;
         }
         i += 1;

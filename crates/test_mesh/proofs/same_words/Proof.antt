@@ -1,36 +1,32 @@
 -- `test_mesh::same_words` meets its contract: the loop stays within the two rows. Assumes nothing.
 use Prim.Native.Nat.{_≤_, _-_}
-use native.Mathlib.Omega.{arith}
 use borrow.Author.Needs.{needs}
 use Rattle.test_mesh.proofs.same_words.Statement.{statement}
 use Rattle.test_mesh.proofs.same_words.Tie as tie
 
 abbrev Inv-loop : tie.InvT-loop
-Inv-loop left right n i₀ i = (i ≤ n) × (n ≤ 6144)
+Inv-loop b left right n i₀ i = i ≤ 6144
 
 abbrev μ-loop : tie.MeasureT-loop
-μ-loop left right n i₀ i = n - i
-
-returns : tie.Need-returns Inv-loop μ-loop
-returns c = search needs
+μ-loop b left right n i₀ i = 6144 - i
 
 loop-holds : tie.Need-loop-holds Inv-loop μ-loop
 loop-holds c = search needs
 
-mul-if3 : tie.Need-mul-if3 Inv-loop μ-loop
-mul-if3 c = search needs
+mul-if1 : tie.Need-mul-if1 Inv-loop μ-loop
+mul-if1 c = search needs
 
-array-read-if3 : tie.Need-array-read-if3 Inv-loop μ-loop
-array-read-if3 c = search needs
+array-read-if1 : tie.Need-array-read-if1 Inv-loop μ-loop
+array-read-if1 c = search needs
 
-mul-if3-2 : tie.Need-mul-if3-2 Inv-loop μ-loop
-mul-if3-2 c = search needs
+mul-if1-2 : tie.Need-mul-if1-2 Inv-loop μ-loop
+mul-if1-2 c = search needs
 
-array-read-if3-2 : tie.Need-array-read-if3-2 Inv-loop μ-loop
-array-read-if3-2 c = search needs
+array-read-if1-2 : tie.Need-array-read-if1-2 Inv-loop μ-loop
+array-read-if1-2 c = search needs
 
-returns-2 : tie.Need-returns-2 Inv-loop μ-loop
-returns-2 c = search needs
+returns : tie.Need-returns Inv-loop μ-loop
+returns c = search needs
 
 add-i : tie.Need-add-i Inv-loop μ-loop
 add-i c = search needs
@@ -41,8 +37,8 @@ loop-less c = search needs
 loop-again : tie.Need-loop-again Inv-loop μ-loop
 loop-again c = search needs
 
-returns-3 : tie.Need-returns-3 Inv-loop μ-loop
-returns-3 c = search needs
+returns-2 : tie.Need-returns-2 Inv-loop μ-loop
+returns-2 c = search needs
 
 pub same-words-spec : {M : Type 1} → statement M
 same-words-spec =
@@ -50,14 +46,13 @@ same-words-spec =
     (tie.spec
     Inv-loop
     μ-loop
-    returns
     loop-holds
-    mul-if3
-    array-read-if3
-    mul-if3-2
-    array-read-if3-2
-    returns-2
+    mul-if1
+    array-read-if1
+    mul-if1-2
+    array-read-if1-2
+    returns
     add-i
     loop-less
     loop-again
-    returns-3)
+    returns-2)
