@@ -101,8 +101,8 @@ fn point_answer(answer: Answer) -> PointAnswer
 {
     let fate = answer.fate;
     PointAnswer {
-        fate: run::fate_number(fate),
-        vertex: run::fate_vertex(fate),
+        fate: decide::fate_number(fate),
+        vertex: decide::fate_vertex(fate),
         faces: answer.faces as u64,
         flips_high: answer.flips.high,
         flips_low: answer.flips.low,
