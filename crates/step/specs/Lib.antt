@@ -6,4 +6,3 @@ pub mod StepMesh
 pub mod StepRing
 pub mod StepRows
 pub mod CallLaws
-pub mod Examples
