@@ -78,9 +78,8 @@ def main():
     refused(out)
     add(out, "a triangle: nothing to do", check_cases.triangle(), 8)
     add(out, "a square: four on a circle keep their diagonal", check_cases.square(), 8)
-    five = sweep.seed_triangle([(0, 0), (4, 0), (2, 1)], 4)
-    sweep.create_new_face_adjacent_to_edge(five, 1, (2, -1))
-    add(out, "M5's two triangles: one closing flip", five, 8)
+    for name, corners, added, answer in SMALL:
+        assert add(out, name, grown_by(corners, added), 8) == (0, 0) + answer, name
     for n in (4, 6, 9, 13, 20, 30):
         add(out, "zigzag arms of %d" % n, meshes.zigzag_arms(n), 8)
     for n in (2, 5, 9):
@@ -104,6 +103,24 @@ def main():
             found += 1
             both_sides_of_full(out, "filling %d" % found, mesh)
     out.print()
+
+
+# A triangle, the vertices added beside its half-edges, and the answer: faces, convexity flips, closing flips.
+SMALL = (
+    ("M5's two triangles: one closing flip", [(0, 0), (4, 0), (2, 1)], [(1, (2, -1))], (0, 0, 1)),
+    ("a dart: one face closes its reflex corner", [(3, 0), (8, 0), (1, 8)], [(1, (2, -8))], (1, 0, 0)),
+    ("four on a circle, no square", [(-4, -3), (4, -3), (0, 5)], [(1, (0, -5))], (0, 0, 0)),
+    ("a pass that flips and leaves a left corner, and a second pass", [(0, 0), (4, 0), (0, 4)],
+     [(1, (-2, -6)), (5, (-1, -2))], (2, 1, 0)),
+    ("two closing turns that flip", [(0, 0), (8, 0), (0, 8)], [(1, (4, -2)), (3, (6, 6))], (0, 0, 2)),
+)
+
+
+def grown_by(corners, added):
+    mesh = sweep.seed_triangle(corners, 3 + len(added))
+    for e, point in added:
+        sweep.create_new_face_adjacent_to_edge(mesh, e, point)
+    return mesh
 
 
 def unsettled_fan(triangles):

@@ -109,6 +109,7 @@ def main():
     refused(out, rng)
     t = check_cases.triangle()
     assert add(out, "M3, M8", t, (1.0, 1.0), rng) == {0}
+    assert add(out, "M3, other angles", t, (1.0, 1.0), rng, [0.1, 37 / 64, 0.6]) == {0}
     assert add(out, "a centre of fractions", t, (4 * (1 / 3.0), 1e-3), rng) == {0}
     assert add(out, "a subnormal centre", t, (5e-324, 1.0), rng) == {0}
     assert add(out, "the centre at an inner vertex", check_cases.hexagon(), (0.0, 0.0), rng) == {0}

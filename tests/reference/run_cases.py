@@ -568,6 +568,8 @@ def step_list():
     for name, case, number in examples():
         if len(case.points) == 1:
             assert add_step(out, name, case)[0] == number, name
+    for name, point in (("one edge covered", (4, 4)), ("two edges covered", (9, -1))):
+        assert add_step(out, name, Case(check_cases.triangle(), (1.0, 1.0), [point]))[0] == 0
     for name, case in about_an_edge():
         assert add_step(out, name, case)[0] == 0, name
     for name, case, number in [*at_the_limit(), *sized_rows()]:

@@ -1,9 +1,9 @@
--- The marked examples of 01 that are about angles, M1, M2, M3 and M8, each computed from the definitions. Assumes nothing.
+-- The marked examples of 01 that are about angles, M1, M2 and M3, each computed from the definitions. Assumes nothing.
 use mathlib.Core.Path.{_≡_, refl}
 use mathlib.Core.Bool.{true, false}
 use lib.IntN.{pos, negsuc}
-use lib.Ieee.{nan, fin, ofInt, neg, add, sub, mul, div, sum, round, units, odd, size, span, climb, lt}
-use Rattle.angle.specs.Angle.{angleAbout, pseudoAngle, ofDiff, slope, absoluteOf, validAngle, zero64, quarter, one64}
+use lib.Ieee.{fin, ofInt, neg, add, sub, mul, div, sum, round, units, odd, size, span, climb, lt}
+use Rattle.angle.specs.Angle.{angleAbout, pseudoAngle, ofDiff, slope, absoluteOf, zero64, quarter, one64}
 
 -- "M1 centre (0,0): (-4,0) is 1.0; (0,4) 0.25; (4,0) 0.5; (0,-4) 0.75; (4,4) 0.375; (-4,-4) 0.875."
 abbrev pub M1 : Type 0
@@ -26,10 +26,6 @@ M3 =
     × (angleAbout (pos 0) (pos 0) one64 one64 ≡ fin false 7 (negsuc 2))
     × (angleAbout (pos 0) (pos 4) one64 one64 ≡ fin false 3 (negsuc 3))
 
--- "M8 angle 1.0 accepted, NaN refused 8."
-abbrev pub M8 : Type 0
-M8 = (validAngle one64 ≡ true) × (validAngle nan ≡ false)
-
-pub marked : M1 × M2 × M3 × M8
-unfolding angleAbout pseudoAngle ofDiff slope absoluteOf validAngle ofInt neg add sub mul div sum round units odd size span climb lt
-marked = ((refl, refl, refl, refl, refl, refl), refl, (refl, refl, refl), (refl, refl))
+pub marked : M1 × M2 × M3
+unfolding angleAbout pseudoAngle ofDiff slope absoluteOf ofInt neg add sub mul div sum round units odd size span climb lt
+marked = ((refl, refl, refl, refl, refl, refl), refl, (refl, refl, refl))

@@ -1,4 +1,3 @@
 pub mod Closing
 pub mod ClosingLaws
 pub mod ClosingRows
-pub mod Examples

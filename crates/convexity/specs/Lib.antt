@@ -7,4 +7,3 @@ pub mod StackLaws
 pub mod CloseCornersLaws
 pub mod ConvexityLaws
 pub mod RowsLaws
-pub mod Examples

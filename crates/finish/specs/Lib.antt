@@ -2,4 +2,3 @@ pub mod Finish
 pub mod FinishRows
 pub mod MeshLaws
 pub mod FinishLaws
-pub mod Examples

@@ -4,4 +4,3 @@ pub mod LegalizeLaws
 pub mod HullCase
 pub mod LegalizeRows
 pub mod ReadyAgain
-pub mod Examples

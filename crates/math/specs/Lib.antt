@@ -5,6 +5,5 @@ pub mod Wide
 pub mod Range
 pub mod Side
 pub mod Circle
-pub mod Samples
 pub mod Whole
 pub mod Projection

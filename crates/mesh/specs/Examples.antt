@@ -9,7 +9,7 @@ use lib.Dec.{T, T-not, eqb, lit<}
 use lib.ListN.{getD}
 use Rattle.mesh.specs.declared.Counts.{Counts}
 use Rattle.mesh.specs.Mesh.{Links, In}
-use Rattle.mesh.specs.Operations.{flipBetween, flipCw, faceBetween, createSingleFaceBetweenEdgeAndNext, withFace, faceAdjacent, createNewFaceAdjacentToEdge, withVertex}
+use Rattle.mesh.specs.Operations.{flipBetween, flipCw, createSingleFaceBetweenEdgeAndNext, withFace, faceAdjacent, createNewFaceAdjacentToEdge, withVertex}
 use Rattle.mesh.specs.Wf.{Wf}
 use Rattle.mesh.specs.Rules.{halfEdgeInUse, linksInUse, halfEdgeLinked, innerFaceRule, outerFaceRule, sideRule, vertexRule, eulerRule, rules}
 use Rattle.mesh.specs.RulesWf.{rules-wf}
@@ -62,19 +62,16 @@ square-flips = record { edge = lit< tt; inner-left = lit< tt; inner-right = lit<
 pub flipped-wf : Wf squareCounts (flipCw square 0)
 flipped-wf = flip-keeps square-wf 0 square-flips
 
--- a face between half-edge 3 of the square's boundary and the next: its boundary of four becomes one of three
+-- a face between half-edge 3 of the square's boundary and the next: its boundary of four becomes one of three. (`two-fails` of
+-- `RulesExamples`: on a boundary of
+-- three it would leave two, against the rules.)
 pub closed-wf : Wf (withFace squareCounts) (createSingleFaceBetweenEdgeAndNext square squareCounts 3)
 unfolding seed square createNewFaceAdjacentToEdge faceAdjacent put
 closed-wf = single-face-keeps square-wf {e = 3} (lit< tt) refl (unequal _ _ tt)
 
--- on a boundary of three it would leave two, against the rules
-pub two-left : T (not (rules (withFace seedCounts) (createSingleFaceBetweenEdgeAndNext seed seedCounts 1)))
-unfolding seed createSingleFaceBetweenEdgeAndNext faceBetween put rules halfEdgeInUse linksInUse halfEdgeLinked innerFaceRule outerFaceRule sideRule vertexRule eulerRule all-below reaches rev
-two-left = tt
-
--- A mesh within the rules with an inner edge that has one face on both sides, so the rules alone do not let every inner
--- edge flip: a loop at vertex 0 (half-edges 0 and 1) that holds edge 1, to vertex 1, in one face; the loop's other half
--- in a face with vertex 2; a face beside it.
+-- A mesh within the rules with an inner edge that has one face on both sides, so the rules alone do not let every inner edge flip: a loop
+-- at vertex 0
+-- (half-edges 0 and 1) that holds edge 1, to vertex 1, in one face; the loop's other half in a face with vertex 2; a face beside it.
 abbrev pub loopCounts : Counts
 loopCounts = record { vertices = 4; edges = 6; faces = 4 }
 

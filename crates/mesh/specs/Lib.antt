@@ -28,6 +28,6 @@ pub mod HeightBound
 pub mod BoundarySequence
 pub mod FlipRun
 pub mod Examples
-pub mod AreaExamples
+pub mod GoodExample
 pub mod WfParts
 pub mod RulesExamples

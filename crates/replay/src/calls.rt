@@ -4,10 +4,14 @@ use angle::Point2;
 use decide::Fate;
 use finish::Finished;
 use math::Point;
+use mesh::Counts;
 use test_mesh::Agreed;
+use test_mesh::COORDINATES;
+use test_mesh::Coordinates;
 use test_mesh::Mesh;
 use test_mesh::NODES;
 use test_mesh::WORDS;
+use test_mesh::Words;
 use test_text::Number;
 
 // The lengths of the ring's rows.
@@ -123,6 +127,36 @@ pub fn is_told(text: &[u8], at: usize) -> bool {
 // What the ring's rows and pending must hold after the call.
 pub fn cleared(text: &[u8], at: usize) -> u32 {
     if is_told(text, at) { 0 } else { 7 }
+}
+
+// A mesh with other counts, and rows of the same lengths.
+pub fn with_rows(
+    mesh: Mesh,
+    counts: Counts,
+    positions: [i32; COORDINATES],
+    outs: [u32; WORDS],
+    halves: [u32; WORDS],
+    faces: [u32; WORDS],
+) -> Mesh {
+    Mesh {
+        counts: counts,
+        positions: Coordinates {
+            row: positions,
+            length: mesh.positions.length,
+        },
+        outs: Words {
+            row: outs,
+            length: mesh.outs.length,
+        },
+        halves: Words {
+            row: halves,
+            length: mesh.halves.length,
+        },
+        faces: Words {
+            row: faces,
+            length: mesh.faces.length,
+        },
+    }
 }
 
 // Whether a call has left the mesh as it must; the place of the line after that.

@@ -6,7 +6,6 @@ use super::calls;
 use finish::FinishAnswer;
 use test_mesh::Mesh;
 use test_mesh::WORDS;
-use test_mesh::Words;
 
 // What a finish has answered and left; whether pending holds what it must.
 pub struct Ended {
@@ -23,8 +22,7 @@ pub fn finish_on(mesh: Mesh, pending_length: usize, v: u32) -> Ended
     requires { ⌜ mesh .faces .length ≤ length (mesh .faces .row) ⌝ }
     requires { ⌜ «pending_length» ≤ 6144 ⌝ }
 {
-    let positions = mesh.positions;
-    let row = positions.row;
+    let positions = mesh.positions.row;
     let mut outs = mesh.outs.row;
     let mut halves = mesh.halves.row;
     let mut faces = mesh.faces.row;
@@ -35,7 +33,7 @@ pub fn finish_on(mesh: Mesh, pending_length: usize, v: u32) -> Ended
     let faces_length = mesh.faces.length;
     let answer = finish::finish(
         mesh.counts,
-        &row[..positions_length],
+        &positions[..positions_length],
         &mut outs[..outs_length],
         &mut halves[..halves_length],
         &mut faces[..faces_length],
@@ -44,22 +42,7 @@ pub fn finish_on(mesh: Mesh, pending_length: usize, v: u32) -> Ended
     let left = answer.counts;
     Ended {
         answer: answer,
-        mesh: Mesh {
-            counts: left,
-            positions: positions,
-            outs: Words {
-                row: outs,
-                length: outs_length,
-            },
-            halves: Words {
-                row: halves,
-                length: halves_length,
-            },
-            faces: Words {
-                row: faces,
-                length: faces_length,
-            },
-        },
+        mesh: calls::with_rows(mesh, left, positions, outs, halves, faces),
         cleared: test_mesh::holds(pending, pending_length, v),
     }
 }

@@ -15,7 +15,6 @@ use test_mesh::Longs;
 use test_mesh::Mesh;
 use test_mesh::NODES;
 use test_mesh::WORDS;
-use test_mesh::Words;
 
 // What a run has answered and left; whether the ring's rows and pending hold what they must.
 pub struct Ran {
@@ -81,25 +80,7 @@ pub fn run_on(
     let left = answer.counts;
     Ran {
         answer: answer,
-        mesh: Mesh {
-            counts: left,
-            positions: Coordinates {
-                row: positions,
-                length: positions_length,
-            },
-            outs: Words {
-                row: outs,
-                length: outs_length,
-            },
-            halves: Words {
-                row: halves,
-                length: halves_length,
-            },
-            faces: Words {
-                row: faces,
-                length: faces_length,
-            },
-        },
+        mesh: calls::with_rows(mesh, left, positions, outs, halves, faces),
         answers: Longs {
             row: answers,
             length: answers_length,

@@ -10,11 +10,9 @@ use math::Point;
 use sweep::Answer;
 use sweep::StepAnswer;
 use sweep::Stepped;
-use test_mesh::Coordinates;
 use test_mesh::Mesh;
 use test_mesh::NODES;
 use test_mesh::WORDS;
-use test_mesh::Words;
 
 // What a step has answered and left; whether the ring's rows and pending hold what they must.
 struct After {
@@ -93,25 +91,7 @@ fn step_on(
     let left = answer.counts;
     After {
         answer: answer,
-        mesh: Mesh {
-            counts: left,
-            positions: Coordinates {
-                row: positions,
-                length: positions_length,
-            },
-            outs: Words {
-                row: outs,
-                length: outs_length,
-            },
-            halves: Words {
-                row: halves,
-                length: halves_length,
-            },
-            faces: Words {
-                row: faces,
-                length: faces_length,
-            },
-        },
+        mesh: calls::with_rows(mesh, left, positions, outs, halves, faces),
         cleared: calls::ring_holds(ring, nodes, freed, buckets, v)
             & test_mesh::holds(pending, pending_length, v),
     }

@@ -6,7 +6,6 @@ pub mod StepCall
 pub mod Fates
 pub mod StepMesh
 pub mod StepCallLaws
-pub mod StepExamples
 pub mod Run
 pub mod SweepLaws
 pub mod Demand3

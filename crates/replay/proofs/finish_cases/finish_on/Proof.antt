@@ -6,8 +6,8 @@ use borrow.Author.Needs.{needs}
 use Rattle.replay.proofs.finish_cases.finish_on.Statement.{statement}
 use Rattle.replay.proofs.finish_cases.finish_on.Tie as tie
 
-array-share-prefix-row : tie.Need-array-share-prefix-row
-array-share-prefix-row c = c .before .before .before .before .before .pre .0
+array-share-prefix-positions : tie.Need-array-share-prefix-positions
+array-share-prefix-positions c = c .before .before .before .before .before .pre .0
 
 slice-aggregate-finish : tie.Need-slice-aggregate-finish
 slice-aggregate-finish c = part _ _ (c .before .before .before .before .before .before .args .mesh .positions .row) refl (c .before .before .before .before .before .before .pre .0)
@@ -39,6 +39,9 @@ slice-aggregate-finish-5 c = part _ 6144 (replicate 6144 7) refl (c .before .bef
 finish-requires : tie.Need-finish-requires
 finish-requires c κs = search needs
 
+with-rows-requires : tie.Need-with-rows-requires
+with-rows-requires c κs = search needs
+
 holds-requires : tie.Need-holds-requires
 holds-requires c κs = search needs
 
@@ -49,7 +52,7 @@ pub finish-on-spec : {M : Type 1} → statement M
 finish-on-spec =
     tie.close
     (tie.spec
-    array-share-prefix-row
+    array-share-prefix-positions
     slice-aggregate-finish
     array-borrow-prefix-outs
     slice-aggregate-finish-2
@@ -60,5 +63,6 @@ finish-on-spec =
     array-borrow-prefix-pending
     slice-aggregate-finish-5
     finish-requires
+    with-rows-requires
     holds-requires
     returns)

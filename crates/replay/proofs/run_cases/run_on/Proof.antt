@@ -69,6 +69,9 @@ slice-aggregate-run-10 c = part _ _ (c .before .before .before .before .before .
 run-requires : tie.Need-run-requires
 run-requires c κs = search needs
 
+with-rows-requires : tie.Need-with-rows-requires
+with-rows-requires c κs = search needs
+
 ring-holds-requires : tie.Need-ring-holds-requires
 ring-holds-requires c κs = search needs
 
@@ -103,6 +106,7 @@ run-on-spec =
     array-share-prefix-list
     slice-aggregate-run-10
     run-requires
+    with-rows-requires
     ring-holds-requires
     holds-requires
     returns)

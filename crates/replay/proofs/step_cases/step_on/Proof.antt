@@ -57,6 +57,9 @@ slice-aggregate-step-8 c = part _ 6144 (replicate 6144 7) refl (c .before .befor
 step-requires : tie.Need-step-requires
 step-requires c κs = search needs
 
+with-rows-requires : tie.Need-with-rows-requires
+with-rows-requires c κs = search needs
+
 ring-holds-requires : tie.Need-ring-holds-requires
 ring-holds-requires c κs = search needs
 
@@ -87,6 +90,7 @@ step-on-spec =
     array-borrow-prefix-pending
     slice-aggregate-step-8
     step-requires
+    with-rows-requires
     ring-holds-requires
     holds-requires
     returns)
