@@ -1,2 +1,2 @@
--- A lemma for the rows that are lent in part.
+-- Laws for the rows that are lent in part.
 pub mod Lent
