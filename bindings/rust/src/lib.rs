@@ -202,7 +202,7 @@ impl Mesh {
     /// After [`Refusal::Pending`] the mesh is good, and the points before the named one are in it.
     pub fn run(&mut self, center: [f64; 2], points: &[[i32; 2]]) -> Result<Run, Refusal> {
         let room = self.rows.reserve(points.len());
-        let mut answers = vec![Answer::default(); points.len()];
+        let mut answers = rows::zeros(points.len());
         let result = self.rows.run(&mut Scratch::new(room), &mut answers, center, points);
         refusal::of(result.refusal, result.place)?;
         Ok(Run { answers, totals: totals_of(&result) })
