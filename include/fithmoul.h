@@ -25,7 +25,8 @@
  *   nodes      N + 1        fithmoul_node   the ring's nodes
  *   freed      N + 1        uint32_t        the ring's freed nodes
  *   buckets    max(16, N)   uint32_t        the ring's buckets
- *   pending    at least 8   uint32_t        edges that wait for the circle test. 4,096 have always been enough
+ *   pending    at least 8   uint32_t        edges that wait for the circle test. Lend N, and 4,096 at least: mostly 16 are used, but
+ *                                           100,000 points along thirty lines used more than 1,024
  *   answers    5 per point  uint64_t        a run's answers, a fithmoul_point_answer for each point
  *
  * REFUSALS. `refusal` is 0 where a call is accepted. Otherwise it is the first row of this table that applies, and `place` what the row names, else 0.

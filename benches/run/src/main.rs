@@ -137,12 +137,14 @@ fn compared(input: &Input, turns: usize) -> Checked {
         (time, totals)
     };
     assert_eq!(timed(&stepped).1, run.totals);
-    let take = |work: &dyn Fn() -> f64| median((0..turns).map(|_| work()).collect());
+    // differences of these are taken, so the best counts
+    let tries = turns + 300_000 / input.points.len();
+    let take = |work: &dyn Fn() -> f64| (0..tries).map(|_| work()).fold(f64::MAX, f64::min);
     parts.check = take(&|| seconds(|| stepped.check().expect("a good mesh")).0);
     let whole = take(&|| timed(&stepped).0);
     let after = take(&|| timed(&passed).0);
-    parts.first_pass = whole - after;
-    parts.rest = after - parts.check;
+    parts.first_pass = (whole - after).max(0.0);
+    parts.rest = (after - parts.check).max(0.0);
     Checked { added, comparable: true, parts }
 }
 

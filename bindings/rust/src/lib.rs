@@ -145,6 +145,10 @@ impl Mesh {
     /// The mesh of a list of points, as spade's `bulk_load` goes about it: sorted by their distance from their average; the first three that are not on
     /// one line are the seed, the middle of the seed is the centre, and the others are run.
     pub fn bulk_load(points: &[[i32; 2]]) -> Result<Loaded, LoadError> {
+        let outside = |p: &[i32; 2]| p.iter().any(|c| !(-RANGE..=RANGE).contains(c));
+        if let Some(point) = points.iter().position(outside) {
+            return Err(LoadError::Coordinate { point });
+        }
         let order = by_distance(points);
         let seed = seed_of(points, &order).ok_or(LoadError::NoTriangle)?;
         let corners = seed.map(|i| points[i]);
@@ -202,7 +206,7 @@ impl Mesh {
     /// After [`Refusal::Pending`] the mesh is good, and the points before the named one are in it.
     pub fn run(&mut self, center: [f64; 2], points: &[[i32; 2]]) -> Result<Run, Refusal> {
         let room = self.rows.reserve(points.len());
-        let mut answers = vec![Answer::default(); points.len()];
+        let mut answers = rows::zeros(points.len());
         let result = self.rows.run(&mut Scratch::new(room), &mut answers, center, points);
         refusal::of(result.refusal, result.place)?;
         Ok(Run { answers, totals: totals_of(&result) })
@@ -320,12 +324,21 @@ fn orient(a: [i32; 2], b: [i32; 2], c: [i32; 2]) -> i128 {
     (bx - ax) * (cy - ay) - (by - ay) * (cx - ax)
 }
 
-/// The first three of an order that are not on one line, turning left.
+/// The first three of an order that are not on one line, turning left, with a middle from which a sweep can start: in a triangle of hardly any width
+/// that is rounded to a side.
 pub fn seed_of(points: &[[i32; 2]], order: &[usize]) -> Option<[usize; 3]> {
     let &a = order.first()?;
     let &b = order.iter().find(|&&i| points[i] != points[a])?;
-    let &c = order.iter().find(|&&i| orient(points[a], points[b], points[i]) != 0)?;
-    Some(if orient(points[a], points[b], points[c]) > 0 { [a, b, c] } else { [a, c, b] })
+    let turned = |&c: &usize| match orient(points[a], points[b], points[c]) {
+        0 => None,
+        1.. => Some([a, b, c]),
+        _ => Some([a, c, b]),
+    };
+    let starts = |seed: &[usize; 3]| {
+        let corners = seed.map(|i| points[i]);
+        Mesh::triangle(corners).is_ok_and(|mesh| mesh.locate(middle(corners), 0.0).is_ok())
+    };
+    order.iter().filter_map(turned).find(starts)
 }
 
 /// The middle of a triangle.

@@ -82,8 +82,11 @@ impl Error for Refusal {}
 /// Why points could not be loaded.
 #[derive(Clone, Copy, Debug, PartialEq, Eq)]
 pub enum LoadError {
-    /// All points are on one line, or there are fewer than three.
+    /// This point has a coordinate outside -16,777,216..16,777,216.
+    Coordinate { point: usize },
+    /// All points are on one line, or so close to one that no sweep can start; or there are fewer than three.
     NoTriangle,
+    /// `Count`, or `Pending`, which counts points as the sweep took them.
     Refused(Refusal),
 }
 
@@ -96,6 +99,9 @@ impl From<Refusal> for LoadError {
 impl fmt::Display for LoadError {
     fn fmt(&self, f: &mut fmt::Formatter<'_>) -> fmt::Result {
         match self {
+            LoadError::Coordinate { point } => {
+                write!(f, "point {point} has a coordinate outside -16,777,216..16,777,216")
+            }
             LoadError::NoTriangle => write!(f, "no three points make a triangle"),
             LoadError::Refused(refusal) => refusal.fmt(f),
         }

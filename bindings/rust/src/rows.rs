@@ -1,5 +1,7 @@
 //! The rows that the library works on, and the five calls on them. Every pointer and length comes from a vector, so what C cannot check holds.
 
+use std::alloc::{self, Layout};
+
 use crate::refusal::Refusal;
 use crate::sys::{self, CheckResult, FinishResult, LocateResult, Node, StepResult};
 use crate::{Answer, MOST_VERTICES};
@@ -33,11 +35,33 @@ impl Scratch {
     /// For a mesh of so many vertices at the end of the call.
     pub fn new(vertices: usize) -> Scratch {
         Scratch {
-            nodes: vec![Node::default(); vertices + 1],
+            nodes: zeros(vertices + 1),
             freed: vec![0; vertices + 1],
             buckets: vec![0; vertices.max(16)],
             pending: vec![0; vertices.max(4096)],
         }
+    }
+}
+
+/// What is all zeros in memory too.
+pub trait Zero: Copy {}
+
+impl Zero for Node {}
+impl Zero for Answer {}
+
+/// A row of zeros that nobody touches before it is used.
+pub fn zeros<T: Zero>(length: usize) -> Vec<T> {
+    if length == 0 {
+        return Vec::new();
+    }
+    let layout = Layout::array::<T>(length).expect("fewer bytes than there are addresses");
+    // the layout has bytes, zeros are a T, and a vector of that capacity frees that layout
+    unsafe {
+        let row = alloc::alloc_zeroed(layout);
+        if row.is_null() {
+            alloc::handle_alloc_error(layout);
+        }
+        Vec::from_raw_parts(row.cast(), length, length)
     }
 }
 

@@ -79,6 +79,10 @@ fn refused_changes_nothing() {
 fn loads_points() {
     assert_eq!(Mesh::bulk_load(&[]).unwrap_err(), LoadError::NoTriangle);
     assert_eq!(Mesh::bulk_load(&[[0, 0], [1, 1], [2, 2], [2, 2]]).unwrap_err(), LoadError::NoTriangle);
+    let far = Mesh::bulk_load(&[[0, 0], [1, 0], [0, 1], [-16_777_217, 0]]);
+    assert_eq!(far.unwrap_err(), LoadError::Coordinate { point: 3 });
+    let many = Mesh::bulk_load(&(0..1_000_001).map(|i| [i % 1_001, i / 1_001]).collect::<Vec<_>>());
+    assert_eq!(many.unwrap_err(), LoadError::Refused(Refusal::Count));
     let points: Vec<[i32; 2]> = (0..400).map(|i| [i * 7919 % 1009, i * 104_729 % 1013]).collect();
     let loaded = Mesh::bulk_load(&points).unwrap();
     loaded.mesh.check().unwrap();
@@ -91,4 +95,14 @@ fn loads_points() {
     assert_eq!(vertices, loaded.mesh.vertex_count());
     assert!(vertices > 390, "{vertices}");
     assert_eq!(loaded.mesh.clone().finish().unwrap().closing_flips, 0);
+}
+
+#[test]
+fn loads_points_of_hardly_any_width() {
+    let r = 16_777_216;
+    let points = [[-r, -r], [r, r - 1], [0, 0], [r, r], [-r, -r + 1], [5, -7]];
+    let loaded = Mesh::bulk_load(&points).unwrap();
+    loaded.mesh.check().unwrap();
+    let thin = Mesh::bulk_load(&[[-r, -r], [0, 0], [r, r - 1]]);
+    assert!(matches!(thin, Ok(_) | Err(LoadError::NoTriangle)), "{thin:?}");
 }

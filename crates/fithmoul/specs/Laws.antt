@@ -1,4 +1,5 @@
--- No refusal of a call has the number 0, so a result whose `refusal` is 0 is that of an accepted call; and a run whose `refusal` is 0 meets demand 3. Assumes nothing.
+-- No refusal of a call has the number 0, so a result whose `refusal` is 0 is that of an accepted call; and a run whose `refusal` is 0
+-- meets demand 3. Assumes nothing.
 use mathlib.Core.Bool.{Bool, true, false, not, cond}
 use mathlib.Core.List.{List, []}
 use mathlib.Core.Path.{_≡_, refl, sym, _∙_, ap, subst}
@@ -32,6 +33,7 @@ use Rattle.sweep.specs.declared.Stepped.{Stepped}
 use Rattle.sweep.specs.StepCall as step
 use Rattle.sweep.specs.Step.{Stepping}
 use Rattle.fithmoul.specs.declared.results.FinishResult.{FinishResult}
+use Rattle.fithmoul.specs.Leaves.{Nodes}
 use Rattle.fithmoul.specs.Results.{finishResult, finishedResult, totals}
 
 -- ---- the checks: a refusal's number is one of the table's, which count from 1
@@ -72,7 +74,8 @@ start-named points short C q o h a cx cy =
     (named-cond (refusesCenter C (linksOf o h a) (positionOf q) cx cy) 6 0 (omega arith)
     (named-cond (refusesRing C (linksOf o h a) (positionOf q) cx cy) 7 0 (omega arith) accepts))
 
-sweep-named : (points : List ℤ) (short : Bool) (C : Counts) (q : List ℤ) (o h a : List ℕ) (nodes freed buckets pending : ℕ) (cx cy : Float)
+sweep-named : (points : List ℤ) (short : Bool) (C : Counts) (q : List ℤ) (o h a : List ℕ)
+    (nodes freed buckets pending : ℕ) (cx cy : Float)
     → Named (sweepChecked points short C q o h a nodes freed buckets pending cx cy)
 unfolding sweepChecked
 sweep-named points short C q o h a nodes freed buckets pending cx cy = start-named points _ C q o h a cx cy
@@ -105,24 +108,27 @@ pub check-named : (C : Counts) (q : List ℤ) (o h a : List ℕ) → Named (chec
 unfolding checkOf
 check-named C q o h a = mesh-named _ _ _ _ _
 
-pub locate-named : (C : Counts) (q : List ℤ) (o h a : List ℕ) (nodes : List (List ℕ)) (freed buckets : List ℕ) (cx cy angle : Float) (x : Refusal)
+pub locate-named : (C : Counts) (q : List ℤ) (o h a : List ℕ) (nodes : Nodes) (freed buckets : List ℕ) (cx cy angle : Float)
+    (x : Refusal)
     → locate.locateOf C q o h a nodes freed buckets cx cy angle .answer ≡ Located.Refused x → 0 < x .number
 unfolding locate.locateOf locate.outcomeOf
 locate-named C q o h a nodes freed buckets cx cy angle x e =
     by _ (named-then (start-named [] _ C q o h a cx cy) (angle-named angle)) _ e
   where
-    by : (c : Checked) → Named c → (p : Place) → locate.outcomeOf c p nodes freed buckets .answer ≡ Located.Refused x → 0 < x .number
+    by : (c : Checked) → Named c → (p : Place)
+        → locate.outcomeOf c p nodes freed buckets .answer ≡ Located.Refused x → 0 < x .number
     by Checked.Accepted g p z = absurd (let w : _≡_ {A = ℕ} 0 1 = cc in omega arith)
     by (Checked.Refused y) g p z = let w : y ≡ x = cc in subst (λ (r : Refusal). 0 < r .number) w (named-at g)
 
-pub step-named : (C : Counts) (q : List ℤ) (o h a : List ℕ) (nodes : List (List ℕ)) (freed buckets pending : List ℕ) (cx cy : Float) (v : Point)
-    (x : Refusal) → step.stepOf C q o h a nodes freed buckets pending cx cy v .answer .stepped ≡ Stepped.Refused x → 0 < x .number
+pub step-named : (C : Counts) (q : List ℤ) (o h a : List ℕ) (nodes : Nodes) (freed buckets pending : List ℕ) (cx cy : Float)
+    (v : Point) (x : Refusal)
+    → step.stepOf C q o h a nodes freed buckets pending cx cy v .answer .stepped ≡ Stepped.Refused x → 0 < x .number
 unfolding step.stepOf step.stepChecked step.outcomeOf step.answerFrom
 step-named C q o h a nodes freed buckets pending cx cy v x e =
     by _ (sweep-named (step.pointRow v) false C q o h a _ _ _ _ cx cy) _ e
   where
-    by : (c : Checked) → Named c → (s : Stepping) → step.outcomeOf C q o h a nodes freed buckets pending c s .answer .stepped ≡ Stepped.Refused x
-        → 0 < x .number
+    by : (c : Checked) → Named c → (s : Stepping)
+        → step.outcomeOf C q o h a nodes freed buckets pending c s .answer .stepped ≡ Stepped.Refused x → 0 < x .number
     by Checked.Accepted g s z = full-stepped (s .mesh .full) 0 _ x z
     by (Checked.Refused y) g s z = let w : y ≡ x = cc in subst (λ (r : Refusal). 0 < r .number) w (named-at g)
 
@@ -131,13 +137,15 @@ pub finish-named : (C : Counts) (q : List ℤ) (o h a pending : List ℕ) (x : R
 unfolding finish.finishOf finish.seedChecked finish.outcomeOf finish.finishedFrom
 finish-named C q o h a pending x e = by _ (with-named [] _ C q o h a) _ e
   where
-    by : (c : Checked) → Named c → (m : finish.Finishing) → finish.outcomeOf C o h a pending c m .answer .finished ≡ Finished.Refused x → 0 < x .number
+    by : (c : Checked) → Named c → (m : finish.Finishing)
+        → finish.outcomeOf C o h a pending c m .answer .finished ≡ Finished.Refused x → 0 < x .number
     by Checked.Accepted g m z = full-finished (m .full) 0 _ x z
     by (Checked.Refused y) g m z = let w : y ≡ x = cc in subst (λ (r : Refusal). 0 < r .number) w (named-at g)
 
 pub run-named : (l : run.Lent) (x : Refusal) → run.runOf l .answer .finished ≡ Finished.Refused x → 0 < x .number
 unfolding run.runOf run.runChecked run.outcomeOf finish.finishedFrom
-run-named l x e = by _ (sweep-named (l .points) _ (l .counts) (l .positions) (l .outs) (l .halves) (l .faces) _ _ _ _ (l .centerx) (l .centery)) e
+run-named l x e =
+    by _ (sweep-named (l .points) _ (l .counts) (l .positions) (l .outs) (l .halves) (l .faces) _ _ _ _ (l .centerx) (l .centery)) e
   where
     by : (c : Checked) → Named c → run.outcomeOf l c .answer .finished ≡ Finished.Refused x → 0 < x .number
     by Checked.Accepted g z = full-finished (run.finishOf l .full) _ _ x z
@@ -153,6 +161,7 @@ module _ (l : run.Lent) (r : FinishResult) (e : r ≡ finishResult (run.runOf l 
           let same : totals r ≡ t = ap totals e ∙ ap (λ (y : Finished). totals (finishedResult (run.runOf l .answer .counts) y)) k in
           subst (λ (u : Totals). Demand3 l (run.runOf l) u) (sym same) (run-accepted l t k .0)
       by (Finished.Refused x) k =
-          let n : x .number ≡ 0 = sym (ap (λ (u : FinishResult). u .refusal) e ∙ ap (λ (y : Finished). finishedResult (run.runOf l .answer .counts) y .refusal) k) ∙ z in
+          let same = ap (λ (y : Finished). finishedResult (run.runOf l .answer .counts) y .refusal) k in
+          let n : x .number ≡ 0 = sym (ap (λ (u : FinishResult). u .refusal) e ∙ same) ∙ z in
           let m : 0 < x .number = run-named l x k in
           absurd (omega arith)

@@ -1,5 +1,5 @@
--- What a call of this page leaves: its result and every row that it may write are those of an outcome that the library's definitions give. `..-leaves` takes a library call's own contract to that.
--- Assumes nothing.
+-- What an exported call leaves: its result and every row that it may write are those of an outcome that the library's definitions give.
+-- `..-leaves` takes a library call's own contract to that. Assumes nothing.
 use mathlib.Core.List.{List}
 use mathlib.Core.Path.{_≡_, ap, _∙_}
 use Prim.Native.Nat.{ℕ}

@@ -1,5 +1,5 @@
--- The calls' answers as flat records of numbers, for C: `refusal` is 0 where the call is accepted, else a row of 01's table, with its place.
--- What a refused call has no answer for is 0. Definitions only. `Laws`: no refusal has the number 0.
+-- The calls' answers as flat records of numbers, for C: `refusal` is 0 where the call is accepted, else a row of 01's table, with its
+-- place. What a refused call has no answer for is 0. Definitions only. `Laws`: no refusal has the number 0.
 use Prim.Native.Nat.{ℕ}
 use lib.IntN.{ℤ}
 use Rattle.decide.specs.Decide.{fateNumber, fateVertex}

@@ -1,7 +1,8 @@
-// What the calls answer, as structs of numbers that C can read, and how they are made of the library's answers. `refusal` is 0 where the call is accepted, else a row of 01's table with its place;
-// what a refused call has no answer for is 0.
+// What the calls answer, as structs of numbers that C can read, and how they are made of the library's answers. `refusal` is 0 where the
+// call is accepted, else a row of 01's table with its place; what a refused call has no answer for is 0.
 ghost use mathlib.Core.Path.{_≡_};
-ghost use Rattle.fithmoul.specs.Results.{checkResult, locateResult, pointAnswer, steppedResult, stepResult, finishedResult, finishResult};
+ghost use Rattle.fithmoul.specs.Results.{checkResult, locateResult, pointAnswer};
+ghost use Rattle.fithmoul.specs.Results.{steppedResult, stepResult, finishedResult, finishResult};
 use finish::FinishAnswer;
 use finish::Finished;
 use locate::Located;
@@ -26,7 +27,8 @@ pub struct LocateResult {
     pub passed: u32,
 }
 
-// A point's answer, word by word as in a run's answers row: 01's number of its fate, its vertex where it was added, the faces added, the flips in two words.
+// A point's answer, word by word as in a run's answers row: 01's number of its fate, its vertex where it was added, the faces added, the
+// flips in two words.
 #[repr(C)]
 pub struct PointAnswer {
     pub fate: u64,

@@ -23,7 +23,9 @@ same-length-4 : tie.Need-same-length-4
 same-length-4 c = search needs
 
 returns : tie.Need-returns
-returns c = finish-leaves _ _ _ _ _ _ (c .before .before .before .before .before .before .before .before .before .finish .ensures) _ (c .finish-result .ensures)
+returns c =
+    let b = c .before .before .before .before .before .before .before .before .before in
+    finish-leaves _ _ _ _ _ _ (b .finish .ensures) _ (c .finish-result .ensures)
 
 pub fithmoul-finish-spec : {M : Type 1} → statement M
 fithmoul-finish-spec =

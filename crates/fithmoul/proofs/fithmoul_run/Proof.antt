@@ -40,7 +40,9 @@ same-length-9 c = search needs
 
 returns : tie.Need-returns
 returns c =
-    let left = run-leaves _ _ _ _ _ _ _ _ _ _ _ (c .before .before .before .before .before .before .before .before .before .before .before .before .before .before .before .before .before .run .ensures .0) _ (c .finish-result .ensures) in
+    let a = c .before .before .before .before .before .before .before .before .before in
+    let b = a .before .before .before .before .before .before .before .before in
+    let left = run-leaves _ _ _ _ _ _ _ _ _ _ _ (b .run .ensures .0) _ (c .finish-result .ensures) in
     (left, λ z. accepted-run _ _ (left .result) z)
 
 pub fithmoul-run-spec : {M : Type 1} → statement M

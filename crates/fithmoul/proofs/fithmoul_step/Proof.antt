@@ -37,8 +37,11 @@ same-length-8 c = search needs
 
 returns : tie.Need-returns
 returns c =
-    let f = c .before .before .before .before .before .before .before .before .before .before .before .before .before .before .before .before .before .before .before .before .before .before .before .before .before .before .before .before .before .before .fits in
-    step-leaves _ _ _ _ _ _ _ _ _ _ (rw (toZ-ofZ (f .x), toZ-ofZ (f .y)) at (c .before .before .before .before .before .before .before .before .before .before .before .before .before .before .before .step .ensures)) _ (c .step-result .ensures)
+    let a = c .before .before .before .before .before .before .before .before in
+    let b = a .before .before .before .before .before .before .before in
+    let d = b .before .before .before .before .before .before .before .before in
+    let f = d .before .before .before .before .before .before .before .fits in
+    step-leaves _ _ _ _ _ _ _ _ _ _ (rw (toZ-ofZ (f .x), toZ-ofZ (f .y)) at (b .step .ensures)) _ (c .step-result .ensures)
 
 pub fithmoul-step-spec : {M : Type 1} → statement M
 fithmoul-step-spec =

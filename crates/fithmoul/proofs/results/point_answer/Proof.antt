@@ -20,7 +20,9 @@ cast-t5 : tie.Need-cast-t5
 cast-t5 c = search needs
 
 returns : tie.Need-returns
-returns c = ap₂ (words (c .before .before .before .args .answer)) (c .before .before .fate-number .ensures) (c .before .fate-vertex .ensures)
+returns c =
+    let b = c .before .before in
+    ap₂ (words (b .before .args .answer)) (b .fate-number .ensures) (c .before .fate-vertex .ensures)
 
 pub point-answer-spec : {M : Type 1} → statement M
 point-answer-spec = tie.close (tie.spec fate-number-requires fate-vertex-requires cast-t5 returns)

@@ -1,0 +1,157 @@
+//! A call takes anything: rows of any length with anything in them, any counts, centre and points. It returns, and a refusal but 9 leaves every row as it
+//! was. Through the exports themselves, on seeds that were damaged a little and on noise.
+
+use fithmoul::sys::{self, Node};
+
+struct Random(u64);
+
+impl Random {
+    fn below(&mut self, n: u64) -> u64 {
+        self.0 ^= self.0 << 13;
+        self.0 ^= self.0 >> 7;
+        self.0 ^= self.0 << 17;
+        self.0 % n
+    }
+
+    fn word(&mut self) -> u32 {
+        match self.below(4) {
+            0 => u32::MAX,
+            1 => self.below(1 << 32) as u32,
+            _ => self.below(9) as u32,
+        }
+    }
+
+    fn coordinate(&mut self) -> i32 {
+        match self.below(40) {
+            0 => i32::MIN,
+            1 => 16_777_217,
+            _ => self.below(21) as i32 - 10,
+        }
+    }
+
+    fn center(&mut self) -> f64 {
+        [f64::NAN, f64::INFINITY, -0.0, 1.0, 1.0, 1.0, 1.0, 1.0, 1e300, 1.5][self.below(10) as usize]
+    }
+}
+
+#[derive(Clone, PartialEq, Debug)]
+struct Rows {
+    counts: [u32; 3],
+    positions: Vec<i32>,
+    outs: Vec<u32>,
+    halves: Vec<u32>,
+    adjacent: Vec<u32>,
+    nodes: Vec<Node>,
+    freed: Vec<u32>,
+    buckets: Vec<u32>,
+    pending: Vec<u32>,
+    answers: Vec<u64>,
+}
+
+/// The triangle (0,0), (4,0), (0,4) with room for n vertices.
+fn seed(n: usize) -> Rows {
+    let mut rows = Rows {
+        counts: [3, 3, 2],
+        positions: vec![0, 0, 4, 0, 0, 4],
+        outs: vec![0, 2, 4],
+        halves: vec![2, 4, 1, 0, 5, 3, 0, 1, 4, 0, 1, 1, 1, 5, 0, 2, 0, 2, 1, 2, 3, 1, 0, 0],
+        adjacent: vec![1, 0],
+        nodes: vec![Node { words: [7; 4] }; n + 1],
+        freed: vec![7; n + 1],
+        buckets: vec![7; n.max(16)],
+        pending: vec![7; 8],
+        answers: vec![7; 5 * n],
+    };
+    rows.positions.resize(2 * n, 7);
+    rows.outs.resize(n, 7);
+    rows.halves.resize(24 * n, 7);
+    rows.adjacent.resize(2 * n, 7);
+    rows
+}
+
+/// One of the first entries that are there becomes another.
+fn put<T>(random: &mut Random, row: &mut [T], first: usize, value: T) {
+    if let Some(entry) = row.get_mut(random.below(first as u64) as usize) {
+        *entry = value;
+    }
+}
+
+fn damage(random: &mut Random, rows: &mut Rows) {
+    let word = random.word();
+    match random.below(12) {
+        0 => put(random, &mut rows.counts, 3, word),
+        1 => {
+            let c = random.coordinate();
+            put(random, &mut rows.positions, 6, c);
+        }
+        2 => put(random, &mut rows.outs, 3, word),
+        3 => put(random, &mut rows.halves, 24, word),
+        4 => put(random, &mut rows.adjacent, 2, word),
+        5 => rows.halves.truncate(random.below(200) as usize),
+        6 => rows.nodes.truncate(random.below(9) as usize),
+        7 => rows.buckets.truncate(random.below(17) as usize),
+        8 => rows.pending.truncate(random.below(9) as usize),
+        9 => rows.positions.truncate(random.below(15) as usize),
+        _ => {}
+    }
+}
+
+/// The refusal of one of the five calls, on these rows.
+fn call(which: u64, r: &mut Rows, [x, y]: [f64; 2], points: &[i32]) -> u32 {
+    let [v, e, f] = r.counts;
+    let (p, o) = (r.positions.as_mut_ptr(), r.outs.as_mut_ptr());
+    let (h, a) = (r.halves.as_mut_ptr(), r.adjacent.as_mut_ptr());
+    let [pl, ol, hl, al] = [r.positions.len(), r.outs.len(), r.halves.len(), r.adjacent.len()];
+    let (n, nl) = (r.nodes.as_mut_ptr(), r.nodes.len());
+    let (d, dl) = (r.freed.as_mut_ptr(), r.freed.len());
+    let (b, bl) = (r.buckets.as_mut_ptr(), r.buckets.len());
+    let (q, ql) = (r.pending.as_mut_ptr(), r.pending.len());
+    let (s, sl) = (r.answers.as_mut_ptr(), r.answers.len());
+    let (t, tl) = (points.as_ptr(), points.len());
+    unsafe {
+        match which {
+            0 => sys::fithmoul_check(v, e, f, p, pl, o, ol, h, hl, a, al).refusal,
+            1 => {
+                sys::fithmoul_locate(v, e, f, p, pl, o, ol, h, hl, a, al, n, nl, d, dl, b, bl, x, y, 0.5)
+                    .refusal
+            }
+            2 => {
+                let step = sys::fithmoul_step(
+                    v, e, f, p, pl, o, ol, h, hl, a, al, n, nl, d, dl, b, bl, q, ql, x, y, 9, 9,
+                );
+                step.refusal
+            }
+            3 => sys::fithmoul_finish(v, e, f, p, pl, o, ol, h, hl, a, al, q, ql).refusal,
+            _ => {
+                let run = sys::fithmoul_run(
+                    v, e, f, p, pl, o, ol, h, hl, a, al, n, nl, d, dl, b, bl, q, ql, s, sl, x, y, t, tl,
+                );
+                run.refusal
+            }
+        }
+    }
+}
+
+#[test]
+fn a_call_takes_anything() {
+    let mut random = Random(0x2545_f491_4f6c_dd1d);
+    let mut seen = [0u32; 10];
+    for _ in 0..40_000 {
+        let mut rows = seed(7);
+        for _ in 0..random.below(3) {
+            damage(&mut random, &mut rows);
+        }
+        let center = [random.center(), random.center()];
+        let points: Vec<i32> = (0..random.below(9)).map(|_| random.coordinate()).collect();
+        let before = rows.clone();
+        let refusal = call(random.below(5), &mut rows, center, &points);
+        seen[refusal as usize] += 1;
+        if (1..9).contains(&refusal) {
+            assert!(rows == before, "refusal {refusal} changed a row");
+        } else {
+            assert!(rows.nodes.iter().all(|n| *n == Node::default() || *n == Node { words: [7; 4] }));
+        }
+    }
+    println!("{seen:?}");
+    assert!([0, 1, 2, 3, 4, 5, 6].iter().all(|&k| seen[k] > 0), "{seen:?}");
+}
