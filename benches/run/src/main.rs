@@ -2,7 +2,7 @@
 //!
 //! `bench_run [TURNS [LARGEST]]` prints the tables; `bench_run once SIDE KIND COUNT` makes one run, for a profiler; `bench_run memory SIDE KIND COUNT`
 //! prints the peak of one run's memory. In each turn all sides take the same input one after the other, and the median of the turns counts.
-//! Every run is compared: the same vertices, and our finished mesh is what our finish makes of the mesh after the Rust's last step, link by link.
+//! Before it is timed each input is compared: our finished mesh is what our finish makes of the mesh after the Rust's last step, link by link.
 
 mod inputs;
 
