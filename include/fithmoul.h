@@ -1,50 +1,62 @@
 /* The five calls of the library: check a mesh, locate an angle, step one point, finish a mesh, run a list of points.
  *
- * Link with libfithmoul.a, which `rt staticlib fithmoul` writes to target/staticlib/ (Linux, x86-64). Nothing else is needed.
- * crates/fithmoul/src/lib.rt has the same calls with their contracts, which are proved; docs/SPECIFICATION.md says what they mean.
+ * Link with libfithmoul.a, which `rt staticlib fithmoul` writes to target/staticlib/ (Linux, x86-64). Nothing else is
+ * needed. crates/fithmoul/src/lib.rt has the same calls with their contracts, which are proved; docs/SPECIFICATION.md
+ * says what they mean.
  *
- * A CALL TAKES ANYTHING. Whatever the counts, rows, centre, angle and points are, it returns, reads and writes inside the rows alone, and answers a
- * result or one numbered refusal. What C cannot check is the caller's: a pointer is not NULL (not even of a row of length 0) and is aligned for its
- * type; there are as many entries behind it as the length after it says; a row that a call may write overlaps no other row, and nobody else uses it
- * meanwhile. No call keeps a pointer, allocates, or uses anything global: calls on different rows may run at the same time.
+ * A CALL TAKES ANYTHING. Whatever the counts, rows, centre, angle and points are, it returns, reads and writes inside
+ * the rows alone, and answers a result or one numbered refusal. What C cannot check is the caller's: a pointer is not
+ * NULL (not even of a row of length 0) and is aligned for its type; there are as many entries behind it as the length
+ * after it says; a row that a call may write overlaps no other row, and nobody else uses it meanwhile. No call keeps
+ * a pointer, allocates, or uses anything global: calls on different rows may run at the same time.
  *
- * COORDINATES are whole numbers from -16,777,216 to 16,777,216: millimetres, say. A centre is two doubles in the same range.
+ * COORDINATES are whole numbers from -16,777,216 to 16,777,216: millimetres, say. A centre is two doubles in the same
+ * range.
  *
- * THE MESH'S ROWS, for N vertices. A call may need room for vertices that it adds: N is `vertices` in a check, locate and finish, one more in a step,
- * and `vertices` plus the number of points in a run. A row may be longer; entries past the counts in use are never read for their meaning, nor changed.
+ * THE MESH'S ROWS, for N vertices. A call may need room for vertices that it adds: N is `vertices` in a check, locate
+ * and finish, one more in a step, and `vertices` plus the number of points in a run. A row may be longer; entries
+ * past the counts in use are never read for their meaning, nor changed.
  *
  *   positions  2N   int32_t   x and y of vertex v at 2v and 2v + 1
  *   outs        N   uint32_t  an out edge of each vertex: a half-edge that starts there
- *   halves    24N   uint32_t  next, prev, face and origin of half-edge e at 4e, 4e + 1, 4e + 2, 4e + 3; 2u and 2u + 1 are each other's reverse
- *   adjacent   2N   uint32_t  a half-edge of each face. Face 0 is the outer one; each other face is a triangle that turns left (counterclockwise)
+ *   halves    24N   uint32_t  next, prev, face and origin of half-edge e at 4e, 4e + 1, 4e + 2, 4e + 3;
+ *                             half-edges 2u and 2u + 1 are each other's reverse
+ *   adjacent   2N   uint32_t  a half-edge of each face. Face 0 is the outer one; each other face is a triangle that
+ *                             turns left (counterclockwise)
  *
- * `vertices`, `edges` (half as many as half-edges) and `faces` (with face 0) count what is in use. A result has the counts after the call.
+ * `vertices`, `edges` (half as many as half-edges) and `faces` (with face 0) count what is in use. A result has the
+ * counts after the call.
  *
  * THE OTHER ROWS. They hold nothing between calls, and may be lent with anything in them.
  *
  *   nodes      N + 1        fithmoul_node   the ring's nodes
  *   freed      N + 1        uint32_t        the ring's freed nodes
  *   buckets    max(16, N)   uint32_t        the ring's buckets
- *   pending    at least 8   uint32_t        edges that wait for the circle test. Lend N, and 4,096 at least: mostly 16 are used, but
- *                                           100,000 points along thirty lines used more than 1,024
+ *   pending    at least 8   uint32_t        edges that wait for the circle test. Lend N, and 4,096 at least: mostly 16
+ *                                           are used, but 100,000 points along thirty lines used more than 1,024
  *   answers    5 per point  uint64_t        a run's answers, a fithmoul_point_answer for each point
  *
- * REFUSALS. `refusal` is 0 where a call is accepted. Otherwise it is the first row of this table that applies, and `place` what the row names, else 0.
+ * REFUSALS. `refusal` is 0 where a call is accepted. Otherwise it is the first row of this table that applies, and
+ * `place` what the row names, else 0.
  *
  *   1  every call          fewer than 3 or more than 1,000,000 vertices (N)
  *   2  every call          a row is shorter than above, or the row of points has an odd length
- *   3  every call          a coordinate is out of range. place: the first such vertex, points counted on after the mesh's vertices
- *   4  every call          the rows are no mesh: a link is wrong or outside the counts, a face is no triangle, and so on (docs/SPECIFICATION.md)
+ *   3  every call          a coordinate is out of range. place: the first such vertex, points counted on after the
+ *                          mesh's vertices
+ *   4  every call          the rows are no mesh: a link is wrong or outside the counts, a face is no triangle, and so
+ *                          on (docs/SPECIFICATION.md)
  *   5  every call          a triangle does not turn strictly left. place: the lowest such face
  *   6  locate, step, run   the centre is not finite, is out of range, or is a boundary vertex
- *   7  locate, step, run   seen from the centre, the boundary's angles do not go round once, strictly rising, with gaps of at most 3/4 of a turn
+ *   7  locate, step, run   seen from the centre, the boundary's angles do not go round once, strictly rising, with
+ *                          gaps of at most 3/4 of a turn
  *   8  locate              the angle is NaN, below 0.0 or above 1.0
- *   9  step, finish, run   the pending row is too short for a flip, which is not made. place: in a run the point's index, or the number of points where
- *                          the finish was refused; otherwise 0
+ *   9  step, finish, run   the pending row is too short for a flip, which is not made. place: in a run the point's
+ *                          index, or the number of points where the finish was refused; otherwise 0
  *
- * AFTERWARDS. Refusals 1 to 8 leave every row as it was. After 9 and after every accepted call nodes, freed, buckets and pending hold zeros over their
- * whole length. After 9 the mesh is the one that stood before that flip, a good mesh with the counts of the result; in a run the answers of the points
- * before `place` stay and the others are zeros.
+ * AFTERWARDS. Refusals 1 to 8 leave every row as it was. After 9 and after every accepted call nodes, freed, buckets
+ * and pending hold zeros over their whole length. After 9 the mesh is the one that stood before that flip, a good
+ * mesh with the counts of the result; in a run the answers of the points before `place` stay and the others are
+ * zeros.
  */
 #ifndef FITHMOUL_H
 #define FITHMOUL_H
@@ -81,7 +93,8 @@ enum {
     FITHMOUL_AT_CENTER = 5   /* it is the centre */
 };
 
-/* A point's answer. All but FITHMOUL_ADDED leave the mesh alone, and the other fields are 0. A count of flips is flips_high * 2^64 + flips_low. */
+/* A point's answer. All but FITHMOUL_ADDED leave the mesh alone, and the other fields are 0. A count of flips is
+ * flips_high * 2^64 + flips_low. */
 typedef struct fithmoul_point_answer {
     uint64_t fate;
     uint64_t vertex;
@@ -132,8 +145,9 @@ fithmoul_check_result fithmoul_check(
     const uint32_t *halves, size_t halves_length,
     const uint32_t *adjacent, size_t adjacent_length);
 
-/* The boundary edge at an angle about a centre. An angle is a part of a turn from 0.0 (west) over 0.25 (north), 0.5 (east) and 0.75 (south) to 1.0, not
- * evenly spaced between (`pseudo_angle` of the Rust). Refusals 1 to 8. Leaves the mesh alone, and zeros in nodes, freed and buckets. */
+/* The boundary edge at an angle about a centre. An angle is a part of a turn from 0.0 (west) over 0.25 (north),
+ * 0.5 (east) and 0.75 (south) to 1.0, not evenly spaced between (`pseudo_angle` of the Rust). Refusals 1 to 8.
+ * Leaves the mesh alone, and zeros in nodes, freed and buckets. */
 fithmoul_locate_result fithmoul_locate(
     uint32_t vertices, uint32_t edges, uint32_t faces,
     const int32_t *positions, size_t positions_length,
@@ -145,8 +159,8 @@ fithmoul_locate_result fithmoul_locate(
     uint32_t *buckets, size_t buckets_length,
     double center_x, double center_y, double angle);
 
-/* One point of a sweep. It checks the whole mesh and builds the ring anew, so for a list of points use a run. Refusals 1 to 7, and 9.
- * Leaves the mesh after the step, and zeros in the other rows. */
+/* One point of a sweep. It checks the whole mesh and builds the ring anew, so for a list of points use a run.
+ * Refusals 1 to 7, and 9. Leaves the mesh after the step, and zeros in the other rows. */
 fithmoul_step_result fithmoul_step(
     uint32_t vertices, uint32_t edges, uint32_t faces,
     int32_t *positions, size_t positions_length,
@@ -159,8 +173,9 @@ fithmoul_step_result fithmoul_step(
     uint32_t *pending, size_t pending_length,
     double center_x, double center_y, int32_t x, int32_t y);
 
-/* Convexity passes until one adds no face, then the closing pass. Refusals 1 to 5, and 9. Afterwards no corner of the boundary turns left and no
- * triangle's circle strictly contains a neighbour's far vertex. Leaves the finished mesh, and zeros in pending. */
+/* Convexity passes until one adds no face, then the closing pass. Refusals 1 to 5, and 9. Afterwards no corner of
+ * the boundary turns left and no triangle's circle strictly contains a neighbour's far vertex. Leaves the finished
+ * mesh, and zeros in pending. */
 fithmoul_finish_result fithmoul_finish(
     uint32_t vertices, uint32_t edges, uint32_t faces,
     const int32_t *positions, size_t positions_length,
@@ -169,9 +184,10 @@ fithmoul_finish_result fithmoul_finish(
     uint32_t *adjacent, size_t adjacent_length,
     uint32_t *pending, size_t pending_length);
 
-/* A mesh to start from (a triangle is enough), a centre in it and a list of points, to a finished mesh: a step for each point in list order, then the
- * finish. `points` has x and y of each point, and `points_length` counts numbers. Refusals 1 to 7, and 9. Leaves the finished mesh, an answer for each
- * point in `answers`, and zeros in the other rows. The sweep grows outwards: sort the points by their distance from the centre. */
+/* A mesh to start from (a triangle is enough), a centre in it and a list of points, to a finished mesh: a step for
+ * each point in list order, then the finish. `points` has x and y of each point, and `points_length` counts
+ * numbers. Refusals 1 to 7, and 9. Leaves the finished mesh, an answer for each point in `answers`, and zeros in
+ * the other rows. The sweep grows outwards: sort the points by their distance from the centre. */
 fithmoul_finish_result fithmoul_run(
     uint32_t vertices, uint32_t edges, uint32_t faces,
     int32_t *positions, size_t positions_length,

@@ -1,5 +1,5 @@
-// Processor seconds that CGAL takes to triangulate the points of a file (pairs of 32-bit whole numbers), as it is meant to be used: one insertion of all of them,
-// which it sorts along a curve first. Then the peak of its memory in kB, and its vertices.
+// Processor seconds that CGAL takes to triangulate the points of a file (pairs of 32-bit whole numbers), as it is meant to be
+// used: one insertion of all of them, which it sorts along a curve first. Then the peak of its memory in kB, and its vertices.
 #include <CGAL/Delaunay_triangulation_2.h>
 #include <CGAL/Exact_predicates_inexact_constructions_kernel.h>
 

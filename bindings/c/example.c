@@ -1,5 +1,5 @@
-/* A triangle, a centre and four points, to a finished mesh: the sample of the specification, through include/fithmoul.h. Prints each point's answer, the
- * triangles, and what a refused call answers. It is C and C++. */
+/* A triangle, a centre and four points, to a finished mesh: the sample of the specification, through include/fithmoul.h.
+ * Prints each point's answer, the triangles, and what a refused call answers. It is C and C++. */
 #include "fithmoul.h"
 
 #include <inttypes.h>

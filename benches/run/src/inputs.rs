@@ -72,16 +72,21 @@ fn spiral(count: usize) -> Vec<[i32; 2]> {
         .collect()
 }
 
-/// The points of a kind, with the seed's: as `bulk_load` sorts them, but for the spiral and the random order.
-pub fn make(kind: &str, count: usize) -> Input {
+/// The points of a kind as they are made.
+pub fn unsorted(kind: &str, count: usize) -> Vec<[i32; 2]> {
     let random = &mut Random(0x9e37_79b9_7f4a_7c15);
-    let all = match kind {
+    match kind {
         "clustered" => clustered(random, count),
         "gridded" => gridded(count),
         "along lines" => along_lines(random, count),
         "spiral" => spiral(count),
         _ => (0..count).map(|_| [random.within(REACH), random.within(REACH)]).collect(),
-    };
+    }
+}
+
+/// The same with a seed and a centre: as `bulk_load` sorts them, but for the spiral and the random order.
+pub fn make(kind: &str, count: usize) -> Input {
+    let all = unsorted(kind, count);
     let sorted = by_distance(&all);
     let seed = seed_of(&all, &sorted).expect("three points that are not on one line");
     let order = if matches!(kind, "spiral" | "random order") { (0..count).collect() } else { sorted };

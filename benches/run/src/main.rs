@@ -2,16 +2,17 @@
 //!
 //! `bench_run [TURNS [LARGEST]]` prints the tables; `bench_run once SIDE KIND COUNT` makes one run, for a profiler; `bench_run memory SIDE KIND COUNT`
 //! prints the peak of one run's memory. In each turn all sides take the same input one after the other, and the median of the turns counts.
-//! Every run is compared: the same vertices, and our finished mesh is what our finish makes of the mesh after the Rust's last step, link by link.
+//! Before it is timed each input is compared: our finished mesh is what our finish makes of the mesh after the Rust's last step, link by link.
 
 mod inputs;
 
+use std::fmt::Display;
 use std::hint::black_box;
 use std::path::Path;
 use std::process::Command;
 
-use fithmoul::{Fate, Mesh, Run};
-use inputs::{make, Input, KINDS};
+use fithmoul::{by_distance, Fate, Mesh, Run};
+use inputs::{make, unsorted, Input, KINDS};
 use oracle::driver::Sweep;
 use oracle::mesh;
 
@@ -190,7 +191,8 @@ struct Row {
     ours: f64,
     rust: f64,
     pass: f64,
-    cgal: Option<[f64; 2]>,
+    /// CGAL's time and memory, and the time that our sorting takes.
+    cgal: Option<[f64; 3]>,
     checked: Checked,
 }
 
@@ -204,7 +206,8 @@ fn measure(kind: &'static str, count: usize, turns: usize, beside: Option<&Path>
     if beside.is_some() {
         write_points(file, &input);
     }
-    let [mut a, mut b, mut p, mut c, mut m] = [const { Vec::new() }; 5];
+    let all = if beside.is_some() { unsorted(kind, count) } else { Vec::new() };
+    let [mut a, mut b, mut p, mut c, mut m, mut o] = [const { Vec::new() }; 6];
     for _ in 0..turns {
         a.push(each(times, || ours(&input)));
         if checked.comparable {
@@ -215,10 +218,11 @@ fn measure(kind: &'static str, count: usize, turns: usize, beside: Option<&Path>
         if let Some([time, memory]) = beside.and_then(|program| cgal(program, file)) {
             c.push(time);
             m.push(memory);
+            o.push(seconds(|| by_distance(&all)).0);
         }
     }
     let one = |all: Vec<f64>| if all.is_empty() { f64::NAN } else { median(all) };
-    let cgal = (!c.is_empty()).then(|| [one(c), one(m)]);
+    let cgal = (!c.is_empty()).then(|| [one(c), one(m), one(o)]);
     Row { kind, count, ours: one(a), rust: one(b), pass: one(p), cgal, checked }
 }
 
@@ -250,47 +254,61 @@ fn tables(turns: usize, largest: usize, beside: Option<&Path>) {
             measure(kind, count, turns, beside)
         })
         .collect();
-    println!("| points | number | in the mesh | ours | Rust | ours / Rust | steps: ours | Rust | ours / Rust | first pass: ours | Rust | further passes, closing | check |");
-    println!("|---|---|---|---|---|---|---|---|---|---|---|---|---|");
-    for r in &rows {
+    println!("Milliseconds:\n");
+    table_of_runs(&rows);
+    println!("\nPeak memory, MB:\n");
+    table_of_memory(&rows);
+    println!("\nBeside CGAL, milliseconds:\n");
+    match beside {
+        Some(_) => table_beside_cgal(&rows),
+        None => println!("target/bench_cgal was not built: it needs libcgal-dev and c++"),
+    }
+}
+
+fn line(cells: &[&dyn Display]) {
+    let cells: Vec<String> = cells.iter().map(|c| c.to_string()).collect();
+    println!("| {} |", cells.join(" | "));
+}
+
+fn head(cells: &[&str]) {
+    println!("| {} |\n|{}", cells.join(" | "), "---|".repeat(cells.len()));
+}
+
+fn ratio(a: f64, b: f64) -> String {
+    format!("{:.2}", a / b)
+}
+
+fn table_of_runs(rows: &[Row]) {
+    let sides = ["ours", "Rust", "ours / Rust"];
+    let parts = ["first pass", "Rust's", "further passes, closing", "check"];
+    let names = ["points", "number", "in the mesh"].iter().chain(&sides).chain(&["steps", "Rust's", "ratio"]);
+    head(&names.chain(&parts).copied().collect::<Vec<_>>());
+    for r in rows {
         let Parts { check, first_pass, rest } = r.checked.parts;
-        let added = r.checked.added + 3;
         let [ours, rust] = [r.ours - first_pass - rest, r.rust - r.pass];
-        print!(
-            "| {} | {} | {added} | {} | {} | {:.2} ",
-            r.kind,
-            r.count,
-            ms(r.ours),
-            ms(r.rust),
-            r.ours / r.rust
-        );
-        print!("| {} | {} | {:.2} ", ms(ours), ms(rust), ours / rust);
-        println!("| {} | {} | {} | {} |", ms(first_pass), ms(r.pass), ms(rest), ms(check));
+        let added = r.checked.added + 3;
+        let whole: [&dyn Display; 6] =
+            [&r.kind, &r.count, &added, &ms(r.ours), &ms(r.rust), &ratio(r.ours, r.rust)];
+        let steps: [&dyn Display; 3] = [&ms(ours), &ms(rust), &ratio(ours, rust)];
+        let finish: [&dyn Display; 4] = [&ms(first_pass), &ms(r.pass), &ms(rest), &ms(check)];
+        line(&[&whole[..], &steps, &finish].concat());
     }
-    println!();
-    println!("| points | number | ours (MB) | Rust (MB) |\n|---|---|---|---|");
+}
+
+fn table_of_memory(rows: &[Row]) {
+    head(&["points", "number", "ours", "Rust"]);
     for r in rows.iter().filter(|r| r.count >= 100_000) {
-        let [a, b] = ["ours", "rust"].map(|side| peak(side, r.kind, r.count));
-        println!("| {} | {} | {a:.0} | {b:.0} |", r.kind, r.count);
+        let [a, b] = ["ours", "rust"].map(|side| peak(side, r.kind, r.count).round());
+        line(&[&r.kind, &r.count, &a, &b]);
     }
-    println!();
-    if beside.is_none() {
-        println!("CGAL: target/bench_cgal was not built (libcgal-dev and c++ are needed)");
-        return;
-    }
-    println!(
-        "| points | number | ours (ms) | CGAL (ms) | ours / CGAL | CGAL (MB) |\n|---|---|---|---|---|---|"
-    );
-    for r in &rows {
-        if let Some([time, memory]) = r.cgal {
-            let ratio = r.ours / time;
-            println!(
-                "| {} | {} | {} | {} | {ratio:.2} | {memory:.0} |",
-                r.kind,
-                r.count,
-                ms(r.ours),
-                ms(time)
-            );
+}
+
+fn table_beside_cgal(rows: &[Row]) {
+    head(&["points", "number", "ours", "sorting", "CGAL", "(ours + sorting) / CGAL", "CGAL (MB)"]);
+    for r in rows {
+        if let Some([time, memory, sorting]) = r.cgal {
+            let both = ratio(r.ours + sorting, time);
+            line(&[&r.kind, &r.count, &ms(r.ours), &ms(sorting), &ms(time), &both, &memory.round()]);
         }
     }
 }

@@ -34,6 +34,9 @@ impl Random {
     }
 }
 
+/// A node that a call must not rely on.
+const NOISE: Node = Node { words: [7; 4] };
+
 #[derive(Clone, PartialEq, Debug)]
 struct Rows {
     counts: [u32; 3],
@@ -56,7 +59,7 @@ fn seed(n: usize) -> Rows {
         outs: vec![0, 2, 4],
         halves: vec![2, 4, 1, 0, 5, 3, 0, 1, 4, 0, 1, 1, 1, 5, 0, 2, 0, 2, 1, 2, 3, 1, 0, 0],
         adjacent: vec![1, 0],
-        nodes: vec![Node { words: [7; 4] }; n + 1],
+        nodes: vec![NOISE; n + 1],
         freed: vec![7; n + 1],
         buckets: vec![7; n.max(16)],
         pending: vec![7; 8],
@@ -149,7 +152,7 @@ fn a_call_takes_anything() {
         if (1..9).contains(&refusal) {
             assert!(rows == before, "refusal {refusal} changed a row");
         } else {
-            assert!(rows.nodes.iter().all(|n| *n == Node::default() || *n == Node { words: [7; 4] }));
+            assert!(rows.nodes.iter().all(|n| *n == Node::default() || *n == NOISE));
         }
     }
     println!("{seen:?}");
