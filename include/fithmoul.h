@@ -79,9 +79,12 @@ extern "C" {
 #define FITHMOUL_PENDING ((size_t)8)
 #define FITHMOUL_ANSWERS(points) (5 * (size_t)(points))
 
-/* One entry of the row of ring nodes. A caller has no use for what is in it. */
+/* One entry of the row of ring nodes, 24 bytes. A caller has no use for what is in it. */
 typedef struct fithmoul_node {
-    uint64_t words[4];
+    double angle;
+    uint32_t edge;
+    uint32_t left;
+    uint32_t right;
 } fithmoul_node;
 
 /* What became of a point. */

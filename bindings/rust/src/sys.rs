@@ -2,11 +2,14 @@
 
 use crate::Answer;
 
-/// One entry of the row of ring nodes.
+/// One entry of the row of ring nodes, 24 bytes.
 #[repr(C)]
-#[derive(Clone, Copy, Debug, Default, PartialEq, Eq)]
+#[derive(Clone, Copy, Debug, Default, PartialEq)]
 pub struct Node {
-    pub words: [u64; 4],
+    pub angle: f64,
+    pub edge: u32,
+    pub left: u32,
+    pub right: u32,
 }
 
 #[repr(C)]

@@ -35,7 +35,7 @@ impl Random {
 }
 
 /// A node that a call must not rely on.
-const NOISE: Node = Node { words: [7; 4] };
+const NOISE: Node = Node { angle: 7.0, edge: 7, left: 7, right: 7 };
 
 #[derive(Clone, PartialEq, Debug)]
 struct Rows {

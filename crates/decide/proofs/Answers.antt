@@ -17,6 +17,7 @@ use Rattle.mesh.specs.declared.Counts.{Counts}
 use Rattle.mesh.specs.Mesh.{Links}
 use Rattle.ring.specs.Ring.{located}
 use Rattle.ring.specs.Center.{turnsAbout}
+use Rattle.ring_rows.specs.declared.Node.{Node}
 use Rattle.ring_rows.specs.declared.Found.{Found}
 use Rattle.ring_rows.specs.declared.Hull.{Hull}
 use Rattle.ring_rows.specs.Rows.{nodesOf, sizeOf, Got}
@@ -57,7 +58,7 @@ module _ (v : Point) (cx cy : Float) {r : VertexAngle} {x y : ℤ} (is : r ≡ v
     angle-is : (atCenter (v .x) (v .y) cx cy ≡ false) × (g ≡ angleAbout (v .x) (v .y) cx cy)
     angle-is = some-angle (atCenter (v .x) (v .y) cx cy) (angleAbout (v .x) (v .y) cx cy) is-at z
 
-    module _ (A : IsAngle g) {C : Counts} {q : List ℤ} {h : List ℕ} {nodes : List (List ℕ)} {buckets : List ℕ} {hull : Hull} {found : Found}
+    module _ (A : IsAngle g) {C : Counts} {q : List ℤ} {h : List ℕ} {nodes : List Node} {buckets : List ℕ} {hull : Hull} {found : Found}
         (G : Got (nodesOf nodes) (sizeOf hull) (rowOf buckets (floorOf (turns g) (hull .buckets))) (turns g) found) where
       pub asks-at : ToDecide C q h nodes buckets hull cx cy v → ToDecideAt q h cx cy (found .edge) (sizeOf hull) (C .vertices) v g
       asks-at T = record {

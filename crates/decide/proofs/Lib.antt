@@ -3,3 +3,4 @@ pub mod Walking
 pub mod Counting
 pub mod Deciding
 pub mod Answers
+pub mod Sig

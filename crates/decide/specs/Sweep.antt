@@ -16,6 +16,7 @@ use Rattle.mesh.specs.declared.Counts.{Counts}
 use Rattle.mesh.specs.Mesh.{Links}
 use Rattle.ring.specs.Ring.{edgeAngle}
 use Rattle.ring.specs.Center.{turnsAbout, refusesCenter}
+use Rattle.ring_rows.specs.declared.Node.{Node}
 use Rattle.ring_rows.specs.declared.Hull.{Hull}
 use Rattle.sums.specs.Iterate.{iter}
 use Rattle.decide.specs.declared.Decision.{Decision}
@@ -24,14 +25,14 @@ use Rattle.decide.specs.Decide.{Decided}
 
 -- no boundary vertex is at the centre, which is valid: refusal 6 does not apply to the mesh as it stands; and the ring's rows hold its
 -- ring, which is sound
-pub record Sweep (C : Counts) (q : List ℤ) (o h a : List ℕ) (nodes : List (List ℕ)) (freed buckets : List ℕ) (hull : Hull)
+pub record Sweep (C : Counts) (q : List ℤ) (o h a : List ℕ) (nodes : List Node) (freed buckets : List ℕ) (hull : Hull)
     (cx cy : Float) : Type 0 where
   pub mesh : GoodRows C q o h a
   pub center : T (not (refusesCenter C (linksOf o h a) (positionOf q) cx cy))
   pub ring : Held C (linksOf o h a) (turnsAbout cx cy (positionOf q)) nodes freed buckets hull
 
 -- what a decision asks: some such mesh, of which the rows of half-edges, nodes and buckets are read, and a point in range
-pub record ToDecide (C : Counts) (q : List ℤ) (h : List ℕ) (nodes : List (List ℕ)) (buckets : List ℕ) (hull : Hull)
+pub record ToDecide (C : Counts) (q : List ℤ) (h : List ℕ) (nodes : List Node) (buckets : List ℕ) (hull : Hull)
     (cx cy : Float) (v : Point) : Type 0 where
   pub outs : List ℕ
   pub faces : List ℕ

@@ -20,6 +20,7 @@ use Rattle.ring.specs.Ring.{atEnds, edgeAngle, isSoundRing, located}
 use Rattle.ring.specs.Center.{turnsAbout}
 use Rattle.ring.specs.Boundary.{located<, located-outer, located-holds}
 use Rattle.ring.specs.RingOf.{ring-from, ring-sound-ring}
+use Rattle.ring_rows.specs.declared.Node.{Node}
 use Rattle.ring_rows.specs.declared.Found.{Found}
 use Rattle.ring_rows.specs.declared.Hull.{Hull}
 use Rattle.ring_rows.specs.Rows.{nodesOf, sizeOf, Got}
@@ -43,7 +44,7 @@ module _ (cx cy : Float) (C : Counts) (L : Links) (p : ℕ → Point) (v : Point
   decided-some z = rw z
 
 -- ---- the mesh and its ring
-module _ {C : Counts} {q : List ℤ} {o h a : List ℕ} {nodes : List (List ℕ)} {freed buckets : List ℕ} {hull : Hull} {cx cy : Float}
+module _ {C : Counts} {q : List ℤ} {o h a : List ℕ} {nodes : List Node} {freed buckets : List ℕ} {hull : Hull} {cx cy : Float}
     (S : Sweep C q o h a nodes freed buckets hull cx cy) where
   pub sweep-center : T (validCenter cx cy)
   sweep-center = angled-boundary (held (S .mesh)) q (S .mesh .positions) cx cy (S .center) .valid

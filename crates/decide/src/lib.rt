@@ -16,6 +16,7 @@ use angle::VertexAngle;
 use math::Point;
 use mesh::Counts;
 use ring_rows::Hull;
+use ring_rows::Node;
 
 // 01's fates: 1 added, with the new vertex; 2 dropped; 3 skipped, not left of the located edge; 4 skipped, no sound
 // ring; 5 skipped, at the centre.
@@ -306,7 +307,7 @@ fn decide_at(
 pub fn decide(
     positions: &[i32],
     halves: &[u32],
-    nodes: &[[u64; 4]],
+    nodes: &[Node],
     buckets: &[u32],
     hull: Hull,
     counts: Counts,

@@ -8,6 +8,7 @@ use Rattle.finish.specs.declared.FinishAnswer.{FinishAnswer}
 use Rattle.finish.specs.Finish as finish
 use Rattle.locate.specs.declared.Located.{Located}
 use Rattle.locate.specs.Locate as locate
+use Rattle.ring_rows.specs.declared.Node.{Node}
 use Rattle.sweep.specs.Run as run
 use Rattle.sweep.specs.declared.StepAnswer.{StepAnswer}
 use Rattle.sweep.specs.StepCall as step
@@ -18,7 +19,7 @@ use Rattle.fithmoul.specs.Results.{locateResult, stepResult, finishResul
 
 -- the row of ring nodes, as the contracts see it
 abbrev pub Nodes : Type 0
-Nodes = List (List ℕ)
+Nodes = List Node
 
 -- ---- locate
 pub record LocateLeaves (r : LocateResult) (n : Nodes) (f b : List ℕ) (x : locate.Outcome) : Type 0 where

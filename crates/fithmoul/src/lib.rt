@@ -14,6 +14,7 @@ ghost use Rattle.fithmoul.specs.Leaves.{LocateLeaves, StepLeaves, Finish
 use angle::Point2;
 use math::Point;
 use mesh::Counts;
+use ring_rows::Node;
 
 mod results;
 
@@ -21,9 +22,6 @@ use results::CheckResult;
 use results::FinishResult;
 use results::LocateResult;
 use results::StepResult;
-
-// A ring node's entry in its row.
-pub type Node = [u64; 4];
 
 // Does a mesh keep the rules, turn left everywhere and stay in range? Refusals 1 to 5.
 #[no_mangle]

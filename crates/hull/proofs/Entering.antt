@@ -9,6 +9,7 @@ use Rattle.mesh.specs.declared.Counts.{Counts}
 use Rattle.mesh.specs.Mesh.{Links}
 use Rattle.ring.specs.Resize.{adjustedBuckets}
 use Rattle.ring.specs.RingOf.{ring-size}
+use Rattle.ring_rows.specs.declared.Node.{Node}
 use Rattle.ring_rows.specs.declared.Hull.{Hull}
 use Rattle.ring_rows.specs.Rows.{sizeOf}
 use Rattle.ring_insert.specs.Insert.{ToInsert, InsertedRows, ToAdjust, Adjusted}
@@ -18,7 +19,7 @@ use Rattle.hull.specs.Insert.{to-insert, insert-len, insert-held, adjust
 use Rattle.hull.specs.EntersRing.{EntersRing}
 
 module _ {C : Counts} {L : Links} {α : ℕ → ℕ} {C′ : Counts} {L′ : Links} {α′ : ℕ → ℕ} {e m n q r N : ℕ}
-    {nodes : List (List ℕ)} {freed buckets : List ℕ} {h : Hull} {left middle right : Float} {leftedge rightedge : ℕ}
+    {nodes : List Node} {freed buckets : List ℕ} {h : Hull} {left middle right : Float} {leftedge rightedge : ℕ}
     (E : EntersRing C L α C′ L′ α′ e m n q r N nodes freed buckets h left middle right leftedge rightedge) where
   pub entering-insert : ToInsert nodes freed buckets h left middle right
   entering-insert =
@@ -26,7 +27,7 @@ module _ {C : Counts} {L : Links} {α : ℕ → ℕ} {C′ : Counts} {L′ : Lin
       (E .left-angle) (E .middle-angle) (E .right-angle) (E .left-is) (E .right-is)
 
   -- after the stores, with the number of buckets as it was
-  module _ {nodes′ : List (List ℕ)} {freed′ buckets′ : List ℕ} {h′ : Hull}
+  module _ {nodes′ : List Node} {freed′ buckets′ : List ℕ} {h′ : Hull}
       (I : InsertedRows nodes freed buckets nodes′ freed′ buckets′ h left middle right leftedge rightedge h′)
       (u : length nodes′ ≡ length nodes) (v : length freed′ ≡ length freed) (w : length buckets′ ≡ length buckets) where
     stored-most : h′ .nodes ≤ suc N

@@ -2,3 +2,4 @@
 pub mod Around
 pub mod Numbered
 pub mod Entering
+pub mod Sig

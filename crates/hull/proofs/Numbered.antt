@@ -14,7 +14,7 @@ use Rattle.ring_rows.specs.Rows.{nodesOf}
 use Rattle.hull.specs.Boundary.{AngledBoundary, Angled, AngleAt, edgeAt, NodeOfEdge, NodesOfEdges}
 use Rattle.hull.proofs.Around.{next-at, angled}
 
-pub record Building (p : List ℤ) (h : List ℕ) (cx cy : Float) (start size : ℕ) (old new : List (List ℕ)) (e left k : ℕ) : Type 0 where
+pub record Building (p : List ℤ) (h : List ℕ) (cx cy : Float) (start size : ℕ) (old new : List Node) (e left k : ℕ) : Type 0 where
   pub boundary : AngledBoundary p h cx cy start
   pub room : size ≤ length old
   pub same : length new ≡ length old
@@ -24,14 +24,14 @@ pub record Building (p : List ℤ) (h : List ℕ) (cx cy : Float) (start size : 
   pub left-more : 0 < k → left ≡ k - 1
   pub done : (i : ℕ) → i < k → NodeOfEdge p h cx cy start size i (nodesOf new i)
 
-pub building : {p : List ℤ} {h : List ℕ} {cx cy : Float} {start size : ℕ} {old : List (List ℕ)} → AngledBoundary p h cx cy start → size ≤ length old → Building p h cx cy start size old old start (size - 1) 0
+pub building : {p : List ℤ} {h : List ℕ} {cx cy : Float} {start size : ℕ} {old : List Node} → AngledBoundary p h cx cy start → size ≤ length old → Building p h cx cy start size old old start (size - 1) 0
 building B r = record { boundary = B; room = r; same = refl; most = omega arith; at = refl; left-first = λ z. refl; left-more = λ l. absurd (omega arith); done = λ i l. absurd (omega arith) }
 
-module _ {p : List ℤ} {h : List ℕ} {cx cy : Float} {start size : ℕ} {old new : List (List ℕ)} {e left k : ℕ} (K : Building p h cx cy start size old new e left k) where
+module _ {p : List ℤ} {h : List ℕ} {cx cy : Float} {start size : ℕ} {old new : List Node} {e left k : ℕ} (K : Building p h cx cy start size old new e left k) where
   pub building-angled : Angled p h cx cy e
   building-angled = angled k (K .boundary) (K .at)
 
-  pub built-more : {new′ : List (List ℕ)} {a : Float} {n : ℕ} → k < size → AngleAt p h cx cy e a → nodesOf new′ ≡ put (nodesOf new) k (record { angle = a; edge = e; left = left; right = (k + 1) % size }) → length new′ ≡ length new
+  pub built-more : {new′ : List Node} {a : Float} {n : ℕ} → k < size → AngleAt p h cx cy e a → nodesOf new′ ≡ put (nodesOf new) k (record { angle = a; edge = e; left = left; right = (k + 1) % size }) → length new′ ≡ length new
       → n ≡ halvesOf h .next e → Building p h cx cy start size old new′ n k (k + 1)
   built-more {new′} {a} {n} l A s q d = record {
     boundary = K .boundary;

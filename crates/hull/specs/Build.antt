@@ -113,12 +113,12 @@ module _ {p : List ℤ} {h : List ℕ} {cx cy : Float} {start size nodes buckets
             less i size z = omega arith
 
 -- what `initialize_buckets` asks
-pub to-fill : {p : List ℤ} {h : List ℕ} {cx cy : Float} {start size nodes buckets : ℕ} → ToBuild p h cx cy start size nodes buckets → {l : List (List ℕ)} {b : List ℕ} → length l ≡ nodes → length b ≡ buckets
+pub to-fill : {p : List ℤ} {h : List ℕ} {cx cy : Float} {start size nodes buckets : ℕ} → ToBuild p h cx cy start size nodes buckets → {l : List Node} {b : List ℕ} → length l ≡ nodes → length b ≡ buckets
     → NodesOfEdges p h cx cy start size (nodesOf l) → ToFill l b 8 0 size
 to-fill {size = size} B u v D = record { len = size; ring = numbered-nodes B D; node-room = let a = B .node-room in omega arith; counted = eight-buckets; bucket-room = let a = B .bucket-room in omega arith }
 
 -- THE RING OF A MESH'S BOUNDARY, built: the rows hold it
-pub built-held : (o a : List ℕ) {C : Counts} {p : List ℤ} {h : List ℕ} {cx cy : Float} {size n b : ℕ} {nodes : List (List ℕ)} {freed buckets : List ℕ} {r : Hull}
+pub built-held : (o a : List ℕ) {C : Counts} {p : List ℤ} {h : List ℕ} {cx cy : Float} {size n b : ℕ} {nodes : List Node} {freed buckets : List ℕ} {r : Hull}
     → Wf C (linksOf o h a) → ToBuild p h cx cy (rowOf a 0) size n b → size ≡ boundaryLength C (linksOf o h a) → FromBoundary p h cx cy (rowOf a 0) size nodes buckets r
     → size ≤ length nodes → size ≤ length freed → 8 ≤ length buckets → Held C (linksOf o h a) (turnsAbout cx cy (positionOf p)) nodes freed buckets r
 unfolding linksOf

@@ -10,6 +10,7 @@ use Rattle.mesh.specs.Mesh.{Links}
 use Rattle.mesh.specs.Wf.{Wf}
 use Rattle.angle.specs.Angle.{IsAngle, turns}
 use Rattle.ring.specs.Ring.{edgeAngle}
+use Rattle.ring_rows.specs.declared.Node.{Node}
 use Rattle.ring_rows.specs.declared.Hull.{Hull}
 use Rattle.hull.specs.Held.{Held}
 use Rattle.hull.specs.Insert.{Change}
@@ -20,7 +21,7 @@ pub record EntersRing
     (C : Counts) (L : Links) (α : ℕ → ℕ)
     (C′ : Counts) (L′ : Links) (α′ : ℕ → ℕ)
     (e m n q r N : ℕ)
-    (nodes : List (List ℕ)) (freed buckets : List ℕ) (h : Hull)
+    (nodes : List Node) (freed buckets : List ℕ) (h : Hull)
     (left middle right : Float) (leftedge rightedge : ℕ) : Type 0 where
   pub rules : Wf C L
   pub rules-after : Wf C′ L′
@@ -42,7 +43,7 @@ pub record EntersRing
 
 -- some mesh before and after
 pub record ToEnterRing
-    (nodes : List (List ℕ)) (freed buckets : List ℕ) (h : Hull)
+    (nodes : List Node) (freed buckets : List ℕ) (h : Hull)
     (left middle right : Float) (leftedge rightedge : ℕ) : Type 0 where
   pub counts : Counts
   pub links : Links
@@ -62,7 +63,7 @@ pub record ToEnterRing
 
 -- the rows hold the ring of the boundary after, whichever meshes they are, and still do for N vertices
 abbrev pub EnteredRing :
-    List (List ℕ) → List ℕ → List ℕ → List (List ℕ) → List ℕ → List ℕ → Hull
+    List Node → List ℕ → List ℕ → List Node → List ℕ → List ℕ → Hull
     → Float → Float → Float → ℕ → ℕ → Hull → Type 0
 EnteredRing nodes freed buckets nodes′ freed′ buckets′ h left middle right leftedge rightedge h′ =
     (C : Counts) (L : Links) (α : ℕ → ℕ) (C′ : Counts) (L′ : Links) (α′ : ℕ → ℕ) (e m n q r N : ℕ)

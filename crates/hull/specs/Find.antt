@@ -20,13 +20,14 @@ use Rattle.ring.specs.Insert.{On, ring-proper, ring-sound}
 use Rattle.ring.specs.Hull.{Hull as HullOf, on-from}
 use Rattle.ring.specs.Located.{locate-passed}
 use Rattle.ring.specs.RingOf.{ring-located, ring-from}
+use Rattle.ring_rows.specs.declared.Node.{Node}
 use Rattle.ring_rows.specs.declared.Hull.{Hull}
 use Rattle.ring_rows.specs.declared.Found.{Found}
 use Rattle.ring_rows.specs.Rows.{nodesOf, angleOf, edgeOf, leftOf, rightOf, sizeOf, NodeRing, RingRows, Got}
 use Rattle.ring_rows.specs.Laws.{floor-below}
 use Rattle.hull.specs.Held.{Held}
 
-module _ {C : Counts} {L : Links} {α : ℕ → ℕ} {nodes : List (List ℕ)} {freed buckets : List ℕ} {h : Hull} (H : Held C L α nodes freed buckets h) where
+module _ {C : Counts} {L : Links} {α : ℕ → ℕ} {nodes : List Node} {freed buckets : List ℕ} {h : Hull} (H : Held C L α nodes freed buckets h) where
   -- each bucket's node is in the ring
   pub bucket-on : (i : ℕ) → i < h .buckets → On (rightOf (nodesOf nodes)) (sizeOf h) (rowOf buckets 0) (rowOf buckets i)
   bucket-on i l = subst (λ (m : ℕ). On (rightOf (nodesOf nodes)) m (rowOf buckets 0) (rowOf buckets i)) (H .ring .count) (H .ring .hull .buckets i l .0)

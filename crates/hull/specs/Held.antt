@@ -12,11 +12,12 @@ use Rattle.dcel.specs.Rows.{rowOf}
 use Rattle.ring.specs.Insert.{On, Bucketed}
 use Rattle.ring.specs.Free.{Free}
 use Rattle.ring.specs.RingOf.{RingOf}
+use Rattle.ring_rows.specs.declared.Node.{Node}
 use Rattle.ring_rows.specs.declared.Hull.{Hull}
 use Rattle.ring_rows.specs.Rows.{nodesOf, angleOf, edgeOf, leftOf, rightOf, sizeOf, ValidNodes}
 use Rattle.hull.specs.Boundary.{NodesOfEdges}
 
-pub record Held (C : Counts) (L : Links) (α : ℕ → ℕ) (nodes : List (List ℕ)) (freed buckets : List ℕ) (h : Hull) : Type 0 where
+pub record Held (C : Counts) (L : Links) (α : ℕ → ℕ) (nodes : List Node) (freed buckets : List ℕ) (h : Hull) : Type 0 where
   pub ring : RingOf C L α (leftOf (nodesOf nodes)) (rightOf (nodesOf nodes)) (angleOf (nodesOf nodes)) (edgeOf (nodesOf nodes)) (rowOf buckets) (h .buckets) (sizeOf h)
   -- of the nodes ever in use, those that are not in the ring are on the stack of freed ones
   pub free : Free (On (rightOf (nodesOf nodes)) (sizeOf h) (rowOf buckets 0)) (rowOf freed) (h .freed) (h .nodes)
@@ -29,7 +30,7 @@ pub record Held (C : Counts) (L : Links) (α : ℕ → ℕ) (nodes : List (List 
   pub small : h .nodes < 2 ^ 32
 
 -- What `from_triangulation` leaves: nodes numbered in order, 8 buckets, none freed
-pub record FromBoundary (p : List ℤ) (halves : List ℕ) (cx cy : Float) (start size : ℕ) (nodes : List (List ℕ)) (buckets : List ℕ) (h : Hull) : Type 0 where
+pub record FromBoundary (p : List ℤ) (halves : List ℕ) (cx cy : Float) (start size : ℕ) (nodes : List Node) (buckets : List ℕ) (h : Hull) : Type 0 where
   pub numbered : NodesOfEdges p halves cx cy start size (nodesOf nodes)
   pub filled : Bucketed (rightOf (nodesOf nodes)) (angleOf (nodesOf nodes)) (rowOf buckets) 8 (width 8) 0 size
   pub eight : h .buckets ≡ 8

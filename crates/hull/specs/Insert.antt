@@ -117,7 +117,7 @@ module _ {next α left right angle edge bucket next' α' : ℕ → ℕ} {e m n s
             ap left (sym (sym (iter-last i right s) ∙ ap (λ (j : ℕ). iter j right s) (one (nodeCount next α (m + n) e) u) ∙ H .ring .back)) ∙ H .links i (omega arith)
 
 -- ---- in the rows
-module _ {C : Counts} {L : Links} (W : Wf C L) {α : ℕ → ℕ} {nodes : List (List ℕ)} {freed buckets : List ℕ} {h : Hull} (H : Held C L α nodes freed buckets h)
+module _ {C : Counts} {L : Links} (W : Wf C L) {α : ℕ → ℕ} {nodes : List Node} {freed buckets : List ℕ} {h : Hull} (H : Held C L α nodes freed buckets h)
     {C′ : Counts} {L′ : Links} {α′ : ℕ → ℕ} {e m n l p q r : ℕ} (K : Change C L α C′ L′ α′ e m n l p q r) where
   from-e : (s : ℕ) × HullOf fullTurn (L .next) (edgeAngle L α) (leftOf (nodesOf nodes)) (rightOf (nodesOf nodes)) (angleOf (nodesOf nodes)) (edgeOf (nodesOf nodes)) (rowOf buckets) e (m + n) s (h .buckets) (width (h .buckets))
       × (nodeCount (L .next) (edgeAngle L α) (m + n) e ≡ sizeOf h)
@@ -170,7 +170,7 @@ module _ {C : Counts} {L : Links} (W : Wf C L) {α : ℕ → ℕ} {nodes : List 
       }
 
   -- WHAT IT LEAVES
-  module _ {nodes′ : List (List ℕ)} {freed′ buckets′ : List ℕ} {al qf ar : Float} {r′ : Hull} (ea : turns al ≡ edgeAngle L α e) (eq : turns qf ≡ q) (er : turns ar ≡ edgeAngle L α r)
+  module _ {nodes′ : List Node} {freed′ buckets′ : List ℕ} {al qf ar : Float} {r′ : Hull} (ea : turns al ≡ edgeAngle L α e) (eq : turns qf ≡ q) (er : turns ar ≡ edgeAngle L α r)
       (I : InsertedRows nodes freed buckets nodes′ freed′ buckets′ h al qf ar l p r′) where
     left-is-s : I .left ≡ from-e .0
     left-is-s =
@@ -275,7 +275,7 @@ module _ {C : Counts} {L : Links} (W : Wf C L) {α : ℕ → ℕ} {nodes : List 
         }
 
 -- ---- another number of buckets
-pub adjusted-held : {C : Counts} {L : Links} (W : Wf C L) {α : ℕ → ℕ} {nodes : List (List ℕ)} {freed buckets buckets′ : List ℕ} {h r : Hull} → Held C L α nodes freed buckets h → sizeOf h ≤ 2 ^ 20
+pub adjusted-held : {C : Counts} {L : Links} (W : Wf C L) {α : ℕ → ℕ} {nodes : List Node} {freed buckets buckets′ : List ℕ} {h r : Hull} → Held C L α nodes freed buckets h → sizeOf h ≤ 2 ^ 20
     → Adjusted nodes buckets buckets′ h r → adjustedBuckets (h .buckets) (sizeOf h) ≤ length buckets′ → Held C L α nodes freed buckets′ r
 adjusted-held {C} {L} W {α} {nodes} {freed} {buckets} {buckets′} {h} {r} H most A room =
     let t = nodesOf nodes in
@@ -306,5 +306,5 @@ adjusted-held {C} {L} W {α} {nodes} {freed} {buckets} {buckets′} {h} {r} H mo
     }
 
 -- 01: "max(16, N) buckets": they do for N vertices, since a ring has no more nodes than the mesh has vertices
-pub buckets-fit : {C : Counts} {L : Links} (W : Wf C L) {α : ℕ → ℕ} {nodes : List (List ℕ)} {freed buckets : List ℕ} {h : Hull} → Held C L α nodes freed buckets h → {most : ℕ} → C .vertices ≤ most → h .buckets ≤ most → adjustedBuckets (h .buckets) (sizeOf h) ≤ most
+pub buckets-fit : {C : Counts} {L : Links} (W : Wf C L) {α : ℕ → ℕ} {nodes : List Node} {freed buckets : List ℕ} {h : Hull} → Held C L α nodes freed buckets h → {most : ℕ} → C .vertices ≤ most → h .buckets ≤ most → adjustedBuckets (h .buckets) (sizeOf h) ≤ most
 buckets-fit W {h = h} H {most} v u = adjusted-most (h .buckets) (sizeOf h) most (let a = ring-size W (H .ring) in omega arith) u

@@ -112,7 +112,7 @@ pub fn is_strict(positions: &[i32], halves: &[u32], start: u32, size: u32, cente
 fn build_nodes(
     positions: &[i32],
     halves: &[u32],
-    nodes: &mut [[u64; 4]],
+    nodes: &mut [Node],
     start: u32,
     size: u32,
     center: Point2,
@@ -147,7 +147,7 @@ fn build_nodes(
 pub fn from_triangulation(
     positions: &[i32],
     halves: &[u32],
-    nodes: &mut [[u64; 4]],
+    nodes: &mut [Node],
     buckets: &mut [u32],
     start: u32,
     size: u32,
@@ -169,7 +169,7 @@ pub fn from_triangulation(
 // `insert`: a step has added a vertex at the angle `middle`; its edges `leftedge` and `rightedge` stand for those between the angles `left`
 // and `right`. Then the number of buckets follows that of the nodes.
 pub fn insert(
-    nodes: &mut [[u64; 4]],
+    nodes: &mut [Node],
     freed: &mut [u32],
     buckets: &mut [u32],
     hull: Hull,

@@ -5,3 +5,4 @@ pub mod Runs
 pub mod Seed
 pub mod Texts
 pub mod Lengths
+pub mod Sig

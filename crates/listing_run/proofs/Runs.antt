@@ -6,9 +6,11 @@ use native.Mathlib.Nat.{le-refl}
 use native.Mathlib.Omega.{arith}
 use borrow.Author.Tests.{ltb-false}
 use lib.Dec.{ltb}
+use lib.Ieee.{Float}
 use lib.IntN.{ℤ}
-use lib.ListN.{length, drop, length-drop}
+use lib.ListN.{length, replicate, drop, length-drop}
 use Rattle.dcel.specs.Rows.{linksOf, positionOf, rowOf}
+use Rattle.finish.specs.declared.FinishAnswer.{FinishAnswer}
 use Rattle.finish.specs.declared.Finished.{Finished}
 use Rattle.finish.specs.declared.Totals.{Totals}
 use Rattle.listing_text.specs.Listing.{totalsLine, refusalLine}
@@ -20,10 +22,12 @@ use Rattle.mesh_check.specs.declared.Refusal.{Refusal}
 use Rattle.mesh_check.specs.Check.{pointCount, vertexCount}
 use Rattle.mesh_check.specs.Readable.{Readable}
 use Rattle.mesh_check.specs.ReadableLaws.{readable-rows}
-use Rattle.sweep.specs.Run.{Lent, Outcome, runOf}
+use Rattle.ring_rows.specs.declared.Node.{Node}
+use Rattle.ring_rows.specs.Rows.{zeroNode}
+use Rattle.sweep.specs.Run.{Lent, Outcome, lent, outcome, runOf}
 use Rattle.sweep.specs.RunLaws.{run-accepts, run-start, run-accepted, run-finishes}
 use Rattle.listing_run.specs.ListingRun.{finishedListing, outcomeListing, lentListing, pointLines, totalsOf}
-use Rattle.listing_run.specs.ListingRunRows.{Summable, Listable}
+use Rattle.listing_run.specs.ListingRunRows.{RunLeaves, Summable, Listable}
 
 -- the corners of a good mesh can be read in rows that are long enough
 readable : {C : Counts} (o h a : List ℕ) (P : List ℤ) → Good C (linksOf o h a) (positionOf P) → 2 * C .vertices ≤ length P
@@ -71,3 +75,10 @@ listing-accepted count r e = rw e refl
 
 pub listing-run : (l : Lent) {r : Outcome} {count : ℕ} → r ≡ runOf l → count ≡ pointCount (l .points) → outcomeListing count r ≡ lentListing l
 listing-run l e n = rw (e, n) refl
+
+-- ---- a run with a row of nodes of its own
+pub run-leaves : {C : Counts} {q : List ℤ} {o h a : List ℕ} {nodes : List Node} {freed buckets pending answers : List ℕ} {cx cy : Float} {points : List ℤ}
+    {r : FinishAnswer} {q′ : List ℤ} {o′ h′ a′ : List ℕ} {nodes′ : List Node} {freed′ buckets′ pending′ answers′ : List ℕ}
+    → outcome r q′ o′ h′ a′ nodes′ freed′ buckets′ pending′ answers′ ≡ runOf (lent C q o h a nodes freed buckets pending answers cx cy points) → nodes ≡ replicate 401 zeroNode
+    → RunLeaves (lent C q o h a (replicate 401 zeroNode) freed buckets pending answers cx cy points) r q′ o′ h′ a′ freed′ buckets′ pending′ answers′
+run-leaves {nodes′ = nodes′} e z = record { nodes = nodes′; is = rw (← z) e }

@@ -6,12 +6,13 @@ use native.Mathlib.Nat.{le-refl}
 use native.Mathlib.Omega.{arith}
 use lib.Ieee.{Float, ofInt, binary64}
 use lib.IntN.{ℤ, pos}
-use lib.ListN.{length, getD, take, drop, length-drop}
+use lib.ListN.{length, getD, take, drop, replicate, length-drop}
 use lib.Seq.{sets, take-all}
 use mir.Syntax.{w32}
 use mir.Val.{SFits, toZ, ofZ}
 use mir.Facts.{toZ-ofZ}
 use Rattle.mesh_check.specs.Check.{pointCount}
+use Rattle.ring_rows.specs.Rows.{zeroNode}
 use Rattle.sweep.specs.Run.{Lent, lent}
 use Rattle.listing_run.specs.ListingRun.{seedCounts, seedOuts, seedHalves, seedFaces, lentIn}
 
@@ -23,10 +24,10 @@ module _ (zs : List ℤ) where
   unfolding pointCount
   points-few l m = rw rest-is (let z = length-drop 8 zs in omega arith)
 
-  module _ (p : List ℤ) (o h a : List ℕ) (nodes : List (List ℕ)) (freed buckets pending answers : List ℕ) where
+  module _ (p : List ℤ) (o h a : List ℕ) (freed buckets pending answers : List ℕ) where
     pub seed-lent : {p′ : List ℤ} {o′ h′ a′ : List ℕ} {cx cy : Float} → p′ ≡ sets p 0 (take 6 zs) → o′ ≡ sets o 0 seedOuts → h′ ≡ sets h 0 seedHalves
         → a′ ≡ sets a 0 seedFaces → SFits w32 (getD zs 6 (pos 0)) → SFits w32 (getD zs 7 (pos 0))
         → cx ≡ ofInt binary64 (toZ w32 (ofZ w32 (getD zs 6 (pos 0)))) → cy ≡ ofInt binary64 (toZ w32 (ofZ w32 (getD zs 7 (pos 0))))
-        → lent seedCounts p′ o′ h′ a′ nodes freed buckets pending answers cx cy (take (length zs - 8) (drop 8 zs))
-        ≡ lentIn zs p o h a nodes freed buckets pending answers
+        → lent seedCounts p′ o′ h′ a′ (replicate 401 zeroNode) freed buckets pending answers cx cy (take (length zs - 8) (drop 8 zs))
+        ≡ lentIn zs p o h a freed buckets pending answers
     seed-lent ep eo eh ea fx fy ex ey = rw (ep, eo, eh, ea, ex, ey, toZ-ofZ fx, toZ-ofZ fy, rest-is) refl

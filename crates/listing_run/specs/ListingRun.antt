@@ -7,6 +7,7 @@ use lib.Ieee.{ofInt, binary64}
 use lib.IntN.{ℤ, pos}
 use lib.ListN.{getD, take, drop, replicate}
 use lib.Seq.{sets}
+use Rattle.ring_rows.specs.Rows.{zeroNode}
 use Rattle.dcel.specs.Rows.{linksOf, positionOf, rowOf}
 use Rattle.finish.specs.declared.Finished.{Finished}
 use Rattle.finish.specs.declared.Totals.{Totals}
@@ -43,11 +44,11 @@ unfoldable pub seedFaces : List ℕ
 seedFaces = 1 ∷ 0 ∷ []
 
 -- ---- what is lent for the numbers of a text: x0 y0 x1 y1 x2 y2, the centre's x y, and each point's
--- the seed over the first entries of the mesh's rows
-abbrev pub lentIn : List ℤ → List ℤ → List ℕ → List ℕ → List ℕ → List (List ℕ) → List ℕ → List ℕ → List ℕ → List ℕ → Lent
-lentIn zs positions outs halves faces nodes freed buckets pending answers =
+-- the seed over the first entries of the mesh's rows, and a row of nodes for 400 vertices
+abbrev pub lentIn : List ℤ → List ℤ → List ℕ → List ℕ → List ℕ → List ℕ → List ℕ → List ℕ → List ℕ → Lent
+lentIn zs positions outs halves faces freed buckets pending answers =
     lent seedCounts (sets positions 0 (take 6 zs)) (sets outs 0 seedOuts) (sets halves 0 seedHalves) (sets faces 0 seedFaces)
-    nodes freed buckets pending answers
+    (replicate 401 zeroNode) freed buckets pending answers
     (ofInt binary64 (getD zs 6 (pos 0))) (ofInt binary64 (getD zs 7 (pos 0))) (drop 8 zs)
 
 -- 01: "at most 400 vertices with the seed's; it lends 4,096 pending entries": every row has its size for 400 vertices,
@@ -55,7 +56,7 @@ lentIn zs positions outs halves faces nodes freed buckets pending answers =
 unfoldable pub lentOf : List ℤ → Lent
 lentOf zs =
     lentIn zs (replicate 800 (pos 0)) (replicate 400 0) (replicate 9600 0) (replicate 800 0)
-    (replicate 401 (replicate 4 0)) (replicate 401 0) (replicate 400 0) (replicate 4096 0) (replicate 1985 0)
+    (replicate 401 0) (replicate 400 0) (replicate 4096 0) (replicate 1985 0)
 
 -- ---- what is printed
 -- 01: "one answer (fate, vertex, faces, flips) per point", as a row of answers has it, five words for each

@@ -2,7 +2,7 @@
 ghost use mathlib.Core.Path.{_≡_};
 ghost use mathlib.Core.List.{List, _++_};
 ghost use Prim.Native.Nat.{ℕ, _+_, _*_, _≤_, _<_};
-ghost use lib.ListN.{length, take};
+ghost use lib.ListN.{length, take, replicate};
 ghost use lib.Seq.{sets};
 ghost use Rattle.dcel.specs.Rows.{linksOf, positionOf, rowOf};
 ghost use Rattle.finish.specs.declared.Finished.{Finished};
@@ -11,10 +11,12 @@ ghost use Rattle.listing_text.specs.Decimal.{Appended};
 ghost use Rattle.listing_text.specs.Listing.{pointLine, totalsLine};
 ghost use Rattle.mesh.specs.Area.{areaTotal};
 ghost use Rattle.mesh_check.specs.Check.{pointCount};
+ghost use Rattle.ring_rows.specs.declared.Node.{Node};
+ghost use Rattle.ring_rows.specs.Rows.{zeroNode};
 ghost use Rattle.sweep.specs.Run.{lent, outcome};
 ghost use Rattle.listing_run.specs.ListingRun.{seedOuts, seedHalves, seedFaces, lentIn};
 ghost use Rattle.listing_run.specs.ListingRun.{answerLine, pointLines, totalsOf, outcomeListing, lentListing, numbersListing, listingOf};
-ghost use Rattle.listing_run.specs.ListingRunRows.{Summable, Listable};
+ghost use Rattle.listing_run.specs.ListingRunRows.{RunLeaves, Summable, Listable};
 use angle::Point2;
 use finish::FinishAnswer;
 use finish::Finished;
@@ -24,6 +26,7 @@ use listing_text::reading::Input;
 use listing_text::writing::PointLine;
 use listing_text::writing::TotalsLine;
 use mesh::Counts;
+use ring_rows::Node;
 
 // The values over the first entries of a row.
 fn store(row: &mut [u32], values: &[u32])
@@ -160,11 +163,11 @@ fn list_answer(
 ) -> usize
     requires { ⌜ ((t : Totals) → answer .finished ≡ Finished.Accepted t
         → Listable (answer .counts) (now positions) (now halves) (now faces) (now answers) count) ⌝ }
-    ensures is { λ r. ⌜ ((o : List ℕ) (nodes : List (List ℕ)) (freed buckets pending : List ℕ) → Appended (now (row .entry)) 0
+    ensures is { λ r. ⌜ ((o : List ℕ) (nodes : List Node) (freed buckets pending : List ℕ) → Appended (now (row .entry)) 0
         (outcomeListing count (outcome answer (now (positions .entry)) o (now (halves .entry)) (now (faces .entry))
         nodes freed buckets pending (now (answers .entry))))
         (now (row .exit)) r) ⌝ }
-    ensures short { λ r. ⌜ ((o : List ℕ) (nodes : List (List ℕ)) (freed buckets pending : List ℕ) → length
+    ensures short { λ r. ⌜ ((o : List ℕ) (nodes : List Node) (freed buckets pending : List ℕ) → length
         (outcomeListing count (outcome answer (now (positions .entry)) o (now (halves .entry)) (now (faces .entry))
         nodes freed buckets pending (now (answers .entry)))) ≤ 126 * count + 187) ⌝ }
 {
@@ -192,6 +195,57 @@ fn list_answer(
     }
 }
 
+// A row of nodes for 400 vertices.
+fn zero_nodes() -> [Node; 401]
+    ensures { λ r. ⌜ r ≡ replicate 401 zeroNode ⌝ }
+{
+    let zero = Node {
+        angle: 0.0,
+        edge: 0,
+        left: 0,
+        right: 0,
+    };
+    [zero; 401]
+}
+
+// A run on what is lent, with a row of nodes of its own.
+fn run_lent(
+    counts: Counts,
+    positions: &mut [i32],
+    outs: &mut [u32],
+    halves: &mut [u32],
+    faces: &mut [u32],
+    freed: &mut [u32],
+    buckets: &mut [u32],
+    pending: &mut [u32],
+    answers: &mut [u64],
+    center: Point2,
+    points: &[i32],
+) -> FinishAnswer
+    ensures { λ r. ⌜ RunLeaves
+        (lent counts (now (positions .entry)) (now (outs .entry)) (now (halves .entry)) (now (faces .entry))
+        (replicate 401 zeroNode) (now (freed .entry)) (now (buckets .entry)) (now (pending .entry)) (now (answers .entry))
+        (center .x) (center .y) (now (points .entry)))
+        r (now (positions .exit)) (now (outs .exit)) (now (halves .exit)) (now (faces .exit))
+        (now (freed .exit)) (now (buckets .exit)) (now (pending .exit)) (now (answers .exit)) ⌝ }
+{
+    let mut nodes = zero_nodes();
+    run::run(
+        counts,
+        positions,
+        outs,
+        halves,
+        faces,
+        &mut nodes,
+        freed,
+        buckets,
+        pending,
+        answers,
+        center,
+        points,
+    )
+}
+
 // A run on what is lent, and its listing.
 fn list_lent(
     counts: Counts,
@@ -199,7 +253,6 @@ fn list_lent(
     outs: &mut [u32],
     halves: &mut [u32],
     faces: &mut [u32],
-    nodes: &mut [[u64; 4]],
     freed: &mut [u32],
     buckets: &mut [u32],
     pending: &mut [u32],
@@ -211,22 +264,21 @@ fn list_lent(
     requires { ⌜ counts .vertices + pointCount (now points) ≤ 400 ⌝ }
     ensures is { λ r. ⌜ Appended (now (row .entry)) 0
         (lentListing (lent counts (now (positions .entry)) (now (outs .entry)) (now (halves .entry)) (now (faces .entry))
-        (now (nodes .entry)) (now (freed .entry)) (now (buckets .entry)) (now (pending .entry)) (now (answers .entry))
+        (replicate 401 zeroNode) (now (freed .entry)) (now (buckets .entry)) (now (pending .entry)) (now (answers .entry))
         (center .x) (center .y) (now (points .entry))))
         (now (row .exit)) r ⌝ }
     ensures short { λ r. ⌜ length
         (lentListing (lent counts (now (positions .entry)) (now (outs .entry)) (now (halves .entry)) (now (faces .entry))
-        (now (nodes .entry)) (now (freed .entry)) (now (buckets .entry)) (now (pending .entry)) (now (answers .entry))
+        (replicate 401 zeroNode) (now (freed .entry)) (now (buckets .entry)) (now (pending .entry)) (now (answers .entry))
         (center .x) (center .y) (now (points .entry)))) ≤ 50587 ⌝ }
 {
     let count = mesh_check::point_count(points);
-    let answer = run::run(
+    let answer = run_lent(
         counts,
         positions,
         outs,
         halves,
         faces,
-        nodes,
         freed,
         buckets,
         pending,
@@ -293,7 +345,6 @@ fn list_seed(
     outs: &mut [u32],
     halves: &mut [u32],
     faces: &mut [u32],
-    nodes: &mut [[u64; 4]],
     freed: &mut [u32],
     buckets: &mut [u32],
     pending: &mut [u32],
@@ -304,11 +355,11 @@ fn list_seed(
     requires { ⌜ (6 ≤ length (now positions)) × (3 ≤ length (now outs)) × (24 ≤ length (now halves)) × (2 ≤ length (now faces)) ⌝ }
     ensures is { λ r. ⌜ Appended (now (row .entry)) 0
         (lentListing (lentIn (now (numbers .entry)) (now (positions .entry)) (now (outs .entry)) (now (halves .entry)) (now (faces .entry))
-        (now (nodes .entry)) (now (freed .entry)) (now (buckets .entry)) (now (pending .entry)) (now (answers .entry))))
+        (now (freed .entry)) (now (buckets .entry)) (now (pending .entry)) (now (answers .entry))))
         (now (row .exit)) r ⌝ }
     ensures short { λ r. ⌜ length
         (lentListing (lentIn (now (numbers .entry)) (now (positions .entry)) (now (outs .entry)) (now (halves .entry)) (now (faces .entry))
-        (now (nodes .entry)) (now (freed .entry)) (now (buckets .entry)) (now (pending .entry)) (now (answers .entry)))) ≤ 50587 ⌝ }
+        (now (freed .entry)) (now (buckets .entry)) (now (pending .entry)) (now (answers .entry)))) ≤ 50587 ⌝ }
 {
     store_seed(numbers, positions, outs, halves, faces);
     let center = angle::to_f64(numbers[6], numbers[7]);
@@ -323,7 +374,6 @@ fn list_seed(
         outs,
         halves,
         faces,
-        nodes,
         freed,
         buckets,
         pending,
@@ -344,7 +394,6 @@ fn list_numbers(numbers: &[i32], row: &mut [u8]) -> usize
     let mut outs = [0u32; 400];
     let mut halves = [0u32; 9600];
     let mut faces = [0u32; 800];
-    let mut nodes = [[0u64; 4]; 401];
     let mut freed = [0u32; 401];
     let mut buckets = [0u32; 400];
     let mut pending = [0u32; 4096];
@@ -355,7 +404,6 @@ fn list_numbers(numbers: &[i32], row: &mut [u8]) -> usize
         &mut outs,
         &mut halves,
         &mut faces,
-        &mut nodes,
         &mut freed,
         &mut buckets,
         &mut pending,

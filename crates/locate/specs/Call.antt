@@ -8,6 +8,8 @@ use lib.Dec.{T}
 use lib.Ieee.{Float}
 use lib.IntN.{ℤ}
 use lib.ListN.{length, replicate}
+use Rattle.ring_rows.specs.Rows.{zeroNode}
+use Rattle.ring_rows.specs.declared.Node.{Node}
 use Rattle.angle.specs.Angle.{validAngle, turns}
 use Rattle.dcel.specs.Rows.{rowOf, linksOf, positionOf}
 use Rattle.hull.specs.Boundary.{ToBuild, AngledBoundary}
@@ -77,7 +79,7 @@ module _ (C : Counts) (p : List ℤ) (o h a : List ℕ) (cx cy x : Float) (nodes
     angle = locate-angle;
   }
 
-module _ (C : Counts) (p : List ℤ) (o h a : List ℕ) (nodes : List (List ℕ)) (freed buckets : List ℕ) (cx cy x : Float) {short : Bool}
+module _ (C : Counts) (p : List ℤ) (o h a : List ℕ) (nodes : List Node) (freed buckets : List ℕ) (cx cy x : Float) {short : Bool}
     (s : short ≡ ringRowsShort (C .vertices) (length nodes) (length freed) (length buckets)) where
   pub locate-refused : {r : Refusal} → andThen (checkStart [] short C p o h a cx cy) (checkAngle x) ≡ Refused r
       → _≡_ {A = Outcome} (record { answer = Located.Refused r; nodes = nodes; freed = freed; buckets = buckets }) (locateOf C p o h a nodes freed buckets cx cy x)
@@ -89,12 +91,12 @@ module _ (C : Counts) (p : List ℤ) (o h a : List ℕ) (nodes : List (List ℕ)
   -- the rows are cleared as they were left
   pub locate-found : andThen (checkStart [] short C p o h a cx cy) (checkAngle x) ≡ Accepted → {start size : ℕ} → start ≡ rowOf a 0 → size ≡ 2 * C .edges - 3 * (C .faces - 1)
       → {r : Place} → PlaceOnBoundary p h cx cy start size x r
-      → {n n′ : List (List ℕ)} {f f′ b b′ : List ℕ} → RingCleared n n′ f f′ b b′ → length n ≡ length nodes → length f ≡ length freed → length b ≡ length buckets
+      → {n n′ : List Node} {f f′ b b′ : List ℕ} → RingCleared n n′ f f′ b b′ → length n ≡ length nodes → length f ≡ length freed → length b ≡ length buckets
       → _≡_ {A = Outcome} (record { answer = Found r; nodes = n′; freed = f′; buckets = b′ }) (locateOf C p o h a nodes freed buckets cx cy x)
   unfolding locateOf outcomeOf
   locate-found e t z {r} P {n} {n′} {f} {f′} {b} {b′} K u v w =
       let q = P C o a (accepted-boundary (locate-start C p o h a cx cy x (length nodes) (length freed) (length buckets) s e) t z) in
-      let i = K .nodes-zero ∙ ap (λ (k : ℕ). replicate k (replicate 4 0)) u in
+      let i = K .nodes-zero ∙ ap (λ (k : ℕ). replicate k zeroNode) u in
       let j = K .freed-zero ∙ ap (λ (k : ℕ). replicate k 0) v in
       let k = K .buckets-zero ∙ ap (λ (k : ℕ). replicate k 0) w in
       let m : _≡_ {A = Outcome} (record { answer = Found r; nodes = n′; freed = f′; buckets = b′ }) (outcomeOf Accepted (placeAt C (linksOf o h a) (turnsAbout cx cy (positionOf p)) (turns x)) nodes freed buckets) =

@@ -9,6 +9,7 @@ use lib.Dec.{T}
 use lib.Ieee.{Float, binary64, fits}
 use lib.IntN.{ℤ}
 use lib.ListN.{length}
+use Rattle.ring_rows.specs.declared.Node.{Node}
 use Rattle.angle.specs.Angle.{IsAngle, angleAbout, turns, validAngle}
 use Rattle.dcel.specs.Rows.{linksOf, positionOf}
 use Rattle.math.specs.declared.Point.{Point}
@@ -90,7 +91,7 @@ module _ {points : List ℤ} {C : Counts} {p : List ℤ} {o h a : List ℕ} {cx 
       }
 
 -- AN ACCEPTED CALL; every f64 is a binary64 number
-pub located-edge : (C : Counts) (p : List ℤ) (o h a : List ℕ) (nodes : List (List ℕ)) (freed buckets : List ℕ) (cx cy x : Float) → T (fits binary64 cx) → T (fits binary64 cy)
+pub located-edge : (C : Counts) (p : List ℤ) (o h a : List ℕ) (nodes : List Node) (freed buckets : List ℕ) (cx cy x : Float) → T (fits binary64 cx) → T (fits binary64 cy)
     → {r : Place} → locateOf C p o h a nodes freed buckets cx cy x .answer ≡ Found r → EdgeAtAngle C (linksOf o h a) (positionOf p) cx cy x (r .edge)
 unfolding locateOf outcomeOf placeAt
 located-edge C p o h a nodes freed buckets cx cy x fx fy {r} e =

@@ -7,6 +7,8 @@ use lib.Dec.{ltb}
 use lib.Ieee.{Float}
 use lib.IntN.{ℤ}
 use lib.ListN.{length, replicate}
+use Rattle.ring_rows.specs.Rows.{zeroNode}
+use Rattle.ring_rows.specs.declared.Node.{Node}
 use Rattle.angle.specs.Angle.{turns, validAngle}
 use Rattle.dcel.specs.Rows.{linksOf, positionOf}
 use Rattle.math.specs.declared.Point.{Point}
@@ -51,24 +53,24 @@ unfoldable pub placeAt : Counts → Links → (ℕ → ℕ) → ℕ → Place
 placeAt C L α x = record { edge = located C L α x; passed = passedCount fullTurn x (boundaryAngles C L α) }
 
 -- ---- the call
--- the answer, and the ring's rows at the end. A node's entry is four numbers
+-- the answer, and the ring's rows at the end
 pub record Outcome : Type 0 where
   pub answer : Located
-  pub nodes : List (List ℕ)
+  pub nodes : List Node
   pub freed : List ℕ
   pub buckets : List ℕ
 
 -- 01: "All but 9 change nothing lent and answer the number and a place"; "after every accepted call the ring, freed, bucket and pending rows hold zeros"
-unfoldable pub outcomeOf : Checked → Place → List (List ℕ) → List ℕ → List ℕ → Outcome
+unfoldable pub outcomeOf : Checked → Place → List Node → List ℕ → List ℕ → Outcome
 outcomeOf (Refused r) place nodes freed buckets = record { answer = Located.Refused r; nodes = nodes; freed = freed; buckets = buckets }
 outcomeOf Accepted place nodes freed buckets = record {
   answer = Found place;
-  nodes = replicate (length nodes) (replicate 4 0);
+  nodes = replicate (length nodes) zeroNode;
   freed = replicate (length freed) 0;
   buckets = replicate (length buckets) 0;
 }
 
-unfoldable pub locateOf : Counts → List ℤ → List ℕ → List ℕ → List ℕ → List (List ℕ) → List ℕ → List ℕ → Float → Float → Float → Outcome
+unfoldable pub locateOf : Counts → List ℤ → List ℕ → List ℕ → List ℕ → List Node → List ℕ → List ℕ → Float → Float → Float → Outcome
 locateOf C positions outs halves faces nodes freed buckets cx cy a =
     let L = linksOf outs halves faces in
     let short = ringRowsShort (C .vertices) (length nodes) (length freed) (length buckets) in

@@ -17,6 +17,7 @@ use Rattle.hull.specs.Find.{held-rows, got-located, got-passed}
 use Rattle.hull.specs.Held.{Held, FromBoundary}
 use Rattle.mesh.specs.declared.Counts.{Counts}
 use Rattle.ring.specs.Center.{turnsAbout}
+use Rattle.ring_rows.specs.declared.Node.{Node}
 use Rattle.ring_rows.specs.declared.Found.{Found}
 use Rattle.ring_rows.specs.declared.Hull.{Hull}
 use Rattle.ring_rows.specs.Rows.{nodesOf, sizeOf, RingRows, Got}
@@ -25,7 +26,7 @@ use Rattle.segment.specs.Laws.{bucket-pos}
 use Rattle.locate.specs.Locate.{placeAt}
 use Rattle.locate.specs.Rows.{BoundaryOf, ToAsk, PlaceOnBoundary}
 
-module _ {p : List ℤ} {h : List ℕ} {cx cy : Float} {start size n b : ℕ} (B : ToBuild p h cx cy start size n b) {nodes : List (List ℕ)} {buckets : List ℕ} {r : Hull}
+module _ {p : List ℤ} {h : List ℕ} {cx cy : Float} {start size n b : ℕ} (B : ToBuild p h cx cy start size n b) {nodes : List Node} {buckets : List ℕ} {r : Hull}
     (F : FromBoundary p h cx cy start size nodes buckets r) (u : length nodes ≡ n) (v : length buckets ≡ b) where
   -- the rows hold the ring of each mesh with this boundary; no node is freed
   pub asked-held : {C : Counts} (o a : List ℕ) → BoundaryOf C o h a start size → Held C (linksOf o h a) (turnsAbout cx cy (positionOf p)) nodes (replicate size 0) buckets r
@@ -41,6 +42,6 @@ module _ {p : List ℤ} {h : List ℕ} {cx cy : Float} {start size n b : ℕ} (B
       ap₂ (λ (e k : ℕ). record { edge = e; passed = k }) (got-located H (mod-lt (turns x / width (r .buckets)) (bucket-pos (r .buckets) (H .counted))) G (E .rules)) (got-passed H (E .rules) (F .eight) (valid-small x t) G)
 
 -- what `get` asks
-pub asked-rows : {p : List ℤ} {h : List ℕ} {cx cy : Float} {start size n b : ℕ} {x : Float} → ToAsk p h cx cy start size n b x → {nodes : List (List ℕ)} {buckets : List ℕ} {r : Hull}
+pub asked-rows : {p : List ℤ} {h : List ℕ} {cx cy : Float} {start size n b : ℕ} {x : Float} → ToAsk p h cx cy start size n b x → {nodes : List Node} {buckets : List ℕ} {r : Hull}
     → FromBoundary p h cx cy start size nodes buckets r → length nodes ≡ n → length buckets ≡ b → RingRows nodes buckets r × T (validAngle x)
 asked-rows A F u v = (held-rows (asked-held (A .build) F u v (A .outs) (A .faces) (A .boundary)), A .angle)

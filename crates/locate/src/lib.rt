@@ -11,6 +11,7 @@ use angle::Point2;
 use mesh::Counts;
 use mesh_check::Checked;
 use mesh_check::Refusal;
+use ring_rows::Node;
 
 // A boundary edge, and how many nodes of the ring were passed after the first on the way to it.
 pub struct Place {
@@ -128,7 +129,7 @@ fn check_locate(
 fn place_at(
     positions: &[i32],
     halves: &[u32],
-    nodes: &mut [[u64; 4]],
+    nodes: &mut [Node],
     buckets: &mut [u32],
     start: u32,
     size: u32,
@@ -147,7 +148,7 @@ fn place_at(
 }
 
 // The ring's rows to zeros, each over its whole length.
-pub fn clear_ring(nodes: &mut [[u64; 4]], freed: &mut [u32], buckets: &mut [u32])
+pub fn clear_ring(nodes: &mut [Node], freed: &mut [u32], buckets: &mut [u32])
     ensures { λ r. ⌜ RingCleared (now (nodes .entry)) (now (nodes .exit)) (now (freed .entry)) (now (freed .exit))
         (now (buckets .entry)) (now (buckets .exit)) ⌝ }
 {
@@ -163,7 +164,7 @@ pub fn locate(
     outs: &[u32],
     halves: &[u32],
     faces: &[u32],
-    nodes: &mut [[u64; 4]],
+    nodes: &mut [Node],
     freed: &mut [u32],
     buckets: &mut [u32],
     center: Point2,

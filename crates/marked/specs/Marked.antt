@@ -53,6 +53,7 @@ use Rattle.sums.specs.Iterate.{reaches, joined, period-below}
 use Rattle.sums.specs.Put.{put}
 use Rattle.sums.specs.Until.{when, until}
 use Rattle.flip_count.specs.FlipCount.{flipCountOf, flipCountFrom}
+use Rattle.ring_rows.specs.declared.Node.{Node}
 use Rattle.sums.specs.Sum as sums
 use Rattle.sums.specs.Tally as tallies
 use Rattle.angle.specs.Angle as angle
@@ -63,12 +64,15 @@ use Rattle.locate.specs.Locate as locate
 abbrev triangle : List ℕ
 triangle = 2 ∷ 4 ∷ 1 ∷ 0 ∷ 5 ∷ 3 ∷ 0 ∷ 1 ∷ 4 ∷ 0 ∷ 1 ∷ 1 ∷ 1 ∷ 5 ∷ 0 ∷ 2 ∷ 0 ∷ 2 ∷ 1 ∷ 2 ∷ 3 ∷ 1 ∷ 0 ∷ 0 ∷ []
 
+abbrev sevens : Node
+sevens = record { angle = fin false 7 (pos 0); edge = 7; left = 7; right = 7 }
+
 -- a seed of so many vertices in rows for n points, with zeros past it; the other rows are lent full of sevens
 abbrev seeded : ℕ → ℕ → List ℤ → Float → Float → List ℤ → Lent
 seeded vertices n seed cx cy points =
     lent (record { vertices = vertices; edges = 3; faces = 2 }) (seed ++ replicate (2 * n) (pos 0)) ((0 ∷ 2 ∷ 4 ∷ []) ++ replicate n 0)
     (triangle ++ replicate (48 + 24 * n) 0) ((1 ∷ 0 ∷ 0 ∷ 0 ∷ 0 ∷ 0 ∷ []) ++ replicate (2 * n) 0)
-    (replicate (n + 4) (replicate 4 7)) (replicate (n + 4) 7) (replicate 16 7) (replicate 8 7) (replicate (5 * n) 7) cx cy points
+    (replicate (n + 4) sevens) (replicate (n + 4) 7) (replicate 16 7) (replicate 8 7) (replicate (5 * n) 7) cx cy points
 
 -- `S 0 0 4 0 0 4`
 abbrev seed : List ℤ

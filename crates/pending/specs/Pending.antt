@@ -17,6 +17,10 @@ unfoldable pub contains : ℕ → List ℕ → Bool
 contains u [] = false
 contains u (v ∷ l) = eqb u v || contains u l
 
+-- u is one of four
+unfoldable pub oneOf : ℕ → ℕ → ℕ → ℕ → ℕ → Bool
+oneOf u a b c d = eqb u a || (eqb u b || (eqb u c || eqb u d))
+
 -- `push_if_not_contained`
 unfoldable pub pushIfNotContained : ℕ → List ℕ → List ℕ
 pushIfNotContained u l = cond (contains u l) l (u ∷ l)

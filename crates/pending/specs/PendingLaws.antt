@@ -1,5 +1,6 @@
 -- The pending list: its length, what a store past its end leaves alone, and what a push does to a row that holds it. Assumes nothing.
-use mathlib.Core.Bool.{Bool, true, false}
+use mathlib.Core.Bool.{Bool, true, false, _||_}
+use lib.Dec.{eqb}
 use mathlib.Core.List.{List, _∷_}
 use mathlib.Core.Path.{_≡_, refl, sym, _∙_, ap, ap₂}
 use Prim.Native.Nat.{ℕ, zero, suc, _+_, _-_, _≤_, _<_}
@@ -9,7 +10,7 @@ use native.Mathlib.Omega.{arith}
 use lib.ListN.{length, getD, set, length-set}
 use lib.Seq.{getD-set-same, getD-set-other}
 use borrow.Author.Tests.{eq-eqb, ne-eqb}
-use Rattle.pending.specs.Pending.{pendingOf, contains, pushIfNotContained, Holds}
+use Rattle.pending.specs.Pending.{pendingOf, contains, oneOf, pushIfNotContained, Holds}
 
 -- ---- rows
 pub pending-length : (row : List ℕ) (n : ℕ) → length (pendingOf row n) ≡ n
@@ -102,3 +103,56 @@ pub contains-not-here : (x n : ℕ) (row : List ℕ) → 0 < n → (x ≡ getD r
     → contains x (pendingOf row n) ≡ contains x (pendingOf row (n - 1))
 unfolding contains
 contains-not-here x n row l e = rw (pending-last row n l, ne-eqb x (getD row (n - 1) 0) e) refl
+
+-- ---- four entries at a time
+pub contains-four : (row : List ℕ) (i x : ℕ) → 4 ≤ i
+    → contains x (pendingOf row i)
+    ≡ (oneOf x (getD row (i - 1) 0) (getD row (i - 2) 0) (getD row (i - 3) 0) (getD row (i - 4) 0) || contains x (pendingOf row (i - 4)))
+unfolding pendingOf contains oneOf
+contains-four row zero x l = absurd (omega arith)
+contains-four row (suc zero) x l = absurd (omega arith)
+contains-four row (suc (suc zero)) x l = absurd (omega arith)
+contains-four row (suc (suc (suc zero))) x l = absurd (omega arith)
+contains-four row (suc (suc (suc (suc i)))) x l =
+    let a : suc (suc (suc (suc i))) - 1 ≡ suc (suc (suc i)) = omega arith in
+    let b : suc (suc (suc (suc i))) - 2 ≡ suc (suc i) = omega arith in
+    let c : suc (suc (suc (suc i))) - 3 ≡ suc i = omega arith in
+    let d : suc (suc (suc (suc i))) - 4 ≡ i = omega arith in
+    rw (a, b, c, d)
+    (four (eqb x (getD row (suc (suc (suc i))) 0)) (eqb x (getD row (suc (suc i)) 0)) (eqb x (getD row (suc i) 0)) (eqb x (getD row i 0)) (contains x (pendingOf row i)))
+  where
+    four : (a b c d e : Bool) → (a || (b || (c || (d || e)))) ≡ ((a || (b || (c || d))) || e)
+    four true b c d e = refl
+    four false true c d e = refl
+    four false false true d e = refl
+    four false false false d e = refl
+
+module _ (row : List ℕ) (i x : ℕ) (l : 4 ≤ i) where
+  abbrev oneOfFour : Bool
+  oneOfFour = oneOf x (getD row (i - 1) 0) (getD row (i - 2) 0) (getD row (i - 3) 0) (getD row (i - 4) 0)
+
+  pub four-found : oneOfFour ≡ true → contains x (pendingOf row i) ≡ true
+  four-found e = contains-four row i x l ∙ ap (λ (b : Bool). b || contains x (pendingOf row (i - 4))) e
+
+  pub four-not-found : oneOfFour ≡ false → contains x (pendingOf row i) ≡ contains x (pendingOf row (i - 4))
+  four-not-found e = contains-four row i x l ∙ ap (λ (b : Bool). b || contains x (pendingOf row (i - 4))) e
+
+-- the tests of the four, one after the other
+module _ (x a b c d : ℕ) where
+  pub one-first : x ≡ a → true ≡ oneOf x a b c d
+  unfolding oneOf
+  one-first e = sym (rw (eq-eqb x a e) refl)
+
+  module _ (na : x ≡ a → ⊥) where
+    pub one-second : x ≡ b → true ≡ oneOf x a b c d
+    unfolding oneOf
+    one-second e = sym (rw (ne-eqb x a na, eq-eqb x b e) refl)
+
+    module _ (nb : x ≡ b → ⊥) where
+      pub one-third : x ≡ c → true ≡ oneOf x a b c d
+      unfolding oneOf
+      one-third e = sym (rw (ne-eqb x a na, ne-eqb x b nb, eq-eqb x c e) refl)
+
+      pub one-fourth : (x ≡ c → ⊥) → eqb x d ≡ oneOf x a b c d
+      unfolding oneOf
+      one-fourth nc = sym (rw (ne-eqb x a na, ne-eqb x b nb, ne-eqb x c nc) refl)

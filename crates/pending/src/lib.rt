@@ -4,7 +4,7 @@ ghost use mathlib.Core.Path.{_≡_};
 ghost use mathlib.Core.List.{List, _∷_};
 ghost use Prim.Native.Nat.{ℕ, _-_, _<_, _≤_};
 ghost use lib.ListN.{length};
-ghost use Rattle.pending.specs.Pending.{pendingOf, contains, pushIfNotContained, Holds};
+ghost use Rattle.pending.specs.Pending.{pendingOf, contains, oneOf, pushIfNotContained, Holds};
 
 // The last of n entries.
 pub fn last(pending: &[u32], n: usize) -> u32
@@ -14,8 +14,24 @@ pub fn last(pending: &[u32], n: usize) -> u32
     pending[n - 1]
 }
 
-// Whether x is among n entries.
-pub fn contains(pending: &[u32], n: usize, x: u32) -> bool
+// Whether x is one of four.
+fn is_one_of(x: u32, a: u32, b: u32, c: u32, d: u32) -> bool
+    ensures { λ r. ⌜ r ≡ oneOf x a b c d ⌝ }
+{
+    if x == a {
+        return true;
+    }
+    if x == b {
+        return true;
+    }
+    if x == c {
+        return true;
+    }
+    x == d
+}
+
+// Whether x is among n entries, one by one.
+fn contains_few(pending: &[u32], n: usize, x: u32) -> bool
     requires { ⌜ n ≤ length (now pending) ⌝ }
     ensures { λ r. ⌜ r ≡ contains x (pendingOf (now (pending .entry)) n) ⌝ }
 {
@@ -27,6 +43,25 @@ pub fn contains(pending: &[u32], n: usize, x: u32) -> bool
         i -= 1;
     }
     false
+}
+
+// Whether x is among n entries: four at a time, so that one branch does for four.
+pub fn contains(pending: &[u32], n: usize, x: u32) -> bool
+    requires { ⌜ n ≤ length (now pending) ⌝ }
+    ensures { λ r. ⌜ r ≡ contains x (pendingOf (now (pending .entry)) n) ⌝ }
+{
+    let mut i = n;
+    while i >= 4 {
+        let a = pending[i - 1];
+        let b = pending[i - 2];
+        let c = pending[i - 3];
+        let d = pending[i - 4];
+        if is_one_of(x, a, b, c, d) {
+            return true;
+        }
+        i -= 4;
+    }
+    contains_few(pending, i, x)
 }
 
 // The new length, which is past the row's end where the list with x no longer fits it.

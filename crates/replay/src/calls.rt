@@ -1,10 +1,12 @@
 // The lines that the cases of several calls share.
+ghost use mathlib.Core.Path.{_≡_};
 ghost use Prim.Native.Nat.{_≤_};
+ghost use lib.ListN.{length};
 use angle::Point2;
-use decide::Fate;
 use finish::Finished;
 use math::Point;
 use mesh::Counts;
+use ring_rows::Node;
 use test_mesh::Agreed;
 use test_mesh::COORDINATES;
 use test_mesh::Coordinates;
@@ -171,15 +173,44 @@ pub fn compare_mesh(text: &[u8], lent: usize, told: usize, mesh: Mesh) -> Agreed
     }
 }
 
+// A row of nodes that is lent with 7 in every field.
+pub fn seven_nodes() -> [Node; NODES]
+    ensures { λ r. ⌜ length r ≡ 256 ⌝ }
+{
+    let seven = Node {
+        angle: 7.0,
+        edge: 7,
+        left: 7,
+        right: 7,
+    };
+    [seven; NODES]
+}
+
+fn node_holds(node: Node, v: u32) -> bool {
+    (node.angle == v as f64) & (node.edge == v) & (node.left == v) & (node.right == v)
+}
+
+// Whether every field of each of the first n nodes is v.
+fn nodes_hold(row: [Node; NODES], n: usize, v: u32) -> bool {
+    let mut i: usize = 0;
+    while i < NODES {
+        if (i < n) & !node_holds(row[i], v) {
+            return false;
+        }
+        i += 1;
+    }
+    n <= NODES
+}
+
 // Whether the ring's rows hold v in every entry.
 pub fn ring_holds(
     ring: Ring,
-    nodes: [[u64; 4]; NODES],
+    nodes: [Node; NODES],
     freed: [u32; WORDS],
     buckets: [u32; WORDS],
     v: u32,
 ) -> bool {
-    test_mesh::nodes_hold(nodes, ring.nodes, v as u64)
+    nodes_hold(nodes, ring.nodes, v)
         & test_mesh::holds(freed, ring.freed, v)
         & test_mesh::holds(buckets, ring.buckets, v)
 }
@@ -200,24 +231,5 @@ pub fn numbers_of(finished: Finished) -> [u64; 5] {
             t.convexflips.low,
             t.closingflips.low,
         ],
-    }
-}
-
-// 01's numbers of the fates.
-pub fn fate_number(fate: Fate) -> u64 {
-    match fate {
-        Fate::Added(_) => 1,
-        Fate::Dropped => 2,
-        Fate::NotLeft => 3,
-        Fate::Unsound => 4,
-        Fate::AtCenter => 5,
-    }
-}
-
-// The new vertex, 0 where there is none.
-pub fn fate_vertex(fate: Fate) -> u64 {
-    match fate {
-        Fate::Added(v) => v as u64,
-        _ => 0,
     }
 }

@@ -8,7 +8,6 @@ use super::calls::Ring;
 use angle::Point2;
 use locate::Located;
 use test_mesh::Mesh;
-use test_mesh::NODES;
 use test_mesh::WORDS;
 
 // The numbers of an answer; edge and passed are 0 where the call is refused.
@@ -33,7 +32,7 @@ fn locate_on(mesh: Mesh, ring: Ring, center: Point2, angle: u64) -> [u64; 5]
     let outs = mesh.outs.row;
     let halves = mesh.halves.row;
     let faces = mesh.faces.row;
-    let mut nodes = [[7u64; 4]; NODES];
+    let mut nodes = calls::seven_nodes();
     let mut freed = [7u32; WORDS];
     let mut buckets = [7u32; WORDS];
     let positions_length = mesh.positions.length;

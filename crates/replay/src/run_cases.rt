@@ -13,7 +13,6 @@ use test_mesh::CoordinatesLine;
 use test_mesh::LONGS;
 use test_mesh::Longs;
 use test_mesh::Mesh;
-use test_mesh::NODES;
 use test_mesh::WORDS;
 
 // What a run has answered and left; whether the ring's rows and pending hold what they must.
@@ -49,7 +48,7 @@ pub fn run_on(
     let mut outs = mesh.outs.row;
     let mut halves = mesh.halves.row;
     let mut faces = mesh.faces.row;
-    let mut nodes = [[7u64; 4]; NODES];
+    let mut nodes = calls::seven_nodes();
     let mut freed = [7u32; WORDS];
     let mut buckets = [7u32; WORDS];
     let mut pending = [7u32; WORDS];

@@ -11,7 +11,6 @@ use sweep::Answer;
 use sweep::StepAnswer;
 use sweep::Stepped;
 use test_mesh::Mesh;
-use test_mesh::NODES;
 use test_mesh::WORDS;
 
 // What a step has answered and left; whether the ring's rows and pending hold what they must.
@@ -28,8 +27,8 @@ fn accepted(a: Answer) -> [u64; 6] {
     [
         if flips.high == 0 { 0 } else { 99 },
         0,
-        calls::fate_number(fate),
-        calls::fate_vertex(fate),
+        decide::fate_number(fate),
+        decide::fate_vertex(fate),
         a.faces as u64,
         flips.low,
     ]
@@ -64,7 +63,7 @@ fn step_on(
     let mut outs = mesh.outs.row;
     let mut halves = mesh.halves.row;
     let mut faces = mesh.faces.row;
-    let mut nodes = [[7u64; 4]; NODES];
+    let mut nodes = calls::seven_nodes();
     let mut freed = [7u32; WORDS];
     let mut buckets = [7u32; WORDS];
     let mut pending = [7u32; WORDS];

@@ -21,11 +21,11 @@ use Rattle.ring.specs.Resize.{adjustedBuckets, adjusted-buckets}
 use Rattle.ring.specs.WholeInsert.{Names}
 use Rattle.ring_rows.specs.declared.Node.{Node}
 use Rattle.ring_rows.specs.declared.Hull.{Hull}
-use Rattle.ring_rows.specs.Rows.{nodesOf, angleOf, rightOf, sizeOf, Readable, Updated, ToFill}
-use Rattle.ring_rows.specs.Laws.{readable, walk-below}
+use Rattle.ring_rows.specs.Rows.{nodesOf, angleOf, rightOf, sizeOf, Updated, ToFill}
+use Rattle.ring_rows.specs.Laws.{walk-below}
 use Rattle.ring_insert.specs.Insert.{ToRelease, ReleasedTo, Rebuckets, ToAdjust, Adjusted}
 
-pub record Pushing (nodes : List (List ℕ)) (old new : List ℕ) (top first : ℕ) (a : Float) (i n : ℕ) : Type 0 where
+pub record Pushing (nodes : List Node) (old new : List ℕ) (top first : ℕ) (a : Float) (i n : ℕ) : Type 0 where
   pub given : ToRelease nodes old top first a
   pub passed : ℕ
   pub some : 0 < passed
@@ -36,10 +36,10 @@ pub record Pushing (nodes : List (List ℕ)) (old new : List ℕ) (top first : �
   pub done : Pushed (rightOf (nodesOf nodes)) (rowOf old) (rowOf new) first passed top
   pub same : length new ≡ length old
 
-pub first-there : {nodes : List (List ℕ)} {old : List ℕ} {top first : ℕ} {a : Float} → ToRelease nodes old top first a → (first < length nodes) × Readable (nodesOf nodes first)
-first-there {first = first} G = ((let l = G .ring .first in let m = G .node-room in omega arith), readable (G .ring .valid first (G .ring .first)) (G .ring .len-small))
+pub first-there : {nodes : List Node} {old : List ℕ} {top first : ℕ} {a : Float} → ToRelease nodes old top first a → first < length nodes
+first-there G = let l = G .ring .first in let m = G .node-room in omega arith
 
-pub begin : {nodes : List (List ℕ)} {old : List ℕ} {top first : ℕ} {a : Float} {from : Node} → ToRelease nodes old top first a → from ≡ nodesOf nodes first → Pushing nodes old old top first a (from .right) top
+pub begin : {nodes : List Node} {old : List ℕ} {top first : ℕ} {a : Float} {from : Node} → ToRelease nodes old top first a → from ≡ nodesOf nodes first → Pushing nodes old old top first a (from .right) top
 begin {nodes} {old} {top} {first} {a} {from} G e = record {
   given = G;
   passed = 1;
@@ -52,12 +52,12 @@ begin {nodes} {old} {top} {first} {a} {from} G e = record {
   same = refl;
 }
 
-module _ {nodes : List (List ℕ)} {old new : List ℕ} {top first : ℕ} {a : Float} {i n : ℕ} (K : Pushing nodes old new top first a i n) where
+module _ {nodes : List Node} {old new : List ℕ} {top first : ℕ} {a : Float} {i n : ℕ} (K : Pushing nodes old new top first a i n) where
   here : i < K .given .len
   here = subst (λ (x : ℕ). x < K .given .len) (sym (K .at)) (walk-below (K .given .ring .valid) (K .given .ring .first) (K .passed))
 
-  pub node-there : (i < length nodes) × Readable (nodesOf nodes i)
-  node-there = ((let l = here in let m = K .given .node-room in omega arith), readable (K .given .ring .valid i here) (K .given .ring .len-small))
+  pub node-there : i < length nodes
+  node-there = let l = here in let m = K .given .node-room in omega arith
 
   pub room : n < length new
   room = let h = K .given .freed-room in let l = K .given .less in let m = K .most in let e = K .count in let z = K .same in omega arith
@@ -185,7 +185,7 @@ pub rebuckets : {old mid new : List ℕ} {count a b c L Q R s v : ℕ} → a ≡
 rebuckets {old} {mid} {new} {count} {a} {b} {c} {L} {Q} {R} {s} {v} e f g P U = record { mid = mid; left = rw (← e, ← f) P; right = rw (← f, ← g) U }
 
 -- ---- another number of buckets
-pub to-refill : {nodes : List (List ℕ)} {buckets : List ℕ} {h : Hull} {count : ℕ} → ToAdjust nodes buckets h → count ≡ adjustedBuckets (h .buckets) (sizeOf h) → ToFill nodes buckets count (rowOf buckets 0) (sizeOf h)
+pub to-refill : {nodes : List Node} {buckets : List ℕ} {h : Hull} {count : ℕ} → ToAdjust nodes buckets h → count ≡ adjustedBuckets (h .buckets) (sizeOf h) → ToFill nodes buckets count (rowOf buckets 0) (sizeOf h)
 to-refill {nodes} {buckets} {h} {count} A e = record {
   len = h .nodes;
   ring = A .rows .ring;
@@ -194,6 +194,6 @@ to-refill {nodes} {buckets} {h} {count} A e = record {
   bucket-room = rw e (A .room);
 }
 
-pub adjusted : {nodes : List (List ℕ)} {old new : List ℕ} {h : Hull} {count : ℕ} → count ≡ adjustedBuckets (h .buckets) (sizeOf h)
+pub adjusted : {nodes : List Node} {old new : List ℕ} {h : Hull} {count : ℕ} → count ≡ adjustedBuckets (h .buckets) (sizeOf h)
     → Bucketed (rightOf (nodesOf nodes)) (angleOf (nodesOf nodes)) (rowOf new) count (width count) (rowOf old 0) (sizeOf h) → Adjusted nodes old new h (record { buckets = count; nodes = h .nodes; freed = h .freed })
 adjusted e F = record { count = e; used = refl; freed = refl; filled = F }

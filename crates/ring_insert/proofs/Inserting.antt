@@ -30,7 +30,7 @@ use Rattle.ring_insert.specs.Placed.{valid-up, placed-valid}
 use Rattle.ring_insert.proofs.Freeing.{goes-names, stays-names}
 
 -- ---- `choose`
-module _ {nodes : List (List ℕ)} {old mid : List ℕ} {first right top₁ n : ℕ} {a : Float} (G : ToRelease nodes old n first a) (R : ReleasedTo (nodesOf nodes) old mid n first (turns a) right top₁) where
+module _ {nodes : List Node} {old mid : List ℕ} {first right top₁ n : ℕ} {a : Float} (G : ToRelease nodes old n first a) (R : ReleasedTo (nodesOf nodes) old mid n first (turns a) right top₁) where
   pub passed-most : R .passed ≤ G .steps
   passed-most = go (decLt (G .steps) (R .passed))
     where
@@ -60,7 +60,7 @@ pub chosen-as : {t : ℕ → Node} {old new : List ℕ} {h : Hull} {left x : ℕ
 chosen-as {t} {old} {new} {h} {left} {x} {g} {g′} {c} e D = subst (λ (b : Bool). Chosen t old new h left b x c) e D
 
 -- ---- `insert`
-module _ {nodes : List (List ℕ)} {freed buckets : List ℕ} {h : Hull} {al q ar : Float} (I : ToInsert nodes freed buckets h al q ar) where
+module _ {nodes : List Node} {freed buckets : List ℕ} {h : Hull} {al q ar : Float} (I : ToInsert nodes freed buckets h al q ar) where
   -- the node of the left angle holds it
   own : T (atEnds (holds (turns al)) (rightOf (nodesOf nodes)) (angleOf (nodesOf nodes)) (iter (I .left) (rightOf (nodesOf nodes)) (rowOf buckets 0)))
   own =
@@ -155,22 +155,20 @@ module _ {nodes : List (List ℕ)} {freed buckets : List ℕ} {h : Hull} {al q a
           go (yes z) = subst (λ (y : ℕ). y < c .nodes) (sym (D .names (turns al) (turns q) e .s-new z)) (grown .1)
           go (no z) = subst (λ (y : ℕ). y < c .nodes) (sym (D .names (turns al) (turns q) e .s-stays z)) (let a = left-in in let b = grown .0 in omega arith)
 
-      pub to-place : ToPlace nodes c q
-      to-place = record {
-        len = c .nodes;
-        others = λ j u d. valid-up (grown .0) (valid j (grown .3 j u d));
-        node-in = grown .1;
-        before-in = let a = before-in in let b = grown .0 in omega arith;
-        right-in = let a = right-in in let b = grown .0 in omega arith;
-        start-in = start-in;
-        is-angle = I .q-angle;
-        room = let a = grown .2 in let b = I .node-room in omega arith;
-        small = let a = grown .2 in let b = I .small in omega arith;
-      }
-
-      pub new-valid : {t′ : ℕ → Node} {l p : ℕ} → l < 2 ^ 32 → p < 2 ^ 32 → t′ ≡ placeNodes (nodesOf nodes) c l p q → ValidNodes t′ (c .nodes)
-      unfolding to-place
-      new-valid u w z = let P = to-place in placed-valid c (P .others) (P .is-angle) w u (P .before-in) (P .right-in) (P .start-in) (P .node-in) z
-
       pub new-room : c .nodes ≤ length nodes
       new-room = let a = grown .2 in let b = I .node-room in omega arith
+
+      pub to-place : ToPlace nodes c
+      to-place =
+          let r = new-room in
+          record {
+            node-in = let a = grown .1 in omega arith;
+            before-in = let a = before-in in let b = grown .0 in omega arith;
+            right-in = let a = right-in in let b = grown .0 in omega arith;
+            start-in = let a = start-in in omega arith;
+          }
+
+      pub new-valid : {t′ : ℕ → Node} {l p : ℕ} → l < 2 ^ 32 → p < 2 ^ 32 → t′ ≡ placeNodes (nodesOf nodes) c l p q → ValidNodes t′ (c .nodes)
+      new-valid u w z =
+          placed-valid c (λ j u d. valid-up (grown .0) (valid j (grown .3 j u d))) (I .q-angle) w u
+          (let a = before-in in let b = grown .0 in omega arith) (let a = right-in in let b = grown .0 in omega arith) start-in (grown .1) z

@@ -3,3 +3,4 @@ pub mod Freeing
 pub mod Placing
 pub mod Deciding
 pub mod Inserting
+pub mod Sig

@@ -22,7 +22,7 @@ use Rattle.ring_rows.specs.Rows.{nodesOf, angleOf, leftOf, rightOf, sizeOf, wit
 use Rattle.ring_insert.specs.declared.Choice.{Choice}
 
 -- the node of the angle a stands `steps` to the right of `first`, and the stack of freed nodes has room
-pub record ToRelease (nodes : List (List ℕ)) (freed : List ℕ) (top first : ℕ) (a : Float) : Type 0 where
+pub record ToRelease (nodes : List Node) (freed : List ℕ) (top first : ℕ) (a : Float) : Type 0 where
   pub len : ℕ
   pub size : ℕ
   pub steps : ℕ
@@ -45,7 +45,7 @@ pub record ReleasedTo (t : ℕ → Node) (old new : List ℕ) (top first x right
   pub stack : top′ ≡ top + (passed - 1)
   pub pushed : Pushed (rightOf t) (rowOf old) (rowOf new) first passed top
 
-pub record ToChoose (nodes : List (List ℕ)) (freed : List ℕ) (h : Hull) (left : ℕ) (a : Float) : Type 0 where
+pub record ToChoose (nodes : List Node) (freed : List ℕ) (h : Hull) (left : ℕ) (a : Float) : Type 0 where
   pub release : ToRelease nodes freed (h .freed) left a
   pub small : h .nodes + 1 < 2 ^ 32
 
@@ -74,17 +74,12 @@ leftEdge t c l = cond (eqb (c .start) (c .node)) t (put t (c .start) (withEdge (
 abbrev pub placeNodes : (ℕ → Node) → Choice → ℕ → ℕ → Float → ℕ → Node
 placeNodes t c l p q = leftEdge (linkLeft (linkRight (newNode t c p q) c) c) c l
 
--- the new node is one of len, the others are valid
-pub record ToPlace (nodes : List (List ℕ)) (c : Choice) (q : Float) : Type 0 where
-  pub len : ℕ
-  pub others : (i : ℕ) → i < len → i ≢ c .node → ValidNode (nodesOf nodes i) len
-  pub node-in : c .node < len
-  pub before-in : c .before < len
-  pub right-in : c .right < len
-  pub start-in : c .start < len
-  pub is-angle : IsAngle q
-  pub room : len ≤ length nodes
-  pub small : len < 2 ^ 32
+-- the nodes that are stored to are in the row
+pub record ToPlace (nodes : List Node) (c : Choice) : Type 0 where
+  pub node-in : c .node < length nodes
+  pub before-in : c .before < length nodes
+  pub right-in : c .right < length nodes
+  pub start-in : c .start < length nodes
 
 -- a from L up to Q, then v from Q up to R
 pub record Rebuckets (old new : List ℕ) (count L Q R a v : ℕ) : Type 0 where
@@ -93,7 +88,7 @@ pub record Rebuckets (old new : List ℕ) (count L Q R a v : ℕ) : Type 0 where
   pub right : Updated mid new count Q R v
 
 -- What an insert asks: a ring in the rows, of at most `most` nodes, with a node of the left angle and, further on, one of the right angle; the rows have one node more
-pub record ToInsert (nodes : List (List ℕ)) (freed buckets : List ℕ) (h : Hull) (al q ar : Float) : Type 0 where
+pub record ToInsert (nodes : List Node) (freed buckets : List ℕ) (h : Hull) (al q ar : Float) : Type 0 where
   pub rows : RingRows nodes buckets h
   pub free : Free (On (rightOf (nodesOf nodes)) (sizeOf h) (rowOf buckets 0)) (rowOf freed) (h .freed) (h .nodes)
   pub freed-most : h .freed ≤ h .nodes
@@ -115,7 +110,7 @@ pub record ToInsert (nodes : List (List ℕ)) (freed buckets : List ℕ) (h : Hu
   pub ar-angle : IsAngle ar
 
 -- What it leaves
-pub record InsertedRows (nodes : List (List ℕ)) (freed buckets : List ℕ) (nodes′ : List (List ℕ)) (freed′ buckets′ : List ℕ) (h : Hull) (al q ar : Float) (l p : ℕ) (r : Hull) : Type 0 where
+pub record InsertedRows (nodes : List Node) (freed buckets : List ℕ) (nodes′ : List Node) (freed′ buckets′ : List ℕ) (h : Hull) (al q ar : Float) (l p : ℕ) (r : Hull) : Type 0 where
   pub left : ℕ
   pub left-on : On (rightOf (nodesOf nodes)) (sizeOf h) (rowOf buckets 0) left
   pub left-angle : angleOf (nodesOf nodes) left ≡ turns al
@@ -130,12 +125,12 @@ pub record InsertedRows (nodes : List (List ℕ)) (freed buckets : List ℕ) (no
   pub freed-now : r .freed ≡ choice .freed
 
 -- another number of buckets, within their row
-pub record ToAdjust (nodes : List (List ℕ)) (buckets : List ℕ) (h : Hull) : Type 0 where
+pub record ToAdjust (nodes : List Node) (buckets : List ℕ) (h : Hull) : Type 0 where
   pub rows : RingRows nodes buckets h
   pub size-most : sizeOf h ≤ 2 ^ 20
   pub room : adjustedBuckets (h .buckets) (sizeOf h) ≤ length buckets
 
-pub record Adjusted (nodes : List (List ℕ)) (old new : List ℕ) (h r : Hull) : Type 0 where
+pub record Adjusted (nodes : List Node) (old new : List ℕ) (h r : Hull) : Type 0 where
   pub count : r .buckets ≡ adjustedBuckets (h .buckets) (sizeOf h)
   pub used : r .nodes ≡ h .nodes
   pub freed : r .freed ≡ h .freed

@@ -60,7 +60,7 @@ pub fn is_fit(left: f64, middle: f64, right: f64, chain: u32, size: u32) -> bool
 }
 
 // The nodes strictly between `first` and the node of an angle, going right, are freed.
-fn release(nodes: &[[u64; 4]], freed: &mut [u32], top: u32, first: u32, angle: f64) -> Released
+fn release(nodes: &[Node], freed: &mut [u32], top: u32, first: u32, angle: f64) -> Released
     requires { ⌜ ToRelease (now nodes) (now freed) top first angle ⌝ }
     ensures { λ r. ⌜ ReleasedTo (nodesOf (now (nodes .entry))) (now (freed .entry)) (now (freed .exit)) top first
         (turns angle) (r .right) (r .freed) ⌝ }
@@ -102,7 +102,7 @@ fn get_next_index(freed: &[u32], top: u32, nodes: u32) -> Vacant
 
 // Which nodes an insert frees, takes and links. `left` is the left node, which goes if its angle is the new one.
 fn choose(
-    nodes: &[[u64; 4]],
+    nodes: &[Node],
     freed: &mut [u32],
     hull: Hull,
     left: u32,
@@ -137,8 +137,8 @@ fn choose(
 }
 
 // The stores: the new node, the links to it, and the left node's new edge if it stays.
-fn place(nodes: &mut [[u64; 4]], choice: Choice, leftedge: u32, rightedge: u32, middle: f64)
-    requires { ⌜ ToPlace (now nodes) choice middle ⌝ }
+fn place(nodes: &mut [Node], choice: Choice, leftedge: u32, rightedge: u32, middle: f64)
+    requires { ⌜ ToPlace (now nodes) choice ⌝ }
     ensures { λ r. ⌜ nodesOf (now (nodes .exit)) ≡ placeNodes (nodesOf (now (nodes .entry))) choice leftedge rightedge middle ⌝ }
 {
     ring_rows::store(
@@ -197,7 +197,7 @@ fn adjusted_buckets(count: u32, size: u32) -> u32
     count
 }
 
-pub fn adjust_bucket_size_if_necessary(nodes: &[[u64; 4]], buckets: &mut [u32], hull: Hull) -> Hull
+pub fn adjust_bucket_size_if_necessary(nodes: &[Node], buckets: &mut [u32], hull: Hull) -> Hull
     requires { ⌜ ToAdjust (now nodes) (now buckets) hull ⌝ }
     ensures { λ r. ⌜ Adjusted (now (nodes .entry)) (now (buckets .entry)) (now (buckets .exit)) hull r ⌝ }
 {
@@ -218,7 +218,7 @@ pub fn adjust_bucket_size_if_necessary(nodes: &[[u64; 4]], buckets: &mut [u32], 
 // `insert`: a vertex at the angle `middle` has entered the boundary between those of the angles `left` and `right`,
 // with the edges `leftedge` to it and `rightedge` from it.
 pub fn insert(
-    nodes: &mut [[u64; 4]],
+    nodes: &mut [Node],
     freed: &mut [u32],
     buckets: &mut [u32],
     hull: Hull,

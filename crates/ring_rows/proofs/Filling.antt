@@ -15,10 +15,10 @@ use Rattle.ring.specs.Insert.{Bucketed}
 use Rattle.ring.specs.Resize.{buckets-sized}
 use Rattle.ring.specs.Build.{Filling, filling-start, filling-step, filling-done}
 use Rattle.ring_rows.specs.declared.Node.{Node}
-use Rattle.ring_rows.specs.Rows.{nodesOf, angleOf, rightOf, Readable, Updated, NodeUpdated, NodeBuckets, NodeRing, ToFill}
-use Rattle.ring_rows.specs.Laws.{readable, walk-below}
+use Rattle.ring_rows.specs.Rows.{nodesOf, angleOf, rightOf, Updated, NodeUpdated, NodeBuckets, NodeRing, ToFill}
+use Rattle.ring_rows.specs.Laws.{walk-below}
 
-pub record Going (nodes : List (List ℕ)) (old new : List ℕ) (count start size i k : ℕ) : Type 0 where
+pub record Going (nodes : List Node) (old new : List ℕ) (count start size i k : ℕ) : Type 0 where
   pub given : ToFill nodes old count start size
   pub at : i ≡ iter k (rightOf (nodesOf nodes)) start
   pub most : k ≤ size
@@ -28,7 +28,7 @@ pub record Going (nodes : List (List ℕ)) (old new : List ℕ) (count start siz
 angles-low : {t : ℕ → Node} {len size start : ℕ} → NodeRing t len size start → (k : ℕ) → k < size → angleOf t (iter k (rightOf t) start) ≤ fullTurn
 angles-low {t} {len} {size} {start} R k l = R .valid (iter k (rightOf t) start) (walk-below (R .valid) (R .first) k) .angle .small
 
-pub begin : {nodes : List (List ℕ)} {old : List ℕ} {count start size : ℕ} → ToFill nodes old count start size → Going nodes old old count start size start 0
+pub begin : {nodes : List Node} {old : List ℕ} {count start size : ℕ} → ToFill nodes old count start size → Going nodes old old count start size start 0
 begin {nodes} {old} {count} {start} {size} G = record {
   given = G;
   at = refl;
@@ -37,7 +37,7 @@ begin {nodes} {old} {count} {start} {size} G = record {
   same = refl;
 }
 
-module _ {nodes : List (List ℕ)} {old new : List ℕ} {count start size i k : ℕ} (K : Going nodes old new count start size i k) where
+module _ {nodes : List Node} {old new : List ℕ} {count start size i k : ℕ} (K : Going nodes old new count start size i k) where
   here : i < K .given .len
   here = subst (λ (x : ℕ). x < K .given .len) (sym (K .at)) (walk-below (K .given .ring .valid) (K .given .ring .first) k)
 
@@ -48,8 +48,8 @@ module _ {nodes : List (List ℕ)} {old new : List ℕ} {count start size i k : 
       record {
         here = let a = here in let b = K .given .node-room in omega arith;
         there = let b = K .given .node-room in omega arith;
-        from = readable (v i here) (K .given .ring .len-small);
-        to = readable (v (nodesOf nodes i .right) r) (K .given .ring .len-small);
+        from = v i here .angle;
+        to = v (nodesOf nodes i .right) r .angle;
         counted = K .given .counted;
         room = let a = K .given .bucket-room in let b = K .same in omega arith;
       }
@@ -77,16 +77,16 @@ module _ {nodes : List (List ℕ)} {old new : List ℕ} {count start size i k : 
       the k size a b = omega arith
 
 -- ---- one node's buckets
-module _ {nodes : List (List ℕ)} {buckets : List ℕ} {count i : ℕ} (G : NodeBuckets nodes buckets count i) {from : Node} (e : from ≡ nodesOf nodes i) where
-  pub to-there : (from .right < length nodes) × Readable (nodesOf nodes (from .right))
-  to-there = rw e (G .there, G .to)
+module _ {nodes : List Node} {buckets : List ℕ} {count i : ℕ} (G : NodeBuckets nodes buckets count i) {from : Node} (e : from ≡ nodesOf nodes i) where
+  pub to-there : from .right < length nodes
+  to-there = rw e (G .there)
 
   pub from-angle : IsAngle (from .angle)
-  from-angle = rw e (G .from .angle)
+  from-angle = rw e (G .from)
 
   module _ {to : Node} (e₂ : to ≡ nodesOf nodes (from .right)) where
     pub to-angle : IsAngle (to .angle)
-    to-angle = rw (e₂, e) (G .to .angle)
+    to-angle = rw (e₂, e) (G .to)
 
     pub node-updated : {new : List ℕ} {first last : ℕ} → first ≡ ceilOf (turns (from .angle)) count → last ≡ ceilOf (turns (to .angle)) count → Updated buckets new count first last i → NodeUpdated (nodesOf nodes) buckets new count i (from .right)
     node-updated {new} {first} {last} f l U = record {

@@ -1,5 +1,6 @@
 -- What the functions' proofs cite beside the laws of specs/.
-pub mod Nodes
+pub mod NodeWalk
 pub mod Walk
 pub mod Range
 pub mod Filling
+pub mod Sig

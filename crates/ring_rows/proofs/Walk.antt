@@ -17,8 +17,8 @@ use Rattle.ring.specs.Segments.{proper→}
 use Rattle.ring.specs.Sound.{tile}
 use Rattle.ring.specs.Insert.{all-proper}
 use Rattle.ring_rows.specs.declared.Node.{Node}
-use Rattle.ring_rows.specs.Rows.{NodeRing, Got, Readable, angleOf, rightOf}
-use Rattle.ring_rows.specs.Laws.{readable, walk-below}
+use Rattle.ring_rows.specs.Rows.{NodeRing, Got, angleOf, rightOf}
+use Rattle.ring_rows.specs.Laws.{walk-below}
 
 pub record Walking (t : ℕ → Node) (len size start x handle passed : ℕ) : Type 0 where
   pub ring : NodeRing t len size start
@@ -38,15 +38,9 @@ module _ {t : ℕ → Node} {len size start x handle passed : ℕ} (K : Walking 
   pub here : handle < len
   here = subst (λ (i : ℕ). i < len) (sym (K .at)) (walk-below (K .ring .valid) (K .ring .first) passed)
 
-  pub here-readable : Readable (t handle)
-  here-readable = readable (K .ring .valid handle here) (K .ring .len-small)
-
   module _ {node : Node} (e₁ : node ≡ t handle) where
     pub next-here : node .right < len
     next-here = subst (λ (n : Node). n .right < len) (sym e₁) (K .ring .valid handle here .right)
-
-    pub next-readable : Readable (t (node .right))
-    next-readable = readable (K .ring .valid (node .right) next-here) (K .ring .len-small)
 
     module _ {next : Node} (e₂ : next ≡ t (node .right)) where
       ends : (turns (node .angle) ≡ angleOf t handle) × (turns (next .angle) ≡ angleOf t (rightOf t handle))

@@ -16,10 +16,7 @@ use Rattle.ring.specs.Sound.{sound-at}
 use Rattle.ring.specs.Insert.{On}
 use Rattle.ring_rows.specs.declared.Node.{Node}
 use Rattle.ring_rows.specs.declared.Hull.{Hull}
-use Rattle.ring_rows.specs.Rows.{Readable, ValidNode, ValidNodes, NodeRing, RingRows, nodesOf, angleOf, rightOf, sizeOf}
-
-pub readable : {n : Node} {len : ℕ} → ValidNode n len → len < 2 ^ 32 → Readable n
-readable n h = record { angle = n .angle; edge = n .edge; left = let a = n .left in omega arith; right = let a = n .right in omega arith }
+use Rattle.ring_rows.specs.Rows.{ValidNodes, NodeRing, RingRows, nodesOf, angleOf, rightOf, sizeOf}
 
 -- a walk to the right stays among the nodes in use
 pub walk-below : {t : ℕ → Node} {len s : ℕ} → ValidNodes t len → s < len → (k : ℕ) → iter k (rightOf t) s < len
@@ -37,7 +34,7 @@ ring-from {t} {len} {size} {start} R x (k, l, z) = subst (NodeRing t len size) z
 })
 
 -- from a bucket's
-pub bucket-ring : {nodes : List (List ℕ)} {buckets : List ℕ} {h : Hull} → RingRows nodes buckets h → (i : ℕ) → i < h .buckets → NodeRing (nodesOf nodes) (h .nodes) (sizeOf h) (rowOf buckets i)
+pub bucket-ring : {nodes : List Node} {buckets : List ℕ} {h : Hull} → RingRows nodes buckets h → (i : ℕ) → i < h .buckets → NodeRing (nodesOf nodes) (h .nodes) (sizeOf h) (rowOf buckets i)
 bucket-ring {nodes} {buckets} {h} R i l = ring-from (R .ring) (rowOf buckets i) (R .filled i l .0)
 
 -- the bucket of an angle is one of its buckets

@@ -1,8 +1,8 @@
--- The row of nodes, seen as a function from numbers to nodes: a contract says what becomes of this function, and nothing of how a node is laid out. Definitions only.
+-- The row of nodes, seen as a function from numbers to nodes: a contract says what becomes of this function. Definitions only.
 use Prim.Native.Nat.{ℕ, _-_, _<_, _≤_, _^_}
 use mathlib.Core.Path.{_≡_}
 use mathlib.Core.Bool.{cond}
-use mathlib.Core.List.{List, []}
+use mathlib.Core.List.{List}
 use lib.ListN.{length, getD}
 use lib.Ieee.{ofBits, binary64}
 use Rattle.sums.specs.Iterate.{iter}
@@ -19,12 +19,13 @@ use Rattle.ring_rows.specs.declared.Node.{Node}
 use Rattle.ring_rows.specs.declared.Hull.{Hull}
 use Rattle.ring_rows.specs.declared.Found.{Found}
 
--- 01: "A ring node is one record: its angle, its edge, its left and right node."
-unfoldable pub nodeOf : List ℕ → Node
-nodeOf w = record { angle = ofBits binary64 (getD w 0 0); edge = getD w 1 0; left = getD w 2 0; right = getD w 3 0 }
+-- a node of zeros
+abbrev pub zeroNode : Node
+zeroNode = record { angle = ofBits binary64 0; edge = 0; left = 0; right = 0 }
 
-unfoldable pub nodesOf : List (List ℕ) → ℕ → Node
-nodesOf l i = nodeOf (getD l i [])
+-- 01: "A ring node is one record: its angle, its edge, its left and right node." Past the row's end a node of zeros.
+unfoldable pub nodesOf : List Node → ℕ → Node
+nodesOf l i = getD l i zeroNode
 
 -- one field changed
 abbrev pub withEdge : Node → ℕ → Node
@@ -35,13 +36,6 @@ withLeft n v = record { angle = n .angle; edge = n .edge; left = v; right = n .r
 
 abbrev pub withRight : Node → ℕ → Node
 withRight n v = record { angle = n .angle; edge = n .edge; left = n .left; right = v }
-
--- the four numbers are a node: a row that the caller lends may hold anything
-pub record Readable (n : Node) : Type 0 where
-  pub angle : IsAngle (n .angle)
-  pub edge : n .edge < 2 ^ 32
-  pub left : n .left < 2 ^ 32
-  pub right : n .right < 2 ^ 32
 
 -- the fields, and the angle as a whole number of 2 ^ -53
 abbrev pub angleOf : (ℕ → Node) → ℕ → ℕ
@@ -80,7 +74,7 @@ abbrev pub sizeOf : Hull → ℕ
 sizeOf h = h .nodes - h .freed
 
 -- The rows hold the ring of a hull, from the node of bucket 0 on. 01: "Bucket i holds the node whose segment holds i/n."
-pub record RingRows (nodes : List (List ℕ)) (buckets : List ℕ) (h : Hull) : Type 0 where
+pub record RingRows (nodes : List Node) (buckets : List ℕ) (h : Hull) : Type 0 where
   pub ring : NodeRing (nodesOf nodes) (h .nodes) (sizeOf h) (rowOf buckets 0)
   pub filled : Bucketed (rightOf (nodesOf nodes)) (angleOf (nodesOf nodes)) (rowOf buckets) (h .buckets) (width (h .buckets)) (rowOf buckets 0) (sizeOf h)
   pub counted : Buckets (h .buckets)
@@ -105,11 +99,11 @@ pub record Run (old new : List ℕ) (from to v : ℕ) : Type 0 where
   pub past : (i : ℕ) → to ≤ i → rowOf new i ≡ rowOf old i
 
 -- node i and its right one can be read, and the buckets are there
-pub record NodeBuckets (nodes : List (List ℕ)) (buckets : List ℕ) (count i : ℕ) : Type 0 where
+pub record NodeBuckets (nodes : List Node) (buckets : List ℕ) (count i : ℕ) : Type 0 where
   pub here : i < length nodes
   pub there : nodesOf nodes i .right < length nodes
-  pub from : Readable (nodesOf nodes i)
-  pub to : Readable (nodesOf nodes (nodesOf nodes i .right))
+  pub from : IsAngle (nodesOf nodes i .angle)
+  pub to : IsAngle (nodesOf nodes (nodesOf nodes i .right) .angle)
   pub counted : Buckets count
   pub room : count ≤ length buckets
 
@@ -118,7 +112,7 @@ pub record NodeUpdated (t : ℕ → Node) (old new : List ℕ) (count i r : ℕ)
   pub right : r ≡ rightOf t i
 
 -- a ring of nodes, and room for its buckets
-pub record ToFill (nodes : List (List ℕ)) (buckets : List ℕ) (count start size : ℕ) : Type 0 where
+pub record ToFill (nodes : List Node) (buckets : List ℕ) (count start size : ℕ) : Type 0 where
   pub len : ℕ
   pub ring : NodeRing (nodesOf nodes) len size start
   pub node-room : len ≤ length nodes

@@ -1,18 +1,19 @@
-// The ring in the rows that the caller lends (bulk_load.rs, `Hull`, `Node`): a node is four numbers, its angle's bits,
-// its edge, its left and its right node.
-// `load`, `store` and the three relinks are all that touches the row; everything else works with `Node` by value.
+// The ring in the rows that the caller lends (bulk_load.rs, `Hull`, `Node`): a row of node records, each its angle, its edge,
+// its left and its right node, 24 bytes. `load`, `store`, `store_at` and the three relinks are all that touches the row;
+// everything else works with `Node` by value.
 ghost use mathlib.Core.Path.{_≡_};
 ghost use Prim.Native.Nat.{_<_, _≤_};
-ghost use lib.ListN.{length, replicate};
+ghost use lib.ListN.{length, set, replicate};
 ghost use lib.Dec.{T};
 ghost use Rattle.sums.specs.Put.{put};
-ghost use Rattle.angle.specs.Angle.{IsAngle, validAngle, turns};
+ghost use Rattle.angle.specs.Angle.{validAngle, turns};
 ghost use Rattle.segment.specs.Bucket.{floorOf, width};
 ghost use Rattle.ring.specs.Insert.{Bucketed};
 ghost use Rattle.dcel.specs.Rows.{rowOf};
-ghost use Rattle.ring_rows.specs.Rows.{nodesOf, Readable, withEdge, withLeft, withRight, RingRows, sizeOf, Got, Updated, Run, rightOf, angleOf, NodeBuckets, NodeUpdated, ToFill};
+ghost use Rattle.ring_rows.specs.Rows.{zeroNode, nodesOf, withEdge, withLeft, withRight, RingRows, sizeOf, Got, Updated, Run, rightOf, angleOf, NodeBuckets, NodeUpdated, ToFill};
 use segment::Segment;
 
+#[repr(C)]
 pub struct Node {
     pub angle: f64,
     pub edge: u32,
@@ -34,86 +35,54 @@ pub struct Found {
     pub passed: u32,
 }
 
-pub fn load(nodes: &[[u64; 4]], i: u32) -> Node
-    requires { ⌜ (i < length (now nodes)) × Readable (nodesOf (now nodes) i) ⌝ }
+pub fn load(nodes: &[Node], i: u32) -> Node
+    requires { ⌜ i < length (now nodes) ⌝ }
     ensures { λ r. ⌜ r ≡ nodesOf (now (nodes .entry)) i ⌝ }
 {
-    let w = nodes[i as usize];
-    let bits = w[0];
-    let edge = w[1];
-    let left = w[2];
-    let right = w[3];
-    Node {
-        angle: angle::from_bits(bits),
-        edge: edge as u32,
-        left: left as u32,
-        right: right as u32,
-    }
+    nodes[i as usize]
 }
 
-pub fn store(nodes: &mut [[u64; 4]], i: u32, node: Node)
-    requires { ⌜ (i < length (now nodes)) × IsAngle (node .angle) ⌝ }
+pub fn store(nodes: &mut [Node], i: u32, node: Node)
+    requires { ⌜ i < length (now nodes) ⌝ }
     ensures { λ r. ⌜ nodesOf (now (nodes .exit)) ≡ put (nodesOf (now (nodes .entry))) i node ⌝ }
 {
-    let bits = angle::to_bits(node.angle);
-    let w = [bits, node.edge as u64, node.left as u64, node.right as u64];
-    nodes[i as usize] = w;
+    nodes[i as usize] = node;
 }
 
-pub fn set_edge(nodes: &mut [[u64; 4]], i: u32, edge: u32)
-    requires { ⌜ (i < length (now nodes)) × Readable (nodesOf (now nodes) i) ⌝ }
-    ensures { λ r. ⌜ nodesOf (now (nodes .exit)) ≡ put (nodesOf (now (nodes .entry))) i (withEdge (nodesOf (now (nodes .entry)) i) edge) ⌝ }
+pub fn set_edge(nodes: &mut [Node], i: u32, edge: u32)
+    requires { ⌜ i < length (now nodes) ⌝ }
+    ensures { λ r. ⌜ nodesOf (now (nodes .exit))
+        ≡ put (nodesOf (now (nodes .entry))) i (withEdge (nodesOf (now (nodes .entry)) i) edge) ⌝ }
 {
-    let node = load(nodes, i);
-    store(
-        nodes,
-        i,
-        Node {
-            angle: node.angle,
-            edge: edge,
-            left: node.left,
-            right: node.right,
-        },
-    );
+    nodes[i as usize].edge = edge;
 }
 
-pub fn set_left(nodes: &mut [[u64; 4]], i: u32, left: u32)
-    requires { ⌜ (i < length (now nodes)) × Readable (nodesOf (now nodes) i) ⌝ }
-    ensures { λ r. ⌜ nodesOf (now (nodes .exit)) ≡ put (nodesOf (now (nodes .entry))) i (withLeft (nodesOf (now (nodes .entry)) i) left) ⌝ }
+pub fn set_left(nodes: &mut [Node], i: u32, left: u32)
+    requires { ⌜ i < length (now nodes) ⌝ }
+    ensures { λ r. ⌜ nodesOf (now (nodes .exit))
+        ≡ put (nodesOf (now (nodes .entry))) i (withLeft (nodesOf (now (nodes .entry)) i) left) ⌝ }
 {
-    let node = load(nodes, i);
-    store(
-        nodes,
-        i,
-        Node {
-            angle: node.angle,
-            edge: node.edge,
-            left: left,
-            right: node.right,
-        },
-    );
+    nodes[i as usize].left = left;
 }
 
-pub fn set_right(nodes: &mut [[u64; 4]], i: u32, right: u32)
-    requires { ⌜ (i < length (now nodes)) × Readable (nodesOf (now nodes) i) ⌝ }
+pub fn set_right(nodes: &mut [Node], i: u32, right: u32)
+    requires { ⌜ i < length (now nodes) ⌝ }
     ensures { λ r. ⌜ nodesOf (now (nodes .exit))
         ≡ put (nodesOf (now (nodes .entry))) i (withRight (nodesOf (now (nodes .entry)) i) right) ⌝ }
 {
-    let node = load(nodes, i);
-    store(
-        nodes,
-        i,
-        Node {
-            angle: node.angle,
-            edge: node.edge,
-            left: node.left,
-            right: right,
-        },
-    );
+    nodes[i as usize].right = right;
+}
+
+// `store` for an index that a u32 may not hold: a lent row can be that long.
+fn store_at(nodes: &mut [Node], i: usize, node: Node)
+    requires { ⌜ i < length (now nodes) ⌝ }
+    ensures { λ r. ⌜ now (nodes .exit) ≡ set (now (nodes .entry)) i node ⌝ }
+{
+    nodes[i] = node;
 }
 
 // The node whose segment holds an angle, from the node of the angle's bucket on to the right.
-pub fn get(nodes: &[[u64; 4]], buckets: &[u32], hull: Hull, angle: f64) -> Found
+pub fn get(nodes: &[Node], buckets: &[u32], hull: Hull, angle: f64) -> Found
     requires { ⌜ RingRows (now nodes) (now buckets) hull × T (validAngle angle) ⌝ }
     ensures { λ r. ⌜ Got (nodesOf (now (nodes .entry))) (sizeOf hull)
         (rowOf (now (buckets .entry)) (floorOf (turns angle) (hull .buckets))) (turns angle) r ⌝ }
@@ -163,7 +132,7 @@ pub fn update_bucket_segment(buckets: &mut [u32], count: usize, from: usize, to:
 }
 
 // The buckets whose points the segment of node i holds. Answers the node after it.
-fn update_node_buckets(nodes: &[[u64; 4]], buckets: &mut [u32], count: usize, i: u32) -> u32
+fn update_node_buckets(nodes: &[Node], buckets: &mut [u32], count: usize, i: u32) -> u32
     requires { ⌜ NodeBuckets (now nodes) (now buckets) count i ⌝ }
     ensures { λ r. ⌜ NodeUpdated (nodesOf (now (nodes .entry))) (now (buckets .entry)) (now (buckets .exit)) count i r ⌝ }
 {
@@ -176,13 +145,7 @@ fn update_node_buckets(nodes: &[[u64; 4]], buckets: &mut [u32], count: usize, i:
 }
 
 // Every bucket's node, from the ring's own nodes, of which there are `size` from `start` on.
-pub fn initialize_buckets(
-    nodes: &[[u64; 4]],
-    buckets: &mut [u32],
-    count: usize,
-    start: u32,
-    size: u32,
-)
+pub fn initialize_buckets(nodes: &[Node], buckets: &mut [u32], count: usize, start: u32, size: u32)
     requires { ⌜ ToFill (now nodes) (now buckets) count start size ⌝ }
     ensures { λ r. ⌜ Bucketed (rightOf (nodesOf (now (nodes .entry)))) (angleOf (nodesOf (now (nodes .entry))))
         (rowOf (now (buckets .exit))) count (width count) start size ⌝ }
@@ -196,13 +159,18 @@ pub fn initialize_buckets(
 }
 
 // The row of nodes, all of zeros; the other rows are cleared by `dcel::clear`.
-pub fn clear_nodes(nodes: &mut [[u64; 4]])
-    ensures { λ r. ⌜ now (nodes .exit) ≡ replicate (length (now (nodes .entry))) (replicate 4 0) ⌝ }
+pub fn clear_nodes(nodes: &mut [Node])
+    ensures { λ r. ⌜ now (nodes .exit) ≡ replicate (length (now (nodes .entry))) zeroNode ⌝ }
 {
-    let zero = [0, 0, 0, 0];
+    let zero = Node {
+        angle: 0.0,
+        edge: 0,
+        left: 0,
+        right: 0,
+    };
     let mut i = 0;
     while i < nodes.len() {
-        nodes[i] = zero;
+        store_at(nodes, i, zero);
         i += 1;
     }
 }

@@ -27,6 +27,7 @@ use Rattle.mesh.specs.Good.{Good}
 use Rattle.mesh_check.specs.declared.Checked.{Checked}
 use Rattle.mesh_check.specs.declared.Refusal.{Refusal}
 use Rattle.mesh_check.specs.Check.{pointCount, vertexCount}
+use Rattle.ring_rows.specs.declared.Node.{Node}
 use Rattle.ring_rows.specs.declared.Hull.{Hull}
 use Rattle.start.specs.Start.{sweepChecked}
 use Rattle.start.specs.StartRows.{ToStart, Started, RowsCleared}
@@ -72,7 +73,7 @@ module _ (l : Lent) (e : runChecked l ≡ Checked.Accepted) where
       let r = run-accepts l e .ring-rows in
       record { points = l .points; outs = l .outs; start = run-start l e; node-room = let k = r .nodes-fit in omega arith; bucket-room = let k = r .sixteen in omega arith }
 
-  pub to-sweep : (nodes : List (List ℕ)) (buckets : List ℕ) (hull : Hull) → Started C (l .positions) (l .halves) (l .faces) nodes buckets hull (l .centerx) (l .centery)
+  pub to-sweep : (nodes : List Node) (buckets : List ℕ) (hull : Hull) → Started C (l .positions) (l .halves) (l .faces) nodes buckets hull (l .centerx) (l .centery)
       → length nodes ≡ length (l .nodes) → length buckets ≡ length (l .buckets) → (count : ℕ) → count ≡ n
       → SweepReady C (l .positions) (l .outs) (l .halves) (l .faces) (l .pending) nodes (l .freed) buckets (l .answers) hull (l .centerx) (l .centery) (l .points) count
   unfolding vertexCount
@@ -154,7 +155,7 @@ module _ (l : Lent) (e : runChecked l ≡ Checked.Accepted) where
       unfolding sweepingOf
       answered-is = ap (λ (s : Sweeping). s .answered) swept-is
 
-      pub run-done : (r : FinishAnswer) (answers₂ : List ℕ) (nodes₁ nodes₃ : List (List ℕ)) (freed₁ freed₃ buckets₁ buckets₃ pending₂ pending₃ : List ℕ)
+      pub run-done : (r : FinishAnswer) (answers₂ : List ℕ) (nodes₁ nodes₃ : List Node) (freed₁ freed₃ buckets₁ buckets₃ pending₂ pending₃ : List ℕ)
           → length q₁ ≡ length (l .positions) → length o₂ ≡ length (l .outs) → length h₂ ≡ length (l .halves) → length a₂ ≡ length (l .faces)
           → length nodes₁ ≡ length (l .nodes) → length freed₁ ≡ length (l .freed) → length buckets₁ ≡ length (l .buckets) → length pending₂ ≡ length (l .pending)
           → length answers₂ ≡ length (l .answers)

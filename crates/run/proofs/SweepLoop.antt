@@ -23,6 +23,7 @@ use Rattle.flip_count.specs.CountLaws.{count-from}
 use Rattle.math.specs.declared.Point.{Point}
 use Rattle.mesh.specs.declared.Counts.{Counts}
 use Rattle.mesh.specs.Mesh.{Links}
+use Rattle.ring_rows.specs.declared.Node.{Node}
 use Rattle.ring_rows.specs.declared.Hull.{Hull}
 use Rattle.sweep.specs.declared.Answer.{Answer}
 use Rattle.step.specs.declared.Progress.{Progress}
@@ -135,8 +136,8 @@ module _ (room : ℕ) (cx cy : Float) (C : Counts) (L : Links) (p point : ℕ �
   frozen n (suc k) f = let r = frozen n k f in ap after (add-suc n k) ∙ after-stays (n + k) (ap (λ (s : Sweeping). s .full) r ∙ f) ∙ r
 
 -- ---- the rows keep their lengths
-pub record SameRows (q : List ℤ) (o h a row : List ℕ) (n : List (List ℕ)) (f b w : List ℕ)
-    (q′ : List ℤ) (o′ h′ a′ row′ : List ℕ) (n′ : List (List ℕ)) (f′ b′ w′ : List ℕ) : Type 0 where
+pub record SameRows (q : List ℤ) (o h a row : List ℕ) (n : List Node) (f b w : List ℕ)
+    (q′ : List ℤ) (o′ h′ a′ row′ : List ℕ) (n′ : List Node) (f′ b′ w′ : List ℕ) : Type 0 where
   pub positions : length q′ ≡ length q
   pub outs : length o′ ≡ length o
   pub halves : length h′ ≡ length h
@@ -148,8 +149,8 @@ pub record SameRows (q : List ℤ) (o h a row : List ℕ) (n : List (List ℕ)) 
   pub answers : length w′ ≡ length w
 
 -- ---- the loop
-pub record SweepingAt (q₀ : List ℤ) (o₀ h₀ a₀ row₀ : List ℕ) (nodes₀ : List (List ℕ)) (freed₀ buckets₀ answers₀ : List ℕ) (cx cy : Float) (points : List ℤ) (count : ℕ) (C₀ : Counts) (hull₀ : Hull)
-    (q : List ℤ) (o h a row : List ℕ) (nodes : List (List ℕ)) (freed buckets answers : List ℕ) (C : Counts) (hull : Hull) (i : ℕ) : Type 0 where
+pub record SweepingAt (q₀ : List ℤ) (o₀ h₀ a₀ row₀ : List ℕ) (nodes₀ : List Node) (freed₀ buckets₀ answers₀ : List ℕ) (cx cy : Float) (points : List ℤ) (count : ℕ) (C₀ : Counts) (hull₀ : Hull)
+    (q : List ℤ) (o h a row : List ℕ) (nodes : List Node) (freed buckets answers : List ℕ) (C : Counts) (hull : Hull) (i : ℕ) : Type 0 where
   pub ready : SweepReady C₀ q₀ o₀ h₀ a₀ row₀ nodes₀ freed₀ buckets₀ answers₀ hull₀ cx cy points count
   pub lengths : SameRows q₀ o₀ h₀ a₀ row₀ nodes₀ freed₀ buckets₀ answers₀ q o h a row nodes freed buckets answers
   pub at : sweepAfter (length row₀) cx cy C₀ (linksOf o₀ h₀ a₀) (positionOf q₀) (positionOf points) i
@@ -161,7 +162,7 @@ pub record SweepingAt (q₀ : List ℤ) (o₀ h₀ a₀ row₀ : List ℕ) (node
       ≡ cond (ltb x (5 * i)) (answerWord (stepAt (length row₀) cx cy C₀ (linksOf o₀ h₀ a₀) (positionOf q₀) (positionOf points) (x / 5)) (x % 5)) (rowOf answers₀ x)
   pub most : i ≤ count
 
-pub sweeping-starts : {q : List ℤ} {o h a row : List ℕ} {nodes : List (List ℕ)} {freed buckets answers : List ℕ} {cx cy : Float} {points : List ℤ} {count : ℕ} {C : Counts} {hull : Hull}
+pub sweeping-starts : {q : List ℤ} {o h a row : List ℕ} {nodes : List Node} {freed buckets answers : List ℕ} {cx cy : Float} {points : List ℤ} {count : ℕ} {C : Counts} {hull : Hull}
     → SweepReady C q o h a row nodes freed buckets answers hull cx cy points count
     → SweepingAt q o h a row nodes freed buckets answers cx cy points count C hull q o h a row nodes freed buckets answers C hull 0
 unfolding sweepAfter
@@ -176,8 +177,8 @@ sweeping-starts R = record {
   most = omega arith;
 }
 
-module _ {q₀ : List ℤ} {o₀ h₀ a₀ row₀ : List ℕ} {nodes₀ : List (List ℕ)} {freed₀ buckets₀ answers₀ : List ℕ} {cx cy : Float} {points : List ℤ} {count : ℕ} {C₀ : Counts} {hull₀ : Hull}
-    {q : List ℤ} {o h a row : List ℕ} {nodes : List (List ℕ)} {freed buckets answers : List ℕ} {C : Counts} {hull : Hull} {i : ℕ}
+module _ {q₀ : List ℤ} {o₀ h₀ a₀ row₀ : List ℕ} {nodes₀ : List Node} {freed₀ buckets₀ answers₀ : List ℕ} {cx cy : Float} {points : List ℤ} {count : ℕ} {C₀ : Counts} {hull₀ : Hull}
+    {q : List ℤ} {o h a row : List ℕ} {nodes : List Node} {freed buckets answers : List ℕ} {C : Counts} {hull : Hull} {i : ℕ}
     (I : SweepingAt q₀ o₀ h₀ a₀ row₀ nodes₀ freed₀ buckets₀ answers₀ cx cy points count C₀ hull₀ q o h a row nodes freed buckets answers C hull i) where
   abbrev L₀ : Links
   L₀ = linksOf o₀ h₀ a₀
@@ -215,7 +216,7 @@ module _ {q₀ : List ℤ} {o₀ h₀ a₀ row₀ : List ℕ} {nodes₀ : List (
       pub sweeping-ready : StepReady C q o h a row nodes freed buckets hull cx cy v
       sweeping-ready = record { sweep = I .sweep; range = rw e (I .ready .range i l); vertices = C₀ .vertices + count; room = room }
 
-      module _ {q′ : List ℤ} {o′ h′ a′ : List ℕ} {nodes′ : List (List ℕ)} {freed′ buckets′ : List ℕ} {r : Progress}
+      module _ {q′ : List ℤ} {o′ h′ a′ : List ℕ} {nodes′ : List Node} {freed′ buckets′ : List ℕ} {r : Progress}
           (X : StepLeaves C q q′ o h a row o′ h′ a′ nodes freed buckets nodes′ freed′ buckets′ hull cx cy v r) where
         step-is : stepAt (length row₀) cx cy C₀ L₀ p₀ point i ≡ steppingOf q′ o′ h′ a′ r
         step-is =

@@ -14,6 +14,7 @@ use Rattle.decide.specs.Decide.{fateNumber, fateVertex}
 use Rattle.decide.specs.Sweep.{Sweep}
 use Rattle.math.specs.Determinant.{InRange}
 use Rattle.mesh.specs.declared.Counts.{Counts}
+use Rattle.ring_rows.specs.declared.Node.{Node}
 use Rattle.ring_rows.specs.declared.Hull.{Hull}
 use Rattle.sweep.specs.declared.Answer.{Answer}
 use Rattle.sums.specs.Put.{put}
@@ -35,7 +36,7 @@ unfoldable pub sweepingOf : List ℤ → List ℕ → List ℕ → List ℕ → 
 sweepingOf q o h a r = record { counts = r .counts; links = linksOf o h a; positions = positionOf q; answered = r .answered; full = r .full }
 
 -- the rows do for N vertices, the seed's and all points
-pub record SweepRoom (N : ℕ) (q : List ℤ) (o h a row : List ℕ) (nodes : List (List ℕ)) (freed buckets : List ℕ) (hull : Hull) : Type 0 where
+pub record SweepRoom (N : ℕ) (q : List ℤ) (o h a row : List ℕ) (nodes : List Node) (freed buckets : List ℕ) (hull : Hull) : Type 0 where
   pub most : N ≤ 1000000
   pub positions : 2 * N ≤ length q
   pub outs : N ≤ length o
@@ -46,7 +47,7 @@ pub record SweepRoom (N : ℕ) (q : List ℤ) (o h a row : List ℕ) (nodes : Li
   pub nodes-most : hull .nodes ≤ suc N
 
 -- a mesh with its ring, and rows that do for it and all points, which are in range
-pub record SweepReady (C : Counts) (q : List ℤ) (o h a row : List ℕ) (nodes : List (List ℕ)) (freed buckets answers : List ℕ) (hull : Hull) (cx cy : Float) (points : List ℤ) (count : ℕ) : Type 0 where
+pub record SweepReady (C : Counts) (q : List ℤ) (o h a row : List ℕ) (nodes : List Node) (freed buckets answers : List ℕ) (hull : Hull) (cx cy : Float) (points : List ℤ) (count : ℕ) : Type 0 where
   pub sweep : Sweep C q o h a nodes freed buckets hull cx cy
   pub room : SweepRoom (C .vertices + count) q o h a row nodes freed buckets hull
   pub range : (i : ℕ) → i < count → InRange (positionOf points i)

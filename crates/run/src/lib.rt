@@ -24,6 +24,7 @@ use flip_count::FlipCount;
 use mesh::Counts;
 use mesh_check::Checked;
 use ring_rows::Hull;
+use ring_rows::Node;
 use sweep::Answer;
 
 // Where the steps have come to: the mesh's counts, how many points have been answered, and whether a flip's pushes
@@ -75,7 +76,7 @@ fn sweep(
     halves: &mut [u32],
     faces: &mut [u32],
     pending: &mut [u32],
-    nodes: &mut [[u64; 4]],
+    nodes: &mut [Node],
     freed: &mut [u32],
     buckets: &mut [u32],
     answers: &mut [u64],
@@ -169,7 +170,7 @@ fn run_accepted(
     outs: &mut [u32],
     halves: &mut [u32],
     faces: &mut [u32],
-    nodes: &mut [[u64; 4]],
+    nodes: &mut [Node],
     freed: &mut [u32],
     buckets: &mut [u32],
     pending: &mut [u32],
@@ -217,7 +218,7 @@ pub fn run(
     outs: &mut [u32],
     halves: &mut [u32],
     faces: &mut [u32],
-    nodes: &mut [[u64; 4]],
+    nodes: &mut [Node],
     freed: &mut [u32],
     buckets: &mut [u32],
     pending: &mut [u32],

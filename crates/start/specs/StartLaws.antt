@@ -26,6 +26,7 @@ use Rattle.mesh_check.specs.declared.Checked.the-variants.{Accepted}
 use Rattle.mesh_check.specs.Accepted.{AcceptedWith, or-false}
 use Rattle.mesh_check.specs.Check.{vertexCount}
 use Rattle.mesh_check.specs.CheckLaws.{NumberedTo}
+use Rattle.ring_rows.specs.declared.Node.{Node}
 use Rattle.ring_rows.specs.declared.Hull.{Hull}
 use Rattle.start.specs.Start.{sweepRowsShort, sweepChecked}
 use Rattle.start.specs.StartRows.{ToStart, Started}
@@ -80,7 +81,7 @@ module _ {C : Counts} {q : List ℤ} {h a : List ℕ} {n b : ℕ} {cx cy : Float
   pub started-build : ToBuild q h cx cy start size n b
   started-build = accepted-build (T .start) s z (T .node-room) (T .bucket-room)
 
-  pub ring-started : {nodes : List (List ℕ)} {buckets : List ℕ} {r : Hull} → FromBoundary q h cx cy start size nodes buckets r
+  pub ring-started : {nodes : List Node} {buckets : List ℕ} {r : Hull} → FromBoundary q h cx cy start size nodes buckets r
       → length nodes ≡ n → length buckets ≡ b → Started C q h a nodes buckets r cx cy
   ring-started {nodes} {buckets} {r} F u v = record {
     sweep = λ {points} {o} {freed} A l. held A l;

@@ -5,9 +5,11 @@ use Prim.Native.Nat.{ℕ, _≤_}
 use lib.Ieee.{Float}
 use lib.IntN.{ℤ}
 use lib.ListN.{length, replicate}
+use Rattle.ring_rows.specs.Rows.{zeroNode}
 use Rattle.decide.specs.Sweep.{Sweep}
 use Rattle.locate.specs.Start.{AcceptedStart}
 use Rattle.mesh.specs.declared.Counts.{Counts}
+use Rattle.ring_rows.specs.declared.Node.{Node}
 use Rattle.ring_rows.specs.declared.Hull.{Hull}
 
 -- a mesh that rows 1 to 7 of the table accept, for some points, and room for its ring
@@ -19,16 +21,16 @@ pub record ToStart (C : Counts) (q : List ℤ) (h a : List ℕ) (nodes buckets :
   pub bucket-room : 8 ≤ buckets
 
 -- the rows hold the mesh with its ring; a strict ring has no more nodes than the mesh has vertices
-pub record Started (C : Counts) (q : List ℤ) (h a : List ℕ) (nodes : List (List ℕ)) (buckets : List ℕ) (hull : Hull)
+pub record Started (C : Counts) (q : List ℤ) (h a : List ℕ) (nodes : List Node) (buckets : List ℕ) (hull : Hull)
     (cx cy : Float) : Type 0 where
   pub sweep : {points : List ℤ} {o freed : List ℕ} → AcceptedStart points C q o h a cx cy → C .vertices ≤ length freed
       → Sweep C q o h a nodes freed buckets hull cx cy
   pub nodes-most : hull .nodes ≤ C .vertices
 
 -- 01: "After 9 and after every accepted call the ring, freed, bucket and pending rows hold zeros"
-pub record RowsCleared (nodes : List (List ℕ)) (freed buckets pending : List ℕ)
-    (nodes′ : List (List ℕ)) (freed′ buckets′ pending′ : List ℕ) : Type 0 where
-  pub nodes-zero : nodes′ ≡ replicate (length nodes) (replicate 4 0)
+pub record RowsCleared (nodes : List Node) (freed buckets pending : List ℕ)
+    (nodes′ : List Node) (freed′ buckets′ pending′ : List ℕ) : Type 0 where
+  pub nodes-zero : nodes′ ≡ replicate (length nodes) zeroNode
   pub freed-zero : freed′ ≡ replicate (length freed) 0
   pub buckets-zero : buckets′ ≡ replicate (length buckets) 0
   pub pending-zero : pending′ ≡ replicate (length pending) 0

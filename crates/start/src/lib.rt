@@ -8,6 +8,7 @@ use angle::Point2;
 use mesh::Counts;
 use mesh_check::Checked;
 use ring_rows::Hull;
+use ring_rows::Node;
 
 // One of the rows that are not the mesh's, given by their lengths, is too short for n vertices. `short`: another one is.
 fn sweep_rows_short(
@@ -59,7 +60,7 @@ pub fn start_ring(
     positions: &[i32],
     halves: &[u32],
     faces: &[u32],
-    nodes: &mut [[u64; 4]],
+    nodes: &mut [Node],
     buckets: &mut [u32],
     counts: Counts,
     center: Point2,
@@ -75,12 +76,7 @@ pub fn start_ring(
 }
 
 // The ring's rows and the pending list to zeros, each over its whole length.
-pub fn clear_rows(
-    nodes: &mut [[u64; 4]],
-    freed: &mut [u32],
-    buckets: &mut [u32],
-    pending: &mut [u32],
-)
+pub fn clear_rows(nodes: &mut [Node], freed: &mut [u32], buckets: &mut [u32], pending: &mut [u32])
     ensures { λ r. ⌜ RowsCleared (now (nodes .entry)) (now (freed .entry)) (now (buckets .entry)) (now (pending .entry))
         (now (nodes .exit)) (now (freed .exit)) (now (buckets .exit)) (now (pending .exit)) ⌝ }
 {

@@ -7,6 +7,7 @@ use native.Mathlib.Omega.{arith}
 use lib.Ieee.{Float}
 use lib.IntN.{ℤ}
 use lib.ListN.{length, replicate}
+use Rattle.ring_rows.specs.Rows.{zeroNode}
 use Rattle.dcel.specs.Rows.{linksOf, positionOf}
 use Rattle.dcel.specs.Views.{outs-from, halves-from, faces-from, positions-from}
 use Rattle.flip_count.specs.CountLaws.{count-from}
@@ -16,6 +17,7 @@ use Rattle.mesh.specs.declared.Counts.{Counts}
 use Rattle.mesh_check.specs.declared.Checked.{Checked}
 use Rattle.mesh_check.specs.declared.Refusal.{Refusal}
 use Rattle.mesh_check.specs.Check.{vertexCount, pointCount}
+use Rattle.ring_rows.specs.declared.Node.{Node}
 use Rattle.ring_rows.specs.declared.Hull.{Hull}
 use Rattle.start.specs.Start.{sweepChecked}
 use Rattle.start.specs.StartLaws.{AcceptedSweep, sweep-accepts}
@@ -73,7 +75,7 @@ module _ {C : Counts} {q : List ℤ} {o h a : List ℕ} {n f b k : ℕ} {cx cy :
   }
 
   -- with the ring in its rows
-  module _ {nodes : List (List ℕ)} {buckets : List ℕ} {hull : Hull} (S : Started C q h a nodes buckets hull cx cy)
+  module _ {nodes : List Node} {buckets : List ℕ} {hull : Hull} (S : Started C q h a nodes buckets hull cx cy)
       (ln : length nodes ≡ n) (lb : length buckets ≡ b) where
     pub to-step : {freed row : List ℕ} → length freed ≡ f → length row ≡ k → StepReady C q o h a row nodes freed buckets hull cx cy v
     to-step lf lr =
@@ -99,17 +101,17 @@ module _ {C : Counts} {q : List ℤ} {o h a : List ℕ} {n f b k : ℕ} {cx cy :
         }
 
 pub swept-once : {C : Counts} {q q′ : List ℤ} {o h a row o′ h′ a′ row₂ : List ℕ}
-    {nodes nodes₁ nodes₂ : List (List ℕ)} {freed buckets buckets₁ freed₂ buckets₂ : List ℕ}
+    {nodes nodes₁ nodes₂ : List Node} {freed buckets buckets₁ freed₂ buckets₂ : List ℕ}
     {hull : Hull} {cx cy : Float} {v : Point} {r : Progress}
     → StepLeaves C q q′ o h a row o′ h′ a′ nodes₁ freed buckets₁ nodes₂ freed₂ buckets₂ hull cx cy v r
     → length nodes₂ ≡ length nodes₁ → length nodes₁ ≡ length nodes → length freed₂ ≡ length freed
     → length buckets₂ ≡ length buckets₁ → length buckets₁ ≡ length buckets → length row₂ ≡ length row
-    → {nodes′ : List (List ℕ)} {freed′ buckets′ row′ : List ℕ} → RowsCleared nodes₂ freed₂ buckets₂ row₂ nodes′ freed′ buckets′ row′
+    → {nodes′ : List Node} {freed′ buckets′ row′ : List ℕ} → RowsCleared nodes₂ freed₂ buckets₂ row₂ nodes′ freed′ buckets′ row′
     → SweptOnce C q o h a nodes freed buckets row q′ o′ h′ a′ nodes′ freed′ buckets′ row′ cx cy v r
 swept-once K i i′ j k k′ l Z = record {
   is = K .is;
   zeros = record {
-    nodes-zero = Z .nodes-zero ∙ ap (λ (n : ℕ). replicate n (replicate 4 0)) (i ∙ i′);
+    nodes-zero = Z .nodes-zero ∙ ap (λ (n : ℕ). replicate n zeroNode) (i ∙ i′);
     freed-zero = Z .freed-zero ∙ ap (λ (n : ℕ). replicate n 0) j;
     buckets-zero = Z .buckets-zero ∙ ap (λ (n : ℕ). replicate n 0) (k ∙ k′);
     pending-zero = Z .pending-zero ∙ ap (λ (n : ℕ). replicate n 0) l;
@@ -125,7 +127,7 @@ pub step-accepted : {k : Checked} → k ≡ Checked.Accepted
 unfolding stepChecked
 step-accepted e f = sweep-accepts (sym f ∙ e)
 
-module _ (C : Counts) (q : List ℤ) (o h a : List ℕ) (nodes : List (List ℕ)) (freed buckets row : List ℕ) (cx cy : Float) (v : Point) where
+module _ (C : Counts) (q : List ℤ) (o h a : List ℕ) (nodes : List Node) (freed buckets row : List ℕ) (cx cy : Float) (v : Point) where
   abbrev checks : Checked
   checks = stepChecked C q o h a (length nodes) (length freed) (length buckets) (length row) cx cy v
 
@@ -147,7 +149,7 @@ module _ (C : Counts) (q : List ℤ) (o h a : List ℕ) (nodes : List (List ℕ)
   refused-outcome e f = rw (← f, e) refl
 
   mesh-rows : (r : Progress) {s : Stepping} {x : StepAnswer} {q′ : List ℤ} {o′ h′ a′ : List ℕ}
-      {nodes′ : List (List ℕ)} {freed′ buckets′ row′ : List ℕ}
+      {nodes′ : List Node} {freed′ buckets′ row′ : List ℕ}
       → steppingOf q′ o′ h′ a′ r ≡ s → RowsCleared nodes freed buckets row nodes′ freed′ buckets′ row′
       → length q′ ≡ length q → length o′ ≡ length o → length h′ ≡ length h → length a′ ≡ length a
       → x ≡ answerFrom 0 (steppingOf q′ o′ h′ a′ r)
@@ -174,7 +176,7 @@ module _ (C : Counts) (q : List ℤ) (o h a : List ℕ) (nodes : List (List ℕ)
       rw (← e) (cc (Z .nodes-zero, Z .freed-zero, Z .buckets-zero, Z .pending-zero))
 
   pub accepted-outcome : {k : Checked} → k ≡ Checked.Accepted → k ≡ checks → {x : StepAnswer} {q′ : List ℤ} {o′ h′ a′ : List ℕ}
-      {nodes′ : List (List ℕ)} {freed′ buckets′ row′ : List ℕ} {r : Progress}
+      {nodes′ : List Node} {freed′ buckets′ row′ : List ℕ} {r : Progress}
       → SweptOnce C q o h a nodes freed buckets row q′ o′ h′ a′ nodes′ freed′ buckets′ row′ cx cy v r
       → length q′ ≡ length q → length o′ ≡ length o → length h′ ≡ length h → length a′ ≡ length a
       → x ≡ answerFrom 0 (steppingOf q′ o′ h′ a′ r)

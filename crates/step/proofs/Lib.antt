@@ -1,3 +1,4 @@
 pub mod PointRows
 pub mod StepDone
 pub mod CallRows
+pub mod Sig

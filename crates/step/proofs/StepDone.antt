@@ -42,6 +42,7 @@ use Rattle.ring.specs.Ring.{edgeAngle, located}
 use Rattle.ring.specs.Center.{turnsAbout}
 use Rattle.ring.specs.Chain.{leftChain, rightChain, chainStart, chainLength}
 use Rattle.ring.specs.ChainMesh.{start-walk}
+use Rattle.ring_rows.specs.declared.Node.{Node}
 use Rattle.ring_rows.specs.declared.Hull.{Hull}
 use Rattle.sums.specs.Iterate.{iter, iter-add}
 use Rattle.sums.specs.Put.{put}
@@ -58,7 +59,7 @@ stepping-by : (q′ : List ℤ) (o′ h′ a′ : List ℕ) (r : Entered) (hull�
 unfolding steppingOf extendedOf
 stepping-by q′ o′ h′ a′ r hull′ z x y w = rw (z, ← x, ← y, ← w) refl
 
-module _ {C : Counts} {q : List ℤ} {o h a row : List ℕ} {nodes : List (List ℕ)} {freed buckets : List ℕ} {hull : Hull} {cx cy : Float} {v : Point}
+module _ {C : Counts} {q : List ℤ} {o h a row : List ℕ} {nodes : List Node} {freed buckets : List ℕ} {hull : Hull} {cx cy : Float} {v : Point}
     (R : StepReady C q o h a row nodes freed buckets hull cx cy v) where
   abbrev L : Links
   L = linksOf o h a
@@ -250,7 +251,7 @@ module _ {C : Counts} {q : List ℤ} {o h a row : List ℕ} {nodes : List (List 
           }
 
           pub added-done : length q′ ≡ length q → length o′ ≡ length o → length h′ ≡ length h → length a′ ≡ length a
-              → {nodes′ : List (List ℕ)} {freed′ buckets′ : List ℕ} {hull′ : Hull}
+              → {nodes′ : List Node} {freed′ buckets′ : List ℕ} {hull′ : Hull}
               → EnteredRing nodes freed buckets nodes′ freed′ buckets′ hull (D .startangle) (D .angle) (D .endangle) (r .leftedge) (r .rightedge) hull′
               → {s : Progress} → s ≡ progressOf (r .added) hull′ (D .fate)
               → StepLeaves C q q′ o h a row o′ h′ a′ nodes freed buckets nodes′ freed′ buckets′ hull cx cy v s

@@ -19,6 +19,7 @@ use Rattle.flip_count.specs.FlipCount.{flipCountOf}
 use Rattle.math.specs.declared.Point.{Point}
 use Rattle.math.specs.Determinant.{InRange}
 use Rattle.mesh.specs.declared.Counts.{Counts}
+use Rattle.ring_rows.specs.declared.Node.{Node}
 use Rattle.ring_rows.specs.declared.Hull.{Hull}
 use Rattle.start.specs.StartRows.{RowsCleared}
 use Rattle.sums.specs.Put.{put}
@@ -38,7 +39,7 @@ steppingOf q o h a r = record {
 }
 
 -- the rows do for N vertices, one more than there are, by 01's sizes
-pub record StepRoom (N : ℕ) (C : Counts) (q : List ℤ) (o h a row : List ℕ) (nodes : List (List ℕ)) (freed buckets : List ℕ) (hull : Hull) : Type 0 where
+pub record StepRoom (N : ℕ) (C : Counts) (q : List ℤ) (o h a row : List ℕ) (nodes : List Node) (freed buckets : List ℕ) (hull : Hull) : Type 0 where
   pub more : C .vertices + 1 ≤ N
   pub most : N ≤ 1000000
   pub positions : 2 * N ≤ length q
@@ -50,14 +51,14 @@ pub record StepRoom (N : ℕ) (C : Counts) (q : List ℤ) (o h a row : List ℕ)
   pub nodes-most : hull .nodes ≤ suc N
 
 -- a mesh with its ring in rows with room for a point in range
-pub record StepReady (C : Counts) (q : List ℤ) (o h a row : List ℕ) (nodes : List (List ℕ)) (freed buckets : List ℕ) (hull : Hull) (cx cy : Float) (v : Point) : Type 0 where
+pub record StepReady (C : Counts) (q : List ℤ) (o h a row : List ℕ) (nodes : List Node) (freed buckets : List ℕ) (hull : Hull) (cx cy : Float) (v : Point) : Type 0 where
   pub sweep : Sweep C q o h a nodes freed buckets hull cx cy
   pub range : InRange v
   pub vertices : ℕ
   pub room : StepRoom vertices C q o h a row nodes freed buckets hull
 
 -- What it leaves: the step as it is defined, and where no flip was refused again a mesh with its ring, whose nodes the rows have room for
-pub record StepLeaves (C : Counts) (q q′ : List ℤ) (o h a row o′ h′ a′ : List ℕ) (nodes : List (List ℕ)) (freed buckets : List ℕ) (nodes′ : List (List ℕ)) (freed′ buckets′ : List ℕ)
+pub record StepLeaves (C : Counts) (q q′ : List ℤ) (o h a row o′ h′ a′ : List ℕ) (nodes : List Node) (freed buckets : List ℕ) (nodes′ : List Node) (freed′ buckets′ : List ℕ)
     (hull : Hull) (cx cy : Float) (v : Point) (r : Progress) : Type 0 where
   pub is : steppingOf q′ o′ h′ a′ r ≡ stepMesh (length row) cx cy C (linksOf o h a) (positionOf q) v
   pub sweep : r .full ≡ false → Sweep (r .counts) q′ o′ h′ a′ nodes′ freed′ buckets′ (r .hull) cx cy
@@ -77,7 +78,7 @@ pub record PointAdded (C : Counts) (q q′ : List ℤ) (o h a row o′ h′ a′
 
 -- ---- the call
 -- The step as it is defined, and zeros
-pub record SweptOnce (C : Counts) (q : List ℤ) (o h a : List ℕ) (nodes : List (List ℕ)) (freed buckets row : List ℕ)
-    (q′ : List ℤ) (o′ h′ a′ : List ℕ) (nodes′ : List (List ℕ)) (freed′ buckets′ row′ : List ℕ) (cx cy : Float) (v : Point) (r : Progress) : Type 0 where
+pub record SweptOnce (C : Counts) (q : List ℤ) (o h a : List ℕ) (nodes : List Node) (freed buckets row : List ℕ)
+    (q′ : List ℤ) (o′ h′ a′ : List ℕ) (nodes′ : List Node) (freed′ buckets′ row′ : List ℕ) (cx cy : Float) (v : Point) (r : Progress) : Type 0 where
   pub is : steppingOf q′ o′ h′ a′ r ≡ stepMesh (length row) cx cy C (linksOf o h a) (positionOf q) v
   pub zeros : RowsCleared nodes freed buckets row nodes′ freed′ buckets′ row′

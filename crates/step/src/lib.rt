@@ -22,6 +22,7 @@ use mesh::Counts;
 use mesh_check::Checked;
 use mesh_check::Refusal;
 use ring_rows::Hull;
+use ring_rows::Node;
 use sweep::Answer;
 use sweep::StepAnswer;
 use sweep::Stepped;
@@ -96,7 +97,7 @@ pub fn single_bulk_insertion_step(
     halves: &mut [u32],
     faces: &mut [u32],
     pending: &mut [u32],
-    nodes: &mut [[u64; 4]],
+    nodes: &mut [Node],
     freed: &mut [u32],
     buckets: &mut [u32],
     counts: Counts,
@@ -201,7 +202,7 @@ fn sweep_once(
     outs: &mut [u32],
     halves: &mut [u32],
     faces: &mut [u32],
-    nodes: &mut [[u64; 4]],
+    nodes: &mut [Node],
     freed: &mut [u32],
     buckets: &mut [u32],
     pending: &mut [u32],
@@ -264,7 +265,7 @@ pub fn step(
     outs: &mut [u32],
     halves: &mut [u32],
     faces: &mut [u32],
-    nodes: &mut [[u64; 4]],
+    nodes: &mut [Node],
     freed: &mut [u32],
     buckets: &mut [u32],
     pending: &mut [u32],

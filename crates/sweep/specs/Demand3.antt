@@ -8,6 +8,7 @@ use lib.Dec.{eqb}
 use lib.IntN.{pos, _-ℤ_}
 use lib.ListN.{length, replicate}
 use lib.Signed.{_≤ℤ_}
+use Rattle.ring_rows.specs.Rows.{zeroNode}
 use Rattle.closing.specs.Closing.{Closing, closingPass}
 use Rattle.convexity.specs.Convexity.{convexity, NoLeftCorner}
 use Rattle.corner.specs.Untouched.{Untouched}
@@ -81,7 +82,7 @@ pub record Demand3 (l : Lent) (r : Outcome) (t : Totals) : Type 0 where
 -- ---- the rows beside the mesh, after 9 and after every accepted run
 pub record Cleared (l : Lent) (r : Outcome) : Type 0 where
   -- "the ring, freed, bucket and pending rows hold zeros,
-  pub nodes : r .nodes ≡ replicate (length (l .nodes)) (replicate 4 0)
+  pub nodes : r .nodes ≡ replicate (length (l .nodes)) zeroNode
   pub freed : r .freed ≡ replicate (length (l .freed)) 0
   pub buckets : r .buckets ≡ replicate (length (l .buckets)) 0
   pub pending : r .pending ≡ replicate (length (l .pending)) 0

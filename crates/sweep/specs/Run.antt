@@ -8,6 +8,8 @@ use lib.Dec.{ltb}
 use lib.Ieee.{Float}
 use lib.IntN.{ℤ}
 use lib.ListN.{length, replicate}
+use Rattle.ring_rows.specs.Rows.{zeroNode}
+use Rattle.ring_rows.specs.declared.Node.{Node}
 use Rattle.dcel.specs.Rows.{linksOf, positionOf, rowOf, rowFrom, halvesFrom, positionsFrom}
 use Rattle.decide.specs.Decide.{fateNumber, fateVertex}
 use Rattle.finish.specs.declared.FinishAnswer.{FinishAnswer}
@@ -92,7 +94,7 @@ pub record Outcome : Type 0 where
   pub outs : List ℕ
   pub halves : List ℕ
   pub faces : List ℕ
-  pub nodes : List (List ℕ)
+  pub nodes : List Node
   pub freed : List ℕ
   pub buckets : List ℕ
   pub pending : List ℕ
@@ -105,7 +107,7 @@ pub record Lent : Type 0 where
   pub outs : List ℕ
   pub halves : List ℕ
   pub faces : List ℕ
-  pub nodes : List (List ℕ)
+  pub nodes : List Node
   pub freed : List ℕ
   pub buckets : List ℕ
   pub pending : List ℕ
@@ -114,7 +116,7 @@ pub record Lent : Type 0 where
   pub centery : Float
   pub points : List ℤ
 
-abbrev pub lent : Counts → List ℤ → List ℕ → List ℕ → List ℕ → List (List ℕ) → List ℕ → List ℕ → List ℕ → List ℕ → Float → Float → List ℤ
+abbrev pub lent : Counts → List ℤ → List ℕ → List ℕ → List ℕ → List Node → List ℕ → List ℕ → List ℕ → List ℕ → Float → Float → List ℤ
     → Lent
 lent C positions outs halves faces nodes freed buckets pending answers cx cy points = record {
   counts = C;
@@ -132,7 +134,7 @@ lent C positions outs halves faces nodes freed buckets pending answers cx cy poi
   points = points;
 }
 
-abbrev pub outcome : FinishAnswer → List ℤ → List ℕ → List ℕ → List ℕ → List (List ℕ) → List ℕ → List ℕ → List ℕ → List ℕ → Outcome
+abbrev pub outcome : FinishAnswer → List ℤ → List ℕ → List ℕ → List ℕ → List Node → List ℕ → List ℕ → List ℕ → List ℕ → Outcome
 outcome r positions outs halves faces nodes freed buckets pending answers = record {
   answer = r;
   positions = positions;
@@ -193,7 +195,7 @@ outcomeOf l Checked.Accepted =
       outs = rowFrom (length (l .outs)) (m .links .out);
       halves = halvesFrom (length (l .halves)) (m .links);
       faces = rowFrom (length (l .faces)) (m .links .adjacent);
-      nodes = replicate (length (l .nodes)) (replicate 4 0);
+      nodes = replicate (length (l .nodes)) zeroNode;
       freed = replicate (length (l .freed)) 0;
       buckets = replicate (length (l .buckets)) 0;
       pending = replicate (length (l .pending)) 0;

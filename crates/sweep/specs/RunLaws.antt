@@ -13,6 +13,7 @@ use lib.Ieee.{Float}
 use lib.IntN.{ℤ, pos, natAbs, _-ℤ_, +ℤ-negℤ-cancel}
 use lib.ListN.{length, getD, replicate, List·getD-eq-default}
 use lib.Signed.{_≤ℤ_, leZ-yes}
+use Rattle.ring_rows.specs.Rows.{zeroNode}
 use Rattle.algebra.specs.Order.{abs-0≤}
 use Rattle.closing.specs.Closing.{Closing, closingPass}
 use Rattle.convexity.specs.Convexity.{convexity, NoLeftCorner}
@@ -199,7 +200,7 @@ module _ (l : Lent) (e : runChecked l ≡ Checked.Accepted) where
     outs = rowFrom (length (l .outs)) (m .links .out);
     halves = halvesFrom (length (l .halves)) (m .links);
     faces = rowFrom (length (l .faces)) (m .links .adjacent);
-    nodes = replicate (length (l .nodes)) (replicate 4 0);
+    nodes = replicate (length (l .nodes)) zeroNode;
     freed = replicate (length (l .freed)) 0;
     buckets = replicate (length (l .buckets)) 0;
     pending = replicate (length (l .pending)) 0;

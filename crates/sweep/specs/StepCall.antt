@@ -7,6 +7,8 @@ use Prim.Native.Nat.{ℕ}
 use lib.Ieee.{Float}
 use lib.IntN.{ℤ}
 use lib.ListN.{length, replicate}
+use Rattle.ring_rows.specs.Rows.{zeroNode}
+use Rattle.ring_rows.specs.declared.Node.{Node}
 use Rattle.dcel.specs.Rows.{linksOf, positionOf, rowFrom, halvesFrom, positionsFrom}
 use Rattle.flip_count.specs.FlipCount.{flipCountFrom}
 use Rattle.math.specs.declared.Point.{Point}
@@ -39,14 +41,14 @@ answerFrom place s = record {
 }
 
 -- ---- the call
--- the answer, and what every lent row holds afterwards. A node's entry is four numbers
+-- the answer, and what every lent row holds afterwards
 pub record Outcome : Type 0 where
   pub answer : StepAnswer
   pub positions : List ℤ
   pub outs : List ℕ
   pub halves : List ℕ
   pub faces : List ℕ
-  pub nodes : List (List ℕ)
+  pub nodes : List Node
   pub freed : List ℕ
   pub buckets : List ℕ
   pub pending : List ℕ
@@ -55,7 +57,7 @@ pub record Outcome : Type 0 where
 -- ring, freed, bucket and pending rows hold zeros, and mesh and answer entries past the counts in use are untouched": the functions of the
 -- links and positions have every entry of their rows
 unfoldable pub outcomeOf : Counts → List ℤ → List ℕ → List ℕ → List ℕ
-    → List (List ℕ) → List ℕ → List ℕ → List ℕ → Checked → Stepping → Outcome
+    → List Node → List ℕ → List ℕ → List ℕ → Checked → Stepping → Outcome
 outcomeOf C positions outs halves faces nodes freed buckets pending (Checked.Refused r) s = record {
   answer = record { counts = C; stepped = Stepped.Refused r };
   positions = positions;
@@ -73,7 +75,7 @@ outcomeOf C positions outs halves faces nodes freed buckets pending Checked.Acce
   outs = rowFrom (length outs) (s .mesh .links .out);
   halves = halvesFrom (length halves) (s .mesh .links);
   faces = rowFrom (length faces) (s .mesh .links .adjacent);
-  nodes = replicate (length nodes) (replicate 4 0);
+  nodes = replicate (length nodes) zeroNode;
   freed = replicate (length freed) 0;
   buckets = replicate (length buckets) 0;
   pending = replicate (length pending) 0;
@@ -81,7 +83,7 @@ outcomeOf C positions outs halves faces nodes freed buckets pending Checked.Acce
 
 -- the rows as they are lent, the centre, and the point
 unfoldable pub stepOf : Counts → List ℤ → List ℕ → List ℕ → List ℕ
-    → List (List ℕ) → List ℕ → List ℕ → List ℕ → Float → Float → Point → Outcome
+    → List Node → List ℕ → List ℕ → List ℕ → Float → Float → Point → Outcome
 stepOf C positions outs halves faces nodes freed buckets pending cx cy v =
     outcomeOf C positions outs halves faces nodes freed buckets pending
     (stepChecked C positions outs halves faces (length nodes) (length freed) (length buckets) (length pending) cx cy v)

@@ -10,6 +10,8 @@ use native.Mathlib.Omega.{arith}
 use lib.Ieee.{Float}
 use lib.IntN.{ℤ}
 use lib.ListN.{length, replicate}
+use Rattle.ring_rows.specs.Rows.{zeroNode}
+use Rattle.ring_rows.specs.declared.Node.{Node}
 use Rattle.angle.specs.Angle.{angleAbout, turns}
 use Rattle.apply.specs.Apply.{firstFace}
 use Rattle.corner.specs.Corner.{Extended}
@@ -56,7 +58,7 @@ positionsAfter r = positionOf (r .positions)
 
 -- an accepted call leaves, and refusal 9 too: the mesh is good and its areas add up, no vertex has moved, entries past the counts are
 -- untouched, every row is as long as it was, and those of the ring and the pending list hold zeros
-pub record Left (C : Counts) (q : List ℤ) (o h a : List ℕ) (nodes : List (List ℕ)) (freed buckets row : List ℕ) (r : Outcome) : Type 0 where
+pub record Left (C : Counts) (q : List ℤ) (o h a : List ℕ) (nodes : List Node) (freed buckets row : List ℕ) (r : Outcome) : Type 0 where
   pub good : Good (r .answer .counts) (linksAfter r) (positionsAfter r)
   pub area : areaTotal (r .answer .counts) (linksAfter r) (positionsAfter r)
       ≡ boundaryArea (r .answer .counts) (linksAfter r) (positionsAfter r)
@@ -67,7 +69,7 @@ pub record Left (C : Counts) (q : List ℤ) (o h a : List ℕ) (nodes : List (Li
   pub outs : length (r .outs) ≡ length o
   pub halves : length (r .halves) ≡ length h
   pub faces : length (r .faces) ≡ length a
-  pub nodes-zero : r .nodes ≡ replicate (length nodes) (replicate 4 0)
+  pub nodes-zero : r .nodes ≡ replicate (length nodes) zeroNode
   pub freed-zero : r .freed ≡ replicate (length freed) 0
   pub buckets-zero : r .buckets ≡ replicate (length buckets) 0
   pub pending-zero : r .pending ≡ replicate (length row) 0
@@ -99,7 +101,7 @@ pub record MeshAlone (C : Counts) (q : List ℤ) (o h a : List ℕ) (r : Outcome
   pub faces : r .faces ≡ a
 
 -- what an accepted call leaves besides: the fate is the decided one, no boundary vertex is at the centre, and the boundary has a sound ring
-pub record Done (C : Counts) (q : List ℤ) (o h a : List ℕ) (nodes : List (List ℕ)) (freed buckets row : List ℕ)
+pub record Done (C : Counts) (q : List ℤ) (o h a : List ℕ) (nodes : List Node) (freed buckets row : List ℕ)
     (cx cy : Float) (v : Point) (r : Outcome) (x : Answer) : Type 0 where
   pub left : Left C q o h a nodes freed buckets row r
   pub fate : x .fate ≡ decided cx cy C (linksOf o h a) (positionOf q) v .fate
@@ -111,7 +113,7 @@ pub record Done (C : Counts) (q : List ℤ) (o h a : List ℕ) (nodes : List (Li
 
 -- 01, refusal 9: "the mesh stays as it was before that flip: linked, left-turning, its areas adding up": the point is in, with the faces
 -- and the flips that were made
-pub record Stopped (C : Counts) (q : List ℤ) (o h a : List ℕ) (nodes : List (List ℕ)) (freed buckets row : List ℕ)
+pub record Stopped (C : Counts) (q : List ℤ) (o h a : List ℕ) (nodes : List Node) (freed buckets row : List ℕ)
     (cx cy : Float) (v : Point) (r : Outcome) : Type 0 where
   pub left : Left C q o h a nodes freed buckets row r
   pub faces : ℕ
@@ -119,7 +121,7 @@ pub record Stopped (C : Counts) (q : List ℤ) (o h a : List ℕ) (nodes : List 
   pub added : Adds C q o h a row cx cy v r (C .vertices) faces flips
 
 -- 01: "All but 9 change nothing lent"
-pub record Unchanged (C : Counts) (q : List ℤ) (o h a : List ℕ) (nodes : List (List ℕ)) (freed buckets row : List ℕ)
+pub record Unchanged (C : Counts) (q : List ℤ) (o h a : List ℕ) (nodes : List Node) (freed buckets row : List ℕ)
     (r : Outcome) : Type 0 where
   pub mesh : MeshAlone C q o h a r
   pub nodes-same : r .nodes ≡ nodes
@@ -151,7 +153,7 @@ module _ (room : ℕ) (cx cy : Float) (C : Counts) (L : Links) (p : ℕ → Poin
       go false z = absurd (false≢true (sym (ap (λ (s : Stepping). s .mesh .full) (step-alone room cx cy C L p v z)) ∙ e))
 
 -- ---- the call
-module _ (C : Counts) (q : List ℤ) (o h a : List ℕ) (nodes : List (List ℕ)) (freed buckets row : List ℕ) (cx cy : Float) (v : Point) where
+module _ (C : Counts) (q : List ℤ) (o h a : List ℕ) (nodes : List Node) (freed buckets row : List ℕ) (cx cy : Float) (v : Point) where
   abbrev L : Links
   L = linksOf o h a
 
@@ -176,7 +178,7 @@ module _ (C : Counts) (q : List ℤ) (o h a : List ℕ) (nodes : List (List ℕ)
       outs = rowFrom (length o) (s .mesh .links .out);
       halves = halvesFrom (length h) (s .mesh .links);
       faces = rowFrom (length a) (s .mesh .links .adjacent);
-      nodes = replicate (length nodes) (replicate 4 0);
+      nodes = replicate (length nodes) zeroNode;
       freed = replicate (length freed) 0;
       buckets = replicate (length buckets) 0;
       pending = replicate (length row) 0;

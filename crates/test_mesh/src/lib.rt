@@ -424,19 +424,3 @@ pub fn holds(row: [u32; WORDS], n: usize, v: u32) -> bool {
     }
     n <= WORDS
 }
-
-fn node_holds(node: [u64; 4], v: u64) -> bool {
-    (node[0] == v) & (node[1] == v) & (node[2] == v) & (node[3] == v)
-}
-
-// Whether every number of each of the first n nodes is v.
-pub fn nodes_hold(row: [[u64; 4]; NODES], n: usize, v: u64) -> bool {
-    let mut i: usize = 0;
-    while i < NODES {
-        if (i < n) & !node_holds(row[i], v) {
-            return false;
-        }
-        i += 1;
-    }
-    n <= NODES
-}

@@ -6,7 +6,9 @@ use Rattle.hull.specs.Find.{held-rows}
 use Rattle.decide.specs.SweepLaws.{sweep-center}
 use Rattle.decide.proofs.Answers.{carried, at-center, asks-at, at-located}
 use Rattle.decide.proofs.decide.Statement.{statement}
-use Rattle.decide.proofs.decide.Tie as tie
+use Rattle.decide.proofs.decide.Proof.Tie as tie
+mod Lts
+mod Tie
 
 vertex-angle-requires : tie.Need-vertex-angle-requires
 vertex-angle-requires c κs = sweep-center (c .before .before .before .before .pre .sweep)

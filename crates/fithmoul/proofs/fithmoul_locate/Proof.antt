@@ -2,7 +2,9 @@
 use Rattle.fithmoul.specs.Leaves.{locate-leaves}
 use borrow.Author.Needs.{needs}
 use Rattle.fithmoul.proofs.fithmoul_locate.Statement.{statement}
-use Rattle.fithmoul.proofs.fithmoul_locate.Tie as tie
+use Rattle.fithmoul.proofs.fithmoul_locate.Proof.Tie as tie
+mod Lts
+mod Tie
 
 locate-requires : tie.Need-locate-requires
 locate-requires c κs = search needs

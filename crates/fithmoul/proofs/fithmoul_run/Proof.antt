@@ -3,7 +3,9 @@ use Rattle.fithmoul.specs.Laws.{accepted-run}
 use Rattle.fithmoul.specs.Leaves.{run-leaves}
 use borrow.Author.Needs.{needs}
 use Rattle.fithmoul.proofs.fithmoul_run.Statement.{statement}
-use Rattle.fithmoul.proofs.fithmoul_run.Tie as tie
+use Rattle.fithmoul.proofs.fithmoul_run.Proof.Tie as tie
+mod Lts
+mod Tie
 
 run-requires : tie.Need-run-requires
 run-requires c κs = search needs

@@ -3,7 +3,9 @@ use mir.Facts.{toZ-ofZ}
 use Rattle.fithmoul.specs.Leaves.{step-leaves}
 use borrow.Author.Needs.{needs}
 use Rattle.fithmoul.proofs.fithmoul_step.Statement.{statement}
-use Rattle.fithmoul.proofs.fithmoul_step.Tie as tie
+use Rattle.fithmoul.proofs.fithmoul_step.Proof.Tie as tie
+mod Lts
+mod Tie
 
 step-requires : tie.Need-step-requires
 step-requires c κs = search needs

@@ -3,7 +3,9 @@ use Prim.Native.Nat.{_-_}
 use native.Mathlib.Omega.{arith}
 use Rattle.hull.proofs.Numbered.{Building, building, building-angled, built-more, built-all}
 use Rattle.hull.proofs.build_nodes.Statement.{statement}
-use Rattle.hull.proofs.build_nodes.Tie as tie
+use Rattle.hull.proofs.build_nodes.Proof.Tie as tie
+mod Lts
+mod Tie
 
 abbrev Inv-loop : tie.InvT-loop
 Inv-loop positions halves nodes₀ start size center e₀ left₀ k₀ nodes e left k = Building positions halves (center .x) (center .y) start size nodes₀ nodes e left k
@@ -27,7 +29,7 @@ rem-right : tie.Need-rem-right Inv-loop μ-loop
 rem-right c = let a = c .before .loop-test .taken in omega arith
 
 store-requires : tie.Need-store-requires Inv-loop μ-loop
-store-requires c κs = ((let l = c .before .before .loop-test .taken in let K = c .before .before .before .loop .inv in let a = K .room in let b = K .same in omega arith), c .before .angle-at .ensures .is-angle)
+store-requires c κs = let l = c .before .before .loop-test .taken in let K = c .before .before .before .loop .inv in let a = K .room in let b = K .same in omega arith
 
 next-requires : tie.Need-next-requires Inv-loop μ-loop
 next-requires c κs = building-angled (c .before .before .before .before .before .loop .inv) .there

@@ -28,9 +28,6 @@ slice-aggregate-list-seed-7 c = search needs
 slice-aggregate-list-seed-8 : tie.Need-slice-aggregate-list-seed-8
 slice-aggregate-list-seed-8 c = search needs
 
-slice-aggregate-list-seed-9 : tie.Need-slice-aggregate-list-seed-9
-slice-aggregate-list-seed-9 c = search needs
-
 list-seed-requires : tie.Need-list-seed-requires
 list-seed-requires c κs = search needs
 
@@ -39,7 +36,7 @@ same-length c = search needs
 
 returns : tie.Need-returns
 unfolding lentOf
-returns c = c .before .before .before .before .before .before .before .before .before .before .before .list-seed .ensures
+returns c = c .before .before .before .before .before .before .before .before .before .before .list-seed .ensures
 
 pub list-numbers-spec : {M : Type 1} → statement M
 list-numbers-spec =
@@ -53,7 +50,6 @@ list-numbers-spec =
     slice-aggregate-list-seed-6
     slice-aggregate-list-seed-7
     slice-aggregate-list-seed-8
-    slice-aggregate-list-seed-9
     list-seed-requires
     same-length
     returns)

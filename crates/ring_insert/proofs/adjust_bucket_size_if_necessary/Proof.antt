@@ -3,7 +3,9 @@ use Rattle.dcel.specs.Rows.{rowOf}
 use Rattle.ring_insert.proofs.Freeing.{to-refill, adjusted}
 use borrow.Author.Needs.{needs}
 use Rattle.ring_insert.proofs.adjust_bucket_size_if_necessary.Statement.{statement}
-use Rattle.ring_insert.proofs.adjust_bucket_size_if_necessary.Tie as tie
+use Rattle.ring_insert.proofs.adjust_bucket_size_if_necessary.Proof.Tie as tie
+mod Lts
+mod Tie
 
 sub-size : tie.Need-sub-size
 sub-size c = search needs

@@ -4,7 +4,9 @@ use Rattle.ring_insert.proofs.Freeing.{first-there, taken-le}
 use Rattle.ring_insert.proofs.Inserting.{top-less, chosen-goes, chosen-stays}
 use borrow.Author.Needs.{needs}
 use Rattle.ring_insert.proofs.choose.Statement.{statement}
-use Rattle.ring_insert.proofs.choose.Tie as tie
+use Rattle.ring_insert.proofs.choose.Proof.Tie as tie
+mod Lts
+mod Tie
 
 release-requires : tie.Need-release-requires
 release-requires c κs = search needs

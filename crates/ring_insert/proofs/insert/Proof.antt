@@ -5,7 +5,9 @@ use Rattle.angle.specs.Bits.{angle-valid}
 use Rattle.ring_insert.proofs.Inserting.{chosen-as, found-on, found-angle, to-choose, to-place, new-valid, new-room}
 use borrow.Author.Needs.{needs}
 use Rattle.ring_insert.proofs.insert.Statement.{statement}
-use Rattle.ring_insert.proofs.insert.Tie as tie
+use Rattle.ring_insert.proofs.insert.Proof.Tie as tie
+mod Lts
+mod Tie
 
 get-requires : tie.Need-get-requires
 get-requires c κs = let z = c .before .before .before .before in (z .pre .rows, angle-valid _ (z .pre .al-angle))

@@ -7,9 +7,11 @@ use Rattle.angle.specs.Angle.{turns}
 use Rattle.dcel.specs.Rows.{rowOf}
 use Rattle.ring_rows.specs.Rows.{NodeRing, nodesOf}
 use Rattle.ring_rows.specs.Laws.{bucket-ring}
-use Rattle.ring_rows.proofs.Walk.{Walking, begin, here, here-readable, next-here, next-readable, apart, found, again}
+use Rattle.ring_rows.proofs.Walk.{Walking, begin, here, next-here, apart, found, again}
 use Rattle.ring_rows.proofs.get.Statement.{statement}
-use Rattle.ring_rows.proofs.get.Tie as tie
+use Rattle.ring_rows.proofs.get.Proof.Tie as tie
+mod Lts
+mod Tie
 
 abbrev Inv-loop : tie.InvT-loop
 Inv-loop nodes buckets angle bucket handle₀ passed₀ handle passed = (len size : ℕ) → NodeRing (nodesOf nodes) len size handle₀ → Walking (nodesOf nodes) len size handle₀ (turns angle) handle passed
@@ -36,13 +38,13 @@ load-requires : tie.Need-load-requires Inv-loop μ-loop
 unfolding rowOf
 load-requires c κs =
     let d = c in let a = d .before .before in let P = a .before .before .before .pre .0 in let K = d .loop .inv _ _ (bucket-ring P (a .floored-bucket .result) (a .floored-bucket .ensures .1 .1)) in
-    ((let l = here K in let m = P .node-room in omega arith), here-readable K)
+    let l = here K in let m = P .node-room in omega arith
 
 load-requires-2 : tie.Need-load-requires-2 Inv-loop μ-loop
 unfolding rowOf
 load-requires-2 c κs =
     let d = c .before in let a = d .before .before in let P = a .before .before .before .pre .0 in let K = d .loop .inv _ _ (bucket-ring P (a .floored-bucket .result) (a .floored-bucket .ensures .1 .1)) in
-    ((let l = next-here K (c .load .ensures) in let m = P .node-room in omega arith), next-readable K (c .load .ensures))
+    let l = next-here K (c .load .ensures) in let m = P .node-room in omega arith
 
 new-requires : tie.Need-new-requires Inv-loop μ-loop
 unfolding rowOf

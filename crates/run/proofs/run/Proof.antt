@@ -3,7 +3,9 @@ use borrow.Author.Needs.{needs}
 use mathlib.Core.Path.{sym, _∙_}
 use Rattle.run.proofs.RunDone.{refused-run, run-checks, run-demand}
 use Rattle.run.proofs.run.Statement.{statement}
-use Rattle.run.proofs.run.Tie as tie
+use Rattle.run.proofs.run.Proof.Tie as tie
+mod Lts
+mod Tie
 
 answers-short-requires : tie.Need-answers-short-requires
 answers-short-requires c κs = search needs

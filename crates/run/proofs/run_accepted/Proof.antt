@@ -4,7 +4,9 @@ use mathlib.Core.Path.{sym, _∙_, subst}
 use Prim.Native.Nat.{ℕ, _<_, _^_}
 use Rattle.run.proofs.RunDone.{points-fit, to-start, to-sweep, to-zero, to-finish, run-done}
 use Rattle.run.proofs.run_accepted.Statement.{statement}
-use Rattle.run.proofs.run_accepted.Tie as tie
+use Rattle.run.proofs.run_accepted.Proof.Tie as tie
+mod Lts
+mod Tie
 
 point-count-requires : tie.Need-point-count-requires
 point-count-requires c κs = search needs

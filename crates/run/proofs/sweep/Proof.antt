@@ -4,7 +4,9 @@ use Prim.Native.Nat.{_-_}
 use native.Mathlib.Omega.{arith}
 use Rattle.run.proofs.SweepLoop.{SweepingAt, sweeping-starts, sweeping-point, sweeping-ready, sweeping-full, sweeping-on, sweeping-end}
 use Rattle.run.proofs.sweep.Statement.{statement}
-use Rattle.run.proofs.sweep.Tie as tie
+use Rattle.run.proofs.sweep.Proof.Tie as tie
+mod Lts
+mod Tie
 
 abbrev Inv-loop : tie.InvT-loop
 Inv-loop positions₀ outs₀ halves₀ faces₀ pending₀ nodes₀ freed₀ buckets₀ answers₀ center points count now₀ ring₀ i₀ positions outs halves faces pending nodes freed buckets answers now ring i =

@@ -2,7 +2,9 @@
 use borrow.Author.Needs.{needs}
 use Rattle.start.specs.StartLaws.{started-face, started-size, started-build, ring-started}
 use Rattle.start.proofs.start_ring.Statement.{statement}
-use Rattle.start.proofs.start_ring.Tie as tie
+use Rattle.start.proofs.start_ring.Proof.Tie as tie
+mod Lts
+mod Tie
 
 adjacent-requires : tie.Need-adjacent-requires
 adjacent-requires c κs = started-face (c .before .before .before .pre .start)

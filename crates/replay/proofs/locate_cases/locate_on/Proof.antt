@@ -2,51 +2,57 @@
 use mathlib.Core.Path.{refl}
 use lib.ListN.{replicate}
 use Rattle.test_mesh.proofs.Lent.{part}
+use Rattle.replay.proofs.Nodes.{within}
 use borrow.Author.Needs.{needs}
 use Rattle.replay.proofs.locate_cases.locate_on.Statement.{statement}
-use Rattle.replay.proofs.locate_cases.locate_on.Tie as tie
+use Rattle.replay.proofs.locate_cases.locate_on.Proof.Tie as tie
+mod Lts
+mod Tie
+
+seven-nodes-requires : tie.Need-seven-nodes-requires
+seven-nodes-requires c κs = search needs
 
 array-share-prefix-positions : tie.Need-array-share-prefix-positions
-array-share-prefix-positions c = c .before .before .before .before .pre .0
+array-share-prefix-positions c = c .before .before .before .before .before .pre .0
 
 slice-aggregate-locate : tie.Need-slice-aggregate-locate
-slice-aggregate-locate c = part _ _ (c .before .before .before .before .before .args .mesh .positions .row) refl (c .before .before .before .before .before .pre .0)
+slice-aggregate-locate c = part _ _ (c .before .before .before .before .before .before .args .mesh .positions .row) refl (c .before .before .before .before .before .before .pre .0)
 
 array-share-prefix-outs : tie.Need-array-share-prefix-outs
-array-share-prefix-outs c = c .before .before .before .before .before .pre .1 .0
+array-share-prefix-outs c = c .before .before .before .before .before .before .pre .1 .0
 
 slice-aggregate-locate-2 : tie.Need-slice-aggregate-locate-2
-slice-aggregate-locate-2 c = part _ _ (c .before .before .before .before .before .before .args .mesh .outs .row) refl (c .before .before .before .before .before .before .pre .1 .0)
+slice-aggregate-locate-2 c = part _ _ (c .before .before .before .before .before .before .before .args .mesh .outs .row) refl (c .before .before .before .before .before .before .before .pre .1 .0)
 
 array-share-prefix-halves : tie.Need-array-share-prefix-halves
-array-share-prefix-halves c = c .before .before .before .before .before .before .pre .1 .1 .0
+array-share-prefix-halves c = c .before .before .before .before .before .before .before .pre .1 .1 .0
 
 slice-aggregate-locate-3 : tie.Need-slice-aggregate-locate-3
-slice-aggregate-locate-3 c = part _ _ (c .before .before .before .before .before .before .before .args .mesh .halves .row) refl (c .before .before .before .before .before .before .before .pre .1 .1 .0)
+slice-aggregate-locate-3 c = part _ _ (c .before .before .before .before .before .before .before .before .args .mesh .halves .row) refl (c .before .before .before .before .before .before .before .before .pre .1 .1 .0)
 
 array-share-prefix-faces : tie.Need-array-share-prefix-faces
-array-share-prefix-faces c = c .before .before .before .before .before .before .before .pre .1 .1 .1 .0
+array-share-prefix-faces c = c .before .before .before .before .before .before .before .before .pre .1 .1 .1 .0
 
 slice-aggregate-locate-4 : tie.Need-slice-aggregate-locate-4
-slice-aggregate-locate-4 c = part _ _ (c .before .before .before .before .before .before .before .before .args .mesh .faces .row) refl (c .before .before .before .before .before .before .before .before .pre .1 .1 .1 .0)
+slice-aggregate-locate-4 c = part _ _ (c .before .before .before .before .before .before .before .before .before .args .mesh .faces .row) refl (c .before .before .before .before .before .before .before .before .before .pre .1 .1 .1 .0)
 
 array-borrow-prefix-nodes : tie.Need-array-borrow-prefix-nodes
-array-borrow-prefix-nodes c = c .before .before .before .before .before .before .before .before .pre .1 .1 .1 .1 .0
+array-borrow-prefix-nodes c = within (c .before .before .before .before .seven-nodes .ensures) (c .before .before .before .before .before .before .before .before .before .pre .1 .1 .1 .1 .0)
 
 slice-aggregate-locate-5 : tie.Need-slice-aggregate-locate-5
-slice-aggregate-locate-5 c = part _ 256 (replicate 256 (replicate 4 7)) refl (c .before .before .before .before .before .before .before .before .before .pre .1 .1 .1 .1 .0)
+slice-aggregate-locate-5 c = part _ 256 _ (c .before .before .before .before .before .seven-nodes .ensures) (c .before .before .before .before .before .before .before .before .before .before .pre .1 .1 .1 .1 .0)
 
 array-borrow-prefix-freed : tie.Need-array-borrow-prefix-freed
-array-borrow-prefix-freed c = c .before .before .before .before .before .before .before .before .before .pre .1 .1 .1 .1 .1 .0
+array-borrow-prefix-freed c = c .before .before .before .before .before .before .before .before .before .before .pre .1 .1 .1 .1 .1 .0
 
 slice-aggregate-locate-6 : tie.Need-slice-aggregate-locate-6
-slice-aggregate-locate-6 c = part _ 6144 (replicate 6144 7) refl (c .before .before .before .before .before .before .before .before .before .before .pre .1 .1 .1 .1 .1 .0)
+slice-aggregate-locate-6 c = part _ 6144 (replicate 6144 7) refl (c .before .before .before .before .before .before .before .before .before .before .before .pre .1 .1 .1 .1 .1 .0)
 
 array-borrow-prefix-buckets : tie.Need-array-borrow-prefix-buckets
-array-borrow-prefix-buckets c = c .before .before .before .before .before .before .before .before .before .before .pre .1 .1 .1 .1 .1 .1
+array-borrow-prefix-buckets c = c .before .before .before .before .before .before .before .before .before .before .before .pre .1 .1 .1 .1 .1 .1
 
 slice-aggregate-locate-7 : tie.Need-slice-aggregate-locate-7
-slice-aggregate-locate-7 c = part _ 6144 (replicate 6144 7) refl (c .before .before .before .before .before .before .before .before .before .before .before .pre .1 .1 .1 .1 .1 .1)
+slice-aggregate-locate-7 c = part _ 6144 (replicate 6144 7) refl (c .before .before .before .before .before .before .before .before .before .before .before .before .pre .1 .1 .1 .1 .1 .1)
 
 double-requires : tie.Need-double-requires
 double-requires c κs = search needs
@@ -73,6 +79,7 @@ pub locate-on-spec : {M : Type 1} → statement M
 locate-on-spec =
     tie.close
     (tie.spec
+    seven-nodes-requires
     array-share-prefix-positions
     slice-aggregate-locate
     array-share-prefix-outs

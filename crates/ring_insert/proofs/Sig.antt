@@ -1,0 +1,25 @@
+-- Made by tools/transplant.py: signatures with the row of nodes, and the readings of their contracts.
+pub mod Kinds_adjust_bucket_size_if_necessary
+pub mod Reads_adjust_bucket_size_if_necessary
+pub mod Kinds_choose
+pub mod Reads_choose
+pub mod Kinds_insert
+pub mod Reads_insert
+pub mod Kinds_place
+pub mod Reads_place
+pub mod Kinds_release
+pub mod Reads_release
+pub mod Kinds_ring_rows_get
+pub mod Reads_ring_rows_get
+pub mod Kinds_ring_rows_initialize_buckets
+pub mod Reads_ring_rows_initialize_buckets
+pub mod Kinds_ring_rows_load
+pub mod Reads_ring_rows_load
+pub mod Kinds_ring_rows_set_edge
+pub mod Reads_ring_rows_set_edge
+pub mod Kinds_ring_rows_set_left
+pub mod Reads_ring_rows_set_left
+pub mod Kinds_ring_rows_set_right
+pub mod Reads_ring_rows_set_right
+pub mod Kinds_ring_rows_store
+pub mod Reads_ring_rows_store

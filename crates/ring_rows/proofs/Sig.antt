@@ -1,0 +1,21 @@
+-- Made by tools/transplant.py: signatures with the row of nodes, and the readings of their contracts.
+pub mod Kinds_clear_nodes
+pub mod Reads_clear_nodes
+pub mod Kinds_get
+pub mod Reads_get
+pub mod Kinds_initialize_buckets
+pub mod Reads_initialize_buckets
+pub mod Kinds_load
+pub mod Reads_load
+pub mod Kinds_set_edge
+pub mod Reads_set_edge
+pub mod Kinds_set_left
+pub mod Reads_set_left
+pub mod Kinds_set_right
+pub mod Reads_set_right
+pub mod Kinds_store
+pub mod Reads_store
+pub mod Kinds_store_at
+pub mod Reads_store_at
+pub mod Kinds_update_node_buckets
+pub mod Reads_update_node_buckets
