@@ -14,7 +14,7 @@ use denote.Slice.{Room}
 use denote.Struct.Laws as LL
 use Rattle.sums.specs.Put.{put, put-same, put-other}
 use Rattle.ring_rows.specs.declared.Node.{Node}
-use Rattle.ring_rows.specs.Rows.{zeroNode, nodesOf, withEdge, withLeft, withRight}
+use Rattle.ring_rows.specs.Rows.{zeroNode, nodesOf}
 use Rattle.ring_rows.proofs.Node as T
 use Rattle.ring_rows.proofs.Node.Laws as T′
 
@@ -46,11 +46,7 @@ stored l i n h = fun-ext (λ x. at x (ℕ-discrete x i))
     at x (no q) = getD-set-other l i x n zeroNode q ∙ sym (put-other (λ j. getD l j zeroNode) i n x q)
 
 -- one field stored
-pub edge-stored : (l : List Node) (i v : ℕ) → i < length l → nodesOf (set l i (withEdge (getD l i zeroNode) v)) ≡ put (nodesOf l) i (withEdge (nodesOf l i) v)
-edge-stored l i v h = stored l i (withEdge (getD l i zeroNode) v) h ∙ ap (λ (n : Node). put (nodesOf l) i (withEdge n v)) (loaded l i)
-
-pub left-stored : (l : List Node) (i v : ℕ) → i < length l → nodesOf (set l i (withLeft (getD l i zeroNode) v)) ≡ put (nodesOf l) i (withLeft (nodesOf l i) v)
-left-stored l i v h = stored l i (withLeft (getD l i zeroNode) v) h ∙ ap (λ (n : Node). put (nodesOf l) i (withLeft n v)) (loaded l i)
-
-pub right-stored : (l : List Node) (i v : ℕ) → i < length l → nodesOf (set l i (withRight (getD l i zeroNode) v)) ≡ put (nodesOf l) i (withRight (nodesOf l i) v)
-right-stored l i v h = stored l i (withRight (getD l i zeroNode) v) h ∙ ap (λ (n : Node). put (nodesOf l) i (withRight n v)) (loaded l i)
+pub field-stored : (with : Node → ℕ → Node) (l : List Node) (i v : ℕ) → i < length l
+    → nodesOf (set l i (with (getD l i zeroNode) v)) ≡ put (nodesOf l) i (with (nodesOf l i) v)
+field-stored with l i v h =
+    stored l i (with (getD l i zeroNode) v) h ∙ ap (λ (n : Node). put (nodesOf l) i (with n v)) (loaded l i)

@@ -39,7 +39,7 @@ use denote.Triple.Table.{entered}
 use denote.Triple.Walked.{says, needs, Stays, stay-slice, stay-none, walkOf, Walks, ends-at, walked, goes-slice, goes-none, walk-meets}
 use Rattle.ring_rows.specs.Rows.{zeroNode, withLeft}
 use Rattle.ring_rows.specs.declared.Node.{Node}
-use Rattle.ring_rows.proofs.NodeWalk.{N, spelled, widened, scaled, left-stored}
+use Rattle.ring_rows.proofs.NodeWalk.{N, spelled, widened, scaled, field-stored}
 use Rattle.ring_rows.proofs.Node as T
 use Rattle.ring_rows.proofs.Node.Laws as T′
 use Rattle.ring_rows.proofs.set_left.Key.{name as #ring_rows·set_left}
@@ -89,7 +89,7 @@ module _ {M : Type 1} (𝓤 : URA M) (H : Heap 𝓤) (A : Atoms 𝓤) (W : Given
       (Post vunit)
   exits gn l =
       qed W (‵ (fobs γ (codedHoleys N .code (heres N zs))) ∷ ‵ (fbor κ (Held N (length zs) b o γ)) ∷ ‵ (flft κ q) ∷ ‵ (fsep (u32 .own i (vint w32 i ∷ [])) (fsep (u32 .own v (vint w32 v ∷ [])) ftrue)) ∷ []) ∵
-      suffices ! _ (ends-at 𝓤 H A f.ended stayed (f.clauses 𝓤 H A at-mem run) W bound vunit tt (now (y .0), (tt, (tt, tt))) (length-set ys i new, (tt, (tt, tt)))) $ says ! (left-stored ys i v l) $
+      suffices ! _ (ends-at 𝓤 H A f.ended stayed (f.clauses 𝓤 H A at-mem run) W bound vunit tt (now (y .0), (tt, (tt, tt))) (length-set ys i new, (tt, (tt, tt)))) $ says ! (field-stored withLeft ys i v l) $
       nothing ! $ move ! (3 ∷ 0 ∷ []) $ join ! $
       frame ! $ fjoin ! $ pureI ! (at-slice N (y .0) (at .0)) (tt, (tt, tt)) (ap (λ (m : ℕ). sliceVal (b, o) m ∷ []) (sym (length-set ys i new)), subst (Room N) (sym (length-set ys i new)) gn) $ fjoin ! $ fjoin ! $ frame ! $
       feqI ! (List Val) (vunit ∷ []) (vunit ∷ []) refl $ done !
