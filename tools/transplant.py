@@ -150,7 +150,10 @@ def zero(t, crate, file):
     """A value of a type, for a stub in a file of a crate; a KeyError where none can be written there."""
     array = re.match(r'\[(.*); ([\w:]+)\]$', t)
     if array:
-        return '[%s; %s]' % (zero(array.group(1), crate, file), array.group(2))
+        count = array.group(2)
+        if re.match('[A-Z]', count) and not re.search(r'(::|const )%s\b' % count, crate.files[file]):
+            raise KeyError(count)
+        return '[%s; %s]' % (zero(array.group(1), crate, file), count)
     if t in ('f32', 'f64'):
         return '0.0'
     if t == 'bool':
