@@ -1,6 +1,6 @@
 -- The listing of a text: 01, "Runs to reproduce", from bytes to bytes. Definitions only.
 -- `listingOf text` is what the listing program prints for any bytes whatever; what a text says is `readOf` of
--- listing_text, what a run comes to is `runOf` of run.
+-- listing_text, what a run comes to is `runOf` of sweep.
 use mathlib.Core.List.{List, [], _∷_, _++_}
 use Prim.Native.Nat.{ℕ, zero, suc, _+_, _*_, _-_}
 use lib.Ieee.{ofInt, binary64}
