@@ -1,7 +1,8 @@
 #!/usr/bin/env python3
 """The part of a proof that follows the code, for functions over a lent row of structs, which the borrow checker does not cover.
 
-    python3 tools/transplant.py [CRATE..]      remakes the made text of every crate that has any, or of those named
+    python3 tools/transplant.py [CRATE..]              remakes the made text of every crate that has any, or of those named
+    python3 tools/transplant.py --check [CRATE..]      writes nothing there: says which files are not what it makes, and ends with 1 where there are any
 
 The borrow checker declines `&[Node]` and `&mut [Node]`. It covers `&mut [[u8; 24]]`, and 24 is Node's size. So, for each crate:
   1. target/twin gets a twin of the crate: each [Node] behind a reference is [[u8; 24]], the clauses are gone, and functions that do not
@@ -306,11 +307,10 @@ def generated(key, k):
     return '%s/target/goals/%s/Rattle.%s.proofs/proofs/%s/%s.antt' % (TWIN, key[0], key[0], '/'.join(p for p in key[1:] if p), k)
 
 
-def make(crate, goals):
-    """Writes a crate's made text; `goals` has the twin's Kinds and Reads of every function with the row, by function."""
-    c, size = crates[crate], 0
+def made_text(crate, goals):
+    """A crate's made text by path; `goals` has the twin's Kinds and Reads of every function with the row, by function."""
+    c = crates[crate]
     folder = c.folder + '/proofs'
-    shutil.rmtree(folder + '/Sig', ignore_errors=True)
     cited = [k for k in rows if k[0] == crate or any(k in f.calls() for f in c.functions)]
     cited.sort(key=lambda k: sig_name(k, crate))
     texts = {}
@@ -323,14 +323,42 @@ def make(crate, goals):
     for key in sorted(k for k in made if k[0] == crate):
         for k in ('Lts', 'Tie'):
             texts['%s/%s/Proof/%s.antt' % (folder, '/'.join(p for p in key[1:] if p), k)] = put(read(generated(key, k)), crate)
+    return texts
+
+
+def landed(crate):
+    """The paths of the made text that a crate has."""
+    for folder, _, files in os.walk(crates[crate].folder + '/proofs'):
+        for f in files:
+            path = '%s/%s' % (folder, f)
+            if read(path).startswith('-- Made by tools/transplant.py'):
+                yield path
+
+
+def make(crate, goals):
+    """Writes a crate's made text; what it had and no longer needs goes."""
+    texts = made_text(crate, goals)
+    for path in list(landed(crate)):
+        if path not in texts:
+            os.remove(path)
     for path, text in texts.items():
         write(path, text)
-        size += len(text.encode())
+    size = sum(len(t.encode()) for t in texts.values())
     print('%s: %d functions, %d KB' % (crate, len([k for k in made if k[0] == crate]), size // 1024), flush=True)
 
 
+def differing(crate, goals):
+    """The paths at which a crate's made text is not what is made now, or is missing, or is no longer made."""
+    texts, has = made_text(crate, goals), set(landed(crate))
+    wrong = sorted(p for p in has | set(texts) if p not in has or p not in texts or read(p) != texts[p])
+    print('%s: %s' % (crate, 'as made' if not wrong else 'not as made: ' + ' '.join(wrong)), flush=True)
+    return wrong
+
+
 def main():
-    wanted = [n for n in affected if not sys.argv[1:] or n in sys.argv[1:]]
+    words = [w for w in sys.argv[1:] if w != '--check']
+    check, wrong = '--check' in sys.argv[1:], []
+    wanted = [n for n in affected if not words or n in words]
     prepare(wanted)
     goals = {}
     for n in [m for m in below(wanted) if m in twinned]:
@@ -350,12 +378,15 @@ def main():
         for key in rows:
             if key[0] == n:
                 goals[key] = {k: read(generated(key, k)) for k in ('Kinds', 'Reads')}
-        if not stub_goals:
+        if not stub_goals and check:
+            wrong += differing(n, goals)
+        elif not stub_goals:
             make(n, goals)
         if below_another(n, below(wanted)):
             twin(c, True)
             if rt('check', n):
                 sys.exit('the twin of %s is not proved: target/twin/target/log/%s.out' % (n, n))
+    sys.exit(1 if wrong else 0)
 
 
 main()
