@@ -1,6 +1,6 @@
 -- The call `step` on the lent rows: what an accepted call leaves, with an added point and without one (`call-accepted`); what refusal 9
--- leaves; and that every other refusal is one of the checks' and changes nothing (`call-refused`). That a boundary has a sound ring after
--- an added point exactly when that was decided beforehand is `add-sound` of crate apply's ApplyLaws. Assumes nothing.
+-- leaves; and that every other refusal is one of the checks' and changes nothing (`call-refused`). That fate 4
+-- tells the truth about the boundary which the step would leave is `SoundRing`. Assumes nothing.
 use mathlib.Core.Bool.{Bool, true, false, false≢true}
 use mathlib.Core.List.{List}
 use mathlib.Core.Logic.{_⊎_, inl, inr}
