@@ -10,6 +10,11 @@
  * after it says; a row that a call may write overlaps no other row, and nobody else uses it meanwhile. No call keeps
  * a pointer, allocates, or uses anything global: calls on different rows may run at the same time.
  *
+ * The caller's too is the floating-point environment: rounding to nearest, subnormal numbers kept, as C starts a
+ * program. Angles are doubles, and where a program sets flush-to-zero (linking with gcc's -ffast-math does) or another
+ * rounding, an answer may not be the one that is proved. In the triangle (-5, 0), (5, -5), (5, 5), about the centre
+ * (1.0, -5e-324), the edge at 1.0 is that from (5, -5) to (-5, 0); with flush-to-zero it is the one after it.
+ *
  * COORDINATES are whole numbers from -16,777,216 to 16,777,216: millimetres, say. A centre is two doubles in the same
  * range.
  *
@@ -54,9 +59,9 @@
  *                          index, or the number of points where the finish was refused; otherwise 0
  *
  * AFTERWARDS. Refusals 1 to 8 leave every row as it was. After 9 and after every accepted call nodes, freed, buckets
- * and pending hold zeros over their whole length. After 9 the mesh is the one that stood before that flip, a good
- * mesh with the counts of the result; in a run the answers of the points before `place` stay and the others are
- * zeros.
+ * and pending hold zeros over their whole length: of a node its four fields do, and nothing is said of its four bytes
+ * of padding. After 9 the mesh is the one that stood before that flip, a good mesh with the counts of the result; in a
+ * run the answers of the points before `place` stay and the others are zeros.
  */
 #ifndef FITHMOUL_H
 #define FITHMOUL_H

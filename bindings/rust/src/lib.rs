@@ -1,7 +1,8 @@
 //! A mesh of triangles over points on a whole-number grid: points in, triangles out.
 //!
 //! The work is done by libfithmoul.a, whose every function is proved; this crate owns the rows that it works on, so that a call cannot be given wrong
-//! ones, and turns its numbers into Rust's types. Every call answers a result or a [`Refusal`]; none panics, whatever it is given.
+//! ones, and turns its numbers into Rust's types. Every call answers a result or a [`Refusal`]; none panics, whatever it is given. What is left to the
+//! program is the floating-point environment: doubles rounded to nearest and subnormal ones kept, as a program starts.
 //!
 //! ```
 //! # fn main() -> Result<(), fithmoul::LoadError> {

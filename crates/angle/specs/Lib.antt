@@ -11,4 +11,3 @@ pub mod Center
 pub mod Bits
 pub mod Valid
 pub mod Product
-pub mod Marked

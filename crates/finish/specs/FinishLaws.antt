@@ -33,7 +33,7 @@ use Rattle.mesh.specs.Good.{Good}
 use Rattle.mesh_check.specs.declared.Checked.{Checked}
 use Rattle.mesh_check.specs.declared.Refusal.{Refusal}
 use Rattle.mesh_check.specs.Check.{checkWith}
-use Rattle.mesh_check.specs.CheckLaws.{NumberedTo, numbered-at, check-numbered}
+use Rattle.mesh_check.specs.CheckLaws.{NumberedTo, check-numbered}
 use Rattle.finish.specs.declared.Finished.{Finished}
 use Rattle.finish.specs.declared.Totals.{Totals}
 use Rattle.finish.specs.Finish.{Finishing, finishMesh, Outcome, finishedFrom, outcomeOf, seedChecked, finishOf}
@@ -195,13 +195,13 @@ module _ (C : Counts) (q : List ℤ) (o h a row : List ℕ) where
 
   -- refused: by the checks, and nothing has changed, or before a flip whose pushes would overfill the pending list, and the mesh is good
   pub finish-refused : (x : Refusal) → finishOf C q o h a row .answer .finished ≡ Finished.Refused x
-      → ((x .number ≤ 5) × Unchanged C o h a row (finishOf C q o h a row))
+      → (NumberedTo 5 (Checked.Refused x) × Unchanged C o h a row (finishOf C q o h a row))
       ⊎ ((x .number ≡ 9) × (x .place ≡ 0) × Left C q o h a row (finishOf C q o h a row) (m .faces))
   unfolding finishedFrom finishOf outcomeOf
   finish-refused x e = by (seedChecked C q o h a row) refl seed-numbered
     where
       Wanted : Type 0
-      Wanted = ((x .number ≤ 5) × Unchanged C o h a row (finishOf C q o h a row)) ⊎ ((x .number ≡ 9) × (x .place ≡ 0) × Left C q o h a row (finishOf C q o h a row) (m .faces))
+      Wanted = (NumberedTo 5 (Checked.Refused x) × Unchanged C o h a row (finishOf C q o h a row)) ⊎ ((x .number ≡ 9) × (x .place ≡ 0) × Left C q o h a row (finishOf C q o h a row) (m .faces))
 
       at : (k : seedChecked C q o h a row ≡ Checked.Accepted) → (b : Bool) → m .full ≡ b → Wanted
       at k true f =
@@ -217,4 +217,4 @@ module _ (C : Counts) (q : List ℤ) (o h a row : List ℕ) where
       by (Checked.Refused y) k l =
           let z : Finished.Refused y ≡ Finished.Refused x = rw k at e in
           let w : y ≡ x = cc in
-          inl (subst (λ (r : Refusal). r .number ≤ 5) w (numbered-at l), (rw k (record { counts = refl; outs = refl; halves = refl; faces = refl; pending = refl })))
+          inl (subst (λ (r : Refusal). NumberedTo 5 (Checked.Refused r)) w l, (rw k (record { counts = refl; outs = refl; halves = refl; faces = refl; pending = refl })))

@@ -1,7 +1,8 @@
 // The five calls for C, C++ and Rust: check a mesh, locate an angle, step one point, finish a mesh, run a list of points. For a C compiler
 // this page is include/fithmoul.h. Each call is a call of the library with its arguments as numbers and its answer as a struct of numbers:
 // what it answers and leaves is what that call's definition gives, for every input. A slice is a pointer and a length for C. Nothing is
-// asked of the caller but that each row is there, as long as is said, and that no row that is written overlaps another.
+// asked of the caller but that each row is there, as long as is said, that no row that is written overlaps another, and that doubles are
+// rounded to nearest and subnormal ones kept (docs/DECISIONS.md, "Who answers for what C cannot check?").
 ghost use mathlib.Core.Path.{_≡_};
 ghost use Rattle.finish.specs.Finish.{finishOf};
 ghost use Rattle.locate.specs.Locate.{locateOf};

@@ -6,4 +6,3 @@ pub mod DecimalLaws
 pub mod RowLaws
 pub mod Listing
 pub mod ListingLaws
-pub mod Examples

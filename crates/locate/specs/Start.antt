@@ -51,7 +51,7 @@ then-accepts (Refused r) next e = absurd (let z : _≡_ {A = ℕ} 0 1 = cc in om
 pub then-numbered : {n : ℕ} {first next : Checked} → NumberedTo n first → NumberedTo n next → NumberedTo n (andThen first next)
 unfolding andThen
 then-numbered accepts g = g
-then-numbered (refuses l) g = refuses l
+then-numbered (refuses k l) g = refuses k l
 
 -- ---- the ring's rows
 pub record RingRoom (n nodes freed buckets : ℕ) : Type 0 where
@@ -133,8 +133,8 @@ pub start-numbered : (points : List ℤ) (short : Bool) (C : Counts) (p : List �
 unfolding checkStart checkWith checkRing
 start-numbered points short C p o h a cx cy =
     then-numbered (numbered-more (omega arith) (check-numbered _ _ _ _ _))
-    (numbered-cond (refusesCenter C (linksOf o h a) (positionOf p) cx cy) 6 0 (omega arith)
-    (numbered-cond (refusesRing C (linksOf o h a) (positionOf p) cx cy) 7 0 (omega arith) accepts))
+    (numbered-cond (refusesCenter C (linksOf o h a) (positionOf p) cx cy) 6 0 (omega arith) (omega arith)
+    (numbered-cond (refusesRing C (linksOf o h a) (positionOf p) cx cy) 7 0 (omega arith) (omega arith) accepts))
 
 -- the table goes on where rows 1 to 5 let pass, and stops where they do not
 module _ (points : List ℤ) (short : Bool) (C : Counts) (p : List ℤ) (o h a : List ℕ) (e : checkWith points short C p o h a ≡ Accepted) where

@@ -1,3 +1,4 @@
--- `Marked` has the list and the theorem, `NoPoints` the law that its last one states.
-pub mod NoPoints
+-- `Marked` has the list, `NoPoints` the law that its last one states, `Established` the theorem.
 pub mod Marked
+pub mod NoPoints
+pub mod Established

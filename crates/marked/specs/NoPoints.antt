@@ -1,7 +1,6 @@
--- A run of no points is the finish of the seed, for every mesh, centre and rows that the checks accept. Assumes nothing.
+-- M10: a run of no points is the finish of the seed, for every mesh, centre and rows that the checks accept. Assumes nothing.
 use mathlib.Core.List.{List, []}
-use mathlib.Core.Path.{_≡_, refl, sym, _∙_, ap, subst}
-use Prim.Native.Nat.{ℕ}
+use mathlib.Core.Path.{_≡_, refl, sym, ap, subst}
 use borrow.Author.Tests.{le-ltb}
 use lib.IntN.{ℤ}
 use lib.ListN.{length}
@@ -13,13 +12,7 @@ use Rattle.mesh_check.specs.Accepted.{AcceptedWith, accepts-with}
 use Rattle.mesh_check.specs.Check.{pointCount}
 use Rattle.sweep.specs.Run as run
 use Rattle.sweep.specs.RunLaws.{run-accepts, run-start}
-
--- the answer and every row that a finish may write are those of `finish`, called with the seed, and the positions stand
-pub record FinishOfSeed (l : run.Lent) (r : run.Outcome) : Type 0 where
-  pub call : _≡_ {A = finish.Outcome}
-      (record { answer = r .answer; outs = r .outs; halves = r .halves; faces = r .faces; pending = r .pending })
-      (finish.finishOf (l .counts) (l .positions) (l .outs) (l .halves) (l .faces) (l .pending))
-  pub positions : r .positions ≡ l .positions
+use Rattle.marked.specs.Marked.{FinishOfSeed}
 
 none : {points : List ℤ} → points ≡ [] → pointCount points ≡ 0
 unfolding pointCount

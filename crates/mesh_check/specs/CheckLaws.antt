@@ -1,6 +1,6 @@
 -- Each row of the table, as it is met (`check-..`); only the positions of the counted vertices matter (`check-agree`);
 -- and a mesh passes exactly when it is good and within the limits (`accepted-passes`, `passes-accepted`); a refusal's
--- number is at most 5 (`check-numbered`). Assumes nothing.
+-- number is from 1 to 5 (`check-numbered`). Assumes nothing.
 use mathlib.Core.Path.{_≡_, refl, sym, ap, subst}
 use mathlib.Core.Bool.{Bool, true, false, not, _&&_, _||_, cond}
 use Prim.Native.Nat.{ℕ, _*_, _<_, _≤_}
@@ -55,30 +55,30 @@ module _ (n : ℕ) (short : Bool) (C : Counts) (L : Links) (p : ℕ → Point) w
           unfolding checkMesh
           check-accepted l = rw (a, b, ← q, le-ltb i n c, d, ← r, le-ltb f (C .faces) l)
 
--- ---- the numbers of the table: a refusal has one up to n
+-- ---- the numbers of the table, which count from 1: a refusal has one from 1 to n
 pub data NumberedTo (n : ℕ) : Checked → Type 0 where
   accepts : NumberedTo n Accepted
-  refuses : {r : Refusal} → r .number ≤ n → NumberedTo n (Refused r)
+  refuses : {r : Refusal} → 1 ≤ r .number → r .number ≤ n → NumberedTo n (Refused r)
 
-pub numbered-at : {n : ℕ} {r : Refusal} → NumberedTo n (Refused r) → r .number ≤ n
-numbered-at (refuses l) = l
+pub numbered-at : {n : ℕ} {r : Refusal} → NumberedTo n (Refused r) → (1 ≤ r .number) × (r .number ≤ n)
+numbered-at (refuses k l) = (k, l)
 
 pub numbered-more : {m n : ℕ} {c : Checked} → m ≤ n → NumberedTo m c → NumberedTo n c
 numbered-more l accepts = accepts
-numbered-more l (refuses {r = r} k) = refuses {r = r} (omega arith)
+numbered-more l (refuses {r = r} j k) = refuses {r = r} j (omega arith)
 
-pub numbered-cond : {n : ℕ} (t : Bool) (k i : ℕ) {c : Checked} → k ≤ n → NumberedTo n c → NumberedTo n (cond t (refused k i) c)
-numbered-cond true k i l f = refuses l
-numbered-cond false k i l f = f
+pub numbered-cond : {n : ℕ} (t : Bool) (k i : ℕ) {c : Checked} → 1 ≤ k → k ≤ n → NumberedTo n c → NumberedTo n (cond t (refused k i) c)
+numbered-cond true k i j l f = refuses j l
+numbered-cond false k i j l f = f
 
 pub check-numbered : (n : ℕ) (short : Bool) (C : Counts) (L : Links) (p : ℕ → Point) → NumberedTo 5 (checkMesh n short C L p)
 unfolding checkMesh
 check-numbered n short C L p =
-    numbered-cond (countRefused n) 1 0 (omega arith)
-    (numbered-cond short 2 0 (omega arith)
-    (numbered-cond (ltb (firstOutside n p) n) 3 (firstOutside n p) (omega arith)
-    (numbered-cond (not (rules C L)) 4 0 (omega arith)
-    (numbered-cond (ltb (firstNotLeft C L p) (C .faces)) 5 (firstNotLeft C L p) (omega arith) accepts))))
+    numbered-cond (countRefused n) 1 0 (omega arith) (omega arith)
+    (numbered-cond short 2 0 (omega arith) (omega arith)
+    (numbered-cond (ltb (firstOutside n p) n) 3 (firstOutside n p) (omega arith) (omega arith)
+    (numbered-cond (not (rules C L)) 4 0 (omega arith) (omega arith)
+    (numbered-cond (ltb (firstNotLeft C L p) (C .faces)) 5 (firstNotLeft C L p) (omega arith) (omega arith) accepts))))
 
 -- ---- only what is below the counts matters
 first-below-ext : (n : ℕ) (s t : ℕ → Bool) → ((i : ℕ) → i < n → s i ≡ t i) → first-below n s ≡ first-below n t

@@ -3,4 +3,3 @@ pub mod Readable
 pub mod ReadableLaws
 pub mod CheckLaws
 pub mod Accepted
-pub mod CheckExamples

@@ -9,5 +9,5 @@ pub mod Half
 pub mod Store
 pub mod Tally
 pub mod Until
-pub mod Examples
+pub mod Usage
 pub mod Orbits

@@ -61,7 +61,7 @@ pub record Demand3 (l : Lent) (r : Outcome) (t : Totals) : Type 0 where
   pub vertex : (i : ℕ) → i < pointCount (l .points) → fateOf r i ≡ 1 → vertexOf r i ≡ l .counts .vertices + addedBefore r i
   -- and no other vertex;
   pub number : r .answer .counts .vertices ≡ l .counts .vertices + addedBefore r (pointCount (l .points))
-  -- it keeps the mesh rules;
+  -- it keeps the mesh rules; (as facts: the test `rules` of mesh/Rules passes exactly where they hold, `rules-wf` and `wf-rules`)
   pub rules : Wf (r .answer .counts) (linksAfter r)
   -- every triangle turns strictly left;
   pub turning : LeftTurning (r .answer .counts) (linksAfter r) (placesAfter r)

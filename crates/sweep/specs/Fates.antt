@@ -1,5 +1,5 @@
 -- What an added point's fate says: it has an angle, is at no end of the located edge, is strictly left of it, and the boundary that the
--- step would leave has a sound ring. Assumes nothing.
+-- step would leave has a sound ring; and what fate 4 says: all of this but the last. Assumes nothing.
 use mathlib.Core.Bool.{Bool, true, false, not, cond}
 use mathlib.Core.Path.{_≡_, refl, sym, _∙_, ap}
 use Prim.Native.Nat.{ℕ}
@@ -9,7 +9,7 @@ use lib.Ieee.{Float}
 use Rattle.angle.specs.Angle.{angleAbout, atCenter, turns}
 use Rattle.decide.specs.declared.Fate.{Fate}
 use Rattle.decide.specs.declared.Fate.the-variants.{Added, Dropped, NotLeft, Unsound, AtCenter}
-use Rattle.decide.specs.Decide.{Decided, fateNumber, ifAdded, atEnd, fateAt, decidedAt, decided}
+use Rattle.decide.specs.Decide.{Decided, fateNumber, notAdded, ifAdded, atEnd, fateAt, decidedAt, decided}
 use Rattle.math.specs.declared.Point.{Point}
 use Rattle.mesh.specs.declared.Counts.{Counts}
 use Rattle.mesh.specs.Mesh.{Links}
@@ -56,6 +56,18 @@ fate-cases false false t e = absurd (let z : _≡_ {A = ℕ} 0 1 = cc in omega a
 fate-cases false true false e = absurd (let z : _≡_ {A = ℕ} 0 1 = cc in omega arith)
 fate-cases false true true e = (tt, tt, cc)
 
+-- the same of fate 4
+center-unsound : (c : Bool) (X : Decided) → cond c (notAdded AtCenter) X .fate ≡ Unsound → c ≡ false
+center-unsound true X e = absurd (let z : _≡_ {A = ℕ} 0 1 = cc in omega arith)
+center-unsound false X e = refl
+
+unsound-cases : (a s t : Bool) (m : ℕ) → cond a Dropped (cond (not s) NotLeft (cond (not t) Unsound (Added m))) ≡ Unsound
+    → T s × (t ≡ false)
+unsound-cases true s t m e = absurd (let z : _≡_ {A = ℕ} 0 1 = cc in omega arith)
+unsound-cases false false t m e = absurd (let z : _≡_ {A = ℕ} 0 1 = cc in omega arith)
+unsound-cases false true false m e = (tt, refl)
+unsound-cases false true true m e = absurd (let z : _≡_ {A = ℕ} 0 1 = cc in omega arith)
+
 added-is : (f : Fate) {m n : ℕ} → f ≡ Added m → ifAdded f n ≡ n
 unfolding ifAdded
 added-is f e = rw e refl
@@ -92,3 +104,11 @@ module _ (cx cy : Float) (C : Counts) (L : Links) (p : ℕ → Point) (v : Point
         left = ap (λ (D : Decided). D .left) d ∙ added-is (fateAt C L p (turnsAbout cx cy p) v q e) f;
         right = ap (λ (D : Decided). D .right) d ∙ added-is (fateAt C L p (turnsAbout cx cy p) v q e) f;
       }
+
+  pub is-unsound : decided cx cy C L p v .fate ≡ Unsound
+      → T (seesEdge L p v e) × (soundAfter C L p (turnsAbout cx cy p) v q e ≡ false)
+  unfolding decided decidedAt fateAt
+  is-unsound z =
+      let c = center-unsound (atCenter (v .x) (v .y) cx cy) (decidedAt C L p (turnsAbout cx cy p) v q e) z in
+      unsound-cases (atEnd L p v e) (seesEdge L p v e) (soundAfter C L p (turnsAbout cx cy p) v q e) (C .vertices)
+      (sym (ap (λ (D : Decided). D .fate) (decided-off c)) ∙ z)

@@ -47,9 +47,10 @@ use Rattle.mesh.specs.Wf.{Wf}
 use Rattle.mesh_check.specs.declared.Checked.{Checked}
 use Rattle.mesh_check.specs.declared.Refusal.{Refusal}
 use Rattle.mesh_check.specs.Check.{pointCount, vertexCount}
+use Rattle.mesh_check.specs.CheckLaws.{NumberedTo}
 use Rattle.ring.specs.Boundary.{strict-ring}
 use Rattle.ring.specs.Center.{turnsAbout}
-use Rattle.start.specs.StartLaws.{AcceptedSweep, sweep-accepts}
+use Rattle.start.specs.StartLaws.{AcceptedSweep, sweep-accepts, sweep-numbered}
 use Rattle.sweep.specs.Fates.{number-added}
 use Rattle.sweep.specs.Step.{Stepping, isAdded}
 use Rattle.sweep.specs.StepMesh.{Swept}
@@ -342,14 +343,21 @@ module _ (l : Lent) where
           let y : Finished.Refused x ≡ Finished.Accepted t = rw e at z in
           absurd (let w : _≡_ {A = ℕ} 0 1 = cc in omega arith)
 
-  -- a refusal: of the checks, and nothing has changed; or 9
+  run-numbered : NumberedTo 7 (runChecked l)
+  unfolding runChecked
+  run-numbered = sweep-numbered (l .points) _ (l .counts) (l .positions) (l .outs) (l .halves) (l .faces) _ _ _ _ (l .centerx) (l .centery)
+
+  -- a refusal: of the checks, numbered 1 to 7, and nothing has changed; or 9
   pub run-refused : (x : Refusal) → runOf l .answer .finished ≡ Finished.Refused x
-      → (Unchanged l (runOf l) × (runChecked l ≡ Checked.Refused x)) ⊎ ((x .number ≡ 9) × Full l (runOf l) (x .place) × Cleared l (runOf l))
+      → (NumberedTo 7 (Checked.Refused x) × Unchanged l (runOf l) × (runChecked l ≡ Checked.Refused x))
+      ⊎ ((x .number ≡ 9) × Full l (runOf l) (x .place) × Cleared l (runOf l))
   unfolding runOf outcomeOf finishedFrom
-  run-refused x z = by (runChecked l) refl
+  run-refused x z = by (runChecked l) refl run-numbered
     where
       Wanted : Type 0
-      Wanted = (Unchanged l (runOf l) × (runChecked l ≡ Checked.Refused x)) ⊎ ((x .number ≡ 9) × Full l (runOf l) (x .place) × Cleared l (runOf l))
+      Wanted =
+          (NumberedTo 7 (Checked.Refused x) × Unchanged l (runOf l) × (runChecked l ≡ Checked.Refused x))
+          ⊎ ((x .number ≡ 9) × Full l (runOf l) (x .place) × Cleared l (runOf l))
 
       at : (e : runChecked l ≡ Checked.Accepted) (b : Bool) → finishOf l .full ≡ b → Wanted
       at e true f =
@@ -365,12 +373,13 @@ module _ (l : Lent) where
           let y : Finished.Accepted totals ≡ Finished.Refused x = sym (rw (run-is l e, f) refl) ∙ z in
           absurd (let w : _≡_ {A = ℕ} 0 1 = cc in omega arith)
 
-      by : (c : Checked) → runChecked l ≡ c → Wanted
-      by Checked.Accepted e = at e (finishOf l .full) refl
-      by (Checked.Refused y) e =
+      by : (c : Checked) → runChecked l ≡ c → NumberedTo 7 c → Wanted
+      by Checked.Accepted e k = at e (finishOf l .full) refl
+      by (Checked.Refused y) e k =
           let u : Finished.Refused y ≡ Finished.Refused x = rw e at z in
           let w : y ≡ x = cc in
           inl (
+            subst (λ (r : Refusal). NumberedTo 7 (Checked.Refused r)) w k,
             rw e (record { counts = refl; positions = refl; outs = refl; halves = refl; faces = refl; nodes = refl; freed = refl; buckets = refl; pending = refl; answers = refl }),
             e ∙ ap Checked.Refused w,
           )

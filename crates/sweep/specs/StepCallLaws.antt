@@ -1,6 +1,6 @@
 -- The call `step` on the lent rows: what an accepted call leaves, with an added point and without one (`call-accepted`); what refusal 9
--- leaves; and that every other refusal is one of the checks' and changes nothing (`call-refused`). That a boundary has a sound ring after
--- an added point exactly when that was decided beforehand is `add-sound` of crate apply's ApplyLaws. Assumes nothing.
+-- leaves; and that every other refusal is one of the checks' and changes nothing (`call-refused`). That fate 4
+-- tells the truth about the boundary which the step would leave is `SoundRing`. Assumes nothing.
 use mathlib.Core.Bool.{Bool, true, false, false≢true}
 use mathlib.Core.List.{List}
 use mathlib.Core.Logic.{_⊎_, inl, inr}
@@ -37,7 +37,7 @@ use Rattle.mesh.specs.Operations.{createNewFaceAdjacentToEdge, withVertex}
 use Rattle.mesh_check.specs.declared.Checked.{Checked}
 use Rattle.mesh_check.specs.declared.Refusal.{Refusal}
 use Rattle.mesh_check.specs.Check.{vertexCount, pointCount}
-use Rattle.mesh_check.specs.CheckLaws.{NumberedTo, numbered-at}
+use Rattle.mesh_check.specs.CheckLaws.{NumberedTo}
 use Rattle.ring.specs.Boundary.{strict-ring}
 use Rattle.ring.specs.Center.{turnsAbout}
 use Rattle.ring.specs.Ring.{located}
@@ -346,7 +346,7 @@ module _ (C : Counts) (q : List ℤ) (o h a : List ℕ) (nodes : List Node) (fre
 
   -- refused: by the checks, and nothing has changed, or before a flip whose pushes would overfill the pending list
   pub call-refused : (x : Refusal) → stepOf C q o h a nodes freed buckets row cx cy v .answer .stepped ≡ Stepped.Refused x
-      → ((x .number ≤ 7) × Unchanged C q o h a nodes freed buckets row (stepOf C q o h a nodes freed buckets row cx cy v))
+      → (NumberedTo 7 (Checked.Refused x) × Unchanged C q o h a nodes freed buckets row (stepOf C q o h a nodes freed buckets row cx cy v))
       ⊎ ((x .number ≡ 9) × (x .place ≡ 0)
       × Stopped C q o h a nodes freed buckets row cx cy v (stepOf C q o h a nodes freed buckets row cx cy v))
   unfolding answerFrom stepOf outcomeOf
@@ -354,7 +354,7 @@ module _ (C : Counts) (q : List ℤ) (o h a : List ℕ) (nodes : List Node) (fre
     where
       Wanted : Type 0
       Wanted =
-          ((x .number ≤ 7) × Unchanged C q o h a nodes freed buckets row whole)
+          (NumberedTo 7 (Checked.Refused x) × Unchanged C q o h a nodes freed buckets row whole)
           ⊎ ((x .number ≡ 9) × (x .place ≡ 0) × Stopped C q o h a nodes freed buckets row cx cy v whole)
 
       at : (k : checks ≡ Checked.Accepted) → (b : Bool) → s .mesh .full ≡ b → Wanted
@@ -376,4 +376,4 @@ module _ (C : Counts) (q : List ℤ) (o h a : List ℕ) (nodes : List Node) (fre
           let z : Stepped.Refused y ≡ Stepped.Refused x = rw k at e in
           let w : y ≡ x = cc in
           let same : Unchanged C q o h a nodes freed buckets row whole = rw k (unchanged y) in
-          inl (subst (λ (r : Refusal). r .number ≤ 7) w (numbered-at l), same)
+          inl (subst (λ (r : Refusal). NumberedTo 7 (Checked.Refused r)) w l, same)

@@ -33,7 +33,7 @@ use Rattle.mesh.specs.Wf.{Wf}
 use Rattle.ring.specs.Ring.{isSoundRing, located}
 use Rattle.ring.specs.Boundary.{located<, located-outer, outer-on}
 use Rattle.ring.specs.Center.{turnsAbout, refusesCenter}
-use Rattle.ring.specs.Chain.{leftChain, rightChain}
+use Rattle.ring.specs.Chain.{seesEdge, leftChain, rightChain}
 use Rattle.sums.specs.Bit.{sure, or-cases, or-left, or-right}
 use Rattle.sums.specs.Bounded.{any-below, any-below→, any-below←}
 use Rattle.sums.specs.Put.{put, put-same, put-other}
@@ -98,23 +98,27 @@ module _ {cx cy : Float} {C : Counts} {L : Links} {p : ℕ → Point} (S : Swept
   old : (u : ℕ) → u < C .vertices → p′ u ≡ p u
   old u l = put-other p (C .vertices) v u (λ z. omega arith)
 
+  -- before a point goes in that is left of the located edge, whether its fate is 1 or 4
+  pub seen-before : T (seesEdge L p v e) → Before C L p α p′ α′ v q e
+  unfolding turnsAbout
+  seen-before t = record {
+    good = S .good;
+    edge = located< (S .good .wf) α (S .sound) q;
+    outer = located-outer (S .good .wf) α (S .sound) q;
+    seen = t;
+    places = old;
+    angles = λ u l. ap (λ (w : Point). turns (angleAbout (w .x) (w .y) cx cy)) (old u l);
+    new-place = put-same p (C .vertices) v;
+    new-angle = ap (λ (w : Point). turns (angleAbout (w .x) (w .y) cx cy)) (put-same p (C .vertices) v);
+    range = i;
+  }
+
   module _ {n : ℕ} (f : decided cx cy C L p v .fate ≡ Added n) where
     A : IsAdded cx cy C L p v n (decided cx cy C L p v)
     A = is-added cx cy C L p v f
 
     pub step-before : Before C L p α p′ α′ v q e
-    unfolding turnsAbout
-    step-before = record {
-      good = S .good;
-      edge = located< (S .good .wf) α (S .sound) q;
-      outer = located-outer (S .good .wf) α (S .sound) q;
-      seen = A .seen;
-      places = old;
-      angles = λ u l. ap (λ (w : Point). turns (angleAbout (w .x) (w .y) cx cy)) (old u l);
-      new-place = put-same p (C .vertices) v;
-      new-angle = ap (λ (w : Point). turns (angleAbout (w .x) (w .y) cx cy)) (put-same p (C .vertices) v);
-      range = i;
-    }
+    step-before = seen-before (A .seen)
 
     module _ (room : ℕ) where
       -- the step, by the turns that were decided

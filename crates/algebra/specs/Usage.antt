@@ -1,14 +1,14 @@
--- One example of each tool of this crate, to copy from. The names: v0, v1, .. are the numbers of the list ρ, in order,
+-- How each tool of this crate is used: a law that it proves, to copy from. The names: v0, v1, .. are the numbers of the list ρ, in order,
 -- and # n is a numeral.
 -- Assumes nothing.
 use mathlib.Core.Path.{_≡_, refl}
 use mathlib.Core.Logic.{⊎-elim}
-use mathlib.Core.List.{List, [], _∷_}
+use mathlib.Core.List.{[], _∷_}
 use native.Mathlib.Omega.{arith}
 use lib.IntN.{ℤ, pos, negsuc, _+ℤ_, _-ℤ_, _*ℤ_}
 use lib.Signed.{_<ℤ_, _≤ℤ_}
-use Rattle.algebra.specs.Ring.{E, _⊕_, _⊖_, _⊗_, ⊝_, #_, v0, v1, v2, ring}
-use Rattle.algebra.specs.Sign.{_*⁺_, _+⁺_, _*°_, _+°_, weak, less1, sq, pos-in, lt-in, le-in, cases, lt-by, le-by, refute, eq-in, eq-by, _*⁰_, _+⁰_}
+use Rattle.algebra.specs.Ring.{_⊕_, _⊖_, _⊗_, ⊝_, #_, v0, v1, v2, ring}
+use Rattle.algebra.specs.Sign.{_+⁺_, _*°_, weak, less1, sq, pos-in, lt-in, cases, le-by, refute, eq-in, eq-by, _+⁰_}
 use Rattle.algebra.specs.Linear.{lt→, le→, le←, lt←}
 
 -- an identity: the goal, and its two sides again as expressions

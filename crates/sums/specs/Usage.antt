@@ -1,4 +1,4 @@
--- One example of each tool of this crate, to copy from. Assumes nothing.
+-- How each tool of this crate is used: a law that it proves, to copy from. Assumes nothing.
 use mathlib.Core.Path.{_≡_, refl, sym, _∙_, ap, ap₂}
 use mathlib.Core.Logic.{_≢_}
 use mathlib.Core.Bool.{Bool, true, false}
@@ -6,21 +6,21 @@ use mathlib.Core.List.{List, [], _∷_}
 use Prim.Native.Nat.{ℕ, suc, _+_, _*_, _%_, _^_, _<_, _≤_}
 use native.Mathlib.Nat.{mod-lt}
 use native.Mathlib.Omega.{arith}
-use lib.Dec.{T, eqb, ltb, leb}
-use lib.IntN.{ℤ, pos, _+ℤ_, _-ℤ_}
+use lib.Dec.{eqb, ltb, leb}
+use lib.IntN.{ℤ, _+ℤ_, _-ℤ_}
 use lib.ListN.{length, getD, set}
 use borrow.Author.Tests.{eqb-false}
 use Rattle.sums.specs.Bit.{bit, Tells, lt?, le?}
 use Rattle.sums.specs.Put.{put, put-other, stores}
 use Rattle.sums.specs.Cases.{None, each}
-use Rattle.sums.specs.Bounded.{all-below, all-eq, any-below, first-below, count}
+use Rattle.sums.specs.Bounded.{count}
 use Rattle.sums.specs.Listed.{entry, listed-list}
 use Rattle.sums.specs.Sum.{sum, sum-change-two}
-use Rattle.sums.specs.Iterate.{iter, Reach, reach-one, reach-two, reach-trans, reach-by, reach-ind, reaches, reaches-reach, Inverse, inverse-sym, inverse-then, Period, period-below, period-is}
+use Rattle.sums.specs.Iterate.{iter, Reach, reach-one, reach-two, reach-trans, reach-by, reach-ind, Inverse, inverse-sym, inverse-then, Period, period-below, period-is}
 use Rattle.sums.specs.Half.{rev, rev-inverse}
 use Rattle.sums.specs.Store.{store-at}
 use Rattle.sums.specs.Tally.{walk, tally, tally-round, count-change-list}
-use Rattle.sums.specs.Until.{until, when, Falls, Going, until-ends, going-start, going-turn, going-end}
+use Rattle.sums.specs.Until.{until, Falls, Going, until-ends, going-start, going-turn, going-end}
 
 -- ---- by cases on tests: each test becomes a variable, with what it tells beside it
 trichotomy : (a b : ℕ) → bit (ltb a b) + bit (leb b a) ≡ 1
@@ -42,28 +42,7 @@ swapped : (f g : ℕ → ℕ) (a b : ℕ) → f a ≡ b → f b ≡ a → g a �
     → (x : ℕ) → g (f x) ≡ x
 swapped f g a b p q r s h k = each {P = λ x. g (f x) ≡ x} (a ∷ b ∷ []) ((cc), ((cc), tt)) (λ x o. ap g (h x o) ∙ k x o)
 
--- ---- a rule of a table is one computed test; search and count compute
-table : (i : ℕ) → i < 24 → rev (rev i) ≡ i
-unfolding all-below rev
-table = all-eq 24 (λ i. rev (rev i)) (λ i. i) tt
-
-some-square : T (any-below 10 (λ i. eqb (i * i) 49))
-unfolding any-below
-some-square = tt
-
-first-square : first-below 1000 (λ i. ltb 40 (i * i)) ≡ 7
-unfolding first-below
-first-square = refl
-
-thirds : count 10 (λ i. eqb (i % 3) 0) ≡ 4
-unfolding count
-thirds = refl
-
--- ---- sums: they compute, and a sum after a change
-six : sum 4 (λ i. pos i) ≡ pos 6
-unfolding sum
-six = refl
-
+-- ---- a sum after a change
 moved : (n a b : ℕ) (f : ℕ → ℤ) → a < n → b < n → a ≢ b → sum n (put (put f a (f b)) b (f a)) ≡ sum n f +ℤ ((f b -ℤ f a) +ℤ (f a -ℤ f b))
 moved n a b f l m d =
     let g = put (put f a (f b)) b (f a) in
@@ -87,14 +66,6 @@ turn-round : (n : ℕ) (next prev : ℕ → ℕ) → Inverse (2 * n) next prev �
     → Period (λ x. rev (prev x)) e (period-below (2 * n) (λ x. rev (prev x)) e)
 turn-round n next prev i e l = period-is (inverse-then (inverse-sym i) (rev-inverse n)) l
 
-seven : period-below 10 (λ i. (i + 3) % 7) 2 ≡ 7
-unfolding period-below first-below
-seven = refl
-
-met : Reach (λ i. (i + 3) % 7) 2 6
-unfolding reaches
-met = reaches-reach 7 (λ i. (i + 3) % 7) 2 6 tt
-
 -- ---- three stores into a list, as the code nests them
 stored : (l : List ℕ) (a b c u v w : ℕ) → a < length l → b < length l → c < length l → a ≢ b → a ≢ c → b ≢ c
     → getD (set (set (set l a u) b v) c w) b 0 ≡ v
@@ -114,7 +85,7 @@ fewer n a b p q la lb ab h e₁ e₂ e₃ e₄ =
     let c = count-change-list n (a ∷ b ∷ []) (la, (lb, tt)) ((ab, tt), (tt, tt)) p q h in
     omega (arith, ap bit e₁, ap bit e₂, ap bit e₃, ap bit e₄)
 
--- ---- a loop with fuel: Euclid's algorithm at fuel 2 ^ 100 and more, computed and ending
+-- ---- a loop with fuel: Euclid's algorithm, ending
 pub record Two : Type 0 where
   pub a : ℕ
   pub b : ℕ
@@ -131,10 +102,6 @@ fuel s = 2 ^ 100 + (s .a + s .b)
 
 unfoldable pub gcd : Two → Two
 gcd s = until done turn (fuel s) s
-
-twelve : gcd (record { a = 84; b = 36 }) .a ≡ 12
-unfolding gcd until when
-twelve = refl
 
 -- the second number falls
 pub falls : Falls done turn (λ _. Unit {0}) (λ s. s .b)
