@@ -1,5 +1,6 @@
 """Reads the lists by the words of README.md and holds each case against sweep.py; then changes sweep.py
-in one place at a time and shows that some list notices each change, so that the lists can fail.
+in one place at a time and shows that some list notices each change, so that the lists can fail. A change of
+the listing program's part has to be noticed by three cases of its list.
 
     python3 verify.py            # the lists as they stand
     python3 verify.py mutants    # and the changes
@@ -14,7 +15,9 @@ import types
 from fractions import Fraction
 
 HERE = os.path.dirname(os.path.abspath(__file__))
-SECONDS = 5.0  # the longest case takes well under one
+SECONDS = 20.0  # the longest case takes two
+SHORT = 1000  # bytes of a listing's text that every change is tried on
+FEWEST = 3  # cases of the listing's list that notice a change of the listing
 NAMES = ("samples", "check", "finish", "locate", "step", "run", "listing")
 
 
@@ -41,6 +44,29 @@ def read(name):
     tag, (count,) = rows.pop()
     assert tag == "z" and count == len(rows), name
     return rows
+
+
+def read_texts():
+    """The cases of the listing's list: a text, and what it must print."""
+    with open(os.path.join(HERE, "lists", "listing.txt"), "rb") as f:
+        data = f.read()
+    at, found = 0, []
+
+    def text(tag):
+        nonlocal at
+        start = data.index(b"\n", at) + 1
+        count = int(data[at + 2:start])
+        assert data[at:start] == b"%s %d\n" % (tag, count) and data[start + count:][:1] == b"\n", at
+        at = start + count + 1
+        return data[start:start + count]
+
+    while data[at:at + 1] in b"#b":
+        if data[at:at + 1] == b"#":
+            at = data.index(b"\n", at) + 1
+        else:
+            found.append((text(b"b"), text(b"e")))
+    assert data[at:] == b"z %d\n" % len(found)
+    return found
 
 
 def row(numbers):
@@ -135,8 +161,8 @@ def call_one(sweep, case):
             and cleared(answer[0], lent.nodes, lent.freed, lent.buckets, lent.pending))
 
 
-def listing_one(sweep, case):
-    return sweep.listing(bytes(case["b"][1:])) == bytes(case["e"][1:])
+def listing_one(sweep, given, printed):
+    return sweep.listing(given) == printed
 
 
 def held(test, *arguments):
@@ -157,8 +183,11 @@ def too_long(*_):
 def failures(sweep, name, first_only=False):
     """The number of cases of a list, and of those that sweep.py answers otherwise."""
     total = bad = 0
-    rows = read(name)
-    if name == "samples":
+    rows = read(name) if name != "listing" else []
+    if name == "listing":
+        tests = ((listing_one, given, printed) for given, printed in read_texts()
+                 if not first_only or len(given) < SHORT)
+    elif name == "samples":
         tests = ((sample, tag, n) for tag, n in rows)
     elif name == "locate":
         def queries():
@@ -173,7 +202,7 @@ def failures(sweep, name, first_only=False):
         tests = queries()
     else:
         one, last = {"check": (check_one, "r"), "finish": (finish_one, "r"), "step": (call_one, "r"),
-                     "run": (call_one, "r"), "listing": (listing_one, "e")}[name]
+                     "run": (call_one, "r")}[name]
         tests = ((one, case) for case in cases(rows, last))
     for test, *arguments in tests:
         total += 1
@@ -292,6 +321,36 @@ MUTANTS = [  # name, text, what takes its place; and why, where no list can noti
     ("9 names no place", "answer = (9, done, 0, 0, 0)", "answer = (9, 0, 0, 0, 0)"),
     ("the pending row not cleared", "        self.pending[:] = [0] * len(self.pending)", "        pass"),
     ("the buckets not cleared", "        self.buckets[:] = [0] * len(self.buckets)", "        pass"),
+    ("at most 64 pending entries used", "capacity, done = len(lent.pending), 0",
+     "capacity, done = min(64, len(lent.pending)), 0"),
+]
+LISTING = [  # the same of the listing program's part
+    ("8 pending entries lent", "LISTING_PENDING = 400, 4096", "LISTING_PENDING = 400, 8"),
+    ("100 pending entries lent", "LISTING_PENDING = 400, 4096", "LISTING_PENDING = 400, 100"),
+    ("the centre's coordinates exchanged", "(float(centre[0]), float(centre[1]))",
+     "(float(centre[1]), float(centre[0]))"),
+    ("the points' coordinates exchanged", "[tuple(p) for p in read[2:]]", "[tuple(p[::-1]) for p in read[2:]]"),
+    ("the seed's corners in another order", "[(s[0], s[1]), (s[2], s[3]), (s[4], s[5])]",
+     "[(s[2], s[3]), (s[4], s[5]), (s[0], s[1])]"),
+    ("index from one", "% ((i,) + answer_at", "% ((i + 1,) + answer_at"),
+    ("fate and vertex exchanged", "return (fate, vertex, faces, (high", "return (vertex, fate, faces, (high"),
+    ("vertex and faces exchanged", "return (fate, vertex, faces, (high", "return (fate, faces, vertex, (high"),
+    ("faces and flips exchanged", "return (fate, vertex, faces, (high << 64) + low)",
+     "return (fate, vertex, (high << 64) + low, faces)"),
+    ("the flips' high word alone", "(high << 64) + low", "high"),
+    ("edges and inner faces exchanged", "mesh.edges, mesh.faces - 1,\n", "mesh.faces - 1, mesh.edges,\n"),
+    ("vertices and edges exchanged", "(mesh.vertices, mesh.edges, mesh.faces - 1",
+     "(mesh.edges, mesh.vertices, mesh.faces - 1"),
+    ("the area not doubled", "boundary_area(mesh), faces,", "boundary_area(mesh) // 2, faces,"),
+    ("the finish's faces and convexity flips exchanged", "faces, convex, closing))", "convex, faces, closing))"),
+    ("convexity and closing flips exchanged", "faces, convex, closing))", "faces, closing, convex))"),
+    ("convexity and closing flips in one", "faces, convex, closing))", "faces, convex + closing, convex))"),
+    ("`r place number`", "% (number, place)\n    out", "% (place, number)\n    out"),
+    ("`r number` of a refusal with place 0", "% (number, place)\n    out", "% (number, 0)\n    out"),
+    ("`r line 0`", 'return b"r 0 %d\\n" % (i + 1)', 'return b"r %d 0\\n" % (i + 1)'),
+    ("`r line 0` of a line that is missing", 'return b"r 0 %d\\n" % (len(read) + 1)',
+     'return b"r %d 0\\n" % (len(read) + 1)'),
+    ("lines from 0", 'return b"r 0 %d\\n" % (i + 1)', 'return b"r 0 %d\\n" % i'),
     ("a plus sign read", 'digits = field[1:] if field[:1] == b"-" else field',
      'digits = field[1:] if field[:1] in (b"-", b"+") else field'),
     ("32 bits not kept", "if not -2 ** 31 <= value < 2 ** 31:", "if not -2 ** 31 <= value <= 2 ** 31:"),
@@ -316,7 +375,7 @@ def source():
 
 def changed_as(name):
     """sweep.py changed as the list above names it."""
-    old, new = next(m[1:3] for m in MUTANTS if m[0] == name)
+    old, new = next(m[1:3] for m in MUTANTS + LISTING if m[0] == name)
     return changed(source(), old, new)
 
 
@@ -326,7 +385,11 @@ def mutants():
         module = changed(text, old, new)
         noticed = [n for n in NAMES if failures(module, n, first_only=True)[1]]
         silent += not noticed and not implied
-        print("%-45s %s" % (name, " ".join(noticed + implied) or "NOTICED BY NONE"))
+        print("%-50s %s" % (name, " ".join(noticed + implied) or "NOTICED BY NONE"))
+    for name, old, new in LISTING:
+        noticed = failures(changed(text, old, new), "listing")[1]
+        silent += noticed < FEWEST
+        print("%-50s listing, %d cases%s" % (name, noticed, "" if noticed >= FEWEST else ": TOO FEW"))
     return silent
 
 
