@@ -30,13 +30,13 @@ module _ {side : Side} {q : List ℤ} {h : List ℕ} {cx cy : Float} {v : Point}
   pub walking : ToWalk side q h cx cy v a e → {d : ℕ} → d ≡ walkStep side h e → Walking side q h cx cy v a e d 0
   walking W x = record { ready = W; covered = λ k l. absurd (omega arith); at = x }
 
-  abbrev test : ℕ → Bool
-  test = walkTest side q h cx cy v a
-
-  abbrev step : ℕ → ℕ
-  step = walkStep side h
-
   module _ {d count : ℕ} (K : Walking side q h cx cy v a e d count) where
+    abbrev test : ℕ → Bool
+    test = walkTest side q h cx cy v a
+
+    abbrev step : ℕ → ℕ
+    step = walkStep side h
+
     pub tested : ToTest q h cx cy v a d
     tested = subst (ToTest q h cx cy v a) (sym (K .at)) (K .ready .each count)
 
