@@ -12,13 +12,14 @@ use Rattle.sums.specs.Put.{put}
 use Rattle.angle.specs.Angle.{IsAngle, turns}
 use Rattle.segment.specs.Bucket.{width, ceilOf}
 use Rattle.dcel.specs.Rows.{rowOf}
+use Rattle.ring_rows.specs.Rows.{tableOf}
 use Rattle.ring.specs.Insert.{On, Bucketed, Insertion}
 use Rattle.ring.specs.Free.{Free, Pushed, Taken}
 use Rattle.ring.specs.WholeInsert.{Names}
 use Rattle.ring.specs.Resize.{adjustedBuckets}
 use Rattle.ring_rows.specs.declared.Node.{Node}
 use Rattle.ring_rows.specs.declared.Hull.{Hull}
-use Rattle.ring_rows.specs.Rows.{nodesOf, tableOf, angleOf, rightOf, sizeOf, withEdge, withLeft, withRight, ValidNode, ValidNodes, NodeRing, RingRows, Updated}
+use Rattle.ring_rows.specs.Rows.{nodesOf, angleOf, leftOf, rightOf, sizeOf, withEdge, withLeft, withRight, ValidNode, ValidNodes, NodeRing, RingRows, Updated}
 use Rattle.ring_insert.specs.declared.Choice.{Choice}
 
 -- the node of the angle a stands `steps` to the right of `first`, and the stack of freed nodes has room
