@@ -21,6 +21,8 @@ use Rattle.mesh.specs.Mesh.{Links, In}
 use Rattle.mesh.specs.Area.{boundaryLength}
 use Rattle.mesh.specs.BoundaryLaws.{next-inverse}
 use Rattle.mesh.specs.CountsLaws.{count-halves, faces-least}
+use Rattle.ring.specs.declared.Side.{Side}
+use Rattle.ring.specs.declared.Side.the-variants.{Left, Right}
 use Rattle.ring.specs.Ring.{fullTurn, atEnds, proper}
 use Rattle.ring.specs.Center.{turnsAbout}
 use Rattle.ring.specs.Boundary.{outer-round}
@@ -33,16 +35,16 @@ use Rattle.sums.specs.Half.{rev}
 use Rattle.sums.specs.Iterate.{iter, iter-add, iter-back, inverse-sym}
 use Rattle.sums.specs.Tally.{tally-at, tally-most}
 use Rattle.decide.specs.declared.Chain.{Chain}
-use Rattle.decide.specs.declared.Covered.{Covered}
 use Rattle.decide.specs.declared.Decision.{Decision}
 use Rattle.decide.specs.declared.Ends.{Ends}
 use Rattle.decide.specs.declared.Fate.{Fate}
 use Rattle.decide.specs.declared.Fate.the-variants.{Added, Dropped, NotLeft, Unsound}
+use Rattle.decide.specs.declared.WalkEnd.{WalkEnd}
 use Rattle.decide.specs.Decide.{Decided, atEnd, decidedAt, fateAt, ifAdded, isPosition, notAdded}
 use Rattle.decide.specs.Sweep.{ChainAngles, Decides}
-use Rattle.decide.specs.Walks.{originPosition, EndsOf, EdgeAbout, ToWalkLeft, ToWalkRight, WalkedLeft, WalkedRight}
+use Rattle.decide.specs.Walks.{originPosition, EndsOf, EdgeAbout, ToWalk, WalkedTo}
 use Rattle.decide.specs.Walks.{ToCount, CountedChain, LocatedRows, DecidesAt, LeavesOut}
-use Rattle.decide.specs.WalkLaws.{edge-about, about-from, to-walk-left, to-walk-right, walked-left, walked-right}
+use Rattle.decide.specs.WalkLaws.{edge-about, about-from, to-walk, walked-chain}
 use Rattle.decide.proofs.Tests.{sees-is}
 
 -- ---- the decision by four tests: is the point at the first end, at the second, is it strictly left, is the ring sound after the step
@@ -88,11 +90,8 @@ module _ {C : Counts} {q : List ℤ} {o h f : List ℕ} {cx cy : Float} {e size 
   pub here-about : EdgeAbout q h cx cy e
   here-about = edge-about (K .mesh) cx cy (K .center) (K .in-use) (K .outer)
 
-  pub asks-left : ToWalkLeft q h cx cy v a e
-  asks-left = to-walk-left (K .mesh) cx cy (K .center) (K .in-use) (K .outer) (K .range) (K .is-angle)
-
-  pub asks-right : ToWalkRight q h cx cy v a e
-  asks-right = to-walk-right (K .mesh) cx cy (K .center) (K .in-use) (K .outer) (K .range) (K .is-angle)
+  pub asks-walk : (side : Side) → ToWalk side q h cx cy v a e
+  asks-walk = to-walk (K .mesh) cx cy (K .center) (K .in-use) (K .outer) (K .range) (K .is-angle)
 
   -- ---- the tests of its ends and its side
   module _ {r : Ends} (E : EndsOf q h e r) {x : Bool} (x-is : x ≡ isPosition v (r .from)) where
@@ -128,7 +127,7 @@ module _ {C : Counts} {q : List ℤ} {o h f : List ℕ} {cx cy : Float} {e size 
         passes k = record { from = from-is ∙ i; to = to-is ∙ j; side = side-is ∙ not-false t k }
 
   -- ---- the chain that the walks cover: its first edge
-  module _ {left : Covered} (A : WalkedLeft q h cx cy v a e left) where
+  module _ {left : WalkEnd} (A : WalkedTo Left q h cx cy v a e left) where
     start-outer : In C (left .edge) × (linksOf o h f .face (left .edge) ≡ 0)
     unfolding linksOf
     start-outer = subst (λ (d : ℕ). In C d × (halvesOf h .face d ≡ 0)) (sym (A .edge))
@@ -152,13 +151,15 @@ module _ {C : Counts} {q : List ℤ} {o h f : List ℕ} {cx cy : Float} {e size 
         ∙ iter-back (inverse-sym (next-inverse (K .mesh .good .wf))) (left .count) (K .in-use)
 
   -- ---- its length, and whether the ring is sound after the step
-  module _ (S : Passes q o h f v e) {left right : Covered}
-      (A : WalkedLeft q h cx cy v a e left) (B : WalkedRight q h cx cy v a e right) where
+  module _ (S : Passes q o h f v e) {left right : WalkEnd}
+      (A : WalkedTo Left q h cx cy v a e left) (B : WalkedTo Right q h cx cy v a e right) where
     left-is : leftChain C (linksOf o h f) (positionOf q) (turnsAbout cx cy (positionOf q)) v (turns a) e ≡ left .count
-    left-is = walked-left (K .mesh) cx cy (K .center) (K .in-use) (K .outer) (K .range) (K .is-angle) (A .covers)
+    unfolding leftChain
+    left-is = walked-chain (K .mesh) cx cy (K .center) (K .in-use) (K .outer) (K .range) (K .is-angle) Left (A .covers)
 
     right-is : rightChain C (linksOf o h f) (positionOf q) (turnsAbout cx cy (positionOf q)) v (turns a) e ≡ right .count
-    right-is = walked-right (K .mesh) cx cy (K .center) (K .in-use) (K .outer) (K .range) (K .is-angle) (B .covers)
+    unfolding rightChain
+    right-is = walked-chain (K .mesh) cx cy (K .center) (K .in-use) (K .outer) (K .range) (K .is-angle) Right (B .covers)
 
     length-is :
         chainLength C (linksOf o h f) (positionOf q) (turnsAbout cx cy (positionOf q)) v (turns a) e ≡ left .count + 1 + right .count

@@ -19,12 +19,12 @@ use Rattle.math.specs.declared.Point.{Point}
 use Rattle.math.specs.Determinant.{InRange, orient2d, sideOf, isOnLeftSide, isBehindEdge}
 use Rattle.math.specs.Side.{on-left}
 use Rattle.ring.specs.Center.{turnsAbout}
-use Rattle.ring.specs.Chain.{coversLeft, coversRight}
+use Rattle.ring.specs.declared.Side.the-variants.{Left, Right}
 use Rattle.sums.specs.Bit.{eq-test, test-ext}
 use Rattle.sums.specs.Half.{rev}
 use Rattle.decide.specs.declared.Ends.{Ends}
 use Rattle.decide.specs.Decide.{isCoordinate, isPosition}
-use Rattle.decide.specs.Walks.{originPosition, EndsIn, EndsOf, ToCover, coverTest, leftTest, rightTest, ToTest}
+use Rattle.decide.specs.Walks.{originPosition, EndsIn, EndsOf, ToCover, coverTest, walkTest, ToTest}
 
 -- ---- equal positions
 same-coordinate : (a b : ℤ) → T (isCoordinate a b) → a ≡ b
@@ -137,11 +137,11 @@ module _ (q : List ℤ) (h : List ℕ) (d : ℕ) {r : Ends} (E : EndsOf q h d r)
       to-cover-right P = to-cover P (r .from) (rw (E .from) (P .edge .from))
 
       pub left-is : {b t : Bool} → b ≡ isBehindEdge v (r .to) (r .from) → t ≡ coverTest r v b (r .to) cx cy a
-          → t ≡ leftTest q h cx cy v a d
-      unfolding leftTest coversLeft coverTest linksOf turnsAbout
+          → t ≡ walkTest Left q h cx cy v a d
+      unfolding walkTest coverTest linksOf turnsAbout
       left-is k e = e ∙ rw (k, E .from, E .to)
 
       pub right-is : {b t : Bool} → b ≡ isBehindEdge (r .from) v (r .to) → t ≡ coverTest r v b (r .from) cx cy a
-          → t ≡ rightTest q h cx cy v a d
-      unfolding rightTest coversRight coverTest linksOf turnsAbout
+          → t ≡ walkTest Right q h cx cy v a d
+      unfolding walkTest coverTest linksOf turnsAbout
       right-is k e = e ∙ rw (k, E .from, E .to)

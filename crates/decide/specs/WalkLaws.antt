@@ -24,76 +24,88 @@ use Rattle.mesh.specs.Area.{boundaryLength, LeftTurning}
 use Rattle.mesh.specs.BoundaryLaws.{next-inverse, first<, first-outer, boundary-least}
 use Rattle.ring.specs.Center.{refusesCenter, turnsAbout}
 use Rattle.ring.specs.Boundary.{outer-round, outer-walk, outer-on}
-use Rattle.ring.specs.Chain.{seesEdge, coversLeft, coversRight, leftChain, rightChain}
-use Rattle.ring.specs.ChainMesh.{some-unseen, left-sees, right-sees, before-walk}
+use Rattle.ring.specs.declared.Side.{Side}
+use Rattle.ring.specs.declared.Side.the-variants.{Left, Right}
+use Rattle.ring.specs.Chain.{seesEdge, beside, covers, chainOn}
+use Rattle.ring.specs.ChainMesh.{some-unseen, covers-sees, before-walk}
 use Rattle.sums.specs.Bounded.{first-below, first-below-is}
 use Rattle.sums.specs.Iterate.{iter, iter-add, iter-back}
-use Rattle.decide.specs.Walks.{EdgeAbout, leftTest, rightTest, ToTest, Covers, ToWalkLeft, ToWalkRight}
+use Rattle.decide.specs.Walks.{EdgeAbout, walkTest, walkStep, ToTest, Covers, ToWalk}
 
 -- ---- the tests read origins alone
-module _ (q : List ℤ) (o h f : List ℕ) (cx cy : Float) (v : Point) (a : Float) (d : ℕ) where
-  pub left-rows : leftTest q h cx cy v a d ≡ coversLeft (linksOf o h f) (positionOf q) (turnsAbout cx cy (positionOf q)) v (turns a) d
-  unfolding leftTest coversLeft linksOf
-  left-rows = refl
+test-rows : (side : Side) (q : List ℤ) (o h f : List ℕ) (cx cy : Float) (v : Point) (a : Float) (d : ℕ)
+    → walkTest side q h cx cy v a d ≡ covers side (linksOf o h f) (positionOf q) (turnsAbout cx cy (positionOf q)) v (turns a) d
+unfolding walkTest linksOf
+test-rows Left q o h f cx cy v a d = refl
+test-rows Right q o h f cx cy v a d = refl
 
-  pub right-rows : rightTest q h cx cy v a d ≡ coversRight (linksOf o h f) (positionOf q) (turnsAbout cx cy (positionOf q)) v (turns a) d
-  unfolding rightTest coversRight linksOf
-  right-rows = refl
+step-rows : (side : Side) (o h f : List ℕ) → walkStep side h ≡ beside side (linksOf o h f)
+unfolding linksOf
+step-rows Left o h f = refl
+step-rows Right o h f = refl
 
--- ---- once around there is an edge that the point does not see, so that a walk ends
-module _ {C : Counts} {L : Links} (W : Wf C L) {p : ℕ → Point} (F : LeftTurning C L p) (α : ℕ → ℕ) (v : Point) (q : ℕ)
-    {e : ℕ} (l : In C e) (o : L .face e ≡ 0) where
-  pub left-ends : (m : ℕ) × (m < boundaryLength C L) × T (not (coversLeft L p α v q (iter (suc m) (L .prev) e)))
-  left-ends =
-      let u = some-unseen W F v in
-      let r = outer-on W l o (u .1) (u .2) in
-      let i = boundaryLength C L - suc (r .0) in
-      let there = whole (r .0) (boundaryLength C L) (r .1) in
-      let back : iter (suc i) (L .prev) e ≡ u .0 =
-      ap (iter (suc i) (L .prev))
-      (sym (outer-round W l o) ∙ ap (λ (k : ℕ). iter k (L .next) e) (sym there) ∙ iter-add (r .0) (suc i) (L .next) e)
-      ∙ iter-back (next-inverse W) (suc i) (outer-walk W l o (r .0) .0) ∙ r .2 in (
-        i,
+walk-rows : (side : Side) (q : List ℤ) (o h f : List ℕ) (cx cy : Float) (v : Point) (a : Float) (e k : ℕ)
+    → (let L = linksOf o h f in
+    walkTest side q h cx cy v a (iter k (walkStep side h) e)
+    ≡ covers side L (positionOf q) (turnsAbout cx cy (positionOf q)) v (turns a) (iter k (beside side L) e))
+walk-rows side q o h f cx cy v a e k = rw (step-rows side o h f) (test-rows side q o h f cx cy v a (iter k (beside side (linksOf o h f)) e))
+
+-- ---- from e a walk on either side comes to every boundary edge
+module _ {C : Counts} {L : Links} (W : Wf C L) {e : ℕ} (l : In C e) (o : L .face e ≡ 0) where
+  reach : (side : Side) {d : ℕ} → In C d → L .face d ≡ 0
+      → (m : ℕ) × (m < boundaryLength C L) × (iter (suc m) (beside side L) e ≡ d)
+  reach Left {d} i z =
+      let r = outer-on W l o i z in
+      let m = boundaryLength C L - suc (r .0) in
+      let whole = sum (r .0) (boundaryLength C L) (r .1) in (
+        m,
         (let b = r .1 in omega arith),
-        not-T (coversLeft L p α v q (iter (suc i) (L .prev) e))
-            (λ t. T-not (seesEdge L p v (u .0)) (u .3)
-            (subst (λ (x : ℕ). T (seesEdge L p v x)) back (left-sees W p α v q l o (iter (suc i) (L .prev) e) t))),
+        ap (iter (suc m) (L .prev))
+            (sym (outer-round W l o) ∙ ap (λ (k : ℕ). iter k (L .next) e) (sym whole) ∙ iter-add (r .0) (suc m) (L .next) e)
+            ∙ iter-back (next-inverse W) (suc m) (outer-walk W l o (r .0) .0) ∙ r .2,
       )
     where
-      whole : (k n : ℕ) → k < n → k + suc (n - suc k) ≡ n
-      whole k n b = omega arith
-
-  pub right-ends : (m : ℕ) × (m < boundaryLength C L) × T (not (coversRight L p α v q (iter (suc m) (L .next) e)))
-  right-ends = let u = some-unseen W F v in go (u .0) (u .3) (outer-on W l o (u .1) (u .2))
+      sum : (k n : ℕ) → k < n → k + suc (n - suc k) ≡ n
+      sum k n b = omega arith
+  reach Right {d} i z = go (outer-on W l o i z)
     where
-      at : (d : ℕ) → T (not (seesEdge L p v d)) → (m : ℕ) → iter (suc m) (L .next) e ≡ d
-          → T (not (coversRight L p α v q (iter (suc m) (L .next) e)))
-      at d n m z = not-T (coversRight L p α v q (iter (suc m) (L .next) e))
-          (λ t. T-not (seesEdge L p v d) n
-          (subst (λ (x : ℕ). T (seesEdge L p v x)) z (right-sees W p α v q l o (iter (suc m) (L .next) e) t)))
-
       around : (n : ℕ) → 3 ≤ n → suc (n - 1) ≡ n
       around n b = omega arith
 
-      go : (d : ℕ) → T (not (seesEdge L p v d)) → (k : ℕ) × (k < boundaryLength C L) × (iter k (L .next) e ≡ d)
-          → (m : ℕ) × (m < boundaryLength C L) × T (not (coversRight L p α v q (iter (suc m) (L .next) e)))
-      go d n (zero, b, z) =
-          let s = around (boundaryLength C L) (boundary-least W) in (
-            boundaryLength C L - 1,
-            omega arith,
-            at d n (boundaryLength C L - 1) (ap (λ (k : ℕ). iter k (L .next) e) s ∙ outer-round W l o ∙ z),
-          )
-      go d n (suc j, b, z) = (j, (omega arith), at d n j z)
+      go : (k : ℕ) × (k < boundaryLength C L) × (iter k (L .next) e ≡ d)
+          → (m : ℕ) × (m < boundaryLength C L) × (iter (suc m) (L .next) e ≡ d)
+      go (zero, b, y) =
+          let s = around (boundaryLength C L) (boundary-least W) in
+          (boundaryLength C L - 1, omega arith, ap (λ (k : ℕ). iter k (L .next) e) s ∙ outer-round W l o ∙ y)
+      go (suc j, b, y) = (j, omega arith, y)
 
--- the number of covered edges is the least that fails, where one below N does
-covers-first : {step : ℕ → ℕ} {test : ℕ → Bool} {e n : ℕ} → Covers step test e n → (N m : ℕ) → m < N → T (not (test (iter (suc m) step e)))
-    → first-below N (λ k. not (test (iter (suc k) step e))) ≡ n
-covers-first {step} {test} {e} {n} K N m l f =
-    first-below-is N (λ k. not (test (iter (suc k) step e))) (go (decLt m n)) (λ u. K .stops)
-    (λ j u t. T-not (test (iter (suc j) step e)) t (K .covered j u))
+  beside-outer : (p : ℕ → Point) (α : ℕ → ℕ) (v : Point) (q : ℕ) (side : Side) (k : ℕ)
+      → In C (iter k (beside side L) e) × (L .face (iter k (beside side L) e) ≡ 0)
+  beside-outer p α v q Left k = before-walk W p α v q l o k
+  beside-outer p α v q Right k = outer-walk W l o k
+
+  -- one of them the point does not see, so that a walk ends
+  walk-ends : {p : ℕ → Point} (F : LeftTurning C L p) (α : ℕ → ℕ) (v : Point) (q : ℕ) (side : Side)
+      → (m : ℕ) × (m < boundaryLength C L) × T (not (covers side L p α v q (iter (suc m) (beside side L) e)))
+  walk-ends {p} F α v q side =
+      let u = some-unseen W F v in
+      let r = reach side (u .1) (u .2) in
+      let d = iter (suc (r .0)) (beside side L) e in (
+        r .0,
+        r .1,
+        not-T (covers side L p α v q d)
+            (λ t. T-not (seesEdge L p v (u .0)) (u .3)
+            (subst (λ (x : ℕ). T (seesEdge L p v x)) (r .2) (covers-sees W p α v q l o side d t))),
+      )
+
+-- the number of those before the first that fails, where one below N does
+first-fails : (test : ℕ → Bool) (n : ℕ) → ((k : ℕ) → k < n → T (test k)) → T (not (test n))
+    → (N m : ℕ) → m < N → T (not (test m)) → first-below N (λ k. not (test k)) ≡ n
+first-fails test n covered stops N m l f =
+    first-below-is N (λ k. not (test k)) (go (decLt m n)) (λ u. stops) (λ j u t. T-not (test j) t (covered j u))
   where
     go : Dec (m < n) → n ≤ N
-    go (yes u) = absurd (T-not (test (iter (suc m) step e)) f (K .covered m u))
+    go (yes u) = absurd (T-not (test m) f (covered m u))
     go (no u) = omega arith
 
 -- ---- a good mesh in its rows, and a centre that is accepted
@@ -145,40 +157,26 @@ module _ {C : Counts} {q : List ℤ} {o h f : List ℕ} (G : GoodRows C q o h f)
       to-test : {d : ℕ} → In C d → linksOf o h f .face d ≡ 0 → ToTest q h cx cy v a d
       to-test i j = record { edge = edge-about i j; range = R; is-angle = A }
 
-      pub to-walk-left : ToWalkLeft q h cx cy v a e
-      unfolding linksOf
-      to-walk-left =
+      -- what the walk on a side asks
+      pub to-walk : (side : Side) → ToWalk side q h cx cy v a e
+      to-walk side =
           let α = turnsAbout cx cy (positionOf q) in
-          let r = left-ends (G .good .wf) (G .good .turning) α v (turns a) l b in record {
+          let r = walk-ends (G .good .wf) l b (G .good .turning) α v (turns a) side in record {
             here = there (held G) l;
-            each = λ k. (let w = before-walk (G .good .wf) (positionOf q) α v (turns a) l b (suc k) in to-test (w .0) (w .1));
+            each = λ k. rw (step-rows side o h f)
+                (let w = beside-outer (G .good .wf) l b (positionOf q) α v (turns a) side (suc k) in to-test (w .0) (w .1));
             most = r .0;
-            fails = subst (λ (t : Bool). T (not t)) (sym (left-rows q o h f cx cy v a (iter (suc (r .0)) (halvesOf h .prev) e))) (r .2);
+            fails = subst (λ (t : Bool). T (not t)) (sym (walk-rows side q o h f cx cy v a e (suc (r .0)))) (r .2);
             small = let m = r .1 in let s = size-small (held G) in omega arith;
           }
 
-      pub to-walk-right : ToWalkRight q h cx cy v a e
-      unfolding linksOf
-      to-walk-right =
-          let r = right-ends (G .good .wf) (G .good .turning) (turnsAbout cx cy (positionOf q)) v (turns a) l b in record {
-            here = there (held G) l;
-            each = λ k. (let w = outer-walk (G .good .wf) l b (suc k) in to-test (w .0) (w .1));
-            most = r .0;
-            fails = subst (λ (t : Bool). T (not t)) (sym (right-rows q o h f cx cy v a (iter (suc (r .0)) (halvesOf h .next) e))) (r .2);
-            small = let m = r .1 in let s = size-small (held G) in omega arith;
-          }
-
-      -- what the walks cover is the chain's part before e, and its part after e
-      pub walked-left : {n : ℕ} → Covers (halvesOf h .prev) (leftTest q h cx cy v a) e n
-          → leftChain C (linksOf o h f) (positionOf q) (turnsAbout cx cy (positionOf q)) v (turns a) e ≡ n
-      unfolding linksOf leftChain leftTest coversLeft
-      walked-left K =
-          let r = left-ends (G .good .wf) (G .good .turning) (turnsAbout cx cy (positionOf q)) v (turns a) l b in
-          covers-first K (boundaryLength C (linksOf o h f)) (r .0) (r .1) (r .2)
-
-      pub walked-right : {n : ℕ} → Covers (halvesOf h .next) (rightTest q h cx cy v a) e n
-          → rightChain C (linksOf o h f) (positionOf q) (turnsAbout cx cy (positionOf q)) v (turns a) e ≡ n
-      unfolding linksOf rightChain rightTest coversRight
-      walked-right K =
-          let r = right-ends (G .good .wf) (G .good .turning) (turnsAbout cx cy (positionOf q)) v (turns a) l b in
-          covers-first K (boundaryLength C (linksOf o h f)) (r .0) (r .1) (r .2)
+      -- what it covers is the chain's part on that side
+      pub walked-chain : (side : Side) {n : ℕ} → Covers side q h cx cy v a e n
+          → chainOn side C (linksOf o h f) (positionOf q) (turnsAbout cx cy (positionOf q)) v (turns a) e ≡ n
+      walked-chain side {n} K =
+          let L = linksOf o h f in let α = turnsAbout cx cy (positionOf q) in
+          let r = walk-ends (G .good .wf) l b (G .good .turning) α v (turns a) side in
+          first-fails (λ k. covers side L (positionOf q) α v (turns a) (iter (suc k) (beside side L) e)) n
+          (λ k u. subst T (walk-rows side q o h f cx cy v a e (suc k)) (K .covered k u))
+          (subst (λ (t : Bool). T (not t)) (walk-rows side q o h f cx cy v a e (suc n)) (K .stops))
+          (boundaryLength C L) (r .0) (r .1) (r .2)

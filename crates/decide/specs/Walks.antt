@@ -1,10 +1,10 @@
 -- What the parts of a decision ask of the rows, and what they answer. The tests and the walks are for any point in range and any angle
 -- that they are handed, and read the rows of positions and half-edges alone. Definitions only.
 use Prim.Native.Nat.{ℕ, suc, _<_, _^_}
-use mathlib.Core.Bool.{Bool, not, _&&_, _||_}
+use mathlib.Core.Bool.{Bool, not}
 use mathlib.Core.List.{List, []}
 use mathlib.Core.Path.{_≡_}
-use lib.Dec.{T, eqb}
+use lib.Dec.{T}
 use lib.Ieee.{Float}
 use lib.IntN.{ℤ, pos}
 use lib.Signed.{ltZ}
@@ -19,13 +19,15 @@ use Rattle.mesh.specs.Mesh.{In}
 use Rattle.mesh.specs.Area.{boundaryLength}
 use Rattle.ring.specs.Ring.{atEnds, edgeAngle, isSoundRing}
 use Rattle.ring.specs.Center.{refusesCenter, turnsAbout}
-use Rattle.ring.specs.Chain.{coversLeft, coversRight}
+use Rattle.ring.specs.declared.Side.{Side}
+use Rattle.ring.specs.declared.Side.the-variants.{Left, Right}
+use Rattle.ring.specs.Chain.{coveredIf, covers}
 use Rattle.ring.specs.Node.{nodes as nodeCount}
 use Rattle.segment.specs.Arc.{holds}
 use Rattle.sums.specs.Half.{rev}
 use Rattle.sums.specs.Iterate.{iter}
 use Rattle.decide.specs.declared.Ends.{Ends}
-use Rattle.decide.specs.declared.Covered.{Covered}
+use Rattle.decide.specs.declared.WalkEnd.{WalkEnd}
 use Rattle.decide.specs.declared.Chain.{Chain}
 use Rattle.decide.specs.declared.Decision.{Decision}
 use Rattle.decide.specs.declared.Fate.{Fate}
@@ -57,12 +59,10 @@ pub record EdgeAbout (q : List ℤ) (h : List ℕ) (cx cy : Float) (e : ℕ) : T
   pub to : T (not (originAtCenter q h cx cy (rev e)))
 
 -- ---- the tests of the two walks, for the point v and the angle a
--- what they share, where the ends of the edge and the position `near` of one of them are read: v is strictly left of
--- the edge, and is not behind or has the angle at `near`
+-- where the ends of the edge, whether v is behind it, and the position `near` of one of them are read
 unfoldable pub coverTest : Ends → Point → Bool → Point → Float → Float → Float → Bool
 coverTest r v behind near cx cy a =
-    (not behind || eqb (turns a) (turns (angleAbout (near .x) (near .y) cx cy)))
-    && ltZ (pos 0) (orient2d (r .from) (r .to) v)
+    coveredIf behind (turns a) (turns (angleAbout (near .x) (near .y) cx cy)) (ltZ (pos 0) (orient2d (r .from) (r .to) v))
 
 pub record ToCover (r : Ends) (v near : Point) (cx cy a : Float) : Type 0 where
   pub from : InRange (r .from)
@@ -72,12 +72,14 @@ pub record ToCover (r : Ends) (v near : Point) (cx cy a : Float) : Type 0 where
   pub valid : T (validCenter cx cy)
   pub apart : T (not (atCenter (near .x) (near .y) cx cy))
 
--- They read origins alone, so that the rows of out edges and of faces do not matter (`left-rows`, `right-rows` in `WalkLaws`).
-unfoldable pub leftTest : List ℤ → List ℕ → Float → Float → Point → Float → ℕ → Bool
-leftTest q h cx cy v a d = coversLeft (linksOf [] h []) (positionOf q) (turnsAbout cx cy (positionOf q)) v (turns a) d
+-- `covers` in the rows. It reads origins alone, so that the rows of out edges and of faces do not matter (`test-rows` in `WalkLaws`).
+unfoldable pub walkTest : Side → List ℤ → List ℕ → Float → Float → Point → Float → ℕ → Bool
+walkTest side q h cx cy v a d = covers side (linksOf [] h []) (positionOf q) (turnsAbout cx cy (positionOf q)) v (turns a) d
 
-unfoldable pub rightTest : List ℤ → List ℕ → Float → Float → Point → Float → ℕ → Bool
-rightTest q h cx cy v a d = coversRight (linksOf [] h []) (positionOf q) (turnsAbout cx cy (positionOf q)) v (turns a) d
+-- and `beside`
+abbrev pub walkStep : Side → List ℕ → ℕ → ℕ
+walkStep Left h = halvesOf h .prev
+walkStep Right h = halvesOf h .next
 
 -- what either asks of a half-edge d
 pub record ToTest (q : List ℤ) (h : List ℕ) (cx cy : Float) (v : Point) (a : Float) (d : ℕ) : Type 0 where
@@ -85,36 +87,28 @@ pub record ToTest (q : List ℤ) (h : List ℕ) (cx cy : Float) (v : Point) (a :
   pub range : InRange v
   pub is-angle : IsAngle a
 
--- ---- a walk by `step` from e, over the half-edges after e that pass a test
+-- ---- a walk on one side of e, over the half-edges that pass the test
 -- what it asks: it can test each that it comes to, and one fails, so that it ends
-pub record ToWalk (q : List ℤ) (h : List ℕ) (cx cy : Float) (v : Point) (a : Float) (step : ℕ → ℕ) (test : ℕ → Bool)
-    (e : ℕ) : Type 0 where
+pub record ToWalk (side : Side) (q : List ℤ) (h : List ℕ) (cx cy : Float) (v : Point) (a : Float) (e : ℕ) : Type 0 where
   pub here : There h e
-  pub each : (k : ℕ) → ToTest q h cx cy v a (iter (suc k) step e)
+  pub each : (k : ℕ) → ToTest q h cx cy v a (iter (suc k) (walkStep side h) e)
   pub most : ℕ
-  pub fails : T (not (test (iter (suc most) step e)))
+  pub fails : T (not (walkTest side q h cx cy v a (iter (suc most) (walkStep side h) e)))
   pub small : most < 2 ^ 32
 
 -- n half-edges are covered, and the one after them is not
-pub record Covers (step : ℕ → ℕ) (test : ℕ → Bool) (e n : ℕ) : Type 0 where
-  pub covered : (k : ℕ) → k < n → T (test (iter (suc k) step e))
-  pub stops : T (not (test (iter (suc n) step e)))
+pub record Covers (side : Side) (q : List ℤ) (h : List ℕ) (cx cy : Float) (v : Point) (a : Float) (e n : ℕ) : Type 0 where
+  pub covered : (k : ℕ) → k < n → T (walkTest side q h cx cy v a (iter (suc k) (walkStep side h) e))
+  pub stops : T (not (walkTest side q h cx cy v a (iter (suc n) (walkStep side h) e)))
 
-abbrev pub ToWalkLeft : List ℤ → List ℕ → Float → Float → Point → Float → ℕ → Type 0
-ToWalkLeft q h cx cy v a e = ToWalk q h cx cy v a (halvesOf h .prev) (leftTest q h cx cy v a) e
+-- the half-edge that is answered is on the left the last that is covered, or e; on the right the first that is not
+abbrev pub lastStep : Side → ℕ → ℕ
+lastStep Left n = n
+lastStep Right n = suc n
 
-abbrev pub ToWalkRight : List ℤ → List ℕ → Float → Float → Point → Float → ℕ → Type 0
-ToWalkRight q h cx cy v a e = ToWalk q h cx cy v a (halvesOf h .next) (rightTest q h cx cy v a) e
-
--- against next: the edge that is answered is the last that is covered, or e
-pub record WalkedLeft (q : List ℤ) (h : List ℕ) (cx cy : Float) (v : Point) (a : Float) (e : ℕ) (r : Covered) : Type 0 where
-  pub covers : Covers (halvesOf h .prev) (leftTest q h cx cy v a) e (r .count)
-  pub edge : r .edge ≡ iter (r .count) (halvesOf h .prev) e
-
--- along next: it is the first that is not covered
-pub record WalkedRight (q : List ℤ) (h : List ℕ) (cx cy : Float) (v : Point) (a : Float) (e : ℕ) (r : Covered) : Type 0 where
-  pub covers : Covers (halvesOf h .next) (rightTest q h cx cy v a) e (r .count)
-  pub edge : r .edge ≡ iter (suc (r .count)) (halvesOf h .next) e
+pub record WalkedTo (side : Side) (q : List ℤ) (h : List ℕ) (cx cy : Float) (v : Point) (a : Float) (e : ℕ) (r : WalkEnd) : Type 0 where
+  pub covers : Covers side q h cx cy v a e (r .count)
+  pub edge : r .edge ≡ iter (lastStep side (r .count)) (walkStep side h) e
 
 -- ---- the nodes of a chain
 -- what counting them asks: the chain is on a boundary whose vertices have angles, and a is the first

@@ -6,10 +6,11 @@ ghost use mathlib.Core.Path.{_≡_};
 ghost use Prim.Native.Nat.{ℕ};
 ghost use Rattle.dcel.specs.Rows.{linksOf, positionOf};
 ghost use Rattle.mesh.specs.declared.Counts.{Counts};
+ghost use Rattle.ring.specs.declared.Side.the-variants.{Left, Right};
 ghost use Rattle.decide.specs.Decide.{fateNumber, fateVertex, decided, isPosition};
 ghost use Rattle.decide.specs.Sweep.{Sweep, ToDecide, Decides};
-ghost use Rattle.decide.specs.Walks.{EndsIn, EndsOf, ToCover, coverTest, leftTest, rightTest, ToTest};
-ghost use Rattle.decide.specs.Walks.{ToWalkLeft, ToWalkRight, WalkedLeft, WalkedRight};
+ghost use Rattle.decide.specs.Walks.{EndsIn, EndsOf, ToCover, coverTest, walkTest, ToTest};
+ghost use Rattle.decide.specs.Walks.{ToWalk, WalkedTo};
 ghost use Rattle.decide.specs.Walks.{ToCount, CountedChain, LocatedRows, ToDecideAt, DecidesAt, LeavesOut};
 use angle::Point2;
 use angle::VertexAngle;
@@ -73,7 +74,7 @@ pub struct Ends {
 }
 
 // How many edges a walk covers, and the edge where it ends: to the left the last that is covered, to the right the first that is not.
-pub struct Covered {
+pub struct WalkEnd {
     pub count: u32,
     pub edge: u32,
 }
@@ -130,7 +131,7 @@ fn covers_left(
     center: Point2,
 ) -> bool
     requires { ⌜ ToTest (now positions) (now halves) (center .x) (center .y) point angle d ⌝ }
-    ensures { λ r. ⌜ r ≡ leftTest (now (positions .entry)) (now (halves .entry)) (center .x) (center .y) point angle d ⌝ }
+    ensures { λ r. ⌜ r ≡ walkTest Left (now (positions .entry)) (now (halves .entry)) (center .x) (center .y) point angle d ⌝ }
 {
     let prev = ends_of(positions, halves, d);
     let from = prev.from;
@@ -149,7 +150,7 @@ fn covers_right(
     center: Point2,
 ) -> bool
     requires { ⌜ ToTest (now positions) (now halves) (center .x) (center .y) point angle d ⌝ }
-    ensures { λ r. ⌜ r ≡ rightTest (now (positions .entry)) (now (halves .entry)) (center .x) (center .y) point angle d ⌝ }
+    ensures { λ r. ⌜ r ≡ walkTest Right (now (positions .entry)) (now (halves .entry)) (center .x) (center .y) point angle d ⌝ }
 {
     let next = ends_of(positions, halves, d);
     let middle = next.from;
@@ -166,9 +167,9 @@ fn walk_left(
     point: Point,
     angle: f64,
     center: Point2,
-) -> Covered
-    requires { ⌜ ToWalkLeft (now positions) (now halves) (center .x) (center .y) point angle e ⌝ }
-    ensures { λ r. ⌜ WalkedLeft (now (positions .entry)) (now (halves .entry)) (center .x) (center .y) point angle e r ⌝ }
+) -> WalkEnd
+    requires { ⌜ ToWalk Left (now positions) (now halves) (center .x) (center .y) point angle e ⌝ }
+    ensures { λ r. ⌜ WalkedTo Left (now (positions .entry)) (now (halves .entry)) (center .x) (center .y) point angle e r ⌝ }
 {
     let mut edge = e;
     let mut d = dcel::prev(halves, e);
@@ -178,7 +179,7 @@ fn walk_left(
         d = dcel::prev(halves, d);
         count += 1;
     }
-    Covered {
+    WalkEnd {
         count: count,
         edge: edge,
     }
@@ -192,9 +193,9 @@ fn walk_right(
     point: Point,
     angle: f64,
     center: Point2,
-) -> Covered
-    requires { ⌜ ToWalkRight (now positions) (now halves) (center .x) (center .y) point angle e ⌝ }
-    ensures { λ r. ⌜ WalkedRight (now (positions .entry)) (now (halves .entry)) (center .x) (center .y) point angle e r ⌝ }
+) -> WalkEnd
+    requires { ⌜ ToWalk Right (now positions) (now halves) (center .x) (center .y) point angle e ⌝ }
+    ensures { λ r. ⌜ WalkedTo Right (now (positions .entry)) (now (halves .entry)) (center .x) (center .y) point angle e r ⌝ }
 {
     let mut d = dcel::next(halves, e);
     let mut count: u32 = 0;
@@ -202,7 +203,7 @@ fn walk_right(
         d = dcel::next(halves, d);
         count += 1;
     }
-    Covered {
+    WalkEnd {
         count: count,
         edge: d,
     }

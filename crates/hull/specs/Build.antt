@@ -32,7 +32,7 @@ use Rattle.ring.specs.RingOf.{RingOf, ring-built, free-built, free-from}
 use Rattle.ring.specs.Resize.{eight-buckets, buckets-sized}
 use Rattle.ring_rows.specs.declared.Node.{Node}
 use Rattle.ring_rows.specs.declared.Hull.{Hull}
-use Rattle.ring_rows.specs.Rows.{nodesOf, angleOf, edgeOf, leftOf, rightOf, ValidNodes, NodeRing, ToFill}
+use Rattle.ring_rows.specs.Rows.{nodesOf, tableOf, angleOf, edgeOf, leftOf, rightOf, ValidNodes, NodeRing, ToFill}
 use Rattle.hull.specs.Boundary.{edgeAt, originTurns, anglesOf, NodesOfEdges, ToBuild}
 use Rattle.hull.specs.Held.{Held, FromBoundary}
 
@@ -66,7 +66,7 @@ module _ {p : List ℤ} {h : List ℕ} {cx cy : Float} {start size nodes buckets
         one : (i : ℕ) → i + 1 ≡ suc i
         one i = omega arith
 
-    pub numbered-built : Built (halvesOf h .next) (originTurns p h cx cy) (rightOf t) (angleOf t) (edgeOf t) start size size
+    pub numbered-built : Built (halvesOf h .next) (originTurns p h cx cy) (tableOf t) start size size
     numbered-built = record {
       size = whole;
       at = λ k l u. (let z = before k (omega arith) in (ap (edgeOf t) z ∙ D k l .edge, ap (angleOf t) z ∙ D k l .angle));
@@ -74,7 +74,7 @@ module _ {p : List ℤ} {h : List ℕ} {cx cy : Float} {start size nodes buckets
       turn = right-last;
     }
 
-    pub numbered-ring : Ring fullTurn (halvesOf h .next) (originTurns p h cx cy) (rightOf t) (angleOf t) (edgeOf t) start size 0
+    pub numbered-ring : Ring fullTurn (halvesOf h .next) (originTurns p h cx cy) (tableOf t) start size 0
     numbered-ring = built boundary-sound numbered-built
 
     numbered-valid : ValidNodes t size
@@ -99,7 +99,7 @@ module _ {p : List ℤ} {h : List ℕ} {cx cy : Float} {start size nodes buckets
       len-small = B .small;
     }
 
-    numbered-links : Linked (leftOf t) (rightOf t) 0 size
+    numbered-links : Linked (tableOf t) 0 size
     numbered-links i l = subst (λ (x : ℕ). leftOf t (rightOf t x) ≡ x) (sym (built-at boundary-sound numbered-built i l)) (go (decLt (suc i) size))
       where
         go : Dec (suc i < size) → leftOf t (rightOf t i) ≡ i
@@ -125,14 +125,14 @@ unfolding linksOf
 built-held o a {C} {p} {h} {cx} {cy} {size} {n} {b} {nodes} {freed} {buckets} {r} K B z F u v w =
     let t = nodesOf nodes in
     let N : r .nodes - r .freed ≡ size = sizes (r .nodes) (r .freed) size (F .used) (F .none-freed) in
-    let A = subst (λ (i : ℕ). Built (halvesOf h .next) (originTurns p h cx cy) (rightOf t) (angleOf t) (edgeOf t) (rowOf a 0) i size) z (numbered-built B (F .numbered)) in
+    let A = subst (λ (i : ℕ). Built (halvesOf h .next) (originTurns p h cx cy) (tableOf t) (rowOf a 0) i size) z (numbered-built B (F .numbered)) in
     let S = subst (Sound fullTurn (halvesOf h .next) (originTurns p h cx cy) (rowOf a 0)) z (boundary-sound B) in
-    let R : RingOf C (linksOf o h a) (turnsAbout cx cy (positionOf p)) (leftOf t) (rightOf t) (angleOf t) (edgeOf t) (rowOf buckets) 8 size =
+    let R : RingOf C (linksOf o h a) (turnsAbout cx cy (positionOf p)) (tableOf t) (rowOf buckets) 8 size =
     ring-built K (outer-sound K (turnsAbout cx cy (positionOf p)) (first< K) (first-outer K) S) (first< K) (first-outer K) A (numbered-links B (F .numbered))
     (λ k l. let m : k < size = omega arith in subst (λ (x : ℕ). x ≤ fullTurn) (F .numbered k m .angle) (F .numbered k m .is-angle .small)) (buckets-sized eight-buckets) (F .filled) in
     record {
-      ring = subst (λ (i : ℕ). RingOf C (linksOf o h a) (turnsAbout cx cy (positionOf p)) (leftOf t) (rightOf t) (angleOf t) (edgeOf t) (rowOf buckets) (r .buckets) i) (sym N)
-          (subst (λ (i : ℕ). RingOf C (linksOf o h a) (turnsAbout cx cy (positionOf p)) (leftOf t) (rightOf t) (angleOf t) (edgeOf t) (rowOf buckets) i size) (sym (F .eight)) R);
+      ring = subst (λ (i : ℕ). RingOf C (linksOf o h a) (turnsAbout cx cy (positionOf p)) (tableOf t) (rowOf buckets) (r .buckets) i) (sym N)
+          (subst (λ (i : ℕ). RingOf C (linksOf o h a) (turnsAbout cx cy (positionOf p)) (tableOf t) (rowOf buckets) i size) (sym (F .eight)) R);
       free = subst (λ (m : ℕ). Free (On (rightOf t) m (rowOf buckets 0)) (rowOf freed) (r .freed) (r .nodes)) (sym N)
           (subst (λ (i : ℕ). Free (On (rightOf t) size (rowOf buckets 0)) (rowOf freed) i (r .nodes)) (sym (F .none-freed))
           (subst (Free (On (rightOf t) size (rowOf buckets 0)) (rowOf freed) 0) (sym (F .used))

@@ -1,4 +1,5 @@
--- The rows hold exactly the ring of a mesh's boundary about the centre: a record over the rows and the numbers of the hull only. Definitions only; `Find` and `Build` have its laws.
+-- The rows hold exactly the ring of a mesh's boundary about the centre: a record over the rows and the numbers of the hull
+-- only. Definitions only; `Find`, `Build` and `Insert` have its laws.
 use Prim.Native.Nat.{ℕ, _<_, _≤_, _^_}
 use mathlib.Core.Path.{_≡_}
 use mathlib.Core.List.{List}
@@ -14,11 +15,11 @@ use Rattle.ring.specs.Free.{Free}
 use Rattle.ring.specs.RingOf.{RingOf}
 use Rattle.ring_rows.specs.declared.Node.{Node}
 use Rattle.ring_rows.specs.declared.Hull.{Hull}
-use Rattle.ring_rows.specs.Rows.{nodesOf, angleOf, edgeOf, leftOf, rightOf, sizeOf, ValidNodes}
+use Rattle.ring_rows.specs.Rows.{nodesOf, tableOf, angleOf, rightOf, sizeOf, ValidNodes}
 use Rattle.hull.specs.Boundary.{NodesOfEdges}
 
 pub record Held (C : Counts) (L : Links) (α : ℕ → ℕ) (nodes : List Node) (freed buckets : List ℕ) (h : Hull) : Type 0 where
-  pub ring : RingOf C L α (leftOf (nodesOf nodes)) (rightOf (nodesOf nodes)) (angleOf (nodesOf nodes)) (edgeOf (nodesOf nodes)) (rowOf buckets) (h .buckets) (sizeOf h)
+  pub ring : RingOf C L α (tableOf (nodesOf nodes)) (rowOf buckets) (h .buckets) (sizeOf h)
   -- of the nodes ever in use, those that are not in the ring are on the stack of freed ones
   pub free : Free (On (rightOf (nodesOf nodes)) (sizeOf h) (rowOf buckets 0)) (rowOf freed) (h .freed) (h .nodes)
   pub freed-most : h .freed ≤ h .nodes
@@ -30,7 +31,9 @@ pub record Held (C : Counts) (L : Links) (α : ℕ → ℕ) (nodes : List Node) 
   pub small : h .nodes < 2 ^ 32
 
 -- What `from_triangulation` leaves: nodes numbered in order, 8 buckets, none freed
-pub record FromBoundary (p : List ℤ) (halves : List ℕ) (cx cy : Float) (start size : ℕ) (nodes : List Node) (buckets : List ℕ) (h : Hull) : Type 0 where
+pub record FromBoundary
+    (p : List ℤ) (halves : List ℕ) (cx cy : Float) (start size : ℕ)
+    (nodes : List Node) (buckets : List ℕ) (h : Hull) : Type 0 where
   pub numbered : NodesOfEdges p halves cx cy start size (nodesOf nodes)
   pub filled : Bucketed (rightOf (nodesOf nodes)) (angleOf (nodesOf nodes)) (rowOf buckets) 8 (width 8) 0 size
   pub eight : h .buckets ≡ 8

@@ -11,36 +11,36 @@ use Rattle.ring.specs.Ring.{atEnds, proper}
 use Rattle.ring.specs.Segments.{proper→}
 use Rattle.ring.specs.Sound.{Sound, tile, tile-sole}
 use Rattle.ring.specs.Buckets.{ceiling, within, Sized, NarrowSegment, bucket-range}
-use Rattle.ring.specs.Node.{nodes, Stands, match-of}
+use Rattle.ring.specs.Node.{NodeTable, nodes, Stands, match-of}
 use Rattle.ring.specs.Insert.{Ring, all-proper, Bucketed}
 use Rattle.sums.specs.Iterate.{iter, iter-last}
 use Rattle.sums.specs.Tally.{counts, tally, tally-before, walk}
 
 -- m nodes, for h edges from e on
-pub record Built (next α right angle edge : ℕ → ℕ) (e h m : ℕ) : Type 0 where
+pub record Built (next α : ℕ → ℕ) (τ : NodeTable) (e h m : ℕ) : Type 0 where
   pub size : nodes next α h e ≡ m
   pub at : (k : ℕ) → k < h → T (atEnds proper next α (iter k next e))
-      → (edge (nodes next α k e) ≡ iter k next e) × (angle (nodes next α k e) ≡ α (iter k next e))
-  pub step : (i : ℕ) → suc i < m → right i ≡ suc i
-  pub turn : (i : ℕ) → suc i ≡ m → right i ≡ 0
+      → (τ .edge (nodes next α k e) ≡ iter k next e) × (τ .angle (nodes next α k e) ≡ α (iter k next e))
+  pub step : (i : ℕ) → suc i < m → τ .right i ≡ suc i
+  pub turn : (i : ℕ) → suc i ≡ m → τ .right i ≡ 0
 
-module _ {N : ℕ} {next α right angle edge : ℕ → ℕ} {e h m : ℕ} (S : Sound N next α e h) (B : Built next α right angle edge e h m) where
+module _ {N : ℕ} {next α : ℕ → ℕ} {τ : NodeTable} {e h m : ℕ} (S : Sound N next α e h) (B : Built next α τ e h m) where
   -- the i-th node is i
-  pub built-at : (i : ℕ) → i < m → iter i right 0 ≡ i
+  pub built-at : (i : ℕ) → i < m → iter i (τ .right) 0 ≡ i
   built-at zero l = refl
-  built-at (suc i) l = iter-last i right 0 ∙ ap right (built-at i (omega arith)) ∙ B .step i l
+  built-at (suc i) l = iter-last i (τ .right) 0 ∙ ap (τ .right) (built-at i (omega arith)) ∙ B .step i l
 
-  pub built : Ring N next α right angle edge e h 0
+  pub built : Ring N next α τ e h 0
   unfolding Stands
   built = record {
     sound = S;
-    match = match-of next α right angle edge h e 0 (λ k l t. let c = built-at (nodes next α k e) (let b = tally-before (atEnds proper next α) next h e k l t in let z = B .size in omega arith) in (ap edge c ∙ B .at k l t .0, ap angle c ∙ B .at k l t .1));
-    back = ap (λ (i : ℕ). iter i right 0) (B .size) ∙ go m refl;
+    match = match-of next α τ h e 0 (λ k l t. let c = built-at (nodes next α k e) (let b = tally-before (atEnds proper next α) next h e k l t in let z = B .size in omega arith) in (ap (τ .edge) c ∙ B .at k l t .0, ap (τ .angle) c ∙ B .at k l t .1));
+    back = ap (λ (i : ℕ). iter i (τ .right) 0) (B .size) ∙ go m refl;
   }
     where
-      go : (j : ℕ) → j ≡ m → iter j right 0 ≡ 0
+      go : (j : ℕ) → j ≡ m → iter j (τ .right) 0 ≡ 0
       go zero z = refl
-      go (suc j) z = iter-last j right 0 ∙ ap right (built-at j (omega arith)) ∙ B .turn j z
+      go (suc j) z = iter-last j (τ .right) 0 ∙ ap (τ .right) (built-at j (omega arith)) ∙ B .turn j z
 
 -- ---- buckets from nothing: d nodes are done
 unfoldable pub Filling : (ℕ → ℕ) → (ℕ → ℕ) → (ℕ → ℕ) → ℕ → ℕ → ℕ → ℕ → Type 0

@@ -19,30 +19,56 @@ use Rattle.sums.specs.Bit.{bit}
 use Rattle.sums.specs.Bounded.{first-below}
 use Rattle.sums.specs.Iterate.{iter}
 use Rattle.sums.specs.Tally.{walk}
+use Rattle.ring.specs.declared.Side.{Side}
+use Rattle.ring.specs.declared.Side.the-variants.{Left, Right}
 use Rattle.ring.specs.Ring.{fullTurn, proper, edgeAngle, isSound}
 
 -- v is strictly left of the edge d
 abbrev pub seesEdge : Links → (ℕ → Point) → Point → ℕ → Bool
 seesEdge L p v d = ltZ (pos 0) (orient2d (p (L .origin d)) (p (to L d)) v)
 
--- `single_bulk_insertion_step`, the first loop, against next: `prev` is covered if
--- (!is_behind_edge(next_position, prev_to, prev_from) || current_angle == pseudo_angle(prev_to)) &&
--- prev.side_query(next_position).is_on_left_side()
-unfoldable pub coversLeft : Links → (ℕ → Point) → (ℕ → ℕ) → Point → ℕ → ℕ → Bool
-coversLeft L p α v q d = (not (isBehindEdge v (p (to L d)) (p (L .origin d))) || eqb q (α (to L d))) && seesEdge L p v d
+-- ---- `single_bulk_insertion_step`, the two loops: the first goes against next, the second along next
+abbrev pub beside : Side → Links → ℕ → ℕ
+beside Left L e = L .prev e
+beside Right L e = L .next e
 
--- the second loop, along next: `next` is covered if
+-- the first covers `prev` if
+-- (!is_behind_edge(next_position, prev_to, prev_from) || current_angle == pseudo_angle(prev_to)) &&
+-- prev.side_query(next_position).is_on_left_side(); the second covers `next` if
 -- (!is_behind_edge(middle_position, next_position, next_to) || current_angle == pseudo_angle(middle_position)) &&
 -- next.side_query(next_position).is_on_left_side(), where the middle is next's origin
-unfoldable pub coversRight : Links → (ℕ → Point) → (ℕ → ℕ) → Point → ℕ → ℕ → Bool
-coversRight L p α v q d = (not (isBehindEdge (p (L .origin d)) v (p (to L d))) || eqb q (α (L .origin d))) && seesEdge L p v d
+abbrev pub coveredIf : Bool → ℕ → ℕ → Bool → Bool
+coveredIf behind q near sees = (not behind || eqb q near) && sees
 
--- how many edges the loops cover before and after the located edge e: up to the first that is not covered
+-- is v behind the edge from a to b?
+abbrev pub behind : Side → Point → Point → Point → Bool
+behind Left a b v = isBehindEdge v b a
+behind Right a b v = isBehindEdge a v b
+
+-- the end on the side of the located edge
+abbrev pub nearEnd : Side → Links → ℕ → ℕ
+nearEnd Left L d = to L d
+nearEnd Right L d = L .origin d
+
+abbrev pub covers : Side → Links → (ℕ → Point) → (ℕ → ℕ) → Point → ℕ → ℕ → Bool
+covers side L p α v q d =
+    coveredIf (behind side (p (L .origin d)) (p (to L d)) v) q (α (nearEnd side L d)) (seesEdge L p v d)
+
+unfoldable pub coversLeft : Links → (ℕ → Point) → (ℕ → ℕ) → Point → ℕ → ℕ → Bool
+coversLeft = covers Left
+
+unfoldable pub coversRight : Links → (ℕ → Point) → (ℕ → ℕ) → Point → ℕ → ℕ → Bool
+coversRight = covers Right
+
+-- how many edges a loop covers beside the located edge e: up to the first that is not covered
+abbrev pub chainOn : Side → Counts → Links → (ℕ → Point) → (ℕ → ℕ) → Point → ℕ → ℕ → ℕ
+chainOn side C L p α v q e = first-below (boundaryLength C L) (λ k. not (covers side L p α v q (iter (suc k) (beside side L) e)))
+
 unfoldable pub leftChain : Counts → Links → (ℕ → Point) → (ℕ → ℕ) → Point → ℕ → ℕ → ℕ
-leftChain C L p α v q e = first-below (boundaryLength C L) (λ k. not (coversLeft L p α v q (iter (suc k) (L .prev) e)))
+leftChain = chainOn Left
 
 unfoldable pub rightChain : Counts → Links → (ℕ → Point) → (ℕ → ℕ) → Point → ℕ → ℕ → ℕ
-rightChain C L p α v q e = first-below (boundaryLength C L) (λ k. not (coversRight L p α v q (iter (suc k) (L .next) e)))
+rightChain = chainOn Right
 
 -- the chain: its first edge, and how many it has, e among them
 abbrev pub chainStart : Counts → Links → (ℕ → Point) → (ℕ → ℕ) → Point → ℕ → ℕ → ℕ

@@ -5,7 +5,7 @@ use mathlib.Core.Path.{_≡_, refl, sym, _∙_, ap, ap₂, subst}
 use mathlib.Core.Logic.{_⊎_, inl, inr}
 use mathlib.Core.Bool.{Bool, not, _||_}
 use mathlib.Core.List.{[], _∷_, map}
-use Prim.Native.Nat.{ℕ, zero, suc, _+_, _-_, _<_}
+use Prim.Native.Nat.{ℕ, zero, suc, _+_, _-_, _<_, _≤_}
 use native.Mathlib.Omega.{arith}
 use lib.Dec.{T, eqb, T-not, not-T}
 use lib.IntN.{ℤ, pos, negℤ, _+ℤ_, _-ℤ_}
@@ -32,7 +32,10 @@ use Rattle.ring.specs.Ring.{fullTurn, proper, edgeAngle, atEnds, isSound
 use Rattle.ring.specs.Sound.{Sound}
 use Rattle.ring.specs.Merged.{sound-round, round-sound}
 use Rattle.ring.specs.Boundary.{outer-round, outer-walk, outer-on, sound-outer, outer-sound}
-use Rattle.ring.specs.Chain.{seesEdge, coversLeft, coversRight, leftChain, rightChain, chainStart, chainLength, anglesAfter, soundAfter, isFit}
+use Rattle.ring.specs.declared.Side.{Side}
+use Rattle.ring.specs.declared.Side.the-variants.{Left, Right}
+use Rattle.ring.specs.Chain.{seesEdge, beside, behind, nearEnd, covers, coversLeft, coversRight}
+use Rattle.ring.specs.Chain.{chainOn, leftChain, rightChain, chainStart, chainLength, anglesAfter, soundAfter, isFit}
 use Rattle.ring.specs.ChainLaws.{sound-after, spliced-angles}
 use Rattle.ring.specs.Covered.{Covered}
 
@@ -108,32 +111,53 @@ module _ {C : Counts} {L : Links} (W : Wf C L) {p : ℕ → Point} (F : LeftTurn
 module _ {C : Counts} {L : Links} (W : Wf C L) (p : ℕ → Point) (α : ℕ → ℕ) (v : Point) (q : ℕ) {e : ℕ} (l : In C e)
     (o : L .face e ≡ 0) where
   -- the edges of either walk are covered, and the one after them is not
+  pub chain-covered : (side : Side) (k : ℕ) → k < chainOn side C L p α v q e → T (covers side L p α v q (iter (suc k) (beside side L) e))
+  chain-covered side k u =
+      sure (covers side L p α v q (iter (suc k) (beside side L) e))
+      (first-below-before (boundaryLength C L) (λ k. not (covers side L p α v q (iter (suc k) (beside side L) e))) k u)
+
+  pub chain-stops : (side : Side) → (let m = chainOn side C L p α v q e in
+      m < boundaryLength C L → T (not (covers side L p α v q (iter (suc m) (beside side L) e))))
+  chain-stops side u = first-below-passes (boundaryLength C L) (λ k. not (covers side L p α v q (iter (suc k) (beside side L) e))) u
+
+  -- an edge that is covered has v strictly on its left
+  pub covers-sees : (side : Side) (d : ℕ) → T (covers side L p α v q d) → T (seesEdge L p v d)
+  covers-sees side d t =
+      and-right (not (behind side (p (L .origin d)) (p (to L d)) v) || eqb q (α (nearEnd side L d))) (seesEdge L p v d) t
+
+  -- so the chain on a side is no longer than the way to an edge that v does not see
+  pub chain-most : (side : Side) (m : ℕ) → T (not (seesEdge L p v (iter (suc m) (beside side L) e))) → chainOn side C L p α v q e ≤ m
+  chain-most side m n =
+      let d = iter (suc m) (beside side L) e in
+      first-below-at-most (boundaryLength C L) (λ k. not (covers side L p α v q (iter (suc k) (beside side L) e))) m
+      (not-T (covers side L p α v q d) (λ c. T-not (seesEdge L p v d) n (covers-sees side d c)))
+
+  -- the same, side by side
   pub left-covered : (k : ℕ) → k < leftChain C L p α v q e → T (coversLeft L p α v q (iter (suc k) (L .prev) e))
-  unfolding leftChain
-  left-covered k u = sure (coversLeft L p α v q (iter (suc k) (L .prev) e)) (first-below-before (boundaryLength C L) (λ k. not (coversLeft L p α v q (iter (suc k) (L .prev) e))) k u)
+  unfolding leftChain coversLeft
+  left-covered = chain-covered Left
 
   pub right-covered : (k : ℕ) → k < rightChain C L p α v q e → T (coversRight L p α v q (iter (suc k) (L .next) e))
-  unfolding rightChain
-  right-covered k u = sure (coversRight L p α v q (iter (suc k) (L .next) e)) (first-below-before (boundaryLength C L) (λ k. not (coversRight L p α v q (iter (suc k) (L .next) e))) k u)
+  unfolding rightChain coversRight
+  right-covered = chain-covered Right
 
   pub left-stops : leftChain C L p α v q e < boundaryLength C L
       → T (not (coversLeft L p α v q (iter (suc (leftChain C L p α v q e)) (L .prev) e)))
-  unfolding leftChain
-  left-stops u = first-below-passes (boundaryLength C L) (λ k. not (coversLeft L p α v q (iter (suc k) (L .prev) e))) u
+  unfolding leftChain coversLeft
+  left-stops = chain-stops Left
 
   pub right-stops : rightChain C L p α v q e < boundaryLength C L
       → T (not (coversRight L p α v q (iter (suc (rightChain C L p α v q e)) (L .next) e)))
-  unfolding rightChain
-  right-stops u = first-below-passes (boundaryLength C L) (λ k. not (coversRight L p α v q (iter (suc k) (L .next) e))) u
+  unfolding rightChain coversRight
+  right-stops = chain-stops Right
 
-  -- an edge that is covered has v strictly on its left
   pub left-sees : (d : ℕ) → T (coversLeft L p α v q d) → T (seesEdge L p v d)
   unfolding coversLeft
-  left-sees d t = and-right (not (isBehindEdge v (p (to L d)) (p (L .origin d))) || eqb q (α (to L d))) (seesEdge L p v d) t
+  left-sees = covers-sees Left
 
   pub right-sees : (d : ℕ) → T (coversRight L p α v q d) → T (seesEdge L p v d)
   unfolding coversRight
-  right-sees d t = and-right (not (isBehindEdge (p (L .origin d)) v (p (to L d))) || eqb q (α (L .origin d))) (seesEdge L p v d) t
+  right-sees = covers-sees Right
 
   -- ---- its first edge
   pub before-walk : (k : ℕ) → In C (iter k (L .prev) e) × (L .face (iter k (L .prev) e) ≡ 0)
@@ -160,10 +184,8 @@ module _ {C : Counts} {L : Links} (W : Wf C L) (p : ℕ → Point) (α : ℕ →
             let back : iter (suc i) (L .prev) e ≡ iter (suc j) (L .next) e =
             ap (iter (suc i) (L .prev)) (sym (outer-round W l o) ∙ ap (λ (k : ℕ). iter k (L .next) e) (sym there) ∙ iter-add (suc j) (suc i) (L .next) e)
             ∙ iter-back (next-inverse W) (suc i) (outer-walk W l o (suc j) .0) in
-            let left = first-below-at-most n (λ k. not (coversLeft L p α v q (iter (suc k) (L .prev) e))) i
-            (not-T (coversLeft L p α v q (iter (suc i) (L .prev) e)) (λ c. T-not (seesEdge L p v d) t (subst (λ (x : ℕ). T (seesEdge L p v x)) (back ∙ z) (left-sees (iter (suc i) (L .prev) e) c)))) in
-            let right = first-below-at-most n (λ k. not (coversRight L p α v q (iter (suc k) (L .next) e))) j
-            (not-T (coversRight L p α v q (iter (suc j) (L .next) e)) (λ c. T-not (seesEdge L p v d) t (subst (λ (x : ℕ). T (seesEdge L p v x)) z (right-sees (iter (suc j) (L .next) e) c)))) in
+            let left = chain-most Left i (subst (λ (x : ℕ). T (not (seesEdge L p v x))) (sym (back ∙ z)) t) in
+            let right = chain-most Right j (subst (λ (x : ℕ). T (not (seesEdge L p v x))) (sym z) t) in
             omega arith
 
     -- the rest of the boundary leads from the chain's end back to its start

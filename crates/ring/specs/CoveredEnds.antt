@@ -21,7 +21,9 @@ use Rattle.mesh.specs.NewFace.{new-face-frame}
 use Rattle.mesh.specs.SingleFace.{single-face-frame}
 use Rattle.sums.specs.Iterate.{iter, iter-last, iter-keeps}
 use Rattle.ring.specs.Boundary.{outer-walk}
-use Rattle.ring.specs.Chain.{coversLeft, coversRight}
+use Rattle.ring.specs.declared.Side.{Side}
+use Rattle.ring.specs.declared.Side.the-variants.{Left, Right}
+use Rattle.ring.specs.Chain.{covers, coversLeft, coversRight}
 use Rattle.ring.specs.Covered.{Covered, covered-in, covered-outer, right-four, left-four, p-in, p-outer, last-l, prev-in, prev-outer}
 
 -- the half-edge d has in L the ends that it has in L₀
@@ -82,19 +84,17 @@ module _ {C₀ : Counts} {L₀ : Links} (W₀ : Wf C₀ L₀) {L : Links} {p p�
   p-to : p′ (to L d) ≡ p (to L₀ d)
   p-to = ap p′ (E .end) ∙ places (to L₀ d) to<
 
+  test-same : (side : Side) (v : Point) (q : ℕ) → covers side L p′ α′ v q d ≡ covers side L₀ p α v q d
+  test-same Left v q = rw (p-from, p-to, E .end, angles (to L₀ d) to<)
+  test-same Right v q = rw (p-from, p-to, E .origin, angles (L₀ .origin d) from<)
+
   pub left-test : (v : Point) (q : ℕ) → coversLeft L p′ α′ v q d ≡ coversLeft L₀ p α v q d
   unfolding coversLeft
-  left-test v q =
-      ap₂ (λ (b c : Bool). b && c)
-      (ap₂ (λ (b c : Bool). not b || c) (ap₂ (λ (x y : Point). isBehindEdge v x y) p-to p-from) (ap (eqb q) (ap α′ (E .end) ∙ angles (to L₀ d) to<)))
-      (ap₂ (λ (x y : Point). ltZ (pos 0) (orient2d x y v)) p-from p-to)
+  left-test = test-same Left
 
   pub right-test : (v : Point) (q : ℕ) → coversRight L p′ α′ v q d ≡ coversRight L₀ p α v q d
   unfolding coversRight
-  right-test v q =
-      ap₂ (λ (b c : Bool). b && c)
-      (ap₂ (λ (b c : Bool). not b || c) (ap₂ (λ (x y : Point). isBehindEdge x v y) p-from p-to) (ap (eqb q) (ap α′ (E .origin) ∙ angles (L₀ .origin d) from<)))
-      (ap₂ (λ (x y : Point). ltZ (pos 0) (orient2d x y v)) p-from p-to)
+  right-test = test-same Right
 
 -- the edge that the loop to the left looks at, before l, is the one before the chain; that to the right looks at r
 pub left-next : {C₀ : Counts} {L₀ : Links} (W₀ : Wf C₀ L₀) {α : ℕ → ℕ} {C : Counts} {L : Links} {α′ : ℕ → ℕ}

@@ -7,8 +7,9 @@ use mathlib.Core.Logic.{_≢_, _⊎_, inl, inr}
 use Prim.Native.Nat.{ℕ, zero, suc, _+_, _-_, _<_}
 use native.Mathlib.Decide.{ℕ-discrete, decLt}
 use native.Mathlib.Omega.{arith}
-use Rattle.ring.specs.Insert.{On}
-use Rattle.ring.specs.Stores.{Before, Stores, rest-same}
+use Rattle.ring.specs.Node.{NodeTable}
+use Rattle.ring.specs.Insert.{On, Insertion, Stay, restNode}
+use Rattle.ring.specs.Stores.{Before, stored, not-left, left-fresh, rest-same, right-new, start-right}
 use Rattle.sums.specs.Iterate.{iter, iter-add}
 
 -- ---- the stack of freed nodes, against a set of nodes that are in use: freed 0 .. freed (n - 1), of the numbers below len
@@ -83,42 +84,43 @@ free-same {Live} {freed} {freed'} {n} {len} same A = record {
   once = λ i j l m z. A .once i j l m (sym (same i l) ∙ z ∙ same j m);
 }
 
--- ---- the nodes that stay: s and the k from t on
-abbrev pub Stay : (ℕ → ℕ) → ℕ → ℕ → ℕ → ℕ → Type 0
-Stay right s t k x = (x ≡ s) ⊎ On right k t x
-
--- the nodes strictly between s and t are pushed, in order
+-- ---- the nodes strictly between s and t are pushed, in order
 pub record Pushed (right freed freed' : ℕ → ℕ) (s c n : ℕ) : Type 0 where
   pub old : (j : ℕ) → j < n → freed' j ≡ freed j
   pub new : (i : ℕ) → suc i < c → freed' (n + i) ≡ iter (suc i) right s
 
-module _ {right freed freed' : ℕ → ℕ} {s c t n len : ℕ} (k : ℕ) (some : 0 < c) (t-is : iter c right s ≡ t)
-    (apart : (i j : ℕ) → i < c + k → j < c + k → iter i right s ≡ iter j right s → i ≡ j)
-    (A : Free (On right (c + k) s) freed n len) (P : Pushed right freed freed' s c n) where
-  at : (d : ℕ) → iter d right t ≡ iter (c + d) right s
-  at d = ap (iter d right) (sym t-is) ∙ sym (iter-add c d right s)
+module _ (τ : NodeTable) (x : Insertion) {freed freed' : ℕ → ℕ} {c n len : ℕ} (k : ℕ)
+    (some : 0 < c) (right-is : iter c (τ .right) (x .left) ≡ x .right)
+    (apart : (i j : ℕ) → i < c + k → j < c + k → iter i (τ .right) (x .left) ≡ iter j (τ .right) (x .left) → i ≡ j)
+    (A : Free (On (τ .right) (c + k) (x .left)) freed n len) (P : Pushed (τ .right) freed freed' (x .left) c n) where
+  at : (d : ℕ) → restNode τ x d ≡ iter (c + d) (τ .right) (x .left)
+  at d = ap (iter d (τ .right)) (sym right-is) ∙ sym (iter-add c d (τ .right) (x .left))
 
-  stays-on : (x : ℕ) → Stay right s t k x → On right (c + k) s x
-  stays-on x (inl z) = (0, omega arith, sym z)
-  stays-on x (inr (d, l, z)) = (c + d, omega arith, sym (at d) ∙ z)
+  stays-on : (y : ℕ) → Stay τ x k y → On (τ .right) (c + k) (x .left) y
+  stays-on y (inl z) = (0, omega arith, sym z)
+  stays-on y (inr (d, l, z)) = (c + d, omega arith, sym (at d) ∙ z)
 
-  between : (i : ℕ) → 0 < i → i < c → Stay right s t k (iter i right s) → ⊥
+  between : (i : ℕ) → 0 < i → i < c → Stay τ x k (iter i (τ .right) (x .left)) → ⊥
   between i p l (inl z) = let y = apart i 0 (omega arith) (omega arith) z in omega arith
   between i p l (inr (d, m, z)) = let y = apart (c + d) i (omega arith) (omega arith) (sym (at d) ∙ z) in omega arith
 
-  go : (i : ℕ) → i < c → Free (Stay right s t k) freed' (n + i) len
-  go zero l = subst (λ (m : ℕ). Free (Stay right s t k) freed' m len) (nil n) (free-same (P .old) (free-fewer stays-on A))
+  go : (i : ℕ) → i < c → Free (Stay τ x k) freed' (n + i) len
+  go zero l = subst (λ (m : ℕ). Free (Stay τ x k) freed' m len) (nil n) (free-same (P .old) (free-fewer stays-on A))
     where
       nil : (n : ℕ) → n ≡ n + 0
       nil n = omega arith
   go (suc i) l =
-      subst (λ (m : ℕ). Free (Stay right s t k) freed' m len) (one n i)
-      (free-push (iter (suc i) right s) (A .live-below (iter (suc i) right s) (suc i, omega arith, refl)) (between (suc i) (omega arith) l) fresh (λ j m. refl) (P .new i l) (go i (omega arith)))
+      subst (λ (m : ℕ). Free (Stay τ x k) freed' m len) (one n i)
+      (free-push y (A .live-below y (suc i, omega arith, refl)) (between (suc i) (omega arith) l) fresh (λ j m. refl)
+      (P .new i l) (go i (omega arith)))
     where
+      y : ℕ
+      y = iter (suc i) (τ .right) (x .left)
+
       one : (n i : ℕ) → suc (n + i) ≡ n + suc i
       one n i = omega arith
 
-      fresh : (j : ℕ) → j < n + i → freed' j ≢ iter (suc i) right s
+      fresh : (j : ℕ) → j < n + i → freed' j ≢ y
       fresh j m z = which (decLt j n)
         where
           which : Dec (j < n) → ⊥
@@ -128,7 +130,7 @@ module _ {right freed freed' : ℕ → ℕ} {s c t n len : ℕ} (k : ℕ) (some 
               let e : n + d ≡ j = omega arith in
               let y = apart (suc d) (suc i) (omega arith) (omega arith) (sym (P .new d (omega arith)) ∙ ap freed' e ∙ z) in omega arith
 
-  pub pushed : Free (Stay right s t k) freed' (n + (c - 1)) len
+  pub pushed : Free (Stay τ x k) freed' (n + (c - 1)) len
   pushed = go (c - 1) (omega arith)
 
 -- ---- the new node: the top of the stack, or the next number
@@ -152,40 +154,41 @@ taken {Live} {freed} {n} {len} A (top {i = i} e) = free-pop (subst (λ (m : ℕ)
 taken {Live} {freed} {n} {len} A (next-one e) = free-fresh (subst (λ (m : ℕ). Free Live freed m len) e A)
 
 -- ---- the nodes of the new ring are the new one, the left one if it stays, and the rest
-module _ {left right angle edge left' right' angle' edge' : ℕ → ℕ} {s c t k v u s' l p q al : ℕ}
-    (B : Before left right s c t k v u s' al q)
-    (S : Stores left right angle edge left' right' angle' edge' s t v u l p q al) (s-angle : angle s ≡ al) where
-  from-t : (x d : ℕ) → d < k → iter d right' t ≡ x → On right k t x
-  from-t x d m z = (d, m, sym (rest-same B S s-angle d m) ∙ z)
+module _ {τ : NodeTable} {x : Insertion} {c k al q : ℕ} (B : Before τ x c k al q) (l p : ℕ) where
+  abbrev right' : ℕ → ℕ
+  right' = stored τ x l p q .right
 
-  pub live-gone : al ≡ q → (x : ℕ) → On right' (suc k) s' x → On right k t x ⊎ (x ≡ v)
-  live-gone y x (zero, m, z) = inr (sym z ∙ B .s-new y)
-  live-gone y x (suc d, m, z) = inl (from-t x d (omega arith) (ap (iter d right') (sym (S .right-v) ∙ ap right' (sym (B .s-new y))) ∙ z))
+  from-new : (y d : ℕ) → d < k → iter d right' (right' (x .new)) ≡ y → On (τ .right) k (x .right) y
+  from-new y d m z = (d, m, sym (rest-same B l p d m) ∙ ap (iter d right') (sym (right-new B l p)) ∙ z)
 
-  pub live-stays : al ≢ q → (x : ℕ) → On right' (suc (suc k)) s' x → Stay right s t k x ⊎ (x ≡ v)
-  live-stays y x (zero, m, z) = inl (inl (sym z ∙ B .s-stays y))
-  live-stays y x (suc zero, m, z) = inr (sym z ∙ ap right' (B .s-stays y ∙ sym (B .u-stays y)) ∙ S .right-u)
-  live-stays y x (suc (suc d), m, z) =
-      inl (inr (from-t x d (omega arith) (ap (iter d right') (sym (S .right-v) ∙ ap right' (sym (ap right' (B .s-stays y ∙ sym (B .u-stays y)) ∙ S .right-u))) ∙ z)))
+  live-goes : al ≡ q → (y : ℕ) → On right' (suc k) (x .start) y → On (τ .right) k (x .right) y ⊎ (y ≡ x .new)
+  live-goes e y (zero, m, z) = inr (sym z ∙ B .named .start-goes e)
+  live-goes e y (suc d, m, z) =
+      inl (from-new y d (omega arith) (ap (λ (i : ℕ). iter d right' (right' i)) (sym (B .named .start-goes e)) ∙ z))
+
+  live-stays : al ≢ q → (y : ℕ) → On right' (suc (suc k)) (x .start) y → Stay τ x k y ⊎ (y ≡ x .new)
+  live-stays e y (zero, m, z) = inl (inl (sym z ∙ B .named .start-stays e))
+  live-stays e y (suc zero, m, z) = inr (sym z ∙ start-right B l p e)
+  live-stays e y (suc (suc d), m, z) =
+      inl (inr (from-new y d (omega arith) (ap (λ (i : ℕ). iter d right' (right' i)) (sym (start-right B l p e)) ∙ z)))
 
   -- the stack after the insert
-  pub free-stays : al ≢ q → {freed : ℕ → ℕ} {n len : ℕ} → Free (λ x. Stay right s t k x ⊎ (x ≡ v)) freed n len
-      → Free (On right' (suc (suc k)) s') freed n len
-  free-stays y = free-fewer (live-stays y)
+  pub free-stays : al ≢ q → {freed : ℕ → ℕ} {n len : ℕ} → Free (λ y. Stay τ x k y ⊎ (y ≡ x .new)) freed n len
+      → Free (On (stored τ x l p q .right) (suc (suc k)) (x .start)) freed n len
+  free-stays e = free-fewer (live-stays e)
 
-  pub free-gone : al ≡ q → {freed freed' : ℕ → ℕ} {n len : ℕ} → s ≢ v → (On right k t s → ⊥)
-      → ((j : ℕ) → j < n → freed' j ≡ freed j) → freed' n ≡ s
-      → Free (λ x. Stay right s t k x ⊎ (x ≡ v)) freed n len → Free (On right' (suc k) s') freed' (suc n) len
-  free-gone y {freed} {freed'} {n} {len} sv off same up A =
-      free-push s (A .live-below s (inl (inl refl))) (λ t. gone (live-gone y s t)) (λ j m z. A .dead j m (inl (inl z))) same up (free-fewer wide A)
+  pub free-goes : al ≡ q → {freed freed' : ℕ → ℕ} {n len : ℕ}
+      → ((j : ℕ) → j < n → freed' j ≡ freed j) → freed' n ≡ x .left
+      → Free (λ y. Stay τ x k y ⊎ (y ≡ x .new)) freed n len
+      → Free (On (stored τ x l p q .right) (suc k) (x .start)) freed' (suc n) len
+  free-goes e same up A =
+      free-push (x .left) (A .live-below (x .left) (inl (inl refl))) (λ o. gone (live-goes e (x .left) o))
+      (λ j m z. A .dead j m (inl (inl z))) same up (free-fewer (λ y o. widen y (live-goes e y o)) A)
     where
-      gone : On right k t s ⊎ (s ≡ v) → ⊥
-      gone (inl a) = off a
-      gone (inr a) = sv a
+      gone : On (τ .right) k (x .right) (x .left) ⊎ (x .left ≡ x .new) → ⊥
+      gone (inl (d, m, z)) = not-left B d m z
+      gone (inr a) = left-fresh B a
 
-      widen : (x : ℕ) → On right k t x ⊎ (x ≡ v) → Stay right s t k x ⊎ (x ≡ v)
-      widen x (inl a) = inl (inr a)
-      widen x (inr a) = inr a
-
-      wide : (x : ℕ) → On right' (suc k) s' x → Stay right s t k x ⊎ (x ≡ v)
-      wide x a = widen x (live-gone y x a)
+      widen : (y : ℕ) → On (τ .right) k (x .right) y ⊎ (y ≡ x .new) → Stay τ x k y ⊎ (y ≡ x .new)
+      widen y (inl a) = inl (inr a)
+      widen y (inr a) = inr a

@@ -6,6 +6,7 @@ pub mod Splice
 pub mod Buckets
 pub mod Node
 pub mod Insert
+pub mod Inserted
 pub mod Merged
 pub mod Locate
 pub mod Build

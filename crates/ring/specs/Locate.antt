@@ -15,7 +15,7 @@ use Rattle.ring.specs.Ring.{atEnds, between, proper, wraps}
 use Rattle.ring.specs.Segments.{wide-wraps, wraps→, null-proper}
 use Rattle.ring.specs.Sound.{held-along, Sound, tile-count}
 use Rattle.ring.specs.Buckets.{Sized}
-use Rattle.ring.specs.Node.{nodes}
+use Rattle.ring.specs.Node.{NodeTable, nodes}
 use Rattle.ring.specs.Insert.{Ring, ring-tally, ring-proper, all-proper, node-sole}
 use Rattle.sums.specs.Bit.{Tells, bit, bit-1, bit-le, bit-no, le?, lt?}
 use Rattle.sums.specs.Iterate.{iter, iter-add, iter-last}
@@ -200,13 +200,13 @@ module _ {N : ℕ} {f α : ℕ → ℕ} {s n k : ℕ} (S : Sound N f α s n) (he
 unfoldable pub angleIn : ℕ → ℕ → ℕ → ℕ → Bool
 angleIn y x a b = proper a b && between y x a
 
-pub count-boundary : {N : ℕ} {next α right angle edge : ℕ → ℕ} {e h s : ℕ} (R : Ring N next α right angle edge e h s) (y x : ℕ)
-    → tally (atEnds (angleIn y x) next α) (walk h next e) ≡ tally (λ i. between y x (angle i)) (walk (nodes next α h e) right s)
+pub count-boundary : {N : ℕ} {next α : ℕ → ℕ} {τ : NodeTable} {e h s : ℕ} (R : Ring N next α τ e h s) (y x : ℕ)
+    → tally (atEnds (angleIn y x) next α) (walk h next e) ≡ tally (λ i. between y x (τ .angle i)) (walk (nodes next α h e) (τ .right) s)
 unfolding angleIn
-count-boundary {N} {next} {α} {right} {angle} {edge} {e} {h} {s} R y x =
+count-boundary {N} {next} {α} {τ} {e} {h} {s} R y x =
     ring-tally R (angleIn y x) (λ a. none (proper a a) (null-proper a) (between y x a))
-    ∙ tally-ext (λ i. between y x (angle i)) (atEnds (angleIn y x) right angle) right (nodes next α h e) s
-    (λ k l. whole (atEnds proper right angle (iter k right s)) (all-proper (atEnds proper right angle) right (nodes next α h e) s (ring-proper R) k l) (between y x (angle (iter k right s))))
+    ∙ tally-ext (λ i. between y x (τ .angle i)) (atEnds (angleIn y x) (τ .right) (τ .angle)) (τ .right) (nodes next α h e) s
+    (λ k l. whole (atEnds proper (τ .right) (τ .angle) (iter k (τ .right) s)) (all-proper (atEnds proper (τ .right) (τ .angle)) (τ .right) (nodes next α h e) s (ring-proper R) k l) (between y x (τ .angle (iter k (τ .right) s))))
   where
     none : (t : Bool) → bit t ≡ 0 → (b : Bool) → bit (t && b) ≡ 0
     none true z b = absurd (omega arith)

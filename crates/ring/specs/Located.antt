@@ -21,10 +21,10 @@ use Rattle.sums.specs.Iterate.{iter}
 use Rattle.sums.specs.Tally.{First, tally, walk}
 use Rattle.ring.specs.Ring.{fullTurn, proper, atEnds, between, member, merged, passedCount, edgeAngle, located}
 use Rattle.ring.specs.Merged.{angles-tally, angles-size}
-use Rattle.ring.specs.Node.{nodes, Stands, match-at}
+use Rattle.ring.specs.Node.{NodeTable, nodes, Stands, match-at}
 use Rattle.ring.specs.Insert.{On}
 use Rattle.ring.specs.Locate.{angleIn}
-use Rattle.ring.specs.Hull.{Hull, kth, node-edge, locate-hull, locate-top-none, locate-top-some}
+use Rattle.ring.specs.Hull.{HullFrom, kth, node-edge, locate-hull, locate-top-none, locate-top-some}
 use Rattle.ring.specs.Boundary.{outer-walk, outer-sound, located-sole}
 
 -- ---- the angle x stands on a walk
@@ -46,14 +46,14 @@ member← next α x (suc h) e zero l z = or-left (eqb (α e) x) (member x (map �
 member← next α x (suc h) e (suc j) l z = or-right (eqb (α e) x) (member x (map α (walk h next (next e)))) (member← next α x h (next e) j (omega arith) z)
 
 -- ---- THE COUNT, with 8 buckets
-module _ {N : ℕ} {next α left right angle edge bucket : ℕ → ℕ} {e h s w : ℕ}
-    (H : Hull N next α left right angle edge bucket e h s 8 w) where
+module _ {N : ℕ} {next α : ℕ → ℕ} {τ : NodeTable} {bucket : ℕ → ℕ} {e h s w : ℕ}
+    (H : HullFrom N next α τ bucket e h s 8 w) where
   some : 0 < nodes next α h e
   some = let t = H .ring .sound .three in omega arith
 
   -- below 1.0, from the bucket floor(8a)
   passed-below : (x k : ℕ) → x < N
-      → First (atEnds (holds x) right angle) right (nodes next α h e) (bucket (x / w)) k
+      → First (atEnds (holds x) (τ .right) (τ .angle)) (τ .right) (nodes next α h e) (bucket (x / w)) k
       → passedCount N x (map α (walk h next e)) ≡ k
   unfolding passedCount angleIn
   passed-below x k l F =
@@ -65,7 +65,7 @@ module _ {N : ℕ} {next α left right angle edge bucket : ℕ → ℕ} {e h s w
       ∙ locate-hull H x k l F
 
   -- at 1.0, from bucket 0
-  passed-top : (k : ℕ) → First (atEnds (holds N) right angle) right (nodes next α h e) (bucket 0) k
+  passed-top : (k : ℕ) → First (atEnds (holds N) (τ .right) (τ .angle)) (τ .right) (nodes next α h e) (bucket 0) k
       → passedCount N N (map α (walk h next e)) ≡ k
   unfolding passedCount
   passed-top k F =
@@ -84,7 +84,7 @@ module _ {N : ℕ} {next α left right angle edge bucket : ℕ → ℕ} {e h s w
   -- 01: "With n = 8 and i = floor(8a), that count is the number of boundary angles above i/8 and up to a. At a = 1.0 it
   -- is ring size minus 1 if some boundary angle is 0.0, otherwise 0."
   pub locate-passed : (x k : ℕ) → x ≤ N
-      → First (atEnds (holds x) right angle) right (nodes next α h e) (bucket (x / w % 8)) k
+      → First (atEnds (holds x) (τ .right) (τ .angle)) (τ .right) (nodes next α h e) (bucket (x / w % 8)) k
       → passedCount N x (map α (walk h next e)) ≡ k
   locate-passed x k l F = go (ℕ-discrete x N)
     where
@@ -92,31 +92,31 @@ module _ {N : ℕ} {next α left right angle edge bucket : ℕ → ℕ} {e h s w
       go (yes z) =
           let b : x / w % 8 ≡ 0 = ap (λ (n : ℕ). n / w % 8) (z ∙ H .sized .all) ∙ ap (λ (n : ℕ). n % 8) (mul-div-cancel 8 (H .sized .room)) in
           ap (λ (n : ℕ). passedCount N n (map α (walk h next e))) z
-          ∙ passed-top k (subst (λ (n : ℕ). First (atEnds (holds n) right angle) right (nodes next α h e) (bucket 0) k) z (subst (λ (n : ℕ). First (atEnds (holds x) right angle) right (nodes next α h e) (bucket n) k) b F))
+          ∙ passed-top k (subst (λ (n : ℕ). First (atEnds (holds n) (τ .right) (τ .angle)) (τ .right) (nodes next α h e) (bucket 0) k) z (subst (λ (n : ℕ). First (atEnds (holds x) (τ .right) (τ .angle)) (τ .right) (nodes next α h e) (bucket n) k) b F))
       go (no z) =
           let u : x < N = omega arith in
           let b : x / w % 8 ≡ x / w = mod-eq-of-lt (div-lt-iff-lt-mul {k = w} {x = x} {y = 8} (H .sized .room) .1 (let a = H .sized .all in omega arith)) in
-          passed-below x k u (subst (λ (n : ℕ). First (atEnds (holds x) right angle) right (nodes next α h e) (bucket n) k) b F)
+          passed-below x k u (subst (λ (n : ℕ). First (atEnds (holds x) (τ .right) (τ .angle)) (τ .right) (nodes next α h e) (bucket n) k) b F)
 
 -- ---- THE EDGE: a node's edge is one of the boundary's
-pub node-place : {N : ℕ} {next α left right angle edge bucket : ℕ → ℕ} {e h s B w : ℕ}
-    → Hull N next α left right angle edge bucket e h s B w → (y : ℕ) → On right (nodes next α h e) s y
-    → (j : ℕ) × (j < h) × (edge y ≡ iter j next e)
+pub node-place : {N : ℕ} {next α : ℕ → ℕ} {τ : NodeTable} {bucket : ℕ → ℕ} {e h s B w : ℕ}
+    → HullFrom N next α τ bucket e h s B w → (y : ℕ) → On (τ .right) (nodes next α h e) s y
+    → (j : ℕ) × (j < h) × (τ .edge y ≡ iter j next e)
 unfolding Stands
-node-place {N} {next} {α} {left} {right} {angle} {edge} {bucket} {e} {h} {s} H y (k, l, z) =
+node-place {N} {next} {α} {τ} {bucket} {e} {h} {s} H y (k, l, z) =
     let r = kth (atEnds proper next α) next h e k l in
-    (r .0, r .1, ap edge (sym z) ∙ ap (λ (i : ℕ). edge (iter i right s)) (sym (r .3)) ∙ match-at next α right angle edge h e s (H .ring .match) (r .0) (r .1) (r .2) .0)
+    (r .0, r .1, ap (τ .edge) (sym z) ∙ ap (λ (i : ℕ). τ .edge (iter i (τ .right) s)) (sym (r .3)) ∙ match-at next α τ h e s (H .ring .match) (r .0) (r .1) (r .2) .0)
 
 -- the node that holds x has the located edge, whatever the number of buckets
-pub node-located : {C : Counts} {L : Links} (W : Wf C L) (α : ℕ → ℕ) {left right angle edge bucket : ℕ → ℕ}
+pub node-located : {C : Counts} {L : Links} (W : Wf C L) (α : ℕ → ℕ) {τ : NodeTable} {bucket : ℕ → ℕ}
     {e s B w : ℕ} → In C e → L .face e ≡ 0
-    → Hull fullTurn (L .next) (edgeAngle L α) left right angle edge bucket e (boundaryLength C L) s B w
-    → (x y : ℕ) → On right (nodes (L .next) (edgeAngle L α) (boundaryLength C L) e) s y
-    → T (atEnds (holds x) right angle y) → edge y ≡ located C L α x
-node-located {C} {L} W α {left} {right} {angle} {edge} {bucket} {e} {s} l o H x y (k, u, z) t =
+    → HullFrom fullTurn (L .next) (edgeAngle L α) τ bucket e (boundaryLength C L) s B w
+    → (x y : ℕ) → On (τ .right) (nodes (L .next) (edgeAngle L α) (boundaryLength C L) e) s y
+    → T (atEnds (holds x) (τ .right) (τ .angle) y) → τ .edge y ≡ located C L α x
+node-located {C} {L} W α {τ} {bucket} {e} {s} l o H x y (k, u, z) t =
     let r = node-place H y (k, u, z) in
     let b = outer-walk W l o (r .0) in
     let n = node-edge (H .ring) k u in
-    let f : edgeAngle L α (edge y) ≡ angle y = ap (λ (i : ℕ). edgeAngle L α (edge i)) (sym z) ∙ n .0 ∙ ap angle z in
-    let g : edgeAngle L α (L .next (edge y)) ≡ angle (right y) = ap (λ (i : ℕ). edgeAngle L α (L .next (edge i))) (sym z) ∙ n .1 ∙ ap (λ (i : ℕ). angle (right i)) z in
+    let f : edgeAngle L α (τ .edge y) ≡ τ .angle y = ap (λ (i : ℕ). edgeAngle L α (τ .edge i)) (sym z) ∙ n .0 ∙ ap (τ .angle) z in
+    let g : edgeAngle L α (L .next (τ .edge y)) ≡ τ .angle (τ .right y) = ap (λ (i : ℕ). edgeAngle L α (L .next (τ .edge i))) (sym z) ∙ n .1 ∙ ap (λ (i : ℕ). τ .angle (τ .right i)) z in
     located-sole W α (outer-sound W α l o (H .ring .sound)) x (subst (In C) (sym (r .2)) (b .0)) (ap (L .face) (r .2) ∙ b .1) (subst T (ap₂ (holds x) (sym f) (sym g)) t)

@@ -6,17 +6,11 @@ use Prim.Native.Nat.{ℕ, zero, suc, _+_, _*_, _/_, _%_, _^_, _<_, _≤_}
 use native.Mathlib.Nat.{mul-div-cancel, two-pow-succ}
 use native.Mathlib.Omega.{arith}
 use lib.Dec.{T, ltb, leb, ltb→lt, leb→le, lit≤}
-use Rattle.mesh.specs.declared.Counts.{Counts}
-use Rattle.mesh.specs.Mesh.{Links}
-use Rattle.mesh.specs.Wf.{Wf}
 use Rattle.segment.specs.Bucket.{Buckets, width, ceilOf}
 use Rattle.segment.specs.Laws.{bucket-width}
 use Rattle.sums.specs.Bit.{and-right}
 use Rattle.ring.specs.Ring.{fullTurn}
 use Rattle.ring.specs.Buckets.{ceiling, Sized}
-use Rattle.ring.specs.Insert.{ring-sound, ring-proper}
-use Rattle.ring.specs.Build.{Filling, filling-done}
-use Rattle.ring.specs.RingOf.{RingOf, ring-of, node-low}
 
 -- `adjust_bucket_size_if_necessary` of 000, where num is the number of buckets and size that of the nodes
 unfoldable pub adjustedBuckets : ℕ → ℕ → ℕ
@@ -74,22 +68,3 @@ adjusted-buckets {num} size s B = record {
 -- ---- the circle in buckets of one width
 pub buckets-sized : {B : ℕ} → Buckets B → Sized fullTurn B (width B)
 buckets-sized {B} b = let w = bucket-width B b in record { eight = w .1; room = w .0; all = w .2 }
-
--- the first bucket not below an angle is the one that crate segment's code answers
-pub ceiling-bucket : (x B : ℕ) → ceiling (width B) x % B ≡ ceilOf x B
-unfolding ceiling
-ceiling-bucket x B = refl
-
--- ---- buckets filled anew, another number of them: the nodes from the old bucket 0's on, each to its range
-pub ring-refilled : {C : Counts} {L : Links} (W : Wf C L) {α left right angle edge bucket bucket' : ℕ → ℕ}
-    {B B' size : ℕ} → RingOf C L α left right angle edge bucket B size → Buckets B'
-    → Filling right angle bucket' B' (width B') (bucket 0) size → RingOf C L α left right angle edge bucket' B' size
-ring-refilled {C} {L} W {α} {left} {right} {angle} {edge} {bucket} {bucket'} {B} {B'} {size} R b F =
-    let H = R .hull in
-    subst (RingOf C L α left right angle edge bucket' B') (R .count) (ring-of W (R .in-use) (R .outer) (record {
-      ring = H .ring;
-      links = H .links;
-      low = H .low;
-      sized = buckets-sized b;
-      buckets = filling-done (ring-sound (H .ring)) (ring-proper (H .ring)) (node-low H) (buckets-sized b) bucket' (subst (Filling right angle bucket' B' (width B') (bucket 0)) (sym (R .count)) F);
-    }))

@@ -70,22 +70,6 @@ module _ {f α f' α' : ℕ → ℕ} {s m n l p q r : ℕ} (P : Spliced f α f' 
       tally-add (atEnds φ f α) f m n s ∙ ap (λ (t : ℕ). tally (atEnds φ f α) (walk m f s) + tally (atEnds φ f α) (walk n f t)) (P .right) in
       omega arith
 
--- no edge of a walk that comes back to the same angle without wrapping is proper
-pub flat : (f α : ℕ → ℕ) (n r : ℕ) → α (iter n f r) ≡ α r → tally (atEnds wraps f α) (walk n f r) ≡ 0
-    → tally (atEnds proper f α) (walk n f r) ≡ 0
-flat f α n r e z = go (decLt 0 (tally (atEnds proper f α) (walk n f r)))
-  where
-    go : Dec (0 < tally (atEnds proper f α) (walk n f r)) → tally (atEnds proper f α) (walk n f r) ≡ 0
-    go (no h) = omega arith
-    go (yes h) =
-        let w = first (atEnds proper f α) f n r h in
-        let k = w .0 in
-        let x = α (iter k f r) in
-        let c = counts (atEnds (holds x) f α) f n r k (w .1 .below) (holds-first x (α (f (iter k f r))) (proper→ x (α (f (iter k f r))) (w .1 .passes))) in
-        let t = held-along f α x n r in
-        let d = ap (λ (y : ℕ). bit (leb y x)) e in
-        absurd (omega arith)
-
 -- What decides whether the new round is sound: q is not the right angle, neither new edge is wide, and enough nodes are left
 pub record Fit (N : ℕ) (f α : ℕ → ℕ) (s m n q r : ℕ) : Type 0 where
   pub off-right : q ≢ α r
@@ -137,24 +121,6 @@ module _ {N : ℕ} {new : (ℕ → ℕ → Bool) → ℕ} {f α : ℕ → ℕ} {
       enough : 3 + tally (atEnds proper f α) (walk m f s) ≤ tally (atEnds proper f α) (walk (m + n) f s) + bit (proper (α s) q) + 1
       enough = let a = P .local proper in let b = Z .three in let c = bit-le (proper q (α r)) in omega arith
 
-  -- the ends of the chain have different angles
-  pub counts-differ : SoundCounts N new → α s ≢ α r
-  counts-differ Z e =
-      let a = chain-wraps in
-      let b = ap (λ (x : ℕ). bit (leb x q)) e in
-      let c = tally-add (atEnds wraps f α) f m n s in
-      let d = S .once in
-      let z : tally (atEnds wraps f α) (walk n f (iter m f s)) ≡ 0 = omega arith in
-      let z' : tally (atEnds wraps f α) (walk n f r) ≡ 0 = ap (λ (t : ℕ). tally (atEnds wraps f α) (walk n f t)) (sym (P .right)) ∙ z in
-      let g = flat f α n r (ap α (P .round) ∙ e) z' in
-      let h = P .local proper in
-      let i = tally-add (atEnds proper f α) f m n s in
-      let j = ap (λ (t : ℕ). tally (atEnds proper f α) (walk n f t)) (P .right) in
-      let t = Z .three in
-      let u = bit-le (proper (α s) q) in
-      let v = bit-le (proper q (α r)) in
-      omega arith
-
 -- the same of the links after
 pub spliced-counts : {f α f' α' : ℕ → ℕ} {s m n l p q r : ℕ} → Spliced f α f' α' s m n l p q r
     → Replaced (λ φ. tally (atEnds φ f' α') (walk (suc (suc n)) f' l)) f α s m n q r
@@ -172,5 +138,14 @@ module _ {N : ℕ} {f α f' α' : ℕ → ℕ} {s m n l p q r : ℕ} (S : Sound 
   pub sound-fit : Sound N f' α' l (suc (suc n)) → Fit N f α s m n q r
   sound-fit Z = counts-fit S (spliced-counts P) k k-in k-holds (sound-counts Z)
 
-  pub ends-differ : Sound N f' α' l (suc (suc n)) → α s ≢ α r
-  ends-differ Z = counts-differ S (spliced-counts P) k k-in k-holds (sound-counts Z)
+-- A splice that leaves a sound round: an edge of the chain, `place` steps from s, holds q, and the two new edges fit
+pub record FitSplice (N : ℕ) (f α f' α' : ℕ → ℕ) (s m n l p q r : ℕ) : Type 0 where
+  pub spliced : Spliced f α f' α' s m n l p q r
+  pub place : ℕ
+  pub place-in : place < m
+  pub place-holds : T (atEnds (holds q) f α (iter place f s))
+  pub fit : Fit N f α s m n q r
+
+pub splice-sound : {N : ℕ} {f α f' α' : ℕ → ℕ} {s m n l p q r : ℕ} → Sound N f α s (m + n)
+    → FitSplice N f α f' α' s m n l p q r → Sound N f' α' l (suc (suc n))
+splice-sound S P = fit-sound S (P .spliced) (P .place) (P .place-in) (P .place-holds) (P .fit)

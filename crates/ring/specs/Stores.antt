@@ -1,162 +1,223 @@
--- The stores of an insert, node by node, make the tables that `Inserted` asks for, and keep the links to the left. Assumes nothing.
--- s is the left node, c nodes on is t, the right one, k nodes on from there is s again; v is the new node, and u the
--- node before it: s, or the node before s if the left angle `al` is q.
-use mathlib.Core.Path.{_≡_, sym, _∙_, ap, subst}
-use mathlib.Core.Logic.{_≢_}
+-- The stores of an insert as one definition, `stored`. They make the tables that `Inserted` asks for, and keep the links
+-- to the left. Assumes nothing.
+use mathlib.Core.Path.{_≡_, refl, sym, _∙_, ap, subst}
+use mathlib.Core.Logic.{_≢_, inl, inr}
+use mathlib.Core.Bool.{Bool, cond}
 use Prim.Native.Nat.{ℕ, zero, suc, _+_, _-_, _<_}
 use native.Mathlib.Decide.{ℕ-discrete, decLt}
 use native.Mathlib.Omega.{arith}
-use Rattle.ring.specs.Insert.{Inserted}
+use lib.Dec.{eqb}
+use borrow.Author.Tests.{eq-eqb, ne-eqb}
+use Rattle.ring.specs.Node.{NodeTable}
+use Rattle.ring.specs.Insert.{Insertion, Named, Stay, restNode}
+use Rattle.ring.specs.Inserted.{Inserted}
 use Rattle.sums.specs.Iterate.{iter, iter-add, iter-ext, iter-last}
 use Rattle.sums.specs.Put.{put, put-same, put-other}
 
 -- each of the n nodes from s on is what its right node has on its left
-abbrev pub Linked : (ℕ → ℕ) → (ℕ → ℕ) → ℕ → ℕ → Type 0
-Linked left right s n = (i : ℕ) → i < n → left (right (iter i right s)) ≡ iter i right s
+abbrev pub Linked : NodeTable → ℕ → ℕ → Type 0
+Linked τ s n = (i : ℕ) → i < n → τ .left (τ .right (iter i (τ .right) s)) ≡ iter i (τ .right) s
 
-pub record Before (left right : ℕ → ℕ) (s c t k v u s' al q : ℕ) : Type 0 where
+-- Before the stores: c nodes on from the left one is the right one, and k nodes on from there the left one again; the
+-- new node is none of those that stay
+pub record Before (τ : NodeTable) (x : Insertion) (c k al q : ℕ) : Type 0 where
   pub some : 0 < c
   pub more : 0 < k
-  pub t-is : iter c right s ≡ t
-  pub round : iter k right t ≡ s
-  pub apart : (i j : ℕ) → i < c + k → j < c + k → iter i right s ≡ iter j right s → i ≡ j
-  pub links : Linked left right s (c + k)
-  pub fresh : (d : ℕ) → d < k → iter d right t ≢ v
-  pub other : al ≢ q → s ≢ v
-  pub u-stays : al ≢ q → u ≡ s
-  pub u-left : al ≡ q → u ≡ left s
-  pub s-stays : al ≢ q → s' ≡ s
-  pub s-new : al ≡ q → s' ≡ v
+  pub right-is : iter c (τ .right) (x .left) ≡ x .right
+  pub round : restNode τ x k ≡ x .left
+  pub apart : (i j : ℕ) → i < c + k → j < c + k → iter i (τ .right) (x .left) ≡ iter j (τ .right) (x .left) → i ≡ j
+  pub links : Linked τ (x .left) (c + k)
+  pub fresh : (y : ℕ) → Stay τ x k y → y ≢ x .new
+  pub named : Named τ x al q
 
-pub record Stores (left right angle edge left' right' angle' edge' : ℕ → ℕ) (s t v u l p q al : ℕ) : Type 0 where
-  pub right-u : right' u ≡ v
-  pub right-v : right' v ≡ t
-  pub right-else : (x : ℕ) → x ≢ u → x ≢ v → right' x ≡ right x
-  pub left-v : left' v ≡ u
-  pub left-t : left' t ≡ v
-  pub left-else : (x : ℕ) → x ≢ v → x ≢ t → left' x ≡ left x
-  pub angle-v : angle' v ≡ q
-  pub angle-else : (x : ℕ) → x ≢ v → angle' x ≡ angle x
-  pub edge-v : edge' v ≡ p
-  pub edge-s : al ≢ q → edge' s ≡ l
-  pub edge-else : (x : ℕ) → x ≢ s → x ≢ v → edge' x ≡ edge x
+-- ---- the nodes of the rest
+module _ {τ : NodeTable} {x : Insertion} {c k al q : ℕ} (B : Before τ x c k al q) where
+  at : (d : ℕ) → restNode τ x d ≡ iter (c + d) (τ .right) (x .left)
+  at d = ap (iter d (τ .right)) (sym (B .right-is)) ∙ sym (iter-add c d (τ .right) (x .left))
 
-module _ {left right angle edge left' right' angle' edge' : ℕ → ℕ} {s c t k v u s' l p q al : ℕ}
-    (B : Before left right s c t k v u s' al q)
-    (S : Stores left right angle edge left' right' angle' edge' s t v u l p q al) (s-angle : angle s ≡ al) where
-  at : (d : ℕ) → iter d right t ≡ iter (c + d) right s
-  at d = ap (iter d right) (sym (B .t-is)) ∙ sym (iter-add c d right s)
-
-  rest-apart : (i j : ℕ) → i < k → j < k → iter i right t ≡ iter j right t → i ≡ j
+  rest-apart : (i j : ℕ) → i < k → j < k → restNode τ x i ≡ restNode τ x j → i ≡ j
   rest-apart i j l m e = let z = B .apart (c + i) (c + j) (omega arith) (omega arith) (sym (at i) ∙ e ∙ at j) in omega arith
 
-  pub not-s : (d : ℕ) → d < k → iter d right t ≢ s
-  not-s d l e = let z = B .apart (c + d) 0 (omega arith) (omega arith) (sym (at d) ∙ e) in let h = B .some in omega arith
+  pub not-left : (d : ℕ) → d < k → restNode τ x d ≢ x .left
+  not-left d l e = let z = B .apart (c + d) 0 (omega arith) (omega arith) (sym (at d) ∙ e) in let h = B .some in omega arith
 
-  rest-link : (d : ℕ) → d < k → left (right (iter d right t)) ≡ iter d right t
-  rest-link d l = ap (λ (x : ℕ). left (right x)) (at d) ∙ B .links (c + d) (omega arith) ∙ sym (at d)
+  rest-link : (d : ℕ) → d < k → τ .left (τ .right (restNode τ x d)) ≡ restNode τ x d
+  rest-link d l = rw (at d) (B .links (c + d) (omega arith))
 
-  -- the last node before s
-  last-s : (d : ℕ) → suc d ≡ k → right (iter d right t) ≡ s
-  last-s d e = sym (iter-last d right t) ∙ ap (λ (i : ℕ). iter i right t) e ∙ B .round
+  -- the last of them is the node before the left one
+  last-right : (d : ℕ) → suc d ≡ k → τ .right (restNode τ x d) ≡ x .left
+  last-right d e = sym (iter-last d (τ .right) (x .right)) ∙ ap (restNode τ x) e ∙ B .round
 
-  last-left : (d : ℕ) → suc d ≡ k → left s ≡ iter d right t
-  last-left d e = ap left (sym (last-s d e)) ∙ rest-link d (omega arith)
+  last-left : (d : ℕ) → suc d ≡ k → τ .left (x .left) ≡ restNode τ x d
+  last-left d e = ap (τ .left) (sym (last-right d e)) ∙ rest-link d (omega arith)
 
-  not-u : (d : ℕ) → suc d < k → iter d right t ≢ u
-  not-u d l e = go (ℕ-discrete al q)
+  not-before : (d : ℕ) → suc d < k → restNode τ x d ≢ x .before
+  not-before d l e = go (ℕ-discrete al q)
     where
       go : Dec (al ≡ q) → ⊥
-      go (yes z) = let w : suc (k - 1) ≡ k = omega arith in let i = rest-apart d (k - 1) (omega arith) (omega arith) (e ∙ B .u-left z ∙ last-left (k - 1) w) in omega arith
-      go (no z) = not-s d (omega arith) (e ∙ B .u-stays z)
+      go (yes z) =
+          let w : suc (k - 1) ≡ k = omega arith in
+          let i = rest-apart d (k - 1) (omega arith) (omega arith) (e ∙ B .named .before-goes z ∙ last-left (k - 1) w) in
+          omega arith
+      go (no z) = not-left d (omega arith) (e ∙ B .named .before-stays z)
 
-  rest-right : (d : ℕ) → suc d < k → right' (iter d right t) ≡ right (iter d right t)
-  rest-right d l = S .right-else (iter d right t) (not-u d l) (B .fresh d (omega arith))
+  -- none is the new node
+  rest-fresh : (d : ℕ) → d < k → restNode τ x d ≢ x .new
+  rest-fresh d l = B .fresh (restNode τ x d) (inr (d, l, refl))
 
-  last-right : (d : ℕ) → suc d ≡ k → right' (iter d right t) ≡ s'
-  last-right d e = go (ℕ-discrete al q)
+  pub left-fresh : x .left ≢ x .new
+  left-fresh = B .fresh (x .left) (inl refl)
+
+  before-fresh : x .before ≢ x .new
+  before-fresh e = go (ℕ-discrete al q)
+    where
+      go : Dec (al ≡ q) → ⊥
+      go (yes z) =
+          let m = B .more in let w : suc (k - 1) ≡ k = omega arith in
+          rest-fresh (k - 1) (omega arith) (sym (B .named .before-goes z ∙ last-left (k - 1) w) ∙ e)
+      go (no z) = left-fresh (sym (B .named .before-stays z) ∙ e)
+
+-- ---- THE STORES: the new node, of the edge p and the angle q, between the one before it and the right one, and the edge
+-- l in the start, if that is another node
+abbrev pub stored : NodeTable → Insertion → ℕ → ℕ → ℕ → NodeTable
+stored τ x l p q =
+    let edge = put (τ .edge) (x .new) p in
+    record {
+      left = put (put (τ .left) (x .new) (x .before)) (x .right) (x .new);
+      right = put (put (τ .right) (x .new) (x .right)) (x .before) (x .new);
+      angle = put (τ .angle) (x .new) q;
+      edge = cond (eqb (x .start) (x .new)) edge (put edge (x .start) l);
+    }
+
+put-neither : (f : ℕ → ℕ) (a b c d y : ℕ) → y ≢ a → y ≢ c → put (put f a b) c d y ≡ f y
+put-neither f a b c d y m n = put-other (put f a b) c d y n ∙ put-other f a b y m
+
+module _ {τ : NodeTable} {x : Insertion} {c k al q : ℕ} (B : Before τ x c k al q) (l p : ℕ) where
+  abbrev τ' : NodeTable
+  τ' = stored τ x l p q
+
+  -- ---- node by node
+  right-before : τ' .right (x .before) ≡ x .new
+  right-before = put-same (put (τ .right) (x .new) (x .right)) (x .before) (x .new)
+
+  pub right-new : τ' .right (x .new) ≡ x .right
+  right-new =
+      put-other (put (τ .right) (x .new) (x .right)) (x .before) (x .new) (x .new) (λ z. before-fresh B (sym z))
+      ∙ put-same (τ .right) (x .new) (x .right)
+
+  right-else : (y : ℕ) → y ≢ x .before → y ≢ x .new → τ' .right y ≡ τ .right y
+  right-else y m n = put-neither (τ .right) (x .new) (x .right) (x .before) (x .new) y n m
+
+  left-new : τ' .left (x .new) ≡ x .before
+  left-new =
+      put-other (put (τ .left) (x .new) (x .before)) (x .right) (x .new) (x .new) (λ z. rest-fresh B 0 (B .more) (sym z))
+      ∙ put-same (τ .left) (x .new) (x .before)
+
+  left-right : τ' .left (x .right) ≡ x .new
+  left-right = put-same (put (τ .left) (x .new) (x .before)) (x .right) (x .new)
+
+  left-else : (y : ℕ) → y ≢ x .new → y ≢ x .right → τ' .left y ≡ τ .left y
+  left-else = put-neither (τ .left) (x .new) (x .before) (x .right) (x .new)
+
+  -- the edges, as the left node goes or stays
+  abbrev edges : Bool → ℕ → ℕ
+  edges b = let edge = put (τ .edge) (x .new) p in cond b edge (put edge (x .start) l)
+
+  edge-goes : al ≡ q → τ' .edge ≡ put (τ .edge) (x .new) p
+  edge-goes z = ap edges (eq-eqb (x .start) (x .new) (B .named .start-goes z))
+
+  edge-stays : al ≢ q → τ' .edge ≡ put (put (τ .edge) (x .new) p) (x .left) l
+  edge-stays z =
+      ap edges (ne-eqb (x .start) (x .new) (λ e. left-fresh B (sym (B .named .start-stays z) ∙ e)))
+      ∙ ap (λ (y : ℕ). put (put (τ .edge) (x .new) p) y l) (B .named .start-stays z)
+
+  edge-new : τ' .edge (x .new) ≡ p
+  edge-new = go (ℕ-discrete al q)
+    where
+      go : Dec (al ≡ q) → τ' .edge (x .new) ≡ p
+      go (yes z) = rw (edge-goes z) (put-same (τ .edge) (x .new) p)
+      go (no z) =
+          rw (edge-stays z)
+          (put-other (put (τ .edge) (x .new) p) (x .left) l (x .new) (λ e. left-fresh B (sym e)) ∙ put-same (τ .edge) (x .new) p)
+
+  edge-else : (y : ℕ) → y ≢ x .left → y ≢ x .new → τ' .edge y ≡ τ .edge y
+  edge-else y m n = go (ℕ-discrete al q)
+    where
+      go : Dec (al ≡ q) → τ' .edge y ≡ τ .edge y
+      go (yes z) = rw (edge-goes z) (put-other (τ .edge) (x .new) p y n)
+      go (no z) = rw (edge-stays z) (put-neither (τ .edge) (x .new) p (x .left) l y n m)
+
+  -- ---- their links to the right after the stores
+  right-rest : (d : ℕ) → suc d < k → τ' .right (restNode τ x d) ≡ τ .right (restNode τ x d)
+  right-rest d l = right-else (restNode τ x d) (not-before B d l) (rest-fresh B d (omega arith))
+
+  right-last : (d : ℕ) → suc d ≡ k → τ' .right (restNode τ x d) ≡ x .start
+  right-last d e = go (ℕ-discrete al q)
     where
       dk : d < k
       dk = omega arith
 
-      go : Dec (al ≡ q) → right' (iter d right t) ≡ s'
-      go (yes z) = ap right' (sym (last-left d e) ∙ sym (B .u-left z)) ∙ S .right-u ∙ sym (B .s-new z)
-      go (no z) = S .right-else (iter d right t) (λ y. not-s d dk (y ∙ B .u-stays z)) (B .fresh d dk) ∙ last-s d e ∙ sym (B .s-stays z)
+      go : Dec (al ≡ q) → τ' .right (restNode τ x d) ≡ x .start
+      go (yes z) =
+          ap (τ' .right) (sym (last-left B d e) ∙ sym (B .named .before-goes z)) ∙ right-before ∙ sym (B .named .start-goes z)
+      go (no z) =
+          right-else (restNode τ x d) (λ y. not-left B d dk (y ∙ B .named .before-stays z)) (rest-fresh B d dk)
+          ∙ last-right B d e ∙ sym (B .named .start-stays z)
 
-  pub stores-inserted : Inserted right angle edge right' angle' edge' t k v s' l p q al
-  stores-inserted = record {
-    edge-rest = λ j h. S .edge-else (iter j right t) (not-s j h) (B .fresh j h);
-    angle-rest = λ j h. S .angle-else (iter j right t) (B .fresh j h);
-    right-rest = rest-right;
-    right-last = last-right;
-    v-edge = S .edge-v;
-    v-angle = S .angle-v;
-    v-right = S .right-v;
-    gone = B .s-new;
-    s-edge = λ z. ap edge' (B .s-stays z) ∙ S .edge-s z;
-    s-angle = λ z. ap angle' (B .s-stays z) ∙ S .angle-else s (B .other z) ∙ s-angle;
-    s-right = λ z. ap right' (B .s-stays z ∙ sym (B .u-stays z)) ∙ S .right-u;
+  pub rest-same : (d : ℕ) → d < k → iter d (τ' .right) (x .right) ≡ restNode τ x d
+  rest-same d l = iter-ext (τ .right) (τ' .right) d (x .right) (λ j m. right-rest j (omega arith))
+
+  -- where the left node stays, it is the start and leads to the new one
+  pub start-right : al ≢ q → τ' .right (x .start) ≡ x .new
+  start-right z = ap (τ' .right) (B .named .start-stays z ∙ sym (B .named .before-stays z)) ∙ right-before
+
+  -- ---- THE TABLES
+  pub stores-inserted : τ .angle (x .left) ≡ al → Inserted τ (stored τ x l p q) x k l p q al
+  stores-inserted left-angle = record {
+    edge-rest = λ j h. edge-else (restNode τ x j) (not-left B j h) (rest-fresh B j h);
+    angle-rest = λ j h. put-other (τ .angle) (x .new) q (restNode τ x j) (rest-fresh B j h);
+    right-rest = right-rest;
+    right-last = right-last;
+    new-edge = edge-new;
+    new-angle = put-same (τ .angle) (x .new) q;
+    new-right = right-new;
+    start-goes = B .named .start-goes;
+    start-edge = λ z. rw (edge-stays z, B .named .start-stays z) (put-same (put (τ .edge) (x .new) p) (x .left) l);
+    start-angle = λ z. rw (B .named .start-stays z) (put-other (τ .angle) (x .new) q (x .left) (left-fresh B) ∙ left-angle);
+    start-right = start-right;
   }
 
-  -- the links to the left, from t on and from s' on
-  t-not-v : t ≢ v
-  t-not-v = B .fresh 0 (B .more)
-
-  pub rest-same : (d : ℕ) → d < k → iter d right' t ≡ iter d right t
-  rest-same d l = iter-ext right right' d t (λ j m. rest-right j (omega arith))
-
-  linked-rest : (d : ℕ) → d < k → left' (right' (iter d right t)) ≡ iter d right t
+  -- ---- THE LINKS TO THE LEFT, of the rest, from the right node, from the new one, and from the start
+  linked-rest : (d : ℕ) → d < k → τ' .left (τ' .right (restNode τ x d)) ≡ restNode τ x d
   linked-rest d l = go (decLt (suc d) k)
     where
-      go : Dec (suc d < k) → left' (right' (iter d right t)) ≡ iter d right t
+      next : τ .right (restNode τ x d) ≡ restNode τ x (suc d)
+      next = sym (iter-last d (τ .right) (x .right))
+
+      start-left : suc d ≡ k → Dec (al ≡ q) → τ' .left (x .start) ≡ restNode τ x d
+      start-left e (yes z) = ap (τ' .left) (B .named .start-goes z) ∙ left-new ∙ B .named .before-goes z ∙ last-left B d e
+      start-left e (no z) =
+          ap (τ' .left) (B .named .start-stays z)
+          ∙ left-else (x .left) (left-fresh B) (λ y. not-left B 0 (B .more) (sym y)) ∙ last-left B d e
+
+      go : Dec (suc d < k) → τ' .left (τ' .right (restNode τ x d)) ≡ restNode τ x d
       go (yes m) =
-          let y : right (iter d right t) ≡ iter (suc d) right t = sym (iter-last d right t) in
-          let far : right (iter d right t) ≢ t = λ z. (let i = rest-apart (suc d) 0 m (omega arith) (sym y ∙ z) in omega arith) in
-          ap left' (rest-right d m) ∙ S .left-else (right (iter d right t)) (λ z. B .fresh (suc d) m (sym y ∙ z)) far ∙ rest-link d l
-      go (no m) = let e : suc d ≡ k = omega arith in ap left' (last-right d e) ∙ case (ℕ-discrete al q) e
-        where
-          case : Dec (al ≡ q) → suc d ≡ k → left' s' ≡ iter d right t
-          case (yes z) e = ap left' (B .s-new z) ∙ S .left-v ∙ B .u-left z ∙ last-left d e
-          case (no z) e = ap left' (B .s-stays z) ∙ S .left-else s (B .other z) (λ y. not-s 0 (B .more) (sym y)) ∙ last-left d e
+          let far : τ .right (restNode τ x d) ≢ x .right = λ z. (let i = rest-apart B (suc d) 0 m (omega arith) (sym next ∙ z) in omega arith) in
+          ap (τ' .left) (right-rest d m)
+          ∙ left-else (τ .right (restNode τ x d)) (λ z. rest-fresh B (suc d) m (sym next ∙ z)) far ∙ rest-link B d l
+      go (no m) = let e : suc d ≡ k = omega arith in ap (τ' .left) (right-last d e) ∙ start-left e (ℕ-discrete al q)
 
-  linked-t : Linked left' right' t k
-  linked-t i l = ap (λ (x : ℕ). left' (right' x)) (rest-same i l) ∙ linked-rest i l ∙ sym (rest-same i l)
+  linked-right : Linked τ' (x .right) k
+  linked-right i l = rw (rest-same i l) (linked-rest i l)
 
-  linked-v : Linked left' right' v (suc k)
-  linked-v zero l = ap left' (S .right-v) ∙ S .left-t
-  linked-v (suc i) l = subst (λ (x : ℕ). left' (right' (iter i right' x)) ≡ iter i right' x) (sym (S .right-v)) (linked-t i (omega arith))
+  linked-new : Linked τ' (x .new) (suc k)
+  linked-new zero l = ap (τ' .left) right-new ∙ left-right
+  linked-new (suc i) l = rw right-new (linked-right i (omega arith))
 
-  pub linked-gone : al ≡ q → Linked left' right' s' (suc k)
-  linked-gone z = subst (λ (x : ℕ). Linked left' right' x (suc k)) (sym (B .s-new z)) linked-v
+  pub linked-goes : al ≡ q → Linked τ' (x .start) (suc k)
+  linked-goes z = subst (λ (y : ℕ). Linked τ' y (suc k)) (sym (B .named .start-goes z)) linked-new
 
-  pub linked-stays : al ≢ q → Linked left' right' s' (suc (suc k))
-  linked-stays z = subst (λ (x : ℕ). Linked left' right' x (suc (suc k))) (sym (B .s-stays z)) go
-    where
-      r : right' s ≡ v
-      r = ap right' (sym (B .u-stays z)) ∙ S .right-u
-
-      go : Linked left' right' s (suc (suc k))
-      go zero l = ap left' r ∙ S .left-v ∙ B .u-stays z
-      go (suc i) l = subst (λ (x : ℕ). left' (right' (iter i right' x)) ≡ iter i right' x) (sym r) (linked-v i (omega arith))
-
--- ---- the stores as point updates, in the code's order: right[u] = v, left[t] = v, edge[s] = l if the left node stays,
--- and then the new node's four fields
-twice : (f : ℕ → ℕ) (a b c d x : ℕ) → x ≢ a → x ≢ c → put (put f a b) c d x ≡ f x
-twice f a b c d x m n = put-other (put f a b) c d x n ∙ put-other f a b x m
-
-module _ (left right angle edge : ℕ → ℕ) {s t v u l p q al : ℕ} (u-v : u ≢ v) (t-v : t ≢ v) where
-  pub stored : (edge₁ : ℕ → ℕ) → ((x : ℕ) → x ≢ s → edge₁ x ≡ edge x) → (al ≢ q → (s ≢ v) × (edge₁ s ≡ l))
-      → Stores left right angle edge (put (put left t v) v u) (put (put right u v) v t) (put angle v q) (put edge₁ v p) s t v u l p q al
-  stored edge₁ same stays = record {
-    right-u = put-other (put right u v) v t u u-v ∙ put-same right u v;
-    right-v = put-same (put right u v) v t;
-    right-else = λ x m n. twice right u v v t x m n;
-    left-v = put-same (put left t v) v u;
-    left-t = put-other (put left t v) v u t t-v ∙ put-same left t v;
-    left-else = λ x m n. twice left t v v u x n m;
-    angle-v = put-same angle v q;
-    angle-else = λ x m. put-other angle v q x m;
-    edge-v = put-same edge₁ v p;
-    edge-s = λ z. put-other edge₁ v p s (stays z .0) ∙ stays z .1;
-    edge-else = λ x m n. put-other edge₁ v p x n ∙ same x m;
-  }
+  pub linked-stays : al ≢ q → Linked τ' (x .start) (suc (suc k))
+  linked-stays z zero l =
+      ap (τ' .left) (start-right z) ∙ left-new ∙ B .named .before-stays z ∙ sym (B .named .start-stays z)
+  linked-stays z (suc i) l = rw (start-right z) (linked-new i (omega arith))

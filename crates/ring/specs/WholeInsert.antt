@@ -6,21 +6,19 @@ use Prim.Native.Nat.{ℕ, suc, _+_, _-_, _%_, _<_, _≤_}
 use native.Mathlib.Decide.{ℕ-discrete}
 use native.Mathlib.Omega.{arith}
 use lib.Dec.{T}
-use Rattle.segment.specs.Arc.{holds}
-use Rattle.ring.specs.Ring.{atEnds, proper}
-use Rattle.ring.specs.Segments.{proper←, null-proper}
-use Rattle.ring.specs.Sound.{Sound}
-use Rattle.ring.specs.Splice.{Spliced, Fit, fit-sound}
+use Rattle.ring.specs.Ring.{proper}
+use Rattle.ring.specs.Splice.{FitSplice}
 use Rattle.ring.specs.Buckets.{ceiling, within}
-use Rattle.ring.specs.Node.{nodes}
-use Rattle.ring.specs.Insert.{On, Rebucketed, node-sole, ring-sound, ring-proper, size-old, left-some, left-angle, size-new}
-use Rattle.ring.specs.Stores.{Stores, Before, stores-inserted, not-s}
-use Rattle.ring.specs.Free.{Free, free-same, Stay, Pushed, pushed, Taken, taken, taken-sum, taken-fresh, free-stays, free-gone}
-use Rattle.ring.specs.Hull.{Hull, InsertNodes, hull-insert, before}
-use Rattle.sums.specs.Bit.{bit, bit-yes}
+use Rattle.ring.specs.Node.{NodeTable, nodes}
+use Rattle.ring.specs.Insert.{ring-sole, On, Insertion, Named, Stay, size-old, left-some}
+use Rattle.ring.specs.Inserted.{Rebucketed, size-new, left-node, left-node-stays}
+use Rattle.ring.specs.Stores.{Before, stored}
+use Rattle.ring.specs.Free.{Free, free-same, Pushed, pushed, Taken, taken, taken-sum, taken-fresh, free-stays, free-goes}
+use Rattle.ring.specs.Hull.{HullFrom, hull-insert, before, tables}
+use Rattle.sums.specs.Bit.{bit}
 use Rattle.sums.specs.Iterate.{iter}
 
--- two loops over buckets, one after the other
+-- ---- two loops over buckets, one after the other
 pub rebucketed : {bucket bucket₁ bucket' : ℕ → ℕ} {B L Q R a v : ℕ}
     → ((i : ℕ) → i < B → bucket₁ i ≡ cond (within i L Q) a (bucket i))
     → ((i : ℕ) → i < B → bucket' i ≡ cond (within i Q R) v (bucket₁ i))
@@ -39,105 +37,114 @@ rebucketed {bucket} {bucket₁} {bucket'} {B} {L} {Q} {R} {a} {v} f g = record {
     no-is true u x y = absurd (omega arith)
     no-is false u x y = refl
 
--- the names u and s', and the left node on the stack if it goes
-pub record Names (left freed freed' : ℕ → ℕ) (s v u s' al q n n' : ℕ) : Type 0 where
-  pub u-stays : al ≢ q → u ≡ s
-  pub u-left : al ≡ q → u ≡ left s
-  pub s-stays : al ≢ q → s' ≡ s
-  pub s-new : al ≡ q → s' ≡ v
+-- ---- what the parts do before the stores
+-- the nodes have their names, and the left one is on the stack if it goes: the stack has n entries before and n' after
+pub record Names (τ : NodeTable) (x : Insertion) (freed freed' : ℕ → ℕ) (al q n n' : ℕ) : Type 0 where
+  pub named : Named τ x al q
   pub stack : (j : ℕ) → j < n → freed' j ≡ freed j
-  pub more : al ≡ q → (n' ≡ suc n) × (freed' n ≡ s)
+  pub more : al ≡ q → (n' ≡ suc n) × (freed' n ≡ x .left)
   pub same : al ≢ q → n' ≡ n
 
-module _ {N : ℕ} {next α left right angle edge bucket next' α' left' right' angle' edge' freed freed₁ freed₂ : ℕ → ℕ}
-    {e m n s l p q r t v u s' B w f f₁ f₂ len len₁ : ℕ}
-    (H : Hull N next α left right angle edge bucket e (m + n) s B w) (P : Spliced next α next' α' e m n l p q r)
-    (k : ℕ) (k-in : k < m) (k-holds : T (atEnds (holds q) next α (iter k next e)))
-    (F : Fit N next α e m n q r) (q-low : q ≤ N) (t-is : iter (nodes next α m e) right s ≡ t)
-    (A : Free (On right (nodes next α (m + n) e) s) freed f len)
-    (U : Pushed right freed freed₁ s (nodes next α m e) f)
-    (X : Taken freed₁ (f + (nodes next α m e - 1)) len v f₁ len₁)
-    (M : Names left freed₁ freed₂ s v u s' (α e) q f₁ f₂)
-    (S : Stores left right angle edge left' right' angle' edge' s t v u l p q (α e)) where
-  Z : Sound N next' α' l (suc (suc n))
-  Z = fit-sound (H .ring .sound) P k k-in k-holds F
+-- a stack of freed nodes: its entries, how many there are, and how many nodes were ever in use
+pub record Stack : Type 0 where
+  pub entry : ℕ → ℕ
+  pub count : ℕ
+  pub used : ℕ
+
+-- In a ring of `all` nodes, `chain` of which stand for the edges that give way: those strictly between the left node and
+-- the right one are pushed, and a node is taken for the new one
+pub record InsertParts (τ : NodeTable) (x : Insertion) (S S' : Stack) (chain all al q : ℕ) : Type 0 where
+  pub right-is : iter chain (τ .right) (x .left) ≡ x .right
+  pub free : Free (On (τ .right) all (x .left)) (S .entry) (S .count) (S .used)
+  pub between : ℕ → ℕ
+  pub pushed-between : Pushed (τ .right) (S .entry) between (x .left) chain (S .count)
+  pub left-over : ℕ
+  pub taken-new : Taken between (S .count + (chain - 1)) (S .used) (x .new) left-over (S' .used)
+  pub names : Names τ x between (S' .entry) al q left-over (S' .count)
+
+-- ---- the new node is none of those that stay
+module _ {N : ℕ} {next α next' α' : ℕ → ℕ} {τ : NodeTable} {bucket : ℕ → ℕ} {x : Insertion} {S S' : Stack} {e m n l p q r B w : ℕ}
+    (H : HullFrom N next α τ bucket e (m + n) (x .left) B w) (P : FitSplice N next α next' α' e m n l p q r) (q-low : q ≤ N)
+    (I : InsertParts τ x S S' (nodes next α m e) (nodes next α (m + n) e) (α e) q) where
+  abbrev chain : ℕ
+  chain = nodes next α m e
+
+  abbrev rest : ℕ
+  rest = nodes next α n r
+
+  abbrev after : ℕ
+  after = nodes next' α' (suc (suc n)) l
 
   size : nodes next α (m + n) e ≡ nodes next α m e + nodes next α n r
-  size = size-old (H .ring) P k k-in k-holds Z t-is
+  size = size-old (H .ring) P (I .right-is)
 
   some : 0 < nodes next α m e
-  some = left-some (H .ring) P k k-in k-holds Z t-is
+  some = left-some (H .ring) P (I .right-is)
 
-  free₁ : Free (Stay right s t (nodes next α n r)) freed₁ (f + (nodes next α m e - 1)) len
-  free₁ =
-      pushed (nodes next α n r) some t-is (λ i j a b z. node-sole (ring-sound (H .ring)) (ring-proper (H .ring)) i j (let g = size in omega arith) (let g = size in omega arith) (ap angle z))
-      (subst (λ (i : ℕ). Free (On right i s) freed f len) size A) U
+  free-between : Free (Stay τ x (nodes next α n r)) (I .between) (S .count + (nodes next α m e - 1)) (S .used)
+  free-between =
+      pushed τ x rest some (I .right-is)
+      (λ i j a b z. ring-sole (H .ring) i j (let g = size in omega arith) (let g = size in omega arith) (ap (τ .angle) z))
+      (subst (λ (i : ℕ). Free (On (τ .right) i (x .left)) (S .entry) (S .count) (S .used)) size (I .free)) (I .pushed-between)
 
-  -- the new node is none of those that stay
-  pub placed : InsertNodes left right s t (nodes next α n r) v u s' (α e) q
-  placed = record {
-    fresh = λ d l z. taken-fresh free₁ X (inr (d, l, z));
-    other = λ z y. taken-fresh free₁ X (inl (sym y));
-    u-stays = M .u-stays;
-    u-left = M .u-left;
-    s-stays = M .s-stays;
-    s-new = M .s-new;
-  }
+  fresh : (y : ℕ) → Stay τ x (nodes next α n r) y → y ≢ x .new
+  fresh y t z = taken-fresh free-between (I .taken-new) (subst (Stay τ x rest) z t)
 
-  bef : Before left right s (nodes next α m e) t (nodes next α n r) v u s' (α e) q
-  bef = before H P k k-in k-holds F q-low t-is placed S
-
-  angle-s : angle s ≡ α e
-  angle-s = left-angle (H .ring) P k k-in k-holds Z t-is
+  known : Before τ x (nodes next α m e) (nodes next α n r) (α e) q
+  known = before H P q-low (I .right-is) fresh (I .names .named)
 
   count : nodes next' α' (suc (suc n)) l ≡ bit (proper (α e) q) + 1 + nodes next α n r
-  count = size-new (H .ring) P k k-in k-holds Z t-is (stores-inserted bef S angle-s)
+  count = size-new (H .ring) P (I .right-is) (tables H P q-low (I .right-is) fresh (I .names .named))
 
-  -- THE STACK
-  pub insert-keeps-freed : Free (On right' (nodes next' α' (suc (suc n)) l) s') freed₂ f₂ len₁
+  -- ---- THE STACK
+  pub insert-keeps-freed : Free (On (stored τ x l p q .right) (nodes next' α' (suc (suc n)) l) (x .start)) (S' .entry) (S' .count) (S' .used)
   insert-keeps-freed = go (ℕ-discrete (α e) q)
     where
-      K : ℕ
-      K = nodes next α n r
+      free-taken : Free (λ y. Stay τ x rest y ⊎ (y ≡ x .new)) (I .between) (I .left-over) (S' .used)
+      free-taken = taken free-between (I .taken-new)
 
-      go : Dec (α e ≡ q) → Free (On right' (nodes next' α' (suc (suc n)) l) s') freed₂ f₂ len₁
+      of : (i : ℕ) → i ≡ after → (k : ℕ) → k ≡ S' .count
+          → Free (On (stored τ x l p q .right) i (x .start)) (S' .entry) k (S' .used)
+          → Free (On (stored τ x l p q .right) after (x .start)) (S' .entry) (S' .count) (S' .used)
+      of i u k v F = rw (← u, ← v) F
+
+      go : Dec (α e ≡ q) → Free (On (stored τ x l p q .right) after (x .start)) (S' .entry) (S' .count) (S' .used)
       go (yes z) =
-          let b = ap (λ (x : ℕ). bit (proper (α e) x)) (sym z) ∙ null-proper (α e) in
-          let c = count in
-          let d : suc K ≡ nodes next' α' (suc (suc n)) l = omega arith in
-          subst (λ (i : ℕ). Free (On right' i s') freed₂ f₂ len₁) d (subst (λ (i : ℕ). Free (On right' (suc K) s') freed₂ i len₁) (sym (M .more z .0))
-          (free-gone bef S angle-s z (λ y. taken-fresh free₁ X (inl (sym y))) (λ o. not-s bef S angle-s (o .0) (o .1) (o .2)) (M .stack) (M .more z .1) (taken free₁ X)))
+          let b = left-node (α e) q z in let c = count in
+          of (suc rest) (omega arith) (suc (I .left-over)) (sym (I .names .more z .0))
+          (free-goes known l p z (I .names .stack) (I .names .more z .1) free-taken)
       go (no z) =
-          let b = bit-yes (proper (α e) q) (proper← (α e) q z) in
-          let c = count in
-          let d : suc (suc K) ≡ nodes next' α' (suc (suc n)) l = omega arith in
-          subst (λ (i : ℕ). Free (On right' i s') freed₂ f₂ len₁) d (subst (λ (i : ℕ). Free (On right' (suc (suc K)) s') freed₂ i len₁) (sym (M .same z)) (free-same (M .stack) (free-stays bef S angle-s z (taken free₁ X))))
+          let b = left-node-stays (α e) q z in let c = count in
+          of (suc (suc rest)) (omega arith) (I .left-over) (sym (I .names .same z))
+          (free-same (I .names .stack) (free-stays known l p z free-taken))
 
   -- no number is lost
-  pub insert-keeps-total : nodes next α (m + n) e + f ≡ len → nodes next' α' (suc (suc n)) l + f₂ ≡ len₁
-  insert-keeps-total g = go (ℕ-discrete (α e) q) (taken-sum X)
+  pub insert-keeps-total : nodes next α (m + n) e + S .count ≡ S .used → nodes next' α' (suc (suc n)) l + S' .count ≡ S' .used
+  insert-keeps-total g =
+      let c = count in let d = size in let h = some in
+      go (ℕ-discrete (α e) q) (taken-sum (I .taken-new))
     where
       go : Dec (α e ≡ q)
-          → ((f + (nodes next α m e - 1) ≡ suc f₁) × (len₁ ≡ len)) ⊎
-          ((f + (nodes next α m e - 1) ≡ 0) × (f₁ ≡ 0) × (len₁ ≡ suc len))
-          → nodes next' α' (suc (suc n)) l + f₂ ≡ len₁
-      go (yes z) (inl y) = let b = ap (λ (x : ℕ). bit (proper (α e) x)) (sym z) ∙ null-proper (α e) in let c = count in let d = size in let h = some in let i = M .more z .0 in omega arith
-      go (yes z) (inr y) = let b = ap (λ (x : ℕ). bit (proper (α e) x)) (sym z) ∙ null-proper (α e) in let c = count in let d = size in let h = some in let i = M .more z .0 in omega arith
-      go (no z) (inl y) = let b = bit-yes (proper (α e) q) (proper← (α e) q z) in let c = count in let d = size in let h = some in let i = M .same z in omega arith
-      go (no z) (inr y) = let b = bit-yes (proper (α e) q) (proper← (α e) q z) in let c = count in let d = size in let h = some in let i = M .same z in omega arith
+          → ((S .count + (chain - 1) ≡ suc (I .left-over)) × (S' .used ≡ S .used)) ⊎
+          ((S .count + (chain - 1) ≡ 0) × (I .left-over ≡ 0) × (S' .used ≡ suc (S .used)))
+          → after + S' .count ≡ S' .used
+      go (yes z) (inl y) = let b = left-node (α e) q z in let i = I .names .more z .0 in let c = count in let d = size in let h = some in omega arith
+      go (yes z) (inr y) = let b = left-node (α e) q z in let i = I .names .more z .0 in let c = count in let d = size in let h = some in omega arith
+      go (no z) (inl y) = let b = left-node-stays (α e) q z in let i = I .names .same z in let c = count in let d = size in let h = some in omega arith
+      go (no z) (inr y) = let b = left-node-stays (α e) q z in let i = I .names .same z in let c = count in let d = size in let h = some in omega arith
 
   -- the numbers in use pass none that the nodes of the longest ring and one more need
-  pub insert-keeps-len : nodes next α (m + n) e + f ≡ len → {top : ℕ} → nodes next α (m + n) e ≤ top → len ≤ suc top → len₁ ≤ suc top
-  insert-keeps-len g {top} a b = go (taken-sum X)
+  pub insert-keeps-len : nodes next α (m + n) e + S .count ≡ S .used
+      → {top : ℕ} → nodes next α (m + n) e ≤ top → S .used ≤ suc top → S' .used ≤ suc top
+  insert-keeps-len g {top} a b = go (taken-sum (I .taken-new))
     where
-      go : ((f + (nodes next α m e - 1) ≡ suc f₁) × (len₁ ≡ len)) ⊎
-          ((f + (nodes next α m e - 1) ≡ 0) × (f₁ ≡ 0) × (len₁ ≡ suc len)) → len₁ ≤ suc top
+      go : ((S .count + (chain - 1) ≡ suc (I .left-over)) × (S' .used ≡ S .used)) ⊎
+          ((S .count + (chain - 1) ≡ 0) × (I .left-over ≡ 0) × (S' .used ≡ suc (S .used))) → S' .used ≤ suc top
       go (inl y) = omega arith
       go (inr y) = omega arith
 
-  -- THE HULL
-  pub insert-keeps-hull : {bucket₁ bucket' : ℕ → ℕ}
-      → ((i : ℕ) → i < B → bucket₁ i ≡ cond (within i (ceiling w (α e) % B) (ceiling w q % B)) s' (bucket i))
-      → ((i : ℕ) → i < B → bucket' i ≡ cond (within i (ceiling w q % B) (ceiling w (α r) % B)) v (bucket₁ i))
-      → Hull N next' α' left' right' angle' edge' bucket' l (suc (suc n)) s' B w
-  insert-keeps-hull {bucket₁} {bucket'} a b = hull-insert H P k k-in k-holds F q-low t-is placed S (rebucketed {bucket₁ = bucket₁} a b)
+  -- ---- THE HULL
+  pub insert-keeps-hull : {bucket' : ℕ → ℕ}
+      → Rebucketed bucket bucket' B (ceiling w (α e) % B) (ceiling w q % B) (ceiling w (α r) % B) (x .start) (x .new)
+      → HullFrom N next' α' (stored τ x l p q) bucket' l (suc (suc n)) (x .start) B w
+  insert-keeps-hull U = hull-insert H P q-low (I .right-is) fresh (I .names .named) U

@@ -16,7 +16,8 @@ use Rattle.angle.specs.Angle.{IsAngle, turns}
 use Rattle.segment.specs.Bucket.{width}
 use Rattle.dcel.specs.Rows.{rowOf}
 use Rattle.ring.specs.Free.{Pushed, Taken, top, next-one, taken-sum}
-use Rattle.ring.specs.Insert.{Bucketed}
+use Rattle.ring.specs.Node.{NodeTable}
+use Rattle.ring.specs.Insert.{Bucketed, Insertion}
 use Rattle.ring.specs.Resize.{adjustedBuckets, adjusted-buckets}
 use Rattle.ring.specs.WholeInsert.{Names}
 use Rattle.ring_rows.specs.declared.Node.{Node}
@@ -148,15 +149,19 @@ taken-le {f} {n} {len} {v} {n'} {len'} X = go (taken-sum X)
     go (inr x) = omega arith
 
 -- ---- the left node goes, or stays
-pub goes-names : (left : ℕ → ℕ) (mid : List ℕ) {s v u n : ℕ} {g : Bool} → g ≡ true → n < length mid → u ≡ left s → (al q : ℕ) → g ≡ eqb al q → Names left (rowOf mid) (rowOf (set mid n s)) s v u v al q n (n + 1)
+pub goes-names : (τ : NodeTable) (x : Insertion) (mid : List ℕ) {n : ℕ} {g : Bool} → g ≡ true → n < length mid
+    → x .before ≡ τ .left (x .left) → x .start ≡ x .new → (al q : ℕ) → g ≡ eqb al q
+    → Names τ x (rowOf mid) (rowOf (set mid n (x .left))) al q n (n + 1)
 unfolding rowOf
-goes-names left mid {s} {v} {u} {n} {g} y l e al q z = record {
-  u-stays = λ d. absurd (d same);
-  u-left = λ d. e;
-  s-stays = λ d. absurd (d same);
-  s-new = λ d. refl;
-  stack = λ j m. getD-set-other mid n j s 0 (λ w. omega arith);
-  more = λ d. (one n, getD-set-same mid n s 0 l);
+goes-names τ x mid {n} y l before start al q z = record {
+  named = record {
+    before-stays = λ d. absurd (d same);
+    before-goes = λ d. before;
+    start-stays = λ d. absurd (d same);
+    start-goes = λ d. start;
+  };
+  stack = λ j m. getD-set-other mid n j (x .left) 0 (λ w. omega arith);
+  more = λ d. (one n, getD-set-same mid n (x .left) 0 l);
   same = λ d. absurd (d same);
 }
   where
@@ -166,12 +171,15 @@ goes-names left mid {s} {v} {u} {n} {g} y l e al q z = record {
     one : (k : ℕ) → k + 1 ≡ suc k
     one k = omega arith
 
-pub stays-names : (left freed : ℕ → ℕ) {s v n : ℕ} {g : Bool} → g ≡ false → (al q : ℕ) → g ≡ eqb al q → Names left freed freed s v s s al q n n
-stays-names left freed {s} {v} {n} {g} y al q z = record {
-  u-stays = λ d. refl;
-  u-left = λ d. absurd (differ d);
-  s-stays = λ d. refl;
-  s-new = λ d. absurd (differ d);
+pub stays-names : (τ : NodeTable) (x : Insertion) (freed : ℕ → ℕ) {n : ℕ} {g : Bool} → g ≡ false
+    → x .before ≡ x .left → x .start ≡ x .left → (al q : ℕ) → g ≡ eqb al q → Names τ x freed freed al q n n
+stays-names τ x freed y before start al q z = record {
+  named = record {
+    before-stays = λ d. before;
+    before-goes = λ d. absurd (differ d);
+    start-stays = λ d. start;
+    start-goes = λ d. absurd (differ d);
+  };
   stack = λ j m. refl;
   more = λ d. absurd (differ d);
   same = λ d. refl;

@@ -2,7 +2,7 @@
 use Prim.Native.Nat.{ℕ, suc, _+_, _-_, _<_, _≤_, _^_}
 use native.Mathlib.Decide.{ℕ-discrete, decLt}
 use native.Mathlib.Omega.{arith}
-use mathlib.Core.Path.{_≡_, sym, _∙_, ap, subst}
+use mathlib.Core.Path.{_≡_, refl, sym, _∙_, ap, subst}
 use mathlib.Core.Logic.{_≢_}
 use mathlib.Core.Bool.{Bool, true, false}
 use mathlib.Core.List.{List}
@@ -16,13 +16,13 @@ use Rattle.dcel.specs.Rows.{rowOf}
 use Rattle.ring.specs.Ring.{proper, atEnds}
 use Rattle.ring.specs.Segments.{holds-first, proper→}
 use Rattle.ring.specs.Sound.{tile-sole}
-use Rattle.ring.specs.Insert.{On, all-proper}
+use Rattle.ring.specs.Insert.{On, all-proper, Insertion}
 use Rattle.ring.specs.Free.{Taken}
 use Rattle.ring.specs.Hull.{on-from}
 use Rattle.ring_rows.specs.declared.Node.{Node}
 use Rattle.ring_rows.specs.declared.Hull.{Hull}
 use Rattle.ring_rows.specs.declared.Found.{Found}
-use Rattle.ring_rows.specs.Rows.{nodesOf, angleOf, leftOf, rightOf, sizeOf, ValidNode, ValidNodes, Got}
+use Rattle.ring_rows.specs.Rows.{nodesOf, tableOf, angleOf, rightOf, sizeOf, ValidNode, ValidNodes, Got}
 use Rattle.ring_rows.specs.Laws.{ring-from, walk-below}
 use Rattle.ring_insert.specs.declared.Choice.{Choice}
 use Rattle.ring_insert.specs.Insert.{ToRelease, ReleasedTo, ToChoose, Chosen, ToPlace, ToInsert, placeNodes}
@@ -41,20 +41,34 @@ module _ {nodes : List Node} {old mid : List ℕ} {first right top₁ n : ℕ} {
   pub top-less : top₁ < n + G .size
   top-less = let a = R .stack in let b = R .some in let c = passed-most in let d = G .less in omega arith
 
-pub chosen-goes : {t : ℕ → Node} {old mid : List ℕ} {h : Hull} {left : ℕ} {g : Bool} {x right top₁ v top₂ len₁ : ℕ} {node : Node} → ReleasedTo t old mid (h .freed) left x right top₁ → Taken (rowOf mid) top₁ (h .nodes) v top₂ len₁ → g ≡ true
-    → top₂ < length mid → node ≡ t left → Chosen t old (set mid top₂ left) h left g x (record { right = right; node = v; before = node .left; start = v; freed = top₂ + 1; nodes = len₁ })
-chosen-goes {t} {old} {mid} {h} {left} {g} {x} {right} {top₁} {v} {top₂} R X y l e = record {
-  mid = mid;
-  top₁ = top₁;
-  top₂ = top₂;
-  released = R;
-  taken = X;
-  names = goes-names (leftOf t) mid y l (ap (λ (n : Node). n .left) e);
-}
+module _ {t : ℕ → Node} {old mid : List ℕ} {h : Hull} {left x right top₁ v top₂ len₁ : ℕ}
+    (R : ReleasedTo t old mid (h .freed) left x right top₁) (X : Taken (rowOf mid) top₁ (h .nodes) v top₂ len₁) {g : Bool} where
+  pub chosen-goes : {node : Node} → g ≡ true → top₂ < length mid → node ≡ t left
+      → Chosen t old (set mid top₂ left) h left g x
+      (record { right = right; node = v; before = node .left; start = v; freed = top₂ + 1; nodes = len₁ })
+  chosen-goes {node} y l e =
+      let z : Insertion = record { left = left; right = right; new = v; before = node .left; start = v } in
+      record {
+        mid = mid;
+        top₁ = top₁;
+        top₂ = top₂;
+        released = R;
+        taken = X;
+        names = goes-names (tableOf t) z mid y l (ap (λ (n : Node). n .left) e) refl;
+      }
 
-pub chosen-stays : {t : ℕ → Node} {old mid : List ℕ} {h : Hull} {left : ℕ} {g : Bool} {x right top₁ v top₂ len₁ : ℕ} → ReleasedTo t old mid (h .freed) left x right top₁ → Taken (rowOf mid) top₁ (h .nodes) v top₂ len₁ → g ≡ false
-    → Chosen t old mid h left g x (record { right = right; node = v; before = left; start = left; freed = top₂; nodes = len₁ })
-chosen-stays {t} {old} {mid} {h} {left} {g} {x} {right} {top₁} {v} {top₂} R X y = record { mid = mid; top₁ = top₁; top₂ = top₂; released = R; taken = X; names = stays-names (leftOf t) (rowOf mid) y }
+  pub chosen-stays : g ≡ false
+      → Chosen t old mid h left g x (record { right = right; node = v; before = left; start = left; freed = top₂; nodes = len₁ })
+  chosen-stays y =
+      let z : Insertion = record { left = left; right = right; new = v; before = left; start = left } in
+      record {
+        mid = mid;
+        top₁ = top₁;
+        top₂ = top₂;
+        released = R;
+        taken = X;
+        names = stays-names (tableOf t) z (rowOf mid) y refl refl;
+      }
 
 pub chosen-as : {t : ℕ → Node} {old new : List ℕ} {h : Hull} {left x : ℕ} {g g′ : Bool} {c : Choice} → g ≡ g′ → Chosen t old new h left g x c → Chosen t old new h left g′ x c
 chosen-as {t} {old} {new} {h} {left} {x} {g} {g′} {c} e D = subst (λ (b : Bool). Chosen t old new h left b x c) e D
@@ -145,15 +159,15 @@ module _ {nodes : List Node} {freed buckets : List ℕ} {h : Hull} {al q ar : Fl
       before-in = go (ℕ-discrete (turns al) (turns q))
         where
           go : Dec (turns al ≡ turns q) → c .before < h .nodes
-          go (yes z) = subst (λ (y : ℕ). y < h .nodes) (sym (D .names (turns al) (turns q) e .u-left z)) (valid (r .node) left-in .left)
-          go (no z) = subst (λ (y : ℕ). y < h .nodes) (sym (D .names (turns al) (turns q) e .u-stays z)) left-in
+          go (yes z) = subst (λ (y : ℕ). y < h .nodes) (sym (D .names (turns al) (turns q) e .named .before-goes z)) (valid (r .node) left-in .left)
+          go (no z) = subst (λ (y : ℕ). y < h .nodes) (sym (D .names (turns al) (turns q) e .named .before-stays z)) left-in
 
       start-in : c .start < c .nodes
       start-in = go (ℕ-discrete (turns al) (turns q))
         where
           go : Dec (turns al ≡ turns q) → c .start < c .nodes
-          go (yes z) = subst (λ (y : ℕ). y < c .nodes) (sym (D .names (turns al) (turns q) e .s-new z)) (grown .1)
-          go (no z) = subst (λ (y : ℕ). y < c .nodes) (sym (D .names (turns al) (turns q) e .s-stays z)) (let a = left-in in let b = grown .0 in omega arith)
+          go (yes z) = subst (λ (y : ℕ). y < c .nodes) (sym (D .names (turns al) (turns q) e .named .start-goes z)) (grown .1)
+          go (no z) = subst (λ (y : ℕ). y < c .nodes) (sym (D .names (turns al) (turns q) e .named .start-stays z)) (let a = left-in in let b = grown .0 in omega arith)
 
       pub new-room : c .nodes ≤ length nodes
       new-room = let a = grown .2 in let b = I .node-room in omega arith

@@ -12,7 +12,8 @@ use Rattle.sums.specs.Put.{put}
 use Rattle.angle.specs.Angle.{IsAngle, turns}
 use Rattle.segment.specs.Bucket.{width, ceilOf}
 use Rattle.dcel.specs.Rows.{rowOf}
-use Rattle.ring.specs.Insert.{On, Bucketed}
+use Rattle.ring_rows.specs.Rows.{tableOf}
+use Rattle.ring.specs.Insert.{On, Bucketed, Insertion}
 use Rattle.ring.specs.Free.{Free, Pushed, Taken}
 use Rattle.ring.specs.WholeInsert.{Names}
 use Rattle.ring.specs.Resize.{adjustedBuckets}
@@ -49,6 +50,10 @@ pub record ToChoose (nodes : List Node) (freed : List ℕ) (h : Hull) (left : �
   pub release : ToRelease nodes freed (h .freed) left a
   pub small : h .nodes + 1 < 2 ^ 32
 
+-- the nodes of an insert after the left one is found and the others are chosen
+abbrev pub insertionOf : ℕ → Choice → Insertion
+insertionOf left c = record { left = left; right = c .right; new = c .node; before = c .before; start = c .start }
+
 -- `left` goes where its angle is the new one
 pub record Chosen (t : ℕ → Node) (old new : List ℕ) (h : Hull) (left : ℕ) (goes : Bool) (x : ℕ) (r : Choice) : Type 0 where
   pub mid : List ℕ
@@ -56,7 +61,7 @@ pub record Chosen (t : ℕ → Node) (old new : List ℕ) (h : Hull) (left : ℕ
   pub top₂ : ℕ
   pub released : ReleasedTo t old mid (h .freed) left x (r .right) top₁
   pub taken : Taken (rowOf mid) top₁ (h .nodes) (r .node) top₂ (r .nodes)
-  pub names : (al q : ℕ) → goes ≡ eqb al q → Names (leftOf t) (rowOf mid) (rowOf new) left (r .node) (r .before) (r .start) al q top₂ (r .freed)
+  pub names : (al q : ℕ) → goes ≡ eqb al q → Names (tableOf t) (insertionOf left r) (rowOf mid) (rowOf new) al q top₂ (r .freed)
 
 -- the stores, one after the other
 unfoldable pub newNode : (ℕ → Node) → Choice → ℕ → Float → ℕ → Node
@@ -87,7 +92,8 @@ pub record Rebuckets (old new : List ℕ) (count L Q R a v : ℕ) : Type 0 where
   pub left : Updated old mid count L Q a
   pub right : Updated mid new count Q R v
 
--- What an insert asks: a ring in the rows, of at most `most` nodes, with a node of the left angle and, further on, one of the right angle; the rows have one node more
+-- What an insert asks: a ring in the rows, of at most `most` nodes, with a node of the left angle and, further on, one of
+-- the right angle; the rows have one node more
 pub record ToInsert (nodes : List Node) (freed buckets : List ℕ) (h : Hull) (al q ar : Float) : Type 0 where
   pub rows : RingRows nodes buckets h
   pub free : Free (On (rightOf (nodesOf nodes)) (sizeOf h) (rowOf buckets 0)) (rowOf freed) (h .freed) (h .nodes)
@@ -104,20 +110,27 @@ pub record ToInsert (nodes : List Node) (freed buckets : List ℕ) (h : Hull) (a
   pub steps : ℕ
   pub some : 0 < steps
   pub less : steps < sizeOf h
-  pub right-angle : angleOf (nodesOf nodes) (iter steps (rightOf (nodesOf nodes)) (iter left (rightOf (nodesOf nodes)) (rowOf buckets 0))) ≡ turns ar
+  pub right-angle :
+      angleOf (nodesOf nodes) (iter steps (rightOf (nodesOf nodes)) (iter left (rightOf (nodesOf nodes)) (rowOf buckets 0))) ≡ turns ar
   pub al-angle : IsAngle al
   pub q-angle : IsAngle q
   pub ar-angle : IsAngle ar
 
 -- What it leaves
-pub record InsertedRows (nodes : List Node) (freed buckets : List ℕ) (nodes′ : List Node) (freed′ buckets′ : List ℕ) (h : Hull) (al q ar : Float) (l p : ℕ) (r : Hull) : Type 0 where
+pub record InsertedRows
+    (nodes : List Node) (freed buckets : List ℕ)
+    (nodes′ : List Node) (freed′ buckets′ : List ℕ)
+    (h : Hull) (al q ar : Float) (l p : ℕ) (r : Hull) : Type 0 where
   pub left : ℕ
   pub left-on : On (rightOf (nodesOf nodes)) (sizeOf h) (rowOf buckets 0) left
   pub left-angle : angleOf (nodesOf nodes) left ≡ turns al
   pub choice : Choice
   pub chosen : Chosen (nodesOf nodes) freed freed′ h left (eqb (turns al) (turns q)) (turns ar) choice
   pub placed : nodesOf nodes′ ≡ placeNodes (nodesOf nodes) choice l p q
-  pub rebuckets : Rebuckets buckets buckets′ (h .buckets) (ceilOf (turns al) (h .buckets)) (ceilOf (turns q) (h .buckets)) (ceilOf (turns ar) (h .buckets)) (choice .start) (choice .node)
+  pub rebuckets :
+      Rebuckets buckets buckets′ (h .buckets)
+      (ceilOf (turns al) (h .buckets)) (ceilOf (turns q) (h .buckets)) (ceilOf (turns ar) (h .buckets))
+      (choice .start) (choice .node)
   pub valid : ValidNodes (nodesOf nodes′) (r .nodes)
   pub room : r .nodes ≤ length nodes
   pub same-buckets : r .buckets ≡ h .buckets
@@ -134,4 +147,5 @@ pub record Adjusted (nodes : List Node) (old new : List ℕ) (h r : Hull) : Type
   pub count : r .buckets ≡ adjustedBuckets (h .buckets) (sizeOf h)
   pub used : r .nodes ≡ h .nodes
   pub freed : r .freed ≡ h .freed
-  pub filled : Bucketed (rightOf (nodesOf nodes)) (angleOf (nodesOf nodes)) (rowOf new) (r .buckets) (width (r .buckets)) (rowOf old 0) (sizeOf h)
+  pub filled :
+      Bucketed (rightOf (nodesOf nodes)) (angleOf (nodesOf nodes)) (rowOf new) (r .buckets) (width (r .buckets)) (rowOf old 0) (sizeOf h)

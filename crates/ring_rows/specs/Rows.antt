@@ -14,6 +14,7 @@ use Rattle.dcel.specs.Rows.{rowOf}
 use Rattle.ring.specs.Ring.{fullTurn, proper, atEnds}
 use Rattle.ring.specs.Sound.{Sound}
 use Rattle.ring.specs.Buckets.{within}
+use Rattle.ring.specs.Node.{NodeTable}
 use Rattle.ring.specs.Insert.{Bucketed}
 use Rattle.ring_rows.specs.declared.Node.{Node}
 use Rattle.ring_rows.specs.declared.Hull.{Hull}
@@ -49,6 +50,10 @@ leftOf t i = t i .left
 
 abbrev pub rightOf : (ℕ → Node) → ℕ → ℕ
 rightOf t i = t i .right
+
+-- as the ring's theory has them
+abbrev pub tableOf : (ℕ → Node) → NodeTable
+tableOf t = record { left = leftOf t; right = rightOf t; angle = angleOf t; edge = edgeOf t }
 
 -- a node in a row of which len are in use: its links stay there
 pub record ValidNode (n : Node) (len : ℕ) : Type 0 where

@@ -7,7 +7,8 @@ use denote.Ref.{now}
 use Rattle.mesh.specs.declared.Counts.{Counts}
 use Rattle.decide.specs.Walks.{LocatedRows}
 use Rattle.decide.proofs.Tests.{from-range, to-range}
-use Rattle.decide.proofs.Deciding.{here-about, asks-left, asks-right, at-from, at-to, not-left, Passes, passes}
+use Rattle.ring.specs.declared.Side.the-variants.{Left, Right}
+use Rattle.decide.proofs.Deciding.{here-about, asks-walk, at-from, at-to, not-left, Passes, passes}
 use Rattle.decide.proofs.Deciding.{start-angled, asks-count, count-fits, asks-fit, unsound, added}
 use Rattle.decide.proofs.decide_at.Statement.{statement}
 use Rattle.decide.proofs.decide_at.Tie as tie
@@ -72,10 +73,10 @@ passed l K =
     (s .side-query .ensures) (t .is-on-left-side .ensures) (l .if3 .left)
 
 walk-left-requires : tie.Need-walk-left-requires
-walk-left-requires c κs = asks-left (start c .pre .located)
+walk-left-requires c κs = asks-walk (start c .pre .located) Left
 
 walk-right-requires : tie.Need-walk-right-requires
-walk-right-requires c κs = asks-right (start (c .before) .pre .located)
+walk-right-requires c κs = asks-walk (start (c .before) .pre .located) Right
 
 angle-at-requires : tie.Need-angle-at-requires
 angle-at-requires c κs = let w = c .before in start-angled (start (w .before) .pre .located) (w .walk-left .ensures)

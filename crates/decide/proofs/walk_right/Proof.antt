@@ -1,13 +1,14 @@
 -- `decide::walk_right` meets its contract. Assumes nothing.
 use Prim.Native.Nat.{_-_, _^_}
 use native.Mathlib.Omega.{arith}
-use Rattle.decide.proofs.Walking.{WalkingRight, walking, tested, few, more, walking-on, walked}
+use Rattle.ring.specs.declared.Side.the-variants.{Right}
+use Rattle.decide.proofs.Walking.{Walking, walking, tested, few, more, walking-on, walked}
 use Rattle.decide.proofs.walk_right.Statement.{statement}
 use Rattle.decide.proofs.walk_right.Tie as tie
 
 abbrev Inv-loop : tie.InvT-loop
 Inv-loop positions halves e point angle center d₀ count₀ d count =
-    WalkingRight positions halves (center .x) (center .y) point angle e d count
+    Walking Right positions halves (center .x) (center .y) point angle e d count
 
 abbrev μ-loop : tie.MeasureT-loop
 μ-loop positions halves e point angle center d₀ count₀ d count = 2 ^ 32 - count
