@@ -37,7 +37,7 @@ use Rattle.ring_rows.specs.declared.Node.{Node}
 use Rattle.ring_rows.specs.declared.Hull.{Hull}
 use Rattle.ring_rows.specs.Rows.{nodesOf, tableOf, angleOf, rightOf, sizeOf, ValidNodes}
 use Rattle.ring_insert.specs.Insert.{insertionOf, ToInsert, InsertedRows, Adjusted, ReleasedTo}
-use Rattle.ring_insert.specs.Placed.{placed-stored}
+use Rattle.ring_insert.specs.PlaceLaws.{placed-stored}
 use Rattle.hull.specs.Held.{Held}
 use Rattle.hull.specs.Find.{held-ring, held-rows}
 

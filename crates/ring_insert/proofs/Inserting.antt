@@ -26,7 +26,7 @@ use Rattle.ring_rows.specs.Rows.{nodesOf, tableOf, angleOf, rightOf, sizeOf, Va
 use Rattle.ring_rows.specs.Laws.{ring-from, walk-below}
 use Rattle.ring_insert.specs.declared.Choice.{Choice}
 use Rattle.ring_insert.specs.Insert.{ToRelease, ReleasedTo, ToChoose, Chosen, ToPlace, ToInsert, placeNodes}
-use Rattle.ring_insert.specs.Placed.{valid-up, placed-valid}
+use Rattle.ring_insert.specs.PlaceLaws.{valid-up, placed-valid}
 use Rattle.ring_insert.proofs.Freeing.{goes-names, stays-names}
 
 -- ---- `choose`

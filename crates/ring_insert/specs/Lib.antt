@@ -1,3 +1,3 @@
--- `Insert` has what the contracts cite, `Placed` the laws of its stores.
+-- `Insert` has what the contracts cite, `PlaceLaws` the laws of its stores.
 pub mod Insert
-pub mod Placed
+pub mod PlaceLaws
