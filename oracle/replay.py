@@ -1,4 +1,4 @@
-"""Our own `run` beside the Rust on generated inputs, through the program `replay`.
+"""Our own steps, first pass and run beside the Rust on generated inputs, link by link, through the program `replay`.
 
     python3 oracle/replay.py COUNT SEED [MOST_POINTS]      at the repository's root
 

@@ -40,7 +40,7 @@ pub struct Ended {
 }
 
 // The rows of 01's table that a finish tests before anything else.
-fn check_seed(
+pub fn check_seed(
     counts: Counts,
     positions: &[i32],
     outs: &[u32],

@@ -17,7 +17,7 @@ use math::Point;
 use mesh::Counts;
 use ring_rows::Node;
 
-mod results;
+pub mod results;
 
 use results::CheckResult;
 use results::FinishResult;

@@ -1,19 +1,21 @@
-// The answers of the Rust itself (oracle/answers.txt): for each point its fate, vertex, faces and flips, then the mesh after the last step and the mesh after the
-// first pass of `fix_convexity`. A run goes on from there with further passes and the closing pass, so it is compared by its answers, by its vertices, and by its
-// finished mesh: a finish of the Rust's mesh after the first pass makes just the passes that the run makes after its first. So the two must leave the same counts,
-// positions and links, and the faces and flips of the first pass and of that finish must add up to the run's. In 265 of the 300 cases that finish changes nothing, and
-// the comparison is with the Rust's mesh, link by link; in the others the same passes go over both, which take different meshes to the same one only where
-// they make up for each other's every link.
+// The answers of the Rust itself (oracle/answers.txt): for each point its fate, vertex, faces and flips, then the mesh after the last step, the faces and flips of the
+// first pass of `fix_convexity`, and the mesh after it. Ours are held against both meshes link by link: counts, positions and every entry of the rows. A run makes the
+// same steps and goes on with all passes and the closing pass. Its answers must be the Rust's too, and it must leave what a finish makes of the Rust's mesh after the
+// first pass, with the faces and flips of that pass and of that finish added up.
 ghost use Prim.Native.Nat.{_≤_};
 ghost use lib.ListN.{length};
 use super::calls;
 use super::calls::Ring;
 use super::finish_cases;
+use super::meshes;
+use super::meshes::Passed;
+use super::meshes::Stepped;
 use super::run_cases;
 use super::run_cases::Ran;
-use finish::Finished;
-use finish::Totals;
+use angle::Point2;
+use fithmoul::results::FinishResult;
 use test_mesh::Agreed;
+use test_mesh::Coordinates;
 use test_mesh::CoordinatesLine;
 use test_mesh::LONGS;
 use test_mesh::Longs;
@@ -51,73 +53,6 @@ fn read_pass(text: &[u8], at: usize) -> PassLine {
     }
 }
 
-// Whether the counts of two finishes add up, the second's being one pass less.
-fn add_up(run: Totals, pass: PassLine, rest: Totals) -> bool {
-    let all = run.convexflips;
-    let later = rest.convexflips;
-    if (run.faces as u64) < pass.faces {
-        return false;
-    }
-    if all.low < pass.flips {
-        return false;
-    }
-    (all.high == 0)
-        & (later.high == 0)
-        & ((run.faces as u64) - pass.faces == rest.faces as u64)
-        & (all.low - pass.flips == later.low)
-        & run.closingflips.equals(rest.closingflips)
-}
-
-// The same where both are accepted.
-fn answers_add_up(run: Finished, pass: PassLine, rest: Finished) -> bool {
-    let Finished::Accepted(r) = run else {
-        return false;
-    };
-    let Finished::Accepted(f) = rest else {
-        return false;
-    };
-    add_up(r, pass, f)
-}
-
-// Whether the mesh after the first pass, which stands at a place behind the line `g`, finishes as the run did.
-fn finish_agrees(text: &[u8], at: usize, run: Finished, mesh: Mesh) -> bool {
-    let pass = read_pass(text, at);
-    let m = test_mesh::read_mesh(text, pass.at, test_mesh::LENT, true);
-    let ended = finish_cases::finish_on(m.mesh, WORDS, 0);
-    let answer = ended.answer;
-    let rest = answer.finished;
-    let end = test_text::is_line_of(text, m.at, b'e', &[]);
-    pass.is_whole
-        & m.is_whole
-        & end
-        & test_mesh::same_mesh(mesh, ended.mesh)
-        & answers_add_up(run, pass, rest)
-}
-
-// Whether a run's vertices are those of the Rust's mesh after its last step, which stands at a place.
-fn vertices_agree(text: &[u8], at: usize, mesh: Mesh) -> bool {
-    let m = test_mesh::read_mesh(text, at, test_mesh::LENT, true);
-    let steps = m.mesh;
-    let counts = steps.counts;
-    let left = mesh.counts;
-    m.is_whole
-        & (counts.vertices == left.vertices)
-        & test_mesh::same_coordinates(steps.positions, mesh.positions)
-}
-
-// Whether a run's answers, vertices and finished mesh are as the lines from `a` on have them.
-fn run_agrees(text: &[u8], at: usize, ran: Ran) -> bool {
-    let answer = ran.answer;
-    let finished = answer.finished;
-    let start = test_mesh::plain_start(text, at, b'a', LONGS, 7);
-    let a = test_mesh::compare_longs(text, start, true, ran.answers);
-    let pass = test_text::behind_line(text, a.at, b'f');
-    a.agrees
-        & vertices_agree(text, a.at, ran.mesh)
-        & finish_agrees(text, pass, finished, ran.mesh)
-        & ran.cleared
-}
-
 // The line `q`.
 fn read_points(text: &[u8], at: usize) -> CoordinatesLine
     ensures { λ r. ⌜ r .coordinates .length ≤ length (r .coordinates .row) ⌝ }
@@ -131,17 +66,103 @@ fn read_points(text: &[u8], at: usize) -> CoordinatesLine
     }
 }
 
+// Whether a mesh is the one that stands at a place, and the place behind it. Behind the entries that are written both have zeros.
+fn compare_mesh(text: &[u8], at: usize, mesh: Mesh) -> Agreed {
+    let m = test_mesh::read_mesh(text, at, test_mesh::LENT, true);
+    Agreed {
+        agrees: m.is_whole & test_mesh::same_mesh(m.mesh, mesh),
+        at: m.at,
+    }
+}
+
+// Whether answers are those of the line `a` at a place, and the place behind it.
+fn compare_answers(text: &[u8], at: usize, answers: Longs) -> Agreed {
+    let start = test_mesh::plain_start(text, at, b'a', LONGS, 7);
+    test_mesh::compare_longs(text, start, true, answers)
+}
+
+// Whether the steps have left what the lines from `a` on have; the place of the line `g`.
+fn steps_agree(text: &[u8], at: usize, after: Stepped) -> Agreed {
+    let a = compare_answers(text, at, after.answers);
+    let m = compare_mesh(text, a.at, after.mesh);
+    Agreed {
+        agrees: a.agrees & m.agrees,
+        at: m.at,
+    }
+}
+
+// Whether the first pass has left what the lines from `g` on have.
+fn pass_agrees(text: &[u8], at: usize, after: Passed) -> bool {
+    let g = read_pass(text, at);
+    let m = compare_mesh(text, g.at, after.mesh);
+    let flips = after.flips;
+    g.is_whole
+        & m.agrees
+        & (after.faces == g.faces)
+        & (flips[0] == 0)
+        & (flips[1] == g.flips)
+        & test_text::is_line_of(text, m.at, b'e', &[])
+}
+
+// Whether the numbers of a run are those of a pass and of the finish after it together.
+fn add_up(run: FinishResult, pass: PassLine, rest: FinishResult) -> bool {
+    let all = calls::numbers_of(run);
+    let later = calls::numbers_of(rest);
+    let faces = all[2];
+    let flips = all[3];
+    if faces < pass.faces {
+        return false;
+    }
+    if flips < pass.flips {
+        return false;
+    }
+    (all[0] == 0)
+        & (later[0] == 0)
+        & (faces - pass.faces == later[2])
+        & (flips - pass.flips == later[3])
+        & (all[4] == later[4])
+}
+
+// Whether a run has answered as the line `a` has it, and has left what a finish makes of the mesh behind the line `g`.
+fn run_agrees(text: &[u8], at: usize, pass: usize, ran: Ran) -> bool {
+    let a = compare_answers(text, at, ran.answers);
+    let g = read_pass(text, pass);
+    let m = test_mesh::read_mesh(text, g.at, test_mesh::LENT, true);
+    let ended = finish_cases::finish_on(m.mesh, WORDS, 0);
+    a.agrees
+        & ran.cleared
+        & ended.cleared
+        & test_mesh::same_mesh(ran.mesh, ended.mesh)
+        & add_up(ran.result, g, ended.result)
+}
+
+// Whether all agree with the lines from `a` on.
+fn case_agrees(text: &[u8], at: usize, mesh: Mesh, center: Point2, points: Coordinates) -> bool
+    requires { ⌜ mesh .positions .length ≤ length (mesh .positions .row) ⌝ }
+    requires { ⌜ mesh .outs .length ≤ length (mesh .outs .row) ⌝ }
+    requires { ⌜ mesh .halves .length ≤ length (mesh .halves .row) ⌝ }
+    requires { ⌜ mesh .faces .length ≤ length (mesh .faces .row) ⌝ }
+    requires { ⌜ points .length ≤ length (points .row) ⌝ }
+{
+    let ring = Ring {
+        nodes: NODES,
+        freed: WORDS,
+        buckets: WORDS,
+    };
+    let ran = run_cases::run_on(mesh, ring, WORDS, LONGS, center, points, 0);
+    let stepped = meshes::steps_on(mesh, center, points);
+    let last = stepped.mesh;
+    let s = steps_agree(text, at, stepped);
+    let p = pass_agrees(text, s.at, meshes::pass_on(last));
+    s.agrees & p & run_agrees(text, at, s.at, ran)
+}
+
 // The case whose line `i` stands at a place.
 pub fn agrees(text: &[u8], at: usize) -> bool {
     let i = read_number_line(text, at);
     let m = test_mesh::read_mesh(text, i.at, test_mesh::LENT, true);
     let c = calls::read_center(text, m.at, b'c');
     let q = read_points(text, c.at);
-    let ring = Ring {
-        nodes: NODES,
-        freed: WORDS,
-        buckets: WORDS,
-    };
-    let ran = run_cases::run_on(m.mesh, ring, WORDS, LONGS, c.center, q.coordinates, 0);
-    run_agrees(text, q.at, ran) & i.agrees & m.is_whole & c.is_whole & q.is_whole
+    let same = case_agrees(text, q.at, m.mesh, c.center, q.coordinates);
+    same & i.agrees & m.is_whole & c.is_whole & q.is_whole
 }

@@ -3,7 +3,7 @@ ghost use mathlib.Core.Path.{_≡_};
 ghost use Prim.Native.Nat.{_≤_};
 ghost use lib.ListN.{length};
 use angle::Point2;
-use finish::Finished;
+use fithmoul::results::FinishResult;
 use math::Point;
 use mesh::Counts;
 use ring_rows::Node;
@@ -215,21 +215,18 @@ pub fn ring_holds(
         & test_mesh::holds(buckets, ring.buckets, v)
 }
 
-// Numbers of an answer: refusal, place, faces, flips of the convexity passes and of the closing pass. No list has a count of flips that needs two words: such an
-// answer is 99.
-pub fn numbers_of(finished: Finished) -> [u64; 5] {
-    match finished {
-        Finished::Refused(r) => [r.number as u64, r.place as u64, 0, 0, 0],
-        Finished::Accepted(t) => [
-            if (t.convexflips.high == 0) & (t.closingflips.high == 0) {
-                0
-            } else {
-                99
-            },
-            0,
-            t.faces as u64,
-            t.convexflips.low,
-            t.closingflips.low,
-        ],
-    }
+// The refusal of a result whose counts of flips have these high words together. No list has a count of flips that needs two words: such a result is 99.
+pub fn refusal_of(refusal: u32, high: u64) -> u64 {
+    if high == 0 { refusal as u64 } else { 99 }
+}
+
+// Numbers of a result: refusal, place, faces, flips of the convexity passes and of the closing pass.
+pub fn numbers_of(r: FinishResult) -> [u64; 5] {
+    [
+        refusal_of(r.refusal, r.convex_flips_high | r.closing_flips_high),
+        r.place as u64,
+        r.faces_added as u64,
+        r.convex_flips_low,
+        r.closing_flips_low,
+    ]
 }

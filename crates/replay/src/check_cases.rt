@@ -1,16 +1,8 @@
-// Meshes and what `check` answers on them (tests/reference/check_cases.py): good meshes and lawful oddities, rows one entry short, coordinates at the limit and
+// Meshes and what `fithmoul_check` answers on them (tests/reference/check_cases.py): good meshes and lawful oddities, rows one entry short, coordinates at the limit and
 // beyond, links out of range and wrong in every way that a rule forbids, flat and right-turning faces.
 ghost use Prim.Native.Nat.{_≤_};
 ghost use lib.ListN.{length};
-use mesh_check::Checked;
 use test_mesh::Mesh;
-
-fn numbers_of(checked: Checked) -> [u64; 2] {
-    match checked {
-        Checked::Accepted => [0, 0],
-        Checked::Refused(r) => [r.number as u64, r.place as u64],
-    }
-}
 
 // The numbers that a check answers on rows that are lent.
 fn check_on(mesh: Mesh) -> [u64; 2]
@@ -27,13 +19,17 @@ fn check_on(mesh: Mesh) -> [u64; 2]
     let outs_length = mesh.outs.length;
     let halves_length = mesh.halves.length;
     let faces_length = mesh.faces.length;
-    numbers_of(mesh_check::check(
-        mesh.counts,
+    let counts = mesh.counts;
+    let r = fithmoul::fithmoul_check(
+        counts.vertices,
+        counts.edges,
+        counts.faces,
         &positions[..positions_length],
         &outs[..outs_length],
         &halves[..halves_length],
         &faces[..faces_length],
-    ))
+    );
+    [r.refusal as u64, r.place as u64]
 }
 
 // The case whose line `m` stands at a place.

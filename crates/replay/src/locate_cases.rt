@@ -1,4 +1,4 @@
-// Meshes, centres and angles and what `locate` answers (tests/reference/locate_cases.py): every boundary angle and its two neighbours, eighths, 0.0, -0.0, 1.0,
+// Meshes, centres and angles and what `fithmoul_locate` answers (tests/reference/locate_cases.py): every boundary angle and its two neighbours, eighths, 0.0, -0.0, 1.0,
 // subnormal angles, NaN and infinities; centres outside, on a vertex, dead west and nearly so; gaps of 3/4; rows one entry short. The ring's rows are lent full of
 // sevens: a refused call must leave them, an accepted one must leave zeros.
 ghost use Prim.Native.Nat.{_≤_};
@@ -6,17 +6,8 @@ ghost use lib.ListN.{length};
 use super::calls;
 use super::calls::Ring;
 use angle::Point2;
-use locate::Located;
 use test_mesh::Mesh;
 use test_mesh::WORDS;
-
-// The numbers of an answer; edge and passed are 0 where the call is refused.
-fn numbers_of(angle: u64, located: Located) -> [u64; 5] {
-    match located {
-        Located::Found(p) => [angle, 0, 0, p.edge as u64, p.passed as u64],
-        Located::Refused(r) => [angle, r.number as u64, r.place as u64, 0, 0],
-    }
-}
 
 // The numbers that a call answers on rows that are lent, the ring's full of sevens; the second is 99 where those do not hold what they must.
 fn locate_on(mesh: Mesh, ring: Ring, center: Point2, angle: u64) -> [u64; 5]
@@ -42,8 +33,11 @@ fn locate_on(mesh: Mesh, ring: Ring, center: Point2, angle: u64) -> [u64; 5]
     let nodes_length = ring.nodes;
     let freed_length = ring.freed;
     let buckets_length = ring.buckets;
-    let located = locate::locate(
-        mesh.counts,
+    let counts = mesh.counts;
+    let r = fithmoul::fithmoul_locate(
+        counts.vertices,
+        counts.edges,
+        counts.faces,
         &positions[..positions_length],
         &outs[..outs_length],
         &halves[..halves_length],
@@ -51,13 +45,19 @@ fn locate_on(mesh: Mesh, ring: Ring, center: Point2, angle: u64) -> [u64; 5]
         &mut nodes[..nodes_length],
         &mut freed[..freed_length],
         &mut buckets[..buckets_length],
-        center,
+        center.x,
+        center.y,
         test_text::double(angle),
     );
-    let numbers = numbers_of(angle, located);
-    let v: u32 = if numbers[1] == 0 { 0 } else { 7 };
+    let v: u32 = if r.refusal == 0 { 0 } else { 7 };
     if calls::ring_holds(ring, nodes, freed, buckets, v) {
-        return numbers;
+        return [
+            angle,
+            r.refusal as u64,
+            r.place as u64,
+            r.edge as u64,
+            r.passed as u64,
+        ];
     }
     [angle, 99, 0, 0, 0]
 }

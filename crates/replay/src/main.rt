@@ -1,12 +1,14 @@
 // Runs every fixed list of cases and prints one line for each: its name, and how many cases agree and differ. The lists are in data/, copies of those that
 // tests/reference makes from an independent reading of the specification, and of oracle/answers.txt, the answers of the Rust itself (their formats are in
-// tests/reference/README.md and oracle/FORMAT.md). A list that is not whole counts as one difference more.
+// tests/reference/README.md and oracle/FORMAT.md). The lists of the calls go through the exports of the crate `fithmoul`. A list that is not whole counts as one
+// difference more.
 mod angles;
 mod answers_cases;
 mod calls;
 mod check_cases;
 mod finish_cases;
 mod locate_cases;
+mod meshes;
 mod rows;
 mod run_cases;
 mod samples;

@@ -1,4 +1,4 @@
-// Runs (tests/reference/run_cases.py run): every refusal, every fate, lists of points of many kinds, rings that grow and shrink, long runs of one angle, long walks,
+// Runs by `fithmoul_run` (tests/reference/run_cases.py run): every refusal, every fate, lists of points of many kinds, rings that grow and shrink, long runs of one angle, long walks,
 // pending lists that fill in a step and in the finish. A case agrees where the answer, the counts and every row over its whole length do: the ring's rows, pending
 // and the answers are lent full of sevens.
 ghost use Prim.Native.Nat.{_≤_};
@@ -6,7 +6,8 @@ ghost use lib.ListN.{length};
 use super::calls;
 use super::calls::Ring;
 use angle::Point2;
-use finish::FinishAnswer;
+use fithmoul::results::FinishResult;
+use mesh::Counts;
 use test_mesh::Agreed;
 use test_mesh::Coordinates;
 use test_mesh::CoordinatesLine;
@@ -17,7 +18,7 @@ use test_mesh::WORDS;
 
 // What a run has answered and left; whether the ring's rows and pending hold what they must.
 pub struct Ran {
-    pub answer: FinishAnswer,
+    pub result: FinishResult,
     pub mesh: Mesh,
     pub answers: Longs,
     pub cleared: bool,
@@ -62,8 +63,11 @@ pub fn run_on(
     let freed_length = ring.freed;
     let buckets_length = ring.buckets;
     let points_length = points.length;
-    let answer = run::run(
-        mesh.counts,
+    let counts = mesh.counts;
+    let r = fithmoul::fithmoul_run(
+        counts.vertices,
+        counts.edges,
+        counts.faces,
         &mut positions[..positions_length],
         &mut outs[..outs_length],
         &mut halves[..halves_length],
@@ -73,12 +77,17 @@ pub fn run_on(
         &mut buckets[..buckets_length],
         &mut pending[..pending_length],
         &mut answers[..answers_length],
-        center,
+        center.x,
+        center.y,
         &list[..points_length],
     );
-    let left = answer.counts;
+    let left = Counts {
+        vertices: r.vertices,
+        edges: r.edges,
+        faces: r.faces,
+    };
     Ran {
-        answer: answer,
+        result: r,
         mesh: calls::with_rows(mesh, left, positions, outs, halves, faces),
         answers: Longs {
             row: answers,
@@ -122,11 +131,10 @@ fn compare_answers(text: &[u8], lent: usize, told: usize, answers: Longs) -> Agr
 
 // Whether a run has left what the lines from a place on have; the places of the mesh and of the answers that were lent.
 fn run_agrees(text: &[u8], mesh: usize, answers: usize, at: usize, ran: Ran) -> bool {
-    let answer = ran.answer;
-    let finished = answer.finished;
+    let result = ran.result;
     let m = calls::compare_mesh(text, mesh, at, ran.mesh);
     let a = compare_answers(text, answers, m.at, ran.answers);
-    let numbers = calls::numbers_of(finished);
+    let numbers = calls::numbers_of(result);
     let line = test_text::is_line_of(text, a.at, b'r', &numbers);
     m.agrees & a.agrees & ran.cleared & line
 }

@@ -1,4 +1,4 @@
-// Single steps (tests/reference/run_cases.py step): every refusal and fate, rows exactly long enough and one entry short, points at and beside an edge's ends and line
+// Single steps by `fithmoul_step` (tests/reference/run_cases.py step): every refusal and fate, rows exactly long enough and one entry short, points at and beside an edge's ends and line
 // and at the limit of the coordinates, pending lists that fill, long walks, unsettled seeds. A case agrees where the answer, the counts and every row over its whole
 // length do: the ring's rows and pending are lent full of sevens.
 ghost use Prim.Native.Nat.{_≤_};
@@ -6,39 +6,30 @@ ghost use lib.ListN.{length};
 use super::calls;
 use super::calls::Ring;
 use angle::Point2;
+use fithmoul::results::StepResult;
 use math::Point;
-use sweep::Answer;
-use sweep::StepAnswer;
-use sweep::Stepped;
+use mesh::Counts;
 use test_mesh::Mesh;
 use test_mesh::WORDS;
 
 // What a step has answered and left; whether the ring's rows and pending hold what they must.
 struct After {
-    answer: StepAnswer,
+    result: StepResult,
     mesh: Mesh,
     cleared: bool,
 }
 
-// Fate, vertex, faces and flips after the refusal and its place.
-fn accepted(a: Answer) -> [u64; 6] {
-    let fate = a.fate;
-    let flips = a.flips;
+// Refusal, place, fate, vertex, faces and flips.
+fn numbers_of(r: StepResult) -> [u64; 6] {
+    let answer = r.answer;
     [
-        if flips.high == 0 { 0 } else { 99 },
-        0,
-        decide::fate_number(fate),
-        decide::fate_vertex(fate),
-        a.faces as u64,
-        flips.low,
+        calls::refusal_of(r.refusal, answer.flips_high),
+        r.place as u64,
+        answer.fate,
+        answer.vertex,
+        answer.faces,
+        answer.flips_low,
     ]
-}
-
-fn numbers_of(stepped: Stepped) -> [u64; 6] {
-    match stepped {
-        Stepped::Refused(r) => [r.number as u64, r.place as u64, 0, 0, 0, 0],
-        Stepped::Accepted(a) => accepted(a),
-    }
 }
 
 // A step on rows that are lent, the ring's and pending full of sevens, which must then hold v.
@@ -74,8 +65,11 @@ fn step_on(
     let nodes_length = ring.nodes;
     let freed_length = ring.freed;
     let buckets_length = ring.buckets;
-    let answer = step::step(
-        mesh.counts,
+    let counts = mesh.counts;
+    let r = fithmoul::fithmoul_step(
+        counts.vertices,
+        counts.edges,
+        counts.faces,
         &mut positions[..positions_length],
         &mut outs[..outs_length],
         &mut halves[..halves_length],
@@ -84,12 +78,18 @@ fn step_on(
         &mut freed[..freed_length],
         &mut buckets[..buckets_length],
         &mut pending[..pending_length],
-        center,
-        point,
+        center.x,
+        center.y,
+        point.x,
+        point.y,
     );
-    let left = answer.counts;
+    let left = Counts {
+        vertices: r.vertices,
+        edges: r.edges,
+        faces: r.faces,
+    };
     After {
-        answer: answer,
+        result: r,
         mesh: calls::with_rows(mesh, left, positions, outs, halves, faces),
         cleared: calls::ring_holds(ring, nodes, freed, buckets, v)
             & test_mesh::holds(pending, pending_length, v),
@@ -98,10 +98,9 @@ fn step_on(
 
 // Whether a step has left what the lines from a place on have; the place of the mesh that was lent.
 fn step_agrees(text: &[u8], mesh: usize, at: usize, after: After) -> bool {
-    let answer = after.answer;
-    let stepped = answer.stepped;
+    let result = after.result;
     let m = calls::compare_mesh(text, mesh, at, after.mesh);
-    let numbers = numbers_of(stepped);
+    let numbers = numbers_of(result);
     let line = test_text::is_line_of(text, m.at, b'r', &numbers);
     m.agrees & after.cleared & line
 }

@@ -1,16 +1,14 @@
 -- A run from its checks to its answer: what the checks give each call, and the calls' contracts one after another as the definition of a run has them. Assumes nothing.
-use mathlib.Core.Bool.{Bool, true, false, cond, _&&_}
+use mathlib.Core.Bool.{cond, _&&_}
 use mathlib.Core.List.{List}
 use mathlib.Core.Path.{_≡_, refl, sym, _∙_, ap, ap₂, subst}
-use Prim.Native.Nat.{ℕ, suc, _+_, _*_, _/_, _%_, _^_, _<_, _≤_}
+use Prim.Native.Nat.{ℕ, _*_, _/_, _%_, _<_, _≤_}
 use native.Mathlib.Decide.{decLt}
 use native.Mathlib.Omega.{arith}
 use borrow.Author.Tests.{lt-ltb, le-ltb, le-leb, lt-leb, ltb-false}
 use lib.Dec.{ltb, leb}
-use lib.Ieee.{Float}
 use lib.IntN.{ℤ}
-use lib.ListN.{length, getD, replicate}
-use Rattle.convexity.specs.ConvexityRows.{MeshReady}
+use lib.ListN.{length, getD}
 use Rattle.dcel.specs.Rows.{linksOf, positionOf, rowOf, rowFrom}
 use Rattle.dcel.specs.Views.{from-entries, outs-from, halves-from, faces-from, positions-from}
 use Rattle.finish.specs.declared.Ended.{Ended}
@@ -19,24 +17,20 @@ use Rattle.finish.specs.declared.Finished.{Finished}
 use Rattle.finish.specs.declared.Totals.{Totals}
 use Rattle.finish.specs.Finish.{Finishing, finishedFrom}
 use Rattle.finish.specs.FinishRows.{finishingOf}
-use Rattle.math.specs.declared.Point.{Point}
 use Rattle.mesh.specs.declared.Counts.{Counts}
-use Rattle.mesh.specs.Mesh.{Links}
 use Rattle.mesh.specs.CountsLaws.{count-edges, count-faces}
 use Rattle.mesh.specs.Good.{Good}
 use Rattle.mesh_check.specs.declared.Checked.{Checked}
 use Rattle.mesh_check.specs.declared.Refusal.{Refusal}
 use Rattle.mesh_check.specs.Check.{pointCount, vertexCount}
 use Rattle.ring_rows.specs.declared.Node.{Node}
-use Rattle.ring_rows.specs.declared.Hull.{Hull}
-use Rattle.start.specs.Start.{sweepChecked}
-use Rattle.start.specs.StartRows.{ToStart, Started, RowsCleared}
+use Rattle.start.specs.StartRows.{RowsCleared}
 use Rattle.sweep.specs.Step.{Stepping}
 use Rattle.run.specs.declared.SweepEnd.{SweepEnd}
 use Rattle.sweep.specs.Run.{Sweeping, finishAfter, answerWord, answersAfter, Lent, Outcome, outcome, runChecked, sweepOf, stepsOf, finishOf, outcomeOf, runOf}
 use Rattle.sweep.specs.Demand3.{Demand3}
 use Rattle.sweep.specs.RunLaws.{run-accepts, run-start, run-keeps, run-accepted}
-use Rattle.run.specs.RunRows.{Zeroed, sweepingOf, SweepReady, SweepLeaves, FinishReady}
+use Rattle.run.specs.RunRows.{Zeroed, sweepingOf, SweepLeaves, FinishReady}
 
 -- ---- rows by their entries
 -- the answers of those that were answered, and zeros for the others
@@ -55,50 +49,13 @@ answers-from old mid new step answered count most k e Z =
     at x (no a) (yes b) = rw (le-leb (5 * answered) x (omega arith), lt-ltb x (5 * count) b, le-ltb (x / 5) answered (omega arith)) refl
     at x (no a) (no b) = rw (le-leb (5 * answered) x (omega arith), le-ltb x (5 * count) (omega arith)) (e x ∙ rw (le-ltb x (5 * answered) (omega arith)) refl)
 
--- ---- what the checks give
+-- ---- from the steps to the answer
 module _ (l : Lent) (e : runChecked l ≡ Checked.Accepted) where
   abbrev C : Counts
   C = l .counts
 
   abbrev n : ℕ
   n = pointCount (l .points)
-
-  pub points-fit : n < 2 ^ 32
-  unfolding vertexCount
-  points-fit = let m = run-start l e .mesh .most in omega arith
-
-  pub to-start : ToStart C (l .positions) (l .halves) (l .faces) (length (l .nodes)) (length (l .buckets)) (l .centerx) (l .centery)
-  unfolding vertexCount
-  to-start =
-      let r = run-accepts l e .ring-rows in
-      record { points = l .points; outs = l .outs; start = run-start l e; node-room = let k = r .nodes-fit in omega arith; bucket-room = let k = r .sixteen in omega arith }
-
-  pub to-sweep : (nodes : List Node) (buckets : List ℕ) (hull : Hull) → Started C (l .positions) (l .halves) (l .faces) nodes buckets hull (l .centerx) (l .centery)
-      → length nodes ≡ length (l .nodes) → length buckets ≡ length (l .buckets) → (count : ℕ) → count ≡ n
-      → SweepReady C (l .positions) (l .outs) (l .halves) (l .faces) (l .pending) nodes (l .freed) buckets (l .answers) hull (l .centerx) (l .centery) (l .points) count
-  unfolding vertexCount
-  to-sweep nodes buckets hull S u v count c =
-      let A = run-accepts l e in
-      let M = run-start l e .mesh in
-      let m = M .most in
-      let p = M .rows .positions in let o = M .rows .outs in let h = M .rows .halves in let f = M .rows .faces in
-      let x = A .ring-rows .nodes-fit in let y = A .ring-rows .freed-fit in let z = A .ring-rows .buckets-fit in
-      record {
-        sweep = S .sweep (run-start l e) (omega arith);
-        room = record {
-          most = omega arith;
-          positions = omega arith;
-          outs = omega arith;
-          sized = record { halves = omega arith; faces = omega arith; pending = A .pending-rows; small = omega arith };
-          node-room = omega arith;
-          freed-room = omega arith;
-          bucket-room = omega arith;
-          nodes-most = let k = S .nodes-most in omega arith;
-        };
-        range = λ i k. M .range (omega arith);
-        pairs = let k = M .pairs in omega arith;
-        answers-room = let k = ltb-false (length (l .answers)) (5 * n) (A .others) in omega arith;
-      }
 
   -- ---- after the steps
   module _ (count : ℕ) (c : count ≡ n) (q₁ : List ℤ) (o₁ h₁ a₁ answers₁ : List ℕ) (end : SweepEnd)
@@ -196,14 +153,6 @@ pub refused-run : (l : Lent) (x : Refusal) → Checked.Refused x ≡ runChecked 
     → outcome (record { counts = l .counts; finished = Finished.Refused x }) (l .positions) (l .outs) (l .halves) (l .faces) (l .nodes) (l .freed) (l .buckets) (l .pending) (l .answers) ≡ runOf l
 unfolding runOf outcomeOf
 refused-run l x e = rw (← e) refl
-
--- the checks, with the test of the answers row
-pub run-checks : (l : Lent) {short : Bool} {r : Checked} → short ≡ ltb (length (l .answers)) (5 * pointCount (l .points))
-    → r ≡ sweepChecked (l .points) short (l .counts) (l .positions) (l .outs) (l .halves) (l .faces)
-    (length (l .nodes)) (length (l .freed)) (length (l .buckets)) (length (l .pending)) (l .centerx) (l .centery)
-    → r ≡ runChecked l
-unfolding runChecked
-run-checks l s e = e ∙ rw s refl
 
 -- demand 3 of what a run answers and leaves, from the equation
 pub run-demand : (l : Lent) (R : Outcome) → R ≡ runOf l → (t : Totals) → R .answer .finished ≡ Finished.Accepted t → Demand3 l R t

@@ -1,2 +1,3 @@
--- `RunRows` has what the functions ask of rows and leave.
+-- `RunRows` has what the functions ask of rows and leave, `RunReady` what the checks give them.
 pub mod RunRows
+pub mod RunReady

@@ -63,14 +63,14 @@ fn zero_answers(answers: &mut [u64], from: u32, to: u32)
 }
 
 // 2, of the answers row: it has five words for each point.
-fn answers_short(answers: usize, points: &[i32]) -> bool
+pub fn answers_short(answers: usize, points: &[i32]) -> bool
     ensures { λ r. ⌜ r ≡ ltb answers (5 * pointCount (now (points .entry))) ⌝ }
 {
     answers / 5 < mesh_check::point_count(points)
 }
 
 // All steps, in list order, until a flip is refused.
-fn sweep(
+pub fn sweep(
     positions: &mut [i32],
     outs: &mut [u32],
     halves: &mut [u32],

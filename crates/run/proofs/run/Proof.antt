@@ -1,7 +1,8 @@
 -- `run::run` meets its contract. Assumes nothing.
 use borrow.Author.Needs.{needs}
 use mathlib.Core.Path.{sym, _∙_}
-use Rattle.run.proofs.RunDone.{refused-run, run-checks, run-demand}
+use Rattle.run.proofs.RunDone.{refused-run, run-demand}
+use Rattle.run.specs.RunReady.{run-checks}
 use Rattle.run.proofs.run.Statement.{statement}
 use Rattle.run.proofs.run.Proof.Tie as tie
 mod Lts

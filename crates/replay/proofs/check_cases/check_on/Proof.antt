@@ -6,34 +6,37 @@ use Rattle.replay.proofs.check_cases.check_on.Statement.{statement}
 use Rattle.replay.proofs.check_cases.check_on.Tie as tie
 
 array-share-prefix-positions : tie.Need-array-share-prefix-positions
-array-share-prefix-positions c = c .before .before .before .before .pre .0
+array-share-prefix-positions c = c .before .before .before .before .before .pre .0
 
-slice-aggregate-check : tie.Need-slice-aggregate-check
-slice-aggregate-check c = part _ _ (c .before .before .before .before .before .args .mesh .positions .row) refl (c .before .before .before .before .before .pre .0)
+slice-aggregate-fithmoul-check : tie.Need-slice-aggregate-fithmoul-check
+slice-aggregate-fithmoul-check c = part _ _ (c .before .before .before .before .before .before .args .mesh .positions .row) refl (c .before .before .before .before .before .before .pre .0)
 
 array-share-prefix-outs : tie.Need-array-share-prefix-outs
-array-share-prefix-outs c = c .before .before .before .before .before .pre .1 .0
+array-share-prefix-outs c = c .before .before .before .before .before .before .pre .1 .0
 
-slice-aggregate-check-2 : tie.Need-slice-aggregate-check-2
-slice-aggregate-check-2 c = part _ _ (c .before .before .before .before .before .before .args .mesh .outs .row) refl (c .before .before .before .before .before .before .pre .1 .0)
+slice-aggregate-fithmoul-check-2 : tie.Need-slice-aggregate-fithmoul-check-2
+slice-aggregate-fithmoul-check-2 c = part _ _ (c .before .before .before .before .before .before .before .args .mesh .outs .row) refl (c .before .before .before .before .before .before .before .pre .1 .0)
 
 array-share-prefix-halves : tie.Need-array-share-prefix-halves
-array-share-prefix-halves c = c .before .before .before .before .before .before .pre .1 .1 .0
+array-share-prefix-halves c = c .before .before .before .before .before .before .before .pre .1 .1 .0
 
-slice-aggregate-check-3 : tie.Need-slice-aggregate-check-3
-slice-aggregate-check-3 c = part _ _ (c .before .before .before .before .before .before .before .args .mesh .halves .row) refl (c .before .before .before .before .before .before .before .pre .1 .1 .0)
+slice-aggregate-fithmoul-check-3 : tie.Need-slice-aggregate-fithmoul-check-3
+slice-aggregate-fithmoul-check-3 c = part _ _ (c .before .before .before .before .before .before .before .before .args .mesh .halves .row) refl (c .before .before .before .before .before .before .before .before .pre .1 .1 .0)
 
 array-share-prefix-faces : tie.Need-array-share-prefix-faces
-array-share-prefix-faces c = c .before .before .before .before .before .before .before .pre .1 .1 .1
+array-share-prefix-faces c = c .before .before .before .before .before .before .before .before .pre .1 .1 .1
 
-slice-aggregate-check-4 : tie.Need-slice-aggregate-check-4
-slice-aggregate-check-4 c = part _ _ (c .before .before .before .before .before .before .before .before .args .mesh .faces .row) refl (c .before .before .before .before .before .before .before .before .pre .1 .1 .1)
+slice-aggregate-fithmoul-check-4 : tie.Need-slice-aggregate-fithmoul-check-4
+slice-aggregate-fithmoul-check-4 c = part _ _ (c .before .before .before .before .before .before .before .before .before .args .mesh .faces .row) refl (c .before .before .before .before .before .before .before .before .before .pre .1 .1 .1)
 
-check-requires : tie.Need-check-requires
-check-requires c κs = search needs
+fithmoul-check-requires : tie.Need-fithmoul-check-requires
+fithmoul-check-requires c κs = search needs
 
-numbers-of-requires : tie.Need-numbers-of-requires
-numbers-of-requires c κs = search needs
+cast-t20 : tie.Need-cast-t20
+cast-t20 c = search needs
+
+cast-t21 : tie.Need-cast-t21
+cast-t21 c = search needs
 
 returns : tie.Need-returns
 returns c = search needs
@@ -43,13 +46,14 @@ check-on-spec =
     tie.close
     (tie.spec
     array-share-prefix-positions
-    slice-aggregate-check
+    slice-aggregate-fithmoul-check
     array-share-prefix-outs
-    slice-aggregate-check-2
+    slice-aggregate-fithmoul-check-2
     array-share-prefix-halves
-    slice-aggregate-check-3
+    slice-aggregate-fithmoul-check-3
     array-share-prefix-faces
-    slice-aggregate-check-4
-    check-requires
-    numbers-of-requires
+    slice-aggregate-fithmoul-check-4
+    fithmoul-check-requires
+    cast-t20
+    cast-t21
     returns)

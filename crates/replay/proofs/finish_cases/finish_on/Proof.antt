@@ -7,37 +7,37 @@ use Rattle.replay.proofs.finish_cases.finish_on.Statement.{statement}
 use Rattle.replay.proofs.finish_cases.finish_on.Tie as tie
 
 array-share-prefix-positions : tie.Need-array-share-prefix-positions
-array-share-prefix-positions c = c .before .before .before .before .pre .0
+array-share-prefix-positions c = c .before .before .before .before .before .pre .0
 
-slice-aggregate-finish : tie.Need-slice-aggregate-finish
-slice-aggregate-finish c = part _ _ (c .before .before .before .before .before .args .mesh .positions .row) refl (c .before .before .before .before .before .pre .0)
+slice-aggregate-fithmoul-finish : tie.Need-slice-aggregate-fithmoul-finish
+slice-aggregate-fithmoul-finish c = part _ _ (c .before .before .before .before .before .before .args .mesh .positions .row) refl (c .before .before .before .before .before .before .pre .0)
 
 array-borrow-prefix-outs : tie.Need-array-borrow-prefix-outs
-array-borrow-prefix-outs c = c .before .before .before .before .before .pre .1 .0
+array-borrow-prefix-outs c = c .before .before .before .before .before .before .pre .1 .0
 
-slice-aggregate-finish-2 : tie.Need-slice-aggregate-finish-2
-slice-aggregate-finish-2 c = part _ _ (c .before .before .before .before .before .before .args .mesh .outs .row) refl (c .before .before .before .before .before .before .pre .1 .0)
+slice-aggregate-fithmoul-finish-2 : tie.Need-slice-aggregate-fithmoul-finish-2
+slice-aggregate-fithmoul-finish-2 c = part _ _ (c .before .before .before .before .before .before .before .args .mesh .outs .row) refl (c .before .before .before .before .before .before .before .pre .1 .0)
 
 array-borrow-prefix-halves : tie.Need-array-borrow-prefix-halves
-array-borrow-prefix-halves c = c .before .before .before .before .before .before .pre .1 .1 .0
+array-borrow-prefix-halves c = c .before .before .before .before .before .before .before .pre .1 .1 .0
 
-slice-aggregate-finish-3 : tie.Need-slice-aggregate-finish-3
-slice-aggregate-finish-3 c = part _ _ (c .before .before .before .before .before .before .before .args .mesh .halves .row) refl (c .before .before .before .before .before .before .before .pre .1 .1 .0)
+slice-aggregate-fithmoul-finish-3 : tie.Need-slice-aggregate-fithmoul-finish-3
+slice-aggregate-fithmoul-finish-3 c = part _ _ (c .before .before .before .before .before .before .before .before .args .mesh .halves .row) refl (c .before .before .before .before .before .before .before .before .pre .1 .1 .0)
 
 array-borrow-prefix-faces : tie.Need-array-borrow-prefix-faces
-array-borrow-prefix-faces c = c .before .before .before .before .before .before .before .pre .1 .1 .1 .0
+array-borrow-prefix-faces c = c .before .before .before .before .before .before .before .before .pre .1 .1 .1 .0
 
-slice-aggregate-finish-4 : tie.Need-slice-aggregate-finish-4
-slice-aggregate-finish-4 c = part _ _ (c .before .before .before .before .before .before .before .before .args .mesh .faces .row) refl (c .before .before .before .before .before .before .before .before .pre .1 .1 .1 .0)
+slice-aggregate-fithmoul-finish-4 : tie.Need-slice-aggregate-fithmoul-finish-4
+slice-aggregate-fithmoul-finish-4 c = part _ _ (c .before .before .before .before .before .before .before .before .before .args .mesh .faces .row) refl (c .before .before .before .before .before .before .before .before .before .pre .1 .1 .1 .0)
 
 array-borrow-prefix-pending : tie.Need-array-borrow-prefix-pending
-array-borrow-prefix-pending c = c .before .before .before .before .before .before .before .before .pre .1 .1 .1 .1
+array-borrow-prefix-pending c = c .before .before .before .before .before .before .before .before .before .pre .1 .1 .1 .1
 
-slice-aggregate-finish-5 : tie.Need-slice-aggregate-finish-5
-slice-aggregate-finish-5 c = part _ 6144 (replicate 6144 7) refl (c .before .before .before .before .before .before .before .before .before .pre .1 .1 .1 .1)
+slice-aggregate-fithmoul-finish-5 : tie.Need-slice-aggregate-fithmoul-finish-5
+slice-aggregate-fithmoul-finish-5 c = part _ 6144 (replicate 6144 7) refl (c .before .before .before .before .before .before .before .before .before .before .pre .1 .1 .1 .1)
 
-finish-requires : tie.Need-finish-requires
-finish-requires c κs = search needs
+fithmoul-finish-requires : tie.Need-fithmoul-finish-requires
+fithmoul-finish-requires c κs = search needs
 
 with-rows-requires : tie.Need-with-rows-requires
 with-rows-requires c κs = search needs
@@ -53,16 +53,16 @@ finish-on-spec =
     tie.close
     (tie.spec
     array-share-prefix-positions
-    slice-aggregate-finish
+    slice-aggregate-fithmoul-finish
     array-borrow-prefix-outs
-    slice-aggregate-finish-2
+    slice-aggregate-fithmoul-finish-2
     array-borrow-prefix-halves
-    slice-aggregate-finish-3
+    slice-aggregate-fithmoul-finish-3
     array-borrow-prefix-faces
-    slice-aggregate-finish-4
+    slice-aggregate-fithmoul-finish-4
     array-borrow-prefix-pending
-    slice-aggregate-finish-5
-    finish-requires
+    slice-aggregate-fithmoul-finish-5
+    fithmoul-finish-requires
     with-rows-requires
     holds-requires
     returns)

@@ -13,61 +13,67 @@ seven-nodes-requires : tie.Need-seven-nodes-requires
 seven-nodes-requires c κs = search needs
 
 array-share-prefix-positions : tie.Need-array-share-prefix-positions
-array-share-prefix-positions c = c .before .before .before .before .before .pre .0
+array-share-prefix-positions c = c .before .before .before .before .before .before .pre .0
 
-slice-aggregate-locate : tie.Need-slice-aggregate-locate
-slice-aggregate-locate c = part _ _ (c .before .before .before .before .before .before .args .mesh .positions .row) refl (c .before .before .before .before .before .before .pre .0)
+slice-aggregate-fithmoul-locate : tie.Need-slice-aggregate-fithmoul-locate
+slice-aggregate-fithmoul-locate c = part _ _ (c .before .before .before .before .before .before .before .args .mesh .positions .row) refl (c .before .before .before .before .before .before .before .pre .0)
 
 array-share-prefix-outs : tie.Need-array-share-prefix-outs
-array-share-prefix-outs c = c .before .before .before .before .before .before .pre .1 .0
+array-share-prefix-outs c = c .before .before .before .before .before .before .before .pre .1 .0
 
-slice-aggregate-locate-2 : tie.Need-slice-aggregate-locate-2
-slice-aggregate-locate-2 c = part _ _ (c .before .before .before .before .before .before .before .args .mesh .outs .row) refl (c .before .before .before .before .before .before .before .pre .1 .0)
+slice-aggregate-fithmoul-locate-2 : tie.Need-slice-aggregate-fithmoul-locate-2
+slice-aggregate-fithmoul-locate-2 c = part _ _ (c .before .before .before .before .before .before .before .before .args .mesh .outs .row) refl (c .before .before .before .before .before .before .before .before .pre .1 .0)
 
 array-share-prefix-halves : tie.Need-array-share-prefix-halves
-array-share-prefix-halves c = c .before .before .before .before .before .before .before .pre .1 .1 .0
+array-share-prefix-halves c = c .before .before .before .before .before .before .before .before .pre .1 .1 .0
 
-slice-aggregate-locate-3 : tie.Need-slice-aggregate-locate-3
-slice-aggregate-locate-3 c = part _ _ (c .before .before .before .before .before .before .before .before .args .mesh .halves .row) refl (c .before .before .before .before .before .before .before .before .pre .1 .1 .0)
+slice-aggregate-fithmoul-locate-3 : tie.Need-slice-aggregate-fithmoul-locate-3
+slice-aggregate-fithmoul-locate-3 c = part _ _ (c .before .before .before .before .before .before .before .before .before .args .mesh .halves .row) refl (c .before .before .before .before .before .before .before .before .before .pre .1 .1 .0)
 
 array-share-prefix-faces : tie.Need-array-share-prefix-faces
-array-share-prefix-faces c = c .before .before .before .before .before .before .before .before .pre .1 .1 .1 .0
+array-share-prefix-faces c = c .before .before .before .before .before .before .before .before .before .pre .1 .1 .1 .0
 
-slice-aggregate-locate-4 : tie.Need-slice-aggregate-locate-4
-slice-aggregate-locate-4 c = part _ _ (c .before .before .before .before .before .before .before .before .before .args .mesh .faces .row) refl (c .before .before .before .before .before .before .before .before .before .pre .1 .1 .1 .0)
+slice-aggregate-fithmoul-locate-4 : tie.Need-slice-aggregate-fithmoul-locate-4
+slice-aggregate-fithmoul-locate-4 c = part _ _ (c .before .before .before .before .before .before .before .before .before .before .args .mesh .faces .row) refl (c .before .before .before .before .before .before .before .before .before .before .pre .1 .1 .1 .0)
 
 array-borrow-prefix-nodes : tie.Need-array-borrow-prefix-nodes
-array-borrow-prefix-nodes c = within (c .before .before .before .before .seven-nodes .ensures) (c .before .before .before .before .before .before .before .before .before .pre .1 .1 .1 .1 .0)
+array-borrow-prefix-nodes c = within (c .before .before .before .before .before .seven-nodes .ensures) (c .before .before .before .before .before .before .before .before .before .before .pre .1 .1 .1 .1 .0)
 
-slice-aggregate-locate-5 : tie.Need-slice-aggregate-locate-5
-slice-aggregate-locate-5 c = part _ 256 _ (c .before .before .before .before .before .seven-nodes .ensures) (c .before .before .before .before .before .before .before .before .before .before .pre .1 .1 .1 .1 .0)
+slice-aggregate-fithmoul-locate-5 : tie.Need-slice-aggregate-fithmoul-locate-5
+slice-aggregate-fithmoul-locate-5 c = part _ 256 _ (c .before .before .before .before .before .before .seven-nodes .ensures) (c .before .before .before .before .before .before .before .before .before .before .before .pre .1 .1 .1 .1 .0)
 
 array-borrow-prefix-freed : tie.Need-array-borrow-prefix-freed
-array-borrow-prefix-freed c = c .before .before .before .before .before .before .before .before .before .before .pre .1 .1 .1 .1 .1 .0
+array-borrow-prefix-freed c = c .before .before .before .before .before .before .before .before .before .before .before .pre .1 .1 .1 .1 .1 .0
 
-slice-aggregate-locate-6 : tie.Need-slice-aggregate-locate-6
-slice-aggregate-locate-6 c = part _ 6144 (replicate 6144 7) refl (c .before .before .before .before .before .before .before .before .before .before .before .pre .1 .1 .1 .1 .1 .0)
+slice-aggregate-fithmoul-locate-6 : tie.Need-slice-aggregate-fithmoul-locate-6
+slice-aggregate-fithmoul-locate-6 c = part _ 6144 (replicate 6144 7) refl (c .before .before .before .before .before .before .before .before .before .before .before .before .pre .1 .1 .1 .1 .1 .0)
 
 array-borrow-prefix-buckets : tie.Need-array-borrow-prefix-buckets
-array-borrow-prefix-buckets c = c .before .before .before .before .before .before .before .before .before .before .before .pre .1 .1 .1 .1 .1 .1
+array-borrow-prefix-buckets c = c .before .before .before .before .before .before .before .before .before .before .before .before .pre .1 .1 .1 .1 .1 .1
 
-slice-aggregate-locate-7 : tie.Need-slice-aggregate-locate-7
-slice-aggregate-locate-7 c = part _ 6144 (replicate 6144 7) refl (c .before .before .before .before .before .before .before .before .before .before .before .before .pre .1 .1 .1 .1 .1 .1)
+slice-aggregate-fithmoul-locate-7 : tie.Need-slice-aggregate-fithmoul-locate-7
+slice-aggregate-fithmoul-locate-7 c = part _ 6144 (replicate 6144 7) refl (c .before .before .before .before .before .before .before .before .before .before .before .before .before .pre .1 .1 .1 .1 .1 .1)
 
 double-requires : tie.Need-double-requires
 double-requires c κs = search needs
 
-locate-requires : tie.Need-locate-requires
-locate-requires c κs = search needs
-
-numbers-of-requires : tie.Need-numbers-of-requires
-numbers-of-requires c κs = search needs
-
-array-read-if1 : tie.Need-array-read-if1
-array-read-if1 c = search needs
+fithmoul-locate-requires : tie.Need-fithmoul-locate-requires
+fithmoul-locate-requires c κs = search needs
 
 ring-holds-requires : tie.Need-ring-holds-requires
 ring-holds-requires c κs = search needs
+
+cast-t43 : tie.Need-cast-t43
+cast-t43 c = search needs
+
+cast-t44 : tie.Need-cast-t44
+cast-t44 c = search needs
+
+cast-t45 : tie.Need-cast-t45
+cast-t45 c = search needs
+
+cast-t46 : tie.Need-cast-t46
+cast-t46 c = search needs
 
 returns : tie.Need-returns
 returns c = search needs
@@ -81,23 +87,25 @@ locate-on-spec =
     (tie.spec
     seven-nodes-requires
     array-share-prefix-positions
-    slice-aggregate-locate
+    slice-aggregate-fithmoul-locate
     array-share-prefix-outs
-    slice-aggregate-locate-2
+    slice-aggregate-fithmoul-locate-2
     array-share-prefix-halves
-    slice-aggregate-locate-3
+    slice-aggregate-fithmoul-locate-3
     array-share-prefix-faces
-    slice-aggregate-locate-4
+    slice-aggregate-fithmoul-locate-4
     array-borrow-prefix-nodes
-    slice-aggregate-locate-5
+    slice-aggregate-fithmoul-locate-5
     array-borrow-prefix-freed
-    slice-aggregate-locate-6
+    slice-aggregate-fithmoul-locate-6
     array-borrow-prefix-buckets
-    slice-aggregate-locate-7
+    slice-aggregate-fithmoul-locate-7
     double-requires
-    locate-requires
-    numbers-of-requires
-    array-read-if1
+    fithmoul-locate-requires
     ring-holds-requires
+    cast-t43
+    cast-t44
+    cast-t45
+    cast-t46
     returns
     returns-2)

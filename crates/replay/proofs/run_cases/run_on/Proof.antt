@@ -13,67 +13,67 @@ seven-nodes-requires : tie.Need-seven-nodes-requires
 seven-nodes-requires c κs = search needs
 
 array-borrow-prefix-positions : tie.Need-array-borrow-prefix-positions
-array-borrow-prefix-positions c = c .before .before .before .before .before .before .pre .0
+array-borrow-prefix-positions c = c .before .before .before .before .before .before .before .pre .0
 
-slice-aggregate-run : tie.Need-slice-aggregate-run
-slice-aggregate-run c = part _ _ (c .before .before .before .before .before .before .before .args .mesh .positions .row) refl (c .before .before .before .before .before .before .before .pre .0)
+slice-aggregate-fithmoul-run : tie.Need-slice-aggregate-fithmoul-run
+slice-aggregate-fithmoul-run c = part _ _ (c .before .before .before .before .before .before .before .before .args .mesh .positions .row) refl (c .before .before .before .before .before .before .before .before .pre .0)
 
 array-borrow-prefix-outs : tie.Need-array-borrow-prefix-outs
-array-borrow-prefix-outs c = c .before .before .before .before .before .before .before .pre .1 .0
+array-borrow-prefix-outs c = c .before .before .before .before .before .before .before .before .pre .1 .0
 
-slice-aggregate-run-2 : tie.Need-slice-aggregate-run-2
-slice-aggregate-run-2 c = part _ _ (c .before .before .before .before .before .before .before .before .args .mesh .outs .row) refl (c .before .before .before .before .before .before .before .before .pre .1 .0)
+slice-aggregate-fithmoul-run-2 : tie.Need-slice-aggregate-fithmoul-run-2
+slice-aggregate-fithmoul-run-2 c = part _ _ (c .before .before .before .before .before .before .before .before .before .args .mesh .outs .row) refl (c .before .before .before .before .before .before .before .before .before .pre .1 .0)
 
 array-borrow-prefix-halves : tie.Need-array-borrow-prefix-halves
-array-borrow-prefix-halves c = c .before .before .before .before .before .before .before .before .pre .1 .1 .0
+array-borrow-prefix-halves c = c .before .before .before .before .before .before .before .before .before .pre .1 .1 .0
 
-slice-aggregate-run-3 : tie.Need-slice-aggregate-run-3
-slice-aggregate-run-3 c = part _ _ (c .before .before .before .before .before .before .before .before .before .args .mesh .halves .row) refl (c .before .before .before .before .before .before .before .before .before .pre .1 .1 .0)
+slice-aggregate-fithmoul-run-3 : tie.Need-slice-aggregate-fithmoul-run-3
+slice-aggregate-fithmoul-run-3 c = part _ _ (c .before .before .before .before .before .before .before .before .before .before .args .mesh .halves .row) refl (c .before .before .before .before .before .before .before .before .before .before .pre .1 .1 .0)
 
 array-borrow-prefix-faces : tie.Need-array-borrow-prefix-faces
-array-borrow-prefix-faces c = c .before .before .before .before .before .before .before .before .before .pre .1 .1 .1 .0
+array-borrow-prefix-faces c = c .before .before .before .before .before .before .before .before .before .before .pre .1 .1 .1 .0
 
-slice-aggregate-run-4 : tie.Need-slice-aggregate-run-4
-slice-aggregate-run-4 c = part _ _ (c .before .before .before .before .before .before .before .before .before .before .args .mesh .faces .row) refl (c .before .before .before .before .before .before .before .before .before .before .pre .1 .1 .1 .0)
+slice-aggregate-fithmoul-run-4 : tie.Need-slice-aggregate-fithmoul-run-4
+slice-aggregate-fithmoul-run-4 c = part _ _ (c .before .before .before .before .before .before .before .before .before .before .before .args .mesh .faces .row) refl (c .before .before .before .before .before .before .before .before .before .before .before .pre .1 .1 .1 .0)
 
 array-borrow-prefix-nodes : tie.Need-array-borrow-prefix-nodes
-array-borrow-prefix-nodes c = within (c .before .before .before .before .before .seven-nodes .ensures) (c .before .before .before .before .before .before .before .before .before .before .pre .1 .1 .1 .1 .0)
+array-borrow-prefix-nodes c = within (c .before .before .before .before .before .before .seven-nodes .ensures) (c .before .before .before .before .before .before .before .before .before .before .before .pre .1 .1 .1 .1 .0)
 
-slice-aggregate-run-5 : tie.Need-slice-aggregate-run-5
-slice-aggregate-run-5 c = part _ 256 _ (c .before .before .before .before .before .before .seven-nodes .ensures) (c .before .before .before .before .before .before .before .before .before .before .before .pre .1 .1 .1 .1 .0)
+slice-aggregate-fithmoul-run-5 : tie.Need-slice-aggregate-fithmoul-run-5
+slice-aggregate-fithmoul-run-5 c = part _ 256 _ (c .before .before .before .before .before .before .before .seven-nodes .ensures) (c .before .before .before .before .before .before .before .before .before .before .before .before .pre .1 .1 .1 .1 .0)
 
 array-borrow-prefix-freed : tie.Need-array-borrow-prefix-freed
-array-borrow-prefix-freed c = c .before .before .before .before .before .before .before .before .before .before .before .pre .1 .1 .1 .1 .1 .0
+array-borrow-prefix-freed c = c .before .before .before .before .before .before .before .before .before .before .before .before .pre .1 .1 .1 .1 .1 .0
 
-slice-aggregate-run-6 : tie.Need-slice-aggregate-run-6
-slice-aggregate-run-6 c = part _ 6144 (replicate 6144 7) refl (c .before .before .before .before .before .before .before .before .before .before .before .before .pre .1 .1 .1 .1 .1 .0)
+slice-aggregate-fithmoul-run-6 : tie.Need-slice-aggregate-fithmoul-run-6
+slice-aggregate-fithmoul-run-6 c = part _ 6144 (replicate 6144 7) refl (c .before .before .before .before .before .before .before .before .before .before .before .before .before .pre .1 .1 .1 .1 .1 .0)
 
 array-borrow-prefix-buckets : tie.Need-array-borrow-prefix-buckets
-array-borrow-prefix-buckets c = c .before .before .before .before .before .before .before .before .before .before .before .before .pre .1 .1 .1 .1 .1 .1 .0
+array-borrow-prefix-buckets c = c .before .before .before .before .before .before .before .before .before .before .before .before .before .pre .1 .1 .1 .1 .1 .1 .0
 
-slice-aggregate-run-7 : tie.Need-slice-aggregate-run-7
-slice-aggregate-run-7 c = part _ 6144 (replicate 6144 7) refl (c .before .before .before .before .before .before .before .before .before .before .before .before .before .pre .1 .1 .1 .1 .1 .1 .0)
+slice-aggregate-fithmoul-run-7 : tie.Need-slice-aggregate-fithmoul-run-7
+slice-aggregate-fithmoul-run-7 c = part _ 6144 (replicate 6144 7) refl (c .before .before .before .before .before .before .before .before .before .before .before .before .before .before .pre .1 .1 .1 .1 .1 .1 .0)
 
 array-borrow-prefix-pending : tie.Need-array-borrow-prefix-pending
-array-borrow-prefix-pending c = c .before .before .before .before .before .before .before .before .before .before .before .before .before .pre .1 .1 .1 .1 .1 .1 .1 .0
+array-borrow-prefix-pending c = c .before .before .before .before .before .before .before .before .before .before .before .before .before .before .pre .1 .1 .1 .1 .1 .1 .1 .0
 
-slice-aggregate-run-8 : tie.Need-slice-aggregate-run-8
-slice-aggregate-run-8 c = part _ 6144 (replicate 6144 7) refl (c .before .before .before .before .before .before .before .before .before .before .before .before .before .before .pre .1 .1 .1 .1 .1 .1 .1 .0)
+slice-aggregate-fithmoul-run-8 : tie.Need-slice-aggregate-fithmoul-run-8
+slice-aggregate-fithmoul-run-8 c = part _ 6144 (replicate 6144 7) refl (c .before .before .before .before .before .before .before .before .before .before .before .before .before .before .before .pre .1 .1 .1 .1 .1 .1 .1 .0)
 
 array-borrow-prefix-answers : tie.Need-array-borrow-prefix-answers
-array-borrow-prefix-answers c = c .before .before .before .before .before .before .before .before .before .before .before .before .before .before .pre .1 .1 .1 .1 .1 .1 .1 .1 .0
+array-borrow-prefix-answers c = c .before .before .before .before .before .before .before .before .before .before .before .before .before .before .before .pre .1 .1 .1 .1 .1 .1 .1 .1 .0
 
-slice-aggregate-run-9 : tie.Need-slice-aggregate-run-9
-slice-aggregate-run-9 c = part _ 1280 (replicate 1280 7) refl (c .before .before .before .before .before .before .before .before .before .before .before .before .before .before .before .pre .1 .1 .1 .1 .1 .1 .1 .1 .0)
+slice-aggregate-fithmoul-run-9 : tie.Need-slice-aggregate-fithmoul-run-9
+slice-aggregate-fithmoul-run-9 c = part _ 1280 (replicate 1280 7) refl (c .before .before .before .before .before .before .before .before .before .before .before .before .before .before .before .before .pre .1 .1 .1 .1 .1 .1 .1 .1 .0)
 
 array-share-prefix-list : tie.Need-array-share-prefix-list
-array-share-prefix-list c = c .before .before .before .before .before .before .before .before .before .before .before .before .before .before .before .pre .1 .1 .1 .1 .1 .1 .1 .1 .1
+array-share-prefix-list c = c .before .before .before .before .before .before .before .before .before .before .before .before .before .before .before .before .pre .1 .1 .1 .1 .1 .1 .1 .1 .1
 
-slice-aggregate-run-10 : tie.Need-slice-aggregate-run-10
-slice-aggregate-run-10 c = part _ _ (c .before .before .before .before .before .before .before .before .before .before .before .before .before .before .before .before .args .points .row) refl (c .before .before .before .before .before .before .before .before .before .before .before .before .before .before .before .before .pre .1 .1 .1 .1 .1 .1 .1 .1 .1)
+slice-aggregate-fithmoul-run-10 : tie.Need-slice-aggregate-fithmoul-run-10
+slice-aggregate-fithmoul-run-10 c = part _ _ (c .before .before .before .before .before .before .before .before .before .before .before .before .before .before .before .before .before .args .points .row) refl (c .before .before .before .before .before .before .before .before .before .before .before .before .before .before .before .before .before .pre .1 .1 .1 .1 .1 .1 .1 .1 .1)
 
-run-requires : tie.Need-run-requires
-run-requires c κs = search needs
+fithmoul-run-requires : tie.Need-fithmoul-run-requires
+fithmoul-run-requires c κs = search needs
 
 with-rows-requires : tie.Need-with-rows-requires
 with-rows-requires c κs = search needs
@@ -93,26 +93,26 @@ run-on-spec =
     (tie.spec
     seven-nodes-requires
     array-borrow-prefix-positions
-    slice-aggregate-run
+    slice-aggregate-fithmoul-run
     array-borrow-prefix-outs
-    slice-aggregate-run-2
+    slice-aggregate-fithmoul-run-2
     array-borrow-prefix-halves
-    slice-aggregate-run-3
+    slice-aggregate-fithmoul-run-3
     array-borrow-prefix-faces
-    slice-aggregate-run-4
+    slice-aggregate-fithmoul-run-4
     array-borrow-prefix-nodes
-    slice-aggregate-run-5
+    slice-aggregate-fithmoul-run-5
     array-borrow-prefix-freed
-    slice-aggregate-run-6
+    slice-aggregate-fithmoul-run-6
     array-borrow-prefix-buckets
-    slice-aggregate-run-7
+    slice-aggregate-fithmoul-run-7
     array-borrow-prefix-pending
-    slice-aggregate-run-8
+    slice-aggregate-fithmoul-run-8
     array-borrow-prefix-answers
-    slice-aggregate-run-9
+    slice-aggregate-fithmoul-run-9
     array-share-prefix-list
-    slice-aggregate-run-10
-    run-requires
+    slice-aggregate-fithmoul-run-10
+    fithmoul-run-requires
     with-rows-requires
     ring-holds-requires
     holds-requires

@@ -1,22 +1,22 @@
 -- Made by tools/transplant.py from what the borrow checker makes of the twin of this crate.
-use Rattle.replay.proofs.calls.ring_holds.Met
-use Rattle.replay.proofs.calls.ring_holds.Reads
-use Rattle.replay.proofs.calls.ring_holds.Symbol
-use Rattle.replay.proofs.calls.seven_nodes.Met as Met'
-use Rattle.replay.proofs.calls.seven_nodes.Reads as Reads'
-use Rattle.replay.proofs.calls.seven_nodes.Symbol as Symbol'
-use Rattle.replay.proofs.calls.with_rows.Met as Met''
-use Rattle.replay.proofs.calls.with_rows.Reads as Reads''
-use Rattle.replay.proofs.calls.with_rows.Symbol as Symbol''
+use Rattle.fithmoul.proofs.fithmoul_run.Met
+use Rattle.replay.proofs.Sig.Reads_fithmoul_fithmoul_run as Reads
+use Rattle.fithmoul.proofs.fithmoul_run.Symbol
+use Rattle.replay.proofs.calls.ring_holds.Met as Met'
+use Rattle.replay.proofs.calls.ring_holds.Reads as Reads'
+use Rattle.replay.proofs.calls.ring_holds.Symbol as Symbol'
+use Rattle.replay.proofs.calls.seven_nodes.Met as Met''
+use Rattle.replay.proofs.calls.seven_nodes.Reads as Reads''
+use Rattle.replay.proofs.calls.seven_nodes.Symbol as Symbol''
+use Rattle.replay.proofs.calls.with_rows.Met as Met'3
+use Rattle.replay.proofs.calls.with_rows.Reads as Reads'3
+use Rattle.replay.proofs.calls.with_rows.Symbol as Symbol'3
 use Rattle.replay.proofs.run_cases.run_on.Code
 use Rattle.replay.proofs.run_cases.run_on.Key
 use Rattle.replay.proofs.run_cases.run_on.Kinds
 use Rattle.replay.proofs.run_cases.run_on.Proof.Lts
-use Rattle.replay.proofs.run_cases.run_on.Reads as Reads'3
+use Rattle.replay.proofs.run_cases.run_on.Reads as Reads'4
 use Rattle.replay.proofs.run_cases.run_on.Statement
-use Rattle.run.proofs.run.Met as Met'3
-use Rattle.replay.proofs.Sig.Reads_run_run as Reads'4
-use Rattle.run.proofs.run.Symbol as Symbol'3
 use Rattle.test_mesh.proofs.holds.Met as Met'4
 use Rattle.test_mesh.proofs.holds.Reads as Reads'5
 use Rattle.test_mesh.proofs.holds.Symbol as Symbol'4
@@ -25,180 +25,180 @@ use borrow.Fn.Written
 use contract.Running
 
 abbrev pub Start : Type 0
-Start = Lts.Start (Reads'.Asked, Reads'.Learnt, Reads'4.Asked, Reads'4.Learnt, Reads''.Asked, Reads''.Learnt, Reads.Asked, Reads.Learnt, Reads'5.Asked, Reads'5.Learnt) Reads'3.Pre Reads'3.Post
+Start = Lts.Start (Reads''.Asked, Reads''.Learnt, Reads.Asked, Reads.Learnt, Reads'3.Asked, Reads'3.Learnt, Reads'.Asked, Reads'.Learnt, Reads'5.Asked, Reads'5.Learnt) Reads'4.Pre Reads'4.Post
 
 abbrev pub After-positions : Type 0
-After-positions = Lts.After-positions (Reads'.Asked, Reads'.Learnt, Reads'4.Asked, Reads'4.Learnt, Reads''.Asked, Reads''.Learnt, Reads.Asked, Reads.Learnt, Reads'5.Asked, Reads'5.Learnt) Reads'3.Pre Reads'3.Post
+After-positions = Lts.After-positions (Reads''.Asked, Reads''.Learnt, Reads.Asked, Reads.Learnt, Reads'3.Asked, Reads'3.Learnt, Reads'.Asked, Reads'.Learnt, Reads'5.Asked, Reads'5.Learnt) Reads'4.Pre Reads'4.Post
 
 abbrev pub After-outs : Type 0
-After-outs = Lts.After-outs (Reads'.Asked, Reads'.Learnt, Reads'4.Asked, Reads'4.Learnt, Reads''.Asked, Reads''.Learnt, Reads.Asked, Reads.Learnt, Reads'5.Asked, Reads'5.Learnt) Reads'3.Pre Reads'3.Post
+After-outs = Lts.After-outs (Reads''.Asked, Reads''.Learnt, Reads.Asked, Reads.Learnt, Reads'3.Asked, Reads'3.Learnt, Reads'.Asked, Reads'.Learnt, Reads'5.Asked, Reads'5.Learnt) Reads'4.Pre Reads'4.Post
 
 abbrev pub After-halves : Type 0
-After-halves = Lts.After-halves (Reads'.Asked, Reads'.Learnt, Reads'4.Asked, Reads'4.Learnt, Reads''.Asked, Reads''.Learnt, Reads.Asked, Reads.Learnt, Reads'5.Asked, Reads'5.Learnt) Reads'3.Pre Reads'3.Post
+After-halves = Lts.After-halves (Reads''.Asked, Reads''.Learnt, Reads.Asked, Reads.Learnt, Reads'3.Asked, Reads'3.Learnt, Reads'.Asked, Reads'.Learnt, Reads'5.Asked, Reads'5.Learnt) Reads'4.Pre Reads'4.Post
 
 abbrev pub After-faces : Type 0
-After-faces = Lts.After-faces (Reads'.Asked, Reads'.Learnt, Reads'4.Asked, Reads'4.Learnt, Reads''.Asked, Reads''.Learnt, Reads.Asked, Reads.Learnt, Reads'5.Asked, Reads'5.Learnt) Reads'3.Pre Reads'3.Post
+After-faces = Lts.After-faces (Reads''.Asked, Reads''.Learnt, Reads.Asked, Reads.Learnt, Reads'3.Asked, Reads'3.Learnt, Reads'.Asked, Reads'.Learnt, Reads'5.Asked, Reads'5.Learnt) Reads'4.Pre Reads'4.Post
 
 abbrev pub After-seven-nodes : Type 0
-After-seven-nodes = Lts.After-seven-nodes (Reads'.Asked, Reads'.Learnt, Reads'4.Asked, Reads'4.Learnt, Reads''.Asked, Reads''.Learnt, Reads.Asked, Reads.Learnt, Reads'5.Asked, Reads'5.Learnt) Reads'3.Pre Reads'3.Post
+After-seven-nodes = Lts.After-seven-nodes (Reads''.Asked, Reads''.Learnt, Reads.Asked, Reads.Learnt, Reads'3.Asked, Reads'3.Learnt, Reads'.Asked, Reads'.Learnt, Reads'5.Asked, Reads'5.Learnt) Reads'4.Pre Reads'4.Post
 
 abbrev pub After-list : Type 0
-After-list = Lts.After-list (Reads'.Asked, Reads'.Learnt, Reads'4.Asked, Reads'4.Learnt, Reads''.Asked, Reads''.Learnt, Reads.Asked, Reads.Learnt, Reads'5.Asked, Reads'5.Learnt) Reads'3.Pre Reads'3.Post
+After-list = Lts.After-list (Reads''.Asked, Reads''.Learnt, Reads.Asked, Reads.Learnt, Reads'3.Asked, Reads'3.Learnt, Reads'.Asked, Reads'.Learnt, Reads'5.Asked, Reads'5.Learnt) Reads'4.Pre Reads'4.Post
+
+abbrev pub After-counts : Type 0
+After-counts = Lts.After-counts (Reads''.Asked, Reads''.Learnt, Reads.Asked, Reads.Learnt, Reads'3.Asked, Reads'3.Learnt, Reads'.Asked, Reads'.Learnt, Reads'5.Asked, Reads'5.Learnt) Reads'4.Pre Reads'4.Post
 
 abbrev pub After-positions2 : Type 0
-After-positions2 = Lts.After-positions2 (Reads'.Asked, Reads'.Learnt, Reads'4.Asked, Reads'4.Learnt, Reads''.Asked, Reads''.Learnt, Reads.Asked, Reads.Learnt, Reads'5.Asked, Reads'5.Learnt) Reads'3.Pre Reads'3.Post
+After-positions2 = Lts.After-positions2 (Reads''.Asked, Reads''.Learnt, Reads.Asked, Reads.Learnt, Reads'3.Asked, Reads'3.Learnt, Reads'.Asked, Reads'.Learnt, Reads'5.Asked, Reads'5.Learnt) Reads'4.Pre Reads'4.Post
 
 abbrev pub After-outs2 : Type 0
-After-outs2 = Lts.After-outs2 (Reads'.Asked, Reads'.Learnt, Reads'4.Asked, Reads'4.Learnt, Reads''.Asked, Reads''.Learnt, Reads.Asked, Reads.Learnt, Reads'5.Asked, Reads'5.Learnt) Reads'3.Pre Reads'3.Post
+After-outs2 = Lts.After-outs2 (Reads''.Asked, Reads''.Learnt, Reads.Asked, Reads.Learnt, Reads'3.Asked, Reads'3.Learnt, Reads'.Asked, Reads'.Learnt, Reads'5.Asked, Reads'5.Learnt) Reads'4.Pre Reads'4.Post
 
 abbrev pub After-halves2 : Type 0
-After-halves2 = Lts.After-halves2 (Reads'.Asked, Reads'.Learnt, Reads'4.Asked, Reads'4.Learnt, Reads''.Asked, Reads''.Learnt, Reads.Asked, Reads.Learnt, Reads'5.Asked, Reads'5.Learnt) Reads'3.Pre Reads'3.Post
+After-halves2 = Lts.After-halves2 (Reads''.Asked, Reads''.Learnt, Reads.Asked, Reads.Learnt, Reads'3.Asked, Reads'3.Learnt, Reads'.Asked, Reads'.Learnt, Reads'5.Asked, Reads'5.Learnt) Reads'4.Pre Reads'4.Post
 
 abbrev pub After-faces2 : Type 0
-After-faces2 = Lts.After-faces2 (Reads'.Asked, Reads'.Learnt, Reads'4.Asked, Reads'4.Learnt, Reads''.Asked, Reads''.Learnt, Reads.Asked, Reads.Learnt, Reads'5.Asked, Reads'5.Learnt) Reads'3.Pre Reads'3.Post
+After-faces2 = Lts.After-faces2 (Reads''.Asked, Reads''.Learnt, Reads.Asked, Reads.Learnt, Reads'3.Asked, Reads'3.Learnt, Reads'.Asked, Reads'.Learnt, Reads'5.Asked, Reads'5.Learnt) Reads'4.Pre Reads'4.Post
 
 abbrev pub After-nodes : Type 0
-After-nodes = Lts.After-nodes (Reads'.Asked, Reads'.Learnt, Reads'4.Asked, Reads'4.Learnt, Reads''.Asked, Reads''.Learnt, Reads.Asked, Reads.Learnt, Reads'5.Asked, Reads'5.Learnt) Reads'3.Pre Reads'3.Post
+After-nodes = Lts.After-nodes (Reads''.Asked, Reads''.Learnt, Reads.Asked, Reads.Learnt, Reads'3.Asked, Reads'3.Learnt, Reads'.Asked, Reads'.Learnt, Reads'5.Asked, Reads'5.Learnt) Reads'4.Pre Reads'4.Post
 
 abbrev pub After-freed : Type 0
-After-freed = Lts.After-freed (Reads'.Asked, Reads'.Learnt, Reads'4.Asked, Reads'4.Learnt, Reads''.Asked, Reads''.Learnt, Reads.Asked, Reads.Learnt, Reads'5.Asked, Reads'5.Learnt) Reads'3.Pre Reads'3.Post
+After-freed = Lts.After-freed (Reads''.Asked, Reads''.Learnt, Reads.Asked, Reads.Learnt, Reads'3.Asked, Reads'3.Learnt, Reads'.Asked, Reads'.Learnt, Reads'5.Asked, Reads'5.Learnt) Reads'4.Pre Reads'4.Post
 
 abbrev pub After-buckets : Type 0
-After-buckets = Lts.After-buckets (Reads'.Asked, Reads'.Learnt, Reads'4.Asked, Reads'4.Learnt, Reads''.Asked, Reads''.Learnt, Reads.Asked, Reads.Learnt, Reads'5.Asked, Reads'5.Learnt) Reads'3.Pre Reads'3.Post
+After-buckets = Lts.After-buckets (Reads''.Asked, Reads''.Learnt, Reads.Asked, Reads.Learnt, Reads'3.Asked, Reads'3.Learnt, Reads'.Asked, Reads'.Learnt, Reads'5.Asked, Reads'5.Learnt) Reads'4.Pre Reads'4.Post
 
 abbrev pub After-pending : Type 0
-After-pending = Lts.After-pending (Reads'.Asked, Reads'.Learnt, Reads'4.Asked, Reads'4.Learnt, Reads''.Asked, Reads''.Learnt, Reads.Asked, Reads.Learnt, Reads'5.Asked, Reads'5.Learnt) Reads'3.Pre Reads'3.Post
+After-pending = Lts.After-pending (Reads''.Asked, Reads''.Learnt, Reads.Asked, Reads.Learnt, Reads'3.Asked, Reads'3.Learnt, Reads'.Asked, Reads'.Learnt, Reads'5.Asked, Reads'5.Learnt) Reads'4.Pre Reads'4.Post
 
 abbrev pub After-answers : Type 0
-After-answers = Lts.After-answers (Reads'.Asked, Reads'.Learnt, Reads'4.Asked, Reads'4.Learnt, Reads''.Asked, Reads''.Learnt, Reads.Asked, Reads.Learnt, Reads'5.Asked, Reads'5.Learnt) Reads'3.Pre Reads'3.Post
+After-answers = Lts.After-answers (Reads''.Asked, Reads''.Learnt, Reads.Asked, Reads.Learnt, Reads'3.Asked, Reads'3.Learnt, Reads'.Asked, Reads'.Learnt, Reads'5.Asked, Reads'5.Learnt) Reads'4.Pre Reads'4.Post
 
 abbrev pub After-list2 : Type 0
-After-list2 = Lts.After-list2 (Reads'.Asked, Reads'.Learnt, Reads'4.Asked, Reads'4.Learnt, Reads''.Asked, Reads''.Learnt, Reads.Asked, Reads.Learnt, Reads'5.Asked, Reads'5.Learnt) Reads'3.Pre Reads'3.Post
+After-list2 = Lts.After-list2 (Reads''.Asked, Reads''.Learnt, Reads.Asked, Reads.Learnt, Reads'3.Asked, Reads'3.Learnt, Reads'.Asked, Reads'.Learnt, Reads'5.Asked, Reads'5.Learnt) Reads'4.Pre Reads'4.Post
 
-abbrev pub After-run : Type 0
-After-run = Lts.After-run (Reads'.Asked, Reads'.Learnt, Reads'4.Asked, Reads'4.Learnt, Reads''.Asked, Reads''.Learnt, Reads.Asked, Reads.Learnt, Reads'5.Asked, Reads'5.Learnt) Reads'3.Pre Reads'3.Post
+abbrev pub After-fithmoul-run : Type 0
+After-fithmoul-run = Lts.After-fithmoul-run (Reads''.Asked, Reads''.Learnt, Reads.Asked, Reads.Learnt, Reads'3.Asked, Reads'3.Learnt, Reads'.Asked, Reads'.Learnt, Reads'5.Asked, Reads'5.Learnt) Reads'4.Pre Reads'4.Post
 
 abbrev pub After-positions3 : Type 0
-After-positions3 = Lts.After-positions3 (Reads'.Asked, Reads'.Learnt, Reads'4.Asked, Reads'4.Learnt, Reads''.Asked, Reads''.Learnt, Reads.Asked, Reads.Learnt, Reads'5.Asked, Reads'5.Learnt) Reads'3.Pre Reads'3.Post
+After-positions3 = Lts.After-positions3 (Reads''.Asked, Reads''.Learnt, Reads.Asked, Reads.Learnt, Reads'3.Asked, Reads'3.Learnt, Reads'.Asked, Reads'.Learnt, Reads'5.Asked, Reads'5.Learnt) Reads'4.Pre Reads'4.Post
 
 abbrev pub After-outs3 : Type 0
-After-outs3 = Lts.After-outs3 (Reads'.Asked, Reads'.Learnt, Reads'4.Asked, Reads'4.Learnt, Reads''.Asked, Reads''.Learnt, Reads.Asked, Reads.Learnt, Reads'5.Asked, Reads'5.Learnt) Reads'3.Pre Reads'3.Post
+After-outs3 = Lts.After-outs3 (Reads''.Asked, Reads''.Learnt, Reads.Asked, Reads.Learnt, Reads'3.Asked, Reads'3.Learnt, Reads'.Asked, Reads'.Learnt, Reads'5.Asked, Reads'5.Learnt) Reads'4.Pre Reads'4.Post
 
 abbrev pub After-halves3 : Type 0
-After-halves3 = Lts.After-halves3 (Reads'.Asked, Reads'.Learnt, Reads'4.Asked, Reads'4.Learnt, Reads''.Asked, Reads''.Learnt, Reads.Asked, Reads.Learnt, Reads'5.Asked, Reads'5.Learnt) Reads'3.Pre Reads'3.Post
+After-halves3 = Lts.After-halves3 (Reads''.Asked, Reads''.Learnt, Reads.Asked, Reads.Learnt, Reads'3.Asked, Reads'3.Learnt, Reads'.Asked, Reads'.Learnt, Reads'5.Asked, Reads'5.Learnt) Reads'4.Pre Reads'4.Post
 
 abbrev pub After-faces3 : Type 0
-After-faces3 = Lts.After-faces3 (Reads'.Asked, Reads'.Learnt, Reads'4.Asked, Reads'4.Learnt, Reads''.Asked, Reads''.Learnt, Reads.Asked, Reads.Learnt, Reads'5.Asked, Reads'5.Learnt) Reads'3.Pre Reads'3.Post
+After-faces3 = Lts.After-faces3 (Reads''.Asked, Reads''.Learnt, Reads.Asked, Reads.Learnt, Reads'3.Asked, Reads'3.Learnt, Reads'.Asked, Reads'.Learnt, Reads'5.Asked, Reads'5.Learnt) Reads'4.Pre Reads'4.Post
 
 abbrev pub After-nodes2 : Type 0
-After-nodes2 = Lts.After-nodes2 (Reads'.Asked, Reads'.Learnt, Reads'4.Asked, Reads'4.Learnt, Reads''.Asked, Reads''.Learnt, Reads.Asked, Reads.Learnt, Reads'5.Asked, Reads'5.Learnt) Reads'3.Pre Reads'3.Post
+After-nodes2 = Lts.After-nodes2 (Reads''.Asked, Reads''.Learnt, Reads.Asked, Reads.Learnt, Reads'3.Asked, Reads'3.Learnt, Reads'.Asked, Reads'.Learnt, Reads'5.Asked, Reads'5.Learnt) Reads'4.Pre Reads'4.Post
 
 abbrev pub After-freed2 : Type 0
-After-freed2 = Lts.After-freed2 (Reads'.Asked, Reads'.Learnt, Reads'4.Asked, Reads'4.Learnt, Reads''.Asked, Reads''.Learnt, Reads.Asked, Reads.Learnt, Reads'5.Asked, Reads'5.Learnt) Reads'3.Pre Reads'3.Post
+After-freed2 = Lts.After-freed2 (Reads''.Asked, Reads''.Learnt, Reads.Asked, Reads.Learnt, Reads'3.Asked, Reads'3.Learnt, Reads'.Asked, Reads'.Learnt, Reads'5.Asked, Reads'5.Learnt) Reads'4.Pre Reads'4.Post
 
 abbrev pub After-buckets2 : Type 0
-After-buckets2 = Lts.After-buckets2 (Reads'.Asked, Reads'.Learnt, Reads'4.Asked, Reads'4.Learnt, Reads''.Asked, Reads''.Learnt, Reads.Asked, Reads.Learnt, Reads'5.Asked, Reads'5.Learnt) Reads'3.Pre Reads'3.Post
+After-buckets2 = Lts.After-buckets2 (Reads''.Asked, Reads''.Learnt, Reads.Asked, Reads.Learnt, Reads'3.Asked, Reads'3.Learnt, Reads'.Asked, Reads'.Learnt, Reads'5.Asked, Reads'5.Learnt) Reads'4.Pre Reads'4.Post
 
 abbrev pub After-pending2 : Type 0
-After-pending2 = Lts.After-pending2 (Reads'.Asked, Reads'.Learnt, Reads'4.Asked, Reads'4.Learnt, Reads''.Asked, Reads''.Learnt, Reads.Asked, Reads.Learnt, Reads'5.Asked, Reads'5.Learnt) Reads'3.Pre Reads'3.Post
+After-pending2 = Lts.After-pending2 (Reads''.Asked, Reads''.Learnt, Reads.Asked, Reads.Learnt, Reads'3.Asked, Reads'3.Learnt, Reads'.Asked, Reads'.Learnt, Reads'5.Asked, Reads'5.Learnt) Reads'4.Pre Reads'4.Post
 
 abbrev pub After-answers2 : Type 0
-After-answers2 = Lts.After-answers2 (Reads'.Asked, Reads'.Learnt, Reads'4.Asked, Reads'4.Learnt, Reads''.Asked, Reads''.Learnt, Reads.Asked, Reads.Learnt, Reads'5.Asked, Reads'5.Learnt) Reads'3.Pre Reads'3.Post
-
-abbrev pub After-left : Type 0
-After-left = Lts.After-left (Reads'.Asked, Reads'.Learnt, Reads'4.Asked, Reads'4.Learnt, Reads''.Asked, Reads''.Learnt, Reads.Asked, Reads.Learnt, Reads'5.Asked, Reads'5.Learnt) Reads'3.Pre Reads'3.Post
+After-answers2 = Lts.After-answers2 (Reads''.Asked, Reads''.Learnt, Reads.Asked, Reads.Learnt, Reads'3.Asked, Reads'3.Learnt, Reads'.Asked, Reads'.Learnt, Reads'5.Asked, Reads'5.Learnt) Reads'4.Pre Reads'4.Post
 
 abbrev pub After-with-rows : Type 0
-After-with-rows = Lts.After-with-rows (Reads'.Asked, Reads'.Learnt, Reads'4.Asked, Reads'4.Learnt, Reads''.Asked, Reads''.Learnt, Reads.Asked, Reads.Learnt, Reads'5.Asked, Reads'5.Learnt) Reads'3.Pre Reads'3.Post
+After-with-rows = Lts.After-with-rows (Reads''.Asked, Reads''.Learnt, Reads.Asked, Reads.Learnt, Reads'3.Asked, Reads'3.Learnt, Reads'.Asked, Reads'.Learnt, Reads'5.Asked, Reads'5.Learnt) Reads'4.Pre Reads'4.Post
 
 abbrev pub After-ring-holds : Type 0
-After-ring-holds = Lts.After-ring-holds (Reads'.Asked, Reads'.Learnt, Reads'4.Asked, Reads'4.Learnt, Reads''.Asked, Reads''.Learnt, Reads.Asked, Reads.Learnt, Reads'5.Asked, Reads'5.Learnt) Reads'3.Pre Reads'3.Post
+After-ring-holds = Lts.After-ring-holds (Reads''.Asked, Reads''.Learnt, Reads.Asked, Reads.Learnt, Reads'3.Asked, Reads'3.Learnt, Reads'.Asked, Reads'.Learnt, Reads'5.Asked, Reads'5.Learnt) Reads'4.Pre Reads'4.Post
 
 abbrev pub After-holds : Type 0
-After-holds = Lts.After-holds (Reads'.Asked, Reads'.Learnt, Reads'4.Asked, Reads'4.Learnt, Reads''.Asked, Reads''.Learnt, Reads.Asked, Reads.Learnt, Reads'5.Asked, Reads'5.Learnt) Reads'3.Pre Reads'3.Post
+After-holds = Lts.After-holds (Reads''.Asked, Reads''.Learnt, Reads.Asked, Reads.Learnt, Reads'3.Asked, Reads'3.Learnt, Reads'.Asked, Reads'.Learnt, Reads'5.Asked, Reads'5.Learnt) Reads'4.Pre Reads'4.Post
 
 abbrev pub Need-seven-nodes-requires : Type 0
-Need-seven-nodes-requires = Lts.Need-seven-nodes-requires (Reads'.Asked, Reads'.Learnt, Reads'4.Asked, Reads'4.Learnt, Reads''.Asked, Reads''.Learnt, Reads.Asked, Reads.Learnt, Reads'5.Asked, Reads'5.Learnt) Reads'3.Pre Reads'3.Post
+Need-seven-nodes-requires = Lts.Need-seven-nodes-requires (Reads''.Asked, Reads''.Learnt, Reads.Asked, Reads.Learnt, Reads'3.Asked, Reads'3.Learnt, Reads'.Asked, Reads'.Learnt, Reads'5.Asked, Reads'5.Learnt) Reads'4.Pre Reads'4.Post
 
 abbrev pub Need-array-borrow-prefix-positions : Type 0
-Need-array-borrow-prefix-positions = Lts.Need-array-borrow-prefix-positions (Reads'.Asked, Reads'.Learnt, Reads'4.Asked, Reads'4.Learnt, Reads''.Asked, Reads''.Learnt, Reads.Asked, Reads.Learnt, Reads'5.Asked, Reads'5.Learnt) Reads'3.Pre Reads'3.Post
+Need-array-borrow-prefix-positions = Lts.Need-array-borrow-prefix-positions (Reads''.Asked, Reads''.Learnt, Reads.Asked, Reads.Learnt, Reads'3.Asked, Reads'3.Learnt, Reads'.Asked, Reads'.Learnt, Reads'5.Asked, Reads'5.Learnt) Reads'4.Pre Reads'4.Post
 
-abbrev pub Need-slice-aggregate-run : Type 0
-Need-slice-aggregate-run = Lts.Need-slice-aggregate-run (Reads'.Asked, Reads'.Learnt, Reads'4.Asked, Reads'4.Learnt, Reads''.Asked, Reads''.Learnt, Reads.Asked, Reads.Learnt, Reads'5.Asked, Reads'5.Learnt) Reads'3.Pre Reads'3.Post
+abbrev pub Need-slice-aggregate-fithmoul-run : Type 0
+Need-slice-aggregate-fithmoul-run = Lts.Need-slice-aggregate-fithmoul-run (Reads''.Asked, Reads''.Learnt, Reads.Asked, Reads.Learnt, Reads'3.Asked, Reads'3.Learnt, Reads'.Asked, Reads'.Learnt, Reads'5.Asked, Reads'5.Learnt) Reads'4.Pre Reads'4.Post
 
 abbrev pub Need-array-borrow-prefix-outs : Type 0
-Need-array-borrow-prefix-outs = Lts.Need-array-borrow-prefix-outs (Reads'.Asked, Reads'.Learnt, Reads'4.Asked, Reads'4.Learnt, Reads''.Asked, Reads''.Learnt, Reads.Asked, Reads.Learnt, Reads'5.Asked, Reads'5.Learnt) Reads'3.Pre Reads'3.Post
+Need-array-borrow-prefix-outs = Lts.Need-array-borrow-prefix-outs (Reads''.Asked, Reads''.Learnt, Reads.Asked, Reads.Learnt, Reads'3.Asked, Reads'3.Learnt, Reads'.Asked, Reads'.Learnt, Reads'5.Asked, Reads'5.Learnt) Reads'4.Pre Reads'4.Post
 
-abbrev pub Need-slice-aggregate-run-2 : Type 0
-Need-slice-aggregate-run-2 = Lts.Need-slice-aggregate-run-2 (Reads'.Asked, Reads'.Learnt, Reads'4.Asked, Reads'4.Learnt, Reads''.Asked, Reads''.Learnt, Reads.Asked, Reads.Learnt, Reads'5.Asked, Reads'5.Learnt) Reads'3.Pre Reads'3.Post
+abbrev pub Need-slice-aggregate-fithmoul-run-2 : Type 0
+Need-slice-aggregate-fithmoul-run-2 = Lts.Need-slice-aggregate-fithmoul-run-2 (Reads''.Asked, Reads''.Learnt, Reads.Asked, Reads.Learnt, Reads'3.Asked, Reads'3.Learnt, Reads'.Asked, Reads'.Learnt, Reads'5.Asked, Reads'5.Learnt) Reads'4.Pre Reads'4.Post
 
 abbrev pub Need-array-borrow-prefix-halves : Type 0
-Need-array-borrow-prefix-halves = Lts.Need-array-borrow-prefix-halves (Reads'.Asked, Reads'.Learnt, Reads'4.Asked, Reads'4.Learnt, Reads''.Asked, Reads''.Learnt, Reads.Asked, Reads.Learnt, Reads'5.Asked, Reads'5.Learnt) Reads'3.Pre Reads'3.Post
+Need-array-borrow-prefix-halves = Lts.Need-array-borrow-prefix-halves (Reads''.Asked, Reads''.Learnt, Reads.Asked, Reads.Learnt, Reads'3.Asked, Reads'3.Learnt, Reads'.Asked, Reads'.Learnt, Reads'5.Asked, Reads'5.Learnt) Reads'4.Pre Reads'4.Post
 
-abbrev pub Need-slice-aggregate-run-3 : Type 0
-Need-slice-aggregate-run-3 = Lts.Need-slice-aggregate-run-3 (Reads'.Asked, Reads'.Learnt, Reads'4.Asked, Reads'4.Learnt, Reads''.Asked, Reads''.Learnt, Reads.Asked, Reads.Learnt, Reads'5.Asked, Reads'5.Learnt) Reads'3.Pre Reads'3.Post
+abbrev pub Need-slice-aggregate-fithmoul-run-3 : Type 0
+Need-slice-aggregate-fithmoul-run-3 = Lts.Need-slice-aggregate-fithmoul-run-3 (Reads''.Asked, Reads''.Learnt, Reads.Asked, Reads.Learnt, Reads'3.Asked, Reads'3.Learnt, Reads'.Asked, Reads'.Learnt, Reads'5.Asked, Reads'5.Learnt) Reads'4.Pre Reads'4.Post
 
 abbrev pub Need-array-borrow-prefix-faces : Type 0
-Need-array-borrow-prefix-faces = Lts.Need-array-borrow-prefix-faces (Reads'.Asked, Reads'.Learnt, Reads'4.Asked, Reads'4.Learnt, Reads''.Asked, Reads''.Learnt, Reads.Asked, Reads.Learnt, Reads'5.Asked, Reads'5.Learnt) Reads'3.Pre Reads'3.Post
+Need-array-borrow-prefix-faces = Lts.Need-array-borrow-prefix-faces (Reads''.Asked, Reads''.Learnt, Reads.Asked, Reads.Learnt, Reads'3.Asked, Reads'3.Learnt, Reads'.Asked, Reads'.Learnt, Reads'5.Asked, Reads'5.Learnt) Reads'4.Pre Reads'4.Post
 
-abbrev pub Need-slice-aggregate-run-4 : Type 0
-Need-slice-aggregate-run-4 = Lts.Need-slice-aggregate-run-4 (Reads'.Asked, Reads'.Learnt, Reads'4.Asked, Reads'4.Learnt, Reads''.Asked, Reads''.Learnt, Reads.Asked, Reads.Learnt, Reads'5.Asked, Reads'5.Learnt) Reads'3.Pre Reads'3.Post
+abbrev pub Need-slice-aggregate-fithmoul-run-4 : Type 0
+Need-slice-aggregate-fithmoul-run-4 = Lts.Need-slice-aggregate-fithmoul-run-4 (Reads''.Asked, Reads''.Learnt, Reads.Asked, Reads.Learnt, Reads'3.Asked, Reads'3.Learnt, Reads'.Asked, Reads'.Learnt, Reads'5.Asked, Reads'5.Learnt) Reads'4.Pre Reads'4.Post
 
 abbrev pub Need-array-borrow-prefix-nodes : Type 0
-Need-array-borrow-prefix-nodes = Lts.Need-array-borrow-prefix-nodes (Reads'.Asked, Reads'.Learnt, Reads'4.Asked, Reads'4.Learnt, Reads''.Asked, Reads''.Learnt, Reads.Asked, Reads.Learnt, Reads'5.Asked, Reads'5.Learnt) Reads'3.Pre Reads'3.Post
+Need-array-borrow-prefix-nodes = Lts.Need-array-borrow-prefix-nodes (Reads''.Asked, Reads''.Learnt, Reads.Asked, Reads.Learnt, Reads'3.Asked, Reads'3.Learnt, Reads'.Asked, Reads'.Learnt, Reads'5.Asked, Reads'5.Learnt) Reads'4.Pre Reads'4.Post
 
-abbrev pub Need-slice-aggregate-run-5 : Type 0
-Need-slice-aggregate-run-5 = Lts.Need-slice-aggregate-run-5 (Reads'.Asked, Reads'.Learnt, Reads'4.Asked, Reads'4.Learnt, Reads''.Asked, Reads''.Learnt, Reads.Asked, Reads.Learnt, Reads'5.Asked, Reads'5.Learnt) Reads'3.Pre Reads'3.Post
+abbrev pub Need-slice-aggregate-fithmoul-run-5 : Type 0
+Need-slice-aggregate-fithmoul-run-5 = Lts.Need-slice-aggregate-fithmoul-run-5 (Reads''.Asked, Reads''.Learnt, Reads.Asked, Reads.Learnt, Reads'3.Asked, Reads'3.Learnt, Reads'.Asked, Reads'.Learnt, Reads'5.Asked, Reads'5.Learnt) Reads'4.Pre Reads'4.Post
 
 abbrev pub Need-array-borrow-prefix-freed : Type 0
-Need-array-borrow-prefix-freed = Lts.Need-array-borrow-prefix-freed (Reads'.Asked, Reads'.Learnt, Reads'4.Asked, Reads'4.Learnt, Reads''.Asked, Reads''.Learnt, Reads.Asked, Reads.Learnt, Reads'5.Asked, Reads'5.Learnt) Reads'3.Pre Reads'3.Post
+Need-array-borrow-prefix-freed = Lts.Need-array-borrow-prefix-freed (Reads''.Asked, Reads''.Learnt, Reads.Asked, Reads.Learnt, Reads'3.Asked, Reads'3.Learnt, Reads'.Asked, Reads'.Learnt, Reads'5.Asked, Reads'5.Learnt) Reads'4.Pre Reads'4.Post
 
-abbrev pub Need-slice-aggregate-run-6 : Type 0
-Need-slice-aggregate-run-6 = Lts.Need-slice-aggregate-run-6 (Reads'.Asked, Reads'.Learnt, Reads'4.Asked, Reads'4.Learnt, Reads''.Asked, Reads''.Learnt, Reads.Asked, Reads.Learnt, Reads'5.Asked, Reads'5.Learnt) Reads'3.Pre Reads'3.Post
+abbrev pub Need-slice-aggregate-fithmoul-run-6 : Type 0
+Need-slice-aggregate-fithmoul-run-6 = Lts.Need-slice-aggregate-fithmoul-run-6 (Reads''.Asked, Reads''.Learnt, Reads.Asked, Reads.Learnt, Reads'3.Asked, Reads'3.Learnt, Reads'.Asked, Reads'.Learnt, Reads'5.Asked, Reads'5.Learnt) Reads'4.Pre Reads'4.Post
 
 abbrev pub Need-array-borrow-prefix-buckets : Type 0
-Need-array-borrow-prefix-buckets = Lts.Need-array-borrow-prefix-buckets (Reads'.Asked, Reads'.Learnt, Reads'4.Asked, Reads'4.Learnt, Reads''.Asked, Reads''.Learnt, Reads.Asked, Reads.Learnt, Reads'5.Asked, Reads'5.Learnt) Reads'3.Pre Reads'3.Post
+Need-array-borrow-prefix-buckets = Lts.Need-array-borrow-prefix-buckets (Reads''.Asked, Reads''.Learnt, Reads.Asked, Reads.Learnt, Reads'3.Asked, Reads'3.Learnt, Reads'.Asked, Reads'.Learnt, Reads'5.Asked, Reads'5.Learnt) Reads'4.Pre Reads'4.Post
 
-abbrev pub Need-slice-aggregate-run-7 : Type 0
-Need-slice-aggregate-run-7 = Lts.Need-slice-aggregate-run-7 (Reads'.Asked, Reads'.Learnt, Reads'4.Asked, Reads'4.Learnt, Reads''.Asked, Reads''.Learnt, Reads.Asked, Reads.Learnt, Reads'5.Asked, Reads'5.Learnt) Reads'3.Pre Reads'3.Post
+abbrev pub Need-slice-aggregate-fithmoul-run-7 : Type 0
+Need-slice-aggregate-fithmoul-run-7 = Lts.Need-slice-aggregate-fithmoul-run-7 (Reads''.Asked, Reads''.Learnt, Reads.Asked, Reads.Learnt, Reads'3.Asked, Reads'3.Learnt, Reads'.Asked, Reads'.Learnt, Reads'5.Asked, Reads'5.Learnt) Reads'4.Pre Reads'4.Post
 
 abbrev pub Need-array-borrow-prefix-pending : Type 0
-Need-array-borrow-prefix-pending = Lts.Need-array-borrow-prefix-pending (Reads'.Asked, Reads'.Learnt, Reads'4.Asked, Reads'4.Learnt, Reads''.Asked, Reads''.Learnt, Reads.Asked, Reads.Learnt, Reads'5.Asked, Reads'5.Learnt) Reads'3.Pre Reads'3.Post
+Need-array-borrow-prefix-pending = Lts.Need-array-borrow-prefix-pending (Reads''.Asked, Reads''.Learnt, Reads.Asked, Reads.Learnt, Reads'3.Asked, Reads'3.Learnt, Reads'.Asked, Reads'.Learnt, Reads'5.Asked, Reads'5.Learnt) Reads'4.Pre Reads'4.Post
 
-abbrev pub Need-slice-aggregate-run-8 : Type 0
-Need-slice-aggregate-run-8 = Lts.Need-slice-aggregate-run-8 (Reads'.Asked, Reads'.Learnt, Reads'4.Asked, Reads'4.Learnt, Reads''.Asked, Reads''.Learnt, Reads.Asked, Reads.Learnt, Reads'5.Asked, Reads'5.Learnt) Reads'3.Pre Reads'3.Post
+abbrev pub Need-slice-aggregate-fithmoul-run-8 : Type 0
+Need-slice-aggregate-fithmoul-run-8 = Lts.Need-slice-aggregate-fithmoul-run-8 (Reads''.Asked, Reads''.Learnt, Reads.Asked, Reads.Learnt, Reads'3.Asked, Reads'3.Learnt, Reads'.Asked, Reads'.Learnt, Reads'5.Asked, Reads'5.Learnt) Reads'4.Pre Reads'4.Post
 
 abbrev pub Need-array-borrow-prefix-answers : Type 0
-Need-array-borrow-prefix-answers = Lts.Need-array-borrow-prefix-answers (Reads'.Asked, Reads'.Learnt, Reads'4.Asked, Reads'4.Learnt, Reads''.Asked, Reads''.Learnt, Reads.Asked, Reads.Learnt, Reads'5.Asked, Reads'5.Learnt) Reads'3.Pre Reads'3.Post
+Need-array-borrow-prefix-answers = Lts.Need-array-borrow-prefix-answers (Reads''.Asked, Reads''.Learnt, Reads.Asked, Reads.Learnt, Reads'3.Asked, Reads'3.Learnt, Reads'.Asked, Reads'.Learnt, Reads'5.Asked, Reads'5.Learnt) Reads'4.Pre Reads'4.Post
 
-abbrev pub Need-slice-aggregate-run-9 : Type 0
-Need-slice-aggregate-run-9 = Lts.Need-slice-aggregate-run-9 (Reads'.Asked, Reads'.Learnt, Reads'4.Asked, Reads'4.Learnt, Reads''.Asked, Reads''.Learnt, Reads.Asked, Reads.Learnt, Reads'5.Asked, Reads'5.Learnt) Reads'3.Pre Reads'3.Post
+abbrev pub Need-slice-aggregate-fithmoul-run-9 : Type 0
+Need-slice-aggregate-fithmoul-run-9 = Lts.Need-slice-aggregate-fithmoul-run-9 (Reads''.Asked, Reads''.Learnt, Reads.Asked, Reads.Learnt, Reads'3.Asked, Reads'3.Learnt, Reads'.Asked, Reads'.Learnt, Reads'5.Asked, Reads'5.Learnt) Reads'4.Pre Reads'4.Post
 
 abbrev pub Need-array-share-prefix-list : Type 0
-Need-array-share-prefix-list = Lts.Need-array-share-prefix-list (Reads'.Asked, Reads'.Learnt, Reads'4.Asked, Reads'4.Learnt, Reads''.Asked, Reads''.Learnt, Reads.Asked, Reads.Learnt, Reads'5.Asked, Reads'5.Learnt) Reads'3.Pre Reads'3.Post
+Need-array-share-prefix-list = Lts.Need-array-share-prefix-list (Reads''.Asked, Reads''.Learnt, Reads.Asked, Reads.Learnt, Reads'3.Asked, Reads'3.Learnt, Reads'.Asked, Reads'.Learnt, Reads'5.Asked, Reads'5.Learnt) Reads'4.Pre Reads'4.Post
 
-abbrev pub Need-slice-aggregate-run-10 : Type 0
-Need-slice-aggregate-run-10 = Lts.Need-slice-aggregate-run-10 (Reads'.Asked, Reads'.Learnt, Reads'4.Asked, Reads'4.Learnt, Reads''.Asked, Reads''.Learnt, Reads.Asked, Reads.Learnt, Reads'5.Asked, Reads'5.Learnt) Reads'3.Pre Reads'3.Post
+abbrev pub Need-slice-aggregate-fithmoul-run-10 : Type 0
+Need-slice-aggregate-fithmoul-run-10 = Lts.Need-slice-aggregate-fithmoul-run-10 (Reads''.Asked, Reads''.Learnt, Reads.Asked, Reads.Learnt, Reads'3.Asked, Reads'3.Learnt, Reads'.Asked, Reads'.Learnt, Reads'5.Asked, Reads'5.Learnt) Reads'4.Pre Reads'4.Post
 
-abbrev pub Need-run-requires : Type 0
-Need-run-requires = Lts.Need-run-requires (Reads'.Asked, Reads'.Learnt, Reads'4.Asked, Reads'4.Learnt, Reads''.Asked, Reads''.Learnt, Reads.Asked, Reads.Learnt, Reads'5.Asked, Reads'5.Learnt) Reads'3.Pre Reads'3.Post
+abbrev pub Need-fithmoul-run-requires : Type 0
+Need-fithmoul-run-requires = Lts.Need-fithmoul-run-requires (Reads''.Asked, Reads''.Learnt, Reads.Asked, Reads.Learnt, Reads'3.Asked, Reads'3.Learnt, Reads'.Asked, Reads'.Learnt, Reads'5.Asked, Reads'5.Learnt) Reads'4.Pre Reads'4.Post
 
 abbrev pub Need-with-rows-requires : Type 0
-Need-with-rows-requires = Lts.Need-with-rows-requires (Reads'.Asked, Reads'.Learnt, Reads'4.Asked, Reads'4.Learnt, Reads''.Asked, Reads''.Learnt, Reads.Asked, Reads.Learnt, Reads'5.Asked, Reads'5.Learnt) Reads'3.Pre Reads'3.Post
+Need-with-rows-requires = Lts.Need-with-rows-requires (Reads''.Asked, Reads''.Learnt, Reads.Asked, Reads.Learnt, Reads'3.Asked, Reads'3.Learnt, Reads'.Asked, Reads'.Learnt, Reads'5.Asked, Reads'5.Learnt) Reads'4.Pre Reads'4.Post
 
 abbrev pub Need-ring-holds-requires : Type 0
-Need-ring-holds-requires = Lts.Need-ring-holds-requires (Reads'.Asked, Reads'.Learnt, Reads'4.Asked, Reads'4.Learnt, Reads''.Asked, Reads''.Learnt, Reads.Asked, Reads.Learnt, Reads'5.Asked, Reads'5.Learnt) Reads'3.Pre Reads'3.Post
+Need-ring-holds-requires = Lts.Need-ring-holds-requires (Reads''.Asked, Reads''.Learnt, Reads.Asked, Reads.Learnt, Reads'3.Asked, Reads'3.Learnt, Reads'.Asked, Reads'.Learnt, Reads'5.Asked, Reads'5.Learnt) Reads'4.Pre Reads'4.Post
 
 abbrev pub Need-holds-requires : Type 0
-Need-holds-requires = Lts.Need-holds-requires (Reads'.Asked, Reads'.Learnt, Reads'4.Asked, Reads'4.Learnt, Reads''.Asked, Reads''.Learnt, Reads.Asked, Reads.Learnt, Reads'5.Asked, Reads'5.Learnt) Reads'3.Pre Reads'3.Post
+Need-holds-requires = Lts.Need-holds-requires (Reads''.Asked, Reads''.Learnt, Reads.Asked, Reads.Learnt, Reads'3.Asked, Reads'3.Learnt, Reads'.Asked, Reads'.Learnt, Reads'5.Asked, Reads'5.Learnt) Reads'4.Pre Reads'4.Post
 
 abbrev pub Need-returns : Type 0
-Need-returns = Lts.Need-returns (Reads'.Asked, Reads'.Learnt, Reads'4.Asked, Reads'4.Learnt, Reads''.Asked, Reads''.Learnt, Reads.Asked, Reads.Learnt, Reads'5.Asked, Reads'5.Learnt) Reads'3.Pre Reads'3.Post
+Need-returns = Lts.Need-returns (Reads''.Asked, Reads''.Learnt, Reads.Asked, Reads.Learnt, Reads'3.Asked, Reads'3.Learnt, Reads'.Asked, Reads'.Learnt, Reads'5.Asked, Reads'5.Learnt) Reads'4.Pre Reads'4.Post
 
 module _ {M : Type 1} where
-  pub spec : (answer : Need-seven-nodes-requires) → (answer : Need-array-borrow-prefix-positions) → (answer : Need-slice-aggregate-run) → (answer : Need-array-borrow-prefix-outs) → (answer : Need-slice-aggregate-run-2) → (answer : Need-array-borrow-prefix-halves) → (answer : Need-slice-aggregate-run-3) → (answer : Need-array-borrow-prefix-faces) → (answer : Need-slice-aggregate-run-4) → (answer : Need-array-borrow-prefix-nodes) → (answer : Need-slice-aggregate-run-5) → (answer : Need-array-borrow-prefix-freed) → (answer : Need-slice-aggregate-run-6) → (answer : Need-array-borrow-prefix-buckets) → (answer : Need-slice-aggregate-run-7) → (answer : Need-array-borrow-prefix-pending) → (answer : Need-slice-aggregate-run-8) → (answer : Need-array-borrow-prefix-answers) → (answer : Need-slice-aggregate-run-9) → (answer : Need-array-share-prefix-list) → (answer : Need-slice-aggregate-run-10) → (answer : Need-run-requires) → (answer : Need-with-rows-requires) → (answer : Need-ring-holds-requires) → (answer : Need-holds-requires) → (answer : Need-returns) → Lts.Closed (Reads'.Asked, Reads'.Learnt, Reads'4.Asked, Reads'4.Learnt, Reads''.Asked, Reads''.Learnt, Reads.Asked, Reads.Learnt, Reads'5.Asked, Reads'5.Learnt) Reads'3.Pre Reads'3.Post M
-  spec = λ answer answer' answer'' answer'3 answer'4 answer'5 answer'6 answer'7 answer'8 answer'9 answer'10 answer'11 answer'12 answer'13 answer'14 answer'15 answer'16 answer'17 answer'18 answer'19 answer'20 answer'21 answer'22 answer'23 answer'24 answer'25. Lts.spec (Reads'.Asked, Reads'.Learnt, Reads'4.Asked, Reads'4.Learnt, Reads''.Asked, Reads''.Learnt, Reads.Asked, Reads.Learnt, Reads'5.Asked, Reads'5.Learnt) Reads'3.Pre Reads'3.Post answer answer' answer'' answer'3 answer'4 answer'5 answer'6 answer'7 answer'8 answer'9 answer'10 answer'11 answer'12 answer'13 answer'14 answer'15 answer'16 answer'17 answer'18 answer'19 answer'20 answer'21 answer'22 answer'23 answer'24 answer'25
+  pub spec : (answer : Need-seven-nodes-requires) → (answer : Need-array-borrow-prefix-positions) → (answer : Need-slice-aggregate-fithmoul-run) → (answer : Need-array-borrow-prefix-outs) → (answer : Need-slice-aggregate-fithmoul-run-2) → (answer : Need-array-borrow-prefix-halves) → (answer : Need-slice-aggregate-fithmoul-run-3) → (answer : Need-array-borrow-prefix-faces) → (answer : Need-slice-aggregate-fithmoul-run-4) → (answer : Need-array-borrow-prefix-nodes) → (answer : Need-slice-aggregate-fithmoul-run-5) → (answer : Need-array-borrow-prefix-freed) → (answer : Need-slice-aggregate-fithmoul-run-6) → (answer : Need-array-borrow-prefix-buckets) → (answer : Need-slice-aggregate-fithmoul-run-7) → (answer : Need-array-borrow-prefix-pending) → (answer : Need-slice-aggregate-fithmoul-run-8) → (answer : Need-array-borrow-prefix-answers) → (answer : Need-slice-aggregate-fithmoul-run-9) → (answer : Need-array-share-prefix-list) → (answer : Need-slice-aggregate-fithmoul-run-10) → (answer : Need-fithmoul-run-requires) → (answer : Need-with-rows-requires) → (answer : Need-ring-holds-requires) → (answer : Need-holds-requires) → (answer : Need-returns) → Lts.Closed (Reads''.Asked, Reads''.Learnt, Reads.Asked, Reads.Learnt, Reads'3.Asked, Reads'3.Learnt, Reads'.Asked, Reads'.Learnt, Reads'5.Asked, Reads'5.Learnt) Reads'4.Pre Reads'4.Post M
+  spec = λ answer answer' answer'' answer'3 answer'4 answer'5 answer'6 answer'7 answer'8 answer'9 answer'10 answer'11 answer'12 answer'13 answer'14 answer'15 answer'16 answer'17 answer'18 answer'19 answer'20 answer'21 answer'22 answer'23 answer'24 answer'25. Lts.spec (Reads''.Asked, Reads''.Learnt, Reads.Asked, Reads.Learnt, Reads'3.Asked, Reads'3.Learnt, Reads'.Asked, Reads'.Learnt, Reads'5.Asked, Reads'5.Learnt) Reads'4.Pre Reads'4.Post answer answer' answer'' answer'3 answer'4 answer'5 answer'6 answer'7 answer'8 answer'9 answer'10 answer'11 answer'12 answer'13 answer'14 answer'15 answer'16 answer'17 answer'18 answer'19 answer'20 answer'21 answer'22 answer'23 answer'24 answer'25
 
-  pub close : Lts.Closed (Reads'.Asked, Reads'.Learnt, Reads'4.Asked, Reads'4.Learnt, Reads''.Asked, Reads''.Learnt, Reads.Asked, Reads.Learnt, Reads'5.Asked, Reads'5.Learnt) Reads'3.Pre Reads'3.Post M → Statement.statement M
+  pub close : Lts.Closed (Reads''.Asked, Reads''.Learnt, Reads.Asked, Reads.Learnt, Reads'3.Asked, Reads'3.Learnt, Reads'.Asked, Reads'.Learnt, Reads'5.Asked, Reads'5.Learnt) Reads'4.Pre Reads'4.Post M → Statement.statement M
   unfolding Code.routine Running.tablesOf
-  close = λ closed 𝓤 H 𝓜 𝓖 𝓡. Written.close 0 Kinds.ps Kinds.r Reads'3.Ghost Reads'3.requires Reads'3.ensures Reads'3.pre-read Reads'3.Pinned Reads'3.Owned Reads'3.post-read record { M = M; 𝓤 = 𝓤; H = H; 𝓜 = 𝓜; 𝓖 = 𝓖; 𝓡 = 𝓡 } Code.env Key.name Code.function (Code.unfolded 𝓤 H 𝓜 𝓡) (λ κs a g. tt) (λ κs. Reads'3.owns κs record { M = M; 𝓤 = 𝓤; H = H; 𝓜 = 𝓜; 𝓖 = 𝓖; 𝓡 = 𝓡 }) (Reads'3.passes record { M = M; 𝓤 = 𝓤; H = H; 𝓜 = 𝓜; 𝓖 = 𝓖; 𝓡 = 𝓡 }) λ g. closed 𝓤 H (𝓖 .A) (Running.givenOf 𝓤 H 𝓜 𝓖) (Run.Over 𝓤 H 𝓜 𝓖 𝓡 Code.env) (Reads'.known record { M = M; 𝓤 = 𝓤; H = H; 𝓜 = 𝓜; 𝓖 = 𝓖; 𝓡 = 𝓡 } Code.env Symbol'.name Symbol'.routine Code.calls-replay·calls·seven-nodes (Met'.met 𝓤 H 𝓜 𝓖 𝓡)) (Reads'4.known record { M = M; 𝓤 = 𝓤; H = H; 𝓜 = 𝓜; 𝓖 = 𝓖; 𝓡 = 𝓡 } Code.env Symbol'3.name Symbol'3.routine Code.calls-run·run (Met'3.met 𝓤 H 𝓜 𝓖 𝓡)) (Reads''.known record { M = M; 𝓤 = 𝓤; H = H; 𝓜 = 𝓜; 𝓖 = 𝓖; 𝓡 = 𝓡 } Code.env Symbol''.name Symbol''.routine Code.calls-replay·calls·with-rows (Met''.met 𝓤 H 𝓜 𝓖 𝓡)) (Reads.known record { M = M; 𝓤 = 𝓤; H = H; 𝓜 = 𝓜; 𝓖 = 𝓖; 𝓡 = 𝓡 } Code.env Symbol.name Symbol.routine Code.calls-replay·calls·ring-holds (Met.met 𝓤 H 𝓜 𝓖 𝓡)) (Reads'5.known record { M = M; 𝓤 = 𝓤; H = H; 𝓜 = 𝓜; 𝓖 = 𝓖; 𝓡 = 𝓡 } Code.env Symbol'4.name Symbol'4.routine Code.calls-test-mesh·holds (Met'4.met 𝓤 H 𝓜 𝓖 𝓡))
+  close = λ closed 𝓤 H 𝓜 𝓖 𝓡. Written.close 0 Kinds.ps Kinds.r Reads'4.Ghost Reads'4.requires Reads'4.ensures Reads'4.pre-read Reads'4.Pinned Reads'4.Owned Reads'4.post-read record { M = M; 𝓤 = 𝓤; H = H; 𝓜 = 𝓜; 𝓖 = 𝓖; 𝓡 = 𝓡 } Code.env Key.name Code.function (Code.unfolded 𝓤 H 𝓜 𝓡) (λ κs a g. tt) (λ κs. Reads'4.owns κs record { M = M; 𝓤 = 𝓤; H = H; 𝓜 = 𝓜; 𝓖 = 𝓖; 𝓡 = 𝓡 }) (Reads'4.passes record { M = M; 𝓤 = 𝓤; H = H; 𝓜 = 𝓜; 𝓖 = 𝓖; 𝓡 = 𝓡 }) λ g. closed 𝓤 H (𝓖 .A) (Running.givenOf 𝓤 H 𝓜 𝓖) (Run.Over 𝓤 H 𝓜 𝓖 𝓡 Code.env) (Reads''.known record { M = M; 𝓤 = 𝓤; H = H; 𝓜 = 𝓜; 𝓖 = 𝓖; 𝓡 = 𝓡 } Code.env Symbol''.name Symbol''.routine Code.calls-replay·calls·seven-nodes (Met''.met 𝓤 H 𝓜 𝓖 𝓡)) (Reads.known record { M = M; 𝓤 = 𝓤; H = H; 𝓜 = 𝓜; 𝓖 = 𝓖; 𝓡 = 𝓡 } Code.env Symbol.name Symbol.routine Code.calls-fithmoul·fithmoul-run (Met.met 𝓤 H 𝓜 𝓖 𝓡)) (Reads'3.known record { M = M; 𝓤 = 𝓤; H = H; 𝓜 = 𝓜; 𝓖 = 𝓖; 𝓡 = 𝓡 } Code.env Symbol'3.name Symbol'3.routine Code.calls-replay·calls·with-rows (Met'3.met 𝓤 H 𝓜 𝓖 𝓡)) (Reads'.known record { M = M; 𝓤 = 𝓤; H = H; 𝓜 = 𝓜; 𝓖 = 𝓖; 𝓡 = 𝓡 } Code.env Symbol'.name Symbol'.routine Code.calls-replay·calls·ring-holds (Met'.met 𝓤 H 𝓜 𝓖 𝓡)) (Reads'5.known record { M = M; 𝓤 = 𝓤; H = H; 𝓜 = 𝓜; 𝓖 = 𝓖; 𝓡 = 𝓡 } Code.env Symbol'4.name Symbol'4.routine Code.calls-test-mesh·holds (Met'4.met 𝓤 H 𝓜 𝓖 𝓡))

@@ -1,22 +1,22 @@
 -- Made by tools/transplant.py from what the borrow checker makes of the twin of this crate.
-use Rattle.replay.proofs.calls.ring_holds.Met
-use Rattle.replay.proofs.calls.ring_holds.Reads
-use Rattle.replay.proofs.calls.ring_holds.Symbol
-use Rattle.replay.proofs.calls.seven_nodes.Met as Met'
-use Rattle.replay.proofs.calls.seven_nodes.Reads as Reads'
-use Rattle.replay.proofs.calls.seven_nodes.Symbol as Symbol'
-use Rattle.replay.proofs.calls.with_rows.Met as Met''
-use Rattle.replay.proofs.calls.with_rows.Reads as Reads''
-use Rattle.replay.proofs.calls.with_rows.Symbol as Symbol''
+use Rattle.fithmoul.proofs.fithmoul_step.Met
+use Rattle.replay.proofs.Sig.Reads_fithmoul_fithmoul_step as Reads
+use Rattle.fithmoul.proofs.fithmoul_step.Symbol
+use Rattle.replay.proofs.calls.ring_holds.Met as Met'
+use Rattle.replay.proofs.calls.ring_holds.Reads as Reads'
+use Rattle.replay.proofs.calls.ring_holds.Symbol as Symbol'
+use Rattle.replay.proofs.calls.seven_nodes.Met as Met''
+use Rattle.replay.proofs.calls.seven_nodes.Reads as Reads''
+use Rattle.replay.proofs.calls.seven_nodes.Symbol as Symbol''
+use Rattle.replay.proofs.calls.with_rows.Met as Met'3
+use Rattle.replay.proofs.calls.with_rows.Reads as Reads'3
+use Rattle.replay.proofs.calls.with_rows.Symbol as Symbol'3
 use Rattle.replay.proofs.step_cases.step_on.Code
 use Rattle.replay.proofs.step_cases.step_on.Key
 use Rattle.replay.proofs.step_cases.step_on.Kinds
 use Rattle.replay.proofs.step_cases.step_on.Proof.Lts
-use Rattle.replay.proofs.step_cases.step_on.Reads as Reads'3
+use Rattle.replay.proofs.step_cases.step_on.Reads as Reads'4
 use Rattle.replay.proofs.step_cases.step_on.Statement
-use Rattle.step.proofs.step.Met as Met'3
-use Rattle.replay.proofs.Sig.Reads_step_step as Reads'4
-use Rattle.step.proofs.step.Symbol as Symbol'3
 use Rattle.test_mesh.proofs.holds.Met as Met'4
 use Rattle.test_mesh.proofs.holds.Reads as Reads'5
 use Rattle.test_mesh.proofs.holds.Symbol as Symbol'4
@@ -25,156 +25,162 @@ use borrow.Fn.Written
 use contract.Running
 
 abbrev pub Start : Type 0
-Start = Lts.Start (Reads'.Asked, Reads'.Learnt, Reads'4.Asked, Reads'4.Learnt, Reads''.Asked, Reads''.Learnt, Reads.Asked, Reads.Learnt, Reads'5.Asked, Reads'5.Learnt) Reads'3.Pre Reads'3.Post
+Start = Lts.Start (Reads''.Asked, Reads''.Learnt, Reads.Asked, Reads.Learnt, Reads'3.Asked, Reads'3.Learnt, Reads'.Asked, Reads'.Learnt, Reads'5.Asked, Reads'5.Learnt) Reads'4.Pre Reads'4.Post
 
 abbrev pub After-positions : Type 0
-After-positions = Lts.After-positions (Reads'.Asked, Reads'.Learnt, Reads'4.Asked, Reads'4.Learnt, Reads''.Asked, Reads''.Learnt, Reads.Asked, Reads.Learnt, Reads'5.Asked, Reads'5.Learnt) Reads'3.Pre Reads'3.Post
+After-positions = Lts.After-positions (Reads''.Asked, Reads''.Learnt, Reads.Asked, Reads.Learnt, Reads'3.Asked, Reads'3.Learnt, Reads'.Asked, Reads'.Learnt, Reads'5.Asked, Reads'5.Learnt) Reads'4.Pre Reads'4.Post
 
 abbrev pub After-outs : Type 0
-After-outs = Lts.After-outs (Reads'.Asked, Reads'.Learnt, Reads'4.Asked, Reads'4.Learnt, Reads''.Asked, Reads''.Learnt, Reads.Asked, Reads.Learnt, Reads'5.Asked, Reads'5.Learnt) Reads'3.Pre Reads'3.Post
+After-outs = Lts.After-outs (Reads''.Asked, Reads''.Learnt, Reads.Asked, Reads.Learnt, Reads'3.Asked, Reads'3.Learnt, Reads'.Asked, Reads'.Learnt, Reads'5.Asked, Reads'5.Learnt) Reads'4.Pre Reads'4.Post
 
 abbrev pub After-halves : Type 0
-After-halves = Lts.After-halves (Reads'.Asked, Reads'.Learnt, Reads'4.Asked, Reads'4.Learnt, Reads''.Asked, Reads''.Learnt, Reads.Asked, Reads.Learnt, Reads'5.Asked, Reads'5.Learnt) Reads'3.Pre Reads'3.Post
+After-halves = Lts.After-halves (Reads''.Asked, Reads''.Learnt, Reads.Asked, Reads.Learnt, Reads'3.Asked, Reads'3.Learnt, Reads'.Asked, Reads'.Learnt, Reads'5.Asked, Reads'5.Learnt) Reads'4.Pre Reads'4.Post
 
 abbrev pub After-faces : Type 0
-After-faces = Lts.After-faces (Reads'.Asked, Reads'.Learnt, Reads'4.Asked, Reads'4.Learnt, Reads''.Asked, Reads''.Learnt, Reads.Asked, Reads.Learnt, Reads'5.Asked, Reads'5.Learnt) Reads'3.Pre Reads'3.Post
+After-faces = Lts.After-faces (Reads''.Asked, Reads''.Learnt, Reads.Asked, Reads.Learnt, Reads'3.Asked, Reads'3.Learnt, Reads'.Asked, Reads'.Learnt, Reads'5.Asked, Reads'5.Learnt) Reads'4.Pre Reads'4.Post
 
 abbrev pub After-seven-nodes : Type 0
-After-seven-nodes = Lts.After-seven-nodes (Reads'.Asked, Reads'.Learnt, Reads'4.Asked, Reads'4.Learnt, Reads''.Asked, Reads''.Learnt, Reads.Asked, Reads.Learnt, Reads'5.Asked, Reads'5.Learnt) Reads'3.Pre Reads'3.Post
+After-seven-nodes = Lts.After-seven-nodes (Reads''.Asked, Reads''.Learnt, Reads.Asked, Reads.Learnt, Reads'3.Asked, Reads'3.Learnt, Reads'.Asked, Reads'.Learnt, Reads'5.Asked, Reads'5.Learnt) Reads'4.Pre Reads'4.Post
+
+abbrev pub After-counts : Type 0
+After-counts = Lts.After-counts (Reads''.Asked, Reads''.Learnt, Reads.Asked, Reads.Learnt, Reads'3.Asked, Reads'3.Learnt, Reads'.Asked, Reads'.Learnt, Reads'5.Asked, Reads'5.Learnt) Reads'4.Pre Reads'4.Post
 
 abbrev pub After-positions2 : Type 0
-After-positions2 = Lts.After-positions2 (Reads'.Asked, Reads'.Learnt, Reads'4.Asked, Reads'4.Learnt, Reads''.Asked, Reads''.Learnt, Reads.Asked, Reads.Learnt, Reads'5.Asked, Reads'5.Learnt) Reads'3.Pre Reads'3.Post
+After-positions2 = Lts.After-positions2 (Reads''.Asked, Reads''.Learnt, Reads.Asked, Reads.Learnt, Reads'3.Asked, Reads'3.Learnt, Reads'.Asked, Reads'.Learnt, Reads'5.Asked, Reads'5.Learnt) Reads'4.Pre Reads'4.Post
 
 abbrev pub After-outs2 : Type 0
-After-outs2 = Lts.After-outs2 (Reads'.Asked, Reads'.Learnt, Reads'4.Asked, Reads'4.Learnt, Reads''.Asked, Reads''.Learnt, Reads.Asked, Reads.Learnt, Reads'5.Asked, Reads'5.Learnt) Reads'3.Pre Reads'3.Post
+After-outs2 = Lts.After-outs2 (Reads''.Asked, Reads''.Learnt, Reads.Asked, Reads.Learnt, Reads'3.Asked, Reads'3.Learnt, Reads'.Asked, Reads'.Learnt, Reads'5.Asked, Reads'5.Learnt) Reads'4.Pre Reads'4.Post
 
 abbrev pub After-halves2 : Type 0
-After-halves2 = Lts.After-halves2 (Reads'.Asked, Reads'.Learnt, Reads'4.Asked, Reads'4.Learnt, Reads''.Asked, Reads''.Learnt, Reads.Asked, Reads.Learnt, Reads'5.Asked, Reads'5.Learnt) Reads'3.Pre Reads'3.Post
+After-halves2 = Lts.After-halves2 (Reads''.Asked, Reads''.Learnt, Reads.Asked, Reads.Learnt, Reads'3.Asked, Reads'3.Learnt, Reads'.Asked, Reads'.Learnt, Reads'5.Asked, Reads'5.Learnt) Reads'4.Pre Reads'4.Post
 
 abbrev pub After-faces2 : Type 0
-After-faces2 = Lts.After-faces2 (Reads'.Asked, Reads'.Learnt, Reads'4.Asked, Reads'4.Learnt, Reads''.Asked, Reads''.Learnt, Reads.Asked, Reads.Learnt, Reads'5.Asked, Reads'5.Learnt) Reads'3.Pre Reads'3.Post
+After-faces2 = Lts.After-faces2 (Reads''.Asked, Reads''.Learnt, Reads.Asked, Reads.Learnt, Reads'3.Asked, Reads'3.Learnt, Reads'.Asked, Reads'.Learnt, Reads'5.Asked, Reads'5.Learnt) Reads'4.Pre Reads'4.Post
 
 abbrev pub After-nodes : Type 0
-After-nodes = Lts.After-nodes (Reads'.Asked, Reads'.Learnt, Reads'4.Asked, Reads'4.Learnt, Reads''.Asked, Reads''.Learnt, Reads.Asked, Reads.Learnt, Reads'5.Asked, Reads'5.Learnt) Reads'3.Pre Reads'3.Post
+After-nodes = Lts.After-nodes (Reads''.Asked, Reads''.Learnt, Reads.Asked, Reads.Learnt, Reads'3.Asked, Reads'3.Learnt, Reads'.Asked, Reads'.Learnt, Reads'5.Asked, Reads'5.Learnt) Reads'4.Pre Reads'4.Post
 
 abbrev pub After-freed : Type 0
-After-freed = Lts.After-freed (Reads'.Asked, Reads'.Learnt, Reads'4.Asked, Reads'4.Learnt, Reads''.Asked, Reads''.Learnt, Reads.Asked, Reads.Learnt, Reads'5.Asked, Reads'5.Learnt) Reads'3.Pre Reads'3.Post
+After-freed = Lts.After-freed (Reads''.Asked, Reads''.Learnt, Reads.Asked, Reads.Learnt, Reads'3.Asked, Reads'3.Learnt, Reads'.Asked, Reads'.Learnt, Reads'5.Asked, Reads'5.Learnt) Reads'4.Pre Reads'4.Post
 
 abbrev pub After-buckets : Type 0
-After-buckets = Lts.After-buckets (Reads'.Asked, Reads'.Learnt, Reads'4.Asked, Reads'4.Learnt, Reads''.Asked, Reads''.Learnt, Reads.Asked, Reads.Learnt, Reads'5.Asked, Reads'5.Learnt) Reads'3.Pre Reads'3.Post
+After-buckets = Lts.After-buckets (Reads''.Asked, Reads''.Learnt, Reads.Asked, Reads.Learnt, Reads'3.Asked, Reads'3.Learnt, Reads'.Asked, Reads'.Learnt, Reads'5.Asked, Reads'5.Learnt) Reads'4.Pre Reads'4.Post
 
 abbrev pub After-pending : Type 0
-After-pending = Lts.After-pending (Reads'.Asked, Reads'.Learnt, Reads'4.Asked, Reads'4.Learnt, Reads''.Asked, Reads''.Learnt, Reads.Asked, Reads.Learnt, Reads'5.Asked, Reads'5.Learnt) Reads'3.Pre Reads'3.Post
+After-pending = Lts.After-pending (Reads''.Asked, Reads''.Learnt, Reads.Asked, Reads.Learnt, Reads'3.Asked, Reads'3.Learnt, Reads'.Asked, Reads'.Learnt, Reads'5.Asked, Reads'5.Learnt) Reads'4.Pre Reads'4.Post
 
-abbrev pub After-step : Type 0
-After-step = Lts.After-step (Reads'.Asked, Reads'.Learnt, Reads'4.Asked, Reads'4.Learnt, Reads''.Asked, Reads''.Learnt, Reads.Asked, Reads.Learnt, Reads'5.Asked, Reads'5.Learnt) Reads'3.Pre Reads'3.Post
+abbrev pub After-struct-told : Type 0
+After-struct-told = Lts.After-struct-told (Reads''.Asked, Reads''.Learnt, Reads.Asked, Reads.Learnt, Reads'3.Asked, Reads'3.Learnt, Reads'.Asked, Reads'.Learnt, Reads'5.Asked, Reads'5.Learnt) Reads'4.Pre Reads'4.Post
+
+abbrev pub After-struct-told2 : Type 0
+After-struct-told2 = Lts.After-struct-told2 (Reads''.Asked, Reads''.Learnt, Reads.Asked, Reads.Learnt, Reads'3.Asked, Reads'3.Learnt, Reads'.Asked, Reads'.Learnt, Reads'5.Asked, Reads'5.Learnt) Reads'4.Pre Reads'4.Post
+
+abbrev pub After-fithmoul-step : Type 0
+After-fithmoul-step = Lts.After-fithmoul-step (Reads''.Asked, Reads''.Learnt, Reads.Asked, Reads.Learnt, Reads'3.Asked, Reads'3.Learnt, Reads'.Asked, Reads'.Learnt, Reads'5.Asked, Reads'5.Learnt) Reads'4.Pre Reads'4.Post
 
 abbrev pub After-positions3 : Type 0
-After-positions3 = Lts.After-positions3 (Reads'.Asked, Reads'.Learnt, Reads'4.Asked, Reads'4.Learnt, Reads''.Asked, Reads''.Learnt, Reads.Asked, Reads.Learnt, Reads'5.Asked, Reads'5.Learnt) Reads'3.Pre Reads'3.Post
+After-positions3 = Lts.After-positions3 (Reads''.Asked, Reads''.Learnt, Reads.Asked, Reads.Learnt, Reads'3.Asked, Reads'3.Learnt, Reads'.Asked, Reads'.Learnt, Reads'5.Asked, Reads'5.Learnt) Reads'4.Pre Reads'4.Post
 
 abbrev pub After-outs3 : Type 0
-After-outs3 = Lts.After-outs3 (Reads'.Asked, Reads'.Learnt, Reads'4.Asked, Reads'4.Learnt, Reads''.Asked, Reads''.Learnt, Reads.Asked, Reads.Learnt, Reads'5.Asked, Reads'5.Learnt) Reads'3.Pre Reads'3.Post
+After-outs3 = Lts.After-outs3 (Reads''.Asked, Reads''.Learnt, Reads.Asked, Reads.Learnt, Reads'3.Asked, Reads'3.Learnt, Reads'.Asked, Reads'.Learnt, Reads'5.Asked, Reads'5.Learnt) Reads'4.Pre Reads'4.Post
 
 abbrev pub After-halves3 : Type 0
-After-halves3 = Lts.After-halves3 (Reads'.Asked, Reads'.Learnt, Reads'4.Asked, Reads'4.Learnt, Reads''.Asked, Reads''.Learnt, Reads.Asked, Reads.Learnt, Reads'5.Asked, Reads'5.Learnt) Reads'3.Pre Reads'3.Post
+After-halves3 = Lts.After-halves3 (Reads''.Asked, Reads''.Learnt, Reads.Asked, Reads.Learnt, Reads'3.Asked, Reads'3.Learnt, Reads'.Asked, Reads'.Learnt, Reads'5.Asked, Reads'5.Learnt) Reads'4.Pre Reads'4.Post
 
 abbrev pub After-faces3 : Type 0
-After-faces3 = Lts.After-faces3 (Reads'.Asked, Reads'.Learnt, Reads'4.Asked, Reads'4.Learnt, Reads''.Asked, Reads''.Learnt, Reads.Asked, Reads.Learnt, Reads'5.Asked, Reads'5.Learnt) Reads'3.Pre Reads'3.Post
+After-faces3 = Lts.After-faces3 (Reads''.Asked, Reads''.Learnt, Reads.Asked, Reads.Learnt, Reads'3.Asked, Reads'3.Learnt, Reads'.Asked, Reads'.Learnt, Reads'5.Asked, Reads'5.Learnt) Reads'4.Pre Reads'4.Post
 
 abbrev pub After-nodes2 : Type 0
-After-nodes2 = Lts.After-nodes2 (Reads'.Asked, Reads'.Learnt, Reads'4.Asked, Reads'4.Learnt, Reads''.Asked, Reads''.Learnt, Reads.Asked, Reads.Learnt, Reads'5.Asked, Reads'5.Learnt) Reads'3.Pre Reads'3.Post
+After-nodes2 = Lts.After-nodes2 (Reads''.Asked, Reads''.Learnt, Reads.Asked, Reads.Learnt, Reads'3.Asked, Reads'3.Learnt, Reads'.Asked, Reads'.Learnt, Reads'5.Asked, Reads'5.Learnt) Reads'4.Pre Reads'4.Post
 
 abbrev pub After-freed2 : Type 0
-After-freed2 = Lts.After-freed2 (Reads'.Asked, Reads'.Learnt, Reads'4.Asked, Reads'4.Learnt, Reads''.Asked, Reads''.Learnt, Reads.Asked, Reads.Learnt, Reads'5.Asked, Reads'5.Learnt) Reads'3.Pre Reads'3.Post
+After-freed2 = Lts.After-freed2 (Reads''.Asked, Reads''.Learnt, Reads.Asked, Reads.Learnt, Reads'3.Asked, Reads'3.Learnt, Reads'.Asked, Reads'.Learnt, Reads'5.Asked, Reads'5.Learnt) Reads'4.Pre Reads'4.Post
 
 abbrev pub After-buckets2 : Type 0
-After-buckets2 = Lts.After-buckets2 (Reads'.Asked, Reads'.Learnt, Reads'4.Asked, Reads'4.Learnt, Reads''.Asked, Reads''.Learnt, Reads.Asked, Reads.Learnt, Reads'5.Asked, Reads'5.Learnt) Reads'3.Pre Reads'3.Post
+After-buckets2 = Lts.After-buckets2 (Reads''.Asked, Reads''.Learnt, Reads.Asked, Reads.Learnt, Reads'3.Asked, Reads'3.Learnt, Reads'.Asked, Reads'.Learnt, Reads'5.Asked, Reads'5.Learnt) Reads'4.Pre Reads'4.Post
 
 abbrev pub After-pending2 : Type 0
-After-pending2 = Lts.After-pending2 (Reads'.Asked, Reads'.Learnt, Reads'4.Asked, Reads'4.Learnt, Reads''.Asked, Reads''.Learnt, Reads.Asked, Reads.Learnt, Reads'5.Asked, Reads'5.Learnt) Reads'3.Pre Reads'3.Post
-
-abbrev pub After-left : Type 0
-After-left = Lts.After-left (Reads'.Asked, Reads'.Learnt, Reads'4.Asked, Reads'4.Learnt, Reads''.Asked, Reads''.Learnt, Reads.Asked, Reads.Learnt, Reads'5.Asked, Reads'5.Learnt) Reads'3.Pre Reads'3.Post
+After-pending2 = Lts.After-pending2 (Reads''.Asked, Reads''.Learnt, Reads.Asked, Reads.Learnt, Reads'3.Asked, Reads'3.Learnt, Reads'.Asked, Reads'.Learnt, Reads'5.Asked, Reads'5.Learnt) Reads'4.Pre Reads'4.Post
 
 abbrev pub After-with-rows : Type 0
-After-with-rows = Lts.After-with-rows (Reads'.Asked, Reads'.Learnt, Reads'4.Asked, Reads'4.Learnt, Reads''.Asked, Reads''.Learnt, Reads.Asked, Reads.Learnt, Reads'5.Asked, Reads'5.Learnt) Reads'3.Pre Reads'3.Post
+After-with-rows = Lts.After-with-rows (Reads''.Asked, Reads''.Learnt, Reads.Asked, Reads.Learnt, Reads'3.Asked, Reads'3.Learnt, Reads'.Asked, Reads'.Learnt, Reads'5.Asked, Reads'5.Learnt) Reads'4.Pre Reads'4.Post
 
 abbrev pub After-ring-holds : Type 0
-After-ring-holds = Lts.After-ring-holds (Reads'.Asked, Reads'.Learnt, Reads'4.Asked, Reads'4.Learnt, Reads''.Asked, Reads''.Learnt, Reads.Asked, Reads.Learnt, Reads'5.Asked, Reads'5.Learnt) Reads'3.Pre Reads'3.Post
+After-ring-holds = Lts.After-ring-holds (Reads''.Asked, Reads''.Learnt, Reads.Asked, Reads.Learnt, Reads'3.Asked, Reads'3.Learnt, Reads'.Asked, Reads'.Learnt, Reads'5.Asked, Reads'5.Learnt) Reads'4.Pre Reads'4.Post
 
 abbrev pub After-holds : Type 0
-After-holds = Lts.After-holds (Reads'.Asked, Reads'.Learnt, Reads'4.Asked, Reads'4.Learnt, Reads''.Asked, Reads''.Learnt, Reads.Asked, Reads.Learnt, Reads'5.Asked, Reads'5.Learnt) Reads'3.Pre Reads'3.Post
+After-holds = Lts.After-holds (Reads''.Asked, Reads''.Learnt, Reads.Asked, Reads.Learnt, Reads'3.Asked, Reads'3.Learnt, Reads'.Asked, Reads'.Learnt, Reads'5.Asked, Reads'5.Learnt) Reads'4.Pre Reads'4.Post
 
 abbrev pub Need-seven-nodes-requires : Type 0
-Need-seven-nodes-requires = Lts.Need-seven-nodes-requires (Reads'.Asked, Reads'.Learnt, Reads'4.Asked, Reads'4.Learnt, Reads''.Asked, Reads''.Learnt, Reads.Asked, Reads.Learnt, Reads'5.Asked, Reads'5.Learnt) Reads'3.Pre Reads'3.Post
+Need-seven-nodes-requires = Lts.Need-seven-nodes-requires (Reads''.Asked, Reads''.Learnt, Reads.Asked, Reads.Learnt, Reads'3.Asked, Reads'3.Learnt, Reads'.Asked, Reads'.Learnt, Reads'5.Asked, Reads'5.Learnt) Reads'4.Pre Reads'4.Post
 
 abbrev pub Need-array-borrow-prefix-positions : Type 0
-Need-array-borrow-prefix-positions = Lts.Need-array-borrow-prefix-positions (Reads'.Asked, Reads'.Learnt, Reads'4.Asked, Reads'4.Learnt, Reads''.Asked, Reads''.Learnt, Reads.Asked, Reads.Learnt, Reads'5.Asked, Reads'5.Learnt) Reads'3.Pre Reads'3.Post
+Need-array-borrow-prefix-positions = Lts.Need-array-borrow-prefix-positions (Reads''.Asked, Reads''.Learnt, Reads.Asked, Reads.Learnt, Reads'3.Asked, Reads'3.Learnt, Reads'.Asked, Reads'.Learnt, Reads'5.Asked, Reads'5.Learnt) Reads'4.Pre Reads'4.Post
 
-abbrev pub Need-slice-aggregate-step : Type 0
-Need-slice-aggregate-step = Lts.Need-slice-aggregate-step (Reads'.Asked, Reads'.Learnt, Reads'4.Asked, Reads'4.Learnt, Reads''.Asked, Reads''.Learnt, Reads.Asked, Reads.Learnt, Reads'5.Asked, Reads'5.Learnt) Reads'3.Pre Reads'3.Post
+abbrev pub Need-slice-aggregate-fithmoul-step : Type 0
+Need-slice-aggregate-fithmoul-step = Lts.Need-slice-aggregate-fithmoul-step (Reads''.Asked, Reads''.Learnt, Reads.Asked, Reads.Learnt, Reads'3.Asked, Reads'3.Learnt, Reads'.Asked, Reads'.Learnt, Reads'5.Asked, Reads'5.Learnt) Reads'4.Pre Reads'4.Post
 
 abbrev pub Need-array-borrow-prefix-outs : Type 0
-Need-array-borrow-prefix-outs = Lts.Need-array-borrow-prefix-outs (Reads'.Asked, Reads'.Learnt, Reads'4.Asked, Reads'4.Learnt, Reads''.Asked, Reads''.Learnt, Reads.Asked, Reads.Learnt, Reads'5.Asked, Reads'5.Learnt) Reads'3.Pre Reads'3.Post
+Need-array-borrow-prefix-outs = Lts.Need-array-borrow-prefix-outs (Reads''.Asked, Reads''.Learnt, Reads.Asked, Reads.Learnt, Reads'3.Asked, Reads'3.Learnt, Reads'.Asked, Reads'.Learnt, Reads'5.Asked, Reads'5.Learnt) Reads'4.Pre Reads'4.Post
 
-abbrev pub Need-slice-aggregate-step-2 : Type 0
-Need-slice-aggregate-step-2 = Lts.Need-slice-aggregate-step-2 (Reads'.Asked, Reads'.Learnt, Reads'4.Asked, Reads'4.Learnt, Reads''.Asked, Reads''.Learnt, Reads.Asked, Reads.Learnt, Reads'5.Asked, Reads'5.Learnt) Reads'3.Pre Reads'3.Post
+abbrev pub Need-slice-aggregate-fithmoul-step-2 : Type 0
+Need-slice-aggregate-fithmoul-step-2 = Lts.Need-slice-aggregate-fithmoul-step-2 (Reads''.Asked, Reads''.Learnt, Reads.Asked, Reads.Learnt, Reads'3.Asked, Reads'3.Learnt, Reads'.Asked, Reads'.Learnt, Reads'5.Asked, Reads'5.Learnt) Reads'4.Pre Reads'4.Post
 
 abbrev pub Need-array-borrow-prefix-halves : Type 0
-Need-array-borrow-prefix-halves = Lts.Need-array-borrow-prefix-halves (Reads'.Asked, Reads'.Learnt, Reads'4.Asked, Reads'4.Learnt, Reads''.Asked, Reads''.Learnt, Reads.Asked, Reads.Learnt, Reads'5.Asked, Reads'5.Learnt) Reads'3.Pre Reads'3.Post
+Need-array-borrow-prefix-halves = Lts.Need-array-borrow-prefix-halves (Reads''.Asked, Reads''.Learnt, Reads.Asked, Reads.Learnt, Reads'3.Asked, Reads'3.Learnt, Reads'.Asked, Reads'.Learnt, Reads'5.Asked, Reads'5.Learnt) Reads'4.Pre Reads'4.Post
 
-abbrev pub Need-slice-aggregate-step-3 : Type 0
-Need-slice-aggregate-step-3 = Lts.Need-slice-aggregate-step-3 (Reads'.Asked, Reads'.Learnt, Reads'4.Asked, Reads'4.Learnt, Reads''.Asked, Reads''.Learnt, Reads.Asked, Reads.Learnt, Reads'5.Asked, Reads'5.Learnt) Reads'3.Pre Reads'3.Post
+abbrev pub Need-slice-aggregate-fithmoul-step-3 : Type 0
+Need-slice-aggregate-fithmoul-step-3 = Lts.Need-slice-aggregate-fithmoul-step-3 (Reads''.Asked, Reads''.Learnt, Reads.Asked, Reads.Learnt, Reads'3.Asked, Reads'3.Learnt, Reads'.Asked, Reads'.Learnt, Reads'5.Asked, Reads'5.Learnt) Reads'4.Pre Reads'4.Post
 
 abbrev pub Need-array-borrow-prefix-faces : Type 0
-Need-array-borrow-prefix-faces = Lts.Need-array-borrow-prefix-faces (Reads'.Asked, Reads'.Learnt, Reads'4.Asked, Reads'4.Learnt, Reads''.Asked, Reads''.Learnt, Reads.Asked, Reads.Learnt, Reads'5.Asked, Reads'5.Learnt) Reads'3.Pre Reads'3.Post
+Need-array-borrow-prefix-faces = Lts.Need-array-borrow-prefix-faces (Reads''.Asked, Reads''.Learnt, Reads.Asked, Reads.Learnt, Reads'3.Asked, Reads'3.Learnt, Reads'.Asked, Reads'.Learnt, Reads'5.Asked, Reads'5.Learnt) Reads'4.Pre Reads'4.Post
 
-abbrev pub Need-slice-aggregate-step-4 : Type 0
-Need-slice-aggregate-step-4 = Lts.Need-slice-aggregate-step-4 (Reads'.Asked, Reads'.Learnt, Reads'4.Asked, Reads'4.Learnt, Reads''.Asked, Reads''.Learnt, Reads.Asked, Reads.Learnt, Reads'5.Asked, Reads'5.Learnt) Reads'3.Pre Reads'3.Post
+abbrev pub Need-slice-aggregate-fithmoul-step-4 : Type 0
+Need-slice-aggregate-fithmoul-step-4 = Lts.Need-slice-aggregate-fithmoul-step-4 (Reads''.Asked, Reads''.Learnt, Reads.Asked, Reads.Learnt, Reads'3.Asked, Reads'3.Learnt, Reads'.Asked, Reads'.Learnt, Reads'5.Asked, Reads'5.Learnt) Reads'4.Pre Reads'4.Post
 
 abbrev pub Need-array-borrow-prefix-nodes : Type 0
-Need-array-borrow-prefix-nodes = Lts.Need-array-borrow-prefix-nodes (Reads'.Asked, Reads'.Learnt, Reads'4.Asked, Reads'4.Learnt, Reads''.Asked, Reads''.Learnt, Reads.Asked, Reads.Learnt, Reads'5.Asked, Reads'5.Learnt) Reads'3.Pre Reads'3.Post
+Need-array-borrow-prefix-nodes = Lts.Need-array-borrow-prefix-nodes (Reads''.Asked, Reads''.Learnt, Reads.Asked, Reads.Learnt, Reads'3.Asked, Reads'3.Learnt, Reads'.Asked, Reads'.Learnt, Reads'5.Asked, Reads'5.Learnt) Reads'4.Pre Reads'4.Post
 
-abbrev pub Need-slice-aggregate-step-5 : Type 0
-Need-slice-aggregate-step-5 = Lts.Need-slice-aggregate-step-5 (Reads'.Asked, Reads'.Learnt, Reads'4.Asked, Reads'4.Learnt, Reads''.Asked, Reads''.Learnt, Reads.Asked, Reads.Learnt, Reads'5.Asked, Reads'5.Learnt) Reads'3.Pre Reads'3.Post
+abbrev pub Need-slice-aggregate-fithmoul-step-5 : Type 0
+Need-slice-aggregate-fithmoul-step-5 = Lts.Need-slice-aggregate-fithmoul-step-5 (Reads''.Asked, Reads''.Learnt, Reads.Asked, Reads.Learnt, Reads'3.Asked, Reads'3.Learnt, Reads'.Asked, Reads'.Learnt, Reads'5.Asked, Reads'5.Learnt) Reads'4.Pre Reads'4.Post
 
 abbrev pub Need-array-borrow-prefix-freed : Type 0
-Need-array-borrow-prefix-freed = Lts.Need-array-borrow-prefix-freed (Reads'.Asked, Reads'.Learnt, Reads'4.Asked, Reads'4.Learnt, Reads''.Asked, Reads''.Learnt, Reads.Asked, Reads.Learnt, Reads'5.Asked, Reads'5.Learnt) Reads'3.Pre Reads'3.Post
+Need-array-borrow-prefix-freed = Lts.Need-array-borrow-prefix-freed (Reads''.Asked, Reads''.Learnt, Reads.Asked, Reads.Learnt, Reads'3.Asked, Reads'3.Learnt, Reads'.Asked, Reads'.Learnt, Reads'5.Asked, Reads'5.Learnt) Reads'4.Pre Reads'4.Post
 
-abbrev pub Need-slice-aggregate-step-6 : Type 0
-Need-slice-aggregate-step-6 = Lts.Need-slice-aggregate-step-6 (Reads'.Asked, Reads'.Learnt, Reads'4.Asked, Reads'4.Learnt, Reads''.Asked, Reads''.Learnt, Reads.Asked, Reads.Learnt, Reads'5.Asked, Reads'5.Learnt) Reads'3.Pre Reads'3.Post
+abbrev pub Need-slice-aggregate-fithmoul-step-6 : Type 0
+Need-slice-aggregate-fithmoul-step-6 = Lts.Need-slice-aggregate-fithmoul-step-6 (Reads''.Asked, Reads''.Learnt, Reads.Asked, Reads.Learnt, Reads'3.Asked, Reads'3.Learnt, Reads'.Asked, Reads'.Learnt, Reads'5.Asked, Reads'5.Learnt) Reads'4.Pre Reads'4.Post
 
 abbrev pub Need-array-borrow-prefix-buckets : Type 0
-Need-array-borrow-prefix-buckets = Lts.Need-array-borrow-prefix-buckets (Reads'.Asked, Reads'.Learnt, Reads'4.Asked, Reads'4.Learnt, Reads''.Asked, Reads''.Learnt, Reads.Asked, Reads.Learnt, Reads'5.Asked, Reads'5.Learnt) Reads'3.Pre Reads'3.Post
+Need-array-borrow-prefix-buckets = Lts.Need-array-borrow-prefix-buckets (Reads''.Asked, Reads''.Learnt, Reads.Asked, Reads.Learnt, Reads'3.Asked, Reads'3.Learnt, Reads'.Asked, Reads'.Learnt, Reads'5.Asked, Reads'5.Learnt) Reads'4.Pre Reads'4.Post
 
-abbrev pub Need-slice-aggregate-step-7 : Type 0
-Need-slice-aggregate-step-7 = Lts.Need-slice-aggregate-step-7 (Reads'.Asked, Reads'.Learnt, Reads'4.Asked, Reads'4.Learnt, Reads''.Asked, Reads''.Learnt, Reads.Asked, Reads.Learnt, Reads'5.Asked, Reads'5.Learnt) Reads'3.Pre Reads'3.Post
+abbrev pub Need-slice-aggregate-fithmoul-step-7 : Type 0
+Need-slice-aggregate-fithmoul-step-7 = Lts.Need-slice-aggregate-fithmoul-step-7 (Reads''.Asked, Reads''.Learnt, Reads.Asked, Reads.Learnt, Reads'3.Asked, Reads'3.Learnt, Reads'.Asked, Reads'.Learnt, Reads'5.Asked, Reads'5.Learnt) Reads'4.Pre Reads'4.Post
 
 abbrev pub Need-array-borrow-prefix-pending : Type 0
-Need-array-borrow-prefix-pending = Lts.Need-array-borrow-prefix-pending (Reads'.Asked, Reads'.Learnt, Reads'4.Asked, Reads'4.Learnt, Reads''.Asked, Reads''.Learnt, Reads.Asked, Reads.Learnt, Reads'5.Asked, Reads'5.Learnt) Reads'3.Pre Reads'3.Post
+Need-array-borrow-prefix-pending = Lts.Need-array-borrow-prefix-pending (Reads''.Asked, Reads''.Learnt, Reads.Asked, Reads.Learnt, Reads'3.Asked, Reads'3.Learnt, Reads'.Asked, Reads'.Learnt, Reads'5.Asked, Reads'5.Learnt) Reads'4.Pre Reads'4.Post
 
-abbrev pub Need-slice-aggregate-step-8 : Type 0
-Need-slice-aggregate-step-8 = Lts.Need-slice-aggregate-step-8 (Reads'.Asked, Reads'.Learnt, Reads'4.Asked, Reads'4.Learnt, Reads''.Asked, Reads''.Learnt, Reads.Asked, Reads.Learnt, Reads'5.Asked, Reads'5.Learnt) Reads'3.Pre Reads'3.Post
+abbrev pub Need-slice-aggregate-fithmoul-step-8 : Type 0
+Need-slice-aggregate-fithmoul-step-8 = Lts.Need-slice-aggregate-fithmoul-step-8 (Reads''.Asked, Reads''.Learnt, Reads.Asked, Reads.Learnt, Reads'3.Asked, Reads'3.Learnt, Reads'.Asked, Reads'.Learnt, Reads'5.Asked, Reads'5.Learnt) Reads'4.Pre Reads'4.Post
 
-abbrev pub Need-step-requires : Type 0
-Need-step-requires = Lts.Need-step-requires (Reads'.Asked, Reads'.Learnt, Reads'4.Asked, Reads'4.Learnt, Reads''.Asked, Reads''.Learnt, Reads.Asked, Reads.Learnt, Reads'5.Asked, Reads'5.Learnt) Reads'3.Pre Reads'3.Post
+abbrev pub Need-fithmoul-step-requires : Type 0
+Need-fithmoul-step-requires = Lts.Need-fithmoul-step-requires (Reads''.Asked, Reads''.Learnt, Reads.Asked, Reads.Learnt, Reads'3.Asked, Reads'3.Learnt, Reads'.Asked, Reads'.Learnt, Reads'5.Asked, Reads'5.Learnt) Reads'4.Pre Reads'4.Post
 
 abbrev pub Need-with-rows-requires : Type 0
-Need-with-rows-requires = Lts.Need-with-rows-requires (Reads'.Asked, Reads'.Learnt, Reads'4.Asked, Reads'4.Learnt, Reads''.Asked, Reads''.Learnt, Reads.Asked, Reads.Learnt, Reads'5.Asked, Reads'5.Learnt) Reads'3.Pre Reads'3.Post
+Need-with-rows-requires = Lts.Need-with-rows-requires (Reads''.Asked, Reads''.Learnt, Reads.Asked, Reads.Learnt, Reads'3.Asked, Reads'3.Learnt, Reads'.Asked, Reads'.Learnt, Reads'5.Asked, Reads'5.Learnt) Reads'4.Pre Reads'4.Post
 
 abbrev pub Need-ring-holds-requires : Type 0
-Need-ring-holds-requires = Lts.Need-ring-holds-requires (Reads'.Asked, Reads'.Learnt, Reads'4.Asked, Reads'4.Learnt, Reads''.Asked, Reads''.Learnt, Reads.Asked, Reads.Learnt, Reads'5.Asked, Reads'5.Learnt) Reads'3.Pre Reads'3.Post
+Need-ring-holds-requires = Lts.Need-ring-holds-requires (Reads''.Asked, Reads''.Learnt, Reads.Asked, Reads.Learnt, Reads'3.Asked, Reads'3.Learnt, Reads'.Asked, Reads'.Learnt, Reads'5.Asked, Reads'5.Learnt) Reads'4.Pre Reads'4.Post
 
 abbrev pub Need-holds-requires : Type 0
-Need-holds-requires = Lts.Need-holds-requires (Reads'.Asked, Reads'.Learnt, Reads'4.Asked, Reads'4.Learnt, Reads''.Asked, Reads''.Learnt, Reads.Asked, Reads.Learnt, Reads'5.Asked, Reads'5.Learnt) Reads'3.Pre Reads'3.Post
+Need-holds-requires = Lts.Need-holds-requires (Reads''.Asked, Reads''.Learnt, Reads.Asked, Reads.Learnt, Reads'3.Asked, Reads'3.Learnt, Reads'.Asked, Reads'.Learnt, Reads'5.Asked, Reads'5.Learnt) Reads'4.Pre Reads'4.Post
 
 abbrev pub Need-returns : Type 0
-Need-returns = Lts.Need-returns (Reads'.Asked, Reads'.Learnt, Reads'4.Asked, Reads'4.Learnt, Reads''.Asked, Reads''.Learnt, Reads.Asked, Reads.Learnt, Reads'5.Asked, Reads'5.Learnt) Reads'3.Pre Reads'3.Post
+Need-returns = Lts.Need-returns (Reads''.Asked, Reads''.Learnt, Reads.Asked, Reads.Learnt, Reads'3.Asked, Reads'3.Learnt, Reads'.Asked, Reads'.Learnt, Reads'5.Asked, Reads'5.Learnt) Reads'4.Pre Reads'4.Post
 
 module _ {M : Type 1} where
-  pub spec : (answer : Need-seven-nodes-requires) → (answer : Need-array-borrow-prefix-positions) → (answer : Need-slice-aggregate-step) → (answer : Need-array-borrow-prefix-outs) → (answer : Need-slice-aggregate-step-2) → (answer : Need-array-borrow-prefix-halves) → (answer : Need-slice-aggregate-step-3) → (answer : Need-array-borrow-prefix-faces) → (answer : Need-slice-aggregate-step-4) → (answer : Need-array-borrow-prefix-nodes) → (answer : Need-slice-aggregate-step-5) → (answer : Need-array-borrow-prefix-freed) → (answer : Need-slice-aggregate-step-6) → (answer : Need-array-borrow-prefix-buckets) → (answer : Need-slice-aggregate-step-7) → (answer : Need-array-borrow-prefix-pending) → (answer : Need-slice-aggregate-step-8) → (answer : Need-step-requires) → (answer : Need-with-rows-requires) → (answer : Need-ring-holds-requires) → (answer : Need-holds-requires) → (answer : Need-returns) → Lts.Closed (Reads'.Asked, Reads'.Learnt, Reads'4.Asked, Reads'4.Learnt, Reads''.Asked, Reads''.Learnt, Reads.Asked, Reads.Learnt, Reads'5.Asked, Reads'5.Learnt) Reads'3.Pre Reads'3.Post M
-  spec = λ answer answer' answer'' answer'3 answer'4 answer'5 answer'6 answer'7 answer'8 answer'9 answer'10 answer'11 answer'12 answer'13 answer'14 answer'15 answer'16 answer'17 answer'18 answer'19 answer'20 answer'21. Lts.spec (Reads'.Asked, Reads'.Learnt, Reads'4.Asked, Reads'4.Learnt, Reads''.Asked, Reads''.Learnt, Reads.Asked, Reads.Learnt, Reads'5.Asked, Reads'5.Learnt) Reads'3.Pre Reads'3.Post answer answer' answer'' answer'3 answer'4 answer'5 answer'6 answer'7 answer'8 answer'9 answer'10 answer'11 answer'12 answer'13 answer'14 answer'15 answer'16 answer'17 answer'18 answer'19 answer'20 answer'21
+  pub spec : (answer : Need-seven-nodes-requires) → (answer : Need-array-borrow-prefix-positions) → (answer : Need-slice-aggregate-fithmoul-step) → (answer : Need-array-borrow-prefix-outs) → (answer : Need-slice-aggregate-fithmoul-step-2) → (answer : Need-array-borrow-prefix-halves) → (answer : Need-slice-aggregate-fithmoul-step-3) → (answer : Need-array-borrow-prefix-faces) → (answer : Need-slice-aggregate-fithmoul-step-4) → (answer : Need-array-borrow-prefix-nodes) → (answer : Need-slice-aggregate-fithmoul-step-5) → (answer : Need-array-borrow-prefix-freed) → (answer : Need-slice-aggregate-fithmoul-step-6) → (answer : Need-array-borrow-prefix-buckets) → (answer : Need-slice-aggregate-fithmoul-step-7) → (answer : Need-array-borrow-prefix-pending) → (answer : Need-slice-aggregate-fithmoul-step-8) → (answer : Need-fithmoul-step-requires) → (answer : Need-with-rows-requires) → (answer : Need-ring-holds-requires) → (answer : Need-holds-requires) → (answer : Need-returns) → Lts.Closed (Reads''.Asked, Reads''.Learnt, Reads.Asked, Reads.Learnt, Reads'3.Asked, Reads'3.Learnt, Reads'.Asked, Reads'.Learnt, Reads'5.Asked, Reads'5.Learnt) Reads'4.Pre Reads'4.Post M
+  spec = λ answer answer' answer'' answer'3 answer'4 answer'5 answer'6 answer'7 answer'8 answer'9 answer'10 answer'11 answer'12 answer'13 answer'14 answer'15 answer'16 answer'17 answer'18 answer'19 answer'20 answer'21. Lts.spec (Reads''.Asked, Reads''.Learnt, Reads.Asked, Reads.Learnt, Reads'3.Asked, Reads'3.Learnt, Reads'.Asked, Reads'.Learnt, Reads'5.Asked, Reads'5.Learnt) Reads'4.Pre Reads'4.Post answer answer' answer'' answer'3 answer'4 answer'5 answer'6 answer'7 answer'8 answer'9 answer'10 answer'11 answer'12 answer'13 answer'14 answer'15 answer'16 answer'17 answer'18 answer'19 answer'20 answer'21
 
-  pub close : Lts.Closed (Reads'.Asked, Reads'.Learnt, Reads'4.Asked, Reads'4.Learnt, Reads''.Asked, Reads''.Learnt, Reads.Asked, Reads.Learnt, Reads'5.Asked, Reads'5.Learnt) Reads'3.Pre Reads'3.Post M → Statement.statement M
+  pub close : Lts.Closed (Reads''.Asked, Reads''.Learnt, Reads.Asked, Reads.Learnt, Reads'3.Asked, Reads'3.Learnt, Reads'.Asked, Reads'.Learnt, Reads'5.Asked, Reads'5.Learnt) Reads'4.Pre Reads'4.Post M → Statement.statement M
   unfolding Code.routine Running.tablesOf
-  close = λ closed 𝓤 H 𝓜 𝓖 𝓡. Written.close 0 Kinds.ps Kinds.r Reads'3.Ghost Reads'3.requires Reads'3.ensures Reads'3.pre-read Reads'3.Pinned Reads'3.Owned Reads'3.post-read record { M = M; 𝓤 = 𝓤; H = H; 𝓜 = 𝓜; 𝓖 = 𝓖; 𝓡 = 𝓡 } Code.env Key.name Code.function (Code.unfolded 𝓤 H 𝓜 𝓡) (λ κs a g. tt) (λ κs. Reads'3.owns κs record { M = M; 𝓤 = 𝓤; H = H; 𝓜 = 𝓜; 𝓖 = 𝓖; 𝓡 = 𝓡 }) (Reads'3.passes record { M = M; 𝓤 = 𝓤; H = H; 𝓜 = 𝓜; 𝓖 = 𝓖; 𝓡 = 𝓡 }) λ g. closed 𝓤 H (𝓖 .A) (Running.givenOf 𝓤 H 𝓜 𝓖) (Run.Over 𝓤 H 𝓜 𝓖 𝓡 Code.env) (Reads'.known record { M = M; 𝓤 = 𝓤; H = H; 𝓜 = 𝓜; 𝓖 = 𝓖; 𝓡 = 𝓡 } Code.env Symbol'.name Symbol'.routine Code.calls-replay·calls·seven-nodes (Met'.met 𝓤 H 𝓜 𝓖 𝓡)) (Reads'4.known record { M = M; 𝓤 = 𝓤; H = H; 𝓜 = 𝓜; 𝓖 = 𝓖; 𝓡 = 𝓡 } Code.env Symbol'3.name Symbol'3.routine Code.calls-step·step (Met'3.met 𝓤 H 𝓜 𝓖 𝓡)) (Reads''.known record { M = M; 𝓤 = 𝓤; H = H; 𝓜 = 𝓜; 𝓖 = 𝓖; 𝓡 = 𝓡 } Code.env Symbol''.name Symbol''.routine Code.calls-replay·calls·with-rows (Met''.met 𝓤 H 𝓜 𝓖 𝓡)) (Reads.known record { M = M; 𝓤 = 𝓤; H = H; 𝓜 = 𝓜; 𝓖 = 𝓖; 𝓡 = 𝓡 } Code.env Symbol.name Symbol.routine Code.calls-replay·calls·ring-holds (Met.met 𝓤 H 𝓜 𝓖 𝓡)) (Reads'5.known record { M = M; 𝓤 = 𝓤; H = H; 𝓜 = 𝓜; 𝓖 = 𝓖; 𝓡 = 𝓡 } Code.env Symbol'4.name Symbol'4.routine Code.calls-test-mesh·holds (Met'4.met 𝓤 H 𝓜 𝓖 𝓡))
+  close = λ closed 𝓤 H 𝓜 𝓖 𝓡. Written.close 0 Kinds.ps Kinds.r Reads'4.Ghost Reads'4.requires Reads'4.ensures Reads'4.pre-read Reads'4.Pinned Reads'4.Owned Reads'4.post-read record { M = M; 𝓤 = 𝓤; H = H; 𝓜 = 𝓜; 𝓖 = 𝓖; 𝓡 = 𝓡 } Code.env Key.name Code.function (Code.unfolded 𝓤 H 𝓜 𝓡) (λ κs a g. tt) (λ κs. Reads'4.owns κs record { M = M; 𝓤 = 𝓤; H = H; 𝓜 = 𝓜; 𝓖 = 𝓖; 𝓡 = 𝓡 }) (Reads'4.passes record { M = M; 𝓤 = 𝓤; H = H; 𝓜 = 𝓜; 𝓖 = 𝓖; 𝓡 = 𝓡 }) λ g. closed 𝓤 H (𝓖 .A) (Running.givenOf 𝓤 H 𝓜 𝓖) (Run.Over 𝓤 H 𝓜 𝓖 𝓡 Code.env) (Reads''.known record { M = M; 𝓤 = 𝓤; H = H; 𝓜 = 𝓜; 𝓖 = 𝓖; 𝓡 = 𝓡 } Code.env Symbol''.name Symbol''.routine Code.calls-replay·calls·seven-nodes (Met''.met 𝓤 H 𝓜 𝓖 𝓡)) (Reads.known record { M = M; 𝓤 = 𝓤; H = H; 𝓜 = 𝓜; 𝓖 = 𝓖; 𝓡 = 𝓡 } Code.env Symbol.name Symbol.routine Code.calls-fithmoul·fithmoul-step (Met.met 𝓤 H 𝓜 𝓖 𝓡)) (Reads'3.known record { M = M; 𝓤 = 𝓤; H = H; 𝓜 = 𝓜; 𝓖 = 𝓖; 𝓡 = 𝓡 } Code.env Symbol'3.name Symbol'3.routine Code.calls-replay·calls·with-rows (Met'3.met 𝓤 H 𝓜 𝓖 𝓡)) (Reads'.known record { M = M; 𝓤 = 𝓤; H = H; 𝓜 = 𝓜; 𝓖 = 𝓖; 𝓡 = 𝓡 } Code.env Symbol'.name Symbol'.routine Code.calls-replay·calls·ring-holds (Met'.met 𝓤 H 𝓜 𝓖 𝓡)) (Reads'5.known record { M = M; 𝓤 = 𝓤; H = H; 𝓜 = 𝓜; 𝓖 = 𝓖; 𝓡 = 𝓡 } Code.env Symbol'4.name Symbol'4.routine Code.calls-test-mesh·holds (Met'4.met 𝓤 H 𝓜 𝓖 𝓡))
