@@ -36,6 +36,12 @@ def malformed():
     yield "no C", S, 2
     yield "no C, and no line feed after S", S[:-1], 2
     yield "an empty line for C", S + b"\n", 2
+    yield "an empty line first", b"\n" + S + C, 1
+    yield "a blank before C", S + b" C 1 1\n", 2
+    yield "a tag twice", S + b"CC 1 1\n", 2
+    yield "an empty line alone for P", S + C + b"\n", 3
+    yield "a tab between numbers", S + b"C 1\t1\n", 2
+    yield "a letter behind a digit", S + C + b"P 1a 9\n", 3
     yield "P in place of C", S + b"P 1 1\n", 2
     yield "C first", C + S, 1
     yield "P first", b"P 1 1\n" + S + C, 1
