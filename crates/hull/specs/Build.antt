@@ -38,7 +38,9 @@ use Rattle.hull.specs.Held.{Held, FromBoundary}
 
 module _ {p : List ℤ} {h : List ℕ} {cx cy : Float} {start size nodes buckets : ℕ} (B : ToBuild p h cx cy start size nodes buckets) where
   boundary-sound : Sound fullTurn (halvesOf h .next) (originTurns p h cx cy) start size
-  boundary-sound = sound-round fullTurn (halvesOf h .next) (originTurns p h cx cy) start size (B .closed) (strict-sound fullTurn (anglesOf p h cx cy start size) (B .strict))
+  boundary-sound =
+      sound-round fullTurn (halvesOf h .next) (originTurns p h cx cy) start size (B .closed)
+      (strict-sound fullTurn (anglesOf p h cx cy start size) (B .strict))
 
   -- each edge has a node
   whole : nodeCount (halvesOf h .next) (originTurns p h cx cy) size start ≡ size
@@ -48,7 +50,9 @@ module _ {p : List ℤ} {h : List ℕ} {cx cy : Float} {start size nodes buckets
   each = all-proper (atEnds proper (halvesOf h .next) (originTurns p h cx cy)) (halvesOf h .next) size start whole
 
   before : (k : ℕ) → k ≤ size → nodeCount (halvesOf h .next) (originTurns p h cx cy) k start ≡ k
-  before k l = tally-whole (atEnds proper (halvesOf h .next) (originTurns p h cx cy)) (halvesOf h .next) k start (λ j u. bit-yes (atEnds proper (halvesOf h .next) (originTurns p h cx cy) (edgeAt h start j)) (each j (omega arith)))
+  before k l =
+      tally-whole (atEnds proper (halvesOf h .next) (originTurns p h cx cy)) (halvesOf h .next) k start
+      (λ j u. bit-yes (atEnds proper (halvesOf h .next) (originTurns p h cx cy) (edgeAt h start j)) (each j (omega arith)))
 
   pub size-three : 3 ≤ size
   size-three = let a = boundary-sound .three in let b = whole in omega arith
@@ -92,7 +96,8 @@ module _ {p : List ℤ} {h : List ℕ} {cx cy : Float} {start size nodes buckets
     pub numbered-nodes : NodeRing t size size 0
     numbered-nodes = record {
       sound = subst (Sound fullTurn (rightOf t) (angleOf t) 0) whole (ring-sound numbered-ring);
-      all-proper = subst (λ (m : ℕ). tally (atEnds proper (rightOf t) (angleOf t)) (walk m (rightOf t) 0) ≡ m) whole (ring-proper numbered-ring);
+      all-proper =
+          subst (λ (m : ℕ). tally (atEnds proper (rightOf t) (angleOf t)) (walk m (rightOf t) 0) ≡ m) whole (ring-proper numbered-ring);
       valid = numbered-valid;
       first = let a = size-three in omega arith;
       size-small = B .small;
@@ -100,38 +105,55 @@ module _ {p : List ℤ} {h : List ℕ} {cx cy : Float} {start size nodes buckets
     }
 
     numbered-links : Linked (tableOf t) 0 size
-    numbered-links i l = subst (λ (x : ℕ). leftOf t (rightOf t x) ≡ x) (sym (built-at boundary-sound numbered-built i l)) (go (decLt (suc i) size))
+    numbered-links i l =
+        subst (λ (x : ℕ). leftOf t (rightOf t x) ≡ x) (sym (built-at boundary-sound numbered-built i l)) (go (decLt (suc i) size))
       where
         go : Dec (suc i < size) → leftOf t (rightOf t i) ≡ i
         go (yes u) = ap (leftOf t) (right-more i u) ∙ D (suc i) u .left-more (omega arith) ∙ less i
           where
             less : (i : ℕ) → suc i - 1 ≡ i
             less i = omega arith
-        go (no u) = let z : suc i ≡ size = omega arith in ap (leftOf t) (right-last i z) ∙ D 0 (omega arith) .left-first refl ∙ less i size z
+        go (no u) =
+            let z : suc i ≡ size = omega arith in ap (leftOf t) (right-last i z) ∙ D 0 (omega arith) .left-first refl ∙ less i size z
           where
             less : (i size : ℕ) → suc i ≡ size → size - 1 ≡ i
             less i size z = omega arith
 
 -- what `initialize_buckets` asks
-pub to-fill : {p : List ℤ} {h : List ℕ} {cx cy : Float} {start size nodes buckets : ℕ} → ToBuild p h cx cy start size nodes buckets → {l : List Node} {b : List ℕ} → length l ≡ nodes → length b ≡ buckets
+pub to-fill : {p : List ℤ} {h : List ℕ} {cx cy : Float} {start size nodes buckets : ℕ}
+    → ToBuild p h cx cy start size nodes buckets → {l : List Node} {b : List ℕ} → length l ≡ nodes → length b ≡ buckets
     → NodesOfEdges p h cx cy start size (nodesOf l) → ToFill l b 8 0 size
-to-fill {size = size} B u v D = record { len = size; ring = numbered-nodes B D; node-room = let a = B .node-room in omega arith; counted = eight-buckets; bucket-room = let a = B .bucket-room in omega arith }
+to-fill {size = size} B u v D =
+    record {
+      len = size;
+      ring = numbered-nodes B D;
+      node-room = let a = B .node-room in omega arith;
+      counted = eight-buckets;
+      bucket-room = let a = B .bucket-room in omega arith;
+    }
 
 -- THE RING OF A MESH'S BOUNDARY, built: the rows hold it
-pub built-held : (o a : List ℕ) {C : Counts} {p : List ℤ} {h : List ℕ} {cx cy : Float} {size n b : ℕ} {nodes : List Node} {freed buckets : List ℕ} {r : Hull}
-    → Wf C (linksOf o h a) → ToBuild p h cx cy (rowOf a 0) size n b → size ≡ boundaryLength C (linksOf o h a) → FromBoundary p h cx cy (rowOf a 0) size nodes buckets r
-    → size ≤ length nodes → size ≤ length freed → 8 ≤ length buckets → Held C (linksOf o h a) (turnsAbout cx cy (positionOf p)) nodes freed buckets r
+pub built-held : (o a : List ℕ) {C : Counts} {p : List ℤ} {h : List ℕ} {cx cy : Float} {size n b : ℕ} {nodes : List Node}
+    {freed buckets : List ℕ} {r : Hull}
+    → Wf C (linksOf o h a) → ToBuild p h cx cy (rowOf a 0) size n b → size ≡ boundaryLength C (linksOf o h a)
+    → FromBoundary p h cx cy (rowOf a 0) size nodes buckets r
+    → size ≤ length nodes → size ≤ length freed → 8 ≤ length buckets
+    → Held C (linksOf o h a) (turnsAbout cx cy (positionOf p)) nodes freed buckets r
 unfolding linksOf
 built-held o a {C} {p} {h} {cx} {cy} {size} {n} {b} {nodes} {freed} {buckets} {r} K B z F u v w =
     let t = nodesOf nodes in
     let N : r .nodes - r .freed ≡ size = sizes (r .nodes) (r .freed) size (F .used) (F .none-freed) in
-    let A = subst (λ (i : ℕ). Built (halvesOf h .next) (originTurns p h cx cy) (tableOf t) (rowOf a 0) i size) z (numbered-built B (F .numbered)) in
+    let A = subst (λ (i : ℕ). Built (halvesOf h .next) (originTurns p h cx cy) (tableOf t) (rowOf a 0) i size) z
+    (numbered-built B (F .numbered)) in
     let S = subst (Sound fullTurn (halvesOf h .next) (originTurns p h cx cy) (rowOf a 0)) z (boundary-sound B) in
     let R : RingOf C (linksOf o h a) (turnsAbout cx cy (positionOf p)) (tableOf t) (rowOf buckets) 8 size =
-    ring-built K (outer-sound K (turnsAbout cx cy (positionOf p)) (first< K) (first-outer K) S) (first< K) (first-outer K) A (numbered-links B (F .numbered))
-    (λ k l. let m : k < size = omega arith in subst (λ (x : ℕ). x ≤ fullTurn) (F .numbered k m .angle) (F .numbered k m .is-angle .small)) (buckets-sized eight-buckets) (F .filled) in
+    ring-built K (outer-sound K (turnsAbout cx cy (positionOf p)) (first< K) (first-outer K) S) (first< K) (first-outer K) A
+    (numbered-links B (F .numbered))
+    (λ k l. let m : k < size = omega arith in subst (λ (x : ℕ). x ≤ fullTurn) (F .numbered k m .angle) (F .numbered k m .is-angle .small))
+    (buckets-sized eight-buckets) (F .filled) in
     record {
-      ring = subst (λ (i : ℕ). RingOf C (linksOf o h a) (turnsAbout cx cy (positionOf p)) (tableOf t) (rowOf buckets) (r .buckets) i) (sym N)
+      ring =
+          subst (λ (i : ℕ). RingOf C (linksOf o h a) (turnsAbout cx cy (positionOf p)) (tableOf t) (rowOf buckets) (r .buckets) i) (sym N)
           (subst (λ (i : ℕ). RingOf C (linksOf o h a) (turnsAbout cx cy (positionOf p)) (tableOf t) (rowOf buckets) i size) (sym (F .eight)) R);
       free = subst (λ (m : ℕ). Free (On (rightOf t) m (rowOf buckets 0)) (rowOf freed) (r .freed) (r .nodes)) (sym N)
           (subst (λ (i : ℕ). Free (On (rightOf t) size (rowOf buckets 0)) (rowOf freed) i (r .nodes)) (sym (F .none-freed))

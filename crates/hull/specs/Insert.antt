@@ -24,7 +24,8 @@ use Rattle.ring.specs.Ring.{fullTurn, atEnds, edgeAngle}
 use Rattle.ring.specs.Splice.{Fit, FitSplice}
 use Rattle.ring.specs.Buckets.{ceiling, within}
 use Rattle.ring.specs.Node.{NodeTable, nodes as nodeCount}
-use Rattle.ring.specs.Insert.{Ring, ring-sole, On, Bucketed, Insertion, left-angle, right-angle, left-some, rest-some, size-old, right-first}
+use Rattle.ring.specs.Insert.{Ring, ring-sole, On, Bucketed, Insertion, left-angle, right-angle, left-some, rest-some, size-old}
+use Rattle.ring.specs.Insert.{right-first}
 use Rattle.ring.specs.Inserted.{Rebucketed}
 use Rattle.ring.specs.Stores.{stored}
 use Rattle.ring.specs.Free.{Free}
@@ -257,7 +258,8 @@ adjusted-held {C} {L} W {α} {nodes} {freed} {buckets} {buckets′} {h} {r} H mo
     let b : Buckets (r .buckets) = subst Buckets (sym (A .count)) (adjusted-buckets (sizeOf h) most (H .counted)) in
     let z : sizeOf r ≡ sizeOf h = ap₂ (λ (x y : ℕ). x - y) (A .used) (A .freed) in
     let o = A .filled 0 (bucket-pos (r .buckets) b) .0 in
-    let G = ring-of W {α = α} {τ = tableOf (nodesOf nodes)} {bucket = rowOf buckets′} {B = r .buckets} (H .ring .in-use) (H .ring .outer) (record {
+    let G = ring-of W {α = α} {τ = tableOf (nodesOf nodes)} {bucket = rowOf buckets′} {B = r .buckets} (H .ring .in-use) (H .ring .outer)
+    (record {
       ring = X .ring;
       links = X .links;
       low = X .low;
@@ -278,5 +280,6 @@ adjusted-held {C} {L} W {α} {nodes} {freed} {buckets} {buckets′} {h} {r} H mo
 
 -- 01: "max(16, N) buckets": they do for N vertices, since a ring has no more nodes than the mesh has vertices
 pub buckets-fit : {C : Counts} {L : Links} (W : Wf C L) {α : ℕ → ℕ} {nodes : List Node} {freed buckets : List ℕ} {h : Hull}
-    → Held C L α nodes freed buckets h → {most : ℕ} → C .vertices ≤ most → h .buckets ≤ most → adjustedBuckets (h .buckets) (sizeOf h) ≤ most
+    → Held C L α nodes freed buckets h → {most : ℕ} → C .vertices ≤ most → h .buckets ≤ most
+    → adjustedBuckets (h .buckets) (sizeOf h) ≤ most
 buckets-fit W {h = h} H {most} v u = adjusted-most (h .buckets) (sizeOf h) most (let a = ring-size W (H .ring) in omega arith) u

@@ -29,7 +29,8 @@ use Rattle.hull.specs.Boundary.{vertexAtCenter, edgeAt, originAtCenter, 
 module _ {C : Counts} {o h a : List ℕ} (M : MeshHeld C o h a) where
   -- `convex_hull_size`
   pub size-asks : (2 * C .edges < 2 ^ 32) × (1 ≤ C .faces) × (3 * (C .faces - 1) ≤ 2 * C .edges)
-  size-asks = let a = count-halves (M .rules) in let b = faces-least (M .rules) in let c = M .room .small in (omega arith, omega arith, omega arith)
+  size-asks =
+      let a = count-halves (M .rules) in let b = faces-least (M .rules) in let c = M .room .small in (omega arith, omega arith, omega arith)
 
   pub size-is : 2 * C .edges - 3 * (C .faces - 1) ≡ boundaryLength C (linksOf o h a)
   size-is = let a = count-halves (M .rules) in omega arith
@@ -56,18 +57,21 @@ module _ {C : Counts} {o h a : List ℕ} (M : MeshHeld C o h a) where
 
     module _ (cx cy : Float) where
       -- what `validate_center` and `meets_center` answer is refusal 6, and `is_strict` refusal 7
-      pub center-test : {size : ℕ} → size ≡ boundaryLength C (linksOf o h a) → (not (validCenter cx cy) || any-below size (λ k. originAtCenter p h cx cy (edgeAt h (rowOf a 0) k))) ≡ refusesCenter C (linksOf o h a) (positionOf p) cx cy
+      pub center-test : {size : ℕ} → size ≡ boundaryLength C (linksOf o h a)
+          → (not (validCenter cx cy) || any-below size (λ k. originAtCenter p h cx cy (edgeAt h (rowOf a 0) k))) ≡ refusesCenter C (linksOf o h a) (positionOf p) cx cy
       unfolding refusesCenter vertexAtCenter linksOf
       center-test e = ap (λ (n : ℕ). not (validCenter cx cy) || any-below n (λ k. originAtCenter p h cx cy (edgeAt h (rowOf a 0) k))) e
 
-      pub strict-test : {size : ℕ} → size ≡ boundaryLength C (linksOf o h a) → isStrict fullTurn (anglesOf p h cx cy (rowOf a 0) size) ≡ isStrictRing C (linksOf o h a) (turnsAbout cx cy (positionOf p))
+      pub strict-test : {size : ℕ} → size ≡ boundaryLength C (linksOf o h a)
+          → isStrict fullTurn (anglesOf p h cx cy (rowOf a 0) size) ≡ isStrictRing C (linksOf o h a) (turnsAbout cx cy (positionOf p))
       unfolding isStrictRing boundaryAngles boundaryEdges linksOf
       strict-test e = ap (λ (n : ℕ). isStrict fullTurn (anglesOf p h cx cy (rowOf a 0) n)) e
 
       -- no boundary vertex at the centre
       pub angled-boundary : T (not (refusesCenter C (linksOf o h a) (positionOf p) cx cy)) → AngledBoundary p h cx cy (rowOf a 0)
       unfolding refusesCenter vertexAtCenter linksOf
-      angled-boundary n = record { rows = boundary-rows; valid = sure (validCenter cx cy) (λ t. T-not (off || met) n (or-left off met t)); apart = λ k. not-T (originAtCenter p h cx cy (edgeAt h (rowOf a 0) k)) (λ t. away k t) }
+      angled-boundary n =
+          record { rows = boundary-rows; valid = sure (validCenter cx cy) (λ t. T-not (off || met) n (or-left off met t)); apart = λ k. not-T (originAtCenter p h cx cy (edgeAt h (rowOf a 0) k)) (λ t. away k t) }
         where
           off : Bool
           off = not (validCenter cx cy)
@@ -78,20 +82,24 @@ module _ {C : Counts} {o h a : List ℕ} (M : MeshHeld C o h a) where
           away : (k : ℕ) → T (originAtCenter p h cx cy (edgeAt h (rowOf a 0) k)) → ⊥
           away k t =
               let r = reach-on (next-inverse (M .rules)) (first< (M .rules)) (boundary-period (M .rules)) (k, refl) in
-              T-not (off || met) n (or-right off met (any-below← (boundaryLength C (linksOf o h a)) (λ j. originAtCenter p h cx cy (edgeAt h (rowOf a 0) j)) (r .0) (r .1) (subst (λ (x : ℕ). T (originAtCenter p h cx cy x)) (sym (r .2)) t)))
+              T-not (off || met) n
+              (or-right off met (any-below← (boundaryLength C (linksOf o h a)) (λ j. originAtCenter p h cx cy (edgeAt h (rowOf a 0) j)) (r .0) (r .1) (subst (λ (x : ℕ). T (originAtCenter p h cx cy x)) (sym (r .2)) t)))
 
       -- THE RING FITS: a strict ring's angles differ, so its vertices do
-      pub strict-size : T (isStrictRing C (linksOf o h a) (turnsAbout cx cy (positionOf p))) → boundaryLength C (linksOf o h a) ≤ C .vertices
+      pub strict-size : T (isStrictRing C (linksOf o h a) (turnsAbout cx cy (positionOf p)))
+          → boundaryLength C (linksOf o h a) ≤ C .vertices
       unfolding boundaryEdges
       strict-size t =
           let L = linksOf o h a in let α = turnsAbout cx cy (positionOf p) in
           pigeonhole (C .vertices) (boundaryLength C L) (λ k. L .origin (iter k (L .next) (L .adjacent 0))) (record {
             below = λ k u. M .rules .ranges .origin< (boundary-below (M .rules) k);
-            once = λ j k u w z. node-sole (sound-first (M .rules) α (strict-ring (M .rules) α t)) (strict-nodes (M .rules) α t) j k u w (ap α z);
+            once = λ j k u w z. node-sole (sound-first (M .rules) α (strict-ring (M .rules) α t)) (strict-nodes (M .rules) α t) j k u w
+                (ap α z);
           })
 
       -- what `from_triangulation` asks
-      pub to-build : {size nodes buckets : ℕ} → size ≡ boundaryLength C (linksOf o h a) → AngledBoundary p h cx cy (rowOf a 0) → T (isStrictRing C (linksOf o h a) (turnsAbout cx cy (positionOf p))) → C .vertices ≤ nodes → 8 ≤ buckets
+      pub to-build : {size nodes buckets : ℕ} → size ≡ boundaryLength C (linksOf o h a) → AngledBoundary p h cx cy (rowOf a 0)
+          → T (isStrictRing C (linksOf o h a) (turnsAbout cx cy (positionOf p))) → C .vertices ≤ nodes → 8 ≤ buckets
           → ToBuild p h cx cy (rowOf a 0) size nodes buckets
       to-build {size} e A t u w = record {
         boundary = A;

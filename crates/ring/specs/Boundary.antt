@@ -10,13 +10,15 @@ use Rattle.mesh.specs.declared.Counts.{Counts}
 use Rattle.mesh.specs.Mesh.{Links, In, to}
 use Rattle.mesh.specs.Wf.{Wf}
 use Rattle.mesh.specs.Area.{boundaryLength, hullEdge}
-use Rattle.mesh.specs.BoundaryLaws.{next-inverse, first<, first-outer, boundary-period, boundary-below, boundary-outer, boundary-least, outer-period}
+use Rattle.mesh.specs.BoundaryLaws.{next-inverse, first<, first-outer, boundary-period, boundary-below, boundary-outer, boundary-least}
+use Rattle.mesh.specs.BoundaryLaws.{outer-period}
 use Rattle.mesh.specs.Frame.{SameBoundary}
 use Rattle.segment.specs.Arc.{holds}
 use Rattle.sums.specs.Bounded.{first-below}
 use Rattle.sums.specs.Iterate.{iter, iter-last, iter-keeps, reach-on, Period, period-listed, period-same, period-unique}
 use Rattle.sums.specs.Tally.{First, first-of, tally, walk, walk-ext}
-use Rattle.ring.specs.Ring.{fullTurn, proper, edgeAngle, atEnds, boundaryEdges, boundaryAngles, isSound, isStrict, isSoundRing, isStrictRing, merged, ringNodes, located}
+use Rattle.ring.specs.Ring.{fullTurn, proper, edgeAngle, atEnds, boundaryEdges, boundaryAngles, isSound, isStrict, isSoundRing}
+use Rattle.ring.specs.Ring.{isStrictRing, merged, ringNodes, located}
 use Rattle.ring.specs.Sound.{Sound, sound-at, tile, tile-sole}
 use Rattle.ring.specs.Merged.{sound-round, round-sound, nodes-merged, strict-sound, strict-all}
 
@@ -25,7 +27,8 @@ pub map-walk : (a b : ℕ → ℕ) (f : ℕ → ℕ) (n s : ℕ) → ((k : ℕ) 
     → map b (walk n f s) ≡ map a (walk n f s)
 unfolding walk
 map-walk a b f zero s h = refl
-map-walk a b f (suc n) s h = ap₂ (λ (x : ℕ) (l : List ℕ). x ∷ l) (h zero (omega arith)) (map-walk a b f n (f s) (λ k l. h (suc k) (omega arith)))
+map-walk a b f (suc n) s h =
+    ap₂ (λ (x : ℕ) (l : List ℕ). x ∷ l) (h zero (omega arith)) (map-walk a b f n (f s) (λ k l. h (suc k) (omega arith)))
 
 module _ {C : Counts} {L : Links} (W : Wf C L) where
   -- ---- the round from any boundary edge e
@@ -50,7 +53,8 @@ module _ {C : Counts} {L : Links} (W : Wf C L) where
     outer-last =
         let x = iter (boundaryLength C L - 1) (L .next) e in
         sym (W .links .prev-next (outer-walk (boundaryLength C L - 1) .0))
-        ∙ ap (L .prev) (sym (iter-last (boundaryLength C L - 1) (L .next) e) ∙ ap (λ (k : ℕ). iter k (L .next) e) (back (boundaryLength C L) (boundary-least W)) ∙ outer-round)
+        ∙ ap (L .prev)
+        (sym (iter-last (boundaryLength C L - 1) (L .next) e) ∙ ap (λ (k : ℕ). iter k (L .next) e) (back (boundaryLength C L) (boundary-least W)) ∙ outer-round)
       where
         back : (n : ℕ) → 3 ≤ n → suc (n - 1) ≡ n
         back n m = omega arith
@@ -90,7 +94,9 @@ module _ {C : Counts} {L : Links} (W : Wf C L) where
     -- the nodes' angles are the merged ones
     pub ring-merged : T (isSoundRing C L α) → map (edgeAngle L α) (ringNodes C L α) ≡ merged (boundaryAngles C L α)
     unfolding ringNodes boundaryAngles boundaryEdges
-    ring-merged t = nodes-merged (L .next) (edgeAngle L α) (boundaryLength C L) (L .adjacent 0) (boundary-period W .back) (let a = sound-first t .three in omega arith)
+    ring-merged t =
+        nodes-merged (L .next) (edgeAngle L α) (boundaryLength C L) (L .adjacent 0) (boundary-period W .back)
+        (let a = sound-first t .three in omega arith)
 
     -- ---- located: how many steps from face 0's stored edge
     abbrev pub locatedStep : ℕ → ℕ
@@ -100,7 +106,8 @@ module _ {C : Counts} {L : Links} (W : Wf C L) where
       pub located-first : First (atEnds (holds x) (L .next) (edgeAngle L α)) (L .next) (boundaryLength C L) (L .adjacent 0) (locatedStep x)
       located-first =
           let r = tile (sound-first t) x in
-          first-of (atEnds (holds x) (L .next) (edgeAngle L α)) (L .next) (boundaryLength C L) (L .adjacent 0) (r .0) (r .1 .below) (r .1 .passes)
+          first-of (atEnds (holds x) (L .next) (edgeAngle L α)) (L .next) (boundaryLength C L) (L .adjacent 0) (r .0) (r .1 .below)
+          (r .1 .passes)
 
       -- it is a boundary edge
       pub located< : In C (located C L α x)
@@ -142,7 +149,10 @@ module _ {C : Counts} {L L′ : Links} (W : Wf C L) (W′ : Wf C L′) (S : Same
 
   pub angles-same : (α : ℕ → ℕ) → boundaryAngles C L′ α ≡ boundaryAngles C L α
   unfolding boundaryAngles boundaryEdges
-  angles-same α = ap (map (edgeAngle L′ α)) edges-same ∙ map-walk (edgeAngle L α) (edgeAngle L′ α) (L .next) (boundaryLength C L) (L .adjacent 0) (λ k l. ap α (S .keeps (boundary-below W k) (boundary-outer W k) .origin))
+  angles-same α =
+      ap (map (edgeAngle L′ α)) edges-same
+      ∙ map-walk (edgeAngle L α) (edgeAngle L′ α) (L .next) (boundaryLength C L) (L .adjacent 0)
+      (λ k l. ap α (S .keeps (boundary-below W k) (boundary-outer W k) .origin))
 
   pub sound-same : (α : ℕ → ℕ) → isSoundRing C L′ α ≡ isSoundRing C L α
   unfolding isSoundRing
@@ -157,6 +167,7 @@ module _ {C : Counts} {L L′ : Links} (W : Wf C L) (W′ : Wf C L′) (S : Same
       let t′ = subst T (sym (sound-same α)) t in
       let d = located C L′ α x in
       let K = S .keeps (located< W′ α t′ x) (S .was (located< W′ α t′ x) (located-outer W′ α t′ x)) in
-      let M = S .keeps (W .ranges .next< (located< W′ α t′ x)) (W .links .face-next (located< W′ α t′ x) ∙ S .was (located< W′ α t′ x) (located-outer W′ α t′ x)) in
+      let M = S .keeps (W .ranges .next< (located< W′ α t′ x))
+      (W .links .face-next (located< W′ α t′ x) ∙ S .was (located< W′ α t′ x) (located-outer W′ α t′ x)) in
       located-sole W α t x (located< W′ α t′ x) (S .was (located< W′ α t′ x) (located-outer W′ α t′ x))
       (subst T (ap₂ (holds x) (ap α (K .origin)) (ap (edgeAngle L′ α) (K .next) ∙ ap α (M .origin))) (located-holds W′ α t′ x))

@@ -24,11 +24,14 @@ within i L R = cond (leb L R) (leb L i && ltb i R) (leb L i || ltb i R)
 -- ---- the ceiling
 pub ceiling-hi : (w x : ℕ) → 0 < w → x ≤ ceiling w x * w
 unfolding ceiling
-ceiling-hi w x h = let a = div-lt-iff-lt-mul {k = w} {x = x + (w - 1)} {y = suc ((x + (w - 1)) / w)} h .0 (le-refl (suc ((x + (w - 1)) / w))) in omega arith
+ceiling-hi w x h =
+    let a = div-lt-iff-lt-mul {k = w} {x = x + (w - 1)} {y = suc ((x + (w - 1)) / w)} h .0 (le-refl (suc ((x + (w - 1)) / w))) in
+    omega arith
 
 pub ceiling-lo : (w x : ℕ) → 0 < w → ceiling w x * w < x + w
 unfolding ceiling
-ceiling-lo w x h = let a = le-div-iff-mul-le {k = w} {x = (x + (w - 1)) / w} {y = x + (w - 1)} h .0 (le-refl ((x + (w - 1)) / w)) in omega arith
+ceiling-lo w x h =
+    let a = le-div-iff-mul-le {k = w} {x = (x + (w - 1)) / w} {y = x + (w - 1)} h .0 (le-refl ((x + (w - 1)) / w)) in omega arith
 
 pub ceiling-le : (w x i : ℕ) → 0 < w → x ≤ i * w → ceiling w x ≤ i
 unfolding ceiling
@@ -106,7 +109,8 @@ narrow-wraps N a b h l = go (ltb b a) (lt? b a) (λ z. h z)
   where
     go : (t : Bool) → Tells t (b < a) (a ≤ b) → (T (ltb (3 * N) (4 * cond t (b + N - a) (b - a))) → ⊥) → 4 * (b + N - a) ≤ 3 * N
     go false A h = absurd (let z = A .1 tt in omega arith)
-    go true A h = lt? (3 * N) (4 * (b + N - a)) .1 (sure (not (ltb (3 * N) (4 * (b + N - a)))) (λ z. h (back (ltb (3 * N) (4 * (b + N - a))) z)))
+    go true A h =
+        lt? (3 * N) (4 * (b + N - a)) .1 (sure (not (ltb (3 * N) (4 * (b + N - a)))) (λ z. h (back (ltb (3 * N) (4 * (b + N - a))) z)))
       where
         back : (t : Bool) → T (not (not t)) → T t
         back true z = z
@@ -217,7 +221,9 @@ module _ {N n w a b : ℕ} (Z : Sized N n w) (F : NarrowSegment N a b) where
           turn h = omega arith
 
   pub bucket-range : (i : ℕ) → i < n → holds (i * w) a b ≡ within i (ceiling w a % n) (ceiling w b % n)
-  bucket-range i il = bool-eq (holds (i * w) a b) (within i (ceiling w a % n) (ceiling w b % n)) (λ t. range← (forth (holds→ (i * w) a b t))) (λ t. back (range→ i (ceiling w a % n) (ceiling w b % n) t) (decLt a b))
+  bucket-range i il =
+      bool-eq (holds (i * w) a b) (within i (ceiling w a % n) (ceiling w b % n)) (λ t. range← (forth (holds→ (i * w) a b t)))
+      (λ t. back (range→ i (ceiling w a % n) (ceiling w b % n) t) (decLt a b))
     where
       tA : Turned (ceiling w a) n (ceiling w a % n)
       tA = turned (ceiling w a) n (top a (F .a-in))

@@ -34,7 +34,9 @@ module _ {N : ℕ} {next α : ℕ → ℕ} {τ : NodeTable} {e h m : ℕ} (S : S
   unfolding Stands
   built = record {
     sound = S;
-    match = match-of next α τ h e 0 (λ k l t. let c = built-at (nodes next α k e) (let b = tally-before (atEnds proper next α) next h e k l t in let z = B .size in omega arith) in (ap (τ .edge) c ∙ B .at k l t .0, ap (τ .angle) c ∙ B .at k l t .1));
+    match =
+        match-of next α τ h e 0
+        (λ k l t. let c = built-at (nodes next α k e) (let b = tally-before (atEnds proper next α) next h e k l t in let z = B .size in omega arith) in (ap (τ .edge) c ∙ B .at k l t .0, ap (τ .angle) c ∙ B .at k l t .1));
     back = ap (λ (i : ℕ). iter i (τ .right) 0) (B .size) ∙ go m refl;
   }
     where
@@ -62,7 +64,9 @@ module _ {N : ℕ} {right angle : ℕ → ℕ} {s m B w : ℕ} (S : Sound N righ
     where
       low-next : Dec (suc k < m) → angle (iter (suc k) right s) ≤ N
       low-next (yes u) = low (suc k) u
-      low-next (no u) = let z : suc k ≡ m = omega arith in subst (λ (x : ℕ). angle x ≤ N) (sym (ap (λ (i : ℕ). iter i right s) z ∙ S .closed)) (low 0 (omega arith))
+      low-next (no u) =
+          let z : suc k ≡ m = omega arith in
+          subst (λ (x : ℕ). angle x ≤ N) (sym (ap (λ (i : ℕ). iter i right s) z ∙ S .closed)) (low 0 (omega arith))
 
   pub range : (i k : ℕ) → i < B → k < m
       → atEnds (holds (i * w)) right angle (iter k right s)
@@ -79,7 +83,8 @@ module _ {N : ℕ} {right angle : ℕ → ℕ} {s m B w : ℕ} (S : Sound N righ
       (iter d right s) (bucket i))
       → Filling right angle bucket B w s d → Filling right angle bucket' B w s (suc d)
   unfolding Filling
-  filling-step bucket bucket' d dm st F i l k u t = st i l ∙ go (within i (ceiling w (angle (iter d right s)) % B) (ceiling w (angle (right (iter d right s))) % B)) refl (ℕ-discrete k d)
+  filling-step bucket bucket' d dm st F i l k u t =
+      st i l ∙ go (within i (ceiling w (angle (iter d right s)) % B) (ceiling w (angle (right (iter d right s))) % B)) refl (ℕ-discrete k d)
     where
       held : (j : ℕ) → j < m
           → T (within i (ceiling w (angle (iter j right s)) % B) (ceiling w (angle (right (iter j right s))) % B))
@@ -89,8 +94,12 @@ module _ {N : ℕ} {right angle : ℕ → ℕ} {s m B w : ℕ} (S : Sound N righ
       go : (b : Bool)
           → within i (ceiling w (angle (iter d right s)) % B) (ceiling w (angle (right (iter d right s))) % B) ≡ b
           → Dec (k ≡ d) → cond b (iter d right s) (bucket i) ≡ iter k right s
-      go true z q = ap (λ (j : ℕ). iter j right s) (tile-sole S (i * w) d k dm (omega arith) (held d dm (subst T (sym z) tt)) (held k (omega arith) t))
-      go false z (yes q) = absurd (subst T (ap (λ (j : ℕ). within i (ceiling w (angle (iter j right s)) % B) (ceiling w (angle (right (iter j right s))) % B)) q ∙ z) t)
+      go true z q =
+          ap (λ (j : ℕ). iter j right s)
+          (tile-sole S (i * w) d k dm (omega arith) (held d dm (subst T (sym z) tt)) (held k (omega arith) t))
+      go false z (yes q) =
+          absurd
+          (subst T (ap (λ (j : ℕ). within i (ceiling w (angle (iter j right s)) % B) (ceiling w (angle (right (iter j right s))) % B)) q ∙ z) t)
       go false z (no q) = F i l k (omega arith) t
 
   pub filling-done : (bucket : ℕ → ℕ) → Filling right angle bucket B w s m → Bucketed right angle bucket B w s m

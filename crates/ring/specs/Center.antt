@@ -56,7 +56,8 @@ module _ {C : Counts} {L : Links} (W : Wf C L) (p : ℕ → Point) (range : (v :
       about-is-angle (p v .x) (p v .y) cx cy (mag-range (p v .x) (R .x)) (mag-range (p v .y) (R .y)) fx fy
       (sure (validCenter cx cy) (λ t. T-not (off || any-below n at) ok (or-left off (any-below n at) t)))
       (not-T (atCenter (p v .x) (p v .y) cx cy) (λ t. (let r = outer-on W (first< W) (first-outer W) l o in
-      T-not (off || any-below n at) ok (or-right off (any-below n at) (any-below← n at (r .0) (r .1) (subst (λ (d : ℕ). T (atCenter (p (L .origin d) .x) (p (L .origin d) .y) cx cy)) (sym (r .2)) t))))))
+      T-not (off || any-below n at) ok
+      (or-right off (any-below n at) (any-below← n at (r .0) (r .1) (subst (λ (d : ℕ). T (atCenter (p (L .origin d) .x) (p (L .origin d) .y) cx cy)) (sym (r .2)) t))))))
 
   -- up to 1.0
   pub boundary-low : edgeAngle L (turnsAbout cx cy p) e ≤ fullTurn

@@ -30,10 +30,12 @@ module _ (N : ℕ) (f α : ℕ → ℕ) (s m n q r : ℕ) where
       (tally (atEnds proper f α) (walk (m + n) f s))) → Fit N f α s m n q r
   unfolding isFit chain size
   fit→ t =
-      let a = proper q (α r) in let b = not (wide N (α s) q) in let c = not (wide N q (α r)) in let d = leb (3 + chain) (size + bit (proper (α s) q) + 1) in
+      let a = proper q (α r) in
+      let b = not (wide N (α s) q) in let c = not (wide N q (α r)) in let d = leb (3 + chain) (size + bit (proper (α s) q) + 1) in
       record {
         off-right = proper→ q (α r) (and-left a b (and-left (a && b) c (and-left (a && b && c) d t)));
-        left-gap = bit-no (wide N (α s) q) (λ w. T-not (wide N (α s) q) (and-right a b (and-left (a && b) c (and-left (a && b && c) d t))) w);
+        left-gap =
+            bit-no (wide N (α s) q) (λ w. T-not (wide N (α s) q) (and-right a b (and-left (a && b) c (and-left (a && b && c) d t))) w);
         right-gap = bit-no (wide N q (α r)) (λ w. T-not (wide N q (α r)) (and-right (a && b) c (and-left (a && b && c) d t)) w);
         size = leb→le (3 + chain) (size + bit (proper (α s) q) + 1) (and-right (a && b && c) d t);
       }
@@ -43,7 +45,8 @@ module _ (N : ℕ) (f α : ℕ → ℕ) (s m n q r : ℕ) where
       (tally (atEnds proper f α) (walk (m + n) f s)))
   unfolding isFit chain size
   fit← F =
-      let a = proper q (α r) in let b = not (wide N (α s) q) in let c = not (wide N q (α r)) in let d = leb (3 + chain) (size + bit (proper (α s) q) + 1) in
+      let a = proper q (α r) in
+      let b = not (wide N (α s) q) in let c = not (wide N q (α r)) in let d = leb (3 + chain) (size + bit (proper (α s) q) + 1) in
       and-both (a && b && c) d (and-both (a && b) c (and-both a b
       (proper← q (α r) (F .off-right))
       (not-T (wide N (α s) q) (bit-0 (wide N (α s) q) (F .left-gap))))
@@ -73,7 +76,8 @@ module _ (f α : ℕ → ℕ) (s m n q r : ℕ) (right : iter m f s ≡ r) (roun
       (tally (atEnds proper f α) (walk (m + n) f s))
   sound-after {N} S k l t =
       let after = α s ∷ q ∷ map α (walk n f r) in
-      test-ext (isSound N after) (isFit N (α s) q (α r) (tally (atEnds proper f α) (walk m f s)) (tally (atEnds proper f α) (walk (m + n) f s)))
+      test-ext (isSound N after)
+      (isFit N (α s) q (α r) (tally (atEnds proper f α) (walk m f s)) (tally (atEnds proper f α) (walk (m + n) f s)))
       (λ u. fit← N f α s m n q r (counts-fit S after-counts k l t (sound→ N after u)))
       (λ u. sound← N after (fit-counts S after-counts k l t (fit→ N f α s m n q r u)))
 

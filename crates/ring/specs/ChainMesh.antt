@@ -43,7 +43,8 @@ use Rattle.ring.specs.Covered.{Covered}
 telescope : (n : ℕ) (g : ℕ → ℤ) → sum n (λ k. g (suc k) -ℤ g k) ≡ g n -ℤ g 0
 unfolding sum
 telescope zero g = ring (g 0 ∷ []) (num (pos 0)) (v0 ⊖ v0) refl
-telescope (suc n) g = ap (λ (z : ℤ). z +ℤ (g (suc n) -ℤ g n)) (telescope n g) ∙ ring (g 0 ∷ g n ∷ g (suc n) ∷ []) (v1 ⊖ v0 ⊕ (v2 ⊖ v1)) (v2 ⊖ v0) refl
+telescope (suc n) g =
+    ap (λ (z : ℤ). z +ℤ (g (suc n) -ℤ g n)) (telescope n g) ∙ ring (g 0 ∷ g n ∷ g (suc n) ∷ []) (v1 ⊖ v0 ⊕ (v2 ⊖ v1)) (v2 ⊖ v0) refl
 
 module _ {C : Counts} {L : Links} (W : Wf C L) {p : ℕ → Point} (F : LeftTurning C L p) (v : Point) where
   h : ℕ
@@ -65,8 +66,10 @@ module _ {C : Counts} {L : Links} (W : Wf C L) {p : ℕ → Point} (F : LeftTurn
       let a : ℕ → ℤ = λ k. cross (u k) (u (suc k)) in
       sum-ext n {g = λ k. negℤ (a k +ℤ (g (suc k) -ℤ g k))} (λ k l. one (u k) (u (suc k)))
       ∙ sum-neg n (λ k. a k +ℤ (g (suc k) -ℤ g k))
-      ∙ ap negℤ (sum-add n a (λ k. g (suc k) -ℤ g k) ∙ ap₂ (λ (x y : ℤ). x +ℤ y) (sum-ext n (λ k l. ap (λ (x : ℕ). cross (u k) (p (L .origin x))) (iter-last k (L .prev) (L .adjacent 0)))) (telescope n g)
-      ∙ none (boundaryArea C L p) (g n) (g 0) (ap (λ (x : ℕ). cross (p (L .origin x)) v) (period-back (next-inverse W) (first< W) (boundary-period W) .back)))
+      ∙ ap negℤ
+      (sum-add n a (λ k. g (suc k) -ℤ g k) ∙ ap₂ (λ (x y : ℤ). x +ℤ y) (sum-ext n (λ k l. ap (λ (x : ℕ). cross (u k) (p (L .origin x))) (iter-last k (L .prev) (L .adjacent 0)))) (telescope n g)
+      ∙ none (boundaryArea C L p) (g n) (g 0)
+      (ap (λ (x : ℕ). cross (p (L .origin x)) v) (period-back (next-inverse W) (first< W) (boundary-period W) .back)))
     where
       one : (a b : Point) → orient2d b a v ≡ negℤ (cross a b +ℤ (cross b v -ℤ cross a v))
       one a b =
@@ -87,7 +90,8 @@ module _ {C : Counts} {L : Links} (W : Wf C L) {p : ℕ → Point} (F : LeftTurn
       end : to L (iter (suc k) (L .prev) (L .adjacent 0)) ≡ L .origin (iter k (L .prev) (L .adjacent 0))
       end =
           let m = iter-keeps (In C) (λ e l. W .ranges .prev< l) k (first< W) in
-          ap (to L) (iter-last k (L .prev) (L .adjacent 0)) ∙ sym (W .links .origin-next (W .ranges .prev< m)) ∙ ap (L .origin) (W .links .next-prev m)
+          ap (to L) (iter-last k (L .prev) (L .adjacent 0)) ∙ sym (W .links .origin-next (W .ranges .prev< m))
+          ∙ ap (L .origin) (W .links .next-prev m)
 
   pub some-unseen : (d : ℕ) × In C d × (L .face d ≡ 0) × T (not (seesEdge L p v d))
   unfolding h sees back
@@ -95,15 +99,19 @@ module _ {C : Counts} {L : Links} (W : Wf C L) {p : ℕ → Point} (F : LeftTurn
     where
       stay : (k : ℕ) → In C (iter k (L .prev) (L .adjacent 0)) × (L .face (iter k (L .prev) (L .adjacent 0)) ≡ 0)
       stay k = iter-keeps (λ x. In C x × (L .face x ≡ 0))
-          (λ x m. (W .ranges .prev< (m .0), sym (W .links .face-next (W .ranges .prev< (m .0))) ∙ ap (L .face) (W .links .next-prev (m .0)) ∙ m .1)) k (first< W, first-outer W)
+          (λ x m. (W .ranges .prev< (m .0), sym (W .links .face-next (W .ranges .prev< (m .0))) ∙ ap (L .face) (W .links .next-prev (m .0)) ∙ m .1))
+          k (first< W, first-outer W)
 
       go : T (any-below (boundaryLength C L) (λ k. not (sees k))) ⊎ T
           (not (any-below (boundaryLength C L) (λ k. not (sees k))))
           → (d : ℕ) × In C d × (L .face d ≡ 0) × T (not (seesEdge L p v d))
-      go (inl t) = let r = any-below→ (boundaryLength C L) (λ k. not (sees k)) t in (back (suc (r .0)), stay (suc (r .0)) .0, stay (suc (r .0)) .1, r .2)
+      go (inl t) =
+          let r = any-below→ (boundaryLength C L) (λ k. not (sees k)) t in
+          (back (suc (r .0)), stay (suc (r .0)) .0, stay (suc (r .0)) .1, r .2)
       go (inr t) =
           let n = none-below→ (boundaryLength C L) (λ k. not (sees k)) t in
-          let all = sum-positive (boundaryLength C L) (λ k. orient2d (u (suc k)) (u k) v) (let b = boundary-least W in omega arith) (λ k l. sees-orient k (sure (sees k) (n k l))) in
+          let all = sum-positive (boundaryLength C L) (λ k. orient2d (u (suc k)) (u k) v) (let b = boundary-least W in omega arith)
+          (λ k l. sees-orient k (sure (sees k) (n k l))) in
           let ρ = boundaryArea C L p ∷ [] in
           absurd (refute (pos-in ρ (⊝ v0) (subst (λ (z : ℤ). pos 0 <ℤ z) sees-total all) +⁺ weak (pos-in ρ v0 (boundary-positive W F))) tt)
 
@@ -162,7 +170,8 @@ module _ {C : Counts} {L : Links} (W : Wf C L) (p : ℕ → Point) (α : ℕ →
   -- ---- its first edge
   pub before-walk : (k : ℕ) → In C (iter k (L .prev) e) × (L .face (iter k (L .prev) e) ≡ 0)
   before-walk k = iter-keeps (λ x. In C x × (L .face x ≡ 0))
-      (λ x m. (W .ranges .prev< (m .0), sym (W .links .face-next (W .ranges .prev< (m .0))) ∙ ap (L .face) (W .links .next-prev (m .0)) ∙ m .1)) k (l, o)
+      (λ x m. (W .ranges .prev< (m .0), sym (W .links .face-next (W .ranges .prev< (m .0))) ∙ ap (L .face) (W .links .next-prev (m .0)) ∙ m .1))
+      k (l, o)
 
   -- e is on the chain
   pub start-walk : iter (leftChain C L p α v q e) (L .next) (chainStart C L p α v q e) ≡ e
@@ -182,7 +191,8 @@ module _ {C : Counts} {L : Links} (W : Wf C L) (p : ℕ → Point) (α : ℕ →
             let i = n - suc (suc j) in
             let there : suc j + suc i ≡ n = omega arith in
             let back : iter (suc i) (L .prev) e ≡ iter (suc j) (L .next) e =
-            ap (iter (suc i) (L .prev)) (sym (outer-round W l o) ∙ ap (λ (k : ℕ). iter k (L .next) e) (sym there) ∙ iter-add (suc j) (suc i) (L .next) e)
+            ap (iter (suc i) (L .prev))
+            (sym (outer-round W l o) ∙ ap (λ (k : ℕ). iter k (L .next) e) (sym there) ∙ iter-add (suc j) (suc i) (L .next) e)
             ∙ iter-back (next-inverse W) (suc i) (outer-walk W l o (suc j) .0) in
             let left = chain-most Left i (subst (λ (x : ℕ). T (not (seesEdge L p v x))) (sym (back ∙ z)) t) in
             let right = chain-most Right j (subst (λ (x : ℕ). T (not (seesEdge L p v x))) (sym z) t) in
@@ -202,7 +212,8 @@ module _ {C : Counts} {L : Links} (W : Wf C L) (p : ℕ → Point) (α : ℕ →
     -- FATE 4 IS DECIDED BY THE CHAIN ALONE, where e holds q in a sound ring: that is, where e is located at q
     pub chain-sound : T (isSoundRing C L α) → T (atEnds (holds q) (L .next) (edgeAngle L α) e)
         → soundAfter C L p α v q e
-        ≡ isFit fullTurn (edgeAngle L α (chainStart C L p α v q e)) q (edgeAngle L α (iter (chainLength C L p α v q e) (L .next) (chainStart C L p α v q e)))
+        ≡ isFit fullTurn (edgeAngle L α (chainStart C L p α v q e)) q
+        (edgeAngle L α (iter (chainLength C L p α v q e) (L .next) (chainStart C L p α v q e)))
         (tally (atEnds proper (L .next) (edgeAngle L α)) (walk (chainLength C L p α v q e) (L .next) (chainStart C L p α v q e)))
         (tally (atEnds proper (L .next) (edgeAngle L α)) (walk (boundaryLength C L) (L .next) (chainStart C L p α v q e)))
     unfolding soundAfter anglesAfter
@@ -213,8 +224,11 @@ module _ {C : Counts} {L : Links} (W : Wf C L) (p : ℕ → Point) (α : ℕ →
         let b = before-walk (leftChain C L p α v q e) in
         let whole : m + (n - m) ≡ n = (let u = chain-short in omega arith) in
         sound-after (L .next) a s m (n - m) q r refl chain-round
-        (subst (Sound fullTurn (L .next) a s) (sym whole) (sound-outer W α t (b .0) (b .1))) (leftChain C L p α v q e) (omega arith) (subst (λ (x : ℕ). T (atEnds (holds q) (L .next) a x)) (sym start-walk) g)
-        ∙ ap (λ (k : ℕ). isFit fullTurn (a s) q (a r) (tally (atEnds proper (L .next) a) (walk m (L .next) s)) (tally (atEnds proper (L .next) a) (walk k (L .next) s))) whole
+        (subst (Sound fullTurn (L .next) a s) (sym whole) (sound-outer W α t (b .0) (b .1))) (leftChain C L p α v q e) (omega arith)
+        (subst (λ (x : ℕ). T (atEnds (holds q) (L .next) a x)) (sym start-walk) g)
+        ∙ ap
+        (λ (k : ℕ). isFit fullTurn (a s) q (a r) (tally (atEnds proper (L .next) a) (walk m (L .next) s)) (tally (atEnds proper (L .next) a) (walk k (L .next) s)))
+        whole
 
 -- ---- the boundary that the step leaves is the one that was decided about
 pub covered-sound : (C : Counts) (L : Links) (α : ℕ → ℕ) {C′ : Counts} {L′ : Links} {α′ : ℕ → ℕ} {s m l p q : ℕ} → Wf C′ L′

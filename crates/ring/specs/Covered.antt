@@ -33,7 +33,9 @@ pub record Covered (f α : ℕ → ℕ) (C : Counts) (L : Links) (α′ : ℕ �
 -- ---- the walk around from l: l, p, and the edges that were not covered
 module _ {f α : ℕ → ℕ} {C : Counts} {L : Links} {α′ : ℕ → ℕ} {s m n l p q r : ℕ} (W : Wf C L) (K : Covered f α C L α′ s m n l p q r) where
   pub covered-rest : (k : ℕ) → k < n → iter (suc (suc k)) (L .next) l ≡ iter k f r
-  covered-rest k h = ap (λ (x : ℕ). iter k (L .next) (L .next x)) (K .spliced .l-p) ∙ ap (iter k (L .next)) (K .spliced .p-r) ∙ iter-ext f (L .next) k r (λ j u. K .spliced .rest j (omega arith))
+  covered-rest k h =
+      ap (λ (x : ℕ). iter k (L .next) (L .next x)) (K .spliced .l-p) ∙ ap (iter k (L .next)) (K .spliced .p-r)
+      ∙ iter-ext f (L .next) k r (λ j u. K .spliced .rest j (omega arith))
 
   pub covered-in : (k : ℕ) → k < n → In C (iter k f r)
   covered-in k h = subst (In C) (covered-rest k h) (outer-walk W (K .in-use) (K .outer) (suc (suc k)) .0)
@@ -51,7 +53,8 @@ module _ {f α : ℕ → ℕ} {C : Counts} {L : Links} {α′ : ℕ → ℕ} {s 
   apart j k u v d z = let h = K .length in d (outer-once W (K .in-use) (K .outer) j k (omega arith) (omega arith) z)
 
   pub rest-apart : (j k : ℕ) → j < n → k < n → j ≢ k → iter j f r ≢ iter k f r
-  rest-apart j k u v d z = apart (suc (suc j)) (suc (suc k)) (omega arith) (omega arith) (omega arith) (covered-rest j u ∙ z ∙ sym (covered-rest k v))
+  rest-apart j k u v d z =
+      apart (suc (suc j)) (suc (suc k)) (omega arith) (omega arith) (omega arith) (covered-rest j u ∙ z ∙ sym (covered-rest k v))
 
   pub rest-l : (k : ℕ) → k < n → iter k f r ≢ l
   rest-l k u z = apart (suc (suc k)) 0 (omega arith) (omega arith) (omega arith) (covered-rest k u ∙ z)
@@ -79,7 +82,8 @@ module _ {C : Counts} {L : Links} (W : Wf C L) {e : ℕ} (l : In C e) (o : L .fa
           p-r = F .next-a′;
           at-l = ap α′ (F .origin-b′) ∙ same (L .origin e) (W .ranges .origin< l);
           at-p = ap α′ (F .origin-a′);
-          at-rest = λ k u. let i = outer-walk W l o (suc k) .0 in ap α′ (F .ends i .0) ∙ same (L .origin (iter (suc k) (L .next) e)) (W .ranges .origin< i);
+          at-rest = λ k u. let i = outer-walk W l o (suc k) .0 in ap α′ (F .ends i .0)
+              ∙ same (L .origin (iter (suc k) (L .next) e)) (W .ranges .origin< i);
           rest = λ k u. F .next-rest (outer-walk W l o (suc k) .0)
               (λ z. differ (suc k) (boundaryLength C L - 1) (let b = boundary-least W in omega arith) (let b = boundary-least W in omega arith) (let b = boundary-least W in omega arith) (z ∙ sym (outer-last W l o)))
               (λ z. differ (suc k) 0 (let b = boundary-least W in omega arith) (let b = boundary-least W in omega arith) (omega arith) z);
@@ -87,7 +91,9 @@ module _ {C : Counts} {L : Links} (W : Wf C L) {e : ℕ} (l : In C e) (o : L .fa
         };
         in-use = omega arith;
         outer = F .outer-b′;
-        length = let a = count-halves W in let b = count-halves (new-face-keeps W l o) in let c = faces-least W in let d = boundary-least W in omega arith;
+        length =
+            let a = count-halves W in
+            let b = count-halves (new-face-keeps W l o) in let c = faces-least W in let d = boundary-least W in omega arith;
       }
     where
       back : (n : ℕ) → 3 ≤ n → suc (n - 1) ≡ n
@@ -130,11 +136,14 @@ module _ {f α : ℕ → ℕ} {C : Counts} {L : Links} {α′ : ℕ → ℕ} {s 
           at-l = ap α′ (F .ends (K .in-use) .0);
           at-p = ap α′ (F .origin-o) ∙ P .at-p;
           at-rest = λ k u. ap α′ (F .ends (covered-in W K (suc k) (omega arith)) .0);
-          rest = λ k u. F .next-rest (covered-in W K (suc k) (omega arith)) (λ z. rest-l W K (suc k) (omega arith) (z ∙ prev-p)) (λ z. rest-apart W K (suc k) 0 (omega arith) (omega arith) (omega arith) (z ∙ P .p-r));
+          rest = λ k u. F .next-rest (covered-in W K (suc k) (omega arith)) (λ z. rest-l W K (suc k) (omega arith) (z ∙ prev-p))
+              (λ z. rest-apart W K (suc k) 0 (omega arith) (omega arith) (omega arith) (z ∙ P .p-r));
         });
         in-use = let a = K .in-use in omega arith;
         outer = F .outer-rest (K .in-use) (K .outer) (λ z. p-l W K (sym z)) (λ z. rest-l W K 0 (omega arith) (sym (z ∙ P .p-r)));
-        length = let a = count-halves W in let b = count-halves (single-face-keeps W i o right-four) in let c = faces-least W in let d = K .length in omega arith;
+        length =
+            let a = count-halves W in
+            let b = count-halves (single-face-keeps W i o right-four) in let c = faces-least W in let d = K .length in omega arith;
       }
 
   -- ---- to the left: between the edge before l, the last that is not covered, and l
@@ -153,7 +162,8 @@ module _ {f α : ℕ → ℕ} {C : Counts} {L : Links} {α′ : ℕ → ℕ} {s 
   -- the one before that
   prev-prev-l : L .prev (L .prev l) ≡ iter (n - 1) f r
   prev-prev-l =
-      ap (L .prev) (last-l W K ∙ ap (λ (k : ℕ). iter k f r) (sym (less n more)) ∙ iter-last (n - 1) f r ∙ sym (P .rest (n - 1) (omega arith)))
+      ap (L .prev)
+      (last-l W K ∙ ap (λ (k : ℕ). iter k f r) (sym (less n more)) ∙ iter-last (n - 1) f r ∙ sym (P .rest (n - 1) (omega arith)))
       ∙ W .links .prev-next (covered-in W K (n - 1) (omega arith))
 
   next-next-prev : L .next (L .next (L .prev l)) ≡ p
@@ -169,16 +179,24 @@ module _ {f α : ℕ → ℕ} {C : Counts} {L : Links} {α′ : ℕ → ℕ} {s 
       record {
         spliced = grow-left P more (record {
           l-p = F .next-o ∙ next-next-prev;
-          p-r = F .next-rest (p-in W K) (λ z. rest-p W K (n - 1) (omega arith) (sym (z ∙ prev-prev-l))) (λ z. p-l W K (z ∙ next-prev-l)) ∙ P .p-r;
+          p-r =
+              F .next-rest (p-in W K) (λ z. rest-p W K (n - 1) (omega arith) (sym (z ∙ prev-prev-l))) (λ z. p-l W K (z ∙ next-prev-l))
+              ∙ P .p-r;
           at-l = ap α′ (F .origin-o) ∙ ap (edgeAngle L α′) (last-l W K);
           at-p = ap α′ (F .ends (p-in W K) .0) ∙ P .at-p;
           at-rest = λ k u. ap α′ (F .ends (covered-in W K k (omega arith)) .0);
-          rest = λ k u. F .next-rest (covered-in W K k (omega arith)) (λ z. rest-apart W K k (n - 1) (omega arith) (omega arith) (omega arith) (z ∙ prev-prev-l)) (λ z. rest-l W K k (omega arith) (z ∙ next-prev-l));
-          last = λ k u. ap (createSingleFaceBetweenEdgeAndNext L C (L .prev l) .next) (ap (λ (j : ℕ). iter j f r) (pred k n u) ∙ sym prev-prev-l) ∙ F .next-p;
+          rest = λ k u. F .next-rest (covered-in W K k (omega arith))
+              (λ z. rest-apart W K k (n - 1) (omega arith) (omega arith) (omega arith) (z ∙ prev-prev-l))
+              (λ z. rest-l W K k (omega arith) (z ∙ next-prev-l));
+          last = λ k u. ap (createSingleFaceBetweenEdgeAndNext L C (L .prev l) .next)
+              (ap (λ (j : ℕ). iter j f r) (pred k n u) ∙ sym prev-prev-l) ∙ F .next-p;
         });
         in-use = omega arith;
         outer = F .outer-o;
-        length = let a = count-halves W in let b = count-halves (single-face-keeps W prev-in prev-outer left-four) in let c = faces-least W in let d = K .length in omega arith;
+        length =
+            let a = count-halves W in
+            let b = count-halves (single-face-keeps W prev-in prev-outer left-four) in
+            let c = faces-least W in let d = K .length in omega arith;
       }
     where
       pred : (k n : ℕ) → suc k ≡ n → k ≡ n - 1

@@ -38,7 +38,8 @@ pub record RestEnds (L₀ L : Links) (n r : ℕ) : Type 0 where
 -- ---- kept by each face and by flips
 pub ends-edge : {C : Counts} {L : Links} (W : Wf C L) {e : ℕ} (l : In C e) (o : L .face e ≡ 0)
     → RestEnds L (createNewFaceAdjacentToEdge L C e) (boundaryLength C L - 1) (L .next e)
-ends-edge W l o = record { at = λ k u. (let a = new-face-frame W l o .ends (outer-walk W l o (suc k) .0) in record { origin = a .0; end = a .1 }) }
+ends-edge W l o =
+    record { at = λ k u. (let a = new-face-frame W l o .ends (outer-walk W l o (suc k) .0) in record { origin = a .0; end = a .1 }) }
 
 module _ {L₀ : Links} {α : ℕ → ℕ} {C : Counts} {L : Links} {α′ : ℕ → ℕ} {s m n l p q r : ℕ} (W : Wf C L)
     (K : Covered (L₀ .next) α C L α′ s m (suc n) l p q r) (E : RestEnds L₀ L (suc n) r) where

@@ -22,7 +22,8 @@ pub record Free (Live : ℕ → Type 0) (freed : ℕ → ℕ) (n len : ℕ) : Ty
 -- fewer are in use; one more is freed; the top one is taken; none is left, and the next number is taken
 pub free-fewer : {Live Live' : ℕ → Type 0} {freed : ℕ → ℕ} {n len : ℕ} → ((x : ℕ) → Live' x → Live x)
     → Free Live freed n len → Free Live' freed n len
-free-fewer f A = record { live-below = λ x l. A .live-below x (f x l); below = A .below; dead = λ j l t. A .dead j l (f _ t); once = A .once }
+free-fewer f A =
+    record { live-below = λ x l. A .live-below x (f x l); below = A .below; dead = λ j l t. A .dead j l (f _ t); once = A .once }
 
 pub free-push : {Live : ℕ → Type 0} {freed freed' : ℕ → ℕ} {n len : ℕ} (x : ℕ) → x < len → (Live x → ⊥)
     → ((j : ℕ) → j < n → freed j ≢ x) → ((j : ℕ) → j < n → freed' j ≡ freed j) → freed' n ≡ x
@@ -69,7 +70,8 @@ free-pop {Live} {freed} {n} {len} A = record {
     gone j l (inr z) = let e = A .once j n (omega arith) (omega arith) z in omega arith
 
 pub free-fresh : {Live : ℕ → Type 0} {freed : ℕ → ℕ} {len : ℕ} → Free Live freed 0 len → Free (λ x. Live x ⊎ (x ≡ len)) freed 0 (suc len)
-free-fresh {Live} {freed} {len} A = record { live-below = λ x l. low x l; below = λ j l. absurd (omega arith); dead = λ j l t. omega arith; once = λ i j l m z. absurd (omega arith) }
+free-fresh {Live} {freed} {len} A =
+    record { live-below = λ x l. low x l; below = λ j l. absurd (omega arith); dead = λ j l t. omega arith; once = λ i j l m z. absurd (omega arith) }
   where
     low : (x : ℕ) → Live x ⊎ (x ≡ len) → x < suc len
     low x (inl t) = let a = A .live-below x t in omega arith

@@ -30,7 +30,8 @@ pub ring-turns : {N : ℕ} {next α : ℕ → ℕ} {τ : NodeTable} {e h s : ℕ
 unfolding walk tally
 ring-turns R zero = R
 ring-turns {N} {next} {α} {τ} {e} {h} {s} R (suc j) =
-    subst (λ (x : ℕ). Ring N next α τ (iter (suc j) next e) h x) (sym (iter-add (bit (atEnds proper next α e)) (nodes next α j (next e)) (τ .right) s)) (ring-turns (ring-turn R) j)
+    subst (λ (x : ℕ). Ring N next α τ (iter (suc j) next e) h x)
+    (sym (iter-add (bit (atEnds proper next α e)) (nodes next α j (next e)) (τ .right) s)) (ring-turns (ring-turn R) j)
 
 -- where the k-th that passes stands
 pub kth : (b : ℕ → Bool) (f : ℕ → ℕ) (n s k : ℕ) → k < tally b (walk n f s)
@@ -44,8 +45,10 @@ kth b f (suc n) s k l = go (b s) refl k (kth b f n (f s)) l
         (tally b (walk j f (f s)) ≡ i)) → k < bit t + tally b (walk n f (f s))
         → (j : ℕ) × (j < suc n) × T (b (iter j f s)) × (tally b (walk j f s) ≡ k)
     go true e zero ih l = (0, omega arith, subst T (sym e) tt, refl)
-    go true e (suc k) ih l = let r = ih k (omega arith) in let z = ap bit e in let w = r .3 in (suc (r .0), (let a = r .1 in omega arith), r .2, omega arith)
-    go false e k ih l = let r = ih k (omega arith) in let z = ap bit e in let w = r .3 in (suc (r .0), (let a = r .1 in omega arith), r .2, omega arith)
+    go true e (suc k) ih l =
+        let r = ih k (omega arith) in let z = ap bit e in let w = r .3 in (suc (r .0), (let a = r .1 in omega arith), r .2, omega arith)
+    go false e k ih l =
+        let r = ih k (omega arith) in let z = ap bit e in let w = r .3 in (suc (r .0), (let a = r .1 in omega arith), r .2, omega arith)
 
 -- each node's edge is a boundary edge, and the ring can be taken from there
 pub ring-at : {N : ℕ} {next α : ℕ → ℕ} {τ : NodeTable} {e h s : ℕ} (R : Ring N next α τ e h s)
@@ -55,7 +58,8 @@ ring-at {N} {next} {α} {τ} {e} {h} {s} R k l =
     let r = kth (atEnds proper next α) next h e k l in
     let w = match-at next α τ h e s (R .match) (r .0) (r .1) (r .2) in
     let c = ap (λ (i : ℕ). iter i (τ .right) s) (r .3) in
-    subst (λ (x : ℕ). Ring N next α τ x h (iter k (τ .right) s)) (sym (ap (τ .edge) (sym c) ∙ w .0)) (subst (λ (x : ℕ). Ring N next α τ (iter (r .0) next e) h x) c (ring-turns R (r .0)))
+    subst (λ (x : ℕ). Ring N next α τ x h (iter k (τ .right) s)) (sym (ap (τ .edge) (sym c) ∙ w .0))
+    (subst (λ (x : ℕ). Ring N next α τ (iter (r .0) next e) h x) c (ring-turns R (r .0)))
 
 -- a node's edge has the node's two angles: the edge that locate answers holds the angle that was asked for
 pub node-edge : {N : ℕ} {next α : ℕ → ℕ} {τ : NodeTable} {e h s : ℕ} (R : Ring N next α τ e h s)
@@ -68,7 +72,8 @@ node-edge {N} {next} {α} {τ} {e} {h} {s} R k l =
     let r = kth (atEnds proper next α) next h e k l in
     let w = match-at next α τ h e s (R .match) (r .0) (r .1) (r .2) .0 in
     let z : (τ .edge) x ≡ iter (r .0) next e = ap (λ (i : ℕ). τ .edge (iter i (τ .right) s)) (sym (r .3)) ∙ w in
-    let one : bit (atEnds proper next α (τ .edge x)) ≡ 1 = bit-yes (atEnds proper next α (τ .edge x)) (subst (λ (y : ℕ). T (atEnds proper next α y)) (sym z) (r .2)) in
+    let one : bit (atEnds proper next α (τ .edge x)) ≡ 1 = bit-yes (atEnds proper next α (τ .edge x))
+    (subst (λ (y : ℕ). T (atEnds proper next α y)) (sym z) (r .2)) in
     (ring-begins A, ring-begins (ring-turn A) ∙ ap (λ (i : ℕ). τ .angle (iter i (τ .right) x)) one)
 
 -- ---- one node further on
@@ -137,7 +142,9 @@ hull-turn {N} {next} {α} {τ} {bucket} {e} {h} {s} {B} {w} H =
       links = subst (Linked τ (iter (bit (atEnds proper next α e)) (τ .right) s)) (sym z) (go₁ (atEnds proper next α e));
       low = λ k l. low' k l (decLt (suc k) h);
       sized = H .sized;
-      buckets = subst (Bucketed (τ .right) (τ .angle) bucket B w (iter (bit (atEnds proper next α e)) (τ .right) s)) (sym z) (go₂ (atEnds proper next α e));
+      buckets =
+          subst (Bucketed (τ .right) (τ .angle) bucket B w (iter (bit (atEnds proper next α e)) (τ .right) s)) (sym z)
+          (go₂ (atEnds proper next α e));
     }
   where
     go₁ : (b : Bool) → Linked τ (iter (bit b) (τ .right) s) (nodes next α h e)
@@ -150,7 +157,9 @@ hull-turn {N} {next} {α} {τ} {bucket} {e} {h} {s} {B} {w} H =
 
     low' : (k : ℕ) → k < h → Dec (suc k < h) → α (iter k next (next e)) ≤ N
     low' k l (yes u) = H .low (suc k) u
-    low' k l (no u) = let y : suc k ≡ h = omega arith in subst (λ (x : ℕ). α x ≤ N) (sym (ap (λ (j : ℕ). iter j next e) y ∙ H .ring .sound .closed)) (H .low 0 (omega arith))
+    low' k l (no u) =
+        let y : suc k ≡ h = omega arith in
+        subst (λ (x : ℕ). α x ≤ N) (sym (ap (λ (j : ℕ). iter j next e) y ∙ H .ring .sound .closed)) (H .low 0 (omega arith))
 
 pub hull-turns : {N : ℕ} {next α : ℕ → ℕ} {τ : NodeTable} {bucket : ℕ → ℕ} {e h s B w : ℕ}
     → HullFrom N next α τ bucket e h s B w → (j : ℕ)
@@ -158,7 +167,8 @@ pub hull-turns : {N : ℕ} {next α : ℕ → ℕ} {τ : NodeTable} {bucket : �
 unfolding walk tally
 hull-turns H zero = H
 hull-turns {N} {next} {α} {τ} {bucket} {e} {h} {s} {B} {w} H (suc j) =
-    subst (λ (x : ℕ). HullFrom N next α τ bucket (iter (suc j) next e) h x B w) (sym (iter-add (bit (atEnds proper next α e)) (nodes next α j (next e)) (τ .right) s)) (hull-turns (hull-turn H) j)
+    subst (λ (x : ℕ). HullFrom N next α τ bucket (iter (suc j) next e) h x B w)
+    (sym (iter-add (bit (atEnds proper next α e)) (nodes next α j (next e)) (τ .right) s)) (hull-turns (hull-turn H) j)
 
 -- the hull from any of its nodes, and in particular from the node of bucket 0, so that an invariant need name neither
 -- an edge nor a node to start from
@@ -170,7 +180,8 @@ hull-at {N} {next} {α} {τ} {bucket} {e} {h} {s} {B} {w} H x (k, l, z) =
     let r = kth (atEnds proper next α) next h e k l in
     let c = ap (λ (i : ℕ). iter i (τ .right) s) (r .3) ∙ z in
     let y = match-at next α τ h e s (H .ring .match) (r .0) (r .1) (r .2) .0 in
-    subst (λ (i : ℕ). HullFrom N next α τ bucket i h x B w) (sym (ap (τ .edge) (sym c) ∙ y)) (subst (λ (i : ℕ). HullFrom N next α τ bucket (iter (r .0) next e) h i B w) c (hull-turns H (r .0)))
+    subst (λ (i : ℕ). HullFrom N next α τ bucket i h x B w) (sym (ap (τ .edge) (sym c) ∙ y))
+    (subst (λ (i : ℕ). HullFrom N next α τ bucket (iter (r .0) next e) h i B w) c (hull-turns H (r .0)))
 
 pub hull-home : {N : ℕ} {next α : ℕ → ℕ} {τ : NodeTable} {bucket : ℕ → ℕ} {e h s B w : ℕ}
     → HullFrom N next α τ bucket e h s B w
@@ -191,7 +202,8 @@ module _ {N : ℕ} {next α : ℕ → ℕ} {τ : NodeTable} {bucket : ℕ → �
       let i : x / w < B = div-lt-iff-lt-mul {k = w} {x = x} {y = B} (H .sized .room) .1 (let a = H .sized .all in omega arith) in
       let o = H .buckets (x / w) i in
       count-boundary (H .ring) (x / w * w) x
-      ∙ sym (ap (λ (y : ℕ). tally (λ j. between (x / w * w) x (τ .angle j)) (walk (nodes next α h e) (τ .right) y)) (sym (o .0 .2)) ∙ tally-at (λ j. between (x / w * w) x (τ .angle j)) (τ .right) (nodes next α h e) s (H .ring .back) (o .0 .0))
+      ∙ sym
+      (ap (λ (y : ℕ). tally (λ j. between (x / w * w) x (τ .angle j)) (walk (nodes next α h e) (τ .right) y)) (sym (o .0 .2)) ∙ tally-at (λ j. between (x / w * w) x (τ .angle j)) (τ .right) (nodes next α h e) s (H .ring .back) (o .0 .0))
       ∙ bucket-count x (H .sized) (start-sound (bucket (x / w)) (o .0)) (o .1) F
 
   -- each node has the angle of a boundary edge, and each boundary angle is a node's
@@ -219,18 +231,24 @@ module _ {N : ℕ} {next α : ℕ → ℕ} {τ : NodeTable} {bucket : ℕ → �
 
     -- a node some steps from bucket 0's
     there : (j : ℕ) → j < nodes next α h e → On (τ .right) (nodes next α h e) s (iter j (τ .right) (bucket 0))
-    there j l = on-from {right = τ .right} {m = nodes next α h e} {s = s} (iter j (τ .right) (bucket 0)) (H .ring .back) (home .0 .0) (j, l, ap (iter j (τ .right)) (home .0 .2))
+    there j l =
+        on-from {right = τ .right} {m = nodes next α h e} {s = s} (iter j (τ .right) (bucket 0)) (H .ring .back) (home .0 .0)
+        (j, l, ap (iter j (τ .right)) (home .0 .2))
 
     low-0 : (j : ℕ) → j < nodes next α h e → τ .angle (iter j (τ .right) (bucket 0)) ≤ N
-    low-0 j l = let a = node-angle (iter j (τ .right) (bucket 0)) (there j l) in subst (λ (y : ℕ). y ≤ N) (sym (a .2)) (H .low (a .0) (a .1))
+    low-0 j l =
+        let a = node-angle (iter j (τ .right) (bucket 0)) (there j l) in subst (λ (y : ℕ). y ≤ N) (sym (a .2)) (H .low (a .0) (a .1))
 
     pub locate-top-none : ((j : ℕ) → j < h → α (iter j next e) ≢ 0) → k ≡ 0
-    locate-top-none f = top-none (start-sound (bucket 0) (home .0)) holds-0 K low-0 (λ j l z. let a = node-angle (iter j (τ .right) (bucket 0)) (there j l) in f (a .0) (a .1) (sym (a .2) ∙ z))
+    locate-top-none f =
+        top-none (start-sound (bucket 0) (home .0)) holds-0 K low-0
+        (λ j l z. let a = node-angle (iter j (τ .right) (bucket 0)) (there j l) in f (a .0) (a .1) (sym (a .2) ∙ z))
 
     pub locate-top-some : (j : ℕ) → j < h → α (iter j next e) ≡ 0 → suc k ≡ nodes next α h e
     locate-top-some j l z =
         let a = angle-node j in
-        let o = subst (λ (y : ℕ). On (τ .right) (nodes next α h e) y (a .0)) (home .0 .2) (on-to {right = τ .right} {m = nodes next α h e} {s = s} (a .0) (H .ring .back) (home .0 .0) (a .1)) in
+        let o = subst (λ (y : ℕ). On (τ .right) (nodes next α h e) y (a .0)) (home .0 .2)
+        (on-to {right = τ .right} {m = nodes next α h e} {s = s} (a .0) (H .ring .back) (home .0 .0) (a .1)) in
         top-some (start-sound (bucket 0) (home .0)) holds-0 K low-0
         (ap (λ (y : ℕ). tally (atEnds proper (τ .right) (τ .angle)) (walk (nodes next α h e) (τ .right) y)) (sym (home .0 .2)) ∙ tally-at (atEnds proper (τ .right) (τ .angle)) (τ .right) (nodes next α h e) s (H .ring .back) (home .0 .0) ∙ ring-proper (H .ring))
         (o .0) (o .1) (ap (τ .angle) (o .2) ∙ a .2 ∙ z)
@@ -262,7 +280,8 @@ module _ {N : ℕ} {next α next' α' : ℕ → ℕ} {τ : NodeTable} {bucket : 
   low-new : (j : ℕ) → j < suc (suc n) → α' (iter j next' l) ≤ N
   low-new zero a = subst (λ (y : ℕ). y ≤ N) (sym (P .spliced .at-l)) (H .low 0 (let g = P .spliced .some in omega arith))
   low-new (suc zero) a = subst (λ (y : ℕ). y ≤ N) (sym (ap α' (P .spliced .l-p) ∙ P .spliced .at-p)) q-low
-  low-new (suc (suc j)) a = subst (λ (y : ℕ). y ≤ N) (sym (along ∙ P .spliced .at-rest j (omega arith) ∙ behind)) (H .low (m + j) (omega arith))
+  low-new (suc (suc j)) a =
+      subst (λ (y : ℕ). y ≤ N) (sym (along ∙ P .spliced .at-rest j (omega arith) ∙ behind)) (H .low (m + j) (omega arith))
     where
       along : α' (iter j next' (next' (next' l))) ≡ α' (iter j next r)
       along =

@@ -13,7 +13,8 @@ use Rattle.ring.specs.Segments.{proper→, proper←, holds-proper, null
 use Rattle.ring.specs.Splice.{Spliced, FitSplice, ends, splice-sound}
 use Rattle.ring.specs.Buckets.{ceiling, within, null-within, Sized, bucket-range}
 use Rattle.ring.specs.Node.{NodeTable, nodes, Match, Kept, kept-tally, kept-match}
-use Rattle.ring.specs.Insert.{Ring, ring-begins, On, Bucketed, Insertion, restNode, size-old, rest-some, rest-match, right-angle, rest-round, chain-node}
+use Rattle.ring.specs.Insert.{Ring, ring-begins, On, Bucketed, Insertion, restNode, size-old, rest-some, rest-match, right-angle}
+use Rattle.ring.specs.Insert.{rest-round, chain-node}
 use Rattle.sums.specs.Bit.{bit, bit-0, bit-1, bit-yes}
 use Rattle.sums.specs.Iterate.{iter, iter-add, iter-ext, iter-last}
 use Rattle.sums.specs.Tally.{tally, walk}

@@ -60,10 +60,13 @@ tally-none b f (suc n) s h = let i = tally-none b f n (f s) (λ j l. h (suc j) (
 pub tally-whole : (b : ℕ → Bool) (f : ℕ → ℕ) (n s : ℕ) → ((j : ℕ) → j < n → bit (b (iter j f s)) ≡ 1) → tally b (walk n f s) ≡ n
 unfolding walk tally
 tally-whole b f zero s h = refl
-tally-whole b f (suc n) s h = let i = tally-whole b f n (f s) (λ j l. h (suc j) (omega arith)) in let z = h zero (omega arith) in omega arith
+tally-whole b f (suc n) s h =
+    let i = tally-whole b f n (f s) (λ j l. h (suc j) (omega arith)) in let z = h zero (omega arith) in omega arith
 
 pub tally-part : (b : ℕ → Bool) (f : ℕ → ℕ) (j n s : ℕ) → j ≤ n → tally b (walk j f s) ≤ tally b (walk n f s)
-tally-part b f j n s h = let a = tally-add b f j (n - j) s in let e : j + (n - j) ≡ n = omega arith in let c = ap (λ (i : ℕ). tally b (walk i f s)) e in omega arith
+tally-part b f j n s h =
+    let a = tally-add b f j (n - j) s in
+    let e : j + (n - j) ≡ n = omega arith in let c = ap (λ (i : ℕ). tally b (walk i f s)) e in omega arith
 
 -- The walk starts at s, which holds y; k steps on is the first that holds x
 module _ {N : ℕ} {f α : ℕ → ℕ} {s n k x y : ℕ} (S : Sound N f α s n) (here : T (atEnds (holds y) f α s)) (up : y ≤ x)
@@ -76,24 +79,36 @@ module _ {N : ℕ} {f α : ℕ → ℕ} {s n k x y : ℕ} (S : Sound N f α s n)
 
   -- the two tallies of the first j
   y-one : (j : ℕ) → 0 < j → j ≤ n → tally (atEnds (holds y) f α) (walk j f s) ≡ 1
-  y-one j p l = let a = counts (atEnds (holds y) f α) f j s 0 p here in let b = tally-part (atEnds (holds y) f α) f j n s l in let c = tile-count S y in omega arith
+  y-one j p l =
+      let a = counts (atEnds (holds y) f α) f j s 0 p here in
+      let b = tally-part (atEnds (holds y) f α) f j n s l in let c = tile-count S y in omega arith
 
   x-none : (j : ℕ) → j ≤ k → tally (atEnds (holds x) f α) (walk j f s) ≡ 0
-  x-none j l = tally-none (atEnds (holds x) f α) f j s (λ i m. bit-no (atEnds (holds x) f α (iter i f s)) (λ t. K .before i (omega arith) t))
+  x-none j l =
+      tally-none (atEnds (holds x) f α) f j s (λ i m. bit-no (atEnds (holds x) f α (iter i f s)) (λ t. K .before i (omega arith) t))
 
   x-one : (j : ℕ) → k < j → j ≤ n → tally (atEnds (holds x) f α) (walk j f s) ≡ 1
-  x-one j p l = let a = counts (atEnds (holds x) f α) f j s k p (K .passes) in let b = tally-part (atEnds (holds x) f α) f j n s l in let c = tile-count S x in omega arith
+  x-one j p l =
+      let a = counts (atEnds (holds x) f α) f j s k p (K .passes) in
+      let b = tally-part (atEnds (holds x) f α) f j n s l in let c = tile-count S x in omega arith
 
   v-is : (j : ℕ) → tally (atEnds (holds x) f α) (walk j f s) + v j ≡ tally (atEnds (holds y) f α) (walk j f s) + v 0
   unfolding v
-  v-is j = let a = held-along f α x j s in let b = held-along f α y j s in let c = between-is y x (α s) up in let d = between-is y x (α (iter j f s)) up in omega arith
+  v-is j =
+      let a = held-along f α x j s in
+      let b = held-along f α y j s in let c = between-is y x (α s) up in let d = between-is y x (α (iter j f s)) up in omega arith
 
   v-low : 0 < k → v 0 ≡ 0
   unfolding v
-  v-low p = let h = K .below in let a = v-is 1 in let b = x-none 1 p in let c = y-one 1 (omega arith) (omega arith) in let d = bit-le (between y x (α (iter 1 f s))) in omega arith
+  v-low p =
+      let h = K .below in
+      let a = v-is 1 in
+      let b = x-none 1 p in let c = y-one 1 (omega arith) (omega arith) in let d = bit-le (between y x (α (iter 1 f s))) in omega arith
 
   v-up : (j : ℕ) → 0 < j → j ≤ k → v j ≡ 1
-  v-up j p l = let h = K .below in let a = v-is j in let b = x-none j l in let c = y-one j p (omega arith) in let d = v-low (omega arith) in omega arith
+  v-up j p l =
+      let h = K .below in
+      let a = v-is j in let b = x-none j l in let c = y-one j p (omega arith) in let d = v-low (omega arith) in omega arith
 
   v-past : (j : ℕ) → k < j → j ≤ n → v j ≡ v 0
   v-past j p l = let a = v-is j in let b = x-one j p l in let c = y-one j (omega arith) l in omega arith
@@ -108,7 +123,9 @@ module _ {N : ℕ} {f α : ℕ → ℕ} {s n k x y : ℕ} (S : Sound N f α s n)
       let e : suc k + d ≡ n = omega arith in
       let w = ap (λ (i : ℕ). tally (λ e. between y x (α e)) (walk i f s)) e in
       let a = tally-whole (λ e. between y x (α e)) f k (f s) (λ j l. v-up (suc j) (omega arith) (omega arith)) in
-      let b = tally-none (λ e. between y x (α e)) f d (iter k f (f s)) (λ j l. ap (λ (i : ℕ). bit (between y x (α i))) (sym (iter-add (suc k) j f s)) ∙ v-past (suc k + j) (omega arith) (omega arith) ∙ z) in
+      let b = tally-none (λ e. between y x (α e)) f d (iter k f (f s))
+      (λ j l. ap (λ (i : ℕ). bit (between y x (α i))) (sym (iter-add (suc k) j f s)) ∙ v-past (suc k + j) (omega arith) (omega arith) ∙ z)
+      in
       omega arith
 
   -- if the walk passes none, all angles are above y and up to x, or none is
@@ -131,7 +148,8 @@ module _ {N : ℕ} {f α : ℕ → ℕ} {s n k x y : ℕ} (S : Sound N f α s n)
           let k0 : k ≡ 0 = omega arith in
           let va = level k0 j (omega arith) in let vb = level k0 (suc j) l in
           let A = between→ y x a (bit-1 (between y x a) (omega arith)) in
-          let C = between→ y x b (subst (λ (i : ℕ). T (between y x (α i))) (iter-last j f s) (bit-1 (between y x (α (iter (suc j) f s))) (omega arith))) in
+          let C = between→ y x b
+          (subst (λ (i : ℕ). T (between y x (α i))) (iter-last j f s) (bit-1 (between y x (α (iter (suc j) f s))) (omega arith))) in
           let d = wraps→ a b (w .1 .passes) in
           let q = counts (atEnds (wide N) f α) f n s j l (wide-wraps N a b d (far y x a b N c (A .0) (A .1) (C .0) d)) in
           let g = S .gaps in
@@ -185,7 +203,8 @@ module _ {N : ℕ} {f α : ℕ → ℕ} {s n k : ℕ} (S : Sound N f α s n) (he
           let k0 : k ≡ 0 = omega arith in
           let w = first (atEnds wraps f α) f n s (let o = S .once in omega arith) in
           let i = w .0 in
-          let a = at-zero i (w .1 .below) (level S here zero-le K k0 i (omega arith) ∙ sym (level S here zero-le K k0 j (omega arith)) ∙ nil) in
+          let a = at-zero i (w .1 .below)
+          (level S here zero-le K k0 i (omega arith) ∙ sym (level S here zero-le K k0 j (omega arith)) ∙ nil) in
           let d = wraps→ (α (iter i f s)) (α (f (iter i f s))) (w .1 .passes) in
           absurd (omega arith)
       go (yes p) (yes u) =

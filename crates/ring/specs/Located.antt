@@ -43,7 +43,8 @@ member← : (next α : ℕ → ℕ) (x h e j : ℕ) → j < h → α (iter j nex
 unfolding walk member
 member← next α x zero e j l z = absurd (omega arith)
 member← next α x (suc h) e zero l z = or-left (eqb (α e) x) (member x (map α (walk h next (next e)))) (eq-test z)
-member← next α x (suc h) e (suc j) l z = or-right (eqb (α e) x) (member x (map α (walk h next (next e)))) (member← next α x h (next e) j (omega arith) z)
+member← next α x (suc h) e (suc j) l z =
+    or-right (eqb (α e) x) (member x (map α (walk h next (next e)))) (member← next α x h (next e) j (omega arith) z)
 
 -- ---- THE COUNT, with 8 buckets
 module _ {N : ℕ} {next α : ℕ → ℕ} {τ : NodeTable} {bucket : ℕ → ℕ} {e h s w : ℕ}
@@ -57,9 +58,13 @@ module _ {N : ℕ} {next α : ℕ → ℕ} {τ : NodeTable} {bucket : ℕ → �
       → passedCount N x (map α (walk h next e)) ≡ k
   unfolding passedCount angleIn
   passed-below x k l F =
-      let i : 8 * x / N ≡ x / w = ap (λ (n : ℕ). 8 * x / n) (H .sized .all) ∙ ap₂ (λ (a b : ℕ). a / b) (mul-comm 8 x) (mul-comm 8 w) ∙ mul-div-mul-right x w (omega arith) in
-      let y : 8 * x / N * N / 8 ≡ x / w * w = ap₂ (λ (a b : ℕ). a * b / 8) i (H .sized .all ∙ mul-comm 8 w) ∙ ap (λ (n : ℕ). n / 8) (sym (mul-assoc (x / w) w 8)) ∙ mul-div-cancel (x / w * w) (omega arith) in
-      ap (λ (t : Bool). cond t (cond (member 0 (map α (walk h next e))) (length (merged (map α (walk h next e))) - 1) 0) (tally (between (8 * x / N * N / 8) x) (merged (map α (walk h next e))))) (is-false (eqb x N) (λ t. let z = eqb→eq x N t in omega arith))
+      let i : 8 * x / N ≡ x / w = ap (λ (n : ℕ). 8 * x / n) (H .sized .all) ∙ ap₂ (λ (a b : ℕ). a / b) (mul-comm 8 x) (mul-comm 8 w)
+      ∙ mul-div-mul-right x w (omega arith) in
+      let y : 8 * x / N * N / 8 ≡ x / w * w = ap₂ (λ (a b : ℕ). a * b / 8) i (H .sized .all ∙ mul-comm 8 w)
+      ∙ ap (λ (n : ℕ). n / 8) (sym (mul-assoc (x / w) w 8)) ∙ mul-div-cancel (x / w * w) (omega arith) in
+      ap
+      (λ (t : Bool). cond t (cond (member 0 (map α (walk h next e))) (length (merged (map α (walk h next e))) - 1) 0) (tally (between (8 * x / N * N / 8) x) (merged (map α (walk h next e)))))
+      (is-false (eqb x N) (λ t. let z = eqb→eq x N t in omega arith))
       ∙ ap (λ (n : ℕ). tally (between n x) (merged (map α (walk h next e)))) y
       ∙ angles-tally next α (between (x / w * w) x) h e (H .ring .sound .closed) some
       ∙ locate-hull H x k l F
@@ -70,7 +75,8 @@ module _ {N : ℕ} {next α : ℕ → ℕ} {τ : NodeTable} {bucket : ℕ → �
   unfolding passedCount
   passed-top k F =
       let l = map α (walk h next e) in
-      ap (λ (t : Bool). cond t (cond (member 0 l) (length (merged l) - 1) 0) (tally (between (8 * N / N * N / 8) N) (merged l))) (is-true (eqb N N) (eq-test {a = N} refl))
+      ap (λ (t : Bool). cond t (cond (member 0 l) (length (merged l) - 1) 0) (tally (between (8 * N / N * N / 8) N) (merged l)))
+      (is-true (eqb N N) (eq-test {a = N} refl))
       ∙ go (member 0 l) refl
     where
       go : (t : Bool) → member 0 (map α (walk h next e)) ≡ t → cond t (length (merged (map α (walk h next e))) - 1) 0 ≡ k
@@ -90,13 +96,17 @@ module _ {N : ℕ} {next α : ℕ → ℕ} {τ : NodeTable} {bucket : ℕ → �
     where
       go : Dec (x ≡ N) → passedCount N x (map α (walk h next e)) ≡ k
       go (yes z) =
-          let b : x / w % 8 ≡ 0 = ap (λ (n : ℕ). n / w % 8) (z ∙ H .sized .all) ∙ ap (λ (n : ℕ). n % 8) (mul-div-cancel 8 (H .sized .room)) in
+          let b : x / w % 8 ≡ 0 = ap (λ (n : ℕ). n / w % 8) (z ∙ H .sized .all)
+          ∙ ap (λ (n : ℕ). n % 8) (mul-div-cancel 8 (H .sized .room)) in
           ap (λ (n : ℕ). passedCount N n (map α (walk h next e))) z
-          ∙ passed-top k (subst (λ (n : ℕ). First (atEnds (holds n) (τ .right) (τ .angle)) (τ .right) (nodes next α h e) (bucket 0) k) z (subst (λ (n : ℕ). First (atEnds (holds x) (τ .right) (τ .angle)) (τ .right) (nodes next α h e) (bucket n) k) b F))
+          ∙ passed-top k
+          (subst (λ (n : ℕ). First (atEnds (holds n) (τ .right) (τ .angle)) (τ .right) (nodes next α h e) (bucket 0) k) z (subst (λ (n : ℕ). First (atEnds (holds x) (τ .right) (τ .angle)) (τ .right) (nodes next α h e) (bucket n) k) b F))
       go (no z) =
           let u : x < N = omega arith in
-          let b : x / w % 8 ≡ x / w = mod-eq-of-lt (div-lt-iff-lt-mul {k = w} {x = x} {y = 8} (H .sized .room) .1 (let a = H .sized .all in omega arith)) in
-          passed-below x k u (subst (λ (n : ℕ). First (atEnds (holds x) (τ .right) (τ .angle)) (τ .right) (nodes next α h e) (bucket n) k) b F)
+          let b : x / w % 8 ≡ x / w = mod-eq-of-lt
+          (div-lt-iff-lt-mul {k = w} {x = x} {y = 8} (H .sized .room) .1 (let a = H .sized .all in omega arith)) in
+          passed-below x k u
+          (subst (λ (n : ℕ). First (atEnds (holds x) (τ .right) (τ .angle)) (τ .right) (nodes next α h e) (bucket n) k) b F)
 
 -- ---- THE EDGE: a node's edge is one of the boundary's
 pub node-place : {N : ℕ} {next α : ℕ → ℕ} {τ : NodeTable} {bucket : ℕ → ℕ} {e h s B w : ℕ}
@@ -118,5 +128,7 @@ node-located {C} {L} W α {τ} {bucket} {e} {s} l o H x y (k, u, z) t =
     let b = outer-walk W l o (r .0) in
     let n = node-edge (H .ring) k u in
     let f : edgeAngle L α (τ .edge y) ≡ τ .angle y = ap (λ (i : ℕ). edgeAngle L α (τ .edge i)) (sym z) ∙ n .0 ∙ ap (τ .angle) z in
-    let g : edgeAngle L α (L .next (τ .edge y)) ≡ τ .angle (τ .right y) = ap (λ (i : ℕ). edgeAngle L α (L .next (τ .edge i))) (sym z) ∙ n .1 ∙ ap (λ (i : ℕ). τ .angle (τ .right i)) z in
-    located-sole W α (outer-sound W α l o (H .ring .sound)) x (subst (In C) (sym (r .2)) (b .0)) (ap (L .face) (r .2) ∙ b .1) (subst T (ap₂ (holds x) (sym f) (sym g)) t)
+    let g : edgeAngle L α (L .next (τ .edge y)) ≡ τ .angle (τ .right y) = ap (λ (i : ℕ). edgeAngle L α (L .next (τ .edge i))) (sym z) ∙ n .1
+    ∙ ap (λ (i : ℕ). τ .angle (τ .right i)) z in
+    located-sole W α (outer-sound W α l o (H .ring .sound)) x (subst (In C) (sym (r .2)) (b .0)) (ap (L .face) (r .2) ∙ b .1)
+    (subst T (ap₂ (holds x) (sym f) (sym g)) t)

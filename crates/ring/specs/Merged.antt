@@ -15,7 +15,8 @@ use Rattle.sums.specs.Bit.{Tells, bit, bit-yes, eq?, eq-test, and-left, and-rig
 use Rattle.sums.specs.Bounded.{count-not}
 use Rattle.sums.specs.Iterate.{iter}
 use Rattle.sums.specs.Tally.{tally, walk, tally-count}
-use Rattle.ring.specs.Ring.{proper, wraps, headOr, countBefore, countAround, mergedBefore, orOne, merged, member, allDiffer, isSound, isStrict, atEnds, filter}
+use Rattle.ring.specs.Ring.{proper, wraps, headOr, countBefore, countAround, mergedBefore, orOne, merged, member, allDiffer, isSound}
+use Rattle.ring.specs.Ring.{isStrict, atEnds, filter}
 use Rattle.ring.specs.Segments.{held, holds-first, null-wraps, null-wide}
 use Rattle.ring.specs.Sound.{Sound, SoundCounts}
 
@@ -146,7 +147,10 @@ copies-held x z (a ∷ l) = go (eqb a (headOr l z)) (eqb a x) (eq? a (headOr l z
         → bit (not t && u) + countBefore (λ a c. proper a c && eqb a x) l z ≤ bit (holds x a (headOr l z)) + countBefore (holds x) l z
     go true u A B i = omega arith
     go false false A B i = omega arith
-    go false true A B i = let b = bit-yes (holds x a (headOr l z)) (subst (λ (y : ℕ). T (holds y a (headOr l z))) (B .0 tt) (holds-first a (headOr l z) (A .1 tt))) in omega arith
+    go false true A B i =
+        let b =
+        bit-yes (holds x a (headOr l z)) (subst (λ (y : ℕ). T (holds y a (headOr l z))) (B .0 tt) (holds-first a (headOr l z) (A .1 tt))) in
+        omega arith
 
 -- ---- the words and the counts
 -- as many hold x as wrap
@@ -221,7 +225,9 @@ module _ (next α : ℕ → ℕ) where
       ≡ mergedBefore (map α (walk h next e)) (α (iter h next e))
   unfolding walk filter mergedBefore proper
   nodes-before zero e = refl
-  nodes-before (suc h) e = go (eqb (α e) (α (next e))) (eqb (α e) (headOr (map α (walk h next (next e))) (α (iter h next (next e))))) (ap (eqb (α e)) (sym (angles-head h (next e)))) (nodes-before h (next e))
+  nodes-before (suc h) e =
+      go (eqb (α e) (α (next e))) (eqb (α e) (headOr (map α (walk h next (next e))) (α (iter h next (next e)))))
+      (ap (eqb (α e)) (sym (angles-head h (next e)))) (nodes-before h (next e))
     where
       z : ℕ
       z = α (iter h next (next e))
@@ -231,7 +237,8 @@ module _ (next α : ℕ → ℕ) where
           ≡ mergedBefore (map α (walk h next (next e))) (α (iter h next (next e)))
           → map α (cond (not t) (e ∷ filter (atEnds proper next α) (walk h next (next e)))
           (filter (atEnds proper next α) (walk h next (next e))))
-          ≡ cond u (mergedBefore (map α (walk h next (next e))) (α (iter h next (next e)))) (α e ∷ mergedBefore (map α (walk h next (next e))) (α (iter h next (next e))))
+          ≡ cond u (mergedBefore (map α (walk h next (next e))) (α (iter h next (next e))))
+          (α e ∷ mergedBefore (map α (walk h next (next e))) (α (iter h next (next e))))
       go true true q i = i
       go true false q i = absurd (mathlib.Core.Bool.false≢true (sym q))
       go false true q i = absurd (mathlib.Core.Bool.false≢true q)
@@ -240,7 +247,8 @@ module _ (next α : ℕ → ℕ) where
   pub nodes-merged : (h e : ℕ) → iter h next e ≡ e → 0 < tally (atEnds proper next α) (walk h next e)
       → map α (filter (atEnds proper next α) (walk h next e)) ≡ merged (map α (walk h next e))
   unfolding walk mergedBefore
-  nodes-merged h e c p = nodes-before h e ∙ back h c ∙ sym (merged-before (map α (walk h next e)) (let a = angles-around h e c proper in omega arith))
+  nodes-merged h e c p =
+      nodes-before h e ∙ back h c ∙ sym (merged-before (map α (walk h next e)) (let a = angles-around h e c proper in omega arith))
     where
       back : (h : ℕ) → iter h next e ≡ e
           → mergedBefore (map α (walk h next e)) (α (iter h next e))
@@ -254,7 +262,8 @@ module _ (next α : ℕ → ℕ) where
   unfolding countAround
   angles-tally b h e c p =
       let l = map α (walk h next e) in
-      ap (tally b) (merged-before l (let a = angles-around h e c proper in omega arith)) ∙ merged-tally (headOr l 0) b l ∙ angles-around h e c (λ a c. proper a c && b a)
+      ap (tally b) (merged-before l (let a = angles-around h e c proper in omega arith)) ∙ merged-tally (headOr l 0) b l
+      ∙ angles-around h e c (λ a c. proper a c && b a)
 
   pub angles-size : (h e : ℕ) → iter h next e ≡ e → 0 < tally (atEnds proper next α) (walk h next e)
       → length (merged (map α (walk h next e))) ≡ tally (atEnds proper next α) (walk h next e)
@@ -286,7 +295,9 @@ strict-sound N l h = and-left (isSound N l) (eqb (countAround eqb l) 0) h
 -- in a strict ring nothing is merged
 pub strict-merged : (N : ℕ) (l : List ℕ) → T (isStrict N l) → merged l ≡ l
 unfolding isStrict countAround
-strict-merged N l h = merged-before l (let t = sound→ N l (strict-sound N l h) .three in omega arith) ∙ merged-same (headOr l 0) l (eqb→eq (countAround eqb l) 0 (and-right (isSound N l) (eqb (countAround eqb l) 0) h))
+strict-merged N l h =
+    merged-before l (let t = sound→ N l (strict-sound N l h) .three in omega arith)
+    ∙ merged-same (headOr l 0) l (eqb→eq (countAround eqb l) 0 (and-right (isSound N l) (eqb (countAround eqb l) 0) h))
 
 -- and each edge has a node
 pub strict-all : (N : ℕ) (next α : ℕ → ℕ) (e h : ℕ) → iter h next e ≡ e → T (isStrict N (map α (walk h next e)))

@@ -62,7 +62,8 @@ module _ (next α : ℕ → ℕ) (τ : NodeTable) where
   unfolding Match walk tally
   begins zero e s M d = d
   begins (suc h) e s M d =
-      go (atEnds proper next α e) (proper? (α e) (α (next e))) (M .0) (begins h (next e) (iter (bit (atEnds proper next α e)) (τ .right) s) (M .1) (d ∙ ap (τ .angle) (iter-add (bit (atEnds proper next α e)) (nodes next α h (next e)) (τ .right) s)))
+      go (atEnds proper next α e) (proper? (α e) (α (next e))) (M .0)
+      (begins h (next e) (iter (bit (atEnds proper next α e)) (τ .right) s) (M .1) (d ∙ ap (τ .angle) (iter-add (bit (atEnds proper next α e)) (nodes next α h (next e)) (τ .right) s)))
     where
       go : (t : Bool) → Tells t (α e ≢ α (next e)) (α e ≡ α (next e)) → (T t → (τ .edge s ≡ e) × (τ .angle s ≡ α e))
           → α (next e) ≡ τ .angle (iter (bit t) (τ .right) s) → α e ≡ τ .angle s
@@ -73,7 +74,8 @@ module _ (next α : ℕ → ℕ) (τ : NodeTable) where
   pub begins-node : (h e s : ℕ) → Match next α τ h e s → 0 < nodes next α h e → α e ≡ τ .angle s
   unfolding Match walk tally
   begins-node zero e s M d = absurd (omega arith)
-  begins-node (suc h) e s M d = go (atEnds proper next α e) (proper? (α e) (α (next e))) (M .0) (λ (s' : ℕ). begins-node h (next e) s') (M .1) d
+  begins-node (suc h) e s M d =
+      go (atEnds proper next α e) (proper? (α e) (α (next e))) (M .0) (λ (s' : ℕ). begins-node h (next e) s') (M .1) d
     where
       go : (t : Bool) → Tells t (α e ≢ α (next e)) (α e ≡ α (next e)) → (T t → (τ .edge s ≡ e) × (τ .angle s ≡ α e))
           → ((s' : ℕ) → Match next α τ h (next e) s' → 0 < nodes next α h (next e) → α (next e) ≡ τ .angle s')
@@ -89,8 +91,10 @@ module _ (next α : ℕ → ℕ) (τ : NodeTable) where
   match-tally φ null zero e s M d = refl
   match-tally φ null (suc h) e s M d =
       let s' = iter (bit (atEnds proper next α e)) (τ .right) s in
-      let d' : α (iter h next (next e)) ≡ τ .angle (iter (nodes next α h (next e)) (τ .right) s') = d ∙ ap (τ .angle) (iter-add (bit (atEnds proper next α e)) (nodes next α h (next e)) (τ .right) s) in
-      go (atEnds proper next α e) (proper? (α e) (α (next e))) (M .0) (begins h (next e) s' (M .1) d') (match-tally φ null h (next e) s' (M .1) d')
+      let d' : α (iter h next (next e)) ≡ τ .angle (iter (nodes next α h (next e)) (τ .right) s') = d
+      ∙ ap (τ .angle) (iter-add (bit (atEnds proper next α e)) (nodes next α h (next e)) (τ .right) s) in
+      go (atEnds proper next α e) (proper? (α e) (α (next e))) (M .0) (begins h (next e) s' (M .1) d')
+      (match-tally φ null h (next e) s' (M .1) d')
     where
       go : (t : Bool) → Tells t (α e ≢ α (next e)) (α e ≡ α (next e)) → (T t → (τ .edge s ≡ e) × (τ .angle s ≡ α e))
           → α (next e) ≡ τ .angle (iter (bit t) (τ .right) s)
@@ -105,8 +109,10 @@ module _ (next α : ℕ → ℕ) (τ : NodeTable) where
           one : (k : ℕ) → 1 + k ≡ suc k
           one k = omega arith
       go false A m b i =
-          ap (λ (x : ℕ). bit (φ (α e) x) + tally (atEnds φ next α) (walk h next (next e))) (sym (A .1 tt)) ∙ ap₂ (λ (x y : ℕ). x + y) (null (α e)) i
-          ∙ nil (tally (atEnds φ (τ .right) (τ .angle)) (walk (nodes next α h (next e)) (τ .right) s)) ∙ ap (λ (k : ℕ). tally (atEnds φ (τ .right) (τ .angle)) (walk k (τ .right) s)) (sym (nil (nodes next α h (next e))))
+          ap (λ (x : ℕ). bit (φ (α e) x) + tally (atEnds φ next α) (walk h next (next e))) (sym (A .1 tt))
+          ∙ ap₂ (λ (x y : ℕ). x + y) (null (α e)) i
+          ∙ nil (tally (atEnds φ (τ .right) (τ .angle)) (walk (nodes next α h (next e)) (τ .right) s))
+          ∙ ap (λ (k : ℕ). tally (atEnds φ (τ .right) (τ .angle)) (walk k (τ .right) s)) (sym (nil (nodes next α h (next e))))
         where
           nil : (k : ℕ) → 0 + k ≡ k
           nil k = omega arith
@@ -130,15 +136,19 @@ module _ (next α : ℕ → ℕ) (τ : NodeTable) where
   pub match-of : (h e s : ℕ) → Stands h e s → Match next α τ h e s
   unfolding Match walk tally Stands
   match-of zero e s A = tt
-  match-of (suc h) e s A = (λ t. A zero (omega arith) t, match-of h (next e) (iter (bit (atEnds proper next α e)) (τ .right) s) (λ k l t. back k (A (suc k) (omega arith) t)))
+  match-of (suc h) e s A =
+      (λ t. A zero (omega arith) t, match-of h (next e) (iter (bit (atEnds proper next α e)) (τ .right) s) (λ k l t. back k (A (suc k) (omega arith) t)))
     where
       back : (k : ℕ)
           → (τ .edge (iter (bit (atEnds proper next α e) + nodes next α k (next e)) (τ .right) s) ≡ iter k next (next e))
           ×
           (τ .angle (iter (bit (atEnds proper next α e) + nodes next α k (next e)) (τ .right) s) ≡ α (iter k next (next e)))
           → (τ .edge (iter (nodes next α k (next e)) (τ .right) (iter (bit (atEnds proper next α e)) (τ .right) s)) ≡ iter k next (next e))
-          × (τ .angle (iter (nodes next α k (next e)) (τ .right) (iter (bit (atEnds proper next α e)) (τ .right) s)) ≡ α (iter k next (next e)))
-      back k r = let c = iter-add (bit (atEnds proper next α e)) (nodes next α k (next e)) (τ .right) s in (ap (τ .edge) (sym c) ∙ r .0, ap (τ .angle) (sym c) ∙ r .1)
+          ×
+          (τ .angle (iter (nodes next α k (next e)) (τ .right) (iter (bit (atEnds proper next α e)) (τ .right) s)) ≡ α (iter k next (next e)))
+      back k r =
+          let c = iter-add (bit (atEnds proper next α e)) (nodes next α k (next e)) (τ .right) s in
+          (ap (τ .edge) (sym c) ∙ r .0, ap (τ .angle) (sym c) ∙ r .1)
 
 -- n edges from r on, and the nodes from t on that stand for them, are in the tables after as they were before
 pub record Kept (next α : ℕ → ℕ) (τ : NodeTable) (next' α' : ℕ → ℕ) (τ' : NodeTable) (n r t : ℕ) : Type 0 where
@@ -158,7 +168,9 @@ module _ {next α next' α' : ℕ → ℕ} {τ τ' : NodeTable} {n r t : ℕ}
   kept-arc φ k l = ap₂ φ (K .from k l) (K .to k l)
 
   pub kept-tally : (φ : ℕ → ℕ → Bool) (k : ℕ) → k ≤ n → tally (atEnds φ next' α') (walk k next' r) ≡ tally (atEnds φ next α) (walk k next r)
-  kept-tally φ k l = ap (tally (atEnds φ next' α')) (walk-ext next next' k r (λ j m. K .step j (omega arith))) ∙ tally-ext (atEnds φ next α) (atEnds φ next' α') next k r (λ j m. kept-arc φ j (omega arith))
+  kept-tally φ k l =
+      ap (tally (atEnds φ next' α')) (walk-ext next next' k r (λ j m. K .step j (omega arith)))
+      ∙ tally-ext (atEnds φ next α) (atEnds φ next' α') next k r (λ j m. kept-arc φ j (omega arith))
 
   pub kept-match : Match next α τ n r t → Match next' α' τ' n r t
   unfolding Stands
@@ -171,7 +183,8 @@ module _ {next α next' α' : ℕ → ℕ} {τ τ' : NodeTable} {n r t : ℕ}
           let u' : T (atEnds proper next α (iter k next r)) = subst T (kept-arc proper k l) u in
           let b = tally-before (atEnds proper next α) next n r k l u' in
           let c : iter (nodes next' α' k r) (τ' .right) t ≡ iter (nodes next α k r) (τ .right) t =
-          ap (λ (i : ℕ). iter i (τ' .right) t) (kept-tally proper k (omega arith)) ∙ iter-ext (τ .right) (τ' .right) (nodes next α k r) t (λ j m. K .right-same j (omega arith)) in
+          ap (λ (i : ℕ). iter i (τ' .right) t) (kept-tally proper k (omega arith))
+          ∙ iter-ext (τ .right) (τ' .right) (nodes next α k r) t (λ j m. K .right-same j (omega arith)) in
           let w = match-at next α τ n r t M k l u' in (
             ap (τ' .edge) c ∙ K .edge-same (nodes next α k r) b ∙ w .0 ∙ sym (kept-after k l),
             ap (τ' .angle) c ∙ K .angle-same (nodes next α k r) b ∙ w .1 ∙ sym (K .from k l) ∙ ap α' (sym (kept-after k l)),

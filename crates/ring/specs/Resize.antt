@@ -45,7 +45,8 @@ quarter (suc zero) h = absurd (few h)
   where
     few : 16 ≤ 8 * 2 ^ 1 / 4 → ⊥
     few h = omega (arith, h)
-quarter (suc (suc i)) h = (i, ap (λ (n : ℕ). n / 4) (four (2 ^ i) (2 ^ suc i) (2 ^ suc (suc i)) (two-pow-succ i) (two-pow-succ (suc i))) ∙ mul-div-cancel (8 * 2 ^ i) (omega arith))
+quarter (suc (suc i)) h =
+    (i, ap (λ (n : ℕ). n / 4) (four (2 ^ i) (2 ^ suc i) (2 ^ suc (suc i)) (two-pow-succ i) (two-pow-succ (suc i))) ∙ mul-div-cancel (8 * 2 ^ i) (omega arith))
   where
     four : (a b c : ℕ) → b ≡ a + a → c ≡ b + b → 8 * c ≡ 8 * a * 4
     four a b c p q = omega arith

@@ -65,17 +65,20 @@ module _ {C : Counts} {L : Links} (W : Wf C L) (α : ℕ → ℕ) (t : T (isSoun
       (omega arith, and-left (P (place k)) (Q (place k)) f, eqb→eq (nodes (L .next) (edgeAngle L α) (place k) e) k (and-right (P (place k)) (Q (place k)) f))
 
   pub nodes-most : nodes (L .next) (edgeAngle L α) (boundaryLength C L) e ≤ C .vertices
-  nodes-most = pigeonhole (C .vertices) (nodes (L .next) (edgeAngle L α) (boundaryLength C L) e) (λ k. L .origin (iter (place k) (L .next) e)) (record {
-    below = λ k u. W .ranges .origin< (outer-walk W l o (place k) .0);
-    once = λ j k u w z.
-        let p = place-is j u in let q = place-is k w in
-        let x = edgeAngle L α (iter (place j) (L .next) e) in
-        let y = edgeAngle L α (iter (place k) (L .next) e) in
-        let s = tile-sole (sound-outer W α t l o) x (place j) (place k) (p .0) (q .0)
-        (holds-first x (edgeAngle L α (L .next (iter (place j) (L .next) e))) (proper→ x (edgeAngle L α (L .next (iter (place j) (L .next) e))) (p .1)))
-        (subst (λ (i : ℕ). T (holds i y (edgeAngle L α (L .next (iter (place k) (L .next) e))))) (ap α (sym z)) (holds-first y (edgeAngle L α (L .next (iter (place k) (L .next) e))) (proper→ y (edgeAngle L α (L .next (iter (place k) (L .next) e))) (q .1)))) in
-        sym (p .2) ∙ ap (λ (i : ℕ). nodes (L .next) (edgeAngle L α) i e) s ∙ q .2;
-  })
+  nodes-most =
+      pigeonhole (C .vertices) (nodes (L .next) (edgeAngle L α) (boundaryLength C L) e) (λ k. L .origin (iter (place k) (L .next) e))
+      (record {
+        below = λ k u. W .ranges .origin< (outer-walk W l o (place k) .0);
+        once = λ j k u w z.
+            let p = place-is j u in let q = place-is k w in
+            let x = edgeAngle L α (iter (place j) (L .next) e) in
+            let y = edgeAngle L α (iter (place k) (L .next) e) in
+            let s = tile-sole (sound-outer W α t l o) x (place j) (place k) (p .0) (q .0)
+            (holds-first x (edgeAngle L α (L .next (iter (place j) (L .next) e))) (proper→ x (edgeAngle L α (L .next (iter (place j) (L .next) e))) (p .1)))
+            (subst (λ (i : ℕ). T (holds i y (edgeAngle L α (L .next (iter (place k) (L .next) e))))) (ap α (sym z)) (holds-first y (edgeAngle L α (L .next (iter (place k) (L .next) e))) (proper→ y (edgeAngle L α (L .next (iter (place k) (L .next) e))) (q .1))))
+            in
+            sym (p .2) ∙ ap (λ (i : ℕ). nodes (L .next) (edgeAngle L α) i e) s ∙ q .2;
+      })
 
 -- ---- from any boundary edge, and back
 module _ {C : Counts} {L : Links} (W : Wf C L) {α : ℕ → ℕ} {τ : NodeTable} {bucket : ℕ → ℕ} {B : ℕ} where
@@ -89,7 +92,9 @@ module _ {C : Counts} {L : Links} (W : Wf C L) {α : ℕ → ℕ} {τ : NodeTabl
         hull = hull-home H;
         in-use = subst (In C) (sym (r .2)) (b .0);
         outer = ap (L .face) (r .2) ∙ b .1;
-        count = ap (λ (x : ℕ). nodes (L .next) (edgeAngle L α) (boundaryLength C L) x) (r .2) ∙ tally-at (atEnds proper (L .next) (edgeAngle L α)) (L .next) (boundaryLength C L) e (outer-round W l o) (r .0);
+        count =
+            ap (λ (x : ℕ). nodes (L .next) (edgeAngle L α) (boundaryLength C L) x) (r .2)
+            ∙ tally-at (atEnds proper (L .next) (edgeAngle L α)) (L .next) (boundaryLength C L) e (outer-round W l o) (r .0);
       }
 
   module _ {size : ℕ} (R : RingOf C L α τ bucket B size) where
@@ -104,16 +109,21 @@ module _ {C : Counts} {L : Links} (W : Wf C L) {α : ℕ → ℕ} {τ : NodeTabl
         let r = outer-on W (R .in-use) (R .outer) l o in
         let a = edgeAngle L α in let d = τ .edge (bucket 0) in let n = boundaryLength C L in (
           iter (nodes (L .next) a (r .0) d) (τ .right) (bucket 0),
-          subst (λ (x : ℕ). HullFrom fullTurn (L .next) a τ bucket x n (iter (nodes (L .next) a (r .0) d) (τ .right) (bucket 0)) B (width B)) (r .2) (hull-turns (R .hull) (r .0)),
-          ap (λ (x : ℕ). nodes (L .next) a n x) (sym (r .2)) ∙ tally-at (atEnds proper (L .next) a) (L .next) n d (outer-round W (R .in-use) (R .outer)) (r .0) ∙ R .count,
+          subst
+              (λ (x : ℕ). HullFrom fullTurn (L .next) a τ bucket x n (iter (nodes (L .next) a (r .0) d) (τ .right) (bucket 0)) B (width B))
+              (r .2) (hull-turns (R .hull) (r .0)),
+          ap (λ (x : ℕ). nodes (L .next) a n x) (sym (r .2))
+              ∙ tally-at (atEnds proper (L .next) a) (L .next) n d (outer-round W (R .in-use) (R .outer)) (r .0) ∙ R .count,
         )
 
     pub ring-size : size ≤ C .vertices
     ring-size = subst (λ (x : ℕ). x ≤ C .vertices) (R .count) (nodes-most W α ring-sound-ring (R .in-use) (R .outer))
 
     -- the node that holds x has the located edge
-    pub ring-located : (x y : ℕ) → On (τ .right) size (bucket 0) y → T (atEnds (holds x) (τ .right) (τ .angle) y) → τ .edge y ≡ located C L α x
-    ring-located x y m u = node-located W α (R .in-use) (R .outer) (R .hull) x y (subst (λ (i : ℕ). On (τ .right) i (bucket 0) y) (sym (R .count)) m) u
+    pub ring-located : (x y : ℕ) → On (τ .right) size (bucket 0) y → T (atEnds (holds x) (τ .right) (τ .angle) y)
+        → τ .edge y ≡ located C L α x
+    ring-located x y m u =
+        node-located W α (R .in-use) (R .outer) (R .hull) x y (subst (λ (i : ℕ). On (τ .right) i (bucket 0) y) (sym (R .count)) m) u
 
 -- ---- a fresh build, nodes numbered from 0 along the boundary from e
 pub ring-built : {C : Counts} {L : Links} (W : Wf C L) {α : ℕ → ℕ} {τ : NodeTable} {bucket : ℕ → ℕ} {e m B : ℕ}

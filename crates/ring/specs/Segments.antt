@@ -34,8 +34,10 @@ held x a b = go (ltb a b) (ltb b a) (leb a x) (leb b x) (ltb x b) (lt? a b) (lt?
     go false true false true false A B C D E = refl
     go false true false false true A B C D E = refl
     go false false true true false A B C D E = refl
-    go false false true false true A B C D E = absurd (let p = A .1 tt in let q = B .1 tt in let s = C .0 tt in let r = D .1 tt in omega arith)
-    go false false false true false A B C D E = absurd (let p = A .1 tt in let q = B .1 tt in let s = C .1 tt in let r = D .0 tt in omega arith)
+    go false false true false true A B C D E =
+        absurd (let p = A .1 tt in let q = B .1 tt in let s = C .0 tt in let r = D .1 tt in omega arith)
+    go false false false true false A B C D E =
+        absurd (let p = A .1 tt in let q = B .1 tt in let s = C .1 tt in let r = D .0 tt in omega arith)
     go false false false false true A B C D E = refl
 
 -- ---- what a segment holds, as facts
@@ -165,7 +167,9 @@ null-wraps a = bit-no (wraps a a) (λ t. let h = wraps→ a a t in omega arith)
 
 pub null-wide : (N a : ℕ) → bit (wide N a a) ≡ 0
 unfolding wide gap
-null-wide N a = bit-no (ltb (3 * N) (4 * cond (ltb a a) (a + N - a) (a - a))) (λ t. go (ltb a a) (lt? a a) (ltb→lt (3 * N) (4 * cond (ltb a a) (a + N - a) (a - a)) t))
+null-wide N a =
+    bit-no (ltb (3 * N) (4 * cond (ltb a a) (a + N - a) (a - a)))
+    (λ t. go (ltb a a) (lt? a a) (ltb→lt (3 * N) (4 * cond (ltb a a) (a + N - a) (a - a)) t))
   where
     go : (u : Bool) → Tells u (a < a) (a ≤ a) → 3 * N < 4 * cond u (a + N - a) (a - a) → ⊥
     go true A h = let z = A .0 tt in omega arith

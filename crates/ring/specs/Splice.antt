@@ -47,7 +47,9 @@ module _ {f α f' α' : ℕ → ℕ} {s m n l p q r : ℕ} (P : Spliced f α f' 
           ap α' (P .last k e) ∙ P .at-l ∙ ap α (sym (P .round) ∙ ap (λ (i : ℕ). iter i f r) (sym e) ∙ iter-last k f r)
 
   pub rest-arcs : (φ : ℕ → ℕ → Bool) → tally (atEnds φ f' α') (walk n f' r) ≡ tally (atEnds φ f α) (walk n f r)
-  rest-arcs φ = ap (tally (atEnds φ f' α')) (walk-ext f f' n r (P .rest)) ∙ tally-ext (atEnds φ f α) (atEnds φ f' α') f n r (λ k h. ap₂ φ (P .at-rest k h) (ends k h))
+  rest-arcs φ =
+      ap (tally (atEnds φ f' α')) (walk-ext f f' n r (P .rest))
+      ∙ tally-ext (atEnds φ f α) (atEnds φ f' α') f n r (λ k h. ap₂ φ (P .at-rest k h) (ends k h))
 
   -- the new round is one
   pub round-new : iter (suc (suc n)) f' l ≡ l
@@ -63,9 +65,11 @@ module _ {f α f' α' : ℕ → ℕ} {s m n l p q r : ℕ} (P : Spliced f α f' 
       ≡ tally (atEnds φ f α) (walk (m + n) f s) + bit (φ (α s) q) + bit (φ q (α r))
   unfolding walk tally
   local φ =
-      let two : tally (atEnds φ f' α') (walk n f' (f' (f' l))) ≡ tally (atEnds φ f α) (walk n f r) = ap (λ (t : ℕ). tally (atEnds φ f' α') (walk n f' t)) (ap f' (P .l-p) ∙ P .p-r) ∙ rest-arcs φ in
+      let two : tally (atEnds φ f' α') (walk n f' (f' (f' l))) ≡ tally (atEnds φ f α) (walk n f r) = ap
+      (λ (t : ℕ). tally (atEnds φ f' α') (walk n f' t)) (ap f' (P .l-p) ∙ P .p-r) ∙ rest-arcs φ in
       let a : bit (atEnds φ f' α' l) ≡ bit (φ (α s) q) = ap₂ (λ (x y : ℕ). bit (φ x y)) (P .at-l) (ap α' (P .l-p) ∙ P .at-p) in
-      let b : bit (atEnds φ f' α' (f' l)) ≡ bit (φ q (α r)) = ap (λ (t : ℕ). bit (φ (α' t) (α' (f' t)))) (P .l-p) ∙ ap₂ (λ (x y : ℕ). bit (φ x y)) (P .at-p) (ap α' (P .p-r) ∙ at-r) in
+      let b : bit (atEnds φ f' α' (f' l)) ≡ bit (φ q (α r)) = ap (λ (t : ℕ). bit (φ (α' t) (α' (f' t)))) (P .l-p)
+      ∙ ap₂ (λ (x y : ℕ). bit (φ x y)) (P .at-p) (ap α' (P .p-r) ∙ at-r) in
       let c : tally (atEnds φ f α) (walk (m + n) f s) ≡ tally (atEnds φ f α) (walk m f s) + tally (atEnds φ f α) (walk n f r) =
       tally-add (atEnds φ f α) f m n s ∙ ap (λ (t : ℕ). tally (atEnds φ f α) (walk m f s) + tally (atEnds φ f α) (walk n f t)) (P .right) in
       omega arith
@@ -89,7 +93,9 @@ pub record Replaced (new : (ℕ → ℕ → Bool) → ℕ) (f α : ℕ → ℕ) 
 module _ {N : ℕ} {new : (ℕ → ℕ → Bool) → ℕ} {f α : ℕ → ℕ} {s m n q r : ℕ} (S : Sound N f α s (m + n))
     (P : Replaced new f α s m n q r) (k : ℕ) (k-in : k < m) (k-holds : T (atEnds (holds q) f α (iter k f s))) where
   in-chain : tally (atEnds (holds q) f α) (walk m f s) ≡ 1
-  in-chain = let a = tally-add (atEnds (holds q) f α) f m n s in let b = tile-count S q in let c = counts (atEnds (holds q) f α) f m s k k-in k-holds in omega arith
+  in-chain =
+      let a = tally-add (atEnds (holds q) f α) f m n s in
+      let b = tile-count S q in let c = counts (atEnds (holds q) f α) f m s k k-in k-holds in omega arith
 
   -- how often the chain wraps
   pub chain-wraps : tally (atEnds wraps f α) (walk m f s) + bit (leb (α s) q) ≡ 1 + bit (leb (α r) q)
@@ -97,7 +103,9 @@ module _ {N : ℕ} {new : (ℕ → ℕ → Bool) → ℕ} {f α : ℕ → ℕ} {
 
   -- the new round wraps once, but where q is the right angle
   pub new-wraps : new wraps ≡ bit (proper q (α r))
-  new-wraps = let a = P .local wraps in let b = S .once in let c = chain-wraps in let d = wraps-le (α s) q in let e = le-proper q (α r) in omega arith
+  new-wraps =
+      let a = P .local wraps in
+      let b = S .once in let c = chain-wraps in let d = wraps-le (α s) q in let e = le-proper q (α r) in omega arith
 
   chain-gaps : tally (atEnds (wide N) f α) (walk m f s) ≡ 0
   chain-gaps = let a = tally-add (atEnds (wide N) f α) f m n s in let b = S .gaps in omega arith
@@ -133,7 +141,9 @@ module _ {N : ℕ} {f α f' α' : ℕ → ℕ} {s m n l p q r : ℕ} (S : Sound 
     (P : Spliced f α f' α' s m n l p q r) (k : ℕ) (k-in : k < m)
     (k-holds : T (atEnds (holds q) f α (iter k f s))) where
   pub fit-sound : Fit N f α s m n q r → Sound N f' α' l (suc (suc n))
-  fit-sound F = let Z = fit-counts S (spliced-counts P) k k-in k-holds F in record { closed = round-new P; three = Z .three; once = Z .once; gaps = Z .gaps }
+  fit-sound F =
+      let Z = fit-counts S (spliced-counts P) k k-in k-holds F in
+      record { closed = round-new P; three = Z .three; once = Z .once; gaps = Z .gaps }
 
   pub sound-fit : Sound N f' α' l (suc (suc n)) → Fit N f α s m n q r
   sound-fit Z = counts-fit S (spliced-counts P) k k-in k-holds (sound-counts Z)

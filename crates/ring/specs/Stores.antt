@@ -202,7 +202,8 @@ module _ {τ : NodeTable} {x : Insertion} {c k al q : ℕ} (B : Before τ x c k 
 
       go : Dec (suc d < k) → τ' .left (τ' .right (restNode τ x d)) ≡ restNode τ x d
       go (yes m) =
-          let far : τ .right (restNode τ x d) ≢ x .right = λ z. (let i = rest-apart B (suc d) 0 m (omega arith) (sym next ∙ z) in omega arith) in
+          let far : τ .right (restNode τ x d) ≢ x .right = λ z.
+          (let i = rest-apart B (suc d) 0 m (omega arith) (sym next ∙ z) in omega arith) in
           ap (τ' .left) (right-rest d m)
           ∙ left-else (τ .right (restNode τ x d)) (λ z. rest-fresh B (suc d) m (sym next ∙ z)) far ∙ rest-link B d l
       go (no m) = let e : suc d ≡ k = omega arith in ap (τ' .left) (right-last d e) ∙ start-left e (ℕ-discrete al q)

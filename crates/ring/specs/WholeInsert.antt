@@ -97,7 +97,8 @@ module _ {N : ℕ} {next α next' α' : ℕ → ℕ} {τ : NodeTable} {bucket : 
   count = size-new (H .ring) P (I .right-is) (tables H P q-low (I .right-is) fresh (I .names .named))
 
   -- ---- THE STACK
-  pub insert-keeps-freed : Free (On (stored τ x l p q .right) (nodes next' α' (suc (suc n)) l) (x .start)) (S' .entry) (S' .count) (S' .used)
+  pub insert-keeps-freed :
+      Free (On (stored τ x l p q .right) (nodes next' α' (suc (suc n)) l) (x .start)) (S' .entry) (S' .count) (S' .used)
   insert-keeps-freed = go (ℕ-discrete (α e) q)
     where
       free-taken : Free (λ y. Stay τ x rest y ⊎ (y ≡ x .new)) (I .between) (I .left-over) (S' .used)
@@ -120,18 +121,19 @@ module _ {N : ℕ} {next α next' α' : ℕ → ℕ} {τ : NodeTable} {bucket : 
 
   -- no number is lost
   pub insert-keeps-total : nodes next α (m + n) e + S .count ≡ S .used → nodes next' α' (suc (suc n)) l + S' .count ≡ S' .used
-  insert-keeps-total g =
-      let c = count in let d = size in let h = some in
-      go (ℕ-discrete (α e) q) (taken-sum (I .taken-new))
+  insert-keeps-total g = go (ℕ-discrete (α e) q) (taken-sum (I .taken-new))
     where
+      -- the left edge has a node, or one more is freed
+      left-sum : Dec (α e ≡ q) → bit (proper (α e) q) + S' .count ≡ suc (I .left-over)
+      left-sum (yes z) = let b = left-node (α e) q z in let i = I .names .more z .0 in omega arith
+      left-sum (no z) = let b = left-node-stays (α e) q z in let i = I .names .same z in omega arith
+
       go : Dec (α e ≡ q)
           → ((S .count + (chain - 1) ≡ suc (I .left-over)) × (S' .used ≡ S .used)) ⊎
           ((S .count + (chain - 1) ≡ 0) × (I .left-over ≡ 0) × (S' .used ≡ suc (S .used)))
           → after + S' .count ≡ S' .used
-      go (yes z) (inl y) = let b = left-node (α e) q z in let i = I .names .more z .0 in let c = count in let d = size in let h = some in omega arith
-      go (yes z) (inr y) = let b = left-node (α e) q z in let i = I .names .more z .0 in let c = count in let d = size in let h = some in omega arith
-      go (no z) (inl y) = let b = left-node-stays (α e) q z in let i = I .names .same z in let c = count in let d = size in let h = some in omega arith
-      go (no z) (inr y) = let b = left-node-stays (α e) q z in let i = I .names .same z in let c = count in let d = size in let h = some in omega arith
+      go d (inl y) = let a = left-sum d in let b = count in let c = size in let h = some in omega arith
+      go d (inr y) = let a = left-sum d in let b = count in let c = size in let h = some in omega arith
 
   -- the numbers in use pass none that the nodes of the longest ring and one more need
   pub insert-keeps-len : nodes next α (m + n) e + S .count ≡ S .used
