@@ -6,8 +6,9 @@ ghost use mathlib.Core.List.{List};
 ghost use Prim.Native.Nat.{ℕ};
 ghost use lib.ListN.{length};
 ghost use Rattle.convexity.specs.ConvexityRows.{MeshReady};
+ghost use Rattle.dcel.specs.MeshRows.{meshRows};
 ghost use Rattle.dcel.specs.Rows.{linksOf, positionOf};
-ghost use Rattle.finish.specs.Finish.{Outcome, finishMesh, finishedFrom, finishOf, seedChecked};
+ghost use Rattle.finish.specs.Finish.{finishMesh, finishedFrom, finishedWith, finishOf, seedChecked};
 ghost use Rattle.finish.specs.FinishRows.{finishingOf};
 use flip_count::FlipCount;
 use mesh::Counts;
@@ -48,8 +49,8 @@ fn check_seed(
     faces: &[u32],
     pending: &[u32],
 ) -> Checked
-    ensures { λ r. ⌜ r ≡ seedChecked counts (now (positions .entry)) (now (outs .entry)) (now (halves .entry)) (now (faces .entry))
-        (now (pending .entry)) ⌝ }
+    ensures { λ r. ⌜ r ≡ seedChecked counts
+        (meshRows (now (positions .entry)) (now (outs .entry)) (now (halves .entry)) (now (faces .entry))) (now (pending .entry)) ⌝ }
 {
     let none = &positions[0..0];
     mesh_check::check_with(
@@ -134,16 +135,10 @@ pub fn finish(
     faces: &mut [u32],
     pending: &mut [u32],
 ) -> FinishAnswer
-    ensures { λ r. ⌜ _≡_ {A = Outcome}
-        (record {
-          answer = r;
-          outs = now (outs .exit);
-          halves = now (halves .exit);
-          faces = now (faces .exit);
-          pending = now (pending .exit);
-        })
-        (finishOf counts (now (positions .entry)) (now (outs .entry)) (now (halves .entry)) (now (faces .entry))
-        (now (pending .entry))) ⌝ }
+    ensures { λ r. ⌜ finishedWith r
+        (meshRows (now (positions .entry)) (now (outs .exit)) (now (halves .exit)) (now (faces .exit))) (now (pending .exit))
+        ≡ finishOf counts
+        (meshRows (now (positions .entry)) (now (outs .entry)) (now (halves .entry)) (now (faces .entry))) (now (pending .entry)) ⌝ }
 {
     match check_seed(counts, positions, outs, halves, faces, pending) {
         Checked::Accepted => {}
