@@ -13,6 +13,7 @@ use lib.Dec.{ltb, leb}
 use lib.Ieee.{Float}
 use lib.IntN.{ℤ}
 use lib.ListN.{length}
+use Rattle.dcel.specs.MeshRows.{meshRows}
 use Rattle.dcel.specs.Rows.{linksOf, positionOf, rowOf}
 use Rattle.decide.specs.Decide.{fateNumber, fateVertex}
 use Rattle.decide.specs.Sweep.{Sweep}
@@ -218,7 +219,7 @@ module _ {q₀ : List ℤ} {o₀ h₀ a₀ row₀ : List ℕ} {nodes₀ : List N
 
       module _ {q′ : List ℤ} {o′ h′ a′ : List ℕ} {nodes′ : List Node} {freed′ buckets′ : List ℕ} {r : Progress}
           (X : StepLeaves C q q′ o h a row o′ h′ a′ nodes freed buckets nodes′ freed′ buckets′ hull cx cy v r) where
-        step-is : stepAt (length row₀) cx cy C₀ L₀ p₀ point i ≡ steppingOf q′ o′ h′ a′ r
+        step-is : stepAt (length row₀) cx cy C₀ L₀ p₀ point i ≡ steppingOf (meshRows q′ o′ h′ a′) r
         step-is =
             ap (λ (s : Sweeping). stepMesh (length row₀) cx cy (s .counts) (s .links) (s .positions) (point i)) (I .at)
             ∙ ap₂ (λ (n : ℕ) (w : Point). stepMesh n cx cy C (linksOf o h a) (positionOf q) w) (sym (I .lengths .pending)) (sym e) ∙ sym (X .is)
@@ -270,7 +271,7 @@ module _ {q₀ : List ℤ} {o₀ h₀ a₀ row₀ : List ℕ} {nodes₀ : List N
                   let z = ap (λ (s : Sweeping). s .counts .vertices) next-is in omega arith);
               nodes-most = X .nodes-most (C₀ .vertices + count) room;
               answers-are = λ x. ap (λ (g : ℕ → ℕ). g x) w
-                  ∙ words-more (rowOf answers) i (r .answer) (steppingOf q′ o′ h′ a′ r) refl refl refl low (rowOf answers₀) (stepAt (length row₀) cx cy C₀ L₀ p₀ point) step-is (I .answers-are) x;
+                  ∙ words-more (rowOf answers) i (r .answer) (steppingOf (meshRows q′ o′ h′ a′) r) refl refl refl low (rowOf answers₀) (stepAt (length row₀) cx cy C₀ L₀ p₀ point) step-is (I .answers-are) x;
               most = omega arith;
             }
 

@@ -20,6 +20,7 @@ use Rattle.corner.specs.declared.Added.{Added}
 use Rattle.corner.specs.Corner.{Extended}
 use Rattle.corner.specs.CornerRows.{extendedOf, MeshRoom}
 use Rattle.corner.specs.RowsLaws.{sized-room}
+use Rattle.dcel.specs.MeshRows.{meshRows}
 use Rattle.dcel.specs.Rows.{linksOf, positionOf}
 use Rattle.decide.specs.declared.Decision.{Decision}
 use Rattle.decide.specs.declared.Fate.{Fate}
@@ -55,7 +56,7 @@ use Rattle.step.specs.StepRows.{progressOf, steppingOf, StepRoom, StepRe
 
 -- the parts of a step
 stepping-by : (q′ : List ℤ) (o′ h′ a′ : List ℕ) (r : Entered) (hull′ : Hull) {g F : Fate} {P : ℕ → Point} {X : Applied} {s : Progress}
-    → s ≡ progressOf (r .added) hull′ g → g ≡ F → positionOf q′ ≡ P → appliedOf o′ h′ a′ r ≡ X → steppingOf q′ o′ h′ a′ s ≡ record { fate = F; positions = P; mesh = X .mesh }
+    → s ≡ progressOf (r .added) hull′ g → g ≡ F → positionOf q′ ≡ P → appliedOf o′ h′ a′ r ≡ X → steppingOf (meshRows q′ o′ h′ a′) s ≡ record { fate = F; positions = P; mesh = X .mesh }
 unfolding steppingOf extendedOf
 stepping-by q′ o′ h′ a′ r hull′ z x y w = rw (z, ← x, ← y, ← w) refl
 
@@ -168,7 +169,7 @@ module _ {C : Counts} {q : List ℤ} {o h a row : List ℕ} {nodes : List Node} 
         r-is : appliedOf o′ h′ a′ r ≡ r₀
         r-is = P .is ∙ rw (edge-is, left-is, right-is) refl
 
-        stepped-is : (hull′ : Hull) {s : Progress} → s ≡ progressOf (r .added) hull′ (D .fate) → steppingOf q′ o′ h′ a′ s ≡ stepMesh (length row) cx cy C L p v
+        stepped-is : (hull′ : Hull) {s : Progress} → s ≡ progressOf (r .added) hull′ (D .fate) → steppingOf (meshRows q′ o′ h′ a′) s ≡ stepMesh (length row) cx cy C L p v
         stepped-is hull′ z = stepping-by q′ o′ h′ a′ r hull′ z (fate-is ∙ f) (P .places) r-is ∙ sym (step-added swept (R .range) f (length row))
 
         -- a flip was refused
