@@ -1,6 +1,5 @@
 -- Rows and a count as the state of the closing pass, and what a turn needs of them. Assumes nothing.
 use mathlib.Core.List.{List}
-use mathlib.Core.Path.{_≡_, ap}
 use Prim.Native.Nat.{ℕ, _≤_, _^_}
 use lib.IntN.{ℤ}
 use Rattle.circle_test.specs.GoodRows.{GoodRows}
@@ -19,13 +18,3 @@ pub record Closable (C : Counts) (q : List ℤ) (o h a : List ℕ) (c : ℕ) : T
   pub rows : GoodRows C q o h a
   pub few : C .faces ≤ 2 ^ 25
   pub bound : FlipsWithin C (linksOf o h a) (positionOf q) c
-
--- the two parts of an equation of states
-module _ (o h a : List ℕ) (c : ℕ) {s : Closing} (e : closingOf o h a c ≡ s) where
-  pub links-are : linksOf o h a ≡ s .links
-  unfolding closingOf
-  links-are = ap (λ (t : Closing). t .links) e
-
-  pub flips-are : c ≡ s .flips
-  unfolding closingOf
-  flips-are = ap (λ (t : Closing). t .flips) e

@@ -44,8 +44,8 @@ pub within-same : {C : Counts} {L : Links} {p : ℕ → Point} {m n : ℕ} → m
 within-same e B = record { within = let h = B .within in omega arith }
 
 -- where a count begins
-pub within-none : (C : Counts) (L : Links) (p : ℕ → Point) → FlipsWithin C L p 0
-within-none C L p = record { within = let h = conflicts-small C L p in omega arith }
+pub within-none : {C : Counts} {L : Links} {p : ℕ → Point} → FlipsWithin C L p 0
+within-none {C} {L} {p} = record { within = let h = conflicts-small C L p in omega arith }
 
 -- after n flips more
 pub within-run : {C : Counts} {p : ℕ → Point} {L M : Links} → Good C L p → {m n : ℕ} → FlipsWithin C L p m → FlipRun C p L M n
@@ -95,8 +95,8 @@ module _ {C : Counts} {L : Links} {p : ℕ → Point} {n : ℕ} (B : FlipsWithin
       let m = mul-le-mul f l in
       omega arith
 
-  -- by the faces alone
-  pub within-room : Wf C L → C .faces ≤ 2 ^ 25 → n + 1 < 2 ^ 52
+  -- by the faces alone: one more can be counted in 64 bits
+  pub within-room : Wf C L → C .faces ≤ 2 ^ 25 → n + 1 < 2 ^ 64
   within-room W l =
       let f : C .faces - 1 ≤ 2 ^ 25 = omega arith in
       let v : C .vertices ≤ 2 ^ 26 = (let k = vertices-few W in omega arith) in
