@@ -12,7 +12,6 @@ use Rattle.corner.specs.Corner.{Extended}
 use Rattle.closing.specs.Closing.{Closing, closingPass}
 use Rattle.convexity.specs.Convexity.{convexity}
 use Rattle.dcel.specs.Rows.{linksOf, positionOf, rowFrom, halvesFrom}
-use Rattle.flip_count.specs.FlipCount.{flipCountFrom}
 use Rattle.math.specs.declared.Point.{Point}
 use Rattle.mesh.specs.declared.Counts.{Counts}
 use Rattle.mesh.specs.Mesh.{Links}
@@ -56,11 +55,7 @@ unfoldable pub finishedFrom : ℕ → Finishing → Finished
 finishedFrom place m =
     cond (m .full)
     (Finished.Refused (record { number = 9; place = place }))
-    (Finished.Accepted (record {
-      faces = m .faces;
-      convexflips = flipCountFrom (m .convexflips);
-      closingflips = flipCountFrom (m .closingflips);
-    }))
+    (Finished.Accepted (record { faces = m .faces; convexflips = m .convexflips; closingflips = m .closingflips }))
 
 -- 01: "All but 9 change nothing lent and answer the number and a place (0 where none is named)." "After 9 and after
 -- every accepted call the ring, freed, bucket and pending rows hold zeros, and mesh and answer entries past the counts

@@ -19,8 +19,6 @@ use Rattle.convexity.specs.ConvexityLaws.{convexity-closings}
 use Rattle.dcel.specs.Rows.{linksOf, positionOf, rowFrom, halvesFrom}
 use Rattle.dcel.specs.Views.{length-from}
 use Rattle.convexity.specs.ConvexityRows.{MeshReady}
-use Rattle.flip_count.specs.FlipCount.{flipCountOf, flipCountFrom}
-use Rattle.flip_count.specs.CountLaws.{count-of}
 use Rattle.math.specs.declared.Point.{Point}
 use Rattle.mesh.specs.declared.Counts.{Counts}
 use Rattle.mesh.specs.Mesh.{Links}
@@ -73,13 +71,13 @@ pub record Done (C : Counts) (q : List ℤ) (o h a row : List ℕ) (r : Outcome)
   -- corners closed one after another, each followed by its flips, as many of both as reported
   pub passes : Closings (positionOf q) (unpassed C (linksOf o h a) .mesh) (passed C q o h a row)
   pub faces : t .faces ≡ passed C q o h a row .faces
-  pub convexflips : flipCountOf (t .convexflips) ≡ passed C q o h a row .flips
+  pub convexflips : t .convexflips ≡ passed C q o h a row .flips
   -- then the closing pass: as many flips as reported,
-  pub closing : _≡_ {A = Closing} (record { links = linksAfter r; flips = flipCountOf (t .closingflips) })
+  pub closing : _≡_ {A = Closing} (record { links = linksAfter r; flips = t .closingflips })
       (closingPass (r .answer .counts) (positionOf q) (passed C q o h a row .links))
-  pub closingflips : FlipRun (r .answer .counts) (positionOf q) (passed C q o h a row .links) (linksAfter r) (flipCountOf (t .closingflips))
+  pub closingflips : FlipRun (r .answer .counts) (positionOf q) (passed C q o h a row .links) (linksAfter r) (t .closingflips)
   -- which are at most the fall of the height sum
-  pub fall : pos (flipCountOf (t .closingflips))
+  pub fall : pos (t .closingflips)
       ≤ℤ (heightSum (r .answer .counts) (passed C q o h a row .links) (positionOf q)
       -ℤ heightSum (r .answer .counts) (linksAfter r) (positionOf q))
 
@@ -107,7 +105,7 @@ module _ (C : Counts) (q : List ℤ) (o h a row : List ℕ) where
   m = finishMesh (length row) C p L
 
   abbrev totals : Totals
-  totals = record { faces = m .faces; convexflips = flipCountFrom (m .convexflips); closingflips = flipCountFrom (m .closingflips) }
+  totals = record { faces = m .faces; convexflips = m .convexflips; closingflips = m .closingflips }
 
   -- ---- the checks accept
   module _ (e : seedChecked C q o h a row ≡ Checked.Accepted) where
@@ -158,17 +156,16 @@ module _ (C : Counts) (q : List ℤ) (o h a row : List ℕ) where
     done : m .full ≡ false → Done C q o h a row R totals
     unfolding finishMesh
     done f =
-        let n = count-of (m .closingflips) in
         record {
           left = left;
           convex = subst (λ (K : Links). NoLeftCorner (m .counts) K p) (sym back) (finish-convex (length row) C p L G f);
           circles = settled-far (left .good) (subst (λ (K : Links). Settled (m .counts) K p) (sym back) (finish-settled (length row) C p L G f));
           passes = convexity-closings (length row) C p L G;
           faces = refl;
-          convexflips = count-of (m .convexflips);
-          closing = rw (back, n) (finish-closing (length row) C p L G f);
-          closingflips = rw (back, n) (finish-flips (length row) C p L G);
-          fall = rw (back, n) (finish-fall (length row) C p L G);
+          convexflips = refl;
+          closing = rw back (finish-closing (length row) C p L G f);
+          closingflips = rw back (finish-flips (length row) C p L G);
+          fall = rw back (finish-fall (length row) C p L G);
         }
 
   -- ---- by what is answered

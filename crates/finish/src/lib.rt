@@ -9,7 +9,6 @@ ghost use Rattle.convexity.specs.ConvexityRows.{MeshReady};
 ghost use Rattle.dcel.specs.Rows.{linksOf, positionOf};
 ghost use Rattle.finish.specs.Finish.{Outcome, finishMesh, finishedFrom, finishOf, seedChecked};
 ghost use Rattle.finish.specs.FinishRows.{finishingOf};
-use flip_count::FlipCount;
 use mesh::Counts;
 use mesh_check::Checked;
 use mesh_check::Refusal;
@@ -17,8 +16,8 @@ use mesh_check::Refusal;
 // The faces added by all convexity passes, their flips, and those of the closing pass.
 pub struct Totals {
     pub faces: u32,
-    pub convexflips: FlipCount,
-    pub closingflips: FlipCount,
+    pub convexflips: u64,
+    pub closingflips: u64,
 }
 
 pub enum Finished {
@@ -79,14 +78,13 @@ pub fn finish_mesh(
 {
     let added = convexity::convexity(positions, outs, halves, faces, pending, counts);
     let after = added.counts;
-    let flips = added.flips;
     if added.full {
         return Ended {
             counts: after,
             totals: Totals {
                 faces: added.faces,
-                convexflips: flips,
-                closingflips: FlipCount::zero(),
+                convexflips: added.flips,
+                closingflips: 0,
             },
             full: true,
         };
@@ -96,7 +94,7 @@ pub fn finish_mesh(
         counts: after,
         totals: Totals {
             faces: added.faces,
-            convexflips: flips,
+            convexflips: added.flips,
             closingflips: closing,
         },
         full: false,
