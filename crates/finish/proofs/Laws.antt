@@ -18,9 +18,6 @@ use Rattle.convexity.specs.ConvexityRows.{MeshReady}
 use Rattle.dcel.specs.MeshRows.{MeshRows, meshRows, linksIn, placesIn}
 use Rattle.dcel.specs.Rows.{linksOf, positionOf}
 use Rattle.dcel.specs.Views.{mesh-rows-from}
-use Rattle.flip_count.specs.declared.FlipCount.{FlipCount}
-use Rattle.flip_count.specs.FlipCount.{flipCountOf}
-use Rattle.flip_count.specs.CountLaws.{count-from}
 use Rattle.mesh.specs.declared.Counts.{Counts}
 use Rattle.mesh.specs.CountsLaws.{count-edges, count-faces}
 use Rattle.mesh.specs.Good.{Good}
@@ -38,22 +35,19 @@ module _ (r : Ended) (place : ℕ) (o h a : List ℕ) where
   unfolding finishedFrom finishingOf
   answer-full e = rw e
 
-  pub answer-done : r .full ≡ false → r .totals .convexflips .low < 2 ^ 64 → r .totals .closingflips .low < 2 ^ 64
+  pub answer-done : r .full ≡ false
       → _≡_ {A = FinishAnswer} (record { counts = r .counts; finished = Finished.Accepted (r .totals) }) (record { counts = r .counts; finished = finishedFrom place (finishingOf o h a r) })
   unfolding finishedFrom totalsFrom finishingOf
-  answer-done e k l =
-      let x = count-from (r .totals .convexflips) k in
-      let y = count-from (r .totals .closingflips) l in
-      rw (e, ← x, ← y) refl
+  answer-done e = rw e refl
 
 -- ---- the passes
 module _ {q : List ℤ} {o h a row : List ℕ} {C : Counts} (R : MeshReady q o h a row C) (o₁ h₁ a₁ : List ℕ) (r : Added)
     (e : extendedOf o₁ h₁ a₁ r ≡ convexity (length row) C (positionOf q) (linksOf o h a)) where
   -- refused a flip
-  pub passes-full : (z : FlipCount) → flipCountOf z ≡ 0 → r .full ≡ true
-      → finishingOf o₁ h₁ a₁ (record { counts = r .counts; totals = record { faces = r .faces; convexflips = r .flips; closingflips = z }; full = true }) ≡ finishMesh (length row) C (positionOf q) (linksOf o h a)
+  pub passes-full : r .full ≡ true
+      → finishingOf o₁ h₁ a₁ (record { counts = r .counts; totals = record { faces = r .faces; convexflips = r .flips; closingflips = 0 }; full = true }) ≡ finishMesh (length row) C (positionOf q) (linksOf o h a)
   unfolding finishMesh closeAfter finishingOf extendedOf
-  passes-full z n f = rw (← e, f, n) refl
+  passes-full f = rw (← e, f) refl
 
   -- what the closing pass asks
   pub passes-rows : length o₁ ≡ length o → length h₁ ≡ length h → length a₁ ≡ length a → GoodRows (r .counts) q o₁ h₁ a₁ × (r .counts .faces ≤ 2 ^ 25)
@@ -67,7 +61,7 @@ module _ {q : List ℤ} {o h a row : List ℕ} {C : Counts} (R : MeshReady q o h
       let w = count-faces (G .wf) in
       (record { room = record { outs = omega arith; halves = omega arith; faces = omega arith; small = omega arith }; positions = let t = R .rows .positions in omega arith; good = G }, omega arith)
 
-  pub passes-closed : (o₂ h₂ a₂ : List ℕ) (k : FlipCount) → closingOf o₂ h₂ a₂ k ≡ closingPass (r .counts) (positionOf q) (linksOf o₁ h₁ a₁) → r .full ≡ false
+  pub passes-closed : (o₂ h₂ a₂ : List ℕ) (k : ℕ) → closingOf o₂ h₂ a₂ k ≡ closingPass (r .counts) (positionOf q) (linksOf o₁ h₁ a₁) → r .full ≡ false
       → finishingOf o₂ h₂ a₂ (record { counts = r .counts; totals = record { faces = r .faces; convexflips = r .flips; closingflips = k }; full = false }) ≡ finishMesh (length row) C (positionOf q) (linksOf o h a)
   unfolding finishMesh closeAfter finishingOf extendedOf closingOf
   passes-closed o₂ h₂ a₂ k d f = rw (← e, f, ← d) refl

@@ -11,7 +11,6 @@ use Rattle.corner.specs.Corner.{Extended}
 use Rattle.closing.specs.Closing.{Closing, closingPass}
 use Rattle.convexity.specs.Convexity.{convexity}
 use Rattle.dcel.specs.MeshRows.{MeshRows, linksIn, placesIn, meshRowsFrom}
-use Rattle.flip_count.specs.FlipCount.{flipCountFrom}
 use Rattle.math.specs.declared.Point.{Point}
 use Rattle.mesh.specs.declared.Counts.{Counts}
 use Rattle.mesh.specs.Mesh.{Links}
@@ -44,11 +43,7 @@ finishMesh room C p L =
 
 -- what is reported of it
 unfoldable pub totalsFrom : Finishing → Totals
-totalsFrom f = record {
-  faces = f .faces;
-  convexflips = flipCountFrom (f .convexflips);
-  closingflips = flipCountFrom (f .closingflips);
-}
+totalsFrom f = record { faces = f .faces; convexflips = f .convexflips; closingflips = f .closingflips }
 
 -- 01, refusal 9: it answers "the point count in a finish within a run, 0 in a finish alone": the place
 unfoldable pub finishedFrom : ℕ → Finishing → Finished

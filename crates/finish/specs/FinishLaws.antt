@@ -5,7 +5,6 @@ use mathlib.Core.List.{List}
 use mathlib.Core.Logic.{_⊎_, inl, inr}
 use mathlib.Core.Path.{_≡_, refl, sym, _∙_, ap, subst, subst⁻¹}
 use Prim.Native.Nat.{ℕ, _+_, _≤_}
-use native.Mathlib.Nat.{le-refl}
 use native.Mathlib.Omega.{arith}
 use lib.IntN.{pos, _-ℤ_}
 use lib.ListN.{length, replicate}
@@ -17,8 +16,6 @@ use Rattle.convexity.specs.Convexity.{convexity, unpassed, NoLeftCorner}
 use Rattle.convexity.specs.ConvexityLaws.{convexity-closings}
 use Rattle.dcel.specs.MeshRows.{MeshRows, linksIn, placesIn, meshRowsFrom}
 use Rattle.dcel.specs.Views.{positions-from}
-use Rattle.flip_count.specs.FlipCount.{flipCountOf}
-use Rattle.flip_count.specs.CountLaws.{count-of}
 use Rattle.math.specs.declared.Point.{Point}
 use Rattle.mesh.specs.declared.Counts.{Counts}
 use Rattle.mesh.specs.Mesh.{Links}
@@ -63,14 +60,14 @@ pub record FinishAccepted (C : Counts) (m : MeshRows) (pending : List ℕ) (r : 
   -- corners closed one after another, each followed by its flips, as many of both as reported
   pub passes : Closings (placesIn m) (unpassed C (linksIn m) .mesh) (afterPasses C m pending)
   pub faces : t .faces ≡ afterPasses C m pending .faces
-  pub convexflips : flipCountOf (t .convexflips) ≡ afterPasses C m pending .flips
+  pub convexflips : t .convexflips ≡ afterPasses C m pending .flips
   -- then the closing pass: as many flips as reported,
-  pub closing : _≡_ {A = Closing} (record { links = linksIn (r .mesh); flips = flipCountOf (t .closingflips) })
+  pub closing : _≡_ {A = Closing} (record { links = linksIn (r .mesh); flips = t .closingflips })
       (closingPass (r .answer .counts) (placesIn (r .mesh)) (afterPasses C m pending .links))
   pub closingflips : FlipRun (r .answer .counts) (placesIn (r .mesh)) (afterPasses C m pending .links) (linksIn (r .mesh))
-      (flipCountOf (t .closingflips))
+      (t .closingflips)
   -- which are at most the fall of the height sum
-  pub fall : pos (flipCountOf (t .closingflips))
+  pub fall : pos (t .closingflips)
       ≤ℤ (heightSum (r .answer .counts) (afterPasses C m pending .links) (placesIn (r .mesh))
       -ℤ heightSum (r .answer .counts) (linksIn (r .mesh)) (placesIn (r .mesh)))
 
@@ -122,7 +119,6 @@ module _ (C : Counts) (m : MeshRows) (pending : List ℕ) where
     accepted : f .full ≡ false → FinishAccepted C m pending R (totalsFrom f)
     unfolding finishMesh totalsFrom
     accepted z =
-        let n = count-of (f .closingflips) in
         let v = afterPasses C m pending in
         record {
           leaves = leaves;
@@ -130,12 +126,12 @@ module _ (C : Counts) (m : MeshRows) (pending : List ℕ) where
           circles = settled-far (leaves .leaves .good) (there (Settled (f .counts)) (finish-settled (length pending) C p L G z));
           passes = convexity-closings (length pending) C p L G;
           faces = refl;
-          convexflips = count-of (f .convexflips);
-          closing = rw n (there (λ K P. _≡_ {A = Closing} (record { links = K; flips = f .closingflips }) (closingPass (f .counts) P (v .links)))
-              (finish-closing (length pending) C p L G z));
-          closingflips = rw n (there (λ K P. FlipRun (f .counts) P (v .links) K (f .closingflips)) (finish-flips (length pending) C p L G));
-          fall = rw n (there (λ K P. pos (f .closingflips) ≤ℤ (heightSum (f .counts) (v .links) P -ℤ heightSum (f .counts) K P))
-              (finish-fall (length pending) C p L G));
+          convexflips = refl;
+          closing = there (λ K P. _≡_ {A = Closing} (record { links = K; flips = f .closingflips }) (closingPass (f .counts) P (v .links)))
+              (finish-closing (length pending) C p L G z);
+          closingflips = there (λ K P. FlipRun (f .counts) P (v .links) K (f .closingflips)) (finish-flips (length pending) C p L G);
+          fall = there (λ K P. pos (f .closingflips) ≤ℤ (heightSum (f .counts) (v .links) P -ℤ heightSum (f .counts) K P))
+              (finish-fall (length pending) C p L G);
         }
 
   -- ---- by what is answered

@@ -8,7 +8,6 @@ use lib.ListN.{length}
 use Rattle.convexity.specs.ConvexityRows.{MeshReady}
 use Rattle.dcel.specs.MeshRows.{MeshRows}
 use Rattle.dcel.specs.Rows.{linksOf}
-use Rattle.flip_count.specs.FlipCount.{flipCountOf}
 use Rattle.mesh.specs.declared.Counts.{Counts}
 use Rattle.mesh.specs.CountsLaws.{count-edges, count-faces}
 use Rattle.mesh_check.specs.declared.Checked.{Checked}
@@ -23,8 +22,8 @@ finishingOf o h a r = record {
   counts = r .counts;
   links = linksOf o h a;
   faces = r .totals .faces;
-  convexflips = flipCountOf (r .totals .convexflips);
-  closingflips = flipCountOf (r .totals .closingflips);
+  convexflips = r .totals .convexflips;
+  closingflips = r .totals .closingflips;
   full = r .full;
 }
 

@@ -10,7 +10,6 @@ ghost use Rattle.dcel.specs.MeshRows.{meshRows};
 ghost use Rattle.dcel.specs.Rows.{linksOf, positionOf};
 ghost use Rattle.finish.specs.Finish.{finishMesh, finishedFrom, finishedWith, finishOf, seedChecked};
 ghost use Rattle.finish.specs.FinishRows.{finishingOf};
-use flip_count::FlipCount;
 use mesh::Counts;
 use mesh_check::Checked;
 use mesh_check::Refusal;
@@ -18,8 +17,8 @@ use mesh_check::Refusal;
 // The faces added by all convexity passes, their flips, and those of the closing pass.
 pub struct Totals {
     pub faces: u32,
-    pub convexflips: FlipCount,
-    pub closingflips: FlipCount,
+    pub convexflips: u64,
+    pub closingflips: u64,
 }
 
 pub enum Finished {
@@ -80,14 +79,13 @@ pub fn finish_mesh(
 {
     let added = convexity::convexity(positions, outs, halves, faces, pending, counts);
     let after = added.counts;
-    let flips = added.flips;
     if added.full {
         return Ended {
             counts: after,
             totals: Totals {
                 faces: added.faces,
-                convexflips: flips,
-                closingflips: FlipCount::zero(),
+                convexflips: added.flips,
+                closingflips: 0,
             },
             full: true,
         };
@@ -97,7 +95,7 @@ pub fn finish_mesh(
         counts: after,
         totals: Totals {
             faces: added.faces,
-            convexflips: flips,
+            convexflips: added.flips,
             closingflips: closing,
         },
         full: false,
