@@ -14,7 +14,6 @@ use Rattle.convexity.specs.Convexity.{convexity, NoLeftCorner}
 use Rattle.corner.specs.Untouched.{Untouched}
 use Rattle.dcel.specs.Rows.{linksOf, positionOf, rowOf}
 use Rattle.finish.specs.declared.Totals.{Totals}
-use Rattle.flip_count.specs.FlipCount.{flipCountOf}
 use Rattle.math.specs.declared.Point.{Point}
 use Rattle.mesh.specs.declared.Counts.{Counts}
 use Rattle.mesh.specs.Mesh.{Links}
@@ -25,7 +24,8 @@ use Rattle.mesh.specs.Good.{Good}
 use Rattle.mesh.specs.Wf.{Wf}
 use Rattle.mesh_check.specs.Check.{pointCount}
 use Rattle.sums.specs.Bounded.{count}
-use Rattle.sweep.specs.Run.{Lent, Outcome, answerWord, stepsOf, sweepOf}
+use Rattle.sweep.specs.Step.{answerOf}
+use Rattle.sweep.specs.Run.{Lent, Outcome, answerWords, answerIn, answerWord, stepsOf, sweepOf}
 
 -- ---- what the rows hold afterwards
 abbrev pub linksAfter : Outcome → Links
@@ -34,12 +34,12 @@ linksAfter r = linksOf (r .outs) (r .halves) (r .faces)
 abbrev pub placesAfter : Outcome → ℕ → Point
 placesAfter r = positionOf (r .positions)
 
--- the answer of point i: fate, vertex, faces, flips in two words
+-- the answer of point i: fate, vertex, faces, flips
 abbrev pub fateOf : Outcome → ℕ → ℕ
-fateOf r i = rowOf (r .answers) (5 * i)
+fateOf r i = answerIn (r .answers) i 0
 
 abbrev pub vertexOf : Outcome → ℕ → ℕ
-vertexOf r i = rowOf (r .answers) (5 * i + 1)
+vertexOf r i = answerIn (r .answers) i 1
 
 -- how many of the first n points were added
 abbrev pub addedBefore : Outcome → ℕ → ℕ
@@ -72,11 +72,11 @@ pub record Demand3 (l : Lent) (r : Outcome) (t : Totals) : Type 0 where
   -- no triangle's circle strictly contains a neighbour's far vertex;
   pub circles : LocallyDelaunay (r .answer .counts) (linksAfter r) (placesAfter r)
   -- and the closing flips reported are exactly as many as the closing pass made
-  pub closing : _≡_ {A = Closing} (record { links = linksAfter r; flips = flipCountOf (t .closingflips) })
+  pub closing : _≡_ {A = Closing} (record { links = linksAfter r; flips = t .closingflips })
       (closingPass (r .answer .counts) (placesAfter r) (passed l))
-  pub flips : FlipRun (r .answer .counts) (placesAfter r) (passed l) (linksAfter r) (flipCountOf (t .closingflips))
+  pub flips : FlipRun (r .answer .counts) (placesAfter r) (passed l) (linksAfter r) (t .closingflips)
   -- and at most the fall of the height sum during it."
-  pub fall : pos (flipCountOf (t .closingflips))
+  pub fall : pos (t .closingflips)
       ≤ℤ (heightSum (r .answer .counts) (passed l) (placesAfter r) -ℤ heightSum (r .answer .counts) (linksAfter r) (placesAfter r))
 
 -- ---- the rows beside the mesh, after 9 and after every accepted run
@@ -89,7 +89,7 @@ pub record Cleared (l : Lent) (r : Outcome) : Type 0 where
   -- and mesh and answer entries past the counts in use are untouched"
   pub links : Untouched (r .answer .counts) (linksOf (l .outs) (l .halves) (l .faces)) (linksAfter r)
   pub places : (u : ℕ) → r .answer .counts .vertices ≤ u → placesAfter r u ≡ positionOf (l .positions) u
-  pub answers : (x : ℕ) → 5 * pointCount (l .points) ≤ x → rowOf (r .answers) x ≡ rowOf (l .answers) x
+  pub answers : (x : ℕ) → answerWords * pointCount (l .points) ≤ x → rowOf (r .answers) x ≡ rowOf (l .answers) x
   -- every row keeps its length
   pub positions-length : length (r .positions) ≡ length (l .positions)
   pub outs-length : length (r .outs) ≡ length (l .outs)
@@ -102,9 +102,9 @@ pub record Full (l : Lent) (r : Outcome) (place : ℕ) : Type 0 where
   -- "9 answers the point's index (.. the point count in a finish within a run ..).
   pub within : place ≤ pointCount (l .points)
   -- Earlier points' answers stay,
-  pub earlier : (i k : ℕ) → i < place → k < 5 → rowOf (r .answers) (5 * i + k) ≡ answerWord (stepsOf l i) k
+  pub earlier : (i k : ℕ) → i < place → k < answerWords → answerIn (r .answers) i k ≡ answerWord (answerOf (stepsOf l i)) k
   -- those from that index on are all 0,
-  pub later : (x : ℕ) → 5 * place ≤ x → x < 5 * pointCount (l .points) → rowOf (r .answers) x ≡ 0
+  pub later : (x : ℕ) → answerWords * place ≤ x → x < answerWords * pointCount (l .points) → rowOf (r .answers) x ≡ 0
   -- and the mesh stays as it was before that flip: linked, left-turning,
   pub good : Good (r .answer .counts) (linksAfter r) (placesAfter r)
   -- its areas adding up."

@@ -10,14 +10,13 @@ use lib.ListN.{length, replicate}
 use Rattle.ring_rows.specs.Rows.{zeroNode}
 use Rattle.ring_rows.specs.declared.Node.{Node}
 use Rattle.dcel.specs.Rows.{linksOf, positionOf, rowFrom, halvesFrom, positionsFrom}
-use Rattle.flip_count.specs.FlipCount.{flipCountFrom}
 use Rattle.math.specs.declared.Point.{Point}
 use Rattle.mesh.specs.declared.Counts.{Counts}
 use Rattle.mesh_check.specs.declared.Checked.{Checked}
 use Rattle.start.specs.Start.{sweepChecked}
 use Rattle.sweep.specs.declared.StepAnswer.{StepAnswer}
 use Rattle.sweep.specs.declared.Stepped.{Stepped}
-use Rattle.sweep.specs.Step.{Stepping, stepMesh}
+use Rattle.sweep.specs.Step.{Stepping, answerOf, stepMesh}
 
 -- ---- the refusals
 -- the point as a row of points: an x and a y
@@ -30,14 +29,14 @@ stepChecked C positions outs halves faces nodes freed buckets pending cx cy v =
     sweepChecked (pointRow v) false C positions outs halves faces nodes freed buckets pending cx cy
 
 -- ---- the answer
--- 01: "An answer is a fate together with its counts." "9 answers the point's index (0 in a step ..)": the place
+-- 01: "9 answers the point's index (0 in a step ..)": the place
 unfoldable pub answerFrom : ℕ → Stepping → StepAnswer
 answerFrom place s = record {
   counts = s .mesh .counts;
   stepped =
       cond (s .mesh .full)
       (Stepped.Refused (record { number = 9; place = place }))
-      (Stepped.Accepted (record { fate = s .fate; faces = s .mesh .faces; flips = flipCountFrom (s .mesh .flips) }));
+      (Stepped.Accepted (answerOf s));
 }
 
 -- ---- the call

@@ -22,8 +22,6 @@ use Rattle.dcel.specs.Views.{length-from, outs-from, halves-from, faces-from, p
 use Rattle.decide.specs.declared.Fate.{Fate}
 use Rattle.decide.specs.declared.Fate.the-variants.{Added, Dropped, NotLeft, Unsound, AtCenter}
 use Rattle.decide.specs.Decide.{decided}
-use Rattle.flip_count.specs.FlipCount.{flipCountOf, flipCountFrom}
-use Rattle.flip_count.specs.CountLaws.{count-of}
 use Rattle.math.specs.declared.Point.{Point}
 use Rattle.math.specs.Determinant.{InRange}
 use Rattle.mesh.specs.declared.Counts.{Counts}
@@ -46,7 +44,7 @@ use Rattle.sweep.specs.declared.Answer.{Answer}
 use Rattle.sweep.specs.declared.Stepped.{Stepped}
 use Rattle.sweep.specs.StepCall.{Outcome, pointRow, answerFrom, stepChecked, outcomeOf, stepOf}
 use Rattle.sweep.specs.Fates.{is-added}
-use Rattle.sweep.specs.Step.{Stepping, isAdded, leftAlone, addedAt, appliedBy, applied, stepMesh}
+use Rattle.sweep.specs.Step.{Stepping, answerOf, isAdded, leftAlone, addedAt, appliedBy, applied, stepMesh}
 use Rattle.sweep.specs.StepMesh.{Swept, StepKeeps, StepAdds, step-keeps, step-adds, step-alone, added-of}
 
 -- ---- what the rows hold after a call
@@ -106,10 +104,10 @@ pub record Done (C : Counts) (q : List ℤ) (o h a : List ℕ) (nodes : List Nod
   pub left : Left C q o h a nodes freed buckets row r
   pub fate : x .fate ≡ decided cx cy C (linksOf o h a) (positionOf q) v .fate
   pub swept : Swept cx cy (r .answer .counts) (linksAfter r) (positionsAfter r)
-  pub added : (n : ℕ) → x .fate ≡ Added n → Adds C q o h a row cx cy v r n (x .faces) (flipCountOf (x .flips))
+  pub added : (n : ℕ) → x .fate ≡ Added n → Adds C q o h a row cx cy v r n (x .faces) (x .flips)
   pub covered : (n : ℕ) → x .fate ≡ Added n
       → (let D = decided cx cy C (linksOf o h a) (positionOf q) v in x .faces ≡ D .left + 1 + D .right)
-  pub alone : isAdded (x .fate) ≡ false → MeshAlone C q o h a r × (x .faces ≡ 0) × (flipCountOf (x .flips) ≡ 0)
+  pub alone : isAdded (x .fate) ≡ false → MeshAlone C q o h a r × (x .faces ≡ 0) × (x .flips ≡ 0)
 
 -- 01, refusal 9: "the mesh stays as it was before that flip: linked, left-turning, its areas adding up": the point is in, with the faces
 -- and the flips that were made
@@ -277,23 +275,19 @@ module _ (C : Counts) (q : List ℤ) (o h a : List ℕ) (nodes : List Node) (fre
           ap (λ (x : Stepping). x .mesh .flips) z,
         )
 
-    abbrev answer : Answer
-    answer = record { fate = s .fate; faces = s .mesh .faces; flips = flipCountFrom (s .mesh .flips) }
-
     fate-is : s .fate ≡ decided cx cy C L p v .fate
     fate-is = step-fate (length row) cx cy C L p v
 
-    done : s .mesh .full ≡ false → Done C q o h a nodes freed buckets row cx cy v R answer
+    done : s .mesh .full ≡ false → Done C q o h a nodes freed buckets row cx cy v R (answerOf s)
     unfolding answerFrom
     done f =
-        let n = count-of (s .mesh .flips) in
         record {
           left = left;
           fate = fate-is;
           swept = rw (links-back, positions-are) (kept .swept f);
-          added = λ n′ z. rw n (adds (sym fate-is ∙ z));
-          covered = λ n′ z. step-adds before range (length row) (sym fate-is ∙ z) .faces f;
-          alone = λ z. rw n (alone (ap isAdded (sym fate-is) ∙ z));
+          added = λ n z. adds (sym fate-is ∙ z);
+          covered = λ n z. step-adds before range (length row) (sym fate-is ∙ z) .faces f;
+          alone = λ z. alone (ap isAdded (sym fate-is) ∙ z);
         }
 
     stopped : s .mesh .full ≡ true → Stopped C q o h a nodes freed buckets row cx cy v R
@@ -318,10 +312,10 @@ module _ (C : Counts) (q : List ℤ) (o h a : List ℕ) (nodes : List Node) (fre
           let y : Stepped.Refused (record { number = 9; place = 0 }) ≡ Stepped.Accepted x = sym (rw (whole-is k, f) refl) ∙ e in
           absurd (let z : _≡_ {A = ℕ} 0 1 = cc in omega arith)
       at k false f =
-          let y : Stepped.Accepted (answer k) ≡ Stepped.Accepted x = sym (rw (whole-is k, f) refl) ∙ e in
-          let z : answer k ≡ x = cc in
+          let y : Stepped.Accepted (answerOf s) ≡ Stepped.Accepted x = sym (rw (whole-is k, f) refl) ∙ e in
+          let z : answerOf s ≡ x = cc in
           subst (Done C q o h a nodes freed buckets row cx cy v whole) z
-          (subst⁻¹ (λ (r : Outcome). Done C q o h a nodes freed buckets row cx cy v r (answer k)) (whole-is k) (done k f))
+          (subst⁻¹ (λ (r : Outcome). Done C q o h a nodes freed buckets row cx cy v r (answerOf s)) (whole-is k) (done k f))
 
       by : (c : Checked) → checks ≡ c → Done C q o h a nodes freed buckets row cx cy v whole x
       by Checked.Accepted k = at k (s .mesh .full) refl
@@ -367,7 +361,7 @@ module _ (C : Counts) (q : List ℤ) (o h a : List ℕ) (nodes : List Node) (fre
             subst⁻¹ (Stopped C q o h a nodes freed buckets row cx cy v) (whole-is k) (stopped k f),
           )
       at k false f =
-          let y : Stepped.Accepted (answer k) ≡ Stepped.Refused x = sym (rw (whole-is k, f) refl) ∙ e in
+          let y : Stepped.Accepted (answerOf s) ≡ Stepped.Refused x = sym (rw (whole-is k, f) refl) ∙ e in
           absurd (let z : _≡_ {A = ℕ} 0 1 = cc in omega arith)
 
       by : (c : Checked) → checks ≡ c → NumberedTo 7 c → Wanted
