@@ -15,7 +15,6 @@ use Rattle.dcel.specs.Rows.{positionOf, rowOf}
 use Rattle.finish.specs.declared.Finished.{Finished}
 use Rattle.finish.specs.declared.Totals.{Totals}
 use Rattle.finish.specs.CallLeaves.{CallLeaves}
-use Rattle.flip_count.specs.FlipCount.{flipCountOf}
 use Rattle.mesh.specs.Mesh.{Links}
 use Rattle.mesh.specs.Area.{LeftTurning, areaTotal, boundaryArea, heightSum}
 use Rattle.mesh.specs.Circle.{LocallyDelaunay}
@@ -24,14 +23,15 @@ use Rattle.mesh.specs.Wf.{Wf}
 use Rattle.mesh_check.specs.Check.{pointCount}
 use Rattle.ring_rows.specs.RingRows.{ringZeros}
 use Rattle.sums.specs.Bounded.{count}
-use Rattle.sweep.specs.Run.{RunLent, RunOutcome, answerWord, stepsOf, sweepOf, runOf}
+use Rattle.sweep.specs.Step.{answerOf}
+use Rattle.sweep.specs.Run.{RunLent, RunOutcome, answerWords, answerIn, answerWord, stepsOf, sweepOf, runOf}
 
--- the answer of point i: fate, vertex, faces, flips in two words
+-- the answer of point i: fate, vertex, faces, flips
 abbrev pub fateOf : RunOutcome → ℕ → ℕ
-fateOf r i = rowOf (r .answers) (5 * i)
+fateOf r i = answerIn (r .answers) i 0
 
 abbrev pub vertexOf : RunOutcome → ℕ → ℕ
-vertexOf r i = rowOf (r .answers) (5 * i + 1)
+vertexOf r i = answerIn (r .answers) i 1
 
 -- how many of the first n points were added
 abbrev pub addedBefore : RunOutcome → ℕ → ℕ
@@ -65,11 +65,11 @@ pub record Demand3 (l : RunLent) (r : RunOutcome) (t : Totals) : Type 0 where
   -- no triangle's circle strictly contains a neighbour's far vertex;
   pub circles : LocallyDelaunay (r .answer .counts) (linksIn (r .mesh)) (placesIn (r .mesh))
   -- and the closing flips reported are exactly as many as the closing pass made
-  pub closing : _≡_ {A = Closing} (record { links = linksIn (r .mesh); flips = flipCountOf (t .closingflips) })
+  pub closing : _≡_ {A = Closing} (record { links = linksIn (r .mesh); flips = t .closingflips })
       (closingPass (r .answer .counts) (placesIn (r .mesh)) (beforeClosing l))
-  pub flips : FlipRun (r .answer .counts) (placesIn (r .mesh)) (beforeClosing l) (linksIn (r .mesh)) (flipCountOf (t .closingflips))
+  pub flips : FlipRun (r .answer .counts) (placesIn (r .mesh)) (beforeClosing l) (linksIn (r .mesh)) (t .closingflips)
   -- and at most the fall of the height sum during it."
-  pub fall : pos (flipCountOf (t .closingflips))
+  pub fall : pos (t .closingflips)
       ≤ℤ (heightSum (r .answer .counts) (beforeClosing l) (placesIn (r .mesh))
       -ℤ heightSum (r .answer .counts) (linksIn (r .mesh)) (placesIn (r .mesh)))
 
@@ -79,7 +79,7 @@ pub record RunLeaves (l : RunLent) (r : RunOutcome) : Type 0 where
   -- "the ring, freed, bucket and pending rows hold zeros,
   pub ring-zero : r .ring ≡ ringZeros (l .ring)
   -- and mesh and answer entries past the counts in use are untouched"
-  pub answers-past : (x : ℕ) → 5 * pointCount (l .points) ≤ x → rowOf (r .answers) x ≡ rowOf (l .answers) x
+  pub answers-past : (x : ℕ) → answerWords * pointCount (l .points) ≤ x → rowOf (r .answers) x ≡ rowOf (l .answers) x
   pub answers-length : length (r .answers) ≡ length (l .answers)
 
 -- ---- 9, at a place
@@ -87,9 +87,9 @@ pub record Full (l : RunLent) (r : RunOutcome) (place : ℕ) : Type 0 where
   -- "9 answers the point's index (.. the point count in a finish within a run ..).
   pub within : place ≤ pointCount (l .points)
   -- Earlier points' answers stay,
-  pub earlier : (i k : ℕ) → i < place → k < 5 → rowOf (r .answers) (5 * i + k) ≡ answerWord (stepsOf l i) k
+  pub earlier : (i k : ℕ) → i < place → k < answerWords → answerIn (r .answers) i k ≡ answerWord (answerOf (stepsOf l i)) k
   -- those from that index on are all 0,
-  pub later : (x : ℕ) → 5 * place ≤ x → x < 5 * pointCount (l .points) → rowOf (r .answers) x ≡ 0
+  pub later : (x : ℕ) → answerWords * place ≤ x → x < answerWords * pointCount (l .points) → rowOf (r .answers) x ≡ 0
   -- and the mesh stays as it was before that flip": `good`, `area` and `seed` of what is left
   pub leaves : RunLeaves l r
 

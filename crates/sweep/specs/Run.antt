@@ -3,7 +3,7 @@
 -- `point` gives each point of the list its position, by its index; `room` is the number of pending entries.
 use mathlib.Core.Bool.{Bool, true, false, cond}
 use mathlib.Core.List.{List}
-use Prim.Native.Nat.{ℕ, zero, suc, _*_, _/_, _%_, _^_}
+use Prim.Native.Nat.{ℕ, zero, suc, _+_, _*_, _/_, _%_}
 use lib.Dec.{ltb}
 use lib.Ieee.{Float}
 use lib.IntN.{ℤ}
@@ -22,7 +22,8 @@ use Rattle.mesh_check.specs.declared.Checked.{Checked}
 use Rattle.mesh_check.specs.Check.{pointCount}
 use Rattle.ring_rows.specs.RingRows.{RingRows, ringZeros}
 use Rattle.start.specs.Start.{sweepChecked}
-use Rattle.sweep.specs.Step.{Stepping, stepMesh}
+use Rattle.sweep.specs.declared.Answer.{Answer}
+use Rattle.sweep.specs.Step.{Stepping, answerOf, stepMesh}
 
 -- ---- the steps
 -- the mesh under way, how many points have been answered, and whether a flip was refused
@@ -71,20 +72,26 @@ finishAfter room s =
     (record { counts = s .counts; links = s .links; faces = 0; convexflips = 0; closingflips = 0; full = true })
     (finishMesh room (s .counts) (s .positions) (s .links))
 
--- ---- the answers row: five words for each point
--- 01: "one answer (fate, vertex, faces, flips) per point"; a count of flips is two words, high and low
-unfoldable pub answerWord : Stepping → ℕ → ℕ
-answerWord s zero = fateNumber (s .fate)
-answerWord s (suc zero) = fateVertex (s .fate)
-answerWord s (suc (suc zero)) = s .mesh .faces
-answerWord s (suc (suc (suc zero))) = s .mesh .flips / 2 ^ 64
-answerWord s (suc (suc (suc (suc k)))) = s .mesh .flips % 2 ^ 64
+-- ---- the answers row
+-- 01: "one answer (fate, vertex, faces, flips) per point": so many words
+abbrev pub answerWords : ℕ
+answerWords = 4
+
+-- word k of the answer of point i
+abbrev pub answerIn : List ℕ → ℕ → ℕ → ℕ
+answerIn answers i k = rowOf answers (answerWords * i + k)
+
+unfoldable pub answerWord : Answer → ℕ → ℕ
+answerWord r zero = fateNumber (r .fate)
+answerWord r (suc zero) = fateVertex (r .fate)
+answerWord r (suc (suc zero)) = r .faces
+answerWord r (suc (suc (suc k))) = r .flips
 
 -- 01, of 9: "Earlier points' answers stay, those from that index on are all 0"; "answer entries past the counts in use are untouched"
 unfoldable pub answersAfter : (ℕ → Stepping) → ℕ → ℕ → (ℕ → ℕ) → ℕ → ℕ
 answersAfter step answered count row x =
-    cond (ltb x (5 * count))
-    (cond (ltb (x / 5) answered) (answerWord (step (x / 5)) (x % 5)) 0)
+    cond (ltb x (answerWords * count))
+    (cond (ltb (x / answerWords) answered) (answerWord (answerOf (step (x / answerWords))) (x % answerWords)) 0)
     (row x)
 
 -- ---- the call
@@ -123,7 +130,7 @@ ranWith r m ring pending answers = record { answer = r; mesh = m; ring = ring; p
 -- 01's refusals 1 to 7; 2, of the answers row: "one answer .. per point"
 unfoldable pub runChecked : RunLent → Checked
 runChecked l =
-    sweepChecked (l .points) (ltb (length (l .answers)) (5 * pointCount (l .points))) (l .counts) (l .mesh)
+    sweepChecked (l .points) (ltb (length (l .answers)) (answerWords * pointCount (l .points))) (l .counts) (l .mesh)
     (length (l .ring .nodes)) (length (l .ring .freed)) (length (l .ring .buckets)) (length (l .pending)) (l .center)
 
 -- the mesh after the first n points, and the step of point i

@@ -30,8 +30,6 @@ use Rattle.finish.specs.CallLeaves.{CallLeaves}
 use Rattle.finish.specs.CallLeavesLaws.{in-rows, call-leaves}
 use Rattle.finish.specs.Finish.{Finishing, finishMesh, totalsFrom, finishedFrom}
 use Rattle.finish.specs.MeshLaws.{finish-flips, finish-good, finish-counts, finish-fall, finish-untouched, finish-closing, finish-convex, finish-settled}
-use Rattle.flip_count.specs.FlipCount.{flipCountOf, flipCountFrom}
-use Rattle.flip_count.specs.CountLaws.{count-of}
 use Rattle.locate.specs.Start.{AcceptedStart}
 use Rattle.math.specs.declared.Point.{Point}
 use Rattle.math.specs.Determinant.{InRange}
@@ -54,10 +52,10 @@ use Rattle.ring.specs.Center.{turnsAbout}
 use Rattle.ring_rows.specs.RingRows.{ringZeros}
 use Rattle.start.specs.StartLaws.{AcceptedSweep, sweep-accepts}
 use Rattle.sweep.specs.Fates.{number-added}
-use Rattle.sweep.specs.Step.{Stepping, isAdded}
+use Rattle.sweep.specs.Step.{Stepping, answerOf, isAdded}
 use Rattle.sweep.specs.StepMesh.{Swept}
 use Rattle.sums.specs.Bounded.{count, count-ext}
-use Rattle.sweep.specs.Run.{Sweeping, sweepAfter, finishAfter, answerWord, answersAfter, RunLent, RunOutcome, ranWith, runChecked, sweepOf, stepsOf, runFinish, runOutcome, runOf}
+use Rattle.sweep.specs.Run.{Sweeping, sweepAfter, finishAfter, answerWords, answerIn, answerWord, answersAfter, RunLent, RunOutcome, ranWith, runChecked, sweepOf, stepsOf, runFinish, runOutcome, runOf}
 use Rattle.sweep.specs.SweepLaws.{SweepKeeps, sweep-keeps}
 use Rattle.sweep.specs.Demand3.{fateOf, vertexOf, addedBefore, beforeClosing, Demand3, RunLeaves, Full, Ran}
 
@@ -71,7 +69,7 @@ vertex-added NotLeft z = absurd (omega arith)
 vertex-added Unsound z = absurd (omega arith)
 vertex-added AtCenter z = absurd (omega arith)
 
-module _ (step : ℕ → Stepping) (answered count : ℕ) (row : List ℕ) (k : 5 * count ≤ length row) where
+module _ (step : ℕ → Stepping) (answered count : ℕ) (row : List ℕ) (k : answerWords * count ≤ length row) where
   abbrev rows : List ℕ
   rows = rowFrom (length row) (answersAfter step answered count (rowOf row))
 
@@ -80,24 +78,24 @@ module _ (step : ℕ → Stepping) (answered count : ℕ) (row : List ℕ) (k : 
   at x l = getD-from (length row) (answersAfter step answered count (rowOf row)) 0 x l
 
   -- of a point that was answered
-  pub answer-at : (i j : ℕ) → i < answered → i < count → j < 5 → rowOf rows (5 * i + j) ≡ answerWord (step i) j
+  pub answer-at : (i j : ℕ) → i < answered → i < count → j < answerWords → answerIn rows i j ≡ answerWord (answerOf (step i)) j
   unfolding answersAfter
   answer-at i j a c l =
-      let x : (5 * i + j) / 5 ≡ i = omega arith in
-      let y : (5 * i + j) % 5 ≡ j = omega arith in
-      at (5 * i + j) (omega arith) ∙ rw (lt-ltb (5 * i + j) (5 * count) (omega arith), x, y, lt-ltb i answered a) refl
+      let x : (answerWords * i + j) / answerWords ≡ i = omega arith in
+      let y : (answerWords * i + j) % answerWords ≡ j = omega arith in
+      at (answerWords * i + j) (omega arith) ∙ rw (lt-ltb (answerWords * i + j) (answerWords * count) (omega arith), x, y, lt-ltb i answered a) refl
 
   -- of one that was not
-  pub answer-none : (x : ℕ) → 5 * answered ≤ x → x < 5 * count → rowOf rows x ≡ 0
+  pub answer-none : (x : ℕ) → answerWords * answered ≤ x → x < answerWords * count → rowOf rows x ≡ 0
   unfolding answersAfter
-  answer-none x a c = at x (omega arith) ∙ rw (lt-ltb x (5 * count) c, le-ltb (x / 5) answered (omega arith)) refl
+  answer-none x a c = at x (omega arith) ∙ rw (lt-ltb x (answerWords * count) c, le-ltb (x / answerWords) answered (omega arith)) refl
 
-  pub answer-past : (x : ℕ) → 5 * count ≤ x → rowOf rows x ≡ rowOf row x
+  pub answer-past : (x : ℕ) → answerWords * count ≤ x → rowOf rows x ≡ rowOf row x
   unfolding answersAfter rowOf
   answer-past x c = go (decLt x (length row))
     where
       go : Dec (x < length row) → getD rows x 0 ≡ getD row x 0
-      go (yes b) = getD-from (length row) (answersAfter step answered count (rowOf row)) 0 x b ∙ rw (le-ltb x (5 * count) c) refl
+      go (yes b) = getD-from (length row) (answersAfter step answered count (rowOf row)) 0 x b ∙ rw (le-ltb x (answerWords * count) c) refl
       go (no b) =
           let w = length-from (length row) (answersAfter step answered count (rowOf row)) in
           List·getD-eq-default rows 0 (omega arith) ∙ sym (List·getD-eq-default row 0 (omega arith))
@@ -119,7 +117,7 @@ module _ (l : RunLent) (e : runChecked l ≡ Checked.Accepted) where
   abbrev m : Finishing
   m = runFinish l
 
-  pub run-accepts : AcceptedSweep (l .points) (ltb (length (l .answers)) (5 * n)) (l .counts) (l .mesh)
+  pub run-accepts : AcceptedSweep (l .points) (ltb (length (l .answers)) (answerWords * n)) (l .counts) (l .mesh)
       (length (l .ring .nodes)) (length (l .ring .freed)) (length (l .ring .buckets)) (length (l .pending)) (l .center)
   unfolding runChecked
   run-accepts = sweep-accepts e
@@ -127,8 +125,8 @@ module _ (l : RunLent) (e : runChecked l ≡ Checked.Accepted) where
   pub run-start : AcceptedStart (l .points) (l .counts) (l .mesh) (l .center)
   run-start = run-accepts .start
 
-  answers-room : 5 * n ≤ length (l .answers)
-  answers-room = ltb-false (length (l .answers)) (5 * n) (run-accepts .others)
+  answers-room : answerWords * n ≤ length (l .answers)
+  answers-room = ltb-false (length (l .answers)) (answerWords * n) (run-accepts .others)
 
   pub run-swept : Swept (l .center .x) (l .center .y) (l .counts) L p
   run-swept = record {
@@ -238,12 +236,12 @@ module _ (l : RunLent) (e : runChecked l ≡ Checked.Accepted) where
     full-not = ap (λ (x : Finishing). x .full) (sym made) ∙ f
 
     -- the answer of point i
-    word : (i k : ℕ) → i < n → k < 5 → rowOf (R .answers) (5 * i + k) ≡ answerWord (stepsOf l i) k
+    word : (i k : ℕ) → i < n → k < answerWords → answerIn (R .answers) i k ≡ answerWord (answerOf (stepsOf l i)) k
     word i k a c = answer-at (stepsOf l) (s .answered) n (l .answers) answers-room i k (let z = run-keeps .answered steps-made in omega arith) a c
 
     fate-is : (i : ℕ) → i < n → fateOf R i ≡ fateNumber (stepsOf l i .fate)
     unfolding answerWord
-    fate-is i a = let z : 5 * i ≡ 5 * i + 0 = omega arith in ap (rowOf (R .answers)) z ∙ word i 0 a (omega arith)
+    fate-is i a = word i 0 a (omega arith)
 
     vertex-is : (i : ℕ) → i < n → vertexOf R i ≡ fateVertex (stepsOf l i .fate)
     unfolding answerWord
@@ -258,7 +256,7 @@ module _ (l : RunLent) (e : runChecked l ≡ Checked.Accepted) where
         × (s .positions (fateVertex (stepsOf l i .fate)) ≡ positionOf (l .points) i)
     added-is i a z = run-keeps .added steps-made i (fateVertex (stepsOf l i .fate)) a (vertex-added (stepsOf l i .fate) (sym (fate-is i a) ∙ z))
 
-    demand-3 : (t : Totals) → flipCountOf (t .closingflips) ≡ m .closingflips → Demand3 l R t
+    demand-3 : (t : Totals) → t .closingflips ≡ m .closingflips → Demand3 l R t
     unfolding finishMesh
     demand-3 t c = record {
       seed = leaves .leaves .seed;
@@ -280,7 +278,7 @@ module _ (l : RunLent) (e : runChecked l ≡ Checked.Accepted) where
         -- a fact of the finished mesh and of its closing flips is one of the rows and of the answer
         there : (F : Counts → Links → (ℕ → Point) → ℕ → Type 0)
             → (let z = finishMesh room (s .counts) (s .positions) (s .links) in F (z .counts) (z .links) (s .positions) (z .closingflips))
-            → F (m .counts) (linksIn (R .mesh)) (placesIn (R .mesh)) (flipCountOf (t .closingflips))
+            → F (m .counts) (linksIn (R .mesh)) (placesIn (R .mesh)) (t .closingflips)
         there F x =
             subst⁻¹ (F (m .counts) (linksIn (R .mesh)) (placesIn (R .mesh))) c
             (written (λ K P. F (m .counts) K P (m .closingflips))
@@ -302,7 +300,7 @@ module _ (l : RunLent) where
           let x : Finished.Accepted (totalsFrom (runFinish l)) ≡ Finished.Accepted t = sym (rw (run-is l e, f) refl) ∙ z in
           let y : totalsFrom (runFinish l) ≡ t = cc in
           subst⁻¹ (λ (r : RunOutcome). Demand3 l r t × RunLeaves l r) (run-is l e)
-          (demand-3 l e f t (ap (λ (u : Totals). flipCountOf (u .closingflips)) (sym y) ∙ count-of (runFinish l .closingflips)), leaves l e)
+          (demand-3 l e f t (ap (λ (u : Totals). u .closingflips) (sym y)), leaves l e)
 
       by : (c : Checked) → runChecked l ≡ c → Demand3 l (runOf l) t × RunLeaves l (runOf l)
       by Checked.Accepted e = at e (runFinish l .full) refl

@@ -8,7 +8,6 @@ use lib.IntN.{ℤ}
 use lib.ListN.{length, replicate}
 use Rattle.angle.specs.declared.Point2.{Point2}
 use Rattle.dcel.specs.MeshRows.{MeshRows, linksIn, placesIn, meshRowsFrom}
-use Rattle.flip_count.specs.FlipCount.{flipCountFrom}
 use Rattle.math.specs.declared.Point.{Point}
 use Rattle.mesh.specs.declared.Counts.{Counts}
 use Rattle.mesh_check.specs.declared.Checked.{Checked}
@@ -16,7 +15,7 @@ use Rattle.ring_rows.specs.RingRows.{RingRows, ringZeros}
 use Rattle.start.specs.Start.{sweepChecked}
 use Rattle.sweep.specs.declared.StepAnswer.{StepAnswer}
 use Rattle.sweep.specs.declared.Stepped.{Stepped}
-use Rattle.sweep.specs.Step.{Stepping, stepMesh}
+use Rattle.sweep.specs.Step.{Stepping, answerOf, stepMesh}
 
 -- ---- the refusals
 -- the point as a row of points: an x and a y
@@ -28,14 +27,14 @@ unfoldable pub stepChecked : Counts → MeshRows → ℕ → ℕ → ℕ → ℕ
 stepChecked C m nodes freed buckets pending center v = sweepChecked (pointRow v) false C m nodes freed buckets pending center
 
 -- ---- the answer
--- 01: "An answer is a fate together with its counts." "9 answers the point's index (0 in a step ..)": the place
+-- 01: "9 answers the point's index (0 in a step ..)": the place
 unfoldable pub answerFrom : ℕ → Stepping → StepAnswer
 answerFrom place s = record {
   counts = s .mesh .counts;
   stepped =
       cond (s .mesh .full)
       (Stepped.Refused (record { number = 9; place = place }))
-      (Stepped.Accepted (record { fate = s .fate; faces = s .mesh .faces; flips = flipCountFrom (s .mesh .flips) }));
+      (Stepped.Accepted (answerOf s));
 }
 
 -- ---- the call

@@ -22,8 +22,6 @@ use Rattle.decide.specs.declared.Fate.the-variants.{Added, Dropped, NotLeft, Un
 use Rattle.decide.specs.Decide.{decided}
 use Rattle.finish.specs.CallLeaves.{CallLeaves}
 use Rattle.finish.specs.CallLeavesLaws.{links-back, places-back, call-leaves}
-use Rattle.flip_count.specs.FlipCount.{flipCountOf, flipCountFrom}
-use Rattle.flip_count.specs.CountLaws.{count-of}
 use Rattle.math.specs.declared.Point.{Point}
 use Rattle.math.specs.Determinant.{InRange}
 use Rattle.mesh.specs.declared.Counts.{Counts}
@@ -43,7 +41,7 @@ use Rattle.sweep.specs.declared.Answer.{Answer}
 use Rattle.sweep.specs.declared.Stepped.{Stepped}
 use Rattle.sweep.specs.StepCall.{StepOutcome, pointRow, answerFrom, stepChecked, steppedWith, stepOutcome, stepOf}
 use Rattle.sweep.specs.Fates.{is-added}
-use Rattle.sweep.specs.Step.{Stepping, isAdded, leftAlone, addedAt, appliedBy, applied, stepMesh}
+use Rattle.sweep.specs.Step.{Stepping, answerOf, isAdded, leftAlone, addedAt, appliedBy, applied, stepMesh}
 use Rattle.sweep.specs.StepMesh.{Swept, StepKeeps, StepAdds, step-keeps, step-adds, step-alone, added-of}
 
 -- 01: "1 added, with the new vertex, k faces and the flips. The step adds one vertex, k faces and k + 1 edges": vertex n, with k faces and
@@ -72,12 +70,12 @@ pub record StepAccepted (C : Counts) (m : MeshRows) (ring : RingRows) (pending :
   pub ring-zero : r .ring ≡ ringZeros ring
   pub fate : x .fate ≡ decided (center .x) (center .y) C (linksIn m) (placesIn m) v .fate
   pub swept : Swept (center .x) (center .y) (r .answer .counts) (linksIn (r .mesh)) (placesIn (r .mesh))
-  pub added : (n : ℕ) → x .fate ≡ Added n → Adds C m pending center v r n (x .faces) (flipCountOf (x .flips))
+  pub added : (n : ℕ) → x .fate ≡ Added n → Adds C m pending center v r n (x .faces) (x .flips)
   pub covered : (n : ℕ) → x .fate ≡ Added n
       → (let D = decided (center .x) (center .y) C (linksIn m) (placesIn m) v in x .faces ≡ D .left + 1 + D .right)
   -- 01: "Fates 2 to 5 leave the mesh alone."
   pub alone : isAdded (x .fate) ≡ false
-      → (r .answer .counts ≡ C) × (r .mesh ≡ m) × (x .faces ≡ 0) × (flipCountOf (x .flips) ≡ 0)
+      → (r .answer .counts ≡ C) × (r .mesh ≡ m) × (x .faces ≡ 0) × (x .flips ≡ 0)
 
 -- 01, refusal 9: "the mesh stays as it was before that flip: linked, left-turning, its areas adding up": the point is in, with the faces
 -- and the flips that were made
@@ -207,24 +205,20 @@ module _ (C : Counts) (m : MeshRows) (ring : RingRows) (pending : List ℕ) (cen
           ap (λ (x : Stepping). x .mesh .flips) z,
         )
 
-    abbrev answer : Answer
-    answer = record { fate = s .fate; faces = s .mesh .faces; flips = flipCountFrom (s .mesh .flips) }
-
     fate-is : s .fate ≡ decided cx cy C L p v .fate
     fate-is = step-fate (length pending) cx cy C L p v
 
-    done : s .mesh .full ≡ false → StepAccepted C m ring pending center v R answer
+    done : s .mesh .full ≡ false → StepAccepted C m ring pending center v R (answerOf s)
     unfolding answerFrom
     done f =
-        let n = count-of (s .mesh .flips) in
         record {
           leaves = leaves;
           ring-zero = refl;
           fate = fate-is;
           swept = rw (links-are, places-are) (kept .swept f);
-          added = λ n′ z. rw n (adds (sym fate-is ∙ z));
-          covered = λ n′ z. step-adds before range (length pending) (sym fate-is ∙ z) .faces f;
-          alone = λ z. rw n (alone (ap isAdded (sym fate-is) ∙ z));
+          added = λ n z. adds (sym fate-is ∙ z);
+          covered = λ n z. step-adds before range (length pending) (sym fate-is ∙ z) .faces f;
+          alone = λ z. alone (ap isAdded (sym fate-is) ∙ z);
         }
 
     stopped : s .mesh .full ≡ true → Stopped C m ring pending center v R
@@ -250,10 +244,10 @@ module _ (C : Counts) (m : MeshRows) (ring : RingRows) (pending : List ℕ) (cen
           let y : Stepped.Refused (record { number = 9; place = 0 }) ≡ Stepped.Accepted x = sym (rw (whole-is k, f) refl) ∙ e in
           absurd (let z : _≡_ {A = ℕ} 0 1 = cc in omega arith)
       at k false f =
-          let y : Stepped.Accepted (answer k) ≡ Stepped.Accepted x = sym (rw (whole-is k, f) refl) ∙ e in
-          let z : answer k ≡ x = cc in
+          let y : Stepped.Accepted (answerOf s) ≡ Stepped.Accepted x = sym (rw (whole-is k, f) refl) ∙ e in
+          let z : answerOf s ≡ x = cc in
           subst (StepAccepted C m ring pending center v whole) z
-          (subst⁻¹ (λ (r : StepOutcome). StepAccepted C m ring pending center v r (answer k)) (whole-is k) (done k f))
+          (subst⁻¹ (λ (r : StepOutcome). StepAccepted C m ring pending center v r (answerOf s)) (whole-is k) (done k f))
 
       by : (c : Checked) → checks ≡ c → StepAccepted C m ring pending center v whole x
       by Checked.Accepted k = at k (s .mesh .full) refl
@@ -288,7 +282,7 @@ module _ (C : Counts) (m : MeshRows) (ring : RingRows) (pending : List ℕ) (cen
             subst⁻¹ (Stopped C m ring pending center v) (whole-is k) (stopped k f),
           )
       at k false f =
-          let y : Stepped.Accepted (answer k) ≡ Stepped.Refused x = sym (rw (whole-is k, f) refl) ∙ e in
+          let y : Stepped.Accepted (answerOf s) ≡ Stepped.Refused x = sym (rw (whole-is k, f) refl) ∙ e in
           absurd (let z : _≡_ {A = ℕ} 0 1 = cc in omega arith)
 
       by : (c : Checked) → checks ≡ c → NumberedTo 7 c → Wanted
