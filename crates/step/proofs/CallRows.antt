@@ -10,7 +10,6 @@ use lib.ListN.{length, replicate}
 use Rattle.ring_rows.specs.Rows.{zeroNode}
 use Rattle.dcel.specs.Rows.{linksOf, positionOf}
 use Rattle.dcel.specs.Views.{outs-from, halves-from, faces-from, positions-from}
-use Rattle.flip_count.specs.CountLaws.{count-from}
 use Rattle.math.specs.declared.Point.{Point}
 use Rattle.math.specs.Determinant.{InRange}
 use Rattle.mesh.specs.declared.Counts.{Counts}
@@ -37,12 +36,10 @@ module _ (r : Progress) (place : ℕ) (q : List ℤ) (o h a : List ℕ) where
   unfolding answerFrom steppingOf
   answer-full e = rw e
 
-  pub answer-done : r .full ≡ false → r .answer .flips .low < 2 ^ 64
+  pub answer-done : r .full ≡ false
       → record { counts = r .counts; stepped = Stepped.Accepted (r .answer) } ≡ answerFrom place (steppingOf q o h a r)
   unfolding answerFrom steppingOf
-  answer-done e k =
-      let x = count-from (r .answer .flips) k in
-      rw (e, ← x) refl
+  answer-done e = rw e refl
 
 -- ---- the checks
 -- the row that is lent holds the point's coordinates

@@ -15,7 +15,6 @@ use Rattle.dcel.specs.Rows.{linksOf, positionOf}
 use Rattle.decide.specs.declared.Decision.{Decision}
 use Rattle.decide.specs.declared.Fate.{Fate}
 use Rattle.decide.specs.Sweep.{Sweep}
-use Rattle.flip_count.specs.FlipCount.{flipCountOf}
 use Rattle.math.specs.declared.Point.{Point}
 use Rattle.math.specs.Determinant.{InRange}
 use Rattle.mesh.specs.declared.Counts.{Counts}
@@ -35,7 +34,7 @@ unfoldable pub steppingOf : List ℤ → List ℕ → List ℕ → List ℕ → 
 steppingOf q o h a r = record {
   fate = r .answer .fate;
   positions = positionOf q;
-  mesh = record { counts = r .counts; links = linksOf o h a; faces = r .answer .faces; flips = flipCountOf (r .answer .flips); full = r .full };
+  mesh = record { counts = r .counts; links = linksOf o h a; faces = r .answer .faces; flips = r .answer .flips; full = r .full };
 }
 
 -- the rows do for N vertices, one more than there are, by 01's sizes
