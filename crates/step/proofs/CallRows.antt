@@ -10,7 +10,6 @@ use Rattle.angle.specs.declared.Point2.{Point2}
 use Rattle.dcel.specs.MeshRows.{MeshRows, meshRows, linksIn, placesIn, SameLengths}
 use Rattle.dcel.specs.Rows.{positionOf}
 use Rattle.dcel.specs.Views.{mesh-rows-from}
-use Rattle.flip_count.specs.CountLaws.{count-from}
 use Rattle.math.specs.declared.Point.{Point}
 use Rattle.math.specs.Determinant.{InRange}
 use Rattle.mesh.specs.declared.Counts.{Counts}
@@ -38,12 +37,10 @@ module _ (r : Progress) (place : ℕ) (m : MeshRows) where
   unfolding answerFrom steppingOf
   answer-full e = rw e
 
-  pub answer-done : r .full ≡ false → r .answer .flips .low < 2 ^ 64
+  pub answer-done : r .full ≡ false
       → record { counts = r .counts; stepped = Stepped.Accepted (r .answer) } ≡ answerFrom place (steppingOf m r)
   unfolding answerFrom steppingOf
-  answer-done e k =
-      let x = count-from (r .answer .flips) k in
-      rw (e, ← x) refl
+  answer-done e = rw e refl
 
 -- ---- the checks
 -- the row that is lent holds the point's coordinates

@@ -28,8 +28,6 @@ use Rattle.decide.specs.declared.Fate.the-variants.{Added as AddedFate}
 use Rattle.decide.specs.Decide.{Decided, decided}
 use Rattle.decide.specs.Sweep.{Sweep, ToDecide, ChainAngles, Decides}
 use Rattle.decide.specs.SweepLaws.{sweep-sound}
-use Rattle.flip_count.specs.declared.FlipCount.{FlipCount}
-use Rattle.flip_count.specs.FlipCount.{flipCountOf}
 use Rattle.hull.specs.EntersRing.{EntersRing, ToEnterRing, EnteredRing}
 use Rattle.hull.specs.Held.{Held}
 use Rattle.math.specs.declared.Point.{Point}
@@ -84,12 +82,12 @@ module _ {C : Counts} {q : List ℤ} {o h a row : List ℕ} {nodes : List Node} 
     fate-is = ap (λ (X : Decided). X .fate) (Δ .is)
 
     -- ---- a point that is left alone
-    pub left-alone : {t : Bool} → t ≡ isAdded (D .fate) → not t ≡ true → (z : FlipCount) → flipCountOf z ≡ 0 → {r : Progress}
-        → r ≡ progressOf (record { counts = C; faces = 0; flips = z; full = false }) hull (D .fate)
+    pub left-alone : {t : Bool} → t ≡ isAdded (D .fate) → not t ≡ true → {r : Progress}
+        → r ≡ progressOf (record { counts = C; faces = 0; flips = 0; full = false }) hull (D .fate)
         → StepLeaves C q q o h a row o h a nodes freed buckets nodes freed buckets hull cx cy v r
     unfolding steppingOf leftAlone
-    left-alone {t} e n z k x = rw x (record {
-      is = rw (k, fate-is) (sym (step-alone (length row) cx cy C L p v (sym (e ∙ ap isAdded fate-is) ∙ go t n)));
+    left-alone {t} e n x = rw x (record {
+      is = rw fate-is (sym (step-alone (length row) cx cy C L p v (sym (e ∙ ap isAdded fate-is) ∙ go t n)));
       sweep = λ g. R .sweep;
       nodes-most = λ N K. K .nodes-most;
     })

@@ -17,7 +17,6 @@ use Rattle.dcel.specs.Rows.{linksOf, positionOf}
 use Rattle.decide.specs.declared.Decision.{Decision}
 use Rattle.decide.specs.declared.Fate.{Fate}
 use Rattle.decide.specs.Sweep.{Sweep}
-use Rattle.flip_count.specs.FlipCount.{flipCountOf}
 use Rattle.math.specs.declared.Point.{Point}
 use Rattle.math.specs.Determinant.{InRange}
 use Rattle.mesh.specs.declared.Counts.{Counts}
@@ -38,7 +37,7 @@ unfoldable pub steppingOf : MeshRows → Progress → Stepping
 steppingOf m r = record {
   fate = r .answer .fate;
   positions = placesIn m;
-  mesh = record { counts = r .counts; links = linksIn m; faces = r .answer .faces; flips = flipCountOf (r .answer .flips); full = r .full };
+  mesh = record { counts = r .counts; links = linksIn m; faces = r .answer .faces; flips = r .answer .flips; full = r .full };
 }
 
 -- the rows do for N vertices, one more than there are, by 01's sizes

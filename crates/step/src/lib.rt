@@ -15,7 +15,6 @@ use apply::Entered;
 use corner::Added;
 use decide::Decision;
 use decide::Fate;
-use flip_count::FlipCount;
 use math::Point;
 use mesh::Counts;
 use mesh_check::Checked;
@@ -76,14 +75,13 @@ fn progress_of(added: Added, hull: Hull, fate: Fate) -> Progress
     ensures { λ r. ⌜ r ≡ progressOf added hull fate ⌝ }
 {
     let counts = added.counts;
-    let flips = added.flips;
     Progress {
         counts: counts,
         hull: hull,
         answer: Answer {
             fate: fate,
             faces: added.faces,
-            flips: flips,
+            flips: added.flips,
         },
         full: added.full,
     }
@@ -128,7 +126,7 @@ pub fn single_bulk_insertion_step(
         let none = Added {
             counts: counts,
             faces: 0,
-            flips: FlipCount::zero(),
+            flips: 0,
             full: false,
         };
         return progress_of(none, hull, fate);
