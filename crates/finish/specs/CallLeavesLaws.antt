@@ -2,7 +2,7 @@
 -- `places-back`), and that is what a call leaves (`call-leaves`). Assumes nothing.
 use mathlib.Core.List.{List}
 use mathlib.Core.Path.{_≡_, refl, _∙_, ap, subst⁻¹}
-use Prim.Native.Nat.{ℕ, _*_, _<_, _≤_}
+use Prim.Native.Nat.{ℕ, _<_, _≤_}
 use native.Mathlib.Omega.{arith}
 use lib.ListN.{length, replicate}
 use Rattle.corner.specs.Untouched.{Untouched, rows-back, positions-back}

@@ -89,7 +89,9 @@ module _ (C : Counts) (m : MeshRows) (pending : List ℕ) where
   -- ---- the checks accept
   module _ (e : seedChecked C m pending ≡ Checked.Accepted) where
     abbrev R : FinishOutcome
-    R = finishedWith (record { counts = f .counts; finished = finishedFrom 0 f }) (meshRowsFrom m (f .links) p) (replicate (length pending) 0)
+    R =
+        finishedWith (record { counts = f .counts; finished = finishedFrom 0 f })
+        (meshRowsFrom m (f .links) p) (replicate (length pending) 0)
 
     is-accepted : finishOf C m pending ≡ R
     unfolding finishOf finishOutcome
@@ -107,7 +109,8 @@ module _ (C : Counts) (m : MeshRows) (pending : List ℕ) where
     leaves : FinishLeaves C m pending R (f .faces)
     unfolding meshRowsFrom
     leaves = record {
-      leaves = call-leaves m sizes most (finish-good (length pending) C p L G) (finish-untouched (length pending) C p L G) (λ u l. refl) C (λ u l. refl) pending;
+      leaves = call-leaves m sizes most (finish-good (length pending) C p L G) (finish-untouched (length pending) C p L G) (λ u l. refl)
+          C (λ u l. refl) pending;
       counts = finish-counts (length pending) C p L G;
       positions = sym (positions-from (m .positions) p refl (length (m .positions)) refl);
     }

@@ -13,7 +13,7 @@ use Rattle.angle.specs.declared.Point2.{Point2}
 use Rattle.angle.specs.Angle.{validAngle, turns}
 use Rattle.dcel.specs.MeshRows.{MeshRows, linksIn, placesIn}
 use Rattle.dcel.specs.Rows.{rowOf}
-use Rattle.hull.specs.Boundary.{ToBuild, AngledBoundary}
+use Rattle.hull.specs.Boundary.{ToBuild}
 use Rattle.hull.specs.Ready.{angled-boundary, to-build, size-is, size-asks}
 use Rattle.mesh.specs.declared.Counts.{Counts}
 use Rattle.mesh_check.specs.declared.Checked.{Checked}
@@ -25,7 +25,7 @@ use Rattle.sums.specs.Bit.{from-true}
 use Rattle.locate.specs.declared.Located.{Located}
 use Rattle.locate.specs.declared.Located.the-variants.{Found}
 use Rattle.locate.specs.declared.Place.{Place}
-use Rattle.locate.specs.Locate.{andThen, ringRowsShort, ringShort, checkStart, checkAngle, placeAt, LocateOutcome, locatedWith, locateOutcome, locateOf}
+use Rattle.locate.specs.Locate.{andThen, ringRowsShort, ringShort, checkStart, checkAngle, placeAt, locatedWith, locateOutcome, locateOf}
 use Rattle.locate.specs.Rows.{BoundaryOf, ToAsk, PlaceOnBoundary}
 use Rattle.locate.specs.Start.{RingRoom, ring-room, then-accepts, accepted-held, accepted-placed, AcceptedStart, start-accepts}
 
@@ -92,7 +92,8 @@ module _ (C : Counts) (m : MeshRows) (ring : RingRows) (center : Point2) (x : Fl
   place = placeAt C (linksIn m) (turnsAbout (center .x) (center .y) (placesIn m)) (turns x)
 
   -- c is what the checks answer
-  outcome-is : {c : Checked} → andThen (checkStart [] short C m center) (checkAngle x) ≡ c → locateOutcome c place ring ≡ locateOf C m ring center x
+  outcome-is : {c : Checked} → andThen (checkStart [] short C m center) (checkAngle x) ≡ c
+      → locateOutcome c place ring ≡ locateOf C m ring center x
   unfolding locateOf
   outcome-is e =
       ap (λ (c : Checked). locateOutcome c place ring)

@@ -112,5 +112,6 @@ module _ (points : List ℤ) (short : Bool) (C : Counts) (m : MeshRows) {n : ℕ
                 with-accepted k = check-accepted (vertexCount C points) (short || rowsShort (vertexCount C points) points m) C (linksIn m) places e′ b′ q′ (rw ns at l) r fs′ k
 
 -- what the sweeps over the mesh ask
-pub mesh-there : {points : List ℤ} {C : Counts} {m : MeshRows} {n : ℕ} → SizesAccepted points C m n → RowsThere C (m .outs) (m .halves) (m .faces)
+pub mesh-there : {points : List ℤ} {C : Counts} {m : MeshRows} {n : ℕ} → SizesAccepted points C m n
+    → RowsThere C (m .outs) (m .halves) (m .faces)
 mesh-there S = record { outs = omega arith; halves = omega arith; faces = omega arith; small = omega arith }

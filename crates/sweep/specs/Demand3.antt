@@ -1,7 +1,6 @@
 -- DEMAND 3: what a run that is answered with no refusal number leaves, one field for each of its clauses, each beside its words; and what a
 -- run leaves that is refused. Stated of the rows and the answer alone, as a caller finds them. `RunLaws` proves it for every seed, centre
 -- and list of points.
-use mathlib.Core.List.{List}
 use mathlib.Core.Path.{_≡_}
 use Prim.Native.Nat.{ℕ, _+_, _*_, _<_, _≤_}
 use lib.Dec.{eqb}

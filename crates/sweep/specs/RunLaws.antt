@@ -26,7 +26,6 @@ use Rattle.decide.specs.declared.Fate.the-variants.{Added, Dropped, NotLeft, Un
 use Rattle.decide.specs.Decide.{fateNumber, fateVertex}
 use Rattle.finish.specs.declared.Finished.{Finished}
 use Rattle.finish.specs.declared.Totals.{Totals}
-use Rattle.finish.specs.CallLeaves.{CallLeaves}
 use Rattle.finish.specs.CallLeavesLaws.{in-rows, call-leaves}
 use Rattle.finish.specs.Finish.{Finishing, finishMesh, totalsFrom, finishedFrom}
 use Rattle.finish.specs.MeshLaws.{finish-flips, finish-good, finish-counts, finish-fall, finish-untouched, finish-closing, finish-convex, finish-settled}

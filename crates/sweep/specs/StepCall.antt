@@ -1,6 +1,6 @@
 -- The call `step` of 01: its refusals, in the order of the table, its answer, and what it leaves in the lent rows. Definitions only, and
--- each computes; `StepCallLaws` says what they come to. 01: "Locate and a lone step build the ring from the mesh": the ring is no part of what
--- is defined here, which knows the mesh's boundary alone.
+-- each computes; `StepCallLaws` says what they come to. 01: "Locate and a lone step build the ring from the mesh": the ring is no part of
+-- what is defined here, which knows the mesh's boundary alone.
 use mathlib.Core.Bool.{false, cond}
 use mathlib.Core.List.{List, [], _∷_}
 use Prim.Native.Nat.{ℕ}
