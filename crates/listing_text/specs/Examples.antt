@@ -7,7 +7,6 @@ use Prim.Native.Char.{code}
 use Prim.Native.Nat.{ℕ, zero, suc, _-_, _^_}
 use Prim.Native.String.{String, [] as end, _∷_ as char}
 use lib.IntN.{pos, negsuc}
-use Rattle.flip_count.specs.FlipCount.{flipCountOf}
 use Rattle.listing_text.specs.declared.reading.Input.the-variants.{Numbers}
 use Rattle.listing_text.specs.Reading.{cut, allDigits, valueFrom, naturalOf, numberOf, numbersOf, lineOf, malformed, numbers, readFrom, readOf, inputOf}
 use Rattle.listing_text.specs.Decimal.{decimalFrom, decimal, signedDecimal}
@@ -96,23 +95,23 @@ reading-examples = record {
   over = refl;
 }
 
--- 01's listing, and numbers of 64 and 128 bits
+-- 01's listing, and numbers of 64 bits
 pub record ListingExamples : Type 0 where
-  added : pointLine (record { index = 0; fate = 1; vertex = 3; faces = 1; flips = record { high = 0; low = 0 } }) ≡ bytesOf "p 0 1 3 1 0\n"
-  wide : pointLine (record { index = 396; fate = 1; vertex = 399; faces = 12; flips = record { high = 2 ^ 64 - 1; low = 2 ^ 64 - 1 } })
-      ≡ bytesOf "p 396 1 399 12 340282366920938463463374607431768211455\n"
+  added : pointLine (record { index = 0; fate = 1; vertex = 3; faces = 1; flips = 0 }) ≡ bytesOf "p 0 1 3 1 0\n"
+  wide : pointLine (record { index = 396; fate = 1; vertex = 399; faces = 12; flips = 2 ^ 64 - 1 })
+      ≡ bytesOf "p 396 1 399 12 18446744073709551615\n"
   totals : totalsLine (record {
     vertices = 4;
     edges = 5;
     «inner_faces» = 2;
     «doubled_area» = pos 32;
     «finish_faces» = 0;
-    «convex_flips» = record { high = 0; low = 0 };
-    «closing_flips» = record { high = 1; low = 0 };
-  }) ≡ bytesOf "t 4 5 2 32 0 0 18446744073709551616\n"
+    «convex_flips» = 0;
+    «closing_flips» = 10000000000000000000;
+  }) ≡ bytesOf "t 4 5 2 32 0 0 10000000000000000000\n"
   negative : signedDecimal (negsuc 9223372036854775807) ≡ bytesOf "-9223372036854775808"
   refused : refusalLine 0 400 ≡ bytesOf "r 0 400\n"
 
 pub listing-examples : ListingExamples
-unfolding bytesOf pointLine totalsLine refusalLine decimal decimalFrom flipCountOf
+unfolding bytesOf pointLine totalsLine refusalLine decimal decimalFrom
 listing-examples = record { added = refl; wide = refl; totals = refl; negative = refl; refused = refl }

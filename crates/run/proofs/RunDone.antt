@@ -31,29 +31,29 @@ use Rattle.ring_rows.specs.declared.Node.{Node}
 use Rattle.ring_rows.specs.declared.Hull.{Hull}
 use Rattle.start.specs.Start.{sweepChecked}
 use Rattle.start.specs.StartRows.{ToStart, Started, RowsCleared}
-use Rattle.sweep.specs.Step.{Stepping}
+use Rattle.sweep.specs.Step.{Stepping, answerOf}
 use Rattle.run.specs.declared.SweepEnd.{SweepEnd}
-use Rattle.sweep.specs.Run.{Sweeping, finishAfter, answerWord, answersAfter, Lent, Outcome, outcome, runChecked, sweepOf, stepsOf, finishOf, outcomeOf, runOf}
+use Rattle.sweep.specs.Run.{Sweeping, finishAfter, answerWords, answerWord, answersAfter, Lent, Outcome, outcome, runChecked, sweepOf, stepsOf, finishOf, outcomeOf, runOf}
 use Rattle.sweep.specs.Demand3.{Demand3}
 use Rattle.sweep.specs.RunLaws.{run-accepts, run-start, run-keeps, run-accepted}
-use Rattle.run.specs.RunRows.{Zeroed, sweepingOf, SweepReady, SweepLeaves, FinishReady}
+use Rattle.run.specs.RunRows.{answersBelow, Zeroed, sweepingOf, SweepReady, SweepLeaves, FinishReady}
 
 -- ---- rows by their entries
 -- the answers of those that were answered, and zeros for the others
 answers-from : (old mid new : List ℕ) (step : ℕ → Stepping) (answered count : ℕ) → answered ≤ count → length new ≡ length old
-    → ((x : ℕ) → rowOf mid x ≡ cond (ltb x (5 * answered)) (answerWord (step (x / 5)) (x % 5)) (rowOf old x)) → Zeroed mid new (5 * answered) (5 * count)
+    → ((x : ℕ) → rowOf mid x ≡ answersBelow step answered (rowOf old) x) → Zeroed mid new (answerWords * answered) (answerWords * count)
     → new ≡ rowFrom (length old) (answersAfter step answered count (rowOf old))
 unfolding rowOf answersAfter
 answers-from old mid new step answered count most k e Z =
     let f = answersAfter step answered count (rowOf old) in
-    from-entries new f 0 (λ x. Z .each x ∙ at x (decLt x (5 * answered)) (decLt x (5 * count)))
+    from-entries new f 0 (λ x. Z .each x ∙ at x (decLt x (answerWords * answered)) (decLt x (answerWords * count)))
     ∙ ap (λ (n : ℕ). rowFrom n f) k
   where
-    at : (x : ℕ) → Dec (x < 5 * answered) → Dec (x < 5 * count)
-        → cond (leb (5 * answered) x && ltb x (5 * count)) 0 (getD mid x 0) ≡ cond (ltb x (5 * count)) (cond (ltb (x / 5) answered) (answerWord (step (x / 5)) (x % 5)) 0) (getD old x 0)
-    at x (yes a) b = rw (lt-leb (5 * answered) x a, lt-ltb x (5 * count) (omega arith), lt-ltb (x / 5) answered (omega arith)) (e x ∙ rw (lt-ltb x (5 * answered) a) refl)
-    at x (no a) (yes b) = rw (le-leb (5 * answered) x (omega arith), lt-ltb x (5 * count) b, le-ltb (x / 5) answered (omega arith)) refl
-    at x (no a) (no b) = rw (le-leb (5 * answered) x (omega arith), le-ltb x (5 * count) (omega arith)) (e x ∙ rw (le-ltb x (5 * answered) (omega arith)) refl)
+    at : (x : ℕ) → Dec (x < answerWords * answered) → Dec (x < answerWords * count)
+        → cond (leb (answerWords * answered) x && ltb x (answerWords * count)) 0 (getD mid x 0) ≡ cond (ltb x (answerWords * count)) (cond (ltb (x / answerWords) answered) (answerWord (answerOf (step (x / answerWords))) (x % answerWords)) 0) (getD old x 0)
+    at x (yes a) b = rw (lt-leb (answerWords * answered) x a, lt-ltb x (answerWords * count) (omega arith), lt-ltb (x / answerWords) answered (omega arith)) (e x ∙ rw (lt-ltb x (answerWords * answered) a) refl)
+    at x (no a) (yes b) = rw (le-leb (answerWords * answered) x (omega arith), lt-ltb x (answerWords * count) b, le-ltb (x / answerWords) answered (omega arith)) refl
+    at x (no a) (no b) = rw (le-leb (answerWords * answered) x (omega arith), le-ltb x (answerWords * count) (omega arith)) (e x ∙ rw (le-ltb x (answerWords * answered) (omega arith)) refl)
 
 -- ---- what the checks give
 module _ (l : Lent) (e : runChecked l ≡ Checked.Accepted) where
@@ -97,7 +97,7 @@ module _ (l : Lent) (e : runChecked l ≡ Checked.Accepted) where
         };
         range = λ i k. M .range (omega arith);
         pairs = let k = M .pairs in omega arith;
-        answers-room = let k = ltb-false (length (l .answers)) (5 * n) (A .others) in omega arith;
+        answers-room = let k = ltb-false (length (l .answers)) (answerWords * n) (A .others) in omega arith;
       }
 
   -- ---- after the steps
@@ -110,8 +110,8 @@ module _ (l : Lent) (e : runChecked l ≡ Checked.Accepted) where
     unfolding sweepingOf
     answered-most = let k = run-keeps l e .answered-most in let w = ap (λ (s : Sweeping). s .answered) swept-is in omega arith
 
-    pub to-zero : length answers₁ ≡ length (l .answers) → (end .answered ≤ count) × (5 * count ≤ length answers₁)
-    to-zero k = (answered-most, let r = ltb-false (length (l .answers)) (5 * n) (run-accepts l e .others) in omega arith)
+    pub to-zero : length answers₁ ≡ length (l .answers) → (end .answered ≤ count) × (answerWords * count ≤ length answers₁)
+    to-zero k = (answered-most, let r = ltb-false (length (l .answers)) (answerWords * n) (run-accepts l e .others) in omega arith)
 
     pub to-finish : (row₁ : List ℕ) → length q₁ ≡ length (l .positions) → length o₁ ≡ length (l .outs) → length h₁ ≡ length (l .halves) → length a₁ ≡ length (l .faces)
         → length row₁ ≡ length (l .pending) → FinishReady q₁ o₁ h₁ a₁ row₁ end
@@ -159,7 +159,7 @@ module _ (l : Lent) (e : runChecked l ≡ Checked.Accepted) where
           → length q₁ ≡ length (l .positions) → length o₂ ≡ length (l .outs) → length h₂ ≡ length (l .halves) → length a₂ ≡ length (l .faces)
           → length nodes₁ ≡ length (l .nodes) → length freed₁ ≡ length (l .freed) → length buckets₁ ≡ length (l .buckets) → length pending₂ ≡ length (l .pending)
           → length answers₂ ≡ length (l .answers)
-          → Zeroed answers₁ answers₂ (5 * end .answered) (5 * count) → RowsCleared nodes₁ freed₁ buckets₁ pending₂ nodes₃ freed₃ buckets₃ pending₃
+          → Zeroed answers₁ answers₂ (answerWords * end .answered) (answerWords * count) → RowsCleared nodes₁ freed₁ buckets₁ pending₂ nodes₃ freed₃ buckets₃ pending₃
           → r ≡ record { counts = ended .counts; finished = finishedFrom (end .answered) (finishingOf o₂ h₂ a₂ ended) }
           → outcome r q₁ o₂ h₂ a₂ nodes₃ freed₃ buckets₃ pending₃ answers₂ ≡ runOf l
       unfolding runOf outcomeOf
@@ -198,7 +198,7 @@ unfolding runOf outcomeOf
 refused-run l x e = rw (← e) refl
 
 -- the checks, with the test of the answers row
-pub run-checks : (l : Lent) {short : Bool} {r : Checked} → short ≡ ltb (length (l .answers)) (5 * pointCount (l .points))
+pub run-checks : (l : Lent) {short : Bool} {r : Checked} → short ≡ ltb (length (l .answers)) (answerWords * pointCount (l .points))
     → r ≡ sweepChecked (l .points) short (l .counts) (l .positions) (l .outs) (l .halves) (l .faces)
     (length (l .nodes)) (length (l .freed)) (length (l .buckets)) (length (l .pending)) (l .centerx) (l .centery)
     → r ≡ runChecked l

@@ -12,7 +12,7 @@ ghost use Rattle.finish.specs.declared.Totals.{Totals};
 ghost use Rattle.finish.specs.FinishRows.{finishingOf};
 ghost use Rattle.mesh_check.specs.declared.Checked.the-variants.{Accepted};
 ghost use Rattle.mesh_check.specs.Check.{pointCount};
-ghost use Rattle.sweep.specs.Run.{lent, outcome, finishAfter, runChecked, runOf};
+ghost use Rattle.sweep.specs.Run.{lent, outcome, answerWords, finishAfter, runChecked, runOf};
 ghost use Rattle.sweep.specs.Demand3.{Demand3};
 ghost use Rattle.run.specs.RunRows.{withAnswer, Zeroed, sweepingOf, SweepReady, SweepLeaves, FinishReady};
 use angle::Point2;
@@ -20,11 +20,11 @@ use finish::Ended;
 use finish::FinishAnswer;
 use finish::Finished;
 use finish::Totals;
-use flip_count::FlipCount;
 use mesh::Counts;
 use mesh_check::Checked;
 use ring_rows::Hull;
 use ring_rows::Node;
+use sweep::ANSWER_WORDS;
 use sweep::Answer;
 
 // Where the steps have come to: the mesh's counts, how many points have been answered, and whether a flip's pushes
@@ -35,38 +35,37 @@ pub struct SweepEnd {
     pub full: bool,
 }
 
-// The answer of point i, in five words.
+// The answer of point i.
 fn store_answer(answers: &mut [u64], i: u32, answer: Answer)
-    requires { ⌜ 5 * i + 5 ≤ length (now answers) ⌝ }
+    requires { ⌜ answerWords * i + answerWords ≤ length (now answers) ⌝ }
     ensures { λ r. ⌜ rowOf (now (answers .exit)) ≡ withAnswer (rowOf (now (answers .entry))) i answer ⌝ }
 {
-    let at = 5 * (i as usize);
+    let at = ANSWER_WORDS * (i as usize);
     let fate = answer.fate;
     answers[at] = decide::fate_number(fate);
     answers[at + 1] = decide::fate_vertex(fate);
     answers[at + 2] = answer.faces as u64;
-    answers[at + 3] = answer.flips.high;
-    answers[at + 4] = answer.flips.low;
+    answers[at + 3] = answer.flips;
 }
 
 // Zeros for the points from `from` up to `to`.
 fn zero_answers(answers: &mut [u64], from: u32, to: u32)
-    requires { ⌜ (from ≤ to) × (5 * to ≤ length (now answers)) ⌝ }
-    ensures { λ r. ⌜ Zeroed (now (answers .entry)) (now (answers .exit)) (5 * from) (5 * to) ⌝ }
+    requires { ⌜ (from ≤ to) × (answerWords * to ≤ length (now answers)) ⌝ }
+    ensures { λ r. ⌜ Zeroed (now (answers .entry)) (now (answers .exit)) (answerWords * from) (answerWords * to) ⌝ }
 {
-    let end = 5 * (to as usize);
-    let mut x = 5 * (from as usize);
+    let end = ANSWER_WORDS * (to as usize);
+    let mut x = ANSWER_WORDS * (from as usize);
     while x < end {
         answers[x] = 0;
         x += 1;
     }
 }
 
-// 2, of the answers row: it has five words for each point.
+// 2, of the answers row: it has an answer for each point.
 fn answers_short(answers: usize, points: &[i32]) -> bool
-    ensures { λ r. ⌜ r ≡ ltb answers (5 * pointCount (now (points .entry))) ⌝ }
+    ensures { λ r. ⌜ r ≡ ltb answers (answerWords * pointCount (now (points .entry))) ⌝ }
 {
-    answers / 5 < mesh_check::point_count(points)
+    answers / ANSWER_WORDS < mesh_check::point_count(points)
 }
 
 // All steps, in list order, until a flip is refused.
@@ -149,13 +148,12 @@ fn finish_after(
 {
     let counts = end.counts;
     if end.full {
-        let none = FlipCount::zero();
         return Ended {
             counts: counts,
             totals: Totals {
                 faces: 0,
-                convexflips: none,
-                closingflips: none,
+                convexflips: 0,
+                closingflips: 0,
             },
             full: true,
         };
