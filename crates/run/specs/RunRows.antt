@@ -9,6 +9,7 @@ use lib.IntN.{ℤ}
 use lib.ListN.{length}
 use Rattle.convexity.specs.ConvexityRows.{MeshReady}
 use Rattle.corner.specs.CornerRows.{MeshRoom}
+use Rattle.dcel.specs.MeshRows.{MeshRows, meshRows, linksIn, placesIn}
 use Rattle.dcel.specs.Rows.{linksOf, positionOf, rowOf}
 use Rattle.decide.specs.Sweep.{Sweep}
 use Rattle.math.specs.Determinant.{InRange}
@@ -35,8 +36,8 @@ pub record Zeroed (row row′ : List ℕ) (from to : ℕ) : Type 0 where
   pub each : (x : ℕ) → rowOf row′ x ≡ cond (leb from x && ltb x to) 0 (rowOf row x)
 
 -- ---- the steps
-unfoldable pub sweepingOf : List ℤ → List ℕ → List ℕ → List ℕ → SweepEnd → Sweeping
-sweepingOf q o h a r = record { counts = r .counts; links = linksOf o h a; positions = positionOf q; answered = r .answered; full = r .full }
+unfoldable pub sweepingOf : MeshRows → SweepEnd → Sweeping
+sweepingOf m r = record { counts = r .counts; links = linksIn m; positions = placesIn m; answered = r .answered; full = r .full }
 
 -- the rows do for N vertices, the seed's and all points
 pub record SweepRoom (N : ℕ) (q : List ℤ) (o h a row : List ℕ) (nodes : List Node) (freed buckets : List ℕ) (hull : Hull) : Type 0 where
@@ -59,7 +60,7 @@ pub record SweepReady (C : Counts) (q : List ℤ) (o h a row : List ℕ) (nodes 
 
 -- the steps as they are defined, and the answers of the points that were answered
 pub record SweepLeaves (C : Counts) (q : List ℤ) (o h a row answers : List ℕ) (cx cy : Float) (points : List ℤ) (count : ℕ) (q′ : List ℤ) (o′ h′ a′ answers′ : List ℕ) (r : SweepEnd) : Type 0 where
-  pub is : sweepingOf q′ o′ h′ a′ r ≡ sweepAfter (length row) cx cy C (linksOf o h a) (positionOf q) (positionOf points) count
+  pub is : sweepingOf (meshRows q′ o′ h′ a′) r ≡ sweepAfter (length row) cx cy C (linksOf o h a) (positionOf q) (positionOf points) count
   pub answers-are : (x : ℕ) → rowOf answers′ x
       ≡ answersBelow (stepAt (length row) cx cy C (linksOf o h a) (positionOf q) (positionOf points)) (r .answered) (rowOf answers) x
 

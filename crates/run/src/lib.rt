@@ -1,19 +1,19 @@
 // The call `run`: the seed's ring, all steps in list order, the finish, on lent rows. What it answers and leaves is `runOf` of the crate
-// `sweep`, specs/Run.antt, for every input; what that means for the mesh is demand 3, specs/Demand3.antt there, which is the second clause
-// of the call's contract.
+// `sweep`, specs/Run.antt, for every input; what that means for the mesh is demand 3, specs/Demand3.antt there. The call's contract, `Ran`,
+// has both.
 ghost use mathlib.Core.Path.{_≡_};
 ghost use mathlib.Core.List.{List};
 ghost use Prim.Native.Nat.{ℕ, _+_, _*_, _≤_};
 ghost use lib.Dec.{ltb};
 ghost use lib.ListN.{length};
+ghost use Rattle.dcel.specs.MeshRows.{meshRows};
 ghost use Rattle.dcel.specs.Rows.{rowOf};
-ghost use Rattle.finish.specs.declared.Finished.{Finished};
-ghost use Rattle.finish.specs.declared.Totals.{Totals};
 ghost use Rattle.finish.specs.FinishRows.{finishingOf};
 ghost use Rattle.mesh_check.specs.declared.Checked.the-variants.{Accepted};
 ghost use Rattle.mesh_check.specs.Check.{pointCount};
-ghost use Rattle.sweep.specs.Run.{lent, outcome, answerWords, finishAfter, runChecked, runOf};
-ghost use Rattle.sweep.specs.Demand3.{Demand3};
+ghost use Rattle.ring_rows.specs.RingRows.{ringRows};
+ghost use Rattle.sweep.specs.Run.{runLent, ranWith, answerWords, finishAfter, runChecked, runOf};
+ghost use Rattle.sweep.specs.Demand3.{Ran};
 ghost use Rattle.run.specs.RunRows.{withAnswer, Zeroed, sweepingOf, SweepReady, SweepLeaves, FinishReady};
 use angle::Point2;
 use finish::Ended;
@@ -144,7 +144,7 @@ fn finish_after(
     requires { ⌜ FinishReady (now positions) (now outs) (now halves) (now faces) (now pending) end ⌝ }
     ensures { λ r. ⌜ finishingOf (now (outs .exit)) (now (halves .exit)) (now (faces .exit)) r
         ≡ finishAfter (length (now (pending .entry)))
-        (sweepingOf (now (positions .entry)) (now (outs .entry)) (now (halves .entry)) (now (faces .entry)) end) ⌝ }
+        (sweepingOf (meshRows (now (positions .entry)) (now (outs .entry)) (now (halves .entry)) (now (faces .entry))) end) ⌝ }
 {
     let counts = end.counts;
     if end.full {
@@ -176,13 +176,14 @@ fn run_accepted(
     center: Point2,
     points: &[i32],
 ) -> FinishAnswer
-    requires { ⌜ runChecked (lent counts (now positions) (now outs) (now halves) (now faces)
-        (now nodes) (now freed) (now buckets) (now pending) (now answers) (center .x) (center .y) (now points)) ≡ Accepted ⌝ }
-    ensures { λ r. ⌜ outcome r (now (positions .exit)) (now (outs .exit)) (now (halves .exit)) (now (faces .exit))
-        (now (nodes .exit)) (now (freed .exit)) (now (buckets .exit)) (now (pending .exit)) (now (answers .exit))
-        ≡ runOf (lent counts (now (positions .entry)) (now (outs .entry)) (now (halves .entry)) (now (faces .entry))
-        (now (nodes .entry)) (now (freed .entry)) (now (buckets .entry)) (now (pending .entry)) (now (answers .entry))
-        (center .x) (center .y) (now (points .entry))) ⌝ }
+    requires { ⌜ runChecked (runLent counts (meshRows (now positions) (now outs) (now halves) (now faces))
+        (ringRows (now nodes) (now freed) (now buckets)) (now pending) (now answers) center (now points)) ≡ Accepted ⌝ }
+    ensures { λ r. ⌜ ranWith r (meshRows (now (positions .exit)) (now (outs .exit)) (now (halves .exit)) (now (faces .exit)))
+        (ringRows (now (nodes .exit)) (now (freed .exit)) (now (buckets .exit))) (now (pending .exit)) (now (answers .exit))
+        ≡ runOf (runLent counts
+        (meshRows (now (positions .entry)) (now (outs .entry)) (now (halves .entry)) (now (faces .entry)))
+        (ringRows (now (nodes .entry)) (now (freed .entry)) (now (buckets .entry))) (now (pending .entry)) (now (answers .entry))
+        center (now (points .entry))) ⌝ }
 {
     let count = mesh_check::point_count(points) as u32;
     let hull = start::start_ring(positions, halves, faces, nodes, buckets, counts, center);
@@ -224,18 +225,12 @@ pub fn run(
     center: Point2,
     points: &[i32],
 ) -> FinishAnswer
-    ensures is { λ r. ⌜ outcome r (now (positions .exit)) (now (outs .exit)) (now (halves .exit)) (now (faces .exit))
-        (now (nodes .exit)) (now (freed .exit)) (now (buckets .exit)) (now (pending .exit)) (now (answers .exit))
-        ≡ runOf (lent counts (now (positions .entry)) (now (outs .entry)) (now (halves .entry)) (now (faces .entry))
-        (now (nodes .entry)) (now (freed .entry)) (now (buckets .entry)) (now (pending .entry)) (now (answers .entry))
-        (center .x) (center .y) (now (points .entry))) ⌝ }
-    ensures demand3 { λ r. ⌜ ((t : Totals) → r .finished ≡ Finished.Accepted t → Demand3
-        (lent counts (now (positions .entry)) (now (outs .entry)) (now (halves .entry)) (now (faces .entry))
-        (now (nodes .entry)) (now (freed .entry)) (now (buckets .entry)) (now (pending .entry)) (now (answers .entry))
-        (center .x) (center .y) (now (points .entry)))
-        (outcome r (now (positions .exit)) (now (outs .exit)) (now (halves .exit)) (now (faces .exit))
-        (now (nodes .exit)) (now (freed .exit)) (now (buckets .exit)) (now (pending .exit)) (now (answers .exit)))
-        t) ⌝ }
+    ensures { λ r. ⌜ Ran
+        (runLent counts (meshRows (now (positions .entry)) (now (outs .entry)) (now (halves .entry)) (now (faces .entry)))
+        (ringRows (now (nodes .entry)) (now (freed .entry)) (now (buckets .entry))) (now (pending .entry)) (now (answers .entry))
+        center (now (points .entry)))
+        (ranWith r (meshRows (now (positions .exit)) (now (outs .exit)) (now (halves .exit)) (now (faces .exit)))
+        (ringRows (now (nodes .exit)) (now (freed .exit)) (now (buckets .exit))) (now (pending .exit)) (now (answers .exit))) ⌝ }
 {
     let short = answers_short(answers.len(), points);
     match start::check_sweep(
