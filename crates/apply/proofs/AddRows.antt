@@ -1,12 +1,12 @@
 -- From the first face to the second loop in the rows: what each part needs, and what all of them leave. Assumes nothing.
-use mathlib.Core.Bool.{Bool}
 use mathlib.Core.List.{List}
-use mathlib.Core.Path.{_≡_, refl, sym, _∙_, ap, ap₂, subst, subst⁻¹}
-use Prim.Native.Nat.{ℕ, _+_, _*_, _^_, _<_, _≤_}
+use mathlib.Core.Path.{_≡_, _∙_, ap, ap₂, subst⁻¹}
+use Prim.Native.Nat.{ℕ, _+_, _*_, _^_, _<_}
 use native.Mathlib.Nat.{le-refl}
 use native.Mathlib.Omega.{arith}
 use lib.IntN.{ℤ}
 use lib.ListN.{length}
+use Rattle.conflicts.specs.FlipsWithin.{FlipsWithin}
 use Rattle.corner.specs.declared.Added.{Added}
 use Rattle.corner.specs.Corner.{Extended}
 use Rattle.corner.specs.CornerLaws.{Closings}
@@ -18,12 +18,11 @@ use Rattle.mesh.specs.Mesh.{Links}
 use Rattle.mesh.specs.Operations.{withVertex}
 use Rattle.mesh.specs.CountsLaws.{halves-fit}
 use Rattle.mesh.specs.Good.{Good}
-use Rattle.mesh.specs.HeightBound.{FlipsBound}
 use Rattle.ring.specs.Chain.{leftChain}
 use Rattle.apply.specs.declared.Side.the-variants.{Left, Right}
 use Rattle.apply.specs.declared.Walked.{Walked}
 use Rattle.mesh.specs.declared.Counts.{Counts}
-use Rattle.apply.specs.Apply.{Walking, Applied, firstFace, turns, addTurns}
+use Rattle.apply.specs.Apply.{Walking, firstFace, turns, addTurns}
 use Rattle.apply.specs.ApplyLaws.{first-on, first-turned, second-on}
 use Rattle.apply.specs.ApplyRows.{FirstReady, TurnsReady, AddReady, walkingOf, appliedOf}
 use Rattle.apply.specs.FirstFace.{new-good, first-good, first-bound}
@@ -70,7 +69,7 @@ module _ {C : Counts} {q : List ℤ} {o h a row : List ℕ} {e left right : ℕ}
           rows = record { room = sized-room o o₁ h₁ a₁ (R .outs) (R .sized) v good (l .outs) (l .halves) (l .faces); positions = (let k = R .positions in omega arith); good = good };
           sized = (let s = R .sized in let u = l .halves in let w = l .faces in let z = l .pending in
               record { halves = omega arith; faces = omega arith; pending = omega arith; small = omega arith });
-          flips = subst⁻¹ (λ (m : Extended). FlipsBound (m .counts) (m .links) p (m .flips)) x (first-bound (R .before) (length row));
+          flips = subst⁻¹ (λ (m : Extended). FlipsWithin (m .counts) (m .links) p (m .flips)) x (first-bound (R .before) (length row));
           faces = omega arith;
         }
 

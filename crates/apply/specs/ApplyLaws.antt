@@ -2,21 +2,18 @@
 -- whose boundary is the one before with the covered chain replaced by the two edges at the new vertex. Where no flip is
 -- refused the chain is the decided one, so that the boundary has a sound ring exactly when that was decided. Assumes
 -- nothing.
-use mathlib.Core.Bool.{Bool, true, false, false≢true}
-use mathlib.Core.Path.{_≡_, refl, sym, _∙_, ap, ap₂, subst}
-use Prim.Native.Nat.{ℕ, zero, suc, _+_, _-_, _*_, _<_, _≤_}
-use native.Mathlib.Decide.{decLt}
+use mathlib.Core.Bool.{Bool, true, false}
+use mathlib.Core.Path.{_≡_, refl, sym, _∙_, ap, ap₂}
+use Prim.Native.Nat.{ℕ, suc, _+_, _-_, _*_}
 use native.Mathlib.Omega.{arith}
-use Rattle.corner.specs.Corner.{Extended}
+use Rattle.conflicts.specs.FlipsWithin.{FlipsWithin}
 use Rattle.corner.specs.CornerLaws.{Closings, closings-join, closings-count, closings-bound}
 use Rattle.corner.specs.Untouched.{Untouched, new-face-untouched, run-untouched, closings-untouched, untouched-join}
 use Rattle.math.specs.declared.Point.{Point}
 use Rattle.mesh.specs.declared.Counts.{Counts}
 use Rattle.mesh.specs.Mesh.{Links}
-use Rattle.mesh.specs.Operations.{withVertex}
 use Rattle.mesh.specs.Area.{boundaryLength}
 use Rattle.mesh.specs.Good.{Good}
-use Rattle.mesh.specs.HeightBound.{FlipsBound}
 use Rattle.ring.specs.Ring.{edgeAngle, isSoundRing}
 use Rattle.ring.specs.Chain.{leftChain, rightChain, chainStart, chainLength, soundAfter}
 use Rattle.ring.specs.ChainMesh.{covered-sound, start-walk}
@@ -86,7 +83,7 @@ module _ {C : Counts} {L : Links} {p₀ : ℕ → Point} {α₀ : ℕ → ℕ} {
   pub add-good : Good (r .mesh .counts) (r .mesh .links) p
   add-good = add-along .good
 
-  pub add-bound : FlipsBound (r .mesh .counts) (r .mesh .links) p (r .mesh .flips)
+  pub add-bound : FlipsWithin (r .mesh .counts) (r .mesh .links) p (r .mesh .flips)
   unfolding firstFace
   add-bound = closings-bound (first-good B room) add-closings (first-bound B room)
 

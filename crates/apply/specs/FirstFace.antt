@@ -1,26 +1,24 @@
 -- The new vertex and its first face, and the flips of `legalize_edge` after it. Assumes nothing.
-use mathlib.Core.Bool.{true, false}
+use mathlib.Core.Bool.{false}
 use mathlib.Core.List.{[], _∷_}
-use mathlib.Core.Path.{_≡_, refl, sym, _∙_, ap, subst}
-use Prim.Native.Nat.{ℕ, zero, suc, _+_, _-_, _*_, _<_, _≤_}
+use mathlib.Core.Path.{refl, sym, _∙_, subst}
+use Prim.Native.Nat.{ℕ, _+_, _-_, _*_}
 use native.Mathlib.Nat.{zero-add}
 use native.Mathlib.Omega.{arith}
-use lib.IntN.{pos}
-use lib.Signed.{_<ℤ_, ltZ-yes}
+use lib.Signed.{ltZ-yes}
+use Rattle.conflicts.specs.FlipsWithin.{FlipsWithin, within-none}
 use Rattle.legalize.specs.declared.Entry.the-variants.{HalfEdge}
 use Rattle.legalize.specs.Legalize.{entryEdge, legalizeEdge}
 use Rattle.legalize.specs.LegalizeLaws.{Outcome, legalize-outcome, legalize-start, outcome-good, outcome-boundary, outcome-bound}
 use Rattle.math.specs.declared.Point.{Point}
-use Rattle.math.specs.Determinant.{InRange, orient2d}
 use Rattle.mesh.specs.declared.Counts.{Counts}
-use Rattle.mesh.specs.Mesh.{Links, In, to}
+use Rattle.mesh.specs.Mesh.{Links}
 use Rattle.mesh.specs.Operations.{createNewFaceAdjacentToEdge, withVertex}
 use Rattle.mesh.specs.Area.{boundaryLength}
 use Rattle.mesh.specs.BoundaryLaws.{boundary-least}
 use Rattle.mesh.specs.FlipRun.{FlipRun}
 use Rattle.mesh.specs.Good.{Good}
 use Rattle.mesh.specs.GoodLaws.{new-face-good}
-use Rattle.mesh.specs.HeightBound.{FlipsBound, flips-none}
 use Rattle.mesh.specs.NewFace.{new-face-frame}
 use Rattle.ring.specs.Ring.{edgeAngle}
 use Rattle.ring.specs.Covered.{Covered, cover-edge, cover-same, p-in, p-outer}
@@ -47,9 +45,9 @@ module _ {C : Counts} {L : Links} {p₀ : ℕ → Point} {α₀ : ℕ → ℕ} {
   first-good = outcome-good new-good first-outcome
 
   -- the count of flips is within its bound
-  pub first-bound : FlipsBound (withVertex C) (firstFace room p C L e .links) p (firstFace room p C L e .flips)
+  pub first-bound : FlipsWithin (withVertex C) (firstFace room p C L e .links) p (firstFace room p C L e .flips)
   unfolding firstFace
-  first-bound = outcome-bound new-good first-outcome (flips-none new-good)
+  first-bound = outcome-bound new-good first-outcome within-none
 
   -- as many flips as are counted
   pub first-run : FlipRun (withVertex C) p K (firstFace room p C L e .links) (firstFace room p C L e .flips)

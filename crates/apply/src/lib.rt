@@ -9,7 +9,6 @@ ghost use Rattle.dcel.specs.Rows.{linksOf, halvesOf, positionOf, There};
 ghost use Rattle.apply.specs.Apply.{firstFace, walkTurn, turns, addTurns};
 ghost use Rattle.apply.specs.ApplyRows.{FirstReady, besideIn, TurnReady, TurnsReady, AddReady, walkingOf, appliedOf};
 use corner::Added;
-use flip_count::FlipCount;
 use mesh::Counts;
 
 // The first loop goes against next, to the left; the second along next, to the right.
@@ -47,13 +46,11 @@ fn first_face(
         (linksOf (now (outs .entry)) (now (halves .entry)) (now (faces .entry))) e ⌝ }
 {
     let after = dcel_operations::create_new_face_adjacent_to_edge(outs, halves, faces, counts, e);
-    let zero = FlipCount::zero();
-    let done = legalize::legalize_edge(positions, outs, halves, faces, pending, after, e, zero);
-    let made = done.flips;
+    let done = legalize::legalize_edge(positions, outs, halves, faces, pending, after, e, 0);
     Added {
         counts: after,
         faces: 1,
-        flips: made,
+        flips: done.flips,
         full: done.full,
     }
 }

@@ -6,10 +6,8 @@ ghost use Prim.Native.Nat.{_+_, _<_, _≤_, _^_};
 ghost use Rattle.circle_test.specs.GoodRows.{GoodRows, CircleReady};
 ghost use Rattle.dcel.specs.Rows.{linksOf, positionOf};
 ghost use Rattle.dcel_operations.specs.Flip.{FlipReady};
-ghost use Rattle.flip_count.specs.FlipCount.{flipCountOf};
 ghost use Rattle.closing.specs.Closing.{closeEdge, closeBelow, closingPass};
 ghost use Rattle.closing.specs.ClosingRows.{closingOf, Closable};
-use flip_count::FlipCount;
 use mesh::Counts;
 
 // Flips edge u where it breaks the circle rule, and counts the flip.
@@ -19,18 +17,18 @@ fn close_edge(
     halves: &mut [u32],
     faces: &mut [u32],
     u: u32,
-    flips: FlipCount,
-) -> FlipCount
+    flips: u64,
+) -> u64
     requires { ⌜ CircleReady (now positions) (now halves) u
         × FlipReady (now outs) (now halves) (now faces) u
-        × (flipCountOf flips + 1 < 2 ^ 128) ⌝ }
+        × (flips + 1 < 2 ^ 64) ⌝ }
     ensures { λ r. ⌜ closingOf (now (outs .exit)) (now (halves .exit)) (now (faces .exit)) r
         ≡ closeEdge (positionOf (now (positions .entry))) u
         (closingOf (now (outs .entry)) (now (halves .entry)) (now (faces .entry)) flips) ⌝ }
 {
     if circle_test::should_flip(positions, halves, u) {
         dcel_operations::flip_cw(outs, halves, faces, u);
-        return flips.increment();
+        return flips + 1;
     }
     flips
 }
@@ -42,8 +40,8 @@ fn close_turn(
     halves: &mut [u32],
     faces: &mut [u32],
     counts: Counts,
-    flips: FlipCount,
-) -> FlipCount
+    flips: u64,
+) -> u64
     requires { ⌜ Closable counts (now positions) (now outs) (now halves) (now faces) flips ⌝ }
     ensures { λ r. ⌜ closingOf (now (outs .exit)) (now (halves .exit)) (now (faces .exit)) r
         ≡ closeBelow (positionOf (now (positions .entry))) (counts .edges)
@@ -65,18 +63,18 @@ pub fn closing_pass(
     halves: &mut [u32],
     faces: &mut [u32],
     counts: Counts,
-) -> FlipCount
+) -> u64
     requires { ⌜ GoodRows counts (now positions) (now outs) (now halves) (now faces) × (counts .faces ≤ 2 ^ 25) ⌝ }
     ensures { λ r. ⌜ closingOf (now (outs .exit)) (now (halves .exit)) (now (faces .exit)) r
         ≡ closingPass counts (positionOf (now (positions .entry)))
         (linksOf (now (outs .entry)) (now (halves .entry)) (now (faces .entry))) ⌝ }
 {
-    let mut flips = FlipCount::zero();
+    let mut flips = 0;
     let mut still = false;
     while !still {
         let before = flips;
         flips = close_turn(positions, outs, halves, faces, counts, before);
-        still = flips.equals(before);
+        still = flips == before;
     }
     flips
 }

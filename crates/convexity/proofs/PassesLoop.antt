@@ -1,21 +1,19 @@
 -- The invariant of the loop over the passes: to go on from here is to go on from the start. Assumes nothing.
 use mathlib.Core.Bool.{Bool, true, false, not, _||_}
 use mathlib.Core.List.{List}
-use mathlib.Core.Path.{_≡_, refl, _∙_, ap, subst, subst⁻¹}
+use mathlib.Core.Path.{_≡_, refl, _∙_, ap, subst⁻¹}
 use Prim.Native.Nat.{ℕ, _+_, _*_, _<_}
 use native.Mathlib.Omega.{arith}
 use lib.Dec.{eqb}
 use lib.IntN.{ℤ}
 use lib.ListN.{length}
+use Rattle.conflicts.specs.FlipsWithin.{within-none}
 use Rattle.corner.specs.declared.Added.{Added}
 use Rattle.corner.specs.Corner.{Extended}
 use Rattle.corner.specs.CornerRows.{extendedOf, Ready}
 use Rattle.corner.specs.RowsLaws.{SameLengths, same-refl, same-trans, ready-again}
 use Rattle.dcel.specs.Rows.{linksOf, positionOf}
-use Rattle.flip_count.specs.declared.FlipCount.{FlipCount}
-use Rattle.flip_count.specs.FlipCount.{flipCountOf}
 use Rattle.mesh.specs.declared.Counts.{Counts}
-use Rattle.mesh.specs.HeightBound.{flips-none}
 use Rattle.sums.specs.Until.{Going, going-start, going-turn, going-less, going-end}
 use Rattle.convexity.specs.Convexity.{fixConvexity, Passes, passAgain, unpassed, convexity}
 use Rattle.convexity.specs.ConvexityLaws.{Passing, passesLeft, passes-fall, passes-start, passes-enough, again-closings}
@@ -29,14 +27,14 @@ pub record PassesAt (q : List ℤ) (o₀ h₀ a₀ row₀ : List ℕ) (C : Count
   pub going : Going (λ t. t .still) (passAgain (length row₀) (positionOf q)) (Passing (positionOf q)) passesLeft (2 * C .vertices + 2) (unpassed C (linksOf o₀ h₀ a₀))
       (record { mesh = extendedOf o h a g; still = s })
 
-pub passes-begin : {q : List ℤ} {o h a row : List ℕ} {C : Counts} → MeshReady q o h a row C → (z : FlipCount) → flipCountOf z ≡ 0
-    → PassesAt q o h a row C o h a row (record { counts = C; faces = 0; flips = z; full = false }) false
+pub passes-begin : {q : List ℤ} {o h a row : List ℕ} {C : Counts} → MeshReady q o h a row C
+    → PassesAt q o h a row C o h a row (record { counts = C; faces = 0; flips = 0; full = false }) false
 unfolding extendedOf
-passes-begin {q} {o} {h} {a} {row} {C} R z e = record {
-  ready = record { rows = R .rows; sized = R .sized; flips = rw e (flips-none (R .rows .good)); faces = omega arith };
+passes-begin {q} {o} {h} {a} {row} {C} R = record {
+  ready = record { rows = R .rows; sized = R .sized; flips = within-none; faces = omega arith };
   lengths = same-refl;
-  going = rw e (going-start (λ t. t .still) (passAgain (length row) (positionOf q)) (passes-fall (length row) (positionOf q)) (2 * C .vertices + 2) (unpassed C (linksOf o h a))
-      (passes-start (length row) C (positionOf q) (linksOf o h a) (R .rows .good)) (passes-enough (length row) C (positionOf q) (linksOf o h a) (R .rows .good)));
+  going = going-start (λ t. t .still) (passAgain (length row) (positionOf q)) (passes-fall (length row) (positionOf q)) (2 * C .vertices + 2) (unpassed C (linksOf o h a))
+      (passes-start (length row) C (positionOf q) (linksOf o h a) (R .rows .good)) (passes-enough (length row) C (positionOf q) (linksOf o h a) (R .rows .good));
 }
 
 module _ {q : List ℤ} {o₀ h₀ a₀ row₀ : List ℕ} {C : Counts} {o h a row : List ℕ} {g : Added} {s : Bool} (I : PassesAt q o₀ h₀ a₀ row₀ C o h a row g s) where

@@ -9,8 +9,9 @@ use Prim.Native.Nat.{ℕ, zero, suc, _+_, _-_, _*_, _<_, _≤_}
 use native.Mathlib.Omega.{arith}
 use borrow.Author.Tests.{eqb-true, eqb-false}
 use lib.Dec.{eqb}
-use lib.IntN.{ℤ, pos}
+use lib.IntN.{pos}
 use lib.Signed.{_≤ℤ_, ltZ-no}
+use Rattle.conflicts.specs.FlipsWithin.{FlipsWithin, within-none}
 use Rattle.corner.specs.Corner.{Extended}
 use Rattle.corner.specs.CornerLaws.{Closings, none, closings-join, closings-good, closings-bound, closings-count, closings-none}
 use Rattle.math.specs.declared.Point.{Point}
@@ -23,7 +24,6 @@ use Rattle.mesh.specs.BoundaryLaws.{next-inverse}
 use Rattle.mesh.specs.CountsLaws.{count-faces}
 use Rattle.mesh.specs.FlipRun.{FlipRun, run-boundary}
 use Rattle.mesh.specs.Good.{Good}
-use Rattle.mesh.specs.HeightBound.{FlipsBound, flips-none}
 use Rattle.sums.specs.Bit.{from-false}
 use Rattle.sums.specs.Iterate.{iter, iter-last, inverse-sym, reach-back, reach-on}
 use Rattle.sums.specs.Until.{until, Falls, until-ind, until-ends, until-fuel, until-keeps}
@@ -212,8 +212,8 @@ module _ (room : ℕ) (C : Counts) (p : ℕ → Point) (L : Links) (G : Good C L
           → A ≡ record { vertices = C .vertices; edges = C .edges + n; faces = C .faces + n }
       counts-are A C n v e f = rw (← v, ← e, ← f) refl
 
-  pub convexity-bound : FlipsBound (convexity room C p L .counts) (convexity room C p L .links) p (convexity room C p L .flips)
-  convexity-bound = closings-bound G convexity-closings (flips-none G)
+  pub convexity-bound : FlipsWithin (convexity room C p L .counts) (convexity room C p L .links) p (convexity room C p L .flips)
+  convexity-bound = closings-bound G convexity-closings within-none
 
   pub convexity-area : areaTotal (convexity room C p L .counts) (convexity room C p L .links) p
       ≡ boundaryArea (convexity room C p L .counts) (convexity room C p L .links) p

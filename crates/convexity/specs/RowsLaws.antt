@@ -6,13 +6,13 @@ use Prim.Native.Nat.{ℕ}
 use native.Mathlib.Omega.{arith}
 use lib.IntN.{ℤ}
 use lib.ListN.{length}
+use Rattle.conflicts.specs.FlipsWithin.{within-none}
 use Rattle.corner.specs.declared.Added.{Added}
 use Rattle.corner.specs.CornerLaws.{Closings}
 use Rattle.corner.specs.CornerRows.{extendedOf, Ready}
 use Rattle.corner.specs.RowsLaws.{SameLengths, kept}
 use Rattle.dcel.specs.Rows.{linksOf, positionOf}
 use Rattle.mesh.specs.declared.Counts.{Counts}
-use Rattle.mesh.specs.HeightBound.{flips-none}
 use Rattle.convexity.specs.Convexity.{unpassed, convexity}
 use Rattle.convexity.specs.ConvexityRows.{MeshReady}
 use Rattle.convexity.specs.ConvexityLaws.{convexity-closings}
@@ -23,5 +23,5 @@ pub convexity-ready : {q : List ℤ} {o h a row : List ℕ} {C : Counts} → Mes
     → extendedOf o′ h′ a′ g ≡ convexity (length row) C (positionOf q) (linksOf o h a)
     → SameLengths o h a row o′ h′ a′ row′ → Ready q o′ h′ a′ row′ g
 convexity-ready {q} {o} {h} {a} {row} {C} R {o′} {h′} {a′} {row′} {g} e l =
-    kept (unpassed C (linksOf o h a) .mesh) (R .rows .good) (flips-none (R .rows .good)) (omega arith) (R .rows .room .outs) (R .rows .positions) (R .sized)
+    kept (unpassed C (linksOf o h a) .mesh) (R .rows .good) within-none (omega arith) (R .rows .room .outs) (R .rows .positions) (R .sized)
     (subst⁻¹ (Closings (positionOf q) (unpassed C (linksOf o h a) .mesh)) e (convexity-closings (length row) C (positionOf q) (linksOf o h a) (R .rows .good))) l

@@ -14,7 +14,6 @@ ghost use Rattle.convexity.specs.Convexity.{turnsLeftAt, fixConvexity, c
 ghost use Rattle.convexity.specs.Walk.{leftBehind, closedBehind, closeAllBehind};
 ghost use Rattle.convexity.specs.ConvexityRows.{walkOf, CornerReady, BehindReady, CloseBehindReady, WalkReady, StartReady, MeshReady};
 use corner::Added;
-use flip_count::FlipCount;
 use mesh::Counts;
 
 // What has become of a mesh, and how many half-edges of the walk are behind the current one: `convex_edges.len()`.
@@ -179,11 +178,10 @@ pub fn convexity(
         ≡ convexity (length (now (pending .entry))) counts (positionOf (now (positions .entry)))
         (linksOf (now (outs .entry)) (now (halves .entry)) (now (faces .entry))) ⌝ }
 {
-    let zero = FlipCount::zero();
     let mut now = Added {
         counts: counts,
         faces: 0,
-        flips: zero,
+        flips: 0,
         full: false,
     };
     let mut still = false;

@@ -12,11 +12,9 @@ use Rattle.dcel.specs.Rows.{linksOf, positionOf}
 use Rattle.dcel_operations.specs.declared.NewEdge.{NewEdge}
 use Rattle.dcel_operations.specs.Face.{SingleReady, SingleFace}
 use Rattle.dcel_operations.specs.Ready.{single-face-ready}
-use Rattle.flip_count.specs.FlipCount.{flipCountOf}
 use Rattle.legalize.specs.declared.Legalized.{Legalized}
 use Rattle.legalize.specs.Legalize.{legalizeEdgesAfterRemoval}
 use Rattle.legalize.specs.LegalizeRows.{LegalizeReady, Leaves}
-use Rattle.mesh.specs.declared.Counts.{Counts}
 use Rattle.mesh.specs.Mesh.{Links}
 use Rattle.mesh.specs.Operations.{createSingleFaceBetweenEdgeAndNext, withFace}
 use Rattle.mesh.specs.CountsLaws.{faces-fit}
@@ -65,12 +63,12 @@ module _ {q : List ℤ} {o h a row : List ℕ} {g : Added} {e first second : ℕ
     )
 
     pub closed-row : (n : ℕ) (o″ h″ a″ : List ℕ) (done : Legalized)
-        → Leaves o″ h″ a″ done (legalizeEdgesAfterRemoval n (r .counts) (positionOf q) (linksOf o h′ a′) (flipCountOf (g .flips)) first second)
+        → Leaves o″ h″ a″ done (legalizeEdgesAfterRemoval n (r .counts) (positionOf q) (linksOf o h′ a′) (g .flips) first second)
         → extendedOf o″ h″ a″ (record { counts = r .counts; faces = g .faces + 1; flips = done .flips; full = done .full })
         ≡ closeCorner n (positionOf q) (extendedOf o h a g) e first second
     unfolding extendedOf closeCorner
     closed-row n o″ h″ a″ done v =
-        let s = legalizeEdgesAfterRemoval n (r .counts) (positionOf q) (linksOf o h′ a′) (flipCountOf (g .flips)) first second in
-        let leaves : _≡_ {A = Extended} (record { counts = r .counts; links = linksOf o″ h″ a″; faces = g .faces + 1; flips = flipCountOf (done .flips); full = done .full })
+        let s = legalizeEdgesAfterRemoval n (r .counts) (positionOf q) (linksOf o h′ a′) (g .flips) first second in
+        let leaves : _≡_ {A = Extended} (record { counts = r .counts; links = linksOf o″ h″ a″; faces = g .faces + 1; flips = done .flips; full = done .full })
         (record { counts = r .counts; links = s .links; faces = suc (g .faces); flips = s .flips; full = s .full }) = rw (v .links, v .flips, v .full, add-one) refl in
         leaves ∙ rw (counts-are, S .links o) refl

@@ -8,6 +8,7 @@ use Prim.Native.Nat.{ℕ, suc, _+_, _≤_, _<_}
 use native.Mathlib.Omega.{arith}
 use lib.IntN.{pos}
 use lib.Signed.{_<ℤ_}
+use Rattle.conflicts.specs.FlipsWithin.{FlipsWithin, within-face, within-run}
 use Rattle.legalize.specs.declared.Entry.the-variants.{Edge}
 use Rattle.legalize.specs.Legalize.{entryEdge, legalizeEdgesAfterRemoval}
 use Rattle.legalize.specs.LegalizeLaws.{Outcome, legalize-outcome, legalize-start}
@@ -20,9 +21,7 @@ use Rattle.mesh.specs.Area.{boundaryLength}
 use Rattle.mesh.specs.Frame.{SameBoundary}
 use Rattle.mesh.specs.Good.{Good}
 use Rattle.mesh.specs.GoodLaws.{single-face-good, single-face-length, single-face-added}
-use Rattle.mesh.specs.FlipRun.{FlipRun, run-good, run-boundary, run-length, run-falls}
-use Rattle.mesh.specs.HeightBound.{FlipsBound, flips-face, flips-more}
-use Rattle.sums.specs.Half.{rev-below}
+use Rattle.mesh.specs.FlipRun.{FlipRun, run-good, run-boundary, run-length}
 use Rattle.corner.specs.Corner.{Extended, closeCorner}
 
 -- the corner at the end of the half-edge e turns strictly left
@@ -31,12 +30,8 @@ LeftCorner L p e = pos 0 <ℤ orient2d (p (L .origin e)) (p (to L e)) (p (to L (
 
 -- ---- flips that were counted before a face was added stay within their bound
 pub face-bound : {C : Counts} {L : Links} {p : ℕ → Point} → Good C L p → {e : ℕ} → In C e → L .face e ≡ 0 → LeftCorner L p e
-    → {n : ℕ} → FlipsBound C L p n → FlipsBound (withFace C) (createSingleFaceBetweenEdgeAndNext L C e) p n
-face-bound {C} G l o h B =
-    let W = G .wf in
-    let n = W .ranges .next< l in
-    flips-face W (single-face-good G l o h .wf) (single-face-added G l o h)
-    (G .range (W .ranges .origin< (rev-below (C .edges) n))) (G .range (W .ranges .origin< l)) (G .range (W .ranges .origin< n)) B
+    → {n : ℕ} → FlipsWithin C L p n → FlipsWithin (withFace C) (createSingleFaceBetweenEdgeAndNext L C e) p n
+face-bound G l o h = within-face (G .wf) (single-face-good G l o h .wf) (single-face-added G l o h) refl
 
 -- ---- one corner closed: a face between e and the next half-edge, and flips, each at an edge that broke the circle rule at that moment
 pub record CornerClosed (p : ℕ → Point) (m m′ : Extended) (e : ℕ) : Type 0 where
@@ -64,11 +59,11 @@ module _ {p : ℕ → Point} {m m′ : Extended} {e : ℕ} (G : Good (m .counts)
   closed-length = ap (λ (C : Counts). boundaryLength C (m′ .links) + 1) (S .counts) ∙ ap (λ (n : ℕ). n + 1) (run-length added (S .run)) ∙ single-face-length G (S .edge) (S .outer) (S .left)
 
   -- the count of flips stays within its bound
-  pub closed-bound : FlipsBound (m .counts) (m .links) p (m .flips) → FlipsBound (m′ .counts) (m′ .links) p (m′ .flips)
+  pub closed-bound : FlipsWithin (m .counts) (m .links) p (m .flips) → FlipsWithin (m′ .counts) (m′ .links) p (m′ .flips)
   closed-bound B =
-      subst (λ (C : Counts). FlipsBound C (m′ .links) p (m′ .flips)) (sym (S .counts))
-      (subst (FlipsBound (withFace (m .counts)) (m′ .links) p) (sym (S .flips))
-      (flips-more (S .made) (face-bound G (S .edge) (S .outer) (S .left) B) (run-falls added (S .run))))
+      subst (λ (C : Counts). FlipsWithin C (m′ .links) p (m′ .flips)) (sym (S .counts))
+      (subst (FlipsWithin (withFace (m .counts)) (m′ .links) p) (sym (S .flips))
+      (within-run added (face-bound G (S .edge) (S .outer) (S .left) B) (S .run)))
 
 -- ---- corners closed one after another
 pub data Closings (p : ℕ → Point) : Extended → Extended → Type 0 where
@@ -84,8 +79,8 @@ module _ {p : ℕ → Point} {m : Extended} (G : Good (m .counts) (m .links) p) 
   closings-good none = G
   closings-good (then a e S) = closed-good (closings-good a) S
 
-  pub closings-bound : {n : Extended} → Closings p m n → FlipsBound (m .counts) (m .links) p (m .flips)
-      → FlipsBound (n .counts) (n .links) p (n .flips)
+  pub closings-bound : {n : Extended} → Closings p m n → FlipsWithin (m .counts) (m .links) p (m .flips)
+      → FlipsWithin (n .counts) (n .links) p (n .flips)
   closings-bound none B = B
   closings-bound (then a e S) B = closed-bound (closings-good a) S (closings-bound a B)
 

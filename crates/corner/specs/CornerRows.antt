@@ -5,17 +5,16 @@ use Prim.Native.Nat.{ℕ, _*_, _^_, _<_, _≤_}
 use lib.IntN.{ℤ}
 use lib.ListN.{length}
 use Rattle.circle_test.specs.GoodRows.{GoodRows}
+use Rattle.conflicts.specs.FlipsWithin.{FlipsWithin}
 use Rattle.dcel.specs.Rows.{linksOf, positionOf}
-use Rattle.flip_count.specs.FlipCount.{flipCountOf}
 use Rattle.mesh.specs.Mesh.{In}
-use Rattle.mesh.specs.HeightBound.{FlipsBound}
 use Rattle.corner.specs.declared.Added.{Added}
 use Rattle.corner.specs.Corner.{Extended}
 use Rattle.corner.specs.CornerLaws.{LeftCorner}
 
 -- the links that the rows hold, with what was added
 unfoldable pub extendedOf : List ℕ → List ℕ → List ℕ → Added → Extended
-extendedOf o h a g = record { counts = g .counts; links = linksOf o h a; faces = g .faces; flips = flipCountOf (g .flips); full = g .full }
+extendedOf o h a g = record { counts = g .counts; links = linksOf o h a; faces = g .faces; flips = g .flips; full = g .full }
 
 -- the rows are sized for the vertices, as 01 has it for N of them: 6N half-edges of four numbers each, 2N faces, at least 8 pending entries
 pub record MeshRoom (vertices : ℕ) (h a row : List ℕ) : Type 0 where
@@ -28,7 +27,7 @@ pub record MeshRoom (vertices : ℕ) (h a row : List ℕ) : Type 0 where
 pub record Ready (q : List ℤ) (o h a row : List ℕ) (g : Added) : Type 0 where
   pub rows : GoodRows (g .counts) q o h a
   pub sized : MeshRoom (g .counts .vertices) h a row
-  pub flips : FlipsBound (g .counts) (linksOf o h a) (positionOf q) (flipCountOf (g .flips))
+  pub flips : FlipsWithin (g .counts) (linksOf o h a) (positionOf q) (g .flips)
   pub faces : g .faces ≤ g .counts .faces
 
 -- the corner at the end of the boundary edge e turns left, and two edges are in use

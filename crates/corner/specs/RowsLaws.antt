@@ -8,14 +8,14 @@ use native.Mathlib.Nat.{le-refl}
 use native.Mathlib.Omega.{arith}
 use lib.IntN.{ℤ}
 use lib.ListN.{length}
-use Rattle.dcel.specs.Rows.{linksOf, positionOf}
+use Rattle.conflicts.specs.FlipsWithin.{FlipsWithin}
+use Rattle.dcel.specs.Rows.{positionOf}
 use Rattle.dcel.specs.MeshHeld.{Room}
 use Rattle.math.specs.declared.Point.{Point}
 use Rattle.mesh.specs.declared.Counts.{Counts}
 use Rattle.mesh.specs.Mesh.{Links}
 use Rattle.mesh.specs.CountsLaws.{halves-fit, faces-fit}
 use Rattle.mesh.specs.Good.{Good}
-use Rattle.mesh.specs.HeightBound.{FlipsBound}
 use Rattle.corner.specs.declared.Added.{Added}
 use Rattle.corner.specs.Corner.{Extended}
 use Rattle.corner.specs.CornerLaws.{Closings, closings-good, closings-bound, closings-count}
@@ -46,7 +46,7 @@ sized-room o o′ h′ a′ k s v G x y z =
 -- corners closed one after another leave what a function needs
 module _ {q : List ℤ} {o h a row : List ℕ} where
   pub kept : (m : Extended) → Good (m .counts) (m .links) (positionOf q)
-      → FlipsBound (m .counts) (m .links) (positionOf q) (m .flips) → m .faces ≤ m .counts .faces
+      → FlipsWithin (m .counts) (m .links) (positionOf q) (m .flips) → m .faces ≤ m .counts .faces
       → m .counts .vertices ≤ length o → 2 * m .counts .vertices ≤ length q → MeshRoom (m .counts .vertices) h a row
       → {o′ h′ a′ row′ : List ℕ} {g : Added} → Closings (positionOf q) m (extendedOf o′ h′ a′ g)
       → SameLengths o h a row o′ h′ a′ row′ → Ready q o′ h′ a′ row′ g

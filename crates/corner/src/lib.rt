@@ -8,14 +8,13 @@ ghost use lib.ListN.{length};
 ghost use Rattle.dcel.specs.Rows.{positionOf};
 ghost use Rattle.corner.specs.Corner.{closeCorner};
 ghost use Rattle.corner.specs.CornerRows.{extendedOf, CloseReady};
-use flip_count::FlipCount;
 use mesh::Counts;
 
 // What has become of a mesh: its counts, the faces added, the flips, and whether a flip's pushes would have overfilled the pending list.
 pub struct Added {
     pub counts: Counts,
     pub faces: u32,
-    pub flips: FlipCount,
+    pub flips: u64,
     pub full: bool,
 }
 
@@ -37,7 +36,6 @@ pub fn close_corner(
         (extendedOf (now (outs .entry)) (now (halves .entry)) (now (faces .entry)) added) e first second ⌝ }
 {
     let counts = added.counts;
-    let flips = added.flips;
     let new = dcel_operations::create_single_face_between_edge_and_next(halves, faces, counts, e);
     let after = new.counts;
     let done = legalize::legalize_edges_after_removal(
@@ -49,13 +47,12 @@ pub fn close_corner(
         after,
         first,
         second,
-        flips,
+        added.flips,
     );
-    let made = done.flips;
     Added {
         counts: after,
         faces: added.faces + 1,
-        flips: made,
+        flips: done.flips,
         full: done.full,
     }
 }

@@ -1,4 +1,5 @@
 pub mod Rows
+pub mod MeshRows
 pub mod Far
 pub mod Views
 pub mod MeshHeld

@@ -13,6 +13,7 @@ use Rattle.mesh.specs.Mesh.{Links}
 use Rattle.dcel.specs.declared.handles.Far.{Far}
 use Rattle.dcel.specs.Rows.{halvesOf, rowOf, positionOf, linksOf, rowFrom, field, halvesIn, halvesFrom, coordinate, positionsFrom}
 use Rattle.dcel.specs.Far.{farIn, farOf}
+use Rattle.dcel.specs.MeshRows.{MeshRows, meshRows, linksIn, placesIn, meshRowsFrom, SameLengths}
 
 -- what an accessor ensures, `r ≡ halvesOf h .next e`, as a fact of the links: `c .next .ensures ∙ next-of _ _ _ _`
 module _ (o h a : List ℕ) (x : ℕ) where
@@ -113,3 +114,30 @@ positions-from p P e n k = rw (← k) (from-entries p (λ i. coordinate (P (i / 
     entry-at i =
         let k : i ≡ 2 * (i / 2) + i % 2 = omega arith in
         ap (λ (j : ℕ). getD p j (pos 0)) k ∙ coordinate-is p (i / 2) (i % 2) (omega arith) ∙ ap (λ (Q : ℕ → Point). coordinate (Q (i / 2)) (i % 2)) e
+
+-- ---- the four rows together, at the end of a call
+mesh-rows-are : {q q′ : List ℤ} {o o′ h h′ a a′ : List ℕ} → q ≡ q′ → o ≡ o′ → h ≡ h′ → a ≡ a′ → meshRows q o h a ≡ meshRows q′ o′ h′ a′
+mesh-rows-are i j k l = rw (i, j, k, l) refl
+
+pub mesh-rows-from : {m m′ : MeshRows} {L : Links} {p : ℕ → Point} → SameLengths m m′ → linksIn m′ ≡ L → placesIn m′ ≡ p
+    → m′ ≡ meshRowsFrom m L p
+unfolding meshRowsFrom
+mesh-rows-from {m} {m′} {L} {p} S e d =
+    mesh-rows-are
+    (positions-from (m′ .positions) p d (length (m .positions)) (S .positions))
+    (outs-from (m′ .outs) (m′ .halves) (m′ .faces) L e (length (m .outs)) (S .outs))
+    (halves-from (m′ .outs) (m′ .halves) (m′ .faces) L e (length (m .halves)) (S .halves))
+    (faces-from (m′ .outs) (m′ .halves) (m′ .faces) L e (length (m .faces)) (S .faces))
+
+-- rows that are made of the mesh that they hold are the same
+pub mesh-rows-same : (m : MeshRows) → meshRowsFrom m (linksIn m) (placesIn m) ≡ m
+mesh-rows-same m = sym (mesh-rows-from (record { positions = refl; outs = refl; halves = refl; faces = refl }) refl refl)
+
+pub lengths-from : (m : MeshRows) (L : Links) (p : ℕ → Point) → SameLengths m (meshRowsFrom m L p)
+unfolding meshRowsFrom halvesFrom positionsFrom
+lengths-from m L p = record {
+  positions = length-from (length (m .positions)) _;
+  outs = length-from (length (m .outs)) (L .out);
+  halves = length-from (length (m .halves)) _;
+  faces = length-from (length (m .faces)) (L .adjacent);
+}

@@ -1,220 +1,193 @@
--- The call `finish` on the lent rows: what an accepted call leaves (`finish-accepted`), what refusal 9 leaves
--- (`finish-full`), and that every other refusal is one of the checks' and changes nothing (`finish-refused`). Assumes
--- nothing.
+-- The call `finish` on the lent rows: what an accepted call leaves (`finish-accepted`), and what a refused one leaves (`finish-refused`):
+-- 9 the mesh that stood before the flip, every other refusal, which is one of the checks', all as it was. Assumes nothing.
 use mathlib.Core.Bool.{Bool, true, false}
 use mathlib.Core.List.{List}
 use mathlib.Core.Logic.{_⊎_, inl, inr}
-use mathlib.Core.Path.{_≡_, refl, sym, _∙_, ap, subst}
+use mathlib.Core.Path.{_≡_, refl, sym, _∙_, ap, subst, subst⁻¹}
 use Prim.Native.Nat.{ℕ, _+_, _≤_}
 use native.Mathlib.Omega.{arith}
-use lib.IntN.{ℤ, pos, _-ℤ_}
+use lib.IntN.{pos, _-ℤ_}
 use lib.ListN.{length, replicate}
 use lib.Signed.{_≤ℤ_}
 use Rattle.corner.specs.Corner.{Extended}
 use Rattle.corner.specs.CornerLaws.{Closings}
-use Rattle.corner.specs.Untouched.{Untouched, Holding, rows-back}
 use Rattle.closing.specs.Closing.{Closing, closingPass}
 use Rattle.convexity.specs.Convexity.{convexity, unpassed, NoLeftCorner}
 use Rattle.convexity.specs.ConvexityLaws.{convexity-closings}
-use Rattle.dcel.specs.Rows.{linksOf, positionOf, rowFrom, halvesFrom}
-use Rattle.dcel.specs.Views.{length-from}
-use Rattle.convexity.specs.ConvexityRows.{MeshReady}
-use Rattle.flip_count.specs.FlipCount.{flipCountOf, flipCountFrom}
-use Rattle.flip_count.specs.CountLaws.{count-of}
+use Rattle.dcel.specs.MeshRows.{MeshRows, linksIn, placesIn, meshRowsFrom}
+use Rattle.dcel.specs.Views.{positions-from}
 use Rattle.math.specs.declared.Point.{Point}
 use Rattle.mesh.specs.declared.Counts.{Counts}
 use Rattle.mesh.specs.Mesh.{Links}
-use Rattle.mesh.specs.Area.{areaTotal, boundaryArea, heightSum}
+use Rattle.mesh.specs.Area.{heightSum}
 use Rattle.mesh.specs.Circle.{LocallyDelaunay, Settled}
 use Rattle.mesh.specs.CircleLaws.{settled-far}
-use Rattle.mesh.specs.CountsLaws.{count-edges, count-faces}
 use Rattle.mesh.specs.FlipRun.{FlipRun}
 use Rattle.mesh.specs.Good.{Good}
 use Rattle.mesh_check.specs.declared.Checked.{Checked}
 use Rattle.mesh_check.specs.declared.Refusal.{Refusal}
+use Rattle.mesh_check.specs.Accepted.{MeshSizes}
 use Rattle.mesh_check.specs.Check.{checkWith}
 use Rattle.mesh_check.specs.CheckLaws.{NumberedTo, check-numbered}
 use Rattle.finish.specs.declared.Finished.{Finished}
 use Rattle.finish.specs.declared.Totals.{Totals}
-use Rattle.finish.specs.Finish.{Finishing, finishMesh, Outcome, finishedFrom, outcomeOf, seedChecked, finishOf}
-use Rattle.finish.specs.FinishRows.{accepted-ready}
-use Rattle.finish.specs.MeshLaws.{finish-flips, finish-good, finish-counts, finish-area, finish-fall, finish-untouched, finish-closing, finish-convex, finish-settled}
-
--- the links that the rows hold after a call
-abbrev pub linksAfter : Outcome → Links
-linksAfter r = linksOf (r .outs) (r .halves) (r .faces)
+use Rattle.finish.specs.CallLeaves.{CallLeaves}
+use Rattle.finish.specs.CallLeavesLaws.{in-rows, call-leaves}
+use Rattle.finish.specs.Finish.{Finishing, finishMesh, totalsFrom, finishedFrom, FinishOutcome, finishedWith, finishOutcome, seedChecked, finishOf}
+use Rattle.finish.specs.FinishRows.{accepted-ready, accepted-sizes}
+use Rattle.finish.specs.MeshLaws.{finish-flips, finish-good, finish-counts, finish-fall, finish-untouched, finish-closing, finish-convex, finish-settled}
 
 -- the counts after a call: the same vertices, an edge and a face more for each face added
 abbrev pub withFaces : Counts → ℕ → Counts
 withFaces C n = record { vertices = C .vertices; edges = C .edges + n; faces = C .faces + n }
 
--- what a call on a good mesh leaves: the mesh is good, its areas add up, what is past the counts is untouched, and the
--- pending row holds zeros
-pub record Left (C : Counts) (q : List ℤ) (o h a row : List ℕ) (r : Outcome) (n : ℕ) : Type 0 where
+-- what a call on a good mesh leaves, where n faces were added
+pub record FinishLeaves (C : Counts) (m : MeshRows) (pending : List ℕ) (r : FinishOutcome) (n : ℕ) : Type 0 where
+  pub leaves : CallLeaves C m pending (r .answer .counts) (r .mesh) (r .pending)
   pub counts : r .answer .counts ≡ withFaces C n
-  pub good : Good (r .answer .counts) (linksAfter r) (positionOf q)
-  pub area : areaTotal (r .answer .counts) (linksAfter r) (positionOf q) ≡ boundaryArea (r .answer .counts) (linksAfter r) (positionOf q)
-  pub untouched : Untouched (r .answer .counts) (linksOf o h a) (linksAfter r)
-  pub outs : length (r .outs) ≡ length o
-  pub halves : length (r .halves) ≡ length h
-  pub faces : length (r .faces) ≡ length a
-  pub pending : r .pending ≡ replicate (length row) 0
+  pub positions : r .mesh .positions ≡ m .positions
 
 -- the mesh after the convexity passes
-abbrev pub passed : Counts → List ℤ → List ℕ → List ℕ → List ℕ → List ℕ → Extended
-passed C q o h a row = convexity (length row) C (positionOf q) (linksOf o h a)
+abbrev pub afterPasses : Counts → MeshRows → List ℕ → Extended
+afterPasses C m pending = convexity (length pending) C (placesIn m) (linksIn m)
 
 -- what an accepted call leaves besides
-pub record Done (C : Counts) (q : List ℤ) (o h a row : List ℕ) (r : Outcome) (t : Totals) : Type 0 where
-  pub left : Left C q o h a row r (t .faces)
+pub record FinishAccepted (C : Counts) (m : MeshRows) (pending : List ℕ) (r : FinishOutcome) (t : Totals) : Type 0 where
+  pub leaves : FinishLeaves C m pending r (t .faces)
   -- no boundary corner turns left, and no triangle's circle strictly contains a neighbour's far vertex
-  pub convex : NoLeftCorner (r .answer .counts) (linksAfter r) (positionOf q)
-  pub circles : LocallyDelaunay (r .answer .counts) (linksAfter r) (positionOf q)
+  pub convex : NoLeftCorner (r .answer .counts) (linksIn (r .mesh)) (placesIn (r .mesh))
+  pub circles : LocallyDelaunay (r .answer .counts) (linksIn (r .mesh)) (placesIn (r .mesh))
   -- corners closed one after another, each followed by its flips, as many of both as reported
-  pub passes : Closings (positionOf q) (unpassed C (linksOf o h a) .mesh) (passed C q o h a row)
-  pub faces : t .faces ≡ passed C q o h a row .faces
-  pub convexflips : flipCountOf (t .convexflips) ≡ passed C q o h a row .flips
+  pub passes : Closings (placesIn m) (unpassed C (linksIn m) .mesh) (afterPasses C m pending)
+  pub faces : t .faces ≡ afterPasses C m pending .faces
+  pub convexflips : t .convexflips ≡ afterPasses C m pending .flips
   -- then the closing pass: as many flips as reported,
-  pub closing : _≡_ {A = Closing} (record { links = linksAfter r; flips = flipCountOf (t .closingflips) })
-      (closingPass (r .answer .counts) (positionOf q) (passed C q o h a row .links))
-  pub closingflips : FlipRun (r .answer .counts) (positionOf q) (passed C q o h a row .links) (linksAfter r) (flipCountOf (t .closingflips))
+  pub closing : _≡_ {A = Closing} (record { links = linksIn (r .mesh); flips = t .closingflips })
+      (closingPass (r .answer .counts) (placesIn (r .mesh)) (afterPasses C m pending .links))
+  pub closingflips : FlipRun (r .answer .counts) (placesIn (r .mesh)) (afterPasses C m pending .links) (linksIn (r .mesh))
+      (t .closingflips)
   -- which are at most the fall of the height sum
-  pub fall : pos (flipCountOf (t .closingflips))
-      ≤ℤ (heightSum (r .answer .counts) (passed C q o h a row .links) (positionOf q)
-      -ℤ heightSum (r .answer .counts) (linksAfter r) (positionOf q))
+  pub fall : pos (t .closingflips)
+      ≤ℤ (heightSum (r .answer .counts) (afterPasses C m pending .links) (placesIn (r .mesh))
+      -ℤ heightSum (r .answer .counts) (linksIn (r .mesh)) (placesIn (r .mesh)))
 
--- 01: "All but 9 change nothing lent"
-pub record Unchanged (C : Counts) (o h a row : List ℕ) (r : Outcome) : Type 0 where
-  pub counts : r .answer .counts ≡ C
-  pub outs : r .outs ≡ o
-  pub halves : r .halves ≡ h
-  pub faces : r .faces ≡ a
-  pub pending : r .pending ≡ row
-
-module _ (C : Counts) (q : List ℤ) (o h a row : List ℕ) where
+module _ (C : Counts) (m : MeshRows) (pending : List ℕ) where
   -- the checks' refusals have the numbers 1 to 5
-  seed-numbered : NumberedTo 5 (seedChecked C q o h a row)
+  seed-numbered : NumberedTo 5 (seedChecked C m pending)
   unfolding seedChecked checkWith
   seed-numbered = check-numbered _ _ _ _ _
 
   abbrev p : ℕ → Point
-  p = positionOf q
+  p = placesIn m
 
   abbrev L : Links
-  L = linksOf o h a
+  L = linksIn m
 
-  abbrev m : Finishing
-  m = finishMesh (length row) C p L
-
-  abbrev totals : Totals
-  totals = record { faces = m .faces; convexflips = flipCountFrom (m .convexflips); closingflips = flipCountFrom (m .closingflips) }
+  abbrev f : Finishing
+  f = finishMesh (length pending) C p L
 
   -- ---- the checks accept
-  module _ (e : seedChecked C q o h a row ≡ Checked.Accepted) where
-    abbrev R : Outcome
-    R = record {
-      answer = record { counts = m .counts; finished = finishedFrom 0 m };
-      outs = rowFrom (length o) (m .links .out);
-      halves = halvesFrom (length h) (m .links);
-      faces = rowFrom (length a) (m .links .adjacent);
-      pending = replicate (length row) 0;
-    }
+  module _ (e : seedChecked C m pending ≡ Checked.Accepted) where
+    abbrev R : FinishOutcome
+    R =
+        finishedWith (record { counts = f .counts; finished = finishedFrom 0 f })
+        (meshRowsFrom m (f .links) p) (replicate (length pending) 0)
 
-    is-accepted : finishOf C q o h a row ≡ R
-    unfolding finishOf outcomeOf
+    is-accepted : finishOf C m pending ≡ R
+    unfolding finishOf finishOutcome
     is-accepted = rw e refl
 
-    ready : MeshReady q o h a row C
-    ready = accepted-ready C q o h a row (sym e)
-
     G : Good C L p
-    G = ready .rows .good
+    G = accepted-ready C m pending (sym e) .rows .good
 
-    holding : Holding (m .counts) o h a
-    holding =
-        let c = ap (λ (K : Counts). K .vertices) (finish-counts (length row) C p L G) in
-        let u = count-edges (finish-good (length row) C p L G .wf) in
-        let w = count-faces (finish-good (length row) C p L G .wf) in
-        let s = ready .sized in
-        let n = ready .rows .room in
-        record { outs = omega arith; halves = omega arith; faces = omega arith }
+    sizes : MeshSizes (C .vertices) m
+    sizes = accepted-sizes C m pending (sym e)
 
-    back : linksAfter R ≡ m .links
-    back = rows-back holding (finish-untouched (length row) C p L G)
+    most : f .counts .vertices ≤ C .vertices
+    most = let c = ap (λ (K : Counts). K .vertices) (finish-counts (length pending) C p L G) in omega arith
 
-    left : Left C q o h a row R (m .faces)
-    unfolding halvesFrom
-    left = record {
-      counts = finish-counts (length row) C p L G;
-      good = subst (λ (K : Links). Good (m .counts) K p) (sym back) (finish-good (length row) C p L G);
-      area = subst (λ (K : Links). areaTotal (m .counts) K p ≡ boundaryArea (m .counts) K p) (sym back) (finish-area (length row) C p L G);
-      untouched = subst (Untouched (m .counts) L) (sym back) (finish-untouched (length row) C p L G);
-      outs = length-from (length o) (m .links .out);
-      halves = length-from (length h) _;
-      faces = length-from (length a) (m .links .adjacent);
-      pending = refl;
+    leaves : FinishLeaves C m pending R (f .faces)
+    unfolding meshRowsFrom
+    leaves = record {
+      leaves = call-leaves m sizes most (finish-good (length pending) C p L G) (finish-untouched (length pending) C p L G) (λ u l. refl)
+          C (λ u l. refl) pending;
+      counts = finish-counts (length pending) C p L G;
+      positions = sym (positions-from (m .positions) p refl (length (m .positions)) refl);
     }
 
-    done : m .full ≡ false → Done C q o h a row R totals
-    unfolding finishMesh
-    done f =
-        let n = count-of (m .closingflips) in
+    -- a fact of the finished mesh is one of the rows
+    there : (F : Links → (ℕ → Point) → Type 0) → F (f .links) p → F (linksIn (R .mesh)) (placesIn (R .mesh))
+    there = in-rows m sizes most (finish-good (length pending) C p L G) (finish-untouched (length pending) C p L G) (λ u l. refl)
+
+    accepted : f .full ≡ false → FinishAccepted C m pending R (totalsFrom f)
+    unfolding finishMesh totalsFrom
+    accepted z =
+        let v = afterPasses C m pending in
         record {
-          left = left;
-          convex = subst (λ (K : Links). NoLeftCorner (m .counts) K p) (sym back) (finish-convex (length row) C p L G f);
-          circles = settled-far (left .good) (subst (λ (K : Links). Settled (m .counts) K p) (sym back) (finish-settled (length row) C p L G f));
-          passes = convexity-closings (length row) C p L G;
+          leaves = leaves;
+          convex = there (NoLeftCorner (f .counts)) (finish-convex (length pending) C p L G z);
+          circles = settled-far (leaves .leaves .good) (there (Settled (f .counts)) (finish-settled (length pending) C p L G z));
+          passes = convexity-closings (length pending) C p L G;
           faces = refl;
-          convexflips = count-of (m .convexflips);
-          closing = rw (back, n) (finish-closing (length row) C p L G f);
-          closingflips = rw (back, n) (finish-flips (length row) C p L G);
-          fall = rw (back, n) (finish-fall (length row) C p L G);
+          convexflips = refl;
+          closing = there (λ K P. _≡_ {A = Closing} (record { links = K; flips = f .closingflips }) (closingPass (f .counts) P (v .links)))
+              (finish-closing (length pending) C p L G z);
+          closingflips = there (λ K P. FlipRun (f .counts) P (v .links) K (f .closingflips)) (finish-flips (length pending) C p L G);
+          fall = there (λ K P. pos (f .closingflips) ≤ℤ (heightSum (f .counts) (v .links) P -ℤ heightSum (f .counts) K P))
+              (finish-fall (length pending) C p L G);
         }
 
   -- ---- by what is answered
   -- accepted: the mesh is good, no boundary corner turns left, and it is settled
-  pub finish-accepted : (t : Totals) → finishOf C q o h a row .answer .finished ≡ Finished.Accepted t
-      → Done C q o h a row (finishOf C q o h a row) t
-  unfolding finishedFrom finishOf outcomeOf
-  finish-accepted t e = by (seedChecked C q o h a row) refl
+  pub finish-accepted : (t : Totals) → finishOf C m pending .answer .finished ≡ Finished.Accepted t
+      → FinishAccepted C m pending (finishOf C m pending) t
+  unfolding finishedFrom finishOf finishOutcome
+  finish-accepted t e = by (seedChecked C m pending) refl
     where
-      at : (k : seedChecked C q o h a row ≡ Checked.Accepted) → (b : Bool) → m .full ≡ b → Done C q o h a row (finishOf C q o h a row) t
-      at k true f =
-          let x : Finished.Refused (record { number = 9; place = 0 }) ≡ Finished.Accepted t = sym (rw (is-accepted k, f) refl) ∙ e in
+      at : (k : seedChecked C m pending ≡ Checked.Accepted) → (b : Bool) → f .full ≡ b → FinishAccepted C m pending (finishOf C m pending) t
+      at k true z =
+          let x : Finished.Refused (record { number = 9; place = 0 }) ≡ Finished.Accepted t = sym (rw (is-accepted k, z) refl) ∙ e in
           absurd (let z : _≡_ {A = ℕ} 0 1 = cc in omega arith)
-      at k false f =
-          let x : Finished.Accepted totals ≡ Finished.Accepted t = sym (rw (is-accepted k, f) refl) ∙ e in
-          let y : totals ≡ t = cc in
-          subst (Done C q o h a row (finishOf C q o h a row)) y (subst (λ (r : Outcome). Done C q o h a row r totals) (sym (is-accepted k)) (done k f))
+      at k false z =
+          let x : Finished.Accepted (totalsFrom f) ≡ Finished.Accepted t = sym (rw (is-accepted k, z) refl) ∙ e in
+          let y : totalsFrom f ≡ t = cc in
+          subst (FinishAccepted C m pending (finishOf C m pending)) y
+          (subst⁻¹ (λ (r : FinishOutcome). FinishAccepted C m pending r (totalsFrom f)) (is-accepted k) (accepted k z))
 
-      by : (c : Checked) → seedChecked C q o h a row ≡ c → Done C q o h a row (finishOf C q o h a row) t
-      by Checked.Accepted k = at k (m .full) refl
+      by : (c : Checked) → seedChecked C m pending ≡ c → FinishAccepted C m pending (finishOf C m pending) t
+      by Checked.Accepted k = at k (f .full) refl
       by (Checked.Refused x) k =
           let y : Finished.Refused x ≡ Finished.Accepted t = rw k at e in
           absurd (let z : _≡_ {A = ℕ} 0 1 = cc in omega arith)
 
-  -- refused: by the checks, and nothing has changed, or before a flip whose pushes would overfill the pending list, and the mesh is good
-  pub finish-refused : (x : Refusal) → finishOf C q o h a row .answer .finished ≡ Finished.Refused x
-      → (NumberedTo 5 (Checked.Refused x) × Unchanged C o h a row (finishOf C q o h a row))
-      ⊎ ((x .number ≡ 9) × (x .place ≡ 0) × Left C q o h a row (finishOf C q o h a row) (m .faces))
-  unfolding finishedFrom finishOf outcomeOf
-  finish-refused x e = by (seedChecked C q o h a row) refl seed-numbered
+  -- refused: by the checks, and 01: "All but 9 change nothing lent"; or before a flip whose pushes would overfill the pending list
+  pub finish-refused : (x : Refusal) → finishOf C m pending .answer .finished ≡ Finished.Refused x
+      → (NumberedTo 5 (Checked.Refused x) × (finishOf C m pending ≡ finishedWith (record { counts = C; finished = Finished.Refused x }) m pending))
+      ⊎ ((x .number ≡ 9) × (x .place ≡ 0) × FinishLeaves C m pending (finishOf C m pending) (f .faces))
+  unfolding finishedFrom finishOf finishOutcome
+  finish-refused x e = by (seedChecked C m pending) refl seed-numbered
     where
       Wanted : Type 0
-      Wanted = (NumberedTo 5 (Checked.Refused x) × Unchanged C o h a row (finishOf C q o h a row)) ⊎ ((x .number ≡ 9) × (x .place ≡ 0) × Left C q o h a row (finishOf C q o h a row) (m .faces))
+      Wanted =
+          (NumberedTo 5 (Checked.Refused x) × (finishOf C m pending ≡ finishedWith (record { counts = C; finished = Finished.Refused x }) m pending))
+          ⊎ ((x .number ≡ 9) × (x .place ≡ 0) × FinishLeaves C m pending (finishOf C m pending) (f .faces))
 
-      at : (k : seedChecked C q o h a row ≡ Checked.Accepted) → (b : Bool) → m .full ≡ b → Wanted
-      at k true f =
-          let y : Finished.Refused (record { number = 9; place = 0 }) ≡ Finished.Refused x = sym (rw (is-accepted k, f) refl) ∙ e in
-          let z : record { number = 9; place = 0 } ≡ x = cc in
-          inr (ap (λ (r : Refusal). r .number) (sym z), ap (λ (r : Refusal). r .place) (sym z), subst (λ (r : Outcome). Left C q o h a row r (m .faces)) (sym (is-accepted k)) (left k))
-      at k false f =
-          let y : Finished.Accepted totals ≡ Finished.Refused x = sym (rw (is-accepted k, f) refl) ∙ e in
+      at : (k : seedChecked C m pending ≡ Checked.Accepted) → (b : Bool) → f .full ≡ b → Wanted
+      at k true z =
+          let y : Finished.Refused (record { number = 9; place = 0 }) ≡ Finished.Refused x = sym (rw (is-accepted k, z) refl) ∙ e in
+          let w : record { number = 9; place = 0 } ≡ x = cc in
+          inr (
+            ap (λ (r : Refusal). r .number) (sym w),
+            ap (λ (r : Refusal). r .place) (sym w),
+            subst⁻¹ (λ (r : FinishOutcome). FinishLeaves C m pending r (f .faces)) (is-accepted k) (leaves k),
+          )
+      at k false z =
+          let y : Finished.Accepted (totalsFrom f) ≡ Finished.Refused x = sym (rw (is-accepted k, z) refl) ∙ e in
           absurd (let z : _≡_ {A = ℕ} 0 1 = cc in omega arith)
 
-      by : (c : Checked) → seedChecked C q o h a row ≡ c → NumberedTo 5 c → Wanted
-      by Checked.Accepted k l = at k (m .full) refl
+      by : (c : Checked) → seedChecked C m pending ≡ c → NumberedTo 5 c → Wanted
+      by Checked.Accepted k l = at k (f .full) refl
       by (Checked.Refused y) k l =
           let z : Finished.Refused y ≡ Finished.Refused x = rw k at e in
           let w : y ≡ x = cc in
-          inl (subst (λ (r : Refusal). NumberedTo 5 (Checked.Refused r)) w l, (rw k (record { counts = refl; outs = refl; halves = refl; faces = refl; pending = refl })))
+          inl (subst (λ (r : Refusal). NumberedTo 5 (Checked.Refused r)) w l, rw (k, w) refl)

@@ -6,10 +6,10 @@ ghost use mathlib.Core.List.{List};
 ghost use Prim.Native.Nat.{ℕ};
 ghost use lib.ListN.{length};
 ghost use Rattle.convexity.specs.ConvexityRows.{MeshReady};
+ghost use Rattle.dcel.specs.MeshRows.{meshRows};
 ghost use Rattle.dcel.specs.Rows.{linksOf, positionOf};
-ghost use Rattle.finish.specs.Finish.{Outcome, finishMesh, finishedFrom, finishOf, seedChecked};
+ghost use Rattle.finish.specs.Finish.{finishMesh, finishedFrom, finishedWith, finishOf, seedChecked};
 ghost use Rattle.finish.specs.FinishRows.{finishingOf};
-use flip_count::FlipCount;
 use mesh::Counts;
 use mesh_check::Checked;
 use mesh_check::Refusal;
@@ -17,8 +17,8 @@ use mesh_check::Refusal;
 // The faces added by all convexity passes, their flips, and those of the closing pass.
 pub struct Totals {
     pub faces: u32,
-    pub convexflips: FlipCount,
-    pub closingflips: FlipCount,
+    pub convexflips: u64,
+    pub closingflips: u64,
 }
 
 pub enum Finished {
@@ -48,8 +48,8 @@ pub fn check_seed(
     faces: &[u32],
     pending: &[u32],
 ) -> Checked
-    ensures { λ r. ⌜ r ≡ seedChecked counts (now (positions .entry)) (now (outs .entry)) (now (halves .entry)) (now (faces .entry))
-        (now (pending .entry)) ⌝ }
+    ensures { λ r. ⌜ r ≡ seedChecked counts
+        (meshRows (now (positions .entry)) (now (outs .entry)) (now (halves .entry)) (now (faces .entry))) (now (pending .entry)) ⌝ }
 {
     let none = &positions[0..0];
     mesh_check::check_with(
@@ -79,14 +79,13 @@ pub fn finish_mesh(
 {
     let added = convexity::convexity(positions, outs, halves, faces, pending, counts);
     let after = added.counts;
-    let flips = added.flips;
     if added.full {
         return Ended {
             counts: after,
             totals: Totals {
                 faces: added.faces,
-                convexflips: flips,
-                closingflips: FlipCount::zero(),
+                convexflips: added.flips,
+                closingflips: 0,
             },
             full: true,
         };
@@ -96,7 +95,7 @@ pub fn finish_mesh(
         counts: after,
         totals: Totals {
             faces: added.faces,
-            convexflips: flips,
+            convexflips: added.flips,
             closingflips: closing,
         },
         full: false,
@@ -134,16 +133,10 @@ pub fn finish(
     faces: &mut [u32],
     pending: &mut [u32],
 ) -> FinishAnswer
-    ensures { λ r. ⌜ _≡_ {A = Outcome}
-        (record {
-          answer = r;
-          outs = now (outs .exit);
-          halves = now (halves .exit);
-          faces = now (faces .exit);
-          pending = now (pending .exit);
-        })
-        (finishOf counts (now (positions .entry)) (now (outs .entry)) (now (halves .entry)) (now (faces .entry))
-        (now (pending .entry))) ⌝ }
+    ensures { λ r. ⌜ finishedWith r
+        (meshRows (now (positions .entry)) (now (outs .exit)) (now (halves .exit)) (now (faces .exit))) (now (pending .exit))
+        ≡ finishOf counts
+        (meshRows (now (positions .entry)) (now (outs .entry)) (now (halves .entry)) (now (faces .entry))) (now (pending .entry)) ⌝ }
 {
     match check_seed(counts, positions, outs, halves, faces, pending) {
         Checked::Accepted => {}

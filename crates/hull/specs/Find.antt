@@ -23,7 +23,7 @@ use Rattle.ring.specs.RingOf.{ring-located, ring-from}
 use Rattle.ring_rows.specs.declared.Node.{Node}
 use Rattle.ring_rows.specs.declared.Hull.{Hull}
 use Rattle.ring_rows.specs.declared.Found.{Found}
-use Rattle.ring_rows.specs.Rows.{nodesOf, angleOf, edgeOf, leftOf, rightOf, sizeOf, NodeRing, RingRows, Got}
+use Rattle.ring_rows.specs.Rows.{nodesOf, angleOf, edgeOf, leftOf, rightOf, sizeOf, NodeRing, RingHeld, Got}
 use Rattle.ring_rows.specs.Laws.{floor-below}
 use Rattle.hull.specs.Held.{Held}
 
@@ -46,7 +46,7 @@ module _ {C : Counts} {L : Links} {α : ℕ → ℕ} {nodes : List Node} {freed 
   }
 
   -- what `get` asks
-  pub held-rows : RingRows nodes buckets h
+  pub held-rows : RingHeld nodes buckets h
   held-rows = record {
     ring = held-ring;
     filled = λ i l. (bucket-on i l, H .ring .hull .buckets i l .1);

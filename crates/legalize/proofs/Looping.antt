@@ -7,10 +7,9 @@ use Prim.Native.Nat.{ℕ, zero, suc, _+_, _<_, _≤_}
 use native.Mathlib.Omega.{arith}
 use lib.IntN.{ℤ}
 use lib.ListN.{length}
+use Rattle.conflicts.specs.FlipsWithin.{FlipsWithin}
 use Rattle.mesh.specs.declared.Counts.{Counts}
-use Rattle.mesh.specs.HeightBound.{FlipsBound}
 use Rattle.dcel.specs.Rows.{positionOf}
-use Rattle.flip_count.specs.declared.FlipCount.{FlipCount}
 use Rattle.circle_test.specs.GoodRows.{good-again}
 use Rattle.pending.specs.Pending.{pendingOf}
 use Rattle.pending.specs.PendingLaws.{pending-last}
@@ -37,12 +36,12 @@ same-trans x y = record { outs = y .outs ∙ x .outs; halves = y .halves ∙ x .
 abbrev pub Loops : ℕ → Entry → Counts → List ℤ → Legalizing → Legalizing → Type 0
 Loops room k C q s₀ s = Going isDone (turn room k (positionOf q)) (Ongoing room k C (positionOf q)) (measure C (positionOf q)) (measure C (positionOf q) s₀ + 1) s₀ s
 
-pub record LoopAt (k : Entry) (C : Counts) (q : List ℤ) (o₀ h₀ a₀ row₀ : List ℕ) (n₀ : ℕ) (c₀ : FlipCount) (o h a row : List ℕ) (n : ℕ) (c : FlipCount) : Type 0 where
+pub record LoopAt (k : Entry) (C : Counts) (q : List ℤ) (o₀ h₀ a₀ row₀ : List ℕ) (n₀ : ℕ) (c₀ : ℕ) (o h a row : List ℕ) (n : ℕ) (c : ℕ) : Type 0 where
   pub ready : TurnReady k C q o h a row n c
   pub going : Loops (length row₀) k C q (stateOf o₀ h₀ a₀ row₀ n₀ c₀) (stateOf o h a row n c)
   pub lengths : SameLengths o₀ h₀ a₀ row₀ o h a row
 
-pub loop-starts : {k : Entry} {C : Counts} {q : List ℤ} {o h a row : List ℕ} {n : ℕ} {c : FlipCount} → TurnReady k C q o h a row n c → LoopAt k C q o h a row n c o h a row n c
+pub loop-starts : {k : Entry} {C : Counts} {q : List ℤ} {o h a row : List ℕ} {n : ℕ} {c : ℕ} → TurnReady k C q o h a row n c → LoopAt k C q o h a row n c o h a row n c
 loop-starts {k} {C} {q} {o} {h} {a} {row} {n} {c} R = record {
   ready = R;
   going = going-start isDone (turn (length row) k (positionOf q)) (falls (length row) k C (positionOf q)) _ (stateOf o h a row n c)
@@ -55,7 +54,7 @@ unfolding pendingOf
 no-entries row zero z = refl
 no-entries row (suc n) z = absurd (omega arith)
 
-module _ {k : Entry} {C : Counts} {q : List ℤ} {o₀ h₀ a₀ row₀ : List ℕ} {n₀ : ℕ} {c₀ : FlipCount} {o h a row : List ℕ} {n : ℕ} {c : FlipCount}
+module _ {k : Entry} {C : Counts} {q : List ℤ} {o₀ h₀ a₀ row₀ : List ℕ} {n₀ : ℕ} {c₀ : ℕ} {o h a row : List ℕ} {n : ℕ} {c : ℕ}
     (I : LoopAt k C q o₀ h₀ a₀ row₀ n₀ c₀ o h a row n c) where
   abbrev room : ℕ
   room = length row₀
@@ -116,7 +115,7 @@ module _ {k : Entry} {C : Counts} {q : List ℤ} {o₀ h₀ a₀ row₀ : List �
                 mesh = record {
                   rows = good-again (M .rows) o′ h′ a′ (l .outs) (l .halves) (l .faces) refl (on .claim .good);
                   few = M .few;
-                  bound = subst (λ (t : Legalizing). FlipsBound C (t .links) (positionOf q) (t .flips)) state
+                  bound = subst (λ (t : Legalizing). FlipsWithin C (t .links) (positionOf q) (t .flips)) state
                       (turn-bound room k C (positionOf q) s (I .going .claim) goes-on (M .bound));
                   room = let m = M .room in let p = l .pending in omega arith;
                 };

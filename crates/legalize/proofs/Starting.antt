@@ -8,8 +8,6 @@ use lib.IntN.{ℤ}
 use lib.ListN.{length}
 use Rattle.mesh.specs.declared.Counts.{Counts}
 use Rattle.dcel.specs.Rows.{linksOf, positionOf}
-use Rattle.flip_count.specs.declared.FlipCount.{FlipCount}
-use Rattle.flip_count.specs.FlipCount.{flipCountOf}
 use Rattle.pending.specs.Pending.{pendingOf, Holds}
 use Rattle.pending.specs.PendingLaws.{holds, holds-fits}
 use Rattle.legalize.specs.declared.Entry.{Entry}
@@ -22,7 +20,7 @@ pub empty : (row : List ℕ) → Holds row 0 []
 unfolding pendingOf
 empty row = holds row 0 (omega arith)
 
-module _ (k : Entry) {C : Counts} {q : List ℤ} {o h a row : List ℕ} {c : FlipCount} (M : LegalizeReady C q o h a row c)
+module _ (k : Entry) {C : Counts} {q : List ℤ} {o h a row : List ℕ} {c : ℕ} (M : LegalizeReady C q o h a row c)
     {row′ : List ℕ} {n : ℕ} {l : List ℕ} (H : Holds row′ n l) (same : length row′ ≡ length row) (few : length l ≤ 8) (E : EntriesIn C k l) where
   fits : n ≤ length row′
   fits = let m = M .room in holds-fits H (omega arith)
@@ -35,7 +33,7 @@ module _ (k : Entry) {C : Counts} {q : List ℤ} {o h a row : List ℕ} {c : Fli
   }
 
   pub start-leaves : {o′ h′ a′ : List ℕ} {r : Legalized} → Leaves o′ h′ a′ r (legalize (length row′) k C (positionOf q) (stateOf o h a row′ n c))
-      → Leaves o′ h′ a′ r (legalize (length row) k C (positionOf q) (record { links = linksOf o h a; pending = l; flips = flipCountOf c; full = false }))
+      → Leaves o′ h′ a′ r (legalize (length row) k C (positionOf q) (record { links = linksOf o h a; pending = l; flips = c; full = false }))
   start-leaves {o′} {h′} {a′} {r} F =
-      subst (λ (m : List ℕ). Leaves o′ h′ a′ r (legalize (length row) k C (positionOf q) (record { links = linksOf o h a; pending = m; flips = flipCountOf c; full = false }))) (H .fits fits)
+      subst (λ (m : List ℕ). Leaves o′ h′ a′ r (legalize (length row) k C (positionOf q) (record { links = linksOf o h a; pending = m; flips = c; full = false }))) (H .fits fits)
       (subst (λ (m : ℕ). Leaves o′ h′ a′ r (legalize m k C (positionOf q) (stateOf o h a row′ n c))) same F)

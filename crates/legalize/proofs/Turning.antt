@@ -7,15 +7,13 @@ use native.Mathlib.Numerals.{add-one}
 use native.Mathlib.Omega.{arith}
 use lib.IntN.{ℤ}
 use lib.ListN.{length, getD}
+use Rattle.conflicts.specs.FlipsWithin.{within-room}
 use Rattle.mesh.specs.declared.Counts.{Counts}
 use Rattle.mesh.specs.Circle.{breaksCircle}
-use Rattle.mesh.specs.HeightBound.{flips-fit}
 use Rattle.mesh.specs.Operations.{flipCw}
 use Rattle.dcel.specs.Rows.{linksOf, positionOf}
 use Rattle.dcel_operations.specs.Flip.{FlipReady}
 use Rattle.dcel_operations.specs.Ready.{flip-ready}
-use Rattle.flip_count.specs.declared.FlipCount.{FlipCount}
-use Rattle.flip_count.specs.FlipCount.{flipCountOf}
 use Rattle.circle_test.specs.GoodRows.{held, circle-ready}
 use Rattle.pending.specs.Pending.{pendingOf, Holds}
 use Rattle.pending.specs.PendingLaws.{pending-length, pending-last, holds-length, holds-fits}
@@ -25,7 +23,7 @@ use Rattle.legalize.specs.Legalize.{Legalizing, entryEdge, pushed, turn}
 use Rattle.legalize.specs.Turns.{EntriesIn, turn-kept, turn-flipped, turn-refused}
 use Rattle.legalize.specs.LegalizeRows.{PopReady, Pops, TurnReady, stateOf, TurnLeaves}
 
-module _ {k : Entry} {C : Counts} {q : List ℤ} {o h a row : List ℕ} {n : ℕ} {flips : FlipCount} (R : TurnReady k C q o h a row n flips) (z : 0 < n) where
+module _ {k : Entry} {C : Counts} {q : List ℤ} {o h a row : List ℕ} {n : ℕ} {flips : ℕ} (R : TurnReady k C q o h a row n flips) (z : 0 < n) where
   -- the last entry, and the rest
   abbrev x : ℕ
   x = getD row (n - 1) 0
@@ -45,8 +43,8 @@ module _ {k : Entry} {C : Counts} {q : List ℤ} {o h a row : List ℕ} {n : ℕ
   pub pop-ready : PopReady k q h row n
   pop-ready = record { some = z; fits = R .fits; circle = circle-ready (R .mesh .rows) in-use }
 
-  pub count-fits : flipCountOf flips + 1 < 2 ^ 128
-  count-fits = flips-fit (R .mesh .bound) (R .mesh .few)
+  pub count-fits : flips + 1 < 2 ^ 64
+  count-fits = within-room (R .mesh .bound) (R .mesh .rows .good .wf) (R .mesh .few)
 
   module _ {row′ : List ℕ} {r : Popped} (P : Pops k q h row n row′ r) (same : length row′ ≡ length row) where
     tested : {b : Bool} → r .flip ≡ b → breaksCircle (s .links) (positionOf q) (entryEdge k x) ≡ b
@@ -75,16 +73,15 @@ module _ {k : Entry} {C : Counts} {q : List ℤ} {o h a row : List ℕ} {n : ℕ
     pub turn-flip-ready : r .flip ≡ true → FlipReady o h a (r .edge)
     turn-flip-ready e = rw (P .edge) (flip-ready (held (R .mesh .rows)) in-use)
 
-    pub turn-flips : r .flip ≡ true → r .length ≤ length row′ → {o′ h′ a′ : List ℕ} {more : FlipCount} → linksOf o′ h′ a′ ≡ flipCw (linksOf o h a) (r .edge)
-        → flipCountOf more ≡ flipCountOf flips + 1
-        → TurnLeaves o′ h′ a′ row′ (record { length = r .length; flips = more; full = false }) (turn (length row) k (positionOf q) s)
-    turn-flips e f links count =
+    pub turn-flips : r .flip ≡ true → r .length ≤ length row′ → {o′ h′ a′ : List ℕ} → linksOf o′ h′ a′ ≡ flipCw (linksOf o h a) (r .edge)
+        → TurnLeaves o′ h′ a′ row′ (record { length = r .length; flips = flips + 1; full = false }) (turn (length row) k (positionOf q) s)
+    turn-flips e f links =
         let H = pushes e in
         let m = holds-length H f in
         rw (turn-flipped (length row) k (positionOf q) s last (tested e) (omega arith))
         (record {
           links = links ∙ ap (flipCw (linksOf o h a)) (P .edge);
-          flips = count ∙ add-one (flipCountOf flips);
+          flips = add-one flips;
           full = refl;
           fits = λ _. f;
           pending = λ _. H .fits f;

@@ -11,6 +11,7 @@ use native.Mathlib.Omega.{arith}
 use lib.IntN.{natAbs}
 use lib.ListN.{length}
 use Rattle.math.specs.declared.Point.{Point}
+use Rattle.conflicts.specs.FlipsWithin.{FlipsWithin, within-run}
 use Rattle.mesh.specs.declared.Counts.{Counts}
 use Rattle.mesh.specs.Mesh.{Links}
 use Rattle.mesh.specs.Frame.{SameBoundary}
@@ -19,7 +20,6 @@ use Rattle.mesh.specs.Circle.{breaksCircle}
 use Rattle.mesh.specs.CircleLaws.{breaks, breaks-good, breaks-falls}
 use Rattle.mesh.specs.FlipRun.{FlipRun, none, run-one, run-join, run-good, run-boundary, run-area, run-falls}
 use Rattle.mesh.specs.Good.{Good}
-use Rattle.mesh.specs.HeightBound.{FlipsBound, flips-more}
 use Rattle.sums.specs.Until.{until, Falls, until-ends, until-keeps, until-ind, until-fuel}
 use Rattle.legalize.specs.declared.Entry.{Entry}
 use Rattle.legalize.specs.Legalize.{Legalizing, entryEdge, pushed, turn, isDone, measure, legalize}
@@ -79,14 +79,14 @@ module _ (room : ℕ) (k : Entry) (C : Counts) (p : ℕ → Point) where
   pub falls : Falls isDone (turn room k p) (Ongoing room k C p) (measure C p)
   falls = record { keeps = keeps; less = less }
 
-  -- flips made and height left stay within their bound
-  pub turn-bound : (s : Legalizing) → Ongoing room k C p s → isDone s ≡ false → FlipsBound C (s .links) p (s .flips)
-      → FlipsBound C (turn room k p s .links) p (turn room k p s .flips)
+  -- flips made and vertices inside circles stay within their bound
+  pub turn-bound : (s : Legalizing) → Ongoing room k C p s → isDone s ≡ false → FlipsWithin C (s .links) p (s .flips)
+      → FlipsWithin C (turn room k p s .links) p (turn room k p s .flips)
   turn-bound s O e B = going-on s e (λ x l q f.
       let h = subst (EntriesIn C k) q (O .entries) in
-      turn-cases room k p s q (λ t. FlipsBound C (t .links) p (t .flips))
+      turn-cases room k p s q (λ t. FlipsWithin C (t .links) p (t .flips))
       (λ b. B)
-      (λ b. rw (← add-one (s .flips)) (flips-more 1 B (let d = breaks-falls (O .good) (h .0) (breaks (s .links) p (entryEdge k x) b) in omega arith)))
+      (λ b. rw (← add-one (s .flips)) (within-run (O .good) B (run-one (h .0) b)))
       (λ b m. B))
 
   -- a turn put before what follows
@@ -147,5 +147,5 @@ module _ {room : ℕ} {k : Entry} {C : Counts} {p : ℕ → Point} {s r : Legali
   outcome-falls = run-falls G (o .run)
 
   -- and the count stays within its bound
-  pub outcome-bound : FlipsBound C (s .links) p (s .flips) → FlipsBound C (r .links) p (r .flips)
-  outcome-bound B = rw (o .flips) (flips-more (o .made) B outcome-falls)
+  pub outcome-bound : FlipsWithin C (s .links) p (s .flips) → FlipsWithin C (r .links) p (r .flips)
+  outcome-bound B = rw (o .flips) (within-run G B (o .run))

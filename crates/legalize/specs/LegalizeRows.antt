@@ -5,12 +5,10 @@ use mathlib.Core.Path.{_≡_}
 use Prim.Native.Nat.{ℕ, _+_, _-_, _*_, _^_, _<_, _≤_}
 use lib.IntN.{ℤ}
 use lib.ListN.{length, getD}
+use Rattle.conflicts.specs.FlipsWithin.{FlipsWithin}
 use Rattle.mesh.specs.declared.Counts.{Counts}
 use Rattle.mesh.specs.Circle.{breaksCircle}
-use Rattle.mesh.specs.HeightBound.{FlipsBound}
 use Rattle.dcel.specs.Rows.{linksOf, positionOf, There}
-use Rattle.flip_count.specs.declared.FlipCount.{FlipCount}
-use Rattle.flip_count.specs.FlipCount.{flipCountOf}
 use Rattle.circle_test.specs.GoodRows.{GoodRows, CircleReady}
 use Rattle.pending.specs.Pending.{pendingOf, Holds}
 use Rattle.legalize.specs.declared.Entry.{Entry}
@@ -46,27 +44,27 @@ pub record Pops (k : Entry) (q : List ℤ) (h row : List ℕ) (n : ℕ) (row′ 
 
 -- ---- the loop
 -- a good mesh with a count of flips that can go on
-pub record LegalizeReady (C : Counts) (q : List ℤ) (o h a row : List ℕ) (flips : FlipCount) : Type 0 where
+pub record LegalizeReady (C : Counts) (q : List ℤ) (o h a row : List ℕ) (flips : ℕ) : Type 0 where
   pub rows : GoodRows C q o h a
   pub few : C .faces ≤ 2 ^ 25
-  pub bound : FlipsBound C (linksOf o h a) (positionOf q) (flipCountOf flips)
+  pub bound : FlipsWithin C (linksOf o h a) (positionOf q) flips
   -- 01: "at least 8 pending entries"
   pub room : 8 ≤ length row
 
 -- and the entries that are pending
-pub record TurnReady (k : Entry) (C : Counts) (q : List ℤ) (o h a row : List ℕ) (n : ℕ) (flips : FlipCount) : Type 0 where
+pub record TurnReady (k : Entry) (C : Counts) (q : List ℤ) (o h a row : List ℕ) (n : ℕ) (flips : ℕ) : Type 0 where
   pub mesh : LegalizeReady C q o h a row flips
   pub fits : n ≤ length row
   pub entries : EntriesIn C k (pendingOf row n)
 
 -- the state that the rows, the list's length and the count hold
-abbrev pub stateOf : List ℕ → List ℕ → List ℕ → List ℕ → ℕ → FlipCount → Legalizing
-stateOf o h a row n flips = record { links = linksOf o h a; pending = pendingOf row n; flips = flipCountOf flips; full = false }
+abbrev pub stateOf : List ℕ → List ℕ → List ℕ → List ℕ → ℕ → ℕ → Legalizing
+stateOf o h a row n flips = record { links = linksOf o h a; pending = pendingOf row n; flips = flips; full = false }
 
 -- what a turn leaves; after a refusal the pending row is not read again
 pub record TurnLeaves (o h a row : List ℕ) (r : Turned) (s : Legalizing) : Type 0 where
   pub links : linksOf o h a ≡ s .links
-  pub flips : flipCountOf (r .flips) ≡ s .flips
+  pub flips : r .flips ≡ s .flips
   pub full : r .full ≡ s .full
   pub fits : r .full ≡ false → r .length ≤ length row
   pub pending : r .full ≡ false → pendingOf row (r .length) ≡ s .pending
@@ -74,5 +72,5 @@ pub record TurnLeaves (o h a row : List ℕ) (r : Turned) (s : Legalizing) : Typ
 -- what a call leaves
 pub record Leaves (o h a : List ℕ) (r : Legalized) (s : Legalizing) : Type 0 where
   pub links : linksOf o h a ≡ s .links
-  pub flips : flipCountOf (r .flips) ≡ s .flips
+  pub flips : r .flips ≡ s .flips
   pub full : r .full ≡ s .full

@@ -7,13 +7,11 @@ use Prim.Native.Nat.{ℕ}
 use native.Mathlib.Omega.{arith}
 use lib.IntN.{ℤ}
 use lib.ListN.{length}
+use Rattle.conflicts.specs.FlipsWithin.{FlipsWithin}
 use Rattle.mesh.specs.declared.Counts.{Counts}
 use Rattle.mesh.specs.Mesh.{Links}
-use Rattle.mesh.specs.HeightBound.{FlipsBound}
 use Rattle.dcel.specs.Rows.{linksOf, positionOf}
 use Rattle.circle_test.specs.GoodRows.{good-again}
-use Rattle.flip_count.specs.declared.FlipCount.{FlipCount}
-use Rattle.flip_count.specs.FlipCount.{flipCountOf}
 use Rattle.legalize.specs.declared.Entry.{Entry}
 use Rattle.legalize.specs.declared.Legalized.{Legalized}
 use Rattle.legalize.specs.Legalize.{Legalizing, legalize}
@@ -21,10 +19,10 @@ use Rattle.legalize.specs.Turns.{EntriesIn}
 use Rattle.legalize.specs.LegalizeLaws.{Outcome, legalize-start, legalize-outcome, outcome-good, outcome-bound}
 use Rattle.legalize.specs.LegalizeRows.{LegalizeReady, Leaves}
 
-module _ (k : Entry) {C : Counts} {q : List ℤ} {o h a row : List ℕ} {c : FlipCount}
+module _ (k : Entry) {C : Counts} {q : List ℤ} {o h a row : List ℕ} {c : ℕ}
     (M : LegalizeReady C q o h a row c) (l : List ℕ) (E : EntriesIn C k l) where
   abbrev s : Legalizing
-  s = record { links = linksOf o h a; pending = l; flips = flipCountOf c; full = false }
+  s = record { links = linksOf o h a; pending = l; flips = c; full = false }
 
   -- the flips that were made, and how it ended; `outcome-..` in `LegalizeLaws` say the rest
   pub legalized : Outcome (length row) k C (positionOf q) s (legalize (length row) k C (positionOf q) s)
@@ -36,7 +34,7 @@ module _ (k : Entry) {C : Counts} {q : List ℤ} {o h a row : List ℕ} {c : Fli
   ready-again {o′} {h′} {a′} {row′} {r} F x y z w = record {
     rows = good-again (M .rows) o′ h′ a′ x y z (F .links) (outcome-good (M .rows .good) legalized);
     few = M .few;
-    bound = subst⁻¹ (λ (L : Links). FlipsBound C L (positionOf q) (flipCountOf (r .flips))) (F .links)
-        (subst⁻¹ (FlipsBound C (legalize (length row) k C (positionOf q) s .links) (positionOf q)) (F .flips) (outcome-bound (M .rows .good) legalized (M .bound)));
+    bound = subst⁻¹ (λ (L : Links). FlipsWithin C L (positionOf q) (r .flips)) (F .links)
+        (subst⁻¹ (FlipsWithin C (legalize (length row) k C (positionOf q) s .links) (positionOf q)) (F .flips) (outcome-bound (M .rows .good) legalized (M .bound)));
     room = let m = M .room in omega arith;
   }

@@ -9,11 +9,9 @@ ghost use lib.ListN.{length};
 ghost use Rattle.mesh.specs.Mesh.{In};
 ghost use Rattle.dcel.specs.Rows.{linksOf, positionOf, There};
 ghost use Rattle.sums.specs.Half.{rev};
-ghost use Rattle.flip_count.specs.FlipCount.{flipCountOf};
 ghost use Rattle.legalize.specs.Legalize.{entryEdge, turn, legalize, legalizeEdge, legalizeEdgesAfterRemoval};
 ghost use Rattle.legalize.specs.LegalizeRows.{PushReady, Pushes, PopReady, Pops, LegalizeReady, TurnReady, stateOf, TurnLeaves, Leaves};
 ghost use Rattle.legalize.specs.declared.Entry.the-variants.{HalfEdge, Edge};
-use flip_count::FlipCount;
 use mesh::Counts;
 
 // What an entry of the pending list is: a half-edge in `legalize_edge`, an edge in `legalize_edges_after_removal`.
@@ -24,7 +22,7 @@ pub enum Entry {
 
 // The flips so far, those before the call among them, and whether the pushes of a flip would have overfilled the pending list.
 pub struct Legalized {
-    pub flips: FlipCount,
+    pub flips: u64,
     pub full: bool,
 }
 
@@ -38,7 +36,7 @@ pub struct Popped {
 // What a turn leaves of the pending list and of the count.
 pub struct Turned {
     pub length: usize,
-    pub flips: FlipCount,
+    pub flips: u64,
     pub full: bool,
 }
 
@@ -117,7 +115,7 @@ fn turn(
     pending: &mut [u32],
     counts: Counts,
     n: usize,
-    flips: FlipCount,
+    flips: u64,
     entry: Entry,
 ) -> Turned
     requires { ⌜ TurnReady entry counts (now positions) (now outs) (now halves) (now faces) (now pending) n flips × (0 < n) ⌝ }
@@ -141,7 +139,7 @@ fn turn(
         };
     }
     dcel_operations::flip_cw(outs, halves, faces, popped.edge);
-    let more = flips.increment();
+    let more = flips + 1;
     Turned {
         length: popped.length,
         flips: more,
@@ -158,7 +156,7 @@ fn legalize_pending(
     pending: &mut [u32],
     counts: Counts,
     n: usize,
-    flips: FlipCount,
+    flips: u64,
     entry: Entry,
 ) -> Legalized
     requires { ⌜ TurnReady entry counts (now positions) (now outs) (now halves) (now faces) (now pending) n flips ⌝ }
@@ -180,15 +178,14 @@ fn legalize_pending(
             made,
             entry,
         );
-        let after = t.flips;
         if t.full {
             return Legalized {
-                flips: after,
+                flips: t.flips,
                 full: true,
             };
         }
         left = t.length;
-        made = after;
+        made = t.flips;
     }
     Legalized {
         flips: made,
@@ -205,12 +202,12 @@ pub fn legalize_edge(
     pending: &mut [u32],
     counts: Counts,
     e: u32,
-    flips: FlipCount,
+    flips: u64,
 ) -> Legalized
     requires { ⌜ LegalizeReady counts (now positions) (now outs) (now halves) (now faces) (now pending) flips × In counts e ⌝ }
     ensures { λ r. ⌜ Leaves (now (outs .exit)) (now (halves .exit)) (now (faces .exit)) r
         (legalizeEdge (length (now (pending .entry))) counts (positionOf (now (positions .entry)))
-        (linksOf (now (outs .entry)) (now (halves .entry)) (now (faces .entry))) (flipCountOf flips) e) ⌝ }
+        (linksOf (now (outs .entry)) (now (halves .entry)) (now (faces .entry))) flips e) ⌝ }
 {
     let n = pending::push(pending, 0, e);
     legalize_pending(
@@ -236,14 +233,14 @@ pub fn legalize_edges_after_removal(
     counts: Counts,
     first: u32,
     second: u32,
-    flips: FlipCount,
+    flips: u64,
 ) -> Legalized
     requires { ⌜ LegalizeReady counts (now positions) (now outs) (now halves) (now faces) (now pending) flips
         × (first < counts .edges)
         × (second < counts .edges) ⌝ }
     ensures { λ r. ⌜ Leaves (now (outs .exit)) (now (halves .exit)) (now (faces .exit)) r
         (legalizeEdgesAfterRemoval (length (now (pending .entry))) counts (positionOf (now (positions .entry)))
-        (linksOf (now (outs .entry)) (now (halves .entry)) (now (faces .entry))) (flipCountOf flips) first second) ⌝ }
+        (linksOf (now (outs .entry)) (now (halves .entry)) (now (faces .entry))) flips first second) ⌝ }
 {
     let n = pending::push(pending, 0, first);
     let m = pending::push(pending, n, second);

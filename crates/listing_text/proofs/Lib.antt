@@ -2,5 +2,5 @@ pub mod Pieces
 pub mod Numbers
 pub mod Fields
 pub mod Lines
-pub mod Division
+pub mod Digits
 pub mod Signs

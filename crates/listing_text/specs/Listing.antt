@@ -2,7 +2,6 @@
 -- A line is a letter, fields and byte 10; a field is a blank, byte 32, and the digits of a number.
 use mathlib.Core.List.{List, [], _∷_, _++_}
 use Prim.Native.Nat.{ℕ}
-use Rattle.flip_count.specs.FlipCount.{flipCountOf}
 use Rattle.listing_text.specs.Decimal.{decimal, signedDecimal}
 use Rattle.listing_text.specs.declared.writing.PointLine.{PointLine}
 use Rattle.listing_text.specs.declared.writing.TotalsLine.{TotalsLine}
@@ -17,7 +16,7 @@ pointLine p =
     ++ field (p .fate)
     ++ field (p .vertex)
     ++ field (p .faces)
-    ++ field (flipCountOf (p .flips))
+    ++ field (p .flips)
     ++ (10 ∷ [])
 
 -- `t vertices edges innerfaces doubledarea finishfaces convexflips closingflips`; `t` is byte 116
@@ -28,8 +27,8 @@ totalsLine t =
     ++ field (t .«inner_faces»)
     ++ (32 ∷ []) ++ signedDecimal (t .«doubled_area»)
     ++ field (t .«finish_faces»)
-    ++ field (flipCountOf (t .«convex_flips»))
-    ++ field (flipCountOf (t .«closing_flips»))
+    ++ field (t .«convex_flips»)
+    ++ field (t .«closing_flips»)
     ++ (10 ∷ [])
 
 -- `r number place`; `r` is byte 114

@@ -2,13 +2,9 @@
 // Bytes that do not fit are left out, and a place past the row's end says so.
 ghost use mathlib.Core.List.{[], _∷_};
 ghost use mathlib.Core.Path.{_≡_};
-ghost use Prim.Native.Nat.{_+_, _*_, _/_, _%_, _^_};
-ghost use lib.Dec.{eqb};
 ghost use lib.IntN.{natAbs};
-ghost use Rattle.flip_count.specs.FlipCount.{flipCountOf};
 ghost use Rattle.listing_text.specs.Decimal.{decimal, signedDecimal, Appended};
 ghost use Rattle.listing_text.specs.Listing.{field, pointLine, totalsLine, refusalLine};
-use flip_count::FlipCount;
 
 // What became of a point.
 pub struct PointLine {
@@ -16,7 +12,7 @@ pub struct PointLine {
     pub fate: u64,
     pub vertex: u64,
     pub faces: u64,
-    pub flips: FlipCount,
+    pub flips: u64,
 }
 
 // What a run ends with.
@@ -26,15 +22,8 @@ pub struct TotalsLine {
     pub inner_faces: u64,
     pub doubled_area: i64,
     pub finish_faces: u64,
-    pub convex_flips: FlipCount,
-    pub closing_flips: FlipCount,
-}
-
-// The tenth of a number of 128 bits, and its last digit as a byte.
-struct Tenth {
-    high: u64,
-    low: u64,
-    digit: u8,
+    pub convex_flips: u64,
+    pub closing_flips: u64,
 }
 
 // One byte.
@@ -64,42 +53,16 @@ pub fn put_bytes(row: &mut [u8], at: usize, bytes: &[u8]) -> usize
     place
 }
 
-// By long division, 32 bits at a time.
-fn divide_by_ten(high: u64, low: u64) -> Tenth
-    ensures { λ r. ⌜ r .high * 2 ^ 64 + r .low ≡ (high * 2 ^ 64 + low) / 10 ⌝ }
-    ensures { λ r. ⌜ r .digit ≡ 48 + (high * 2 ^ 64 + low) % 10 ⌝ }
-{
-    let middle = high % 10 * 4294967296 + low / 4294967296;
-    let last = middle % 10 * 4294967296 + low % 4294967296;
-    Tenth {
-        high: high / 10,
-        low: middle / 10 * 4294967296 + last / 10,
-        digit: (last % 10) as u8 + 48,
-    }
-}
-
-fn is_zero(high: u64, low: u64) -> bool
-    ensures { λ r. ⌜ r ≡ eqb (high * 2 ^ 64 + low) 0 ⌝ }
-{
-    if high == 0 { low == 0 } else { false }
-}
-
-// The digits of high * 2^64 + low.
-pub fn put_wide(row: &mut [u8], at: usize, high: u64, low: u64) -> usize
-    ensures { λ r. ⌜ Appended (now (row .entry)) at (decimal (high * 2 ^ 64 + low)) (now (row .exit)) r ⌝ }
-{
-    let d = divide_by_ten(high, low);
-    if is_zero(d.high, d.low) {
-        return put(row, at, d.digit);
-    }
-    let place = put_wide(row, at, d.high, d.low);
-    put(row, place, d.digit)
-}
-
+// The digits of a number.
 pub fn put_number(row: &mut [u8], at: usize, n: u64) -> usize
     ensures { λ r. ⌜ Appended (now (row .entry)) at (decimal n) (now (row .exit)) r ⌝ }
 {
-    put_wide(row, at, 0, n)
+    let digit = (n % 10) as u8 + 48;
+    if n < 10 {
+        return put(row, at, digit);
+    }
+    let place = put_number(row, at, n / 10);
+    put(row, place, digit)
 }
 
 // It fits for every n, the least too.
@@ -130,13 +93,6 @@ fn put_field(row: &mut [u8], at: usize, n: u64) -> usize
     put_number(row, place, n)
 }
 
-fn put_flips(row: &mut [u8], at: usize, flips: FlipCount) -> usize
-    ensures { λ r. ⌜ Appended (now (row .entry)) at (field (flipCountOf flips)) (now (row .exit)) r ⌝ }
-{
-    let place = put(row, at, b' ');
-    put_wide(row, place, flips.high, flips.low)
-}
-
 // `p index fate vertex faces flips`
 pub fn put_point(row: &mut [u8], at: usize, line: PointLine) -> usize
     ensures { λ r. ⌜ Appended (now (row .entry)) at (pointLine line) (now (row .exit)) r ⌝ }
@@ -146,8 +102,7 @@ pub fn put_point(row: &mut [u8], at: usize, line: PointLine) -> usize
     place = put_field(row, place, line.fate);
     place = put_field(row, place, line.vertex);
     place = put_field(row, place, line.faces);
-    let flips = line.flips;
-    place = put_flips(row, place, flips);
+    place = put_field(row, place, line.flips);
     put(row, place, b'\n')
 }
 
@@ -162,10 +117,8 @@ pub fn put_totals(row: &mut [u8], at: usize, line: TotalsLine) -> usize
     place = put(row, place, b' ');
     place = put_signed(row, place, line.doubled_area);
     place = put_field(row, place, line.finish_faces);
-    let convex = line.convex_flips;
-    place = put_flips(row, place, convex);
-    let closing = line.closing_flips;
-    place = put_flips(row, place, closing);
+    place = put_field(row, place, line.convex_flips);
+    place = put_field(row, place, line.closing_flips);
     put(row, place, b'\n')
 }
 

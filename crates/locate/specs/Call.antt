@@ -1,5 +1,5 @@
 -- The call `locate` row by row, as it is met: a refusal leaves everything as it was, and an accepted call's ring is asked. Assumes nothing.
-use mathlib.Core.Path.{_≡_, refl, sym, _∙_, ap, subst}
+use mathlib.Core.Path.{_≡_, refl, sym, _∙_, ap, ap₂, subst}
 use mathlib.Core.Bool.{Bool, true, false, cond}
 use mathlib.Core.List.{List, []}
 use Prim.Native.Nat.{ℕ, _-_, _*_, _<_, _≤_, _^_}
@@ -7,12 +7,13 @@ use native.Mathlib.Omega.{arith}
 use lib.Dec.{T}
 use lib.Ieee.{Float}
 use lib.IntN.{ℤ}
-use lib.ListN.{length, replicate}
-use Rattle.ring_rows.specs.Rows.{zeroNode}
-use Rattle.ring_rows.specs.declared.Node.{Node}
+use lib.ListN.{length}
+use Rattle.ring_rows.specs.RingRows.{RingRows, ringZeros}
+use Rattle.angle.specs.declared.Point2.{Point2}
 use Rattle.angle.specs.Angle.{validAngle, turns}
-use Rattle.dcel.specs.Rows.{rowOf, linksOf, positionOf}
-use Rattle.hull.specs.Boundary.{ToBuild, AngledBoundary}
+use Rattle.dcel.specs.MeshRows.{MeshRows, linksIn, placesIn}
+use Rattle.dcel.specs.Rows.{rowOf}
+use Rattle.hull.specs.Boundary.{ToBuild}
 use Rattle.hull.specs.Ready.{angled-boundary, to-build, size-is, size-asks}
 use Rattle.mesh.specs.declared.Counts.{Counts}
 use Rattle.mesh_check.specs.declared.Checked.{Checked}
@@ -24,8 +25,8 @@ use Rattle.sums.specs.Bit.{from-true}
 use Rattle.locate.specs.declared.Located.{Located}
 use Rattle.locate.specs.declared.Located.the-variants.{Found}
 use Rattle.locate.specs.declared.Place.{Place}
-use Rattle.locate.specs.Locate.{Outcome, andThen, ringRowsShort, checkStart, checkAngle, placeAt, outcomeOf, locateOf}
-use Rattle.locate.specs.Rows.{BoundaryOf, ToAsk, PlaceOnBoundary, RingCleared}
+use Rattle.locate.specs.Locate.{andThen, ringRowsShort, ringShort, checkStart, checkAngle, placeAt, locatedWith, locateOutcome, locateOf}
+use Rattle.locate.specs.Rows.{BoundaryOf, ToAsk, PlaceOnBoundary}
 use Rattle.locate.specs.Start.{RingRoom, ring-room, then-accepts, accepted-held, accepted-placed, AcceptedStart, start-accepts}
 
 pub angle-accepts : (x : Float) → checkAngle x ≡ Accepted → T (validAngle x)
@@ -37,70 +38,79 @@ angle-accepts x e = from-true (go (validAngle x) e)
     go false e = absurd (let z : _≡_ {A = ℕ} 0 1 = cc in omega arith)
 
 -- what building asks of an accepted start
-module _ {points : List ℤ} {C : Counts} {p : List ℤ} {o h a : List ℕ} {cx cy : Float} (A : AcceptedStart points C p o h a cx cy) where
-  pub accepted-boundary : {start size : ℕ} → start ≡ rowOf a 0 → size ≡ 2 * C .edges - 3 * (C .faces - 1) → BoundaryOf C o h a start size
-  accepted-boundary s z = let M = accepted-held (A .mesh) in record { rules = M .rules; first = s; whole = z ∙ size-is M }
+module _ {points : List ℤ} {C : Counts} {m : MeshRows} {center : Point2} (A : AcceptedStart points C m center)
+    {start size : ℕ} (s : start ≡ rowOf (m .faces) 0) (z : size ≡ 2 * C .edges - 3 * (C .faces - 1)) where
+  pub accepted-boundary : BoundaryOf C (m .outs) (m .halves) (m .faces) start size
+  accepted-boundary = let M = accepted-held (A .mesh) in record { rules = M .rules; first = s; whole = z ∙ size-is M }
 
-  pub accepted-angled : AngledBoundary p h cx cy (rowOf a 0)
-  accepted-angled = angled-boundary (accepted-held (A .mesh)) p (accepted-placed (A .mesh)) cx cy (A .center)
-
-  pub accepted-build : {start size nodes buckets : ℕ} → start ≡ rowOf a 0 → size ≡ 2 * C .edges - 3 * (C .faces - 1) → C .vertices ≤ nodes → 8 ≤ buckets → ToBuild p h cx cy start size nodes buckets
-  accepted-build {start} {size} {nodes} {buckets} s z u v =
+  pub accepted-build : {nodes buckets : ℕ} → C .vertices ≤ nodes → 8 ≤ buckets
+      → ToBuild (m .positions) (m .halves) (center .x) (center .y) start size nodes buckets
+  accepted-build {nodes} {buckets} u v =
       let M = accepted-held (A .mesh) in
-      subst (λ (x : ℕ). ToBuild p h cx cy x size nodes buckets) (sym s)
-      (to-build M p (accepted-placed (A .mesh)) cx cy (z ∙ size-is M) accepted-angled (A .strict) u v)
+      let P = accepted-placed (A .mesh) in
+      let B = angled-boundary M (m .positions) P (center .x) (center .y) (A .center) in
+      subst (λ (x : ℕ). ToBuild (m .positions) (m .halves) (center .x) (center .y) x size nodes buckets) (sym s)
+      (to-build M (m .positions) P (center .x) (center .y) (z ∙ size-is M) B (A .strict) u v)
 
 -- rows 1 to 8 let pass; the ring's rows have these lengths
-module _ (C : Counts) (p : List ℤ) (o h a : List ℕ) (cx cy x : Float) (nodes freed buckets : ℕ) {short : Bool} (s : short ≡ ringRowsShort (C .vertices) nodes freed buckets)
-    (e : andThen (checkStart [] short C p o h a cx cy) (checkAngle x) ≡ Accepted) where
-  pub locate-start : AcceptedStart [] C p o h a cx cy
-  locate-start = start-accepts [] short C p o h a cx cy (then-accepts (checkStart [] short C p o h a cx cy) (checkAngle x) e .0) .0
+module _ (C : Counts) (m : MeshRows) (nodes freed buckets : ℕ) (center : Point2) (x : Float)
+    {short : Bool} (s : short ≡ ringRowsShort (C .vertices) nodes freed buckets)
+    (e : andThen (checkStart [] short C m center) (checkAngle x) ≡ Accepted) where
+  accepted : AcceptedStart [] C m center × (short ≡ false)
+  accepted = start-accepts [] short C m center (then-accepts (checkStart [] short C m center) (checkAngle x) e .0)
+
+  pub locate-start : AcceptedStart [] C m center
+  locate-start = accepted .0
 
   locate-room : RingRoom (C .vertices) nodes freed buckets
-  locate-room = ring-room (C .vertices) nodes freed buckets (sym s ∙ start-accepts [] short C p o h a cx cy (then-accepts (checkStart [] short C p o h a cx cy) (checkAngle x) e .0) .1)
+  locate-room = ring-room (C .vertices) nodes freed buckets (sym s ∙ accepted .1)
 
   pub locate-angle : T (validAngle x)
-  locate-angle = angle-accepts x (then-accepts (checkStart [] short C p o h a cx cy) (checkAngle x) e .1)
+  locate-angle = angle-accepts x (then-accepts (checkStart [] short C m center) (checkAngle x) e .1)
 
   -- what `adjacent`, `convex_hull_size` and `place_at` ask
-  pub locate-face : 0 < length a
+  pub locate-face : 0 < length (m .faces)
   locate-face = let M = accepted-held (locate-start .mesh) in let f = M .rules .some in let g = M .room .faces in omega arith
 
   pub locate-size : (2 * C .edges < 2 ^ 32) × (1 ≤ C .faces) × (3 * (C .faces - 1) ≤ 2 * C .edges)
   locate-size = size-asks (accepted-held (locate-start .mesh))
 
-  pub locate-asks : {start size : ℕ} → start ≡ rowOf a 0 → size ≡ 2 * C .edges - 3 * (C .faces - 1) → ToAsk p h cx cy start size nodes buckets x
+  pub locate-asks : {start size : ℕ} → start ≡ rowOf (m .faces) 0 → size ≡ 2 * C .edges - 3 * (C .faces - 1)
+      → ToAsk (m .positions) (m .halves) (center .x) (center .y) start size nodes buckets x
   locate-asks t z = record {
     counts = C;
-    outs = o;
-    faces = a;
+    outs = m .outs;
+    faces = m .faces;
     boundary = accepted-boundary locate-start t z;
     build = accepted-build locate-start t z (let r = locate-room .nodes-fit in omega arith) (let r = locate-room .sixteen in omega arith);
     angle = locate-angle;
   }
 
-module _ (C : Counts) (p : List ℤ) (o h a : List ℕ) (nodes : List Node) (freed buckets : List ℕ) (cx cy x : Float) {short : Bool}
-    (s : short ≡ ringRowsShort (C .vertices) (length nodes) (length freed) (length buckets)) where
-  pub locate-refused : {r : Refusal} → andThen (checkStart [] short C p o h a cx cy) (checkAngle x) ≡ Refused r
-      → _≡_ {A = Outcome} (record { answer = Located.Refused r; nodes = nodes; freed = freed; buckets = buckets }) (locateOf C p o h a nodes freed buckets cx cy x)
-  unfolding locateOf outcomeOf
-  locate-refused {r} e =
-      ap (λ (c : Checked). outcomeOf c (placeAt C (linksOf o h a) (turnsAbout cx cy (positionOf p)) (turns x)) nodes freed buckets)
-      (sym e ∙ ap (λ (t : Bool). andThen (checkStart [] t C p o h a cx cy) (checkAngle x)) s)
+module _ (C : Counts) (m : MeshRows) (ring : RingRows) (center : Point2) (x : Float) {short : Bool}
+    (s : short ≡ ringShort (C .vertices) ring) where
+  abbrev place : Place
+  place = placeAt C (linksIn m) (turnsAbout (center .x) (center .y) (placesIn m)) (turns x)
+
+  -- c is what the checks answer
+  outcome-is : {c : Checked} → andThen (checkStart [] short C m center) (checkAngle x) ≡ c
+      → locateOutcome c place ring ≡ locateOf C m ring center x
+  unfolding locateOf
+  outcome-is e =
+      ap (λ (c : Checked). locateOutcome c place ring)
+      (sym e ∙ ap (λ (t : Bool). andThen (checkStart [] t C m center) (checkAngle x)) s)
+
+  pub locate-refused : {r : Refusal} → andThen (checkStart [] short C m center) (checkAngle x) ≡ Refused r
+      → locatedWith (Located.Refused r) ring ≡ locateOf C m ring center x
+  unfolding locateOutcome
+  locate-refused e = outcome-is e
 
   -- the rows are cleared as they were left
-  pub locate-found : andThen (checkStart [] short C p o h a cx cy) (checkAngle x) ≡ Accepted → {start size : ℕ} → start ≡ rowOf a 0 → size ≡ 2 * C .edges - 3 * (C .faces - 1)
-      → {r : Place} → PlaceOnBoundary p h cx cy start size x r
-      → {n n′ : List Node} {f f′ b b′ : List ℕ} → RingCleared n n′ f f′ b b′ → length n ≡ length nodes → length f ≡ length freed → length b ≡ length buckets
-      → _≡_ {A = Outcome} (record { answer = Found r; nodes = n′; freed = f′; buckets = b′ }) (locateOf C p o h a nodes freed buckets cx cy x)
-  unfolding locateOf outcomeOf
-  locate-found e t z {r} P {n} {n′} {f} {f′} {b} {b′} K u v w =
-      let q = P C o a (accepted-boundary (locate-start C p o h a cx cy x (length nodes) (length freed) (length buckets) s e) t z) in
-      let i = K .nodes-zero ∙ ap (λ (k : ℕ). replicate k zeroNode) u in
-      let j = K .freed-zero ∙ ap (λ (k : ℕ). replicate k 0) v in
-      let k = K .buckets-zero ∙ ap (λ (k : ℕ). replicate k 0) w in
-      let m : _≡_ {A = Outcome} (record { answer = Found r; nodes = n′; freed = f′; buckets = b′ }) (outcomeOf Accepted (placeAt C (linksOf o h a) (turnsAbout cx cy (positionOf p)) (turns x)) nodes freed buckets) =
-      rw (q, i, j, k) in
-      m
-      ∙ ap (λ (c : Checked). outcomeOf c (placeAt C (linksOf o h a) (turnsAbout cx cy (positionOf p)) (turns x)) nodes freed buckets)
-      (sym e ∙ ap (λ (t : Bool). andThen (checkStart [] t C p o h a cx cy) (checkAngle x)) s)
+  pub locate-found : andThen (checkStart [] short C m center) (checkAngle x) ≡ Accepted
+      → {start size : ℕ} → start ≡ rowOf (m .faces) 0 → size ≡ 2 * C .edges - 3 * (C .faces - 1)
+      → {r : Place} → PlaceOnBoundary (m .positions) (m .halves) (center .x) (center .y) start size x r
+      → {ring′ : RingRows} → ring′ ≡ ringZeros ring → locatedWith (Found r) ring′ ≡ locateOf C m ring center x
+  unfolding locateOutcome
+  locate-found e t z P k =
+      ap₂ (λ (p : Place) (w : RingRows). locatedWith (Found p) w)
+      (P C (m .outs) (m .faces) (accepted-boundary (locate-start C m _ _ _ center x s e) t z)) k
+      ∙ outcome-is e

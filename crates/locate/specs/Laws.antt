@@ -8,10 +8,10 @@ use native.Mathlib.Omega.{arith}
 use lib.Dec.{T}
 use lib.Ieee.{Float, binary64, fits}
 use lib.IntN.{ℤ}
-use lib.ListN.{length}
-use Rattle.ring_rows.specs.declared.Node.{Node}
+use Rattle.ring_rows.specs.RingRows.{RingRows}
+use Rattle.angle.specs.declared.Point2.{Point2}
 use Rattle.angle.specs.Angle.{IsAngle, angleAbout, turns, validAngle}
-use Rattle.dcel.specs.Rows.{linksOf, positionOf}
+use Rattle.dcel.specs.MeshRows.{MeshRows, linksIn, placesIn}
 use Rattle.math.specs.declared.Point.{Point}
 use Rattle.mesh.specs.declared.Counts.{Counts}
 use Rattle.mesh.specs.Mesh.{Links, In, to}
@@ -31,7 +31,7 @@ use Rattle.segment.specs.Segment.{segmentOf, containsAngle}
 use Rattle.segment.specs.Laws.{contains-turns, segment-good, segment-holds}
 use Rattle.locate.specs.declared.Located.the-variants.{Found}
 use Rattle.locate.specs.declared.Place.{Place}
-use Rattle.locate.specs.Locate.{andThen, ringRowsShort, checkStart, checkAngle, placeAt, outcomeOf, locateOf}
+use Rattle.locate.specs.Locate.{andThen, ringShort, checkStart, checkAngle, placeAt, locateOutcome, locateOf}
 use Rattle.locate.specs.Start.{AcceptedStart}
 use Rattle.locate.specs.Call.{locate-start, locate-angle}
 
@@ -59,25 +59,36 @@ strict-apart {C} {L} W α t {d} l o =
     (proper→ _ _ (all-proper (atEnds proper (L .next) (edgeAngle L α)) (L .next) (boundaryLength C L) (L .adjacent 0) (strict-nodes W α t) (r .0) (r .1))) in
     λ z. n (z ∙ sym (edge-end W α l))
 
-module _ {points : List ℤ} {C : Counts} {p : List ℤ} {o h a : List ℕ} {cx cy : Float} (A : AcceptedStart points C p o h a cx cy) (fx : T (fits binary64 cx)) (fy : T (fits binary64 cy)) (x : Float) (v : T (validAngle x)) where
+-- every f64 is a binary64 number
+abbrev pub Fits : Point2 → Type 0
+Fits center = T (fits binary64 (center .x)) × T (fits binary64 (center .y))
+
+module _ {points : List ℤ} {C : Counts} {m : MeshRows} {center : Point2} (A : AcceptedStart points C m center) (fit : Fits center)
+    (x : Float) (v : T (validAngle x)) where
   abbrev L : Links
-  L = linksOf o h a
+  L = linksIn m
 
   abbrev q : ℕ → Point
-  q = positionOf p
+  q = placesIn m
+
+  abbrev cx : Float
+  cx = center .x
+
+  abbrev cy : Float
+  cy = center .y
 
   -- a boundary edge's segment holds x exactly when the arc of its whole numbers does
   segment-arc : {d : ℕ} → In C d → L .face d ≡ 0 → containsAngle (edgeSegment L q cx cy d) x ≡ holds (turns x) (turnsAbout cx cy q (L .origin d)) (turnsAbout cx cy q (to L d))
   unfolding turnsAbout
   segment-arc {d} l f =
       let W = A .mesh .good .wf in
-      let from = boundary-angle W q (λ u m. A .mesh .good .range m) cx cy fx fy (A .center) l f in
+      let from = boundary-angle W q (λ u m. A .mesh .good .range m) cx cy (fit .0) (fit .1) (A .center) l f in
       let end = subst (λ (w : ℕ). IsAngle (angleOfVertex q cx cy w)) (W .links .origin-next l)
-      (boundary-angle W q (λ u m. A .mesh .good .range m) cx cy fx fy (A .center) (W .ranges .next< l) (W .links .face-next l ∙ f)) in
+      (boundary-angle W q (λ u m. A .mesh .good .range m) cx cy (fit .0) (fit .1) (A .center) (W .ranges .next< l) (W .links .face-next l ∙ f)) in
       contains-turns (edgeSegment L q cx cy d) x (segment-good _ _ from end) v
       ∙ segment-holds _ _ (strict-apart W (turnsAbout cx cy q) (A .strict) l f) (turns x)
 
-  pub edge-at-angle : EdgeAtAngle C (linksOf o h a) (positionOf p) cx cy x (located C (linksOf o h a) (turnsAbout cx cy (positionOf p)) (turns x))
+  pub edge-at-angle : EdgeAtAngle C L q cx cy x (located C L (turnsAbout cx cy q) (turns x))
   edge-at-angle =
       let W = A .mesh .good .wf in
       let α = turnsAbout cx cy q in
@@ -90,17 +101,19 @@ module _ {points : List ℤ} {C : Counts} {p : List ℤ} {o h a : List ℕ} {cx 
             located-sole W α t (turns x) l f (subst (λ (b : ℕ). T (holds (turns x) (edgeAngle L α d) b)) (sym (edge-end W α l)) (subst T (segment-arc l f) c));
       }
 
--- AN ACCEPTED CALL; every f64 is a binary64 number
-pub located-edge : (C : Counts) (p : List ℤ) (o h a : List ℕ) (nodes : List Node) (freed buckets : List ℕ) (cx cy x : Float) → T (fits binary64 cx) → T (fits binary64 cy)
-    → {r : Place} → locateOf C p o h a nodes freed buckets cx cy x .answer ≡ Found r → EdgeAtAngle C (linksOf o h a) (positionOf p) cx cy x (r .edge)
-unfolding locateOf outcomeOf placeAt
-located-edge C p o h a nodes freed buckets cx cy x fx fy {r} e =
-    let short = ringRowsShort (C .vertices) (length nodes) (length freed) (length buckets) in
-    let g = go (andThen (checkStart [] short C p o h a cx cy) (checkAngle x)) (placeAt C (linksOf o h a) (turnsAbout cx cy (positionOf p)) (turns x)) e in
-    let A = locate-start C p o h a cx cy x (length nodes) (length freed) (length buckets) refl (g .0) in
-    let v = locate-angle C p o h a cx cy x (length nodes) (length freed) (length buckets) refl (g .0) in
-    subst (EdgeAtAngle C (linksOf o h a) (positionOf p) cx cy x) (ap (λ (s : Place). s .edge) (g .1)) (edge-at-angle A fx fy x v)
+-- AN ACCEPTED CALL
+pub located-edge : (C : Counts) (m : MeshRows) (ring : RingRows) (center : Point2) (x : Float) → Fits center
+    → {r : Place} → locateOf C m ring center x .answer ≡ Found r
+    → EdgeAtAngle C (linksIn m) (placesIn m) (center .x) (center .y) x (r .edge)
+unfolding locateOf locateOutcome placeAt
+located-edge C m ring center x fit {r} e =
+    let short = ringShort (C .vertices) ring in
+    let g = go (andThen (checkStart [] short C m center) (checkAngle x))
+    (placeAt C (linksIn m) (turnsAbout (center .x) (center .y) (placesIn m)) (turns x)) e in
+    let A = locate-start C m _ _ _ center x refl (g .0) in
+    let v = locate-angle C m _ _ _ center x refl (g .0) in
+    subst (EdgeAtAngle C (linksIn m) (placesIn m) (center .x) (center .y) x) (ap (λ (s : Place). s .edge) (g .1)) (edge-at-angle A fit x v)
   where
-    go : (c : Checked) (s : Place) → outcomeOf c s nodes freed buckets .answer ≡ Found r → (c ≡ Accepted) × (s ≡ r)
+    go : (c : Checked) (s : Place) → locateOutcome c s ring .answer ≡ Found r → (c ≡ Accepted) × (s ≡ r)
     go Accepted s e = (refl, cc)
     go (Refused w) s e = absurd (let z : _≡_ {A = ℕ} 0 1 = cc in omega arith)

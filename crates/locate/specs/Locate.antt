@@ -1,16 +1,16 @@
 -- The call `locate` of 01: its refusals, in the order of the table, its answer, and what it leaves in the lent rows of the ring. Definitions only; each computes. `Laws` says what an
--- accepted call's edge is. A centre is two floats, an angle one; links and positions are those of the lent rows.
+-- accepted call's edge is. An angle is a float, a centre two; links and positions are those of the lent rows.
 use mathlib.Core.Bool.{Bool, cond, _||_}
 use mathlib.Core.List.{List, []}
 use Prim.Native.Nat.{ℕ, _+_}
 use lib.Dec.{ltb}
 use lib.Ieee.{Float}
 use lib.IntN.{ℤ}
-use lib.ListN.{length, replicate}
-use Rattle.ring_rows.specs.Rows.{zeroNode}
-use Rattle.ring_rows.specs.declared.Node.{Node}
+use lib.ListN.{length}
+use Rattle.ring_rows.specs.RingRows.{RingRows, ringZeros}
+use Rattle.angle.specs.declared.Point2.{Point2}
 use Rattle.angle.specs.Angle.{turns, validAngle}
-use Rattle.dcel.specs.Rows.{linksOf, positionOf}
+use Rattle.dcel.specs.MeshRows.{MeshRows, linksIn, placesIn}
 use Rattle.math.specs.declared.Point.{Point}
 use Rattle.mesh.specs.declared.Counts.{Counts}
 use Rattle.mesh.specs.Mesh.{Links}
@@ -38,9 +38,9 @@ unfoldable pub checkRing : Counts → Links → (ℕ → Point) → Float → Fl
 checkRing C L p cx cy = cond (refusesCenter C L p cx cy) (refused 6 0) (cond (refusesRing C L p cx cy) (refused 7 0) Accepted)
 
 -- rows 1 to 7 of a call that is given a centre, and points where it has any. short: a row of the call that is not the mesh's, nor that of the points, is too short
-unfoldable pub checkStart : List ℤ → Bool → Counts → List ℤ → List ℕ → List ℕ → List ℕ → Float → Float → Checked
-checkStart points short C positions outs halves faces cx cy =
-    andThen (checkWith points short C positions outs halves faces) (checkRing C (linksOf outs halves faces) (positionOf positions) cx cy)
+unfoldable pub checkStart : List ℤ → Bool → Counts → MeshRows → Point2 → Checked
+checkStart points short C m center =
+    andThen (checkWith points short C m) (checkRing C (linksIn m) (placesIn m) (center .x) (center .y))
 
 -- 8: "the angle is NaN, below 0.0 or above 1.0"; "A given -0.0 counts as 0.0."
 unfoldable pub checkAngle : Float → Checked
@@ -54,25 +54,22 @@ placeAt C L α x = record { edge = located C L α x; passed = passedCount fullTu
 
 -- ---- the call
 -- the answer, and the ring's rows at the end
-pub record Outcome : Type 0 where
+pub record LocateOutcome : Type 0 where
   pub answer : Located
-  pub nodes : List Node
-  pub freed : List ℕ
-  pub buckets : List ℕ
+  pub ring : RingRows
+
+abbrev pub locatedWith : Located → RingRows → LocateOutcome
+locatedWith r ring = record { answer = r; ring = ring }
 
 -- 01: "All but 9 change nothing lent and answer the number and a place"; "after every accepted call the ring, freed, bucket and pending rows hold zeros"
-unfoldable pub outcomeOf : Checked → Place → List Node → List ℕ → List ℕ → Outcome
-outcomeOf (Refused r) place nodes freed buckets = record { answer = Located.Refused r; nodes = nodes; freed = freed; buckets = buckets }
-outcomeOf Accepted place nodes freed buckets = record {
-  answer = Found place;
-  nodes = replicate (length nodes) zeroNode;
-  freed = replicate (length freed) 0;
-  buckets = replicate (length buckets) 0;
-}
+unfoldable pub locateOutcome : Checked → Place → RingRows → LocateOutcome
+locateOutcome (Refused r) place ring = locatedWith (Located.Refused r) ring
+locateOutcome Accepted place ring = locatedWith (Found place) (ringZeros ring)
 
-unfoldable pub locateOf : Counts → List ℤ → List ℕ → List ℕ → List ℕ → List Node → List ℕ → List ℕ → Float → Float → Float → Outcome
-locateOf C positions outs halves faces nodes freed buckets cx cy a =
-    let L = linksOf outs halves faces in
-    let short = ringRowsShort (C .vertices) (length nodes) (length freed) (length buckets) in
-    outcomeOf (andThen (checkStart [] short C positions outs halves faces cx cy) (checkAngle a))
-    (placeAt C L (turnsAbout cx cy (positionOf positions)) (turns a)) nodes freed buckets
+abbrev pub ringShort : ℕ → RingRows → Bool
+ringShort n ring = ringRowsShort n (length (ring .nodes)) (length (ring .freed)) (length (ring .buckets))
+
+unfoldable pub locateOf : Counts → MeshRows → RingRows → Point2 → Float → LocateOutcome
+locateOf C m ring center a =
+    locateOutcome (andThen (checkStart [] (ringShort (C .vertices) ring) C m center) (checkAngle a))
+    (placeAt C (linksIn m) (turnsAbout (center .x) (center .y) (placesIn m)) (turns a)) ring

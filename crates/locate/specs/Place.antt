@@ -20,7 +20,7 @@ use Rattle.ring.specs.Center.{turnsAbout}
 use Rattle.ring_rows.specs.declared.Node.{Node}
 use Rattle.ring_rows.specs.declared.Found.{Found}
 use Rattle.ring_rows.specs.declared.Hull.{Hull}
-use Rattle.ring_rows.specs.Rows.{nodesOf, sizeOf, RingRows, Got}
+use Rattle.ring_rows.specs.Rows.{nodesOf, sizeOf, RingHeld, Got}
 use Rattle.segment.specs.Bucket.{floorOf, width}
 use Rattle.segment.specs.Laws.{bucket-pos}
 use Rattle.locate.specs.Locate.{placeAt}
@@ -43,5 +43,5 @@ module _ {p : List ℤ} {h : List ℕ} {cx cy : Float} {start size n b : ℕ} (B
 
 -- what `get` asks
 pub asked-rows : {p : List ℤ} {h : List ℕ} {cx cy : Float} {start size n b : ℕ} {x : Float} → ToAsk p h cx cy start size n b x → {nodes : List Node} {buckets : List ℕ} {r : Hull}
-    → FromBoundary p h cx cy start size nodes buckets r → length nodes ≡ n → length buckets ≡ b → RingRows nodes buckets r × T (validAngle x)
+    → FromBoundary p h cx cy start size nodes buckets r → length nodes ≡ n → length buckets ≡ b → RingHeld nodes buckets r × T (validAngle x)
 asked-rows A F u v = (held-rows (asked-held (A .build) F u v (A .outs) (A .faces) (A .boundary)), A .angle)

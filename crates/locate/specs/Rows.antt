@@ -7,9 +7,6 @@ use Prim.Native.Nat.{ℕ, _<_}
 use lib.Ieee.{Float}
 use lib.IntN.{ℤ}
 use lib.Dec.{T}
-use lib.ListN.{length, replicate}
-use Rattle.ring_rows.specs.Rows.{zeroNode}
-use Rattle.ring_rows.specs.declared.Node.{Node}
 use Rattle.angle.specs.Angle.{validCenter, validAngle, turns}
 use Rattle.dcel.specs.Rows.{rowOf, linksOf, positionOf}
 use Rattle.hull.specs.Boundary.{BoundaryRows, ToBuild, edgeAt, anglesOf, originAtCenter}
@@ -58,9 +55,3 @@ pub record ToAsk (p : List ℤ) (h : List ℕ) (cx cy : Float) (start size nodes
 abbrev pub PlaceOnBoundary : List ℤ → List ℕ → Float → Float → ℕ → ℕ → Float → Place → Type 0
 PlaceOnBoundary p h cx cy start size x r =
     (C : Counts) (o a : List ℕ) → BoundaryOf C o h a start size → r ≡ placeAt C (linksOf o h a) (turnsAbout cx cy (positionOf p)) (turns x)
-
--- the ring's rows, all zeros
-pub record RingCleared (nodes nodes′ : List Node) (freed freed′ buckets buckets′ : List ℕ) : Type 0 where
-  pub nodes-zero : nodes′ ≡ replicate (length nodes) zeroNode
-  pub freed-zero : freed′ ≡ replicate (length freed) 0
-  pub buckets-zero : buckets′ ≡ replicate (length buckets) 0

@@ -10,7 +10,9 @@ use lib.Ieee.{Float}
 use lib.IntN.{ℤ}
 use lib.ListN.{length}
 use borrow.Author.Tests.{ltb-false}
+use Rattle.angle.specs.declared.Point2.{Point2}
 use Rattle.dcel.specs.MeshHeld.{MeshHeld}
+use Rattle.dcel.specs.MeshRows.{MeshRows, linksIn, placesIn}
 use Rattle.dcel.specs.Rows.{rowOf, linksOf, positionOf}
 use Rattle.hull.specs.Boundary.{edgeAt}
 use Rattle.hull.specs.Ready.{boundary-rows, boundary-closed, strict-test, center-test, size-is, size-asks}
@@ -70,9 +72,9 @@ ring-room n nodes freed buckets e =
 
 -- ---- rows 6 and 7
 -- the rows of an accepted mesh hold it
-pub accepted-held : {points : List ℤ} {C : Counts} {p : List ℤ} {o h a : List ℕ} → AcceptedWith points C p o h a → MeshHeld C o h a
+pub accepted-held : {points : List ℤ} {C : Counts} {m : MeshRows} → AcceptedWith points C m → MeshHeld C (m .outs) (m .halves) (m .faces)
 unfolding vertexCount
-accepted-held {points} {C} {p} {o} {h} {a} A =
+accepted-held {points} {C} {m} A =
     let W = A .good .wf in
     record {
       room = record {
@@ -84,7 +86,7 @@ accepted-held {points} {C} {p} {o} {h} {a} A =
       rules = W;
     }
 
-pub accepted-placed : {points : List ℤ} {C : Counts} {p : List ℤ} {o h a : List ℕ} → AcceptedWith points C p o h a → 2 * C .vertices ≤ length p
+pub accepted-placed : {points : List ℤ} {C : Counts} {m : MeshRows} → AcceptedWith points C m → 2 * C .vertices ≤ length (m .positions)
 unfolding vertexCount
 accepted-placed A = let r = A .rows .positions in omega arith
 
@@ -114,51 +116,55 @@ module _ (C : Counts) (L : Links) (p : ℕ → Point) (cx cy : Float) where
       go false false e = (refl, refl)
 
 -- a good mesh, long rows, and a strict ring about a centre that no boundary vertex equals
-pub record AcceptedStart (points : List ℤ) (C : Counts) (p : List ℤ) (o h a : List ℕ) (cx cy : Float) : Type 0 where
-  pub mesh : AcceptedWith points C p o h a
-  pub center : T (not (refusesCenter C (linksOf o h a) (positionOf p) cx cy))
-  pub strict : T (isStrictRing C (linksOf o h a) (turnsAbout cx cy (positionOf p)))
+pub record AcceptedStart (points : List ℤ) (C : Counts) (m : MeshRows) (about : Point2) : Type 0 where
+  pub mesh : AcceptedWith points C m
+  pub center : T (not (refusesCenter C (linksIn m) (placesIn m) (about .x) (about .y)))
+  pub strict : T (isStrictRing C (linksIn m) (turnsAbout (about .x) (about .y) (placesIn m)))
 
-pub start-accepts : (points : List ℤ) (short : Bool) (C : Counts) (p : List ℤ) (o h a : List ℕ) (cx cy : Float) → checkStart points short C p o h a cx cy ≡ Accepted → AcceptedStart points C p o h a cx cy × (short ≡ false)
-unfolding checkStart refusesRing
-start-accepts points short C p o h a cx cy e =
-    let t = then-accepts (checkWith points short C p o h a) (checkRing C (linksOf o h a) (positionOf p) cx cy) e in
-    let m = with-accepts {points = points} {short = short} {C = C} {p = p} {o = o} {h = h} {a = a} (t .0) in
-    let r = ring-accepts C (linksOf o h a) (positionOf p) cx cy (t .1) in
-    let S = isStrictRing C (linksOf o h a) (turnsAbout cx cy (positionOf p)) in
-    (record { mesh = m .0; center = from-false (r .0); strict = sure S (T-not (not S) (from-false (r .1))) }, m .1)
+module _ (points : List ℤ) (short : Bool) (C : Counts) (m : MeshRows) (center : Point2) where
+  abbrev ring : Checked
+  ring = checkRing C (linksIn m) (placesIn m) (center .x) (center .y)
 
--- a refusal has one of the numbers 1 to 7
-pub start-numbered : (points : List ℤ) (short : Bool) (C : Counts) (p : List ℤ) (o h a : List ℕ) (cx cy : Float) → NumberedTo 7 (checkStart points short C p o h a cx cy)
-unfolding checkStart checkWith checkRing
-start-numbered points short C p o h a cx cy =
-    then-numbered (numbered-more (omega arith) (check-numbered _ _ _ _ _))
-    (numbered-cond (refusesCenter C (linksOf o h a) (positionOf p) cx cy) 6 0 (omega arith) (omega arith)
-    (numbered-cond (refusesRing C (linksOf o h a) (positionOf p) cx cy) 7 0 (omega arith) (omega arith) accepts))
+  pub start-accepts : checkStart points short C m center ≡ Accepted → AcceptedStart points C m center × (short ≡ false)
+  unfolding checkStart refusesRing
+  start-accepts e =
+      let t = then-accepts (checkWith points short C m) ring e in
+      let w = with-accepts {points = points} {short = short} {C = C} {m = m} (t .0) in
+      let r = ring-accepts C (linksIn m) (placesIn m) (center .x) (center .y) (t .1) in
+      let S = isStrictRing C (linksIn m) (turnsAbout (center .x) (center .y) (placesIn m)) in
+      (record { mesh = w .0; center = from-false (r .0); strict = sure S (T-not (not S) (from-false (r .1))) }, w .1)
 
--- the table goes on where rows 1 to 5 let pass, and stops where they do not
-module _ (points : List ℤ) (short : Bool) (C : Counts) (p : List ℤ) (o h a : List ℕ) (e : checkWith points short C p o h a ≡ Accepted) where
-  pub start-mesh : AcceptedWith points C p o h a
-  start-mesh = with-accepts {points = points} {short = short} {C = C} {p = p} {o = o} {h = h} {a = a} e .0
+  -- a refusal has one of the numbers 1 to 7
+  pub start-numbered : NumberedTo 7 (checkStart points short C m center)
+  unfolding checkStart checkWith checkRing
+  start-numbered =
+      then-numbered (numbered-more (omega arith) (check-numbered _ _ _ _ _))
+      (numbered-cond (refusesCenter C (linksIn m) (placesIn m) (center .x) (center .y)) 6 0 (omega arith)
+      (numbered-cond (refusesRing C (linksIn m) (placesIn m) (center .x) (center .y)) 7 0 (omega arith) (omega arith) accepts))
 
-  pub start-face : 0 < length a
+  -- the table goes on where rows 1 to 5 let pass, and stops where they do not
+  pub start-refused : {r : Refusal} → checkWith points short C m ≡ Refused r → Refused r ≡ checkStart points short C m center
+  unfolding checkStart
+  start-refused e = sym (then-refused ring e)
+
+module _ (points : List ℤ) (short : Bool) (C : Counts) (m : MeshRows) (e : checkWith points short C m ≡ Accepted) where
+  pub start-mesh : AcceptedWith points C m
+  start-mesh = with-accepts {points = points} {short = short} {C = C} {m = m} e .0
+
+  pub start-face : 0 < length (m .faces)
   start-face = let r = accepted-held start-mesh in let f = r .rules .some in let g = r .room .faces in omega arith
 
   pub start-size : (2 * C .edges < 2 ^ 32) × (1 ≤ C .faces) × (3 * (C .faces - 1) ≤ 2 * C .edges)
   start-size = size-asks (accepted-held start-mesh)
 
-  pub start-boundary : {start size : ℕ} → start ≡ rowOf a 0 → size ≡ 2 * C .edges - 3 * (C .faces - 1) → ClosedBoundary p h start size
-  start-boundary s z = let M = accepted-held start-mesh in closed-boundary p M (accepted-placed start-mesh) s (z ∙ size-is M)
+  module _ {start size : ℕ} (s : start ≡ rowOf (m .faces) 0) (z : size ≡ 2 * C .edges - 3 * (C .faces - 1)) where
+    pub start-boundary : ClosedBoundary (m .positions) (m .halves) start size
+    start-boundary = let M = accepted-held start-mesh in closed-boundary (m .positions) M (accepted-placed start-mesh) s (z ∙ size-is M)
 
-module _ (points : List ℤ) (short : Bool) (C : Counts) (p : List ℤ) (o h a : List ℕ) (cx cy : Float) where
-  pub start-refused : {r : Refusal} → checkWith points short C p o h a ≡ Refused r → Refused r ≡ checkStart points short C p o h a cx cy
-  unfolding checkStart
-  start-refused e = sym (then-refused (checkRing C (linksOf o h a) (positionOf p) cx cy) e)
-
-  pub start-goes-on : checkWith points short C p o h a ≡ Accepted → {start size : ℕ} → start ≡ rowOf a 0 → size ≡ 2 * C .edges - 3 * (C .faces - 1) → {r : Checked} → r ≡ ringChecked p h cx cy start size
-      → r ≡ checkStart points short C p o h a cx cy
-  unfolding checkStart
-  start-goes-on e s z q =
-      let A = start-mesh points short C p o h a e in
-      let M = accepted-held A in
-      q ∙ ring-checked p M (accepted-placed A) s (z ∙ size-is M) cx cy ∙ sym (then-next (checkRing C (linksOf o h a) (positionOf p) cx cy) e)
+    pub start-goes-on : (center : Point2) {r : Checked} → r ≡ ringChecked (m .positions) (m .halves) (center .x) (center .y) start size
+        → r ≡ checkStart points short C m center
+    unfolding checkStart
+    start-goes-on center q =
+        let M = accepted-held start-mesh in
+        q ∙ ring-checked (m .positions) M (accepted-placed start-mesh) s (z ∙ size-is M) (center .x) (center .y)
+        ∙ sym (then-next (checkRing C (linksIn m) (placesIn m) (center .x) (center .y)) e)

@@ -5,8 +5,10 @@ ghost use mathlib.Core.Path.{_≡_};
 ghost use mathlib.Core.List.{List, []};
 ghost use lib.ListN.{length};
 ghost use Rattle.mesh_check.specs.Check.{refused};
-ghost use Rattle.locate.specs.Locate.{andThen, ringRowsShort, checkStart, checkAngle, locateOf};
-ghost use Rattle.locate.specs.Rows.{ClosedBoundary, ringChecked, ToAsk, PlaceOnBoundary, RingCleared};
+ghost use Rattle.dcel.specs.MeshRows.{meshRows};
+ghost use Rattle.ring_rows.specs.RingRows.{ringRows, ringZeros};
+ghost use Rattle.locate.specs.Locate.{andThen, ringRowsShort, checkStart, checkAngle, locatedWith, locateOf};
+ghost use Rattle.locate.specs.Rows.{ClosedBoundary, ringChecked, ToAsk, PlaceOnBoundary};
 use angle::Point2;
 use mesh::Counts;
 use mesh_check::Checked;
@@ -80,7 +82,7 @@ pub fn check_start(
     center: Point2,
 ) -> Checked
     ensures { λ r. ⌜ r ≡ checkStart (now (points .entry)) short counts
-        (now (positions .entry)) (now (outs .entry)) (now (halves .entry)) (now (faces .entry)) (center .x) (center .y) ⌝ }
+        (meshRows (now (positions .entry)) (now (outs .entry)) (now (halves .entry)) (now (faces .entry))) center ⌝ }
 {
     match mesh_check::check_with(points, short, counts, positions, outs, halves, faces) {
         Checked::Refused(r) => Checked::Refused(r),
@@ -113,9 +115,8 @@ fn check_locate(
     center: Point2,
     a: f64,
 ) -> Checked
-    ensures { λ r. ⌜ r ≡ andThen
-        (checkStart [] short counts (now (positions .entry)) (now (outs .entry)) (now (halves .entry)) (now (faces .entry))
-        (center .x) (center .y))
+    ensures { λ r. ⌜ r ≡ andThen (checkStart [] short counts
+        (meshRows (now (positions .entry)) (now (outs .entry)) (now (halves .entry)) (now (faces .entry))) center)
         (checkAngle a) ⌝ }
 {
     let none = &positions[0..0];
@@ -149,8 +150,8 @@ fn place_at(
 
 // The ring's rows to zeros, each over its whole length.
 pub fn clear_ring(nodes: &mut [Node], freed: &mut [u32], buckets: &mut [u32])
-    ensures { λ r. ⌜ RingCleared (now (nodes .entry)) (now (nodes .exit)) (now (freed .entry)) (now (freed .exit))
-        (now (buckets .entry)) (now (buckets .exit)) ⌝ }
+    ensures { λ r. ⌜ ringRows (now (nodes .exit)) (now (freed .exit)) (now (buckets .exit))
+        ≡ ringZeros (ringRows (now (nodes .entry)) (now (freed .entry)) (now (buckets .entry))) ⌝ }
 {
     ring_rows::clear_nodes(nodes);
     dcel::clear(freed);
@@ -170,9 +171,9 @@ pub fn locate(
     center: Point2,
     angle: f64,
 ) -> Located
-    ensures { λ r. ⌜ record { answer = r; nodes = now (nodes .exit); freed = now (freed .exit); buckets = now (buckets .exit) }
-        ≡ locateOf counts (now (positions .entry)) (now (outs .entry)) (now (halves .entry)) (now (faces .entry))
-        (now (nodes .entry)) (now (freed .entry)) (now (buckets .entry)) (center .x) (center .y) angle ⌝ }
+    ensures { λ r. ⌜ locatedWith r (ringRows (now (nodes .exit)) (now (freed .exit)) (now (buckets .exit)))
+        ≡ locateOf counts (meshRows (now (positions .entry)) (now (outs .entry)) (now (halves .entry)) (now (faces .entry)))
+        (ringRows (now (nodes .entry)) (now (freed .entry)) (now (buckets .entry))) center angle ⌝ }
 {
     let short = ring_rows_short(
         counts.vertices as usize,

@@ -2,7 +2,7 @@
 -- a law. The definitions that are computed with stand below it, a line or two for each crate. Assumes nothing.
 use mathlib.Core.Path.{refl}
 use lib.Ieee.{ofInt, neg, add, sub, mul, div, sum, round, units, odd, size, span, climb, lt}
-use Rattle.sweep.specs.Run.{sweepPoint, sweepAfter, finishAfter, answerWord, answersAfter, runChecked, outcomeOf, runOf}
+use Rattle.sweep.specs.Run.{sweepPoint, sweepAfter, finishAfter, answerWord, answersAfter, runChecked, runOutcome, runOf}
 use Rattle.sweep.specs.Step.{isAdded, leftAlone, addedAt, appliedBy, applied, stepMesh}
 use Rattle.start.specs.Start.{sweepRowsShort, sweepChecked}
 use Rattle.decide.specs.Decide.{fateNumber, fateVertex, isCoordinate, isPosition, atEnd, fateAt, ifAdded, decidedAt, decided}
@@ -10,7 +10,7 @@ use Rattle.apply.specs.Apply.{firstFace, beside, covers, walkEnds, walk, addVer
 use Rattle.convexity.specs.Convexity.{turnsLeftAt, lastTurnsLeft, closeCorners}
 use Rattle.convexity.specs.Convexity.{passTurn, isSecond, fixConvexity, passAgain, convexity}
 use Rattle.closing.specs.Closing.{closeEdge, closeBelow, closeTurn, closingPass}
-use Rattle.finish.specs.Finish.{closeAfter, finishMesh, finishedFrom}
+use Rattle.finish.specs.Finish.{closeAfter, finishMesh, totalsFrom, finishedFrom}
 use Rattle.legalize.specs.Legalize.{entryEdge, pushed, flipped, popped, legalize}
 use Rattle.mesh.specs.Operations.{flipBetween, flipCw}
 use Rattle.mesh.specs.Operations.{faceAdjacent, createNewFaceAdjacentToEdge}
@@ -20,13 +20,15 @@ use Rattle.mesh.specs.Rules.{halfEdgeInUse, linksInUse, halfEdgeLinked, innerFa
 use Rattle.mesh.specs.Rules.{outerFaceRule, sideRule, vertexRule, eulerRule, rules}
 use Rattle.mesh_check.specs.Check.{countRefused, meshRowsShort, firstOutside, vertexOrPoint, turnsLeft, firstNotLeft, checkMesh}
 use Rattle.mesh_check.specs.Check.{pointCount, vertexCount, rowsShort, checkWith}
-use Rattle.locate.specs.Locate.{andThen, ringRowsShort, checkRing, checkStart, checkAngle, placeAt, locateOf}
+use Rattle.locate.specs.Locate.{andThen, ringRowsShort, checkRing, checkStart, checkAngle, placeAt, locateOutcome, locateOf}
 use Rattle.ring.specs.Center.{turnsAbout, refusesCenter, refusesRing}
 use Rattle.ring.specs.Chain.{coversLeft, coversRight, leftChain, rightChain, anglesAfter, soundAfter}
 use Rattle.ring.specs.Ring.{wraps, countBefore, countAround, mergedBefore, merged, member, allDiffer, isSound, isStrict}
 use Rattle.ring.specs.Ring.{passedCount, boundaryEdges, boundaryAngles, isStrictRing, located}
+use Rattle.ring_rows.specs.RingRows.{ringZeros}
 use Rattle.segment.specs.Arc.{holds, gap, wide}
 use Rattle.angle.specs.Angle.{absoluteOf, slope, ofDiff, pseudoAngle, angleAbout, bounded, validCenter, isNumber, atCenter, validAngle}
+use Rattle.dcel.specs.MeshRows.{meshRowsFrom}
 use Rattle.dcel.specs.Rows.{halvesOf, rowOf, positionOf, linksOf, rowFrom, field, halvesIn, halvesFrom, coordinate, positionsFrom}
 use Rattle.math.specs.Determinant.{orient2d, incircle, height, factor, length2}
 use Rattle.sums.specs.Bounded.{all-below, any-below, first-below}
@@ -35,36 +37,35 @@ use Rattle.sums.specs.Iterate.{reaches, period-below}
 use Rattle.sums.specs.Put.{put}
 use Rattle.sums.specs.Until.{when, until}
 use Rattle.angle.specs.Angle as angle
-use Rattle.locate.specs.Locate as locate
 use Rattle.sums.specs.Sum as sums
 use Rattle.sums.specs.Tally as tallies
 use Rattle.marked.specs.Marked.{Marked}
 use Rattle.marked.specs.NoPoints.{no-points}
 
 pub marked : Marked
-unfolding sweepPoint sweepAfter finishAfter answerWord answersAfter runChecked outcomeOf runOf
+unfolding sweepPoint sweepAfter finishAfter answerWord answersAfter runChecked runOutcome runOf
     isAdded leftAlone addedAt appliedBy applied stepMesh
     sweepRowsShort sweepChecked
     fateNumber fateVertex isCoordinate isPosition atEnd fateAt ifAdded decidedAt decided
     firstFace beside covers walkEnds walk addVertex
     turnsLeftAt lastTurnsLeft closeCorners passTurn isSecond fixConvexity passAgain convexity
     closeEdge closeBelow closeTurn closingPass
-    closeAfter finishMesh finishedFrom
+    closeAfter finishMesh totalsFrom finishedFrom
     entryEdge pushed flipped popped legalize
     flipBetween flipCw faceAdjacent createNewFaceAdjacentToEdge boundaryLength overFaces circleAt breaksCircle
     halfEdgeInUse linksInUse halfEdgeLinked innerFaceRule outerFaceRule sideRule vertexRule eulerRule rules
     countRefused meshRowsShort firstOutside vertexOrPoint turnsLeft firstNotLeft checkMesh
     pointCount vertexCount rowsShort checkWith
-    andThen ringRowsShort checkRing checkStart checkAngle placeAt locateOf
+    andThen ringRowsShort checkRing checkStart checkAngle placeAt locateOutcome locateOf
     turnsAbout refusesCenter refusesRing coversLeft coversRight leftChain rightChain anglesAfter soundAfter
     wraps countBefore countAround mergedBefore merged member allDiffer isSound isStrict
     passedCount boundaryEdges boundaryAngles isStrictRing located
-    holds gap wide
+    ringZeros holds gap wide
     absoluteOf slope ofDiff pseudoAngle angleAbout bounded validCenter isNumber atCenter validAngle
-    halvesOf rowOf positionOf linksOf rowFrom field halvesIn halvesFrom coordinate positionsFrom
+    meshRowsFrom halvesOf rowOf positionOf linksOf rowFrom field halvesIn halvesFrom coordinate positionsFrom
     orient2d incircle height factor length2
     all-below any-below first-below rev reaches period-below put when until
-    sums.sum tallies.walk angle.turns locate.outcomeOf
+    sums.sum tallies.walk angle.turns
     ofInt neg add sub mul div sum round units odd size span climb lt
 marked = (
   (refl, refl, refl, refl, refl, refl),

@@ -7,10 +7,11 @@ use Prim.Native.Nat.{ℕ, _+_, _*_, _^_}
 use lib.IntN.{ℤ, pos, negsuc}
 use lib.Ieee.{Float, nan, fin}
 use lib.ListN.{replicate, take}
+use Rattle.angle.specs.declared.Point2.{Point2}
 use Rattle.angle.specs.Angle.{angleAbout, zero64, quarter, one64}
-use Rattle.dcel.specs.Rows.{linksOf, positionOf}
+use Rattle.dcel.specs.MeshRows.{meshRows, linksIn, placesIn}
 use Rattle.finish.specs.declared.Finished.{Finished}
-use Rattle.finish.specs.Finish as finish
+use Rattle.finish.specs.Finish.{finishedWith, finishOf}
 use Rattle.locate.specs.declared.Located.{Located}
 use Rattle.locate.specs.Locate.{locateOf}
 use Rattle.mesh.specs.Mesh.{Links}
@@ -20,8 +21,8 @@ use Rattle.mesh_check.specs.declared.Checked.{Checked}
 use Rattle.ring.specs.Center.{turnsAbout}
 use Rattle.ring.specs.Ring.{boundaryAngles}
 use Rattle.ring_rows.specs.declared.Node.{Node}
-use Rattle.sweep.specs.Demand3.{linksAfter, placesAfter}
-use Rattle.sweep.specs.Run.{Lent, Outcome, lent, stepsOf, runChecked, runOf}
+use Rattle.ring_rows.specs.RingRows.{ringRows}
+use Rattle.sweep.specs.Run.{RunLent, RunOutcome, runLent, answerWords, stepsOf, runChecked, runOf}
 
 -- ---- what is lent
 -- the links of a triangle: half-edges 0, 2 and 4 in face 1, their reverses 1, 5 and 3 around face 0
@@ -32,22 +33,27 @@ abbrev sevens : Node
 sevens = record { angle = fin false 7 (pos 0); edge = 7; left = 7; right = 7 }
 
 -- a seed of so many vertices in rows for n points, with zeros past it; the other rows are lent full of sevens
-abbrev seeded : ℕ → ℕ → List ℤ → Float → Float → List ℤ → Lent
-seeded vertices n seed cx cy points =
-    lent (record { vertices = vertices; edges = 3; faces = 2 }) (seed ++ replicate (2 * n) (pos 0)) ((0 ∷ 2 ∷ 4 ∷ []) ++ replicate n 0)
-    (triangle ++ replicate (48 + 24 * n) 0) ((1 ∷ 0 ∷ 0 ∷ 0 ∷ 0 ∷ 0 ∷ []) ++ replicate (2 * n) 0)
-    (replicate (n + 4) sevens) (replicate (n + 4) 7) (replicate 16 7) (replicate 8 7) (replicate (5 * n) 7) cx cy points
+abbrev seeded : ℕ → ℕ → List ℤ → Point2 → List ℤ → RunLent
+seeded vertices n seed center points =
+    runLent (record { vertices = vertices; edges = 3; faces = 2 })
+    (meshRows (seed ++ replicate (2 * n) (pos 0)) ((0 ∷ 2 ∷ 4 ∷ []) ++ replicate n 0)
+    (triangle ++ replicate (48 + 24 * n) 0) ((1 ∷ 0 ∷ 0 ∷ 0 ∷ 0 ∷ 0 ∷ []) ++ replicate (2 * n) 0))
+    (ringRows (replicate (n + 4) sevens) (replicate (n + 4) 7) (replicate 16 7)) (replicate 8 7) (replicate (answerWords * n) 7)
+    center points
+
+abbrev at : Float → Float → Point2
+at x y = record { x = x; y = y }
 
 -- `S 0 0 4 0 0 4`
 abbrev seed : List ℤ
 seed = pos 0 ∷ pos 0 ∷ pos 4 ∷ pos 0 ∷ pos 0 ∷ pos 4 ∷ []
 
 -- `C 1 1`, and so many points
-abbrev about : ℕ → List ℤ → Lent
-about n points = seeded 3 n seed one64 one64 points
+abbrev about : ℕ → List ℤ → RunLent
+about n points = seeded 3 n seed (at one64 one64) points
 
-abbrev heightAfter : Outcome → ℤ
-heightAfter r = heightSum (r .answer .counts) (linksAfter r) (placesAfter r)
+abbrev heightAfter : RunOutcome → ℤ
+heightAfter r = heightSum (r .answer .counts) (linksIn (r .mesh)) (placesIn (r .mesh))
 
 -- ---- the list
 -- "M1 centre (0,0): (-4,0) is 1.0; (0,4) 0.25; (4,0) 0.5; (0,-4) 0.75; (4,4) 0.375; (-4,-4) 0.875."
@@ -68,7 +74,7 @@ M2 = angleAbout (negsuc 16777215) (pos 0) zero64 (fin true 1 (negsuc 39)) ≡ ze
 abbrev pub M3 : Type 0
 M3 =
     let l = about 0 [] in
-    boundaryAngles (l .counts) (linksOf (l .outs) (l .halves) (l .faces)) (turnsAbout one64 one64 (positionOf (l .positions)))
+    boundaryAngles (l .counts) (linksIn (l .mesh)) (turnsAbout (l .center .x) (l .center .y) (placesIn (l .mesh)))
     ≡ 9 * 2 ^ 49 ∷ 7 * 2 ^ 50 ∷ 3 * 2 ^ 49 ∷ []
 
 -- "M4 the input above finishes with height sum 1536": `P 4 4`, `P 2 2`, `P 4 4`, `P 1 1`
@@ -76,19 +82,20 @@ abbrev pub M4 : Type 0
 M4 = heightAfter (runOf (about 4 (pos 4 ∷ pos 4 ∷ pos 2 ∷ pos 2 ∷ pos 4 ∷ pos 4 ∷ pos 1 ∷ pos 1 ∷ []))) ≡ pos 1536
 
 -- "M5 seed (0,0) (4,0) (2,1), centre (2, 0.5), point (2,-1):
-abbrev kite : Lent
-kite = seeded 3 1 (pos 0 ∷ pos 0 ∷ pos 4 ∷ pos 0 ∷ pos 2 ∷ pos 1 ∷ []) (fin false 1 (pos 1)) (fin false 1 (negsuc 0))
+abbrev kite : RunLent
+kite =
+    seeded 3 1 (pos 0 ∷ pos 0 ∷ pos 4 ∷ pos 0 ∷ pos 2 ∷ pos 1 ∷ []) (at (fin false 1 (pos 1)) (fin false 1 (negsuc 0)))
     (pos 2 ∷ negsuc 0 ∷ [])
 
 -- the mesh with the point's face, before `legalize_edge` of the located edge 1
 abbrev unflipped : Links
-unflipped = createNewFaceAdjacentToEdge (linksOf (kite .outs) (kite .halves) (kite .faces)) (kite .counts) 1
+unflipped = createNewFaceAdjacentToEdge (linksIn (kite .mesh)) (kite .counts) 1
 
 abbrev pub M5 : Type 0
 M5 =
     -- circle determinant 24, one flip,
     (circleAt unflipped (stepsOf kite 0 .positions) 1 ≡ pos 24)
-    × (take 5 (runOf kite .answers) ≡ 1 ∷ 3 ∷ 1 ∷ 0 ∷ 1 ∷ [])
+    × (take answerWords (runOf kite .answers) ≡ 1 ∷ 3 ∷ 1 ∷ 1 ∷ [])
     -- height sum 168 before it and 144 after."
     × (heightSum (withVertex (kite .counts)) unflipped (stepsOf kite 0 .positions) ≡ pos 168)
     × (heightAfter (runOf kite) ≡ pos 144)
@@ -101,13 +108,13 @@ M6 =
 
 -- "M7 two vertices: 1."
 abbrev pub M7 : Type 0
-M7 = runOf (seeded 2 0 seed one64 one64 []) .answer .finished ≡ Finished.Refused (record { number = 1; place = 0 })
+M7 = runOf (seeded 2 0 seed (at one64 one64) []) .answer .finished ≡ Finished.Refused (record { number = 1; place = 0 })
 
 -- "M8 angle 1.0 accepted, NaN refused 8."
 abbrev locateAt : Float → Located
 locateAt a =
     let l = about 0 [] in
-    locateOf (l .counts) (l .positions) (l .outs) (l .halves) (l .faces) (l .nodes) (l .freed) (l .buckets) one64 one64 a .answer
+    locateOf (l .counts) (l .mesh) (l .ring) (l .center) a .answer
 
 abbrev pub M8 : Type 0
 M8 =
@@ -117,19 +124,16 @@ M8 =
 -- "M9 that seed with centre (9,9): 7."
 abbrev pub M9 : Type 0
 M9 =
-    runOf (seeded 3 0 seed (fin false 9 (pos 0)) (fin false 9 (pos 0)) []) .answer .finished
+    runOf (seeded 3 0 seed (at (fin false 9 (pos 0)) (fin false 9 (pos 0))) []) .answer .finished
     ≡ Finished.Refused (record { number = 7; place = 0 })
 
--- "M10 no points: an accepted run is the finish of the seed.": the answer and every row that a finish may write are those of `finish`,
--- called with the seed, and the positions stand
-pub record FinishOfSeed (l : Lent) (r : Outcome) : Type 0 where
-  pub call : _≡_ {A = finish.Outcome}
-      (record { answer = r .answer; outs = r .outs; halves = r .halves; faces = r .faces; pending = r .pending })
-      (finish.finishOf (l .counts) (l .positions) (l .outs) (l .halves) (l .faces) (l .pending))
-  pub positions : r .positions ≡ l .positions
+-- "M10 no points: an accepted run is the finish of the seed.": its answer, the mesh's rows and the pending list are those of `finish`,
+-- called with the seed
+abbrev pub FinishOfSeed : RunLent → RunOutcome → Type 0
+FinishOfSeed l r = finishedWith (r .answer) (r .mesh) (r .pending) ≡ finishOf (l .counts) (l .mesh) (l .pending)
 
 abbrev pub M10 : Type 0
-M10 = (l : Lent) → l .points ≡ [] → runChecked l ≡ Checked.Accepted → FinishOfSeed l (runOf l)
+M10 = (l : RunLent) → l .points ≡ [] → runChecked l ≡ Checked.Accepted → FinishOfSeed l (runOf l)
 
 -- 01: "M1 to M10 are gathered in a list"
 abbrev pub Marked : Type 0

@@ -11,9 +11,9 @@ use lib.Dec.{T}
 use lib.IntN.{ℤ, pos, negsuc, negℤ, _+ℤ_, _-ℤ_, _*ℤ_}
 use lib.Signed.{ltZ, leZ, _<ℤ_, _≤ℤ_, <ℤ-irrefl}
 use Rattle.algebra.specs.Ring.{E, var, num, _⊕_, _⊖_, _⊗_, ⊝_, ring}
-use Rattle.algebra.specs.Sign.{Pos, NN, _*⁺_, _*°_, _+⁺_, _+°_, weak, sq, pos-in, lt-by, cases, refute, eq-in, zero°}
+use Rattle.algebra.specs.Sign.{Pos, NN, _*⁺_, _*°_, _+⁺_, _+°_, weak, sq, pos-in, nn-in, lt-by, cases, refute, eq-in, zero°}
 use Rattle.math.specs.declared.Point.{Point}
-use Rattle.math.specs.Determinant.{Ops, Pt, det2, det3, Lift, Orient2d, Incircle, Height, Minus, ℤ·, pt, orient2d, incircle, height, isOrderedCcw, containedInCircumference}
+use Rattle.math.specs.Determinant.{Ops, Pt, det2, det3, Lift, Dot, Orient2d, Incircle, Height, Minus, ℤ·, pt, orient2d, incircle, height, isOrderedCcw, containedInCircumference}
 
 -- ---- four points as the solver has them: `ring (env a b c d) e₁ e₂ refl` proves an identity of a, b, c and d, which
 -- are A, B, C and D in e₁ and e₂
@@ -129,10 +129,11 @@ module _ (a b c d : Point) where
   unfolding height incircle
   flip-height = ring (env a b c d) (Height E· A B C ⊕ Height E· B A D) (Height E· C A D ⊕ Height E· D B C ⊕ Incircle E· A B C D) refl
 
-  -- The flipped triangles turn left, where c lies left of a b, d right of it, and d in the circle of a, b and c: the first.
+  -- The flipped triangles turn left, where c lies left of a b, d right of it, and d not outside the circle of a, b and c: the first.
   -- [p q] is the cross product of p - d and q - d, and S the area of a b c. Were [c a] ≤ 0, then [b c] = S - [a b] - [c a] > 0, and
-  -- [b c] * det + (-[c a]) * (-[a b]) * |b - c|² + S * ((-[c a]) * |b - d|² + (-[a b]) * |c - d|²) > 0, but that is 0
-  pub flip-left : pos 0 <ℤ orient2d a b c → pos 0 <ℤ orient2d b a d → pos 0 <ℤ incircle a b c d → pos 0 <ℤ orient2d c a d
+  -- [b c] * det + (-[c a]) * (-[a b]) * |b - c|² + S * ((-[c a]) * |b - d|² + (-[a b]) * |c - d|²) = 0, where all summands are
+  -- at least 0 and the last is positive: c is not d, since |b - a|² |c - d|² is at least the square of S - [a b]
+  pub flip-left : pos 0 <ℤ orient2d a b c → pos 0 <ℤ orient2d b a d → pos 0 ≤ℤ incircle a b c d → pos 0 <ℤ orient2d c a d
   unfolding orient2d incircle
   flip-left hS hab hD = ⊎-elim (λ k. k .is) (λ k. absurd (no k)) (cases ρ (Orient2d E· C A D))
     where
@@ -148,12 +149,19 @@ module _ (a b c d : Point) where
       len : (p q : Pt E) → NN ρ (Lift E· (Minus E· p q))
       len p q = sq (Minus E· p q .x) +° sq (Minus E· p q .y)
 
+      apart : Pos ρ (Lift E· (Minus E· C D))
+      apart = ⊎-elim (λ k. k)
+          (λ k. absurd (refute ((S +⁺ weak -ab) *⁺ (S +⁺ weak -ab) +⁺ sq (Dot E· (Minus E· B A) (Minus E· C D)) +⁺ len B A *° k) tt))
+          (cases ρ (Lift E· (Minus E· C D)))
+
       no : NN ρ (⊝ Orient2d E· C A D) → ⊥
-      no -ca = refute ((S +⁺ weak -ab +⁺ -ca) *⁺ pos-in ρ (Incircle E· A B C D) hD +⁺ -ca *° weak -ab *° len B C +⁺ weak S *° (-ca *° len B D +° weak -ab *° len C D)) tt
+      no -ca = refute (S *⁺ (-ab *⁺ apart)
+          +⁺ ((weak (S +⁺ weak -ab +⁺ -ca)) *° nn-in ρ (Incircle E· A B C D) hD +° -ca *° weak -ab *° len B C +° weak S *° (-ca *° len B D))) tt
 
 -- the second: the first at b, a, d and c
-pub flip-right : (a b c d : Point) → pos 0 <ℤ orient2d a b c → pos 0 <ℤ orient2d b a d → pos 0 <ℤ incircle a b c d → pos 0 <ℤ orient2d d b c
-flip-right a b c d hS hab hD = flip-left b a d c hab hS (subst (λ (z : ℤ). pos 0 <ℤ z) (incircle-other a b c d) hD)
+pub flip-right : (a b c d : Point) → pos 0 <ℤ orient2d a b c → pos 0 <ℤ orient2d b a d → pos 0 ≤ℤ incircle a b c d
+    → pos 0 <ℤ orient2d d b c
+flip-right a b c d hS hab hD = flip-left b a d c hab hS (subst (λ (z : ℤ). pos 0 ≤ℤ z) (incircle-other a b c d) hD)
 
 -- ---- the tests of math.rs
 neg-test : (z : ℤ) → ltZ (negℤ z) (pos 0) ≡ ltZ (pos 0) z

@@ -10,6 +10,7 @@ use borrow.Author.Tests.{lt-ltb}
 use lib.Dec.{ltb, ltb→lt, lt→ltb, not-T}
 use lib.IntN.{ℤ, pos, natAbs}
 use lib.Signed.{ltZ, _<ℤ_, _≤ℤ_, ltZ-yes, ltZ-no, clashℤ}
+use Rattle.algebra.specs.Order.{lt-le}
 use Rattle.math.specs.declared.Point.{Point}
 use Rattle.math.specs.Determinant.{incircle, containedInCircumference}
 use Rattle.math.specs.Circle.{fromCentre, centre-next, radius-next, inside→, inside←}
@@ -137,7 +138,7 @@ module _ {C : Counts} {L : Links} {p : ℕ → Point} (G : Good C L p) {u : ℕ}
   breaks-flippable = flippable G l (B .inner-left) (B .inner-right)
 
   pub breaks-good : Good C (flipCw L u) p
-  breaks-good = flip-good G breaks-flippable (B .inside)
+  breaks-good = flip-good G breaks-flippable (lt-le (B .inside))
 
   pub breaks-falls : natAbs (heightSum C (flipCw L u) p) < natAbs (heightSum C L p)
   breaks-falls = flip-good-falls G breaks-flippable (B .inside)

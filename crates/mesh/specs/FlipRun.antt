@@ -18,7 +18,6 @@ use Rattle.mesh.specs.Operations.{flipCw}
 use Rattle.mesh.specs.Frame.{SameBoundary, boundary-refl, boundary-trans}
 use Rattle.mesh.specs.Area.{boundaryLength, hullEdge, areaTotal, heightSum, circleAt}
 use Rattle.mesh.specs.HeightLaws.{flip-areas, flip-heights}
-use Rattle.mesh.specs.HeightBound.{FlipsBound, flips-more}
 use Rattle.mesh.specs.BoundarySequence.{boundary-same}
 use Rattle.mesh.specs.Good.{Good}
 use Rattle.mesh.specs.GoodLaws.{flip-length}
@@ -76,7 +75,3 @@ module _ {C : Counts} {p : ℕ → Point} {L : Links} (G : Good C L p) where
   pub run-falls : {M : Links} {n : ℕ} → FlipRun C p L M n → n + natAbs (heightSum C M p) ≤ natAbs (heightSum C L p)
   run-falls none = omega arith
   run-falls (then {M = M} r u l b) = let h = run-falls r in let k = breaks-falls (run-good r) l (breaks M p u b) in omega arith
-
-  -- so flips made and height left, in total, stay bounded
-  pub run-bound : {M : Links} {m n : ℕ} → FlipRun C p L M n → FlipsBound C L p m → FlipsBound C M p (m + n)
-  run-bound {n = n} r B = flips-more n B (run-falls r)

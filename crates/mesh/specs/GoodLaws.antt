@@ -1,4 +1,4 @@
--- Each of the three operations keeps a mesh good under its condition: the far vertex strictly inside the circle, a
+-- Each of the three operations keeps a mesh good under its condition: the far vertex not outside the circle, a
 -- corner that turns strictly left, a new point strictly left of the edge. And what each does to the boundary's length.
 -- Assumes nothing.
 use mathlib.Core.Path.{_≡_, refl, sym, _∙_, ap}
@@ -7,7 +7,8 @@ use Prim.Native.Nat.{ℕ, _+_, _*_, _/_, _<_}
 use native.Mathlib.Decide.{ℕ-discrete}
 use native.Mathlib.Omega.{arith}
 use lib.IntN.{ℤ, pos, natAbs}
-use lib.Signed.{_<ℤ_}
+use lib.Signed.{_<ℤ_, _≤ℤ_}
+use Rattle.algebra.specs.Order.{lt-le}
 use Rattle.math.specs.declared.Point.{Point}
 use Rattle.math.specs.Determinant.{orient2d, InRange}
 use Rattle.math.specs.Plane.{orient2d-next}
@@ -37,7 +38,7 @@ flippable {L = L} G {u} l i j = record {
 }
 
 pub flip-good : {C : Counts} {L : Links} {p : ℕ → Point} → Good C L p → {u : ℕ} → Flippable C L u
-    → pos 0 <ℤ circleAt L p (2 * u) → Good C (flipCw L u) p
+    → pos 0 ≤ℤ circleAt L p (2 * u) → Good C (flipCw L u) p
 flip-good {p = p} G {u} B h = record { wf = flip-keeps (G .wf) u B; turning = flip-keeps-left (G .wf) B p (G .turning) h; range = G .range }
 
 -- the same by a half-edge e of the edge, e / 2
@@ -47,14 +48,14 @@ flippable-at {L = L} G {e} l i j = flippable G (omega arith) (even-half (λ x. 0
     (rw (rev-even (e / 2)) at (even-half (λ x. 0 < L .face (rev x)) e j (rw (rev-rev e) i)))
 
 pub flip-good-at : {C : Counts} {L : Links} {p : ℕ → Point} → Good C L p → {e : ℕ} → In C e → 0 < L .face e
-    → 0 < L .face (rev e) → pos 0 <ℤ circleAt L p e
+    → 0 < L .face (rev e) → pos 0 ≤ℤ circleAt L p e
     → Good C (flipCw L (e / 2)) p
 flip-good-at {L = L} {p = p} G {e} l i j h = flip-good G (flippable-at G l i j) (rw (circle-half L p e) h)
 
 -- each such flip brings the height sum's absolute value down
 pub flip-good-falls : {C : Counts} {L : Links} {p : ℕ → Point} → Good C L p → {u : ℕ} → Flippable C L u → pos 0 <ℤ circleAt L p (2 * u)
     → natAbs (heightSum C (flipCw L u) p) < natAbs (heightSum C L p)
-flip-good-falls {p = p} G B h = flip-falls (G .wf) B p (flip-good G B h .turning) h
+flip-good-falls {p = p} G B h = flip-falls (G .wf) B p (flip-good G B (lt-le h) .turning) h
 
 pub flip-length : {C : Counts} {L : Links} → Wf C L → {u : ℕ} → Flippable C L u → boundaryLength C (flipCw L u) ≡ boundaryLength C L
 flip-length W {u} B = let a = count-edges W in let b = count-edges (flip-keeps W u B) in omega arith

@@ -153,13 +153,13 @@ module _ {C : Counts} {L : Links} (W : Wf C L) {u : ℕ} (B : Flippable C L u) (
       let ρ = areaTotal C (flipCw L u) p ∷ areaTotal C L p ∷ orient2d d b c ∷ orient2d a b c ∷ orient2d c a d ∷ orient2d b a d ∷ [] in
       eq-by (eq-in ρ v0 (v1 ⊕ ((v2 ⊖ v3) ⊕ (v4 ⊖ v5))) (flip-over orient2d orient2d-next) +⁰ eq-in ρ (v4 ⊕ v2) (v3 ⊕ v5) (sym (flip-area a b c d))) v0 v1 refl
 
-  circle : circleAt L p (2 * u) ≡ incircle a b c d
+  pub circle-even : circleAt L p (2 * u) ≡ incircle a b c d
   unfolding circleAt
-  circle = ap (λ (x : ℕ). incircle a (p (L .origin x)) c (p (L .origin (L .prev x)))) (rev-even u)
+  circle-even = ap (λ (x : ℕ). incircle a (p (L .origin x)) c (p (L .origin (L .prev x)))) (rev-even u)
 
   -- 01: "Each flip lowers the height sum by exactly the circle determinant."
   pub flip-heights : heightSum C L p ≡ heightSum C (flipCw L u) p +ℤ circleAt L p (2 * u)
-  flip-heights = rw circle (
+  flip-heights = rw circle-even (
       let ρ = heightSum C (flipCw L u) p ∷ heightSum C L p ∷ height d b c ∷ height a b c ∷ height c a d ∷ height b a d ∷ incircle a b c d ∷ [] in
       eq-by (eq-in ρ (v1 ⊕ ((v2 ⊖ v3) ⊕ (v4 ⊖ v5))) v0 (sym (flip-over height height-next)) +⁰ eq-in ρ (v3 ⊕ v5) (v4 ⊕ v2 ⊕ v6) (flip-height a b c d)) v1 (v0 ⊕ v6) refl)
 
@@ -168,21 +168,27 @@ module _ {C : Counts} {L : Links} (W : Wf C L) {u : ℕ} (B : Flippable C L u) (
       → natAbs (heightSum C (flipCw L u) p) < natAbs (heightSum C L p)
   flip-falls T h = abs-falls flip-heights (heights-nonneg T) h
 
-  -- both new triangles turn left, where the far vertex is strictly inside the circle
-  pub flip-keeps-left : LeftTurning C L p → pos 0 <ℤ circleAt L p (2 * u) → LeftTurning C (flipCw L u) p
-  flip-keeps-left T h = record { left = λ {f} i l. go i l (ℕ-discrete f (L .face (2 * u))) (ℕ-discrete f (L .face (2 * u + 1))) }
-    where
-      S : pos 0 <ℤ orient2d a b c
-      S = subst (λ (z : ℤ). pos 0 <ℤ z) (at-e orient2d orient2d-next) (T .left (B .inner-left) (W .ranges .face< e<))
+  -- ---- left turning
+  module _ (T : LeftTurning C L p) where
+    -- the two triangles at the edge
+    pub left-here : pos 0 <ℤ orient2d a b c
+    left-here = subst (λ (z : ℤ). pos 0 <ℤ z) (at-e orient2d orient2d-next) (T .left (B .inner-left) (W .ranges .face< e<))
 
-      R : pos 0 <ℤ orient2d b a d
-      R = subst (λ (z : ℤ). pos 0 <ℤ z) (at-t orient2d orient2d-next) (T .left (B .inner-right) (W .ranges .face< t<))
+    pub left-there : pos 0 <ℤ orient2d b a d
+    left-there = subst (λ (z : ℤ). pos 0 <ℤ z) (at-t orient2d orient2d-next) (T .left (B .inner-right) (W .ranges .face< t<))
 
-      D : pos 0 <ℤ incircle a b c d
-      D = subst (λ (z : ℤ). pos 0 <ℤ z) circle h
+    -- a flip whose two new triangles turn left
+    pub flip-turns-left : pos 0 <ℤ orient2d d b c → pos 0 <ℤ orient2d c a d → LeftTurning C (flipCw L u) p
+    flip-turns-left dbc cad = record { left = λ {f} i l. go i l (ℕ-discrete f (L .face (2 * u))) (ℕ-discrete f (L .face (2 * u + 1))) }
+      where
+        go : {f : ℕ} → 0 < f → f < C .faces → Dec (f ≡ L .face (2 * u)) → Dec (f ≡ L .face (2 * u + 1))
+            → pos 0 <ℤ atCorners orient2d (flipCw L u) p (flipCw L u .adjacent f)
+        go i l (yes q) k = rw q (subst (λ (z : ℤ). pos 0 <ℤ z) (sym (after-e orient2d orient2d-next)) dbc)
+        go i l (no n) (yes q) = rw q (subst (λ (z : ℤ). pos 0 <ℤ z) (sym (after-t orient2d orient2d-next)) cad)
+        go i l (no n) (no m) = subst (λ (z : ℤ). pos 0 <ℤ z) (sym (kept-at W orient2d p (λ v _. refl) i l (frame .others l n m))) (T .left i l)
 
-      go : {f : ℕ} → 0 < f → f < C .faces → Dec (f ≡ L .face (2 * u)) → Dec (f ≡ L .face (2 * u + 1))
-          → pos 0 <ℤ atCorners orient2d (flipCw L u) p (flipCw L u .adjacent f)
-      go i l (yes q) k = rw q (subst (λ (z : ℤ). pos 0 <ℤ z) (sym (after-e orient2d orient2d-next)) (flip-right a b c d S R D))
-      go i l (no n) (yes q) = rw q (subst (λ (z : ℤ). pos 0 <ℤ z) (sym (after-t orient2d orient2d-next)) (flip-left a b c d S R D))
-      go i l (no n) (no m) = subst (λ (z : ℤ). pos 0 <ℤ z) (sym (kept-at W orient2d p (λ v _. refl) i l (frame .others l n m))) (T .left i l)
+    -- both turn left, where the far vertex is not outside the circle
+    pub flip-keeps-left : pos 0 ≤ℤ circleAt L p (2 * u) → LeftTurning C (flipCw L u) p
+    flip-keeps-left h =
+        let k = subst (λ (z : ℤ). pos 0 ≤ℤ z) circle-even h in
+        flip-turns-left (flip-right a b c d left-here left-there k) (flip-left a b c d left-here left-there k)

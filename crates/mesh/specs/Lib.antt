@@ -24,7 +24,6 @@ pub mod Good
 pub mod GoodLaws
 pub mod Circle
 pub mod CircleLaws
-pub mod HeightBound
 pub mod BoundarySequence
 pub mod FlipRun
 pub mod Examples

@@ -11,7 +11,8 @@ use borrow.Author.Tests.{lt-ltb, le-ltb, ltb-false}
 use lib.Dec.{ltb}
 use lib.IntN.{ℤ}
 use lib.ListN.{length}
-use Rattle.dcel.specs.Rows.{linksOf, positionOf}
+use Rattle.dcel.specs.MeshRows.{MeshRows, linksIn, placesIn}
+use Rattle.dcel.specs.Rows.{positionOf}
 use Rattle.math.specs.declared.Point.{Point}
 use Rattle.math.specs.Determinant.{InRange}
 use Rattle.mesh.specs.declared.Counts.{Counts}
@@ -20,7 +21,7 @@ use Rattle.mesh.specs.Area.{LeftTurning}
 use Rattle.mesh.specs.Good.{Good}
 use Rattle.mesh.specs.Wf.{Wf}
 use Rattle.mesh_check.specs.declared.Checked.the-variants.{Accepted}
-use Rattle.mesh_check.specs.Check.{meshRowsShort, vertexOrPoint, checkMesh, checkOf, pointCount, vertexCount, rowsShort, checkWith}
+use Rattle.mesh_check.specs.Check.{meshRowsShort, meshShort, vertexOrPoint, checkMesh, checkOf, pointCount, vertexCount, rowsShort, checkWith}
 use Rattle.mesh_check.specs.CheckLaws.{passes-good, accepted-passes, passes-accepted, check-agree}
 use Rattle.sums.specs.Bit.{from-false}
 
@@ -29,16 +30,17 @@ or-false true b e = absurd (let t = from-false e in t)
 or-false false b e = (refl, e)
 
 -- the mesh's rows have 01's sizes for n vertices
-pub record MeshRows (n : ℕ) (p : List ℤ) (o h a : List ℕ) : Type 0 where
-  pub positions : 2 * n ≤ length p
-  pub outs : n ≤ length o
-  pub halves : 24 * n ≤ length h
-  pub faces : 2 * n ≤ length a
+pub record MeshSizes (n : ℕ) (m : MeshRows) : Type 0 where
+  pub positions : 2 * n ≤ length (m .positions)
+  pub outs : n ≤ length (m .outs)
+  pub halves : 24 * n ≤ length (m .halves)
+  pub faces : 2 * n ≤ length (m .faces)
 
-module _ {n : ℕ} {p : List ℤ} {o h a : List ℕ} where
-  pub not-short-rows : meshRowsShort n (length p) (length o) (length h) (length a) ≡ false → MeshRows n p o h a
+module _ {n : ℕ} {m : MeshRows} where
+  pub not-short-rows : meshShort n m ≡ false → MeshSizes n m
   unfolding meshRowsShort
   not-short-rows e =
+      let p = m .positions in let o = m .outs in let h = m .halves in let a = m .faces in
       let x = or-false (ltb (length p) (2 * n)) (ltb (length o) n || (ltb (length h) (24 * n) || ltb (length a) (2 * n))) e in
       let y = or-false (ltb (length o) n) (ltb (length h) (24 * n) || ltb (length a) (2 * n)) (x .1) in
       let z = or-false (ltb (length h) (24 * n)) (ltb (length a) (2 * n)) (y .1) in
@@ -49,26 +51,31 @@ module _ {n : ℕ} {p : List ℤ} {o h a : List ℕ} where
         faces = ltb-false (length a) (2 * n) (z .1);
       }
 
-  pub rows-not-short : MeshRows n p o h a → meshRowsShort n (length p) (length o) (length h) (length a) ≡ false
+  pub rows-not-short : MeshSizes n m → meshShort n m ≡ false
   unfolding meshRowsShort
   rows-not-short R =
-      rw (le-ltb (length p) (2 * n) (R .positions), le-ltb (length o) n (R .outs), le-ltb (length h) (24 * n) (R .halves), le-ltb (length a) (2 * n) (R .faces))
+      rw (
+        le-ltb (length (m .positions)) (2 * n) (R .positions),
+        le-ltb (length (m .outs)) n (R .outs),
+        le-ltb (length (m .halves)) (24 * n) (R .halves),
+        le-ltb (length (m .faces)) (2 * n) (R .faces),
+      )
 
 -- ---- the call `check`
-pub record AcceptedMesh (C : Counts) (p : List ℤ) (o h a : List ℕ) : Type 0 where
+pub record AcceptedMesh (C : Counts) (m : MeshRows) : Type 0 where
   pub least : 3 ≤ C .vertices
   pub most : C .vertices ≤ 1000000
-  pub rows : MeshRows (C .vertices) p o h a
-  pub good : Good C (linksOf o h a) (positionOf p)
+  pub rows : MeshSizes (C .vertices) m
+  pub good : Good C (linksIn m) (placesIn m)
 
-module _ {C : Counts} {p : List ℤ} {o h a : List ℕ} where
-  pub check-accepts : checkOf C p o h a ≡ Accepted → AcceptedMesh C p o h a
+module _ {C : Counts} {m : MeshRows} where
+  pub check-accepts : checkOf C m ≡ Accepted → AcceptedMesh C m
   unfolding checkOf
   check-accepts e =
       let P = accepted-passes e in
       record { least = P .least; most = P .most; rows = not-short-rows (P .long); good = passes-good (le-refl (C .vertices)) P }
 
-  pub accepts-check : AcceptedMesh C p o h a → checkOf C p o h a ≡ Accepted
+  pub accepts-check : AcceptedMesh C m → checkOf C m ≡ Accepted
   unfolding checkOf
   accepts-check A = passes-accepted (record {
     least = A .least;
@@ -105,31 +112,30 @@ turning-agree {C} {L} {q} {r} W same H = record {
     at : {e : ℕ} → e < 2 * C .edges → q (L .origin e) ≡ r (L .origin e)
     at {e} l = same (L .origin e) (W .ranges .origin< l)
 
-pub record AcceptedWith (points : List ℤ) (C : Counts) (p : List ℤ) (o h a : List ℕ) : Type 0 where
+pub record AcceptedWith (points : List ℤ) (C : Counts) (m : MeshRows) : Type 0 where
   pub least : 3 ≤ vertexCount C points
   pub most : vertexCount C points ≤ 1000000
   pub pairs : 2 * pointCount points ≤ length points
-  pub rows : MeshRows (vertexCount C points) p o h a
+  pub rows : MeshSizes (vertexCount C points) m
   pub range : {i : ℕ} → i < pointCount points → InRange (positionOf points i)
-  pub good : Good C (linksOf o h a) (positionOf p)
+  pub good : Good C (linksIn m) (placesIn m)
 
-module _ {points : List ℤ} {short : Bool} {C : Counts} {p : List ℤ} {o h a : List ℕ} where
-  pub with-accepts : checkWith points short C p o h a ≡ Accepted → AcceptedWith points C p o h a × (short ≡ false)
+module _ {points : List ℤ} {short : Bool} {C : Counts} {m : MeshRows} where
+  pub with-accepts : checkWith points short C m ≡ Accepted → AcceptedWith points C m × (short ≡ false)
   unfolding checkWith rowsShort vertexCount
   with-accepts e =
       let P = accepted-passes e in
-      let n = C .vertices + pointCount points in
-      let mesh = meshRowsShort n (length p) (length o) (length h) (length a) in
+      let mesh = meshShort (C .vertices + pointCount points) m in
       let alone = ltb (length points) (2 * pointCount points) in
       let u = or-false short (alone || mesh) (P .long) in
       let w = or-false alone mesh (u .1) in
-      let same = vertex-is (C .vertices) (positionOf p) (positionOf points) in (
+      let same = vertex-is (C .vertices) (placesIn m) (positionOf points) in (
         record {
           least = P .least;
           most = P .most;
           pairs = ltb-false (length points) (2 * pointCount points) (w .0);
           rows = not-short-rows (w .1);
-          range = λ {i} l. subst InRange (point-is (C .vertices) (positionOf p) (positionOf points) i) (P .range (omega arith));
+          range = λ {i} l. subst InRange (point-is (C .vertices) (placesIn m) (positionOf points) i) (P .range (omega arith));
           good = record {
             wf = P .wf;
             turning = turning-agree (P .wf) same (P .turning);
@@ -139,10 +145,10 @@ module _ {points : List ℤ} {short : Bool} {C : Counts} {p : List ℤ} {o h a :
         u .0,
       )
 
-  pub accepts-with : short ≡ false → AcceptedWith points C p o h a → checkWith points short C p o h a ≡ Accepted
+  pub accepts-with : short ≡ false → AcceptedWith points C m → checkWith points short C m ≡ Accepted
   unfolding checkWith rowsShort vertexCount
   accepts-with e A =
-      let same = vertex-is (C .vertices) (positionOf p) (positionOf points) in
+      let same = vertex-is (C .vertices) (placesIn m) (positionOf points) in
       passes-accepted (record {
         least = A .least;
         most = A .most;
@@ -153,18 +159,18 @@ module _ {points : List ℤ} {short : Bool} {C : Counts} {p : List ℤ} {o h a :
       })
     where
       all : (v : ℕ) → v < C .vertices + pointCount points → Dec (v < C .vertices)
-          → InRange (vertexOrPoint (C .vertices) (positionOf p) (positionOf points) v)
-      all v l (yes k) = subst InRange (sym (vertex-is (C .vertices) (positionOf p) (positionOf points) v k)) (A .good .range k)
+          → InRange (vertexOrPoint (C .vertices) (placesIn m) (positionOf points) v)
+      all v l (yes k) = subst InRange (sym (vertex-is (C .vertices) (placesIn m) (positionOf points) v k)) (A .good .range k)
       all v l (no k) =
           let i : v ≡ C .vertices + (v - C .vertices) = omega arith in
-          rw i (subst InRange (sym (point-is (C .vertices) (positionOf p) (positionOf points) (v - C .vertices))) (A .range (omega arith)))
+          rw i (subst InRange (sym (point-is (C .vertices) (placesIn m) (positionOf points) (v - C .vertices))) (A .range (omega arith)))
 
 -- no points: what `check` answers
-pub with-none : (C : Counts) (p : List ℤ) (o h a : List ℕ) → checkWith [] false C p o h a ≡ checkOf C p o h a
+pub with-none : (C : Counts) (m : MeshRows) → checkWith [] false C m ≡ checkOf C m
 unfolding checkWith checkOf rowsShort vertexCount pointCount
-with-none C p o h a =
-    ap (λ (n : ℕ). checkMesh n (meshRowsShort n (length p) (length o) (length h) (length a)) C (linksOf o h a) (vertexOrPoint (C .vertices) (positionOf p) (positionOf []))) (same (C .vertices))
-    ∙ check-agree (vertex-is (C .vertices) (positionOf p) (positionOf [])) (meshRowsShort (C .vertices) (length p) (length o) (length h) (length a)) C (linksOf o h a) (le-refl (C .vertices))
+with-none C m =
+    ap (λ (n : ℕ). checkMesh n (meshShort n m) C (linksIn m) (vertexOrPoint (C .vertices) (placesIn m) (positionOf []))) (same (C .vertices))
+    ∙ check-agree (vertex-is (C .vertices) (placesIn m) (positionOf [])) (meshShort (C .vertices) m) C (linksIn m) (le-refl (C .vertices))
   where
     same : (n : ℕ) → n + 0 ≡ n
     same n = omega arith

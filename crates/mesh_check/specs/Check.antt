@@ -9,7 +9,8 @@ use lib.Dec.{ltb}
 use lib.IntN.{ℤ, pos}
 use lib.ListN.{length}
 use lib.Signed.{ltZ}
-use Rattle.dcel.specs.Rows.{linksOf, positionOf}
+use Rattle.dcel.specs.MeshRows.{MeshRows, linksIn, placesIn}
+use Rattle.dcel.specs.Rows.{positionOf}
 use Rattle.math.specs.declared.Point.{Point}
 use Rattle.math.specs.Determinant.{orient2d, isValidVertex}
 use Rattle.mesh.specs.declared.Counts.{Counts}
@@ -65,12 +66,12 @@ checkMesh n short C L p =
     Accepted))))
 
 -- ---- over the lent rows
+abbrev pub meshShort : ℕ → MeshRows → Bool
+meshShort n m = meshRowsShort n (length (m .positions)) (length (m .outs)) (length (m .halves)) (length (m .faces))
+
 -- the call `check`
-unfoldable pub checkOf : Counts → List ℤ → List ℕ → List ℕ → List ℕ → Checked
-checkOf C positions outs halves faces =
-    checkMesh (C .vertices)
-    (meshRowsShort (C .vertices) (length positions) (length outs) (length halves) (length faces))
-    C (linksOf outs halves faces) (positionOf positions)
+unfoldable pub checkOf : Counts → MeshRows → Checked
+checkOf C m = checkMesh (C .vertices) (meshShort (C .vertices) m) C (linksIn m) (placesIn m)
 
 -- how many points a row has, each an x and a y. A last number that stands alone is counted: its point is not all there,
 -- so the row is too short
@@ -82,13 +83,11 @@ unfoldable pub vertexCount : Counts → List ℤ → ℕ
 vertexCount C points = C .vertices + pointCount points
 
 -- the row of points, or one of the mesh's
-unfoldable pub rowsShort : ℕ → List ℤ → List ℤ → List ℕ → List ℕ → List ℕ → Bool
-rowsShort n points positions outs halves faces =
-    ltb (length points) (2 * pointCount points) || meshRowsShort n (length positions) (length outs) (length halves) (length faces)
+unfoldable pub rowsShort : ℕ → List ℤ → MeshRows → Bool
+rowsShort n points m = ltb (length points) (2 * pointCount points) || meshShort n m
 
 -- a call with points; short: another of its rows is shorter than its size for the seed's vertices and the points
-unfoldable pub checkWith : List ℤ → Bool → Counts → List ℤ → List ℕ → List ℕ → List ℕ → Checked
-checkWith points short C positions outs halves faces =
+unfoldable pub checkWith : List ℤ → Bool → Counts → MeshRows → Checked
+checkWith points short C m =
     let n = vertexCount C points in
-    checkMesh n (short || rowsShort n points positions outs halves faces)
-    C (linksOf outs halves faces) (vertexOrPoint (C .vertices) (positionOf positions) (positionOf points))
+    checkMesh n (short || rowsShort n points m) C (linksIn m) (vertexOrPoint (C .vertices) (placesIn m) (positionOf points))

@@ -6,6 +6,7 @@ ghost use mathlib.Core.Path.{_≡_};
 ghost use mathlib.Core.List.{List};
 ghost use Prim.Native.Nat.{ℕ, _+_, _*_, _<_, _≤_};
 ghost use lib.ListN.{length};
+ghost use Rattle.dcel.specs.MeshRows.{meshRows};
 ghost use Rattle.dcel.specs.Rows.{linksOf, positionOf};
 ghost use Rattle.math.specs.Determinant.{orient2d};
 ghost use Rattle.mesh.specs.Area.{atCorners};
@@ -74,7 +75,7 @@ fn rows_short(
 ) -> bool
     requires { ⌜ n ≤ 1000000 ⌝ }
     ensures { λ r. ⌜ r ≡ rowsShort n (now (points .entry))
-        (now (positions .entry)) (now (outs .entry)) (now (halves .entry)) (now (faces .entry)) ⌝ }
+        (meshRows (now (positions .entry)) (now (outs .entry)) (now (halves .entry)) (now (faces .entry))) ⌝ }
 {
     if points.len() % 2 != 0 {
         return true;
@@ -174,7 +175,7 @@ pub fn check_with(
     faces: &[u32],
 ) -> Checked
     ensures { λ r. ⌜ r ≡ checkWith (now (points .entry)) short counts
-        (now (positions .entry)) (now (outs .entry)) (now (halves .entry)) (now (faces .entry)) ⌝ }
+        (meshRows (now (positions .entry)) (now (outs .entry)) (now (halves .entry)) (now (faces .entry))) ⌝ }
 {
     let n = vertex_count(counts, points);
     if count_refused(n) {
@@ -209,7 +210,8 @@ pub fn check(
     halves: &[u32],
     faces: &[u32],
 ) -> Checked
-    ensures { λ r. ⌜ r ≡ checkOf counts (now (positions .entry)) (now (outs .entry)) (now (halves .entry)) (now (faces .entry)) ⌝ }
+    ensures { λ r. ⌜ r ≡ checkOf counts
+        (meshRows (now (positions .entry)) (now (outs .entry)) (now (halves .entry)) (now (faces .entry))) ⌝ }
 {
     let none = &positions[0..0];
     check_with(none, false, counts, positions, outs, halves, faces)

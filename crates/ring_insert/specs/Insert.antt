@@ -19,7 +19,7 @@ use Rattle.ring.specs.WholeInsert.{Names}
 use Rattle.ring.specs.Resize.{adjustedBuckets}
 use Rattle.ring_rows.specs.declared.Node.{Node}
 use Rattle.ring_rows.specs.declared.Hull.{Hull}
-use Rattle.ring_rows.specs.Rows.{nodesOf, angleOf, leftOf, rightOf, sizeOf, withEdge, withLeft, withRight, ValidNode, ValidNodes, NodeRing, RingRows, Updated}
+use Rattle.ring_rows.specs.Rows.{nodesOf, angleOf, leftOf, rightOf, sizeOf, withEdge, withLeft, withRight, ValidNode, ValidNodes, NodeRing, RingHeld, Updated}
 use Rattle.ring_insert.specs.declared.Choice.{Choice}
 
 -- the node of the angle a stands `steps` to the right of `first`, and the stack of freed nodes has room
@@ -95,7 +95,7 @@ pub record Rebuckets (old new : List ℕ) (count L Q R a v : ℕ) : Type 0 where
 -- What an insert asks: a ring in the rows, of at most `most` nodes, with a node of the left angle and, further on, one of
 -- the right angle; the rows have one node more
 pub record ToInsert (nodes : List Node) (freed buckets : List ℕ) (h : Hull) (al q ar : Float) : Type 0 where
-  pub rows : RingRows nodes buckets h
+  pub rows : RingHeld nodes buckets h
   pub free : Free (On (rightOf (nodesOf nodes)) (sizeOf h) (rowOf buckets 0)) (rowOf freed) (h .freed) (h .nodes)
   pub freed-most : h .freed ≤ h .nodes
   pub most : ℕ
@@ -139,7 +139,7 @@ pub record InsertedRows
 
 -- another number of buckets, within their row
 pub record ToAdjust (nodes : List Node) (buckets : List ℕ) (h : Hull) : Type 0 where
-  pub rows : RingRows nodes buckets h
+  pub rows : RingHeld nodes buckets h
   pub size-most : sizeOf h ≤ 2 ^ 20
   pub room : adjustedBuckets (h .buckets) (sizeOf h) ≤ length buckets
 

@@ -3,8 +3,9 @@ use Prim.Native.Nat.{ℕ, _-_, _<_, _^_, _/_}
 use native.Mathlib.Nat.{mod-lt}
 use native.Mathlib.Decide.{ℕ-discrete}
 use native.Mathlib.Omega.{arith}
-use mathlib.Core.Path.{_≡_, sym, _∙_, ap, subst, fun-ext}
+use mathlib.Core.Path.{_≡_, refl, sym, _∙_, ap, subst, fun-ext}
 use mathlib.Core.List.{List}
+use lib.ListN.{length, replicate}
 use Rattle.segment.specs.Bucket.{Buckets, floorOf, width}
 use Rattle.segment.specs.Laws.{bucket-pos}
 use Rattle.sums.specs.Iterate.{iter, iter-keeps}
@@ -16,7 +17,8 @@ use Rattle.ring.specs.Sound.{sound-at}
 use Rattle.ring.specs.Insert.{On}
 use Rattle.ring_rows.specs.declared.Node.{Node}
 use Rattle.ring_rows.specs.declared.Hull.{Hull}
-use Rattle.ring_rows.specs.Rows.{ValidNodes, NodeRing, RingRows, nodesOf, angleOf, rightOf, sizeOf}
+use Rattle.ring_rows.specs.RingRows.{RingRows, ringRows, ringZeros}
+use Rattle.ring_rows.specs.Rows.{zeroNode, ValidNodes, NodeRing, RingHeld, nodesOf, angleOf, rightOf, sizeOf}
 
 -- a walk to the right stays among the nodes in use
 pub walk-below : {t : ℕ → Node} {len s : ℕ} → ValidNodes t len → s < len → (k : ℕ) → iter k (rightOf t) s < len
@@ -34,7 +36,7 @@ ring-from {t} {len} {size} {start} R x (k, l, z) = subst (NodeRing t len size) z
 })
 
 -- from a bucket's
-pub bucket-ring : {nodes : List Node} {buckets : List ℕ} {h : Hull} → RingRows nodes buckets h → (i : ℕ) → i < h .buckets → NodeRing (nodesOf nodes) (h .nodes) (sizeOf h) (rowOf buckets i)
+pub bucket-ring : {nodes : List Node} {buckets : List ℕ} {h : Hull} → RingHeld nodes buckets h → (i : ℕ) → i < h .buckets → NodeRing (nodesOf nodes) (h .nodes) (sizeOf h) (rowOf buckets i)
 bucket-ring {nodes} {buckets} {h} R i l = ring-from (R .ring) (rowOf buckets i) (R .filled i l .0)
 
 -- the bucket of an angle is one of its buckets
@@ -48,3 +50,16 @@ put-map g f a v = fun-ext (λ x. at x (ℕ-discrete x a))
     at : (x : ℕ) → Dec (x ≡ a) → g (put f a v x) ≡ put (λ y. g (f y)) a (g v) x
     at x (yes e) = rw e (ap g (put-same f a v) ∙ sym (put-same (λ y. g (f y)) a (g v)))
     at x (no n) = ap g (put-other f a v x n) ∙ sym (put-other (λ y. g (f y)) a (g v) x n)
+
+-- ---- the ring's rows cleared, one after the other
+pub ring-cleared : (n : List Node) (f b : List ℕ) {n′ : List Node} {f′ b′ : List ℕ}
+    → n′ ≡ replicate (length n) zeroNode → f′ ≡ replicate (length f) 0 → b′ ≡ replicate (length b) 0
+    → ringRows n′ f′ b′ ≡ ringZeros (ringRows n f b)
+unfolding ringZeros
+ring-cleared n f b i j k = rw (i, j, k) refl
+
+-- zeros know the rows' lengths alone
+pub zeros-same : (r r′ : RingRows) → length (r′ .nodes) ≡ length (r .nodes) → length (r′ .freed) ≡ length (r .freed)
+    → length (r′ .buckets) ≡ length (r .buckets) → ringZeros r′ ≡ ringZeros r
+unfolding ringZeros
+zeros-same r r′ i j k = rw (i, j, k) refl

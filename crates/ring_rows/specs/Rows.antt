@@ -79,7 +79,7 @@ abbrev pub sizeOf : Hull → ℕ
 sizeOf h = h .nodes - h .freed
 
 -- The rows hold the ring of a hull, from the node of bucket 0 on. 01: "Bucket i holds the node whose segment holds i/n."
-pub record RingRows (nodes : List Node) (buckets : List ℕ) (h : Hull) : Type 0 where
+pub record RingHeld (nodes : List Node) (buckets : List ℕ) (h : Hull) : Type 0 where
   pub ring : NodeRing (nodesOf nodes) (h .nodes) (sizeOf h) (rowOf buckets 0)
   pub filled : Bucketed (rightOf (nodesOf nodes)) (angleOf (nodesOf nodes)) (rowOf buckets) (h .buckets) (width (h .buckets)) (rowOf buckets 0) (sizeOf h)
   pub counted : Buckets (h .buckets)

@@ -10,7 +10,7 @@ ghost use Rattle.angle.specs.Angle.{validAngle, turns};
 ghost use Rattle.segment.specs.Bucket.{floorOf, width};
 ghost use Rattle.ring.specs.Insert.{Bucketed};
 ghost use Rattle.dcel.specs.Rows.{rowOf};
-ghost use Rattle.ring_rows.specs.Rows.{zeroNode, nodesOf, withEdge, withLeft, withRight, RingRows, sizeOf, Got, Updated, Run, rightOf, angleOf, NodeBuckets, NodeUpdated, ToFill};
+ghost use Rattle.ring_rows.specs.Rows.{zeroNode, nodesOf, withEdge, withLeft, withRight, RingHeld, sizeOf, Got, Updated, Run, rightOf, angleOf, NodeBuckets, NodeUpdated, ToFill};
 use segment::Segment;
 
 #[repr(C)]
@@ -83,7 +83,7 @@ fn store_at(nodes: &mut [Node], i: usize, node: Node)
 
 // The node whose segment holds an angle, from the node of the angle's bucket on to the right.
 pub fn get(nodes: &[Node], buckets: &[u32], hull: Hull, angle: f64) -> Found
-    requires { ⌜ RingRows (now nodes) (now buckets) hull × T (validAngle angle) ⌝ }
+    requires { ⌜ RingHeld (now nodes) (now buckets) hull × T (validAngle angle) ⌝ }
     ensures { λ r. ⌜ Got (nodesOf (now (nodes .entry))) (sizeOf hull)
         (rowOf (now (buckets .entry)) (floorOf (turns angle) (hull .buckets))) (turns angle) r ⌝ }
 {

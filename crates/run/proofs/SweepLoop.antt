@@ -1,111 +1,49 @@
 -- The loop over the points: after i of them the rows hold the mesh and the ring of the definition's sweep, and the answers of those i. Assumes nothing.
-use mathlib.Core.Bool.{Bool, true, false, cond, _&&_}
+use mathlib.Core.Bool.{true, false, cond}
 use mathlib.Core.List.{List}
-use mathlib.Core.Logic.{_≢_}
-use mathlib.Core.Path.{_≡_, refl, sym, _∙_, ap, ap₂, subst}
-use Prim.Native.Nat.{ℕ, zero, suc, _+_, _-_, _*_, _/_, _%_, _^_, _<_, _≤_}
+use mathlib.Core.Path.{_≡_, refl, sym, _∙_, ap, ap₂}
+use Prim.Native.Nat.{ℕ, zero, suc, _+_, _-_, _*_, _/_, _%_, _<_, _≤_}
 use native.Mathlib.Nat.{add-suc, add-zero}
 use native.Mathlib.Numerals.{add-one}
-use native.Mathlib.Decide.{ℕ-discrete, decLt}
+use native.Mathlib.Decide.{decLt}
 use native.Mathlib.Omega.{arith}
-use borrow.Author.Tests.{lt-ltb, le-ltb, le-leb, lt-leb}
-use lib.Dec.{ltb, leb}
+use borrow.Author.Tests.{eq-eqb, ne-eqb, lt-ltb, le-ltb}
+use lib.Dec.{eqb}
 use lib.Ieee.{Float}
 use lib.IntN.{ℤ}
 use lib.ListN.{length}
+use Rattle.dcel.specs.MeshRows.{meshRows}
 use Rattle.dcel.specs.Rows.{linksOf, positionOf, rowOf}
-use Rattle.decide.specs.Decide.{fateNumber, fateVertex}
 use Rattle.decide.specs.Sweep.{Sweep}
 use Rattle.decide.specs.SweepLaws.{sweep-sound}
-use Rattle.flip_count.specs.declared.FlipCount.{FlipCount}
-use Rattle.flip_count.specs.FlipCount.{flipCountOf, flipCountFrom}
-use Rattle.flip_count.specs.CountLaws.{count-from}
 use Rattle.math.specs.declared.Point.{Point}
 use Rattle.mesh.specs.declared.Counts.{Counts}
 use Rattle.mesh.specs.Mesh.{Links}
 use Rattle.ring_rows.specs.declared.Node.{Node}
 use Rattle.ring_rows.specs.declared.Hull.{Hull}
-use Rattle.sweep.specs.declared.Answer.{Answer}
 use Rattle.step.specs.declared.Progress.{Progress}
-use Rattle.sweep.specs.Step.{Stepping, stepMesh}
+use Rattle.sweep.specs.Step.{Stepping, answerOf, stepMesh}
 use Rattle.sweep.specs.StepMesh.{Swept}
 use Rattle.step.specs.StepRows.{steppingOf, StepRoom, StepReady, StepLeaves}
-use Rattle.sums.specs.Put.{put, put-same, put-other}
-use Rattle.run.specs.declared.SweepEnd.{SweepEnd}
-use Rattle.sweep.specs.Run.{Sweeping, sweepPoint, sweepAfter, stepAt, answerWord}
+use Rattle.sweep.specs.Run.{Sweeping, sweepAfter, stepAt, answerWords, answerWord}
 use Rattle.sweep.specs.SweepLaws.{sweep-point, sweep-stays, sweep-keeps}
-use Rattle.run.specs.RunRows.{withAnswer, sweepingOf, SweepRoom, SweepReady, SweepLeaves}
+use Rattle.run.specs.RunRows.{withAnswer, answersBelow, sweepingOf, SweepReady, SweepLeaves}
 
--- ---- the words of one answer
-module _ (row : ℕ → ℕ) (i : ℕ) (r : Answer) (s : Stepping) (fate : s .fate ≡ r .fate) (faces : s .mesh .faces ≡ r .faces) (flips : s .mesh .flips ≡ flipCountOf (r .flips)) (low : r .flips .low < 2 ^ 64) where
-  abbrev w : ℕ → ℕ
-  w = withAnswer row i r
-
-  -- elsewhere nothing has changed
-  words-other : (x : ℕ) → (x ≢ 5 * i) × (x ≢ 5 * i + 1) × (x ≢ 5 * i + 2) × (x ≢ 5 * i + 3) × (x ≢ 5 * i + 4) → w x ≡ row x
-  unfolding withAnswer
-  words-other x d =
-      put-other _ (5 * i + 4) (r .flips .low) x (d .4) ∙ put-other _ (5 * i + 3) (r .flips .high) x (d .3) ∙ put-other _ (5 * i + 2) (r .faces) x (d .2)
-      ∙ put-other _ (5 * i + 1) (fateVertex (r .fate)) x (d .1) ∙ put-other row (5 * i) (fateNumber (r .fate)) x (d .0)
-
-  halves : (s .mesh .flips / 2 ^ 64 ≡ r .flips .high) × (s .mesh .flips % 2 ^ 64 ≡ r .flips .low)
-  unfolding flipCountFrom
-  halves =
-      let c = count-from (r .flips) low in
-      (ap (λ (n : ℕ). n / 2 ^ 64) flips ∙ sym (ap (λ (k : FlipCount). k .high) c), ap (λ (n : ℕ). n % 2 ^ 64) flips ∙ sym (ap (λ (k : FlipCount). k .low) c))
-
-  word-0 : w (5 * i) ≡ answerWord s 0
-  unfolding withAnswer answerWord
-  word-0 =
-      put-other _ (5 * i + 4) (r .flips .low) (5 * i) (λ z. omega arith) ∙ put-other _ (5 * i + 3) (r .flips .high) (5 * i) (λ z. omega arith)
-      ∙ put-other _ (5 * i + 2) (r .faces) (5 * i) (λ z. omega arith) ∙ put-other _ (5 * i + 1) (fateVertex (r .fate)) (5 * i) (λ z. omega arith)
-      ∙ put-same row (5 * i) (fateNumber (r .fate)) ∙ ap fateNumber (sym fate)
-
-  word-1 : w (5 * i + 1) ≡ answerWord s 1
-  unfolding withAnswer answerWord
-  word-1 =
-      put-other _ (5 * i + 4) (r .flips .low) (5 * i + 1) (λ z. omega arith) ∙ put-other _ (5 * i + 3) (r .flips .high) (5 * i + 1) (λ z. omega arith)
-      ∙ put-other _ (5 * i + 2) (r .faces) (5 * i + 1) (λ z. omega arith) ∙ put-same _ (5 * i + 1) (fateVertex (r .fate)) ∙ ap fateVertex (sym fate)
-
-  word-2 : w (5 * i + 2) ≡ answerWord s 2
-  unfolding withAnswer answerWord
-  word-2 =
-      put-other _ (5 * i + 4) (r .flips .low) (5 * i + 2) (λ z. omega arith) ∙ put-other _ (5 * i + 3) (r .flips .high) (5 * i + 2) (λ z. omega arith)
-      ∙ put-same _ (5 * i + 2) (r .faces) ∙ sym faces
-
-  word-3 : w (5 * i + 3) ≡ answerWord s 3
-  unfolding withAnswer answerWord
-  word-3 = put-other _ (5 * i + 4) (r .flips .low) (5 * i + 3) (λ z. omega arith) ∙ put-same _ (5 * i + 3) (r .flips .high) ∙ sym (halves .0)
-
-  word-4 : w (5 * i + 4) ≡ answerWord s 4
-  unfolding withAnswer answerWord
-  word-4 = put-same _ (5 * i + 4) (r .flips .low) ∙ sym (halves .1)
-
-  -- each of the five
-  words-at : (k : ℕ) → k < 5 → w (5 * i + k) ≡ answerWord s k
-  words-at zero l = ap w (add-zero (5 * i)) ∙ word-0
-  words-at (suc zero) l = word-1
-  words-at (suc (suc zero)) l = word-2
-  words-at (suc (suc (suc zero))) l = word-3
-  words-at (suc (suc (suc (suc zero)))) l = word-4
-  words-at (suc (suc (suc (suc (suc k))))) l = absurd (omega arith)
-
-  -- the row with the answers of i points has that of point i too
-  words-more : (old : ℕ → ℕ) (step : ℕ → Stepping) → step i ≡ s → ((x : ℕ) → row x ≡ cond (ltb x (5 * i)) (answerWord (step (x / 5)) (x % 5)) (old x))
-      → (x : ℕ) → w x ≡ cond (ltb x (5 * (i + 1))) (answerWord (step (x / 5)) (x % 5)) (old x)
-  words-more old step e h x = go (decLt x (5 * i)) (decLt x (5 * (i + 1)))
-    where
-      go : Dec (x < 5 * i) → Dec (x < 5 * (i + 1)) → w x ≡ cond (ltb x (5 * (i + 1))) (answerWord (step (x / 5)) (x % 5)) (old x)
-      go (yes a) b =
-          words-other x ((λ z. omega arith), (λ z. omega arith), (λ z. omega arith), (λ z. omega arith), (λ z. omega arith)) ∙ h x
-          ∙ rw (lt-ltb x (5 * i) a, lt-ltb x (5 * (i + 1)) (omega arith)) refl
-      go (no a) (yes b) =
-          let k : 5 * i + x % 5 ≡ x = omega arith in
-          let d : x / 5 ≡ i = omega arith in
-          ap w (sym k) ∙ words-at (x % 5) (omega arith) ∙ rw (lt-ltb x (5 * (i + 1)) b, d, e) refl
-      go (no a) (no b) =
-          words-other x ((λ z. omega arith), (λ z. omega arith), (λ z. omega arith), (λ z. omega arith), (λ z. omega arith)) ∙ h x
-          ∙ rw (le-ltb x (5 * i) (omega arith), le-ltb x (5 * (i + 1)) (omega arith)) refl
+-- ---- the row with the answers of i points has that of point i too
+words-more : (row old : ℕ → ℕ) (i : ℕ) (step : ℕ → Stepping) (s : Stepping) → step i ≡ s → ((x : ℕ) → row x ≡ answersBelow step i old x)
+    → (x : ℕ) → withAnswer row i (answerOf s) x ≡ answersBelow step (i + 1) old x
+unfolding withAnswer
+words-more row old i step s e h x = go (decLt x (answerWords * i)) (decLt x (answerWords * (i + 1)))
+  where
+    go : Dec (x < answerWords * i) → Dec (x < answerWords * (i + 1))
+        → cond (eqb (x / answerWords) i) (answerWord (answerOf s) (x % answerWords)) (row x) ≡ answersBelow step (i + 1) old x
+    go (yes a) b =
+        rw (ne-eqb (x / answerWords) i (λ z. omega arith), h x, lt-ltb x (answerWords * i) a, lt-ltb x (answerWords * (i + 1)) (omega arith)) refl
+    go (no a) (yes b) =
+        let d : x / answerWords ≡ i = omega arith in
+        rw (eq-eqb (x / answerWords) i d, lt-ltb x (answerWords * (i + 1)) b, d, e) refl
+    go (no a) (no b) =
+        rw (ne-eqb (x / answerWords) i (λ z. omega arith), h x, le-ltb x (answerWords * i) (omega arith), le-ltb x (answerWords * (i + 1)) (omega arith)) refl
 
 -- ---- one more point of the definition
 module _ (room : ℕ) (cx cy : Float) (C : Counts) (L : Links) (p point : ℕ → Point) where
@@ -159,7 +97,7 @@ pub record SweepingAt (q₀ : List ℤ) (o₀ h₀ a₀ row₀ : List ℕ) (node
   pub vertices : C .vertices ≤ C₀ .vertices + i
   pub nodes-most : hull .nodes ≤ suc (C₀ .vertices + count)
   pub answers-are : (x : ℕ) → rowOf answers x
-      ≡ cond (ltb x (5 * i)) (answerWord (stepAt (length row₀) cx cy C₀ (linksOf o₀ h₀ a₀) (positionOf q₀) (positionOf points) (x / 5)) (x % 5)) (rowOf answers₀ x)
+      ≡ answersBelow (stepAt (length row₀) cx cy C₀ (linksOf o₀ h₀ a₀) (positionOf q₀) (positionOf points)) i (rowOf answers₀) x
   pub most : i ≤ count
 
 pub sweeping-starts : {q : List ℤ} {o h a row : List ℕ} {nodes : List Node} {freed buckets answers : List ℕ} {cx cy : Float} {points : List ℤ} {count : ℕ} {C : Counts} {hull : Hull}
@@ -218,7 +156,7 @@ module _ {q₀ : List ℤ} {o₀ h₀ a₀ row₀ : List ℕ} {nodes₀ : List N
 
       module _ {q′ : List ℤ} {o′ h′ a′ : List ℕ} {nodes′ : List Node} {freed′ buckets′ : List ℕ} {r : Progress}
           (X : StepLeaves C q q′ o h a row o′ h′ a′ nodes freed buckets nodes′ freed′ buckets′ hull cx cy v r) where
-        step-is : stepAt (length row₀) cx cy C₀ L₀ p₀ point i ≡ steppingOf q′ o′ h′ a′ r
+        step-is : stepAt (length row₀) cx cy C₀ L₀ p₀ point i ≡ steppingOf (meshRows q′ o′ h′ a′) r
         step-is =
             ap (λ (s : Sweeping). stepMesh (length row₀) cx cy (s .counts) (s .links) (s .positions) (point i)) (I .at)
             ∙ ap₂ (λ (n : ℕ) (w : Point). stepMesh n cx cy C (linksOf o h a) (positionOf q) w) (sym (I .lengths .pending)) (sym e) ∙ sym (X .is)
@@ -243,13 +181,13 @@ module _ {q₀ : List ℤ} {o₀ h₀ a₀ row₀ : List ℕ} {nodes₀ : List N
             }
 
         -- the answer is stored, and the loop goes on
-        pub sweeping-on : r .full ≡ false → r .answer .flips .low < 2 ^ 64
+        pub sweeping-on : r .full ≡ false
             → length q′ ≡ length q → length o′ ≡ length o → length h′ ≡ length h → length a′ ≡ length a → {row′ : List ℕ} → length row′ ≡ length row
             → length nodes′ ≡ length nodes → length freed′ ≡ length freed → length buckets′ ≡ length buckets
             → (answers′ : List ℕ) → rowOf answers′ ≡ withAnswer (rowOf answers) i (r .answer) → length answers′ ≡ length answers
             → SweepingAt q₀ o₀ h₀ a₀ row₀ nodes₀ freed₀ buckets₀ answers₀ cx cy points count C₀ hull₀ q′ o′ h′ a′ row′ nodes′ freed′ buckets′ answers′ (r .counts) (r .hull) (i + 1)
         unfolding steppingOf
-        sweeping-on f low lq lo lh la lr ln lf lb answers′ w lw =
+        sweeping-on f lq lo lh la lr ln lf lb answers′ w lw =
             let K = I .lengths in
             record {
               ready = I .ready;
@@ -270,7 +208,7 @@ module _ {q₀ : List ℤ} {o₀ h₀ a₀ row₀ : List ℕ} {nodes₀ : List N
                   let z = ap (λ (s : Sweeping). s .counts .vertices) next-is in omega arith);
               nodes-most = X .nodes-most (C₀ .vertices + count) room;
               answers-are = λ x. ap (λ (g : ℕ → ℕ). g x) w
-                  ∙ words-more (rowOf answers) i (r .answer) (steppingOf q′ o′ h′ a′ r) refl refl refl low (rowOf answers₀) (stepAt (length row₀) cx cy C₀ L₀ p₀ point) step-is (I .answers-are) x;
+                  ∙ words-more (rowOf answers) (rowOf answers₀) i (stepAt (length row₀) cx cy C₀ L₀ p₀ point) (steppingOf (meshRows q′ o′ h′ a′) r) step-is (I .answers-are) x;
               most = omega arith;
             }
 

@@ -14,19 +14,19 @@ use Rattle.ring_rows.specs.declared.Node.{Node}
 use Rattle.ring_rows.specs.declared.Hull.{Hull}
 use Rattle.start.specs.Start.{sweepChecked}
 use Rattle.start.specs.StartRows.{ToStart, Started}
-use Rattle.sweep.specs.Run.{Lent, runChecked}
+use Rattle.sweep.specs.Run.{answerWords, RunLent, runChecked}
 use Rattle.sweep.specs.RunLaws.{run-accepts, run-start}
 use Rattle.run.specs.RunRows.{SweepReady}
 
 -- the checks, with the test of the answers row
-pub run-checks : (l : Lent) {short : Bool} {r : Checked} → short ≡ ltb (length (l .answers)) (5 * pointCount (l .points))
-    → r ≡ sweepChecked (l .points) short (l .counts) (l .positions) (l .outs) (l .halves) (l .faces)
-    (length (l .nodes)) (length (l .freed)) (length (l .buckets)) (length (l .pending)) (l .centerx) (l .centery)
+pub run-checks : (l : RunLent) {short : Bool} {r : Checked} → short ≡ ltb (length (l .answers)) (answerWords * pointCount (l .points))
+    → r ≡ sweepChecked (l .points) short (l .counts) (l .mesh)
+    (length (l .ring .nodes)) (length (l .ring .freed)) (length (l .ring .buckets)) (length (l .pending)) (l .center)
     → r ≡ runChecked l
 unfolding runChecked
 run-checks l s e = e ∙ rw s refl
 
-module _ (l : Lent) (e : runChecked l ≡ Checked.Accepted) where
+module _ (l : RunLent) (e : runChecked l ≡ Checked.Accepted) where
   abbrev C : Counts
   C = l .counts
 
@@ -37,15 +37,18 @@ module _ (l : Lent) (e : runChecked l ≡ Checked.Accepted) where
   unfolding vertexCount
   points-fit = let m = run-start l e .mesh .most in omega arith
 
-  pub to-start : ToStart C (l .positions) (l .halves) (l .faces) (length (l .nodes)) (length (l .buckets)) (l .centerx) (l .centery)
+  pub to-start : ToStart C (l .mesh .positions) (l .mesh .halves) (l .mesh .faces)
+      (length (l .ring .nodes)) (length (l .ring .buckets)) (l .center)
   unfolding vertexCount
   to-start =
       let r = run-accepts l e .ring-rows in
-      record { points = l .points; outs = l .outs; start = run-start l e; node-room = let k = r .nodes-fit in omega arith; bucket-room = let k = r .sixteen in omega arith }
+      record { points = l .points; outs = l .mesh .outs; start = run-start l e; node-room = let k = r .nodes-fit in omega arith; bucket-room = let k = r .sixteen in omega arith }
 
-  pub to-sweep : (nodes : List Node) (buckets : List ℕ) (hull : Hull) → Started C (l .positions) (l .halves) (l .faces) nodes buckets hull (l .centerx) (l .centery)
-      → length nodes ≡ length (l .nodes) → length buckets ≡ length (l .buckets) → (count : ℕ) → count ≡ n
-      → SweepReady C (l .positions) (l .outs) (l .halves) (l .faces) (l .pending) nodes (l .freed) buckets (l .answers) hull (l .centerx) (l .centery) (l .points) count
+  pub to-sweep : (nodes : List Node) (buckets : List ℕ) (hull : Hull)
+      → Started C (l .mesh .positions) (l .mesh .halves) (l .mesh .faces) nodes buckets hull (l .center)
+      → length nodes ≡ length (l .ring .nodes) → length buckets ≡ length (l .ring .buckets) → (count : ℕ) → count ≡ n
+      → SweepReady C (l .mesh .positions) (l .mesh .outs) (l .mesh .halves) (l .mesh .faces) (l .pending)
+      nodes (l .ring .freed) buckets (l .answers) hull (l .center .x) (l .center .y) (l .points) count
   unfolding vertexCount
   to-sweep nodes buckets hull S u v count c =
       let A = run-accepts l e in
@@ -67,5 +70,5 @@ module _ (l : Lent) (e : runChecked l ≡ Checked.Accepted) where
         };
         range = λ i k. M .range (omega arith);
         pairs = let k = M .pairs in omega arith;
-        answers-room = let k = ltb-false (length (l .answers)) (5 * n) (A .others) in omega arith;
+        answers-room = let k = ltb-false (length (l .answers)) (answerWords * n) (A .others) in omega arith;
       }

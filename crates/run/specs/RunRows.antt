@@ -3,37 +3,41 @@ use mathlib.Core.Bool.{Bool, false, cond, _&&_}
 use mathlib.Core.List.{List}
 use mathlib.Core.Path.{_≡_}
 use Prim.Native.Nat.{ℕ, suc, _+_, _*_, _/_, _%_, _<_, _≤_}
-use lib.Dec.{leb, ltb}
+use lib.Dec.{eqb, leb, ltb}
 use lib.Ieee.{Float}
 use lib.IntN.{ℤ}
 use lib.ListN.{length}
 use Rattle.convexity.specs.ConvexityRows.{MeshReady}
 use Rattle.corner.specs.CornerRows.{MeshRoom}
+use Rattle.dcel.specs.MeshRows.{MeshRows, meshRows, linksIn, placesIn}
 use Rattle.dcel.specs.Rows.{linksOf, positionOf, rowOf}
-use Rattle.decide.specs.Decide.{fateNumber, fateVertex}
 use Rattle.decide.specs.Sweep.{Sweep}
 use Rattle.math.specs.Determinant.{InRange}
 use Rattle.mesh.specs.declared.Counts.{Counts}
 use Rattle.ring_rows.specs.declared.Node.{Node}
 use Rattle.ring_rows.specs.declared.Hull.{Hull}
 use Rattle.sweep.specs.declared.Answer.{Answer}
-use Rattle.sums.specs.Put.{put}
 use Rattle.run.specs.declared.SweepEnd.{SweepEnd}
-use Rattle.sweep.specs.Run.{Sweeping, sweepAfter, stepAt, answerWord}
+use Rattle.sweep.specs.Step.{Stepping, answerOf}
+use Rattle.sweep.specs.Run.{Sweeping, sweepAfter, stepAt, answerWords, answerWord}
 
 -- ---- answers
--- the five words of an answer, for point i
+-- the words of point i's answer are stored
 unfoldable pub withAnswer : (ℕ → ℕ) → ℕ → Answer → ℕ → ℕ
-withAnswer row i r =
-    put (put (put (put (put row (5 * i) (fateNumber (r .fate))) (5 * i + 1) (fateVertex (r .fate))) (5 * i + 2) (r .faces)) (5 * i + 3) (r .flips .high)) (5 * i + 4) (r .flips .low)
+withAnswer row i r x = cond (eqb (x / answerWords) i) (answerWord r (x % answerWords)) (row x)
+
+-- the answers of the first n points, and what the row held past them
+abbrev pub answersBelow : (ℕ → Stepping) → ℕ → (ℕ → ℕ) → ℕ → ℕ
+answersBelow step n row x =
+    cond (ltb x (answerWords * n)) (answerWord (answerOf (step (x / answerWords))) (x % answerWords)) (row x)
 
 -- zeros from `from` up to `to`
 pub record Zeroed (row row′ : List ℕ) (from to : ℕ) : Type 0 where
   pub each : (x : ℕ) → rowOf row′ x ≡ cond (leb from x && ltb x to) 0 (rowOf row x)
 
 -- ---- the steps
-unfoldable pub sweepingOf : List ℤ → List ℕ → List ℕ → List ℕ → SweepEnd → Sweeping
-sweepingOf q o h a r = record { counts = r .counts; links = linksOf o h a; positions = positionOf q; answered = r .answered; full = r .full }
+unfoldable pub sweepingOf : MeshRows → SweepEnd → Sweeping
+sweepingOf m r = record { counts = r .counts; links = linksIn m; positions = placesIn m; answered = r .answered; full = r .full }
 
 -- the rows do for N vertices, the seed's and all points
 pub record SweepRoom (N : ℕ) (q : List ℤ) (o h a row : List ℕ) (nodes : List Node) (freed buckets : List ℕ) (hull : Hull) : Type 0 where
@@ -52,13 +56,13 @@ pub record SweepReady (C : Counts) (q : List ℤ) (o h a row : List ℕ) (nodes 
   pub room : SweepRoom (C .vertices + count) q o h a row nodes freed buckets hull
   pub range : (i : ℕ) → i < count → InRange (positionOf points i)
   pub pairs : 2 * count ≤ length points
-  pub answers-room : 5 * count ≤ length answers
+  pub answers-room : answerWords * count ≤ length answers
 
 -- the steps as they are defined, and the answers of the points that were answered
 pub record SweepLeaves (C : Counts) (q : List ℤ) (o h a row answers : List ℕ) (cx cy : Float) (points : List ℤ) (count : ℕ) (q′ : List ℤ) (o′ h′ a′ answers′ : List ℕ) (r : SweepEnd) : Type 0 where
-  pub is : sweepingOf q′ o′ h′ a′ r ≡ sweepAfter (length row) cx cy C (linksOf o h a) (positionOf q) (positionOf points) count
+  pub is : sweepingOf (meshRows q′ o′ h′ a′) r ≡ sweepAfter (length row) cx cy C (linksOf o h a) (positionOf q) (positionOf points) count
   pub answers-are : (x : ℕ) → rowOf answers′ x
-      ≡ cond (ltb x (5 * r .answered)) (answerWord (stepAt (length row) cx cy C (linksOf o h a) (positionOf q) (positionOf points) (x / 5)) (x % 5)) (rowOf answers x)
+      ≡ answersBelow (stepAt (length row) cx cy C (linksOf o h a) (positionOf q) (positionOf points)) (r .answered) (rowOf answers) x
 
 -- ---- the finish
 pub record FinishReady (q : List ℤ) (o h a row : List ℕ) (end : SweepEnd) : Type 0 where

@@ -1,30 +1,30 @@
 // The call `run`: the seed's ring, all steps in list order, the finish, on lent rows. What it answers and leaves is `runOf` of the crate
-// `sweep`, specs/Run.antt, for every input; what that means for the mesh is demand 3, specs/Demand3.antt there, which is the second clause
-// of the call's contract.
+// `sweep`, specs/Run.antt, for every input; what that means for the mesh is demand 3, specs/Demand3.antt there. The call's contract, `Ran`,
+// has both.
 ghost use mathlib.Core.Path.{_≡_};
 ghost use mathlib.Core.List.{List};
 ghost use Prim.Native.Nat.{ℕ, _+_, _*_, _≤_};
 ghost use lib.Dec.{ltb};
 ghost use lib.ListN.{length};
+ghost use Rattle.dcel.specs.MeshRows.{meshRows};
 ghost use Rattle.dcel.specs.Rows.{rowOf};
-ghost use Rattle.finish.specs.declared.Finished.{Finished};
-ghost use Rattle.finish.specs.declared.Totals.{Totals};
 ghost use Rattle.finish.specs.FinishRows.{finishingOf};
 ghost use Rattle.mesh_check.specs.declared.Checked.the-variants.{Accepted};
 ghost use Rattle.mesh_check.specs.Check.{pointCount};
-ghost use Rattle.sweep.specs.Run.{lent, outcome, finishAfter, runChecked, runOf};
-ghost use Rattle.sweep.specs.Demand3.{Demand3};
+ghost use Rattle.ring_rows.specs.RingRows.{ringRows};
+ghost use Rattle.sweep.specs.Run.{runLent, ranWith, answerWords, finishAfter, runChecked, runOf};
+ghost use Rattle.sweep.specs.Demand3.{Ran};
 ghost use Rattle.run.specs.RunRows.{withAnswer, Zeroed, sweepingOf, SweepReady, SweepLeaves, FinishReady};
 use angle::Point2;
 use finish::Ended;
 use finish::FinishAnswer;
 use finish::Finished;
 use finish::Totals;
-use flip_count::FlipCount;
 use mesh::Counts;
 use mesh_check::Checked;
 use ring_rows::Hull;
 use ring_rows::Node;
+use sweep::ANSWER_WORDS;
 use sweep::Answer;
 
 // Where the steps have come to: the mesh's counts, how many points have been answered, and whether a flip's pushes
@@ -35,38 +35,37 @@ pub struct SweepEnd {
     pub full: bool,
 }
 
-// The answer of point i, in five words.
+// The answer of point i.
 fn store_answer(answers: &mut [u64], i: u32, answer: Answer)
-    requires { ⌜ 5 * i + 5 ≤ length (now answers) ⌝ }
+    requires { ⌜ answerWords * i + answerWords ≤ length (now answers) ⌝ }
     ensures { λ r. ⌜ rowOf (now (answers .exit)) ≡ withAnswer (rowOf (now (answers .entry))) i answer ⌝ }
 {
-    let at = 5 * (i as usize);
+    let at = ANSWER_WORDS * (i as usize);
     let fate = answer.fate;
     answers[at] = decide::fate_number(fate);
     answers[at + 1] = decide::fate_vertex(fate);
     answers[at + 2] = answer.faces as u64;
-    answers[at + 3] = answer.flips.high;
-    answers[at + 4] = answer.flips.low;
+    answers[at + 3] = answer.flips;
 }
 
 // Zeros for the points from `from` up to `to`.
 fn zero_answers(answers: &mut [u64], from: u32, to: u32)
-    requires { ⌜ (from ≤ to) × (5 * to ≤ length (now answers)) ⌝ }
-    ensures { λ r. ⌜ Zeroed (now (answers .entry)) (now (answers .exit)) (5 * from) (5 * to) ⌝ }
+    requires { ⌜ (from ≤ to) × (answerWords * to ≤ length (now answers)) ⌝ }
+    ensures { λ r. ⌜ Zeroed (now (answers .entry)) (now (answers .exit)) (answerWords * from) (answerWords * to) ⌝ }
 {
-    let end = 5 * (to as usize);
-    let mut x = 5 * (from as usize);
+    let end = ANSWER_WORDS * (to as usize);
+    let mut x = ANSWER_WORDS * (from as usize);
     while x < end {
         answers[x] = 0;
         x += 1;
     }
 }
 
-// 2, of the answers row: it has five words for each point.
+// 2, of the answers row: it has an answer for each point.
 pub fn answers_short(answers: usize, points: &[i32]) -> bool
-    ensures { λ r. ⌜ r ≡ ltb answers (5 * pointCount (now (points .entry))) ⌝ }
+    ensures { λ r. ⌜ r ≡ ltb answers (answerWords * pointCount (now (points .entry))) ⌝ }
 {
-    answers / 5 < mesh_check::point_count(points)
+    answers / ANSWER_WORDS < mesh_check::point_count(points)
 }
 
 // All steps, in list order, until a flip is refused.
@@ -145,17 +144,16 @@ fn finish_after(
     requires { ⌜ FinishReady (now positions) (now outs) (now halves) (now faces) (now pending) end ⌝ }
     ensures { λ r. ⌜ finishingOf (now (outs .exit)) (now (halves .exit)) (now (faces .exit)) r
         ≡ finishAfter (length (now (pending .entry)))
-        (sweepingOf (now (positions .entry)) (now (outs .entry)) (now (halves .entry)) (now (faces .entry)) end) ⌝ }
+        (sweepingOf (meshRows (now (positions .entry)) (now (outs .entry)) (now (halves .entry)) (now (faces .entry))) end) ⌝ }
 {
     let counts = end.counts;
     if end.full {
-        let none = FlipCount::zero();
         return Ended {
             counts: counts,
             totals: Totals {
                 faces: 0,
-                convexflips: none,
-                closingflips: none,
+                convexflips: 0,
+                closingflips: 0,
             },
             full: true,
         };
@@ -178,13 +176,14 @@ fn run_accepted(
     center: Point2,
     points: &[i32],
 ) -> FinishAnswer
-    requires { ⌜ runChecked (lent counts (now positions) (now outs) (now halves) (now faces)
-        (now nodes) (now freed) (now buckets) (now pending) (now answers) (center .x) (center .y) (now points)) ≡ Accepted ⌝ }
-    ensures { λ r. ⌜ outcome r (now (positions .exit)) (now (outs .exit)) (now (halves .exit)) (now (faces .exit))
-        (now (nodes .exit)) (now (freed .exit)) (now (buckets .exit)) (now (pending .exit)) (now (answers .exit))
-        ≡ runOf (lent counts (now (positions .entry)) (now (outs .entry)) (now (halves .entry)) (now (faces .entry))
-        (now (nodes .entry)) (now (freed .entry)) (now (buckets .entry)) (now (pending .entry)) (now (answers .entry))
-        (center .x) (center .y) (now (points .entry))) ⌝ }
+    requires { ⌜ runChecked (runLent counts (meshRows (now positions) (now outs) (now halves) (now faces))
+        (ringRows (now nodes) (now freed) (now buckets)) (now pending) (now answers) center (now points)) ≡ Accepted ⌝ }
+    ensures { λ r. ⌜ ranWith r (meshRows (now (positions .exit)) (now (outs .exit)) (now (halves .exit)) (now (faces .exit)))
+        (ringRows (now (nodes .exit)) (now (freed .exit)) (now (buckets .exit))) (now (pending .exit)) (now (answers .exit))
+        ≡ runOf (runLent counts
+        (meshRows (now (positions .entry)) (now (outs .entry)) (now (halves .entry)) (now (faces .entry)))
+        (ringRows (now (nodes .entry)) (now (freed .entry)) (now (buckets .entry))) (now (pending .entry)) (now (answers .entry))
+        center (now (points .entry))) ⌝ }
 {
     let count = mesh_check::point_count(points) as u32;
     let hull = start::start_ring(positions, halves, faces, nodes, buckets, counts, center);
@@ -226,18 +225,12 @@ pub fn run(
     center: Point2,
     points: &[i32],
 ) -> FinishAnswer
-    ensures is { λ r. ⌜ outcome r (now (positions .exit)) (now (outs .exit)) (now (halves .exit)) (now (faces .exit))
-        (now (nodes .exit)) (now (freed .exit)) (now (buckets .exit)) (now (pending .exit)) (now (answers .exit))
-        ≡ runOf (lent counts (now (positions .entry)) (now (outs .entry)) (now (halves .entry)) (now (faces .entry))
-        (now (nodes .entry)) (now (freed .entry)) (now (buckets .entry)) (now (pending .entry)) (now (answers .entry))
-        (center .x) (center .y) (now (points .entry))) ⌝ }
-    ensures demand3 { λ r. ⌜ ((t : Totals) → r .finished ≡ Finished.Accepted t → Demand3
-        (lent counts (now (positions .entry)) (now (outs .entry)) (now (halves .entry)) (now (faces .entry))
-        (now (nodes .entry)) (now (freed .entry)) (now (buckets .entry)) (now (pending .entry)) (now (answers .entry))
-        (center .x) (center .y) (now (points .entry)))
-        (outcome r (now (positions .exit)) (now (outs .exit)) (now (halves .exit)) (now (faces .exit))
-        (now (nodes .exit)) (now (freed .exit)) (now (buckets .exit)) (now (pending .exit)) (now (answers .exit)))
-        t) ⌝ }
+    ensures { λ r. ⌜ Ran
+        (runLent counts (meshRows (now (positions .entry)) (now (outs .entry)) (now (halves .entry)) (now (faces .entry)))
+        (ringRows (now (nodes .entry)) (now (freed .entry)) (now (buckets .entry))) (now (pending .entry)) (now (answers .entry))
+        center (now (points .entry)))
+        (ranWith r (meshRows (now (positions .exit)) (now (outs .exit)) (now (halves .exit)) (now (faces .exit)))
+        (ringRows (now (nodes .exit)) (now (freed .exit)) (now (buckets .exit))) (now (pending .exit)) (now (answers .exit))) ⌝ }
 {
     let short = answers_short(answers.len(), points);
     match start::check_sweep(

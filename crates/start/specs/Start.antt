@@ -4,8 +4,9 @@ use mathlib.Core.Bool.{Bool, _||_}
 use mathlib.Core.List.{List}
 use Prim.Native.Nat.{ℕ}
 use lib.Dec.{ltb}
-use lib.Ieee.{Float}
 use lib.IntN.{ℤ}
+use Rattle.angle.specs.declared.Point2.{Point2}
+use Rattle.dcel.specs.MeshRows.{MeshRows}
 use Rattle.locate.specs.Locate.{ringRowsShort, checkStart}
 use Rattle.mesh.specs.declared.Counts.{Counts}
 use Rattle.mesh_check.specs.declared.Checked.{Checked}
@@ -17,6 +18,6 @@ unfoldable pub sweepRowsShort : Bool → ℕ → ℕ → ℕ → ℕ → ℕ →
 sweepRowsShort short n nodes freed buckets pending = short || (ringRowsShort n nodes freed buckets || ltb pending 8)
 
 -- 01: "Each makes its checks afresh from the top of this table down; the first row that applies is answered." N is "seed plus points"
-unfoldable pub sweepChecked : List ℤ → Bool → Counts → List ℤ → List ℕ → List ℕ → List ℕ → ℕ → ℕ → ℕ → ℕ → Float → Float → Checked
-sweepChecked points short C positions outs halves faces nodes freed buckets pending cx cy =
-    checkStart points (sweepRowsShort short (vertexCount C points) nodes freed buckets pending) C positions outs halves faces cx cy
+unfoldable pub sweepChecked : List ℤ → Bool → Counts → MeshRows → ℕ → ℕ → ℕ → ℕ → Point2 → Checked
+sweepChecked points short C m nodes freed buckets pending center =
+    checkStart points (sweepRowsShort short (vertexCount C points) nodes freed buckets pending) C m center

@@ -7,11 +7,12 @@ use Prim.Native.Nat.{ℕ, _-_, _*_, _<_, _≤_, _^_}
 use native.Mathlib.Omega.{arith}
 use borrow.Author.Tests.{ltb-false}
 use lib.Dec.{ltb}
-use lib.Ieee.{Float}
 use lib.IntN.{ℤ}
 use lib.ListN.{length}
+use Rattle.angle.specs.declared.Point2.{Point2}
 use Rattle.circle_test.specs.GoodRows.{GoodRows}
-use Rattle.dcel.specs.Rows.{rowOf, linksOf}
+use Rattle.dcel.specs.MeshRows.{MeshRows, meshRows, linksIn}
+use Rattle.dcel.specs.Rows.{rowOf}
 use Rattle.decide.specs.Sweep.{Sweep}
 use Rattle.hull.specs.Boundary.{ToBuild}
 use Rattle.hull.specs.Build.{built-held}
@@ -33,56 +34,55 @@ use Rattle.start.specs.StartRows.{ToStart, Started}
 
 -- ---- the checks
 -- rows 1 to 7 let pass
-pub record AcceptedSweep (points : List ℤ) (short : Bool) (C : Counts) (q : List ℤ) (o h a : List ℕ) (nodes freed buckets pending : ℕ)
-    (cx cy : Float) : Type 0 where
-  pub start : AcceptedStart points C q o h a cx cy
+pub record AcceptedSweep (points : List ℤ) (short : Bool) (C : Counts) (m : MeshRows) (nodes freed buckets pending : ℕ)
+    (center : Point2) : Type 0 where
+  pub start : AcceptedStart points C m center
   pub ring-rows : RingRoom (vertexCount C points) nodes freed buckets
   pub pending-rows : 8 ≤ pending
   pub others : short ≡ false
 
-pub sweep-accepts : {points : List ℤ} {short : Bool} {C : Counts} {q : List ℤ} {o h a : List ℕ}
-    {nodes freed buckets pending : ℕ} {cx cy : Float}
-    → sweepChecked points short C q o h a nodes freed buckets pending cx cy ≡ Accepted
-    → AcceptedSweep points short C q o h a nodes freed buckets pending cx cy
+pub sweep-accepts : {points : List ℤ} {short : Bool} {C : Counts} {m : MeshRows} {nodes freed buckets pending : ℕ} {center : Point2}
+    → sweepChecked points short C m nodes freed buckets pending center ≡ Accepted
+    → AcceptedSweep points short C m nodes freed buckets pending center
 unfolding sweepChecked sweepRowsShort
-sweep-accepts {points} {short} {C} {q} {o} {h} {a} {nodes} {freed} {buckets} {pending} {cx} {cy} e =
+sweep-accepts {points} {short} {C} {m} {nodes} {freed} {buckets} {pending} {center} e =
     let n = vertexCount C points in
-    let s = start-accepts points (short || (ringRowsShort n nodes freed buckets || ltb pending 8)) C q o h a cx cy e in
+    let s = start-accepts points (short || (ringRowsShort n nodes freed buckets || ltb pending 8)) C m center e in
     let x = or-false short (ringRowsShort n nodes freed buckets || ltb pending 8) (s .1) in
     let y = or-false (ringRowsShort n nodes freed buckets) (ltb pending 8) (x .1) in
     record { start = s .0; ring-rows = ring-room n nodes freed buckets (y .0); pending-rows = ltb-false pending 8 (y .1); others = x .0 }
 
 -- a refusal has one of the numbers 1 to 7
-pub sweep-numbered : (points : List ℤ) (short : Bool) (C : Counts) (q : List ℤ) (o h a : List ℕ)
-    (nodes freed buckets pending : ℕ) (cx cy : Float)
-    → NumberedTo 7 (sweepChecked points short C q o h a nodes freed buckets pending cx cy)
+pub sweep-numbered : (points : List ℤ) (short : Bool) (C : Counts) (m : MeshRows) (nodes freed buckets pending : ℕ) (center : Point2)
+    → NumberedTo 7 (sweepChecked points short C m nodes freed buckets pending center)
 unfolding sweepChecked
-sweep-numbered points short C q o h a nodes freed buckets pending cx cy = start-numbered points _ C q o h a cx cy
+sweep-numbered points short C m nodes freed buckets pending center = start-numbered points _ C m center
 
 -- ---- the rows of an accepted mesh
-pub accepted-rows : {points : List ℤ} {C : Counts} {q : List ℤ} {o h a : List ℕ} → AcceptedWith points C q o h a → GoodRows C q o h a
+pub accepted-rows : {points : List ℤ} {C : Counts} {m : MeshRows} → AcceptedWith points C m
+    → GoodRows C (m .positions) (m .outs) (m .halves) (m .faces)
 accepted-rows A = record { room = accepted-held A .room; positions = accepted-placed A; good = A .good }
 
-module _ {points : List ℤ} {C : Counts} {q : List ℤ} {o h a : List ℕ} {cx cy : Float} (A : AcceptedStart points C q o h a cx cy) where
+module _ {points : List ℤ} {C : Counts} {m : MeshRows} {center : Point2} (A : AcceptedStart points C m center) where
   -- what `adjacent` and `convex_hull_size` ask
-  pub started-face : 0 < length a
+  pub started-face : 0 < length (m .faces)
   started-face = let M = accepted-held (A .mesh) in let f = M .rules .some in let g = M .room .faces in omega arith
 
   pub started-size : (2 * C .edges < 2 ^ 32) × (1 ≤ C .faces) × (3 * (C .faces - 1) ≤ 2 * C .edges)
   started-size = size-asks (accepted-held (A .mesh))
 
   -- a strict boundary has no more edges than the mesh has vertices
-  pub ring-most : boundaryLength C (linksOf o h a) ≤ C .vertices
-  ring-most = strict-size (accepted-held (A .mesh)) q (accepted-placed (A .mesh)) cx cy (A .strict)
+  pub ring-most : boundaryLength C (linksIn m) ≤ C .vertices
+  ring-most = strict-size (accepted-held (A .mesh)) (m .positions) (accepted-placed (A .mesh)) (center .x) (center .y) (A .strict)
 
 -- THE RING IS BUILT: for every row of out edges and every row for freed nodes
-module _ {C : Counts} {q : List ℤ} {h a : List ℕ} {n b : ℕ} {cx cy : Float} (T : ToStart C q h a n b cx cy) {start size : ℕ}
+module _ {C : Counts} {q : List ℤ} {h a : List ℕ} {n b : ℕ} {center : Point2} (T : ToStart C q h a n b center) {start size : ℕ}
     (s : start ≡ rowOf a 0) (z : size ≡ 2 * C .edges - 3 * (C .faces - 1)) where
-  pub started-build : ToBuild q h cx cy start size n b
+  pub started-build : ToBuild q h (center .x) (center .y) start size n b
   started-build = accepted-build (T .start) s z (T .node-room) (T .bucket-room)
 
-  pub ring-started : {nodes : List Node} {buckets : List ℕ} {r : Hull} → FromBoundary q h cx cy start size nodes buckets r
-      → length nodes ≡ n → length buckets ≡ b → Started C q h a nodes buckets r cx cy
+  pub ring-started : {nodes : List Node} {buckets : List ℕ} {r : Hull} → FromBoundary q h (center .x) (center .y) start size nodes buckets r
+      → length nodes ≡ n → length buckets ≡ b → Started C q h a nodes buckets r center
   ring-started {nodes} {buckets} {r} F u v = record {
     sweep = λ {points} {o} {freed} A l. held A l;
     nodes-most =
@@ -92,8 +92,8 @@ module _ {C : Counts} {q : List ℤ} {h a : List ℕ} {n b : ℕ} {cx cy : Float
         omega arith;
   }
     where
-      held : {points : List ℤ} {o freed : List ℕ} → AcceptedStart points C q o h a cx cy → C .vertices ≤ length freed
-          → Sweep C q o h a nodes freed buckets r cx cy
+      held : {points : List ℤ} {o freed : List ℕ} → AcceptedStart points C (meshRows q o h a) center → C .vertices ≤ length freed
+          → Sweep C q o h a nodes freed buckets r (center .x) (center .y)
       held {points} {o} {freed} A l =
           let M = accepted-held (A .mesh) in
           let most = ring-most A in
@@ -101,7 +101,7 @@ module _ {C : Counts} {q : List ℤ} {h a : List ℕ} {n b : ℕ} {cx cy : Float
           record {
             mesh = accepted-rows (A .mesh);
             center = A .center;
-            ring = built-held o a (M .rules) (subst (λ (x : ℕ). ToBuild q h cx cy x size n b) s started-build) whole
-                (subst (λ (x : ℕ). FromBoundary q h cx cy x size nodes buckets r) s F)
+            ring = built-held o a (M .rules) (subst (λ (x : ℕ). ToBuild q h (center .x) (center .y) x size n b) s started-build) whole
+                (subst (λ (x : ℕ). FromBoundary q h (center .x) (center .y) x size nodes buckets r) s F)
                 (let k = T .node-room in omega arith) (omega arith) (let k = T .bucket-room in omega arith);
           }

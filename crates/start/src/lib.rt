@@ -2,6 +2,8 @@
 // the ring of the mesh's boundary, built in the lent rows; and zeros in the rows that end so.
 ghost use mathlib.Core.Path.{_≡_};
 ghost use lib.ListN.{length};
+ghost use Rattle.dcel.specs.MeshRows.{meshRows};
+ghost use Rattle.ring_rows.specs.RingRows.{ringRows};
 ghost use Rattle.start.specs.Start.{sweepRowsShort, sweepChecked};
 ghost use Rattle.start.specs.StartRows.{ToStart, Started, RowsCleared};
 use angle::Point2;
@@ -47,8 +49,8 @@ pub fn check_sweep(
     center: Point2,
 ) -> Checked
     ensures { λ r. ⌜ r ≡ sweepChecked (now (points .entry)) short
-        counts (now (positions .entry)) (now (outs .entry)) (now (halves .entry)) (now (faces .entry))
-        nodes freed buckets pending (center .x) (center .y) ⌝ }
+        counts (meshRows (now (positions .entry)) (now (outs .entry)) (now (halves .entry)) (now (faces .entry)))
+        nodes freed buckets pending center ⌝ }
 {
     let n = mesh_check::vertex_count(counts, points);
     let few = sweep_rows_short(short, n, nodes, freed, buckets, pending);
@@ -66,9 +68,9 @@ pub fn start_ring(
     center: Point2,
 ) -> Hull
     requires { ⌜ ToStart counts (now positions) (now halves) (now faces)
-        (length (now nodes)) (length (now buckets)) (center .x) (center .y) ⌝ }
+        (length (now nodes)) (length (now buckets)) center ⌝ }
     ensures { λ r. ⌜ Started counts (now (positions .entry)) (now (halves .entry)) (now (faces .entry))
-        (now (nodes .exit)) (now (buckets .exit)) r (center .x) (center .y) ⌝ }
+        (now (nodes .exit)) (now (buckets .exit)) r center ⌝ }
 {
     let start = dcel::adjacent(faces, 0);
     let size = hull::convex_hull_size(counts);
@@ -77,8 +79,8 @@ pub fn start_ring(
 
 // The ring's rows and the pending list to zeros, each over its whole length.
 pub fn clear_rows(nodes: &mut [Node], freed: &mut [u32], buckets: &mut [u32], pending: &mut [u32])
-    ensures { λ r. ⌜ RowsCleared (now (nodes .entry)) (now (freed .entry)) (now (buckets .entry)) (now (pending .entry))
-        (now (nodes .exit)) (now (freed .exit)) (now (buckets .exit)) (now (pending .exit)) ⌝ }
+    ensures { λ r. ⌜ RowsCleared (ringRows (now (nodes .entry)) (now (freed .entry)) (now (buckets .entry))) (now (pending .entry))
+        (ringRows (now (nodes .exit)) (now (freed .exit)) (now (buckets .exit))) (now (pending .exit)) ⌝ }
 {
     locate::clear_ring(nodes, freed, buckets);
     dcel::clear(pending);

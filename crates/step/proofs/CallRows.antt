@@ -4,13 +4,12 @@ use mathlib.Core.List.{List, [], _∷_}
 use mathlib.Core.Path.{_≡_, refl, sym, _∙_, ap}
 use Prim.Native.Nat.{ℕ, suc, _+_, _*_, _^_, _<_, _≤_}
 use native.Mathlib.Omega.{arith}
-use lib.Ieee.{Float}
 use lib.IntN.{ℤ}
 use lib.ListN.{length, replicate}
-use Rattle.ring_rows.specs.Rows.{zeroNode}
-use Rattle.dcel.specs.Rows.{linksOf, positionOf}
-use Rattle.dcel.specs.Views.{outs-from, halves-from, faces-from, positions-from}
-use Rattle.flip_count.specs.CountLaws.{count-from}
+use Rattle.angle.specs.declared.Point2.{Point2}
+use Rattle.dcel.specs.MeshRows.{MeshRows, meshRows, linksIn, placesIn, SameLengths}
+use Rattle.dcel.specs.Rows.{positionOf}
+use Rattle.dcel.specs.Views.{mesh-rows-from}
 use Rattle.math.specs.declared.Point.{Point}
 use Rattle.math.specs.Determinant.{InRange}
 use Rattle.mesh.specs.declared.Counts.{Counts}
@@ -19,39 +18,38 @@ use Rattle.mesh_check.specs.declared.Refusal.{Refusal}
 use Rattle.mesh_check.specs.Check.{vertexCount, pointCount}
 use Rattle.ring_rows.specs.declared.Node.{Node}
 use Rattle.ring_rows.specs.declared.Hull.{Hull}
+use Rattle.ring_rows.specs.Laws.{zeros-same}
+use Rattle.ring_rows.specs.RingRows.{RingRows, ringRows}
 use Rattle.start.specs.Start.{sweepChecked}
 use Rattle.start.specs.StartLaws.{AcceptedSweep, sweep-accepts}
 use Rattle.start.specs.StartRows.{ToStart, Started, RowsCleared}
 use Rattle.step.specs.declared.Progress.{Progress}
 use Rattle.sweep.specs.declared.StepAnswer.{StepAnswer}
 use Rattle.sweep.specs.declared.Stepped.{Stepped}
-use Rattle.sweep.specs.StepCall.{Outcome, pointRow, answerFrom, stepChecked, outcomeOf, stepOf}
+use Rattle.sweep.specs.StepCall.{pointRow, answerFrom, stepChecked, steppedWith, stepOutcome, stepOf}
 use Rattle.sweep.specs.Step.{Stepping, stepMesh}
 use Rattle.step.specs.StepRows.{steppingOf, StepRoom, StepReady, StepLeaves, SweptOnce}
 
 -- ---- the answer
-module _ (r : Progress) (place : ℕ) (q : List ℤ) (o h a : List ℕ) where
+module _ (r : Progress) (place : ℕ) (m : MeshRows) where
   pub answer-full : r .full ≡ true
-      → record { counts = r .counts; stepped = Stepped.Refused (record { number = 9; place = place }) }
-      ≡ answerFrom place (steppingOf q o h a r)
+      → record { counts = r .counts; stepped = Stepped.Refused (record { number = 9; place = place }) } ≡ answerFrom place (steppingOf m r)
   unfolding answerFrom steppingOf
   answer-full e = rw e
 
-  pub answer-done : r .full ≡ false → r .answer .flips .low < 2 ^ 64
-      → record { counts = r .counts; stepped = Stepped.Accepted (r .answer) } ≡ answerFrom place (steppingOf q o h a r)
+  pub answer-done : r .full ≡ false
+      → record { counts = r .counts; stepped = Stepped.Accepted (r .answer) } ≡ answerFrom place (steppingOf m r)
   unfolding answerFrom steppingOf
-  answer-done e k =
-      let x = count-from (r .answer .flips) k in
-      rw (e, ← x) refl
+  answer-done e = rw e refl
 
 -- ---- the checks
 -- the row that is lent holds the point's coordinates
 pub point-checked : {x y : ℤ} {v : Point} → x ≡ v .x → y ≡ v .y
-    → (C : Counts) (q : List ℤ) (o h a : List ℕ) (nodes freed buckets pending : ℕ) (cx cy : Float) {r : Checked}
-    → r ≡ sweepChecked (x ∷ y ∷ []) false C q o h a nodes freed buckets pending cx cy
-    → r ≡ stepChecked C q o h a nodes freed buckets pending cx cy v
+    → (C : Counts) (m : MeshRows) (nodes freed buckets pending : ℕ) (center : Point2) {r : Checked}
+    → r ≡ sweepChecked (x ∷ y ∷ []) false C m nodes freed buckets pending center
+    → r ≡ stepChecked C m nodes freed buckets pending center v
 unfolding stepChecked
-point-checked e f C q o h a nodes freed buckets pending cx cy z = rw (z, e, f)
+point-checked e f C m nodes freed buckets pending center z = rw (z, e, f)
 
 -- ---- the ring, the step, and zeros
 -- seed plus point
@@ -59,28 +57,30 @@ count-is : (C : Counts) (v : Point) → vertexCount C (pointRow v) ≡ C .vertic
 unfolding vertexCount pointCount
 count-is C v = refl
 
-module _ {C : Counts} {q : List ℤ} {o h a : List ℕ} {n f b k : ℕ} {cx cy : Float} {v : Point}
-    (A : AcceptedSweep (pointRow v) false C q o h a n f b k cx cy) where
+module _ {C : Counts} {m : MeshRows} {n f b k : ℕ} {center : Point2} {v : Point}
+    (A : AcceptedSweep (pointRow v) false C m n f b k center) where
   in-range : InRange v
   unfolding pointCount positionOf
   in-range = A .start .mesh .range {i = 0} (omega arith)
 
-  pub to-start : ToStart C q h a n b cx cy
+  pub to-start : ToStart C (m .positions) (m .halves) (m .faces) n b center
   to-start = record {
     points = pointRow v;
-    outs = o;
+    outs = m .outs;
     start = A .start;
     node-room = let c = count-is C v in let r = A .ring-rows .nodes-fit in omega arith;
     bucket-room = let r = A .ring-rows .sixteen in omega arith;
   }
 
   -- with the ring in its rows
-  module _ {nodes : List Node} {buckets : List ℕ} {hull : Hull} (S : Started C q h a nodes buckets hull cx cy)
+  module _ {nodes : List Node} {buckets : List ℕ} {hull : Hull}
+      (S : Started C (m .positions) (m .halves) (m .faces) nodes buckets hull center)
       (ln : length nodes ≡ n) (lb : length buckets ≡ b) where
-    pub to-step : {freed row : List ℕ} → length freed ≡ f → length row ≡ k → StepReady C q o h a row nodes freed buckets hull cx cy v
+    pub to-step : {freed row : List ℕ} → length freed ≡ f → length row ≡ k
+        → StepReady C (m .positions) (m .outs) (m .halves) (m .faces) row nodes freed buckets hull (center .x) (center .y) v
     to-step lf lr =
         let c = count-is C v in
-        let m = A .start .mesh .most in
+        let w = A .start .mesh .most in
         let r = A .start .mesh .rows in
         let g = A .ring-rows in
         record {
@@ -100,101 +100,49 @@ module _ {C : Counts} {q : List ℤ} {o h a : List ℕ} {n f b k : ℕ} {cx cy :
           };
         }
 
+-- the ring's rows are built, then stepped on, then cleared; each keeps their lengths
 pub swept-once : {C : Counts} {q q′ : List ℤ} {o h a row o′ h′ a′ row₂ : List ℕ}
     {nodes nodes₁ nodes₂ : List Node} {freed buckets buckets₁ freed₂ buckets₂ : List ℕ}
-    {hull : Hull} {cx cy : Float} {v : Point} {r : Progress}
-    → StepLeaves C q q′ o h a row o′ h′ a′ nodes₁ freed buckets₁ nodes₂ freed₂ buckets₂ hull cx cy v r
+    {hull : Hull} {center : Point2} {v : Point} {r : Progress}
+    → StepLeaves C q q′ o h a row o′ h′ a′ nodes₁ freed buckets₁ nodes₂ freed₂ buckets₂ hull (center .x) (center .y) v r
     → length nodes₂ ≡ length nodes₁ → length nodes₁ ≡ length nodes → length freed₂ ≡ length freed
     → length buckets₂ ≡ length buckets₁ → length buckets₁ ≡ length buckets → length row₂ ≡ length row
-    → {nodes′ : List Node} {freed′ buckets′ row′ : List ℕ} → RowsCleared nodes₂ freed₂ buckets₂ row₂ nodes′ freed′ buckets′ row′
-    → SweptOnce C q o h a nodes freed buckets row q′ o′ h′ a′ nodes′ freed′ buckets′ row′ cx cy v r
+    → {ring′ : RingRows} {row′ : List ℕ} → RowsCleared (ringRows nodes₂ freed₂ buckets₂) row₂ ring′ row′
+    → SweptOnce C (meshRows q o h a) (ringRows nodes freed buckets) row (meshRows q′ o′ h′ a′) ring′ row′ center v r
 swept-once K i i′ j k k′ l Z = record {
   is = K .is;
   zeros = record {
-    nodes-zero = Z .nodes-zero ∙ ap (λ (n : ℕ). replicate n zeroNode) (i ∙ i′);
-    freed-zero = Z .freed-zero ∙ ap (λ (n : ℕ). replicate n 0) j;
-    buckets-zero = Z .buckets-zero ∙ ap (λ (n : ℕ). replicate n 0) (k ∙ k′);
+    ring-zero = Z .ring-zero ∙ zeros-same _ _ (i ∙ i′) j (k ∙ k′);
     pending-zero = Z .pending-zero ∙ ap (λ (n : ℕ). replicate n 0) l;
   };
 }
 
 -- ---- the call
 -- k is what the checks answer
-pub step-accepted : {k : Checked} → k ≡ Checked.Accepted
-    → {C : Counts} {q : List ℤ} {o h a : List ℕ} {nodes freed buckets row : ℕ} {cx cy : Float} {v : Point}
-    → k ≡ stepChecked C q o h a nodes freed buckets row cx cy v
-    → AcceptedSweep (pointRow v) false C q o h a nodes freed buckets row cx cy
+pub once-accepted : {k : Checked} → k ≡ Checked.Accepted
+    → {C : Counts} {m : MeshRows} {nodes freed buckets pending : ℕ} {center : Point2} {v : Point}
+    → k ≡ stepChecked C m nodes freed buckets pending center v
+    → AcceptedSweep (pointRow v) false C m nodes freed buckets pending center
 unfolding stepChecked
-step-accepted e f = sweep-accepts (sym f ∙ e)
+once-accepted e f = sweep-accepts (sym f ∙ e)
 
-module _ (C : Counts) (q : List ℤ) (o h a : List ℕ) (nodes : List Node) (freed buckets row : List ℕ) (cx cy : Float) (v : Point) where
+module _ (C : Counts) (m : MeshRows) (ring : RingRows) (pending : List ℕ) (center : Point2) (v : Point) where
   abbrev checks : Checked
-  checks = stepChecked C q o h a (length nodes) (length freed) (length buckets) (length row) cx cy v
+  checks = stepChecked C m (length (ring .nodes)) (length (ring .freed)) (length (ring .buckets)) (length pending) center v
 
   pub refused-outcome : {k : Checked} {x : Refusal} → k ≡ Checked.Refused x → k ≡ checks
-      → _≡_ {A = Outcome}
-      (record {
-        answer = record { counts = C; stepped = Stepped.Refused x };
-        positions = q;
-        outs = o;
-        halves = h;
-        faces = a;
-        nodes = nodes;
-        freed = freed;
-        buckets = buckets;
-        pending = row;
-      })
-      (stepOf C q o h a nodes freed buckets row cx cy v)
-  unfolding stepOf outcomeOf
+      → steppedWith (record { counts = C; stepped = Stepped.Refused x }) m ring pending ≡ stepOf C m ring pending center v
+  unfolding stepOf stepOutcome
   refused-outcome e f = rw (← f, e) refl
 
-  mesh-rows : (r : Progress) {s : Stepping} {x : StepAnswer} {q′ : List ℤ} {o′ h′ a′ : List ℕ}
-      {nodes′ : List Node} {freed′ buckets′ row′ : List ℕ}
-      → steppingOf q′ o′ h′ a′ r ≡ s → RowsCleared nodes freed buckets row nodes′ freed′ buckets′ row′
-      → length q′ ≡ length q → length o′ ≡ length o → length h′ ≡ length h → length a′ ≡ length a
-      → x ≡ answerFrom 0 (steppingOf q′ o′ h′ a′ r)
-      → _≡_ {A = Outcome}
-      (record {
-        answer = x;
-        positions = q′;
-        outs = o′;
-        halves = h′;
-        faces = a′;
-        nodes = nodes′;
-        freed = freed′;
-        buckets = buckets′;
-        pending = row′;
-      })
-      (outcomeOf C q o h a nodes freed buckets row Checked.Accepted s)
-  unfolding outcomeOf steppingOf
-  mesh-rows r {s} {x} {q′} {o′} {h′} {a′} e Z i j k l y =
-      let L = linksOf o′ h′ a′ in
-      let p₁ = positions-from q′ (positionOf q′) refl (length q) i in
-      let p₂ = outs-from o′ h′ a′ L refl (length o) j in
-      let p₃ = halves-from o′ h′ a′ L refl (length h) k in
-      let p₄ = faces-from o′ h′ a′ L refl (length a) l in
-      rw (← e) (cc (Z .nodes-zero, Z .freed-zero, Z .buckets-zero, Z .pending-zero))
+  outcome-is : {x x′ : StepAnswer} {m₁ m₂ : MeshRows} {g₁ g₂ : RingRows} {p₁ p₂ : List ℕ} → x ≡ x′ → m₁ ≡ m₂ → g₁ ≡ g₂ → p₁ ≡ p₂
+      → steppedWith x m₁ g₁ p₁ ≡ steppedWith x′ m₂ g₂ p₂
+  outcome-is a b c d = rw (a, b, c, d) refl
 
-  pub accepted-outcome : {k : Checked} → k ≡ Checked.Accepted → k ≡ checks → {x : StepAnswer} {q′ : List ℤ} {o′ h′ a′ : List ℕ}
-      {nodes′ : List Node} {freed′ buckets′ row′ : List ℕ} {r : Progress}
-      → SweptOnce C q o h a nodes freed buckets row q′ o′ h′ a′ nodes′ freed′ buckets′ row′ cx cy v r
-      → length q′ ≡ length q → length o′ ≡ length o → length h′ ≡ length h → length a′ ≡ length a
-      → x ≡ answerFrom 0 (steppingOf q′ o′ h′ a′ r)
-      → _≡_ {A = Outcome}
-      (record {
-        answer = x;
-        positions = q′;
-        outs = o′;
-        halves = h′;
-        faces = a′;
-        nodes = nodes′;
-        freed = freed′;
-        buckets = buckets′;
-        pending = row′;
-      })
-      (stepOf C q o h a nodes freed buckets row cx cy v)
-  unfolding stepOf
-  accepted-outcome e f {r = r} K i j k l y =
-      mesh-rows r (K .is) (K .zeros) i j k l y
-      ∙ ap (λ (c : Checked). outcomeOf C q o h a nodes freed buckets row c (stepMesh (length row) cx cy C (linksOf o h a) (positionOf q) v))
-      (sym e ∙ f)
+  pub accepted-outcome : {k : Checked} → k ≡ Checked.Accepted → k ≡ checks
+      → {x : StepAnswer} {m′ : MeshRows} {ring′ : RingRows} {pending′ : List ℕ} {r : Progress}
+      → SweptOnce C m ring pending m′ ring′ pending′ center v r → SameLengths m m′ → x ≡ answerFrom 0 (steppingOf m′ r)
+      → steppedWith x m′ ring′ pending′ ≡ stepOf C m ring pending center v
+  unfolding stepOf stepOutcome steppingOf
+  accepted-outcome e f K S y =
+      rw (← f, e, ← K .is) (outcome-is y (mesh-rows-from S refl refl) (K .zeros .ring-zero) (K .zeros .pending-zero))

@@ -20,6 +20,7 @@ use Rattle.corner.specs.declared.Added.{Added}
 use Rattle.corner.specs.Corner.{Extended}
 use Rattle.corner.specs.CornerRows.{extendedOf, MeshRoom}
 use Rattle.corner.specs.RowsLaws.{sized-room}
+use Rattle.dcel.specs.MeshRows.{meshRows}
 use Rattle.dcel.specs.Rows.{linksOf, positionOf}
 use Rattle.decide.specs.declared.Decision.{Decision}
 use Rattle.decide.specs.declared.Fate.{Fate}
@@ -27,8 +28,6 @@ use Rattle.decide.specs.declared.Fate.the-variants.{Added as AddedFate}
 use Rattle.decide.specs.Decide.{Decided, decided}
 use Rattle.decide.specs.Sweep.{Sweep, ToDecide, ChainAngles, Decides}
 use Rattle.decide.specs.SweepLaws.{sweep-sound}
-use Rattle.flip_count.specs.declared.FlipCount.{FlipCount}
-use Rattle.flip_count.specs.FlipCount.{flipCountOf}
 use Rattle.hull.specs.EntersRing.{EntersRing, ToEnterRing, EnteredRing}
 use Rattle.hull.specs.Held.{Held}
 use Rattle.math.specs.declared.Point.{Point}
@@ -55,7 +54,7 @@ use Rattle.step.specs.StepRows.{progressOf, steppingOf, StepRoom, StepRe
 
 -- the parts of a step
 stepping-by : (q′ : List ℤ) (o′ h′ a′ : List ℕ) (r : Entered) (hull′ : Hull) {g F : Fate} {P : ℕ → Point} {X : Applied} {s : Progress}
-    → s ≡ progressOf (r .added) hull′ g → g ≡ F → positionOf q′ ≡ P → appliedOf o′ h′ a′ r ≡ X → steppingOf q′ o′ h′ a′ s ≡ record { fate = F; positions = P; mesh = X .mesh }
+    → s ≡ progressOf (r .added) hull′ g → g ≡ F → positionOf q′ ≡ P → appliedOf o′ h′ a′ r ≡ X → steppingOf (meshRows q′ o′ h′ a′) s ≡ record { fate = F; positions = P; mesh = X .mesh }
 unfolding steppingOf extendedOf
 stepping-by q′ o′ h′ a′ r hull′ z x y w = rw (z, ← x, ← y, ← w) refl
 
@@ -83,12 +82,12 @@ module _ {C : Counts} {q : List ℤ} {o h a row : List ℕ} {nodes : List Node} 
     fate-is = ap (λ (X : Decided). X .fate) (Δ .is)
 
     -- ---- a point that is left alone
-    pub left-alone : {t : Bool} → t ≡ isAdded (D .fate) → not t ≡ true → (z : FlipCount) → flipCountOf z ≡ 0 → {r : Progress}
-        → r ≡ progressOf (record { counts = C; faces = 0; flips = z; full = false }) hull (D .fate)
+    pub left-alone : {t : Bool} → t ≡ isAdded (D .fate) → not t ≡ true → {r : Progress}
+        → r ≡ progressOf (record { counts = C; faces = 0; flips = 0; full = false }) hull (D .fate)
         → StepLeaves C q q o h a row o h a nodes freed buckets nodes freed buckets hull cx cy v r
     unfolding steppingOf leftAlone
-    left-alone {t} e n z k x = rw x (record {
-      is = rw (k, fate-is) (sym (step-alone (length row) cx cy C L p v (sym (e ∙ ap isAdded fate-is) ∙ go t n)));
+    left-alone {t} e n x = rw x (record {
+      is = rw fate-is (sym (step-alone (length row) cx cy C L p v (sym (e ∙ ap isAdded fate-is) ∙ go t n)));
       sweep = λ g. R .sweep;
       nodes-most = λ N K. K .nodes-most;
     })
@@ -168,7 +167,7 @@ module _ {C : Counts} {q : List ℤ} {o h a row : List ℕ} {nodes : List Node} 
         r-is : appliedOf o′ h′ a′ r ≡ r₀
         r-is = P .is ∙ rw (edge-is, left-is, right-is) refl
 
-        stepped-is : (hull′ : Hull) {s : Progress} → s ≡ progressOf (r .added) hull′ (D .fate) → steppingOf q′ o′ h′ a′ s ≡ stepMesh (length row) cx cy C L p v
+        stepped-is : (hull′ : Hull) {s : Progress} → s ≡ progressOf (r .added) hull′ (D .fate) → steppingOf (meshRows q′ o′ h′ a′) s ≡ stepMesh (length row) cx cy C L p v
         stepped-is hull′ z = stepping-by q′ o′ h′ a′ r hull′ z (fate-is ∙ f) (P .places) r-is ∙ sym (step-added swept (R .range) f (length row))
 
         -- a flip was refused

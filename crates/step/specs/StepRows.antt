@@ -6,21 +6,23 @@ use Prim.Native.Nat.{ℕ, suc, _+_, _*_, _<_, _≤_}
 use lib.Ieee.{Float}
 use lib.IntN.{ℤ}
 use lib.ListN.{length}
+use Rattle.angle.specs.declared.Point2.{Point2}
 use Rattle.apply.specs.Apply.{addTurns}
 use Rattle.apply.specs.ApplyRows.{AddReady, appliedOf}
 use Rattle.apply.specs.declared.Entered.{Entered}
 use Rattle.corner.specs.declared.Added.{Added}
 use Rattle.corner.specs.CornerRows.{MeshRoom}
+use Rattle.dcel.specs.MeshRows.{MeshRows, meshRows, linksIn, placesIn}
 use Rattle.dcel.specs.Rows.{linksOf, positionOf}
 use Rattle.decide.specs.declared.Decision.{Decision}
 use Rattle.decide.specs.declared.Fate.{Fate}
 use Rattle.decide.specs.Sweep.{Sweep}
-use Rattle.flip_count.specs.FlipCount.{flipCountOf}
 use Rattle.math.specs.declared.Point.{Point}
 use Rattle.math.specs.Determinant.{InRange}
 use Rattle.mesh.specs.declared.Counts.{Counts}
 use Rattle.ring_rows.specs.declared.Node.{Node}
 use Rattle.ring_rows.specs.declared.Hull.{Hull}
+use Rattle.ring_rows.specs.RingRows.{RingRows}
 use Rattle.start.specs.StartRows.{RowsCleared}
 use Rattle.sums.specs.Put.{put}
 use Rattle.step.specs.declared.Progress.{Progress}
@@ -31,11 +33,11 @@ abbrev pub progressOf : Added → Hull → Fate → Progress
 progressOf g hull f = record { counts = g .counts; hull = hull; answer = record { fate = f; faces = g .faces; flips = g .flips }; full = g .full }
 
 -- the rows as what has become of a point and of the mesh
-unfoldable pub steppingOf : List ℤ → List ℕ → List ℕ → List ℕ → Progress → Stepping
-steppingOf q o h a r = record {
+unfoldable pub steppingOf : MeshRows → Progress → Stepping
+steppingOf m r = record {
   fate = r .answer .fate;
-  positions = positionOf q;
-  mesh = record { counts = r .counts; links = linksOf o h a; faces = r .answer .faces; flips = flipCountOf (r .answer .flips); full = r .full };
+  positions = placesIn m;
+  mesh = record { counts = r .counts; links = linksIn m; faces = r .answer .faces; flips = r .answer .flips; full = r .full };
 }
 
 -- the rows do for N vertices, one more than there are, by 01's sizes
@@ -60,7 +62,7 @@ pub record StepReady (C : Counts) (q : List ℤ) (o h a row : List ℕ) (nodes :
 -- What it leaves: the step as it is defined, and where no flip was refused again a mesh with its ring, whose nodes the rows have room for
 pub record StepLeaves (C : Counts) (q q′ : List ℤ) (o h a row o′ h′ a′ : List ℕ) (nodes : List Node) (freed buckets : List ℕ) (nodes′ : List Node) (freed′ buckets′ : List ℕ)
     (hull : Hull) (cx cy : Float) (v : Point) (r : Progress) : Type 0 where
-  pub is : steppingOf q′ o′ h′ a′ r ≡ stepMesh (length row) cx cy C (linksOf o h a) (positionOf q) v
+  pub is : steppingOf (meshRows q′ o′ h′ a′) r ≡ stepMesh (length row) cx cy C (linksOf o h a) (positionOf q) v
   pub sweep : r .full ≡ false → Sweep (r .counts) q′ o′ h′ a′ nodes′ freed′ buckets′ (r .hull) cx cy
   pub nodes-most : (N : ℕ) → StepRoom N C q o h a row nodes freed buckets hull → r .hull .nodes ≤ suc N
 
@@ -78,7 +80,7 @@ pub record PointAdded (C : Counts) (q q′ : List ℤ) (o h a row o′ h′ a′
 
 -- ---- the call
 -- The step as it is defined, and zeros
-pub record SweptOnce (C : Counts) (q : List ℤ) (o h a : List ℕ) (nodes : List Node) (freed buckets row : List ℕ)
-    (q′ : List ℤ) (o′ h′ a′ : List ℕ) (nodes′ : List Node) (freed′ buckets′ row′ : List ℕ) (cx cy : Float) (v : Point) (r : Progress) : Type 0 where
-  pub is : steppingOf q′ o′ h′ a′ r ≡ stepMesh (length row) cx cy C (linksOf o h a) (positionOf q) v
-  pub zeros : RowsCleared nodes freed buckets row nodes′ freed′ buckets′ row′
+pub record SweptOnce (C : Counts) (m : MeshRows) (ring : RingRows) (pending : List ℕ) (m′ : MeshRows) (ring′ : RingRows) (pending′ : List ℕ)
+    (center : Point2) (v : Point) (r : Progress) : Type 0 where
+  pub is : steppingOf m′ r ≡ stepMesh (length pending) (center .x) (center .y) C (linksIn m) (placesIn m) v
+  pub zeros : RowsCleared ring pending ring′ pending′

@@ -1,22 +1,20 @@
 // One step of the sweep (bulk_load.rs, `single_bulk_insertion_step`): what is decided about a point, and then done; the mesh and its ring
 // go from step to step in the lent rows. And the call `step`, which makes one step on a lent mesh, whose ring it builds first. What they
 // answer and leave is `stepMesh` and `stepOf` of the crate `sweep`, specs/Step.antt and specs/StepCall.antt.
-ghost use mathlib.Core.List.{List};
 ghost use mathlib.Core.Path.{_≡_};
 ghost use mathlib.Core.Bool.{false};
-ghost use lib.IntN.{ℤ};
 ghost use lib.ListN.{length};
-ghost use Prim.Native.Nat.{ℕ};
+ghost use Rattle.dcel.specs.MeshRows.{MeshRows, meshRows};
+ghost use Rattle.ring_rows.specs.RingRows.{ringRows};
 ghost use Rattle.start.specs.StartLaws.{AcceptedSweep};
 ghost use Rattle.sweep.specs.Step.{isAdded};
 ghost use Rattle.step.specs.StepRows.{progressOf, steppingOf, PointReady, PointAdded, StepReady, StepLeaves, SweptOnce};
-ghost use Rattle.sweep.specs.StepCall.{Outcome, pointRow, answerFrom, stepChecked, stepOf};
+ghost use Rattle.sweep.specs.StepCall.{pointRow, answerFrom, stepChecked, steppedWith, stepOf};
 use angle::Point2;
 use apply::Entered;
 use corner::Added;
 use decide::Decision;
 use decide::Fate;
-use flip_count::FlipCount;
 use math::Point;
 use mesh::Counts;
 use mesh_check::Checked;
@@ -77,14 +75,13 @@ fn progress_of(added: Added, hull: Hull, fate: Fate) -> Progress
     ensures { λ r. ⌜ r ≡ progressOf added hull fate ⌝ }
 {
     let counts = added.counts;
-    let flips = added.flips;
     Progress {
         counts: counts,
         hull: hull,
         answer: Answer {
             fate: fate,
             faces: added.faces,
-            flips: flips,
+            flips: added.flips,
         },
         full: added.full,
     }
@@ -129,7 +126,7 @@ pub fn single_bulk_insertion_step(
         let none = Added {
             counts: counts,
             faces: 0,
-            flips: FlipCount::zero(),
+            flips: 0,
             full: false,
         };
         return progress_of(none, hull, fate);
@@ -176,8 +173,9 @@ fn check_step(
     center: Point2,
     point: Point,
 ) -> Checked
-    ensures { λ r. ⌜ r ≡ stepChecked counts (now (positions .entry)) (now (outs .entry)) (now (halves .entry)) (now (faces .entry))
-        nodes freed buckets pending (center .x) (center .y) point ⌝ }
+    ensures { λ r. ⌜ r ≡ stepChecked counts
+        (meshRows (now (positions .entry)) (now (outs .entry)) (now (halves .entry)) (now (faces .entry)))
+        nodes freed buckets pending center point ⌝ }
 {
     let row = [point.x, point.y];
     start::check_sweep(
@@ -210,13 +208,14 @@ fn sweep_once(
     center: Point2,
     point: Point,
 ) -> Progress
-    requires { ⌜ AcceptedSweep (pointRow point) false counts (now positions) (now outs) (now halves) (now faces)
-        (length (now nodes)) (length (now freed)) (length (now buckets)) (length (now pending)) (center .x) (center .y) ⌝ }
-    ensures { λ r. ⌜ SweptOnce counts (now (positions .entry)) (now (outs .entry)) (now (halves .entry)) (now (faces .entry))
-        (now (nodes .entry)) (now (freed .entry)) (now (buckets .entry)) (now (pending .entry))
-        (now (positions .exit)) (now (outs .exit)) (now (halves .exit)) (now (faces .exit))
-        (now (nodes .exit)) (now (freed .exit)) (now (buckets .exit)) (now (pending .exit))
-        (center .x) (center .y) point r ⌝ }
+    requires { ⌜ AcceptedSweep (pointRow point) false counts (meshRows (now positions) (now outs) (now halves) (now faces))
+        (length (now nodes)) (length (now freed)) (length (now buckets)) (length (now pending)) center ⌝ }
+    ensures { λ r. ⌜ SweptOnce counts
+        (meshRows (now (positions .entry)) (now (outs .entry)) (now (halves .entry)) (now (faces .entry)))
+        (ringRows (now (nodes .entry)) (now (freed .entry)) (now (buckets .entry))) (now (pending .entry))
+        (meshRows (now (positions .exit)) (now (outs .exit)) (now (halves .exit)) (now (faces .exit)))
+        (ringRows (now (nodes .exit)) (now (freed .exit)) (now (buckets .exit))) (now (pending .exit))
+        center point r ⌝ }
 {
     let hull = start::start_ring(positions, halves, faces, nodes, buckets, counts, center);
     let progress = single_bulk_insertion_step(
@@ -239,7 +238,7 @@ fn sweep_once(
 
 // 9: "the pushes of a flip would overfill the pending list", with the place that the call names.
 fn answer_of(progress: Progress, place: u32) -> StepAnswer
-    ensures { λ r. ⌜ ((q : List ℤ) (o h a : List ℕ) → r ≡ answerFrom place (steppingOf q o h a progress)) ⌝ }
+    ensures { λ r. ⌜ ((m : MeshRows) → r ≡ answerFrom place (steppingOf m progress)) ⌝ }
 {
     let counts = progress.counts;
     let answer = progress.answer;
@@ -272,20 +271,12 @@ pub fn step(
     center: Point2,
     point: Point,
 ) -> StepAnswer
-    ensures { λ r. ⌜ _≡_ {A = Outcome}
-        (record {
-          answer = r;
-          positions = now (positions .exit);
-          outs = now (outs .exit);
-          halves = now (halves .exit);
-          faces = now (faces .exit);
-          nodes = now (nodes .exit);
-          freed = now (freed .exit);
-          buckets = now (buckets .exit);
-          pending = now (pending .exit);
-        })
-        (stepOf counts (now (positions .entry)) (now (outs .entry)) (now (halves .entry)) (now (faces .entry))
-        (now (nodes .entry)) (now (freed .entry)) (now (buckets .entry)) (now (pending .entry)) (center .x) (center .y) point) ⌝ }
+    ensures { λ r. ⌜ steppedWith r
+        (meshRows (now (positions .exit)) (now (outs .exit)) (now (halves .exit)) (now (faces .exit)))
+        (ringRows (now (nodes .exit)) (now (freed .exit)) (now (buckets .exit))) (now (pending .exit))
+        ≡ stepOf counts
+        (meshRows (now (positions .entry)) (now (outs .entry)) (now (halves .entry)) (now (faces .entry)))
+        (ringRows (now (nodes .entry)) (now (freed .entry)) (now (buckets .entry))) (now (pending .entry)) center point ⌝ }
 {
     match check_step(
         counts,

@@ -6,6 +6,7 @@ use mathlib.Core.Bool.{Bool, true, false, not, _&&_, _||_}
 use Prim.Native.Nat.{ℕ, zero, suc, _+_, _-_, _<_, _≤_}
 use native.Mathlib.Decide.{ℕ-discrete, decLt}
 use native.Mathlib.Nat.{le-refl, add-zero, add-suc}
+use native.Mathlib.Numerals.{add-one}
 use native.Mathlib.Omega.{arith}
 use lib.Dec.{T, eqb, ltb, leb, eqb→eq, ltb→lt, leb→le, T-not, not-T}
 use Rattle.sums.specs.Bit.{bit, bit-yes, bit-no, bit-le, test-ext, sure, eq-test, eq?, and-left, and-right, and-both, or-cases, or-left, or-right}
@@ -246,6 +247,34 @@ count-change (suc n) p q a l h = go (ℕ-discrete n a) (λ k. count-change n p q
         let c = count-ext n p q (λ i m. h i (omega arith) (λ d. omega arith)) in
         let u = ap (λ (j : ℕ). bit (p j)) e in let v = ap (λ (j : ℕ). bit (q j)) e in omega arith
     go (no d) ih = let c = ih (omega arith) in let u = ap bit (h n (le-refl (suc n)) d) in omega arith
+
+-- one test more
+pub count-more : (m n : ℕ) (p q : ℕ → Bool) → m ≡ n + 1 → ((i : ℕ) → i < n → p i ≡ q i) → count m p ≤ count n q + 1
+count-more m n p q e h =
+    let a = ap (λ (k : ℕ). count k p) (e ∙ add-one n) in
+    let b = count-suc n p in let c = count-ext n p q h in let d = bit-le (p n) in
+    omega arith
+
+-- two counts beside two others
+module _ (w x y z : ℕ → Bool) (h : (i : ℕ) → bit (y i) + bit (z i) ≤ bit (w i) + bit (x i)) where
+  pub count-two : (n : ℕ) → count n y + count n z ≤ count n w + count n x
+  unfolding count
+  count-two zero = omega arith
+  count-two (suc n) = let a = count-two n in let b = h n in omega arith
+
+  pub count-two-less : (k : ℕ) → bit (y k) + bit (z k) < bit (w k) + bit (x k) → (n : ℕ) → k < n
+      → count n y + count n z < count n w + count n x
+  unfolding count
+  count-two-less k s zero l = absurd (omega arith)
+  count-two-less k s (suc n) l = go (ℕ-discrete k n) (count-two-less k s n)
+    where
+      go : Dec (k ≡ n) → (k < n → count n y + count n z < count n w + count n x)
+          → bit (y n) + count n y + (bit (z n) + count n z) < bit (w n) + count n w + (bit (x n) + count n x)
+      go (yes e) rest =
+          let a = count-two n in
+          let b : bit (y n) + bit (z n) < bit (w n) + bit (x n) = subst (λ (j : ℕ). bit (y j) + bit (z j) < bit (w j) + bit (x j)) e s in
+          omega arith
+      go (no d) rest = let a = rest (omega arith) in let b = h n in omega arith
 
 -- ---- how many numbers below n a function takes to 0
 abbrev pub zeros : (ℕ → ℕ) → ℕ → ℕ

@@ -1,23 +1,24 @@
 -- Finite sums of integers: `sum n f` is f 0 + … + f (n - 1). Linearity, exchange of two sums, a sum whose summands are
 -- zero but along a list of indices, what a sum becomes where the summand is changed along such a list, a sum by
--- classes, signs of sums, and a count as a sum. Assumes nothing.
+-- classes, signs and sizes of sums, and a count as a sum. Assumes nothing.
 use mathlib.Core.Path.{_≡_, refl, sym, _∙_, ap, ap₂, subst}
 use mathlib.Core.Logic.{_≢_, _⊎_, inl, inr}
 use mathlib.Core.Bool.{Bool, true, false, cond}
 use mathlib.Core.List.{List, [], _∷_}
-use Prim.Native.Nat.{ℕ, zero, suc, _+_, _-_, _*_, _<_, _≤_}
+use Prim.Native.Nat.{ℕ, zero, suc, _+_, _-_, _*_, _<_, _≤_, zero-le}
 use native.Mathlib.Decide.{ℕ-discrete}
-use native.Mathlib.Nat.{le-refl, le-trans, add-comm}
+use native.Mathlib.Nat.{le-refl, le-trans, le-of-eq, add-comm, add-le-add, suc-mul}
 use native.Mathlib.Omega.{arith}
-use lib.Dec.{T, eqb}
+use lib.Dec.{T, eqb, le→leb}
 use lib.ListN.{length, getD, set}
 use lib.Seq.{getD-set-same, getD-set-other}
-use lib.IntN.{ℤ, pos, negℤ, _+ℤ_, _-ℤ_, _*ℤ_, +ℤ-idl, +ℤ-idr, +ℤ-assoc, +ℤ-comm, +ℤ-invr, negℤ-+ℤ, *ℤ-zero}
-use lib.Signed.{_<ℤ_, _≤ℤ_, ≤ℤ-refl}
+use lib.IntN.{ℤ, pos, natAbs, negℤ, _+ℤ_, _-ℤ_, _*ℤ_, +ℤ-idl, +ℤ-idr, +ℤ-assoc, +ℤ-comm, +ℤ-invr, negℤ-+ℤ, *ℤ-zero}
+use lib.Signed.{_<ℤ_, _≤ℤ_, ≤ℤ-refl, leZ-yes}
+use Rattle.algebra.specs.Bound.{natAbs-+}
 use borrow.Author.Tests.{eq-eqb, ne-eqb}
 use Rattle.algebra.specs.Laws.{swap4, *ℤ-+ℤ}
 use Rattle.algebra.specs.Ring.{ring, _⊕_, _⊖_, v0, v1, v2}
-use Rattle.algebra.specs.Order.{add-0<, add-0≤, lt-le}
+use Rattle.algebra.specs.Order.{abs-0≤, add-0<, add-0≤, lt-le}
 use Rattle.sums.specs.Bit.{bit, bit-yes}
 use Rattle.sums.specs.Put.{put, put-same, put-other}
 use Rattle.sums.specs.Cases.{All, Some, None, Distinct, some-or-none}
@@ -258,4 +259,32 @@ count-listed {n} {h} {l} ls p pass cover = whole (count-sum n p
     at i m false e = inl (ap (λ (t : Bool). pos (bit t)) e)
 
     whole : pos (count n p) ≡ pos (h * 1) → count n p ≡ h
-    whole e = let q = ap lib.IntN.natAbs e in omega arith
+    whole e = let q = ap natAbs e in omega arith
+
+-- ---- sizes
+pub sum-small : (n B : ℕ) (f : ℕ → ℤ) → ((i : ℕ) → i < n → natAbs (f i) ≤ B) → natAbs (sum n f) ≤ n * B
+unfolding sum
+sum-small zero B f h = omega arith
+sum-small (suc n) B f h =
+    le-trans (natAbs-+ (sum n f) (f n))
+    (le-trans (add-le-add (sum-small n B f (λ i l. h i (omega arith))) (h n (omega arith))) (le-of-eq (sym (suc-mul n B))))
+
+-- ---- a sum of natural numbers
+pub sum-natural : (n : ℕ) (f : ℕ → ℕ) → pos (natAbs (sum n (λ i. pos (f i)))) ≡ sum n (λ i. pos (f i))
+sum-natural n f = abs-0≤ (sum-nonneg n (λ i. pos (f i)) (λ i l. leZ-yes (le→leb 0 (f i) zero-le)))
+
+pub sum-last : (n : ℕ) (f : ℕ → ℕ) → natAbs (sum (suc n) (λ i. pos (f i))) ≡ natAbs (sum n (λ i. pos (f i))) + f n
+unfolding sum
+sum-last n f = ap (λ (z : ℤ). natAbs (z +ℤ pos (f n))) (sym (sum-natural n f))
+
+-- each summand is at most one more
+pub sum-more : (n : ℕ) (f g : ℕ → ℕ) → ((i : ℕ) → f i ≤ g i + 1)
+    → natAbs (sum n (λ i. pos (f i))) ≤ natAbs (sum n (λ i. pos (g i))) + n
+unfolding sum
+sum-more zero f g h = omega arith
+sum-more (suc n) f g h =
+    let a = sum-last n f in let b = sum-last n g in let c = sum-more n f g h in let d = h n in
+    le-trans (le-of-eq a) (le-trans (more _ _ _ _ _ c d) (le-of-eq (ap (λ (k : ℕ). k + suc n) (sym b))))
+  where
+    more : (x y u v n : ℕ) → x ≤ y + n → u ≤ v + 1 → x + u ≤ y + v + suc n
+    more x y u v n c d = omega arith

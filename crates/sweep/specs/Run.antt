@@ -3,14 +3,14 @@
 -- `point` gives each point of the list its position, by its index; `room` is the number of pending entries.
 use mathlib.Core.Bool.{Bool, true, false, cond}
 use mathlib.Core.List.{List}
-use Prim.Native.Nat.{ℕ, zero, suc, _*_, _/_, _%_, _^_}
+use Prim.Native.Nat.{ℕ, zero, suc, _+_, _*_, _/_, _%_}
 use lib.Dec.{ltb}
 use lib.Ieee.{Float}
 use lib.IntN.{ℤ}
 use lib.ListN.{length, replicate}
-use Rattle.ring_rows.specs.Rows.{zeroNode}
-use Rattle.ring_rows.specs.declared.Node.{Node}
-use Rattle.dcel.specs.Rows.{linksOf, positionOf, rowOf, rowFrom, halvesFrom, positionsFrom}
+use Rattle.angle.specs.declared.Point2.{Point2}
+use Rattle.dcel.specs.MeshRows.{MeshRows, linksIn, placesIn, meshRowsFrom}
+use Rattle.dcel.specs.Rows.{positionOf, rowOf, rowFrom}
 use Rattle.decide.specs.Decide.{fateNumber, fateVertex}
 use Rattle.finish.specs.declared.FinishAnswer.{FinishAnswer}
 use Rattle.finish.specs.declared.Finished.{Finished}
@@ -20,8 +20,10 @@ use Rattle.mesh.specs.declared.Counts.{Counts}
 use Rattle.mesh.specs.Mesh.{Links}
 use Rattle.mesh_check.specs.declared.Checked.{Checked}
 use Rattle.mesh_check.specs.Check.{pointCount}
+use Rattle.ring_rows.specs.RingRows.{RingRows, ringZeros}
 use Rattle.start.specs.Start.{sweepChecked}
-use Rattle.sweep.specs.Step.{Stepping, stepMesh}
+use Rattle.sweep.specs.declared.Answer.{Answer}
+use Rattle.sweep.specs.Step.{Stepping, answerOf, stepMesh}
 
 -- ---- the steps
 -- the mesh under way, how many points have been answered, and whether a flip was refused
@@ -70,138 +72,96 @@ finishAfter room s =
     (record { counts = s .counts; links = s .links; faces = 0; convexflips = 0; closingflips = 0; full = true })
     (finishMesh room (s .counts) (s .positions) (s .links))
 
--- ---- the answers row: five words for each point
--- 01: "one answer (fate, vertex, faces, flips) per point"; a count of flips is two words, high and low
-unfoldable pub answerWord : Stepping → ℕ → ℕ
-answerWord s zero = fateNumber (s .fate)
-answerWord s (suc zero) = fateVertex (s .fate)
-answerWord s (suc (suc zero)) = s .mesh .faces
-answerWord s (suc (suc (suc zero))) = s .mesh .flips / 2 ^ 64
-answerWord s (suc (suc (suc (suc k)))) = s .mesh .flips % 2 ^ 64
+-- ---- the answers row
+-- 01: "one answer (fate, vertex, faces, flips) per point": so many words
+abbrev pub answerWords : ℕ
+answerWords = 4
+
+-- word k of the answer of point i
+abbrev pub answerIn : List ℕ → ℕ → ℕ → ℕ
+answerIn answers i k = rowOf answers (answerWords * i + k)
+
+unfoldable pub answerWord : Answer → ℕ → ℕ
+answerWord r zero = fateNumber (r .fate)
+answerWord r (suc zero) = fateVertex (r .fate)
+answerWord r (suc (suc zero)) = r .faces
+answerWord r (suc (suc (suc k))) = r .flips
 
 -- 01, of 9: "Earlier points' answers stay, those from that index on are all 0"; "answer entries past the counts in use are untouched"
 unfoldable pub answersAfter : (ℕ → Stepping) → ℕ → ℕ → (ℕ → ℕ) → ℕ → ℕ
 answersAfter step answered count row x =
-    cond (ltb x (5 * count))
-    (cond (ltb (x / 5) answered) (answerWord (step (x / 5)) (x % 5)) 0)
+    cond (ltb x (answerWords * count))
+    (cond (ltb (x / answerWords) answered) (answerWord (answerOf (step (x / answerWords))) (x % answerWords)) 0)
     (row x)
 
 -- ---- the call
--- its answer, and what every row that it may write holds afterwards
-pub record Outcome : Type 0 where
-  pub answer : FinishAnswer
-  pub positions : List ℤ
-  pub outs : List ℕ
-  pub halves : List ℕ
-  pub faces : List ℕ
-  pub nodes : List Node
-  pub freed : List ℕ
-  pub buckets : List ℕ
-  pub pending : List ℕ
-  pub answers : List ℕ
-
 -- what is lent to a run
-pub record Lent : Type 0 where
+pub record RunLent : Type 0 where
   pub counts : Counts
-  pub positions : List ℤ
-  pub outs : List ℕ
-  pub halves : List ℕ
-  pub faces : List ℕ
-  pub nodes : List Node
-  pub freed : List ℕ
-  pub buckets : List ℕ
+  pub mesh : MeshRows
+  pub ring : RingRows
   pub pending : List ℕ
   pub answers : List ℕ
-  pub centerx : Float
-  pub centery : Float
+  pub center : Point2
   pub points : List ℤ
 
-abbrev pub lent : Counts → List ℤ → List ℕ → List ℕ → List ℕ → List Node → List ℕ → List ℕ → List ℕ → List ℕ → Float → Float → List ℤ
-    → Lent
-lent C positions outs halves faces nodes freed buckets pending answers cx cy points = record {
+abbrev pub runLent : Counts → MeshRows → RingRows → List ℕ → List ℕ → Point2 → List ℤ → RunLent
+runLent C m ring pending answers center points = record {
   counts = C;
-  positions = positions;
-  outs = outs;
-  halves = halves;
-  faces = faces;
-  nodes = nodes;
-  freed = freed;
-  buckets = buckets;
+  mesh = m;
+  ring = ring;
   pending = pending;
   answers = answers;
-  centerx = cx;
-  centery = cy;
+  center = center;
   points = points;
 }
 
-abbrev pub outcome : FinishAnswer → List ℤ → List ℕ → List ℕ → List ℕ → List Node → List ℕ → List ℕ → List ℕ → List ℕ → Outcome
-outcome r positions outs halves faces nodes freed buckets pending answers = record {
-  answer = r;
-  positions = positions;
-  outs = outs;
-  halves = halves;
-  faces = faces;
-  nodes = nodes;
-  freed = freed;
-  buckets = buckets;
-  pending = pending;
-  answers = answers;
-}
+-- its answer, and what the rows that it may write hold afterwards
+pub record RunOutcome : Type 0 where
+  pub answer : FinishAnswer
+  pub mesh : MeshRows
+  pub ring : RingRows
+  pub pending : List ℕ
+  pub answers : List ℕ
+
+abbrev pub ranWith : FinishAnswer → MeshRows → RingRows → List ℕ → List ℕ → RunOutcome
+ranWith r m ring pending answers = record { answer = r; mesh = m; ring = ring; pending = pending; answers = answers }
 
 -- 01's refusals 1 to 7; 2, of the answers row: "one answer .. per point"
-unfoldable pub runChecked : Lent → Checked
+unfoldable pub runChecked : RunLent → Checked
 runChecked l =
-    sweepChecked (l .points) (ltb (length (l .answers)) (5 * pointCount (l .points)))
-    (l .counts) (l .positions) (l .outs) (l .halves) (l .faces)
-    (length (l .nodes)) (length (l .freed)) (length (l .buckets)) (length (l .pending)) (l .centerx) (l .centery)
+    sweepChecked (l .points) (ltb (length (l .answers)) (answerWords * pointCount (l .points))) (l .counts) (l .mesh)
+    (length (l .ring .nodes)) (length (l .ring .freed)) (length (l .ring .buckets)) (length (l .pending)) (l .center)
 
 -- the mesh after the first n points, and the step of point i
-abbrev pub sweepOf : Lent → ℕ → Sweeping
+abbrev pub sweepOf : RunLent → ℕ → Sweeping
 sweepOf l n =
-    sweepAfter (length (l .pending)) (l .centerx) (l .centery)
-    (l .counts) (linksOf (l .outs) (l .halves) (l .faces)) (positionOf (l .positions)) (positionOf (l .points)) n
+    sweepAfter (length (l .pending)) (l .center .x) (l .center .y)
+    (l .counts) (linksIn (l .mesh)) (placesIn (l .mesh)) (positionOf (l .points)) n
 
-abbrev pub stepsOf : Lent → ℕ → Stepping
+abbrev pub stepsOf : RunLent → ℕ → Stepping
 stepsOf l i =
-    stepAt (length (l .pending)) (l .centerx) (l .centery)
-    (l .counts) (linksOf (l .outs) (l .halves) (l .faces)) (positionOf (l .positions)) (positionOf (l .points)) i
+    stepAt (length (l .pending)) (l .center .x) (l .center .y)
+    (l .counts) (linksIn (l .mesh)) (placesIn (l .mesh)) (positionOf (l .points)) i
 
-abbrev pub finishOf : Lent → Finishing
-finishOf l = finishAfter (length (l .pending)) (sweepOf l (pointCount (l .points)))
+-- the finish after the last
+abbrev pub runFinish : RunLent → Finishing
+runFinish l = finishAfter (length (l .pending)) (sweepOf l (pointCount (l .points)))
 
 -- 01: "All but 9 change nothing lent"; "9 answers the point's index (.. the point count in a finish within a run ..)": as many as have been
 -- answered. "After 9 and after every accepted call the ring, freed, bucket and pending rows hold zeros, and mesh and answer entries past
 -- the counts in use are untouched": the functions have every entry of their rows
-unfoldable pub outcomeOf : Lent → Checked → Outcome
-outcomeOf l (Checked.Refused r) = record {
-  answer = record { counts = l .counts; finished = Finished.Refused r };
-  positions = l .positions;
-  outs = l .outs;
-  halves = l .halves;
-  faces = l .faces;
-  nodes = l .nodes;
-  freed = l .freed;
-  buckets = l .buckets;
-  pending = l .pending;
-  answers = l .answers;
-}
-outcomeOf l Checked.Accepted =
+unfoldable pub runOutcome : RunLent → Checked → RunOutcome
+runOutcome l (Checked.Refused r) =
+    ranWith (record { counts = l .counts; finished = Finished.Refused r }) (l .mesh) (l .ring) (l .pending) (l .answers)
+runOutcome l Checked.Accepted =
     let n = pointCount (l .points) in
     let s = sweepOf l n in
-    let m = finishOf l in
-    record {
-      answer = record { counts = m .counts; finished = finishedFrom (s .answered) m };
-      positions = positionsFrom (length (l .positions)) (s .positions);
-      outs = rowFrom (length (l .outs)) (m .links .out);
-      halves = halvesFrom (length (l .halves)) (m .links);
-      faces = rowFrom (length (l .faces)) (m .links .adjacent);
-      nodes = replicate (length (l .nodes)) zeroNode;
-      freed = replicate (length (l .freed)) 0;
-      buckets = replicate (length (l .buckets)) 0;
-      pending = replicate (length (l .pending)) 0;
-      answers = rowFrom (length (l .answers)) (answersAfter (stepsOf l) (s .answered) n (rowOf (l .answers)));
-    }
+    let f = runFinish l in
+    ranWith (record { counts = f .counts; finished = finishedFrom (s .answered) f })
+    (meshRowsFrom (l .mesh) (f .links) (s .positions)) (ringZeros (l .ring)) (replicate (length (l .pending)) 0)
+    (rowFrom (length (l .answers)) (answersAfter (stepsOf l) (s .answered) n (rowOf (l .answers))))
 
 -- THE RUN, for whatever is lent
-unfoldable pub runOf : Lent → Outcome
-runOf l = outcomeOf l (runChecked l)
+unfoldable pub runOf : RunLent → RunOutcome
+runOf l = runOutcome l (runChecked l)

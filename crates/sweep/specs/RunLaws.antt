@@ -13,23 +13,22 @@ use lib.Ieee.{Float}
 use lib.IntN.{ℤ, pos, natAbs, _-ℤ_, +ℤ-negℤ-cancel}
 use lib.ListN.{length, getD, replicate, List·getD-eq-default}
 use lib.Signed.{_≤ℤ_, leZ-yes}
-use Rattle.ring_rows.specs.Rows.{zeroNode}
 use Rattle.algebra.specs.Order.{abs-0≤}
 use Rattle.closing.specs.Closing.{Closing, closingPass}
 use Rattle.convexity.specs.Convexity.{convexity, NoLeftCorner}
 use Rattle.convexity.specs.ConvexityLaws.{convexity-good}
-use Rattle.corner.specs.Untouched.{Untouched, Grown, Holding, untouched-join, rows-back, positions-back}
-use Rattle.dcel.specs.Rows.{linksOf, positionOf, rowOf, rowFrom, halvesFrom, positionsFrom, coordinate}
+use Rattle.corner.specs.Untouched.{Untouched, Grown, untouched-join}
+use Rattle.dcel.specs.MeshRows.{linksIn, placesIn, meshRowsFrom}
+use Rattle.dcel.specs.Rows.{positionOf, rowOf, rowFrom}
 use Rattle.dcel.specs.Views.{length-from, getD-from}
 use Rattle.decide.specs.declared.Fate.{Fate}
 use Rattle.decide.specs.declared.Fate.the-variants.{Added, Dropped, NotLeft, Unsound, AtCenter}
 use Rattle.decide.specs.Decide.{fateNumber, fateVertex}
 use Rattle.finish.specs.declared.Finished.{Finished}
 use Rattle.finish.specs.declared.Totals.{Totals}
-use Rattle.finish.specs.Finish.{Finishing, finishMesh, finishedFrom}
+use Rattle.finish.specs.CallLeavesLaws.{in-rows, call-leaves}
+use Rattle.finish.specs.Finish.{Finishing, finishMesh, totalsFrom, finishedFrom}
 use Rattle.finish.specs.MeshLaws.{finish-flips, finish-good, finish-counts, finish-fall, finish-untouched, finish-closing, finish-convex, finish-settled}
-use Rattle.flip_count.specs.FlipCount.{flipCountOf, flipCountFrom}
-use Rattle.flip_count.specs.CountLaws.{count-of}
 use Rattle.locate.specs.Start.{AcceptedStart}
 use Rattle.math.specs.declared.Point.{Point}
 use Rattle.math.specs.Determinant.{InRange}
@@ -50,14 +49,15 @@ use Rattle.mesh_check.specs.Check.{pointCount, vertexCount}
 use Rattle.mesh_check.specs.CheckLaws.{NumberedTo}
 use Rattle.ring.specs.Boundary.{strict-ring}
 use Rattle.ring.specs.Center.{turnsAbout}
+use Rattle.ring_rows.specs.RingRows.{ringZeros}
 use Rattle.start.specs.StartLaws.{AcceptedSweep, sweep-accepts, sweep-numbered}
 use Rattle.sweep.specs.Fates.{number-added}
-use Rattle.sweep.specs.Step.{Stepping, isAdded}
+use Rattle.sweep.specs.Step.{Stepping, answerOf, isAdded}
 use Rattle.sweep.specs.StepMesh.{Swept}
 use Rattle.sums.specs.Bounded.{count, count-ext}
-use Rattle.sweep.specs.Run.{Sweeping, sweepAfter, finishAfter, answerWord, answersAfter, Lent, Outcome, runChecked, sweepOf, stepsOf, finishOf, outcomeOf, runOf}
+use Rattle.sweep.specs.Run.{Sweeping, sweepAfter, finishAfter, answerWords, answerIn, answerWord, answersAfter, RunLent, RunOutcome, ranWith, runChecked, sweepOf, stepsOf, runFinish, runOutcome, runOf}
 use Rattle.sweep.specs.SweepLaws.{SweepKeeps, sweep-keeps}
-use Rattle.sweep.specs.Demand3.{linksAfter, placesAfter, fateOf, vertexOf, addedBefore, passed, Demand3, Cleared, Full, Unchanged}
+use Rattle.sweep.specs.Demand3.{fateOf, vertexOf, addedBefore, beforeClosing, Demand3, RunLeaves, Full, Ran}
 
 -- ---- the answers
 -- fate 1 is that of an added point, and its vertex is in the answer
@@ -69,7 +69,7 @@ vertex-added NotLeft z = absurd (omega arith)
 vertex-added Unsound z = absurd (omega arith)
 vertex-added AtCenter z = absurd (omega arith)
 
-module _ (step : ℕ → Stepping) (answered count : ℕ) (row : List ℕ) (k : 5 * count ≤ length row) where
+module _ (step : ℕ → Stepping) (answered count : ℕ) (row : List ℕ) (k : answerWords * count ≤ length row) where
   abbrev rows : List ℕ
   rows = rowFrom (length row) (answersAfter step answered count (rowOf row))
 
@@ -78,65 +78,65 @@ module _ (step : ℕ → Stepping) (answered count : ℕ) (row : List ℕ) (k : 
   at x l = getD-from (length row) (answersAfter step answered count (rowOf row)) 0 x l
 
   -- of a point that was answered
-  pub answer-at : (i j : ℕ) → i < answered → i < count → j < 5 → rowOf rows (5 * i + j) ≡ answerWord (step i) j
+  pub answer-at : (i j : ℕ) → i < answered → i < count → j < answerWords → answerIn rows i j ≡ answerWord (answerOf (step i)) j
   unfolding answersAfter
   answer-at i j a c l =
-      let x : (5 * i + j) / 5 ≡ i = omega arith in
-      let y : (5 * i + j) % 5 ≡ j = omega arith in
-      at (5 * i + j) (omega arith) ∙ rw (lt-ltb (5 * i + j) (5 * count) (omega arith), x, y, lt-ltb i answered a) refl
+      let x : (answerWords * i + j) / answerWords ≡ i = omega arith in
+      let y : (answerWords * i + j) % answerWords ≡ j = omega arith in
+      at (answerWords * i + j) (omega arith) ∙ rw (lt-ltb (answerWords * i + j) (answerWords * count) (omega arith), x, y, lt-ltb i answered a) refl
 
   -- of one that was not
-  pub answer-none : (x : ℕ) → 5 * answered ≤ x → x < 5 * count → rowOf rows x ≡ 0
+  pub answer-none : (x : ℕ) → answerWords * answered ≤ x → x < answerWords * count → rowOf rows x ≡ 0
   unfolding answersAfter
-  answer-none x a c = at x (omega arith) ∙ rw (lt-ltb x (5 * count) c, le-ltb (x / 5) answered (omega arith)) refl
+  answer-none x a c = at x (omega arith) ∙ rw (lt-ltb x (answerWords * count) c, le-ltb (x / answerWords) answered (omega arith)) refl
 
-  pub answer-past : (x : ℕ) → 5 * count ≤ x → rowOf rows x ≡ rowOf row x
+  pub answer-past : (x : ℕ) → answerWords * count ≤ x → rowOf rows x ≡ rowOf row x
   unfolding answersAfter rowOf
   answer-past x c = go (decLt x (length row))
     where
       go : Dec (x < length row) → getD rows x 0 ≡ getD row x 0
-      go (yes b) = getD-from (length row) (answersAfter step answered count (rowOf row)) 0 x b ∙ rw (le-ltb x (5 * count) c) refl
+      go (yes b) = getD-from (length row) (answersAfter step answered count (rowOf row)) 0 x b ∙ rw (le-ltb x (answerWords * count) c) refl
       go (no b) =
           let w = length-from (length row) (answersAfter step answered count (rowOf row)) in
           List·getD-eq-default rows 0 (omega arith) ∙ sym (List·getD-eq-default row 0 (omega arith))
 
 -- ---- what the checks accept
-module _ (l : Lent) (e : runChecked l ≡ Checked.Accepted) where
+module _ (l : RunLent) (e : runChecked l ≡ Checked.Accepted) where
   abbrev n : ℕ
   n = pointCount (l .points)
 
   abbrev L : Links
-  L = linksOf (l .outs) (l .halves) (l .faces)
+  L = linksIn (l .mesh)
 
   abbrev p : ℕ → Point
-  p = positionOf (l .positions)
+  p = placesIn (l .mesh)
 
   abbrev s : Sweeping
   s = sweepOf l n
 
   abbrev m : Finishing
-  m = finishOf l
+  m = runFinish l
 
-  pub run-accepts : AcceptedSweep (l .points) (ltb (length (l .answers)) (5 * n)) (l .counts) (l .positions) (l .outs) (l .halves) (l .faces)
-      (length (l .nodes)) (length (l .freed)) (length (l .buckets)) (length (l .pending)) (l .centerx) (l .centery)
+  pub run-accepts : AcceptedSweep (l .points) (ltb (length (l .answers)) (answerWords * n)) (l .counts) (l .mesh)
+      (length (l .ring .nodes)) (length (l .ring .freed)) (length (l .ring .buckets)) (length (l .pending)) (l .center)
   unfolding runChecked
   run-accepts = sweep-accepts e
 
-  pub run-start : AcceptedStart (l .points) (l .counts) (l .positions) (l .outs) (l .halves) (l .faces) (l .centerx) (l .centery)
+  pub run-start : AcceptedStart (l .points) (l .counts) (l .mesh) (l .center)
   run-start = run-accepts .start
 
-  answers-room : 5 * n ≤ length (l .answers)
-  answers-room = ltb-false (length (l .answers)) (5 * n) (run-accepts .others)
+  answers-room : answerWords * n ≤ length (l .answers)
+  answers-room = ltb-false (length (l .answers)) (answerWords * n) (run-accepts .others)
 
-  pub run-swept : Swept (l .centerx) (l .centery) (l .counts) L p
+  pub run-swept : Swept (l .center .x) (l .center .y) (l .counts) L p
   run-swept = record {
     good = run-start .mesh .good;
     center = run-start .center;
-    sound = strict-ring (run-start .mesh .good .wf) (turnsAbout (l .centerx) (l .centery) p) (run-start .strict);
+    sound = strict-ring (run-start .mesh .good .wf) (turnsAbout (l .center .x) (l .center .y) p) (run-start .strict);
   }
 
   -- the steps
-  pub run-keeps : SweepKeeps (length (l .pending)) (l .centerx) (l .centery) (l .counts) L p (positionOf (l .points)) n s
+  pub run-keeps : SweepKeeps (length (l .pending)) (l .center .x) (l .center .y) (l .counts) L p (positionOf (l .points)) n s
   run-keeps = sweep-keeps (length (l .pending)) run-swept (positionOf (l .points)) n (λ i k. run-start .mesh .range k)
 
   -- ---- the finish
@@ -174,66 +174,36 @@ module _ (l : Lent) (e : runChecked l ≡ Checked.Accepted) where
           })
 
   -- ---- the rows hold all of it
-  holding : Holding (m .counts) (l .outs) (l .halves) (l .faces)
+  most : m .counts .vertices ≤ vertexCount (l .counts) (l .points)
   unfolding vertexCount
-  holding =
-      let c = finish-keeps .vertices in
-      let k = run-keeps .most in
-      let u = count-edges (finish-keeps .good .wf) in
-      let w = count-faces (finish-keeps .good .wf) in
-      let r = run-start .mesh .rows in
-      let x = r .outs in let y = r .halves in let z = r .faces in
-      record { outs = omega arith; halves = omega arith; faces = omega arith }
+  most = let c = finish-keeps .vertices in let k = run-keeps .most in omega arith
 
-  links-back : linksOf (rowFrom (length (l .outs)) (m .links .out)) (halvesFrom (length (l .halves)) (m .links)) (rowFrom (length (l .faces)) (m .links .adjacent))
-      ≡ m .links
-  links-back = rows-back holding (finish-keeps .untouched)
-
-  places-back : positionOf (positionsFrom (length (l .positions)) (s .positions)) ≡ s .positions
-  unfolding vertexCount
-  places-back = positions-back (l .positions) (s .positions) (s .counts .vertices) (let k = run-keeps .most in let r = run-start .mesh .rows .positions in omega arith) (run-keeps .past)
+  past : (u : ℕ) → m .counts .vertices ≤ u → s .positions u ≡ p u
+  past u k = run-keeps .past u (let c = finish-keeps .vertices in omega arith)
 
   -- ---- the outcome
-  abbrev R : Outcome
-  R = record {
-    answer = record { counts = m .counts; finished = finishedFrom (s .answered) m };
-    positions = positionsFrom (length (l .positions)) (s .positions);
-    outs = rowFrom (length (l .outs)) (m .links .out);
-    halves = halvesFrom (length (l .halves)) (m .links);
-    faces = rowFrom (length (l .faces)) (m .links .adjacent);
-    nodes = replicate (length (l .nodes)) zeroNode;
-    freed = replicate (length (l .freed)) 0;
-    buckets = replicate (length (l .buckets)) 0;
-    pending = replicate (length (l .pending)) 0;
-    answers = rowFrom (length (l .answers)) (answersAfter (stepsOf l) (s .answered) n (rowOf (l .answers)));
-  }
+  abbrev R : RunOutcome
+  R =
+      ranWith (record { counts = m .counts; finished = finishedFrom (s .answered) m })
+      (meshRowsFrom (l .mesh) (m .links) (s .positions)) (ringZeros (l .ring)) (replicate (length (l .pending)) 0)
+      (rowFrom (length (l .answers)) (answersAfter (stepsOf l) (s .answered) n (rowOf (l .answers))))
 
   run-is : runOf l ≡ R
-  unfolding runOf outcomeOf
+  unfolding runOf runOutcome
   run-is = rw e refl
 
-  cleared : Cleared l R
-  unfolding halvesFrom positionsFrom
-  cleared = record {
-    nodes = refl;
-    freed = refl;
-    buckets = refl;
-    pending = refl;
-    links = subst⁻¹ (Untouched (m .counts) L) links-back (finish-keeps .untouched);
-    places = λ u k. ap (λ (P : ℕ → Point). P u) places-back ∙ run-keeps .past u (let c = finish-keeps .vertices in omega arith);
-    answers = answer-past (stepsOf l) (s .answered) n (l .answers) answers-room;
-    positions-length = length-from (length (l .positions)) _;
-    outs-length = length-from (length (l .outs)) _;
-    halves-length = length-from (length (l .halves)) _;
-    faces-length = length-from (length (l .faces)) _;
+  leaves : RunLeaves l R
+  leaves = record {
+    leaves = call-leaves (l .mesh) (run-start .mesh .rows) most (finish-keeps .good) (finish-keeps .untouched) past
+        (l .counts) (run-keeps .places) (l .pending);
+    ring-zero = refl;
+    answers-past = answer-past (stepsOf l) (s .answered) n (l .answers) answers-room;
     answers-length = length-from (length (l .answers)) _;
   }
 
-  seed-places : (u : ℕ) → u < l .counts .vertices → positionOf (positionsFrom (length (l .positions)) (s .positions)) u ≡ p u
-  seed-places u k = ap (λ (P : ℕ → Point). P u) places-back ∙ run-keeps .places u k
-
-  good-after : Good (m .counts) (linksAfter R) (placesAfter R)
-  good-after = subst⁻¹ (λ (K : Links). Good (m .counts) K (placesAfter R)) links-back (subst⁻¹ (Good (m .counts) (m .links)) places-back (finish-keeps .good))
+  -- a fact of the mesh that is left is one of the rows
+  written : (F : Links → (ℕ → Point) → Type 0) → F (m .links) (s .positions) → F (linksIn (R .mesh)) (placesIn (R .mesh))
+  written = in-rows (l .mesh) (run-start .mesh .rows) most (finish-keeps .good) (finish-keeps .untouched) past
 
   -- ---- 9
   full : Full l R (s .answered)
@@ -241,9 +211,7 @@ module _ (l : Lent) (e : runChecked l ≡ Checked.Accepted) where
     within = run-keeps .answered-most;
     earlier = λ i k a c. answer-at (stepsOf l) (s .answered) n (l .answers) answers-room i k a (let b = run-keeps .answered-most in omega arith) c;
     later = answer-none (stepsOf l) (s .answered) n (l .answers) answers-room;
-    good = good-after;
-    area = area-theorem (good-after .wf) (placesAfter R);
-    seed = seed-places;
+    leaves = leaves;
   }
 
   -- ---- no flip was refused
@@ -268,12 +236,12 @@ module _ (l : Lent) (e : runChecked l ≡ Checked.Accepted) where
     full-not = ap (λ (x : Finishing). x .full) (sym made) ∙ f
 
     -- the answer of point i
-    word : (i k : ℕ) → i < n → k < 5 → rowOf (R .answers) (5 * i + k) ≡ answerWord (stepsOf l i) k
+    word : (i k : ℕ) → i < n → k < answerWords → answerIn (R .answers) i k ≡ answerWord (answerOf (stepsOf l i)) k
     word i k a c = answer-at (stepsOf l) (s .answered) n (l .answers) answers-room i k (let z = run-keeps .answered steps-made in omega arith) a c
 
     fate-is : (i : ℕ) → i < n → fateOf R i ≡ fateNumber (stepsOf l i .fate)
     unfolding answerWord
-    fate-is i a = let z : 5 * i ≡ 5 * i + 0 = omega arith in ap (rowOf (R .answers)) z ∙ word i 0 a (omega arith)
+    fate-is i a = word i 0 a (omega arith)
 
     vertex-is : (i : ℕ) → i < n → vertexOf R i ≡ fateVertex (stepsOf l i .fate)
     unfolding answerWord
@@ -288,119 +256,121 @@ module _ (l : Lent) (e : runChecked l ≡ Checked.Accepted) where
         × (s .positions (fateVertex (stepsOf l i .fate)) ≡ positionOf (l .points) i)
     added-is i a z = run-keeps .added steps-made i (fateVertex (stepsOf l i .fate)) a (vertex-added (stepsOf l i .fate) (sym (fate-is i a) ∙ z))
 
-    demand-3 : (t : Totals) → flipCountOf (t .closingflips) ≡ m .closingflips → Demand3 l R t
+    demand-3 : (t : Totals) → t .closingflips ≡ m .closingflips → Demand3 l R t
     unfolding finishMesh
     demand-3 t c = record {
-      seed = seed-places;
-      place = λ i a z. ap₂ (λ (P : ℕ → Point) (u : ℕ). P u) places-back (vertex-is i a) ∙ added-is i a z .1;
+      seed = leaves .leaves .seed;
+      place = λ i a z. ap (placesIn (R .mesh)) (vertex-is i a)
+          ∙ written (λ K P. P (fateVertex (stepsOf l i .fate)) ≡ positionOf (l .points) i) (added-is i a z .1);
       vertex = λ i a z. vertex-is i a ∙ added-is i a z .0 ∙ ap (λ (k : ℕ). l .counts .vertices + k) (count-is i (omega arith));
       number = finish-keeps .vertices ∙ run-keeps .number steps-made ∙ ap (λ (k : ℕ). l .counts .vertices + k) (count-is n (omega arith));
-      rules = good-after .wf;
-      turning = good-after .turning;
-      area = area-theorem (good-after .wf) (placesAfter R);
+      rules = leaves .leaves .good .wf;
+      turning = leaves .leaves .good .turning;
+      area = leaves .leaves .area;
       corners = there (λ C K P k. NoLeftCorner C K P) (finish-convex room (s .counts) (s .positions) (s .links) G full-not);
-      circles = settled-far good-after (there (λ C K P k. Settled C K P) (finish-settled room (s .counts) (s .positions) (s .links) G full-not));
-      closing = there (λ C K P k. _≡_ {A = Closing} (record { links = K; flips = k }) (closingPass C P (passed l))) (finish-closing room (s .counts) (s .positions) (s .links) G full-not);
-      flips = there (λ C K P k. FlipRun C P (passed l) K k) (finish-flips room (s .counts) (s .positions) (s .links) G);
-      fall = there (λ C K P k. pos k ≤ℤ (heightSum C (passed l) P -ℤ heightSum C K P))
+      circles = settled-far (leaves .leaves .good) (there (λ C K P k. Settled C K P) (finish-settled room (s .counts) (s .positions) (s .links) G full-not));
+      closing = there (λ C K P k. _≡_ {A = Closing} (record { links = K; flips = k }) (closingPass C P (beforeClosing l))) (finish-closing room (s .counts) (s .positions) (s .links) G full-not);
+      flips = there (λ C K P k. FlipRun C P (beforeClosing l) K k) (finish-flips room (s .counts) (s .positions) (s .links) G);
+      fall = there (λ C K P k. pos k ≤ℤ (heightSum C (beforeClosing l) P -ℤ heightSum C K P))
           (finish-fall room (s .counts) (s .positions) (s .links) G);
     }
       where
         -- a fact of the finished mesh and of its closing flips is one of the rows and of the answer
         there : (F : Counts → Links → (ℕ → Point) → ℕ → Type 0)
             → (let z = finishMesh room (s .counts) (s .positions) (s .links) in F (z .counts) (z .links) (s .positions) (z .closingflips))
-            → F (m .counts) (linksAfter R) (placesAfter R) (flipCountOf (t .closingflips))
+            → F (m .counts) (linksIn (R .mesh)) (placesIn (R .mesh)) (t .closingflips)
         there F x =
-            subst⁻¹ (F (m .counts) (linksAfter R) (placesAfter R)) c
-            (subst⁻¹ (λ (K : Links). F (m .counts) K (placesAfter R) (m .closingflips)) links-back
-            (subst⁻¹ (λ (P : ℕ → Point). F (m .counts) (m .links) P (m .closingflips)) places-back
-            (subst⁻¹ (λ (z : Finishing). F (z .counts) (z .links) (s .positions) (z .closingflips)) made x)))
+            subst⁻¹ (F (m .counts) (linksIn (R .mesh)) (placesIn (R .mesh))) c
+            (written (λ K P. F (m .counts) K P (m .closingflips))
+            (subst⁻¹ (λ (z : Finishing). F (z .counts) (z .links) (s .positions) (z .closingflips)) made x))
 
 -- ---- by what is answered
-module _ (l : Lent) where
-  abbrev totals : Totals
-  totals = record { faces = finishOf l .faces; convexflips = flipCountFrom (finishOf l .convexflips); closingflips = flipCountFrom (finishOf l .closingflips) }
-
+module _ (l : RunLent) where
   -- DEMAND 3, with no hypothesis beyond acceptance
-  pub run-accepted : (t : Totals) → runOf l .answer .finished ≡ Finished.Accepted t → Demand3 l (runOf l) t × Cleared l (runOf l)
-  unfolding runOf outcomeOf finishedFrom
+  pub run-accepted : (t : Totals) → runOf l .answer .finished ≡ Finished.Accepted t → Demand3 l (runOf l) t × RunLeaves l (runOf l)
+  unfolding runOf runOutcome finishedFrom totalsFrom
   run-accepted t z = by (runChecked l) refl
     where
-      at : (e : runChecked l ≡ Checked.Accepted) (b : Bool) → finishOf l .full ≡ b → Demand3 l (runOf l) t × Cleared l (runOf l)
+      at : (e : runChecked l ≡ Checked.Accepted) (b : Bool) → runFinish l .full ≡ b → Demand3 l (runOf l) t × RunLeaves l (runOf l)
       at e true f =
           let x : Finished.Refused (record { number = 9; place = sweepOf l (pointCount (l .points)) .answered })
           ≡ Finished.Accepted t = sym (rw (run-is l e, f) refl) ∙ z in
           absurd (let w : _≡_ {A = ℕ} 0 1 = cc in omega arith)
       at e false f =
-          let x : Finished.Accepted totals ≡ Finished.Accepted t = sym (rw (run-is l e, f) refl) ∙ z in
-          let y : totals ≡ t = cc in
-          subst⁻¹ (λ (r : Outcome). Demand3 l r t × Cleared l r) (run-is l e)
-          (demand-3 l e f t (ap (λ (u : Totals). flipCountOf (u .closingflips)) (sym y) ∙ count-of (finishOf l .closingflips)), cleared l e)
+          let x : Finished.Accepted (totalsFrom (runFinish l)) ≡ Finished.Accepted t = sym (rw (run-is l e, f) refl) ∙ z in
+          let y : totalsFrom (runFinish l) ≡ t = cc in
+          subst⁻¹ (λ (r : RunOutcome). Demand3 l r t × RunLeaves l r) (run-is l e)
+          (demand-3 l e f t (ap (λ (u : Totals). u .closingflips) (sym y)), leaves l e)
 
-      by : (c : Checked) → runChecked l ≡ c → Demand3 l (runOf l) t × Cleared l (runOf l)
-      by Checked.Accepted e = at e (finishOf l .full) refl
+      by : (c : Checked) → runChecked l ≡ c → Demand3 l (runOf l) t × RunLeaves l (runOf l)
+      by Checked.Accepted e = at e (runFinish l .full) refl
       by (Checked.Refused x) e =
           let y : Finished.Refused x ≡ Finished.Accepted t = rw e at z in
           absurd (let w : _≡_ {A = ℕ} 0 1 = cc in omega arith)
 
   run-numbered : NumberedTo 7 (runChecked l)
   unfolding runChecked
-  run-numbered = sweep-numbered (l .points) _ (l .counts) (l .positions) (l .outs) (l .halves) (l .faces) _ _ _ _ (l .centerx) (l .centery)
+  run-numbered = sweep-numbered (l .points) _ (l .counts) (l .mesh) _ _ _ _ (l .center)
 
   -- a refusal: of the checks, numbered 1 to 7, and nothing has changed; or 9
   pub run-refused : (x : Refusal) → runOf l .answer .finished ≡ Finished.Refused x
-      → (NumberedTo 7 (Checked.Refused x) × Unchanged l (runOf l) × (runChecked l ≡ Checked.Refused x))
-      ⊎ ((x .number ≡ 9) × Full l (runOf l) (x .place) × Cleared l (runOf l))
-  unfolding runOf outcomeOf finishedFrom
+      → (NumberedTo 7 (Checked.Refused x) × (runChecked l ≡ Checked.Refused x) × (runOf l
+      ≡ ranWith (record { counts = l .counts; finished = Finished.Refused x }) (l .mesh) (l .ring) (l .pending) (l .answers)))
+      ⊎ ((x .number ≡ 9) × Full l (runOf l) (x .place))
+  unfolding runOf runOutcome finishedFrom totalsFrom
   run-refused x z = by (runChecked l) refl run-numbered
     where
       Wanted : Type 0
       Wanted =
-          (NumberedTo 7 (Checked.Refused x) × Unchanged l (runOf l) × (runChecked l ≡ Checked.Refused x))
-          ⊎ ((x .number ≡ 9) × Full l (runOf l) (x .place) × Cleared l (runOf l))
+          (NumberedTo 7 (Checked.Refused x) × (runChecked l ≡ Checked.Refused x) × (runOf l
+          ≡ ranWith (record { counts = l .counts; finished = Finished.Refused x }) (l .mesh) (l .ring) (l .pending) (l .answers)))
+          ⊎ ((x .number ≡ 9) × Full l (runOf l) (x .place))
 
-      at : (e : runChecked l ≡ Checked.Accepted) (b : Bool) → finishOf l .full ≡ b → Wanted
+      at : (e : runChecked l ≡ Checked.Accepted) (b : Bool) → runFinish l .full ≡ b → Wanted
       at e true f =
           let y : Finished.Refused (record { number = 9; place = sweepOf l (pointCount (l .points)) .answered })
           ≡ Finished.Refused x = sym (rw (run-is l e, f) refl) ∙ z in
           let w : record { number = 9; place = sweepOf l (pointCount (l .points)) .answered } ≡ x = cc in
           inr (
             ap (λ (r : Refusal). r .number) (sym w),
-            subst⁻¹ (λ (r : Outcome). Full l r (x .place)) (run-is l e) (subst (Full l (R l e)) (ap (λ (r : Refusal). r .place) w) (full l e)),
-            subst⁻¹ (Cleared l) (run-is l e) (cleared l e),
+            subst⁻¹ (λ (r : RunOutcome). Full l r (x .place)) (run-is l e) (subst (Full l (R l e)) (ap (λ (r : Refusal). r .place) w) (full l e)),
           )
       at e false f =
-          let y : Finished.Accepted totals ≡ Finished.Refused x = sym (rw (run-is l e, f) refl) ∙ z in
+          let y : Finished.Accepted (totalsFrom (runFinish l)) ≡ Finished.Refused x = sym (rw (run-is l e, f) refl) ∙ z in
           absurd (let w : _≡_ {A = ℕ} 0 1 = cc in omega arith)
 
       by : (c : Checked) → runChecked l ≡ c → NumberedTo 7 c → Wanted
-      by Checked.Accepted e k = at e (finishOf l .full) refl
+      by Checked.Accepted e k = at e (runFinish l .full) refl
       by (Checked.Refused y) e k =
           let u : Finished.Refused y ≡ Finished.Refused x = rw e at z in
           let w : y ≡ x = cc in
-          inl (
-            subst (λ (r : Refusal). NumberedTo 7 (Checked.Refused r)) w k,
-            rw e (record { counts = refl; positions = refl; outs = refl; halves = refl; faces = refl; nodes = refl; freed = refl; buckets = refl; pending = refl; answers = refl }),
-            e ∙ ap Checked.Refused w,
-          )
+          inl (subst (λ (r : Refusal). NumberedTo 7 (Checked.Refused r)) w k, e ∙ ap Checked.Refused w, rw (e, w) refl)
 
   -- what a caller may rely on that reads the finished mesh
   pub record Finishes : Type 0 where
     pub checked : runChecked l ≡ Checked.Accepted
-    pub good : Good (runOf l .answer .counts) (linksAfter (runOf l)) (placesAfter (runOf l))
+    pub good : Good (runOf l .answer .counts) (linksIn (runOf l .mesh)) (placesIn (runOf l .mesh))
     pub most : runOf l .answer .counts .vertices ≤ l .counts .vertices + pointCount (l .points)
 
   pub run-finishes : (t : Totals) → runOf l .answer .finished ≡ Finished.Accepted t → Finishes
-  unfolding runOf outcomeOf
+  unfolding runOf runOutcome
   run-finishes t z = by (runChecked l) refl
     where
       by : (c : Checked) → runChecked l ≡ c → Finishes
       by Checked.Accepted e = record {
         checked = e;
-        good = subst⁻¹ (λ (r : Outcome). Good (r .answer .counts) (linksAfter r) (placesAfter r)) (run-is l e) (good-after l e);
-        most = subst⁻¹ (λ (r : Outcome). r .answer .counts .vertices ≤ l .counts .vertices + pointCount (l .points)) (run-is l e)
+        good = subst⁻¹ (λ (r : RunOutcome). Good (r .answer .counts) (linksIn (r .mesh)) (placesIn (r .mesh))) (run-is l e) (leaves l e .leaves .good);
+        most = subst⁻¹ (λ (r : RunOutcome). r .answer .counts .vertices ≤ l .counts .vertices + pointCount (l .points)) (run-is l e)
             (let c = finish-keeps l e .vertices in let k = run-keeps l e .most in omega arith);
       }
       by (Checked.Refused x) e =
           let y : Finished.Refused x ≡ Finished.Accepted t = rw e at z in
           absurd (let w : _≡_ {A = ℕ} 0 1 = cc in omega arith)
+
+-- an outcome that is the defined one meets the call's contract
+pub run-ran : (l : RunLent) (r : RunOutcome) → r ≡ runOf l → Ran l r
+run-ran l r e = record {
+  is = e;
+  demand3 = λ t z. subst⁻¹ (λ (x : RunOutcome). Demand3 l x t) e
+      (run-accepted l t (sym (ap (λ (x : RunOutcome). x .answer .finished) e) ∙ z) .0);
+}

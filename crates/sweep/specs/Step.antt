@@ -15,12 +15,17 @@ use Rattle.mesh.specs.declared.Counts.{Counts}
 use Rattle.mesh.specs.Mesh.{Links}
 use Rattle.ring.specs.Center.{turnsAbout}
 use Rattle.sums.specs.Put.{put}
+use Rattle.sweep.specs.declared.Answer.{Answer}
 
 -- what has become of a point and of the mesh: the fate, the vertices' positions, and the mesh with the faces and flips of this step
 pub record Stepping : Type 0 where
   pub fate : Fate
   pub positions : ℕ → Point
   pub mesh : Extended
+
+-- 01: "An answer is a fate together with its counts."
+abbrev pub answerOf : Stepping → Answer
+answerOf s = record { fate = s .fate; faces = s .mesh .faces; flips = s .mesh .flips }
 
 unfoldable pub isAdded : Fate → Bool
 isAdded (Added n) = true

@@ -13,6 +13,7 @@ use Rattle.apply.specs.ApplyLaws.{add-turns, add-good, add-bound, add-counts, a
 use Rattle.apply.specs.FirstFace.{first-run}
 use Rattle.apply.specs.Origins.{OldVertex, along-origin}
 use Rattle.apply.specs.Walks.{Before}
+use Rattle.conflicts.specs.FlipsWithin.{FlipsWithin, within-none}
 use Rattle.corner.specs.Corner.{Extended}
 use Rattle.corner.specs.CornerLaws.{Closings}
 use Rattle.corner.specs.Untouched.{Untouched, Grown, untouched-none}
@@ -28,7 +29,6 @@ use Rattle.mesh.specs.Area.{boundaryLength, hullEdge}
 use Rattle.mesh.specs.BoundaryLaws.{first<, first-outer, boundary-below, boundary-outer}
 use Rattle.mesh.specs.FlipRun.{FlipRun}
 use Rattle.mesh.specs.Good.{Good}
-use Rattle.mesh.specs.HeightBound.{FlipsBound, flips-none}
 use Rattle.mesh.specs.Wf.{Wf}
 use Rattle.ring.specs.Ring.{isSoundRing, located}
 use Rattle.ring.specs.Boundary.{located<, located-outer, outer-on}
@@ -175,7 +175,7 @@ step-alone room cx cy C L p v z = alone-of room cx cy C L p v (decided cx cy C L
 pub record StepKeeps (cx cy : Float) (C : Counts) (L : Links) (p : ℕ → Point) (s : Stepping) : Type 0 where
   pub good : Good (s .mesh .counts) (s .mesh .links) (s .positions)
   pub untouched : Untouched (s .mesh .counts) L (s .mesh .links)
-  pub bound : FlipsBound (s .mesh .counts) (s .mesh .links) (s .positions) (s .mesh .flips)
+  pub bound : FlipsWithin (s .mesh .counts) (s .mesh .links) (s .positions) (s .mesh .flips)
   pub grown : Grown C (s .mesh .counts)
   pub one-more : s .mesh .counts .vertices ≤ C .vertices + 1
   pub places : (u : ℕ) → u < C .vertices → s .positions u ≡ p u
@@ -191,7 +191,7 @@ step-keeps {cx} {cy} {C} {L} {p} S {v} i room = go (isAdded (decided cx cy C L p
     alone f = record {
       good = S .good;
       untouched = untouched-none;
-      bound = flips-none (S .good);
+      bound = within-none;
       grown = record { vertices = omega arith; edges = omega arith; faces = omega arith };
       one-more = omega arith;
       places = λ u l. refl;

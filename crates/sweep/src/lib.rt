@@ -1,6 +1,5 @@
 // A step and a run as definitions, with their laws, demand 3 among them, in specs/; here the answer of a step, which they give.
 use decide::Fate;
-use flip_count::FlipCount;
 use mesh::Counts;
 use mesh_check::Refusal;
 
@@ -8,8 +7,11 @@ use mesh_check::Refusal;
 pub struct Answer {
     pub fate: Fate,
     pub faces: u32,
-    pub flips: FlipCount,
+    pub flips: u64,
 }
+
+// The words of an answer in the answers row: the fate's number, its vertex, the faces, the flips.
+pub const ANSWER_WORDS: usize = 4;
 
 pub enum Stepped {
     Accepted(Answer),

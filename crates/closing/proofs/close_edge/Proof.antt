@@ -1,4 +1,5 @@
 -- `closing::close_edge` meets its contract: by whether the edge breaks the circle rule. Assumes nothing.
+use mathlib.Core.Path.{refl}
 use borrow.Author.Needs.{needs}
 use Rattle.closing.proofs.Loops.{edge-flipped, edge-kept}
 use Rattle.closing.proofs.close_edge.Statement.{statement}
@@ -10,8 +11,8 @@ should-flip-requires c κs = search needs
 flip-cw-requires : tie.Need-flip-cw-requires
 flip-cw-requires c κs = search needs
 
-increment-requires : tie.Need-increment-requires
-increment-requires c κs = search needs
+add-result : tie.Need-add-result
+add-result c = search needs
 
 same-length : tie.Need-same-length
 same-length c = search needs
@@ -24,7 +25,9 @@ same-length-3 c = search needs
 
 returns : tie.Need-returns
 returns c =
-    edge-flipped _ _ _ _ _ _ (c .before .before .before .before .before .before .before .before .before .before .before .before .should-flip .ensures) _ _ _ _ (c .before .before .before .before .before .before .before .before .before .before .before .if1 .taken) (c .before .before .before .before .before .before .before .flip-cw .ensures) (c .increment .ensures)
+    let f = c .before .before .before .before .before .before in
+    let i = f .before .before .before .before in
+    edge-flipped _ _ _ _ _ _ (i .before .should-flip .ensures) _ _ _ _ (i .if1 .taken) (f .flip-cw .ensures) refl
 
 same-length-4 : tie.Need-same-length-4
 same-length-4 c = search needs
@@ -38,7 +41,7 @@ close-edge-spec =
     (tie.spec
     should-flip-requires
     flip-cw-requires
-    increment-requires
+    add-result
     same-length
     same-length-2
     same-length-3

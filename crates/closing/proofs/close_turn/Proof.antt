@@ -6,10 +6,10 @@ use Rattle.closing.proofs.close_turn.Statement.{statement}
 use Rattle.closing.proofs.close_turn.Tie as tie
 
 abbrev Inv-loop : tie.InvT-loop
-Inv-loop positions outs₀ halves₀ faces₀ counts made₀ u₀ outs halves faces made u = TurnAt counts positions outs₀ halves₀ faces₀ made₀ outs halves faces made u
+Inv-loop positions outs₀ halves₀ faces₀ counts flips made₀ u₀ outs halves faces made u = TurnAt counts positions outs₀ halves₀ faces₀ made₀ outs halves faces made u
 
 abbrev μ-loop : tie.MeasureT-loop
-μ-loop positions outs₀ halves₀ faces₀ counts made₀ u₀ outs halves faces made u = counts .edges - u
+μ-loop positions outs₀ halves₀ faces₀ counts flips made₀ u₀ outs halves faces made u = counts .edges - u
 
 loop-holds : tie.Need-loop-holds Inv-loop μ-loop
 loop-holds c = turn-starts (c .before .before .before .pre)

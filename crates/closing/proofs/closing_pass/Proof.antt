@@ -1,5 +1,6 @@
 -- `closing::closing_pass` meets its contract. The loop's invariant: to go on from here is to go on from the start. The measure is the height sum, and one for the
 -- turn that flips nothing. Assumes nothing.
+use mathlib.Core.Path.{refl}
 use Rattle.dcel.specs.Rows.{positionOf}
 use Rattle.closing.specs.ClosingLaws.{heightLeft}
 use Rattle.closing.proofs.Loops.{PassAt, passed, pass-starts, pass-on, pass-less, pass-ends}
@@ -12,30 +13,24 @@ Inv-loop positions outs₀ halves₀ faces₀ counts flips₀ still₀ outs halv
 abbrev μ-loop : tie.MeasureT-loop
 μ-loop positions outs₀ halves₀ faces₀ counts flips₀ still₀ outs halves faces flips still = heightLeft counts (positionOf positions) (passed outs halves faces flips still)
 
-zero-requires : tie.Need-zero-requires Inv-loop μ-loop
-zero-requires c κs = tt
-
 loop-holds : tie.Need-loop-holds Inv-loop μ-loop
-loop-holds c = let s = c .before .before .before .before in pass-starts (s .pre .0) (s .pre .1) (c .zero .ensures)
+loop-holds c = let s = c .before .before .before in pass-starts (s .pre .0) (s .pre .1)
 
 close-turn-requires : tie.Need-close-turn-requires Inv-loop μ-loop
 close-turn-requires c κs = c .before .before .before .before .loop .inv .ready
 
-equals-requires : tie.Need-equals-requires Inv-loop μ-loop
-equals-requires c κs = tt
-
 loop-less : tie.Need-loop-less Inv-loop μ-loop
 loop-less c =
-    let t = c .before .before .before .before .before .before .before in
+    let t = c .before .before .before .before .before .before in
     let i = t .before .before .before .before in
-    pass-less (i .before .loop .inv) _ _ _ _ (i .loop-test .taken) (t .close-turn .ensures) (c .equals .ensures)
+    pass-less (i .before .loop .inv) _ _ _ _ (i .loop-test .taken) (t .close-turn .ensures) refl
 
 loop-again : tie.Need-loop-again Inv-loop μ-loop
 loop-again c =
-    let t = c .before .before .before .before .before .before .before in
+    let t = c .before .before .before .before .before .before in
     let i = t .before .before .before .before in
     let e = t .close-turn in
-    pass-on (i .before .loop .inv) _ _ _ _ (i .loop-test .taken) (e .ensures) (c .equals .ensures)
+    pass-on (i .before .loop .inv) _ _ _ _ (i .loop-test .taken) (e .ensures) refl
     (record { outs = e .kept .1 .0; halves = e .kept .1 .1 .0; faces = e .kept .1 .1 .1 .0 })
 
 same-length : tie.Need-same-length Inv-loop μ-loop
@@ -56,10 +51,8 @@ closing-pass-spec =
     (tie.spec
     Inv-loop
     μ-loop
-    zero-requires
     loop-holds
     close-turn-requires
-    equals-requires
     loop-less
     loop-again
     same-length

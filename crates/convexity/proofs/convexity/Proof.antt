@@ -14,11 +14,8 @@ abbrev μ-loop : tie.MeasureT-loop
 μ-loop positions outs₀ halves₀ faces₀ pending₀ now₀ still₀ outs halves faces pending now still =
     passesLeft (record { mesh = extendedOf outs halves faces now; still = still })
 
-zero-requires : tie.Need-zero-requires Inv-loop μ-loop
-zero-requires c κs = tt
-
 loop-holds : tie.Need-loop-holds Inv-loop μ-loop
-loop-holds c = passes-begin (c .before .before .before .before .before .pre) _ (c .zero .ensures)
+loop-holds c = passes-begin (c .before .before .before .before .pre)
 
 fix-convexity-requires : tie.Need-fix-convexity-requires Inv-loop μ-loop
 fix-convexity-requires c κs = again-ready (c .before .before .before .before .before .loop .inv) (c .before .before .before .before .loop-test .taken)
@@ -61,7 +58,6 @@ convexity-spec =
     (tie.spec
     Inv-loop
     μ-loop
-    zero-requires
     loop-holds
     fix-convexity-requires
     is-still-requires

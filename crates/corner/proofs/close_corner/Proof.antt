@@ -6,15 +6,15 @@ use Rattle.corner.proofs.close_corner.Tie as tie
 
 create-single-face-between-edge-and-next-requires :
     tie.Need-create-single-face-between-edge-and-next-requires
-create-single-face-between-edge-and-next-requires c κs = single-ready (c .before .before .before .before .before .before .before .before .pre)
+create-single-face-between-edge-and-next-requires c κs = single-ready (c .before .before .before .before .before .before .before .pre)
 
 legalize-edges-after-removal-requires : tie.Need-legalize-edges-after-removal-requires
 legalize-edges-after-removal-requires c κs =
     let f = c .before .before .before .before .before .before .before .before .before .create-single-face-between-edge-and-next in
-    legalize-ready (c .before .before .before .before .before .before .before .before .before .before .before .before .before .before .before .before .before .before .pre) (f .ensures) (f .kept .0) (f .kept .1 .0)
+    legalize-ready (c .before .before .before .before .before .before .before .before .before .before .before .before .before .before .before .before .before .pre) (f .ensures) (f .kept .0) (f .kept .1 .0)
 
-add-t28 : tie.Need-add-t28
-add-t28 c = record { fits = faces-fit-32 (c .before .before .before .before .before .before .before .before .before .before .before .before .before .before .before .before .before .before .before .before .before .before .before .before .before .before .before .before .before .pre) }
+add-t26 : tie.Need-add-t26
+add-t26 c = record { fits = faces-fit-32 (c .before .before .before .before .before .before .before .before .before .before .before .before .before .before .before .before .before .before .before .before .before .before .before .before .before .before .before .pre) }
 
 same-length : tie.Need-same-length
 same-length c = search needs
@@ -29,7 +29,7 @@ same-length-4 : tie.Need-same-length-4
 same-length-4 c = search needs
 
 returns : tie.Need-returns
-returns c = closed-row (c .before .before .before .before .before .before .before .before .before .before .before .before .before .before .before .before .before .before .before .before .before .before .before .before .before .before .before .before .before .pre) (c .before .before .before .before .before .before .before .before .before .before .before .before .before .before .before .before .before .before .before .before .create-single-face-between-edge-and-next .ensures) _ _ _ _ _ (c .before .before .before .before .before .before .before .before .before .before .legalize-edges-after-removal .ensures)
+returns c = closed-row (c .before .before .before .before .before .before .before .before .before .before .before .before .before .before .before .before .before .before .before .before .before .before .before .before .before .before .before .pre) (c .before .before .before .before .before .before .before .before .before .before .before .before .before .before .before .before .before .before .before .create-single-face-between-edge-and-next .ensures) _ _ _ _ _ (c .before .before .before .before .before .before .before .before .before .legalize-edges-after-removal .ensures)
 
 pub close-corner-spec : {M : Type 1} → statement M
 close-corner-spec =
@@ -37,7 +37,7 @@ close-corner-spec =
     (tie.spec
     create-single-face-between-edge-and-next-requires
     legalize-edges-after-removal-requires
-    add-t28
+    add-t26
     same-length
     same-length-2
     same-length-3

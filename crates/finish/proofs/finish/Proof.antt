@@ -30,10 +30,10 @@ same-length-4 : tie.Need-same-length-4
 same-length-4 c = refl
 
 returns : tie.Need-returns
-returns c = refused-outcome _ _ _ _ _ _ _ (sym (c .before .refusal .given .1) ∙ c .before .before .before .check-seed .ensures)
+returns c = refused-outcome _ _ _ _ (sym (c .before .refusal .given .1) ∙ c .before .before .before .check-seed .ensures)
 
 finish-mesh-requires : tie.Need-finish-mesh-requires
-finish-mesh-requires c κs = accepted-ready _ _ _ _ _ _ (sym (c .before .before .before .before .enum-told .given .1) ∙ c .before .before .before .before .before .before .check-seed .ensures)
+finish-mesh-requires c κs = accepted-ready _ _ _ (sym (c .before .before .before .before .enum-told .given .1) ∙ c .before .before .before .before .before .before .check-seed .ensures)
 
 clear-requires : tie.Need-clear-requires
 clear-requires c κs = tt
@@ -56,7 +56,7 @@ same-length-8 c = c .before .before .before .clear .kept .0 ∙ c .before .befor
 returns-2 : tie.Need-returns-2
 returns-2 c =
     let m = c .before .before .before .before .before .before .before .before .before .before .before .before .before .finish-mesh in
-    accepted-outcome _ _ _ _ _ _ (sym (c .before .before .before .before .before .before .before .before .before .before .before .before .before .before .before .before .before .before .enum-told .given .1) ∙ c .before .before .before .before .before .before .before .before .before .before .before .before .before .before .before .before .before .before .before .before .check-seed .ensures) _ _ _ _ _ _
+    accepted-outcome _ _ _ (sym (c .before .before .before .before .before .before .before .before .before .before .before .before .before .before .before .before .before .before .enum-told .given .1) ∙ c .before .before .before .before .before .before .before .before .before .before .before .before .before .before .before .before .before .before .before .before .check-seed .ensures) _ _ _ _ _ _
     (m .ensures) (m .kept .1 .0) (m .kept .1 .1 .0) (m .kept .1 .1 .1 .0) (c .before .before .before .clear .ensures ∙ ap (λ (n : ℕ). replicate {A = ℕ} n 0) (m .kept .1 .1 .1 .1 .0)) (c .answer-of .ensures _ _ _)
 
 pub finish-spec : {M : Type 1} → statement M

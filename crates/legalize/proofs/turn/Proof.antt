@@ -38,10 +38,8 @@ flip-cw-requires c κs =
     let p = c .before .before .before .before .before .before .before .before .before .pop in
     turn-flip-ready (s .pre .0) (s .pre .1) (p .ensures) (p .kept .1 .1 .0) (not-false _ (c .before .before .before .before .before .if1 .left))
 
-increment-requires : tie.Need-increment-requires
-increment-requires c κs =
-    let s = c .before .before .before .before .before .before .before .before .before .before .before .before .before .before .before .before .before .before .before .before .before .before .before in
-    count-fits (s .pre .0) (s .pre .1)
+add-more : tie.Need-add-more
+add-more c = record { fits = let s = c .before .before .before .before .before .before .before .before .before .before .before .before .before .before .before .before .before .before .before .before .before .before .before in count-fits (s .pre .0) (s .pre .1) }
 
 same-length-5 : tie.Need-same-length-5
 same-length-5 c = search needs
@@ -57,11 +55,11 @@ same-length-8 c = search needs
 
 returns-3 : tie.Need-returns-3
 returns-3 c =
-    let f = c .before .before .before .before .before .before .before in
+    let f = c .before .before .before .before .before .before in
     let i = f .before .before .before .before in
     let p = i .before .before .before .before .before .before .pop in
     let s = i .before .before .before .before .before .before .before .before .before .before .before .before .before in
-    turn-flips (s .pre .0) (s .pre .1) (p .ensures) (p .kept .1 .1 .0) (not-false _ (i .before .before .if1 .left)) (i .if2 .left) (f .flip-cw .ensures) (c .increment .ensures)
+    turn-flips (s .pre .0) (s .pre .1) (p .ensures) (p .kept .1 .1 .0) (not-false _ (i .before .before .if1 .left)) (i .if2 .left) (f .flip-cw .ensures)
 
 pub turn-spec : {M : Type 1} → statement M
 turn-spec =
@@ -75,7 +73,7 @@ turn-spec =
     same-length-4
     returns-2
     flip-cw-requires
-    increment-requires
+    add-more
     same-length-5
     same-length-6
     same-length-7

@@ -15,22 +15,22 @@ enum-told : tie.Need-enum-told
 enum-told c = search needs
 
 adjacent-requires : tie.Need-adjacent-requires
-adjacent-requires c κs = start-face _ _ _ _ _ _ _ (sym (c .before .before .check-with .ensures) ∙ c .enum-told .given .1)
+adjacent-requires c κs = start-face _ _ _ _ (sym (c .before .before .check-with .ensures) ∙ c .enum-told .given .1)
 
 convex-hull-size-requires : tie.Need-convex-hull-size-requires
-convex-hull-size-requires c κs = start-size _ _ _ _ _ _ _ (sym (c .before .before .before .check-with .ensures) ∙ c .before .enum-told .given .1)
+convex-hull-size-requires c κs = start-size _ _ _ _ (sym (c .before .before .before .check-with .ensures) ∙ c .before .enum-told .given .1)
 
 check-ring-requires : tie.Need-check-ring-requires
 check-ring-requires c κs =
-    start-boundary _ _ _ _ _ _ _ (sym (c .before .before .before .before .check-with .ensures) ∙ c .before .before .enum-told .given .1) (c .before .adjacent .ensures) (c .convex-hull-size .ensures)
+    start-boundary _ _ _ _ (sym (c .before .before .before .before .check-with .ensures) ∙ c .before .before .enum-told .given .1) (c .before .adjacent .ensures) (c .convex-hull-size .ensures)
 
 returns : tie.Need-returns
-returns c = start-refused _ _ _ _ _ _ _ _ _ (sym (c .before .before .before .check-with .ensures) ∙ c .before .r .given .1)
+returns c = start-refused _ _ _ _ _ (sym (c .before .before .before .check-with .ensures) ∙ c .before .r .given .1)
 
 returns-2 : tie.Need-returns-2
 returns-2 c =
-    start-goes-on _ _ _ _ _ _ _ _ _ (sym (c .before .before .before .before .before .check-with .ensures) ∙ c .before .before .before .enum-told .given .1) (c .before .before .adjacent .ensures)
-    (c .before .convex-hull-size .ensures) (c .check-ring .ensures)
+    start-goes-on _ _ _ _ (sym (c .before .before .before .before .before .check-with .ensures) ∙ c .before .before .before .enum-told .given .1) (c .before .before .adjacent .ensures)
+    (c .before .convex-hull-size .ensures) _ (c .check-ring .ensures)
 
 pub check-start-spec : {M : Type 1} → statement M
 check-start-spec =

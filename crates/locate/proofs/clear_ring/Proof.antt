@@ -1,5 +1,6 @@
 -- `locate::clear_ring` meets its contract. Assumes nothing.
 use borrow.Author.Needs.{needs}
+use Rattle.ring_rows.specs.Laws.{ring-cleared}
 use Rattle.locate.proofs.clear_ring.Statement.{statement}
 use Rattle.locate.proofs.clear_ring.Proof.Tie as tie
 mod Lts
@@ -24,7 +25,7 @@ same-length-3 : tie.Need-same-length-3
 same-length-3 c = search needs
 
 returns : tie.Need-returns
-returns c = search needs
+returns c = ring-cleared _ _ _ (search needs) (search needs) (search needs)
 
 pub clear-ring-spec : {M : Type 1} → statement M
 clear-ring-spec = tie.close (tie.spec clear-nodes-requires clear-requires clear-requires-2 same-length same-length-2 same-length-3 returns)

@@ -1,6 +1,7 @@
 -- `locate::locate` meets its contract: a refusal leaves every row as it was, and an accepted call builds the ring, asks it once and clears its rows. Assumes nothing.
 use borrow.Author.Needs.{needs}
 use mathlib.Core.Path.{refl, sym, _∙_}
+use Rattle.ring_rows.specs.Laws.{zeros-same}
 use Rattle.locate.specs.Call.{locate-face, locate-size, locate-asks, locate-refused, locate-found}
 use Rattle.locate.proofs.locate.Statement.{statement}
 use Rattle.locate.proofs.locate.Proof.Tie as tie
@@ -23,19 +24,19 @@ enum-told : tie.Need-enum-told
 enum-told c = search needs
 
 adjacent-requires : tie.Need-adjacent-requires
-adjacent-requires c κs = locate-face _ _ _ _ _ _ _ _ _ _ _ (c .before .before .before .ring-rows-short .ensures) (sym (c .before .before .check-locate .ensures) ∙ c .enum-told .given .1)
+adjacent-requires c κs = locate-face _ _ _ _ _ _ _ (c .before .before .before .ring-rows-short .ensures) (sym (c .before .before .check-locate .ensures) ∙ c .enum-told .given .1)
 
 convex-hull-size-requires : tie.Need-convex-hull-size-requires
-convex-hull-size-requires c κs = locate-size _ _ _ _ _ _ _ _ _ _ _ (c .before .before .before .before .ring-rows-short .ensures) (sym (c .before .before .before .check-locate .ensures) ∙ c .before .enum-told .given .1)
+convex-hull-size-requires c κs = locate-size _ _ _ _ _ _ _ (c .before .before .before .before .ring-rows-short .ensures) (sym (c .before .before .before .check-locate .ensures) ∙ c .before .enum-told .given .1)
 
 place-at-requires : tie.Need-place-at-requires
-place-at-requires c κs = locate-asks _ _ _ _ _ _ _ _ _ _ _ (c .before .before .before .before .before .before .before .ring-rows-short .ensures) (sym (c .before .before .before .before .before .before .check-locate .ensures) ∙ c .before .before .before .before .enum-told .given .1) (c .before .before .before .adjacent .ensures) (c .before .before .convex-hull-size .ensures)
+place-at-requires c κs = locate-asks _ _ _ _ _ _ _ (c .before .before .before .before .before .before .before .ring-rows-short .ensures) (sym (c .before .before .before .before .before .before .check-locate .ensures) ∙ c .before .before .before .before .enum-told .given .1) (c .before .before .before .adjacent .ensures) (c .before .before .convex-hull-size .ensures)
 
 clear-ring-requires : tie.Need-clear-ring-requires
 clear-ring-requires c κs = search needs
 
 returns : tie.Need-returns
-returns c = locate-refused _ _ _ _ _ _ _ _ _ _ _ (c .before .before .before .before .ring-rows-short .ensures) (sym (c .before .before .before .check-locate .ensures) ∙ c .before .r .given .1)
+returns c = locate-refused _ _ _ _ _ (c .before .before .before .before .ring-rows-short .ensures) (sym (c .before .before .before .check-locate .ensures) ∙ c .before .r .given .1)
 
 same-length : tie.Need-same-length
 same-length c = search needs
@@ -49,8 +50,8 @@ same-length-3 c = search needs
 returns-2 : tie.Need-returns-2
 returns-2 c =
     let d = c .before .before .before .before .before .before .before .before .before .before .before .before in
-    locate-found _ _ _ _ _ _ _ _ _ _ _ (c .before .before .before .before .before .before .before .before .before .before .before .before .before .before .before .before .before .before .before .before .ring-rows-short .ensures) (sym (c .before .before .before .before .before .before .before .before .before .before .before .before .before .before .before .before .before .before .before .check-locate .ensures) ∙ c .before .before .before .before .before .before .before .before .before .before .before .before .before .before .before .before .before .enum-told .given .1) (c .before .before .before .before .before .before .before .before .before .before .before .before .before .before .before .before .adjacent .ensures) (c .before .before .before .before .before .before .before .before .before .before .before .before .before .before .before .convex-hull-size .ensures) (d .place-at .ensures) (c .before .before .before .before .before .clear-ring .ensures)
-    (d .place-at .kept .1 .1 .0) refl (d .place-at .kept .1 .1 .1 .0)
+    locate-found _ _ _ _ _ (c .before .before .before .before .before .before .before .before .before .before .before .before .before .before .before .before .before .before .before .before .ring-rows-short .ensures) (sym (c .before .before .before .before .before .before .before .before .before .before .before .before .before .before .before .before .before .before .before .check-locate .ensures) ∙ c .before .before .before .before .before .before .before .before .before .before .before .before .before .before .before .before .before .enum-told .given .1) (c .before .before .before .before .before .before .before .before .before .before .before .before .before .before .before .before .adjacent .ensures) (c .before .before .before .before .before .before .before .before .before .before .before .before .before .before .before .convex-hull-size .ensures) (d .place-at .ensures)
+    (c .before .before .before .before .before .clear-ring .ensures ∙ zeros-same _ _ (d .place-at .kept .1 .1 .0) refl (d .place-at .kept .1 .1 .1 .0))
 
 pub locate-spec : {M : Type 1} → statement M
 locate-spec =

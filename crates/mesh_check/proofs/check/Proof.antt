@@ -18,7 +18,7 @@ check-with-requires : tie.Need-check-with-requires
 check-with-requires c κs = search needs
 
 returns : tie.Need-returns
-returns c = c .check-with .ensures ∙ with-none _ _ _ _ _
+returns c = c .check-with .ensures ∙ with-none _ _
 
 pub check-spec : {M : Type 1} → statement M
 check-spec =

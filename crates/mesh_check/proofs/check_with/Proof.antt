@@ -17,13 +17,13 @@ refuse-requires : tie.Need-refuse-requires
 refuse-requires c κs = search needs
 
 returns : tie.Need-returns
-returns c = c .refuse .ensures ∙ with-count _ _ _ _ _ _ _ (c .before .before .before .vertex-count .ensures) (sym (c .before .before .count-refused .ensures) ∙ c .before .if1 .taken)
+returns c = c .refuse .ensures ∙ with-count _ _ _ _ (c .before .before .before .vertex-count .ensures) (sym (c .before .before .count-refused .ensures) ∙ c .before .if1 .taken)
 
 refuse-requires-2 : tie.Need-refuse-requires-2
 refuse-requires-2 c κs = search needs
 
 returns-2 : tie.Need-returns-2
-returns-2 c = c .refuse2 .ensures ∙ with-short _ _ _ _ _ _ _ (c .before .before .before .before .vertex-count .ensures) (sym (c .before .before .before .count-refused .ensures) ∙ c .before .before .if1 .left) (c .before .if2 .taken)
+returns-2 c = c .refuse2 .ensures ∙ with-short _ _ _ _ (c .before .before .before .before .vertex-count .ensures) (sym (c .before .before .before .count-refused .ensures) ∙ c .before .before .if1 .left) (c .before .if2 .taken)
 
 rows-short-requires : tie.Need-rows-short-requires
 rows-short-requires c κs = few _ (sym (c .before .before .count-refused .ensures) ∙ c .before .if1 .left)
@@ -32,16 +32,16 @@ refuse-requires-3 : tie.Need-refuse-requires-3
 refuse-requires-3 c κs = search needs
 
 returns-3 : tie.Need-returns-3
-returns-3 c = c .refuse3 .ensures ∙ with-rows _ _ _ _ _ _ _ (c .before .before .before .before .before .before .vertex-count .ensures) (sym (c .before .before .before .before .before .count-refused .ensures) ∙ c .before .before .before .before .if1 .left) (c .before .before .before .if2 .left) (sym (c .before .before .rows-short .ensures) ∙ c .before .if3 .taken)
+returns-3 c = c .refuse3 .ensures ∙ with-rows _ _ _ _ (c .before .before .before .before .before .before .vertex-count .ensures) (sym (c .before .before .before .before .before .count-refused .ensures) ∙ c .before .before .before .before .if1 .left) (c .before .before .before .if2 .left) (sym (c .before .before .rows-short .ensures) ∙ c .before .if3 .taken)
 
 point-count-requires : tie.Need-point-count-requires
 point-count-requires c κs = search needs
 
 cast-m : tie.Need-cast-m
-cast-m c = let s = sized _ _ _ _ _ _ _ (c .before .before .before .before .before .before .vertex-count .ensures) (sym (c .before .before .before .before .before .count-refused .ensures) ∙ c .before .before .before .before .if1 .left) (c .before .before .before .if2 .left) (sym (c .before .before .rows-short .ensures) ∙ c .before .if3 .left) in let e = c .point-count .ensures in omega arith
+cast-m c = let s = sized _ _ _ _ (c .before .before .before .before .before .before .vertex-count .ensures) (sym (c .before .before .before .before .before .count-refused .ensures) ∙ c .before .before .before .before .if1 .left) (c .before .before .before .if2 .left) (sym (c .before .before .rows-short .ensures) ∙ c .before .if3 .left) in let e = c .point-count .ensures in omega arith
 
 first-outside-with-requires : tie.Need-first-outside-with-requires
-first-outside-with-requires c κs = let s = sized _ _ _ _ _ _ _ (c .before .before .before .before .before .before .vertex-count .ensures) (sym (c .before .before .before .before .before .count-refused .ensures) ∙ c .before .before .before .before .if1 .left) (c .before .before .before .if2 .left) (sym (c .before .before .rows-short .ensures) ∙ c .before .if3 .left) in let e = c .point-count .ensures in omega arith
+first-outside-with-requires c κs = let s = sized _ _ _ _ (c .before .before .before .before .before .before .vertex-count .ensures) (sym (c .before .before .before .before .before .count-refused .ensures) ∙ c .before .before .before .before .if1 .left) (c .before .before .before .if2 .left) (sym (c .before .before .rows-short .ensures) ∙ c .before .if3 .left) in let e = c .point-count .ensures in omega arith
 
 cast-if4 : tie.Need-cast-if4
 cast-if4 c = search needs
@@ -50,28 +50,28 @@ refuse-requires-4 : tie.Need-refuse-requires-4
 refuse-requires-4 c κs = search needs
 
 returns-4 : tie.Need-returns-4
-returns-4 c = c .refuse4 .ensures ∙ with-outside _ _ _ _ _ _ _ (c .before .before .before .before .before .before .before .before .before .vertex-count .ensures) (sym (c .before .before .before .before .before .before .before .before .count-refused .ensures) ∙ c .before .before .before .before .before .before .before .if1 .left) (c .before .before .before .before .before .before .if2 .left) (sym (c .before .before .before .before .before .rows-short .ensures) ∙ c .before .before .before .before .if3 .left) (c .before .before .before .point-count .ensures) (c .before .before .first-outside-with .ensures) (c .before .if4 .taken)
+returns-4 c = c .refuse4 .ensures ∙ with-outside _ _ _ _ (c .before .before .before .before .before .before .before .before .before .vertex-count .ensures) (sym (c .before .before .before .before .before .before .before .before .count-refused .ensures) ∙ c .before .before .before .before .before .before .before .if1 .left) (c .before .before .before .before .before .before .if2 .left) (sym (c .before .before .before .before .before .rows-short .ensures) ∙ c .before .before .before .before .if3 .left) (c .before .before .before .point-count .ensures) (c .before .before .first-outside-with .ensures) (c .before .if4 .taken)
 
 mesh-rules-requires : tie.Need-mesh-rules-requires
-mesh-rules-requires c κs = mesh-there (sized _ _ _ _ _ _ _ (c .before .before .before .before .before .before .before .before .vertex-count .ensures) (sym (c .before .before .before .before .before .before .before .count-refused .ensures) ∙ c .before .before .before .before .before .before .if1 .left) (c .before .before .before .before .before .if2 .left) (sym (c .before .before .before .before .rows-short .ensures) ∙ c .before .before .before .if3 .left))
+mesh-rules-requires c κs = mesh-there (sized _ _ _ _ (c .before .before .before .before .before .before .before .before .vertex-count .ensures) (sym (c .before .before .before .before .before .before .before .count-refused .ensures) ∙ c .before .before .before .before .before .before .if1 .left) (c .before .before .before .before .before .if2 .left) (sym (c .before .before .before .before .rows-short .ensures) ∙ c .before .before .before .if3 .left))
 
 refuse-requires-5 : tie.Need-refuse-requires-5
 refuse-requires-5 c κs = search needs
 
 returns-5 : tie.Need-returns-5
-returns-5 c = c .refuse5 .ensures ∙ with-rules _ _ _ _ _ _ _ (c .before .before .before .before .before .before .before .before .before .before .before .vertex-count .ensures) (sym (c .before .before .before .before .before .before .before .before .before .before .count-refused .ensures) ∙ c .before .before .before .before .before .before .before .before .before .if1 .left) (c .before .before .before .before .before .before .before .before .if2 .left) (sym (c .before .before .before .before .before .before .before .rows-short .ensures) ∙ c .before .before .before .before .before .before .if3 .left) (c .before .before .before .before .before .point-count .ensures) (c .before .before .before .before .first-outside-with .ensures) (c .before .before .before .if4 .left) (sym (c .before .before .mesh-rules .ensures) ∙ not-true _ (c .before .if5 .taken))
+returns-5 c = c .refuse5 .ensures ∙ with-rules _ _ _ _ (c .before .before .before .before .before .before .before .before .before .before .before .vertex-count .ensures) (sym (c .before .before .before .before .before .before .before .before .before .before .count-refused .ensures) ∙ c .before .before .before .before .before .before .before .before .before .if1 .left) (c .before .before .before .before .before .before .before .before .if2 .left) (sym (c .before .before .before .before .before .before .before .rows-short .ensures) ∙ c .before .before .before .before .before .before .if3 .left) (c .before .before .before .before .before .point-count .ensures) (c .before .before .before .before .first-outside-with .ensures) (c .before .before .before .if4 .left) (sym (c .before .before .mesh-rules .ensures) ∙ not-true _ (c .before .if5 .taken))
 
 first-not-left-requires : tie.Need-first-not-left-requires
-first-not-left-requires c κs = readable _ _ _ _ _ _ _ (c .before .before .before .before .before .before .before .before .before .before .vertex-count .ensures) (sym (c .before .before .before .before .before .before .before .before .before .count-refused .ensures) ∙ c .before .before .before .before .before .before .before .before .if1 .left) (c .before .before .before .before .before .before .before .if2 .left) (sym (c .before .before .before .before .before .before .rows-short .ensures) ∙ c .before .before .before .before .before .if3 .left) (c .before .before .before .before .point-count .ensures) (c .before .before .before .first-outside-with .ensures) (c .before .before .if4 .left) (sym (c .before .mesh-rules .ensures) ∙ not-false _ (c .if5 .left))
+first-not-left-requires c κs = readable _ _ _ _ (c .before .before .before .before .before .before .before .before .before .before .vertex-count .ensures) (sym (c .before .before .before .before .before .before .before .before .before .count-refused .ensures) ∙ c .before .before .before .before .before .before .before .before .if1 .left) (c .before .before .before .before .before .before .before .if2 .left) (sym (c .before .before .before .before .before .before .rows-short .ensures) ∙ c .before .before .before .before .before .if3 .left) (c .before .before .before .before .point-count .ensures) (c .before .before .before .first-outside-with .ensures) (c .before .before .if4 .left) (sym (c .before .mesh-rules .ensures) ∙ not-false _ (c .if5 .left))
 
 refuse-requires-6 : tie.Need-refuse-requires-6
 refuse-requires-6 c κs = search needs
 
 returns-6 : tie.Need-returns-6
-returns-6 c = c .refuse6 .ensures ∙ with-turn _ _ _ _ _ _ _ (c .before .before .before .before .before .before .before .before .before .before .before .before .before .before .vertex-count .ensures) (sym (c .before .before .before .before .before .before .before .before .before .before .before .before .before .count-refused .ensures) ∙ c .before .before .before .before .before .before .before .before .before .before .before .before .if1 .left) (c .before .before .before .before .before .before .before .before .before .before .before .if2 .left) (sym (c .before .before .before .before .before .before .before .before .before .before .rows-short .ensures) ∙ c .before .before .before .before .before .before .before .before .before .if3 .left) (c .before .before .before .before .before .before .before .before .point-count .ensures) (c .before .before .before .before .before .before .before .first-outside-with .ensures) (c .before .before .before .before .before .before .if4 .left) (sym (c .before .before .before .before .before .mesh-rules .ensures) ∙ not-false _ (c .before .before .before .before .if5 .left)) (c .before .before .before .first-not-left .ensures _) (c .before .if6 .taken)
+returns-6 c = c .refuse6 .ensures ∙ with-turn _ _ _ _ (c .before .before .before .before .before .before .before .before .before .before .before .before .before .before .vertex-count .ensures) (sym (c .before .before .before .before .before .before .before .before .before .before .before .before .before .count-refused .ensures) ∙ c .before .before .before .before .before .before .before .before .before .before .before .before .if1 .left) (c .before .before .before .before .before .before .before .before .before .before .before .if2 .left) (sym (c .before .before .before .before .before .before .before .before .before .before .rows-short .ensures) ∙ c .before .before .before .before .before .before .before .before .before .if3 .left) (c .before .before .before .before .before .before .before .before .point-count .ensures) (c .before .before .before .before .before .before .before .first-outside-with .ensures) (c .before .before .before .before .before .before .if4 .left) (sym (c .before .before .before .before .before .mesh-rules .ensures) ∙ not-false _ (c .before .before .before .before .if5 .left)) (c .before .before .before .first-not-left .ensures _) (c .before .if6 .taken)
 
 returns-7 : tie.Need-returns-7
-returns-7 c = with-accepted _ _ _ _ _ _ _ (c .before .before .before .before .before .before .before .before .before .before .before .before .before .vertex-count .ensures) (sym (c .before .before .before .before .before .before .before .before .before .before .before .before .count-refused .ensures) ∙ c .before .before .before .before .before .before .before .before .before .before .before .if1 .left) (c .before .before .before .before .before .before .before .before .before .before .if2 .left) (sym (c .before .before .before .before .before .before .before .before .before .rows-short .ensures) ∙ c .before .before .before .before .before .before .before .before .if3 .left) (c .before .before .before .before .before .before .before .point-count .ensures) (c .before .before .before .before .before .before .first-outside-with .ensures) (c .before .before .before .before .before .if4 .left) (sym (c .before .before .before .before .mesh-rules .ensures) ∙ not-false _ (c .before .before .before .if5 .left)) (c .before .before .first-not-left .ensures _) (c .if6 .left)
+returns-7 c = with-accepted _ _ _ _ (c .before .before .before .before .before .before .before .before .before .before .before .before .before .vertex-count .ensures) (sym (c .before .before .before .before .before .before .before .before .before .before .before .before .count-refused .ensures) ∙ c .before .before .before .before .before .before .before .before .before .before .before .if1 .left) (c .before .before .before .before .before .before .before .before .before .before .if2 .left) (sym (c .before .before .before .before .before .before .before .before .before .rows-short .ensures) ∙ c .before .before .before .before .before .before .before .before .if3 .left) (c .before .before .before .before .before .before .before .point-count .ensures) (c .before .before .before .before .before .before .first-outside-with .ensures) (c .before .before .before .before .before .if4 .left) (sym (c .before .before .before .before .mesh-rules .ensures) ∙ not-false _ (c .before .before .before .if5 .left)) (c .before .before .first-not-left .ensures _) (c .if6 .left)
 
 pub check-with-spec : {M : Type 1} → statement M
 check-with-spec =

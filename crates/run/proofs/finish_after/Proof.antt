@@ -5,11 +5,8 @@ use Rattle.run.proofs.FinishRows.{refused-before, finished-after}
 use Rattle.run.proofs.finish_after.Statement.{statement}
 use Rattle.run.proofs.finish_after.Tie as tie
 
-zero-requires : tie.Need-zero-requires
-zero-requires c κs = search needs
-
 returns : tie.Need-returns
-returns c = refused-before (c .before .before .before .before .before .before .before .args .end) _ _ _ _ _ (c .before .if1 .taken) _ (c .zero .ensures)
+returns c = refused-before (c .before .before .before .before .before .before .args .end) _ _ _ _ _ (c .if1 .taken)
 
 finish-mesh-requires : tie.Need-finish-mesh-requires
 finish-mesh-requires c κs = c .before .before .before .before .before .before .before .before .before .before .pre .mesh (c .before .before .before .before .if1 .left)
@@ -33,7 +30,6 @@ pub finish-after-spec : {M : Type 1} → statement M
 finish-after-spec =
     tie.close
     (tie.spec
-    zero-requires
     returns
     finish-mesh-requires
     same-length

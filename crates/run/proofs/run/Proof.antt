@@ -1,8 +1,9 @@
 -- `run::run` meets its contract. Assumes nothing.
 use borrow.Author.Needs.{needs}
 use mathlib.Core.Path.{sym, _∙_}
-use Rattle.run.proofs.RunDone.{refused-run, run-demand}
+use Rattle.sweep.specs.RunLaws.{run-ran}
 use Rattle.run.specs.RunReady.{run-checks}
+use Rattle.run.proofs.RunDone.{refused-run}
 use Rattle.run.proofs.run.Statement.{statement}
 use Rattle.run.proofs.run.Proof.Tie as tie
 mod Lts
@@ -36,9 +37,7 @@ same-length-4 : tie.Need-same-length-4
 same-length-4 c = search needs
 
 returns : tie.Need-returns
-returns c =
-    let e = refused-run _ _ (sym (c .before .refusal .given .1) ∙ run-checks _ (c .before .before .before .before .before .before .before .before .answers-short .ensures) (c .before .before .before .check-sweep .ensures)) in
-    (e, run-demand _ _ e)
+returns c = run-ran _ _ (refused-run _ _ (sym (c .before .refusal .given .1) ∙ run-checks _ (c .before .before .before .before .before .before .before .before .answers-short .ensures) (c .before .before .before .check-sweep .ensures)))
 
 same-length-5 : tie.Need-same-length-5
 same-length-5 c = search needs
@@ -68,7 +67,7 @@ same-length-13 : tie.Need-same-length-13
 same-length-13 c = search needs
 
 returns-2 : tie.Need-returns-2
-returns-2 c = (c .before .before .before .before .before .before .before .before .before .before .before .before .before .before .before .before .run-accepted .ensures, run-demand _ _ (c .before .before .before .before .before .before .before .before .before .before .before .before .before .before .before .before .run-accepted .ensures))
+returns-2 c = run-ran _ _ (c .before .before .before .before .before .before .before .before .before .before .before .before .before .before .before .before .run-accepted .ensures)
 
 pub run-spec : {M : Type 1} → statement M
 run-spec =

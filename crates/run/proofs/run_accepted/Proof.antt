@@ -68,8 +68,13 @@ returns c =
     let w = c .before .before .before .before .before .before .before .before .before .before .before .before .before .before .before .before .before .before .before .before .before .before .before .before .before .before .before .before .before .before .before .before .before .before .before .before .before .before .before .before .before .before .before .before .before .before .before .sweep in
     let k = w .kept in
     let f = c .before .before .before .before .before .before .before .before .before .before .before .before .before .before .before .before .before .before .before .before .before .finish-after in
-    run-done _ (c .before .before .before .before .before .before .before .before .before .before .before .before .before .before .before .before .before .before .before .before .before .before .before .before .before .before .before .before .before .before .before .before .before .before .before .before .before .before .before .before .before .before .before .before .before .before .before .before .before .before .before .before .before .before .before .before .before .before .before .before .before .before .before .before .before .before .before .before .before .before .before .before .before .before .pre) _ (c .before .before .before .before .before .before .before .before .before .before .before .before .before .before .before .before .before .before .before .before .before .before .before .before .before .before .before .before .before .before .before .before .before .before .before .before .before .before .before .before .before .before .before .before .before .before .before .before .before .before .before .before .before .before .before .before .before .before .before .before .before .before .before .before .before .before .point-count .ensures) _ _ _ _ _ _ (w .ensures) _ _ _ _ _ (k .1 .1 .1 .1 .0) (f .ensures) _ _ _ _ _ _ _ _ _ _
-    (k .0) (f .kept .1 .0 ∙ k .1 .0) (f .kept .1 .1 .0 ∙ k .1 .1 .0) (f .kept .1 .1 .1 .0 ∙ k .1 .1 .1 .0)
+    run-done _ (c .before .before .before .before .before .before .before .before .before .before .before .before .before .before .before .before .before .before .before .before .before .before .before .before .before .before .before .before .before .before .before .before .before .before .before .before .before .before .before .before .before .before .before .before .before .before .before .before .before .before .before .before .before .before .before .before .before .before .before .before .before .before .before .before .before .before .before .before .before .before .before .before .before .before .pre) _ (c .before .before .before .before .before .before .before .before .before .before .before .before .before .before .before .before .before .before .before .before .before .before .before .before .before .before .before .before .before .before .before .before .before .before .before .before .before .before .before .before .before .before .before .before .before .before .before .before .before .before .before .before .before .before .before .before .before .before .before .before .before .before .before .before .before .before .point-count .ensures) _ _ _ _ _ _ (w .ensures) _ _ _ _ _ (k .1 .1 .1 .1 .0) (f .ensures) _ _ _ _ _ _
+    (record {
+      positions = k .0;
+      outs = f .kept .1 .0 ∙ k .1 .0;
+      halves = f .kept .1 .1 .0 ∙ k .1 .1 .0;
+      faces = f .kept .1 .1 .1 .0 ∙ k .1 .1 .1 .0;
+    })
     (k .1 .1 .1 .1 .1 .0 ∙ g .1 .1 .1 .0) (k .1 .1 .1 .1 .1 .1 .0) (k .1 .1 .1 .1 .1 .1 .1 .0 ∙ g .1 .1 .1 .1 .0) (f .kept .1 .1 .1 .1 .0 ∙ k .1 .1 .1 .1 .0)
     (c .before .before .before .before .before .before .before .before .before .before .before .before .before .before .before .before .before .before .before .before .before .before .before .before .before .before .before .before .before .zero-answers .kept .0 ∙ k .1 .1 .1 .1 .1 .1 .1 .1 .0)
     (c .before .before .before .before .before .before .before .before .before .before .before .before .before .before .before .before .before .before .before .before .before .before .before .before .before .before .before .before .before .zero-answers .ensures) (c .before .before .before .before .before .before .before .before .clear-rows .ensures) (c .answer-of .ensures _ _ _)

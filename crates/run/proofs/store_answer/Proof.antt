@@ -51,15 +51,6 @@ mul-answers-4 c = search needs
 slice-write-answers-4 : tie.Need-slice-write-answers-4
 slice-write-answers-4 c = let h = c .before .before .before .before .pre in simp length-set (omega arith)
 
-add-answers-4 : tie.Need-add-answers-4
-add-answers-4 c = search needs
-
-mul-answers-5 : tie.Need-mul-answers-5
-mul-answers-5 c = search needs
-
-slice-write-answers-5 : tie.Need-slice-write-answers-5
-slice-write-answers-5 c = let h = c .before .before .before .before .pre in simp length-set (omega arith)
-
 same-length : tie.Need-same-length
 same-length c = search needs
 
@@ -85,8 +76,5 @@ store-answer-spec =
     add-answers-3
     mul-answers-4
     slice-write-answers-4
-    add-answers-4
-    mul-answers-5
-    slice-write-answers-5
     same-length
     returns)

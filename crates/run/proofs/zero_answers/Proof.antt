@@ -2,15 +2,16 @@
 use borrow.Author.Needs.{needs}
 use Prim.Native.Nat.{_*_, _-_}
 use native.Mathlib.Omega.{arith}
+use Rattle.sweep.specs.Run.{answerWords}
 use Rattle.run.proofs.AnswerRows.{Zeroing, zeroing-starts, zeroing-on, zeroing-end}
 use Rattle.run.proofs.zero_answers.Statement.{statement}
 use Rattle.run.proofs.zero_answers.Tie as tie
 
 abbrev Inv-loop : tie.InvT-loop
-Inv-loop answers₀ from to end x₀ answers x = Zeroing answers₀ answers (5 * from) (5 * to) x
+Inv-loop answers₀ from to end x₀ answers x = Zeroing answers₀ answers (answerWords * from) (answerWords * to) x
 
 abbrev μ-loop : tie.MeasureT-loop
-μ-loop answers₀ from to end x₀ answers x = 5 * to - x
+μ-loop answers₀ from to end x₀ answers x = answerWords * to - x
 
 mul-end : tie.Need-mul-end Inv-loop μ-loop
 mul-end c = record { fits = omega arith }

@@ -1,11 +1,12 @@
 -- `start::check_sweep` meets its contract. Assumes nothing.
 use borrow.Author.Needs.{needs}
-use mathlib.Core.Path.{_≡_, _∙_}
+use mathlib.Core.Path.{_≡_}
 use mathlib.Core.Bool.{Bool}
 use mathlib.Core.List.{List}
 use Prim.Native.Nat.{ℕ}
-use lib.Ieee.{Float}
 use lib.IntN.{ℤ}
+use Rattle.angle.specs.declared.Point2.{Point2}
+use Rattle.dcel.specs.MeshRows.{MeshRows}
 use Rattle.locate.specs.Locate.{checkStart}
 use Rattle.mesh.specs.declared.Counts.{Counts}
 use Rattle.mesh_check.specs.declared.Checked.{Checked}
@@ -14,9 +15,9 @@ use Rattle.start.specs.Start.{sweepRowsShort, sweepChecked}
 use Rattle.start.proofs.check_sweep.Statement.{statement}
 use Rattle.start.proofs.check_sweep.Tie as tie
 
-module _ (points : List ℤ) (short : Bool) (C : Counts) (q : List ℤ) (o h a : List ℕ) (nodes freed buckets pending : ℕ) (cx cy : Float) where
+module _ (points : List ℤ) (short : Bool) (C : Counts) (m : MeshRows) (nodes freed buckets pending : ℕ) (center : Point2) where
   checked : {n : ℕ} {few : Bool} {r : Checked} → n ≡ vertexCount C points → few ≡ sweepRowsShort short n nodes freed buckets pending
-      → r ≡ checkStart points few C q o h a cx cy → r ≡ sweepChecked points short C q o h a nodes freed buckets pending cx cy
+      → r ≡ checkStart points few C m center → r ≡ sweepChecked points short C m nodes freed buckets pending center
   unfolding sweepChecked
   checked e f g = rw (g, f, e)
 
@@ -30,7 +31,7 @@ check-start-requires : tie.Need-check-start-requires
 check-start-requires c κs = search needs
 
 returns : tie.Need-returns
-returns c = checked _ _ _ _ _ _ _ _ _ _ _ _ _ (c .before .before .vertex-count .ensures) (c .before .sweep-rows-short .ensures) (c .check-start .ensures)
+returns c = checked _ _ _ _ _ _ _ _ _ (c .before .before .vertex-count .ensures) (c .before .sweep-rows-short .ensures) (c .check-start .ensures)
 
 pub check-sweep-spec : {M : Type 1} → statement M
 check-sweep-spec =

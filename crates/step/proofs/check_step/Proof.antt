@@ -14,7 +14,7 @@ check-sweep-requires c κs = search needs
 returns : tie.Need-returns
 returns c =
     let w = c .before .before .struct-told .given in
-    point-checked (toZ-ofZ (record { sfits = w .0 .1 })) (toZ-ofZ (record { sfits = w .1 .0 .1 })) _ _ _ _ _ _ _ _ _ _ _ (c .check-sweep .ensures)
+    point-checked (toZ-ofZ (record { sfits = w .0 .1 })) (toZ-ofZ (record { sfits = w .1 .0 .1 })) _ _ _ _ _ _ _ (c .check-sweep .ensures)
 
 pub check-step-spec : {M : Type 1} → statement M
 check-step-spec = tie.close (tie.spec slice-aggregate-check-sweep check-sweep-requires returns)

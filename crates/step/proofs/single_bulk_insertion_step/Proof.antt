@@ -13,9 +13,6 @@ decide-requires c κs = to-decide (c .before .before .before .before .before .be
 is-added-requires : tie.Need-is-added-requires
 is-added-requires c κs = search needs
 
-zero-requires : tie.Need-zero-requires
-zero-requires c κs = search needs
-
 progress-of-requires : tie.Need-progress-of-requires
 progress-of-requires c κs = search needs
 
@@ -32,7 +29,7 @@ same-length-4 : tie.Need-same-length-4
 same-length-4 c = search needs
 
 returns : tie.Need-returns
-returns c = left-alone (c .before .before .before .before .before .before .before .before .before .before .before .before .before .before .before .pre) (c .before .before .before .before .decide .ensures) (c .before .before .before .is-added .ensures) (c .before .before .if1 .taken) _ (c .before .zero .ensures) (c .progress-of .ensures)
+returns c = left-alone (c .before .before .before .before .before .before .before .before .before .before .before .before .before .before .pre) (c .before .before .before .decide .ensures) (c .before .before .is-added .ensures) (c .before .if1 .taken) (c .progress-of .ensures)
 
 add-point-requires : tie.Need-add-point-requires
 add-point-requires c κs = point-ready (c .before .before .before .before .before .before .before .before .before .before .before .before .before .before .before .before .before .before .pre) (c .before .before .before .before .before .before .before .decide .ensures) (c .before .before .before .before .before .before .is-added .ensures) (c .before .before .before .before .before .if1 .left)
@@ -106,7 +103,6 @@ single-bulk-insertion-step-spec =
     (tie.spec
     decide-requires
     is-added-requires
-    zero-requires
     progress-of-requires
     same-length
     same-length-2

@@ -1,6 +1,6 @@
 -- `step::step` meets its contract: a refusal of the checks leaves every row as it was, and an accepted call builds the ring, makes its step and clears the rows. Assumes nothing.
 use borrow.Author.Needs.{needs}
-use Rattle.step.proofs.CallRows.{step-accepted, refused-outcome, accepted-outcome}
+use Rattle.step.proofs.CallRows.{once-accepted, refused-outcome, accepted-outcome}
 use Rattle.step.proofs.step.Statement.{statement}
 use Rattle.step.proofs.step.Proof.Tie as tie
 mod Lts
@@ -28,10 +28,10 @@ same-length-4 : tie.Need-same-length-4
 same-length-4 c = search needs
 
 returns : tie.Need-returns
-returns c = refused-outcome _ _ _ _ _ _ _ _ _ _ _ _ (c .before .refusal .given .1) (c .before .before .before .check-step .ensures)
+returns c = refused-outcome _ _ _ _ _ _ (c .before .refusal .given .1) (c .before .before .before .check-step .ensures)
 
 sweep-once-requires : tie.Need-sweep-once-requires
-sweep-once-requires c κs = step-accepted (c .before .before .before .before .before .before .before .before .enum-told .given .1) (c .before .before .before .before .before .before .before .before .before .before .check-step .ensures)
+sweep-once-requires c κs = once-accepted (c .before .before .before .before .before .before .before .before .enum-told .given .1) (c .before .before .before .before .before .before .before .before .before .before .check-step .ensures)
 
 answer-of-requires : tie.Need-answer-of-requires
 answer-of-requires c κs = search needs
@@ -63,8 +63,8 @@ same-length-12 c = search needs
 returns-2 : tie.Need-returns-2
 returns-2 c =
     let p = c .before .before .before .before .before .before .before .before .before .before .before .before .before .before .before .sweep-once in
-    accepted-outcome _ _ _ _ _ _ _ _ _ _ _ _ (c .before .before .before .before .before .before .before .before .before .before .before .before .before .before .before .before .before .before .before .before .before .before .before .before .enum-told .given .1) (c .before .before .before .before .before .before .before .before .before .before .before .before .before .before .before .before .before .before .before .before .before .before .before .before .before .before .check-step .ensures)
-    (p .ensures) (p .kept .0) (p .kept .1 .0) (p .kept .1 .1 .0) (p .kept .1 .1 .1 .0) (c .answer-of .ensures _ _ _ _)
+    accepted-outcome _ _ _ _ _ _ (c .before .before .before .before .before .before .before .before .before .before .before .before .before .before .before .before .before .before .before .before .before .before .before .before .enum-told .given .1) (c .before .before .before .before .before .before .before .before .before .before .before .before .before .before .before .before .before .before .before .before .before .before .before .before .before .before .check-step .ensures)
+    (p .ensures) (record { positions = p .kept .0; outs = p .kept .1 .0; halves = p .kept .1 .1 .0; faces = p .kept .1 .1 .1 .0 }) (c .answer-of .ensures _)
 
 pub step-spec : {M : Type 1} → statement M
 step-spec =

@@ -20,8 +20,8 @@ put-field-requires-3 c κs = search needs
 put-field-requires-4 : tie.Need-put-field-requires-4
 put-field-requires-4 c κs = search needs
 
-put-flips-requires : tie.Need-put-flips-requires
-put-flips-requires c κs = search needs
+put-field-requires-5 : tie.Need-put-field-requires-5
+put-field-requires-5 c κs = search needs
 
 put-requires-2 : tie.Need-put-requires-2
 put-requires-2 c κs = search needs
@@ -34,7 +34,7 @@ unfolding pointLine
 returns c =
     let z = c .before .before in
     let e = z .before .before .before .before in
-    let d = e .before .before .before .before .before in
+    let d = e .before .before .before .before in
     let n = d .before .before .before .before in
     let b = n .before .before .before .before in
     let a = b .before .before .before .before in
@@ -45,7 +45,7 @@ returns c =
     (b .put-field2 .ensures))
     (n .put-field3 .ensures))
     (d .put-field4 .ensures))
-    (e .put-flips .ensures))
+    (e .put-field5 .ensures))
     (z .put2 .ensures)
 
 pub put-point-spec : {M : Type 1} → statement M
@@ -57,7 +57,7 @@ put-point-spec =
     put-field-requires-2
     put-field-requires-3
     put-field-requires-4
-    put-flips-requires
+    put-field-requires-5
     put-requires-2
     same-length
     returns)

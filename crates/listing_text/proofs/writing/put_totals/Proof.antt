@@ -27,11 +27,11 @@ put-signed-requires c κs = search needs
 put-field-requires-4 : tie.Need-put-field-requires-4
 put-field-requires-4 c κs = search needs
 
-put-flips-requires : tie.Need-put-flips-requires
-put-flips-requires c κs = search needs
+put-field-requires-5 : tie.Need-put-field-requires-5
+put-field-requires-5 c κs = search needs
 
-put-flips-requires-2 : tie.Need-put-flips-requires-2
-put-flips-requires-2 c κs = search needs
+put-field-requires-6 : tie.Need-put-field-requires-6
+put-field-requires-6 c κs = search needs
 
 put-requires-3 : tie.Need-put-requires-3
 put-requires-3 c κs = search needs
@@ -41,8 +41,8 @@ unfolding totalsLine
 returns c =
     let z = c .before .before in
     let h = z .before .before .before .before in
-    let g = h .before .before .before .before .before in
-    let f = g .before .before .before .before .before in
+    let g = h .before .before .before .before in
+    let f = g .before .before .before .before in
     let e = f .before .before .before .before in
     let d = e .before .before .before .before .before in
     let n = d .before .before .before .before in
@@ -58,8 +58,8 @@ returns c =
     (handed {z = (o .before .before .before .args .line) .«doubled_area»} (sfits-of (e .before .struct-told .given .1 .1 .1 .0 .1))
     (e .put-signed .ensures)))
     (f .put-field4 .ensures))
-    (g .put-flips .ensures))
-    (h .put-flips2 .ensures))
+    (g .put-field5 .ensures))
+    (h .put-field6 .ensures))
     (z .put3 .ensures)
 
 same-length : tie.Need-same-length
@@ -76,8 +76,8 @@ put-totals-spec =
     put-requires-2
     put-signed-requires
     put-field-requires-4
-    put-flips-requires
-    put-flips-requires-2
+    put-field-requires-5
+    put-field-requires-6
     put-requires-3
     same-length
     returns)

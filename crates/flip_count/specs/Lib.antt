@@ -1,2 +1,0 @@
-pub mod FlipCount
-pub mod CountLaws
