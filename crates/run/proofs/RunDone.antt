@@ -149,4 +149,3 @@ pub refused-run : (l : RunLent) (x : Refusal) → Checked.Refused x ≡ runCheck
     → ranWith (record { counts = l .counts; finished = Finished.Refused x }) (l .mesh) (l .ring) (l .pending) (l .answers) ≡ runOf l
 unfolding runOf runOutcome
 refused-run l x e = rw (← e) refl
-
