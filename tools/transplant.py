@@ -31,6 +31,7 @@ OWNER, STRUCT, SIZE = 'ring_rows', 'Node', 24
 HAND = {('ring_rows', '', f) for f in ('load', 'store', 'set_edge', 'set_left', 'set_right', 'store_at')}
 ROOT = os.getcwd()
 TWIN = ROOT + '/target/twin'
+MADE = ROOT + '/target/made'
 ROW_REF = re.compile(r'&(?:mut )?\[%s\]' % STRUCT)
 
 
@@ -323,7 +324,19 @@ def made_text(crate, goals):
     for key in sorted(k for k in made if k[0] == crate):
         for k in ('Lts', 'Tie'):
             texts['%s/%s/Proof/%s.antt' % (folder, '/'.join(p for p in key[1:] if p), k)] = put(read(generated(key, k)), crate)
-    return texts
+    return in_layout(texts)
+
+
+def in_layout(texts):
+    """The same texts as the formatter lays them out, in a folder of their own."""
+    shutil.rmtree(MADE, ignore_errors=True)
+    for path, text in texts.items():
+        write('%s/%s' % (MADE, path), text)
+    write(MADE + '/crates.txt', '')
+    done = subprocess.run(['rt', 'fmt'], cwd=MADE, capture_output=True, text=True)
+    if done.returncode:
+        sys.exit('rt fmt, in target/made: ' + done.stdout + done.stderr)
+    return {path: read('%s/%s' % (MADE, path)) for path in texts}
 
 
 def landed(crate):
