@@ -1,18 +1,16 @@
 // A run stopped after its last step, and one pass of `fix_convexity` by itself: the two meshes that the Rust is compared by. For the comparison alone; no
 // call needs them. Both take anything that is lent, as the calls do: what the checks of a run, or of a finish, refuse is left as it was.
 ghost use mathlib.Core.Path.{_≡_};
-ghost use lib.ListN.{length};
 ghost use Rattle.corner.specs.CornerRows.{extendedOf};
-ghost use Rattle.dcel.specs.Rows.{linksOf, positionOf};
-ghost use Rattle.finish.specs.Finish.{seedChecked};
+ghost use Rattle.dcel.specs.MeshRows.{meshRows};
 ghost use Rattle.mesh_check.specs.declared.Checked.the-variants.{Accepted};
 ghost use Rattle.mesh_check.specs.Check.{pointCount};
 ghost use Rattle.run.specs.RunRows.{sweepingOf};
-ghost use Rattle.sweep.specs.Run.{lent, runChecked, sweepOf};
+ghost use Rattle.ring_rows.specs.RingRows.{ringRows};
+ghost use Rattle.sweep.specs.Run.{runLent, runChecked, sweepOf};
 ghost use Rattle.stages.specs.Stages.{steppedOf, passedOf};
 use angle::Point2;
 use corner::Added;
-use flip_count::FlipCount;
 use mesh::Counts;
 use mesh_check::Checked;
 use ring_rows::Node;
@@ -33,12 +31,13 @@ fn steps_accepted(
     center: Point2,
     points: &[i32],
 ) -> SweepEnd
-    requires { ⌜ runChecked (lent counts (now positions) (now outs) (now halves) (now faces)
-        (now nodes) (now freed) (now buckets) (now pending) (now answers) (center .x) (center .y) (now points)) ≡ Accepted ⌝ }
-    ensures { λ r. ⌜ sweepingOf (now (positions .exit)) (now (outs .exit)) (now (halves .exit)) (now (faces .exit)) r
-        ≡ sweepOf (lent counts (now (positions .entry)) (now (outs .entry)) (now (halves .entry)) (now (faces .entry))
-        (now (nodes .entry)) (now (freed .entry)) (now (buckets .entry)) (now (pending .entry)) (now (answers .entry))
-        (center .x) (center .y) (now (points .entry))) (pointCount (now (points .entry))) ⌝ }
+    requires { ⌜ runChecked (runLent counts (meshRows (now positions) (now outs) (now halves) (now faces))
+        (ringRows (now nodes) (now freed) (now buckets)) (now pending) (now answers) center (now points)) ≡ Accepted ⌝ }
+    ensures { λ r. ⌜ sweepingOf (meshRows (now (positions .exit)) (now (outs .exit)) (now (halves .exit)) (now (faces .exit))) r
+        ≡ sweepOf (runLent counts
+        (meshRows (now (positions .entry)) (now (outs .entry)) (now (halves .entry)) (now (faces .entry)))
+        (ringRows (now (nodes .entry)) (now (freed .entry)) (now (buckets .entry))) (now (pending .entry)) (now (answers .entry))
+        center (now (points .entry))) (pointCount (now (points .entry))) ⌝ }
 {
     let count = mesh_check::point_count(points) as u32;
     let hull = start::start_ring(positions, halves, faces, nodes, buckets, counts, center);
@@ -75,10 +74,11 @@ pub fn steps(
     center: Point2,
     points: &[i32],
 ) -> SweepEnd
-    ensures { λ r. ⌜ sweepingOf (now (positions .exit)) (now (outs .exit)) (now (halves .exit)) (now (faces .exit)) r
-        ≡ steppedOf (lent counts (now (positions .entry)) (now (outs .entry)) (now (halves .entry)) (now (faces .entry))
-        (now (nodes .entry)) (now (freed .entry)) (now (buckets .entry)) (now (pending .entry)) (now (answers .entry))
-        (center .x) (center .y) (now (points .entry))) ⌝ }
+    ensures { λ r. ⌜ sweepingOf (meshRows (now (positions .exit)) (now (outs .exit)) (now (halves .exit)) (now (faces .exit))) r
+        ≡ steppedOf (runLent counts
+        (meshRows (now (positions .entry)) (now (outs .entry)) (now (halves .entry)) (now (faces .entry)))
+        (ringRows (now (nodes .entry)) (now (freed .entry)) (now (buckets .entry))) (now (pending .entry)) (now (answers .entry))
+        center (now (points .entry))) ⌝ }
 {
     let short = run::answers_short(answers.len(), points);
     match start::check_sweep(
@@ -127,15 +127,13 @@ pub fn pass(
     pending: &mut [u32],
 ) -> Added
     ensures { λ r. ⌜ extendedOf (now (outs .exit)) (now (halves .exit)) (now (faces .exit)) r
-        ≡ passedOf (seedChecked counts (now (positions .entry)) (now (outs .entry)) (now (halves .entry)) (now (faces .entry))
-        (now (pending .entry)))
-        (length (now (pending .entry))) counts (positionOf (now (positions .entry)))
-        (linksOf (now (outs .entry)) (now (halves .entry)) (now (faces .entry))) ⌝ }
+        ≡ passedOf counts (meshRows (now (positions .entry)) (now (outs .entry)) (now (halves .entry)) (now (faces .entry)))
+        (now (pending .entry)) ⌝ }
 {
     let added = Added {
         counts: counts,
         faces: 0,
-        flips: FlipCount::zero(),
+        flips: 0,
         full: false,
     };
     match finish::check_seed(counts, positions, outs, halves, faces, pending) {

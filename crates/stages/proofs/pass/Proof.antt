@@ -6,9 +6,6 @@ use Rattle.stages.proofs.StagesRows.{start-ready, passed-refused, passe
 use Rattle.stages.proofs.pass.Statement.{statement}
 use Rattle.stages.proofs.pass.Tie as tie
 
-zero-requires : tie.Need-zero-requires
-zero-requires c κs = search needs
-
 check-seed-requires : tie.Need-check-seed-requires
 check-seed-requires c κs = search needs
 
@@ -19,7 +16,7 @@ enum-told : tie.Need-enum-told
 enum-told c = search needs
 
 fix-convexity-requires : tie.Need-fix-convexity-requires
-fix-convexity-requires c κs = start-ready _ _ (c .before .before .before .before .before .before .before .before .before .before .before .zero .ensures) (accepted-ready _ _ _ _ _ _ (sym (c .before .before .before .before .enum-told .given .1) ∙ c .before .before .before .before .before .before .check-seed .ensures))
+fix-convexity-requires c κs = start-ready _ (accepted-ready _ _ _ (sym (c .before .before .before .before .enum-told .given .1) ∙ c .before .before .before .before .before .before .check-seed .ensures))
 
 same-length : tie.Need-same-length
 same-length c = search needs
@@ -34,7 +31,7 @@ same-length-4 : tie.Need-same-length-4
 same-length-4 c = search needs
 
 returns : tie.Need-returns
-returns c = passed-refused _ _ (c .before .before .before .before .before .before .before .before .zero .ensures) _ _ _ _ _ _ (sym (c .before .refusal .given .1) ∙ c .before .before .before .check-seed .ensures)
+returns c = passed-refused _ _ _ _ (sym (c .before .refusal .given .1) ∙ c .before .before .before .check-seed .ensures)
 
 same-length-5 : tie.Need-same-length-5
 same-length-5 c = search needs
@@ -49,13 +46,12 @@ same-length-8 : tie.Need-same-length-8
 same-length-8 c = search needs
 
 returns-2 : tie.Need-returns-2
-returns-2 c = c .before .before .before .before .before .before .before .before .fix-convexity .ensures ∙ passed-accepted _ _ (c .before .before .before .before .before .before .before .before .before .before .before .before .before .before .before .before .before .before .before .before .zero .ensures) _ _ _ _ _ (sym (c .before .before .before .before .before .before .before .before .before .before .before .before .before .enum-told .given .1) ∙ c .before .before .before .before .before .before .before .before .before .before .before .before .before .before .before .check-seed .ensures)
+returns-2 c = c .before .before .before .before .before .before .before .before .fix-convexity .ensures ∙ passed-accepted _ _ _ (sym (c .before .before .before .before .before .before .before .before .before .before .before .before .before .enum-told .given .1) ∙ c .before .before .before .before .before .before .before .before .before .before .before .before .before .before .before .check-seed .ensures)
 
 pub pass-spec : {M : Type 1} → statement M
 pass-spec =
     tie.close
     (tie.spec
-    zero-requires
     check-seed-requires
     enum-known-refusal
     enum-told
