@@ -78,7 +78,7 @@ fn compare_mesh(text: &[u8], at: usize, mesh: Mesh) -> Agreed {
 // Whether answers are those of the line `a` at a place, and the place behind it.
 fn compare_answers(text: &[u8], at: usize, answers: Longs) -> Agreed {
     let start = test_mesh::plain_start(text, at, b'a', LONGS, 7);
-    test_mesh::compare_longs(text, start, true, answers)
+    test_mesh::compare_longs(text, start, answers)
 }
 
 // Whether the steps have left what the lines from `a` on have; the place of the line `g`.
@@ -95,12 +95,10 @@ fn steps_agree(text: &[u8], at: usize, after: Stepped) -> Agreed {
 fn pass_agrees(text: &[u8], at: usize, after: Passed) -> bool {
     let g = read_pass(text, at);
     let m = compare_mesh(text, g.at, after.mesh);
-    let flips = after.flips;
     g.is_whole
         & m.agrees
         & (after.faces == g.faces)
-        & (flips[0] == 0)
-        & (flips[1] == g.flips)
+        & (after.flips == g.flips)
         & test_text::is_line_of(text, m.at, b'e', &[])
 }
 

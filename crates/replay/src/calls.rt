@@ -215,18 +215,13 @@ pub fn ring_holds(
         & test_mesh::holds(buckets, ring.buckets, v)
 }
 
-// The refusal of a result whose counts of flips have these high words together. No list has a count of flips that needs two words: such a result is 99.
-pub fn refusal_of(refusal: u32, high: u64) -> u64 {
-    if high == 0 { refusal as u64 } else { 99 }
-}
-
 // Numbers of a result: refusal, place, faces, flips of the convexity passes and of the closing pass.
 pub fn numbers_of(r: FinishResult) -> [u64; 5] {
     [
-        refusal_of(r.refusal, r.convex_flips_high | r.closing_flips_high),
+        r.refusal as u64,
         r.place as u64,
         r.faces_added as u64,
-        r.convex_flips_low,
-        r.closing_flips_low,
+        r.convex_flips,
+        r.closing_flips,
     ]
 }

@@ -16,11 +16,11 @@ pub struct Stepped {
     pub answers: Longs,
 }
 
-// The mesh after a pass, the faces that it added, and its flips: the high word and the low.
+// The mesh after a pass, the faces that it added, and its flips.
 pub struct Passed {
     pub mesh: Mesh,
     pub faces: u64,
-    pub flips: [u64; 2],
+    pub flips: u64,
 }
 
 pub fn steps_on(mesh: Mesh, center: Point2, points: Coordinates) -> Stepped
@@ -76,10 +76,9 @@ pub fn pass_on(mesh: Mesh) -> Passed {
         &mut pending,
     );
     let left = added.counts;
-    let flips = added.flips;
     Passed {
         mesh: calls::with_rows(mesh, left, positions, outs, halves, faces),
         faces: added.faces as u64,
-        flips: [flips.high, flips.low],
+        flips: added.flips,
     }
 }

@@ -119,10 +119,10 @@ fn read_points(text: &[u8], at: usize) -> CoordinatesLine
 fn compare_answers(text: &[u8], lent: usize, told: usize, answers: Longs) -> Agreed {
     if test_text::byte(text, told) == b'W' {
         let start = test_mesh::read_start(text, told, b'W', false, LONGS);
-        return test_mesh::compare_longs(text, start, false, answers);
+        return test_mesh::compare_longs(text, start, answers);
     }
     let start = test_mesh::read_start(text, lent, b'w', false, LONGS);
-    let a = test_mesh::compare_longs(text, start, false, answers);
+    let a = test_mesh::compare_longs(text, start, answers);
     Agreed {
         agrees: a.agrees,
         at: told,

@@ -23,12 +23,12 @@ struct After {
 fn numbers_of(r: StepResult) -> [u64; 6] {
     let answer = r.answer;
     [
-        calls::refusal_of(r.refusal, answer.flips_high),
+        r.refusal as u64,
         r.place as u64,
         answer.fate,
         answer.vertex,
         answer.faces,
-        answer.flips_low,
+        answer.flips,
     ]
 }
 
