@@ -139,7 +139,7 @@ module _ (points : List ℤ) (short : Bool) (C : Counts) (m : MeshRows) (center 
   unfolding checkStart checkWith checkRing
   start-numbered =
       then-numbered (numbered-more (omega arith) (check-numbered _ _ _ _ _))
-      (numbered-cond (refusesCenter C (linksIn m) (placesIn m) (center .x) (center .y)) 6 0 (omega arith)
+      (numbered-cond (refusesCenter C (linksIn m) (placesIn m) (center .x) (center .y)) 6 0 (omega arith) (omega arith)
       (numbered-cond (refusesRing C (linksIn m) (placesIn m) (center .x) (center .y)) 7 0 (omega arith) (omega arith) accepts))
 
   -- the table goes on where rows 1 to 5 let pass, and stops where they do not
