@@ -21,7 +21,7 @@ use Rattle.mesh_check.specs.declared.Checked.{Checked}
 use Rattle.sweep.specs.Run.{Lent, Outcome, lent, stepsOf, sweepOf}
 use Rattle.sweep.specs.Demand3.{linksAfter, placesAfter}
 use Rattle.marked.specs.NoPoints.{FinishOfSeed, no-points}
-use Rattle.sweep.specs.Run.{sweepPoint, sweepAfter, finishAfter, answerWord, answersAfter, runChecked, outcomeOf, runOf}
+use Rattle.sweep.specs.Run.{sweepPoint, sweepAfter, finishAfter, answerWords, answerWord, answersAfter, runChecked, outcomeOf, runOf}
 use Rattle.start.specs.Start.{sweepRowsShort, sweepChecked}
 use Rattle.sweep.specs.Step.{isAdded, leftAlone, addedAt, appliedBy, applied, stepMesh}
 use Rattle.decide.specs.Decide.{fateNumber, fateVertex, isCoordinate, isPosition, atEnd, fateAt, ifAdded, decidedAt, decided}
@@ -52,7 +52,6 @@ use Rattle.sums.specs.Half.{rev}
 use Rattle.sums.specs.Iterate.{reaches, joined, period-below}
 use Rattle.sums.specs.Put.{put}
 use Rattle.sums.specs.Until.{when, until}
-use Rattle.flip_count.specs.FlipCount.{flipCountOf, flipCountFrom}
 use Rattle.ring_rows.specs.declared.Node.{Node}
 use Rattle.sums.specs.Sum as sums
 use Rattle.sums.specs.Tally as tallies
@@ -72,7 +71,7 @@ abbrev seeded : ℕ → ℕ → List ℤ → Float → Float → List ℤ → Le
 seeded vertices n seed cx cy points =
     lent (record { vertices = vertices; edges = 3; faces = 2 }) (seed ++ replicate (2 * n) (pos 0)) ((0 ∷ 2 ∷ 4 ∷ []) ++ replicate n 0)
     (triangle ++ replicate (48 + 24 * n) 0) ((1 ∷ 0 ∷ 0 ∷ 0 ∷ 0 ∷ 0 ∷ []) ++ replicate (2 * n) 0)
-    (replicate (n + 4) sevens) (replicate (n + 4) 7) (replicate 16 7) (replicate 8 7) (replicate (5 * n) 7) cx cy points
+    (replicate (n + 4) sevens) (replicate (n + 4) 7) (replicate 16 7) (replicate 8 7) (replicate (answerWords * n) 7) cx cy points
 
 -- `S 0 0 4 0 0 4`
 abbrev seed : List ℤ
@@ -102,7 +101,7 @@ abbrev M5 : Type 0
 M5 =
     -- circle determinant 24, one flip,
     (circleAt unflipped (stepsOf kite 0 .positions) 1 ≡ pos 24)
-    × (take 5 (runOf kite .answers) ≡ 1 ∷ 3 ∷ 1 ∷ 0 ∷ 1 ∷ [])
+    × (take answerWords (runOf kite .answers) ≡ 1 ∷ 3 ∷ 1 ∷ 1 ∷ [])
     -- height sum 168 before it and 144 after."
     × (heightSum (withVertex (kite .counts)) unflipped (stepsOf kite 0 .positions) ≡ pos 168)
     × (heightAfter (runOf kite) ≡ pos 144)
@@ -136,7 +135,7 @@ M10 = (l : Lent) → l .points ≡ [] → runChecked l ≡ Checked.Accepted → 
 
 -- ---- the theorem
 pub marked : angles.M1 × angles.M2 × angles.M3 × M4 × M5 × M6 × M7 × M8 × M9 × M10
-unfolding sweepPoint sweepAfter finishAfter answerWord answersAfter runChecked outcomeOf runOf sweepRowsShort sweepChecked isAdded leftAlone addedAt appliedBy applied stepMesh fateNumber fateVertex isCoordinate isPosition atEnd fateAt ifAdded decidedAt decided firstFace beside covers faceEdge walkEnds walkTurn walk addVertex turns addTurns closeCorner turnsLeftAt lastTurnsLeft closeLast closeCorners passTurn isSecond fixConvexity passAgain convexity closeEdge closeBelow closeTurn closingPass closeAfter finishMesh finishedFrom entryEdge pushed flipped popped legalize pendingOf contains pushIfNotContained boundaryLength cross boundaryArea overFaces circleAt breaksCircle flipBetween flipCw faceBetween createSingleFaceBetweenEdgeAndNext faceAdjacent createNewFaceAdjacentToEdge halfEdgeInUse linksInUse halfEdgeLinked innerFaceRule outerFaceRule sideRule vertexRule eulerRule rules countRefused meshRowsShort firstOutside vertexOrPoint turnsLeft firstNotLeft checkMesh checkOf pointCount vertexCount rowsShort checkWith andThen ringRowsShort checkRing checkStart checkAngle placeAt locateOf turnsAbout refusesCenter refusesRing coversLeft coversRight leftChain rightChain anglesAfter soundAfter isFit proper wraps countBefore countAround mergedBefore merged member allDiffer isSound isStrict between passedCount boundaryEdges boundaryAngles isSoundRing isStrictRing filter ringNodes located holds gap wide absoluteOf slope ofDiff pseudoAngle angleAbout bounded validCenter isNumber atCenter validAngle halvesOf rowOf positionOf linksOf rowFrom field halvesIn halvesFrom coordinate positionsFrom farIn farOf orient2d incircle height factor length2 difference dotOf crossOf all-below any-below first-below count rev reaches joined period-below put when until flipCountOf flipCountFrom sums.sum tallies.walk tallies.tally angle.turns locate.outcomeOf ofInt neg add sub mul div sum round units odd size span climb lt
+unfolding sweepPoint sweepAfter finishAfter answerWord answersAfter runChecked outcomeOf runOf sweepRowsShort sweepChecked isAdded leftAlone addedAt appliedBy applied stepMesh fateNumber fateVertex isCoordinate isPosition atEnd fateAt ifAdded decidedAt decided firstFace beside covers faceEdge walkEnds walkTurn walk addVertex turns addTurns closeCorner turnsLeftAt lastTurnsLeft closeLast closeCorners passTurn isSecond fixConvexity passAgain convexity closeEdge closeBelow closeTurn closingPass closeAfter finishMesh finishedFrom entryEdge pushed flipped popped legalize pendingOf contains pushIfNotContained boundaryLength cross boundaryArea overFaces circleAt breaksCircle flipBetween flipCw faceBetween createSingleFaceBetweenEdgeAndNext faceAdjacent createNewFaceAdjacentToEdge halfEdgeInUse linksInUse halfEdgeLinked innerFaceRule outerFaceRule sideRule vertexRule eulerRule rules countRefused meshRowsShort firstOutside vertexOrPoint turnsLeft firstNotLeft checkMesh checkOf pointCount vertexCount rowsShort checkWith andThen ringRowsShort checkRing checkStart checkAngle placeAt locateOf turnsAbout refusesCenter refusesRing coversLeft coversRight leftChain rightChain anglesAfter soundAfter isFit proper wraps countBefore countAround mergedBefore merged member allDiffer isSound isStrict between passedCount boundaryEdges boundaryAngles isSoundRing isStrictRing filter ringNodes located holds gap wide absoluteOf slope ofDiff pseudoAngle angleAbout bounded validCenter isNumber atCenter validAngle halvesOf rowOf positionOf linksOf rowFrom field halvesIn halvesFrom coordinate positionsFrom farIn farOf orient2d incircle height factor length2 difference dotOf crossOf all-below any-below first-below count rev reaches joined period-below put when until sums.sum tallies.walk tallies.tally angle.turns locate.outcomeOf ofInt neg add sub mul div sum round units odd size span climb lt
 marked =
     let m = angles.marked in
     (m .0, m .1, m .2, refl, (refl, refl, refl, refl), (refl, refl), refl, (refl, refl), refl, no-points)
