@@ -51,7 +51,7 @@ pub enum Fate {
     NotReached,
 }
 
-/// A point's answer as the library writes it, word by word; [`Answer::fate`], [`Answer::flips`] and `faces` read it.
+/// A point's answer as the library writes it, word by word; [`Answer::fate`], `faces` and `flips` read it.
 #[repr(C)]
 #[derive(Clone, Copy, Debug, Default, PartialEq, Eq)]
 pub struct Answer {
@@ -59,8 +59,8 @@ pub struct Answer {
     vertex: u64,
     /// The faces that its step added.
     pub faces: u64,
-    flips_high: u64,
-    flips_low: u64,
+    /// The flips of its step.
+    pub flips: u64,
 }
 
 impl Answer {
@@ -74,15 +74,6 @@ impl Answer {
             _ => Fate::NotReached,
         }
     }
-
-    /// The flips of its step.
-    pub fn flips(&self) -> u128 {
-        wide(self.flips_high, self.flips_low)
-    }
-}
-
-fn wide(high: u64, low: u64) -> u128 {
-    u128::from(high) << 64 | u128::from(low)
 }
 
 /// A boundary edge, and how many nodes of the ring were passed after the first on the way to it.
@@ -97,8 +88,8 @@ pub struct Place {
 pub struct Totals {
     /// The faces that the convexity passes added.
     pub faces: u32,
-    pub convex_flips: u128,
-    pub closing_flips: u128,
+    pub convex_flips: u64,
+    pub closing_flips: u64,
 }
 
 /// What a run did: an answer for each point, and its finish.
@@ -297,8 +288,8 @@ impl fmt::Debug for Mesh {
 fn totals_of(result: &sys::FinishResult) -> Totals {
     Totals {
         faces: result.faces_added,
-        convex_flips: wide(result.convex_flips_high, result.convex_flips_low),
-        closing_flips: wide(result.closing_flips_high, result.closing_flips_low),
+        convex_flips: result.convex_flips,
+        closing_flips: result.closing_flips,
     }
 }
 
