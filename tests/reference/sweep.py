@@ -834,7 +834,8 @@ def finish(mesh, lent):
 
 def answer_at(row, i):
     """The answer of point i, back from the row."""
-    return tuple(row[WORDS * i:WORDS * i + WORDS])
+    fate, vertex, faces, flips = row[WORDS * i:WORDS * i + WORDS]
+    return (fate, vertex, faces, flips)
 
 
 def run(mesh, lent, centre, points):
