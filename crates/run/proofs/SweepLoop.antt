@@ -21,6 +21,7 @@ use Rattle.mesh.specs.declared.Counts.{Counts}
 use Rattle.mesh.specs.Mesh.{Links}
 use Rattle.ring_rows.specs.declared.Node.{Node}
 use Rattle.ring_rows.specs.declared.Hull.{Hull}
+use Rattle.ring_rows.specs.RingRows.{ringRows}
 use Rattle.step.specs.declared.Progress.{Progress}
 use Rattle.sweep.specs.Step.{Stepping, answerOf, stepMesh}
 use Rattle.sweep.specs.StepMesh.{Swept}
@@ -135,7 +136,7 @@ module _ {q₀ : List ℤ} {o₀ h₀ a₀ row₀ : List ℕ} {nodes₀ : List N
     pub sweeping-point : 2 * i + 1 < length points
     sweeping-point = let k = I .ready .pairs in omega arith
 
-    room : StepRoom (C₀ .vertices + count) C q o h a row nodes freed buckets hull
+    room : StepRoom (C₀ .vertices + count) C (meshRows q o h a) row (ringRows nodes freed buckets) hull
     room =
         let R = I .ready .room in let K = I .lengths in
         record {
@@ -151,11 +152,11 @@ module _ {q₀ : List ℤ} {o₀ h₀ a₀ row₀ : List ℕ} {nodes₀ : List N
         }
 
     module _ {v : Point} (e : v ≡ point i) where
-      pub sweeping-ready : StepReady C q o h a row nodes freed buckets hull cx cy v
+      pub sweeping-ready : StepReady C (meshRows q o h a) row (ringRows nodes freed buckets) hull (record { x = cx; y = cy }) v
       sweeping-ready = record { sweep = I .sweep; range = rw e (I .ready .range i l); vertices = C₀ .vertices + count; room = room }
 
       module _ {q′ : List ℤ} {o′ h′ a′ : List ℕ} {nodes′ : List Node} {freed′ buckets′ : List ℕ} {r : Progress}
-          (X : StepLeaves C q q′ o h a row o′ h′ a′ nodes freed buckets nodes′ freed′ buckets′ hull cx cy v r) where
+          (X : StepLeaves C (meshRows q o h a) row (ringRows nodes freed buckets) hull (record { x = cx; y = cy }) v (meshRows q′ o′ h′ a′) (ringRows nodes′ freed′ buckets′) r) where
         step-is : stepAt (length row₀) cx cy C₀ L₀ p₀ point i ≡ steppingOf (meshRows q′ o′ h′ a′) r
         step-is =
             ap (λ (s : Sweeping). stepMesh (length row₀) cx cy (s .counts) (s .links) (s .positions) (point i)) (I .at)

@@ -77,7 +77,7 @@ module _ {C : Counts} {m : MeshRows} {n f b k : ℕ} {center : Point2} {v : Poin
       (S : Started C (m .positions) (m .halves) (m .faces) nodes buckets hull center)
       (ln : length nodes ≡ n) (lb : length buckets ≡ b) where
     pub to-step : {freed row : List ℕ} → length freed ≡ f → length row ≡ k
-        → StepReady C (m .positions) (m .outs) (m .halves) (m .faces) row nodes freed buckets hull (center .x) (center .y) v
+        → StepReady C m row (ringRows nodes freed buckets) hull center v
     to-step lf lr =
         let c = count-is C v in
         let w = A .start .mesh .most in
@@ -104,7 +104,8 @@ module _ {C : Counts} {m : MeshRows} {n f b k : ℕ} {center : Point2} {v : Poin
 pub swept-once : {C : Counts} {q q′ : List ℤ} {o h a row o′ h′ a′ row₂ : List ℕ}
     {nodes nodes₁ nodes₂ : List Node} {freed buckets buckets₁ freed₂ buckets₂ : List ℕ}
     {hull : Hull} {center : Point2} {v : Point} {r : Progress}
-    → StepLeaves C q q′ o h a row o′ h′ a′ nodes₁ freed buckets₁ nodes₂ freed₂ buckets₂ hull (center .x) (center .y) v r
+    → StepLeaves C (meshRows q o h a) row (ringRows nodes₁ freed buckets₁) hull center v
+    (meshRows q′ o′ h′ a′) (ringRows nodes₂ freed₂ buckets₂) r
     → length nodes₂ ≡ length nodes₁ → length nodes₁ ≡ length nodes → length freed₂ ≡ length freed
     → length buckets₂ ≡ length buckets₁ → length buckets₁ ≡ length buckets → length row₂ ≡ length row
     → {ring′ : RingRows} {row′ : List ℕ} → RowsCleared (ringRows nodes₂ freed₂ buckets₂) row₂ ring′ row′

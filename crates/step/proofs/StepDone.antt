@@ -43,6 +43,7 @@ use Rattle.ring.specs.Chain.{leftChain, rightChain, chainStart, chainLength}
 use Rattle.ring.specs.ChainMesh.{start-walk}
 use Rattle.ring_rows.specs.declared.Node.{Node}
 use Rattle.ring_rows.specs.declared.Hull.{Hull}
+use Rattle.ring_rows.specs.RingRows.{ringRows}
 use Rattle.sums.specs.Iterate.{iter, iter-add}
 use Rattle.sums.specs.Put.{put}
 use Rattle.step.specs.declared.Progress.{Progress}
@@ -59,7 +60,7 @@ unfolding steppingOf extendedOf
 stepping-by q′ o′ h′ a′ r hull′ z x y w = rw (z, ← x, ← y, ← w) refl
 
 module _ {C : Counts} {q : List ℤ} {o h a row : List ℕ} {nodes : List Node} {freed buckets : List ℕ} {hull : Hull} {cx cy : Float} {v : Point}
-    (R : StepReady C q o h a row nodes freed buckets hull cx cy v) where
+    (R : StepReady C (meshRows q o h a) row (ringRows nodes freed buckets) hull (record { x = cx; y = cy }) v) where
   abbrev L : Links
   L = linksOf o h a
 
@@ -84,7 +85,7 @@ module _ {C : Counts} {q : List ℤ} {o h a row : List ℕ} {nodes : List Node} 
     -- ---- a point that is left alone
     pub left-alone : {t : Bool} → t ≡ isAdded (D .fate) → not t ≡ true → {r : Progress}
         → r ≡ progressOf (record { counts = C; faces = 0; flips = 0; full = false }) hull (D .fate)
-        → StepLeaves C q q o h a row o h a nodes freed buckets nodes freed buckets hull cx cy v r
+        → StepLeaves C (meshRows q o h a) row (ringRows nodes freed buckets) hull (record { x = cx; y = cy }) v (meshRows q o h a) (ringRows nodes freed buckets) r
     unfolding steppingOf leftAlone
     left-alone {t} e n x = rw x (record {
       is = rw fate-is (sym (step-alone (length row) cx cy C L p v (sym (e ∙ ap isAdded fate-is) ∙ go t n)));
@@ -172,7 +173,7 @@ module _ {C : Counts} {q : List ℤ} {o h a row : List ℕ} {nodes : List Node} 
 
         -- a flip was refused
         pub added-full : {s : Progress} → r .added .full ≡ true → s ≡ progressOf (r .added) hull (D .fate)
-            → StepLeaves C q q′ o h a row o′ h′ a′ nodes freed buckets nodes freed buckets hull cx cy v s
+            → StepLeaves C (meshRows q o h a) row (ringRows nodes freed buckets) hull (record { x = cx; y = cy }) v (meshRows q′ o′ h′ a′) (ringRows nodes freed buckets) s
         added-full g z = record {
           is = stepped-is hull z;
           sweep = λ k. absurd (false≢true (sym k ∙ ap (λ (s : Progress). s .full) z ∙ g));
@@ -209,7 +210,7 @@ module _ {C : Counts} {q : List ℤ} {o h a row : List ℕ} {nodes : List Node} 
           unfolding extendedOf
           vertices-are = ap (λ (X : Applied). X .mesh .counts .vertices) r-is ∙ ap (λ (K : Counts). K .vertices) (add-counts B (length row))
 
-          enters : (N : ℕ) → StepRoom N C q o h a row nodes freed buckets hull
+          enters : (N : ℕ) → StepRoom N C (meshRows q o h a) row (ringRows nodes freed buckets) hull
               → EntersRing C L α (r .added .counts) (linksOf o′ h′ a′) (turnsAbout cx cy p′) first covered (boundaryLength C L - covered) x (iter covered (L .next) first) N
               nodes freed buckets hull (D .startangle) (D .angle) (D .endangle) (r .leftedge) (r .rightedge)
           enters N K = record {
@@ -253,7 +254,7 @@ module _ {C : Counts} {q : List ℤ} {o h a row : List ℕ} {nodes : List Node} 
               → {nodes′ : List Node} {freed′ buckets′ : List ℕ} {hull′ : Hull}
               → EnteredRing nodes freed buckets nodes′ freed′ buckets′ hull (D .startangle) (D .angle) (D .endangle) (r .leftedge) (r .rightedge) hull′
               → {s : Progress} → s ≡ progressOf (r .added) hull′ (D .fate)
-              → StepLeaves C q q′ o h a row o′ h′ a′ nodes freed buckets nodes′ freed′ buckets′ hull cx cy v s
+              → StepLeaves C (meshRows q o h a) row (ringRows nodes freed buckets) hull (record { x = cx; y = cy }) v (meshRows q′ o′ h′ a′) (ringRows nodes′ freed′ buckets′) s
           added-done lq lo lh la {nodes′} {freed′} {buckets′} {hull′} E {s} z = record {
             is = stepped-is hull′ z;
             sweep = λ k. rw z (record {

@@ -20,7 +20,6 @@ use Rattle.decide.specs.Sweep.{Sweep}
 use Rattle.math.specs.declared.Point.{Point}
 use Rattle.math.specs.Determinant.{InRange}
 use Rattle.mesh.specs.declared.Counts.{Counts}
-use Rattle.ring_rows.specs.declared.Node.{Node}
 use Rattle.ring_rows.specs.declared.Hull.{Hull}
 use Rattle.ring_rows.specs.RingRows.{RingRows}
 use Rattle.start.specs.StartRows.{RowsCleared}
@@ -41,30 +40,36 @@ steppingOf m r = record {
 }
 
 -- the rows do for N vertices, one more than there are, by 01's sizes
-pub record StepRoom (N : ℕ) (C : Counts) (q : List ℤ) (o h a row : List ℕ) (nodes : List Node) (freed buckets : List ℕ) (hull : Hull) : Type 0 where
+pub record StepRoom (N : ℕ) (C : Counts) (m : MeshRows) (pending : List ℕ) (ring : RingRows) (hull : Hull) : Type 0 where
   pub more : C .vertices + 1 ≤ N
   pub most : N ≤ 1000000
-  pub positions : 2 * N ≤ length q
-  pub outs : N ≤ length o
-  pub sized : MeshRoom N h a row
-  pub node-room : suc N ≤ length nodes
-  pub freed-room : suc N ≤ length freed
-  pub bucket-room : N ≤ length buckets
+  pub positions : 2 * N ≤ length (m .positions)
+  pub outs : N ≤ length (m .outs)
+  pub sized : MeshRoom N (m .halves) (m .faces) pending
+  pub node-room : suc N ≤ length (ring .nodes)
+  pub freed-room : suc N ≤ length (ring .freed)
+  pub bucket-room : N ≤ length (ring .buckets)
   pub nodes-most : hull .nodes ≤ suc N
 
--- a mesh with its ring in rows with room for a point in range
-pub record StepReady (C : Counts) (q : List ℤ) (o h a row : List ℕ) (nodes : List Node) (freed buckets : List ℕ) (hull : Hull) (cx cy : Float) (v : Point) : Type 0 where
-  pub sweep : Sweep C q o h a nodes freed buckets hull cx cy
+-- the rows hold a mesh with its ring about a centre
+abbrev pub SweepIn : Counts → MeshRows → RingRows → Hull → Point2 → Type 0
+SweepIn C m ring hull center =
+    Sweep C (m .positions) (m .outs) (m .halves) (m .faces) (ring .nodes) (ring .freed) (ring .buckets) hull (center .x) (center .y)
+
+-- they do, with room for a point in range
+pub record StepReady (C : Counts) (m : MeshRows) (pending : List ℕ) (ring : RingRows) (hull : Hull) (center : Point2) (v : Point)
+    : Type 0 where
+  pub sweep : SweepIn C m ring hull center
   pub range : InRange v
   pub vertices : ℕ
-  pub room : StepRoom vertices C q o h a row nodes freed buckets hull
+  pub room : StepRoom vertices C m pending ring hull
 
 -- What it leaves: the step as it is defined, and where no flip was refused again a mesh with its ring, whose nodes the rows have room for
-pub record StepLeaves (C : Counts) (q q′ : List ℤ) (o h a row o′ h′ a′ : List ℕ) (nodes : List Node) (freed buckets : List ℕ) (nodes′ : List Node) (freed′ buckets′ : List ℕ)
-    (hull : Hull) (cx cy : Float) (v : Point) (r : Progress) : Type 0 where
-  pub is : steppingOf (meshRows q′ o′ h′ a′) r ≡ stepMesh (length row) cx cy C (linksOf o h a) (positionOf q) v
-  pub sweep : r .full ≡ false → Sweep (r .counts) q′ o′ h′ a′ nodes′ freed′ buckets′ (r .hull) cx cy
-  pub nodes-most : (N : ℕ) → StepRoom N C q o h a row nodes freed buckets hull → r .hull .nodes ≤ suc N
+pub record StepLeaves (C : Counts) (m : MeshRows) (pending : List ℕ) (ring : RingRows) (hull : Hull) (center : Point2) (v : Point)
+    (m′ : MeshRows) (ring′ : RingRows) (r : Progress) : Type 0 where
+  pub is : steppingOf m′ r ≡ stepMesh (length pending) (center .x) (center .y) C (linksIn m) (placesIn m) v
+  pub sweep : r .full ≡ false → SweepIn (r .counts) m′ ring′ (r .hull) center
+  pub nodes-most : (N : ℕ) → StepRoom N C m pending ring hull → r .hull .nodes ≤ suc N
 
 -- the point as a vertex in the rows
 pub record PointReady (C : Counts) (q : List ℤ) (o h a row : List ℕ) (v : Point) (D : Decision) : Type 0 where

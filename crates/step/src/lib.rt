@@ -102,14 +102,13 @@ pub fn single_bulk_insertion_step(
     center: Point2,
     point: Point,
 ) -> Progress
-    requires { ⌜ StepReady counts (now positions) (now outs) (now halves) (now faces) (now pending)
-        (now nodes) (now freed) (now buckets) hull (center .x) (center .y) point ⌝ }
-    ensures { λ r. ⌜ StepLeaves counts (now (positions .entry)) (now (positions .exit))
-        (now (outs .entry)) (now (halves .entry)) (now (faces .entry)) (now (pending .entry))
-        (now (outs .exit)) (now (halves .exit)) (now (faces .exit))
-        (now (nodes .entry)) (now (freed .entry)) (now (buckets .entry))
-        (now (nodes .exit)) (now (freed .exit)) (now (buckets .exit))
-        hull (center .x) (center .y) point r ⌝ }
+    requires { ⌜ StepReady counts (meshRows (now positions) (now outs) (now halves) (now faces)) (now pending)
+        (ringRows (now nodes) (now freed) (now buckets)) hull center point ⌝ }
+    ensures { λ r. ⌜ StepLeaves counts
+        (meshRows (now (positions .entry)) (now (outs .entry)) (now (halves .entry)) (now (faces .entry))) (now (pending .entry))
+        (ringRows (now (nodes .entry)) (now (freed .entry)) (now (buckets .entry))) hull center point
+        (meshRows (now (positions .exit)) (now (outs .exit)) (now (halves .exit)) (now (faces .exit)))
+        (ringRows (now (nodes .exit)) (now (freed .exit)) (now (buckets .exit))) r ⌝ }
 {
     let decision = decide::decide(
         positions,
