@@ -28,21 +28,6 @@ number-added NotLeft = refl
 number-added Unsound = refl
 number-added AtCenter = refl
 
-pub record IsAdded (cx cy : Float) (C : Counts) (L : Links) (p : ℕ → Point) (v : Point) (n : ℕ) (D : Decided) : Type 0 where
-  pub off-center : T (not (atCenter (v .x) (v .y) cx cy))
-  pub next : n ≡ C .vertices
-  pub edge : D .edge ≡ located C L (turnsAbout cx cy p) (turns (angleAbout (v .x) (v .y) cx cy))
-  pub seen : T (seesEdge L p v
-      (located C L (turnsAbout cx cy p) (turns (angleAbout (v .x) (v .y) cx cy))))
-  pub sound : T (soundAfter C L p (turnsAbout cx cy p) v (turns (angleAbout (v .x) (v .y) cx cy))
-      (located C L (turnsAbout cx cy p) (turns (angleAbout (v .x) (v .y) cx cy))))
-  pub left : D .left
-      ≡ leftChain C L p (turnsAbout cx cy p) v (turns (angleAbout (v .x) (v .y) cx cy))
-      (located C L (turnsAbout cx cy p) (turns (angleAbout (v .x) (v .y) cx cy)))
-  pub right : D .right
-      ≡ rightChain C L p (turnsAbout cx cy p) v (turns (angleAbout (v .x) (v .y) cx cy))
-      (located C L (turnsAbout cx cy p) (turns (angleAbout (v .x) (v .y) cx cy)))
-
 -- of a point off the centre, and of one with an angle
 center-cases : (c : Bool) (X : Decided) {n : ℕ} → (cond c (record { fate = AtCenter; edge = 0; left = 0; right = 0 }) X) .fate ≡ Added n → c
     ≡ false
@@ -73,42 +58,55 @@ unfolding ifAdded
 added-is f e = rw e refl
 
 module _ (cx cy : Float) (C : Counts) (L : Links) (p : ℕ → Point) (v : Point) where
+  -- the angles of the mesh's vertices, the point's, and the boundary edge that is located there
+  abbrev α : ℕ → ℕ
+  α = turnsAbout cx cy p
+
   abbrev q : ℕ
   q = turns (angleAbout (v .x) (v .y) cx cy)
 
   abbrev e : ℕ
-  e = located C L (turnsAbout cx cy p) q
+  e = located C L α q
+
+  pub record IsAdded (n : ℕ) (D : Decided) : Type 0 where
+    pub off-center : T (not (atCenter (v .x) (v .y) cx cy))
+    pub next : n ≡ C .vertices
+    pub edge : D .edge ≡ e
+    pub seen : T (seesEdge L p v e)
+    pub sound : T (soundAfter C L p α v q e)
+    pub left : D .left ≡ leftChain C L p α v q e
+    pub right : D .right ≡ rightChain C L p α v q e
 
   -- a point off the centre
-  pub decided-off : atCenter (v .x) (v .y) cx cy ≡ false → decided cx cy C L p v ≡ decidedAt C L p (turnsAbout cx cy p) v q e
+  pub decided-off : atCenter (v .x) (v .y) cx cy ≡ false → decided cx cy C L p v ≡ decidedAt C L p α v q e
   unfolding decided
   decided-off z = rw z refl
 
   pub added-off : {n : ℕ} → decided cx cy C L p v .fate ≡ Added n → atCenter (v .x) (v .y) cx cy ≡ false
   unfolding decided
-  added-off z = center-cases (atCenter (v .x) (v .y) cx cy) (decidedAt C L p (turnsAbout cx cy p) v q e) z
+  added-off z = center-cases (atCenter (v .x) (v .y) cx cy) (decidedAt C L p α v q e) z
 
-  pub is-added : {n : ℕ} → decided cx cy C L p v .fate ≡ Added n → IsAdded cx cy C L p v n (decided cx cy C L p v)
+  pub is-added : {n : ℕ} → decided cx cy C L p v .fate ≡ Added n → IsAdded n (decided cx cy C L p v)
   unfolding decidedAt fateAt
   is-added z =
       let c = added-off z in
       let d = decided-off c in
       let f = sym (ap (λ (D : Decided). D .fate) d) ∙ z in
-      let k = fate-cases (atEnd L p v e) (seesEdge L p v e) (soundAfter C L p (turnsAbout cx cy p) v q e) f in
+      let k = fate-cases (atEnd L p v e) (seesEdge L p v e) (soundAfter C L p α v q e) f in
       record {
         off-center = from-false c;
         next = sym (k .2);
-        edge = ap (λ (D : Decided). D .edge) d ∙ added-is (fateAt C L p (turnsAbout cx cy p) v q e) f;
+        edge = ap (λ (D : Decided). D .edge) d ∙ added-is (fateAt C L p α v q e) f;
         seen = k .0;
         sound = k .1;
-        left = ap (λ (D : Decided). D .left) d ∙ added-is (fateAt C L p (turnsAbout cx cy p) v q e) f;
-        right = ap (λ (D : Decided). D .right) d ∙ added-is (fateAt C L p (turnsAbout cx cy p) v q e) f;
+        left = ap (λ (D : Decided). D .left) d ∙ added-is (fateAt C L p α v q e) f;
+        right = ap (λ (D : Decided). D .right) d ∙ added-is (fateAt C L p α v q e) f;
       }
 
   pub is-unsound : decided cx cy C L p v .fate ≡ Unsound
-      → T (seesEdge L p v e) × (soundAfter C L p (turnsAbout cx cy p) v q e ≡ false)
+      → T (seesEdge L p v e) × (soundAfter C L p α v q e ≡ false)
   unfolding decided decidedAt fateAt
   is-unsound z =
-      let c = center-unsound (atCenter (v .x) (v .y) cx cy) (decidedAt C L p (turnsAbout cx cy p) v q e) z in
-      unsound-cases (atEnd L p v e) (seesEdge L p v e) (soundAfter C L p (turnsAbout cx cy p) v q e) (C .vertices)
+      let c = center-unsound (atCenter (v .x) (v .y) cx cy) (decidedAt C L p α v q e) z in
+      unsound-cases (atEnd L p v e) (seesEdge L p v e) (soundAfter C L p α v q e) (C .vertices)
       (sym (ap (λ (D : Decided). D .fate) (decided-off c)) ∙ z)
