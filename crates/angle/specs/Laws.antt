@@ -10,7 +10,7 @@ use lib.Ieee.Fits.{down-pos, sub-fits}
 use lib.Ieee.Exact.{HasValue}
 use Rattle.angle.specs.Angle.{pseudoAngle, ofDiff, slope, zero64, one64, three64, quarter, Apart, IsAngle, turns}
 use Rattle.angle.specs.Values.{lt-at, le-at, eq-is}
-use Rattle.angle.specs.Turn.{Turn, whole-turn}
+use Rattle.angle.specs.PseudoAngle.{Turn, whole-turn}
 
 turns-is : (x : Float) (k : ℕ) → HasValue x false k (2 ^ 53) → turns x ≡ k
 unfolding turns

@@ -5,7 +5,7 @@ pub mod Answer
 pub mod Powers
 mod Grid
 mod Values
-mod Turn
+mod PseudoAngle
 pub mod Laws
 pub mod Center
 pub mod Bits

@@ -16,7 +16,7 @@ use Rattle.angle.specs.Powers.{pow-le-back}
 use Rattle.angle.specs.Angle.{validAngle}
 use Rattle.angle.specs.Grid.{grid-exact}
 use Rattle.angle.specs.Values.{flat, round-at, under}
-use Rattle.angle.specs.Turn.{down-le}
+use Rattle.angle.specs.PseudoAngle.{down-le}
 
 -- ---- the product is one rounding
 product-scale : (M Q n de dd : ℕ) → Q ≡ n * dd → M * Q * de ≡ M * n * (de * dd)

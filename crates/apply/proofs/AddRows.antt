@@ -7,7 +7,7 @@ use native.Mathlib.Omega.{arith}
 use lib.IntN.{ℤ}
 use lib.ListN.{length}
 use Rattle.conflicts.specs.FlipsWithin.{FlipsWithin}
-use Rattle.corner.specs.declared.Added.{Added}
+use Rattle.corner.specs.declared.Extension.{Extension}
 use Rattle.corner.specs.Corner.{Extended}
 use Rattle.corner.specs.CornerLaws.{Closings}
 use Rattle.corner.specs.CornerRows.{extendedOf, Ready}
@@ -19,10 +19,10 @@ use Rattle.mesh.specs.Operations.{withVertex}
 use Rattle.mesh.specs.CountsLaws.{halves-fit}
 use Rattle.mesh.specs.Good.{Good}
 use Rattle.ring.specs.Chain.{leftChain}
-use Rattle.apply.specs.declared.Side.the-variants.{Left, Right}
+use Rattle.ring.specs.declared.Side.the-variants.{Left, Right}
 use Rattle.apply.specs.declared.Walked.{Walked}
 use Rattle.mesh.specs.declared.Counts.{Counts}
-use Rattle.apply.specs.Apply.{Walking, firstFace, turns, addTurns}
+use Rattle.apply.specs.Apply.{Walking, firstFace, walkTurns, addTurns}
 use Rattle.apply.specs.ApplyLaws.{first-on, first-turned, second-on}
 use Rattle.apply.specs.ApplyRows.{FirstReady, TurnsReady, AddReady, walkingOf, appliedOf}
 use Rattle.apply.specs.FirstFace.{new-good, first-good, first-bound}
@@ -50,7 +50,7 @@ module _ {C : Counts} {q : List ℤ} {o h a row : List ℕ} {e left right : ℕ}
   }
 
   -- ---- after the first face
-  module _ {o₁ h₁ a₁ row₁ : List ℕ} (g : Added) (x : extendedOf o₁ h₁ a₁ g ≡ firstFace (length row) p C L e) (l : SameLengths o h a row o₁ h₁ a₁ row₁) where
+  module _ {o₁ h₁ a₁ row₁ : List ℕ} (g : Extension) (x : extendedOf o₁ h₁ a₁ g ≡ firstFace (length row) p C L e) (l : SameLengths o h a row o₁ h₁ a₁ row₁) where
     counts-are : g .counts ≡ withVertex C
     unfolding extendedOf firstFace
     counts-are = ap (λ (m : Extended). m .counts) x
@@ -93,18 +93,18 @@ module _ {C : Counts} {q : List ℤ} {o h a row : List ℕ} {e left right : ℕ}
     }
 
     -- ---- after the first loop
-    module _ {o₂ h₂ a₂ row₂ : List ℕ} (w : Walked) (y : walkingOf o₂ h₂ a₂ w ≡ turns Left (length row₁) p left (walkingOf o₁ h₁ a₁ (record { added = g; edge = 2 * C .edges + 2 + 1 })))
+    module _ {o₂ h₂ a₂ row₂ : List ℕ} (w : Walked) (y : walkingOf o₂ h₂ a₂ w ≡ walkTurns Left (length row₁) p left (walkingOf o₁ h₁ a₁ (record { added = g; edge = 2 * C .edges + 2 + 1 })))
         (k : SameLengths o₁ h₁ a₁ row₁ o₂ h₂ a₂ row₂) where
-      turned-is : walkingOf o₂ h₂ a₂ w ≡ turns Left (length row) p left (record { mesh = firstFace (length row) p C L e; current = 2 * C .edges + 2 + 1 })
-      turned-is = y ∙ ap₂ (λ (n : ℕ) (m : Extended). turns Left n p left (record { mesh = m; current = 2 * C .edges + 2 + 1 })) (l .pending) x
+      turned-is : walkingOf o₂ h₂ a₂ w ≡ walkTurns Left (length row) p left (record { mesh = firstFace (length row) p C L e; current = 2 * C .edges + 2 + 1 })
+      turned-is = y ∙ ap₂ (λ (n : ℕ) (m : Extended). walkTurns Left n p left (record { mesh = m; current = 2 * C .edges + 2 + 1 })) (l .pending) x
 
       chain-is : walkingOf o₂ h₂ a₂ w
-          ≡ turns Left (length row) p (leftChain C L (R .places) (R .angles) (R .point) (R .angle) e) (record { mesh = firstFace (length row) p C L e; current = 2 * C .edges + 2 + 1 })
-      chain-is = turned-is ∙ ap (λ (n : ℕ). turns Left (length row) p n (record { mesh = firstFace (length row) p C L e; current = 2 * C .edges + 2 + 1 })) (R .left-is)
+          ≡ walkTurns Left (length row) p (leftChain C L (R .places) (R .angles) (R .point) (R .angle) e) (record { mesh = firstFace (length row) p C L e; current = 2 * C .edges + 2 + 1 })
+      chain-is = turned-is ∙ ap (λ (n : ℕ). walkTurns Left (length row) p n (record { mesh = firstFace (length row) p C L e; current = 2 * C .edges + 2 + 1 })) (R .left-is)
 
       pub right-ready : TurnsReady Right q o₂ h₂ a₂ row₂ (record { added = w .added; edge = 2 * C .edges + 1 }) right
       right-ready = record {
-        ready = ready-again extended-ready (subst⁻¹ (λ (m : Extended). Closings p m (turns Left (length row) p (leftChain C L (R .places) (R .angles) (R .point) (R .angle) e)
+        ready = ready-again extended-ready (subst⁻¹ (λ (m : Extended). Closings p m (walkTurns Left (length row) p (leftChain C L (R .places) (R .angles) (R .point) (R .angle) e)
             (record { mesh = firstFace (length row) p C L e; current = 2 * C .edges + 2 + 1 }) .mesh)) x (first-turned (R .before) (length row) .closings))
             (ap (λ (s : Walking). s .mesh) chain-is) k;
         counts = C;
@@ -125,11 +125,11 @@ module _ {C : Counts} {q : List ℤ} {o h a row : List ℕ} {e left right : ℕ}
       }
 
       -- ---- after the second
-      pub added-rows : (o₃ h₃ a₃ : List ℕ) (u : Walked) → walkingOf o₃ h₃ a₃ u ≡ turns Right (length row₂) p right (walkingOf o₂ h₂ a₂ (record { added = w .added; edge = 2 * C .edges + 1 }))
+      pub added-rows : (o₃ h₃ a₃ : List ℕ) (u : Walked) → walkingOf o₃ h₃ a₃ u ≡ walkTurns Right (length row₂) p right (walkingOf o₂ h₂ a₂ (record { added = w .added; edge = 2 * C .edges + 1 }))
           → appliedOf o₃ h₃ a₃ (record { added = u .added; leftedge = w .edge; rightedge = u .edge }) ≡ addTurns (length row) p C L e left right
       unfolding addTurns
       added-rows o₃ h₃ a₃ u z =
-          let s : walkingOf o₃ h₃ a₃ u ≡ turns Right (length row) p right
-          (record { mesh = turns Left (length row) p left (record { mesh = firstFace (length row) p C L e; current = 2 * C .edges + 2 + 1 }) .mesh; current = 2 * C .edges + 1 }) =
-          z ∙ ap₂ (λ (n : ℕ) (t : Walking). turns Right n p right (record { mesh = t .mesh; current = 2 * C .edges + 1 })) (k .pending ∙ l .pending) turned-is in
+          let s : walkingOf o₃ h₃ a₃ u ≡ walkTurns Right (length row) p right
+          (record { mesh = walkTurns Left (length row) p left (record { mesh = firstFace (length row) p C L e; current = 2 * C .edges + 2 + 1 }) .mesh; current = 2 * C .edges + 1 }) =
+          z ∙ ap₂ (λ (n : ℕ) (t : Walking). walkTurns Right n p right (record { mesh = t .mesh; current = 2 * C .edges + 1 })) (k .pending ∙ l .pending) turned-is in
           ap₂ (λ (t r : Walking). record { mesh = r .mesh; leftEdge = t .current; rightEdge = r .current }) turned-is s

@@ -6,20 +6,21 @@ use native.Mathlib.Omega.{arith}
 use lib.IntN.{ℤ}
 use lib.ListN.{length}
 use Rattle.circle_test.specs.GoodRows.{held}
-use Rattle.corner.specs.declared.Added.{Added}
+use Rattle.corner.specs.declared.Extension.{Extension}
 use Rattle.corner.specs.Corner.{Extended, closeCorner}
 use Rattle.corner.specs.CornerRows.{extendedOf, CloseReady}
 use Rattle.dcel.specs.Rows.{halvesOf, linksOf, positionOf, There}
 use Rattle.dcel.specs.MeshHeld.{there, prev-in, next-in}
 use Rattle.mesh.specs.Mesh.{In}
-use Rattle.apply.specs.declared.Side.{Side}
-use Rattle.apply.specs.declared.Side.the-variants.{Left, Right}
+use Rattle.ring.specs.declared.Side.{Side}
+use Rattle.ring.specs.declared.Side.the-variants.{Left, Right}
 use Rattle.apply.specs.declared.Walked.{Walked}
-use Rattle.apply.specs.Apply.{Walking, beside, faceEdge, walkTurn}
+use Rattle.ring.specs.Chain.{beside}
+use Rattle.apply.specs.Apply.{Walking, faceEdge, walkTurn}
 use Rattle.apply.specs.ApplyRows.{walkingOf, besideIn, TurnReady}
 
 pub beside-is : (side : Side) (o h a : List ℕ) (e : ℕ) → besideIn side (halvesOf h) e ≡ beside side (linksOf o h a) e
-unfolding besideIn beside linksOf
+unfolding besideIn linksOf
 beside-is Left o h a e = refl
 beside-is Right o h a e = refl
 
@@ -64,7 +65,7 @@ module _ {side : Side} {q : List ℤ} {o h a row : List ℕ} {w : Walked} (R : T
         second-in = let i = d-in in omega arith;
       })
 
-      pub turned-row : (o′ h′ a′ : List ℕ) (g : Added) {n : ℕ} → extendedOf o′ h′ a′ g ≡ closeCorner (length row) (positionOf q) (extendedOf o h a (w .added)) at (w .edge / 2) (d / 2)
+      pub turned-row : (o′ h′ a′ : List ℕ) (g : Extension) {n : ℕ} → extendedOf o′ h′ a′ g ≡ closeCorner (length row) (positionOf q) (extendedOf o h a (w .added)) at (w .edge / 2) (d / 2)
           → n ≡ 2 * w .added .counts .edges + 1
           → _≡_ {A = Walking} (record { mesh = extendedOf o′ h′ a′ g; current = n }) (walkTurn side (length row) (positionOf q) (walkingOf o h a w))
       unfolding walkTurn extendedOf

@@ -15,28 +15,28 @@ use Rattle.math.specs.declared.Point.{Point}
 use Rattle.mesh.specs.Mesh.{In}
 use Rattle.ring.specs.Covered.{p-in}
 use Rattle.sums.specs.Bit.{from-true, ne-test}
-use Rattle.apply.specs.declared.Side.{Side}
-use Rattle.apply.specs.declared.Side.the-variants.{Left, Right}
+use Rattle.ring.specs.declared.Side.{Side}
+use Rattle.ring.specs.declared.Side.the-variants.{Left, Right}
 use Rattle.apply.specs.declared.Walked.{Walked}
-use Rattle.apply.specs.Apply.{Walking, walkTurn, turns}
+use Rattle.apply.specs.Apply.{Walking, walkTurn, walkTurns}
 use Rattle.apply.specs.ApplyRows.{walkingOf, TurnReady, TurnsReady}
 use Rattle.apply.specs.Turns.{AlongOn, chainOn, turn-on, turn-closes, turns-full}
 use Rattle.apply.specs.Walks.{Before}
 
 -- one turn of several
-turns-next : (side : Side) (room : ℕ) (p : ℕ → Point) (n : ℕ) (s : Walking) → 0 < n → s .mesh .full ≡ false → turns side room p n s ≡ turns side room p (n - 1) (walkTurn side room p s)
-unfolding turns
+turns-next : (side : Side) (room : ℕ) (p : ℕ → Point) (n : ℕ) (s : Walking) → 0 < n → s .mesh .full ≡ false → walkTurns side room p n s ≡ walkTurns side room p (n - 1) (walkTurn side room p s)
+unfolding walkTurns
 turns-next side room p zero s l f = absurd (omega arith)
 turns-next side room p (suc n) s l f = let e : suc n - 1 ≡ n = omega arith in rw (f, e) refl
 
-turns-none : (side : Side) (room : ℕ) (p : ℕ → Point) (n : ℕ) (s : Walking) → n ≡ 0 → turns side room p n s ≡ s
-unfolding turns
+turns-none : (side : Side) (room : ℕ) (p : ℕ → Point) (n : ℕ) (s : Walking) → n ≡ 0 → walkTurns side room p n s ≡ s
+unfolding walkTurns
 turns-none side room p n s e = rw e refl
 
 pub record TurningAt (side : Side) (q : List ℤ) (o₀ h₀ a₀ row₀ : List ℕ) (w₀ : Walked) (count : ℕ) (o h a row : List ℕ) (w : Walked) (left : ℕ) : Type 0 where
   pub ready : TurnsReady side q o h a row w left
   pub lengths : SameLengths o₀ h₀ a₀ row₀ o h a row
-  pub same : turns side (length row₀) (positionOf q) left (walkingOf o h a w) ≡ turns side (length row₀) (positionOf q) count (walkingOf o₀ h₀ a₀ w₀)
+  pub same : walkTurns side (length row₀) (positionOf q) left (walkingOf o h a w) ≡ walkTurns side (length row₀) (positionOf q) count (walkingOf o₀ h₀ a₀ w₀)
 
 pub turning-starts : {side : Side} {q : List ℤ} {o h a row : List ℕ} {w : Walked} {count : ℕ} → TurnsReady side q o h a row w count → TurningAt side q o h a row w count o h a row w count
 turning-starts R = record { ready = R; lengths = same-refl; same = refl }
@@ -100,14 +100,14 @@ module _ {side : Side} {q : List ℤ} {o₀ h₀ a₀ row₀ : List ℕ} {w₀ :
           };
           lengths = same-trans (I .lengths) l;
           same =
-              ap (turns side (length row₀) (positionOf q) (left - 1)) (x ∙ ap (λ (n : ℕ). walkTurn side n (positionOf q) (walkingOf o h a w)) (I .lengths .pending))
+              ap (walkTurns side (length row₀) (positionOf q) (left - 1)) (x ∙ ap (λ (n : ℕ). walkTurn side n (positionOf q) (walkingOf o h a w)) (I .lengths .pending))
               ∙ sym (turns-next side (length row₀) (positionOf q) left (walkingOf o h a w) turning-some (going (w .added .full) left t g .0)) ∙ I .same;
         }
 
-  pub turning-end : not r ≡ false → walkingOf o h a w ≡ turns side (length row₀) (positionOf q) count (walkingOf o₀ h₀ a₀ w₀)
+  pub turning-end : not r ≡ false → walkingOf o h a w ≡ walkTurns side (length row₀) (positionOf q) count (walkingOf o₀ h₀ a₀ w₀)
   unfolding extendedOf
   turning-end g = go (w .added .full) refl
     where
-      go : (b : Bool) → w .added .full ≡ b → walkingOf o h a w ≡ turns side (length row₀) (positionOf q) count (walkingOf o₀ h₀ a₀ w₀)
+      go : (b : Bool) → w .added .full ≡ b → walkingOf o h a w ≡ walkTurns side (length row₀) (positionOf q) count (walkingOf o₀ h₀ a₀ w₀)
       go true f = sym (turns-full side (length row₀) (positionOf q) left (walkingOf o h a w) f) ∙ I .same
       go false f = sym (turns-none side (length row₀) (positionOf q) left (walkingOf o h a w) (ended (w .added .full) left t g f)) ∙ I .same

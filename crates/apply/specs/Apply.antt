@@ -10,10 +10,10 @@ use Rattle.math.specs.declared.Point.{Point}
 use Rattle.mesh.specs.declared.Counts.{Counts}
 use Rattle.mesh.specs.Mesh.{Links}
 use Rattle.mesh.specs.Operations.{createNewFaceAdjacentToEdge, withVertex}
-use Rattle.ring.specs.Chain.{coversLeft, coversRight}
+use Rattle.ring.specs.Chain.{beside, covers}
 use Rattle.sums.specs.Until.{until}
-use Rattle.apply.specs.declared.Side.{Side}
-use Rattle.apply.specs.declared.Side.the-variants.{Left, Right}
+use Rattle.ring.specs.declared.Side.{Side}
+use Rattle.ring.specs.declared.Side.the-variants.{Left, Right}
 
 -- `create_new_face_adjacent_to_edge` of the outer half-edge e, then `legalize_edge(edge, false)`
 unfoldable pub firstFace : ℕ → (ℕ → Point) → Counts → Links → ℕ → Extended
@@ -26,16 +26,6 @@ firstFace room p C L e =
 pub record Walking : Type 0 where
   pub mesh : Extended
   pub current : ℕ
-
--- `handle.prev()` in the first loop, `handle.next()` in the second
-unfoldable pub beside : Side → Links → ℕ → ℕ
-beside Left L e = L .prev e
-beside Right L e = L .next e
-
--- whether that edge is to be covered
-unfoldable pub covers : Side → Links → (ℕ → Point) → (ℕ → ℕ) → Point → ℕ → ℕ → Bool
-covers Left L p α v q d = coversLeft L p α v q d
-covers Right L p α v q d = coversRight L p α v q d
 
 -- the earlier along next of the two edges that the new face is made between: `prev` and the current edge, the current edge and `next`
 unfoldable pub faceEdge : Side → ℕ → ℕ → ℕ
@@ -76,13 +66,13 @@ addVertex room p α C L v q e =
 
 -- ---- as many turns as were decided, unless a flip is refused: what the code does. From the first face on, as many as
 -- the chain has edges on that side are the loop (`walk-turns` in `Turns`)
-unfoldable pub turns : Side → ℕ → (ℕ → Point) → ℕ → Walking → Walking
-turns side room p zero s = s
-turns side room p (suc n) s = cond (s .mesh .full) s (turns side room p n (walkTurn side room p s))
+unfoldable pub walkTurns : Side → ℕ → (ℕ → Point) → ℕ → Walking → Walking
+walkTurns side room p zero s = s
+walkTurns side room p (suc n) s = cond (s .mesh .full) s (walkTurns side room p n (walkTurn side room p s))
 
 -- the whole in turns: so many to the left, and so many to the right
 unfoldable pub addTurns : ℕ → (ℕ → Point) → Counts → Links → ℕ → ℕ → ℕ → Applied
 addTurns room p C L e left right =
-    let a = turns Left room p left (record { mesh = firstFace room p C L e; current = 2 * C .edges + 2 + 1 }) in
-    let b = turns Right room p right (record { mesh = a .mesh; current = 2 * C .edges + 1 }) in
+    let a = walkTurns Left room p left (record { mesh = firstFace room p C L e; current = 2 * C .edges + 2 + 1 }) in
+    let b = walkTurns Right room p right (record { mesh = a .mesh; current = 2 * C .edges + 1 }) in
     record { mesh = b .mesh; leftEdge = a .current; rightEdge = b .current }

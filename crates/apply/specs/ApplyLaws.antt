@@ -19,8 +19,8 @@ use Rattle.ring.specs.Chain.{leftChain, rightChain, chainStart, chainLength, so
 use Rattle.ring.specs.ChainMesh.{covered-sound, start-walk}
 use Rattle.ring.specs.Covered.{Covered}
 use Rattle.sums.specs.Iterate.{iter, iter-add}
-use Rattle.apply.specs.declared.Side.the-variants.{Left, Right}
-use Rattle.apply.specs.Apply.{Walking, Applied, firstFace, turns, walk, addVertex, addTurns}
+use Rattle.ring.specs.declared.Side.the-variants.{Left, Right}
+use Rattle.apply.specs.Apply.{Walking, Applied, firstFace, walkTurns, walk, addVertex, addTurns}
 use Rattle.apply.specs.Walks.{Before, Along}
 use Rattle.apply.specs.Turns.{AlongOn, Turned, turns-leave, walk-turns, turns-full}
 use Rattle.apply.specs.FirstFace.{along-first, first-good, first-run, first-bound, new-good}
@@ -43,10 +43,10 @@ module _ {C : Counts} {L : Links} {p₀ : ℕ → Point} {α₀ : ℕ → ℕ} {
   s₀ = record { mesh = firstFace room p C L e; current = 2 * C .edges + 2 + 1 }
 
   abbrev s₁ : Walking
-  s₁ = turns Left room p left s₀
+  s₁ = walkTurns Left room p left s₀
 
   abbrev s₂ : Walking
-  s₂ = turns Right room p right (record { mesh = s₁ .mesh; current = 2 * C .edges + 1 })
+  s₂ = walkTurns Right room p right (record { mesh = s₁ .mesh; current = 2 * C .edges + 1 })
 
   pub first-on : AlongOn B Left 0 (2 * C .edges + 1) 0 s₀
   first-on = record { along = along-first B room; most = omega arith; other = omega arith }

@@ -17,10 +17,11 @@ use Rattle.mesh.specs.Good.{Good}
 use Rattle.mesh.specs.Wf.{Wf}
 use Rattle.ring.specs.Chain.{leftChain, rightChain}
 use Rattle.apply.specs.declared.Entered.{Entered}
-use Rattle.apply.specs.declared.Side.{Side}
-use Rattle.apply.specs.declared.Side.the-variants.{Left, Right}
+use Rattle.ring.specs.declared.Side.{Side}
+use Rattle.ring.specs.declared.Side.the-variants.{Left, Right}
 use Rattle.apply.specs.declared.Walked.{Walked}
-use Rattle.apply.specs.Apply.{Walking, Applied, beside, faceEdge, walkTurn}
+use Rattle.ring.specs.Chain.{beside}
+use Rattle.apply.specs.Apply.{Walking, Applied, faceEdge, walkTurn}
 use Rattle.apply.specs.Walks.{Before}
 use Rattle.apply.specs.Turns.{AlongOn, chainOn}
 

@@ -21,14 +21,15 @@ use Rattle.ring.specs.Covered.{p-in, p-outer}
 use Rattle.sums.specs.Bit.{from-true, is-true, or-left, or-right}
 use Rattle.sums.specs.Iterate.{iter}
 use Rattle.sums.specs.Until.{until, until-done, until-next}
-use Rattle.apply.specs.declared.Side.{Side}
-use Rattle.apply.specs.declared.Side.the-variants.{Left, Right}
-use Rattle.apply.specs.Apply.{Walking, beside, covers, faceEdge, walkEnds, walkTurn, walk, turns}
+use Rattle.ring.specs.declared.Side.{Side}
+use Rattle.ring.specs.declared.Side.the-variants.{Left, Right}
+use Rattle.ring.specs.Chain.{beside, covers}
+use Rattle.apply.specs.Apply.{Walking, faceEdge, walkEnds, walkTurn, walk, walkTurns}
 use Rattle.apply.specs.Walks.{Before, Along, along-left, along-right, closes-left, closes-right, test-left, test-right}
 
 -- where a flip was refused, no turn is made
-pub turns-full : (side : Side) (room : ℕ) (p : ℕ → Point) (k : ℕ) (s : Walking) → s .mesh .full ≡ true → turns side room p k s ≡ s
-unfolding turns
+pub turns-full : (side : Side) (room : ℕ) (p : ℕ → Point) (k : ℕ) (s : Walking) → s .mesh .full ≡ true → walkTurns side room p k s ≡ s
+unfolding walkTurns
 turns-full side room p zero s f = refl
 turns-full side room p (suc k) s f = rw f refl
 
@@ -65,13 +66,13 @@ module _ {C : Counts} {L : Links} {p₀ : ℕ → Point} {α₀ : ℕ → ℕ} {
   -- ---- the test
   covered-on : (side : Side) {i o n : ℕ} {s : Walking} → AlongOn side i o n s → n < chainOn side
       → T (covers side (s .mesh .links) p α v q (beside side (s .mesh .links) (s .current)))
-  unfolding covers beside
+  unfolding coversLeft coversRight
   covered-on Left {n = n} A h = subst T (sym (test-left B (A .along))) (left-covered (B .good .wf) p₀ α₀ v q (B .edge) (B .outer) n h)
   covered-on Right {n = n} A h = subst T (sym (test-right B (A .along))) (right-covered (B .good .wf) p₀ α₀ v q (B .edge) (B .outer) n h)
 
   stops-on : (side : Side) {i o n : ℕ} {s : Walking} → AlongOn side i o n s → n ≡ chainOn side
       → T (not (covers side (s .mesh .links) p α v q (beside side (s .mesh .links) (s .current))))
-  unfolding covers beside
+  unfolding coversLeft coversRight
   stops-on Left A h =
       subst (λ (t : Bool). T (not t)) (sym (test-left B (A .along) ∙ ap (λ (k : ℕ). coversLeft L p₀ α₀ v q (iter (suc k) (L .prev) e)) h))
       (left-stops (B .good .wf) p₀ α₀ v q (B .edge) (B .outer) (let x = short in omega arith))
@@ -83,7 +84,7 @@ module _ {C : Counts} {L : Links} {p₀ : ℕ → Point} {α₀ : ℕ → ℕ} {
   module _ (room : ℕ) where
     pub turn-on : (side : Side) {i o n : ℕ} {s : Walking} → AlongOn side i o n s → n < chainOn side
         → AlongOn side i o (suc n) (walkTurn side room p s)
-    unfolding covers beside faceEdge walkTurn
+    unfolding coversLeft coversRight faceEdge walkTurn
     turn-on Left {i} {o} {n} {s} A h =
         let x = short in let y = A .other in let r = left-more n i (A .along .whole) (omega arith) in
         record {
@@ -104,7 +105,7 @@ module _ {C : Counts} {L : Links} {p₀ : ℕ → Point} {α₀ : ℕ → ℕ} {
     -- it closes a corner
     pub turn-closes : (side : Side) {i o n : ℕ} {s : Walking} → AlongOn side i o n s → n < chainOn side
         → CornerClosed p (s .mesh) (walkTurn side room p s .mesh) (faceEdge side (s .current) (beside side (s .mesh .links) (s .current)))
-    unfolding covers beside faceEdge walkTurn
+    unfolding coversLeft coversRight faceEdge walkTurn
     turn-closes Left {i} {o} {n} {s} A h =
         let x = short in let y = A .other in let r = left-more n i (A .along .whole) (omega arith) in
         closes-left B room (A .along) (r .1) (r .2)
@@ -136,17 +137,17 @@ module _ {C : Counts} {L : Links} {p₀ : ℕ → Point} {α₀ : ℕ → ℕ} {
 
     pub turns-until : (side : Side) (k : ℕ) {i o n : ℕ} {s : Walking} → AlongOn side i o n s → n + k ≡ chainOn side
         → (fuel : ℕ) → boundaryLength (s .mesh .counts) (s .mesh .links) < fuel
-        → until (walkEnds side p α v q) (walkTurn side room p) fuel s ≡ turns side room p k s
-    unfolding turns
+        → until (walkEnds side p α v q) (walkTurn side room p) fuel s ≡ walkTurns side room p k s
+    unfolding walkTurns
     turns-until side zero {s = s} A h fuel l = until-done (walkEnds side p α v q) (walkTurn side room p) fuel s (ends-here side A (omega arith))
     turns-until side (suc k) {i} {o} {n} {s} A h zero l = absurd (omega arith)
     turns-until side (suc k) {i} {o} {n} {s} A h (suc fuel) l = go (turns-until side k {n = suc n} {s = walkTurn side room p s}) (s .mesh .full) refl
       where
         go : (AlongOn side i o (suc n) (walkTurn side room p s) → suc n + k ≡ chainOn side → (fuel : ℕ) → boundaryLength (walkTurn side room p s .mesh .counts) (walkTurn side room p s .mesh .links) < fuel
             → until (walkEnds side p α v q) (walkTurn side room p) fuel (walkTurn side room p s)
-            ≡ turns side room p k (walkTurn side room p s))
+            ≡ walkTurns side room p k (walkTurn side room p s))
             → (t : Bool) → s .mesh .full ≡ t
-            → until (walkEnds side p α v q) (walkTurn side room p) (suc fuel) s ≡ cond t s (turns side room p k (walkTurn side room p s))
+            → until (walkEnds side p α v q) (walkTurn side room p) (suc fuel) s ≡ cond t s (walkTurns side room p k (walkTurn side room p s))
         go rest true f = until-done (walkEnds side p α v q) (walkTurn side room p) (suc fuel) s (ends-full side s f)
         go rest false f =
             let m : n < chainOn side = omega arith in
@@ -155,7 +156,7 @@ module _ {C : Counts} {L : Links} {p₀ : ℕ → Point} {α₀ : ℕ → ℕ} {
 
     -- THE LOOP: it makes as many turns as the chain has edges on its side
     pub walk-turns : (side : Side) {i o : ℕ} {s : Walking} → AlongOn side i o 0 s
-        → walk side room p α v q s ≡ turns side room p (chainOn side) s
+        → walk side room p α v q s ≡ walkTurns side room p (chainOn side) s
     unfolding walk
     walk-turns side {s = s} A =
         let z = count-halves (along-good side A .wf) in
@@ -169,14 +170,14 @@ module _ {C : Counts} {L : Links} {p₀ : ℕ → Point} {α₀ : ℕ → ℕ} {
       pub closings : Closings p (s .mesh) (r .mesh)
 
     pub turns-leave : (side : Side) (k : ℕ) {i o n : ℕ} {s : Walking} → AlongOn side i o n s → n + k ≡ chainOn side
-        → Turned side i o s (turns side room p k s)
-    unfolding turns
+        → Turned side i o s (walkTurns side room p k s)
+    unfolding walkTurns
     turns-leave side zero {n = n} A h = record { count = n; on = A; all = λ f. omega arith; closings = none }
     turns-leave side (suc k) {i} {o} {n} {s} A h = go (turns-leave side k {n = suc n} {s = walkTurn side room p s}) (s .mesh .full) refl
       where
         go : (AlongOn side i o (suc n) (walkTurn side room p s) → suc n + k ≡ chainOn side → Turned side i o
-            (walkTurn side room p s) (turns side room p k (walkTurn side room p s)))
-            → (t : Bool) → s .mesh .full ≡ t → Turned side i o s (cond t s (turns side room p k (walkTurn side room p s)))
+            (walkTurn side room p s) (walkTurns side room p k (walkTurn side room p s)))
+            → (t : Bool) → s .mesh .full ≡ t → Turned side i o s (cond t s (walkTurns side room p k (walkTurn side room p s)))
         go rest true f = record { count = n; on = A; all = λ g. absurd (false≢true (sym g ∙ f)); closings = none }
         go rest false f =
             let m : n < chainOn side = omega arith in

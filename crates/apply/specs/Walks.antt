@@ -33,9 +33,10 @@ use Rattle.ring.specs.Covered.{Covered, cover-left, cover-right, cover-same, ri
 use Rattle.ring.specs.CoveredEnds.{RestEnds, SameEnds, ends-left, ends-right, ends-same, left-test, right-test, left-next}
 use Rattle.sums.specs.Bit.{from-true, is-true, is-false}
 use Rattle.sums.specs.Iterate.{iter, iter-last}
-use Rattle.apply.specs.declared.Side.{Side}
-use Rattle.apply.specs.declared.Side.the-variants.{Left, Right}
-use Rattle.apply.specs.Apply.{Walking, beside, covers, faceEdge, walkEnds, walkTurn, walk}
+use Rattle.ring.specs.declared.Side.{Side}
+use Rattle.ring.specs.declared.Side.the-variants.{Left, Right}
+use Rattle.ring.specs.Chain.{beside, covers}
+use Rattle.apply.specs.Apply.{Walking, faceEdge, walkEnds, walkTurn, walk}
 
 -- The mesh before, in which v is strictly left of the boundary edge e; p and α are the positions and the angles with
 -- the new vertex's, v and q

@@ -6,26 +6,21 @@ ghost use mathlib.Core.Path.{_≡_};
 ghost use lib.ListN.{length};
 ghost use Rattle.corner.specs.CornerRows.{extendedOf};
 ghost use Rattle.dcel.specs.Rows.{linksOf, halvesOf, positionOf, There};
-ghost use Rattle.apply.specs.Apply.{firstFace, walkTurn, turns, addTurns};
+ghost use Rattle.apply.specs.Apply.{firstFace, walkTurn, walkTurns, addTurns};
 ghost use Rattle.apply.specs.ApplyRows.{FirstReady, besideIn, TurnReady, TurnsReady, AddReady, walkingOf, appliedOf};
-use corner::Added;
+use corner::Extension;
 use mesh::Counts;
-
-// The first loop goes against next, to the left; the second along next, to the right.
-pub enum Side {
-    Left,
-    Right,
-}
+use ring::Side;
 
 // A loop under way: what has become of the mesh, and the current edge.
 pub struct Walked {
-    pub added: Added,
+    pub added: Extension,
     pub edge: u32,
 }
 
 // What has become of the mesh, and the boundary edges to the new vertex and from it.
 pub struct Entered {
-    pub added: Added,
+    pub added: Extension,
     pub leftedge: u32,
     pub rightedge: u32,
 }
@@ -39,7 +34,7 @@ fn first_face(
     pending: &mut [u32],
     counts: Counts,
     e: u32,
-) -> Added
+) -> Extension
     requires { ⌜ FirstReady counts (now positions) (now outs) (now halves) (now faces) (now pending) e ⌝ }
     ensures { λ r. ⌜ extendedOf (now (outs .exit)) (now (halves .exit)) (now (faces .exit)) r
         ≡ firstFace (length (now (pending .entry))) (positionOf (now (positions .entry))) counts
@@ -47,7 +42,7 @@ fn first_face(
 {
     let after = dcel_operations::create_new_face_adjacent_to_edge(outs, halves, faces, counts, e);
     let done = legalize::legalize_edge(positions, outs, halves, faces, pending, after, e, 0);
-    Added {
+    Extension {
         counts: after,
         faces: 1,
         flips: done.flips,
@@ -119,7 +114,7 @@ fn walk(
 ) -> Walked
     requires { ⌜ TurnsReady side (now positions) (now outs) (now halves) (now faces) (now pending) walked count ⌝ }
     ensures { λ r. ⌜ walkingOf (now (outs .exit)) (now (halves .exit)) (now (faces .exit)) r
-        ≡ turns side (length (now (pending .entry))) (positionOf (now (positions .entry))) count
+        ≡ walkTurns side (length (now (pending .entry))) (positionOf (now (positions .entry))) count
         (walkingOf (now (outs .entry)) (now (halves .entry)) (now (faces .entry)) walked) ⌝ }
 {
     let mut now = walked;

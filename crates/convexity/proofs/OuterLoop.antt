@@ -8,7 +8,7 @@ use native.Mathlib.Omega.{arith}
 use lib.Dec.{eqb}
 use lib.IntN.{ℤ}
 use lib.ListN.{length}
-use Rattle.corner.specs.declared.Added.{Added}
+use Rattle.corner.specs.declared.Extension.{Extension}
 use Rattle.corner.specs.CornerRows.{extendedOf, Ready}
 use Rattle.corner.specs.RowsLaws.{SameLengths, same-refl, same-trans, ready-again}
 use Rattle.circle_test.specs.GoodRows.{held}
@@ -26,13 +26,13 @@ use Rattle.convexity.specs.ConvexityRows.{walkOf, OnBoundary, WalkReady,
 use Rattle.convexity.proofs.Rows.{holds-not, fails-not}
 
 -- ---- the outer loop
-pub record PassAt (q : List ℤ) (o₀ h₀ a₀ row₀ : List ℕ) (g₀ : Added) (o h a row : List ℕ) (g : Added) (c d n : ℕ) : Type 0 where
+pub record PassAt (q : List ℤ) (o₀ h₀ a₀ row₀ : List ℕ) (g₀ : Extension) (o h a row : List ℕ) (g : Extension) (c d n : ℕ) : Type 0 where
   pub ready : Ready q o h a row g
   pub lengths : SameLengths o₀ h₀ a₀ row₀ o h a row
   pub going : Going walkEnds (walkTurn (length row₀) (positionOf q)) (Walking (positionOf q)) (λ w. w .left) (walkStart (extendedOf o₀ h₀ a₀ g₀) .left + 1)
       (walkStart (extendedOf o₀ h₀ a₀ g₀)) (walkOf o h a g c d n)
 
-module _ {q : List ℤ} {o h a row : List ℕ} {g : Added} (R : StartReady q o h a row g) where
+module _ {q : List ℤ} {o h a row : List ℕ} {g : Extension} (R : StartReady q o h a row g) where
   -- the turns, by the counts
   pub turns-fit : (3 * g .counts .vertices < 2 ^ 32) × (2 ≤ 3 * g .counts .vertices) × (g .counts .edges ≤ 3 * g .counts .vertices - 2)
   turns-fit = let e = count-edges (R .ready .rows .good .wf) in let s = R .ready .sized .small in (omega arith, omega arith, omega arith)
@@ -65,7 +65,7 @@ module _ {q : List ℤ} {o h a row : List ℕ} {g : Added} (R : StartReady q o h
         (walk-starts (length row) (positionOf q) (extendedOf o h a g) (R .ready .rows .good)) (omega arith));
   }
 
-module _ {q : List ℤ} {o₀ h₀ a₀ row₀ : List ℕ} {g₀ : Added} {o h a row : List ℕ} {g : Added} {c d n : ℕ} (I : PassAt q o₀ h₀ a₀ row₀ g₀ o h a row g c d n) where
+module _ {q : List ℤ} {o₀ h₀ a₀ row₀ : List ℕ} {g₀ : Extension} {o h a row : List ℕ} {g : Extension} {c d n : ℕ} (I : PassAt q o₀ h₀ a₀ row₀ g₀ o h a row g c d n) where
   abbrev now : Walk
   now = walkOf o h a g c d n
 
@@ -101,7 +101,7 @@ module _ {q : List ℤ} {o₀ h₀ a₀ row₀ : List ℕ} {g₀ : Added} {o h a
           let i = onward-keeps now (I .going .claim) turn-left in
           record { ready = I .ready; current = rw x (record { edge = i .current .0; outer = i .current .1 }); depth = (let k = count in let l = turn-left in omega arith) }
 
-      module _ {c′ : ℕ} (x : c′ ≡ halvesOf h .next c) (o′ h′ a′ : List ℕ) (g′ : Added) (d′ : ℕ)
+      module _ {c′ : ℕ} (x : c′ ≡ halvesOf h .next c) (o′ h′ a′ : List ℕ) (g′ : Extension) (d′ : ℕ)
           (y : (n : ℕ) → d + 1 + n ≡ boundaryLength (g .counts) (linksOf o h a) + 1 → walkOf o′ h′ a′ g′ c′ d′ n ≡ closeAllBehind (length row) (positionOf q) (walkOf o h a g c′ (d + 1) n)) where
         turned-to : walkOf o′ h′ a′ g′ c′ d′ (n - 1) ≡ walkTurn (length row) (positionOf q) now
         unfolding walkTurn onward extendedOf linksOf

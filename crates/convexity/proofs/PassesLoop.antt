@@ -8,7 +8,7 @@ use lib.Dec.{eqb}
 use lib.IntN.{ℤ}
 use lib.ListN.{length}
 use Rattle.conflicts.specs.FlipsWithin.{within-none}
-use Rattle.corner.specs.declared.Added.{Added}
+use Rattle.corner.specs.declared.Extension.{Extension}
 use Rattle.corner.specs.Corner.{Extended}
 use Rattle.corner.specs.CornerRows.{extendedOf, Ready}
 use Rattle.corner.specs.RowsLaws.{SameLengths, same-refl, same-trans, ready-again}
@@ -21,7 +21,7 @@ use Rattle.convexity.specs.ConvexityRows.{StartReady, MeshReady}
 use Rattle.convexity.proofs.Rows.{holds-not, fails-not}
 
 -- ---- pass after pass
-pub record PassesAt (q : List ℤ) (o₀ h₀ a₀ row₀ : List ℕ) (C : Counts) (o h a row : List ℕ) (g : Added) (s : Bool) : Type 0 where
+pub record PassesAt (q : List ℤ) (o₀ h₀ a₀ row₀ : List ℕ) (C : Counts) (o h a row : List ℕ) (g : Extension) (s : Bool) : Type 0 where
   pub ready : Ready q o h a row g
   pub lengths : SameLengths o₀ h₀ a₀ row₀ o h a row
   pub going : Going (λ t. t .still) (passAgain (length row₀) (positionOf q)) (Passing (positionOf q)) passesLeft (2 * C .vertices + 2) (unpassed C (linksOf o₀ h₀ a₀))
@@ -37,7 +37,7 @@ passes-begin {q} {o} {h} {a} {row} {C} R = record {
       (passes-start (length row) C (positionOf q) (linksOf o h a) (R .rows .good)) (passes-enough (length row) C (positionOf q) (linksOf o h a) (R .rows .good));
 }
 
-module _ {q : List ℤ} {o₀ h₀ a₀ row₀ : List ℕ} {C : Counts} {o h a row : List ℕ} {g : Added} {s : Bool} (I : PassesAt q o₀ h₀ a₀ row₀ C o h a row g s) where
+module _ {q : List ℤ} {o₀ h₀ a₀ row₀ : List ℕ} {C : Counts} {o h a row : List ℕ} {g : Extension} {s : Bool} (I : PassesAt q o₀ h₀ a₀ row₀ C o h a row g s) where
   abbrev passed : Passes
   passed = record { mesh = extendedOf o h a g; still = s }
 
@@ -46,7 +46,7 @@ module _ {q : List ℤ} {o₀ h₀ a₀ row₀ : List ℕ} {C : Counts} {o h a r
     unfolding extendedOf
     again-ready = record { ready = I .ready; full = I .going .claim .full (holds-not s e) }
 
-    module _ (o′ h′ a′ : List ℕ) (g′ : Added) {r : Bool} (x : extendedOf o′ h′ a′ g′ ≡ fixConvexity (length row) (positionOf q) (extendedOf o h a g))
+    module _ (o′ h′ a′ : List ℕ) (g′ : Extension) {r : Bool} (x : extendedOf o′ h′ a′ g′ ≡ fixConvexity (length row) (positionOf q) (extendedOf o h a g))
         (t : r ≡ (g′ .full || eqb (g′ .faces) (g .faces))) where
       again-is : (n : ℕ) → length row ≡ n → _≡_ {A = Passes} (record { mesh = extendedOf o′ h′ a′ g′; still = r }) (passAgain n (positionOf q) passed)
       unfolding passAgain extendedOf

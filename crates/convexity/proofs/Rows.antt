@@ -6,7 +6,7 @@ use Prim.Native.Nat.{ℕ, _/_, _<_}
 use native.Mathlib.Omega.{arith}
 use lib.IntN.{ℤ}
 use Rattle.circle_test.specs.GoodRows.{GoodRows, held}
-use Rattle.corner.specs.declared.Added.{Added}
+use Rattle.corner.specs.declared.Extension.{Extension}
 use Rattle.corner.specs.Corner.{closeCorner}
 use Rattle.corner.specs.CornerRows.{extendedOf, CloseReady}
 use Rattle.dcel.specs.Rows.{halvesOf, linksOf, positionOf, There, Placed}
@@ -48,7 +48,7 @@ module _ {C : Counts} {q : List ℤ} {o h a : List ℕ} (R : GoodRows C q o h a)
         };
       }
 
-module _ {q : List ℤ} {o h a row : List ℕ} {g : Added} {c : ℕ} (R : CloseBehindReady q o h a row g c) {e₁ e₂ : ℕ} (x : e₂ ≡ halvesOf h .prev c) (y : e₁ ≡ halvesOf h .prev e₂) where
+module _ {q : List ℤ} {o h a row : List ℕ} {g : Extension} {c : ℕ} (R : CloseBehindReady q o h a row g c) {e₁ e₂ : ℕ} (x : e₂ ≡ halvesOf h .prev c) (y : e₁ ≡ halvesOf h .prev e₂) where
   abbrev L : Links
   L = linksOf o h a
 

@@ -4,7 +4,7 @@ use mathlib.Core.List.{List}
 use mathlib.Core.Path.{_≡_}
 use Prim.Native.Nat.{ℕ, _+_, _≤_}
 use lib.IntN.{ℤ}
-use Rattle.corner.specs.declared.Added.{Added}
+use Rattle.corner.specs.declared.Extension.{Extension}
 use Rattle.corner.specs.CornerRows.{extendedOf, MeshRoom, Ready}
 use Rattle.circle_test.specs.GoodRows.{GoodRows}
 use Rattle.dcel.specs.Rows.{halvesOf, linksOf, positionOf, There, Placed}
@@ -16,7 +16,7 @@ use Rattle.convexity.specs.Convexity.{turnsLeftAt}
 use Rattle.convexity.specs.Walk.{Walk}
 
 -- a walk within a pass
-abbrev pub walkOf : List ℕ → List ℕ → List ℕ → Added → ℕ → ℕ → ℕ → Walk
+abbrev pub walkOf : List ℕ → List ℕ → List ℕ → Extension → ℕ → ℕ → ℕ → Walk
 walkOf o h a g current depth left = record { mesh = extendedOf o h a g; current = current; depth = depth; left = left }
 
 -- ---- one corner
@@ -42,19 +42,19 @@ pub record OnBoundary (C : Counts) (L : Links) (current : ℕ) : Type 0 where
   pub outer : L .face current ≡ 0
 
 -- a corner behind it is to be closed
-pub record CloseBehindReady (q : List ℤ) (o h a row : List ℕ) (g : Added) (c : ℕ) : Type 0 where
+pub record CloseBehindReady (q : List ℤ) (o h a row : List ℕ) (g : Extension) (c : ℕ) : Type 0 where
   pub ready : Ready q o h a row g
   pub current : OnBoundary (g .counts) (linksOf o h a) c
   pub left : turnsLeftAt (linksOf o h a) (positionOf q) (linksOf o h a .prev (linksOf o h a .prev c)) (linksOf o h a .prev c) ≡ true
 
 -- all corners behind it are
-pub record WalkReady (q : List ℤ) (o h a row : List ℕ) (g : Added) (c d : ℕ) : Type 0 where
+pub record WalkReady (q : List ℤ) (o h a row : List ℕ) (g : Extension) (c d : ℕ) : Type 0 where
   pub ready : Ready q o h a row g
   pub current : OnBoundary (g .counts) (linksOf o h a) c
   pub depth : d ≤ boundaryLength (g .counts) (linksOf o h a) + 1
 
 -- a pass
-pub record StartReady (q : List ℤ) (o h a row : List ℕ) (g : Added) : Type 0 where
+pub record StartReady (q : List ℤ) (o h a row : List ℕ) (g : Extension) : Type 0 where
   pub ready : Ready q o h a row g
   pub full : g .full ≡ false
 

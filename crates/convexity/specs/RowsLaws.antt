@@ -7,7 +7,7 @@ use native.Mathlib.Omega.{arith}
 use lib.IntN.{ℤ}
 use lib.ListN.{length}
 use Rattle.conflicts.specs.FlipsWithin.{within-none}
-use Rattle.corner.specs.declared.Added.{Added}
+use Rattle.corner.specs.declared.Extension.{Extension}
 use Rattle.corner.specs.CornerLaws.{Closings}
 use Rattle.corner.specs.CornerRows.{extendedOf, Ready}
 use Rattle.corner.specs.RowsLaws.{SameLengths, kept}
@@ -19,7 +19,7 @@ use Rattle.convexity.specs.ConvexityLaws.{convexity-closings}
 
 -- after all passes
 pub convexity-ready : {q : List ℤ} {o h a row : List ℕ} {C : Counts} → MeshReady q o h a row C
-    → {o′ h′ a′ row′ : List ℕ} {g : Added}
+    → {o′ h′ a′ row′ : List ℕ} {g : Extension}
     → extendedOf o′ h′ a′ g ≡ convexity (length row) C (positionOf q) (linksOf o h a)
     → SameLengths o h a row o′ h′ a′ row′ → Ready q o′ h′ a′ row′ g
 convexity-ready {q} {o} {h} {a} {row} {C} R {o′} {h′} {a′} {row′} {g} e l =

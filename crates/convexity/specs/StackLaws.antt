@@ -23,7 +23,7 @@ use Rattle.sums.specs.Until.{until, until-related, until-turn, until-fuel, unti
 use Rattle.convexity.specs.Convexity.{Pass, turnsLeftAt, lastTurnsLeft, closeLast, closeCorners, passTurn, isSecond, passStart, fixConvexity}
 use Rattle.convexity.specs.BehindLaws.{behind-period, closes, closes-behind}
 use Rattle.convexity.specs.Walk.{Walk, edge1, edge2, leftBehind, stops, closeBehind, closeAllBehind, onward, walkTurn, walkEnds, walkStart, walkPass}
-use Rattle.convexity.specs.WalkLaws.{Walking, Turns, turns, close-keeps, onward-keeps, left-over, Turned, turned, walk-falls, walk-starts}
+use Rattle.convexity.specs.WalkLaws.{Walking, Turns, turns-here, close-keeps, onward-keeps, left-over, Turned, turned, walk-falls, walk-starts}
 
 abbrev pub passOf : Walk → List ℕ → Pass
 passOf w l = record { mesh = w .mesh; current = w .current; edges = l }
@@ -100,7 +100,7 @@ module _ {p : ℕ → Point} (w : Walk) (i : Walking p w) (l : List ℕ) (c : Ch
 
     close-same : closeLast room p (passOf w l) l ≡ passOf (closeBehind room p w) (new ∷ t)
     unfolding closeLast closeBehind new
-    close-same = let n = boundary-least (i .good .wf) in let k = turns p w e .two in
+    close-same = let n = boundary-least (i .good .wf) in let k = turns-here p w e .two in
         ap (closeLast room p (passOf w l)) q
         ∙ ap₂ (λ (u v : ℕ). record { mesh = closeCorner room p (w .mesh) u (u / 2) (v / 2); current = w .current; edges = (2 * w .mesh .counts .edges + 1) ∷ t })
         (ap (λ (l : List ℕ). getD l 1 0) (sym q) ∙ c .entries 1 k (omega arith)) (ap (λ (l : List ℕ). getD l 0 0) (sym q) ∙ c .entries 0 (omega arith) (omega arith))
@@ -110,7 +110,7 @@ module _ {p : ℕ → Point} (w : Walk) (i : Walking p w) (l : List ℕ) (c : Ch
     close-chain = record { depth = (let k = ap length q in let d = c .depth in omega arith); entries = at }
       where
         T : Turns p w
-        T = turns p w e
+        T = turns-here p w e
 
         at : (k : ℕ) → k < w .depth - 1
             → k
@@ -158,7 +158,7 @@ module _ (room : ℕ) (p : ℕ → Point) where
   stacked-close : (s : Pass) (w : Walk) → Stacked p s w → done s ≡ false → Stacked p (closeLast room p s (s .edges)) (closeBehind room p w)
   stacked-close s w S f =
       let e = sym (stacked-test s w S) ∙ f in
-      let k = turns p w e .two in let d = S .chain .depth in
+      let k = turns-here p w e .two in let d = S .chain .depth in
       let q = two-least (S .stack) (omega arith) in
       subst (λ (s : Pass). Stacked p (closeLast room p s (s .edges)) (closeBehind room p w)) (sym (S .is)) (record {
         stack = _;

@@ -32,9 +32,9 @@ pub record Turns (p : ℕ → Point) (w : Walk) : Type 0 where
   pub two : 1 < w .depth
   pub left : turnsLeftAt (w .mesh .links) p (edge1 w) (edge2 w) ≡ true
 
-pub turns : (p : ℕ → Point) (w : Walk) → stops p w ≡ false → Turns p w
+pub turns-here : (p : ℕ → Point) (w : Walk) → stops p w ≡ false → Turns p w
 unfolding stops leftBehind
-turns p w e = go (w .mesh .full) (ltb 1 (w .depth)) (turnsLeftAt (w .mesh .links) p (edge1 w) (edge2 w)) refl refl refl e
+turns-here p w e = go (w .mesh .full) (ltb 1 (w .depth)) (turnsLeftAt (w .mesh .links) p (edge1 w) (edge2 w)) refl refl refl e
   where
     go : (a b c : Bool) → w .mesh .full ≡ a → ltb 1 (w .depth) ≡ b
         → turnsLeftAt (w .mesh .links) p (edge1 w) (edge2 w) ≡ c → (a || not (b && c)) ≡ false → Turns p w
@@ -57,7 +57,7 @@ module _ (room : ℕ) (p : ℕ → Point) where
   pub close-keeps : (w : Walk) → Walking p w → stops p w ≡ false → Walking p (closeBehind room p w)
   unfolding closeBehind
   close-keeps w i e =
-      let t = turns p w e in
+      let t = turns-here p w e in
       let S = closes room p (w .mesh) (i .good) (i .current .0) (i .current .1) (t .left) in
       record {
         good = closed-good (i .good) S;
@@ -67,7 +67,7 @@ module _ (room : ℕ) (p : ℕ → Point) where
 
   pub closes-fall : Falls (stops p) (closeBehind room p) (Walking p) (λ w. w .depth)
   unfolding closeBehind
-  closes-fall = record { keeps = close-keeps; less = λ w i e. let l = turns p w e .two in omega arith }
+  closes-fall = record { keeps = close-keeps; less = λ w i e. let l = turns-here p w e .two in omega arith }
 
   -- from w the loop comes to r
   pub record Ended (w r : Walk) : Type 0 where
@@ -81,7 +81,7 @@ module _ (room : ℕ) (p : ℕ → Point) where
   unfolding closeBehind
   ended-turn w r i e q = record {
     walking = q .walking;
-    closings = closings-join (then none (edge1 w) (closes room p (w .mesh) (i .good) (i .current .0) (i .current .1) (turns p w e .left))) (q .closings);
+    closings = closings-join (then none (edge1 w) (closes room p (w .mesh) (i .good) (i .current .0) (i .current .1) (turns-here p w e .left))) (q .closings);
     current = q .current;
     left = q .left;
     ends = q .ends;

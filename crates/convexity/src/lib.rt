@@ -13,12 +13,12 @@ ghost use Rattle.mesh.specs.Area.{boundaryLength};
 ghost use Rattle.convexity.specs.Convexity.{turnsLeftAt, fixConvexity, convexity};
 ghost use Rattle.convexity.specs.Walk.{leftBehind, closedBehind, closeAllBehind};
 ghost use Rattle.convexity.specs.ConvexityRows.{walkOf, CornerReady, BehindReady, CloseBehindReady, WalkReady, StartReady, MeshReady};
-use corner::Added;
+use corner::Extension;
 use mesh::Counts;
 
 // What has become of a mesh, and how many half-edges of the walk are behind the current one: `convex_edges.len()`.
 pub struct Walked {
-    pub added: Added,
+    pub added: Extension,
     pub depth: u32,
 }
 
@@ -62,9 +62,9 @@ fn close_behind(
     halves: &mut [u32],
     faces: &mut [u32],
     pending: &mut [u32],
-    added: Added,
+    added: Extension,
     current: u32,
-) -> Added
+) -> Extension
     requires { ⌜ CloseBehindReady (now positions) (now outs) (now halves) (now faces) (now pending) added current ⌝ }
     ensures { λ r. ⌜ extendedOf (now (outs .exit)) (now (halves .exit)) (now (faces .exit)) r
         ≡ closedBehind (length (now (pending .entry))) (positionOf (now (positions .entry)))
@@ -92,7 +92,7 @@ fn close_all_behind(
     halves: &mut [u32],
     faces: &mut [u32],
     pending: &mut [u32],
-    added: Added,
+    added: Extension,
     current: u32,
     depth: u32,
 ) -> Walked
@@ -123,8 +123,8 @@ pub fn fix_convexity(
     halves: &mut [u32],
     faces: &mut [u32],
     pending: &mut [u32],
-    added: Added,
-) -> Added
+    added: Extension,
+) -> Extension
     requires { ⌜ StartReady (now positions) (now outs) (now halves) (now faces) (now pending) added ⌝ }
     ensures { λ r. ⌜ extendedOf (now (outs .exit)) (now (halves .exit)) (now (faces .exit)) r
         ≡ fixConvexity (length (now (pending .entry))) (positionOf (now (positions .entry)))
@@ -172,13 +172,13 @@ pub fn convexity(
     faces: &mut [u32],
     pending: &mut [u32],
     counts: Counts,
-) -> Added
+) -> Extension
     requires { ⌜ MeshReady (now positions) (now outs) (now halves) (now faces) (now pending) counts ⌝ }
     ensures { λ r. ⌜ extendedOf (now (outs .exit)) (now (halves .exit)) (now (faces .exit)) r
         ≡ convexity (length (now (pending .entry))) counts (positionOf (now (positions .entry)))
         (linksOf (now (outs .entry)) (now (halves .entry)) (now (faces .entry))) ⌝ }
 {
-    let mut now = Added {
+    let mut now = Extension {
         counts: counts,
         faces: 0,
         flips: 0,

@@ -20,13 +20,13 @@ use Rattle.mesh.specs.Operations.{createSingleFaceBetweenEdgeAndNext, withFace}
 use Rattle.mesh.specs.CountsLaws.{faces-fit}
 use Rattle.mesh.specs.Good.{Good}
 use Rattle.mesh.specs.GoodLaws.{single-face-good}
-use Rattle.corner.specs.declared.Added.{Added}
+use Rattle.corner.specs.declared.Extension.{Extension}
 use Rattle.corner.specs.Corner.{Extended, closeCorner}
 use Rattle.corner.specs.CornerLaws.{face-bound}
 use Rattle.corner.specs.CornerRows.{extendedOf, CloseReady}
 use Rattle.corner.specs.RowsLaws.{sized-room}
 
-module _ {q : List ℤ} {o h a row : List ℕ} {g : Added} {e first second : ℕ} (R : CloseReady q o h a row g e first second) where
+module _ {q : List ℤ} {o h a row : List ℕ} {g : Extension} {e first second : ℕ} (R : CloseReady q o h a row g e first second) where
   abbrev L : Links
   L = linksOf o h a
 

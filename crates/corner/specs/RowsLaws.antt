@@ -16,7 +16,7 @@ use Rattle.mesh.specs.declared.Counts.{Counts}
 use Rattle.mesh.specs.Mesh.{Links}
 use Rattle.mesh.specs.CountsLaws.{halves-fit, faces-fit}
 use Rattle.mesh.specs.Good.{Good}
-use Rattle.corner.specs.declared.Added.{Added}
+use Rattle.corner.specs.declared.Extension.{Extension}
 use Rattle.corner.specs.Corner.{Extended}
 use Rattle.corner.specs.CornerLaws.{Closings, closings-good, closings-bound, closings-count}
 use Rattle.corner.specs.CornerRows.{extendedOf, MeshRoom, Ready}
@@ -48,7 +48,7 @@ module _ {q : List ℤ} {o h a row : List ℕ} where
   pub kept : (m : Extended) → Good (m .counts) (m .links) (positionOf q)
       → FlipsWithin (m .counts) (m .links) (positionOf q) (m .flips) → m .faces ≤ m .counts .faces
       → m .counts .vertices ≤ length o → 2 * m .counts .vertices ≤ length q → MeshRoom (m .counts .vertices) h a row
-      → {o′ h′ a′ row′ : List ℕ} {g : Added} → Closings (positionOf q) m (extendedOf o′ h′ a′ g)
+      → {o′ h′ a′ row′ : List ℕ} {g : Extension} → Closings (positionOf q) m (extendedOf o′ h′ a′ g)
       → SameLengths o h a row o′ h′ a′ row′ → Ready q o′ h′ a′ row′ g
   unfolding extendedOf
   kept m G B f u v s {o′} {h′} {a′} c l =
@@ -65,8 +65,8 @@ module _ {q : List ℤ} {o h a row : List ℕ} where
         faces = (let k = n .faces in let i = n .more in omega arith);
       }
 
-  pub ready-again : {g : Added} {m : Extended} → Ready q o h a row g → Closings (positionOf q) (extendedOf o h a g) m
-      → {o′ h′ a′ row′ : List ℕ} {g′ : Added} → extendedOf o′ h′ a′ g′ ≡ m → SameLengths o h a row o′ h′ a′ row′ → Ready q o′ h′ a′ row′ g′
+  pub ready-again : {g : Extension} {m : Extended} → Ready q o h a row g → Closings (positionOf q) (extendedOf o h a g) m
+      → {o′ h′ a′ row′ : List ℕ} {g′ : Extension} → extendedOf o′ h′ a′ g′ ≡ m → SameLengths o h a row o′ h′ a′ row′ → Ready q o′ h′ a′ row′ g′
   unfolding extendedOf
   ready-again {g} R c {o′} {h′} {a′} {row′} {g′} e l =
       kept (extendedOf o h a g) (R .rows .good) (R .flips) (R .faces) (R .rows .room .outs) (R .rows .positions) (R .sized)

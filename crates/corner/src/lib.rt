@@ -11,7 +11,7 @@ ghost use Rattle.corner.specs.CornerRows.{extendedOf, CloseReady};
 use mesh::Counts;
 
 // What has become of a mesh: its counts, the faces added, the flips, and whether a flip's pushes would have overfilled the pending list.
-pub struct Added {
+pub struct Extension {
     pub counts: Counts,
     pub faces: u32,
     pub flips: u64,
@@ -25,11 +25,11 @@ pub fn close_corner(
     halves: &mut [u32],
     faces: &mut [u32],
     pending: &mut [u32],
-    added: Added,
+    added: Extension,
     e: u32,
     first: u32,
     second: u32,
-) -> Added
+) -> Extension
     requires { ⌜ CloseReady (now positions) (now outs) (now halves) (now faces) (now pending) added e first second ⌝ }
     ensures { λ r. ⌜ extendedOf (now (outs .exit)) (now (halves .exit)) (now (faces .exit)) r
         ≡ closeCorner (length (now (pending .entry))) (positionOf (now (positions .entry)))
@@ -49,7 +49,7 @@ pub fn close_corner(
         second,
         added.flips,
     );
-    Added {
+    Extension {
         counts: after,
         faces: added.faces + 1,
         flips: done.flips,

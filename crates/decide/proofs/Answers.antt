@@ -25,8 +25,8 @@ use Rattle.segment.specs.Bucket.{floorOf}
 use Rattle.decide.specs.declared.Decision.{Decision}
 use Rattle.decide.specs.declared.Fate.the-variants.{AtCenter as AtCenterFate}
 use Rattle.decide.specs.Decide.{Decided, decided, decidedAt, ifAdded}
-use Rattle.decide.specs.Sweep.{Decides, Sweep, ToDecide}
-use Rattle.decide.specs.SweepLaws.{decided-none, decided-some, found-located, located-rows}
+use Rattle.decide.specs.SweepRows.{Decides, SweepRows, ToDecide}
+use Rattle.decide.specs.SweepRowsLaws.{decided-none, decided-some, found-located, located-rows}
 use Rattle.decide.specs.Walks.{DecidesAt, LeavesOut, LocatedRows, ToDecideAt}
 use Rattle.decide.proofs.Deciding.{left-out}
 
@@ -71,7 +71,7 @@ module _ (v : Point) (cx cy : Float) {r : VertexAngle} {x y : ℤ} (is : r ≡ v
       pub at-located : InRange v → {d : Decision}
           → ((B : Counts) (o a : List ℕ) → LocatedRows B q o h a cx cy (found .edge) (sizeOf hull) (C .vertices) v g
           → DecidesAt B q o h a cx cy (found .edge) v g d)
-          → (o a f : List ℕ) → Sweep C q o h a nodes f buckets hull cx cy
+          → (o a f : List ℕ) → SweepRows C q o h a nodes f buckets hull cx cy
           → Decides C (linksOf o h a) (positionOf q) cx cy v (decided cx cy C (linksOf o h a) (positionOf q) v) d
       at-located R {d} D o a f S =
           let L = linksOf o h a in let p = positionOf q in let α = turnsAbout cx cy p in

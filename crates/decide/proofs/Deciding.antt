@@ -41,7 +41,7 @@ use Rattle.decide.specs.declared.Fate.{Fate}
 use Rattle.decide.specs.declared.Fate.the-variants.{Added, Dropped, NotLeft, Unsound}
 use Rattle.decide.specs.declared.WalkEnd.{WalkEnd}
 use Rattle.decide.specs.Decide.{Decided, atEnd, decidedAt, fateAt, ifAdded, isPosition, notAdded}
-use Rattle.decide.specs.Sweep.{ChainAngles, Decides}
+use Rattle.decide.specs.SweepRows.{ChainAngles, Decides}
 use Rattle.decide.specs.Walks.{originPosition, EndsOf, EdgeAbout, ToWalk, WalkedTo}
 use Rattle.decide.specs.Walks.{ToCount, CountedChain, LocatedRows, DecidesAt, LeavesOut}
 use Rattle.decide.specs.WalkLaws.{edge-about, about-from, to-walk, walked-chain}

@@ -1,6 +1,6 @@
--- `Decide` has the definitions, `Sweep` and `Walks` what the contracts ask and give, the others the laws.
+-- `Decide` has the definitions, `SweepRows` and `Walks` what the contracts ask and give, the others the laws.
 pub mod Decide
-pub mod Sweep
+pub mod SweepRows
 pub mod Walks
 pub mod WalkLaws
-pub mod SweepLaws
+pub mod SweepRowsLaws

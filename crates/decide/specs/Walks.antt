@@ -32,7 +32,7 @@ use Rattle.decide.specs.declared.Chain.{Chain}
 use Rattle.decide.specs.declared.Decision.{Decision}
 use Rattle.decide.specs.declared.Fate.{Fate}
 use Rattle.decide.specs.Decide.{decidedAt, notAdded}
-use Rattle.decide.specs.Sweep.{Decides}
+use Rattle.decide.specs.SweepRows.{Decides}
 
 -- ---- the ends of a half-edge
 -- the position at its origin

@@ -8,7 +8,7 @@ ghost use Rattle.dcel.specs.Rows.{linksOf, positionOf};
 ghost use Rattle.mesh.specs.declared.Counts.{Counts};
 ghost use Rattle.ring.specs.declared.Side.the-variants.{Left, Right};
 ghost use Rattle.decide.specs.Decide.{fateNumber, fateVertex, decided, isPosition};
-ghost use Rattle.decide.specs.Sweep.{Sweep, ToDecide, Decides};
+ghost use Rattle.decide.specs.SweepRows.{SweepRows, ToDecide, Decides};
 ghost use Rattle.decide.specs.Walks.{EndsIn, EndsOf, ToCover, coverTest, walkTest, ToTest};
 ghost use Rattle.decide.specs.Walks.{ToWalk, WalkedTo};
 ghost use Rattle.decide.specs.Walks.{ToCount, CountedChain, LocatedRows, ToDecideAt, DecidesAt, LeavesOut};
@@ -317,7 +317,7 @@ pub fn decide(
 ) -> Decision
     requires { ⌜ ToDecide counts (now positions) (now halves) (now nodes) (now buckets) hull (center .x) (center .y) point ⌝ }
     ensures { λ r. ⌜ ((o a f : List ℕ)
-        → Sweep counts (now (positions .entry)) o (now (halves .entry)) a (now (nodes .entry)) f (now (buckets .entry)) hull
+        → SweepRows counts (now (positions .entry)) o (now (halves .entry)) a (now (nodes .entry)) f (now (buckets .entry)) hull
         (center .x) (center .y)
         → Decides counts (linksOf o (now (halves .entry)) a) (positionOf (now (positions .entry))) (center .x) (center .y) point
         (decided (center .x) (center .y) counts (linksOf o (now (halves .entry)) a) (positionOf (now (positions .entry))) point) r) ⌝ }

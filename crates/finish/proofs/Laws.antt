@@ -6,7 +6,7 @@ use Prim.Native.Nat.{ℕ, _+_, _*_, _^_, _<_, _≤_}
 use native.Mathlib.Omega.{arith}
 use lib.IntN.{ℤ}
 use lib.ListN.{length, replicate}
-use Rattle.corner.specs.declared.Added.{Added}
+use Rattle.corner.specs.declared.Extension.{Extension}
 use Rattle.corner.specs.Corner.{Extended}
 use Rattle.corner.specs.CornerRows.{extendedOf}
 use Rattle.circle_test.specs.GoodRows.{GoodRows}
@@ -41,7 +41,7 @@ module _ (r : Ended) (place : ℕ) (o h a : List ℕ) where
   answer-done e = rw e refl
 
 -- ---- the passes
-module _ {q : List ℤ} {o h a row : List ℕ} {C : Counts} (R : MeshReady q o h a row C) (o₁ h₁ a₁ : List ℕ) (r : Added)
+module _ {q : List ℤ} {o h a row : List ℕ} {C : Counts} (R : MeshReady q o h a row C) (o₁ h₁ a₁ : List ℕ) (r : Extension)
     (e : extendedOf o₁ h₁ a₁ r ≡ convexity (length row) C (positionOf q) (linksOf o h a)) where
   -- refused a flip
   pub passes-full : r .full ≡ true

@@ -17,13 +17,13 @@ use Rattle.dcel.specs.Rows.{rowOf}
 use Rattle.ring.specs.Ring.{fullTurn, proper, atEnds, edgeAngle, boundaryEdges, boundaryAngles, located, passedCount}
 use Rattle.ring.specs.Sound.{Sound}
 use Rattle.ring.specs.Insert.{On, ring-proper, ring-sound}
-use Rattle.ring.specs.Hull.{Hull as HullOf, on-from}
+use Rattle.ring.specs.Hull.{HullFrom, on-from}
 use Rattle.ring.specs.Located.{locate-passed}
 use Rattle.ring.specs.RingOf.{ring-located, ring-from}
 use Rattle.ring_rows.specs.declared.Node.{Node}
 use Rattle.ring_rows.specs.declared.Hull.{Hull}
 use Rattle.ring_rows.specs.declared.Found.{Found}
-use Rattle.ring_rows.specs.Rows.{nodesOf, angleOf, edgeOf, leftOf, rightOf, sizeOf, NodeRing, RingHeld, Got}
+use Rattle.ring_rows.specs.Rows.{nodesOf, tableOf, angleOf, rightOf, sizeOf, NodeRing, RingHeld, Got}
 use Rattle.ring_rows.specs.Laws.{floor-below}
 use Rattle.hull.specs.Held.{Held}
 
@@ -79,7 +79,7 @@ module _ {C : Counts} {L : Links} {α : ℕ → ℕ} {nodes : List Node} {freed 
   got-passed {x} {r} W e l G =
       let R = ring-from W (H .ring) (first< W) (first-outer W) in
       sym (locate-passed
-      (subst (λ (b : ℕ). HullOf fullTurn (L .next) (edgeAngle L α) (leftOf (nodesOf nodes)) (rightOf (nodesOf nodes)) (angleOf (nodesOf nodes)) (edgeOf (nodesOf nodes)) (rowOf buckets) (L .adjacent 0) (boundaryLength C L) (R .0) b (width b)) e (R .1))
+      (subst (λ (b : ℕ). HullFrom fullTurn (L .next) (edgeAngle L α) (tableOf (nodesOf nodes)) (rowOf buckets) (L .adjacent 0) (boundaryLength C L) (R .0) b (width b)) e (R .1))
       x (r .passed) l
       (subst (λ (m : ℕ). First (atEnds (holds x) (rightOf (nodesOf nodes)) (angleOf (nodesOf nodes))) (rightOf (nodesOf nodes)) m (rowOf buckets (floorOf x 8)) (r .passed)) (sym (R .2))
       (subst (λ (b : ℕ). First (atEnds (holds x) (rightOf (nodesOf nodes)) (angleOf (nodesOf nodes))) (rightOf (nodesOf nodes)) (sizeOf h) (rowOf buckets (floorOf x b)) (r .passed)) e (G .first))))

@@ -16,7 +16,7 @@ use Rattle.pending.specs.PendingLaws.{pending-last}
 use Rattle.sums.specs.Until.{Going, going-start, going-turn, going-less, going-end}
 use Rattle.legalize.specs.declared.Entry.{Entry}
 use Rattle.legalize.specs.declared.Turned.{Turned}
-use Rattle.legalize.specs.Legalize.{Legalizing, turn, isDone, isEmpty, measure, legalize}
+use Rattle.legalize.specs.Legalize.{Legalizing, legalizeTurn, isDone, isEmpty, measure, legalize}
 use Rattle.legalize.specs.LegalizeLaws.{Ongoing, falls, turn-bound, legalize-start}
 use Rattle.legalize.specs.LegalizeRows.{TurnReady, stateOf, TurnLeaves, Leaves}
 
@@ -34,7 +34,7 @@ same-trans x y = record { outs = y .outs ∙ x .outs; halves = y .halves ∙ x .
 
 -- the loop began at s₀, in a pending row of the length `room`
 abbrev pub Loops : ℕ → Entry → Counts → List ℤ → Legalizing → Legalizing → Type 0
-Loops room k C q s₀ s = Going isDone (turn room k (positionOf q)) (Ongoing room k C (positionOf q)) (measure C (positionOf q)) (measure C (positionOf q) s₀ + 1) s₀ s
+Loops room k C q s₀ s = Going isDone (legalizeTurn room k (positionOf q)) (Ongoing room k C (positionOf q)) (measure C (positionOf q)) (measure C (positionOf q) s₀ + 1) s₀ s
 
 pub record LoopAt (k : Entry) (C : Counts) (q : List ℤ) (o₀ h₀ a₀ row₀ : List ℕ) (n₀ : ℕ) (c₀ : ℕ) (o h a row : List ℕ) (n : ℕ) (c : ℕ) : Type 0 where
   pub ready : TurnReady k C q o h a row n c
@@ -44,7 +44,7 @@ pub record LoopAt (k : Entry) (C : Counts) (q : List ℤ) (o₀ h₀ a₀ row₀
 pub loop-starts : {k : Entry} {C : Counts} {q : List ℤ} {o h a row : List ℕ} {n : ℕ} {c : ℕ} → TurnReady k C q o h a row n c → LoopAt k C q o h a row n c o h a row n c
 loop-starts {k} {C} {q} {o} {h} {a} {row} {n} {c} R = record {
   ready = R;
-  going = going-start isDone (turn (length row) k (positionOf q)) (falls (length row) k C (positionOf q)) _ (stateOf o h a row n c)
+  going = going-start isDone (legalizeTurn (length row) k (positionOf q)) (falls (length row) k C (positionOf q)) _ (stateOf o h a row n c)
       (legalize-start (R .mesh .rows .good) (R .entries)) (omega arith);
   lengths = same-refl;
 }
@@ -69,19 +69,19 @@ module _ {k : Entry} {C : Counts} {q : List ℤ} {o₀ h₀ a₀ row₀ : List �
   pub loop-ends : n ≤ 0 → Leaves o h a (record { flips = c; full = false }) (legalize room k C (positionOf q) s₀)
   unfolding legalize
   loop-ends z =
-      subst (Leaves o h a (record { flips = c; full = false })) (going-end isDone (turn room k (positionOf q)) (falls room k C (positionOf q)) (I .going) (no-entries row n z))
+      subst (Leaves o h a (record { flips = c; full = false })) (going-end isDone (legalizeTurn room k (positionOf q)) (falls room k C (positionOf q)) (I .going) (no-entries row n z))
       (record { links = refl; flips = refl; full = refl })
 
   module _ (z : 0 < n) where
     goes-on : isDone s ≡ false
     goes-on = ap isEmpty (pending-last row n z)
 
-    turned : Loops room k C q s₀ (turn room k (positionOf q) s)
-    turned = going-turn isDone (turn room k (positionOf q)) (falls room k C (positionOf q)) (I .going) goes-on
+    turned : Loops room k C q s₀ (legalizeTurn room k (positionOf q) s)
+    turned = going-turn isDone (legalizeTurn room k (positionOf q)) (falls room k C (positionOf q)) (I .going) goes-on
 
-    module _ {o′ h′ a′ row′ : List ℕ} {r : Turned} (T : TurnLeaves o′ h′ a′ row′ r (turn (length row) k (positionOf q) s)) (l : SameLengths o h a row o′ h′ a′ row′) where
-      leaves : TurnLeaves o′ h′ a′ row′ r (turn room k (positionOf q) s)
-      leaves = subst (λ (m : ℕ). TurnLeaves o′ h′ a′ row′ r (turn m k (positionOf q) s)) (I .lengths .pending) T
+    module _ {o′ h′ a′ row′ : List ℕ} {r : Turned} (T : TurnLeaves o′ h′ a′ row′ r (legalizeTurn (length row) k (positionOf q) s)) (l : SameLengths o h a row o′ h′ a′ row′) where
+      leaves : TurnLeaves o′ h′ a′ row′ r (legalizeTurn room k (positionOf q) s)
+      leaves = subst (λ (m : ℕ). TurnLeaves o′ h′ a′ row′ r (legalizeTurn m k (positionOf q) s)) (I .lengths .pending) T
 
       -- a flip is refused
       pub loop-refused : r .full ≡ true → Leaves o′ h′ a′ (record { flips = r .flips; full = true }) (legalize room k C (positionOf q) s₀)
@@ -89,7 +89,7 @@ module _ {k : Entry} {C : Counts} {q : List ℤ} {o₀ h₀ a₀ row₀ : List �
       loop-refused e =
           let t = sym (leaves .full) ∙ e in
           subst (Leaves o′ h′ a′ (record { flips = r .flips; full = true }))
-          (going-end isDone (turn room k (positionOf q)) (falls room k C (positionOf q)) turned (ended (turn room k (positionOf q) s) t))
+          (going-end isDone (legalizeTurn room k (positionOf q)) (falls room k C (positionOf q)) turned (ended (legalizeTurn room k (positionOf q) s) t))
           (record { links = leaves .links; flips = leaves .flips; full = sym t })
         where
           ended : (t : Legalizing) → t .full ≡ true → isDone t ≡ true
@@ -97,12 +97,12 @@ module _ {k : Entry} {C : Counts} {q : List ℤ} {o₀ h₀ a₀ row₀ : List �
 
       -- the loop goes on
       module _ (e : r .full ≡ false) where
-        state : turn room k (positionOf q) s ≡ stateOf o′ h′ a′ row′ (r .length) (r .flips)
+        state : legalizeTurn room k (positionOf q) s ≡ stateOf o′ h′ a′ row′ (r .length) (r .flips)
         state = λ i. record { links = sym (leaves .links) i; pending = sym (leaves .pending e) i; flips = sym (leaves .flips) i; full = (sym (leaves .full) ∙ e) i }
 
         pub loop-less : measure C (positionOf q) (stateOf o′ h′ a′ row′ (r .length) (r .flips)) < measure C (positionOf q) s
         loop-less = subst (λ (t : Legalizing). measure C (positionOf q) t < measure C (positionOf q) s) state
-            (going-less isDone (turn room k (positionOf q)) (falls room k C (positionOf q)) (I .going) goes-on)
+            (going-less isDone (legalizeTurn room k (positionOf q)) (falls room k C (positionOf q)) (I .going) goes-on)
 
         on : Loops room k C q s₀ (stateOf o′ h′ a′ row′ (r .length) (r .flips))
         on = subst (Loops room k C q s₀) state turned

@@ -19,7 +19,7 @@ use Rattle.pending.specs.Pending.{pendingOf, Holds}
 use Rattle.pending.specs.PendingLaws.{pending-length, pending-last, holds-length, holds-fits}
 use Rattle.legalize.specs.declared.Entry.{Entry}
 use Rattle.legalize.specs.declared.Popped.{Popped}
-use Rattle.legalize.specs.Legalize.{Legalizing, entryEdge, pushed, turn}
+use Rattle.legalize.specs.Legalize.{Legalizing, entryEdge, pushed, legalizeTurn}
 use Rattle.legalize.specs.Turns.{EntriesIn, turn-kept, turn-flipped, turn-refused}
 use Rattle.legalize.specs.LegalizeRows.{PopReady, Pops, TurnReady, stateOf, TurnLeaves}
 
@@ -56,7 +56,7 @@ module _ {k : Entry} {C : Counts} {q : List ℤ} {o h a row : List ℕ} {n : ℕ
     pushes : r .flip ≡ true → Holds row′ (r .length) (pushed k (s .links) x l)
     pushes e = subst (λ (b : Bool). Holds row′ (r .length) (cond b (pushed k (s .links) x l) l)) e (P .pending o a)
 
-    pub turn-keeps : r .flip ≡ false → TurnLeaves o h a row′ (record { length = r .length; flips = flips; full = false }) (turn (length row) k (positionOf q) s)
+    pub turn-keeps : r .flip ≡ false → TurnLeaves o h a row′ (record { length = r .length; flips = flips; full = false }) (legalizeTurn (length row) k (positionOf q) s)
     turn-keeps e =
         let H = not-pushed e in
         let m = pending-length row (n - 1) in
@@ -64,7 +64,7 @@ module _ {k : Entry} {C : Counts} {q : List ℤ} {o h a row : List ℕ} {n : ℕ
         rw (turn-kept (length row) k (positionOf q) s last (tested e))
         (record { links = refl; flips = refl; full = refl; fits = λ _. holds-fits H (omega arith); pending = λ _. H .fits (holds-fits H (omega arith)) })
 
-    pub turn-refuses : r .flip ≡ true → length row′ < r .length → TurnLeaves o h a row′ (record { length = r .length; flips = flips; full = true }) (turn (length row) k (positionOf q) s)
+    pub turn-refuses : r .flip ≡ true → length row′ < r .length → TurnLeaves o h a row′ (record { length = r .length; flips = flips; full = true }) (legalizeTurn (length row) k (positionOf q) s)
     turn-refuses e f =
         let m = pushes e .over f in
         rw (turn-refused (length row) k (positionOf q) s last (tested e) (rw same at m))
@@ -74,7 +74,7 @@ module _ {k : Entry} {C : Counts} {q : List ℤ} {o h a row : List ℕ} {n : ℕ
     turn-flip-ready e = rw (P .edge) (flip-ready (held (R .mesh .rows)) in-use)
 
     pub turn-flips : r .flip ≡ true → r .length ≤ length row′ → {o′ h′ a′ : List ℕ} → linksOf o′ h′ a′ ≡ flipCw (linksOf o h a) (r .edge)
-        → TurnLeaves o′ h′ a′ row′ (record { length = r .length; flips = flips + 1; full = false }) (turn (length row) k (positionOf q) s)
+        → TurnLeaves o′ h′ a′ row′ (record { length = r .length; flips = flips + 1; full = false }) (legalizeTurn (length row) k (positionOf q) s)
     turn-flips e f links =
         let H = pushes e in
         let m = holds-length H f in

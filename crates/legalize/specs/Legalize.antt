@@ -61,8 +61,8 @@ popped room k p s (x ∷ l) =
     (flipped room k s x l)
     (record { links = s .links; pending = l; flips = s .flips; full = false })
 
-abbrev pub turn : ℕ → Entry → (ℕ → Point) → Legalizing → Legalizing
-turn room k p s = popped room k p s (s .pending)
+abbrev pub legalizeTurn : ℕ → Entry → (ℕ → Point) → Legalizing → Legalizing
+legalizeTurn room k p s = popped room k p s (s .pending)
 
 abbrev pub isEmpty : List ℕ → Bool
 isEmpty [] = true
@@ -78,7 +78,7 @@ measure C p s = 4 * natAbs (heightSum C (s .links) p) + length (s .pending)
 
 -- from a pending list to the end, or to the flip that is refused
 unfoldable pub legalize : ℕ → Entry → Counts → (ℕ → Point) → Legalizing → Legalizing
-legalize room k C p s = until isDone (turn room k p) (measure C p s + 1) s
+legalize room k C p s = until isDone (legalizeTurn room k p) (measure C p s + 1) s
 
 -- `legalize_edge` of the half-edge e, with `flips` made before
 abbrev pub legalizeEdge : ℕ → Counts → (ℕ → Point) → Links → ℕ → ℕ → Legalizing

@@ -22,7 +22,7 @@ use Rattle.mesh.specs.FlipRun.{FlipRun, none, run-one, run-join, run-good, run-
 use Rattle.mesh.specs.Good.{Good}
 use Rattle.sums.specs.Until.{until, Falls, until-ends, until-keeps, until-ind, until-fuel}
 use Rattle.legalize.specs.declared.Entry.{Entry}
-use Rattle.legalize.specs.Legalize.{Legalizing, entryEdge, pushed, turn, isDone, measure, legalize}
+use Rattle.legalize.specs.Legalize.{Legalizing, entryEdge, pushed, legalizeTurn, isDone, measure, legalize}
 use Rattle.legalize.specs.Turns.{turn-cases, going-on, ended, EntriesIn, pushed-in, pushed-few}
 
 -- the flip that was not made: an edge that breaks the rule, whose pushes do not fit the pending list
@@ -52,7 +52,7 @@ record Ran (C : Counts) (p : ℕ → Point) (s r : Legalizing) : Type 0 where
   flips : r .flips ≡ s .flips + made
 
 module _ (room : ℕ) (k : Entry) (C : Counts) (p : ℕ → Point) where
-  keeps : (s : Legalizing) → Ongoing room k C p s → isDone s ≡ false → Ongoing room k C p (turn room k p s)
+  keeps : (s : Legalizing) → Ongoing room k C p s → isDone s ≡ false → Ongoing room k C p (legalizeTurn room k p s)
   keeps s O e = going-on s e (λ x l q f.
       let h = subst (EntriesIn C k) q (O .entries) in
       turn-cases room k p s q (Ongoing room k C p)
@@ -64,7 +64,7 @@ module _ (room : ℕ) (k : Entry) (C : Counts) (p : ℕ → Point) where
       })
       (λ b m. record { good = O .good; entries = h .1; refused = λ _. record { entry = x; breaks = b; over = m } }))
 
-  less : (s : Legalizing) → Ongoing room k C p s → isDone s ≡ false → measure C p (turn room k p s) < measure C p s
+  less : (s : Legalizing) → Ongoing room k C p s → isDone s ≡ false → measure C p (legalizeTurn room k p s) < measure C p s
   less s O e = going-on s e (λ x l q f.
       let h = subst (EntriesIn C k) q (O .entries) in
       let n : length (s .pending) ≡ suc (length l) = ap length q in
@@ -76,12 +76,12 @@ module _ (room : ℕ) (k : Entry) (C : Counts) (p : ℕ → Point) where
       omega arith)
       (λ b m. omega arith))
 
-  pub falls : Falls isDone (turn room k p) (Ongoing room k C p) (measure C p)
+  pub falls : Falls isDone (legalizeTurn room k p) (Ongoing room k C p) (measure C p)
   falls = record { keeps = keeps; less = less }
 
   -- flips made and vertices inside circles stay within their bound
   pub turn-bound : (s : Legalizing) → Ongoing room k C p s → isDone s ≡ false → FlipsWithin C (s .links) p (s .flips)
-      → FlipsWithin C (turn room k p s .links) p (turn room k p s .flips)
+      → FlipsWithin C (legalizeTurn room k p s .links) p (legalizeTurn room k p s .flips)
   turn-bound s O e B = going-on s e (λ x l q f.
       let h = subst (EntriesIn C k) q (O .entries) in
       turn-cases room k p s q (λ t. FlipsWithin C (t .links) p (t .flips))
@@ -90,7 +90,7 @@ module _ (room : ℕ) (k : Entry) (C : Counts) (p : ℕ → Point) where
       (λ b m. B))
 
   -- a turn put before what follows
-  back : (s r : Legalizing) → Ongoing room k C p s → isDone s ≡ false → Ran C p (turn room k p s) r → Ran C p s r
+  back : (s r : Legalizing) → Ongoing room k C p s → isDone s ≡ false → Ran C p (legalizeTurn room k p s) r → Ran C p s r
   back s r O e = going-on s e (λ x l q f.
       let h = subst (EntriesIn C k) q (O .entries) in
       turn-cases room k p s q (λ t. Ran C p t r → Ran C p s r)
@@ -102,20 +102,20 @@ module _ (room : ℕ) (k : Entry) (C : Counts) (p : ℕ → Point) where
     -- it ends, with an empty list or a refusal
     pub legalize-ends : isDone (legalize room k C p s) ≡ true
     unfolding legalize
-    legalize-ends = until-ends isDone (turn room k p) falls (measure C p s + 1) s O (omega arith)
+    legalize-ends = until-ends isDone (legalizeTurn room k p) falls (measure C p s + 1) s O (omega arith)
 
     pub legalize-keeps : Ongoing room k C p (legalize room k C p s)
     unfolding legalize
-    legalize-keeps = until-keeps isDone (turn room k p) falls (measure C p s + 1) s O
+    legalize-keeps = until-keeps isDone (legalizeTurn room k p) falls (measure C p s + 1) s O
 
     -- any fuel above the measure gives the same, so one more turn changes nothing
-    pub legalize-fuel : (n : ℕ) → measure C p s < n → until isDone (turn room k p) n s ≡ legalize room k C p s
+    pub legalize-fuel : (n : ℕ) → measure C p s < n → until isDone (legalizeTurn room k p) n s ≡ legalize room k C p s
     unfolding legalize
-    legalize-fuel n l = until-fuel isDone (turn room k p) falls n (measure C p s + 1) s O l (omega arith)
+    legalize-fuel n l = until-fuel isDone (legalizeTurn room k p) falls n (measure C p s + 1) s O l (omega arith)
 
     ran : Ran C p s (legalize room k C p s)
     unfolding legalize
-    ran = until-ind isDone (turn room k p) falls (Ran C p) (λ s O e. record { made = 0; run = none; flips = omega arith }) back (measure C p s + 1) s O (omega arith)
+    ran = until-ind isDone (legalizeTurn room k p) falls (Ran C p) (λ s O e. record { made = 0; run = none; flips = omega arith }) back (measure C p s + 1) s O (omega arith)
 
     pub legalize-outcome : Outcome room k C p s (legalize room k C p s)
     legalize-outcome = record {

@@ -19,26 +19,26 @@ use Rattle.sums.specs.Cases.{All}
 use Rattle.sums.specs.Half.{rev, rev-below}
 use Rattle.legalize.specs.declared.Entry.{Entry}
 use Rattle.legalize.specs.declared.Entry.the-variants.{HalfEdge, Edge}
-use Rattle.legalize.specs.Legalize.{Legalizing, entryEdge, pushed, flipped, popped, turn, isDone, isEmpty}
+use Rattle.legalize.specs.Legalize.{Legalizing, entryEdge, pushed, flipped, popped, legalizeTurn, isDone, isEmpty}
 
 -- ---- the three ways of a turn
 module _ (room : ℕ) (k : Entry) (p : ℕ → Point) (s : Legalizing) {x : ℕ} {l : List ℕ} (e : s .pending ≡ x ∷ l) where
   -- the edge keeps the rule: the entry goes
   pub turn-kept : breaksCircle (s .links) p (entryEdge k x) ≡ false
-      → turn room k p s ≡ record { links = s .links; pending = l; flips = s .flips; full = false }
+      → legalizeTurn room k p s ≡ record { links = s .links; pending = l; flips = s .flips; full = false }
   unfolding popped
   turn-kept b = rw (e, b) refl
 
   -- it breaks the rule, and the list has room for the pushes
   pub turn-flipped : breaksCircle (s .links) p (entryEdge k x) ≡ true → length (pushed k (s .links) x l) ≤ room
-      → turn room k p s
+      → legalizeTurn room k p s
       ≡ record { links = flipCw (s .links) (entryEdge k x); pending = pushed k (s .links) x l; flips = suc (s .flips); full = false }
   unfolding popped flipped
   turn-flipped b m = rw (e, b, le-leb (length (pushed k (s .links) x l)) room m) refl
 
   -- it has not: the flip is not made
   pub turn-refused : breaksCircle (s .links) p (entryEdge k x) ≡ true → room < length (pushed k (s .links) x l)
-      → turn room k p s ≡ record { links = s .links; pending = l; flips = s .flips; full = true }
+      → legalizeTurn room k p s ≡ record { links = s .links; pending = l; flips = s .flips; full = true }
   unfolding popped flipped
   turn-refused b m = rw (e, b, lt-leb (length (pushed k (s .links) x l)) room m) refl
 
@@ -49,11 +49,11 @@ module _ (room : ℕ) (k : Entry) (p : ℕ → Point) (s : Legalizing) {x : ℕ}
       (record { links = flipCw (s .links) (entryEdge k x); pending = pushed k (s .links) x l; flips = suc (s .flips); full = false }))
       → (breaksCircle (s .links) p (entryEdge k x) ≡ true → room < length (pushed k (s .links) x l) → P
       (record { links = s .links; pending = l; flips = s .flips; full = true }))
-      → P (turn room k p s)
+      → P (legalizeTurn room k p s)
   turn-cases P f g h = go (breaksCircle (s .links) p (entryEdge k x)) (leb (length (pushed k (s .links) x l)) room) refl refl
     where
       go : (b m : Bool) → breaksCircle (s .links) p (entryEdge k x) ≡ b
-          → leb (length (pushed k (s .links) x l)) room ≡ m → P (turn room k p s)
+          → leb (length (pushed k (s .links) x l)) room ≡ m → P (legalizeTurn room k p s)
       go false m b q = rw (turn-kept b) (f b)
       go true true b q = rw (turn-flipped b (leb-true _ _ q)) (g b)
       go true false b q = rw (turn-refused b (leb-false _ _ q)) (h b (leb-false _ _ q))

@@ -9,7 +9,7 @@ ghost use lib.ListN.{length};
 ghost use Rattle.mesh.specs.Mesh.{In};
 ghost use Rattle.dcel.specs.Rows.{linksOf, positionOf, There};
 ghost use Rattle.sums.specs.Half.{rev};
-ghost use Rattle.legalize.specs.Legalize.{entryEdge, turn, legalize, legalizeEdge, legalizeEdgesAfterRemoval};
+ghost use Rattle.legalize.specs.Legalize.{entryEdge, legalizeTurn, legalize, legalizeEdge, legalizeEdgesAfterRemoval};
 ghost use Rattle.legalize.specs.LegalizeRows.{PushReady, Pushes, PopReady, Pops, LegalizeReady, TurnReady, stateOf, TurnLeaves, Leaves};
 ghost use Rattle.legalize.specs.declared.Entry.the-variants.{HalfEdge, Edge};
 use mesh::Counts;
@@ -120,7 +120,7 @@ fn turn(
 ) -> Turned
     requires { ⌜ TurnReady entry counts (now positions) (now outs) (now halves) (now faces) (now pending) n flips × (0 < n) ⌝ }
     ensures { λ r. ⌜ TurnLeaves (now (outs .exit)) (now (halves .exit)) (now (faces .exit)) (now (pending .exit)) r
-        (turn (length (now (pending .entry))) entry (positionOf (now (positions .entry)))
+        (legalizeTurn (length (now (pending .entry))) entry (positionOf (now (positions .entry)))
         (stateOf (now (outs .entry)) (now (halves .entry)) (now (faces .entry)) (now (pending .entry)) n flips)) ⌝ }
 {
     let popped = pop(positions, halves, pending, n, entry);

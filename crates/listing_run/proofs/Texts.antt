@@ -9,7 +9,7 @@ use lib.Seq.{take-at, length-take-le}
 use Rattle.listing_text.specs.declared.reading.Input.{Input}
 use Rattle.listing_text.specs.declared.reading.Input.the-variants.{Malformed, Numbers}
 use Rattle.listing_text.specs.Listing.{refusalLine}
-use Rattle.listing_text.specs.Reading.{Reading, malformed, numbers, readOf, inputOf, rowOf}
+use Rattle.listing_text.specs.Reading.{Reading, malformed, numbers, readOf, inputOf, numbersRow}
 use Rattle.listing_text.specs.ReadingLaws.{numbers-length, row-numbers}
 use Rattle.listing_run.specs.ListingRun.{numbersListing, readingListing, listingOf}
 
@@ -37,7 +37,7 @@ module _ (text : List ℕ) {input : Input} (a : input ≡ inputOf (readOf text))
   pub numbered-sized : {row : List ℤ} {count : ℕ} → Numbered row count → (8 ≤ length (take count row)) × (length (take count row) ≤ 802)
   numbered-sized {row} {count} n = let z = length-take-le count row (n .room) in let l = n .least in let m = n .most in (omega arith, omega arith)
 
-  module _ {row : List ℤ} (zeros : List ℤ) (b : row ≡ rowOf (readOf text) zeros) (z : length zeros ≡ 802) {count : ℕ} (k : input ≡ Numbers count) where
+  module _ {row : List ℤ} (zeros : List ℤ) (b : row ≡ numbersRow (readOf text) zeros) (z : length zeros ≡ 802) {count : ℕ} (k : input ≡ Numbers count) where
     pub numbered : Numbered row count
     unfolding listingOf readingListing
     numbered = go (readOf text) refl

@@ -13,7 +13,7 @@ use lib.ListN.{length, getD, take, drop, length-append, drop-of-length-le, lengt
 use lib.Seq.{sets, drop-cons, drop-drop}
 use Rattle.listing_text.specs.declared.reading.Input.{Input}
 use Rattle.listing_text.specs.declared.reading.Input.the-variants.{Malformed, Numbers}
-use Rattle.listing_text.specs.Reading.{cut, linesOf, lineOf, letterOf, countOf, Reading, malformed, numbers, before, lineThen, readFrom, readOf, inputOf, rowOf}
+use Rattle.listing_text.specs.Reading.{cut, linesOf, lineOf, letterOf, countOf, Reading, malformed, numbers, before, lineThen, readFrom, readOf, inputOf, numbersRow}
 use Rattle.listing_text.specs.ReadingParts.{upTo, isThere, Stored, StoredAll}
 use Rattle.listing_text.specs.ReadingLaws.{line-length, startOf, start-next, start-room}
 use Rattle.listing_text.proofs.Pieces.{linesBehind, lines-first, up-to-le}
@@ -170,16 +170,16 @@ module _ {text : List ℕ} {row₀ row : List ℤ} {place number stored : ℕ} (
 -- ---- the caller's row
 module _ {row row′ : List ℤ} {o : Reading} {r : Input} (s : StoredAll row o row′ r) where
   by-answer : (o : Reading) → r ≡ inputOf o → ((zs : List ℤ) → o ≡ numbers zs → row′ ≡ sets row 0 zs) → {n : ℕ} → r ≡ Numbers n
-      → row′ ≡ rowOf o row
+      → row′ ≡ numbersRow o row
   by-answer (malformed n) e f q = absurd (let z : _≡_ {A = ℕ} 0 1 = cc in omega arith)
   by-answer (numbers zs) e f q = f zs refl
 
-  pub row-right : {n : ℕ} → r ≡ Numbers n → row′ ≡ rowOf o row
+  pub row-right : {n : ℕ} → r ≡ Numbers n → row′ ≡ numbersRow o row
   row-right q = by-answer o (s .answer) (s .numbers) q
 
-  as-before : (o : Reading) → r ≡ inputOf o → {n : ℕ} → r ≡ Malformed n → row ≡ rowOf o row
+  as-before : (o : Reading) → r ≡ inputOf o → {n : ℕ} → r ≡ Malformed n → row ≡ numbersRow o row
   as-before (malformed n) e q = refl
   as-before (numbers zs) e q = absurd (let z : _≡_ {A = ℕ} 0 1 = cc in omega arith)
 
-  pub row-wrong : {n : ℕ} → r ≡ Malformed n → row ≡ rowOf o row
+  pub row-wrong : {n : ℕ} → r ≡ Malformed n → row ≡ numbersRow o row
   row-wrong q = as-before o (s .answer) q

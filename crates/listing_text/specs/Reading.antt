@@ -123,6 +123,6 @@ abbrev pub inputOf : Reading → Input
 inputOf (malformed n) = Malformed n
 inputOf (numbers zs) = Numbers (length zs)
 
-abbrev pub rowOf : Reading → List ℤ → List ℤ
-rowOf (malformed n) row = row
-rowOf (numbers zs) row = sets row 0 zs
+abbrev pub numbersRow : Reading → List ℤ → List ℤ
+numbersRow (malformed n) row = row
+numbersRow (numbers zs) row = sets row 0 zs

@@ -17,7 +17,7 @@ use lib.IntN.{ℤ}
 use lib.ListN.{length, drop, length-append}
 use lib.Seq.{sets-eq}
 use Rattle.listing_text.specs.Reading.{linesOf, fieldsOf, numberOf, followed, numbersOf, isLetter, labelled, lineOf}
-use Rattle.listing_text.specs.Reading.{letterOf, countOf, Reading, malformed, numbers, lineThen, readFrom, readOf, rowOf}
+use Rattle.listing_text.specs.Reading.{letterOf, countOf, Reading, malformed, numbers, lineThen, readFrom, readOf, numbersRow}
 
 -- ---- a line
 abbrev OfLength : ℕ → Option (List ℤ) → Type 0
@@ -121,7 +121,7 @@ module _ (text : List ℕ) where
       (w .0 - 3, omega arith, omega arith)
 
   pub row-numbers : {zs : List ℤ} → readOf text ≡ numbers zs → (row : List ℤ) → length row ≡ 802
-      → rowOf (readOf text) row ≡ zs ++ drop (length zs) row
+      → numbersRow (readOf text) row ≡ zs ++ drop (length zs) row
   row-numbers {zs} e row l =
       let w = numbers-length e in let h = w .1 in let q = w .2 in
       let z : 0 + length zs ≡ length zs = omega arith in

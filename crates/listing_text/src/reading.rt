@@ -5,7 +5,7 @@ ghost use mathlib.Core.Path.{_≡_};
 ghost use Prim.Native.Nat.{ℕ, _+_, _*_, _-_, _<_, _≤_, min};
 ghost use lib.ListN.{drop};
 ghost use Rattle.listing_text.specs.Reading.{naturalOf, positive, negative, numberOf, numbersOf, lineOf, letterOf, countOf};
-ghost use Rattle.listing_text.specs.Reading.{readOf, inputOf, rowOf};
+ghost use Rattle.listing_text.specs.Reading.{readOf, inputOf, numbersRow};
 ghost use Rattle.listing_text.specs.ReadingParts.{upTo, fieldsBehind, unsignedOf, signedOf, Stored, StoredAll};
 
 // The first wrong line, or how many numbers there are.
@@ -204,7 +204,7 @@ fn lines(text: &[u8], numbers: &mut [i32; 802]) -> Input
 // The numbers of a text: the seed's x0 y0 x1 y1 x2 y2, the centre's x y, and each point's. A text that is wrong leaves the row as it was.
 pub fn read(text: &[u8], numbers: &mut [i32; 802]) -> Input
     ensures { λ r. ⌜ r ≡ inputOf (readOf (now (text .entry))) ⌝ }
-    ensures { λ r. ⌜ now (numbers .exit) ≡ rowOf (readOf (now (text .entry))) (now (numbers .entry)) ⌝ }
+    ensures { λ r. ⌜ now (numbers .exit) ≡ numbersRow (readOf (now (text .entry))) (now (numbers .entry)) ⌝ }
 {
     let mut row = *numbers;
     let answer = lines(text, &mut row);

@@ -6,7 +6,8 @@ use Rattle.sweep.specs.Run.{sweepPoint, sweepAfter, finishAfter, answerWord, an
 use Rattle.sweep.specs.Step.{isAdded, leftAlone, addedAt, appliedBy, applied, stepMesh}
 use Rattle.start.specs.Start.{sweepRowsShort, sweepChecked}
 use Rattle.decide.specs.Decide.{fateNumber, fateVertex, isCoordinate, isPosition, atEnd, fateAt, ifAdded, decidedAt, decided}
-use Rattle.apply.specs.Apply.{firstFace, beside, covers, walkEnds, walk, addVertex}
+use Rattle.ring.specs.Chain.{beside, covers}
+use Rattle.apply.specs.Apply.{firstFace, walkEnds, walk, addVertex}
 use Rattle.convexity.specs.Convexity.{turnsLeftAt, lastTurnsLeft, closeCorners}
 use Rattle.convexity.specs.Convexity.{passTurn, isSecond, fixConvexity, passAgain, convexity}
 use Rattle.closing.specs.Closing.{closeEdge, closeBelow, closeTurn, closingPass}

@@ -23,7 +23,7 @@ use Rattle.mesh_check.specs.Check.{refused, countRefused, meshShort, fir
 use Rattle.mesh_check.specs.CheckLaws.{check-count, check-short, check-outside, check-rules, check-turn, check-accepted, not-left-agree, count-within, inside-range}
 use Rattle.mesh_check.specs.Readable.{Readable}
 use Rattle.mesh_check.specs.ReadableLaws.{readable-rows}
-use Rattle.mesh_rules.specs.Sweep.{RowsThere}
+use Rattle.mesh_rules.specs.Holds.{RowsThere}
 use Rattle.sums.specs.Bit.{from-true}
 
 -- the sizes, where neither 1 nor 2 was answered. n: seed plus points

@@ -8,8 +8,8 @@ use native.Mathlib.Numerals.{add-one}
 use lib.Dec.{T, ltb→lt, eqb→eq}
 use Rattle.dcel.specs.Rows.{halvesOf, linksOf}
 use Rattle.mesh.specs.declared.Counts.{Counts}
-use Rattle.mesh_rules.specs.Sweep.{halfEdgeHolds, HalvesSwept}
-use Rattle.mesh_rules.specs.SweepRules.{Half, half-of}
+use Rattle.mesh_rules.specs.Holds.{halfEdgeHolds, HalvesHold}
+use Rattle.mesh_rules.specs.HoldsRules.{Half, half-of}
 use Rattle.sums.specs.Bit.{is-true, is-false}
 use Rattle.sums.specs.Bounded.{all-below, all-below→, all-below←, up-to}
 use Rattle.sums.specs.Half.{rev, rev-inverse}
@@ -30,7 +30,7 @@ pub passed-all : (n m : ℕ) (p : ℕ → Bool) → n ≡ m → T (all-below n p
 passed-all n m p e h = sym (is-true (all-below m p) (rw e at h))
 
 -- ---- after the sweep over the half-edges
-module _ {C : Counts} {h : List ℕ} (S : HalvesSwept C h) where
+module _ {C : Counts} {h : List ℕ} (S : HalvesHold C h) where
   half : (e : ℕ) → e < 2 * C .edges → Half C (linksOf [] h []) e
   half e l = half-of C (linksOf [] h []) e (all-below→ (2 * C .edges) (halfEdgeHolds C (linksOf [] h [])) (S .holds [] []) e l)
 

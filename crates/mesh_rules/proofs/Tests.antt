@@ -16,8 +16,8 @@ use Rattle.mesh.specs.Mesh.{Links, turn}
 use Rattle.mesh.specs.Rules.{rules, every, halfEdgeInUse, halfEdgeLinked}
 use Rattle.mesh.specs.Mesh.{Links, turn}
 use Rattle.mesh.specs.RulesWf.{each-of}
-use Rattle.mesh_rules.specs.Sweep.{useTests, linkTests, hasSide, halfEdgeHolds, vertexHolds, faceHolds, innerFaceHolds, outerHolds, facesWhole, verticesWhole, verticesHold, countsHold, sweep, RowsThere, HalvesThere}
-use Rattle.mesh_rules.specs.SweepRules.{based-of, wide-of, sweep-rules}
+use Rattle.mesh_rules.specs.Holds.{useTests, linkTests, hasSide, halfEdgeHolds, vertexHolds, faceHolds, innerFaceHolds, outerHolds, facesWhole, verticesWhole, verticesHold, countsHold, allHold, RowsThere, HalvesThere}
+use Rattle.mesh_rules.specs.HoldsRules.{based-of, wide-of, all-hold-rules}
 use Rattle.sums.specs.Bit.{is-true, from-true, and-left, and-right}
 use Rattle.sums.specs.Bounded.{all-below}
 use Rattle.sums.specs.Half.{rev}
@@ -170,33 +170,33 @@ module _ (C : Counts) (h : T (countsHold C)) where
 -- ---- where a sweep fails, a rule does
 module _ (C : Counts) (L : Links) where
   pub fails-counts : countsHold C ≡ false → false ≡ rules C L
-  unfolding sweep
-  fails-counts e = let p : false ≡ sweep C L = rw e in p ∙ sweep-rules C L
+  unfolding allHold
+  fails-counts e = let p : false ≡ allHold C L = rw e in p ∙ all-hold-rules C L
 
   module _ (a : countsHold C ≡ true) where
     pub fails-halves : all-below (2 * C .edges) (halfEdgeHolds C L) ≡ false → false ≡ rules C L
-    unfolding sweep
-    fails-halves e = let p : false ≡ sweep C L = rw (a, e) in p ∙ sweep-rules C L
+    unfolding allHold
+    fails-halves e = let p : false ≡ allHold C L = rw (a, e) in p ∙ all-hold-rules C L
 
     module _ (b : all-below (2 * C .edges) (halfEdgeHolds C L) ≡ true) where
       pub fails-outer : outerHolds C L ≡ false → false ≡ rules C L
-      unfolding sweep
-      fails-outer e = let p : false ≡ sweep C L = rw (a, b, e) in p ∙ sweep-rules C L
+      unfolding allHold
+      fails-outer e = let p : false ≡ allHold C L = rw (a, b, e) in p ∙ all-hold-rules C L
 
       module _ (c : outerHolds C L ≡ true) where
         pub fails-whole : facesWhole C L ≡ false → false ≡ rules C L
-        unfolding sweep
-        fails-whole e = let p : false ≡ sweep C L = rw (a, b, c, e) in p ∙ sweep-rules C L
+        unfolding allHold
+        fails-whole e = let p : false ≡ allHold C L = rw (a, b, c, e) in p ∙ all-hold-rules C L
 
         module _ (d : facesWhole C L ≡ true) where
           pub fails-inner : all-below (C .faces) (innerFaceHolds C L) ≡ false → false ≡ rules C L
-          unfolding sweep
-          fails-inner e = let p : false ≡ sweep C L = rw (a, b, c, d, e) in p ∙ sweep-rules C L
+          unfolding allHold
+          fails-inner e = let p : false ≡ allHold C L = rw (a, b, c, d, e) in p ∙ all-hold-rules C L
 
           -- the last sweep decides
           pub at-vertices : all-below (C .faces) (innerFaceHolds C L) ≡ true → verticesHold C L ≡ rules C L
-          unfolding sweep
-          at-vertices e = let p : verticesHold C L ≡ sweep C L = rw (a, b, c, d, e) in p ∙ sweep-rules C L
+          unfolding allHold
+          at-vertices e = let p : verticesHold C L ≡ allHold C L = rw (a, b, c, d, e) in p ∙ all-hold-rules C L
 
 -- ---- what one sweep leaves to the next
 module _ {C : Counts} {o h a : List ℕ} (R : RowsThere C o h a) (t : countsHold C ≡ true) where

@@ -1,2 +1,2 @@
-pub mod Sweep
-pub mod SweepRules
+pub mod Holds
+pub mod HoldsRules

@@ -1,6 +1,6 @@
 // The mesh rules of 01, decided in time proportional to the mesh and with no memory of what was met but counts: each
 // sweep looks at every half-edge, face or vertex once. What each function answers is an equation with a definition of
-// `specs/Sweep.antt`, and `mesh_rules` with `rules` of the crate mesh.
+// `specs/Holds.antt`, and `mesh_rules` with `rules` of the crate mesh.
 // A function that is lent the row of half-edges alone says so whatever the other rows hold: o are the out edges and a the faces.
 ghost use mathlib.Core.Path.{_≡_};
 ghost use mathlib.Core.Bool.{true};
@@ -12,7 +12,7 @@ ghost use Rattle.mesh.specs.Mesh.{turn};
 ghost use Rattle.mesh.specs.Rules.{every, rules};
 ghost use Rattle.sums.specs.Bounded.{all-below};
 ghost use Rattle.sums.specs.Iterate.{period-below};
-ghost use Rattle.mesh_rules.specs.Sweep.{HalvesThere, HalvesSwept, RowsThere, useTests, linkTests, hasSide, halfEdgeHolds, vertexHolds, faceHolds, innerFaceHolds, outerHolds, facesWhole, verticesHold, countsHold};
+ghost use Rattle.mesh_rules.specs.Holds.{HalvesThere, HalvesHold, RowsThere, useTests, linkTests, hasSide, halfEdgeHolds, vertexHolds, faceHolds, innerFaceHolds, outerHolds, facesWhole, verticesHold, countsHold};
 use dcel::handles::HalfEdgeEntry;
 use mesh::Counts;
 
@@ -107,7 +107,7 @@ fn half_edges_hold(halves: &[u32], counts: Counts) -> bool
 
 // Face f is a cycle of three through its stored edge.
 fn face_holds(halves: &[u32], faces: &[u32], counts: Counts, f: u32) -> bool
-    requires { ⌜ HalvesSwept counts (now halves) × (f < length (now faces)) ⌝ }
+    requires { ⌜ HalvesHold counts (now halves) × (f < length (now faces)) ⌝ }
     ensures { λ r. ⌜ ((o : List ℕ) → r ≡ faceHolds counts (linksOf o (now (halves .entry)) (now (faces .entry))) f) ⌝ }
 {
     let a = dcel::adjacent(faces, f);
@@ -131,7 +131,7 @@ fn face_holds(halves: &[u32], faces: &[u32], counts: Counts, f: u32) -> bool
 }
 
 fn inner_faces_hold(halves: &[u32], faces: &[u32], counts: Counts) -> bool
-    requires { ⌜ HalvesSwept counts (now halves) × ((0 < counts .faces) × (counts .faces ≤ length (now faces))) ⌝ }
+    requires { ⌜ HalvesHold counts (now halves) × ((0 < counts .faces) × (counts .faces ≤ length (now faces))) ⌝ }
     ensures { λ r. ⌜ ((o : List ℕ)
         → r ≡ all-below (counts .faces)
         (innerFaceHolds counts (linksOf o (now (halves .entry)) (now (faces .entry))))) ⌝ }
@@ -149,7 +149,7 @@ fn inner_faces_hold(halves: &[u32], faces: &[u32], counts: Counts) -> bool
 
 // The stored edge of face 0 is on a cycle of more than two.
 fn outer_holds(halves: &[u32], faces: &[u32], counts: Counts) -> bool
-    requires { ⌜ HalvesSwept counts (now halves) × (0 < length (now faces)) ⌝ }
+    requires { ⌜ HalvesHold counts (now halves) × (0 < length (now faces)) ⌝ }
     ensures { λ r. ⌜ ((o : List ℕ) → r ≡ outerHolds counts (linksOf o (now (halves .entry)) (now (faces .entry)))) ⌝ }
 {
     let a = dcel::adjacent(faces, 0);
@@ -173,7 +173,7 @@ fn outer_holds(halves: &[u32], faces: &[u32], counts: Counts) -> bool
 
 // How many half-edges the cycle of a has, walked by next. The walk comes back, since next and prev undo each other.
 fn cycle_length(halves: &[u32], counts: Counts, a: u32) -> u32
-    requires { ⌜ HalvesSwept counts (now halves) × (a < 2 * counts .edges) ⌝ }
+    requires { ⌜ HalvesHold counts (now halves) × (a < 2 * counts .edges) ⌝ }
     ensures { λ r. ⌜ ((o s : List ℕ) → r ≡ period-below (2 * counts .edges) (linksOf o (now (halves .entry)) s .next) a) ⌝ }
 {
     let mut e = dcel::next(halves, a);
@@ -196,7 +196,7 @@ fn turn(halves: &[u32], e: u32) -> u32
 
 // How many half-edges turning about a vertex meets, from a on.
 fn orbit_length(halves: &[u32], counts: Counts, a: u32) -> u32
-    requires { ⌜ HalvesSwept counts (now halves) × (a < 2 * counts .edges) ⌝ }
+    requires { ⌜ HalvesHold counts (now halves) × (a < 2 * counts .edges) ⌝ }
     ensures { λ r. ⌜ ((o s : List ℕ) → r ≡ period-below (2 * counts .edges) (turn (linksOf o (now (halves .entry)) s)) a) ⌝ }
 {
     let mut e = turn(halves, a);
@@ -210,7 +210,7 @@ fn orbit_length(halves: &[u32], counts: Counts, a: u32) -> u32
 
 // No half-edge is left over by the faces: the cycle of face 0, and three for each further face.
 fn faces_whole(halves: &[u32], faces: &[u32], counts: Counts) -> bool
-    requires { ⌜ HalvesSwept counts (now halves) × ((0 < length (now faces)) × (rowOf (now faces) 0 < 2 * counts .edges)) ⌝ }
+    requires { ⌜ HalvesHold counts (now halves) × ((0 < length (now faces)) × (rowOf (now faces) 0 < 2 * counts .edges)) ⌝ }
     ensures { λ r. ⌜ ((o : List ℕ) → r ≡ facesWhole counts (linksOf o (now (halves .entry)) (now (faces .entry)))) ⌝ }
 {
     let a = dcel::adjacent(faces, 0);
@@ -233,7 +233,7 @@ fn vertex_holds(outs: &[u32], halves: &[u32], counts: Counts, v: u32) -> bool
 
 // Every vertex has its out edge, and no half-edge is left over by the turns about the vertices.
 fn vertices_hold(outs: &[u32], halves: &[u32], counts: Counts) -> bool
-    requires { ⌜ HalvesSwept counts (now halves) × (counts .vertices ≤ length (now outs)) ⌝ }
+    requires { ⌜ HalvesHold counts (now halves) × (counts .vertices ≤ length (now outs)) ⌝ }
     ensures { λ r. ⌜ ((a : List ℕ) → r ≡ verticesHold counts (linksOf (now (outs .entry)) (now (halves .entry)) a)) ⌝ }
 {
     let count = counts.vertices;

@@ -128,10 +128,6 @@ pub record HullFrom (N : ℕ) (next α : ℕ → ℕ) (τ : NodeTable) (bucket :
   pub sized : Sized N B w
   pub buckets : Bucketed (τ .right) (τ .angle) bucket B w s (nodes next α h e)
 
--- with the nodes' fields one by one
-abbrev pub Hull : ℕ → (ℕ → ℕ) → (ℕ → ℕ) → (ℕ → ℕ) → (ℕ → ℕ) → (ℕ → ℕ) → (ℕ → ℕ) → (ℕ → ℕ) → ℕ → ℕ → ℕ → ℕ → ℕ → Type 0
-Hull N next α left right angle edge bucket = HullFrom N next α (record { left = left; right = right; angle = angle; edge = edge }) bucket
-
 -- the same hull from the next edge on, and so from any edge, and by `ring-at` from any node
 pub hull-turn : {N : ℕ} {next α : ℕ → ℕ} {τ : NodeTable} {bucket : ℕ → ℕ} {e h s B w : ℕ} → HullFrom N next α τ bucket e h s B w
     → HullFrom N next α τ bucket (next e) h (iter (bit (atEnds proper next α e)) (τ .right) s) B w

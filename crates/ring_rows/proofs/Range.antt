@@ -11,11 +11,11 @@ use lib.Seq.{getD-set-same, getD-set-other}
 use Rattle.sums.specs.Bit.{Tells, lt?, le?}
 use Rattle.dcel.specs.Rows.{rowOf}
 use Rattle.ring.specs.Buckets.{within}
-use Rattle.ring_rows.specs.Rows.{Run, Updated}
+use Rattle.ring_rows.specs.Rows.{FilledRun, Updated}
 
 -- up to i is done
 pub record Doing (old new : List ℕ) (from to v i : ℕ) : Type 0 where
-  pub done : Run old new from i v
+  pub done : FilledRun old new from i v
   pub low : from ≤ i
   pub high : i ≤ to
   pub room : to ≤ length old
@@ -43,14 +43,14 @@ module _ {old new : List ℕ} {from to v i : ℕ} (D : Doing old new from to v i
       at j a b (yes z) = ap (λ (k : ℕ). getD (set new i v) k 0) z ∙ getD-set-same new i v 0 (let c = D .room in let d = D .same in omega arith)
       at j a b (no z) = getD-set-other new i j v 0 z ∙ D .done .inside j a (omega arith)
 
-  pub end : to ≤ i → Run old new from to v
-  end l = subst (λ (k : ℕ). Run old new from k v) (let h = D .high in the i to h l) (D .done)
+  pub end : to ≤ i → FilledRun old new from to v
+  end l = subst (λ (k : ℕ). FilledRun old new from k v) (let h = D .high in the i to h l) (D .done)
     where
       the : (i to : ℕ) → i ≤ to → to ≤ i → i ≡ to
       the i to a b = omega arith
 
 -- one range, or two
-pub updated-one : {old new : List ℕ} {count from to v : ℕ} → from ≤ to → to ≤ count → Run old new from to v → Updated old new count from to v
+pub updated-one : {old new : List ℕ} {count from to v : ℕ} → from ≤ to → to ≤ count → FilledRun old new from to v → Updated old new count from to v
 unfolding within
 updated-one {old} {new} {count} {from} {to} {v} h k R = record { each = λ i l. go i (leb from to) (leb from i) (ltb i to) (le? from to) (le? from i) (lt? i to); past = λ i l. R .past i (omega arith) }
   where
@@ -60,7 +60,7 @@ updated-one {old} {new} {count} {from} {to} {v} h k R = record { each = λ i l. 
     go i true true false A C E = R .past i (E .1 tt)
     go i true false e A C E = R .before i (C .1 tt)
 
-pub updated-two : {old mid new : List ℕ} {count from to v : ℕ} → to < from → from ≤ count → Run old mid from count v → Run mid new 0 to v → Updated old new count from to v
+pub updated-two : {old mid new : List ℕ} {count from to v : ℕ} → to < from → from ≤ count → FilledRun old mid from count v → FilledRun mid new 0 to v → Updated old new count from to v
 unfolding within
 updated-two {old} {mid} {new} {count} {from} {to} {v} h k P Q = record { each = λ i l. go i l (leb from to) (leb from i) (ltb i to) (le? from to) (le? from i) (lt? i to); past = λ i l. Q .past i (omega arith) ∙ P .past i l }
   where

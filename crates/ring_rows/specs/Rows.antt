@@ -98,7 +98,7 @@ pub record Updated (old new : List ℕ) (count from to v : ℕ) : Type 0 where
   pub past : (i : ℕ) → count ≤ i → rowOf new i ≡ rowOf old i
 
 -- v stands from `from` up to `to`, and elsewhere what stood there
-pub record Run (old new : List ℕ) (from to v : ℕ) : Type 0 where
+pub record FilledRun (old new : List ℕ) (from to v : ℕ) : Type 0 where
   pub inside : (i : ℕ) → from ≤ i → i < to → rowOf new i ≡ v
   pub before : (i : ℕ) → i < from → rowOf new i ≡ rowOf old i
   pub past : (i : ℕ) → to ≤ i → rowOf new i ≡ rowOf old i

@@ -10,7 +10,7 @@ ghost use Rattle.angle.specs.Angle.{validAngle, turns};
 ghost use Rattle.segment.specs.Bucket.{floorOf, width};
 ghost use Rattle.ring.specs.Insert.{Bucketed};
 ghost use Rattle.dcel.specs.Rows.{rowOf};
-ghost use Rattle.ring_rows.specs.Rows.{zeroNode, nodesOf, withEdge, withLeft, withRight, RingHeld, sizeOf, Got, Updated, Run, rightOf, angleOf, NodeBuckets, NodeUpdated, ToFill};
+ghost use Rattle.ring_rows.specs.Rows.{zeroNode, nodesOf, withEdge, withLeft, withRight, RingHeld, sizeOf, Got, Updated, FilledRun, rightOf, angleOf, NodeBuckets, NodeUpdated, ToFill};
 use segment::Segment;
 
 #[repr(C)]
@@ -109,7 +109,7 @@ pub fn get(nodes: &[Node], buckets: &[u32], hull: Hull, angle: f64) -> Found
 // v to the places from `from` up to `to`.
 fn fill(row: &mut [u32], from: usize, to: usize, v: u32)
     requires { ⌜ (from ≤ to) × (to ≤ length (now row)) ⌝ }
-    ensures { λ r. ⌜ Run (now (row .entry)) (now (row .exit)) from to v ⌝ }
+    ensures { λ r. ⌜ FilledRun (now (row .entry)) (now (row .exit)) from to v ⌝ }
 {
     let mut i = from;
     while i < to {

@@ -14,8 +14,8 @@ use lib.IntN.{ℤ}
 use lib.ListN.{length}
 use Rattle.dcel.specs.MeshRows.{meshRows}
 use Rattle.dcel.specs.Rows.{linksOf, positionOf, rowOf}
-use Rattle.decide.specs.Sweep.{Sweep}
-use Rattle.decide.specs.SweepLaws.{sweep-sound}
+use Rattle.decide.specs.SweepRows.{SweepRows}
+use Rattle.decide.specs.SweepRowsLaws.{sweep-sound}
 use Rattle.math.specs.declared.Point.{Point}
 use Rattle.mesh.specs.declared.Counts.{Counts}
 use Rattle.mesh.specs.Mesh.{Links}
@@ -94,7 +94,7 @@ pub record SweepingAt (q₀ : List ℤ) (o₀ h₀ a₀ row₀ : List ℕ) (node
   pub lengths : SameRows q₀ o₀ h₀ a₀ row₀ nodes₀ freed₀ buckets₀ answers₀ q o h a row nodes freed buckets answers
   pub at : sweepAfter (length row₀) cx cy C₀ (linksOf o₀ h₀ a₀) (positionOf q₀) (positionOf points) i
       ≡ record { counts = C; links = linksOf o h a; positions = positionOf q; answered = i; full = false }
-  pub sweep : Sweep C q o h a nodes freed buckets hull cx cy
+  pub sweep : SweepRows C q o h a nodes freed buckets hull cx cy
   pub vertices : C .vertices ≤ C₀ .vertices + i
   pub nodes-most : hull .nodes ≤ suc (C₀ .vertices + count)
   pub answers-are : (x : ℕ) → rowOf answers x

@@ -11,7 +11,7 @@ use Rattle.convexity.specs.ConvexityRows.{MeshReady}
 use Rattle.corner.specs.CornerRows.{MeshRoom}
 use Rattle.dcel.specs.MeshRows.{MeshRows, meshRows, linksIn, placesIn}
 use Rattle.dcel.specs.Rows.{linksOf, positionOf, rowOf}
-use Rattle.decide.specs.Sweep.{Sweep}
+use Rattle.decide.specs.SweepRows.{SweepRows}
 use Rattle.math.specs.Determinant.{InRange}
 use Rattle.mesh.specs.declared.Counts.{Counts}
 use Rattle.ring_rows.specs.declared.Node.{Node}
@@ -52,7 +52,7 @@ pub record SweepRoom (N : ℕ) (q : List ℤ) (o h a row : List ℕ) (nodes : Li
 
 -- a mesh with its ring, and rows that do for it and all points, which are in range
 pub record SweepReady (C : Counts) (q : List ℤ) (o h a row : List ℕ) (nodes : List Node) (freed buckets answers : List ℕ) (hull : Hull) (cx cy : Float) (points : List ℤ) (count : ℕ) : Type 0 where
-  pub sweep : Sweep C q o h a nodes freed buckets hull cx cy
+  pub sweep : SweepRows C q o h a nodes freed buckets hull cx cy
   pub room : SweepRoom (C .vertices + count) q o h a row nodes freed buckets hull
   pub range : (i : ℕ) → i < count → InRange (positionOf points i)
   pub pairs : 2 * count ≤ length points

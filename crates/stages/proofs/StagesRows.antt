@@ -9,7 +9,7 @@ use lib.ListN.{length}
 use Rattle.convexity.specs.Convexity.{fixConvexity}
 use Rattle.convexity.specs.ConvexityRows.{MeshReady, StartReady}
 use Rattle.conflicts.specs.FlipsWithin.{within-none}
-use Rattle.corner.specs.declared.Added.{Added}
+use Rattle.corner.specs.declared.Extension.{Extension}
 use Rattle.corner.specs.CornerRows.{extendedOf}
 use Rattle.dcel.specs.MeshRows.{MeshRows, linksIn, placesIn}
 use Rattle.finish.specs.Finish.{seedChecked}
@@ -34,7 +34,7 @@ stepped-accepted l e = rw e refl
 -- ---- the pass
 -- nothing has been added yet
 module _ (C : Counts) where
-  abbrev none : Added
+  abbrev none : Extension
   none = record { counts = C; faces = 0; flips = 0; full = false }
 
   pub start-ready : {q : List ℤ} {o h a row : List ℕ} → MeshReady q o h a row C → StartReady q o h a row none

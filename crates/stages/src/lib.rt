@@ -10,7 +10,7 @@ ghost use Rattle.ring_rows.specs.RingRows.{ringRows};
 ghost use Rattle.sweep.specs.Run.{runLent, runChecked, sweepOf};
 ghost use Rattle.stages.specs.Stages.{steppedOf, passedOf};
 use angle::Point2;
-use corner::Added;
+use corner::Extension;
 use mesh::Counts;
 use mesh_check::Checked;
 use ring_rows::Node;
@@ -125,12 +125,12 @@ pub fn pass(
     halves: &mut [u32],
     faces: &mut [u32],
     pending: &mut [u32],
-) -> Added
+) -> Extension
     ensures { λ r. ⌜ extendedOf (now (outs .exit)) (now (halves .exit)) (now (faces .exit)) r
         ≡ passedOf counts (meshRows (now (positions .entry)) (now (outs .entry)) (now (halves .entry)) (now (faces .entry)))
         (now (pending .entry)) ⌝ }
 {
-    let added = Added {
+    let added = Extension {
         counts: counts,
         faces: 0,
         flips: 0,

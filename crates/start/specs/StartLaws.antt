@@ -13,7 +13,7 @@ use Rattle.angle.specs.declared.Point2.{Point2}
 use Rattle.circle_test.specs.GoodRows.{GoodRows}
 use Rattle.dcel.specs.MeshRows.{MeshRows, meshRows, linksIn}
 use Rattle.dcel.specs.Rows.{rowOf}
-use Rattle.decide.specs.Sweep.{Sweep}
+use Rattle.decide.specs.SweepRows.{SweepRows}
 use Rattle.hull.specs.Boundary.{ToBuild}
 use Rattle.hull.specs.Build.{built-held}
 use Rattle.hull.specs.Held.{FromBoundary}
@@ -93,7 +93,7 @@ module _ {C : Counts} {q : List ℤ} {h a : List ℕ} {n b : ℕ} {center : Poin
   }
     where
       held : {points : List ℤ} {o freed : List ℕ} → AcceptedStart points C (meshRows q o h a) center → C .vertices ≤ length freed
-          → Sweep C q o h a nodes freed buckets r (center .x) (center .y)
+          → SweepRows C q o h a nodes freed buckets r (center .x) (center .y)
       held {points} {o} {freed} A l =
           let M = accepted-held (A .mesh) in
           let most = ring-most A in

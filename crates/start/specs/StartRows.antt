@@ -6,7 +6,7 @@ use lib.IntN.{ℤ}
 use lib.ListN.{length, replicate}
 use Rattle.angle.specs.declared.Point2.{Point2}
 use Rattle.dcel.specs.MeshRows.{meshRows}
-use Rattle.decide.specs.Sweep.{Sweep}
+use Rattle.decide.specs.SweepRows.{SweepRows}
 use Rattle.locate.specs.Start.{AcceptedStart}
 use Rattle.mesh.specs.declared.Counts.{Counts}
 use Rattle.ring_rows.specs.declared.Node.{Node}
@@ -25,7 +25,7 @@ pub record ToStart (C : Counts) (q : List ℤ) (h a : List ℕ) (nodes buckets :
 pub record Started (C : Counts) (q : List ℤ) (h a : List ℕ) (nodes : List Node) (buckets : List ℕ) (hull : Hull)
     (center : Point2) : Type 0 where
   pub sweep : {points : List ℤ} {o freed : List ℕ} → AcceptedStart points C (meshRows q o h a) center → C .vertices ≤ length freed
-      → Sweep C q o h a nodes freed buckets hull (center .x) (center .y)
+      → SweepRows C q o h a nodes freed buckets hull (center .x) (center .y)
   pub nodes-most : hull .nodes ≤ C .vertices
 
 -- 01: "After 9 and after every accepted call the ring, freed, bucket and pending rows hold zeros"

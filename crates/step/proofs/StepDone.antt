@@ -16,7 +16,7 @@ use Rattle.apply.specs.ApplyRows.{AddReady, appliedOf}
 use Rattle.apply.specs.Walks.{Before}
 use Rattle.apply.specs.declared.Entered.{Entered}
 use Rattle.circle_test.specs.GoodRows.{GoodRows}
-use Rattle.corner.specs.declared.Added.{Added}
+use Rattle.corner.specs.declared.Extension.{Extension}
 use Rattle.corner.specs.Corner.{Extended}
 use Rattle.corner.specs.CornerRows.{extendedOf, MeshRoom}
 use Rattle.corner.specs.RowsLaws.{sized-room}
@@ -26,8 +26,8 @@ use Rattle.decide.specs.declared.Decision.{Decision}
 use Rattle.decide.specs.declared.Fate.{Fate}
 use Rattle.decide.specs.declared.Fate.the-variants.{Added as AddedFate}
 use Rattle.decide.specs.Decide.{Decided, decided}
-use Rattle.decide.specs.Sweep.{Sweep, ToDecide, ChainAngles, Decides}
-use Rattle.decide.specs.SweepLaws.{sweep-sound}
+use Rattle.decide.specs.SweepRows.{SweepRows, ToDecide, ChainAngles, Decides}
+use Rattle.decide.specs.SweepRowsLaws.{sweep-sound}
 use Rattle.hull.specs.EntersRing.{EntersRing, ToEnterRing, EnteredRing}
 use Rattle.hull.specs.Held.{Held}
 use Rattle.math.specs.declared.Point.{Point}
@@ -75,7 +75,7 @@ module _ {C : Counts} {q : List ℤ} {o h a row : List ℕ} {nodes : List Node} 
 
   -- the decision
   module _ {D : Decision}
-      (d : (o a f : List ℕ) → Sweep C q o h a nodes f buckets hull cx cy → Decides C (linksOf o h a) (positionOf q) cx cy v (decided cx cy C (linksOf o h a) (positionOf q) v) D) where
+      (d : (o a f : List ℕ) → SweepRows C q o h a nodes f buckets hull cx cy → Decides C (linksOf o h a) (positionOf q) cx cy v (decided cx cy C (linksOf o h a) (positionOf q) v) D) where
     Δ : Decides C L p cx cy v (decided cx cy C L p v) D
     Δ = d o a freed (R .sweep)
 

@@ -10,13 +10,13 @@ use Rattle.angle.specs.declared.Point2.{Point2}
 use Rattle.apply.specs.Apply.{addTurns}
 use Rattle.apply.specs.ApplyRows.{AddReady, appliedOf}
 use Rattle.apply.specs.declared.Entered.{Entered}
-use Rattle.corner.specs.declared.Added.{Added}
+use Rattle.corner.specs.declared.Extension.{Extension}
 use Rattle.corner.specs.CornerRows.{MeshRoom}
 use Rattle.dcel.specs.MeshRows.{MeshRows, meshRows, linksIn, placesIn}
 use Rattle.dcel.specs.Rows.{linksOf, positionOf}
 use Rattle.decide.specs.declared.Decision.{Decision}
 use Rattle.decide.specs.declared.Fate.{Fate}
-use Rattle.decide.specs.Sweep.{Sweep}
+use Rattle.decide.specs.SweepRows.{SweepRows}
 use Rattle.math.specs.declared.Point.{Point}
 use Rattle.math.specs.Determinant.{InRange}
 use Rattle.mesh.specs.declared.Counts.{Counts}
@@ -28,7 +28,7 @@ use Rattle.step.specs.declared.Progress.{Progress}
 use Rattle.sweep.specs.Step.{Stepping, stepMesh}
 
 -- what a step of these parts comes to
-abbrev pub progressOf : Added → Hull → Fate → Progress
+abbrev pub progressOf : Extension → Hull → Fate → Progress
 progressOf g hull f = record { counts = g .counts; hull = hull; answer = record { fate = f; faces = g .faces; flips = g .flips }; full = g .full }
 
 -- the rows as what has become of a point and of the mesh
@@ -54,7 +54,7 @@ pub record StepRoom (N : ℕ) (C : Counts) (m : MeshRows) (pending : List ℕ) (
 -- the rows hold a mesh with its ring about a centre
 abbrev pub SweepIn : Counts → MeshRows → RingRows → Hull → Point2 → Type 0
 SweepIn C m ring hull center =
-    Sweep C (m .positions) (m .outs) (m .halves) (m .faces) (ring .nodes) (ring .freed) (ring .buckets) hull (center .x) (center .y)
+    SweepRows C (m .positions) (m .outs) (m .halves) (m .faces) (ring .nodes) (ring .freed) (ring .buckets) hull (center .x) (center .y)
 
 -- they do, with room for a point in range
 pub record StepReady (C : Counts) (m : MeshRows) (pending : List ℕ) (ring : RingRows) (hull : Hull) (center : Point2) (v : Point)

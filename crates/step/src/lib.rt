@@ -12,7 +12,7 @@ ghost use Rattle.step.specs.StepRows.{progressOf, steppingOf, PointReady
 ghost use Rattle.sweep.specs.StepCall.{pointRow, answerFrom, stepChecked, steppedWith, stepOf};
 use angle::Point2;
 use apply::Entered;
-use corner::Added;
+use corner::Extension;
 use decide::Decision;
 use decide::Fate;
 use math::Point;
@@ -71,7 +71,7 @@ fn is_added(fate: Fate) -> bool
 }
 
 // What a step of these parts comes to.
-fn progress_of(added: Added, hull: Hull, fate: Fate) -> Progress
+fn progress_of(added: Extension, hull: Hull, fate: Fate) -> Progress
     ensures { λ r. ⌜ r ≡ progressOf added hull fate ⌝ }
 {
     let counts = added.counts;
@@ -122,7 +122,7 @@ pub fn single_bulk_insertion_step(
     );
     let fate = decision.fate;
     if !is_added(fate) {
-        let none = Added {
+        let none = Extension {
             counts: counts,
             faces: 0,
             flips: 0,

@@ -3,7 +3,7 @@ use borrow.Author.Needs.{needs, sfits-of}
 use mir.Facts.{toZ-ofZ}
 use Rattle.angle.specs.Bits.{angle-valid}
 use Rattle.hull.specs.Find.{held-rows}
-use Rattle.decide.specs.SweepLaws.{sweep-center}
+use Rattle.decide.specs.SweepRowsLaws.{sweep-center}
 use Rattle.decide.proofs.Answers.{carried, at-center, asks-at, at-located}
 use Rattle.decide.proofs.decide.Statement.{statement}
 use Rattle.decide.proofs.decide.Proof.Tie as tie

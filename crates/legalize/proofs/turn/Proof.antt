@@ -1,4 +1,4 @@
--- `legalize::turn` meets its contract: the edge keeps the rule, its flip is refused, or it is flipped. Assumes nothing.
+-- `legalize::legalizeTurn` meets its contract: the edge keeps the rule, its flip is refused, or it is flipped. Assumes nothing.
 use Rattle.legalize.proofs.Turning.{pop-ready, count-fits, turn-keeps, turn-refuses, turn-flip-ready, turn-flips}
 use borrow.Author.Tests.{not-true, not-false}
 use borrow.Author.Needs.{needs}

@@ -2,7 +2,7 @@
 use borrow.Author.Needs.{needs}
 use native.Mathlib.Omega.{arith}
 use borrow.Author.Tests.{lt-ltb, le-ltb, eq-eqb, ne-eqb, le-leb, lt-leb}
-use Rattle.mesh_rules.specs.Sweep.{countsHold}
+use Rattle.mesh_rules.specs.Holds.{countsHold}
 use Rattle.mesh_rules.proofs.counts_hold.Statement.{statement}
 use Rattle.mesh_rules.proofs.counts_hold.Tie as tie
 

@@ -6,7 +6,7 @@ use mathlib.Core.Path.{_≡_, refl, sym, _∙_}
 use mathlib.Core.List.{List}
 use lib.Dec.{T}
 use Rattle.dcel.specs.Rows.{linksOf}
-use Rattle.mesh_rules.specs.Sweep.{halfEdgeHolds}
+use Rattle.mesh_rules.specs.Holds.{halfEdgeHolds}
 use Rattle.sums.specs.Bounded.{all-below}
 use Rattle.sums.specs.Bit.{from-true}
 use borrow.Author.Tests.{not-true, not-false}

@@ -6,7 +6,7 @@ use Prim.Native.Nat.{ℕ, _*_}
 use borrow.Author.Needs.{needs}
 use borrow.Author.Tests.{not-true, not-false}
 use Rattle.dcel.specs.Rows.{linksOf}
-use Rattle.mesh_rules.specs.Sweep.{HalvesSwept, halfEdgeHolds, outerHolds, countsHold}
+use Rattle.mesh_rules.specs.Holds.{HalvesHold, halfEdgeHolds, outerHolds, countsHold}
 use Rattle.sums.specs.Bit.{from-true}
 use Rattle.sums.specs.Bounded.{all-below}
 use Rattle.mesh_rules.proofs.Tests.{fails-counts, fails-halves, fails-outer, fails-whole, fails-inner, at-vertices, halves-there, faces-there, some-face, face-there, outer-in}
@@ -24,7 +24,7 @@ halves : (c : tie.Else2) (o a : List ℕ)
     → all-below (2 * start (c .before .before) .args .counts .edges) (halfEdgeHolds (start (c .before .before) .args .counts) (linksOf o (start (c .before .before) .args .halves .now) a)) ≡ true
 halves c o a = sym (c .before .half-edges-hold .ensures o a) ∙ not-false _ (c .if2 .left)
 
-swept : (c : tie.Else2) → HalvesSwept (start (c .before .before) .args .counts) (start (c .before .before) .args .halves .now)
+swept : (c : tie.Else2) → HalvesHold (start (c .before .before) .args .counts) (start (c .before .before) .args .halves .now)
 swept c = record { there = halves-there (start (c .before .before) .pre) (counts (c .before .before)); holds = λ o a. from-true (halves c o a) }
 
 outer : (c : tie.Else3) (o : List ℕ)

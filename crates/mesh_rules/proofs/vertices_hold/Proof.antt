@@ -7,7 +7,7 @@ use mathlib.Core.List.{List, []}
 use lib.Dec.{T}
 use Rattle.dcel.specs.Rows.{linksOf}
 use Rattle.mesh.specs.Mesh.{turn}
-use Rattle.mesh_rules.specs.Sweep.{vertexHolds}
+use Rattle.mesh_rules.specs.Holds.{vertexHolds}
 use Rattle.sums.specs.Bounded.{all-below}
 use Rattle.sums.specs.Bit.{from-true}
 use Rattle.sums.specs.Orbits.{orbitTotal, orbit-total-zero}

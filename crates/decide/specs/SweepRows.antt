@@ -25,7 +25,7 @@ use Rattle.decide.specs.Decide.{Decided}
 
 -- no boundary vertex is at the centre, which is valid: refusal 6 does not apply to the mesh as it stands; and the ring's rows hold its
 -- ring, which is sound
-pub record Sweep (C : Counts) (q : List ℤ) (o h a : List ℕ) (nodes : List Node) (freed buckets : List ℕ) (hull : Hull)
+pub record SweepRows (C : Counts) (q : List ℤ) (o h a : List ℕ) (nodes : List Node) (freed buckets : List ℕ) (hull : Hull)
     (cx cy : Float) : Type 0 where
   pub mesh : GoodRows C q o h a
   pub center : T (not (refusesCenter C (linksOf o h a) (positionOf q) cx cy))
@@ -37,7 +37,7 @@ pub record ToDecide (C : Counts) (q : List ℤ) (h : List ℕ) (nodes : List Nod
   pub outs : List ℕ
   pub faces : List ℕ
   pub freed : List ℕ
-  pub sweep : Sweep C q outs h faces nodes freed buckets hull cx cy
+  pub sweep : SweepRows C q outs h faces nodes freed buckets hull cx cy
   pub range : InRange v
 
 -- the angles of an added point, of the first vertex of the chain that it covers and of the last

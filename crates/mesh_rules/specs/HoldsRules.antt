@@ -1,4 +1,4 @@
--- The sweeps' tests together are the mesh rules (`sweep-rules`): from them the rules follow (`swept-wf`), and where the
+-- The sweeps' tests together are the mesh rules (`all-hold-rules`): from them the rules follow (`all-hold-wf`), and where the
 -- rules hold each of them passes (`wf-..`).
 -- Assumes nothing.
 use mathlib.Core.Path.{_≡_, refl, sym, _∙_, ap, subst}
@@ -17,7 +17,7 @@ use Rattle.mesh.specs.Rules.{every, halfEdgeInUse, halfEdgeLinked, rules}
 use Rattle.mesh.specs.RulesWf.{Each, each-of, every-of, rules-wf, wf-rules}
 use Rattle.mesh.specs.Wf.{Ranges, Linked, Wf}
 use Rattle.mesh.specs.WfParts.{InnerFace, OuterFace, AboutVertex, next-inverse, turn-inverse, wf-of, inner-is, outer-is, about-is}
-use Rattle.mesh_rules.specs.Sweep.{halfEdgeHolds, vertexHolds, faceHolds, innerFaceHolds, outerHolds, facesWhole, verticesWhole, verticesHold, countsHold, sweep}
+use Rattle.mesh_rules.specs.Holds.{halfEdgeHolds, vertexHolds, faceHolds, innerFaceHolds, outerHolds, facesWhole, verticesWhole, verticesHold, countsHold, allHold}
 use Rattle.sums.specs.Bit.{test-ext, and-left, and-right, and-both, or-cases, or-left, or-right, implies→, implies←, eq-test, ne-test}
 use Rattle.sums.specs.Bounded.{all-below, all-below→, all-below←}
 use Rattle.sums.specs.Half.{rev}
@@ -230,9 +230,9 @@ module _ (C : Counts) (L : Links) where
         go (inl t) = absurd (let q = ltb→lt 0 (L .face e) t in omega arith)
         go (inr t) = ltb→lt 0 (L .face (rev e)) t
 
-    pub swept-wf : T (facesWhole C L) → T (verticesWhole C L) → C .vertices + C .faces ≡ C .edges + 2 → Wf C L
+    pub all-hold-wf : T (facesWhole C L) → T (verticesWhole C L) → C .vertices + C .faces ≡ C .edges + 2 → Wf C L
     unfolding facesWhole verticesWhole
-    swept-wf f w euler = wf-of C L R K outer inner side about euler some
+    all-hold-wf f w euler = wf-of C L R K outer inner side about euler some
       where
         R : Ranges C L
         R = swept-ranges
@@ -336,9 +336,9 @@ module _ (C : Counts) (L : Links) where
         about-is C L W (L .origin e) (W .ranges .origin< l) .all e l refl))
 
   -- ---- the sweeps answer what the rules say
-  from-sweep : T (sweep C L) → T (rules C L)
-  unfolding sweep countsHold verticesHold innerFaceHolds
-  from-sweep h =
+  from-all-hold : T (allHold C L) → T (rules C L)
+  unfolding allHold countsHold verticesHold innerFaceHolds
+  from-all-hold h =
       let whole = verticesWhole C L in
       let based = all-below (C .vertices) (vertexHolds C L) in
       let inner = all-below (C .faces) (innerFaceHolds C L) in
@@ -355,7 +355,7 @@ module _ (C : Counts) (L : Links) where
       let h₃ = and-right (outerHolds C L) r₃ h₂ in
       let h₄ = and-right (facesWhole C L) r₄ h₃ in
       let h₅ = and-right inner (based && whole) h₄ in
-      wf-rules C L (swept-wf
+      wf-rules C L (all-hold-wf
       (λ e l. half-of e (all-below→ E (halfEdgeHolds C L) (and-left halves r₂ h₁) e l))
       (λ v l. based-of v (all-below→ (C .vertices) (vertexHolds C L) (and-left based whole h₅) v l))
       (wide-of (and-left (outerHolds C L) r₃ h₂))
@@ -365,9 +365,9 @@ module _ (C : Counts) (L : Links) where
       (and-right based whole h₅)
       (eqb→eq (C .vertices + C .faces) (C .edges + 2) (and-left euler fit (and-right some (euler && fit) hc))))
 
-  to-sweep : T (rules C L) → T (sweep C L)
-  unfolding sweep countsHold verticesHold innerFaceHolds
-  to-sweep r =
+  to-all-hold : T (rules C L) → T (allHold C L)
+  unfolding allHold countsHold verticesHold innerFaceHolds
+  to-all-hold r =
       let W = rules-wf C L r in
       let whole = verticesWhole C L in
       let based = all-below (C .vertices) (vertexHolds C L) in
@@ -390,5 +390,5 @@ module _ (C : Counts) (L : Links) where
       (and-both inner (based && whole) (all-below← (C .faces) (innerFaceHolds C L) (λ f l. implies← (ltb 0 f) (faceHolds C L f) (λ t. wf-face W f l (ltb→lt 0 f t))))
       (and-both based whole (all-below← (C .vertices) (vertexHolds C L) (wf-vertex W)) (wf-vertices-whole W))))))
 
-  pub sweep-rules : sweep C L ≡ rules C L
-  sweep-rules = test-ext (sweep C L) (rules C L) from-sweep to-sweep
+  pub all-hold-rules : allHold C L ≡ rules C L
+  all-hold-rules = test-ext (allHold C L) (rules C L) from-all-hold to-all-hold

@@ -28,7 +28,7 @@ use Rattle.segment.specs.Arc.{holds}
 use Rattle.segment.specs.Bucket.{floorOf}
 use Rattle.decide.specs.declared.Fate.the-variants.{AtCenter}
 use Rattle.decide.specs.Decide.{decided, decidedAt, notAdded}
-use Rattle.decide.specs.Sweep.{Sweep}
+use Rattle.decide.specs.SweepRows.{SweepRows}
 use Rattle.decide.specs.Walks.{LocatedRows}
 
 -- ---- the decision by whether the point is at the centre
@@ -45,7 +45,7 @@ module _ (cx cy : Float) (C : Counts) (L : Links) (p : ℕ → Point) (v : Point
 
 -- ---- the mesh and its ring
 module _ {C : Counts} {q : List ℤ} {o h a : List ℕ} {nodes : List Node} {freed buckets : List ℕ} {hull : Hull} {cx cy : Float}
-    (S : Sweep C q o h a nodes freed buckets hull cx cy) where
+    (S : SweepRows C q o h a nodes freed buckets hull cx cy) where
   pub sweep-center : T (validCenter cx cy)
   sweep-center = angled-boundary (held (S .mesh)) q (S .mesh .positions) cx cy (S .center) .valid
 

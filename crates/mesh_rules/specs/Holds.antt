@@ -71,8 +71,8 @@ countsHold C =
     && (leb (C .edges) (3 * C .vertices) && leb (C .faces) (2 * C .vertices)))
 
 -- all tests, in the order in which they are made
-unfoldable pub sweep : Counts → Links → Bool
-sweep C L =
+unfoldable pub allHold : Counts → Links → Bool
+allHold C L =
     countsHold C && (all-below (2 * C .edges) (halfEdgeHolds C L) &&
     (outerHolds C L && (facesWhole C L && (all-below (C .faces) (innerFaceHolds C L) && verticesHold C L))))
 
@@ -83,7 +83,7 @@ pub record HalvesThere (C : Counts) (h : List ℕ) : Type 0 where
   pub small : C .edges < 2 ^ 31
 
 -- every half-edge passed its test, whatever the other rows hold
-pub record HalvesSwept (C : Counts) (h : List ℕ) : Type 0 where
+pub record HalvesHold (C : Counts) (h : List ℕ) : Type 0 where
   pub there : HalvesThere C h
   pub holds : (o a : List ℕ) → T (all-below (2 * C .edges) (halfEdgeHolds C (linksOf o h a)))
 
