@@ -6,8 +6,8 @@ use Rattle.angle.proofs.Point2
 use Rattle.angle.proofs.Point2.Laws
 use Rattle.apply.proofs.Entered
 use Rattle.apply.proofs.Entered.Laws as Laws'
-use Rattle.corner.proofs.Added
-use Rattle.corner.proofs.Added.Laws as Laws''
+use Rattle.corner.proofs.Extension
+use Rattle.corner.proofs.Extension.Laws as Laws''
 use Rattle.decide.proofs.Decision
 use Rattle.decide.proofs.Decision.Laws as Laws'3
 use Rattle.decide.proofs.Fate
@@ -158,19 +158,19 @@ abbrev ty·23 : Syntax.Ty
 ty·23 = Syntax.tyEnum (List._∷_ 100 (List._∷_ 101 (List._∷_ 99 (List._∷_ 105 (List._∷_ 100 (List._∷_ 101 (List._∷_ 58 (List._∷_ 58 (List._∷_ 70 (List._∷_ 97 (List._∷_ 116 (List._∷_ 101 List.[])))))))))))) (Syntax.ttcons (Syntax.tcons ty·0 Syntax.tnil) (Syntax.ttcons Syntax.tnil (Syntax.ttcons Syntax.tnil (Syntax.ttcons Syntax.tnil (Syntax.ttcons Syntax.tnil Syntax.ttnil)))))
 
 abbrev ty·24 : Syntax.Ty
-ty·24 = Syntax.tyStruct (List._∷_ 99 (List._∷_ 111 (List._∷_ 114 (List._∷_ 110 (List._∷_ 101 (List._∷_ 114 (List._∷_ 58 (List._∷_ 58 (List._∷_ 65 (List._∷_ 100 (List._∷_ 100 (List._∷_ 101 (List._∷_ 100 List.[]))))))))))))) (Syntax.tcons ty·21 (Syntax.tcons ty·0 (Syntax.tcons ty·1 (Syntax.tcons Syntax.tyBool Syntax.tnil))))
+ty·24 = Syntax.tyStruct (List._∷_ 115 (List._∷_ 119 (List._∷_ 101 (List._∷_ 101 (List._∷_ 112 (List._∷_ 58 (List._∷_ 58 (List._∷_ 65 (List._∷_ 110 (List._∷_ 115 (List._∷_ 119 (List._∷_ 101 (List._∷_ 114 List.[]))))))))))))) (Syntax.tcons ty·23 (Syntax.tcons ty·0 (Syntax.tcons ty·1 Syntax.tnil)))
 
 abbrev ty·25 : Syntax.Ty
-ty·25 = Syntax.tyStruct (List._∷_ 115 (List._∷_ 119 (List._∷_ 101 (List._∷_ 101 (List._∷_ 112 (List._∷_ 58 (List._∷_ 58 (List._∷_ 65 (List._∷_ 110 (List._∷_ 115 (List._∷_ 119 (List._∷_ 101 (List._∷_ 114 List.[]))))))))))))) (Syntax.tcons ty·23 (Syntax.tcons ty·0 (Syntax.tcons ty·1 Syntax.tnil)))
+ty·25 = Syntax.tyStruct (List._∷_ 99 (List._∷_ 111 (List._∷_ 114 (List._∷_ 110 (List._∷_ 101 (List._∷_ 114 (List._∷_ 58 (List._∷_ 58 (List._∷_ 69 (List._∷_ 120 (List._∷_ 116 (List._∷_ 101 (List._∷_ 110 (List._∷_ 115 (List._∷_ 105 (List._∷_ 111 (List._∷_ 110 List.[]))))))))))))))))) (Syntax.tcons ty·21 (Syntax.tcons ty·0 (Syntax.tcons ty·1 (Syntax.tcons Syntax.tyBool Syntax.tnil))))
 
 abbrev ty·26 : Syntax.Ty
 ty·26 = Syntax.tyStruct (List._∷_ 100 (List._∷_ 101 (List._∷_ 99 (List._∷_ 105 (List._∷_ 100 (List._∷_ 101 (List._∷_ 58 (List._∷_ 58 (List._∷_ 68 (List._∷_ 101 (List._∷_ 99 (List._∷_ 105 (List._∷_ 115 (List._∷_ 105 (List._∷_ 111 (List._∷_ 110 List.[])))))))))))))))) (Syntax.tcons ty·23 (Syntax.tcons ty·0 (Syntax.tcons ty·0 (Syntax.tcons ty·0 (Syntax.tcons ty·2 (Syntax.tcons ty·2 (Syntax.tcons ty·2 Syntax.tnil)))))))
 
 abbrev ty·27 : Syntax.Ty
-ty·27 = Syntax.tyStruct (List._∷_ 97 (List._∷_ 112 (List._∷_ 112 (List._∷_ 108 (List._∷_ 121 (List._∷_ 58 (List._∷_ 58 (List._∷_ 69 (List._∷_ 110 (List._∷_ 116 (List._∷_ 101 (List._∷_ 114 (List._∷_ 101 (List._∷_ 100 List.[])))))))))))))) (Syntax.tcons ty·24 (Syntax.tcons ty·0 (Syntax.tcons ty·0 Syntax.tnil)))
+ty·27 = Syntax.tyStruct (List._∷_ 97 (List._∷_ 112 (List._∷_ 112 (List._∷_ 108 (List._∷_ 121 (List._∷_ 58 (List._∷_ 58 (List._∷_ 69 (List._∷_ 110 (List._∷_ 116 (List._∷_ 101 (List._∷_ 114 (List._∷_ 101 (List._∷_ 100 List.[])))))))))))))) (Syntax.tcons ty·25 (Syntax.tcons ty·0 (Syntax.tcons ty·0 Syntax.tnil)))
 
 abbrev ty·28 : Syntax.Ty
-ty·28 = Syntax.tyStruct (List._∷_ 115 (List._∷_ 116 (List._∷_ 101 (List._∷_ 112 (List._∷_ 58 (List._∷_ 58 (List._∷_ 80 (List._∷_ 114 (List._∷_ 111 (List._∷_ 103 (List._∷_ 114 (List._∷_ 101 (List._∷_ 115 (List._∷_ 115 List.[])))))))))))))) (Syntax.tcons ty·21 (Syntax.tcons ty·22 (Syntax.tcons ty·25 (Syntax.tcons Syntax.tyBool Syntax.tnil))))
+ty·28 = Syntax.tyStruct (List._∷_ 115 (List._∷_ 116 (List._∷_ 101 (List._∷_ 112 (List._∷_ 58 (List._∷_ 58 (List._∷_ 80 (List._∷_ 114 (List._∷_ 111 (List._∷_ 103 (List._∷_ 114 (List._∷_ 101 (List._∷_ 115 (List._∷_ 115 List.[])))))))))))))) (Syntax.tcons ty·21 (Syntax.tcons ty·22 (Syntax.tcons ty·24 (Syntax.tcons Syntax.tyBool Syntax.tnil))))
 
 abbrev pub ps : List.List (Kinds.PK 8)
 ps = List._∷_ (MutSlice.pMutS (Signed.SInt Syntax.w32) 0 tt) (List._∷_ (MutSlice.pMutS (Referent.rtF (Referent.fInt Syntax.w32)) 1 tt) (List._∷_ (MutSlice.pMutS (Referent.rtF (Referent.fInt Syntax.w32)) 2 tt) (List._∷_ (MutSlice.pMutS (Referent.rtF (Referent.fInt Syntax.w32)) 3 tt) (List._∷_ (MutSlice.pMutS (Referent.rtF (Referent.fInt Syntax.w32)) 4 tt) (List._∷_ (MutSlice.pMutS ELEM.the-row 5 tt) (List._∷_ (MutSlice.pMutS (Referent.rtF (Referent.fInt Syntax.w32)) 6 tt) (List._∷_ (MutSlice.pMutS (Referent.rtF (Referent.fInt Syntax.w32)) 7 tt) (List._∷_ (Value.pVal record { ty = Declared'.row Counts.the-type; one = Path'.refl; val = Laws'11.val Counts.the-type Laws'6.the-laws; tells = Laws'11.tells Counts.the-type Laws'6.the-laws; still = Laws'11.still Counts.the-type Laws'6.the-copy Exit.yes; row = Rows.whole (Declared'.row Counts.the-type); rd = λ x. x; mk = λ x. x } λ M 𝓤 H A W. record { copies = Laws'11.copy Counts.the-type Laws'6.the-copy 𝓤 H A W; lawful = Laws'11.lawful Counts.the-type Laws'6.the-laws 𝓤 H A W; makes = Laws'11.makes Counts.the-type Laws'6.the-plain 𝓤 H A; in-mem = Local.mem-whole 𝓤 H A W (Declared'.row Counts.the-type); of-mem = Local.whole-mem 𝓤 H A W (Declared'.row Counts.the-type) }) (List._∷_ (Value.pVal record { ty = Declared'.row Hull.the-type; one = Path'.refl; val = Laws'11.val Hull.the-type Laws'7.the-laws; tells = Laws'11.tells Hull.the-type Laws'7.the-laws; still = Laws'11.still Hull.the-type Laws'7.the-copy Exit.yes; row = Rows.whole (Declared'.row Hull.the-type); rd = λ x. x; mk = λ x. x } λ M 𝓤 H A W. record { copies = Laws'11.copy Hull.the-type Laws'7.the-copy 𝓤 H A W; lawful = Laws'11.lawful Hull.the-type Laws'7.the-laws 𝓤 H A W; makes = Laws'11.makes Hull.the-type Laws'7.the-plain 𝓤 H A; in-mem = Local.mem-whole 𝓤 H A W (Declared'.row Hull.the-type); of-mem = Local.whole-mem 𝓤 H A W (Declared'.row Hull.the-type) }) (List._∷_ (Value.pVal record { ty = Declared'.row Point2.the-type; one = Path'.refl; val = Laws'11.val Point2.the-type Laws.the-laws; tells = Laws'11.tells Point2.the-type Laws.the-laws; still = Laws'11.still Point2.the-type Laws.the-copy Exit.yes; row = Rows.whole (Declared'.row Point2.the-type); rd = λ x. x; mk = λ x. x } λ M 𝓤 H A W. record { copies = Laws'11.copy Point2.the-type Laws.the-copy 𝓤 H A W; lawful = Laws'11.lawful Point2.the-type Laws.the-laws 𝓤 H A W; makes = Laws'11.makes Point2.the-type Laws.the-plain 𝓤 H A; in-mem = Local.mem-whole 𝓤 H A W (Declared'.row Point2.the-type); of-mem = Local.whole-mem 𝓤 H A W (Declared'.row Point2.the-type) }) (List._∷_ (Value.pVal record { ty = Declared'.row Point.the-type; one = Path'.refl; val = Laws'11.val Point.the-type Laws'5.the-laws; tells = Laws'11.tells Point.the-type Laws'5.the-laws; still = Laws'11.still Point.the-type Laws'5.the-copy Exit.yes; row = Rows.whole (Declared'.row Point.the-type); rd = λ x. x; mk = λ x. x } λ M 𝓤 H A W. record { copies = Laws'11.copy Point.the-type Laws'5.the-copy 𝓤 H A W; lawful = Laws'11.lawful Point.the-type Laws'5.the-laws 𝓤 H A W; makes = Laws'11.makes Point.the-type Laws'5.the-plain 𝓤 H A; in-mem = Local.mem-whole 𝓤 H A W (Declared'.row Point.the-type); of-mem = Local.whole-mem 𝓤 H A W (Declared'.row Point.the-type) }) List.[])))))))))))
@@ -179,7 +179,7 @@ abbrev pub r : Kinds.RK 8
 r = Value.rVal record { ty = Declared'.row Progress.the-type; one = Path'.refl; val = Laws'11.val Progress.the-type Laws'8.the-laws; tells = Laws'11.tells Progress.the-type Laws'8.the-laws; still = Laws'11.still Progress.the-type Laws'8.the-copy Exit.yes; row = Rows.whole (Declared'.row Progress.the-type); rd = λ x. x; mk = λ x. x } λ M 𝓤 H A W. record { copies = Laws'11.copy Progress.the-type Laws'8.the-copy 𝓤 H A W; lawful = Laws'11.lawful Progress.the-type Laws'8.the-laws 𝓤 H A W; makes = Laws'11.makes Progress.the-type Laws'8.the-plain 𝓤 H A; in-mem = Local.mem-whole 𝓤 H A W (Declared'.row Progress.the-type); of-mem = Local.whole-mem 𝓤 H A W (Declared'.row Progress.the-type) }
 
 abbrev pub xs : List.List Syntax.Ty
-xs = List._∷_ ty·26 (List._∷_ ty·23 (List._∷_ ty·24 (List._∷_ ty·27 (List._∷_ ty·24 (List._∷_ ty·22 (List._∷_ ty·3 (List._∷_ ty·15 (List._∷_ ty·3 (List._∷_ ty·15 (List._∷_ ty·12 (List._∷_ ty·17 (List._∷_ ty·3 (List._∷_ ty·15 (List._∷_ Syntax.tyBool (List._∷_ Syntax.tyBool (List._∷_ ty·4 (List._∷_ ty·16 (List._∷_ ty·4 (List._∷_ ty·16 (List._∷_ ty·4 (List._∷_ ty·16 (List._∷_ ty·4 (List._∷_ ty·16 (List._∷_ ty·4 (List._∷_ ty·16 (List._∷_ ty·13 (List._∷_ ty·18 (List._∷_ ty·4 (List._∷_ ty·16 (List._∷_ ty·4 (List._∷_ ty·16 List.[])))))))))))))))))))))))))))))))
+xs = List._∷_ ty·26 (List._∷_ ty·23 (List._∷_ ty·25 (List._∷_ ty·27 (List._∷_ ty·25 (List._∷_ ty·22 (List._∷_ ty·3 (List._∷_ ty·15 (List._∷_ ty·3 (List._∷_ ty·15 (List._∷_ ty·12 (List._∷_ ty·17 (List._∷_ ty·3 (List._∷_ ty·15 (List._∷_ Syntax.tyBool (List._∷_ Syntax.tyBool (List._∷_ ty·4 (List._∷_ ty·16 (List._∷_ ty·4 (List._∷_ ty·16 (List._∷_ ty·4 (List._∷_ ty·16 (List._∷_ ty·4 (List._∷_ ty·16 (List._∷_ ty·4 (List._∷_ ty·16 (List._∷_ ty·13 (List._∷_ ty·18 (List._∷_ ty·4 (List._∷_ ty·16 (List._∷_ ty·4 (List._∷_ ty·16 List.[])))))))))))))))))))))))))))))))
 
 abbrev pub m : Nat.ℕ
 m = 12
@@ -197,7 +197,7 @@ abbrev pub r·1 : Kinds.RK 0
 r·1 = Bool.rBool
 
 abbrev pub ps·2 : List.List (Kinds.PK 0)
-ps·2 = List._∷_ (Value.pVal record { ty = Declared'.row Added.the-type; one = Path'.refl; val = Laws'11.val Added.the-type Laws''.the-laws; tells = Laws'11.tells Added.the-type Laws''.the-laws; still = Laws'11.still Added.the-type Laws''.the-copy Exit.yes; row = Rows.whole (Declared'.row Added.the-type); rd = λ x. x; mk = λ x. x } λ M 𝓤 H A W. record { copies = Laws'11.copy Added.the-type Laws''.the-copy 𝓤 H A W; lawful = Laws'11.lawful Added.the-type Laws''.the-laws 𝓤 H A W; makes = Laws'11.makes Added.the-type Laws''.the-plain 𝓤 H A; in-mem = Local.mem-whole 𝓤 H A W (Declared'.row Added.the-type); of-mem = Local.whole-mem 𝓤 H A W (Declared'.row Added.the-type) }) (List._∷_ (Value.pVal record { ty = Declared'.row Hull.the-type; one = Path'.refl; val = Laws'11.val Hull.the-type Laws'7.the-laws; tells = Laws'11.tells Hull.the-type Laws'7.the-laws; still = Laws'11.still Hull.the-type Laws'7.the-copy Exit.yes; row = Rows.whole (Declared'.row Hull.the-type); rd = λ x. x; mk = λ x. x } λ M 𝓤 H A W. record { copies = Laws'11.copy Hull.the-type Laws'7.the-copy 𝓤 H A W; lawful = Laws'11.lawful Hull.the-type Laws'7.the-laws 𝓤 H A W; makes = Laws'11.makes Hull.the-type Laws'7.the-plain 𝓤 H A; in-mem = Local.mem-whole 𝓤 H A W (Declared'.row Hull.the-type); of-mem = Local.whole-mem 𝓤 H A W (Declared'.row Hull.the-type) }) (List._∷_ (Value.pVal record { ty = Declared.row Fate.the-type; one = Path'.refl; val = Laws'9.val Fate.the-type Laws'4.the-laws; tells = Laws'9.tells Fate.the-type Laws'4.the-laws; still = Laws'9.still Fate.the-type Laws'4.the-copy Exit.yes; row = Rows.whole (Declared.row Fate.the-type); rd = λ x. x; mk = λ x. x } λ M 𝓤 H A W. record { copies = Laws'9.copy Fate.the-type Laws'4.the-copy 𝓤 H A W; lawful = Laws'9.lawful Fate.the-type Laws'4.the-laws 𝓤 H A W tt; makes = Laws'9.makes Fate.the-type Laws'4.the-plain 𝓤 H A; in-mem = Local.mem-whole 𝓤 H A W (Declared.row Fate.the-type); of-mem = Local.whole-mem 𝓤 H A W (Declared.row Fate.the-type) }) List.[]))
+ps·2 = List._∷_ (Value.pVal record { ty = Declared'.row Extension.the-type; one = Path'.refl; val = Laws'11.val Extension.the-type Laws''.the-laws; tells = Laws'11.tells Extension.the-type Laws''.the-laws; still = Laws'11.still Extension.the-type Laws''.the-copy Exit.yes; row = Rows.whole (Declared'.row Extension.the-type); rd = λ x. x; mk = λ x. x } λ M 𝓤 H A W. record { copies = Laws'11.copy Extension.the-type Laws''.the-copy 𝓤 H A W; lawful = Laws'11.lawful Extension.the-type Laws''.the-laws 𝓤 H A W; makes = Laws'11.makes Extension.the-type Laws''.the-plain 𝓤 H A; in-mem = Local.mem-whole 𝓤 H A W (Declared'.row Extension.the-type); of-mem = Local.whole-mem 𝓤 H A W (Declared'.row Extension.the-type) }) (List._∷_ (Value.pVal record { ty = Declared'.row Hull.the-type; one = Path'.refl; val = Laws'11.val Hull.the-type Laws'7.the-laws; tells = Laws'11.tells Hull.the-type Laws'7.the-laws; still = Laws'11.still Hull.the-type Laws'7.the-copy Exit.yes; row = Rows.whole (Declared'.row Hull.the-type); rd = λ x. x; mk = λ x. x } λ M 𝓤 H A W. record { copies = Laws'11.copy Hull.the-type Laws'7.the-copy 𝓤 H A W; lawful = Laws'11.lawful Hull.the-type Laws'7.the-laws 𝓤 H A W; makes = Laws'11.makes Hull.the-type Laws'7.the-plain 𝓤 H A; in-mem = Local.mem-whole 𝓤 H A W (Declared'.row Hull.the-type); of-mem = Local.whole-mem 𝓤 H A W (Declared'.row Hull.the-type) }) (List._∷_ (Value.pVal record { ty = Declared.row Fate.the-type; one = Path'.refl; val = Laws'9.val Fate.the-type Laws'4.the-laws; tells = Laws'9.tells Fate.the-type Laws'4.the-laws; still = Laws'9.still Fate.the-type Laws'4.the-copy Exit.yes; row = Rows.whole (Declared.row Fate.the-type); rd = λ x. x; mk = λ x. x } λ M 𝓤 H A W. record { copies = Laws'9.copy Fate.the-type Laws'4.the-copy 𝓤 H A W; lawful = Laws'9.lawful Fate.the-type Laws'4.the-laws 𝓤 H A W tt; makes = Laws'9.makes Fate.the-type Laws'4.the-plain 𝓤 H A; in-mem = Local.mem-whole 𝓤 H A W (Declared.row Fate.the-type); of-mem = Local.whole-mem 𝓤 H A W (Declared.row Fate.the-type) }) List.[]))
 
 abbrev pub r·2 : Kinds.RK 0
 r·2 = Value.rVal record { ty = Declared'.row Progress.the-type; one = Path'.refl; val = Laws'11.val Progress.the-type Laws'8.the-laws; tells = Laws'11.tells Progress.the-type Laws'8.the-laws; still = Laws'11.still Progress.the-type Laws'8.the-copy Exit.yes; row = Rows.whole (Declared'.row Progress.the-type); rd = λ x. x; mk = λ x. x } λ M 𝓤 H A W. record { copies = Laws'11.copy Progress.the-type Laws'8.the-copy 𝓤 H A W; lawful = Laws'11.lawful Progress.the-type Laws'8.the-laws 𝓤 H A W; makes = Laws'11.makes Progress.the-type Laws'8.the-plain 𝓤 H A; in-mem = Local.mem-whole 𝓤 H A W (Declared'.row Progress.the-type); of-mem = Local.whole-mem 𝓤 H A W (Declared'.row Progress.the-type) }
@@ -467,136 +467,136 @@ abbrev pub Claims : Type 1
 Claims = Kinds.In 4 ps·0 × Kinds.Out 4 ps·0 r·0 × Kinds.In 0 ps·1 × Kinds.Out 0 ps·1 r·1 × Kinds.In 0 ps·2 × Kinds.Out 0 ps·2 r·2 × Kinds.In 5 ps·3 × Kinds.Out 5 ps·3 r·3 × Kinds.In 3 ps·4 × Kinds.Out 3 ps·4 r·4
 
 abbrev pub t0 : List.List Row.Entry
-t0 = List._∷_ (0, Rows.any-gone ty·28) (List._∷_ (1, Mut.mslice (Signed.SInt Syntax.w32) ty·5 0) (List._∷_ (2, Mut.mslice (Referent.rtF (Referent.fInt Syntax.w32)) ty·6 1) (List._∷_ (3, Mut.mslice (Referent.rtF (Referent.fInt Syntax.w32)) ty·7 2) (List._∷_ (4, Mut.mslice (Referent.rtF (Referent.fInt Syntax.w32)) ty·8 3) (List._∷_ (5, Mut.mslice (Referent.rtF (Referent.fInt Syntax.w32)) ty·9 4) (List._∷_ (6, Mut.mslice ELEM.the-row ty·14 5) (List._∷_ (7, Mut.mslice (Referent.rtF (Referent.fInt Syntax.w32)) ty·10 6) (List._∷_ (8, Mut.mslice (Referent.rtF (Referent.fInt Syntax.w32)) ty·11 7) (List._∷_ (9, Rows.whole (Declared'.row Counts.the-type)) (List._∷_ (10, Rows.whole (Declared'.row Hull.the-type)) (List._∷_ (11, Rows.whole (Declared'.row Point2.the-type)) (List._∷_ (12, Rows.whole (Declared'.row Point.the-type)) (List._∷_ (13, Rows.any-gone ty·26) (List._∷_ (14, Rows.any-gone ty·23) (List._∷_ (15, Rows.any-gone ty·24) List.[])))))))))))))))
+t0 = List._∷_ (0, Rows.any-gone ty·28) (List._∷_ (1, Mut.mslice (Signed.SInt Syntax.w32) ty·5 0) (List._∷_ (2, Mut.mslice (Referent.rtF (Referent.fInt Syntax.w32)) ty·6 1) (List._∷_ (3, Mut.mslice (Referent.rtF (Referent.fInt Syntax.w32)) ty·7 2) (List._∷_ (4, Mut.mslice (Referent.rtF (Referent.fInt Syntax.w32)) ty·8 3) (List._∷_ (5, Mut.mslice (Referent.rtF (Referent.fInt Syntax.w32)) ty·9 4) (List._∷_ (6, Mut.mslice ELEM.the-row ty·14 5) (List._∷_ (7, Mut.mslice (Referent.rtF (Referent.fInt Syntax.w32)) ty·10 6) (List._∷_ (8, Mut.mslice (Referent.rtF (Referent.fInt Syntax.w32)) ty·11 7) (List._∷_ (9, Rows.whole (Declared'.row Counts.the-type)) (List._∷_ (10, Rows.whole (Declared'.row Hull.the-type)) (List._∷_ (11, Rows.whole (Declared'.row Point2.the-type)) (List._∷_ (12, Rows.whole (Declared'.row Point.the-type)) (List._∷_ (13, Rows.any-gone ty·26) (List._∷_ (14, Rows.any-gone ty·23) (List._∷_ (15, Rows.any-gone ty·25) List.[])))))))))))))))
 
 abbrev pub t1 : List.List Row.Entry
-t1 = List._∷_ (16, Rows.any-gone ty·27) (List._∷_ (17, Rows.any-gone ty·24) (List._∷_ (18, Rows.any-gone ty·22) (List._∷_ (19, Rows.any-gone ty·3) (List._∷_ (20, Rows.any-gone ty·15) (List._∷_ (21, Rows.any-gone ty·3) (List._∷_ (22, Rows.any-gone ty·15) (List._∷_ (23, Rows.any-gone ty·12) (List._∷_ (24, Rows.any-gone ty·17) (List._∷_ (25, Rows.any-gone ty·3) (List._∷_ (26, Rows.any-gone ty·15) (List._∷_ (27, Rows.any-gone Syntax.tyBool) (List._∷_ (28, Rows.any-gone Syntax.tyBool) (List._∷_ (29, Rows.any-gone ty·4) (List._∷_ (30, Rows.any-gone ty·16) (List._∷_ (31, Rows.any-gone ty·4) List.[])))))))))))))))
+t1 = List._∷_ (16, Rows.any-gone ty·27) (List._∷_ (17, Rows.any-gone ty·25) (List._∷_ (18, Rows.any-gone ty·22) (List._∷_ (19, Rows.any-gone ty·3) (List._∷_ (20, Rows.any-gone ty·15) (List._∷_ (21, Rows.any-gone ty·3) (List._∷_ (22, Rows.any-gone ty·15) (List._∷_ (23, Rows.any-gone ty·12) (List._∷_ (24, Rows.any-gone ty·17) (List._∷_ (25, Rows.any-gone ty·3) (List._∷_ (26, Rows.any-gone ty·15) (List._∷_ (27, Rows.any-gone Syntax.tyBool) (List._∷_ (28, Rows.any-gone Syntax.tyBool) (List._∷_ (29, Rows.any-gone ty·4) (List._∷_ (30, Rows.any-gone ty·16) (List._∷_ (31, Rows.any-gone ty·4) List.[])))))))))))))))
 
 abbrev pub t2 : List.List Row.Entry
 t2 = List._∷_ (32, Rows.any-gone ty·16) (List._∷_ (33, Rows.any-gone ty·4) (List._∷_ (34, Rows.any-gone ty·16) (List._∷_ (35, Rows.any-gone ty·4) (List._∷_ (36, Rows.any-gone ty·16) (List._∷_ (37, Rows.any-gone ty·4) (List._∷_ (38, Rows.any-gone ty·16) (List._∷_ (39, Rows.any-gone ty·13) (List._∷_ (40, Rows.any-gone ty·18) (List._∷_ (41, Rows.any-gone ty·4) (List._∷_ (42, Rows.any-gone ty·16) (List._∷_ (43, Rows.any-gone ty·4) (List._∷_ (44, Rows.any-gone ty·16) List.[]))))))))))))
 
 abbrev pub t3 : List.List Row.Entry
-t3 = List._∷_ (0, Rows.whole (Declared'.row Progress.the-type)) (List._∷_ (1, Mut.mslice (Signed.SInt Syntax.w32) ty·5 0) (List._∷_ (2, Mut.mslice (Referent.rtF (Referent.fInt Syntax.w32)) ty·6 1) (List._∷_ (3, Mut.mslice (Referent.rtF (Referent.fInt Syntax.w32)) ty·7 2) (List._∷_ (4, Mut.mslice (Referent.rtF (Referent.fInt Syntax.w32)) ty·8 3) (List._∷_ (5, Mut.mslice (Referent.rtF (Referent.fInt Syntax.w32)) ty·9 4) (List._∷_ (6, Mut.mslice ELEM.the-row ty·14 5) (List._∷_ (7, Mut.mslice (Referent.rtF (Referent.fInt Syntax.w32)) ty·10 6) (List._∷_ (8, Mut.mslice (Referent.rtF (Referent.fInt Syntax.w32)) ty·11 7) (List._∷_ (9, Rows.any-gone ty·21) (List._∷_ (10, Rows.any-gone ty·22) (List._∷_ (11, Rows.any-gone ty·20) (List._∷_ (12, Rows.any-gone ty·19) (List._∷_ (13, Rows.any-gone ty·26) (List._∷_ (14, Rows.any-gone ty·23) (List._∷_ (15, Rows.any-gone ty·24) List.[])))))))))))))))
+t3 = List._∷_ (0, Rows.whole (Declared'.row Progress.the-type)) (List._∷_ (1, Mut.mslice (Signed.SInt Syntax.w32) ty·5 0) (List._∷_ (2, Mut.mslice (Referent.rtF (Referent.fInt Syntax.w32)) ty·6 1) (List._∷_ (3, Mut.mslice (Referent.rtF (Referent.fInt Syntax.w32)) ty·7 2) (List._∷_ (4, Mut.mslice (Referent.rtF (Referent.fInt Syntax.w32)) ty·8 3) (List._∷_ (5, Mut.mslice (Referent.rtF (Referent.fInt Syntax.w32)) ty·9 4) (List._∷_ (6, Mut.mslice ELEM.the-row ty·14 5) (List._∷_ (7, Mut.mslice (Referent.rtF (Referent.fInt Syntax.w32)) ty·10 6) (List._∷_ (8, Mut.mslice (Referent.rtF (Referent.fInt Syntax.w32)) ty·11 7) (List._∷_ (9, Rows.any-gone ty·21) (List._∷_ (10, Rows.any-gone ty·22) (List._∷_ (11, Rows.any-gone ty·20) (List._∷_ (12, Rows.any-gone ty·19) (List._∷_ (13, Rows.any-gone ty·26) (List._∷_ (14, Rows.any-gone ty·23) (List._∷_ (15, Rows.any-gone ty·25) List.[])))))))))))))))
 
 abbrev pub t4 : List.List Row.Entry
-t4 = List._∷_ (0, Rows.any-gone ty·28) (List._∷_ (1, Reshare.mslice-owedS (Signed.SInt Syntax.w32) ty·5 0 8 Row.off) (List._∷_ (2, Mut.mslice (Referent.rtF (Referent.fInt Syntax.w32)) ty·6 1) (List._∷_ (3, Mut.mslice (Referent.rtF (Referent.fInt Syntax.w32)) ty·7 2) (List._∷_ (4, Mut.mslice (Referent.rtF (Referent.fInt Syntax.w32)) ty·8 3) (List._∷_ (5, Mut.mslice (Referent.rtF (Referent.fInt Syntax.w32)) ty·9 4) (List._∷_ (6, Mut.mslice ELEM.the-row ty·14 5) (List._∷_ (7, Mut.mslice (Referent.rtF (Referent.fInt Syntax.w32)) ty·10 6) (List._∷_ (8, Mut.mslice (Referent.rtF (Referent.fInt Syntax.w32)) ty·11 7) (List._∷_ (9, Rows.whole (Declared'.row Counts.the-type)) (List._∷_ (10, Rows.whole (Declared'.row Hull.the-type)) (List._∷_ (11, Rows.whole (Declared'.row Point2.the-type)) (List._∷_ (12, Rows.whole (Declared'.row Point.the-type)) (List._∷_ (13, Rows.any-gone ty·26) (List._∷_ (14, Rows.any-gone ty·23) (List._∷_ (15, Rows.any-gone ty·24) List.[])))))))))))))))
+t4 = List._∷_ (0, Rows.any-gone ty·28) (List._∷_ (1, Reshare.mslice-owedS (Signed.SInt Syntax.w32) ty·5 0 8 Row.off) (List._∷_ (2, Mut.mslice (Referent.rtF (Referent.fInt Syntax.w32)) ty·6 1) (List._∷_ (3, Mut.mslice (Referent.rtF (Referent.fInt Syntax.w32)) ty·7 2) (List._∷_ (4, Mut.mslice (Referent.rtF (Referent.fInt Syntax.w32)) ty·8 3) (List._∷_ (5, Mut.mslice (Referent.rtF (Referent.fInt Syntax.w32)) ty·9 4) (List._∷_ (6, Mut.mslice ELEM.the-row ty·14 5) (List._∷_ (7, Mut.mslice (Referent.rtF (Referent.fInt Syntax.w32)) ty·10 6) (List._∷_ (8, Mut.mslice (Referent.rtF (Referent.fInt Syntax.w32)) ty·11 7) (List._∷_ (9, Rows.whole (Declared'.row Counts.the-type)) (List._∷_ (10, Rows.whole (Declared'.row Hull.the-type)) (List._∷_ (11, Rows.whole (Declared'.row Point2.the-type)) (List._∷_ (12, Rows.whole (Declared'.row Point.the-type)) (List._∷_ (13, Rows.any-gone ty·26) (List._∷_ (14, Rows.any-gone ty·23) (List._∷_ (15, Rows.any-gone ty·25) List.[])))))))))))))))
 
 abbrev pub t5 : List.List Row.Entry
-t5 = List._∷_ (16, Rows.any-gone ty·27) (List._∷_ (17, Rows.any-gone ty·24) (List._∷_ (18, Rows.any-gone ty·22) (List._∷_ (19, Relend.ssptr (Signed.SInt Syntax.w32) ty·3 8) (List._∷_ (20, Rows.any-gone ty·15) (List._∷_ (21, Rows.any-gone ty·3) (List._∷_ (22, Rows.any-gone ty·15) (List._∷_ (23, Rows.any-gone ty·12) (List._∷_ (24, Rows.any-gone ty·17) (List._∷_ (25, Rows.any-gone ty·3) (List._∷_ (26, Rows.any-gone ty·15) (List._∷_ (27, Rows.any-gone Syntax.tyBool) (List._∷_ (28, Rows.any-gone Syntax.tyBool) (List._∷_ (29, Rows.any-gone ty·4) (List._∷_ (30, Rows.any-gone ty·16) (List._∷_ (31, Rows.any-gone ty·4) List.[])))))))))))))))
+t5 = List._∷_ (16, Rows.any-gone ty·27) (List._∷_ (17, Rows.any-gone ty·25) (List._∷_ (18, Rows.any-gone ty·22) (List._∷_ (19, Relend.ssptr (Signed.SInt Syntax.w32) ty·3 8) (List._∷_ (20, Rows.any-gone ty·15) (List._∷_ (21, Rows.any-gone ty·3) (List._∷_ (22, Rows.any-gone ty·15) (List._∷_ (23, Rows.any-gone ty·12) (List._∷_ (24, Rows.any-gone ty·17) (List._∷_ (25, Rows.any-gone ty·3) (List._∷_ (26, Rows.any-gone ty·15) (List._∷_ (27, Rows.any-gone Syntax.tyBool) (List._∷_ (28, Rows.any-gone Syntax.tyBool) (List._∷_ (29, Rows.any-gone ty·4) (List._∷_ (30, Rows.any-gone ty·16) (List._∷_ (31, Rows.any-gone ty·4) List.[])))))))))))))))
 
 abbrev pub t6 : List.List Row.Entry
-t6 = List._∷_ (16, Rows.any-gone ty·27) (List._∷_ (17, Rows.any-gone ty·24) (List._∷_ (18, Rows.any-gone ty·22) (List._∷_ (19, Rows.any-gone ty·3) (List._∷_ (20, Rows.sslice (Signed.SInt Syntax.w32) ty·3 8) (List._∷_ (21, Rows.any-gone ty·3) (List._∷_ (22, Rows.any-gone ty·15) (List._∷_ (23, Rows.any-gone ty·12) (List._∷_ (24, Rows.any-gone ty·17) (List._∷_ (25, Rows.any-gone ty·3) (List._∷_ (26, Rows.any-gone ty·15) (List._∷_ (27, Rows.any-gone Syntax.tyBool) (List._∷_ (28, Rows.any-gone Syntax.tyBool) (List._∷_ (29, Rows.any-gone ty·4) (List._∷_ (30, Rows.any-gone ty·16) (List._∷_ (31, Rows.any-gone ty·4) List.[])))))))))))))))
+t6 = List._∷_ (16, Rows.any-gone ty·27) (List._∷_ (17, Rows.any-gone ty·25) (List._∷_ (18, Rows.any-gone ty·22) (List._∷_ (19, Rows.any-gone ty·3) (List._∷_ (20, Rows.sslice (Signed.SInt Syntax.w32) ty·3 8) (List._∷_ (21, Rows.any-gone ty·3) (List._∷_ (22, Rows.any-gone ty·15) (List._∷_ (23, Rows.any-gone ty·12) (List._∷_ (24, Rows.any-gone ty·17) (List._∷_ (25, Rows.any-gone ty·3) (List._∷_ (26, Rows.any-gone ty·15) (List._∷_ (27, Rows.any-gone Syntax.tyBool) (List._∷_ (28, Rows.any-gone Syntax.tyBool) (List._∷_ (29, Rows.any-gone ty·4) (List._∷_ (30, Rows.any-gone ty·16) (List._∷_ (31, Rows.any-gone ty·4) List.[])))))))))))))))
 
 abbrev pub t7 : List.List Row.Entry
-t7 = List._∷_ (0, Rows.any-gone ty·28) (List._∷_ (1, Reshare.mslice-owedS (Signed.SInt Syntax.w32) ty·5 0 8 Row.off) (List._∷_ (2, Mut.mslice (Referent.rtF (Referent.fInt Syntax.w32)) ty·6 1) (List._∷_ (3, Reshare.mslice-owedS (Referent.rtF (Referent.fInt Syntax.w32)) ty·7 2 9 Row.off) (List._∷_ (4, Mut.mslice (Referent.rtF (Referent.fInt Syntax.w32)) ty·8 3) (List._∷_ (5, Mut.mslice (Referent.rtF (Referent.fInt Syntax.w32)) ty·9 4) (List._∷_ (6, Mut.mslice ELEM.the-row ty·14 5) (List._∷_ (7, Mut.mslice (Referent.rtF (Referent.fInt Syntax.w32)) ty·10 6) (List._∷_ (8, Mut.mslice (Referent.rtF (Referent.fInt Syntax.w32)) ty·11 7) (List._∷_ (9, Rows.whole (Declared'.row Counts.the-type)) (List._∷_ (10, Rows.whole (Declared'.row Hull.the-type)) (List._∷_ (11, Rows.whole (Declared'.row Point2.the-type)) (List._∷_ (12, Rows.whole (Declared'.row Point.the-type)) (List._∷_ (13, Rows.any-gone ty·26) (List._∷_ (14, Rows.any-gone ty·23) (List._∷_ (15, Rows.any-gone ty·24) List.[])))))))))))))))
+t7 = List._∷_ (0, Rows.any-gone ty·28) (List._∷_ (1, Reshare.mslice-owedS (Signed.SInt Syntax.w32) ty·5 0 8 Row.off) (List._∷_ (2, Mut.mslice (Referent.rtF (Referent.fInt Syntax.w32)) ty·6 1) (List._∷_ (3, Reshare.mslice-owedS (Referent.rtF (Referent.fInt Syntax.w32)) ty·7 2 9 Row.off) (List._∷_ (4, Mut.mslice (Referent.rtF (Referent.fInt Syntax.w32)) ty·8 3) (List._∷_ (5, Mut.mslice (Referent.rtF (Referent.fInt Syntax.w32)) ty·9 4) (List._∷_ (6, Mut.mslice ELEM.the-row ty·14 5) (List._∷_ (7, Mut.mslice (Referent.rtF (Referent.fInt Syntax.w32)) ty·10 6) (List._∷_ (8, Mut.mslice (Referent.rtF (Referent.fInt Syntax.w32)) ty·11 7) (List._∷_ (9, Rows.whole (Declared'.row Counts.the-type)) (List._∷_ (10, Rows.whole (Declared'.row Hull.the-type)) (List._∷_ (11, Rows.whole (Declared'.row Point2.the-type)) (List._∷_ (12, Rows.whole (Declared'.row Point.the-type)) (List._∷_ (13, Rows.any-gone ty·26) (List._∷_ (14, Rows.any-gone ty·23) (List._∷_ (15, Rows.any-gone ty·25) List.[])))))))))))))))
 
 abbrev pub t8 : List.List Row.Entry
-t8 = List._∷_ (16, Rows.any-gone ty·27) (List._∷_ (17, Rows.any-gone ty·24) (List._∷_ (18, Rows.any-gone ty·22) (List._∷_ (19, Rows.any-gone ty·3) (List._∷_ (20, Rows.sslice (Signed.SInt Syntax.w32) ty·3 8) (List._∷_ (21, Relend.ssptr (Referent.rtF (Referent.fInt Syntax.w32)) ty·3 9) (List._∷_ (22, Rows.any-gone ty·15) (List._∷_ (23, Rows.any-gone ty·12) (List._∷_ (24, Rows.any-gone ty·17) (List._∷_ (25, Rows.any-gone ty·3) (List._∷_ (26, Rows.any-gone ty·15) (List._∷_ (27, Rows.any-gone Syntax.tyBool) (List._∷_ (28, Rows.any-gone Syntax.tyBool) (List._∷_ (29, Rows.any-gone ty·4) (List._∷_ (30, Rows.any-gone ty·16) (List._∷_ (31, Rows.any-gone ty·4) List.[])))))))))))))))
+t8 = List._∷_ (16, Rows.any-gone ty·27) (List._∷_ (17, Rows.any-gone ty·25) (List._∷_ (18, Rows.any-gone ty·22) (List._∷_ (19, Rows.any-gone ty·3) (List._∷_ (20, Rows.sslice (Signed.SInt Syntax.w32) ty·3 8) (List._∷_ (21, Relend.ssptr (Referent.rtF (Referent.fInt Syntax.w32)) ty·3 9) (List._∷_ (22, Rows.any-gone ty·15) (List._∷_ (23, Rows.any-gone ty·12) (List._∷_ (24, Rows.any-gone ty·17) (List._∷_ (25, Rows.any-gone ty·3) (List._∷_ (26, Rows.any-gone ty·15) (List._∷_ (27, Rows.any-gone Syntax.tyBool) (List._∷_ (28, Rows.any-gone Syntax.tyBool) (List._∷_ (29, Rows.any-gone ty·4) (List._∷_ (30, Rows.any-gone ty·16) (List._∷_ (31, Rows.any-gone ty·4) List.[])))))))))))))))
 
 abbrev pub t9 : List.List Row.Entry
-t9 = List._∷_ (16, Rows.any-gone ty·27) (List._∷_ (17, Rows.any-gone ty·24) (List._∷_ (18, Rows.any-gone ty·22) (List._∷_ (19, Rows.any-gone ty·3) (List._∷_ (20, Rows.sslice (Signed.SInt Syntax.w32) ty·3 8) (List._∷_ (21, Rows.any-gone ty·3) (List._∷_ (22, Rows.sslice (Referent.rtF (Referent.fInt Syntax.w32)) ty·3 9) (List._∷_ (23, Rows.any-gone ty·12) (List._∷_ (24, Rows.any-gone ty·17) (List._∷_ (25, Rows.any-gone ty·3) (List._∷_ (26, Rows.any-gone ty·15) (List._∷_ (27, Rows.any-gone Syntax.tyBool) (List._∷_ (28, Rows.any-gone Syntax.tyBool) (List._∷_ (29, Rows.any-gone ty·4) (List._∷_ (30, Rows.any-gone ty·16) (List._∷_ (31, Rows.any-gone ty·4) List.[])))))))))))))))
+t9 = List._∷_ (16, Rows.any-gone ty·27) (List._∷_ (17, Rows.any-gone ty·25) (List._∷_ (18, Rows.any-gone ty·22) (List._∷_ (19, Rows.any-gone ty·3) (List._∷_ (20, Rows.sslice (Signed.SInt Syntax.w32) ty·3 8) (List._∷_ (21, Rows.any-gone ty·3) (List._∷_ (22, Rows.sslice (Referent.rtF (Referent.fInt Syntax.w32)) ty·3 9) (List._∷_ (23, Rows.any-gone ty·12) (List._∷_ (24, Rows.any-gone ty·17) (List._∷_ (25, Rows.any-gone ty·3) (List._∷_ (26, Rows.any-gone ty·15) (List._∷_ (27, Rows.any-gone Syntax.tyBool) (List._∷_ (28, Rows.any-gone Syntax.tyBool) (List._∷_ (29, Rows.any-gone ty·4) (List._∷_ (30, Rows.any-gone ty·16) (List._∷_ (31, Rows.any-gone ty·4) List.[])))))))))))))))
 
 abbrev pub t10 : List.List Row.Entry
-t10 = List._∷_ (0, Rows.any-gone ty·28) (List._∷_ (1, Reshare.mslice-owedS (Signed.SInt Syntax.w32) ty·5 0 8 Row.off) (List._∷_ (2, Mut.mslice (Referent.rtF (Referent.fInt Syntax.w32)) ty·6 1) (List._∷_ (3, Reshare.mslice-owedS (Referent.rtF (Referent.fInt Syntax.w32)) ty·7 2 9 Row.off) (List._∷_ (4, Mut.mslice (Referent.rtF (Referent.fInt Syntax.w32)) ty·8 3) (List._∷_ (5, Mut.mslice (Referent.rtF (Referent.fInt Syntax.w32)) ty·9 4) (List._∷_ (6, Reshare.mslice-owedS ELEM.the-row ty·14 5 10 Row.off) (List._∷_ (7, Mut.mslice (Referent.rtF (Referent.fInt Syntax.w32)) ty·10 6) (List._∷_ (8, Mut.mslice (Referent.rtF (Referent.fInt Syntax.w32)) ty·11 7) (List._∷_ (9, Rows.whole (Declared'.row Counts.the-type)) (List._∷_ (10, Rows.whole (Declared'.row Hull.the-type)) (List._∷_ (11, Rows.whole (Declared'.row Point2.the-type)) (List._∷_ (12, Rows.whole (Declared'.row Point.the-type)) (List._∷_ (13, Rows.any-gone ty·26) (List._∷_ (14, Rows.any-gone ty·23) (List._∷_ (15, Rows.any-gone ty·24) List.[])))))))))))))))
+t10 = List._∷_ (0, Rows.any-gone ty·28) (List._∷_ (1, Reshare.mslice-owedS (Signed.SInt Syntax.w32) ty·5 0 8 Row.off) (List._∷_ (2, Mut.mslice (Referent.rtF (Referent.fInt Syntax.w32)) ty·6 1) (List._∷_ (3, Reshare.mslice-owedS (Referent.rtF (Referent.fInt Syntax.w32)) ty·7 2 9 Row.off) (List._∷_ (4, Mut.mslice (Referent.rtF (Referent.fInt Syntax.w32)) ty·8 3) (List._∷_ (5, Mut.mslice (Referent.rtF (Referent.fInt Syntax.w32)) ty·9 4) (List._∷_ (6, Reshare.mslice-owedS ELEM.the-row ty·14 5 10 Row.off) (List._∷_ (7, Mut.mslice (Referent.rtF (Referent.fInt Syntax.w32)) ty·10 6) (List._∷_ (8, Mut.mslice (Referent.rtF (Referent.fInt Syntax.w32)) ty·11 7) (List._∷_ (9, Rows.whole (Declared'.row Counts.the-type)) (List._∷_ (10, Rows.whole (Declared'.row Hull.the-type)) (List._∷_ (11, Rows.whole (Declared'.row Point2.the-type)) (List._∷_ (12, Rows.whole (Declared'.row Point.the-type)) (List._∷_ (13, Rows.any-gone ty·26) (List._∷_ (14, Rows.any-gone ty·23) (List._∷_ (15, Rows.any-gone ty·25) List.[])))))))))))))))
 
 abbrev pub t11 : List.List Row.Entry
-t11 = List._∷_ (16, Rows.any-gone ty·27) (List._∷_ (17, Rows.any-gone ty·24) (List._∷_ (18, Rows.any-gone ty·22) (List._∷_ (19, Rows.any-gone ty·3) (List._∷_ (20, Rows.sslice (Signed.SInt Syntax.w32) ty·3 8) (List._∷_ (21, Rows.any-gone ty·3) (List._∷_ (22, Rows.sslice (Referent.rtF (Referent.fInt Syntax.w32)) ty·3 9) (List._∷_ (23, Relend.ssptr ELEM.the-row ty·12 10) (List._∷_ (24, Rows.any-gone ty·17) (List._∷_ (25, Rows.any-gone ty·3) (List._∷_ (26, Rows.any-gone ty·15) (List._∷_ (27, Rows.any-gone Syntax.tyBool) (List._∷_ (28, Rows.any-gone Syntax.tyBool) (List._∷_ (29, Rows.any-gone ty·4) (List._∷_ (30, Rows.any-gone ty·16) (List._∷_ (31, Rows.any-gone ty·4) List.[])))))))))))))))
+t11 = List._∷_ (16, Rows.any-gone ty·27) (List._∷_ (17, Rows.any-gone ty·25) (List._∷_ (18, Rows.any-gone ty·22) (List._∷_ (19, Rows.any-gone ty·3) (List._∷_ (20, Rows.sslice (Signed.SInt Syntax.w32) ty·3 8) (List._∷_ (21, Rows.any-gone ty·3) (List._∷_ (22, Rows.sslice (Referent.rtF (Referent.fInt Syntax.w32)) ty·3 9) (List._∷_ (23, Relend.ssptr ELEM.the-row ty·12 10) (List._∷_ (24, Rows.any-gone ty·17) (List._∷_ (25, Rows.any-gone ty·3) (List._∷_ (26, Rows.any-gone ty·15) (List._∷_ (27, Rows.any-gone Syntax.tyBool) (List._∷_ (28, Rows.any-gone Syntax.tyBool) (List._∷_ (29, Rows.any-gone ty·4) (List._∷_ (30, Rows.any-gone ty·16) (List._∷_ (31, Rows.any-gone ty·4) List.[])))))))))))))))
 
 abbrev pub t12 : List.List Row.Entry
-t12 = List._∷_ (16, Rows.any-gone ty·27) (List._∷_ (17, Rows.any-gone ty·24) (List._∷_ (18, Rows.any-gone ty·22) (List._∷_ (19, Rows.any-gone ty·3) (List._∷_ (20, Rows.sslice (Signed.SInt Syntax.w32) ty·3 8) (List._∷_ (21, Rows.any-gone ty·3) (List._∷_ (22, Rows.sslice (Referent.rtF (Referent.fInt Syntax.w32)) ty·3 9) (List._∷_ (23, Rows.any-gone ty·12) (List._∷_ (24, Rows.sslice ELEM.the-row ty·12 10) (List._∷_ (25, Rows.any-gone ty·3) (List._∷_ (26, Rows.any-gone ty·15) (List._∷_ (27, Rows.any-gone Syntax.tyBool) (List._∷_ (28, Rows.any-gone Syntax.tyBool) (List._∷_ (29, Rows.any-gone ty·4) (List._∷_ (30, Rows.any-gone ty·16) (List._∷_ (31, Rows.any-gone ty·4) List.[])))))))))))))))
+t12 = List._∷_ (16, Rows.any-gone ty·27) (List._∷_ (17, Rows.any-gone ty·25) (List._∷_ (18, Rows.any-gone ty·22) (List._∷_ (19, Rows.any-gone ty·3) (List._∷_ (20, Rows.sslice (Signed.SInt Syntax.w32) ty·3 8) (List._∷_ (21, Rows.any-gone ty·3) (List._∷_ (22, Rows.sslice (Referent.rtF (Referent.fInt Syntax.w32)) ty·3 9) (List._∷_ (23, Rows.any-gone ty·12) (List._∷_ (24, Rows.sslice ELEM.the-row ty·12 10) (List._∷_ (25, Rows.any-gone ty·3) (List._∷_ (26, Rows.any-gone ty·15) (List._∷_ (27, Rows.any-gone Syntax.tyBool) (List._∷_ (28, Rows.any-gone Syntax.tyBool) (List._∷_ (29, Rows.any-gone ty·4) (List._∷_ (30, Rows.any-gone ty·16) (List._∷_ (31, Rows.any-gone ty·4) List.[])))))))))))))))
 
 abbrev pub t13 : List.List Row.Entry
-t13 = List._∷_ (0, Rows.any-gone ty·28) (List._∷_ (1, Reshare.mslice-owedS (Signed.SInt Syntax.w32) ty·5 0 8 Row.off) (List._∷_ (2, Mut.mslice (Referent.rtF (Referent.fInt Syntax.w32)) ty·6 1) (List._∷_ (3, Reshare.mslice-owedS (Referent.rtF (Referent.fInt Syntax.w32)) ty·7 2 9 Row.off) (List._∷_ (4, Mut.mslice (Referent.rtF (Referent.fInt Syntax.w32)) ty·8 3) (List._∷_ (5, Mut.mslice (Referent.rtF (Referent.fInt Syntax.w32)) ty·9 4) (List._∷_ (6, Reshare.mslice-owedS ELEM.the-row ty·14 5 10 Row.off) (List._∷_ (7, Mut.mslice (Referent.rtF (Referent.fInt Syntax.w32)) ty·10 6) (List._∷_ (8, Reshare.mslice-owedS (Referent.rtF (Referent.fInt Syntax.w32)) ty·11 7 11 Row.off) (List._∷_ (9, Rows.whole (Declared'.row Counts.the-type)) (List._∷_ (10, Rows.whole (Declared'.row Hull.the-type)) (List._∷_ (11, Rows.whole (Declared'.row Point2.the-type)) (List._∷_ (12, Rows.whole (Declared'.row Point.the-type)) (List._∷_ (13, Rows.any-gone ty·26) (List._∷_ (14, Rows.any-gone ty·23) (List._∷_ (15, Rows.any-gone ty·24) List.[])))))))))))))))
+t13 = List._∷_ (0, Rows.any-gone ty·28) (List._∷_ (1, Reshare.mslice-owedS (Signed.SInt Syntax.w32) ty·5 0 8 Row.off) (List._∷_ (2, Mut.mslice (Referent.rtF (Referent.fInt Syntax.w32)) ty·6 1) (List._∷_ (3, Reshare.mslice-owedS (Referent.rtF (Referent.fInt Syntax.w32)) ty·7 2 9 Row.off) (List._∷_ (4, Mut.mslice (Referent.rtF (Referent.fInt Syntax.w32)) ty·8 3) (List._∷_ (5, Mut.mslice (Referent.rtF (Referent.fInt Syntax.w32)) ty·9 4) (List._∷_ (6, Reshare.mslice-owedS ELEM.the-row ty·14 5 10 Row.off) (List._∷_ (7, Mut.mslice (Referent.rtF (Referent.fInt Syntax.w32)) ty·10 6) (List._∷_ (8, Reshare.mslice-owedS (Referent.rtF (Referent.fInt Syntax.w32)) ty·11 7 11 Row.off) (List._∷_ (9, Rows.whole (Declared'.row Counts.the-type)) (List._∷_ (10, Rows.whole (Declared'.row Hull.the-type)) (List._∷_ (11, Rows.whole (Declared'.row Point2.the-type)) (List._∷_ (12, Rows.whole (Declared'.row Point.the-type)) (List._∷_ (13, Rows.any-gone ty·26) (List._∷_ (14, Rows.any-gone ty·23) (List._∷_ (15, Rows.any-gone ty·25) List.[])))))))))))))))
 
 abbrev pub t14 : List.List Row.Entry
-t14 = List._∷_ (16, Rows.any-gone ty·27) (List._∷_ (17, Rows.any-gone ty·24) (List._∷_ (18, Rows.any-gone ty·22) (List._∷_ (19, Rows.any-gone ty·3) (List._∷_ (20, Rows.sslice (Signed.SInt Syntax.w32) ty·3 8) (List._∷_ (21, Rows.any-gone ty·3) (List._∷_ (22, Rows.sslice (Referent.rtF (Referent.fInt Syntax.w32)) ty·3 9) (List._∷_ (23, Rows.any-gone ty·12) (List._∷_ (24, Rows.sslice ELEM.the-row ty·12 10) (List._∷_ (25, Relend.ssptr (Referent.rtF (Referent.fInt Syntax.w32)) ty·3 11) (List._∷_ (26, Rows.any-gone ty·15) (List._∷_ (27, Rows.any-gone Syntax.tyBool) (List._∷_ (28, Rows.any-gone Syntax.tyBool) (List._∷_ (29, Rows.any-gone ty·4) (List._∷_ (30, Rows.any-gone ty·16) (List._∷_ (31, Rows.any-gone ty·4) List.[])))))))))))))))
+t14 = List._∷_ (16, Rows.any-gone ty·27) (List._∷_ (17, Rows.any-gone ty·25) (List._∷_ (18, Rows.any-gone ty·22) (List._∷_ (19, Rows.any-gone ty·3) (List._∷_ (20, Rows.sslice (Signed.SInt Syntax.w32) ty·3 8) (List._∷_ (21, Rows.any-gone ty·3) (List._∷_ (22, Rows.sslice (Referent.rtF (Referent.fInt Syntax.w32)) ty·3 9) (List._∷_ (23, Rows.any-gone ty·12) (List._∷_ (24, Rows.sslice ELEM.the-row ty·12 10) (List._∷_ (25, Relend.ssptr (Referent.rtF (Referent.fInt Syntax.w32)) ty·3 11) (List._∷_ (26, Rows.any-gone ty·15) (List._∷_ (27, Rows.any-gone Syntax.tyBool) (List._∷_ (28, Rows.any-gone Syntax.tyBool) (List._∷_ (29, Rows.any-gone ty·4) (List._∷_ (30, Rows.any-gone ty·16) (List._∷_ (31, Rows.any-gone ty·4) List.[])))))))))))))))
 
 abbrev pub t15 : List.List Row.Entry
-t15 = List._∷_ (16, Rows.any-gone ty·27) (List._∷_ (17, Rows.any-gone ty·24) (List._∷_ (18, Rows.any-gone ty·22) (List._∷_ (19, Rows.any-gone ty·3) (List._∷_ (20, Rows.sslice (Signed.SInt Syntax.w32) ty·3 8) (List._∷_ (21, Rows.any-gone ty·3) (List._∷_ (22, Rows.sslice (Referent.rtF (Referent.fInt Syntax.w32)) ty·3 9) (List._∷_ (23, Rows.any-gone ty·12) (List._∷_ (24, Rows.sslice ELEM.the-row ty·12 10) (List._∷_ (25, Rows.any-gone ty·3) (List._∷_ (26, Rows.sslice (Referent.rtF (Referent.fInt Syntax.w32)) ty·3 11) (List._∷_ (27, Rows.any-gone Syntax.tyBool) (List._∷_ (28, Rows.any-gone Syntax.tyBool) (List._∷_ (29, Rows.any-gone ty·4) (List._∷_ (30, Rows.any-gone ty·16) (List._∷_ (31, Rows.any-gone ty·4) List.[])))))))))))))))
+t15 = List._∷_ (16, Rows.any-gone ty·27) (List._∷_ (17, Rows.any-gone ty·25) (List._∷_ (18, Rows.any-gone ty·22) (List._∷_ (19, Rows.any-gone ty·3) (List._∷_ (20, Rows.sslice (Signed.SInt Syntax.w32) ty·3 8) (List._∷_ (21, Rows.any-gone ty·3) (List._∷_ (22, Rows.sslice (Referent.rtF (Referent.fInt Syntax.w32)) ty·3 9) (List._∷_ (23, Rows.any-gone ty·12) (List._∷_ (24, Rows.sslice ELEM.the-row ty·12 10) (List._∷_ (25, Rows.any-gone ty·3) (List._∷_ (26, Rows.sslice (Referent.rtF (Referent.fInt Syntax.w32)) ty·3 11) (List._∷_ (27, Rows.any-gone Syntax.tyBool) (List._∷_ (28, Rows.any-gone Syntax.tyBool) (List._∷_ (29, Rows.any-gone ty·4) (List._∷_ (30, Rows.any-gone ty·16) (List._∷_ (31, Rows.any-gone ty·4) List.[])))))))))))))))
 
 abbrev pub t16 : List.List Row.Entry
-t16 = List._∷_ (0, Rows.any-gone ty·28) (List._∷_ (1, Reshare.mslice-owedS (Signed.SInt Syntax.w32) ty·5 0 8 Row.off) (List._∷_ (2, Mut.mslice (Referent.rtF (Referent.fInt Syntax.w32)) ty·6 1) (List._∷_ (3, Reshare.mslice-owedS (Referent.rtF (Referent.fInt Syntax.w32)) ty·7 2 9 Row.off) (List._∷_ (4, Mut.mslice (Referent.rtF (Referent.fInt Syntax.w32)) ty·8 3) (List._∷_ (5, Mut.mslice (Referent.rtF (Referent.fInt Syntax.w32)) ty·9 4) (List._∷_ (6, Reshare.mslice-owedS ELEM.the-row ty·14 5 10 Row.off) (List._∷_ (7, Mut.mslice (Referent.rtF (Referent.fInt Syntax.w32)) ty·10 6) (List._∷_ (8, Reshare.mslice-owedS (Referent.rtF (Referent.fInt Syntax.w32)) ty·11 7 11 Row.off) (List._∷_ (9, Rows.whole (Declared'.row Counts.the-type)) (List._∷_ (10, Rows.whole (Declared'.row Hull.the-type)) (List._∷_ (11, Rows.whole (Declared'.row Point2.the-type)) (List._∷_ (12, Rows.whole (Declared'.row Point.the-type)) (List._∷_ (13, Rows.whole (Declared'.row Decision.the-type)) (List._∷_ (14, Rows.any-gone ty·23) (List._∷_ (15, Rows.any-gone ty·24) List.[])))))))))))))))
+t16 = List._∷_ (0, Rows.any-gone ty·28) (List._∷_ (1, Reshare.mslice-owedS (Signed.SInt Syntax.w32) ty·5 0 8 Row.off) (List._∷_ (2, Mut.mslice (Referent.rtF (Referent.fInt Syntax.w32)) ty·6 1) (List._∷_ (3, Reshare.mslice-owedS (Referent.rtF (Referent.fInt Syntax.w32)) ty·7 2 9 Row.off) (List._∷_ (4, Mut.mslice (Referent.rtF (Referent.fInt Syntax.w32)) ty·8 3) (List._∷_ (5, Mut.mslice (Referent.rtF (Referent.fInt Syntax.w32)) ty·9 4) (List._∷_ (6, Reshare.mslice-owedS ELEM.the-row ty·14 5 10 Row.off) (List._∷_ (7, Mut.mslice (Referent.rtF (Referent.fInt Syntax.w32)) ty·10 6) (List._∷_ (8, Reshare.mslice-owedS (Referent.rtF (Referent.fInt Syntax.w32)) ty·11 7 11 Row.off) (List._∷_ (9, Rows.whole (Declared'.row Counts.the-type)) (List._∷_ (10, Rows.whole (Declared'.row Hull.the-type)) (List._∷_ (11, Rows.whole (Declared'.row Point2.the-type)) (List._∷_ (12, Rows.whole (Declared'.row Point.the-type)) (List._∷_ (13, Rows.whole (Declared'.row Decision.the-type)) (List._∷_ (14, Rows.any-gone ty·23) (List._∷_ (15, Rows.any-gone ty·25) List.[])))))))))))))))
 
 abbrev pub t17 : List.List Row.Entry
-t17 = List._∷_ (16, Rows.any-gone ty·27) (List._∷_ (17, Rows.any-gone ty·24) (List._∷_ (18, Rows.any-gone ty·22) (List._∷_ (19, Rows.any-gone ty·3) (List._∷_ (20, Rows.any-gone ty·15) (List._∷_ (21, Rows.any-gone ty·3) (List._∷_ (22, Rows.sslice (Referent.rtF (Referent.fInt Syntax.w32)) ty·3 9) (List._∷_ (23, Rows.any-gone ty·12) (List._∷_ (24, Rows.sslice ELEM.the-row ty·12 10) (List._∷_ (25, Rows.any-gone ty·3) (List._∷_ (26, Rows.sslice (Referent.rtF (Referent.fInt Syntax.w32)) ty·3 11) (List._∷_ (27, Rows.any-gone Syntax.tyBool) (List._∷_ (28, Rows.any-gone Syntax.tyBool) (List._∷_ (29, Rows.any-gone ty·4) (List._∷_ (30, Rows.any-gone ty·16) (List._∷_ (31, Rows.any-gone ty·4) List.[])))))))))))))))
+t17 = List._∷_ (16, Rows.any-gone ty·27) (List._∷_ (17, Rows.any-gone ty·25) (List._∷_ (18, Rows.any-gone ty·22) (List._∷_ (19, Rows.any-gone ty·3) (List._∷_ (20, Rows.any-gone ty·15) (List._∷_ (21, Rows.any-gone ty·3) (List._∷_ (22, Rows.sslice (Referent.rtF (Referent.fInt Syntax.w32)) ty·3 9) (List._∷_ (23, Rows.any-gone ty·12) (List._∷_ (24, Rows.sslice ELEM.the-row ty·12 10) (List._∷_ (25, Rows.any-gone ty·3) (List._∷_ (26, Rows.sslice (Referent.rtF (Referent.fInt Syntax.w32)) ty·3 11) (List._∷_ (27, Rows.any-gone Syntax.tyBool) (List._∷_ (28, Rows.any-gone Syntax.tyBool) (List._∷_ (29, Rows.any-gone ty·4) (List._∷_ (30, Rows.any-gone ty·16) (List._∷_ (31, Rows.any-gone ty·4) List.[])))))))))))))))
 
 abbrev pub t18 : List.List Row.Entry
-t18 = List._∷_ (16, Rows.any-gone ty·27) (List._∷_ (17, Rows.any-gone ty·24) (List._∷_ (18, Rows.any-gone ty·22) (List._∷_ (19, Rows.any-gone ty·3) (List._∷_ (20, Rows.any-gone ty·15) (List._∷_ (21, Rows.any-gone ty·3) (List._∷_ (22, Rows.any-gone ty·15) (List._∷_ (23, Rows.any-gone ty·12) (List._∷_ (24, Rows.sslice ELEM.the-row ty·12 10) (List._∷_ (25, Rows.any-gone ty·3) (List._∷_ (26, Rows.sslice (Referent.rtF (Referent.fInt Syntax.w32)) ty·3 11) (List._∷_ (27, Rows.any-gone Syntax.tyBool) (List._∷_ (28, Rows.any-gone Syntax.tyBool) (List._∷_ (29, Rows.any-gone ty·4) (List._∷_ (30, Rows.any-gone ty·16) (List._∷_ (31, Rows.any-gone ty·4) List.[])))))))))))))))
+t18 = List._∷_ (16, Rows.any-gone ty·27) (List._∷_ (17, Rows.any-gone ty·25) (List._∷_ (18, Rows.any-gone ty·22) (List._∷_ (19, Rows.any-gone ty·3) (List._∷_ (20, Rows.any-gone ty·15) (List._∷_ (21, Rows.any-gone ty·3) (List._∷_ (22, Rows.any-gone ty·15) (List._∷_ (23, Rows.any-gone ty·12) (List._∷_ (24, Rows.sslice ELEM.the-row ty·12 10) (List._∷_ (25, Rows.any-gone ty·3) (List._∷_ (26, Rows.sslice (Referent.rtF (Referent.fInt Syntax.w32)) ty·3 11) (List._∷_ (27, Rows.any-gone Syntax.tyBool) (List._∷_ (28, Rows.any-gone Syntax.tyBool) (List._∷_ (29, Rows.any-gone ty·4) (List._∷_ (30, Rows.any-gone ty·16) (List._∷_ (31, Rows.any-gone ty·4) List.[])))))))))))))))
 
 abbrev pub t19 : List.List Row.Entry
-t19 = List._∷_ (16, Rows.any-gone ty·27) (List._∷_ (17, Rows.any-gone ty·24) (List._∷_ (18, Rows.any-gone ty·22) (List._∷_ (19, Rows.any-gone ty·3) (List._∷_ (20, Rows.any-gone ty·15) (List._∷_ (21, Rows.any-gone ty·3) (List._∷_ (22, Rows.any-gone ty·15) (List._∷_ (23, Rows.any-gone ty·12) (List._∷_ (24, Rows.any-gone ty·17) (List._∷_ (25, Rows.any-gone ty·3) (List._∷_ (26, Rows.sslice (Referent.rtF (Referent.fInt Syntax.w32)) ty·3 11) (List._∷_ (27, Rows.any-gone Syntax.tyBool) (List._∷_ (28, Rows.any-gone Syntax.tyBool) (List._∷_ (29, Rows.any-gone ty·4) (List._∷_ (30, Rows.any-gone ty·16) (List._∷_ (31, Rows.any-gone ty·4) List.[])))))))))))))))
+t19 = List._∷_ (16, Rows.any-gone ty·27) (List._∷_ (17, Rows.any-gone ty·25) (List._∷_ (18, Rows.any-gone ty·22) (List._∷_ (19, Rows.any-gone ty·3) (List._∷_ (20, Rows.any-gone ty·15) (List._∷_ (21, Rows.any-gone ty·3) (List._∷_ (22, Rows.any-gone ty·15) (List._∷_ (23, Rows.any-gone ty·12) (List._∷_ (24, Rows.any-gone ty·17) (List._∷_ (25, Rows.any-gone ty·3) (List._∷_ (26, Rows.sslice (Referent.rtF (Referent.fInt Syntax.w32)) ty·3 11) (List._∷_ (27, Rows.any-gone Syntax.tyBool) (List._∷_ (28, Rows.any-gone Syntax.tyBool) (List._∷_ (29, Rows.any-gone ty·4) (List._∷_ (30, Rows.any-gone ty·16) (List._∷_ (31, Rows.any-gone ty·4) List.[])))))))))))))))
 
 abbrev pub t20 : List.List Row.Entry
-t20 = List._∷_ (0, Rows.any-gone ty·28) (List._∷_ (1, Reshare.mslice-owedS (Signed.SInt Syntax.w32) ty·5 0 8 Row.off) (List._∷_ (2, Mut.mslice (Referent.rtF (Referent.fInt Syntax.w32)) ty·6 1) (List._∷_ (3, Reshare.mslice-owedS (Referent.rtF (Referent.fInt Syntax.w32)) ty·7 2 9 Row.off) (List._∷_ (4, Mut.mslice (Referent.rtF (Referent.fInt Syntax.w32)) ty·8 3) (List._∷_ (5, Mut.mslice (Referent.rtF (Referent.fInt Syntax.w32)) ty·9 4) (List._∷_ (6, Reshare.mslice-owedS ELEM.the-row ty·14 5 10 Row.off) (List._∷_ (7, Mut.mslice (Referent.rtF (Referent.fInt Syntax.w32)) ty·10 6) (List._∷_ (8, Reshare.mslice-owedS (Referent.rtF (Referent.fInt Syntax.w32)) ty·11 7 11 Row.off) (List._∷_ (9, Rows.whole (Declared'.row Counts.the-type)) (List._∷_ (10, Rows.whole (Declared'.row Hull.the-type)) (List._∷_ (11, Rows.any-gone ty·20) (List._∷_ (12, Rows.whole (Declared'.row Point.the-type)) (List._∷_ (13, Rows.whole (Declared'.row Decision.the-type)) (List._∷_ (14, Rows.any-gone ty·23) (List._∷_ (15, Rows.any-gone ty·24) List.[])))))))))))))))
+t20 = List._∷_ (0, Rows.any-gone ty·28) (List._∷_ (1, Reshare.mslice-owedS (Signed.SInt Syntax.w32) ty·5 0 8 Row.off) (List._∷_ (2, Mut.mslice (Referent.rtF (Referent.fInt Syntax.w32)) ty·6 1) (List._∷_ (3, Reshare.mslice-owedS (Referent.rtF (Referent.fInt Syntax.w32)) ty·7 2 9 Row.off) (List._∷_ (4, Mut.mslice (Referent.rtF (Referent.fInt Syntax.w32)) ty·8 3) (List._∷_ (5, Mut.mslice (Referent.rtF (Referent.fInt Syntax.w32)) ty·9 4) (List._∷_ (6, Reshare.mslice-owedS ELEM.the-row ty·14 5 10 Row.off) (List._∷_ (7, Mut.mslice (Referent.rtF (Referent.fInt Syntax.w32)) ty·10 6) (List._∷_ (8, Reshare.mslice-owedS (Referent.rtF (Referent.fInt Syntax.w32)) ty·11 7 11 Row.off) (List._∷_ (9, Rows.whole (Declared'.row Counts.the-type)) (List._∷_ (10, Rows.whole (Declared'.row Hull.the-type)) (List._∷_ (11, Rows.any-gone ty·20) (List._∷_ (12, Rows.whole (Declared'.row Point.the-type)) (List._∷_ (13, Rows.whole (Declared'.row Decision.the-type)) (List._∷_ (14, Rows.any-gone ty·23) (List._∷_ (15, Rows.any-gone ty·25) List.[])))))))))))))))
 
 abbrev pub t21 : List.List Row.Entry
-t21 = List._∷_ (0, Rows.any-gone ty·28) (List._∷_ (1, Mut.mslice (Signed.SInt Syntax.w32) ty·5 0) (List._∷_ (2, Mut.mslice (Referent.rtF (Referent.fInt Syntax.w32)) ty·6 1) (List._∷_ (3, Reshare.mslice-owedS (Referent.rtF (Referent.fInt Syntax.w32)) ty·7 2 9 Row.off) (List._∷_ (4, Mut.mslice (Referent.rtF (Referent.fInt Syntax.w32)) ty·8 3) (List._∷_ (5, Mut.mslice (Referent.rtF (Referent.fInt Syntax.w32)) ty·9 4) (List._∷_ (6, Reshare.mslice-owedS ELEM.the-row ty·14 5 10 Row.off) (List._∷_ (7, Mut.mslice (Referent.rtF (Referent.fInt Syntax.w32)) ty·10 6) (List._∷_ (8, Reshare.mslice-owedS (Referent.rtF (Referent.fInt Syntax.w32)) ty·11 7 11 Row.off) (List._∷_ (9, Rows.whole (Declared'.row Counts.the-type)) (List._∷_ (10, Rows.whole (Declared'.row Hull.the-type)) (List._∷_ (11, Rows.any-gone ty·20) (List._∷_ (12, Rows.whole (Declared'.row Point.the-type)) (List._∷_ (13, Rows.whole (Declared'.row Decision.the-type)) (List._∷_ (14, Rows.any-gone ty·23) (List._∷_ (15, Rows.any-gone ty·24) List.[])))))))))))))))
+t21 = List._∷_ (0, Rows.any-gone ty·28) (List._∷_ (1, Mut.mslice (Signed.SInt Syntax.w32) ty·5 0) (List._∷_ (2, Mut.mslice (Referent.rtF (Referent.fInt Syntax.w32)) ty·6 1) (List._∷_ (3, Reshare.mslice-owedS (Referent.rtF (Referent.fInt Syntax.w32)) ty·7 2 9 Row.off) (List._∷_ (4, Mut.mslice (Referent.rtF (Referent.fInt Syntax.w32)) ty·8 3) (List._∷_ (5, Mut.mslice (Referent.rtF (Referent.fInt Syntax.w32)) ty·9 4) (List._∷_ (6, Reshare.mslice-owedS ELEM.the-row ty·14 5 10 Row.off) (List._∷_ (7, Mut.mslice (Referent.rtF (Referent.fInt Syntax.w32)) ty·10 6) (List._∷_ (8, Reshare.mslice-owedS (Referent.rtF (Referent.fInt Syntax.w32)) ty·11 7 11 Row.off) (List._∷_ (9, Rows.whole (Declared'.row Counts.the-type)) (List._∷_ (10, Rows.whole (Declared'.row Hull.the-type)) (List._∷_ (11, Rows.any-gone ty·20) (List._∷_ (12, Rows.whole (Declared'.row Point.the-type)) (List._∷_ (13, Rows.whole (Declared'.row Decision.the-type)) (List._∷_ (14, Rows.any-gone ty·23) (List._∷_ (15, Rows.any-gone ty·25) List.[])))))))))))))))
 
 abbrev pub t22 : List.List Row.Entry
-t22 = List._∷_ (0, Rows.any-gone ty·28) (List._∷_ (1, Mut.mslice (Signed.SInt Syntax.w32) ty·5 0) (List._∷_ (2, Mut.mslice (Referent.rtF (Referent.fInt Syntax.w32)) ty·6 1) (List._∷_ (3, Mut.mslice (Referent.rtF (Referent.fInt Syntax.w32)) ty·7 2) (List._∷_ (4, Mut.mslice (Referent.rtF (Referent.fInt Syntax.w32)) ty·8 3) (List._∷_ (5, Mut.mslice (Referent.rtF (Referent.fInt Syntax.w32)) ty·9 4) (List._∷_ (6, Reshare.mslice-owedS ELEM.the-row ty·14 5 10 Row.off) (List._∷_ (7, Mut.mslice (Referent.rtF (Referent.fInt Syntax.w32)) ty·10 6) (List._∷_ (8, Reshare.mslice-owedS (Referent.rtF (Referent.fInt Syntax.w32)) ty·11 7 11 Row.off) (List._∷_ (9, Rows.whole (Declared'.row Counts.the-type)) (List._∷_ (10, Rows.whole (Declared'.row Hull.the-type)) (List._∷_ (11, Rows.any-gone ty·20) (List._∷_ (12, Rows.whole (Declared'.row Point.the-type)) (List._∷_ (13, Rows.whole (Declared'.row Decision.the-type)) (List._∷_ (14, Rows.any-gone ty·23) (List._∷_ (15, Rows.any-gone ty·24) List.[])))))))))))))))
+t22 = List._∷_ (0, Rows.any-gone ty·28) (List._∷_ (1, Mut.mslice (Signed.SInt Syntax.w32) ty·5 0) (List._∷_ (2, Mut.mslice (Referent.rtF (Referent.fInt Syntax.w32)) ty·6 1) (List._∷_ (3, Mut.mslice (Referent.rtF (Referent.fInt Syntax.w32)) ty·7 2) (List._∷_ (4, Mut.mslice (Referent.rtF (Referent.fInt Syntax.w32)) ty·8 3) (List._∷_ (5, Mut.mslice (Referent.rtF (Referent.fInt Syntax.w32)) ty·9 4) (List._∷_ (6, Reshare.mslice-owedS ELEM.the-row ty·14 5 10 Row.off) (List._∷_ (7, Mut.mslice (Referent.rtF (Referent.fInt Syntax.w32)) ty·10 6) (List._∷_ (8, Reshare.mslice-owedS (Referent.rtF (Referent.fInt Syntax.w32)) ty·11 7 11 Row.off) (List._∷_ (9, Rows.whole (Declared'.row Counts.the-type)) (List._∷_ (10, Rows.whole (Declared'.row Hull.the-type)) (List._∷_ (11, Rows.any-gone ty·20) (List._∷_ (12, Rows.whole (Declared'.row Point.the-type)) (List._∷_ (13, Rows.whole (Declared'.row Decision.the-type)) (List._∷_ (14, Rows.any-gone ty·23) (List._∷_ (15, Rows.any-gone ty·25) List.[])))))))))))))))
 
 abbrev pub t23 : List.List Row.Entry
-t23 = List._∷_ (0, Rows.any-gone ty·28) (List._∷_ (1, Mut.mslice (Signed.SInt Syntax.w32) ty·5 0) (List._∷_ (2, Mut.mslice (Referent.rtF (Referent.fInt Syntax.w32)) ty·6 1) (List._∷_ (3, Mut.mslice (Referent.rtF (Referent.fInt Syntax.w32)) ty·7 2) (List._∷_ (4, Mut.mslice (Referent.rtF (Referent.fInt Syntax.w32)) ty·8 3) (List._∷_ (5, Mut.mslice (Referent.rtF (Referent.fInt Syntax.w32)) ty·9 4) (List._∷_ (6, Mut.mslice ELEM.the-row ty·14 5) (List._∷_ (7, Mut.mslice (Referent.rtF (Referent.fInt Syntax.w32)) ty·10 6) (List._∷_ (8, Reshare.mslice-owedS (Referent.rtF (Referent.fInt Syntax.w32)) ty·11 7 11 Row.off) (List._∷_ (9, Rows.whole (Declared'.row Counts.the-type)) (List._∷_ (10, Rows.whole (Declared'.row Hull.the-type)) (List._∷_ (11, Rows.any-gone ty·20) (List._∷_ (12, Rows.whole (Declared'.row Point.the-type)) (List._∷_ (13, Rows.whole (Declared'.row Decision.the-type)) (List._∷_ (14, Rows.any-gone ty·23) (List._∷_ (15, Rows.any-gone ty·24) List.[])))))))))))))))
+t23 = List._∷_ (0, Rows.any-gone ty·28) (List._∷_ (1, Mut.mslice (Signed.SInt Syntax.w32) ty·5 0) (List._∷_ (2, Mut.mslice (Referent.rtF (Referent.fInt Syntax.w32)) ty·6 1) (List._∷_ (3, Mut.mslice (Referent.rtF (Referent.fInt Syntax.w32)) ty·7 2) (List._∷_ (4, Mut.mslice (Referent.rtF (Referent.fInt Syntax.w32)) ty·8 3) (List._∷_ (5, Mut.mslice (Referent.rtF (Referent.fInt Syntax.w32)) ty·9 4) (List._∷_ (6, Mut.mslice ELEM.the-row ty·14 5) (List._∷_ (7, Mut.mslice (Referent.rtF (Referent.fInt Syntax.w32)) ty·10 6) (List._∷_ (8, Reshare.mslice-owedS (Referent.rtF (Referent.fInt Syntax.w32)) ty·11 7 11 Row.off) (List._∷_ (9, Rows.whole (Declared'.row Counts.the-type)) (List._∷_ (10, Rows.whole (Declared'.row Hull.the-type)) (List._∷_ (11, Rows.any-gone ty·20) (List._∷_ (12, Rows.whole (Declared'.row Point.the-type)) (List._∷_ (13, Rows.whole (Declared'.row Decision.the-type)) (List._∷_ (14, Rows.any-gone ty·23) (List._∷_ (15, Rows.any-gone ty·25) List.[])))))))))))))))
 
 abbrev pub t24 : List.List Row.Entry
-t24 = List._∷_ (0, Rows.any-gone ty·28) (List._∷_ (1, Mut.mslice (Signed.SInt Syntax.w32) ty·5 0) (List._∷_ (2, Mut.mslice (Referent.rtF (Referent.fInt Syntax.w32)) ty·6 1) (List._∷_ (3, Mut.mslice (Referent.rtF (Referent.fInt Syntax.w32)) ty·7 2) (List._∷_ (4, Mut.mslice (Referent.rtF (Referent.fInt Syntax.w32)) ty·8 3) (List._∷_ (5, Mut.mslice (Referent.rtF (Referent.fInt Syntax.w32)) ty·9 4) (List._∷_ (6, Mut.mslice ELEM.the-row ty·14 5) (List._∷_ (7, Mut.mslice (Referent.rtF (Referent.fInt Syntax.w32)) ty·10 6) (List._∷_ (8, Mut.mslice (Referent.rtF (Referent.fInt Syntax.w32)) ty·11 7) (List._∷_ (9, Rows.whole (Declared'.row Counts.the-type)) (List._∷_ (10, Rows.whole (Declared'.row Hull.the-type)) (List._∷_ (11, Rows.any-gone ty·20) (List._∷_ (12, Rows.whole (Declared'.row Point.the-type)) (List._∷_ (13, Rows.whole (Declared'.row Decision.the-type)) (List._∷_ (14, Rows.any-gone ty·23) (List._∷_ (15, Rows.any-gone ty·24) List.[])))))))))))))))
+t24 = List._∷_ (0, Rows.any-gone ty·28) (List._∷_ (1, Mut.mslice (Signed.SInt Syntax.w32) ty·5 0) (List._∷_ (2, Mut.mslice (Referent.rtF (Referent.fInt Syntax.w32)) ty·6 1) (List._∷_ (3, Mut.mslice (Referent.rtF (Referent.fInt Syntax.w32)) ty·7 2) (List._∷_ (4, Mut.mslice (Referent.rtF (Referent.fInt Syntax.w32)) ty·8 3) (List._∷_ (5, Mut.mslice (Referent.rtF (Referent.fInt Syntax.w32)) ty·9 4) (List._∷_ (6, Mut.mslice ELEM.the-row ty·14 5) (List._∷_ (7, Mut.mslice (Referent.rtF (Referent.fInt Syntax.w32)) ty·10 6) (List._∷_ (8, Mut.mslice (Referent.rtF (Referent.fInt Syntax.w32)) ty·11 7) (List._∷_ (9, Rows.whole (Declared'.row Counts.the-type)) (List._∷_ (10, Rows.whole (Declared'.row Hull.the-type)) (List._∷_ (11, Rows.any-gone ty·20) (List._∷_ (12, Rows.whole (Declared'.row Point.the-type)) (List._∷_ (13, Rows.whole (Declared'.row Decision.the-type)) (List._∷_ (14, Rows.any-gone ty·23) (List._∷_ (15, Rows.any-gone ty·25) List.[])))))))))))))))
 
 abbrev pub t25 : List.List Row.Entry
-t25 = List._∷_ (0, Rows.any-gone ty·28) (List._∷_ (1, Mut.mslice (Signed.SInt Syntax.w32) ty·5 0) (List._∷_ (2, Mut.mslice (Referent.rtF (Referent.fInt Syntax.w32)) ty·6 1) (List._∷_ (3, Mut.mslice (Referent.rtF (Referent.fInt Syntax.w32)) ty·7 2) (List._∷_ (4, Mut.mslice (Referent.rtF (Referent.fInt Syntax.w32)) ty·8 3) (List._∷_ (5, Mut.mslice (Referent.rtF (Referent.fInt Syntax.w32)) ty·9 4) (List._∷_ (6, Mut.mslice ELEM.the-row ty·14 5) (List._∷_ (7, Mut.mslice (Referent.rtF (Referent.fInt Syntax.w32)) ty·10 6) (List._∷_ (8, Mut.mslice (Referent.rtF (Referent.fInt Syntax.w32)) ty·11 7) (List._∷_ (9, Rows.whole (Declared'.row Counts.the-type)) (List._∷_ (10, Rows.whole (Declared'.row Hull.the-type)) (List._∷_ (11, Rows.any-gone ty·20) (List._∷_ (12, Rows.whole (Declared'.row Point.the-type)) (List._∷_ (13, Rows.whole (Declared'.row Decision.the-type)) (List._∷_ (14, Rows.whole (Declared.row Fate.the-type)) (List._∷_ (15, Rows.any-gone ty·24) List.[])))))))))))))))
+t25 = List._∷_ (0, Rows.any-gone ty·28) (List._∷_ (1, Mut.mslice (Signed.SInt Syntax.w32) ty·5 0) (List._∷_ (2, Mut.mslice (Referent.rtF (Referent.fInt Syntax.w32)) ty·6 1) (List._∷_ (3, Mut.mslice (Referent.rtF (Referent.fInt Syntax.w32)) ty·7 2) (List._∷_ (4, Mut.mslice (Referent.rtF (Referent.fInt Syntax.w32)) ty·8 3) (List._∷_ (5, Mut.mslice (Referent.rtF (Referent.fInt Syntax.w32)) ty·9 4) (List._∷_ (6, Mut.mslice ELEM.the-row ty·14 5) (List._∷_ (7, Mut.mslice (Referent.rtF (Referent.fInt Syntax.w32)) ty·10 6) (List._∷_ (8, Mut.mslice (Referent.rtF (Referent.fInt Syntax.w32)) ty·11 7) (List._∷_ (9, Rows.whole (Declared'.row Counts.the-type)) (List._∷_ (10, Rows.whole (Declared'.row Hull.the-type)) (List._∷_ (11, Rows.any-gone ty·20) (List._∷_ (12, Rows.whole (Declared'.row Point.the-type)) (List._∷_ (13, Rows.whole (Declared'.row Decision.the-type)) (List._∷_ (14, Rows.whole (Declared.row Fate.the-type)) (List._∷_ (15, Rows.any-gone ty·25) List.[])))))))))))))))
 
 abbrev pub t26 : List.List Row.Entry
-t26 = List._∷_ (16, Rows.any-gone ty·27) (List._∷_ (17, Rows.any-gone ty·24) (List._∷_ (18, Rows.any-gone ty·22) (List._∷_ (19, Rows.any-gone ty·3) (List._∷_ (20, Rows.any-gone ty·15) (List._∷_ (21, Rows.any-gone ty·3) (List._∷_ (22, Rows.any-gone ty·15) (List._∷_ (23, Rows.any-gone ty·12) (List._∷_ (24, Rows.any-gone ty·17) (List._∷_ (25, Rows.any-gone ty·3) (List._∷_ (26, Rows.any-gone ty·15) (List._∷_ (27, Rows.sc-here Row.sBool) (List._∷_ (28, Rows.any-gone Syntax.tyBool) (List._∷_ (29, Rows.any-gone ty·4) (List._∷_ (30, Rows.any-gone ty·16) (List._∷_ (31, Rows.any-gone ty·4) List.[])))))))))))))))
+t26 = List._∷_ (16, Rows.any-gone ty·27) (List._∷_ (17, Rows.any-gone ty·25) (List._∷_ (18, Rows.any-gone ty·22) (List._∷_ (19, Rows.any-gone ty·3) (List._∷_ (20, Rows.any-gone ty·15) (List._∷_ (21, Rows.any-gone ty·3) (List._∷_ (22, Rows.any-gone ty·15) (List._∷_ (23, Rows.any-gone ty·12) (List._∷_ (24, Rows.any-gone ty·17) (List._∷_ (25, Rows.any-gone ty·3) (List._∷_ (26, Rows.any-gone ty·15) (List._∷_ (27, Rows.sc-here Row.sBool) (List._∷_ (28, Rows.any-gone Syntax.tyBool) (List._∷_ (29, Rows.any-gone ty·4) (List._∷_ (30, Rows.any-gone ty·16) (List._∷_ (31, Rows.any-gone ty·4) List.[])))))))))))))))
 
 abbrev pub t27 : List.List Row.Entry
-t27 = List._∷_ (16, Rows.any-gone ty·27) (List._∷_ (17, Rows.any-gone ty·24) (List._∷_ (18, Rows.any-gone ty·22) (List._∷_ (19, Rows.any-gone ty·3) (List._∷_ (20, Rows.any-gone ty·15) (List._∷_ (21, Rows.any-gone ty·3) (List._∷_ (22, Rows.any-gone ty·15) (List._∷_ (23, Rows.any-gone ty·12) (List._∷_ (24, Rows.any-gone ty·17) (List._∷_ (25, Rows.any-gone ty·3) (List._∷_ (26, Rows.any-gone ty·15) (List._∷_ (27, Rows.sc-here Row.sBool) (List._∷_ (28, Rows.sc-here Row.sBool) (List._∷_ (29, Rows.any-gone ty·4) (List._∷_ (30, Rows.any-gone ty·16) (List._∷_ (31, Rows.any-gone ty·4) List.[])))))))))))))))
+t27 = List._∷_ (16, Rows.any-gone ty·27) (List._∷_ (17, Rows.any-gone ty·25) (List._∷_ (18, Rows.any-gone ty·22) (List._∷_ (19, Rows.any-gone ty·3) (List._∷_ (20, Rows.any-gone ty·15) (List._∷_ (21, Rows.any-gone ty·3) (List._∷_ (22, Rows.any-gone ty·15) (List._∷_ (23, Rows.any-gone ty·12) (List._∷_ (24, Rows.any-gone ty·17) (List._∷_ (25, Rows.any-gone ty·3) (List._∷_ (26, Rows.any-gone ty·15) (List._∷_ (27, Rows.sc-here Row.sBool) (List._∷_ (28, Rows.sc-here Row.sBool) (List._∷_ (29, Rows.any-gone ty·4) (List._∷_ (30, Rows.any-gone ty·16) (List._∷_ (31, Rows.any-gone ty·4) List.[])))))))))))))))
 
 abbrev pub t28 : List.List Row.Entry
-t28 = List._∷_ (16, Rows.any-gone ty·27) (List._∷_ (17, Rows.any-gone ty·24) (List._∷_ (18, Rows.any-gone ty·22) (List._∷_ (19, Rows.any-gone ty·3) (List._∷_ (20, Rows.any-gone ty·15) (List._∷_ (21, Rows.any-gone ty·3) (List._∷_ (22, Rows.any-gone ty·15) (List._∷_ (23, Rows.any-gone ty·12) (List._∷_ (24, Rows.any-gone ty·17) (List._∷_ (25, Rows.any-gone ty·3) (List._∷_ (26, Rows.any-gone ty·15) (List._∷_ (27, Rows.any-gone Syntax.tyBool) (List._∷_ (28, Rows.sc-here Row.sBool) (List._∷_ (29, Rows.any-gone ty·4) (List._∷_ (30, Rows.any-gone ty·16) (List._∷_ (31, Rows.any-gone ty·4) List.[])))))))))))))))
+t28 = List._∷_ (16, Rows.any-gone ty·27) (List._∷_ (17, Rows.any-gone ty·25) (List._∷_ (18, Rows.any-gone ty·22) (List._∷_ (19, Rows.any-gone ty·3) (List._∷_ (20, Rows.any-gone ty·15) (List._∷_ (21, Rows.any-gone ty·3) (List._∷_ (22, Rows.any-gone ty·15) (List._∷_ (23, Rows.any-gone ty·12) (List._∷_ (24, Rows.any-gone ty·17) (List._∷_ (25, Rows.any-gone ty·3) (List._∷_ (26, Rows.any-gone ty·15) (List._∷_ (27, Rows.any-gone Syntax.tyBool) (List._∷_ (28, Rows.sc-here Row.sBool) (List._∷_ (29, Rows.any-gone ty·4) (List._∷_ (30, Rows.any-gone ty·16) (List._∷_ (31, Rows.any-gone ty·4) List.[])))))))))))))))
 
 abbrev pub t29 : List.List Row.Entry
-t29 = List._∷_ (0, Rows.any-gone ty·28) (List._∷_ (1, Mut.mslice (Signed.SInt Syntax.w32) ty·5 0) (List._∷_ (2, Mut.mslice (Referent.rtF (Referent.fInt Syntax.w32)) ty·6 1) (List._∷_ (3, Mut.mslice (Referent.rtF (Referent.fInt Syntax.w32)) ty·7 2) (List._∷_ (4, Mut.mslice (Referent.rtF (Referent.fInt Syntax.w32)) ty·8 3) (List._∷_ (5, Mut.mslice (Referent.rtF (Referent.fInt Syntax.w32)) ty·9 4) (List._∷_ (6, Mut.mslice ELEM.the-row ty·14 5) (List._∷_ (7, Mut.mslice (Referent.rtF (Referent.fInt Syntax.w32)) ty·10 6) (List._∷_ (8, Mut.mslice (Referent.rtF (Referent.fInt Syntax.w32)) ty·11 7) (List._∷_ (9, Rows.whole (Declared'.row Counts.the-type)) (List._∷_ (10, Rows.whole (Declared'.row Hull.the-type)) (List._∷_ (11, Rows.any-gone ty·20) (List._∷_ (12, Rows.any-gone ty·19) (List._∷_ (13, Rows.whole (Declared'.row Decision.the-type)) (List._∷_ (14, Rows.whole (Declared.row Fate.the-type)) (List._∷_ (15, Rows.any-gone ty·24) List.[])))))))))))))))
+t29 = List._∷_ (0, Rows.any-gone ty·28) (List._∷_ (1, Mut.mslice (Signed.SInt Syntax.w32) ty·5 0) (List._∷_ (2, Mut.mslice (Referent.rtF (Referent.fInt Syntax.w32)) ty·6 1) (List._∷_ (3, Mut.mslice (Referent.rtF (Referent.fInt Syntax.w32)) ty·7 2) (List._∷_ (4, Mut.mslice (Referent.rtF (Referent.fInt Syntax.w32)) ty·8 3) (List._∷_ (5, Mut.mslice (Referent.rtF (Referent.fInt Syntax.w32)) ty·9 4) (List._∷_ (6, Mut.mslice ELEM.the-row ty·14 5) (List._∷_ (7, Mut.mslice (Referent.rtF (Referent.fInt Syntax.w32)) ty·10 6) (List._∷_ (8, Mut.mslice (Referent.rtF (Referent.fInt Syntax.w32)) ty·11 7) (List._∷_ (9, Rows.whole (Declared'.row Counts.the-type)) (List._∷_ (10, Rows.whole (Declared'.row Hull.the-type)) (List._∷_ (11, Rows.any-gone ty·20) (List._∷_ (12, Rows.any-gone ty·19) (List._∷_ (13, Rows.whole (Declared'.row Decision.the-type)) (List._∷_ (14, Rows.whole (Declared.row Fate.the-type)) (List._∷_ (15, Rows.any-gone ty·25) List.[])))))))))))))))
 
 abbrev pub t30 : List.List Row.Entry
-t30 = List._∷_ (0, Rows.any-gone ty·28) (List._∷_ (1, Mut.mslice (Signed.SInt Syntax.w32) ty·5 0) (List._∷_ (2, Mut.mslice (Referent.rtF (Referent.fInt Syntax.w32)) ty·6 1) (List._∷_ (3, Mut.mslice (Referent.rtF (Referent.fInt Syntax.w32)) ty·7 2) (List._∷_ (4, Mut.mslice (Referent.rtF (Referent.fInt Syntax.w32)) ty·8 3) (List._∷_ (5, Mut.mslice (Referent.rtF (Referent.fInt Syntax.w32)) ty·9 4) (List._∷_ (6, Mut.mslice ELEM.the-row ty·14 5) (List._∷_ (7, Mut.mslice (Referent.rtF (Referent.fInt Syntax.w32)) ty·10 6) (List._∷_ (8, Mut.mslice (Referent.rtF (Referent.fInt Syntax.w32)) ty·11 7) (List._∷_ (9, Rows.whole (Declared'.row Counts.the-type)) (List._∷_ (10, Rows.whole (Declared'.row Hull.the-type)) (List._∷_ (11, Rows.any-gone ty·20) (List._∷_ (12, Rows.any-gone ty·19) (List._∷_ (13, Rows.any-gone ty·26) (List._∷_ (14, Rows.whole (Declared.row Fate.the-type)) (List._∷_ (15, Rows.any-gone ty·24) List.[])))))))))))))))
+t30 = List._∷_ (0, Rows.any-gone ty·28) (List._∷_ (1, Mut.mslice (Signed.SInt Syntax.w32) ty·5 0) (List._∷_ (2, Mut.mslice (Referent.rtF (Referent.fInt Syntax.w32)) ty·6 1) (List._∷_ (3, Mut.mslice (Referent.rtF (Referent.fInt Syntax.w32)) ty·7 2) (List._∷_ (4, Mut.mslice (Referent.rtF (Referent.fInt Syntax.w32)) ty·8 3) (List._∷_ (5, Mut.mslice (Referent.rtF (Referent.fInt Syntax.w32)) ty·9 4) (List._∷_ (6, Mut.mslice ELEM.the-row ty·14 5) (List._∷_ (7, Mut.mslice (Referent.rtF (Referent.fInt Syntax.w32)) ty·10 6) (List._∷_ (8, Mut.mslice (Referent.rtF (Referent.fInt Syntax.w32)) ty·11 7) (List._∷_ (9, Rows.whole (Declared'.row Counts.the-type)) (List._∷_ (10, Rows.whole (Declared'.row Hull.the-type)) (List._∷_ (11, Rows.any-gone ty·20) (List._∷_ (12, Rows.any-gone ty·19) (List._∷_ (13, Rows.any-gone ty·26) (List._∷_ (14, Rows.whole (Declared.row Fate.the-type)) (List._∷_ (15, Rows.any-gone ty·25) List.[])))))))))))))))
 
 abbrev pub t31 : List.List Row.Entry
-t31 = List._∷_ (0, Rows.any-gone ty·28) (List._∷_ (1, Mut.mslice (Signed.SInt Syntax.w32) ty·5 0) (List._∷_ (2, Mut.mslice (Referent.rtF (Referent.fInt Syntax.w32)) ty·6 1) (List._∷_ (3, Mut.mslice (Referent.rtF (Referent.fInt Syntax.w32)) ty·7 2) (List._∷_ (4, Mut.mslice (Referent.rtF (Referent.fInt Syntax.w32)) ty·8 3) (List._∷_ (5, Mut.mslice (Referent.rtF (Referent.fInt Syntax.w32)) ty·9 4) (List._∷_ (6, Mut.mslice ELEM.the-row ty·14 5) (List._∷_ (7, Mut.mslice (Referent.rtF (Referent.fInt Syntax.w32)) ty·10 6) (List._∷_ (8, Mut.mslice (Referent.rtF (Referent.fInt Syntax.w32)) ty·11 7) (List._∷_ (9, Rows.whole (Declared'.row Counts.the-type)) (List._∷_ (10, Rows.whole (Declared'.row Hull.the-type)) (List._∷_ (11, Rows.any-gone ty·20) (List._∷_ (12, Rows.any-gone ty·19) (List._∷_ (13, Rows.any-gone ty·26) (List._∷_ (14, Rows.whole (Declared.row Fate.the-type)) (List._∷_ (15, Rows.whole (Declared'.row (Apart.apartT Added.the-type))) List.[])))))))))))))))
+t31 = List._∷_ (0, Rows.any-gone ty·28) (List._∷_ (1, Mut.mslice (Signed.SInt Syntax.w32) ty·5 0) (List._∷_ (2, Mut.mslice (Referent.rtF (Referent.fInt Syntax.w32)) ty·6 1) (List._∷_ (3, Mut.mslice (Referent.rtF (Referent.fInt Syntax.w32)) ty·7 2) (List._∷_ (4, Mut.mslice (Referent.rtF (Referent.fInt Syntax.w32)) ty·8 3) (List._∷_ (5, Mut.mslice (Referent.rtF (Referent.fInt Syntax.w32)) ty·9 4) (List._∷_ (6, Mut.mslice ELEM.the-row ty·14 5) (List._∷_ (7, Mut.mslice (Referent.rtF (Referent.fInt Syntax.w32)) ty·10 6) (List._∷_ (8, Mut.mslice (Referent.rtF (Referent.fInt Syntax.w32)) ty·11 7) (List._∷_ (9, Rows.whole (Declared'.row Counts.the-type)) (List._∷_ (10, Rows.whole (Declared'.row Hull.the-type)) (List._∷_ (11, Rows.any-gone ty·20) (List._∷_ (12, Rows.any-gone ty·19) (List._∷_ (13, Rows.any-gone ty·26) (List._∷_ (14, Rows.whole (Declared.row Fate.the-type)) (List._∷_ (15, Rows.whole (Declared'.row (Apart.apartT Extension.the-type))) List.[])))))))))))))))
 
 abbrev pub t32 : List.List Row.Entry
-t32 = List._∷_ (0, Rows.any-gone ty·28) (List._∷_ (1, Mut.mslice (Signed.SInt Syntax.w32) ty·5 0) (List._∷_ (2, Mut.mslice (Referent.rtF (Referent.fInt Syntax.w32)) ty·6 1) (List._∷_ (3, Mut.mslice (Referent.rtF (Referent.fInt Syntax.w32)) ty·7 2) (List._∷_ (4, Mut.mslice (Referent.rtF (Referent.fInt Syntax.w32)) ty·8 3) (List._∷_ (5, Mut.mslice (Referent.rtF (Referent.fInt Syntax.w32)) ty·9 4) (List._∷_ (6, Mut.mslice ELEM.the-row ty·14 5) (List._∷_ (7, Mut.mslice (Referent.rtF (Referent.fInt Syntax.w32)) ty·10 6) (List._∷_ (8, Mut.mslice (Referent.rtF (Referent.fInt Syntax.w32)) ty·11 7) (List._∷_ (9, Rows.any-gone ty·21) (List._∷_ (10, Rows.whole (Declared'.row Hull.the-type)) (List._∷_ (11, Rows.any-gone ty·20) (List._∷_ (12, Rows.any-gone ty·19) (List._∷_ (13, Rows.any-gone ty·26) (List._∷_ (14, Rows.whole (Declared.row Fate.the-type)) (List._∷_ (15, Rows.whole (Declared'.row (Apart.apartT Added.the-type))) List.[])))))))))))))))
+t32 = List._∷_ (0, Rows.any-gone ty·28) (List._∷_ (1, Mut.mslice (Signed.SInt Syntax.w32) ty·5 0) (List._∷_ (2, Mut.mslice (Referent.rtF (Referent.fInt Syntax.w32)) ty·6 1) (List._∷_ (3, Mut.mslice (Referent.rtF (Referent.fInt Syntax.w32)) ty·7 2) (List._∷_ (4, Mut.mslice (Referent.rtF (Referent.fInt Syntax.w32)) ty·8 3) (List._∷_ (5, Mut.mslice (Referent.rtF (Referent.fInt Syntax.w32)) ty·9 4) (List._∷_ (6, Mut.mslice ELEM.the-row ty·14 5) (List._∷_ (7, Mut.mslice (Referent.rtF (Referent.fInt Syntax.w32)) ty·10 6) (List._∷_ (8, Mut.mslice (Referent.rtF (Referent.fInt Syntax.w32)) ty·11 7) (List._∷_ (9, Rows.any-gone ty·21) (List._∷_ (10, Rows.whole (Declared'.row Hull.the-type)) (List._∷_ (11, Rows.any-gone ty·20) (List._∷_ (12, Rows.any-gone ty·19) (List._∷_ (13, Rows.any-gone ty·26) (List._∷_ (14, Rows.whole (Declared.row Fate.the-type)) (List._∷_ (15, Rows.whole (Declared'.row (Apart.apartT Extension.the-type))) List.[])))))))))))))))
 
 abbrev pub t33 : List.List Row.Entry
-t33 = List._∷_ (0, Rows.any-gone ty·28) (List._∷_ (1, Mut.mslice (Signed.SInt Syntax.w32) ty·5 0) (List._∷_ (2, Mut.mslice (Referent.rtF (Referent.fInt Syntax.w32)) ty·6 1) (List._∷_ (3, Mut.mslice (Referent.rtF (Referent.fInt Syntax.w32)) ty·7 2) (List._∷_ (4, Mut.mslice (Referent.rtF (Referent.fInt Syntax.w32)) ty·8 3) (List._∷_ (5, Mut.mslice (Referent.rtF (Referent.fInt Syntax.w32)) ty·9 4) (List._∷_ (6, Mut.mslice ELEM.the-row ty·14 5) (List._∷_ (7, Mut.mslice (Referent.rtF (Referent.fInt Syntax.w32)) ty·10 6) (List._∷_ (8, Mut.mslice (Referent.rtF (Referent.fInt Syntax.w32)) ty·11 7) (List._∷_ (9, Rows.any-gone ty·21) (List._∷_ (10, Rows.whole (Declared'.row Hull.the-type)) (List._∷_ (11, Rows.any-gone ty·20) (List._∷_ (12, Rows.any-gone ty·19) (List._∷_ (13, Rows.any-gone ty·26) (List._∷_ (14, Rows.whole (Declared.row Fate.the-type)) (List._∷_ (15, Rows.whole (Declared'.row Added.the-type)) List.[])))))))))))))))
+t33 = List._∷_ (0, Rows.any-gone ty·28) (List._∷_ (1, Mut.mslice (Signed.SInt Syntax.w32) ty·5 0) (List._∷_ (2, Mut.mslice (Referent.rtF (Referent.fInt Syntax.w32)) ty·6 1) (List._∷_ (3, Mut.mslice (Referent.rtF (Referent.fInt Syntax.w32)) ty·7 2) (List._∷_ (4, Mut.mslice (Referent.rtF (Referent.fInt Syntax.w32)) ty·8 3) (List._∷_ (5, Mut.mslice (Referent.rtF (Referent.fInt Syntax.w32)) ty·9 4) (List._∷_ (6, Mut.mslice ELEM.the-row ty·14 5) (List._∷_ (7, Mut.mslice (Referent.rtF (Referent.fInt Syntax.w32)) ty·10 6) (List._∷_ (8, Mut.mslice (Referent.rtF (Referent.fInt Syntax.w32)) ty·11 7) (List._∷_ (9, Rows.any-gone ty·21) (List._∷_ (10, Rows.whole (Declared'.row Hull.the-type)) (List._∷_ (11, Rows.any-gone ty·20) (List._∷_ (12, Rows.any-gone ty·19) (List._∷_ (13, Rows.any-gone ty·26) (List._∷_ (14, Rows.whole (Declared.row Fate.the-type)) (List._∷_ (15, Rows.whole (Declared'.row Extension.the-type)) List.[])))))))))))))))
 
 abbrev pub t34 : List.List Row.Entry
-t34 = List._∷_ (0, Rows.whole (Declared'.row Progress.the-type)) (List._∷_ (1, Mut.mslice (Signed.SInt Syntax.w32) ty·5 0) (List._∷_ (2, Mut.mslice (Referent.rtF (Referent.fInt Syntax.w32)) ty·6 1) (List._∷_ (3, Mut.mslice (Referent.rtF (Referent.fInt Syntax.w32)) ty·7 2) (List._∷_ (4, Mut.mslice (Referent.rtF (Referent.fInt Syntax.w32)) ty·8 3) (List._∷_ (5, Mut.mslice (Referent.rtF (Referent.fInt Syntax.w32)) ty·9 4) (List._∷_ (6, Mut.mslice ELEM.the-row ty·14 5) (List._∷_ (7, Mut.mslice (Referent.rtF (Referent.fInt Syntax.w32)) ty·10 6) (List._∷_ (8, Mut.mslice (Referent.rtF (Referent.fInt Syntax.w32)) ty·11 7) (List._∷_ (9, Rows.any-gone ty·21) (List._∷_ (10, Rows.whole (Declared'.row Hull.the-type)) (List._∷_ (11, Rows.any-gone ty·20) (List._∷_ (12, Rows.any-gone ty·19) (List._∷_ (13, Rows.any-gone ty·26) (List._∷_ (14, Rows.whole (Declared.row Fate.the-type)) (List._∷_ (15, Rows.whole (Declared'.row Added.the-type)) List.[])))))))))))))))
+t34 = List._∷_ (0, Rows.whole (Declared'.row Progress.the-type)) (List._∷_ (1, Mut.mslice (Signed.SInt Syntax.w32) ty·5 0) (List._∷_ (2, Mut.mslice (Referent.rtF (Referent.fInt Syntax.w32)) ty·6 1) (List._∷_ (3, Mut.mslice (Referent.rtF (Referent.fInt Syntax.w32)) ty·7 2) (List._∷_ (4, Mut.mslice (Referent.rtF (Referent.fInt Syntax.w32)) ty·8 3) (List._∷_ (5, Mut.mslice (Referent.rtF (Referent.fInt Syntax.w32)) ty·9 4) (List._∷_ (6, Mut.mslice ELEM.the-row ty·14 5) (List._∷_ (7, Mut.mslice (Referent.rtF (Referent.fInt Syntax.w32)) ty·10 6) (List._∷_ (8, Mut.mslice (Referent.rtF (Referent.fInt Syntax.w32)) ty·11 7) (List._∷_ (9, Rows.any-gone ty·21) (List._∷_ (10, Rows.whole (Declared'.row Hull.the-type)) (List._∷_ (11, Rows.any-gone ty·20) (List._∷_ (12, Rows.any-gone ty·19) (List._∷_ (13, Rows.any-gone ty·26) (List._∷_ (14, Rows.whole (Declared.row Fate.the-type)) (List._∷_ (15, Rows.whole (Declared'.row Extension.the-type)) List.[])))))))))))))))
 
 abbrev pub t35 : List.List Row.Entry
-t35 = List._∷_ (0, Rows.whole (Declared'.row Progress.the-type)) (List._∷_ (1, Mut.mslice (Signed.SInt Syntax.w32) ty·5 0) (List._∷_ (2, Mut.mslice (Referent.rtF (Referent.fInt Syntax.w32)) ty·6 1) (List._∷_ (3, Mut.mslice (Referent.rtF (Referent.fInt Syntax.w32)) ty·7 2) (List._∷_ (4, Mut.mslice (Referent.rtF (Referent.fInt Syntax.w32)) ty·8 3) (List._∷_ (5, Mut.mslice (Referent.rtF (Referent.fInt Syntax.w32)) ty·9 4) (List._∷_ (6, Mut.mslice ELEM.the-row ty·14 5) (List._∷_ (7, Mut.mslice (Referent.rtF (Referent.fInt Syntax.w32)) ty·10 6) (List._∷_ (8, Mut.mslice (Referent.rtF (Referent.fInt Syntax.w32)) ty·11 7) (List._∷_ (9, Rows.any-gone ty·21) (List._∷_ (10, Rows.any-gone ty·22) (List._∷_ (11, Rows.any-gone ty·20) (List._∷_ (12, Rows.any-gone ty·19) (List._∷_ (13, Rows.any-gone ty·26) (List._∷_ (14, Rows.whole (Declared.row Fate.the-type)) (List._∷_ (15, Rows.whole (Declared'.row Added.the-type)) List.[])))))))))))))))
+t35 = List._∷_ (0, Rows.whole (Declared'.row Progress.the-type)) (List._∷_ (1, Mut.mslice (Signed.SInt Syntax.w32) ty·5 0) (List._∷_ (2, Mut.mslice (Referent.rtF (Referent.fInt Syntax.w32)) ty·6 1) (List._∷_ (3, Mut.mslice (Referent.rtF (Referent.fInt Syntax.w32)) ty·7 2) (List._∷_ (4, Mut.mslice (Referent.rtF (Referent.fInt Syntax.w32)) ty·8 3) (List._∷_ (5, Mut.mslice (Referent.rtF (Referent.fInt Syntax.w32)) ty·9 4) (List._∷_ (6, Mut.mslice ELEM.the-row ty·14 5) (List._∷_ (7, Mut.mslice (Referent.rtF (Referent.fInt Syntax.w32)) ty·10 6) (List._∷_ (8, Mut.mslice (Referent.rtF (Referent.fInt Syntax.w32)) ty·11 7) (List._∷_ (9, Rows.any-gone ty·21) (List._∷_ (10, Rows.any-gone ty·22) (List._∷_ (11, Rows.any-gone ty·20) (List._∷_ (12, Rows.any-gone ty·19) (List._∷_ (13, Rows.any-gone ty·26) (List._∷_ (14, Rows.whole (Declared.row Fate.the-type)) (List._∷_ (15, Rows.whole (Declared'.row Extension.the-type)) List.[])))))))))))))))
 
 abbrev pub t36 : List.List Row.Entry
-t36 = List._∷_ (0, Rows.whole (Declared'.row Progress.the-type)) (List._∷_ (1, Mut.mslice (Signed.SInt Syntax.w32) ty·5 0) (List._∷_ (2, Mut.mslice (Referent.rtF (Referent.fInt Syntax.w32)) ty·6 1) (List._∷_ (3, Mut.mslice (Referent.rtF (Referent.fInt Syntax.w32)) ty·7 2) (List._∷_ (4, Mut.mslice (Referent.rtF (Referent.fInt Syntax.w32)) ty·8 3) (List._∷_ (5, Mut.mslice (Referent.rtF (Referent.fInt Syntax.w32)) ty·9 4) (List._∷_ (6, Mut.mslice ELEM.the-row ty·14 5) (List._∷_ (7, Mut.mslice (Referent.rtF (Referent.fInt Syntax.w32)) ty·10 6) (List._∷_ (8, Mut.mslice (Referent.rtF (Referent.fInt Syntax.w32)) ty·11 7) (List._∷_ (9, Rows.any-gone ty·21) (List._∷_ (10, Rows.any-gone ty·22) (List._∷_ (11, Rows.any-gone ty·20) (List._∷_ (12, Rows.any-gone ty·19) (List._∷_ (13, Rows.any-gone ty·26) (List._∷_ (14, Rows.any-gone ty·23) (List._∷_ (15, Rows.whole (Declared'.row Added.the-type)) List.[])))))))))))))))
+t36 = List._∷_ (0, Rows.whole (Declared'.row Progress.the-type)) (List._∷_ (1, Mut.mslice (Signed.SInt Syntax.w32) ty·5 0) (List._∷_ (2, Mut.mslice (Referent.rtF (Referent.fInt Syntax.w32)) ty·6 1) (List._∷_ (3, Mut.mslice (Referent.rtF (Referent.fInt Syntax.w32)) ty·7 2) (List._∷_ (4, Mut.mslice (Referent.rtF (Referent.fInt Syntax.w32)) ty·8 3) (List._∷_ (5, Mut.mslice (Referent.rtF (Referent.fInt Syntax.w32)) ty·9 4) (List._∷_ (6, Mut.mslice ELEM.the-row ty·14 5) (List._∷_ (7, Mut.mslice (Referent.rtF (Referent.fInt Syntax.w32)) ty·10 6) (List._∷_ (8, Mut.mslice (Referent.rtF (Referent.fInt Syntax.w32)) ty·11 7) (List._∷_ (9, Rows.any-gone ty·21) (List._∷_ (10, Rows.any-gone ty·22) (List._∷_ (11, Rows.any-gone ty·20) (List._∷_ (12, Rows.any-gone ty·19) (List._∷_ (13, Rows.any-gone ty·26) (List._∷_ (14, Rows.any-gone ty·23) (List._∷_ (15, Rows.whole (Declared'.row Extension.the-type)) List.[])))))))))))))))
 
 abbrev pub t37 : List.List Row.Entry
-t37 = List._∷_ (0, Rows.any-gone ty·28) (List._∷_ (1, Relend.mslice-owed (Signed.SInt Syntax.w32) ty·5 0 12 Row.off) (List._∷_ (2, Mut.mslice (Referent.rtF (Referent.fInt Syntax.w32)) ty·6 1) (List._∷_ (3, Mut.mslice (Referent.rtF (Referent.fInt Syntax.w32)) ty·7 2) (List._∷_ (4, Mut.mslice (Referent.rtF (Referent.fInt Syntax.w32)) ty·8 3) (List._∷_ (5, Mut.mslice (Referent.rtF (Referent.fInt Syntax.w32)) ty·9 4) (List._∷_ (6, Mut.mslice ELEM.the-row ty·14 5) (List._∷_ (7, Mut.mslice (Referent.rtF (Referent.fInt Syntax.w32)) ty·10 6) (List._∷_ (8, Mut.mslice (Referent.rtF (Referent.fInt Syntax.w32)) ty·11 7) (List._∷_ (9, Rows.whole (Declared'.row Counts.the-type)) (List._∷_ (10, Rows.whole (Declared'.row Hull.the-type)) (List._∷_ (11, Rows.any-gone ty·20) (List._∷_ (12, Rows.whole (Declared'.row Point.the-type)) (List._∷_ (13, Rows.whole (Declared'.row Decision.the-type)) (List._∷_ (14, Rows.whole (Declared.row Fate.the-type)) (List._∷_ (15, Rows.any-gone ty·24) List.[])))))))))))))))
+t37 = List._∷_ (0, Rows.any-gone ty·28) (List._∷_ (1, Relend.mslice-owed (Signed.SInt Syntax.w32) ty·5 0 12 Row.off) (List._∷_ (2, Mut.mslice (Referent.rtF (Referent.fInt Syntax.w32)) ty·6 1) (List._∷_ (3, Mut.mslice (Referent.rtF (Referent.fInt Syntax.w32)) ty·7 2) (List._∷_ (4, Mut.mslice (Referent.rtF (Referent.fInt Syntax.w32)) ty·8 3) (List._∷_ (5, Mut.mslice (Referent.rtF (Referent.fInt Syntax.w32)) ty·9 4) (List._∷_ (6, Mut.mslice ELEM.the-row ty·14 5) (List._∷_ (7, Mut.mslice (Referent.rtF (Referent.fInt Syntax.w32)) ty·10 6) (List._∷_ (8, Mut.mslice (Referent.rtF (Referent.fInt Syntax.w32)) ty·11 7) (List._∷_ (9, Rows.whole (Declared'.row Counts.the-type)) (List._∷_ (10, Rows.whole (Declared'.row Hull.the-type)) (List._∷_ (11, Rows.any-gone ty·20) (List._∷_ (12, Rows.whole (Declared'.row Point.the-type)) (List._∷_ (13, Rows.whole (Declared'.row Decision.the-type)) (List._∷_ (14, Rows.whole (Declared.row Fate.the-type)) (List._∷_ (15, Rows.any-gone ty·25) List.[])))))))))))))))
 
 abbrev pub t38 : List.List Row.Entry
-t38 = List._∷_ (16, Rows.any-gone ty·27) (List._∷_ (17, Rows.any-gone ty·24) (List._∷_ (18, Rows.any-gone ty·22) (List._∷_ (19, Rows.any-gone ty·3) (List._∷_ (20, Rows.any-gone ty·15) (List._∷_ (21, Rows.any-gone ty·3) (List._∷_ (22, Rows.any-gone ty·15) (List._∷_ (23, Rows.any-gone ty·12) (List._∷_ (24, Rows.any-gone ty·17) (List._∷_ (25, Rows.any-gone ty·3) (List._∷_ (26, Rows.any-gone ty·15) (List._∷_ (27, Rows.any-gone Syntax.tyBool) (List._∷_ (28, Rows.any-gone Syntax.tyBool) (List._∷_ (29, Relend.msptr (Signed.SInt Syntax.w32) ty·4 12) (List._∷_ (30, Rows.any-gone ty·16) (List._∷_ (31, Rows.any-gone ty·4) List.[])))))))))))))))
+t38 = List._∷_ (16, Rows.any-gone ty·27) (List._∷_ (17, Rows.any-gone ty·25) (List._∷_ (18, Rows.any-gone ty·22) (List._∷_ (19, Rows.any-gone ty·3) (List._∷_ (20, Rows.any-gone ty·15) (List._∷_ (21, Rows.any-gone ty·3) (List._∷_ (22, Rows.any-gone ty·15) (List._∷_ (23, Rows.any-gone ty·12) (List._∷_ (24, Rows.any-gone ty·17) (List._∷_ (25, Rows.any-gone ty·3) (List._∷_ (26, Rows.any-gone ty·15) (List._∷_ (27, Rows.any-gone Syntax.tyBool) (List._∷_ (28, Rows.any-gone Syntax.tyBool) (List._∷_ (29, Relend.msptr (Signed.SInt Syntax.w32) ty·4 12) (List._∷_ (30, Rows.any-gone ty·16) (List._∷_ (31, Rows.any-gone ty·4) List.[])))))))))))))))
 
 abbrev pub t39 : List.List Row.Entry
-t39 = List._∷_ (16, Rows.any-gone ty·27) (List._∷_ (17, Rows.any-gone ty·24) (List._∷_ (18, Rows.any-gone ty·22) (List._∷_ (19, Rows.any-gone ty·3) (List._∷_ (20, Rows.any-gone ty·15) (List._∷_ (21, Rows.any-gone ty·3) (List._∷_ (22, Rows.any-gone ty·15) (List._∷_ (23, Rows.any-gone ty·12) (List._∷_ (24, Rows.any-gone ty·17) (List._∷_ (25, Rows.any-gone ty·3) (List._∷_ (26, Rows.any-gone ty·15) (List._∷_ (27, Rows.any-gone Syntax.tyBool) (List._∷_ (28, Rows.any-gone Syntax.tyBool) (List._∷_ (29, Rows.any-gone ty·4) (List._∷_ (30, Mut.mslice (Signed.SInt Syntax.w32) ty·4 12) (List._∷_ (31, Rows.any-gone ty·4) List.[])))))))))))))))
+t39 = List._∷_ (16, Rows.any-gone ty·27) (List._∷_ (17, Rows.any-gone ty·25) (List._∷_ (18, Rows.any-gone ty·22) (List._∷_ (19, Rows.any-gone ty·3) (List._∷_ (20, Rows.any-gone ty·15) (List._∷_ (21, Rows.any-gone ty·3) (List._∷_ (22, Rows.any-gone ty·15) (List._∷_ (23, Rows.any-gone ty·12) (List._∷_ (24, Rows.any-gone ty·17) (List._∷_ (25, Rows.any-gone ty·3) (List._∷_ (26, Rows.any-gone ty·15) (List._∷_ (27, Rows.any-gone Syntax.tyBool) (List._∷_ (28, Rows.any-gone Syntax.tyBool) (List._∷_ (29, Rows.any-gone ty·4) (List._∷_ (30, Mut.mslice (Signed.SInt Syntax.w32) ty·4 12) (List._∷_ (31, Rows.any-gone ty·4) List.[])))))))))))))))
 
 abbrev pub t40 : List.List Row.Entry
-t40 = List._∷_ (0, Rows.any-gone ty·28) (List._∷_ (1, Relend.mslice-owed (Signed.SInt Syntax.w32) ty·5 0 12 Row.off) (List._∷_ (2, Relend.mslice-owed (Referent.rtF (Referent.fInt Syntax.w32)) ty·6 1 13 Row.off) (List._∷_ (3, Mut.mslice (Referent.rtF (Referent.fInt Syntax.w32)) ty·7 2) (List._∷_ (4, Mut.mslice (Referent.rtF (Referent.fInt Syntax.w32)) ty·8 3) (List._∷_ (5, Mut.mslice (Referent.rtF (Referent.fInt Syntax.w32)) ty·9 4) (List._∷_ (6, Mut.mslice ELEM.the-row ty·14 5) (List._∷_ (7, Mut.mslice (Referent.rtF (Referent.fInt Syntax.w32)) ty·10 6) (List._∷_ (8, Mut.mslice (Referent.rtF (Referent.fInt Syntax.w32)) ty·11 7) (List._∷_ (9, Rows.whole (Declared'.row Counts.the-type)) (List._∷_ (10, Rows.whole (Declared'.row Hull.the-type)) (List._∷_ (11, Rows.any-gone ty·20) (List._∷_ (12, Rows.whole (Declared'.row Point.the-type)) (List._∷_ (13, Rows.whole (Declared'.row Decision.the-type)) (List._∷_ (14, Rows.whole (Declared.row Fate.the-type)) (List._∷_ (15, Rows.any-gone ty·24) List.[])))))))))))))))
+t40 = List._∷_ (0, Rows.any-gone ty·28) (List._∷_ (1, Relend.mslice-owed (Signed.SInt Syntax.w32) ty·5 0 12 Row.off) (List._∷_ (2, Relend.mslice-owed (Referent.rtF (Referent.fInt Syntax.w32)) ty·6 1 13 Row.off) (List._∷_ (3, Mut.mslice (Referent.rtF (Referent.fInt Syntax.w32)) ty·7 2) (List._∷_ (4, Mut.mslice (Referent.rtF (Referent.fInt Syntax.w32)) ty·8 3) (List._∷_ (5, Mut.mslice (Referent.rtF (Referent.fInt Syntax.w32)) ty·9 4) (List._∷_ (6, Mut.mslice ELEM.the-row ty·14 5) (List._∷_ (7, Mut.mslice (Referent.rtF (Referent.fInt Syntax.w32)) ty·10 6) (List._∷_ (8, Mut.mslice (Referent.rtF (Referent.fInt Syntax.w32)) ty·11 7) (List._∷_ (9, Rows.whole (Declared'.row Counts.the-type)) (List._∷_ (10, Rows.whole (Declared'.row Hull.the-type)) (List._∷_ (11, Rows.any-gone ty·20) (List._∷_ (12, Rows.whole (Declared'.row Point.the-type)) (List._∷_ (13, Rows.whole (Declared'.row Decision.the-type)) (List._∷_ (14, Rows.whole (Declared.row Fate.the-type)) (List._∷_ (15, Rows.any-gone ty·25) List.[])))))))))))))))
 
 abbrev pub t41 : List.List Row.Entry
-t41 = List._∷_ (16, Rows.any-gone ty·27) (List._∷_ (17, Rows.any-gone ty·24) (List._∷_ (18, Rows.any-gone ty·22) (List._∷_ (19, Rows.any-gone ty·3) (List._∷_ (20, Rows.any-gone ty·15) (List._∷_ (21, Rows.any-gone ty·3) (List._∷_ (22, Rows.any-gone ty·15) (List._∷_ (23, Rows.any-gone ty·12) (List._∷_ (24, Rows.any-gone ty·17) (List._∷_ (25, Rows.any-gone ty·3) (List._∷_ (26, Rows.any-gone ty·15) (List._∷_ (27, Rows.any-gone Syntax.tyBool) (List._∷_ (28, Rows.any-gone Syntax.tyBool) (List._∷_ (29, Rows.any-gone ty·4) (List._∷_ (30, Mut.mslice (Signed.SInt Syntax.w32) ty·4 12) (List._∷_ (31, Relend.msptr (Referent.rtF (Referent.fInt Syntax.w32)) ty·4 13) List.[])))))))))))))))
+t41 = List._∷_ (16, Rows.any-gone ty·27) (List._∷_ (17, Rows.any-gone ty·25) (List._∷_ (18, Rows.any-gone ty·22) (List._∷_ (19, Rows.any-gone ty·3) (List._∷_ (20, Rows.any-gone ty·15) (List._∷_ (21, Rows.any-gone ty·3) (List._∷_ (22, Rows.any-gone ty·15) (List._∷_ (23, Rows.any-gone ty·12) (List._∷_ (24, Rows.any-gone ty·17) (List._∷_ (25, Rows.any-gone ty·3) (List._∷_ (26, Rows.any-gone ty·15) (List._∷_ (27, Rows.any-gone Syntax.tyBool) (List._∷_ (28, Rows.any-gone Syntax.tyBool) (List._∷_ (29, Rows.any-gone ty·4) (List._∷_ (30, Mut.mslice (Signed.SInt Syntax.w32) ty·4 12) (List._∷_ (31, Relend.msptr (Referent.rtF (Referent.fInt Syntax.w32)) ty·4 13) List.[])))))))))))))))
 
 abbrev pub t42 : List.List Row.Entry
 t42 = List._∷_ (32, Mut.mslice (Referent.rtF (Referent.fInt Syntax.w32)) ty·4 13) (List._∷_ (33, Rows.any-gone ty·4) (List._∷_ (34, Rows.any-gone ty·16) (List._∷_ (35, Rows.any-gone ty·4) (List._∷_ (36, Rows.any-gone ty·16) (List._∷_ (37, Rows.any-gone ty·4) (List._∷_ (38, Rows.any-gone ty·16) (List._∷_ (39, Rows.any-gone ty·13) (List._∷_ (40, Rows.any-gone ty·18) (List._∷_ (41, Rows.any-gone ty·4) (List._∷_ (42, Rows.any-gone ty·16) (List._∷_ (43, Rows.any-gone ty·4) (List._∷_ (44, Rows.any-gone ty·16) List.[]))))))))))))
 
 abbrev pub t43 : List.List Row.Entry
-t43 = List._∷_ (0, Rows.any-gone ty·28) (List._∷_ (1, Relend.mslice-owed (Signed.SInt Syntax.w32) ty·5 0 12 Row.off) (List._∷_ (2, Relend.mslice-owed (Referent.rtF (Referent.fInt Syntax.w32)) ty·6 1 13 Row.off) (List._∷_ (3, Relend.mslice-owed (Referent.rtF (Referent.fInt Syntax.w32)) ty·7 2 14 Row.off) (List._∷_ (4, Mut.mslice (Referent.rtF (Referent.fInt Syntax.w32)) ty·8 3) (List._∷_ (5, Mut.mslice (Referent.rtF (Referent.fInt Syntax.w32)) ty·9 4) (List._∷_ (6, Mut.mslice ELEM.the-row ty·14 5) (List._∷_ (7, Mut.mslice (Referent.rtF (Referent.fInt Syntax.w32)) ty·10 6) (List._∷_ (8, Mut.mslice (Referent.rtF (Referent.fInt Syntax.w32)) ty·11 7) (List._∷_ (9, Rows.whole (Declared'.row Counts.the-type)) (List._∷_ (10, Rows.whole (Declared'.row Hull.the-type)) (List._∷_ (11, Rows.any-gone ty·20) (List._∷_ (12, Rows.whole (Declared'.row Point.the-type)) (List._∷_ (13, Rows.whole (Declared'.row Decision.the-type)) (List._∷_ (14, Rows.whole (Declared.row Fate.the-type)) (List._∷_ (15, Rows.any-gone ty·24) List.[])))))))))))))))
+t43 = List._∷_ (0, Rows.any-gone ty·28) (List._∷_ (1, Relend.mslice-owed (Signed.SInt Syntax.w32) ty·5 0 12 Row.off) (List._∷_ (2, Relend.mslice-owed (Referent.rtF (Referent.fInt Syntax.w32)) ty·6 1 13 Row.off) (List._∷_ (3, Relend.mslice-owed (Referent.rtF (Referent.fInt Syntax.w32)) ty·7 2 14 Row.off) (List._∷_ (4, Mut.mslice (Referent.rtF (Referent.fInt Syntax.w32)) ty·8 3) (List._∷_ (5, Mut.mslice (Referent.rtF (Referent.fInt Syntax.w32)) ty·9 4) (List._∷_ (6, Mut.mslice ELEM.the-row ty·14 5) (List._∷_ (7, Mut.mslice (Referent.rtF (Referent.fInt Syntax.w32)) ty·10 6) (List._∷_ (8, Mut.mslice (Referent.rtF (Referent.fInt Syntax.w32)) ty·11 7) (List._∷_ (9, Rows.whole (Declared'.row Counts.the-type)) (List._∷_ (10, Rows.whole (Declared'.row Hull.the-type)) (List._∷_ (11, Rows.any-gone ty·20) (List._∷_ (12, Rows.whole (Declared'.row Point.the-type)) (List._∷_ (13, Rows.whole (Declared'.row Decision.the-type)) (List._∷_ (14, Rows.whole (Declared.row Fate.the-type)) (List._∷_ (15, Rows.any-gone ty·25) List.[])))))))))))))))
 
 abbrev pub t44 : List.List Row.Entry
 t44 = List._∷_ (32, Mut.mslice (Referent.rtF (Referent.fInt Syntax.w32)) ty·4 13) (List._∷_ (33, Relend.msptr (Referent.rtF (Referent.fInt Syntax.w32)) ty·4 14) (List._∷_ (34, Rows.any-gone ty·16) (List._∷_ (35, Rows.any-gone ty·4) (List._∷_ (36, Rows.any-gone ty·16) (List._∷_ (37, Rows.any-gone ty·4) (List._∷_ (38, Rows.any-gone ty·16) (List._∷_ (39, Rows.any-gone ty·13) (List._∷_ (40, Rows.any-gone ty·18) (List._∷_ (41, Rows.any-gone ty·4) (List._∷_ (42, Rows.any-gone ty·16) (List._∷_ (43, Rows.any-gone ty·4) (List._∷_ (44, Rows.any-gone ty·16) List.[]))))))))))))
@@ -605,7 +605,7 @@ abbrev pub t45 : List.List Row.Entry
 t45 = List._∷_ (32, Mut.mslice (Referent.rtF (Referent.fInt Syntax.w32)) ty·4 13) (List._∷_ (33, Rows.any-gone ty·4) (List._∷_ (34, Mut.mslice (Referent.rtF (Referent.fInt Syntax.w32)) ty·4 14) (List._∷_ (35, Rows.any-gone ty·4) (List._∷_ (36, Rows.any-gone ty·16) (List._∷_ (37, Rows.any-gone ty·4) (List._∷_ (38, Rows.any-gone ty·16) (List._∷_ (39, Rows.any-gone ty·13) (List._∷_ (40, Rows.any-gone ty·18) (List._∷_ (41, Rows.any-gone ty·4) (List._∷_ (42, Rows.any-gone ty·16) (List._∷_ (43, Rows.any-gone ty·4) (List._∷_ (44, Rows.any-gone ty·16) List.[]))))))))))))
 
 abbrev pub t46 : List.List Row.Entry
-t46 = List._∷_ (0, Rows.any-gone ty·28) (List._∷_ (1, Relend.mslice-owed (Signed.SInt Syntax.w32) ty·5 0 12 Row.off) (List._∷_ (2, Relend.mslice-owed (Referent.rtF (Referent.fInt Syntax.w32)) ty·6 1 13 Row.off) (List._∷_ (3, Relend.mslice-owed (Referent.rtF (Referent.fInt Syntax.w32)) ty·7 2 14 Row.off) (List._∷_ (4, Relend.mslice-owed (Referent.rtF (Referent.fInt Syntax.w32)) ty·8 3 15 Row.off) (List._∷_ (5, Mut.mslice (Referent.rtF (Referent.fInt Syntax.w32)) ty·9 4) (List._∷_ (6, Mut.mslice ELEM.the-row ty·14 5) (List._∷_ (7, Mut.mslice (Referent.rtF (Referent.fInt Syntax.w32)) ty·10 6) (List._∷_ (8, Mut.mslice (Referent.rtF (Referent.fInt Syntax.w32)) ty·11 7) (List._∷_ (9, Rows.whole (Declared'.row Counts.the-type)) (List._∷_ (10, Rows.whole (Declared'.row Hull.the-type)) (List._∷_ (11, Rows.any-gone ty·20) (List._∷_ (12, Rows.whole (Declared'.row Point.the-type)) (List._∷_ (13, Rows.whole (Declared'.row Decision.the-type)) (List._∷_ (14, Rows.whole (Declared.row Fate.the-type)) (List._∷_ (15, Rows.any-gone ty·24) List.[])))))))))))))))
+t46 = List._∷_ (0, Rows.any-gone ty·28) (List._∷_ (1, Relend.mslice-owed (Signed.SInt Syntax.w32) ty·5 0 12 Row.off) (List._∷_ (2, Relend.mslice-owed (Referent.rtF (Referent.fInt Syntax.w32)) ty·6 1 13 Row.off) (List._∷_ (3, Relend.mslice-owed (Referent.rtF (Referent.fInt Syntax.w32)) ty·7 2 14 Row.off) (List._∷_ (4, Relend.mslice-owed (Referent.rtF (Referent.fInt Syntax.w32)) ty·8 3 15 Row.off) (List._∷_ (5, Mut.mslice (Referent.rtF (Referent.fInt Syntax.w32)) ty·9 4) (List._∷_ (6, Mut.mslice ELEM.the-row ty·14 5) (List._∷_ (7, Mut.mslice (Referent.rtF (Referent.fInt Syntax.w32)) ty·10 6) (List._∷_ (8, Mut.mslice (Referent.rtF (Referent.fInt Syntax.w32)) ty·11 7) (List._∷_ (9, Rows.whole (Declared'.row Counts.the-type)) (List._∷_ (10, Rows.whole (Declared'.row Hull.the-type)) (List._∷_ (11, Rows.any-gone ty·20) (List._∷_ (12, Rows.whole (Declared'.row Point.the-type)) (List._∷_ (13, Rows.whole (Declared'.row Decision.the-type)) (List._∷_ (14, Rows.whole (Declared.row Fate.the-type)) (List._∷_ (15, Rows.any-gone ty·25) List.[])))))))))))))))
 
 abbrev pub t47 : List.List Row.Entry
 t47 = List._∷_ (32, Mut.mslice (Referent.rtF (Referent.fInt Syntax.w32)) ty·4 13) (List._∷_ (33, Rows.any-gone ty·4) (List._∷_ (34, Mut.mslice (Referent.rtF (Referent.fInt Syntax.w32)) ty·4 14) (List._∷_ (35, Relend.msptr (Referent.rtF (Referent.fInt Syntax.w32)) ty·4 15) (List._∷_ (36, Rows.any-gone ty·16) (List._∷_ (37, Rows.any-gone ty·4) (List._∷_ (38, Rows.any-gone ty·16) (List._∷_ (39, Rows.any-gone ty·13) (List._∷_ (40, Rows.any-gone ty·18) (List._∷_ (41, Rows.any-gone ty·4) (List._∷_ (42, Rows.any-gone ty·16) (List._∷_ (43, Rows.any-gone ty·4) (List._∷_ (44, Rows.any-gone ty·16) List.[]))))))))))))
@@ -614,7 +614,7 @@ abbrev pub t48 : List.List Row.Entry
 t48 = List._∷_ (32, Mut.mslice (Referent.rtF (Referent.fInt Syntax.w32)) ty·4 13) (List._∷_ (33, Rows.any-gone ty·4) (List._∷_ (34, Mut.mslice (Referent.rtF (Referent.fInt Syntax.w32)) ty·4 14) (List._∷_ (35, Rows.any-gone ty·4) (List._∷_ (36, Mut.mslice (Referent.rtF (Referent.fInt Syntax.w32)) ty·4 15) (List._∷_ (37, Rows.any-gone ty·4) (List._∷_ (38, Rows.any-gone ty·16) (List._∷_ (39, Rows.any-gone ty·13) (List._∷_ (40, Rows.any-gone ty·18) (List._∷_ (41, Rows.any-gone ty·4) (List._∷_ (42, Rows.any-gone ty·16) (List._∷_ (43, Rows.any-gone ty·4) (List._∷_ (44, Rows.any-gone ty·16) List.[]))))))))))))
 
 abbrev pub t49 : List.List Row.Entry
-t49 = List._∷_ (0, Rows.any-gone ty·28) (List._∷_ (1, Relend.mslice-owed (Signed.SInt Syntax.w32) ty·5 0 12 Row.off) (List._∷_ (2, Relend.mslice-owed (Referent.rtF (Referent.fInt Syntax.w32)) ty·6 1 13 Row.off) (List._∷_ (3, Relend.mslice-owed (Referent.rtF (Referent.fInt Syntax.w32)) ty·7 2 14 Row.off) (List._∷_ (4, Relend.mslice-owed (Referent.rtF (Referent.fInt Syntax.w32)) ty·8 3 15 Row.off) (List._∷_ (5, Relend.mslice-owed (Referent.rtF (Referent.fInt Syntax.w32)) ty·9 4 16 Row.off) (List._∷_ (6, Mut.mslice ELEM.the-row ty·14 5) (List._∷_ (7, Mut.mslice (Referent.rtF (Referent.fInt Syntax.w32)) ty·10 6) (List._∷_ (8, Mut.mslice (Referent.rtF (Referent.fInt Syntax.w32)) ty·11 7) (List._∷_ (9, Rows.whole (Declared'.row Counts.the-type)) (List._∷_ (10, Rows.whole (Declared'.row Hull.the-type)) (List._∷_ (11, Rows.any-gone ty·20) (List._∷_ (12, Rows.whole (Declared'.row Point.the-type)) (List._∷_ (13, Rows.whole (Declared'.row Decision.the-type)) (List._∷_ (14, Rows.whole (Declared.row Fate.the-type)) (List._∷_ (15, Rows.any-gone ty·24) List.[])))))))))))))))
+t49 = List._∷_ (0, Rows.any-gone ty·28) (List._∷_ (1, Relend.mslice-owed (Signed.SInt Syntax.w32) ty·5 0 12 Row.off) (List._∷_ (2, Relend.mslice-owed (Referent.rtF (Referent.fInt Syntax.w32)) ty·6 1 13 Row.off) (List._∷_ (3, Relend.mslice-owed (Referent.rtF (Referent.fInt Syntax.w32)) ty·7 2 14 Row.off) (List._∷_ (4, Relend.mslice-owed (Referent.rtF (Referent.fInt Syntax.w32)) ty·8 3 15 Row.off) (List._∷_ (5, Relend.mslice-owed (Referent.rtF (Referent.fInt Syntax.w32)) ty·9 4 16 Row.off) (List._∷_ (6, Mut.mslice ELEM.the-row ty·14 5) (List._∷_ (7, Mut.mslice (Referent.rtF (Referent.fInt Syntax.w32)) ty·10 6) (List._∷_ (8, Mut.mslice (Referent.rtF (Referent.fInt Syntax.w32)) ty·11 7) (List._∷_ (9, Rows.whole (Declared'.row Counts.the-type)) (List._∷_ (10, Rows.whole (Declared'.row Hull.the-type)) (List._∷_ (11, Rows.any-gone ty·20) (List._∷_ (12, Rows.whole (Declared'.row Point.the-type)) (List._∷_ (13, Rows.whole (Declared'.row Decision.the-type)) (List._∷_ (14, Rows.whole (Declared.row Fate.the-type)) (List._∷_ (15, Rows.any-gone ty·25) List.[])))))))))))))))
 
 abbrev pub t50 : List.List Row.Entry
 t50 = List._∷_ (32, Mut.mslice (Referent.rtF (Referent.fInt Syntax.w32)) ty·4 13) (List._∷_ (33, Rows.any-gone ty·4) (List._∷_ (34, Mut.mslice (Referent.rtF (Referent.fInt Syntax.w32)) ty·4 14) (List._∷_ (35, Rows.any-gone ty·4) (List._∷_ (36, Mut.mslice (Referent.rtF (Referent.fInt Syntax.w32)) ty·4 15) (List._∷_ (37, Relend.msptr (Referent.rtF (Referent.fInt Syntax.w32)) ty·4 16) (List._∷_ (38, Rows.any-gone ty·16) (List._∷_ (39, Rows.any-gone ty·13) (List._∷_ (40, Rows.any-gone ty·18) (List._∷_ (41, Rows.any-gone ty·4) (List._∷_ (42, Rows.any-gone ty·16) (List._∷_ (43, Rows.any-gone ty·4) (List._∷_ (44, Rows.any-gone ty·16) List.[]))))))))))))
@@ -623,67 +623,67 @@ abbrev pub t51 : List.List Row.Entry
 t51 = List._∷_ (32, Mut.mslice (Referent.rtF (Referent.fInt Syntax.w32)) ty·4 13) (List._∷_ (33, Rows.any-gone ty·4) (List._∷_ (34, Mut.mslice (Referent.rtF (Referent.fInt Syntax.w32)) ty·4 14) (List._∷_ (35, Rows.any-gone ty·4) (List._∷_ (36, Mut.mslice (Referent.rtF (Referent.fInt Syntax.w32)) ty·4 15) (List._∷_ (37, Rows.any-gone ty·4) (List._∷_ (38, Mut.mslice (Referent.rtF (Referent.fInt Syntax.w32)) ty·4 16) (List._∷_ (39, Rows.any-gone ty·13) (List._∷_ (40, Rows.any-gone ty·18) (List._∷_ (41, Rows.any-gone ty·4) (List._∷_ (42, Rows.any-gone ty·16) (List._∷_ (43, Rows.any-gone ty·4) (List._∷_ (44, Rows.any-gone ty·16) List.[]))))))))))))
 
 abbrev pub t52 : List.List Row.Entry
-t52 = List._∷_ (16, Rows.whole (Declared'.row Entered.the-type)) (List._∷_ (17, Rows.any-gone ty·24) (List._∷_ (18, Rows.any-gone ty·22) (List._∷_ (19, Rows.any-gone ty·3) (List._∷_ (20, Rows.any-gone ty·15) (List._∷_ (21, Rows.any-gone ty·3) (List._∷_ (22, Rows.any-gone ty·15) (List._∷_ (23, Rows.any-gone ty·12) (List._∷_ (24, Rows.any-gone ty·17) (List._∷_ (25, Rows.any-gone ty·3) (List._∷_ (26, Rows.any-gone ty·15) (List._∷_ (27, Rows.any-gone Syntax.tyBool) (List._∷_ (28, Rows.any-gone Syntax.tyBool) (List._∷_ (29, Rows.any-gone ty·4) (List._∷_ (30, Mut.msleft (Signed.SInt Syntax.w32) ty·4) (List._∷_ (31, Rows.any-gone ty·4) List.[])))))))))))))))
+t52 = List._∷_ (16, Rows.whole (Declared'.row Entered.the-type)) (List._∷_ (17, Rows.any-gone ty·25) (List._∷_ (18, Rows.any-gone ty·22) (List._∷_ (19, Rows.any-gone ty·3) (List._∷_ (20, Rows.any-gone ty·15) (List._∷_ (21, Rows.any-gone ty·3) (List._∷_ (22, Rows.any-gone ty·15) (List._∷_ (23, Rows.any-gone ty·12) (List._∷_ (24, Rows.any-gone ty·17) (List._∷_ (25, Rows.any-gone ty·3) (List._∷_ (26, Rows.any-gone ty·15) (List._∷_ (27, Rows.any-gone Syntax.tyBool) (List._∷_ (28, Rows.any-gone Syntax.tyBool) (List._∷_ (29, Rows.any-gone ty·4) (List._∷_ (30, Mut.msleft (Signed.SInt Syntax.w32) ty·4) (List._∷_ (31, Rows.any-gone ty·4) List.[])))))))))))))))
 
 abbrev pub t53 : List.List Row.Entry
 t53 = List._∷_ (32, Mut.msleft (Referent.rtF (Referent.fInt Syntax.w32)) ty·4) (List._∷_ (33, Rows.any-gone ty·4) (List._∷_ (34, Mut.msleft (Referent.rtF (Referent.fInt Syntax.w32)) ty·4) (List._∷_ (35, Rows.any-gone ty·4) (List._∷_ (36, Mut.msleft (Referent.rtF (Referent.fInt Syntax.w32)) ty·4) (List._∷_ (37, Rows.any-gone ty·4) (List._∷_ (38, Mut.msleft (Referent.rtF (Referent.fInt Syntax.w32)) ty·4) (List._∷_ (39, Rows.any-gone ty·13) (List._∷_ (40, Rows.any-gone ty·18) (List._∷_ (41, Rows.any-gone ty·4) (List._∷_ (42, Rows.any-gone ty·16) (List._∷_ (43, Rows.any-gone ty·4) (List._∷_ (44, Rows.any-gone ty·16) List.[]))))))))))))
 
 abbrev pub t54 : List.List Row.Entry
-t54 = List._∷_ (0, Rows.any-gone ty·28) (List._∷_ (1, Relend.mslice-owed (Signed.SInt Syntax.w32) ty·5 0 12 Row.off) (List._∷_ (2, Relend.mslice-owed (Referent.rtF (Referent.fInt Syntax.w32)) ty·6 1 13 Row.off) (List._∷_ (3, Relend.mslice-owed (Referent.rtF (Referent.fInt Syntax.w32)) ty·7 2 14 Row.off) (List._∷_ (4, Relend.mslice-owed (Referent.rtF (Referent.fInt Syntax.w32)) ty·8 3 15 Row.off) (List._∷_ (5, Relend.mslice-owed (Referent.rtF (Referent.fInt Syntax.w32)) ty·9 4 16 Row.off) (List._∷_ (6, Mut.mslice ELEM.the-row ty·14 5) (List._∷_ (7, Mut.mslice (Referent.rtF (Referent.fInt Syntax.w32)) ty·10 6) (List._∷_ (8, Mut.mslice (Referent.rtF (Referent.fInt Syntax.w32)) ty·11 7) (List._∷_ (9, Rows.any-gone ty·21) (List._∷_ (10, Rows.whole (Declared'.row Hull.the-type)) (List._∷_ (11, Rows.any-gone ty·20) (List._∷_ (12, Rows.whole (Declared'.row Point.the-type)) (List._∷_ (13, Rows.whole (Declared'.row Decision.the-type)) (List._∷_ (14, Rows.whole (Declared.row Fate.the-type)) (List._∷_ (15, Rows.any-gone ty·24) List.[])))))))))))))))
+t54 = List._∷_ (0, Rows.any-gone ty·28) (List._∷_ (1, Relend.mslice-owed (Signed.SInt Syntax.w32) ty·5 0 12 Row.off) (List._∷_ (2, Relend.mslice-owed (Referent.rtF (Referent.fInt Syntax.w32)) ty·6 1 13 Row.off) (List._∷_ (3, Relend.mslice-owed (Referent.rtF (Referent.fInt Syntax.w32)) ty·7 2 14 Row.off) (List._∷_ (4, Relend.mslice-owed (Referent.rtF (Referent.fInt Syntax.w32)) ty·8 3 15 Row.off) (List._∷_ (5, Relend.mslice-owed (Referent.rtF (Referent.fInt Syntax.w32)) ty·9 4 16 Row.off) (List._∷_ (6, Mut.mslice ELEM.the-row ty·14 5) (List._∷_ (7, Mut.mslice (Referent.rtF (Referent.fInt Syntax.w32)) ty·10 6) (List._∷_ (8, Mut.mslice (Referent.rtF (Referent.fInt Syntax.w32)) ty·11 7) (List._∷_ (9, Rows.any-gone ty·21) (List._∷_ (10, Rows.whole (Declared'.row Hull.the-type)) (List._∷_ (11, Rows.any-gone ty·20) (List._∷_ (12, Rows.whole (Declared'.row Point.the-type)) (List._∷_ (13, Rows.whole (Declared'.row Decision.the-type)) (List._∷_ (14, Rows.whole (Declared.row Fate.the-type)) (List._∷_ (15, Rows.any-gone ty·25) List.[])))))))))))))))
 
 abbrev pub t55 : List.List Row.Entry
-t55 = List._∷_ (0, Rows.any-gone ty·28) (List._∷_ (1, Relend.mslice-owed (Signed.SInt Syntax.w32) ty·5 0 12 Row.off) (List._∷_ (2, Relend.mslice-owed (Referent.rtF (Referent.fInt Syntax.w32)) ty·6 1 13 Row.off) (List._∷_ (3, Relend.mslice-owed (Referent.rtF (Referent.fInt Syntax.w32)) ty·7 2 14 Row.off) (List._∷_ (4, Relend.mslice-owed (Referent.rtF (Referent.fInt Syntax.w32)) ty·8 3 15 Row.off) (List._∷_ (5, Relend.mslice-owed (Referent.rtF (Referent.fInt Syntax.w32)) ty·9 4 16 Row.off) (List._∷_ (6, Mut.mslice ELEM.the-row ty·14 5) (List._∷_ (7, Mut.mslice (Referent.rtF (Referent.fInt Syntax.w32)) ty·10 6) (List._∷_ (8, Mut.mslice (Referent.rtF (Referent.fInt Syntax.w32)) ty·11 7) (List._∷_ (9, Rows.any-gone ty·21) (List._∷_ (10, Rows.whole (Declared'.row Hull.the-type)) (List._∷_ (11, Rows.any-gone ty·20) (List._∷_ (12, Rows.any-gone ty·19) (List._∷_ (13, Rows.whole (Declared'.row Decision.the-type)) (List._∷_ (14, Rows.whole (Declared.row Fate.the-type)) (List._∷_ (15, Rows.any-gone ty·24) List.[])))))))))))))))
+t55 = List._∷_ (0, Rows.any-gone ty·28) (List._∷_ (1, Relend.mslice-owed (Signed.SInt Syntax.w32) ty·5 0 12 Row.off) (List._∷_ (2, Relend.mslice-owed (Referent.rtF (Referent.fInt Syntax.w32)) ty·6 1 13 Row.off) (List._∷_ (3, Relend.mslice-owed (Referent.rtF (Referent.fInt Syntax.w32)) ty·7 2 14 Row.off) (List._∷_ (4, Relend.mslice-owed (Referent.rtF (Referent.fInt Syntax.w32)) ty·8 3 15 Row.off) (List._∷_ (5, Relend.mslice-owed (Referent.rtF (Referent.fInt Syntax.w32)) ty·9 4 16 Row.off) (List._∷_ (6, Mut.mslice ELEM.the-row ty·14 5) (List._∷_ (7, Mut.mslice (Referent.rtF (Referent.fInt Syntax.w32)) ty·10 6) (List._∷_ (8, Mut.mslice (Referent.rtF (Referent.fInt Syntax.w32)) ty·11 7) (List._∷_ (9, Rows.any-gone ty·21) (List._∷_ (10, Rows.whole (Declared'.row Hull.the-type)) (List._∷_ (11, Rows.any-gone ty·20) (List._∷_ (12, Rows.any-gone ty·19) (List._∷_ (13, Rows.whole (Declared'.row Decision.the-type)) (List._∷_ (14, Rows.whole (Declared.row Fate.the-type)) (List._∷_ (15, Rows.any-gone ty·25) List.[])))))))))))))))
 
 abbrev pub t56 : List.List Row.Entry
-t56 = List._∷_ (0, Rows.any-gone ty·28) (List._∷_ (1, Mut.mslice (Signed.SInt Syntax.w32) ty·5 0) (List._∷_ (2, Relend.mslice-owed (Referent.rtF (Referent.fInt Syntax.w32)) ty·6 1 13 Row.off) (List._∷_ (3, Relend.mslice-owed (Referent.rtF (Referent.fInt Syntax.w32)) ty·7 2 14 Row.off) (List._∷_ (4, Relend.mslice-owed (Referent.rtF (Referent.fInt Syntax.w32)) ty·8 3 15 Row.off) (List._∷_ (5, Relend.mslice-owed (Referent.rtF (Referent.fInt Syntax.w32)) ty·9 4 16 Row.off) (List._∷_ (6, Mut.mslice ELEM.the-row ty·14 5) (List._∷_ (7, Mut.mslice (Referent.rtF (Referent.fInt Syntax.w32)) ty·10 6) (List._∷_ (8, Mut.mslice (Referent.rtF (Referent.fInt Syntax.w32)) ty·11 7) (List._∷_ (9, Rows.any-gone ty·21) (List._∷_ (10, Rows.whole (Declared'.row Hull.the-type)) (List._∷_ (11, Rows.any-gone ty·20) (List._∷_ (12, Rows.any-gone ty·19) (List._∷_ (13, Rows.whole (Declared'.row Decision.the-type)) (List._∷_ (14, Rows.whole (Declared.row Fate.the-type)) (List._∷_ (15, Rows.any-gone ty·24) List.[])))))))))))))))
+t56 = List._∷_ (0, Rows.any-gone ty·28) (List._∷_ (1, Mut.mslice (Signed.SInt Syntax.w32) ty·5 0) (List._∷_ (2, Relend.mslice-owed (Referent.rtF (Referent.fInt Syntax.w32)) ty·6 1 13 Row.off) (List._∷_ (3, Relend.mslice-owed (Referent.rtF (Referent.fInt Syntax.w32)) ty·7 2 14 Row.off) (List._∷_ (4, Relend.mslice-owed (Referent.rtF (Referent.fInt Syntax.w32)) ty·8 3 15 Row.off) (List._∷_ (5, Relend.mslice-owed (Referent.rtF (Referent.fInt Syntax.w32)) ty·9 4 16 Row.off) (List._∷_ (6, Mut.mslice ELEM.the-row ty·14 5) (List._∷_ (7, Mut.mslice (Referent.rtF (Referent.fInt Syntax.w32)) ty·10 6) (List._∷_ (8, Mut.mslice (Referent.rtF (Referent.fInt Syntax.w32)) ty·11 7) (List._∷_ (9, Rows.any-gone ty·21) (List._∷_ (10, Rows.whole (Declared'.row Hull.the-type)) (List._∷_ (11, Rows.any-gone ty·20) (List._∷_ (12, Rows.any-gone ty·19) (List._∷_ (13, Rows.whole (Declared'.row Decision.the-type)) (List._∷_ (14, Rows.whole (Declared.row Fate.the-type)) (List._∷_ (15, Rows.any-gone ty·25) List.[])))))))))))))))
 
 abbrev pub t57 : List.List Row.Entry
-t57 = List._∷_ (16, Rows.whole (Declared'.row Entered.the-type)) (List._∷_ (17, Rows.any-gone ty·24) (List._∷_ (18, Rows.any-gone ty·22) (List._∷_ (19, Rows.any-gone ty·3) (List._∷_ (20, Rows.any-gone ty·15) (List._∷_ (21, Rows.any-gone ty·3) (List._∷_ (22, Rows.any-gone ty·15) (List._∷_ (23, Rows.any-gone ty·12) (List._∷_ (24, Rows.any-gone ty·17) (List._∷_ (25, Rows.any-gone ty·3) (List._∷_ (26, Rows.any-gone ty·15) (List._∷_ (27, Rows.any-gone Syntax.tyBool) (List._∷_ (28, Rows.any-gone Syntax.tyBool) (List._∷_ (29, Rows.any-gone ty·4) (List._∷_ (30, Rows.any-gone ty·16) (List._∷_ (31, Rows.any-gone ty·4) List.[])))))))))))))))
+t57 = List._∷_ (16, Rows.whole (Declared'.row Entered.the-type)) (List._∷_ (17, Rows.any-gone ty·25) (List._∷_ (18, Rows.any-gone ty·22) (List._∷_ (19, Rows.any-gone ty·3) (List._∷_ (20, Rows.any-gone ty·15) (List._∷_ (21, Rows.any-gone ty·3) (List._∷_ (22, Rows.any-gone ty·15) (List._∷_ (23, Rows.any-gone ty·12) (List._∷_ (24, Rows.any-gone ty·17) (List._∷_ (25, Rows.any-gone ty·3) (List._∷_ (26, Rows.any-gone ty·15) (List._∷_ (27, Rows.any-gone Syntax.tyBool) (List._∷_ (28, Rows.any-gone Syntax.tyBool) (List._∷_ (29, Rows.any-gone ty·4) (List._∷_ (30, Rows.any-gone ty·16) (List._∷_ (31, Rows.any-gone ty·4) List.[])))))))))))))))
 
 abbrev pub t58 : List.List Row.Entry
-t58 = List._∷_ (0, Rows.any-gone ty·28) (List._∷_ (1, Mut.mslice (Signed.SInt Syntax.w32) ty·5 0) (List._∷_ (2, Mut.mslice (Referent.rtF (Referent.fInt Syntax.w32)) ty·6 1) (List._∷_ (3, Relend.mslice-owed (Referent.rtF (Referent.fInt Syntax.w32)) ty·7 2 14 Row.off) (List._∷_ (4, Relend.mslice-owed (Referent.rtF (Referent.fInt Syntax.w32)) ty·8 3 15 Row.off) (List._∷_ (5, Relend.mslice-owed (Referent.rtF (Referent.fInt Syntax.w32)) ty·9 4 16 Row.off) (List._∷_ (6, Mut.mslice ELEM.the-row ty·14 5) (List._∷_ (7, Mut.mslice (Referent.rtF (Referent.fInt Syntax.w32)) ty·10 6) (List._∷_ (8, Mut.mslice (Referent.rtF (Referent.fInt Syntax.w32)) ty·11 7) (List._∷_ (9, Rows.any-gone ty·21) (List._∷_ (10, Rows.whole (Declared'.row Hull.the-type)) (List._∷_ (11, Rows.any-gone ty·20) (List._∷_ (12, Rows.any-gone ty·19) (List._∷_ (13, Rows.whole (Declared'.row Decision.the-type)) (List._∷_ (14, Rows.whole (Declared.row Fate.the-type)) (List._∷_ (15, Rows.any-gone ty·24) List.[])))))))))))))))
+t58 = List._∷_ (0, Rows.any-gone ty·28) (List._∷_ (1, Mut.mslice (Signed.SInt Syntax.w32) ty·5 0) (List._∷_ (2, Mut.mslice (Referent.rtF (Referent.fInt Syntax.w32)) ty·6 1) (List._∷_ (3, Relend.mslice-owed (Referent.rtF (Referent.fInt Syntax.w32)) ty·7 2 14 Row.off) (List._∷_ (4, Relend.mslice-owed (Referent.rtF (Referent.fInt Syntax.w32)) ty·8 3 15 Row.off) (List._∷_ (5, Relend.mslice-owed (Referent.rtF (Referent.fInt Syntax.w32)) ty·9 4 16 Row.off) (List._∷_ (6, Mut.mslice ELEM.the-row ty·14 5) (List._∷_ (7, Mut.mslice (Referent.rtF (Referent.fInt Syntax.w32)) ty·10 6) (List._∷_ (8, Mut.mslice (Referent.rtF (Referent.fInt Syntax.w32)) ty·11 7) (List._∷_ (9, Rows.any-gone ty·21) (List._∷_ (10, Rows.whole (Declared'.row Hull.the-type)) (List._∷_ (11, Rows.any-gone ty·20) (List._∷_ (12, Rows.any-gone ty·19) (List._∷_ (13, Rows.whole (Declared'.row Decision.the-type)) (List._∷_ (14, Rows.whole (Declared.row Fate.the-type)) (List._∷_ (15, Rows.any-gone ty·25) List.[])))))))))))))))
 
 abbrev pub t59 : List.List Row.Entry
 t59 = List._∷_ (32, Rows.any-gone ty·16) (List._∷_ (33, Rows.any-gone ty·4) (List._∷_ (34, Mut.msleft (Referent.rtF (Referent.fInt Syntax.w32)) ty·4) (List._∷_ (35, Rows.any-gone ty·4) (List._∷_ (36, Mut.msleft (Referent.rtF (Referent.fInt Syntax.w32)) ty·4) (List._∷_ (37, Rows.any-gone ty·4) (List._∷_ (38, Mut.msleft (Referent.rtF (Referent.fInt Syntax.w32)) ty·4) (List._∷_ (39, Rows.any-gone ty·13) (List._∷_ (40, Rows.any-gone ty·18) (List._∷_ (41, Rows.any-gone ty·4) (List._∷_ (42, Rows.any-gone ty·16) (List._∷_ (43, Rows.any-gone ty·4) (List._∷_ (44, Rows.any-gone ty·16) List.[]))))))))))))
 
 abbrev pub t60 : List.List Row.Entry
-t60 = List._∷_ (0, Rows.any-gone ty·28) (List._∷_ (1, Mut.mslice (Signed.SInt Syntax.w32) ty·5 0) (List._∷_ (2, Mut.mslice (Referent.rtF (Referent.fInt Syntax.w32)) ty·6 1) (List._∷_ (3, Mut.mslice (Referent.rtF (Referent.fInt Syntax.w32)) ty·7 2) (List._∷_ (4, Relend.mslice-owed (Referent.rtF (Referent.fInt Syntax.w32)) ty·8 3 15 Row.off) (List._∷_ (5, Relend.mslice-owed (Referent.rtF (Referent.fInt Syntax.w32)) ty·9 4 16 Row.off) (List._∷_ (6, Mut.mslice ELEM.the-row ty·14 5) (List._∷_ (7, Mut.mslice (Referent.rtF (Referent.fInt Syntax.w32)) ty·10 6) (List._∷_ (8, Mut.mslice (Referent.rtF (Referent.fInt Syntax.w32)) ty·11 7) (List._∷_ (9, Rows.any-gone ty·21) (List._∷_ (10, Rows.whole (Declared'.row Hull.the-type)) (List._∷_ (11, Rows.any-gone ty·20) (List._∷_ (12, Rows.any-gone ty·19) (List._∷_ (13, Rows.whole (Declared'.row Decision.the-type)) (List._∷_ (14, Rows.whole (Declared.row Fate.the-type)) (List._∷_ (15, Rows.any-gone ty·24) List.[])))))))))))))))
+t60 = List._∷_ (0, Rows.any-gone ty·28) (List._∷_ (1, Mut.mslice (Signed.SInt Syntax.w32) ty·5 0) (List._∷_ (2, Mut.mslice (Referent.rtF (Referent.fInt Syntax.w32)) ty·6 1) (List._∷_ (3, Mut.mslice (Referent.rtF (Referent.fInt Syntax.w32)) ty·7 2) (List._∷_ (4, Relend.mslice-owed (Referent.rtF (Referent.fInt Syntax.w32)) ty·8 3 15 Row.off) (List._∷_ (5, Relend.mslice-owed (Referent.rtF (Referent.fInt Syntax.w32)) ty·9 4 16 Row.off) (List._∷_ (6, Mut.mslice ELEM.the-row ty·14 5) (List._∷_ (7, Mut.mslice (Referent.rtF (Referent.fInt Syntax.w32)) ty·10 6) (List._∷_ (8, Mut.mslice (Referent.rtF (Referent.fInt Syntax.w32)) ty·11 7) (List._∷_ (9, Rows.any-gone ty·21) (List._∷_ (10, Rows.whole (Declared'.row Hull.the-type)) (List._∷_ (11, Rows.any-gone ty·20) (List._∷_ (12, Rows.any-gone ty·19) (List._∷_ (13, Rows.whole (Declared'.row Decision.the-type)) (List._∷_ (14, Rows.whole (Declared.row Fate.the-type)) (List._∷_ (15, Rows.any-gone ty·25) List.[])))))))))))))))
 
 abbrev pub t61 : List.List Row.Entry
 t61 = List._∷_ (32, Rows.any-gone ty·16) (List._∷_ (33, Rows.any-gone ty·4) (List._∷_ (34, Rows.any-gone ty·16) (List._∷_ (35, Rows.any-gone ty·4) (List._∷_ (36, Mut.msleft (Referent.rtF (Referent.fInt Syntax.w32)) ty·4) (List._∷_ (37, Rows.any-gone ty·4) (List._∷_ (38, Mut.msleft (Referent.rtF (Referent.fInt Syntax.w32)) ty·4) (List._∷_ (39, Rows.any-gone ty·13) (List._∷_ (40, Rows.any-gone ty·18) (List._∷_ (41, Rows.any-gone ty·4) (List._∷_ (42, Rows.any-gone ty·16) (List._∷_ (43, Rows.any-gone ty·4) (List._∷_ (44, Rows.any-gone ty·16) List.[]))))))))))))
 
 abbrev pub t62 : List.List Row.Entry
-t62 = List._∷_ (0, Rows.any-gone ty·28) (List._∷_ (1, Mut.mslice (Signed.SInt Syntax.w32) ty·5 0) (List._∷_ (2, Mut.mslice (Referent.rtF (Referent.fInt Syntax.w32)) ty·6 1) (List._∷_ (3, Mut.mslice (Referent.rtF (Referent.fInt Syntax.w32)) ty·7 2) (List._∷_ (4, Mut.mslice (Referent.rtF (Referent.fInt Syntax.w32)) ty·8 3) (List._∷_ (5, Relend.mslice-owed (Referent.rtF (Referent.fInt Syntax.w32)) ty·9 4 16 Row.off) (List._∷_ (6, Mut.mslice ELEM.the-row ty·14 5) (List._∷_ (7, Mut.mslice (Referent.rtF (Referent.fInt Syntax.w32)) ty·10 6) (List._∷_ (8, Mut.mslice (Referent.rtF (Referent.fInt Syntax.w32)) ty·11 7) (List._∷_ (9, Rows.any-gone ty·21) (List._∷_ (10, Rows.whole (Declared'.row Hull.the-type)) (List._∷_ (11, Rows.any-gone ty·20) (List._∷_ (12, Rows.any-gone ty·19) (List._∷_ (13, Rows.whole (Declared'.row Decision.the-type)) (List._∷_ (14, Rows.whole (Declared.row Fate.the-type)) (List._∷_ (15, Rows.any-gone ty·24) List.[])))))))))))))))
+t62 = List._∷_ (0, Rows.any-gone ty·28) (List._∷_ (1, Mut.mslice (Signed.SInt Syntax.w32) ty·5 0) (List._∷_ (2, Mut.mslice (Referent.rtF (Referent.fInt Syntax.w32)) ty·6 1) (List._∷_ (3, Mut.mslice (Referent.rtF (Referent.fInt Syntax.w32)) ty·7 2) (List._∷_ (4, Mut.mslice (Referent.rtF (Referent.fInt Syntax.w32)) ty·8 3) (List._∷_ (5, Relend.mslice-owed (Referent.rtF (Referent.fInt Syntax.w32)) ty·9 4 16 Row.off) (List._∷_ (6, Mut.mslice ELEM.the-row ty·14 5) (List._∷_ (7, Mut.mslice (Referent.rtF (Referent.fInt Syntax.w32)) ty·10 6) (List._∷_ (8, Mut.mslice (Referent.rtF (Referent.fInt Syntax.w32)) ty·11 7) (List._∷_ (9, Rows.any-gone ty·21) (List._∷_ (10, Rows.whole (Declared'.row Hull.the-type)) (List._∷_ (11, Rows.any-gone ty·20) (List._∷_ (12, Rows.any-gone ty·19) (List._∷_ (13, Rows.whole (Declared'.row Decision.the-type)) (List._∷_ (14, Rows.whole (Declared.row Fate.the-type)) (List._∷_ (15, Rows.any-gone ty·25) List.[])))))))))))))))
 
 abbrev pub t63 : List.List Row.Entry
 t63 = List._∷_ (32, Rows.any-gone ty·16) (List._∷_ (33, Rows.any-gone ty·4) (List._∷_ (34, Rows.any-gone ty·16) (List._∷_ (35, Rows.any-gone ty·4) (List._∷_ (36, Rows.any-gone ty·16) (List._∷_ (37, Rows.any-gone ty·4) (List._∷_ (38, Mut.msleft (Referent.rtF (Referent.fInt Syntax.w32)) ty·4) (List._∷_ (39, Rows.any-gone ty·13) (List._∷_ (40, Rows.any-gone ty·18) (List._∷_ (41, Rows.any-gone ty·4) (List._∷_ (42, Rows.any-gone ty·16) (List._∷_ (43, Rows.any-gone ty·4) (List._∷_ (44, Rows.any-gone ty·16) List.[]))))))))))))
 
 abbrev pub t64 : List.List Row.Entry
-t64 = List._∷_ (0, Rows.any-gone ty·28) (List._∷_ (1, Mut.mslice (Signed.SInt Syntax.w32) ty·5 0) (List._∷_ (2, Mut.mslice (Referent.rtF (Referent.fInt Syntax.w32)) ty·6 1) (List._∷_ (3, Mut.mslice (Referent.rtF (Referent.fInt Syntax.w32)) ty·7 2) (List._∷_ (4, Mut.mslice (Referent.rtF (Referent.fInt Syntax.w32)) ty·8 3) (List._∷_ (5, Mut.mslice (Referent.rtF (Referent.fInt Syntax.w32)) ty·9 4) (List._∷_ (6, Mut.mslice ELEM.the-row ty·14 5) (List._∷_ (7, Mut.mslice (Referent.rtF (Referent.fInt Syntax.w32)) ty·10 6) (List._∷_ (8, Mut.mslice (Referent.rtF (Referent.fInt Syntax.w32)) ty·11 7) (List._∷_ (9, Rows.any-gone ty·21) (List._∷_ (10, Rows.whole (Declared'.row Hull.the-type)) (List._∷_ (11, Rows.any-gone ty·20) (List._∷_ (12, Rows.any-gone ty·19) (List._∷_ (13, Rows.whole (Declared'.row Decision.the-type)) (List._∷_ (14, Rows.whole (Declared.row Fate.the-type)) (List._∷_ (15, Rows.any-gone ty·24) List.[])))))))))))))))
+t64 = List._∷_ (0, Rows.any-gone ty·28) (List._∷_ (1, Mut.mslice (Signed.SInt Syntax.w32) ty·5 0) (List._∷_ (2, Mut.mslice (Referent.rtF (Referent.fInt Syntax.w32)) ty·6 1) (List._∷_ (3, Mut.mslice (Referent.rtF (Referent.fInt Syntax.w32)) ty·7 2) (List._∷_ (4, Mut.mslice (Referent.rtF (Referent.fInt Syntax.w32)) ty·8 3) (List._∷_ (5, Mut.mslice (Referent.rtF (Referent.fInt Syntax.w32)) ty·9 4) (List._∷_ (6, Mut.mslice ELEM.the-row ty·14 5) (List._∷_ (7, Mut.mslice (Referent.rtF (Referent.fInt Syntax.w32)) ty·10 6) (List._∷_ (8, Mut.mslice (Referent.rtF (Referent.fInt Syntax.w32)) ty·11 7) (List._∷_ (9, Rows.any-gone ty·21) (List._∷_ (10, Rows.whole (Declared'.row Hull.the-type)) (List._∷_ (11, Rows.any-gone ty·20) (List._∷_ (12, Rows.any-gone ty·19) (List._∷_ (13, Rows.whole (Declared'.row Decision.the-type)) (List._∷_ (14, Rows.whole (Declared.row Fate.the-type)) (List._∷_ (15, Rows.any-gone ty·25) List.[])))))))))))))))
 
 abbrev pub t65 : List.List Row.Entry
-t65 = List._∷_ (16, Rows.whole (Declared'.row Entered.the-type)) (List._∷_ (17, Rows.whole (Declared'.row Added.the-type)) (List._∷_ (18, Rows.any-gone ty·22) (List._∷_ (19, Rows.any-gone ty·3) (List._∷_ (20, Rows.any-gone ty·15) (List._∷_ (21, Rows.any-gone ty·3) (List._∷_ (22, Rows.any-gone ty·15) (List._∷_ (23, Rows.any-gone ty·12) (List._∷_ (24, Rows.any-gone ty·17) (List._∷_ (25, Rows.any-gone ty·3) (List._∷_ (26, Rows.any-gone ty·15) (List._∷_ (27, Rows.any-gone Syntax.tyBool) (List._∷_ (28, Rows.any-gone Syntax.tyBool) (List._∷_ (29, Rows.any-gone ty·4) (List._∷_ (30, Rows.any-gone ty·16) (List._∷_ (31, Rows.any-gone ty·4) List.[])))))))))))))))
+t65 = List._∷_ (16, Rows.whole (Declared'.row Entered.the-type)) (List._∷_ (17, Rows.whole (Declared'.row Extension.the-type)) (List._∷_ (18, Rows.any-gone ty·22) (List._∷_ (19, Rows.any-gone ty·3) (List._∷_ (20, Rows.any-gone ty·15) (List._∷_ (21, Rows.any-gone ty·3) (List._∷_ (22, Rows.any-gone ty·15) (List._∷_ (23, Rows.any-gone ty·12) (List._∷_ (24, Rows.any-gone ty·17) (List._∷_ (25, Rows.any-gone ty·3) (List._∷_ (26, Rows.any-gone ty·15) (List._∷_ (27, Rows.any-gone Syntax.tyBool) (List._∷_ (28, Rows.any-gone Syntax.tyBool) (List._∷_ (29, Rows.any-gone ty·4) (List._∷_ (30, Rows.any-gone ty·16) (List._∷_ (31, Rows.any-gone ty·4) List.[])))))))))))))))
 
 abbrev pub t66 : List.List Row.Entry
-t66 = List._∷_ (16, Rows.whole (Declared'.row Entered.the-type)) (List._∷_ (17, Rows.whole (Declared'.row Added.the-type)) (List._∷_ (18, Rows.any-gone ty·22) (List._∷_ (19, Rows.any-gone ty·3) (List._∷_ (20, Rows.any-gone ty·15) (List._∷_ (21, Rows.any-gone ty·3) (List._∷_ (22, Rows.any-gone ty·15) (List._∷_ (23, Rows.any-gone ty·12) (List._∷_ (24, Rows.any-gone ty·17) (List._∷_ (25, Rows.any-gone ty·3) (List._∷_ (26, Rows.any-gone ty·15) (List._∷_ (27, Rows.sc-here Row.sBool) (List._∷_ (28, Rows.any-gone Syntax.tyBool) (List._∷_ (29, Rows.any-gone ty·4) (List._∷_ (30, Rows.any-gone ty·16) (List._∷_ (31, Rows.any-gone ty·4) List.[])))))))))))))))
+t66 = List._∷_ (16, Rows.whole (Declared'.row Entered.the-type)) (List._∷_ (17, Rows.whole (Declared'.row Extension.the-type)) (List._∷_ (18, Rows.any-gone ty·22) (List._∷_ (19, Rows.any-gone ty·3) (List._∷_ (20, Rows.any-gone ty·15) (List._∷_ (21, Rows.any-gone ty·3) (List._∷_ (22, Rows.any-gone ty·15) (List._∷_ (23, Rows.any-gone ty·12) (List._∷_ (24, Rows.any-gone ty·17) (List._∷_ (25, Rows.any-gone ty·3) (List._∷_ (26, Rows.any-gone ty·15) (List._∷_ (27, Rows.sc-here Row.sBool) (List._∷_ (28, Rows.any-gone Syntax.tyBool) (List._∷_ (29, Rows.any-gone ty·4) (List._∷_ (30, Rows.any-gone ty·16) (List._∷_ (31, Rows.any-gone ty·4) List.[])))))))))))))))
 
 abbrev pub t67 : List.List Row.Entry
-t67 = List._∷_ (0, Rows.any-gone ty·28) (List._∷_ (1, Mut.mslice (Signed.SInt Syntax.w32) ty·5 0) (List._∷_ (2, Mut.mslice (Referent.rtF (Referent.fInt Syntax.w32)) ty·6 1) (List._∷_ (3, Mut.mslice (Referent.rtF (Referent.fInt Syntax.w32)) ty·7 2) (List._∷_ (4, Mut.mslice (Referent.rtF (Referent.fInt Syntax.w32)) ty·8 3) (List._∷_ (5, Mut.mslice (Referent.rtF (Referent.fInt Syntax.w32)) ty·9 4) (List._∷_ (6, Mut.mslice ELEM.the-row ty·14 5) (List._∷_ (7, Mut.mslice (Referent.rtF (Referent.fInt Syntax.w32)) ty·10 6) (List._∷_ (8, Mut.mslice (Referent.rtF (Referent.fInt Syntax.w32)) ty·11 7) (List._∷_ (9, Rows.any-gone ty·21) (List._∷_ (10, Rows.whole (Declared'.row Hull.the-type)) (List._∷_ (11, Rows.any-gone ty·20) (List._∷_ (12, Rows.any-gone ty·19) (List._∷_ (13, Rows.any-gone ty·26) (List._∷_ (14, Rows.whole (Declared.row Fate.the-type)) (List._∷_ (15, Rows.any-gone ty·24) List.[])))))))))))))))
+t67 = List._∷_ (0, Rows.any-gone ty·28) (List._∷_ (1, Mut.mslice (Signed.SInt Syntax.w32) ty·5 0) (List._∷_ (2, Mut.mslice (Referent.rtF (Referent.fInt Syntax.w32)) ty·6 1) (List._∷_ (3, Mut.mslice (Referent.rtF (Referent.fInt Syntax.w32)) ty·7 2) (List._∷_ (4, Mut.mslice (Referent.rtF (Referent.fInt Syntax.w32)) ty·8 3) (List._∷_ (5, Mut.mslice (Referent.rtF (Referent.fInt Syntax.w32)) ty·9 4) (List._∷_ (6, Mut.mslice ELEM.the-row ty·14 5) (List._∷_ (7, Mut.mslice (Referent.rtF (Referent.fInt Syntax.w32)) ty·10 6) (List._∷_ (8, Mut.mslice (Referent.rtF (Referent.fInt Syntax.w32)) ty·11 7) (List._∷_ (9, Rows.any-gone ty·21) (List._∷_ (10, Rows.whole (Declared'.row Hull.the-type)) (List._∷_ (11, Rows.any-gone ty·20) (List._∷_ (12, Rows.any-gone ty·19) (List._∷_ (13, Rows.any-gone ty·26) (List._∷_ (14, Rows.whole (Declared.row Fate.the-type)) (List._∷_ (15, Rows.any-gone ty·25) List.[])))))))))))))))
 
 abbrev pub t68 : List.List Row.Entry
-t68 = List._∷_ (16, Rows.any-gone ty·27) (List._∷_ (17, Rows.whole (Declared'.row Added.the-type)) (List._∷_ (18, Rows.any-gone ty·22) (List._∷_ (19, Rows.any-gone ty·3) (List._∷_ (20, Rows.any-gone ty·15) (List._∷_ (21, Rows.any-gone ty·3) (List._∷_ (22, Rows.any-gone ty·15) (List._∷_ (23, Rows.any-gone ty·12) (List._∷_ (24, Rows.any-gone ty·17) (List._∷_ (25, Rows.any-gone ty·3) (List._∷_ (26, Rows.any-gone ty·15) (List._∷_ (27, Rows.sc-here Row.sBool) (List._∷_ (28, Rows.any-gone Syntax.tyBool) (List._∷_ (29, Rows.any-gone ty·4) (List._∷_ (30, Rows.any-gone ty·16) (List._∷_ (31, Rows.any-gone ty·4) List.[])))))))))))))))
+t68 = List._∷_ (16, Rows.any-gone ty·27) (List._∷_ (17, Rows.whole (Declared'.row Extension.the-type)) (List._∷_ (18, Rows.any-gone ty·22) (List._∷_ (19, Rows.any-gone ty·3) (List._∷_ (20, Rows.any-gone ty·15) (List._∷_ (21, Rows.any-gone ty·3) (List._∷_ (22, Rows.any-gone ty·15) (List._∷_ (23, Rows.any-gone ty·12) (List._∷_ (24, Rows.any-gone ty·17) (List._∷_ (25, Rows.any-gone ty·3) (List._∷_ (26, Rows.any-gone ty·15) (List._∷_ (27, Rows.sc-here Row.sBool) (List._∷_ (28, Rows.any-gone Syntax.tyBool) (List._∷_ (29, Rows.any-gone ty·4) (List._∷_ (30, Rows.any-gone ty·16) (List._∷_ (31, Rows.any-gone ty·4) List.[])))))))))))))))
 
 abbrev pub t69 : List.List Row.Entry
-t69 = List._∷_ (16, Rows.any-gone ty·27) (List._∷_ (17, Rows.whole (Declared'.row Added.the-type)) (List._∷_ (18, Rows.any-gone ty·22) (List._∷_ (19, Rows.any-gone ty·3) (List._∷_ (20, Rows.any-gone ty·15) (List._∷_ (21, Rows.any-gone ty·3) (List._∷_ (22, Rows.any-gone ty·15) (List._∷_ (23, Rows.any-gone ty·12) (List._∷_ (24, Rows.any-gone ty·17) (List._∷_ (25, Rows.any-gone ty·3) (List._∷_ (26, Rows.any-gone ty·15) (List._∷_ (27, Rows.any-gone Syntax.tyBool) (List._∷_ (28, Rows.any-gone Syntax.tyBool) (List._∷_ (29, Rows.any-gone ty·4) (List._∷_ (30, Rows.any-gone ty·16) (List._∷_ (31, Rows.any-gone ty·4) List.[])))))))))))))))
+t69 = List._∷_ (16, Rows.any-gone ty·27) (List._∷_ (17, Rows.whole (Declared'.row Extension.the-type)) (List._∷_ (18, Rows.any-gone ty·22) (List._∷_ (19, Rows.any-gone ty·3) (List._∷_ (20, Rows.any-gone ty·15) (List._∷_ (21, Rows.any-gone ty·3) (List._∷_ (22, Rows.any-gone ty·15) (List._∷_ (23, Rows.any-gone ty·12) (List._∷_ (24, Rows.any-gone ty·17) (List._∷_ (25, Rows.any-gone ty·3) (List._∷_ (26, Rows.any-gone ty·15) (List._∷_ (27, Rows.any-gone Syntax.tyBool) (List._∷_ (28, Rows.any-gone Syntax.tyBool) (List._∷_ (29, Rows.any-gone ty·4) (List._∷_ (30, Rows.any-gone ty·16) (List._∷_ (31, Rows.any-gone ty·4) List.[])))))))))))))))
 
 abbrev pub t70 : List.List Row.Entry
-t70 = List._∷_ (0, Rows.whole (Declared'.row Progress.the-type)) (List._∷_ (1, Mut.mslice (Signed.SInt Syntax.w32) ty·5 0) (List._∷_ (2, Mut.mslice (Referent.rtF (Referent.fInt Syntax.w32)) ty·6 1) (List._∷_ (3, Mut.mslice (Referent.rtF (Referent.fInt Syntax.w32)) ty·7 2) (List._∷_ (4, Mut.mslice (Referent.rtF (Referent.fInt Syntax.w32)) ty·8 3) (List._∷_ (5, Mut.mslice (Referent.rtF (Referent.fInt Syntax.w32)) ty·9 4) (List._∷_ (6, Mut.mslice ELEM.the-row ty·14 5) (List._∷_ (7, Mut.mslice (Referent.rtF (Referent.fInt Syntax.w32)) ty·10 6) (List._∷_ (8, Mut.mslice (Referent.rtF (Referent.fInt Syntax.w32)) ty·11 7) (List._∷_ (9, Rows.any-gone ty·21) (List._∷_ (10, Rows.whole (Declared'.row Hull.the-type)) (List._∷_ (11, Rows.any-gone ty·20) (List._∷_ (12, Rows.any-gone ty·19) (List._∷_ (13, Rows.any-gone ty·26) (List._∷_ (14, Rows.whole (Declared.row Fate.the-type)) (List._∷_ (15, Rows.any-gone ty·24) List.[])))))))))))))))
+t70 = List._∷_ (0, Rows.whole (Declared'.row Progress.the-type)) (List._∷_ (1, Mut.mslice (Signed.SInt Syntax.w32) ty·5 0) (List._∷_ (2, Mut.mslice (Referent.rtF (Referent.fInt Syntax.w32)) ty·6 1) (List._∷_ (3, Mut.mslice (Referent.rtF (Referent.fInt Syntax.w32)) ty·7 2) (List._∷_ (4, Mut.mslice (Referent.rtF (Referent.fInt Syntax.w32)) ty·8 3) (List._∷_ (5, Mut.mslice (Referent.rtF (Referent.fInt Syntax.w32)) ty·9 4) (List._∷_ (6, Mut.mslice ELEM.the-row ty·14 5) (List._∷_ (7, Mut.mslice (Referent.rtF (Referent.fInt Syntax.w32)) ty·10 6) (List._∷_ (8, Mut.mslice (Referent.rtF (Referent.fInt Syntax.w32)) ty·11 7) (List._∷_ (9, Rows.any-gone ty·21) (List._∷_ (10, Rows.whole (Declared'.row Hull.the-type)) (List._∷_ (11, Rows.any-gone ty·20) (List._∷_ (12, Rows.any-gone ty·19) (List._∷_ (13, Rows.any-gone ty·26) (List._∷_ (14, Rows.whole (Declared.row Fate.the-type)) (List._∷_ (15, Rows.any-gone ty·25) List.[])))))))))))))))
 
 abbrev pub t71 : List.List Row.Entry
-t71 = List._∷_ (0, Rows.whole (Declared'.row Progress.the-type)) (List._∷_ (1, Mut.mslice (Signed.SInt Syntax.w32) ty·5 0) (List._∷_ (2, Mut.mslice (Referent.rtF (Referent.fInt Syntax.w32)) ty·6 1) (List._∷_ (3, Mut.mslice (Referent.rtF (Referent.fInt Syntax.w32)) ty·7 2) (List._∷_ (4, Mut.mslice (Referent.rtF (Referent.fInt Syntax.w32)) ty·8 3) (List._∷_ (5, Mut.mslice (Referent.rtF (Referent.fInt Syntax.w32)) ty·9 4) (List._∷_ (6, Mut.mslice ELEM.the-row ty·14 5) (List._∷_ (7, Mut.mslice (Referent.rtF (Referent.fInt Syntax.w32)) ty·10 6) (List._∷_ (8, Mut.mslice (Referent.rtF (Referent.fInt Syntax.w32)) ty·11 7) (List._∷_ (9, Rows.any-gone ty·21) (List._∷_ (10, Rows.any-gone ty·22) (List._∷_ (11, Rows.any-gone ty·20) (List._∷_ (12, Rows.any-gone ty·19) (List._∷_ (13, Rows.any-gone ty·26) (List._∷_ (14, Rows.whole (Declared.row Fate.the-type)) (List._∷_ (15, Rows.any-gone ty·24) List.[])))))))))))))))
+t71 = List._∷_ (0, Rows.whole (Declared'.row Progress.the-type)) (List._∷_ (1, Mut.mslice (Signed.SInt Syntax.w32) ty·5 0) (List._∷_ (2, Mut.mslice (Referent.rtF (Referent.fInt Syntax.w32)) ty·6 1) (List._∷_ (3, Mut.mslice (Referent.rtF (Referent.fInt Syntax.w32)) ty·7 2) (List._∷_ (4, Mut.mslice (Referent.rtF (Referent.fInt Syntax.w32)) ty·8 3) (List._∷_ (5, Mut.mslice (Referent.rtF (Referent.fInt Syntax.w32)) ty·9 4) (List._∷_ (6, Mut.mslice ELEM.the-row ty·14 5) (List._∷_ (7, Mut.mslice (Referent.rtF (Referent.fInt Syntax.w32)) ty·10 6) (List._∷_ (8, Mut.mslice (Referent.rtF (Referent.fInt Syntax.w32)) ty·11 7) (List._∷_ (9, Rows.any-gone ty·21) (List._∷_ (10, Rows.any-gone ty·22) (List._∷_ (11, Rows.any-gone ty·20) (List._∷_ (12, Rows.any-gone ty·19) (List._∷_ (13, Rows.any-gone ty·26) (List._∷_ (14, Rows.whole (Declared.row Fate.the-type)) (List._∷_ (15, Rows.any-gone ty·25) List.[])))))))))))))))
 
 abbrev pub t72 : List.List Row.Entry
-t72 = List._∷_ (0, Rows.any-gone ty·28) (List._∷_ (1, Mut.mslice (Signed.SInt Syntax.w32) ty·5 0) (List._∷_ (2, Mut.mslice (Referent.rtF (Referent.fInt Syntax.w32)) ty·6 1) (List._∷_ (3, Mut.mslice (Referent.rtF (Referent.fInt Syntax.w32)) ty·7 2) (List._∷_ (4, Mut.mslice (Referent.rtF (Referent.fInt Syntax.w32)) ty·8 3) (List._∷_ (5, Mut.mslice (Referent.rtF (Referent.fInt Syntax.w32)) ty·9 4) (List._∷_ (6, Relend.mslice-owed ELEM.the-row ty·14 5 17 Row.off) (List._∷_ (7, Mut.mslice (Referent.rtF (Referent.fInt Syntax.w32)) ty·10 6) (List._∷_ (8, Mut.mslice (Referent.rtF (Referent.fInt Syntax.w32)) ty·11 7) (List._∷_ (9, Rows.any-gone ty·21) (List._∷_ (10, Rows.whole (Declared'.row Hull.the-type)) (List._∷_ (11, Rows.any-gone ty·20) (List._∷_ (12, Rows.any-gone ty·19) (List._∷_ (13, Rows.whole (Declared'.row Decision.the-type)) (List._∷_ (14, Rows.whole (Declared.row Fate.the-type)) (List._∷_ (15, Rows.any-gone ty·24) List.[])))))))))))))))
+t72 = List._∷_ (0, Rows.any-gone ty·28) (List._∷_ (1, Mut.mslice (Signed.SInt Syntax.w32) ty·5 0) (List._∷_ (2, Mut.mslice (Referent.rtF (Referent.fInt Syntax.w32)) ty·6 1) (List._∷_ (3, Mut.mslice (Referent.rtF (Referent.fInt Syntax.w32)) ty·7 2) (List._∷_ (4, Mut.mslice (Referent.rtF (Referent.fInt Syntax.w32)) ty·8 3) (List._∷_ (5, Mut.mslice (Referent.rtF (Referent.fInt Syntax.w32)) ty·9 4) (List._∷_ (6, Relend.mslice-owed ELEM.the-row ty·14 5 17 Row.off) (List._∷_ (7, Mut.mslice (Referent.rtF (Referent.fInt Syntax.w32)) ty·10 6) (List._∷_ (8, Mut.mslice (Referent.rtF (Referent.fInt Syntax.w32)) ty·11 7) (List._∷_ (9, Rows.any-gone ty·21) (List._∷_ (10, Rows.whole (Declared'.row Hull.the-type)) (List._∷_ (11, Rows.any-gone ty·20) (List._∷_ (12, Rows.any-gone ty·19) (List._∷_ (13, Rows.whole (Declared'.row Decision.the-type)) (List._∷_ (14, Rows.whole (Declared.row Fate.the-type)) (List._∷_ (15, Rows.any-gone ty·25) List.[])))))))))))))))
 
 abbrev pub t73 : List.List Row.Entry
 t73 = List._∷_ (32, Rows.any-gone ty·16) (List._∷_ (33, Rows.any-gone ty·4) (List._∷_ (34, Rows.any-gone ty·16) (List._∷_ (35, Rows.any-gone ty·4) (List._∷_ (36, Rows.any-gone ty·16) (List._∷_ (37, Rows.any-gone ty·4) (List._∷_ (38, Rows.any-gone ty·16) (List._∷_ (39, Relend.msptr ELEM.the-row ty·13 17) (List._∷_ (40, Rows.any-gone ty·18) (List._∷_ (41, Rows.any-gone ty·4) (List._∷_ (42, Rows.any-gone ty·16) (List._∷_ (43, Rows.any-gone ty·4) (List._∷_ (44, Rows.any-gone ty·16) List.[]))))))))))))
@@ -692,7 +692,7 @@ abbrev pub t74 : List.List Row.Entry
 t74 = List._∷_ (32, Rows.any-gone ty·16) (List._∷_ (33, Rows.any-gone ty·4) (List._∷_ (34, Rows.any-gone ty·16) (List._∷_ (35, Rows.any-gone ty·4) (List._∷_ (36, Rows.any-gone ty·16) (List._∷_ (37, Rows.any-gone ty·4) (List._∷_ (38, Rows.any-gone ty·16) (List._∷_ (39, Rows.any-gone ty·13) (List._∷_ (40, Mut.mslice ELEM.the-row ty·13 17) (List._∷_ (41, Rows.any-gone ty·4) (List._∷_ (42, Rows.any-gone ty·16) (List._∷_ (43, Rows.any-gone ty·4) (List._∷_ (44, Rows.any-gone ty·16) List.[]))))))))))))
 
 abbrev pub t75 : List.List Row.Entry
-t75 = List._∷_ (0, Rows.any-gone ty·28) (List._∷_ (1, Mut.mslice (Signed.SInt Syntax.w32) ty·5 0) (List._∷_ (2, Mut.mslice (Referent.rtF (Referent.fInt Syntax.w32)) ty·6 1) (List._∷_ (3, Mut.mslice (Referent.rtF (Referent.fInt Syntax.w32)) ty·7 2) (List._∷_ (4, Mut.mslice (Referent.rtF (Referent.fInt Syntax.w32)) ty·8 3) (List._∷_ (5, Mut.mslice (Referent.rtF (Referent.fInt Syntax.w32)) ty·9 4) (List._∷_ (6, Relend.mslice-owed ELEM.the-row ty·14 5 17 Row.off) (List._∷_ (7, Relend.mslice-owed (Referent.rtF (Referent.fInt Syntax.w32)) ty·10 6 18 Row.off) (List._∷_ (8, Mut.mslice (Referent.rtF (Referent.fInt Syntax.w32)) ty·11 7) (List._∷_ (9, Rows.any-gone ty·21) (List._∷_ (10, Rows.whole (Declared'.row Hull.the-type)) (List._∷_ (11, Rows.any-gone ty·20) (List._∷_ (12, Rows.any-gone ty·19) (List._∷_ (13, Rows.whole (Declared'.row Decision.the-type)) (List._∷_ (14, Rows.whole (Declared.row Fate.the-type)) (List._∷_ (15, Rows.any-gone ty·24) List.[])))))))))))))))
+t75 = List._∷_ (0, Rows.any-gone ty·28) (List._∷_ (1, Mut.mslice (Signed.SInt Syntax.w32) ty·5 0) (List._∷_ (2, Mut.mslice (Referent.rtF (Referent.fInt Syntax.w32)) ty·6 1) (List._∷_ (3, Mut.mslice (Referent.rtF (Referent.fInt Syntax.w32)) ty·7 2) (List._∷_ (4, Mut.mslice (Referent.rtF (Referent.fInt Syntax.w32)) ty·8 3) (List._∷_ (5, Mut.mslice (Referent.rtF (Referent.fInt Syntax.w32)) ty·9 4) (List._∷_ (6, Relend.mslice-owed ELEM.the-row ty·14 5 17 Row.off) (List._∷_ (7, Relend.mslice-owed (Referent.rtF (Referent.fInt Syntax.w32)) ty·10 6 18 Row.off) (List._∷_ (8, Mut.mslice (Referent.rtF (Referent.fInt Syntax.w32)) ty·11 7) (List._∷_ (9, Rows.any-gone ty·21) (List._∷_ (10, Rows.whole (Declared'.row Hull.the-type)) (List._∷_ (11, Rows.any-gone ty·20) (List._∷_ (12, Rows.any-gone ty·19) (List._∷_ (13, Rows.whole (Declared'.row Decision.the-type)) (List._∷_ (14, Rows.whole (Declared.row Fate.the-type)) (List._∷_ (15, Rows.any-gone ty·25) List.[])))))))))))))))
 
 abbrev pub t76 : List.List Row.Entry
 t76 = List._∷_ (32, Rows.any-gone ty·16) (List._∷_ (33, Rows.any-gone ty·4) (List._∷_ (34, Rows.any-gone ty·16) (List._∷_ (35, Rows.any-gone ty·4) (List._∷_ (36, Rows.any-gone ty·16) (List._∷_ (37, Rows.any-gone ty·4) (List._∷_ (38, Rows.any-gone ty·16) (List._∷_ (39, Rows.any-gone ty·13) (List._∷_ (40, Mut.mslice ELEM.the-row ty·13 17) (List._∷_ (41, Relend.msptr (Referent.rtF (Referent.fInt Syntax.w32)) ty·4 18) (List._∷_ (42, Rows.any-gone ty·16) (List._∷_ (43, Rows.any-gone ty·4) (List._∷_ (44, Rows.any-gone ty·16) List.[]))))))))))))
@@ -701,7 +701,7 @@ abbrev pub t77 : List.List Row.Entry
 t77 = List._∷_ (32, Rows.any-gone ty·16) (List._∷_ (33, Rows.any-gone ty·4) (List._∷_ (34, Rows.any-gone ty·16) (List._∷_ (35, Rows.any-gone ty·4) (List._∷_ (36, Rows.any-gone ty·16) (List._∷_ (37, Rows.any-gone ty·4) (List._∷_ (38, Rows.any-gone ty·16) (List._∷_ (39, Rows.any-gone ty·13) (List._∷_ (40, Mut.mslice ELEM.the-row ty·13 17) (List._∷_ (41, Rows.any-gone ty·4) (List._∷_ (42, Mut.mslice (Referent.rtF (Referent.fInt Syntax.w32)) ty·4 18) (List._∷_ (43, Rows.any-gone ty·4) (List._∷_ (44, Rows.any-gone ty·16) List.[]))))))))))))
 
 abbrev pub t78 : List.List Row.Entry
-t78 = List._∷_ (0, Rows.any-gone ty·28) (List._∷_ (1, Mut.mslice (Signed.SInt Syntax.w32) ty·5 0) (List._∷_ (2, Mut.mslice (Referent.rtF (Referent.fInt Syntax.w32)) ty·6 1) (List._∷_ (3, Mut.mslice (Referent.rtF (Referent.fInt Syntax.w32)) ty·7 2) (List._∷_ (4, Mut.mslice (Referent.rtF (Referent.fInt Syntax.w32)) ty·8 3) (List._∷_ (5, Mut.mslice (Referent.rtF (Referent.fInt Syntax.w32)) ty·9 4) (List._∷_ (6, Relend.mslice-owed ELEM.the-row ty·14 5 17 Row.off) (List._∷_ (7, Relend.mslice-owed (Referent.rtF (Referent.fInt Syntax.w32)) ty·10 6 18 Row.off) (List._∷_ (8, Relend.mslice-owed (Referent.rtF (Referent.fInt Syntax.w32)) ty·11 7 19 Row.off) (List._∷_ (9, Rows.any-gone ty·21) (List._∷_ (10, Rows.whole (Declared'.row Hull.the-type)) (List._∷_ (11, Rows.any-gone ty·20) (List._∷_ (12, Rows.any-gone ty·19) (List._∷_ (13, Rows.whole (Declared'.row Decision.the-type)) (List._∷_ (14, Rows.whole (Declared.row Fate.the-type)) (List._∷_ (15, Rows.any-gone ty·24) List.[])))))))))))))))
+t78 = List._∷_ (0, Rows.any-gone ty·28) (List._∷_ (1, Mut.mslice (Signed.SInt Syntax.w32) ty·5 0) (List._∷_ (2, Mut.mslice (Referent.rtF (Referent.fInt Syntax.w32)) ty·6 1) (List._∷_ (3, Mut.mslice (Referent.rtF (Referent.fInt Syntax.w32)) ty·7 2) (List._∷_ (4, Mut.mslice (Referent.rtF (Referent.fInt Syntax.w32)) ty·8 3) (List._∷_ (5, Mut.mslice (Referent.rtF (Referent.fInt Syntax.w32)) ty·9 4) (List._∷_ (6, Relend.mslice-owed ELEM.the-row ty·14 5 17 Row.off) (List._∷_ (7, Relend.mslice-owed (Referent.rtF (Referent.fInt Syntax.w32)) ty·10 6 18 Row.off) (List._∷_ (8, Relend.mslice-owed (Referent.rtF (Referent.fInt Syntax.w32)) ty·11 7 19 Row.off) (List._∷_ (9, Rows.any-gone ty·21) (List._∷_ (10, Rows.whole (Declared'.row Hull.the-type)) (List._∷_ (11, Rows.any-gone ty·20) (List._∷_ (12, Rows.any-gone ty·19) (List._∷_ (13, Rows.whole (Declared'.row Decision.the-type)) (List._∷_ (14, Rows.whole (Declared.row Fate.the-type)) (List._∷_ (15, Rows.any-gone ty·25) List.[])))))))))))))))
 
 abbrev pub t79 : List.List Row.Entry
 t79 = List._∷_ (32, Rows.any-gone ty·16) (List._∷_ (33, Rows.any-gone ty·4) (List._∷_ (34, Rows.any-gone ty·16) (List._∷_ (35, Rows.any-gone ty·4) (List._∷_ (36, Rows.any-gone ty·16) (List._∷_ (37, Rows.any-gone ty·4) (List._∷_ (38, Rows.any-gone ty·16) (List._∷_ (39, Rows.any-gone ty·13) (List._∷_ (40, Mut.mslice ELEM.the-row ty·13 17) (List._∷_ (41, Rows.any-gone ty·4) (List._∷_ (42, Mut.mslice (Referent.rtF (Referent.fInt Syntax.w32)) ty·4 18) (List._∷_ (43, Relend.msptr (Referent.rtF (Referent.fInt Syntax.w32)) ty·4 19) (List._∷_ (44, Rows.any-gone ty·16) List.[]))))))))))))
@@ -710,37 +710,37 @@ abbrev pub t80 : List.List Row.Entry
 t80 = List._∷_ (32, Rows.any-gone ty·16) (List._∷_ (33, Rows.any-gone ty·4) (List._∷_ (34, Rows.any-gone ty·16) (List._∷_ (35, Rows.any-gone ty·4) (List._∷_ (36, Rows.any-gone ty·16) (List._∷_ (37, Rows.any-gone ty·4) (List._∷_ (38, Rows.any-gone ty·16) (List._∷_ (39, Rows.any-gone ty·13) (List._∷_ (40, Mut.mslice ELEM.the-row ty·13 17) (List._∷_ (41, Rows.any-gone ty·4) (List._∷_ (42, Mut.mslice (Referent.rtF (Referent.fInt Syntax.w32)) ty·4 18) (List._∷_ (43, Rows.any-gone ty·4) (List._∷_ (44, Mut.mslice (Referent.rtF (Referent.fInt Syntax.w32)) ty·4 19) List.[]))))))))))))
 
 abbrev pub t81 : List.List Row.Entry
-t81 = List._∷_ (16, Rows.whole (Declared'.row Entered.the-type)) (List._∷_ (17, Rows.whole (Declared'.row Added.the-type)) (List._∷_ (18, Rows.whole (Declared'.row Hull.the-type)) (List._∷_ (19, Rows.any-gone ty·3) (List._∷_ (20, Rows.any-gone ty·15) (List._∷_ (21, Rows.any-gone ty·3) (List._∷_ (22, Rows.any-gone ty·15) (List._∷_ (23, Rows.any-gone ty·12) (List._∷_ (24, Rows.any-gone ty·17) (List._∷_ (25, Rows.any-gone ty·3) (List._∷_ (26, Rows.any-gone ty·15) (List._∷_ (27, Rows.any-gone Syntax.tyBool) (List._∷_ (28, Rows.any-gone Syntax.tyBool) (List._∷_ (29, Rows.any-gone ty·4) (List._∷_ (30, Rows.any-gone ty·16) (List._∷_ (31, Rows.any-gone ty·4) List.[])))))))))))))))
+t81 = List._∷_ (16, Rows.whole (Declared'.row Entered.the-type)) (List._∷_ (17, Rows.whole (Declared'.row Extension.the-type)) (List._∷_ (18, Rows.whole (Declared'.row Hull.the-type)) (List._∷_ (19, Rows.any-gone ty·3) (List._∷_ (20, Rows.any-gone ty·15) (List._∷_ (21, Rows.any-gone ty·3) (List._∷_ (22, Rows.any-gone ty·15) (List._∷_ (23, Rows.any-gone ty·12) (List._∷_ (24, Rows.any-gone ty·17) (List._∷_ (25, Rows.any-gone ty·3) (List._∷_ (26, Rows.any-gone ty·15) (List._∷_ (27, Rows.any-gone Syntax.tyBool) (List._∷_ (28, Rows.any-gone Syntax.tyBool) (List._∷_ (29, Rows.any-gone ty·4) (List._∷_ (30, Rows.any-gone ty·16) (List._∷_ (31, Rows.any-gone ty·4) List.[])))))))))))))))
 
 abbrev pub t82 : List.List Row.Entry
 t82 = List._∷_ (32, Rows.any-gone ty·16) (List._∷_ (33, Rows.any-gone ty·4) (List._∷_ (34, Rows.any-gone ty·16) (List._∷_ (35, Rows.any-gone ty·4) (List._∷_ (36, Rows.any-gone ty·16) (List._∷_ (37, Rows.any-gone ty·4) (List._∷_ (38, Rows.any-gone ty·16) (List._∷_ (39, Rows.any-gone ty·13) (List._∷_ (40, Mut.msleft ELEM.the-row ty·13) (List._∷_ (41, Rows.any-gone ty·4) (List._∷_ (42, Mut.msleft (Referent.rtF (Referent.fInt Syntax.w32)) ty·4) (List._∷_ (43, Rows.any-gone ty·4) (List._∷_ (44, Mut.msleft (Referent.rtF (Referent.fInt Syntax.w32)) ty·4) List.[]))))))))))))
 
 abbrev pub t83 : List.List Row.Entry
-t83 = List._∷_ (0, Rows.any-gone ty·28) (List._∷_ (1, Mut.mslice (Signed.SInt Syntax.w32) ty·5 0) (List._∷_ (2, Mut.mslice (Referent.rtF (Referent.fInt Syntax.w32)) ty·6 1) (List._∷_ (3, Mut.mslice (Referent.rtF (Referent.fInt Syntax.w32)) ty·7 2) (List._∷_ (4, Mut.mslice (Referent.rtF (Referent.fInt Syntax.w32)) ty·8 3) (List._∷_ (5, Mut.mslice (Referent.rtF (Referent.fInt Syntax.w32)) ty·9 4) (List._∷_ (6, Relend.mslice-owed ELEM.the-row ty·14 5 17 Row.off) (List._∷_ (7, Relend.mslice-owed (Referent.rtF (Referent.fInt Syntax.w32)) ty·10 6 18 Row.off) (List._∷_ (8, Relend.mslice-owed (Referent.rtF (Referent.fInt Syntax.w32)) ty·11 7 19 Row.off) (List._∷_ (9, Rows.any-gone ty·21) (List._∷_ (10, Rows.any-gone ty·22) (List._∷_ (11, Rows.any-gone ty·20) (List._∷_ (12, Rows.any-gone ty·19) (List._∷_ (13, Rows.whole (Declared'.row Decision.the-type)) (List._∷_ (14, Rows.whole (Declared.row Fate.the-type)) (List._∷_ (15, Rows.any-gone ty·24) List.[])))))))))))))))
+t83 = List._∷_ (0, Rows.any-gone ty·28) (List._∷_ (1, Mut.mslice (Signed.SInt Syntax.w32) ty·5 0) (List._∷_ (2, Mut.mslice (Referent.rtF (Referent.fInt Syntax.w32)) ty·6 1) (List._∷_ (3, Mut.mslice (Referent.rtF (Referent.fInt Syntax.w32)) ty·7 2) (List._∷_ (4, Mut.mslice (Referent.rtF (Referent.fInt Syntax.w32)) ty·8 3) (List._∷_ (5, Mut.mslice (Referent.rtF (Referent.fInt Syntax.w32)) ty·9 4) (List._∷_ (6, Relend.mslice-owed ELEM.the-row ty·14 5 17 Row.off) (List._∷_ (7, Relend.mslice-owed (Referent.rtF (Referent.fInt Syntax.w32)) ty·10 6 18 Row.off) (List._∷_ (8, Relend.mslice-owed (Referent.rtF (Referent.fInt Syntax.w32)) ty·11 7 19 Row.off) (List._∷_ (9, Rows.any-gone ty·21) (List._∷_ (10, Rows.any-gone ty·22) (List._∷_ (11, Rows.any-gone ty·20) (List._∷_ (12, Rows.any-gone ty·19) (List._∷_ (13, Rows.whole (Declared'.row Decision.the-type)) (List._∷_ (14, Rows.whole (Declared.row Fate.the-type)) (List._∷_ (15, Rows.any-gone ty·25) List.[])))))))))))))))
 
 abbrev pub t84 : List.List Row.Entry
-t84 = List._∷_ (0, Rows.any-gone ty·28) (List._∷_ (1, Mut.mslice (Signed.SInt Syntax.w32) ty·5 0) (List._∷_ (2, Mut.mslice (Referent.rtF (Referent.fInt Syntax.w32)) ty·6 1) (List._∷_ (3, Mut.mslice (Referent.rtF (Referent.fInt Syntax.w32)) ty·7 2) (List._∷_ (4, Mut.mslice (Referent.rtF (Referent.fInt Syntax.w32)) ty·8 3) (List._∷_ (5, Mut.mslice (Referent.rtF (Referent.fInt Syntax.w32)) ty·9 4) (List._∷_ (6, Relend.mslice-owed ELEM.the-row ty·14 5 17 Row.off) (List._∷_ (7, Relend.mslice-owed (Referent.rtF (Referent.fInt Syntax.w32)) ty·10 6 18 Row.off) (List._∷_ (8, Relend.mslice-owed (Referent.rtF (Referent.fInt Syntax.w32)) ty·11 7 19 Row.off) (List._∷_ (9, Rows.any-gone ty·21) (List._∷_ (10, Rows.any-gone ty·22) (List._∷_ (11, Rows.any-gone ty·20) (List._∷_ (12, Rows.any-gone ty·19) (List._∷_ (13, Rows.any-gone ty·26) (List._∷_ (14, Rows.whole (Declared.row Fate.the-type)) (List._∷_ (15, Rows.any-gone ty·24) List.[])))))))))))))))
+t84 = List._∷_ (0, Rows.any-gone ty·28) (List._∷_ (1, Mut.mslice (Signed.SInt Syntax.w32) ty·5 0) (List._∷_ (2, Mut.mslice (Referent.rtF (Referent.fInt Syntax.w32)) ty·6 1) (List._∷_ (3, Mut.mslice (Referent.rtF (Referent.fInt Syntax.w32)) ty·7 2) (List._∷_ (4, Mut.mslice (Referent.rtF (Referent.fInt Syntax.w32)) ty·8 3) (List._∷_ (5, Mut.mslice (Referent.rtF (Referent.fInt Syntax.w32)) ty·9 4) (List._∷_ (6, Relend.mslice-owed ELEM.the-row ty·14 5 17 Row.off) (List._∷_ (7, Relend.mslice-owed (Referent.rtF (Referent.fInt Syntax.w32)) ty·10 6 18 Row.off) (List._∷_ (8, Relend.mslice-owed (Referent.rtF (Referent.fInt Syntax.w32)) ty·11 7 19 Row.off) (List._∷_ (9, Rows.any-gone ty·21) (List._∷_ (10, Rows.any-gone ty·22) (List._∷_ (11, Rows.any-gone ty·20) (List._∷_ (12, Rows.any-gone ty·19) (List._∷_ (13, Rows.any-gone ty·26) (List._∷_ (14, Rows.whole (Declared.row Fate.the-type)) (List._∷_ (15, Rows.any-gone ty·25) List.[])))))))))))))))
 
 abbrev pub t85 : List.List Row.Entry
-t85 = List._∷_ (16, Rows.any-gone ty·27) (List._∷_ (17, Rows.whole (Declared'.row Added.the-type)) (List._∷_ (18, Rows.whole (Declared'.row Hull.the-type)) (List._∷_ (19, Rows.any-gone ty·3) (List._∷_ (20, Rows.any-gone ty·15) (List._∷_ (21, Rows.any-gone ty·3) (List._∷_ (22, Rows.any-gone ty·15) (List._∷_ (23, Rows.any-gone ty·12) (List._∷_ (24, Rows.any-gone ty·17) (List._∷_ (25, Rows.any-gone ty·3) (List._∷_ (26, Rows.any-gone ty·15) (List._∷_ (27, Rows.any-gone Syntax.tyBool) (List._∷_ (28, Rows.any-gone Syntax.tyBool) (List._∷_ (29, Rows.any-gone ty·4) (List._∷_ (30, Rows.any-gone ty·16) (List._∷_ (31, Rows.any-gone ty·4) List.[])))))))))))))))
+t85 = List._∷_ (16, Rows.any-gone ty·27) (List._∷_ (17, Rows.whole (Declared'.row Extension.the-type)) (List._∷_ (18, Rows.whole (Declared'.row Hull.the-type)) (List._∷_ (19, Rows.any-gone ty·3) (List._∷_ (20, Rows.any-gone ty·15) (List._∷_ (21, Rows.any-gone ty·3) (List._∷_ (22, Rows.any-gone ty·15) (List._∷_ (23, Rows.any-gone ty·12) (List._∷_ (24, Rows.any-gone ty·17) (List._∷_ (25, Rows.any-gone ty·3) (List._∷_ (26, Rows.any-gone ty·15) (List._∷_ (27, Rows.any-gone Syntax.tyBool) (List._∷_ (28, Rows.any-gone Syntax.tyBool) (List._∷_ (29, Rows.any-gone ty·4) (List._∷_ (30, Rows.any-gone ty·16) (List._∷_ (31, Rows.any-gone ty·4) List.[])))))))))))))))
 
 abbrev pub t86 : List.List Row.Entry
-t86 = List._∷_ (0, Rows.any-gone ty·28) (List._∷_ (1, Mut.mslice (Signed.SInt Syntax.w32) ty·5 0) (List._∷_ (2, Mut.mslice (Referent.rtF (Referent.fInt Syntax.w32)) ty·6 1) (List._∷_ (3, Mut.mslice (Referent.rtF (Referent.fInt Syntax.w32)) ty·7 2) (List._∷_ (4, Mut.mslice (Referent.rtF (Referent.fInt Syntax.w32)) ty·8 3) (List._∷_ (5, Mut.mslice (Referent.rtF (Referent.fInt Syntax.w32)) ty·9 4) (List._∷_ (6, Mut.mslice ELEM.the-row ty·14 5) (List._∷_ (7, Relend.mslice-owed (Referent.rtF (Referent.fInt Syntax.w32)) ty·10 6 18 Row.off) (List._∷_ (8, Relend.mslice-owed (Referent.rtF (Referent.fInt Syntax.w32)) ty·11 7 19 Row.off) (List._∷_ (9, Rows.any-gone ty·21) (List._∷_ (10, Rows.any-gone ty·22) (List._∷_ (11, Rows.any-gone ty·20) (List._∷_ (12, Rows.any-gone ty·19) (List._∷_ (13, Rows.any-gone ty·26) (List._∷_ (14, Rows.whole (Declared.row Fate.the-type)) (List._∷_ (15, Rows.any-gone ty·24) List.[])))))))))))))))
+t86 = List._∷_ (0, Rows.any-gone ty·28) (List._∷_ (1, Mut.mslice (Signed.SInt Syntax.w32) ty·5 0) (List._∷_ (2, Mut.mslice (Referent.rtF (Referent.fInt Syntax.w32)) ty·6 1) (List._∷_ (3, Mut.mslice (Referent.rtF (Referent.fInt Syntax.w32)) ty·7 2) (List._∷_ (4, Mut.mslice (Referent.rtF (Referent.fInt Syntax.w32)) ty·8 3) (List._∷_ (5, Mut.mslice (Referent.rtF (Referent.fInt Syntax.w32)) ty·9 4) (List._∷_ (6, Mut.mslice ELEM.the-row ty·14 5) (List._∷_ (7, Relend.mslice-owed (Referent.rtF (Referent.fInt Syntax.w32)) ty·10 6 18 Row.off) (List._∷_ (8, Relend.mslice-owed (Referent.rtF (Referent.fInt Syntax.w32)) ty·11 7 19 Row.off) (List._∷_ (9, Rows.any-gone ty·21) (List._∷_ (10, Rows.any-gone ty·22) (List._∷_ (11, Rows.any-gone ty·20) (List._∷_ (12, Rows.any-gone ty·19) (List._∷_ (13, Rows.any-gone ty·26) (List._∷_ (14, Rows.whole (Declared.row Fate.the-type)) (List._∷_ (15, Rows.any-gone ty·25) List.[])))))))))))))))
 
 abbrev pub t87 : List.List Row.Entry
 t87 = List._∷_ (32, Rows.any-gone ty·16) (List._∷_ (33, Rows.any-gone ty·4) (List._∷_ (34, Rows.any-gone ty·16) (List._∷_ (35, Rows.any-gone ty·4) (List._∷_ (36, Rows.any-gone ty·16) (List._∷_ (37, Rows.any-gone ty·4) (List._∷_ (38, Rows.any-gone ty·16) (List._∷_ (39, Rows.any-gone ty·13) (List._∷_ (40, Rows.any-gone ty·18) (List._∷_ (41, Rows.any-gone ty·4) (List._∷_ (42, Mut.msleft (Referent.rtF (Referent.fInt Syntax.w32)) ty·4) (List._∷_ (43, Rows.any-gone ty·4) (List._∷_ (44, Mut.msleft (Referent.rtF (Referent.fInt Syntax.w32)) ty·4) List.[]))))))))))))
 
 abbrev pub t88 : List.List Row.Entry
-t88 = List._∷_ (0, Rows.any-gone ty·28) (List._∷_ (1, Mut.mslice (Signed.SInt Syntax.w32) ty·5 0) (List._∷_ (2, Mut.mslice (Referent.rtF (Referent.fInt Syntax.w32)) ty·6 1) (List._∷_ (3, Mut.mslice (Referent.rtF (Referent.fInt Syntax.w32)) ty·7 2) (List._∷_ (4, Mut.mslice (Referent.rtF (Referent.fInt Syntax.w32)) ty·8 3) (List._∷_ (5, Mut.mslice (Referent.rtF (Referent.fInt Syntax.w32)) ty·9 4) (List._∷_ (6, Mut.mslice ELEM.the-row ty·14 5) (List._∷_ (7, Mut.mslice (Referent.rtF (Referent.fInt Syntax.w32)) ty·10 6) (List._∷_ (8, Relend.mslice-owed (Referent.rtF (Referent.fInt Syntax.w32)) ty·11 7 19 Row.off) (List._∷_ (9, Rows.any-gone ty·21) (List._∷_ (10, Rows.any-gone ty·22) (List._∷_ (11, Rows.any-gone ty·20) (List._∷_ (12, Rows.any-gone ty·19) (List._∷_ (13, Rows.any-gone ty·26) (List._∷_ (14, Rows.whole (Declared.row Fate.the-type)) (List._∷_ (15, Rows.any-gone ty·24) List.[])))))))))))))))
+t88 = List._∷_ (0, Rows.any-gone ty·28) (List._∷_ (1, Mut.mslice (Signed.SInt Syntax.w32) ty·5 0) (List._∷_ (2, Mut.mslice (Referent.rtF (Referent.fInt Syntax.w32)) ty·6 1) (List._∷_ (3, Mut.mslice (Referent.rtF (Referent.fInt Syntax.w32)) ty·7 2) (List._∷_ (4, Mut.mslice (Referent.rtF (Referent.fInt Syntax.w32)) ty·8 3) (List._∷_ (5, Mut.mslice (Referent.rtF (Referent.fInt Syntax.w32)) ty·9 4) (List._∷_ (6, Mut.mslice ELEM.the-row ty·14 5) (List._∷_ (7, Mut.mslice (Referent.rtF (Referent.fInt Syntax.w32)) ty·10 6) (List._∷_ (8, Relend.mslice-owed (Referent.rtF (Referent.fInt Syntax.w32)) ty·11 7 19 Row.off) (List._∷_ (9, Rows.any-gone ty·21) (List._∷_ (10, Rows.any-gone ty·22) (List._∷_ (11, Rows.any-gone ty·20) (List._∷_ (12, Rows.any-gone ty·19) (List._∷_ (13, Rows.any-gone ty·26) (List._∷_ (14, Rows.whole (Declared.row Fate.the-type)) (List._∷_ (15, Rows.any-gone ty·25) List.[])))))))))))))))
 
 abbrev pub t89 : List.List Row.Entry
 t89 = List._∷_ (32, Rows.any-gone ty·16) (List._∷_ (33, Rows.any-gone ty·4) (List._∷_ (34, Rows.any-gone ty·16) (List._∷_ (35, Rows.any-gone ty·4) (List._∷_ (36, Rows.any-gone ty·16) (List._∷_ (37, Rows.any-gone ty·4) (List._∷_ (38, Rows.any-gone ty·16) (List._∷_ (39, Rows.any-gone ty·13) (List._∷_ (40, Rows.any-gone ty·18) (List._∷_ (41, Rows.any-gone ty·4) (List._∷_ (42, Rows.any-gone ty·16) (List._∷_ (43, Rows.any-gone ty·4) (List._∷_ (44, Mut.msleft (Referent.rtF (Referent.fInt Syntax.w32)) ty·4) List.[]))))))))))))
 
 abbrev pub t90 : List.List Row.Entry
-t90 = List._∷_ (0, Rows.any-gone ty·28) (List._∷_ (1, Mut.mslice (Signed.SInt Syntax.w32) ty·5 0) (List._∷_ (2, Mut.mslice (Referent.rtF (Referent.fInt Syntax.w32)) ty·6 1) (List._∷_ (3, Mut.mslice (Referent.rtF (Referent.fInt Syntax.w32)) ty·7 2) (List._∷_ (4, Mut.mslice (Referent.rtF (Referent.fInt Syntax.w32)) ty·8 3) (List._∷_ (5, Mut.mslice (Referent.rtF (Referent.fInt Syntax.w32)) ty·9 4) (List._∷_ (6, Mut.mslice ELEM.the-row ty·14 5) (List._∷_ (7, Mut.mslice (Referent.rtF (Referent.fInt Syntax.w32)) ty·10 6) (List._∷_ (8, Mut.mslice (Referent.rtF (Referent.fInt Syntax.w32)) ty·11 7) (List._∷_ (9, Rows.any-gone ty·21) (List._∷_ (10, Rows.any-gone ty·22) (List._∷_ (11, Rows.any-gone ty·20) (List._∷_ (12, Rows.any-gone ty·19) (List._∷_ (13, Rows.any-gone ty·26) (List._∷_ (14, Rows.whole (Declared.row Fate.the-type)) (List._∷_ (15, Rows.any-gone ty·24) List.[])))))))))))))))
+t90 = List._∷_ (0, Rows.any-gone ty·28) (List._∷_ (1, Mut.mslice (Signed.SInt Syntax.w32) ty·5 0) (List._∷_ (2, Mut.mslice (Referent.rtF (Referent.fInt Syntax.w32)) ty·6 1) (List._∷_ (3, Mut.mslice (Referent.rtF (Referent.fInt Syntax.w32)) ty·7 2) (List._∷_ (4, Mut.mslice (Referent.rtF (Referent.fInt Syntax.w32)) ty·8 3) (List._∷_ (5, Mut.mslice (Referent.rtF (Referent.fInt Syntax.w32)) ty·9 4) (List._∷_ (6, Mut.mslice ELEM.the-row ty·14 5) (List._∷_ (7, Mut.mslice (Referent.rtF (Referent.fInt Syntax.w32)) ty·10 6) (List._∷_ (8, Mut.mslice (Referent.rtF (Referent.fInt Syntax.w32)) ty·11 7) (List._∷_ (9, Rows.any-gone ty·21) (List._∷_ (10, Rows.any-gone ty·22) (List._∷_ (11, Rows.any-gone ty·20) (List._∷_ (12, Rows.any-gone ty·19) (List._∷_ (13, Rows.any-gone ty·26) (List._∷_ (14, Rows.whole (Declared.row Fate.the-type)) (List._∷_ (15, Rows.any-gone ty·25) List.[])))))))))))))))
 
 abbrev pub t91 : List.List Row.Entry
-t91 = List._∷_ (16, Rows.any-gone ty·27) (List._∷_ (17, Rows.any-gone ty·24) (List._∷_ (18, Rows.whole (Declared'.row Hull.the-type)) (List._∷_ (19, Rows.any-gone ty·3) (List._∷_ (20, Rows.any-gone ty·15) (List._∷_ (21, Rows.any-gone ty·3) (List._∷_ (22, Rows.any-gone ty·15) (List._∷_ (23, Rows.any-gone ty·12) (List._∷_ (24, Rows.any-gone ty·17) (List._∷_ (25, Rows.any-gone ty·3) (List._∷_ (26, Rows.any-gone ty·15) (List._∷_ (27, Rows.any-gone Syntax.tyBool) (List._∷_ (28, Rows.any-gone Syntax.tyBool) (List._∷_ (29, Rows.any-gone ty·4) (List._∷_ (30, Rows.any-gone ty·16) (List._∷_ (31, Rows.any-gone ty·4) List.[])))))))))))))))
+t91 = List._∷_ (16, Rows.any-gone ty·27) (List._∷_ (17, Rows.any-gone ty·25) (List._∷_ (18, Rows.whole (Declared'.row Hull.the-type)) (List._∷_ (19, Rows.any-gone ty·3) (List._∷_ (20, Rows.any-gone ty·15) (List._∷_ (21, Rows.any-gone ty·3) (List._∷_ (22, Rows.any-gone ty·15) (List._∷_ (23, Rows.any-gone ty·12) (List._∷_ (24, Rows.any-gone ty·17) (List._∷_ (25, Rows.any-gone ty·3) (List._∷_ (26, Rows.any-gone ty·15) (List._∷_ (27, Rows.any-gone Syntax.tyBool) (List._∷_ (28, Rows.any-gone Syntax.tyBool) (List._∷_ (29, Rows.any-gone ty·4) (List._∷_ (30, Rows.any-gone ty·16) (List._∷_ (31, Rows.any-gone ty·4) List.[])))))))))))))))
 
 abbrev pub T0 : Row.Cx
 T0 = record { locals = List._++_ t0 (List._++_ t1 t2); slots = List.[] }
@@ -1128,13 +1128,13 @@ module _ (claims· : Claims) where
   s42 = λ bs. Scalar.n-room T44 28 Syntax.tyBool
 
   abbrev s43 : (bs : List.List Nat.ℕ) → Typed.Mo T45 → Typed.Mo T46
-  s43 = λ bs. Make.n-struct-make (Apart.apartT Added.the-type) T45 15 λ m. (m .1 .1 .1 .1 .1 .1 .1 .1 .1 .0, (0, (0, (Bool'.false, tt))))
+  s43 = λ bs. Make.n-struct-make (Apart.apartT Extension.the-type) T45 15 λ m. (m .1 .1 .1 .1 .1 .1 .1 .1 .1 .0, (0, (0, (Bool'.false, tt))))
 
   abbrev s44 : (bs : List.List Nat.ℕ) → Typed.Mo T46 → Typed.Mo T47
   s44 = λ bs. Scalar.n-room T46 9 ty·21
 
   abbrev s45 : (bs : List.List Nat.ℕ) → Typed.Mo T47 → Typed.Mo T48
-  s45 = λ bs. AtSlots.n-as-by T47 15 (Rows.whole (Declared'.row Added.the-type)) λ v. Added.struct .make v tt
+  s45 = λ bs. AtSlots.n-as-by T47 15 (Rows.whole (Declared'.row Extension.the-type)) λ v. Extension.struct .make v tt
 
   abbrev s46 : (bs : List.List Nat.ℕ) → Typed.Both T48 T49
   s46 = λ bs. Call.callB ps·2 r·2 (claims· .4) (claims· .5) T48 (record { pos = 15; st = List.[]; d = 0; at = λ x. x }, (record { pos = 10; st = List.[]; d = 0; at = λ x. x }, (record { pos = 14; st = List.[]; d = 0; at = λ x. x }, tt))) 0 List.[] ty·28
@@ -1146,7 +1146,7 @@ module _ (claims· : Claims) where
   s48 = λ bs. Scalar.n-room T50 14 ty·23
 
   abbrev s49 : (bs : List.List Nat.ℕ) → Typed.Mo T51 → Typed.Mo T52
-  s49 = λ bs. Scalar.n-room T51 15 ty·24
+  s49 = λ bs. Scalar.n-room T51 15 ty·25
 
   abbrev s50 : (bs : List.List Nat.ℕ) → Typed.Mo T42 → Typed.Mo T53
   s50 = λ bs. Scalar.n-room T42 28 Syntax.tyBool
@@ -1218,10 +1218,10 @@ module _ (claims· : Claims) where
   s86 = λ bs. Know.k-sl-known (Referent.fInt Syntax.w32) T88 5 4 ty·9 Row.off 0 λ x. x
 
   abbrev s88 : (bs : List.List Nat.ℕ) → Typed.Both T89 T91
-  s88 = λ bs. WayStmt.k-way-copy-out T89 (Row.out 16 (T89 .locals)) (λ u. Row.drop 16 (T89 .locals) u) 17 (Rows.whole (Declared'.row Added.the-type)) (λ u. At.getAt (Entered.the-type .parts) 0 (Entered.struct .as-values (u .1 .1 .1 .1 .1 .1 .1 .1 .1 .1 .1 .1 .1 .1 .1 .1 .0))) (λ T′. record { locals = Row.setRow 16 (16, Rows.whole (Declared'.row Entered.the-type)) T′; slots = List.[] }) (λ u T′ m′. Row.set 16 (16, Rows.whole (Declared'.row Entered.the-type)) (u .1 .1 .1 .1 .1 .1 .1 .1 .1 .1 .1 .1 .1 .1 .1 .1 .0) T′ m′) (λ u. Unit) λ u. Unit
+  s88 = λ bs. WayStmt.k-way-copy-out T89 (Row.out 16 (T89 .locals)) (λ u. Row.drop 16 (T89 .locals) u) 17 (Rows.whole (Declared'.row Extension.the-type)) (λ u. At.getAt (Entered.the-type .parts) 0 (Entered.struct .as-values (u .1 .1 .1 .1 .1 .1 .1 .1 .1 .1 .1 .1 .1 .1 .1 .1 .0))) (λ T′. record { locals = Row.setRow 16 (16, Rows.whole (Declared'.row Entered.the-type)) T′; slots = List.[] }) (λ u T′ m′. Row.set 16 (16, Rows.whole (Declared'.row Entered.the-type)) (u .1 .1 .1 .1 .1 .1 .1 .1 .1 .1 .1 .1 .1 .1 .1 .1 .0) T′ m′) (λ u. Unit) λ u. Unit
 
   abbrev s89 : (bs : List.List Nat.ℕ) → Typed.Mo T91 → Typed.Mo T92
-  s89 = λ bs. Scalar.n-use T91 (Scalar.oFld 17 (List._∷_ (Syntax.field 3) List.[]) Syntax.tyBool 24 (Reads.fieldV Added.the-type Laws''.the-laws 3)) 27 (Rows.sc-here Row.sBool) (Row.sBool .of)
+  s89 = λ bs. Scalar.n-use T91 (Scalar.oFld 17 (List._∷_ (Syntax.field 3) List.[]) Syntax.tyBool 24 (Reads.fieldV Extension.the-type Laws''.the-laws 3)) 27 (Rows.sc-here Row.sBool) (Row.sBool .of)
 
   abbrev s90 : (bs : List.List Nat.ℕ) → Typed.Mo T92 → Typed.Mo T94
   s90 = λ bs. Scalar.n-room T92 13 ty·26
@@ -1242,7 +1242,7 @@ module _ (claims· : Claims) where
   s95 = λ bs. Scalar.n-room T98 14 ty·23
 
   abbrev s96 : (bs : List.List Nat.ℕ) → Typed.Mo T99 → Typed.Mo T100
-  s96 = λ bs. Scalar.n-room T99 17 ty·24
+  s96 = λ bs. Scalar.n-room T99 17 ty·25
 
   abbrev s97 : (bs : List.List Nat.ℕ) → Typed.Mo T92 → Typed.Mo T101
   s97 = λ bs. Scalar.n-room T92 27 Syntax.tyBool
@@ -1299,7 +1299,7 @@ module _ (claims· : Claims) where
   s123 = λ bs. Scalar.n-room T126 14 ty·23
 
   abbrev s124 : (bs : List.List Nat.ℕ) → Typed.Mo T127 → Typed.Mo T128
-  s124 = λ bs. Scalar.n-room T127 17 ty·24
+  s124 = λ bs. Scalar.n-room T127 17 ty·25
 
   abbrev s125 : (bs : List.List Nat.ℕ) → Typed.Mo T128 → Typed.Mo T129
   s125 = λ bs. Scalar.n-room T128 18 ty·22
@@ -1724,85 +1724,85 @@ module _ (claims· : Claims) where
 
       module _ (κs : Lifetimes.Lfts 8) (qs : Lifetimes.Shares 8) where
         abbrev g4 : List.List Row.Entry
-        g4 = List._∷_ (0, Rows.any-gone ty·28) (List._∷_ (1, Reshare.mslice-owedS (Signed.SInt Syntax.w32) ty·5 0 8 (Row.lease (κs .0) (qs .0))) (List._∷_ (2, Mut.mslice (Referent.rtF (Referent.fInt Syntax.w32)) ty·6 1) (List._∷_ (3, Mut.mslice (Referent.rtF (Referent.fInt Syntax.w32)) ty·7 2) (List._∷_ (4, Mut.mslice (Referent.rtF (Referent.fInt Syntax.w32)) ty·8 3) (List._∷_ (5, Mut.mslice (Referent.rtF (Referent.fInt Syntax.w32)) ty·9 4) (List._∷_ (6, Mut.mslice ELEM.the-row ty·14 5) (List._∷_ (7, Mut.mslice (Referent.rtF (Referent.fInt Syntax.w32)) ty·10 6) (List._∷_ (8, Mut.mslice (Referent.rtF (Referent.fInt Syntax.w32)) ty·11 7) (List._∷_ (9, Rows.whole (Declared'.row Counts.the-type)) (List._∷_ (10, Rows.whole (Declared'.row Hull.the-type)) (List._∷_ (11, Rows.whole (Declared'.row Point2.the-type)) (List._∷_ (12, Rows.whole (Declared'.row Point.the-type)) (List._∷_ (13, Rows.any-gone ty·26) (List._∷_ (14, Rows.any-gone ty·23) (List._∷_ (15, Rows.any-gone ty·24) List.[])))))))))))))))
+        g4 = List._∷_ (0, Rows.any-gone ty·28) (List._∷_ (1, Reshare.mslice-owedS (Signed.SInt Syntax.w32) ty·5 0 8 (Row.lease (κs .0) (qs .0))) (List._∷_ (2, Mut.mslice (Referent.rtF (Referent.fInt Syntax.w32)) ty·6 1) (List._∷_ (3, Mut.mslice (Referent.rtF (Referent.fInt Syntax.w32)) ty·7 2) (List._∷_ (4, Mut.mslice (Referent.rtF (Referent.fInt Syntax.w32)) ty·8 3) (List._∷_ (5, Mut.mslice (Referent.rtF (Referent.fInt Syntax.w32)) ty·9 4) (List._∷_ (6, Mut.mslice ELEM.the-row ty·14 5) (List._∷_ (7, Mut.mslice (Referent.rtF (Referent.fInt Syntax.w32)) ty·10 6) (List._∷_ (8, Mut.mslice (Referent.rtF (Referent.fInt Syntax.w32)) ty·11 7) (List._∷_ (9, Rows.whole (Declared'.row Counts.the-type)) (List._∷_ (10, Rows.whole (Declared'.row Hull.the-type)) (List._∷_ (11, Rows.whole (Declared'.row Point2.the-type)) (List._∷_ (12, Rows.whole (Declared'.row Point.the-type)) (List._∷_ (13, Rows.any-gone ty·26) (List._∷_ (14, Rows.any-gone ty·23) (List._∷_ (15, Rows.any-gone ty·25) List.[])))))))))))))))
 
         abbrev g7 : List.List Row.Entry
-        g7 = List._∷_ (0, Rows.any-gone ty·28) (List._∷_ (1, Reshare.mslice-owedS (Signed.SInt Syntax.w32) ty·5 0 8 (Row.lease (κs .0) (qs .0))) (List._∷_ (2, Mut.mslice (Referent.rtF (Referent.fInt Syntax.w32)) ty·6 1) (List._∷_ (3, Reshare.mslice-owedS (Referent.rtF (Referent.fInt Syntax.w32)) ty·7 2 9 (Row.lease (κs .1 .1 .0) (qs .1 .1 .0))) (List._∷_ (4, Mut.mslice (Referent.rtF (Referent.fInt Syntax.w32)) ty·8 3) (List._∷_ (5, Mut.mslice (Referent.rtF (Referent.fInt Syntax.w32)) ty·9 4) (List._∷_ (6, Mut.mslice ELEM.the-row ty·14 5) (List._∷_ (7, Mut.mslice (Referent.rtF (Referent.fInt Syntax.w32)) ty·10 6) (List._∷_ (8, Mut.mslice (Referent.rtF (Referent.fInt Syntax.w32)) ty·11 7) (List._∷_ (9, Rows.whole (Declared'.row Counts.the-type)) (List._∷_ (10, Rows.whole (Declared'.row Hull.the-type)) (List._∷_ (11, Rows.whole (Declared'.row Point2.the-type)) (List._∷_ (12, Rows.whole (Declared'.row Point.the-type)) (List._∷_ (13, Rows.any-gone ty·26) (List._∷_ (14, Rows.any-gone ty·23) (List._∷_ (15, Rows.any-gone ty·24) List.[])))))))))))))))
+        g7 = List._∷_ (0, Rows.any-gone ty·28) (List._∷_ (1, Reshare.mslice-owedS (Signed.SInt Syntax.w32) ty·5 0 8 (Row.lease (κs .0) (qs .0))) (List._∷_ (2, Mut.mslice (Referent.rtF (Referent.fInt Syntax.w32)) ty·6 1) (List._∷_ (3, Reshare.mslice-owedS (Referent.rtF (Referent.fInt Syntax.w32)) ty·7 2 9 (Row.lease (κs .1 .1 .0) (qs .1 .1 .0))) (List._∷_ (4, Mut.mslice (Referent.rtF (Referent.fInt Syntax.w32)) ty·8 3) (List._∷_ (5, Mut.mslice (Referent.rtF (Referent.fInt Syntax.w32)) ty·9 4) (List._∷_ (6, Mut.mslice ELEM.the-row ty·14 5) (List._∷_ (7, Mut.mslice (Referent.rtF (Referent.fInt Syntax.w32)) ty·10 6) (List._∷_ (8, Mut.mslice (Referent.rtF (Referent.fInt Syntax.w32)) ty·11 7) (List._∷_ (9, Rows.whole (Declared'.row Counts.the-type)) (List._∷_ (10, Rows.whole (Declared'.row Hull.the-type)) (List._∷_ (11, Rows.whole (Declared'.row Point2.the-type)) (List._∷_ (12, Rows.whole (Declared'.row Point.the-type)) (List._∷_ (13, Rows.any-gone ty·26) (List._∷_ (14, Rows.any-gone ty·23) (List._∷_ (15, Rows.any-gone ty·25) List.[])))))))))))))))
 
         abbrev g10 : List.List Row.Entry
-        g10 = List._∷_ (0, Rows.any-gone ty·28) (List._∷_ (1, Reshare.mslice-owedS (Signed.SInt Syntax.w32) ty·5 0 8 (Row.lease (κs .0) (qs .0))) (List._∷_ (2, Mut.mslice (Referent.rtF (Referent.fInt Syntax.w32)) ty·6 1) (List._∷_ (3, Reshare.mslice-owedS (Referent.rtF (Referent.fInt Syntax.w32)) ty·7 2 9 (Row.lease (κs .1 .1 .0) (qs .1 .1 .0))) (List._∷_ (4, Mut.mslice (Referent.rtF (Referent.fInt Syntax.w32)) ty·8 3) (List._∷_ (5, Mut.mslice (Referent.rtF (Referent.fInt Syntax.w32)) ty·9 4) (List._∷_ (6, Reshare.mslice-owedS ELEM.the-row ty·14 5 10 (Row.lease (κs .1 .1 .1 .1 .1 .0) (qs .1 .1 .1 .1 .1 .0))) (List._∷_ (7, Mut.mslice (Referent.rtF (Referent.fInt Syntax.w32)) ty·10 6) (List._∷_ (8, Mut.mslice (Referent.rtF (Referent.fInt Syntax.w32)) ty·11 7) (List._∷_ (9, Rows.whole (Declared'.row Counts.the-type)) (List._∷_ (10, Rows.whole (Declared'.row Hull.the-type)) (List._∷_ (11, Rows.whole (Declared'.row Point2.the-type)) (List._∷_ (12, Rows.whole (Declared'.row Point.the-type)) (List._∷_ (13, Rows.any-gone ty·26) (List._∷_ (14, Rows.any-gone ty·23) (List._∷_ (15, Rows.any-gone ty·24) List.[])))))))))))))))
+        g10 = List._∷_ (0, Rows.any-gone ty·28) (List._∷_ (1, Reshare.mslice-owedS (Signed.SInt Syntax.w32) ty·5 0 8 (Row.lease (κs .0) (qs .0))) (List._∷_ (2, Mut.mslice (Referent.rtF (Referent.fInt Syntax.w32)) ty·6 1) (List._∷_ (3, Reshare.mslice-owedS (Referent.rtF (Referent.fInt Syntax.w32)) ty·7 2 9 (Row.lease (κs .1 .1 .0) (qs .1 .1 .0))) (List._∷_ (4, Mut.mslice (Referent.rtF (Referent.fInt Syntax.w32)) ty·8 3) (List._∷_ (5, Mut.mslice (Referent.rtF (Referent.fInt Syntax.w32)) ty·9 4) (List._∷_ (6, Reshare.mslice-owedS ELEM.the-row ty·14 5 10 (Row.lease (κs .1 .1 .1 .1 .1 .0) (qs .1 .1 .1 .1 .1 .0))) (List._∷_ (7, Mut.mslice (Referent.rtF (Referent.fInt Syntax.w32)) ty·10 6) (List._∷_ (8, Mut.mslice (Referent.rtF (Referent.fInt Syntax.w32)) ty·11 7) (List._∷_ (9, Rows.whole (Declared'.row Counts.the-type)) (List._∷_ (10, Rows.whole (Declared'.row Hull.the-type)) (List._∷_ (11, Rows.whole (Declared'.row Point2.the-type)) (List._∷_ (12, Rows.whole (Declared'.row Point.the-type)) (List._∷_ (13, Rows.any-gone ty·26) (List._∷_ (14, Rows.any-gone ty·23) (List._∷_ (15, Rows.any-gone ty·25) List.[])))))))))))))))
 
         abbrev g13 : List.List Row.Entry
-        g13 = List._∷_ (0, Rows.any-gone ty·28) (List._∷_ (1, Reshare.mslice-owedS (Signed.SInt Syntax.w32) ty·5 0 8 (Row.lease (κs .0) (qs .0))) (List._∷_ (2, Mut.mslice (Referent.rtF (Referent.fInt Syntax.w32)) ty·6 1) (List._∷_ (3, Reshare.mslice-owedS (Referent.rtF (Referent.fInt Syntax.w32)) ty·7 2 9 (Row.lease (κs .1 .1 .0) (qs .1 .1 .0))) (List._∷_ (4, Mut.mslice (Referent.rtF (Referent.fInt Syntax.w32)) ty·8 3) (List._∷_ (5, Mut.mslice (Referent.rtF (Referent.fInt Syntax.w32)) ty·9 4) (List._∷_ (6, Reshare.mslice-owedS ELEM.the-row ty·14 5 10 (Row.lease (κs .1 .1 .1 .1 .1 .0) (qs .1 .1 .1 .1 .1 .0))) (List._∷_ (7, Mut.mslice (Referent.rtF (Referent.fInt Syntax.w32)) ty·10 6) (List._∷_ (8, Reshare.mslice-owedS (Referent.rtF (Referent.fInt Syntax.w32)) ty·11 7 11 (Row.lease (κs .1 .1 .1 .1 .1 .1 .1 .0) (qs .1 .1 .1 .1 .1 .1 .1 .0))) (List._∷_ (9, Rows.whole (Declared'.row Counts.the-type)) (List._∷_ (10, Rows.whole (Declared'.row Hull.the-type)) (List._∷_ (11, Rows.whole (Declared'.row Point2.the-type)) (List._∷_ (12, Rows.whole (Declared'.row Point.the-type)) (List._∷_ (13, Rows.any-gone ty·26) (List._∷_ (14, Rows.any-gone ty·23) (List._∷_ (15, Rows.any-gone ty·24) List.[])))))))))))))))
+        g13 = List._∷_ (0, Rows.any-gone ty·28) (List._∷_ (1, Reshare.mslice-owedS (Signed.SInt Syntax.w32) ty·5 0 8 (Row.lease (κs .0) (qs .0))) (List._∷_ (2, Mut.mslice (Referent.rtF (Referent.fInt Syntax.w32)) ty·6 1) (List._∷_ (3, Reshare.mslice-owedS (Referent.rtF (Referent.fInt Syntax.w32)) ty·7 2 9 (Row.lease (κs .1 .1 .0) (qs .1 .1 .0))) (List._∷_ (4, Mut.mslice (Referent.rtF (Referent.fInt Syntax.w32)) ty·8 3) (List._∷_ (5, Mut.mslice (Referent.rtF (Referent.fInt Syntax.w32)) ty·9 4) (List._∷_ (6, Reshare.mslice-owedS ELEM.the-row ty·14 5 10 (Row.lease (κs .1 .1 .1 .1 .1 .0) (qs .1 .1 .1 .1 .1 .0))) (List._∷_ (7, Mut.mslice (Referent.rtF (Referent.fInt Syntax.w32)) ty·10 6) (List._∷_ (8, Reshare.mslice-owedS (Referent.rtF (Referent.fInt Syntax.w32)) ty·11 7 11 (Row.lease (κs .1 .1 .1 .1 .1 .1 .1 .0) (qs .1 .1 .1 .1 .1 .1 .1 .0))) (List._∷_ (9, Rows.whole (Declared'.row Counts.the-type)) (List._∷_ (10, Rows.whole (Declared'.row Hull.the-type)) (List._∷_ (11, Rows.whole (Declared'.row Point2.the-type)) (List._∷_ (12, Rows.whole (Declared'.row Point.the-type)) (List._∷_ (13, Rows.any-gone ty·26) (List._∷_ (14, Rows.any-gone ty·23) (List._∷_ (15, Rows.any-gone ty·25) List.[])))))))))))))))
 
         abbrev g16 : List.List Row.Entry
-        g16 = List._∷_ (0, Rows.any-gone ty·28) (List._∷_ (1, Reshare.mslice-owedS (Signed.SInt Syntax.w32) ty·5 0 8 (Row.lease (κs .0) (qs .0))) (List._∷_ (2, Mut.mslice (Referent.rtF (Referent.fInt Syntax.w32)) ty·6 1) (List._∷_ (3, Reshare.mslice-owedS (Referent.rtF (Referent.fInt Syntax.w32)) ty·7 2 9 (Row.lease (κs .1 .1 .0) (qs .1 .1 .0))) (List._∷_ (4, Mut.mslice (Referent.rtF (Referent.fInt Syntax.w32)) ty·8 3) (List._∷_ (5, Mut.mslice (Referent.rtF (Referent.fInt Syntax.w32)) ty·9 4) (List._∷_ (6, Reshare.mslice-owedS ELEM.the-row ty·14 5 10 (Row.lease (κs .1 .1 .1 .1 .1 .0) (qs .1 .1 .1 .1 .1 .0))) (List._∷_ (7, Mut.mslice (Referent.rtF (Referent.fInt Syntax.w32)) ty·10 6) (List._∷_ (8, Reshare.mslice-owedS (Referent.rtF (Referent.fInt Syntax.w32)) ty·11 7 11 (Row.lease (κs .1 .1 .1 .1 .1 .1 .1 .0) (qs .1 .1 .1 .1 .1 .1 .1 .0))) (List._∷_ (9, Rows.whole (Declared'.row Counts.the-type)) (List._∷_ (10, Rows.whole (Declared'.row Hull.the-type)) (List._∷_ (11, Rows.whole (Declared'.row Point2.the-type)) (List._∷_ (12, Rows.whole (Declared'.row Point.the-type)) (List._∷_ (13, Rows.whole (Declared'.row Decision.the-type)) (List._∷_ (14, Rows.any-gone ty·23) (List._∷_ (15, Rows.any-gone ty·24) List.[])))))))))))))))
+        g16 = List._∷_ (0, Rows.any-gone ty·28) (List._∷_ (1, Reshare.mslice-owedS (Signed.SInt Syntax.w32) ty·5 0 8 (Row.lease (κs .0) (qs .0))) (List._∷_ (2, Mut.mslice (Referent.rtF (Referent.fInt Syntax.w32)) ty·6 1) (List._∷_ (3, Reshare.mslice-owedS (Referent.rtF (Referent.fInt Syntax.w32)) ty·7 2 9 (Row.lease (κs .1 .1 .0) (qs .1 .1 .0))) (List._∷_ (4, Mut.mslice (Referent.rtF (Referent.fInt Syntax.w32)) ty·8 3) (List._∷_ (5, Mut.mslice (Referent.rtF (Referent.fInt Syntax.w32)) ty·9 4) (List._∷_ (6, Reshare.mslice-owedS ELEM.the-row ty·14 5 10 (Row.lease (κs .1 .1 .1 .1 .1 .0) (qs .1 .1 .1 .1 .1 .0))) (List._∷_ (7, Mut.mslice (Referent.rtF (Referent.fInt Syntax.w32)) ty·10 6) (List._∷_ (8, Reshare.mslice-owedS (Referent.rtF (Referent.fInt Syntax.w32)) ty·11 7 11 (Row.lease (κs .1 .1 .1 .1 .1 .1 .1 .0) (qs .1 .1 .1 .1 .1 .1 .1 .0))) (List._∷_ (9, Rows.whole (Declared'.row Counts.the-type)) (List._∷_ (10, Rows.whole (Declared'.row Hull.the-type)) (List._∷_ (11, Rows.whole (Declared'.row Point2.the-type)) (List._∷_ (12, Rows.whole (Declared'.row Point.the-type)) (List._∷_ (13, Rows.whole (Declared'.row Decision.the-type)) (List._∷_ (14, Rows.any-gone ty·23) (List._∷_ (15, Rows.any-gone ty·25) List.[])))))))))))))))
 
         abbrev g20 : List.List Row.Entry
-        g20 = List._∷_ (0, Rows.any-gone ty·28) (List._∷_ (1, Reshare.mslice-owedS (Signed.SInt Syntax.w32) ty·5 0 8 (Row.lease (κs .0) (qs .0))) (List._∷_ (2, Mut.mslice (Referent.rtF (Referent.fInt Syntax.w32)) ty·6 1) (List._∷_ (3, Reshare.mslice-owedS (Referent.rtF (Referent.fInt Syntax.w32)) ty·7 2 9 (Row.lease (κs .1 .1 .0) (qs .1 .1 .0))) (List._∷_ (4, Mut.mslice (Referent.rtF (Referent.fInt Syntax.w32)) ty·8 3) (List._∷_ (5, Mut.mslice (Referent.rtF (Referent.fInt Syntax.w32)) ty·9 4) (List._∷_ (6, Reshare.mslice-owedS ELEM.the-row ty·14 5 10 (Row.lease (κs .1 .1 .1 .1 .1 .0) (qs .1 .1 .1 .1 .1 .0))) (List._∷_ (7, Mut.mslice (Referent.rtF (Referent.fInt Syntax.w32)) ty·10 6) (List._∷_ (8, Reshare.mslice-owedS (Referent.rtF (Referent.fInt Syntax.w32)) ty·11 7 11 (Row.lease (κs .1 .1 .1 .1 .1 .1 .1 .0) (qs .1 .1 .1 .1 .1 .1 .1 .0))) (List._∷_ (9, Rows.whole (Declared'.row Counts.the-type)) (List._∷_ (10, Rows.whole (Declared'.row Hull.the-type)) (List._∷_ (11, Rows.any-gone ty·20) (List._∷_ (12, Rows.whole (Declared'.row Point.the-type)) (List._∷_ (13, Rows.whole (Declared'.row Decision.the-type)) (List._∷_ (14, Rows.any-gone ty·23) (List._∷_ (15, Rows.any-gone ty·24) List.[])))))))))))))))
+        g20 = List._∷_ (0, Rows.any-gone ty·28) (List._∷_ (1, Reshare.mslice-owedS (Signed.SInt Syntax.w32) ty·5 0 8 (Row.lease (κs .0) (qs .0))) (List._∷_ (2, Mut.mslice (Referent.rtF (Referent.fInt Syntax.w32)) ty·6 1) (List._∷_ (3, Reshare.mslice-owedS (Referent.rtF (Referent.fInt Syntax.w32)) ty·7 2 9 (Row.lease (κs .1 .1 .0) (qs .1 .1 .0))) (List._∷_ (4, Mut.mslice (Referent.rtF (Referent.fInt Syntax.w32)) ty·8 3) (List._∷_ (5, Mut.mslice (Referent.rtF (Referent.fInt Syntax.w32)) ty·9 4) (List._∷_ (6, Reshare.mslice-owedS ELEM.the-row ty·14 5 10 (Row.lease (κs .1 .1 .1 .1 .1 .0) (qs .1 .1 .1 .1 .1 .0))) (List._∷_ (7, Mut.mslice (Referent.rtF (Referent.fInt Syntax.w32)) ty·10 6) (List._∷_ (8, Reshare.mslice-owedS (Referent.rtF (Referent.fInt Syntax.w32)) ty·11 7 11 (Row.lease (κs .1 .1 .1 .1 .1 .1 .1 .0) (qs .1 .1 .1 .1 .1 .1 .1 .0))) (List._∷_ (9, Rows.whole (Declared'.row Counts.the-type)) (List._∷_ (10, Rows.whole (Declared'.row Hull.the-type)) (List._∷_ (11, Rows.any-gone ty·20) (List._∷_ (12, Rows.whole (Declared'.row Point.the-type)) (List._∷_ (13, Rows.whole (Declared'.row Decision.the-type)) (List._∷_ (14, Rows.any-gone ty·23) (List._∷_ (15, Rows.any-gone ty·25) List.[])))))))))))))))
 
         abbrev g21 : List.List Row.Entry
-        g21 = List._∷_ (0, Rows.any-gone ty·28) (List._∷_ (1, Mut.mslice (Signed.SInt Syntax.w32) ty·5 0) (List._∷_ (2, Mut.mslice (Referent.rtF (Referent.fInt Syntax.w32)) ty·6 1) (List._∷_ (3, Reshare.mslice-owedS (Referent.rtF (Referent.fInt Syntax.w32)) ty·7 2 9 (Row.lease (κs .1 .1 .0) (qs .1 .1 .0))) (List._∷_ (4, Mut.mslice (Referent.rtF (Referent.fInt Syntax.w32)) ty·8 3) (List._∷_ (5, Mut.mslice (Referent.rtF (Referent.fInt Syntax.w32)) ty·9 4) (List._∷_ (6, Reshare.mslice-owedS ELEM.the-row ty·14 5 10 (Row.lease (κs .1 .1 .1 .1 .1 .0) (qs .1 .1 .1 .1 .1 .0))) (List._∷_ (7, Mut.mslice (Referent.rtF (Referent.fInt Syntax.w32)) ty·10 6) (List._∷_ (8, Reshare.mslice-owedS (Referent.rtF (Referent.fInt Syntax.w32)) ty·11 7 11 (Row.lease (κs .1 .1 .1 .1 .1 .1 .1 .0) (qs .1 .1 .1 .1 .1 .1 .1 .0))) (List._∷_ (9, Rows.whole (Declared'.row Counts.the-type)) (List._∷_ (10, Rows.whole (Declared'.row Hull.the-type)) (List._∷_ (11, Rows.any-gone ty·20) (List._∷_ (12, Rows.whole (Declared'.row Point.the-type)) (List._∷_ (13, Rows.whole (Declared'.row Decision.the-type)) (List._∷_ (14, Rows.any-gone ty·23) (List._∷_ (15, Rows.any-gone ty·24) List.[])))))))))))))))
+        g21 = List._∷_ (0, Rows.any-gone ty·28) (List._∷_ (1, Mut.mslice (Signed.SInt Syntax.w32) ty·5 0) (List._∷_ (2, Mut.mslice (Referent.rtF (Referent.fInt Syntax.w32)) ty·6 1) (List._∷_ (3, Reshare.mslice-owedS (Referent.rtF (Referent.fInt Syntax.w32)) ty·7 2 9 (Row.lease (κs .1 .1 .0) (qs .1 .1 .0))) (List._∷_ (4, Mut.mslice (Referent.rtF (Referent.fInt Syntax.w32)) ty·8 3) (List._∷_ (5, Mut.mslice (Referent.rtF (Referent.fInt Syntax.w32)) ty·9 4) (List._∷_ (6, Reshare.mslice-owedS ELEM.the-row ty·14 5 10 (Row.lease (κs .1 .1 .1 .1 .1 .0) (qs .1 .1 .1 .1 .1 .0))) (List._∷_ (7, Mut.mslice (Referent.rtF (Referent.fInt Syntax.w32)) ty·10 6) (List._∷_ (8, Reshare.mslice-owedS (Referent.rtF (Referent.fInt Syntax.w32)) ty·11 7 11 (Row.lease (κs .1 .1 .1 .1 .1 .1 .1 .0) (qs .1 .1 .1 .1 .1 .1 .1 .0))) (List._∷_ (9, Rows.whole (Declared'.row Counts.the-type)) (List._∷_ (10, Rows.whole (Declared'.row Hull.the-type)) (List._∷_ (11, Rows.any-gone ty·20) (List._∷_ (12, Rows.whole (Declared'.row Point.the-type)) (List._∷_ (13, Rows.whole (Declared'.row Decision.the-type)) (List._∷_ (14, Rows.any-gone ty·23) (List._∷_ (15, Rows.any-gone ty·25) List.[])))))))))))))))
 
         abbrev g22 : List.List Row.Entry
-        g22 = List._∷_ (0, Rows.any-gone ty·28) (List._∷_ (1, Mut.mslice (Signed.SInt Syntax.w32) ty·5 0) (List._∷_ (2, Mut.mslice (Referent.rtF (Referent.fInt Syntax.w32)) ty·6 1) (List._∷_ (3, Mut.mslice (Referent.rtF (Referent.fInt Syntax.w32)) ty·7 2) (List._∷_ (4, Mut.mslice (Referent.rtF (Referent.fInt Syntax.w32)) ty·8 3) (List._∷_ (5, Mut.mslice (Referent.rtF (Referent.fInt Syntax.w32)) ty·9 4) (List._∷_ (6, Reshare.mslice-owedS ELEM.the-row ty·14 5 10 (Row.lease (κs .1 .1 .1 .1 .1 .0) (qs .1 .1 .1 .1 .1 .0))) (List._∷_ (7, Mut.mslice (Referent.rtF (Referent.fInt Syntax.w32)) ty·10 6) (List._∷_ (8, Reshare.mslice-owedS (Referent.rtF (Referent.fInt Syntax.w32)) ty·11 7 11 (Row.lease (κs .1 .1 .1 .1 .1 .1 .1 .0) (qs .1 .1 .1 .1 .1 .1 .1 .0))) (List._∷_ (9, Rows.whole (Declared'.row Counts.the-type)) (List._∷_ (10, Rows.whole (Declared'.row Hull.the-type)) (List._∷_ (11, Rows.any-gone ty·20) (List._∷_ (12, Rows.whole (Declared'.row Point.the-type)) (List._∷_ (13, Rows.whole (Declared'.row Decision.the-type)) (List._∷_ (14, Rows.any-gone ty·23) (List._∷_ (15, Rows.any-gone ty·24) List.[])))))))))))))))
+        g22 = List._∷_ (0, Rows.any-gone ty·28) (List._∷_ (1, Mut.mslice (Signed.SInt Syntax.w32) ty·5 0) (List._∷_ (2, Mut.mslice (Referent.rtF (Referent.fInt Syntax.w32)) ty·6 1) (List._∷_ (3, Mut.mslice (Referent.rtF (Referent.fInt Syntax.w32)) ty·7 2) (List._∷_ (4, Mut.mslice (Referent.rtF (Referent.fInt Syntax.w32)) ty·8 3) (List._∷_ (5, Mut.mslice (Referent.rtF (Referent.fInt Syntax.w32)) ty·9 4) (List._∷_ (6, Reshare.mslice-owedS ELEM.the-row ty·14 5 10 (Row.lease (κs .1 .1 .1 .1 .1 .0) (qs .1 .1 .1 .1 .1 .0))) (List._∷_ (7, Mut.mslice (Referent.rtF (Referent.fInt Syntax.w32)) ty·10 6) (List._∷_ (8, Reshare.mslice-owedS (Referent.rtF (Referent.fInt Syntax.w32)) ty·11 7 11 (Row.lease (κs .1 .1 .1 .1 .1 .1 .1 .0) (qs .1 .1 .1 .1 .1 .1 .1 .0))) (List._∷_ (9, Rows.whole (Declared'.row Counts.the-type)) (List._∷_ (10, Rows.whole (Declared'.row Hull.the-type)) (List._∷_ (11, Rows.any-gone ty·20) (List._∷_ (12, Rows.whole (Declared'.row Point.the-type)) (List._∷_ (13, Rows.whole (Declared'.row Decision.the-type)) (List._∷_ (14, Rows.any-gone ty·23) (List._∷_ (15, Rows.any-gone ty·25) List.[])))))))))))))))
 
         abbrev g23 : List.List Row.Entry
-        g23 = List._∷_ (0, Rows.any-gone ty·28) (List._∷_ (1, Mut.mslice (Signed.SInt Syntax.w32) ty·5 0) (List._∷_ (2, Mut.mslice (Referent.rtF (Referent.fInt Syntax.w32)) ty·6 1) (List._∷_ (3, Mut.mslice (Referent.rtF (Referent.fInt Syntax.w32)) ty·7 2) (List._∷_ (4, Mut.mslice (Referent.rtF (Referent.fInt Syntax.w32)) ty·8 3) (List._∷_ (5, Mut.mslice (Referent.rtF (Referent.fInt Syntax.w32)) ty·9 4) (List._∷_ (6, Mut.mslice ELEM.the-row ty·14 5) (List._∷_ (7, Mut.mslice (Referent.rtF (Referent.fInt Syntax.w32)) ty·10 6) (List._∷_ (8, Reshare.mslice-owedS (Referent.rtF (Referent.fInt Syntax.w32)) ty·11 7 11 (Row.lease (κs .1 .1 .1 .1 .1 .1 .1 .0) (qs .1 .1 .1 .1 .1 .1 .1 .0))) (List._∷_ (9, Rows.whole (Declared'.row Counts.the-type)) (List._∷_ (10, Rows.whole (Declared'.row Hull.the-type)) (List._∷_ (11, Rows.any-gone ty·20) (List._∷_ (12, Rows.whole (Declared'.row Point.the-type)) (List._∷_ (13, Rows.whole (Declared'.row Decision.the-type)) (List._∷_ (14, Rows.any-gone ty·23) (List._∷_ (15, Rows.any-gone ty·24) List.[])))))))))))))))
+        g23 = List._∷_ (0, Rows.any-gone ty·28) (List._∷_ (1, Mut.mslice (Signed.SInt Syntax.w32) ty·5 0) (List._∷_ (2, Mut.mslice (Referent.rtF (Referent.fInt Syntax.w32)) ty·6 1) (List._∷_ (3, Mut.mslice (Referent.rtF (Referent.fInt Syntax.w32)) ty·7 2) (List._∷_ (4, Mut.mslice (Referent.rtF (Referent.fInt Syntax.w32)) ty·8 3) (List._∷_ (5, Mut.mslice (Referent.rtF (Referent.fInt Syntax.w32)) ty·9 4) (List._∷_ (6, Mut.mslice ELEM.the-row ty·14 5) (List._∷_ (7, Mut.mslice (Referent.rtF (Referent.fInt Syntax.w32)) ty·10 6) (List._∷_ (8, Reshare.mslice-owedS (Referent.rtF (Referent.fInt Syntax.w32)) ty·11 7 11 (Row.lease (κs .1 .1 .1 .1 .1 .1 .1 .0) (qs .1 .1 .1 .1 .1 .1 .1 .0))) (List._∷_ (9, Rows.whole (Declared'.row Counts.the-type)) (List._∷_ (10, Rows.whole (Declared'.row Hull.the-type)) (List._∷_ (11, Rows.any-gone ty·20) (List._∷_ (12, Rows.whole (Declared'.row Point.the-type)) (List._∷_ (13, Rows.whole (Declared'.row Decision.the-type)) (List._∷_ (14, Rows.any-gone ty·23) (List._∷_ (15, Rows.any-gone ty·25) List.[])))))))))))))))
 
         abbrev g37 : List.List Row.Entry
-        g37 = List._∷_ (0, Rows.any-gone ty·28) (List._∷_ (1, Relend.mslice-owed (Signed.SInt Syntax.w32) ty·5 0 12 (Row.lease (κs .0) (qs .0))) (List._∷_ (2, Mut.mslice (Referent.rtF (Referent.fInt Syntax.w32)) ty·6 1) (List._∷_ (3, Mut.mslice (Referent.rtF (Referent.fInt Syntax.w32)) ty·7 2) (List._∷_ (4, Mut.mslice (Referent.rtF (Referent.fInt Syntax.w32)) ty·8 3) (List._∷_ (5, Mut.mslice (Referent.rtF (Referent.fInt Syntax.w32)) ty·9 4) (List._∷_ (6, Mut.mslice ELEM.the-row ty·14 5) (List._∷_ (7, Mut.mslice (Referent.rtF (Referent.fInt Syntax.w32)) ty·10 6) (List._∷_ (8, Mut.mslice (Referent.rtF (Referent.fInt Syntax.w32)) ty·11 7) (List._∷_ (9, Rows.whole (Declared'.row Counts.the-type)) (List._∷_ (10, Rows.whole (Declared'.row Hull.the-type)) (List._∷_ (11, Rows.any-gone ty·20) (List._∷_ (12, Rows.whole (Declared'.row Point.the-type)) (List._∷_ (13, Rows.whole (Declared'.row Decision.the-type)) (List._∷_ (14, Rows.whole (Declared.row Fate.the-type)) (List._∷_ (15, Rows.any-gone ty·24) List.[])))))))))))))))
+        g37 = List._∷_ (0, Rows.any-gone ty·28) (List._∷_ (1, Relend.mslice-owed (Signed.SInt Syntax.w32) ty·5 0 12 (Row.lease (κs .0) (qs .0))) (List._∷_ (2, Mut.mslice (Referent.rtF (Referent.fInt Syntax.w32)) ty·6 1) (List._∷_ (3, Mut.mslice (Referent.rtF (Referent.fInt Syntax.w32)) ty·7 2) (List._∷_ (4, Mut.mslice (Referent.rtF (Referent.fInt Syntax.w32)) ty·8 3) (List._∷_ (5, Mut.mslice (Referent.rtF (Referent.fInt Syntax.w32)) ty·9 4) (List._∷_ (6, Mut.mslice ELEM.the-row ty·14 5) (List._∷_ (7, Mut.mslice (Referent.rtF (Referent.fInt Syntax.w32)) ty·10 6) (List._∷_ (8, Mut.mslice (Referent.rtF (Referent.fInt Syntax.w32)) ty·11 7) (List._∷_ (9, Rows.whole (Declared'.row Counts.the-type)) (List._∷_ (10, Rows.whole (Declared'.row Hull.the-type)) (List._∷_ (11, Rows.any-gone ty·20) (List._∷_ (12, Rows.whole (Declared'.row Point.the-type)) (List._∷_ (13, Rows.whole (Declared'.row Decision.the-type)) (List._∷_ (14, Rows.whole (Declared.row Fate.the-type)) (List._∷_ (15, Rows.any-gone ty·25) List.[])))))))))))))))
 
         abbrev g40 : List.List Row.Entry
-        g40 = List._∷_ (0, Rows.any-gone ty·28) (List._∷_ (1, Relend.mslice-owed (Signed.SInt Syntax.w32) ty·5 0 12 (Row.lease (κs .0) (qs .0))) (List._∷_ (2, Relend.mslice-owed (Referent.rtF (Referent.fInt Syntax.w32)) ty·6 1 13 (Row.lease (κs .1 .0) (qs .1 .0))) (List._∷_ (3, Mut.mslice (Referent.rtF (Referent.fInt Syntax.w32)) ty·7 2) (List._∷_ (4, Mut.mslice (Referent.rtF (Referent.fInt Syntax.w32)) ty·8 3) (List._∷_ (5, Mut.mslice (Referent.rtF (Referent.fInt Syntax.w32)) ty·9 4) (List._∷_ (6, Mut.mslice ELEM.the-row ty·14 5) (List._∷_ (7, Mut.mslice (Referent.rtF (Referent.fInt Syntax.w32)) ty·10 6) (List._∷_ (8, Mut.mslice (Referent.rtF (Referent.fInt Syntax.w32)) ty·11 7) (List._∷_ (9, Rows.whole (Declared'.row Counts.the-type)) (List._∷_ (10, Rows.whole (Declared'.row Hull.the-type)) (List._∷_ (11, Rows.any-gone ty·20) (List._∷_ (12, Rows.whole (Declared'.row Point.the-type)) (List._∷_ (13, Rows.whole (Declared'.row Decision.the-type)) (List._∷_ (14, Rows.whole (Declared.row Fate.the-type)) (List._∷_ (15, Rows.any-gone ty·24) List.[])))))))))))))))
+        g40 = List._∷_ (0, Rows.any-gone ty·28) (List._∷_ (1, Relend.mslice-owed (Signed.SInt Syntax.w32) ty·5 0 12 (Row.lease (κs .0) (qs .0))) (List._∷_ (2, Relend.mslice-owed (Referent.rtF (Referent.fInt Syntax.w32)) ty·6 1 13 (Row.lease (κs .1 .0) (qs .1 .0))) (List._∷_ (3, Mut.mslice (Referent.rtF (Referent.fInt Syntax.w32)) ty·7 2) (List._∷_ (4, Mut.mslice (Referent.rtF (Referent.fInt Syntax.w32)) ty·8 3) (List._∷_ (5, Mut.mslice (Referent.rtF (Referent.fInt Syntax.w32)) ty·9 4) (List._∷_ (6, Mut.mslice ELEM.the-row ty·14 5) (List._∷_ (7, Mut.mslice (Referent.rtF (Referent.fInt Syntax.w32)) ty·10 6) (List._∷_ (8, Mut.mslice (Referent.rtF (Referent.fInt Syntax.w32)) ty·11 7) (List._∷_ (9, Rows.whole (Declared'.row Counts.the-type)) (List._∷_ (10, Rows.whole (Declared'.row Hull.the-type)) (List._∷_ (11, Rows.any-gone ty·20) (List._∷_ (12, Rows.whole (Declared'.row Point.the-type)) (List._∷_ (13, Rows.whole (Declared'.row Decision.the-type)) (List._∷_ (14, Rows.whole (Declared.row Fate.the-type)) (List._∷_ (15, Rows.any-gone ty·25) List.[])))))))))))))))
 
         abbrev g43 : List.List Row.Entry
-        g43 = List._∷_ (0, Rows.any-gone ty·28) (List._∷_ (1, Relend.mslice-owed (Signed.SInt Syntax.w32) ty·5 0 12 (Row.lease (κs .0) (qs .0))) (List._∷_ (2, Relend.mslice-owed (Referent.rtF (Referent.fInt Syntax.w32)) ty·6 1 13 (Row.lease (κs .1 .0) (qs .1 .0))) (List._∷_ (3, Relend.mslice-owed (Referent.rtF (Referent.fInt Syntax.w32)) ty·7 2 14 (Row.lease (κs .1 .1 .0) (qs .1 .1 .0))) (List._∷_ (4, Mut.mslice (Referent.rtF (Referent.fInt Syntax.w32)) ty·8 3) (List._∷_ (5, Mut.mslice (Referent.rtF (Referent.fInt Syntax.w32)) ty·9 4) (List._∷_ (6, Mut.mslice ELEM.the-row ty·14 5) (List._∷_ (7, Mut.mslice (Referent.rtF (Referent.fInt Syntax.w32)) ty·10 6) (List._∷_ (8, Mut.mslice (Referent.rtF (Referent.fInt Syntax.w32)) ty·11 7) (List._∷_ (9, Rows.whole (Declared'.row Counts.the-type)) (List._∷_ (10, Rows.whole (Declared'.row Hull.the-type)) (List._∷_ (11, Rows.any-gone ty·20) (List._∷_ (12, Rows.whole (Declared'.row Point.the-type)) (List._∷_ (13, Rows.whole (Declared'.row Decision.the-type)) (List._∷_ (14, Rows.whole (Declared.row Fate.the-type)) (List._∷_ (15, Rows.any-gone ty·24) List.[])))))))))))))))
+        g43 = List._∷_ (0, Rows.any-gone ty·28) (List._∷_ (1, Relend.mslice-owed (Signed.SInt Syntax.w32) ty·5 0 12 (Row.lease (κs .0) (qs .0))) (List._∷_ (2, Relend.mslice-owed (Referent.rtF (Referent.fInt Syntax.w32)) ty·6 1 13 (Row.lease (κs .1 .0) (qs .1 .0))) (List._∷_ (3, Relend.mslice-owed (Referent.rtF (Referent.fInt Syntax.w32)) ty·7 2 14 (Row.lease (κs .1 .1 .0) (qs .1 .1 .0))) (List._∷_ (4, Mut.mslice (Referent.rtF (Referent.fInt Syntax.w32)) ty·8 3) (List._∷_ (5, Mut.mslice (Referent.rtF (Referent.fInt Syntax.w32)) ty·9 4) (List._∷_ (6, Mut.mslice ELEM.the-row ty·14 5) (List._∷_ (7, Mut.mslice (Referent.rtF (Referent.fInt Syntax.w32)) ty·10 6) (List._∷_ (8, Mut.mslice (Referent.rtF (Referent.fInt Syntax.w32)) ty·11 7) (List._∷_ (9, Rows.whole (Declared'.row Counts.the-type)) (List._∷_ (10, Rows.whole (Declared'.row Hull.the-type)) (List._∷_ (11, Rows.any-gone ty·20) (List._∷_ (12, Rows.whole (Declared'.row Point.the-type)) (List._∷_ (13, Rows.whole (Declared'.row Decision.the-type)) (List._∷_ (14, Rows.whole (Declared.row Fate.the-type)) (List._∷_ (15, Rows.any-gone ty·25) List.[])))))))))))))))
 
         abbrev g46 : List.List Row.Entry
-        g46 = List._∷_ (0, Rows.any-gone ty·28) (List._∷_ (1, Relend.mslice-owed (Signed.SInt Syntax.w32) ty·5 0 12 (Row.lease (κs .0) (qs .0))) (List._∷_ (2, Relend.mslice-owed (Referent.rtF (Referent.fInt Syntax.w32)) ty·6 1 13 (Row.lease (κs .1 .0) (qs .1 .0))) (List._∷_ (3, Relend.mslice-owed (Referent.rtF (Referent.fInt Syntax.w32)) ty·7 2 14 (Row.lease (κs .1 .1 .0) (qs .1 .1 .0))) (List._∷_ (4, Relend.mslice-owed (Referent.rtF (Referent.fInt Syntax.w32)) ty·8 3 15 (Row.lease (κs .1 .1 .1 .0) (qs .1 .1 .1 .0))) (List._∷_ (5, Mut.mslice (Referent.rtF (Referent.fInt Syntax.w32)) ty·9 4) (List._∷_ (6, Mut.mslice ELEM.the-row ty·14 5) (List._∷_ (7, Mut.mslice (Referent.rtF (Referent.fInt Syntax.w32)) ty·10 6) (List._∷_ (8, Mut.mslice (Referent.rtF (Referent.fInt Syntax.w32)) ty·11 7) (List._∷_ (9, Rows.whole (Declared'.row Counts.the-type)) (List._∷_ (10, Rows.whole (Declared'.row Hull.the-type)) (List._∷_ (11, Rows.any-gone ty·20) (List._∷_ (12, Rows.whole (Declared'.row Point.the-type)) (List._∷_ (13, Rows.whole (Declared'.row Decision.the-type)) (List._∷_ (14, Rows.whole (Declared.row Fate.the-type)) (List._∷_ (15, Rows.any-gone ty·24) List.[])))))))))))))))
+        g46 = List._∷_ (0, Rows.any-gone ty·28) (List._∷_ (1, Relend.mslice-owed (Signed.SInt Syntax.w32) ty·5 0 12 (Row.lease (κs .0) (qs .0))) (List._∷_ (2, Relend.mslice-owed (Referent.rtF (Referent.fInt Syntax.w32)) ty·6 1 13 (Row.lease (κs .1 .0) (qs .1 .0))) (List._∷_ (3, Relend.mslice-owed (Referent.rtF (Referent.fInt Syntax.w32)) ty·7 2 14 (Row.lease (κs .1 .1 .0) (qs .1 .1 .0))) (List._∷_ (4, Relend.mslice-owed (Referent.rtF (Referent.fInt Syntax.w32)) ty·8 3 15 (Row.lease (κs .1 .1 .1 .0) (qs .1 .1 .1 .0))) (List._∷_ (5, Mut.mslice (Referent.rtF (Referent.fInt Syntax.w32)) ty·9 4) (List._∷_ (6, Mut.mslice ELEM.the-row ty·14 5) (List._∷_ (7, Mut.mslice (Referent.rtF (Referent.fInt Syntax.w32)) ty·10 6) (List._∷_ (8, Mut.mslice (Referent.rtF (Referent.fInt Syntax.w32)) ty·11 7) (List._∷_ (9, Rows.whole (Declared'.row Counts.the-type)) (List._∷_ (10, Rows.whole (Declared'.row Hull.the-type)) (List._∷_ (11, Rows.any-gone ty·20) (List._∷_ (12, Rows.whole (Declared'.row Point.the-type)) (List._∷_ (13, Rows.whole (Declared'.row Decision.the-type)) (List._∷_ (14, Rows.whole (Declared.row Fate.the-type)) (List._∷_ (15, Rows.any-gone ty·25) List.[])))))))))))))))
 
         abbrev g49 : List.List Row.Entry
-        g49 = List._∷_ (0, Rows.any-gone ty·28) (List._∷_ (1, Relend.mslice-owed (Signed.SInt Syntax.w32) ty·5 0 12 (Row.lease (κs .0) (qs .0))) (List._∷_ (2, Relend.mslice-owed (Referent.rtF (Referent.fInt Syntax.w32)) ty·6 1 13 (Row.lease (κs .1 .0) (qs .1 .0))) (List._∷_ (3, Relend.mslice-owed (Referent.rtF (Referent.fInt Syntax.w32)) ty·7 2 14 (Row.lease (κs .1 .1 .0) (qs .1 .1 .0))) (List._∷_ (4, Relend.mslice-owed (Referent.rtF (Referent.fInt Syntax.w32)) ty·8 3 15 (Row.lease (κs .1 .1 .1 .0) (qs .1 .1 .1 .0))) (List._∷_ (5, Relend.mslice-owed (Referent.rtF (Referent.fInt Syntax.w32)) ty·9 4 16 (Row.lease (κs .1 .1 .1 .1 .0) (qs .1 .1 .1 .1 .0))) (List._∷_ (6, Mut.mslice ELEM.the-row ty·14 5) (List._∷_ (7, Mut.mslice (Referent.rtF (Referent.fInt Syntax.w32)) ty·10 6) (List._∷_ (8, Mut.mslice (Referent.rtF (Referent.fInt Syntax.w32)) ty·11 7) (List._∷_ (9, Rows.whole (Declared'.row Counts.the-type)) (List._∷_ (10, Rows.whole (Declared'.row Hull.the-type)) (List._∷_ (11, Rows.any-gone ty·20) (List._∷_ (12, Rows.whole (Declared'.row Point.the-type)) (List._∷_ (13, Rows.whole (Declared'.row Decision.the-type)) (List._∷_ (14, Rows.whole (Declared.row Fate.the-type)) (List._∷_ (15, Rows.any-gone ty·24) List.[])))))))))))))))
+        g49 = List._∷_ (0, Rows.any-gone ty·28) (List._∷_ (1, Relend.mslice-owed (Signed.SInt Syntax.w32) ty·5 0 12 (Row.lease (κs .0) (qs .0))) (List._∷_ (2, Relend.mslice-owed (Referent.rtF (Referent.fInt Syntax.w32)) ty·6 1 13 (Row.lease (κs .1 .0) (qs .1 .0))) (List._∷_ (3, Relend.mslice-owed (Referent.rtF (Referent.fInt Syntax.w32)) ty·7 2 14 (Row.lease (κs .1 .1 .0) (qs .1 .1 .0))) (List._∷_ (4, Relend.mslice-owed (Referent.rtF (Referent.fInt Syntax.w32)) ty·8 3 15 (Row.lease (κs .1 .1 .1 .0) (qs .1 .1 .1 .0))) (List._∷_ (5, Relend.mslice-owed (Referent.rtF (Referent.fInt Syntax.w32)) ty·9 4 16 (Row.lease (κs .1 .1 .1 .1 .0) (qs .1 .1 .1 .1 .0))) (List._∷_ (6, Mut.mslice ELEM.the-row ty·14 5) (List._∷_ (7, Mut.mslice (Referent.rtF (Referent.fInt Syntax.w32)) ty·10 6) (List._∷_ (8, Mut.mslice (Referent.rtF (Referent.fInt Syntax.w32)) ty·11 7) (List._∷_ (9, Rows.whole (Declared'.row Counts.the-type)) (List._∷_ (10, Rows.whole (Declared'.row Hull.the-type)) (List._∷_ (11, Rows.any-gone ty·20) (List._∷_ (12, Rows.whole (Declared'.row Point.the-type)) (List._∷_ (13, Rows.whole (Declared'.row Decision.the-type)) (List._∷_ (14, Rows.whole (Declared.row Fate.the-type)) (List._∷_ (15, Rows.any-gone ty·25) List.[])))))))))))))))
 
         abbrev g54 : List.List Row.Entry
-        g54 = List._∷_ (0, Rows.any-gone ty·28) (List._∷_ (1, Relend.mslice-owed (Signed.SInt Syntax.w32) ty·5 0 12 (Row.lease (κs .0) (qs .0))) (List._∷_ (2, Relend.mslice-owed (Referent.rtF (Referent.fInt Syntax.w32)) ty·6 1 13 (Row.lease (κs .1 .0) (qs .1 .0))) (List._∷_ (3, Relend.mslice-owed (Referent.rtF (Referent.fInt Syntax.w32)) ty·7 2 14 (Row.lease (κs .1 .1 .0) (qs .1 .1 .0))) (List._∷_ (4, Relend.mslice-owed (Referent.rtF (Referent.fInt Syntax.w32)) ty·8 3 15 (Row.lease (κs .1 .1 .1 .0) (qs .1 .1 .1 .0))) (List._∷_ (5, Relend.mslice-owed (Referent.rtF (Referent.fInt Syntax.w32)) ty·9 4 16 (Row.lease (κs .1 .1 .1 .1 .0) (qs .1 .1 .1 .1 .0))) (List._∷_ (6, Mut.mslice ELEM.the-row ty·14 5) (List._∷_ (7, Mut.mslice (Referent.rtF (Referent.fInt Syntax.w32)) ty·10 6) (List._∷_ (8, Mut.mslice (Referent.rtF (Referent.fInt Syntax.w32)) ty·11 7) (List._∷_ (9, Rows.any-gone ty·21) (List._∷_ (10, Rows.whole (Declared'.row Hull.the-type)) (List._∷_ (11, Rows.any-gone ty·20) (List._∷_ (12, Rows.whole (Declared'.row Point.the-type)) (List._∷_ (13, Rows.whole (Declared'.row Decision.the-type)) (List._∷_ (14, Rows.whole (Declared.row Fate.the-type)) (List._∷_ (15, Rows.any-gone ty·24) List.[])))))))))))))))
+        g54 = List._∷_ (0, Rows.any-gone ty·28) (List._∷_ (1, Relend.mslice-owed (Signed.SInt Syntax.w32) ty·5 0 12 (Row.lease (κs .0) (qs .0))) (List._∷_ (2, Relend.mslice-owed (Referent.rtF (Referent.fInt Syntax.w32)) ty·6 1 13 (Row.lease (κs .1 .0) (qs .1 .0))) (List._∷_ (3, Relend.mslice-owed (Referent.rtF (Referent.fInt Syntax.w32)) ty·7 2 14 (Row.lease (κs .1 .1 .0) (qs .1 .1 .0))) (List._∷_ (4, Relend.mslice-owed (Referent.rtF (Referent.fInt Syntax.w32)) ty·8 3 15 (Row.lease (κs .1 .1 .1 .0) (qs .1 .1 .1 .0))) (List._∷_ (5, Relend.mslice-owed (Referent.rtF (Referent.fInt Syntax.w32)) ty·9 4 16 (Row.lease (κs .1 .1 .1 .1 .0) (qs .1 .1 .1 .1 .0))) (List._∷_ (6, Mut.mslice ELEM.the-row ty·14 5) (List._∷_ (7, Mut.mslice (Referent.rtF (Referent.fInt Syntax.w32)) ty·10 6) (List._∷_ (8, Mut.mslice (Referent.rtF (Referent.fInt Syntax.w32)) ty·11 7) (List._∷_ (9, Rows.any-gone ty·21) (List._∷_ (10, Rows.whole (Declared'.row Hull.the-type)) (List._∷_ (11, Rows.any-gone ty·20) (List._∷_ (12, Rows.whole (Declared'.row Point.the-type)) (List._∷_ (13, Rows.whole (Declared'.row Decision.the-type)) (List._∷_ (14, Rows.whole (Declared.row Fate.the-type)) (List._∷_ (15, Rows.any-gone ty·25) List.[])))))))))))))))
 
         abbrev g55 : List.List Row.Entry
-        g55 = List._∷_ (0, Rows.any-gone ty·28) (List._∷_ (1, Relend.mslice-owed (Signed.SInt Syntax.w32) ty·5 0 12 (Row.lease (κs .0) (qs .0))) (List._∷_ (2, Relend.mslice-owed (Referent.rtF (Referent.fInt Syntax.w32)) ty·6 1 13 (Row.lease (κs .1 .0) (qs .1 .0))) (List._∷_ (3, Relend.mslice-owed (Referent.rtF (Referent.fInt Syntax.w32)) ty·7 2 14 (Row.lease (κs .1 .1 .0) (qs .1 .1 .0))) (List._∷_ (4, Relend.mslice-owed (Referent.rtF (Referent.fInt Syntax.w32)) ty·8 3 15 (Row.lease (κs .1 .1 .1 .0) (qs .1 .1 .1 .0))) (List._∷_ (5, Relend.mslice-owed (Referent.rtF (Referent.fInt Syntax.w32)) ty·9 4 16 (Row.lease (κs .1 .1 .1 .1 .0) (qs .1 .1 .1 .1 .0))) (List._∷_ (6, Mut.mslice ELEM.the-row ty·14 5) (List._∷_ (7, Mut.mslice (Referent.rtF (Referent.fInt Syntax.w32)) ty·10 6) (List._∷_ (8, Mut.mslice (Referent.rtF (Referent.fInt Syntax.w32)) ty·11 7) (List._∷_ (9, Rows.any-gone ty·21) (List._∷_ (10, Rows.whole (Declared'.row Hull.the-type)) (List._∷_ (11, Rows.any-gone ty·20) (List._∷_ (12, Rows.any-gone ty·19) (List._∷_ (13, Rows.whole (Declared'.row Decision.the-type)) (List._∷_ (14, Rows.whole (Declared.row Fate.the-type)) (List._∷_ (15, Rows.any-gone ty·24) List.[])))))))))))))))
+        g55 = List._∷_ (0, Rows.any-gone ty·28) (List._∷_ (1, Relend.mslice-owed (Signed.SInt Syntax.w32) ty·5 0 12 (Row.lease (κs .0) (qs .0))) (List._∷_ (2, Relend.mslice-owed (Referent.rtF (Referent.fInt Syntax.w32)) ty·6 1 13 (Row.lease (κs .1 .0) (qs .1 .0))) (List._∷_ (3, Relend.mslice-owed (Referent.rtF (Referent.fInt Syntax.w32)) ty·7 2 14 (Row.lease (κs .1 .1 .0) (qs .1 .1 .0))) (List._∷_ (4, Relend.mslice-owed (Referent.rtF (Referent.fInt Syntax.w32)) ty·8 3 15 (Row.lease (κs .1 .1 .1 .0) (qs .1 .1 .1 .0))) (List._∷_ (5, Relend.mslice-owed (Referent.rtF (Referent.fInt Syntax.w32)) ty·9 4 16 (Row.lease (κs .1 .1 .1 .1 .0) (qs .1 .1 .1 .1 .0))) (List._∷_ (6, Mut.mslice ELEM.the-row ty·14 5) (List._∷_ (7, Mut.mslice (Referent.rtF (Referent.fInt Syntax.w32)) ty·10 6) (List._∷_ (8, Mut.mslice (Referent.rtF (Referent.fInt Syntax.w32)) ty·11 7) (List._∷_ (9, Rows.any-gone ty·21) (List._∷_ (10, Rows.whole (Declared'.row Hull.the-type)) (List._∷_ (11, Rows.any-gone ty·20) (List._∷_ (12, Rows.any-gone ty·19) (List._∷_ (13, Rows.whole (Declared'.row Decision.the-type)) (List._∷_ (14, Rows.whole (Declared.row Fate.the-type)) (List._∷_ (15, Rows.any-gone ty·25) List.[])))))))))))))))
 
         abbrev g56 : List.List Row.Entry
-        g56 = List._∷_ (0, Rows.any-gone ty·28) (List._∷_ (1, Mut.mslice (Signed.SInt Syntax.w32) ty·5 0) (List._∷_ (2, Relend.mslice-owed (Referent.rtF (Referent.fInt Syntax.w32)) ty·6 1 13 (Row.lease (κs .1 .0) (qs .1 .0))) (List._∷_ (3, Relend.mslice-owed (Referent.rtF (Referent.fInt Syntax.w32)) ty·7 2 14 (Row.lease (κs .1 .1 .0) (qs .1 .1 .0))) (List._∷_ (4, Relend.mslice-owed (Referent.rtF (Referent.fInt Syntax.w32)) ty·8 3 15 (Row.lease (κs .1 .1 .1 .0) (qs .1 .1 .1 .0))) (List._∷_ (5, Relend.mslice-owed (Referent.rtF (Referent.fInt Syntax.w32)) ty·9 4 16 (Row.lease (κs .1 .1 .1 .1 .0) (qs .1 .1 .1 .1 .0))) (List._∷_ (6, Mut.mslice ELEM.the-row ty·14 5) (List._∷_ (7, Mut.mslice (Referent.rtF (Referent.fInt Syntax.w32)) ty·10 6) (List._∷_ (8, Mut.mslice (Referent.rtF (Referent.fInt Syntax.w32)) ty·11 7) (List._∷_ (9, Rows.any-gone ty·21) (List._∷_ (10, Rows.whole (Declared'.row Hull.the-type)) (List._∷_ (11, Rows.any-gone ty·20) (List._∷_ (12, Rows.any-gone ty·19) (List._∷_ (13, Rows.whole (Declared'.row Decision.the-type)) (List._∷_ (14, Rows.whole (Declared.row Fate.the-type)) (List._∷_ (15, Rows.any-gone ty·24) List.[])))))))))))))))
+        g56 = List._∷_ (0, Rows.any-gone ty·28) (List._∷_ (1, Mut.mslice (Signed.SInt Syntax.w32) ty·5 0) (List._∷_ (2, Relend.mslice-owed (Referent.rtF (Referent.fInt Syntax.w32)) ty·6 1 13 (Row.lease (κs .1 .0) (qs .1 .0))) (List._∷_ (3, Relend.mslice-owed (Referent.rtF (Referent.fInt Syntax.w32)) ty·7 2 14 (Row.lease (κs .1 .1 .0) (qs .1 .1 .0))) (List._∷_ (4, Relend.mslice-owed (Referent.rtF (Referent.fInt Syntax.w32)) ty·8 3 15 (Row.lease (κs .1 .1 .1 .0) (qs .1 .1 .1 .0))) (List._∷_ (5, Relend.mslice-owed (Referent.rtF (Referent.fInt Syntax.w32)) ty·9 4 16 (Row.lease (κs .1 .1 .1 .1 .0) (qs .1 .1 .1 .1 .0))) (List._∷_ (6, Mut.mslice ELEM.the-row ty·14 5) (List._∷_ (7, Mut.mslice (Referent.rtF (Referent.fInt Syntax.w32)) ty·10 6) (List._∷_ (8, Mut.mslice (Referent.rtF (Referent.fInt Syntax.w32)) ty·11 7) (List._∷_ (9, Rows.any-gone ty·21) (List._∷_ (10, Rows.whole (Declared'.row Hull.the-type)) (List._∷_ (11, Rows.any-gone ty·20) (List._∷_ (12, Rows.any-gone ty·19) (List._∷_ (13, Rows.whole (Declared'.row Decision.the-type)) (List._∷_ (14, Rows.whole (Declared.row Fate.the-type)) (List._∷_ (15, Rows.any-gone ty·25) List.[])))))))))))))))
 
         abbrev g58 : List.List Row.Entry
-        g58 = List._∷_ (0, Rows.any-gone ty·28) (List._∷_ (1, Mut.mslice (Signed.SInt Syntax.w32) ty·5 0) (List._∷_ (2, Mut.mslice (Referent.rtF (Referent.fInt Syntax.w32)) ty·6 1) (List._∷_ (3, Relend.mslice-owed (Referent.rtF (Referent.fInt Syntax.w32)) ty·7 2 14 (Row.lease (κs .1 .1 .0) (qs .1 .1 .0))) (List._∷_ (4, Relend.mslice-owed (Referent.rtF (Referent.fInt Syntax.w32)) ty·8 3 15 (Row.lease (κs .1 .1 .1 .0) (qs .1 .1 .1 .0))) (List._∷_ (5, Relend.mslice-owed (Referent.rtF (Referent.fInt Syntax.w32)) ty·9 4 16 (Row.lease (κs .1 .1 .1 .1 .0) (qs .1 .1 .1 .1 .0))) (List._∷_ (6, Mut.mslice ELEM.the-row ty·14 5) (List._∷_ (7, Mut.mslice (Referent.rtF (Referent.fInt Syntax.w32)) ty·10 6) (List._∷_ (8, Mut.mslice (Referent.rtF (Referent.fInt Syntax.w32)) ty·11 7) (List._∷_ (9, Rows.any-gone ty·21) (List._∷_ (10, Rows.whole (Declared'.row Hull.the-type)) (List._∷_ (11, Rows.any-gone ty·20) (List._∷_ (12, Rows.any-gone ty·19) (List._∷_ (13, Rows.whole (Declared'.row Decision.the-type)) (List._∷_ (14, Rows.whole (Declared.row Fate.the-type)) (List._∷_ (15, Rows.any-gone ty·24) List.[])))))))))))))))
+        g58 = List._∷_ (0, Rows.any-gone ty·28) (List._∷_ (1, Mut.mslice (Signed.SInt Syntax.w32) ty·5 0) (List._∷_ (2, Mut.mslice (Referent.rtF (Referent.fInt Syntax.w32)) ty·6 1) (List._∷_ (3, Relend.mslice-owed (Referent.rtF (Referent.fInt Syntax.w32)) ty·7 2 14 (Row.lease (κs .1 .1 .0) (qs .1 .1 .0))) (List._∷_ (4, Relend.mslice-owed (Referent.rtF (Referent.fInt Syntax.w32)) ty·8 3 15 (Row.lease (κs .1 .1 .1 .0) (qs .1 .1 .1 .0))) (List._∷_ (5, Relend.mslice-owed (Referent.rtF (Referent.fInt Syntax.w32)) ty·9 4 16 (Row.lease (κs .1 .1 .1 .1 .0) (qs .1 .1 .1 .1 .0))) (List._∷_ (6, Mut.mslice ELEM.the-row ty·14 5) (List._∷_ (7, Mut.mslice (Referent.rtF (Referent.fInt Syntax.w32)) ty·10 6) (List._∷_ (8, Mut.mslice (Referent.rtF (Referent.fInt Syntax.w32)) ty·11 7) (List._∷_ (9, Rows.any-gone ty·21) (List._∷_ (10, Rows.whole (Declared'.row Hull.the-type)) (List._∷_ (11, Rows.any-gone ty·20) (List._∷_ (12, Rows.any-gone ty·19) (List._∷_ (13, Rows.whole (Declared'.row Decision.the-type)) (List._∷_ (14, Rows.whole (Declared.row Fate.the-type)) (List._∷_ (15, Rows.any-gone ty·25) List.[])))))))))))))))
 
         abbrev g60 : List.List Row.Entry
-        g60 = List._∷_ (0, Rows.any-gone ty·28) (List._∷_ (1, Mut.mslice (Signed.SInt Syntax.w32) ty·5 0) (List._∷_ (2, Mut.mslice (Referent.rtF (Referent.fInt Syntax.w32)) ty·6 1) (List._∷_ (3, Mut.mslice (Referent.rtF (Referent.fInt Syntax.w32)) ty·7 2) (List._∷_ (4, Relend.mslice-owed (Referent.rtF (Referent.fInt Syntax.w32)) ty·8 3 15 (Row.lease (κs .1 .1 .1 .0) (qs .1 .1 .1 .0))) (List._∷_ (5, Relend.mslice-owed (Referent.rtF (Referent.fInt Syntax.w32)) ty·9 4 16 (Row.lease (κs .1 .1 .1 .1 .0) (qs .1 .1 .1 .1 .0))) (List._∷_ (6, Mut.mslice ELEM.the-row ty·14 5) (List._∷_ (7, Mut.mslice (Referent.rtF (Referent.fInt Syntax.w32)) ty·10 6) (List._∷_ (8, Mut.mslice (Referent.rtF (Referent.fInt Syntax.w32)) ty·11 7) (List._∷_ (9, Rows.any-gone ty·21) (List._∷_ (10, Rows.whole (Declared'.row Hull.the-type)) (List._∷_ (11, Rows.any-gone ty·20) (List._∷_ (12, Rows.any-gone ty·19) (List._∷_ (13, Rows.whole (Declared'.row Decision.the-type)) (List._∷_ (14, Rows.whole (Declared.row Fate.the-type)) (List._∷_ (15, Rows.any-gone ty·24) List.[])))))))))))))))
+        g60 = List._∷_ (0, Rows.any-gone ty·28) (List._∷_ (1, Mut.mslice (Signed.SInt Syntax.w32) ty·5 0) (List._∷_ (2, Mut.mslice (Referent.rtF (Referent.fInt Syntax.w32)) ty·6 1) (List._∷_ (3, Mut.mslice (Referent.rtF (Referent.fInt Syntax.w32)) ty·7 2) (List._∷_ (4, Relend.mslice-owed (Referent.rtF (Referent.fInt Syntax.w32)) ty·8 3 15 (Row.lease (κs .1 .1 .1 .0) (qs .1 .1 .1 .0))) (List._∷_ (5, Relend.mslice-owed (Referent.rtF (Referent.fInt Syntax.w32)) ty·9 4 16 (Row.lease (κs .1 .1 .1 .1 .0) (qs .1 .1 .1 .1 .0))) (List._∷_ (6, Mut.mslice ELEM.the-row ty·14 5) (List._∷_ (7, Mut.mslice (Referent.rtF (Referent.fInt Syntax.w32)) ty·10 6) (List._∷_ (8, Mut.mslice (Referent.rtF (Referent.fInt Syntax.w32)) ty·11 7) (List._∷_ (9, Rows.any-gone ty·21) (List._∷_ (10, Rows.whole (Declared'.row Hull.the-type)) (List._∷_ (11, Rows.any-gone ty·20) (List._∷_ (12, Rows.any-gone ty·19) (List._∷_ (13, Rows.whole (Declared'.row Decision.the-type)) (List._∷_ (14, Rows.whole (Declared.row Fate.the-type)) (List._∷_ (15, Rows.any-gone ty·25) List.[])))))))))))))))
 
         abbrev g62 : List.List Row.Entry
-        g62 = List._∷_ (0, Rows.any-gone ty·28) (List._∷_ (1, Mut.mslice (Signed.SInt Syntax.w32) ty·5 0) (List._∷_ (2, Mut.mslice (Referent.rtF (Referent.fInt Syntax.w32)) ty·6 1) (List._∷_ (3, Mut.mslice (Referent.rtF (Referent.fInt Syntax.w32)) ty·7 2) (List._∷_ (4, Mut.mslice (Referent.rtF (Referent.fInt Syntax.w32)) ty·8 3) (List._∷_ (5, Relend.mslice-owed (Referent.rtF (Referent.fInt Syntax.w32)) ty·9 4 16 (Row.lease (κs .1 .1 .1 .1 .0) (qs .1 .1 .1 .1 .0))) (List._∷_ (6, Mut.mslice ELEM.the-row ty·14 5) (List._∷_ (7, Mut.mslice (Referent.rtF (Referent.fInt Syntax.w32)) ty·10 6) (List._∷_ (8, Mut.mslice (Referent.rtF (Referent.fInt Syntax.w32)) ty·11 7) (List._∷_ (9, Rows.any-gone ty·21) (List._∷_ (10, Rows.whole (Declared'.row Hull.the-type)) (List._∷_ (11, Rows.any-gone ty·20) (List._∷_ (12, Rows.any-gone ty·19) (List._∷_ (13, Rows.whole (Declared'.row Decision.the-type)) (List._∷_ (14, Rows.whole (Declared.row Fate.the-type)) (List._∷_ (15, Rows.any-gone ty·24) List.[])))))))))))))))
+        g62 = List._∷_ (0, Rows.any-gone ty·28) (List._∷_ (1, Mut.mslice (Signed.SInt Syntax.w32) ty·5 0) (List._∷_ (2, Mut.mslice (Referent.rtF (Referent.fInt Syntax.w32)) ty·6 1) (List._∷_ (3, Mut.mslice (Referent.rtF (Referent.fInt Syntax.w32)) ty·7 2) (List._∷_ (4, Mut.mslice (Referent.rtF (Referent.fInt Syntax.w32)) ty·8 3) (List._∷_ (5, Relend.mslice-owed (Referent.rtF (Referent.fInt Syntax.w32)) ty·9 4 16 (Row.lease (κs .1 .1 .1 .1 .0) (qs .1 .1 .1 .1 .0))) (List._∷_ (6, Mut.mslice ELEM.the-row ty·14 5) (List._∷_ (7, Mut.mslice (Referent.rtF (Referent.fInt Syntax.w32)) ty·10 6) (List._∷_ (8, Mut.mslice (Referent.rtF (Referent.fInt Syntax.w32)) ty·11 7) (List._∷_ (9, Rows.any-gone ty·21) (List._∷_ (10, Rows.whole (Declared'.row Hull.the-type)) (List._∷_ (11, Rows.any-gone ty·20) (List._∷_ (12, Rows.any-gone ty·19) (List._∷_ (13, Rows.whole (Declared'.row Decision.the-type)) (List._∷_ (14, Rows.whole (Declared.row Fate.the-type)) (List._∷_ (15, Rows.any-gone ty·25) List.[])))))))))))))))
 
         abbrev g72 : List.List Row.Entry
-        g72 = List._∷_ (0, Rows.any-gone ty·28) (List._∷_ (1, Mut.mslice (Signed.SInt Syntax.w32) ty·5 0) (List._∷_ (2, Mut.mslice (Referent.rtF (Referent.fInt Syntax.w32)) ty·6 1) (List._∷_ (3, Mut.mslice (Referent.rtF (Referent.fInt Syntax.w32)) ty·7 2) (List._∷_ (4, Mut.mslice (Referent.rtF (Referent.fInt Syntax.w32)) ty·8 3) (List._∷_ (5, Mut.mslice (Referent.rtF (Referent.fInt Syntax.w32)) ty·9 4) (List._∷_ (6, Relend.mslice-owed ELEM.the-row ty·14 5 17 (Row.lease (κs .1 .1 .1 .1 .1 .0) (qs .1 .1 .1 .1 .1 .0))) (List._∷_ (7, Mut.mslice (Referent.rtF (Referent.fInt Syntax.w32)) ty·10 6) (List._∷_ (8, Mut.mslice (Referent.rtF (Referent.fInt Syntax.w32)) ty·11 7) (List._∷_ (9, Rows.any-gone ty·21) (List._∷_ (10, Rows.whole (Declared'.row Hull.the-type)) (List._∷_ (11, Rows.any-gone ty·20) (List._∷_ (12, Rows.any-gone ty·19) (List._∷_ (13, Rows.whole (Declared'.row Decision.the-type)) (List._∷_ (14, Rows.whole (Declared.row Fate.the-type)) (List._∷_ (15, Rows.any-gone ty·24) List.[])))))))))))))))
+        g72 = List._∷_ (0, Rows.any-gone ty·28) (List._∷_ (1, Mut.mslice (Signed.SInt Syntax.w32) ty·5 0) (List._∷_ (2, Mut.mslice (Referent.rtF (Referent.fInt Syntax.w32)) ty·6 1) (List._∷_ (3, Mut.mslice (Referent.rtF (Referent.fInt Syntax.w32)) ty·7 2) (List._∷_ (4, Mut.mslice (Referent.rtF (Referent.fInt Syntax.w32)) ty·8 3) (List._∷_ (5, Mut.mslice (Referent.rtF (Referent.fInt Syntax.w32)) ty·9 4) (List._∷_ (6, Relend.mslice-owed ELEM.the-row ty·14 5 17 (Row.lease (κs .1 .1 .1 .1 .1 .0) (qs .1 .1 .1 .1 .1 .0))) (List._∷_ (7, Mut.mslice (Referent.rtF (Referent.fInt Syntax.w32)) ty·10 6) (List._∷_ (8, Mut.mslice (Referent.rtF (Referent.fInt Syntax.w32)) ty·11 7) (List._∷_ (9, Rows.any-gone ty·21) (List._∷_ (10, Rows.whole (Declared'.row Hull.the-type)) (List._∷_ (11, Rows.any-gone ty·20) (List._∷_ (12, Rows.any-gone ty·19) (List._∷_ (13, Rows.whole (Declared'.row Decision.the-type)) (List._∷_ (14, Rows.whole (Declared.row Fate.the-type)) (List._∷_ (15, Rows.any-gone ty·25) List.[])))))))))))))))
 
         abbrev g75 : List.List Row.Entry
-        g75 = List._∷_ (0, Rows.any-gone ty·28) (List._∷_ (1, Mut.mslice (Signed.SInt Syntax.w32) ty·5 0) (List._∷_ (2, Mut.mslice (Referent.rtF (Referent.fInt Syntax.w32)) ty·6 1) (List._∷_ (3, Mut.mslice (Referent.rtF (Referent.fInt Syntax.w32)) ty·7 2) (List._∷_ (4, Mut.mslice (Referent.rtF (Referent.fInt Syntax.w32)) ty·8 3) (List._∷_ (5, Mut.mslice (Referent.rtF (Referent.fInt Syntax.w32)) ty·9 4) (List._∷_ (6, Relend.mslice-owed ELEM.the-row ty·14 5 17 (Row.lease (κs .1 .1 .1 .1 .1 .0) (qs .1 .1 .1 .1 .1 .0))) (List._∷_ (7, Relend.mslice-owed (Referent.rtF (Referent.fInt Syntax.w32)) ty·10 6 18 (Row.lease (κs .1 .1 .1 .1 .1 .1 .0) (qs .1 .1 .1 .1 .1 .1 .0))) (List._∷_ (8, Mut.mslice (Referent.rtF (Referent.fInt Syntax.w32)) ty·11 7) (List._∷_ (9, Rows.any-gone ty·21) (List._∷_ (10, Rows.whole (Declared'.row Hull.the-type)) (List._∷_ (11, Rows.any-gone ty·20) (List._∷_ (12, Rows.any-gone ty·19) (List._∷_ (13, Rows.whole (Declared'.row Decision.the-type)) (List._∷_ (14, Rows.whole (Declared.row Fate.the-type)) (List._∷_ (15, Rows.any-gone ty·24) List.[])))))))))))))))
+        g75 = List._∷_ (0, Rows.any-gone ty·28) (List._∷_ (1, Mut.mslice (Signed.SInt Syntax.w32) ty·5 0) (List._∷_ (2, Mut.mslice (Referent.rtF (Referent.fInt Syntax.w32)) ty·6 1) (List._∷_ (3, Mut.mslice (Referent.rtF (Referent.fInt Syntax.w32)) ty·7 2) (List._∷_ (4, Mut.mslice (Referent.rtF (Referent.fInt Syntax.w32)) ty·8 3) (List._∷_ (5, Mut.mslice (Referent.rtF (Referent.fInt Syntax.w32)) ty·9 4) (List._∷_ (6, Relend.mslice-owed ELEM.the-row ty·14 5 17 (Row.lease (κs .1 .1 .1 .1 .1 .0) (qs .1 .1 .1 .1 .1 .0))) (List._∷_ (7, Relend.mslice-owed (Referent.rtF (Referent.fInt Syntax.w32)) ty·10 6 18 (Row.lease (κs .1 .1 .1 .1 .1 .1 .0) (qs .1 .1 .1 .1 .1 .1 .0))) (List._∷_ (8, Mut.mslice (Referent.rtF (Referent.fInt Syntax.w32)) ty·11 7) (List._∷_ (9, Rows.any-gone ty·21) (List._∷_ (10, Rows.whole (Declared'.row Hull.the-type)) (List._∷_ (11, Rows.any-gone ty·20) (List._∷_ (12, Rows.any-gone ty·19) (List._∷_ (13, Rows.whole (Declared'.row Decision.the-type)) (List._∷_ (14, Rows.whole (Declared.row Fate.the-type)) (List._∷_ (15, Rows.any-gone ty·25) List.[])))))))))))))))
 
         abbrev g78 : List.List Row.Entry
-        g78 = List._∷_ (0, Rows.any-gone ty·28) (List._∷_ (1, Mut.mslice (Signed.SInt Syntax.w32) ty·5 0) (List._∷_ (2, Mut.mslice (Referent.rtF (Referent.fInt Syntax.w32)) ty·6 1) (List._∷_ (3, Mut.mslice (Referent.rtF (Referent.fInt Syntax.w32)) ty·7 2) (List._∷_ (4, Mut.mslice (Referent.rtF (Referent.fInt Syntax.w32)) ty·8 3) (List._∷_ (5, Mut.mslice (Referent.rtF (Referent.fInt Syntax.w32)) ty·9 4) (List._∷_ (6, Relend.mslice-owed ELEM.the-row ty·14 5 17 (Row.lease (κs .1 .1 .1 .1 .1 .0) (qs .1 .1 .1 .1 .1 .0))) (List._∷_ (7, Relend.mslice-owed (Referent.rtF (Referent.fInt Syntax.w32)) ty·10 6 18 (Row.lease (κs .1 .1 .1 .1 .1 .1 .0) (qs .1 .1 .1 .1 .1 .1 .0))) (List._∷_ (8, Relend.mslice-owed (Referent.rtF (Referent.fInt Syntax.w32)) ty·11 7 19 (Row.lease (κs .1 .1 .1 .1 .1 .1 .1 .0) (qs .1 .1 .1 .1 .1 .1 .1 .0))) (List._∷_ (9, Rows.any-gone ty·21) (List._∷_ (10, Rows.whole (Declared'.row Hull.the-type)) (List._∷_ (11, Rows.any-gone ty·20) (List._∷_ (12, Rows.any-gone ty·19) (List._∷_ (13, Rows.whole (Declared'.row Decision.the-type)) (List._∷_ (14, Rows.whole (Declared.row Fate.the-type)) (List._∷_ (15, Rows.any-gone ty·24) List.[])))))))))))))))
+        g78 = List._∷_ (0, Rows.any-gone ty·28) (List._∷_ (1, Mut.mslice (Signed.SInt Syntax.w32) ty·5 0) (List._∷_ (2, Mut.mslice (Referent.rtF (Referent.fInt Syntax.w32)) ty·6 1) (List._∷_ (3, Mut.mslice (Referent.rtF (Referent.fInt Syntax.w32)) ty·7 2) (List._∷_ (4, Mut.mslice (Referent.rtF (Referent.fInt Syntax.w32)) ty·8 3) (List._∷_ (5, Mut.mslice (Referent.rtF (Referent.fInt Syntax.w32)) ty·9 4) (List._∷_ (6, Relend.mslice-owed ELEM.the-row ty·14 5 17 (Row.lease (κs .1 .1 .1 .1 .1 .0) (qs .1 .1 .1 .1 .1 .0))) (List._∷_ (7, Relend.mslice-owed (Referent.rtF (Referent.fInt Syntax.w32)) ty·10 6 18 (Row.lease (κs .1 .1 .1 .1 .1 .1 .0) (qs .1 .1 .1 .1 .1 .1 .0))) (List._∷_ (8, Relend.mslice-owed (Referent.rtF (Referent.fInt Syntax.w32)) ty·11 7 19 (Row.lease (κs .1 .1 .1 .1 .1 .1 .1 .0) (qs .1 .1 .1 .1 .1 .1 .1 .0))) (List._∷_ (9, Rows.any-gone ty·21) (List._∷_ (10, Rows.whole (Declared'.row Hull.the-type)) (List._∷_ (11, Rows.any-gone ty·20) (List._∷_ (12, Rows.any-gone ty·19) (List._∷_ (13, Rows.whole (Declared'.row Decision.the-type)) (List._∷_ (14, Rows.whole (Declared.row Fate.the-type)) (List._∷_ (15, Rows.any-gone ty·25) List.[])))))))))))))))
 
         abbrev g83 : List.List Row.Entry
-        g83 = List._∷_ (0, Rows.any-gone ty·28) (List._∷_ (1, Mut.mslice (Signed.SInt Syntax.w32) ty·5 0) (List._∷_ (2, Mut.mslice (Referent.rtF (Referent.fInt Syntax.w32)) ty·6 1) (List._∷_ (3, Mut.mslice (Referent.rtF (Referent.fInt Syntax.w32)) ty·7 2) (List._∷_ (4, Mut.mslice (Referent.rtF (Referent.fInt Syntax.w32)) ty·8 3) (List._∷_ (5, Mut.mslice (Referent.rtF (Referent.fInt Syntax.w32)) ty·9 4) (List._∷_ (6, Relend.mslice-owed ELEM.the-row ty·14 5 17 (Row.lease (κs .1 .1 .1 .1 .1 .0) (qs .1 .1 .1 .1 .1 .0))) (List._∷_ (7, Relend.mslice-owed (Referent.rtF (Referent.fInt Syntax.w32)) ty·10 6 18 (Row.lease (κs .1 .1 .1 .1 .1 .1 .0) (qs .1 .1 .1 .1 .1 .1 .0))) (List._∷_ (8, Relend.mslice-owed (Referent.rtF (Referent.fInt Syntax.w32)) ty·11 7 19 (Row.lease (κs .1 .1 .1 .1 .1 .1 .1 .0) (qs .1 .1 .1 .1 .1 .1 .1 .0))) (List._∷_ (9, Rows.any-gone ty·21) (List._∷_ (10, Rows.any-gone ty·22) (List._∷_ (11, Rows.any-gone ty·20) (List._∷_ (12, Rows.any-gone ty·19) (List._∷_ (13, Rows.whole (Declared'.row Decision.the-type)) (List._∷_ (14, Rows.whole (Declared.row Fate.the-type)) (List._∷_ (15, Rows.any-gone ty·24) List.[])))))))))))))))
+        g83 = List._∷_ (0, Rows.any-gone ty·28) (List._∷_ (1, Mut.mslice (Signed.SInt Syntax.w32) ty·5 0) (List._∷_ (2, Mut.mslice (Referent.rtF (Referent.fInt Syntax.w32)) ty·6 1) (List._∷_ (3, Mut.mslice (Referent.rtF (Referent.fInt Syntax.w32)) ty·7 2) (List._∷_ (4, Mut.mslice (Referent.rtF (Referent.fInt Syntax.w32)) ty·8 3) (List._∷_ (5, Mut.mslice (Referent.rtF (Referent.fInt Syntax.w32)) ty·9 4) (List._∷_ (6, Relend.mslice-owed ELEM.the-row ty·14 5 17 (Row.lease (κs .1 .1 .1 .1 .1 .0) (qs .1 .1 .1 .1 .1 .0))) (List._∷_ (7, Relend.mslice-owed (Referent.rtF (Referent.fInt Syntax.w32)) ty·10 6 18 (Row.lease (κs .1 .1 .1 .1 .1 .1 .0) (qs .1 .1 .1 .1 .1 .1 .0))) (List._∷_ (8, Relend.mslice-owed (Referent.rtF (Referent.fInt Syntax.w32)) ty·11 7 19 (Row.lease (κs .1 .1 .1 .1 .1 .1 .1 .0) (qs .1 .1 .1 .1 .1 .1 .1 .0))) (List._∷_ (9, Rows.any-gone ty·21) (List._∷_ (10, Rows.any-gone ty·22) (List._∷_ (11, Rows.any-gone ty·20) (List._∷_ (12, Rows.any-gone ty·19) (List._∷_ (13, Rows.whole (Declared'.row Decision.the-type)) (List._∷_ (14, Rows.whole (Declared.row Fate.the-type)) (List._∷_ (15, Rows.any-gone ty·25) List.[])))))))))))))))
 
         abbrev g84 : List.List Row.Entry
-        g84 = List._∷_ (0, Rows.any-gone ty·28) (List._∷_ (1, Mut.mslice (Signed.SInt Syntax.w32) ty·5 0) (List._∷_ (2, Mut.mslice (Referent.rtF (Referent.fInt Syntax.w32)) ty·6 1) (List._∷_ (3, Mut.mslice (Referent.rtF (Referent.fInt Syntax.w32)) ty·7 2) (List._∷_ (4, Mut.mslice (Referent.rtF (Referent.fInt Syntax.w32)) ty·8 3) (List._∷_ (5, Mut.mslice (Referent.rtF (Referent.fInt Syntax.w32)) ty·9 4) (List._∷_ (6, Relend.mslice-owed ELEM.the-row ty·14 5 17 (Row.lease (κs .1 .1 .1 .1 .1 .0) (qs .1 .1 .1 .1 .1 .0))) (List._∷_ (7, Relend.mslice-owed (Referent.rtF (Referent.fInt Syntax.w32)) ty·10 6 18 (Row.lease (κs .1 .1 .1 .1 .1 .1 .0) (qs .1 .1 .1 .1 .1 .1 .0))) (List._∷_ (8, Relend.mslice-owed (Referent.rtF (Referent.fInt Syntax.w32)) ty·11 7 19 (Row.lease (κs .1 .1 .1 .1 .1 .1 .1 .0) (qs .1 .1 .1 .1 .1 .1 .1 .0))) (List._∷_ (9, Rows.any-gone ty·21) (List._∷_ (10, Rows.any-gone ty·22) (List._∷_ (11, Rows.any-gone ty·20) (List._∷_ (12, Rows.any-gone ty·19) (List._∷_ (13, Rows.any-gone ty·26) (List._∷_ (14, Rows.whole (Declared.row Fate.the-type)) (List._∷_ (15, Rows.any-gone ty·24) List.[])))))))))))))))
+        g84 = List._∷_ (0, Rows.any-gone ty·28) (List._∷_ (1, Mut.mslice (Signed.SInt Syntax.w32) ty·5 0) (List._∷_ (2, Mut.mslice (Referent.rtF (Referent.fInt Syntax.w32)) ty·6 1) (List._∷_ (3, Mut.mslice (Referent.rtF (Referent.fInt Syntax.w32)) ty·7 2) (List._∷_ (4, Mut.mslice (Referent.rtF (Referent.fInt Syntax.w32)) ty·8 3) (List._∷_ (5, Mut.mslice (Referent.rtF (Referent.fInt Syntax.w32)) ty·9 4) (List._∷_ (6, Relend.mslice-owed ELEM.the-row ty·14 5 17 (Row.lease (κs .1 .1 .1 .1 .1 .0) (qs .1 .1 .1 .1 .1 .0))) (List._∷_ (7, Relend.mslice-owed (Referent.rtF (Referent.fInt Syntax.w32)) ty·10 6 18 (Row.lease (κs .1 .1 .1 .1 .1 .1 .0) (qs .1 .1 .1 .1 .1 .1 .0))) (List._∷_ (8, Relend.mslice-owed (Referent.rtF (Referent.fInt Syntax.w32)) ty·11 7 19 (Row.lease (κs .1 .1 .1 .1 .1 .1 .1 .0) (qs .1 .1 .1 .1 .1 .1 .1 .0))) (List._∷_ (9, Rows.any-gone ty·21) (List._∷_ (10, Rows.any-gone ty·22) (List._∷_ (11, Rows.any-gone ty·20) (List._∷_ (12, Rows.any-gone ty·19) (List._∷_ (13, Rows.any-gone ty·26) (List._∷_ (14, Rows.whole (Declared.row Fate.the-type)) (List._∷_ (15, Rows.any-gone ty·25) List.[])))))))))))))))
 
         abbrev g86 : List.List Row.Entry
-        g86 = List._∷_ (0, Rows.any-gone ty·28) (List._∷_ (1, Mut.mslice (Signed.SInt Syntax.w32) ty·5 0) (List._∷_ (2, Mut.mslice (Referent.rtF (Referent.fInt Syntax.w32)) ty·6 1) (List._∷_ (3, Mut.mslice (Referent.rtF (Referent.fInt Syntax.w32)) ty·7 2) (List._∷_ (4, Mut.mslice (Referent.rtF (Referent.fInt Syntax.w32)) ty·8 3) (List._∷_ (5, Mut.mslice (Referent.rtF (Referent.fInt Syntax.w32)) ty·9 4) (List._∷_ (6, Mut.mslice ELEM.the-row ty·14 5) (List._∷_ (7, Relend.mslice-owed (Referent.rtF (Referent.fInt Syntax.w32)) ty·10 6 18 (Row.lease (κs .1 .1 .1 .1 .1 .1 .0) (qs .1 .1 .1 .1 .1 .1 .0))) (List._∷_ (8, Relend.mslice-owed (Referent.rtF (Referent.fInt Syntax.w32)) ty·11 7 19 (Row.lease (κs .1 .1 .1 .1 .1 .1 .1 .0) (qs .1 .1 .1 .1 .1 .1 .1 .0))) (List._∷_ (9, Rows.any-gone ty·21) (List._∷_ (10, Rows.any-gone ty·22) (List._∷_ (11, Rows.any-gone ty·20) (List._∷_ (12, Rows.any-gone ty·19) (List._∷_ (13, Rows.any-gone ty·26) (List._∷_ (14, Rows.whole (Declared.row Fate.the-type)) (List._∷_ (15, Rows.any-gone ty·24) List.[])))))))))))))))
+        g86 = List._∷_ (0, Rows.any-gone ty·28) (List._∷_ (1, Mut.mslice (Signed.SInt Syntax.w32) ty·5 0) (List._∷_ (2, Mut.mslice (Referent.rtF (Referent.fInt Syntax.w32)) ty·6 1) (List._∷_ (3, Mut.mslice (Referent.rtF (Referent.fInt Syntax.w32)) ty·7 2) (List._∷_ (4, Mut.mslice (Referent.rtF (Referent.fInt Syntax.w32)) ty·8 3) (List._∷_ (5, Mut.mslice (Referent.rtF (Referent.fInt Syntax.w32)) ty·9 4) (List._∷_ (6, Mut.mslice ELEM.the-row ty·14 5) (List._∷_ (7, Relend.mslice-owed (Referent.rtF (Referent.fInt Syntax.w32)) ty·10 6 18 (Row.lease (κs .1 .1 .1 .1 .1 .1 .0) (qs .1 .1 .1 .1 .1 .1 .0))) (List._∷_ (8, Relend.mslice-owed (Referent.rtF (Referent.fInt Syntax.w32)) ty·11 7 19 (Row.lease (κs .1 .1 .1 .1 .1 .1 .1 .0) (qs .1 .1 .1 .1 .1 .1 .1 .0))) (List._∷_ (9, Rows.any-gone ty·21) (List._∷_ (10, Rows.any-gone ty·22) (List._∷_ (11, Rows.any-gone ty·20) (List._∷_ (12, Rows.any-gone ty·19) (List._∷_ (13, Rows.any-gone ty·26) (List._∷_ (14, Rows.whole (Declared.row Fate.the-type)) (List._∷_ (15, Rows.any-gone ty·25) List.[])))))))))))))))
 
         abbrev g88 : List.List Row.Entry
-        g88 = List._∷_ (0, Rows.any-gone ty·28) (List._∷_ (1, Mut.mslice (Signed.SInt Syntax.w32) ty·5 0) (List._∷_ (2, Mut.mslice (Referent.rtF (Referent.fInt Syntax.w32)) ty·6 1) (List._∷_ (3, Mut.mslice (Referent.rtF (Referent.fInt Syntax.w32)) ty·7 2) (List._∷_ (4, Mut.mslice (Referent.rtF (Referent.fInt Syntax.w32)) ty·8 3) (List._∷_ (5, Mut.mslice (Referent.rtF (Referent.fInt Syntax.w32)) ty·9 4) (List._∷_ (6, Mut.mslice ELEM.the-row ty·14 5) (List._∷_ (7, Mut.mslice (Referent.rtF (Referent.fInt Syntax.w32)) ty·10 6) (List._∷_ (8, Relend.mslice-owed (Referent.rtF (Referent.fInt Syntax.w32)) ty·11 7 19 (Row.lease (κs .1 .1 .1 .1 .1 .1 .1 .0) (qs .1 .1 .1 .1 .1 .1 .1 .0))) (List._∷_ (9, Rows.any-gone ty·21) (List._∷_ (10, Rows.any-gone ty·22) (List._∷_ (11, Rows.any-gone ty·20) (List._∷_ (12, Rows.any-gone ty·19) (List._∷_ (13, Rows.any-gone ty·26) (List._∷_ (14, Rows.whole (Declared.row Fate.the-type)) (List._∷_ (15, Rows.any-gone ty·24) List.[])))))))))))))))
+        g88 = List._∷_ (0, Rows.any-gone ty·28) (List._∷_ (1, Mut.mslice (Signed.SInt Syntax.w32) ty·5 0) (List._∷_ (2, Mut.mslice (Referent.rtF (Referent.fInt Syntax.w32)) ty·6 1) (List._∷_ (3, Mut.mslice (Referent.rtF (Referent.fInt Syntax.w32)) ty·7 2) (List._∷_ (4, Mut.mslice (Referent.rtF (Referent.fInt Syntax.w32)) ty·8 3) (List._∷_ (5, Mut.mslice (Referent.rtF (Referent.fInt Syntax.w32)) ty·9 4) (List._∷_ (6, Mut.mslice ELEM.the-row ty·14 5) (List._∷_ (7, Mut.mslice (Referent.rtF (Referent.fInt Syntax.w32)) ty·10 6) (List._∷_ (8, Relend.mslice-owed (Referent.rtF (Referent.fInt Syntax.w32)) ty·11 7 19 (Row.lease (κs .1 .1 .1 .1 .1 .1 .1 .0) (qs .1 .1 .1 .1 .1 .1 .1 .0))) (List._∷_ (9, Rows.any-gone ty·21) (List._∷_ (10, Rows.any-gone ty·22) (List._∷_ (11, Rows.any-gone ty·20) (List._∷_ (12, Rows.any-gone ty·19) (List._∷_ (13, Rows.any-gone ty·26) (List._∷_ (14, Rows.whole (Declared.row Fate.the-type)) (List._∷_ (15, Rows.any-gone ty·25) List.[])))))))))))))))
 
         abbrev G0 : Row.Cx
         G0 = record { locals = List._++_ t0 (List._++_ t1 t2); slots = List._∷_ (Row.lease (κs .0) (qs .0)) (List._∷_ (Row.lease (κs .1 .0) (qs .1 .0)) (List._∷_ (Row.lease (κs .1 .1 .0) (qs .1 .1 .0)) (List._∷_ (Row.lease (κs .1 .1 .1 .0) (qs .1 .1 .1 .0)) (List._∷_ (Row.lease (κs .1 .1 .1 .1 .0) (qs .1 .1 .1 .1 .0)) (List._∷_ (Row.lease (κs .1 .1 .1 .1 .1 .0) (qs .1 .1 .1 .1 .1 .0)) (List._∷_ (Row.lease (κs .1 .1 .1 .1 .1 .1 .0) (qs .1 .1 .1 .1 .1 .1 .0)) (List._∷_ (Row.lease (κs .1 .1 .1 .1 .1 .1 .1 .0) (qs .1 .1 .1 .1 .1 .1 .1 .0)) (List._∷_ Row.off (List._∷_ Row.off (List._∷_ Row.off (List._∷_ Row.off (List._∷_ Row.off (List._∷_ Row.off (List._∷_ Row.off (List._∷_ Row.off (List._∷_ Row.off (List._∷_ Row.off (List._∷_ Row.off (List._∷_ Row.off List.[]))))))))))))))))))) }
@@ -2211,7 +2211,7 @@ module _ (claims· : Claims) where
           d0 = Typed.t-return 𝓤 H A W 𝓣 E Δ1 tt
 
           d1 : Typed.Typed 𝓤 H A 𝓣 E G51 b14 Δ1 (at1 bs)
-          d1 = Typed.g-pre 𝓤 H A W 𝓣 E G51 G52 b14 Δ1 (Typed.pass T51 T52 (s49 bs)) (at0 bs) (Scalar.g-room 𝓤 H A W E G51 15 ty·24 (Local.room-whole 𝓤 H A W (Declared'.row Added.the-type) ty·24 Path'.refl)) d0
+          d1 = Typed.g-pre 𝓤 H A W 𝓣 E G51 G52 b14 Δ1 (Typed.pass T51 T52 (s49 bs)) (at0 bs) (Scalar.g-room 𝓤 H A W E G51 15 ty·25 (Local.room-whole 𝓤 H A W (Declared'.row Extension.the-type) ty·25 Path'.refl)) d0
 
           d2 : Typed.Typed 𝓤 H A 𝓣 E G50 b14 Δ1 (at2 bs)
           d2 = Typed.g-pre 𝓤 H A W 𝓣 E G50 G51 b14 Δ1 (Typed.pass T50 T51 (s48 bs)) (at1 bs) (Scalar.g-room 𝓤 H A W E G50 14 ty·23 (Local.room-whole 𝓤 H A W (Declared.row Fate.the-type) ty·23 Path'.refl)) d1
@@ -2220,16 +2220,16 @@ module _ (claims· : Claims) where
           d3 = Typed.g-pre 𝓤 H A W 𝓣 E G49 G50 b14 Δ1 (Typed.pass T49 T50 (s47 bs)) (at2 bs) (Scalar.g-room 𝓤 H A W E G49 10 ty·22 (Local.room-whole 𝓤 H A W (Declared'.row Hull.the-type) ty·22 Path'.refl)) d2
 
           d4 : Typed.Typed 𝓤 H A 𝓣 E G48 b15 Δ1 (at4 bs)
-          d4 = Typed.s-seq 𝓤 H A W 𝓣 E G48 G49 b13 b14 Δ1 (Typed.both (s46 bs)) (at3 bs) (Plain.t-call-plain 𝓤 H A W 𝓣 0 ps·2 r·2 (claims· .4) (claims· .5) "step::progress_of" (known .2) E (λ pos β. β) G48 (record { pos = 15; st = List.[]; d = 0; at = λ x. x }, (record { pos = 10; st = List.[]; d = 0; at = λ x. x }, (record { pos = 14; st = List.[]; d = 0; at = λ x. x }, tt))) 0 List.[] (Call.sub-id 𝓤 H A W (G48 .slots)) ((Yields.yields-copy 𝓤 H A W (λ ρ. Unit) (Declared'.row Added.the-type) Path'.refl (Copies.cStruct Added.the-type Laws''.the-laws Laws''.the-copy .copy 𝓤 H A W) (Rows.whole (Declared'.row Added.the-type)) (λ x. x) (λ x. x) (λ ρ told. Local.mem-whole 𝓤 H A W (Declared'.row Added.the-type) ρ) λ ρ told. Local.whole-mem 𝓤 H A W (Declared'.row Added.the-type) ρ, Path'.refl), ((Yields.yields-copy 𝓤 H A W (λ ρ. Unit) (Declared'.row Hull.the-type) Path'.refl (Copies.cStruct Hull.the-type Laws'7.the-laws Laws'7.the-copy .copy 𝓤 H A W) (Rows.whole (Declared'.row Hull.the-type)) (λ x. x) (λ x. x) (λ ρ told. Local.mem-whole 𝓤 H A W (Declared'.row Hull.the-type) ρ) λ ρ told. Local.whole-mem 𝓤 H A W (Declared'.row Hull.the-type) ρ, Path'.refl), ((Yields.yields-copy 𝓤 H A W (λ ρ. Unit) (Declared.row Fate.the-type) Path'.refl (Copies.cEnum Fate.the-type Laws'4.the-laws Laws'4.the-copy .copy 𝓤 H A W) (Rows.whole (Declared.row Fate.the-type)) (λ x. x) (λ x. x) (λ ρ told. Local.mem-whole 𝓤 H A W (Declared.row Fate.the-type) ρ) λ ρ told. Local.whole-mem 𝓤 H A W (Declared.row Fate.the-type) ρ, Path'.refl), tt))) (Reads'.room-gone 𝓤 H A ty·28) tt Path'.refl) d3
+          d4 = Typed.s-seq 𝓤 H A W 𝓣 E G48 G49 b13 b14 Δ1 (Typed.both (s46 bs)) (at3 bs) (Plain.t-call-plain 𝓤 H A W 𝓣 0 ps·2 r·2 (claims· .4) (claims· .5) "step::progress_of" (known .2) E (λ pos β. β) G48 (record { pos = 15; st = List.[]; d = 0; at = λ x. x }, (record { pos = 10; st = List.[]; d = 0; at = λ x. x }, (record { pos = 14; st = List.[]; d = 0; at = λ x. x }, tt))) 0 List.[] (Call.sub-id 𝓤 H A W (G48 .slots)) ((Yields.yields-copy 𝓤 H A W (λ ρ. Unit) (Declared'.row Extension.the-type) Path'.refl (Copies.cStruct Extension.the-type Laws''.the-laws Laws''.the-copy .copy 𝓤 H A W) (Rows.whole (Declared'.row Extension.the-type)) (λ x. x) (λ x. x) (λ ρ told. Local.mem-whole 𝓤 H A W (Declared'.row Extension.the-type) ρ) λ ρ told. Local.whole-mem 𝓤 H A W (Declared'.row Extension.the-type) ρ, Path'.refl), ((Yields.yields-copy 𝓤 H A W (λ ρ. Unit) (Declared'.row Hull.the-type) Path'.refl (Copies.cStruct Hull.the-type Laws'7.the-laws Laws'7.the-copy .copy 𝓤 H A W) (Rows.whole (Declared'.row Hull.the-type)) (λ x. x) (λ x. x) (λ ρ told. Local.mem-whole 𝓤 H A W (Declared'.row Hull.the-type) ρ) λ ρ told. Local.whole-mem 𝓤 H A W (Declared'.row Hull.the-type) ρ, Path'.refl), ((Yields.yields-copy 𝓤 H A W (λ ρ. Unit) (Declared.row Fate.the-type) Path'.refl (Copies.cEnum Fate.the-type Laws'4.the-laws Laws'4.the-copy .copy 𝓤 H A W) (Rows.whole (Declared.row Fate.the-type)) (λ x. x) (λ x. x) (λ ρ told. Local.mem-whole 𝓤 H A W (Declared.row Fate.the-type) ρ) λ ρ told. Local.whole-mem 𝓤 H A W (Declared.row Fate.the-type) ρ, Path'.refl), tt))) (Reads'.room-gone 𝓤 H A ty·28) tt Path'.refl) d3
 
           d5 : Typed.Typed 𝓤 H A 𝓣 E G47 b15 Δ1 (at5 bs)
-          d5 = Typed.g-pre 𝓤 H A W 𝓣 E G47 G48 b15 Δ1 (Typed.pass T47 T48 (s45 bs)) (at4 bs) (AtSlots.g-as-by 𝓤 H A W E (λ ρ. Unit) G47 15 (Rows.whole (Declared'.row Added.the-type)) (λ v. Added.struct .make v tt) (Own.told-none 𝓤 H A (G47 .slots)) λ ρ told v b. Apart.folds 𝓤 H A Added.the-type (Added.struct .Ghost) (Added.struct .make) (λ v g. Path'.refl) ρ v tt b) d4
+          d5 = Typed.g-pre 𝓤 H A W 𝓣 E G47 G48 b15 Δ1 (Typed.pass T47 T48 (s45 bs)) (at4 bs) (AtSlots.g-as-by 𝓤 H A W E (λ ρ. Unit) G47 15 (Rows.whole (Declared'.row Extension.the-type)) (λ v. Extension.struct .make v tt) (Own.told-none 𝓤 H A (G47 .slots)) λ ρ told v b. Apart.folds 𝓤 H A Extension.the-type (Extension.struct .Ghost) (Extension.struct .make) (λ v g. Path'.refl) ρ v tt b) d4
 
           d6 : Typed.Typed 𝓤 H A 𝓣 E G46 b15 Δ1 (at6 bs)
           d6 = Typed.g-pre 𝓤 H A W 𝓣 E G46 G47 b15 Δ1 (Typed.pass T46 T47 (s44 bs)) (at5 bs) (Scalar.g-room 𝓤 H A W E G46 9 ty·21 (Local.room-whole 𝓤 H A W (Declared'.row Counts.the-type) ty·21 Path'.refl)) d5
 
           d7 : Typed.Typed 𝓤 H A 𝓣 E G45 b16 Δ1 (at7 bs)
-          d7 = Typed.s-seq 𝓤 H A W 𝓣 E G45 G46 b12 b15 Δ1 (Typed.pass T45 T46 (s43 bs)) (at6 bs) (Make.t-struct-make 𝓤 H A W E 𝓣 (Apart.apartT Added.the-type) Laws''.the-laws Laws''.the-plain G45 15 (List._∷_ (Scalar.oAt 9 ty·21 (Laws'11.val Counts.the-type Laws'6.the-laws)) (List._∷_ (Scalar.oInt Syntax.w32 0) (List._∷_ (Scalar.oInt Syntax.w64 0) (List._∷_ (Scalar.oBool Bool'.false) List.[])))) (λ m. (m .1 .1 .1 .1 .1 .1 .1 .1 .1 .0, (0, (0, (Bool'.false, tt))))) (Reads'.room-gone 𝓤 H A ty·24) ((Reads.reads-struct 𝓤 H A W Counts.the-type Laws'6.the-laws, Path'.refl), (tt, (tt, (tt, tt)))) Path'.refl (λ u. Path'.refl) λ m. Make.is-wt (Apart.apartT Added.the-type) Laws''.the-laws (Make.struct-wt Counts.the-type Laws'6.the-laws (Make.u32-wt, (Make.u32-wt, (Make.u32-wt, tt))), (Make.u32-wt, (Make.u64-wt, (Make.bool-wt, tt)))) (m .1 .1 .1 .1 .1 .1 .1 .1 .1 .0, (0, (0, (Bool'.false, tt))))) d6
+          d7 = Typed.s-seq 𝓤 H A W 𝓣 E G45 G46 b12 b15 Δ1 (Typed.pass T45 T46 (s43 bs)) (at6 bs) (Make.t-struct-make 𝓤 H A W E 𝓣 (Apart.apartT Extension.the-type) Laws''.the-laws Laws''.the-plain G45 15 (List._∷_ (Scalar.oAt 9 ty·21 (Laws'11.val Counts.the-type Laws'6.the-laws)) (List._∷_ (Scalar.oInt Syntax.w32 0) (List._∷_ (Scalar.oInt Syntax.w64 0) (List._∷_ (Scalar.oBool Bool'.false) List.[])))) (λ m. (m .1 .1 .1 .1 .1 .1 .1 .1 .1 .0, (0, (0, (Bool'.false, tt))))) (Reads'.room-gone 𝓤 H A ty·25) ((Reads.reads-struct 𝓤 H A W Counts.the-type Laws'6.the-laws, Path'.refl), (tt, (tt, (tt, tt)))) Path'.refl (λ u. Path'.refl) λ m. Make.is-wt (Apart.apartT Extension.the-type) Laws''.the-laws (Make.struct-wt Counts.the-type Laws'6.the-laws (Make.u32-wt, (Make.u32-wt, (Make.u32-wt, tt))), (Make.u32-wt, (Make.u64-wt, (Make.bool-wt, tt)))) (m .1 .1 .1 .1 .1 .1 .1 .1 .1 .0, (0, (0, (Bool'.false, tt))))) d6
 
           d8 : Typed.Typed 𝓤 H A 𝓣 E G44 b16 Δ1 (at8 bs)
           d8 = Typed.g-pre 𝓤 H A W 𝓣 E G44 G45 b16 Δ1 (Typed.pass T44 T45 (s42 bs)) (at7 bs) (Scalar.g-room 𝓤 H A W E G44 28 Syntax.tyBool (Scalar.room-sc 𝓤 H A W Row.sBool)) d7
@@ -2256,7 +2256,7 @@ module _ (claims· : Claims) where
           d15 = Typed.t-return 𝓤 H A W 𝓣 E Δ2 tt
 
           d16 : Typed.Typed 𝓤 H A 𝓣 E G99 b33 Δ2 (at16 bs)
-          d16 = Typed.g-pre 𝓤 H A W 𝓣 E G99 G100 b33 Δ2 (Typed.pass T99 T100 (s96 bs)) (at15 bs) (Scalar.g-room 𝓤 H A W E G99 17 ty·24 (Local.room-whole 𝓤 H A W (Declared'.row Added.the-type) ty·24 Path'.refl)) d15
+          d16 = Typed.g-pre 𝓤 H A W 𝓣 E G99 G100 b33 Δ2 (Typed.pass T99 T100 (s96 bs)) (at15 bs) (Scalar.g-room 𝓤 H A W E G99 17 ty·25 (Local.room-whole 𝓤 H A W (Declared'.row Extension.the-type) ty·25 Path'.refl)) d15
 
           d17 : Typed.Typed 𝓤 H A 𝓣 E G98 b33 Δ2 (at17 bs)
           d17 = Typed.g-pre 𝓤 H A W 𝓣 E G98 G99 b33 Δ2 (Typed.pass T98 T99 (s95 bs)) (at16 bs) (Scalar.g-room 𝓤 H A W E G98 14 ty·23 (Local.room-whole 𝓤 H A W (Declared.row Fate.the-type) ty·23 Path'.refl)) d16
@@ -2265,7 +2265,7 @@ module _ (claims· : Claims) where
           d18 = Typed.g-pre 𝓤 H A W 𝓣 E G97 G98 b33 Δ2 (Typed.pass T97 T98 (s94 bs)) (at17 bs) (Scalar.g-room 𝓤 H A W E G97 10 ty·22 (Local.room-whole 𝓤 H A W (Declared'.row Hull.the-type) ty·22 Path'.refl)) d17
 
           d19 : Typed.Typed 𝓤 H A 𝓣 E G96 b34 Δ2 (at19 bs)
-          d19 = Typed.s-seq 𝓤 H A W 𝓣 E G96 G97 b32 b33 Δ2 (Typed.both (s93 bs)) (at18 bs) (Plain.t-call-plain 𝓤 H A W 𝓣 0 ps·2 r·2 (claims· .4) (claims· .5) "step::progress_of" (known .2) E (λ pos β. β) G96 (record { pos = 17; st = List.[]; d = 0; at = λ x. x }, (record { pos = 10; st = List.[]; d = 0; at = λ x. x }, (record { pos = 14; st = List.[]; d = 0; at = λ x. x }, tt))) 0 List.[] (Call.sub-id 𝓤 H A W (G96 .slots)) ((Yields.yields-copy 𝓤 H A W (λ ρ. Unit) (Declared'.row Added.the-type) Path'.refl (Copies.cStruct Added.the-type Laws''.the-laws Laws''.the-copy .copy 𝓤 H A W) (Rows.whole (Declared'.row Added.the-type)) (λ x. x) (λ x. x) (λ ρ told. Local.mem-whole 𝓤 H A W (Declared'.row Added.the-type) ρ) λ ρ told. Local.whole-mem 𝓤 H A W (Declared'.row Added.the-type) ρ, Path'.refl), ((Yields.yields-copy 𝓤 H A W (λ ρ. Unit) (Declared'.row Hull.the-type) Path'.refl (Copies.cStruct Hull.the-type Laws'7.the-laws Laws'7.the-copy .copy 𝓤 H A W) (Rows.whole (Declared'.row Hull.the-type)) (λ x. x) (λ x. x) (λ ρ told. Local.mem-whole 𝓤 H A W (Declared'.row Hull.the-type) ρ) λ ρ told. Local.whole-mem 𝓤 H A W (Declared'.row Hull.the-type) ρ, Path'.refl), ((Yields.yields-copy 𝓤 H A W (λ ρ. Unit) (Declared.row Fate.the-type) Path'.refl (Copies.cEnum Fate.the-type Laws'4.the-laws Laws'4.the-copy .copy 𝓤 H A W) (Rows.whole (Declared.row Fate.the-type)) (λ x. x) (λ x. x) (λ ρ told. Local.mem-whole 𝓤 H A W (Declared.row Fate.the-type) ρ) λ ρ told. Local.whole-mem 𝓤 H A W (Declared.row Fate.the-type) ρ, Path'.refl), tt))) (Reads'.room-gone 𝓤 H A ty·28) tt Path'.refl) d18
+          d19 = Typed.s-seq 𝓤 H A W 𝓣 E G96 G97 b32 b33 Δ2 (Typed.both (s93 bs)) (at18 bs) (Plain.t-call-plain 𝓤 H A W 𝓣 0 ps·2 r·2 (claims· .4) (claims· .5) "step::progress_of" (known .2) E (λ pos β. β) G96 (record { pos = 17; st = List.[]; d = 0; at = λ x. x }, (record { pos = 10; st = List.[]; d = 0; at = λ x. x }, (record { pos = 14; st = List.[]; d = 0; at = λ x. x }, tt))) 0 List.[] (Call.sub-id 𝓤 H A W (G96 .slots)) ((Yields.yields-copy 𝓤 H A W (λ ρ. Unit) (Declared'.row Extension.the-type) Path'.refl (Copies.cStruct Extension.the-type Laws''.the-laws Laws''.the-copy .copy 𝓤 H A W) (Rows.whole (Declared'.row Extension.the-type)) (λ x. x) (λ x. x) (λ ρ told. Local.mem-whole 𝓤 H A W (Declared'.row Extension.the-type) ρ) λ ρ told. Local.whole-mem 𝓤 H A W (Declared'.row Extension.the-type) ρ, Path'.refl), ((Yields.yields-copy 𝓤 H A W (λ ρ. Unit) (Declared'.row Hull.the-type) Path'.refl (Copies.cStruct Hull.the-type Laws'7.the-laws Laws'7.the-copy .copy 𝓤 H A W) (Rows.whole (Declared'.row Hull.the-type)) (λ x. x) (λ x. x) (λ ρ told. Local.mem-whole 𝓤 H A W (Declared'.row Hull.the-type) ρ) λ ρ told. Local.whole-mem 𝓤 H A W (Declared'.row Hull.the-type) ρ, Path'.refl), ((Yields.yields-copy 𝓤 H A W (λ ρ. Unit) (Declared.row Fate.the-type) Path'.refl (Copies.cEnum Fate.the-type Laws'4.the-laws Laws'4.the-copy .copy 𝓤 H A W) (Rows.whole (Declared.row Fate.the-type)) (λ x. x) (λ x. x) (λ ρ told. Local.mem-whole 𝓤 H A W (Declared.row Fate.the-type) ρ) λ ρ told. Local.whole-mem 𝓤 H A W (Declared.row Fate.the-type) ρ, Path'.refl), tt))) (Reads'.room-gone 𝓤 H A ty·28) tt Path'.refl) d18
 
           d20 : Typed.Typed 𝓤 H A 𝓣 E G95 b34 Δ2 (at20 bs)
           d20 = Typed.g-pre 𝓤 H A W 𝓣 E G95 G96 b34 Δ2 (Typed.pass T95 T96 (s92 bs)) (at19 bs) (Scalar.g-room 𝓤 H A W E G95 27 Syntax.tyBool (Scalar.room-sc 𝓤 H A W Row.sBool)) d19
@@ -2292,13 +2292,13 @@ module _ (claims· : Claims) where
           d27 = Typed.g-pre 𝓤 H A W 𝓣 E G128 G129 b45 Δ0 (Typed.pass T128 T129 (s125 bs)) (at26 bs) (Scalar.g-room 𝓤 H A W E G128 18 ty·22 (Local.room-whole 𝓤 H A W (Declared'.row Hull.the-type) ty·22 Path'.refl)) d26
 
           d28 : Typed.Typed 𝓤 H A 𝓣 E G127 b45 Δ0 (at28 bs)
-          d28 = Typed.g-pre 𝓤 H A W 𝓣 E G127 G128 b45 Δ0 (Typed.pass T127 T128 (s124 bs)) (at27 bs) (Scalar.g-room 𝓤 H A W E G127 17 ty·24 (Local.room-whole 𝓤 H A W (Declared'.row Added.the-type) ty·24 Path'.refl)) d27
+          d28 = Typed.g-pre 𝓤 H A W 𝓣 E G127 G128 b45 Δ0 (Typed.pass T127 T128 (s124 bs)) (at27 bs) (Scalar.g-room 𝓤 H A W E G127 17 ty·25 (Local.room-whole 𝓤 H A W (Declared'.row Extension.the-type) ty·25 Path'.refl)) d27
 
           d29 : Typed.Typed 𝓤 H A 𝓣 E G126 b45 Δ0 (at29 bs)
           d29 = Typed.g-pre 𝓤 H A W 𝓣 E G126 G127 b45 Δ0 (Typed.pass T126 T127 (s123 bs)) (at28 bs) (Scalar.g-room 𝓤 H A W E G126 14 ty·23 (Local.room-whole 𝓤 H A W (Declared.row Fate.the-type) ty·23 Path'.refl)) d28
 
           d30 : Typed.Typed 𝓤 H A 𝓣 E G125 b46 Δ0 (at30 bs)
-          d30 = Typed.s-seq 𝓤 H A W 𝓣 E G125 G126 b44 b45 Δ0 (Typed.both (s122 bs)) (at29 bs) (Plain.t-call-plain 𝓤 H A W 𝓣 0 ps·2 r·2 (claims· .4) (claims· .5) "step::progress_of" (known .2) E (λ pos β. β) G125 (record { pos = 17; st = List.[]; d = 0; at = λ x. x }, (record { pos = 18; st = List.[]; d = 0; at = λ x. x }, (record { pos = 14; st = List.[]; d = 0; at = λ x. x }, tt))) 0 List.[] (Call.sub-id 𝓤 H A W (G125 .slots)) ((Yields.yields-copy 𝓤 H A W (λ ρ. Unit) (Declared'.row Added.the-type) Path'.refl (Copies.cStruct Added.the-type Laws''.the-laws Laws''.the-copy .copy 𝓤 H A W) (Rows.whole (Declared'.row Added.the-type)) (λ x. x) (λ x. x) (λ ρ told. Local.mem-whole 𝓤 H A W (Declared'.row Added.the-type) ρ) λ ρ told. Local.whole-mem 𝓤 H A W (Declared'.row Added.the-type) ρ, Path'.refl), ((Yields.yields-copy 𝓤 H A W (λ ρ. Unit) (Declared'.row Hull.the-type) Path'.refl (Copies.cStruct Hull.the-type Laws'7.the-laws Laws'7.the-copy .copy 𝓤 H A W) (Rows.whole (Declared'.row Hull.the-type)) (λ x. x) (λ x. x) (λ ρ told. Local.mem-whole 𝓤 H A W (Declared'.row Hull.the-type) ρ) λ ρ told. Local.whole-mem 𝓤 H A W (Declared'.row Hull.the-type) ρ, Path'.refl), ((Yields.yields-copy 𝓤 H A W (λ ρ. Unit) (Declared.row Fate.the-type) Path'.refl (Copies.cEnum Fate.the-type Laws'4.the-laws Laws'4.the-copy .copy 𝓤 H A W) (Rows.whole (Declared.row Fate.the-type)) (λ x. x) (λ x. x) (λ ρ told. Local.mem-whole 𝓤 H A W (Declared.row Fate.the-type) ρ) λ ρ told. Local.whole-mem 𝓤 H A W (Declared.row Fate.the-type) ρ, Path'.refl), tt))) (Reads'.room-gone 𝓤 H A ty·28) tt Path'.refl) d29
+          d30 = Typed.s-seq 𝓤 H A W 𝓣 E G125 G126 b44 b45 Δ0 (Typed.both (s122 bs)) (at29 bs) (Plain.t-call-plain 𝓤 H A W 𝓣 0 ps·2 r·2 (claims· .4) (claims· .5) "step::progress_of" (known .2) E (λ pos β. β) G125 (record { pos = 17; st = List.[]; d = 0; at = λ x. x }, (record { pos = 18; st = List.[]; d = 0; at = λ x. x }, (record { pos = 14; st = List.[]; d = 0; at = λ x. x }, tt))) 0 List.[] (Call.sub-id 𝓤 H A W (G125 .slots)) ((Yields.yields-copy 𝓤 H A W (λ ρ. Unit) (Declared'.row Extension.the-type) Path'.refl (Copies.cStruct Extension.the-type Laws''.the-laws Laws''.the-copy .copy 𝓤 H A W) (Rows.whole (Declared'.row Extension.the-type)) (λ x. x) (λ x. x) (λ ρ told. Local.mem-whole 𝓤 H A W (Declared'.row Extension.the-type) ρ) λ ρ told. Local.whole-mem 𝓤 H A W (Declared'.row Extension.the-type) ρ, Path'.refl), ((Yields.yields-copy 𝓤 H A W (λ ρ. Unit) (Declared'.row Hull.the-type) Path'.refl (Copies.cStruct Hull.the-type Laws'7.the-laws Laws'7.the-copy .copy 𝓤 H A W) (Rows.whole (Declared'.row Hull.the-type)) (λ x. x) (λ x. x) (λ ρ told. Local.mem-whole 𝓤 H A W (Declared'.row Hull.the-type) ρ) λ ρ told. Local.whole-mem 𝓤 H A W (Declared'.row Hull.the-type) ρ, Path'.refl), ((Yields.yields-copy 𝓤 H A W (λ ρ. Unit) (Declared.row Fate.the-type) Path'.refl (Copies.cEnum Fate.the-type Laws'4.the-laws Laws'4.the-copy .copy 𝓤 H A W) (Rows.whole (Declared.row Fate.the-type)) (λ x. x) (λ x. x) (λ ρ told. Local.mem-whole 𝓤 H A W (Declared.row Fate.the-type) ρ) λ ρ told. Local.whole-mem 𝓤 H A W (Declared.row Fate.the-type) ρ, Path'.refl), tt))) (Reads'.room-gone 𝓤 H A ty·28) tt Path'.refl) d29
 
           d31 : Typed.Typed 𝓤 H A 𝓣 E G124 b46 Δ0 (at31 bs)
           d31 = Typed.g-pre 𝓤 H A W 𝓣 E G124 G125 b46 Δ0 (λ Ψ. Ψ) (at30 bs) (Lifetime.g-forget 𝓤 H A W E G124 19 Row.dead Path'.refl) d30
@@ -2376,10 +2376,10 @@ module _ (claims· : Claims) where
           d55 = Typed.t-seq 𝓤 H A W 𝓣 E G92 G93 b36 b53 Δ0 (at25 bs) (at54 bs) d25 d54
 
           d56 : Typed.Typed 𝓤 H A 𝓣 E G91 b55 Δ0 (at56 bs)
-          d56 = Typed.s-seq 𝓤 H A W 𝓣 E G91 G92 b31 b54 Δ0 (Typed.pass T91 T92 (s89 bs)) (at55 bs) (Scalar.t-use 𝓤 H A W E 𝓣 G91 (Scalar.oFld 17 (List._∷_ (Syntax.field 3) List.[]) Syntax.tyBool 24 (Reads.fieldV Added.the-type Laws''.the-laws 3)) 27 (Rows.sc-here Row.sBool) Syntax.tyBool (Row.valS Row.sBool) (Row.sBool .of) (Reads.reads-field 𝓤 H A W Added.the-type Laws''.the-laws 3 Syntax.tyBool 24 Path'.refl, Path'.refl) (Reads'.room-gone 𝓤 H A Syntax.tyBool) (Scalar.holds-sc 𝓤 H A W Row.sBool) Path'.refl (λ u. Path'.refl) λ u. tt) d55
+          d56 = Typed.s-seq 𝓤 H A W 𝓣 E G91 G92 b31 b54 Δ0 (Typed.pass T91 T92 (s89 bs)) (at55 bs) (Scalar.t-use 𝓤 H A W E 𝓣 G91 (Scalar.oFld 17 (List._∷_ (Syntax.field 3) List.[]) Syntax.tyBool 24 (Reads.fieldV Extension.the-type Laws''.the-laws 3)) 27 (Rows.sc-here Row.sBool) Syntax.tyBool (Row.valS Row.sBool) (Row.sBool .of) (Reads.reads-field 𝓤 H A W Extension.the-type Laws''.the-laws 3 Syntax.tyBool 24 Path'.refl, Path'.refl) (Reads'.room-gone 𝓤 H A Syntax.tyBool) (Scalar.holds-sc 𝓤 H A W Row.sBool) Path'.refl (λ u. Path'.refl) λ u. tt) d55
 
           d57 : Typed.Typed 𝓤 H A 𝓣 E G90 b56 Δ0 (at57 bs)
-          d57 = Typed.s-seq 𝓤 H A W 𝓣 E G90 G91 b30 b55 Δ0 (Typed.both (s88 bs)) (at56 bs) (WayStmt.t-way-copy-out 𝓤 H A W E 𝓣 (Declared'.row Added.the-type) Path'.refl (Copies.cStruct Added.the-type Laws''.the-laws Laws''.the-copy .copy 𝓤 H A W) (λ ρ. Unit) G90 (Row.out 16 (G90 .locals)) (λ u. Row.drop 16 (G90 .locals) u) (G90 .slots) 16 (λ t. List._∷_ (Syntax.field 0) t) ty·24 ty·24 17 (Rows.whole (Declared'.row Added.the-type)) (λ x. x) (λ u. At.getAt (Entered.the-type .parts) 0 (Entered.struct .as-values (u .1 .1 .1 .1 .1 .1 .1 .1 .1 .1 .1 .1 .1 .1 .1 .1 .0))) (λ u. (Row.hd 0 (Row.tl (Row.tl (Row.tl (Row.tl (Row.tl (Row.tl (Row.tl (Row.tl (Row.tl (Row.tl (Row.tl (Row.tl (Row.tl (Row.tl (Row.tl (Row.tl bs)))))))))))))))), Nat._+_ 0 0)) (λ T′. record { locals = Row.setRow 16 (16, Rows.whole (Declared'.row Entered.the-type)) T′; slots = G90 .slots }) (λ u T′ m′. Row.set 16 (16, Rows.whole (Declared'.row Entered.the-type)) (u .1 .1 .1 .1 .1 .1 .1 .1 .1 .1 .1 .1 .1 .1 .1 .1 .0) T′ m′) (λ u. Unit) (λ x. Unit) (Own.told-none 𝓤 H A (G90 .slots)) (DerefMove.learns-nothing 𝓤 H A (Declared'.row Added.the-type)) (λ ρ told u asked. Way'.w-partˢ 𝓤 H A W E (Declared'.row Entered.the-type) (Declared'.row Added.the-type) ty·27 ty·24 0 0 (u .1 .1 .1 .1 .1 .1 .1 .1 .1 .1 .1 .1 .1 .1 .1 .1 .0) (At.getAt (Entered.the-type .parts) 0 (Entered.struct .as-values (u .1 .1 .1 .1 .1 .1 .1 .1 .1 .1 .1 .1 .1 .1 .1 .1 .0))) (Row.hd 0 (Row.tl (Row.tl (Row.tl (Row.tl (Row.tl (Row.tl (Row.tl (Row.tl (Row.tl (Row.tl (Row.tl (Row.tl (Row.tl (Row.tl (Row.tl (Row.tl bs)))))))))))))))), 0) (Way.w-look 𝓤 H A W E (Way.w-local 𝓤 H A W E G90 ρ u (G90 .slots) 16 (Declared'.row Entered.the-type) (Rows.whole (Declared'.row Entered.the-type)) (λ x. x) (λ x. x) (u .1 .1 .1 .1 .1 .1 .1 .1 .1 .1 .1 .1 .1 .1 .1 .1 .0) (Local.mem-whole 𝓤 H A W (Declared'.row Entered.the-type) ρ (u .1 .1 .1 .1 .1 .1 .1 .1 .1 .1 .1 .1 .1 .1 .1 .1 .0) (Row.hd 0 (Row.tl (Row.tl (Row.tl (Row.tl (Row.tl (Row.tl (Row.tl (Row.tl (Row.tl (Row.tl (Row.tl (Row.tl (Row.tl (Row.tl (Row.tl (Row.tl bs)))))))))))))))))) (Local.whole-mem 𝓤 H A W (Declared'.row Entered.the-type) ρ (u .1 .1 .1 .1 .1 .1 .1 .1 .1 .1 .1 .1 .1 .1 .1 .1 .0) (Row.hd 0 (Row.tl (Row.tl (Row.tl (Row.tl (Row.tl (Row.tl (Row.tl (Row.tl (Row.tl (Row.tl (Row.tl (Row.tl (Row.tl (Row.tl (Row.tl (Row.tl bs)))))))))))))))))))) Path'.refl λ q. Inner.cut-record 𝓤 H A q (Declared'.row Entered.the-type) Added.the-type 0 (u .1 .1 .1 .1 .1 .1 .1 .1 .1 .1 .1 .1 .1 .1 .1 .1 .0) (u .1 .1 .1 .1 .1 .1 .1 .1 .1 .1 .1 .1 .1 .1 .1 .1 .0) (At.getAt (Entered.the-type .parts) 0 (Entered.struct .as-values (u .1 .1 .1 .1 .1 .1 .1 .1 .1 .1 .1 .1 .1 .1 .1 .1 .0))) (At.getAt (Entered.the-type .parts) 0 (Entered.struct .as-values (u .1 .1 .1 .1 .1 .1 .1 .1 .1 .1 .1 .1 .1 .1 .1 .1 .0))) (Row.hd 0 (Row.tl (Row.tl (Row.tl (Row.tl (Row.tl (Row.tl (Row.tl (Row.tl (Row.tl (Row.tl (Row.tl (Row.tl (Row.tl (Row.tl (Row.tl (Row.tl bs)))))))))))))))), 0) (Behind.look-at 𝓤 H A W q Entered.the-type Laws'.the-laws 0 0 Path'.refl Path'.refl (Row.hd 0 (Row.tl (Row.tl (Row.tl (Row.tl (Row.tl (Row.tl (Row.tl (Row.tl (Row.tl (Row.tl (Row.tl (Row.tl (Row.tl (Row.tl (Row.tl (Row.tl bs)))))))))))))))), 0) (u .1 .1 .1 .1 .1 .1 .1 .1 .1 .1 .1 .1 .1 .1 .1 .1 .0) (Entered.struct .as-values (u .1 .1 .1 .1 .1 .1 .1 .1 .1 .1 .1 .1 .1 .1 .1 .1 .0)) Path'.refl)) (Reads'.room-gone 𝓤 H A ty·24) (Yields.makes-mem 𝓤 H A W (λ ρ. Unit) (Declared'.row Added.the-type) Path'.refl (Rows.whole (Declared'.row Added.the-type)) (λ x. x) λ ρ told. Local.whole-mem 𝓤 H A W (Declared'.row Added.the-type) ρ) Path'.refl Path'.refl Path'.refl) d56
+          d57 = Typed.s-seq 𝓤 H A W 𝓣 E G90 G91 b30 b55 Δ0 (Typed.both (s88 bs)) (at56 bs) (WayStmt.t-way-copy-out 𝓤 H A W E 𝓣 (Declared'.row Extension.the-type) Path'.refl (Copies.cStruct Extension.the-type Laws''.the-laws Laws''.the-copy .copy 𝓤 H A W) (λ ρ. Unit) G90 (Row.out 16 (G90 .locals)) (λ u. Row.drop 16 (G90 .locals) u) (G90 .slots) 16 (λ t. List._∷_ (Syntax.field 0) t) ty·25 ty·25 17 (Rows.whole (Declared'.row Extension.the-type)) (λ x. x) (λ u. At.getAt (Entered.the-type .parts) 0 (Entered.struct .as-values (u .1 .1 .1 .1 .1 .1 .1 .1 .1 .1 .1 .1 .1 .1 .1 .1 .0))) (λ u. (Row.hd 0 (Row.tl (Row.tl (Row.tl (Row.tl (Row.tl (Row.tl (Row.tl (Row.tl (Row.tl (Row.tl (Row.tl (Row.tl (Row.tl (Row.tl (Row.tl (Row.tl bs)))))))))))))))), Nat._+_ 0 0)) (λ T′. record { locals = Row.setRow 16 (16, Rows.whole (Declared'.row Entered.the-type)) T′; slots = G90 .slots }) (λ u T′ m′. Row.set 16 (16, Rows.whole (Declared'.row Entered.the-type)) (u .1 .1 .1 .1 .1 .1 .1 .1 .1 .1 .1 .1 .1 .1 .1 .1 .0) T′ m′) (λ u. Unit) (λ x. Unit) (Own.told-none 𝓤 H A (G90 .slots)) (DerefMove.learns-nothing 𝓤 H A (Declared'.row Extension.the-type)) (λ ρ told u asked. Way'.w-partˢ 𝓤 H A W E (Declared'.row Entered.the-type) (Declared'.row Extension.the-type) ty·27 ty·25 0 0 (u .1 .1 .1 .1 .1 .1 .1 .1 .1 .1 .1 .1 .1 .1 .1 .1 .0) (At.getAt (Entered.the-type .parts) 0 (Entered.struct .as-values (u .1 .1 .1 .1 .1 .1 .1 .1 .1 .1 .1 .1 .1 .1 .1 .1 .0))) (Row.hd 0 (Row.tl (Row.tl (Row.tl (Row.tl (Row.tl (Row.tl (Row.tl (Row.tl (Row.tl (Row.tl (Row.tl (Row.tl (Row.tl (Row.tl (Row.tl (Row.tl bs)))))))))))))))), 0) (Way.w-look 𝓤 H A W E (Way.w-local 𝓤 H A W E G90 ρ u (G90 .slots) 16 (Declared'.row Entered.the-type) (Rows.whole (Declared'.row Entered.the-type)) (λ x. x) (λ x. x) (u .1 .1 .1 .1 .1 .1 .1 .1 .1 .1 .1 .1 .1 .1 .1 .1 .0) (Local.mem-whole 𝓤 H A W (Declared'.row Entered.the-type) ρ (u .1 .1 .1 .1 .1 .1 .1 .1 .1 .1 .1 .1 .1 .1 .1 .1 .0) (Row.hd 0 (Row.tl (Row.tl (Row.tl (Row.tl (Row.tl (Row.tl (Row.tl (Row.tl (Row.tl (Row.tl (Row.tl (Row.tl (Row.tl (Row.tl (Row.tl (Row.tl bs)))))))))))))))))) (Local.whole-mem 𝓤 H A W (Declared'.row Entered.the-type) ρ (u .1 .1 .1 .1 .1 .1 .1 .1 .1 .1 .1 .1 .1 .1 .1 .1 .0) (Row.hd 0 (Row.tl (Row.tl (Row.tl (Row.tl (Row.tl (Row.tl (Row.tl (Row.tl (Row.tl (Row.tl (Row.tl (Row.tl (Row.tl (Row.tl (Row.tl (Row.tl bs)))))))))))))))))))) Path'.refl λ q. Inner.cut-record 𝓤 H A q (Declared'.row Entered.the-type) Extension.the-type 0 (u .1 .1 .1 .1 .1 .1 .1 .1 .1 .1 .1 .1 .1 .1 .1 .1 .0) (u .1 .1 .1 .1 .1 .1 .1 .1 .1 .1 .1 .1 .1 .1 .1 .1 .0) (At.getAt (Entered.the-type .parts) 0 (Entered.struct .as-values (u .1 .1 .1 .1 .1 .1 .1 .1 .1 .1 .1 .1 .1 .1 .1 .1 .0))) (At.getAt (Entered.the-type .parts) 0 (Entered.struct .as-values (u .1 .1 .1 .1 .1 .1 .1 .1 .1 .1 .1 .1 .1 .1 .1 .1 .0))) (Row.hd 0 (Row.tl (Row.tl (Row.tl (Row.tl (Row.tl (Row.tl (Row.tl (Row.tl (Row.tl (Row.tl (Row.tl (Row.tl (Row.tl (Row.tl (Row.tl (Row.tl bs)))))))))))))))), 0) (Behind.look-at 𝓤 H A W q Entered.the-type Laws'.the-laws 0 0 Path'.refl Path'.refl (Row.hd 0 (Row.tl (Row.tl (Row.tl (Row.tl (Row.tl (Row.tl (Row.tl (Row.tl (Row.tl (Row.tl (Row.tl (Row.tl (Row.tl (Row.tl (Row.tl (Row.tl bs)))))))))))))))), 0) (u .1 .1 .1 .1 .1 .1 .1 .1 .1 .1 .1 .1 .1 .1 .1 .1 .0) (Entered.struct .as-values (u .1 .1 .1 .1 .1 .1 .1 .1 .1 .1 .1 .1 .1 .1 .1 .1 .0)) Path'.refl)) (Reads'.room-gone 𝓤 H A ty·25) (Yields.makes-mem 𝓤 H A W (λ ρ. Unit) (Declared'.row Extension.the-type) Path'.refl (Rows.whole (Declared'.row Extension.the-type)) (λ x. x) λ ρ told. Local.whole-mem 𝓤 H A W (Declared'.row Extension.the-type) ρ) Path'.refl Path'.refl Path'.refl) d56
 
           d58 : Typed.Typed 𝓤 H A 𝓣 E G89 b56 Δ0 (at58 bs)
           d58 = Typed.g-pre 𝓤 H A W 𝓣 E G89 G90 b56 Δ0 (λ Ψ. Ψ) (at57 bs) (Lifetime.g-forget 𝓤 H A W E G89 16 Row.dead Path'.refl) d57
