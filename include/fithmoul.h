@@ -34,7 +34,7 @@
  *   buckets    max(16, N)   uint32_t        the ring's buckets
  *   pending    at least 8   uint32_t        edges that wait for the circle test. Lend N, and 4,096 at least: mostly 16
  *                                           are used, but 100,000 points along thirty lines used more than 1,024
- *   answers    5 per point  uint64_t        a run's answers, a fithmoul_point_answer for each point
+ *   answers    4 per point  uint64_t        a run's answers, a fithmoul_point_answer for each point
  *
  * REFUSALS. `refusal` is 0 where a call is accepted. Otherwise it is the first row of this table that applies, and
  * `place` what the row names, else 0.
@@ -77,7 +77,7 @@ extern "C" {
 #define FITHMOUL_FREED(n) ((size_t)(n) + 1)
 #define FITHMOUL_BUCKETS(n) ((size_t)(n) < 16 ? (size_t)16 : (size_t)(n))
 #define FITHMOUL_PENDING ((size_t)8)
-#define FITHMOUL_ANSWERS(points) (5 * (size_t)(points))
+#define FITHMOUL_ANSWERS(points) (4 * (size_t)(points))
 
 /* One entry of the row of ring nodes, 24 bytes. A caller has no use for what is in it. */
 typedef struct fithmoul_node {
@@ -96,14 +96,12 @@ enum {
     FITHMOUL_AT_CENTER = 5   /* it is the centre */
 };
 
-/* A point's answer. All but FITHMOUL_ADDED leave the mesh alone, and the other fields are 0. A count of flips is
- * flips_high * 2^64 + flips_low. */
+/* A point's answer. All but FITHMOUL_ADDED leave the mesh alone, and the other fields are 0. */
 typedef struct fithmoul_point_answer {
     uint64_t fate;
     uint64_t vertex;
     uint64_t faces; /* added */
-    uint64_t flips_high;
-    uint64_t flips_low;
+    uint64_t flips;
 } fithmoul_point_answer;
 
 typedef struct fithmoul_check_result {
@@ -134,10 +132,8 @@ typedef struct fithmoul_finish_result {
     uint32_t edges;
     uint32_t faces;
     uint32_t faces_added; /* by the convexity passes; this and the flips are 0 where refused */
-    uint64_t convex_flips_high;
-    uint64_t convex_flips_low;
-    uint64_t closing_flips_high;
-    uint64_t closing_flips_low;
+    uint64_t convex_flips;
+    uint64_t closing_flips;
 } fithmoul_finish_result;
 
 /* Does a mesh keep the rules, turn left everywhere and stay in range? Refusals 1 to 5. Writes nothing. */

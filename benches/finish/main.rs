@@ -22,8 +22,8 @@ struct FinishResult {
     edges: u32,
     faces: u32,
     faces_added: u32,
-    convex_flips: [u64; 2],
-    closing_flips: [u64; 2],
+    convex_flips: u64,
+    closing_flips: u64,
 }
 
 struct Mesh {
@@ -52,7 +52,7 @@ fn finish(m: &mut Mesh, pending: &mut [u32]) -> [u64; 2] {
     assert!(r.vertices == m.vertices);
     m.edges = r.edges;
     m.faces = r.faces;
-    [r.faces_added.into(), r.convex_flips[1] + r.closing_flips[1]]
+    [r.faces_added.into(), r.convex_flips + r.closing_flips]
 }
 
 /// A grid of w by w vertices, each moved by up to `shake` of 32, each cell two triangles that turn left; `number` gives vertices, edges and faces their numbers

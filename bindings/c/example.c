@@ -52,8 +52,8 @@ int main(void) {
         return 1;
     }
     for (int i = 0; i < POINTS; i++) {
-        const uint64_t *a = &answers[5 * i];
-        printf("point %d: fate %" PRIu64 ", vertex %" PRIu64 ", %" PRIu64 " faces, %" PRIu64 " flips\n", i, a[0], a[1], a[2], a[4]);
+        const uint64_t *a = &answers[FITHMOUL_ANSWERS(i)];
+        printf("point %d: fate %" PRIu64 ", vertex %" PRIu64 ", %" PRIu64 " faces, %" PRIu64 " flips\n", i, a[0], a[1], a[2], a[3]);
     }
     printf("%" PRIu32 " vertices, %" PRIu32 " edges, %" PRIu32 " triangles\n", done.vertices, done.edges, done.faces - 1);
     print_triangles(done.faces);

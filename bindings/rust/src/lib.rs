@@ -50,7 +50,7 @@ pub enum Fate {
     NotReached,
 }
 
-/// A point's answer as the library writes it, word by word; [`Answer::fate`], [`Answer::flips`] and `faces` read it.
+/// A point's answer as the library writes it, word by word; [`Answer::fate`], `faces` and `flips` read it.
 #[repr(C)]
 #[derive(Clone, Copy, Debug, Default, PartialEq, Eq)]
 pub struct Answer {
@@ -58,8 +58,8 @@ pub struct Answer {
     vertex: u64,
     /// The faces that its step added.
     pub faces: u64,
-    flips_high: u64,
-    flips_low: u64,
+    /// The flips of its step.
+    pub flips: u64,
 }
 
 impl Answer {
@@ -73,15 +73,6 @@ impl Answer {
             _ => Fate::NotReached,
         }
     }
-
-    /// The flips of its step.
-    pub fn flips(&self) -> u128 {
-        wide(self.flips_high, self.flips_low)
-    }
-}
-
-fn wide(high: u64, low: u64) -> u128 {
-    u128::from(high) << 64 | u128::from(low)
 }
 
 /// A boundary edge, and how many nodes of the ring were passed after the first on the way to it.
@@ -96,8 +87,8 @@ pub struct Place {
 pub struct Totals {
     /// The faces that the convexity passes added.
     pub faces: u32,
-    pub convex_flips: u128,
-    pub closing_flips: u128,
+    pub convex_flips: u64,
+    pub closing_flips: u64,
 }
 
 /// What a run did: an answer for each point, and its finish.
@@ -296,8 +287,8 @@ impl fmt::Debug for Mesh {
 fn totals_of(result: &sys::FinishResult) -> Totals {
     Totals {
         faces: result.faces_added,
-        convex_flips: wide(result.convex_flips_high, result.convex_flips_low),
-        closing_flips: wide(result.closing_flips_high, result.closing_flips_low),
+        convex_flips: result.convex_flips,
+        closing_flips: result.closing_flips,
     }
 }
 

@@ -23,6 +23,9 @@ pub struct Rows {
     adjacent: Vec<u32>,
 }
 
+/// The words of an answer in the answers row.
+const ANSWER_WORDS: usize = std::mem::size_of::<Answer>() / std::mem::size_of::<u64>();
+
 /// The rows that hold nothing between calls.
 pub struct Scratch {
     nodes: Vec<Node>,
@@ -268,9 +271,8 @@ impl Rows {
                 scratch.buckets.len(),
                 scratch.pending.as_mut_ptr(),
                 scratch.pending.len(),
-                // an answer is five words
                 answers.as_mut_ptr().cast(),
-                5 * answers.len(),
+                ANSWER_WORDS * answers.len(),
                 x,
                 y,
                 points.as_ptr().cast(),

@@ -48,10 +48,8 @@ pub struct FinishResult {
     pub edges: u32,
     pub faces: u32,
     pub faces_added: u32,
-    pub convex_flips_high: u64,
-    pub convex_flips_low: u64,
-    pub closing_flips_high: u64,
-    pub closing_flips_low: u64,
+    pub convex_flips: u64,
+    pub closing_flips: u64,
 }
 
 extern "C" {

@@ -63,7 +63,7 @@ fn seed(n: usize) -> Rows {
         freed: vec![7; n + 1],
         buckets: vec![7; n.max(16)],
         pending: vec![7; 8],
-        answers: vec![7; 5 * n],
+        answers: vec![7; 4 * n],
     };
     rows.positions.resize(2 * n, 7);
     rows.outs.resize(n, 7);

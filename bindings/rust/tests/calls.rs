@@ -24,7 +24,7 @@ fn sample() {
 fn a_flip() {
     let mut mesh = Mesh::triangle([[0, 0], [4, 0], [2, 1]]).unwrap();
     let answer = mesh.step([2.0, 0.5], [2, -1]).unwrap();
-    assert_eq!((answer.fate(), answer.faces, answer.flips()), (Fate::Added(3), 1, 1));
+    assert_eq!((answer.fate(), answer.faces, answer.flips), (Fate::Added(3), 1, 1));
     assert_eq!(mesh.finish().unwrap().closing_flips, 0);
 }
 

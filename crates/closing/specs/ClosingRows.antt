@@ -6,7 +6,6 @@ use Rattle.circle_test.specs.GoodRows.{GoodRows}
 use Rattle.conflicts.specs.FlipsWithin.{FlipsWithin}
 use Rattle.dcel.specs.Rows.{linksOf, positionOf}
 use Rattle.mesh.specs.declared.Counts.{Counts}
-use Rattle.mesh.specs.Mesh.{Links}
 use Rattle.closing.specs.Closing.{Closing}
 
 -- the links that the rows hold, and the count

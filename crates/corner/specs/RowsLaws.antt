@@ -3,7 +3,7 @@
 use mathlib.Core.Bool.{Bool, true, false, _||_}
 use mathlib.Core.List.{List}
 use mathlib.Core.Path.{_≡_, refl, _∙_, subst⁻¹}
-use Prim.Native.Nat.{ℕ, _*_, _^_, _≤_}
+use Prim.Native.Nat.{ℕ, _*_, _≤_}
 use native.Mathlib.Nat.{le-refl}
 use native.Mathlib.Omega.{arith}
 use lib.IntN.{ℤ}
@@ -71,10 +71,6 @@ module _ {q : List ℤ} {o h a row : List ℕ} where
   ready-again {g} R c {o′} {h′} {a′} {row′} {g′} e l =
       kept (extendedOf o h a g) (R .rows .good) (R .flips) (R .faces) (R .rows .room .outs) (R .rows .positions) (R .sized)
       (subst⁻¹ (Closings (positionOf q) (extendedOf o h a g)) e c) l
-
--- few enough faces for a count of flips in 128 bits
-pub ready-few : {q : List ℤ} {o h a row : List ℕ} {g : Added} → Ready q o h a row g → g .counts .faces ≤ 2 ^ 25
-ready-few R = let f = faces-fit (R .rows .good .wf) (le-refl _) in let s = R .sized .small in omega arith
 
 -- ---- a test that one of two things holds, as a loop that may be refused a flip ends
 pub either-first : (a b : Bool) → a ≡ true → true ≡ (a || b)

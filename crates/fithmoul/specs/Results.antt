@@ -2,7 +2,6 @@
 -- place. What a refused call has no answer for is 0. Definitions only. `Laws`: no refusal has the number 0.
 use Prim.Native.Nat.{ℕ}
 use lib.IntN.{ℤ}
-use Rattle.decide.specs.Decide.{fateNumber, fateVertex}
 use Rattle.finish.specs.declared.FinishAnswer.{FinishAnswer}
 use Rattle.finish.specs.declared.Finished.{Finished}
 use Rattle.finish.specs.declared.Totals.{Totals}
@@ -13,6 +12,7 @@ use Rattle.mesh_check.specs.declared.Checked.{Checked}
 use Rattle.sweep.specs.declared.Answer.{Answer}
 use Rattle.sweep.specs.declared.StepAnswer.{StepAnswer}
 use Rattle.sweep.specs.declared.Stepped.{Stepped}
+use Rattle.sweep.specs.Run.{answerWord}
 use Rattle.fithmoul.specs.declared.results.CheckResult.{CheckResult}
 use Rattle.fithmoul.specs.declared.results.LocateResult.{LocateResult}
 use Rattle.fithmoul.specs.declared.results.PointAnswer.{PointAnswer}
@@ -35,18 +35,12 @@ abbrev pub locateResult : Located → LocateResult
 locateResult (Located.Found p) = record { refusal = 0; place = 0; edge = p .edge; passed = p .passed }
 locateResult (Located.Refused x) = record { refusal = x .number; place = x .place; edge = 0; passed = 0 }
 
--- five words, as in a run's answers row
+-- its words, as in a run's answers row
 abbrev pub pointAnswer : Answer → PointAnswer
-pointAnswer a = record {
-  fate = fateNumber (a .fate);
-  vertex = fateVertex (a .fate);
-  faces = a .faces;
-  «flips_high» = a .flips .high;
-  «flips_low» = a .flips .low;
-}
+pointAnswer a = record { fate = answerWord a 0; vertex = answerWord a 1; faces = answerWord a 2; flips = answerWord a 3 }
 
 abbrev pub noAnswer : PointAnswer
-noAnswer = record { fate = 0; vertex = 0; faces = 0; «flips_high» = 0; «flips_low» = 0 }
+noAnswer = record { fate = 0; vertex = 0; faces = 0; flips = 0 }
 
 -- the counts are those after the call, refused or not
 abbrev pub steppedResult : Counts → Stepped → StepResult
@@ -78,10 +72,8 @@ finishedResult C (Finished.Accepted t) = record {
   edges = C .edges;
   faces = C .faces;
   «faces_added» = t .faces;
-  «convex_flips_high» = t .convexflips .high;
-  «convex_flips_low» = t .convexflips .low;
-  «closing_flips_high» = t .closingflips .high;
-  «closing_flips_low» = t .closingflips .low;
+  «convex_flips» = t .convexflips;
+  «closing_flips» = t .closingflips;
 }
 finishedResult C (Finished.Refused x) = record {
   refusal = x .number;
@@ -90,10 +82,8 @@ finishedResult C (Finished.Refused x) = record {
   edges = C .edges;
   faces = C .faces;
   «faces_added» = 0;
-  «convex_flips_high» = 0;
-  «convex_flips_low» = 0;
-  «closing_flips_high» = 0;
-  «closing_flips_low» = 0;
+  «convex_flips» = 0;
+  «closing_flips» = 0;
 }
 
 abbrev pub finishResult : FinishAnswer → FinishResult
@@ -101,8 +91,4 @@ finishResult a = finishedResult (a .counts) (a .finished)
 
 -- the totals that an accepted finish or run reports
 abbrev pub totals : FinishResult → Totals
-totals r = record {
-  faces = r .«faces_added»;
-  convexflips = record { high = r .«convex_flips_high»; low = r .«convex_flips_low» };
-  closingflips = record { high = r .«closing_flips_high»; low = r .«closing_flips_low» };
-}
+totals r = record { faces = r .«faces_added»; convexflips = r .«convex_flips»; closingflips = r .«closing_flips» }

@@ -28,14 +28,13 @@ pub struct LocateResult {
 }
 
 // A point's answer, word by word as in a run's answers row: 01's number of its fate, its vertex where it was added, the faces added, the
-// flips in two words.
+// flips.
 #[repr(C)]
 pub struct PointAnswer {
     pub fate: u64,
     pub vertex: u64,
     pub faces: u64,
-    pub flips_high: u64,
-    pub flips_low: u64,
+    pub flips: u64,
 }
 
 // The mesh's counts after the call, and the point's answer.
@@ -49,7 +48,7 @@ pub struct StepResult {
     pub answer: PointAnswer,
 }
 
-// The mesh's counts after the call, the faces added by the convexity passes, their flips and those of the closing pass, each in two words.
+// The mesh's counts after the call, the faces added by the convexity passes, their flips and those of the closing pass.
 #[repr(C)]
 pub struct FinishResult {
     pub refusal: u32,
@@ -58,10 +57,8 @@ pub struct FinishResult {
     pub edges: u32,
     pub faces: u32,
     pub faces_added: u32,
-    pub convex_flips_high: u64,
-    pub convex_flips_low: u64,
-    pub closing_flips_high: u64,
-    pub closing_flips_low: u64,
+    pub convex_flips: u64,
+    pub closing_flips: u64,
 }
 
 pub fn check_result(checked: Checked) -> CheckResult
@@ -106,8 +103,7 @@ fn point_answer(answer: Answer) -> PointAnswer
         fate: decide::fate_number(fate),
         vertex: decide::fate_vertex(fate),
         faces: answer.faces as u64,
-        flips_high: answer.flips.high,
-        flips_low: answer.flips.low,
+        flips: answer.flips,
     }
 }
 
@@ -136,8 +132,7 @@ fn stepped_result(counts: Counts, stepped: Stepped) -> StepResult
                 fate: 0,
                 vertex: 0,
                 faces: 0,
-                flips_high: 0,
-                flips_low: 0,
+                flips: 0,
             },
         },
     }
@@ -162,10 +157,8 @@ fn finished_result(counts: Counts, finished: Finished) -> FinishResult
             edges: counts.edges,
             faces: counts.faces,
             faces_added: totals.faces,
-            convex_flips_high: totals.convexflips.high,
-            convex_flips_low: totals.convexflips.low,
-            closing_flips_high: totals.closingflips.high,
-            closing_flips_low: totals.closingflips.low,
+            convex_flips: totals.convexflips,
+            closing_flips: totals.closingflips,
         },
         Finished::Refused(x) => FinishResult {
             refusal: x.number,
@@ -174,10 +167,8 @@ fn finished_result(counts: Counts, finished: Finished) -> FinishResult
             edges: counts.edges,
             faces: counts.faces,
             faces_added: 0,
-            convex_flips_high: 0,
-            convex_flips_low: 0,
-            closing_flips_high: 0,
-            closing_flips_low: 0,
+            convex_flips: 0,
+            closing_flips: 0,
         },
     }
 }

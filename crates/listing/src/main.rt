@@ -3,7 +3,7 @@
 // There is room for 65,536 bytes of text; 400 vertices with their longest numbers and no leading zeros take 10,422. Of a longer
 // text one byte more is read and becomes a zero, which stands in no line that is right: so the line that was cut is answered as
 // malformed, unless an earlier one is, and no such text is ever listed as if it were whole.
-// A listing always fits: `list` says that it has at most 50,587 bytes.
+// A listing always fits: `list` says that it has at most 42,949 bytes.
 const ROOM: usize = 65536;
 
 const ROOM_AND_ONE: usize = 65537;

@@ -1,7 +1,8 @@
 -- Rows that are filled from their start, and the lines of the points one after the other. Assumes nothing.
 use mathlib.Core.List.{List, _++_}
 use mathlib.Core.Path.{_≡_, refl, sym, _∙_, ap, subst}
-use Prim.Native.Nat.{ℕ, zero, suc, _+_, _<_, _≤_}
+use Prim.Native.Nat.{ℕ, zero, suc, _+_, _*_, _<_, _≤_}
+use native.Mathlib.Nat.{add-zero}
 use native.Mathlib.Numerals.{add-one}
 use native.Mathlib.Omega.{arith}
 use lib.IntN.{ℤ, pos}
@@ -14,9 +15,11 @@ use Rattle.listing_text.specs.declared.writing.PointLine.{PointLine}
 use Rattle.listing_text.specs.Decimal.{Appended}
 use Rattle.listing_text.specs.Listing.{pointLine, totalsLine}
 use Rattle.listing_text.specs.RowLaws.{sets-snoc, appended-none, appended-then}
+use Rattle.dcel.specs.Rows.{rowOf}
 use Rattle.finish.specs.declared.Totals.{Totals}
 use Rattle.listing_text.specs.declared.writing.TotalsLine.{TotalsLine}
 use Rattle.mesh.specs.declared.Counts.{Counts}
+use Rattle.sweep.specs.Run.{answerWords}
 use Rattle.listing_run.specs.ListingRun.{answerLine, pointLines, totalsOf}
 
 module _ {A : Type 0} (d : A) (row xs : List A) where
@@ -42,18 +45,28 @@ pub read-next : (row : List ℤ) {row′ : List ℤ} (xs : List ℤ) (i : ℕ) �
 read-next row xs i l e f = rw (toZ-ofZ f) (sets-next (pos 0) row xs i l e)
 
 -- ---- the points' lines
-module _ (word : ℕ → ℕ) where
-  pub points-none : (row : List ℕ) → Appended row 0 (pointLines word 0) row 0
+module _ (answers : List ℕ) where
+  pub answer-is : (i : ℕ) → record {
+    index = i;
+    fate = rowOf answers (answerWords * i);
+    vertex = rowOf answers (answerWords * i + 1);
+    faces = rowOf answers (answerWords * i + 2);
+    flips = rowOf answers (answerWords * i + 3);
+  } ≡ answerLine answers i
+  unfolding answerLine
+  answer-is i = rw (add-zero (answerWords * i)) refl
+
+  pub points-none : (row : List ℕ) → Appended row 0 (pointLines answers 0) row 0
   unfolding pointLines
   points-none row = appended-none row 0
 
-  pub points-next : {row row′ row″ : List ℕ} {at′ at″ : ℕ} (i : ℕ) {line : PointLine} → Appended row 0 (pointLines word i) row′ at′
-      → line ≡ answerLine word i → Appended row′ at′ (pointLine line) row″ at″ → Appended row 0 (pointLines word (i + 1)) row″ at″
+  pub points-next : {row row′ row″ : List ℕ} {at′ at″ : ℕ} (i : ℕ) {line : PointLine} → Appended row 0 (pointLines answers i) row′ at′
+      → line ≡ answerLine answers i → Appended row′ at′ (pointLine line) row″ at″ → Appended row 0 (pointLines answers (i + 1)) row″ at″
   unfolding pointLines
   points-next i f e g = rw add-one (appended-then f (rw e at g))
 
-  pub points-all : {row row′ : List ℕ} {at′ i count : ℕ} → i ≤ count → count ≤ i → Appended row 0 (pointLines word i) row′ at′
-      → Appended row 0 (pointLines word count) row′ at′
+  pub points-all : {row row′ : List ℕ} {at′ i count : ℕ} → i ≤ count → count ≤ i → Appended row 0 (pointLines answers i) row′ at′
+      → Appended row 0 (pointLines answers count) row′ at′
   points-all {i = i} {count = count} l m f = let e : i ≡ count = omega arith in rw e at f
 
 -- ---- and the totals behind them

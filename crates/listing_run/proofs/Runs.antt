@@ -9,7 +9,7 @@ use lib.Dec.{ltb}
 use lib.Ieee.{Float}
 use lib.IntN.{ℤ}
 use lib.ListN.{length, replicate, drop, length-drop}
-use Rattle.dcel.specs.Rows.{linksOf, positionOf, rowOf}
+use Rattle.dcel.specs.Rows.{linksOf, positionOf}
 use Rattle.finish.specs.declared.FinishAnswer.{FinishAnswer}
 use Rattle.finish.specs.declared.Finished.{Finished}
 use Rattle.finish.specs.declared.Totals.{Totals}
@@ -24,7 +24,7 @@ use Rattle.mesh_check.specs.Readable.{Readable}
 use Rattle.mesh_check.specs.ReadableLaws.{readable-rows}
 use Rattle.ring_rows.specs.declared.Node.{Node}
 use Rattle.ring_rows.specs.Rows.{zeroNode}
-use Rattle.sweep.specs.Run.{Lent, Outcome, lent, outcome, runOf}
+use Rattle.sweep.specs.Run.{Lent, Outcome, lent, outcome, answerWords, runOf}
 use Rattle.sweep.specs.RunLaws.{run-accepts, run-start, run-accepted, run-finishes}
 use Rattle.listing_run.specs.ListingRun.{finishedListing, outcomeListing, lentListing, pointLines, totalsOf}
 use Rattle.listing_run.specs.ListingRunRows.{RunLeaves, Summable, Listable}
@@ -51,10 +51,10 @@ module _ (l : Lent) (few : l .counts .vertices + pointCount (l .points) ≤ 400)
       let p = M .positions in let h = M .halves in let a = M .faces in
       let p′ = K .positions-length in let h′ = K .halves-length in let a′ = K .faces-length in let w = K .answers-length in
       let u = faces-fit (F .good .wf) (le-refl (R .answer .counts .vertices)) in
-      let b = ltb-false (length (l .answers)) (5 * pointCount (l .points)) (run-accepts l (F .checked) .others) in
+      let b = ltb-false (length (l .answers)) (answerWords * pointCount (l .points)) (run-accepts l (F .checked) .others) in
       record {
         mesh = record { readable = readable _ _ _ _ (F .good) (omega arith) (omega arith) (omega arith); few = omega arith };
-        answers = omega arith;
+        room = omega arith;
       }
 
   -- the rows as they were found
@@ -68,7 +68,7 @@ unfolding finishedListing
 listing-refused count r e = rw e refl
 
 pub listing-accepted : (count : ℕ) (r : Outcome) {t : Totals} → r .answer .finished ≡ Finished.Accepted t
-    → pointLines (rowOf (r .answers)) count
+    → pointLines (r .answers) count
     ++ totalsLine (totalsOf (r .answer .counts) (areaTotal (r .answer .counts) (linksOf (r .outs) (r .halves) (r .faces)) (positionOf (r .positions))) t) ≡ outcomeListing count r
 unfolding finishedListing
 listing-accepted count r e = rw e refl

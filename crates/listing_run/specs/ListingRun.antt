@@ -2,13 +2,13 @@
 -- `listingOf text` is what the listing program prints for any bytes whatever; what a text says is `readOf` of
 -- listing_text, what a run comes to is `runOf` of sweep.
 use mathlib.Core.List.{List, [], _∷_, _++_}
-use Prim.Native.Nat.{ℕ, zero, suc, _+_, _*_, _-_}
+use Prim.Native.Nat.{ℕ, zero, suc, _+_, _-_}
 use lib.Ieee.{ofInt, binary64}
 use lib.IntN.{ℤ, pos}
 use lib.ListN.{getD, take, drop, replicate}
 use lib.Seq.{sets}
 use Rattle.ring_rows.specs.Rows.{zeroNode}
-use Rattle.dcel.specs.Rows.{linksOf, positionOf, rowOf}
+use Rattle.dcel.specs.Rows.{linksOf, positionOf}
 use Rattle.finish.specs.declared.Finished.{Finished}
 use Rattle.finish.specs.declared.Totals.{Totals}
 use Rattle.listing_text.specs.declared.writing.PointLine.{PointLine}
@@ -18,7 +18,7 @@ use Rattle.listing_text.specs.Reading.{Reading, malformed, numbers, readOf}
 use Rattle.mesh.specs.declared.Counts.{Counts}
 use Rattle.mesh.specs.Area.{areaTotal}
 use Rattle.mesh_check.specs.Check.{pointCount}
-use Rattle.sweep.specs.Run.{Lent, Outcome, lent, runOf}
+use Rattle.sweep.specs.Run.{Lent, Outcome, lent, answerIn, runOf}
 
 -- ---- the seed: docs/DECISIONS.md, "How is the seed triangle linked?"
 abbrev pub seedCounts : Counts
@@ -56,23 +56,23 @@ lentIn zs positions outs halves faces freed buckets pending answers =
 unfoldable pub lentOf : List ℤ → Lent
 lentOf zs =
     lentIn zs (replicate 800 (pos 0)) (replicate 400 0) (replicate 9600 0) (replicate 800 0)
-    (replicate 401 0) (replicate 400 0) (replicate 4096 0) (replicate 1985 0)
+    (replicate 401 0) (replicate 400 0) (replicate 4096 0) (replicate 1588 0)
 
 -- ---- what is printed
--- 01: "one answer (fate, vertex, faces, flips) per point", as a row of answers has it, five words for each
-unfoldable pub answerLine : (ℕ → ℕ) → ℕ → PointLine
-answerLine word i = record {
+-- 01: "one answer (fate, vertex, faces, flips) per point"
+unfoldable pub answerLine : List ℕ → ℕ → PointLine
+answerLine answers i = record {
   index = i;
-  fate = word (5 * i);
-  vertex = word (5 * i + 1);
-  faces = word (5 * i + 2);
-  flips = record { high = word (5 * i + 3); low = word (5 * i + 4) };
+  fate = answerIn answers i 0;
+  vertex = answerIn answers i 1;
+  faces = answerIn answers i 2;
+  flips = answerIn answers i 3;
 }
 
 -- 01: "It prints `p index fate vertex faces flips` per point": of the first n
-unfoldable pub pointLines : (ℕ → ℕ) → ℕ → List ℕ
-pointLines word zero = []
-pointLines word (suc n) = pointLines word n ++ pointLine (answerLine word n)
+unfoldable pub pointLines : List ℕ → ℕ → List ℕ
+pointLines answers zero = []
+pointLines answers (suc n) = pointLines answers n ++ pointLine (answerLine answers n)
 
 -- 01: "then `t vertices edges innerfaces doubledarea finishfaces convexflips closingflips`". Face 0 is the outer one
 unfoldable pub totalsOf : Counts → ℤ → Totals → TotalsLine
@@ -91,7 +91,7 @@ unfoldable pub finishedListing : ℕ → Outcome → Finished → List ℕ
 -- 01: "A refusal prints `r number place` alone"
 finishedListing count r (Finished.Refused x) = refusalLine (x .number) (x .place)
 finishedListing count r (Finished.Accepted t) =
-    pointLines (rowOf (r .answers)) count
+    pointLines (r .answers) count
     ++ totalsLine (totalsOf (r .answer .counts)
     (areaTotal (r .answer .counts) (linksOf (r .outs) (r .halves) (r .faces)) (positionOf (r .positions))) t)
 

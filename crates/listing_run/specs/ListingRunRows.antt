@@ -8,7 +8,7 @@ use Rattle.finish.specs.declared.FinishAnswer.{FinishAnswer}
 use Rattle.mesh.specs.declared.Counts.{Counts}
 use Rattle.mesh_check.specs.Readable.{Readable}
 use Rattle.ring_rows.specs.declared.Node.{Node}
-use Rattle.sweep.specs.Run.{Lent, outcome, runOf}
+use Rattle.sweep.specs.Run.{Lent, outcome, answerWords, runOf}
 
 -- what a run of l leaves, its row of nodes left open
 pub record RunLeaves (l : Lent) (r : FinishAnswer) (q : List ℤ) (o h a freed buckets pending answers : List ℕ) : Type 0 where
@@ -21,6 +21,6 @@ pub record Summable (C : Counts) (q : List ℤ) (h a : List ℕ) : Type 0 where
   pub few : C .faces ≤ 800
 
 -- and there is an answer for each point
-pub record Listable (C : Counts) (q : List ℤ) (h a words : List ℕ) (count : ℕ) : Type 0 where
+pub record Listable (C : Counts) (q : List ℤ) (h a answers : List ℕ) (count : ℕ) : Type 0 where
   pub mesh : Summable C q h a
-  pub answers : 5 * count ≤ length words
+  pub room : answerWords * count ≤ length answers

@@ -4,7 +4,7 @@ ghost use mathlib.Core.List.{List, _++_};
 ghost use Prim.Native.Nat.{ℕ, _+_, _*_, _≤_, _<_};
 ghost use lib.ListN.{length, take, replicate};
 ghost use lib.Seq.{sets};
-ghost use Rattle.dcel.specs.Rows.{linksOf, positionOf, rowOf};
+ghost use Rattle.dcel.specs.Rows.{linksOf, positionOf};
 ghost use Rattle.finish.specs.declared.Finished.{Finished};
 ghost use Rattle.finish.specs.declared.Totals.{Totals};
 ghost use Rattle.listing_text.specs.Decimal.{Appended};
@@ -13,7 +13,7 @@ ghost use Rattle.mesh.specs.Area.{areaTotal};
 ghost use Rattle.mesh_check.specs.Check.{pointCount};
 ghost use Rattle.ring_rows.specs.declared.Node.{Node};
 ghost use Rattle.ring_rows.specs.Rows.{zeroNode};
-ghost use Rattle.sweep.specs.Run.{lent, outcome};
+ghost use Rattle.sweep.specs.Run.{lent, outcome, answerWords};
 ghost use Rattle.listing_run.specs.ListingRun.{seedOuts, seedHalves, seedFaces, lentIn};
 ghost use Rattle.listing_run.specs.ListingRun.{answerLine, pointLines, totalsOf, outcomeListing, lentListing, numbersListing, listingOf};
 ghost use Rattle.listing_run.specs.ListingRunRows.{RunLeaves, Summable, Listable};
@@ -21,12 +21,12 @@ use angle::Point2;
 use finish::FinishAnswer;
 use finish::Finished;
 use finish::Totals;
-use flip_count::FlipCount;
 use listing_text::reading::Input;
 use listing_text::writing::PointLine;
 use listing_text::writing::TotalsLine;
 use mesh::Counts;
 use ring_rows::Node;
+use sweep::ANSWER_WORDS;
 
 // The values over the first entries of a row.
 fn store(row: &mut [u32], values: &[u32])
@@ -71,28 +71,25 @@ fn doubled_area(positions: &[i32], halves: &[u32], faces: &[u32], counts: Counts
 
 // The answer of point i.
 fn answer_line(answers: &[u64], i: usize) -> PointLine
-    requires { ⌜ 5 * i + 5 ≤ length (now answers) ⌝ }
-    ensures is { λ r. ⌜ r ≡ answerLine (rowOf (now (answers .entry))) i ⌝ }
-    ensures short { λ r. ⌜ length (pointLine r) ≤ 126 ⌝ }
+    requires { ⌜ answerWords * i + answerWords ≤ length (now answers) ⌝ }
+    ensures is { λ r. ⌜ r ≡ answerLine (now (answers .entry)) i ⌝ }
+    ensures short { λ r. ⌜ length (pointLine r) ≤ 107 ⌝ }
 {
-    let at = 5 * i;
+    let at = ANSWER_WORDS * i;
     PointLine {
         index: i as u64,
         fate: answers[at],
         vertex: answers[at + 1],
         faces: answers[at + 2],
-        flips: FlipCount {
-            high: answers[at + 3],
-            low: answers[at + 4],
-        },
+        flips: answers[at + 3],
     }
 }
 
 // A line for each point.
 fn put_points(answers: &[u64], count: usize, row: &mut [u8]) -> usize
-    requires { ⌜ 5 * count ≤ length (now answers) ⌝ }
-    ensures is { λ r. ⌜ Appended (now (row .entry)) 0 (pointLines (rowOf (now (answers .entry))) count) (now (row .exit)) r ⌝ }
-    ensures short { λ r. ⌜ length (pointLines (rowOf (now (answers .entry))) count) ≤ 126 * count ⌝ }
+    requires { ⌜ answerWords * count ≤ length (now answers) ⌝ }
+    ensures is { λ r. ⌜ Appended (now (row .entry)) 0 (pointLines (now (answers .entry)) count) (now (row .exit)) r ⌝ }
+    ensures short { λ r. ⌜ length (pointLines (now (answers .entry)) count) ≤ 107 * count ⌝ }
 {
     let mut place = 0;
     let mut i = 0;
@@ -108,18 +105,16 @@ fn put_points(answers: &[u64], count: usize, row: &mut [u8]) -> usize
 fn totals_line(counts: Counts, area: i64, totals: Totals) -> TotalsLine
     requires { ⌜ 0 < counts .faces ⌝ }
     ensures is { λ r. ⌜ r ≡ totalsOf counts area totals ⌝ }
-    ensures short { λ r. ⌜ length (totalsLine r) ≤ 187 ⌝ }
+    ensures short { λ r. ⌜ length (totalsLine r) ≤ 149 ⌝ }
 {
-    let convex = totals.convexflips;
-    let closing = totals.closingflips;
     TotalsLine {
         vertices: counts.vertices as u64,
         edges: counts.edges as u64,
         inner_faces: (counts.faces - 1) as u64,
         doubled_area: area,
         finish_faces: totals.faces as u64,
-        convex_flips: convex,
-        closing_flips: closing,
+        convex_flips: totals.convexflips,
+        closing_flips: totals.closingflips,
     }
 }
 
@@ -136,14 +131,14 @@ fn list_accepted(
 ) -> usize
     requires { ⌜ Listable counts (now positions) (now halves) (now faces) (now answers) count ⌝ }
     ensures is { λ r. ⌜ ((o : List ℕ) → Appended (now (row .entry)) 0
-        (pointLines (rowOf (now (answers .entry))) count
+        (pointLines (now (answers .entry)) count
         ++ totalsLine (totalsOf counts
         (areaTotal counts (linksOf o (now (halves .entry)) (now (faces .entry))) (positionOf (now (positions .entry)))) totals))
         (now (row .exit)) r) ⌝ }
-    ensures short { λ r. ⌜ ((o : List ℕ) → length (pointLines (rowOf (now (answers .entry))) count
+    ensures short { λ r. ⌜ ((o : List ℕ) → length (pointLines (now (answers .entry)) count
         ++ totalsLine (totalsOf counts
         (areaTotal counts (linksOf o (now (halves .entry)) (now (faces .entry))) (positionOf (now (positions .entry)))) totals))
-        ≤ 126 * count + 187) ⌝ }
+        ≤ 107 * count + 149) ⌝ }
 {
     let area = doubled_area(positions, halves, faces, counts);
     let place = put_points(answers, count, row);
@@ -169,7 +164,7 @@ fn list_answer(
         (now (row .exit)) r) ⌝ }
     ensures short { λ r. ⌜ ((o : List ℕ) (nodes : List Node) (freed buckets pending : List ℕ) → length
         (outcomeListing count (outcome answer (now (positions .entry)) o (now (halves .entry)) (now (faces .entry))
-        nodes freed buckets pending (now (answers .entry)))) ≤ 126 * count + 187) ⌝ }
+        nodes freed buckets pending (now (answers .entry)))) ≤ 107 * count + 149) ⌝ }
 {
     let counts = answer.counts;
     let finished = answer.finished;
@@ -270,7 +265,7 @@ fn list_lent(
     ensures short { λ r. ⌜ length
         (lentListing (lent counts (now (positions .entry)) (now (outs .entry)) (now (halves .entry)) (now (faces .entry))
         (replicate 401 zeroNode) (now (freed .entry)) (now (buckets .entry)) (now (pending .entry)) (now (answers .entry))
-        (center .x) (center .y) (now (points .entry)))) ≤ 50587 ⌝ }
+        (center .x) (center .y) (now (points .entry)))) ≤ 42949 ⌝ }
 {
     let count = mesh_check::point_count(points);
     let answer = run_lent(
@@ -359,7 +354,7 @@ fn list_seed(
         (now (row .exit)) r ⌝ }
     ensures short { λ r. ⌜ length
         (lentListing (lentIn (now (numbers .entry)) (now (positions .entry)) (now (outs .entry)) (now (halves .entry)) (now (faces .entry))
-        (now (freed .entry)) (now (buckets .entry)) (now (pending .entry)) (now (answers .entry)))) ≤ 50587 ⌝ }
+        (now (freed .entry)) (now (buckets .entry)) (now (pending .entry)) (now (answers .entry)))) ≤ 42949 ⌝ }
 {
     store_seed(numbers, positions, outs, halves, faces);
     let center = angle::to_f64(numbers[6], numbers[7]);
@@ -388,7 +383,7 @@ fn list_seed(
 fn list_numbers(numbers: &[i32], row: &mut [u8]) -> usize
     requires { ⌜ (8 ≤ length (now numbers)) × (length (now numbers) ≤ 802) ⌝ }
     ensures is { λ r. ⌜ Appended (now (row .entry)) 0 (numbersListing (now (numbers .entry))) (now (row .exit)) r ⌝ }
-    ensures short { λ r. ⌜ length (numbersListing (now (numbers .entry))) ≤ 50587 ⌝ }
+    ensures short { λ r. ⌜ length (numbersListing (now (numbers .entry))) ≤ 42949 ⌝ }
 {
     let mut positions = [0i32; 800];
     let mut outs = [0u32; 400];
@@ -397,7 +392,7 @@ fn list_numbers(numbers: &[i32], row: &mut [u8]) -> usize
     let mut freed = [0u32; 401];
     let mut buckets = [0u32; 400];
     let mut pending = [0u32; 4096];
-    let mut answers = [0u64; 1985];
+    let mut answers = [0u64; 1588];
     list_seed(
         numbers,
         &mut positions,
@@ -412,10 +407,10 @@ fn list_numbers(numbers: &[i32], row: &mut [u8]) -> usize
     )
 }
 
-// The listing of any bytes, from the row's start on. The answer is where it ends; in a row of 50,587 bytes or more it always fits.
+// The listing of any bytes, from the row's start on. The answer is where it ends; in a row of 42,949 bytes or more it always fits.
 pub fn list(text: &[u8], row: &mut [u8]) -> usize
     ensures is { λ r. ⌜ Appended (now (row .entry)) 0 (listingOf (now (text .entry))) (now (row .exit)) r ⌝ }
-    ensures short { λ r. ⌜ length (listingOf (now (text .entry))) ≤ 50587 ⌝ }
+    ensures short { λ r. ⌜ length (listingOf (now (text .entry))) ≤ 42949 ⌝ }
 {
     let mut numbers = [0i32; 802];
     let input = listing_text::reading::read(text, &mut numbers);

@@ -379,20 +379,8 @@ pub fn compare_mesh(text: &[u8], at: usize, tags: [u8; 5], mesh: Mesh) -> Agreed
     }
 }
 
-// What a line says of an entry of the answers. The plain line has four numbers for each point, where the row has five words, the fourth of them the flips' high word.
-fn due_long(text: &[u8], at: usize, past: Number, plain: bool, i: usize) -> Number {
-    if plain & (i % 5 == 3) & (test_text::byte(text, at) == b' ') {
-        return Number {
-            negative: false,
-            magnitude: 0,
-            at: at,
-        };
-    }
-    next_entry(text, at, past)
-}
-
 // Whether the answers are those of the line that began so.
-pub fn compare_longs(text: &[u8], start: RowStart, plain: bool, answers: Longs) -> Agreed {
+pub fn compare_longs(text: &[u8], start: RowStart, answers: Longs) -> Agreed {
     let row = answers.row;
     let n = answers.length;
     let past = start.past;
@@ -401,7 +389,7 @@ pub fn compare_longs(text: &[u8], start: RowStart, plain: bool, answers: Longs) 
     let mut i: usize = 0;
     while i < LONGS {
         if i < n {
-            let entry = due_long(text, place, past, plain, i);
+            let entry = next_entry(text, place, past);
             same = same & !entry.negative & (entry.magnitude == row[i]);
             place = entry.at;
         }

@@ -1,11 +1,11 @@
 -- `listing_run::answer_line` meets its contract. Assumes nothing.
 use borrow.Author.Needs.{needs}
-use mathlib.Core.Path.{refl}
 use Rattle.dcel.specs.Rows.{rowOf}
-use Rattle.listing_run.specs.ListingRun.{answerLine}
 use Prim.Native.Nat.{_+_, _*_}
 use native.Mathlib.Omega.{arith}
-use Rattle.listing_run.proofs.Lengths.{point-short}
+use Rattle.sweep.specs.Run.{answerWords}
+use Rattle.listing_text.specs.ListingLaws.{point-length}
+use Rattle.listing_run.proofs.Rows.{answer-is}
 use Rattle.listing_run.proofs.answer_line.Statement.{statement}
 use Rattle.listing_run.proofs.answer_line.Tie as tie
 
@@ -45,18 +45,13 @@ mul-t17 c = search needs
 shared-slice-read-t19 : tie.Need-shared-slice-read-t19
 shared-slice-read-t19 c = search needs
 
-add-t20 : tie.Need-add-t20
-add-t20 c = search needs
-
-mul-t21 : tie.Need-mul-t21
-mul-t21 c = search needs
-
-shared-slice-read-t23 : tie.Need-shared-slice-read-t23
-shared-slice-read-t23 c = search needs
-
 returns : tie.Need-returns
-unfolding answerLine rowOf
-returns c = (refl, point-short _ _ _ _ _ _ (omega (arith, c .before .before .before .before .before .fits .i)) (omega (arith, c .shared-slice-known5 .given (5 * c .before .before .before .before .before .args .i))) (omega (arith, c .shared-slice-known5 .given (5 * c .before .before .before .before .before .args .i + 1))) (omega (arith, c .shared-slice-known5 .given (5 * c .before .before .before .before .before .args .i + 2))) (omega (arith, c .shared-slice-known5 .given (5 * c .before .before .before .before .before .args .i + 3))) (omega (arith, c .shared-slice-known5 .given (5 * c .before .before .before .before .before .args .i + 4))))
+unfolding rowOf
+returns c =
+    let s = c .before .before .before .before in
+    let a = answerWords * s .args .i in
+    let g = c .shared-slice-known4 .given in
+    (answer-is _ _, point-length _ (omega (arith, s .fits .i)) (omega (arith, g a)) (omega (arith, g (a + 1))) (omega (arith, g (a + 2))) (omega (arith, g (a + 3))))
 
 pub answer-line-spec : {M : Type 1} → statement M
 answer-line-spec =
@@ -74,7 +69,4 @@ answer-line-spec =
     add-t16
     mul-t17
     shared-slice-read-t19
-    add-t20
-    mul-t21
-    shared-slice-read-t23
     returns)

@@ -1,6 +1,5 @@
 -- `listing_run::list_accepted` meets its contract. Assumes nothing.
 use borrow.Author.Needs.{needs, sfits-of}
-use Rattle.dcel.specs.Rows.{rowOf}
 use Rattle.listing_run.specs.ListingRun.{pointLines}
 use Rattle.listing_run.proofs.Lengths.{totals-next-short}
 use Rattle.listing_run.proofs.Rows.{totals-next}
@@ -23,7 +22,7 @@ same-length : tie.Need-same-length
 same-length c = search needs
 
 returns : tie.Need-returns
-returns c = (λ o. totals-next _ _ (c .before .before .before .before .before .before .before .put-points .ensures .0) (sfits-of (c .before .before .before .before .before .before .before .before .before .doubled-area .ok)) (c .before .before .before .before .before .before .before .before .before .doubled-area .ensures o) (c .before .before .before .before .totals-line .ensures .0) (c .before .before .put-totals .ensures), λ o. totals-next-short (pointLines (rowOf (c .before .before .before .before .before .before .before .before .before .before .before .before .before .before .args .answers .now)) (c .before .before .before .before .before .before .before .before .before .before .before .before .before .before .args .count)) _ _ (c .before .before .before .before .before .before .before .before .before .before .before .before .before .before .args .count) (sfits-of (c .before .before .before .before .before .before .before .before .before .doubled-area .ok)) (c .before .before .before .before .before .before .before .before .before .doubled-area .ensures o) (c .before .before .before .before .totals-line .ensures .0) (c .before .before .before .before .before .before .before .put-points .ensures .1) (c .before .before .before .before .totals-line .ensures .1))
+returns c = (λ o. totals-next _ _ (c .before .before .before .before .before .before .before .put-points .ensures .0) (sfits-of (c .before .before .before .before .before .before .before .before .before .doubled-area .ok)) (c .before .before .before .before .before .before .before .before .before .doubled-area .ensures o) (c .before .before .before .before .totals-line .ensures .0) (c .before .before .put-totals .ensures), λ o. totals-next-short (pointLines (c .before .before .before .before .before .before .before .before .before .before .before .before .before .before .args .answers .now) (c .before .before .before .before .before .before .before .before .before .before .before .before .before .before .args .count)) _ _ (c .before .before .before .before .before .before .before .before .before .before .before .before .before .before .args .count) (sfits-of (c .before .before .before .before .before .before .before .before .before .doubled-area .ok)) (c .before .before .before .before .before .before .before .before .before .doubled-area .ensures o) (c .before .before .before .before .totals-line .ensures .0) (c .before .before .before .before .before .before .before .put-points .ensures .1) (c .before .before .before .before .totals-line .ensures .1))
 
 pub list-accepted-spec : {M : Type 1} → statement M
 list-accepted-spec =

@@ -2,7 +2,6 @@
 use Prim.Native.Nat.{_-_, _*_, _≤_}
 use native.Mathlib.Omega.{arith}
 use borrow.Author.Needs.{needs}
-use Rattle.dcel.specs.Rows.{rowOf}
 use Rattle.listing_text.specs.Decimal.{Appended}
 use Rattle.listing_text.specs.RowLaws.{appended-length}
 use Rattle.listing_run.specs.ListingRun.{pointLines}
@@ -13,7 +12,7 @@ use Rattle.listing_run.proofs.put_points.Statement.{statement}
 use Rattle.listing_run.proofs.put_points.Tie as tie
 
 abbrev Inv-loop : tie.InvT-loop
-Inv-loop answers count row₀ place₀ i₀ row place i = (i ≤ count) × (Appended row₀ 0 (pointLines (rowOf answers) i) row place) × (length (pointLines (rowOf answers) i) ≤ 126 * i)
+Inv-loop answers count row₀ place₀ i₀ row place i = (i ≤ count) × (Appended row₀ 0 (pointLines answers i) row place) × (length (pointLines answers i) ≤ 107 * i)
 
 abbrev μ-loop : tie.MeasureT-loop
 μ-loop answers count row₀ place₀ i₀ row place i = count - i

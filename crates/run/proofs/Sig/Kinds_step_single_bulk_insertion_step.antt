@@ -24,7 +24,9 @@ use denote.Struct.Laws as Laws'5
 use mathlib.Core.List
 use mathlib.Core.Path as Path'
 use mir.Syntax
+
 abbrev pub ps : List.List (Kinds.PK 8)
-ps = List._∷_ (MutSlice.pMutS (Signed.SInt Syntax.w32) 0 tt) (List._∷_ (MutSlice.pMutS (Referent.rtF (Referent.fInt Syntax.w32)) 1 tt) (List._∷_ (MutSlice.pMutS (Referent.rtF (Referent.fInt Syntax.w32)) 2 tt) (List._∷_ (MutSlice.pMutS (Referent.rtF (Referent.fInt Syntax.w32)) 3 tt) (List._∷_ (MutSlice.pMutS (Referent.rtF (Referent.fInt Syntax.w32)) 4 tt) (List._∷_ (MutSlice.pMutS ELEM.the-row 5 tt) (List._∷_ (MutSlice.pMutS (Referent.rtF (Referent.fInt Syntax.w32)) 6 tt) (List._∷_ (MutSlice.pMutS (Referent.rtF (Referent.fInt Syntax.w32)) 7 tt) (List._∷_ (Value.pVal record { ty = Declared.row Counts.the-type; one = Path'.refl; val = Laws'5.val Counts.the-type Laws''.the-laws; tells = Laws'5.tells Counts.the-type Laws''.the-laws; still = Laws'5.still Counts.the-type Laws''.the-copy Exit.yes; row = Rows.whole (Declared.row Counts.the-type); rd = λ x. x; mk = λ x. x; } λ M 𝓤 H A W. record { copies = Laws'5.copy Counts.the-type Laws''.the-copy 𝓤 H A W; lawful = Laws'5.lawful Counts.the-type Laws''.the-laws 𝓤 H A W; makes = Laws'5.makes Counts.the-type Laws''.the-plain 𝓤 H A; in-mem = Local.mem-whole 𝓤 H A W (Declared.row Counts.the-type); of-mem = Local.whole-mem 𝓤 H A W (Declared.row Counts.the-type); }) (List._∷_ (Value.pVal record { ty = Declared.row Hull.the-type; one = Path'.refl; val = Laws'5.val Hull.the-type Laws'3.the-laws; tells = Laws'5.tells Hull.the-type Laws'3.the-laws; still = Laws'5.still Hull.the-type Laws'3.the-copy Exit.yes; row = Rows.whole (Declared.row Hull.the-type); rd = λ x. x; mk = λ x. x; } λ M 𝓤 H A W. record { copies = Laws'5.copy Hull.the-type Laws'3.the-copy 𝓤 H A W; lawful = Laws'5.lawful Hull.the-type Laws'3.the-laws 𝓤 H A W; makes = Laws'5.makes Hull.the-type Laws'3.the-plain 𝓤 H A; in-mem = Local.mem-whole 𝓤 H A W (Declared.row Hull.the-type); of-mem = Local.whole-mem 𝓤 H A W (Declared.row Hull.the-type); }) (List._∷_ (Value.pVal record { ty = Declared.row Point2.the-type; one = Path'.refl; val = Laws'5.val Point2.the-type Laws.the-laws; tells = Laws'5.tells Point2.the-type Laws.the-laws; still = Laws'5.still Point2.the-type Laws.the-copy Exit.yes; row = Rows.whole (Declared.row Point2.the-type); rd = λ x. x; mk = λ x. x; } λ M 𝓤 H A W. record { copies = Laws'5.copy Point2.the-type Laws.the-copy 𝓤 H A W; lawful = Laws'5.lawful Point2.the-type Laws.the-laws 𝓤 H A W; makes = Laws'5.makes Point2.the-type Laws.the-plain 𝓤 H A; in-mem = Local.mem-whole 𝓤 H A W (Declared.row Point2.the-type); of-mem = Local.whole-mem 𝓤 H A W (Declared.row Point2.the-type); }) (List._∷_ (Value.pVal record { ty = Declared.row Point.the-type; one = Path'.refl; val = Laws'5.val Point.the-type Laws'.the-laws; tells = Laws'5.tells Point.the-type Laws'.the-laws; still = Laws'5.still Point.the-type Laws'.the-copy Exit.yes; row = Rows.whole (Declared.row Point.the-type); rd = λ x. x; mk = λ x. x; } λ M 𝓤 H A W. record { copies = Laws'5.copy Point.the-type Laws'.the-copy 𝓤 H A W; lawful = Laws'5.lawful Point.the-type Laws'.the-laws 𝓤 H A W; makes = Laws'5.makes Point.the-type Laws'.the-plain 𝓤 H A; in-mem = Local.mem-whole 𝓤 H A W (Declared.row Point.the-type); of-mem = Local.whole-mem 𝓤 H A W (Declared.row Point.the-type); }) List.[])))))))))))
+ps = List._∷_ (MutSlice.pMutS (Signed.SInt Syntax.w32) 0 tt) (List._∷_ (MutSlice.pMutS (Referent.rtF (Referent.fInt Syntax.w32)) 1 tt) (List._∷_ (MutSlice.pMutS (Referent.rtF (Referent.fInt Syntax.w32)) 2 tt) (List._∷_ (MutSlice.pMutS (Referent.rtF (Referent.fInt Syntax.w32)) 3 tt) (List._∷_ (MutSlice.pMutS (Referent.rtF (Referent.fInt Syntax.w32)) 4 tt) (List._∷_ (MutSlice.pMutS ELEM.the-row 5 tt) (List._∷_ (MutSlice.pMutS (Referent.rtF (Referent.fInt Syntax.w32)) 6 tt) (List._∷_ (MutSlice.pMutS (Referent.rtF (Referent.fInt Syntax.w32)) 7 tt) (List._∷_ (Value.pVal record { ty = Declared.row Counts.the-type; one = Path'.refl; val = Laws'5.val Counts.the-type Laws''.the-laws; tells = Laws'5.tells Counts.the-type Laws''.the-laws; still = Laws'5.still Counts.the-type Laws''.the-copy Exit.yes; row = Rows.whole (Declared.row Counts.the-type); rd = λ x. x; mk = λ x. x } λ M 𝓤 H A W. record { copies = Laws'5.copy Counts.the-type Laws''.the-copy 𝓤 H A W; lawful = Laws'5.lawful Counts.the-type Laws''.the-laws 𝓤 H A W; makes = Laws'5.makes Counts.the-type Laws''.the-plain 𝓤 H A; in-mem = Local.mem-whole 𝓤 H A W (Declared.row Counts.the-type); of-mem = Local.whole-mem 𝓤 H A W (Declared.row Counts.the-type) }) (List._∷_ (Value.pVal record { ty = Declared.row Hull.the-type; one = Path'.refl; val = Laws'5.val Hull.the-type Laws'3.the-laws; tells = Laws'5.tells Hull.the-type Laws'3.the-laws; still = Laws'5.still Hull.the-type Laws'3.the-copy Exit.yes; row = Rows.whole (Declared.row Hull.the-type); rd = λ x. x; mk = λ x. x } λ M 𝓤 H A W. record { copies = Laws'5.copy Hull.the-type Laws'3.the-copy 𝓤 H A W; lawful = Laws'5.lawful Hull.the-type Laws'3.the-laws 𝓤 H A W; makes = Laws'5.makes Hull.the-type Laws'3.the-plain 𝓤 H A; in-mem = Local.mem-whole 𝓤 H A W (Declared.row Hull.the-type); of-mem = Local.whole-mem 𝓤 H A W (Declared.row Hull.the-type) }) (List._∷_ (Value.pVal record { ty = Declared.row Point2.the-type; one = Path'.refl; val = Laws'5.val Point2.the-type Laws.the-laws; tells = Laws'5.tells Point2.the-type Laws.the-laws; still = Laws'5.still Point2.the-type Laws.the-copy Exit.yes; row = Rows.whole (Declared.row Point2.the-type); rd = λ x. x; mk = λ x. x } λ M 𝓤 H A W. record { copies = Laws'5.copy Point2.the-type Laws.the-copy 𝓤 H A W; lawful = Laws'5.lawful Point2.the-type Laws.the-laws 𝓤 H A W; makes = Laws'5.makes Point2.the-type Laws.the-plain 𝓤 H A; in-mem = Local.mem-whole 𝓤 H A W (Declared.row Point2.the-type); of-mem = Local.whole-mem 𝓤 H A W (Declared.row Point2.the-type) }) (List._∷_ (Value.pVal record { ty = Declared.row Point.the-type; one = Path'.refl; val = Laws'5.val Point.the-type Laws'.the-laws; tells = Laws'5.tells Point.the-type Laws'.the-laws; still = Laws'5.still Point.the-type Laws'.the-copy Exit.yes; row = Rows.whole (Declared.row Point.the-type); rd = λ x. x; mk = λ x. x } λ M 𝓤 H A W. record { copies = Laws'5.copy Point.the-type Laws'.the-copy 𝓤 H A W; lawful = Laws'5.lawful Point.the-type Laws'.the-laws 𝓤 H A W; makes = Laws'5.makes Point.the-type Laws'.the-plain 𝓤 H A; in-mem = Local.mem-whole 𝓤 H A W (Declared.row Point.the-type); of-mem = Local.whole-mem 𝓤 H A W (Declared.row Point.the-type) }) List.[])))))))))))
+
 abbrev pub r : Kinds.RK 8
-r = Value.rVal record { ty = Declared.row Progress.the-type; one = Path'.refl; val = Laws'5.val Progress.the-type Laws'4.the-laws; tells = Laws'5.tells Progress.the-type Laws'4.the-laws; still = Laws'5.still Progress.the-type Laws'4.the-copy Exit.yes; row = Rows.whole (Declared.row Progress.the-type); rd = λ x. x; mk = λ x. x; } λ M 𝓤 H A W. record { copies = Laws'5.copy Progress.the-type Laws'4.the-copy 𝓤 H A W; lawful = Laws'5.lawful Progress.the-type Laws'4.the-laws 𝓤 H A W; makes = Laws'5.makes Progress.the-type Laws'4.the-plain 𝓤 H A; in-mem = Local.mem-whole 𝓤 H A W (Declared.row Progress.the-type); of-mem = Local.whole-mem 𝓤 H A W (Declared.row Progress.the-type); }
+r = Value.rVal record { ty = Declared.row Progress.the-type; one = Path'.refl; val = Laws'5.val Progress.the-type Laws'4.the-laws; tells = Laws'5.tells Progress.the-type Laws'4.the-laws; still = Laws'5.still Progress.the-type Laws'4.the-copy Exit.yes; row = Rows.whole (Declared.row Progress.the-type); rd = λ x. x; mk = λ x. x } λ M 𝓤 H A W. record { copies = Laws'5.copy Progress.the-type Laws'4.the-copy 𝓤 H A W; lawful = Laws'5.lawful Progress.the-type Laws'4.the-laws 𝓤 H A W; makes = Laws'5.makes Progress.the-type Laws'4.the-plain 𝓤 H A; in-mem = Local.mem-whole 𝓤 H A W (Declared.row Progress.the-type); of-mem = Local.whole-mem 𝓤 H A W (Declared.row Progress.the-type) }

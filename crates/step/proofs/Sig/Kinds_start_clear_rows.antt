@@ -6,7 +6,9 @@ use borrow.Table.Referent
 use denote.Array
 use mathlib.Core.List
 use mir.Syntax
+
 abbrev pub ps : List.List (Kinds.PK 4)
 ps = List._∷_ (MutSlice.pMutS ELEM.the-row 0 tt) (List._∷_ (MutSlice.pMutS (Referent.rtF (Referent.fInt Syntax.w32)) 1 tt) (List._∷_ (MutSlice.pMutS (Referent.rtF (Referent.fInt Syntax.w32)) 2 tt) (List._∷_ (MutSlice.pMutS (Referent.rtF (Referent.fInt Syntax.w32)) 3 tt) List.[])))
+
 abbrev pub r : Kinds.RK 4
 r = Kinds.rUnit

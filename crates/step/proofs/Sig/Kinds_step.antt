@@ -22,7 +22,9 @@ use denote.Struct.Laws as Laws'4
 use mathlib.Core.List
 use mathlib.Core.Path as Path'
 use mir.Syntax
+
 abbrev pub ps : List.List (Kinds.PK 8)
-ps = List._∷_ (Value.pVal record { ty = Declared.row Counts.the-type; one = Path'.refl; val = Laws'4.val Counts.the-type Laws''.the-laws; tells = Laws'4.tells Counts.the-type Laws''.the-laws; still = Laws'4.still Counts.the-type Laws''.the-copy Exit.yes; row = Rows.whole (Declared.row Counts.the-type); rd = λ x. x; mk = λ x. x; } λ M 𝓤 H A W. record { copies = Laws'4.copy Counts.the-type Laws''.the-copy 𝓤 H A W; lawful = Laws'4.lawful Counts.the-type Laws''.the-laws 𝓤 H A W; makes = Laws'4.makes Counts.the-type Laws''.the-plain 𝓤 H A; in-mem = Local.mem-whole 𝓤 H A W (Declared.row Counts.the-type); of-mem = Local.whole-mem 𝓤 H A W (Declared.row Counts.the-type); }) (List._∷_ (MutSlice.pMutS (Signed.SInt Syntax.w32) 0 tt) (List._∷_ (MutSlice.pMutS (Referent.rtF (Referent.fInt Syntax.w32)) 1 tt) (List._∷_ (MutSlice.pMutS (Referent.rtF (Referent.fInt Syntax.w32)) 2 tt) (List._∷_ (MutSlice.pMutS (Referent.rtF (Referent.fInt Syntax.w32)) 3 tt) (List._∷_ (MutSlice.pMutS ELEM.the-row 4 tt) (List._∷_ (MutSlice.pMutS (Referent.rtF (Referent.fInt Syntax.w32)) 5 tt) (List._∷_ (MutSlice.pMutS (Referent.rtF (Referent.fInt Syntax.w32)) 6 tt) (List._∷_ (MutSlice.pMutS (Referent.rtF (Referent.fInt Syntax.w32)) 7 tt) (List._∷_ (Value.pVal record { ty = Declared.row Point2.the-type; one = Path'.refl; val = Laws'4.val Point2.the-type Laws.the-laws; tells = Laws'4.tells Point2.the-type Laws.the-laws; still = Laws'4.still Point2.the-type Laws.the-copy Exit.yes; row = Rows.whole (Declared.row Point2.the-type); rd = λ x. x; mk = λ x. x; } λ M 𝓤 H A W. record { copies = Laws'4.copy Point2.the-type Laws.the-copy 𝓤 H A W; lawful = Laws'4.lawful Point2.the-type Laws.the-laws 𝓤 H A W; makes = Laws'4.makes Point2.the-type Laws.the-plain 𝓤 H A; in-mem = Local.mem-whole 𝓤 H A W (Declared.row Point2.the-type); of-mem = Local.whole-mem 𝓤 H A W (Declared.row Point2.the-type); }) (List._∷_ (Value.pVal record { ty = Declared.row Point.the-type; one = Path'.refl; val = Laws'4.val Point.the-type Laws'.the-laws; tells = Laws'4.tells Point.the-type Laws'.the-laws; still = Laws'4.still Point.the-type Laws'.the-copy Exit.yes; row = Rows.whole (Declared.row Point.the-type); rd = λ x. x; mk = λ x. x; } λ M 𝓤 H A W. record { copies = Laws'4.copy Point.the-type Laws'.the-copy 𝓤 H A W; lawful = Laws'4.lawful Point.the-type Laws'.the-laws 𝓤 H A W; makes = Laws'4.makes Point.the-type Laws'.the-plain 𝓤 H A; in-mem = Local.mem-whole 𝓤 H A W (Declared.row Point.the-type); of-mem = Local.whole-mem 𝓤 H A W (Declared.row Point.the-type); }) List.[]))))))))))
+ps = List._∷_ (Value.pVal record { ty = Declared.row Counts.the-type; one = Path'.refl; val = Laws'4.val Counts.the-type Laws''.the-laws; tells = Laws'4.tells Counts.the-type Laws''.the-laws; still = Laws'4.still Counts.the-type Laws''.the-copy Exit.yes; row = Rows.whole (Declared.row Counts.the-type); rd = λ x. x; mk = λ x. x } λ M 𝓤 H A W. record { copies = Laws'4.copy Counts.the-type Laws''.the-copy 𝓤 H A W; lawful = Laws'4.lawful Counts.the-type Laws''.the-laws 𝓤 H A W; makes = Laws'4.makes Counts.the-type Laws''.the-plain 𝓤 H A; in-mem = Local.mem-whole 𝓤 H A W (Declared.row Counts.the-type); of-mem = Local.whole-mem 𝓤 H A W (Declared.row Counts.the-type) }) (List._∷_ (MutSlice.pMutS (Signed.SInt Syntax.w32) 0 tt) (List._∷_ (MutSlice.pMutS (Referent.rtF (Referent.fInt Syntax.w32)) 1 tt) (List._∷_ (MutSlice.pMutS (Referent.rtF (Referent.fInt Syntax.w32)) 2 tt) (List._∷_ (MutSlice.pMutS (Referent.rtF (Referent.fInt Syntax.w32)) 3 tt) (List._∷_ (MutSlice.pMutS ELEM.the-row 4 tt) (List._∷_ (MutSlice.pMutS (Referent.rtF (Referent.fInt Syntax.w32)) 5 tt) (List._∷_ (MutSlice.pMutS (Referent.rtF (Referent.fInt Syntax.w32)) 6 tt) (List._∷_ (MutSlice.pMutS (Referent.rtF (Referent.fInt Syntax.w32)) 7 tt) (List._∷_ (Value.pVal record { ty = Declared.row Point2.the-type; one = Path'.refl; val = Laws'4.val Point2.the-type Laws.the-laws; tells = Laws'4.tells Point2.the-type Laws.the-laws; still = Laws'4.still Point2.the-type Laws.the-copy Exit.yes; row = Rows.whole (Declared.row Point2.the-type); rd = λ x. x; mk = λ x. x } λ M 𝓤 H A W. record { copies = Laws'4.copy Point2.the-type Laws.the-copy 𝓤 H A W; lawful = Laws'4.lawful Point2.the-type Laws.the-laws 𝓤 H A W; makes = Laws'4.makes Point2.the-type Laws.the-plain 𝓤 H A; in-mem = Local.mem-whole 𝓤 H A W (Declared.row Point2.the-type); of-mem = Local.whole-mem 𝓤 H A W (Declared.row Point2.the-type) }) (List._∷_ (Value.pVal record { ty = Declared.row Point.the-type; one = Path'.refl; val = Laws'4.val Point.the-type Laws'.the-laws; tells = Laws'4.tells Point.the-type Laws'.the-laws; still = Laws'4.still Point.the-type Laws'.the-copy Exit.yes; row = Rows.whole (Declared.row Point.the-type); rd = λ x. x; mk = λ x. x } λ M 𝓤 H A W. record { copies = Laws'4.copy Point.the-type Laws'.the-copy 𝓤 H A W; lawful = Laws'4.lawful Point.the-type Laws'.the-laws 𝓤 H A W; makes = Laws'4.makes Point.the-type Laws'.the-plain 𝓤 H A; in-mem = Local.mem-whole 𝓤 H A W (Declared.row Point.the-type); of-mem = Local.whole-mem 𝓤 H A W (Declared.row Point.the-type) }) List.[]))))))))))
+
 abbrev pub r : Kinds.RK 8
-r = Value.rVal record { ty = Declared.row StepAnswer.the-type; one = Path'.refl; val = Laws'4.val StepAnswer.the-type Laws'3.the-laws; tells = Laws'4.tells StepAnswer.the-type Laws'3.the-laws; still = Laws'4.still StepAnswer.the-type Laws'3.the-copy Exit.yes; row = Rows.whole (Declared.row StepAnswer.the-type); rd = λ x. x; mk = λ x. x; } λ M 𝓤 H A W. record { copies = Laws'4.copy StepAnswer.the-type Laws'3.the-copy 𝓤 H A W; lawful = Laws'4.lawful StepAnswer.the-type Laws'3.the-laws 𝓤 H A W; makes = Laws'4.makes StepAnswer.the-type Laws'3.the-plain 𝓤 H A; in-mem = Local.mem-whole 𝓤 H A W (Declared.row StepAnswer.the-type); of-mem = Local.whole-mem 𝓤 H A W (Declared.row StepAnswer.the-type); }
+r = Value.rVal record { ty = Declared.row StepAnswer.the-type; one = Path'.refl; val = Laws'4.val StepAnswer.the-type Laws'3.the-laws; tells = Laws'4.tells StepAnswer.the-type Laws'3.the-laws; still = Laws'4.still StepAnswer.the-type Laws'3.the-copy Exit.yes; row = Rows.whole (Declared.row StepAnswer.the-type); rd = λ x. x; mk = λ x. x } λ M 𝓤 H A W. record { copies = Laws'4.copy StepAnswer.the-type Laws'3.the-copy 𝓤 H A W; lawful = Laws'4.lawful StepAnswer.the-type Laws'3.the-laws 𝓤 H A W; makes = Laws'4.makes StepAnswer.the-type Laws'3.the-plain 𝓤 H A; in-mem = Local.mem-whole 𝓤 H A W (Declared.row StepAnswer.the-type); of-mem = Local.whole-mem 𝓤 H A W (Declared.row StepAnswer.the-type) }

@@ -5,16 +5,16 @@ use Rattle.test_mesh.proofs.compare_longs.Statement.{statement}
 use Rattle.test_mesh.proofs.compare_longs.Tie as tie
 
 abbrev Inv-loop : tie.InvT-loop
-Inv-loop text plain row n past place₀ same₀ i₀ place same i = i ≤ 1280
+Inv-loop text row n past place₀ same₀ i₀ place same i = i ≤ 1280
 
 abbrev μ-loop : tie.MeasureT-loop
-μ-loop text plain row n past place₀ same₀ i₀ place same i = 1280 - i
+μ-loop text row n past place₀ same₀ i₀ place same i = 1280 - i
 
 loop-holds : tie.Need-loop-holds Inv-loop μ-loop
 loop-holds c = search needs
 
-due-long-requires : tie.Need-due-long-requires Inv-loop μ-loop
-due-long-requires c κs = search needs
+next-entry-requires : tie.Need-next-entry-requires Inv-loop μ-loop
+next-entry-requires c κs = search needs
 
 mul-same : tie.Need-mul-same Inv-loop μ-loop
 mul-same c = search needs
@@ -47,7 +47,7 @@ compare-longs-spec =
     Inv-loop
     μ-loop
     loop-holds
-    due-long-requires
+    next-entry-requires
     mul-same
     array-read-same
     add-i

@@ -125,22 +125,19 @@ abbrev ty·20 : Syntax.Ty
 ty·20 = Syntax.tyStruct (List._∷_ 109 (List._∷_ 101 (List._∷_ 115 (List._∷_ 104 (List._∷_ 58 (List._∷_ 58 (List._∷_ 67 (List._∷_ 111 (List._∷_ 117 (List._∷_ 110 (List._∷_ 116 (List._∷_ 115 List.[])))))))))))) (Syntax.tcons ty·0 (Syntax.tcons ty·0 (Syntax.tcons ty·0 Syntax.tnil)))
 
 abbrev ty·21 : Syntax.Ty
-ty·21 = Syntax.tyStruct (List._∷_ 109 (List._∷_ 101 (List._∷_ 115 (List._∷_ 104 (List._∷_ 95 (List._∷_ 99 (List._∷_ 104 (List._∷_ 101 (List._∷_ 99 (List._∷_ 107 (List._∷_ 58 (List._∷_ 58 (List._∷_ 82 (List._∷_ 101 (List._∷_ 102 (List._∷_ 117 (List._∷_ 115 (List._∷_ 97 (List._∷_ 108 List.[]))))))))))))))))))) (Syntax.tcons ty·0 (Syntax.tcons ty·0 Syntax.tnil))
+ty·21 = Syntax.tyStruct (List._∷_ 102 (List._∷_ 105 (List._∷_ 110 (List._∷_ 105 (List._∷_ 115 (List._∷_ 104 (List._∷_ 58 (List._∷_ 58 (List._∷_ 84 (List._∷_ 111 (List._∷_ 116 (List._∷_ 97 (List._∷_ 108 (List._∷_ 115 List.[])))))))))))))) (Syntax.tcons ty·0 (Syntax.tcons ty·1 (Syntax.tcons ty·1 Syntax.tnil)))
 
 abbrev ty·22 : Syntax.Ty
-ty·22 = Syntax.tyStruct (List._∷_ 102 (List._∷_ 108 (List._∷_ 105 (List._∷_ 112 (List._∷_ 95 (List._∷_ 99 (List._∷_ 111 (List._∷_ 117 (List._∷_ 110 (List._∷_ 116 (List._∷_ 58 (List._∷_ 58 (List._∷_ 70 (List._∷_ 108 (List._∷_ 105 (List._∷_ 112 (List._∷_ 67 (List._∷_ 111 (List._∷_ 117 (List._∷_ 110 (List._∷_ 116 List.[]))))))))))))))))))))) (Syntax.tcons ty·1 (Syntax.tcons ty·1 Syntax.tnil))
+ty·22 = Syntax.tyStruct (List._∷_ 109 (List._∷_ 101 (List._∷_ 115 (List._∷_ 104 (List._∷_ 95 (List._∷_ 99 (List._∷_ 104 (List._∷_ 101 (List._∷_ 99 (List._∷_ 107 (List._∷_ 58 (List._∷_ 58 (List._∷_ 82 (List._∷_ 101 (List._∷_ 102 (List._∷_ 117 (List._∷_ 115 (List._∷_ 97 (List._∷_ 108 List.[]))))))))))))))))))) (Syntax.tcons ty·0 (Syntax.tcons ty·0 Syntax.tnil))
 
 abbrev ty·23 : Syntax.Ty
-ty·23 = Syntax.tyStruct (List._∷_ 102 (List._∷_ 105 (List._∷_ 116 (List._∷_ 104 (List._∷_ 109 (List._∷_ 111 (List._∷_ 117 (List._∷_ 108 (List._∷_ 58 (List._∷_ 58 (List._∷_ 114 (List._∷_ 101 (List._∷_ 115 (List._∷_ 117 (List._∷_ 108 (List._∷_ 116 (List._∷_ 115 (List._∷_ 58 (List._∷_ 58 (List._∷_ 70 (List._∷_ 105 (List._∷_ 110 (List._∷_ 105 (List._∷_ 115 (List._∷_ 104 (List._∷_ 82 (List._∷_ 101 (List._∷_ 115 (List._∷_ 117 (List._∷_ 108 (List._∷_ 116 List.[]))))))))))))))))))))))))))))))) (Syntax.tcons ty·0 (Syntax.tcons ty·0 (Syntax.tcons ty·0 (Syntax.tcons ty·0 (Syntax.tcons ty·0 (Syntax.tcons ty·0 (Syntax.tcons ty·1 (Syntax.tcons ty·1 (Syntax.tcons ty·1 (Syntax.tcons ty·1 Syntax.tnil))))))))))
+ty·23 = Syntax.tyStruct (List._∷_ 102 (List._∷_ 105 (List._∷_ 116 (List._∷_ 104 (List._∷_ 109 (List._∷_ 111 (List._∷_ 117 (List._∷_ 108 (List._∷_ 58 (List._∷_ 58 (List._∷_ 114 (List._∷_ 101 (List._∷_ 115 (List._∷_ 117 (List._∷_ 108 (List._∷_ 116 (List._∷_ 115 (List._∷_ 58 (List._∷_ 58 (List._∷_ 70 (List._∷_ 105 (List._∷_ 110 (List._∷_ 105 (List._∷_ 115 (List._∷_ 104 (List._∷_ 82 (List._∷_ 101 (List._∷_ 115 (List._∷_ 117 (List._∷_ 108 (List._∷_ 116 List.[]))))))))))))))))))))))))))))))) (Syntax.tcons ty·0 (Syntax.tcons ty·0 (Syntax.tcons ty·0 (Syntax.tcons ty·0 (Syntax.tcons ty·0 (Syntax.tcons ty·0 (Syntax.tcons ty·1 (Syntax.tcons ty·1 Syntax.tnil))))))))
 
 abbrev ty·24 : Syntax.Ty
-ty·24 = Syntax.tyStruct (List._∷_ 102 (List._∷_ 105 (List._∷_ 110 (List._∷_ 105 (List._∷_ 115 (List._∷_ 104 (List._∷_ 58 (List._∷_ 58 (List._∷_ 84 (List._∷_ 111 (List._∷_ 116 (List._∷_ 97 (List._∷_ 108 (List._∷_ 115 List.[])))))))))))))) (Syntax.tcons ty·0 (Syntax.tcons ty·22 (Syntax.tcons ty·22 Syntax.tnil)))
+ty·24 = Syntax.tyEnum (List._∷_ 102 (List._∷_ 105 (List._∷_ 110 (List._∷_ 105 (List._∷_ 115 (List._∷_ 104 (List._∷_ 58 (List._∷_ 58 (List._∷_ 70 (List._∷_ 105 (List._∷_ 110 (List._∷_ 105 (List._∷_ 115 (List._∷_ 104 (List._∷_ 101 (List._∷_ 100 List.[])))))))))))))))) (Syntax.ttcons (Syntax.tcons ty·21 Syntax.tnil) (Syntax.ttcons (Syntax.tcons ty·22 Syntax.tnil) Syntax.ttnil))
 
 abbrev ty·25 : Syntax.Ty
-ty·25 = Syntax.tyEnum (List._∷_ 102 (List._∷_ 105 (List._∷_ 110 (List._∷_ 105 (List._∷_ 115 (List._∷_ 104 (List._∷_ 58 (List._∷_ 58 (List._∷_ 70 (List._∷_ 105 (List._∷_ 110 (List._∷_ 105 (List._∷_ 115 (List._∷_ 104 (List._∷_ 101 (List._∷_ 100 List.[])))))))))))))))) (Syntax.ttcons (Syntax.tcons ty·24 Syntax.tnil) (Syntax.ttcons (Syntax.tcons ty·21 Syntax.tnil) Syntax.ttnil))
-
-abbrev ty·26 : Syntax.Ty
-ty·26 = Syntax.tyStruct (List._∷_ 102 (List._∷_ 105 (List._∷_ 110 (List._∷_ 105 (List._∷_ 115 (List._∷_ 104 (List._∷_ 58 (List._∷_ 58 (List._∷_ 70 (List._∷_ 105 (List._∷_ 110 (List._∷_ 105 (List._∷_ 115 (List._∷_ 104 (List._∷_ 65 (List._∷_ 110 (List._∷_ 115 (List._∷_ 119 (List._∷_ 101 (List._∷_ 114 List.[])))))))))))))))))))) (Syntax.tcons ty·20 (Syntax.tcons ty·25 Syntax.tnil))
+ty·25 = Syntax.tyStruct (List._∷_ 102 (List._∷_ 105 (List._∷_ 110 (List._∷_ 105 (List._∷_ 115 (List._∷_ 104 (List._∷_ 58 (List._∷_ 58 (List._∷_ 70 (List._∷_ 105 (List._∷_ 110 (List._∷_ 105 (List._∷_ 115 (List._∷_ 104 (List._∷_ 65 (List._∷_ 110 (List._∷_ 115 (List._∷_ 119 (List._∷_ 101 (List._∷_ 114 List.[])))))))))))))))))))) (Syntax.tcons ty·20 (Syntax.tcons ty·24 Syntax.tnil))
 
 abbrev pub ps : List.List (Kinds.PK 10)
 ps = List._∷_ (Num.pNum Syntax.w32) (List._∷_ (Num.pNum Syntax.w32) (List._∷_ (Num.pNum Syntax.w32) (List._∷_ (MutSlice.pMutS (Signed.SInt Syntax.w32) 0 tt) (List._∷_ (MutSlice.pMutS (Referent.rtF (Referent.fInt Syntax.w32)) 1 tt) (List._∷_ (MutSlice.pMutS (Referent.rtF (Referent.fInt Syntax.w32)) 2 tt) (List._∷_ (MutSlice.pMutS (Referent.rtF (Referent.fInt Syntax.w32)) 3 tt) (List._∷_ (MutSlice.pMutS ELEM.the-row 4 tt) (List._∷_ (MutSlice.pMutS (Referent.rtF (Referent.fInt Syntax.w32)) 5 tt) (List._∷_ (MutSlice.pMutS (Referent.rtF (Referent.fInt Syntax.w32)) 6 tt) (List._∷_ (MutSlice.pMutS (Referent.rtF (Referent.fInt Syntax.w32)) 7 tt) (List._∷_ (MutSlice.pMutS (Referent.rtF (Referent.fInt Syntax.w64)) 8 tt) (List._∷_ (Float.pFloat Ieee.binary64) (List._∷_ (Float.pFloat Ieee.binary64) (List._∷_ (ShrSlice.pShrS (Signed.SInt Syntax.w32) 9 tt) List.[]))))))))))))))
@@ -149,7 +146,7 @@ abbrev pub r : Kinds.RK 10
 r = Value.rVal record { ty = Declared.row FinishResult.the-type; one = Path'.refl; val = Laws'4.val FinishResult.the-type Laws''.the-laws; tells = Laws'4.tells FinishResult.the-type Laws''.the-laws; still = Laws'4.still FinishResult.the-type Laws''.the-copy Exit.yes; row = Rows.whole (Declared.row FinishResult.the-type); rd = λ x. x; mk = λ x. x } λ M 𝓤 H A W. record { copies = Laws'4.copy FinishResult.the-type Laws''.the-copy 𝓤 H A W; lawful = Laws'4.lawful FinishResult.the-type Laws''.the-laws 𝓤 H A W; makes = Laws'4.makes FinishResult.the-type Laws''.the-plain 𝓤 H A; in-mem = Local.mem-whole 𝓤 H A W (Declared.row FinishResult.the-type); of-mem = Local.whole-mem 𝓤 H A W (Declared.row FinishResult.the-type) }
 
 abbrev pub xs : List.List Syntax.Ty
-xs = List._∷_ ty·20 (List._∷_ ty·19 (List._∷_ ty·26 (List._∷_ ty·3 (List._∷_ ty·16 (List._∷_ ty·3 (List._∷_ ty·16 (List._∷_ ty·3 (List._∷_ ty·16 (List._∷_ ty·3 (List._∷_ ty·16 (List._∷_ ty·14 (List._∷_ ty·18 (List._∷_ ty·3 (List._∷_ ty·16 (List._∷_ ty·3 (List._∷_ ty·16 (List._∷_ ty·3 (List._∷_ ty·16 (List._∷_ ty·4 (List._∷_ ty·17 List.[]))))))))))))))))))))
+xs = List._∷_ ty·20 (List._∷_ ty·19 (List._∷_ ty·25 (List._∷_ ty·3 (List._∷_ ty·16 (List._∷_ ty·3 (List._∷_ ty·16 (List._∷_ ty·3 (List._∷_ ty·16 (List._∷_ ty·3 (List._∷_ ty·16 (List._∷_ ty·14 (List._∷_ ty·18 (List._∷_ ty·3 (List._∷_ ty·16 (List._∷_ ty·3 (List._∷_ ty·16 (List._∷_ ty·3 (List._∷_ ty·16 (List._∷_ ty·4 (List._∷_ ty·17 List.[]))))))))))))))))))))
 
 abbrev pub m : Nat.ℕ
 m = 9
@@ -314,7 +311,7 @@ abbrev pub t0 : List.List Row.Entry
 t0 = List._∷_ (0, Rows.any-gone ty·23) (List._∷_ (1, Rows.sc-here (Row.sInt Syntax.w32)) (List._∷_ (2, Rows.sc-here (Row.sInt Syntax.w32)) (List._∷_ (3, Rows.sc-here (Row.sInt Syntax.w32)) (List._∷_ (4, Mut.mslice (Signed.SInt Syntax.w32) ty·5 0) (List._∷_ (5, Mut.mslice (Referent.rtF (Referent.fInt Syntax.w32)) ty·6 1) (List._∷_ (6, Mut.mslice (Referent.rtF (Referent.fInt Syntax.w32)) ty·7 2) (List._∷_ (7, Mut.mslice (Referent.rtF (Referent.fInt Syntax.w32)) ty·8 3) (List._∷_ (8, Mut.mslice ELEM.the-row ty·15 4) (List._∷_ (9, Mut.mslice (Referent.rtF (Referent.fInt Syntax.w32)) ty·9 5) (List._∷_ (10, Mut.mslice (Referent.rtF (Referent.fInt Syntax.w32)) ty·10 6) (List._∷_ (11, Mut.mslice (Referent.rtF (Referent.fInt Syntax.w32)) ty·11 7) (List._∷_ (12, Mut.mslice (Referent.rtF (Referent.fInt Syntax.w64)) ty·12 8) (List._∷_ (13, Rows.sc-here (Row.sFloat Ieee.binary64)) (List._∷_ (14, Rows.sc-here (Row.sFloat Ieee.binary64)) (List._∷_ (15, Rows.sslice (Signed.SInt Syntax.w32) ty·13 9) List.[])))))))))))))))
 
 abbrev pub t1 : List.List Row.Entry
-t1 = List._∷_ (16, Rows.any-gone ty·20) (List._∷_ (17, Rows.any-gone ty·19) (List._∷_ (18, Rows.any-gone ty·26) (List._∷_ (19, Rows.any-gone ty·3) (List._∷_ (20, Rows.any-gone ty·16) (List._∷_ (21, Rows.any-gone ty·3) (List._∷_ (22, Rows.any-gone ty·16) (List._∷_ (23, Rows.any-gone ty·3) (List._∷_ (24, Rows.any-gone ty·16) (List._∷_ (25, Rows.any-gone ty·3) (List._∷_ (26, Rows.any-gone ty·16) (List._∷_ (27, Rows.any-gone ty·14) (List._∷_ (28, Rows.any-gone ty·18) (List._∷_ (29, Rows.any-gone ty·3) (List._∷_ (30, Rows.any-gone ty·16) (List._∷_ (31, Rows.any-gone ty·3) List.[])))))))))))))))
+t1 = List._∷_ (16, Rows.any-gone ty·20) (List._∷_ (17, Rows.any-gone ty·19) (List._∷_ (18, Rows.any-gone ty·25) (List._∷_ (19, Rows.any-gone ty·3) (List._∷_ (20, Rows.any-gone ty·16) (List._∷_ (21, Rows.any-gone ty·3) (List._∷_ (22, Rows.any-gone ty·16) (List._∷_ (23, Rows.any-gone ty·3) (List._∷_ (24, Rows.any-gone ty·16) (List._∷_ (25, Rows.any-gone ty·3) (List._∷_ (26, Rows.any-gone ty·16) (List._∷_ (27, Rows.any-gone ty·14) (List._∷_ (28, Rows.any-gone ty·18) (List._∷_ (29, Rows.any-gone ty·3) (List._∷_ (30, Rows.any-gone ty·16) (List._∷_ (31, Rows.any-gone ty·3) List.[])))))))))))))))
 
 abbrev pub t2 : List.List Row.Entry
 t2 = List._∷_ (32, Rows.any-gone ty·16) (List._∷_ (33, Rows.any-gone ty·3) (List._∷_ (34, Rows.any-gone ty·16) (List._∷_ (35, Rows.any-gone ty·4) (List._∷_ (36, Rows.any-gone ty·17) List.[]))))
@@ -323,70 +320,70 @@ abbrev pub t3 : List.List Row.Entry
 t3 = List._∷_ (0, Rows.whole (Declared.row FinishResult.the-type)) (List._∷_ (1, Rows.any-gone ty·0) (List._∷_ (2, Rows.any-gone ty·0) (List._∷_ (3, Rows.any-gone ty·0) (List._∷_ (4, Mut.mslice (Signed.SInt Syntax.w32) ty·5 0) (List._∷_ (5, Mut.mslice (Referent.rtF (Referent.fInt Syntax.w32)) ty·6 1) (List._∷_ (6, Mut.mslice (Referent.rtF (Referent.fInt Syntax.w32)) ty·7 2) (List._∷_ (7, Mut.mslice (Referent.rtF (Referent.fInt Syntax.w32)) ty·8 3) (List._∷_ (8, Mut.mslice ELEM.the-row ty·15 4) (List._∷_ (9, Mut.mslice (Referent.rtF (Referent.fInt Syntax.w32)) ty·9 5) (List._∷_ (10, Mut.mslice (Referent.rtF (Referent.fInt Syntax.w32)) ty·10 6) (List._∷_ (11, Mut.mslice (Referent.rtF (Referent.fInt Syntax.w32)) ty·11 7) (List._∷_ (12, Mut.mslice (Referent.rtF (Referent.fInt Syntax.w64)) ty·12 8) (List._∷_ (13, Rows.any-gone ty·2) (List._∷_ (14, Rows.any-gone ty·2) (List._∷_ (15, Rows.sslice (Signed.SInt Syntax.w32) ty·13 9) List.[])))))))))))))))
 
 abbrev pub t4 : List.List Row.Entry
-t4 = List._∷_ (16, Rows.whole (Declared.row (Apart.apartT Counts.the-type))) (List._∷_ (17, Rows.any-gone ty·19) (List._∷_ (18, Rows.any-gone ty·26) (List._∷_ (19, Rows.any-gone ty·3) (List._∷_ (20, Rows.any-gone ty·16) (List._∷_ (21, Rows.any-gone ty·3) (List._∷_ (22, Rows.any-gone ty·16) (List._∷_ (23, Rows.any-gone ty·3) (List._∷_ (24, Rows.any-gone ty·16) (List._∷_ (25, Rows.any-gone ty·3) (List._∷_ (26, Rows.any-gone ty·16) (List._∷_ (27, Rows.any-gone ty·14) (List._∷_ (28, Rows.any-gone ty·18) (List._∷_ (29, Rows.any-gone ty·3) (List._∷_ (30, Rows.any-gone ty·16) (List._∷_ (31, Rows.any-gone ty·3) List.[])))))))))))))))
+t4 = List._∷_ (16, Rows.whole (Declared.row (Apart.apartT Counts.the-type))) (List._∷_ (17, Rows.any-gone ty·19) (List._∷_ (18, Rows.any-gone ty·25) (List._∷_ (19, Rows.any-gone ty·3) (List._∷_ (20, Rows.any-gone ty·16) (List._∷_ (21, Rows.any-gone ty·3) (List._∷_ (22, Rows.any-gone ty·16) (List._∷_ (23, Rows.any-gone ty·3) (List._∷_ (24, Rows.any-gone ty·16) (List._∷_ (25, Rows.any-gone ty·3) (List._∷_ (26, Rows.any-gone ty·16) (List._∷_ (27, Rows.any-gone ty·14) (List._∷_ (28, Rows.any-gone ty·18) (List._∷_ (29, Rows.any-gone ty·3) (List._∷_ (30, Rows.any-gone ty·16) (List._∷_ (31, Rows.any-gone ty·3) List.[])))))))))))))))
 
 abbrev pub t5 : List.List Row.Entry
-t5 = List._∷_ (16, Rows.whole (Declared.row (Apart.apartT Counts.the-type))) (List._∷_ (17, Rows.whole (Declared.row (Apart.apartT Point2.the-type))) (List._∷_ (18, Rows.any-gone ty·26) (List._∷_ (19, Rows.any-gone ty·3) (List._∷_ (20, Rows.any-gone ty·16) (List._∷_ (21, Rows.any-gone ty·3) (List._∷_ (22, Rows.any-gone ty·16) (List._∷_ (23, Rows.any-gone ty·3) (List._∷_ (24, Rows.any-gone ty·16) (List._∷_ (25, Rows.any-gone ty·3) (List._∷_ (26, Rows.any-gone ty·16) (List._∷_ (27, Rows.any-gone ty·14) (List._∷_ (28, Rows.any-gone ty·18) (List._∷_ (29, Rows.any-gone ty·3) (List._∷_ (30, Rows.any-gone ty·16) (List._∷_ (31, Rows.any-gone ty·3) List.[])))))))))))))))
+t5 = List._∷_ (16, Rows.whole (Declared.row (Apart.apartT Counts.the-type))) (List._∷_ (17, Rows.whole (Declared.row (Apart.apartT Point2.the-type))) (List._∷_ (18, Rows.any-gone ty·25) (List._∷_ (19, Rows.any-gone ty·3) (List._∷_ (20, Rows.any-gone ty·16) (List._∷_ (21, Rows.any-gone ty·3) (List._∷_ (22, Rows.any-gone ty·16) (List._∷_ (23, Rows.any-gone ty·3) (List._∷_ (24, Rows.any-gone ty·16) (List._∷_ (25, Rows.any-gone ty·3) (List._∷_ (26, Rows.any-gone ty·16) (List._∷_ (27, Rows.any-gone ty·14) (List._∷_ (28, Rows.any-gone ty·18) (List._∷_ (29, Rows.any-gone ty·3) (List._∷_ (30, Rows.any-gone ty·16) (List._∷_ (31, Rows.any-gone ty·3) List.[])))))))))))))))
 
 abbrev pub t6 : List.List Row.Entry
 t6 = List._∷_ (0, Rows.any-gone ty·23) (List._∷_ (1, Rows.sc-here (Row.sInt Syntax.w32)) (List._∷_ (2, Rows.sc-here (Row.sInt Syntax.w32)) (List._∷_ (3, Rows.sc-here (Row.sInt Syntax.w32)) (List._∷_ (4, Relend.mslice-owed (Signed.SInt Syntax.w32) ty·5 0 10 Row.off) (List._∷_ (5, Mut.mslice (Referent.rtF (Referent.fInt Syntax.w32)) ty·6 1) (List._∷_ (6, Mut.mslice (Referent.rtF (Referent.fInt Syntax.w32)) ty·7 2) (List._∷_ (7, Mut.mslice (Referent.rtF (Referent.fInt Syntax.w32)) ty·8 3) (List._∷_ (8, Mut.mslice ELEM.the-row ty·15 4) (List._∷_ (9, Mut.mslice (Referent.rtF (Referent.fInt Syntax.w32)) ty·9 5) (List._∷_ (10, Mut.mslice (Referent.rtF (Referent.fInt Syntax.w32)) ty·10 6) (List._∷_ (11, Mut.mslice (Referent.rtF (Referent.fInt Syntax.w32)) ty·11 7) (List._∷_ (12, Mut.mslice (Referent.rtF (Referent.fInt Syntax.w64)) ty·12 8) (List._∷_ (13, Rows.sc-here (Row.sFloat Ieee.binary64)) (List._∷_ (14, Rows.sc-here (Row.sFloat Ieee.binary64)) (List._∷_ (15, Rows.sslice (Signed.SInt Syntax.w32) ty·13 9) List.[])))))))))))))))
 
 abbrev pub t7 : List.List Row.Entry
-t7 = List._∷_ (16, Rows.whole (Declared.row (Apart.apartT Counts.the-type))) (List._∷_ (17, Rows.whole (Declared.row (Apart.apartT Point2.the-type))) (List._∷_ (18, Rows.any-gone ty·26) (List._∷_ (19, Relend.msptr (Signed.SInt Syntax.w32) ty·3 10) (List._∷_ (20, Rows.any-gone ty·16) (List._∷_ (21, Rows.any-gone ty·3) (List._∷_ (22, Rows.any-gone ty·16) (List._∷_ (23, Rows.any-gone ty·3) (List._∷_ (24, Rows.any-gone ty·16) (List._∷_ (25, Rows.any-gone ty·3) (List._∷_ (26, Rows.any-gone ty·16) (List._∷_ (27, Rows.any-gone ty·14) (List._∷_ (28, Rows.any-gone ty·18) (List._∷_ (29, Rows.any-gone ty·3) (List._∷_ (30, Rows.any-gone ty·16) (List._∷_ (31, Rows.any-gone ty·3) List.[])))))))))))))))
+t7 = List._∷_ (16, Rows.whole (Declared.row (Apart.apartT Counts.the-type))) (List._∷_ (17, Rows.whole (Declared.row (Apart.apartT Point2.the-type))) (List._∷_ (18, Rows.any-gone ty·25) (List._∷_ (19, Relend.msptr (Signed.SInt Syntax.w32) ty·3 10) (List._∷_ (20, Rows.any-gone ty·16) (List._∷_ (21, Rows.any-gone ty·3) (List._∷_ (22, Rows.any-gone ty·16) (List._∷_ (23, Rows.any-gone ty·3) (List._∷_ (24, Rows.any-gone ty·16) (List._∷_ (25, Rows.any-gone ty·3) (List._∷_ (26, Rows.any-gone ty·16) (List._∷_ (27, Rows.any-gone ty·14) (List._∷_ (28, Rows.any-gone ty·18) (List._∷_ (29, Rows.any-gone ty·3) (List._∷_ (30, Rows.any-gone ty·16) (List._∷_ (31, Rows.any-gone ty·3) List.[])))))))))))))))
 
 abbrev pub t8 : List.List Row.Entry
-t8 = List._∷_ (16, Rows.whole (Declared.row (Apart.apartT Counts.the-type))) (List._∷_ (17, Rows.whole (Declared.row (Apart.apartT Point2.the-type))) (List._∷_ (18, Rows.any-gone ty·26) (List._∷_ (19, Rows.any-gone ty·3) (List._∷_ (20, Mut.mslice (Signed.SInt Syntax.w32) ty·3 10) (List._∷_ (21, Rows.any-gone ty·3) (List._∷_ (22, Rows.any-gone ty·16) (List._∷_ (23, Rows.any-gone ty·3) (List._∷_ (24, Rows.any-gone ty·16) (List._∷_ (25, Rows.any-gone ty·3) (List._∷_ (26, Rows.any-gone ty·16) (List._∷_ (27, Rows.any-gone ty·14) (List._∷_ (28, Rows.any-gone ty·18) (List._∷_ (29, Rows.any-gone ty·3) (List._∷_ (30, Rows.any-gone ty·16) (List._∷_ (31, Rows.any-gone ty·3) List.[])))))))))))))))
+t8 = List._∷_ (16, Rows.whole (Declared.row (Apart.apartT Counts.the-type))) (List._∷_ (17, Rows.whole (Declared.row (Apart.apartT Point2.the-type))) (List._∷_ (18, Rows.any-gone ty·25) (List._∷_ (19, Rows.any-gone ty·3) (List._∷_ (20, Mut.mslice (Signed.SInt Syntax.w32) ty·3 10) (List._∷_ (21, Rows.any-gone ty·3) (List._∷_ (22, Rows.any-gone ty·16) (List._∷_ (23, Rows.any-gone ty·3) (List._∷_ (24, Rows.any-gone ty·16) (List._∷_ (25, Rows.any-gone ty·3) (List._∷_ (26, Rows.any-gone ty·16) (List._∷_ (27, Rows.any-gone ty·14) (List._∷_ (28, Rows.any-gone ty·18) (List._∷_ (29, Rows.any-gone ty·3) (List._∷_ (30, Rows.any-gone ty·16) (List._∷_ (31, Rows.any-gone ty·3) List.[])))))))))))))))
 
 abbrev pub t9 : List.List Row.Entry
 t9 = List._∷_ (0, Rows.any-gone ty·23) (List._∷_ (1, Rows.sc-here (Row.sInt Syntax.w32)) (List._∷_ (2, Rows.sc-here (Row.sInt Syntax.w32)) (List._∷_ (3, Rows.sc-here (Row.sInt Syntax.w32)) (List._∷_ (4, Relend.mslice-owed (Signed.SInt Syntax.w32) ty·5 0 10 Row.off) (List._∷_ (5, Relend.mslice-owed (Referent.rtF (Referent.fInt Syntax.w32)) ty·6 1 11 Row.off) (List._∷_ (6, Mut.mslice (Referent.rtF (Referent.fInt Syntax.w32)) ty·7 2) (List._∷_ (7, Mut.mslice (Referent.rtF (Referent.fInt Syntax.w32)) ty·8 3) (List._∷_ (8, Mut.mslice ELEM.the-row ty·15 4) (List._∷_ (9, Mut.mslice (Referent.rtF (Referent.fInt Syntax.w32)) ty·9 5) (List._∷_ (10, Mut.mslice (Referent.rtF (Referent.fInt Syntax.w32)) ty·10 6) (List._∷_ (11, Mut.mslice (Referent.rtF (Referent.fInt Syntax.w32)) ty·11 7) (List._∷_ (12, Mut.mslice (Referent.rtF (Referent.fInt Syntax.w64)) ty·12 8) (List._∷_ (13, Rows.sc-here (Row.sFloat Ieee.binary64)) (List._∷_ (14, Rows.sc-here (Row.sFloat Ieee.binary64)) (List._∷_ (15, Rows.sslice (Signed.SInt Syntax.w32) ty·13 9) List.[])))))))))))))))
 
 abbrev pub t10 : List.List Row.Entry
-t10 = List._∷_ (16, Rows.whole (Declared.row (Apart.apartT Counts.the-type))) (List._∷_ (17, Rows.whole (Declared.row (Apart.apartT Point2.the-type))) (List._∷_ (18, Rows.any-gone ty·26) (List._∷_ (19, Rows.any-gone ty·3) (List._∷_ (20, Mut.mslice (Signed.SInt Syntax.w32) ty·3 10) (List._∷_ (21, Relend.msptr (Referent.rtF (Referent.fInt Syntax.w32)) ty·3 11) (List._∷_ (22, Rows.any-gone ty·16) (List._∷_ (23, Rows.any-gone ty·3) (List._∷_ (24, Rows.any-gone ty·16) (List._∷_ (25, Rows.any-gone ty·3) (List._∷_ (26, Rows.any-gone ty·16) (List._∷_ (27, Rows.any-gone ty·14) (List._∷_ (28, Rows.any-gone ty·18) (List._∷_ (29, Rows.any-gone ty·3) (List._∷_ (30, Rows.any-gone ty·16) (List._∷_ (31, Rows.any-gone ty·3) List.[])))))))))))))))
+t10 = List._∷_ (16, Rows.whole (Declared.row (Apart.apartT Counts.the-type))) (List._∷_ (17, Rows.whole (Declared.row (Apart.apartT Point2.the-type))) (List._∷_ (18, Rows.any-gone ty·25) (List._∷_ (19, Rows.any-gone ty·3) (List._∷_ (20, Mut.mslice (Signed.SInt Syntax.w32) ty·3 10) (List._∷_ (21, Relend.msptr (Referent.rtF (Referent.fInt Syntax.w32)) ty·3 11) (List._∷_ (22, Rows.any-gone ty·16) (List._∷_ (23, Rows.any-gone ty·3) (List._∷_ (24, Rows.any-gone ty·16) (List._∷_ (25, Rows.any-gone ty·3) (List._∷_ (26, Rows.any-gone ty·16) (List._∷_ (27, Rows.any-gone ty·14) (List._∷_ (28, Rows.any-gone ty·18) (List._∷_ (29, Rows.any-gone ty·3) (List._∷_ (30, Rows.any-gone ty·16) (List._∷_ (31, Rows.any-gone ty·3) List.[])))))))))))))))
 
 abbrev pub t11 : List.List Row.Entry
-t11 = List._∷_ (16, Rows.whole (Declared.row (Apart.apartT Counts.the-type))) (List._∷_ (17, Rows.whole (Declared.row (Apart.apartT Point2.the-type))) (List._∷_ (18, Rows.any-gone ty·26) (List._∷_ (19, Rows.any-gone ty·3) (List._∷_ (20, Mut.mslice (Signed.SInt Syntax.w32) ty·3 10) (List._∷_ (21, Rows.any-gone ty·3) (List._∷_ (22, Mut.mslice (Referent.rtF (Referent.fInt Syntax.w32)) ty·3 11) (List._∷_ (23, Rows.any-gone ty·3) (List._∷_ (24, Rows.any-gone ty·16) (List._∷_ (25, Rows.any-gone ty·3) (List._∷_ (26, Rows.any-gone ty·16) (List._∷_ (27, Rows.any-gone ty·14) (List._∷_ (28, Rows.any-gone ty·18) (List._∷_ (29, Rows.any-gone ty·3) (List._∷_ (30, Rows.any-gone ty·16) (List._∷_ (31, Rows.any-gone ty·3) List.[])))))))))))))))
+t11 = List._∷_ (16, Rows.whole (Declared.row (Apart.apartT Counts.the-type))) (List._∷_ (17, Rows.whole (Declared.row (Apart.apartT Point2.the-type))) (List._∷_ (18, Rows.any-gone ty·25) (List._∷_ (19, Rows.any-gone ty·3) (List._∷_ (20, Mut.mslice (Signed.SInt Syntax.w32) ty·3 10) (List._∷_ (21, Rows.any-gone ty·3) (List._∷_ (22, Mut.mslice (Referent.rtF (Referent.fInt Syntax.w32)) ty·3 11) (List._∷_ (23, Rows.any-gone ty·3) (List._∷_ (24, Rows.any-gone ty·16) (List._∷_ (25, Rows.any-gone ty·3) (List._∷_ (26, Rows.any-gone ty·16) (List._∷_ (27, Rows.any-gone ty·14) (List._∷_ (28, Rows.any-gone ty·18) (List._∷_ (29, Rows.any-gone ty·3) (List._∷_ (30, Rows.any-gone ty·16) (List._∷_ (31, Rows.any-gone ty·3) List.[])))))))))))))))
 
 abbrev pub t12 : List.List Row.Entry
 t12 = List._∷_ (0, Rows.any-gone ty·23) (List._∷_ (1, Rows.sc-here (Row.sInt Syntax.w32)) (List._∷_ (2, Rows.sc-here (Row.sInt Syntax.w32)) (List._∷_ (3, Rows.sc-here (Row.sInt Syntax.w32)) (List._∷_ (4, Relend.mslice-owed (Signed.SInt Syntax.w32) ty·5 0 10 Row.off) (List._∷_ (5, Relend.mslice-owed (Referent.rtF (Referent.fInt Syntax.w32)) ty·6 1 11 Row.off) (List._∷_ (6, Relend.mslice-owed (Referent.rtF (Referent.fInt Syntax.w32)) ty·7 2 12 Row.off) (List._∷_ (7, Mut.mslice (Referent.rtF (Referent.fInt Syntax.w32)) ty·8 3) (List._∷_ (8, Mut.mslice ELEM.the-row ty·15 4) (List._∷_ (9, Mut.mslice (Referent.rtF (Referent.fInt Syntax.w32)) ty·9 5) (List._∷_ (10, Mut.mslice (Referent.rtF (Referent.fInt Syntax.w32)) ty·10 6) (List._∷_ (11, Mut.mslice (Referent.rtF (Referent.fInt Syntax.w32)) ty·11 7) (List._∷_ (12, Mut.mslice (Referent.rtF (Referent.fInt Syntax.w64)) ty·12 8) (List._∷_ (13, Rows.sc-here (Row.sFloat Ieee.binary64)) (List._∷_ (14, Rows.sc-here (Row.sFloat Ieee.binary64)) (List._∷_ (15, Rows.sslice (Signed.SInt Syntax.w32) ty·13 9) List.[])))))))))))))))
 
 abbrev pub t13 : List.List Row.Entry
-t13 = List._∷_ (16, Rows.whole (Declared.row (Apart.apartT Counts.the-type))) (List._∷_ (17, Rows.whole (Declared.row (Apart.apartT Point2.the-type))) (List._∷_ (18, Rows.any-gone ty·26) (List._∷_ (19, Rows.any-gone ty·3) (List._∷_ (20, Mut.mslice (Signed.SInt Syntax.w32) ty·3 10) (List._∷_ (21, Rows.any-gone ty·3) (List._∷_ (22, Mut.mslice (Referent.rtF (Referent.fInt Syntax.w32)) ty·3 11) (List._∷_ (23, Relend.msptr (Referent.rtF (Referent.fInt Syntax.w32)) ty·3 12) (List._∷_ (24, Rows.any-gone ty·16) (List._∷_ (25, Rows.any-gone ty·3) (List._∷_ (26, Rows.any-gone ty·16) (List._∷_ (27, Rows.any-gone ty·14) (List._∷_ (28, Rows.any-gone ty·18) (List._∷_ (29, Rows.any-gone ty·3) (List._∷_ (30, Rows.any-gone ty·16) (List._∷_ (31, Rows.any-gone ty·3) List.[])))))))))))))))
+t13 = List._∷_ (16, Rows.whole (Declared.row (Apart.apartT Counts.the-type))) (List._∷_ (17, Rows.whole (Declared.row (Apart.apartT Point2.the-type))) (List._∷_ (18, Rows.any-gone ty·25) (List._∷_ (19, Rows.any-gone ty·3) (List._∷_ (20, Mut.mslice (Signed.SInt Syntax.w32) ty·3 10) (List._∷_ (21, Rows.any-gone ty·3) (List._∷_ (22, Mut.mslice (Referent.rtF (Referent.fInt Syntax.w32)) ty·3 11) (List._∷_ (23, Relend.msptr (Referent.rtF (Referent.fInt Syntax.w32)) ty·3 12) (List._∷_ (24, Rows.any-gone ty·16) (List._∷_ (25, Rows.any-gone ty·3) (List._∷_ (26, Rows.any-gone ty·16) (List._∷_ (27, Rows.any-gone ty·14) (List._∷_ (28, Rows.any-gone ty·18) (List._∷_ (29, Rows.any-gone ty·3) (List._∷_ (30, Rows.any-gone ty·16) (List._∷_ (31, Rows.any-gone ty·3) List.[])))))))))))))))
 
 abbrev pub t14 : List.List Row.Entry
-t14 = List._∷_ (16, Rows.whole (Declared.row (Apart.apartT Counts.the-type))) (List._∷_ (17, Rows.whole (Declared.row (Apart.apartT Point2.the-type))) (List._∷_ (18, Rows.any-gone ty·26) (List._∷_ (19, Rows.any-gone ty·3) (List._∷_ (20, Mut.mslice (Signed.SInt Syntax.w32) ty·3 10) (List._∷_ (21, Rows.any-gone ty·3) (List._∷_ (22, Mut.mslice (Referent.rtF (Referent.fInt Syntax.w32)) ty·3 11) (List._∷_ (23, Rows.any-gone ty·3) (List._∷_ (24, Mut.mslice (Referent.rtF (Referent.fInt Syntax.w32)) ty·3 12) (List._∷_ (25, Rows.any-gone ty·3) (List._∷_ (26, Rows.any-gone ty·16) (List._∷_ (27, Rows.any-gone ty·14) (List._∷_ (28, Rows.any-gone ty·18) (List._∷_ (29, Rows.any-gone ty·3) (List._∷_ (30, Rows.any-gone ty·16) (List._∷_ (31, Rows.any-gone ty·3) List.[])))))))))))))))
+t14 = List._∷_ (16, Rows.whole (Declared.row (Apart.apartT Counts.the-type))) (List._∷_ (17, Rows.whole (Declared.row (Apart.apartT Point2.the-type))) (List._∷_ (18, Rows.any-gone ty·25) (List._∷_ (19, Rows.any-gone ty·3) (List._∷_ (20, Mut.mslice (Signed.SInt Syntax.w32) ty·3 10) (List._∷_ (21, Rows.any-gone ty·3) (List._∷_ (22, Mut.mslice (Referent.rtF (Referent.fInt Syntax.w32)) ty·3 11) (List._∷_ (23, Rows.any-gone ty·3) (List._∷_ (24, Mut.mslice (Referent.rtF (Referent.fInt Syntax.w32)) ty·3 12) (List._∷_ (25, Rows.any-gone ty·3) (List._∷_ (26, Rows.any-gone ty·16) (List._∷_ (27, Rows.any-gone ty·14) (List._∷_ (28, Rows.any-gone ty·18) (List._∷_ (29, Rows.any-gone ty·3) (List._∷_ (30, Rows.any-gone ty·16) (List._∷_ (31, Rows.any-gone ty·3) List.[])))))))))))))))
 
 abbrev pub t15 : List.List Row.Entry
 t15 = List._∷_ (0, Rows.any-gone ty·23) (List._∷_ (1, Rows.sc-here (Row.sInt Syntax.w32)) (List._∷_ (2, Rows.sc-here (Row.sInt Syntax.w32)) (List._∷_ (3, Rows.sc-here (Row.sInt Syntax.w32)) (List._∷_ (4, Relend.mslice-owed (Signed.SInt Syntax.w32) ty·5 0 10 Row.off) (List._∷_ (5, Relend.mslice-owed (Referent.rtF (Referent.fInt Syntax.w32)) ty·6 1 11 Row.off) (List._∷_ (6, Relend.mslice-owed (Referent.rtF (Referent.fInt Syntax.w32)) ty·7 2 12 Row.off) (List._∷_ (7, Relend.mslice-owed (Referent.rtF (Referent.fInt Syntax.w32)) ty·8 3 13 Row.off) (List._∷_ (8, Mut.mslice ELEM.the-row ty·15 4) (List._∷_ (9, Mut.mslice (Referent.rtF (Referent.fInt Syntax.w32)) ty·9 5) (List._∷_ (10, Mut.mslice (Referent.rtF (Referent.fInt Syntax.w32)) ty·10 6) (List._∷_ (11, Mut.mslice (Referent.rtF (Referent.fInt Syntax.w32)) ty·11 7) (List._∷_ (12, Mut.mslice (Referent.rtF (Referent.fInt Syntax.w64)) ty·12 8) (List._∷_ (13, Rows.sc-here (Row.sFloat Ieee.binary64)) (List._∷_ (14, Rows.sc-here (Row.sFloat Ieee.binary64)) (List._∷_ (15, Rows.sslice (Signed.SInt Syntax.w32) ty·13 9) List.[])))))))))))))))
 
 abbrev pub t16 : List.List Row.Entry
-t16 = List._∷_ (16, Rows.whole (Declared.row (Apart.apartT Counts.the-type))) (List._∷_ (17, Rows.whole (Declared.row (Apart.apartT Point2.the-type))) (List._∷_ (18, Rows.any-gone ty·26) (List._∷_ (19, Rows.any-gone ty·3) (List._∷_ (20, Mut.mslice (Signed.SInt Syntax.w32) ty·3 10) (List._∷_ (21, Rows.any-gone ty·3) (List._∷_ (22, Mut.mslice (Referent.rtF (Referent.fInt Syntax.w32)) ty·3 11) (List._∷_ (23, Rows.any-gone ty·3) (List._∷_ (24, Mut.mslice (Referent.rtF (Referent.fInt Syntax.w32)) ty·3 12) (List._∷_ (25, Relend.msptr (Referent.rtF (Referent.fInt Syntax.w32)) ty·3 13) (List._∷_ (26, Rows.any-gone ty·16) (List._∷_ (27, Rows.any-gone ty·14) (List._∷_ (28, Rows.any-gone ty·18) (List._∷_ (29, Rows.any-gone ty·3) (List._∷_ (30, Rows.any-gone ty·16) (List._∷_ (31, Rows.any-gone ty·3) List.[])))))))))))))))
+t16 = List._∷_ (16, Rows.whole (Declared.row (Apart.apartT Counts.the-type))) (List._∷_ (17, Rows.whole (Declared.row (Apart.apartT Point2.the-type))) (List._∷_ (18, Rows.any-gone ty·25) (List._∷_ (19, Rows.any-gone ty·3) (List._∷_ (20, Mut.mslice (Signed.SInt Syntax.w32) ty·3 10) (List._∷_ (21, Rows.any-gone ty·3) (List._∷_ (22, Mut.mslice (Referent.rtF (Referent.fInt Syntax.w32)) ty·3 11) (List._∷_ (23, Rows.any-gone ty·3) (List._∷_ (24, Mut.mslice (Referent.rtF (Referent.fInt Syntax.w32)) ty·3 12) (List._∷_ (25, Relend.msptr (Referent.rtF (Referent.fInt Syntax.w32)) ty·3 13) (List._∷_ (26, Rows.any-gone ty·16) (List._∷_ (27, Rows.any-gone ty·14) (List._∷_ (28, Rows.any-gone ty·18) (List._∷_ (29, Rows.any-gone ty·3) (List._∷_ (30, Rows.any-gone ty·16) (List._∷_ (31, Rows.any-gone ty·3) List.[])))))))))))))))
 
 abbrev pub t17 : List.List Row.Entry
-t17 = List._∷_ (16, Rows.whole (Declared.row (Apart.apartT Counts.the-type))) (List._∷_ (17, Rows.whole (Declared.row (Apart.apartT Point2.the-type))) (List._∷_ (18, Rows.any-gone ty·26) (List._∷_ (19, Rows.any-gone ty·3) (List._∷_ (20, Mut.mslice (Signed.SInt Syntax.w32) ty·3 10) (List._∷_ (21, Rows.any-gone ty·3) (List._∷_ (22, Mut.mslice (Referent.rtF (Referent.fInt Syntax.w32)) ty·3 11) (List._∷_ (23, Rows.any-gone ty·3) (List._∷_ (24, Mut.mslice (Referent.rtF (Referent.fInt Syntax.w32)) ty·3 12) (List._∷_ (25, Rows.any-gone ty·3) (List._∷_ (26, Mut.mslice (Referent.rtF (Referent.fInt Syntax.w32)) ty·3 13) (List._∷_ (27, Rows.any-gone ty·14) (List._∷_ (28, Rows.any-gone ty·18) (List._∷_ (29, Rows.any-gone ty·3) (List._∷_ (30, Rows.any-gone ty·16) (List._∷_ (31, Rows.any-gone ty·3) List.[])))))))))))))))
+t17 = List._∷_ (16, Rows.whole (Declared.row (Apart.apartT Counts.the-type))) (List._∷_ (17, Rows.whole (Declared.row (Apart.apartT Point2.the-type))) (List._∷_ (18, Rows.any-gone ty·25) (List._∷_ (19, Rows.any-gone ty·3) (List._∷_ (20, Mut.mslice (Signed.SInt Syntax.w32) ty·3 10) (List._∷_ (21, Rows.any-gone ty·3) (List._∷_ (22, Mut.mslice (Referent.rtF (Referent.fInt Syntax.w32)) ty·3 11) (List._∷_ (23, Rows.any-gone ty·3) (List._∷_ (24, Mut.mslice (Referent.rtF (Referent.fInt Syntax.w32)) ty·3 12) (List._∷_ (25, Rows.any-gone ty·3) (List._∷_ (26, Mut.mslice (Referent.rtF (Referent.fInt Syntax.w32)) ty·3 13) (List._∷_ (27, Rows.any-gone ty·14) (List._∷_ (28, Rows.any-gone ty·18) (List._∷_ (29, Rows.any-gone ty·3) (List._∷_ (30, Rows.any-gone ty·16) (List._∷_ (31, Rows.any-gone ty·3) List.[])))))))))))))))
 
 abbrev pub t18 : List.List Row.Entry
 t18 = List._∷_ (0, Rows.any-gone ty·23) (List._∷_ (1, Rows.sc-here (Row.sInt Syntax.w32)) (List._∷_ (2, Rows.sc-here (Row.sInt Syntax.w32)) (List._∷_ (3, Rows.sc-here (Row.sInt Syntax.w32)) (List._∷_ (4, Relend.mslice-owed (Signed.SInt Syntax.w32) ty·5 0 10 Row.off) (List._∷_ (5, Relend.mslice-owed (Referent.rtF (Referent.fInt Syntax.w32)) ty·6 1 11 Row.off) (List._∷_ (6, Relend.mslice-owed (Referent.rtF (Referent.fInt Syntax.w32)) ty·7 2 12 Row.off) (List._∷_ (7, Relend.mslice-owed (Referent.rtF (Referent.fInt Syntax.w32)) ty·8 3 13 Row.off) (List._∷_ (8, Relend.mslice-owed ELEM.the-row ty·15 4 14 Row.off) (List._∷_ (9, Mut.mslice (Referent.rtF (Referent.fInt Syntax.w32)) ty·9 5) (List._∷_ (10, Mut.mslice (Referent.rtF (Referent.fInt Syntax.w32)) ty·10 6) (List._∷_ (11, Mut.mslice (Referent.rtF (Referent.fInt Syntax.w32)) ty·11 7) (List._∷_ (12, Mut.mslice (Referent.rtF (Referent.fInt Syntax.w64)) ty·12 8) (List._∷_ (13, Rows.sc-here (Row.sFloat Ieee.binary64)) (List._∷_ (14, Rows.sc-here (Row.sFloat Ieee.binary64)) (List._∷_ (15, Rows.sslice (Signed.SInt Syntax.w32) ty·13 9) List.[])))))))))))))))
 
 abbrev pub t19 : List.List Row.Entry
-t19 = List._∷_ (16, Rows.whole (Declared.row (Apart.apartT Counts.the-type))) (List._∷_ (17, Rows.whole (Declared.row (Apart.apartT Point2.the-type))) (List._∷_ (18, Rows.any-gone ty·26) (List._∷_ (19, Rows.any-gone ty·3) (List._∷_ (20, Mut.mslice (Signed.SInt Syntax.w32) ty·3 10) (List._∷_ (21, Rows.any-gone ty·3) (List._∷_ (22, Mut.mslice (Referent.rtF (Referent.fInt Syntax.w32)) ty·3 11) (List._∷_ (23, Rows.any-gone ty·3) (List._∷_ (24, Mut.mslice (Referent.rtF (Referent.fInt Syntax.w32)) ty·3 12) (List._∷_ (25, Rows.any-gone ty·3) (List._∷_ (26, Mut.mslice (Referent.rtF (Referent.fInt Syntax.w32)) ty·3 13) (List._∷_ (27, Relend.msptr ELEM.the-row ty·14 14) (List._∷_ (28, Rows.any-gone ty·18) (List._∷_ (29, Rows.any-gone ty·3) (List._∷_ (30, Rows.any-gone ty·16) (List._∷_ (31, Rows.any-gone ty·3) List.[])))))))))))))))
+t19 = List._∷_ (16, Rows.whole (Declared.row (Apart.apartT Counts.the-type))) (List._∷_ (17, Rows.whole (Declared.row (Apart.apartT Point2.the-type))) (List._∷_ (18, Rows.any-gone ty·25) (List._∷_ (19, Rows.any-gone ty·3) (List._∷_ (20, Mut.mslice (Signed.SInt Syntax.w32) ty·3 10) (List._∷_ (21, Rows.any-gone ty·3) (List._∷_ (22, Mut.mslice (Referent.rtF (Referent.fInt Syntax.w32)) ty·3 11) (List._∷_ (23, Rows.any-gone ty·3) (List._∷_ (24, Mut.mslice (Referent.rtF (Referent.fInt Syntax.w32)) ty·3 12) (List._∷_ (25, Rows.any-gone ty·3) (List._∷_ (26, Mut.mslice (Referent.rtF (Referent.fInt Syntax.w32)) ty·3 13) (List._∷_ (27, Relend.msptr ELEM.the-row ty·14 14) (List._∷_ (28, Rows.any-gone ty·18) (List._∷_ (29, Rows.any-gone ty·3) (List._∷_ (30, Rows.any-gone ty·16) (List._∷_ (31, Rows.any-gone ty·3) List.[])))))))))))))))
 
 abbrev pub t20 : List.List Row.Entry
-t20 = List._∷_ (16, Rows.whole (Declared.row (Apart.apartT Counts.the-type))) (List._∷_ (17, Rows.whole (Declared.row (Apart.apartT Point2.the-type))) (List._∷_ (18, Rows.any-gone ty·26) (List._∷_ (19, Rows.any-gone ty·3) (List._∷_ (20, Mut.mslice (Signed.SInt Syntax.w32) ty·3 10) (List._∷_ (21, Rows.any-gone ty·3) (List._∷_ (22, Mut.mslice (Referent.rtF (Referent.fInt Syntax.w32)) ty·3 11) (List._∷_ (23, Rows.any-gone ty·3) (List._∷_ (24, Mut.mslice (Referent.rtF (Referent.fInt Syntax.w32)) ty·3 12) (List._∷_ (25, Rows.any-gone ty·3) (List._∷_ (26, Mut.mslice (Referent.rtF (Referent.fInt Syntax.w32)) ty·3 13) (List._∷_ (27, Rows.any-gone ty·14) (List._∷_ (28, Mut.mslice ELEM.the-row ty·14 14) (List._∷_ (29, Rows.any-gone ty·3) (List._∷_ (30, Rows.any-gone ty·16) (List._∷_ (31, Rows.any-gone ty·3) List.[])))))))))))))))
+t20 = List._∷_ (16, Rows.whole (Declared.row (Apart.apartT Counts.the-type))) (List._∷_ (17, Rows.whole (Declared.row (Apart.apartT Point2.the-type))) (List._∷_ (18, Rows.any-gone ty·25) (List._∷_ (19, Rows.any-gone ty·3) (List._∷_ (20, Mut.mslice (Signed.SInt Syntax.w32) ty·3 10) (List._∷_ (21, Rows.any-gone ty·3) (List._∷_ (22, Mut.mslice (Referent.rtF (Referent.fInt Syntax.w32)) ty·3 11) (List._∷_ (23, Rows.any-gone ty·3) (List._∷_ (24, Mut.mslice (Referent.rtF (Referent.fInt Syntax.w32)) ty·3 12) (List._∷_ (25, Rows.any-gone ty·3) (List._∷_ (26, Mut.mslice (Referent.rtF (Referent.fInt Syntax.w32)) ty·3 13) (List._∷_ (27, Rows.any-gone ty·14) (List._∷_ (28, Mut.mslice ELEM.the-row ty·14 14) (List._∷_ (29, Rows.any-gone ty·3) (List._∷_ (30, Rows.any-gone ty·16) (List._∷_ (31, Rows.any-gone ty·3) List.[])))))))))))))))
 
 abbrev pub t21 : List.List Row.Entry
 t21 = List._∷_ (0, Rows.any-gone ty·23) (List._∷_ (1, Rows.sc-here (Row.sInt Syntax.w32)) (List._∷_ (2, Rows.sc-here (Row.sInt Syntax.w32)) (List._∷_ (3, Rows.sc-here (Row.sInt Syntax.w32)) (List._∷_ (4, Relend.mslice-owed (Signed.SInt Syntax.w32) ty·5 0 10 Row.off) (List._∷_ (5, Relend.mslice-owed (Referent.rtF (Referent.fInt Syntax.w32)) ty·6 1 11 Row.off) (List._∷_ (6, Relend.mslice-owed (Referent.rtF (Referent.fInt Syntax.w32)) ty·7 2 12 Row.off) (List._∷_ (7, Relend.mslice-owed (Referent.rtF (Referent.fInt Syntax.w32)) ty·8 3 13 Row.off) (List._∷_ (8, Relend.mslice-owed ELEM.the-row ty·15 4 14 Row.off) (List._∷_ (9, Relend.mslice-owed (Referent.rtF (Referent.fInt Syntax.w32)) ty·9 5 15 Row.off) (List._∷_ (10, Mut.mslice (Referent.rtF (Referent.fInt Syntax.w32)) ty·10 6) (List._∷_ (11, Mut.mslice (Referent.rtF (Referent.fInt Syntax.w32)) ty·11 7) (List._∷_ (12, Mut.mslice (Referent.rtF (Referent.fInt Syntax.w64)) ty·12 8) (List._∷_ (13, Rows.sc-here (Row.sFloat Ieee.binary64)) (List._∷_ (14, Rows.sc-here (Row.sFloat Ieee.binary64)) (List._∷_ (15, Rows.sslice (Signed.SInt Syntax.w32) ty·13 9) List.[])))))))))))))))
 
 abbrev pub t22 : List.List Row.Entry
-t22 = List._∷_ (16, Rows.whole (Declared.row (Apart.apartT Counts.the-type))) (List._∷_ (17, Rows.whole (Declared.row (Apart.apartT Point2.the-type))) (List._∷_ (18, Rows.any-gone ty·26) (List._∷_ (19, Rows.any-gone ty·3) (List._∷_ (20, Mut.mslice (Signed.SInt Syntax.w32) ty·3 10) (List._∷_ (21, Rows.any-gone ty·3) (List._∷_ (22, Mut.mslice (Referent.rtF (Referent.fInt Syntax.w32)) ty·3 11) (List._∷_ (23, Rows.any-gone ty·3) (List._∷_ (24, Mut.mslice (Referent.rtF (Referent.fInt Syntax.w32)) ty·3 12) (List._∷_ (25, Rows.any-gone ty·3) (List._∷_ (26, Mut.mslice (Referent.rtF (Referent.fInt Syntax.w32)) ty·3 13) (List._∷_ (27, Rows.any-gone ty·14) (List._∷_ (28, Mut.mslice ELEM.the-row ty·14 14) (List._∷_ (29, Relend.msptr (Referent.rtF (Referent.fInt Syntax.w32)) ty·3 15) (List._∷_ (30, Rows.any-gone ty·16) (List._∷_ (31, Rows.any-gone ty·3) List.[])))))))))))))))
+t22 = List._∷_ (16, Rows.whole (Declared.row (Apart.apartT Counts.the-type))) (List._∷_ (17, Rows.whole (Declared.row (Apart.apartT Point2.the-type))) (List._∷_ (18, Rows.any-gone ty·25) (List._∷_ (19, Rows.any-gone ty·3) (List._∷_ (20, Mut.mslice (Signed.SInt Syntax.w32) ty·3 10) (List._∷_ (21, Rows.any-gone ty·3) (List._∷_ (22, Mut.mslice (Referent.rtF (Referent.fInt Syntax.w32)) ty·3 11) (List._∷_ (23, Rows.any-gone ty·3) (List._∷_ (24, Mut.mslice (Referent.rtF (Referent.fInt Syntax.w32)) ty·3 12) (List._∷_ (25, Rows.any-gone ty·3) (List._∷_ (26, Mut.mslice (Referent.rtF (Referent.fInt Syntax.w32)) ty·3 13) (List._∷_ (27, Rows.any-gone ty·14) (List._∷_ (28, Mut.mslice ELEM.the-row ty·14 14) (List._∷_ (29, Relend.msptr (Referent.rtF (Referent.fInt Syntax.w32)) ty·3 15) (List._∷_ (30, Rows.any-gone ty·16) (List._∷_ (31, Rows.any-gone ty·3) List.[])))))))))))))))
 
 abbrev pub t23 : List.List Row.Entry
-t23 = List._∷_ (16, Rows.whole (Declared.row (Apart.apartT Counts.the-type))) (List._∷_ (17, Rows.whole (Declared.row (Apart.apartT Point2.the-type))) (List._∷_ (18, Rows.any-gone ty·26) (List._∷_ (19, Rows.any-gone ty·3) (List._∷_ (20, Mut.mslice (Signed.SInt Syntax.w32) ty·3 10) (List._∷_ (21, Rows.any-gone ty·3) (List._∷_ (22, Mut.mslice (Referent.rtF (Referent.fInt Syntax.w32)) ty·3 11) (List._∷_ (23, Rows.any-gone ty·3) (List._∷_ (24, Mut.mslice (Referent.rtF (Referent.fInt Syntax.w32)) ty·3 12) (List._∷_ (25, Rows.any-gone ty·3) (List._∷_ (26, Mut.mslice (Referent.rtF (Referent.fInt Syntax.w32)) ty·3 13) (List._∷_ (27, Rows.any-gone ty·14) (List._∷_ (28, Mut.mslice ELEM.the-row ty·14 14) (List._∷_ (29, Rows.any-gone ty·3) (List._∷_ (30, Mut.mslice (Referent.rtF (Referent.fInt Syntax.w32)) ty·3 15) (List._∷_ (31, Rows.any-gone ty·3) List.[])))))))))))))))
+t23 = List._∷_ (16, Rows.whole (Declared.row (Apart.apartT Counts.the-type))) (List._∷_ (17, Rows.whole (Declared.row (Apart.apartT Point2.the-type))) (List._∷_ (18, Rows.any-gone ty·25) (List._∷_ (19, Rows.any-gone ty·3) (List._∷_ (20, Mut.mslice (Signed.SInt Syntax.w32) ty·3 10) (List._∷_ (21, Rows.any-gone ty·3) (List._∷_ (22, Mut.mslice (Referent.rtF (Referent.fInt Syntax.w32)) ty·3 11) (List._∷_ (23, Rows.any-gone ty·3) (List._∷_ (24, Mut.mslice (Referent.rtF (Referent.fInt Syntax.w32)) ty·3 12) (List._∷_ (25, Rows.any-gone ty·3) (List._∷_ (26, Mut.mslice (Referent.rtF (Referent.fInt Syntax.w32)) ty·3 13) (List._∷_ (27, Rows.any-gone ty·14) (List._∷_ (28, Mut.mslice ELEM.the-row ty·14 14) (List._∷_ (29, Rows.any-gone ty·3) (List._∷_ (30, Mut.mslice (Referent.rtF (Referent.fInt Syntax.w32)) ty·3 15) (List._∷_ (31, Rows.any-gone ty·3) List.[])))))))))))))))
 
 abbrev pub t24 : List.List Row.Entry
 t24 = List._∷_ (0, Rows.any-gone ty·23) (List._∷_ (1, Rows.sc-here (Row.sInt Syntax.w32)) (List._∷_ (2, Rows.sc-here (Row.sInt Syntax.w32)) (List._∷_ (3, Rows.sc-here (Row.sInt Syntax.w32)) (List._∷_ (4, Relend.mslice-owed (Signed.SInt Syntax.w32) ty·5 0 10 Row.off) (List._∷_ (5, Relend.mslice-owed (Referent.rtF (Referent.fInt Syntax.w32)) ty·6 1 11 Row.off) (List._∷_ (6, Relend.mslice-owed (Referent.rtF (Referent.fInt Syntax.w32)) ty·7 2 12 Row.off) (List._∷_ (7, Relend.mslice-owed (Referent.rtF (Referent.fInt Syntax.w32)) ty·8 3 13 Row.off) (List._∷_ (8, Relend.mslice-owed ELEM.the-row ty·15 4 14 Row.off) (List._∷_ (9, Relend.mslice-owed (Referent.rtF (Referent.fInt Syntax.w32)) ty·9 5 15 Row.off) (List._∷_ (10, Relend.mslice-owed (Referent.rtF (Referent.fInt Syntax.w32)) ty·10 6 16 Row.off) (List._∷_ (11, Mut.mslice (Referent.rtF (Referent.fInt Syntax.w32)) ty·11 7) (List._∷_ (12, Mut.mslice (Referent.rtF (Referent.fInt Syntax.w64)) ty·12 8) (List._∷_ (13, Rows.sc-here (Row.sFloat Ieee.binary64)) (List._∷_ (14, Rows.sc-here (Row.sFloat Ieee.binary64)) (List._∷_ (15, Rows.sslice (Signed.SInt Syntax.w32) ty·13 9) List.[])))))))))))))))
 
 abbrev pub t25 : List.List Row.Entry
-t25 = List._∷_ (16, Rows.whole (Declared.row (Apart.apartT Counts.the-type))) (List._∷_ (17, Rows.whole (Declared.row (Apart.apartT Point2.the-type))) (List._∷_ (18, Rows.any-gone ty·26) (List._∷_ (19, Rows.any-gone ty·3) (List._∷_ (20, Mut.mslice (Signed.SInt Syntax.w32) ty·3 10) (List._∷_ (21, Rows.any-gone ty·3) (List._∷_ (22, Mut.mslice (Referent.rtF (Referent.fInt Syntax.w32)) ty·3 11) (List._∷_ (23, Rows.any-gone ty·3) (List._∷_ (24, Mut.mslice (Referent.rtF (Referent.fInt Syntax.w32)) ty·3 12) (List._∷_ (25, Rows.any-gone ty·3) (List._∷_ (26, Mut.mslice (Referent.rtF (Referent.fInt Syntax.w32)) ty·3 13) (List._∷_ (27, Rows.any-gone ty·14) (List._∷_ (28, Mut.mslice ELEM.the-row ty·14 14) (List._∷_ (29, Rows.any-gone ty·3) (List._∷_ (30, Mut.mslice (Referent.rtF (Referent.fInt Syntax.w32)) ty·3 15) (List._∷_ (31, Relend.msptr (Referent.rtF (Referent.fInt Syntax.w32)) ty·3 16) List.[])))))))))))))))
+t25 = List._∷_ (16, Rows.whole (Declared.row (Apart.apartT Counts.the-type))) (List._∷_ (17, Rows.whole (Declared.row (Apart.apartT Point2.the-type))) (List._∷_ (18, Rows.any-gone ty·25) (List._∷_ (19, Rows.any-gone ty·3) (List._∷_ (20, Mut.mslice (Signed.SInt Syntax.w32) ty·3 10) (List._∷_ (21, Rows.any-gone ty·3) (List._∷_ (22, Mut.mslice (Referent.rtF (Referent.fInt Syntax.w32)) ty·3 11) (List._∷_ (23, Rows.any-gone ty·3) (List._∷_ (24, Mut.mslice (Referent.rtF (Referent.fInt Syntax.w32)) ty·3 12) (List._∷_ (25, Rows.any-gone ty·3) (List._∷_ (26, Mut.mslice (Referent.rtF (Referent.fInt Syntax.w32)) ty·3 13) (List._∷_ (27, Rows.any-gone ty·14) (List._∷_ (28, Mut.mslice ELEM.the-row ty·14 14) (List._∷_ (29, Rows.any-gone ty·3) (List._∷_ (30, Mut.mslice (Referent.rtF (Referent.fInt Syntax.w32)) ty·3 15) (List._∷_ (31, Relend.msptr (Referent.rtF (Referent.fInt Syntax.w32)) ty·3 16) List.[])))))))))))))))
 
 abbrev pub t26 : List.List Row.Entry
 t26 = List._∷_ (32, Mut.mslice (Referent.rtF (Referent.fInt Syntax.w32)) ty·3 16) (List._∷_ (33, Rows.any-gone ty·3) (List._∷_ (34, Rows.any-gone ty·16) (List._∷_ (35, Rows.any-gone ty·4) (List._∷_ (36, Rows.any-gone ty·17) List.[]))))
@@ -410,10 +407,10 @@ abbrev pub t32 : List.List Row.Entry
 t32 = List._∷_ (32, Mut.mslice (Referent.rtF (Referent.fInt Syntax.w32)) ty·3 16) (List._∷_ (33, Rows.any-gone ty·3) (List._∷_ (34, Mut.mslice (Referent.rtF (Referent.fInt Syntax.w32)) ty·3 17) (List._∷_ (35, Rows.any-gone ty·4) (List._∷_ (36, Mut.mslice (Referent.rtF (Referent.fInt Syntax.w64)) ty·4 18) List.[]))))
 
 abbrev pub t33 : List.List Row.Entry
-t33 = List._∷_ (16, Rows.whole (Declared.row Counts.the-type)) (List._∷_ (17, Rows.whole (Declared.row (Apart.apartT Point2.the-type))) (List._∷_ (18, Rows.any-gone ty·26) (List._∷_ (19, Rows.any-gone ty·3) (List._∷_ (20, Mut.mslice (Signed.SInt Syntax.w32) ty·3 10) (List._∷_ (21, Rows.any-gone ty·3) (List._∷_ (22, Mut.mslice (Referent.rtF (Referent.fInt Syntax.w32)) ty·3 11) (List._∷_ (23, Rows.any-gone ty·3) (List._∷_ (24, Mut.mslice (Referent.rtF (Referent.fInt Syntax.w32)) ty·3 12) (List._∷_ (25, Rows.any-gone ty·3) (List._∷_ (26, Mut.mslice (Referent.rtF (Referent.fInt Syntax.w32)) ty·3 13) (List._∷_ (27, Rows.any-gone ty·14) (List._∷_ (28, Mut.mslice ELEM.the-row ty·14 14) (List._∷_ (29, Rows.any-gone ty·3) (List._∷_ (30, Mut.mslice (Referent.rtF (Referent.fInt Syntax.w32)) ty·3 15) (List._∷_ (31, Rows.any-gone ty·3) List.[])))))))))))))))
+t33 = List._∷_ (16, Rows.whole (Declared.row Counts.the-type)) (List._∷_ (17, Rows.whole (Declared.row (Apart.apartT Point2.the-type))) (List._∷_ (18, Rows.any-gone ty·25) (List._∷_ (19, Rows.any-gone ty·3) (List._∷_ (20, Mut.mslice (Signed.SInt Syntax.w32) ty·3 10) (List._∷_ (21, Rows.any-gone ty·3) (List._∷_ (22, Mut.mslice (Referent.rtF (Referent.fInt Syntax.w32)) ty·3 11) (List._∷_ (23, Rows.any-gone ty·3) (List._∷_ (24, Mut.mslice (Referent.rtF (Referent.fInt Syntax.w32)) ty·3 12) (List._∷_ (25, Rows.any-gone ty·3) (List._∷_ (26, Mut.mslice (Referent.rtF (Referent.fInt Syntax.w32)) ty·3 13) (List._∷_ (27, Rows.any-gone ty·14) (List._∷_ (28, Mut.mslice ELEM.the-row ty·14 14) (List._∷_ (29, Rows.any-gone ty·3) (List._∷_ (30, Mut.mslice (Referent.rtF (Referent.fInt Syntax.w32)) ty·3 15) (List._∷_ (31, Rows.any-gone ty·3) List.[])))))))))))))))
 
 abbrev pub t34 : List.List Row.Entry
-t34 = List._∷_ (16, Rows.whole (Declared.row Counts.the-type)) (List._∷_ (17, Rows.whole (Declared.row Point2.the-type)) (List._∷_ (18, Rows.any-gone ty·26) (List._∷_ (19, Rows.any-gone ty·3) (List._∷_ (20, Mut.mslice (Signed.SInt Syntax.w32) ty·3 10) (List._∷_ (21, Rows.any-gone ty·3) (List._∷_ (22, Mut.mslice (Referent.rtF (Referent.fInt Syntax.w32)) ty·3 11) (List._∷_ (23, Rows.any-gone ty·3) (List._∷_ (24, Mut.mslice (Referent.rtF (Referent.fInt Syntax.w32)) ty·3 12) (List._∷_ (25, Rows.any-gone ty·3) (List._∷_ (26, Mut.mslice (Referent.rtF (Referent.fInt Syntax.w32)) ty·3 13) (List._∷_ (27, Rows.any-gone ty·14) (List._∷_ (28, Mut.mslice ELEM.the-row ty·14 14) (List._∷_ (29, Rows.any-gone ty·3) (List._∷_ (30, Mut.mslice (Referent.rtF (Referent.fInt Syntax.w32)) ty·3 15) (List._∷_ (31, Rows.any-gone ty·3) List.[])))))))))))))))
+t34 = List._∷_ (16, Rows.whole (Declared.row Counts.the-type)) (List._∷_ (17, Rows.whole (Declared.row Point2.the-type)) (List._∷_ (18, Rows.any-gone ty·25) (List._∷_ (19, Rows.any-gone ty·3) (List._∷_ (20, Mut.mslice (Signed.SInt Syntax.w32) ty·3 10) (List._∷_ (21, Rows.any-gone ty·3) (List._∷_ (22, Mut.mslice (Referent.rtF (Referent.fInt Syntax.w32)) ty·3 11) (List._∷_ (23, Rows.any-gone ty·3) (List._∷_ (24, Mut.mslice (Referent.rtF (Referent.fInt Syntax.w32)) ty·3 12) (List._∷_ (25, Rows.any-gone ty·3) (List._∷_ (26, Mut.mslice (Referent.rtF (Referent.fInt Syntax.w32)) ty·3 13) (List._∷_ (27, Rows.any-gone ty·14) (List._∷_ (28, Mut.mslice ELEM.the-row ty·14 14) (List._∷_ (29, Rows.any-gone ty·3) (List._∷_ (30, Mut.mslice (Referent.rtF (Referent.fInt Syntax.w32)) ty·3 15) (List._∷_ (31, Rows.any-gone ty·3) List.[])))))))))))))))
 
 abbrev pub t35 : List.List Row.Entry
 t35 = List._∷_ (16, Rows.whole (Declared.row Counts.the-type)) (List._∷_ (17, Rows.whole (Declared.row Point2.the-type)) (List._∷_ (18, Rows.whole (Declared.row FinishAnswer.the-type)) (List._∷_ (19, Rows.any-gone ty·3) (List._∷_ (20, Mut.msleft (Signed.SInt Syntax.w32) ty·3) (List._∷_ (21, Rows.any-gone ty·3) (List._∷_ (22, Mut.msleft (Referent.rtF (Referent.fInt Syntax.w32)) ty·3) (List._∷_ (23, Rows.any-gone ty·3) (List._∷_ (24, Mut.msleft (Referent.rtF (Referent.fInt Syntax.w32)) ty·3) (List._∷_ (25, Rows.any-gone ty·3) (List._∷_ (26, Mut.msleft (Referent.rtF (Referent.fInt Syntax.w32)) ty·3) (List._∷_ (27, Rows.any-gone ty·14) (List._∷_ (28, Mut.msleft ELEM.the-row ty·14) (List._∷_ (29, Rows.any-gone ty·3) (List._∷_ (30, Mut.msleft (Referent.rtF (Referent.fInt Syntax.w32)) ty·3) (List._∷_ (31, Rows.any-gone ty·3) List.[])))))))))))))))
@@ -753,7 +750,7 @@ module _ (claims· : Claims) where
   s37 = AtSlots.n-as-by T38 17 (Rows.whole (Declared.row Point2.the-type)) λ v. Point2.struct .make v tt
 
   abbrev s38 : Typed.Both T39 T40
-  s38 = Call.callB ps·0 r·0 (claims· .0) (claims· .1) T39 (record { pos = 16; st = List.[]; d = 0; at = λ x. x }, (record { pos = 20; ty = Syntax.tyRef Syntax.erased Syntax.mut ty·0; ref = λ x. x }, (record { pos = 22; ty = Syntax.tyRef Syntax.erased Syntax.mut ty·0; ref = λ x. x }, (record { pos = 24; ty = Syntax.tyRef Syntax.erased Syntax.mut ty·0; ref = λ x. x }, (record { pos = 26; ty = Syntax.tyRef Syntax.erased Syntax.mut ty·0; ref = λ x. x }, (record { pos = 28; ty = Syntax.tyRef Syntax.erased Syntax.mut (ELEMMEM.pointee (ELEM.the-row .written)); ref = λ x. x }, (record { pos = 30; ty = Syntax.tyRef Syntax.erased Syntax.mut ty·0; ref = λ x. x }, (record { pos = 32; ty = Syntax.tyRef Syntax.erased Syntax.mut ty·0; ref = λ x. x }, (record { pos = 34; ty = Syntax.tyRef Syntax.erased Syntax.mut ty·0; ref = λ x. x }, (record { pos = 36; ty = Syntax.tyRef Syntax.erased Syntax.mut ty·1; ref = λ x. x }, (record { pos = 17; st = List.[]; d = 0; at = λ x. x }, (record { pos = 15; ty = Syntax.tyRef (Syntax.named 9) Syntax.imm ty·0; ref = λ x. x }, tt)))))))))))) 18 (List._∷_ 10 (List._∷_ 11 (List._∷_ 12 (List._∷_ 13 (List._∷_ 14 (List._∷_ 15 (List._∷_ 16 (List._∷_ 17 (List._∷_ 18 (List._∷_ 9 List.[])))))))))) ty·26
+  s38 = Call.callB ps·0 r·0 (claims· .0) (claims· .1) T39 (record { pos = 16; st = List.[]; d = 0; at = λ x. x }, (record { pos = 20; ty = Syntax.tyRef Syntax.erased Syntax.mut ty·0; ref = λ x. x }, (record { pos = 22; ty = Syntax.tyRef Syntax.erased Syntax.mut ty·0; ref = λ x. x }, (record { pos = 24; ty = Syntax.tyRef Syntax.erased Syntax.mut ty·0; ref = λ x. x }, (record { pos = 26; ty = Syntax.tyRef Syntax.erased Syntax.mut ty·0; ref = λ x. x }, (record { pos = 28; ty = Syntax.tyRef Syntax.erased Syntax.mut (ELEMMEM.pointee (ELEM.the-row .written)); ref = λ x. x }, (record { pos = 30; ty = Syntax.tyRef Syntax.erased Syntax.mut ty·0; ref = λ x. x }, (record { pos = 32; ty = Syntax.tyRef Syntax.erased Syntax.mut ty·0; ref = λ x. x }, (record { pos = 34; ty = Syntax.tyRef Syntax.erased Syntax.mut ty·0; ref = λ x. x }, (record { pos = 36; ty = Syntax.tyRef Syntax.erased Syntax.mut ty·1; ref = λ x. x }, (record { pos = 17; st = List.[]; d = 0; at = λ x. x }, (record { pos = 15; ty = Syntax.tyRef (Syntax.named 9) Syntax.imm ty·0; ref = λ x. x }, tt)))))))))))) 18 (List._∷_ 10 (List._∷_ 11 (List._∷_ 12 (List._∷_ 13 (List._∷_ 14 (List._∷_ 15 (List._∷_ 16 (List._∷_ 17 (List._∷_ 18 (List._∷_ 9 List.[])))))))))) ty·25
 
   abbrev s39 : Typed.Mo T40 → Typed.Mo T41
   s39 = Scalar.n-room T40 16 ty·20
@@ -813,7 +810,7 @@ module _ (claims· : Claims) where
   s75 = Call.callB ps·1 r·1 (claims· .2) (claims· .3) T75 (record { pos = 18; st = List.[]; d = 0; at = λ x. x }, tt) 0 List.[] ty·23
 
   abbrev s76 : Typed.Mo T77 → Typed.Mo T78
-  s76 = Scalar.n-room T77 18 ty·26
+  s76 = Scalar.n-room T77 18 ty·25
 
   abbrev s77 : Typed.Mo T78 → Typed.Mo T79
   s77 = Scalar.n-room T78 1 ty·0
@@ -1422,7 +1419,7 @@ module _ (claims· : Claims) where
           d5 = Typed.g-pre 𝓤 H A W 𝓣 E G78 G79 b22 Δ0 (Typed.pass T78 T79 s77) at4 (Scalar.g-room 𝓤 H A W E G78 1 ty·0 (Scalar.room-sc 𝓤 H A W (Row.sInt Syntax.w32))) d4
 
           d6 : Typed.Typed 𝓤 H A 𝓣 E G77 b22 Δ0 at6
-          d6 = Typed.g-pre 𝓤 H A W 𝓣 E G77 G78 b22 Δ0 (Typed.pass T77 T78 s76) at5 (Scalar.g-room 𝓤 H A W E G77 18 ty·26 (Local.room-whole 𝓤 H A W (Declared.row FinishAnswer.the-type) ty·26 Path'.refl)) d5
+          d6 = Typed.g-pre 𝓤 H A W 𝓣 E G77 G78 b22 Δ0 (Typed.pass T77 T78 s76) at5 (Scalar.g-room 𝓤 H A W E G77 18 ty·25 (Local.room-whole 𝓤 H A W (Declared.row FinishAnswer.the-type) ty·25 Path'.refl)) d5
 
           d7 : Typed.Typed 𝓤 H A 𝓣 E G76 b23 Δ0 at7
           d7 = Typed.s-seq 𝓤 H A W 𝓣 E G76 G77 b21 b22 Δ0 (Typed.both s75) at6 (Plain.t-call-plain 𝓤 H A W 𝓣 0 ps·1 r·1 (claims· .2) (claims· .3) "fithmoul::results::finish_result" (known .1) E (λ pos β. β) G76 (record { pos = 18; st = List.[]; d = 0; at = λ x. x }, tt) 0 List.[] (Call.sub-id 𝓤 H A W (G76 .slots)) ((Yields.yields-copy 𝓤 H A W (λ ρ. Unit) (Declared.row FinishAnswer.the-type) Path'.refl (Copies.cStruct FinishAnswer.the-type Laws'.the-laws Laws'.the-copy .copy 𝓤 H A W) (Rows.whole (Declared.row FinishAnswer.the-type)) (λ x. x) (λ x. x) (λ ρ told. Local.mem-whole 𝓤 H A W (Declared.row FinishAnswer.the-type) ρ) λ ρ told. Local.whole-mem 𝓤 H A W (Declared.row FinishAnswer.the-type) ρ, Path'.refl), tt) (Reads.room-gone 𝓤 H A ty·23) tt Path'.refl) d6
@@ -1536,7 +1533,7 @@ module _ (claims· : Claims) where
           d43 = Typed.g-pre 𝓤 H A W 𝓣 E G40 G41 b23 Δ0 (Typed.pass T40 T41 s39) at42 (Scalar.g-room 𝓤 H A W E G40 16 ty·20 (Local.room-whole 𝓤 H A W (Declared.row Counts.the-type) ty·20 Path'.refl)) d42
 
           d44 : Typed.Typed 𝓤 H A 𝓣 E G39 b24 Δ0 at44
-          d44 = Typed.s-seq 𝓤 H A W 𝓣 E G39 G40 b20 b23 Δ0 (Typed.both s38) at43 (Plain.t-call-plain 𝓤 H A W 𝓣 10 ps·0 r·0 (claims· .0) (claims· .1) "run::run" (known .0) E (λ pos β. β) G39 (record { pos = 16; st = List.[]; d = 0; at = λ x. x }, (record { pos = 20; ty = Syntax.tyRef Syntax.erased Syntax.mut ty·0; ref = λ x. x }, (record { pos = 22; ty = Syntax.tyRef Syntax.erased Syntax.mut ty·0; ref = λ x. x }, (record { pos = 24; ty = Syntax.tyRef Syntax.erased Syntax.mut ty·0; ref = λ x. x }, (record { pos = 26; ty = Syntax.tyRef Syntax.erased Syntax.mut ty·0; ref = λ x. x }, (record { pos = 28; ty = Syntax.tyRef Syntax.erased Syntax.mut (ELEMMEM.pointee (ELEM.the-row .written)); ref = λ x. x }, (record { pos = 30; ty = Syntax.tyRef Syntax.erased Syntax.mut ty·0; ref = λ x. x }, (record { pos = 32; ty = Syntax.tyRef Syntax.erased Syntax.mut ty·0; ref = λ x. x }, (record { pos = 34; ty = Syntax.tyRef Syntax.erased Syntax.mut ty·0; ref = λ x. x }, (record { pos = 36; ty = Syntax.tyRef Syntax.erased Syntax.mut ty·1; ref = λ x. x }, (record { pos = 17; st = List.[]; d = 0; at = λ x. x }, (record { pos = 15; ty = Syntax.tyRef (Syntax.named 9) Syntax.imm ty·0; ref = λ x. x }, tt)))))))))))) 18 (List._∷_ 10 (List._∷_ 11 (List._∷_ 12 (List._∷_ 13 (List._∷_ 14 (List._∷_ 15 (List._∷_ 16 (List._∷_ 17 (List._∷_ 18 (List._∷_ 9 List.[])))))))))) (Call.sub-id 𝓤 H A W (G39 .slots)) ((Yields.yields-copy 𝓤 H A W (λ ρ. Unit) (Declared.row Counts.the-type) Path'.refl (Copies.cStruct Counts.the-type Laws'3.the-laws Laws'3.the-copy .copy 𝓤 H A W) (Rows.whole (Declared.row Counts.the-type)) (λ x. x) (λ x. x) (λ ρ told. Local.mem-whole 𝓤 H A W (Declared.row Counts.the-type) ρ) λ ρ told. Local.whole-mem 𝓤 H A W (Declared.row Counts.the-type) ρ, Path'.refl), (Reads.as-is 𝓤 H A (Mut.mslice (Signed.SInt Syntax.w32) ty·3 10), Mut.reads-mslice 𝓤 H A W (Signed.SInt Syntax.w32) ty·3 10, Path'.refl, (Reads.as-is 𝓤 H A (Mut.mslice (Referent.rtF (Referent.fInt Syntax.w32)) ty·3 11), Mut.reads-mslice 𝓤 H A W (Referent.rtF (Referent.fInt Syntax.w32)) ty·3 11, Path'.refl, (Reads.as-is 𝓤 H A (Mut.mslice (Referent.rtF (Referent.fInt Syntax.w32)) ty·3 12), Mut.reads-mslice 𝓤 H A W (Referent.rtF (Referent.fInt Syntax.w32)) ty·3 12, Path'.refl, (Reads.as-is 𝓤 H A (Mut.mslice (Referent.rtF (Referent.fInt Syntax.w32)) ty·3 13), Mut.reads-mslice 𝓤 H A W (Referent.rtF (Referent.fInt Syntax.w32)) ty·3 13, Path'.refl, (Reads.as-is 𝓤 H A (Mut.mslice ELEM.the-row ty·14 14), Mut.reads-mslice 𝓤 H A W ELEM.the-row ty·14 14, Path'.refl, (Reads.as-is 𝓤 H A (Mut.mslice (Referent.rtF (Referent.fInt Syntax.w32)) ty·3 15), Mut.reads-mslice 𝓤 H A W (Referent.rtF (Referent.fInt Syntax.w32)) ty·3 15, Path'.refl, (Reads.as-is 𝓤 H A (Mut.mslice (Referent.rtF (Referent.fInt Syntax.w32)) ty·3 16), Mut.reads-mslice 𝓤 H A W (Referent.rtF (Referent.fInt Syntax.w32)) ty·3 16, Path'.refl, (Reads.as-is 𝓤 H A (Mut.mslice (Referent.rtF (Referent.fInt Syntax.w32)) ty·3 17), Mut.reads-mslice 𝓤 H A W (Referent.rtF (Referent.fInt Syntax.w32)) ty·3 17, Path'.refl, (Reads.as-is 𝓤 H A (Mut.mslice (Referent.rtF (Referent.fInt Syntax.w64)) ty·4 18), Mut.reads-mslice 𝓤 H A W (Referent.rtF (Referent.fInt Syntax.w64)) ty·4 18, Path'.refl, ((Yields.yields-copy 𝓤 H A W (λ ρ. Unit) (Declared.row Point2.the-type) Path'.refl (Copies.cStruct Point2.the-type Laws.the-laws Laws.the-copy .copy 𝓤 H A W) (Rows.whole (Declared.row Point2.the-type)) (λ x. x) (λ x. x) (λ ρ told. Local.mem-whole 𝓤 H A W (Declared.row Point2.the-type) ρ) λ ρ told. Local.whole-mem 𝓤 H A W (Declared.row Point2.the-type) ρ, Path'.refl), (ShrSlice.spares-sslice 𝓤 H A W (Signed.SInt Syntax.w32) ty·13 9, Shared.reads-sslice 𝓤 H A W (Signed.SInt Syntax.w32) ty·13 9, Path'.refl, tt)))))))))))) (Reads.room-gone 𝓤 H A ty·26) (tt, (tt, (tt, (tt, (tt, (tt, (tt, (tt, (tt, (tt, tt)))))))))) Path'.refl) d43
+          d44 = Typed.s-seq 𝓤 H A W 𝓣 E G39 G40 b20 b23 Δ0 (Typed.both s38) at43 (Plain.t-call-plain 𝓤 H A W 𝓣 10 ps·0 r·0 (claims· .0) (claims· .1) "run::run" (known .0) E (λ pos β. β) G39 (record { pos = 16; st = List.[]; d = 0; at = λ x. x }, (record { pos = 20; ty = Syntax.tyRef Syntax.erased Syntax.mut ty·0; ref = λ x. x }, (record { pos = 22; ty = Syntax.tyRef Syntax.erased Syntax.mut ty·0; ref = λ x. x }, (record { pos = 24; ty = Syntax.tyRef Syntax.erased Syntax.mut ty·0; ref = λ x. x }, (record { pos = 26; ty = Syntax.tyRef Syntax.erased Syntax.mut ty·0; ref = λ x. x }, (record { pos = 28; ty = Syntax.tyRef Syntax.erased Syntax.mut (ELEMMEM.pointee (ELEM.the-row .written)); ref = λ x. x }, (record { pos = 30; ty = Syntax.tyRef Syntax.erased Syntax.mut ty·0; ref = λ x. x }, (record { pos = 32; ty = Syntax.tyRef Syntax.erased Syntax.mut ty·0; ref = λ x. x }, (record { pos = 34; ty = Syntax.tyRef Syntax.erased Syntax.mut ty·0; ref = λ x. x }, (record { pos = 36; ty = Syntax.tyRef Syntax.erased Syntax.mut ty·1; ref = λ x. x }, (record { pos = 17; st = List.[]; d = 0; at = λ x. x }, (record { pos = 15; ty = Syntax.tyRef (Syntax.named 9) Syntax.imm ty·0; ref = λ x. x }, tt)))))))))))) 18 (List._∷_ 10 (List._∷_ 11 (List._∷_ 12 (List._∷_ 13 (List._∷_ 14 (List._∷_ 15 (List._∷_ 16 (List._∷_ 17 (List._∷_ 18 (List._∷_ 9 List.[])))))))))) (Call.sub-id 𝓤 H A W (G39 .slots)) ((Yields.yields-copy 𝓤 H A W (λ ρ. Unit) (Declared.row Counts.the-type) Path'.refl (Copies.cStruct Counts.the-type Laws'3.the-laws Laws'3.the-copy .copy 𝓤 H A W) (Rows.whole (Declared.row Counts.the-type)) (λ x. x) (λ x. x) (λ ρ told. Local.mem-whole 𝓤 H A W (Declared.row Counts.the-type) ρ) λ ρ told. Local.whole-mem 𝓤 H A W (Declared.row Counts.the-type) ρ, Path'.refl), (Reads.as-is 𝓤 H A (Mut.mslice (Signed.SInt Syntax.w32) ty·3 10), Mut.reads-mslice 𝓤 H A W (Signed.SInt Syntax.w32) ty·3 10, Path'.refl, (Reads.as-is 𝓤 H A (Mut.mslice (Referent.rtF (Referent.fInt Syntax.w32)) ty·3 11), Mut.reads-mslice 𝓤 H A W (Referent.rtF (Referent.fInt Syntax.w32)) ty·3 11, Path'.refl, (Reads.as-is 𝓤 H A (Mut.mslice (Referent.rtF (Referent.fInt Syntax.w32)) ty·3 12), Mut.reads-mslice 𝓤 H A W (Referent.rtF (Referent.fInt Syntax.w32)) ty·3 12, Path'.refl, (Reads.as-is 𝓤 H A (Mut.mslice (Referent.rtF (Referent.fInt Syntax.w32)) ty·3 13), Mut.reads-mslice 𝓤 H A W (Referent.rtF (Referent.fInt Syntax.w32)) ty·3 13, Path'.refl, (Reads.as-is 𝓤 H A (Mut.mslice ELEM.the-row ty·14 14), Mut.reads-mslice 𝓤 H A W ELEM.the-row ty·14 14, Path'.refl, (Reads.as-is 𝓤 H A (Mut.mslice (Referent.rtF (Referent.fInt Syntax.w32)) ty·3 15), Mut.reads-mslice 𝓤 H A W (Referent.rtF (Referent.fInt Syntax.w32)) ty·3 15, Path'.refl, (Reads.as-is 𝓤 H A (Mut.mslice (Referent.rtF (Referent.fInt Syntax.w32)) ty·3 16), Mut.reads-mslice 𝓤 H A W (Referent.rtF (Referent.fInt Syntax.w32)) ty·3 16, Path'.refl, (Reads.as-is 𝓤 H A (Mut.mslice (Referent.rtF (Referent.fInt Syntax.w32)) ty·3 17), Mut.reads-mslice 𝓤 H A W (Referent.rtF (Referent.fInt Syntax.w32)) ty·3 17, Path'.refl, (Reads.as-is 𝓤 H A (Mut.mslice (Referent.rtF (Referent.fInt Syntax.w64)) ty·4 18), Mut.reads-mslice 𝓤 H A W (Referent.rtF (Referent.fInt Syntax.w64)) ty·4 18, Path'.refl, ((Yields.yields-copy 𝓤 H A W (λ ρ. Unit) (Declared.row Point2.the-type) Path'.refl (Copies.cStruct Point2.the-type Laws.the-laws Laws.the-copy .copy 𝓤 H A W) (Rows.whole (Declared.row Point2.the-type)) (λ x. x) (λ x. x) (λ ρ told. Local.mem-whole 𝓤 H A W (Declared.row Point2.the-type) ρ) λ ρ told. Local.whole-mem 𝓤 H A W (Declared.row Point2.the-type) ρ, Path'.refl), (ShrSlice.spares-sslice 𝓤 H A W (Signed.SInt Syntax.w32) ty·13 9, Shared.reads-sslice 𝓤 H A W (Signed.SInt Syntax.w32) ty·13 9, Path'.refl, tt)))))))))))) (Reads.room-gone 𝓤 H A ty·25) (tt, (tt, (tt, (tt, (tt, (tt, (tt, (tt, (tt, (tt, tt)))))))))) Path'.refl) d43
 
           d45 : Typed.Typed 𝓤 H A 𝓣 E G38 b24 Δ0 at45
           d45 = Typed.g-pre 𝓤 H A W 𝓣 E G38 G39 b24 Δ0 (Typed.pass T38 T39 s37) at44 (AtSlots.g-as-by 𝓤 H A W E (λ ρ. Unit) G38 17 (Rows.whole (Declared.row Point2.the-type)) (λ v. Point2.struct .make v tt) (Own.told-none 𝓤 H A (G38 .slots)) λ ρ told v b. Apart.folds 𝓤 H A Point2.the-type (Point2.struct .Ghost) (Point2.struct .make) (λ v g. Path'.refl) ρ v tt b) d44

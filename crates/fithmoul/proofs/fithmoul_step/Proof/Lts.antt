@@ -124,22 +124,19 @@ abbrev ty·19 : Syntax.Ty
 ty·19 = Syntax.tyStruct (List._∷_ 109 (List._∷_ 101 (List._∷_ 115 (List._∷_ 104 (List._∷_ 95 (List._∷_ 99 (List._∷_ 104 (List._∷_ 101 (List._∷_ 99 (List._∷_ 107 (List._∷_ 58 (List._∷_ 58 (List._∷_ 82 (List._∷_ 101 (List._∷_ 102 (List._∷_ 117 (List._∷_ 115 (List._∷_ 97 (List._∷_ 108 List.[]))))))))))))))))))) (Syntax.tcons ty·0 (Syntax.tcons ty·0 Syntax.tnil))
 
 abbrev ty·20 : Syntax.Ty
-ty·20 = Syntax.tyStruct (List._∷_ 102 (List._∷_ 108 (List._∷_ 105 (List._∷_ 112 (List._∷_ 95 (List._∷_ 99 (List._∷_ 111 (List._∷_ 117 (List._∷_ 110 (List._∷_ 116 (List._∷_ 58 (List._∷_ 58 (List._∷_ 70 (List._∷_ 108 (List._∷_ 105 (List._∷_ 112 (List._∷_ 67 (List._∷_ 111 (List._∷_ 117 (List._∷_ 110 (List._∷_ 116 List.[]))))))))))))))))))))) (Syntax.tcons ty·1 (Syntax.tcons ty·1 Syntax.tnil))
+ty·20 = Syntax.tyStruct (List._∷_ 102 (List._∷_ 105 (List._∷_ 116 (List._∷_ 104 (List._∷_ 109 (List._∷_ 111 (List._∷_ 117 (List._∷_ 108 (List._∷_ 58 (List._∷_ 58 (List._∷_ 114 (List._∷_ 101 (List._∷_ 115 (List._∷_ 117 (List._∷_ 108 (List._∷_ 116 (List._∷_ 115 (List._∷_ 58 (List._∷_ 58 (List._∷_ 80 (List._∷_ 111 (List._∷_ 105 (List._∷_ 110 (List._∷_ 116 (List._∷_ 65 (List._∷_ 110 (List._∷_ 115 (List._∷_ 119 (List._∷_ 101 (List._∷_ 114 List.[])))))))))))))))))))))))))))))) (Syntax.tcons ty·1 (Syntax.tcons ty·1 (Syntax.tcons ty·1 (Syntax.tcons ty·1 Syntax.tnil))))
 
 abbrev ty·21 : Syntax.Ty
-ty·21 = Syntax.tyStruct (List._∷_ 102 (List._∷_ 105 (List._∷_ 116 (List._∷_ 104 (List._∷_ 109 (List._∷_ 111 (List._∷_ 117 (List._∷_ 108 (List._∷_ 58 (List._∷_ 58 (List._∷_ 114 (List._∷_ 101 (List._∷_ 115 (List._∷_ 117 (List._∷_ 108 (List._∷_ 116 (List._∷_ 115 (List._∷_ 58 (List._∷_ 58 (List._∷_ 80 (List._∷_ 111 (List._∷_ 105 (List._∷_ 110 (List._∷_ 116 (List._∷_ 65 (List._∷_ 110 (List._∷_ 115 (List._∷_ 119 (List._∷_ 101 (List._∷_ 114 List.[])))))))))))))))))))))))))))))) (Syntax.tcons ty·1 (Syntax.tcons ty·1 (Syntax.tcons ty·1 (Syntax.tcons ty·1 (Syntax.tcons ty·1 Syntax.tnil)))))
+ty·21 = Syntax.tyStruct (List._∷_ 115 (List._∷_ 119 (List._∷_ 101 (List._∷_ 101 (List._∷_ 112 (List._∷_ 58 (List._∷_ 58 (List._∷_ 65 (List._∷_ 110 (List._∷_ 115 (List._∷_ 119 (List._∷_ 101 (List._∷_ 114 List.[]))))))))))))) (Syntax.tcons ty·18 (Syntax.tcons ty·0 (Syntax.tcons ty·1 Syntax.tnil)))
 
 abbrev ty·22 : Syntax.Ty
-ty·22 = Syntax.tyStruct (List._∷_ 115 (List._∷_ 119 (List._∷_ 101 (List._∷_ 101 (List._∷_ 112 (List._∷_ 58 (List._∷_ 58 (List._∷_ 65 (List._∷_ 110 (List._∷_ 115 (List._∷_ 119 (List._∷_ 101 (List._∷_ 114 List.[]))))))))))))) (Syntax.tcons ty·18 (Syntax.tcons ty·0 (Syntax.tcons ty·20 Syntax.tnil)))
+ty·22 = Syntax.tyStruct (List._∷_ 102 (List._∷_ 105 (List._∷_ 116 (List._∷_ 104 (List._∷_ 109 (List._∷_ 111 (List._∷_ 117 (List._∷_ 108 (List._∷_ 58 (List._∷_ 58 (List._∷_ 114 (List._∷_ 101 (List._∷_ 115 (List._∷_ 117 (List._∷_ 108 (List._∷_ 116 (List._∷_ 115 (List._∷_ 58 (List._∷_ 58 (List._∷_ 83 (List._∷_ 116 (List._∷_ 101 (List._∷_ 112 (List._∷_ 82 (List._∷_ 101 (List._∷_ 115 (List._∷_ 117 (List._∷_ 108 (List._∷_ 116 List.[]))))))))))))))))))))))))))))) (Syntax.tcons ty·0 (Syntax.tcons ty·0 (Syntax.tcons ty·0 (Syntax.tcons ty·0 (Syntax.tcons ty·0 (Syntax.tcons ty·20 Syntax.tnil))))))
 
 abbrev ty·23 : Syntax.Ty
-ty·23 = Syntax.tyStruct (List._∷_ 102 (List._∷_ 105 (List._∷_ 116 (List._∷_ 104 (List._∷_ 109 (List._∷_ 111 (List._∷_ 117 (List._∷_ 108 (List._∷_ 58 (List._∷_ 58 (List._∷_ 114 (List._∷_ 101 (List._∷_ 115 (List._∷_ 117 (List._∷_ 108 (List._∷_ 116 (List._∷_ 115 (List._∷_ 58 (List._∷_ 58 (List._∷_ 83 (List._∷_ 116 (List._∷_ 101 (List._∷_ 112 (List._∷_ 82 (List._∷_ 101 (List._∷_ 115 (List._∷_ 117 (List._∷_ 108 (List._∷_ 116 List.[]))))))))))))))))))))))))))))) (Syntax.tcons ty·0 (Syntax.tcons ty·0 (Syntax.tcons ty·0 (Syntax.tcons ty·0 (Syntax.tcons ty·0 (Syntax.tcons ty·21 Syntax.tnil))))))
+ty·23 = Syntax.tyEnum (List._∷_ 115 (List._∷_ 119 (List._∷_ 101 (List._∷_ 101 (List._∷_ 112 (List._∷_ 58 (List._∷_ 58 (List._∷_ 83 (List._∷_ 116 (List._∷_ 101 (List._∷_ 112 (List._∷_ 112 (List._∷_ 101 (List._∷_ 100 List.[])))))))))))))) (Syntax.ttcons (Syntax.tcons ty·21 Syntax.tnil) (Syntax.ttcons (Syntax.tcons ty·19 Syntax.tnil) Syntax.ttnil))
 
 abbrev ty·24 : Syntax.Ty
-ty·24 = Syntax.tyEnum (List._∷_ 115 (List._∷_ 119 (List._∷_ 101 (List._∷_ 101 (List._∷_ 112 (List._∷_ 58 (List._∷_ 58 (List._∷_ 83 (List._∷_ 116 (List._∷_ 101 (List._∷_ 112 (List._∷_ 112 (List._∷_ 101 (List._∷_ 100 List.[])))))))))))))) (Syntax.ttcons (Syntax.tcons ty·22 Syntax.tnil) (Syntax.ttcons (Syntax.tcons ty·19 Syntax.tnil) Syntax.ttnil))
-
-abbrev ty·25 : Syntax.Ty
-ty·25 = Syntax.tyStruct (List._∷_ 115 (List._∷_ 119 (List._∷_ 101 (List._∷_ 101 (List._∷_ 112 (List._∷_ 58 (List._∷_ 58 (List._∷_ 83 (List._∷_ 116 (List._∷_ 101 (List._∷_ 112 (List._∷_ 65 (List._∷_ 110 (List._∷_ 115 (List._∷_ 119 (List._∷_ 101 (List._∷_ 114 List.[]))))))))))))))))) (Syntax.tcons ty·17 (Syntax.tcons ty·24 Syntax.tnil))
+ty·24 = Syntax.tyStruct (List._∷_ 115 (List._∷_ 119 (List._∷_ 101 (List._∷_ 101 (List._∷_ 112 (List._∷_ 58 (List._∷_ 58 (List._∷_ 83 (List._∷_ 116 (List._∷_ 101 (List._∷_ 112 (List._∷_ 65 (List._∷_ 110 (List._∷_ 115 (List._∷_ 119 (List._∷_ 101 (List._∷_ 114 List.[]))))))))))))))))) (Syntax.tcons ty·17 (Syntax.tcons ty·23 Syntax.tnil))
 
 abbrev pub ps : List.List (Kinds.PK 8)
 ps = List._∷_ (Num.pNum Syntax.w32) (List._∷_ (Num.pNum Syntax.w32) (List._∷_ (Num.pNum Syntax.w32) (List._∷_ (MutSlice.pMutS (Signed'.SInt Syntax.w32) 0 tt) (List._∷_ (MutSlice.pMutS (Referent.rtF (Referent.fInt Syntax.w32)) 1 tt) (List._∷_ (MutSlice.pMutS (Referent.rtF (Referent.fInt Syntax.w32)) 2 tt) (List._∷_ (MutSlice.pMutS (Referent.rtF (Referent.fInt Syntax.w32)) 3 tt) (List._∷_ (MutSlice.pMutS ELEM.the-row 4 tt) (List._∷_ (MutSlice.pMutS (Referent.rtF (Referent.fInt Syntax.w32)) 5 tt) (List._∷_ (MutSlice.pMutS (Referent.rtF (Referent.fInt Syntax.w32)) 6 tt) (List._∷_ (MutSlice.pMutS (Referent.rtF (Referent.fInt Syntax.w32)) 7 tt) (List._∷_ (Float.pFloat Ieee.binary64) (List._∷_ (Float.pFloat Ieee.binary64) (List._∷_ (Kinds.pSNum Syntax.w32) (List._∷_ (Kinds.pSNum Syntax.w32) List.[]))))))))))))))
@@ -148,7 +145,7 @@ abbrev pub r : Kinds.RK 8
 r = Value.rVal record { ty = Declared.row StepResult.the-type; one = Path'.refl; val = Laws'5.val StepResult.the-type Laws'.the-laws; tells = Laws'5.tells StepResult.the-type Laws'.the-laws; still = Laws'5.still StepResult.the-type Laws'.the-copy Exit.yes; row = Rows.whole (Declared.row StepResult.the-type); rd = λ x. x; mk = λ x. x } λ M 𝓤 H A W. record { copies = Laws'5.copy StepResult.the-type Laws'.the-copy 𝓤 H A W; lawful = Laws'5.lawful StepResult.the-type Laws'.the-laws 𝓤 H A W; makes = Laws'5.makes StepResult.the-type Laws'.the-plain 𝓤 H A; in-mem = Local.mem-whole 𝓤 H A W (Declared.row StepResult.the-type); of-mem = Local.whole-mem 𝓤 H A W (Declared.row StepResult.the-type) }
 
 abbrev pub xs : List.List Syntax.Ty
-xs = List._∷_ ty·17 (List._∷_ ty·16 (List._∷_ ty·15 (List._∷_ ty·25 (List._∷_ ty·3 (List._∷_ ty·13 (List._∷_ ty·3 (List._∷_ ty·13 (List._∷_ ty·3 (List._∷_ ty·13 (List._∷_ ty·3 (List._∷_ ty·13 (List._∷_ ty·11 (List._∷_ ty·14 (List._∷_ ty·3 (List._∷_ ty·13 (List._∷_ ty·3 (List._∷_ ty·13 (List._∷_ ty·3 (List._∷_ ty·13 List.[])))))))))))))))))))
+xs = List._∷_ ty·17 (List._∷_ ty·16 (List._∷_ ty·15 (List._∷_ ty·24 (List._∷_ ty·3 (List._∷_ ty·13 (List._∷_ ty·3 (List._∷_ ty·13 (List._∷_ ty·3 (List._∷_ ty·13 (List._∷_ ty·3 (List._∷_ ty·13 (List._∷_ ty·11 (List._∷_ ty·14 (List._∷_ ty·3 (List._∷_ ty·13 (List._∷_ ty·3 (List._∷_ ty·13 (List._∷_ ty·3 (List._∷_ ty·13 List.[])))))))))))))))))))
 
 abbrev pub m : Nat.ℕ
 m = 8
@@ -304,10 +301,10 @@ abbrev pub Claims : Type 1
 Claims = Kinds.In 8 ps·0 × Kinds.Out 8 ps·0 r·0 × Kinds.In 0 ps·1 × Kinds.Out 0 ps·1 r·1
 
 abbrev pub t0 : List.List Row.Entry
-t0 = List._∷_ (0, Rows.any-gone ty·23) (List._∷_ (1, Rows.sc-here (Row.sInt Syntax.w32)) (List._∷_ (2, Rows.sc-here (Row.sInt Syntax.w32)) (List._∷_ (3, Rows.sc-here (Row.sInt Syntax.w32)) (List._∷_ (4, Mut.mslice (Signed'.SInt Syntax.w32) ty·4 0) (List._∷_ (5, Mut.mslice (Referent.rtF (Referent.fInt Syntax.w32)) ty·5 1) (List._∷_ (6, Mut.mslice (Referent.rtF (Referent.fInt Syntax.w32)) ty·6 2) (List._∷_ (7, Mut.mslice (Referent.rtF (Referent.fInt Syntax.w32)) ty·7 3) (List._∷_ (8, Mut.mslice ELEM.the-row ty·12 4) (List._∷_ (9, Mut.mslice (Referent.rtF (Referent.fInt Syntax.w32)) ty·8 5) (List._∷_ (10, Mut.mslice (Referent.rtF (Referent.fInt Syntax.w32)) ty·9 6) (List._∷_ (11, Mut.mslice (Referent.rtF (Referent.fInt Syntax.w32)) ty·10 7) (List._∷_ (12, Rows.sc-here (Row.sFloat Ieee.binary64)) (List._∷_ (13, Rows.sc-here (Row.sFloat Ieee.binary64)) (List._∷_ (14, Rows.sc-here (Row.sInt Syntax.w32)) (List._∷_ (15, Rows.sc-here (Row.sInt Syntax.w32)) List.[])))))))))))))))
+t0 = List._∷_ (0, Rows.any-gone ty·22) (List._∷_ (1, Rows.sc-here (Row.sInt Syntax.w32)) (List._∷_ (2, Rows.sc-here (Row.sInt Syntax.w32)) (List._∷_ (3, Rows.sc-here (Row.sInt Syntax.w32)) (List._∷_ (4, Mut.mslice (Signed'.SInt Syntax.w32) ty·4 0) (List._∷_ (5, Mut.mslice (Referent.rtF (Referent.fInt Syntax.w32)) ty·5 1) (List._∷_ (6, Mut.mslice (Referent.rtF (Referent.fInt Syntax.w32)) ty·6 2) (List._∷_ (7, Mut.mslice (Referent.rtF (Referent.fInt Syntax.w32)) ty·7 3) (List._∷_ (8, Mut.mslice ELEM.the-row ty·12 4) (List._∷_ (9, Mut.mslice (Referent.rtF (Referent.fInt Syntax.w32)) ty·8 5) (List._∷_ (10, Mut.mslice (Referent.rtF (Referent.fInt Syntax.w32)) ty·9 6) (List._∷_ (11, Mut.mslice (Referent.rtF (Referent.fInt Syntax.w32)) ty·10 7) (List._∷_ (12, Rows.sc-here (Row.sFloat Ieee.binary64)) (List._∷_ (13, Rows.sc-here (Row.sFloat Ieee.binary64)) (List._∷_ (14, Rows.sc-here (Row.sInt Syntax.w32)) (List._∷_ (15, Rows.sc-here (Row.sInt Syntax.w32)) List.[])))))))))))))))
 
 abbrev pub t1 : List.List Row.Entry
-t1 = List._∷_ (16, Rows.any-gone ty·17) (List._∷_ (17, Rows.any-gone ty·16) (List._∷_ (18, Rows.any-gone ty·15) (List._∷_ (19, Rows.any-gone ty·25) (List._∷_ (20, Rows.any-gone ty·3) (List._∷_ (21, Rows.any-gone ty·13) (List._∷_ (22, Rows.any-gone ty·3) (List._∷_ (23, Rows.any-gone ty·13) (List._∷_ (24, Rows.any-gone ty·3) (List._∷_ (25, Rows.any-gone ty·13) (List._∷_ (26, Rows.any-gone ty·3) (List._∷_ (27, Rows.any-gone ty·13) (List._∷_ (28, Rows.any-gone ty·11) (List._∷_ (29, Rows.any-gone ty·14) (List._∷_ (30, Rows.any-gone ty·3) (List._∷_ (31, Rows.any-gone ty·13) List.[])))))))))))))))
+t1 = List._∷_ (16, Rows.any-gone ty·17) (List._∷_ (17, Rows.any-gone ty·16) (List._∷_ (18, Rows.any-gone ty·15) (List._∷_ (19, Rows.any-gone ty·24) (List._∷_ (20, Rows.any-gone ty·3) (List._∷_ (21, Rows.any-gone ty·13) (List._∷_ (22, Rows.any-gone ty·3) (List._∷_ (23, Rows.any-gone ty·13) (List._∷_ (24, Rows.any-gone ty·3) (List._∷_ (25, Rows.any-gone ty·13) (List._∷_ (26, Rows.any-gone ty·3) (List._∷_ (27, Rows.any-gone ty·13) (List._∷_ (28, Rows.any-gone ty·11) (List._∷_ (29, Rows.any-gone ty·14) (List._∷_ (30, Rows.any-gone ty·3) (List._∷_ (31, Rows.any-gone ty·13) List.[])))))))))))))))
 
 abbrev pub t2 : List.List Row.Entry
 t2 = List._∷_ (32, Rows.any-gone ty·3) (List._∷_ (33, Rows.any-gone ty·13) (List._∷_ (34, Rows.any-gone ty·3) (List._∷_ (35, Rows.any-gone ty·13) List.[])))
@@ -316,70 +313,70 @@ abbrev pub t3 : List.List Row.Entry
 t3 = List._∷_ (0, Rows.whole (Declared.row StepResult.the-type)) (List._∷_ (1, Rows.any-gone ty·0) (List._∷_ (2, Rows.any-gone ty·0) (List._∷_ (3, Rows.any-gone ty·0) (List._∷_ (4, Mut.mslice (Signed'.SInt Syntax.w32) ty·4 0) (List._∷_ (5, Mut.mslice (Referent.rtF (Referent.fInt Syntax.w32)) ty·5 1) (List._∷_ (6, Mut.mslice (Referent.rtF (Referent.fInt Syntax.w32)) ty·6 2) (List._∷_ (7, Mut.mslice (Referent.rtF (Referent.fInt Syntax.w32)) ty·7 3) (List._∷_ (8, Mut.mslice ELEM.the-row ty·12 4) (List._∷_ (9, Mut.mslice (Referent.rtF (Referent.fInt Syntax.w32)) ty·8 5) (List._∷_ (10, Mut.mslice (Referent.rtF (Referent.fInt Syntax.w32)) ty·9 6) (List._∷_ (11, Mut.mslice (Referent.rtF (Referent.fInt Syntax.w32)) ty·10 7) (List._∷_ (12, Rows.any-gone ty·2) (List._∷_ (13, Rows.any-gone ty·2) (List._∷_ (14, Rows.any-gone ty·0) (List._∷_ (15, Rows.any-gone ty·0) List.[])))))))))))))))
 
 abbrev pub t4 : List.List Row.Entry
-t4 = List._∷_ (16, Rows.whole (Declared.row (Apart.apartT Counts.the-type))) (List._∷_ (17, Rows.any-gone ty·16) (List._∷_ (18, Rows.any-gone ty·15) (List._∷_ (19, Rows.any-gone ty·25) (List._∷_ (20, Rows.any-gone ty·3) (List._∷_ (21, Rows.any-gone ty·13) (List._∷_ (22, Rows.any-gone ty·3) (List._∷_ (23, Rows.any-gone ty·13) (List._∷_ (24, Rows.any-gone ty·3) (List._∷_ (25, Rows.any-gone ty·13) (List._∷_ (26, Rows.any-gone ty·3) (List._∷_ (27, Rows.any-gone ty·13) (List._∷_ (28, Rows.any-gone ty·11) (List._∷_ (29, Rows.any-gone ty·14) (List._∷_ (30, Rows.any-gone ty·3) (List._∷_ (31, Rows.any-gone ty·13) List.[])))))))))))))))
+t4 = List._∷_ (16, Rows.whole (Declared.row (Apart.apartT Counts.the-type))) (List._∷_ (17, Rows.any-gone ty·16) (List._∷_ (18, Rows.any-gone ty·15) (List._∷_ (19, Rows.any-gone ty·24) (List._∷_ (20, Rows.any-gone ty·3) (List._∷_ (21, Rows.any-gone ty·13) (List._∷_ (22, Rows.any-gone ty·3) (List._∷_ (23, Rows.any-gone ty·13) (List._∷_ (24, Rows.any-gone ty·3) (List._∷_ (25, Rows.any-gone ty·13) (List._∷_ (26, Rows.any-gone ty·3) (List._∷_ (27, Rows.any-gone ty·13) (List._∷_ (28, Rows.any-gone ty·11) (List._∷_ (29, Rows.any-gone ty·14) (List._∷_ (30, Rows.any-gone ty·3) (List._∷_ (31, Rows.any-gone ty·13) List.[])))))))))))))))
 
 abbrev pub t5 : List.List Row.Entry
-t5 = List._∷_ (16, Rows.whole (Declared.row (Apart.apartT Counts.the-type))) (List._∷_ (17, Rows.whole (Declared.row (Apart.apartT Point2.the-type))) (List._∷_ (18, Rows.any-gone ty·15) (List._∷_ (19, Rows.any-gone ty·25) (List._∷_ (20, Rows.any-gone ty·3) (List._∷_ (21, Rows.any-gone ty·13) (List._∷_ (22, Rows.any-gone ty·3) (List._∷_ (23, Rows.any-gone ty·13) (List._∷_ (24, Rows.any-gone ty·3) (List._∷_ (25, Rows.any-gone ty·13) (List._∷_ (26, Rows.any-gone ty·3) (List._∷_ (27, Rows.any-gone ty·13) (List._∷_ (28, Rows.any-gone ty·11) (List._∷_ (29, Rows.any-gone ty·14) (List._∷_ (30, Rows.any-gone ty·3) (List._∷_ (31, Rows.any-gone ty·13) List.[])))))))))))))))
+t5 = List._∷_ (16, Rows.whole (Declared.row (Apart.apartT Counts.the-type))) (List._∷_ (17, Rows.whole (Declared.row (Apart.apartT Point2.the-type))) (List._∷_ (18, Rows.any-gone ty·15) (List._∷_ (19, Rows.any-gone ty·24) (List._∷_ (20, Rows.any-gone ty·3) (List._∷_ (21, Rows.any-gone ty·13) (List._∷_ (22, Rows.any-gone ty·3) (List._∷_ (23, Rows.any-gone ty·13) (List._∷_ (24, Rows.any-gone ty·3) (List._∷_ (25, Rows.any-gone ty·13) (List._∷_ (26, Rows.any-gone ty·3) (List._∷_ (27, Rows.any-gone ty·13) (List._∷_ (28, Rows.any-gone ty·11) (List._∷_ (29, Rows.any-gone ty·14) (List._∷_ (30, Rows.any-gone ty·3) (List._∷_ (31, Rows.any-gone ty·13) List.[])))))))))))))))
 
 abbrev pub t6 : List.List Row.Entry
-t6 = List._∷_ (16, Rows.whole (Declared.row (Apart.apartT Counts.the-type))) (List._∷_ (17, Rows.whole (Declared.row (Apart.apartT Point2.the-type))) (List._∷_ (18, Rows.whole (Declared.row (Apart.apartT Point.the-type))) (List._∷_ (19, Rows.any-gone ty·25) (List._∷_ (20, Rows.any-gone ty·3) (List._∷_ (21, Rows.any-gone ty·13) (List._∷_ (22, Rows.any-gone ty·3) (List._∷_ (23, Rows.any-gone ty·13) (List._∷_ (24, Rows.any-gone ty·3) (List._∷_ (25, Rows.any-gone ty·13) (List._∷_ (26, Rows.any-gone ty·3) (List._∷_ (27, Rows.any-gone ty·13) (List._∷_ (28, Rows.any-gone ty·11) (List._∷_ (29, Rows.any-gone ty·14) (List._∷_ (30, Rows.any-gone ty·3) (List._∷_ (31, Rows.any-gone ty·13) List.[])))))))))))))))
+t6 = List._∷_ (16, Rows.whole (Declared.row (Apart.apartT Counts.the-type))) (List._∷_ (17, Rows.whole (Declared.row (Apart.apartT Point2.the-type))) (List._∷_ (18, Rows.whole (Declared.row (Apart.apartT Point.the-type))) (List._∷_ (19, Rows.any-gone ty·24) (List._∷_ (20, Rows.any-gone ty·3) (List._∷_ (21, Rows.any-gone ty·13) (List._∷_ (22, Rows.any-gone ty·3) (List._∷_ (23, Rows.any-gone ty·13) (List._∷_ (24, Rows.any-gone ty·3) (List._∷_ (25, Rows.any-gone ty·13) (List._∷_ (26, Rows.any-gone ty·3) (List._∷_ (27, Rows.any-gone ty·13) (List._∷_ (28, Rows.any-gone ty·11) (List._∷_ (29, Rows.any-gone ty·14) (List._∷_ (30, Rows.any-gone ty·3) (List._∷_ (31, Rows.any-gone ty·13) List.[])))))))))))))))
 
 abbrev pub t7 : List.List Row.Entry
-t7 = List._∷_ (0, Rows.any-gone ty·23) (List._∷_ (1, Rows.sc-here (Row.sInt Syntax.w32)) (List._∷_ (2, Rows.sc-here (Row.sInt Syntax.w32)) (List._∷_ (3, Rows.sc-here (Row.sInt Syntax.w32)) (List._∷_ (4, Relend.mslice-owed (Signed'.SInt Syntax.w32) ty·4 0 8 Row.off) (List._∷_ (5, Mut.mslice (Referent.rtF (Referent.fInt Syntax.w32)) ty·5 1) (List._∷_ (6, Mut.mslice (Referent.rtF (Referent.fInt Syntax.w32)) ty·6 2) (List._∷_ (7, Mut.mslice (Referent.rtF (Referent.fInt Syntax.w32)) ty·7 3) (List._∷_ (8, Mut.mslice ELEM.the-row ty·12 4) (List._∷_ (9, Mut.mslice (Referent.rtF (Referent.fInt Syntax.w32)) ty·8 5) (List._∷_ (10, Mut.mslice (Referent.rtF (Referent.fInt Syntax.w32)) ty·9 6) (List._∷_ (11, Mut.mslice (Referent.rtF (Referent.fInt Syntax.w32)) ty·10 7) (List._∷_ (12, Rows.sc-here (Row.sFloat Ieee.binary64)) (List._∷_ (13, Rows.sc-here (Row.sFloat Ieee.binary64)) (List._∷_ (14, Rows.sc-here (Row.sInt Syntax.w32)) (List._∷_ (15, Rows.sc-here (Row.sInt Syntax.w32)) List.[])))))))))))))))
+t7 = List._∷_ (0, Rows.any-gone ty·22) (List._∷_ (1, Rows.sc-here (Row.sInt Syntax.w32)) (List._∷_ (2, Rows.sc-here (Row.sInt Syntax.w32)) (List._∷_ (3, Rows.sc-here (Row.sInt Syntax.w32)) (List._∷_ (4, Relend.mslice-owed (Signed'.SInt Syntax.w32) ty·4 0 8 Row.off) (List._∷_ (5, Mut.mslice (Referent.rtF (Referent.fInt Syntax.w32)) ty·5 1) (List._∷_ (6, Mut.mslice (Referent.rtF (Referent.fInt Syntax.w32)) ty·6 2) (List._∷_ (7, Mut.mslice (Referent.rtF (Referent.fInt Syntax.w32)) ty·7 3) (List._∷_ (8, Mut.mslice ELEM.the-row ty·12 4) (List._∷_ (9, Mut.mslice (Referent.rtF (Referent.fInt Syntax.w32)) ty·8 5) (List._∷_ (10, Mut.mslice (Referent.rtF (Referent.fInt Syntax.w32)) ty·9 6) (List._∷_ (11, Mut.mslice (Referent.rtF (Referent.fInt Syntax.w32)) ty·10 7) (List._∷_ (12, Rows.sc-here (Row.sFloat Ieee.binary64)) (List._∷_ (13, Rows.sc-here (Row.sFloat Ieee.binary64)) (List._∷_ (14, Rows.sc-here (Row.sInt Syntax.w32)) (List._∷_ (15, Rows.sc-here (Row.sInt Syntax.w32)) List.[])))))))))))))))
 
 abbrev pub t8 : List.List Row.Entry
-t8 = List._∷_ (16, Rows.whole (Declared.row (Apart.apartT Counts.the-type))) (List._∷_ (17, Rows.whole (Declared.row (Apart.apartT Point2.the-type))) (List._∷_ (18, Rows.whole (Declared.row (Apart.apartT Point.the-type))) (List._∷_ (19, Rows.any-gone ty·25) (List._∷_ (20, Relend.msptr (Signed'.SInt Syntax.w32) ty·3 8) (List._∷_ (21, Rows.any-gone ty·13) (List._∷_ (22, Rows.any-gone ty·3) (List._∷_ (23, Rows.any-gone ty·13) (List._∷_ (24, Rows.any-gone ty·3) (List._∷_ (25, Rows.any-gone ty·13) (List._∷_ (26, Rows.any-gone ty·3) (List._∷_ (27, Rows.any-gone ty·13) (List._∷_ (28, Rows.any-gone ty·11) (List._∷_ (29, Rows.any-gone ty·14) (List._∷_ (30, Rows.any-gone ty·3) (List._∷_ (31, Rows.any-gone ty·13) List.[])))))))))))))))
+t8 = List._∷_ (16, Rows.whole (Declared.row (Apart.apartT Counts.the-type))) (List._∷_ (17, Rows.whole (Declared.row (Apart.apartT Point2.the-type))) (List._∷_ (18, Rows.whole (Declared.row (Apart.apartT Point.the-type))) (List._∷_ (19, Rows.any-gone ty·24) (List._∷_ (20, Relend.msptr (Signed'.SInt Syntax.w32) ty·3 8) (List._∷_ (21, Rows.any-gone ty·13) (List._∷_ (22, Rows.any-gone ty·3) (List._∷_ (23, Rows.any-gone ty·13) (List._∷_ (24, Rows.any-gone ty·3) (List._∷_ (25, Rows.any-gone ty·13) (List._∷_ (26, Rows.any-gone ty·3) (List._∷_ (27, Rows.any-gone ty·13) (List._∷_ (28, Rows.any-gone ty·11) (List._∷_ (29, Rows.any-gone ty·14) (List._∷_ (30, Rows.any-gone ty·3) (List._∷_ (31, Rows.any-gone ty·13) List.[])))))))))))))))
 
 abbrev pub t9 : List.List Row.Entry
-t9 = List._∷_ (16, Rows.whole (Declared.row (Apart.apartT Counts.the-type))) (List._∷_ (17, Rows.whole (Declared.row (Apart.apartT Point2.the-type))) (List._∷_ (18, Rows.whole (Declared.row (Apart.apartT Point.the-type))) (List._∷_ (19, Rows.any-gone ty·25) (List._∷_ (20, Rows.any-gone ty·3) (List._∷_ (21, Mut.mslice (Signed'.SInt Syntax.w32) ty·3 8) (List._∷_ (22, Rows.any-gone ty·3) (List._∷_ (23, Rows.any-gone ty·13) (List._∷_ (24, Rows.any-gone ty·3) (List._∷_ (25, Rows.any-gone ty·13) (List._∷_ (26, Rows.any-gone ty·3) (List._∷_ (27, Rows.any-gone ty·13) (List._∷_ (28, Rows.any-gone ty·11) (List._∷_ (29, Rows.any-gone ty·14) (List._∷_ (30, Rows.any-gone ty·3) (List._∷_ (31, Rows.any-gone ty·13) List.[])))))))))))))))
+t9 = List._∷_ (16, Rows.whole (Declared.row (Apart.apartT Counts.the-type))) (List._∷_ (17, Rows.whole (Declared.row (Apart.apartT Point2.the-type))) (List._∷_ (18, Rows.whole (Declared.row (Apart.apartT Point.the-type))) (List._∷_ (19, Rows.any-gone ty·24) (List._∷_ (20, Rows.any-gone ty·3) (List._∷_ (21, Mut.mslice (Signed'.SInt Syntax.w32) ty·3 8) (List._∷_ (22, Rows.any-gone ty·3) (List._∷_ (23, Rows.any-gone ty·13) (List._∷_ (24, Rows.any-gone ty·3) (List._∷_ (25, Rows.any-gone ty·13) (List._∷_ (26, Rows.any-gone ty·3) (List._∷_ (27, Rows.any-gone ty·13) (List._∷_ (28, Rows.any-gone ty·11) (List._∷_ (29, Rows.any-gone ty·14) (List._∷_ (30, Rows.any-gone ty·3) (List._∷_ (31, Rows.any-gone ty·13) List.[])))))))))))))))
 
 abbrev pub t10 : List.List Row.Entry
-t10 = List._∷_ (0, Rows.any-gone ty·23) (List._∷_ (1, Rows.sc-here (Row.sInt Syntax.w32)) (List._∷_ (2, Rows.sc-here (Row.sInt Syntax.w32)) (List._∷_ (3, Rows.sc-here (Row.sInt Syntax.w32)) (List._∷_ (4, Relend.mslice-owed (Signed'.SInt Syntax.w32) ty·4 0 8 Row.off) (List._∷_ (5, Relend.mslice-owed (Referent.rtF (Referent.fInt Syntax.w32)) ty·5 1 9 Row.off) (List._∷_ (6, Mut.mslice (Referent.rtF (Referent.fInt Syntax.w32)) ty·6 2) (List._∷_ (7, Mut.mslice (Referent.rtF (Referent.fInt Syntax.w32)) ty·7 3) (List._∷_ (8, Mut.mslice ELEM.the-row ty·12 4) (List._∷_ (9, Mut.mslice (Referent.rtF (Referent.fInt Syntax.w32)) ty·8 5) (List._∷_ (10, Mut.mslice (Referent.rtF (Referent.fInt Syntax.w32)) ty·9 6) (List._∷_ (11, Mut.mslice (Referent.rtF (Referent.fInt Syntax.w32)) ty·10 7) (List._∷_ (12, Rows.sc-here (Row.sFloat Ieee.binary64)) (List._∷_ (13, Rows.sc-here (Row.sFloat Ieee.binary64)) (List._∷_ (14, Rows.sc-here (Row.sInt Syntax.w32)) (List._∷_ (15, Rows.sc-here (Row.sInt Syntax.w32)) List.[])))))))))))))))
+t10 = List._∷_ (0, Rows.any-gone ty·22) (List._∷_ (1, Rows.sc-here (Row.sInt Syntax.w32)) (List._∷_ (2, Rows.sc-here (Row.sInt Syntax.w32)) (List._∷_ (3, Rows.sc-here (Row.sInt Syntax.w32)) (List._∷_ (4, Relend.mslice-owed (Signed'.SInt Syntax.w32) ty·4 0 8 Row.off) (List._∷_ (5, Relend.mslice-owed (Referent.rtF (Referent.fInt Syntax.w32)) ty·5 1 9 Row.off) (List._∷_ (6, Mut.mslice (Referent.rtF (Referent.fInt Syntax.w32)) ty·6 2) (List._∷_ (7, Mut.mslice (Referent.rtF (Referent.fInt Syntax.w32)) ty·7 3) (List._∷_ (8, Mut.mslice ELEM.the-row ty·12 4) (List._∷_ (9, Mut.mslice (Referent.rtF (Referent.fInt Syntax.w32)) ty·8 5) (List._∷_ (10, Mut.mslice (Referent.rtF (Referent.fInt Syntax.w32)) ty·9 6) (List._∷_ (11, Mut.mslice (Referent.rtF (Referent.fInt Syntax.w32)) ty·10 7) (List._∷_ (12, Rows.sc-here (Row.sFloat Ieee.binary64)) (List._∷_ (13, Rows.sc-here (Row.sFloat Ieee.binary64)) (List._∷_ (14, Rows.sc-here (Row.sInt Syntax.w32)) (List._∷_ (15, Rows.sc-here (Row.sInt Syntax.w32)) List.[])))))))))))))))
 
 abbrev pub t11 : List.List Row.Entry
-t11 = List._∷_ (16, Rows.whole (Declared.row (Apart.apartT Counts.the-type))) (List._∷_ (17, Rows.whole (Declared.row (Apart.apartT Point2.the-type))) (List._∷_ (18, Rows.whole (Declared.row (Apart.apartT Point.the-type))) (List._∷_ (19, Rows.any-gone ty·25) (List._∷_ (20, Rows.any-gone ty·3) (List._∷_ (21, Mut.mslice (Signed'.SInt Syntax.w32) ty·3 8) (List._∷_ (22, Relend.msptr (Referent.rtF (Referent.fInt Syntax.w32)) ty·3 9) (List._∷_ (23, Rows.any-gone ty·13) (List._∷_ (24, Rows.any-gone ty·3) (List._∷_ (25, Rows.any-gone ty·13) (List._∷_ (26, Rows.any-gone ty·3) (List._∷_ (27, Rows.any-gone ty·13) (List._∷_ (28, Rows.any-gone ty·11) (List._∷_ (29, Rows.any-gone ty·14) (List._∷_ (30, Rows.any-gone ty·3) (List._∷_ (31, Rows.any-gone ty·13) List.[])))))))))))))))
+t11 = List._∷_ (16, Rows.whole (Declared.row (Apart.apartT Counts.the-type))) (List._∷_ (17, Rows.whole (Declared.row (Apart.apartT Point2.the-type))) (List._∷_ (18, Rows.whole (Declared.row (Apart.apartT Point.the-type))) (List._∷_ (19, Rows.any-gone ty·24) (List._∷_ (20, Rows.any-gone ty·3) (List._∷_ (21, Mut.mslice (Signed'.SInt Syntax.w32) ty·3 8) (List._∷_ (22, Relend.msptr (Referent.rtF (Referent.fInt Syntax.w32)) ty·3 9) (List._∷_ (23, Rows.any-gone ty·13) (List._∷_ (24, Rows.any-gone ty·3) (List._∷_ (25, Rows.any-gone ty·13) (List._∷_ (26, Rows.any-gone ty·3) (List._∷_ (27, Rows.any-gone ty·13) (List._∷_ (28, Rows.any-gone ty·11) (List._∷_ (29, Rows.any-gone ty·14) (List._∷_ (30, Rows.any-gone ty·3) (List._∷_ (31, Rows.any-gone ty·13) List.[])))))))))))))))
 
 abbrev pub t12 : List.List Row.Entry
-t12 = List._∷_ (16, Rows.whole (Declared.row (Apart.apartT Counts.the-type))) (List._∷_ (17, Rows.whole (Declared.row (Apart.apartT Point2.the-type))) (List._∷_ (18, Rows.whole (Declared.row (Apart.apartT Point.the-type))) (List._∷_ (19, Rows.any-gone ty·25) (List._∷_ (20, Rows.any-gone ty·3) (List._∷_ (21, Mut.mslice (Signed'.SInt Syntax.w32) ty·3 8) (List._∷_ (22, Rows.any-gone ty·3) (List._∷_ (23, Mut.mslice (Referent.rtF (Referent.fInt Syntax.w32)) ty·3 9) (List._∷_ (24, Rows.any-gone ty·3) (List._∷_ (25, Rows.any-gone ty·13) (List._∷_ (26, Rows.any-gone ty·3) (List._∷_ (27, Rows.any-gone ty·13) (List._∷_ (28, Rows.any-gone ty·11) (List._∷_ (29, Rows.any-gone ty·14) (List._∷_ (30, Rows.any-gone ty·3) (List._∷_ (31, Rows.any-gone ty·13) List.[])))))))))))))))
+t12 = List._∷_ (16, Rows.whole (Declared.row (Apart.apartT Counts.the-type))) (List._∷_ (17, Rows.whole (Declared.row (Apart.apartT Point2.the-type))) (List._∷_ (18, Rows.whole (Declared.row (Apart.apartT Point.the-type))) (List._∷_ (19, Rows.any-gone ty·24) (List._∷_ (20, Rows.any-gone ty·3) (List._∷_ (21, Mut.mslice (Signed'.SInt Syntax.w32) ty·3 8) (List._∷_ (22, Rows.any-gone ty·3) (List._∷_ (23, Mut.mslice (Referent.rtF (Referent.fInt Syntax.w32)) ty·3 9) (List._∷_ (24, Rows.any-gone ty·3) (List._∷_ (25, Rows.any-gone ty·13) (List._∷_ (26, Rows.any-gone ty·3) (List._∷_ (27, Rows.any-gone ty·13) (List._∷_ (28, Rows.any-gone ty·11) (List._∷_ (29, Rows.any-gone ty·14) (List._∷_ (30, Rows.any-gone ty·3) (List._∷_ (31, Rows.any-gone ty·13) List.[])))))))))))))))
 
 abbrev pub t13 : List.List Row.Entry
-t13 = List._∷_ (0, Rows.any-gone ty·23) (List._∷_ (1, Rows.sc-here (Row.sInt Syntax.w32)) (List._∷_ (2, Rows.sc-here (Row.sInt Syntax.w32)) (List._∷_ (3, Rows.sc-here (Row.sInt Syntax.w32)) (List._∷_ (4, Relend.mslice-owed (Signed'.SInt Syntax.w32) ty·4 0 8 Row.off) (List._∷_ (5, Relend.mslice-owed (Referent.rtF (Referent.fInt Syntax.w32)) ty·5 1 9 Row.off) (List._∷_ (6, Relend.mslice-owed (Referent.rtF (Referent.fInt Syntax.w32)) ty·6 2 10 Row.off) (List._∷_ (7, Mut.mslice (Referent.rtF (Referent.fInt Syntax.w32)) ty·7 3) (List._∷_ (8, Mut.mslice ELEM.the-row ty·12 4) (List._∷_ (9, Mut.mslice (Referent.rtF (Referent.fInt Syntax.w32)) ty·8 5) (List._∷_ (10, Mut.mslice (Referent.rtF (Referent.fInt Syntax.w32)) ty·9 6) (List._∷_ (11, Mut.mslice (Referent.rtF (Referent.fInt Syntax.w32)) ty·10 7) (List._∷_ (12, Rows.sc-here (Row.sFloat Ieee.binary64)) (List._∷_ (13, Rows.sc-here (Row.sFloat Ieee.binary64)) (List._∷_ (14, Rows.sc-here (Row.sInt Syntax.w32)) (List._∷_ (15, Rows.sc-here (Row.sInt Syntax.w32)) List.[])))))))))))))))
+t13 = List._∷_ (0, Rows.any-gone ty·22) (List._∷_ (1, Rows.sc-here (Row.sInt Syntax.w32)) (List._∷_ (2, Rows.sc-here (Row.sInt Syntax.w32)) (List._∷_ (3, Rows.sc-here (Row.sInt Syntax.w32)) (List._∷_ (4, Relend.mslice-owed (Signed'.SInt Syntax.w32) ty·4 0 8 Row.off) (List._∷_ (5, Relend.mslice-owed (Referent.rtF (Referent.fInt Syntax.w32)) ty·5 1 9 Row.off) (List._∷_ (6, Relend.mslice-owed (Referent.rtF (Referent.fInt Syntax.w32)) ty·6 2 10 Row.off) (List._∷_ (7, Mut.mslice (Referent.rtF (Referent.fInt Syntax.w32)) ty·7 3) (List._∷_ (8, Mut.mslice ELEM.the-row ty·12 4) (List._∷_ (9, Mut.mslice (Referent.rtF (Referent.fInt Syntax.w32)) ty·8 5) (List._∷_ (10, Mut.mslice (Referent.rtF (Referent.fInt Syntax.w32)) ty·9 6) (List._∷_ (11, Mut.mslice (Referent.rtF (Referent.fInt Syntax.w32)) ty·10 7) (List._∷_ (12, Rows.sc-here (Row.sFloat Ieee.binary64)) (List._∷_ (13, Rows.sc-here (Row.sFloat Ieee.binary64)) (List._∷_ (14, Rows.sc-here (Row.sInt Syntax.w32)) (List._∷_ (15, Rows.sc-here (Row.sInt Syntax.w32)) List.[])))))))))))))))
 
 abbrev pub t14 : List.List Row.Entry
-t14 = List._∷_ (16, Rows.whole (Declared.row (Apart.apartT Counts.the-type))) (List._∷_ (17, Rows.whole (Declared.row (Apart.apartT Point2.the-type))) (List._∷_ (18, Rows.whole (Declared.row (Apart.apartT Point.the-type))) (List._∷_ (19, Rows.any-gone ty·25) (List._∷_ (20, Rows.any-gone ty·3) (List._∷_ (21, Mut.mslice (Signed'.SInt Syntax.w32) ty·3 8) (List._∷_ (22, Rows.any-gone ty·3) (List._∷_ (23, Mut.mslice (Referent.rtF (Referent.fInt Syntax.w32)) ty·3 9) (List._∷_ (24, Relend.msptr (Referent.rtF (Referent.fInt Syntax.w32)) ty·3 10) (List._∷_ (25, Rows.any-gone ty·13) (List._∷_ (26, Rows.any-gone ty·3) (List._∷_ (27, Rows.any-gone ty·13) (List._∷_ (28, Rows.any-gone ty·11) (List._∷_ (29, Rows.any-gone ty·14) (List._∷_ (30, Rows.any-gone ty·3) (List._∷_ (31, Rows.any-gone ty·13) List.[])))))))))))))))
+t14 = List._∷_ (16, Rows.whole (Declared.row (Apart.apartT Counts.the-type))) (List._∷_ (17, Rows.whole (Declared.row (Apart.apartT Point2.the-type))) (List._∷_ (18, Rows.whole (Declared.row (Apart.apartT Point.the-type))) (List._∷_ (19, Rows.any-gone ty·24) (List._∷_ (20, Rows.any-gone ty·3) (List._∷_ (21, Mut.mslice (Signed'.SInt Syntax.w32) ty·3 8) (List._∷_ (22, Rows.any-gone ty·3) (List._∷_ (23, Mut.mslice (Referent.rtF (Referent.fInt Syntax.w32)) ty·3 9) (List._∷_ (24, Relend.msptr (Referent.rtF (Referent.fInt Syntax.w32)) ty·3 10) (List._∷_ (25, Rows.any-gone ty·13) (List._∷_ (26, Rows.any-gone ty·3) (List._∷_ (27, Rows.any-gone ty·13) (List._∷_ (28, Rows.any-gone ty·11) (List._∷_ (29, Rows.any-gone ty·14) (List._∷_ (30, Rows.any-gone ty·3) (List._∷_ (31, Rows.any-gone ty·13) List.[])))))))))))))))
 
 abbrev pub t15 : List.List Row.Entry
-t15 = List._∷_ (16, Rows.whole (Declared.row (Apart.apartT Counts.the-type))) (List._∷_ (17, Rows.whole (Declared.row (Apart.apartT Point2.the-type))) (List._∷_ (18, Rows.whole (Declared.row (Apart.apartT Point.the-type))) (List._∷_ (19, Rows.any-gone ty·25) (List._∷_ (20, Rows.any-gone ty·3) (List._∷_ (21, Mut.mslice (Signed'.SInt Syntax.w32) ty·3 8) (List._∷_ (22, Rows.any-gone ty·3) (List._∷_ (23, Mut.mslice (Referent.rtF (Referent.fInt Syntax.w32)) ty·3 9) (List._∷_ (24, Rows.any-gone ty·3) (List._∷_ (25, Mut.mslice (Referent.rtF (Referent.fInt Syntax.w32)) ty·3 10) (List._∷_ (26, Rows.any-gone ty·3) (List._∷_ (27, Rows.any-gone ty·13) (List._∷_ (28, Rows.any-gone ty·11) (List._∷_ (29, Rows.any-gone ty·14) (List._∷_ (30, Rows.any-gone ty·3) (List._∷_ (31, Rows.any-gone ty·13) List.[])))))))))))))))
+t15 = List._∷_ (16, Rows.whole (Declared.row (Apart.apartT Counts.the-type))) (List._∷_ (17, Rows.whole (Declared.row (Apart.apartT Point2.the-type))) (List._∷_ (18, Rows.whole (Declared.row (Apart.apartT Point.the-type))) (List._∷_ (19, Rows.any-gone ty·24) (List._∷_ (20, Rows.any-gone ty·3) (List._∷_ (21, Mut.mslice (Signed'.SInt Syntax.w32) ty·3 8) (List._∷_ (22, Rows.any-gone ty·3) (List._∷_ (23, Mut.mslice (Referent.rtF (Referent.fInt Syntax.w32)) ty·3 9) (List._∷_ (24, Rows.any-gone ty·3) (List._∷_ (25, Mut.mslice (Referent.rtF (Referent.fInt Syntax.w32)) ty·3 10) (List._∷_ (26, Rows.any-gone ty·3) (List._∷_ (27, Rows.any-gone ty·13) (List._∷_ (28, Rows.any-gone ty·11) (List._∷_ (29, Rows.any-gone ty·14) (List._∷_ (30, Rows.any-gone ty·3) (List._∷_ (31, Rows.any-gone ty·13) List.[])))))))))))))))
 
 abbrev pub t16 : List.List Row.Entry
-t16 = List._∷_ (0, Rows.any-gone ty·23) (List._∷_ (1, Rows.sc-here (Row.sInt Syntax.w32)) (List._∷_ (2, Rows.sc-here (Row.sInt Syntax.w32)) (List._∷_ (3, Rows.sc-here (Row.sInt Syntax.w32)) (List._∷_ (4, Relend.mslice-owed (Signed'.SInt Syntax.w32) ty·4 0 8 Row.off) (List._∷_ (5, Relend.mslice-owed (Referent.rtF (Referent.fInt Syntax.w32)) ty·5 1 9 Row.off) (List._∷_ (6, Relend.mslice-owed (Referent.rtF (Referent.fInt Syntax.w32)) ty·6 2 10 Row.off) (List._∷_ (7, Relend.mslice-owed (Referent.rtF (Referent.fInt Syntax.w32)) ty·7 3 11 Row.off) (List._∷_ (8, Mut.mslice ELEM.the-row ty·12 4) (List._∷_ (9, Mut.mslice (Referent.rtF (Referent.fInt Syntax.w32)) ty·8 5) (List._∷_ (10, Mut.mslice (Referent.rtF (Referent.fInt Syntax.w32)) ty·9 6) (List._∷_ (11, Mut.mslice (Referent.rtF (Referent.fInt Syntax.w32)) ty·10 7) (List._∷_ (12, Rows.sc-here (Row.sFloat Ieee.binary64)) (List._∷_ (13, Rows.sc-here (Row.sFloat Ieee.binary64)) (List._∷_ (14, Rows.sc-here (Row.sInt Syntax.w32)) (List._∷_ (15, Rows.sc-here (Row.sInt Syntax.w32)) List.[])))))))))))))))
+t16 = List._∷_ (0, Rows.any-gone ty·22) (List._∷_ (1, Rows.sc-here (Row.sInt Syntax.w32)) (List._∷_ (2, Rows.sc-here (Row.sInt Syntax.w32)) (List._∷_ (3, Rows.sc-here (Row.sInt Syntax.w32)) (List._∷_ (4, Relend.mslice-owed (Signed'.SInt Syntax.w32) ty·4 0 8 Row.off) (List._∷_ (5, Relend.mslice-owed (Referent.rtF (Referent.fInt Syntax.w32)) ty·5 1 9 Row.off) (List._∷_ (6, Relend.mslice-owed (Referent.rtF (Referent.fInt Syntax.w32)) ty·6 2 10 Row.off) (List._∷_ (7, Relend.mslice-owed (Referent.rtF (Referent.fInt Syntax.w32)) ty·7 3 11 Row.off) (List._∷_ (8, Mut.mslice ELEM.the-row ty·12 4) (List._∷_ (9, Mut.mslice (Referent.rtF (Referent.fInt Syntax.w32)) ty·8 5) (List._∷_ (10, Mut.mslice (Referent.rtF (Referent.fInt Syntax.w32)) ty·9 6) (List._∷_ (11, Mut.mslice (Referent.rtF (Referent.fInt Syntax.w32)) ty·10 7) (List._∷_ (12, Rows.sc-here (Row.sFloat Ieee.binary64)) (List._∷_ (13, Rows.sc-here (Row.sFloat Ieee.binary64)) (List._∷_ (14, Rows.sc-here (Row.sInt Syntax.w32)) (List._∷_ (15, Rows.sc-here (Row.sInt Syntax.w32)) List.[])))))))))))))))
 
 abbrev pub t17 : List.List Row.Entry
-t17 = List._∷_ (16, Rows.whole (Declared.row (Apart.apartT Counts.the-type))) (List._∷_ (17, Rows.whole (Declared.row (Apart.apartT Point2.the-type))) (List._∷_ (18, Rows.whole (Declared.row (Apart.apartT Point.the-type))) (List._∷_ (19, Rows.any-gone ty·25) (List._∷_ (20, Rows.any-gone ty·3) (List._∷_ (21, Mut.mslice (Signed'.SInt Syntax.w32) ty·3 8) (List._∷_ (22, Rows.any-gone ty·3) (List._∷_ (23, Mut.mslice (Referent.rtF (Referent.fInt Syntax.w32)) ty·3 9) (List._∷_ (24, Rows.any-gone ty·3) (List._∷_ (25, Mut.mslice (Referent.rtF (Referent.fInt Syntax.w32)) ty·3 10) (List._∷_ (26, Relend.msptr (Referent.rtF (Referent.fInt Syntax.w32)) ty·3 11) (List._∷_ (27, Rows.any-gone ty·13) (List._∷_ (28, Rows.any-gone ty·11) (List._∷_ (29, Rows.any-gone ty·14) (List._∷_ (30, Rows.any-gone ty·3) (List._∷_ (31, Rows.any-gone ty·13) List.[])))))))))))))))
+t17 = List._∷_ (16, Rows.whole (Declared.row (Apart.apartT Counts.the-type))) (List._∷_ (17, Rows.whole (Declared.row (Apart.apartT Point2.the-type))) (List._∷_ (18, Rows.whole (Declared.row (Apart.apartT Point.the-type))) (List._∷_ (19, Rows.any-gone ty·24) (List._∷_ (20, Rows.any-gone ty·3) (List._∷_ (21, Mut.mslice (Signed'.SInt Syntax.w32) ty·3 8) (List._∷_ (22, Rows.any-gone ty·3) (List._∷_ (23, Mut.mslice (Referent.rtF (Referent.fInt Syntax.w32)) ty·3 9) (List._∷_ (24, Rows.any-gone ty·3) (List._∷_ (25, Mut.mslice (Referent.rtF (Referent.fInt Syntax.w32)) ty·3 10) (List._∷_ (26, Relend.msptr (Referent.rtF (Referent.fInt Syntax.w32)) ty·3 11) (List._∷_ (27, Rows.any-gone ty·13) (List._∷_ (28, Rows.any-gone ty·11) (List._∷_ (29, Rows.any-gone ty·14) (List._∷_ (30, Rows.any-gone ty·3) (List._∷_ (31, Rows.any-gone ty·13) List.[])))))))))))))))
 
 abbrev pub t18 : List.List Row.Entry
-t18 = List._∷_ (16, Rows.whole (Declared.row (Apart.apartT Counts.the-type))) (List._∷_ (17, Rows.whole (Declared.row (Apart.apartT Point2.the-type))) (List._∷_ (18, Rows.whole (Declared.row (Apart.apartT Point.the-type))) (List._∷_ (19, Rows.any-gone ty·25) (List._∷_ (20, Rows.any-gone ty·3) (List._∷_ (21, Mut.mslice (Signed'.SInt Syntax.w32) ty·3 8) (List._∷_ (22, Rows.any-gone ty·3) (List._∷_ (23, Mut.mslice (Referent.rtF (Referent.fInt Syntax.w32)) ty·3 9) (List._∷_ (24, Rows.any-gone ty·3) (List._∷_ (25, Mut.mslice (Referent.rtF (Referent.fInt Syntax.w32)) ty·3 10) (List._∷_ (26, Rows.any-gone ty·3) (List._∷_ (27, Mut.mslice (Referent.rtF (Referent.fInt Syntax.w32)) ty·3 11) (List._∷_ (28, Rows.any-gone ty·11) (List._∷_ (29, Rows.any-gone ty·14) (List._∷_ (30, Rows.any-gone ty·3) (List._∷_ (31, Rows.any-gone ty·13) List.[])))))))))))))))
+t18 = List._∷_ (16, Rows.whole (Declared.row (Apart.apartT Counts.the-type))) (List._∷_ (17, Rows.whole (Declared.row (Apart.apartT Point2.the-type))) (List._∷_ (18, Rows.whole (Declared.row (Apart.apartT Point.the-type))) (List._∷_ (19, Rows.any-gone ty·24) (List._∷_ (20, Rows.any-gone ty·3) (List._∷_ (21, Mut.mslice (Signed'.SInt Syntax.w32) ty·3 8) (List._∷_ (22, Rows.any-gone ty·3) (List._∷_ (23, Mut.mslice (Referent.rtF (Referent.fInt Syntax.w32)) ty·3 9) (List._∷_ (24, Rows.any-gone ty·3) (List._∷_ (25, Mut.mslice (Referent.rtF (Referent.fInt Syntax.w32)) ty·3 10) (List._∷_ (26, Rows.any-gone ty·3) (List._∷_ (27, Mut.mslice (Referent.rtF (Referent.fInt Syntax.w32)) ty·3 11) (List._∷_ (28, Rows.any-gone ty·11) (List._∷_ (29, Rows.any-gone ty·14) (List._∷_ (30, Rows.any-gone ty·3) (List._∷_ (31, Rows.any-gone ty·13) List.[])))))))))))))))
 
 abbrev pub t19 : List.List Row.Entry
-t19 = List._∷_ (0, Rows.any-gone ty·23) (List._∷_ (1, Rows.sc-here (Row.sInt Syntax.w32)) (List._∷_ (2, Rows.sc-here (Row.sInt Syntax.w32)) (List._∷_ (3, Rows.sc-here (Row.sInt Syntax.w32)) (List._∷_ (4, Relend.mslice-owed (Signed'.SInt Syntax.w32) ty·4 0 8 Row.off) (List._∷_ (5, Relend.mslice-owed (Referent.rtF (Referent.fInt Syntax.w32)) ty·5 1 9 Row.off) (List._∷_ (6, Relend.mslice-owed (Referent.rtF (Referent.fInt Syntax.w32)) ty·6 2 10 Row.off) (List._∷_ (7, Relend.mslice-owed (Referent.rtF (Referent.fInt Syntax.w32)) ty·7 3 11 Row.off) (List._∷_ (8, Relend.mslice-owed ELEM.the-row ty·12 4 12 Row.off) (List._∷_ (9, Mut.mslice (Referent.rtF (Referent.fInt Syntax.w32)) ty·8 5) (List._∷_ (10, Mut.mslice (Referent.rtF (Referent.fInt Syntax.w32)) ty·9 6) (List._∷_ (11, Mut.mslice (Referent.rtF (Referent.fInt Syntax.w32)) ty·10 7) (List._∷_ (12, Rows.sc-here (Row.sFloat Ieee.binary64)) (List._∷_ (13, Rows.sc-here (Row.sFloat Ieee.binary64)) (List._∷_ (14, Rows.sc-here (Row.sInt Syntax.w32)) (List._∷_ (15, Rows.sc-here (Row.sInt Syntax.w32)) List.[])))))))))))))))
+t19 = List._∷_ (0, Rows.any-gone ty·22) (List._∷_ (1, Rows.sc-here (Row.sInt Syntax.w32)) (List._∷_ (2, Rows.sc-here (Row.sInt Syntax.w32)) (List._∷_ (3, Rows.sc-here (Row.sInt Syntax.w32)) (List._∷_ (4, Relend.mslice-owed (Signed'.SInt Syntax.w32) ty·4 0 8 Row.off) (List._∷_ (5, Relend.mslice-owed (Referent.rtF (Referent.fInt Syntax.w32)) ty·5 1 9 Row.off) (List._∷_ (6, Relend.mslice-owed (Referent.rtF (Referent.fInt Syntax.w32)) ty·6 2 10 Row.off) (List._∷_ (7, Relend.mslice-owed (Referent.rtF (Referent.fInt Syntax.w32)) ty·7 3 11 Row.off) (List._∷_ (8, Relend.mslice-owed ELEM.the-row ty·12 4 12 Row.off) (List._∷_ (9, Mut.mslice (Referent.rtF (Referent.fInt Syntax.w32)) ty·8 5) (List._∷_ (10, Mut.mslice (Referent.rtF (Referent.fInt Syntax.w32)) ty·9 6) (List._∷_ (11, Mut.mslice (Referent.rtF (Referent.fInt Syntax.w32)) ty·10 7) (List._∷_ (12, Rows.sc-here (Row.sFloat Ieee.binary64)) (List._∷_ (13, Rows.sc-here (Row.sFloat Ieee.binary64)) (List._∷_ (14, Rows.sc-here (Row.sInt Syntax.w32)) (List._∷_ (15, Rows.sc-here (Row.sInt Syntax.w32)) List.[])))))))))))))))
 
 abbrev pub t20 : List.List Row.Entry
-t20 = List._∷_ (16, Rows.whole (Declared.row (Apart.apartT Counts.the-type))) (List._∷_ (17, Rows.whole (Declared.row (Apart.apartT Point2.the-type))) (List._∷_ (18, Rows.whole (Declared.row (Apart.apartT Point.the-type))) (List._∷_ (19, Rows.any-gone ty·25) (List._∷_ (20, Rows.any-gone ty·3) (List._∷_ (21, Mut.mslice (Signed'.SInt Syntax.w32) ty·3 8) (List._∷_ (22, Rows.any-gone ty·3) (List._∷_ (23, Mut.mslice (Referent.rtF (Referent.fInt Syntax.w32)) ty·3 9) (List._∷_ (24, Rows.any-gone ty·3) (List._∷_ (25, Mut.mslice (Referent.rtF (Referent.fInt Syntax.w32)) ty·3 10) (List._∷_ (26, Rows.any-gone ty·3) (List._∷_ (27, Mut.mslice (Referent.rtF (Referent.fInt Syntax.w32)) ty·3 11) (List._∷_ (28, Relend.msptr ELEM.the-row ty·11 12) (List._∷_ (29, Rows.any-gone ty·14) (List._∷_ (30, Rows.any-gone ty·3) (List._∷_ (31, Rows.any-gone ty·13) List.[])))))))))))))))
+t20 = List._∷_ (16, Rows.whole (Declared.row (Apart.apartT Counts.the-type))) (List._∷_ (17, Rows.whole (Declared.row (Apart.apartT Point2.the-type))) (List._∷_ (18, Rows.whole (Declared.row (Apart.apartT Point.the-type))) (List._∷_ (19, Rows.any-gone ty·24) (List._∷_ (20, Rows.any-gone ty·3) (List._∷_ (21, Mut.mslice (Signed'.SInt Syntax.w32) ty·3 8) (List._∷_ (22, Rows.any-gone ty·3) (List._∷_ (23, Mut.mslice (Referent.rtF (Referent.fInt Syntax.w32)) ty·3 9) (List._∷_ (24, Rows.any-gone ty·3) (List._∷_ (25, Mut.mslice (Referent.rtF (Referent.fInt Syntax.w32)) ty·3 10) (List._∷_ (26, Rows.any-gone ty·3) (List._∷_ (27, Mut.mslice (Referent.rtF (Referent.fInt Syntax.w32)) ty·3 11) (List._∷_ (28, Relend.msptr ELEM.the-row ty·11 12) (List._∷_ (29, Rows.any-gone ty·14) (List._∷_ (30, Rows.any-gone ty·3) (List._∷_ (31, Rows.any-gone ty·13) List.[])))))))))))))))
 
 abbrev pub t21 : List.List Row.Entry
-t21 = List._∷_ (16, Rows.whole (Declared.row (Apart.apartT Counts.the-type))) (List._∷_ (17, Rows.whole (Declared.row (Apart.apartT Point2.the-type))) (List._∷_ (18, Rows.whole (Declared.row (Apart.apartT Point.the-type))) (List._∷_ (19, Rows.any-gone ty·25) (List._∷_ (20, Rows.any-gone ty·3) (List._∷_ (21, Mut.mslice (Signed'.SInt Syntax.w32) ty·3 8) (List._∷_ (22, Rows.any-gone ty·3) (List._∷_ (23, Mut.mslice (Referent.rtF (Referent.fInt Syntax.w32)) ty·3 9) (List._∷_ (24, Rows.any-gone ty·3) (List._∷_ (25, Mut.mslice (Referent.rtF (Referent.fInt Syntax.w32)) ty·3 10) (List._∷_ (26, Rows.any-gone ty·3) (List._∷_ (27, Mut.mslice (Referent.rtF (Referent.fInt Syntax.w32)) ty·3 11) (List._∷_ (28, Rows.any-gone ty·11) (List._∷_ (29, Mut.mslice ELEM.the-row ty·11 12) (List._∷_ (30, Rows.any-gone ty·3) (List._∷_ (31, Rows.any-gone ty·13) List.[])))))))))))))))
+t21 = List._∷_ (16, Rows.whole (Declared.row (Apart.apartT Counts.the-type))) (List._∷_ (17, Rows.whole (Declared.row (Apart.apartT Point2.the-type))) (List._∷_ (18, Rows.whole (Declared.row (Apart.apartT Point.the-type))) (List._∷_ (19, Rows.any-gone ty·24) (List._∷_ (20, Rows.any-gone ty·3) (List._∷_ (21, Mut.mslice (Signed'.SInt Syntax.w32) ty·3 8) (List._∷_ (22, Rows.any-gone ty·3) (List._∷_ (23, Mut.mslice (Referent.rtF (Referent.fInt Syntax.w32)) ty·3 9) (List._∷_ (24, Rows.any-gone ty·3) (List._∷_ (25, Mut.mslice (Referent.rtF (Referent.fInt Syntax.w32)) ty·3 10) (List._∷_ (26, Rows.any-gone ty·3) (List._∷_ (27, Mut.mslice (Referent.rtF (Referent.fInt Syntax.w32)) ty·3 11) (List._∷_ (28, Rows.any-gone ty·11) (List._∷_ (29, Mut.mslice ELEM.the-row ty·11 12) (List._∷_ (30, Rows.any-gone ty·3) (List._∷_ (31, Rows.any-gone ty·13) List.[])))))))))))))))
 
 abbrev pub t22 : List.List Row.Entry
-t22 = List._∷_ (0, Rows.any-gone ty·23) (List._∷_ (1, Rows.sc-here (Row.sInt Syntax.w32)) (List._∷_ (2, Rows.sc-here (Row.sInt Syntax.w32)) (List._∷_ (3, Rows.sc-here (Row.sInt Syntax.w32)) (List._∷_ (4, Relend.mslice-owed (Signed'.SInt Syntax.w32) ty·4 0 8 Row.off) (List._∷_ (5, Relend.mslice-owed (Referent.rtF (Referent.fInt Syntax.w32)) ty·5 1 9 Row.off) (List._∷_ (6, Relend.mslice-owed (Referent.rtF (Referent.fInt Syntax.w32)) ty·6 2 10 Row.off) (List._∷_ (7, Relend.mslice-owed (Referent.rtF (Referent.fInt Syntax.w32)) ty·7 3 11 Row.off) (List._∷_ (8, Relend.mslice-owed ELEM.the-row ty·12 4 12 Row.off) (List._∷_ (9, Relend.mslice-owed (Referent.rtF (Referent.fInt Syntax.w32)) ty·8 5 13 Row.off) (List._∷_ (10, Mut.mslice (Referent.rtF (Referent.fInt Syntax.w32)) ty·9 6) (List._∷_ (11, Mut.mslice (Referent.rtF (Referent.fInt Syntax.w32)) ty·10 7) (List._∷_ (12, Rows.sc-here (Row.sFloat Ieee.binary64)) (List._∷_ (13, Rows.sc-here (Row.sFloat Ieee.binary64)) (List._∷_ (14, Rows.sc-here (Row.sInt Syntax.w32)) (List._∷_ (15, Rows.sc-here (Row.sInt Syntax.w32)) List.[])))))))))))))))
+t22 = List._∷_ (0, Rows.any-gone ty·22) (List._∷_ (1, Rows.sc-here (Row.sInt Syntax.w32)) (List._∷_ (2, Rows.sc-here (Row.sInt Syntax.w32)) (List._∷_ (3, Rows.sc-here (Row.sInt Syntax.w32)) (List._∷_ (4, Relend.mslice-owed (Signed'.SInt Syntax.w32) ty·4 0 8 Row.off) (List._∷_ (5, Relend.mslice-owed (Referent.rtF (Referent.fInt Syntax.w32)) ty·5 1 9 Row.off) (List._∷_ (6, Relend.mslice-owed (Referent.rtF (Referent.fInt Syntax.w32)) ty·6 2 10 Row.off) (List._∷_ (7, Relend.mslice-owed (Referent.rtF (Referent.fInt Syntax.w32)) ty·7 3 11 Row.off) (List._∷_ (8, Relend.mslice-owed ELEM.the-row ty·12 4 12 Row.off) (List._∷_ (9, Relend.mslice-owed (Referent.rtF (Referent.fInt Syntax.w32)) ty·8 5 13 Row.off) (List._∷_ (10, Mut.mslice (Referent.rtF (Referent.fInt Syntax.w32)) ty·9 6) (List._∷_ (11, Mut.mslice (Referent.rtF (Referent.fInt Syntax.w32)) ty·10 7) (List._∷_ (12, Rows.sc-here (Row.sFloat Ieee.binary64)) (List._∷_ (13, Rows.sc-here (Row.sFloat Ieee.binary64)) (List._∷_ (14, Rows.sc-here (Row.sInt Syntax.w32)) (List._∷_ (15, Rows.sc-here (Row.sInt Syntax.w32)) List.[])))))))))))))))
 
 abbrev pub t23 : List.List Row.Entry
-t23 = List._∷_ (16, Rows.whole (Declared.row (Apart.apartT Counts.the-type))) (List._∷_ (17, Rows.whole (Declared.row (Apart.apartT Point2.the-type))) (List._∷_ (18, Rows.whole (Declared.row (Apart.apartT Point.the-type))) (List._∷_ (19, Rows.any-gone ty·25) (List._∷_ (20, Rows.any-gone ty·3) (List._∷_ (21, Mut.mslice (Signed'.SInt Syntax.w32) ty·3 8) (List._∷_ (22, Rows.any-gone ty·3) (List._∷_ (23, Mut.mslice (Referent.rtF (Referent.fInt Syntax.w32)) ty·3 9) (List._∷_ (24, Rows.any-gone ty·3) (List._∷_ (25, Mut.mslice (Referent.rtF (Referent.fInt Syntax.w32)) ty·3 10) (List._∷_ (26, Rows.any-gone ty·3) (List._∷_ (27, Mut.mslice (Referent.rtF (Referent.fInt Syntax.w32)) ty·3 11) (List._∷_ (28, Rows.any-gone ty·11) (List._∷_ (29, Mut.mslice ELEM.the-row ty·11 12) (List._∷_ (30, Relend.msptr (Referent.rtF (Referent.fInt Syntax.w32)) ty·3 13) (List._∷_ (31, Rows.any-gone ty·13) List.[])))))))))))))))
+t23 = List._∷_ (16, Rows.whole (Declared.row (Apart.apartT Counts.the-type))) (List._∷_ (17, Rows.whole (Declared.row (Apart.apartT Point2.the-type))) (List._∷_ (18, Rows.whole (Declared.row (Apart.apartT Point.the-type))) (List._∷_ (19, Rows.any-gone ty·24) (List._∷_ (20, Rows.any-gone ty·3) (List._∷_ (21, Mut.mslice (Signed'.SInt Syntax.w32) ty·3 8) (List._∷_ (22, Rows.any-gone ty·3) (List._∷_ (23, Mut.mslice (Referent.rtF (Referent.fInt Syntax.w32)) ty·3 9) (List._∷_ (24, Rows.any-gone ty·3) (List._∷_ (25, Mut.mslice (Referent.rtF (Referent.fInt Syntax.w32)) ty·3 10) (List._∷_ (26, Rows.any-gone ty·3) (List._∷_ (27, Mut.mslice (Referent.rtF (Referent.fInt Syntax.w32)) ty·3 11) (List._∷_ (28, Rows.any-gone ty·11) (List._∷_ (29, Mut.mslice ELEM.the-row ty·11 12) (List._∷_ (30, Relend.msptr (Referent.rtF (Referent.fInt Syntax.w32)) ty·3 13) (List._∷_ (31, Rows.any-gone ty·13) List.[])))))))))))))))
 
 abbrev pub t24 : List.List Row.Entry
-t24 = List._∷_ (16, Rows.whole (Declared.row (Apart.apartT Counts.the-type))) (List._∷_ (17, Rows.whole (Declared.row (Apart.apartT Point2.the-type))) (List._∷_ (18, Rows.whole (Declared.row (Apart.apartT Point.the-type))) (List._∷_ (19, Rows.any-gone ty·25) (List._∷_ (20, Rows.any-gone ty·3) (List._∷_ (21, Mut.mslice (Signed'.SInt Syntax.w32) ty·3 8) (List._∷_ (22, Rows.any-gone ty·3) (List._∷_ (23, Mut.mslice (Referent.rtF (Referent.fInt Syntax.w32)) ty·3 9) (List._∷_ (24, Rows.any-gone ty·3) (List._∷_ (25, Mut.mslice (Referent.rtF (Referent.fInt Syntax.w32)) ty·3 10) (List._∷_ (26, Rows.any-gone ty·3) (List._∷_ (27, Mut.mslice (Referent.rtF (Referent.fInt Syntax.w32)) ty·3 11) (List._∷_ (28, Rows.any-gone ty·11) (List._∷_ (29, Mut.mslice ELEM.the-row ty·11 12) (List._∷_ (30, Rows.any-gone ty·3) (List._∷_ (31, Mut.mslice (Referent.rtF (Referent.fInt Syntax.w32)) ty·3 13) List.[])))))))))))))))
+t24 = List._∷_ (16, Rows.whole (Declared.row (Apart.apartT Counts.the-type))) (List._∷_ (17, Rows.whole (Declared.row (Apart.apartT Point2.the-type))) (List._∷_ (18, Rows.whole (Declared.row (Apart.apartT Point.the-type))) (List._∷_ (19, Rows.any-gone ty·24) (List._∷_ (20, Rows.any-gone ty·3) (List._∷_ (21, Mut.mslice (Signed'.SInt Syntax.w32) ty·3 8) (List._∷_ (22, Rows.any-gone ty·3) (List._∷_ (23, Mut.mslice (Referent.rtF (Referent.fInt Syntax.w32)) ty·3 9) (List._∷_ (24, Rows.any-gone ty·3) (List._∷_ (25, Mut.mslice (Referent.rtF (Referent.fInt Syntax.w32)) ty·3 10) (List._∷_ (26, Rows.any-gone ty·3) (List._∷_ (27, Mut.mslice (Referent.rtF (Referent.fInt Syntax.w32)) ty·3 11) (List._∷_ (28, Rows.any-gone ty·11) (List._∷_ (29, Mut.mslice ELEM.the-row ty·11 12) (List._∷_ (30, Rows.any-gone ty·3) (List._∷_ (31, Mut.mslice (Referent.rtF (Referent.fInt Syntax.w32)) ty·3 13) List.[])))))))))))))))
 
 abbrev pub t25 : List.List Row.Entry
-t25 = List._∷_ (0, Rows.any-gone ty·23) (List._∷_ (1, Rows.sc-here (Row.sInt Syntax.w32)) (List._∷_ (2, Rows.sc-here (Row.sInt Syntax.w32)) (List._∷_ (3, Rows.sc-here (Row.sInt Syntax.w32)) (List._∷_ (4, Relend.mslice-owed (Signed'.SInt Syntax.w32) ty·4 0 8 Row.off) (List._∷_ (5, Relend.mslice-owed (Referent.rtF (Referent.fInt Syntax.w32)) ty·5 1 9 Row.off) (List._∷_ (6, Relend.mslice-owed (Referent.rtF (Referent.fInt Syntax.w32)) ty·6 2 10 Row.off) (List._∷_ (7, Relend.mslice-owed (Referent.rtF (Referent.fInt Syntax.w32)) ty·7 3 11 Row.off) (List._∷_ (8, Relend.mslice-owed ELEM.the-row ty·12 4 12 Row.off) (List._∷_ (9, Relend.mslice-owed (Referent.rtF (Referent.fInt Syntax.w32)) ty·8 5 13 Row.off) (List._∷_ (10, Relend.mslice-owed (Referent.rtF (Referent.fInt Syntax.w32)) ty·9 6 14 Row.off) (List._∷_ (11, Mut.mslice (Referent.rtF (Referent.fInt Syntax.w32)) ty·10 7) (List._∷_ (12, Rows.sc-here (Row.sFloat Ieee.binary64)) (List._∷_ (13, Rows.sc-here (Row.sFloat Ieee.binary64)) (List._∷_ (14, Rows.sc-here (Row.sInt Syntax.w32)) (List._∷_ (15, Rows.sc-here (Row.sInt Syntax.w32)) List.[])))))))))))))))
+t25 = List._∷_ (0, Rows.any-gone ty·22) (List._∷_ (1, Rows.sc-here (Row.sInt Syntax.w32)) (List._∷_ (2, Rows.sc-here (Row.sInt Syntax.w32)) (List._∷_ (3, Rows.sc-here (Row.sInt Syntax.w32)) (List._∷_ (4, Relend.mslice-owed (Signed'.SInt Syntax.w32) ty·4 0 8 Row.off) (List._∷_ (5, Relend.mslice-owed (Referent.rtF (Referent.fInt Syntax.w32)) ty·5 1 9 Row.off) (List._∷_ (6, Relend.mslice-owed (Referent.rtF (Referent.fInt Syntax.w32)) ty·6 2 10 Row.off) (List._∷_ (7, Relend.mslice-owed (Referent.rtF (Referent.fInt Syntax.w32)) ty·7 3 11 Row.off) (List._∷_ (8, Relend.mslice-owed ELEM.the-row ty·12 4 12 Row.off) (List._∷_ (9, Relend.mslice-owed (Referent.rtF (Referent.fInt Syntax.w32)) ty·8 5 13 Row.off) (List._∷_ (10, Relend.mslice-owed (Referent.rtF (Referent.fInt Syntax.w32)) ty·9 6 14 Row.off) (List._∷_ (11, Mut.mslice (Referent.rtF (Referent.fInt Syntax.w32)) ty·10 7) (List._∷_ (12, Rows.sc-here (Row.sFloat Ieee.binary64)) (List._∷_ (13, Rows.sc-here (Row.sFloat Ieee.binary64)) (List._∷_ (14, Rows.sc-here (Row.sInt Syntax.w32)) (List._∷_ (15, Rows.sc-here (Row.sInt Syntax.w32)) List.[])))))))))))))))
 
 abbrev pub t26 : List.List Row.Entry
 t26 = List._∷_ (32, Relend.msptr (Referent.rtF (Referent.fInt Syntax.w32)) ty·3 14) (List._∷_ (33, Rows.any-gone ty·13) (List._∷_ (34, Rows.any-gone ty·3) (List._∷_ (35, Rows.any-gone ty·13) List.[])))
@@ -388,7 +385,7 @@ abbrev pub t27 : List.List Row.Entry
 t27 = List._∷_ (32, Rows.any-gone ty·3) (List._∷_ (33, Mut.mslice (Referent.rtF (Referent.fInt Syntax.w32)) ty·3 14) (List._∷_ (34, Rows.any-gone ty·3) (List._∷_ (35, Rows.any-gone ty·13) List.[])))
 
 abbrev pub t28 : List.List Row.Entry
-t28 = List._∷_ (0, Rows.any-gone ty·23) (List._∷_ (1, Rows.sc-here (Row.sInt Syntax.w32)) (List._∷_ (2, Rows.sc-here (Row.sInt Syntax.w32)) (List._∷_ (3, Rows.sc-here (Row.sInt Syntax.w32)) (List._∷_ (4, Relend.mslice-owed (Signed'.SInt Syntax.w32) ty·4 0 8 Row.off) (List._∷_ (5, Relend.mslice-owed (Referent.rtF (Referent.fInt Syntax.w32)) ty·5 1 9 Row.off) (List._∷_ (6, Relend.mslice-owed (Referent.rtF (Referent.fInt Syntax.w32)) ty·6 2 10 Row.off) (List._∷_ (7, Relend.mslice-owed (Referent.rtF (Referent.fInt Syntax.w32)) ty·7 3 11 Row.off) (List._∷_ (8, Relend.mslice-owed ELEM.the-row ty·12 4 12 Row.off) (List._∷_ (9, Relend.mslice-owed (Referent.rtF (Referent.fInt Syntax.w32)) ty·8 5 13 Row.off) (List._∷_ (10, Relend.mslice-owed (Referent.rtF (Referent.fInt Syntax.w32)) ty·9 6 14 Row.off) (List._∷_ (11, Relend.mslice-owed (Referent.rtF (Referent.fInt Syntax.w32)) ty·10 7 15 Row.off) (List._∷_ (12, Rows.sc-here (Row.sFloat Ieee.binary64)) (List._∷_ (13, Rows.sc-here (Row.sFloat Ieee.binary64)) (List._∷_ (14, Rows.sc-here (Row.sInt Syntax.w32)) (List._∷_ (15, Rows.sc-here (Row.sInt Syntax.w32)) List.[])))))))))))))))
+t28 = List._∷_ (0, Rows.any-gone ty·22) (List._∷_ (1, Rows.sc-here (Row.sInt Syntax.w32)) (List._∷_ (2, Rows.sc-here (Row.sInt Syntax.w32)) (List._∷_ (3, Rows.sc-here (Row.sInt Syntax.w32)) (List._∷_ (4, Relend.mslice-owed (Signed'.SInt Syntax.w32) ty·4 0 8 Row.off) (List._∷_ (5, Relend.mslice-owed (Referent.rtF (Referent.fInt Syntax.w32)) ty·5 1 9 Row.off) (List._∷_ (6, Relend.mslice-owed (Referent.rtF (Referent.fInt Syntax.w32)) ty·6 2 10 Row.off) (List._∷_ (7, Relend.mslice-owed (Referent.rtF (Referent.fInt Syntax.w32)) ty·7 3 11 Row.off) (List._∷_ (8, Relend.mslice-owed ELEM.the-row ty·12 4 12 Row.off) (List._∷_ (9, Relend.mslice-owed (Referent.rtF (Referent.fInt Syntax.w32)) ty·8 5 13 Row.off) (List._∷_ (10, Relend.mslice-owed (Referent.rtF (Referent.fInt Syntax.w32)) ty·9 6 14 Row.off) (List._∷_ (11, Relend.mslice-owed (Referent.rtF (Referent.fInt Syntax.w32)) ty·10 7 15 Row.off) (List._∷_ (12, Rows.sc-here (Row.sFloat Ieee.binary64)) (List._∷_ (13, Rows.sc-here (Row.sFloat Ieee.binary64)) (List._∷_ (14, Rows.sc-here (Row.sInt Syntax.w32)) (List._∷_ (15, Rows.sc-here (Row.sInt Syntax.w32)) List.[])))))))))))))))
 
 abbrev pub t29 : List.List Row.Entry
 t29 = List._∷_ (32, Rows.any-gone ty·3) (List._∷_ (33, Mut.mslice (Referent.rtF (Referent.fInt Syntax.w32)) ty·3 14) (List._∷_ (34, Relend.msptr (Referent.rtF (Referent.fInt Syntax.w32)) ty·3 15) (List._∷_ (35, Rows.any-gone ty·13) List.[])))
@@ -397,13 +394,13 @@ abbrev pub t30 : List.List Row.Entry
 t30 = List._∷_ (32, Rows.any-gone ty·3) (List._∷_ (33, Mut.mslice (Referent.rtF (Referent.fInt Syntax.w32)) ty·3 14) (List._∷_ (34, Rows.any-gone ty·3) (List._∷_ (35, Mut.mslice (Referent.rtF (Referent.fInt Syntax.w32)) ty·3 15) List.[])))
 
 abbrev pub t31 : List.List Row.Entry
-t31 = List._∷_ (16, Rows.whole (Declared.row Counts.the-type)) (List._∷_ (17, Rows.whole (Declared.row (Apart.apartT Point2.the-type))) (List._∷_ (18, Rows.whole (Declared.row (Apart.apartT Point.the-type))) (List._∷_ (19, Rows.any-gone ty·25) (List._∷_ (20, Rows.any-gone ty·3) (List._∷_ (21, Mut.mslice (Signed'.SInt Syntax.w32) ty·3 8) (List._∷_ (22, Rows.any-gone ty·3) (List._∷_ (23, Mut.mslice (Referent.rtF (Referent.fInt Syntax.w32)) ty·3 9) (List._∷_ (24, Rows.any-gone ty·3) (List._∷_ (25, Mut.mslice (Referent.rtF (Referent.fInt Syntax.w32)) ty·3 10) (List._∷_ (26, Rows.any-gone ty·3) (List._∷_ (27, Mut.mslice (Referent.rtF (Referent.fInt Syntax.w32)) ty·3 11) (List._∷_ (28, Rows.any-gone ty·11) (List._∷_ (29, Mut.mslice ELEM.the-row ty·11 12) (List._∷_ (30, Rows.any-gone ty·3) (List._∷_ (31, Mut.mslice (Referent.rtF (Referent.fInt Syntax.w32)) ty·3 13) List.[])))))))))))))))
+t31 = List._∷_ (16, Rows.whole (Declared.row Counts.the-type)) (List._∷_ (17, Rows.whole (Declared.row (Apart.apartT Point2.the-type))) (List._∷_ (18, Rows.whole (Declared.row (Apart.apartT Point.the-type))) (List._∷_ (19, Rows.any-gone ty·24) (List._∷_ (20, Rows.any-gone ty·3) (List._∷_ (21, Mut.mslice (Signed'.SInt Syntax.w32) ty·3 8) (List._∷_ (22, Rows.any-gone ty·3) (List._∷_ (23, Mut.mslice (Referent.rtF (Referent.fInt Syntax.w32)) ty·3 9) (List._∷_ (24, Rows.any-gone ty·3) (List._∷_ (25, Mut.mslice (Referent.rtF (Referent.fInt Syntax.w32)) ty·3 10) (List._∷_ (26, Rows.any-gone ty·3) (List._∷_ (27, Mut.mslice (Referent.rtF (Referent.fInt Syntax.w32)) ty·3 11) (List._∷_ (28, Rows.any-gone ty·11) (List._∷_ (29, Mut.mslice ELEM.the-row ty·11 12) (List._∷_ (30, Rows.any-gone ty·3) (List._∷_ (31, Mut.mslice (Referent.rtF (Referent.fInt Syntax.w32)) ty·3 13) List.[])))))))))))))))
 
 abbrev pub t32 : List.List Row.Entry
-t32 = List._∷_ (16, Rows.whole (Declared.row Counts.the-type)) (List._∷_ (17, Rows.whole (Declared.row Point2.the-type)) (List._∷_ (18, Rows.whole (Declared.row (Apart.apartT Point.the-type))) (List._∷_ (19, Rows.any-gone ty·25) (List._∷_ (20, Rows.any-gone ty·3) (List._∷_ (21, Mut.mslice (Signed'.SInt Syntax.w32) ty·3 8) (List._∷_ (22, Rows.any-gone ty·3) (List._∷_ (23, Mut.mslice (Referent.rtF (Referent.fInt Syntax.w32)) ty·3 9) (List._∷_ (24, Rows.any-gone ty·3) (List._∷_ (25, Mut.mslice (Referent.rtF (Referent.fInt Syntax.w32)) ty·3 10) (List._∷_ (26, Rows.any-gone ty·3) (List._∷_ (27, Mut.mslice (Referent.rtF (Referent.fInt Syntax.w32)) ty·3 11) (List._∷_ (28, Rows.any-gone ty·11) (List._∷_ (29, Mut.mslice ELEM.the-row ty·11 12) (List._∷_ (30, Rows.any-gone ty·3) (List._∷_ (31, Mut.mslice (Referent.rtF (Referent.fInt Syntax.w32)) ty·3 13) List.[])))))))))))))))
+t32 = List._∷_ (16, Rows.whole (Declared.row Counts.the-type)) (List._∷_ (17, Rows.whole (Declared.row Point2.the-type)) (List._∷_ (18, Rows.whole (Declared.row (Apart.apartT Point.the-type))) (List._∷_ (19, Rows.any-gone ty·24) (List._∷_ (20, Rows.any-gone ty·3) (List._∷_ (21, Mut.mslice (Signed'.SInt Syntax.w32) ty·3 8) (List._∷_ (22, Rows.any-gone ty·3) (List._∷_ (23, Mut.mslice (Referent.rtF (Referent.fInt Syntax.w32)) ty·3 9) (List._∷_ (24, Rows.any-gone ty·3) (List._∷_ (25, Mut.mslice (Referent.rtF (Referent.fInt Syntax.w32)) ty·3 10) (List._∷_ (26, Rows.any-gone ty·3) (List._∷_ (27, Mut.mslice (Referent.rtF (Referent.fInt Syntax.w32)) ty·3 11) (List._∷_ (28, Rows.any-gone ty·11) (List._∷_ (29, Mut.mslice ELEM.the-row ty·11 12) (List._∷_ (30, Rows.any-gone ty·3) (List._∷_ (31, Mut.mslice (Referent.rtF (Referent.fInt Syntax.w32)) ty·3 13) List.[])))))))))))))))
 
 abbrev pub t33 : List.List Row.Entry
-t33 = List._∷_ (16, Rows.whole (Declared.row Counts.the-type)) (List._∷_ (17, Rows.whole (Declared.row Point2.the-type)) (List._∷_ (18, Rows.whole (Declared.row Point.the-type)) (List._∷_ (19, Rows.any-gone ty·25) (List._∷_ (20, Rows.any-gone ty·3) (List._∷_ (21, Mut.mslice (Signed'.SInt Syntax.w32) ty·3 8) (List._∷_ (22, Rows.any-gone ty·3) (List._∷_ (23, Mut.mslice (Referent.rtF (Referent.fInt Syntax.w32)) ty·3 9) (List._∷_ (24, Rows.any-gone ty·3) (List._∷_ (25, Mut.mslice (Referent.rtF (Referent.fInt Syntax.w32)) ty·3 10) (List._∷_ (26, Rows.any-gone ty·3) (List._∷_ (27, Mut.mslice (Referent.rtF (Referent.fInt Syntax.w32)) ty·3 11) (List._∷_ (28, Rows.any-gone ty·11) (List._∷_ (29, Mut.mslice ELEM.the-row ty·11 12) (List._∷_ (30, Rows.any-gone ty·3) (List._∷_ (31, Mut.mslice (Referent.rtF (Referent.fInt Syntax.w32)) ty·3 13) List.[])))))))))))))))
+t33 = List._∷_ (16, Rows.whole (Declared.row Counts.the-type)) (List._∷_ (17, Rows.whole (Declared.row Point2.the-type)) (List._∷_ (18, Rows.whole (Declared.row Point.the-type)) (List._∷_ (19, Rows.any-gone ty·24) (List._∷_ (20, Rows.any-gone ty·3) (List._∷_ (21, Mut.mslice (Signed'.SInt Syntax.w32) ty·3 8) (List._∷_ (22, Rows.any-gone ty·3) (List._∷_ (23, Mut.mslice (Referent.rtF (Referent.fInt Syntax.w32)) ty·3 9) (List._∷_ (24, Rows.any-gone ty·3) (List._∷_ (25, Mut.mslice (Referent.rtF (Referent.fInt Syntax.w32)) ty·3 10) (List._∷_ (26, Rows.any-gone ty·3) (List._∷_ (27, Mut.mslice (Referent.rtF (Referent.fInt Syntax.w32)) ty·3 11) (List._∷_ (28, Rows.any-gone ty·11) (List._∷_ (29, Mut.mslice ELEM.the-row ty·11 12) (List._∷_ (30, Rows.any-gone ty·3) (List._∷_ (31, Mut.mslice (Referent.rtF (Referent.fInt Syntax.w32)) ty·3 13) List.[])))))))))))))))
 
 abbrev pub t34 : List.List Row.Entry
 t34 = List._∷_ (16, Rows.whole (Declared.row Counts.the-type)) (List._∷_ (17, Rows.whole (Declared.row Point2.the-type)) (List._∷_ (18, Rows.whole (Declared.row Point.the-type)) (List._∷_ (19, Rows.whole (Declared.row StepAnswer.the-type)) (List._∷_ (20, Rows.any-gone ty·3) (List._∷_ (21, Mut.msleft (Signed'.SInt Syntax.w32) ty·3) (List._∷_ (22, Rows.any-gone ty·3) (List._∷_ (23, Mut.msleft (Referent.rtF (Referent.fInt Syntax.w32)) ty·3) (List._∷_ (24, Rows.any-gone ty·3) (List._∷_ (25, Mut.msleft (Referent.rtF (Referent.fInt Syntax.w32)) ty·3) (List._∷_ (26, Rows.any-gone ty·3) (List._∷_ (27, Mut.msleft (Referent.rtF (Referent.fInt Syntax.w32)) ty·3) (List._∷_ (28, Rows.any-gone ty·11) (List._∷_ (29, Mut.msleft ELEM.the-row ty·11) (List._∷_ (30, Rows.any-gone ty·3) (List._∷_ (31, Mut.msleft (Referent.rtF (Referent.fInt Syntax.w32)) ty·3) List.[])))))))))))))))
@@ -421,43 +418,43 @@ abbrev pub t38 : List.List Row.Entry
 t38 = List._∷_ (16, Rows.any-gone ty·17) (List._∷_ (17, Rows.any-gone ty·16) (List._∷_ (18, Rows.any-gone ty·15) (List._∷_ (19, Rows.whole (Declared.row StepAnswer.the-type)) (List._∷_ (20, Rows.any-gone ty·3) (List._∷_ (21, Mut.msleft (Signed'.SInt Syntax.w32) ty·3) (List._∷_ (22, Rows.any-gone ty·3) (List._∷_ (23, Mut.msleft (Referent.rtF (Referent.fInt Syntax.w32)) ty·3) (List._∷_ (24, Rows.any-gone ty·3) (List._∷_ (25, Mut.msleft (Referent.rtF (Referent.fInt Syntax.w32)) ty·3) (List._∷_ (26, Rows.any-gone ty·3) (List._∷_ (27, Mut.msleft (Referent.rtF (Referent.fInt Syntax.w32)) ty·3) (List._∷_ (28, Rows.any-gone ty·11) (List._∷_ (29, Mut.msleft ELEM.the-row ty·11) (List._∷_ (30, Rows.any-gone ty·3) (List._∷_ (31, Mut.msleft (Referent.rtF (Referent.fInt Syntax.w32)) ty·3) List.[])))))))))))))))
 
 abbrev pub t39 : List.List Row.Entry
-t39 = List._∷_ (0, Rows.any-gone ty·23) (List._∷_ (1, Rows.sc-here (Row.sInt Syntax.w32)) (List._∷_ (2, Rows.sc-here (Row.sInt Syntax.w32)) (List._∷_ (3, Rows.sc-here (Row.sInt Syntax.w32)) (List._∷_ (4, Mut.mslice (Signed'.SInt Syntax.w32) ty·4 0) (List._∷_ (5, Relend.mslice-owed (Referent.rtF (Referent.fInt Syntax.w32)) ty·5 1 9 Row.off) (List._∷_ (6, Relend.mslice-owed (Referent.rtF (Referent.fInt Syntax.w32)) ty·6 2 10 Row.off) (List._∷_ (7, Relend.mslice-owed (Referent.rtF (Referent.fInt Syntax.w32)) ty·7 3 11 Row.off) (List._∷_ (8, Relend.mslice-owed ELEM.the-row ty·12 4 12 Row.off) (List._∷_ (9, Relend.mslice-owed (Referent.rtF (Referent.fInt Syntax.w32)) ty·8 5 13 Row.off) (List._∷_ (10, Relend.mslice-owed (Referent.rtF (Referent.fInt Syntax.w32)) ty·9 6 14 Row.off) (List._∷_ (11, Relend.mslice-owed (Referent.rtF (Referent.fInt Syntax.w32)) ty·10 7 15 Row.off) (List._∷_ (12, Rows.sc-here (Row.sFloat Ieee.binary64)) (List._∷_ (13, Rows.sc-here (Row.sFloat Ieee.binary64)) (List._∷_ (14, Rows.sc-here (Row.sInt Syntax.w32)) (List._∷_ (15, Rows.sc-here (Row.sInt Syntax.w32)) List.[])))))))))))))))
+t39 = List._∷_ (0, Rows.any-gone ty·22) (List._∷_ (1, Rows.sc-here (Row.sInt Syntax.w32)) (List._∷_ (2, Rows.sc-here (Row.sInt Syntax.w32)) (List._∷_ (3, Rows.sc-here (Row.sInt Syntax.w32)) (List._∷_ (4, Mut.mslice (Signed'.SInt Syntax.w32) ty·4 0) (List._∷_ (5, Relend.mslice-owed (Referent.rtF (Referent.fInt Syntax.w32)) ty·5 1 9 Row.off) (List._∷_ (6, Relend.mslice-owed (Referent.rtF (Referent.fInt Syntax.w32)) ty·6 2 10 Row.off) (List._∷_ (7, Relend.mslice-owed (Referent.rtF (Referent.fInt Syntax.w32)) ty·7 3 11 Row.off) (List._∷_ (8, Relend.mslice-owed ELEM.the-row ty·12 4 12 Row.off) (List._∷_ (9, Relend.mslice-owed (Referent.rtF (Referent.fInt Syntax.w32)) ty·8 5 13 Row.off) (List._∷_ (10, Relend.mslice-owed (Referent.rtF (Referent.fInt Syntax.w32)) ty·9 6 14 Row.off) (List._∷_ (11, Relend.mslice-owed (Referent.rtF (Referent.fInt Syntax.w32)) ty·10 7 15 Row.off) (List._∷_ (12, Rows.sc-here (Row.sFloat Ieee.binary64)) (List._∷_ (13, Rows.sc-here (Row.sFloat Ieee.binary64)) (List._∷_ (14, Rows.sc-here (Row.sInt Syntax.w32)) (List._∷_ (15, Rows.sc-here (Row.sInt Syntax.w32)) List.[])))))))))))))))
 
 abbrev pub t40 : List.List Row.Entry
 t40 = List._∷_ (16, Rows.any-gone ty·17) (List._∷_ (17, Rows.any-gone ty·16) (List._∷_ (18, Rows.any-gone ty·15) (List._∷_ (19, Rows.whole (Declared.row StepAnswer.the-type)) (List._∷_ (20, Rows.any-gone ty·3) (List._∷_ (21, Rows.any-gone ty·13) (List._∷_ (22, Rows.any-gone ty·3) (List._∷_ (23, Mut.msleft (Referent.rtF (Referent.fInt Syntax.w32)) ty·3) (List._∷_ (24, Rows.any-gone ty·3) (List._∷_ (25, Mut.msleft (Referent.rtF (Referent.fInt Syntax.w32)) ty·3) (List._∷_ (26, Rows.any-gone ty·3) (List._∷_ (27, Mut.msleft (Referent.rtF (Referent.fInt Syntax.w32)) ty·3) (List._∷_ (28, Rows.any-gone ty·11) (List._∷_ (29, Mut.msleft ELEM.the-row ty·11) (List._∷_ (30, Rows.any-gone ty·3) (List._∷_ (31, Mut.msleft (Referent.rtF (Referent.fInt Syntax.w32)) ty·3) List.[])))))))))))))))
 
 abbrev pub t41 : List.List Row.Entry
-t41 = List._∷_ (0, Rows.any-gone ty·23) (List._∷_ (1, Rows.sc-here (Row.sInt Syntax.w32)) (List._∷_ (2, Rows.sc-here (Row.sInt Syntax.w32)) (List._∷_ (3, Rows.sc-here (Row.sInt Syntax.w32)) (List._∷_ (4, Mut.mslice (Signed'.SInt Syntax.w32) ty·4 0) (List._∷_ (5, Mut.mslice (Referent.rtF (Referent.fInt Syntax.w32)) ty·5 1) (List._∷_ (6, Relend.mslice-owed (Referent.rtF (Referent.fInt Syntax.w32)) ty·6 2 10 Row.off) (List._∷_ (7, Relend.mslice-owed (Referent.rtF (Referent.fInt Syntax.w32)) ty·7 3 11 Row.off) (List._∷_ (8, Relend.mslice-owed ELEM.the-row ty·12 4 12 Row.off) (List._∷_ (9, Relend.mslice-owed (Referent.rtF (Referent.fInt Syntax.w32)) ty·8 5 13 Row.off) (List._∷_ (10, Relend.mslice-owed (Referent.rtF (Referent.fInt Syntax.w32)) ty·9 6 14 Row.off) (List._∷_ (11, Relend.mslice-owed (Referent.rtF (Referent.fInt Syntax.w32)) ty·10 7 15 Row.off) (List._∷_ (12, Rows.sc-here (Row.sFloat Ieee.binary64)) (List._∷_ (13, Rows.sc-here (Row.sFloat Ieee.binary64)) (List._∷_ (14, Rows.sc-here (Row.sInt Syntax.w32)) (List._∷_ (15, Rows.sc-here (Row.sInt Syntax.w32)) List.[])))))))))))))))
+t41 = List._∷_ (0, Rows.any-gone ty·22) (List._∷_ (1, Rows.sc-here (Row.sInt Syntax.w32)) (List._∷_ (2, Rows.sc-here (Row.sInt Syntax.w32)) (List._∷_ (3, Rows.sc-here (Row.sInt Syntax.w32)) (List._∷_ (4, Mut.mslice (Signed'.SInt Syntax.w32) ty·4 0) (List._∷_ (5, Mut.mslice (Referent.rtF (Referent.fInt Syntax.w32)) ty·5 1) (List._∷_ (6, Relend.mslice-owed (Referent.rtF (Referent.fInt Syntax.w32)) ty·6 2 10 Row.off) (List._∷_ (7, Relend.mslice-owed (Referent.rtF (Referent.fInt Syntax.w32)) ty·7 3 11 Row.off) (List._∷_ (8, Relend.mslice-owed ELEM.the-row ty·12 4 12 Row.off) (List._∷_ (9, Relend.mslice-owed (Referent.rtF (Referent.fInt Syntax.w32)) ty·8 5 13 Row.off) (List._∷_ (10, Relend.mslice-owed (Referent.rtF (Referent.fInt Syntax.w32)) ty·9 6 14 Row.off) (List._∷_ (11, Relend.mslice-owed (Referent.rtF (Referent.fInt Syntax.w32)) ty·10 7 15 Row.off) (List._∷_ (12, Rows.sc-here (Row.sFloat Ieee.binary64)) (List._∷_ (13, Rows.sc-here (Row.sFloat Ieee.binary64)) (List._∷_ (14, Rows.sc-here (Row.sInt Syntax.w32)) (List._∷_ (15, Rows.sc-here (Row.sInt Syntax.w32)) List.[])))))))))))))))
 
 abbrev pub t42 : List.List Row.Entry
 t42 = List._∷_ (16, Rows.any-gone ty·17) (List._∷_ (17, Rows.any-gone ty·16) (List._∷_ (18, Rows.any-gone ty·15) (List._∷_ (19, Rows.whole (Declared.row StepAnswer.the-type)) (List._∷_ (20, Rows.any-gone ty·3) (List._∷_ (21, Rows.any-gone ty·13) (List._∷_ (22, Rows.any-gone ty·3) (List._∷_ (23, Rows.any-gone ty·13) (List._∷_ (24, Rows.any-gone ty·3) (List._∷_ (25, Mut.msleft (Referent.rtF (Referent.fInt Syntax.w32)) ty·3) (List._∷_ (26, Rows.any-gone ty·3) (List._∷_ (27, Mut.msleft (Referent.rtF (Referent.fInt Syntax.w32)) ty·3) (List._∷_ (28, Rows.any-gone ty·11) (List._∷_ (29, Mut.msleft ELEM.the-row ty·11) (List._∷_ (30, Rows.any-gone ty·3) (List._∷_ (31, Mut.msleft (Referent.rtF (Referent.fInt Syntax.w32)) ty·3) List.[])))))))))))))))
 
 abbrev pub t43 : List.List Row.Entry
-t43 = List._∷_ (0, Rows.any-gone ty·23) (List._∷_ (1, Rows.sc-here (Row.sInt Syntax.w32)) (List._∷_ (2, Rows.sc-here (Row.sInt Syntax.w32)) (List._∷_ (3, Rows.sc-here (Row.sInt Syntax.w32)) (List._∷_ (4, Mut.mslice (Signed'.SInt Syntax.w32) ty·4 0) (List._∷_ (5, Mut.mslice (Referent.rtF (Referent.fInt Syntax.w32)) ty·5 1) (List._∷_ (6, Mut.mslice (Referent.rtF (Referent.fInt Syntax.w32)) ty·6 2) (List._∷_ (7, Relend.mslice-owed (Referent.rtF (Referent.fInt Syntax.w32)) ty·7 3 11 Row.off) (List._∷_ (8, Relend.mslice-owed ELEM.the-row ty·12 4 12 Row.off) (List._∷_ (9, Relend.mslice-owed (Referent.rtF (Referent.fInt Syntax.w32)) ty·8 5 13 Row.off) (List._∷_ (10, Relend.mslice-owed (Referent.rtF (Referent.fInt Syntax.w32)) ty·9 6 14 Row.off) (List._∷_ (11, Relend.mslice-owed (Referent.rtF (Referent.fInt Syntax.w32)) ty·10 7 15 Row.off) (List._∷_ (12, Rows.sc-here (Row.sFloat Ieee.binary64)) (List._∷_ (13, Rows.sc-here (Row.sFloat Ieee.binary64)) (List._∷_ (14, Rows.sc-here (Row.sInt Syntax.w32)) (List._∷_ (15, Rows.sc-here (Row.sInt Syntax.w32)) List.[])))))))))))))))
+t43 = List._∷_ (0, Rows.any-gone ty·22) (List._∷_ (1, Rows.sc-here (Row.sInt Syntax.w32)) (List._∷_ (2, Rows.sc-here (Row.sInt Syntax.w32)) (List._∷_ (3, Rows.sc-here (Row.sInt Syntax.w32)) (List._∷_ (4, Mut.mslice (Signed'.SInt Syntax.w32) ty·4 0) (List._∷_ (5, Mut.mslice (Referent.rtF (Referent.fInt Syntax.w32)) ty·5 1) (List._∷_ (6, Mut.mslice (Referent.rtF (Referent.fInt Syntax.w32)) ty·6 2) (List._∷_ (7, Relend.mslice-owed (Referent.rtF (Referent.fInt Syntax.w32)) ty·7 3 11 Row.off) (List._∷_ (8, Relend.mslice-owed ELEM.the-row ty·12 4 12 Row.off) (List._∷_ (9, Relend.mslice-owed (Referent.rtF (Referent.fInt Syntax.w32)) ty·8 5 13 Row.off) (List._∷_ (10, Relend.mslice-owed (Referent.rtF (Referent.fInt Syntax.w32)) ty·9 6 14 Row.off) (List._∷_ (11, Relend.mslice-owed (Referent.rtF (Referent.fInt Syntax.w32)) ty·10 7 15 Row.off) (List._∷_ (12, Rows.sc-here (Row.sFloat Ieee.binary64)) (List._∷_ (13, Rows.sc-here (Row.sFloat Ieee.binary64)) (List._∷_ (14, Rows.sc-here (Row.sInt Syntax.w32)) (List._∷_ (15, Rows.sc-here (Row.sInt Syntax.w32)) List.[])))))))))))))))
 
 abbrev pub t44 : List.List Row.Entry
 t44 = List._∷_ (16, Rows.any-gone ty·17) (List._∷_ (17, Rows.any-gone ty·16) (List._∷_ (18, Rows.any-gone ty·15) (List._∷_ (19, Rows.whole (Declared.row StepAnswer.the-type)) (List._∷_ (20, Rows.any-gone ty·3) (List._∷_ (21, Rows.any-gone ty·13) (List._∷_ (22, Rows.any-gone ty·3) (List._∷_ (23, Rows.any-gone ty·13) (List._∷_ (24, Rows.any-gone ty·3) (List._∷_ (25, Rows.any-gone ty·13) (List._∷_ (26, Rows.any-gone ty·3) (List._∷_ (27, Mut.msleft (Referent.rtF (Referent.fInt Syntax.w32)) ty·3) (List._∷_ (28, Rows.any-gone ty·11) (List._∷_ (29, Mut.msleft ELEM.the-row ty·11) (List._∷_ (30, Rows.any-gone ty·3) (List._∷_ (31, Mut.msleft (Referent.rtF (Referent.fInt Syntax.w32)) ty·3) List.[])))))))))))))))
 
 abbrev pub t45 : List.List Row.Entry
-t45 = List._∷_ (0, Rows.any-gone ty·23) (List._∷_ (1, Rows.sc-here (Row.sInt Syntax.w32)) (List._∷_ (2, Rows.sc-here (Row.sInt Syntax.w32)) (List._∷_ (3, Rows.sc-here (Row.sInt Syntax.w32)) (List._∷_ (4, Mut.mslice (Signed'.SInt Syntax.w32) ty·4 0) (List._∷_ (5, Mut.mslice (Referent.rtF (Referent.fInt Syntax.w32)) ty·5 1) (List._∷_ (6, Mut.mslice (Referent.rtF (Referent.fInt Syntax.w32)) ty·6 2) (List._∷_ (7, Mut.mslice (Referent.rtF (Referent.fInt Syntax.w32)) ty·7 3) (List._∷_ (8, Relend.mslice-owed ELEM.the-row ty·12 4 12 Row.off) (List._∷_ (9, Relend.mslice-owed (Referent.rtF (Referent.fInt Syntax.w32)) ty·8 5 13 Row.off) (List._∷_ (10, Relend.mslice-owed (Referent.rtF (Referent.fInt Syntax.w32)) ty·9 6 14 Row.off) (List._∷_ (11, Relend.mslice-owed (Referent.rtF (Referent.fInt Syntax.w32)) ty·10 7 15 Row.off) (List._∷_ (12, Rows.sc-here (Row.sFloat Ieee.binary64)) (List._∷_ (13, Rows.sc-here (Row.sFloat Ieee.binary64)) (List._∷_ (14, Rows.sc-here (Row.sInt Syntax.w32)) (List._∷_ (15, Rows.sc-here (Row.sInt Syntax.w32)) List.[])))))))))))))))
+t45 = List._∷_ (0, Rows.any-gone ty·22) (List._∷_ (1, Rows.sc-here (Row.sInt Syntax.w32)) (List._∷_ (2, Rows.sc-here (Row.sInt Syntax.w32)) (List._∷_ (3, Rows.sc-here (Row.sInt Syntax.w32)) (List._∷_ (4, Mut.mslice (Signed'.SInt Syntax.w32) ty·4 0) (List._∷_ (5, Mut.mslice (Referent.rtF (Referent.fInt Syntax.w32)) ty·5 1) (List._∷_ (6, Mut.mslice (Referent.rtF (Referent.fInt Syntax.w32)) ty·6 2) (List._∷_ (7, Mut.mslice (Referent.rtF (Referent.fInt Syntax.w32)) ty·7 3) (List._∷_ (8, Relend.mslice-owed ELEM.the-row ty·12 4 12 Row.off) (List._∷_ (9, Relend.mslice-owed (Referent.rtF (Referent.fInt Syntax.w32)) ty·8 5 13 Row.off) (List._∷_ (10, Relend.mslice-owed (Referent.rtF (Referent.fInt Syntax.w32)) ty·9 6 14 Row.off) (List._∷_ (11, Relend.mslice-owed (Referent.rtF (Referent.fInt Syntax.w32)) ty·10 7 15 Row.off) (List._∷_ (12, Rows.sc-here (Row.sFloat Ieee.binary64)) (List._∷_ (13, Rows.sc-here (Row.sFloat Ieee.binary64)) (List._∷_ (14, Rows.sc-here (Row.sInt Syntax.w32)) (List._∷_ (15, Rows.sc-here (Row.sInt Syntax.w32)) List.[])))))))))))))))
 
 abbrev pub t46 : List.List Row.Entry
 t46 = List._∷_ (16, Rows.any-gone ty·17) (List._∷_ (17, Rows.any-gone ty·16) (List._∷_ (18, Rows.any-gone ty·15) (List._∷_ (19, Rows.whole (Declared.row StepAnswer.the-type)) (List._∷_ (20, Rows.any-gone ty·3) (List._∷_ (21, Rows.any-gone ty·13) (List._∷_ (22, Rows.any-gone ty·3) (List._∷_ (23, Rows.any-gone ty·13) (List._∷_ (24, Rows.any-gone ty·3) (List._∷_ (25, Rows.any-gone ty·13) (List._∷_ (26, Rows.any-gone ty·3) (List._∷_ (27, Rows.any-gone ty·13) (List._∷_ (28, Rows.any-gone ty·11) (List._∷_ (29, Mut.msleft ELEM.the-row ty·11) (List._∷_ (30, Rows.any-gone ty·3) (List._∷_ (31, Mut.msleft (Referent.rtF (Referent.fInt Syntax.w32)) ty·3) List.[])))))))))))))))
 
 abbrev pub t47 : List.List Row.Entry
-t47 = List._∷_ (0, Rows.any-gone ty·23) (List._∷_ (1, Rows.sc-here (Row.sInt Syntax.w32)) (List._∷_ (2, Rows.sc-here (Row.sInt Syntax.w32)) (List._∷_ (3, Rows.sc-here (Row.sInt Syntax.w32)) (List._∷_ (4, Mut.mslice (Signed'.SInt Syntax.w32) ty·4 0) (List._∷_ (5, Mut.mslice (Referent.rtF (Referent.fInt Syntax.w32)) ty·5 1) (List._∷_ (6, Mut.mslice (Referent.rtF (Referent.fInt Syntax.w32)) ty·6 2) (List._∷_ (7, Mut.mslice (Referent.rtF (Referent.fInt Syntax.w32)) ty·7 3) (List._∷_ (8, Mut.mslice ELEM.the-row ty·12 4) (List._∷_ (9, Relend.mslice-owed (Referent.rtF (Referent.fInt Syntax.w32)) ty·8 5 13 Row.off) (List._∷_ (10, Relend.mslice-owed (Referent.rtF (Referent.fInt Syntax.w32)) ty·9 6 14 Row.off) (List._∷_ (11, Relend.mslice-owed (Referent.rtF (Referent.fInt Syntax.w32)) ty·10 7 15 Row.off) (List._∷_ (12, Rows.sc-here (Row.sFloat Ieee.binary64)) (List._∷_ (13, Rows.sc-here (Row.sFloat Ieee.binary64)) (List._∷_ (14, Rows.sc-here (Row.sInt Syntax.w32)) (List._∷_ (15, Rows.sc-here (Row.sInt Syntax.w32)) List.[])))))))))))))))
+t47 = List._∷_ (0, Rows.any-gone ty·22) (List._∷_ (1, Rows.sc-here (Row.sInt Syntax.w32)) (List._∷_ (2, Rows.sc-here (Row.sInt Syntax.w32)) (List._∷_ (3, Rows.sc-here (Row.sInt Syntax.w32)) (List._∷_ (4, Mut.mslice (Signed'.SInt Syntax.w32) ty·4 0) (List._∷_ (5, Mut.mslice (Referent.rtF (Referent.fInt Syntax.w32)) ty·5 1) (List._∷_ (6, Mut.mslice (Referent.rtF (Referent.fInt Syntax.w32)) ty·6 2) (List._∷_ (7, Mut.mslice (Referent.rtF (Referent.fInt Syntax.w32)) ty·7 3) (List._∷_ (8, Mut.mslice ELEM.the-row ty·12 4) (List._∷_ (9, Relend.mslice-owed (Referent.rtF (Referent.fInt Syntax.w32)) ty·8 5 13 Row.off) (List._∷_ (10, Relend.mslice-owed (Referent.rtF (Referent.fInt Syntax.w32)) ty·9 6 14 Row.off) (List._∷_ (11, Relend.mslice-owed (Referent.rtF (Referent.fInt Syntax.w32)) ty·10 7 15 Row.off) (List._∷_ (12, Rows.sc-here (Row.sFloat Ieee.binary64)) (List._∷_ (13, Rows.sc-here (Row.sFloat Ieee.binary64)) (List._∷_ (14, Rows.sc-here (Row.sInt Syntax.w32)) (List._∷_ (15, Rows.sc-here (Row.sInt Syntax.w32)) List.[])))))))))))))))
 
 abbrev pub t48 : List.List Row.Entry
 t48 = List._∷_ (16, Rows.any-gone ty·17) (List._∷_ (17, Rows.any-gone ty·16) (List._∷_ (18, Rows.any-gone ty·15) (List._∷_ (19, Rows.whole (Declared.row StepAnswer.the-type)) (List._∷_ (20, Rows.any-gone ty·3) (List._∷_ (21, Rows.any-gone ty·13) (List._∷_ (22, Rows.any-gone ty·3) (List._∷_ (23, Rows.any-gone ty·13) (List._∷_ (24, Rows.any-gone ty·3) (List._∷_ (25, Rows.any-gone ty·13) (List._∷_ (26, Rows.any-gone ty·3) (List._∷_ (27, Rows.any-gone ty·13) (List._∷_ (28, Rows.any-gone ty·11) (List._∷_ (29, Rows.any-gone ty·14) (List._∷_ (30, Rows.any-gone ty·3) (List._∷_ (31, Mut.msleft (Referent.rtF (Referent.fInt Syntax.w32)) ty·3) List.[])))))))))))))))
 
 abbrev pub t49 : List.List Row.Entry
-t49 = List._∷_ (0, Rows.any-gone ty·23) (List._∷_ (1, Rows.sc-here (Row.sInt Syntax.w32)) (List._∷_ (2, Rows.sc-here (Row.sInt Syntax.w32)) (List._∷_ (3, Rows.sc-here (Row.sInt Syntax.w32)) (List._∷_ (4, Mut.mslice (Signed'.SInt Syntax.w32) ty·4 0) (List._∷_ (5, Mut.mslice (Referent.rtF (Referent.fInt Syntax.w32)) ty·5 1) (List._∷_ (6, Mut.mslice (Referent.rtF (Referent.fInt Syntax.w32)) ty·6 2) (List._∷_ (7, Mut.mslice (Referent.rtF (Referent.fInt Syntax.w32)) ty·7 3) (List._∷_ (8, Mut.mslice ELEM.the-row ty·12 4) (List._∷_ (9, Mut.mslice (Referent.rtF (Referent.fInt Syntax.w32)) ty·8 5) (List._∷_ (10, Relend.mslice-owed (Referent.rtF (Referent.fInt Syntax.w32)) ty·9 6 14 Row.off) (List._∷_ (11, Relend.mslice-owed (Referent.rtF (Referent.fInt Syntax.w32)) ty·10 7 15 Row.off) (List._∷_ (12, Rows.sc-here (Row.sFloat Ieee.binary64)) (List._∷_ (13, Rows.sc-here (Row.sFloat Ieee.binary64)) (List._∷_ (14, Rows.sc-here (Row.sInt Syntax.w32)) (List._∷_ (15, Rows.sc-here (Row.sInt Syntax.w32)) List.[])))))))))))))))
+t49 = List._∷_ (0, Rows.any-gone ty·22) (List._∷_ (1, Rows.sc-here (Row.sInt Syntax.w32)) (List._∷_ (2, Rows.sc-here (Row.sInt Syntax.w32)) (List._∷_ (3, Rows.sc-here (Row.sInt Syntax.w32)) (List._∷_ (4, Mut.mslice (Signed'.SInt Syntax.w32) ty·4 0) (List._∷_ (5, Mut.mslice (Referent.rtF (Referent.fInt Syntax.w32)) ty·5 1) (List._∷_ (6, Mut.mslice (Referent.rtF (Referent.fInt Syntax.w32)) ty·6 2) (List._∷_ (7, Mut.mslice (Referent.rtF (Referent.fInt Syntax.w32)) ty·7 3) (List._∷_ (8, Mut.mslice ELEM.the-row ty·12 4) (List._∷_ (9, Mut.mslice (Referent.rtF (Referent.fInt Syntax.w32)) ty·8 5) (List._∷_ (10, Relend.mslice-owed (Referent.rtF (Referent.fInt Syntax.w32)) ty·9 6 14 Row.off) (List._∷_ (11, Relend.mslice-owed (Referent.rtF (Referent.fInt Syntax.w32)) ty·10 7 15 Row.off) (List._∷_ (12, Rows.sc-here (Row.sFloat Ieee.binary64)) (List._∷_ (13, Rows.sc-here (Row.sFloat Ieee.binary64)) (List._∷_ (14, Rows.sc-here (Row.sInt Syntax.w32)) (List._∷_ (15, Rows.sc-here (Row.sInt Syntax.w32)) List.[])))))))))))))))
 
 abbrev pub t50 : List.List Row.Entry
 t50 = List._∷_ (16, Rows.any-gone ty·17) (List._∷_ (17, Rows.any-gone ty·16) (List._∷_ (18, Rows.any-gone ty·15) (List._∷_ (19, Rows.whole (Declared.row StepAnswer.the-type)) (List._∷_ (20, Rows.any-gone ty·3) (List._∷_ (21, Rows.any-gone ty·13) (List._∷_ (22, Rows.any-gone ty·3) (List._∷_ (23, Rows.any-gone ty·13) (List._∷_ (24, Rows.any-gone ty·3) (List._∷_ (25, Rows.any-gone ty·13) (List._∷_ (26, Rows.any-gone ty·3) (List._∷_ (27, Rows.any-gone ty·13) (List._∷_ (28, Rows.any-gone ty·11) (List._∷_ (29, Rows.any-gone ty·14) (List._∷_ (30, Rows.any-gone ty·3) (List._∷_ (31, Rows.any-gone ty·13) List.[])))))))))))))))
 
 abbrev pub t51 : List.List Row.Entry
-t51 = List._∷_ (0, Rows.any-gone ty·23) (List._∷_ (1, Rows.sc-here (Row.sInt Syntax.w32)) (List._∷_ (2, Rows.sc-here (Row.sInt Syntax.w32)) (List._∷_ (3, Rows.sc-here (Row.sInt Syntax.w32)) (List._∷_ (4, Mut.mslice (Signed'.SInt Syntax.w32) ty·4 0) (List._∷_ (5, Mut.mslice (Referent.rtF (Referent.fInt Syntax.w32)) ty·5 1) (List._∷_ (6, Mut.mslice (Referent.rtF (Referent.fInt Syntax.w32)) ty·6 2) (List._∷_ (7, Mut.mslice (Referent.rtF (Referent.fInt Syntax.w32)) ty·7 3) (List._∷_ (8, Mut.mslice ELEM.the-row ty·12 4) (List._∷_ (9, Mut.mslice (Referent.rtF (Referent.fInt Syntax.w32)) ty·8 5) (List._∷_ (10, Mut.mslice (Referent.rtF (Referent.fInt Syntax.w32)) ty·9 6) (List._∷_ (11, Relend.mslice-owed (Referent.rtF (Referent.fInt Syntax.w32)) ty·10 7 15 Row.off) (List._∷_ (12, Rows.sc-here (Row.sFloat Ieee.binary64)) (List._∷_ (13, Rows.sc-here (Row.sFloat Ieee.binary64)) (List._∷_ (14, Rows.sc-here (Row.sInt Syntax.w32)) (List._∷_ (15, Rows.sc-here (Row.sInt Syntax.w32)) List.[])))))))))))))))
+t51 = List._∷_ (0, Rows.any-gone ty·22) (List._∷_ (1, Rows.sc-here (Row.sInt Syntax.w32)) (List._∷_ (2, Rows.sc-here (Row.sInt Syntax.w32)) (List._∷_ (3, Rows.sc-here (Row.sInt Syntax.w32)) (List._∷_ (4, Mut.mslice (Signed'.SInt Syntax.w32) ty·4 0) (List._∷_ (5, Mut.mslice (Referent.rtF (Referent.fInt Syntax.w32)) ty·5 1) (List._∷_ (6, Mut.mslice (Referent.rtF (Referent.fInt Syntax.w32)) ty·6 2) (List._∷_ (7, Mut.mslice (Referent.rtF (Referent.fInt Syntax.w32)) ty·7 3) (List._∷_ (8, Mut.mslice ELEM.the-row ty·12 4) (List._∷_ (9, Mut.mslice (Referent.rtF (Referent.fInt Syntax.w32)) ty·8 5) (List._∷_ (10, Mut.mslice (Referent.rtF (Referent.fInt Syntax.w32)) ty·9 6) (List._∷_ (11, Relend.mslice-owed (Referent.rtF (Referent.fInt Syntax.w32)) ty·10 7 15 Row.off) (List._∷_ (12, Rows.sc-here (Row.sFloat Ieee.binary64)) (List._∷_ (13, Rows.sc-here (Row.sFloat Ieee.binary64)) (List._∷_ (14, Rows.sc-here (Row.sInt Syntax.w32)) (List._∷_ (15, Rows.sc-here (Row.sInt Syntax.w32)) List.[])))))))))))))))
 
 abbrev pub t52 : List.List Row.Entry
 t52 = List._∷_ (32, Rows.any-gone ty·3) (List._∷_ (33, Rows.any-gone ty·13) (List._∷_ (34, Rows.any-gone ty·3) (List._∷_ (35, Mut.msleft (Referent.rtF (Referent.fInt Syntax.w32)) ty·3) List.[])))
@@ -743,7 +740,7 @@ module _ (claims· : Claims) where
   s35 = AtSlots.n-as-by T36 18 (Rows.whole (Declared.row Point.the-type)) λ v. Point.struct .make v tt
 
   abbrev s36 : Typed.Both T37 T38
-  s36 = Call.callB ps·0 r·0 (claims· .0) (claims· .1) T37 (record { pos = 16; st = List.[]; d = 0; at = λ x. x }, (record { pos = 21; ty = Syntax.tyRef Syntax.erased Syntax.mut ty·0; ref = λ x. x }, (record { pos = 23; ty = Syntax.tyRef Syntax.erased Syntax.mut ty·0; ref = λ x. x }, (record { pos = 25; ty = Syntax.tyRef Syntax.erased Syntax.mut ty·0; ref = λ x. x }, (record { pos = 27; ty = Syntax.tyRef Syntax.erased Syntax.mut ty·0; ref = λ x. x }, (record { pos = 29; ty = Syntax.tyRef Syntax.erased Syntax.mut (ELEMMEM.pointee (ELEM.the-row .written)); ref = λ x. x }, (record { pos = 31; ty = Syntax.tyRef Syntax.erased Syntax.mut ty·0; ref = λ x. x }, (record { pos = 33; ty = Syntax.tyRef Syntax.erased Syntax.mut ty·0; ref = λ x. x }, (record { pos = 35; ty = Syntax.tyRef Syntax.erased Syntax.mut ty·0; ref = λ x. x }, (record { pos = 17; st = List.[]; d = 0; at = λ x. x }, (record { pos = 18; st = List.[]; d = 0; at = λ x. x }, tt))))))))))) 19 (List._∷_ 8 (List._∷_ 9 (List._∷_ 10 (List._∷_ 11 (List._∷_ 12 (List._∷_ 13 (List._∷_ 14 (List._∷_ 15 List.[])))))))) ty·25
+  s36 = Call.callB ps·0 r·0 (claims· .0) (claims· .1) T37 (record { pos = 16; st = List.[]; d = 0; at = λ x. x }, (record { pos = 21; ty = Syntax.tyRef Syntax.erased Syntax.mut ty·0; ref = λ x. x }, (record { pos = 23; ty = Syntax.tyRef Syntax.erased Syntax.mut ty·0; ref = λ x. x }, (record { pos = 25; ty = Syntax.tyRef Syntax.erased Syntax.mut ty·0; ref = λ x. x }, (record { pos = 27; ty = Syntax.tyRef Syntax.erased Syntax.mut ty·0; ref = λ x. x }, (record { pos = 29; ty = Syntax.tyRef Syntax.erased Syntax.mut (ELEMMEM.pointee (ELEM.the-row .written)); ref = λ x. x }, (record { pos = 31; ty = Syntax.tyRef Syntax.erased Syntax.mut ty·0; ref = λ x. x }, (record { pos = 33; ty = Syntax.tyRef Syntax.erased Syntax.mut ty·0; ref = λ x. x }, (record { pos = 35; ty = Syntax.tyRef Syntax.erased Syntax.mut ty·0; ref = λ x. x }, (record { pos = 17; st = List.[]; d = 0; at = λ x. x }, (record { pos = 18; st = List.[]; d = 0; at = λ x. x }, tt))))))))))) 19 (List._∷_ 8 (List._∷_ 9 (List._∷_ 10 (List._∷_ 11 (List._∷_ 12 (List._∷_ 13 (List._∷_ 14 (List._∷_ 15 List.[])))))))) ty·24
 
   abbrev s37 : Typed.Mo T38 → Typed.Mo T39
   s37 = Scalar.n-room T38 16 ty·17
@@ -797,10 +794,10 @@ module _ (claims· : Claims) where
   s68 = Know.k-sl-known (Referent.fInt Syntax.w32) T69 11 7 ty·10 Row.off 0 λ x. x
 
   abbrev s70 : Typed.Both T70 T72
-  s70 = Call.callB ps·1 r·1 (claims· .2) (claims· .3) T70 (record { pos = 19; st = List.[]; d = 0; at = λ x. x }, tt) 0 List.[] ty·23
+  s70 = Call.callB ps·1 r·1 (claims· .2) (claims· .3) T70 (record { pos = 19; st = List.[]; d = 0; at = λ x. x }, tt) 0 List.[] ty·22
 
   abbrev s71 : Typed.Mo T72 → Typed.Mo T73
-  s71 = Scalar.n-room T72 19 ty·25
+  s71 = Scalar.n-room T72 19 ty·24
 
   abbrev s72 : Typed.Mo T73 → Typed.Mo T74
   s72 = Scalar.n-room T73 1 ty·0
@@ -1078,49 +1075,49 @@ module _ (claims· : Claims) where
 
       module _ (κs : Lifetimes.Lfts 8) (qs : Lifetimes.Shares 8) where
         abbrev g7 : List.List Row.Entry
-        g7 = List._∷_ (0, Rows.any-gone ty·23) (List._∷_ (1, Rows.sc-here (Row.sInt Syntax.w32)) (List._∷_ (2, Rows.sc-here (Row.sInt Syntax.w32)) (List._∷_ (3, Rows.sc-here (Row.sInt Syntax.w32)) (List._∷_ (4, Relend.mslice-owed (Signed'.SInt Syntax.w32) ty·4 0 8 (Row.lease (κs .0) (qs .0))) (List._∷_ (5, Mut.mslice (Referent.rtF (Referent.fInt Syntax.w32)) ty·5 1) (List._∷_ (6, Mut.mslice (Referent.rtF (Referent.fInt Syntax.w32)) ty·6 2) (List._∷_ (7, Mut.mslice (Referent.rtF (Referent.fInt Syntax.w32)) ty·7 3) (List._∷_ (8, Mut.mslice ELEM.the-row ty·12 4) (List._∷_ (9, Mut.mslice (Referent.rtF (Referent.fInt Syntax.w32)) ty·8 5) (List._∷_ (10, Mut.mslice (Referent.rtF (Referent.fInt Syntax.w32)) ty·9 6) (List._∷_ (11, Mut.mslice (Referent.rtF (Referent.fInt Syntax.w32)) ty·10 7) (List._∷_ (12, Rows.sc-here (Row.sFloat Ieee.binary64)) (List._∷_ (13, Rows.sc-here (Row.sFloat Ieee.binary64)) (List._∷_ (14, Rows.sc-here (Row.sInt Syntax.w32)) (List._∷_ (15, Rows.sc-here (Row.sInt Syntax.w32)) List.[])))))))))))))))
+        g7 = List._∷_ (0, Rows.any-gone ty·22) (List._∷_ (1, Rows.sc-here (Row.sInt Syntax.w32)) (List._∷_ (2, Rows.sc-here (Row.sInt Syntax.w32)) (List._∷_ (3, Rows.sc-here (Row.sInt Syntax.w32)) (List._∷_ (4, Relend.mslice-owed (Signed'.SInt Syntax.w32) ty·4 0 8 (Row.lease (κs .0) (qs .0))) (List._∷_ (5, Mut.mslice (Referent.rtF (Referent.fInt Syntax.w32)) ty·5 1) (List._∷_ (6, Mut.mslice (Referent.rtF (Referent.fInt Syntax.w32)) ty·6 2) (List._∷_ (7, Mut.mslice (Referent.rtF (Referent.fInt Syntax.w32)) ty·7 3) (List._∷_ (8, Mut.mslice ELEM.the-row ty·12 4) (List._∷_ (9, Mut.mslice (Referent.rtF (Referent.fInt Syntax.w32)) ty·8 5) (List._∷_ (10, Mut.mslice (Referent.rtF (Referent.fInt Syntax.w32)) ty·9 6) (List._∷_ (11, Mut.mslice (Referent.rtF (Referent.fInt Syntax.w32)) ty·10 7) (List._∷_ (12, Rows.sc-here (Row.sFloat Ieee.binary64)) (List._∷_ (13, Rows.sc-here (Row.sFloat Ieee.binary64)) (List._∷_ (14, Rows.sc-here (Row.sInt Syntax.w32)) (List._∷_ (15, Rows.sc-here (Row.sInt Syntax.w32)) List.[])))))))))))))))
 
         abbrev g10 : List.List Row.Entry
-        g10 = List._∷_ (0, Rows.any-gone ty·23) (List._∷_ (1, Rows.sc-here (Row.sInt Syntax.w32)) (List._∷_ (2, Rows.sc-here (Row.sInt Syntax.w32)) (List._∷_ (3, Rows.sc-here (Row.sInt Syntax.w32)) (List._∷_ (4, Relend.mslice-owed (Signed'.SInt Syntax.w32) ty·4 0 8 (Row.lease (κs .0) (qs .0))) (List._∷_ (5, Relend.mslice-owed (Referent.rtF (Referent.fInt Syntax.w32)) ty·5 1 9 (Row.lease (κs .1 .0) (qs .1 .0))) (List._∷_ (6, Mut.mslice (Referent.rtF (Referent.fInt Syntax.w32)) ty·6 2) (List._∷_ (7, Mut.mslice (Referent.rtF (Referent.fInt Syntax.w32)) ty·7 3) (List._∷_ (8, Mut.mslice ELEM.the-row ty·12 4) (List._∷_ (9, Mut.mslice (Referent.rtF (Referent.fInt Syntax.w32)) ty·8 5) (List._∷_ (10, Mut.mslice (Referent.rtF (Referent.fInt Syntax.w32)) ty·9 6) (List._∷_ (11, Mut.mslice (Referent.rtF (Referent.fInt Syntax.w32)) ty·10 7) (List._∷_ (12, Rows.sc-here (Row.sFloat Ieee.binary64)) (List._∷_ (13, Rows.sc-here (Row.sFloat Ieee.binary64)) (List._∷_ (14, Rows.sc-here (Row.sInt Syntax.w32)) (List._∷_ (15, Rows.sc-here (Row.sInt Syntax.w32)) List.[])))))))))))))))
+        g10 = List._∷_ (0, Rows.any-gone ty·22) (List._∷_ (1, Rows.sc-here (Row.sInt Syntax.w32)) (List._∷_ (2, Rows.sc-here (Row.sInt Syntax.w32)) (List._∷_ (3, Rows.sc-here (Row.sInt Syntax.w32)) (List._∷_ (4, Relend.mslice-owed (Signed'.SInt Syntax.w32) ty·4 0 8 (Row.lease (κs .0) (qs .0))) (List._∷_ (5, Relend.mslice-owed (Referent.rtF (Referent.fInt Syntax.w32)) ty·5 1 9 (Row.lease (κs .1 .0) (qs .1 .0))) (List._∷_ (6, Mut.mslice (Referent.rtF (Referent.fInt Syntax.w32)) ty·6 2) (List._∷_ (7, Mut.mslice (Referent.rtF (Referent.fInt Syntax.w32)) ty·7 3) (List._∷_ (8, Mut.mslice ELEM.the-row ty·12 4) (List._∷_ (9, Mut.mslice (Referent.rtF (Referent.fInt Syntax.w32)) ty·8 5) (List._∷_ (10, Mut.mslice (Referent.rtF (Referent.fInt Syntax.w32)) ty·9 6) (List._∷_ (11, Mut.mslice (Referent.rtF (Referent.fInt Syntax.w32)) ty·10 7) (List._∷_ (12, Rows.sc-here (Row.sFloat Ieee.binary64)) (List._∷_ (13, Rows.sc-here (Row.sFloat Ieee.binary64)) (List._∷_ (14, Rows.sc-here (Row.sInt Syntax.w32)) (List._∷_ (15, Rows.sc-here (Row.sInt Syntax.w32)) List.[])))))))))))))))
 
         abbrev g13 : List.List Row.Entry
-        g13 = List._∷_ (0, Rows.any-gone ty·23) (List._∷_ (1, Rows.sc-here (Row.sInt Syntax.w32)) (List._∷_ (2, Rows.sc-here (Row.sInt Syntax.w32)) (List._∷_ (3, Rows.sc-here (Row.sInt Syntax.w32)) (List._∷_ (4, Relend.mslice-owed (Signed'.SInt Syntax.w32) ty·4 0 8 (Row.lease (κs .0) (qs .0))) (List._∷_ (5, Relend.mslice-owed (Referent.rtF (Referent.fInt Syntax.w32)) ty·5 1 9 (Row.lease (κs .1 .0) (qs .1 .0))) (List._∷_ (6, Relend.mslice-owed (Referent.rtF (Referent.fInt Syntax.w32)) ty·6 2 10 (Row.lease (κs .1 .1 .0) (qs .1 .1 .0))) (List._∷_ (7, Mut.mslice (Referent.rtF (Referent.fInt Syntax.w32)) ty·7 3) (List._∷_ (8, Mut.mslice ELEM.the-row ty·12 4) (List._∷_ (9, Mut.mslice (Referent.rtF (Referent.fInt Syntax.w32)) ty·8 5) (List._∷_ (10, Mut.mslice (Referent.rtF (Referent.fInt Syntax.w32)) ty·9 6) (List._∷_ (11, Mut.mslice (Referent.rtF (Referent.fInt Syntax.w32)) ty·10 7) (List._∷_ (12, Rows.sc-here (Row.sFloat Ieee.binary64)) (List._∷_ (13, Rows.sc-here (Row.sFloat Ieee.binary64)) (List._∷_ (14, Rows.sc-here (Row.sInt Syntax.w32)) (List._∷_ (15, Rows.sc-here (Row.sInt Syntax.w32)) List.[])))))))))))))))
+        g13 = List._∷_ (0, Rows.any-gone ty·22) (List._∷_ (1, Rows.sc-here (Row.sInt Syntax.w32)) (List._∷_ (2, Rows.sc-here (Row.sInt Syntax.w32)) (List._∷_ (3, Rows.sc-here (Row.sInt Syntax.w32)) (List._∷_ (4, Relend.mslice-owed (Signed'.SInt Syntax.w32) ty·4 0 8 (Row.lease (κs .0) (qs .0))) (List._∷_ (5, Relend.mslice-owed (Referent.rtF (Referent.fInt Syntax.w32)) ty·5 1 9 (Row.lease (κs .1 .0) (qs .1 .0))) (List._∷_ (6, Relend.mslice-owed (Referent.rtF (Referent.fInt Syntax.w32)) ty·6 2 10 (Row.lease (κs .1 .1 .0) (qs .1 .1 .0))) (List._∷_ (7, Mut.mslice (Referent.rtF (Referent.fInt Syntax.w32)) ty·7 3) (List._∷_ (8, Mut.mslice ELEM.the-row ty·12 4) (List._∷_ (9, Mut.mslice (Referent.rtF (Referent.fInt Syntax.w32)) ty·8 5) (List._∷_ (10, Mut.mslice (Referent.rtF (Referent.fInt Syntax.w32)) ty·9 6) (List._∷_ (11, Mut.mslice (Referent.rtF (Referent.fInt Syntax.w32)) ty·10 7) (List._∷_ (12, Rows.sc-here (Row.sFloat Ieee.binary64)) (List._∷_ (13, Rows.sc-here (Row.sFloat Ieee.binary64)) (List._∷_ (14, Rows.sc-here (Row.sInt Syntax.w32)) (List._∷_ (15, Rows.sc-here (Row.sInt Syntax.w32)) List.[])))))))))))))))
 
         abbrev g16 : List.List Row.Entry
-        g16 = List._∷_ (0, Rows.any-gone ty·23) (List._∷_ (1, Rows.sc-here (Row.sInt Syntax.w32)) (List._∷_ (2, Rows.sc-here (Row.sInt Syntax.w32)) (List._∷_ (3, Rows.sc-here (Row.sInt Syntax.w32)) (List._∷_ (4, Relend.mslice-owed (Signed'.SInt Syntax.w32) ty·4 0 8 (Row.lease (κs .0) (qs .0))) (List._∷_ (5, Relend.mslice-owed (Referent.rtF (Referent.fInt Syntax.w32)) ty·5 1 9 (Row.lease (κs .1 .0) (qs .1 .0))) (List._∷_ (6, Relend.mslice-owed (Referent.rtF (Referent.fInt Syntax.w32)) ty·6 2 10 (Row.lease (κs .1 .1 .0) (qs .1 .1 .0))) (List._∷_ (7, Relend.mslice-owed (Referent.rtF (Referent.fInt Syntax.w32)) ty·7 3 11 (Row.lease (κs .1 .1 .1 .0) (qs .1 .1 .1 .0))) (List._∷_ (8, Mut.mslice ELEM.the-row ty·12 4) (List._∷_ (9, Mut.mslice (Referent.rtF (Referent.fInt Syntax.w32)) ty·8 5) (List._∷_ (10, Mut.mslice (Referent.rtF (Referent.fInt Syntax.w32)) ty·9 6) (List._∷_ (11, Mut.mslice (Referent.rtF (Referent.fInt Syntax.w32)) ty·10 7) (List._∷_ (12, Rows.sc-here (Row.sFloat Ieee.binary64)) (List._∷_ (13, Rows.sc-here (Row.sFloat Ieee.binary64)) (List._∷_ (14, Rows.sc-here (Row.sInt Syntax.w32)) (List._∷_ (15, Rows.sc-here (Row.sInt Syntax.w32)) List.[])))))))))))))))
+        g16 = List._∷_ (0, Rows.any-gone ty·22) (List._∷_ (1, Rows.sc-here (Row.sInt Syntax.w32)) (List._∷_ (2, Rows.sc-here (Row.sInt Syntax.w32)) (List._∷_ (3, Rows.sc-here (Row.sInt Syntax.w32)) (List._∷_ (4, Relend.mslice-owed (Signed'.SInt Syntax.w32) ty·4 0 8 (Row.lease (κs .0) (qs .0))) (List._∷_ (5, Relend.mslice-owed (Referent.rtF (Referent.fInt Syntax.w32)) ty·5 1 9 (Row.lease (κs .1 .0) (qs .1 .0))) (List._∷_ (6, Relend.mslice-owed (Referent.rtF (Referent.fInt Syntax.w32)) ty·6 2 10 (Row.lease (κs .1 .1 .0) (qs .1 .1 .0))) (List._∷_ (7, Relend.mslice-owed (Referent.rtF (Referent.fInt Syntax.w32)) ty·7 3 11 (Row.lease (κs .1 .1 .1 .0) (qs .1 .1 .1 .0))) (List._∷_ (8, Mut.mslice ELEM.the-row ty·12 4) (List._∷_ (9, Mut.mslice (Referent.rtF (Referent.fInt Syntax.w32)) ty·8 5) (List._∷_ (10, Mut.mslice (Referent.rtF (Referent.fInt Syntax.w32)) ty·9 6) (List._∷_ (11, Mut.mslice (Referent.rtF (Referent.fInt Syntax.w32)) ty·10 7) (List._∷_ (12, Rows.sc-here (Row.sFloat Ieee.binary64)) (List._∷_ (13, Rows.sc-here (Row.sFloat Ieee.binary64)) (List._∷_ (14, Rows.sc-here (Row.sInt Syntax.w32)) (List._∷_ (15, Rows.sc-here (Row.sInt Syntax.w32)) List.[])))))))))))))))
 
         abbrev g19 : List.List Row.Entry
-        g19 = List._∷_ (0, Rows.any-gone ty·23) (List._∷_ (1, Rows.sc-here (Row.sInt Syntax.w32)) (List._∷_ (2, Rows.sc-here (Row.sInt Syntax.w32)) (List._∷_ (3, Rows.sc-here (Row.sInt Syntax.w32)) (List._∷_ (4, Relend.mslice-owed (Signed'.SInt Syntax.w32) ty·4 0 8 (Row.lease (κs .0) (qs .0))) (List._∷_ (5, Relend.mslice-owed (Referent.rtF (Referent.fInt Syntax.w32)) ty·5 1 9 (Row.lease (κs .1 .0) (qs .1 .0))) (List._∷_ (6, Relend.mslice-owed (Referent.rtF (Referent.fInt Syntax.w32)) ty·6 2 10 (Row.lease (κs .1 .1 .0) (qs .1 .1 .0))) (List._∷_ (7, Relend.mslice-owed (Referent.rtF (Referent.fInt Syntax.w32)) ty·7 3 11 (Row.lease (κs .1 .1 .1 .0) (qs .1 .1 .1 .0))) (List._∷_ (8, Relend.mslice-owed ELEM.the-row ty·12 4 12 (Row.lease (κs .1 .1 .1 .1 .0) (qs .1 .1 .1 .1 .0))) (List._∷_ (9, Mut.mslice (Referent.rtF (Referent.fInt Syntax.w32)) ty·8 5) (List._∷_ (10, Mut.mslice (Referent.rtF (Referent.fInt Syntax.w32)) ty·9 6) (List._∷_ (11, Mut.mslice (Referent.rtF (Referent.fInt Syntax.w32)) ty·10 7) (List._∷_ (12, Rows.sc-here (Row.sFloat Ieee.binary64)) (List._∷_ (13, Rows.sc-here (Row.sFloat Ieee.binary64)) (List._∷_ (14, Rows.sc-here (Row.sInt Syntax.w32)) (List._∷_ (15, Rows.sc-here (Row.sInt Syntax.w32)) List.[])))))))))))))))
+        g19 = List._∷_ (0, Rows.any-gone ty·22) (List._∷_ (1, Rows.sc-here (Row.sInt Syntax.w32)) (List._∷_ (2, Rows.sc-here (Row.sInt Syntax.w32)) (List._∷_ (3, Rows.sc-here (Row.sInt Syntax.w32)) (List._∷_ (4, Relend.mslice-owed (Signed'.SInt Syntax.w32) ty·4 0 8 (Row.lease (κs .0) (qs .0))) (List._∷_ (5, Relend.mslice-owed (Referent.rtF (Referent.fInt Syntax.w32)) ty·5 1 9 (Row.lease (κs .1 .0) (qs .1 .0))) (List._∷_ (6, Relend.mslice-owed (Referent.rtF (Referent.fInt Syntax.w32)) ty·6 2 10 (Row.lease (κs .1 .1 .0) (qs .1 .1 .0))) (List._∷_ (7, Relend.mslice-owed (Referent.rtF (Referent.fInt Syntax.w32)) ty·7 3 11 (Row.lease (κs .1 .1 .1 .0) (qs .1 .1 .1 .0))) (List._∷_ (8, Relend.mslice-owed ELEM.the-row ty·12 4 12 (Row.lease (κs .1 .1 .1 .1 .0) (qs .1 .1 .1 .1 .0))) (List._∷_ (9, Mut.mslice (Referent.rtF (Referent.fInt Syntax.w32)) ty·8 5) (List._∷_ (10, Mut.mslice (Referent.rtF (Referent.fInt Syntax.w32)) ty·9 6) (List._∷_ (11, Mut.mslice (Referent.rtF (Referent.fInt Syntax.w32)) ty·10 7) (List._∷_ (12, Rows.sc-here (Row.sFloat Ieee.binary64)) (List._∷_ (13, Rows.sc-here (Row.sFloat Ieee.binary64)) (List._∷_ (14, Rows.sc-here (Row.sInt Syntax.w32)) (List._∷_ (15, Rows.sc-here (Row.sInt Syntax.w32)) List.[])))))))))))))))
 
         abbrev g22 : List.List Row.Entry
-        g22 = List._∷_ (0, Rows.any-gone ty·23) (List._∷_ (1, Rows.sc-here (Row.sInt Syntax.w32)) (List._∷_ (2, Rows.sc-here (Row.sInt Syntax.w32)) (List._∷_ (3, Rows.sc-here (Row.sInt Syntax.w32)) (List._∷_ (4, Relend.mslice-owed (Signed'.SInt Syntax.w32) ty·4 0 8 (Row.lease (κs .0) (qs .0))) (List._∷_ (5, Relend.mslice-owed (Referent.rtF (Referent.fInt Syntax.w32)) ty·5 1 9 (Row.lease (κs .1 .0) (qs .1 .0))) (List._∷_ (6, Relend.mslice-owed (Referent.rtF (Referent.fInt Syntax.w32)) ty·6 2 10 (Row.lease (κs .1 .1 .0) (qs .1 .1 .0))) (List._∷_ (7, Relend.mslice-owed (Referent.rtF (Referent.fInt Syntax.w32)) ty·7 3 11 (Row.lease (κs .1 .1 .1 .0) (qs .1 .1 .1 .0))) (List._∷_ (8, Relend.mslice-owed ELEM.the-row ty·12 4 12 (Row.lease (κs .1 .1 .1 .1 .0) (qs .1 .1 .1 .1 .0))) (List._∷_ (9, Relend.mslice-owed (Referent.rtF (Referent.fInt Syntax.w32)) ty·8 5 13 (Row.lease (κs .1 .1 .1 .1 .1 .0) (qs .1 .1 .1 .1 .1 .0))) (List._∷_ (10, Mut.mslice (Referent.rtF (Referent.fInt Syntax.w32)) ty·9 6) (List._∷_ (11, Mut.mslice (Referent.rtF (Referent.fInt Syntax.w32)) ty·10 7) (List._∷_ (12, Rows.sc-here (Row.sFloat Ieee.binary64)) (List._∷_ (13, Rows.sc-here (Row.sFloat Ieee.binary64)) (List._∷_ (14, Rows.sc-here (Row.sInt Syntax.w32)) (List._∷_ (15, Rows.sc-here (Row.sInt Syntax.w32)) List.[])))))))))))))))
+        g22 = List._∷_ (0, Rows.any-gone ty·22) (List._∷_ (1, Rows.sc-here (Row.sInt Syntax.w32)) (List._∷_ (2, Rows.sc-here (Row.sInt Syntax.w32)) (List._∷_ (3, Rows.sc-here (Row.sInt Syntax.w32)) (List._∷_ (4, Relend.mslice-owed (Signed'.SInt Syntax.w32) ty·4 0 8 (Row.lease (κs .0) (qs .0))) (List._∷_ (5, Relend.mslice-owed (Referent.rtF (Referent.fInt Syntax.w32)) ty·5 1 9 (Row.lease (κs .1 .0) (qs .1 .0))) (List._∷_ (6, Relend.mslice-owed (Referent.rtF (Referent.fInt Syntax.w32)) ty·6 2 10 (Row.lease (κs .1 .1 .0) (qs .1 .1 .0))) (List._∷_ (7, Relend.mslice-owed (Referent.rtF (Referent.fInt Syntax.w32)) ty·7 3 11 (Row.lease (κs .1 .1 .1 .0) (qs .1 .1 .1 .0))) (List._∷_ (8, Relend.mslice-owed ELEM.the-row ty·12 4 12 (Row.lease (κs .1 .1 .1 .1 .0) (qs .1 .1 .1 .1 .0))) (List._∷_ (9, Relend.mslice-owed (Referent.rtF (Referent.fInt Syntax.w32)) ty·8 5 13 (Row.lease (κs .1 .1 .1 .1 .1 .0) (qs .1 .1 .1 .1 .1 .0))) (List._∷_ (10, Mut.mslice (Referent.rtF (Referent.fInt Syntax.w32)) ty·9 6) (List._∷_ (11, Mut.mslice (Referent.rtF (Referent.fInt Syntax.w32)) ty·10 7) (List._∷_ (12, Rows.sc-here (Row.sFloat Ieee.binary64)) (List._∷_ (13, Rows.sc-here (Row.sFloat Ieee.binary64)) (List._∷_ (14, Rows.sc-here (Row.sInt Syntax.w32)) (List._∷_ (15, Rows.sc-here (Row.sInt Syntax.w32)) List.[])))))))))))))))
 
         abbrev g25 : List.List Row.Entry
-        g25 = List._∷_ (0, Rows.any-gone ty·23) (List._∷_ (1, Rows.sc-here (Row.sInt Syntax.w32)) (List._∷_ (2, Rows.sc-here (Row.sInt Syntax.w32)) (List._∷_ (3, Rows.sc-here (Row.sInt Syntax.w32)) (List._∷_ (4, Relend.mslice-owed (Signed'.SInt Syntax.w32) ty·4 0 8 (Row.lease (κs .0) (qs .0))) (List._∷_ (5, Relend.mslice-owed (Referent.rtF (Referent.fInt Syntax.w32)) ty·5 1 9 (Row.lease (κs .1 .0) (qs .1 .0))) (List._∷_ (6, Relend.mslice-owed (Referent.rtF (Referent.fInt Syntax.w32)) ty·6 2 10 (Row.lease (κs .1 .1 .0) (qs .1 .1 .0))) (List._∷_ (7, Relend.mslice-owed (Referent.rtF (Referent.fInt Syntax.w32)) ty·7 3 11 (Row.lease (κs .1 .1 .1 .0) (qs .1 .1 .1 .0))) (List._∷_ (8, Relend.mslice-owed ELEM.the-row ty·12 4 12 (Row.lease (κs .1 .1 .1 .1 .0) (qs .1 .1 .1 .1 .0))) (List._∷_ (9, Relend.mslice-owed (Referent.rtF (Referent.fInt Syntax.w32)) ty·8 5 13 (Row.lease (κs .1 .1 .1 .1 .1 .0) (qs .1 .1 .1 .1 .1 .0))) (List._∷_ (10, Relend.mslice-owed (Referent.rtF (Referent.fInt Syntax.w32)) ty·9 6 14 (Row.lease (κs .1 .1 .1 .1 .1 .1 .0) (qs .1 .1 .1 .1 .1 .1 .0))) (List._∷_ (11, Mut.mslice (Referent.rtF (Referent.fInt Syntax.w32)) ty·10 7) (List._∷_ (12, Rows.sc-here (Row.sFloat Ieee.binary64)) (List._∷_ (13, Rows.sc-here (Row.sFloat Ieee.binary64)) (List._∷_ (14, Rows.sc-here (Row.sInt Syntax.w32)) (List._∷_ (15, Rows.sc-here (Row.sInt Syntax.w32)) List.[])))))))))))))))
+        g25 = List._∷_ (0, Rows.any-gone ty·22) (List._∷_ (1, Rows.sc-here (Row.sInt Syntax.w32)) (List._∷_ (2, Rows.sc-here (Row.sInt Syntax.w32)) (List._∷_ (3, Rows.sc-here (Row.sInt Syntax.w32)) (List._∷_ (4, Relend.mslice-owed (Signed'.SInt Syntax.w32) ty·4 0 8 (Row.lease (κs .0) (qs .0))) (List._∷_ (5, Relend.mslice-owed (Referent.rtF (Referent.fInt Syntax.w32)) ty·5 1 9 (Row.lease (κs .1 .0) (qs .1 .0))) (List._∷_ (6, Relend.mslice-owed (Referent.rtF (Referent.fInt Syntax.w32)) ty·6 2 10 (Row.lease (κs .1 .1 .0) (qs .1 .1 .0))) (List._∷_ (7, Relend.mslice-owed (Referent.rtF (Referent.fInt Syntax.w32)) ty·7 3 11 (Row.lease (κs .1 .1 .1 .0) (qs .1 .1 .1 .0))) (List._∷_ (8, Relend.mslice-owed ELEM.the-row ty·12 4 12 (Row.lease (κs .1 .1 .1 .1 .0) (qs .1 .1 .1 .1 .0))) (List._∷_ (9, Relend.mslice-owed (Referent.rtF (Referent.fInt Syntax.w32)) ty·8 5 13 (Row.lease (κs .1 .1 .1 .1 .1 .0) (qs .1 .1 .1 .1 .1 .0))) (List._∷_ (10, Relend.mslice-owed (Referent.rtF (Referent.fInt Syntax.w32)) ty·9 6 14 (Row.lease (κs .1 .1 .1 .1 .1 .1 .0) (qs .1 .1 .1 .1 .1 .1 .0))) (List._∷_ (11, Mut.mslice (Referent.rtF (Referent.fInt Syntax.w32)) ty·10 7) (List._∷_ (12, Rows.sc-here (Row.sFloat Ieee.binary64)) (List._∷_ (13, Rows.sc-here (Row.sFloat Ieee.binary64)) (List._∷_ (14, Rows.sc-here (Row.sInt Syntax.w32)) (List._∷_ (15, Rows.sc-here (Row.sInt Syntax.w32)) List.[])))))))))))))))
 
         abbrev g28 : List.List Row.Entry
-        g28 = List._∷_ (0, Rows.any-gone ty·23) (List._∷_ (1, Rows.sc-here (Row.sInt Syntax.w32)) (List._∷_ (2, Rows.sc-here (Row.sInt Syntax.w32)) (List._∷_ (3, Rows.sc-here (Row.sInt Syntax.w32)) (List._∷_ (4, Relend.mslice-owed (Signed'.SInt Syntax.w32) ty·4 0 8 (Row.lease (κs .0) (qs .0))) (List._∷_ (5, Relend.mslice-owed (Referent.rtF (Referent.fInt Syntax.w32)) ty·5 1 9 (Row.lease (κs .1 .0) (qs .1 .0))) (List._∷_ (6, Relend.mslice-owed (Referent.rtF (Referent.fInt Syntax.w32)) ty·6 2 10 (Row.lease (κs .1 .1 .0) (qs .1 .1 .0))) (List._∷_ (7, Relend.mslice-owed (Referent.rtF (Referent.fInt Syntax.w32)) ty·7 3 11 (Row.lease (κs .1 .1 .1 .0) (qs .1 .1 .1 .0))) (List._∷_ (8, Relend.mslice-owed ELEM.the-row ty·12 4 12 (Row.lease (κs .1 .1 .1 .1 .0) (qs .1 .1 .1 .1 .0))) (List._∷_ (9, Relend.mslice-owed (Referent.rtF (Referent.fInt Syntax.w32)) ty·8 5 13 (Row.lease (κs .1 .1 .1 .1 .1 .0) (qs .1 .1 .1 .1 .1 .0))) (List._∷_ (10, Relend.mslice-owed (Referent.rtF (Referent.fInt Syntax.w32)) ty·9 6 14 (Row.lease (κs .1 .1 .1 .1 .1 .1 .0) (qs .1 .1 .1 .1 .1 .1 .0))) (List._∷_ (11, Relend.mslice-owed (Referent.rtF (Referent.fInt Syntax.w32)) ty·10 7 15 (Row.lease (κs .1 .1 .1 .1 .1 .1 .1 .0) (qs .1 .1 .1 .1 .1 .1 .1 .0))) (List._∷_ (12, Rows.sc-here (Row.sFloat Ieee.binary64)) (List._∷_ (13, Rows.sc-here (Row.sFloat Ieee.binary64)) (List._∷_ (14, Rows.sc-here (Row.sInt Syntax.w32)) (List._∷_ (15, Rows.sc-here (Row.sInt Syntax.w32)) List.[])))))))))))))))
+        g28 = List._∷_ (0, Rows.any-gone ty·22) (List._∷_ (1, Rows.sc-here (Row.sInt Syntax.w32)) (List._∷_ (2, Rows.sc-here (Row.sInt Syntax.w32)) (List._∷_ (3, Rows.sc-here (Row.sInt Syntax.w32)) (List._∷_ (4, Relend.mslice-owed (Signed'.SInt Syntax.w32) ty·4 0 8 (Row.lease (κs .0) (qs .0))) (List._∷_ (5, Relend.mslice-owed (Referent.rtF (Referent.fInt Syntax.w32)) ty·5 1 9 (Row.lease (κs .1 .0) (qs .1 .0))) (List._∷_ (6, Relend.mslice-owed (Referent.rtF (Referent.fInt Syntax.w32)) ty·6 2 10 (Row.lease (κs .1 .1 .0) (qs .1 .1 .0))) (List._∷_ (7, Relend.mslice-owed (Referent.rtF (Referent.fInt Syntax.w32)) ty·7 3 11 (Row.lease (κs .1 .1 .1 .0) (qs .1 .1 .1 .0))) (List._∷_ (8, Relend.mslice-owed ELEM.the-row ty·12 4 12 (Row.lease (κs .1 .1 .1 .1 .0) (qs .1 .1 .1 .1 .0))) (List._∷_ (9, Relend.mslice-owed (Referent.rtF (Referent.fInt Syntax.w32)) ty·8 5 13 (Row.lease (κs .1 .1 .1 .1 .1 .0) (qs .1 .1 .1 .1 .1 .0))) (List._∷_ (10, Relend.mslice-owed (Referent.rtF (Referent.fInt Syntax.w32)) ty·9 6 14 (Row.lease (κs .1 .1 .1 .1 .1 .1 .0) (qs .1 .1 .1 .1 .1 .1 .0))) (List._∷_ (11, Relend.mslice-owed (Referent.rtF (Referent.fInt Syntax.w32)) ty·10 7 15 (Row.lease (κs .1 .1 .1 .1 .1 .1 .1 .0) (qs .1 .1 .1 .1 .1 .1 .1 .0))) (List._∷_ (12, Rows.sc-here (Row.sFloat Ieee.binary64)) (List._∷_ (13, Rows.sc-here (Row.sFloat Ieee.binary64)) (List._∷_ (14, Rows.sc-here (Row.sInt Syntax.w32)) (List._∷_ (15, Rows.sc-here (Row.sInt Syntax.w32)) List.[])))))))))))))))
 
         abbrev g39 : List.List Row.Entry
-        g39 = List._∷_ (0, Rows.any-gone ty·23) (List._∷_ (1, Rows.sc-here (Row.sInt Syntax.w32)) (List._∷_ (2, Rows.sc-here (Row.sInt Syntax.w32)) (List._∷_ (3, Rows.sc-here (Row.sInt Syntax.w32)) (List._∷_ (4, Mut.mslice (Signed'.SInt Syntax.w32) ty·4 0) (List._∷_ (5, Relend.mslice-owed (Referent.rtF (Referent.fInt Syntax.w32)) ty·5 1 9 (Row.lease (κs .1 .0) (qs .1 .0))) (List._∷_ (6, Relend.mslice-owed (Referent.rtF (Referent.fInt Syntax.w32)) ty·6 2 10 (Row.lease (κs .1 .1 .0) (qs .1 .1 .0))) (List._∷_ (7, Relend.mslice-owed (Referent.rtF (Referent.fInt Syntax.w32)) ty·7 3 11 (Row.lease (κs .1 .1 .1 .0) (qs .1 .1 .1 .0))) (List._∷_ (8, Relend.mslice-owed ELEM.the-row ty·12 4 12 (Row.lease (κs .1 .1 .1 .1 .0) (qs .1 .1 .1 .1 .0))) (List._∷_ (9, Relend.mslice-owed (Referent.rtF (Referent.fInt Syntax.w32)) ty·8 5 13 (Row.lease (κs .1 .1 .1 .1 .1 .0) (qs .1 .1 .1 .1 .1 .0))) (List._∷_ (10, Relend.mslice-owed (Referent.rtF (Referent.fInt Syntax.w32)) ty·9 6 14 (Row.lease (κs .1 .1 .1 .1 .1 .1 .0) (qs .1 .1 .1 .1 .1 .1 .0))) (List._∷_ (11, Relend.mslice-owed (Referent.rtF (Referent.fInt Syntax.w32)) ty·10 7 15 (Row.lease (κs .1 .1 .1 .1 .1 .1 .1 .0) (qs .1 .1 .1 .1 .1 .1 .1 .0))) (List._∷_ (12, Rows.sc-here (Row.sFloat Ieee.binary64)) (List._∷_ (13, Rows.sc-here (Row.sFloat Ieee.binary64)) (List._∷_ (14, Rows.sc-here (Row.sInt Syntax.w32)) (List._∷_ (15, Rows.sc-here (Row.sInt Syntax.w32)) List.[])))))))))))))))
+        g39 = List._∷_ (0, Rows.any-gone ty·22) (List._∷_ (1, Rows.sc-here (Row.sInt Syntax.w32)) (List._∷_ (2, Rows.sc-here (Row.sInt Syntax.w32)) (List._∷_ (3, Rows.sc-here (Row.sInt Syntax.w32)) (List._∷_ (4, Mut.mslice (Signed'.SInt Syntax.w32) ty·4 0) (List._∷_ (5, Relend.mslice-owed (Referent.rtF (Referent.fInt Syntax.w32)) ty·5 1 9 (Row.lease (κs .1 .0) (qs .1 .0))) (List._∷_ (6, Relend.mslice-owed (Referent.rtF (Referent.fInt Syntax.w32)) ty·6 2 10 (Row.lease (κs .1 .1 .0) (qs .1 .1 .0))) (List._∷_ (7, Relend.mslice-owed (Referent.rtF (Referent.fInt Syntax.w32)) ty·7 3 11 (Row.lease (κs .1 .1 .1 .0) (qs .1 .1 .1 .0))) (List._∷_ (8, Relend.mslice-owed ELEM.the-row ty·12 4 12 (Row.lease (κs .1 .1 .1 .1 .0) (qs .1 .1 .1 .1 .0))) (List._∷_ (9, Relend.mslice-owed (Referent.rtF (Referent.fInt Syntax.w32)) ty·8 5 13 (Row.lease (κs .1 .1 .1 .1 .1 .0) (qs .1 .1 .1 .1 .1 .0))) (List._∷_ (10, Relend.mslice-owed (Referent.rtF (Referent.fInt Syntax.w32)) ty·9 6 14 (Row.lease (κs .1 .1 .1 .1 .1 .1 .0) (qs .1 .1 .1 .1 .1 .1 .0))) (List._∷_ (11, Relend.mslice-owed (Referent.rtF (Referent.fInt Syntax.w32)) ty·10 7 15 (Row.lease (κs .1 .1 .1 .1 .1 .1 .1 .0) (qs .1 .1 .1 .1 .1 .1 .1 .0))) (List._∷_ (12, Rows.sc-here (Row.sFloat Ieee.binary64)) (List._∷_ (13, Rows.sc-here (Row.sFloat Ieee.binary64)) (List._∷_ (14, Rows.sc-here (Row.sInt Syntax.w32)) (List._∷_ (15, Rows.sc-here (Row.sInt Syntax.w32)) List.[])))))))))))))))
 
         abbrev g41 : List.List Row.Entry
-        g41 = List._∷_ (0, Rows.any-gone ty·23) (List._∷_ (1, Rows.sc-here (Row.sInt Syntax.w32)) (List._∷_ (2, Rows.sc-here (Row.sInt Syntax.w32)) (List._∷_ (3, Rows.sc-here (Row.sInt Syntax.w32)) (List._∷_ (4, Mut.mslice (Signed'.SInt Syntax.w32) ty·4 0) (List._∷_ (5, Mut.mslice (Referent.rtF (Referent.fInt Syntax.w32)) ty·5 1) (List._∷_ (6, Relend.mslice-owed (Referent.rtF (Referent.fInt Syntax.w32)) ty·6 2 10 (Row.lease (κs .1 .1 .0) (qs .1 .1 .0))) (List._∷_ (7, Relend.mslice-owed (Referent.rtF (Referent.fInt Syntax.w32)) ty·7 3 11 (Row.lease (κs .1 .1 .1 .0) (qs .1 .1 .1 .0))) (List._∷_ (8, Relend.mslice-owed ELEM.the-row ty·12 4 12 (Row.lease (κs .1 .1 .1 .1 .0) (qs .1 .1 .1 .1 .0))) (List._∷_ (9, Relend.mslice-owed (Referent.rtF (Referent.fInt Syntax.w32)) ty·8 5 13 (Row.lease (κs .1 .1 .1 .1 .1 .0) (qs .1 .1 .1 .1 .1 .0))) (List._∷_ (10, Relend.mslice-owed (Referent.rtF (Referent.fInt Syntax.w32)) ty·9 6 14 (Row.lease (κs .1 .1 .1 .1 .1 .1 .0) (qs .1 .1 .1 .1 .1 .1 .0))) (List._∷_ (11, Relend.mslice-owed (Referent.rtF (Referent.fInt Syntax.w32)) ty·10 7 15 (Row.lease (κs .1 .1 .1 .1 .1 .1 .1 .0) (qs .1 .1 .1 .1 .1 .1 .1 .0))) (List._∷_ (12, Rows.sc-here (Row.sFloat Ieee.binary64)) (List._∷_ (13, Rows.sc-here (Row.sFloat Ieee.binary64)) (List._∷_ (14, Rows.sc-here (Row.sInt Syntax.w32)) (List._∷_ (15, Rows.sc-here (Row.sInt Syntax.w32)) List.[])))))))))))))))
+        g41 = List._∷_ (0, Rows.any-gone ty·22) (List._∷_ (1, Rows.sc-here (Row.sInt Syntax.w32)) (List._∷_ (2, Rows.sc-here (Row.sInt Syntax.w32)) (List._∷_ (3, Rows.sc-here (Row.sInt Syntax.w32)) (List._∷_ (4, Mut.mslice (Signed'.SInt Syntax.w32) ty·4 0) (List._∷_ (5, Mut.mslice (Referent.rtF (Referent.fInt Syntax.w32)) ty·5 1) (List._∷_ (6, Relend.mslice-owed (Referent.rtF (Referent.fInt Syntax.w32)) ty·6 2 10 (Row.lease (κs .1 .1 .0) (qs .1 .1 .0))) (List._∷_ (7, Relend.mslice-owed (Referent.rtF (Referent.fInt Syntax.w32)) ty·7 3 11 (Row.lease (κs .1 .1 .1 .0) (qs .1 .1 .1 .0))) (List._∷_ (8, Relend.mslice-owed ELEM.the-row ty·12 4 12 (Row.lease (κs .1 .1 .1 .1 .0) (qs .1 .1 .1 .1 .0))) (List._∷_ (9, Relend.mslice-owed (Referent.rtF (Referent.fInt Syntax.w32)) ty·8 5 13 (Row.lease (κs .1 .1 .1 .1 .1 .0) (qs .1 .1 .1 .1 .1 .0))) (List._∷_ (10, Relend.mslice-owed (Referent.rtF (Referent.fInt Syntax.w32)) ty·9 6 14 (Row.lease (κs .1 .1 .1 .1 .1 .1 .0) (qs .1 .1 .1 .1 .1 .1 .0))) (List._∷_ (11, Relend.mslice-owed (Referent.rtF (Referent.fInt Syntax.w32)) ty·10 7 15 (Row.lease (κs .1 .1 .1 .1 .1 .1 .1 .0) (qs .1 .1 .1 .1 .1 .1 .1 .0))) (List._∷_ (12, Rows.sc-here (Row.sFloat Ieee.binary64)) (List._∷_ (13, Rows.sc-here (Row.sFloat Ieee.binary64)) (List._∷_ (14, Rows.sc-here (Row.sInt Syntax.w32)) (List._∷_ (15, Rows.sc-here (Row.sInt Syntax.w32)) List.[])))))))))))))))
 
         abbrev g43 : List.List Row.Entry
-        g43 = List._∷_ (0, Rows.any-gone ty·23) (List._∷_ (1, Rows.sc-here (Row.sInt Syntax.w32)) (List._∷_ (2, Rows.sc-here (Row.sInt Syntax.w32)) (List._∷_ (3, Rows.sc-here (Row.sInt Syntax.w32)) (List._∷_ (4, Mut.mslice (Signed'.SInt Syntax.w32) ty·4 0) (List._∷_ (5, Mut.mslice (Referent.rtF (Referent.fInt Syntax.w32)) ty·5 1) (List._∷_ (6, Mut.mslice (Referent.rtF (Referent.fInt Syntax.w32)) ty·6 2) (List._∷_ (7, Relend.mslice-owed (Referent.rtF (Referent.fInt Syntax.w32)) ty·7 3 11 (Row.lease (κs .1 .1 .1 .0) (qs .1 .1 .1 .0))) (List._∷_ (8, Relend.mslice-owed ELEM.the-row ty·12 4 12 (Row.lease (κs .1 .1 .1 .1 .0) (qs .1 .1 .1 .1 .0))) (List._∷_ (9, Relend.mslice-owed (Referent.rtF (Referent.fInt Syntax.w32)) ty·8 5 13 (Row.lease (κs .1 .1 .1 .1 .1 .0) (qs .1 .1 .1 .1 .1 .0))) (List._∷_ (10, Relend.mslice-owed (Referent.rtF (Referent.fInt Syntax.w32)) ty·9 6 14 (Row.lease (κs .1 .1 .1 .1 .1 .1 .0) (qs .1 .1 .1 .1 .1 .1 .0))) (List._∷_ (11, Relend.mslice-owed (Referent.rtF (Referent.fInt Syntax.w32)) ty·10 7 15 (Row.lease (κs .1 .1 .1 .1 .1 .1 .1 .0) (qs .1 .1 .1 .1 .1 .1 .1 .0))) (List._∷_ (12, Rows.sc-here (Row.sFloat Ieee.binary64)) (List._∷_ (13, Rows.sc-here (Row.sFloat Ieee.binary64)) (List._∷_ (14, Rows.sc-here (Row.sInt Syntax.w32)) (List._∷_ (15, Rows.sc-here (Row.sInt Syntax.w32)) List.[])))))))))))))))
+        g43 = List._∷_ (0, Rows.any-gone ty·22) (List._∷_ (1, Rows.sc-here (Row.sInt Syntax.w32)) (List._∷_ (2, Rows.sc-here (Row.sInt Syntax.w32)) (List._∷_ (3, Rows.sc-here (Row.sInt Syntax.w32)) (List._∷_ (4, Mut.mslice (Signed'.SInt Syntax.w32) ty·4 0) (List._∷_ (5, Mut.mslice (Referent.rtF (Referent.fInt Syntax.w32)) ty·5 1) (List._∷_ (6, Mut.mslice (Referent.rtF (Referent.fInt Syntax.w32)) ty·6 2) (List._∷_ (7, Relend.mslice-owed (Referent.rtF (Referent.fInt Syntax.w32)) ty·7 3 11 (Row.lease (κs .1 .1 .1 .0) (qs .1 .1 .1 .0))) (List._∷_ (8, Relend.mslice-owed ELEM.the-row ty·12 4 12 (Row.lease (κs .1 .1 .1 .1 .0) (qs .1 .1 .1 .1 .0))) (List._∷_ (9, Relend.mslice-owed (Referent.rtF (Referent.fInt Syntax.w32)) ty·8 5 13 (Row.lease (κs .1 .1 .1 .1 .1 .0) (qs .1 .1 .1 .1 .1 .0))) (List._∷_ (10, Relend.mslice-owed (Referent.rtF (Referent.fInt Syntax.w32)) ty·9 6 14 (Row.lease (κs .1 .1 .1 .1 .1 .1 .0) (qs .1 .1 .1 .1 .1 .1 .0))) (List._∷_ (11, Relend.mslice-owed (Referent.rtF (Referent.fInt Syntax.w32)) ty·10 7 15 (Row.lease (κs .1 .1 .1 .1 .1 .1 .1 .0) (qs .1 .1 .1 .1 .1 .1 .1 .0))) (List._∷_ (12, Rows.sc-here (Row.sFloat Ieee.binary64)) (List._∷_ (13, Rows.sc-here (Row.sFloat Ieee.binary64)) (List._∷_ (14, Rows.sc-here (Row.sInt Syntax.w32)) (List._∷_ (15, Rows.sc-here (Row.sInt Syntax.w32)) List.[])))))))))))))))
 
         abbrev g45 : List.List Row.Entry
-        g45 = List._∷_ (0, Rows.any-gone ty·23) (List._∷_ (1, Rows.sc-here (Row.sInt Syntax.w32)) (List._∷_ (2, Rows.sc-here (Row.sInt Syntax.w32)) (List._∷_ (3, Rows.sc-here (Row.sInt Syntax.w32)) (List._∷_ (4, Mut.mslice (Signed'.SInt Syntax.w32) ty·4 0) (List._∷_ (5, Mut.mslice (Referent.rtF (Referent.fInt Syntax.w32)) ty·5 1) (List._∷_ (6, Mut.mslice (Referent.rtF (Referent.fInt Syntax.w32)) ty·6 2) (List._∷_ (7, Mut.mslice (Referent.rtF (Referent.fInt Syntax.w32)) ty·7 3) (List._∷_ (8, Relend.mslice-owed ELEM.the-row ty·12 4 12 (Row.lease (κs .1 .1 .1 .1 .0) (qs .1 .1 .1 .1 .0))) (List._∷_ (9, Relend.mslice-owed (Referent.rtF (Referent.fInt Syntax.w32)) ty·8 5 13 (Row.lease (κs .1 .1 .1 .1 .1 .0) (qs .1 .1 .1 .1 .1 .0))) (List._∷_ (10, Relend.mslice-owed (Referent.rtF (Referent.fInt Syntax.w32)) ty·9 6 14 (Row.lease (κs .1 .1 .1 .1 .1 .1 .0) (qs .1 .1 .1 .1 .1 .1 .0))) (List._∷_ (11, Relend.mslice-owed (Referent.rtF (Referent.fInt Syntax.w32)) ty·10 7 15 (Row.lease (κs .1 .1 .1 .1 .1 .1 .1 .0) (qs .1 .1 .1 .1 .1 .1 .1 .0))) (List._∷_ (12, Rows.sc-here (Row.sFloat Ieee.binary64)) (List._∷_ (13, Rows.sc-here (Row.sFloat Ieee.binary64)) (List._∷_ (14, Rows.sc-here (Row.sInt Syntax.w32)) (List._∷_ (15, Rows.sc-here (Row.sInt Syntax.w32)) List.[])))))))))))))))
+        g45 = List._∷_ (0, Rows.any-gone ty·22) (List._∷_ (1, Rows.sc-here (Row.sInt Syntax.w32)) (List._∷_ (2, Rows.sc-here (Row.sInt Syntax.w32)) (List._∷_ (3, Rows.sc-here (Row.sInt Syntax.w32)) (List._∷_ (4, Mut.mslice (Signed'.SInt Syntax.w32) ty·4 0) (List._∷_ (5, Mut.mslice (Referent.rtF (Referent.fInt Syntax.w32)) ty·5 1) (List._∷_ (6, Mut.mslice (Referent.rtF (Referent.fInt Syntax.w32)) ty·6 2) (List._∷_ (7, Mut.mslice (Referent.rtF (Referent.fInt Syntax.w32)) ty·7 3) (List._∷_ (8, Relend.mslice-owed ELEM.the-row ty·12 4 12 (Row.lease (κs .1 .1 .1 .1 .0) (qs .1 .1 .1 .1 .0))) (List._∷_ (9, Relend.mslice-owed (Referent.rtF (Referent.fInt Syntax.w32)) ty·8 5 13 (Row.lease (κs .1 .1 .1 .1 .1 .0) (qs .1 .1 .1 .1 .1 .0))) (List._∷_ (10, Relend.mslice-owed (Referent.rtF (Referent.fInt Syntax.w32)) ty·9 6 14 (Row.lease (κs .1 .1 .1 .1 .1 .1 .0) (qs .1 .1 .1 .1 .1 .1 .0))) (List._∷_ (11, Relend.mslice-owed (Referent.rtF (Referent.fInt Syntax.w32)) ty·10 7 15 (Row.lease (κs .1 .1 .1 .1 .1 .1 .1 .0) (qs .1 .1 .1 .1 .1 .1 .1 .0))) (List._∷_ (12, Rows.sc-here (Row.sFloat Ieee.binary64)) (List._∷_ (13, Rows.sc-here (Row.sFloat Ieee.binary64)) (List._∷_ (14, Rows.sc-here (Row.sInt Syntax.w32)) (List._∷_ (15, Rows.sc-here (Row.sInt Syntax.w32)) List.[])))))))))))))))
 
         abbrev g47 : List.List Row.Entry
-        g47 = List._∷_ (0, Rows.any-gone ty·23) (List._∷_ (1, Rows.sc-here (Row.sInt Syntax.w32)) (List._∷_ (2, Rows.sc-here (Row.sInt Syntax.w32)) (List._∷_ (3, Rows.sc-here (Row.sInt Syntax.w32)) (List._∷_ (4, Mut.mslice (Signed'.SInt Syntax.w32) ty·4 0) (List._∷_ (5, Mut.mslice (Referent.rtF (Referent.fInt Syntax.w32)) ty·5 1) (List._∷_ (6, Mut.mslice (Referent.rtF (Referent.fInt Syntax.w32)) ty·6 2) (List._∷_ (7, Mut.mslice (Referent.rtF (Referent.fInt Syntax.w32)) ty·7 3) (List._∷_ (8, Mut.mslice ELEM.the-row ty·12 4) (List._∷_ (9, Relend.mslice-owed (Referent.rtF (Referent.fInt Syntax.w32)) ty·8 5 13 (Row.lease (κs .1 .1 .1 .1 .1 .0) (qs .1 .1 .1 .1 .1 .0))) (List._∷_ (10, Relend.mslice-owed (Referent.rtF (Referent.fInt Syntax.w32)) ty·9 6 14 (Row.lease (κs .1 .1 .1 .1 .1 .1 .0) (qs .1 .1 .1 .1 .1 .1 .0))) (List._∷_ (11, Relend.mslice-owed (Referent.rtF (Referent.fInt Syntax.w32)) ty·10 7 15 (Row.lease (κs .1 .1 .1 .1 .1 .1 .1 .0) (qs .1 .1 .1 .1 .1 .1 .1 .0))) (List._∷_ (12, Rows.sc-here (Row.sFloat Ieee.binary64)) (List._∷_ (13, Rows.sc-here (Row.sFloat Ieee.binary64)) (List._∷_ (14, Rows.sc-here (Row.sInt Syntax.w32)) (List._∷_ (15, Rows.sc-here (Row.sInt Syntax.w32)) List.[])))))))))))))))
+        g47 = List._∷_ (0, Rows.any-gone ty·22) (List._∷_ (1, Rows.sc-here (Row.sInt Syntax.w32)) (List._∷_ (2, Rows.sc-here (Row.sInt Syntax.w32)) (List._∷_ (3, Rows.sc-here (Row.sInt Syntax.w32)) (List._∷_ (4, Mut.mslice (Signed'.SInt Syntax.w32) ty·4 0) (List._∷_ (5, Mut.mslice (Referent.rtF (Referent.fInt Syntax.w32)) ty·5 1) (List._∷_ (6, Mut.mslice (Referent.rtF (Referent.fInt Syntax.w32)) ty·6 2) (List._∷_ (7, Mut.mslice (Referent.rtF (Referent.fInt Syntax.w32)) ty·7 3) (List._∷_ (8, Mut.mslice ELEM.the-row ty·12 4) (List._∷_ (9, Relend.mslice-owed (Referent.rtF (Referent.fInt Syntax.w32)) ty·8 5 13 (Row.lease (κs .1 .1 .1 .1 .1 .0) (qs .1 .1 .1 .1 .1 .0))) (List._∷_ (10, Relend.mslice-owed (Referent.rtF (Referent.fInt Syntax.w32)) ty·9 6 14 (Row.lease (κs .1 .1 .1 .1 .1 .1 .0) (qs .1 .1 .1 .1 .1 .1 .0))) (List._∷_ (11, Relend.mslice-owed (Referent.rtF (Referent.fInt Syntax.w32)) ty·10 7 15 (Row.lease (κs .1 .1 .1 .1 .1 .1 .1 .0) (qs .1 .1 .1 .1 .1 .1 .1 .0))) (List._∷_ (12, Rows.sc-here (Row.sFloat Ieee.binary64)) (List._∷_ (13, Rows.sc-here (Row.sFloat Ieee.binary64)) (List._∷_ (14, Rows.sc-here (Row.sInt Syntax.w32)) (List._∷_ (15, Rows.sc-here (Row.sInt Syntax.w32)) List.[])))))))))))))))
 
         abbrev g49 : List.List Row.Entry
-        g49 = List._∷_ (0, Rows.any-gone ty·23) (List._∷_ (1, Rows.sc-here (Row.sInt Syntax.w32)) (List._∷_ (2, Rows.sc-here (Row.sInt Syntax.w32)) (List._∷_ (3, Rows.sc-here (Row.sInt Syntax.w32)) (List._∷_ (4, Mut.mslice (Signed'.SInt Syntax.w32) ty·4 0) (List._∷_ (5, Mut.mslice (Referent.rtF (Referent.fInt Syntax.w32)) ty·5 1) (List._∷_ (6, Mut.mslice (Referent.rtF (Referent.fInt Syntax.w32)) ty·6 2) (List._∷_ (7, Mut.mslice (Referent.rtF (Referent.fInt Syntax.w32)) ty·7 3) (List._∷_ (8, Mut.mslice ELEM.the-row ty·12 4) (List._∷_ (9, Mut.mslice (Referent.rtF (Referent.fInt Syntax.w32)) ty·8 5) (List._∷_ (10, Relend.mslice-owed (Referent.rtF (Referent.fInt Syntax.w32)) ty·9 6 14 (Row.lease (κs .1 .1 .1 .1 .1 .1 .0) (qs .1 .1 .1 .1 .1 .1 .0))) (List._∷_ (11, Relend.mslice-owed (Referent.rtF (Referent.fInt Syntax.w32)) ty·10 7 15 (Row.lease (κs .1 .1 .1 .1 .1 .1 .1 .0) (qs .1 .1 .1 .1 .1 .1 .1 .0))) (List._∷_ (12, Rows.sc-here (Row.sFloat Ieee.binary64)) (List._∷_ (13, Rows.sc-here (Row.sFloat Ieee.binary64)) (List._∷_ (14, Rows.sc-here (Row.sInt Syntax.w32)) (List._∷_ (15, Rows.sc-here (Row.sInt Syntax.w32)) List.[])))))))))))))))
+        g49 = List._∷_ (0, Rows.any-gone ty·22) (List._∷_ (1, Rows.sc-here (Row.sInt Syntax.w32)) (List._∷_ (2, Rows.sc-here (Row.sInt Syntax.w32)) (List._∷_ (3, Rows.sc-here (Row.sInt Syntax.w32)) (List._∷_ (4, Mut.mslice (Signed'.SInt Syntax.w32) ty·4 0) (List._∷_ (5, Mut.mslice (Referent.rtF (Referent.fInt Syntax.w32)) ty·5 1) (List._∷_ (6, Mut.mslice (Referent.rtF (Referent.fInt Syntax.w32)) ty·6 2) (List._∷_ (7, Mut.mslice (Referent.rtF (Referent.fInt Syntax.w32)) ty·7 3) (List._∷_ (8, Mut.mslice ELEM.the-row ty·12 4) (List._∷_ (9, Mut.mslice (Referent.rtF (Referent.fInt Syntax.w32)) ty·8 5) (List._∷_ (10, Relend.mslice-owed (Referent.rtF (Referent.fInt Syntax.w32)) ty·9 6 14 (Row.lease (κs .1 .1 .1 .1 .1 .1 .0) (qs .1 .1 .1 .1 .1 .1 .0))) (List._∷_ (11, Relend.mslice-owed (Referent.rtF (Referent.fInt Syntax.w32)) ty·10 7 15 (Row.lease (κs .1 .1 .1 .1 .1 .1 .1 .0) (qs .1 .1 .1 .1 .1 .1 .1 .0))) (List._∷_ (12, Rows.sc-here (Row.sFloat Ieee.binary64)) (List._∷_ (13, Rows.sc-here (Row.sFloat Ieee.binary64)) (List._∷_ (14, Rows.sc-here (Row.sInt Syntax.w32)) (List._∷_ (15, Rows.sc-here (Row.sInt Syntax.w32)) List.[])))))))))))))))
 
         abbrev g51 : List.List Row.Entry
-        g51 = List._∷_ (0, Rows.any-gone ty·23) (List._∷_ (1, Rows.sc-here (Row.sInt Syntax.w32)) (List._∷_ (2, Rows.sc-here (Row.sInt Syntax.w32)) (List._∷_ (3, Rows.sc-here (Row.sInt Syntax.w32)) (List._∷_ (4, Mut.mslice (Signed'.SInt Syntax.w32) ty·4 0) (List._∷_ (5, Mut.mslice (Referent.rtF (Referent.fInt Syntax.w32)) ty·5 1) (List._∷_ (6, Mut.mslice (Referent.rtF (Referent.fInt Syntax.w32)) ty·6 2) (List._∷_ (7, Mut.mslice (Referent.rtF (Referent.fInt Syntax.w32)) ty·7 3) (List._∷_ (8, Mut.mslice ELEM.the-row ty·12 4) (List._∷_ (9, Mut.mslice (Referent.rtF (Referent.fInt Syntax.w32)) ty·8 5) (List._∷_ (10, Mut.mslice (Referent.rtF (Referent.fInt Syntax.w32)) ty·9 6) (List._∷_ (11, Relend.mslice-owed (Referent.rtF (Referent.fInt Syntax.w32)) ty·10 7 15 (Row.lease (κs .1 .1 .1 .1 .1 .1 .1 .0) (qs .1 .1 .1 .1 .1 .1 .1 .0))) (List._∷_ (12, Rows.sc-here (Row.sFloat Ieee.binary64)) (List._∷_ (13, Rows.sc-here (Row.sFloat Ieee.binary64)) (List._∷_ (14, Rows.sc-here (Row.sInt Syntax.w32)) (List._∷_ (15, Rows.sc-here (Row.sInt Syntax.w32)) List.[])))))))))))))))
+        g51 = List._∷_ (0, Rows.any-gone ty·22) (List._∷_ (1, Rows.sc-here (Row.sInt Syntax.w32)) (List._∷_ (2, Rows.sc-here (Row.sInt Syntax.w32)) (List._∷_ (3, Rows.sc-here (Row.sInt Syntax.w32)) (List._∷_ (4, Mut.mslice (Signed'.SInt Syntax.w32) ty·4 0) (List._∷_ (5, Mut.mslice (Referent.rtF (Referent.fInt Syntax.w32)) ty·5 1) (List._∷_ (6, Mut.mslice (Referent.rtF (Referent.fInt Syntax.w32)) ty·6 2) (List._∷_ (7, Mut.mslice (Referent.rtF (Referent.fInt Syntax.w32)) ty·7 3) (List._∷_ (8, Mut.mslice ELEM.the-row ty·12 4) (List._∷_ (9, Mut.mslice (Referent.rtF (Referent.fInt Syntax.w32)) ty·8 5) (List._∷_ (10, Mut.mslice (Referent.rtF (Referent.fInt Syntax.w32)) ty·9 6) (List._∷_ (11, Relend.mslice-owed (Referent.rtF (Referent.fInt Syntax.w32)) ty·10 7 15 (Row.lease (κs .1 .1 .1 .1 .1 .1 .1 .0) (qs .1 .1 .1 .1 .1 .1 .1 .0))) (List._∷_ (12, Rows.sc-here (Row.sFloat Ieee.binary64)) (List._∷_ (13, Rows.sc-here (Row.sFloat Ieee.binary64)) (List._∷_ (14, Rows.sc-here (Row.sInt Syntax.w32)) (List._∷_ (15, Rows.sc-here (Row.sInt Syntax.w32)) List.[])))))))))))))))
 
         abbrev G0 : Row.Cx
         G0 = record { locals = List._++_ t0 (List._++_ t1 t2); slots = List._∷_ (Row.lease (κs .0) (qs .0)) (List._∷_ (Row.lease (κs .1 .0) (qs .1 .0)) (List._∷_ (Row.lease (κs .1 .1 .0) (qs .1 .1 .0)) (List._∷_ (Row.lease (κs .1 .1 .1 .0) (qs .1 .1 .1 .0)) (List._∷_ (Row.lease (κs .1 .1 .1 .1 .0) (qs .1 .1 .1 .1 .0)) (List._∷_ (Row.lease (κs .1 .1 .1 .1 .1 .0) (qs .1 .1 .1 .1 .1 .0)) (List._∷_ (Row.lease (κs .1 .1 .1 .1 .1 .1 .0) (qs .1 .1 .1 .1 .1 .1 .0)) (List._∷_ (Row.lease (κs .1 .1 .1 .1 .1 .1 .1 .0) (qs .1 .1 .1 .1 .1 .1 .1 .0)) (List._∷_ Row.off (List._∷_ Row.off (List._∷_ Row.off (List._∷_ Row.off (List._∷_ Row.off (List._∷_ Row.off (List._∷_ Row.off (List._∷_ Row.off List.[]))))))))))))))) }
@@ -1397,10 +1394,10 @@ module _ (claims· : Claims) where
           d7 = Typed.g-pre 𝓤 H A W 𝓣 E G73 G74 b21 Δ0 (Typed.pass T73 T74 s72) at6 (Scalar.g-room 𝓤 H A W E G73 1 ty·0 (Scalar.room-sc 𝓤 H A W (Row.sInt Syntax.w32))) d6
 
           d8 : Typed.Typed 𝓤 H A 𝓣 E G72 b21 Δ0 at8
-          d8 = Typed.g-pre 𝓤 H A W 𝓣 E G72 G73 b21 Δ0 (Typed.pass T72 T73 s71) at7 (Scalar.g-room 𝓤 H A W E G72 19 ty·25 (Local.room-whole 𝓤 H A W (Declared.row StepAnswer.the-type) ty·25 Path'.refl)) d7
+          d8 = Typed.g-pre 𝓤 H A W 𝓣 E G72 G73 b21 Δ0 (Typed.pass T72 T73 s71) at7 (Scalar.g-room 𝓤 H A W E G72 19 ty·24 (Local.room-whole 𝓤 H A W (Declared.row StepAnswer.the-type) ty·24 Path'.refl)) d7
 
           d9 : Typed.Typed 𝓤 H A 𝓣 E G71 b22 Δ0 at9
-          d9 = Typed.s-seq 𝓤 H A W 𝓣 E G71 G72 b20 b21 Δ0 (Typed.both s70) at8 (Plain.t-call-plain 𝓤 H A W 𝓣 0 ps·1 r·1 (claims· .2) (claims· .3) "fithmoul::results::step_result" (known .1) E (λ pos β. β) G71 (record { pos = 19; st = List.[]; d = 0; at = λ x. x }, tt) 0 List.[] (Call.sub-id 𝓤 H A W (G71 .slots)) ((Yields.yields-copy 𝓤 H A W (λ ρ. Unit) (Declared.row StepAnswer.the-type) Path'.refl (Copies.cStruct StepAnswer.the-type Laws'4.the-laws Laws'4.the-copy .copy 𝓤 H A W) (Rows.whole (Declared.row StepAnswer.the-type)) (λ x. x) (λ x. x) (λ ρ told. Local.mem-whole 𝓤 H A W (Declared.row StepAnswer.the-type) ρ) λ ρ told. Local.whole-mem 𝓤 H A W (Declared.row StepAnswer.the-type) ρ, Path'.refl), tt) (Reads.room-gone 𝓤 H A ty·23) tt Path'.refl) d8
+          d9 = Typed.s-seq 𝓤 H A W 𝓣 E G71 G72 b20 b21 Δ0 (Typed.both s70) at8 (Plain.t-call-plain 𝓤 H A W 𝓣 0 ps·1 r·1 (claims· .2) (claims· .3) "fithmoul::results::step_result" (known .1) E (λ pos β. β) G71 (record { pos = 19; st = List.[]; d = 0; at = λ x. x }, tt) 0 List.[] (Call.sub-id 𝓤 H A W (G71 .slots)) ((Yields.yields-copy 𝓤 H A W (λ ρ. Unit) (Declared.row StepAnswer.the-type) Path'.refl (Copies.cStruct StepAnswer.the-type Laws'4.the-laws Laws'4.the-copy .copy 𝓤 H A W) (Rows.whole (Declared.row StepAnswer.the-type)) (λ x. x) (λ x. x) (λ ρ told. Local.mem-whole 𝓤 H A W (Declared.row StepAnswer.the-type) ρ) λ ρ told. Local.whole-mem 𝓤 H A W (Declared.row StepAnswer.the-type) ρ, Path'.refl), tt) (Reads.room-gone 𝓤 H A ty·22) tt Path'.refl) d8
 
           d10 : Typed.Typed 𝓤 H A 𝓣 E G70 b22 Δ0 at10
           d10 = Typed.g-pre 𝓤 H A W 𝓣 E G70 G71 b22 Δ0 (λ Ψ. Ψ) at9 (Lifetime.g-forget 𝓤 H A W E G70 15 Row.dead Path'.refl) d9
@@ -1502,7 +1499,7 @@ module _ (claims· : Claims) where
           d42 = Typed.g-pre 𝓤 H A W 𝓣 E G38 G39 b22 Δ0 (Typed.pass T38 T39 s37) at41 (Scalar.g-room 𝓤 H A W E G38 16 ty·17 (Local.room-whole 𝓤 H A W (Declared.row Counts.the-type) ty·17 Path'.refl)) d41
 
           d43 : Typed.Typed 𝓤 H A 𝓣 E G37 b23 Δ0 at43
-          d43 = Typed.s-seq 𝓤 H A W 𝓣 E G37 G38 b19 b22 Δ0 (Typed.both s36) at42 (Plain.t-call-plain 𝓤 H A W 𝓣 8 ps·0 r·0 (claims· .0) (claims· .1) "step::step" (known .0) E (λ pos β. β) G37 (record { pos = 16; st = List.[]; d = 0; at = λ x. x }, (record { pos = 21; ty = Syntax.tyRef Syntax.erased Syntax.mut ty·0; ref = λ x. x }, (record { pos = 23; ty = Syntax.tyRef Syntax.erased Syntax.mut ty·0; ref = λ x. x }, (record { pos = 25; ty = Syntax.tyRef Syntax.erased Syntax.mut ty·0; ref = λ x. x }, (record { pos = 27; ty = Syntax.tyRef Syntax.erased Syntax.mut ty·0; ref = λ x. x }, (record { pos = 29; ty = Syntax.tyRef Syntax.erased Syntax.mut (ELEMMEM.pointee (ELEM.the-row .written)); ref = λ x. x }, (record { pos = 31; ty = Syntax.tyRef Syntax.erased Syntax.mut ty·0; ref = λ x. x }, (record { pos = 33; ty = Syntax.tyRef Syntax.erased Syntax.mut ty·0; ref = λ x. x }, (record { pos = 35; ty = Syntax.tyRef Syntax.erased Syntax.mut ty·0; ref = λ x. x }, (record { pos = 17; st = List.[]; d = 0; at = λ x. x }, (record { pos = 18; st = List.[]; d = 0; at = λ x. x }, tt))))))))))) 19 (List._∷_ 8 (List._∷_ 9 (List._∷_ 10 (List._∷_ 11 (List._∷_ 12 (List._∷_ 13 (List._∷_ 14 (List._∷_ 15 List.[])))))))) (Call.sub-id 𝓤 H A W (G37 .slots)) ((Yields.yields-copy 𝓤 H A W (λ ρ. Unit) (Declared.row Counts.the-type) Path'.refl (Copies.cStruct Counts.the-type Laws'3.the-laws Laws'3.the-copy .copy 𝓤 H A W) (Rows.whole (Declared.row Counts.the-type)) (λ x. x) (λ x. x) (λ ρ told. Local.mem-whole 𝓤 H A W (Declared.row Counts.the-type) ρ) λ ρ told. Local.whole-mem 𝓤 H A W (Declared.row Counts.the-type) ρ, Path'.refl), (Reads.as-is 𝓤 H A (Mut.mslice (Signed'.SInt Syntax.w32) ty·3 8), Mut.reads-mslice 𝓤 H A W (Signed'.SInt Syntax.w32) ty·3 8, Path'.refl, (Reads.as-is 𝓤 H A (Mut.mslice (Referent.rtF (Referent.fInt Syntax.w32)) ty·3 9), Mut.reads-mslice 𝓤 H A W (Referent.rtF (Referent.fInt Syntax.w32)) ty·3 9, Path'.refl, (Reads.as-is 𝓤 H A (Mut.mslice (Referent.rtF (Referent.fInt Syntax.w32)) ty·3 10), Mut.reads-mslice 𝓤 H A W (Referent.rtF (Referent.fInt Syntax.w32)) ty·3 10, Path'.refl, (Reads.as-is 𝓤 H A (Mut.mslice (Referent.rtF (Referent.fInt Syntax.w32)) ty·3 11), Mut.reads-mslice 𝓤 H A W (Referent.rtF (Referent.fInt Syntax.w32)) ty·3 11, Path'.refl, (Reads.as-is 𝓤 H A (Mut.mslice ELEM.the-row ty·11 12), Mut.reads-mslice 𝓤 H A W ELEM.the-row ty·11 12, Path'.refl, (Reads.as-is 𝓤 H A (Mut.mslice (Referent.rtF (Referent.fInt Syntax.w32)) ty·3 13), Mut.reads-mslice 𝓤 H A W (Referent.rtF (Referent.fInt Syntax.w32)) ty·3 13, Path'.refl, (Reads.as-is 𝓤 H A (Mut.mslice (Referent.rtF (Referent.fInt Syntax.w32)) ty·3 14), Mut.reads-mslice 𝓤 H A W (Referent.rtF (Referent.fInt Syntax.w32)) ty·3 14, Path'.refl, (Reads.as-is 𝓤 H A (Mut.mslice (Referent.rtF (Referent.fInt Syntax.w32)) ty·3 15), Mut.reads-mslice 𝓤 H A W (Referent.rtF (Referent.fInt Syntax.w32)) ty·3 15, Path'.refl, ((Yields.yields-copy 𝓤 H A W (λ ρ. Unit) (Declared.row Point2.the-type) Path'.refl (Copies.cStruct Point2.the-type Laws.the-laws Laws.the-copy .copy 𝓤 H A W) (Rows.whole (Declared.row Point2.the-type)) (λ x. x) (λ x. x) (λ ρ told. Local.mem-whole 𝓤 H A W (Declared.row Point2.the-type) ρ) λ ρ told. Local.whole-mem 𝓤 H A W (Declared.row Point2.the-type) ρ, Path'.refl), ((Yields.yields-copy 𝓤 H A W (λ ρ. Unit) (Declared.row Point.the-type) Path'.refl (Copies.cStruct Point.the-type Laws''.the-laws Laws''.the-copy .copy 𝓤 H A W) (Rows.whole (Declared.row Point.the-type)) (λ x. x) (λ x. x) (λ ρ told. Local.mem-whole 𝓤 H A W (Declared.row Point.the-type) ρ) λ ρ told. Local.whole-mem 𝓤 H A W (Declared.row Point.the-type) ρ, Path'.refl), tt))))))))))) (Reads.room-gone 𝓤 H A ty·25) (tt, (tt, (tt, (tt, (tt, (tt, (tt, (tt, tt)))))))) Path'.refl) d42
+          d43 = Typed.s-seq 𝓤 H A W 𝓣 E G37 G38 b19 b22 Δ0 (Typed.both s36) at42 (Plain.t-call-plain 𝓤 H A W 𝓣 8 ps·0 r·0 (claims· .0) (claims· .1) "step::step" (known .0) E (λ pos β. β) G37 (record { pos = 16; st = List.[]; d = 0; at = λ x. x }, (record { pos = 21; ty = Syntax.tyRef Syntax.erased Syntax.mut ty·0; ref = λ x. x }, (record { pos = 23; ty = Syntax.tyRef Syntax.erased Syntax.mut ty·0; ref = λ x. x }, (record { pos = 25; ty = Syntax.tyRef Syntax.erased Syntax.mut ty·0; ref = λ x. x }, (record { pos = 27; ty = Syntax.tyRef Syntax.erased Syntax.mut ty·0; ref = λ x. x }, (record { pos = 29; ty = Syntax.tyRef Syntax.erased Syntax.mut (ELEMMEM.pointee (ELEM.the-row .written)); ref = λ x. x }, (record { pos = 31; ty = Syntax.tyRef Syntax.erased Syntax.mut ty·0; ref = λ x. x }, (record { pos = 33; ty = Syntax.tyRef Syntax.erased Syntax.mut ty·0; ref = λ x. x }, (record { pos = 35; ty = Syntax.tyRef Syntax.erased Syntax.mut ty·0; ref = λ x. x }, (record { pos = 17; st = List.[]; d = 0; at = λ x. x }, (record { pos = 18; st = List.[]; d = 0; at = λ x. x }, tt))))))))))) 19 (List._∷_ 8 (List._∷_ 9 (List._∷_ 10 (List._∷_ 11 (List._∷_ 12 (List._∷_ 13 (List._∷_ 14 (List._∷_ 15 List.[])))))))) (Call.sub-id 𝓤 H A W (G37 .slots)) ((Yields.yields-copy 𝓤 H A W (λ ρ. Unit) (Declared.row Counts.the-type) Path'.refl (Copies.cStruct Counts.the-type Laws'3.the-laws Laws'3.the-copy .copy 𝓤 H A W) (Rows.whole (Declared.row Counts.the-type)) (λ x. x) (λ x. x) (λ ρ told. Local.mem-whole 𝓤 H A W (Declared.row Counts.the-type) ρ) λ ρ told. Local.whole-mem 𝓤 H A W (Declared.row Counts.the-type) ρ, Path'.refl), (Reads.as-is 𝓤 H A (Mut.mslice (Signed'.SInt Syntax.w32) ty·3 8), Mut.reads-mslice 𝓤 H A W (Signed'.SInt Syntax.w32) ty·3 8, Path'.refl, (Reads.as-is 𝓤 H A (Mut.mslice (Referent.rtF (Referent.fInt Syntax.w32)) ty·3 9), Mut.reads-mslice 𝓤 H A W (Referent.rtF (Referent.fInt Syntax.w32)) ty·3 9, Path'.refl, (Reads.as-is 𝓤 H A (Mut.mslice (Referent.rtF (Referent.fInt Syntax.w32)) ty·3 10), Mut.reads-mslice 𝓤 H A W (Referent.rtF (Referent.fInt Syntax.w32)) ty·3 10, Path'.refl, (Reads.as-is 𝓤 H A (Mut.mslice (Referent.rtF (Referent.fInt Syntax.w32)) ty·3 11), Mut.reads-mslice 𝓤 H A W (Referent.rtF (Referent.fInt Syntax.w32)) ty·3 11, Path'.refl, (Reads.as-is 𝓤 H A (Mut.mslice ELEM.the-row ty·11 12), Mut.reads-mslice 𝓤 H A W ELEM.the-row ty·11 12, Path'.refl, (Reads.as-is 𝓤 H A (Mut.mslice (Referent.rtF (Referent.fInt Syntax.w32)) ty·3 13), Mut.reads-mslice 𝓤 H A W (Referent.rtF (Referent.fInt Syntax.w32)) ty·3 13, Path'.refl, (Reads.as-is 𝓤 H A (Mut.mslice (Referent.rtF (Referent.fInt Syntax.w32)) ty·3 14), Mut.reads-mslice 𝓤 H A W (Referent.rtF (Referent.fInt Syntax.w32)) ty·3 14, Path'.refl, (Reads.as-is 𝓤 H A (Mut.mslice (Referent.rtF (Referent.fInt Syntax.w32)) ty·3 15), Mut.reads-mslice 𝓤 H A W (Referent.rtF (Referent.fInt Syntax.w32)) ty·3 15, Path'.refl, ((Yields.yields-copy 𝓤 H A W (λ ρ. Unit) (Declared.row Point2.the-type) Path'.refl (Copies.cStruct Point2.the-type Laws.the-laws Laws.the-copy .copy 𝓤 H A W) (Rows.whole (Declared.row Point2.the-type)) (λ x. x) (λ x. x) (λ ρ told. Local.mem-whole 𝓤 H A W (Declared.row Point2.the-type) ρ) λ ρ told. Local.whole-mem 𝓤 H A W (Declared.row Point2.the-type) ρ, Path'.refl), ((Yields.yields-copy 𝓤 H A W (λ ρ. Unit) (Declared.row Point.the-type) Path'.refl (Copies.cStruct Point.the-type Laws''.the-laws Laws''.the-copy .copy 𝓤 H A W) (Rows.whole (Declared.row Point.the-type)) (λ x. x) (λ x. x) (λ ρ told. Local.mem-whole 𝓤 H A W (Declared.row Point.the-type) ρ) λ ρ told. Local.whole-mem 𝓤 H A W (Declared.row Point.the-type) ρ, Path'.refl), tt))))))))))) (Reads.room-gone 𝓤 H A ty·24) (tt, (tt, (tt, (tt, (tt, (tt, (tt, (tt, tt)))))))) Path'.refl) d42
 
           d44 : Typed.Typed 𝓤 H A 𝓣 E G36 b23 Δ0 at44
           d44 = Typed.g-pre 𝓤 H A W 𝓣 E G36 G37 b23 Δ0 (Typed.pass T36 T37 s35) at43 (AtSlots.g-as-by 𝓤 H A W E (λ ρ. Unit) G36 18 (Rows.whole (Declared.row Point.the-type)) (λ v. Point.struct .make v tt) (Own.told-none 𝓤 H A (G36 .slots)) λ ρ told v b. Apart.folds 𝓤 H A Point.the-type (Point.struct .Ghost) (Point.struct .make) (λ v g. Path'.refl) ρ v tt b) d43

@@ -127,19 +127,16 @@ abbrev ty·21 : Syntax.Ty
 ty·21 = Syntax.tyStruct (List._∷_ 109 (List._∷_ 101 (List._∷_ 115 (List._∷_ 104 (List._∷_ 58 (List._∷_ 58 (List._∷_ 67 (List._∷_ 111 (List._∷_ 117 (List._∷_ 110 (List._∷_ 116 (List._∷_ 115 List.[])))))))))))) (Syntax.tcons ty·0 (Syntax.tcons ty·0 (Syntax.tcons ty·0 Syntax.tnil)))
 
 abbrev ty·22 : Syntax.Ty
-ty·22 = Syntax.tyStruct (List._∷_ 109 (List._∷_ 101 (List._∷_ 115 (List._∷_ 104 (List._∷_ 95 (List._∷_ 99 (List._∷_ 104 (List._∷_ 101 (List._∷_ 99 (List._∷_ 107 (List._∷_ 58 (List._∷_ 58 (List._∷_ 82 (List._∷_ 101 (List._∷_ 102 (List._∷_ 117 (List._∷_ 115 (List._∷_ 97 (List._∷_ 108 List.[]))))))))))))))))))) (Syntax.tcons ty·0 (Syntax.tcons ty·0 Syntax.tnil))
+ty·22 = Syntax.tyStruct (List._∷_ 102 (List._∷_ 105 (List._∷_ 110 (List._∷_ 105 (List._∷_ 115 (List._∷_ 104 (List._∷_ 58 (List._∷_ 58 (List._∷_ 84 (List._∷_ 111 (List._∷_ 116 (List._∷_ 97 (List._∷_ 108 (List._∷_ 115 List.[])))))))))))))) (Syntax.tcons ty·0 (Syntax.tcons ty·1 (Syntax.tcons ty·1 Syntax.tnil)))
 
 abbrev ty·23 : Syntax.Ty
-ty·23 = Syntax.tyStruct (List._∷_ 102 (List._∷_ 108 (List._∷_ 105 (List._∷_ 112 (List._∷_ 95 (List._∷_ 99 (List._∷_ 111 (List._∷_ 117 (List._∷_ 110 (List._∷_ 116 (List._∷_ 58 (List._∷_ 58 (List._∷_ 70 (List._∷_ 108 (List._∷_ 105 (List._∷_ 112 (List._∷_ 67 (List._∷_ 111 (List._∷_ 117 (List._∷_ 110 (List._∷_ 116 List.[]))))))))))))))))))))) (Syntax.tcons ty·1 (Syntax.tcons ty·1 Syntax.tnil))
+ty·23 = Syntax.tyStruct (List._∷_ 109 (List._∷_ 101 (List._∷_ 115 (List._∷_ 104 (List._∷_ 95 (List._∷_ 99 (List._∷_ 104 (List._∷_ 101 (List._∷_ 99 (List._∷_ 107 (List._∷_ 58 (List._∷_ 58 (List._∷_ 82 (List._∷_ 101 (List._∷_ 102 (List._∷_ 117 (List._∷_ 115 (List._∷_ 97 (List._∷_ 108 List.[]))))))))))))))))))) (Syntax.tcons ty·0 (Syntax.tcons ty·0 Syntax.tnil))
 
 abbrev ty·24 : Syntax.Ty
-ty·24 = Syntax.tyStruct (List._∷_ 102 (List._∷_ 105 (List._∷_ 110 (List._∷_ 105 (List._∷_ 115 (List._∷_ 104 (List._∷_ 58 (List._∷_ 58 (List._∷_ 84 (List._∷_ 111 (List._∷_ 116 (List._∷_ 97 (List._∷_ 108 (List._∷_ 115 List.[])))))))))))))) (Syntax.tcons ty·0 (Syntax.tcons ty·23 (Syntax.tcons ty·23 Syntax.tnil)))
+ty·24 = Syntax.tyEnum (List._∷_ 102 (List._∷_ 105 (List._∷_ 110 (List._∷_ 105 (List._∷_ 115 (List._∷_ 104 (List._∷_ 58 (List._∷_ 58 (List._∷_ 70 (List._∷_ 105 (List._∷_ 110 (List._∷_ 105 (List._∷_ 115 (List._∷_ 104 (List._∷_ 101 (List._∷_ 100 List.[])))))))))))))))) (Syntax.ttcons (Syntax.tcons ty·22 Syntax.tnil) (Syntax.ttcons (Syntax.tcons ty·23 Syntax.tnil) Syntax.ttnil))
 
 abbrev ty·25 : Syntax.Ty
-ty·25 = Syntax.tyEnum (List._∷_ 102 (List._∷_ 105 (List._∷_ 110 (List._∷_ 105 (List._∷_ 115 (List._∷_ 104 (List._∷_ 58 (List._∷_ 58 (List._∷_ 70 (List._∷_ 105 (List._∷_ 110 (List._∷_ 105 (List._∷_ 115 (List._∷_ 104 (List._∷_ 101 (List._∷_ 100 List.[])))))))))))))))) (Syntax.ttcons (Syntax.tcons ty·24 Syntax.tnil) (Syntax.ttcons (Syntax.tcons ty·22 Syntax.tnil) Syntax.ttnil))
-
-abbrev ty·26 : Syntax.Ty
-ty·26 = Syntax.tyStruct (List._∷_ 102 (List._∷_ 105 (List._∷_ 110 (List._∷_ 105 (List._∷_ 115 (List._∷_ 104 (List._∷_ 58 (List._∷_ 58 (List._∷_ 70 (List._∷_ 105 (List._∷_ 110 (List._∷_ 105 (List._∷_ 115 (List._∷_ 104 (List._∷_ 65 (List._∷_ 110 (List._∷_ 115 (List._∷_ 119 (List._∷_ 101 (List._∷_ 114 List.[])))))))))))))))))))) (Syntax.tcons ty·21 (Syntax.tcons ty·25 Syntax.tnil))
+ty·25 = Syntax.tyStruct (List._∷_ 102 (List._∷_ 105 (List._∷_ 110 (List._∷_ 105 (List._∷_ 115 (List._∷_ 104 (List._∷_ 58 (List._∷_ 58 (List._∷_ 70 (List._∷_ 105 (List._∷_ 110 (List._∷_ 105 (List._∷_ 115 (List._∷_ 104 (List._∷_ 65 (List._∷_ 110 (List._∷_ 115 (List._∷_ 119 (List._∷_ 101 (List._∷_ 114 List.[])))))))))))))))))))) (Syntax.tcons ty·21 (Syntax.tcons ty·24 Syntax.tnil))
 
 abbrev pub ps : List.List (Kinds.PK 9)
 ps = List._∷_ (Value.pVal record { ty = Declared.row Counts.the-type; one = Path'.refl; val = Laws'3.val Counts.the-type Laws''.the-laws; tells = Laws'3.tells Counts.the-type Laws''.the-laws; still = Laws'3.still Counts.the-type Laws''.the-copy Exit.yes; row = Rows'.whole (Declared.row Counts.the-type); rd = λ x. x; mk = λ x. x } λ M 𝓤 H A W. record { copies = Laws'3.copy Counts.the-type Laws''.the-copy 𝓤 H A W; lawful = Laws'3.lawful Counts.the-type Laws''.the-laws 𝓤 H A W; makes = Laws'3.makes Counts.the-type Laws''.the-plain 𝓤 H A; in-mem = Local.mem-whole 𝓤 H A W (Declared.row Counts.the-type); of-mem = Local.whole-mem 𝓤 H A W (Declared.row Counts.the-type) }) (List._∷_ (MutSlice.pMutS (Signed.SInt Syntax.w32) 0 tt) (List._∷_ (MutSlice.pMutS (Referent.rtF (Referent.fInt Syntax.w32)) 1 tt) (List._∷_ (MutSlice.pMutS (Referent.rtF (Referent.fInt Syntax.w32)) 2 tt) (List._∷_ (MutSlice.pMutS (Referent.rtF (Referent.fInt Syntax.w32)) 3 tt) (List._∷_ (MutSlice.pMutS (Referent.rtF (Referent.fInt Syntax.w32)) 4 tt) (List._∷_ (MutSlice.pMutS (Referent.rtF (Referent.fInt Syntax.w32)) 5 tt) (List._∷_ (MutSlice.pMutS (Referent.rtF (Referent.fInt Syntax.w32)) 6 tt) (List._∷_ (MutSlice.pMutS (Referent.rtF (Referent.fInt Syntax.w64)) 7 tt) (List._∷_ (Value.pVal record { ty = Declared.row Point2.the-type; one = Path'.refl; val = Laws'3.val Point2.the-type Laws.the-laws; tells = Laws'3.tells Point2.the-type Laws.the-laws; still = Laws'3.still Point2.the-type Laws.the-copy Exit.yes; row = Rows'.whole (Declared.row Point2.the-type); rd = λ x. x; mk = λ x. x } λ M 𝓤 H A W. record { copies = Laws'3.copy Point2.the-type Laws.the-copy 𝓤 H A W; lawful = Laws'3.lawful Point2.the-type Laws.the-laws 𝓤 H A W; makes = Laws'3.makes Point2.the-type Laws.the-plain 𝓤 H A; in-mem = Local.mem-whole 𝓤 H A W (Declared.row Point2.the-type); of-mem = Local.whole-mem 𝓤 H A W (Declared.row Point2.the-type) }) (List._∷_ (ShrSlice.pShrS (Signed.SInt Syntax.w32) 8 tt) List.[]))))))))))
@@ -304,7 +301,7 @@ abbrev pub Claims : Type 1
 Claims = Kinds.In 0 ps·0 × Kinds.Out 0 ps·0 r·0 × Kinds.In 10 ps·1 × Kinds.Out 10 ps·1 r·1
 
 abbrev pub t0 : List.List Row.Entry
-t0 = List._∷_ (0, Rows'.any-gone ty·26) (List._∷_ (1, Rows'.whole (Declared.row Counts.the-type)) (List._∷_ (2, Mut.mslice (Signed.SInt Syntax.w32) ty·6 0) (List._∷_ (3, Mut.mslice (Referent.rtF (Referent.fInt Syntax.w32)) ty·7 1) (List._∷_ (4, Mut.mslice (Referent.rtF (Referent.fInt Syntax.w32)) ty·8 2) (List._∷_ (5, Mut.mslice (Referent.rtF (Referent.fInt Syntax.w32)) ty·9 3) (List._∷_ (6, Mut.mslice (Referent.rtF (Referent.fInt Syntax.w32)) ty·10 4) (List._∷_ (7, Mut.mslice (Referent.rtF (Referent.fInt Syntax.w32)) ty·11 5) (List._∷_ (8, Mut.mslice (Referent.rtF (Referent.fInt Syntax.w32)) ty·12 6) (List._∷_ (9, Mut.mslice (Referent.rtF (Referent.fInt Syntax.w64)) ty·13 7) (List._∷_ (10, Rows'.whole (Declared.row Point2.the-type)) (List._∷_ (11, Rows'.sslice (Signed.SInt Syntax.w32) ty·14 8) (List._∷_ (12, Rows'.any-gone ty·3) (List._∷_ (13, Rows'.any-gone ty·3) (List._∷_ (14, Rows'.any-gone ty·4) (List._∷_ (15, Rows'.any-gone ty·17) List.[])))))))))))))))
+t0 = List._∷_ (0, Rows'.any-gone ty·25) (List._∷_ (1, Rows'.whole (Declared.row Counts.the-type)) (List._∷_ (2, Mut.mslice (Signed.SInt Syntax.w32) ty·6 0) (List._∷_ (3, Mut.mslice (Referent.rtF (Referent.fInt Syntax.w32)) ty·7 1) (List._∷_ (4, Mut.mslice (Referent.rtF (Referent.fInt Syntax.w32)) ty·8 2) (List._∷_ (5, Mut.mslice (Referent.rtF (Referent.fInt Syntax.w32)) ty·9 3) (List._∷_ (6, Mut.mslice (Referent.rtF (Referent.fInt Syntax.w32)) ty·10 4) (List._∷_ (7, Mut.mslice (Referent.rtF (Referent.fInt Syntax.w32)) ty·11 5) (List._∷_ (8, Mut.mslice (Referent.rtF (Referent.fInt Syntax.w32)) ty·12 6) (List._∷_ (9, Mut.mslice (Referent.rtF (Referent.fInt Syntax.w64)) ty·13 7) (List._∷_ (10, Rows'.whole (Declared.row Point2.the-type)) (List._∷_ (11, Rows'.sslice (Signed.SInt Syntax.w32) ty·14 8) (List._∷_ (12, Rows'.any-gone ty·3) (List._∷_ (13, Rows'.any-gone ty·3) (List._∷_ (14, Rows'.any-gone ty·4) (List._∷_ (15, Rows'.any-gone ty·17) List.[])))))))))))))))
 
 abbrev pub t1 : List.List Row.Entry
 t1 = List._∷_ (16, Rows'.any-gone ty·4) (List._∷_ (17, Rows'.any-gone ty·17) (List._∷_ (18, Rows'.any-gone ty·4) (List._∷_ (19, Rows'.any-gone ty·17) (List._∷_ (20, Rows'.any-gone ty·4) (List._∷_ (21, Rows'.any-gone ty·17) (List._∷_ (22, Rows'.any-gone ty·16) (List._∷_ (23, Rows'.any-gone ty·19) (List._∷_ (24, Rows'.any-gone ty·4) (List._∷_ (25, Rows'.any-gone ty·17) (List._∷_ (26, Rows'.any-gone ty·4) (List._∷_ (27, Rows'.any-gone ty·17) (List._∷_ (28, Rows'.any-gone ty·4) (List._∷_ (29, Rows'.any-gone ty·17) (List._∷_ (30, Rows'.any-gone ty·5) (List._∷_ (31, Rows'.any-gone ty·18) List.[])))))))))))))))
@@ -313,22 +310,22 @@ abbrev pub t2 : List.List Row.Entry
 t2 = List._∷_ (0, Rows'.whole (Declared.row FinishAnswer.the-type)) (List._∷_ (1, Rows'.any-gone ty·21) (List._∷_ (2, Mut.mslice (Signed.SInt Syntax.w32) ty·6 0) (List._∷_ (3, Mut.mslice (Referent.rtF (Referent.fInt Syntax.w32)) ty·7 1) (List._∷_ (4, Mut.mslice (Referent.rtF (Referent.fInt Syntax.w32)) ty·8 2) (List._∷_ (5, Mut.mslice (Referent.rtF (Referent.fInt Syntax.w32)) ty·9 3) (List._∷_ (6, Mut.mslice (Referent.rtF (Referent.fInt Syntax.w32)) ty·10 4) (List._∷_ (7, Mut.mslice (Referent.rtF (Referent.fInt Syntax.w32)) ty·11 5) (List._∷_ (8, Mut.mslice (Referent.rtF (Referent.fInt Syntax.w32)) ty·12 6) (List._∷_ (9, Mut.mslice (Referent.rtF (Referent.fInt Syntax.w64)) ty·13 7) (List._∷_ (10, Rows'.any-gone ty·20) (List._∷_ (11, Rows'.sslice (Signed.SInt Syntax.w32) ty·14 8) (List._∷_ (12, Rows'.any-gone ty·3) (List._∷_ (13, Rows'.any-gone ty·3) (List._∷_ (14, Rows'.any-gone ty·4) (List._∷_ (15, Rows'.any-gone ty·17) List.[])))))))))))))))
 
 abbrev pub t3 : List.List Row.Entry
-t3 = List._∷_ (0, Rows'.any-gone ty·26) (List._∷_ (1, Rows'.whole (Declared.row Counts.the-type)) (List._∷_ (2, Mut.mslice (Signed.SInt Syntax.w32) ty·6 0) (List._∷_ (3, Mut.mslice (Referent.rtF (Referent.fInt Syntax.w32)) ty·7 1) (List._∷_ (4, Mut.mslice (Referent.rtF (Referent.fInt Syntax.w32)) ty·8 2) (List._∷_ (5, Mut.mslice (Referent.rtF (Referent.fInt Syntax.w32)) ty·9 3) (List._∷_ (6, Mut.mslice (Referent.rtF (Referent.fInt Syntax.w32)) ty·10 4) (List._∷_ (7, Mut.mslice (Referent.rtF (Referent.fInt Syntax.w32)) ty·11 5) (List._∷_ (8, Mut.mslice (Referent.rtF (Referent.fInt Syntax.w32)) ty·12 6) (List._∷_ (9, Mut.mslice (Referent.rtF (Referent.fInt Syntax.w64)) ty·13 7) (List._∷_ (10, Rows'.whole (Declared.row Point2.the-type)) (List._∷_ (11, Rows'.sslice (Signed.SInt Syntax.w32) ty·14 8) (List._∷_ (12, Rows'.any-gone ty·3) (List._∷_ (13, Rows.arrF ELEM.the-row 401 0) (List._∷_ (14, Rows'.any-gone ty·4) (List._∷_ (15, Rows'.any-gone ty·17) List.[])))))))))))))))
+t3 = List._∷_ (0, Rows'.any-gone ty·25) (List._∷_ (1, Rows'.whole (Declared.row Counts.the-type)) (List._∷_ (2, Mut.mslice (Signed.SInt Syntax.w32) ty·6 0) (List._∷_ (3, Mut.mslice (Referent.rtF (Referent.fInt Syntax.w32)) ty·7 1) (List._∷_ (4, Mut.mslice (Referent.rtF (Referent.fInt Syntax.w32)) ty·8 2) (List._∷_ (5, Mut.mslice (Referent.rtF (Referent.fInt Syntax.w32)) ty·9 3) (List._∷_ (6, Mut.mslice (Referent.rtF (Referent.fInt Syntax.w32)) ty·10 4) (List._∷_ (7, Mut.mslice (Referent.rtF (Referent.fInt Syntax.w32)) ty·11 5) (List._∷_ (8, Mut.mslice (Referent.rtF (Referent.fInt Syntax.w32)) ty·12 6) (List._∷_ (9, Mut.mslice (Referent.rtF (Referent.fInt Syntax.w64)) ty·13 7) (List._∷_ (10, Rows'.whole (Declared.row Point2.the-type)) (List._∷_ (11, Rows'.sslice (Signed.SInt Syntax.w32) ty·14 8) (List._∷_ (12, Rows'.any-gone ty·3) (List._∷_ (13, Rows.arrF ELEM.the-row 401 0) (List._∷_ (14, Rows'.any-gone ty·4) (List._∷_ (15, Rows'.any-gone ty·17) List.[])))))))))))))))
 
 abbrev pub t4 : List.List Row.Entry
-t4 = List._∷_ (0, Rows'.any-gone ty·26) (List._∷_ (1, Rows'.whole (Declared.row Counts.the-type)) (List._∷_ (2, Mut.mslice (Signed.SInt Syntax.w32) ty·6 0) (List._∷_ (3, Mut.mslice (Referent.rtF (Referent.fInt Syntax.w32)) ty·7 1) (List._∷_ (4, Mut.mslice (Referent.rtF (Referent.fInt Syntax.w32)) ty·8 2) (List._∷_ (5, Mut.mslice (Referent.rtF (Referent.fInt Syntax.w32)) ty·9 3) (List._∷_ (6, Mut.mslice (Referent.rtF (Referent.fInt Syntax.w32)) ty·10 4) (List._∷_ (7, Mut.mslice (Referent.rtF (Referent.fInt Syntax.w32)) ty·11 5) (List._∷_ (8, Mut.mslice (Referent.rtF (Referent.fInt Syntax.w32)) ty·12 6) (List._∷_ (9, Mut.mslice (Referent.rtF (Referent.fInt Syntax.w64)) ty·13 7) (List._∷_ (10, Rows'.whole (Declared.row Point2.the-type)) (List._∷_ (11, Rows'.sslice (Signed.SInt Syntax.w32) ty·14 8) (List._∷_ (12, Rows.arrF ELEM.the-row 401 0) (List._∷_ (13, Rows.arrF ELEM.the-row 401 0) (List._∷_ (14, Rows'.any-gone ty·4) (List._∷_ (15, Rows'.any-gone ty·17) List.[])))))))))))))))
+t4 = List._∷_ (0, Rows'.any-gone ty·25) (List._∷_ (1, Rows'.whole (Declared.row Counts.the-type)) (List._∷_ (2, Mut.mslice (Signed.SInt Syntax.w32) ty·6 0) (List._∷_ (3, Mut.mslice (Referent.rtF (Referent.fInt Syntax.w32)) ty·7 1) (List._∷_ (4, Mut.mslice (Referent.rtF (Referent.fInt Syntax.w32)) ty·8 2) (List._∷_ (5, Mut.mslice (Referent.rtF (Referent.fInt Syntax.w32)) ty·9 3) (List._∷_ (6, Mut.mslice (Referent.rtF (Referent.fInt Syntax.w32)) ty·10 4) (List._∷_ (7, Mut.mslice (Referent.rtF (Referent.fInt Syntax.w32)) ty·11 5) (List._∷_ (8, Mut.mslice (Referent.rtF (Referent.fInt Syntax.w32)) ty·12 6) (List._∷_ (9, Mut.mslice (Referent.rtF (Referent.fInt Syntax.w64)) ty·13 7) (List._∷_ (10, Rows'.whole (Declared.row Point2.the-type)) (List._∷_ (11, Rows'.sslice (Signed.SInt Syntax.w32) ty·14 8) (List._∷_ (12, Rows.arrF ELEM.the-row 401 0) (List._∷_ (13, Rows.arrF ELEM.the-row 401 0) (List._∷_ (14, Rows'.any-gone ty·4) (List._∷_ (15, Rows'.any-gone ty·17) List.[])))))))))))))))
 
 abbrev pub t5 : List.List Row.Entry
-t5 = List._∷_ (0, Rows'.any-gone ty·26) (List._∷_ (1, Rows'.whole (Declared.row Counts.the-type)) (List._∷_ (2, Mut.mslice (Signed.SInt Syntax.w32) ty·6 0) (List._∷_ (3, Mut.mslice (Referent.rtF (Referent.fInt Syntax.w32)) ty·7 1) (List._∷_ (4, Mut.mslice (Referent.rtF (Referent.fInt Syntax.w32)) ty·8 2) (List._∷_ (5, Mut.mslice (Referent.rtF (Referent.fInt Syntax.w32)) ty·9 3) (List._∷_ (6, Mut.mslice (Referent.rtF (Referent.fInt Syntax.w32)) ty·10 4) (List._∷_ (7, Mut.mslice (Referent.rtF (Referent.fInt Syntax.w32)) ty·11 5) (List._∷_ (8, Mut.mslice (Referent.rtF (Referent.fInt Syntax.w32)) ty·12 6) (List._∷_ (9, Mut.mslice (Referent.rtF (Referent.fInt Syntax.w64)) ty·13 7) (List._∷_ (10, Rows'.whole (Declared.row Point2.the-type)) (List._∷_ (11, Rows'.sslice (Signed.SInt Syntax.w32) ty·14 8) (List._∷_ (12, Rows.arrF ELEM.the-row 401 0) (List._∷_ (13, Rows'.any-gone ty·3) (List._∷_ (14, Rows'.any-gone ty·4) (List._∷_ (15, Rows'.any-gone ty·17) List.[])))))))))))))))
+t5 = List._∷_ (0, Rows'.any-gone ty·25) (List._∷_ (1, Rows'.whole (Declared.row Counts.the-type)) (List._∷_ (2, Mut.mslice (Signed.SInt Syntax.w32) ty·6 0) (List._∷_ (3, Mut.mslice (Referent.rtF (Referent.fInt Syntax.w32)) ty·7 1) (List._∷_ (4, Mut.mslice (Referent.rtF (Referent.fInt Syntax.w32)) ty·8 2) (List._∷_ (5, Mut.mslice (Referent.rtF (Referent.fInt Syntax.w32)) ty·9 3) (List._∷_ (6, Mut.mslice (Referent.rtF (Referent.fInt Syntax.w32)) ty·10 4) (List._∷_ (7, Mut.mslice (Referent.rtF (Referent.fInt Syntax.w32)) ty·11 5) (List._∷_ (8, Mut.mslice (Referent.rtF (Referent.fInt Syntax.w32)) ty·12 6) (List._∷_ (9, Mut.mslice (Referent.rtF (Referent.fInt Syntax.w64)) ty·13 7) (List._∷_ (10, Rows'.whole (Declared.row Point2.the-type)) (List._∷_ (11, Rows'.sslice (Signed.SInt Syntax.w32) ty·14 8) (List._∷_ (12, Rows.arrF ELEM.the-row 401 0) (List._∷_ (13, Rows'.any-gone ty·3) (List._∷_ (14, Rows'.any-gone ty·4) (List._∷_ (15, Rows'.any-gone ty·17) List.[])))))))))))))))
 
 abbrev pub t6 : List.List Row.Entry
-t6 = List._∷_ (0, Rows'.any-gone ty·26) (List._∷_ (1, Rows'.whole (Declared.row Counts.the-type)) (List._∷_ (2, Relend.mslice-owed (Signed.SInt Syntax.w32) ty·6 0 9 Row.off) (List._∷_ (3, Mut.mslice (Referent.rtF (Referent.fInt Syntax.w32)) ty·7 1) (List._∷_ (4, Mut.mslice (Referent.rtF (Referent.fInt Syntax.w32)) ty·8 2) (List._∷_ (5, Mut.mslice (Referent.rtF (Referent.fInt Syntax.w32)) ty·9 3) (List._∷_ (6, Mut.mslice (Referent.rtF (Referent.fInt Syntax.w32)) ty·10 4) (List._∷_ (7, Mut.mslice (Referent.rtF (Referent.fInt Syntax.w32)) ty·11 5) (List._∷_ (8, Mut.mslice (Referent.rtF (Referent.fInt Syntax.w32)) ty·12 6) (List._∷_ (9, Mut.mslice (Referent.rtF (Referent.fInt Syntax.w64)) ty·13 7) (List._∷_ (10, Rows'.whole (Declared.row Point2.the-type)) (List._∷_ (11, Rows'.sslice (Signed.SInt Syntax.w32) ty·14 8) (List._∷_ (12, Rows.arrF ELEM.the-row 401 0) (List._∷_ (13, Rows'.any-gone ty·3) (List._∷_ (14, Relend.msptr (Signed.SInt Syntax.w32) ty·4 9) (List._∷_ (15, Rows'.any-gone ty·17) List.[])))))))))))))))
+t6 = List._∷_ (0, Rows'.any-gone ty·25) (List._∷_ (1, Rows'.whole (Declared.row Counts.the-type)) (List._∷_ (2, Relend.mslice-owed (Signed.SInt Syntax.w32) ty·6 0 9 Row.off) (List._∷_ (3, Mut.mslice (Referent.rtF (Referent.fInt Syntax.w32)) ty·7 1) (List._∷_ (4, Mut.mslice (Referent.rtF (Referent.fInt Syntax.w32)) ty·8 2) (List._∷_ (5, Mut.mslice (Referent.rtF (Referent.fInt Syntax.w32)) ty·9 3) (List._∷_ (6, Mut.mslice (Referent.rtF (Referent.fInt Syntax.w32)) ty·10 4) (List._∷_ (7, Mut.mslice (Referent.rtF (Referent.fInt Syntax.w32)) ty·11 5) (List._∷_ (8, Mut.mslice (Referent.rtF (Referent.fInt Syntax.w32)) ty·12 6) (List._∷_ (9, Mut.mslice (Referent.rtF (Referent.fInt Syntax.w64)) ty·13 7) (List._∷_ (10, Rows'.whole (Declared.row Point2.the-type)) (List._∷_ (11, Rows'.sslice (Signed.SInt Syntax.w32) ty·14 8) (List._∷_ (12, Rows.arrF ELEM.the-row 401 0) (List._∷_ (13, Rows'.any-gone ty·3) (List._∷_ (14, Relend.msptr (Signed.SInt Syntax.w32) ty·4 9) (List._∷_ (15, Rows'.any-gone ty·17) List.[])))))))))))))))
 
 abbrev pub t7 : List.List Row.Entry
-t7 = List._∷_ (0, Rows'.any-gone ty·26) (List._∷_ (1, Rows'.whole (Declared.row Counts.the-type)) (List._∷_ (2, Relend.mslice-owed (Signed.SInt Syntax.w32) ty·6 0 9 Row.off) (List._∷_ (3, Mut.mslice (Referent.rtF (Referent.fInt Syntax.w32)) ty·7 1) (List._∷_ (4, Mut.mslice (Referent.rtF (Referent.fInt Syntax.w32)) ty·8 2) (List._∷_ (5, Mut.mslice (Referent.rtF (Referent.fInt Syntax.w32)) ty·9 3) (List._∷_ (6, Mut.mslice (Referent.rtF (Referent.fInt Syntax.w32)) ty·10 4) (List._∷_ (7, Mut.mslice (Referent.rtF (Referent.fInt Syntax.w32)) ty·11 5) (List._∷_ (8, Mut.mslice (Referent.rtF (Referent.fInt Syntax.w32)) ty·12 6) (List._∷_ (9, Mut.mslice (Referent.rtF (Referent.fInt Syntax.w64)) ty·13 7) (List._∷_ (10, Rows'.whole (Declared.row Point2.the-type)) (List._∷_ (11, Rows'.sslice (Signed.SInt Syntax.w32) ty·14 8) (List._∷_ (12, Rows.arrF ELEM.the-row 401 0) (List._∷_ (13, Rows'.any-gone ty·3) (List._∷_ (14, Rows'.any-gone ty·4) (List._∷_ (15, Mut.mslice (Signed.SInt Syntax.w32) ty·4 9) List.[])))))))))))))))
+t7 = List._∷_ (0, Rows'.any-gone ty·25) (List._∷_ (1, Rows'.whole (Declared.row Counts.the-type)) (List._∷_ (2, Relend.mslice-owed (Signed.SInt Syntax.w32) ty·6 0 9 Row.off) (List._∷_ (3, Mut.mslice (Referent.rtF (Referent.fInt Syntax.w32)) ty·7 1) (List._∷_ (4, Mut.mslice (Referent.rtF (Referent.fInt Syntax.w32)) ty·8 2) (List._∷_ (5, Mut.mslice (Referent.rtF (Referent.fInt Syntax.w32)) ty·9 3) (List._∷_ (6, Mut.mslice (Referent.rtF (Referent.fInt Syntax.w32)) ty·10 4) (List._∷_ (7, Mut.mslice (Referent.rtF (Referent.fInt Syntax.w32)) ty·11 5) (List._∷_ (8, Mut.mslice (Referent.rtF (Referent.fInt Syntax.w32)) ty·12 6) (List._∷_ (9, Mut.mslice (Referent.rtF (Referent.fInt Syntax.w64)) ty·13 7) (List._∷_ (10, Rows'.whole (Declared.row Point2.the-type)) (List._∷_ (11, Rows'.sslice (Signed.SInt Syntax.w32) ty·14 8) (List._∷_ (12, Rows.arrF ELEM.the-row 401 0) (List._∷_ (13, Rows'.any-gone ty·3) (List._∷_ (14, Rows'.any-gone ty·4) (List._∷_ (15, Mut.mslice (Signed.SInt Syntax.w32) ty·4 9) List.[])))))))))))))))
 
 abbrev pub t8 : List.List Row.Entry
-t8 = List._∷_ (0, Rows'.any-gone ty·26) (List._∷_ (1, Rows'.whole (Declared.row Counts.the-type)) (List._∷_ (2, Relend.mslice-owed (Signed.SInt Syntax.w32) ty·6 0 9 Row.off) (List._∷_ (3, Relend.mslice-owed (Referent.rtF (Referent.fInt Syntax.w32)) ty·7 1 10 Row.off) (List._∷_ (4, Mut.mslice (Referent.rtF (Referent.fInt Syntax.w32)) ty·8 2) (List._∷_ (5, Mut.mslice (Referent.rtF (Referent.fInt Syntax.w32)) ty·9 3) (List._∷_ (6, Mut.mslice (Referent.rtF (Referent.fInt Syntax.w32)) ty·10 4) (List._∷_ (7, Mut.mslice (Referent.rtF (Referent.fInt Syntax.w32)) ty·11 5) (List._∷_ (8, Mut.mslice (Referent.rtF (Referent.fInt Syntax.w32)) ty·12 6) (List._∷_ (9, Mut.mslice (Referent.rtF (Referent.fInt Syntax.w64)) ty·13 7) (List._∷_ (10, Rows'.whole (Declared.row Point2.the-type)) (List._∷_ (11, Rows'.sslice (Signed.SInt Syntax.w32) ty·14 8) (List._∷_ (12, Rows.arrF ELEM.the-row 401 0) (List._∷_ (13, Rows'.any-gone ty·3) (List._∷_ (14, Rows'.any-gone ty·4) (List._∷_ (15, Mut.mslice (Signed.SInt Syntax.w32) ty·4 9) List.[])))))))))))))))
+t8 = List._∷_ (0, Rows'.any-gone ty·25) (List._∷_ (1, Rows'.whole (Declared.row Counts.the-type)) (List._∷_ (2, Relend.mslice-owed (Signed.SInt Syntax.w32) ty·6 0 9 Row.off) (List._∷_ (3, Relend.mslice-owed (Referent.rtF (Referent.fInt Syntax.w32)) ty·7 1 10 Row.off) (List._∷_ (4, Mut.mslice (Referent.rtF (Referent.fInt Syntax.w32)) ty·8 2) (List._∷_ (5, Mut.mslice (Referent.rtF (Referent.fInt Syntax.w32)) ty·9 3) (List._∷_ (6, Mut.mslice (Referent.rtF (Referent.fInt Syntax.w32)) ty·10 4) (List._∷_ (7, Mut.mslice (Referent.rtF (Referent.fInt Syntax.w32)) ty·11 5) (List._∷_ (8, Mut.mslice (Referent.rtF (Referent.fInt Syntax.w32)) ty·12 6) (List._∷_ (9, Mut.mslice (Referent.rtF (Referent.fInt Syntax.w64)) ty·13 7) (List._∷_ (10, Rows'.whole (Declared.row Point2.the-type)) (List._∷_ (11, Rows'.sslice (Signed.SInt Syntax.w32) ty·14 8) (List._∷_ (12, Rows.arrF ELEM.the-row 401 0) (List._∷_ (13, Rows'.any-gone ty·3) (List._∷_ (14, Rows'.any-gone ty·4) (List._∷_ (15, Mut.mslice (Signed.SInt Syntax.w32) ty·4 9) List.[])))))))))))))))
 
 abbrev pub t9 : List.List Row.Entry
 t9 = List._∷_ (16, Relend.msptr (Referent.rtF (Referent.fInt Syntax.w32)) ty·4 10) (List._∷_ (17, Rows'.any-gone ty·17) (List._∷_ (18, Rows'.any-gone ty·4) (List._∷_ (19, Rows'.any-gone ty·17) (List._∷_ (20, Rows'.any-gone ty·4) (List._∷_ (21, Rows'.any-gone ty·17) (List._∷_ (22, Rows'.any-gone ty·16) (List._∷_ (23, Rows'.any-gone ty·19) (List._∷_ (24, Rows'.any-gone ty·4) (List._∷_ (25, Rows'.any-gone ty·17) (List._∷_ (26, Rows'.any-gone ty·4) (List._∷_ (27, Rows'.any-gone ty·17) (List._∷_ (28, Rows'.any-gone ty·4) (List._∷_ (29, Rows'.any-gone ty·17) (List._∷_ (30, Rows'.any-gone ty·5) (List._∷_ (31, Rows'.any-gone ty·18) List.[])))))))))))))))
@@ -337,7 +334,7 @@ abbrev pub t10 : List.List Row.Entry
 t10 = List._∷_ (16, Rows'.any-gone ty·4) (List._∷_ (17, Mut.mslice (Referent.rtF (Referent.fInt Syntax.w32)) ty·4 10) (List._∷_ (18, Rows'.any-gone ty·4) (List._∷_ (19, Rows'.any-gone ty·17) (List._∷_ (20, Rows'.any-gone ty·4) (List._∷_ (21, Rows'.any-gone ty·17) (List._∷_ (22, Rows'.any-gone ty·16) (List._∷_ (23, Rows'.any-gone ty·19) (List._∷_ (24, Rows'.any-gone ty·4) (List._∷_ (25, Rows'.any-gone ty·17) (List._∷_ (26, Rows'.any-gone ty·4) (List._∷_ (27, Rows'.any-gone ty·17) (List._∷_ (28, Rows'.any-gone ty·4) (List._∷_ (29, Rows'.any-gone ty·17) (List._∷_ (30, Rows'.any-gone ty·5) (List._∷_ (31, Rows'.any-gone ty·18) List.[])))))))))))))))
 
 abbrev pub t11 : List.List Row.Entry
-t11 = List._∷_ (0, Rows'.any-gone ty·26) (List._∷_ (1, Rows'.whole (Declared.row Counts.the-type)) (List._∷_ (2, Relend.mslice-owed (Signed.SInt Syntax.w32) ty·6 0 9 Row.off) (List._∷_ (3, Relend.mslice-owed (Referent.rtF (Referent.fInt Syntax.w32)) ty·7 1 10 Row.off) (List._∷_ (4, Relend.mslice-owed (Referent.rtF (Referent.fInt Syntax.w32)) ty·8 2 11 Row.off) (List._∷_ (5, Mut.mslice (Referent.rtF (Referent.fInt Syntax.w32)) ty·9 3) (List._∷_ (6, Mut.mslice (Referent.rtF (Referent.fInt Syntax.w32)) ty·10 4) (List._∷_ (7, Mut.mslice (Referent.rtF (Referent.fInt Syntax.w32)) ty·11 5) (List._∷_ (8, Mut.mslice (Referent.rtF (Referent.fInt Syntax.w32)) ty·12 6) (List._∷_ (9, Mut.mslice (Referent.rtF (Referent.fInt Syntax.w64)) ty·13 7) (List._∷_ (10, Rows'.whole (Declared.row Point2.the-type)) (List._∷_ (11, Rows'.sslice (Signed.SInt Syntax.w32) ty·14 8) (List._∷_ (12, Rows.arrF ELEM.the-row 401 0) (List._∷_ (13, Rows'.any-gone ty·3) (List._∷_ (14, Rows'.any-gone ty·4) (List._∷_ (15, Mut.mslice (Signed.SInt Syntax.w32) ty·4 9) List.[])))))))))))))))
+t11 = List._∷_ (0, Rows'.any-gone ty·25) (List._∷_ (1, Rows'.whole (Declared.row Counts.the-type)) (List._∷_ (2, Relend.mslice-owed (Signed.SInt Syntax.w32) ty·6 0 9 Row.off) (List._∷_ (3, Relend.mslice-owed (Referent.rtF (Referent.fInt Syntax.w32)) ty·7 1 10 Row.off) (List._∷_ (4, Relend.mslice-owed (Referent.rtF (Referent.fInt Syntax.w32)) ty·8 2 11 Row.off) (List._∷_ (5, Mut.mslice (Referent.rtF (Referent.fInt Syntax.w32)) ty·9 3) (List._∷_ (6, Mut.mslice (Referent.rtF (Referent.fInt Syntax.w32)) ty·10 4) (List._∷_ (7, Mut.mslice (Referent.rtF (Referent.fInt Syntax.w32)) ty·11 5) (List._∷_ (8, Mut.mslice (Referent.rtF (Referent.fInt Syntax.w32)) ty·12 6) (List._∷_ (9, Mut.mslice (Referent.rtF (Referent.fInt Syntax.w64)) ty·13 7) (List._∷_ (10, Rows'.whole (Declared.row Point2.the-type)) (List._∷_ (11, Rows'.sslice (Signed.SInt Syntax.w32) ty·14 8) (List._∷_ (12, Rows.arrF ELEM.the-row 401 0) (List._∷_ (13, Rows'.any-gone ty·3) (List._∷_ (14, Rows'.any-gone ty·4) (List._∷_ (15, Mut.mslice (Signed.SInt Syntax.w32) ty·4 9) List.[])))))))))))))))
 
 abbrev pub t12 : List.List Row.Entry
 t12 = List._∷_ (16, Rows'.any-gone ty·4) (List._∷_ (17, Mut.mslice (Referent.rtF (Referent.fInt Syntax.w32)) ty·4 10) (List._∷_ (18, Relend.msptr (Referent.rtF (Referent.fInt Syntax.w32)) ty·4 11) (List._∷_ (19, Rows'.any-gone ty·17) (List._∷_ (20, Rows'.any-gone ty·4) (List._∷_ (21, Rows'.any-gone ty·17) (List._∷_ (22, Rows'.any-gone ty·16) (List._∷_ (23, Rows'.any-gone ty·19) (List._∷_ (24, Rows'.any-gone ty·4) (List._∷_ (25, Rows'.any-gone ty·17) (List._∷_ (26, Rows'.any-gone ty·4) (List._∷_ (27, Rows'.any-gone ty·17) (List._∷_ (28, Rows'.any-gone ty·4) (List._∷_ (29, Rows'.any-gone ty·17) (List._∷_ (30, Rows'.any-gone ty·5) (List._∷_ (31, Rows'.any-gone ty·18) List.[])))))))))))))))
@@ -346,7 +343,7 @@ abbrev pub t13 : List.List Row.Entry
 t13 = List._∷_ (16, Rows'.any-gone ty·4) (List._∷_ (17, Mut.mslice (Referent.rtF (Referent.fInt Syntax.w32)) ty·4 10) (List._∷_ (18, Rows'.any-gone ty·4) (List._∷_ (19, Mut.mslice (Referent.rtF (Referent.fInt Syntax.w32)) ty·4 11) (List._∷_ (20, Rows'.any-gone ty·4) (List._∷_ (21, Rows'.any-gone ty·17) (List._∷_ (22, Rows'.any-gone ty·16) (List._∷_ (23, Rows'.any-gone ty·19) (List._∷_ (24, Rows'.any-gone ty·4) (List._∷_ (25, Rows'.any-gone ty·17) (List._∷_ (26, Rows'.any-gone ty·4) (List._∷_ (27, Rows'.any-gone ty·17) (List._∷_ (28, Rows'.any-gone ty·4) (List._∷_ (29, Rows'.any-gone ty·17) (List._∷_ (30, Rows'.any-gone ty·5) (List._∷_ (31, Rows'.any-gone ty·18) List.[])))))))))))))))
 
 abbrev pub t14 : List.List Row.Entry
-t14 = List._∷_ (0, Rows'.any-gone ty·26) (List._∷_ (1, Rows'.whole (Declared.row Counts.the-type)) (List._∷_ (2, Relend.mslice-owed (Signed.SInt Syntax.w32) ty·6 0 9 Row.off) (List._∷_ (3, Relend.mslice-owed (Referent.rtF (Referent.fInt Syntax.w32)) ty·7 1 10 Row.off) (List._∷_ (4, Relend.mslice-owed (Referent.rtF (Referent.fInt Syntax.w32)) ty·8 2 11 Row.off) (List._∷_ (5, Relend.mslice-owed (Referent.rtF (Referent.fInt Syntax.w32)) ty·9 3 12 Row.off) (List._∷_ (6, Mut.mslice (Referent.rtF (Referent.fInt Syntax.w32)) ty·10 4) (List._∷_ (7, Mut.mslice (Referent.rtF (Referent.fInt Syntax.w32)) ty·11 5) (List._∷_ (8, Mut.mslice (Referent.rtF (Referent.fInt Syntax.w32)) ty·12 6) (List._∷_ (9, Mut.mslice (Referent.rtF (Referent.fInt Syntax.w64)) ty·13 7) (List._∷_ (10, Rows'.whole (Declared.row Point2.the-type)) (List._∷_ (11, Rows'.sslice (Signed.SInt Syntax.w32) ty·14 8) (List._∷_ (12, Rows.arrF ELEM.the-row 401 0) (List._∷_ (13, Rows'.any-gone ty·3) (List._∷_ (14, Rows'.any-gone ty·4) (List._∷_ (15, Mut.mslice (Signed.SInt Syntax.w32) ty·4 9) List.[])))))))))))))))
+t14 = List._∷_ (0, Rows'.any-gone ty·25) (List._∷_ (1, Rows'.whole (Declared.row Counts.the-type)) (List._∷_ (2, Relend.mslice-owed (Signed.SInt Syntax.w32) ty·6 0 9 Row.off) (List._∷_ (3, Relend.mslice-owed (Referent.rtF (Referent.fInt Syntax.w32)) ty·7 1 10 Row.off) (List._∷_ (4, Relend.mslice-owed (Referent.rtF (Referent.fInt Syntax.w32)) ty·8 2 11 Row.off) (List._∷_ (5, Relend.mslice-owed (Referent.rtF (Referent.fInt Syntax.w32)) ty·9 3 12 Row.off) (List._∷_ (6, Mut.mslice (Referent.rtF (Referent.fInt Syntax.w32)) ty·10 4) (List._∷_ (7, Mut.mslice (Referent.rtF (Referent.fInt Syntax.w32)) ty·11 5) (List._∷_ (8, Mut.mslice (Referent.rtF (Referent.fInt Syntax.w32)) ty·12 6) (List._∷_ (9, Mut.mslice (Referent.rtF (Referent.fInt Syntax.w64)) ty·13 7) (List._∷_ (10, Rows'.whole (Declared.row Point2.the-type)) (List._∷_ (11, Rows'.sslice (Signed.SInt Syntax.w32) ty·14 8) (List._∷_ (12, Rows.arrF ELEM.the-row 401 0) (List._∷_ (13, Rows'.any-gone ty·3) (List._∷_ (14, Rows'.any-gone ty·4) (List._∷_ (15, Mut.mslice (Signed.SInt Syntax.w32) ty·4 9) List.[])))))))))))))))
 
 abbrev pub t15 : List.List Row.Entry
 t15 = List._∷_ (16, Rows'.any-gone ty·4) (List._∷_ (17, Mut.mslice (Referent.rtF (Referent.fInt Syntax.w32)) ty·4 10) (List._∷_ (18, Rows'.any-gone ty·4) (List._∷_ (19, Mut.mslice (Referent.rtF (Referent.fInt Syntax.w32)) ty·4 11) (List._∷_ (20, Relend.msptr (Referent.rtF (Referent.fInt Syntax.w32)) ty·4 12) (List._∷_ (21, Rows'.any-gone ty·17) (List._∷_ (22, Rows'.any-gone ty·16) (List._∷_ (23, Rows'.any-gone ty·19) (List._∷_ (24, Rows'.any-gone ty·4) (List._∷_ (25, Rows'.any-gone ty·17) (List._∷_ (26, Rows'.any-gone ty·4) (List._∷_ (27, Rows'.any-gone ty·17) (List._∷_ (28, Rows'.any-gone ty·4) (List._∷_ (29, Rows'.any-gone ty·17) (List._∷_ (30, Rows'.any-gone ty·5) (List._∷_ (31, Rows'.any-gone ty·18) List.[])))))))))))))))
@@ -355,7 +352,7 @@ abbrev pub t16 : List.List Row.Entry
 t16 = List._∷_ (16, Rows'.any-gone ty·4) (List._∷_ (17, Mut.mslice (Referent.rtF (Referent.fInt Syntax.w32)) ty·4 10) (List._∷_ (18, Rows'.any-gone ty·4) (List._∷_ (19, Mut.mslice (Referent.rtF (Referent.fInt Syntax.w32)) ty·4 11) (List._∷_ (20, Rows'.any-gone ty·4) (List._∷_ (21, Mut.mslice (Referent.rtF (Referent.fInt Syntax.w32)) ty·4 12) (List._∷_ (22, Rows'.any-gone ty·16) (List._∷_ (23, Rows'.any-gone ty·19) (List._∷_ (24, Rows'.any-gone ty·4) (List._∷_ (25, Rows'.any-gone ty·17) (List._∷_ (26, Rows'.any-gone ty·4) (List._∷_ (27, Rows'.any-gone ty·17) (List._∷_ (28, Rows'.any-gone ty·4) (List._∷_ (29, Rows'.any-gone ty·17) (List._∷_ (30, Rows'.any-gone ty·5) (List._∷_ (31, Rows'.any-gone ty·18) List.[])))))))))))))))
 
 abbrev pub t17 : List.List Row.Entry
-t17 = List._∷_ (0, Rows'.any-gone ty·26) (List._∷_ (1, Rows'.whole (Declared.row Counts.the-type)) (List._∷_ (2, Relend.mslice-owed (Signed.SInt Syntax.w32) ty·6 0 9 Row.off) (List._∷_ (3, Relend.mslice-owed (Referent.rtF (Referent.fInt Syntax.w32)) ty·7 1 10 Row.off) (List._∷_ (4, Relend.mslice-owed (Referent.rtF (Referent.fInt Syntax.w32)) ty·8 2 11 Row.off) (List._∷_ (5, Relend.mslice-owed (Referent.rtF (Referent.fInt Syntax.w32)) ty·9 3 12 Row.off) (List._∷_ (6, Mut.mslice (Referent.rtF (Referent.fInt Syntax.w32)) ty·10 4) (List._∷_ (7, Mut.mslice (Referent.rtF (Referent.fInt Syntax.w32)) ty·11 5) (List._∷_ (8, Mut.mslice (Referent.rtF (Referent.fInt Syntax.w32)) ty·12 6) (List._∷_ (9, Mut.mslice (Referent.rtF (Referent.fInt Syntax.w64)) ty·13 7) (List._∷_ (10, Rows'.whole (Declared.row Point2.the-type)) (List._∷_ (11, Rows'.sslice (Signed.SInt Syntax.w32) ty·14 8) (List._∷_ (12, Rows.arr-owed ELEM.the-row 401 13) (List._∷_ (13, Rows'.any-gone ty·3) (List._∷_ (14, Rows'.any-gone ty·4) (List._∷_ (15, Mut.mslice (Signed.SInt Syntax.w32) ty·4 9) List.[])))))))))))))))
+t17 = List._∷_ (0, Rows'.any-gone ty·25) (List._∷_ (1, Rows'.whole (Declared.row Counts.the-type)) (List._∷_ (2, Relend.mslice-owed (Signed.SInt Syntax.w32) ty·6 0 9 Row.off) (List._∷_ (3, Relend.mslice-owed (Referent.rtF (Referent.fInt Syntax.w32)) ty·7 1 10 Row.off) (List._∷_ (4, Relend.mslice-owed (Referent.rtF (Referent.fInt Syntax.w32)) ty·8 2 11 Row.off) (List._∷_ (5, Relend.mslice-owed (Referent.rtF (Referent.fInt Syntax.w32)) ty·9 3 12 Row.off) (List._∷_ (6, Mut.mslice (Referent.rtF (Referent.fInt Syntax.w32)) ty·10 4) (List._∷_ (7, Mut.mslice (Referent.rtF (Referent.fInt Syntax.w32)) ty·11 5) (List._∷_ (8, Mut.mslice (Referent.rtF (Referent.fInt Syntax.w32)) ty·12 6) (List._∷_ (9, Mut.mslice (Referent.rtF (Referent.fInt Syntax.w64)) ty·13 7) (List._∷_ (10, Rows'.whole (Declared.row Point2.the-type)) (List._∷_ (11, Rows'.sslice (Signed.SInt Syntax.w32) ty·14 8) (List._∷_ (12, Rows.arr-owed ELEM.the-row 401 13) (List._∷_ (13, Rows'.any-gone ty·3) (List._∷_ (14, Rows'.any-gone ty·4) (List._∷_ (15, Mut.mslice (Signed.SInt Syntax.w32) ty·4 9) List.[])))))))))))))))
 
 abbrev pub t18 : List.List Row.Entry
 t18 = List._∷_ (16, Rows'.any-gone ty·4) (List._∷_ (17, Mut.mslice (Referent.rtF (Referent.fInt Syntax.w32)) ty·4 10) (List._∷_ (18, Rows'.any-gone ty·4) (List._∷_ (19, Mut.mslice (Referent.rtF (Referent.fInt Syntax.w32)) ty·4 11) (List._∷_ (20, Rows'.any-gone ty·4) (List._∷_ (21, Mut.mslice (Referent.rtF (Referent.fInt Syntax.w32)) ty·4 12) (List._∷_ (22, Relend.msptr ELEM.the-row ty·16 13) (List._∷_ (23, Rows'.any-gone ty·19) (List._∷_ (24, Rows'.any-gone ty·4) (List._∷_ (25, Rows'.any-gone ty·17) (List._∷_ (26, Rows'.any-gone ty·4) (List._∷_ (27, Rows'.any-gone ty·17) (List._∷_ (28, Rows'.any-gone ty·4) (List._∷_ (29, Rows'.any-gone ty·17) (List._∷_ (30, Rows'.any-gone ty·5) (List._∷_ (31, Rows'.any-gone ty·18) List.[])))))))))))))))
@@ -364,7 +361,7 @@ abbrev pub t19 : List.List Row.Entry
 t19 = List._∷_ (16, Rows'.any-gone ty·4) (List._∷_ (17, Mut.mslice (Referent.rtF (Referent.fInt Syntax.w32)) ty·4 10) (List._∷_ (18, Rows'.any-gone ty·4) (List._∷_ (19, Mut.mslice (Referent.rtF (Referent.fInt Syntax.w32)) ty·4 11) (List._∷_ (20, Rows'.any-gone ty·4) (List._∷_ (21, Mut.mslice (Referent.rtF (Referent.fInt Syntax.w32)) ty·4 12) (List._∷_ (22, Rows'.any-gone ty·16) (List._∷_ (23, Mut.mslice ELEM.the-row ty·15 13) (List._∷_ (24, Rows'.any-gone ty·4) (List._∷_ (25, Rows'.any-gone ty·17) (List._∷_ (26, Rows'.any-gone ty·4) (List._∷_ (27, Rows'.any-gone ty·17) (List._∷_ (28, Rows'.any-gone ty·4) (List._∷_ (29, Rows'.any-gone ty·17) (List._∷_ (30, Rows'.any-gone ty·5) (List._∷_ (31, Rows'.any-gone ty·18) List.[])))))))))))))))
 
 abbrev pub t20 : List.List Row.Entry
-t20 = List._∷_ (0, Rows'.any-gone ty·26) (List._∷_ (1, Rows'.whole (Declared.row Counts.the-type)) (List._∷_ (2, Relend.mslice-owed (Signed.SInt Syntax.w32) ty·6 0 9 Row.off) (List._∷_ (3, Relend.mslice-owed (Referent.rtF (Referent.fInt Syntax.w32)) ty·7 1 10 Row.off) (List._∷_ (4, Relend.mslice-owed (Referent.rtF (Referent.fInt Syntax.w32)) ty·8 2 11 Row.off) (List._∷_ (5, Relend.mslice-owed (Referent.rtF (Referent.fInt Syntax.w32)) ty·9 3 12 Row.off) (List._∷_ (6, Relend.mslice-owed (Referent.rtF (Referent.fInt Syntax.w32)) ty·10 4 14 Row.off) (List._∷_ (7, Mut.mslice (Referent.rtF (Referent.fInt Syntax.w32)) ty·11 5) (List._∷_ (8, Mut.mslice (Referent.rtF (Referent.fInt Syntax.w32)) ty·12 6) (List._∷_ (9, Mut.mslice (Referent.rtF (Referent.fInt Syntax.w64)) ty·13 7) (List._∷_ (10, Rows'.whole (Declared.row Point2.the-type)) (List._∷_ (11, Rows'.sslice (Signed.SInt Syntax.w32) ty·14 8) (List._∷_ (12, Rows.arr-owed ELEM.the-row 401 13) (List._∷_ (13, Rows'.any-gone ty·3) (List._∷_ (14, Rows'.any-gone ty·4) (List._∷_ (15, Mut.mslice (Signed.SInt Syntax.w32) ty·4 9) List.[])))))))))))))))
+t20 = List._∷_ (0, Rows'.any-gone ty·25) (List._∷_ (1, Rows'.whole (Declared.row Counts.the-type)) (List._∷_ (2, Relend.mslice-owed (Signed.SInt Syntax.w32) ty·6 0 9 Row.off) (List._∷_ (3, Relend.mslice-owed (Referent.rtF (Referent.fInt Syntax.w32)) ty·7 1 10 Row.off) (List._∷_ (4, Relend.mslice-owed (Referent.rtF (Referent.fInt Syntax.w32)) ty·8 2 11 Row.off) (List._∷_ (5, Relend.mslice-owed (Referent.rtF (Referent.fInt Syntax.w32)) ty·9 3 12 Row.off) (List._∷_ (6, Relend.mslice-owed (Referent.rtF (Referent.fInt Syntax.w32)) ty·10 4 14 Row.off) (List._∷_ (7, Mut.mslice (Referent.rtF (Referent.fInt Syntax.w32)) ty·11 5) (List._∷_ (8, Mut.mslice (Referent.rtF (Referent.fInt Syntax.w32)) ty·12 6) (List._∷_ (9, Mut.mslice (Referent.rtF (Referent.fInt Syntax.w64)) ty·13 7) (List._∷_ (10, Rows'.whole (Declared.row Point2.the-type)) (List._∷_ (11, Rows'.sslice (Signed.SInt Syntax.w32) ty·14 8) (List._∷_ (12, Rows.arr-owed ELEM.the-row 401 13) (List._∷_ (13, Rows'.any-gone ty·3) (List._∷_ (14, Rows'.any-gone ty·4) (List._∷_ (15, Mut.mslice (Signed.SInt Syntax.w32) ty·4 9) List.[])))))))))))))))
 
 abbrev pub t21 : List.List Row.Entry
 t21 = List._∷_ (16, Rows'.any-gone ty·4) (List._∷_ (17, Mut.mslice (Referent.rtF (Referent.fInt Syntax.w32)) ty·4 10) (List._∷_ (18, Rows'.any-gone ty·4) (List._∷_ (19, Mut.mslice (Referent.rtF (Referent.fInt Syntax.w32)) ty·4 11) (List._∷_ (20, Rows'.any-gone ty·4) (List._∷_ (21, Mut.mslice (Referent.rtF (Referent.fInt Syntax.w32)) ty·4 12) (List._∷_ (22, Rows'.any-gone ty·16) (List._∷_ (23, Mut.mslice ELEM.the-row ty·15 13) (List._∷_ (24, Relend.msptr (Referent.rtF (Referent.fInt Syntax.w32)) ty·4 14) (List._∷_ (25, Rows'.any-gone ty·17) (List._∷_ (26, Rows'.any-gone ty·4) (List._∷_ (27, Rows'.any-gone ty·17) (List._∷_ (28, Rows'.any-gone ty·4) (List._∷_ (29, Rows'.any-gone ty·17) (List._∷_ (30, Rows'.any-gone ty·5) (List._∷_ (31, Rows'.any-gone ty·18) List.[])))))))))))))))
@@ -373,7 +370,7 @@ abbrev pub t22 : List.List Row.Entry
 t22 = List._∷_ (16, Rows'.any-gone ty·4) (List._∷_ (17, Mut.mslice (Referent.rtF (Referent.fInt Syntax.w32)) ty·4 10) (List._∷_ (18, Rows'.any-gone ty·4) (List._∷_ (19, Mut.mslice (Referent.rtF (Referent.fInt Syntax.w32)) ty·4 11) (List._∷_ (20, Rows'.any-gone ty·4) (List._∷_ (21, Mut.mslice (Referent.rtF (Referent.fInt Syntax.w32)) ty·4 12) (List._∷_ (22, Rows'.any-gone ty·16) (List._∷_ (23, Mut.mslice ELEM.the-row ty·15 13) (List._∷_ (24, Rows'.any-gone ty·4) (List._∷_ (25, Mut.mslice (Referent.rtF (Referent.fInt Syntax.w32)) ty·4 14) (List._∷_ (26, Rows'.any-gone ty·4) (List._∷_ (27, Rows'.any-gone ty·17) (List._∷_ (28, Rows'.any-gone ty·4) (List._∷_ (29, Rows'.any-gone ty·17) (List._∷_ (30, Rows'.any-gone ty·5) (List._∷_ (31, Rows'.any-gone ty·18) List.[])))))))))))))))
 
 abbrev pub t23 : List.List Row.Entry
-t23 = List._∷_ (0, Rows'.any-gone ty·26) (List._∷_ (1, Rows'.whole (Declared.row Counts.the-type)) (List._∷_ (2, Relend.mslice-owed (Signed.SInt Syntax.w32) ty·6 0 9 Row.off) (List._∷_ (3, Relend.mslice-owed (Referent.rtF (Referent.fInt Syntax.w32)) ty·7 1 10 Row.off) (List._∷_ (4, Relend.mslice-owed (Referent.rtF (Referent.fInt Syntax.w32)) ty·8 2 11 Row.off) (List._∷_ (5, Relend.mslice-owed (Referent.rtF (Referent.fInt Syntax.w32)) ty·9 3 12 Row.off) (List._∷_ (6, Relend.mslice-owed (Referent.rtF (Referent.fInt Syntax.w32)) ty·10 4 14 Row.off) (List._∷_ (7, Relend.mslice-owed (Referent.rtF (Referent.fInt Syntax.w32)) ty·11 5 15 Row.off) (List._∷_ (8, Mut.mslice (Referent.rtF (Referent.fInt Syntax.w32)) ty·12 6) (List._∷_ (9, Mut.mslice (Referent.rtF (Referent.fInt Syntax.w64)) ty·13 7) (List._∷_ (10, Rows'.whole (Declared.row Point2.the-type)) (List._∷_ (11, Rows'.sslice (Signed.SInt Syntax.w32) ty·14 8) (List._∷_ (12, Rows.arr-owed ELEM.the-row 401 13) (List._∷_ (13, Rows'.any-gone ty·3) (List._∷_ (14, Rows'.any-gone ty·4) (List._∷_ (15, Mut.mslice (Signed.SInt Syntax.w32) ty·4 9) List.[])))))))))))))))
+t23 = List._∷_ (0, Rows'.any-gone ty·25) (List._∷_ (1, Rows'.whole (Declared.row Counts.the-type)) (List._∷_ (2, Relend.mslice-owed (Signed.SInt Syntax.w32) ty·6 0 9 Row.off) (List._∷_ (3, Relend.mslice-owed (Referent.rtF (Referent.fInt Syntax.w32)) ty·7 1 10 Row.off) (List._∷_ (4, Relend.mslice-owed (Referent.rtF (Referent.fInt Syntax.w32)) ty·8 2 11 Row.off) (List._∷_ (5, Relend.mslice-owed (Referent.rtF (Referent.fInt Syntax.w32)) ty·9 3 12 Row.off) (List._∷_ (6, Relend.mslice-owed (Referent.rtF (Referent.fInt Syntax.w32)) ty·10 4 14 Row.off) (List._∷_ (7, Relend.mslice-owed (Referent.rtF (Referent.fInt Syntax.w32)) ty·11 5 15 Row.off) (List._∷_ (8, Mut.mslice (Referent.rtF (Referent.fInt Syntax.w32)) ty·12 6) (List._∷_ (9, Mut.mslice (Referent.rtF (Referent.fInt Syntax.w64)) ty·13 7) (List._∷_ (10, Rows'.whole (Declared.row Point2.the-type)) (List._∷_ (11, Rows'.sslice (Signed.SInt Syntax.w32) ty·14 8) (List._∷_ (12, Rows.arr-owed ELEM.the-row 401 13) (List._∷_ (13, Rows'.any-gone ty·3) (List._∷_ (14, Rows'.any-gone ty·4) (List._∷_ (15, Mut.mslice (Signed.SInt Syntax.w32) ty·4 9) List.[])))))))))))))))
 
 abbrev pub t24 : List.List Row.Entry
 t24 = List._∷_ (16, Rows'.any-gone ty·4) (List._∷_ (17, Mut.mslice (Referent.rtF (Referent.fInt Syntax.w32)) ty·4 10) (List._∷_ (18, Rows'.any-gone ty·4) (List._∷_ (19, Mut.mslice (Referent.rtF (Referent.fInt Syntax.w32)) ty·4 11) (List._∷_ (20, Rows'.any-gone ty·4) (List._∷_ (21, Mut.mslice (Referent.rtF (Referent.fInt Syntax.w32)) ty·4 12) (List._∷_ (22, Rows'.any-gone ty·16) (List._∷_ (23, Mut.mslice ELEM.the-row ty·15 13) (List._∷_ (24, Rows'.any-gone ty·4) (List._∷_ (25, Mut.mslice (Referent.rtF (Referent.fInt Syntax.w32)) ty·4 14) (List._∷_ (26, Relend.msptr (Referent.rtF (Referent.fInt Syntax.w32)) ty·4 15) (List._∷_ (27, Rows'.any-gone ty·17) (List._∷_ (28, Rows'.any-gone ty·4) (List._∷_ (29, Rows'.any-gone ty·17) (List._∷_ (30, Rows'.any-gone ty·5) (List._∷_ (31, Rows'.any-gone ty·18) List.[])))))))))))))))
@@ -382,7 +379,7 @@ abbrev pub t25 : List.List Row.Entry
 t25 = List._∷_ (16, Rows'.any-gone ty·4) (List._∷_ (17, Mut.mslice (Referent.rtF (Referent.fInt Syntax.w32)) ty·4 10) (List._∷_ (18, Rows'.any-gone ty·4) (List._∷_ (19, Mut.mslice (Referent.rtF (Referent.fInt Syntax.w32)) ty·4 11) (List._∷_ (20, Rows'.any-gone ty·4) (List._∷_ (21, Mut.mslice (Referent.rtF (Referent.fInt Syntax.w32)) ty·4 12) (List._∷_ (22, Rows'.any-gone ty·16) (List._∷_ (23, Mut.mslice ELEM.the-row ty·15 13) (List._∷_ (24, Rows'.any-gone ty·4) (List._∷_ (25, Mut.mslice (Referent.rtF (Referent.fInt Syntax.w32)) ty·4 14) (List._∷_ (26, Rows'.any-gone ty·4) (List._∷_ (27, Mut.mslice (Referent.rtF (Referent.fInt Syntax.w32)) ty·4 15) (List._∷_ (28, Rows'.any-gone ty·4) (List._∷_ (29, Rows'.any-gone ty·17) (List._∷_ (30, Rows'.any-gone ty·5) (List._∷_ (31, Rows'.any-gone ty·18) List.[])))))))))))))))
 
 abbrev pub t26 : List.List Row.Entry
-t26 = List._∷_ (0, Rows'.any-gone ty·26) (List._∷_ (1, Rows'.whole (Declared.row Counts.the-type)) (List._∷_ (2, Relend.mslice-owed (Signed.SInt Syntax.w32) ty·6 0 9 Row.off) (List._∷_ (3, Relend.mslice-owed (Referent.rtF (Referent.fInt Syntax.w32)) ty·7 1 10 Row.off) (List._∷_ (4, Relend.mslice-owed (Referent.rtF (Referent.fInt Syntax.w32)) ty·8 2 11 Row.off) (List._∷_ (5, Relend.mslice-owed (Referent.rtF (Referent.fInt Syntax.w32)) ty·9 3 12 Row.off) (List._∷_ (6, Relend.mslice-owed (Referent.rtF (Referent.fInt Syntax.w32)) ty·10 4 14 Row.off) (List._∷_ (7, Relend.mslice-owed (Referent.rtF (Referent.fInt Syntax.w32)) ty·11 5 15 Row.off) (List._∷_ (8, Relend.mslice-owed (Referent.rtF (Referent.fInt Syntax.w32)) ty·12 6 16 Row.off) (List._∷_ (9, Mut.mslice (Referent.rtF (Referent.fInt Syntax.w64)) ty·13 7) (List._∷_ (10, Rows'.whole (Declared.row Point2.the-type)) (List._∷_ (11, Rows'.sslice (Signed.SInt Syntax.w32) ty·14 8) (List._∷_ (12, Rows.arr-owed ELEM.the-row 401 13) (List._∷_ (13, Rows'.any-gone ty·3) (List._∷_ (14, Rows'.any-gone ty·4) (List._∷_ (15, Mut.mslice (Signed.SInt Syntax.w32) ty·4 9) List.[])))))))))))))))
+t26 = List._∷_ (0, Rows'.any-gone ty·25) (List._∷_ (1, Rows'.whole (Declared.row Counts.the-type)) (List._∷_ (2, Relend.mslice-owed (Signed.SInt Syntax.w32) ty·6 0 9 Row.off) (List._∷_ (3, Relend.mslice-owed (Referent.rtF (Referent.fInt Syntax.w32)) ty·7 1 10 Row.off) (List._∷_ (4, Relend.mslice-owed (Referent.rtF (Referent.fInt Syntax.w32)) ty·8 2 11 Row.off) (List._∷_ (5, Relend.mslice-owed (Referent.rtF (Referent.fInt Syntax.w32)) ty·9 3 12 Row.off) (List._∷_ (6, Relend.mslice-owed (Referent.rtF (Referent.fInt Syntax.w32)) ty·10 4 14 Row.off) (List._∷_ (7, Relend.mslice-owed (Referent.rtF (Referent.fInt Syntax.w32)) ty·11 5 15 Row.off) (List._∷_ (8, Relend.mslice-owed (Referent.rtF (Referent.fInt Syntax.w32)) ty·12 6 16 Row.off) (List._∷_ (9, Mut.mslice (Referent.rtF (Referent.fInt Syntax.w64)) ty·13 7) (List._∷_ (10, Rows'.whole (Declared.row Point2.the-type)) (List._∷_ (11, Rows'.sslice (Signed.SInt Syntax.w32) ty·14 8) (List._∷_ (12, Rows.arr-owed ELEM.the-row 401 13) (List._∷_ (13, Rows'.any-gone ty·3) (List._∷_ (14, Rows'.any-gone ty·4) (List._∷_ (15, Mut.mslice (Signed.SInt Syntax.w32) ty·4 9) List.[])))))))))))))))
 
 abbrev pub t27 : List.List Row.Entry
 t27 = List._∷_ (16, Rows'.any-gone ty·4) (List._∷_ (17, Mut.mslice (Referent.rtF (Referent.fInt Syntax.w32)) ty·4 10) (List._∷_ (18, Rows'.any-gone ty·4) (List._∷_ (19, Mut.mslice (Referent.rtF (Referent.fInt Syntax.w32)) ty·4 11) (List._∷_ (20, Rows'.any-gone ty·4) (List._∷_ (21, Mut.mslice (Referent.rtF (Referent.fInt Syntax.w32)) ty·4 12) (List._∷_ (22, Rows'.any-gone ty·16) (List._∷_ (23, Mut.mslice ELEM.the-row ty·15 13) (List._∷_ (24, Rows'.any-gone ty·4) (List._∷_ (25, Mut.mslice (Referent.rtF (Referent.fInt Syntax.w32)) ty·4 14) (List._∷_ (26, Rows'.any-gone ty·4) (List._∷_ (27, Mut.mslice (Referent.rtF (Referent.fInt Syntax.w32)) ty·4 15) (List._∷_ (28, Relend.msptr (Referent.rtF (Referent.fInt Syntax.w32)) ty·4 16) (List._∷_ (29, Rows'.any-gone ty·17) (List._∷_ (30, Rows'.any-gone ty·5) (List._∷_ (31, Rows'.any-gone ty·18) List.[])))))))))))))))
@@ -391,7 +388,7 @@ abbrev pub t28 : List.List Row.Entry
 t28 = List._∷_ (16, Rows'.any-gone ty·4) (List._∷_ (17, Mut.mslice (Referent.rtF (Referent.fInt Syntax.w32)) ty·4 10) (List._∷_ (18, Rows'.any-gone ty·4) (List._∷_ (19, Mut.mslice (Referent.rtF (Referent.fInt Syntax.w32)) ty·4 11) (List._∷_ (20, Rows'.any-gone ty·4) (List._∷_ (21, Mut.mslice (Referent.rtF (Referent.fInt Syntax.w32)) ty·4 12) (List._∷_ (22, Rows'.any-gone ty·16) (List._∷_ (23, Mut.mslice ELEM.the-row ty·15 13) (List._∷_ (24, Rows'.any-gone ty·4) (List._∷_ (25, Mut.mslice (Referent.rtF (Referent.fInt Syntax.w32)) ty·4 14) (List._∷_ (26, Rows'.any-gone ty·4) (List._∷_ (27, Mut.mslice (Referent.rtF (Referent.fInt Syntax.w32)) ty·4 15) (List._∷_ (28, Rows'.any-gone ty·4) (List._∷_ (29, Mut.mslice (Referent.rtF (Referent.fInt Syntax.w32)) ty·4 16) (List._∷_ (30, Rows'.any-gone ty·5) (List._∷_ (31, Rows'.any-gone ty·18) List.[])))))))))))))))
 
 abbrev pub t29 : List.List Row.Entry
-t29 = List._∷_ (0, Rows'.any-gone ty·26) (List._∷_ (1, Rows'.whole (Declared.row Counts.the-type)) (List._∷_ (2, Relend.mslice-owed (Signed.SInt Syntax.w32) ty·6 0 9 Row.off) (List._∷_ (3, Relend.mslice-owed (Referent.rtF (Referent.fInt Syntax.w32)) ty·7 1 10 Row.off) (List._∷_ (4, Relend.mslice-owed (Referent.rtF (Referent.fInt Syntax.w32)) ty·8 2 11 Row.off) (List._∷_ (5, Relend.mslice-owed (Referent.rtF (Referent.fInt Syntax.w32)) ty·9 3 12 Row.off) (List._∷_ (6, Relend.mslice-owed (Referent.rtF (Referent.fInt Syntax.w32)) ty·10 4 14 Row.off) (List._∷_ (7, Relend.mslice-owed (Referent.rtF (Referent.fInt Syntax.w32)) ty·11 5 15 Row.off) (List._∷_ (8, Relend.mslice-owed (Referent.rtF (Referent.fInt Syntax.w32)) ty·12 6 16 Row.off) (List._∷_ (9, Relend.mslice-owed (Referent.rtF (Referent.fInt Syntax.w64)) ty·13 7 17 Row.off) (List._∷_ (10, Rows'.whole (Declared.row Point2.the-type)) (List._∷_ (11, Rows'.sslice (Signed.SInt Syntax.w32) ty·14 8) (List._∷_ (12, Rows.arr-owed ELEM.the-row 401 13) (List._∷_ (13, Rows'.any-gone ty·3) (List._∷_ (14, Rows'.any-gone ty·4) (List._∷_ (15, Mut.mslice (Signed.SInt Syntax.w32) ty·4 9) List.[])))))))))))))))
+t29 = List._∷_ (0, Rows'.any-gone ty·25) (List._∷_ (1, Rows'.whole (Declared.row Counts.the-type)) (List._∷_ (2, Relend.mslice-owed (Signed.SInt Syntax.w32) ty·6 0 9 Row.off) (List._∷_ (3, Relend.mslice-owed (Referent.rtF (Referent.fInt Syntax.w32)) ty·7 1 10 Row.off) (List._∷_ (4, Relend.mslice-owed (Referent.rtF (Referent.fInt Syntax.w32)) ty·8 2 11 Row.off) (List._∷_ (5, Relend.mslice-owed (Referent.rtF (Referent.fInt Syntax.w32)) ty·9 3 12 Row.off) (List._∷_ (6, Relend.mslice-owed (Referent.rtF (Referent.fInt Syntax.w32)) ty·10 4 14 Row.off) (List._∷_ (7, Relend.mslice-owed (Referent.rtF (Referent.fInt Syntax.w32)) ty·11 5 15 Row.off) (List._∷_ (8, Relend.mslice-owed (Referent.rtF (Referent.fInt Syntax.w32)) ty·12 6 16 Row.off) (List._∷_ (9, Relend.mslice-owed (Referent.rtF (Referent.fInt Syntax.w64)) ty·13 7 17 Row.off) (List._∷_ (10, Rows'.whole (Declared.row Point2.the-type)) (List._∷_ (11, Rows'.sslice (Signed.SInt Syntax.w32) ty·14 8) (List._∷_ (12, Rows.arr-owed ELEM.the-row 401 13) (List._∷_ (13, Rows'.any-gone ty·3) (List._∷_ (14, Rows'.any-gone ty·4) (List._∷_ (15, Mut.mslice (Signed.SInt Syntax.w32) ty·4 9) List.[])))))))))))))))
 
 abbrev pub t30 : List.List Row.Entry
 t30 = List._∷_ (16, Rows'.any-gone ty·4) (List._∷_ (17, Mut.mslice (Referent.rtF (Referent.fInt Syntax.w32)) ty·4 10) (List._∷_ (18, Rows'.any-gone ty·4) (List._∷_ (19, Mut.mslice (Referent.rtF (Referent.fInt Syntax.w32)) ty·4 11) (List._∷_ (20, Rows'.any-gone ty·4) (List._∷_ (21, Mut.mslice (Referent.rtF (Referent.fInt Syntax.w32)) ty·4 12) (List._∷_ (22, Rows'.any-gone ty·16) (List._∷_ (23, Mut.mslice ELEM.the-row ty·15 13) (List._∷_ (24, Rows'.any-gone ty·4) (List._∷_ (25, Mut.mslice (Referent.rtF (Referent.fInt Syntax.w32)) ty·4 14) (List._∷_ (26, Rows'.any-gone ty·4) (List._∷_ (27, Mut.mslice (Referent.rtF (Referent.fInt Syntax.w32)) ty·4 15) (List._∷_ (28, Rows'.any-gone ty·4) (List._∷_ (29, Mut.mslice (Referent.rtF (Referent.fInt Syntax.w32)) ty·4 16) (List._∷_ (30, Relend.msptr (Referent.rtF (Referent.fInt Syntax.w64)) ty·5 17) (List._∷_ (31, Rows'.any-gone ty·18) List.[])))))))))))))))
@@ -698,7 +695,7 @@ module _ (claims· : Claims) where
   s36 = λ bs. Relend.k-sl-aggregate (Referent.rtF (Referent.fInt Syntax.w64)) (Relend.asMut (Referent.rtF (Referent.fInt Syntax.w64))) T37 30 31 17 ty·5 ty·5 (λ x. x) (Scalar.oFld 9 (List._∷_ (Syntax.field 1) List.[]) ty·1 8 λ v. Shared.lenV (v .0))
 
   abbrev s37 : (bs : List.List Nat.ℕ) → Typed.Both T38 T39
-  s37 = λ bs. Call.callB ps·1 r·1 (claims· .2) (claims· .3) T38 (record { pos = 1; st = List.[]; d = 0; at = λ x. x }, (record { pos = 15; ty = Syntax.tyRef Syntax.erased Syntax.mut ty·0; ref = λ x. x }, (record { pos = 17; ty = Syntax.tyRef Syntax.erased Syntax.mut ty·0; ref = λ x. x }, (record { pos = 19; ty = Syntax.tyRef Syntax.erased Syntax.mut ty·0; ref = λ x. x }, (record { pos = 21; ty = Syntax.tyRef Syntax.erased Syntax.mut ty·0; ref = λ x. x }, (record { pos = 23; ty = Syntax.tyRef Syntax.erased Syntax.mut (ELEMMEM.pointee (ELEM.the-row .written)); ref = λ x. x }, (record { pos = 25; ty = Syntax.tyRef Syntax.erased Syntax.mut ty·0; ref = λ x. x }, (record { pos = 27; ty = Syntax.tyRef Syntax.erased Syntax.mut ty·0; ref = λ x. x }, (record { pos = 29; ty = Syntax.tyRef Syntax.erased Syntax.mut ty·0; ref = λ x. x }, (record { pos = 31; ty = Syntax.tyRef Syntax.erased Syntax.mut ty·1; ref = λ x. x }, (record { pos = 10; st = List.[]; d = 0; at = λ x. x }, (record { pos = 11; ty = Syntax.tyRef (Syntax.named 8) Syntax.imm ty·0; ref = λ x. x }, tt)))))))))))) 0 (List._∷_ 9 (List._∷_ 10 (List._∷_ 11 (List._∷_ 12 (List._∷_ 13 (List._∷_ 14 (List._∷_ 15 (List._∷_ 16 (List._∷_ 17 (List._∷_ 8 List.[])))))))))) ty·26
+  s37 = λ bs. Call.callB ps·1 r·1 (claims· .2) (claims· .3) T38 (record { pos = 1; st = List.[]; d = 0; at = λ x. x }, (record { pos = 15; ty = Syntax.tyRef Syntax.erased Syntax.mut ty·0; ref = λ x. x }, (record { pos = 17; ty = Syntax.tyRef Syntax.erased Syntax.mut ty·0; ref = λ x. x }, (record { pos = 19; ty = Syntax.tyRef Syntax.erased Syntax.mut ty·0; ref = λ x. x }, (record { pos = 21; ty = Syntax.tyRef Syntax.erased Syntax.mut ty·0; ref = λ x. x }, (record { pos = 23; ty = Syntax.tyRef Syntax.erased Syntax.mut (ELEMMEM.pointee (ELEM.the-row .written)); ref = λ x. x }, (record { pos = 25; ty = Syntax.tyRef Syntax.erased Syntax.mut ty·0; ref = λ x. x }, (record { pos = 27; ty = Syntax.tyRef Syntax.erased Syntax.mut ty·0; ref = λ x. x }, (record { pos = 29; ty = Syntax.tyRef Syntax.erased Syntax.mut ty·0; ref = λ x. x }, (record { pos = 31; ty = Syntax.tyRef Syntax.erased Syntax.mut ty·1; ref = λ x. x }, (record { pos = 10; st = List.[]; d = 0; at = λ x. x }, (record { pos = 11; ty = Syntax.tyRef (Syntax.named 8) Syntax.imm ty·0; ref = λ x. x }, tt)))))))))))) 0 (List._∷_ 9 (List._∷_ 10 (List._∷_ 11 (List._∷_ 12 (List._∷_ 13 (List._∷_ 14 (List._∷_ 15 (List._∷_ 16 (List._∷_ 17 (List._∷_ 8 List.[])))))))))) ty·25
 
   abbrev s38 : (bs : List.List Nat.ℕ) → Typed.Mo T39 → Typed.Mo T40
   s38 = λ bs. Scalar.n-room T39 1 ty·21
@@ -1000,34 +997,34 @@ module _ (claims· : Claims) where
 
       module _ (κs : Lifetimes.Lfts 9) (qs : Lifetimes.Shares 9) where
         abbrev g6 : List.List Row.Entry
-        g6 = List._∷_ (0, Rows'.any-gone ty·26) (List._∷_ (1, Rows'.whole (Declared.row Counts.the-type)) (List._∷_ (2, Relend.mslice-owed (Signed.SInt Syntax.w32) ty·6 0 9 (Row.lease (κs .0) (qs .0))) (List._∷_ (3, Mut.mslice (Referent.rtF (Referent.fInt Syntax.w32)) ty·7 1) (List._∷_ (4, Mut.mslice (Referent.rtF (Referent.fInt Syntax.w32)) ty·8 2) (List._∷_ (5, Mut.mslice (Referent.rtF (Referent.fInt Syntax.w32)) ty·9 3) (List._∷_ (6, Mut.mslice (Referent.rtF (Referent.fInt Syntax.w32)) ty·10 4) (List._∷_ (7, Mut.mslice (Referent.rtF (Referent.fInt Syntax.w32)) ty·11 5) (List._∷_ (8, Mut.mslice (Referent.rtF (Referent.fInt Syntax.w32)) ty·12 6) (List._∷_ (9, Mut.mslice (Referent.rtF (Referent.fInt Syntax.w64)) ty·13 7) (List._∷_ (10, Rows'.whole (Declared.row Point2.the-type)) (List._∷_ (11, Rows'.sslice (Signed.SInt Syntax.w32) ty·14 8) (List._∷_ (12, Rows.arrF ELEM.the-row 401 0) (List._∷_ (13, Rows'.any-gone ty·3) (List._∷_ (14, Relend.msptr (Signed.SInt Syntax.w32) ty·4 9) (List._∷_ (15, Rows'.any-gone ty·17) List.[])))))))))))))))
+        g6 = List._∷_ (0, Rows'.any-gone ty·25) (List._∷_ (1, Rows'.whole (Declared.row Counts.the-type)) (List._∷_ (2, Relend.mslice-owed (Signed.SInt Syntax.w32) ty·6 0 9 (Row.lease (κs .0) (qs .0))) (List._∷_ (3, Mut.mslice (Referent.rtF (Referent.fInt Syntax.w32)) ty·7 1) (List._∷_ (4, Mut.mslice (Referent.rtF (Referent.fInt Syntax.w32)) ty·8 2) (List._∷_ (5, Mut.mslice (Referent.rtF (Referent.fInt Syntax.w32)) ty·9 3) (List._∷_ (6, Mut.mslice (Referent.rtF (Referent.fInt Syntax.w32)) ty·10 4) (List._∷_ (7, Mut.mslice (Referent.rtF (Referent.fInt Syntax.w32)) ty·11 5) (List._∷_ (8, Mut.mslice (Referent.rtF (Referent.fInt Syntax.w32)) ty·12 6) (List._∷_ (9, Mut.mslice (Referent.rtF (Referent.fInt Syntax.w64)) ty·13 7) (List._∷_ (10, Rows'.whole (Declared.row Point2.the-type)) (List._∷_ (11, Rows'.sslice (Signed.SInt Syntax.w32) ty·14 8) (List._∷_ (12, Rows.arrF ELEM.the-row 401 0) (List._∷_ (13, Rows'.any-gone ty·3) (List._∷_ (14, Relend.msptr (Signed.SInt Syntax.w32) ty·4 9) (List._∷_ (15, Rows'.any-gone ty·17) List.[])))))))))))))))
 
         abbrev g7 : List.List Row.Entry
-        g7 = List._∷_ (0, Rows'.any-gone ty·26) (List._∷_ (1, Rows'.whole (Declared.row Counts.the-type)) (List._∷_ (2, Relend.mslice-owed (Signed.SInt Syntax.w32) ty·6 0 9 (Row.lease (κs .0) (qs .0))) (List._∷_ (3, Mut.mslice (Referent.rtF (Referent.fInt Syntax.w32)) ty·7 1) (List._∷_ (4, Mut.mslice (Referent.rtF (Referent.fInt Syntax.w32)) ty·8 2) (List._∷_ (5, Mut.mslice (Referent.rtF (Referent.fInt Syntax.w32)) ty·9 3) (List._∷_ (6, Mut.mslice (Referent.rtF (Referent.fInt Syntax.w32)) ty·10 4) (List._∷_ (7, Mut.mslice (Referent.rtF (Referent.fInt Syntax.w32)) ty·11 5) (List._∷_ (8, Mut.mslice (Referent.rtF (Referent.fInt Syntax.w32)) ty·12 6) (List._∷_ (9, Mut.mslice (Referent.rtF (Referent.fInt Syntax.w64)) ty·13 7) (List._∷_ (10, Rows'.whole (Declared.row Point2.the-type)) (List._∷_ (11, Rows'.sslice (Signed.SInt Syntax.w32) ty·14 8) (List._∷_ (12, Rows.arrF ELEM.the-row 401 0) (List._∷_ (13, Rows'.any-gone ty·3) (List._∷_ (14, Rows'.any-gone ty·4) (List._∷_ (15, Mut.mslice (Signed.SInt Syntax.w32) ty·4 9) List.[])))))))))))))))
+        g7 = List._∷_ (0, Rows'.any-gone ty·25) (List._∷_ (1, Rows'.whole (Declared.row Counts.the-type)) (List._∷_ (2, Relend.mslice-owed (Signed.SInt Syntax.w32) ty·6 0 9 (Row.lease (κs .0) (qs .0))) (List._∷_ (3, Mut.mslice (Referent.rtF (Referent.fInt Syntax.w32)) ty·7 1) (List._∷_ (4, Mut.mslice (Referent.rtF (Referent.fInt Syntax.w32)) ty·8 2) (List._∷_ (5, Mut.mslice (Referent.rtF (Referent.fInt Syntax.w32)) ty·9 3) (List._∷_ (6, Mut.mslice (Referent.rtF (Referent.fInt Syntax.w32)) ty·10 4) (List._∷_ (7, Mut.mslice (Referent.rtF (Referent.fInt Syntax.w32)) ty·11 5) (List._∷_ (8, Mut.mslice (Referent.rtF (Referent.fInt Syntax.w32)) ty·12 6) (List._∷_ (9, Mut.mslice (Referent.rtF (Referent.fInt Syntax.w64)) ty·13 7) (List._∷_ (10, Rows'.whole (Declared.row Point2.the-type)) (List._∷_ (11, Rows'.sslice (Signed.SInt Syntax.w32) ty·14 8) (List._∷_ (12, Rows.arrF ELEM.the-row 401 0) (List._∷_ (13, Rows'.any-gone ty·3) (List._∷_ (14, Rows'.any-gone ty·4) (List._∷_ (15, Mut.mslice (Signed.SInt Syntax.w32) ty·4 9) List.[])))))))))))))))
 
         abbrev g8 : List.List Row.Entry
-        g8 = List._∷_ (0, Rows'.any-gone ty·26) (List._∷_ (1, Rows'.whole (Declared.row Counts.the-type)) (List._∷_ (2, Relend.mslice-owed (Signed.SInt Syntax.w32) ty·6 0 9 (Row.lease (κs .0) (qs .0))) (List._∷_ (3, Relend.mslice-owed (Referent.rtF (Referent.fInt Syntax.w32)) ty·7 1 10 (Row.lease (κs .1 .0) (qs .1 .0))) (List._∷_ (4, Mut.mslice (Referent.rtF (Referent.fInt Syntax.w32)) ty·8 2) (List._∷_ (5, Mut.mslice (Referent.rtF (Referent.fInt Syntax.w32)) ty·9 3) (List._∷_ (6, Mut.mslice (Referent.rtF (Referent.fInt Syntax.w32)) ty·10 4) (List._∷_ (7, Mut.mslice (Referent.rtF (Referent.fInt Syntax.w32)) ty·11 5) (List._∷_ (8, Mut.mslice (Referent.rtF (Referent.fInt Syntax.w32)) ty·12 6) (List._∷_ (9, Mut.mslice (Referent.rtF (Referent.fInt Syntax.w64)) ty·13 7) (List._∷_ (10, Rows'.whole (Declared.row Point2.the-type)) (List._∷_ (11, Rows'.sslice (Signed.SInt Syntax.w32) ty·14 8) (List._∷_ (12, Rows.arrF ELEM.the-row 401 0) (List._∷_ (13, Rows'.any-gone ty·3) (List._∷_ (14, Rows'.any-gone ty·4) (List._∷_ (15, Mut.mslice (Signed.SInt Syntax.w32) ty·4 9) List.[])))))))))))))))
+        g8 = List._∷_ (0, Rows'.any-gone ty·25) (List._∷_ (1, Rows'.whole (Declared.row Counts.the-type)) (List._∷_ (2, Relend.mslice-owed (Signed.SInt Syntax.w32) ty·6 0 9 (Row.lease (κs .0) (qs .0))) (List._∷_ (3, Relend.mslice-owed (Referent.rtF (Referent.fInt Syntax.w32)) ty·7 1 10 (Row.lease (κs .1 .0) (qs .1 .0))) (List._∷_ (4, Mut.mslice (Referent.rtF (Referent.fInt Syntax.w32)) ty·8 2) (List._∷_ (5, Mut.mslice (Referent.rtF (Referent.fInt Syntax.w32)) ty·9 3) (List._∷_ (6, Mut.mslice (Referent.rtF (Referent.fInt Syntax.w32)) ty·10 4) (List._∷_ (7, Mut.mslice (Referent.rtF (Referent.fInt Syntax.w32)) ty·11 5) (List._∷_ (8, Mut.mslice (Referent.rtF (Referent.fInt Syntax.w32)) ty·12 6) (List._∷_ (9, Mut.mslice (Referent.rtF (Referent.fInt Syntax.w64)) ty·13 7) (List._∷_ (10, Rows'.whole (Declared.row Point2.the-type)) (List._∷_ (11, Rows'.sslice (Signed.SInt Syntax.w32) ty·14 8) (List._∷_ (12, Rows.arrF ELEM.the-row 401 0) (List._∷_ (13, Rows'.any-gone ty·3) (List._∷_ (14, Rows'.any-gone ty·4) (List._∷_ (15, Mut.mslice (Signed.SInt Syntax.w32) ty·4 9) List.[])))))))))))))))
 
         abbrev g11 : List.List Row.Entry
-        g11 = List._∷_ (0, Rows'.any-gone ty·26) (List._∷_ (1, Rows'.whole (Declared.row Counts.the-type)) (List._∷_ (2, Relend.mslice-owed (Signed.SInt Syntax.w32) ty·6 0 9 (Row.lease (κs .0) (qs .0))) (List._∷_ (3, Relend.mslice-owed (Referent.rtF (Referent.fInt Syntax.w32)) ty·7 1 10 (Row.lease (κs .1 .0) (qs .1 .0))) (List._∷_ (4, Relend.mslice-owed (Referent.rtF (Referent.fInt Syntax.w32)) ty·8 2 11 (Row.lease (κs .1 .1 .0) (qs .1 .1 .0))) (List._∷_ (5, Mut.mslice (Referent.rtF (Referent.fInt Syntax.w32)) ty·9 3) (List._∷_ (6, Mut.mslice (Referent.rtF (Referent.fInt Syntax.w32)) ty·10 4) (List._∷_ (7, Mut.mslice (Referent.rtF (Referent.fInt Syntax.w32)) ty·11 5) (List._∷_ (8, Mut.mslice (Referent.rtF (Referent.fInt Syntax.w32)) ty·12 6) (List._∷_ (9, Mut.mslice (Referent.rtF (Referent.fInt Syntax.w64)) ty·13 7) (List._∷_ (10, Rows'.whole (Declared.row Point2.the-type)) (List._∷_ (11, Rows'.sslice (Signed.SInt Syntax.w32) ty·14 8) (List._∷_ (12, Rows.arrF ELEM.the-row 401 0) (List._∷_ (13, Rows'.any-gone ty·3) (List._∷_ (14, Rows'.any-gone ty·4) (List._∷_ (15, Mut.mslice (Signed.SInt Syntax.w32) ty·4 9) List.[])))))))))))))))
+        g11 = List._∷_ (0, Rows'.any-gone ty·25) (List._∷_ (1, Rows'.whole (Declared.row Counts.the-type)) (List._∷_ (2, Relend.mslice-owed (Signed.SInt Syntax.w32) ty·6 0 9 (Row.lease (κs .0) (qs .0))) (List._∷_ (3, Relend.mslice-owed (Referent.rtF (Referent.fInt Syntax.w32)) ty·7 1 10 (Row.lease (κs .1 .0) (qs .1 .0))) (List._∷_ (4, Relend.mslice-owed (Referent.rtF (Referent.fInt Syntax.w32)) ty·8 2 11 (Row.lease (κs .1 .1 .0) (qs .1 .1 .0))) (List._∷_ (5, Mut.mslice (Referent.rtF (Referent.fInt Syntax.w32)) ty·9 3) (List._∷_ (6, Mut.mslice (Referent.rtF (Referent.fInt Syntax.w32)) ty·10 4) (List._∷_ (7, Mut.mslice (Referent.rtF (Referent.fInt Syntax.w32)) ty·11 5) (List._∷_ (8, Mut.mslice (Referent.rtF (Referent.fInt Syntax.w32)) ty·12 6) (List._∷_ (9, Mut.mslice (Referent.rtF (Referent.fInt Syntax.w64)) ty·13 7) (List._∷_ (10, Rows'.whole (Declared.row Point2.the-type)) (List._∷_ (11, Rows'.sslice (Signed.SInt Syntax.w32) ty·14 8) (List._∷_ (12, Rows.arrF ELEM.the-row 401 0) (List._∷_ (13, Rows'.any-gone ty·3) (List._∷_ (14, Rows'.any-gone ty·4) (List._∷_ (15, Mut.mslice (Signed.SInt Syntax.w32) ty·4 9) List.[])))))))))))))))
 
         abbrev g14 : List.List Row.Entry
-        g14 = List._∷_ (0, Rows'.any-gone ty·26) (List._∷_ (1, Rows'.whole (Declared.row Counts.the-type)) (List._∷_ (2, Relend.mslice-owed (Signed.SInt Syntax.w32) ty·6 0 9 (Row.lease (κs .0) (qs .0))) (List._∷_ (3, Relend.mslice-owed (Referent.rtF (Referent.fInt Syntax.w32)) ty·7 1 10 (Row.lease (κs .1 .0) (qs .1 .0))) (List._∷_ (4, Relend.mslice-owed (Referent.rtF (Referent.fInt Syntax.w32)) ty·8 2 11 (Row.lease (κs .1 .1 .0) (qs .1 .1 .0))) (List._∷_ (5, Relend.mslice-owed (Referent.rtF (Referent.fInt Syntax.w32)) ty·9 3 12 (Row.lease (κs .1 .1 .1 .0) (qs .1 .1 .1 .0))) (List._∷_ (6, Mut.mslice (Referent.rtF (Referent.fInt Syntax.w32)) ty·10 4) (List._∷_ (7, Mut.mslice (Referent.rtF (Referent.fInt Syntax.w32)) ty·11 5) (List._∷_ (8, Mut.mslice (Referent.rtF (Referent.fInt Syntax.w32)) ty·12 6) (List._∷_ (9, Mut.mslice (Referent.rtF (Referent.fInt Syntax.w64)) ty·13 7) (List._∷_ (10, Rows'.whole (Declared.row Point2.the-type)) (List._∷_ (11, Rows'.sslice (Signed.SInt Syntax.w32) ty·14 8) (List._∷_ (12, Rows.arrF ELEM.the-row 401 0) (List._∷_ (13, Rows'.any-gone ty·3) (List._∷_ (14, Rows'.any-gone ty·4) (List._∷_ (15, Mut.mslice (Signed.SInt Syntax.w32) ty·4 9) List.[])))))))))))))))
+        g14 = List._∷_ (0, Rows'.any-gone ty·25) (List._∷_ (1, Rows'.whole (Declared.row Counts.the-type)) (List._∷_ (2, Relend.mslice-owed (Signed.SInt Syntax.w32) ty·6 0 9 (Row.lease (κs .0) (qs .0))) (List._∷_ (3, Relend.mslice-owed (Referent.rtF (Referent.fInt Syntax.w32)) ty·7 1 10 (Row.lease (κs .1 .0) (qs .1 .0))) (List._∷_ (4, Relend.mslice-owed (Referent.rtF (Referent.fInt Syntax.w32)) ty·8 2 11 (Row.lease (κs .1 .1 .0) (qs .1 .1 .0))) (List._∷_ (5, Relend.mslice-owed (Referent.rtF (Referent.fInt Syntax.w32)) ty·9 3 12 (Row.lease (κs .1 .1 .1 .0) (qs .1 .1 .1 .0))) (List._∷_ (6, Mut.mslice (Referent.rtF (Referent.fInt Syntax.w32)) ty·10 4) (List._∷_ (7, Mut.mslice (Referent.rtF (Referent.fInt Syntax.w32)) ty·11 5) (List._∷_ (8, Mut.mslice (Referent.rtF (Referent.fInt Syntax.w32)) ty·12 6) (List._∷_ (9, Mut.mslice (Referent.rtF (Referent.fInt Syntax.w64)) ty·13 7) (List._∷_ (10, Rows'.whole (Declared.row Point2.the-type)) (List._∷_ (11, Rows'.sslice (Signed.SInt Syntax.w32) ty·14 8) (List._∷_ (12, Rows.arrF ELEM.the-row 401 0) (List._∷_ (13, Rows'.any-gone ty·3) (List._∷_ (14, Rows'.any-gone ty·4) (List._∷_ (15, Mut.mslice (Signed.SInt Syntax.w32) ty·4 9) List.[])))))))))))))))
 
         abbrev g17 : List.List Row.Entry
-        g17 = List._∷_ (0, Rows'.any-gone ty·26) (List._∷_ (1, Rows'.whole (Declared.row Counts.the-type)) (List._∷_ (2, Relend.mslice-owed (Signed.SInt Syntax.w32) ty·6 0 9 (Row.lease (κs .0) (qs .0))) (List._∷_ (3, Relend.mslice-owed (Referent.rtF (Referent.fInt Syntax.w32)) ty·7 1 10 (Row.lease (κs .1 .0) (qs .1 .0))) (List._∷_ (4, Relend.mslice-owed (Referent.rtF (Referent.fInt Syntax.w32)) ty·8 2 11 (Row.lease (κs .1 .1 .0) (qs .1 .1 .0))) (List._∷_ (5, Relend.mslice-owed (Referent.rtF (Referent.fInt Syntax.w32)) ty·9 3 12 (Row.lease (κs .1 .1 .1 .0) (qs .1 .1 .1 .0))) (List._∷_ (6, Mut.mslice (Referent.rtF (Referent.fInt Syntax.w32)) ty·10 4) (List._∷_ (7, Mut.mslice (Referent.rtF (Referent.fInt Syntax.w32)) ty·11 5) (List._∷_ (8, Mut.mslice (Referent.rtF (Referent.fInt Syntax.w32)) ty·12 6) (List._∷_ (9, Mut.mslice (Referent.rtF (Referent.fInt Syntax.w64)) ty·13 7) (List._∷_ (10, Rows'.whole (Declared.row Point2.the-type)) (List._∷_ (11, Rows'.sslice (Signed.SInt Syntax.w32) ty·14 8) (List._∷_ (12, Rows.arr-owed ELEM.the-row 401 13) (List._∷_ (13, Rows'.any-gone ty·3) (List._∷_ (14, Rows'.any-gone ty·4) (List._∷_ (15, Mut.mslice (Signed.SInt Syntax.w32) ty·4 9) List.[])))))))))))))))
+        g17 = List._∷_ (0, Rows'.any-gone ty·25) (List._∷_ (1, Rows'.whole (Declared.row Counts.the-type)) (List._∷_ (2, Relend.mslice-owed (Signed.SInt Syntax.w32) ty·6 0 9 (Row.lease (κs .0) (qs .0))) (List._∷_ (3, Relend.mslice-owed (Referent.rtF (Referent.fInt Syntax.w32)) ty·7 1 10 (Row.lease (κs .1 .0) (qs .1 .0))) (List._∷_ (4, Relend.mslice-owed (Referent.rtF (Referent.fInt Syntax.w32)) ty·8 2 11 (Row.lease (κs .1 .1 .0) (qs .1 .1 .0))) (List._∷_ (5, Relend.mslice-owed (Referent.rtF (Referent.fInt Syntax.w32)) ty·9 3 12 (Row.lease (κs .1 .1 .1 .0) (qs .1 .1 .1 .0))) (List._∷_ (6, Mut.mslice (Referent.rtF (Referent.fInt Syntax.w32)) ty·10 4) (List._∷_ (7, Mut.mslice (Referent.rtF (Referent.fInt Syntax.w32)) ty·11 5) (List._∷_ (8, Mut.mslice (Referent.rtF (Referent.fInt Syntax.w32)) ty·12 6) (List._∷_ (9, Mut.mslice (Referent.rtF (Referent.fInt Syntax.w64)) ty·13 7) (List._∷_ (10, Rows'.whole (Declared.row Point2.the-type)) (List._∷_ (11, Rows'.sslice (Signed.SInt Syntax.w32) ty·14 8) (List._∷_ (12, Rows.arr-owed ELEM.the-row 401 13) (List._∷_ (13, Rows'.any-gone ty·3) (List._∷_ (14, Rows'.any-gone ty·4) (List._∷_ (15, Mut.mslice (Signed.SInt Syntax.w32) ty·4 9) List.[])))))))))))))))
 
         abbrev g20 : List.List Row.Entry
-        g20 = List._∷_ (0, Rows'.any-gone ty·26) (List._∷_ (1, Rows'.whole (Declared.row Counts.the-type)) (List._∷_ (2, Relend.mslice-owed (Signed.SInt Syntax.w32) ty·6 0 9 (Row.lease (κs .0) (qs .0))) (List._∷_ (3, Relend.mslice-owed (Referent.rtF (Referent.fInt Syntax.w32)) ty·7 1 10 (Row.lease (κs .1 .0) (qs .1 .0))) (List._∷_ (4, Relend.mslice-owed (Referent.rtF (Referent.fInt Syntax.w32)) ty·8 2 11 (Row.lease (κs .1 .1 .0) (qs .1 .1 .0))) (List._∷_ (5, Relend.mslice-owed (Referent.rtF (Referent.fInt Syntax.w32)) ty·9 3 12 (Row.lease (κs .1 .1 .1 .0) (qs .1 .1 .1 .0))) (List._∷_ (6, Relend.mslice-owed (Referent.rtF (Referent.fInt Syntax.w32)) ty·10 4 14 (Row.lease (κs .1 .1 .1 .1 .0) (qs .1 .1 .1 .1 .0))) (List._∷_ (7, Mut.mslice (Referent.rtF (Referent.fInt Syntax.w32)) ty·11 5) (List._∷_ (8, Mut.mslice (Referent.rtF (Referent.fInt Syntax.w32)) ty·12 6) (List._∷_ (9, Mut.mslice (Referent.rtF (Referent.fInt Syntax.w64)) ty·13 7) (List._∷_ (10, Rows'.whole (Declared.row Point2.the-type)) (List._∷_ (11, Rows'.sslice (Signed.SInt Syntax.w32) ty·14 8) (List._∷_ (12, Rows.arr-owed ELEM.the-row 401 13) (List._∷_ (13, Rows'.any-gone ty·3) (List._∷_ (14, Rows'.any-gone ty·4) (List._∷_ (15, Mut.mslice (Signed.SInt Syntax.w32) ty·4 9) List.[])))))))))))))))
+        g20 = List._∷_ (0, Rows'.any-gone ty·25) (List._∷_ (1, Rows'.whole (Declared.row Counts.the-type)) (List._∷_ (2, Relend.mslice-owed (Signed.SInt Syntax.w32) ty·6 0 9 (Row.lease (κs .0) (qs .0))) (List._∷_ (3, Relend.mslice-owed (Referent.rtF (Referent.fInt Syntax.w32)) ty·7 1 10 (Row.lease (κs .1 .0) (qs .1 .0))) (List._∷_ (4, Relend.mslice-owed (Referent.rtF (Referent.fInt Syntax.w32)) ty·8 2 11 (Row.lease (κs .1 .1 .0) (qs .1 .1 .0))) (List._∷_ (5, Relend.mslice-owed (Referent.rtF (Referent.fInt Syntax.w32)) ty·9 3 12 (Row.lease (κs .1 .1 .1 .0) (qs .1 .1 .1 .0))) (List._∷_ (6, Relend.mslice-owed (Referent.rtF (Referent.fInt Syntax.w32)) ty·10 4 14 (Row.lease (κs .1 .1 .1 .1 .0) (qs .1 .1 .1 .1 .0))) (List._∷_ (7, Mut.mslice (Referent.rtF (Referent.fInt Syntax.w32)) ty·11 5) (List._∷_ (8, Mut.mslice (Referent.rtF (Referent.fInt Syntax.w32)) ty·12 6) (List._∷_ (9, Mut.mslice (Referent.rtF (Referent.fInt Syntax.w64)) ty·13 7) (List._∷_ (10, Rows'.whole (Declared.row Point2.the-type)) (List._∷_ (11, Rows'.sslice (Signed.SInt Syntax.w32) ty·14 8) (List._∷_ (12, Rows.arr-owed ELEM.the-row 401 13) (List._∷_ (13, Rows'.any-gone ty·3) (List._∷_ (14, Rows'.any-gone ty·4) (List._∷_ (15, Mut.mslice (Signed.SInt Syntax.w32) ty·4 9) List.[])))))))))))))))
 
         abbrev g23 : List.List Row.Entry
-        g23 = List._∷_ (0, Rows'.any-gone ty·26) (List._∷_ (1, Rows'.whole (Declared.row Counts.the-type)) (List._∷_ (2, Relend.mslice-owed (Signed.SInt Syntax.w32) ty·6 0 9 (Row.lease (κs .0) (qs .0))) (List._∷_ (3, Relend.mslice-owed (Referent.rtF (Referent.fInt Syntax.w32)) ty·7 1 10 (Row.lease (κs .1 .0) (qs .1 .0))) (List._∷_ (4, Relend.mslice-owed (Referent.rtF (Referent.fInt Syntax.w32)) ty·8 2 11 (Row.lease (κs .1 .1 .0) (qs .1 .1 .0))) (List._∷_ (5, Relend.mslice-owed (Referent.rtF (Referent.fInt Syntax.w32)) ty·9 3 12 (Row.lease (κs .1 .1 .1 .0) (qs .1 .1 .1 .0))) (List._∷_ (6, Relend.mslice-owed (Referent.rtF (Referent.fInt Syntax.w32)) ty·10 4 14 (Row.lease (κs .1 .1 .1 .1 .0) (qs .1 .1 .1 .1 .0))) (List._∷_ (7, Relend.mslice-owed (Referent.rtF (Referent.fInt Syntax.w32)) ty·11 5 15 (Row.lease (κs .1 .1 .1 .1 .1 .0) (qs .1 .1 .1 .1 .1 .0))) (List._∷_ (8, Mut.mslice (Referent.rtF (Referent.fInt Syntax.w32)) ty·12 6) (List._∷_ (9, Mut.mslice (Referent.rtF (Referent.fInt Syntax.w64)) ty·13 7) (List._∷_ (10, Rows'.whole (Declared.row Point2.the-type)) (List._∷_ (11, Rows'.sslice (Signed.SInt Syntax.w32) ty·14 8) (List._∷_ (12, Rows.arr-owed ELEM.the-row 401 13) (List._∷_ (13, Rows'.any-gone ty·3) (List._∷_ (14, Rows'.any-gone ty·4) (List._∷_ (15, Mut.mslice (Signed.SInt Syntax.w32) ty·4 9) List.[])))))))))))))))
+        g23 = List._∷_ (0, Rows'.any-gone ty·25) (List._∷_ (1, Rows'.whole (Declared.row Counts.the-type)) (List._∷_ (2, Relend.mslice-owed (Signed.SInt Syntax.w32) ty·6 0 9 (Row.lease (κs .0) (qs .0))) (List._∷_ (3, Relend.mslice-owed (Referent.rtF (Referent.fInt Syntax.w32)) ty·7 1 10 (Row.lease (κs .1 .0) (qs .1 .0))) (List._∷_ (4, Relend.mslice-owed (Referent.rtF (Referent.fInt Syntax.w32)) ty·8 2 11 (Row.lease (κs .1 .1 .0) (qs .1 .1 .0))) (List._∷_ (5, Relend.mslice-owed (Referent.rtF (Referent.fInt Syntax.w32)) ty·9 3 12 (Row.lease (κs .1 .1 .1 .0) (qs .1 .1 .1 .0))) (List._∷_ (6, Relend.mslice-owed (Referent.rtF (Referent.fInt Syntax.w32)) ty·10 4 14 (Row.lease (κs .1 .1 .1 .1 .0) (qs .1 .1 .1 .1 .0))) (List._∷_ (7, Relend.mslice-owed (Referent.rtF (Referent.fInt Syntax.w32)) ty·11 5 15 (Row.lease (κs .1 .1 .1 .1 .1 .0) (qs .1 .1 .1 .1 .1 .0))) (List._∷_ (8, Mut.mslice (Referent.rtF (Referent.fInt Syntax.w32)) ty·12 6) (List._∷_ (9, Mut.mslice (Referent.rtF (Referent.fInt Syntax.w64)) ty·13 7) (List._∷_ (10, Rows'.whole (Declared.row Point2.the-type)) (List._∷_ (11, Rows'.sslice (Signed.SInt Syntax.w32) ty·14 8) (List._∷_ (12, Rows.arr-owed ELEM.the-row 401 13) (List._∷_ (13, Rows'.any-gone ty·3) (List._∷_ (14, Rows'.any-gone ty·4) (List._∷_ (15, Mut.mslice (Signed.SInt Syntax.w32) ty·4 9) List.[])))))))))))))))
 
         abbrev g26 : List.List Row.Entry
-        g26 = List._∷_ (0, Rows'.any-gone ty·26) (List._∷_ (1, Rows'.whole (Declared.row Counts.the-type)) (List._∷_ (2, Relend.mslice-owed (Signed.SInt Syntax.w32) ty·6 0 9 (Row.lease (κs .0) (qs .0))) (List._∷_ (3, Relend.mslice-owed (Referent.rtF (Referent.fInt Syntax.w32)) ty·7 1 10 (Row.lease (κs .1 .0) (qs .1 .0))) (List._∷_ (4, Relend.mslice-owed (Referent.rtF (Referent.fInt Syntax.w32)) ty·8 2 11 (Row.lease (κs .1 .1 .0) (qs .1 .1 .0))) (List._∷_ (5, Relend.mslice-owed (Referent.rtF (Referent.fInt Syntax.w32)) ty·9 3 12 (Row.lease (κs .1 .1 .1 .0) (qs .1 .1 .1 .0))) (List._∷_ (6, Relend.mslice-owed (Referent.rtF (Referent.fInt Syntax.w32)) ty·10 4 14 (Row.lease (κs .1 .1 .1 .1 .0) (qs .1 .1 .1 .1 .0))) (List._∷_ (7, Relend.mslice-owed (Referent.rtF (Referent.fInt Syntax.w32)) ty·11 5 15 (Row.lease (κs .1 .1 .1 .1 .1 .0) (qs .1 .1 .1 .1 .1 .0))) (List._∷_ (8, Relend.mslice-owed (Referent.rtF (Referent.fInt Syntax.w32)) ty·12 6 16 (Row.lease (κs .1 .1 .1 .1 .1 .1 .0) (qs .1 .1 .1 .1 .1 .1 .0))) (List._∷_ (9, Mut.mslice (Referent.rtF (Referent.fInt Syntax.w64)) ty·13 7) (List._∷_ (10, Rows'.whole (Declared.row Point2.the-type)) (List._∷_ (11, Rows'.sslice (Signed.SInt Syntax.w32) ty·14 8) (List._∷_ (12, Rows.arr-owed ELEM.the-row 401 13) (List._∷_ (13, Rows'.any-gone ty·3) (List._∷_ (14, Rows'.any-gone ty·4) (List._∷_ (15, Mut.mslice (Signed.SInt Syntax.w32) ty·4 9) List.[])))))))))))))))
+        g26 = List._∷_ (0, Rows'.any-gone ty·25) (List._∷_ (1, Rows'.whole (Declared.row Counts.the-type)) (List._∷_ (2, Relend.mslice-owed (Signed.SInt Syntax.w32) ty·6 0 9 (Row.lease (κs .0) (qs .0))) (List._∷_ (3, Relend.mslice-owed (Referent.rtF (Referent.fInt Syntax.w32)) ty·7 1 10 (Row.lease (κs .1 .0) (qs .1 .0))) (List._∷_ (4, Relend.mslice-owed (Referent.rtF (Referent.fInt Syntax.w32)) ty·8 2 11 (Row.lease (κs .1 .1 .0) (qs .1 .1 .0))) (List._∷_ (5, Relend.mslice-owed (Referent.rtF (Referent.fInt Syntax.w32)) ty·9 3 12 (Row.lease (κs .1 .1 .1 .0) (qs .1 .1 .1 .0))) (List._∷_ (6, Relend.mslice-owed (Referent.rtF (Referent.fInt Syntax.w32)) ty·10 4 14 (Row.lease (κs .1 .1 .1 .1 .0) (qs .1 .1 .1 .1 .0))) (List._∷_ (7, Relend.mslice-owed (Referent.rtF (Referent.fInt Syntax.w32)) ty·11 5 15 (Row.lease (κs .1 .1 .1 .1 .1 .0) (qs .1 .1 .1 .1 .1 .0))) (List._∷_ (8, Relend.mslice-owed (Referent.rtF (Referent.fInt Syntax.w32)) ty·12 6 16 (Row.lease (κs .1 .1 .1 .1 .1 .1 .0) (qs .1 .1 .1 .1 .1 .1 .0))) (List._∷_ (9, Mut.mslice (Referent.rtF (Referent.fInt Syntax.w64)) ty·13 7) (List._∷_ (10, Rows'.whole (Declared.row Point2.the-type)) (List._∷_ (11, Rows'.sslice (Signed.SInt Syntax.w32) ty·14 8) (List._∷_ (12, Rows.arr-owed ELEM.the-row 401 13) (List._∷_ (13, Rows'.any-gone ty·3) (List._∷_ (14, Rows'.any-gone ty·4) (List._∷_ (15, Mut.mslice (Signed.SInt Syntax.w32) ty·4 9) List.[])))))))))))))))
 
         abbrev g29 : List.List Row.Entry
-        g29 = List._∷_ (0, Rows'.any-gone ty·26) (List._∷_ (1, Rows'.whole (Declared.row Counts.the-type)) (List._∷_ (2, Relend.mslice-owed (Signed.SInt Syntax.w32) ty·6 0 9 (Row.lease (κs .0) (qs .0))) (List._∷_ (3, Relend.mslice-owed (Referent.rtF (Referent.fInt Syntax.w32)) ty·7 1 10 (Row.lease (κs .1 .0) (qs .1 .0))) (List._∷_ (4, Relend.mslice-owed (Referent.rtF (Referent.fInt Syntax.w32)) ty·8 2 11 (Row.lease (κs .1 .1 .0) (qs .1 .1 .0))) (List._∷_ (5, Relend.mslice-owed (Referent.rtF (Referent.fInt Syntax.w32)) ty·9 3 12 (Row.lease (κs .1 .1 .1 .0) (qs .1 .1 .1 .0))) (List._∷_ (6, Relend.mslice-owed (Referent.rtF (Referent.fInt Syntax.w32)) ty·10 4 14 (Row.lease (κs .1 .1 .1 .1 .0) (qs .1 .1 .1 .1 .0))) (List._∷_ (7, Relend.mslice-owed (Referent.rtF (Referent.fInt Syntax.w32)) ty·11 5 15 (Row.lease (κs .1 .1 .1 .1 .1 .0) (qs .1 .1 .1 .1 .1 .0))) (List._∷_ (8, Relend.mslice-owed (Referent.rtF (Referent.fInt Syntax.w32)) ty·12 6 16 (Row.lease (κs .1 .1 .1 .1 .1 .1 .0) (qs .1 .1 .1 .1 .1 .1 .0))) (List._∷_ (9, Relend.mslice-owed (Referent.rtF (Referent.fInt Syntax.w64)) ty·13 7 17 (Row.lease (κs .1 .1 .1 .1 .1 .1 .1 .0) (qs .1 .1 .1 .1 .1 .1 .1 .0))) (List._∷_ (10, Rows'.whole (Declared.row Point2.the-type)) (List._∷_ (11, Rows'.sslice (Signed.SInt Syntax.w32) ty·14 8) (List._∷_ (12, Rows.arr-owed ELEM.the-row 401 13) (List._∷_ (13, Rows'.any-gone ty·3) (List._∷_ (14, Rows'.any-gone ty·4) (List._∷_ (15, Mut.mslice (Signed.SInt Syntax.w32) ty·4 9) List.[])))))))))))))))
+        g29 = List._∷_ (0, Rows'.any-gone ty·25) (List._∷_ (1, Rows'.whole (Declared.row Counts.the-type)) (List._∷_ (2, Relend.mslice-owed (Signed.SInt Syntax.w32) ty·6 0 9 (Row.lease (κs .0) (qs .0))) (List._∷_ (3, Relend.mslice-owed (Referent.rtF (Referent.fInt Syntax.w32)) ty·7 1 10 (Row.lease (κs .1 .0) (qs .1 .0))) (List._∷_ (4, Relend.mslice-owed (Referent.rtF (Referent.fInt Syntax.w32)) ty·8 2 11 (Row.lease (κs .1 .1 .0) (qs .1 .1 .0))) (List._∷_ (5, Relend.mslice-owed (Referent.rtF (Referent.fInt Syntax.w32)) ty·9 3 12 (Row.lease (κs .1 .1 .1 .0) (qs .1 .1 .1 .0))) (List._∷_ (6, Relend.mslice-owed (Referent.rtF (Referent.fInt Syntax.w32)) ty·10 4 14 (Row.lease (κs .1 .1 .1 .1 .0) (qs .1 .1 .1 .1 .0))) (List._∷_ (7, Relend.mslice-owed (Referent.rtF (Referent.fInt Syntax.w32)) ty·11 5 15 (Row.lease (κs .1 .1 .1 .1 .1 .0) (qs .1 .1 .1 .1 .1 .0))) (List._∷_ (8, Relend.mslice-owed (Referent.rtF (Referent.fInt Syntax.w32)) ty·12 6 16 (Row.lease (κs .1 .1 .1 .1 .1 .1 .0) (qs .1 .1 .1 .1 .1 .1 .0))) (List._∷_ (9, Relend.mslice-owed (Referent.rtF (Referent.fInt Syntax.w64)) ty·13 7 17 (Row.lease (κs .1 .1 .1 .1 .1 .1 .1 .0) (qs .1 .1 .1 .1 .1 .1 .1 .0))) (List._∷_ (10, Rows'.whole (Declared.row Point2.the-type)) (List._∷_ (11, Rows'.sslice (Signed.SInt Syntax.w32) ty·14 8) (List._∷_ (12, Rows.arr-owed ELEM.the-row 401 13) (List._∷_ (13, Rows'.any-gone ty·3) (List._∷_ (14, Rows'.any-gone ty·4) (List._∷_ (15, Mut.mslice (Signed.SInt Syntax.w32) ty·4 9) List.[])))))))))))))))
 
         abbrev g32 : List.List Row.Entry
         g32 = List._∷_ (0, Rows'.whole (Declared.row FinishAnswer.the-type)) (List._∷_ (1, Rows'.whole (Declared.row Counts.the-type)) (List._∷_ (2, Relend.mslice-owed (Signed.SInt Syntax.w32) ty·6 0 9 (Row.lease (κs .0) (qs .0))) (List._∷_ (3, Relend.mslice-owed (Referent.rtF (Referent.fInt Syntax.w32)) ty·7 1 10 (Row.lease (κs .1 .0) (qs .1 .0))) (List._∷_ (4, Relend.mslice-owed (Referent.rtF (Referent.fInt Syntax.w32)) ty·8 2 11 (Row.lease (κs .1 .1 .0) (qs .1 .1 .0))) (List._∷_ (5, Relend.mslice-owed (Referent.rtF (Referent.fInt Syntax.w32)) ty·9 3 12 (Row.lease (κs .1 .1 .1 .0) (qs .1 .1 .1 .0))) (List._∷_ (6, Relend.mslice-owed (Referent.rtF (Referent.fInt Syntax.w32)) ty·10 4 14 (Row.lease (κs .1 .1 .1 .1 .0) (qs .1 .1 .1 .1 .0))) (List._∷_ (7, Relend.mslice-owed (Referent.rtF (Referent.fInt Syntax.w32)) ty·11 5 15 (Row.lease (κs .1 .1 .1 .1 .1 .0) (qs .1 .1 .1 .1 .1 .0))) (List._∷_ (8, Relend.mslice-owed (Referent.rtF (Referent.fInt Syntax.w32)) ty·12 6 16 (Row.lease (κs .1 .1 .1 .1 .1 .1 .0) (qs .1 .1 .1 .1 .1 .1 .0))) (List._∷_ (9, Relend.mslice-owed (Referent.rtF (Referent.fInt Syntax.w64)) ty·13 7 17 (Row.lease (κs .1 .1 .1 .1 .1 .1 .1 .0) (qs .1 .1 .1 .1 .1 .1 .1 .0))) (List._∷_ (10, Rows'.whole (Declared.row Point2.the-type)) (List._∷_ (11, Rows'.sslice (Signed.SInt Syntax.w32) ty·14 8) (List._∷_ (12, Rows.arr-owed ELEM.the-row 401 13) (List._∷_ (13, Rows'.any-gone ty·3) (List._∷_ (14, Rows'.any-gone ty·4) (List._∷_ (15, Mut.msleft (Signed.SInt Syntax.w32) ty·4) List.[])))))))))))))))
@@ -1418,7 +1415,7 @@ module _ (claims· : Claims) where
           d37 = Typed.g-pre 𝓤 H A W 𝓣 E G39 G40 b21 Δ0 (Typed.pass T39 T40 (s38 bs)) (at36 bs) (Scalar.g-room 𝓤 H A W E G39 1 ty·21 (Local.room-whole 𝓤 H A W (Declared.row Counts.the-type) ty·21 Path'.refl)) d36
 
           d38 : Typed.Typed 𝓤 H A 𝓣 E G38 b22 Δ0 (at38 bs)
-          d38 = Typed.s-seq 𝓤 H A W 𝓣 E G38 G39 b20 b21 Δ0 (Typed.both (s37 bs)) (at37 bs) (Plain.t-call-plain 𝓤 H A W 𝓣 10 ps·1 r·1 (claims· .2) (claims· .3) "run::run" (known .1) E (λ pos β. β) G38 (record { pos = 1; st = List.[]; d = 0; at = λ x. x }, (record { pos = 15; ty = Syntax.tyRef Syntax.erased Syntax.mut ty·0; ref = λ x. x }, (record { pos = 17; ty = Syntax.tyRef Syntax.erased Syntax.mut ty·0; ref = λ x. x }, (record { pos = 19; ty = Syntax.tyRef Syntax.erased Syntax.mut ty·0; ref = λ x. x }, (record { pos = 21; ty = Syntax.tyRef Syntax.erased Syntax.mut ty·0; ref = λ x. x }, (record { pos = 23; ty = Syntax.tyRef Syntax.erased Syntax.mut (ELEMMEM.pointee (ELEM.the-row .written)); ref = λ x. x }, (record { pos = 25; ty = Syntax.tyRef Syntax.erased Syntax.mut ty·0; ref = λ x. x }, (record { pos = 27; ty = Syntax.tyRef Syntax.erased Syntax.mut ty·0; ref = λ x. x }, (record { pos = 29; ty = Syntax.tyRef Syntax.erased Syntax.mut ty·0; ref = λ x. x }, (record { pos = 31; ty = Syntax.tyRef Syntax.erased Syntax.mut ty·1; ref = λ x. x }, (record { pos = 10; st = List.[]; d = 0; at = λ x. x }, (record { pos = 11; ty = Syntax.tyRef (Syntax.named 8) Syntax.imm ty·0; ref = λ x. x }, tt)))))))))))) 0 (List._∷_ 9 (List._∷_ 10 (List._∷_ 11 (List._∷_ 12 (List._∷_ 13 (List._∷_ 14 (List._∷_ 15 (List._∷_ 16 (List._∷_ 17 (List._∷_ 8 List.[])))))))))) (Call.sub-id 𝓤 H A W (G38 .slots)) ((Yields.yields-copy 𝓤 H A W (λ ρ. Unit) (Declared.row Counts.the-type) Path'.refl (Copies.cStruct Counts.the-type Laws''.the-laws Laws''.the-copy .copy 𝓤 H A W) (Rows'.whole (Declared.row Counts.the-type)) (λ x. x) (λ x. x) (λ ρ told. Local.mem-whole 𝓤 H A W (Declared.row Counts.the-type) ρ) λ ρ told. Local.whole-mem 𝓤 H A W (Declared.row Counts.the-type) ρ, Path'.refl), (Reads.as-is 𝓤 H A (Mut.mslice (Signed.SInt Syntax.w32) ty·4 9), Mut.reads-mslice 𝓤 H A W (Signed.SInt Syntax.w32) ty·4 9, Path'.refl, (Reads.as-is 𝓤 H A (Mut.mslice (Referent.rtF (Referent.fInt Syntax.w32)) ty·4 10), Mut.reads-mslice 𝓤 H A W (Referent.rtF (Referent.fInt Syntax.w32)) ty·4 10, Path'.refl, (Reads.as-is 𝓤 H A (Mut.mslice (Referent.rtF (Referent.fInt Syntax.w32)) ty·4 11), Mut.reads-mslice 𝓤 H A W (Referent.rtF (Referent.fInt Syntax.w32)) ty·4 11, Path'.refl, (Reads.as-is 𝓤 H A (Mut.mslice (Referent.rtF (Referent.fInt Syntax.w32)) ty·4 12), Mut.reads-mslice 𝓤 H A W (Referent.rtF (Referent.fInt Syntax.w32)) ty·4 12, Path'.refl, (Reads.as-is 𝓤 H A (Mut.mslice ELEM.the-row ty·15 13), Mut.reads-mslice 𝓤 H A W ELEM.the-row ty·15 13, Path'.refl, (Reads.as-is 𝓤 H A (Mut.mslice (Referent.rtF (Referent.fInt Syntax.w32)) ty·4 14), Mut.reads-mslice 𝓤 H A W (Referent.rtF (Referent.fInt Syntax.w32)) ty·4 14, Path'.refl, (Reads.as-is 𝓤 H A (Mut.mslice (Referent.rtF (Referent.fInt Syntax.w32)) ty·4 15), Mut.reads-mslice 𝓤 H A W (Referent.rtF (Referent.fInt Syntax.w32)) ty·4 15, Path'.refl, (Reads.as-is 𝓤 H A (Mut.mslice (Referent.rtF (Referent.fInt Syntax.w32)) ty·4 16), Mut.reads-mslice 𝓤 H A W (Referent.rtF (Referent.fInt Syntax.w32)) ty·4 16, Path'.refl, (Reads.as-is 𝓤 H A (Mut.mslice (Referent.rtF (Referent.fInt Syntax.w64)) ty·5 17), Mut.reads-mslice 𝓤 H A W (Referent.rtF (Referent.fInt Syntax.w64)) ty·5 17, Path'.refl, ((Yields.yields-copy 𝓤 H A W (λ ρ. Unit) (Declared.row Point2.the-type) Path'.refl (Copies.cStruct Point2.the-type Laws.the-laws Laws.the-copy .copy 𝓤 H A W) (Rows'.whole (Declared.row Point2.the-type)) (λ x. x) (λ x. x) (λ ρ told. Local.mem-whole 𝓤 H A W (Declared.row Point2.the-type) ρ) λ ρ told. Local.whole-mem 𝓤 H A W (Declared.row Point2.the-type) ρ, Path'.refl), (ShrSlice.spares-sslice 𝓤 H A W (Signed.SInt Syntax.w32) ty·14 8, Shared.reads-sslice 𝓤 H A W (Signed.SInt Syntax.w32) ty·14 8, Path'.refl, tt)))))))))))) (Reads.room-gone 𝓤 H A ty·26) (tt, (tt, (tt, (tt, (tt, (tt, (tt, (tt, (tt, (tt, tt)))))))))) Path'.refl) d37
+          d38 = Typed.s-seq 𝓤 H A W 𝓣 E G38 G39 b20 b21 Δ0 (Typed.both (s37 bs)) (at37 bs) (Plain.t-call-plain 𝓤 H A W 𝓣 10 ps·1 r·1 (claims· .2) (claims· .3) "run::run" (known .1) E (λ pos β. β) G38 (record { pos = 1; st = List.[]; d = 0; at = λ x. x }, (record { pos = 15; ty = Syntax.tyRef Syntax.erased Syntax.mut ty·0; ref = λ x. x }, (record { pos = 17; ty = Syntax.tyRef Syntax.erased Syntax.mut ty·0; ref = λ x. x }, (record { pos = 19; ty = Syntax.tyRef Syntax.erased Syntax.mut ty·0; ref = λ x. x }, (record { pos = 21; ty = Syntax.tyRef Syntax.erased Syntax.mut ty·0; ref = λ x. x }, (record { pos = 23; ty = Syntax.tyRef Syntax.erased Syntax.mut (ELEMMEM.pointee (ELEM.the-row .written)); ref = λ x. x }, (record { pos = 25; ty = Syntax.tyRef Syntax.erased Syntax.mut ty·0; ref = λ x. x }, (record { pos = 27; ty = Syntax.tyRef Syntax.erased Syntax.mut ty·0; ref = λ x. x }, (record { pos = 29; ty = Syntax.tyRef Syntax.erased Syntax.mut ty·0; ref = λ x. x }, (record { pos = 31; ty = Syntax.tyRef Syntax.erased Syntax.mut ty·1; ref = λ x. x }, (record { pos = 10; st = List.[]; d = 0; at = λ x. x }, (record { pos = 11; ty = Syntax.tyRef (Syntax.named 8) Syntax.imm ty·0; ref = λ x. x }, tt)))))))))))) 0 (List._∷_ 9 (List._∷_ 10 (List._∷_ 11 (List._∷_ 12 (List._∷_ 13 (List._∷_ 14 (List._∷_ 15 (List._∷_ 16 (List._∷_ 17 (List._∷_ 8 List.[])))))))))) (Call.sub-id 𝓤 H A W (G38 .slots)) ((Yields.yields-copy 𝓤 H A W (λ ρ. Unit) (Declared.row Counts.the-type) Path'.refl (Copies.cStruct Counts.the-type Laws''.the-laws Laws''.the-copy .copy 𝓤 H A W) (Rows'.whole (Declared.row Counts.the-type)) (λ x. x) (λ x. x) (λ ρ told. Local.mem-whole 𝓤 H A W (Declared.row Counts.the-type) ρ) λ ρ told. Local.whole-mem 𝓤 H A W (Declared.row Counts.the-type) ρ, Path'.refl), (Reads.as-is 𝓤 H A (Mut.mslice (Signed.SInt Syntax.w32) ty·4 9), Mut.reads-mslice 𝓤 H A W (Signed.SInt Syntax.w32) ty·4 9, Path'.refl, (Reads.as-is 𝓤 H A (Mut.mslice (Referent.rtF (Referent.fInt Syntax.w32)) ty·4 10), Mut.reads-mslice 𝓤 H A W (Referent.rtF (Referent.fInt Syntax.w32)) ty·4 10, Path'.refl, (Reads.as-is 𝓤 H A (Mut.mslice (Referent.rtF (Referent.fInt Syntax.w32)) ty·4 11), Mut.reads-mslice 𝓤 H A W (Referent.rtF (Referent.fInt Syntax.w32)) ty·4 11, Path'.refl, (Reads.as-is 𝓤 H A (Mut.mslice (Referent.rtF (Referent.fInt Syntax.w32)) ty·4 12), Mut.reads-mslice 𝓤 H A W (Referent.rtF (Referent.fInt Syntax.w32)) ty·4 12, Path'.refl, (Reads.as-is 𝓤 H A (Mut.mslice ELEM.the-row ty·15 13), Mut.reads-mslice 𝓤 H A W ELEM.the-row ty·15 13, Path'.refl, (Reads.as-is 𝓤 H A (Mut.mslice (Referent.rtF (Referent.fInt Syntax.w32)) ty·4 14), Mut.reads-mslice 𝓤 H A W (Referent.rtF (Referent.fInt Syntax.w32)) ty·4 14, Path'.refl, (Reads.as-is 𝓤 H A (Mut.mslice (Referent.rtF (Referent.fInt Syntax.w32)) ty·4 15), Mut.reads-mslice 𝓤 H A W (Referent.rtF (Referent.fInt Syntax.w32)) ty·4 15, Path'.refl, (Reads.as-is 𝓤 H A (Mut.mslice (Referent.rtF (Referent.fInt Syntax.w32)) ty·4 16), Mut.reads-mslice 𝓤 H A W (Referent.rtF (Referent.fInt Syntax.w32)) ty·4 16, Path'.refl, (Reads.as-is 𝓤 H A (Mut.mslice (Referent.rtF (Referent.fInt Syntax.w64)) ty·5 17), Mut.reads-mslice 𝓤 H A W (Referent.rtF (Referent.fInt Syntax.w64)) ty·5 17, Path'.refl, ((Yields.yields-copy 𝓤 H A W (λ ρ. Unit) (Declared.row Point2.the-type) Path'.refl (Copies.cStruct Point2.the-type Laws.the-laws Laws.the-copy .copy 𝓤 H A W) (Rows'.whole (Declared.row Point2.the-type)) (λ x. x) (λ x. x) (λ ρ told. Local.mem-whole 𝓤 H A W (Declared.row Point2.the-type) ρ) λ ρ told. Local.whole-mem 𝓤 H A W (Declared.row Point2.the-type) ρ, Path'.refl), (ShrSlice.spares-sslice 𝓤 H A W (Signed.SInt Syntax.w32) ty·14 8, Shared.reads-sslice 𝓤 H A W (Signed.SInt Syntax.w32) ty·14 8, Path'.refl, tt)))))))))))) (Reads.room-gone 𝓤 H A ty·25) (tt, (tt, (tt, (tt, (tt, (tt, (tt, (tt, (tt, (tt, tt)))))))))) Path'.refl) d37
 
           d39 : Typed.Typed 𝓤 H A 𝓣 E G37 b23 Δ0 (at39 bs)
           d39 = Typed.s-seq 𝓤 H A W 𝓣 E G37 G38 b19 b22 Δ0 (Typed.ask (s36 bs)) (at38 bs) (Relend.t-sl-aggregate 𝓤 H A W E (Referent.rtF (Referent.fInt Syntax.w64)) 𝓣 (Relend.asMut (Referent.rtF (Referent.fInt Syntax.w64))) G37 30 31 17 ty·5 ty·5 (λ x. x) (Scalar.oFld 9 (List._∷_ (Syntax.field 1) List.[]) ty·1 8 λ v. Shared.lenV (v .0)) (Reads.as-is 𝓤 H A (Relend.msptr (Referent.rtF (Referent.fInt Syntax.w64)) ty·5 17)) (Reads.room-gone 𝓤 H A ty·18) (Relend.reads-owed-len 𝓤 H A W (Referent.rtF (Referent.fInt Syntax.w64)) ty·13 7 17 (Row.lease (κs .1 .1 .1 .1 .1 .1 .1 .0) (qs .1 .1 .1 .1 .1 .1 .1 .0)) 8 Path'.refl, Path'.refl) Path'.refl Path'.refl λ b o k. tt) d38
