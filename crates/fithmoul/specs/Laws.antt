@@ -8,8 +8,9 @@ use Prim.Native.Nat.{ℕ, _<_}
 use lib.Dec.{ltb}
 use lib.Ieee.{Float}
 use lib.IntN.{ℤ}
+use Rattle.angle.specs.declared.Point2.{Point2}
 use Rattle.angle.specs.Angle.{validAngle}
-use Rattle.dcel.specs.Rows.{linksOf, positionOf}
+use Rattle.dcel.specs.MeshRows.{MeshRows, linksIn, placesIn}
 use Rattle.finish.specs.declared.Finished.{Finished}
 use Rattle.finish.specs.declared.Totals.{Totals}
 use Rattle.finish.specs.Finish as finish
@@ -24,6 +25,7 @@ use Rattle.mesh_check.specs.declared.Checked.{Checked}
 use Rattle.mesh_check.specs.declared.Refusal.{Refusal}
 use Rattle.mesh_check.specs.Check.{refused, countRefused, firstOutside, firstNotLeft, checkMesh, checkWith, checkOf}
 use Rattle.ring.specs.Center.{refusesCenter, refusesRing}
+use Rattle.ring_rows.specs.RingRows.{RingRows}
 use Rattle.sweep.specs.Demand3.{Demand3}
 use Rattle.sweep.specs.Run as run
 use Rattle.sweep.specs.RunLaws.{run-accepted}
@@ -33,8 +35,7 @@ use Rattle.sweep.specs.declared.Stepped.{Stepped}
 use Rattle.sweep.specs.StepCall as step
 use Rattle.sweep.specs.Step.{Stepping}
 use Rattle.fithmoul.specs.declared.results.FinishResult.{FinishResult}
-use Rattle.fithmoul.specs.Leaves.{Nodes}
-use Rattle.fithmoul.specs.Results.{finishResult, finishedResult, totals}
+use Rattle.fithmoul.specs.Results.{finishResult, finishedResult, reported}
 
 -- ---- the checks: a refusal's number is one of the table's, which count from 1
 pub data Named : Checked → Type 0 where
@@ -62,23 +63,22 @@ mesh-named n short C L p =
     (named-cond (not (rules C L)) 4 0 (omega arith)
     (named-cond (ltb (firstNotLeft C L p) (C .faces)) 5 (firstNotLeft C L p) (omega arith) accepts))))
 
-with-named : (points : List ℤ) (short : Bool) (C : Counts) (q : List ℤ) (o h a : List ℕ) → Named (checkWith points short C q o h a)
+with-named : (points : List ℤ) (short : Bool) (C : Counts) (m : MeshRows) → Named (checkWith points short C m)
 unfolding checkWith
-with-named points short C q o h a = mesh-named _ _ _ _ _
+with-named points short C m = mesh-named _ _ _ _ _
 
-start-named : (points : List ℤ) (short : Bool) (C : Counts) (q : List ℤ) (o h a : List ℕ) (cx cy : Float)
-    → Named (locate.checkStart points short C q o h a cx cy)
+start-named : (points : List ℤ) (short : Bool) (C : Counts) (m : MeshRows) (center : Point2)
+    → Named (locate.checkStart points short C m center)
 unfolding locate.checkStart locate.checkRing
-start-named points short C q o h a cx cy =
-    named-then (with-named points short C q o h a)
-    (named-cond (refusesCenter C (linksOf o h a) (positionOf q) cx cy) 6 0 (omega arith)
-    (named-cond (refusesRing C (linksOf o h a) (positionOf q) cx cy) 7 0 (omega arith) accepts))
+start-named points short C m center =
+    named-then (with-named points short C m)
+    (named-cond (refusesCenter C (linksIn m) (placesIn m) (center .x) (center .y)) 6 0 (omega arith)
+    (named-cond (refusesRing C (linksIn m) (placesIn m) (center .x) (center .y)) 7 0 (omega arith) accepts))
 
-sweep-named : (points : List ℤ) (short : Bool) (C : Counts) (q : List ℤ) (o h a : List ℕ)
-    (nodes freed buckets pending : ℕ) (cx cy : Float)
-    → Named (sweepChecked points short C q o h a nodes freed buckets pending cx cy)
+sweep-named : (points : List ℤ) (short : Bool) (C : Counts) (m : MeshRows) (nodes freed buckets pending : ℕ) (center : Point2)
+    → Named (sweepChecked points short C m nodes freed buckets pending center)
 unfolding sweepChecked
-sweep-named points short C q o h a nodes freed buckets pending cx cy = start-named points _ C q o h a cx cy
+sweep-named points short C m nodes freed buckets pending center = start-named points _ C m center
 
 angle-named : (x : Float) → Named (locate.checkAngle x)
 unfolding locate.checkAngle
@@ -104,61 +104,55 @@ full-stepped true place t x e =
 full-stepped false place t x e = absurd (let z : _≡_ {A = ℕ} 0 1 = cc in omega arith)
 
 -- ---- the five calls
-pub check-named : (C : Counts) (q : List ℤ) (o h a : List ℕ) → Named (checkOf C q o h a)
+pub check-named : (C : Counts) (m : MeshRows) → Named (checkOf C m)
 unfolding checkOf
-check-named C q o h a = mesh-named _ _ _ _ _
+check-named C m = mesh-named _ _ _ _ _
 
-pub locate-named : (C : Counts) (q : List ℤ) (o h a : List ℕ) (nodes : Nodes) (freed buckets : List ℕ) (cx cy angle : Float)
-    (x : Refusal)
-    → locate.locateOf C q o h a nodes freed buckets cx cy angle .answer ≡ Located.Refused x → 0 < x .number
-unfolding locate.locateOf locate.outcomeOf
-locate-named C q o h a nodes freed buckets cx cy angle x e =
-    by _ (named-then (start-named [] _ C q o h a cx cy) (angle-named angle)) _ e
+pub locate-named : (C : Counts) (m : MeshRows) (ring : RingRows) (center : Point2) (angle : Float) (x : Refusal)
+    → locate.locateOf C m ring center angle .answer ≡ Located.Refused x → 0 < x .number
+unfolding locate.locateOf locate.locateOutcome
+locate-named C m ring center angle x e = by _ (named-then (start-named [] _ C m center) (angle-named angle)) _ e
   where
-    by : (c : Checked) → Named c → (p : Place)
-        → locate.outcomeOf c p nodes freed buckets .answer ≡ Located.Refused x → 0 < x .number
+    by : (c : Checked) → Named c → (p : Place) → locate.locateOutcome c p ring .answer ≡ Located.Refused x → 0 < x .number
     by Checked.Accepted g p z = absurd (let w : _≡_ {A = ℕ} 0 1 = cc in omega arith)
     by (Checked.Refused y) g p z = let w : y ≡ x = cc in subst (λ (r : Refusal). 0 < r .number) w (named-at g)
 
-pub step-named : (C : Counts) (q : List ℤ) (o h a : List ℕ) (nodes : Nodes) (freed buckets pending : List ℕ) (cx cy : Float)
-    (v : Point) (x : Refusal)
-    → step.stepOf C q o h a nodes freed buckets pending cx cy v .answer .stepped ≡ Stepped.Refused x → 0 < x .number
-unfolding step.stepOf step.stepChecked step.outcomeOf step.answerFrom
-step-named C q o h a nodes freed buckets pending cx cy v x e =
-    by _ (sweep-named (step.pointRow v) false C q o h a _ _ _ _ cx cy) _ e
+pub step-named : (C : Counts) (m : MeshRows) (ring : RingRows) (pending : List ℕ) (center : Point2) (v : Point) (x : Refusal)
+    → step.stepOf C m ring pending center v .answer .stepped ≡ Stepped.Refused x → 0 < x .number
+unfolding step.stepOf step.stepChecked step.stepOutcome step.answerFrom
+step-named C m ring pending center v x e = by _ (sweep-named (step.pointRow v) false C m _ _ _ _ center) _ e
   where
     by : (c : Checked) → Named c → (s : Stepping)
-        → step.outcomeOf C q o h a nodes freed buckets pending c s .answer .stepped ≡ Stepped.Refused x → 0 < x .number
+        → step.stepOutcome C m ring pending c s .answer .stepped ≡ Stepped.Refused x → 0 < x .number
     by Checked.Accepted g s z = full-stepped (s .mesh .full) 0 _ x z
     by (Checked.Refused y) g s z = let w : y ≡ x = cc in subst (λ (r : Refusal). 0 < r .number) w (named-at g)
 
-pub finish-named : (C : Counts) (q : List ℤ) (o h a pending : List ℕ) (x : Refusal)
-    → finish.finishOf C q o h a pending .answer .finished ≡ Finished.Refused x → 0 < x .number
-unfolding finish.finishOf finish.seedChecked finish.outcomeOf finish.finishedFrom
-finish-named C q o h a pending x e = by _ (with-named [] _ C q o h a) _ e
+pub finish-named : (C : Counts) (m : MeshRows) (pending : List ℕ) (x : Refusal)
+    → finish.finishOf C m pending .answer .finished ≡ Finished.Refused x → 0 < x .number
+unfolding finish.finishOf finish.seedChecked finish.finishOutcome finish.finishedFrom
+finish-named C m pending x e = by _ (with-named [] _ C m) _ e
   where
-    by : (c : Checked) → Named c → (m : finish.Finishing)
-        → finish.outcomeOf C o h a pending c m .answer .finished ≡ Finished.Refused x → 0 < x .number
-    by Checked.Accepted g m z = full-finished (m .full) 0 _ x z
-    by (Checked.Refused y) g m z = let w : y ≡ x = cc in subst (λ (r : Refusal). 0 < r .number) w (named-at g)
+    by : (c : Checked) → Named c → (f : finish.Finishing)
+        → finish.finishOutcome C m pending c f .answer .finished ≡ Finished.Refused x → 0 < x .number
+    by Checked.Accepted g f z = full-finished (f .full) 0 _ x z
+    by (Checked.Refused y) g f z = let w : y ≡ x = cc in subst (λ (r : Refusal). 0 < r .number) w (named-at g)
 
-pub run-named : (l : run.Lent) (x : Refusal) → run.runOf l .answer .finished ≡ Finished.Refused x → 0 < x .number
-unfolding run.runOf run.runChecked run.outcomeOf finish.finishedFrom
-run-named l x e =
-    by _ (sweep-named (l .points) _ (l .counts) (l .positions) (l .outs) (l .halves) (l .faces) _ _ _ _ (l .centerx) (l .centery)) e
+pub run-named : (l : run.RunLent) (x : Refusal) → run.runOf l .answer .finished ≡ Finished.Refused x → 0 < x .number
+unfolding run.runOf run.runChecked run.runOutcome finish.finishedFrom
+run-named l x e = by _ (sweep-named (l .points) _ (l .counts) (l .mesh) _ _ _ _ (l .center)) e
   where
-    by : (c : Checked) → Named c → run.outcomeOf l c .answer .finished ≡ Finished.Refused x → 0 < x .number
-    by Checked.Accepted g z = full-finished (run.finishOf l .full) _ _ x z
+    by : (c : Checked) → Named c → run.runOutcome l c .answer .finished ≡ Finished.Refused x → 0 < x .number
+    by Checked.Accepted g z = full-finished (run.runFinish l .full) _ _ x z
     by (Checked.Refused y) g z = let w : y ≡ x = cc in subst (λ (r : Refusal). 0 < r .number) w (named-at g)
 
 -- ---- demand 3, of a run's result
-module _ (l : run.Lent) (r : FinishResult) (e : r ≡ finishResult (run.runOf l .answer)) (z : r .refusal ≡ 0) where
-  pub accepted-run : Demand3 l (run.runOf l) (totals r)
+module _ (l : run.RunLent) (r : FinishResult) (e : r ≡ finishResult (run.runOf l .answer)) (z : r .refusal ≡ 0) where
+  pub accepted-run : Demand3 l (run.runOf l) (reported r)
   accepted-run = by (run.runOf l .answer .finished) refl
     where
-      by : (f : Finished) → run.runOf l .answer .finished ≡ f → Demand3 l (run.runOf l) (totals r)
+      by : (f : Finished) → run.runOf l .answer .finished ≡ f → Demand3 l (run.runOf l) (reported r)
       by (Finished.Accepted t) k =
-          let same : totals r ≡ t = ap totals e ∙ ap (λ (y : Finished). totals (finishedResult (run.runOf l .answer .counts) y)) k in
+          let same : reported r ≡ t = ap reported e ∙ ap (λ (y : Finished). reported (finishedResult (run.runOf l .answer .counts) y)) k in
           subst (λ (u : Totals). Demand3 l (run.runOf l) u) (sym same) (run-accepted l t k .0)
       by (Finished.Refused x) k =
           let same = ap (λ (y : Finished). finishedResult (run.runOf l .answer .counts) y .refusal) k in
