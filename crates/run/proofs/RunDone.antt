@@ -7,7 +7,6 @@ use native.Mathlib.Decide.{decLt}
 use native.Mathlib.Omega.{arith}
 use borrow.Author.Tests.{lt-ltb, le-ltb, le-leb, lt-leb, ltb-false}
 use lib.Dec.{ltb, leb}
-use lib.Ieee.{Float}
 use lib.IntN.{ℤ}
 use lib.ListN.{length, getD, replicate}
 use Rattle.convexity.specs.ConvexityRows.{MeshReady}
@@ -17,7 +16,6 @@ use Rattle.dcel.specs.Views.{from-entries, mesh-rows-from}
 use Rattle.finish.specs.declared.Ended.{Ended}
 use Rattle.finish.specs.declared.FinishAnswer.{FinishAnswer}
 use Rattle.finish.specs.declared.Finished.{Finished}
-use Rattle.finish.specs.declared.Totals.{Totals}
 use Rattle.finish.specs.Finish.{Finishing, finishedFrom}
 use Rattle.finish.specs.FinishRows.{finishingOf}
 use Rattle.math.specs.declared.Point.{Point}
