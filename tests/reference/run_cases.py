@@ -522,8 +522,8 @@ def run_list():
     two = [(9, 9), (1, 8)]
     short = Case(check_cases.square(), (1.0, 1.0), two, short="answers")
     assert add_run(out, "the answers one number short", short)[:2] == (2, 0)
-    short.lengths["answers"] = 4 * len(two)
-    assert add_run(out, "four numbers for each answer", short)[:2] == (2, 0)
+    short.lengths["answers"] = 3 * len(two)
+    assert add_run(out, "three numbers for each answer", short)[:2] == (2, 0)
     beyond = Case(check_cases.square(), (1.0, 1.0), [(9, 9), (sweep.LIMIT + 1, 8)], short="answers")
     assert add_run(out, "the answers one number short, a point beyond", beyond)[:2] == (2, 0)
     for name, case, number in alone():

@@ -8,8 +8,8 @@ boundary at every step, because that is what the words say.
 
 Rows are Python lists, laid out as the proved code has them:
   positions x, y per vertex; outs one half-edge per vertex; halves next, prev, face, origin per
-  half-edge; stored one half-edge per face; answers fate, vertex, faces and the flips in two words of 64
-  bits, high then low, per point.
+  half-edge; stored one half-edge per face; answers fate, vertex, faces and flips per
+  point.
 Only the lengths of the ring's rows (nodes, freed, buckets) and of pending matter here.
 """
 
@@ -20,7 +20,7 @@ LIMIT = 16777216
 MOST_VERTICES = 1000000
 LEAST_PENDING = 8
 NEXT, PREV, FACE, ORIGIN = 0, 1, 2, 3
-WORDS = 5  # of an answer in the answers row
+WORDS = 4  # of an answer in the answers row
 
 
 class Refusal(Exception):
@@ -832,16 +832,9 @@ def finish(mesh, lent):
     return answer
 
 
-def words_of(answer):
-    """An answer in the answers row."""
-    fate, vertex, faces, flips = answer
-    return [fate, vertex, faces, flips >> 64, flips % 2 ** 64]
-
-
 def answer_at(row, i):
     """The answer of point i, back from the row."""
-    fate, vertex, faces, high, low = row[WORDS * i:WORDS * i + WORDS]
-    return (fate, vertex, faces, (high << 64) + low)
+    return tuple(row[WORDS * i:WORDS * i + WORDS])
 
 
 def run(mesh, lent, centre, points):
@@ -856,7 +849,7 @@ def run(mesh, lent, centre, points):
     try:
         for i, point in enumerate(points):
             answer = one_step(mesh, point, centre, capacity)
-            lent.answers[WORDS * i:WORDS * i + WORDS] = words_of(answer)
+            lent.answers[WORDS * i:WORDS * i + WORDS] = answer
             done = i + 1
         answer = (0, 0) + finishing(mesh, capacity)
     except PendingFull:
