@@ -65,7 +65,7 @@ def examples():
     """Rare cases, each at its smallest."""
     tri = sweep.seed_triangle
     _, lent, answer = run_of(tri([(0, 0), (0, -1), (1, 1)], 3), (1.0, -1.0), [(-2, -1)])
-    assert answer[0] == 0 and lent.answers == [4, 0, 0, 0, 0], "fate 4"
+    assert answer[0] == 0 and lent.answers == [4, 0, 0, 0], "fate 4"
 
     mesh, lent, answer = run_of(tri([(-6, 4), (0, -6), (6, 4)], 3), (6.0, -5.0),
                                 [(6, 0), (12, -2), (6, 4)])

@@ -1,117 +1,42 @@
--- What an exported call leaves: its result and every row that it may write are those of an outcome that the library's definitions give.
--- `..-leaves` takes a library call's own contract to that. Assumes nothing.
+-- From a library call's contract to that of its export. The library's says that an outcome `x`, which a definition gives, is made of the
+-- call's answer `y` and the rows; the export's result `r` is `y` in numbers. So `r` is the answer of `x` in numbers, and the rows are those
+-- of `x`. Assumes nothing.
 use mathlib.Core.List.{List}
-use mathlib.Core.Path.{_≡_, ap, _∙_}
+use mathlib.Core.Path.{_≡_, refl, sym, _∙_, ap}
 use Prim.Native.Nat.{ℕ}
-use lib.IntN.{ℤ}
+use Rattle.dcel.specs.MeshRows.{MeshRows}
 use Rattle.finish.specs.declared.FinishAnswer.{FinishAnswer}
-use Rattle.finish.specs.Finish as finish
+use Rattle.finish.specs.Finish.{FinishOutcome, finishedWith}
 use Rattle.locate.specs.declared.Located.{Located}
-use Rattle.locate.specs.Locate as locate
-use Rattle.ring_rows.specs.declared.Node.{Node}
-use Rattle.sweep.specs.Run as run
+use Rattle.locate.specs.Locate.{LocateOutcome, locatedWith}
+use Rattle.ring_rows.specs.RingRows.{RingRows}
 use Rattle.sweep.specs.declared.StepAnswer.{StepAnswer}
-use Rattle.sweep.specs.StepCall as step
+use Rattle.sweep.specs.Run.{RunOutcome, ranWith}
+use Rattle.sweep.specs.StepCall.{StepOutcome, steppedWith}
 use Rattle.fithmoul.specs.declared.results.FinishResult.{FinishResult}
 use Rattle.fithmoul.specs.declared.results.LocateResult.{LocateResult}
 use Rattle.fithmoul.specs.declared.results.StepResult.{StepResult}
 use Rattle.fithmoul.specs.Results.{locateResult, stepResult, finishResult}
 
--- the row of ring nodes, as the contracts see it
-abbrev pub Nodes : Type 0
-Nodes = List Node
+-- for every type of answer, result and outcome
+exported : {A R X : Type 0} (answer : X → A) (make : A → X) → ((y : A) → answer (make y) ≡ y) → (number : A → R)
+    → {x : X} {y : A} {r : R} → make y ≡ x → r ≡ number y → (r ≡ number (answer x)) × (make (answer x) ≡ x)
+exported answer make same number {x} {y} e z =
+    let a : y ≡ answer x = sym (same y) ∙ ap answer e in
+    (z ∙ ap number a, ap make (sym a) ∙ e)
 
--- ---- locate
-pub record LocateLeaves (r : LocateResult) (n : Nodes) (f b : List ℕ) (x : locate.Outcome) : Type 0 where
-  pub result : r ≡ locateResult (x .answer)
-  pub nodes : n ≡ x .nodes
-  pub freed : f ≡ x .freed
-  pub buckets : b ≡ x .buckets
+pub locate-exported : {g : RingRows} {x : LocateOutcome} {y : Located} {r : LocateResult} → locatedWith y g ≡ x → r ≡ locateResult y
+    → (r ≡ locateResult (x .answer)) × (locatedWith (x .answer) g ≡ x)
+locate-exported {g} e z = exported (λ (x : LocateOutcome). x .answer) (λ (y : Located). locatedWith y g) (λ y. refl) locateResult e z
 
-pub locate-leaves : (y : Located) (n : Nodes) (f b : List ℕ) (x : locate.Outcome)
-    → _≡_ {A = locate.Outcome} (record { answer = y; nodes = n; freed = f; buckets = b }) x
-    → (r : LocateResult) → r ≡ locateResult y → LocateLeaves r n f b x
-locate-leaves y n f b x e r z = record {
-  result = z ∙ ap (λ (o : locate.Outcome). locateResult (o .answer)) e;
-  nodes = ap (λ (o : locate.Outcome). o .nodes) e;
-  freed = ap (λ (o : locate.Outcome). o .freed) e;
-  buckets = ap (λ (o : locate.Outcome). o .buckets) e;
-}
+pub step-exported : {m : MeshRows} {g : RingRows} {p : List ℕ} {x : StepOutcome} {y : StepAnswer} {r : StepResult}
+    → steppedWith y m g p ≡ x → r ≡ stepResult y → (r ≡ stepResult (x .answer)) × (steppedWith (x .answer) m g p ≡ x)
+step-exported {m} {g} {p} e z = exported (λ (x : StepOutcome). x .answer) (λ (y : StepAnswer). steppedWith y m g p) (λ y. refl) stepResult e z
 
--- ---- step
-pub record StepLeaves (r : StepResult) (p : List ℤ) (o h a : List ℕ)
-    (n : Nodes) (f b q : List ℕ) (x : step.Outcome) : Type 0 where
-  pub result : r ≡ stepResult (x .answer)
-  pub positions : p ≡ x .positions
-  pub outs : o ≡ x .outs
-  pub halves : h ≡ x .halves
-  pub adjacent : a ≡ x .faces
-  pub nodes : n ≡ x .nodes
-  pub freed : f ≡ x .freed
-  pub buckets : b ≡ x .buckets
-  pub pending : q ≡ x .pending
+pub finish-exported : {m : MeshRows} {p : List ℕ} {x : FinishOutcome} {y : FinishAnswer} {r : FinishResult}
+    → finishedWith y m p ≡ x → r ≡ finishResult y → (r ≡ finishResult (x .answer)) × (finishedWith (x .answer) m p ≡ x)
+finish-exported {m} {p} e z = exported (λ (x : FinishOutcome). x .answer) (λ (y : FinishAnswer). finishedWith y m p) (λ y. refl) finishResult e z
 
-pub step-leaves : (y : StepAnswer) (p : List ℤ) (o h a : List ℕ) (n : Nodes) (f b q : List ℕ) (x : step.Outcome)
-    → _≡_ {A = step.Outcome}
-    (record { answer = y; positions = p; outs = o; halves = h; faces = a; nodes = n; freed = f; buckets = b; pending = q }) x
-    → (r : StepResult) → r ≡ stepResult y → StepLeaves r p o h a n f b q x
-step-leaves y p o h a n f b q x e r z = record {
-  result = z ∙ ap (λ (w : step.Outcome). stepResult (w .answer)) e;
-  positions = ap (λ (w : step.Outcome). w .positions) e;
-  outs = ap (λ (w : step.Outcome). w .outs) e;
-  halves = ap (λ (w : step.Outcome). w .halves) e;
-  adjacent = ap (λ (w : step.Outcome). w .faces) e;
-  nodes = ap (λ (w : step.Outcome). w .nodes) e;
-  freed = ap (λ (w : step.Outcome). w .freed) e;
-  buckets = ap (λ (w : step.Outcome). w .buckets) e;
-  pending = ap (λ (w : step.Outcome). w .pending) e;
-}
-
--- ---- finish
-pub record FinishLeaves (r : FinishResult) (o h a q : List ℕ) (x : finish.Outcome) : Type 0 where
-  pub result : r ≡ finishResult (x .answer)
-  pub outs : o ≡ x .outs
-  pub halves : h ≡ x .halves
-  pub adjacent : a ≡ x .faces
-  pub pending : q ≡ x .pending
-
-pub finish-leaves : (y : FinishAnswer) (o h a q : List ℕ) (x : finish.Outcome)
-    → _≡_ {A = finish.Outcome} (record { answer = y; outs = o; halves = h; faces = a; pending = q }) x
-    → (r : FinishResult) → r ≡ finishResult y → FinishLeaves r o h a q x
-finish-leaves y o h a q x e r z = record {
-  result = z ∙ ap (λ (w : finish.Outcome). finishResult (w .answer)) e;
-  outs = ap (λ (w : finish.Outcome). w .outs) e;
-  halves = ap (λ (w : finish.Outcome). w .halves) e;
-  adjacent = ap (λ (w : finish.Outcome). w .faces) e;
-  pending = ap (λ (w : finish.Outcome). w .pending) e;
-}
-
--- ---- run
-pub record RunLeaves (r : FinishResult) (p : List ℤ) (o h a : List ℕ)
-    (n : Nodes) (f b q s : List ℕ) (x : run.Outcome) : Type 0 where
-  pub result : r ≡ finishResult (x .answer)
-  pub positions : p ≡ x .positions
-  pub outs : o ≡ x .outs
-  pub halves : h ≡ x .halves
-  pub adjacent : a ≡ x .faces
-  pub nodes : n ≡ x .nodes
-  pub freed : f ≡ x .freed
-  pub buckets : b ≡ x .buckets
-  pub pending : q ≡ x .pending
-  pub answers : s ≡ x .answers
-
-pub run-leaves : (y : FinishAnswer) (p : List ℤ) (o h a : List ℕ) (n : Nodes) (f b q s : List ℕ) (x : run.Outcome)
-    → run.outcome y p o h a n f b q s ≡ x
-    → (r : FinishResult) → r ≡ finishResult y → RunLeaves r p o h a n f b q s x
-run-leaves y p o h a n f b q s x e r z = record {
-  result = z ∙ ap (λ (w : run.Outcome). finishResult (w .answer)) e;
-  positions = ap (λ (w : run.Outcome). w .positions) e;
-  outs = ap (λ (w : run.Outcome). w .outs) e;
-  halves = ap (λ (w : run.Outcome). w .halves) e;
-  adjacent = ap (λ (w : run.Outcome). w .faces) e;
-  nodes = ap (λ (w : run.Outcome). w .nodes) e;
-  freed = ap (λ (w : run.Outcome). w .freed) e;
-  buckets = ap (λ (w : run.Outcome). w .buckets) e;
-  pending = ap (λ (w : run.Outcome). w .pending) e;
-  answers = ap (λ (w : run.Outcome). w .answers) e;
-}
+pub run-exported : {m : MeshRows} {g : RingRows} {p w : List ℕ} {x : RunOutcome} {y : FinishAnswer} {r : FinishResult}
+    → ranWith y m g p w ≡ x → r ≡ finishResult y → (r ≡ finishResult (x .answer)) × (ranWith (x .answer) m g p w ≡ x)
+run-exported {m} {g} {p} {w} e z = exported (λ (x : RunOutcome). x .answer) (λ (y : FinishAnswer). ranWith y m g p w) (λ y. refl) finishResult e z

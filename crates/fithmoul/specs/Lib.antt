@@ -1,3 +1,3 @@
 pub mod Results
-pub mod Leaves
+pub mod Exported
 pub mod Laws

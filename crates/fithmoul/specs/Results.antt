@@ -1,7 +1,9 @@
 -- The calls' answers as flat records of numbers, for C: `refusal` is 0 where the call is accepted, else a row of 01's table, with its
 -- place. What a refused call has no answer for is 0. Definitions only. `Laws`: no refusal has the number 0.
 use Prim.Native.Nat.{ℕ}
+use lib.Ieee.{Float}
 use lib.IntN.{ℤ}
+use Rattle.angle.specs.declared.Point2.{Point2}
 use Rattle.finish.specs.declared.FinishAnswer.{FinishAnswer}
 use Rattle.finish.specs.declared.Finished.{Finished}
 use Rattle.finish.specs.declared.Totals.{Totals}
@@ -22,6 +24,9 @@ use Rattle.fithmoul.specs.declared.results.FinishResult.{FinishResult}
 -- ---- what goes in as numbers
 abbrev pub counted : ℕ → ℕ → ℕ → Counts
 counted v e f = record { vertices = v; edges = e; faces = f }
+
+abbrev pub centerAt : Float → Float → Point2
+centerAt x y = record { x = x; y = y }
 
 abbrev pub pointAt : ℤ → ℤ → Point
 pointAt x y = record { x = x; y = y }
@@ -90,5 +95,5 @@ abbrev pub finishResult : FinishAnswer → FinishResult
 finishResult a = finishedResult (a .counts) (a .finished)
 
 -- the totals that an accepted finish or run reports
-abbrev pub totals : FinishResult → Totals
-totals r = record { faces = r .«faces_added»; convexflips = r .«convex_flips»; closingflips = r .«closing_flips» }
+abbrev pub reported : FinishResult → Totals
+reported r = record { faces = r .«faces_added»; convexflips = r .«convex_flips»; closingflips = r .«closing_flips» }

@@ -4,14 +4,16 @@
 // asked of the caller but that each row is there, as long as is said, that no row that is written overlaps another, and that doubles are
 // rounded to nearest and subnormal ones kept (docs/DECISIONS.md, "Who answers for what C cannot check?").
 ghost use mathlib.Core.Path.{_≡_};
-ghost use Rattle.finish.specs.Finish.{finishOf};
-ghost use Rattle.locate.specs.Locate.{locateOf};
+ghost use Rattle.dcel.specs.MeshRows.{meshRows};
+ghost use Rattle.finish.specs.Finish.{finishedWith, finishOf};
+ghost use Rattle.locate.specs.Locate.{locatedWith, locateOf};
 ghost use Rattle.mesh_check.specs.Check.{checkOf};
+ghost use Rattle.ring_rows.specs.RingRows.{ringRows};
 ghost use Rattle.sweep.specs.Demand3.{Demand3};
-ghost use Rattle.sweep.specs.Run.{lent, runOf};
-ghost use Rattle.sweep.specs.StepCall.{stepOf};
-ghost use Rattle.fithmoul.specs.Results.{counted, pointAt, checkResult, totals};
-ghost use Rattle.fithmoul.specs.Leaves.{LocateLeaves, StepLeaves, FinishLeaves, RunLeaves};
+ghost use Rattle.sweep.specs.Run.{runLent, ranWith, runOf};
+ghost use Rattle.sweep.specs.StepCall.{steppedWith, stepOf};
+ghost use Rattle.fithmoul.specs.Results.{counted, centerAt, pointAt, reported};
+ghost use Rattle.fithmoul.specs.Results.{checkResult, locateResult, stepResult, finishResult};
 use angle::Point2;
 use math::Point;
 use mesh::Counts;
@@ -36,7 +38,7 @@ pub extern "C" fn fithmoul_check(
     adjacent: &[u32],
 ) -> CheckResult
     ensures { λ r. ⌜ r ≡ checkResult (checkOf (counted vertices edges faces)
-        (now (positions .entry)) (now (outs .entry)) (now (halves .entry)) (now (adjacent .entry))) ⌝ }
+        (meshRows (now (positions .entry)) (now (outs .entry)) (now (halves .entry)) (now (adjacent .entry)))) ⌝ }
 {
     let counts = Counts {
         vertices: vertices,
@@ -63,10 +65,11 @@ pub extern "C" fn fithmoul_locate(
     center_y: f64,
     angle: f64,
 ) -> LocateResult
-    ensures { λ r. ⌜ LocateLeaves r (now (nodes .exit)) (now (freed .exit)) (now (buckets .exit))
-        (locateOf (counted vertices edges faces)
-        (now (positions .entry)) (now (outs .entry)) (now (halves .entry)) (now (adjacent .entry))
-        (now (nodes .entry)) (now (freed .entry)) (now (buckets .entry)) «center_x» «center_y» angle) ⌝ }
+    ensures { λ r. ⌜ (let w = locateOf (counted vertices edges faces)
+        (meshRows (now (positions .entry)) (now (outs .entry)) (now (halves .entry)) (now (adjacent .entry)))
+        (ringRows (now (nodes .entry)) (now (freed .entry)) (now (buckets .entry))) (centerAt «center_x» «center_y») angle in
+        (r ≡ locateResult (w .answer))
+        × (locatedWith (w .answer) (ringRows (now (nodes .exit)) (now (freed .exit)) (now (buckets .exit))) ≡ w)) ⌝ }
 {
     let counts = Counts {
         vertices: vertices,
@@ -111,12 +114,13 @@ pub extern "C" fn fithmoul_step(
     x: i32,
     y: i32,
 ) -> StepResult
-    ensures { λ r. ⌜ StepLeaves r (now (positions .exit)) (now (outs .exit)) (now (halves .exit)) (now (adjacent .exit))
-        (now (nodes .exit)) (now (freed .exit)) (now (buckets .exit)) (now (pending .exit))
-        (stepOf (counted vertices edges faces)
-        (now (positions .entry)) (now (outs .entry)) (now (halves .entry)) (now (adjacent .entry))
-        (now (nodes .entry)) (now (freed .entry)) (now (buckets .entry)) (now (pending .entry))
-        «center_x» «center_y» (pointAt x y)) ⌝ }
+    ensures { λ r. ⌜ (let w = stepOf (counted vertices edges faces)
+        (meshRows (now (positions .entry)) (now (outs .entry)) (now (halves .entry)) (now (adjacent .entry)))
+        (ringRows (now (nodes .entry)) (now (freed .entry)) (now (buckets .entry))) (now (pending .entry))
+        (centerAt «center_x» «center_y») (pointAt x y) in
+        (r ≡ stepResult (w .answer))
+        × (steppedWith (w .answer) (meshRows (now (positions .exit)) (now (outs .exit)) (now (halves .exit)) (now (adjacent .exit)))
+        (ringRows (now (nodes .exit)) (now (freed .exit)) (now (buckets .exit))) (now (pending .exit)) ≡ w)) ⌝ }
 {
     let counts = Counts {
         vertices: vertices,
@@ -156,9 +160,11 @@ pub extern "C" fn fithmoul_finish(
     adjacent: &mut [u32],
     pending: &mut [u32],
 ) -> FinishResult
-    ensures { λ r. ⌜ FinishLeaves r (now (outs .exit)) (now (halves .exit)) (now (adjacent .exit)) (now (pending .exit))
-        (finishOf (counted vertices edges faces)
-        (now (positions .entry)) (now (outs .entry)) (now (halves .entry)) (now (adjacent .entry)) (now (pending .entry))) ⌝ }
+    ensures { λ r. ⌜ (let w = finishOf (counted vertices edges faces)
+        (meshRows (now (positions .entry)) (now (outs .entry)) (now (halves .entry)) (now (adjacent .entry))) (now (pending .entry)) in
+        (r ≡ finishResult (w .answer))
+        × (finishedWith (w .answer) (meshRows (now (positions .entry)) (now (outs .exit)) (now (halves .exit)) (now (adjacent .exit)))
+        (now (pending .exit)) ≡ w)) ⌝ }
 {
     let counts = Counts {
         vertices: vertices,
@@ -188,16 +194,14 @@ pub extern "C" fn fithmoul_run(
     center_y: f64,
     points: &[i32],
 ) -> FinishResult
-    ensures is { λ r. ⌜ RunLeaves r (now (positions .exit)) (now (outs .exit)) (now (halves .exit)) (now (adjacent .exit))
-        (now (nodes .exit)) (now (freed .exit)) (now (buckets .exit)) (now (pending .exit)) (now (answers .exit))
-        (runOf (lent (counted vertices edges faces)
-        (now (positions .entry)) (now (outs .entry)) (now (halves .entry)) (now (adjacent .entry))
-        (now (nodes .entry)) (now (freed .entry)) (now (buckets .entry)) (now (pending .entry)) (now (answers .entry))
-        «center_x» «center_y» (now (points .entry)))) ⌝ }
-    ensures demand3 { λ r. ⌜ (r .refusal ≡ 0 → let l = lent (counted vertices edges faces)
-        (now (positions .entry)) (now (outs .entry)) (now (halves .entry)) (now (adjacent .entry))
-        (now (nodes .entry)) (now (freed .entry)) (now (buckets .entry)) (now (pending .entry)) (now (answers .entry))
-        «center_x» «center_y» (now (points .entry)) in Demand3 l (runOf l) (totals r)) ⌝ }
+    ensures { λ r. ⌜ (let l = runLent (counted vertices edges faces)
+        (meshRows (now (positions .entry)) (now (outs .entry)) (now (halves .entry)) (now (adjacent .entry)))
+        (ringRows (now (nodes .entry)) (now (freed .entry)) (now (buckets .entry))) (now (pending .entry)) (now (answers .entry))
+        (centerAt «center_x» «center_y») (now (points .entry)) in let w = runOf l in
+        (r ≡ finishResult (w .answer))
+        × (ranWith (w .answer) (meshRows (now (positions .exit)) (now (outs .exit)) (now (halves .exit)) (now (adjacent .exit)))
+        (ringRows (now (nodes .exit)) (now (freed .exit)) (now (buckets .exit))) (now (pending .exit)) (now (answers .exit)) ≡ w)
+        × (r .refusal ≡ 0 → Demand3 l w (reported r))) ⌝ }
 {
     let counts = Counts {
         vertices: vertices,

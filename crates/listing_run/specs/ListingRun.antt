@@ -8,7 +8,8 @@ use lib.IntN.{ℤ, pos}
 use lib.ListN.{getD, take, drop, replicate}
 use lib.Seq.{sets}
 use Rattle.ring_rows.specs.Rows.{zeroNode}
-use Rattle.dcel.specs.Rows.{linksOf, positionOf}
+use Rattle.ring_rows.specs.RingRows.{ringRows}
+use Rattle.dcel.specs.MeshRows.{MeshRows, meshRows, linksIn, placesIn}
 use Rattle.finish.specs.declared.Finished.{Finished}
 use Rattle.finish.specs.declared.Totals.{Totals}
 use Rattle.listing_text.specs.declared.writing.PointLine.{PointLine}
@@ -18,7 +19,7 @@ use Rattle.listing_text.specs.Reading.{Reading, malformed, numbers, readOf}
 use Rattle.mesh.specs.declared.Counts.{Counts}
 use Rattle.mesh.specs.Area.{areaTotal}
 use Rattle.mesh_check.specs.Check.{pointCount}
-use Rattle.sweep.specs.Run.{Lent, Outcome, lent, answerIn, runOf}
+use Rattle.sweep.specs.Run.{RunLent, RunOutcome, runLent, answerIn, runOf}
 
 -- ---- the seed: docs/DECISIONS.md, "How is the seed triangle linked?"
 abbrev pub seedCounts : Counts
@@ -45,17 +46,18 @@ seedFaces = 1 ∷ 0 ∷ []
 
 -- ---- what is lent for the numbers of a text: x0 y0 x1 y1 x2 y2, the centre's x y, and each point's
 -- the seed over the first entries of the mesh's rows, and a row of nodes for 400 vertices
-abbrev pub lentIn : List ℤ → List ℤ → List ℕ → List ℕ → List ℕ → List ℕ → List ℕ → List ℕ → List ℕ → Lent
-lentIn zs positions outs halves faces freed buckets pending answers =
-    lent seedCounts (sets positions 0 (take 6 zs)) (sets outs 0 seedOuts) (sets halves 0 seedHalves) (sets faces 0 seedFaces)
-    (replicate 401 zeroNode) freed buckets pending answers
-    (ofInt binary64 (getD zs 6 (pos 0))) (ofInt binary64 (getD zs 7 (pos 0))) (drop 8 zs)
+abbrev pub lentIn : List ℤ → MeshRows → List ℕ → List ℕ → List ℕ → List ℕ → RunLent
+lentIn zs m freed buckets pending answers =
+    runLent seedCounts
+    (meshRows (sets (m .positions) 0 (take 6 zs)) (sets (m .outs) 0 seedOuts) (sets (m .halves) 0 seedHalves) (sets (m .faces) 0 seedFaces))
+    (ringRows (replicate 401 zeroNode) freed buckets) pending answers
+    (record { x = ofInt binary64 (getD zs 6 (pos 0)); y = ofInt binary64 (getD zs 7 (pos 0)) }) (drop 8 zs)
 
 -- 01: "at most 400 vertices with the seed's; it lends 4,096 pending entries": every row has its size for 400 vertices,
 -- and holds zeros but for the seed
-unfoldable pub lentOf : List ℤ → Lent
+unfoldable pub lentOf : List ℤ → RunLent
 lentOf zs =
-    lentIn zs (replicate 800 (pos 0)) (replicate 400 0) (replicate 9600 0) (replicate 800 0)
+    lentIn zs (meshRows (replicate 800 (pos 0)) (replicate 400 0) (replicate 9600 0) (replicate 800 0))
     (replicate 401 0) (replicate 400 0) (replicate 4096 0) (replicate 1588 0)
 
 -- ---- what is printed
@@ -87,19 +89,19 @@ totalsOf C area t = record {
 }
 
 -- the doubled area is the inner faces', in total; by demand 3 it is the boundary's too
-unfoldable pub finishedListing : ℕ → Outcome → Finished → List ℕ
+unfoldable pub finishedListing : ℕ → RunOutcome → Finished → List ℕ
 -- 01: "A refusal prints `r number place` alone"
 finishedListing count r (Finished.Refused x) = refusalLine (x .number) (x .place)
 finishedListing count r (Finished.Accepted t) =
     pointLines (r .answers) count
     ++ totalsLine (totalsOf (r .answer .counts)
-    (areaTotal (r .answer .counts) (linksOf (r .outs) (r .halves) (r .faces)) (positionOf (r .positions))) t)
+    (areaTotal (r .answer .counts) (linksIn (r .mesh)) (placesIn (r .mesh))) t)
 
 -- of a run with so many points
-abbrev pub outcomeListing : ℕ → Outcome → List ℕ
+abbrev pub outcomeListing : ℕ → RunOutcome → List ℕ
 outcomeListing count r = finishedListing count r (r .answer .finished)
 
-abbrev pub lentListing : Lent → List ℕ
+abbrev pub lentListing : RunLent → List ℕ
 lentListing l = outcomeListing (pointCount (l .points)) (runOf l)
 
 abbrev pub numbersListing : List ℤ → List ℕ

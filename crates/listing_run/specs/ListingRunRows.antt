@@ -4,16 +4,18 @@ use mathlib.Core.Path.{_≡_}
 use Prim.Native.Nat.{ℕ, _*_, _≤_}
 use lib.IntN.{ℤ}
 use lib.ListN.{length}
+use Rattle.dcel.specs.MeshRows.{MeshRows}
 use Rattle.finish.specs.declared.FinishAnswer.{FinishAnswer}
 use Rattle.mesh.specs.declared.Counts.{Counts}
 use Rattle.mesh_check.specs.Readable.{Readable}
 use Rattle.ring_rows.specs.declared.Node.{Node}
-use Rattle.sweep.specs.Run.{Lent, outcome, answerWords, runOf}
+use Rattle.ring_rows.specs.RingRows.{ringRows}
+use Rattle.sweep.specs.Run.{RunLent, ranWith, answerWords, runOf}
 
--- what a run of l leaves, its row of nodes left open
-pub record RunLeaves (l : Lent) (r : FinishAnswer) (q : List ℤ) (o h a freed buckets pending answers : List ℕ) : Type 0 where
+-- a run of l has answered r and left these rows; its row of nodes is its own, and left open
+pub record RanWithOwnNodes (l : RunLent) (r : FinishAnswer) (m : MeshRows) (freed buckets pending answers : List ℕ) : Type 0 where
   pub nodes : List Node
-  pub is : outcome r q o h a nodes freed buckets pending answers ≡ runOf l
+  pub is : ranWith r m (ringRows nodes freed buckets) pending answers ≡ runOf l
 
 -- the corners of every face can be read, and there are so few faces that their doubled areas add up within 64 bits
 pub record Summable (C : Counts) (q : List ℤ) (h a : List ℕ) : Type 0 where

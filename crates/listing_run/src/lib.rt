@@ -4,6 +4,7 @@ ghost use mathlib.Core.List.{List, _++_};
 ghost use Prim.Native.Nat.{ℕ, _+_, _*_, _≤_, _<_};
 ghost use lib.ListN.{length, take, replicate};
 ghost use lib.Seq.{sets};
+ghost use Rattle.dcel.specs.MeshRows.{meshRows};
 ghost use Rattle.dcel.specs.Rows.{linksOf, positionOf};
 ghost use Rattle.finish.specs.declared.Finished.{Finished};
 ghost use Rattle.finish.specs.declared.Totals.{Totals};
@@ -11,12 +12,12 @@ ghost use Rattle.listing_text.specs.Decimal.{Appended};
 ghost use Rattle.listing_text.specs.Listing.{pointLine, totalsLine};
 ghost use Rattle.mesh.specs.Area.{areaTotal};
 ghost use Rattle.mesh_check.specs.Check.{pointCount};
-ghost use Rattle.ring_rows.specs.declared.Node.{Node};
+ghost use Rattle.ring_rows.specs.RingRows.{RingRows, ringRows};
 ghost use Rattle.ring_rows.specs.Rows.{zeroNode};
-ghost use Rattle.sweep.specs.Run.{lent, outcome, answerWords};
+ghost use Rattle.sweep.specs.Run.{runLent, ranWith, answerWords};
 ghost use Rattle.listing_run.specs.ListingRun.{seedOuts, seedHalves, seedFaces, lentIn};
 ghost use Rattle.listing_run.specs.ListingRun.{answerLine, pointLines, totalsOf, outcomeListing, lentListing, numbersListing, listingOf};
-ghost use Rattle.listing_run.specs.ListingRunRows.{RunLeaves, Summable, Listable};
+ghost use Rattle.listing_run.specs.ListingRunRows.{RanWithOwnNodes, Summable, Listable};
 use angle::Point2;
 use finish::FinishAnswer;
 use finish::Finished;
@@ -158,13 +159,13 @@ fn list_answer(
 ) -> usize
     requires { ⌜ ((t : Totals) → answer .finished ≡ Finished.Accepted t
         → Listable (answer .counts) (now positions) (now halves) (now faces) (now answers) count) ⌝ }
-    ensures is { λ r. ⌜ ((o : List ℕ) (nodes : List Node) (freed buckets pending : List ℕ) → Appended (now (row .entry)) 0
-        (outcomeListing count (outcome answer (now (positions .entry)) o (now (halves .entry)) (now (faces .entry))
-        nodes freed buckets pending (now (answers .entry))))
+    ensures is { λ r. ⌜ ((o : List ℕ) (ring : RingRows) (pending : List ℕ) → Appended (now (row .entry)) 0
+        (outcomeListing count (ranWith answer (meshRows (now (positions .entry)) o (now (halves .entry)) (now (faces .entry)))
+        ring pending (now (answers .entry))))
         (now (row .exit)) r) ⌝ }
-    ensures short { λ r. ⌜ ((o : List ℕ) (nodes : List Node) (freed buckets pending : List ℕ) → length
-        (outcomeListing count (outcome answer (now (positions .entry)) o (now (halves .entry)) (now (faces .entry))
-        nodes freed buckets pending (now (answers .entry)))) ≤ 107 * count + 149) ⌝ }
+    ensures short { λ r. ⌜ ((o : List ℕ) (ring : RingRows) (pending : List ℕ) → length
+        (outcomeListing count (ranWith answer (meshRows (now (positions .entry)) o (now (halves .entry)) (now (faces .entry)))
+        ring pending (now (answers .entry)))) ≤ 107 * count + 149) ⌝ }
 {
     let counts = answer.counts;
     let finished = answer.finished;
@@ -217,11 +218,11 @@ fn run_lent(
     center: Point2,
     points: &[i32],
 ) -> FinishAnswer
-    ensures { λ r. ⌜ RunLeaves
-        (lent counts (now (positions .entry)) (now (outs .entry)) (now (halves .entry)) (now (faces .entry))
-        (replicate 401 zeroNode) (now (freed .entry)) (now (buckets .entry)) (now (pending .entry)) (now (answers .entry))
-        (center .x) (center .y) (now (points .entry)))
-        r (now (positions .exit)) (now (outs .exit)) (now (halves .exit)) (now (faces .exit))
+    ensures { λ r. ⌜ RanWithOwnNodes
+        (runLent counts (meshRows (now (positions .entry)) (now (outs .entry)) (now (halves .entry)) (now (faces .entry)))
+        (ringRows (replicate 401 zeroNode) (now (freed .entry)) (now (buckets .entry))) (now (pending .entry)) (now (answers .entry))
+        center (now (points .entry)))
+        r (meshRows (now (positions .exit)) (now (outs .exit)) (now (halves .exit)) (now (faces .exit)))
         (now (freed .exit)) (now (buckets .exit)) (now (pending .exit)) (now (answers .exit)) ⌝ }
 {
     let mut nodes = zero_nodes();
@@ -258,14 +259,16 @@ fn list_lent(
 ) -> usize
     requires { ⌜ counts .vertices + pointCount (now points) ≤ 400 ⌝ }
     ensures is { λ r. ⌜ Appended (now (row .entry)) 0
-        (lentListing (lent counts (now (positions .entry)) (now (outs .entry)) (now (halves .entry)) (now (faces .entry))
-        (replicate 401 zeroNode) (now (freed .entry)) (now (buckets .entry)) (now (pending .entry)) (now (answers .entry))
-        (center .x) (center .y) (now (points .entry))))
+        (lentListing (runLent counts
+        (meshRows (now (positions .entry)) (now (outs .entry)) (now (halves .entry)) (now (faces .entry)))
+        (ringRows (replicate 401 zeroNode) (now (freed .entry)) (now (buckets .entry))) (now (pending .entry)) (now (answers .entry))
+        center (now (points .entry))))
         (now (row .exit)) r ⌝ }
     ensures short { λ r. ⌜ length
-        (lentListing (lent counts (now (positions .entry)) (now (outs .entry)) (now (halves .entry)) (now (faces .entry))
-        (replicate 401 zeroNode) (now (freed .entry)) (now (buckets .entry)) (now (pending .entry)) (now (answers .entry))
-        (center .x) (center .y) (now (points .entry)))) ≤ 42949 ⌝ }
+        (lentListing (runLent counts
+        (meshRows (now (positions .entry)) (now (outs .entry)) (now (halves .entry)) (now (faces .entry)))
+        (ringRows (replicate 401 zeroNode) (now (freed .entry)) (now (buckets .entry))) (now (pending .entry)) (now (answers .entry))
+        center (now (points .entry)))) ≤ 42949 ⌝ }
 {
     let count = mesh_check::point_count(points);
     let answer = run_lent(
@@ -349,11 +352,13 @@ fn list_seed(
     requires { ⌜ (8 ≤ length (now numbers)) × (length (now numbers) ≤ 802) ⌝ }
     requires { ⌜ (6 ≤ length (now positions)) × (3 ≤ length (now outs)) × (24 ≤ length (now halves)) × (2 ≤ length (now faces)) ⌝ }
     ensures is { λ r. ⌜ Appended (now (row .entry)) 0
-        (lentListing (lentIn (now (numbers .entry)) (now (positions .entry)) (now (outs .entry)) (now (halves .entry)) (now (faces .entry))
+        (lentListing (lentIn (now (numbers .entry))
+        (meshRows (now (positions .entry)) (now (outs .entry)) (now (halves .entry)) (now (faces .entry)))
         (now (freed .entry)) (now (buckets .entry)) (now (pending .entry)) (now (answers .entry))))
         (now (row .exit)) r ⌝ }
     ensures short { λ r. ⌜ length
-        (lentListing (lentIn (now (numbers .entry)) (now (positions .entry)) (now (outs .entry)) (now (halves .entry)) (now (faces .entry))
+        (lentListing (lentIn (now (numbers .entry))
+        (meshRows (now (positions .entry)) (now (outs .entry)) (now (halves .entry)) (now (faces .entry)))
         (now (freed .entry)) (now (buckets .entry)) (now (pending .entry)) (now (answers .entry)))) ≤ 42949 ⌝ }
 {
     store_seed(numbers, positions, outs, halves, faces);

@@ -15,7 +15,6 @@ use Rattle.dcel.specs.Views.{from-entries, mesh-rows-from}
 use Rattle.finish.specs.declared.Ended.{Ended}
 use Rattle.finish.specs.declared.FinishAnswer.{FinishAnswer}
 use Rattle.finish.specs.declared.Finished.{Finished}
-use Rattle.finish.specs.declared.Totals.{Totals}
 use Rattle.finish.specs.Finish.{Finishing, finishedFrom}
 use Rattle.finish.specs.FinishRows.{finishingOf}
 use Rattle.mesh.specs.declared.Counts.{Counts}

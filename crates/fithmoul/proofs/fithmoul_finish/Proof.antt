@@ -1,5 +1,5 @@
 -- `fithmoul::fithmoul_finish` meets its contract. Assumes nothing.
-use Rattle.fithmoul.specs.Leaves.{finish-leaves}
+use Rattle.fithmoul.specs.Exported.{finish-exported}
 use borrow.Author.Needs.{needs}
 use Rattle.fithmoul.proofs.fithmoul_finish.Statement.{statement}
 use Rattle.fithmoul.proofs.fithmoul_finish.Tie as tie
@@ -25,7 +25,7 @@ same-length-4 c = search needs
 returns : tie.Need-returns
 returns c =
     let b = c .before .before .before .before .before .before .before .before .before in
-    finish-leaves _ _ _ _ _ _ (b .finish .ensures) _ (c .finish-result .ensures)
+    finish-exported (b .finish .ensures) (c .finish-result .ensures)
 
 pub fithmoul-finish-spec : {M : Type 1} → statement M
 fithmoul-finish-spec =

@@ -1,5 +1,5 @@
 -- `fithmoul::fithmoul_locate` meets its contract. Assumes nothing.
-use Rattle.fithmoul.specs.Leaves.{locate-leaves}
+use Rattle.fithmoul.specs.Exported.{locate-exported}
 use borrow.Author.Needs.{needs}
 use Rattle.fithmoul.proofs.fithmoul_locate.Statement.{statement}
 use Rattle.fithmoul.proofs.fithmoul_locate.Proof.Tie as tie
@@ -22,7 +22,8 @@ same-length-3 : tie.Need-same-length-3
 same-length-3 c = search needs
 
 returns : tie.Need-returns
-returns c = locate-leaves _ _ _ _ _ (c .before .before .before .before .before .before .locate .ensures) _ (c .locate-result .ensures)
+returns c =
+    locate-exported (c .before .before .before .before .before .before .locate .ensures) (c .locate-result .ensures)
 
 pub fithmoul-locate-spec : {M : Type 1} → statement M
 fithmoul-locate-spec =

@@ -1,6 +1,6 @@
 -- `fithmoul::fithmoul_run` meets its contract. Assumes nothing.
 use Rattle.fithmoul.specs.Laws.{accepted-run}
-use Rattle.fithmoul.specs.Leaves.{run-leaves}
+use Rattle.fithmoul.specs.Exported.{run-exported}
 use borrow.Author.Needs.{needs}
 use Rattle.fithmoul.proofs.fithmoul_run.Statement.{statement}
 use Rattle.fithmoul.proofs.fithmoul_run.Proof.Tie as tie
@@ -44,8 +44,8 @@ returns : tie.Need-returns
 returns c =
     let a = c .before .before .before .before .before .before .before .before .before in
     let b = a .before .before .before .before .before .before .before .before in
-    let left = run-leaves _ _ _ _ _ _ _ _ _ _ _ (b .run .ensures .0) _ (c .finish-result .ensures) in
-    (left, λ z. accepted-run _ _ (left .result) z)
+    let x = run-exported (b .run .ensures .is) (c .finish-result .ensures) in
+    (x .0, x .1, λ z. accepted-run _ _ (x .0) z)
 
 pub fithmoul-run-spec : {M : Type 1} → statement M
 fithmoul-run-spec =

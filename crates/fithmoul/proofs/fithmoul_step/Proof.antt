@@ -1,6 +1,6 @@
 -- `fithmoul::fithmoul_step` meets its contract. Assumes nothing.
 use mir.Facts.{toZ-ofZ}
-use Rattle.fithmoul.specs.Leaves.{step-leaves}
+use Rattle.fithmoul.specs.Exported.{step-exported}
 use borrow.Author.Needs.{needs}
 use Rattle.fithmoul.proofs.fithmoul_step.Statement.{statement}
 use Rattle.fithmoul.proofs.fithmoul_step.Proof.Tie as tie
@@ -43,7 +43,7 @@ returns c =
     let b = a .before .before .before .before .before .before .before in
     let d = b .before .before .before .before .before .before .before .before in
     let f = d .before .before .before .before .before .before .before .fits in
-    step-leaves _ _ _ _ _ _ _ _ _ _ (rw (toZ-ofZ (f .x), toZ-ofZ (f .y)) at (b .step .ensures)) _ (c .step-result .ensures)
+    step-exported (rw (toZ-ofZ (f .x), toZ-ofZ (f .y)) at (b .step .ensures)) (c .step-result .ensures)
 
 pub fithmoul-step-spec : {M : Type 1} → statement M
 fithmoul-step-spec =

@@ -29,13 +29,13 @@ same-length : tie.Need-same-length
 same-length c = search needs
 
 returns : tie.Need-returns
-returns c = (λ o n f b p. appended-as (listing-refused _ _ (c .before .before .before .before .before .before .before .finished .given .1)) (c .before .before .put-refusal .ensures), λ o n f b p. short-at (listing-refused _ _ (c .before .before .before .before .before .before .before .finished .given .1)) (refusal-short _ _ (omega arith) (omega arith) (omega arith)))
+returns c = (λ o g p. appended-as (listing-refused _ _ (c .before .before .before .before .before .before .before .finished .given .1)) (c .before .before .put-refusal .ensures), λ o g p. short-at (listing-refused _ _ (c .before .before .before .before .before .before .before .finished .given .1)) (refusal-short _ _ (omega arith) (omega arith) (omega arith)))
 
 same-length-2 : tie.Need-same-length-2
 same-length-2 c = search needs
 
 returns-2 : tie.Need-returns-2
-returns-2 c = (λ o n f b p. appended-as (listing-accepted _ _ (c .before .before .before .before .before .finished2 .given .1)) (c .before .before .list-accepted .ensures .0 o), λ o n f b p. short-at (listing-accepted _ _ (c .before .before .before .before .before .finished2 .given .1)) (c .before .before .list-accepted .ensures .1 o))
+returns-2 c = (λ o g p. appended-as (listing-accepted _ _ (c .before .before .before .before .before .finished2 .given .1)) (c .before .before .list-accepted .ensures .0 o), λ o g p. short-at (listing-accepted _ _ (c .before .before .before .before .before .finished2 .given .1)) (c .before .before .list-accepted .ensures .1 o))
 
 pub list-answer-spec : {M : Type 1} → statement M
 list-answer-spec =

@@ -1,6 +1,6 @@
 -- `listing_run::run_lent` meets its contract. Assumes nothing.
 use borrow.Author.Needs.{needs}
-use Rattle.listing_run.proofs.Runs.{run-leaves}
+use Rattle.listing_run.proofs.Runs.{ran-with-own}
 use Rattle.listing_run.proofs.run_lent.Statement.{statement}
 use Rattle.listing_run.proofs.run_lent.Proof.Tie as tie
 mod Lts
@@ -40,7 +40,7 @@ same-length-8 : tie.Need-same-length-8
 same-length-8 c = search needs
 
 returns : tie.Need-returns
-returns c = run-leaves (c .before .before .before .before .before .before .before .before .before .before .before .before .before .before .before .before .run .ensures .0) (c .before .before .before .before .before .before .before .before .before .before .before .before .before .before .before .before .before .before .before .before .before .before .before .before .before .before .zero-nodes .ensures)
+returns c = ran-with-own (c .before .before .before .before .before .before .before .before .before .before .before .before .before .before .before .before .run .ensures .is) (c .before .before .before .before .before .before .before .before .before .before .before .before .before .before .before .before .before .before .before .before .before .before .before .before .before .before .zero-nodes .ensures)
 
 pub run-lent-spec : {M : Type 1} → statement M
 run-lent-spec = tie.close (tie.spec zero-nodes-requires slice-aggregate-run run-requires same-length same-length-2 same-length-3 same-length-4 same-length-5 same-length-6 same-length-7 same-length-8 returns)
