@@ -7,7 +7,7 @@ ghost use lib.ListN.{length};
 // No list is as long as this.
 const LIST: usize = 1048576;
 
-// No listing is: `listing_run::list` says that it has at most 50,587 bytes.
+// No listing is: `listing_run::list` says that it has at most 42,949 bytes.
 const ROW: usize = 65536;
 
 // Where a text of the list begins and ends. One that is not whole has no bytes.
