@@ -6,7 +6,6 @@ use Rattle.sweep.specs.Run.{sweepPoint, sweepAfter, finishAfter, answerWord, an
 use Rattle.sweep.specs.Step.{isAdded, leftAlone, addedAt, appliedBy, applied, stepMesh}
 use Rattle.start.specs.Start.{sweepRowsShort, sweepChecked}
 use Rattle.decide.specs.Decide.{fateNumber, fateVertex, isCoordinate, isPosition, atEnd, fateAt, ifAdded, decidedAt, decided}
-use Rattle.ring.specs.Chain.{beside, covers}
 use Rattle.apply.specs.Apply.{firstFace, walkEnds, walk, addVertex}
 use Rattle.convexity.specs.Convexity.{turnsLeftAt, lastTurnsLeft, closeCorners}
 use Rattle.convexity.specs.Convexity.{passTurn, isSecond, fixConvexity, passAgain, convexity}
@@ -48,7 +47,7 @@ unfolding sweepPoint sweepAfter finishAfter answerWord answersAfter runChecked r
     isAdded leftAlone addedAt appliedBy applied stepMesh
     sweepRowsShort sweepChecked
     fateNumber fateVertex isCoordinate isPosition atEnd fateAt ifAdded decidedAt decided
-    firstFace beside covers walkEnds walk addVertex
+    firstFace walkEnds walk addVertex
     turnsLeftAt lastTurnsLeft closeCorners passTurn isSecond fixConvexity passAgain convexity
     closeEdge closeBelow closeTurn closingPass
     closeAfter finishMesh totalsFrom finishedFrom
