@@ -173,7 +173,7 @@ abbrev ty·25 : Syntax.Ty
 ty·25 = Syntax.tyStruct (List._∷_ 116 (List._∷_ 101 (List._∷_ 115 (List._∷_ 116 (List._∷_ 95 (List._∷_ 109 (List._∷_ 101 (List._∷_ 115 (List._∷_ 104 (List._∷_ 58 (List._∷_ 58 (List._∷_ 67 (List._∷_ 111 (List._∷_ 111 (List._∷_ 114 (List._∷_ 100 (List._∷_ 105 (List._∷_ 110 (List._∷_ 97 (List._∷_ 116 (List._∷_ 101 (List._∷_ 115 List.[])))))))))))))))))))))) (Syntax.tcons ty·3 (Syntax.tcons ty·1 Syntax.tnil))
 
 abbrev ty·26 : Syntax.Ty
-ty·26 = Syntax.tyStruct (List._∷_ 102 (List._∷_ 105 (List._∷_ 116 (List._∷_ 104 (List._∷_ 109 (List._∷_ 111 (List._∷_ 117 (List._∷_ 108 (List._∷_ 58 (List._∷_ 58 (List._∷_ 114 (List._∷_ 101 (List._∷_ 115 (List._∷_ 117 (List._∷_ 108 (List._∷_ 116 (List._∷_ 115 (List._∷_ 58 (List._∷_ 58 (List._∷_ 70 (List._∷_ 105 (List._∷_ 110 (List._∷_ 105 (List._∷_ 115 (List._∷_ 104 (List._∷_ 82 (List._∷_ 101 (List._∷_ 115 (List._∷_ 117 (List._∷_ 108 (List._∷_ 116 List.[]))))))))))))))))))))))))))))))) (Syntax.tcons ty·0 (Syntax.tcons ty·0 (Syntax.tcons ty·0 (Syntax.tcons ty·0 (Syntax.tcons ty·0 (Syntax.tcons ty·0 (Syntax.tcons ty·1 (Syntax.tcons ty·1 (Syntax.tcons ty·1 (Syntax.tcons ty·1 Syntax.tnil))))))))))
+ty·26 = Syntax.tyStruct (List._∷_ 102 (List._∷_ 105 (List._∷_ 116 (List._∷_ 104 (List._∷_ 109 (List._∷_ 111 (List._∷_ 117 (List._∷_ 108 (List._∷_ 58 (List._∷_ 58 (List._∷_ 114 (List._∷_ 101 (List._∷_ 115 (List._∷_ 117 (List._∷_ 108 (List._∷_ 116 (List._∷_ 115 (List._∷_ 58 (List._∷_ 58 (List._∷_ 70 (List._∷_ 105 (List._∷_ 110 (List._∷_ 105 (List._∷_ 115 (List._∷_ 104 (List._∷_ 82 (List._∷_ 101 (List._∷_ 115 (List._∷_ 117 (List._∷_ 108 (List._∷_ 116 List.[]))))))))))))))))))))))))))))))) (Syntax.tcons ty·0 (Syntax.tcons ty·0 (Syntax.tcons ty·0 (Syntax.tcons ty·0 (Syntax.tcons ty·0 (Syntax.tcons ty·0 (Syntax.tcons ty·1 (Syntax.tcons ty·1 Syntax.tnil))))))))
 
 abbrev ty·27 : Syntax.Ty
 ty·27 = Syntax.tyStruct (List._∷_ 116 (List._∷_ 101 (List._∷_ 115 (List._∷_ 116 (List._∷_ 95 (List._∷_ 109 (List._∷_ 101 (List._∷_ 115 (List._∷_ 104 (List._∷_ 58 (List._∷_ 58 (List._∷_ 77 (List._∷_ 101 (List._∷_ 115 (List._∷_ 104 List.[]))))))))))))))) (Syntax.tcons ty·21 (Syntax.tcons ty·25 (Syntax.tcons ty·23 (Syntax.tcons ty·23 (Syntax.tcons ty·23 Syntax.tnil)))))

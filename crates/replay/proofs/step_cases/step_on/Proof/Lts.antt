@@ -149,7 +149,7 @@ abbrev ty·18 : Syntax.Ty
 ty·18 = Syntax.tyStruct (List._∷_ 116 (List._∷_ 101 (List._∷_ 115 (List._∷_ 116 (List._∷_ 95 (List._∷_ 109 (List._∷_ 101 (List._∷_ 115 (List._∷_ 104 (List._∷_ 58 (List._∷_ 58 (List._∷_ 67 (List._∷_ 111 (List._∷_ 111 (List._∷_ 114 (List._∷_ 100 (List._∷_ 105 (List._∷_ 110 (List._∷_ 97 (List._∷_ 116 (List._∷_ 101 (List._∷_ 115 List.[])))))))))))))))))))))) (Syntax.tcons ty·3 (Syntax.tcons ty·1 Syntax.tnil))
 
 abbrev ty·19 : Syntax.Ty
-ty·19 = Syntax.tyStruct (List._∷_ 102 (List._∷_ 105 (List._∷_ 116 (List._∷_ 104 (List._∷_ 109 (List._∷_ 111 (List._∷_ 117 (List._∷_ 108 (List._∷_ 58 (List._∷_ 58 (List._∷_ 114 (List._∷_ 101 (List._∷_ 115 (List._∷_ 117 (List._∷_ 108 (List._∷_ 116 (List._∷_ 115 (List._∷_ 58 (List._∷_ 58 (List._∷_ 80 (List._∷_ 111 (List._∷_ 105 (List._∷_ 110 (List._∷_ 116 (List._∷_ 65 (List._∷_ 110 (List._∷_ 115 (List._∷_ 119 (List._∷_ 101 (List._∷_ 114 List.[])))))))))))))))))))))))))))))) (Syntax.tcons ty·1 (Syntax.tcons ty·1 (Syntax.tcons ty·1 (Syntax.tcons ty·1 (Syntax.tcons ty·1 Syntax.tnil)))))
+ty·19 = Syntax.tyStruct (List._∷_ 102 (List._∷_ 105 (List._∷_ 116 (List._∷_ 104 (List._∷_ 109 (List._∷_ 111 (List._∷_ 117 (List._∷_ 108 (List._∷_ 58 (List._∷_ 58 (List._∷_ 114 (List._∷_ 101 (List._∷_ 115 (List._∷_ 117 (List._∷_ 108 (List._∷_ 116 (List._∷_ 115 (List._∷_ 58 (List._∷_ 58 (List._∷_ 80 (List._∷_ 111 (List._∷_ 105 (List._∷_ 110 (List._∷_ 116 (List._∷_ 65 (List._∷_ 110 (List._∷_ 115 (List._∷_ 119 (List._∷_ 101 (List._∷_ 114 List.[])))))))))))))))))))))))))))))) (Syntax.tcons ty·1 (Syntax.tcons ty·1 (Syntax.tcons ty·1 (Syntax.tcons ty·1 Syntax.tnil))))
 
 abbrev ty·20 : Syntax.Ty
 ty·20 = Syntax.tyStruct (List._∷_ 102 (List._∷_ 105 (List._∷_ 116 (List._∷_ 104 (List._∷_ 109 (List._∷_ 111 (List._∷_ 117 (List._∷_ 108 (List._∷_ 58 (List._∷_ 58 (List._∷_ 114 (List._∷_ 101 (List._∷_ 115 (List._∷_ 117 (List._∷_ 108 (List._∷_ 116 (List._∷_ 115 (List._∷_ 58 (List._∷_ 58 (List._∷_ 83 (List._∷_ 116 (List._∷_ 101 (List._∷_ 112 (List._∷_ 82 (List._∷_ 101 (List._∷_ 115 (List._∷_ 117 (List._∷_ 108 (List._∷_ 116 List.[]))))))))))))))))))))))))))))) (Syntax.tcons ty·0 (Syntax.tcons ty·0 (Syntax.tcons ty·0 (Syntax.tcons ty·0 (Syntax.tcons ty·0 (Syntax.tcons ty·19 Syntax.tnil))))))
