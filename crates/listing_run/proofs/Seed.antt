@@ -17,7 +17,8 @@ use Rattle.mesh_check.specs.Check.{pointCount}
 use Rattle.ring_rows.specs.Rows.{zeroNode}
 use Rattle.ring_rows.specs.RingRows.{ringRows}
 use Rattle.sweep.specs.Run.{runLent}
-use Rattle.listing_run.specs.ListingRun.{seedCounts, seedOuts, seedHalves, seedFaces, lentIn}
+use Rattle.sweep.specs.SeedTriangle.{seedCounts, seedOuts, seedHalves, seedFaces}
+use Rattle.listing_run.specs.ListingRun.{lentIn}
 
 module _ (zs : List ℤ) where
   pub rest-is : take (length zs - 8) (drop 8 zs) ≡ drop 8 zs

@@ -19,30 +19,8 @@ use Rattle.listing_text.specs.Reading.{Reading, malformed, numbers, readOf}
 use Rattle.mesh.specs.declared.Counts.{Counts}
 use Rattle.mesh.specs.Area.{areaTotal}
 use Rattle.mesh_check.specs.Check.{pointCount}
+use Rattle.sweep.specs.SeedTriangle.{seedCounts, seedOuts, seedHalves, seedFaces}
 use Rattle.sweep.specs.Run.{RunLent, RunOutcome, runLent, answerIn, runOf}
-
--- ---- the seed: docs/DECISIONS.md, "How is the seed triangle linked?"
-abbrev pub seedCounts : Counts
-seedCounts = record { vertices = 3; edges = 3; faces = 2 }
-
--- "out edges 0, 2, 4"
-unfoldable pub seedOuts : List ℕ
-seedOuts = 0 ∷ 2 ∷ 4 ∷ []
-
--- next, prev, face, origin of each. "Half-edges 0, 2, 4 are v0→v1, v1→v2, v2→v0 in face 1, the odd ones their reverses in face 0"
-unfoldable pub seedHalves : List ℕ
-seedHalves =
-    2 ∷ 4 ∷ 1 ∷ 0
-    ∷ 5 ∷ 3 ∷ 0 ∷ 1
-    ∷ 4 ∷ 0 ∷ 1 ∷ 1
-    ∷ 1 ∷ 5 ∷ 0 ∷ 2
-    ∷ 0 ∷ 2 ∷ 1 ∷ 2
-    ∷ 3 ∷ 1 ∷ 0 ∷ 0
-    ∷ []
-
--- "stored edges: face 0: 1, face 1: 0"
-unfoldable pub seedFaces : List ℕ
-seedFaces = 1 ∷ 0 ∷ []
 
 -- ---- what is lent for the numbers of a text: x0 y0 x1 y1 x2 y2, the centre's x y, and each point's
 -- the seed over the first entries of the mesh's rows, and a row of nodes for 400 vertices

@@ -3,6 +3,7 @@
 use mathlib.Core.Path.{refl}
 use lib.Ieee.{ofInt, neg, add, sub, mul, div, sum, round, units, odd, size, span, climb, lt}
 use Rattle.sweep.specs.Run.{sweepPoint, sweepAfter, finishAfter, answerWord, answersAfter, runChecked, runOutcome, runOf}
+use Rattle.sweep.specs.SeedTriangle.{seedOuts, seedHalves, seedFaces}
 use Rattle.sweep.specs.Step.{isAdded, leftAlone, addedAt, appliedBy, applied, stepMesh}
 use Rattle.start.specs.Start.{sweepRowsShort, sweepChecked}
 use Rattle.decide.specs.Decide.{fateNumber, fateVertex, isCoordinate, isPosition, atEnd, fateAt, ifAdded, decidedAt, decided}
@@ -43,7 +44,8 @@ use Rattle.marked.specs.Marked.{Marked}
 use Rattle.marked.specs.NoPoints.{no-points}
 
 pub marked : Marked
-unfolding sweepPoint sweepAfter finishAfter answerWord answersAfter runChecked runOutcome runOf
+unfolding seedOuts seedHalves seedFaces
+    sweepPoint sweepAfter finishAfter answerWord answersAfter runChecked runOutcome runOf
     isAdded leftAlone addedAt appliedBy applied stepMesh
     sweepRowsShort sweepChecked
     fateNumber fateVertex isCoordinate isPosition atEnd fateAt ifAdded decidedAt decided

@@ -22,13 +22,10 @@ use Rattle.ring.specs.Center.{turnsAbout}
 use Rattle.ring.specs.Ring.{boundaryAngles}
 use Rattle.ring_rows.specs.declared.Node.{Node}
 use Rattle.ring_rows.specs.RingRows.{ringRows}
+use Rattle.sweep.specs.SeedTriangle.{seedOuts, seedHalves, seedFaces}
 use Rattle.sweep.specs.Run.{RunLent, RunOutcome, runLent, answerWords, stepsOf, runChecked, runOf}
 
 -- ---- what is lent
--- the links of a triangle: half-edges 0, 2 and 4 in face 1, their reverses 1, 5 and 3 around face 0
-abbrev triangle : List ℕ
-triangle = 2 ∷ 4 ∷ 1 ∷ 0 ∷ 5 ∷ 3 ∷ 0 ∷ 1 ∷ 4 ∷ 0 ∷ 1 ∷ 1 ∷ 1 ∷ 5 ∷ 0 ∷ 2 ∷ 0 ∷ 2 ∷ 1 ∷ 2 ∷ 3 ∷ 1 ∷ 0 ∷ 0 ∷ []
-
 abbrev sevens : Node
 sevens = record { angle = fin false 7 (pos 0); edge = 7; left = 7; right = 7 }
 
@@ -36,8 +33,8 @@ sevens = record { angle = fin false 7 (pos 0); edge = 7; left = 7; right = 7 }
 abbrev seeded : ℕ → ℕ → List ℤ → Point2 → List ℤ → RunLent
 seeded vertices n seed center points =
     runLent (record { vertices = vertices; edges = 3; faces = 2 })
-    (meshRows (seed ++ replicate (2 * n) (pos 0)) ((0 ∷ 2 ∷ 4 ∷ []) ++ replicate n 0)
-    (triangle ++ replicate (48 + 24 * n) 0) ((1 ∷ 0 ∷ 0 ∷ 0 ∷ 0 ∷ 0 ∷ []) ++ replicate (2 * n) 0))
+    (meshRows (seed ++ replicate (2 * n) (pos 0)) (seedOuts ++ replicate n 0)
+    (seedHalves ++ replicate (48 + 24 * n) 0) (seedFaces ++ replicate (4 + 2 * n) 0))
     (ringRows (replicate (n + 4) sevens) (replicate (n + 4) 7) (replicate 16 7)) (replicate 8 7) (replicate (answerWords * n) 7)
     center points
 

@@ -1,4 +1,4 @@
--- `Step` has the definitions of one step on a mesh and `StepCall` those of the call `step`; `Run` those of the call `run`, and `Demand3`
+-- `Step` has the definitions of one step on a mesh and `StepCall` those of the call `step`; `Run` those of the call `run`, `SeedTriangle` a seed, and `Demand3`
 -- what a finished run means. The others have the laws: `StepMesh` what a step keeps, `SoundRing` that fate 4 tells the truth,
 -- `StepCallLaws` what a call of `step` comes to, `SweepLaws` what all steps keep, `RunLaws` demand 3 for every seed, centre and list of points.
 pub mod Step
@@ -8,6 +8,7 @@ pub mod StepMesh
 pub mod SoundRing
 pub mod StepCallLaws
 pub mod Run
+pub mod SeedTriangle
 pub mod SweepLaws
 pub mod Demand3
 pub mod RunLaws

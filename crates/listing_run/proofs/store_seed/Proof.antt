@@ -2,7 +2,7 @@
 use borrow.Author.Needs.{needs}
 use mathlib.Core.Path.{sym}
 use lib.Seq.{length-take-le}
-use Rattle.listing_run.specs.ListingRun.{seedOuts, seedHalves, seedFaces}
+use Rattle.sweep.specs.SeedTriangle.{seedOuts, seedHalves, seedFaces}
 use Rattle.listing_run.proofs.Rows.{front-fits}
 use Rattle.listing_run.proofs.store_seed.Statement.{statement}
 use Rattle.listing_run.proofs.store_seed.Tie as tie
