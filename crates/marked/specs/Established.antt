@@ -56,9 +56,9 @@ unfolding seedOuts seedHalves seedFaces
     entryEdge pushed flipped popped legalize
     flipBetween flipCw faceAdjacent createNewFaceAdjacentToEdge boundaryLength overFaces circleAt breaksCircle
     halfEdgeInUse linksInUse halfEdgeLinked innerFaceRule outerFaceRule sideRule vertexRule eulerRule rules
-    countRefused meshRowsShort firstOutside vertexOrPoint turnsLeft firstNotLeft checkMesh
+    countRefused meshRowsShort firstOutside vertexOrPoint turnsLeft firstNotLeft andThen checkRange checkFaces checkMesh
     pointCount vertexCount rowsShort checkWith
-    andThen ringRowsShort checkRing checkStart checkAngle placeAt locateOutcome locateOf
+    ringRowsShort checkRing checkStart checkAngle placeAt locateOutcome locateOf
     turnsAbout refusesCenter refusesRing coversLeft coversRight leftChain rightChain anglesAfter soundAfter
     wraps countBefore countAround mergedBefore merged member allDiffer isSound isStrict
     passedCount boundaryEdges boundaryAngles isStrictRing located

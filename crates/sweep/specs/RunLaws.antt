@@ -173,6 +173,10 @@ module _ (l : RunLent) (e : runChecked l ≡ Checked.Accepted) where
             vertices = ap (λ (K : Counts). K .vertices) c;
           })
 
+  -- the finish adds no vertex
+  pub run-vertices : m .counts .vertices ≡ s .counts .vertices
+  run-vertices = finish-keeps .vertices
+
   -- ---- the rows hold all of it
   most : m .counts .vertices ≤ vertexCount (l .counts) (l .points)
   unfolding vertexCount

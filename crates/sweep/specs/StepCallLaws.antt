@@ -158,6 +158,13 @@ module _ (C : Counts) (m : MeshRows) (ring : RingRows) (pending : List ℕ) (cen
         let G = accepted .start .mesh .good in
         record { good = G; center = accepted .start .center; sound = strict-ring (G .wf) (turnsAbout cx cy p) (accepted .start .strict) }
 
+    -- what a step is given
+    pub step-range : InRange v
+    step-range = range
+
+    pub step-swept : Swept cx cy C L p
+    step-swept = before
+
     kept : StepKeeps cx cy C L p s
     kept = step-keeps before range (length pending)
 

@@ -43,7 +43,7 @@ unfolding sweepPoint
 sweep-stays room cx cy s v f = rw f refl
 
 -- the vertices that a step adds: one, or none
-step-count : {cx cy : Float} {C : Counts} {L : Links} {p : ℕ → Point} → Swept cx cy C L p → {v : Point} → InRange v → (room : ℕ)
+pub step-count : {cx cy : Float} {C : Counts} {L : Links} {p : ℕ → Point} → Swept cx cy C L p → {v : Point} → InRange v → (room : ℕ)
     → stepMesh room cx cy C L p v .mesh .counts .vertices ≡ C .vertices + bit (isAdded (stepMesh room cx cy C L p v .fate))
 unfolding leftAlone
 step-count {cx} {cy} {C} {L} {p} S {v} i room = go (isAdded (decided cx cy C L p v .fate)) refl

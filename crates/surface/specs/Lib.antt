@@ -1,0 +1,5 @@
+pub mod Surface
+pub mod StoreReady
+pub mod SurfaceLaws
+pub mod RunHeights
+pub mod SurfaceRunLaws

@@ -1,0 +1,198 @@
+-- The call `run` with heights beside that on the mesh alone, as `SurfaceLaws` has it of the others: its table, its outcome, and the row of heights
+-- that it leaves, as the code makes it from the answers (`run-heights`) and vertex by vertex (`CarriedHeights`). Assumes nothing.
+use mathlib.Core.Bool.{Bool, true, false, cond, false≢true}
+use mathlib.Core.List.{List}
+use mathlib.Core.Path.{_≡_, refl, sym, _∙_, ap, subst}
+use Prim.Native.Nat.{ℕ, zero, suc, _+_, _*_, _<_, _≤_}
+use native.Mathlib.Decide.{decLt}
+use native.Mathlib.Omega.{arith}
+use borrow.Author.Tests.{lt-ltb, le-ltb, ltb-false, ne-eqb}
+use lib.Dec.{ltb, eqb}
+use lib.IntN.{ℤ, pos}
+use lib.ListN.{length, getD, List·getD-eq-default}
+use Rattle.dcel.specs.MeshRows.{linksIn, placesIn}
+use Rattle.dcel.specs.Rows.{rowOf, rowFrom, positionOf}
+use Rattle.dcel.specs.Views.{length-from, getD-from}
+use Rattle.decide.specs.Decide.{fateNumber}
+use Rattle.finish.specs.declared.FinishAnswer.{FinishAnswer}
+use Rattle.finish.specs.declared.Finished.{Finished}
+use Rattle.finish.specs.declared.Totals.{Totals}
+use Rattle.finish.specs.Finish.{totalsFrom, finishedFrom}
+use Rattle.heights.specs.Heights.{SurfaceRows, heightOf, HeightsLent, heightsLent, heightsTested}
+use Rattle.locate.specs.Locate.{checkRing, checkStart}
+use Rattle.mesh_check.specs.declared.Checked.{Checked}
+use Rattle.mesh_check.specs.declared.Checked.the-variants.{Accepted, Refused}
+use Rattle.mesh_check.specs.declared.Refusal.{Refusal}
+use Rattle.mesh_check.specs.Check.{andThen, checkWith, pointCount, vertexCount}
+use Rattle.mesh_check.specs.CheckLaws.{NumberedTo, numbered-at}
+use Rattle.start.specs.Start.{sweepRowsShort, sweepChecked}
+use Rattle.start.specs.StartLaws.{sweep-numbered}
+use Rattle.sums.specs.Bounded.{count}
+use Rattle.sweep.specs.Run.{finishAfter, answerWords, answerIn, answerWord, answersAfter}
+use Rattle.sweep.specs.Run.{RunLent, RunOutcome, ranWith, runChecked, sweepOf, stepsOf, runFinish, runOutcome, runOf}
+use Rattle.sweep.specs.Demand3.{fateOf, vertexOf}
+use Rattle.sweep.specs.RunLaws.{answer-at, answer-none, run-accepts, run-start, run-keeps, run-vertices}
+use Rattle.surface.specs.Surface.{heightsAfter, heightStored, sweepHeights, answeredHeights, finishedHeights}
+use Rattle.surface.specs.Surface.{SurfaceRunLent, SurfaceRan, surfaceRan, surfaceRunChecked, surfaceRun}
+use Rattle.surface.specs.SurfaceLaws.{own-table, own-refused, heights-after}
+use Rattle.surface.specs.RunHeights.{run-answered, run-stored}
+
+module _ (g : SurfaceRunLent) where
+  abbrev l : RunLent
+  l = g .run
+
+  abbrev N : ℕ
+  N = pointCount (l .points)
+
+  abbrev pub surfaceOf : SurfaceRows
+  surfaceOf = record { mesh = l .mesh; heights = g .heights }
+
+  abbrev pub runHeightsLent : HeightsLent
+  runHeightsLent =
+      heightsLent (l .points) (g .levels)
+      (sweepRowsShort (ltb (length (l .answers)) (answerWords * N)) (vertexCount (l .counts) (l .points))
+      (length (l .ring .nodes)) (length (l .ring .freed)) (length (l .ring .buckets)) (length (l .pending))) false
+
+  abbrev next : Checked
+  next = checkRing (l .counts) (linksIn (l .mesh)) (placesIn (l .mesh)) (l .center .x) (l .center .y)
+
+  begins : runChecked l ≡ andThen (checkWith (l .points) (runHeightsLent .short) (l .counts) (l .mesh)) next
+  unfolding runChecked sweepChecked checkStart
+  begins = refl
+
+  run-table : heightsTested runHeightsLent (l .counts) surfaceOf ≡ Accepted → surfaceRunChecked g ≡ runChecked l
+  unfolding surfaceRunChecked
+  run-table e = own-table runHeightsLent (l .counts) surfaceOf next begins e
+
+  pub run-refused : {r : Refusal} → heightsTested runHeightsLent (l .counts) surfaceOf ≡ Refused r
+      → surfaceRun g
+      ≡ surfaceRan (ranWith (record { counts = l .counts; finished = Finished.Refused r }) (l .mesh) (l .ring) (l .pending) (l .answers)) (g .heights)
+  unfolding surfaceRun surfaceRunChecked runOutcome heightsAfter
+  run-refused e = rw (own-refused runHeightsLent (l .counts) surfaceOf next begins e) refl
+
+  pub run-own : heightsTested runHeightsLent (l .counts) surfaceOf ≡ Accepted → surfaceRun g .call ≡ runOf l
+  unfolding surfaceRun runOf
+  run-own e = rw (run-table e) refl
+
+  -- ---- the row of heights, from the answers
+  abbrev z : ℕ → ℤ
+  z = heightOf (g .levels)
+
+  abbrev h : ℕ → ℤ
+  h = heightOf (g .heights)
+
+  abbrev fates : ℕ → ℕ
+  fates i = answerIn (runOf l .answers) i 0
+
+  table-numbered : NumberedTo 7 (runChecked l)
+  unfolding runChecked
+  table-numbered = sweep-numbered _ _ _ _ _ _ _ _ _
+
+  refused-answer : {r : Refusal} → runChecked l ≡ Refused r → runOf l .answer ≡ record { counts = l .counts; finished = Finished.Refused r }
+  unfolding runOf runOutcome
+  refused-answer k = rw k refl
+
+  module _ (k : runChecked l ≡ Accepted) where
+    room : answerWords * N ≤ length (l .answers)
+    room = ltb-false (length (l .answers)) (answerWords * N) (run-accepts l k .others)
+
+    most : sweepOf l N .answered ≤ N
+    most = run-keeps l k .answered-most
+
+    told : (i : ℕ) → i < sweepOf l N .answered → fates i ≡ fateNumber (stepsOf l i .fate)
+    unfolding runOf runOutcome answerWord
+    told i a = rw k (answer-at (stepsOf l) (sweepOf l N .answered) N (l .answers) room i 0 a (let m = most in omega arith) (omega arith))
+
+    none : (i : ℕ) → sweepOf l N .answered ≤ i → i < N → fates i ≡ 0
+    unfolding runOf runOutcome
+    none i a b = rw k (answer-none (stepsOf l) (sweepOf l N .answered) N (l .answers) room (answerWords * i + 0) (omega arith) (omega arith))
+
+    steps-made : runFinish l .full ≡ false → sweepOf l N .full ≡ false
+    unfolding finishAfter
+    steps-made f = go (sweepOf l N .full) refl
+      where
+        go : (b : Bool) → sweepOf l N .full ≡ b → sweepOf l N .full ≡ false
+        go false q = q
+        go true q = absurd (false≢true (sym f ∙ rw q refl))
+
+    answer-is : runOf l .answer ≡ record { counts = runFinish l .counts; finished = finishedFrom (sweepOf l N .answered) (runFinish l) }
+    unfolding runOf runOutcome
+    answer-is = rw k refl
+
+    refused-is : runFinish l .full ≡ true
+        → finishedFrom (sweepOf l N .answered) (runFinish l) ≡ Finished.Refused (record { number = 9; place = sweepOf l N .answered })
+    unfolding finishedFrom
+    refused-is q = rw q refl
+
+    finished-is : runFinish l .full ≡ false → (t : Totals) × (finishedFrom (sweepOf l N .answered) (runFinish l) ≡ Finished.Accepted t)
+    unfolding finishedFrom
+    finished-is q = (totalsFrom (runFinish l), rw q refl)
+
+    accepted-heights : sweepHeights l z h N ≡ finishedHeights (runOf l .answer) fates (l .counts .vertices) z h N
+    unfolding finishedHeights
+    accepted-heights = rw answer-is (go (runFinish l .full) refl)
+      where
+        made : FinishAnswer
+        made = record { counts = runFinish l .counts; finished = finishedFrom (sweepOf l N .answered) (runFinish l) }
+
+        go : (b : Bool) → runFinish l .full ≡ b → sweepHeights l z h N
+            ≡ finishedHeights (record { counts = runFinish l .counts; finished = finishedFrom (sweepOf l N .answered) (runFinish l) })
+            fates (l .counts .vertices) z h N
+        go true q = rw (refused-is q) (run-stored l k z h fates told none refl)
+        go false q = rw (finished-is q .1) (run-answered l k z h fates told none (steps-made q))
+
+  -- refused by the table of the call on the mesh alone: a number up to 7, and no height is stored
+  refused-heights : {r : Refusal} → runChecked l ≡ Refused r → h ≡ finishedHeights (runOf l .answer) fates (l .counts .vertices) z h N
+  unfolding finishedHeights
+  refused-heights {r} k = rw answer-is (rw (ne-eqb (r .number) 9 (λ q. let n = numbered in omega arith)) refl)
+    where
+      answer-is : runOf l .answer ≡ record { counts = l .counts; finished = Finished.Refused r }
+      answer-is = refused-answer k
+
+      numbered : r .number ≤ 7
+      numbered = numbered-at (subst (NumberedTo 7) k table-numbered) .1
+
+  pub run-heights : heightsTested runHeightsLent (l .counts) surfaceOf ≡ Accepted → (row : List ℤ) → length row ≡ length (g .heights)
+      → heightOf row ≡ finishedHeights (runOf l .answer) fates (l .counts .vertices) z h N
+      → surfaceRun g .heights ≡ row
+  unfolding surfaceRun
+  run-heights e row a b =
+      rw (run-table e) (sym (heights-after (runChecked l) (g .heights) row a (λ r k. b ∙ sym (refused-heights k)) (λ k. b ∙ sym (accepted-heights k))))
+
+-- ---- vertex by vertex, as a caller finds it: the vertices' heights are carried through
+pub record CarriedHeights (g : SurfaceRunLent) (w : SurfaceRan) : Type 0 where
+  -- the seed's vertices keep their heights,
+  pub seed : (u : ℕ) → u < g .run .counts .vertices → heightOf (w .heights) u ≡ heightOf (g .heights) u
+  -- each added vertex has that of its point,
+  pub added : (i : ℕ) → i < pointCount (g .run .points) → fateOf (w .call) i ≡ 1
+      → heightOf (w .heights) (vertexOf (w .call) i) ≡ heightOf (g .levels) i
+  -- and entries past the counts in use are untouched
+  pub past : (u : ℕ) → w .call .answer .counts .vertices ≤ u → heightOf (w .heights) u ≡ heightOf (g .heights) u
+  pub length-same : length (w .heights) ≡ length (g .heights)
+
+row-height : (row : List ℤ) (f : ℕ → ℤ) (u : ℕ) → f u ≡ heightOf row u → heightOf (rowFrom (length row) f) u ≡ heightOf row u
+unfolding heightOf
+row-height row f u same = go (decLt u (length row))
+  where
+    go : Dec (u < length row) → getD (rowFrom (length row) f) u (pos 0) ≡ getD row u (pos 0)
+    go (yes a) = getD-from (length row) f (pos 0) u a ∙ same
+    go (no a) =
+        let n = length-from (length row) f in
+        List·getD-eq-default (rowFrom (length row) f) (pos 0) (omega arith) ∙ sym (List·getD-eq-default row (pos 0) (omega arith))
+
+row-entry : (n : ℕ) (f : ℕ → ℤ) (u : ℕ) → u < n → heightOf (rowFrom n f) u ≡ f u
+unfolding heightOf
+row-entry n f u a = getD-from n f (pos 0) u a
+
+module _ (g : SurfaceRunLent) (t : Totals) (q : surfaceRun g .call .answer .finished ≡ Finished.Accepted t) where
+  refused-finished : {r : Refusal} → surfaceRunChecked g ≡ Refused r → surfaceRun g .call .answer .finished ≡ Finished.Refused r
+  unfolding surfaceRun runOutcome
+  refused-finished k = rw k refl
+
+  -- the table accepted it, heights and all
+  checked : surfaceRunChecked g ≡ Accepted
+  checked = go (surfaceRunChecked g) refl
+    where
+      go : (c : Checked) → surfaceRunChecked g ≡ c → surfaceRunChecked g ≡ Accepted
+      go Accepted k = k
+      go (Refused r) k = absurd (let w = sym (refused-finished k) ∙ q in let z : _≡_ {A = ℕ} 0 1 = cc in omega arith)
