@@ -124,23 +124,24 @@ def finished(mesh):
                 assert sweep.incircle(*sweep.face_corners(mesh, f), mesh.at(far)) <= 0, "circle"
 
 
-def vertices_kept(mesh, seed, points, answers):
-    """The vertices are the seed's and the points of fate 1, each at its position, numbered in order."""
-    expected = [seed.at(v) for v in range(seed.vertices)]
+def vertices_kept(mesh, seed, points, answers, heights=None):
+    """The vertices are the seed's and the points of fate 1, each at its position and at its height, numbered
+    in order."""
+    expected = [(seed.at(v), seed.heights[v]) for v in range(seed.vertices)]
     for i, p in enumerate(points):
         fate, vertex, faces, flips = sweep.answer_at(answers, i)
         if fate == 1:
             assert vertex == len(expected), "vertex number"
-            expected.append(p)
+            expected.append((p, heights[i] if heights else 0))
         else:
             assert (vertex, faces, flips) == (0, 0, 0)
-    assert [mesh.at(v) for v in range(mesh.vertices)] == expected, "vertices"
+    assert [(mesh.at(v), mesh.heights[v]) for v in range(mesh.vertices)] == expected, "vertices"
 
 
 def untouched(rows, before, counts):
     """Entries past the counts in use."""
     v, e, f = counts
-    for row, was, used in zip(rows, before, (2 * v, v, 8 * e, f)):
+    for row, was, used in zip(rows, before, (2 * v, v, 8 * e, f, v)):
         assert row[used:] == was[used:], "entries past the counts"
 
 

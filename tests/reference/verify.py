@@ -18,7 +18,8 @@ HERE = os.path.dirname(os.path.abspath(__file__))
 SECONDS = 20.0  # the longest case takes two
 SHORT = 1000  # bytes of a listing's text that every change is tried on
 FEWEST = 3  # cases of the listing's list that notice a change of the listing
-NAMES = ("samples", "check", "finish", "locate", "step", "run", "listing")
+NAMES = ("samples", "check", "finish", "locate", "step", "run", "volume", "listing")
+ORDER = "mpeohfnqxwvylMPEOHFWr"  # of the lines of a case, as far as it has them
 
 
 def of_bits(b):
@@ -75,22 +76,32 @@ def row(numbers):
 
 
 def mesh_of(sweep, case, tags):
-    rows = [row(case[t]) for t in tags[1:]]
-    return sweep.Mesh(*rows, *case[tags[0]])
+    """The mesh of the lines with these tags; where the line of the heights is missing they are zeros."""
+    counts, positions, heights, *rows = tags
+    return sweep.Mesh(row(case[positions]), *(row(case[t]) for t in rows), *case[counts],
+                      row(case[heights]) if heights in case else None)
+
+
+def in_order(case):
+    """The lines come in the order of README.md, and `E` is there just where `e` and `M` are."""
+    return list(case) == [t for t in ORDER if t in case] and ("E" in case) == ("e" in case and "M" in case)
 
 
 def cases(rows, last):
     case = {}
     for tag, numbers in rows:
+        assert tag not in case, (tag, case)
         case[tag] = numbers
         if tag == last:
+            assert in_order(case), case
             yield case
             case = {}
+    assert not case
 
 
 def left_as_told(sweep, case, mesh):
-    """The counts and rows are those of `M P O H F`, or the given ones where these are missing."""
-    told = mesh_of(sweep, case, "MPOHF" if "M" in case else "mpohf")
+    """The counts and rows are those of `M P E O H F`, or the given ones where these are missing."""
+    told = mesh_of(sweep, case, "MPEOHF" if "M" in case else "mpeohf")
     return mesh.rows() == told.rows() and mesh.counts() == told.counts()
 
 
@@ -126,12 +137,18 @@ def sample(sweep, tag, n):
 
 
 def check_one(sweep, case):
-    mesh = mesh_of(sweep, case, "mpohf")
+    mesh = mesh_of(sweep, case, "mpeohf")
     return list(sweep.check(mesh)) == case["r"] and left_as_told(sweep, case, mesh)
 
 
+def volume_one(sweep, case):
+    mesh = mesh_of(sweep, case, "mpeohf")
+    number, place, high, low, metres = sweep.volume(mesh, *case["l"])
+    return ([number, place, high, low, metres % (1 << 64)] == case["r"] and left_as_told(sweep, case, mesh))
+
+
 def finish_one(sweep, case):
-    mesh, lent = mesh_of(sweep, case, "mpohf"), sweep.Lent(pending=row(case["q"]))
+    mesh, lent = mesh_of(sweep, case, "mpeohf"), sweep.Lent(pending=row(case["q"]))
     answer = sweep.finish(mesh, lent)
     return (list(answer) == case["r"] and left_as_told(sweep, case, mesh)
             and cleared(answer[0], lent.pending))
@@ -139,7 +156,7 @@ def finish_one(sweep, case):
 
 def locate_one(sweep, case, numbers):
     lent = sweep.Lent(*([7] * n for n in case["n"]))
-    mesh = mesh_of(sweep, case, "mpohf")
+    mesh = mesh_of(sweep, case, "mpeohf")
     answer = sweep.locate(mesh, lent, tuple(map(of_bits, case["x"])), of_bits(numbers[0]))
     return (list(answer) == numbers[1:] and left_as_told(sweep, case, mesh)
             and cleared(answer[0], lent.nodes, lent.freed, lent.buckets))
@@ -149,13 +166,14 @@ def call_one(sweep, case):
     """A run or, where there is no answers row, a step."""
     lent = sweep.Lent(*([7] * n for n in case["n"]), pending=row(case["q"]),
                       answers=row(case.get("w", [0, 0])))
-    mesh, points = mesh_of(sweep, case, "mpohf"), pairs(case["v"][1:])
+    mesh, points = mesh_of(sweep, case, "mpeohf"), pairs(case["v"][1:])
+    assert len(points) == case["v"][0]
     centre = tuple(map(of_bits, case["x"]))
     if "w" in case:
-        answer = sweep.run(mesh, lent, centre, points)
+        answer = sweep.run(mesh, lent, centre, points, row(case["y"]) if "y" in case else None)
         told = row(case["W"] if "W" in case else case["w"])
     else:
-        number, place, given = sweep.step(mesh, lent, centre, points[0])
+        number, place, given = sweep.step(mesh, lent, centre, points[0], *case.get("y", [0]))
         answer, told = (number, place) + tuple(given), []
     return (list(answer) == case["r"] and left_as_told(sweep, case, mesh) and lent.answers == told
             and cleared(answer[0], lent.nodes, lent.freed, lent.buckets, lent.pending))
@@ -196,13 +214,14 @@ def failures(sweep, name, first_only=False):
                 if tag == "m":
                     case = {}
                 if tag == "l":
+                    assert in_order(case), case
                     yield locate_one, dict(case), n
                 else:
                     case[tag] = n
         tests = queries()
     else:
         one, last = {"check": (check_one, "r"), "finish": (finish_one, "r"), "step": (call_one, "r"),
-                     "run": (call_one, "r")}[name]
+                     "run": (call_one, "r"), "volume": (volume_one, "r")}[name]
         tests = ((one, case) for case in cases(rows, last))
     for test, *arguments in tests:
         total += 1
