@@ -7,6 +7,7 @@ import sweep
 ROWS = "pohfe"  # the tags of Mesh.rows()
 PAST = (-2147483648, 4294967295, 4000000007, 77, 2147483647)  # what entries past the counts hold, row by row
 HIGH = "mpeohf"  # the tags of a mesh with its heights
+LENT = {"p": 512, "e": 256, "o": 6144, "h": 6144, "f": 6144, "w": 1280, "y": 256}  # no row is longer
 
 
 def line(tag, numbers):
@@ -21,6 +22,7 @@ def used_of(mesh):
 
 def row_line(tag, row):
     """`tag length past entries`: the entries that are not written all hold `past`."""
+    assert len(row) <= LENT[tag.lower()], tag
     past = row[-1] if row else 0
     end = len(row)
     while end > 0 and row[end - 1] == past:

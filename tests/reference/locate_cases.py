@@ -56,8 +56,8 @@ def angles_of(mesh, centre, rng):
 
 
 def add(out, name, mesh, centre, rng, angles=None, rows=None):
-    return add_given(out, name, lists.with_past(mesh, max(mesh.vertices, len(mesh.outs))), centre, rng, angles,
-                     rows, "mpohf")
+    mesh = lists.with_past(mesh, max(mesh.vertices, len(mesh.outs)))
+    return add_given(out, name, mesh, centre, rng, angles, rows, "mpohf")
 
 
 def add_given(out, name, mesh, centre, rng, angles, rows, tags):

@@ -550,7 +550,8 @@ def high_refusals(points):
            as_given(heights.at(edge, 3, limit + 1), (-0.5, 0.0), points, zs), 10, 0)
     yield "a ring that is not strict", as_given(edge, (-0.5, 0.0), points, zs), 7, 0
     for row in ("nodes", "freed", "buckets", "pending"):
-        yield "a height beyond and a row one entry short: " + row, as_given(low, one, points, zs, short=row), 2, 0
+        yield ("a height beyond and a row one entry short: " + row,
+               as_given(low, one, points, zs, short=row), 2, 0)
     # The points' heights, the first beyond above and the last beyond below.
     for z in (limit, -limit):
         ends = [z if i % 2 else -z for i in range(k)]
@@ -599,8 +600,8 @@ def each_fate():
 
 def high_run_refusals():
     """Name, case, number: the row of the points' heights."""
-    s, one, two = heights.put(check_cases.square(), more=2), (1.0, 1.0), [(9, 9), (1, 8)]
-    beyond = heights.LIMIT + 1
+    t, one, two = check_cases.triangle(), (1.0, 1.0), [(9, 9), (1, 8)]
+    s, beyond = heights.put(check_cases.square(), more=2), heights.LIMIT + 1
     yield "the points' heights one short", as_given(s, one, two, [5]), 2
     yield "the points' heights one short, one beyond", as_given(s, one, two, [beyond]), 2
     far = [(9, 9), (sweep.LIMIT + 1, 8)]
@@ -609,7 +610,7 @@ def high_run_refusals():
     yield "no heights of the points", as_given(s, one, two, []), 2
     yield "more heights than points, not looked at", as_given(s, one, two, [5, -6, beyond]), 0
     yield "more heights than points, one beyond", as_given(s, one, two, [5, beyond, 7]), 10
-    alone = heights.put(check_cases.triangle())
+    alone = heights.put(t)
     yield "no points and no heights", as_given(alone, one, [], []), 0
     yield "no points, heights that are not looked at", as_given(alone, one, [], [beyond, -9]), 0
     yield "no points, a height beyond", as_given(heights.at(alone, 2, beyond), one, [], []), 10
@@ -619,14 +620,14 @@ def high_run_refusals():
     for zs in ([], [5], [5, 6], [5, beyond]):
         yield "a number alone in the row of points", as_given(s, one, [(9, 9), (1,)], zs), 2
     yield ("a number alone for the 1,000,001st vertex, a height beyond",
-           Case(check_cases.counted(check_cases.triangle(), 1000000), one, [(9,)], room=3, ring=4, zs=[beyond]), 1)
+           Case(check_cases.counted(t, 1000000), one, [(9,)], room=3, ring=4, zs=[beyond]), 1)
     # Points that are dropped or skipped are under 10 too.
-    t = check_cases.triangle()
     sample, behind = [(4, 4), (2, 2), (4, 4), (1, 1)], tri((0, 0), (0, -1), (1, 1))
     for i in range(4):
         zs = [7, 8, 9, 10]
         zs[i] = heights.BEYOND[i % 2]
-        yield "a point's height beyond, whatever its fate", as_given(heights.put(t, more=4), one, sample, zs), 10
+        yield ("a point's height beyond, whatever its fate",
+               as_given(heights.put(t, more=4), one, sample, zs), 10)
     for z in heights.BEYOND:
         yield ("a height beyond of fate 4",
                as_given(heights.put(behind, more=2), (1.0, -1.0), [(-2, -1), (3, 4)], [z, 5]), 10)

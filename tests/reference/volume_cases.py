@@ -122,12 +122,17 @@ def halves(out):
     for six in (1, -1, metre, -metre, metre - 1, 1 - metre, metre + 1, -metre - 1, 2 * metre, -2 * metre):
         mesh, level = made(abs(six), 1 if six > 0 else -1, 1)
         add(out, "about whole cubic metres", mesh, level, six=six)
-    # Many cubic metres and a half: the doubled area has 9 factors 2 and 5, and the factor is odd.
-    for factor in (6291453, -6291453, 3000003, -2999997):
-        area = 33500000 * 33550000
-        mesh, level = made(area, factor, -LIMIT if factor > 0 else LIMIT)
-        assert area * factor % metre == metre // 2
-        add(out, "many cubic metres and a half", mesh, level, six=area * factor)
+    # Many cubic metres and a half, where a double would no longer tell the neighbours apart: the factor has no
+    # divisor in common with a cubic metre, so some area leaves any wanted rest.
+    factor = 6291451
+    for sign in (1, -1):
+        for more in (-1, 0, 1):
+            rest = metre // 2 + more
+            area = 180000 * metre + rest * pow(factor, -1, metre) % metre
+            mesh, level = made(area, sign * factor, -sign * LIMIT)
+            assert area * factor % metre == rest
+            add(out, "many cubic metres and a half%s" % (" less one", "", " and one")[more + 1], mesh, level,
+                six=sign * area * factor)
 
 
 WORDS = (  # a number, and a factor of it that heights and a level can have
@@ -220,8 +225,13 @@ def random_meshes(out, rng):
         mesh = heights.put(mesh, heights.random_heights(rng, mesh.vertices))
         level = rng.randint(-LIMIT, LIMIT)
         add(out, "a lawful oddity", mesh, level, six=apart(mesh, level))
-    for i in range(20):
-        mesh = meshes.grown(rng, rng.randint(3, 10), rng.choice([4, 1000, 100000, sweep.LIMIT]), flips=9)
+    for i in range(12):
+        area, level = rng.randint(1 << 30, 1 << 49), rng.randint(-LIMIT // 2, LIMIT // 2)
+        factor = rng.choice([1, -1]) * rng.randint(1, LIMIT)
+        mesh, level = made(area, factor, level, i)
+        add(out, "a random triangle", mesh, level, six=area * factor)
+    for i in range(16):
+        mesh = meshes.grown(rng, rng.randint(3, 9), rng.choice([4, 1000, 100000, sweep.LIMIT]), flips=9)
         mesh = meshes.renumbered(mesh, rng)
         mesh = heights.put(mesh, heights.random_heights(rng, mesh.vertices), i % 3)
         level = heights.random_heights(rng, 1)[0]
