@@ -4,7 +4,7 @@
 
 The named cases have six times their volume written here by hand; the halves and the cubic metres are worked
 out here from that number in another way than sweep.py has it, and both are held against sweep.py. The answers
-of the random meshes come from sweep.py, each held against the volume of every triangle taken apart.
+of the random meshes come from sweep.py, each held against a sum over single heights.
 """
 
 import random
@@ -209,8 +209,7 @@ def often_round(rim):
 
 
 def apart(mesh, level):
-    """Six volumes, every triangle taken apart: three prisms under a corner's height, each a sixth of the
-    doubled area times the height three times over."""
+    """Six volumes in another way: the heights of a triangle one by one, and its area by another formula."""
     total = 0
     for f in range(1, mesh.faces):
         a, b, c = sweep.face_vertices(mesh, f)
