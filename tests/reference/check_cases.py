@@ -2,8 +2,8 @@
 
     python3 check_cases.py > lists/check.txt
 
-The named cases have their answers written here by hand, each held against sweep.py; those of the damaged
-random meshes come from sweep.py.
+The named cases have their answers written here, and in heights.py, by hand, each held against sweep.py;
+those of the damaged random meshes come from sweep.py.
 """
 
 import random
@@ -46,9 +46,13 @@ def hexagon():
     return meshes.of_triangles([(0, 0)] + rim, [(0, i + 1, (i + 1) % 6 + 1) for i in range(6)])
 
 
+def row_of(mesh, tag):
+    return dict(zip(lists.ROWS, mesh.rows()))[tag]
+
+
 def changed(mesh, row, index, value):
     out = mesh.copy()
-    {"p": out.positions, "o": out.outs, "h": out.halves, "f": out.stored}[row][index] = value
+    row_of(out, row)[index] = value
     return out
 
 
@@ -63,7 +67,7 @@ def counted(mesh, vertices=None, edges=None, faces=None):
 def cut(mesh, row):
     """One entry of a row taken away."""
     out = mesh.copy()
-    {"p": out.positions, "o": out.outs, "h": out.halves, "f": out.stored}[row].pop()
+    row_of(out, row).pop()
     return out
 
 
@@ -360,7 +364,25 @@ def main():
         mesh = lists.with_past(damaged(rng))
         out.remark("damaged %d" % i)
         out.add(*lists.mesh_lines(mesh), lists.line("r", sweep.check(mesh)))
+    with_heights(out, random.Random(32))
     out.print()
+
+
+def with_heights(out, rng):
+    """Cases with a heights row."""
+    import heights  # which makes its meshes with this module
+    for name, mesh, number, place in heights.refusals(0):
+        answer = sweep.check(mesh)
+        assert answer == (number, place), (name, answer)
+        out.remark(name)
+        out.add(*lists.mesh_lines(mesh, lists.HIGH), lists.line("r", answer))
+    for i in range(40):
+        mesh = damaged(rng)
+        mesh = heights.put(mesh, heights.random_heights(rng, mesh.vertices))
+        if i % 4 == 0:
+            mesh = heights.at(mesh, rng.randrange(mesh.vertices), rng.choice(heights.BEYOND))
+        out.remark("damaged, with heights %d" % i)
+        out.add(*lists.mesh_lines(mesh, lists.HIGH), lists.line("r", sweep.check(mesh)))
 
 
 if __name__ == "__main__":

@@ -9,6 +9,7 @@ finished mesh.
 import random
 
 import check_cases
+import heights
 import lists
 import meshes
 import selfcheck
@@ -27,16 +28,21 @@ def need(mesh):
 
 
 def add(out, name, mesh, pending):
-    given = lists.with_past(mesh, max(mesh.vertices, len(mesh.outs)))
+    return add_given(out, name, lists.with_past(mesh, max(mesh.vertices, len(mesh.outs))), pending, "mpohf")
+
+
+def add_given(out, name, given, pending, tags):
+    """With rows just as they are given; with lists.HIGH for tags the heights are written too."""
     after, lent = given.copy(), sweep.Lent(pending=[7] * pending)
     answer = sweep.finish(after, lent)
     out.remark(name)
-    out.add(*lists.mesh_lines(given), lists.line("q", (pending, 7)))
+    out.add(*lists.mesh_lines(given, tags), lists.line("q", (pending, 7)))
     if answer[0] in (0, 9):
         selfcheck.standing(after)
         assert not any(lent.pending) and after.left_out == 0
         selfcheck.untouched(after.rows(), given.rows(), after.counts())
-        out.add(*lists.mesh_lines(after, "MPOHF"))
+        out.add(*lists.mesh_lines(after, tags.upper()))
+        assert after.heights == given.heights
     else:
         assert after.rows() == given.rows() and set(lent.pending) <= {7}
     if answer[0] == 0:
@@ -102,7 +108,34 @@ def main():
         if sweep.finish(mesh.copy(), sweep.Lent(pending=[7] * 8))[0] == 9:
             found += 1
             both_sides_of_full(out, "filling %d" % found, mesh)
+    with_heights(out, random.Random(53))
     out.print()
+
+
+def with_heights(out, rng):
+    """Cases with a heights row. A finish adds no vertex, so it leaves the row as it was."""
+    high = lambda name, mesh, pending: add_given(out, name, mesh, pending, lists.HIGH)
+    for name, mesh, number, place in heights.refusals(0):
+        assert high(name, mesh, 8)[:2] == (number, place), name
+    low = heights.at(heights.put(check_cases.square()), 1, -heights.LIMIT - 1)
+    assert high("a height beyond and seven pending entries", low, 7)[0] == 2
+    for name, corners, added, answer in SMALL:
+        mesh = grown_by(corners, added)
+        mesh = heights.put(mesh, heights.random_heights(rng, mesh.vertices))
+        assert high(name + ", with heights", mesh, 8) == (0, 0) + answer, name
+    for n, pending, number in ((5, 10, 9), (5, 11, 0), (7, 8, 9)):
+        mesh = meshes.corner_beside_fan(n)
+        mesh = heights.put(mesh, heights.random_heights(rng, mesh.vertices), 2)
+        assert high("a corner beside a fan of %d, with heights, %d entries" % (n, pending), mesh,
+                    pending)[0] == number
+    for mesh in (check_cases.overlapping(), check_cases.equal_positions(), meshes.zigzag_arms(6)):
+        mesh = heights.put(mesh, heights.random_heights(rng, mesh.vertices))
+        assert high("with heights", mesh, 64)[0] == 0
+    for i in range(12):
+        mesh = meshes.grown(rng, rng.randint(4, 11), rng.choice([4, 1000, sweep.LIMIT]), flips=30)
+        mesh = meshes.renumbered(mesh, rng)
+        mesh = heights.put(mesh, heights.random_heights(rng, mesh.vertices), i % 3)
+        high("random, with heights %d" % i, mesh, 8 if i % 2 else 64)
 
 
 # A triangle, the vertices added beside its half-edges, and the answer: faces, convexity flips, closing flips.

@@ -4,8 +4,10 @@ import sys
 
 import sweep
 
-ROWS = ("p", "o", "h", "f")
-PAST = (-2147483648, 4294967295, 4000000007, 77)  # what entries past the counts hold, row by row
+ROWS = "pohfe"  # the tags of Mesh.rows()
+PAST = (-2147483648, 4294967295, 4000000007, 77, 2147483647)  # what entries past the counts hold, row by row
+HIGH = "mpeohf"  # the tags of a mesh with its heights
+LENT = {"p": 512, "e": 256, "o": 6144, "h": 6144, "f": 6144, "w": 1280, "y": 256}  # no row is longer
 
 
 def line(tag, numbers):
@@ -15,11 +17,12 @@ def line(tag, numbers):
 def used_of(mesh):
     """Entries in use, row by row, as far as the rows go."""
     v, e, f = mesh.counts()
-    return [min(len(row), used) for row, used in zip(mesh.rows(), (2 * v, v, 8 * e, f))]
+    return [min(len(row), used) for row, used in zip(mesh.rows(), (2 * v, v, 8 * e, f, v))]
 
 
 def row_line(tag, row):
     """`tag length past entries`: the entries that are not written all hold `past`."""
+    assert len(row) <= LENT[tag.lower()], tag
     past = row[-1] if row else 0
     end = len(row)
     while end > 0 and row[end - 1] == past:
@@ -28,17 +31,19 @@ def row_line(tag, row):
 
 
 def mesh_lines(mesh, tags="mpohf"):
-    return [line(tags[0], mesh.counts())] + [row_line(t, r) for t, r in zip(tags[1:], mesh.rows())]
+    """Without `e` among the tags the heights are zeros and not written."""
+    rows = dict(zip(ROWS, mesh.rows()))
+    return [line(tags[0], mesh.counts())] + [row_line(t, rows[t.lower()]) for t in tags[1:]]
 
 
 def with_past(mesh, n=None):
     """A copy with rows for n vertices whose entries past the counts hold PAST."""
     n = mesh.vertices if n is None else n
-    sizes = (2 * n, n, 24 * n, 2 * n)
+    sizes = (2 * n, n, 24 * n, 2 * n, n)
     rows = []
     for row, used, size, past in zip(mesh.rows(), used_of(mesh), sizes, PAST):
         rows.append((row[:used] + [past] * size)[:max(size, used)])
-    return sweep.Mesh(*rows, *mesh.counts())
+    return sweep.Mesh(*rows[:4], *mesh.counts(), rows[4])
 
 
 class List:

@@ -10,6 +10,7 @@ import math
 import random
 
 import check_cases
+import heights
 import hull
 import lists
 import meshes
@@ -56,9 +57,14 @@ def angles_of(mesh, centre, rng):
 
 def add(out, name, mesh, centre, rng, angles=None, rows=None):
     mesh = lists.with_past(mesh, max(mesh.vertices, len(mesh.outs)))
+    return add_given(out, name, mesh, centre, rng, angles, rows, "mpohf")
+
+
+def add_given(out, name, mesh, centre, rng, angles, rows, tags):
+    """With rows just as they are given; with lists.HIGH for tags the heights are written too."""
     rows = rows or rows_for(mesh)
     out.remark(name)
-    out.add(*lists.mesh_lines(mesh), lists.line("n", rows), lists.line("x", map(bits, centre)))
+    out.add(*lists.mesh_lines(mesh, tags), lists.line("n", rows), lists.line("x", map(bits, centre)))
     found = [query(mesh, rows, centre, a) for a in (angles or angles_of(mesh, centre, rng))]
     out.add(*found)
     return {int(line.split()[2]) for line in found}
@@ -152,7 +158,37 @@ def main():
         if add(lists.List(""), "", mesh, centre, rng, [0.5]) == {0}:
             found += 1
             add(out, "random %d" % found, mesh, centre, rng, sample)
+    with_heights(out, random.Random(64))
     out.print()
+
+
+def with_heights(out, rng):
+    """Cases with a heights row."""
+    def high(name, mesh, centre, angles=None, rows=None):
+        return add_given(out, name, mesh, centre, rng, angles, rows, lists.HIGH)
+
+    one = (1.0, 1.0)
+    for name, mesh, number, _ in heights.refusals(0):
+        # Rows of nodes for a million vertices are never lent: the mesh's own are too short already.
+        rows = [4, 4, 16] if mesh.vertices > 100 else None
+        assert high(name, mesh, one, [0.5], rows) == {number}, name
+    s = heights.put(check_cases.square())
+    for z in heights.BEYOND:
+        low = heights.at(s, 3, z)
+        rows = rows_for(s)
+        assert high("a height beyond and a centre that is refused", low, (NAN, 1.0), [0.5]) == {10}
+        assert high("a height beyond and a centre at a vertex", low, (4.0, 0.0), [0.5]) == {10}
+        assert high("a height beyond and the centre outside", low, (9.0, 9.0), [0.5, NAN]) == {10}
+        assert high("a height beyond and angles that are refused", low, one, [NAN, -1.0, 2.0]) == {10}
+        for i in range(3):
+            short = rows[:i] + [rows[i] - 1] + rows[i + 1:]
+            assert high("a height beyond and a ring row one entry short", low, one, [0.5], short) == {2}
+    assert high("a centre that is refused", s, (NAN, 1.0), [0.5]) == {6}
+    assert high("the centre outside", s, (9.0, 9.0), [0.5]) == {7}
+    assert high("angles that are refused", s, one, [NAN, -1.0, 2.0]) == {8}
+    for more in (0, 2):
+        mesh = heights.put(check_cases.hexagon(), heights.random_heights(rng, 7), more)
+        assert high("heights that differ", mesh, (0.5, -0.25)) == {0}
 
 
 if __name__ == "__main__":

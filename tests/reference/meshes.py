@@ -22,7 +22,8 @@ def of_triangles(points, triangles, n=None):
                 halves.append((p, q))
     edges, faces = len(halves), len(triangles) + 1
     n = n or len(points)
-    mesh = sweep.Mesh([0] * (2 * n), [0] * n, [0] * (24 * n), [0] * (2 * n), len(points), edges, faces)
+    mesh = sweep.Mesh([0] * (2 * n), [0] * n, [0] * (24 * n), [0] * (2 * n), len(points), edges, faces,
+                      [0] * n)
     for v, (x, y) in enumerate(points):
         mesh.positions[2 * v:2 * v + 2] = [x, y]
     inner = {}
@@ -60,7 +61,7 @@ def with_room(mesh, n):
     def sized(row, size):
         return (row + [0] * size)[:size]
     return sweep.Mesh(sized(mesh.positions, 2 * n), sized(mesh.outs, n), sized(mesh.halves, 24 * n),
-                      sized(mesh.stored, 2 * n), *mesh.counts())
+                      sized(mesh.stored, 2 * n), *mesh.counts(), sized(mesh.heights, n))
 
 
 def renumbered(mesh, rng):
@@ -73,7 +74,7 @@ def renumbered(mesh, rng):
     rng.shuffle(edge)
     half = [2 * edge[h // 2] + ((h % 2) ^ turn[h // 2]) for h in range(2 * e)]
     n = len(mesh.outs)
-    out = sweep.Mesh([0] * (2 * n), [0] * n, [0] * (24 * n), [0] * (2 * n), v, e, f)
+    out = sweep.Mesh([0] * (2 * n), [0] * n, [0] * (24 * n), [0] * (2 * n), v, e, f, [0] * n)
     starts, rounds = {}, {}
     for h in range(2 * e):
         sweep.put_half(out, half[h], half[mesh.next(h)], half[mesh.prev(h)], face[mesh.face(h)],
@@ -82,6 +83,7 @@ def renumbered(mesh, rng):
         rounds.setdefault(face[mesh.face(h)], []).append(half[h])
     for i in range(v):
         out.positions[2 * vertex[i]:2 * vertex[i] + 2] = list(mesh.at(i))
+        out.heights[vertex[i]] = mesh.heights[i]
         out.outs[i] = rng.choice(starts[i])
     for i in range(f):
         out.stored[i] = rng.choice(rounds[i])

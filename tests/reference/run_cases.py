@@ -12,6 +12,7 @@ import random
 import sys
 
 import check_cases
+import heights
 import hull
 import lists
 import locate_cases
@@ -26,10 +27,12 @@ NAN = float("nan")
 
 class Case:
     """A seed, a centre, points, and the lengths of the rows lent: exactly long enough, or with room for
-    `spare` more."""
+    `spare` more. With `high` the heights row is written, with `zs` the points' heights."""
 
-    def __init__(self, mesh, centre, points, pending=8, room=None, short=None, ring=None, spare=0):
+    def __init__(self, mesh, centre, points, pending=8, room=None, short=None, ring=None, spare=0, high=False,
+                 zs=None):
         n = mesh.vertices + len(points)
+        self.tags, self.zs = lists.HIGH if high else "mpohf", zs
         self.mesh, self.centre, self.points = lists.with_past(mesh, room or n + spare), centre, points
         self.lengths = {"nodes": n + 1, "freed": n + 1, "buckets": max(16, n), "pending": pending,
                         "answers": sweep.WORDS * len(points)}
@@ -47,21 +50,23 @@ class Case:
 
     def lines(self):
         ring = [self.lengths[k] for k in ("nodes", "freed", "buckets")]
-        return (lists.mesh_lines(self.mesh)
+        return (lists.mesh_lines(self.mesh, self.tags)
                 + [lists.line("n", ring), lists.line("q", (self.lengths["pending"], 7)),
                    lists.line("x", map(bits, self.centre))])
 
 
 def add_run(out, name, case):
     mesh, lent = case.mesh.copy(), case.lent()
-    answer = sweep.run(mesh, lent, case.centre, case.points)
+    answer = sweep.run(mesh, lent, case.centre, case.points, case.zs)
     out.remark(name)
     flat = [c for p in case.points for c in p]
     out.add(*case.lines(), lists.line("w", (len(lent.answers), 7)),
             lists.line("v", [len(case.points)] + flat))
+    if case.zs is not None:
+        out.add(lists.row_line("y", case.zs))
     if answer[0] in (0, 9):
         watched(case, mesh, lent, answer)
-        out.add(*lists.mesh_lines(mesh, "MPOHF"), lists.row_line("W", lent.answers))
+        out.add(*lists.mesh_lines(mesh, case.tags.upper()), lists.row_line("W", lent.answers))
     else:
         assert mesh.rows() == case.mesh.rows() and set(lent.answers + lent.pending) <= {7}
     out.add(lists.line("r", answer))
@@ -73,7 +78,7 @@ def watched(case, mesh, lent, answer):
     selfcheck.untouched(mesh.rows(), case.mesh.rows(), mesh.counts())
     assert not any(lent.nodes + lent.freed + lent.buckets + lent.pending) and mesh.left_out == 0
     if answer[0] == 0:
-        selfcheck.vertices_kept(mesh, case.mesh, case.points, lent.answers)
+        selfcheck.vertices_kept(mesh, case.mesh, case.points, lent.answers, case.zs)
         selfcheck.finished(mesh)
         again = selfcheck.steps_watched(case.mesh, case.centre, case.points, 1 << 30, {})
         selfcheck.finish_watched(again, 1 << 30, {})
@@ -83,15 +88,20 @@ def watched(case, mesh, lent, answer):
 
 def add_step(out, name, case):
     mesh, lent = case.mesh.copy(), case.lent()
-    number, place, answer = sweep.step(mesh, lent, case.centre, case.points[0])
+    z = case.zs[0] if case.zs else 0
+    number, place, answer = sweep.step(mesh, lent, case.centre, case.points[0], z)
     out.remark(name)
     out.add(*case.lines(), lists.line("v", (1,) + case.points[0]))
+    if case.zs:
+        out.add(lists.line("y", case.zs))
     if number in (0, 9):
         selfcheck.standing(mesh)
         selfcheck.untouched(mesh.rows(), case.mesh.rows(), mesh.counts())
         if (number, answer[0]) != (0, 1) and number != 9:
             assert mesh.rows() == case.mesh.rows()  # fates 2 to 5
-        out.add(*lists.mesh_lines(mesh, "MPOHF"))
+        elif mesh.vertices > case.mesh.vertices:  # after 9 too
+            assert mesh.heights[case.mesh.vertices] == z
+        out.add(*lists.mesh_lines(mesh, case.tags.upper()))
     else:
         assert mesh.rows() == case.mesh.rows()
     out.add(lists.line("r", (number, place) + answer))
@@ -380,7 +390,8 @@ def unsettled_rim(rng, spread):
 
 
 def result_of(module, case):
-    mesh, lent = module.Mesh(*map(list, case.mesh.rows()), *case.mesh.counts()), case.lent()
+    *rows, heights = map(list, case.mesh.rows())
+    mesh, lent = module.Mesh(*rows, *case.mesh.counts(), heights), case.lent()
     try:
         answer = module.step(mesh, lent, case.centre, case.points[0])
     except AssertionError:  # a changed walk may go on for ever
@@ -514,6 +525,161 @@ def carried_ring(case):
     return [size, buckets, most, again]
 
 
+def as_given(mesh, centre, points, zs=None, **lengths):
+    """A case whose mesh's rows are just as they are given, heights included."""
+    if mesh.vertices > 100:  # no row for a million vertices is ever lent
+        lengths.update(room=3, ring=4)
+    case = Case(mesh, centre, points, high=True, zs=zs, **lengths)
+    case.mesh = mesh
+    return case
+
+
+def high_refusals(points):
+    """Name, case, number, place: heights of the seed and of the points, in a run and in a step."""
+    one, k, limit = (1.0, 1.0), len(points), heights.LIMIT
+    zs = [100 * i - 9 for i in range(k)]
+    for name, mesh, number, place in heights.refusals(k):
+        yield name, as_given(mesh, one, points, zs), number, place
+    t, s = heights.put(check_cases.triangle(), more=k), heights.put(check_cases.square(), more=k)
+    low, edge = heights.at(t, 2, -limit - 1), heights.put(not_strict(), more=k)
+    # The centre and the ring come after 10.
+    yield "a height beyond and a centre that is refused", as_given(low, (NAN, 1.0), points, zs), 10, 0
+    yield "a height beyond and a centre at a vertex", as_given(low, (4.0, 0.0), points, zs), 10, 0
+    yield "a height beyond and the centre outside", as_given(low, (9.0, 9.0), points, zs), 10, 0
+    yield ("a height beyond and a ring that is not strict",
+           as_given(heights.at(edge, 3, limit + 1), (-0.5, 0.0), points, zs), 10, 0)
+    yield "a ring that is not strict", as_given(edge, (-0.5, 0.0), points, zs), 7, 0
+    for row in ("nodes", "freed", "buckets", "pending"):
+        yield ("a height beyond and a row one entry short: " + row,
+               as_given(low, one, points, zs, short=row), 2, 0)
+    # The points' heights, the first beyond above and the last beyond below.
+    for z in (limit, -limit):
+        ends = [z if i % 2 else -z for i in range(k)]
+        yield "the points' heights at the limits", as_given(t, one, points, ends), 0, 0
+    for i in sorted({0, k - 1}):
+        for z in heights.BEYOND:
+            yield "a point's height one beyond", as_given(t, one, points, replaced(zs, i, z)), 10, 0
+    for i, z in ((0, limit + 1), (k - 1, -limit - 1)):
+        bad = replaced(zs, i, z)
+        for row in ("nodes", "pending"):
+            yield "and a row one entry short: " + row, as_given(t, one, points, bad, short=row), 2, 0
+        yield "and the heights row one entry short", as_given(check_cases.cut(t, "e"), one, points, bad), 2, 0
+        yield "and a broken link", as_given(check_cases.changed(t, "h", 1, 3), one, points, bad), 10, 0
+        yield "and a flat face", as_given(check_cases.changed(s, "p", 7, 0), one, points, bad), 10, 0
+        yield "and a centre that is refused", as_given(t, (1.0, math.inf), points, bad), 10, 0
+        yield "and the centre outside", as_given(t, (9.0, 9.0), points, bad), 10, 0
+        beyond = check_cases.changed(t, "p", 5, sweep.LIMIT + 1)
+        yield "and a coordinate of the seed beyond", as_given(beyond, one, points, bad), 3, 2
+        far = points[:-1] + [(5, -sweep.LIMIT - 1)]
+        yield "and a point's coordinate beyond", as_given(t, one, far, bad), 3, 3 + k - 1
+    far = [(sweep.LIMIT + 1, 2)] + points[1:]
+    yield "a height of the seed and a point's coordinate beyond", as_given(low, one, far, zs), 3, 3
+    bad = [limit + 1] * k
+    yield "every height beyond", as_given(heights.put(t, [-limit - 1] * 3, k), one, points, bad), 10, 0
+    # Without a heights row, and without heights of the points.
+    yield "a point's height beyond, no heights row", Case(check_cases.triangle(), one, points, zs=bad), 10, 0
+    yield "a heights row, no heights of the points", as_given(t, one, points), 0, 0
+
+
+def replaced(row, i, value):
+    return row[:i] + [value] + row[i + 1:]
+
+
+def each_fate():
+    """Name, case, fate: one point."""
+    t, one = check_cases.triangle(), (1.0, 1.0)
+    behind = tri((0, 0), (0, -1), (1, 1))
+    for mesh, centre, point, fate in ((t, one, (4, 4), 1), (t, one, (0, 4), 2), (t, one, (2, 2), 3),
+                                      (behind, (1.0, -1.0), (-2, -1), 4), (t, one, (1, 1), 5)):
+        for z in (-77, 0, heights.LIMIT):
+            mesh = heights.put(mesh, [11, -12, 13], 1)
+            yield "fate %d, with heights" % fate, as_given(mesh, centre, [point], [z]), fate
+        if fate != 1:
+            yield "fate %d, a height and no heights row" % fate, Case(mesh, centre, [point], zs=[-77]), fate
+
+
+def high_run_refusals():
+    """Name, case, number: the row of the points' heights."""
+    t, one, two = check_cases.triangle(), (1.0, 1.0), [(9, 9), (1, 8)]
+    s, beyond = heights.put(check_cases.square(), more=2), heights.LIMIT + 1
+    yield "the points' heights one short", as_given(s, one, two, [5]), 2
+    yield "the points' heights one short, one beyond", as_given(s, one, two, [beyond]), 2
+    far = [(9, 9), (sweep.LIMIT + 1, 8)]
+    yield "the points' heights one short, a coordinate beyond", as_given(s, one, far, [5]), 2
+    yield "the points' heights one short, no heights row", Case(check_cases.square(), one, two, zs=[0]), 2
+    yield "no heights of the points", as_given(s, one, two, []), 2
+    yield "more heights than points, not looked at", as_given(s, one, two, [5, -6, beyond]), 0
+    yield "more heights than points, one beyond", as_given(s, one, two, [5, beyond, 7]), 10
+    alone = heights.put(t)
+    yield "no points and no heights", as_given(alone, one, [], []), 0
+    yield "no points, heights that are not looked at", as_given(alone, one, [], [beyond, -9]), 0
+    yield "no points, a height beyond", as_given(heights.at(alone, 2, beyond), one, [], []), 10
+    yield "no points, the heights row one entry short", as_given(check_cases.cut(alone, "e"), one, []), 2
+    yield ("a height beyond and the answers one number short",
+           as_given(s, one, two, [5, beyond], short="answers"), 2)
+    for zs in ([], [5], [5, 6], [5, beyond]):
+        yield "a number alone in the row of points", as_given(s, one, [(9, 9), (1,)], zs), 2
+    yield ("a number alone for the 1,000,001st vertex, a height beyond",
+           Case(check_cases.counted(t, 1000000), one, [(9,)], room=3, ring=4, zs=[beyond]), 1)
+    # Points that are dropped or skipped are under 10 too.
+    sample, behind = [(4, 4), (2, 2), (4, 4), (1, 1)], tri((0, 0), (0, -1), (1, 1))
+    for i in range(4):
+        zs = [7, 8, 9, 10]
+        zs[i] = heights.BEYOND[i % 2]
+        yield ("a point's height beyond, whatever its fate",
+               as_given(heights.put(t, more=4), one, sample, zs), 10)
+    for z in heights.BEYOND:
+        yield ("a height beyond of fate 4",
+               as_given(heights.put(behind, more=2), (1.0, -1.0), [(-2, -1), (3, 4)], [z, 5]), 10)
+
+
+def high_runs(rng):
+    """Name, case, number: what becomes of heights in a run."""
+    t, one = check_cases.triangle(), (1.0, 1.0)
+    sample, behind = [(4, 4), (2, 2), (4, 4), (1, 1)], tri((0, 0), (0, -1), (1, 1))
+    yield ("01's sample, with heights",
+           as_given(heights.put(t, [1, 2, 3], 4), one, sample, [10, 20, 30, 40]), 0)
+    yield ("fate 4, then others, with heights",
+           as_given(heights.put(behind, [-1, -2, -3], 6), (1.0, -1.0),
+                    [(-2, -1), (3, 4), (-2, -1), (1, -1), (0, 7), (5, -5)], [4, 5, 6, 7, 8, 9]), 0)
+    yield ("a vertex at an existing position, with another height",
+           as_given(heights.put(tri((-6, 4), (0, -6), (6, 4)), [1, 2, 3], 3), (6.0, -5.0),
+                    [(6, 0), (12, -2), (6, 4)], [-1, -2, -3]), 0)
+    wheel = [(9, 9), (9, 9), (-9, 9), (9, 9), (0, 0), (-9, 9), (1, 0), (-9, -9), (9, -9), (9, 9), (20, 1)]
+    yield ("repeated points, each time with another height",
+           as_given(heights.put(check_cases.hexagon(), more=11), (0.0, 0.0), wheel,
+                    [10 ** (i % 7) - i for i in range(11)], pending=64), 0)
+    for n, pending, number in ((8, 8, 9), (8, 9, 0)):
+        for points, zs in (([(60, 3), (70, 3), (1, -1), (300, 0), (5, 5)], [1, 2, -333, 4, 5]),
+                           ([(300, 2), (1, -1), (900, 9)], [-111, -222, -333])):
+            mesh = heights.put(meshes.flat_fan(n), more=len(points))
+            yield ("a fan of %d, with heights, %d entries" % (n, pending),
+                   as_given(mesh, (70.0, 3.0), points, zs, pending=pending), number)
+    for points, zs in (([], []), ([(-50, 0), (-2, 0), (-60, 1)], [51, 52, 53])):
+        for pending, number in ((10, 9), (11, 0)):
+            mesh = heights.put(meshes.corner_beside_fan(5), more=len(points))
+            yield ("a corner beside a fan, with heights: the finish fills %d entries" % pending,
+                   as_given(mesh, (-1.0, 0.5), points, zs, pending=pending), number)
+    seed = tri((-2, -2), (3, -1), (-1, 3))
+    for points in (round_about(17, 9000, (0, 0), 7) + round_about(5, 2000000, (0, 0)),
+                   listed("repeated", rng, 16, 30), listed("far to near", rng, 12, sweep.LIMIT)):
+        zs = rng.sample(range(-heights.LIMIT, heights.LIMIT + 1), len(points))
+        mesh = heights.put(seed, [-3, 5, 7], len(points))
+        yield "a ring that is driven, with heights", as_given(mesh, (0.0, 0.0), points, zs, pending=64), 0
+    found = 0
+    while found < 16:
+        spread = rng.choice([3, 6, 30, 1000])
+        mesh = selfcheck.random_seed(rng, spread)
+        centre = selfcheck.random_centre(rng, mesh, spread)
+        points = selfcheck.random_points(rng, centre, 2 * spread, rng.choice([1, 2, 4, 7]))
+        zs = heights.random_heights(rng, len(points) + rng.choice([0, 0, 2]))
+        mesh = heights.put(mesh, heights.random_heights(rng, mesh.vertices), len(points))
+        case = as_given(mesh, centre, points, zs, pending=rng.choice([8, 64]))
+        if add_run(lists.List(""), "", case)[0] == 0:
+            found += 1
+            yield "random, with heights %d" % found, case, 0
+
+
 def run_list():
     out, rng = lists.List("run_cases.py run"), random.Random(74)
     for points in ([], [(9, 9)], [(9, 9), (-9, 9), (9, -9)]):
@@ -558,7 +724,18 @@ def run_list():
     for name, case, *told in rings():
         *found, again = carried_ring(case)
         assert found == told and again and add_run(out, name, case)[0] == 0, (name, found, again)
+    run_heights(out, random.Random(75))
     return out
+
+
+def run_heights(out, rng):
+    """Cases with heights."""
+    for name, case, number, place in high_refusals([(9, 9), (-9, 9)]):
+        assert add_run(out, name, case)[:2] == (number, place), name
+    for name, case, number in high_run_refusals():
+        assert add_run(out, name, case)[:2] == (number, 0), name
+    for name, case, number in high_runs(rng):
+        assert add_run(out, name, case)[0] == number, name
 
 
 def step_list():
@@ -603,7 +780,37 @@ def step_list():
         if wanted[fate]:
             wanted[fate] -= 1
             add_step(out, "fate %d" % fate, Case(mesh, centre, [point]))
+    step_heights(out, random.Random(86))
     return out
+
+
+def step_heights(out, rng):
+    """Cases with heights."""
+    for name, case, number, _ in high_refusals([(9, 9)]):
+        assert add_step(out, name, case)[0] == number, name
+    for name, case, fate in each_fate():
+        number, answer = add_step(out, name, case)
+        assert (number, answer[0]) == (0, fate), name
+        for z in heights.BEYOND if case.zs == [-77] else ():
+            case.zs = [z]
+            assert add_step(out, "fate %d, a height beyond" % fate, case)[0] == 10
+    for name, case, _ in list(filling())[::3]:
+        mesh = heights.put(case.mesh, heights.random_heights(rng, case.mesh.vertices), 1)
+        high = as_given(mesh, case.centre, case.points, [-heights.LIMIT + case.mesh.vertices])
+        assert add_step(out, name + ", with heights", high)[0] == 9
+        high.lengths["pending"] = least_pending(case)
+        assert add_step(out, "the same with just as many entries as it takes", high)[0] == 0
+    found = 0
+    while found < 20:
+        spread = rng.choice([3, 6, 30, 1000, sweep.LIMIT // 2])
+        mesh = selfcheck.random_seed(rng, spread)
+        centre = selfcheck.random_centre(rng, mesh, spread)
+        points = selfcheck.random_points(rng, centre, 2 * spread, 1)
+        mesh = heights.put(mesh, heights.random_heights(rng, mesh.vertices), 1 + found % 3)
+        case = as_given(mesh, centre, points, heights.random_heights(rng, 1))
+        if add_step(lists.List(""), "", case)[0] == 0:
+            found += 1
+            add_step(out, "random, with heights %d" % found, case)
 
 
 if __name__ == "__main__":

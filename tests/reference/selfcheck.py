@@ -1,5 +1,5 @@
-"""Checks of the reference itself: 01's listing, M1 to M10, rare cases, and an adversarial
-campaign of whole runs that asserts what demand 3 claims of them.
+"""Checks of the reference itself: 01's listing, M1 to M10, rare cases, volumes, and an adversarial campaign
+of whole runs that asserts what demand 3 claims of them, and what heights must and must not change.
 
     python3 selfcheck.py [seconds of campaign, 20 if none is given] [seed]
 """
@@ -97,6 +97,21 @@ def examples():
         assert answer[0] == number, "a fan of n triangles needs n + 1 pending entries"
 
 
+def heights():
+    """Change 1 at its smallest: a wedge over a triangle whose volume is known, and the rounding."""
+    wedge = sweep.seed_triangle([(0, 0), (3000, 0), (0, 2000)], 3)
+    wedge.heights = [1000, 1000, 1000]  # a prism of 3 m² and 1 m
+    assert sweep.volume(wedge, 0) == (0, 0, 0, 18 * 10 ** 9, 3)
+    wedge.heights = [1000, 0, 0]  # a third of it
+    assert sweep.volume(wedge, 0) == (0, 0, 0, 6 * 10 ** 9, 1)
+    assert sweep.volume(wedge, 1000) == (0, 0, (1 << 64) - 1, (1 << 64) - 12 * 10 ** 9, -2)
+    assert sweep.volume(wedge, 1048577)[:2] == (10, 0)
+    assert [sweep.cubic_metres(h * 3 * 10 ** 9) for h in (-5, -3, -2, -1, 0, 1, 2, 3, 5)] == [
+        -3, -2, -1, -1, 0, 1, 1, 2, 3]
+    wedge.heights[1] = -1048577
+    assert sweep.check(wedge) == (10, 0)
+
+
 # ---------------------------------------------------------------------------------------------------
 # Demand 3 on whole runs
 
@@ -124,23 +139,24 @@ def finished(mesh):
                 assert sweep.incircle(*sweep.face_corners(mesh, f), mesh.at(far)) <= 0, "circle"
 
 
-def vertices_kept(mesh, seed, points, answers):
-    """The vertices are the seed's and the points of fate 1, each at its position, numbered in order."""
-    expected = [seed.at(v) for v in range(seed.vertices)]
+def vertices_kept(mesh, seed, points, answers, heights=None):
+    """The vertices are the seed's and the points of fate 1, each at its position and at its height, numbered
+    in order."""
+    expected = [(seed.at(v), seed.heights[v]) for v in range(seed.vertices)]
     for i, p in enumerate(points):
         fate, vertex, faces, flips = sweep.answer_at(answers, i)
         if fate == 1:
             assert vertex == len(expected), "vertex number"
-            expected.append(p)
+            expected.append((p, heights[i] if heights else 0))
         else:
             assert (vertex, faces, flips) == (0, 0, 0)
-    assert [mesh.at(v) for v in range(mesh.vertices)] == expected, "vertices"
+    assert [(mesh.at(v), mesh.heights[v]) for v in range(mesh.vertices)] == expected, "vertices"
 
 
 def untouched(rows, before, counts):
     """Entries past the counts in use."""
     v, e, f = counts
-    for row, was, used in zip(rows, before, (2 * v, v, 8 * e, f)):
+    for row, was, used in zip(rows, before, (2 * v, v, 8 * e, f, v)):
         assert row[used:] == was[used:], "entries past the counts"
 
 
@@ -215,8 +231,51 @@ def finish_watched(mesh, pending, tally):
     return flips, closing
 
 
-def whole_run(seed, centre, points, pending, tally):
+def at_heights(seed, centre, points, pending, plain, rng):
+    """The same run with heights: but for the heights row nothing else is answered or left, and the row has
+    the seed's heights and those of the points that were added, also where the run is refused 9."""
+    n = seed.vertices + len(points)
+    most = rng.choice([2, 1000, sweep.HEIGHT_LIMIT])
+    zs = [rng.randint(-most, most) for _ in points]
+    mesh, lent = meshes.with_room(seed, n), sweep.lent_for(n, pending, len(points))
+    mesh.heights[:] = [rng.randint(-most, most) for _ in range(seed.vertices)] + [7654321] * len(points)
+    given = mesh.copy()
+    answer = sweep.run(mesh, lent, centre, points, zs)
+    flat, flat_lent, flat_answer = plain
+    assert answer == flat_answer and lent.answers == flat_lent.answers, "heights and answers"
+    assert mesh.rows()[:4] == flat.rows()[:4] and mesh.counts() == flat.counts(), "heights and links"
+    added = [z for i, z in enumerate(zs) if lent.answers[sweep.WORDS * i] == 1]
+    if answer[0] == 9 and answer[1] < len(points):
+        added.append(zs[answer[1]])
+    kept = given.heights[:seed.vertices] + added
+    assert mesh.heights == kept + given.heights[len(kept):], "the heights row"
+    return mesh
+
+
+def volumes(mesh, rng):
+    """What volumes must satisfy, whatever the mesh."""
+    most = sweep.HEIGHT_LIMIT
+    level, area = rng.randint(-most, most - 1), sweep.inner_area(mesh)
+    six = sweep.six_volumes(mesh, level)
+    number, place, high, low, metres = sweep.volume(mesh, level)
+    assert (number, place) == (0, 0) and (high - (high >> 63 << 64)) * (1 << 64) + low == six, "halves"
+    rounded = metres * sweep.CUBIC_METRE
+    off = 2 * abs(rounded - six)
+    assert off < sweep.CUBIC_METRE or off == sweep.CUBIC_METRE and abs(rounded) > abs(six), "the nearest"
+    assert sweep.six_volumes(mesh, level + 1) == six - 3 * area, "the level one higher"
+    twin = meshes.renumbered(meshes.with_room(mesh, mesh.vertices), rng)
+    assert sweep.volume(twin, level) == sweep.volume(mesh, level), "other numbers"
+    twin.heights = [2 * level - z for z in twin.heights]
+    assert sweep.six_volumes(twin, level) == -six, "mirrored at the level"
+    twin.heights = [level] * len(twin.heights)
+    assert sweep.six_volumes(twin, level) == 0, "every height at the level"
+
+
+def whole_run(seed, centre, points, pending, tally, rng):
     mesh, lent, answer = run_of(seed, centre, points, pending)
+    high = at_heights(seed, centre, points, pending, (mesh, lent, answer), rng)
+    if answer[0] in (0, 9):
+        volumes(high, rng)
     key = "refused %d" % answer[0] if answer[0] else "accepted"
     tally[key] = tally.get(key, 0) + 1
     given = meshes.with_room(seed, seed.vertices + len(points))
@@ -342,7 +401,7 @@ def campaign(seconds, seed):
         pending = rng.choice([8, 8, 9, 10, 12, 4096])
         runs += 1
         try:
-            whole_run(start, centre, points, pending, tally)
+            whole_run(start, centre, points, pending, tally, rng)
         except AssertionError:
             print("run", runs, [start.at(v) for v in range(start.vertices)], centre, points, pending)
             raise
@@ -353,5 +412,6 @@ if __name__ == "__main__":
     assert sweep.listing(SAMPLE) == SAMPLE_OUT
     marked()
     examples()
-    print("the listing, M1 to M10 and the rare cases agree")
+    heights()
+    print("the listing, M1 to M10, the rare cases and the volumes agree")
     campaign(float(sys.argv[1]) if len(sys.argv) > 1 else 20, int(sys.argv[2]) if len(sys.argv) > 2 else 1)

@@ -1,30 +1,34 @@
-"""An executable reading of 01-scope.md, independent of the proved code.
+"""An executable reading of 01-scope.md and of Change 1 to it (02-change-requests.md), independent of the
+proved code.
 
-Every function states one sentence of 01 (cited as '01: "..."') or one function of the Rust that 01
-names (000 bulk_load.rs, 001 dcel_operations.rs, 002 triangulation_ext.rs, 003 math.rs).  Where 01 can
-be read in two ways the reading of docs/DECISIONS.md is taken.  Plain Python 3, whole
-numbers of any size, floats as IEEE doubles.  Nothing here is fast: the ring is made anew from the
+Every function states one sentence of 01 or of Change 1 (cited as '01: "..."', 'Change 1: "..."') or one
+function of the Rust that 01 names (000 bulk_load.rs, 001 dcel_operations.rs, 002 triangulation_ext.rs, 003
+math.rs).  Where they can be read in two ways the reading of docs/DECISIONS.md is taken.  Plain Python 3,
+whole numbers of any size, floats as IEEE doubles.  Nothing here is fast: the ring is made anew from the
 boundary at every step, because that is what the words say.
 
 Rows are Python lists, laid out as the proved code has them:
-  positions x, y per vertex; outs one half-edge per vertex; halves next, prev, face, origin per
-  half-edge; stored one half-edge per face; answers fate, vertex, faces and flips per
-  point.
-Only the lengths of the ring's rows (nodes, freed, buckets) and of pending matter here.
+  positions x, y per vertex; heights one number per vertex; outs one half-edge per vertex; halves next,
+  prev, face, origin per half-edge; stored one half-edge per face; answers fate, vertex, faces and flips
+  per point.
+Only the lengths of the ring's rows (nodes, freed, buckets) and of pending matter here.  Where a caller
+gives no heights, of the vertices or of the points, they are zeros in a row that is long enough.
 """
 
 from fractions import Fraction
 import math
 
 LIMIT = 16777216
+HEIGHT_LIMIT = 1048576
 MOST_VERTICES = 1000000
 LEAST_PENDING = 8
 NEXT, PREV, FACE, ORIGIN = 0, 1, 2, 3
 WORDS = 4  # of an answer in the answers row
+CUBIC_METRE = 6 * 10 ** 9  # cubic millimetres, six times over
 
 
 class Refusal(Exception):
-    """A row of 01's table: its number and a place."""
+    """A row of 01's table, or the number of Change 1: its number and a place."""
 
     def __init__(self, number, place=0):
         super().__init__(number, place)
@@ -42,17 +46,19 @@ class PendingFull(Exception):
 class Mesh:
     """The lent rows of a mesh and the counts in use."""
 
-    def __init__(self, positions, outs, halves, stored, vertices, edges, faces):
+    def __init__(self, positions, outs, halves, stored, vertices, edges, faces, heights=None):
         self.positions, self.outs, self.halves, self.stored = positions, outs, halves, stored
         self.vertices, self.edges, self.faces = vertices, edges, faces
+        # Zeros are long enough wherever the positions are, for a vertex has two of those.
+        self.heights = [0] * len(positions) if heights is None else heights
         self.left_out = 0  # flips of legalize_edges_after_removal left out, "recorded"
 
     def copy(self):
         return Mesh(self.positions[:], self.outs[:], self.halves[:], self.stored[:],
-                    self.vertices, self.edges, self.faces)
+                    self.vertices, self.edges, self.faces, self.heights[:])
 
     def rows(self):
-        return (self.positions, self.outs, self.halves, self.stored)
+        return (self.positions, self.outs, self.halves, self.stored, self.heights)
 
     def counts(self):
         return (self.vertices, self.edges, self.faces)
@@ -146,10 +152,15 @@ def is_behind_edge(e1, e2, query):
     return factor > dx * dx + dy * dy
 
 
-def face_corners(mesh, f):
-    """The positions of an inner face's vertices, from its stored edge by next."""
+def face_vertices(mesh, f):
+    """The vertices of an inner face, from its stored edge by next."""
     e = mesh.stored[f]
-    return [mesh.at(mesh.origin(h)) for h in (e, mesh.next(e), mesh.next(mesh.next(e)))]
+    return [mesh.origin(h) for h in (e, mesh.next(e), mesh.next(mesh.next(e)))]
+
+
+def face_corners(mesh, f):
+    """Their positions."""
+    return [mesh.at(v) for v in face_vertices(mesh, f)]
 
 
 def boundary_area(mesh):
@@ -179,7 +190,7 @@ def height_sum(mesh):
 
 
 # ---------------------------------------------------------------------------------------------------
-# Refusals 1 to 5
+# Refusals 1 to 5 and 10
 
 
 def refuse_count(n):
@@ -189,9 +200,10 @@ def refuse_count(n):
 
 
 def refuse_mesh_rows(mesh, n):
-    """2, 01: "For N vertices: N positions, N out edges, 6N half-edges, 2N faces" """
+    """2, 01: "For N vertices: N positions, N out edges, 6N half-edges, 2N faces"; Change 1: "each vertex
+    gains a height", so N heights """
     if (len(mesh.positions) < 2 * n or len(mesh.outs) < n or len(mesh.halves) < 4 * 6 * n
-            or len(mesh.stored) < 2 * n):
+            or len(mesh.stored) < 2 * n or len(mesh.heights) < n):
         raise Refusal(2)
 
 
@@ -214,6 +226,12 @@ def refuse_point_row(points):
         raise Refusal(2)
 
 
+def refuse_height_row(points, heights):
+    """2: the row of the points' heights has one number for each point, the one without y counted"""
+    if len(heights) < len(points):
+        raise Refusal(2)
+
+
 def refuse_answer_row(lent, points):
     """2, 01: "one answer (fate, vertex, faces, flips) per point" """
     if len(lent.answers) < WORDS * points:
@@ -226,6 +244,13 @@ def refuse_coordinates(mesh, points):
     for i, p in enumerate([mesh.at(v) for v in range(mesh.vertices)] + list(points)):
         if any(c < -LIMIT or c > LIMIT for c in p):
             raise Refusal(3, i)
+
+
+def refuse_heights(mesh, others):
+    """10, Change 1: "a height or level outside -1,048,576..1,048,576, checked straight after 3", of the
+    vertices in use, of the points and the level. No place is named for it, so it is 0."""
+    if any(z < -HEIGHT_LIMIT or z > HEIGHT_LIMIT for z in mesh.heights[:mesh.vertices] + list(others)):
+        raise Refusal(10)
 
 
 def in_range(mesh):
@@ -482,11 +507,13 @@ def create_single_face_between_edge_and_next(mesh, edge):
     return new_outer
 
 
-def create_new_face_adjacent_to_edge(mesh, edge, point):
+def create_new_face_adjacent_to_edge(mesh, edge, point, z=0):
     """The new vertex is appended first (`VertexToInsert::NewVertex`); 01: "An added vertex takes the next
-    number after those in use." Answers it."""
+    number after those in use." Change 1: "Every call that carries a vertex carries it through." Answers the
+    vertex."""
     vertex = mesh.vertices
     mesh.positions[2 * vertex:2 * vertex + 2] = list(point)
+    mesh.heights[vertex] = z
     mesh.vertices += 1
 
     entry_next, entry_prev, entry_face = mesh.next(edge), mesh.prev(edge), mesh.face(edge)
@@ -625,11 +652,11 @@ def fate_of(mesh, point, centre):
     return 1, edge
 
 
-def insertion(mesh, edge, point, centre, capacity):
+def insertion(mesh, edge, point, centre, capacity, z=0):
     """000, `single_bulk_insertion_step` from the new face on; answers vertex, faces, flips."""
     angle = pseudo_angle(point, centre)
     faces_before = mesh.faces
-    vertex = create_new_face_adjacent_to_edge(mesh, edge, point)
+    vertex = create_new_face_adjacent_to_edge(mesh, edge, point, z)
     ccw_walk_start, cw_walk_start = rev(mesh.prev(edge)), rev(mesh.next(edge))
     flips = legalize_edge(mesh, edge, capacity)
 
@@ -649,12 +676,13 @@ def insertion(mesh, edge, point, centre, capacity):
     return vertex, mesh.faces - faces_before, flips
 
 
-def one_step(mesh, point, centre, capacity):
-    """01: "An answer is a fate together with its counts"; "Fates 2 to 5 leave the mesh alone." """
+def one_step(mesh, point, centre, capacity, z=0):
+    """01: "An answer is a fate together with its counts"; "Fates 2 to 5 leave the mesh alone." Change 1:
+    "Links and fates keep ignoring z." """
     fate, edge = fate_of(mesh, point, centre)
     if fate != 1:
         return (fate, 0, 0, 0)
-    return (1,) + insertion(mesh, edge, point, centre, capacity)
+    return (1,) + insertion(mesh, edge, point, centre, capacity, z)
 
 
 # ---------------------------------------------------------------------------------------------------
@@ -725,7 +753,36 @@ def finishing(mesh, capacity):
 
 
 # ---------------------------------------------------------------------------------------------------
-# The five public calls
+# Volume
+
+
+def six_volumes(mesh, level):
+    """Change 1: "six times the signed volume between the mesh and a level L, exactly: over all triangles,
+    doubled area times (the three heights minus 3L)" """
+    total = 0
+    for f in range(1, mesh.faces):
+        heights = [mesh.heights[v] for v in face_vertices(mesh, f)]
+        total += orient2d(*face_corners(mesh, f)) * (sum(heights) - 3 * level)
+    return total
+
+
+def two_halves(number):
+    """Change 1: "A number past 64 bits .. is two's complement in a high and a low 64-bit half." """
+    pattern = number % (1 << 128)
+    return (pattern >> 64, pattern % (1 << 64))
+
+
+def cubic_metres(six):
+    """Change 1: "that volume in cubic metres (10^9 mm³), rounded to the nearest whole, exact halves away
+    from zero" """
+    whole, rest = divmod(abs(six), CUBIC_METRE)
+    if 2 * rest >= CUBIC_METRE:
+        whole += 1
+    return whole if six > 0 else -whole
+
+
+# ---------------------------------------------------------------------------------------------------
+# The public calls: 01's five, and the volume
 
 
 class Lent:
@@ -757,6 +814,7 @@ def check(mesh):
         refuse_count(mesh.vertices)
         refuse_mesh_rows(mesh, mesh.vertices)
         refuse_coordinates(mesh, [])
+        refuse_heights(mesh, [])
         refuse_mesh(mesh)
     except Refusal as r:
         return (r.number, r.place)
@@ -770,6 +828,7 @@ def locate(mesh, lent, centre, angle):
         refuse_mesh_rows(mesh, mesh.vertices)
         refuse_ring_rows(lent, mesh.vertices)
         refuse_coordinates(mesh, [])
+        refuse_heights(mesh, [])
         refuse_mesh(mesh)
         refuse_centre(mesh, centre)
         refuse_ring(mesh, centre)
@@ -783,29 +842,32 @@ def locate(mesh, lent, centre, angle):
     return (0, 0, located(ring, angle), passed)
 
 
-def refuse_run(mesh, lent, centre, points, answered):
+def refuse_run(mesh, lent, centre, points, answered, heights=None):
     """The checks of step and run, from the top of the table down."""
+    heights = [0] * len(points) if heights is None else heights
     n = mesh.vertices + len(points)
     refuse_count(n)
     refuse_mesh_rows(mesh, n)
     refuse_ring_rows(lent, n)
     refuse_pending_row(lent)
     refuse_point_row(points)
+    refuse_height_row(points, heights)
     refuse_answer_row(lent, answered)
     refuse_coordinates(mesh, points)
+    refuse_heights(mesh, heights[:len(points)])
     refuse_mesh(mesh)
     refuse_centre(mesh, centre)
     refuse_ring(mesh, centre)
 
 
-def step(mesh, lent, centre, point):
+def step(mesh, lent, centre, point, z=0):
     """Answers (number, place, answer).  The answer is given back, not written to a row."""
     try:
-        refuse_run(mesh, lent, centre, [point], 0)
+        refuse_run(mesh, lent, centre, [point], 0, [z])
     except Refusal as r:
         return (r.number, r.place, (0, 0, 0, 0))
     try:
-        answer, number = one_step(mesh, point, centre, len(lent.pending)), 0
+        answer, number = one_step(mesh, point, centre, len(lent.pending), z), 0
     except PendingFull:
         answer, number = (0, 0, 0, 0), 9
     lent.clear_ring()
@@ -821,6 +883,7 @@ def finish(mesh, lent):
         refuse_mesh_rows(mesh, mesh.vertices)
         refuse_pending_row(lent)
         refuse_coordinates(mesh, [])
+        refuse_heights(mesh, [])
         refuse_mesh(mesh)
     except Refusal as r:
         return (r.number, r.place, 0, 0, 0)
@@ -838,18 +901,19 @@ def answer_at(row, i):
     return (fate, vertex, faces, flips)
 
 
-def run(mesh, lent, centre, points):
+def run(mesh, lent, centre, points, heights=None):
     """Answers (number, place, faces added, convexity flips, closing flips); the points' answers go to
     the row.  01: "A run takes its points in list order." """
+    heights = [0] * len(points) if heights is None else heights
     try:
-        refuse_run(mesh, lent, centre, points, len(points))
+        refuse_run(mesh, lent, centre, points, len(points), heights)
     except Refusal as r:
         return (r.number, r.place, 0, 0, 0)
     capacity, done = len(lent.pending), 0
     lent.answers[:WORDS * len(points)] = [0] * (WORDS * len(points))
     try:
         for i, point in enumerate(points):
-            answer = one_step(mesh, point, centre, capacity)
+            answer = one_step(mesh, point, centre, capacity, heights[i])
             lent.answers[WORDS * i:WORDS * i + WORDS] = answer
             done = i + 1
         answer = (0, 0) + finishing(mesh, capacity)
@@ -861,6 +925,21 @@ def run(mesh, lent, centre, points):
     return answer
 
 
+def volume(mesh, level):
+    """Answers (number, place, high half, low half, cubic metres).  Change 1: "A new call that names no rows
+    needs the mesh's only." """
+    try:
+        refuse_count(mesh.vertices)
+        refuse_mesh_rows(mesh, mesh.vertices)
+        refuse_coordinates(mesh, [])
+        refuse_heights(mesh, [level])
+        refuse_mesh(mesh)
+    except Refusal as r:
+        return (r.number, r.place, 0, 0, 0)
+    six = six_volumes(mesh, level)
+    return (0, 0) + two_halves(six) + (cubic_metres(six),)
+
+
 # ---------------------------------------------------------------------------------------------------
 # The listing program
 
@@ -868,7 +947,7 @@ def run(mesh, lent, centre, points):
 def seed_triangle(corners, n):
     """Half-edges 0, 2, 4 are v0 -> v1, v1 -> v2, v2 -> v0 in face 1, the odd ones their reverses in face
     0; rows lent for n vertices."""
-    mesh = Mesh([0] * (2 * n), [0] * n, [0] * (24 * n), [0] * (2 * n), 3, 3, 2)
+    mesh = Mesh([0] * (2 * n), [0] * n, [0] * (24 * n), [0] * (2 * n), 3, 3, 2, [0] * n)
     for v, (x, y) in enumerate(corners):
         mesh.positions[2 * v:2 * v + 2] = [x, y]
         mesh.outs[v] = 2 * v

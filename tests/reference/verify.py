@@ -18,7 +18,8 @@ HERE = os.path.dirname(os.path.abspath(__file__))
 SECONDS = 20.0  # the longest case takes two
 SHORT = 1000  # bytes of a listing's text that every change is tried on
 FEWEST = 3  # cases of the listing's list that notice a change of the listing
-NAMES = ("samples", "check", "finish", "locate", "step", "run", "listing")
+NAMES = ("samples", "check", "finish", "locate", "step", "run", "volume", "listing")
+ORDER = "mpeohfnqxwvylMPEOHFWr"  # of the lines of a case, as far as it has them
 
 
 def of_bits(b):
@@ -75,22 +76,32 @@ def row(numbers):
 
 
 def mesh_of(sweep, case, tags):
-    rows = [row(case[t]) for t in tags[1:]]
-    return sweep.Mesh(*rows, *case[tags[0]])
+    """The mesh of the lines with these tags; where the line of the heights is missing they are zeros."""
+    counts, positions, heights, *rows = tags
+    return sweep.Mesh(row(case[positions]), *(row(case[t]) for t in rows), *case[counts],
+                      row(case[heights]) if heights in case else None)
+
+
+def in_order(case):
+    """The lines come in the order of README.md, and `E` is there just where `e` and `M` are."""
+    return list(case) == [t for t in ORDER if t in case] and ("E" in case) == ("e" in case and "M" in case)
 
 
 def cases(rows, last):
     case = {}
     for tag, numbers in rows:
+        assert tag not in case, (tag, case)
         case[tag] = numbers
         if tag == last:
+            assert in_order(case), case
             yield case
             case = {}
+    assert not case
 
 
 def left_as_told(sweep, case, mesh):
-    """The counts and rows are those of `M P O H F`, or the given ones where these are missing."""
-    told = mesh_of(sweep, case, "MPOHF" if "M" in case else "mpohf")
+    """The counts and rows are those of `M P E O H F`, or the given ones where these are missing."""
+    told = mesh_of(sweep, case, "MPEOHF" if "M" in case else "mpeohf")
     return mesh.rows() == told.rows() and mesh.counts() == told.counts()
 
 
@@ -126,12 +137,18 @@ def sample(sweep, tag, n):
 
 
 def check_one(sweep, case):
-    mesh = mesh_of(sweep, case, "mpohf")
+    mesh = mesh_of(sweep, case, "mpeohf")
     return list(sweep.check(mesh)) == case["r"] and left_as_told(sweep, case, mesh)
 
 
+def volume_one(sweep, case):
+    mesh = mesh_of(sweep, case, "mpeohf")
+    number, place, high, low, metres = sweep.volume(mesh, *case["l"])
+    return ([number, place, high, low, metres % (1 << 64)] == case["r"] and left_as_told(sweep, case, mesh))
+
+
 def finish_one(sweep, case):
-    mesh, lent = mesh_of(sweep, case, "mpohf"), sweep.Lent(pending=row(case["q"]))
+    mesh, lent = mesh_of(sweep, case, "mpeohf"), sweep.Lent(pending=row(case["q"]))
     answer = sweep.finish(mesh, lent)
     return (list(answer) == case["r"] and left_as_told(sweep, case, mesh)
             and cleared(answer[0], lent.pending))
@@ -139,7 +156,7 @@ def finish_one(sweep, case):
 
 def locate_one(sweep, case, numbers):
     lent = sweep.Lent(*([7] * n for n in case["n"]))
-    mesh = mesh_of(sweep, case, "mpohf")
+    mesh = mesh_of(sweep, case, "mpeohf")
     answer = sweep.locate(mesh, lent, tuple(map(of_bits, case["x"])), of_bits(numbers[0]))
     return (list(answer) == numbers[1:] and left_as_told(sweep, case, mesh)
             and cleared(answer[0], lent.nodes, lent.freed, lent.buckets))
@@ -149,13 +166,14 @@ def call_one(sweep, case):
     """A run or, where there is no answers row, a step."""
     lent = sweep.Lent(*([7] * n for n in case["n"]), pending=row(case["q"]),
                       answers=row(case.get("w", [0, 0])))
-    mesh, points = mesh_of(sweep, case, "mpohf"), pairs(case["v"][1:])
+    mesh, points = mesh_of(sweep, case, "mpeohf"), pairs(case["v"][1:])
+    assert len(points) == case["v"][0]
     centre = tuple(map(of_bits, case["x"]))
     if "w" in case:
-        answer = sweep.run(mesh, lent, centre, points)
+        answer = sweep.run(mesh, lent, centre, points, row(case["y"]) if "y" in case else None)
         told = row(case["W"] if "W" in case else case["w"])
     else:
-        number, place, given = sweep.step(mesh, lent, centre, points[0])
+        number, place, given = sweep.step(mesh, lent, centre, points[0], *case.get("y", [0]))
         answer, told = (number, place) + tuple(given), []
     return (list(answer) == case["r"] and left_as_told(sweep, case, mesh) and lent.answers == told
             and cleared(answer[0], lent.nodes, lent.freed, lent.buckets, lent.pending))
@@ -196,13 +214,14 @@ def failures(sweep, name, first_only=False):
                 if tag == "m":
                     case = {}
                 if tag == "l":
+                    assert in_order(case), case
                     yield locate_one, dict(case), n
                 else:
                     case[tag] = n
         tests = queries()
     else:
         one, last = {"check": (check_one, "r"), "finish": (finish_one, "r"), "step": (call_one, "r"),
-                     "run": (call_one, "r")}[name]
+                     "run": (call_one, "r"), "volume": (volume_one, "r")}[name]
         tests = ((one, case) for case in cases(rows, last))
     for test, *arguments in tests:
         total += 1
@@ -325,6 +344,179 @@ MUTANTS = [  # name, text, what takes its place; and why, where no list can noti
     ("at most 64 pending entries used", "capacity, done = len(lent.pending), 0",
      "capacity, done = min(64, len(lent.pending)), 0"),
 ]
+# Pieces of sweep.py that the changes below put in another order.
+COORDINATES, NO_OTHERS = "        refuse_coordinates(mesh, [])\n", "        refuse_heights(mesh, [])\n"
+RULES, LEVEL = "        refuse_mesh(mesh)\n", "        refuse_heights(mesh, [level])\n"
+BARE = COORDINATES + RULES  # without 10
+CHECKED = COORDINATES + NO_OTHERS + RULES
+HEIGHTS_FIRST, HEIGHTS_LAST = NO_OTHERS + COORDINATES + RULES, COORDINATES + RULES + NO_OTHERS
+AFTER = {  # what follows these checks in a call
+    "a check": "    except Refusal as r:\n        return (r.number, r.place)\n",
+    "a finish": ("    except Refusal as r:\n        return (r.number, r.place, 0, 0, 0)\n    try:\n"
+                 "        answer = (0, 0)"),
+    "a locate": ("        refuse_centre(mesh, centre)\n        refuse_ring(mesh, centre)\n"
+                 "        refuse_angle(angle)\n")}
+BAD_LEVEL = "        if abs(level) > HEIGHT_LIMIT:\n            raise Refusal(10)\n"
+RUN_COUNT = "    refuse_count(n)\n    refuse_mesh_rows(mesh, n)\n    refuse_ring"
+RUN_RING_ROWS = "    refuse_ring_rows(lent, n)\n    refuse_pending_row(lent)\n"
+RUN_COORDINATES = "    refuse_coordinates(mesh, points)\n"
+RUN_HEIGHTS = "    refuse_heights(mesh, heights[:len(points)])\n"
+RUN_HEIGHT_ROW = "    refuse_height_row(points, heights)\n"
+RUN_ANSWER_ROW = "    refuse_answer_row(lent, answered)\n"
+RUN_RULES, RUN_CENTRE = "    refuse_mesh(mesh)\n", "    refuse_centre(mesh, centre)\n"
+RUN_RING = "    refuse_ring(mesh, centre)\n"
+ANY_HEIGHT = "    refuse_heights(mesh, heights)\n"
+FULL = "    except PendingFull:\n        answer, number = (0, 0, 0, 0), 9\n"
+RUN_FULL = "        answer = (9, done, 0, 0, 0)\n"
+LOSE = "        mesh.heights[mesh.vertices - 1] = 0\n"
+STORED = "    mesh.heights[vertex] = z\n"
+NO_FATE = "    if fate != 1:\n        return (fate, 0, 0, 0)\n"
+ROW = " or len(mesh.heights) < n):"
+POINTS_ROW = "if len(heights) < len(points):"
+IN_RANGE = "z < -HEIGHT_LIMIT or z > HEIGHT_LIMIT"
+IN_USE = "for z in mesh.heights[:mesh.vertices] + list(others)"
+GIVEN = "capacity, heights[i])"
+FACTOR = "(sum(heights) - 3 * level)"
+EACH_FACE = "    for f in range(1, mesh.faces):\n        heights"
+TOTAL = "    return total\n\n\ndef two_halves"
+PATTERN = "pattern = number % (1 << 128)"
+HALVES = "return (pattern >> 64, pattern % (1 << 64))"
+ROUNDED = "    if 2 * rest >= CUBIC_METRE:\n"
+ROUNDED_WITH = "    if 2 * rest > CUBIC_METRE or 2 * rest == CUBIC_METRE and %s:\n"
+SIGNED = "    return whole if six > 0 else -whole"
+METRE = "CUBIC_METRE = 6 * 10 ** 9"
+HEIGHTS = [  # the same of Change 1
+    ("a step stores no height", STORED, ""),
+    ("a step stores the height 0", STORED, "    mesh.heights[vertex] = 0\n"),
+    ("a step stores the height without its sign", STORED, "    mesh.heights[vertex] = abs(z)\n"),
+    ("a step stores x for the height", STORED, "    mesh.heights[vertex] = point[0]\n"),
+    ("the height stored at the vertex before", STORED, "    mesh.heights[vertex - 1] = z\n"),
+    ("the height stored at the vertex after", STORED,
+     "    mesh.heights[min(vertex + 1, len(mesh.heights) - 1)] = z\n"),
+    ("the height stored at vertex 0", STORED, "    mesh.heights[0] = z\n"),
+    ("the height stored at the edge's origin too", STORED,
+     STORED + "    mesh.heights[mesh.origin(edge)] = z\n"),
+    ("zeros past the new vertex", STORED,
+     STORED + "    mesh.heights[vertex + 1:] = [0] * len(mesh.heights[vertex + 1:])\n"),
+    ("a skipped point's height stored past the counts", NO_FATE,
+     "    if fate != 1:\n        mesh.heights[mesh.vertices] = z\n        return (fate, 0, 0, 0)\n"),
+    ("a dropped point's height stored at its vertex", NO_FATE,
+     "    if fate == 2:\n        mesh.heights[mesh.origin(edge)] = z\n" + NO_FATE),
+    ("the height lost after 9 in a step", FULL, FULL + LOSE),
+    ("the height lost after 9 in a run", RUN_FULL, RUN_FULL + LOSE),
+    ("heights of points not reached stored after 9", RUN_FULL,
+     RUN_FULL + "        for i in range(done + 1, len(points)):\n"
+     "            mesh.heights[mesh.vertices - 1 + i - done] = heights[i]\n"),
+    ("the last point's height for every point", GIVEN, "capacity, heights[len(points) - 1])"),
+    ("the next point's height", GIVEN, "capacity, heights[(i + 1) % len(points)])"),
+    ("points' heights counted by the points added", GIVEN,
+     "capacity, heights[sum(f == 1 for f in lent.answers[:WORDS * i:WORDS])])"),
+    ("the heights row's length not asked", ROW, "):"),
+    ("a heights row of the vertices alone", ROW, " or len(mesh.heights) < mesh.vertices):"),
+    ("a heights row one entry longer asked", ROW, " or len(mesh.heights) < n + 1):"),
+    ("two heights for each vertex", ROW, " or len(mesh.heights) < 2 * n):"),
+    ("a heights row that may be one entry short", ROW, " or len(mesh.heights) < n - 1):"),
+    ("the points' heights row not asked", POINTS_ROW, "if False:"),
+    ("a points' heights row that may be one short", POINTS_ROW, "if len(heights) < len(points) - 1:"),
+    ("a points' heights row one entry longer asked", POINTS_ROW, "if len(heights) <= len(points):"),
+    ("a points' heights row of just the length", POINTS_ROW, "if len(heights) != len(points):"),
+    ("the points' heights row checked after 3", RUN_HEIGHT_ROW + RUN_ANSWER_ROW + RUN_COORDINATES,
+     RUN_ANSWER_ROW + RUN_COORDINATES + RUN_HEIGHT_ROW),
+    ("10 before 1 in a run and a step", RUN_COUNT, ANY_HEIGHT + RUN_COUNT),
+    ("10 before 2 in a run and a step", RUN_RING_ROWS, ANY_HEIGHT + RUN_RING_ROWS),
+    ("10 before 3 in a run and a step", RUN_COORDINATES + RUN_HEIGHTS, RUN_HEIGHTS + RUN_COORDINATES),
+    ("10 after 4 and 5 in a run and a step", RUN_HEIGHTS + RUN_RULES, RUN_RULES + RUN_HEIGHTS),
+    ("10 after 6 in a run and a step", RUN_HEIGHTS + RUN_RULES + RUN_CENTRE,
+     RUN_RULES + RUN_CENTRE + RUN_HEIGHTS),
+    ("10 after 7 in a run and a step", RUN_HEIGHTS + RUN_RULES + RUN_CENTRE + RUN_RING,
+     RUN_RULES + RUN_CENTRE + RUN_RING + RUN_HEIGHTS),
+    ("no 10 in a run and a step", RUN_HEIGHTS, ""),
+    ("the points' heights unchecked", RUN_HEIGHTS, "    refuse_heights(mesh, [])\n"),
+    ("the first point's height unchecked", RUN_HEIGHTS, "    refuse_heights(mesh, heights[1:len(points)])\n"),
+    ("the last point's height unchecked", RUN_HEIGHTS, "    refuse_heights(mesh, heights[:len(points) - 1])\n"),
+    ("heights past the points checked", RUN_HEIGHTS, ANY_HEIGHT),
+    ("the heights of added points checked alone", RUN_HEIGHTS + RUN_RULES + RUN_CENTRE + RUN_RING,
+     "    refuse_heights(mesh, [])\n" + RUN_RULES + RUN_CENTRE + RUN_RING + "    refuse_heights(mesh, "
+     "[z for p, z in zip(points, heights) if fate_of(mesh, p, centre)[0] == 1])\n"),
+    *(("%s in %s" % (name, call), CHECKED + end, checks + end) for call, end in AFTER.items()
+      for name, checks in (("10 before 3", HEIGHTS_FIRST), ("10 after 4 and 5", HEIGHTS_LAST),
+                           ("no 10", BARE))),
+    ("10 after 8 in a locate", CHECKED + AFTER["a locate"], BARE + AFTER["a locate"] + NO_OTHERS),
+    ("10 before 3 in a volume", COORDINATES + LEVEL, LEVEL + COORDINATES),
+    ("10 after 4 and 5 in a volume", LEVEL + RULES, RULES + LEVEL),
+    ("the level after 4 and 5", LEVEL + RULES, NO_OTHERS + RULES + LEVEL),
+    ("the level before 3", COORDINATES + LEVEL, BAD_LEVEL + COORDINATES + LEVEL),
+    ("no 10 in a volume", LEVEL, ""),
+    ("the level unchecked", LEVEL, NO_OTHERS),
+    ("the level alone checked", LEVEL, BAD_LEVEL),
+    ("the range of coordinates for the level", LEVEL,
+     "        refuse_coordinates(mesh, [(level, level)])\n" + NO_OTHERS),
+    ("the range one wider above", IN_RANGE, "z < -HEIGHT_LIMIT or z > HEIGHT_LIMIT + 1"),
+    ("the range one narrower above", IN_RANGE, "z < -HEIGHT_LIMIT or z > HEIGHT_LIMIT - 1"),
+    ("the range one wider below", IN_RANGE, "z < -HEIGHT_LIMIT - 1 or z > HEIGHT_LIMIT"),
+    ("the range one narrower below", IN_RANGE, "z < -HEIGHT_LIMIT + 1 or z > HEIGHT_LIMIT"),
+    ("no range above", IN_RANGE, "z < -HEIGHT_LIMIT"),
+    ("no range below", IN_RANGE, "z > HEIGHT_LIMIT"),
+    ("the range of coordinates", "HEIGHT_LIMIT = 1048576", "HEIGHT_LIMIT = 16777216"),
+    ("10 names the vertex", "        raise Refusal(10)\n",
+     "        raise Refusal(10, next(i for i, z in enumerate(mesh.heights[:mesh.vertices] + list(others))"
+     " if abs(z) > HEIGHT_LIMIT))\n"),
+    ("a height past the counts in use checked", IN_USE,
+     "for z in mesh.heights[:mesh.vertices + 1] + list(others)"),
+    ("the whole heights row checked", IN_USE, "for z in mesh.heights + list(others)"),
+    ("the first height unchecked", IN_USE, "for z in mesh.heights[1:mesh.vertices] + list(others)"),
+    ("the last height unchecked", IN_USE, "for z in mesh.heights[:mesh.vertices - 1] + list(others)"),
+    ("the first and last heights checked alone", IN_USE,
+     "for z in mesh.heights[:1] + mesh.heights[mesh.vertices - 1:mesh.vertices] + list(others)"),
+    ("2L for 3L", FACTOR, "(sum(heights) - 2 * level)"),
+    ("L for 3L", FACTOR, "(sum(heights) - level)"),
+    ("the level added", FACTOR, "(sum(heights) + 3 * level)"),
+    ("the level left out", FACTOR, "sum(heights)"),
+    ("the first height dropped", FACTOR, "(sum(heights[1:]) - 3 * level)"),
+    ("the second height dropped", FACTOR, "(heights[0] + heights[2] - 3 * level)"),
+    ("the last height dropped", FACTOR, "(sum(heights[:2]) - 3 * level)"),
+    ("one height three times", FACTOR, "3 * (heights[0] - level)"),
+    ("the highest of the three", FACTOR, "3 * (max(heights) - level)"),
+    ("volumes below the level left out", FACTOR, "max(0, sum(heights) - 3 * level)"),
+    ("volumes without a sign", FACTOR, "abs(sum(heights) - 3 * level)"),
+    ("the sign turned", FACTOR, "(3 * level - sum(heights))"),
+    ("the first face left out", EACH_FACE, "    for f in range(2, mesh.faces):\n        heights"),
+    ("the last face left out", EACH_FACE, "    for f in range(1, mesh.faces - 1):\n        heights"),
+    ("the outer face counted as an inner one", EACH_FACE, "    for f in range(mesh.faces):\n        heights"),
+    ("the heights by the faces' numbers", "[mesh.heights[v] for v in face_vertices(mesh, f)]",
+     "mesh.heights[f - 1:f + 2]"),
+    ("the first face's heights for all", TOTAL,
+     "    return (sum(mesh.heights[v] for v in face_vertices(mesh, 1)) - 3 * level) * inner_area(mesh)"
+     "\n\n\ndef two_halves"),
+    ("64 bits of the number", PATTERN, "pattern = number % (1 << 64)"),
+    ("64 bits of the number, signed", PATTERN,
+     "pattern = ((number + (1 << 63)) % (1 << 64) - (1 << 63)) % (1 << 128)"),
+    ("the number without its sign", PATTERN, "pattern = abs(number)"),
+    ("the halves exchanged", HALVES, "return (pattern % (1 << 64), pattern >> 64)"),
+    ("the high half left out", HALVES, "return (0, pattern % (1 << 64))"),
+    ("the low half left out", HALVES, "return (pattern >> 64, 0)"),
+    ("a low half of 63 bits", HALVES, "return (pattern >> 63, pattern % (1 << 63))"),
+    ("a low half that is signed", HALVES,
+     "return ((pattern >> 64) - (pattern >> 63 & 1), pattern % (1 << 64))"),
+    ("exact halves to even", ROUNDED, ROUNDED_WITH % "whole % 2 == 1"),
+    ("exact halves to odd", ROUNDED, ROUNDED_WITH % "whole % 2 == 0"),
+    ("exact halves up", ROUNDED, ROUNDED_WITH % "six > 0"),
+    ("exact halves down", ROUNDED, ROUNDED_WITH % "six < 0"),
+    ("exact halves towards zero", ROUNDED, "    if 2 * rest > CUBIC_METRE:\n"),
+    ("one less than a half away from zero", ROUNDED, "    if 2 * rest >= CUBIC_METRE - 2:\n"),
+    ("the fraction cut off", ROUNDED, "    if False:\n"),
+    ("any fraction away from zero", ROUNDED, "    if rest:\n"),
+    ("the floor", SIGNED, "    return six // CUBIC_METRE"),
+    ("the ceiling", SIGNED, "    return -(-six // CUBIC_METRE)"),
+    ("cubic metres without a sign", SIGNED, "    return whole"),
+    ("cubic metres by a float", SIGNED,
+     "    return int(abs(six / CUBIC_METRE) + 0.5) * (1 if six > 0 else -1)"),
+    ("cubic metres of six times the volume", METRE, "CUBIC_METRE = 10 ** 9"),
+    ("cubic metres of twice the volume", METRE, "CUBIC_METRE = 3 * 10 ** 9"),
+    ("litres for cubic metres", METRE, "CUBIC_METRE = 6 * 10 ** 6"),
+    ("cubic metres of the low half", "(cubic_metres(six),)",
+     "(cubic_metres((six + (1 << 63)) % (1 << 64) - (1 << 63)),)"),
+]
 LISTING = [  # the same of the listing program's part
     ("8 pending entries lent", "LISTING_PENDING = 400, 4096", "LISTING_PENDING = 400, 8"),
     ("100 pending entries lent", "LISTING_PENDING = 400, 4096", "LISTING_PENDING = 400, 100"),
@@ -375,17 +567,20 @@ def source():
 
 def changed_as(name):
     """sweep.py changed as the list above names it."""
-    old, new = next(m[1:3] for m in MUTANTS + LISTING if m[0] == name)
+    old, new = next(m[1:3] for m in MUTANTS + HEIGHTS + LISTING if m[0] == name)
     return changed(source(), old, new)
 
 
 def mutants():
     text, silent = source(), 0
-    for name, old, new, *implied in MUTANTS:
-        module = changed(text, old, new)
-        noticed = [n for n in NAMES if failures(module, n, first_only=True)[1]]
-        silent += not noticed and not implied
-        print("%-50s %s" % (name, " ".join(noticed + implied) or "NOTICED BY NONE"))
+    # Samples and listings have no heights.
+    high = [n for n in NAMES if n not in ("samples", "listing")]
+    for changes, names in ((MUTANTS, NAMES), (HEIGHTS, high)):
+        for name, old, new, *implied in changes:
+            module = changed(text, old, new)
+            noticed = [n for n in names if failures(module, n, first_only=True)[1]]
+            silent += not noticed and not implied
+            print("%-50s %s" % (name, " ".join(noticed + implied) or "NOTICED BY NONE"))
     for name, old, new in LISTING:
         noticed = failures(changed(text, old, new), "listing")[1]
         silent += noticed < FEWEST
