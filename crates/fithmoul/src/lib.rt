@@ -1,22 +1,26 @@
-// The five calls for C, C++ and Rust: check a mesh, locate an angle, step one point, finish a mesh, run a list of points. For a C compiler
-// this page is include/fithmoul.h. Each call is a call of the library with its arguments as numbers and its answer as a struct of numbers:
-// what it answers and leaves is what that call's definition gives, for every input. A slice is a pointer and a length for C. Nothing is
+// The public calls, for C, C++, Rust and Rattle: check a mesh, locate an angle, step one point, finish a mesh, run a list of points, and the
+// volume between a mesh and a level. A mesh has a height on each vertex. For a C compiler this page is include/fithmoul.h. A call takes its
+// arguments as numbers and answers a struct of numbers: what it answers and leaves is what a definition gives, for every input (crates
+// `heights`, `surface`, `volume`). A slice is a pointer and a length for C. Nothing is
 // asked of the caller but that each row is there, as long as is said, that no row that is written overlaps another, and that doubles are
 // rounded to nearest and subnormal ones kept (docs/DECISIONS.md, "Who answers for what C cannot check?").
 ghost use mathlib.Core.Path.{_≡_};
 ghost use Rattle.dcel.specs.MeshRows.{meshRows};
-ghost use Rattle.finish.specs.Finish.{finishedWith, finishOf};
-ghost use Rattle.locate.specs.Locate.{locatedWith, locateOf};
-ghost use Rattle.mesh_check.specs.Check.{checkOf};
+ghost use Rattle.finish.specs.Finish.{finishedWith};
+ghost use Rattle.heights.specs.Heights.{surfaceRows, surfaceChecked};
+ghost use Rattle.locate.specs.Locate.{locatedWith};
 ghost use Rattle.ring_rows.specs.RingRows.{ringRows};
+ghost use Rattle.surface.specs.Surface.{surfaceLocate, surfaceFinish, surfaceStepped, surfaceStep, surfaceRunLent, surfaceRan, surfaceRun};
+ghost use Rattle.surface.specs.SurfaceRunLaws.{CarriedHeights};
 ghost use Rattle.sweep.specs.Demand3.{Demand3};
-ghost use Rattle.sweep.specs.Run.{runLent, ranWith, runOf};
-ghost use Rattle.sweep.specs.StepCall.{steppedWith, stepOf};
+ghost use Rattle.sweep.specs.Run.{runLent, ranWith};
+ghost use Rattle.sweep.specs.StepCall.{steppedWith};
 ghost use Rattle.fithmoul.specs.Results.{counted, centerAt, pointAt, reported};
 ghost use Rattle.fithmoul.specs.Results.{checkResult, locateResult, stepResult, finishResult};
 use angle::Point2;
 use math::Point;
 use mesh::Counts;
+use mesh_check::Checked;
 use ring_rows::Node;
 
 pub mod results;
@@ -26,35 +30,45 @@ use results::FinishResult;
 use results::LocateResult;
 use results::StepResult;
 
-// Does a mesh keep the rules, turn left everywhere and stay in range? Refusals 1 to 5.
+// Does a mesh keep the rules, turn left everywhere and stay in range, its heights too? Refusals 1 to 5, and 10.
 #[no_mangle]
 pub extern "C" fn fithmoul_check(
     vertices: u32,
     edges: u32,
     faces: u32,
     positions: &[i32],
+    heights: &[i32],
     outs: &[u32],
     halves: &[u32],
     adjacent: &[u32],
 ) -> CheckResult
-    ensures { λ r. ⌜ r ≡ checkResult (checkOf (counted vertices edges faces)
-        (meshRows (now (positions .entry)) (now (outs .entry)) (now (halves .entry)) (now (adjacent .entry)))) ⌝ }
+    ensures { λ r. ⌜ r ≡ checkResult (surfaceChecked false (counted vertices edges faces) (surfaceRows
+        (meshRows (now (positions .entry)) (now (outs .entry)) (now (halves .entry)) (now (adjacent .entry))) (now (heights .entry)))) ⌝ }
 {
     let counts = Counts {
         vertices: vertices,
         edges: edges,
         faces: faces,
     };
-    results::check_result(mesh_check::check(counts, positions, outs, halves, adjacent))
+    results::check_result(heights::check_surface(
+        false,
+        counts,
+        positions,
+        heights,
+        outs,
+        halves,
+        adjacent,
+    ))
 }
 
-// The boundary edge at an angle about a centre, and the nodes passed after the first to find it. Refusals 1 to 8.
+// The boundary edge at an angle about a centre, and the nodes passed after the first to find it. Refusals 1 to 8, and 10.
 #[no_mangle]
 pub extern "C" fn fithmoul_locate(
     vertices: u32,
     edges: u32,
     faces: u32,
     positions: &[i32],
+    heights: &[i32],
     outs: &[u32],
     halves: &[u32],
     adjacent: &[u32],
@@ -65,8 +79,8 @@ pub extern "C" fn fithmoul_locate(
     center_y: f64,
     angle: f64,
 ) -> LocateResult
-    ensures { λ r. ⌜ (let w = locateOf (counted vertices edges faces)
-        (meshRows (now (positions .entry)) (now (outs .entry)) (now (halves .entry)) (now (adjacent .entry)))
+    ensures { λ r. ⌜ (let w = surfaceLocate (counted vertices edges faces) (surfaceRows
+        (meshRows (now (positions .entry)) (now (outs .entry)) (now (halves .entry)) (now (adjacent .entry))) (now (heights .entry)))
         (ringRows (now (nodes .entry)) (now (freed .entry)) (now (buckets .entry))) (centerAt «center_x» «center_y») angle in
         (r ≡ locateResult (w .answer))
         × (locatedWith (w .answer) (ringRows (now (nodes .exit)) (now (freed .exit)) (now (buckets .exit))) ≡ w)) ⌝ }
@@ -80,6 +94,20 @@ pub extern "C" fn fithmoul_locate(
         x: center_x,
         y: center_y,
     };
+    let checked = surface::check_locate(
+        counts,
+        positions,
+        heights,
+        outs,
+        halves,
+        adjacent,
+        nodes.len(),
+        freed.len(),
+        buckets.len(),
+    );
+    if let Checked::Refused(refusal) = checked {
+        return results::locate_refused(refusal);
+    }
     let located = locate::locate(
         counts,
         positions,
@@ -95,13 +123,14 @@ pub extern "C" fn fithmoul_locate(
     results::locate_result(located)
 }
 
-// One point of the sweep about a centre, on a mesh. Refusals 1 to 7, and 9.
+// One point of the sweep about a centre, on a mesh, with its height. Refusals 1 to 7, 9 and 10.
 #[no_mangle]
 pub extern "C" fn fithmoul_step(
     vertices: u32,
     edges: u32,
     faces: u32,
     positions: &mut [i32],
+    heights: &mut [i32],
     outs: &mut [u32],
     halves: &mut [u32],
     adjacent: &mut [u32],
@@ -113,14 +142,16 @@ pub extern "C" fn fithmoul_step(
     center_y: f64,
     x: i32,
     y: i32,
+    z: i32,
 ) -> StepResult
-    ensures { λ r. ⌜ (let w = stepOf (counted vertices edges faces)
-        (meshRows (now (positions .entry)) (now (outs .entry)) (now (halves .entry)) (now (adjacent .entry)))
+    ensures { λ r. ⌜ (let w = surfaceStep (counted vertices edges faces) (surfaceRows
+        (meshRows (now (positions .entry)) (now (outs .entry)) (now (halves .entry)) (now (adjacent .entry))) (now (heights .entry)))
         (ringRows (now (nodes .entry)) (now (freed .entry)) (now (buckets .entry))) (now (pending .entry))
-        (centerAt «center_x» «center_y») (pointAt x y) in
-        (r ≡ stepResult (w .answer))
-        × (steppedWith (w .answer) (meshRows (now (positions .exit)) (now (outs .exit)) (now (halves .exit)) (now (adjacent .exit)))
-        (ringRows (now (nodes .exit)) (now (freed .exit)) (now (buckets .exit))) (now (pending .exit)) ≡ w)) ⌝ }
+        (centerAt «center_x» «center_y») (pointAt x y) z in
+        (r ≡ stepResult (w .call .answer))
+        × (surfaceStepped (steppedWith (w .call .answer)
+        (meshRows (now (positions .exit)) (now (outs .exit)) (now (halves .exit)) (now (adjacent .exit)))
+        (ringRows (now (nodes .exit)) (now (freed .exit)) (now (buckets .exit))) (now (pending .exit))) (now (heights .exit)) ≡ w)) ⌝ }
 {
     let counts = Counts {
         vertices: vertices,
@@ -132,6 +163,23 @@ pub extern "C" fn fithmoul_step(
         y: center_y,
     };
     let point = Point { x: x, y: y };
+    let checked = surface::check_step(
+        counts,
+        positions,
+        heights,
+        outs,
+        halves,
+        adjacent,
+        nodes.len(),
+        freed.len(),
+        buckets.len(),
+        pending.len(),
+        point,
+        z,
+    );
+    if let Checked::Refused(refusal) = checked {
+        return results::step_refused(counts, refusal);
+    }
     let answer = step::step(
         counts,
         positions,
@@ -145,23 +193,26 @@ pub extern "C" fn fithmoul_step(
         center,
         point,
     );
+    surface::store_height(heights, vertices, answer.counts.vertices, z);
     results::step_result(answer)
 }
 
-// Convexity passes until one adds no face, then the closing pass, on a mesh. Refusals 1 to 5, and 9.
+// Convexity passes until one adds no face, then the closing pass, on a mesh. Refusals 1 to 5, 9 and 10.
 #[no_mangle]
 pub extern "C" fn fithmoul_finish(
     vertices: u32,
     edges: u32,
     faces: u32,
     positions: &[i32],
+    heights: &[i32],
     outs: &mut [u32],
     halves: &mut [u32],
     adjacent: &mut [u32],
     pending: &mut [u32],
 ) -> FinishResult
-    ensures { λ r. ⌜ (let w = finishOf (counted vertices edges faces)
-        (meshRows (now (positions .entry)) (now (outs .entry)) (now (halves .entry)) (now (adjacent .entry))) (now (pending .entry)) in
+    ensures { λ r. ⌜ (let w = surfaceFinish (counted vertices edges faces) (surfaceRows
+        (meshRows (now (positions .entry)) (now (outs .entry)) (now (halves .entry)) (now (adjacent .entry))) (now (heights .entry)))
+        (now (pending .entry)) in
         (r ≡ finishResult (w .answer))
         × (finishedWith (w .answer) (meshRows (now (positions .entry)) (now (outs .exit)) (now (halves .exit)) (now (adjacent .exit)))
         (now (pending .exit)) ≡ w)) ⌝ }
@@ -171,17 +222,31 @@ pub extern "C" fn fithmoul_finish(
         edges: edges,
         faces: faces,
     };
+    let checked = surface::check_finish(
+        counts,
+        positions,
+        heights,
+        outs,
+        halves,
+        adjacent,
+        pending.len(),
+    );
+    if let Checked::Refused(refusal) = checked {
+        return results::finish_refused(counts, refusal);
+    }
     let answer = finish::finish(counts, positions, outs, halves, adjacent, pending);
     results::finish_result(answer)
 }
 
-// A seed mesh, a centre and a list of points, to a finished mesh: all steps in list order, then the finish. Refusals 1 to 7, and 9.
+// A seed mesh, a centre and a list of points with their heights, to a finished mesh: all steps in list order, then the finish. Refusals 1 to 7,
+// 9 and 10.
 #[no_mangle]
 pub extern "C" fn fithmoul_run(
     vertices: u32,
     edges: u32,
     faces: u32,
     positions: &mut [i32],
+    heights: &mut [i32],
     outs: &mut [u32],
     halves: &mut [u32],
     adjacent: &mut [u32],
@@ -193,15 +258,19 @@ pub extern "C" fn fithmoul_run(
     center_x: f64,
     center_y: f64,
     points: &[i32],
+    levels: &[i32],
 ) -> FinishResult
     ensures { λ r. ⌜ (let l = runLent (counted vertices edges faces)
         (meshRows (now (positions .entry)) (now (outs .entry)) (now (halves .entry)) (now (adjacent .entry)))
         (ringRows (now (nodes .entry)) (now (freed .entry)) (now (buckets .entry))) (now (pending .entry)) (now (answers .entry))
-        (centerAt «center_x» «center_y») (now (points .entry)) in let w = runOf l in
-        (r ≡ finishResult (w .answer))
-        × (ranWith (w .answer) (meshRows (now (positions .exit)) (now (outs .exit)) (now (halves .exit)) (now (adjacent .exit)))
-        (ringRows (now (nodes .exit)) (now (freed .exit)) (now (buckets .exit))) (now (pending .exit)) (now (answers .exit)) ≡ w)
-        × (r .refusal ≡ 0 → Demand3 l w (reported r))) ⌝ }
+        (centerAt «center_x» «center_y») (now (points .entry)) in
+        let g = surfaceRunLent l (now (heights .entry)) (now (levels .entry)) in let w = surfaceRun g in
+        (r ≡ finishResult (w .call .answer))
+        × (surfaceRan (ranWith (w .call .answer)
+        (meshRows (now (positions .exit)) (now (outs .exit)) (now (halves .exit)) (now (adjacent .exit)))
+        (ringRows (now (nodes .exit)) (now (freed .exit)) (now (buckets .exit))) (now (pending .exit)) (now (answers .exit)))
+        (now (heights .exit)) ≡ w)
+        × (r .refusal ≡ 0 → Demand3 l (w .call) (reported r) × CarriedHeights g w)) ⌝ }
 {
     let counts = Counts {
         vertices: vertices,
@@ -212,6 +281,24 @@ pub extern "C" fn fithmoul_run(
         x: center_x,
         y: center_y,
     };
+    let checked = surface::check_run(
+        points,
+        levels,
+        counts,
+        positions,
+        heights,
+        outs,
+        halves,
+        adjacent,
+        nodes.len(),
+        freed.len(),
+        buckets.len(),
+        pending.len(),
+        answers.len(),
+    );
+    if let Checked::Refused(refusal) = checked {
+        return results::finish_refused(counts, refusal);
+    }
     let answer = run::run(
         counts,
         positions,
@@ -226,5 +313,6 @@ pub extern "C" fn fithmoul_run(
         center,
         points,
     );
+    surface::store_run(heights, answers, levels, points, vertices, answer);
     results::finish_result(answer)
 }

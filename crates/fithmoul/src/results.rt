@@ -1,6 +1,9 @@
 // What the calls answer, as structs of numbers that C can read, and how they are made of the library's answers. `refusal` is 0 where the
 // call is accepted, else a row of 01's table with its place; what a refused call has no answer for is 0.
 ghost use mathlib.Core.Path.{_≡_};
+ghost use Rattle.finish.specs.declared.Finished.{Finished};
+ghost use Rattle.locate.specs.declared.Located.{Located};
+ghost use Rattle.sweep.specs.declared.Stepped.{Stepped};
 ghost use Rattle.fithmoul.specs.Results.{checkResult, locateResult, pointAnswer};
 ghost use Rattle.fithmoul.specs.Results.{steppedResult, stepResult, finishedResult, finishResult};
 use finish::FinishAnswer;
@@ -8,6 +11,7 @@ use finish::Finished;
 use locate::Located;
 use mesh::Counts;
 use mesh_check::Checked;
+use mesh_check::Refusal;
 use sweep::Answer;
 use sweep::StepAnswer;
 use sweep::Stepped;
@@ -74,6 +78,25 @@ pub fn check_result(checked: Checked) -> CheckResult
             place: x.place,
         },
     }
+}
+
+// The answer of a call that is refused before anything is done: nothing has changed, the counts are those that were given.
+pub fn locate_refused(refusal: Refusal) -> LocateResult
+    ensures { λ r. ⌜ r ≡ locateResult (Located.Refused refusal) ⌝ }
+{
+    locate_result(Located::Refused(refusal))
+}
+
+pub fn step_refused(counts: Counts, refusal: Refusal) -> StepResult
+    ensures { λ r. ⌜ r ≡ steppedResult counts (Stepped.Refused refusal) ⌝ }
+{
+    stepped_result(counts, Stepped::Refused(refusal))
+}
+
+pub fn finish_refused(counts: Counts, refusal: Refusal) -> FinishResult
+    ensures { λ r. ⌜ r ≡ finishedResult counts (Finished.Refused refusal) ⌝ }
+{
+    finished_result(counts, Finished::Refused(refusal))
 }
 
 pub fn locate_result(located: Located) -> LocateResult

@@ -13,7 +13,7 @@ use ring_rows::Hull;
 use ring_rows::Node;
 
 // One of the rows that are not the mesh's, given by their lengths, is too short for n vertices. `short`: another one is.
-fn sweep_rows_short(
+pub fn sweep_rows_short(
     short: bool,
     n: usize,
     nodes: usize,

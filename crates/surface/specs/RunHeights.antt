@@ -244,12 +244,7 @@ module _ (l : RunLent) (e : runChecked l ≡ Checked.Accepted) (z h : ℕ → �
             let b = none-after m (omega arith) (omega arith) in
             (rw b (r .0), (let c = count-suc m one in let x = ap bit b in let y = r .1 in omega arith))
 
-    pub run-answered : after N .full ≡ false → hs N ≡ answeredHeights F seed z h N
-    run-answered f =
-        let a = keeps N (omega arith) .answered f in
-        heights-answered N (omega arith) f ∙ sym (told-heights N (omega arith))
-
-    pub run-stored : {place : ℕ} → place ≡ after N .answered
+    pub run-stored : {place : ℕ} → (after N .full ≡ true → place ≡ after N .answered)
         → hs N ≡ heightStored (answeredHeights F seed z h N) (seed + count N one) (runFinish l .counts .vertices) (z place)
     unfolding heightStored
     run-stored {place} p = go (after N .full) refl
@@ -277,7 +272,7 @@ module _ (l : RunLent) (e : runChecked l ≡ Checked.Accepted) (z h : ℕ → �
             let k : count N one ≡ count (r .0) adds = x .1 ∙ c ∙ ap (λ (n : ℕ). count n adds) a in
             rw (lt-ltb (seed + count N one) (runFinish l .counts .vertices) (omega arith))
             (refused-heights (omega arith) A
-            ∙ rw (x .0, told-heights (after N .answered) (omega arith), k, p, a, heights-answered (r .0) (let u = A .earlier in omega arith) (A .made)) refl)
+            ∙ rw (x .0, told-heights (after N .answered) (omega arith), k, p f, a, heights-answered (r .0) (let u = A .earlier in omega arith) (A .made)) refl)
 
   -- ---- vertex by vertex
   record SweptHeights (n : ℕ) : Type 0 where

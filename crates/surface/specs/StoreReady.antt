@@ -1,20 +1,19 @@
 -- What a run's heights are stored from: rows that do for it, where the run was made. Definitions only.
-use mathlib.Core.Bool.{Bool, true}
+use mathlib.Core.Bool.{true}
 use mathlib.Core.List.{List}
 use mathlib.Core.Path.{_≡_}
 use Prim.Native.Nat.{ℕ, _+_, _*_, _<_, _≤_}
-use lib.Dec.{eqb}
 use lib.ListN.{length}
 use Rattle.finish.specs.declared.FinishAnswer.{FinishAnswer}
-use Rattle.finish.specs.declared.Finished.{Finished}
-use Rattle.mesh_check.specs.declared.Refusal.{Refusal}
 use Rattle.sweep.specs.Run.{answerWords}
-use Rattle.surface.specs.Surface.{fateWord, addedAmong}
+use Rattle.surface.specs.Surface.{fateWord, addedAmong, isMade, placeOf}
 
--- the steps were made: the run is accepted, or refused 9
-unfoldable pub isMade : Finished → Bool
-isMade (Finished.Accepted t) = true
-isMade (Finished.Refused x) = eqb (x .number) 9
+-- vertex v and the answer and height of point i are in their rows
+pub record AddedRoom (heights answers levels v i : ℕ) : Type 0 where
+  pub vertex : v < heights
+  pub answer : answerWords * i < answers
+  pub level : i < levels
+  pub small : v < 1000000
 
 -- a seed of so many vertices, and n points; the rows by their lengths, but for the answers
 pub record StoreRoom (seed n heights levels : ℕ) (answers : List ℕ) : Type 0 where
@@ -27,5 +26,4 @@ pub record StoreReady (seed n heights levels : ℕ) (answers : List ℕ) (r : Fi
   pub room : isMade (r .finished) ≡ true → StoreRoom seed n heights levels answers
   pub most : isMade (r .finished) ≡ true → r .counts .vertices ≤ seed + n
   -- of a vertex that has no answer, the point
-  pub place : (x : Refusal) → r .finished ≡ Finished.Refused x → x .number ≡ 9
-      → seed + addedAmong (fateWord answers) n < r .counts .vertices → x .place < n
+  pub place : isMade (r .finished) ≡ true → seed + addedAmong (fateWord answers) n < r .counts .vertices → placeOf (r .finished) < n

@@ -2,7 +2,7 @@
 -- the table of the call on the mesh alone, with 10 straight after 3, and does what that call does; a step and a run store the heights of the
 -- vertices that they add. Definitions only, and each computes; `SurfaceLaws` and `RunHeights` say what they come to.
 -- 02, Change 1: "Every call that carries a vertex carries it through." "Links and fates keep ignoring z."
-use mathlib.Core.Bool.{Bool, false, cond, _||_}
+use mathlib.Core.Bool.{Bool, true, false, cond}
 use mathlib.Core.List.{List, [], _∷_}
 use Prim.Native.Nat.{ℕ, zero, suc, _+_, _*_}
 use lib.Dec.{ltb, eqb}
@@ -123,17 +123,22 @@ answeredHeights fate seed z h zero = h
 answeredHeights fate seed z h (suc n) =
     cond (eqb (fate n) 1) (put (answeredHeights fate seed z h n) (seed + addedAmong fate n) (z n)) (answeredHeights fate seed z h n)
 
+-- the steps of a run were made: it is accepted, or refused 9
+unfoldable pub isMade : Finished → Bool
+isMade (Finished.Accepted t) = true
+isMade (Finished.Refused x) = eqb (x .number) 9
+
+unfoldable pub placeOf : Finished → ℕ
+placeOf (Finished.Accepted t) = 0
+placeOf (Finished.Refused x) = x .place
+
 -- and so the heights after a run of n points, from its answer and the answers row: a step that was refused a flip has its vertex in the mesh,
 -- the last one, and no answer
 unfoldable pub finishedHeights : FinishAnswer → (ℕ → ℕ) → ℕ → (ℕ → ℤ) → (ℕ → ℤ) → ℕ → ℕ → ℤ
-finishedHeights r fate seed z h n = by (r .finished)
-  where
-    by : Finished → ℕ → ℤ
-    by (Finished.Accepted t) = answeredHeights fate seed z h n
-    by (Finished.Refused x) =
-        cond (eqb (x .number) 9)
-        (heightStored (answeredHeights fate seed z h n) (seed + addedAmong fate n) (r .counts .vertices) (z (x .place)))
-        h
+finishedHeights r fate seed z h n =
+    cond (isMade (r .finished))
+    (heightStored (answeredHeights fate seed z h n) (seed + addedAmong fate n) (r .counts .vertices) (z (placeOf (r .finished))))
+    h
 
 -- rows 1, 2, 3, 10, 4, 5, 6 and 7
 unfoldable pub surfaceRunChecked : SurfaceRunLent → Checked
@@ -141,7 +146,7 @@ surfaceRunChecked g =
     let l = g .run in
     let answers = ltb (length (l .answers)) (answerWords * pointCount (l .points)) in
     let short = sweepRowsShort answers (vertexCount (l .counts) (l .points))
-        (length (l .ring .nodes)) (length (l .ring .freed)) (length (l .ring .buckets)) (length (l .pending)) in
+    (length (l .ring .nodes)) (length (l .ring .freed)) (length (l .ring .buckets)) (length (l .pending)) in
     andThen (heightsChecked (heightsLent (l .points) (g .levels) short false) (l .counts) (record { mesh = l .mesh; heights = g .heights }))
     (runChecked l)
 

@@ -195,6 +195,7 @@ module _ (C : Counts) (s : SurfaceRows) (ring : RingRows) (pending : List ℕ) (
       refused r k =
           let a : y .counts .vertices ≡ C .vertices = ap (λ (w : StepAnswer). w .counts .vertices) (sym q) ∙ rw k refl in
           h ∙ rw (le-ltb (C .vertices) (y .counts .vertices) (omega arith)) refl
+
       accepted : own ≡ Accepted → heightOf row ≡ heightAdded (made .fate) z (heightsIn s)
       accepted k =
           let a : y .counts .vertices ≡ made .mesh .counts .vertices = ap (λ (w : StepAnswer). w .counts .vertices) (sym q) ∙ rw k refl in

@@ -32,10 +32,10 @@ use Rattle.sweep.specs.Run.{finishAfter, answerWords, answerIn, answerWord, ans
 use Rattle.sweep.specs.Run.{RunLent, RunOutcome, ranWith, runChecked, sweepOf, stepsOf, runFinish, runOutcome, runOf}
 use Rattle.sweep.specs.Demand3.{fateOf, vertexOf}
 use Rattle.sweep.specs.RunLaws.{answer-at, answer-none, run-accepts, run-start, run-keeps, run-vertices}
-use Rattle.surface.specs.Surface.{heightsAfter, heightStored, sweepHeights, answeredHeights, finishedHeights}
+use Rattle.surface.specs.Surface.{heightsAfter, heightStored, sweepHeights, answeredHeights, isMade, placeOf, finishedHeights}
 use Rattle.surface.specs.Surface.{SurfaceRunLent, SurfaceRan, surfaceRan, surfaceRunChecked, surfaceRun}
 use Rattle.surface.specs.SurfaceLaws.{own-table, own-refused, heights-after}
-use Rattle.surface.specs.RunHeights.{run-answered, run-stored}
+use Rattle.surface.specs.RunHeights.{run-stored, sweep-kept, sweep-past, sweep-added}
 
 module _ (g : SurfaceRunLent) where
   abbrev l : RunLent
@@ -129,26 +129,21 @@ module _ (g : SurfaceRunLent) where
     finished-is q = (totalsFrom (runFinish l), rw q refl)
 
     accepted-heights : sweepHeights l z h N ≡ finishedHeights (runOf l .answer) fates (l .counts .vertices) z h N
-    unfolding finishedHeights
+    unfolding finishedHeights isMade placeOf
     accepted-heights = rw answer-is (go (runFinish l .full) refl)
       where
-        made : FinishAnswer
-        made = record { counts = runFinish l .counts; finished = finishedFrom (sweepOf l N .answered) (runFinish l) }
-
         go : (b : Bool) → runFinish l .full ≡ b → sweepHeights l z h N
             ≡ finishedHeights (record { counts = runFinish l .counts; finished = finishedFrom (sweepOf l N .answered) (runFinish l) })
             fates (l .counts .vertices) z h N
-        go true q = rw (refused-is q) (run-stored l k z h fates told none refl)
-        go false q = rw (finished-is q .1) (run-answered l k z h fates told none (steps-made q))
+        go true q = rw (refused-is q) (run-stored l k z h fates told none (λ f. refl))
+        go false q =
+            rw (finished-is q .1) (run-stored l k z h fates told none (λ f. absurd (false≢true (sym (steps-made q) ∙ f))))
 
   -- refused by the table of the call on the mesh alone: a number up to 7, and no height is stored
   refused-heights : {r : Refusal} → runChecked l ≡ Refused r → h ≡ finishedHeights (runOf l .answer) fates (l .counts .vertices) z h N
-  unfolding finishedHeights
-  refused-heights {r} k = rw answer-is (rw (ne-eqb (r .number) 9 (λ q. let n = numbered in omega arith)) refl)
+  unfolding finishedHeights isMade
+  refused-heights {r} k = rw (refused-answer k, ne-eqb (r .number) 9 (λ q. let n = numbered in omega arith)) refl
     where
-      answer-is : runOf l .answer ≡ record { counts = l .counts; finished = Finished.Refused r }
-      answer-is = refused-answer k
-
       numbered : r .number ≤ 7
       numbered = numbered-at (subst (NumberedTo 7) k table-numbered) .1
 
