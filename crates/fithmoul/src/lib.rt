@@ -281,6 +281,7 @@ pub extern "C" fn fithmoul_run(
         x: center_x,
         y: center_y,
     };
+    let few = run::answers_short(answers.len(), points);
     let checked = surface::check_run(
         points,
         levels,
@@ -294,7 +295,7 @@ pub extern "C" fn fithmoul_run(
         freed.len(),
         buckets.len(),
         pending.len(),
-        answers.len(),
+        few,
     );
     if let Checked::Refused(refusal) = checked {
         return results::finish_refused(counts, refusal);

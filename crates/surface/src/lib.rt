@@ -4,7 +4,7 @@
 ghost use mathlib.Core.Bool.{false, cond};
 ghost use mathlib.Core.List.{[], _∷_};
 ghost use mathlib.Core.Path.{_≡_};
-ghost use Prim.Native.Nat.{_+_, _*_, _<_};
+ghost use Prim.Native.Nat.{_+_, _<_};
 ghost use lib.Dec.{ltb, eqb};
 ghost use lib.ListN.{length};
 ghost use Rattle.dcel.specs.MeshRows.{meshRows};
@@ -14,7 +14,6 @@ ghost use Rattle.mesh_check.specs.Check.{pointCount, vertexCount};
 ghost use Rattle.start.specs.Start.{sweepRowsShort};
 ghost use Rattle.sums.specs.Bit.{bit};
 ghost use Rattle.sums.specs.Put.{put};
-ghost use Rattle.sweep.specs.Run.{answerWords};
 ghost use Rattle.sweep.specs.StepCall.{pointRow};
 ghost use Rattle.surface.specs.StoreReady.{AddedRoom, StoreRoom, StoreReady};
 ghost use Rattle.surface.specs.Surface.{heightStored, fateWord, addedAmong, answeredHeights, isMade, placeOf, finishedHeights};
@@ -125,7 +124,7 @@ pub fn check_step(
     )
 }
 
-// The same of a run.
+// The same of a run. `few`: its row of answers is too short.
 pub fn check_run(
     points: &[i32],
     levels: &[i32],
@@ -139,15 +138,13 @@ pub fn check_run(
     freed: usize,
     buckets: usize,
     pending: usize,
-    answers: usize,
+    few: bool,
 ) -> Checked
     ensures { λ r. ⌜ r ≡ heightsTested (heightsLent (now (points .entry)) (now (levels .entry))
-        (sweepRowsShort (ltb answers (answerWords * pointCount (now (points .entry)))) (vertexCount counts (now (points .entry)))
-        nodes freed buckets pending) false) counts
+        (sweepRowsShort few (vertexCount counts (now (points .entry))) nodes freed buckets pending) false) counts
         (surfaceRows (meshRows (now (positions .entry)) (now (outs .entry)) (now (halves .entry)) (now (faces .entry)))
         (now (heights .entry))) ⌝ }
 {
-    let few = run::answers_short(answers, points);
     let n = mesh_check::vertex_count(counts, points);
     let short = start::sweep_rows_short(few, n, nodes, freed, buckets, pending);
     heights::check_heights(
