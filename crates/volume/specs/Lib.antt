@@ -1,3 +1,5 @@
 pub mod Volume
 pub mod AreaBound
 pub mod VolumeLaws
+pub mod DigitSums
+pub mod DigitSumsLaws
