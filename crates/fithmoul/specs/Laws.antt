@@ -17,13 +17,13 @@ use Rattle.finish.specs.FinishLaws.{finish-refused}
 use Rattle.locate.specs.declared.Located.{Located}
 use Rattle.locate.specs.declared.Place.{Place}
 use Rattle.locate.specs.Locate.{checkAngle, locateOutcome, locateOf}
-use Rattle.locate.specs.Start.{then-numbered, start-numbered}
+use Rattle.locate.specs.Start.{start-numbered}
 use Rattle.math.specs.declared.Point.{Point}
 use Rattle.mesh.specs.declared.Counts.{Counts}
 use Rattle.mesh_check.specs.declared.Checked.{Checked}
 use Rattle.mesh_check.specs.declared.Refusal.{Refusal}
 use Rattle.mesh_check.specs.Check.{refused, checkOf}
-use Rattle.mesh_check.specs.CheckLaws.{NumberedTo, accepts, refuses, numbered-at, numbered-more, check-numbered}
+use Rattle.mesh_check.specs.CheckLaws.{NumberedTo, accepts, refuses, numbered-at, numbered-more, check-numbered, then-numbered}
 use Rattle.ring_rows.specs.RingRows.{RingRows}
 use Rattle.sweep.specs.Demand3.{Demand3}
 use Rattle.sweep.specs.Run.{RunLent, runOf}

@@ -19,15 +19,16 @@ use Rattle.mesh.specs.declared.Counts.{Counts}
 use Rattle.mesh_check.specs.declared.Checked.{Checked}
 use Rattle.mesh_check.specs.declared.Checked.the-variants.{Accepted, Refused}
 use Rattle.mesh_check.specs.declared.Refusal.{Refusal}
-use Rattle.mesh_check.specs.Check.{refused}
+use Rattle.mesh_check.specs.Check.{refused, andThen}
+use Rattle.mesh_check.specs.CheckLaws.{then-accepts}
 use Rattle.ring.specs.Center.{turnsAbout}
 use Rattle.sums.specs.Bit.{from-true}
 use Rattle.locate.specs.declared.Located.{Located}
 use Rattle.locate.specs.declared.Located.the-variants.{Found}
 use Rattle.locate.specs.declared.Place.{Place}
-use Rattle.locate.specs.Locate.{andThen, ringRowsShort, ringShort, checkStart, checkAngle, placeAt, locatedWith, locateOutcome, locateOf}
+use Rattle.locate.specs.Locate.{ringRowsShort, ringShort, checkStart, checkAngle, placeAt, locatedWith, locateOutcome, locateOf}
 use Rattle.locate.specs.Rows.{BoundaryOf, ToAsk, PlaceOnBoundary}
-use Rattle.locate.specs.Start.{RingRoom, ring-room, then-accepts, accepted-held, accepted-placed, AcceptedStart, start-accepts}
+use Rattle.locate.specs.Start.{RingRoom, ring-room, accepted-held, accepted-placed, AcceptedStart, start-accepts}
 
 pub angle-accepts : (x : Float) → checkAngle x ≡ Accepted → T (validAngle x)
 unfolding checkAngle

@@ -18,6 +18,7 @@ use Rattle.mesh.specs.Mesh.{Links, In, to}
 use Rattle.mesh.specs.Area.{boundaryLength}
 use Rattle.mesh.specs.BoundaryLaws.{first<, first-outer}
 use Rattle.mesh.specs.Wf.{Wf}
+use Rattle.mesh_check.specs.Check.{andThen}
 use Rattle.mesh_check.specs.declared.Checked.{Checked}
 use Rattle.mesh_check.specs.declared.Checked.the-variants.{Accepted, Refused}
 use Rattle.ring.specs.Ring.{proper, atEnds, edgeAngle, boundaryEdges, isStrictRing, located}
@@ -31,7 +32,7 @@ use Rattle.segment.specs.Segment.{segmentOf, containsAngle}
 use Rattle.segment.specs.Laws.{contains-turns, segment-good, segment-holds}
 use Rattle.locate.specs.declared.Located.the-variants.{Found}
 use Rattle.locate.specs.declared.Place.{Place}
-use Rattle.locate.specs.Locate.{andThen, ringShort, checkStart, checkAngle, placeAt, locateOutcome, locateOf}
+use Rattle.locate.specs.Locate.{ringShort, checkStart, checkAngle, placeAt, locateOutcome, locateOf}
 use Rattle.locate.specs.Start.{AcceptedStart}
 use Rattle.locate.specs.Call.{locate-start, locate-angle}
 

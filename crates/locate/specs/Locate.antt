@@ -16,7 +16,7 @@ use Rattle.mesh.specs.declared.Counts.{Counts}
 use Rattle.mesh.specs.Mesh.{Links}
 use Rattle.mesh_check.specs.declared.Checked.{Checked}
 use Rattle.mesh_check.specs.declared.Checked.the-variants.{Accepted, Refused}
-use Rattle.mesh_check.specs.Check.{refused, checkWith}
+use Rattle.mesh_check.specs.Check.{refused, andThen, checkWith}
 use Rattle.ring.specs.Ring.{fullTurn, boundaryAngles, located, passedCount}
 use Rattle.ring.specs.Center.{turnsAbout, refusesCenter, refusesRing}
 use Rattle.locate.specs.declared.Located.{Located}
@@ -24,11 +24,6 @@ use Rattle.locate.specs.declared.Located.the-variants.{Found}
 use Rattle.locate.specs.declared.Place.{Place}
 
 -- ---- the refusals
--- 01: "the first row that applies is answered": the rows of `next` come after those of `first`
-unfoldable pub andThen : Checked → Checked → Checked
-andThen Accepted next = next
-andThen (Refused r) next = Refused r
-
 -- 2, of the ring's rows, by their lengths: "For N vertices: .. N + 1 ring nodes and freed nodes, max(16, N) buckets"
 unfoldable pub ringRowsShort : ℕ → ℕ → ℕ → ℕ → Bool
 ringRowsShort n nodes freed buckets = ltb nodes (n + 1) || (ltb freed (n + 1) || (ltb buckets 16 || ltb buckets n))

@@ -26,34 +26,14 @@ use Rattle.mesh_check.specs.declared.Checked.{Checked}
 use Rattle.mesh_check.specs.declared.Checked.the-variants.{Accepted, Refused}
 use Rattle.mesh_check.specs.declared.Refusal.{Refusal}
 use Rattle.mesh_check.specs.Accepted.{AcceptedWith, with-accepts, or-false}
-use Rattle.mesh_check.specs.Check.{refused, checkWith, vertexCount}
-use Rattle.mesh_check.specs.CheckLaws.{NumberedTo, accepts, refuses, numbered-more, numbered-cond, check-numbered}
+use Rattle.mesh_check.specs.Check.{refused, andThen, checkWith, vertexCount}
+use Rattle.mesh_check.specs.CheckLaws.{NumberedTo, accepts, refuses, numbered-more, numbered-cond, check-numbered, then-next, then-refused, then-accepts, then-numbered}
 use Rattle.ring.specs.Ring.{isStrictRing}
 use Rattle.ring.specs.Center.{turnsAbout, refusesCenter, refusesRing}
 use Rattle.sums.specs.Bit.{from-false, sure}
 use Rattle.sums.specs.Iterate.{reach-on}
-use Rattle.locate.specs.Locate.{andThen, ringRowsShort, checkRing, checkStart}
+use Rattle.locate.specs.Locate.{ringRowsShort, checkRing, checkStart}
 use Rattle.locate.specs.Rows.{ClosedBoundary, ringChecked}
-
--- ---- one row after the other
-pub then-next : {first : Checked} (next : Checked) → first ≡ Accepted → andThen first next ≡ next
-unfolding andThen
-then-next next e = ap (λ (c : Checked). andThen c next) e
-
-pub then-refused : {first : Checked} {r : Refusal} (next : Checked) → first ≡ Refused r → andThen first next ≡ Refused r
-unfolding andThen
-then-refused next e = ap (λ (c : Checked). andThen c next) e
-
--- both let pass
-pub then-accepts : (first next : Checked) → andThen first next ≡ Accepted → (first ≡ Accepted) × (next ≡ Accepted)
-unfolding andThen
-then-accepts Accepted next e = (refl, e)
-then-accepts (Refused r) next e = absurd (let z : _≡_ {A = ℕ} 0 1 = cc in omega arith)
-
-pub then-numbered : {n : ℕ} {first next : Checked} → NumberedTo n first → NumberedTo n next → NumberedTo n (andThen first next)
-unfolding andThen
-then-numbered accepts g = g
-then-numbered (refuses k l) g = refuses k l
 
 -- ---- the ring's rows
 pub record RingRoom (n nodes freed buckets : ℕ) : Type 0 where

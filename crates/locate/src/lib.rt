@@ -4,10 +4,10 @@
 ghost use mathlib.Core.Path.{_≡_};
 ghost use mathlib.Core.List.{List, []};
 ghost use lib.ListN.{length};
-ghost use Rattle.mesh_check.specs.Check.{refused};
+ghost use Rattle.mesh_check.specs.Check.{refused, andThen};
 ghost use Rattle.dcel.specs.MeshRows.{meshRows};
 ghost use Rattle.ring_rows.specs.RingRows.{ringRows, ringZeros};
-ghost use Rattle.locate.specs.Locate.{andThen, ringRowsShort, checkStart, checkAngle, locatedWith, locateOf};
+ghost use Rattle.locate.specs.Locate.{ringRowsShort, checkStart, checkAngle, locatedWith, locateOf};
 ghost use Rattle.locate.specs.Rows.{ClosedBoundary, ringChecked, ToAsk, PlaceOnBoundary};
 use angle::Point2;
 use mesh::Counts;

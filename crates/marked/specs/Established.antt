@@ -19,9 +19,9 @@ use Rattle.mesh.specs.Area.{boundaryLength, overFaces, circleAt}
 use Rattle.mesh.specs.Circle.{breaksCircle}
 use Rattle.mesh.specs.Rules.{halfEdgeInUse, linksInUse, halfEdgeLinked, innerFaceRule}
 use Rattle.mesh.specs.Rules.{outerFaceRule, sideRule, vertexRule, eulerRule, rules}
-use Rattle.mesh_check.specs.Check.{countRefused, meshRowsShort, firstOutside, vertexOrPoint, turnsLeft, firstNotLeft, checkMesh}
+use Rattle.mesh_check.specs.Check.{countRefused, meshRowsShort, firstOutside, vertexOrPoint, turnsLeft, firstNotLeft, andThen, checkRange, checkFaces, checkMesh}
 use Rattle.mesh_check.specs.Check.{pointCount, vertexCount, rowsShort, checkWith}
-use Rattle.locate.specs.Locate.{andThen, ringRowsShort, checkRing, checkStart, checkAngle, placeAt, locateOutcome, locateOf}
+use Rattle.locate.specs.Locate.{ringRowsShort, checkRing, checkStart, checkAngle, placeAt, locateOutcome, locateOf}
 use Rattle.ring.specs.Center.{turnsAbout, refusesCenter, refusesRing}
 use Rattle.ring.specs.Chain.{coversLeft, coversRight, leftChain, rightChain, anglesAfter, soundAfter}
 use Rattle.ring.specs.Ring.{wraps, countBefore, countAround, mergedBefore, merged, member, allDiffer, isSound, isStrict}

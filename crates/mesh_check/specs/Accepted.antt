@@ -1,7 +1,7 @@
 -- What the calls may rely on: the rows of an accepted mesh are long enough and hold a good mesh, and every such mesh is
 -- accepted (`check-accepts`, `accepts-check`; with points: `with-accepts`, `accepts-with`). Assumes nothing.
 use mathlib.Core.Path.{_≡_, refl, sym, _∙_, ap, subst}
-use mathlib.Core.Bool.{Bool, true, false, _||_}
+use mathlib.Core.Bool.{Bool, true, false, cond, _||_}
 use mathlib.Core.List.{List, []}
 use Prim.Native.Nat.{ℕ, _+_, _-_, _*_, _<_, _≤_}
 use native.Mathlib.Decide.{decLt}
@@ -20,9 +20,11 @@ use Rattle.mesh.specs.Mesh.{Links}
 use Rattle.mesh.specs.Area.{LeftTurning}
 use Rattle.mesh.specs.Good.{Good}
 use Rattle.mesh.specs.Wf.{Wf}
-use Rattle.mesh_check.specs.declared.Checked.the-variants.{Accepted}
-use Rattle.mesh_check.specs.Check.{meshRowsShort, meshShort, vertexOrPoint, checkMesh, checkOf, pointCount, vertexCount, rowsShort, checkWith}
-use Rattle.mesh_check.specs.CheckLaws.{passes-good, accepted-passes, passes-accepted, check-agree}
+use Rattle.mesh_check.specs.declared.Checked.{Checked}
+use Rattle.mesh_check.specs.declared.Checked.the-variants.{Accepted, Refused}
+use Rattle.mesh_check.specs.declared.Refusal.{Refusal}
+use Rattle.mesh_check.specs.Check.{refused, countRefused, firstOutside, placesWith, meshRowsShort, meshShort, vertexOrPoint, checkRange, checkFaces, checkMesh, checkOf, pointCount, vertexCount, rowsShort, rangeWith, checkWith}
+use Rattle.mesh_check.specs.CheckLaws.{passes-good, accepted-limits, accepted-passes, passes-accepted, faces-agree, check-agree, then-next, then-refused}
 use Rattle.sums.specs.Bit.{from-false}
 
 pub or-false : (a b : Bool) → (a || b) ≡ false → (a ≡ false) × (b ≡ false)
@@ -119,6 +121,54 @@ pub record AcceptedWith (points : List ℤ) (C : Counts) (m : MeshRows) : Type 0
   pub rows : MeshSizes (vertexCount C points) m
   pub range : {i : ℕ} → i < pointCount points → InRange (positionOf points i)
   pub good : Good C (linksIn m) (placesIn m)
+
+-- what rows 1 to 3 let pass: the seed's rows are long enough, and its positions in range
+pub record RowsInLimits (C : Counts) (m : MeshRows) : Type 0 where
+  pub most : C .vertices ≤ 1000000
+  pub rows : MeshSizes (C .vertices) m
+  pub range : {v : ℕ} → v < C .vertices → InRange (placesIn m v)
+
+-- a row that is too short: 1 or 2
+pub short-refused : (points : List ℤ) (C : Counts) (m : MeshRows) → (r : Refusal) × (rangeWith points true C m ≡ Refused r)
+unfolding rangeWith checkRange
+short-refused points C m =
+    let n = vertexCount C points in
+    let i = firstOutside n (placesWith points C m) in
+    go (countRefused n) (cond (ltb i n) (refused 3 i) Accepted)
+  where
+    go : (b : Bool) (x : Checked) → (r : Refusal) × (cond b (refused 1 0) (cond true (refused 2 0) x) ≡ Refused r)
+    go true x = (_, refl)
+    go false x = (_, refl)
+
+module _ (points : List ℤ) (short : Bool) (C : Counts) (m : MeshRows) where
+  pub range-rows : rangeWith points short C m ≡ Accepted → RowsInLimits C m
+  unfolding rangeWith rowsShort vertexCount
+  range-rows e =
+      let A = accepted-limits e in
+      let mesh = meshShort (C .vertices + pointCount points) m in
+      let alone = ltb (length points) (2 * pointCount points) in
+      let R = not-short-rows {n = C .vertices + pointCount points} {m = m} (or-false alone mesh (or-false short (alone || mesh) (A .long) .1) .1) in
+      let a = R .positions in let b = R .outs in let c = R .halves in let d = R .faces in
+      record {
+        most = let k = A .most in omega arith;
+        rows = record { positions = omega arith; outs = omega arith; halves = omega arith; faces = omega arith };
+        range = λ {v} l. subst InRange (vertex-is (C .vertices) (placesIn m) (positionOf points) v l) (A .range (omega arith));
+      }
+
+  pub range-long : rangeWith points short C m ≡ Accepted → short ≡ false
+  unfolding rangeWith
+  range-long e = or-false short (rowsShort (vertexCount C points) points m) (accepted-limits e .long) .0
+
+  -- a call's five rows are these three, and then the two of its mesh
+  pub with-refused : {r : Refusal} → rangeWith points short C m ≡ Refused r → Refused r ≡ checkWith points short C m
+  unfolding rangeWith checkWith checkMesh
+  with-refused e = sym (then-refused _ e)
+
+  pub with-next : rangeWith points short C m ≡ Accepted → checkFaces C (linksIn m) (placesIn m) ≡ checkWith points short C m
+  unfolding rangeWith checkWith checkMesh
+  with-next e =
+      sym (then-next _ e
+      ∙ faces-agree (vertex-is (C .vertices) (placesIn m) (positionOf points)) C (linksIn m) (le-refl (C .vertices)))
 
 module _ {points : List ℤ} {short : Bool} {C : Counts} {m : MeshRows} where
   pub with-accepts : checkWith points short C m ≡ Accepted → AcceptedWith points C m × (short ≡ false)

@@ -53,17 +53,29 @@ turnsLeft L p e = ltZ (pos 0) (atCorners orient2d L p e)
 unfoldable pub firstNotLeft : Counts → Links → (ℕ → Point) → ℕ
 firstNotLeft C L p = first-below (C .faces) (λ f. ltb 0 f && not (turnsLeft L p (L .adjacent f)))
 
--- the table's first five rows. n: "seed plus points"; short: a row of the call is shorter than its size for n; p: the
--- vertices' positions, the points' after them.
--- A link outside the counts, or counts that the rows could not hold, break a mesh rule: 4
-unfoldable pub checkMesh : ℕ → Bool → Counts → Links → (ℕ → Point) → Checked
-checkMesh n short C L p =
+-- 01: "the first row that applies is answered": the rows of `next` come after those of `first`
+unfoldable pub andThen : Checked → Checked → Checked
+andThen Accepted next = next
+andThen (Refused r) next = Refused r
+
+-- the table's first three rows. n: "seed plus points"; short: a row of the call is shorter than its size for n; p: the vertices' positions,
+-- the points' after them
+unfoldable pub checkRange : ℕ → Bool → (ℕ → Point) → Checked
+checkRange n short p =
     cond (countRefused n) (refused 1 0)
     (cond short (refused 2 0)
     (cond (ltb (firstOutside n p) n) (refused 3 (firstOutside n p))
-    (cond (not (rules C L)) (refused 4 0)
+    Accepted))
+
+-- the next two. A link outside the counts, or counts that the rows could not hold, break a mesh rule: 4
+unfoldable pub checkFaces : Counts → Links → (ℕ → Point) → Checked
+checkFaces C L p =
+    cond (not (rules C L)) (refused 4 0)
     (cond (ltb (firstNotLeft C L p) (C .faces)) (refused 5 (firstNotLeft C L p))
-    Accepted))))
+    Accepted)
+
+unfoldable pub checkMesh : ℕ → Bool → Counts → Links → (ℕ → Point) → Checked
+checkMesh n short C L p = andThen (checkRange n short p) (checkFaces C L p)
 
 -- ---- over the lent rows
 abbrev pub meshShort : ℕ → MeshRows → Bool
@@ -86,8 +98,18 @@ vertexCount C points = C .vertices + pointCount points
 unfoldable pub rowsShort : ℕ → List ℤ → MeshRows → Bool
 rowsShort n points m = ltb (length points) (2 * pointCount points) || meshShort n m
 
--- a call with points; short: another of its rows is shorter than its size for the seed's vertices and the points
+-- the seed's vertices, and the points after them
+abbrev pub placesWith : List ℤ → Counts → MeshRows → ℕ → Point
+placesWith points C m = vertexOrPoint (C .vertices) (placesIn m) (positionOf points)
+
+-- a call with points: its first three rows, and all five. short: another of its rows is shorter than its size for the seed's vertices and the
+-- points
+unfoldable pub rangeWith : List ℤ → Bool → Counts → MeshRows → Checked
+rangeWith points short C m =
+    let n = vertexCount C points in
+    checkRange n (short || rowsShort n points m) (placesWith points C m)
+
 unfoldable pub checkWith : List ℤ → Bool → Counts → MeshRows → Checked
 checkWith points short C m =
     let n = vertexCount C points in
-    checkMesh n (short || rowsShort n points m) C (linksIn m) (vertexOrPoint (C .vertices) (placesIn m) (positionOf points))
+    checkMesh n (short || rowsShort n points m) C (linksIn m) (placesWith points C m)

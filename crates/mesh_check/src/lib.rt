@@ -10,7 +10,9 @@ ghost use Rattle.dcel.specs.MeshRows.{meshRows};
 ghost use Rattle.dcel.specs.Rows.{linksOf, positionOf};
 ghost use Rattle.math.specs.Determinant.{orient2d};
 ghost use Rattle.mesh.specs.Area.{atCorners};
-ghost use Rattle.mesh_check.specs.Check.{countRefused, meshRowsShort, firstOutside, vertexOrPoint, turnsLeft, firstNotLeft, checkOf, checkWith, pointCount, vertexCount, rowsShort, refused};
+ghost use Rattle.mesh_check.specs.Accepted.{RowsInLimits};
+ghost use Rattle.mesh_check.specs.Check.{countRefused, meshRowsShort, firstOutside, vertexOrPoint, turnsLeft, firstNotLeft, refused};
+ghost use Rattle.mesh_check.specs.Check.{pointCount, vertexCount, rowsShort, checkFaces, checkOf, rangeWith, checkWith};
 ghost use Rattle.mesh_check.specs.Readable.{Corners, Readable};
 use mesh::Counts;
 
@@ -164,8 +166,8 @@ fn refuse(number: u32, place: u32) -> Checked
     })
 }
 
-// Rows 1 to 5 of the table, for a call that is also given points, none or more. `short`: another row of the call is too short.
-pub fn check_with(
+// Rows 1 to 3 of the table, for a call that is also given points, none or more. `short`: another row of the call is too short.
+pub fn check_range(
     points: &[i32],
     short: bool,
     counts: Counts,
@@ -174,7 +176,7 @@ pub fn check_with(
     halves: &[u32],
     faces: &[u32],
 ) -> Checked
-    ensures { λ r. ⌜ r ≡ checkWith (now (points .entry)) short counts
+    ensures { λ r. ⌜ r ≡ rangeWith (now (points .entry)) short counts
         (meshRows (now (positions .entry)) (now (outs .entry)) (now (halves .entry)) (now (faces .entry))) ⌝ }
 {
     let n = vertex_count(counts, points);
@@ -192,6 +194,21 @@ pub fn check_with(
     if (i as usize) < n {
         return refuse(3, i);
     }
+    Checked::Accepted
+}
+
+// Rows 4 and 5, of rows that are long enough for positions in range.
+fn check_faces(
+    counts: Counts,
+    positions: &[i32],
+    outs: &[u32],
+    halves: &[u32],
+    faces: &[u32],
+) -> Checked
+    requires { ⌜ RowsInLimits counts (meshRows (now positions) (now outs) (now halves) (now faces)) ⌝ }
+    ensures { λ r. ⌜ r ≡ checkFaces counts (linksOf (now (outs .entry)) (now (halves .entry)) (now (faces .entry)))
+        (positionOf (now (positions .entry))) ⌝ }
+{
     if !mesh_rules::mesh_rules(outs, halves, faces, counts) {
         return refuse(4, 0);
     }
@@ -200,6 +217,25 @@ pub fn check_with(
         return refuse(5, f);
     }
     Checked::Accepted
+}
+
+// Rows 1 to 5, for a call that is also given points.
+pub fn check_with(
+    points: &[i32],
+    short: bool,
+    counts: Counts,
+    positions: &[i32],
+    outs: &[u32],
+    halves: &[u32],
+    faces: &[u32],
+) -> Checked
+    ensures { λ r. ⌜ r ≡ checkWith (now (points .entry)) short counts
+        (meshRows (now (positions .entry)) (now (outs .entry)) (now (halves .entry)) (now (faces .entry))) ⌝ }
+{
+    match check_range(points, short, counts, positions, outs, halves, faces) {
+        Checked::Refused(r) => Checked::Refused(r),
+        Checked::Accepted => check_faces(counts, positions, outs, halves, faces),
+    }
 }
 
 // The public call: does a lent mesh keep the rules, turn left everywhere and stay in range?

@@ -1,7 +1,7 @@
 -- `locate::check_locate` meets its contract. No points are given. Assumes nothing.
 use borrow.Author.Needs.{needs}
 use mathlib.Core.Path.{sym, _∙_}
-use Rattle.locate.specs.Start.{then-next, then-refused}
+use Rattle.mesh_check.specs.CheckLaws.{then-next, then-refused}
 use Rattle.locate.proofs.check_locate.Statement.{statement}
 use Rattle.locate.proofs.check_locate.Tie as tie
 

@@ -1,101 +1,28 @@
--- `mesh_check::check_with` meets its contract. The rows of the table, one after the other. Assumes nothing.
+-- `mesh_check::check_with` meets its contract. Assumes nothing.
 use borrow.Author.Needs.{needs}
-use native.Mathlib.Omega.{arith}
 use mathlib.Core.Path.{sym, _∙_}
-use borrow.Author.Tests.{not-true, not-false}
-use Rattle.mesh_check.proofs.Call.{few, sized, mesh-there, readable, with-count, with-short, with-rows, with-outside, with-rules, with-turn, with-accepted}
+use Rattle.mesh_check.specs.Accepted.{range-rows, with-refused, with-next}
 use Rattle.mesh_check.proofs.check_with.Statement.{statement}
 use Rattle.mesh_check.proofs.check_with.Tie as tie
 
-vertex-count-requires : tie.Need-vertex-count-requires
-vertex-count-requires c κs = search needs
+check-range-requires : tie.Need-check-range-requires
+check-range-requires c κs = search needs
 
-count-refused-requires : tie.Need-count-refused-requires
-count-refused-requires c κs = search needs
+enum-known-r : tie.Need-enum-known-r
+enum-known-r c = search needs
 
-refuse-requires : tie.Need-refuse-requires
-refuse-requires c κs = search needs
+enum-told : tie.Need-enum-told
+enum-told c = search needs
+
+check-faces-requires : tie.Need-check-faces-requires
+check-faces-requires c κs = range-rows _ _ _ _ (sym (c .before .before .check-range .ensures) ∙ c .enum-told .given .1)
 
 returns : tie.Need-returns
-returns c = c .refuse .ensures ∙ with-count _ _ _ _ (c .before .before .before .vertex-count .ensures) (sym (c .before .before .count-refused .ensures) ∙ c .before .if1 .taken)
-
-refuse-requires-2 : tie.Need-refuse-requires-2
-refuse-requires-2 c κs = search needs
+returns c = with-refused _ _ _ _ (sym (c .before .before .before .check-range .ensures) ∙ c .before .r .given .1)
 
 returns-2 : tie.Need-returns-2
-returns-2 c = c .refuse2 .ensures ∙ with-short _ _ _ _ (c .before .before .before .before .vertex-count .ensures) (sym (c .before .before .before .count-refused .ensures) ∙ c .before .before .if1 .left) (c .before .if2 .taken)
-
-rows-short-requires : tie.Need-rows-short-requires
-rows-short-requires c κs = few _ (sym (c .before .before .count-refused .ensures) ∙ c .before .if1 .left)
-
-refuse-requires-3 : tie.Need-refuse-requires-3
-refuse-requires-3 c κs = search needs
-
-returns-3 : tie.Need-returns-3
-returns-3 c = c .refuse3 .ensures ∙ with-rows _ _ _ _ (c .before .before .before .before .before .before .vertex-count .ensures) (sym (c .before .before .before .before .before .count-refused .ensures) ∙ c .before .before .before .before .if1 .left) (c .before .before .before .if2 .left) (sym (c .before .before .rows-short .ensures) ∙ c .before .if3 .taken)
-
-point-count-requires : tie.Need-point-count-requires
-point-count-requires c κs = search needs
-
-cast-m : tie.Need-cast-m
-cast-m c = let s = sized _ _ _ _ (c .before .before .before .before .before .before .vertex-count .ensures) (sym (c .before .before .before .before .before .count-refused .ensures) ∙ c .before .before .before .before .if1 .left) (c .before .before .before .if2 .left) (sym (c .before .before .rows-short .ensures) ∙ c .before .if3 .left) in let e = c .point-count .ensures in omega arith
-
-first-outside-with-requires : tie.Need-first-outside-with-requires
-first-outside-with-requires c κs = let s = sized _ _ _ _ (c .before .before .before .before .before .before .vertex-count .ensures) (sym (c .before .before .before .before .before .count-refused .ensures) ∙ c .before .before .before .before .if1 .left) (c .before .before .before .if2 .left) (sym (c .before .before .rows-short .ensures) ∙ c .before .if3 .left) in let e = c .point-count .ensures in omega arith
-
-cast-if4 : tie.Need-cast-if4
-cast-if4 c = search needs
-
-refuse-requires-4 : tie.Need-refuse-requires-4
-refuse-requires-4 c κs = search needs
-
-returns-4 : tie.Need-returns-4
-returns-4 c = c .refuse4 .ensures ∙ with-outside _ _ _ _ (c .before .before .before .before .before .before .before .before .before .vertex-count .ensures) (sym (c .before .before .before .before .before .before .before .before .count-refused .ensures) ∙ c .before .before .before .before .before .before .before .if1 .left) (c .before .before .before .before .before .before .if2 .left) (sym (c .before .before .before .before .before .rows-short .ensures) ∙ c .before .before .before .before .if3 .left) (c .before .before .before .point-count .ensures) (c .before .before .first-outside-with .ensures) (c .before .if4 .taken)
-
-mesh-rules-requires : tie.Need-mesh-rules-requires
-mesh-rules-requires c κs = mesh-there (sized _ _ _ _ (c .before .before .before .before .before .before .before .before .vertex-count .ensures) (sym (c .before .before .before .before .before .before .before .count-refused .ensures) ∙ c .before .before .before .before .before .before .if1 .left) (c .before .before .before .before .before .if2 .left) (sym (c .before .before .before .before .rows-short .ensures) ∙ c .before .before .before .if3 .left))
-
-refuse-requires-5 : tie.Need-refuse-requires-5
-refuse-requires-5 c κs = search needs
-
-returns-5 : tie.Need-returns-5
-returns-5 c = c .refuse5 .ensures ∙ with-rules _ _ _ _ (c .before .before .before .before .before .before .before .before .before .before .before .vertex-count .ensures) (sym (c .before .before .before .before .before .before .before .before .before .before .count-refused .ensures) ∙ c .before .before .before .before .before .before .before .before .before .if1 .left) (c .before .before .before .before .before .before .before .before .if2 .left) (sym (c .before .before .before .before .before .before .before .rows-short .ensures) ∙ c .before .before .before .before .before .before .if3 .left) (c .before .before .before .before .before .point-count .ensures) (c .before .before .before .before .first-outside-with .ensures) (c .before .before .before .if4 .left) (sym (c .before .before .mesh-rules .ensures) ∙ not-true _ (c .before .if5 .taken))
-
-first-not-left-requires : tie.Need-first-not-left-requires
-first-not-left-requires c κs = readable _ _ _ _ (c .before .before .before .before .before .before .before .before .before .before .vertex-count .ensures) (sym (c .before .before .before .before .before .before .before .before .before .count-refused .ensures) ∙ c .before .before .before .before .before .before .before .before .if1 .left) (c .before .before .before .before .before .before .before .if2 .left) (sym (c .before .before .before .before .before .before .rows-short .ensures) ∙ c .before .before .before .before .before .if3 .left) (c .before .before .before .before .point-count .ensures) (c .before .before .before .first-outside-with .ensures) (c .before .before .if4 .left) (sym (c .before .mesh-rules .ensures) ∙ not-false _ (c .if5 .left))
-
-refuse-requires-6 : tie.Need-refuse-requires-6
-refuse-requires-6 c κs = search needs
-
-returns-6 : tie.Need-returns-6
-returns-6 c = c .refuse6 .ensures ∙ with-turn _ _ _ _ (c .before .before .before .before .before .before .before .before .before .before .before .before .before .before .vertex-count .ensures) (sym (c .before .before .before .before .before .before .before .before .before .before .before .before .before .count-refused .ensures) ∙ c .before .before .before .before .before .before .before .before .before .before .before .before .if1 .left) (c .before .before .before .before .before .before .before .before .before .before .before .if2 .left) (sym (c .before .before .before .before .before .before .before .before .before .before .rows-short .ensures) ∙ c .before .before .before .before .before .before .before .before .before .if3 .left) (c .before .before .before .before .before .before .before .before .point-count .ensures) (c .before .before .before .before .before .before .before .first-outside-with .ensures) (c .before .before .before .before .before .before .if4 .left) (sym (c .before .before .before .before .before .mesh-rules .ensures) ∙ not-false _ (c .before .before .before .before .if5 .left)) (c .before .before .before .first-not-left .ensures _) (c .before .if6 .taken)
-
-returns-7 : tie.Need-returns-7
-returns-7 c = with-accepted _ _ _ _ (c .before .before .before .before .before .before .before .before .before .before .before .before .before .vertex-count .ensures) (sym (c .before .before .before .before .before .before .before .before .before .before .before .before .count-refused .ensures) ∙ c .before .before .before .before .before .before .before .before .before .before .before .if1 .left) (c .before .before .before .before .before .before .before .before .before .before .if2 .left) (sym (c .before .before .before .before .before .before .before .before .before .rows-short .ensures) ∙ c .before .before .before .before .before .before .before .before .if3 .left) (c .before .before .before .before .before .before .before .point-count .ensures) (c .before .before .before .before .before .before .first-outside-with .ensures) (c .before .before .before .before .before .if4 .left) (sym (c .before .before .before .before .mesh-rules .ensures) ∙ not-false _ (c .before .before .before .if5 .left)) (c .before .before .first-not-left .ensures _) (c .if6 .left)
+returns-2 c = c .check-faces .ensures ∙ with-next _ _ _ _ (sym (c .before .before .before .check-range .ensures) ∙ c .before .enum-told .given .1)
 
 pub check-with-spec : {M : Type 1} → statement M
 check-with-spec =
-    tie.close
-    (tie.spec
-    vertex-count-requires
-    count-refused-requires
-    refuse-requires
-    returns
-    refuse-requires-2
-    returns-2
-    rows-short-requires
-    refuse-requires-3
-    returns-3
-    point-count-requires
-    cast-m
-    first-outside-with-requires
-    cast-if4
-    refuse-requires-4
-    returns-4
-    mesh-rules-requires
-    refuse-requires-5
-    returns-5
-    first-not-left-requires
-    refuse-requires-6
-    returns-6
-    returns-7)
+    tie.close (tie.spec check-range-requires enum-known-r enum-told check-faces-requires returns returns-2)
