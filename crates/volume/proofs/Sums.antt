@@ -65,6 +65,14 @@ module _ {a t : ℤ} (S : SmallTriangle a t) where
         (product (λ n. n / 131072 % 131072) (s .middle) (R .middle) g q)
         (product (λ n. n / 17179869184) (s .high) (R .high) h r))
 
+-- a triangle's numbers a and t as they are read
+module _ {a t x y : ℤ} (f : SFits w64 x) (g : SFits w64 y) (p : x ≡ a) (q : y ≡ t) where
+  pub triangle-read : SmallTriangle a t → SmallTriangle (rd x) (rd y)
+  triangle-read S = rw (toZ-ofZ f, p, toZ-ofZ g, q) S
+
+  pub plus-read : (s : DigitSums) {r : DigitSums} → r ≡ plusTriangle s (rd x) (rd y) → r ≡ plusTriangle s a t
+  plus-read s e = e ∙ ap₂ (plusTriangle s) (toZ-ofZ f ∙ p) (toZ-ofZ g ∙ q)
+
 -- ---- the number that they make up
 module _ {s : DigitSums} (R : SmallSums s) {x y : ℤ} (p : x ≡ rd (s .low)) (q : y ≡ rd (s .middle) *ℤ pos 131072) where
   env : Env (s .low ∷ s .middle ∷ s .high ∷ []) (2 ^ 61 ∷ 2 ^ 61 ∷ 2 ^ 61 ∷ [])

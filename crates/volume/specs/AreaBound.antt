@@ -19,7 +19,7 @@ moved M (negsuc a) h =
     let e : M - suc a + suc a ≡ M = omega arith in (
       M - suc a,
       ring (pos (M - suc a) ∷ pos (suc a) ∷ []) (⊝ v1) (v0 ⊖ (v0 ⊕ v1)) refl
-      ∙ ap (λ (m : ℕ). pos (M - suc a) -ℤ pos m) e,
+          ∙ ap (λ (m : ℕ). pos (M - suc a) -ℤ pos m) e,
       omega arith,
     )
 

@@ -3,3 +3,5 @@ pub mod AreaBound
 pub mod VolumeLaws
 pub mod DigitSums
 pub mod DigitSumsLaws
+pub mod Measurable
+pub mod MeasurableLaws
