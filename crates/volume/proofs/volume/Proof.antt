@@ -1,7 +1,8 @@
 -- `volume::volume` meets its contract. Assumes nothing.
-use mathlib.Core.Path.{sym, _∙_}
+use mathlib.Core.Path.{sym, _∙_, ap}
 use borrow.Author.Needs.{needs}
 use mir.Facts.{toZ-ofZ}
+use Rattle.heights.specs.Heights.{isValidHeight}
 use Rattle.volume.proofs.Call.{refused-volume, measurable, accepted-volume}
 use Rattle.volume.proofs.volume.Statement.{statement}
 use Rattle.volume.proofs.volume.Tie as tie
@@ -24,21 +25,21 @@ measure-requires : tie.Need-measure-requires
 measure-requires c κs =
     let k = c .before .before in
     let s = k .before .before .before .before .before in
-    let v = rw (toZ-ofZ (s .fits .level)) at (k .before .validate-height .ensures) in
+    let v = k .before .validate-height .ensures ∙ ap isValidHeight (toZ-ofZ (s .fits .level)) in
     rw (toZ-ofZ (s .fits .level)) (measurable _ _ _ _ v (sym (k .check-surface .ensures) ∙ c .enum-told .given .1))
 
 returns : tie.Need-returns
 returns c =
     let k = c .before .before .before in
     let s = k .before .before .before .before .before in
-    let v = rw (toZ-ofZ (s .fits .level)) at (k .before .validate-height .ensures) in
+    let v = k .before .validate-height .ensures ∙ ap isValidHeight (toZ-ofZ (s .fits .level)) in
     refused-volume _ _ _ _ v (sym (k .check-surface .ensures) ∙ c .before .r .given .1)
 
 returns-2 : tie.Need-returns-2
 returns-2 c =
     let k = c .before .before .before in
     let s = k .before .before .before .before .before in
-    let v = rw (toZ-ofZ (s .fits .level)) at (k .before .validate-height .ensures) in
+    let v = k .before .validate-height .ensures ∙ ap isValidHeight (toZ-ofZ (s .fits .level)) in
     let w = rw (toZ-ofZ (s .fits .level)) at (c .measure .ensures (s .args .outs .now)) in
     accepted-volume _ _ _ _ v (sym (k .check-surface .ensures) ∙ c .before .enum-told .given .1) w
 
