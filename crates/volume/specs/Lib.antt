@@ -1,0 +1,7 @@
+pub mod Volume
+pub mod AreaBound
+pub mod VolumeLaws
+pub mod DigitSums
+pub mod DigitSumsLaws
+pub mod Measurable
+pub mod MeasurableLaws
