@@ -1,10 +1,9 @@
 -- Numbers in two halves: the two directions undo each other, every pair of halves means a number in range, and sums and
 -- differences of halves that wrap are right where the result fits. Assumes nothing.
-use mathlib.Core.Bool.{true, false}
 use mathlib.Core.Path.{_≡_, refl, sym, _∙_, ap, ap₂}
 use mathlib.Core.List.{[], _∷_}
 use Prim.Native.Nat.{ℕ, zero, suc, _+_, _*_, _-_, _/_, _%_, _^_, _<_, _≤_}
-use native.Mathlib.Nat.{mul-le-mul-right, lt-of-le-of-lt, le-add-right, le-suc, le-trans}
+use native.Mathlib.Nat.{mul-le-mul-right, lt-of-le-of-lt, le-add-right, le-suc, le-trans, div-lt-iff-lt-mul, div-add-mod'}
 use native.Mathlib.Decide.{decLt}
 use native.Mathlib.Omega.{arith}
 use borrow.Author.Tests.{lt-ltb, le-ltb}
@@ -13,7 +12,7 @@ use lib.IntN.{ℤ, pos, negsuc, negℤ, natAbs, _+ℤ_, _-ℤ_, _*ℤ_, negℤ-n
 use lib.Signed.{mag, ltZ}
 use mir.Syntax.{w128}
 use mir.Val.{Fits, toZ, ofZ}
-use mir.Facts.{fits-cat, sfits-toZ, ofZ-toZ}
+use mir.Facts.{fits-cat, sfits-toZ, fits-ofZ, ofZ-toZ, toZ-ofZ}
 use Rattle.algebra.specs.Ring.{E, num, _⊕_, _⊖_, _⊗_, ⊝_, v0, v1, v2, v3, v4, v5, v6, v7, var, ring}
 use Rattle.algebra.specs.Sign.{eq-in, eq-by, _*⁰_, _+⁰_}
 use Rattle.algebra.specs.Bound.{natAbs-neg, natAbs-+}
@@ -93,6 +92,17 @@ halves-are n {z} b d e =
     second : (h l : ℕ) {n : ℕ} → l < 2 ^ 64 → h * 2 ^ 64 + l ≡ n → l ≡ n % 2 ^ 64
     second h l d w = omega arith
 
+low-half : (n : ℕ) {r : ℕ} → r ≡ n % 2 ^ 64 → r < 2 ^ 64
+low-half n f = omega arith
+
+-- and every number in range has halves
+pub halves-mean : (z : ℤ) → Fits128 z → int128Of (inHalves z) ≡ z
+unfolding inHalves
+halves-mean z f =
+    let n = ofZ w128 z in
+    let b = div-lt-iff-lt-mul {k = 2 ^ 64} {x = n} {y = 2 ^ 64} (lit< tt) .1 (fits-ofZ f .fits) in
+    as-read (n / 2 ^ 64) (n % 2 ^ 64) b (low-half n refl) ∙ ap (toZ w128) (div-add-mod' n (2 ^ 64)) ∙ toZ-ofZ f
+
 -- ---- two numbers in range that differ by a multiple of 2 ^ 128 are equal
 once : (N b n : ℕ) (j : ℤ) → b < N → n < N → pos b ≡ pos n +ℤ j *ℤ pos N → b ≡ n
 once N b n (pos j) p q e = let f : b ≡ n + j * N = ap natAbs e in go j f
@@ -145,9 +155,6 @@ carried g k h l hi lo c w p q =
 
 halve : (n : ℕ) {q r : ℕ} → q ≡ n / 2 ^ 64 → r ≡ n % 2 ^ 64 → n ≡ r + q * 2 ^ 64
 halve n e f = omega arith
-
-low-half : (n : ℕ) {r : ℕ} → r ≡ n % 2 ^ 64 → r < 2 ^ 64
-low-half n f = omega arith
 
 chain : (K a s c hi u w : ℕ) → a ≡ s + u * K → s + c ≡ hi + w * K → a + c ≡ hi + (u + w) * K
 chain K a s c hi u w p q = omega arith

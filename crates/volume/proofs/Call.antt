@@ -10,10 +10,10 @@ use mir.Val.{SFits, toZ, ofZ}
 use mir.Facts.{toZ-ofZ}
 use Rattle.dcel.specs.MeshRows.{MeshRows, linksIn, placesIn}
 use Rattle.dcel.specs.Rows.{linksOf, positionOf}
-use Rattle.heights.specs.Heights.{SurfaceRows, surfaceRows, heightOf, heightsIn, isValidHeight, surfaceChecked}
+use Rattle.heights.specs.Heights.{surfaceRows, heightOf, isValidHeight, surfaceChecked}
 use Rattle.int128.specs.declared.Int128.{Int128}
 use Rattle.int128.specs.CubicMetres.{cubicMetres}
-use Rattle.int128.specs.Int128.{int128Of, inHalves}
+use Rattle.int128.specs.Int128.{int128Of}
 use Rattle.int128.specs.Int128Laws.{halves-are}
 use Rattle.mesh.specs.declared.Counts.{Counts}
 use Rattle.mesh_check.specs.declared.Checked.{Checked}

@@ -1,11 +1,11 @@
 -- A triangle in range has at most half the square's area: its doubled area is at most 2 ^ 50. Assumes nothing.
-use mathlib.Core.Path.{_≡_, refl, sym, _∙_, ap, ap₂}
+use mathlib.Core.Path.{_≡_, refl, _∙_, ap, ap₂}
 use mathlib.Core.List.{[], _∷_}
 use Prim.Native.Nat.{ℕ, suc, _+_, _*_, _-_, _^_, _≤_, _<_}
 use native.Mathlib.Nat.{le-refl}
 use native.Mathlib.Decide.{decLt}
 use native.Mathlib.Omega.{arith}
-use lib.IntN.{ℤ, pos, negsuc, negℤ, natAbs, _+ℤ_, _-ℤ_, _*ℤ_}
+use lib.IntN.{ℤ, pos, negsuc, natAbs, _+ℤ_, _-ℤ_, _*ℤ_}
 use Rattle.algebra.specs.Ring.{_⊕_, _⊖_, _⊗_, ⊝_, v0, v1, v2, v3, v4, v5, ring}
 use Rattle.algebra.specs.Bound.{[]ᵉ, _∷ᵉ_, within, natAbs-neg}
 use Rattle.math.specs.declared.Point.{Point}

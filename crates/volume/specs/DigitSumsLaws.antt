@@ -11,7 +11,6 @@ use Rattle.algebra.specs.Ring.{_⊕_, _⊗_, #_, v0, v1, v2, v3, ring}
 use Rattle.algebra.specs.Bound.{[]ᵉ, _∷ᵉ_, within}
 use Rattle.algebra.specs.Order.{abs-0≤}
 use Rattle.sums.specs.Sum.{sum, sum-ext, sum-add, sum-scale, sum-small}
-use Rattle.volume.specs.declared.DigitSums.{DigitSums}
 use Rattle.volume.specs.DigitSums.{lowDigit, middleDigit, highDigit, digitSums, plusTriangle, wholeOf, SmallTriangle, SmallSums}
 
 pub none-yet : (a t : ℕ → ℤ) → record { low = pos 0; middle = pos 0; high = pos 0 } ≡ digitSums 0 a t

@@ -5,3 +5,4 @@ pub mod DigitSums
 pub mod DigitSumsLaws
 pub mod Measurable
 pub mod MeasurableLaws
+pub mod CallLaws

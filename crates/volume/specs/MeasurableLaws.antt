@@ -1,8 +1,8 @@
 -- The rows of an accepted mesh can be measured, and the sums over its faces make up six times its volume. Assumes nothing.
-use mathlib.Core.Bool.{not, true, false}
+use mathlib.Core.Bool.{not}
 use mathlib.Core.List.{List, []}
-use mathlib.Core.Path.{_≡_, refl, sym, _∙_, ap, ap₂}
-use Prim.Native.Nat.{ℕ, suc, _+_, _-_, _*_, _^_, _<_, _≤_}
+use mathlib.Core.Path.{_≡_, _∙_, ap, ap₂}
+use Prim.Native.Nat.{ℕ, suc, _+_, _-_, _*_, _<_, _≤_}
 use native.Mathlib.Nat.{le-refl, lt-of-lt-of-le}
 use native.Mathlib.Omega.{arith}
 use borrow.Author.Tests.{not-false}
@@ -10,7 +10,7 @@ use lib.IntN.{ℤ, pos, natAbs}
 use lib.ListN.{length}
 use lib.Signed.{_≤ℤ_}
 use Rattle.algebra.specs.Order.{lt-le}
-use Rattle.dcel.specs.MeshRows.{MeshRows, meshRows, linksIn, placesIn}
+use Rattle.dcel.specs.MeshRows.{MeshRows, placesIn}
 use Rattle.dcel.specs.Rows.{There, Placed, rowOf, linksOf, positionOf}
 use Rattle.heights.specs.Heights.{surfaceRows, heightOf, isValidHeight, meshLent, surfaceChecked}
 use Rattle.heights.specs.HeightsLaws.{HeightsAccepted, surface-accepts, seed-there, valid-within}
@@ -24,9 +24,9 @@ use Rattle.mesh_check.specs.declared.Checked.{Checked}
 use Rattle.mesh_check.specs.Accepted.{AcceptedMesh}
 use Rattle.volume.specs.declared.DigitSums.{DigitSums}
 use Rattle.volume.specs.AreaBound.{area-bound}
-use Rattle.volume.specs.DigitSums.{digitSums, plusTriangle, wholeOf, SmallSums}
+use Rattle.volume.specs.DigitSums.{plusTriangle, wholeOf, SmallSums}
 use Rattle.volume.specs.DigitSumsLaws.{none-yet, one-more, whole-is, sums-small}
-use Rattle.volume.specs.Measurable.{Measurable, Triangle, CornerHeights, faceSums}
+use Rattle.volume.specs.Measurable.{Measurable, Triangle, faceSums}
 use Rattle.volume.specs.Volume.{aboveLevel, sixVolumes}
 use Rattle.volume.specs.VolumeLaws.{above-most, six-less}
 
@@ -133,8 +133,9 @@ module _ (C : Counts) (m : MeshRows) (z : List ℤ) (level : ℤ)
   accepted : AcceptedMesh C m × HeightsAccepted (meshLent (not (isValidHeight level))) C (surfaceRows m z)
   accepted = surface-accepts (not (isValidHeight level)) C (surfaceRows m z) e
 
-  low : natAbs level ≤ 1048576
-  low = valid-within level (not-false (isValidHeight level) (accepted .1 .inside))
+  level-low : natAbs level ≤ 1048576
+  level-low = valid-within level (not-false (isValidHeight level) (accepted .1 .inside))
 
   pub checked-measurable : Measurable C (m .positions) z (m .halves) (m .faces) level
-  checked-measurable = accepted-measurable (accepted .0) z level (seed-there C [] (accepted .1 .vertices)) (λ v l. accepted .1 .height l) low
+  checked-measurable =
+      accepted-measurable (accepted .0) z level (seed-there C [] (accepted .1 .vertices)) (λ v l. accepted .1 .height l) level-low

@@ -1,6 +1,5 @@
 -- `int128::Int128::sign_on` meets its contract. Assumes nothing.
 use mathlib.Core.Path.{_∙_, sym}
-use native.Mathlib.Omega.{arith}
 use borrow.Author.Needs.{needs}
 use lib.IntN.{pos}
 use Rattle.int128.specs.Int128.{int128Of}
