@@ -1,28 +1,31 @@
-/* The five calls of the library: check a mesh, locate an angle, step one point, finish a mesh, run a list of points.
+/* The six calls of the library: check a mesh, locate an angle, step one point, finish a mesh, run a list of points, and
+ * the volume between a mesh and a level.
  *
  * Link with libfithmoul.a, which `rt staticlib fithmoul` writes to target/staticlib/ (Linux, x86-64). Nothing else is
  * needed. crates/fithmoul/src/lib.rt has the same calls with their contracts, which are proved; docs/SPECIFICATION.md
  * says what they mean.
  *
- * A CALL TAKES ANYTHING. Whatever the counts, rows, centre, angle and points are, it returns, reads and writes inside
- * the rows alone, and answers a result or one numbered refusal. What C cannot check is the caller's: a pointer is not
- * NULL (not even of a row of length 0) and is aligned for its type; there are as many entries behind it as the length
- * after it says; a row that a call may write overlaps no other row, and nobody else uses it meanwhile. No call keeps
- * a pointer, allocates, or uses anything global: calls on different rows may run at the same time.
+ * A CALL TAKES ANYTHING. Whatever the counts, rows, centre, angle, points and level are, it returns, reads and writes
+ * inside the rows alone, and answers a result or one numbered refusal. What C cannot check is the caller's: a pointer
+ * is not NULL (not even of a row of length 0) and is aligned for its type; there are as many entries behind it as the
+ * length after it says; a row that a call may write overlaps no other row, and nobody else uses it meanwhile. No call
+ * keeps a pointer, allocates, or uses anything global: calls on different rows may run at the same time.
  *
  * The caller's too is the floating-point environment: rounding to nearest, subnormal numbers kept, as C starts a
  * program. Angles are doubles, and where a program sets flush-to-zero (linking with gcc's -ffast-math does) or another
  * rounding, an answer may not be the one that is proved. In the triangle (-5, 0), (5, -5), (5, 5), about the centre
  * (1.0, -5e-324), the edge at 1.0 is that from (5, -5) to (-5, 0); with flush-to-zero it is the one after it.
  *
- * COORDINATES are whole numbers from -16,777,216 to 16,777,216: millimetres, say. A centre is two doubles in the same
- * range.
+ * COORDINATES are whole millimetres from -16,777,216 to 16,777,216. A centre is two doubles in the same range. HEIGHTS,
+ * of vertices and of points, and a volume's level are whole millimetres from -1,048,576 to 1,048,576. Nothing but a
+ * volume depends on heights that are in range: links, answers and counts are the same whatever they are.
  *
- * THE MESH'S ROWS, for N vertices. A call may need room for vertices that it adds: N is `vertices` in a check, locate
- * and finish, one more in a step, and `vertices` plus the number of points in a run. A row may be longer; entries
- * past the counts in use are never read for their meaning, nor changed.
+ * THE MESH'S ROWS, for N vertices. A call may need room for vertices that it adds: N is `vertices` in a check, locate,
+ * finish and volume, one more in a step, and `vertices` plus the number of points in a run. A row may be longer;
+ * entries past the counts in use are never read for their meaning, nor changed.
  *
  *   positions  2N   int32_t   x and y of vertex v at 2v and 2v + 1
+ *   heights     N   int32_t   the height of vertex v at v
  *   outs        N   uint32_t  an out edge of each vertex: a half-edge that starts there
  *   halves    24N   uint32_t  next, prev, face and origin of half-edge e at 4e, 4e + 1, 4e + 2, 4e + 3;
  *                             half-edges 2u and 2u + 1 are each other's reverse
@@ -41,27 +44,33 @@
  *                                           are used, but 100,000 points along thirty lines used more than 1,024
  *   answers    4 per point  uint64_t        a run's answers, a fithmoul_point_answer for each point
  *
- * REFUSALS. `refusal` is 0 where a call is accepted. Otherwise it is the first row of this table that applies, and
- * `place` what the row names, else 0.
+ * A RUN'S POINTS are two rows that it only reads: points, x and y of each point (int32_t, and their number is half the
+ * row's length), and levels, the height of each point (int32_t, one per point; the row may be longer).
  *
- *   1  every call          fewer than 3 or more than 1,000,000 vertices (N)
- *   2  every call          a row is shorter than above, or the row of points has an odd length
- *   3  every call          a coordinate is out of range. place: the first such vertex, points counted on after the
- *                          mesh's vertices
- *   4  every call          the rows are no mesh: a link is wrong or outside the counts, a face is no triangle, and so
- *                          on (docs/SPECIFICATION.md)
- *   5  every call          a triangle does not turn strictly left. place: the lowest such face
- *   6  locate, step, run   the centre is not finite, is out of range, or is a boundary vertex
- *   7  locate, step, run   seen from the centre, the boundary's angles do not go round once, strictly rising, with
- *                          gaps of at most 3/4 of a turn
- *   8  locate              the angle is NaN, below 0.0 or above 1.0
- *   9  step, finish, run   the pending row is too short for a flip, which is not made. place: in a run the point's
- *                          index, or the number of points where the finish was refused; otherwise 0
+ * REFUSALS. `refusal` is 0 where a call is accepted. Otherwise it is the first row of this table that applies, from the
+ * top down (10 straight after 3), and `place` what the row names, else 0.
  *
- * AFTERWARDS. Refusals 1 to 8 leave every row as it was. After 9 and after every accepted call nodes, freed, buckets
- * and pending hold zeros over their whole length: of a node its four fields do, and nothing is said of its four bytes
- * of padding. After 9 the mesh is the one that stood before that flip, a good mesh with the counts of the result; in a
- * run the answers of the points before `place` stay and the others are zeros.
+ *    1  every call          fewer than 3 or more than 1,000,000 vertices (N)
+ *    2  every call          a row is shorter than above, or the row of points has an odd length
+ *    3  every call          a coordinate is out of range. place: the first such vertex, points counted on after the
+ *                           mesh's vertices
+ *   10  every call          a height is out of range, of a vertex in use or of a point, or a volume's level is
+ *    4  every call          the rows are no mesh: a link is wrong or outside the counts, a face is no triangle, and so
+ *                           on (docs/SPECIFICATION.md)
+ *    5  every call          a triangle does not turn strictly left. place: the lowest such face
+ *    6  locate, step, run   the centre is not finite, is out of range, or is a boundary vertex
+ *    7  locate, step, run   seen from the centre, the boundary's angles do not go round once, strictly rising, with
+ *                           gaps of at most 3/4 of a turn
+ *    8  locate              the angle is NaN, below 0.0 or above 1.0
+ *    9  step, finish, run   the pending row is too short for a flip, which is not made. place: in a run the point's
+ *                           index, or the number of points where the finish was refused; otherwise 0
+ *
+ * AFTERWARDS. Every refusal but 9 leaves every row as it was. After 9 and after every accepted call the rows nodes,
+ * freed, buckets and pending that were lent hold zeros over their whole length: of a node its four fields do, and
+ * nothing is said of its four bytes of padding. After 9 the mesh is the one that stood before that flip, a good mesh
+ * with the counts of the result; in a run the answers of the points before `place` stay and the others are zeros. A
+ * vertex that a step or a run has added, refused 9 or not, has its point's position and height; no call moves another
+ * vertex or changes its height.
  */
 #ifndef FITHMOUL_H
 #define FITHMOUL_H
@@ -73,8 +82,9 @@
 extern "C" {
 #endif
 
-/* The least lengths of the rows for n vertices, and of the answers for so many points. */
+/* The least lengths of the rows for n vertices, and of the rows for so many points. */
 #define FITHMOUL_POSITIONS(n) (2 * (size_t)(n))
+#define FITHMOUL_HEIGHTS(n) ((size_t)(n))
 #define FITHMOUL_OUTS(n) ((size_t)(n))
 #define FITHMOUL_HALVES(n) (24 * (size_t)(n))
 #define FITHMOUL_ADJACENT(n) (2 * (size_t)(n))
@@ -83,6 +93,7 @@ extern "C" {
 #define FITHMOUL_BUCKETS(n) ((size_t)(n) < 16 ? (size_t)16 : (size_t)(n))
 #define FITHMOUL_PENDING ((size_t)8)
 #define FITHMOUL_ANSWERS(points) (4 * (size_t)(points))
+#define FITHMOUL_LEVELS(points) ((size_t)(points))
 
 /* One entry of the row of ring nodes, 24 bytes. A caller has no use for what is in it. */
 typedef struct fithmoul_node {
@@ -141,20 +152,34 @@ typedef struct fithmoul_finish_result {
     uint64_t closing_flips;
 } fithmoul_finish_result;
 
-/* Does a mesh keep the rules, turn left everywhere and stay in range? Refusals 1 to 5. Writes nothing. */
+/* Six times a volume in cubic millimetres is past 64 bits: a number of 128 bits in two's complement, its high and its
+ * low half. Where the compiler has such a type it is
+ * (__int128)((unsigned __int128)six_volumes_high << 64 | six_volumes_low). */
+typedef struct fithmoul_volume_result {
+    uint32_t refusal;
+    uint32_t place;
+    uint64_t six_volumes_high; /* this and the rest are 0 where refused */
+    uint64_t six_volumes_low;
+    int64_t cubic_metres; /* of 10^9 cubic millimetres: the nearest whole, exact halves away from zero */
+} fithmoul_volume_result;
+
+/* Does a mesh keep the rules, turn left everywhere and stay in range, its heights too? Refusals 1 to 5, and 10. Writes
+ * nothing. */
 fithmoul_check_result fithmoul_check(
     uint32_t vertices, uint32_t edges, uint32_t faces,
     const int32_t *positions, size_t positions_length,
+    const int32_t *heights, size_t heights_length,
     const uint32_t *outs, size_t outs_length,
     const uint32_t *halves, size_t halves_length,
     const uint32_t *adjacent, size_t adjacent_length);
 
 /* The boundary edge at an angle about a centre. An angle is a part of a turn from 0.0 (west) over 0.25 (north),
- * 0.5 (east) and 0.75 (south) to 1.0, not evenly spaced between (`pseudo_angle` of the Rust). Refusals 1 to 8.
+ * 0.5 (east) and 0.75 (south) to 1.0, not evenly spaced between (`pseudo_angle` of the Rust). Refusals 1 to 8, and 10.
  * Leaves the mesh alone, and zeros in nodes, freed and buckets. */
 fithmoul_locate_result fithmoul_locate(
     uint32_t vertices, uint32_t edges, uint32_t faces,
     const int32_t *positions, size_t positions_length,
+    const int32_t *heights, size_t heights_length,
     const uint32_t *outs, size_t outs_length,
     const uint32_t *halves, size_t halves_length,
     const uint32_t *adjacent, size_t adjacent_length,
@@ -163,11 +188,12 @@ fithmoul_locate_result fithmoul_locate(
     uint32_t *buckets, size_t buckets_length,
     double center_x, double center_y, double angle);
 
-/* One point of a sweep. It checks the whole mesh and builds the ring anew, so for a list of points use a run.
- * Refusals 1 to 7, and 9. Leaves the mesh after the step, and zeros in the other rows. */
+/* One point of a sweep, x and y with its height z. It checks the whole mesh and builds the ring anew, so for a list of
+ * points use a run. Refusals 1 to 7, 9 and 10. Leaves the mesh after the step, and zeros in the other rows. */
 fithmoul_step_result fithmoul_step(
     uint32_t vertices, uint32_t edges, uint32_t faces,
     int32_t *positions, size_t positions_length,
+    int32_t *heights, size_t heights_length,
     uint32_t *outs, size_t outs_length,
     uint32_t *halves, size_t halves_length,
     uint32_t *adjacent, size_t adjacent_length,
@@ -175,26 +201,28 @@ fithmoul_step_result fithmoul_step(
     uint32_t *freed, size_t freed_length,
     uint32_t *buckets, size_t buckets_length,
     uint32_t *pending, size_t pending_length,
-    double center_x, double center_y, int32_t x, int32_t y);
+    double center_x, double center_y, int32_t x, int32_t y, int32_t z);
 
-/* Convexity passes until one adds no face, then the closing pass. Refusals 1 to 5, and 9. Afterwards no corner of
- * the boundary turns left and no triangle's circle strictly contains a neighbour's far vertex. Leaves the finished
- * mesh, and zeros in pending. */
+/* Convexity passes until one adds no face, then the closing pass. Refusals 1 to 5, 9 and 10. Where it is accepted, no
+ * corner of the boundary turns left and no triangle's circle strictly contains a neighbour's far vertex. Leaves the
+ * finished mesh, and zeros in pending. */
 fithmoul_finish_result fithmoul_finish(
     uint32_t vertices, uint32_t edges, uint32_t faces,
     const int32_t *positions, size_t positions_length,
+    const int32_t *heights, size_t heights_length,
     uint32_t *outs, size_t outs_length,
     uint32_t *halves, size_t halves_length,
     uint32_t *adjacent, size_t adjacent_length,
     uint32_t *pending, size_t pending_length);
 
-/* A mesh to start from (a triangle is enough), a centre in it and a list of points, to a finished mesh: a step for
- * each point in list order, then the finish. `points` has x and y of each point, and `points_length` counts
- * numbers. Refusals 1 to 7, and 9. Leaves the finished mesh, an answer for each point in `answers`, and zeros in
- * the other rows. The sweep grows outwards: sort the points by their distance from the centre. */
+/* A mesh to start from (a triangle is enough), a centre in it and a list of points with their heights, to a finished
+ * mesh: a step for each point in list order, then the finish. `points_length` counts numbers, two for each point.
+ * Refusals 1 to 7, 9 and 10. Leaves the finished mesh, an answer for each point in `answers`, and zeros in the other
+ * rows. The sweep grows outwards: sort the points by their distance from the centre. */
 fithmoul_finish_result fithmoul_run(
     uint32_t vertices, uint32_t edges, uint32_t faces,
     int32_t *positions, size_t positions_length,
+    int32_t *heights, size_t heights_length,
     uint32_t *outs, size_t outs_length,
     uint32_t *halves, size_t halves_length,
     uint32_t *adjacent, size_t adjacent_length,
@@ -204,7 +232,20 @@ fithmoul_finish_result fithmoul_run(
     uint32_t *pending, size_t pending_length,
     uint64_t *answers, size_t answers_length,
     double center_x, double center_y,
-    const int32_t *points, size_t points_length);
+    const int32_t *points, size_t points_length,
+    const int32_t *levels, size_t levels_length);
+
+/* The volume between a mesh and a level, positive where the mesh is above it: six times it is, exactly, the sum over
+ * all triangles of the doubled area times (the three heights minus three times the level). Where triangles overlap each
+ * counts. Refusals 1 to 5, and 10. Writes nothing. */
+fithmoul_volume_result fithmoul_volume(
+    uint32_t vertices, uint32_t edges, uint32_t faces,
+    const int32_t *positions, size_t positions_length,
+    const int32_t *heights, size_t heights_length,
+    const uint32_t *outs, size_t outs_length,
+    const uint32_t *halves, size_t halves_length,
+    const uint32_t *adjacent, size_t adjacent_length,
+    int32_t level);
 
 #ifdef __cplusplus
 }
