@@ -21,7 +21,7 @@ use Rattle.decide.specs.declared.Fate.the-variants.{Added, Dropped, NotLeft, Un
 use Rattle.finish.specs.declared.Finished.{Finished}
 use Rattle.finish.specs.Finish.{FinishOutcome, finishedWith, finishOutcome, finishOf, seedChecked}
 use Rattle.heights.specs.Heights.{SurfaceRows, surfaceRows, heightOf, heightsIn, HeightsLent, heightsLent, heightsChecked, heightsTested}
-use Rattle.heights.specs.HeightsLaws.{tested-refused, tested-then}
+use Rattle.heights.specs.HeightsLaws.{tested-refused, tested-accept, tested-then}
 use Rattle.locate.specs.declared.Located.{Located}
 use Rattle.locate.specs.Locate.{ringShort, checkRing, checkStart, checkAngle, locatedWith, locateOutcome, locateOf}
 use Rattle.math.specs.declared.Point.{Point}
@@ -143,6 +143,12 @@ module _ {cx cy : Float} {C : Counts} {L : Links} {p : ℕ → Point} (S : Swept
       go NotLeft e k = rw (le-ltb (C .vertices) (t .mesh .counts .vertices) (omega arith)) refl
       go Unsound e k = rw (le-ltb (C .vertices) (t .mesh .counts .vertices) (omega arith)) refl
       go AtCenter e k = rw (le-ltb (C .vertices) (t .mesh .counts .vertices) (omega arith)) refl
+
+-- there is room for the point's height
+pub step-room : (v : Point) (z : ℤ) (short : Bool) (C : Counts) (s : SurfaceRows)
+    → heightsTested (heightsLent (pointRow v) (z ∷ []) short false) C s ≡ Accepted → C .vertices < length (s .heights)
+unfolding vertexCount pointCount
+step-room v z short C s e = let A = tested-accept (heightsLent (pointRow v) (z ∷ []) short false) C s e .vertices in omega arith
 
 module _ (C : Counts) (s : SurfaceRows) (ring : RingRows) (pending : List ℕ) (center : Point2) (v : Point) (z : ℤ) where
   abbrev nodes : ℕ
