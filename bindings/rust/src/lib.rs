@@ -1,4 +1,4 @@
-//! A mesh of triangles over points on a whole-number grid: points in, triangles out.
+//! A mesh of triangles over points on a whole-number grid: points in, triangles and volumes out.
 //!
 //! The work is done by libfithmoul.a, whose every function is proved; this crate owns the rows that it works on, so that a call cannot be given wrong
 //! ones, and turns its numbers into Rust's types. Every call answers a result or a [`Refusal`]; none panics, whatever it is given. What is left to the
@@ -6,16 +6,19 @@
 //!
 //! ```
 //! # fn main() -> Result<(), fithmoul::LoadError> {
-//! let loaded = fithmoul::Mesh::bulk_load(&[[0, 0], [40, 0], [0, 40], [40, 40], [90, 10]])?;
+//! let loaded = fithmoul::Mesh::bulk_load(&[[0, 0, 7], [4000, 0, 7], [0, 4000, 7], [4000, 4000, 1007], [9000, 1000, 7]])?;
 //! for [a, b, c] in loaded.mesh.triangles() {
 //!     println!("{a} {b} {c}");
 //! }
 //! assert_eq!(loaded.mesh.triangles().count(), 3);
+//! let above = loaded.mesh.volume(7)?; // above the level 7
+//! assert_eq!((above.six_volumes, above.cubic_metres), (35_000_000_000, 6));
 //! # Ok(())
 //! # }
 //! ```
 //!
-//! Coordinates are whole numbers, millimetres say, from -16,777,216 to 16,777,216; a mesh has at most 1,000,000 vertices. In a finished mesh every
+//! Coordinates are whole millimetres from -16,777,216 to 16,777,216, heights and levels from -1,048,576 to 1,048,576; a mesh has at most 1,000,000
+//! vertices. Heights change nothing but volumes. In a finished mesh every
 //! triangle turns left (counterclockwise), no corner of the boundary turns left, and no triangle's circle strictly contains the far vertex of a neighbour.
 
 mod refusal;
@@ -31,8 +34,14 @@ use rows::{Rows, Scratch};
 /// The greatest coordinate.
 pub const RANGE: i32 = 16_777_216;
 
+/// The greatest height, and the greatest level.
+pub const HEIGHT_RANGE: i32 = 1_048_576;
+
 /// The most vertices of a mesh.
 pub const MOST_VERTICES: usize = 1_000_000;
+
+/// x, y and height.
+pub type Point = [i32; 3];
 
 /// What became of a point.
 #[derive(Clone, Copy, Debug, PartialEq, Eq)]
@@ -92,6 +101,15 @@ pub struct Totals {
     pub closing_flips: u64,
 }
 
+/// A volume between a mesh and a level, positive where the mesh is above.
+#[derive(Clone, Copy, Debug, PartialEq, Eq)]
+pub struct Volume {
+    /// Six times it, in cubic millimetres, exactly: over all triangles, the doubled area times (the three heights minus three times the level).
+    pub six_volumes: i128,
+    /// The nearest whole number of cubic metres, exact halves away from zero.
+    pub cubic_metres: i64,
+}
+
 /// What a run did: an answer for each point, and its finish.
 #[derive(Clone, Debug, PartialEq, Eq)]
 pub struct Run {
@@ -117,35 +135,39 @@ pub struct Mesh {
 
 impl Mesh {
     /// One triangle, which turns left.
-    pub fn triangle(corners: [[i32; 2]; 3]) -> Result<Mesh, Refusal> {
+    pub fn triangle(corners: [Point; 3]) -> Result<Mesh, Refusal> {
         let halves = [[2, 4, 1, 0], [5, 3, 0, 1], [4, 0, 1, 1], [1, 5, 0, 2], [0, 2, 1, 2], [3, 1, 0, 0]];
         Mesh::from_rows(&corners, &[0, 2, 4], &halves, &[1, 0])
     }
 
-    /// A mesh of given links: an out edge of each vertex; next, prev, face and origin of each half-edge; a half-edge of each face.
+    /// A mesh of given vertices and links: an out edge of each vertex; next, prev, face and origin of each half-edge; a half-edge of each face.
     pub fn from_rows(
-        positions: &[[i32; 2]],
+        points: &[Point],
         outs: &[u32],
         halves: &[[u32; 4]],
         adjacent: &[u32],
     ) -> Result<Mesh, Refusal> {
-        let mesh = Mesh { rows: Rows::new(positions, outs, halves, adjacent)? };
+        let mesh = Mesh { rows: Rows::new(points, outs, halves, adjacent)? };
         mesh.check()?;
         Ok(mesh)
     }
 
     /// The mesh of a list of points, as spade's `bulk_load` goes about it: sorted by their distance from their average; the first three that are not on
-    /// one line are the seed, the middle of the seed is the centre, and the others are run.
-    pub fn bulk_load(points: &[[i32; 2]]) -> Result<Loaded, LoadError> {
-        let outside = |p: &[i32; 2]| p.iter().any(|c| !(-RANGE..=RANGE).contains(c));
+    /// one line are the seed, the middle of the seed is the centre, and the others are run. Of points at one place the first counts, with its height.
+    pub fn bulk_load(points: &[Point]) -> Result<Loaded, LoadError> {
+        let outside = |p: &Point| at(*p).iter().any(|c| !(-RANGE..=RANGE).contains(c));
         if let Some(point) = points.iter().position(outside) {
             return Err(LoadError::Coordinate { point });
+        }
+        let too_high = |p: &Point| !(-HEIGHT_RANGE..=HEIGHT_RANGE).contains(&p[2]);
+        if let Some(point) = points.iter().position(too_high) {
+            return Err(LoadError::Height { point });
         }
         let order = by_distance(points);
         let seed = seed_of(points, &order).ok_or(LoadError::NoTriangle)?;
         let corners = seed.map(|i| points[i]);
         let rest: Vec<usize> = order.into_iter().filter(|i| !seed.contains(i)).collect();
-        let swept: Vec<[i32; 2]> = rest.iter().map(|&i| points[i]).collect();
+        let swept: Vec<Point> = rest.iter().map(|&i| points[i]).collect();
         let mut mesh = Mesh::triangle(corners)?;
         let run = mesh.run(middle(corners), &swept)?;
         let mut vertices = vec![None; points.len()];
@@ -176,7 +198,7 @@ impl Mesh {
     /// One point of a sweep about a centre. The whole mesh is checked each time: for a list use [`Mesh::run`].
     ///
     /// After [`Refusal::Pending`] the mesh is good, and may have grown.
-    pub fn step(&mut self, center: [f64; 2], point: [i32; 2]) -> Result<Answer, Refusal> {
+    pub fn step(&mut self, center: [f64; 2], point: Point) -> Result<Answer, Refusal> {
         let room = self.rows.reserve(1);
         let result = self.rows.step(&mut Scratch::new(room), center, point);
         refusal::of(result.refusal, result.place)?;
@@ -196,12 +218,20 @@ impl Mesh {
     /// nearer to the centre may leave those out, which their answers tell.
     ///
     /// After [`Refusal::Pending`] the mesh is good, and the points before the named one are in it.
-    pub fn run(&mut self, center: [f64; 2], points: &[[i32; 2]]) -> Result<Run, Refusal> {
+    pub fn run(&mut self, center: [f64; 2], points: &[Point]) -> Result<Run, Refusal> {
         let room = self.rows.reserve(points.len());
         let mut answers = rows::zeros(points.len());
         let result = self.rows.run(&mut Scratch::new(room), &mut answers, center, points);
         refusal::of(result.refusal, result.place)?;
         Ok(Run { answers, totals: totals_of(&result) })
+    }
+
+    /// The volume between the mesh and a level.
+    pub fn volume(&self, level: i32) -> Result<Volume, Refusal> {
+        let result = self.rows.volume(level);
+        refusal::of(result.refusal, result.place)?;
+        let bits = u128::from(result.six_volumes_high) << 64 | u128::from(result.six_volumes_low);
+        Ok(Volume { six_volumes: bits as i128, cubic_metres: result.cubic_metres })
     }
 
     pub fn vertex_count(&self) -> usize {
@@ -220,6 +250,11 @@ impl Mesh {
 
     pub fn positions(&self) -> &[[i32; 2]] {
         self.rows.positions()
+    }
+
+    /// The height of each vertex.
+    pub fn heights(&self) -> &[i32] {
+        self.rows.heights()
     }
 
     /// An out edge of each vertex.
@@ -261,10 +296,11 @@ impl Mesh {
     }
 }
 
-/// The same links: counts, positions, out edges, half-edges, stored edges.
+/// The same counts, positions, heights and links: out edges, half-edges, stored edges.
 impl PartialEq for Mesh {
     fn eq(&self, other: &Mesh) -> bool {
         self.positions() == other.positions()
+            && self.heights() == other.heights()
             && self.outs() == other.outs()
             && self.halves() == other.halves()
             && self.adjacent() == other.adjacent()
@@ -293,34 +329,40 @@ fn totals_of(result: &sys::FinishResult) -> Totals {
     }
 }
 
-/// The points' indices by their distance from their average, nearest first; of equal ones that with the greater x, then y, as the Rust has them.
-pub fn by_distance(points: &[[i32; 2]]) -> Vec<usize> {
+/// x and y.
+fn at([x, y, _]: Point) -> [i32; 2] {
+    [x, y]
+}
+
+/// The points' indices by their distance from their average, nearest first; of equal ones that with the greater x, then y, as the Rust has them. Points at
+/// one place stay in their order.
+pub fn by_distance(points: &[Point]) -> Vec<usize> {
     let mut sum = [0.0f64; 2];
     for p in points {
         sum = [sum[0] + f64::from(p[0]), sum[1] + f64::from(p[1])];
     }
     let [x, y] = sum.map(|s| s * (1.0 / points.len() as f64));
-    let distance = |p: [i32; 2]| {
+    let distance = |p: Point| {
         let [dx, dy] = [f64::from(p[0]) - x, f64::from(p[1]) - y];
         // not negative, so its bits rise with it
         (dx * dx + dy * dy).to_bits()
     };
     let mut order: Vec<usize> = (0..points.len()).collect();
-    order.sort_by_cached_key(|&i| (distance(points[i]), Reverse(points[i])));
+    order.sort_by_cached_key(|&i| (distance(points[i]), Reverse(at(points[i]))));
     order
 }
 
 /// Positive where c is left of the line from a to b.
-fn orient(a: [i32; 2], b: [i32; 2], c: [i32; 2]) -> i128 {
+fn orient(a: Point, b: Point, c: Point) -> i128 {
     let [ax, ay, bx, by, cx, cy] = [a[0], a[1], b[0], b[1], c[0], c[1]].map(i128::from);
     (bx - ax) * (cy - ay) - (by - ay) * (cx - ax)
 }
 
 /// The first three of an order that are not on one line, turning left, with a middle from which a sweep can start: in a triangle of hardly any width
 /// that is rounded to a side.
-pub fn seed_of(points: &[[i32; 2]], order: &[usize]) -> Option<[usize; 3]> {
+pub fn seed_of(points: &[Point], order: &[usize]) -> Option<[usize; 3]> {
     let &a = order.first()?;
-    let &b = order.iter().find(|&&i| points[i] != points[a])?;
+    let &b = order.iter().find(|&&i| at(points[i]) != at(points[a]))?;
     let turned = |&c: &usize| match orient(points[a], points[b], points[c]) {
         0 => None,
         1.. => Some([a, b, c]),
@@ -334,6 +376,6 @@ pub fn seed_of(points: &[[i32; 2]], order: &[usize]) -> Option<[usize; 3]> {
 }
 
 /// The middle of a triangle.
-pub fn middle(corners: [[i32; 2]; 3]) -> [f64; 2] {
+pub fn middle(corners: [Point; 3]) -> [f64; 2] {
     [0, 1].map(|k| corners.iter().map(|p| f64::from(p[k])).sum::<f64>() / 3.0)
 }

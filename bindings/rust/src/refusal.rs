@@ -24,6 +24,8 @@ pub enum Refusal {
     Angle,
     /// 9: the pending list is full. In a run the point, or the number of points where the finish was refused; otherwise 0.
     Pending { point: u32 },
+    /// 10: a height, of a vertex or of a point, or a level is outside -1,048,576..1,048,576. It comes straight after 3, and names no vertex.
+    Height,
 }
 
 impl Refusal {
@@ -39,6 +41,7 @@ impl Refusal {
             Refusal::Ring => 7,
             Refusal::Angle => 8,
             Refusal::Pending { .. } => 9,
+            Refusal::Height => 10,
         }
     }
 }
@@ -55,7 +58,8 @@ pub(crate) fn of(number: u32, place: u32) -> Result<(), Refusal> {
         6 => Refusal::Center,
         7 => Refusal::Ring,
         8 => Refusal::Angle,
-        _ => Refusal::Pending { point: place },
+        9 => Refusal::Pending { point: place },
+        _ => Refusal::Height,
     })
 }
 
@@ -73,6 +77,7 @@ impl fmt::Display for Refusal {
             Refusal::Ring => write!(f, "the boundary does not go round the centre once, strictly"),
             Refusal::Angle => write!(f, "the angle is not from 0.0 to 1.0"),
             Refusal::Pending { point } => write!(f, "the pending list is full at point {point}"),
+            Refusal::Height => write!(f, "a height or level is outside -1,048,576..1,048,576"),
         }
     }
 }
@@ -84,6 +89,8 @@ impl Error for Refusal {}
 pub enum LoadError {
     /// This point has a coordinate outside -16,777,216..16,777,216.
     Coordinate { point: usize },
+    /// Every coordinate is in range, and this point has a height outside -1,048,576..1,048,576.
+    Height { point: usize },
     /// All points are on one line, or so close to one that no sweep can start; or there are fewer than three.
     NoTriangle,
     /// `Count`, or `Pending`, which counts points as the sweep took them.
@@ -101,6 +108,9 @@ impl fmt::Display for LoadError {
         match self {
             LoadError::Coordinate { point } => {
                 write!(f, "point {point} has a coordinate outside -16,777,216..16,777,216")
+            }
+            LoadError::Height { point } => {
+                write!(f, "point {point} has a height outside -1,048,576..1,048,576")
             }
             LoadError::NoTriangle => write!(f, "no three points make a triangle"),
             LoadError::Refused(refusal) => refusal.fmt(f),

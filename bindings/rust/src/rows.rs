@@ -1,10 +1,10 @@
-//! The rows that the library works on, and the five calls on them. Every pointer and length comes from a vector, so what C cannot check holds.
+//! The rows that the library works on, and the six calls on them. Every pointer and length comes from a vector, so what C cannot check holds.
 
 use std::alloc::{self, Layout};
 
 use crate::refusal::Refusal;
-use crate::sys::{self, CheckResult, FinishResult, LocateResult, Node, StepResult};
-use crate::{Answer, MOST_VERTICES};
+use crate::sys::{self, CheckResult, FinishResult, LocateResult, Node, StepResult, VolumeResult};
+use crate::{Answer, Point, MOST_VERTICES};
 
 #[derive(Clone, Copy, Debug, PartialEq, Eq)]
 pub struct Counts {
@@ -18,6 +18,7 @@ pub struct Counts {
 pub struct Rows {
     pub counts: Counts,
     positions: Vec<[i32; 2]>,
+    heights: Vec<i32>,
     outs: Vec<u32>,
     halves: Vec<[u32; 4]>,
     adjacent: Vec<u32>,
@@ -68,18 +69,23 @@ pub fn zeros<T: Zero>(length: usize) -> Vec<T> {
     }
 }
 
+/// The positions and the heights of points: the library has them in two rows.
+fn split(points: &[Point]) -> (Vec<[i32; 2]>, Vec<i32>) {
+    points.iter().map(|&[x, y, z]| ([x, y], z)).unzip()
+}
+
 fn number(length: usize) -> Result<u32, Refusal> {
     u32::try_from(length).map_err(|_| Refusal::Count)
 }
 
 impl Rows {
     pub fn new(
-        positions: &[[i32; 2]],
+        points: &[Point],
         outs: &[u32],
         halves: &[[u32; 4]],
         adjacent: &[u32],
     ) -> Result<Rows, Refusal> {
-        let n = positions.len();
+        let n = points.len();
         if !(3..=MOST_VERTICES).contains(&n) {
             return Err(Refusal::Count);
         }
@@ -88,9 +94,11 @@ impl Rows {
         }
         let counts =
             Counts { vertices: number(n)?, edges: number(halves.len() / 2)?, faces: number(adjacent.len())? };
+        let (positions, heights) = split(points);
         let mut rows = Rows {
             counts,
-            positions: positions.to_vec(),
+            positions,
+            heights,
             outs: outs.to_vec(),
             halves: halves.to_vec(),
             adjacent: adjacent.to_vec(),
@@ -108,6 +116,7 @@ impl Rows {
             }
         }
         grown(&mut self.positions, vertices, |n| vec![[0; 2]; n]);
+        grown(&mut self.heights, vertices, |n| vec![0; n]);
         grown(&mut self.outs, vertices, |n| vec![0; n]);
         grown(&mut self.halves, 6 * vertices, |n| vec![[0; 4]; n]);
         grown(&mut self.adjacent, 2 * vertices, |n| vec![0; n]);
@@ -125,6 +134,10 @@ impl Rows {
 
     pub fn positions(&self) -> &[[i32; 2]] {
         &self.positions[..self.counts.vertices as usize]
+    }
+
+    pub fn heights(&self) -> &[i32] {
+        &self.heights[..self.counts.vertices as usize]
     }
 
     pub fn outs(&self) -> &[u32] {
@@ -148,6 +161,8 @@ impl Rows {
                 faces,
                 self.positions.as_ptr().cast(),
                 2 * self.positions.len(),
+                self.heights.as_ptr(),
+                self.heights.len(),
                 self.outs.as_ptr(),
                 self.outs.len(),
                 self.halves.as_ptr().cast(),
@@ -167,6 +182,8 @@ impl Rows {
                 faces,
                 self.positions.as_ptr().cast(),
                 2 * self.positions.len(),
+                self.heights.as_ptr(),
+                self.heights.len(),
                 self.outs.as_ptr(),
                 self.outs.len(),
                 self.halves.as_ptr().cast(),
@@ -186,7 +203,7 @@ impl Rows {
         }
     }
 
-    pub fn step(&mut self, scratch: &mut Scratch, [x, y]: [f64; 2], point: [i32; 2]) -> StepResult {
+    pub fn step(&mut self, scratch: &mut Scratch, [x, y]: [f64; 2], point: Point) -> StepResult {
         let Counts { vertices, edges, faces } = self.counts;
         let result = unsafe {
             sys::fithmoul_step(
@@ -195,6 +212,8 @@ impl Rows {
                 faces,
                 self.positions.as_mut_ptr().cast(),
                 2 * self.positions.len(),
+                self.heights.as_mut_ptr(),
+                self.heights.len(),
                 self.outs.as_mut_ptr(),
                 self.outs.len(),
                 self.halves.as_mut_ptr().cast(),
@@ -213,6 +232,7 @@ impl Rows {
                 y,
                 point[0],
                 point[1],
+                point[2],
             )
         };
         self.counts = Counts { vertices: result.vertices, edges: result.edges, faces: result.faces };
@@ -228,6 +248,8 @@ impl Rows {
                 faces,
                 self.positions.as_ptr().cast(),
                 2 * self.positions.len(),
+                self.heights.as_ptr(),
+                self.heights.len(),
                 self.outs.as_mut_ptr(),
                 self.outs.len(),
                 self.halves.as_mut_ptr().cast(),
@@ -247,9 +269,10 @@ impl Rows {
         scratch: &mut Scratch,
         answers: &mut [Answer],
         [x, y]: [f64; 2],
-        points: &[[i32; 2]],
+        points: &[Point],
     ) -> FinishResult {
         let Counts { vertices, edges, faces } = self.counts;
+        let (points, levels) = split(points);
         let result = unsafe {
             sys::fithmoul_run(
                 vertices,
@@ -257,6 +280,8 @@ impl Rows {
                 faces,
                 self.positions.as_mut_ptr().cast(),
                 2 * self.positions.len(),
+                self.heights.as_mut_ptr(),
+                self.heights.len(),
                 self.outs.as_mut_ptr(),
                 self.outs.len(),
                 self.halves.as_mut_ptr().cast(),
@@ -277,9 +302,33 @@ impl Rows {
                 y,
                 points.as_ptr().cast(),
                 2 * points.len(),
+                levels.as_ptr(),
+                levels.len(),
             )
         };
         self.counts = Counts { vertices: result.vertices, edges: result.edges, faces: result.faces };
         result
+    }
+
+    pub fn volume(&self, level: i32) -> VolumeResult {
+        let Counts { vertices, edges, faces } = self.counts;
+        unsafe {
+            sys::fithmoul_volume(
+                vertices,
+                edges,
+                faces,
+                self.positions.as_ptr().cast(),
+                2 * self.positions.len(),
+                self.heights.as_ptr(),
+                self.heights.len(),
+                self.outs.as_ptr(),
+                self.outs.len(),
+                self.halves.as_ptr().cast(),
+                4 * self.halves.len(),
+                self.adjacent.as_ptr(),
+                self.adjacent.len(),
+                level,
+            )
+        }
     }
 }

@@ -52,6 +52,16 @@ pub struct FinishResult {
     pub closing_flips: u64,
 }
 
+#[repr(C)]
+#[derive(Clone, Copy, Debug, Default, PartialEq, Eq)]
+pub struct VolumeResult {
+    pub refusal: u32,
+    pub place: u32,
+    pub six_volumes_high: u64,
+    pub six_volumes_low: u64,
+    pub cubic_metres: i64,
+}
+
 extern "C" {
     pub fn fithmoul_check(
         vertices: u32,
@@ -59,6 +69,8 @@ extern "C" {
         faces: u32,
         positions: *const i32,
         positions_length: usize,
+        heights: *const i32,
+        heights_length: usize,
         outs: *const u32,
         outs_length: usize,
         halves: *const u32,
@@ -73,6 +85,8 @@ extern "C" {
         faces: u32,
         positions: *const i32,
         positions_length: usize,
+        heights: *const i32,
+        heights_length: usize,
         outs: *const u32,
         outs_length: usize,
         halves: *const u32,
@@ -96,6 +110,8 @@ extern "C" {
         faces: u32,
         positions: *mut i32,
         positions_length: usize,
+        heights: *mut i32,
+        heights_length: usize,
         outs: *mut u32,
         outs_length: usize,
         halves: *mut u32,
@@ -114,6 +130,7 @@ extern "C" {
         center_y: f64,
         x: i32,
         y: i32,
+        z: i32,
     ) -> StepResult;
 
     pub fn fithmoul_finish(
@@ -122,6 +139,8 @@ extern "C" {
         faces: u32,
         positions: *const i32,
         positions_length: usize,
+        heights: *const i32,
+        heights_length: usize,
         outs: *mut u32,
         outs_length: usize,
         halves: *mut u32,
@@ -138,6 +157,8 @@ extern "C" {
         faces: u32,
         positions: *mut i32,
         positions_length: usize,
+        heights: *mut i32,
+        heights_length: usize,
         outs: *mut u32,
         outs_length: usize,
         halves: *mut u32,
@@ -158,5 +179,24 @@ extern "C" {
         center_y: f64,
         points: *const i32,
         points_length: usize,
+        levels: *const i32,
+        levels_length: usize,
     ) -> FinishResult;
+
+    pub fn fithmoul_volume(
+        vertices: u32,
+        edges: u32,
+        faces: u32,
+        positions: *const i32,
+        positions_length: usize,
+        heights: *const i32,
+        heights_length: usize,
+        outs: *const u32,
+        outs_length: usize,
+        halves: *const u32,
+        halves_length: usize,
+        adjacent: *const u32,
+        adjacent_length: usize,
+        level: i32,
+    ) -> VolumeResult;
 }

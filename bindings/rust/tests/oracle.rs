@@ -1,10 +1,11 @@
-//! The Rust's own answers (oracle/answers.txt, whose form oracle/FORMAT.md gives) through the exports.
+//! The Rust's own answers (oracle/answers.txt, whose form oracle/FORMAT.md gives) through the exports. The Rust has no heights: ours are made up here, and
+//! each vertex must keep its own, that of its place in the list.
 //!
 //! For each case: every fate, vertex, face count and flip count of a run; the Rust's mesh after its last step and its mesh after its first convexity pass,
 //! each finished by us, against the run's finished mesh, link by link, with the totals adding up; and, where every lone step is accepted (a lone step asks
 //! a strict ring), the mesh after the last step against the Rust's, link by link.
 
-use fithmoul::{Answer, Fate, Mesh, Totals};
+use fithmoul::{Answer, Fate, Mesh, Point, Totals};
 use std::str::FromStr;
 
 struct Lines<'a>(std::str::Lines<'a>);
@@ -18,42 +19,54 @@ impl<'a> Lines<'a> {
         words.map(|w| w.parse().ok().expect("a number")).collect()
     }
 
-    fn mesh(&mut self) -> Mesh {
+    /// The next mesh, its vertices at these heights.
+    fn mesh(&mut self, heights: impl IntoIterator<Item = i32>) -> Mesh {
         let counts: Vec<usize> = self.numbers("m");
         let positions: Vec<i32> = self.numbers("p");
         let outs: Vec<u32> = self.numbers("o");
         let halves: Vec<u32> = self.numbers("h");
         let faces: Vec<u32> = self.numbers("f");
-        let positions: Vec<[i32; 2]> = positions.chunks(2).map(|p| [p[0], p[1]]).collect();
+        let points: Vec<Point> = positions.chunks(2).zip(heights).map(|(p, z)| [p[0], p[1], z]).collect();
         let halves: Vec<[u32; 4]> = halves.chunks(4).map(|h| [h[0], h[1], h[2], h[3]]).collect();
-        assert_eq!(counts, [positions.len(), halves.len() / 2, faces.len()]);
-        Mesh::from_rows(&positions, &outs, &halves, &faces).expect("the Rust's meshes are good")
+        assert_eq!(counts, [points.len(), halves.len() / 2, faces.len()]);
+        Mesh::from_rows(&points, &outs, &halves, &faces).expect("the Rust's meshes are good")
     }
 }
 
 struct Case {
     seed: Mesh,
     center: [f64; 2],
-    points: Vec<[i32; 2]>,
+    points: Vec<Point>,
     answers: Vec<[u64; 4]>,
     stepped: Mesh,
     pass: [u64; 2],
     passed: Mesh,
 }
 
+/// Of the seed's vertices, and of the points: all different, both limits among them.
+fn seed_height(v: usize) -> i32 {
+    v as i32 - 1_048_576
+}
+
+fn point_height(i: usize) -> i32 {
+    1_048_576 - i as i32
+}
+
 fn read(lines: &mut Lines) -> Case {
-    let seed = lines.mesh();
+    let seed = lines.mesh((0..).map(seed_height));
     let center: Vec<u64> = lines.numbers("c");
     let points: Vec<i32> = lines.numbers("q");
     let answers: Vec<u64> = lines.numbers("a");
-    let stepped = lines.mesh();
+    let added = (0..).zip(answers.chunks(4)).filter(|(_, a)| a[0] == 1).map(|(i, _)| point_height(i));
+    let heights: Vec<i32> = seed.heights().iter().copied().chain(added).collect();
+    let stepped = lines.mesh(heights.clone());
     let pass: Vec<u64> = lines.numbers("g");
-    let passed = lines.mesh();
+    let passed = lines.mesh(heights);
     assert_eq!(lines.0.next(), Some("e"));
     Case {
         seed,
         center: [f64::from_bits(center[0]), f64::from_bits(center[1])],
-        points: points.chunks(2).map(|p| [p[0], p[1]]).collect(),
+        points: (0..).zip(points.chunks(2)).map(|(i, p)| [p[0], p[1], point_height(i)]).collect(),
         answers: answers.chunks(4).map(|a| [a[0], a[1], a[2], a[3]]).collect(),
         stepped,
         pass: [pass[0], pass[1]],
