@@ -1,5 +1,6 @@
-/* A triangle, a centre and four points, to a finished mesh: the sample of the specification, through include/fithmoul.h.
- * Prints each point's answer, the triangles, and what a refused call answers. It is C and C++. */
+/* A triangle, a centre and four points, to a finished mesh: the sample of the specification, with heights, through
+ * include/fithmoul.h. Prints each point's answer, the triangles, the volume above and below two levels, and what a refused
+ * call answers. It is C and C++. */
 #include "fithmoul.h"
 
 #include <inttypes.h>
@@ -11,6 +12,7 @@
 
 /* the seed: half-edges 0, 2, 4 run through vertices 0, 1, 2 in face 1; the odd ones are their reverses in the outer face, 0 */
 static int32_t positions[FITHMOUL_POSITIONS(N)] = {0, 0, 4, 0, 0, 4};
+static int32_t heights[FITHMOUL_HEIGHTS(N)] = {10, 20, 30};
 static uint32_t outs[FITHMOUL_OUTS(N)] = {0, 2, 4};
 static uint32_t halves[FITHMOUL_HALVES(N)] = {2, 4, 1, 0, 5, 3, 0, 1, 4, 0, 1, 1, 1, 5, 0, 2, 0, 2, 1, 2, 3, 1, 0, 0};
 static uint32_t adjacent[FITHMOUL_ADJACENT(N)] = {1, 0};
@@ -23,14 +25,15 @@ static uint32_t pending[4096];
 static uint64_t answers[FITHMOUL_ANSWERS(POINTS)];
 
 static const int32_t points[2 * POINTS] = {4, 4, 2, 2, 4, 4, 1, 1};
+static const int32_t levels[FITHMOUL_LEVELS(POINTS)] = {40, 50, 60, 70};
 
 #define LENGTH(row) (sizeof(row) / sizeof((row)[0]))
 
 static fithmoul_finish_result run(double x, double y) {
     return fithmoul_run(
-        SEED, 3, 2, positions, LENGTH(positions), outs, LENGTH(outs), halves, LENGTH(halves), adjacent, LENGTH(adjacent),
-        nodes, LENGTH(nodes), freed, LENGTH(freed), buckets, LENGTH(buckets), pending, LENGTH(pending), answers, LENGTH(answers),
-        x, y, points, LENGTH(points));
+        SEED, 3, 2, positions, LENGTH(positions), heights, LENGTH(heights), outs, LENGTH(outs), halves, LENGTH(halves),
+        adjacent, LENGTH(adjacent), nodes, LENGTH(nodes), freed, LENGTH(freed), buckets, LENGTH(buckets),
+        pending, LENGTH(pending), answers, LENGTH(answers), x, y, points, LENGTH(points), levels, LENGTH(levels));
 }
 
 static void print_triangles(uint32_t faces) {
@@ -40,6 +43,14 @@ static void print_triangles(uint32_t faces) {
         uint32_t c = halves[4 * b];
         printf("triangle %" PRIu32 " %" PRIu32 " %" PRIu32 "\n", halves[4 * a + 3], halves[4 * b + 3], halves[4 * c + 3]);
     }
+}
+
+static void print_volume(const fithmoul_finish_result *mesh, int32_t level) {
+    fithmoul_volume_result v = fithmoul_volume(
+        mesh->vertices, mesh->edges, mesh->faces, positions, LENGTH(positions), heights, LENGTH(heights), outs, LENGTH(outs),
+        halves, LENGTH(halves), adjacent, LENGTH(adjacent), level);
+    printf("above %" PRId32 ": refusal %" PRIu32 ", six volumes 0x%016" PRIx64 " %016" PRIx64 ", %" PRId64 " cubic metres\n",
+        level, v.refusal, v.six_volumes_high, v.six_volumes_low, v.cubic_metres);
 }
 
 int main(void) {
@@ -57,13 +68,20 @@ int main(void) {
     }
     printf("%" PRIu32 " vertices, %" PRIu32 " edges, %" PRIu32 " triangles\n", done.vertices, done.edges, done.faces - 1);
     print_triangles(done.faces);
+    for (uint32_t v = 0; v < done.vertices; v++) {
+        printf("vertex %" PRIu32 " at height %" PRId32 "\n", v, heights[v]);
+    }
+    print_volume(&done, 7);
+    print_volume(&done, 1000000);
+    print_volume(&done, 1048577);
 
     fithmoul_check_result good = fithmoul_check(
-        done.vertices, done.edges, done.faces, positions, LENGTH(positions), outs, LENGTH(outs), halves, LENGTH(halves),
-        adjacent, LENGTH(adjacent));
+        done.vertices, done.edges, done.faces, positions, LENGTH(positions), heights, LENGTH(heights), outs, LENGTH(outs),
+        halves, LENGTH(halves), adjacent, LENGTH(adjacent));
     fithmoul_locate_result east = fithmoul_locate(
-        done.vertices, done.edges, done.faces, positions, LENGTH(positions), outs, LENGTH(outs), halves, LENGTH(halves),
-        adjacent, LENGTH(adjacent), nodes, LENGTH(nodes), freed, LENGTH(freed), buckets, LENGTH(buckets), 1.0, 1.0, 0.5);
+        done.vertices, done.edges, done.faces, positions, LENGTH(positions), heights, LENGTH(heights), outs, LENGTH(outs),
+        halves, LENGTH(halves), adjacent, LENGTH(adjacent), nodes, LENGTH(nodes), freed, LENGTH(freed),
+        buckets, LENGTH(buckets), 1.0, 1.0, 0.5);
     printf("check: refusal %" PRIu32 "; due east: edge from vertex %" PRIu32 "\n", good.refusal, halves[4 * east.edge + 3]);
     return 0;
 }

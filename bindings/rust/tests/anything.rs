@@ -1,5 +1,5 @@
-//! A call takes anything: rows of any length with anything in them, any counts, centre and points. It returns, and a refusal but 9 leaves every row as it
-//! was. Through the exports themselves, on seeds that were damaged a little and on noise.
+//! A call takes anything: rows of any length with anything in them, any counts, centre, points and level. It returns, and a refusal but 9 leaves every row as
+//! it was. Through the exports themselves, on seeds that were damaged a little and on noise.
 
 use fithmoul::sys::{self, Node};
 
@@ -29,6 +29,14 @@ impl Random {
         }
     }
 
+    fn height(&mut self) -> i32 {
+        match self.below(40) {
+            0 => i32::MIN,
+            1 => 1_048_577,
+            _ => self.below(2_097_153) as i32 - 1_048_576,
+        }
+    }
+
     fn center(&mut self) -> f64 {
         [f64::NAN, f64::INFINITY, -0.0, 1.0, 1.0, 1.0, 1.0, 1.0, 1e300, 1.5][self.below(10) as usize]
     }
@@ -41,6 +49,7 @@ const NOISE: Node = Node { angle: 7.0, edge: 7, left: 7, right: 7 };
 struct Rows {
     counts: [u32; 3],
     positions: Vec<i32>,
+    heights: Vec<i32>,
     outs: Vec<u32>,
     halves: Vec<u32>,
     adjacent: Vec<u32>,
@@ -56,6 +65,7 @@ fn seed(n: usize) -> Rows {
     let mut rows = Rows {
         counts: [3, 3, 2],
         positions: vec![0, 0, 4, 0, 0, 4],
+        heights: vec![1, -2, 3],
         outs: vec![0, 2, 4],
         halves: vec![2, 4, 1, 0, 5, 3, 0, 1, 4, 0, 1, 1, 1, 5, 0, 2, 0, 2, 1, 2, 3, 1, 0, 0],
         adjacent: vec![1, 0],
@@ -66,6 +76,7 @@ fn seed(n: usize) -> Rows {
         answers: vec![7; 4 * n],
     };
     rows.positions.resize(2 * n, 7);
+    rows.heights.resize(n, i32::MAX); // entries past the counts are not looked at
     rows.outs.resize(n, 7);
     rows.halves.resize(24 * n, 7);
     rows.adjacent.resize(2 * n, 7);
@@ -81,7 +92,7 @@ fn put<T>(random: &mut Random, row: &mut [T], first: usize, value: T) {
 
 fn damage(random: &mut Random, rows: &mut Rows) {
     let word = random.word();
-    match random.below(12) {
+    match random.below(14) {
         0 => put(random, &mut rows.counts, 3, word),
         1 => {
             let c = random.coordinate();
@@ -95,15 +106,21 @@ fn damage(random: &mut Random, rows: &mut Rows) {
         7 => rows.buckets.truncate(random.below(17) as usize),
         8 => rows.pending.truncate(random.below(9) as usize),
         9 => rows.positions.truncate(random.below(15) as usize),
+        10 => {
+            let z = random.height();
+            put(random, &mut rows.heights, 3, z);
+        }
+        11 => rows.heights.truncate(random.below(8) as usize),
         _ => {}
     }
 }
 
-/// The refusal of one of the five calls, on these rows.
-fn call(which: u64, r: &mut Rows, [x, y]: [f64; 2], points: &[i32]) -> u32 {
+/// The refusal of one of the six calls, on these rows; `levels` has at least one entry, which is a step's height and a volume's level.
+fn call(which: u64, r: &mut Rows, [x, y]: [f64; 2], points: &[i32], levels: &[i32]) -> u32 {
     let [v, e, f] = r.counts;
     let (p, o) = (r.positions.as_mut_ptr(), r.outs.as_mut_ptr());
     let (h, a) = (r.halves.as_mut_ptr(), r.adjacent.as_mut_ptr());
+    let (z, zl) = (r.heights.as_mut_ptr(), r.heights.len());
     let [pl, ol, hl, al] = [r.positions.len(), r.outs.len(), r.halves.len(), r.adjacent.len()];
     let (n, nl) = (r.nodes.as_mut_ptr(), r.nodes.len());
     let (d, dl) = (r.freed.as_mut_ptr(), r.freed.len());
@@ -111,26 +128,32 @@ fn call(which: u64, r: &mut Rows, [x, y]: [f64; 2], points: &[i32]) -> u32 {
     let (q, ql) = (r.pending.as_mut_ptr(), r.pending.len());
     let (s, sl) = (r.answers.as_mut_ptr(), r.answers.len());
     let (t, tl) = (points.as_ptr(), points.len());
+    let (u, ul) = (levels.as_ptr(), levels.len());
     unsafe {
         match which {
-            0 => sys::fithmoul_check(v, e, f, p, pl, o, ol, h, hl, a, al).refusal,
+            0 => sys::fithmoul_check(v, e, f, p, pl, z, zl, o, ol, h, hl, a, al).refusal,
             1 => {
-                sys::fithmoul_locate(v, e, f, p, pl, o, ol, h, hl, a, al, n, nl, d, dl, b, bl, x, y, 0.5)
-                    .refusal
+                sys::fithmoul_locate(
+                    v, e, f, p, pl, z, zl, o, ol, h, hl, a, al, n, nl, d, dl, b, bl, x, y, 0.5,
+                )
+                .refusal
             }
             2 => {
                 let step = sys::fithmoul_step(
-                    v, e, f, p, pl, o, ol, h, hl, a, al, n, nl, d, dl, b, bl, q, ql, x, y, 9, 9,
+                    v, e, f, p, pl, z, zl, o, ol, h, hl, a, al, n, nl, d, dl, b, bl, q, ql, x, y, 9, 9,
+                    levels[0],
                 );
                 step.refusal
             }
-            3 => sys::fithmoul_finish(v, e, f, p, pl, o, ol, h, hl, a, al, q, ql).refusal,
-            _ => {
+            3 => sys::fithmoul_finish(v, e, f, p, pl, z, zl, o, ol, h, hl, a, al, q, ql).refusal,
+            4 => {
                 let run = sys::fithmoul_run(
-                    v, e, f, p, pl, o, ol, h, hl, a, al, n, nl, d, dl, b, bl, q, ql, s, sl, x, y, t, tl,
+                    v, e, f, p, pl, z, zl, o, ol, h, hl, a, al, n, nl, d, dl, b, bl, q, ql, s, sl, x, y, t,
+                    tl, u, ul,
                 );
                 run.refusal
             }
+            _ => sys::fithmoul_volume(v, e, f, p, pl, z, zl, o, ol, h, hl, a, al, levels[0]).refusal,
         }
     }
 }
@@ -138,7 +161,7 @@ fn call(which: u64, r: &mut Rows, [x, y]: [f64; 2], points: &[i32]) -> u32 {
 #[test]
 fn a_call_takes_anything() {
     let mut random = Random(0x2545_f491_4f6c_dd1d);
-    let mut seen = [0u32; 10];
+    let mut seen = [0u32; 11];
     for _ in 0..40_000 {
         let mut rows = seed(7);
         for _ in 0..random.below(3) {
@@ -146,15 +169,17 @@ fn a_call_takes_anything() {
         }
         let center = [random.center(), random.center()];
         let points: Vec<i32> = (0..random.below(9)).map(|_| random.coordinate()).collect();
+        let levels: Vec<i32> = (0..=random.below(12)).map(|_| random.height()).collect();
         let before = rows.clone();
-        let refusal = call(random.below(5), &mut rows, center, &points);
+        let refusal = call(random.below(6), &mut rows, center, &points, &levels);
         seen[refusal as usize] += 1;
-        if (1..9).contains(&refusal) {
+        if ![0, 9].contains(&refusal) {
             assert!(rows == before, "refusal {refusal} changed a row");
         } else {
+            assert!(rows.heights[..3] == before.heights[..3], "a height was changed");
             assert!(rows.nodes.iter().all(|n| *n == Node::default() || *n == NOISE));
         }
     }
     println!("{seen:?}");
-    assert!([0, 1, 2, 3, 4, 5, 6].iter().all(|&k| seen[k] > 0), "{seen:?}");
+    assert!([0, 1, 2, 3, 4, 5, 6, 10].iter().all(|&k| seen[k] > 0), "{seen:?}");
 }

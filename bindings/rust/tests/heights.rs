@@ -1,0 +1,268 @@
+//! Each vertex keeps the height of its point, through every call and also through refusal 9; and nothing else depends on heights.
+
+mod common;
+
+use common::{of_triangles, Random};
+use fithmoul::sys::{self, FinishResult, Node, StepResult};
+use fithmoul::{Fate, Mesh, Point};
+
+fn random_points(random: &mut Random, count: u64, reach: i32) -> Vec<Point> {
+    (0..count).map(|_| [random.within(reach), random.within(reach), random.within(1_048_576)]).collect()
+}
+
+#[test]
+fn loaded() {
+    let random = &mut Random(0x9e37_79b9_7f4a_7c15);
+    for reach in [5, 40, 16_777_216] {
+        let points = random_points(random, 400, reach);
+        let loaded = Mesh::bulk_load(&points).expect("a triangle");
+        let mut seen = 0;
+        for (point, vertex) in points.iter().zip(&loaded.vertices) {
+            if let Some(v) = vertex {
+                assert_eq!(loaded.mesh.heights()[*v as usize], point[2]);
+                seen += 1;
+            }
+        }
+        assert_eq!(seen, loaded.mesh.vertex_count());
+    }
+}
+
+/// Steps, and then a run of the same points.
+#[test]
+fn stepped_and_run() {
+    let random = &mut Random(0x0123_4567_89ab_cdef);
+    let seed = Mesh::triangle([[-9, -9, 1], [9, -9, 2], [0, 9, 3]]).expect("a triangle");
+    let points = random_points(random, 150, 400);
+    let mut stepped = seed.clone();
+    let mut heights = vec![1, 2, 3];
+    for &point in &points {
+        if let Ok(answer) = stepped.step([0.0, 0.0], point) {
+            if let Fate::Added(v) = answer.fate() {
+                assert_eq!(v as usize, heights.len());
+                heights.push(point[2]);
+            }
+        }
+        assert_eq!(stepped.heights(), heights);
+    }
+    assert!(heights.len() > 20, "{}", heights.len());
+    stepped.finish().expect("a good mesh");
+    assert_eq!(stepped.heights(), heights);
+
+    let mut run = seed.clone();
+    let answers = run.run([0.0, 0.0], &points).expect("accepted").answers;
+    let added = points.iter().zip(&answers).filter(|(_, a)| matches!(a.fate(), Fate::Added(_)));
+    let expected: Vec<i32> = [1, 2, 3].into_iter().chain(added.map(|(p, _)| p[2])).collect();
+    assert_eq!(run.heights(), expected);
+}
+
+/// The same points at other heights: the same links, answers and counts.
+#[test]
+fn ignored_by_links() {
+    let random = &mut Random(0x2545_f491_4f6c_dd1d);
+    for reach in [6, 60, 16_777_216] {
+        let points = random_points(random, 300, reach);
+        let flat: Vec<Point> = points.iter().map(|&[x, y, _]| [x, y, 0]).collect();
+        let [a, b] = [&points, &flat].map(|p| Mesh::bulk_load(p).expect("a triangle"));
+        assert!(a.mesh.halves() == b.mesh.halves() && a.mesh.positions() == b.mesh.positions());
+        assert!(a.mesh.outs() == b.mesh.outs() && a.mesh.adjacent() == b.mesh.adjacent());
+        assert!(a.run == b.run && a.vertices == b.vertices);
+        let [c, d] = [&a, &b].map(|l| {
+            let mut mesh = l.mesh.clone();
+            let answer = mesh.step([0.0, 0.0], [16_777_216, -16_777_215, l.mesh.heights()[0]]);
+            (answer, l.mesh.locate([0.0, 0.0], 0.3), mesh.halves().to_vec())
+        });
+        assert_eq!(c, d);
+    }
+}
+
+/// Past the counts, where nothing may be written.
+const PAST: i32 = 77;
+
+/// A mesh's rows with room for some vertices more, and a pending row of a given length.
+struct Rows {
+    counts: [u32; 3],
+    positions: Vec<i32>,
+    heights: Vec<i32>,
+    outs: Vec<u32>,
+    halves: Vec<u32>,
+    adjacent: Vec<u32>,
+    pending: Vec<u32>,
+    nodes: Vec<Node>,
+    freed: Vec<u32>,
+    buckets: Vec<u32>,
+}
+
+fn rows_of(mesh: &Mesh, more: usize, pending: usize) -> Rows {
+    fn longer<T: Copy>(row: &[T], length: usize, past: T) -> Vec<T> {
+        row.iter().copied().chain(std::iter::repeat(past)).take(length).collect()
+    }
+    let n = mesh.vertex_count() + more;
+    Rows {
+        counts: [mesh.vertex_count(), mesh.edge_count(), mesh.face_count()].map(|c| c as u32),
+        positions: longer(mesh.positions().as_flattened(), 2 * n, PAST),
+        heights: longer(mesh.heights(), n, PAST),
+        outs: longer(mesh.outs(), n, 7),
+        halves: longer(mesh.halves().as_flattened(), 24 * n, 7),
+        adjacent: longer(mesh.adjacent(), 2 * n, 7),
+        pending: vec![7; pending],
+        nodes: vec![Node::default(); n + 1],
+        freed: vec![7; n + 1],
+        buckets: vec![7; n.max(16)],
+    }
+}
+
+impl Rows {
+    fn step(&mut self, [cx, cy]: [f64; 2], [x, y, z]: Point) -> StepResult {
+        let [v, e, f] = self.counts;
+        let Rows { positions, heights, outs, halves, adjacent, nodes, freed, buckets, pending, .. } = self;
+        unsafe {
+            sys::fithmoul_step(
+                v,
+                e,
+                f,
+                positions.as_mut_ptr(),
+                positions.len(),
+                heights.as_mut_ptr(),
+                heights.len(),
+                outs.as_mut_ptr(),
+                outs.len(),
+                halves.as_mut_ptr(),
+                halves.len(),
+                adjacent.as_mut_ptr(),
+                adjacent.len(),
+                nodes.as_mut_ptr(),
+                nodes.len(),
+                freed.as_mut_ptr(),
+                freed.len(),
+                buckets.as_mut_ptr(),
+                buckets.len(),
+                pending.as_mut_ptr(),
+                pending.len(),
+                cx,
+                cy,
+                x,
+                y,
+                z,
+            )
+        }
+    }
+
+    fn run(&mut self, [cx, cy]: [f64; 2], points: &[Point], answers: &mut [u64]) -> FinishResult {
+        let [v, e, f] = self.counts;
+        let flat: Vec<i32> = points.iter().flat_map(|p| [p[0], p[1]]).collect();
+        let levels: Vec<i32> = points.iter().map(|p| p[2]).collect();
+        let Rows { positions, heights, outs, halves, adjacent, nodes, freed, buckets, pending, .. } = self;
+        unsafe {
+            sys::fithmoul_run(
+                v,
+                e,
+                f,
+                positions.as_mut_ptr(),
+                positions.len(),
+                heights.as_mut_ptr(),
+                heights.len(),
+                outs.as_mut_ptr(),
+                outs.len(),
+                halves.as_mut_ptr(),
+                halves.len(),
+                adjacent.as_mut_ptr(),
+                adjacent.len(),
+                nodes.as_mut_ptr(),
+                nodes.len(),
+                freed.as_mut_ptr(),
+                freed.len(),
+                buckets.as_mut_ptr(),
+                buckets.len(),
+                pending.as_mut_ptr(),
+                pending.len(),
+                answers.as_mut_ptr(),
+                answers.len(),
+                cx,
+                cy,
+                flat.as_ptr(),
+                flat.len(),
+                levels.as_ptr(),
+                levels.len(),
+            )
+        }
+    }
+}
+
+/// A fan about (0, 0) to points on a vertical line. The point (1, -1) is inside all its circles, so that all inner edges flip, and the pending list grows to
+/// one more than there are triangles.
+fn flat_fan(triangles: u32) -> Mesh {
+    let line = (0..=triangles as i32).map(|i| [100, i, i - 4]);
+    let points: Vec<Point> = [[0, 0, 9]].into_iter().chain(line).collect();
+    let all: Vec<[u32; 3]> = (0..triangles).map(|i| [0, i + 1, i + 2]).collect();
+    of_triangles(&points, &all)
+}
+
+const CENTER: [f64; 2] = [70.0, 3.0];
+
+#[test]
+fn a_step_refused_9() {
+    let fan = flat_fan(8);
+    let n = fan.vertex_count();
+    for (pending, refusal) in [(8, 9), (9, 0)] {
+        let mut rows = rows_of(&fan, 3, pending);
+        let result = rows.step(CENTER, [1, -1, -5]);
+        assert_eq!([result.refusal, result.place], [refusal, 0]);
+        assert_eq!(result.vertices as usize, n + 1);
+        assert_eq!(rows.heights[..n], *fan.heights());
+        assert_eq!(rows.heights[n..], [-5, PAST, PAST]);
+        assert_eq!(rows.positions[2 * n..], [1, -1, PAST, PAST, PAST, PAST]);
+    }
+    // a point that is left out leaves no height behind
+    let mut rows = rows_of(&fan, 3, 8);
+    assert_eq!(rows.step(CENTER, [60, 3, -5]).answer.fate(), Fate::NotLeft);
+    assert_eq!(rows.heights[n..], [PAST; 3]);
+}
+
+#[test]
+fn a_run_refused_9() {
+    let fan = flat_fan(8);
+    let n = fan.vertex_count();
+    // added, inside, at the centre, then the one that fills the list, and one more
+    let points = [[300, 5, 11], [60, 3, 12], [70, 3, 13], [1, -1, 14], [-40, 2, 15]];
+    for (pending, refusal, place) in [(8, 9, 3), (9, 0, 0)] {
+        let mut rows = rows_of(&fan, points.len(), pending);
+        let mut answers = [7; 20];
+        let result = rows.run(CENTER, &points, &mut answers);
+        assert_eq!([result.refusal, result.place], [refusal, place]);
+        let fates: Vec<u64> = answers.chunks(4).map(|a| a[0]).collect();
+        assert_eq!(rows.heights[..n], *fan.heights());
+        if refusal == 9 {
+            assert_eq!(fates, [1, 3, 5, 0, 0]);
+            assert_eq!(result.vertices as usize, n + 2);
+            assert_eq!(rows.heights[n..], [11, 14, PAST, PAST, PAST]);
+        } else {
+            assert_eq!(fates, [1, 3, 5, 1, 1]);
+            assert_eq!(rows.heights[n..], [11, 14, 15, PAST, PAST]);
+        }
+    }
+}
+
+/// The finish of a run is refused, all points being in.
+#[test]
+fn a_finish_of_a_run_refused_9() {
+    // a fan that lacks the triangle between its last point and its first: closing that corner lets the others flip
+    let line = (0..=5).map(|i| [100, i, i]);
+    let points: Vec<Point> =
+        [[0, 0, 9]].into_iter().chain(line).chain([[-3, 3, 6], [-3, -3, 7], [1, -1, 8]]).collect();
+    let all: Vec<[u32; 3]> = (0..8).map(|i| [0, i + 1, i + 2]).collect();
+    let mesh = of_triangles(&points, &all);
+    let n = mesh.vertex_count();
+    let added = [[-50, 0, 21], [-2, 0, 22], [-60, 1, 23]];
+    for (pending, refusal, place) in [(10, 9, 3), (11, 0, 0)] {
+        let mut rows = rows_of(&mesh, 3, pending);
+        let mut answers = [7; 12];
+        let result = rows.run([-1.0, 0.5], &added, &mut answers);
+        assert_eq!([result.refusal, result.place], [refusal, place]);
+        let taken = added.iter().zip(answers.chunks(4)).filter(|(_, a)| a[0] == 1);
+        let heights: Vec<i32> = taken.map(|(p, _)| p[2]).collect();
+        assert!(!heights.is_empty() && result.vertices as usize == n + heights.len());
+        assert_eq!(rows.heights[..n], *mesh.heights());
+        assert_eq!(rows.heights[n..n + heights.len()], heights);
+        assert!(rows.heights[n + heights.len()..].iter().all(|&z| z == PAST));
+    }
+}
