@@ -1,4 +1,4 @@
-//! Seconds that `finish` takes on a mesh of 1,000,000 vertices: this library's (`libfithmoul.a`), refusals 1 to 5, convexity passes and closing pass together.
+//! Seconds that `finish` takes on a mesh of 1,000,000 vertices: this library's (`libfithmoul.a`), refusals 1 to 5 and 10, convexity passes and closing pass together.
 //! The mesh is a grid of 1,000 by 1,000, each vertex moved at random and each cell cut along the same diagonal, so that the boundary has left corners to close and
 //! many edges break the circle rule; its numbers in the grid's order, and again vertices, edges and faces numbered at random. Then the same mesh once more, finished.
 use std::time::Instant;
@@ -7,6 +7,7 @@ extern "C" {
     fn fithmoul_finish(
         vertices: u32, edges: u32, faces: u32,
         positions: *const i32, positions_len: usize,
+        heights: *const i32, heights_len: usize,
         outs: *mut u32, outs_len: usize,
         halves: *mut u32, halves_len: usize,
         stored: *mut u32, stored_len: usize,
@@ -31,6 +32,7 @@ struct Mesh {
     edges: u32,
     faces: u32,
     positions: Vec<i32>,
+    heights: Vec<i32>,
     outs: Vec<u32>,
     halves: Vec<u32>,
     stored: Vec<u32>,
@@ -42,6 +44,7 @@ fn finish(m: &mut Mesh, pending: &mut [u32]) -> [u64; 2] {
         fithmoul_finish(
             m.vertices, m.edges, m.faces,
             m.positions.as_ptr(), m.positions.len(),
+            m.heights.as_ptr(), m.heights.len(),
             m.outs.as_mut_ptr(), m.outs.len(),
             m.halves.as_mut_ptr(), m.halves.len(),
             m.stored.as_mut_ptr(), m.stored.len(),
@@ -111,7 +114,7 @@ fn grid(w: usize, shake: i32, random: &mut dyn FnMut(usize) -> usize, number: &m
     }
     stored[0] = around[0];
     assert_eq!(made, count);
-    Mesh { vertices: n as u32, edges: count as u32, faces: faces as u32, positions, outs, halves, stored }
+    Mesh { vertices: n as u32, edges: count as u32, faces: faces as u32, positions, heights: vec![0; n], outs, halves, stored }
 }
 
 fn main() {

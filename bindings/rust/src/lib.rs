@@ -12,14 +12,14 @@
 //! }
 //! assert_eq!(loaded.mesh.triangles().count(), 3);
 //! let above = loaded.mesh.volume(7)?; // above the level 7
-//! assert_eq!((above.six_volumes, above.cubic_metres), (35_000_000_000, 6));
+//! assert_eq!((above.six_volumes, above.cubic_metres), (52_000_000_000, 9));
 //! # Ok(())
 //! # }
 //! ```
 //!
 //! Coordinates are whole millimetres from -16,777,216 to 16,777,216, heights and levels from -1,048,576 to 1,048,576; a mesh has at most 1,000,000
-//! vertices. Heights change nothing but volumes. In a finished mesh every
-//! triangle turns left (counterclockwise), no corner of the boundary turns left, and no triangle's circle strictly contains the far vertex of a neighbour.
+//! vertices. Nothing but a volume depends on heights. In a finished mesh every triangle turns left (counterclockwise), no corner of the boundary turns left,
+//! and no triangle's circle strictly contains the far vertex of a neighbour.
 
 mod refusal;
 mod rows;

@@ -27,9 +27,11 @@ pub fn of_triangles(points: &[Point], triangles: &[[u32; 3]]) -> Mesh {
     for (f, t) in (1..).zip(triangles) {
         let e = [0, 1, 2].map(|k| {
             let (p, q) = (t[k], t[(k + 1) % 3]);
-            let e = number.get(&(q, p)).map_or(halves.len() as u32, |e| e ^ 1);
+            let e = number.get(&(q, p)).map(|e| e ^ 1).unwrap_or_else(|| {
+                halves.extend([[0; 4]; 2]);
+                halves.len() as u32 - 2
+            });
             number.insert((p, q), e);
-            halves.resize(halves.len().max(e as usize + 2 & !1), [0; 4]);
             e
         });
         for k in 0..3 {

@@ -1,0 +1,125 @@
+//! Milliseconds that `volume` takes on a mesh of 1,000,000 vertices: this library's (`libfithmoul.a`), which checks the mesh first, beside the same in plain Rust,
+//! a check and then a loop that adds in i128, on the same rows, in turn. What the volume itself takes is the call less a `check`.
+//! The mesh is that of benches/check: a grid of 1,000 by 1,000, its numbers in the grid's order, and again numbered at random. Every answer is compared.
+#[path = "../check/plain.rs"]
+mod plain;
+
+use plain::{check, half, meshes, Mesh};
+use std::hint::black_box;
+use std::time::Instant;
+
+extern "C" {
+    fn fithmoul_check(
+        vertices: u32, edges: u32, faces: u32,
+        positions: *const i32, positions_len: usize,
+        heights: *const i32, heights_len: usize,
+        outs: *const u32, outs_len: usize,
+        halves: *const u32, halves_len: usize,
+        stored: *const u32, stored_len: usize,
+    ) -> CheckResult;
+
+    fn fithmoul_volume(
+        vertices: u32, edges: u32, faces: u32,
+        positions: *const i32, positions_len: usize,
+        heights: *const i32, heights_len: usize,
+        outs: *const u32, outs_len: usize,
+        halves: *const u32, halves_len: usize,
+        stored: *const u32, stored_len: usize,
+        level: i32,
+    ) -> VolumeResult;
+}
+
+#[repr(C)]
+struct CheckResult {
+    refusal: u32,
+    place: u32,
+}
+
+#[repr(C)]
+struct VolumeResult {
+    refusal: u32,
+    place: u32,
+    six_volumes_high: u64,
+    six_volumes_low: u64,
+    cubic_metres: i64,
+}
+
+fn our_check(m: &Mesh) -> u32 {
+    let r = unsafe {
+        fithmoul_check(
+            m.vertices, m.edges, m.faces,
+            m.positions.as_ptr(), m.positions.len(),
+            m.heights.as_ptr(), m.heights.len(),
+            m.outs.as_ptr(), m.outs.len(),
+            m.halves.as_ptr(), m.halves.len(),
+            m.stored.as_ptr(), m.stored.len(),
+        )
+    };
+    r.refusal + r.place
+}
+
+/// Six times the volume, and the cubic metres.
+fn our_volume(m: &Mesh, level: i32) -> (i128, i64) {
+    let r = unsafe {
+        fithmoul_volume(
+            m.vertices, m.edges, m.faces,
+            m.positions.as_ptr(), m.positions.len(),
+            m.heights.as_ptr(), m.heights.len(),
+            m.outs.as_ptr(), m.outs.len(),
+            m.halves.as_ptr(), m.halves.len(),
+            m.stored.as_ptr(), m.stored.len(),
+            level,
+        )
+    };
+    assert!(r.refusal == 0, "refusal {} at {}", r.refusal, r.place);
+    (((r.six_volumes_high as u128) << 64 | r.six_volumes_low as u128) as i128, r.cubic_metres)
+}
+
+/// The same of a mesh that was checked.
+#[inline(never)]
+fn volume(m: &Mesh, level: i32) -> (i128, i64) {
+    let h = m.halves.as_chunks().0;
+    let at = |v: u32| (m.positions[2 * v as usize] as i64, m.positions[2 * v as usize + 1] as i64);
+    let mut sum = 0i128;
+    for f in 1..m.faces {
+        let [b, _, _, u] = half(h, m.stored[f as usize]);
+        let [c, _, _, v] = half(h, b);
+        let w = half(h, c)[3];
+        let (p, q, r) = (at(u), at(v), at(w));
+        let area = (q.0 - p.0) * (r.1 - p.1) - (q.1 - p.1) * (r.0 - p.0);
+        let heights: i64 = [u, v, w].iter().map(|&v| m.heights[v as usize] as i64).sum();
+        sum += area as i128 * (heights - 3 * level as i64) as i128;
+    }
+    let metres = (sum.abs() + 3_000_000_000) / 6_000_000_000;
+    (sum, (sum.signum() * metres) as i64)
+}
+
+/// What a work makes, and its milliseconds kept where they are the least so far.
+fn least<T>(best: &mut f64, work: impl FnOnce() -> T) -> T {
+    let t = Instant::now();
+    let made = black_box(work());
+    *best = best.min(t.elapsed().as_secs_f64() * 1e3);
+    made
+}
+
+fn main() {
+    println!("| mesh | volume (ms) | check (ms) | volume less check | plain loop (ms) | ratio | plain check and loop (ms) | volume / that | unlike |");
+    println!("|---|---|---|---|---|---|---|---|---|");
+    for (name, m) in meshes() {
+        let ([mut whole, mut checked, mut looped, mut both], mut unlike) = ([f64::MAX; 4], 0);
+        for turn in 0..21 {
+            let (m, level) = (black_box(&m), [0, 1_048_576, -1_048_576, 77][turn % 4]);
+            let x = least(&mut whole, || our_volume(m, level));
+            let refusal = least(&mut checked, || our_check(m));
+            let y = least(&mut looped, || volume(m, level));
+            let (refused, z) = least(&mut both, || (check(m), volume(m, level)));
+            unlike += (x != y || x != z || refusal != 0 || refused != 0) as u32;
+        }
+        let own = whole - checked;
+        println!(
+            "| {name} | {whole:.1} | {checked:.1} | {own:.1} | {looped:.1} | {:.2} | {both:.1} | {:.2} | {unlike} |",
+            own / looped,
+            whole / both
+        );
+    }
+}
