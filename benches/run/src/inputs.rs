@@ -1,12 +1,19 @@
 //! The points of a benchmark: the same numbers give the same points.
 
-use fithmoul::{by_distance, middle, seed_of};
+use fithmoul::{by_distance, middle, seed_of, Point, HEIGHT_RANGE};
 
 /// A seed triangle, a centre in it, and the points to run.
 pub struct Input {
-    pub corners: [[i32; 2]; 3],
+    pub corners: [Point; 3],
     pub center: [f64; 2],
-    pub points: Vec<[i32; 2]>,
+    pub points: Vec<Point>,
+    /// The same without heights, which the Rust and CGAL take.
+    pub flat_corners: [[i32; 2]; 3],
+    pub flat: Vec<[i32; 2]>,
+}
+
+fn flat([x, y, _]: Point) -> [i32; 2] {
+    [x, y]
 }
 
 pub const KINDS: [&str; 6] = ["uniform", "clustered", "gridded", "along lines", "spiral", "random order"];
@@ -72,8 +79,13 @@ fn spiral(count: usize) -> Vec<[i32; 2]> {
         .collect()
 }
 
-/// The points of a kind as they are made.
-pub fn unsorted(kind: &str, count: usize) -> Vec<[i32; 2]> {
+/// The points of a kind as they are made, at heights of all sizes.
+pub fn unsorted(kind: &str, count: usize) -> Vec<Point> {
+    let height = |i: u32| i.wrapping_mul(0x9e37_79b9) as i32 % (HEIGHT_RANGE + 1);
+    (0..).zip(positions(kind, count)).map(|(i, [x, y])| [x, y, height(i)]).collect()
+}
+
+fn positions(kind: &str, count: usize) -> Vec<[i32; 2]> {
     let random = &mut Random(0x9e37_79b9_7f4a_7c15);
     match kind {
         "clustered" => clustered(random, count),
@@ -91,6 +103,7 @@ pub fn make(kind: &str, count: usize) -> Input {
     let seed = seed_of(&all, &sorted).expect("three points that are not on one line");
     let order = if matches!(kind, "spiral" | "random order") { (0..count).collect() } else { sorted };
     let corners = seed.map(|i| all[i]);
-    let points = order.into_iter().filter(|i| !seed.contains(i)).map(|i| all[i]).collect();
-    Input { corners, center: middle(corners), points }
+    let points: Vec<Point> = order.into_iter().filter(|i| !seed.contains(i)).map(|i| all[i]).collect();
+    let (flat_corners, flat) = (corners.map(flat), points.iter().map(|&p| flat(p)).collect());
+    Input { corners, center: middle(corners), points, flat_corners, flat }
 }

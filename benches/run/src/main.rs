@@ -2,7 +2,8 @@
 //!
 //! `bench_run [TURNS [LARGEST]]` prints the tables; `bench_run once SIDE KIND COUNT` makes one run, for a profiler; `bench_run memory SIDE KIND COUNT`
 //! prints the peak of one run's memory. In each turn all sides take the same input one after the other, and the median of the turns counts.
-//! Before it is timed each input is compared: our finished mesh is what our finish makes of the mesh after the Rust's last step, link by link.
+//! Before it is timed each input is compared: our finished mesh is what our finish makes of the mesh after the Rust's last step, link by link. Our points have
+//! heights, the Rust's and CGAL's have none.
 
 mod inputs;
 
@@ -11,7 +12,7 @@ use std::hint::black_box;
 use std::path::Path;
 use std::process::Command;
 
-use fithmoul::{by_distance, Fate, Mesh, Run};
+use fithmoul::{by_distance, Fate, Mesh, Point, Run};
 use inputs::{make, unsorted, Input, KINDS};
 use oracle::driver::Sweep;
 use oracle::mesh;
@@ -35,11 +36,11 @@ fn rust(input: &Input) -> Sweep {
 }
 
 fn rust_stepped(input: &Input) -> Sweep {
-    let Ok(mut sweep) = Sweep::new(&mesh::Mesh::triangle(input.corners), input.center) else {
+    let Ok(mut sweep) = Sweep::new(&mesh::Mesh::triangle(input.flat_corners), input.center) else {
         panic!("the Rust finds no hull")
     };
-    sweep.reserve(input.points.len());
-    sweep.steps_alone(&input.points);
+    sweep.reserve(input.flat.len());
+    sweep.steps_alone(&input.flat);
     sweep
 }
 
@@ -100,8 +101,10 @@ fn ms(seconds: f64) -> String {
     format!("{ms:.digits$}")
 }
 
-fn of_rows(m: &mesh::Mesh) -> Mesh {
-    Mesh::from_rows(&m.positions, &m.out_edges, &m.half_edges, &m.faces).expect("a good mesh")
+/// A mesh of the Rust's, its vertices at given heights.
+fn of_rows(m: &mesh::Mesh, heights: &[i32]) -> Mesh {
+    let points: Vec<Point> = m.positions.iter().zip(heights).map(|(&[x, y], &z)| [x, y, z]).collect();
+    Mesh::from_rows(&points, &m.out_edges, &m.half_edges, &m.faces).expect("a good mesh")
 }
 
 /// The parts of our run, in seconds, taken on the meshes that the Rust leaves after its steps and after its first pass, which are ours too.
@@ -128,9 +131,9 @@ fn compared(input: &Input, turns: usize) -> Checked {
         return Checked { added, comparable: false, parts };
     }
     let mut sweep = rust_stepped(input);
-    let stepped = of_rows(&sweep.rows());
+    let stepped = of_rows(&sweep.rows(), finished.heights());
     sweep.pass_alone();
-    let passed = of_rows(&sweep.rows());
+    let passed = of_rows(&sweep.rows(), finished.heights());
     let timed = |mesh: &Mesh| {
         let mut copy = mesh.clone();
         let (time, totals) = seconds(|| copy.finish().expect("a good mesh"));
@@ -180,7 +183,7 @@ fn cgal(program: &Path, file: &Path) -> Option<[f64; 2]> {
 }
 
 fn write_points(file: &Path, input: &Input) {
-    let all = input.corners.iter().chain(&input.points);
+    let all = input.flat_corners.iter().chain(&input.flat);
     let bytes: Vec<u8> = all.flatten().flat_map(|c| c.to_le_bytes()).collect();
     std::fs::write(file, bytes).expect("the folder target/ can be written");
 }
