@@ -53,6 +53,7 @@ struct Timespec {
 
 extern "C" {
     fn clock_gettime(clock: i32, time: *mut Timespec) -> i32;
+    fn malloc_trim(pad: usize) -> i32;
 }
 
 /// Seconds that this thread had a processor, so that other work on the machine weighs less.
@@ -232,7 +233,13 @@ fn measure(kind: &'static str, count: usize, turns: usize, beside: Option<&Path>
 fn main() {
     let words: Vec<String> = std::env::args().skip(1).collect();
     if let [mode, side, kind, count] = &words[..] {
-        let input = make(kind, count.parse().expect("a number of points"));
+        let mut input = make(kind, count.parse().expect("a number of points"));
+        // one list of points is enough, and what made it goes back to the system
+        match side.as_str() {
+            "ours" => input.flat = Vec::new(),
+            _ => input.points = Vec::new(),
+        }
+        unsafe { malloc_trim(0) };
         // the peak from here on
         let _ = std::fs::write("/proc/self/clear_refs", "5");
         once(side, &input);
