@@ -55,7 +55,7 @@ module _ (g : SurfaceRunLent) where
 
   abbrev pub runHeightsLent : HeightsLent
   runHeightsLent =
-      heightsLent (l .points) (g .levels)
+      heightsLent (l .points) (g .pointHeights)
       (sweepRowsShort (ltb (length (l .answers)) (answerWords * N)) (vertexCount (l .counts) (l .points))
       (length (l .ring .nodes)) (length (l .ring .freed)) (length (l .ring .buckets)) (length (l .pending))) false
 
@@ -82,7 +82,7 @@ module _ (g : SurfaceRunLent) where
 
   -- ---- the row of heights, from the answers
   abbrev z : ℕ → ℤ
-  z = heightOf (g .levels)
+  z = heightOf (g .pointHeights)
 
   abbrev h : ℕ → ℤ
   h = heightOf (g .heights)
@@ -196,7 +196,7 @@ pub record CarriedHeights (g : SurfaceRunLent) (w : SurfaceRan) : Type 0 where
   pub seed : (u : ℕ) → u < g .run .counts .vertices → heightOf (w .heights) u ≡ heightOf (g .heights) u
   -- each added vertex has that of its point,
   pub added : (i : ℕ) → i < pointCount (g .run .points) → fateOf (w .call) i ≡ 1
-      → heightOf (w .heights) (vertexOf (w .call) i) ≡ heightOf (g .levels) i
+      → heightOf (w .heights) (vertexOf (w .call) i) ≡ heightOf (g .pointHeights) i
   -- and entries past the counts in use are untouched
   pub past : (u : ℕ) → w .call .answer .counts .vertices ≤ u → heightOf (w .heights) u ≡ heightOf (g .heights) u
   pub length-same : length (w .heights) ≡ length (g .heights)
@@ -233,7 +233,7 @@ module _ (g : SurfaceRunLent) (t : Totals) (q : surfaceRun g .call .answer .fini
 
   -- ---- the heights
   abbrev hs : ℕ → ℤ
-  hs = sweepHeights (g .run) (heightOf (g .levels)) (heightOf (g .heights)) (pointCount (g .run .points))
+  hs = sweepHeights (g .run) (heightOf (g .pointHeights)) (heightOf (g .heights)) (pointCount (g .run .points))
 
   heights-are : surfaceRun g .heights ≡ rowFrom (length (g .heights)) hs
   unfolding surfaceRun heightsAfter
@@ -265,7 +265,7 @@ module _ (g : SurfaceRunLent) (t : Totals) (q : surfaceRun g .call .answer .fini
   carried-heights =
       let l = g .run in
       let n = pointCount (l .points) in
-      let z = heightOf (g .levels) in
+      let z = heightOf (g .pointHeights) in
       let h = heightOf (g .heights) in
       let A = heights-accept (runHeightsLent g) (l .counts) (surfaceOf g) (parts .0) in
       record {
@@ -282,12 +282,12 @@ module _ (g : SurfaceRunLent) (t : Totals) (q : surfaceRun g .call .answer .fini
       }
 
 -- ---- links and fates ignore heights: two runs that differ in heights alone
-pub run-ignores : (l : RunLent) (heights levels heights′ levels′ : List ℤ)
-    → (let g = surfaceRunLent l heights levels in HeightsGiven (runHeightsLent g) (l .counts) (surfaceOf g))
-    → (let g = surfaceRunLent l heights′ levels′ in HeightsGiven (runHeightsLent g) (l .counts) (surfaceOf g))
-    → surfaceRun (surfaceRunLent l heights levels) .call ≡ surfaceRun (surfaceRunLent l heights′ levels′) .call
-run-ignores l heights levels heights′ levels′ G G′ =
-    run-own (surfaceRunLent l heights levels) (given-tested _ _ _ G) ∙ sym (run-own (surfaceRunLent l heights′ levels′) (given-tested _ _ _ G′))
+pub run-ignores : (l : RunLent) (heights pointHeights heights′ pointHeights′ : List ℤ)
+    → (let g = surfaceRunLent l heights pointHeights in HeightsGiven (runHeightsLent g) (l .counts) (surfaceOf g))
+    → (let g = surfaceRunLent l heights′ pointHeights′ in HeightsGiven (runHeightsLent g) (l .counts) (surfaceOf g))
+    → surfaceRun (surfaceRunLent l heights pointHeights) .call ≡ surfaceRun (surfaceRunLent l heights′ pointHeights′) .call
+run-ignores l heights pointHeights heights′ pointHeights′ G G′ =
+    run-own (surfaceRunLent l heights pointHeights) (given-tested _ _ _ G) ∙ sym (run-own (surfaceRunLent l heights′ pointHeights′) (given-tested _ _ _ G′))
 
 -- ---- what is stored from
 module _ (g : SurfaceRunLent) (e : heightsTested (runHeightsLent g) (g .run .counts) (surfaceOf g) ≡ Accepted) where
@@ -302,7 +302,7 @@ module _ (g : SurfaceRunLent) (e : heightsTested (runHeightsLent g) (g .run .cou
       go Accepted k = k
       go (Refused r) k = absurd (false≢true (sym (refused-made g k) ∙ m))
 
-  pub store-ready : StoreReady (l₁ .counts .vertices) (pointCount (l₁ .points)) (length (g .heights)) (length (g .levels))
+  pub store-ready : StoreReady (l₁ .counts .vertices) (pointCount (l₁ .points)) (length (g .heights)) (length (g .pointHeights))
       (runOf l₁ .answers) (runOf l₁ .answer)
   unfolding vertexCount
   store-ready =
@@ -312,7 +312,7 @@ module _ (g : SurfaceRunLent) (e : heightsTested (runHeightsLent g) (g .run .cou
             let k = made-checked m in
             let a = A .vertices in let b = A .points in let c = room g k in let d = answers-same g k in
             let s = run-start l₁ k .mesh .most in
-            record { heights-room = a; levels-room = b; answers-room = omega arith; small = s };
+            record { heights-room = a; points-room = b; answers-room = omega arith; small = s };
         most = λ m. vertices-most g (made-checked m);
         place = λ m u. last-place g (made-checked m) u;
       }
