@@ -261,13 +261,13 @@ pub extern "C" fn fithmoul_run(
     center_x: f64,
     center_y: f64,
     points: &[i32],
-    levels: &[i32],
+    point_heights: &[i32],
 ) -> FinishResult
     ensures { λ r. ⌜ (let l = runLent (counted vertices edges faces)
         (meshRows (now (positions .entry)) (now (outs .entry)) (now (halves .entry)) (now (adjacent .entry)))
         (ringRows (now (nodes .entry)) (now (freed .entry)) (now (buckets .entry))) (now (pending .entry)) (now (answers .entry))
         (centerAt «center_x» «center_y») (now (points .entry)) in
-        let g = surfaceRunLent l (now (heights .entry)) (now (levels .entry)) in let w = surfaceRun g in
+        let g = surfaceRunLent l (now (heights .entry)) (now («point_heights» .entry)) in let w = surfaceRun g in
         (r ≡ finishResult (w .call .answer))
         × (surfaceRan (ranWith (w .call .answer)
         (meshRows (now (positions .exit)) (now (outs .exit)) (now (halves .exit)) (now (adjacent .exit)))
@@ -287,7 +287,7 @@ pub extern "C" fn fithmoul_run(
     let few = run::answers_short(answers.len(), points);
     let checked = surface::check_run(
         points,
-        levels,
+        point_heights,
         counts,
         positions,
         heights,
@@ -317,7 +317,7 @@ pub extern "C" fn fithmoul_run(
         center,
         points,
     );
-    surface::store_run(heights, answers, levels, points, vertices, answer);
+    surface::store_run(heights, answers, point_heights, points, vertices, answer);
     results::finish_result(answer)
 }
 

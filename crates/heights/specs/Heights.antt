@@ -3,6 +3,7 @@
 -- keep ignoring z." So the heights stand in a row of their own: no definition of a link or a fate is given that row.
 use mathlib.Core.Bool.{Bool, false, not, cond, _||_}
 use mathlib.Core.List.{List, []}
+use mathlib.Core.Path.{_≡_}
 use Prim.Native.Nat.{ℕ}
 use lib.Dec.{leb, ltb}
 use lib.IntN.{ℤ, pos, natAbs}
@@ -48,21 +49,21 @@ heightsShort n row = ltb (length row) n
 -- neither the mesh's nor one of these, is too short; and whether a level is outside
 pub record HeightsLent : Type 0 where
   pub points : List ℤ
-  pub levels : List ℤ
+  pub pointHeights : List ℤ
   pub short : Bool
   pub outside : Bool
 
 abbrev pub heightsLent : List ℤ → List ℤ → Bool → Bool → HeightsLent
-heightsLent points levels short outside = record { points = points; levels = levels; short = short; outside = outside }
+heightsLent points pointHeights short outside = record { points = points; pointHeights = pointHeights; short = short; outside = outside }
 
 -- 01's sizes are for "N vertices", the seed's and the points': so many heights, and one for each point
 unfoldable pub anyHeightsShort : HeightsLent → Counts → List ℤ → Bool
-anyHeightsShort g C heights = heightsShort (vertexCount C (g .points)) heights || heightsShort (pointCount (g .points)) (g .levels)
+anyHeightsShort g C heights = heightsShort (vertexCount C (g .points)) heights || heightsShort (pointCount (g .points)) (g .pointHeights)
 
 -- the heights of the vertices in use and of the points
 unfoldable pub anyHeightsOutside : HeightsLent → Counts → List ℤ → Bool
 anyHeightsOutside g C heights =
-    g .outside || (heightsOutside (C .vertices) heights || heightsOutside (pointCount (g .points)) (g .levels))
+    g .outside || (heightsOutside (C .vertices) heights || heightsOutside (pointCount (g .points)) (g .pointHeights))
 
 -- "10 .. checked straight after 3": rows 1, 2 and 3 of the table, and then 10, which names no place
 unfoldable pub checkTen : List ℤ → Bool → Bool → Counts → MeshRows → Checked
@@ -72,6 +73,11 @@ checkTen points short outside C m = andThen (rangeWith points short C m) (cond o
 unfoldable pub heightsChecked : HeightsLent → Counts → SurfaceRows → Checked
 heightsChecked g C s =
     checkTen (g .points) (g .short || anyHeightsShort g C (s .heights)) (anyHeightsOutside g C (s .heights)) C (s .mesh)
+
+-- every row of heights is long enough, and every height in range
+pub record HeightsGiven (g : HeightsLent) (C : Counts) (s : SurfaceRows) : Type 0 where
+  pub long : anyHeightsShort g C (s .heights) ≡ false
+  pub inside : anyHeightsOutside g C (s .heights) ≡ false
 
 -- the same as it is asked quickly: where every row of heights is long enough and none is outside, heights refuse nothing, and a call's own
 -- table has its rows 1 to 3 (`tested-then`)

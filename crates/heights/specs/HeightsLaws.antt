@@ -22,7 +22,7 @@ use Rattle.mesh_check.specs.CheckLaws.{then-next, then-refused, then-accepts, t
 use Rattle.sums.specs.Bit.{from-false, from-true, is-false, is-true, sure}
 use Rattle.sums.specs.Bounded.{none-below→}
 use Rattle.heights.specs.Heights.{SurfaceRows, heightOf, isValidHeight, heightsOutside, heightsShort, HeightsLent}
-use Rattle.heights.specs.Heights.{checkTen, anyHeightsShort, anyHeightsOutside, heightsChecked, heightsTested, meshLent, surfaceChecked}
+use Rattle.heights.specs.Heights.{HeightsGiven, checkTen, anyHeightsShort, anyHeightsOutside, heightsChecked, heightsTested, meshLent, surfaceChecked}
 
 -- ---- one height
 pub valid-within : (z : ℤ) → isValidHeight z ≡ true → natAbs z ≤ 1048576
@@ -69,31 +69,31 @@ module _ (g : HeightsLent) (C : Counts) (s : SurfaceRows) where
   -- what is accepted: a height for each vertex and point, those of the vertices in use and of the points inside, and a level too
   pub record HeightsAccepted : Type 0 where
     pub vertices : vertexCount C (g .points) ≤ length (s .heights)
-    pub points : pointCount (g .points) ≤ length (g .levels)
+    pub points : pointCount (g .points) ≤ length (g .pointHeights)
     pub height : {v : ℕ} → v < C .vertices → natAbs (heightOf (s .heights) v) ≤ 1048576
-    pub level : {i : ℕ} → i < pointCount (g .points) → natAbs (heightOf (g .levels) i) ≤ 1048576
+    pub point-height : {i : ℕ} → i < pointCount (g .points) → natAbs (heightOf (g .pointHeights) i) ≤ 1048576
     pub inside : g .outside ≡ false
 
   pub long-enough : anyHeightsShort g C (s .heights) ≡ false
-      → (vertexCount C (g .points) ≤ length (s .heights)) × (pointCount (g .points) ≤ length (g .levels))
+      → (vertexCount C (g .points) ≤ length (s .heights)) × (pointCount (g .points) ≤ length (g .pointHeights))
   unfolding anyHeightsShort
   long-enough e =
-      let a = or-false (heightsShort (vertexCount C (g .points)) (s .heights)) (heightsShort (pointCount (g .points)) (g .levels)) e in
-      (ltb-false (length (s .heights)) (vertexCount C (g .points)) (a .0), ltb-false (length (g .levels)) (pointCount (g .points)) (a .1))
+      let a = or-false (heightsShort (vertexCount C (g .points)) (s .heights)) (heightsShort (pointCount (g .points)) (g .pointHeights)) e in
+      (ltb-false (length (s .heights)) (vertexCount C (g .points)) (a .0), ltb-false (length (g .pointHeights)) (pointCount (g .points)) (a .1))
 
   all-inside : anyHeightsShort g C (s .heights) ≡ false → anyHeightsOutside g C (s .heights) ≡ false → HeightsAccepted
   unfolding anyHeightsOutside
   all-inside e f =
       let l = long-enough e in
       let first = heightsOutside (C .vertices) (s .heights) in
-      let second = heightsOutside (pointCount (g .points)) (g .levels) in
+      let second = heightsOutside (pointCount (g .points)) (g .pointHeights) in
       let a = or-false (g .outside) (first || second) f in
       let b = or-false first second (a .1) in
       record {
         vertices = l .0;
         points = l .1;
         height = none-outside (C .vertices) (s .heights) (b .0);
-        level = none-outside (pointCount (g .points)) (g .levels) (b .1);
+        point-height = none-outside (pointCount (g .points)) (g .pointHeights) (b .1);
         inside = a .0;
       }
 
@@ -144,6 +144,9 @@ module _ (g : HeightsLent) (C : Counts) (s : SurfaceRows) where
   pub fine-tested : anyHeightsShort g C (s .heights) ≡ false → anyHeightsOutside g C (s .heights) ≡ false → Accepted ≡ heightsTested g C s
   unfolding heightsTested
   fine-tested e f = rw (e, f) refl
+
+  pub given-tested : HeightsGiven g C s → heightsTested g C s ≡ Accepted
+  given-tested G = sym (fine-tested (G .long) (G .inside))
 
   pub tested-refused : {r : Refusal} → heightsTested g C s ≡ Refused r → heightsChecked g C s ≡ Refused r
   unfolding heightsTested

@@ -92,10 +92,10 @@ surfaceStep C s ring pending center v z =
 pub record SurfaceRunLent : Type 0 where
   pub run : RunLent
   pub heights : List ℤ
-  pub levels : List ℤ
+  pub pointHeights : List ℤ
 
 abbrev pub surfaceRunLent : RunLent → List ℤ → List ℤ → SurfaceRunLent
-surfaceRunLent l heights levels = record { run = l; heights = heights; levels = levels }
+surfaceRunLent l heights pointHeights = record { run = l; heights = heights; pointHeights = pointHeights }
 
 -- what that run comes to, and the row of heights afterwards
 pub record SurfaceRan : Type 0 where
@@ -147,7 +147,7 @@ surfaceRunChecked g =
     let answers = ltb (length (l .answers)) (answerWords * pointCount (l .points)) in
     let short = sweepRowsShort answers (vertexCount (l .counts) (l .points))
     (length (l .ring .nodes)) (length (l .ring .freed)) (length (l .ring .buckets)) (length (l .pending)) in
-    andThen (heightsChecked (heightsLent (l .points) (g .levels) short false) (l .counts) (record { mesh = l .mesh; heights = g .heights }))
+    andThen (heightsChecked (heightsLent (l .points) (g .pointHeights) short false) (l .counts) (record { mesh = l .mesh; heights = g .heights }))
     (runChecked l)
 
 unfoldable pub surfaceRun : SurfaceRunLent → SurfaceRan
@@ -155,4 +155,4 @@ surfaceRun g =
     let l = g .run in
     let checked = surfaceRunChecked g in
     surfaceRan (runOutcome l checked)
-    (heightsAfter checked (g .heights) (sweepHeights l (heightOf (g .levels)) (heightOf (g .heights)) (pointCount (l .points))))
+    (heightsAfter checked (g .heights) (sweepHeights l (heightOf (g .pointHeights)) (heightOf (g .heights)) (pointCount (l .points))))

@@ -19,8 +19,8 @@ use Rattle.finish.specs.declared.FinishAnswer.{FinishAnswer}
 use Rattle.finish.specs.declared.Finished.{Finished}
 use Rattle.finish.specs.declared.Totals.{Totals}
 use Rattle.finish.specs.Finish.{totalsFrom, finishedFrom}
-use Rattle.heights.specs.Heights.{SurfaceRows, heightOf, HeightsLent, heightsLent, heightsChecked, heightsTested}
-use Rattle.heights.specs.HeightsLaws.{heights-accept, tested-accept}
+use Rattle.heights.specs.Heights.{SurfaceRows, heightOf, HeightsLent, heightsLent, HeightsGiven, heightsChecked, heightsTested}
+use Rattle.heights.specs.HeightsLaws.{heights-accept, given-tested, tested-accept}
 use Rattle.locate.specs.Locate.{checkRing, checkStart}
 use Rattle.mesh.specs.declared.Counts.{Counts}
 use Rattle.mesh_check.specs.declared.Checked.{Checked}
@@ -38,9 +38,9 @@ use Rattle.sweep.specs.Run.{RunLent, RunOutcome, ranWith, runChecked, sweepOf, 
 use Rattle.sweep.specs.Demand3.{fateOf, vertexOf, Demand3}
 use Rattle.sweep.specs.RunLaws.{vertex-added, answer-at, answer-none, run-accepts, run-start, run-keeps, run-vertices, run-accepted}
 use Rattle.surface.specs.Surface.{heightsAfter, heightStored, sweepHeights, addedAmong, answeredHeights, isMade, placeOf, finishedHeights}
-use Rattle.surface.specs.Surface.{SurfaceRunLent, SurfaceRan, surfaceRan, surfaceRunChecked, surfaceRun}
+use Rattle.surface.specs.Surface.{SurfaceRunLent, surfaceRunLent, SurfaceRan, surfaceRan, surfaceRunChecked, surfaceRun}
 use Rattle.surface.specs.StoreReady.{StoreRoom, StoreReady}
-use Rattle.surface.specs.SurfaceLaws.{own-table, own-refused, heights-after}
+use Rattle.surface.specs.SurfaceLaws.{own-table, own-refused, heights-after, row-height, row-entry}
 use Rattle.surface.specs.RunHeights.{is-added-one, run-stored, run-place, sweep-kept, sweep-past, sweep-added}
 
 module _ (g : SurfaceRunLent) where
@@ -55,7 +55,7 @@ module _ (g : SurfaceRunLent) where
 
   abbrev pub runHeightsLent : HeightsLent
   runHeightsLent =
-      heightsLent (l .points) (g .levels)
+      heightsLent (l .points) (g .pointHeights)
       (sweepRowsShort (ltb (length (l .answers)) (answerWords * N)) (vertexCount (l .counts) (l .points))
       (length (l .ring .nodes)) (length (l .ring .freed)) (length (l .ring .buckets)) (length (l .pending))) false
 
@@ -82,7 +82,7 @@ module _ (g : SurfaceRunLent) where
 
   -- ---- the row of heights, from the answers
   abbrev z : ℕ → ℤ
-  z = heightOf (g .levels)
+  z = heightOf (g .pointHeights)
 
   abbrev h : ℕ → ℤ
   h = heightOf (g .heights)
@@ -196,28 +196,14 @@ pub record CarriedHeights (g : SurfaceRunLent) (w : SurfaceRan) : Type 0 where
   pub seed : (u : ℕ) → u < g .run .counts .vertices → heightOf (w .heights) u ≡ heightOf (g .heights) u
   -- each added vertex has that of its point,
   pub added : (i : ℕ) → i < pointCount (g .run .points) → fateOf (w .call) i ≡ 1
-      → heightOf (w .heights) (vertexOf (w .call) i) ≡ heightOf (g .levels) i
+      → heightOf (w .heights) (vertexOf (w .call) i) ≡ heightOf (g .pointHeights) i
   -- and entries past the counts in use are untouched
   pub past : (u : ℕ) → w .call .answer .counts .vertices ≤ u → heightOf (w .heights) u ≡ heightOf (g .heights) u
   pub length-same : length (w .heights) ≡ length (g .heights)
 
-row-height : (row : List ℤ) (f : ℕ → ℤ) (u : ℕ) → f u ≡ heightOf row u → heightOf (rowFrom (length row) f) u ≡ heightOf row u
-unfolding heightOf
-row-height row f u same = go (decLt u (length row))
-  where
-    go : Dec (u < length row) → getD (rowFrom (length row) f) u (pos 0) ≡ getD row u (pos 0)
-    go (yes a) = getD-from (length row) f (pos 0) u a ∙ same
-    go (no a) =
-        let n = length-from (length row) f in
-        List·getD-eq-default (rowFrom (length row) f) (pos 0) (omega arith) ∙ sym (List·getD-eq-default row (pos 0) (omega arith))
-
 vertex-fits : (C : Counts) (points : List ℤ) {v n a b : ℕ} → vertexCount C points ≤ n → v ≡ C .vertices + a → a < b → b ≤ pointCount points → v < n
 unfolding vertexCount
 vertex-fits C points r e c m = omega arith
-
-row-entry : (n : ℕ) (f : ℕ → ℤ) (u : ℕ) → u < n → heightOf (rowFrom n f) u ≡ f u
-unfolding heightOf
-row-entry n f u a = getD-from n f (pos 0) u a
 
 module _ (g : SurfaceRunLent) (t : Totals) (q : surfaceRun g .call .answer .finished ≡ Finished.Accepted t) where
   refused-finished : {r : Refusal} → surfaceRunChecked g ≡ Refused r → surfaceRun g .call .answer .finished ≡ Finished.Refused r
@@ -247,7 +233,7 @@ module _ (g : SurfaceRunLent) (t : Totals) (q : surfaceRun g .call .answer .fini
 
   -- ---- the heights
   abbrev hs : ℕ → ℤ
-  hs = sweepHeights (g .run) (heightOf (g .levels)) (heightOf (g .heights)) (pointCount (g .run .points))
+  hs = sweepHeights (g .run) (heightOf (g .pointHeights)) (heightOf (g .heights)) (pointCount (g .run .points))
 
   heights-are : surfaceRun g .heights ≡ rowFrom (length (g .heights)) hs
   unfolding surfaceRun heightsAfter
@@ -279,7 +265,7 @@ module _ (g : SurfaceRunLent) (t : Totals) (q : surfaceRun g .call .answer .fini
   carried-heights =
       let l = g .run in
       let n = pointCount (l .points) in
-      let z = heightOf (g .levels) in
+      let z = heightOf (g .pointHeights) in
       let h = heightOf (g .heights) in
       let A = heights-accept (runHeightsLent g) (l .counts) (surfaceOf g) (parts .0) in
       record {
@@ -295,6 +281,14 @@ module _ (g : SurfaceRunLent) (t : Totals) (q : surfaceRun g .call .answer .fini
         length-same = rw heights-are (length-from (length (g .heights)) hs);
       }
 
+-- ---- links and fates ignore heights: two runs that differ in heights alone
+pub run-ignores : (l : RunLent) (heights pointHeights heights′ pointHeights′ : List ℤ)
+    → (let g = surfaceRunLent l heights pointHeights in HeightsGiven (runHeightsLent g) (l .counts) (surfaceOf g))
+    → (let g = surfaceRunLent l heights′ pointHeights′ in HeightsGiven (runHeightsLent g) (l .counts) (surfaceOf g))
+    → surfaceRun (surfaceRunLent l heights pointHeights) .call ≡ surfaceRun (surfaceRunLent l heights′ pointHeights′) .call
+run-ignores l heights pointHeights heights′ pointHeights′ G G′ =
+    run-own (surfaceRunLent l heights pointHeights) (given-tested _ _ _ G) ∙ sym (run-own (surfaceRunLent l heights′ pointHeights′) (given-tested _ _ _ G′))
+
 -- ---- what is stored from
 module _ (g : SurfaceRunLent) (e : heightsTested (runHeightsLent g) (g .run .counts) (surfaceOf g) ≡ Accepted) where
   abbrev l₁ : RunLent
@@ -308,7 +302,7 @@ module _ (g : SurfaceRunLent) (e : heightsTested (runHeightsLent g) (g .run .cou
       go Accepted k = k
       go (Refused r) k = absurd (false≢true (sym (refused-made g k) ∙ m))
 
-  pub store-ready : StoreReady (l₁ .counts .vertices) (pointCount (l₁ .points)) (length (g .heights)) (length (g .levels))
+  pub store-ready : StoreReady (l₁ .counts .vertices) (pointCount (l₁ .points)) (length (g .heights)) (length (g .pointHeights))
       (runOf l₁ .answers) (runOf l₁ .answer)
   unfolding vertexCount
   store-ready =
@@ -318,7 +312,7 @@ module _ (g : SurfaceRunLent) (e : heightsTested (runHeightsLent g) (g .run .cou
             let k = made-checked m in
             let a = A .vertices in let b = A .points in let c = room g k in let d = answers-same g k in
             let s = run-start l₁ k .mesh .most in
-            record { heights-room = a; levels-room = b; answers-room = omega arith; small = s };
+            record { heights-room = a; points-room = b; answers-room = omega arith; small = s };
         most = λ m. vertices-most g (made-checked m);
         place = λ m u. last-place g (made-checked m) u;
       }
