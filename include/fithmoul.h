@@ -44,8 +44,10 @@
  *                                           are used, but 100,000 points along thirty lines used more than 1,024
  *   answers    4 per point  uint64_t        a run's answers, a fithmoul_point_answer for each point
  *
- * A RUN'S POINTS are two rows that it only reads: points, x and y of each point (int32_t, and their number is half the
- * row's length), and levels, the height of each point (int32_t, one per point; the row may be longer).
+ * A RUN'S POINTS are two rows of int32_t that it only reads:
+ *
+ *   points         2 per point  x and y of each point: half the row's length is their number
+ *   point_heights  1 per point  the height of each point. The row may be longer
  *
  * REFUSALS. `refusal` is 0 where a call is accepted. Otherwise it is the first row of this table that applies, from the
  * top down (10 straight after 3), and `place` what the row names, else 0.
@@ -93,7 +95,7 @@ extern "C" {
 #define FITHMOUL_BUCKETS(n) ((size_t)(n) < 16 ? (size_t)16 : (size_t)(n))
 #define FITHMOUL_PENDING ((size_t)8)
 #define FITHMOUL_ANSWERS(points) (4 * (size_t)(points))
-#define FITHMOUL_LEVELS(points) ((size_t)(points))
+#define FITHMOUL_POINT_HEIGHTS(points) ((size_t)(points))
 
 /* One entry of the row of ring nodes, 24 bytes. A caller has no use for what is in it. */
 typedef struct fithmoul_node {
@@ -233,7 +235,7 @@ fithmoul_finish_result fithmoul_run(
     uint64_t *answers, size_t answers_length,
     double center_x, double center_y,
     const int32_t *points, size_t points_length,
-    const int32_t *levels, size_t levels_length);
+    const int32_t *point_heights, size_t point_heights_length);
 
 /* The volume between a mesh and a level, positive where the mesh is above it: six times it is, exactly, the sum over
  * all triangles of the doubled area times (the three heights minus three times the level). Where triangles overlap each

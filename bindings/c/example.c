@@ -1,5 +1,5 @@
 /* A triangle, a centre and four points, to a finished mesh: the sample of the specification, with heights, through
- * include/fithmoul.h. Prints each point's answer, the triangles, the volume above and below two levels, and what a refused
+ * include/fithmoul.h. Prints each point's answer, the triangles, the volume above two levels, and what a refused
  * call answers. It is C and C++. */
 #include "fithmoul.h"
 
@@ -25,7 +25,7 @@ static uint32_t pending[4096];
 static uint64_t answers[FITHMOUL_ANSWERS(POINTS)];
 
 static const int32_t points[2 * POINTS] = {4, 4, 2, 2, 4, 4, 1, 1};
-static const int32_t levels[FITHMOUL_LEVELS(POINTS)] = {40, 50, 60, 70};
+static const int32_t point_heights[FITHMOUL_POINT_HEIGHTS(POINTS)] = {40, 50, 60, 70};
 
 #define LENGTH(row) (sizeof(row) / sizeof((row)[0]))
 
@@ -33,7 +33,8 @@ static fithmoul_finish_result run(double x, double y) {
     return fithmoul_run(
         SEED, 3, 2, positions, LENGTH(positions), heights, LENGTH(heights), outs, LENGTH(outs), halves, LENGTH(halves),
         adjacent, LENGTH(adjacent), nodes, LENGTH(nodes), freed, LENGTH(freed), buckets, LENGTH(buckets),
-        pending, LENGTH(pending), answers, LENGTH(answers), x, y, points, LENGTH(points), levels, LENGTH(levels));
+        pending, LENGTH(pending), answers, LENGTH(answers), x, y, points, LENGTH(points),
+        point_heights, LENGTH(point_heights));
 }
 
 static void print_triangles(uint32_t faces) {

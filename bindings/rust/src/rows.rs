@@ -272,7 +272,7 @@ impl Rows {
         points: &[Point],
     ) -> FinishResult {
         let Counts { vertices, edges, faces } = self.counts;
-        let (points, levels) = split(points);
+        let (points, point_heights) = split(points);
         let result = unsafe {
             sys::fithmoul_run(
                 vertices,
@@ -302,8 +302,8 @@ impl Rows {
                 y,
                 points.as_ptr().cast(),
                 2 * points.len(),
-                levels.as_ptr(),
-                levels.len(),
+                point_heights.as_ptr(),
+                point_heights.len(),
             )
         };
         self.counts = Counts { vertices: result.vertices, edges: result.edges, faces: result.faces };

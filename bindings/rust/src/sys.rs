@@ -179,8 +179,8 @@ extern "C" {
         center_y: f64,
         points: *const i32,
         points_length: usize,
-        levels: *const i32,
-        levels_length: usize,
+        point_heights: *const i32,
+        point_heights_length: usize,
     ) -> FinishResult;
 
     pub fn fithmoul_volume(

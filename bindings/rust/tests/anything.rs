@@ -115,8 +115,8 @@ fn damage(random: &mut Random, rows: &mut Rows) {
     }
 }
 
-/// The refusal of one of the six calls, on these rows; `levels` has at least one entry, which is a step's height and a volume's level.
-fn call(which: u64, r: &mut Rows, [x, y]: [f64; 2], points: &[i32], levels: &[i32]) -> u32 {
+/// The refusal of one of the six calls, on these rows; `point_heights` has at least one entry, which is a step's height and a volume's level.
+fn call(which: u64, r: &mut Rows, [x, y]: [f64; 2], points: &[i32], point_heights: &[i32]) -> u32 {
     let [v, e, f] = r.counts;
     let (p, o) = (r.positions.as_mut_ptr(), r.outs.as_mut_ptr());
     let (h, a) = (r.halves.as_mut_ptr(), r.adjacent.as_mut_ptr());
@@ -128,7 +128,7 @@ fn call(which: u64, r: &mut Rows, [x, y]: [f64; 2], points: &[i32], levels: &[i3
     let (q, ql) = (r.pending.as_mut_ptr(), r.pending.len());
     let (s, sl) = (r.answers.as_mut_ptr(), r.answers.len());
     let (t, tl) = (points.as_ptr(), points.len());
-    let (u, ul) = (levels.as_ptr(), levels.len());
+    let (u, ul, k) = (point_heights.as_ptr(), point_heights.len(), point_heights[0]);
     unsafe {
         match which {
             0 => sys::fithmoul_check(v, e, f, p, pl, z, zl, o, ol, h, hl, a, al).refusal,
@@ -140,8 +140,7 @@ fn call(which: u64, r: &mut Rows, [x, y]: [f64; 2], points: &[i32], levels: &[i3
             }
             2 => {
                 let step = sys::fithmoul_step(
-                    v, e, f, p, pl, z, zl, o, ol, h, hl, a, al, n, nl, d, dl, b, bl, q, ql, x, y, 9, 9,
-                    levels[0],
+                    v, e, f, p, pl, z, zl, o, ol, h, hl, a, al, n, nl, d, dl, b, bl, q, ql, x, y, 9, 9, k,
                 );
                 step.refusal
             }
@@ -153,7 +152,7 @@ fn call(which: u64, r: &mut Rows, [x, y]: [f64; 2], points: &[i32], levels: &[i3
                 );
                 run.refusal
             }
-            _ => sys::fithmoul_volume(v, e, f, p, pl, z, zl, o, ol, h, hl, a, al, levels[0]).refusal,
+            _ => sys::fithmoul_volume(v, e, f, p, pl, z, zl, o, ol, h, hl, a, al, k).refusal,
         }
     }
 }
@@ -169,9 +168,9 @@ fn a_call_takes_anything() {
         }
         let center = [random.center(), random.center()];
         let points: Vec<i32> = (0..random.below(9)).map(|_| random.coordinate()).collect();
-        let levels: Vec<i32> = (0..=random.below(12)).map(|_| random.height()).collect();
+        let point_heights: Vec<i32> = (0..=random.below(12)).map(|_| random.height()).collect();
         let before = rows.clone();
-        let refusal = call(random.below(6), &mut rows, center, &points, &levels);
+        let refusal = call(random.below(6), &mut rows, center, &points, &point_heights);
         seen[refusal as usize] += 1;
         if ![0, 9].contains(&refusal) {
             assert!(rows == before, "refusal {refusal} changed a row");

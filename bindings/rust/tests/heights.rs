@@ -150,7 +150,7 @@ impl Rows {
     fn run(&mut self, [cx, cy]: [f64; 2], points: &[Point], answers: &mut [u64]) -> FinishResult {
         let [v, e, f] = self.counts;
         let flat: Vec<i32> = points.iter().flat_map(|p| [p[0], p[1]]).collect();
-        let levels: Vec<i32> = points.iter().map(|p| p[2]).collect();
+        let point_heights: Vec<i32> = points.iter().map(|p| p[2]).collect();
         let Rows { positions, heights, outs, halves, adjacent, nodes, freed, buckets, pending, .. } = self;
         unsafe {
             sys::fithmoul_run(
@@ -181,8 +181,8 @@ impl Rows {
                 cy,
                 flat.as_ptr(),
                 flat.len(),
-                levels.as_ptr(),
-                levels.len(),
+                point_heights.as_ptr(),
+                point_heights.len(),
             )
         }
     }
