@@ -39,7 +39,7 @@ fn ours(m: &Mesh) -> u64 {
 
 fn main() {
     println!("| mesh | check (ms) | plain Rust (ms) | check / plain | unlike |\n|---|---|---|---|---|");
-    for (name, m) in meshes() {
+    for (name, m) in meshes(1000) {
         let (mut a, mut b, mut unlike) = (f64::MAX, f64::MAX, 0);
         for _ in 0..21 {
             let t = Instant::now();

@@ -172,8 +172,8 @@ pub fn grid(w: usize, number: &mut dyn FnMut(usize) -> Vec<u32>) -> Mesh {
     Mesh { vertices: n as u32, edges: count as u32, faces: faces as u32, positions, heights, outs, halves, stored }
 }
 
-/// The grid of 1,000 by 1,000 by its two numberings.
-pub fn meshes() -> [(&'static str, Mesh); 2] {
+/// The grid of w by w in its two numberings.
+pub fn meshes(w: usize) -> [(&'static str, Mesh); 2] {
     let mut state = 88172645463325252u64;
     let mut random = move |below: usize| {
         state ^= state << 13;
@@ -189,5 +189,5 @@ pub fn meshes() -> [(&'static str, Mesh); 2] {
         p
     };
     let mut ordered = |n: usize| (0..n as u32).collect();
-    [("grid's order", grid(1000, &mut ordered)), ("numbered at random", grid(1000, &mut shuffled))]
+    [("grid's order", grid(w, &mut ordered)), ("numbered at random", grid(w, &mut shuffled))]
 }

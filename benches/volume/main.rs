@@ -1,6 +1,7 @@
 //! Milliseconds that `volume` takes on a mesh of 1,000,000 vertices: this library's (`libfithmoul.a`), which checks the mesh first, beside the same in plain Rust,
 //! a check and then a loop that adds in i128, on the same rows, in turn. What the volume itself takes is the call less a `check`.
 //! The mesh is that of benches/check: a grid of 1,000 by 1,000, its numbers in the grid's order, and again numbered at random. Every answer is compared.
+//! `bench_volume [WIDTH [TURNS]]` has a grid of another size, or another number of turns than 21.
 #[path = "../check/plain.rs"]
 mod plain;
 
@@ -103,11 +104,13 @@ fn least<T>(best: &mut f64, work: impl FnOnce() -> T) -> T {
 }
 
 fn main() {
+    let words: Vec<usize> = std::env::args().skip(1).map(|w| w.parse().expect("a number")).collect();
+    let (width, turns) = (words.first().copied().unwrap_or(1000), words.get(1).copied().unwrap_or(21));
     println!("| mesh | volume (ms) | check (ms) | volume less check | plain loop (ms) | ratio | plain check and loop (ms) | volume / that | unlike |");
     println!("|---|---|---|---|---|---|---|---|---|");
-    for (name, m) in meshes() {
+    for (name, m) in meshes(width) {
         let ([mut whole, mut checked, mut looped, mut both], mut unlike) = ([f64::MAX; 4], 0);
-        for turn in 0..21 {
+        for turn in 0..turns {
             let (m, level) = (black_box(&m), [0, 1_048_576, -1_048_576, 77][turn % 4]);
             let x = least(&mut whole, || our_volume(m, level));
             let refusal = least(&mut checked, || our_check(m));
