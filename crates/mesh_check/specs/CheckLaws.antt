@@ -9,7 +9,7 @@ use borrow.Author.Tests.{lt-ltb, le-ltb, ltb-false, not-false}
 use lib.Dec.{T, ltb, ltb→lt, lt→ltb, T-not}
 use lib.Signed.{ltZ-yes}
 use Rattle.math.specs.declared.Point.{Point}
-use Rattle.math.specs.Determinant.{InRange, isValidCoordinate, isValidVertex}
+use Rattle.math.specs.Determinant.{InRange, isValidVertex}
 use Rattle.math.specs.Range.{in-range, valid-vertex}
 use Rattle.mesh.specs.declared.Counts.{Counts}
 use Rattle.mesh.specs.Mesh.{Links}
