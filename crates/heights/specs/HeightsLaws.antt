@@ -1,6 +1,6 @@
--- What the checks with heights come to: where no row of heights is too short and no height outside, heights refuse nothing, and a call's own
--- table decides (`tested-then`); otherwise the answer is one of 1, 2, 3 and 10 (`heights-numbered`). What is accepted has its heights, all of
--- them in range (`heights-accept`). Assumes nothing.
+-- What the checks with heights come to: where no row of heights is too short and no height outside, heights refuse nothing, and a call's
+-- own table decides (`tested-then`); otherwise the answer is one of 1, 2, 3 and 10 (`heights-numbered`). What is accepted has its
+-- heights, all of them in range (`heights-accept`). Assumes nothing.
 use mathlib.Core.Bool.{Bool, true, false, not, cond, _||_}
 use mathlib.Core.List.{List, []}
 use mathlib.Core.Path.{_≡_, refl, sym, _∙_, ap}

@@ -1,6 +1,6 @@
--- Each row of the table, as it is met (`range-..`, `faces-..`), one after the other (`then-..`); only the positions of the counted vertices matter (`check-agree`);
--- and a mesh passes exactly when it is good and within the limits (`accepted-passes`, `passes-accepted`); a refusal's
--- number is from 1 to 5 (`check-numbered`). Assumes nothing.
+-- Each row of the table, as it is met (`range-..`, `faces-..`), one after the other (`then-..`); only the positions of the counted
+-- vertices matter (`check-agree`); and a mesh passes exactly when it is good and within the limits (`accepted-passes`,
+-- `passes-accepted`); a refusal's number is from 1 to 5 (`check-numbered`). Assumes nothing.
 use mathlib.Core.Path.{_≡_, refl, sym, _∙_, ap, subst}
 use mathlib.Core.Bool.{Bool, true, false, not, _&&_, _||_, cond}
 use Prim.Native.Nat.{ℕ, _*_, _<_, _≤_}

@@ -1,5 +1,5 @@
--- The heights that a run leaves: what they are vertex by vertex (`SweptHeights`), and that they can be had from the answers alone, since vertices
--- are numbered in list order (`run-stored`). Assumes nothing.
+-- The heights that a run leaves: what they are vertex by vertex (`SweptHeights`), and that they can be had from the answers alone, since
+-- vertices are numbered in list order (`run-stored`). Assumes nothing.
 use mathlib.Core.Bool.{Bool, true, false, cond, false≢true}
 use mathlib.Core.Path.{_≡_, refl, sym, _∙_, ap}
 use Prim.Native.Nat.{ℕ, zero, suc, _+_, _-_, _<_, _≤_}
@@ -26,7 +26,8 @@ use Rattle.sweep.specs.Step.{Stepping, isAdded}
 use Rattle.sweep.specs.StepCallLaws.{step-fate, full-added}
 use Rattle.sweep.specs.StepMesh.{added-of}
 use Rattle.sweep.specs.SweepLaws.{SweepKeeps, sweep-keeps, sweep-point, sweep-stays, step-count}
-use Rattle.surface.specs.Surface.{heightAdded, heightStored, sweepHeights, answeredHeights}
+use Rattle.surface.specs.StoredHeights.{heightStored, answeredHeights}
+use Rattle.surface.specs.Surface.{heightAdded, sweepHeights}
 
 -- ---- one point
 -- a point that is not added leaves the heights as they are

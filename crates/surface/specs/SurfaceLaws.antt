@@ -1,7 +1,7 @@
--- The calls with heights beside those on the mesh alone. Where heights refuse nothing the table is that call's own, and so are its answer and what
--- it leaves of the mesh: they do not depend on any height (`locate-own`, `finish-own`, `step-own`, `run-own`, and `step-ignores` and its like:
--- two inputs that differ in heights alone). Otherwise the call is refused and nothing changes (`..-refused`). And what a step makes of the row
--- of heights. Assumes nothing.
+-- The calls with heights beside those on the mesh alone. Where heights refuse nothing the table is that call's own, and so are its answer
+-- and what it leaves of the mesh: they do not depend on any height (`locate-own`, `finish-own`, `step-own`, `run-own`, and `step-ignores`
+-- and its like: two inputs that differ in heights alone). Otherwise the call is refused and nothing changes (`..-refused`). And what a
+-- step makes of the row of heights. Assumes nothing.
 use mathlib.Core.Bool.{Bool, false, cond}
 use mathlib.Core.List.{List, [], _∷_}
 use mathlib.Core.Path.{_≡_, refl, sym, _∙_, ap}
@@ -46,7 +46,8 @@ use Rattle.sweep.specs.StepCallLaws.{step-fate, step-range, step-swept}
 use Rattle.sweep.specs.StepMesh.{Swept}
 use Rattle.sweep.specs.SweepLaws.{step-count}
 use Rattle.sweep.specs.StepCall.{answerFrom, pointRow, stepChecked, steppedWith, stepOutcome, stepOf}
-use Rattle.surface.specs.Surface.{heightAdded, heightStored, heightsAfter, SurfaceStepped, surfaceStepped}
+use Rattle.surface.specs.StoredHeights.{heightStored}
+use Rattle.surface.specs.Surface.{heightAdded, heightsAfter, SurfaceStepped, surfaceStepped}
 use Rattle.surface.specs.Surface.{surfaceLocate, surfaceFinish, surfaceStepChecked, surfaceStep}
 
 -- ---- a call's own table, which begins with the rows of its mesh

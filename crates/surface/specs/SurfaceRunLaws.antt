@@ -1,5 +1,6 @@
--- The call `run` with heights beside that on the mesh alone, as `SurfaceLaws` has it of the others: its table, its outcome, and the row of heights
--- that it leaves, as the code makes it from the answers (`run-heights`) and vertex by vertex (`CarriedHeights`). Assumes nothing.
+-- The call `run` with heights beside that on the mesh alone, as `SurfaceLaws` has it of the others: its table, its outcome, and the row
+-- of heights that it leaves, as the code makes it from the answers (`run-heights`) and vertex by vertex (`CarriedHeights`). Assumes
+-- nothing.
 use mathlib.Core.Bool.{Bool, true, false, false≢true}
 use mathlib.Core.List.{List}
 use mathlib.Core.Path.{_≡_, refl, sym, _∙_, ap, subst, subst⁻¹}
@@ -36,7 +37,8 @@ use Rattle.sweep.specs.Run.{finishAfter, answerWords, answerIn, answerWord}
 use Rattle.sweep.specs.Run.{RunLent, RunOutcome, ranWith, runChecked, sweepOf, stepsOf, runFinish, runOutcome, runOf}
 use Rattle.sweep.specs.Demand3.{fateOf, vertexOf, Demand3}
 use Rattle.sweep.specs.RunLaws.{vertex-added, answer-at, answer-none, run-accepts, run-start, run-keeps, run-vertices, run-accepted}
-use Rattle.surface.specs.Surface.{heightsAfter, sweepHeights, addedAmong, isMade, placeOf, finishedHeights}
+use Rattle.surface.specs.StoredHeights.{addedAmong, isMade, placeOf, finishedHeights}
+use Rattle.surface.specs.Surface.{heightsAfter, sweepHeights}
 use Rattle.surface.specs.Surface.{SurfaceRunLent, surfaceRunLent, SurfaceRan, surfaceRan, surfaceRunChecked, surfaceRun}
 use Rattle.surface.specs.StoreReady.{StoreReady}
 use Rattle.surface.specs.SurfaceLaws.{own-table, own-refused, heights-after, row-height, row-entry}
