@@ -1,9 +1,9 @@
-// The public calls, for C, C++, Rust and Rattle: check a mesh, locate an angle, step one point, finish a mesh, run a list of points, and the
-// volume between a mesh and a level. A mesh has a height on each vertex. For a C compiler this page is include/fithmoul.h. A call takes its
-// arguments as numbers and answers a struct of numbers: what it answers and leaves is what a definition gives, for every input (crates
-// `heights`, `surface`, `volume`). A slice is a pointer and a length for C. Nothing is
-// asked of the caller but that each row is there, as long as is said, that no row that is written overlaps another, and that doubles are
-// rounded to nearest and subnormal ones kept (docs/DECISIONS.md, "Who answers for what C cannot check?").
+// The public calls, for C, C++, Rust and Rattle: check a mesh, locate an angle, step one point, finish a mesh, run a list of points, and
+// the volume between a mesh and a level. A mesh has a height on each vertex. For a C compiler this page is include/fithmoul.h. A call
+// takes its arguments as numbers and answers a struct of numbers: what it answers and leaves is what a definition gives, for every input
+// (crates `heights`, `surface`, `volume`). A slice is a pointer and a length for C. Nothing is asked of the caller but that each row is
+// there, as long as is said, that no row that is written overlaps another, and that doubles are rounded to nearest and subnormal ones
+// kept (docs/DECISIONS.md, "Who answers for what C cannot check?").
 ghost use mathlib.Core.Bool.{false};
 ghost use mathlib.Core.Path.{_≡_};
 ghost use Rattle.dcel.specs.MeshRows.{meshRows};
@@ -241,8 +241,8 @@ pub extern "C" fn fithmoul_finish(
     results::finish_result(answer)
 }
 
-// A seed mesh, a centre and a list of points with their heights, to a finished mesh: all steps in list order, then the finish. Refusals 1 to 7,
-// 9 and 10.
+// A seed mesh, a centre and a list of points with their heights, to a finished mesh: all steps in list order, then the finish. Refusals 1
+// to 7, 9 and 10.
 #[no_mangle]
 pub extern "C" fn fithmoul_run(
     vertices: u32,
@@ -321,8 +321,8 @@ pub extern "C" fn fithmoul_run(
     results::finish_result(answer)
 }
 
-// The volume between a mesh and a level: six times it, exactly, and in whole cubic metres, positive where the mesh is above. Refusals 1 to 5,
-// and 10.
+// The volume between a mesh and a level: six times it, exactly, and in whole cubic metres, positive where the mesh is above. Refusals 1
+// to 5, and 10.
 #[no_mangle]
 pub extern "C" fn fithmoul_volume(
     vertices: u32,
@@ -336,7 +336,8 @@ pub extern "C" fn fithmoul_volume(
     level: i32,
 ) -> VolumeResult
     ensures { λ r. ⌜ r ≡ volumeResult (volumeOf (counted vertices edges faces) (surfaceRows
-        (meshRows (now (positions .entry)) (now (outs .entry)) (now (halves .entry)) (now (adjacent .entry))) (now (heights .entry))) level) ⌝ }
+        (meshRows (now (positions .entry)) (now (outs .entry)) (now (halves .entry)) (now (adjacent .entry)))
+        (now (heights .entry))) level) ⌝ }
 {
     let counts = Counts {
         vertices: vertices,

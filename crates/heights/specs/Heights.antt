@@ -45,8 +45,8 @@ abbrev pub heightsShort : ℕ → List ℤ → Bool
 heightsShort n row = ltb (length row) n
 
 -- ---- a call's checks
--- What a call that has heights is given besides its mesh: points and their heights, both empty where it has none; whether another of its rows,
--- neither the mesh's nor one of these, is too short; and whether a level is outside
+-- What a call that has heights is given besides its mesh: points and their heights, both empty where it has none; whether another of its
+-- rows, neither the mesh's nor one of these, is too short; and whether a level is outside
 pub record HeightsLent : Type 0 where
   pub points : List ℤ
   pub pointHeights : List ℤ

@@ -1,13 +1,12 @@
--- What the checks with heights come to: where no row of heights is too short and no height outside, heights refuse nothing, and a call's own
--- table decides (`tested-then`); otherwise the answer is one of 1, 2, 3 and 10 (`heights-numbered`). What is accepted has its heights, all of
--- them in range (`heights-accept`). Assumes nothing.
+-- What the checks with heights come to: where no row of heights is too short and no height outside, heights refuse nothing, and a call's
+-- own table decides (`tested-then`); otherwise the answer is one of 1, 2, 3 and 10 (`heights-numbered`). What is accepted has its
+-- heights, all of them in range (`heights-accept`). Assumes nothing.
 use mathlib.Core.Bool.{Bool, true, false, not, cond, _||_}
 use mathlib.Core.List.{List, []}
-use mathlib.Core.Path.{_≡_, refl, sym, _∙_, ap, subst}
-use Prim.Native.Nat.{ℕ, _+_, _<_, _≤_}
+use mathlib.Core.Path.{_≡_, refl, sym, _∙_, ap}
+use Prim.Native.Nat.{ℕ, _<_, _≤_}
 use native.Mathlib.Omega.{arith}
 use borrow.Author.Tests.{ltb-false, leb-true}
-use lib.Dec.{T, ltb, leb}
 use lib.IntN.{ℤ, natAbs}
 use lib.ListN.{length}
 use Rattle.dcel.specs.MeshRows.{MeshRows}
@@ -19,7 +18,7 @@ use Rattle.mesh_check.specs.Accepted.{or-false, AcceptedMesh, check-accepts, ra
 use Rattle.mesh_check.specs.Check.{refused, andThen, pointCount, vertexCount, rangeWith, checkWith, checkOf}
 use Rattle.mesh_check.specs.CheckLaws.{NumberedTo, accepts, numbered-more, numbered-cond, range-numbered, check-numbered}
 use Rattle.mesh_check.specs.CheckLaws.{then-next, then-refused, then-accepts, then-numbered}
-use Rattle.sums.specs.Bit.{from-false, from-true, is-false, is-true, sure}
+use Rattle.sums.specs.Bit.{from-false, is-true, sure}
 use Rattle.sums.specs.Bounded.{none-below→}
 use Rattle.heights.specs.Heights.{SurfaceRows, heightOf, isValidHeight, heightsOutside, heightsShort, HeightsLent}
 use Rattle.heights.specs.Heights.{HeightsGiven, checkTen, anyHeightsShort, anyHeightsOutside, heightsChecked, heightsTested, meshLent, surfaceChecked}

@@ -1,6 +1,6 @@
-// Heights on the vertices, in a row of their own beside the mesh's: a height read and stored, the range of heights, and refusal 10, which comes
-// straight after 3. The call `check` of a mesh with heights.
-// What each function answers is an equation with a definition of `specs/Heights.antt`.
+// Heights on the vertices, in a row of their own beside the mesh's: a height read and stored, the range of heights, and refusal 10, which
+// comes straight after 3. The call `check` of a mesh with heights. What each function answers is an equation with a definition of
+// `specs/Heights.antt`.
 ghost use mathlib.Core.Bool.{Bool};
 ghost use mathlib.Core.Path.{_≡_};
 ghost use Prim.Native.Nat.{_<_, _≤_};

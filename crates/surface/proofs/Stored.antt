@@ -21,7 +21,7 @@ use Rattle.sums.specs.Bounded.{count, count-suc, count-le}
 use Rattle.sums.specs.Put.{put}
 use Rattle.sweep.specs.StepCall.{pointRow}
 use Rattle.surface.specs.StoreReady.{AddedRoom, StoreRoom, StoreReady}
-use Rattle.surface.specs.Surface.{heightStored, fateWord, addedAmong, answeredHeights, isMade, placeOf, finishedHeights}
+use Rattle.surface.specs.StoredHeights.{heightStored, fateWord, addedAmong, answeredHeights, isMade, placeOf, finishedHeights}
 
 pub none-added : (fate : ℕ → ℕ) (seed : ℕ) → seed ≡ seed + addedAmong fate 0
 unfolding count

@@ -6,7 +6,7 @@ use Prim.Native.Nat.{ℕ, _+_, _*_, _<_, _≤_}
 use lib.ListN.{length}
 use Rattle.finish.specs.declared.FinishAnswer.{FinishAnswer}
 use Rattle.sweep.specs.Run.{answerWords}
-use Rattle.surface.specs.Surface.{fateWord, addedAmong, isMade, placeOf}
+use Rattle.surface.specs.StoredHeights.{fateWord, addedAmong, isMade, placeOf}
 
 -- vertex v and the answer and height of point i are in their rows
 pub record AddedRoom (heights answers pointHeights v i : ℕ) : Type 0 where

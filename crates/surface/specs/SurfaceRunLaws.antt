@@ -1,18 +1,18 @@
--- The call `run` with heights beside that on the mesh alone, as `SurfaceLaws` has it of the others: its table, its outcome, and the row of heights
--- that it leaves, as the code makes it from the answers (`run-heights`) and vertex by vertex (`CarriedHeights`). Assumes nothing.
-use mathlib.Core.Bool.{Bool, true, false, cond, false≢true}
+-- The call `run` with heights beside that on the mesh alone, as `SurfaceLaws` has it of the others: its table, its outcome, and the row
+-- of heights that it leaves, as the code makes it from the answers (`run-heights`) and vertex by vertex (`CarriedHeights`). Assumes
+-- nothing.
+use mathlib.Core.Bool.{Bool, true, false, false≢true}
 use mathlib.Core.List.{List}
 use mathlib.Core.Path.{_≡_, refl, sym, _∙_, ap, subst, subst⁻¹}
-use Prim.Native.Nat.{ℕ, zero, suc, _+_, _*_, _<_, _≤_}
-use native.Mathlib.Decide.{decLt}
+use Prim.Native.Nat.{ℕ, _+_, _*_, _<_, _≤_}
 use native.Mathlib.Omega.{arith}
-use borrow.Author.Tests.{lt-ltb, le-ltb, ltb-false, ne-eqb}
-use lib.Dec.{ltb, eqb}
-use lib.IntN.{ℤ, pos}
-use lib.ListN.{length, getD, List·getD-eq-default}
+use borrow.Author.Tests.{ltb-false, ne-eqb}
+use lib.Dec.{ltb}
+use lib.IntN.{ℤ}
+use lib.ListN.{length}
 use Rattle.dcel.specs.MeshRows.{linksIn, placesIn}
-use Rattle.dcel.specs.Rows.{rowOf, rowFrom, positionOf}
-use Rattle.dcel.specs.Views.{length-from, getD-from}
+use Rattle.dcel.specs.Rows.{rowFrom}
+use Rattle.dcel.specs.Views.{length-from}
 use Rattle.decide.specs.declared.Fate.the-variants.{Added}
 use Rattle.decide.specs.Decide.{fateNumber, fateVertex}
 use Rattle.finish.specs.declared.FinishAnswer.{FinishAnswer}
@@ -31,15 +31,16 @@ use Rattle.mesh_check.specs.CheckLaws.{NumberedTo, numbered-at, then-accepts}
 use Rattle.start.specs.Start.{sweepRowsShort, sweepChecked}
 use Rattle.start.specs.StartLaws.{sweep-numbered}
 use Rattle.sums.specs.Bit.{from-true}
-use Rattle.sums.specs.Bounded.{count, count-le, count-before}
+use Rattle.sums.specs.Bounded.{count-le, count-before}
 use Rattle.sweep.specs.Step.{isAdded}
-use Rattle.sweep.specs.Run.{finishAfter, answerWords, answerIn, answerWord, answersAfter}
+use Rattle.sweep.specs.Run.{finishAfter, answerWords, answerIn, answerWord}
 use Rattle.sweep.specs.Run.{RunLent, RunOutcome, ranWith, runChecked, sweepOf, stepsOf, runFinish, runOutcome, runOf}
 use Rattle.sweep.specs.Demand3.{fateOf, vertexOf, Demand3}
 use Rattle.sweep.specs.RunLaws.{vertex-added, answer-at, answer-none, run-accepts, run-start, run-keeps, run-vertices, run-accepted}
-use Rattle.surface.specs.Surface.{heightsAfter, heightStored, sweepHeights, addedAmong, answeredHeights, isMade, placeOf, finishedHeights}
+use Rattle.surface.specs.StoredHeights.{addedAmong, isMade, placeOf, finishedHeights}
+use Rattle.surface.specs.Surface.{heightsAfter, sweepHeights}
 use Rattle.surface.specs.Surface.{SurfaceRunLent, surfaceRunLent, SurfaceRan, surfaceRan, surfaceRunChecked, surfaceRun}
-use Rattle.surface.specs.StoreReady.{StoreRoom, StoreReady}
+use Rattle.surface.specs.StoreReady.{StoreReady}
 use Rattle.surface.specs.SurfaceLaws.{own-table, own-refused, heights-after, row-height, row-entry}
 use Rattle.surface.specs.RunHeights.{is-added-one, run-stored, run-place, sweep-kept, sweep-past, sweep-added}
 

@@ -1,6 +1,7 @@
-// What the calls with heights do besides the calls on the mesh alone. Before: the rows of the table up to 10, where a height may refuse. After:
-// the heights of the vertices that a step or a run has added, which are numbered in the order in which they are added, so that the counts and
-// the answers say which is whose. What each function answers or leaves is an equation with a definition of `specs/Surface.antt` or of `heights`.
+// What the calls with heights do besides the calls on the mesh alone. Before: the rows of the table up to 10, where a height may refuse.
+// After: the heights of the vertices that a step or a run has added, which are numbered in the order in which they are added, so that the
+// counts and the answers say which is whose. What each function answers or leaves is an equation with a definition of
+// `specs/Surface.antt` or of `heights`.
 ghost use mathlib.Core.Bool.{false, cond};
 ghost use mathlib.Core.List.{[], _∷_};
 ghost use mathlib.Core.Path.{_≡_};
@@ -16,7 +17,7 @@ ghost use Rattle.sums.specs.Bit.{bit};
 ghost use Rattle.sums.specs.Put.{put};
 ghost use Rattle.sweep.specs.StepCall.{pointRow};
 ghost use Rattle.surface.specs.StoreReady.{AddedRoom, StoreRoom, StoreReady};
-ghost use Rattle.surface.specs.Surface.{heightStored, fateWord, addedAmong, answeredHeights, isMade, placeOf, finishedHeights};
+ghost use Rattle.surface.specs.StoredHeights.{heightStored, fateWord, addedAmong, answeredHeights, isMade, placeOf, finishedHeights};
 use finish::FinishAnswer;
 use finish::Finished;
 use math::Point;
@@ -24,8 +25,8 @@ use mesh::Counts;
 use mesh_check::Checked;
 use sweep::ANSWER_WORDS;
 
-// What the rows of the table up to 10 answer a locate that has heights, where a height may refuse (heights::check_heights). The rows of the ring
-// are given by their lengths.
+// What the rows of the table up to 10 answer a locate that has heights, where a height may refuse (heights::check_heights). The rows of
+// the ring are given by their lengths.
 pub fn check_locate(
     counts: Counts,
     positions: &[i32],

@@ -4,7 +4,7 @@ use lib.ListN.{length}
 use Rattle.heights.specs.Heights.{heightOf}
 use Rattle.mesh_check.specs.Check.{pointCount}
 use Rattle.surface.specs.StoreReady.{StoreReady}
-use Rattle.surface.specs.Surface.{fateWord, finishedHeights}
+use Rattle.surface.specs.StoredHeights.{fateWord, finishedHeights}
 use Rattle.surface.specs.SurfaceRunLaws.{run-refused, run-own, run-heights, store-ready}
 use Rattle.sweep.specs.Run.{RunOutcome}
 use Rattle.fithmoul.specs.Exported.{run-exported, run-whole}

@@ -5,7 +5,7 @@ use mathlib.Core.Path.{_≡_, refl, sym, _∙_, ap}
 use Prim.Native.Nat.{ℕ, _+_, _-_, _≤_}
 use lib.ListN.{length}
 use Rattle.heights.specs.Heights.{heightOf}
-use Rattle.surface.specs.Surface.{fateWord, addedAmong, answeredHeights}
+use Rattle.surface.specs.StoredHeights.{fateWord, addedAmong, answeredHeights}
 use Rattle.surface.proofs.Stored.{none-added, none-stored}
 use Rattle.surface.proofs.store_heights.Statement.{statement}
 use Rattle.surface.proofs.store_heights.Tie as tie
