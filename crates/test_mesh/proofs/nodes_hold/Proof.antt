@@ -1,8 +1,8 @@
--- `replay::calls::nodes_hold` meets its contract: the loop stays within the row. Assumes nothing.
+-- `test_mesh::nodes_hold` meets its contract: the loop stays within the row. Assumes nothing.
 use Prim.Native.Nat.{_≤_, _-_}
 use borrow.Author.Needs.{needs}
-use Rattle.replay.proofs.calls.nodes_hold.Statement.{statement}
-use Rattle.replay.proofs.calls.nodes_hold.Tie as tie
+use Rattle.test_mesh.proofs.nodes_hold.Statement.{statement}
+use Rattle.test_mesh.proofs.nodes_hold.Tie as tie
 
 abbrev Inv-loop : tie.InvT-loop
 Inv-loop n v row i₀ i = i ≤ 256

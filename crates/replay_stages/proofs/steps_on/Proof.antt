@@ -1,9 +1,9 @@
--- `replay::meshes::steps_on` meets its contract: rows are lent whole, and as many points as there are. Assumes nothing.
+-- `replay_stages::steps_on` meets its contract: rows are lent whole, and as many points as there are. Assumes nothing.
 use mathlib.Core.Path.{refl, sym}
 use Rattle.test_mesh.proofs.Lent.{part}
 use borrow.Author.Needs.{needs}
-use Rattle.replay.proofs.meshes.steps_on.Statement.{statement}
-use Rattle.replay.proofs.meshes.steps_on.Proof.Tie as tie
+use Rattle.replay_stages.proofs.steps_on.Statement.{statement}
+use Rattle.replay_stages.proofs.steps_on.Proof.Tie as tie
 mod Lts
 mod Tie
 
@@ -20,7 +20,7 @@ slice-aggregate-steps-3 : tie.Need-slice-aggregate-steps-3
 slice-aggregate-steps-3 c = search needs
 
 slice-aggregate-steps-4 : tie.Need-slice-aggregate-steps-4
-slice-aggregate-steps-4 c = search needs
+slice-aggregate-steps-4 c = let faces = c .before .before .before .before .before .before .before .before .before .before .before .good .0 .1 .1 .1 .1 .1 .1 .1 .0 .1 .1 .0 .1 .0 .1 in search needs
 
 slice-aggregate-steps-5 : tie.Need-slice-aggregate-steps-5
 slice-aggregate-steps-5 c = sym (c .before .before .before .before .before .before .seven-nodes .ensures)
@@ -38,10 +38,10 @@ slice-aggregate-steps-9 : tie.Need-slice-aggregate-steps-9
 slice-aggregate-steps-9 c = search needs
 
 array-share-prefix-list : tie.Need-array-share-prefix-list
-array-share-prefix-list c = c .before .before .before .before .before .before .before .before .before .before .before .before .before .before .before .pre
+array-share-prefix-list c = c .before .before .before .before .before .before .before .before .before .before .before .before .before .before .before .before .pre
 
 slice-aggregate-steps-10 : tie.Need-slice-aggregate-steps-10
-slice-aggregate-steps-10 c = part _ _ (c .before .before .before .before .before .before .before .before .before .before .before .before .before .before .before .before .args .points .row) refl (c .before .before .before .before .before .before .before .before .before .before .before .before .before .before .before .before .pre)
+slice-aggregate-steps-10 c = part _ _ (c .before .before .before .before .before .before .before .before .before .before .before .before .before .before .before .before .before .args .points .row) refl (c .before .before .before .before .before .before .before .before .before .before .before .before .before .before .before .before .before .pre)
 
 steps-requires : tie.Need-steps-requires
 steps-requires c κs = search needs

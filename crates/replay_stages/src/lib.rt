@@ -2,7 +2,6 @@
 // whole.
 ghost use Prim.Native.Nat.{_≤_};
 ghost use lib.ListN.{length};
-use super::calls;
 use angle::Point2;
 use test_mesh::Coordinates;
 use test_mesh::LONGS;
@@ -27,10 +26,11 @@ pub fn steps_on(mesh: Mesh, center: Point2, points: Coordinates) -> Stepped
     requires { ⌜ points .length ≤ length (points .row) ⌝ }
 {
     let mut positions = mesh.positions.row;
+    let heights = mesh.heights.row;
     let mut outs = mesh.outs.row;
     let mut halves = mesh.halves.row;
     let mut faces = mesh.faces.row;
-    let mut nodes = calls::seven_nodes();
+    let mut nodes = test_mesh::seven_nodes();
     let mut freed = [7u32; WORDS];
     let mut buckets = [7u32; WORDS];
     let mut pending = [7u32; WORDS];
@@ -53,7 +53,7 @@ pub fn steps_on(mesh: Mesh, center: Point2, points: Coordinates) -> Stepped
     );
     let left = end.counts;
     Stepped {
-        mesh: calls::with_rows(mesh, left, positions, outs, halves, faces),
+        mesh: test_mesh::with_rows(mesh, left, positions, heights, outs, halves, faces),
         answers: Longs {
             row: answers,
             length: LONGS,
@@ -63,6 +63,7 @@ pub fn steps_on(mesh: Mesh, center: Point2, points: Coordinates) -> Stepped
 
 pub fn pass_on(mesh: Mesh) -> Passed {
     let positions = mesh.positions.row;
+    let heights = mesh.heights.row;
     let mut outs = mesh.outs.row;
     let mut halves = mesh.halves.row;
     let mut faces = mesh.faces.row;
@@ -77,7 +78,7 @@ pub fn pass_on(mesh: Mesh) -> Passed {
     );
     let left = added.counts;
     Passed {
-        mesh: calls::with_rows(mesh, left, positions, outs, halves, faces),
+        mesh: test_mesh::with_rows(mesh, left, positions, heights, outs, halves, faces),
         faces: added.faces as u64,
         flips: added.flips,
     }
