@@ -1,15 +1,18 @@
--- From a library call's contract to that of its export. The library's says that an outcome `x`, which a definition gives, is made of the
--- call's answer `y` and the rows; the export's result `r` is `y` in numbers. So `r` is the answer of `x` in numbers, and the rows are those
--- of `x`. Assumes nothing.
+-- From the contracts of a call's parts to that of the export. Heights refuse: the call is refused and nothing has changed. They do not: the call
+-- on the mesh alone is made, whose contract says that an outcome `x`, which a definition gives, is made of the call's answer `y` and the rows;
+-- the export's result `r` is `y` in numbers, and `w` is the outcome with heights. So `r` is the answer of `w` in numbers, and the rows are
+-- those of `w`. Assumes nothing.
 use mathlib.Core.List.{List}
-use mathlib.Core.Path.{_≡_, refl, sym, _∙_, ap}
+use mathlib.Core.Path.{_≡_, refl, sym, _∙_, ap, ap₂}
 use Prim.Native.Nat.{ℕ}
+use lib.IntN.{ℤ}
 use Rattle.dcel.specs.MeshRows.{MeshRows}
 use Rattle.finish.specs.declared.FinishAnswer.{FinishAnswer}
 use Rattle.finish.specs.Finish.{FinishOutcome, finishedWith}
 use Rattle.locate.specs.declared.Located.{Located}
 use Rattle.locate.specs.Locate.{LocateOutcome, locatedWith}
 use Rattle.ring_rows.specs.RingRows.{RingRows}
+use Rattle.surface.specs.Surface.{SurfaceStepped, surfaceStepped, SurfaceRan, surfaceRan}
 use Rattle.sweep.specs.declared.StepAnswer.{StepAnswer}
 use Rattle.sweep.specs.Run.{RunOutcome, ranWith}
 use Rattle.sweep.specs.StepCall.{StepOutcome, steppedWith}
@@ -29,14 +32,26 @@ pub locate-exported : {g : RingRows} {x : LocateOutcome} {y : Located} {r : Loca
     → (r ≡ locateResult (x .answer)) × (locatedWith (x .answer) g ≡ x)
 locate-exported {g} e z = exported (λ (x : LocateOutcome). x .answer) (λ (y : Located). locatedWith y g) (λ y. refl) locateResult e z
 
-pub step-exported : {m : MeshRows} {g : RingRows} {p : List ℕ} {x : StepOutcome} {y : StepAnswer} {r : StepResult}
-    → steppedWith y m g p ≡ x → r ≡ stepResult y → (r ≡ stepResult (x .answer)) × (steppedWith (x .answer) m g p ≡ x)
-step-exported {m} {g} {p} e z = exported (λ (x : StepOutcome). x .answer) (λ (y : StepAnswer). steppedWith y m g p) (λ y. refl) stepResult e z
-
 pub finish-exported : {m : MeshRows} {p : List ℕ} {x : FinishOutcome} {y : FinishAnswer} {r : FinishResult}
     → finishedWith y m p ≡ x → r ≡ finishResult y → (r ≡ finishResult (x .answer)) × (finishedWith (x .answer) m p ≡ x)
 finish-exported {m} {p} e z = exported (λ (x : FinishOutcome). x .answer) (λ (y : FinishAnswer). finishedWith y m p) (λ y. refl) finishResult e z
 
-pub run-exported : {m : MeshRows} {g : RingRows} {p w : List ℕ} {x : RunOutcome} {y : FinishAnswer} {r : FinishResult}
-    → ranWith y m g p w ≡ x → r ≡ finishResult y → (r ≡ finishResult (x .answer)) × (ranWith (x .answer) m g p w ≡ x)
-run-exported {m} {g} {p} {w} e z = exported (λ (x : RunOutcome). x .answer) (λ (y : FinishAnswer). ranWith y m g p w) (λ y. refl) finishResult e z
+-- a step and a run leave heights besides
+pub step-exported : {m : MeshRows} {g : RingRows} {p : List ℕ} {row : List ℤ} {w : SurfaceStepped} {y : StepAnswer} {r : StepResult}
+    → surfaceStepped (steppedWith y m g p) row ≡ w → r ≡ stepResult y
+    → (r ≡ stepResult (w .call .answer)) × (surfaceStepped (steppedWith (w .call .answer) m g p) row ≡ w)
+step-exported {m} {g} {p} {row} e z =
+    exported (λ (w : SurfaceStepped). w .call .answer) (λ (y : StepAnswer). surfaceStepped (steppedWith y m g p) row) (λ y. refl) stepResult e z
+
+pub run-exported : {m : MeshRows} {g : RingRows} {p a : List ℕ} {row : List ℤ} {w : SurfaceRan} {y : FinishAnswer} {r : FinishResult}
+    → surfaceRan (ranWith y m g p a) row ≡ w → r ≡ finishResult y
+    → (r ≡ finishResult (w .call .answer)) × (surfaceRan (ranWith (w .call .answer) m g p a) row ≡ w)
+run-exported {m} {g} {p} {a} {row} e z =
+    exported (λ (w : SurfaceRan). w .call .answer) (λ (y : FinishAnswer). surfaceRan (ranWith y m g p a) row) (λ y. refl) finishResult e z
+
+-- from the call on the mesh alone and the row of heights
+pub step-whole : {w : SurfaceStepped} {x y : StepOutcome} {row : List ℤ} → w .call ≡ x → y ≡ x → w .heights ≡ row → surfaceStepped y row ≡ w
+step-whole a b c = ap₂ surfaceStepped (b ∙ sym a) (sym c)
+
+pub run-whole : {w : SurfaceRan} {x y : RunOutcome} {row : List ℤ} → w .call ≡ x → y ≡ x → w .heights ≡ row → surfaceRan y row ≡ w
+run-whole a b c = ap₂ surfaceRan (b ∙ sym a) (sym c)

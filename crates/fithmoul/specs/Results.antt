@@ -2,7 +2,7 @@
 -- place. What a refused call has no answer for is 0. Definitions only. `Laws`: no refusal has the number 0.
 use Prim.Native.Nat.{ℕ}
 use lib.Ieee.{Float}
-use lib.IntN.{ℤ}
+use lib.IntN.{ℤ, pos}
 use Rattle.angle.specs.declared.Point2.{Point2}
 use Rattle.finish.specs.declared.FinishAnswer.{FinishAnswer}
 use Rattle.finish.specs.declared.Finished.{Finished}
@@ -19,7 +19,9 @@ use Rattle.fithmoul.specs.declared.results.CheckResult.{CheckResult}
 use Rattle.fithmoul.specs.declared.results.LocateResult.{LocateResult}
 use Rattle.fithmoul.specs.declared.results.PointAnswer.{PointAnswer}
 use Rattle.fithmoul.specs.declared.results.StepResult.{StepResult}
+use Rattle.volume.specs.declared.Measured.{Measured}
 use Rattle.fithmoul.specs.declared.results.FinishResult.{FinishResult}
+use Rattle.fithmoul.specs.declared.results.VolumeResult.{VolumeResult}
 
 -- ---- what goes in as numbers
 abbrev pub counted : ℕ → ℕ → ℕ → Counts
@@ -97,3 +99,20 @@ finishResult a = finishedResult (a .counts) (a .finished)
 -- the totals that an accepted finish or run reports
 abbrev pub reported : FinishResult → Totals
 reported r = record { faces = r .«faces_added»; convexflips = r .«convex_flips»; closingflips = r .«closing_flips» }
+
+-- what is measured
+abbrev pub volumeResult : Measured → VolumeResult
+volumeResult (Measured.Accepted v) = record {
+  refusal = 0;
+  place = 0;
+  «six_volumes_high» = v .«six_volumes» .high;
+  «six_volumes_low» = v .«six_volumes» .low;
+  «cubic_metres» = v .«cubic_metres»;
+}
+volumeResult (Measured.Refused x) = record {
+  refusal = x .number;
+  place = x .place;
+  «six_volumes_high» = 0;
+  «six_volumes_low» = 0;
+  «cubic_metres» = pos 0;
+}

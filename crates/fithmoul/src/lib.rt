@@ -4,6 +4,7 @@
 // `heights`, `surface`, `volume`). A slice is a pointer and a length for C. Nothing is
 // asked of the caller but that each row is there, as long as is said, that no row that is written overlaps another, and that doubles are
 // rounded to nearest and subnormal ones kept (docs/DECISIONS.md, "Who answers for what C cannot check?").
+ghost use mathlib.Core.Bool.{false};
 ghost use mathlib.Core.Path.{_≡_};
 ghost use Rattle.dcel.specs.MeshRows.{meshRows};
 ghost use Rattle.finish.specs.Finish.{finishedWith};
@@ -16,7 +17,8 @@ ghost use Rattle.sweep.specs.Demand3.{Demand3};
 ghost use Rattle.sweep.specs.Run.{runLent, ranWith};
 ghost use Rattle.sweep.specs.StepCall.{steppedWith};
 ghost use Rattle.fithmoul.specs.Results.{counted, centerAt, pointAt, reported};
-ghost use Rattle.fithmoul.specs.Results.{checkResult, locateResult, stepResult, finishResult};
+ghost use Rattle.fithmoul.specs.Results.{checkResult, locateResult, stepResult, finishResult, volumeResult};
+ghost use Rattle.volume.specs.Volume.{volumeOf};
 use angle::Point2;
 use math::Point;
 use mesh::Counts;
@@ -29,6 +31,7 @@ use results::CheckResult;
 use results::FinishResult;
 use results::LocateResult;
 use results::StepResult;
+use results::VolumeResult;
 
 // Does a mesh keep the rules, turn left everywhere and stay in range, its heights too? Refusals 1 to 5, and 10.
 #[no_mangle]
@@ -316,4 +319,37 @@ pub extern "C" fn fithmoul_run(
     );
     surface::store_run(heights, answers, levels, points, vertices, answer);
     results::finish_result(answer)
+}
+
+// The volume between a mesh and a level: six times it, exactly, and in whole cubic metres, positive where the mesh is above. Refusals 1 to 5,
+// and 10.
+#[no_mangle]
+pub extern "C" fn fithmoul_volume(
+    vertices: u32,
+    edges: u32,
+    faces: u32,
+    positions: &[i32],
+    heights: &[i32],
+    outs: &[u32],
+    halves: &[u32],
+    adjacent: &[u32],
+    level: i32,
+) -> VolumeResult
+    ensures { λ r. ⌜ r ≡ volumeResult (volumeOf (counted vertices edges faces) (surfaceRows
+        (meshRows (now (positions .entry)) (now (outs .entry)) (now (halves .entry)) (now (adjacent .entry))) (now (heights .entry))) level) ⌝ }
+{
+    let counts = Counts {
+        vertices: vertices,
+        edges: edges,
+        faces: faces,
+    };
+    results::volume_result(volume::volume(
+        counts,
+        positions,
+        heights,
+        outs,
+        halves,
+        adjacent,
+        level,
+    ))
 }

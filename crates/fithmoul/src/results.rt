@@ -5,7 +5,7 @@ ghost use Rattle.finish.specs.declared.Finished.{Finished};
 ghost use Rattle.locate.specs.declared.Located.{Located};
 ghost use Rattle.sweep.specs.declared.Stepped.{Stepped};
 ghost use Rattle.fithmoul.specs.Results.{checkResult, locateResult, pointAnswer};
-ghost use Rattle.fithmoul.specs.Results.{steppedResult, stepResult, finishedResult, finishResult};
+ghost use Rattle.fithmoul.specs.Results.{steppedResult, stepResult, finishedResult, finishResult, volumeResult};
 use finish::FinishAnswer;
 use finish::Finished;
 use locate::Located;
@@ -15,6 +15,7 @@ use mesh_check::Refusal;
 use sweep::Answer;
 use sweep::StepAnswer;
 use sweep::Stepped;
+use volume::Measured;
 
 #[repr(C)]
 pub struct CheckResult {
@@ -63,6 +64,16 @@ pub struct FinishResult {
     pub faces_added: u32,
     pub convex_flips: u64,
     pub closing_flips: u64,
+}
+
+// Six times the signed volume in cubic millimetres, two's complement in a high and a low half, and the volume in cubic metres.
+#[repr(C)]
+pub struct VolumeResult {
+    pub refusal: u32,
+    pub place: u32,
+    pub six_volumes_high: u64,
+    pub six_volumes_low: u64,
+    pub cubic_metres: i64,
 }
 
 pub fn check_result(checked: Checked) -> CheckResult
@@ -202,4 +213,28 @@ pub fn finish_result(answer: FinishAnswer) -> FinishResult
     let counts = answer.counts;
     let finished = answer.finished;
     finished_result(counts, finished)
+}
+
+pub fn volume_result(measured: Measured) -> VolumeResult
+    ensures { λ r. ⌜ r ≡ volumeResult measured ⌝ }
+{
+    match measured {
+        Measured::Accepted(volumes) => {
+            let six = volumes.six_volumes;
+            VolumeResult {
+                refusal: 0,
+                place: 0,
+                six_volumes_high: six.high,
+                six_volumes_low: six.low,
+                cubic_metres: volumes.cubic_metres,
+            }
+        }
+        Measured::Refused(x) => VolumeResult {
+            refusal: x.number,
+            place: x.place,
+            six_volumes_high: 0,
+            six_volumes_low: 0,
+            cubic_metres: 0,
+        },
+    }
 }

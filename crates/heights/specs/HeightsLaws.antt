@@ -1,6 +1,6 @@
 -- What the checks with heights come to: where no row of heights is too short and no height outside, heights refuse nothing, and a call's own
--- table decides (`fine-then`); otherwise the answer is one of 1, 2, 3 and 10 (`poor-numbered`). What is accepted has its heights, all of them
--- valid (`heights-accept`). Assumes nothing.
+-- table decides (`tested-then`); otherwise the answer is one of 1, 2, 3 and 10 (`heights-numbered`). What is accepted has its heights, all of
+-- them in range (`heights-accept`). Assumes nothing.
 use mathlib.Core.Bool.{Bool, true, false, not, cond, _||_}
 use mathlib.Core.List.{List, []}
 use mathlib.Core.Path.{_≡_, refl, sym, _∙_, ap, subst}
@@ -17,7 +17,8 @@ use Rattle.mesh_check.specs.declared.Checked.the-variants.{Accepted, Refused}
 use Rattle.mesh_check.specs.declared.Refusal.{Refusal}
 use Rattle.mesh_check.specs.Accepted.{or-false, AcceptedMesh, check-accepts, range-long, short-refused, with-refused, with-none}
 use Rattle.mesh_check.specs.Check.{refused, andThen, pointCount, vertexCount, rangeWith, checkWith, checkOf}
-use Rattle.mesh_check.specs.CheckLaws.{NumberedTo, refuses, then-next, then-refused, then-accepts}
+use Rattle.mesh_check.specs.CheckLaws.{NumberedTo, accepts, numbered-more, numbered-cond, range-numbered, check-numbered}
+use Rattle.mesh_check.specs.CheckLaws.{then-next, then-refused, then-accepts, then-numbered}
 use Rattle.sums.specs.Bit.{from-false, from-true, is-false, is-true, sure}
 use Rattle.sums.specs.Bounded.{none-below→}
 use Rattle.heights.specs.Heights.{SurfaceRows, heightOf, isValidHeight, heightsOutside, heightsShort, HeightsLent}
@@ -173,6 +174,18 @@ module _ (g : HeightsLent) (C : Counts) (s : SurfaceRows) where
           ≡ andThen (checkWith (g .points) (g .short) C (s .mesh)) next
       go true p k = then-next _ k
       go false p k = let u = or-false (anyHeightsShort g C (s .heights)) (anyHeightsOutside g C (s .heights)) p in fine-then (u .0) (u .1) next
+
+-- ---- a refusal has one of the numbers 1, 2, 3 and 10, and in `check` and `volume` 4 and 5 too
+pub heights-numbered : (g : HeightsLent) (C : Counts) (s : SurfaceRows) → NumberedTo 10 (heightsChecked g C s)
+unfolding heightsChecked checkTen rangeWith
+heights-numbered g C s =
+    then-numbered (numbered-more (omega arith) (range-numbered _ _ _))
+    (numbered-cond (anyHeightsOutside g C (s .heights)) 10 0 (omega arith) (omega arith) accepts)
+
+pub surface-numbered : (outside : Bool) (C : Counts) (s : SurfaceRows) → NumberedTo 10 (surfaceChecked outside C s)
+unfolding surfaceChecked checkOf
+surface-numbered outside C s =
+    then-numbered (heights-numbered (meshLent outside) C s) (numbered-more (omega arith) (check-numbered _ _ _ _ _))
 
 -- ---- the call `check`, and the checks of `volume`
 module _ (outside : Bool) (C : Counts) (s : SurfaceRows) where

@@ -47,7 +47,7 @@ added-height z h e = rw e refl
 added-one : {m v : ℕ} → Added m ≡ Added v → m ≡ v
 added-one e = cc
 
-is-added-one : (v : ℕ) → isAdded (Added v) ≡ true
+pub is-added-one : (v : ℕ) → isAdded (Added v) ≡ true
 unfolding isAdded
 is-added-one v = refl
 
@@ -273,6 +273,24 @@ module _ (l : RunLent) (e : runChecked l ≡ Checked.Accepted) (z h : ℕ → �
             rw (lt-ltb (seed + count N one) (runFinish l .counts .vertices) (omega arith))
             (refused-heights (omega arith) A
             ∙ rw (x .0, told-heights (after N .answered) (omega arith), k, p f, a, heights-answered (r .0) (let u = A .earlier in omega arith) (A .made)) refl)
+
+    -- a vertex that no answer has is that of the point whose step was refused a flip
+    pub run-place : {place : ℕ} → (after N .full ≡ true → place ≡ after N .answered) → seed + count N one < runFinish l .counts .vertices
+        → place < N
+    run-place {place} p k = go (after N .full) refl
+      where
+        go : (b : Bool) → after N .full ≡ b → place < N
+        go true f =
+            let r = refused-at N f in
+            let a = refused-answered (omega arith) (r .1) in
+            let u = r .1 .earlier in
+            let q = p f in omega arith
+        go false f =
+            let a = keeps N (omega arith) .answered f in
+            let v = keeps N (omega arith) .number f in
+            let w = run-vertices l e in
+            let c = told-count N (omega arith) in
+            absurd (omega arith)
 
   -- ---- vertex by vertex
   record SweptHeights (n : ℕ) : Type 0 where

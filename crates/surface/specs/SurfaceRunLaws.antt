@@ -2,7 +2,7 @@
 -- that it leaves, as the code makes it from the answers (`run-heights`) and vertex by vertex (`CarriedHeights`). Assumes nothing.
 use mathlib.Core.Bool.{Bool, true, false, cond, false≢true}
 use mathlib.Core.List.{List}
-use mathlib.Core.Path.{_≡_, refl, sym, _∙_, ap, subst}
+use mathlib.Core.Path.{_≡_, refl, sym, _∙_, ap, subst, subst⁻¹}
 use Prim.Native.Nat.{ℕ, zero, suc, _+_, _*_, _<_, _≤_}
 use native.Mathlib.Decide.{decLt}
 use native.Mathlib.Omega.{arith}
@@ -13,29 +13,35 @@ use lib.ListN.{length, getD, List·getD-eq-default}
 use Rattle.dcel.specs.MeshRows.{linksIn, placesIn}
 use Rattle.dcel.specs.Rows.{rowOf, rowFrom, positionOf}
 use Rattle.dcel.specs.Views.{length-from, getD-from}
-use Rattle.decide.specs.Decide.{fateNumber}
+use Rattle.decide.specs.declared.Fate.the-variants.{Added}
+use Rattle.decide.specs.Decide.{fateNumber, fateVertex}
 use Rattle.finish.specs.declared.FinishAnswer.{FinishAnswer}
 use Rattle.finish.specs.declared.Finished.{Finished}
 use Rattle.finish.specs.declared.Totals.{Totals}
 use Rattle.finish.specs.Finish.{totalsFrom, finishedFrom}
-use Rattle.heights.specs.Heights.{SurfaceRows, heightOf, HeightsLent, heightsLent, heightsTested}
+use Rattle.heights.specs.Heights.{SurfaceRows, heightOf, HeightsLent, heightsLent, heightsChecked, heightsTested}
+use Rattle.heights.specs.HeightsLaws.{heights-accept, tested-accept}
 use Rattle.locate.specs.Locate.{checkRing, checkStart}
+use Rattle.mesh.specs.declared.Counts.{Counts}
 use Rattle.mesh_check.specs.declared.Checked.{Checked}
 use Rattle.mesh_check.specs.declared.Checked.the-variants.{Accepted, Refused}
 use Rattle.mesh_check.specs.declared.Refusal.{Refusal}
 use Rattle.mesh_check.specs.Check.{andThen, checkWith, pointCount, vertexCount}
-use Rattle.mesh_check.specs.CheckLaws.{NumberedTo, numbered-at}
+use Rattle.mesh_check.specs.CheckLaws.{NumberedTo, numbered-at, then-accepts}
 use Rattle.start.specs.Start.{sweepRowsShort, sweepChecked}
 use Rattle.start.specs.StartLaws.{sweep-numbered}
-use Rattle.sums.specs.Bounded.{count}
+use Rattle.sums.specs.Bit.{from-true}
+use Rattle.sums.specs.Bounded.{count, count-le, count-before}
+use Rattle.sweep.specs.Step.{isAdded}
 use Rattle.sweep.specs.Run.{finishAfter, answerWords, answerIn, answerWord, answersAfter}
 use Rattle.sweep.specs.Run.{RunLent, RunOutcome, ranWith, runChecked, sweepOf, stepsOf, runFinish, runOutcome, runOf}
-use Rattle.sweep.specs.Demand3.{fateOf, vertexOf}
-use Rattle.sweep.specs.RunLaws.{answer-at, answer-none, run-accepts, run-start, run-keeps, run-vertices}
-use Rattle.surface.specs.Surface.{heightsAfter, heightStored, sweepHeights, answeredHeights, isMade, placeOf, finishedHeights}
+use Rattle.sweep.specs.Demand3.{fateOf, vertexOf, Demand3}
+use Rattle.sweep.specs.RunLaws.{vertex-added, answer-at, answer-none, run-accepts, run-start, run-keeps, run-vertices, run-accepted}
+use Rattle.surface.specs.Surface.{heightsAfter, heightStored, sweepHeights, addedAmong, answeredHeights, isMade, placeOf, finishedHeights}
 use Rattle.surface.specs.Surface.{SurfaceRunLent, SurfaceRan, surfaceRan, surfaceRunChecked, surfaceRun}
+use Rattle.surface.specs.StoreReady.{StoreRoom, StoreReady}
 use Rattle.surface.specs.SurfaceLaws.{own-table, own-refused, heights-after}
-use Rattle.surface.specs.RunHeights.{run-stored, sweep-kept, sweep-past, sweep-added}
+use Rattle.surface.specs.RunHeights.{is-added-one, run-stored, run-place, sweep-kept, sweep-past, sweep-added}
 
 module _ (g : SurfaceRunLent) where
   abbrev l : RunLent
@@ -103,9 +109,17 @@ module _ (g : SurfaceRunLent) where
     unfolding runOf runOutcome answerWord
     told i a = rw k (answer-at (stepsOf l) (sweepOf l N .answered) N (l .answers) room i 0 a (let m = most in omega arith) (omega arith))
 
+    told-vertex : (i : ℕ) → i < sweepOf l N .answered → answerIn (runOf l .answers) i 1 ≡ fateVertex (stepsOf l i .fate)
+    unfolding runOf runOutcome answerWord
+    told-vertex i a = rw k (answer-at (stepsOf l) (sweepOf l N .answered) N (l .answers) room i 1 a (let m = most in omega arith) (omega arith))
+
     none : (i : ℕ) → sweepOf l N .answered ≤ i → i < N → fates i ≡ 0
     unfolding runOf runOutcome
     none i a b = rw k (answer-none (stepsOf l) (sweepOf l N .answered) N (l .answers) room (answerWords * i + 0) (omega arith) (omega arith))
+
+    all-refused : sweepOf l N .full ≡ true → runFinish l .full ≡ true
+    unfolding finishAfter
+    all-refused f = rw f refl
 
     steps-made : runFinish l .full ≡ false → sweepOf l N .full ≡ false
     unfolding finishAfter
@@ -139,13 +153,35 @@ module _ (g : SurfaceRunLent) where
         go false q =
             rw (finished-is q .1) (run-stored l k z h fates told none (λ f. absurd (false≢true (sym (steps-made q) ∙ f))))
 
+    placed : sweepOf l N .full ≡ true → placeOf (runOf l .answer .finished) ≡ sweepOf l N .answered
+    unfolding placeOf
+    placed f = ap (λ (r : FinishAnswer). placeOf (r .finished)) answer-is ∙ ap placeOf (refused-is (all-refused f))
+
+    answers-same : length (runOf l .answers) ≡ length (l .answers)
+    unfolding runOf runOutcome
+    answers-same = rw k (length-from (length (l .answers)) _)
+
+    vertices-most : runOf l .answer .counts .vertices ≤ l .counts .vertices + N
+    vertices-most =
+        let a = ap (λ (r : FinishAnswer). r .counts .vertices) answer-is in
+        let b = run-vertices l k in
+        let c = run-keeps l k .most in omega arith
+
+    last-place : l .counts .vertices + addedAmong fates N < runOf l .answer .counts .vertices → placeOf (runOf l .answer .finished) < N
+    last-place u =
+        run-place l k z h fates told none placed (subst (λ (r : FinishAnswer). l .counts .vertices + addedAmong fates N < r .counts .vertices) answer-is u)
+
   -- refused by the table of the call on the mesh alone: a number up to 7, and no height is stored
-  refused-heights : {r : Refusal} → runChecked l ≡ Refused r → h ≡ finishedHeights (runOf l .answer) fates (l .counts .vertices) z h N
-  unfolding finishedHeights isMade
-  refused-heights {r} k = rw (refused-answer k, ne-eqb (r .number) 9 (λ q. let n = numbered in omega arith)) refl
+  refused-made : {r : Refusal} → runChecked l ≡ Refused r → isMade (runOf l .answer .finished) ≡ false
+  unfolding isMade
+  refused-made {r} k = rw (refused-answer k, ne-eqb (r .number) 9 (λ q. let n = numbered in omega arith)) refl
     where
       numbered : r .number ≤ 7
       numbered = numbered-at (subst (NumberedTo 7) k table-numbered) .1
+
+  refused-heights : {r : Refusal} → runChecked l ≡ Refused r → h ≡ finishedHeights (runOf l .answer) fates (l .counts .vertices) z h N
+  unfolding finishedHeights
+  refused-heights k = rw (refused-made k) refl
 
   pub run-heights : heightsTested runHeightsLent (l .counts) surfaceOf ≡ Accepted → (row : List ℤ) → length row ≡ length (g .heights)
       → heightOf row ≡ finishedHeights (runOf l .answer) fates (l .counts .vertices) z h N
@@ -175,6 +211,10 @@ row-height row f u same = go (decLt u (length row))
         let n = length-from (length row) f in
         List·getD-eq-default (rowFrom (length row) f) (pos 0) (omega arith) ∙ sym (List·getD-eq-default row (pos 0) (omega arith))
 
+vertex-fits : (C : Counts) (points : List ℤ) {v n a b : ℕ} → vertexCount C points ≤ n → v ≡ C .vertices + a → a < b → b ≤ pointCount points → v < n
+unfolding vertexCount
+vertex-fits C points r e c m = omega arith
+
 row-entry : (n : ℕ) (f : ℕ → ℤ) (u : ℕ) → u < n → heightOf (rowFrom n f) u ≡ f u
 unfolding heightOf
 row-entry n f u a = getD-from n f (pos 0) u a
@@ -191,3 +231,94 @@ module _ (g : SurfaceRunLent) (t : Totals) (q : surfaceRun g .call .answer .fini
       go : (c : Checked) → surfaceRunChecked g ≡ c → surfaceRunChecked g ≡ Accepted
       go Accepted k = k
       go (Refused r) k = absurd (let w = sym (refused-finished k) ∙ q in let z : _≡_ {A = ℕ} 0 1 = cc in omega arith)
+
+  parts : (heightsChecked (runHeightsLent g) (g .run .counts) (surfaceOf g) ≡ Accepted) × (runChecked (g .run) ≡ Accepted)
+  unfolding surfaceRunChecked
+  parts = then-accepts _ (runChecked (g .run)) checked
+
+  own-run : surfaceRun g .call ≡ runOf (g .run)
+  unfolding surfaceRun runOf
+  own-run = rw (checked, parts .1) refl
+
+  pub surface-demand-3 : Demand3 (g .run) (surfaceRun g .call) t
+  surface-demand-3 =
+      subst⁻¹ (λ (r : RunOutcome). Demand3 (g .run) r t) own-run
+      (run-accepted (g .run) t (ap (λ (r : RunOutcome). r .answer .finished) (sym own-run) ∙ q) .0)
+
+  -- ---- the heights
+  abbrev hs : ℕ → ℤ
+  hs = sweepHeights (g .run) (heightOf (g .levels)) (heightOf (g .heights)) (pointCount (g .run .points))
+
+  heights-are : surfaceRun g .heights ≡ rowFrom (length (g .heights)) hs
+  unfolding surfaceRun heightsAfter
+  heights-are = rw checked refl
+
+  counts-are : surfaceRun g .call .answer .counts ≡ runFinish (g .run) .counts
+  unfolding runOf runOutcome
+  counts-are = ap (λ (r : RunOutcome). r .answer .counts) own-run ∙ rw (parts .1) refl
+
+  steps-whole : sweepOf (g .run) (pointCount (g .run .points)) .full ≡ false
+  steps-whole = steps-made g (parts .1) (go (runFinish (g .run) .full) refl)
+    where
+      go : (b : Bool) → runFinish (g .run) .full ≡ b → runFinish (g .run) .full ≡ false
+      go false f = f
+      go true f =
+          absurd (let w = sym (refused-is g (parts .1) f) ∙ sym (ap (λ (r : FinishAnswer). r .finished) (answer-is g (parts .1)))
+          ∙ ap (λ (r : RunOutcome). r .answer .finished) (sym own-run) ∙ q in let z : _≡_ {A = ℕ} 0 1 = cc in omega arith)
+
+  -- the answer of a point that was added
+  fate-added : (i : ℕ) → i < pointCount (g .run .points) → fateOf (surfaceRun g .call) i ≡ 1
+      → stepsOf (g .run) i .fate ≡ Added (vertexOf (surfaceRun g .call) i)
+  fate-added i k e =
+      let a = run-keeps (g .run) (parts .1) .answered steps-whole in
+      let f = told g (parts .1) i (omega arith) in
+      let v = told-vertex g (parts .1) i (omega arith) in
+      rw own-run (vertex-added (stepsOf (g .run) i .fate) (sym f ∙ rw own-run at e) ∙ ap Added (sym v))
+
+  pub carried-heights : CarriedHeights g (surfaceRun g)
+  carried-heights =
+      let l = g .run in
+      let n = pointCount (l .points) in
+      let z = heightOf (g .levels) in
+      let h = heightOf (g .heights) in
+      let A = heights-accept (runHeightsLent g) (l .counts) (surfaceOf g) (parts .0) in
+      record {
+        seed = λ u k. rw heights-are (row-height (g .heights) hs u (sweep-kept l (parts .1) z h u k));
+        added = λ i k e.
+            let w = fate-added i k e in
+            let b = run-keeps l (parts .1) .added steps-whole i _ k w .0 in
+            let c = count-before i n (λ j. isAdded (stepsOf l j .fate)) k (from-true (ap isAdded w ∙ is-added-one _)) in
+            let m = count-le n (λ j. isAdded (stepsOf l j .fate)) in
+            let r = A .vertices in
+            rw heights-are (row-entry (length (g .heights)) hs _ (vertex-fits (l .counts) (l .points) r b c m) ∙ sweep-added l (parts .1) z h steps-whole i _ k w);
+        past = λ u k. rw heights-are (row-height (g .heights) hs u (sweep-past l (parts .1) z h u (subst (λ (C : Counts). C .vertices ≤ u) counts-are k)));
+        length-same = rw heights-are (length-from (length (g .heights)) hs);
+      }
+
+-- ---- what is stored from
+module _ (g : SurfaceRunLent) (e : heightsTested (runHeightsLent g) (g .run .counts) (surfaceOf g) ≡ Accepted) where
+  abbrev l₁ : RunLent
+  l₁ = g .run
+
+  -- the steps were made, so the table had accepted them
+  made-checked : isMade (runOf l₁ .answer .finished) ≡ true → runChecked l₁ ≡ Accepted
+  made-checked m = go (runChecked l₁) refl
+    where
+      go : (c : Checked) → runChecked l₁ ≡ c → runChecked l₁ ≡ Accepted
+      go Accepted k = k
+      go (Refused r) k = absurd (false≢true (sym (refused-made g k) ∙ m))
+
+  pub store-ready : StoreReady (l₁ .counts .vertices) (pointCount (l₁ .points)) (length (g .heights)) (length (g .levels))
+      (runOf l₁ .answers) (runOf l₁ .answer)
+  unfolding vertexCount
+  store-ready =
+      let A = tested-accept (runHeightsLent g) (l₁ .counts) (surfaceOf g) e in
+      record {
+        room = λ m.
+            let k = made-checked m in
+            let a = A .vertices in let b = A .points in let c = room g k in let d = answers-same g k in
+            let s = run-start l₁ k .mesh .most in
+            record { heights-room = a; levels-room = b; answers-room = omega arith; small = s };
+        most = λ m. vertices-most g (made-checked m);
+        place = λ m u. last-place g (made-checked m) u;
+      }

@@ -61,7 +61,7 @@ use Rattle.sweep.specs.Demand3.{fateOf, vertexOf, addedBefore, beforeClo
 
 -- ---- the answers
 -- fate 1 is that of an added point, and its vertex is in the answer
-vertex-added : (f : Fate) → fateNumber f ≡ 1 → f ≡ Added (fateVertex f)
+pub vertex-added : (f : Fate) → fateNumber f ≡ 1 → f ≡ Added (fateVertex f)
 unfolding fateNumber fateVertex
 vertex-added (Added v) z = refl
 vertex-added Dropped z = absurd (omega arith)

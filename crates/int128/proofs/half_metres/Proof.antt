@@ -1,0 +1,29 @@
+-- `int128::half_metres` meets its contract. Assumes nothing.
+use borrow.Author.Needs.{needs}
+use Rattle.int128.proofs.Digits.{divided}
+use Rattle.int128.proofs.half_metres.Statement.{statement}
+use Rattle.int128.proofs.half_metres.Tie as tie
+
+mul-middle : tie.Need-mul-middle
+mul-middle c = search needs
+
+add-middle : tie.Need-add-middle
+add-middle c = search needs
+
+mul-last : tie.Need-mul-last
+mul-last c = search needs
+
+add-last : tie.Need-add-last
+add-last c = search needs
+
+mul-result : tie.Need-mul-result
+mul-result c = search needs
+
+add-result : tie.Need-add-result
+add-result c = search needs
+
+returns : tie.Need-returns
+returns c = divided (c .args .high) (c .args .low)
+
+pub half-metres-spec : {M : Type 1} → statement M
+half-metres-spec = tie.close (tie.spec mul-middle add-middle mul-last add-last mul-result add-result returns)

@@ -1,0 +1,8 @@
+pub mod Volume
+pub mod AreaBound
+pub mod VolumeLaws
+pub mod DigitSums
+pub mod DigitSumsLaws
+pub mod Measurable
+pub mod MeasurableLaws
+pub mod CallLaws
