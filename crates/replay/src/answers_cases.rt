@@ -4,16 +4,12 @@
 // first pass, with the faces and flips of that pass and of that finish added up.
 ghost use Prim.Native.Nat.{_≤_};
 ghost use lib.ListN.{length};
-use super::calls;
-use super::calls::Ring;
-use super::finish_cases;
-use super::meshes;
-use super::meshes::Passed;
-use super::meshes::Stepped;
-use super::run_cases;
-use super::run_cases::Ran;
+use super::lines;
 use angle::Point2;
 use fithmoul::results::FinishResult;
+use replay_calls::RunLeft;
+use replay_stages::Passed;
+use replay_stages::Stepped;
 use test_mesh::Agreed;
 use test_mesh::Coordinates;
 use test_mesh::CoordinatesLine;
@@ -21,6 +17,7 @@ use test_mesh::LONGS;
 use test_mesh::Longs;
 use test_mesh::Mesh;
 use test_mesh::NODES;
+use test_mesh::Ring;
 use test_mesh::WORDS;
 
 // The line `g faces flips`, of the first pass.
@@ -104,8 +101,8 @@ fn pass_agrees(text: &[u8], at: usize, after: Passed) -> bool {
 
 // Whether the numbers of a run are those of a pass and of the finish after it together.
 fn add_up(run: FinishResult, pass: PassLine, rest: FinishResult) -> bool {
-    let all = calls::numbers_of(run);
-    let later = calls::numbers_of(rest);
+    let all = lines::numbers_of(run);
+    let later = lines::numbers_of(rest);
     let faces = all[2];
     let flips = all[3];
     if faces < pass.faces {
@@ -122,11 +119,11 @@ fn add_up(run: FinishResult, pass: PassLine, rest: FinishResult) -> bool {
 }
 
 // Whether a run has answered as the line `a` has it, and has left what a finish makes of the mesh behind the line `g`.
-fn run_agrees(text: &[u8], at: usize, pass: usize, ran: Ran) -> bool {
+fn run_agrees(text: &[u8], at: usize, pass: usize, ran: RunLeft) -> bool {
     let a = compare_answers(text, at, ran.answers);
     let g = read_pass(text, pass);
     let m = test_mesh::read_mesh(text, g.at, test_mesh::LENT, true);
-    let ended = finish_cases::finish_on(m.mesh, WORDS, 0);
+    let ended = replay_calls::finish_on(m.mesh, WORDS, 0);
     a.agrees
         & ran.cleared
         & ended.cleared
@@ -137,6 +134,7 @@ fn run_agrees(text: &[u8], at: usize, pass: usize, ran: Ran) -> bool {
 // Whether all agree with the lines from `a` on.
 fn case_agrees(text: &[u8], at: usize, mesh: Mesh, center: Point2, points: Coordinates) -> bool
     requires { ⌜ mesh .positions .length ≤ length (mesh .positions .row) ⌝ }
+    requires { ⌜ mesh .heights .length ≤ length (mesh .heights .row) ⌝ }
     requires { ⌜ mesh .outs .length ≤ length (mesh .outs .row) ⌝ }
     requires { ⌜ mesh .halves .length ≤ length (mesh .halves .row) ⌝ }
     requires { ⌜ mesh .faces .length ≤ length (mesh .faces .row) ⌝ }
@@ -147,11 +145,12 @@ fn case_agrees(text: &[u8], at: usize, mesh: Mesh, center: Point2, points: Coord
         freed: WORDS,
         buckets: WORDS,
     };
-    let ran = run_cases::run_on(mesh, ring, WORDS, LONGS, center, points, 0);
-    let stepped = meshes::steps_on(mesh, center, points);
+    let levels = test_mesh::zero_heights();
+    let ran = replay_calls::run_on(mesh, ring, WORDS, LONGS, center, points, levels, 0);
+    let stepped = replay_stages::steps_on(mesh, center, points);
     let last = stepped.mesh;
     let s = steps_agree(text, at, stepped);
-    let p = pass_agrees(text, s.at, meshes::pass_on(last));
+    let p = pass_agrees(text, s.at, replay_stages::pass_on(last));
     s.agrees & p & run_agrees(text, at, s.at, ran)
 }
 
@@ -159,7 +158,7 @@ fn case_agrees(text: &[u8], at: usize, mesh: Mesh, center: Point2, points: Coord
 pub fn agrees(text: &[u8], at: usize) -> bool {
     let i = read_number_line(text, at);
     let m = test_mesh::read_mesh(text, i.at, test_mesh::LENT, true);
-    let c = calls::read_center(text, m.at, b'c');
+    let c = lines::read_center(text, m.at, b'c');
     let q = read_points(text, c.at);
     let same = case_agrees(text, q.at, m.mesh, c.center, q.coordinates);
     same & i.agrees & m.is_whole & c.is_whole & q.is_whole

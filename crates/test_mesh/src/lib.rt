@@ -207,12 +207,15 @@ pub fn within(length: u64, most: usize) -> usize
     length as usize
 }
 
-// The entries that begin at a place into a row of u32; the place behind them.
-fn fill_words(text: &[u8], at: usize, past: Number, row: &mut [u32]) -> usize {
+// The entries that are written from a place on into a row of u32; the place behind them.
+fn fill_words(text: &[u8], at: usize, row: &mut [u32]) -> usize {
     let mut place = at;
     let mut i: usize = 0;
     while i < row.len() {
-        let entry = next_entry(text, place, past);
+        if test_text::byte(text, place) != b' ' {
+            return place;
+        }
+        let entry = test_text::read_number(text, place);
         let value = test_text::unsigned(entry);
         row[i] = value;
         place = entry.at;
@@ -222,11 +225,14 @@ fn fill_words(text: &[u8], at: usize, past: Number, row: &mut [u32]) -> usize {
 }
 
 // The same for a row of coordinates.
-fn fill_coordinates(text: &[u8], at: usize, past: Number, row: &mut [i32]) -> usize {
+fn fill_coordinates(text: &[u8], at: usize, row: &mut [i32]) -> usize {
     let mut place = at;
     let mut i: usize = 0;
     while i < row.len() {
-        let entry = next_entry(text, place, past);
+        if test_text::byte(text, place) != b' ' {
+            return place;
+        }
+        let entry = test_text::read_number(text, place);
         let value = test_text::signed(entry);
         row[i] = value;
         place = entry.at;
@@ -239,10 +245,11 @@ fn fill_coordinates(text: &[u8], at: usize, past: Number, row: &mut [i32]) -> us
 fn read_words(text: &[u8], start: RowStart) -> WordsLine
     ensures { λ r. ⌜ r .words .length ≤ length (r .words .row) ⌝ }
 {
-    let mut row = [0u32; WORDS];
     let past = start.past;
+    let filler = test_text::unsigned(past);
+    let mut row = [filler; WORDS];
     let count = within(start.length, WORDS);
-    let end = fill_words(text, past.at, past, &mut row[..count]);
+    let end = fill_words(text, past.at, &mut row[..count]);
     WordsLine {
         words: Words {
             row: row,
@@ -259,10 +266,11 @@ fn read_words(text: &[u8], start: RowStart) -> WordsLine
 fn read_coordinates(text: &[u8], start: RowStart) -> CoordinatesLine
     ensures { λ r. ⌜ r .coordinates .length ≤ length (r .coordinates .row) ⌝ }
 {
-    let mut row = [0i32; COORDINATES];
     let past = start.past;
+    let filler = test_text::signed(past);
+    let mut row = [filler; COORDINATES];
     let count = within(start.length, COORDINATES);
-    let end = fill_coordinates(text, past.at, past, &mut row[..count]);
+    let end = fill_coordinates(text, past.at, &mut row[..count]);
     CoordinatesLine {
         coordinates: Coordinates {
             row: row,
@@ -275,18 +283,26 @@ fn read_coordinates(text: &[u8], start: RowStart) -> CoordinatesLine
     }
 }
 
-// A row of heights. Where its line is missing the row is zeros, and longer than any list needs.
+// Heights where a list has none: zeros, and more than any list needs.
+pub fn zero_heights() -> Coordinates
+    ensures { λ r. ⌜ r .length ≤ length (r .row) ⌝ }
+{
+    Coordinates {
+        row: [0i32; COORDINATES],
+        length: COORDINATES,
+    }
+}
+
+// A row of heights, whose line may be missing.
 pub fn read_heights(text: &[u8], at: usize, tag: u8) -> CoordinatesLine
     ensures { λ r. ⌜ r .coordinates .length ≤ length (r .coordinates .row) ⌝ }
 {
     if test_text::byte(text, at) == tag {
         return read_coordinates(text, read_start(text, at, tag, false, COORDINATES));
     }
+    let heights = zero_heights();
     CoordinatesLine {
-        coordinates: Coordinates {
-            row: [0i32; COORDINATES],
-            length: COORDINATES,
-        },
+        coordinates: heights,
         at: at,
         is_whole: true,
     }
@@ -519,7 +535,5 @@ pub fn ring_holds(
     buckets: [u32; WORDS],
     v: u32,
 ) -> bool {
-    nodes_hold(nodes, ring.nodes, v)
-        & holds(freed, ring.freed, v)
-        & holds(buckets, ring.buckets, v)
+    nodes_hold(nodes, ring.nodes, v) & holds(freed, ring.freed, v) & holds(buckets, ring.buckets, v)
 }

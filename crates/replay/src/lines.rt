@@ -1,27 +1,14 @@
 // The lines that the cases of several calls share.
-ghost use mathlib.Core.Path.{_≡_};
 ghost use Prim.Native.Nat.{_≤_};
-ghost use lib.ListN.{length};
 use angle::Point2;
 use fithmoul::results::FinishResult;
 use math::Point;
-use mesh::Counts;
-use ring_rows::Node;
 use test_mesh::Agreed;
-use test_mesh::COORDINATES;
-use test_mesh::Coordinates;
 use test_mesh::Mesh;
 use test_mesh::NODES;
+use test_mesh::Ring;
 use test_mesh::WORDS;
-use test_mesh::Words;
 use test_text::Number;
-
-// The lengths of the ring's rows.
-pub struct Ring {
-    pub nodes: usize,
-    pub freed: usize,
-    pub buckets: usize,
-}
 
 pub struct RingLine {
     pub ring: Ring,
@@ -44,6 +31,13 @@ pub struct CenterLine {
 
 pub struct PointLine {
     pub point: Point,
+    pub at: usize,
+    pub is_whole: bool,
+}
+
+// A single height: a point's, or a level.
+pub struct HeightLine {
+    pub height: i32,
     pub at: usize,
     pub is_whole: bool,
 }
@@ -121,6 +115,17 @@ pub fn read_point(text: &[u8], at: usize) -> PointLine {
     }
 }
 
+// A line with a single height.
+pub fn read_height(text: &[u8], at: usize, tag: u8) -> HeightLine {
+    let z = test_text::read_number(text, test_text::behind(text, at));
+    let end = z.at;
+    HeightLine {
+        height: test_text::signed(z),
+        at: test_text::behind(text, end),
+        is_whole: test_mesh::is_line(text, at, tag, end),
+    }
+}
+
 // Whether the list says at a place what mesh the call must leave; where it does not, the call must change nothing.
 pub fn is_told(text: &[u8], at: usize) -> bool {
     test_text::byte(text, at) == b'M'
@@ -129,36 +134,6 @@ pub fn is_told(text: &[u8], at: usize) -> bool {
 // What the ring's rows and pending must hold after the call.
 pub fn cleared(text: &[u8], at: usize) -> u32 {
     if is_told(text, at) { 0 } else { 7 }
-}
-
-// A mesh with other counts, and rows of the same lengths.
-pub fn with_rows(
-    mesh: Mesh,
-    counts: Counts,
-    positions: [i32; COORDINATES],
-    outs: [u32; WORDS],
-    halves: [u32; WORDS],
-    faces: [u32; WORDS],
-) -> Mesh {
-    Mesh {
-        counts: counts,
-        positions: Coordinates {
-            row: positions,
-            length: mesh.positions.length,
-        },
-        outs: Words {
-            row: outs,
-            length: mesh.outs.length,
-        },
-        halves: Words {
-            row: halves,
-            length: mesh.halves.length,
-        },
-        faces: Words {
-            row: faces,
-            length: mesh.faces.length,
-        },
-    }
 }
 
 // Whether a call has left the mesh as it must; the place of the line after that.
@@ -171,48 +146,6 @@ pub fn compare_mesh(text: &[u8], lent: usize, told: usize, mesh: Mesh) -> Agreed
         agrees: a.agrees,
         at: told,
     }
-}
-
-// A row of nodes that is lent with 7 in every field.
-pub fn seven_nodes() -> [Node; NODES]
-    ensures { λ r. ⌜ length r ≡ 256 ⌝ }
-{
-    let seven = Node {
-        angle: 7.0,
-        edge: 7,
-        left: 7,
-        right: 7,
-    };
-    [seven; NODES]
-}
-
-fn node_holds(node: Node, v: u32) -> bool {
-    (node.angle == v as f64) & (node.edge == v) & (node.left == v) & (node.right == v)
-}
-
-// Whether every field of each of the first n nodes is v.
-fn nodes_hold(row: [Node; NODES], n: usize, v: u32) -> bool {
-    let mut i: usize = 0;
-    while i < NODES {
-        if (i < n) & !node_holds(row[i], v) {
-            return false;
-        }
-        i += 1;
-    }
-    n <= NODES
-}
-
-// Whether the ring's rows hold v in every entry.
-pub fn ring_holds(
-    ring: Ring,
-    nodes: [Node; NODES],
-    freed: [u32; WORDS],
-    buckets: [u32; WORDS],
-    v: u32,
-) -> bool {
-    nodes_hold(nodes, ring.nodes, v)
-        & test_mesh::holds(freed, ring.freed, v)
-        & test_mesh::holds(buckets, ring.buckets, v)
 }
 
 // Numbers of a result: refusal, place, faces, flips of the convexity passes and of the closing pass.
