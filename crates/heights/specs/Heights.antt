@@ -3,6 +3,7 @@
 -- keep ignoring z." So the heights stand in a row of their own: no definition of a link or a fate is given that row.
 use mathlib.Core.Bool.{Bool, false, not, cond, _||_}
 use mathlib.Core.List.{List, []}
+use mathlib.Core.Path.{_≡_}
 use Prim.Native.Nat.{ℕ}
 use lib.Dec.{leb, ltb}
 use lib.IntN.{ℤ, pos, natAbs}
@@ -72,6 +73,11 @@ checkTen points short outside C m = andThen (rangeWith points short C m) (cond o
 unfoldable pub heightsChecked : HeightsLent → Counts → SurfaceRows → Checked
 heightsChecked g C s =
     checkTen (g .points) (g .short || anyHeightsShort g C (s .heights)) (anyHeightsOutside g C (s .heights)) C (s .mesh)
+
+-- every row of heights is long enough, and every height in range
+pub record HeightsGiven (g : HeightsLent) (C : Counts) (s : SurfaceRows) : Type 0 where
+  pub long : anyHeightsShort g C (s .heights) ≡ false
+  pub inside : anyHeightsOutside g C (s .heights) ≡ false
 
 -- the same as it is asked quickly: where every row of heights is long enough and none is outside, heights refuse nothing, and a call's own
 -- table has its rows 1 to 3 (`tested-then`)

@@ -22,7 +22,7 @@ use Rattle.mesh_check.specs.CheckLaws.{then-next, then-refused, then-accepts, t
 use Rattle.sums.specs.Bit.{from-false, from-true, is-false, is-true, sure}
 use Rattle.sums.specs.Bounded.{none-below→}
 use Rattle.heights.specs.Heights.{SurfaceRows, heightOf, isValidHeight, heightsOutside, heightsShort, HeightsLent}
-use Rattle.heights.specs.Heights.{checkTen, anyHeightsShort, anyHeightsOutside, heightsChecked, heightsTested, meshLent, surfaceChecked}
+use Rattle.heights.specs.Heights.{HeightsGiven, checkTen, anyHeightsShort, anyHeightsOutside, heightsChecked, heightsTested, meshLent, surfaceChecked}
 
 -- ---- one height
 pub valid-within : (z : ℤ) → isValidHeight z ≡ true → natAbs z ≤ 1048576
@@ -144,6 +144,9 @@ module _ (g : HeightsLent) (C : Counts) (s : SurfaceRows) where
   pub fine-tested : anyHeightsShort g C (s .heights) ≡ false → anyHeightsOutside g C (s .heights) ≡ false → Accepted ≡ heightsTested g C s
   unfolding heightsTested
   fine-tested e f = rw (e, f) refl
+
+  pub given-tested : HeightsGiven g C s → heightsTested g C s ≡ Accepted
+  given-tested G = sym (fine-tested (G .long) (G .inside))
 
   pub tested-refused : {r : Refusal} → heightsTested g C s ≡ Refused r → heightsChecked g C s ≡ Refused r
   unfolding heightsTested

@@ -6,22 +6,23 @@ use mathlib.Core.Bool.{Bool, true, false, cond}
 use mathlib.Core.List.{List, [], _∷_}
 use mathlib.Core.Path.{_≡_, refl, sym, _∙_, ap, ap₂, subst}
 use Prim.Native.Nat.{ℕ, suc, _+_, _*_, _<_, _≤_}
+use native.Mathlib.Decide.{decLt}
 use native.Mathlib.Omega.{arith}
 use borrow.Author.Tests.{lt-ltb, le-ltb}
 use lib.Dec.{ltb}
 use lib.Ieee.{Float}
 use lib.IntN.{ℤ, pos}
-use lib.ListN.{length}
+use lib.ListN.{length, getD, List·getD-eq-default}
 use Rattle.angle.specs.declared.Point2.{Point2}
 use Rattle.dcel.specs.MeshRows.{MeshRows, linksIn, placesIn}
 use Rattle.dcel.specs.Rows.{rowFrom}
-use Rattle.dcel.specs.Views.{from-entries}
+use Rattle.dcel.specs.Views.{length-from, getD-from, from-entries}
 use Rattle.decide.specs.declared.Fate.{Fate}
 use Rattle.decide.specs.declared.Fate.the-variants.{Added, Dropped, NotLeft, Unsound, AtCenter}
 use Rattle.finish.specs.declared.Finished.{Finished}
 use Rattle.finish.specs.Finish.{FinishOutcome, finishedWith, finishOutcome, finishOf, seedChecked}
-use Rattle.heights.specs.Heights.{SurfaceRows, surfaceRows, heightOf, heightsIn, HeightsLent, heightsLent, heightsChecked, heightsTested}
-use Rattle.heights.specs.HeightsLaws.{tested-refused, tested-then}
+use Rattle.heights.specs.Heights.{SurfaceRows, surfaceRows, heightOf, heightsIn, HeightsLent, heightsLent, HeightsGiven, heightsChecked, heightsTested}
+use Rattle.heights.specs.HeightsLaws.{heights-accept, given-tested, tested-refused, tested-accept, tested-then}
 use Rattle.locate.specs.declared.Located.{Located}
 use Rattle.locate.specs.Locate.{ringShort, checkRing, checkStart, checkAngle, locatedWith, locateOutcome, locateOf}
 use Rattle.math.specs.declared.Point.{Point}
@@ -32,11 +33,11 @@ use Rattle.mesh_check.specs.declared.Checked.{Checked}
 use Rattle.mesh_check.specs.declared.Checked.the-variants.{Accepted, Refused}
 use Rattle.mesh_check.specs.declared.Refusal.{Refusal}
 use Rattle.mesh_check.specs.Check.{andThen, checkWith, pointCount, vertexCount}
-use Rattle.mesh_check.specs.CheckLaws.{then-refused}
+use Rattle.mesh_check.specs.CheckLaws.{then-refused, then-accepts}
 use Rattle.ring_rows.specs.RingRows.{RingRows}
 use Rattle.start.specs.Start.{sweepRowsShort, sweepChecked}
 use Rattle.sums.specs.Bit.{bit}
-use Rattle.sums.specs.Put.{put}
+use Rattle.sums.specs.Put.{put, put-same, put-other}
 use Rattle.sweep.specs.declared.StepAnswer.{StepAnswer}
 use Rattle.sweep.specs.declared.Stepped.{Stepped}
 use Rattle.sweep.specs.Fates.{is-added}
@@ -46,7 +47,7 @@ use Rattle.sweep.specs.StepCallLaws.{step-fate, step-range, step-swept}
 use Rattle.sweep.specs.StepMesh.{Swept}
 use Rattle.sweep.specs.SweepLaws.{step-count}
 use Rattle.sweep.specs.StepCall.{answerFrom, StepOutcome, pointRow, stepChecked, steppedWith, stepOutcome, stepOf}
-use Rattle.surface.specs.Surface.{heightAdded, heightStored, heightsAfter, surfaceStepped}
+use Rattle.surface.specs.Surface.{heightAdded, heightStored, heightsAfter, SurfaceStepped, surfaceStepped}
 use Rattle.surface.specs.Surface.{surfaceLocate, surfaceFinish, surfaceStepChecked, surfaceStep, SurfaceRunLent, surfaceRunChecked, surfaceRun}
 
 -- ---- a call's own table, which begins with the rows of its mesh
@@ -107,6 +108,10 @@ module _ (C : Counts) (s : SurfaceRows) (pending : List ℕ) where
   unfolding surfaceFinish finishOutcome
   finish-refused e = rw (own-refused finishLent C s Accepted finish-begins e) refl
 
+added-bit : (n : ℕ) → bit (isAdded (Added n)) ≡ 1
+unfolding isAdded
+added-bit n = refl
+
 -- ---- a row of heights, from its function
 heights-from : (row row′ : List ℤ) {h : ℕ → ℤ} → length row′ ≡ length row → heightOf row′ ≡ h → row′ ≡ rowFrom (length row) h
 unfolding heightOf
@@ -143,6 +148,12 @@ module _ {cx cy : Float} {C : Counts} {L : Links} {p : ℕ → Point} (S : Swept
       go NotLeft e k = rw (le-ltb (C .vertices) (t .mesh .counts .vertices) (omega arith)) refl
       go Unsound e k = rw (le-ltb (C .vertices) (t .mesh .counts .vertices) (omega arith)) refl
       go AtCenter e k = rw (le-ltb (C .vertices) (t .mesh .counts .vertices) (omega arith)) refl
+
+-- there is room for the point's height
+pub step-room : (v : Point) (z : ℤ) (short : Bool) (C : Counts) (s : SurfaceRows)
+    → heightsTested (heightsLent (pointRow v) (z ∷ []) short false) C s ≡ Accepted → C .vertices < length (s .heights)
+unfolding vertexCount pointCount
+step-room v z short C s e = let A = tested-accept (heightsLent (pointRow v) (z ∷ []) short false) C s e .vertices in omega arith
 
 module _ (C : Counts) (s : SurfaceRows) (ring : RingRows) (pending : List ℕ) (center : Point2) (v : Point) (z : ℤ) where
   abbrev nodes : ℕ
@@ -201,3 +212,114 @@ module _ (C : Counts) (s : SurfaceRows) (ring : RingRows) (pending : List ℕ) (
           let a : y .counts .vertices ≡ made .mesh .counts .vertices = ap (λ (w : StepAnswer). w .counts .vertices) (sym q) ∙ rw k refl in
           h ∙ rw a (height-step (step-swept C (s .mesh) ring pending center v k) (step-range C (s .mesh) ring pending center v k)
           (length pending) (heightsIn s) z)
+
+-- ---- links and fates ignore heights: two inputs that differ in heights alone
+module _ (C : Counts) (m : MeshRows) (heights heights′ : List ℤ) where
+  abbrev s₁ : SurfaceRows
+  s₁ = surfaceRows m heights
+
+  abbrev s₂ : SurfaceRows
+  s₂ = surfaceRows m heights′
+
+  pub locate-ignores : (ring : RingRows) (center : Point2) (a : Float)
+      → HeightsGiven (locateLent C s₁ ring center a) C s₁ → HeightsGiven (locateLent C s₂ ring center a) C s₂
+      → surfaceLocate C s₁ ring center a ≡ surfaceLocate C s₂ ring center a
+  locate-ignores ring center a G G′ =
+      locate-own C s₁ ring center a (given-tested _ C s₁ G) ∙ sym (locate-own C s₂ ring center a (given-tested _ C s₂ G′))
+
+  pub finish-ignores : (pending : List ℕ) → HeightsGiven (finishLent C s₁ pending) C s₁ → HeightsGiven (finishLent C s₂ pending) C s₂
+      → surfaceFinish C s₁ pending ≡ surfaceFinish C s₂ pending
+  finish-ignores pending G G′ =
+      finish-own C s₁ pending (given-tested _ C s₁ G) ∙ sym (finish-own C s₂ pending (given-tested _ C s₂ G′))
+
+  pub step-ignores : (ring : RingRows) (pending : List ℕ) (center : Point2) (v : Point) (z z′ : ℤ)
+      → HeightsGiven (stepLent C s₁ ring pending center v z) C s₁ → HeightsGiven (stepLent C s₂ ring pending center v z′) C s₂
+      → surfaceStep C s₁ ring pending center v z .call ≡ surfaceStep C s₂ ring pending center v z′ .call
+  step-ignores ring pending center v z z′ G G′ =
+      step-own C s₁ ring pending center v z (given-tested _ C s₁ G) ∙ sym (step-own C s₂ ring pending center v z′ (given-tested _ C s₂ G′))
+
+-- ---- the row of heights after a step that the checks accept, a refused flip too: vertex by vertex, as a caller finds it
+pub record CarriedHeight (C : Counts) (s : SurfaceRows) (v : Point) (z : ℤ) (fate : Fate) (w : SurfaceStepped) : Type 0 where
+  -- the vertices keep their heights,
+  pub kept : (u : ℕ) → u < C .vertices → heightOf (w .heights) u ≡ heightsIn s u
+  -- the one that is added has its point's,
+  pub added : (n : ℕ) → fate ≡ Added n → heightOf (w .heights) n ≡ z
+  -- and entries past the counts in use are untouched
+  pub past : (u : ℕ) → w .call .answer .counts .vertices ≤ u → heightOf (w .heights) u ≡ heightsIn s u
+  pub length-same : length (w .heights) ≡ length (s .heights)
+
+pub row-height : (row : List ℤ) (f : ℕ → ℤ) (u : ℕ) → f u ≡ heightOf row u → heightOf (rowFrom (length row) f) u ≡ heightOf row u
+unfolding heightOf
+row-height row f u same = go (decLt u (length row))
+  where
+    go : Dec (u < length row) → getD (rowFrom (length row) f) u (pos 0) ≡ getD row u (pos 0)
+    go (yes a) = getD-from (length row) f (pos 0) u a ∙ same
+    go (no a) =
+        let n = length-from (length row) f in
+        List·getD-eq-default (rowFrom (length row) f) (pos 0) (omega arith) ∙ sym (List·getD-eq-default row (pos 0) (omega arith))
+
+pub row-entry : (n : ℕ) (f : ℕ → ℤ) (u : ℕ) → u < n → heightOf (rowFrom n f) u ≡ f u
+unfolding heightOf
+row-entry n f u a = getD-from n f (pos 0) u a
+
+module _ (C : Counts) (s : SurfaceRows) (ring : RingRows) (pending : List ℕ) (center : Point2) (v : Point) (z : ℤ)
+    (e : surfaceStepChecked C s (length (ring .nodes)) (length (ring .freed)) (length (ring .buckets)) (length pending) center v z ≡ Accepted) where
+  abbrev w : SurfaceStepped
+  w = surfaceStep C s ring pending center v z
+
+  abbrev q : Stepping
+  q = stepMesh (length pending) (center .x) (center .y) C (linksIn (s .mesh)) (placesIn (s .mesh)) v
+
+  parts : (heightsChecked (stepLent C s ring pending center v z) C s ≡ Accepted)
+      × (stepChecked C (s .mesh) (length (ring .nodes)) (length (ring .freed)) (length (ring .buckets)) (length pending) center v ≡ Accepted)
+  unfolding surfaceStepChecked
+  parts = then-accepts _ _ e
+
+  room : C .vertices < length (s .heights)
+  unfolding vertexCount pointCount
+  room = let A = heights-accept (stepLent C s ring pending center v z) C s (parts .0) .vertices in omega arith
+
+  heights-are : w .heights ≡ rowFrom (length (s .heights)) (heightStored (heightsIn s) (C .vertices) (q .mesh .counts .vertices) z)
+  unfolding surfaceStep heightsAfter
+  heights-are =
+      rw (
+        e,
+        height-step (step-swept C (s .mesh) ring pending center v (parts .1)) (step-range C (s .mesh) ring pending center v (parts .1))
+            (length pending) (heightsIn s) z,
+      ) refl
+
+  counts-are : w .call .answer .counts ≡ q .mesh .counts
+  unfolding surfaceStep stepOutcome answerFrom
+  counts-are = rw e refl
+
+  one-more : q .mesh .counts .vertices ≡ C .vertices + bit (isAdded (q .fate))
+  one-more =
+      step-count (step-swept C (s .mesh) ring pending center v (parts .1)) (step-range C (s .mesh) ring pending center v (parts .1)) (length pending)
+
+  -- a vertex that is not the new one
+  other : (u : ℕ) → (C .vertices < q .mesh .counts .vertices → u ≡ C .vertices → ⊥)
+      → heightStored (heightsIn s) (C .vertices) (q .mesh .counts .vertices) z u ≡ heightsIn s u
+  unfolding heightStored
+  other u d = go (decLt (C .vertices) (q .mesh .counts .vertices))
+    where
+      go : Dec (C .vertices < q .mesh .counts .vertices)
+          → cond (ltb (C .vertices) (q .mesh .counts .vertices)) (put (heightsIn s) (C .vertices) z) (heightsIn s) u ≡ heightsIn s u
+      go (yes k) = rw (lt-ltb (C .vertices) (q .mesh .counts .vertices) k) (put-other (heightsIn s) (C .vertices) z u (d k))
+      go (no k) = rw (le-ltb (C .vertices) (q .mesh .counts .vertices) (omega arith)) refl
+
+  pub carried-height : CarriedHeight C s v z (q .fate) w
+  unfolding heightStored
+  carried-height = record {
+    kept = λ u l. rw heights-are (row-height (s .heights) _ u (other u (λ k p. omega arith)));
+    added = λ n f.
+        let next : n ≡ C .vertices = is-added (center .x) (center .y) C (linksIn (s .mesh)) (placesIn (s .mesh)) v
+        (sym (step-fate (length pending) (center .x) (center .y) C (linksIn (s .mesh)) (placesIn (s .mesh)) v) ∙ f) .next in
+        let b = ap (λ (x : Fate). bit (isAdded x)) f ∙ added-bit n in
+        let m = one-more in
+        rw (heights-are, next) (row-entry (length (s .heights)) _ (C .vertices) room
+        ∙ rw (lt-ltb (C .vertices) (q .mesh .counts .vertices) (omega arith)) (put-same (heightsIn s) (C .vertices) z));
+    past = λ u l.
+        let c = ap (λ (K : Counts). K .vertices) counts-are in
+        rw heights-are (row-height (s .heights) _ u (other u (λ k p. omega arith)));
+    length-same = rw heights-are (length-from (length (s .heights)) _);
+  }

@@ -19,8 +19,8 @@ use Rattle.finish.specs.declared.FinishAnswer.{FinishAnswer}
 use Rattle.finish.specs.declared.Finished.{Finished}
 use Rattle.finish.specs.declared.Totals.{Totals}
 use Rattle.finish.specs.Finish.{totalsFrom, finishedFrom}
-use Rattle.heights.specs.Heights.{SurfaceRows, heightOf, HeightsLent, heightsLent, heightsChecked, heightsTested}
-use Rattle.heights.specs.HeightsLaws.{heights-accept, tested-accept}
+use Rattle.heights.specs.Heights.{SurfaceRows, heightOf, HeightsLent, heightsLent, HeightsGiven, heightsChecked, heightsTested}
+use Rattle.heights.specs.HeightsLaws.{heights-accept, given-tested, tested-accept}
 use Rattle.locate.specs.Locate.{checkRing, checkStart}
 use Rattle.mesh.specs.declared.Counts.{Counts}
 use Rattle.mesh_check.specs.declared.Checked.{Checked}
@@ -38,9 +38,9 @@ use Rattle.sweep.specs.Run.{RunLent, RunOutcome, ranWith, runChecked, sweepOf, 
 use Rattle.sweep.specs.Demand3.{fateOf, vertexOf, Demand3}
 use Rattle.sweep.specs.RunLaws.{vertex-added, answer-at, answer-none, run-accepts, run-start, run-keeps, run-vertices, run-accepted}
 use Rattle.surface.specs.Surface.{heightsAfter, heightStored, sweepHeights, addedAmong, answeredHeights, isMade, placeOf, finishedHeights}
-use Rattle.surface.specs.Surface.{SurfaceRunLent, SurfaceRan, surfaceRan, surfaceRunChecked, surfaceRun}
+use Rattle.surface.specs.Surface.{SurfaceRunLent, surfaceRunLent, SurfaceRan, surfaceRan, surfaceRunChecked, surfaceRun}
 use Rattle.surface.specs.StoreReady.{StoreRoom, StoreReady}
-use Rattle.surface.specs.SurfaceLaws.{own-table, own-refused, heights-after}
+use Rattle.surface.specs.SurfaceLaws.{own-table, own-refused, heights-after, row-height, row-entry}
 use Rattle.surface.specs.RunHeights.{is-added-one, run-stored, run-place, sweep-kept, sweep-past, sweep-added}
 
 module _ (g : SurfaceRunLent) where
@@ -201,23 +201,9 @@ pub record CarriedHeights (g : SurfaceRunLent) (w : SurfaceRan) : Type 0 where
   pub past : (u : ℕ) → w .call .answer .counts .vertices ≤ u → heightOf (w .heights) u ≡ heightOf (g .heights) u
   pub length-same : length (w .heights) ≡ length (g .heights)
 
-row-height : (row : List ℤ) (f : ℕ → ℤ) (u : ℕ) → f u ≡ heightOf row u → heightOf (rowFrom (length row) f) u ≡ heightOf row u
-unfolding heightOf
-row-height row f u same = go (decLt u (length row))
-  where
-    go : Dec (u < length row) → getD (rowFrom (length row) f) u (pos 0) ≡ getD row u (pos 0)
-    go (yes a) = getD-from (length row) f (pos 0) u a ∙ same
-    go (no a) =
-        let n = length-from (length row) f in
-        List·getD-eq-default (rowFrom (length row) f) (pos 0) (omega arith) ∙ sym (List·getD-eq-default row (pos 0) (omega arith))
-
 vertex-fits : (C : Counts) (points : List ℤ) {v n a b : ℕ} → vertexCount C points ≤ n → v ≡ C .vertices + a → a < b → b ≤ pointCount points → v < n
 unfolding vertexCount
 vertex-fits C points r e c m = omega arith
-
-row-entry : (n : ℕ) (f : ℕ → ℤ) (u : ℕ) → u < n → heightOf (rowFrom n f) u ≡ f u
-unfolding heightOf
-row-entry n f u a = getD-from n f (pos 0) u a
 
 module _ (g : SurfaceRunLent) (t : Totals) (q : surfaceRun g .call .answer .finished ≡ Finished.Accepted t) where
   refused-finished : {r : Refusal} → surfaceRunChecked g ≡ Refused r → surfaceRun g .call .answer .finished ≡ Finished.Refused r
@@ -294,6 +280,14 @@ module _ (g : SurfaceRunLent) (t : Totals) (q : surfaceRun g .call .answer .fini
         past = λ u k. rw heights-are (row-height (g .heights) hs u (sweep-past l (parts .1) z h u (subst (λ (C : Counts). C .vertices ≤ u) counts-are k)));
         length-same = rw heights-are (length-from (length (g .heights)) hs);
       }
+
+-- ---- links and fates ignore heights: two runs that differ in heights alone
+pub run-ignores : (l : RunLent) (heights levels heights′ levels′ : List ℤ)
+    → (let g = surfaceRunLent l heights levels in HeightsGiven (runHeightsLent g) (l .counts) (surfaceOf g))
+    → (let g = surfaceRunLent l heights′ levels′ in HeightsGiven (runHeightsLent g) (l .counts) (surfaceOf g))
+    → surfaceRun (surfaceRunLent l heights levels) .call ≡ surfaceRun (surfaceRunLent l heights′ levels′) .call
+run-ignores l heights levels heights′ levels′ G G′ =
+    run-own (surfaceRunLent l heights levels) (given-tested _ _ _ G) ∙ sym (run-own (surfaceRunLent l heights′ levels′) (given-tested _ _ _ G′))
 
 -- ---- what is stored from
 module _ (g : SurfaceRunLent) (e : heightsTested (runHeightsLent g) (g .run .counts) (surfaceOf g) ≡ Accepted) where

@@ -5,14 +5,14 @@ use borrow.Author.Needs.{needs}
 use Rattle.fithmoul.proofs.fithmoul_check.Statement.{statement}
 use Rattle.fithmoul.proofs.fithmoul_check.Tie as tie
 
-check-requires : tie.Need-check-requires
-check-requires c κs = search needs
+check-surface-requires : tie.Need-check-surface-requires
+check-surface-requires c κs = search needs
 
 check-result-requires : tie.Need-check-result-requires
 check-result-requires c κs = search needs
 
 returns : tie.Need-returns
-returns c = c .check-result .ensures ∙ ap checkResult (c .before .check .ensures)
+returns c = c .check-result .ensures ∙ ap checkResult (c .before .check-surface .ensures)
 
 pub fithmoul-check-spec : {M : Type 1} → statement M
-fithmoul-check-spec = tie.close (tie.spec check-requires check-result-requires returns)
+fithmoul-check-spec = tie.close (tie.spec check-surface-requires check-result-requires returns)

@@ -10,7 +10,14 @@ use Rattle.fithmoul.proofs.results.FinishResult
 use Rattle.fithmoul.proofs.results.FinishResult.Laws as Laws''
 use Rattle.mesh.proofs.Counts
 use Rattle.mesh.proofs.Counts.Laws as Laws'3
+use Rattle.mesh_check.proofs.Checked
+use Rattle.mesh_check.proofs.Checked.Laws as Laws'4
+use Rattle.mesh_check.proofs.Refusal
+use Rattle.mesh_check.proofs.Refusal.Laws as Laws'5
 use borrow.Author.Called
+use borrow.Enum.Known
+use borrow.Enum.Match
+use borrow.Enum.Whole
 use borrow.Fn.Any
 use borrow.Fn.Call
 use borrow.Fn.Enter
@@ -18,10 +25,12 @@ use borrow.Fn.Frame
 use borrow.Fn.Function
 use borrow.Fn.Kinds
 use borrow.Fn.Plain
+use borrow.Kind.Bool
 use borrow.Kind.Float
 use borrow.Kind.MutSlice
 use borrow.Kind.Num
 use borrow.Kind.ShrSlice
+use borrow.Kind.Unit as Unit'
 use borrow.Kind.Value
 use borrow.Rule.AtSlots
 use borrow.Rule.Lifetime
@@ -30,9 +39,12 @@ use borrow.Rule.Scalar
 use borrow.Rule.Slice.Know
 use borrow.Rule.Slice.Mut
 use borrow.Rule.Slice.Relend
+use borrow.Rule.Slice.Reshare
 use borrow.Rule.Slice.Shared
+use borrow.Rule.Switch
 use borrow.Rule.Yields
 use borrow.Struct.Apart
+use borrow.Struct.CopyOut
 use borrow.Struct.Make
 use borrow.Table.Copies
 use borrow.Table.Own
@@ -43,10 +55,12 @@ use borrow.Table.Rows
 use borrow.Table.Typed
 use contract.Lifetimes
 use denote.Array
+use denote.Enum.Declared
+use denote.Enum.Laws as Laws'6
 use denote.Exit
 use denote.Signed
-use denote.Struct.Declared
-use denote.Struct.Laws as Laws'4
+use denote.Struct.Declared as Declared'
+use denote.Struct.Laws as Laws'7
 use denote.Triple.Clauses
 use denote.Triple.Statement
 use ghost.Atoms
@@ -60,6 +74,7 @@ use mir.Syntax
 use mir.Val
 use prog.Wp
 use types.Kit
+use types.Run
 
 abbrev ty·0 : Syntax.Ty
 ty·0 = Syntax.tyInt Syntax.w32
@@ -71,1607 +86,3103 @@ abbrev ty·2 : Syntax.Ty
 ty·2 = Syntax.tyFloat Ieee.binary64
 
 abbrev ty·3 : Syntax.Ty
-ty·3 = Syntax.tyRef Syntax.erased Syntax.mut ty·0
+ty·3 = Syntax.tyRef Syntax.erased Syntax.imm ty·0
 
 abbrev ty·4 : Syntax.Ty
-ty·4 = Syntax.tyRef Syntax.erased Syntax.mut ty·1
+ty·4 = Syntax.tyRef Syntax.erased Syntax.imm ty·1
 
 abbrev ty·5 : Syntax.Ty
-ty·5 = Syntax.tyRef (Syntax.named 0) Syntax.mut ty·0
+ty·5 = Syntax.tyRef Syntax.erased Syntax.mut ty·0
 
 abbrev ty·6 : Syntax.Ty
-ty·6 = Syntax.tyRef (Syntax.named 1) Syntax.mut ty·0
+ty·6 = Syntax.tyRef Syntax.erased Syntax.mut ty·1
 
 abbrev ty·7 : Syntax.Ty
-ty·7 = Syntax.tyRef (Syntax.named 2) Syntax.mut ty·0
+ty·7 = Syntax.tyRef (Syntax.named 0) Syntax.mut ty·0
 
 abbrev ty·8 : Syntax.Ty
-ty·8 = Syntax.tyRef (Syntax.named 3) Syntax.mut ty·0
+ty·8 = Syntax.tyRef (Syntax.named 1) Syntax.mut ty·0
 
 abbrev ty·9 : Syntax.Ty
-ty·9 = Syntax.tyRef (Syntax.named 5) Syntax.mut ty·0
+ty·9 = Syntax.tyRef (Syntax.named 2) Syntax.mut ty·0
 
 abbrev ty·10 : Syntax.Ty
-ty·10 = Syntax.tyRef (Syntax.named 6) Syntax.mut ty·0
+ty·10 = Syntax.tyRef (Syntax.named 3) Syntax.mut ty·0
 
 abbrev ty·11 : Syntax.Ty
-ty·11 = Syntax.tyRef (Syntax.named 7) Syntax.mut ty·0
+ty·11 = Syntax.tyRef (Syntax.named 4) Syntax.mut ty·0
 
 abbrev ty·12 : Syntax.Ty
-ty·12 = Syntax.tyRef (Syntax.named 8) Syntax.mut ty·1
+ty·12 = Syntax.tyRef (Syntax.named 6) Syntax.mut ty·0
 
 abbrev ty·13 : Syntax.Ty
-ty·13 = Syntax.tyRef (Syntax.named 9) Syntax.imm ty·0
+ty·13 = Syntax.tyRef (Syntax.named 7) Syntax.mut ty·0
 
 abbrev ty·14 : Syntax.Ty
-ty·14 = Syntax.tyRef Syntax.erased Syntax.mut (ELEMMEM.pointee (ELEM.the-row .written))
+ty·14 = Syntax.tyRef (Syntax.named 8) Syntax.mut ty·0
 
 abbrev ty·15 : Syntax.Ty
-ty·15 = Syntax.tyRef (Syntax.named 4) Syntax.mut (ELEMMEM.pointee (ELEM.the-row .written))
+ty·15 = Syntax.tyRef (Syntax.named 9) Syntax.mut ty·1
 
 abbrev ty·16 : Syntax.Ty
-ty·16 = Syntax.tyStruct (List._∷_ 38 (List._∷_ 91 (List._∷_ 93 List.[]))) (Syntax.tcons ty·3 (Syntax.tcons ty·1 Syntax.tnil))
+ty·16 = Syntax.tyRef (Syntax.named 10) Syntax.imm ty·0
 
 abbrev ty·17 : Syntax.Ty
-ty·17 = Syntax.tyStruct (List._∷_ 38 (List._∷_ 91 (List._∷_ 93 List.[]))) (Syntax.tcons ty·4 (Syntax.tcons ty·1 Syntax.tnil))
+ty·17 = Syntax.tyRef (Syntax.named 11) Syntax.imm ty·0
 
 abbrev ty·18 : Syntax.Ty
-ty·18 = Syntax.tyStruct (List._∷_ 38 (List._∷_ 91 (List._∷_ 93 List.[]))) (Syntax.tcons ty·14 (Syntax.tcons ty·1 Syntax.tnil))
+ty·18 = Syntax.tyRef Syntax.erased Syntax.mut (ELEMMEM.pointee (ELEM.the-row .written))
 
 abbrev ty·19 : Syntax.Ty
-ty·19 = Syntax.tyStruct (List._∷_ 97 (List._∷_ 110 (List._∷_ 103 (List._∷_ 108 (List._∷_ 101 (List._∷_ 58 (List._∷_ 58 (List._∷_ 80 (List._∷_ 111 (List._∷_ 105 (List._∷_ 110 (List._∷_ 116 (List._∷_ 50 List.[]))))))))))))) (Syntax.tcons ty·2 (Syntax.tcons ty·2 Syntax.tnil))
+ty·19 = Syntax.tyRef (Syntax.named 5) Syntax.mut (ELEMMEM.pointee (ELEM.the-row .written))
 
 abbrev ty·20 : Syntax.Ty
-ty·20 = Syntax.tyStruct (List._∷_ 109 (List._∷_ 101 (List._∷_ 115 (List._∷_ 104 (List._∷_ 58 (List._∷_ 58 (List._∷_ 67 (List._∷_ 111 (List._∷_ 117 (List._∷_ 110 (List._∷_ 116 (List._∷_ 115 List.[])))))))))))) (Syntax.tcons ty·0 (Syntax.tcons ty·0 (Syntax.tcons ty·0 Syntax.tnil)))
+ty·20 = Syntax.tyStruct (List._∷_ 38 (List._∷_ 91 (List._∷_ 93 List.[]))) (Syntax.tcons ty·3 (Syntax.tcons ty·1 Syntax.tnil))
 
 abbrev ty·21 : Syntax.Ty
-ty·21 = Syntax.tyStruct (List._∷_ 102 (List._∷_ 105 (List._∷_ 110 (List._∷_ 105 (List._∷_ 115 (List._∷_ 104 (List._∷_ 58 (List._∷_ 58 (List._∷_ 84 (List._∷_ 111 (List._∷_ 116 (List._∷_ 97 (List._∷_ 108 (List._∷_ 115 List.[])))))))))))))) (Syntax.tcons ty·0 (Syntax.tcons ty·1 (Syntax.tcons ty·1 Syntax.tnil)))
+ty·21 = Syntax.tyStruct (List._∷_ 38 (List._∷_ 91 (List._∷_ 93 List.[]))) (Syntax.tcons ty·4 (Syntax.tcons ty·1 Syntax.tnil))
 
 abbrev ty·22 : Syntax.Ty
-ty·22 = Syntax.tyStruct (List._∷_ 109 (List._∷_ 101 (List._∷_ 115 (List._∷_ 104 (List._∷_ 95 (List._∷_ 99 (List._∷_ 104 (List._∷_ 101 (List._∷_ 99 (List._∷_ 107 (List._∷_ 58 (List._∷_ 58 (List._∷_ 82 (List._∷_ 101 (List._∷_ 102 (List._∷_ 117 (List._∷_ 115 (List._∷_ 97 (List._∷_ 108 List.[]))))))))))))))))))) (Syntax.tcons ty·0 (Syntax.tcons ty·0 Syntax.tnil))
+ty·22 = Syntax.tyStruct (List._∷_ 38 (List._∷_ 91 (List._∷_ 93 List.[]))) (Syntax.tcons ty·5 (Syntax.tcons ty·1 Syntax.tnil))
 
 abbrev ty·23 : Syntax.Ty
-ty·23 = Syntax.tyStruct (List._∷_ 102 (List._∷_ 105 (List._∷_ 116 (List._∷_ 104 (List._∷_ 109 (List._∷_ 111 (List._∷_ 117 (List._∷_ 108 (List._∷_ 58 (List._∷_ 58 (List._∷_ 114 (List._∷_ 101 (List._∷_ 115 (List._∷_ 117 (List._∷_ 108 (List._∷_ 116 (List._∷_ 115 (List._∷_ 58 (List._∷_ 58 (List._∷_ 70 (List._∷_ 105 (List._∷_ 110 (List._∷_ 105 (List._∷_ 115 (List._∷_ 104 (List._∷_ 82 (List._∷_ 101 (List._∷_ 115 (List._∷_ 117 (List._∷_ 108 (List._∷_ 116 List.[]))))))))))))))))))))))))))))))) (Syntax.tcons ty·0 (Syntax.tcons ty·0 (Syntax.tcons ty·0 (Syntax.tcons ty·0 (Syntax.tcons ty·0 (Syntax.tcons ty·0 (Syntax.tcons ty·1 (Syntax.tcons ty·1 Syntax.tnil))))))))
+ty·23 = Syntax.tyStruct (List._∷_ 38 (List._∷_ 91 (List._∷_ 93 List.[]))) (Syntax.tcons ty·6 (Syntax.tcons ty·1 Syntax.tnil))
 
 abbrev ty·24 : Syntax.Ty
-ty·24 = Syntax.tyEnum (List._∷_ 102 (List._∷_ 105 (List._∷_ 110 (List._∷_ 105 (List._∷_ 115 (List._∷_ 104 (List._∷_ 58 (List._∷_ 58 (List._∷_ 70 (List._∷_ 105 (List._∷_ 110 (List._∷_ 105 (List._∷_ 115 (List._∷_ 104 (List._∷_ 101 (List._∷_ 100 List.[])))))))))))))))) (Syntax.ttcons (Syntax.tcons ty·21 Syntax.tnil) (Syntax.ttcons (Syntax.tcons ty·22 Syntax.tnil) Syntax.ttnil))
+ty·24 = Syntax.tyStruct (List._∷_ 38 (List._∷_ 91 (List._∷_ 93 List.[]))) (Syntax.tcons ty·18 (Syntax.tcons ty·1 Syntax.tnil))
 
 abbrev ty·25 : Syntax.Ty
-ty·25 = Syntax.tyStruct (List._∷_ 102 (List._∷_ 105 (List._∷_ 110 (List._∷_ 105 (List._∷_ 115 (List._∷_ 104 (List._∷_ 58 (List._∷_ 58 (List._∷_ 70 (List._∷_ 105 (List._∷_ 110 (List._∷_ 105 (List._∷_ 115 (List._∷_ 104 (List._∷_ 65 (List._∷_ 110 (List._∷_ 115 (List._∷_ 119 (List._∷_ 101 (List._∷_ 114 List.[])))))))))))))))))))) (Syntax.tcons ty·20 (Syntax.tcons ty·24 Syntax.tnil))
+ty·25 = Syntax.tyStruct (List._∷_ 97 (List._∷_ 110 (List._∷_ 103 (List._∷_ 108 (List._∷_ 101 (List._∷_ 58 (List._∷_ 58 (List._∷_ 80 (List._∷_ 111 (List._∷_ 105 (List._∷_ 110 (List._∷_ 116 (List._∷_ 50 List.[]))))))))))))) (Syntax.tcons ty·2 (Syntax.tcons ty·2 Syntax.tnil))
 
-abbrev pub ps : List.List (Kinds.PK 10)
-ps = List._∷_ (Num.pNum Syntax.w32) (List._∷_ (Num.pNum Syntax.w32) (List._∷_ (Num.pNum Syntax.w32) (List._∷_ (MutSlice.pMutS (Signed.SInt Syntax.w32) 0 tt) (List._∷_ (MutSlice.pMutS (Referent.rtF (Referent.fInt Syntax.w32)) 1 tt) (List._∷_ (MutSlice.pMutS (Referent.rtF (Referent.fInt Syntax.w32)) 2 tt) (List._∷_ (MutSlice.pMutS (Referent.rtF (Referent.fInt Syntax.w32)) 3 tt) (List._∷_ (MutSlice.pMutS ELEM.the-row 4 tt) (List._∷_ (MutSlice.pMutS (Referent.rtF (Referent.fInt Syntax.w32)) 5 tt) (List._∷_ (MutSlice.pMutS (Referent.rtF (Referent.fInt Syntax.w32)) 6 tt) (List._∷_ (MutSlice.pMutS (Referent.rtF (Referent.fInt Syntax.w32)) 7 tt) (List._∷_ (MutSlice.pMutS (Referent.rtF (Referent.fInt Syntax.w64)) 8 tt) (List._∷_ (Float.pFloat Ieee.binary64) (List._∷_ (Float.pFloat Ieee.binary64) (List._∷_ (ShrSlice.pShrS (Signed.SInt Syntax.w32) 9 tt) List.[]))))))))))))))
+abbrev ty·26 : Syntax.Ty
+ty·26 = Syntax.tyStruct (List._∷_ 109 (List._∷_ 101 (List._∷_ 115 (List._∷_ 104 (List._∷_ 58 (List._∷_ 58 (List._∷_ 67 (List._∷_ 111 (List._∷_ 117 (List._∷_ 110 (List._∷_ 116 (List._∷_ 115 List.[])))))))))))) (Syntax.tcons ty·0 (Syntax.tcons ty·0 (Syntax.tcons ty·0 Syntax.tnil)))
 
-abbrev pub r : Kinds.RK 10
-r = Value.rVal record { ty = Declared.row FinishResult.the-type; one = Path'.refl; val = Laws'4.val FinishResult.the-type Laws''.the-laws; tells = Laws'4.tells FinishResult.the-type Laws''.the-laws; still = Laws'4.still FinishResult.the-type Laws''.the-copy Exit.yes; row = Rows.whole (Declared.row FinishResult.the-type); rd = λ x. x; mk = λ x. x } λ M 𝓤 H A W. record { copies = Laws'4.copy FinishResult.the-type Laws''.the-copy 𝓤 H A W; lawful = Laws'4.lawful FinishResult.the-type Laws''.the-laws 𝓤 H A W; makes = Laws'4.makes FinishResult.the-type Laws''.the-plain 𝓤 H A; in-mem = Local.mem-whole 𝓤 H A W (Declared.row FinishResult.the-type); of-mem = Local.whole-mem 𝓤 H A W (Declared.row FinishResult.the-type) }
+abbrev ty·27 : Syntax.Ty
+ty·27 = Syntax.tyStruct (List._∷_ 102 (List._∷_ 105 (List._∷_ 110 (List._∷_ 105 (List._∷_ 115 (List._∷_ 104 (List._∷_ 58 (List._∷_ 58 (List._∷_ 84 (List._∷_ 111 (List._∷_ 116 (List._∷_ 97 (List._∷_ 108 (List._∷_ 115 List.[])))))))))))))) (Syntax.tcons ty·0 (Syntax.tcons ty·1 (Syntax.tcons ty·1 Syntax.tnil)))
+
+abbrev ty·28 : Syntax.Ty
+ty·28 = Syntax.tyStruct (List._∷_ 109 (List._∷_ 101 (List._∷_ 115 (List._∷_ 104 (List._∷_ 95 (List._∷_ 99 (List._∷_ 104 (List._∷_ 101 (List._∷_ 99 (List._∷_ 107 (List._∷_ 58 (List._∷_ 58 (List._∷_ 82 (List._∷_ 101 (List._∷_ 102 (List._∷_ 117 (List._∷_ 115 (List._∷_ 97 (List._∷_ 108 List.[]))))))))))))))))))) (Syntax.tcons ty·0 (Syntax.tcons ty·0 Syntax.tnil))
+
+abbrev ty·29 : Syntax.Ty
+ty·29 = Syntax.tyEnum (List._∷_ 109 (List._∷_ 101 (List._∷_ 115 (List._∷_ 104 (List._∷_ 95 (List._∷_ 99 (List._∷_ 104 (List._∷_ 101 (List._∷_ 99 (List._∷_ 107 (List._∷_ 58 (List._∷_ 58 (List._∷_ 67 (List._∷_ 104 (List._∷_ 101 (List._∷_ 99 (List._∷_ 107 (List._∷_ 101 (List._∷_ 100 List.[]))))))))))))))))))) (Syntax.ttcons Syntax.tnil (Syntax.ttcons (Syntax.tcons ty·28 Syntax.tnil) Syntax.ttnil))
+
+abbrev ty·30 : Syntax.Ty
+ty·30 = Syntax.tyStruct (List._∷_ 102 (List._∷_ 105 (List._∷_ 116 (List._∷_ 104 (List._∷_ 109 (List._∷_ 111 (List._∷_ 117 (List._∷_ 108 (List._∷_ 58 (List._∷_ 58 (List._∷_ 114 (List._∷_ 101 (List._∷_ 115 (List._∷_ 117 (List._∷_ 108 (List._∷_ 116 (List._∷_ 115 (List._∷_ 58 (List._∷_ 58 (List._∷_ 70 (List._∷_ 105 (List._∷_ 110 (List._∷_ 105 (List._∷_ 115 (List._∷_ 104 (List._∷_ 82 (List._∷_ 101 (List._∷_ 115 (List._∷_ 117 (List._∷_ 108 (List._∷_ 116 List.[]))))))))))))))))))))))))))))))) (Syntax.tcons ty·0 (Syntax.tcons ty·0 (Syntax.tcons ty·0 (Syntax.tcons ty·0 (Syntax.tcons ty·0 (Syntax.tcons ty·0 (Syntax.tcons ty·1 (Syntax.tcons ty·1 Syntax.tnil))))))))
+
+abbrev ty·31 : Syntax.Ty
+ty·31 = Syntax.tyEnum (List._∷_ 102 (List._∷_ 105 (List._∷_ 110 (List._∷_ 105 (List._∷_ 115 (List._∷_ 104 (List._∷_ 58 (List._∷_ 58 (List._∷_ 70 (List._∷_ 105 (List._∷_ 110 (List._∷_ 105 (List._∷_ 115 (List._∷_ 104 (List._∷_ 101 (List._∷_ 100 List.[])))))))))))))))) (Syntax.ttcons (Syntax.tcons ty·27 Syntax.tnil) (Syntax.ttcons (Syntax.tcons ty·28 Syntax.tnil) Syntax.ttnil))
+
+abbrev ty·32 : Syntax.Ty
+ty·32 = Syntax.tyStruct (List._∷_ 102 (List._∷_ 105 (List._∷_ 110 (List._∷_ 105 (List._∷_ 115 (List._∷_ 104 (List._∷_ 58 (List._∷_ 58 (List._∷_ 70 (List._∷_ 105 (List._∷_ 110 (List._∷_ 105 (List._∷_ 115 (List._∷_ 104 (List._∷_ 65 (List._∷_ 110 (List._∷_ 115 (List._∷_ 119 (List._∷_ 101 (List._∷_ 114 List.[])))))))))))))))))))) (Syntax.tcons ty·26 (Syntax.tcons ty·31 Syntax.tnil))
+
+abbrev pub ps : List.List (Kinds.PK 12)
+ps = List._∷_ (Num.pNum Syntax.w32) (List._∷_ (Num.pNum Syntax.w32) (List._∷_ (Num.pNum Syntax.w32) (List._∷_ (MutSlice.pMutS (Signed.SInt Syntax.w32) 0 tt) (List._∷_ (MutSlice.pMutS (Signed.SInt Syntax.w32) 1 tt) (List._∷_ (MutSlice.pMutS (Referent.rtF (Referent.fInt Syntax.w32)) 2 tt) (List._∷_ (MutSlice.pMutS (Referent.rtF (Referent.fInt Syntax.w32)) 3 tt) (List._∷_ (MutSlice.pMutS (Referent.rtF (Referent.fInt Syntax.w32)) 4 tt) (List._∷_ (MutSlice.pMutS ELEM.the-row 5 tt) (List._∷_ (MutSlice.pMutS (Referent.rtF (Referent.fInt Syntax.w32)) 6 tt) (List._∷_ (MutSlice.pMutS (Referent.rtF (Referent.fInt Syntax.w32)) 7 tt) (List._∷_ (MutSlice.pMutS (Referent.rtF (Referent.fInt Syntax.w32)) 8 tt) (List._∷_ (MutSlice.pMutS (Referent.rtF (Referent.fInt Syntax.w64)) 9 tt) (List._∷_ (Float.pFloat Ieee.binary64) (List._∷_ (Float.pFloat Ieee.binary64) (List._∷_ (ShrSlice.pShrS (Signed.SInt Syntax.w32) 10 tt) (List._∷_ (ShrSlice.pShrS (Signed.SInt Syntax.w32) 11 tt) List.[]))))))))))))))))
+
+abbrev pub r : Kinds.RK 12
+r = Value.rVal record { ty = Declared'.row FinishResult.the-type; one = Path'.refl; val = Laws'7.val FinishResult.the-type Laws''.the-laws; tells = Laws'7.tells FinishResult.the-type Laws''.the-laws; still = Laws'7.still FinishResult.the-type Laws''.the-copy Exit.yes; row = Rows.whole (Declared'.row FinishResult.the-type); rd = λ x. x; mk = λ x. x } λ M 𝓤 H A W. record { copies = Laws'7.copy FinishResult.the-type Laws''.the-copy 𝓤 H A W; lawful = Laws'7.lawful FinishResult.the-type Laws''.the-laws 𝓤 H A W; makes = Laws'7.makes FinishResult.the-type Laws''.the-plain 𝓤 H A; in-mem = Local.mem-whole 𝓤 H A W (Declared'.row FinishResult.the-type); of-mem = Local.whole-mem 𝓤 H A W (Declared'.row FinishResult.the-type) }
 
 abbrev pub xs : List.List Syntax.Ty
-xs = List._∷_ ty·20 (List._∷_ ty·19 (List._∷_ ty·25 (List._∷_ ty·3 (List._∷_ ty·16 (List._∷_ ty·3 (List._∷_ ty·16 (List._∷_ ty·3 (List._∷_ ty·16 (List._∷_ ty·3 (List._∷_ ty·16 (List._∷_ ty·14 (List._∷_ ty·18 (List._∷_ ty·3 (List._∷_ ty·16 (List._∷_ ty·3 (List._∷_ ty·16 (List._∷_ ty·3 (List._∷_ ty·16 (List._∷_ ty·4 (List._∷_ ty·17 List.[]))))))))))))))))))))
+xs = List._∷_ ty·26 (List._∷_ ty·25 (List._∷_ Syntax.tyBool (List._∷_ ty·29 (List._∷_ ty·28 (List._∷_ ty·32 (List._∷_ ty·1 (List._∷_ ty·3 (List._∷_ ty·20 (List._∷_ ty·3 (List._∷_ ty·20 (List._∷_ ty·3 (List._∷_ ty·20 (List._∷_ ty·3 (List._∷_ ty·20 (List._∷_ ty·3 (List._∷_ ty·20 (List._∷_ ty·1 (List._∷_ ty·1 (List._∷_ ty·1 (List._∷_ ty·5 (List._∷_ ty·22 (List._∷_ ty·5 (List._∷_ ty·22 (List._∷_ ty·5 (List._∷_ ty·22 (List._∷_ ty·5 (List._∷_ ty·22 (List._∷_ ty·18 (List._∷_ ty·24 (List._∷_ ty·5 (List._∷_ ty·22 (List._∷_ ty·5 (List._∷_ ty·22 (List._∷_ ty·5 (List._∷_ ty·22 (List._∷_ ty·6 (List._∷_ ty·23 (List._∷_ Syntax.tyUnit (List._∷_ ty·5 (List._∷_ ty·22 (List._∷_ ty·4 (List._∷_ ty·21 List.[]))))))))))))))))))))))))))))))))))))))))))
 
 abbrev pub m : Nat.ℕ
-m = 9
+m = 16
 
-abbrev pub ps·0 : List.List (Kinds.PK 10)
-ps·0 = List._∷_ (Value.pVal record { ty = Declared.row Counts.the-type; one = Path'.refl; val = Laws'4.val Counts.the-type Laws'3.the-laws; tells = Laws'4.tells Counts.the-type Laws'3.the-laws; still = Laws'4.still Counts.the-type Laws'3.the-copy Exit.yes; row = Rows.whole (Declared.row Counts.the-type); rd = λ x. x; mk = λ x. x } λ M 𝓤 H A W. record { copies = Laws'4.copy Counts.the-type Laws'3.the-copy 𝓤 H A W; lawful = Laws'4.lawful Counts.the-type Laws'3.the-laws 𝓤 H A W; makes = Laws'4.makes Counts.the-type Laws'3.the-plain 𝓤 H A; in-mem = Local.mem-whole 𝓤 H A W (Declared.row Counts.the-type); of-mem = Local.whole-mem 𝓤 H A W (Declared.row Counts.the-type) }) (List._∷_ (MutSlice.pMutS (Signed.SInt Syntax.w32) 0 tt) (List._∷_ (MutSlice.pMutS (Referent.rtF (Referent.fInt Syntax.w32)) 1 tt) (List._∷_ (MutSlice.pMutS (Referent.rtF (Referent.fInt Syntax.w32)) 2 tt) (List._∷_ (MutSlice.pMutS (Referent.rtF (Referent.fInt Syntax.w32)) 3 tt) (List._∷_ (MutSlice.pMutS ELEM.the-row 4 tt) (List._∷_ (MutSlice.pMutS (Referent.rtF (Referent.fInt Syntax.w32)) 5 tt) (List._∷_ (MutSlice.pMutS (Referent.rtF (Referent.fInt Syntax.w32)) 6 tt) (List._∷_ (MutSlice.pMutS (Referent.rtF (Referent.fInt Syntax.w32)) 7 tt) (List._∷_ (MutSlice.pMutS (Referent.rtF (Referent.fInt Syntax.w64)) 8 tt) (List._∷_ (Value.pVal record { ty = Declared.row Point2.the-type; one = Path'.refl; val = Laws'4.val Point2.the-type Laws.the-laws; tells = Laws'4.tells Point2.the-type Laws.the-laws; still = Laws'4.still Point2.the-type Laws.the-copy Exit.yes; row = Rows.whole (Declared.row Point2.the-type); rd = λ x. x; mk = λ x. x } λ M 𝓤 H A W. record { copies = Laws'4.copy Point2.the-type Laws.the-copy 𝓤 H A W; lawful = Laws'4.lawful Point2.the-type Laws.the-laws 𝓤 H A W; makes = Laws'4.makes Point2.the-type Laws.the-plain 𝓤 H A; in-mem = Local.mem-whole 𝓤 H A W (Declared.row Point2.the-type); of-mem = Local.whole-mem 𝓤 H A W (Declared.row Point2.the-type) }) (List._∷_ (ShrSlice.pShrS (Signed.SInt Syntax.w32) 9 tt) List.[])))))))))))
+abbrev pub ps·0 : List.List (Kinds.PK 1)
+ps·0 = List._∷_ (Num.pNum Syntax.w64) (List._∷_ (ShrSlice.pShrS (Signed.SInt Syntax.w32) 0 tt) List.[])
 
-abbrev pub r·0 : Kinds.RK 10
-r·0 = Value.rVal record { ty = Declared.row FinishAnswer.the-type; one = Path'.refl; val = Laws'4.val FinishAnswer.the-type Laws'.the-laws; tells = Laws'4.tells FinishAnswer.the-type Laws'.the-laws; still = Laws'4.still FinishAnswer.the-type Laws'.the-copy Exit.yes; row = Rows.whole (Declared.row FinishAnswer.the-type); rd = λ x. x; mk = λ x. x } λ M 𝓤 H A W. record { copies = Laws'4.copy FinishAnswer.the-type Laws'.the-copy 𝓤 H A W; lawful = Laws'4.lawful FinishAnswer.the-type Laws'.the-laws 𝓤 H A W; makes = Laws'4.makes FinishAnswer.the-type Laws'.the-plain 𝓤 H A; in-mem = Local.mem-whole 𝓤 H A W (Declared.row FinishAnswer.the-type); of-mem = Local.whole-mem 𝓤 H A W (Declared.row FinishAnswer.the-type) }
+abbrev pub r·0 : Kinds.RK 1
+r·0 = Bool.rBool
 
-abbrev pub ps·1 : List.List (Kinds.PK 0)
-ps·1 = List._∷_ (Value.pVal record { ty = Declared.row FinishAnswer.the-type; one = Path'.refl; val = Laws'4.val FinishAnswer.the-type Laws'.the-laws; tells = Laws'4.tells FinishAnswer.the-type Laws'.the-laws; still = Laws'4.still FinishAnswer.the-type Laws'.the-copy Exit.yes; row = Rows.whole (Declared.row FinishAnswer.the-type); rd = λ x. x; mk = λ x. x } λ M 𝓤 H A W. record { copies = Laws'4.copy FinishAnswer.the-type Laws'.the-copy 𝓤 H A W; lawful = Laws'4.lawful FinishAnswer.the-type Laws'.the-laws 𝓤 H A W; makes = Laws'4.makes FinishAnswer.the-type Laws'.the-plain 𝓤 H A; in-mem = Local.mem-whole 𝓤 H A W (Declared.row FinishAnswer.the-type); of-mem = Local.whole-mem 𝓤 H A W (Declared.row FinishAnswer.the-type) }) List.[]
+abbrev pub ps·1 : List.List (Kinds.PK 7)
+ps·1 = List._∷_ (ShrSlice.pShrS (Signed.SInt Syntax.w32) 0 tt) (List._∷_ (ShrSlice.pShrS (Signed.SInt Syntax.w32) 1 tt) (List._∷_ (Value.pVal record { ty = Declared'.row Counts.the-type; one = Path'.refl; val = Laws'7.val Counts.the-type Laws'3.the-laws; tells = Laws'7.tells Counts.the-type Laws'3.the-laws; still = Laws'7.still Counts.the-type Laws'3.the-copy Exit.yes; row = Rows.whole (Declared'.row Counts.the-type); rd = λ x. x; mk = λ x. x } λ M 𝓤 H A W. record { copies = Laws'7.copy Counts.the-type Laws'3.the-copy 𝓤 H A W; lawful = Laws'7.lawful Counts.the-type Laws'3.the-laws 𝓤 H A W; makes = Laws'7.makes Counts.the-type Laws'3.the-plain 𝓤 H A; in-mem = Local.mem-whole 𝓤 H A W (Declared'.row Counts.the-type); of-mem = Local.whole-mem 𝓤 H A W (Declared'.row Counts.the-type) }) (List._∷_ (ShrSlice.pShrS (Signed.SInt Syntax.w32) 2 tt) (List._∷_ (ShrSlice.pShrS (Signed.SInt Syntax.w32) 3 tt) (List._∷_ (ShrSlice.pShrS (Referent.rtF (Referent.fInt Syntax.w32)) 4 tt) (List._∷_ (ShrSlice.pShrS (Referent.rtF (Referent.fInt Syntax.w32)) 5 tt) (List._∷_ (ShrSlice.pShrS (Referent.rtF (Referent.fInt Syntax.w32)) 6 tt) (List._∷_ (Num.pNum Syntax.w64) (List._∷_ (Num.pNum Syntax.w64) (List._∷_ (Num.pNum Syntax.w64) (List._∷_ (Num.pNum Syntax.w64) (List._∷_ Bool.pBool List.[]))))))))))))
 
-abbrev pub r·1 : Kinds.RK 0
-r·1 = Value.rVal record { ty = Declared.row FinishResult.the-type; one = Path'.refl; val = Laws'4.val FinishResult.the-type Laws''.the-laws; tells = Laws'4.tells FinishResult.the-type Laws''.the-laws; still = Laws'4.still FinishResult.the-type Laws''.the-copy Exit.yes; row = Rows.whole (Declared.row FinishResult.the-type); rd = λ x. x; mk = λ x. x } λ M 𝓤 H A W. record { copies = Laws'4.copy FinishResult.the-type Laws''.the-copy 𝓤 H A W; lawful = Laws'4.lawful FinishResult.the-type Laws''.the-laws 𝓤 H A W; makes = Laws'4.makes FinishResult.the-type Laws''.the-plain 𝓤 H A; in-mem = Local.mem-whole 𝓤 H A W (Declared.row FinishResult.the-type); of-mem = Local.whole-mem 𝓤 H A W (Declared.row FinishResult.the-type) }
+abbrev pub r·1 : Kinds.RK 7
+r·1 = Value.rVal record { ty = Declared.row Checked.the-type; one = Path'.refl; val = Laws'6.val Checked.the-type Laws'4.the-laws; tells = Laws'6.tells Checked.the-type Laws'4.the-laws; still = Laws'6.still Checked.the-type Laws'4.the-copy Exit.yes; row = Rows.whole (Declared.row Checked.the-type); rd = λ x. x; mk = λ x. x } λ M 𝓤 H A W. record { copies = Laws'6.copy Checked.the-type Laws'4.the-copy 𝓤 H A W; lawful = Laws'6.lawful Checked.the-type Laws'4.the-laws 𝓤 H A W tt; makes = Laws'6.makes Checked.the-type Laws'4.the-plain 𝓤 H A; in-mem = Local.mem-whole 𝓤 H A W (Declared.row Checked.the-type); of-mem = Local.whole-mem 𝓤 H A W (Declared.row Checked.the-type) }
+
+abbrev pub ps·2 : List.List (Kinds.PK 0)
+ps·2 = List._∷_ (Value.pVal record { ty = Declared'.row Counts.the-type; one = Path'.refl; val = Laws'7.val Counts.the-type Laws'3.the-laws; tells = Laws'7.tells Counts.the-type Laws'3.the-laws; still = Laws'7.still Counts.the-type Laws'3.the-copy Exit.yes; row = Rows.whole (Declared'.row Counts.the-type); rd = λ x. x; mk = λ x. x } λ M 𝓤 H A W. record { copies = Laws'7.copy Counts.the-type Laws'3.the-copy 𝓤 H A W; lawful = Laws'7.lawful Counts.the-type Laws'3.the-laws 𝓤 H A W; makes = Laws'7.makes Counts.the-type Laws'3.the-plain 𝓤 H A; in-mem = Local.mem-whole 𝓤 H A W (Declared'.row Counts.the-type); of-mem = Local.whole-mem 𝓤 H A W (Declared'.row Counts.the-type) }) (List._∷_ (Value.pVal record { ty = Declared'.row Refusal.the-type; one = Path'.refl; val = Laws'7.val Refusal.the-type Laws'5.the-laws; tells = Laws'7.tells Refusal.the-type Laws'5.the-laws; still = Laws'7.still Refusal.the-type Laws'5.the-copy Exit.yes; row = Rows.whole (Declared'.row Refusal.the-type); rd = λ x. x; mk = λ x. x } λ M 𝓤 H A W. record { copies = Laws'7.copy Refusal.the-type Laws'5.the-copy 𝓤 H A W; lawful = Laws'7.lawful Refusal.the-type Laws'5.the-laws 𝓤 H A W; makes = Laws'7.makes Refusal.the-type Laws'5.the-plain 𝓤 H A; in-mem = Local.mem-whole 𝓤 H A W (Declared'.row Refusal.the-type); of-mem = Local.whole-mem 𝓤 H A W (Declared'.row Refusal.the-type) }) List.[])
+
+abbrev pub r·2 : Kinds.RK 0
+r·2 = Value.rVal record { ty = Declared'.row FinishResult.the-type; one = Path'.refl; val = Laws'7.val FinishResult.the-type Laws''.the-laws; tells = Laws'7.tells FinishResult.the-type Laws''.the-laws; still = Laws'7.still FinishResult.the-type Laws''.the-copy Exit.yes; row = Rows.whole (Declared'.row FinishResult.the-type); rd = λ x. x; mk = λ x. x } λ M 𝓤 H A W. record { copies = Laws'7.copy FinishResult.the-type Laws''.the-copy 𝓤 H A W; lawful = Laws'7.lawful FinishResult.the-type Laws''.the-laws 𝓤 H A W; makes = Laws'7.makes FinishResult.the-type Laws''.the-plain 𝓤 H A; in-mem = Local.mem-whole 𝓤 H A W (Declared'.row FinishResult.the-type); of-mem = Local.whole-mem 𝓤 H A W (Declared'.row FinishResult.the-type) }
+
+abbrev pub ps·3 : List.List (Kinds.PK 10)
+ps·3 = List._∷_ (Value.pVal record { ty = Declared'.row Counts.the-type; one = Path'.refl; val = Laws'7.val Counts.the-type Laws'3.the-laws; tells = Laws'7.tells Counts.the-type Laws'3.the-laws; still = Laws'7.still Counts.the-type Laws'3.the-copy Exit.yes; row = Rows.whole (Declared'.row Counts.the-type); rd = λ x. x; mk = λ x. x } λ M 𝓤 H A W. record { copies = Laws'7.copy Counts.the-type Laws'3.the-copy 𝓤 H A W; lawful = Laws'7.lawful Counts.the-type Laws'3.the-laws 𝓤 H A W; makes = Laws'7.makes Counts.the-type Laws'3.the-plain 𝓤 H A; in-mem = Local.mem-whole 𝓤 H A W (Declared'.row Counts.the-type); of-mem = Local.whole-mem 𝓤 H A W (Declared'.row Counts.the-type) }) (List._∷_ (MutSlice.pMutS (Signed.SInt Syntax.w32) 0 tt) (List._∷_ (MutSlice.pMutS (Referent.rtF (Referent.fInt Syntax.w32)) 1 tt) (List._∷_ (MutSlice.pMutS (Referent.rtF (Referent.fInt Syntax.w32)) 2 tt) (List._∷_ (MutSlice.pMutS (Referent.rtF (Referent.fInt Syntax.w32)) 3 tt) (List._∷_ (MutSlice.pMutS ELEM.the-row 4 tt) (List._∷_ (MutSlice.pMutS (Referent.rtF (Referent.fInt Syntax.w32)) 5 tt) (List._∷_ (MutSlice.pMutS (Referent.rtF (Referent.fInt Syntax.w32)) 6 tt) (List._∷_ (MutSlice.pMutS (Referent.rtF (Referent.fInt Syntax.w32)) 7 tt) (List._∷_ (MutSlice.pMutS (Referent.rtF (Referent.fInt Syntax.w64)) 8 tt) (List._∷_ (Value.pVal record { ty = Declared'.row Point2.the-type; one = Path'.refl; val = Laws'7.val Point2.the-type Laws.the-laws; tells = Laws'7.tells Point2.the-type Laws.the-laws; still = Laws'7.still Point2.the-type Laws.the-copy Exit.yes; row = Rows.whole (Declared'.row Point2.the-type); rd = λ x. x; mk = λ x. x } λ M 𝓤 H A W. record { copies = Laws'7.copy Point2.the-type Laws.the-copy 𝓤 H A W; lawful = Laws'7.lawful Point2.the-type Laws.the-laws 𝓤 H A W; makes = Laws'7.makes Point2.the-type Laws.the-plain 𝓤 H A; in-mem = Local.mem-whole 𝓤 H A W (Declared'.row Point2.the-type); of-mem = Local.whole-mem 𝓤 H A W (Declared'.row Point2.the-type) }) (List._∷_ (ShrSlice.pShrS (Signed.SInt Syntax.w32) 9 tt) List.[])))))))))))
+
+abbrev pub r·3 : Kinds.RK 10
+r·3 = Value.rVal record { ty = Declared'.row FinishAnswer.the-type; one = Path'.refl; val = Laws'7.val FinishAnswer.the-type Laws'.the-laws; tells = Laws'7.tells FinishAnswer.the-type Laws'.the-laws; still = Laws'7.still FinishAnswer.the-type Laws'.the-copy Exit.yes; row = Rows.whole (Declared'.row FinishAnswer.the-type); rd = λ x. x; mk = λ x. x } λ M 𝓤 H A W. record { copies = Laws'7.copy FinishAnswer.the-type Laws'.the-copy 𝓤 H A W; lawful = Laws'7.lawful FinishAnswer.the-type Laws'.the-laws 𝓤 H A W; makes = Laws'7.makes FinishAnswer.the-type Laws'.the-plain 𝓤 H A; in-mem = Local.mem-whole 𝓤 H A W (Declared'.row FinishAnswer.the-type); of-mem = Local.whole-mem 𝓤 H A W (Declared'.row FinishAnswer.the-type) }
+
+abbrev pub ps·4 : List.List (Kinds.PK 4)
+ps·4 = List._∷_ (MutSlice.pMutS (Signed.SInt Syntax.w32) 0 tt) (List._∷_ (ShrSlice.pShrS (Referent.rtF (Referent.fInt Syntax.w64)) 1 tt) (List._∷_ (ShrSlice.pShrS (Signed.SInt Syntax.w32) 2 tt) (List._∷_ (ShrSlice.pShrS (Signed.SInt Syntax.w32) 3 tt) (List._∷_ (Num.pNum Syntax.w32) (List._∷_ (Value.pVal record { ty = Declared'.row FinishAnswer.the-type; one = Path'.refl; val = Laws'7.val FinishAnswer.the-type Laws'.the-laws; tells = Laws'7.tells FinishAnswer.the-type Laws'.the-laws; still = Laws'7.still FinishAnswer.the-type Laws'.the-copy Exit.yes; row = Rows.whole (Declared'.row FinishAnswer.the-type); rd = λ x. x; mk = λ x. x } λ M 𝓤 H A W. record { copies = Laws'7.copy FinishAnswer.the-type Laws'.the-copy 𝓤 H A W; lawful = Laws'7.lawful FinishAnswer.the-type Laws'.the-laws 𝓤 H A W; makes = Laws'7.makes FinishAnswer.the-type Laws'.the-plain 𝓤 H A; in-mem = Local.mem-whole 𝓤 H A W (Declared'.row FinishAnswer.the-type); of-mem = Local.whole-mem 𝓤 H A W (Declared'.row FinishAnswer.the-type) }) List.[])))))
+
+abbrev pub r·4 : Kinds.RK 4
+r·4 = Unit'.rUnit
+
+abbrev pub ps·5 : List.List (Kinds.PK 0)
+ps·5 = List._∷_ (Value.pVal record { ty = Declared'.row FinishAnswer.the-type; one = Path'.refl; val = Laws'7.val FinishAnswer.the-type Laws'.the-laws; tells = Laws'7.tells FinishAnswer.the-type Laws'.the-laws; still = Laws'7.still FinishAnswer.the-type Laws'.the-copy Exit.yes; row = Rows.whole (Declared'.row FinishAnswer.the-type); rd = λ x. x; mk = λ x. x } λ M 𝓤 H A W. record { copies = Laws'7.copy FinishAnswer.the-type Laws'.the-copy 𝓤 H A W; lawful = Laws'7.lawful FinishAnswer.the-type Laws'.the-laws 𝓤 H A W; makes = Laws'7.makes FinishAnswer.the-type Laws'.the-plain 𝓤 H A; in-mem = Local.mem-whole 𝓤 H A W (Declared'.row FinishAnswer.the-type); of-mem = Local.whole-mem 𝓤 H A W (Declared'.row FinishAnswer.the-type) }) List.[]
+
+abbrev pub r·5 : Kinds.RK 0
+r·5 = Value.rVal record { ty = Declared'.row FinishResult.the-type; one = Path'.refl; val = Laws'7.val FinishResult.the-type Laws''.the-laws; tells = Laws'7.tells FinishResult.the-type Laws''.the-laws; still = Laws'7.still FinishResult.the-type Laws''.the-copy Exit.yes; row = Rows.whole (Declared'.row FinishResult.the-type); rd = λ x. x; mk = λ x. x } λ M 𝓤 H A W. record { copies = Laws'7.copy FinishResult.the-type Laws''.the-copy 𝓤 H A W; lawful = Laws'7.lawful FinishResult.the-type Laws''.the-laws 𝓤 H A W; makes = Laws'7.makes FinishResult.the-type Laws''.the-plain 𝓤 H A; in-mem = Local.mem-whole 𝓤 H A W (Declared'.row FinishResult.the-type); of-mem = Local.whole-mem 𝓤 H A W (Declared'.row FinishResult.the-type) }
 
 abbrev pub hs : List.List Syntax.Home
-hs = List._∷_ Syntax.valueLocal (List._∷_ Syntax.valueLocal (List._∷_ Syntax.valueLocal (List._∷_ Syntax.valueLocal (List._∷_ Syntax.valueLocal (List._∷_ Syntax.valueLocal (List._∷_ Syntax.valueLocal (List._∷_ Syntax.valueLocal (List._∷_ Syntax.valueLocal (List._∷_ Syntax.valueLocal (List._∷_ Syntax.valueLocal (List._∷_ Syntax.valueLocal (List._∷_ Syntax.valueLocal (List._∷_ Syntax.valueLocal (List._∷_ Syntax.valueLocal (List._∷_ Syntax.valueLocal (List._∷_ Syntax.valueLocal (List._∷_ Syntax.valueLocal (List._∷_ Syntax.valueLocal (List._∷_ Syntax.valueLocal (List._∷_ Syntax.valueLocal (List._∷_ Syntax.valueLocal (List._∷_ Syntax.valueLocal (List._∷_ Syntax.valueLocal (List._∷_ Syntax.valueLocal (List._∷_ Syntax.valueLocal (List._∷_ Syntax.valueLocal (List._∷_ Syntax.valueLocal (List._∷_ Syntax.valueLocal (List._∷_ Syntax.valueLocal (List._∷_ Syntax.valueLocal (List._∷_ Syntax.valueLocal (List._∷_ Syntax.valueLocal (List._∷_ Syntax.valueLocal (List._∷_ Syntax.valueLocal (List._∷_ Syntax.valueLocal (List._∷_ Syntax.valueLocal List.[]))))))))))))))))))))))))))))))))))))
+hs = List._∷_ Syntax.valueLocal (List._∷_ Syntax.valueLocal (List._∷_ Syntax.valueLocal (List._∷_ Syntax.valueLocal (List._∷_ Syntax.valueLocal (List._∷_ Syntax.valueLocal (List._∷_ Syntax.valueLocal (List._∷_ Syntax.valueLocal (List._∷_ Syntax.valueLocal (List._∷_ Syntax.valueLocal (List._∷_ Syntax.valueLocal (List._∷_ Syntax.valueLocal (List._∷_ Syntax.valueLocal (List._∷_ Syntax.valueLocal (List._∷_ Syntax.valueLocal (List._∷_ Syntax.valueLocal (List._∷_ Syntax.valueLocal (List._∷_ Syntax.valueLocal (List._∷_ Syntax.valueLocal (List._∷_ Syntax.valueLocal (List._∷_ Syntax.valueLocal (List._∷_ Syntax.valueLocal (List._∷_ Syntax.valueLocal (List._∷_ Syntax.valueLocal (List._∷_ Syntax.valueLocal (List._∷_ Syntax.valueLocal (List._∷_ Syntax.valueLocal (List._∷_ Syntax.valueLocal (List._∷_ Syntax.valueLocal (List._∷_ Syntax.valueLocal (List._∷_ Syntax.valueLocal (List._∷_ Syntax.valueLocal (List._∷_ Syntax.valueLocal (List._∷_ Syntax.valueLocal (List._∷_ Syntax.valueLocal (List._∷_ Syntax.valueLocal (List._∷_ Syntax.valueLocal (List._∷_ Syntax.valueLocal (List._∷_ Syntax.valueLocal (List._∷_ Syntax.valueLocal (List._∷_ Syntax.valueLocal (List._∷_ Syntax.valueLocal (List._∷_ Syntax.valueLocal (List._∷_ Syntax.valueLocal (List._∷_ Syntax.valueLocal (List._∷_ Syntax.valueLocal (List._∷_ Syntax.valueLocal (List._∷_ Syntax.valueLocal (List._∷_ Syntax.valueLocal (List._∷_ Syntax.valueLocal (List._∷_ Syntax.valueLocal (List._∷_ Syntax.valueLocal (List._∷_ Syntax.valueLocal (List._∷_ Syntax.valueLocal (List._∷_ Syntax.valueLocal (List._∷_ Syntax.valueLocal (List._∷_ Syntax.valueLocal (List._∷_ Syntax.valueLocal (List._∷_ Syntax.valueLocal (List._∷_ Syntax.valueLocal (List._∷_ Syntax.valueLocal List.[]))))))))))))))))))))))))))))))))))))))))))))))))))))))))))))
 
 abbrev b0 : Syntax.Body
-b0 = Syntax.assign (Syntax.place 16 List.[]) (Syntax.aggregate (List._∷_ (Syntax.copy (Syntax.place 1 List.[])) (List._∷_ (Syntax.copy (Syntax.place 2 List.[])) (List._∷_ (Syntax.copy (Syntax.place 3 List.[])) List.[]))))
+b0 = Syntax.assign (Syntax.place 18 List.[]) (Syntax.aggregate (List._∷_ (Syntax.copy (Syntax.place 1 List.[])) (List._∷_ (Syntax.copy (Syntax.place 2 List.[])) (List._∷_ (Syntax.copy (Syntax.place 3 List.[])) List.[]))))
 
 abbrev b1 : Syntax.Body
-b1 = Syntax.assign (Syntax.place 17 List.[]) (Syntax.aggregate (List._∷_ (Syntax.copy (Syntax.place 13 List.[])) (List._∷_ (Syntax.copy (Syntax.place 14 List.[])) List.[])))
+b1 = Syntax.assign (Syntax.place 19 List.[]) (Syntax.aggregate (List._∷_ (Syntax.copy (Syntax.place 14 List.[])) (List._∷_ (Syntax.copy (Syntax.place 15 List.[])) List.[])))
 
 abbrev b2 : Syntax.Body
-b2 = Syntax.assign (Syntax.place 19 List.[]) (Syntax.addrOf (Syntax.place 4 (List._∷_ (Syntax.field 0) (List._∷_ (Syntax.deref ty·0) List.[]))))
+b2 = Syntax.assign (Syntax.place 24 List.[]) (Syntax.rvOpd (Syntax.copy (Syntax.place 13 (List._∷_ (Syntax.field 1) List.[]))))
 
 abbrev b3 : Syntax.Body
-b3 = Syntax.assign (Syntax.place 20 List.[]) (Syntax.aggregate (List._∷_ (Syntax.copy (Syntax.place 19 List.[])) (List._∷_ (Syntax.copy (Syntax.place 4 (List._∷_ (Syntax.field 1) List.[]))) List.[])))
+b3 = Syntax.call "run::answers_short" (List._∷_ (Syntax.copy (Syntax.place 24 List.[])) (List._∷_ (Syntax.copy (Syntax.place 16 List.[])) List.[])) (Syntax.place 20 List.[])
 
 abbrev b4 : Syntax.Body
-b4 = Syntax.assign (Syntax.place 21 List.[]) (Syntax.addrOf (Syntax.place 5 (List._∷_ (Syntax.field 0) (List._∷_ (Syntax.deref ty·0) List.[]))))
+b4 = Syntax.assign (Syntax.place 25 List.[]) (Syntax.addrOf (Syntax.place 4 (List._∷_ (Syntax.field 0) (List._∷_ (Syntax.deref ty·0) List.[]))))
 
 abbrev b5 : Syntax.Body
-b5 = Syntax.assign (Syntax.place 22 List.[]) (Syntax.aggregate (List._∷_ (Syntax.copy (Syntax.place 21 List.[])) (List._∷_ (Syntax.copy (Syntax.place 5 (List._∷_ (Syntax.field 1) List.[]))) List.[])))
+b5 = Syntax.assign (Syntax.place 26 List.[]) (Syntax.aggregate (List._∷_ (Syntax.copy (Syntax.place 25 List.[])) (List._∷_ (Syntax.copy (Syntax.place 4 (List._∷_ (Syntax.field 1) List.[]))) List.[])))
 
 abbrev b6 : Syntax.Body
-b6 = Syntax.assign (Syntax.place 23 List.[]) (Syntax.addrOf (Syntax.place 6 (List._∷_ (Syntax.field 0) (List._∷_ (Syntax.deref ty·0) List.[]))))
+b6 = Syntax.assign (Syntax.place 27 List.[]) (Syntax.addrOf (Syntax.place 5 (List._∷_ (Syntax.field 0) (List._∷_ (Syntax.deref ty·0) List.[]))))
 
 abbrev b7 : Syntax.Body
-b7 = Syntax.assign (Syntax.place 24 List.[]) (Syntax.aggregate (List._∷_ (Syntax.copy (Syntax.place 23 List.[])) (List._∷_ (Syntax.copy (Syntax.place 6 (List._∷_ (Syntax.field 1) List.[]))) List.[])))
+b7 = Syntax.assign (Syntax.place 28 List.[]) (Syntax.aggregate (List._∷_ (Syntax.copy (Syntax.place 27 List.[])) (List._∷_ (Syntax.copy (Syntax.place 5 (List._∷_ (Syntax.field 1) List.[]))) List.[])))
 
 abbrev b8 : Syntax.Body
-b8 = Syntax.assign (Syntax.place 25 List.[]) (Syntax.addrOf (Syntax.place 7 (List._∷_ (Syntax.field 0) (List._∷_ (Syntax.deref ty·0) List.[]))))
+b8 = Syntax.assign (Syntax.place 29 List.[]) (Syntax.addrOf (Syntax.place 6 (List._∷_ (Syntax.field 0) (List._∷_ (Syntax.deref ty·0) List.[]))))
 
 abbrev b9 : Syntax.Body
-b9 = Syntax.assign (Syntax.place 26 List.[]) (Syntax.aggregate (List._∷_ (Syntax.copy (Syntax.place 25 List.[])) (List._∷_ (Syntax.copy (Syntax.place 7 (List._∷_ (Syntax.field 1) List.[]))) List.[])))
+b9 = Syntax.assign (Syntax.place 30 List.[]) (Syntax.aggregate (List._∷_ (Syntax.copy (Syntax.place 29 List.[])) (List._∷_ (Syntax.copy (Syntax.place 6 (List._∷_ (Syntax.field 1) List.[]))) List.[])))
 
 abbrev b10 : Syntax.Body
-b10 = Syntax.assign (Syntax.place 27 List.[]) (Syntax.addrOf (Syntax.place 8 (List._∷_ (Syntax.field 0) (List._∷_ (Syntax.deref (ELEMMEM.lone (ELEM.the-row .mir))) List.[]))))
+b10 = Syntax.assign (Syntax.place 31 List.[]) (Syntax.addrOf (Syntax.place 7 (List._∷_ (Syntax.field 0) (List._∷_ (Syntax.deref ty·0) List.[]))))
 
 abbrev b11 : Syntax.Body
-b11 = Syntax.assign (Syntax.place 28 List.[]) (Syntax.aggregate (List._∷_ (Syntax.copy (Syntax.place 27 List.[])) (List._∷_ (Syntax.copy (Syntax.place 8 (List._∷_ (Syntax.field 1) List.[]))) List.[])))
+b11 = Syntax.assign (Syntax.place 32 List.[]) (Syntax.aggregate (List._∷_ (Syntax.copy (Syntax.place 31 List.[])) (List._∷_ (Syntax.copy (Syntax.place 7 (List._∷_ (Syntax.field 1) List.[]))) List.[])))
 
 abbrev b12 : Syntax.Body
-b12 = Syntax.assign (Syntax.place 29 List.[]) (Syntax.addrOf (Syntax.place 9 (List._∷_ (Syntax.field 0) (List._∷_ (Syntax.deref ty·0) List.[]))))
+b12 = Syntax.assign (Syntax.place 33 List.[]) (Syntax.addrOf (Syntax.place 8 (List._∷_ (Syntax.field 0) (List._∷_ (Syntax.deref ty·0) List.[]))))
 
 abbrev b13 : Syntax.Body
-b13 = Syntax.assign (Syntax.place 30 List.[]) (Syntax.aggregate (List._∷_ (Syntax.copy (Syntax.place 29 List.[])) (List._∷_ (Syntax.copy (Syntax.place 9 (List._∷_ (Syntax.field 1) List.[]))) List.[])))
+b13 = Syntax.assign (Syntax.place 34 List.[]) (Syntax.aggregate (List._∷_ (Syntax.copy (Syntax.place 33 List.[])) (List._∷_ (Syntax.copy (Syntax.place 8 (List._∷_ (Syntax.field 1) List.[]))) List.[])))
 
 abbrev b14 : Syntax.Body
-b14 = Syntax.assign (Syntax.place 31 List.[]) (Syntax.addrOf (Syntax.place 10 (List._∷_ (Syntax.field 0) (List._∷_ (Syntax.deref ty·0) List.[]))))
+b14 = Syntax.assign (Syntax.place 24 List.[]) (Syntax.rvOpd (Syntax.copy (Syntax.place 9 (List._∷_ (Syntax.field 1) List.[]))))
 
 abbrev b15 : Syntax.Body
-b15 = Syntax.assign (Syntax.place 32 List.[]) (Syntax.aggregate (List._∷_ (Syntax.copy (Syntax.place 31 List.[])) (List._∷_ (Syntax.copy (Syntax.place 10 (List._∷_ (Syntax.field 1) List.[]))) List.[])))
+b15 = Syntax.assign (Syntax.place 35 List.[]) (Syntax.rvOpd (Syntax.copy (Syntax.place 10 (List._∷_ (Syntax.field 1) List.[]))))
 
 abbrev b16 : Syntax.Body
-b16 = Syntax.assign (Syntax.place 33 List.[]) (Syntax.addrOf (Syntax.place 11 (List._∷_ (Syntax.field 0) (List._∷_ (Syntax.deref ty·0) List.[]))))
+b16 = Syntax.assign (Syntax.place 36 List.[]) (Syntax.rvOpd (Syntax.copy (Syntax.place 11 (List._∷_ (Syntax.field 1) List.[]))))
 
 abbrev b17 : Syntax.Body
-b17 = Syntax.assign (Syntax.place 34 List.[]) (Syntax.aggregate (List._∷_ (Syntax.copy (Syntax.place 33 List.[])) (List._∷_ (Syntax.copy (Syntax.place 11 (List._∷_ (Syntax.field 1) List.[]))) List.[])))
+b17 = Syntax.assign (Syntax.place 37 List.[]) (Syntax.rvOpd (Syntax.copy (Syntax.place 12 (List._∷_ (Syntax.field 1) List.[]))))
 
 abbrev b18 : Syntax.Body
-b18 = Syntax.assign (Syntax.place 35 List.[]) (Syntax.addrOf (Syntax.place 12 (List._∷_ (Syntax.field 0) (List._∷_ (Syntax.deref ty·1) List.[]))))
+b18 = Syntax.call "surface::check_run" (List._∷_ (Syntax.copy (Syntax.place 16 List.[])) (List._∷_ (Syntax.copy (Syntax.place 17 List.[])) (List._∷_ (Syntax.copy (Syntax.place 18 List.[])) (List._∷_ (Syntax.copy (Syntax.place 26 List.[])) (List._∷_ (Syntax.copy (Syntax.place 28 List.[])) (List._∷_ (Syntax.copy (Syntax.place 30 List.[])) (List._∷_ (Syntax.copy (Syntax.place 32 List.[])) (List._∷_ (Syntax.copy (Syntax.place 34 List.[])) (List._∷_ (Syntax.copy (Syntax.place 24 List.[])) (List._∷_ (Syntax.copy (Syntax.place 35 List.[])) (List._∷_ (Syntax.copy (Syntax.place 36 List.[])) (List._∷_ (Syntax.copy (Syntax.place 37 List.[])) (List._∷_ (Syntax.copy (Syntax.place 20 List.[])) List.[]))))))))))))) (Syntax.place 21 List.[])
 
 abbrev b19 : Syntax.Body
-b19 = Syntax.assign (Syntax.place 36 List.[]) (Syntax.aggregate (List._∷_ (Syntax.copy (Syntax.place 35 List.[])) (List._∷_ (Syntax.copy (Syntax.place 12 (List._∷_ (Syntax.field 1) List.[]))) List.[])))
+b19 = Syntax.assign (Syntax.place 22 List.[]) (Syntax.rvOpd (Syntax.copy (Syntax.place 21 (List._∷_ (Syntax.variant 1) (List._∷_ (Syntax.field 1) List.[])))))
 
 abbrev b20 : Syntax.Body
-b20 = Syntax.call "run::run" (List._∷_ (Syntax.copy (Syntax.place 16 List.[])) (List._∷_ (Syntax.copy (Syntax.place 20 List.[])) (List._∷_ (Syntax.copy (Syntax.place 22 List.[])) (List._∷_ (Syntax.copy (Syntax.place 24 List.[])) (List._∷_ (Syntax.copy (Syntax.place 26 List.[])) (List._∷_ (Syntax.copy (Syntax.place 28 List.[])) (List._∷_ (Syntax.copy (Syntax.place 30 List.[])) (List._∷_ (Syntax.copy (Syntax.place 32 List.[])) (List._∷_ (Syntax.copy (Syntax.place 34 List.[])) (List._∷_ (Syntax.copy (Syntax.place 36 List.[])) (List._∷_ (Syntax.copy (Syntax.place 17 List.[])) (List._∷_ (Syntax.copy (Syntax.place 15 List.[])) List.[])))))))))))) (Syntax.place 18 List.[])
+b20 = Syntax.call "fithmoul::results::finish_refused" (List._∷_ (Syntax.copy (Syntax.place 18 List.[])) (List._∷_ (Syntax.copy (Syntax.place 22 List.[])) List.[])) (Syntax.place 0 List.[])
 
 abbrev b21 : Syntax.Body
-b21 = Syntax.call "fithmoul::results::finish_result" (List._∷_ (Syntax.copy (Syntax.place 18 List.[])) List.[]) (Syntax.place 0 List.[])
+b21 = Syntax.return
 
 abbrev b22 : Syntax.Body
-b22 = Syntax.return
+b22 = Syntax.seq b20 b21
 
 abbrev b23 : Syntax.Body
-b23 = Syntax.seq b21 b22
+b23 = Syntax.seq b19 b22
 
 abbrev b24 : Syntax.Body
-b24 = Syntax.seq b20 b23
+b24 = Syntax.skip
 
 abbrev b25 : Syntax.Body
-b25 = Syntax.seq b19 b24
+b25 = Syntax.switch (Syntax.copy (Syntax.place 21 (List._∷_ (Syntax.variant 0) (List._∷_ (Syntax.field 0) List.[])))) (Syntax.arm (List._∷_ 1 List.[]) b23 (Syntax.arm (List._∷_ 0 List.[]) b24 Syntax.noDefault))
 
 abbrev b26 : Syntax.Body
-b26 = Syntax.seq b18 b25
+b26 = Syntax.assign (Syntax.place 38 List.[]) (Syntax.addrOf (Syntax.place 4 (List._∷_ (Syntax.field 0) (List._∷_ (Syntax.deref ty·0) List.[]))))
 
 abbrev b27 : Syntax.Body
-b27 = Syntax.seq b17 b26
+b27 = Syntax.assign (Syntax.place 39 List.[]) (Syntax.aggregate (List._∷_ (Syntax.copy (Syntax.place 38 List.[])) (List._∷_ (Syntax.copy (Syntax.place 4 (List._∷_ (Syntax.field 1) List.[]))) List.[])))
 
 abbrev b28 : Syntax.Body
-b28 = Syntax.seq b16 b27
+b28 = Syntax.assign (Syntax.place 40 List.[]) (Syntax.addrOf (Syntax.place 6 (List._∷_ (Syntax.field 0) (List._∷_ (Syntax.deref ty·0) List.[]))))
 
 abbrev b29 : Syntax.Body
-b29 = Syntax.seq b15 b28
+b29 = Syntax.assign (Syntax.place 41 List.[]) (Syntax.aggregate (List._∷_ (Syntax.copy (Syntax.place 40 List.[])) (List._∷_ (Syntax.copy (Syntax.place 6 (List._∷_ (Syntax.field 1) List.[]))) List.[])))
 
 abbrev b30 : Syntax.Body
-b30 = Syntax.seq b14 b29
+b30 = Syntax.assign (Syntax.place 42 List.[]) (Syntax.addrOf (Syntax.place 7 (List._∷_ (Syntax.field 0) (List._∷_ (Syntax.deref ty·0) List.[]))))
 
 abbrev b31 : Syntax.Body
-b31 = Syntax.seq b13 b30
+b31 = Syntax.assign (Syntax.place 43 List.[]) (Syntax.aggregate (List._∷_ (Syntax.copy (Syntax.place 42 List.[])) (List._∷_ (Syntax.copy (Syntax.place 7 (List._∷_ (Syntax.field 1) List.[]))) List.[])))
 
 abbrev b32 : Syntax.Body
-b32 = Syntax.seq b12 b31
+b32 = Syntax.assign (Syntax.place 44 List.[]) (Syntax.addrOf (Syntax.place 8 (List._∷_ (Syntax.field 0) (List._∷_ (Syntax.deref ty·0) List.[]))))
 
 abbrev b33 : Syntax.Body
-b33 = Syntax.seq b11 b32
+b33 = Syntax.assign (Syntax.place 45 List.[]) (Syntax.aggregate (List._∷_ (Syntax.copy (Syntax.place 44 List.[])) (List._∷_ (Syntax.copy (Syntax.place 8 (List._∷_ (Syntax.field 1) List.[]))) List.[])))
 
 abbrev b34 : Syntax.Body
-b34 = Syntax.seq b10 b33
+b34 = Syntax.assign (Syntax.place 46 List.[]) (Syntax.addrOf (Syntax.place 9 (List._∷_ (Syntax.field 0) (List._∷_ (Syntax.deref (ELEMMEM.lone (ELEM.the-row .mir))) List.[]))))
 
 abbrev b35 : Syntax.Body
-b35 = Syntax.seq b9 b34
+b35 = Syntax.assign (Syntax.place 47 List.[]) (Syntax.aggregate (List._∷_ (Syntax.copy (Syntax.place 46 List.[])) (List._∷_ (Syntax.copy (Syntax.place 9 (List._∷_ (Syntax.field 1) List.[]))) List.[])))
 
 abbrev b36 : Syntax.Body
-b36 = Syntax.seq b8 b35
+b36 = Syntax.assign (Syntax.place 48 List.[]) (Syntax.addrOf (Syntax.place 10 (List._∷_ (Syntax.field 0) (List._∷_ (Syntax.deref ty·0) List.[]))))
 
 abbrev b37 : Syntax.Body
-b37 = Syntax.seq b7 b36
+b37 = Syntax.assign (Syntax.place 49 List.[]) (Syntax.aggregate (List._∷_ (Syntax.copy (Syntax.place 48 List.[])) (List._∷_ (Syntax.copy (Syntax.place 10 (List._∷_ (Syntax.field 1) List.[]))) List.[])))
 
 abbrev b38 : Syntax.Body
-b38 = Syntax.seq b6 b37
+b38 = Syntax.assign (Syntax.place 50 List.[]) (Syntax.addrOf (Syntax.place 11 (List._∷_ (Syntax.field 0) (List._∷_ (Syntax.deref ty·0) List.[]))))
 
 abbrev b39 : Syntax.Body
-b39 = Syntax.seq b5 b38
+b39 = Syntax.assign (Syntax.place 51 List.[]) (Syntax.aggregate (List._∷_ (Syntax.copy (Syntax.place 50 List.[])) (List._∷_ (Syntax.copy (Syntax.place 11 (List._∷_ (Syntax.field 1) List.[]))) List.[])))
 
 abbrev b40 : Syntax.Body
-b40 = Syntax.seq b4 b39
+b40 = Syntax.assign (Syntax.place 52 List.[]) (Syntax.addrOf (Syntax.place 12 (List._∷_ (Syntax.field 0) (List._∷_ (Syntax.deref ty·0) List.[]))))
 
 abbrev b41 : Syntax.Body
-b41 = Syntax.seq b3 b40
+b41 = Syntax.assign (Syntax.place 53 List.[]) (Syntax.aggregate (List._∷_ (Syntax.copy (Syntax.place 52 List.[])) (List._∷_ (Syntax.copy (Syntax.place 12 (List._∷_ (Syntax.field 1) List.[]))) List.[])))
 
 abbrev b42 : Syntax.Body
-b42 = Syntax.seq b2 b41
+b42 = Syntax.assign (Syntax.place 54 List.[]) (Syntax.addrOf (Syntax.place 13 (List._∷_ (Syntax.field 0) (List._∷_ (Syntax.deref ty·1) List.[]))))
 
 abbrev b43 : Syntax.Body
-b43 = Syntax.seq b1 b42
+b43 = Syntax.assign (Syntax.place 55 List.[]) (Syntax.aggregate (List._∷_ (Syntax.copy (Syntax.place 54 List.[])) (List._∷_ (Syntax.copy (Syntax.place 13 (List._∷_ (Syntax.field 1) List.[]))) List.[])))
 
 abbrev b44 : Syntax.Body
-b44 = Syntax.seq b0 b43
+b44 = Syntax.call "run::run" (List._∷_ (Syntax.copy (Syntax.place 18 List.[])) (List._∷_ (Syntax.copy (Syntax.place 39 List.[])) (List._∷_ (Syntax.copy (Syntax.place 41 List.[])) (List._∷_ (Syntax.copy (Syntax.place 43 List.[])) (List._∷_ (Syntax.copy (Syntax.place 45 List.[])) (List._∷_ (Syntax.copy (Syntax.place 47 List.[])) (List._∷_ (Syntax.copy (Syntax.place 49 List.[])) (List._∷_ (Syntax.copy (Syntax.place 51 List.[])) (List._∷_ (Syntax.copy (Syntax.place 53 List.[])) (List._∷_ (Syntax.copy (Syntax.place 55 List.[])) (List._∷_ (Syntax.copy (Syntax.place 19 List.[])) (List._∷_ (Syntax.copy (Syntax.place 16 List.[])) List.[])))))))))))) (Syntax.place 23 List.[])
+
+abbrev b45 : Syntax.Body
+b45 = Syntax.assign (Syntax.place 57 List.[]) (Syntax.addrOf (Syntax.place 5 (List._∷_ (Syntax.field 0) (List._∷_ (Syntax.deref ty·0) List.[]))))
+
+abbrev b46 : Syntax.Body
+b46 = Syntax.assign (Syntax.place 58 List.[]) (Syntax.aggregate (List._∷_ (Syntax.copy (Syntax.place 57 List.[])) (List._∷_ (Syntax.copy (Syntax.place 5 (List._∷_ (Syntax.field 1) List.[]))) List.[])))
+
+abbrev b47 : Syntax.Body
+b47 = Syntax.assign (Syntax.place 59 List.[]) (Syntax.addrOf (Syntax.place 13 (List._∷_ (Syntax.field 0) (List._∷_ (Syntax.deref ty·1) List.[]))))
+
+abbrev b48 : Syntax.Body
+b48 = Syntax.assign (Syntax.place 60 List.[]) (Syntax.aggregate (List._∷_ (Syntax.copy (Syntax.place 59 List.[])) (List._∷_ (Syntax.copy (Syntax.place 13 (List._∷_ (Syntax.field 1) List.[]))) List.[])))
+
+abbrev b49 : Syntax.Body
+b49 = Syntax.call "surface::store_run" (List._∷_ (Syntax.copy (Syntax.place 58 List.[])) (List._∷_ (Syntax.copy (Syntax.place 60 List.[])) (List._∷_ (Syntax.copy (Syntax.place 17 List.[])) (List._∷_ (Syntax.copy (Syntax.place 16 List.[])) (List._∷_ (Syntax.copy (Syntax.place 1 List.[])) (List._∷_ (Syntax.copy (Syntax.place 23 List.[])) List.[])))))) (Syntax.place 56 List.[])
+
+abbrev b50 : Syntax.Body
+b50 = Syntax.call "fithmoul::results::finish_result" (List._∷_ (Syntax.copy (Syntax.place 23 List.[])) List.[]) (Syntax.place 0 List.[])
+
+abbrev b51 : Syntax.Body
+b51 = Syntax.return
+
+abbrev b52 : Syntax.Body
+b52 = Syntax.seq b50 b51
+
+abbrev b53 : Syntax.Body
+b53 = Syntax.seq b49 b52
+
+abbrev b54 : Syntax.Body
+b54 = Syntax.seq b48 b53
+
+abbrev b55 : Syntax.Body
+b55 = Syntax.seq b47 b54
+
+abbrev b56 : Syntax.Body
+b56 = Syntax.seq b46 b55
+
+abbrev b57 : Syntax.Body
+b57 = Syntax.seq b45 b56
+
+abbrev b58 : Syntax.Body
+b58 = Syntax.seq b44 b57
+
+abbrev b59 : Syntax.Body
+b59 = Syntax.seq b43 b58
+
+abbrev b60 : Syntax.Body
+b60 = Syntax.seq b42 b59
+
+abbrev b61 : Syntax.Body
+b61 = Syntax.seq b41 b60
+
+abbrev b62 : Syntax.Body
+b62 = Syntax.seq b40 b61
+
+abbrev b63 : Syntax.Body
+b63 = Syntax.seq b39 b62
+
+abbrev b64 : Syntax.Body
+b64 = Syntax.seq b38 b63
+
+abbrev b65 : Syntax.Body
+b65 = Syntax.seq b37 b64
+
+abbrev b66 : Syntax.Body
+b66 = Syntax.seq b36 b65
+
+abbrev b67 : Syntax.Body
+b67 = Syntax.seq b35 b66
+
+abbrev b68 : Syntax.Body
+b68 = Syntax.seq b34 b67
+
+abbrev b69 : Syntax.Body
+b69 = Syntax.seq b33 b68
+
+abbrev b70 : Syntax.Body
+b70 = Syntax.seq b32 b69
+
+abbrev b71 : Syntax.Body
+b71 = Syntax.seq b31 b70
+
+abbrev b72 : Syntax.Body
+b72 = Syntax.seq b30 b71
+
+abbrev b73 : Syntax.Body
+b73 = Syntax.seq b29 b72
+
+abbrev b74 : Syntax.Body
+b74 = Syntax.seq b28 b73
+
+abbrev b75 : Syntax.Body
+b75 = Syntax.seq b27 b74
+
+abbrev b76 : Syntax.Body
+b76 = Syntax.seq b26 b75
+
+abbrev b77 : Syntax.Body
+b77 = Syntax.seq b25 b76
+
+abbrev b78 : Syntax.Body
+b78 = Syntax.seq b18 b77
+
+abbrev b79 : Syntax.Body
+b79 = Syntax.seq b17 b78
+
+abbrev b80 : Syntax.Body
+b80 = Syntax.seq b16 b79
+
+abbrev b81 : Syntax.Body
+b81 = Syntax.seq b15 b80
+
+abbrev b82 : Syntax.Body
+b82 = Syntax.seq b14 b81
+
+abbrev b83 : Syntax.Body
+b83 = Syntax.seq b13 b82
+
+abbrev b84 : Syntax.Body
+b84 = Syntax.seq b12 b83
+
+abbrev b85 : Syntax.Body
+b85 = Syntax.seq b11 b84
+
+abbrev b86 : Syntax.Body
+b86 = Syntax.seq b10 b85
+
+abbrev b87 : Syntax.Body
+b87 = Syntax.seq b9 b86
+
+abbrev b88 : Syntax.Body
+b88 = Syntax.seq b8 b87
+
+abbrev b89 : Syntax.Body
+b89 = Syntax.seq b7 b88
+
+abbrev b90 : Syntax.Body
+b90 = Syntax.seq b6 b89
+
+abbrev b91 : Syntax.Body
+b91 = Syntax.seq b5 b90
+
+abbrev b92 : Syntax.Body
+b92 = Syntax.seq b4 b91
+
+abbrev b93 : Syntax.Body
+b93 = Syntax.seq b3 b92
+
+abbrev b94 : Syntax.Body
+b94 = Syntax.seq b2 b93
+
+abbrev b95 : Syntax.Body
+b95 = Syntax.seq b1 b94
+
+abbrev b96 : Syntax.Body
+b96 = Syntax.seq b0 b95
 
 abbrev pub body : Syntax.Body
-body = b44
+body = b96
 
 abbrev pub Claims : Type 1
-Claims = Kinds.In 10 ps·0 × Kinds.Out 10 ps·0 r·0 × Kinds.In 0 ps·1 × Kinds.Out 0 ps·1 r·1
+Claims = Kinds.In 1 ps·0 × Kinds.Out 1 ps·0 r·0 × Kinds.In 7 ps·1 × Kinds.Out 7 ps·1 r·1 × Kinds.In 0 ps·2 × Kinds.Out 0 ps·2 r·2 × Kinds.In 10 ps·3 × Kinds.Out 10 ps·3 r·3 × Kinds.In 4 ps·4 × Kinds.Out 4 ps·4 r·4 × Kinds.In 0 ps·5 × Kinds.Out 0 ps·5 r·5
 
 abbrev pub t0 : List.List Row.Entry
-t0 = List._∷_ (0, Rows.any-gone ty·23) (List._∷_ (1, Rows.sc-here (Row.sInt Syntax.w32)) (List._∷_ (2, Rows.sc-here (Row.sInt Syntax.w32)) (List._∷_ (3, Rows.sc-here (Row.sInt Syntax.w32)) (List._∷_ (4, Mut.mslice (Signed.SInt Syntax.w32) ty·5 0) (List._∷_ (5, Mut.mslice (Referent.rtF (Referent.fInt Syntax.w32)) ty·6 1) (List._∷_ (6, Mut.mslice (Referent.rtF (Referent.fInt Syntax.w32)) ty·7 2) (List._∷_ (7, Mut.mslice (Referent.rtF (Referent.fInt Syntax.w32)) ty·8 3) (List._∷_ (8, Mut.mslice ELEM.the-row ty·15 4) (List._∷_ (9, Mut.mslice (Referent.rtF (Referent.fInt Syntax.w32)) ty·9 5) (List._∷_ (10, Mut.mslice (Referent.rtF (Referent.fInt Syntax.w32)) ty·10 6) (List._∷_ (11, Mut.mslice (Referent.rtF (Referent.fInt Syntax.w32)) ty·11 7) (List._∷_ (12, Mut.mslice (Referent.rtF (Referent.fInt Syntax.w64)) ty·12 8) (List._∷_ (13, Rows.sc-here (Row.sFloat Ieee.binary64)) (List._∷_ (14, Rows.sc-here (Row.sFloat Ieee.binary64)) (List._∷_ (15, Rows.sslice (Signed.SInt Syntax.w32) ty·13 9) List.[])))))))))))))))
+t0 = List._∷_ (0, Rows.any-gone ty·30) (List._∷_ (1, Rows.sc-here (Row.sInt Syntax.w32)) (List._∷_ (2, Rows.sc-here (Row.sInt Syntax.w32)) (List._∷_ (3, Rows.sc-here (Row.sInt Syntax.w32)) (List._∷_ (4, Mut.mslice (Signed.SInt Syntax.w32) ty·7 0) (List._∷_ (5, Mut.mslice (Signed.SInt Syntax.w32) ty·8 1) (List._∷_ (6, Mut.mslice (Referent.rtF (Referent.fInt Syntax.w32)) ty·9 2) (List._∷_ (7, Mut.mslice (Referent.rtF (Referent.fInt Syntax.w32)) ty·10 3) (List._∷_ (8, Mut.mslice (Referent.rtF (Referent.fInt Syntax.w32)) ty·11 4) (List._∷_ (9, Mut.mslice ELEM.the-row ty·19 5) (List._∷_ (10, Mut.mslice (Referent.rtF (Referent.fInt Syntax.w32)) ty·12 6) (List._∷_ (11, Mut.mslice (Referent.rtF (Referent.fInt Syntax.w32)) ty·13 7) (List._∷_ (12, Mut.mslice (Referent.rtF (Referent.fInt Syntax.w32)) ty·14 8) (List._∷_ (13, Mut.mslice (Referent.rtF (Referent.fInt Syntax.w64)) ty·15 9) (List._∷_ (14, Rows.sc-here (Row.sFloat Ieee.binary64)) (List._∷_ (15, Rows.sc-here (Row.sFloat Ieee.binary64)) List.[])))))))))))))))
 
 abbrev pub t1 : List.List Row.Entry
-t1 = List._∷_ (16, Rows.any-gone ty·20) (List._∷_ (17, Rows.any-gone ty·19) (List._∷_ (18, Rows.any-gone ty·25) (List._∷_ (19, Rows.any-gone ty·3) (List._∷_ (20, Rows.any-gone ty·16) (List._∷_ (21, Rows.any-gone ty·3) (List._∷_ (22, Rows.any-gone ty·16) (List._∷_ (23, Rows.any-gone ty·3) (List._∷_ (24, Rows.any-gone ty·16) (List._∷_ (25, Rows.any-gone ty·3) (List._∷_ (26, Rows.any-gone ty·16) (List._∷_ (27, Rows.any-gone ty·14) (List._∷_ (28, Rows.any-gone ty·18) (List._∷_ (29, Rows.any-gone ty·3) (List._∷_ (30, Rows.any-gone ty·16) (List._∷_ (31, Rows.any-gone ty·3) List.[])))))))))))))))
+t1 = List._∷_ (16, Rows.sslice (Signed.SInt Syntax.w32) ty·16 10) (List._∷_ (17, Rows.sslice (Signed.SInt Syntax.w32) ty·17 11) (List._∷_ (18, Rows.any-gone ty·26) (List._∷_ (19, Rows.any-gone ty·25) (List._∷_ (20, Rows.any-gone Syntax.tyBool) (List._∷_ (21, Rows.any-gone ty·29) (List._∷_ (22, Rows.any-gone ty·28) (List._∷_ (23, Rows.any-gone ty·32) (List._∷_ (24, Rows.any-gone ty·1) (List._∷_ (25, Rows.any-gone ty·3) (List._∷_ (26, Rows.any-gone ty·20) (List._∷_ (27, Rows.any-gone ty·3) (List._∷_ (28, Rows.any-gone ty·20) (List._∷_ (29, Rows.any-gone ty·3) (List._∷_ (30, Rows.any-gone ty·20) (List._∷_ (31, Rows.any-gone ty·3) List.[])))))))))))))))
 
 abbrev pub t2 : List.List Row.Entry
-t2 = List._∷_ (32, Rows.any-gone ty·16) (List._∷_ (33, Rows.any-gone ty·3) (List._∷_ (34, Rows.any-gone ty·16) (List._∷_ (35, Rows.any-gone ty·4) (List._∷_ (36, Rows.any-gone ty·17) List.[]))))
+t2 = List._∷_ (32, Rows.any-gone ty·20) (List._∷_ (33, Rows.any-gone ty·3) (List._∷_ (34, Rows.any-gone ty·20) (List._∷_ (35, Rows.any-gone ty·1) (List._∷_ (36, Rows.any-gone ty·1) (List._∷_ (37, Rows.any-gone ty·1) (List._∷_ (38, Rows.any-gone ty·5) (List._∷_ (39, Rows.any-gone ty·22) (List._∷_ (40, Rows.any-gone ty·5) (List._∷_ (41, Rows.any-gone ty·22) (List._∷_ (42, Rows.any-gone ty·5) (List._∷_ (43, Rows.any-gone ty·22) (List._∷_ (44, Rows.any-gone ty·5) (List._∷_ (45, Rows.any-gone ty·22) (List._∷_ (46, Rows.any-gone ty·18) (List._∷_ (47, Rows.any-gone ty·24) List.[])))))))))))))))
 
 abbrev pub t3 : List.List Row.Entry
-t3 = List._∷_ (0, Rows.whole (Declared.row FinishResult.the-type)) (List._∷_ (1, Rows.any-gone ty·0) (List._∷_ (2, Rows.any-gone ty·0) (List._∷_ (3, Rows.any-gone ty·0) (List._∷_ (4, Mut.mslice (Signed.SInt Syntax.w32) ty·5 0) (List._∷_ (5, Mut.mslice (Referent.rtF (Referent.fInt Syntax.w32)) ty·6 1) (List._∷_ (6, Mut.mslice (Referent.rtF (Referent.fInt Syntax.w32)) ty·7 2) (List._∷_ (7, Mut.mslice (Referent.rtF (Referent.fInt Syntax.w32)) ty·8 3) (List._∷_ (8, Mut.mslice ELEM.the-row ty·15 4) (List._∷_ (9, Mut.mslice (Referent.rtF (Referent.fInt Syntax.w32)) ty·9 5) (List._∷_ (10, Mut.mslice (Referent.rtF (Referent.fInt Syntax.w32)) ty·10 6) (List._∷_ (11, Mut.mslice (Referent.rtF (Referent.fInt Syntax.w32)) ty·11 7) (List._∷_ (12, Mut.mslice (Referent.rtF (Referent.fInt Syntax.w64)) ty·12 8) (List._∷_ (13, Rows.any-gone ty·2) (List._∷_ (14, Rows.any-gone ty·2) (List._∷_ (15, Rows.sslice (Signed.SInt Syntax.w32) ty·13 9) List.[])))))))))))))))
+t3 = List._∷_ (48, Rows.any-gone ty·5) (List._∷_ (49, Rows.any-gone ty·22) (List._∷_ (50, Rows.any-gone ty·5) (List._∷_ (51, Rows.any-gone ty·22) (List._∷_ (52, Rows.any-gone ty·5) (List._∷_ (53, Rows.any-gone ty·22) (List._∷_ (54, Rows.any-gone ty·6) (List._∷_ (55, Rows.any-gone ty·23) (List._∷_ (56, Rows.any-gone Syntax.tyUnit) (List._∷_ (57, Rows.any-gone ty·5) (List._∷_ (58, Rows.any-gone ty·22) (List._∷_ (59, Rows.any-gone ty·4) (List._∷_ (60, Rows.any-gone ty·21) List.[]))))))))))))
 
 abbrev pub t4 : List.List Row.Entry
-t4 = List._∷_ (16, Rows.whole (Declared.row (Apart.apartT Counts.the-type))) (List._∷_ (17, Rows.any-gone ty·19) (List._∷_ (18, Rows.any-gone ty·25) (List._∷_ (19, Rows.any-gone ty·3) (List._∷_ (20, Rows.any-gone ty·16) (List._∷_ (21, Rows.any-gone ty·3) (List._∷_ (22, Rows.any-gone ty·16) (List._∷_ (23, Rows.any-gone ty·3) (List._∷_ (24, Rows.any-gone ty·16) (List._∷_ (25, Rows.any-gone ty·3) (List._∷_ (26, Rows.any-gone ty·16) (List._∷_ (27, Rows.any-gone ty·14) (List._∷_ (28, Rows.any-gone ty·18) (List._∷_ (29, Rows.any-gone ty·3) (List._∷_ (30, Rows.any-gone ty·16) (List._∷_ (31, Rows.any-gone ty·3) List.[])))))))))))))))
+t4 = List._∷_ (0, Rows.whole (Declared'.row FinishResult.the-type)) (List._∷_ (1, Rows.any-gone ty·0) (List._∷_ (2, Rows.any-gone ty·0) (List._∷_ (3, Rows.any-gone ty·0) (List._∷_ (4, Mut.mslice (Signed.SInt Syntax.w32) ty·7 0) (List._∷_ (5, Mut.mslice (Signed.SInt Syntax.w32) ty·8 1) (List._∷_ (6, Mut.mslice (Referent.rtF (Referent.fInt Syntax.w32)) ty·9 2) (List._∷_ (7, Mut.mslice (Referent.rtF (Referent.fInt Syntax.w32)) ty·10 3) (List._∷_ (8, Mut.mslice (Referent.rtF (Referent.fInt Syntax.w32)) ty·11 4) (List._∷_ (9, Mut.mslice ELEM.the-row ty·19 5) (List._∷_ (10, Mut.mslice (Referent.rtF (Referent.fInt Syntax.w32)) ty·12 6) (List._∷_ (11, Mut.mslice (Referent.rtF (Referent.fInt Syntax.w32)) ty·13 7) (List._∷_ (12, Mut.mslice (Referent.rtF (Referent.fInt Syntax.w32)) ty·14 8) (List._∷_ (13, Mut.mslice (Referent.rtF (Referent.fInt Syntax.w64)) ty·15 9) (List._∷_ (14, Rows.any-gone ty·2) (List._∷_ (15, Rows.any-gone ty·2) List.[])))))))))))))))
 
 abbrev pub t5 : List.List Row.Entry
-t5 = List._∷_ (16, Rows.whole (Declared.row (Apart.apartT Counts.the-type))) (List._∷_ (17, Rows.whole (Declared.row (Apart.apartT Point2.the-type))) (List._∷_ (18, Rows.any-gone ty·25) (List._∷_ (19, Rows.any-gone ty·3) (List._∷_ (20, Rows.any-gone ty·16) (List._∷_ (21, Rows.any-gone ty·3) (List._∷_ (22, Rows.any-gone ty·16) (List._∷_ (23, Rows.any-gone ty·3) (List._∷_ (24, Rows.any-gone ty·16) (List._∷_ (25, Rows.any-gone ty·3) (List._∷_ (26, Rows.any-gone ty·16) (List._∷_ (27, Rows.any-gone ty·14) (List._∷_ (28, Rows.any-gone ty·18) (List._∷_ (29, Rows.any-gone ty·3) (List._∷_ (30, Rows.any-gone ty·16) (List._∷_ (31, Rows.any-gone ty·3) List.[])))))))))))))))
+t5 = List._∷_ (16, Rows.sslice (Signed.SInt Syntax.w32) ty·16 10) (List._∷_ (17, Rows.sslice (Signed.SInt Syntax.w32) ty·17 11) (List._∷_ (18, Rows.whole (Declared'.row (Apart.apartT Counts.the-type))) (List._∷_ (19, Rows.any-gone ty·25) (List._∷_ (20, Rows.any-gone Syntax.tyBool) (List._∷_ (21, Rows.any-gone ty·29) (List._∷_ (22, Rows.any-gone ty·28) (List._∷_ (23, Rows.any-gone ty·32) (List._∷_ (24, Rows.any-gone ty·1) (List._∷_ (25, Rows.any-gone ty·3) (List._∷_ (26, Rows.any-gone ty·20) (List._∷_ (27, Rows.any-gone ty·3) (List._∷_ (28, Rows.any-gone ty·20) (List._∷_ (29, Rows.any-gone ty·3) (List._∷_ (30, Rows.any-gone ty·20) (List._∷_ (31, Rows.any-gone ty·3) List.[])))))))))))))))
 
 abbrev pub t6 : List.List Row.Entry
-t6 = List._∷_ (0, Rows.any-gone ty·23) (List._∷_ (1, Rows.sc-here (Row.sInt Syntax.w32)) (List._∷_ (2, Rows.sc-here (Row.sInt Syntax.w32)) (List._∷_ (3, Rows.sc-here (Row.sInt Syntax.w32)) (List._∷_ (4, Relend.mslice-owed (Signed.SInt Syntax.w32) ty·5 0 10 Row.off) (List._∷_ (5, Mut.mslice (Referent.rtF (Referent.fInt Syntax.w32)) ty·6 1) (List._∷_ (6, Mut.mslice (Referent.rtF (Referent.fInt Syntax.w32)) ty·7 2) (List._∷_ (7, Mut.mslice (Referent.rtF (Referent.fInt Syntax.w32)) ty·8 3) (List._∷_ (8, Mut.mslice ELEM.the-row ty·15 4) (List._∷_ (9, Mut.mslice (Referent.rtF (Referent.fInt Syntax.w32)) ty·9 5) (List._∷_ (10, Mut.mslice (Referent.rtF (Referent.fInt Syntax.w32)) ty·10 6) (List._∷_ (11, Mut.mslice (Referent.rtF (Referent.fInt Syntax.w32)) ty·11 7) (List._∷_ (12, Mut.mslice (Referent.rtF (Referent.fInt Syntax.w64)) ty·12 8) (List._∷_ (13, Rows.sc-here (Row.sFloat Ieee.binary64)) (List._∷_ (14, Rows.sc-here (Row.sFloat Ieee.binary64)) (List._∷_ (15, Rows.sslice (Signed.SInt Syntax.w32) ty·13 9) List.[])))))))))))))))
+t6 = List._∷_ (16, Rows.sslice (Signed.SInt Syntax.w32) ty·16 10) (List._∷_ (17, Rows.sslice (Signed.SInt Syntax.w32) ty·17 11) (List._∷_ (18, Rows.whole (Declared'.row (Apart.apartT Counts.the-type))) (List._∷_ (19, Rows.whole (Declared'.row (Apart.apartT Point2.the-type))) (List._∷_ (20, Rows.any-gone Syntax.tyBool) (List._∷_ (21, Rows.any-gone ty·29) (List._∷_ (22, Rows.any-gone ty·28) (List._∷_ (23, Rows.any-gone ty·32) (List._∷_ (24, Rows.any-gone ty·1) (List._∷_ (25, Rows.any-gone ty·3) (List._∷_ (26, Rows.any-gone ty·20) (List._∷_ (27, Rows.any-gone ty·3) (List._∷_ (28, Rows.any-gone ty·20) (List._∷_ (29, Rows.any-gone ty·3) (List._∷_ (30, Rows.any-gone ty·20) (List._∷_ (31, Rows.any-gone ty·3) List.[])))))))))))))))
 
 abbrev pub t7 : List.List Row.Entry
-t7 = List._∷_ (16, Rows.whole (Declared.row (Apart.apartT Counts.the-type))) (List._∷_ (17, Rows.whole (Declared.row (Apart.apartT Point2.the-type))) (List._∷_ (18, Rows.any-gone ty·25) (List._∷_ (19, Relend.msptr (Signed.SInt Syntax.w32) ty·3 10) (List._∷_ (20, Rows.any-gone ty·16) (List._∷_ (21, Rows.any-gone ty·3) (List._∷_ (22, Rows.any-gone ty·16) (List._∷_ (23, Rows.any-gone ty·3) (List._∷_ (24, Rows.any-gone ty·16) (List._∷_ (25, Rows.any-gone ty·3) (List._∷_ (26, Rows.any-gone ty·16) (List._∷_ (27, Rows.any-gone ty·14) (List._∷_ (28, Rows.any-gone ty·18) (List._∷_ (29, Rows.any-gone ty·3) (List._∷_ (30, Rows.any-gone ty·16) (List._∷_ (31, Rows.any-gone ty·3) List.[])))))))))))))))
+t7 = List._∷_ (16, Rows.sslice (Signed.SInt Syntax.w32) ty·16 10) (List._∷_ (17, Rows.sslice (Signed.SInt Syntax.w32) ty·17 11) (List._∷_ (18, Rows.whole (Declared'.row (Apart.apartT Counts.the-type))) (List._∷_ (19, Rows.whole (Declared'.row (Apart.apartT Point2.the-type))) (List._∷_ (20, Rows.any-gone Syntax.tyBool) (List._∷_ (21, Rows.any-gone ty·29) (List._∷_ (22, Rows.any-gone ty·28) (List._∷_ (23, Rows.any-gone ty·32) (List._∷_ (24, Rows.sc-here (Row.sInt Syntax.w64)) (List._∷_ (25, Rows.any-gone ty·3) (List._∷_ (26, Rows.any-gone ty·20) (List._∷_ (27, Rows.any-gone ty·3) (List._∷_ (28, Rows.any-gone ty·20) (List._∷_ (29, Rows.any-gone ty·3) (List._∷_ (30, Rows.any-gone ty·20) (List._∷_ (31, Rows.any-gone ty·3) List.[])))))))))))))))
 
 abbrev pub t8 : List.List Row.Entry
-t8 = List._∷_ (16, Rows.whole (Declared.row (Apart.apartT Counts.the-type))) (List._∷_ (17, Rows.whole (Declared.row (Apart.apartT Point2.the-type))) (List._∷_ (18, Rows.any-gone ty·25) (List._∷_ (19, Rows.any-gone ty·3) (List._∷_ (20, Mut.mslice (Signed.SInt Syntax.w32) ty·3 10) (List._∷_ (21, Rows.any-gone ty·3) (List._∷_ (22, Rows.any-gone ty·16) (List._∷_ (23, Rows.any-gone ty·3) (List._∷_ (24, Rows.any-gone ty·16) (List._∷_ (25, Rows.any-gone ty·3) (List._∷_ (26, Rows.any-gone ty·16) (List._∷_ (27, Rows.any-gone ty·14) (List._∷_ (28, Rows.any-gone ty·18) (List._∷_ (29, Rows.any-gone ty·3) (List._∷_ (30, Rows.any-gone ty·16) (List._∷_ (31, Rows.any-gone ty·3) List.[])))))))))))))))
+t8 = List._∷_ (16, Rows.sslice (Signed.SInt Syntax.w32) ty·16 10) (List._∷_ (17, Rows.sslice (Signed.SInt Syntax.w32) ty·17 11) (List._∷_ (18, Rows.whole (Declared'.row (Apart.apartT Counts.the-type))) (List._∷_ (19, Rows.whole (Declared'.row (Apart.apartT Point2.the-type))) (List._∷_ (20, Rows.sc-here Row.sBool) (List._∷_ (21, Rows.any-gone ty·29) (List._∷_ (22, Rows.any-gone ty·28) (List._∷_ (23, Rows.any-gone ty·32) (List._∷_ (24, Rows.sc-here (Row.sInt Syntax.w64)) (List._∷_ (25, Rows.any-gone ty·3) (List._∷_ (26, Rows.any-gone ty·20) (List._∷_ (27, Rows.any-gone ty·3) (List._∷_ (28, Rows.any-gone ty·20) (List._∷_ (29, Rows.any-gone ty·3) (List._∷_ (30, Rows.any-gone ty·20) (List._∷_ (31, Rows.any-gone ty·3) List.[])))))))))))))))
 
 abbrev pub t9 : List.List Row.Entry
-t9 = List._∷_ (0, Rows.any-gone ty·23) (List._∷_ (1, Rows.sc-here (Row.sInt Syntax.w32)) (List._∷_ (2, Rows.sc-here (Row.sInt Syntax.w32)) (List._∷_ (3, Rows.sc-here (Row.sInt Syntax.w32)) (List._∷_ (4, Relend.mslice-owed (Signed.SInt Syntax.w32) ty·5 0 10 Row.off) (List._∷_ (5, Relend.mslice-owed (Referent.rtF (Referent.fInt Syntax.w32)) ty·6 1 11 Row.off) (List._∷_ (6, Mut.mslice (Referent.rtF (Referent.fInt Syntax.w32)) ty·7 2) (List._∷_ (7, Mut.mslice (Referent.rtF (Referent.fInt Syntax.w32)) ty·8 3) (List._∷_ (8, Mut.mslice ELEM.the-row ty·15 4) (List._∷_ (9, Mut.mslice (Referent.rtF (Referent.fInt Syntax.w32)) ty·9 5) (List._∷_ (10, Mut.mslice (Referent.rtF (Referent.fInt Syntax.w32)) ty·10 6) (List._∷_ (11, Mut.mslice (Referent.rtF (Referent.fInt Syntax.w32)) ty·11 7) (List._∷_ (12, Mut.mslice (Referent.rtF (Referent.fInt Syntax.w64)) ty·12 8) (List._∷_ (13, Rows.sc-here (Row.sFloat Ieee.binary64)) (List._∷_ (14, Rows.sc-here (Row.sFloat Ieee.binary64)) (List._∷_ (15, Rows.sslice (Signed.SInt Syntax.w32) ty·13 9) List.[])))))))))))))))
+t9 = List._∷_ (16, Rows.sslice (Signed.SInt Syntax.w32) ty·16 10) (List._∷_ (17, Rows.sslice (Signed.SInt Syntax.w32) ty·17 11) (List._∷_ (18, Rows.whole (Declared'.row (Apart.apartT Counts.the-type))) (List._∷_ (19, Rows.whole (Declared'.row (Apart.apartT Point2.the-type))) (List._∷_ (20, Rows.sc-here Row.sBool) (List._∷_ (21, Rows.any-gone ty·29) (List._∷_ (22, Rows.any-gone ty·28) (List._∷_ (23, Rows.any-gone ty·32) (List._∷_ (24, Rows.any-gone ty·1) (List._∷_ (25, Rows.any-gone ty·3) (List._∷_ (26, Rows.any-gone ty·20) (List._∷_ (27, Rows.any-gone ty·3) (List._∷_ (28, Rows.any-gone ty·20) (List._∷_ (29, Rows.any-gone ty·3) (List._∷_ (30, Rows.any-gone ty·20) (List._∷_ (31, Rows.any-gone ty·3) List.[])))))))))))))))
 
 abbrev pub t10 : List.List Row.Entry
-t10 = List._∷_ (16, Rows.whole (Declared.row (Apart.apartT Counts.the-type))) (List._∷_ (17, Rows.whole (Declared.row (Apart.apartT Point2.the-type))) (List._∷_ (18, Rows.any-gone ty·25) (List._∷_ (19, Rows.any-gone ty·3) (List._∷_ (20, Mut.mslice (Signed.SInt Syntax.w32) ty·3 10) (List._∷_ (21, Relend.msptr (Referent.rtF (Referent.fInt Syntax.w32)) ty·3 11) (List._∷_ (22, Rows.any-gone ty·16) (List._∷_ (23, Rows.any-gone ty·3) (List._∷_ (24, Rows.any-gone ty·16) (List._∷_ (25, Rows.any-gone ty·3) (List._∷_ (26, Rows.any-gone ty·16) (List._∷_ (27, Rows.any-gone ty·14) (List._∷_ (28, Rows.any-gone ty·18) (List._∷_ (29, Rows.any-gone ty·3) (List._∷_ (30, Rows.any-gone ty·16) (List._∷_ (31, Rows.any-gone ty·3) List.[])))))))))))))))
+t10 = List._∷_ (0, Rows.any-gone ty·30) (List._∷_ (1, Rows.sc-here (Row.sInt Syntax.w32)) (List._∷_ (2, Rows.sc-here (Row.sInt Syntax.w32)) (List._∷_ (3, Rows.sc-here (Row.sInt Syntax.w32)) (List._∷_ (4, Reshare.mslice-owedS (Signed.SInt Syntax.w32) ty·7 0 12 Row.off) (List._∷_ (5, Mut.mslice (Signed.SInt Syntax.w32) ty·8 1) (List._∷_ (6, Mut.mslice (Referent.rtF (Referent.fInt Syntax.w32)) ty·9 2) (List._∷_ (7, Mut.mslice (Referent.rtF (Referent.fInt Syntax.w32)) ty·10 3) (List._∷_ (8, Mut.mslice (Referent.rtF (Referent.fInt Syntax.w32)) ty·11 4) (List._∷_ (9, Mut.mslice ELEM.the-row ty·19 5) (List._∷_ (10, Mut.mslice (Referent.rtF (Referent.fInt Syntax.w32)) ty·12 6) (List._∷_ (11, Mut.mslice (Referent.rtF (Referent.fInt Syntax.w32)) ty·13 7) (List._∷_ (12, Mut.mslice (Referent.rtF (Referent.fInt Syntax.w32)) ty·14 8) (List._∷_ (13, Mut.mslice (Referent.rtF (Referent.fInt Syntax.w64)) ty·15 9) (List._∷_ (14, Rows.sc-here (Row.sFloat Ieee.binary64)) (List._∷_ (15, Rows.sc-here (Row.sFloat Ieee.binary64)) List.[])))))))))))))))
 
 abbrev pub t11 : List.List Row.Entry
-t11 = List._∷_ (16, Rows.whole (Declared.row (Apart.apartT Counts.the-type))) (List._∷_ (17, Rows.whole (Declared.row (Apart.apartT Point2.the-type))) (List._∷_ (18, Rows.any-gone ty·25) (List._∷_ (19, Rows.any-gone ty·3) (List._∷_ (20, Mut.mslice (Signed.SInt Syntax.w32) ty·3 10) (List._∷_ (21, Rows.any-gone ty·3) (List._∷_ (22, Mut.mslice (Referent.rtF (Referent.fInt Syntax.w32)) ty·3 11) (List._∷_ (23, Rows.any-gone ty·3) (List._∷_ (24, Rows.any-gone ty·16) (List._∷_ (25, Rows.any-gone ty·3) (List._∷_ (26, Rows.any-gone ty·16) (List._∷_ (27, Rows.any-gone ty·14) (List._∷_ (28, Rows.any-gone ty·18) (List._∷_ (29, Rows.any-gone ty·3) (List._∷_ (30, Rows.any-gone ty·16) (List._∷_ (31, Rows.any-gone ty·3) List.[])))))))))))))))
+t11 = List._∷_ (16, Rows.sslice (Signed.SInt Syntax.w32) ty·16 10) (List._∷_ (17, Rows.sslice (Signed.SInt Syntax.w32) ty·17 11) (List._∷_ (18, Rows.whole (Declared'.row (Apart.apartT Counts.the-type))) (List._∷_ (19, Rows.whole (Declared'.row (Apart.apartT Point2.the-type))) (List._∷_ (20, Rows.sc-here Row.sBool) (List._∷_ (21, Rows.any-gone ty·29) (List._∷_ (22, Rows.any-gone ty·28) (List._∷_ (23, Rows.any-gone ty·32) (List._∷_ (24, Rows.any-gone ty·1) (List._∷_ (25, Relend.ssptr (Signed.SInt Syntax.w32) ty·3 12) (List._∷_ (26, Rows.any-gone ty·20) (List._∷_ (27, Rows.any-gone ty·3) (List._∷_ (28, Rows.any-gone ty·20) (List._∷_ (29, Rows.any-gone ty·3) (List._∷_ (30, Rows.any-gone ty·20) (List._∷_ (31, Rows.any-gone ty·3) List.[])))))))))))))))
 
 abbrev pub t12 : List.List Row.Entry
-t12 = List._∷_ (0, Rows.any-gone ty·23) (List._∷_ (1, Rows.sc-here (Row.sInt Syntax.w32)) (List._∷_ (2, Rows.sc-here (Row.sInt Syntax.w32)) (List._∷_ (3, Rows.sc-here (Row.sInt Syntax.w32)) (List._∷_ (4, Relend.mslice-owed (Signed.SInt Syntax.w32) ty·5 0 10 Row.off) (List._∷_ (5, Relend.mslice-owed (Referent.rtF (Referent.fInt Syntax.w32)) ty·6 1 11 Row.off) (List._∷_ (6, Relend.mslice-owed (Referent.rtF (Referent.fInt Syntax.w32)) ty·7 2 12 Row.off) (List._∷_ (7, Mut.mslice (Referent.rtF (Referent.fInt Syntax.w32)) ty·8 3) (List._∷_ (8, Mut.mslice ELEM.the-row ty·15 4) (List._∷_ (9, Mut.mslice (Referent.rtF (Referent.fInt Syntax.w32)) ty·9 5) (List._∷_ (10, Mut.mslice (Referent.rtF (Referent.fInt Syntax.w32)) ty·10 6) (List._∷_ (11, Mut.mslice (Referent.rtF (Referent.fInt Syntax.w32)) ty·11 7) (List._∷_ (12, Mut.mslice (Referent.rtF (Referent.fInt Syntax.w64)) ty·12 8) (List._∷_ (13, Rows.sc-here (Row.sFloat Ieee.binary64)) (List._∷_ (14, Rows.sc-here (Row.sFloat Ieee.binary64)) (List._∷_ (15, Rows.sslice (Signed.SInt Syntax.w32) ty·13 9) List.[])))))))))))))))
+t12 = List._∷_ (16, Rows.sslice (Signed.SInt Syntax.w32) ty·16 10) (List._∷_ (17, Rows.sslice (Signed.SInt Syntax.w32) ty·17 11) (List._∷_ (18, Rows.whole (Declared'.row (Apart.apartT Counts.the-type))) (List._∷_ (19, Rows.whole (Declared'.row (Apart.apartT Point2.the-type))) (List._∷_ (20, Rows.sc-here Row.sBool) (List._∷_ (21, Rows.any-gone ty·29) (List._∷_ (22, Rows.any-gone ty·28) (List._∷_ (23, Rows.any-gone ty·32) (List._∷_ (24, Rows.any-gone ty·1) (List._∷_ (25, Rows.any-gone ty·3) (List._∷_ (26, Rows.sslice (Signed.SInt Syntax.w32) ty·3 12) (List._∷_ (27, Rows.any-gone ty·3) (List._∷_ (28, Rows.any-gone ty·20) (List._∷_ (29, Rows.any-gone ty·3) (List._∷_ (30, Rows.any-gone ty·20) (List._∷_ (31, Rows.any-gone ty·3) List.[])))))))))))))))
 
 abbrev pub t13 : List.List Row.Entry
-t13 = List._∷_ (16, Rows.whole (Declared.row (Apart.apartT Counts.the-type))) (List._∷_ (17, Rows.whole (Declared.row (Apart.apartT Point2.the-type))) (List._∷_ (18, Rows.any-gone ty·25) (List._∷_ (19, Rows.any-gone ty·3) (List._∷_ (20, Mut.mslice (Signed.SInt Syntax.w32) ty·3 10) (List._∷_ (21, Rows.any-gone ty·3) (List._∷_ (22, Mut.mslice (Referent.rtF (Referent.fInt Syntax.w32)) ty·3 11) (List._∷_ (23, Relend.msptr (Referent.rtF (Referent.fInt Syntax.w32)) ty·3 12) (List._∷_ (24, Rows.any-gone ty·16) (List._∷_ (25, Rows.any-gone ty·3) (List._∷_ (26, Rows.any-gone ty·16) (List._∷_ (27, Rows.any-gone ty·14) (List._∷_ (28, Rows.any-gone ty·18) (List._∷_ (29, Rows.any-gone ty·3) (List._∷_ (30, Rows.any-gone ty·16) (List._∷_ (31, Rows.any-gone ty·3) List.[])))))))))))))))
+t13 = List._∷_ (0, Rows.any-gone ty·30) (List._∷_ (1, Rows.sc-here (Row.sInt Syntax.w32)) (List._∷_ (2, Rows.sc-here (Row.sInt Syntax.w32)) (List._∷_ (3, Rows.sc-here (Row.sInt Syntax.w32)) (List._∷_ (4, Reshare.mslice-owedS (Signed.SInt Syntax.w32) ty·7 0 12 Row.off) (List._∷_ (5, Reshare.mslice-owedS (Signed.SInt Syntax.w32) ty·8 1 13 Row.off) (List._∷_ (6, Mut.mslice (Referent.rtF (Referent.fInt Syntax.w32)) ty·9 2) (List._∷_ (7, Mut.mslice (Referent.rtF (Referent.fInt Syntax.w32)) ty·10 3) (List._∷_ (8, Mut.mslice (Referent.rtF (Referent.fInt Syntax.w32)) ty·11 4) (List._∷_ (9, Mut.mslice ELEM.the-row ty·19 5) (List._∷_ (10, Mut.mslice (Referent.rtF (Referent.fInt Syntax.w32)) ty·12 6) (List._∷_ (11, Mut.mslice (Referent.rtF (Referent.fInt Syntax.w32)) ty·13 7) (List._∷_ (12, Mut.mslice (Referent.rtF (Referent.fInt Syntax.w32)) ty·14 8) (List._∷_ (13, Mut.mslice (Referent.rtF (Referent.fInt Syntax.w64)) ty·15 9) (List._∷_ (14, Rows.sc-here (Row.sFloat Ieee.binary64)) (List._∷_ (15, Rows.sc-here (Row.sFloat Ieee.binary64)) List.[])))))))))))))))
 
 abbrev pub t14 : List.List Row.Entry
-t14 = List._∷_ (16, Rows.whole (Declared.row (Apart.apartT Counts.the-type))) (List._∷_ (17, Rows.whole (Declared.row (Apart.apartT Point2.the-type))) (List._∷_ (18, Rows.any-gone ty·25) (List._∷_ (19, Rows.any-gone ty·3) (List._∷_ (20, Mut.mslice (Signed.SInt Syntax.w32) ty·3 10) (List._∷_ (21, Rows.any-gone ty·3) (List._∷_ (22, Mut.mslice (Referent.rtF (Referent.fInt Syntax.w32)) ty·3 11) (List._∷_ (23, Rows.any-gone ty·3) (List._∷_ (24, Mut.mslice (Referent.rtF (Referent.fInt Syntax.w32)) ty·3 12) (List._∷_ (25, Rows.any-gone ty·3) (List._∷_ (26, Rows.any-gone ty·16) (List._∷_ (27, Rows.any-gone ty·14) (List._∷_ (28, Rows.any-gone ty·18) (List._∷_ (29, Rows.any-gone ty·3) (List._∷_ (30, Rows.any-gone ty·16) (List._∷_ (31, Rows.any-gone ty·3) List.[])))))))))))))))
+t14 = List._∷_ (16, Rows.sslice (Signed.SInt Syntax.w32) ty·16 10) (List._∷_ (17, Rows.sslice (Signed.SInt Syntax.w32) ty·17 11) (List._∷_ (18, Rows.whole (Declared'.row (Apart.apartT Counts.the-type))) (List._∷_ (19, Rows.whole (Declared'.row (Apart.apartT Point2.the-type))) (List._∷_ (20, Rows.sc-here Row.sBool) (List._∷_ (21, Rows.any-gone ty·29) (List._∷_ (22, Rows.any-gone ty·28) (List._∷_ (23, Rows.any-gone ty·32) (List._∷_ (24, Rows.any-gone ty·1) (List._∷_ (25, Rows.any-gone ty·3) (List._∷_ (26, Rows.sslice (Signed.SInt Syntax.w32) ty·3 12) (List._∷_ (27, Relend.ssptr (Signed.SInt Syntax.w32) ty·3 13) (List._∷_ (28, Rows.any-gone ty·20) (List._∷_ (29, Rows.any-gone ty·3) (List._∷_ (30, Rows.any-gone ty·20) (List._∷_ (31, Rows.any-gone ty·3) List.[])))))))))))))))
 
 abbrev pub t15 : List.List Row.Entry
-t15 = List._∷_ (0, Rows.any-gone ty·23) (List._∷_ (1, Rows.sc-here (Row.sInt Syntax.w32)) (List._∷_ (2, Rows.sc-here (Row.sInt Syntax.w32)) (List._∷_ (3, Rows.sc-here (Row.sInt Syntax.w32)) (List._∷_ (4, Relend.mslice-owed (Signed.SInt Syntax.w32) ty·5 0 10 Row.off) (List._∷_ (5, Relend.mslice-owed (Referent.rtF (Referent.fInt Syntax.w32)) ty·6 1 11 Row.off) (List._∷_ (6, Relend.mslice-owed (Referent.rtF (Referent.fInt Syntax.w32)) ty·7 2 12 Row.off) (List._∷_ (7, Relend.mslice-owed (Referent.rtF (Referent.fInt Syntax.w32)) ty·8 3 13 Row.off) (List._∷_ (8, Mut.mslice ELEM.the-row ty·15 4) (List._∷_ (9, Mut.mslice (Referent.rtF (Referent.fInt Syntax.w32)) ty·9 5) (List._∷_ (10, Mut.mslice (Referent.rtF (Referent.fInt Syntax.w32)) ty·10 6) (List._∷_ (11, Mut.mslice (Referent.rtF (Referent.fInt Syntax.w32)) ty·11 7) (List._∷_ (12, Mut.mslice (Referent.rtF (Referent.fInt Syntax.w64)) ty·12 8) (List._∷_ (13, Rows.sc-here (Row.sFloat Ieee.binary64)) (List._∷_ (14, Rows.sc-here (Row.sFloat Ieee.binary64)) (List._∷_ (15, Rows.sslice (Signed.SInt Syntax.w32) ty·13 9) List.[])))))))))))))))
+t15 = List._∷_ (16, Rows.sslice (Signed.SInt Syntax.w32) ty·16 10) (List._∷_ (17, Rows.sslice (Signed.SInt Syntax.w32) ty·17 11) (List._∷_ (18, Rows.whole (Declared'.row (Apart.apartT Counts.the-type))) (List._∷_ (19, Rows.whole (Declared'.row (Apart.apartT Point2.the-type))) (List._∷_ (20, Rows.sc-here Row.sBool) (List._∷_ (21, Rows.any-gone ty·29) (List._∷_ (22, Rows.any-gone ty·28) (List._∷_ (23, Rows.any-gone ty·32) (List._∷_ (24, Rows.any-gone ty·1) (List._∷_ (25, Rows.any-gone ty·3) (List._∷_ (26, Rows.sslice (Signed.SInt Syntax.w32) ty·3 12) (List._∷_ (27, Rows.any-gone ty·3) (List._∷_ (28, Rows.sslice (Signed.SInt Syntax.w32) ty·3 13) (List._∷_ (29, Rows.any-gone ty·3) (List._∷_ (30, Rows.any-gone ty·20) (List._∷_ (31, Rows.any-gone ty·3) List.[])))))))))))))))
 
 abbrev pub t16 : List.List Row.Entry
-t16 = List._∷_ (16, Rows.whole (Declared.row (Apart.apartT Counts.the-type))) (List._∷_ (17, Rows.whole (Declared.row (Apart.apartT Point2.the-type))) (List._∷_ (18, Rows.any-gone ty·25) (List._∷_ (19, Rows.any-gone ty·3) (List._∷_ (20, Mut.mslice (Signed.SInt Syntax.w32) ty·3 10) (List._∷_ (21, Rows.any-gone ty·3) (List._∷_ (22, Mut.mslice (Referent.rtF (Referent.fInt Syntax.w32)) ty·3 11) (List._∷_ (23, Rows.any-gone ty·3) (List._∷_ (24, Mut.mslice (Referent.rtF (Referent.fInt Syntax.w32)) ty·3 12) (List._∷_ (25, Relend.msptr (Referent.rtF (Referent.fInt Syntax.w32)) ty·3 13) (List._∷_ (26, Rows.any-gone ty·16) (List._∷_ (27, Rows.any-gone ty·14) (List._∷_ (28, Rows.any-gone ty·18) (List._∷_ (29, Rows.any-gone ty·3) (List._∷_ (30, Rows.any-gone ty·16) (List._∷_ (31, Rows.any-gone ty·3) List.[])))))))))))))))
+t16 = List._∷_ (0, Rows.any-gone ty·30) (List._∷_ (1, Rows.sc-here (Row.sInt Syntax.w32)) (List._∷_ (2, Rows.sc-here (Row.sInt Syntax.w32)) (List._∷_ (3, Rows.sc-here (Row.sInt Syntax.w32)) (List._∷_ (4, Reshare.mslice-owedS (Signed.SInt Syntax.w32) ty·7 0 12 Row.off) (List._∷_ (5, Reshare.mslice-owedS (Signed.SInt Syntax.w32) ty·8 1 13 Row.off) (List._∷_ (6, Reshare.mslice-owedS (Referent.rtF (Referent.fInt Syntax.w32)) ty·9 2 14 Row.off) (List._∷_ (7, Mut.mslice (Referent.rtF (Referent.fInt Syntax.w32)) ty·10 3) (List._∷_ (8, Mut.mslice (Referent.rtF (Referent.fInt Syntax.w32)) ty·11 4) (List._∷_ (9, Mut.mslice ELEM.the-row ty·19 5) (List._∷_ (10, Mut.mslice (Referent.rtF (Referent.fInt Syntax.w32)) ty·12 6) (List._∷_ (11, Mut.mslice (Referent.rtF (Referent.fInt Syntax.w32)) ty·13 7) (List._∷_ (12, Mut.mslice (Referent.rtF (Referent.fInt Syntax.w32)) ty·14 8) (List._∷_ (13, Mut.mslice (Referent.rtF (Referent.fInt Syntax.w64)) ty·15 9) (List._∷_ (14, Rows.sc-here (Row.sFloat Ieee.binary64)) (List._∷_ (15, Rows.sc-here (Row.sFloat Ieee.binary64)) List.[])))))))))))))))
 
 abbrev pub t17 : List.List Row.Entry
-t17 = List._∷_ (16, Rows.whole (Declared.row (Apart.apartT Counts.the-type))) (List._∷_ (17, Rows.whole (Declared.row (Apart.apartT Point2.the-type))) (List._∷_ (18, Rows.any-gone ty·25) (List._∷_ (19, Rows.any-gone ty·3) (List._∷_ (20, Mut.mslice (Signed.SInt Syntax.w32) ty·3 10) (List._∷_ (21, Rows.any-gone ty·3) (List._∷_ (22, Mut.mslice (Referent.rtF (Referent.fInt Syntax.w32)) ty·3 11) (List._∷_ (23, Rows.any-gone ty·3) (List._∷_ (24, Mut.mslice (Referent.rtF (Referent.fInt Syntax.w32)) ty·3 12) (List._∷_ (25, Rows.any-gone ty·3) (List._∷_ (26, Mut.mslice (Referent.rtF (Referent.fInt Syntax.w32)) ty·3 13) (List._∷_ (27, Rows.any-gone ty·14) (List._∷_ (28, Rows.any-gone ty·18) (List._∷_ (29, Rows.any-gone ty·3) (List._∷_ (30, Rows.any-gone ty·16) (List._∷_ (31, Rows.any-gone ty·3) List.[])))))))))))))))
+t17 = List._∷_ (16, Rows.sslice (Signed.SInt Syntax.w32) ty·16 10) (List._∷_ (17, Rows.sslice (Signed.SInt Syntax.w32) ty·17 11) (List._∷_ (18, Rows.whole (Declared'.row (Apart.apartT Counts.the-type))) (List._∷_ (19, Rows.whole (Declared'.row (Apart.apartT Point2.the-type))) (List._∷_ (20, Rows.sc-here Row.sBool) (List._∷_ (21, Rows.any-gone ty·29) (List._∷_ (22, Rows.any-gone ty·28) (List._∷_ (23, Rows.any-gone ty·32) (List._∷_ (24, Rows.any-gone ty·1) (List._∷_ (25, Rows.any-gone ty·3) (List._∷_ (26, Rows.sslice (Signed.SInt Syntax.w32) ty·3 12) (List._∷_ (27, Rows.any-gone ty·3) (List._∷_ (28, Rows.sslice (Signed.SInt Syntax.w32) ty·3 13) (List._∷_ (29, Relend.ssptr (Referent.rtF (Referent.fInt Syntax.w32)) ty·3 14) (List._∷_ (30, Rows.any-gone ty·20) (List._∷_ (31, Rows.any-gone ty·3) List.[])))))))))))))))
 
 abbrev pub t18 : List.List Row.Entry
-t18 = List._∷_ (0, Rows.any-gone ty·23) (List._∷_ (1, Rows.sc-here (Row.sInt Syntax.w32)) (List._∷_ (2, Rows.sc-here (Row.sInt Syntax.w32)) (List._∷_ (3, Rows.sc-here (Row.sInt Syntax.w32)) (List._∷_ (4, Relend.mslice-owed (Signed.SInt Syntax.w32) ty·5 0 10 Row.off) (List._∷_ (5, Relend.mslice-owed (Referent.rtF (Referent.fInt Syntax.w32)) ty·6 1 11 Row.off) (List._∷_ (6, Relend.mslice-owed (Referent.rtF (Referent.fInt Syntax.w32)) ty·7 2 12 Row.off) (List._∷_ (7, Relend.mslice-owed (Referent.rtF (Referent.fInt Syntax.w32)) ty·8 3 13 Row.off) (List._∷_ (8, Relend.mslice-owed ELEM.the-row ty·15 4 14 Row.off) (List._∷_ (9, Mut.mslice (Referent.rtF (Referent.fInt Syntax.w32)) ty·9 5) (List._∷_ (10, Mut.mslice (Referent.rtF (Referent.fInt Syntax.w32)) ty·10 6) (List._∷_ (11, Mut.mslice (Referent.rtF (Referent.fInt Syntax.w32)) ty·11 7) (List._∷_ (12, Mut.mslice (Referent.rtF (Referent.fInt Syntax.w64)) ty·12 8) (List._∷_ (13, Rows.sc-here (Row.sFloat Ieee.binary64)) (List._∷_ (14, Rows.sc-here (Row.sFloat Ieee.binary64)) (List._∷_ (15, Rows.sslice (Signed.SInt Syntax.w32) ty·13 9) List.[])))))))))))))))
+t18 = List._∷_ (16, Rows.sslice (Signed.SInt Syntax.w32) ty·16 10) (List._∷_ (17, Rows.sslice (Signed.SInt Syntax.w32) ty·17 11) (List._∷_ (18, Rows.whole (Declared'.row (Apart.apartT Counts.the-type))) (List._∷_ (19, Rows.whole (Declared'.row (Apart.apartT Point2.the-type))) (List._∷_ (20, Rows.sc-here Row.sBool) (List._∷_ (21, Rows.any-gone ty·29) (List._∷_ (22, Rows.any-gone ty·28) (List._∷_ (23, Rows.any-gone ty·32) (List._∷_ (24, Rows.any-gone ty·1) (List._∷_ (25, Rows.any-gone ty·3) (List._∷_ (26, Rows.sslice (Signed.SInt Syntax.w32) ty·3 12) (List._∷_ (27, Rows.any-gone ty·3) (List._∷_ (28, Rows.sslice (Signed.SInt Syntax.w32) ty·3 13) (List._∷_ (29, Rows.any-gone ty·3) (List._∷_ (30, Rows.sslice (Referent.rtF (Referent.fInt Syntax.w32)) ty·3 14) (List._∷_ (31, Rows.any-gone ty·3) List.[])))))))))))))))
 
 abbrev pub t19 : List.List Row.Entry
-t19 = List._∷_ (16, Rows.whole (Declared.row (Apart.apartT Counts.the-type))) (List._∷_ (17, Rows.whole (Declared.row (Apart.apartT Point2.the-type))) (List._∷_ (18, Rows.any-gone ty·25) (List._∷_ (19, Rows.any-gone ty·3) (List._∷_ (20, Mut.mslice (Signed.SInt Syntax.w32) ty·3 10) (List._∷_ (21, Rows.any-gone ty·3) (List._∷_ (22, Mut.mslice (Referent.rtF (Referent.fInt Syntax.w32)) ty·3 11) (List._∷_ (23, Rows.any-gone ty·3) (List._∷_ (24, Mut.mslice (Referent.rtF (Referent.fInt Syntax.w32)) ty·3 12) (List._∷_ (25, Rows.any-gone ty·3) (List._∷_ (26, Mut.mslice (Referent.rtF (Referent.fInt Syntax.w32)) ty·3 13) (List._∷_ (27, Relend.msptr ELEM.the-row ty·14 14) (List._∷_ (28, Rows.any-gone ty·18) (List._∷_ (29, Rows.any-gone ty·3) (List._∷_ (30, Rows.any-gone ty·16) (List._∷_ (31, Rows.any-gone ty·3) List.[])))))))))))))))
+t19 = List._∷_ (0, Rows.any-gone ty·30) (List._∷_ (1, Rows.sc-here (Row.sInt Syntax.w32)) (List._∷_ (2, Rows.sc-here (Row.sInt Syntax.w32)) (List._∷_ (3, Rows.sc-here (Row.sInt Syntax.w32)) (List._∷_ (4, Reshare.mslice-owedS (Signed.SInt Syntax.w32) ty·7 0 12 Row.off) (List._∷_ (5, Reshare.mslice-owedS (Signed.SInt Syntax.w32) ty·8 1 13 Row.off) (List._∷_ (6, Reshare.mslice-owedS (Referent.rtF (Referent.fInt Syntax.w32)) ty·9 2 14 Row.off) (List._∷_ (7, Reshare.mslice-owedS (Referent.rtF (Referent.fInt Syntax.w32)) ty·10 3 15 Row.off) (List._∷_ (8, Mut.mslice (Referent.rtF (Referent.fInt Syntax.w32)) ty·11 4) (List._∷_ (9, Mut.mslice ELEM.the-row ty·19 5) (List._∷_ (10, Mut.mslice (Referent.rtF (Referent.fInt Syntax.w32)) ty·12 6) (List._∷_ (11, Mut.mslice (Referent.rtF (Referent.fInt Syntax.w32)) ty·13 7) (List._∷_ (12, Mut.mslice (Referent.rtF (Referent.fInt Syntax.w32)) ty·14 8) (List._∷_ (13, Mut.mslice (Referent.rtF (Referent.fInt Syntax.w64)) ty·15 9) (List._∷_ (14, Rows.sc-here (Row.sFloat Ieee.binary64)) (List._∷_ (15, Rows.sc-here (Row.sFloat Ieee.binary64)) List.[])))))))))))))))
 
 abbrev pub t20 : List.List Row.Entry
-t20 = List._∷_ (16, Rows.whole (Declared.row (Apart.apartT Counts.the-type))) (List._∷_ (17, Rows.whole (Declared.row (Apart.apartT Point2.the-type))) (List._∷_ (18, Rows.any-gone ty·25) (List._∷_ (19, Rows.any-gone ty·3) (List._∷_ (20, Mut.mslice (Signed.SInt Syntax.w32) ty·3 10) (List._∷_ (21, Rows.any-gone ty·3) (List._∷_ (22, Mut.mslice (Referent.rtF (Referent.fInt Syntax.w32)) ty·3 11) (List._∷_ (23, Rows.any-gone ty·3) (List._∷_ (24, Mut.mslice (Referent.rtF (Referent.fInt Syntax.w32)) ty·3 12) (List._∷_ (25, Rows.any-gone ty·3) (List._∷_ (26, Mut.mslice (Referent.rtF (Referent.fInt Syntax.w32)) ty·3 13) (List._∷_ (27, Rows.any-gone ty·14) (List._∷_ (28, Mut.mslice ELEM.the-row ty·14 14) (List._∷_ (29, Rows.any-gone ty·3) (List._∷_ (30, Rows.any-gone ty·16) (List._∷_ (31, Rows.any-gone ty·3) List.[])))))))))))))))
+t20 = List._∷_ (16, Rows.sslice (Signed.SInt Syntax.w32) ty·16 10) (List._∷_ (17, Rows.sslice (Signed.SInt Syntax.w32) ty·17 11) (List._∷_ (18, Rows.whole (Declared'.row (Apart.apartT Counts.the-type))) (List._∷_ (19, Rows.whole (Declared'.row (Apart.apartT Point2.the-type))) (List._∷_ (20, Rows.sc-here Row.sBool) (List._∷_ (21, Rows.any-gone ty·29) (List._∷_ (22, Rows.any-gone ty·28) (List._∷_ (23, Rows.any-gone ty·32) (List._∷_ (24, Rows.any-gone ty·1) (List._∷_ (25, Rows.any-gone ty·3) (List._∷_ (26, Rows.sslice (Signed.SInt Syntax.w32) ty·3 12) (List._∷_ (27, Rows.any-gone ty·3) (List._∷_ (28, Rows.sslice (Signed.SInt Syntax.w32) ty·3 13) (List._∷_ (29, Rows.any-gone ty·3) (List._∷_ (30, Rows.sslice (Referent.rtF (Referent.fInt Syntax.w32)) ty·3 14) (List._∷_ (31, Relend.ssptr (Referent.rtF (Referent.fInt Syntax.w32)) ty·3 15) List.[])))))))))))))))
 
 abbrev pub t21 : List.List Row.Entry
-t21 = List._∷_ (0, Rows.any-gone ty·23) (List._∷_ (1, Rows.sc-here (Row.sInt Syntax.w32)) (List._∷_ (2, Rows.sc-here (Row.sInt Syntax.w32)) (List._∷_ (3, Rows.sc-here (Row.sInt Syntax.w32)) (List._∷_ (4, Relend.mslice-owed (Signed.SInt Syntax.w32) ty·5 0 10 Row.off) (List._∷_ (5, Relend.mslice-owed (Referent.rtF (Referent.fInt Syntax.w32)) ty·6 1 11 Row.off) (List._∷_ (6, Relend.mslice-owed (Referent.rtF (Referent.fInt Syntax.w32)) ty·7 2 12 Row.off) (List._∷_ (7, Relend.mslice-owed (Referent.rtF (Referent.fInt Syntax.w32)) ty·8 3 13 Row.off) (List._∷_ (8, Relend.mslice-owed ELEM.the-row ty·15 4 14 Row.off) (List._∷_ (9, Relend.mslice-owed (Referent.rtF (Referent.fInt Syntax.w32)) ty·9 5 15 Row.off) (List._∷_ (10, Mut.mslice (Referent.rtF (Referent.fInt Syntax.w32)) ty·10 6) (List._∷_ (11, Mut.mslice (Referent.rtF (Referent.fInt Syntax.w32)) ty·11 7) (List._∷_ (12, Mut.mslice (Referent.rtF (Referent.fInt Syntax.w64)) ty·12 8) (List._∷_ (13, Rows.sc-here (Row.sFloat Ieee.binary64)) (List._∷_ (14, Rows.sc-here (Row.sFloat Ieee.binary64)) (List._∷_ (15, Rows.sslice (Signed.SInt Syntax.w32) ty·13 9) List.[])))))))))))))))
+t21 = List._∷_ (32, Rows.sslice (Referent.rtF (Referent.fInt Syntax.w32)) ty·3 15) (List._∷_ (33, Rows.any-gone ty·3) (List._∷_ (34, Rows.any-gone ty·20) (List._∷_ (35, Rows.any-gone ty·1) (List._∷_ (36, Rows.any-gone ty·1) (List._∷_ (37, Rows.any-gone ty·1) (List._∷_ (38, Rows.any-gone ty·5) (List._∷_ (39, Rows.any-gone ty·22) (List._∷_ (40, Rows.any-gone ty·5) (List._∷_ (41, Rows.any-gone ty·22) (List._∷_ (42, Rows.any-gone ty·5) (List._∷_ (43, Rows.any-gone ty·22) (List._∷_ (44, Rows.any-gone ty·5) (List._∷_ (45, Rows.any-gone ty·22) (List._∷_ (46, Rows.any-gone ty·18) (List._∷_ (47, Rows.any-gone ty·24) List.[])))))))))))))))
 
 abbrev pub t22 : List.List Row.Entry
-t22 = List._∷_ (16, Rows.whole (Declared.row (Apart.apartT Counts.the-type))) (List._∷_ (17, Rows.whole (Declared.row (Apart.apartT Point2.the-type))) (List._∷_ (18, Rows.any-gone ty·25) (List._∷_ (19, Rows.any-gone ty·3) (List._∷_ (20, Mut.mslice (Signed.SInt Syntax.w32) ty·3 10) (List._∷_ (21, Rows.any-gone ty·3) (List._∷_ (22, Mut.mslice (Referent.rtF (Referent.fInt Syntax.w32)) ty·3 11) (List._∷_ (23, Rows.any-gone ty·3) (List._∷_ (24, Mut.mslice (Referent.rtF (Referent.fInt Syntax.w32)) ty·3 12) (List._∷_ (25, Rows.any-gone ty·3) (List._∷_ (26, Mut.mslice (Referent.rtF (Referent.fInt Syntax.w32)) ty·3 13) (List._∷_ (27, Rows.any-gone ty·14) (List._∷_ (28, Mut.mslice ELEM.the-row ty·14 14) (List._∷_ (29, Relend.msptr (Referent.rtF (Referent.fInt Syntax.w32)) ty·3 15) (List._∷_ (30, Rows.any-gone ty·16) (List._∷_ (31, Rows.any-gone ty·3) List.[])))))))))))))))
+t22 = List._∷_ (0, Rows.any-gone ty·30) (List._∷_ (1, Rows.sc-here (Row.sInt Syntax.w32)) (List._∷_ (2, Rows.sc-here (Row.sInt Syntax.w32)) (List._∷_ (3, Rows.sc-here (Row.sInt Syntax.w32)) (List._∷_ (4, Reshare.mslice-owedS (Signed.SInt Syntax.w32) ty·7 0 12 Row.off) (List._∷_ (5, Reshare.mslice-owedS (Signed.SInt Syntax.w32) ty·8 1 13 Row.off) (List._∷_ (6, Reshare.mslice-owedS (Referent.rtF (Referent.fInt Syntax.w32)) ty·9 2 14 Row.off) (List._∷_ (7, Reshare.mslice-owedS (Referent.rtF (Referent.fInt Syntax.w32)) ty·10 3 15 Row.off) (List._∷_ (8, Reshare.mslice-owedS (Referent.rtF (Referent.fInt Syntax.w32)) ty·11 4 16 Row.off) (List._∷_ (9, Mut.mslice ELEM.the-row ty·19 5) (List._∷_ (10, Mut.mslice (Referent.rtF (Referent.fInt Syntax.w32)) ty·12 6) (List._∷_ (11, Mut.mslice (Referent.rtF (Referent.fInt Syntax.w32)) ty·13 7) (List._∷_ (12, Mut.mslice (Referent.rtF (Referent.fInt Syntax.w32)) ty·14 8) (List._∷_ (13, Mut.mslice (Referent.rtF (Referent.fInt Syntax.w64)) ty·15 9) (List._∷_ (14, Rows.sc-here (Row.sFloat Ieee.binary64)) (List._∷_ (15, Rows.sc-here (Row.sFloat Ieee.binary64)) List.[])))))))))))))))
 
 abbrev pub t23 : List.List Row.Entry
-t23 = List._∷_ (16, Rows.whole (Declared.row (Apart.apartT Counts.the-type))) (List._∷_ (17, Rows.whole (Declared.row (Apart.apartT Point2.the-type))) (List._∷_ (18, Rows.any-gone ty·25) (List._∷_ (19, Rows.any-gone ty·3) (List._∷_ (20, Mut.mslice (Signed.SInt Syntax.w32) ty·3 10) (List._∷_ (21, Rows.any-gone ty·3) (List._∷_ (22, Mut.mslice (Referent.rtF (Referent.fInt Syntax.w32)) ty·3 11) (List._∷_ (23, Rows.any-gone ty·3) (List._∷_ (24, Mut.mslice (Referent.rtF (Referent.fInt Syntax.w32)) ty·3 12) (List._∷_ (25, Rows.any-gone ty·3) (List._∷_ (26, Mut.mslice (Referent.rtF (Referent.fInt Syntax.w32)) ty·3 13) (List._∷_ (27, Rows.any-gone ty·14) (List._∷_ (28, Mut.mslice ELEM.the-row ty·14 14) (List._∷_ (29, Rows.any-gone ty·3) (List._∷_ (30, Mut.mslice (Referent.rtF (Referent.fInt Syntax.w32)) ty·3 15) (List._∷_ (31, Rows.any-gone ty·3) List.[])))))))))))))))
+t23 = List._∷_ (32, Rows.sslice (Referent.rtF (Referent.fInt Syntax.w32)) ty·3 15) (List._∷_ (33, Relend.ssptr (Referent.rtF (Referent.fInt Syntax.w32)) ty·3 16) (List._∷_ (34, Rows.any-gone ty·20) (List._∷_ (35, Rows.any-gone ty·1) (List._∷_ (36, Rows.any-gone ty·1) (List._∷_ (37, Rows.any-gone ty·1) (List._∷_ (38, Rows.any-gone ty·5) (List._∷_ (39, Rows.any-gone ty·22) (List._∷_ (40, Rows.any-gone ty·5) (List._∷_ (41, Rows.any-gone ty·22) (List._∷_ (42, Rows.any-gone ty·5) (List._∷_ (43, Rows.any-gone ty·22) (List._∷_ (44, Rows.any-gone ty·5) (List._∷_ (45, Rows.any-gone ty·22) (List._∷_ (46, Rows.any-gone ty·18) (List._∷_ (47, Rows.any-gone ty·24) List.[])))))))))))))))
 
 abbrev pub t24 : List.List Row.Entry
-t24 = List._∷_ (0, Rows.any-gone ty·23) (List._∷_ (1, Rows.sc-here (Row.sInt Syntax.w32)) (List._∷_ (2, Rows.sc-here (Row.sInt Syntax.w32)) (List._∷_ (3, Rows.sc-here (Row.sInt Syntax.w32)) (List._∷_ (4, Relend.mslice-owed (Signed.SInt Syntax.w32) ty·5 0 10 Row.off) (List._∷_ (5, Relend.mslice-owed (Referent.rtF (Referent.fInt Syntax.w32)) ty·6 1 11 Row.off) (List._∷_ (6, Relend.mslice-owed (Referent.rtF (Referent.fInt Syntax.w32)) ty·7 2 12 Row.off) (List._∷_ (7, Relend.mslice-owed (Referent.rtF (Referent.fInt Syntax.w32)) ty·8 3 13 Row.off) (List._∷_ (8, Relend.mslice-owed ELEM.the-row ty·15 4 14 Row.off) (List._∷_ (9, Relend.mslice-owed (Referent.rtF (Referent.fInt Syntax.w32)) ty·9 5 15 Row.off) (List._∷_ (10, Relend.mslice-owed (Referent.rtF (Referent.fInt Syntax.w32)) ty·10 6 16 Row.off) (List._∷_ (11, Mut.mslice (Referent.rtF (Referent.fInt Syntax.w32)) ty·11 7) (List._∷_ (12, Mut.mslice (Referent.rtF (Referent.fInt Syntax.w64)) ty·12 8) (List._∷_ (13, Rows.sc-here (Row.sFloat Ieee.binary64)) (List._∷_ (14, Rows.sc-here (Row.sFloat Ieee.binary64)) (List._∷_ (15, Rows.sslice (Signed.SInt Syntax.w32) ty·13 9) List.[])))))))))))))))
+t24 = List._∷_ (32, Rows.sslice (Referent.rtF (Referent.fInt Syntax.w32)) ty·3 15) (List._∷_ (33, Rows.any-gone ty·3) (List._∷_ (34, Rows.sslice (Referent.rtF (Referent.fInt Syntax.w32)) ty·3 16) (List._∷_ (35, Rows.any-gone ty·1) (List._∷_ (36, Rows.any-gone ty·1) (List._∷_ (37, Rows.any-gone ty·1) (List._∷_ (38, Rows.any-gone ty·5) (List._∷_ (39, Rows.any-gone ty·22) (List._∷_ (40, Rows.any-gone ty·5) (List._∷_ (41, Rows.any-gone ty·22) (List._∷_ (42, Rows.any-gone ty·5) (List._∷_ (43, Rows.any-gone ty·22) (List._∷_ (44, Rows.any-gone ty·5) (List._∷_ (45, Rows.any-gone ty·22) (List._∷_ (46, Rows.any-gone ty·18) (List._∷_ (47, Rows.any-gone ty·24) List.[])))))))))))))))
 
 abbrev pub t25 : List.List Row.Entry
-t25 = List._∷_ (16, Rows.whole (Declared.row (Apart.apartT Counts.the-type))) (List._∷_ (17, Rows.whole (Declared.row (Apart.apartT Point2.the-type))) (List._∷_ (18, Rows.any-gone ty·25) (List._∷_ (19, Rows.any-gone ty·3) (List._∷_ (20, Mut.mslice (Signed.SInt Syntax.w32) ty·3 10) (List._∷_ (21, Rows.any-gone ty·3) (List._∷_ (22, Mut.mslice (Referent.rtF (Referent.fInt Syntax.w32)) ty·3 11) (List._∷_ (23, Rows.any-gone ty·3) (List._∷_ (24, Mut.mslice (Referent.rtF (Referent.fInt Syntax.w32)) ty·3 12) (List._∷_ (25, Rows.any-gone ty·3) (List._∷_ (26, Mut.mslice (Referent.rtF (Referent.fInt Syntax.w32)) ty·3 13) (List._∷_ (27, Rows.any-gone ty·14) (List._∷_ (28, Mut.mslice ELEM.the-row ty·14 14) (List._∷_ (29, Rows.any-gone ty·3) (List._∷_ (30, Mut.mslice (Referent.rtF (Referent.fInt Syntax.w32)) ty·3 15) (List._∷_ (31, Relend.msptr (Referent.rtF (Referent.fInt Syntax.w32)) ty·3 16) List.[])))))))))))))))
+t25 = List._∷_ (16, Rows.sslice (Signed.SInt Syntax.w32) ty·16 10) (List._∷_ (17, Rows.sslice (Signed.SInt Syntax.w32) ty·17 11) (List._∷_ (18, Rows.whole (Declared'.row (Apart.apartT Counts.the-type))) (List._∷_ (19, Rows.whole (Declared'.row (Apart.apartT Point2.the-type))) (List._∷_ (20, Rows.sc-here Row.sBool) (List._∷_ (21, Rows.any-gone ty·29) (List._∷_ (22, Rows.any-gone ty·28) (List._∷_ (23, Rows.any-gone ty·32) (List._∷_ (24, Rows.sc-here (Row.sInt Syntax.w64)) (List._∷_ (25, Rows.any-gone ty·3) (List._∷_ (26, Rows.sslice (Signed.SInt Syntax.w32) ty·3 12) (List._∷_ (27, Rows.any-gone ty·3) (List._∷_ (28, Rows.sslice (Signed.SInt Syntax.w32) ty·3 13) (List._∷_ (29, Rows.any-gone ty·3) (List._∷_ (30, Rows.sslice (Referent.rtF (Referent.fInt Syntax.w32)) ty·3 14) (List._∷_ (31, Rows.any-gone ty·3) List.[])))))))))))))))
 
 abbrev pub t26 : List.List Row.Entry
-t26 = List._∷_ (32, Mut.mslice (Referent.rtF (Referent.fInt Syntax.w32)) ty·3 16) (List._∷_ (33, Rows.any-gone ty·3) (List._∷_ (34, Rows.any-gone ty·16) (List._∷_ (35, Rows.any-gone ty·4) (List._∷_ (36, Rows.any-gone ty·17) List.[]))))
+t26 = List._∷_ (32, Rows.sslice (Referent.rtF (Referent.fInt Syntax.w32)) ty·3 15) (List._∷_ (33, Rows.any-gone ty·3) (List._∷_ (34, Rows.sslice (Referent.rtF (Referent.fInt Syntax.w32)) ty·3 16) (List._∷_ (35, Rows.sc-here (Row.sInt Syntax.w64)) (List._∷_ (36, Rows.any-gone ty·1) (List._∷_ (37, Rows.any-gone ty·1) (List._∷_ (38, Rows.any-gone ty·5) (List._∷_ (39, Rows.any-gone ty·22) (List._∷_ (40, Rows.any-gone ty·5) (List._∷_ (41, Rows.any-gone ty·22) (List._∷_ (42, Rows.any-gone ty·5) (List._∷_ (43, Rows.any-gone ty·22) (List._∷_ (44, Rows.any-gone ty·5) (List._∷_ (45, Rows.any-gone ty·22) (List._∷_ (46, Rows.any-gone ty·18) (List._∷_ (47, Rows.any-gone ty·24) List.[])))))))))))))))
 
 abbrev pub t27 : List.List Row.Entry
-t27 = List._∷_ (0, Rows.any-gone ty·23) (List._∷_ (1, Rows.sc-here (Row.sInt Syntax.w32)) (List._∷_ (2, Rows.sc-here (Row.sInt Syntax.w32)) (List._∷_ (3, Rows.sc-here (Row.sInt Syntax.w32)) (List._∷_ (4, Relend.mslice-owed (Signed.SInt Syntax.w32) ty·5 0 10 Row.off) (List._∷_ (5, Relend.mslice-owed (Referent.rtF (Referent.fInt Syntax.w32)) ty·6 1 11 Row.off) (List._∷_ (6, Relend.mslice-owed (Referent.rtF (Referent.fInt Syntax.w32)) ty·7 2 12 Row.off) (List._∷_ (7, Relend.mslice-owed (Referent.rtF (Referent.fInt Syntax.w32)) ty·8 3 13 Row.off) (List._∷_ (8, Relend.mslice-owed ELEM.the-row ty·15 4 14 Row.off) (List._∷_ (9, Relend.mslice-owed (Referent.rtF (Referent.fInt Syntax.w32)) ty·9 5 15 Row.off) (List._∷_ (10, Relend.mslice-owed (Referent.rtF (Referent.fInt Syntax.w32)) ty·10 6 16 Row.off) (List._∷_ (11, Relend.mslice-owed (Referent.rtF (Referent.fInt Syntax.w32)) ty·11 7 17 Row.off) (List._∷_ (12, Mut.mslice (Referent.rtF (Referent.fInt Syntax.w64)) ty·12 8) (List._∷_ (13, Rows.sc-here (Row.sFloat Ieee.binary64)) (List._∷_ (14, Rows.sc-here (Row.sFloat Ieee.binary64)) (List._∷_ (15, Rows.sslice (Signed.SInt Syntax.w32) ty·13 9) List.[])))))))))))))))
+t27 = List._∷_ (32, Rows.sslice (Referent.rtF (Referent.fInt Syntax.w32)) ty·3 15) (List._∷_ (33, Rows.any-gone ty·3) (List._∷_ (34, Rows.sslice (Referent.rtF (Referent.fInt Syntax.w32)) ty·3 16) (List._∷_ (35, Rows.sc-here (Row.sInt Syntax.w64)) (List._∷_ (36, Rows.sc-here (Row.sInt Syntax.w64)) (List._∷_ (37, Rows.any-gone ty·1) (List._∷_ (38, Rows.any-gone ty·5) (List._∷_ (39, Rows.any-gone ty·22) (List._∷_ (40, Rows.any-gone ty·5) (List._∷_ (41, Rows.any-gone ty·22) (List._∷_ (42, Rows.any-gone ty·5) (List._∷_ (43, Rows.any-gone ty·22) (List._∷_ (44, Rows.any-gone ty·5) (List._∷_ (45, Rows.any-gone ty·22) (List._∷_ (46, Rows.any-gone ty·18) (List._∷_ (47, Rows.any-gone ty·24) List.[])))))))))))))))
 
 abbrev pub t28 : List.List Row.Entry
-t28 = List._∷_ (32, Mut.mslice (Referent.rtF (Referent.fInt Syntax.w32)) ty·3 16) (List._∷_ (33, Relend.msptr (Referent.rtF (Referent.fInt Syntax.w32)) ty·3 17) (List._∷_ (34, Rows.any-gone ty·16) (List._∷_ (35, Rows.any-gone ty·4) (List._∷_ (36, Rows.any-gone ty·17) List.[]))))
+t28 = List._∷_ (32, Rows.sslice (Referent.rtF (Referent.fInt Syntax.w32)) ty·3 15) (List._∷_ (33, Rows.any-gone ty·3) (List._∷_ (34, Rows.sslice (Referent.rtF (Referent.fInt Syntax.w32)) ty·3 16) (List._∷_ (35, Rows.sc-here (Row.sInt Syntax.w64)) (List._∷_ (36, Rows.sc-here (Row.sInt Syntax.w64)) (List._∷_ (37, Rows.sc-here (Row.sInt Syntax.w64)) (List._∷_ (38, Rows.any-gone ty·5) (List._∷_ (39, Rows.any-gone ty·22) (List._∷_ (40, Rows.any-gone ty·5) (List._∷_ (41, Rows.any-gone ty·22) (List._∷_ (42, Rows.any-gone ty·5) (List._∷_ (43, Rows.any-gone ty·22) (List._∷_ (44, Rows.any-gone ty·5) (List._∷_ (45, Rows.any-gone ty·22) (List._∷_ (46, Rows.any-gone ty·18) (List._∷_ (47, Rows.any-gone ty·24) List.[])))))))))))))))
 
 abbrev pub t29 : List.List Row.Entry
-t29 = List._∷_ (32, Mut.mslice (Referent.rtF (Referent.fInt Syntax.w32)) ty·3 16) (List._∷_ (33, Rows.any-gone ty·3) (List._∷_ (34, Mut.mslice (Referent.rtF (Referent.fInt Syntax.w32)) ty·3 17) (List._∷_ (35, Rows.any-gone ty·4) (List._∷_ (36, Rows.any-gone ty·17) List.[]))))
+t29 = List._∷_ (16, Rows.sslice (Signed.SInt Syntax.w32) ty·16 10) (List._∷_ (17, Rows.sslice (Signed.SInt Syntax.w32) ty·17 11) (List._∷_ (18, Rows.whole (Declared'.row Counts.the-type)) (List._∷_ (19, Rows.whole (Declared'.row (Apart.apartT Point2.the-type))) (List._∷_ (20, Rows.sc-here Row.sBool) (List._∷_ (21, Rows.any-gone ty·29) (List._∷_ (22, Rows.any-gone ty·28) (List._∷_ (23, Rows.any-gone ty·32) (List._∷_ (24, Rows.sc-here (Row.sInt Syntax.w64)) (List._∷_ (25, Rows.any-gone ty·3) (List._∷_ (26, Rows.sslice (Signed.SInt Syntax.w32) ty·3 12) (List._∷_ (27, Rows.any-gone ty·3) (List._∷_ (28, Rows.sslice (Signed.SInt Syntax.w32) ty·3 13) (List._∷_ (29, Rows.any-gone ty·3) (List._∷_ (30, Rows.sslice (Referent.rtF (Referent.fInt Syntax.w32)) ty·3 14) (List._∷_ (31, Rows.any-gone ty·3) List.[])))))))))))))))
 
 abbrev pub t30 : List.List Row.Entry
-t30 = List._∷_ (0, Rows.any-gone ty·23) (List._∷_ (1, Rows.sc-here (Row.sInt Syntax.w32)) (List._∷_ (2, Rows.sc-here (Row.sInt Syntax.w32)) (List._∷_ (3, Rows.sc-here (Row.sInt Syntax.w32)) (List._∷_ (4, Relend.mslice-owed (Signed.SInt Syntax.w32) ty·5 0 10 Row.off) (List._∷_ (5, Relend.mslice-owed (Referent.rtF (Referent.fInt Syntax.w32)) ty·6 1 11 Row.off) (List._∷_ (6, Relend.mslice-owed (Referent.rtF (Referent.fInt Syntax.w32)) ty·7 2 12 Row.off) (List._∷_ (7, Relend.mslice-owed (Referent.rtF (Referent.fInt Syntax.w32)) ty·8 3 13 Row.off) (List._∷_ (8, Relend.mslice-owed ELEM.the-row ty·15 4 14 Row.off) (List._∷_ (9, Relend.mslice-owed (Referent.rtF (Referent.fInt Syntax.w32)) ty·9 5 15 Row.off) (List._∷_ (10, Relend.mslice-owed (Referent.rtF (Referent.fInt Syntax.w32)) ty·10 6 16 Row.off) (List._∷_ (11, Relend.mslice-owed (Referent.rtF (Referent.fInt Syntax.w32)) ty·11 7 17 Row.off) (List._∷_ (12, Relend.mslice-owed (Referent.rtF (Referent.fInt Syntax.w64)) ty·12 8 18 Row.off) (List._∷_ (13, Rows.sc-here (Row.sFloat Ieee.binary64)) (List._∷_ (14, Rows.sc-here (Row.sFloat Ieee.binary64)) (List._∷_ (15, Rows.sslice (Signed.SInt Syntax.w32) ty·13 9) List.[])))))))))))))))
+t30 = List._∷_ (16, Rows.sslice (Signed.SInt Syntax.w32) ty·16 10) (List._∷_ (17, Rows.sslice (Signed.SInt Syntax.w32) ty·17 11) (List._∷_ (18, Rows.whole (Declared'.row Counts.the-type)) (List._∷_ (19, Rows.whole (Declared'.row (Apart.apartT Point2.the-type))) (List._∷_ (20, Rows.sc-here Row.sBool) (List._∷_ (21, Rows.whole (Declared.row Checked.the-type)) (List._∷_ (22, Rows.any-gone ty·28) (List._∷_ (23, Rows.any-gone ty·32) (List._∷_ (24, Rows.sc-here (Row.sInt Syntax.w64)) (List._∷_ (25, Rows.any-gone ty·3) (List._∷_ (26, Rows.sslice (Signed.SInt Syntax.w32) ty·3 12) (List._∷_ (27, Rows.any-gone ty·3) (List._∷_ (28, Rows.sslice (Signed.SInt Syntax.w32) ty·3 13) (List._∷_ (29, Rows.any-gone ty·3) (List._∷_ (30, Rows.sslice (Referent.rtF (Referent.fInt Syntax.w32)) ty·3 14) (List._∷_ (31, Rows.any-gone ty·3) List.[])))))))))))))))
 
 abbrev pub t31 : List.List Row.Entry
-t31 = List._∷_ (32, Mut.mslice (Referent.rtF (Referent.fInt Syntax.w32)) ty·3 16) (List._∷_ (33, Rows.any-gone ty·3) (List._∷_ (34, Mut.mslice (Referent.rtF (Referent.fInt Syntax.w32)) ty·3 17) (List._∷_ (35, Relend.msptr (Referent.rtF (Referent.fInt Syntax.w64)) ty·4 18) (List._∷_ (36, Rows.any-gone ty·17) List.[]))))
+t31 = List._∷_ (16, Rows.sslice (Signed.SInt Syntax.w32) ty·16 10) (List._∷_ (17, Rows.sslice (Signed.SInt Syntax.w32) ty·17 11) (List._∷_ (18, Rows.whole (Declared'.row Counts.the-type)) (List._∷_ (19, Rows.whole (Declared'.row Point2.the-type)) (List._∷_ (20, Rows.sc-here Row.sBool) (List._∷_ (21, Rows.any-gone ty·29) (List._∷_ (22, Rows.any-gone ty·28) (List._∷_ (23, Rows.any-gone ty·32) (List._∷_ (24, Rows.any-gone ty·1) (List._∷_ (25, Rows.any-gone ty·3) (List._∷_ (26, Rows.any-gone ty·20) (List._∷_ (27, Rows.any-gone ty·3) (List._∷_ (28, Rows.any-gone ty·20) (List._∷_ (29, Rows.any-gone ty·3) (List._∷_ (30, Rows.any-gone ty·20) (List._∷_ (31, Rows.any-gone ty·3) List.[])))))))))))))))
 
 abbrev pub t32 : List.List Row.Entry
-t32 = List._∷_ (32, Mut.mslice (Referent.rtF (Referent.fInt Syntax.w32)) ty·3 16) (List._∷_ (33, Rows.any-gone ty·3) (List._∷_ (34, Mut.mslice (Referent.rtF (Referent.fInt Syntax.w32)) ty·3 17) (List._∷_ (35, Rows.any-gone ty·4) (List._∷_ (36, Mut.mslice (Referent.rtF (Referent.fInt Syntax.w64)) ty·4 18) List.[]))))
+t32 = List._∷_ (16, Rows.sslice (Signed.SInt Syntax.w32) ty·16 10) (List._∷_ (17, Rows.sslice (Signed.SInt Syntax.w32) ty·17 11) (List._∷_ (18, Rows.whole (Declared'.row Counts.the-type)) (List._∷_ (19, Rows.whole (Declared'.row (Apart.apartT Point2.the-type))) (List._∷_ (20, Rows.sc-here Row.sBool) (List._∷_ (21, Rows.whole (Declared.row Checked.the-type)) (List._∷_ (22, Rows.any-gone ty·28) (List._∷_ (23, Rows.any-gone ty·32) (List._∷_ (24, Rows.sc-here (Row.sInt Syntax.w64)) (List._∷_ (25, Rows.any-gone ty·3) (List._∷_ (26, Rows.any-gone ty·20) (List._∷_ (27, Rows.any-gone ty·3) (List._∷_ (28, Rows.sslice (Signed.SInt Syntax.w32) ty·3 13) (List._∷_ (29, Rows.any-gone ty·3) (List._∷_ (30, Rows.sslice (Referent.rtF (Referent.fInt Syntax.w32)) ty·3 14) (List._∷_ (31, Rows.any-gone ty·3) List.[])))))))))))))))
 
 abbrev pub t33 : List.List Row.Entry
-t33 = List._∷_ (16, Rows.whole (Declared.row Counts.the-type)) (List._∷_ (17, Rows.whole (Declared.row (Apart.apartT Point2.the-type))) (List._∷_ (18, Rows.any-gone ty·25) (List._∷_ (19, Rows.any-gone ty·3) (List._∷_ (20, Mut.mslice (Signed.SInt Syntax.w32) ty·3 10) (List._∷_ (21, Rows.any-gone ty·3) (List._∷_ (22, Mut.mslice (Referent.rtF (Referent.fInt Syntax.w32)) ty·3 11) (List._∷_ (23, Rows.any-gone ty·3) (List._∷_ (24, Mut.mslice (Referent.rtF (Referent.fInt Syntax.w32)) ty·3 12) (List._∷_ (25, Rows.any-gone ty·3) (List._∷_ (26, Mut.mslice (Referent.rtF (Referent.fInt Syntax.w32)) ty·3 13) (List._∷_ (27, Rows.any-gone ty·14) (List._∷_ (28, Mut.mslice ELEM.the-row ty·14 14) (List._∷_ (29, Rows.any-gone ty·3) (List._∷_ (30, Mut.mslice (Referent.rtF (Referent.fInt Syntax.w32)) ty·3 15) (List._∷_ (31, Rows.any-gone ty·3) List.[])))))))))))))))
+t33 = List._∷_ (16, Rows.sslice (Signed.SInt Syntax.w32) ty·16 10) (List._∷_ (17, Rows.sslice (Signed.SInt Syntax.w32) ty·17 11) (List._∷_ (18, Rows.whole (Declared'.row Counts.the-type)) (List._∷_ (19, Rows.whole (Declared'.row (Apart.apartT Point2.the-type))) (List._∷_ (20, Rows.sc-here Row.sBool) (List._∷_ (21, Rows.whole (Declared.row Checked.the-type)) (List._∷_ (22, Rows.any-gone ty·28) (List._∷_ (23, Rows.any-gone ty·32) (List._∷_ (24, Rows.sc-here (Row.sInt Syntax.w64)) (List._∷_ (25, Rows.any-gone ty·3) (List._∷_ (26, Rows.any-gone ty·20) (List._∷_ (27, Rows.any-gone ty·3) (List._∷_ (28, Rows.any-gone ty·20) (List._∷_ (29, Rows.any-gone ty·3) (List._∷_ (30, Rows.sslice (Referent.rtF (Referent.fInt Syntax.w32)) ty·3 14) (List._∷_ (31, Rows.any-gone ty·3) List.[])))))))))))))))
 
 abbrev pub t34 : List.List Row.Entry
-t34 = List._∷_ (16, Rows.whole (Declared.row Counts.the-type)) (List._∷_ (17, Rows.whole (Declared.row Point2.the-type)) (List._∷_ (18, Rows.any-gone ty·25) (List._∷_ (19, Rows.any-gone ty·3) (List._∷_ (20, Mut.mslice (Signed.SInt Syntax.w32) ty·3 10) (List._∷_ (21, Rows.any-gone ty·3) (List._∷_ (22, Mut.mslice (Referent.rtF (Referent.fInt Syntax.w32)) ty·3 11) (List._∷_ (23, Rows.any-gone ty·3) (List._∷_ (24, Mut.mslice (Referent.rtF (Referent.fInt Syntax.w32)) ty·3 12) (List._∷_ (25, Rows.any-gone ty·3) (List._∷_ (26, Mut.mslice (Referent.rtF (Referent.fInt Syntax.w32)) ty·3 13) (List._∷_ (27, Rows.any-gone ty·14) (List._∷_ (28, Mut.mslice ELEM.the-row ty·14 14) (List._∷_ (29, Rows.any-gone ty·3) (List._∷_ (30, Mut.mslice (Referent.rtF (Referent.fInt Syntax.w32)) ty·3 15) (List._∷_ (31, Rows.any-gone ty·3) List.[])))))))))))))))
+t34 = List._∷_ (16, Rows.sslice (Signed.SInt Syntax.w32) ty·16 10) (List._∷_ (17, Rows.sslice (Signed.SInt Syntax.w32) ty·17 11) (List._∷_ (18, Rows.whole (Declared'.row Counts.the-type)) (List._∷_ (19, Rows.whole (Declared'.row (Apart.apartT Point2.the-type))) (List._∷_ (20, Rows.sc-here Row.sBool) (List._∷_ (21, Rows.whole (Declared.row Checked.the-type)) (List._∷_ (22, Rows.any-gone ty·28) (List._∷_ (23, Rows.any-gone ty·32) (List._∷_ (24, Rows.sc-here (Row.sInt Syntax.w64)) (List._∷_ (25, Rows.any-gone ty·3) (List._∷_ (26, Rows.any-gone ty·20) (List._∷_ (27, Rows.any-gone ty·3) (List._∷_ (28, Rows.any-gone ty·20) (List._∷_ (29, Rows.any-gone ty·3) (List._∷_ (30, Rows.any-gone ty·20) (List._∷_ (31, Rows.any-gone ty·3) List.[])))))))))))))))
 
 abbrev pub t35 : List.List Row.Entry
-t35 = List._∷_ (16, Rows.whole (Declared.row Counts.the-type)) (List._∷_ (17, Rows.whole (Declared.row Point2.the-type)) (List._∷_ (18, Rows.whole (Declared.row FinishAnswer.the-type)) (List._∷_ (19, Rows.any-gone ty·3) (List._∷_ (20, Mut.msleft (Signed.SInt Syntax.w32) ty·3) (List._∷_ (21, Rows.any-gone ty·3) (List._∷_ (22, Mut.msleft (Referent.rtF (Referent.fInt Syntax.w32)) ty·3) (List._∷_ (23, Rows.any-gone ty·3) (List._∷_ (24, Mut.msleft (Referent.rtF (Referent.fInt Syntax.w32)) ty·3) (List._∷_ (25, Rows.any-gone ty·3) (List._∷_ (26, Mut.msleft (Referent.rtF (Referent.fInt Syntax.w32)) ty·3) (List._∷_ (27, Rows.any-gone ty·14) (List._∷_ (28, Mut.msleft ELEM.the-row ty·14) (List._∷_ (29, Rows.any-gone ty·3) (List._∷_ (30, Mut.msleft (Referent.rtF (Referent.fInt Syntax.w32)) ty·3) (List._∷_ (31, Rows.any-gone ty·3) List.[])))))))))))))))
+t35 = List._∷_ (32, Rows.any-gone ty·20) (List._∷_ (33, Rows.any-gone ty·3) (List._∷_ (34, Rows.sslice (Referent.rtF (Referent.fInt Syntax.w32)) ty·3 16) (List._∷_ (35, Rows.sc-here (Row.sInt Syntax.w64)) (List._∷_ (36, Rows.sc-here (Row.sInt Syntax.w64)) (List._∷_ (37, Rows.sc-here (Row.sInt Syntax.w64)) (List._∷_ (38, Rows.any-gone ty·5) (List._∷_ (39, Rows.any-gone ty·22) (List._∷_ (40, Rows.any-gone ty·5) (List._∷_ (41, Rows.any-gone ty·22) (List._∷_ (42, Rows.any-gone ty·5) (List._∷_ (43, Rows.any-gone ty·22) (List._∷_ (44, Rows.any-gone ty·5) (List._∷_ (45, Rows.any-gone ty·22) (List._∷_ (46, Rows.any-gone ty·18) (List._∷_ (47, Rows.any-gone ty·24) List.[])))))))))))))))
 
 abbrev pub t36 : List.List Row.Entry
-t36 = List._∷_ (32, Mut.msleft (Referent.rtF (Referent.fInt Syntax.w32)) ty·3) (List._∷_ (33, Rows.any-gone ty·3) (List._∷_ (34, Mut.msleft (Referent.rtF (Referent.fInt Syntax.w32)) ty·3) (List._∷_ (35, Rows.any-gone ty·4) (List._∷_ (36, Mut.msleft (Referent.rtF (Referent.fInt Syntax.w64)) ty·4) List.[]))))
+t36 = List._∷_ (32, Rows.any-gone ty·20) (List._∷_ (33, Rows.any-gone ty·3) (List._∷_ (34, Rows.any-gone ty·20) (List._∷_ (35, Rows.sc-here (Row.sInt Syntax.w64)) (List._∷_ (36, Rows.sc-here (Row.sInt Syntax.w64)) (List._∷_ (37, Rows.sc-here (Row.sInt Syntax.w64)) (List._∷_ (38, Rows.any-gone ty·5) (List._∷_ (39, Rows.any-gone ty·22) (List._∷_ (40, Rows.any-gone ty·5) (List._∷_ (41, Rows.any-gone ty·22) (List._∷_ (42, Rows.any-gone ty·5) (List._∷_ (43, Rows.any-gone ty·22) (List._∷_ (44, Rows.any-gone ty·5) (List._∷_ (45, Rows.any-gone ty·22) (List._∷_ (46, Rows.any-gone ty·18) (List._∷_ (47, Rows.any-gone ty·24) List.[])))))))))))))))
 
 abbrev pub t37 : List.List Row.Entry
-t37 = List._∷_ (16, Rows.any-gone ty·20) (List._∷_ (17, Rows.whole (Declared.row Point2.the-type)) (List._∷_ (18, Rows.whole (Declared.row FinishAnswer.the-type)) (List._∷_ (19, Rows.any-gone ty·3) (List._∷_ (20, Mut.msleft (Signed.SInt Syntax.w32) ty·3) (List._∷_ (21, Rows.any-gone ty·3) (List._∷_ (22, Mut.msleft (Referent.rtF (Referent.fInt Syntax.w32)) ty·3) (List._∷_ (23, Rows.any-gone ty·3) (List._∷_ (24, Mut.msleft (Referent.rtF (Referent.fInt Syntax.w32)) ty·3) (List._∷_ (25, Rows.any-gone ty·3) (List._∷_ (26, Mut.msleft (Referent.rtF (Referent.fInt Syntax.w32)) ty·3) (List._∷_ (27, Rows.any-gone ty·14) (List._∷_ (28, Mut.msleft ELEM.the-row ty·14) (List._∷_ (29, Rows.any-gone ty·3) (List._∷_ (30, Mut.msleft (Referent.rtF (Referent.fInt Syntax.w32)) ty·3) (List._∷_ (31, Rows.any-gone ty·3) List.[])))))))))))))))
+t37 = List._∷_ (16, Rows.sslice (Signed.SInt Syntax.w32) ty·16 10) (List._∷_ (17, Rows.sslice (Signed.SInt Syntax.w32) ty·17 11) (List._∷_ (18, Rows.whole (Declared'.row Counts.the-type)) (List._∷_ (19, Rows.whole (Declared'.row (Apart.apartT Point2.the-type))) (List._∷_ (20, Rows.sc-here Row.sBool) (List._∷_ (21, Rows.whole (Declared.row Checked.the-type)) (List._∷_ (22, Rows.any-gone ty·28) (List._∷_ (23, Rows.any-gone ty·32) (List._∷_ (24, Rows.any-gone ty·1) (List._∷_ (25, Rows.any-gone ty·3) (List._∷_ (26, Rows.any-gone ty·20) (List._∷_ (27, Rows.any-gone ty·3) (List._∷_ (28, Rows.any-gone ty·20) (List._∷_ (29, Rows.any-gone ty·3) (List._∷_ (30, Rows.any-gone ty·20) (List._∷_ (31, Rows.any-gone ty·3) List.[])))))))))))))))
 
 abbrev pub t38 : List.List Row.Entry
-t38 = List._∷_ (16, Rows.any-gone ty·20) (List._∷_ (17, Rows.any-gone ty·19) (List._∷_ (18, Rows.whole (Declared.row FinishAnswer.the-type)) (List._∷_ (19, Rows.any-gone ty·3) (List._∷_ (20, Mut.msleft (Signed.SInt Syntax.w32) ty·3) (List._∷_ (21, Rows.any-gone ty·3) (List._∷_ (22, Mut.msleft (Referent.rtF (Referent.fInt Syntax.w32)) ty·3) (List._∷_ (23, Rows.any-gone ty·3) (List._∷_ (24, Mut.msleft (Referent.rtF (Referent.fInt Syntax.w32)) ty·3) (List._∷_ (25, Rows.any-gone ty·3) (List._∷_ (26, Mut.msleft (Referent.rtF (Referent.fInt Syntax.w32)) ty·3) (List._∷_ (27, Rows.any-gone ty·14) (List._∷_ (28, Mut.msleft ELEM.the-row ty·14) (List._∷_ (29, Rows.any-gone ty·3) (List._∷_ (30, Mut.msleft (Referent.rtF (Referent.fInt Syntax.w32)) ty·3) (List._∷_ (31, Rows.any-gone ty·3) List.[])))))))))))))))
+t38 = List._∷_ (32, Rows.any-gone ty·20) (List._∷_ (33, Rows.any-gone ty·3) (List._∷_ (34, Rows.any-gone ty·20) (List._∷_ (35, Rows.any-gone ty·1) (List._∷_ (36, Rows.sc-here (Row.sInt Syntax.w64)) (List._∷_ (37, Rows.sc-here (Row.sInt Syntax.w64)) (List._∷_ (38, Rows.any-gone ty·5) (List._∷_ (39, Rows.any-gone ty·22) (List._∷_ (40, Rows.any-gone ty·5) (List._∷_ (41, Rows.any-gone ty·22) (List._∷_ (42, Rows.any-gone ty·5) (List._∷_ (43, Rows.any-gone ty·22) (List._∷_ (44, Rows.any-gone ty·5) (List._∷_ (45, Rows.any-gone ty·22) (List._∷_ (46, Rows.any-gone ty·18) (List._∷_ (47, Rows.any-gone ty·24) List.[])))))))))))))))
 
 abbrev pub t39 : List.List Row.Entry
-t39 = List._∷_ (0, Rows.any-gone ty·23) (List._∷_ (1, Rows.sc-here (Row.sInt Syntax.w32)) (List._∷_ (2, Rows.sc-here (Row.sInt Syntax.w32)) (List._∷_ (3, Rows.sc-here (Row.sInt Syntax.w32)) (List._∷_ (4, Mut.mslice (Signed.SInt Syntax.w32) ty·5 0) (List._∷_ (5, Relend.mslice-owed (Referent.rtF (Referent.fInt Syntax.w32)) ty·6 1 11 Row.off) (List._∷_ (6, Relend.mslice-owed (Referent.rtF (Referent.fInt Syntax.w32)) ty·7 2 12 Row.off) (List._∷_ (7, Relend.mslice-owed (Referent.rtF (Referent.fInt Syntax.w32)) ty·8 3 13 Row.off) (List._∷_ (8, Relend.mslice-owed ELEM.the-row ty·15 4 14 Row.off) (List._∷_ (9, Relend.mslice-owed (Referent.rtF (Referent.fInt Syntax.w32)) ty·9 5 15 Row.off) (List._∷_ (10, Relend.mslice-owed (Referent.rtF (Referent.fInt Syntax.w32)) ty·10 6 16 Row.off) (List._∷_ (11, Relend.mslice-owed (Referent.rtF (Referent.fInt Syntax.w32)) ty·11 7 17 Row.off) (List._∷_ (12, Relend.mslice-owed (Referent.rtF (Referent.fInt Syntax.w64)) ty·12 8 18 Row.off) (List._∷_ (13, Rows.sc-here (Row.sFloat Ieee.binary64)) (List._∷_ (14, Rows.sc-here (Row.sFloat Ieee.binary64)) (List._∷_ (15, Rows.sslice (Signed.SInt Syntax.w32) ty·13 9) List.[])))))))))))))))
+t39 = List._∷_ (32, Rows.any-gone ty·20) (List._∷_ (33, Rows.any-gone ty·3) (List._∷_ (34, Rows.any-gone ty·20) (List._∷_ (35, Rows.any-gone ty·1) (List._∷_ (36, Rows.any-gone ty·1) (List._∷_ (37, Rows.sc-here (Row.sInt Syntax.w64)) (List._∷_ (38, Rows.any-gone ty·5) (List._∷_ (39, Rows.any-gone ty·22) (List._∷_ (40, Rows.any-gone ty·5) (List._∷_ (41, Rows.any-gone ty·22) (List._∷_ (42, Rows.any-gone ty·5) (List._∷_ (43, Rows.any-gone ty·22) (List._∷_ (44, Rows.any-gone ty·5) (List._∷_ (45, Rows.any-gone ty·22) (List._∷_ (46, Rows.any-gone ty·18) (List._∷_ (47, Rows.any-gone ty·24) List.[])))))))))))))))
 
 abbrev pub t40 : List.List Row.Entry
-t40 = List._∷_ (16, Rows.any-gone ty·20) (List._∷_ (17, Rows.any-gone ty·19) (List._∷_ (18, Rows.whole (Declared.row FinishAnswer.the-type)) (List._∷_ (19, Rows.any-gone ty·3) (List._∷_ (20, Rows.any-gone ty·16) (List._∷_ (21, Rows.any-gone ty·3) (List._∷_ (22, Mut.msleft (Referent.rtF (Referent.fInt Syntax.w32)) ty·3) (List._∷_ (23, Rows.any-gone ty·3) (List._∷_ (24, Mut.msleft (Referent.rtF (Referent.fInt Syntax.w32)) ty·3) (List._∷_ (25, Rows.any-gone ty·3) (List._∷_ (26, Mut.msleft (Referent.rtF (Referent.fInt Syntax.w32)) ty·3) (List._∷_ (27, Rows.any-gone ty·14) (List._∷_ (28, Mut.msleft ELEM.the-row ty·14) (List._∷_ (29, Rows.any-gone ty·3) (List._∷_ (30, Mut.msleft (Referent.rtF (Referent.fInt Syntax.w32)) ty·3) (List._∷_ (31, Rows.any-gone ty·3) List.[])))))))))))))))
+t40 = List._∷_ (0, Rows.any-gone ty·30) (List._∷_ (1, Rows.sc-here (Row.sInt Syntax.w32)) (List._∷_ (2, Rows.sc-here (Row.sInt Syntax.w32)) (List._∷_ (3, Rows.sc-here (Row.sInt Syntax.w32)) (List._∷_ (4, Mut.mslice (Signed.SInt Syntax.w32) ty·7 0) (List._∷_ (5, Reshare.mslice-owedS (Signed.SInt Syntax.w32) ty·8 1 13 Row.off) (List._∷_ (6, Reshare.mslice-owedS (Referent.rtF (Referent.fInt Syntax.w32)) ty·9 2 14 Row.off) (List._∷_ (7, Reshare.mslice-owedS (Referent.rtF (Referent.fInt Syntax.w32)) ty·10 3 15 Row.off) (List._∷_ (8, Reshare.mslice-owedS (Referent.rtF (Referent.fInt Syntax.w32)) ty·11 4 16 Row.off) (List._∷_ (9, Mut.mslice ELEM.the-row ty·19 5) (List._∷_ (10, Mut.mslice (Referent.rtF (Referent.fInt Syntax.w32)) ty·12 6) (List._∷_ (11, Mut.mslice (Referent.rtF (Referent.fInt Syntax.w32)) ty·13 7) (List._∷_ (12, Mut.mslice (Referent.rtF (Referent.fInt Syntax.w32)) ty·14 8) (List._∷_ (13, Mut.mslice (Referent.rtF (Referent.fInt Syntax.w64)) ty·15 9) (List._∷_ (14, Rows.sc-here (Row.sFloat Ieee.binary64)) (List._∷_ (15, Rows.sc-here (Row.sFloat Ieee.binary64)) List.[])))))))))))))))
 
 abbrev pub t41 : List.List Row.Entry
-t41 = List._∷_ (0, Rows.any-gone ty·23) (List._∷_ (1, Rows.sc-here (Row.sInt Syntax.w32)) (List._∷_ (2, Rows.sc-here (Row.sInt Syntax.w32)) (List._∷_ (3, Rows.sc-here (Row.sInt Syntax.w32)) (List._∷_ (4, Mut.mslice (Signed.SInt Syntax.w32) ty·5 0) (List._∷_ (5, Mut.mslice (Referent.rtF (Referent.fInt Syntax.w32)) ty·6 1) (List._∷_ (6, Relend.mslice-owed (Referent.rtF (Referent.fInt Syntax.w32)) ty·7 2 12 Row.off) (List._∷_ (7, Relend.mslice-owed (Referent.rtF (Referent.fInt Syntax.w32)) ty·8 3 13 Row.off) (List._∷_ (8, Relend.mslice-owed ELEM.the-row ty·15 4 14 Row.off) (List._∷_ (9, Relend.mslice-owed (Referent.rtF (Referent.fInt Syntax.w32)) ty·9 5 15 Row.off) (List._∷_ (10, Relend.mslice-owed (Referent.rtF (Referent.fInt Syntax.w32)) ty·10 6 16 Row.off) (List._∷_ (11, Relend.mslice-owed (Referent.rtF (Referent.fInt Syntax.w32)) ty·11 7 17 Row.off) (List._∷_ (12, Relend.mslice-owed (Referent.rtF (Referent.fInt Syntax.w64)) ty·12 8 18 Row.off) (List._∷_ (13, Rows.sc-here (Row.sFloat Ieee.binary64)) (List._∷_ (14, Rows.sc-here (Row.sFloat Ieee.binary64)) (List._∷_ (15, Rows.sslice (Signed.SInt Syntax.w32) ty·13 9) List.[])))))))))))))))
+t41 = List._∷_ (0, Rows.any-gone ty·30) (List._∷_ (1, Rows.sc-here (Row.sInt Syntax.w32)) (List._∷_ (2, Rows.sc-here (Row.sInt Syntax.w32)) (List._∷_ (3, Rows.sc-here (Row.sInt Syntax.w32)) (List._∷_ (4, Mut.mslice (Signed.SInt Syntax.w32) ty·7 0) (List._∷_ (5, Mut.mslice (Signed.SInt Syntax.w32) ty·8 1) (List._∷_ (6, Reshare.mslice-owedS (Referent.rtF (Referent.fInt Syntax.w32)) ty·9 2 14 Row.off) (List._∷_ (7, Reshare.mslice-owedS (Referent.rtF (Referent.fInt Syntax.w32)) ty·10 3 15 Row.off) (List._∷_ (8, Reshare.mslice-owedS (Referent.rtF (Referent.fInt Syntax.w32)) ty·11 4 16 Row.off) (List._∷_ (9, Mut.mslice ELEM.the-row ty·19 5) (List._∷_ (10, Mut.mslice (Referent.rtF (Referent.fInt Syntax.w32)) ty·12 6) (List._∷_ (11, Mut.mslice (Referent.rtF (Referent.fInt Syntax.w32)) ty·13 7) (List._∷_ (12, Mut.mslice (Referent.rtF (Referent.fInt Syntax.w32)) ty·14 8) (List._∷_ (13, Mut.mslice (Referent.rtF (Referent.fInt Syntax.w64)) ty·15 9) (List._∷_ (14, Rows.sc-here (Row.sFloat Ieee.binary64)) (List._∷_ (15, Rows.sc-here (Row.sFloat Ieee.binary64)) List.[])))))))))))))))
 
 abbrev pub t42 : List.List Row.Entry
-t42 = List._∷_ (16, Rows.any-gone ty·20) (List._∷_ (17, Rows.any-gone ty·19) (List._∷_ (18, Rows.whole (Declared.row FinishAnswer.the-type)) (List._∷_ (19, Rows.any-gone ty·3) (List._∷_ (20, Rows.any-gone ty·16) (List._∷_ (21, Rows.any-gone ty·3) (List._∷_ (22, Rows.any-gone ty·16) (List._∷_ (23, Rows.any-gone ty·3) (List._∷_ (24, Mut.msleft (Referent.rtF (Referent.fInt Syntax.w32)) ty·3) (List._∷_ (25, Rows.any-gone ty·3) (List._∷_ (26, Mut.msleft (Referent.rtF (Referent.fInt Syntax.w32)) ty·3) (List._∷_ (27, Rows.any-gone ty·14) (List._∷_ (28, Mut.msleft ELEM.the-row ty·14) (List._∷_ (29, Rows.any-gone ty·3) (List._∷_ (30, Mut.msleft (Referent.rtF (Referent.fInt Syntax.w32)) ty·3) (List._∷_ (31, Rows.any-gone ty·3) List.[])))))))))))))))
+t42 = List._∷_ (0, Rows.any-gone ty·30) (List._∷_ (1, Rows.sc-here (Row.sInt Syntax.w32)) (List._∷_ (2, Rows.sc-here (Row.sInt Syntax.w32)) (List._∷_ (3, Rows.sc-here (Row.sInt Syntax.w32)) (List._∷_ (4, Mut.mslice (Signed.SInt Syntax.w32) ty·7 0) (List._∷_ (5, Mut.mslice (Signed.SInt Syntax.w32) ty·8 1) (List._∷_ (6, Mut.mslice (Referent.rtF (Referent.fInt Syntax.w32)) ty·9 2) (List._∷_ (7, Reshare.mslice-owedS (Referent.rtF (Referent.fInt Syntax.w32)) ty·10 3 15 Row.off) (List._∷_ (8, Reshare.mslice-owedS (Referent.rtF (Referent.fInt Syntax.w32)) ty·11 4 16 Row.off) (List._∷_ (9, Mut.mslice ELEM.the-row ty·19 5) (List._∷_ (10, Mut.mslice (Referent.rtF (Referent.fInt Syntax.w32)) ty·12 6) (List._∷_ (11, Mut.mslice (Referent.rtF (Referent.fInt Syntax.w32)) ty·13 7) (List._∷_ (12, Mut.mslice (Referent.rtF (Referent.fInt Syntax.w32)) ty·14 8) (List._∷_ (13, Mut.mslice (Referent.rtF (Referent.fInt Syntax.w64)) ty·15 9) (List._∷_ (14, Rows.sc-here (Row.sFloat Ieee.binary64)) (List._∷_ (15, Rows.sc-here (Row.sFloat Ieee.binary64)) List.[])))))))))))))))
 
 abbrev pub t43 : List.List Row.Entry
-t43 = List._∷_ (0, Rows.any-gone ty·23) (List._∷_ (1, Rows.sc-here (Row.sInt Syntax.w32)) (List._∷_ (2, Rows.sc-here (Row.sInt Syntax.w32)) (List._∷_ (3, Rows.sc-here (Row.sInt Syntax.w32)) (List._∷_ (4, Mut.mslice (Signed.SInt Syntax.w32) ty·5 0) (List._∷_ (5, Mut.mslice (Referent.rtF (Referent.fInt Syntax.w32)) ty·6 1) (List._∷_ (6, Mut.mslice (Referent.rtF (Referent.fInt Syntax.w32)) ty·7 2) (List._∷_ (7, Relend.mslice-owed (Referent.rtF (Referent.fInt Syntax.w32)) ty·8 3 13 Row.off) (List._∷_ (8, Relend.mslice-owed ELEM.the-row ty·15 4 14 Row.off) (List._∷_ (9, Relend.mslice-owed (Referent.rtF (Referent.fInt Syntax.w32)) ty·9 5 15 Row.off) (List._∷_ (10, Relend.mslice-owed (Referent.rtF (Referent.fInt Syntax.w32)) ty·10 6 16 Row.off) (List._∷_ (11, Relend.mslice-owed (Referent.rtF (Referent.fInt Syntax.w32)) ty·11 7 17 Row.off) (List._∷_ (12, Relend.mslice-owed (Referent.rtF (Referent.fInt Syntax.w64)) ty·12 8 18 Row.off) (List._∷_ (13, Rows.sc-here (Row.sFloat Ieee.binary64)) (List._∷_ (14, Rows.sc-here (Row.sFloat Ieee.binary64)) (List._∷_ (15, Rows.sslice (Signed.SInt Syntax.w32) ty·13 9) List.[])))))))))))))))
+t43 = List._∷_ (0, Rows.any-gone ty·30) (List._∷_ (1, Rows.sc-here (Row.sInt Syntax.w32)) (List._∷_ (2, Rows.sc-here (Row.sInt Syntax.w32)) (List._∷_ (3, Rows.sc-here (Row.sInt Syntax.w32)) (List._∷_ (4, Mut.mslice (Signed.SInt Syntax.w32) ty·7 0) (List._∷_ (5, Mut.mslice (Signed.SInt Syntax.w32) ty·8 1) (List._∷_ (6, Mut.mslice (Referent.rtF (Referent.fInt Syntax.w32)) ty·9 2) (List._∷_ (7, Mut.mslice (Referent.rtF (Referent.fInt Syntax.w32)) ty·10 3) (List._∷_ (8, Reshare.mslice-owedS (Referent.rtF (Referent.fInt Syntax.w32)) ty·11 4 16 Row.off) (List._∷_ (9, Mut.mslice ELEM.the-row ty·19 5) (List._∷_ (10, Mut.mslice (Referent.rtF (Referent.fInt Syntax.w32)) ty·12 6) (List._∷_ (11, Mut.mslice (Referent.rtF (Referent.fInt Syntax.w32)) ty·13 7) (List._∷_ (12, Mut.mslice (Referent.rtF (Referent.fInt Syntax.w32)) ty·14 8) (List._∷_ (13, Mut.mslice (Referent.rtF (Referent.fInt Syntax.w64)) ty·15 9) (List._∷_ (14, Rows.sc-here (Row.sFloat Ieee.binary64)) (List._∷_ (15, Rows.sc-here (Row.sFloat Ieee.binary64)) List.[])))))))))))))))
 
 abbrev pub t44 : List.List Row.Entry
-t44 = List._∷_ (16, Rows.any-gone ty·20) (List._∷_ (17, Rows.any-gone ty·19) (List._∷_ (18, Rows.whole (Declared.row FinishAnswer.the-type)) (List._∷_ (19, Rows.any-gone ty·3) (List._∷_ (20, Rows.any-gone ty·16) (List._∷_ (21, Rows.any-gone ty·3) (List._∷_ (22, Rows.any-gone ty·16) (List._∷_ (23, Rows.any-gone ty·3) (List._∷_ (24, Rows.any-gone ty·16) (List._∷_ (25, Rows.any-gone ty·3) (List._∷_ (26, Mut.msleft (Referent.rtF (Referent.fInt Syntax.w32)) ty·3) (List._∷_ (27, Rows.any-gone ty·14) (List._∷_ (28, Mut.msleft ELEM.the-row ty·14) (List._∷_ (29, Rows.any-gone ty·3) (List._∷_ (30, Mut.msleft (Referent.rtF (Referent.fInt Syntax.w32)) ty·3) (List._∷_ (31, Rows.any-gone ty·3) List.[])))))))))))))))
+t44 = List._∷_ (16, Rows.sslice (Signed.SInt Syntax.w32) ty·16 10) (List._∷_ (17, Rows.sslice (Signed.SInt Syntax.w32) ty·17 11) (List._∷_ (18, Rows.whole (Declared'.row Counts.the-type)) (List._∷_ (19, Rows.whole (Declared'.row Point2.the-type)) (List._∷_ (20, Rows.sc-here Row.sBool) (List._∷_ (21, Rows.whole (Declared.row Checked.the-type)) (List._∷_ (22, Rows.any-gone ty·28) (List._∷_ (23, Rows.any-gone ty·32) (List._∷_ (24, Rows.any-gone ty·1) (List._∷_ (25, Rows.any-gone ty·3) (List._∷_ (26, Rows.any-gone ty·20) (List._∷_ (27, Rows.any-gone ty·3) (List._∷_ (28, Rows.any-gone ty·20) (List._∷_ (29, Rows.any-gone ty·3) (List._∷_ (30, Rows.any-gone ty·20) (List._∷_ (31, Rows.any-gone ty·3) List.[])))))))))))))))
 
 abbrev pub t45 : List.List Row.Entry
-t45 = List._∷_ (0, Rows.any-gone ty·23) (List._∷_ (1, Rows.sc-here (Row.sInt Syntax.w32)) (List._∷_ (2, Rows.sc-here (Row.sInt Syntax.w32)) (List._∷_ (3, Rows.sc-here (Row.sInt Syntax.w32)) (List._∷_ (4, Mut.mslice (Signed.SInt Syntax.w32) ty·5 0) (List._∷_ (5, Mut.mslice (Referent.rtF (Referent.fInt Syntax.w32)) ty·6 1) (List._∷_ (6, Mut.mslice (Referent.rtF (Referent.fInt Syntax.w32)) ty·7 2) (List._∷_ (7, Mut.mslice (Referent.rtF (Referent.fInt Syntax.w32)) ty·8 3) (List._∷_ (8, Relend.mslice-owed ELEM.the-row ty·15 4 14 Row.off) (List._∷_ (9, Relend.mslice-owed (Referent.rtF (Referent.fInt Syntax.w32)) ty·9 5 15 Row.off) (List._∷_ (10, Relend.mslice-owed (Referent.rtF (Referent.fInt Syntax.w32)) ty·10 6 16 Row.off) (List._∷_ (11, Relend.mslice-owed (Referent.rtF (Referent.fInt Syntax.w32)) ty·11 7 17 Row.off) (List._∷_ (12, Relend.mslice-owed (Referent.rtF (Referent.fInt Syntax.w64)) ty·12 8 18 Row.off) (List._∷_ (13, Rows.sc-here (Row.sFloat Ieee.binary64)) (List._∷_ (14, Rows.sc-here (Row.sFloat Ieee.binary64)) (List._∷_ (15, Rows.sslice (Signed.SInt Syntax.w32) ty·13 9) List.[])))))))))))))))
+t45 = List._∷_ (16, Rows.sslice (Signed.SInt Syntax.w32) ty·16 10) (List._∷_ (17, Rows.sslice (Signed.SInt Syntax.w32) ty·17 11) (List._∷_ (18, Rows.whole (Declared'.row Counts.the-type)) (List._∷_ (19, Rows.whole (Declared'.row Point2.the-type)) (List._∷_ (20, Rows.sc-here Row.sBool) (List._∷_ (21, Rows.whole (Known.Known Checked.enum 1)) (List._∷_ (22, Rows.any-gone ty·28) (List._∷_ (23, Rows.any-gone ty·32) (List._∷_ (24, Rows.any-gone ty·1) (List._∷_ (25, Rows.any-gone ty·3) (List._∷_ (26, Rows.any-gone ty·20) (List._∷_ (27, Rows.any-gone ty·3) (List._∷_ (28, Rows.any-gone ty·20) (List._∷_ (29, Rows.any-gone ty·3) (List._∷_ (30, Rows.any-gone ty·20) (List._∷_ (31, Rows.any-gone ty·3) List.[])))))))))))))))
 
 abbrev pub t46 : List.List Row.Entry
-t46 = List._∷_ (16, Rows.any-gone ty·20) (List._∷_ (17, Rows.any-gone ty·19) (List._∷_ (18, Rows.whole (Declared.row FinishAnswer.the-type)) (List._∷_ (19, Rows.any-gone ty·3) (List._∷_ (20, Rows.any-gone ty·16) (List._∷_ (21, Rows.any-gone ty·3) (List._∷_ (22, Rows.any-gone ty·16) (List._∷_ (23, Rows.any-gone ty·3) (List._∷_ (24, Rows.any-gone ty·16) (List._∷_ (25, Rows.any-gone ty·3) (List._∷_ (26, Rows.any-gone ty·16) (List._∷_ (27, Rows.any-gone ty·14) (List._∷_ (28, Mut.msleft ELEM.the-row ty·14) (List._∷_ (29, Rows.any-gone ty·3) (List._∷_ (30, Mut.msleft (Referent.rtF (Referent.fInt Syntax.w32)) ty·3) (List._∷_ (31, Rows.any-gone ty·3) List.[])))))))))))))))
+t46 = List._∷_ (16, Rows.sslice (Signed.SInt Syntax.w32) ty·16 10) (List._∷_ (17, Rows.sslice (Signed.SInt Syntax.w32) ty·17 11) (List._∷_ (18, Rows.whole (Declared'.row Counts.the-type)) (List._∷_ (19, Rows.any-gone ty·25) (List._∷_ (20, Rows.sc-here Row.sBool) (List._∷_ (21, Rows.whole (Known.Known Checked.enum 1)) (List._∷_ (22, Rows.any-gone ty·28) (List._∷_ (23, Rows.any-gone ty·32) (List._∷_ (24, Rows.any-gone ty·1) (List._∷_ (25, Rows.any-gone ty·3) (List._∷_ (26, Rows.any-gone ty·20) (List._∷_ (27, Rows.any-gone ty·3) (List._∷_ (28, Rows.any-gone ty·20) (List._∷_ (29, Rows.any-gone ty·3) (List._∷_ (30, Rows.any-gone ty·20) (List._∷_ (31, Rows.any-gone ty·3) List.[])))))))))))))))
 
 abbrev pub t47 : List.List Row.Entry
-t47 = List._∷_ (0, Rows.any-gone ty·23) (List._∷_ (1, Rows.sc-here (Row.sInt Syntax.w32)) (List._∷_ (2, Rows.sc-here (Row.sInt Syntax.w32)) (List._∷_ (3, Rows.sc-here (Row.sInt Syntax.w32)) (List._∷_ (4, Mut.mslice (Signed.SInt Syntax.w32) ty·5 0) (List._∷_ (5, Mut.mslice (Referent.rtF (Referent.fInt Syntax.w32)) ty·6 1) (List._∷_ (6, Mut.mslice (Referent.rtF (Referent.fInt Syntax.w32)) ty·7 2) (List._∷_ (7, Mut.mslice (Referent.rtF (Referent.fInt Syntax.w32)) ty·8 3) (List._∷_ (8, Mut.mslice ELEM.the-row ty·15 4) (List._∷_ (9, Relend.mslice-owed (Referent.rtF (Referent.fInt Syntax.w32)) ty·9 5 15 Row.off) (List._∷_ (10, Relend.mslice-owed (Referent.rtF (Referent.fInt Syntax.w32)) ty·10 6 16 Row.off) (List._∷_ (11, Relend.mslice-owed (Referent.rtF (Referent.fInt Syntax.w32)) ty·11 7 17 Row.off) (List._∷_ (12, Relend.mslice-owed (Referent.rtF (Referent.fInt Syntax.w64)) ty·12 8 18 Row.off) (List._∷_ (13, Rows.sc-here (Row.sFloat Ieee.binary64)) (List._∷_ (14, Rows.sc-here (Row.sFloat Ieee.binary64)) (List._∷_ (15, Rows.sslice (Signed.SInt Syntax.w32) ty·13 9) List.[])))))))))))))))
+t47 = List._∷_ (16, Rows.sslice (Signed.SInt Syntax.w32) ty·16 10) (List._∷_ (17, Rows.sslice (Signed.SInt Syntax.w32) ty·17 11) (List._∷_ (18, Rows.whole (Declared'.row Counts.the-type)) (List._∷_ (19, Rows.any-gone ty·25) (List._∷_ (20, Rows.sc-here Row.sBool) (List._∷_ (21, Rows.whole (Known.Known Checked.enum 1)) (List._∷_ (22, Rows.whole (Declared'.row Refusal.the-type)) (List._∷_ (23, Rows.any-gone ty·32) (List._∷_ (24, Rows.any-gone ty·1) (List._∷_ (25, Rows.any-gone ty·3) (List._∷_ (26, Rows.any-gone ty·20) (List._∷_ (27, Rows.any-gone ty·3) (List._∷_ (28, Rows.any-gone ty·20) (List._∷_ (29, Rows.any-gone ty·3) (List._∷_ (30, Rows.any-gone ty·20) (List._∷_ (31, Rows.any-gone ty·3) List.[])))))))))))))))
 
 abbrev pub t48 : List.List Row.Entry
-t48 = List._∷_ (16, Rows.any-gone ty·20) (List._∷_ (17, Rows.any-gone ty·19) (List._∷_ (18, Rows.whole (Declared.row FinishAnswer.the-type)) (List._∷_ (19, Rows.any-gone ty·3) (List._∷_ (20, Rows.any-gone ty·16) (List._∷_ (21, Rows.any-gone ty·3) (List._∷_ (22, Rows.any-gone ty·16) (List._∷_ (23, Rows.any-gone ty·3) (List._∷_ (24, Rows.any-gone ty·16) (List._∷_ (25, Rows.any-gone ty·3) (List._∷_ (26, Rows.any-gone ty·16) (List._∷_ (27, Rows.any-gone ty·14) (List._∷_ (28, Rows.any-gone ty·18) (List._∷_ (29, Rows.any-gone ty·3) (List._∷_ (30, Mut.msleft (Referent.rtF (Referent.fInt Syntax.w32)) ty·3) (List._∷_ (31, Rows.any-gone ty·3) List.[])))))))))))))))
+t48 = List._∷_ (16, Rows.sslice (Signed.SInt Syntax.w32) ty·16 10) (List._∷_ (17, Rows.sslice (Signed.SInt Syntax.w32) ty·17 11) (List._∷_ (18, Rows.whole (Declared'.row Counts.the-type)) (List._∷_ (19, Rows.any-gone ty·25) (List._∷_ (20, Rows.sc-here Row.sBool) (List._∷_ (21, Rows.any-gone ty·29) (List._∷_ (22, Rows.whole (Declared'.row Refusal.the-type)) (List._∷_ (23, Rows.any-gone ty·32) (List._∷_ (24, Rows.any-gone ty·1) (List._∷_ (25, Rows.any-gone ty·3) (List._∷_ (26, Rows.any-gone ty·20) (List._∷_ (27, Rows.any-gone ty·3) (List._∷_ (28, Rows.any-gone ty·20) (List._∷_ (29, Rows.any-gone ty·3) (List._∷_ (30, Rows.any-gone ty·20) (List._∷_ (31, Rows.any-gone ty·3) List.[])))))))))))))))
 
 abbrev pub t49 : List.List Row.Entry
-t49 = List._∷_ (0, Rows.any-gone ty·23) (List._∷_ (1, Rows.sc-here (Row.sInt Syntax.w32)) (List._∷_ (2, Rows.sc-here (Row.sInt Syntax.w32)) (List._∷_ (3, Rows.sc-here (Row.sInt Syntax.w32)) (List._∷_ (4, Mut.mslice (Signed.SInt Syntax.w32) ty·5 0) (List._∷_ (5, Mut.mslice (Referent.rtF (Referent.fInt Syntax.w32)) ty·6 1) (List._∷_ (6, Mut.mslice (Referent.rtF (Referent.fInt Syntax.w32)) ty·7 2) (List._∷_ (7, Mut.mslice (Referent.rtF (Referent.fInt Syntax.w32)) ty·8 3) (List._∷_ (8, Mut.mslice ELEM.the-row ty·15 4) (List._∷_ (9, Mut.mslice (Referent.rtF (Referent.fInt Syntax.w32)) ty·9 5) (List._∷_ (10, Relend.mslice-owed (Referent.rtF (Referent.fInt Syntax.w32)) ty·10 6 16 Row.off) (List._∷_ (11, Relend.mslice-owed (Referent.rtF (Referent.fInt Syntax.w32)) ty·11 7 17 Row.off) (List._∷_ (12, Relend.mslice-owed (Referent.rtF (Referent.fInt Syntax.w64)) ty·12 8 18 Row.off) (List._∷_ (13, Rows.sc-here (Row.sFloat Ieee.binary64)) (List._∷_ (14, Rows.sc-here (Row.sFloat Ieee.binary64)) (List._∷_ (15, Rows.sslice (Signed.SInt Syntax.w32) ty·13 9) List.[])))))))))))))))
+t49 = List._∷_ (0, Rows.whole (Declared'.row FinishResult.the-type)) (List._∷_ (1, Rows.sc-here (Row.sInt Syntax.w32)) (List._∷_ (2, Rows.sc-here (Row.sInt Syntax.w32)) (List._∷_ (3, Rows.sc-here (Row.sInt Syntax.w32)) (List._∷_ (4, Mut.mslice (Signed.SInt Syntax.w32) ty·7 0) (List._∷_ (5, Mut.mslice (Signed.SInt Syntax.w32) ty·8 1) (List._∷_ (6, Mut.mslice (Referent.rtF (Referent.fInt Syntax.w32)) ty·9 2) (List._∷_ (7, Mut.mslice (Referent.rtF (Referent.fInt Syntax.w32)) ty·10 3) (List._∷_ (8, Mut.mslice (Referent.rtF (Referent.fInt Syntax.w32)) ty·11 4) (List._∷_ (9, Mut.mslice ELEM.the-row ty·19 5) (List._∷_ (10, Mut.mslice (Referent.rtF (Referent.fInt Syntax.w32)) ty·12 6) (List._∷_ (11, Mut.mslice (Referent.rtF (Referent.fInt Syntax.w32)) ty·13 7) (List._∷_ (12, Mut.mslice (Referent.rtF (Referent.fInt Syntax.w32)) ty·14 8) (List._∷_ (13, Mut.mslice (Referent.rtF (Referent.fInt Syntax.w64)) ty·15 9) (List._∷_ (14, Rows.sc-here (Row.sFloat Ieee.binary64)) (List._∷_ (15, Rows.sc-here (Row.sFloat Ieee.binary64)) List.[])))))))))))))))
 
 abbrev pub t50 : List.List Row.Entry
-t50 = List._∷_ (16, Rows.any-gone ty·20) (List._∷_ (17, Rows.any-gone ty·19) (List._∷_ (18, Rows.whole (Declared.row FinishAnswer.the-type)) (List._∷_ (19, Rows.any-gone ty·3) (List._∷_ (20, Rows.any-gone ty·16) (List._∷_ (21, Rows.any-gone ty·3) (List._∷_ (22, Rows.any-gone ty·16) (List._∷_ (23, Rows.any-gone ty·3) (List._∷_ (24, Rows.any-gone ty·16) (List._∷_ (25, Rows.any-gone ty·3) (List._∷_ (26, Rows.any-gone ty·16) (List._∷_ (27, Rows.any-gone ty·14) (List._∷_ (28, Rows.any-gone ty·18) (List._∷_ (29, Rows.any-gone ty·3) (List._∷_ (30, Rows.any-gone ty·16) (List._∷_ (31, Rows.any-gone ty·3) List.[])))))))))))))))
+t50 = List._∷_ (16, Rows.sslice (Signed.SInt Syntax.w32) ty·16 10) (List._∷_ (17, Rows.sslice (Signed.SInt Syntax.w32) ty·17 11) (List._∷_ (18, Rows.any-gone ty·26) (List._∷_ (19, Rows.any-gone ty·25) (List._∷_ (20, Rows.sc-here Row.sBool) (List._∷_ (21, Rows.any-gone ty·29) (List._∷_ (22, Rows.whole (Declared'.row Refusal.the-type)) (List._∷_ (23, Rows.any-gone ty·32) (List._∷_ (24, Rows.any-gone ty·1) (List._∷_ (25, Rows.any-gone ty·3) (List._∷_ (26, Rows.any-gone ty·20) (List._∷_ (27, Rows.any-gone ty·3) (List._∷_ (28, Rows.any-gone ty·20) (List._∷_ (29, Rows.any-gone ty·3) (List._∷_ (30, Rows.any-gone ty·20) (List._∷_ (31, Rows.any-gone ty·3) List.[])))))))))))))))
 
 abbrev pub t51 : List.List Row.Entry
-t51 = List._∷_ (0, Rows.any-gone ty·23) (List._∷_ (1, Rows.sc-here (Row.sInt Syntax.w32)) (List._∷_ (2, Rows.sc-here (Row.sInt Syntax.w32)) (List._∷_ (3, Rows.sc-here (Row.sInt Syntax.w32)) (List._∷_ (4, Mut.mslice (Signed.SInt Syntax.w32) ty·5 0) (List._∷_ (5, Mut.mslice (Referent.rtF (Referent.fInt Syntax.w32)) ty·6 1) (List._∷_ (6, Mut.mslice (Referent.rtF (Referent.fInt Syntax.w32)) ty·7 2) (List._∷_ (7, Mut.mslice (Referent.rtF (Referent.fInt Syntax.w32)) ty·8 3) (List._∷_ (8, Mut.mslice ELEM.the-row ty·15 4) (List._∷_ (9, Mut.mslice (Referent.rtF (Referent.fInt Syntax.w32)) ty·9 5) (List._∷_ (10, Mut.mslice (Referent.rtF (Referent.fInt Syntax.w32)) ty·10 6) (List._∷_ (11, Relend.mslice-owed (Referent.rtF (Referent.fInt Syntax.w32)) ty·11 7 17 Row.off) (List._∷_ (12, Relend.mslice-owed (Referent.rtF (Referent.fInt Syntax.w64)) ty·12 8 18 Row.off) (List._∷_ (13, Rows.sc-here (Row.sFloat Ieee.binary64)) (List._∷_ (14, Rows.sc-here (Row.sFloat Ieee.binary64)) (List._∷_ (15, Rows.sslice (Signed.SInt Syntax.w32) ty·13 9) List.[])))))))))))))))
+t51 = List._∷_ (16, Rows.sslice (Signed.SInt Syntax.w32) ty·16 10) (List._∷_ (17, Rows.sslice (Signed.SInt Syntax.w32) ty·17 11) (List._∷_ (18, Rows.any-gone ty·26) (List._∷_ (19, Rows.any-gone ty·25) (List._∷_ (20, Rows.sc-here Row.sBool) (List._∷_ (21, Rows.any-gone ty·29) (List._∷_ (22, Rows.any-gone ty·28) (List._∷_ (23, Rows.any-gone ty·32) (List._∷_ (24, Rows.any-gone ty·1) (List._∷_ (25, Rows.any-gone ty·3) (List._∷_ (26, Rows.any-gone ty·20) (List._∷_ (27, Rows.any-gone ty·3) (List._∷_ (28, Rows.any-gone ty·20) (List._∷_ (29, Rows.any-gone ty·3) (List._∷_ (30, Rows.any-gone ty·20) (List._∷_ (31, Rows.any-gone ty·3) List.[])))))))))))))))
 
 abbrev pub t52 : List.List Row.Entry
-t52 = List._∷_ (32, Rows.any-gone ty·16) (List._∷_ (33, Rows.any-gone ty·3) (List._∷_ (34, Mut.msleft (Referent.rtF (Referent.fInt Syntax.w32)) ty·3) (List._∷_ (35, Rows.any-gone ty·4) (List._∷_ (36, Mut.msleft (Referent.rtF (Referent.fInt Syntax.w64)) ty·4) List.[]))))
+t52 = List._∷_ (0, Rows.whole (Declared'.row FinishResult.the-type)) (List._∷_ (1, Rows.any-gone ty·0) (List._∷_ (2, Rows.sc-here (Row.sInt Syntax.w32)) (List._∷_ (3, Rows.sc-here (Row.sInt Syntax.w32)) (List._∷_ (4, Mut.mslice (Signed.SInt Syntax.w32) ty·7 0) (List._∷_ (5, Mut.mslice (Signed.SInt Syntax.w32) ty·8 1) (List._∷_ (6, Mut.mslice (Referent.rtF (Referent.fInt Syntax.w32)) ty·9 2) (List._∷_ (7, Mut.mslice (Referent.rtF (Referent.fInt Syntax.w32)) ty·10 3) (List._∷_ (8, Mut.mslice (Referent.rtF (Referent.fInt Syntax.w32)) ty·11 4) (List._∷_ (9, Mut.mslice ELEM.the-row ty·19 5) (List._∷_ (10, Mut.mslice (Referent.rtF (Referent.fInt Syntax.w32)) ty·12 6) (List._∷_ (11, Mut.mslice (Referent.rtF (Referent.fInt Syntax.w32)) ty·13 7) (List._∷_ (12, Mut.mslice (Referent.rtF (Referent.fInt Syntax.w32)) ty·14 8) (List._∷_ (13, Mut.mslice (Referent.rtF (Referent.fInt Syntax.w64)) ty·15 9) (List._∷_ (14, Rows.sc-here (Row.sFloat Ieee.binary64)) (List._∷_ (15, Rows.sc-here (Row.sFloat Ieee.binary64)) List.[])))))))))))))))
 
 abbrev pub t53 : List.List Row.Entry
-t53 = List._∷_ (0, Rows.any-gone ty·23) (List._∷_ (1, Rows.sc-here (Row.sInt Syntax.w32)) (List._∷_ (2, Rows.sc-here (Row.sInt Syntax.w32)) (List._∷_ (3, Rows.sc-here (Row.sInt Syntax.w32)) (List._∷_ (4, Mut.mslice (Signed.SInt Syntax.w32) ty·5 0) (List._∷_ (5, Mut.mslice (Referent.rtF (Referent.fInt Syntax.w32)) ty·6 1) (List._∷_ (6, Mut.mslice (Referent.rtF (Referent.fInt Syntax.w32)) ty·7 2) (List._∷_ (7, Mut.mslice (Referent.rtF (Referent.fInt Syntax.w32)) ty·8 3) (List._∷_ (8, Mut.mslice ELEM.the-row ty·15 4) (List._∷_ (9, Mut.mslice (Referent.rtF (Referent.fInt Syntax.w32)) ty·9 5) (List._∷_ (10, Mut.mslice (Referent.rtF (Referent.fInt Syntax.w32)) ty·10 6) (List._∷_ (11, Mut.mslice (Referent.rtF (Referent.fInt Syntax.w32)) ty·11 7) (List._∷_ (12, Relend.mslice-owed (Referent.rtF (Referent.fInt Syntax.w64)) ty·12 8 18 Row.off) (List._∷_ (13, Rows.sc-here (Row.sFloat Ieee.binary64)) (List._∷_ (14, Rows.sc-here (Row.sFloat Ieee.binary64)) (List._∷_ (15, Rows.sslice (Signed.SInt Syntax.w32) ty·13 9) List.[])))))))))))))))
+t53 = List._∷_ (0, Rows.whole (Declared'.row FinishResult.the-type)) (List._∷_ (1, Rows.any-gone ty·0) (List._∷_ (2, Rows.any-gone ty·0) (List._∷_ (3, Rows.sc-here (Row.sInt Syntax.w32)) (List._∷_ (4, Mut.mslice (Signed.SInt Syntax.w32) ty·7 0) (List._∷_ (5, Mut.mslice (Signed.SInt Syntax.w32) ty·8 1) (List._∷_ (6, Mut.mslice (Referent.rtF (Referent.fInt Syntax.w32)) ty·9 2) (List._∷_ (7, Mut.mslice (Referent.rtF (Referent.fInt Syntax.w32)) ty·10 3) (List._∷_ (8, Mut.mslice (Referent.rtF (Referent.fInt Syntax.w32)) ty·11 4) (List._∷_ (9, Mut.mslice ELEM.the-row ty·19 5) (List._∷_ (10, Mut.mslice (Referent.rtF (Referent.fInt Syntax.w32)) ty·12 6) (List._∷_ (11, Mut.mslice (Referent.rtF (Referent.fInt Syntax.w32)) ty·13 7) (List._∷_ (12, Mut.mslice (Referent.rtF (Referent.fInt Syntax.w32)) ty·14 8) (List._∷_ (13, Mut.mslice (Referent.rtF (Referent.fInt Syntax.w64)) ty·15 9) (List._∷_ (14, Rows.sc-here (Row.sFloat Ieee.binary64)) (List._∷_ (15, Rows.sc-here (Row.sFloat Ieee.binary64)) List.[])))))))))))))))
 
 abbrev pub t54 : List.List Row.Entry
-t54 = List._∷_ (32, Rows.any-gone ty·16) (List._∷_ (33, Rows.any-gone ty·3) (List._∷_ (34, Rows.any-gone ty·16) (List._∷_ (35, Rows.any-gone ty·4) (List._∷_ (36, Mut.msleft (Referent.rtF (Referent.fInt Syntax.w64)) ty·4) List.[]))))
+t54 = List._∷_ (0, Rows.whole (Declared'.row FinishResult.the-type)) (List._∷_ (1, Rows.any-gone ty·0) (List._∷_ (2, Rows.any-gone ty·0) (List._∷_ (3, Rows.any-gone ty·0) (List._∷_ (4, Mut.mslice (Signed.SInt Syntax.w32) ty·7 0) (List._∷_ (5, Mut.mslice (Signed.SInt Syntax.w32) ty·8 1) (List._∷_ (6, Mut.mslice (Referent.rtF (Referent.fInt Syntax.w32)) ty·9 2) (List._∷_ (7, Mut.mslice (Referent.rtF (Referent.fInt Syntax.w32)) ty·10 3) (List._∷_ (8, Mut.mslice (Referent.rtF (Referent.fInt Syntax.w32)) ty·11 4) (List._∷_ (9, Mut.mslice ELEM.the-row ty·19 5) (List._∷_ (10, Mut.mslice (Referent.rtF (Referent.fInt Syntax.w32)) ty·12 6) (List._∷_ (11, Mut.mslice (Referent.rtF (Referent.fInt Syntax.w32)) ty·13 7) (List._∷_ (12, Mut.mslice (Referent.rtF (Referent.fInt Syntax.w32)) ty·14 8) (List._∷_ (13, Mut.mslice (Referent.rtF (Referent.fInt Syntax.w64)) ty·15 9) (List._∷_ (14, Rows.sc-here (Row.sFloat Ieee.binary64)) (List._∷_ (15, Rows.sc-here (Row.sFloat Ieee.binary64)) List.[])))))))))))))))
 
 abbrev pub t55 : List.List Row.Entry
-t55 = List._∷_ (0, Rows.whole (Declared.row FinishResult.the-type)) (List._∷_ (1, Rows.sc-here (Row.sInt Syntax.w32)) (List._∷_ (2, Rows.sc-here (Row.sInt Syntax.w32)) (List._∷_ (3, Rows.sc-here (Row.sInt Syntax.w32)) (List._∷_ (4, Mut.mslice (Signed.SInt Syntax.w32) ty·5 0) (List._∷_ (5, Mut.mslice (Referent.rtF (Referent.fInt Syntax.w32)) ty·6 1) (List._∷_ (6, Mut.mslice (Referent.rtF (Referent.fInt Syntax.w32)) ty·7 2) (List._∷_ (7, Mut.mslice (Referent.rtF (Referent.fInt Syntax.w32)) ty·8 3) (List._∷_ (8, Mut.mslice ELEM.the-row ty·15 4) (List._∷_ (9, Mut.mslice (Referent.rtF (Referent.fInt Syntax.w32)) ty·9 5) (List._∷_ (10, Mut.mslice (Referent.rtF (Referent.fInt Syntax.w32)) ty·10 6) (List._∷_ (11, Mut.mslice (Referent.rtF (Referent.fInt Syntax.w32)) ty·11 7) (List._∷_ (12, Mut.mslice (Referent.rtF (Referent.fInt Syntax.w64)) ty·12 8) (List._∷_ (13, Rows.sc-here (Row.sFloat Ieee.binary64)) (List._∷_ (14, Rows.sc-here (Row.sFloat Ieee.binary64)) (List._∷_ (15, Rows.sslice (Signed.SInt Syntax.w32) ty·13 9) List.[])))))))))))))))
+t55 = List._∷_ (0, Rows.whole (Declared'.row FinishResult.the-type)) (List._∷_ (1, Rows.any-gone ty·0) (List._∷_ (2, Rows.any-gone ty·0) (List._∷_ (3, Rows.any-gone ty·0) (List._∷_ (4, Mut.mslice (Signed.SInt Syntax.w32) ty·7 0) (List._∷_ (5, Mut.mslice (Signed.SInt Syntax.w32) ty·8 1) (List._∷_ (6, Mut.mslice (Referent.rtF (Referent.fInt Syntax.w32)) ty·9 2) (List._∷_ (7, Mut.mslice (Referent.rtF (Referent.fInt Syntax.w32)) ty·10 3) (List._∷_ (8, Mut.mslice (Referent.rtF (Referent.fInt Syntax.w32)) ty·11 4) (List._∷_ (9, Mut.mslice ELEM.the-row ty·19 5) (List._∷_ (10, Mut.mslice (Referent.rtF (Referent.fInt Syntax.w32)) ty·12 6) (List._∷_ (11, Mut.mslice (Referent.rtF (Referent.fInt Syntax.w32)) ty·13 7) (List._∷_ (12, Mut.mslice (Referent.rtF (Referent.fInt Syntax.w32)) ty·14 8) (List._∷_ (13, Mut.mslice (Referent.rtF (Referent.fInt Syntax.w64)) ty·15 9) (List._∷_ (14, Rows.any-gone ty·2) (List._∷_ (15, Rows.sc-here (Row.sFloat Ieee.binary64)) List.[])))))))))))))))
 
 abbrev pub t56 : List.List Row.Entry
-t56 = List._∷_ (0, Rows.whole (Declared.row FinishResult.the-type)) (List._∷_ (1, Rows.any-gone ty·0) (List._∷_ (2, Rows.sc-here (Row.sInt Syntax.w32)) (List._∷_ (3, Rows.sc-here (Row.sInt Syntax.w32)) (List._∷_ (4, Mut.mslice (Signed.SInt Syntax.w32) ty·5 0) (List._∷_ (5, Mut.mslice (Referent.rtF (Referent.fInt Syntax.w32)) ty·6 1) (List._∷_ (6, Mut.mslice (Referent.rtF (Referent.fInt Syntax.w32)) ty·7 2) (List._∷_ (7, Mut.mslice (Referent.rtF (Referent.fInt Syntax.w32)) ty·8 3) (List._∷_ (8, Mut.mslice ELEM.the-row ty·15 4) (List._∷_ (9, Mut.mslice (Referent.rtF (Referent.fInt Syntax.w32)) ty·9 5) (List._∷_ (10, Mut.mslice (Referent.rtF (Referent.fInt Syntax.w32)) ty·10 6) (List._∷_ (11, Mut.mslice (Referent.rtF (Referent.fInt Syntax.w32)) ty·11 7) (List._∷_ (12, Mut.mslice (Referent.rtF (Referent.fInt Syntax.w64)) ty·12 8) (List._∷_ (13, Rows.sc-here (Row.sFloat Ieee.binary64)) (List._∷_ (14, Rows.sc-here (Row.sFloat Ieee.binary64)) (List._∷_ (15, Rows.sslice (Signed.SInt Syntax.w32) ty·13 9) List.[])))))))))))))))
+t56 = List._∷_ (0, Rows.any-gone ty·30) (List._∷_ (1, Rows.sc-here (Row.sInt Syntax.w32)) (List._∷_ (2, Rows.sc-here (Row.sInt Syntax.w32)) (List._∷_ (3, Rows.sc-here (Row.sInt Syntax.w32)) (List._∷_ (4, Relend.mslice-owed (Signed.SInt Syntax.w32) ty·7 0 17 Row.off) (List._∷_ (5, Mut.mslice (Signed.SInt Syntax.w32) ty·8 1) (List._∷_ (6, Mut.mslice (Referent.rtF (Referent.fInt Syntax.w32)) ty·9 2) (List._∷_ (7, Mut.mslice (Referent.rtF (Referent.fInt Syntax.w32)) ty·10 3) (List._∷_ (8, Mut.mslice (Referent.rtF (Referent.fInt Syntax.w32)) ty·11 4) (List._∷_ (9, Mut.mslice ELEM.the-row ty·19 5) (List._∷_ (10, Mut.mslice (Referent.rtF (Referent.fInt Syntax.w32)) ty·12 6) (List._∷_ (11, Mut.mslice (Referent.rtF (Referent.fInt Syntax.w32)) ty·13 7) (List._∷_ (12, Mut.mslice (Referent.rtF (Referent.fInt Syntax.w32)) ty·14 8) (List._∷_ (13, Mut.mslice (Referent.rtF (Referent.fInt Syntax.w64)) ty·15 9) (List._∷_ (14, Rows.sc-here (Row.sFloat Ieee.binary64)) (List._∷_ (15, Rows.sc-here (Row.sFloat Ieee.binary64)) List.[])))))))))))))))
 
 abbrev pub t57 : List.List Row.Entry
-t57 = List._∷_ (0, Rows.whole (Declared.row FinishResult.the-type)) (List._∷_ (1, Rows.any-gone ty·0) (List._∷_ (2, Rows.any-gone ty·0) (List._∷_ (3, Rows.sc-here (Row.sInt Syntax.w32)) (List._∷_ (4, Mut.mslice (Signed.SInt Syntax.w32) ty·5 0) (List._∷_ (5, Mut.mslice (Referent.rtF (Referent.fInt Syntax.w32)) ty·6 1) (List._∷_ (6, Mut.mslice (Referent.rtF (Referent.fInt Syntax.w32)) ty·7 2) (List._∷_ (7, Mut.mslice (Referent.rtF (Referent.fInt Syntax.w32)) ty·8 3) (List._∷_ (8, Mut.mslice ELEM.the-row ty·15 4) (List._∷_ (9, Mut.mslice (Referent.rtF (Referent.fInt Syntax.w32)) ty·9 5) (List._∷_ (10, Mut.mslice (Referent.rtF (Referent.fInt Syntax.w32)) ty·10 6) (List._∷_ (11, Mut.mslice (Referent.rtF (Referent.fInt Syntax.w32)) ty·11 7) (List._∷_ (12, Mut.mslice (Referent.rtF (Referent.fInt Syntax.w64)) ty·12 8) (List._∷_ (13, Rows.sc-here (Row.sFloat Ieee.binary64)) (List._∷_ (14, Rows.sc-here (Row.sFloat Ieee.binary64)) (List._∷_ (15, Rows.sslice (Signed.SInt Syntax.w32) ty·13 9) List.[])))))))))))))))
+t57 = List._∷_ (32, Rows.any-gone ty·20) (List._∷_ (33, Rows.any-gone ty·3) (List._∷_ (34, Rows.any-gone ty·20) (List._∷_ (35, Rows.any-gone ty·1) (List._∷_ (36, Rows.any-gone ty·1) (List._∷_ (37, Rows.any-gone ty·1) (List._∷_ (38, Relend.msptr (Signed.SInt Syntax.w32) ty·5 17) (List._∷_ (39, Rows.any-gone ty·22) (List._∷_ (40, Rows.any-gone ty·5) (List._∷_ (41, Rows.any-gone ty·22) (List._∷_ (42, Rows.any-gone ty·5) (List._∷_ (43, Rows.any-gone ty·22) (List._∷_ (44, Rows.any-gone ty·5) (List._∷_ (45, Rows.any-gone ty·22) (List._∷_ (46, Rows.any-gone ty·18) (List._∷_ (47, Rows.any-gone ty·24) List.[])))))))))))))))
 
 abbrev pub t58 : List.List Row.Entry
-t58 = List._∷_ (0, Rows.whole (Declared.row FinishResult.the-type)) (List._∷_ (1, Rows.any-gone ty·0) (List._∷_ (2, Rows.any-gone ty·0) (List._∷_ (3, Rows.any-gone ty·0) (List._∷_ (4, Mut.mslice (Signed.SInt Syntax.w32) ty·5 0) (List._∷_ (5, Mut.mslice (Referent.rtF (Referent.fInt Syntax.w32)) ty·6 1) (List._∷_ (6, Mut.mslice (Referent.rtF (Referent.fInt Syntax.w32)) ty·7 2) (List._∷_ (7, Mut.mslice (Referent.rtF (Referent.fInt Syntax.w32)) ty·8 3) (List._∷_ (8, Mut.mslice ELEM.the-row ty·15 4) (List._∷_ (9, Mut.mslice (Referent.rtF (Referent.fInt Syntax.w32)) ty·9 5) (List._∷_ (10, Mut.mslice (Referent.rtF (Referent.fInt Syntax.w32)) ty·10 6) (List._∷_ (11, Mut.mslice (Referent.rtF (Referent.fInt Syntax.w32)) ty·11 7) (List._∷_ (12, Mut.mslice (Referent.rtF (Referent.fInt Syntax.w64)) ty·12 8) (List._∷_ (13, Rows.sc-here (Row.sFloat Ieee.binary64)) (List._∷_ (14, Rows.sc-here (Row.sFloat Ieee.binary64)) (List._∷_ (15, Rows.sslice (Signed.SInt Syntax.w32) ty·13 9) List.[])))))))))))))))
+t58 = List._∷_ (32, Rows.any-gone ty·20) (List._∷_ (33, Rows.any-gone ty·3) (List._∷_ (34, Rows.any-gone ty·20) (List._∷_ (35, Rows.any-gone ty·1) (List._∷_ (36, Rows.any-gone ty·1) (List._∷_ (37, Rows.any-gone ty·1) (List._∷_ (38, Rows.any-gone ty·5) (List._∷_ (39, Mut.mslice (Signed.SInt Syntax.w32) ty·5 17) (List._∷_ (40, Rows.any-gone ty·5) (List._∷_ (41, Rows.any-gone ty·22) (List._∷_ (42, Rows.any-gone ty·5) (List._∷_ (43, Rows.any-gone ty·22) (List._∷_ (44, Rows.any-gone ty·5) (List._∷_ (45, Rows.any-gone ty·22) (List._∷_ (46, Rows.any-gone ty·18) (List._∷_ (47, Rows.any-gone ty·24) List.[])))))))))))))))
 
 abbrev pub t59 : List.List Row.Entry
-t59 = List._∷_ (0, Rows.whole (Declared.row FinishResult.the-type)) (List._∷_ (1, Rows.any-gone ty·0) (List._∷_ (2, Rows.any-gone ty·0) (List._∷_ (3, Rows.any-gone ty·0) (List._∷_ (4, Mut.mslice (Signed.SInt Syntax.w32) ty·5 0) (List._∷_ (5, Mut.mslice (Referent.rtF (Referent.fInt Syntax.w32)) ty·6 1) (List._∷_ (6, Mut.mslice (Referent.rtF (Referent.fInt Syntax.w32)) ty·7 2) (List._∷_ (7, Mut.mslice (Referent.rtF (Referent.fInt Syntax.w32)) ty·8 3) (List._∷_ (8, Mut.mslice ELEM.the-row ty·15 4) (List._∷_ (9, Mut.mslice (Referent.rtF (Referent.fInt Syntax.w32)) ty·9 5) (List._∷_ (10, Mut.mslice (Referent.rtF (Referent.fInt Syntax.w32)) ty·10 6) (List._∷_ (11, Mut.mslice (Referent.rtF (Referent.fInt Syntax.w32)) ty·11 7) (List._∷_ (12, Mut.mslice (Referent.rtF (Referent.fInt Syntax.w64)) ty·12 8) (List._∷_ (13, Rows.any-gone ty·2) (List._∷_ (14, Rows.sc-here (Row.sFloat Ieee.binary64)) (List._∷_ (15, Rows.sslice (Signed.SInt Syntax.w32) ty·13 9) List.[])))))))))))))))
+t59 = List._∷_ (0, Rows.any-gone ty·30) (List._∷_ (1, Rows.sc-here (Row.sInt Syntax.w32)) (List._∷_ (2, Rows.sc-here (Row.sInt Syntax.w32)) (List._∷_ (3, Rows.sc-here (Row.sInt Syntax.w32)) (List._∷_ (4, Relend.mslice-owed (Signed.SInt Syntax.w32) ty·7 0 17 Row.off) (List._∷_ (5, Mut.mslice (Signed.SInt Syntax.w32) ty·8 1) (List._∷_ (6, Relend.mslice-owed (Referent.rtF (Referent.fInt Syntax.w32)) ty·9 2 18 Row.off) (List._∷_ (7, Mut.mslice (Referent.rtF (Referent.fInt Syntax.w32)) ty·10 3) (List._∷_ (8, Mut.mslice (Referent.rtF (Referent.fInt Syntax.w32)) ty·11 4) (List._∷_ (9, Mut.mslice ELEM.the-row ty·19 5) (List._∷_ (10, Mut.mslice (Referent.rtF (Referent.fInt Syntax.w32)) ty·12 6) (List._∷_ (11, Mut.mslice (Referent.rtF (Referent.fInt Syntax.w32)) ty·13 7) (List._∷_ (12, Mut.mslice (Referent.rtF (Referent.fInt Syntax.w32)) ty·14 8) (List._∷_ (13, Mut.mslice (Referent.rtF (Referent.fInt Syntax.w64)) ty·15 9) (List._∷_ (14, Rows.sc-here (Row.sFloat Ieee.binary64)) (List._∷_ (15, Rows.sc-here (Row.sFloat Ieee.binary64)) List.[])))))))))))))))
+
+abbrev pub t60 : List.List Row.Entry
+t60 = List._∷_ (32, Rows.any-gone ty·20) (List._∷_ (33, Rows.any-gone ty·3) (List._∷_ (34, Rows.any-gone ty·20) (List._∷_ (35, Rows.any-gone ty·1) (List._∷_ (36, Rows.any-gone ty·1) (List._∷_ (37, Rows.any-gone ty·1) (List._∷_ (38, Rows.any-gone ty·5) (List._∷_ (39, Mut.mslice (Signed.SInt Syntax.w32) ty·5 17) (List._∷_ (40, Relend.msptr (Referent.rtF (Referent.fInt Syntax.w32)) ty·5 18) (List._∷_ (41, Rows.any-gone ty·22) (List._∷_ (42, Rows.any-gone ty·5) (List._∷_ (43, Rows.any-gone ty·22) (List._∷_ (44, Rows.any-gone ty·5) (List._∷_ (45, Rows.any-gone ty·22) (List._∷_ (46, Rows.any-gone ty·18) (List._∷_ (47, Rows.any-gone ty·24) List.[])))))))))))))))
+
+abbrev pub t61 : List.List Row.Entry
+t61 = List._∷_ (32, Rows.any-gone ty·20) (List._∷_ (33, Rows.any-gone ty·3) (List._∷_ (34, Rows.any-gone ty·20) (List._∷_ (35, Rows.any-gone ty·1) (List._∷_ (36, Rows.any-gone ty·1) (List._∷_ (37, Rows.any-gone ty·1) (List._∷_ (38, Rows.any-gone ty·5) (List._∷_ (39, Mut.mslice (Signed.SInt Syntax.w32) ty·5 17) (List._∷_ (40, Rows.any-gone ty·5) (List._∷_ (41, Mut.mslice (Referent.rtF (Referent.fInt Syntax.w32)) ty·5 18) (List._∷_ (42, Rows.any-gone ty·5) (List._∷_ (43, Rows.any-gone ty·22) (List._∷_ (44, Rows.any-gone ty·5) (List._∷_ (45, Rows.any-gone ty·22) (List._∷_ (46, Rows.any-gone ty·18) (List._∷_ (47, Rows.any-gone ty·24) List.[])))))))))))))))
+
+abbrev pub t62 : List.List Row.Entry
+t62 = List._∷_ (0, Rows.any-gone ty·30) (List._∷_ (1, Rows.sc-here (Row.sInt Syntax.w32)) (List._∷_ (2, Rows.sc-here (Row.sInt Syntax.w32)) (List._∷_ (3, Rows.sc-here (Row.sInt Syntax.w32)) (List._∷_ (4, Relend.mslice-owed (Signed.SInt Syntax.w32) ty·7 0 17 Row.off) (List._∷_ (5, Mut.mslice (Signed.SInt Syntax.w32) ty·8 1) (List._∷_ (6, Relend.mslice-owed (Referent.rtF (Referent.fInt Syntax.w32)) ty·9 2 18 Row.off) (List._∷_ (7, Relend.mslice-owed (Referent.rtF (Referent.fInt Syntax.w32)) ty·10 3 19 Row.off) (List._∷_ (8, Mut.mslice (Referent.rtF (Referent.fInt Syntax.w32)) ty·11 4) (List._∷_ (9, Mut.mslice ELEM.the-row ty·19 5) (List._∷_ (10, Mut.mslice (Referent.rtF (Referent.fInt Syntax.w32)) ty·12 6) (List._∷_ (11, Mut.mslice (Referent.rtF (Referent.fInt Syntax.w32)) ty·13 7) (List._∷_ (12, Mut.mslice (Referent.rtF (Referent.fInt Syntax.w32)) ty·14 8) (List._∷_ (13, Mut.mslice (Referent.rtF (Referent.fInt Syntax.w64)) ty·15 9) (List._∷_ (14, Rows.sc-here (Row.sFloat Ieee.binary64)) (List._∷_ (15, Rows.sc-here (Row.sFloat Ieee.binary64)) List.[])))))))))))))))
+
+abbrev pub t63 : List.List Row.Entry
+t63 = List._∷_ (32, Rows.any-gone ty·20) (List._∷_ (33, Rows.any-gone ty·3) (List._∷_ (34, Rows.any-gone ty·20) (List._∷_ (35, Rows.any-gone ty·1) (List._∷_ (36, Rows.any-gone ty·1) (List._∷_ (37, Rows.any-gone ty·1) (List._∷_ (38, Rows.any-gone ty·5) (List._∷_ (39, Mut.mslice (Signed.SInt Syntax.w32) ty·5 17) (List._∷_ (40, Rows.any-gone ty·5) (List._∷_ (41, Mut.mslice (Referent.rtF (Referent.fInt Syntax.w32)) ty·5 18) (List._∷_ (42, Relend.msptr (Referent.rtF (Referent.fInt Syntax.w32)) ty·5 19) (List._∷_ (43, Rows.any-gone ty·22) (List._∷_ (44, Rows.any-gone ty·5) (List._∷_ (45, Rows.any-gone ty·22) (List._∷_ (46, Rows.any-gone ty·18) (List._∷_ (47, Rows.any-gone ty·24) List.[])))))))))))))))
+
+abbrev pub t64 : List.List Row.Entry
+t64 = List._∷_ (32, Rows.any-gone ty·20) (List._∷_ (33, Rows.any-gone ty·3) (List._∷_ (34, Rows.any-gone ty·20) (List._∷_ (35, Rows.any-gone ty·1) (List._∷_ (36, Rows.any-gone ty·1) (List._∷_ (37, Rows.any-gone ty·1) (List._∷_ (38, Rows.any-gone ty·5) (List._∷_ (39, Mut.mslice (Signed.SInt Syntax.w32) ty·5 17) (List._∷_ (40, Rows.any-gone ty·5) (List._∷_ (41, Mut.mslice (Referent.rtF (Referent.fInt Syntax.w32)) ty·5 18) (List._∷_ (42, Rows.any-gone ty·5) (List._∷_ (43, Mut.mslice (Referent.rtF (Referent.fInt Syntax.w32)) ty·5 19) (List._∷_ (44, Rows.any-gone ty·5) (List._∷_ (45, Rows.any-gone ty·22) (List._∷_ (46, Rows.any-gone ty·18) (List._∷_ (47, Rows.any-gone ty·24) List.[])))))))))))))))
+
+abbrev pub t65 : List.List Row.Entry
+t65 = List._∷_ (0, Rows.any-gone ty·30) (List._∷_ (1, Rows.sc-here (Row.sInt Syntax.w32)) (List._∷_ (2, Rows.sc-here (Row.sInt Syntax.w32)) (List._∷_ (3, Rows.sc-here (Row.sInt Syntax.w32)) (List._∷_ (4, Relend.mslice-owed (Signed.SInt Syntax.w32) ty·7 0 17 Row.off) (List._∷_ (5, Mut.mslice (Signed.SInt Syntax.w32) ty·8 1) (List._∷_ (6, Relend.mslice-owed (Referent.rtF (Referent.fInt Syntax.w32)) ty·9 2 18 Row.off) (List._∷_ (7, Relend.mslice-owed (Referent.rtF (Referent.fInt Syntax.w32)) ty·10 3 19 Row.off) (List._∷_ (8, Relend.mslice-owed (Referent.rtF (Referent.fInt Syntax.w32)) ty·11 4 20 Row.off) (List._∷_ (9, Mut.mslice ELEM.the-row ty·19 5) (List._∷_ (10, Mut.mslice (Referent.rtF (Referent.fInt Syntax.w32)) ty·12 6) (List._∷_ (11, Mut.mslice (Referent.rtF (Referent.fInt Syntax.w32)) ty·13 7) (List._∷_ (12, Mut.mslice (Referent.rtF (Referent.fInt Syntax.w32)) ty·14 8) (List._∷_ (13, Mut.mslice (Referent.rtF (Referent.fInt Syntax.w64)) ty·15 9) (List._∷_ (14, Rows.sc-here (Row.sFloat Ieee.binary64)) (List._∷_ (15, Rows.sc-here (Row.sFloat Ieee.binary64)) List.[])))))))))))))))
+
+abbrev pub t66 : List.List Row.Entry
+t66 = List._∷_ (32, Rows.any-gone ty·20) (List._∷_ (33, Rows.any-gone ty·3) (List._∷_ (34, Rows.any-gone ty·20) (List._∷_ (35, Rows.any-gone ty·1) (List._∷_ (36, Rows.any-gone ty·1) (List._∷_ (37, Rows.any-gone ty·1) (List._∷_ (38, Rows.any-gone ty·5) (List._∷_ (39, Mut.mslice (Signed.SInt Syntax.w32) ty·5 17) (List._∷_ (40, Rows.any-gone ty·5) (List._∷_ (41, Mut.mslice (Referent.rtF (Referent.fInt Syntax.w32)) ty·5 18) (List._∷_ (42, Rows.any-gone ty·5) (List._∷_ (43, Mut.mslice (Referent.rtF (Referent.fInt Syntax.w32)) ty·5 19) (List._∷_ (44, Relend.msptr (Referent.rtF (Referent.fInt Syntax.w32)) ty·5 20) (List._∷_ (45, Rows.any-gone ty·22) (List._∷_ (46, Rows.any-gone ty·18) (List._∷_ (47, Rows.any-gone ty·24) List.[])))))))))))))))
+
+abbrev pub t67 : List.List Row.Entry
+t67 = List._∷_ (32, Rows.any-gone ty·20) (List._∷_ (33, Rows.any-gone ty·3) (List._∷_ (34, Rows.any-gone ty·20) (List._∷_ (35, Rows.any-gone ty·1) (List._∷_ (36, Rows.any-gone ty·1) (List._∷_ (37, Rows.any-gone ty·1) (List._∷_ (38, Rows.any-gone ty·5) (List._∷_ (39, Mut.mslice (Signed.SInt Syntax.w32) ty·5 17) (List._∷_ (40, Rows.any-gone ty·5) (List._∷_ (41, Mut.mslice (Referent.rtF (Referent.fInt Syntax.w32)) ty·5 18) (List._∷_ (42, Rows.any-gone ty·5) (List._∷_ (43, Mut.mslice (Referent.rtF (Referent.fInt Syntax.w32)) ty·5 19) (List._∷_ (44, Rows.any-gone ty·5) (List._∷_ (45, Mut.mslice (Referent.rtF (Referent.fInt Syntax.w32)) ty·5 20) (List._∷_ (46, Rows.any-gone ty·18) (List._∷_ (47, Rows.any-gone ty·24) List.[])))))))))))))))
+
+abbrev pub t68 : List.List Row.Entry
+t68 = List._∷_ (0, Rows.any-gone ty·30) (List._∷_ (1, Rows.sc-here (Row.sInt Syntax.w32)) (List._∷_ (2, Rows.sc-here (Row.sInt Syntax.w32)) (List._∷_ (3, Rows.sc-here (Row.sInt Syntax.w32)) (List._∷_ (4, Relend.mslice-owed (Signed.SInt Syntax.w32) ty·7 0 17 Row.off) (List._∷_ (5, Mut.mslice (Signed.SInt Syntax.w32) ty·8 1) (List._∷_ (6, Relend.mslice-owed (Referent.rtF (Referent.fInt Syntax.w32)) ty·9 2 18 Row.off) (List._∷_ (7, Relend.mslice-owed (Referent.rtF (Referent.fInt Syntax.w32)) ty·10 3 19 Row.off) (List._∷_ (8, Relend.mslice-owed (Referent.rtF (Referent.fInt Syntax.w32)) ty·11 4 20 Row.off) (List._∷_ (9, Relend.mslice-owed ELEM.the-row ty·19 5 21 Row.off) (List._∷_ (10, Mut.mslice (Referent.rtF (Referent.fInt Syntax.w32)) ty·12 6) (List._∷_ (11, Mut.mslice (Referent.rtF (Referent.fInt Syntax.w32)) ty·13 7) (List._∷_ (12, Mut.mslice (Referent.rtF (Referent.fInt Syntax.w32)) ty·14 8) (List._∷_ (13, Mut.mslice (Referent.rtF (Referent.fInt Syntax.w64)) ty·15 9) (List._∷_ (14, Rows.sc-here (Row.sFloat Ieee.binary64)) (List._∷_ (15, Rows.sc-here (Row.sFloat Ieee.binary64)) List.[])))))))))))))))
+
+abbrev pub t69 : List.List Row.Entry
+t69 = List._∷_ (32, Rows.any-gone ty·20) (List._∷_ (33, Rows.any-gone ty·3) (List._∷_ (34, Rows.any-gone ty·20) (List._∷_ (35, Rows.any-gone ty·1) (List._∷_ (36, Rows.any-gone ty·1) (List._∷_ (37, Rows.any-gone ty·1) (List._∷_ (38, Rows.any-gone ty·5) (List._∷_ (39, Mut.mslice (Signed.SInt Syntax.w32) ty·5 17) (List._∷_ (40, Rows.any-gone ty·5) (List._∷_ (41, Mut.mslice (Referent.rtF (Referent.fInt Syntax.w32)) ty·5 18) (List._∷_ (42, Rows.any-gone ty·5) (List._∷_ (43, Mut.mslice (Referent.rtF (Referent.fInt Syntax.w32)) ty·5 19) (List._∷_ (44, Rows.any-gone ty·5) (List._∷_ (45, Mut.mslice (Referent.rtF (Referent.fInt Syntax.w32)) ty·5 20) (List._∷_ (46, Relend.msptr ELEM.the-row ty·18 21) (List._∷_ (47, Rows.any-gone ty·24) List.[])))))))))))))))
+
+abbrev pub t70 : List.List Row.Entry
+t70 = List._∷_ (32, Rows.any-gone ty·20) (List._∷_ (33, Rows.any-gone ty·3) (List._∷_ (34, Rows.any-gone ty·20) (List._∷_ (35, Rows.any-gone ty·1) (List._∷_ (36, Rows.any-gone ty·1) (List._∷_ (37, Rows.any-gone ty·1) (List._∷_ (38, Rows.any-gone ty·5) (List._∷_ (39, Mut.mslice (Signed.SInt Syntax.w32) ty·5 17) (List._∷_ (40, Rows.any-gone ty·5) (List._∷_ (41, Mut.mslice (Referent.rtF (Referent.fInt Syntax.w32)) ty·5 18) (List._∷_ (42, Rows.any-gone ty·5) (List._∷_ (43, Mut.mslice (Referent.rtF (Referent.fInt Syntax.w32)) ty·5 19) (List._∷_ (44, Rows.any-gone ty·5) (List._∷_ (45, Mut.mslice (Referent.rtF (Referent.fInt Syntax.w32)) ty·5 20) (List._∷_ (46, Rows.any-gone ty·18) (List._∷_ (47, Mut.mslice ELEM.the-row ty·18 21) List.[])))))))))))))))
+
+abbrev pub t71 : List.List Row.Entry
+t71 = List._∷_ (0, Rows.any-gone ty·30) (List._∷_ (1, Rows.sc-here (Row.sInt Syntax.w32)) (List._∷_ (2, Rows.sc-here (Row.sInt Syntax.w32)) (List._∷_ (3, Rows.sc-here (Row.sInt Syntax.w32)) (List._∷_ (4, Relend.mslice-owed (Signed.SInt Syntax.w32) ty·7 0 17 Row.off) (List._∷_ (5, Mut.mslice (Signed.SInt Syntax.w32) ty·8 1) (List._∷_ (6, Relend.mslice-owed (Referent.rtF (Referent.fInt Syntax.w32)) ty·9 2 18 Row.off) (List._∷_ (7, Relend.mslice-owed (Referent.rtF (Referent.fInt Syntax.w32)) ty·10 3 19 Row.off) (List._∷_ (8, Relend.mslice-owed (Referent.rtF (Referent.fInt Syntax.w32)) ty·11 4 20 Row.off) (List._∷_ (9, Relend.mslice-owed ELEM.the-row ty·19 5 21 Row.off) (List._∷_ (10, Relend.mslice-owed (Referent.rtF (Referent.fInt Syntax.w32)) ty·12 6 22 Row.off) (List._∷_ (11, Mut.mslice (Referent.rtF (Referent.fInt Syntax.w32)) ty·13 7) (List._∷_ (12, Mut.mslice (Referent.rtF (Referent.fInt Syntax.w32)) ty·14 8) (List._∷_ (13, Mut.mslice (Referent.rtF (Referent.fInt Syntax.w64)) ty·15 9) (List._∷_ (14, Rows.sc-here (Row.sFloat Ieee.binary64)) (List._∷_ (15, Rows.sc-here (Row.sFloat Ieee.binary64)) List.[])))))))))))))))
+
+abbrev pub t72 : List.List Row.Entry
+t72 = List._∷_ (48, Relend.msptr (Referent.rtF (Referent.fInt Syntax.w32)) ty·5 22) (List._∷_ (49, Rows.any-gone ty·22) (List._∷_ (50, Rows.any-gone ty·5) (List._∷_ (51, Rows.any-gone ty·22) (List._∷_ (52, Rows.any-gone ty·5) (List._∷_ (53, Rows.any-gone ty·22) (List._∷_ (54, Rows.any-gone ty·6) (List._∷_ (55, Rows.any-gone ty·23) (List._∷_ (56, Rows.any-gone Syntax.tyUnit) (List._∷_ (57, Rows.any-gone ty·5) (List._∷_ (58, Rows.any-gone ty·22) (List._∷_ (59, Rows.any-gone ty·4) (List._∷_ (60, Rows.any-gone ty·21) List.[]))))))))))))
+
+abbrev pub t73 : List.List Row.Entry
+t73 = List._∷_ (48, Rows.any-gone ty·5) (List._∷_ (49, Mut.mslice (Referent.rtF (Referent.fInt Syntax.w32)) ty·5 22) (List._∷_ (50, Rows.any-gone ty·5) (List._∷_ (51, Rows.any-gone ty·22) (List._∷_ (52, Rows.any-gone ty·5) (List._∷_ (53, Rows.any-gone ty·22) (List._∷_ (54, Rows.any-gone ty·6) (List._∷_ (55, Rows.any-gone ty·23) (List._∷_ (56, Rows.any-gone Syntax.tyUnit) (List._∷_ (57, Rows.any-gone ty·5) (List._∷_ (58, Rows.any-gone ty·22) (List._∷_ (59, Rows.any-gone ty·4) (List._∷_ (60, Rows.any-gone ty·21) List.[]))))))))))))
+
+abbrev pub t74 : List.List Row.Entry
+t74 = List._∷_ (0, Rows.any-gone ty·30) (List._∷_ (1, Rows.sc-here (Row.sInt Syntax.w32)) (List._∷_ (2, Rows.sc-here (Row.sInt Syntax.w32)) (List._∷_ (3, Rows.sc-here (Row.sInt Syntax.w32)) (List._∷_ (4, Relend.mslice-owed (Signed.SInt Syntax.w32) ty·7 0 17 Row.off) (List._∷_ (5, Mut.mslice (Signed.SInt Syntax.w32) ty·8 1) (List._∷_ (6, Relend.mslice-owed (Referent.rtF (Referent.fInt Syntax.w32)) ty·9 2 18 Row.off) (List._∷_ (7, Relend.mslice-owed (Referent.rtF (Referent.fInt Syntax.w32)) ty·10 3 19 Row.off) (List._∷_ (8, Relend.mslice-owed (Referent.rtF (Referent.fInt Syntax.w32)) ty·11 4 20 Row.off) (List._∷_ (9, Relend.mslice-owed ELEM.the-row ty·19 5 21 Row.off) (List._∷_ (10, Relend.mslice-owed (Referent.rtF (Referent.fInt Syntax.w32)) ty·12 6 22 Row.off) (List._∷_ (11, Relend.mslice-owed (Referent.rtF (Referent.fInt Syntax.w32)) ty·13 7 23 Row.off) (List._∷_ (12, Mut.mslice (Referent.rtF (Referent.fInt Syntax.w32)) ty·14 8) (List._∷_ (13, Mut.mslice (Referent.rtF (Referent.fInt Syntax.w64)) ty·15 9) (List._∷_ (14, Rows.sc-here (Row.sFloat Ieee.binary64)) (List._∷_ (15, Rows.sc-here (Row.sFloat Ieee.binary64)) List.[])))))))))))))))
+
+abbrev pub t75 : List.List Row.Entry
+t75 = List._∷_ (48, Rows.any-gone ty·5) (List._∷_ (49, Mut.mslice (Referent.rtF (Referent.fInt Syntax.w32)) ty·5 22) (List._∷_ (50, Relend.msptr (Referent.rtF (Referent.fInt Syntax.w32)) ty·5 23) (List._∷_ (51, Rows.any-gone ty·22) (List._∷_ (52, Rows.any-gone ty·5) (List._∷_ (53, Rows.any-gone ty·22) (List._∷_ (54, Rows.any-gone ty·6) (List._∷_ (55, Rows.any-gone ty·23) (List._∷_ (56, Rows.any-gone Syntax.tyUnit) (List._∷_ (57, Rows.any-gone ty·5) (List._∷_ (58, Rows.any-gone ty·22) (List._∷_ (59, Rows.any-gone ty·4) (List._∷_ (60, Rows.any-gone ty·21) List.[]))))))))))))
+
+abbrev pub t76 : List.List Row.Entry
+t76 = List._∷_ (48, Rows.any-gone ty·5) (List._∷_ (49, Mut.mslice (Referent.rtF (Referent.fInt Syntax.w32)) ty·5 22) (List._∷_ (50, Rows.any-gone ty·5) (List._∷_ (51, Mut.mslice (Referent.rtF (Referent.fInt Syntax.w32)) ty·5 23) (List._∷_ (52, Rows.any-gone ty·5) (List._∷_ (53, Rows.any-gone ty·22) (List._∷_ (54, Rows.any-gone ty·6) (List._∷_ (55, Rows.any-gone ty·23) (List._∷_ (56, Rows.any-gone Syntax.tyUnit) (List._∷_ (57, Rows.any-gone ty·5) (List._∷_ (58, Rows.any-gone ty·22) (List._∷_ (59, Rows.any-gone ty·4) (List._∷_ (60, Rows.any-gone ty·21) List.[]))))))))))))
+
+abbrev pub t77 : List.List Row.Entry
+t77 = List._∷_ (0, Rows.any-gone ty·30) (List._∷_ (1, Rows.sc-here (Row.sInt Syntax.w32)) (List._∷_ (2, Rows.sc-here (Row.sInt Syntax.w32)) (List._∷_ (3, Rows.sc-here (Row.sInt Syntax.w32)) (List._∷_ (4, Relend.mslice-owed (Signed.SInt Syntax.w32) ty·7 0 17 Row.off) (List._∷_ (5, Mut.mslice (Signed.SInt Syntax.w32) ty·8 1) (List._∷_ (6, Relend.mslice-owed (Referent.rtF (Referent.fInt Syntax.w32)) ty·9 2 18 Row.off) (List._∷_ (7, Relend.mslice-owed (Referent.rtF (Referent.fInt Syntax.w32)) ty·10 3 19 Row.off) (List._∷_ (8, Relend.mslice-owed (Referent.rtF (Referent.fInt Syntax.w32)) ty·11 4 20 Row.off) (List._∷_ (9, Relend.mslice-owed ELEM.the-row ty·19 5 21 Row.off) (List._∷_ (10, Relend.mslice-owed (Referent.rtF (Referent.fInt Syntax.w32)) ty·12 6 22 Row.off) (List._∷_ (11, Relend.mslice-owed (Referent.rtF (Referent.fInt Syntax.w32)) ty·13 7 23 Row.off) (List._∷_ (12, Relend.mslice-owed (Referent.rtF (Referent.fInt Syntax.w32)) ty·14 8 24 Row.off) (List._∷_ (13, Mut.mslice (Referent.rtF (Referent.fInt Syntax.w64)) ty·15 9) (List._∷_ (14, Rows.sc-here (Row.sFloat Ieee.binary64)) (List._∷_ (15, Rows.sc-here (Row.sFloat Ieee.binary64)) List.[])))))))))))))))
+
+abbrev pub t78 : List.List Row.Entry
+t78 = List._∷_ (48, Rows.any-gone ty·5) (List._∷_ (49, Mut.mslice (Referent.rtF (Referent.fInt Syntax.w32)) ty·5 22) (List._∷_ (50, Rows.any-gone ty·5) (List._∷_ (51, Mut.mslice (Referent.rtF (Referent.fInt Syntax.w32)) ty·5 23) (List._∷_ (52, Relend.msptr (Referent.rtF (Referent.fInt Syntax.w32)) ty·5 24) (List._∷_ (53, Rows.any-gone ty·22) (List._∷_ (54, Rows.any-gone ty·6) (List._∷_ (55, Rows.any-gone ty·23) (List._∷_ (56, Rows.any-gone Syntax.tyUnit) (List._∷_ (57, Rows.any-gone ty·5) (List._∷_ (58, Rows.any-gone ty·22) (List._∷_ (59, Rows.any-gone ty·4) (List._∷_ (60, Rows.any-gone ty·21) List.[]))))))))))))
+
+abbrev pub t79 : List.List Row.Entry
+t79 = List._∷_ (48, Rows.any-gone ty·5) (List._∷_ (49, Mut.mslice (Referent.rtF (Referent.fInt Syntax.w32)) ty·5 22) (List._∷_ (50, Rows.any-gone ty·5) (List._∷_ (51, Mut.mslice (Referent.rtF (Referent.fInt Syntax.w32)) ty·5 23) (List._∷_ (52, Rows.any-gone ty·5) (List._∷_ (53, Mut.mslice (Referent.rtF (Referent.fInt Syntax.w32)) ty·5 24) (List._∷_ (54, Rows.any-gone ty·6) (List._∷_ (55, Rows.any-gone ty·23) (List._∷_ (56, Rows.any-gone Syntax.tyUnit) (List._∷_ (57, Rows.any-gone ty·5) (List._∷_ (58, Rows.any-gone ty·22) (List._∷_ (59, Rows.any-gone ty·4) (List._∷_ (60, Rows.any-gone ty·21) List.[]))))))))))))
+
+abbrev pub t80 : List.List Row.Entry
+t80 = List._∷_ (0, Rows.any-gone ty·30) (List._∷_ (1, Rows.sc-here (Row.sInt Syntax.w32)) (List._∷_ (2, Rows.sc-here (Row.sInt Syntax.w32)) (List._∷_ (3, Rows.sc-here (Row.sInt Syntax.w32)) (List._∷_ (4, Relend.mslice-owed (Signed.SInt Syntax.w32) ty·7 0 17 Row.off) (List._∷_ (5, Mut.mslice (Signed.SInt Syntax.w32) ty·8 1) (List._∷_ (6, Relend.mslice-owed (Referent.rtF (Referent.fInt Syntax.w32)) ty·9 2 18 Row.off) (List._∷_ (7, Relend.mslice-owed (Referent.rtF (Referent.fInt Syntax.w32)) ty·10 3 19 Row.off) (List._∷_ (8, Relend.mslice-owed (Referent.rtF (Referent.fInt Syntax.w32)) ty·11 4 20 Row.off) (List._∷_ (9, Relend.mslice-owed ELEM.the-row ty·19 5 21 Row.off) (List._∷_ (10, Relend.mslice-owed (Referent.rtF (Referent.fInt Syntax.w32)) ty·12 6 22 Row.off) (List._∷_ (11, Relend.mslice-owed (Referent.rtF (Referent.fInt Syntax.w32)) ty·13 7 23 Row.off) (List._∷_ (12, Relend.mslice-owed (Referent.rtF (Referent.fInt Syntax.w32)) ty·14 8 24 Row.off) (List._∷_ (13, Relend.mslice-owed (Referent.rtF (Referent.fInt Syntax.w64)) ty·15 9 25 Row.off) (List._∷_ (14, Rows.sc-here (Row.sFloat Ieee.binary64)) (List._∷_ (15, Rows.sc-here (Row.sFloat Ieee.binary64)) List.[])))))))))))))))
+
+abbrev pub t81 : List.List Row.Entry
+t81 = List._∷_ (48, Rows.any-gone ty·5) (List._∷_ (49, Mut.mslice (Referent.rtF (Referent.fInt Syntax.w32)) ty·5 22) (List._∷_ (50, Rows.any-gone ty·5) (List._∷_ (51, Mut.mslice (Referent.rtF (Referent.fInt Syntax.w32)) ty·5 23) (List._∷_ (52, Rows.any-gone ty·5) (List._∷_ (53, Mut.mslice (Referent.rtF (Referent.fInt Syntax.w32)) ty·5 24) (List._∷_ (54, Relend.msptr (Referent.rtF (Referent.fInt Syntax.w64)) ty·6 25) (List._∷_ (55, Rows.any-gone ty·23) (List._∷_ (56, Rows.any-gone Syntax.tyUnit) (List._∷_ (57, Rows.any-gone ty·5) (List._∷_ (58, Rows.any-gone ty·22) (List._∷_ (59, Rows.any-gone ty·4) (List._∷_ (60, Rows.any-gone ty·21) List.[]))))))))))))
+
+abbrev pub t82 : List.List Row.Entry
+t82 = List._∷_ (48, Rows.any-gone ty·5) (List._∷_ (49, Mut.mslice (Referent.rtF (Referent.fInt Syntax.w32)) ty·5 22) (List._∷_ (50, Rows.any-gone ty·5) (List._∷_ (51, Mut.mslice (Referent.rtF (Referent.fInt Syntax.w32)) ty·5 23) (List._∷_ (52, Rows.any-gone ty·5) (List._∷_ (53, Mut.mslice (Referent.rtF (Referent.fInt Syntax.w32)) ty·5 24) (List._∷_ (54, Rows.any-gone ty·6) (List._∷_ (55, Mut.mslice (Referent.rtF (Referent.fInt Syntax.w64)) ty·6 25) (List._∷_ (56, Rows.any-gone Syntax.tyUnit) (List._∷_ (57, Rows.any-gone ty·5) (List._∷_ (58, Rows.any-gone ty·22) (List._∷_ (59, Rows.any-gone ty·4) (List._∷_ (60, Rows.any-gone ty·21) List.[]))))))))))))
+
+abbrev pub t83 : List.List Row.Entry
+t83 = List._∷_ (16, Rows.sslice (Signed.SInt Syntax.w32) ty·16 10) (List._∷_ (17, Rows.sslice (Signed.SInt Syntax.w32) ty·17 11) (List._∷_ (18, Rows.whole (Declared'.row Counts.the-type)) (List._∷_ (19, Rows.whole (Declared'.row Point2.the-type)) (List._∷_ (20, Rows.sc-here Row.sBool) (List._∷_ (21, Rows.any-gone ty·29) (List._∷_ (22, Rows.any-gone ty·28) (List._∷_ (23, Rows.whole (Declared'.row FinishAnswer.the-type)) (List._∷_ (24, Rows.any-gone ty·1) (List._∷_ (25, Rows.any-gone ty·3) (List._∷_ (26, Rows.any-gone ty·20) (List._∷_ (27, Rows.any-gone ty·3) (List._∷_ (28, Rows.any-gone ty·20) (List._∷_ (29, Rows.any-gone ty·3) (List._∷_ (30, Rows.any-gone ty·20) (List._∷_ (31, Rows.any-gone ty·3) List.[])))))))))))))))
+
+abbrev pub t84 : List.List Row.Entry
+t84 = List._∷_ (32, Rows.any-gone ty·20) (List._∷_ (33, Rows.any-gone ty·3) (List._∷_ (34, Rows.any-gone ty·20) (List._∷_ (35, Rows.any-gone ty·1) (List._∷_ (36, Rows.any-gone ty·1) (List._∷_ (37, Rows.any-gone ty·1) (List._∷_ (38, Rows.any-gone ty·5) (List._∷_ (39, Mut.msleft (Signed.SInt Syntax.w32) ty·5) (List._∷_ (40, Rows.any-gone ty·5) (List._∷_ (41, Mut.msleft (Referent.rtF (Referent.fInt Syntax.w32)) ty·5) (List._∷_ (42, Rows.any-gone ty·5) (List._∷_ (43, Mut.msleft (Referent.rtF (Referent.fInt Syntax.w32)) ty·5) (List._∷_ (44, Rows.any-gone ty·5) (List._∷_ (45, Mut.msleft (Referent.rtF (Referent.fInt Syntax.w32)) ty·5) (List._∷_ (46, Rows.any-gone ty·18) (List._∷_ (47, Mut.msleft ELEM.the-row ty·18) List.[])))))))))))))))
+
+abbrev pub t85 : List.List Row.Entry
+t85 = List._∷_ (48, Rows.any-gone ty·5) (List._∷_ (49, Mut.msleft (Referent.rtF (Referent.fInt Syntax.w32)) ty·5) (List._∷_ (50, Rows.any-gone ty·5) (List._∷_ (51, Mut.msleft (Referent.rtF (Referent.fInt Syntax.w32)) ty·5) (List._∷_ (52, Rows.any-gone ty·5) (List._∷_ (53, Mut.msleft (Referent.rtF (Referent.fInt Syntax.w32)) ty·5) (List._∷_ (54, Rows.any-gone ty·6) (List._∷_ (55, Mut.msleft (Referent.rtF (Referent.fInt Syntax.w64)) ty·6) (List._∷_ (56, Rows.any-gone Syntax.tyUnit) (List._∷_ (57, Rows.any-gone ty·5) (List._∷_ (58, Rows.any-gone ty·22) (List._∷_ (59, Rows.any-gone ty·4) (List._∷_ (60, Rows.any-gone ty·21) List.[]))))))))))))
+
+abbrev pub t86 : List.List Row.Entry
+t86 = List._∷_ (16, Rows.sslice (Signed.SInt Syntax.w32) ty·16 10) (List._∷_ (17, Rows.sslice (Signed.SInt Syntax.w32) ty·17 11) (List._∷_ (18, Rows.any-gone ty·26) (List._∷_ (19, Rows.whole (Declared'.row Point2.the-type)) (List._∷_ (20, Rows.sc-here Row.sBool) (List._∷_ (21, Rows.any-gone ty·29) (List._∷_ (22, Rows.any-gone ty·28) (List._∷_ (23, Rows.whole (Declared'.row FinishAnswer.the-type)) (List._∷_ (24, Rows.any-gone ty·1) (List._∷_ (25, Rows.any-gone ty·3) (List._∷_ (26, Rows.any-gone ty·20) (List._∷_ (27, Rows.any-gone ty·3) (List._∷_ (28, Rows.any-gone ty·20) (List._∷_ (29, Rows.any-gone ty·3) (List._∷_ (30, Rows.any-gone ty·20) (List._∷_ (31, Rows.any-gone ty·3) List.[])))))))))))))))
+
+abbrev pub t87 : List.List Row.Entry
+t87 = List._∷_ (16, Rows.sslice (Signed.SInt Syntax.w32) ty·16 10) (List._∷_ (17, Rows.sslice (Signed.SInt Syntax.w32) ty·17 11) (List._∷_ (18, Rows.any-gone ty·26) (List._∷_ (19, Rows.any-gone ty·25) (List._∷_ (20, Rows.sc-here Row.sBool) (List._∷_ (21, Rows.any-gone ty·29) (List._∷_ (22, Rows.any-gone ty·28) (List._∷_ (23, Rows.whole (Declared'.row FinishAnswer.the-type)) (List._∷_ (24, Rows.any-gone ty·1) (List._∷_ (25, Rows.any-gone ty·3) (List._∷_ (26, Rows.any-gone ty·20) (List._∷_ (27, Rows.any-gone ty·3) (List._∷_ (28, Rows.any-gone ty·20) (List._∷_ (29, Rows.any-gone ty·3) (List._∷_ (30, Rows.any-gone ty·20) (List._∷_ (31, Rows.any-gone ty·3) List.[])))))))))))))))
+
+abbrev pub t88 : List.List Row.Entry
+t88 = List._∷_ (0, Rows.any-gone ty·30) (List._∷_ (1, Rows.sc-here (Row.sInt Syntax.w32)) (List._∷_ (2, Rows.sc-here (Row.sInt Syntax.w32)) (List._∷_ (3, Rows.sc-here (Row.sInt Syntax.w32)) (List._∷_ (4, Mut.mslice (Signed.SInt Syntax.w32) ty·7 0) (List._∷_ (5, Mut.mslice (Signed.SInt Syntax.w32) ty·8 1) (List._∷_ (6, Relend.mslice-owed (Referent.rtF (Referent.fInt Syntax.w32)) ty·9 2 18 Row.off) (List._∷_ (7, Relend.mslice-owed (Referent.rtF (Referent.fInt Syntax.w32)) ty·10 3 19 Row.off) (List._∷_ (8, Relend.mslice-owed (Referent.rtF (Referent.fInt Syntax.w32)) ty·11 4 20 Row.off) (List._∷_ (9, Relend.mslice-owed ELEM.the-row ty·19 5 21 Row.off) (List._∷_ (10, Relend.mslice-owed (Referent.rtF (Referent.fInt Syntax.w32)) ty·12 6 22 Row.off) (List._∷_ (11, Relend.mslice-owed (Referent.rtF (Referent.fInt Syntax.w32)) ty·13 7 23 Row.off) (List._∷_ (12, Relend.mslice-owed (Referent.rtF (Referent.fInt Syntax.w32)) ty·14 8 24 Row.off) (List._∷_ (13, Relend.mslice-owed (Referent.rtF (Referent.fInt Syntax.w64)) ty·15 9 25 Row.off) (List._∷_ (14, Rows.sc-here (Row.sFloat Ieee.binary64)) (List._∷_ (15, Rows.sc-here (Row.sFloat Ieee.binary64)) List.[])))))))))))))))
+
+abbrev pub t89 : List.List Row.Entry
+t89 = List._∷_ (32, Rows.any-gone ty·20) (List._∷_ (33, Rows.any-gone ty·3) (List._∷_ (34, Rows.any-gone ty·20) (List._∷_ (35, Rows.any-gone ty·1) (List._∷_ (36, Rows.any-gone ty·1) (List._∷_ (37, Rows.any-gone ty·1) (List._∷_ (38, Rows.any-gone ty·5) (List._∷_ (39, Rows.any-gone ty·22) (List._∷_ (40, Rows.any-gone ty·5) (List._∷_ (41, Mut.msleft (Referent.rtF (Referent.fInt Syntax.w32)) ty·5) (List._∷_ (42, Rows.any-gone ty·5) (List._∷_ (43, Mut.msleft (Referent.rtF (Referent.fInt Syntax.w32)) ty·5) (List._∷_ (44, Rows.any-gone ty·5) (List._∷_ (45, Mut.msleft (Referent.rtF (Referent.fInt Syntax.w32)) ty·5) (List._∷_ (46, Rows.any-gone ty·18) (List._∷_ (47, Mut.msleft ELEM.the-row ty·18) List.[])))))))))))))))
+
+abbrev pub t90 : List.List Row.Entry
+t90 = List._∷_ (0, Rows.any-gone ty·30) (List._∷_ (1, Rows.sc-here (Row.sInt Syntax.w32)) (List._∷_ (2, Rows.sc-here (Row.sInt Syntax.w32)) (List._∷_ (3, Rows.sc-here (Row.sInt Syntax.w32)) (List._∷_ (4, Mut.mslice (Signed.SInt Syntax.w32) ty·7 0) (List._∷_ (5, Mut.mslice (Signed.SInt Syntax.w32) ty·8 1) (List._∷_ (6, Mut.mslice (Referent.rtF (Referent.fInt Syntax.w32)) ty·9 2) (List._∷_ (7, Relend.mslice-owed (Referent.rtF (Referent.fInt Syntax.w32)) ty·10 3 19 Row.off) (List._∷_ (8, Relend.mslice-owed (Referent.rtF (Referent.fInt Syntax.w32)) ty·11 4 20 Row.off) (List._∷_ (9, Relend.mslice-owed ELEM.the-row ty·19 5 21 Row.off) (List._∷_ (10, Relend.mslice-owed (Referent.rtF (Referent.fInt Syntax.w32)) ty·12 6 22 Row.off) (List._∷_ (11, Relend.mslice-owed (Referent.rtF (Referent.fInt Syntax.w32)) ty·13 7 23 Row.off) (List._∷_ (12, Relend.mslice-owed (Referent.rtF (Referent.fInt Syntax.w32)) ty·14 8 24 Row.off) (List._∷_ (13, Relend.mslice-owed (Referent.rtF (Referent.fInt Syntax.w64)) ty·15 9 25 Row.off) (List._∷_ (14, Rows.sc-here (Row.sFloat Ieee.binary64)) (List._∷_ (15, Rows.sc-here (Row.sFloat Ieee.binary64)) List.[])))))))))))))))
+
+abbrev pub t91 : List.List Row.Entry
+t91 = List._∷_ (32, Rows.any-gone ty·20) (List._∷_ (33, Rows.any-gone ty·3) (List._∷_ (34, Rows.any-gone ty·20) (List._∷_ (35, Rows.any-gone ty·1) (List._∷_ (36, Rows.any-gone ty·1) (List._∷_ (37, Rows.any-gone ty·1) (List._∷_ (38, Rows.any-gone ty·5) (List._∷_ (39, Rows.any-gone ty·22) (List._∷_ (40, Rows.any-gone ty·5) (List._∷_ (41, Rows.any-gone ty·22) (List._∷_ (42, Rows.any-gone ty·5) (List._∷_ (43, Mut.msleft (Referent.rtF (Referent.fInt Syntax.w32)) ty·5) (List._∷_ (44, Rows.any-gone ty·5) (List._∷_ (45, Mut.msleft (Referent.rtF (Referent.fInt Syntax.w32)) ty·5) (List._∷_ (46, Rows.any-gone ty·18) (List._∷_ (47, Mut.msleft ELEM.the-row ty·18) List.[])))))))))))))))
+
+abbrev pub t92 : List.List Row.Entry
+t92 = List._∷_ (0, Rows.any-gone ty·30) (List._∷_ (1, Rows.sc-here (Row.sInt Syntax.w32)) (List._∷_ (2, Rows.sc-here (Row.sInt Syntax.w32)) (List._∷_ (3, Rows.sc-here (Row.sInt Syntax.w32)) (List._∷_ (4, Mut.mslice (Signed.SInt Syntax.w32) ty·7 0) (List._∷_ (5, Mut.mslice (Signed.SInt Syntax.w32) ty·8 1) (List._∷_ (6, Mut.mslice (Referent.rtF (Referent.fInt Syntax.w32)) ty·9 2) (List._∷_ (7, Mut.mslice (Referent.rtF (Referent.fInt Syntax.w32)) ty·10 3) (List._∷_ (8, Relend.mslice-owed (Referent.rtF (Referent.fInt Syntax.w32)) ty·11 4 20 Row.off) (List._∷_ (9, Relend.mslice-owed ELEM.the-row ty·19 5 21 Row.off) (List._∷_ (10, Relend.mslice-owed (Referent.rtF (Referent.fInt Syntax.w32)) ty·12 6 22 Row.off) (List._∷_ (11, Relend.mslice-owed (Referent.rtF (Referent.fInt Syntax.w32)) ty·13 7 23 Row.off) (List._∷_ (12, Relend.mslice-owed (Referent.rtF (Referent.fInt Syntax.w32)) ty·14 8 24 Row.off) (List._∷_ (13, Relend.mslice-owed (Referent.rtF (Referent.fInt Syntax.w64)) ty·15 9 25 Row.off) (List._∷_ (14, Rows.sc-here (Row.sFloat Ieee.binary64)) (List._∷_ (15, Rows.sc-here (Row.sFloat Ieee.binary64)) List.[])))))))))))))))
+
+abbrev pub t93 : List.List Row.Entry
+t93 = List._∷_ (32, Rows.any-gone ty·20) (List._∷_ (33, Rows.any-gone ty·3) (List._∷_ (34, Rows.any-gone ty·20) (List._∷_ (35, Rows.any-gone ty·1) (List._∷_ (36, Rows.any-gone ty·1) (List._∷_ (37, Rows.any-gone ty·1) (List._∷_ (38, Rows.any-gone ty·5) (List._∷_ (39, Rows.any-gone ty·22) (List._∷_ (40, Rows.any-gone ty·5) (List._∷_ (41, Rows.any-gone ty·22) (List._∷_ (42, Rows.any-gone ty·5) (List._∷_ (43, Rows.any-gone ty·22) (List._∷_ (44, Rows.any-gone ty·5) (List._∷_ (45, Mut.msleft (Referent.rtF (Referent.fInt Syntax.w32)) ty·5) (List._∷_ (46, Rows.any-gone ty·18) (List._∷_ (47, Mut.msleft ELEM.the-row ty·18) List.[])))))))))))))))
+
+abbrev pub t94 : List.List Row.Entry
+t94 = List._∷_ (0, Rows.any-gone ty·30) (List._∷_ (1, Rows.sc-here (Row.sInt Syntax.w32)) (List._∷_ (2, Rows.sc-here (Row.sInt Syntax.w32)) (List._∷_ (3, Rows.sc-here (Row.sInt Syntax.w32)) (List._∷_ (4, Mut.mslice (Signed.SInt Syntax.w32) ty·7 0) (List._∷_ (5, Mut.mslice (Signed.SInt Syntax.w32) ty·8 1) (List._∷_ (6, Mut.mslice (Referent.rtF (Referent.fInt Syntax.w32)) ty·9 2) (List._∷_ (7, Mut.mslice (Referent.rtF (Referent.fInt Syntax.w32)) ty·10 3) (List._∷_ (8, Mut.mslice (Referent.rtF (Referent.fInt Syntax.w32)) ty·11 4) (List._∷_ (9, Relend.mslice-owed ELEM.the-row ty·19 5 21 Row.off) (List._∷_ (10, Relend.mslice-owed (Referent.rtF (Referent.fInt Syntax.w32)) ty·12 6 22 Row.off) (List._∷_ (11, Relend.mslice-owed (Referent.rtF (Referent.fInt Syntax.w32)) ty·13 7 23 Row.off) (List._∷_ (12, Relend.mslice-owed (Referent.rtF (Referent.fInt Syntax.w32)) ty·14 8 24 Row.off) (List._∷_ (13, Relend.mslice-owed (Referent.rtF (Referent.fInt Syntax.w64)) ty·15 9 25 Row.off) (List._∷_ (14, Rows.sc-here (Row.sFloat Ieee.binary64)) (List._∷_ (15, Rows.sc-here (Row.sFloat Ieee.binary64)) List.[])))))))))))))))
+
+abbrev pub t95 : List.List Row.Entry
+t95 = List._∷_ (32, Rows.any-gone ty·20) (List._∷_ (33, Rows.any-gone ty·3) (List._∷_ (34, Rows.any-gone ty·20) (List._∷_ (35, Rows.any-gone ty·1) (List._∷_ (36, Rows.any-gone ty·1) (List._∷_ (37, Rows.any-gone ty·1) (List._∷_ (38, Rows.any-gone ty·5) (List._∷_ (39, Rows.any-gone ty·22) (List._∷_ (40, Rows.any-gone ty·5) (List._∷_ (41, Rows.any-gone ty·22) (List._∷_ (42, Rows.any-gone ty·5) (List._∷_ (43, Rows.any-gone ty·22) (List._∷_ (44, Rows.any-gone ty·5) (List._∷_ (45, Rows.any-gone ty·22) (List._∷_ (46, Rows.any-gone ty·18) (List._∷_ (47, Mut.msleft ELEM.the-row ty·18) List.[])))))))))))))))
+
+abbrev pub t96 : List.List Row.Entry
+t96 = List._∷_ (0, Rows.any-gone ty·30) (List._∷_ (1, Rows.sc-here (Row.sInt Syntax.w32)) (List._∷_ (2, Rows.sc-here (Row.sInt Syntax.w32)) (List._∷_ (3, Rows.sc-here (Row.sInt Syntax.w32)) (List._∷_ (4, Mut.mslice (Signed.SInt Syntax.w32) ty·7 0) (List._∷_ (5, Mut.mslice (Signed.SInt Syntax.w32) ty·8 1) (List._∷_ (6, Mut.mslice (Referent.rtF (Referent.fInt Syntax.w32)) ty·9 2) (List._∷_ (7, Mut.mslice (Referent.rtF (Referent.fInt Syntax.w32)) ty·10 3) (List._∷_ (8, Mut.mslice (Referent.rtF (Referent.fInt Syntax.w32)) ty·11 4) (List._∷_ (9, Mut.mslice ELEM.the-row ty·19 5) (List._∷_ (10, Relend.mslice-owed (Referent.rtF (Referent.fInt Syntax.w32)) ty·12 6 22 Row.off) (List._∷_ (11, Relend.mslice-owed (Referent.rtF (Referent.fInt Syntax.w32)) ty·13 7 23 Row.off) (List._∷_ (12, Relend.mslice-owed (Referent.rtF (Referent.fInt Syntax.w32)) ty·14 8 24 Row.off) (List._∷_ (13, Relend.mslice-owed (Referent.rtF (Referent.fInt Syntax.w64)) ty·15 9 25 Row.off) (List._∷_ (14, Rows.sc-here (Row.sFloat Ieee.binary64)) (List._∷_ (15, Rows.sc-here (Row.sFloat Ieee.binary64)) List.[])))))))))))))))
+
+abbrev pub t97 : List.List Row.Entry
+t97 = List._∷_ (0, Rows.any-gone ty·30) (List._∷_ (1, Rows.sc-here (Row.sInt Syntax.w32)) (List._∷_ (2, Rows.sc-here (Row.sInt Syntax.w32)) (List._∷_ (3, Rows.sc-here (Row.sInt Syntax.w32)) (List._∷_ (4, Mut.mslice (Signed.SInt Syntax.w32) ty·7 0) (List._∷_ (5, Mut.mslice (Signed.SInt Syntax.w32) ty·8 1) (List._∷_ (6, Mut.mslice (Referent.rtF (Referent.fInt Syntax.w32)) ty·9 2) (List._∷_ (7, Mut.mslice (Referent.rtF (Referent.fInt Syntax.w32)) ty·10 3) (List._∷_ (8, Mut.mslice (Referent.rtF (Referent.fInt Syntax.w32)) ty·11 4) (List._∷_ (9, Mut.mslice ELEM.the-row ty·19 5) (List._∷_ (10, Mut.mslice (Referent.rtF (Referent.fInt Syntax.w32)) ty·12 6) (List._∷_ (11, Relend.mslice-owed (Referent.rtF (Referent.fInt Syntax.w32)) ty·13 7 23 Row.off) (List._∷_ (12, Relend.mslice-owed (Referent.rtF (Referent.fInt Syntax.w32)) ty·14 8 24 Row.off) (List._∷_ (13, Relend.mslice-owed (Referent.rtF (Referent.fInt Syntax.w64)) ty·15 9 25 Row.off) (List._∷_ (14, Rows.sc-here (Row.sFloat Ieee.binary64)) (List._∷_ (15, Rows.sc-here (Row.sFloat Ieee.binary64)) List.[])))))))))))))))
+
+abbrev pub t98 : List.List Row.Entry
+t98 = List._∷_ (48, Rows.any-gone ty·5) (List._∷_ (49, Rows.any-gone ty·22) (List._∷_ (50, Rows.any-gone ty·5) (List._∷_ (51, Mut.msleft (Referent.rtF (Referent.fInt Syntax.w32)) ty·5) (List._∷_ (52, Rows.any-gone ty·5) (List._∷_ (53, Mut.msleft (Referent.rtF (Referent.fInt Syntax.w32)) ty·5) (List._∷_ (54, Rows.any-gone ty·6) (List._∷_ (55, Mut.msleft (Referent.rtF (Referent.fInt Syntax.w64)) ty·6) (List._∷_ (56, Rows.any-gone Syntax.tyUnit) (List._∷_ (57, Rows.any-gone ty·5) (List._∷_ (58, Rows.any-gone ty·22) (List._∷_ (59, Rows.any-gone ty·4) (List._∷_ (60, Rows.any-gone ty·21) List.[]))))))))))))
+
+abbrev pub t99 : List.List Row.Entry
+t99 = List._∷_ (0, Rows.any-gone ty·30) (List._∷_ (1, Rows.sc-here (Row.sInt Syntax.w32)) (List._∷_ (2, Rows.sc-here (Row.sInt Syntax.w32)) (List._∷_ (3, Rows.sc-here (Row.sInt Syntax.w32)) (List._∷_ (4, Mut.mslice (Signed.SInt Syntax.w32) ty·7 0) (List._∷_ (5, Mut.mslice (Signed.SInt Syntax.w32) ty·8 1) (List._∷_ (6, Mut.mslice (Referent.rtF (Referent.fInt Syntax.w32)) ty·9 2) (List._∷_ (7, Mut.mslice (Referent.rtF (Referent.fInt Syntax.w32)) ty·10 3) (List._∷_ (8, Mut.mslice (Referent.rtF (Referent.fInt Syntax.w32)) ty·11 4) (List._∷_ (9, Mut.mslice ELEM.the-row ty·19 5) (List._∷_ (10, Mut.mslice (Referent.rtF (Referent.fInt Syntax.w32)) ty·12 6) (List._∷_ (11, Mut.mslice (Referent.rtF (Referent.fInt Syntax.w32)) ty·13 7) (List._∷_ (12, Relend.mslice-owed (Referent.rtF (Referent.fInt Syntax.w32)) ty·14 8 24 Row.off) (List._∷_ (13, Relend.mslice-owed (Referent.rtF (Referent.fInt Syntax.w64)) ty·15 9 25 Row.off) (List._∷_ (14, Rows.sc-here (Row.sFloat Ieee.binary64)) (List._∷_ (15, Rows.sc-here (Row.sFloat Ieee.binary64)) List.[])))))))))))))))
+
+abbrev pub t100 : List.List Row.Entry
+t100 = List._∷_ (48, Rows.any-gone ty·5) (List._∷_ (49, Rows.any-gone ty·22) (List._∷_ (50, Rows.any-gone ty·5) (List._∷_ (51, Rows.any-gone ty·22) (List._∷_ (52, Rows.any-gone ty·5) (List._∷_ (53, Mut.msleft (Referent.rtF (Referent.fInt Syntax.w32)) ty·5) (List._∷_ (54, Rows.any-gone ty·6) (List._∷_ (55, Mut.msleft (Referent.rtF (Referent.fInt Syntax.w64)) ty·6) (List._∷_ (56, Rows.any-gone Syntax.tyUnit) (List._∷_ (57, Rows.any-gone ty·5) (List._∷_ (58, Rows.any-gone ty·22) (List._∷_ (59, Rows.any-gone ty·4) (List._∷_ (60, Rows.any-gone ty·21) List.[]))))))))))))
+
+abbrev pub t101 : List.List Row.Entry
+t101 = List._∷_ (0, Rows.any-gone ty·30) (List._∷_ (1, Rows.sc-here (Row.sInt Syntax.w32)) (List._∷_ (2, Rows.sc-here (Row.sInt Syntax.w32)) (List._∷_ (3, Rows.sc-here (Row.sInt Syntax.w32)) (List._∷_ (4, Mut.mslice (Signed.SInt Syntax.w32) ty·7 0) (List._∷_ (5, Mut.mslice (Signed.SInt Syntax.w32) ty·8 1) (List._∷_ (6, Mut.mslice (Referent.rtF (Referent.fInt Syntax.w32)) ty·9 2) (List._∷_ (7, Mut.mslice (Referent.rtF (Referent.fInt Syntax.w32)) ty·10 3) (List._∷_ (8, Mut.mslice (Referent.rtF (Referent.fInt Syntax.w32)) ty·11 4) (List._∷_ (9, Mut.mslice ELEM.the-row ty·19 5) (List._∷_ (10, Mut.mslice (Referent.rtF (Referent.fInt Syntax.w32)) ty·12 6) (List._∷_ (11, Mut.mslice (Referent.rtF (Referent.fInt Syntax.w32)) ty·13 7) (List._∷_ (12, Mut.mslice (Referent.rtF (Referent.fInt Syntax.w32)) ty·14 8) (List._∷_ (13, Relend.mslice-owed (Referent.rtF (Referent.fInt Syntax.w64)) ty·15 9 25 Row.off) (List._∷_ (14, Rows.sc-here (Row.sFloat Ieee.binary64)) (List._∷_ (15, Rows.sc-here (Row.sFloat Ieee.binary64)) List.[])))))))))))))))
+
+abbrev pub t102 : List.List Row.Entry
+t102 = List._∷_ (48, Rows.any-gone ty·5) (List._∷_ (49, Rows.any-gone ty·22) (List._∷_ (50, Rows.any-gone ty·5) (List._∷_ (51, Rows.any-gone ty·22) (List._∷_ (52, Rows.any-gone ty·5) (List._∷_ (53, Rows.any-gone ty·22) (List._∷_ (54, Rows.any-gone ty·6) (List._∷_ (55, Mut.msleft (Referent.rtF (Referent.fInt Syntax.w64)) ty·6) (List._∷_ (56, Rows.any-gone Syntax.tyUnit) (List._∷_ (57, Rows.any-gone ty·5) (List._∷_ (58, Rows.any-gone ty·22) (List._∷_ (59, Rows.any-gone ty·4) (List._∷_ (60, Rows.any-gone ty·21) List.[]))))))))))))
+
+abbrev pub t103 : List.List Row.Entry
+t103 = List._∷_ (0, Rows.any-gone ty·30) (List._∷_ (1, Rows.sc-here (Row.sInt Syntax.w32)) (List._∷_ (2, Rows.sc-here (Row.sInt Syntax.w32)) (List._∷_ (3, Rows.sc-here (Row.sInt Syntax.w32)) (List._∷_ (4, Mut.mslice (Signed.SInt Syntax.w32) ty·7 0) (List._∷_ (5, Relend.mslice-owed (Signed.SInt Syntax.w32) ty·8 1 26 Row.off) (List._∷_ (6, Mut.mslice (Referent.rtF (Referent.fInt Syntax.w32)) ty·9 2) (List._∷_ (7, Mut.mslice (Referent.rtF (Referent.fInt Syntax.w32)) ty·10 3) (List._∷_ (8, Mut.mslice (Referent.rtF (Referent.fInt Syntax.w32)) ty·11 4) (List._∷_ (9, Mut.mslice ELEM.the-row ty·19 5) (List._∷_ (10, Mut.mslice (Referent.rtF (Referent.fInt Syntax.w32)) ty·12 6) (List._∷_ (11, Mut.mslice (Referent.rtF (Referent.fInt Syntax.w32)) ty·13 7) (List._∷_ (12, Mut.mslice (Referent.rtF (Referent.fInt Syntax.w32)) ty·14 8) (List._∷_ (13, Mut.mslice (Referent.rtF (Referent.fInt Syntax.w64)) ty·15 9) (List._∷_ (14, Rows.sc-here (Row.sFloat Ieee.binary64)) (List._∷_ (15, Rows.sc-here (Row.sFloat Ieee.binary64)) List.[])))))))))))))))
+
+abbrev pub t104 : List.List Row.Entry
+t104 = List._∷_ (48, Rows.any-gone ty·5) (List._∷_ (49, Rows.any-gone ty·22) (List._∷_ (50, Rows.any-gone ty·5) (List._∷_ (51, Rows.any-gone ty·22) (List._∷_ (52, Rows.any-gone ty·5) (List._∷_ (53, Rows.any-gone ty·22) (List._∷_ (54, Rows.any-gone ty·6) (List._∷_ (55, Rows.any-gone ty·23) (List._∷_ (56, Rows.any-gone Syntax.tyUnit) (List._∷_ (57, Relend.msptr (Signed.SInt Syntax.w32) ty·5 26) (List._∷_ (58, Rows.any-gone ty·22) (List._∷_ (59, Rows.any-gone ty·4) (List._∷_ (60, Rows.any-gone ty·21) List.[]))))))))))))
+
+abbrev pub t105 : List.List Row.Entry
+t105 = List._∷_ (48, Rows.any-gone ty·5) (List._∷_ (49, Rows.any-gone ty·22) (List._∷_ (50, Rows.any-gone ty·5) (List._∷_ (51, Rows.any-gone ty·22) (List._∷_ (52, Rows.any-gone ty·5) (List._∷_ (53, Rows.any-gone ty·22) (List._∷_ (54, Rows.any-gone ty·6) (List._∷_ (55, Rows.any-gone ty·23) (List._∷_ (56, Rows.any-gone Syntax.tyUnit) (List._∷_ (57, Rows.any-gone ty·5) (List._∷_ (58, Mut.mslice (Signed.SInt Syntax.w32) ty·5 26) (List._∷_ (59, Rows.any-gone ty·4) (List._∷_ (60, Rows.any-gone ty·21) List.[]))))))))))))
+
+abbrev pub t106 : List.List Row.Entry
+t106 = List._∷_ (0, Rows.any-gone ty·30) (List._∷_ (1, Rows.sc-here (Row.sInt Syntax.w32)) (List._∷_ (2, Rows.sc-here (Row.sInt Syntax.w32)) (List._∷_ (3, Rows.sc-here (Row.sInt Syntax.w32)) (List._∷_ (4, Mut.mslice (Signed.SInt Syntax.w32) ty·7 0) (List._∷_ (5, Relend.mslice-owed (Signed.SInt Syntax.w32) ty·8 1 26 Row.off) (List._∷_ (6, Mut.mslice (Referent.rtF (Referent.fInt Syntax.w32)) ty·9 2) (List._∷_ (7, Mut.mslice (Referent.rtF (Referent.fInt Syntax.w32)) ty·10 3) (List._∷_ (8, Mut.mslice (Referent.rtF (Referent.fInt Syntax.w32)) ty·11 4) (List._∷_ (9, Mut.mslice ELEM.the-row ty·19 5) (List._∷_ (10, Mut.mslice (Referent.rtF (Referent.fInt Syntax.w32)) ty·12 6) (List._∷_ (11, Mut.mslice (Referent.rtF (Referent.fInt Syntax.w32)) ty·13 7) (List._∷_ (12, Mut.mslice (Referent.rtF (Referent.fInt Syntax.w32)) ty·14 8) (List._∷_ (13, Reshare.mslice-owedS (Referent.rtF (Referent.fInt Syntax.w64)) ty·15 9 27 Row.off) (List._∷_ (14, Rows.sc-here (Row.sFloat Ieee.binary64)) (List._∷_ (15, Rows.sc-here (Row.sFloat Ieee.binary64)) List.[])))))))))))))))
+
+abbrev pub t107 : List.List Row.Entry
+t107 = List._∷_ (48, Rows.any-gone ty·5) (List._∷_ (49, Rows.any-gone ty·22) (List._∷_ (50, Rows.any-gone ty·5) (List._∷_ (51, Rows.any-gone ty·22) (List._∷_ (52, Rows.any-gone ty·5) (List._∷_ (53, Rows.any-gone ty·22) (List._∷_ (54, Rows.any-gone ty·6) (List._∷_ (55, Rows.any-gone ty·23) (List._∷_ (56, Rows.any-gone Syntax.tyUnit) (List._∷_ (57, Rows.any-gone ty·5) (List._∷_ (58, Mut.mslice (Signed.SInt Syntax.w32) ty·5 26) (List._∷_ (59, Relend.ssptr (Referent.rtF (Referent.fInt Syntax.w64)) ty·4 27) (List._∷_ (60, Rows.any-gone ty·21) List.[]))))))))))))
+
+abbrev pub t108 : List.List Row.Entry
+t108 = List._∷_ (48, Rows.any-gone ty·5) (List._∷_ (49, Rows.any-gone ty·22) (List._∷_ (50, Rows.any-gone ty·5) (List._∷_ (51, Rows.any-gone ty·22) (List._∷_ (52, Rows.any-gone ty·5) (List._∷_ (53, Rows.any-gone ty·22) (List._∷_ (54, Rows.any-gone ty·6) (List._∷_ (55, Rows.any-gone ty·23) (List._∷_ (56, Rows.any-gone Syntax.tyUnit) (List._∷_ (57, Rows.any-gone ty·5) (List._∷_ (58, Mut.mslice (Signed.SInt Syntax.w32) ty·5 26) (List._∷_ (59, Rows.any-gone ty·4) (List._∷_ (60, Rows.sslice (Referent.rtF (Referent.fInt Syntax.w64)) ty·4 27) List.[]))))))))))))
+
+abbrev pub t109 : List.List Row.Entry
+t109 = List._∷_ (48, Rows.any-gone ty·5) (List._∷_ (49, Rows.any-gone ty·22) (List._∷_ (50, Rows.any-gone ty·5) (List._∷_ (51, Rows.any-gone ty·22) (List._∷_ (52, Rows.any-gone ty·5) (List._∷_ (53, Rows.any-gone ty·22) (List._∷_ (54, Rows.any-gone ty·6) (List._∷_ (55, Rows.any-gone ty·23) (List._∷_ (56, Rows.sc-here Row.sUnit) (List._∷_ (57, Rows.any-gone ty·5) (List._∷_ (58, Mut.msleft (Signed.SInt Syntax.w32) ty·5) (List._∷_ (59, Rows.any-gone ty·4) (List._∷_ (60, Rows.sslice (Referent.rtF (Referent.fInt Syntax.w64)) ty·4 27) List.[]))))))))))))
+
+abbrev pub t110 : List.List Row.Entry
+t110 = List._∷_ (48, Rows.any-gone ty·5) (List._∷_ (49, Rows.any-gone ty·22) (List._∷_ (50, Rows.any-gone ty·5) (List._∷_ (51, Rows.any-gone ty·22) (List._∷_ (52, Rows.any-gone ty·5) (List._∷_ (53, Rows.any-gone ty·22) (List._∷_ (54, Rows.any-gone ty·6) (List._∷_ (55, Rows.any-gone ty·23) (List._∷_ (56, Rows.sc-here Row.sUnit) (List._∷_ (57, Rows.any-gone ty·5) (List._∷_ (58, Mut.msleft (Signed.SInt Syntax.w32) ty·5) (List._∷_ (59, Rows.any-gone ty·4) (List._∷_ (60, Rows.any-gone ty·21) List.[]))))))))))))
+
+abbrev pub t111 : List.List Row.Entry
+t111 = List._∷_ (48, Rows.any-gone ty·5) (List._∷_ (49, Rows.any-gone ty·22) (List._∷_ (50, Rows.any-gone ty·5) (List._∷_ (51, Rows.any-gone ty·22) (List._∷_ (52, Rows.any-gone ty·5) (List._∷_ (53, Rows.any-gone ty·22) (List._∷_ (54, Rows.any-gone ty·6) (List._∷_ (55, Rows.any-gone ty·23) (List._∷_ (56, Rows.any-gone Syntax.tyUnit) (List._∷_ (57, Rows.any-gone ty·5) (List._∷_ (58, Mut.msleft (Signed.SInt Syntax.w32) ty·5) (List._∷_ (59, Rows.any-gone ty·4) (List._∷_ (60, Rows.any-gone ty·21) List.[]))))))))))))
+
+abbrev pub t112 : List.List Row.Entry
+t112 = List._∷_ (0, Rows.any-gone ty·30) (List._∷_ (1, Rows.sc-here (Row.sInt Syntax.w32)) (List._∷_ (2, Rows.sc-here (Row.sInt Syntax.w32)) (List._∷_ (3, Rows.sc-here (Row.sInt Syntax.w32)) (List._∷_ (4, Mut.mslice (Signed.SInt Syntax.w32) ty·7 0) (List._∷_ (5, Mut.mslice (Signed.SInt Syntax.w32) ty·8 1) (List._∷_ (6, Mut.mslice (Referent.rtF (Referent.fInt Syntax.w32)) ty·9 2) (List._∷_ (7, Mut.mslice (Referent.rtF (Referent.fInt Syntax.w32)) ty·10 3) (List._∷_ (8, Mut.mslice (Referent.rtF (Referent.fInt Syntax.w32)) ty·11 4) (List._∷_ (9, Mut.mslice ELEM.the-row ty·19 5) (List._∷_ (10, Mut.mslice (Referent.rtF (Referent.fInt Syntax.w32)) ty·12 6) (List._∷_ (11, Mut.mslice (Referent.rtF (Referent.fInt Syntax.w32)) ty·13 7) (List._∷_ (12, Mut.mslice (Referent.rtF (Referent.fInt Syntax.w32)) ty·14 8) (List._∷_ (13, Reshare.mslice-owedS (Referent.rtF (Referent.fInt Syntax.w64)) ty·15 9 27 Row.off) (List._∷_ (14, Rows.sc-here (Row.sFloat Ieee.binary64)) (List._∷_ (15, Rows.sc-here (Row.sFloat Ieee.binary64)) List.[])))))))))))))))
+
+abbrev pub t113 : List.List Row.Entry
+t113 = List._∷_ (16, Rows.sslice (Signed.SInt Syntax.w32) ty·16 10) (List._∷_ (17, Rows.sslice (Signed.SInt Syntax.w32) ty·17 11) (List._∷_ (18, Rows.any-gone ty·26) (List._∷_ (19, Rows.any-gone ty·25) (List._∷_ (20, Rows.any-gone Syntax.tyBool) (List._∷_ (21, Rows.any-gone ty·29) (List._∷_ (22, Rows.any-gone ty·28) (List._∷_ (23, Rows.whole (Declared'.row FinishAnswer.the-type)) (List._∷_ (24, Rows.any-gone ty·1) (List._∷_ (25, Rows.any-gone ty·3) (List._∷_ (26, Rows.any-gone ty·20) (List._∷_ (27, Rows.any-gone ty·3) (List._∷_ (28, Rows.any-gone ty·20) (List._∷_ (29, Rows.any-gone ty·3) (List._∷_ (30, Rows.any-gone ty·20) (List._∷_ (31, Rows.any-gone ty·3) List.[])))))))))))))))
 
 abbrev pub T0 : Row.Cx
-T0 = record { locals = List._++_ t0 (List._++_ t1 t2); slots = List.[] }
+T0 = record { locals = List._++_ t0 (List._++_ t1 (List._++_ t2 t3)); slots = List.[] }
 
 abbrev pub T1 : Row.Cx
-T1 = record { locals = List._++_ t3 (List._++_ t1 t2); slots = List.[] }
+T1 = record { locals = List._++_ t4 (List._++_ t1 (List._++_ t2 t3)); slots = List.[] }
 
 abbrev pub T2 : Row.Cx
-T2 = record { locals = List._++_ t0 (List._++_ t1 t2); slots = List.[] }
+T2 = record { locals = List._++_ t0 (List._++_ t1 (List._++_ t2 t3)); slots = List.[] }
 
 abbrev pub T3 : Row.Cx
-T3 = record { locals = List._++_ t0 (List._++_ t1 t2); slots = List.[] }
+T3 = record { locals = List._++_ t0 (List._++_ t1 (List._++_ t2 t3)); slots = List.[] }
 
 abbrev pub T4 : Row.Cx
-T4 = record { locals = List._++_ t0 (List._++_ t1 t2); slots = List.[] }
+T4 = record { locals = List._++_ t0 (List._++_ t1 (List._++_ t2 t3)); slots = List.[] }
 
 abbrev pub T5 : Row.Cx
-T5 = record { locals = List._++_ t0 (List._++_ t1 t2); slots = List.[] }
+T5 = record { locals = List._++_ t0 (List._++_ t1 (List._++_ t2 t3)); slots = List.[] }
 
 abbrev pub T6 : Row.Cx
-T6 = record { locals = List._++_ t0 (List._++_ t1 t2); slots = List.[] }
+T6 = record { locals = List._++_ t0 (List._++_ t1 (List._++_ t2 t3)); slots = List.[] }
 
 abbrev pub T7 : Row.Cx
-T7 = record { locals = List._++_ t0 (List._++_ t1 t2); slots = List.[] }
+T7 = record { locals = List._++_ t0 (List._++_ t1 (List._++_ t2 t3)); slots = List.[] }
 
 abbrev pub T8 : Row.Cx
-T8 = record { locals = List._++_ t0 (List._++_ t1 t2); slots = List.[] }
+T8 = record { locals = List._++_ t0 (List._++_ t1 (List._++_ t2 t3)); slots = List.[] }
 
 abbrev pub T9 : Row.Cx
-T9 = record { locals = List._++_ t0 (List._++_ t4 t2); slots = List.[] }
+T9 = record { locals = List._++_ t0 (List._++_ t5 (List._++_ t2 t3)); slots = List.[] }
 
 abbrev pub T10 : Row.Cx
-T10 = record { locals = List._++_ t0 (List._++_ t5 t2); slots = List.[] }
+T10 = record { locals = List._++_ t0 (List._++_ t6 (List._++_ t2 t3)); slots = List.[] }
+
+abbrev pub T11 : Row.Cx
+T11 = record { locals = List._++_ t0 (List._++_ t7 (List._++_ t2 t3)); slots = List.[] }
 
 abbrev pub T12 : Row.Cx
-T12 = record { locals = List._++_ t6 (List._++_ t7 t2); slots = List.[] }
+T12 = record { locals = List._++_ t0 (List._++_ t8 (List._++_ t2 t3)); slots = List.[] }
 
 abbrev pub T13 : Row.Cx
-T13 = record { locals = List._++_ t6 (List._++_ t8 t2); slots = List.[] }
+T13 = record { locals = List._++_ t0 (List._++_ t9 (List._++_ t2 t3)); slots = List.[] }
 
 abbrev pub T15 : Row.Cx
-T15 = record { locals = List._++_ t9 (List._++_ t10 t2); slots = List.[] }
+T15 = record { locals = List._++_ t10 (List._++_ t11 (List._++_ t2 t3)); slots = List.[] }
 
 abbrev pub T16 : Row.Cx
-T16 = record { locals = List._++_ t9 (List._++_ t11 t2); slots = List.[] }
+T16 = record { locals = List._++_ t10 (List._++_ t12 (List._++_ t2 t3)); slots = List.[] }
 
 abbrev pub T18 : Row.Cx
-T18 = record { locals = List._++_ t12 (List._++_ t13 t2); slots = List.[] }
+T18 = record { locals = List._++_ t13 (List._++_ t14 (List._++_ t2 t3)); slots = List.[] }
 
 abbrev pub T19 : Row.Cx
-T19 = record { locals = List._++_ t12 (List._++_ t14 t2); slots = List.[] }
+T19 = record { locals = List._++_ t13 (List._++_ t15 (List._++_ t2 t3)); slots = List.[] }
 
 abbrev pub T21 : Row.Cx
-T21 = record { locals = List._++_ t15 (List._++_ t16 t2); slots = List.[] }
+T21 = record { locals = List._++_ t16 (List._++_ t17 (List._++_ t2 t3)); slots = List.[] }
 
 abbrev pub T22 : Row.Cx
-T22 = record { locals = List._++_ t15 (List._++_ t17 t2); slots = List.[] }
+T22 = record { locals = List._++_ t16 (List._++_ t18 (List._++_ t2 t3)); slots = List.[] }
 
 abbrev pub T24 : Row.Cx
-T24 = record { locals = List._++_ t18 (List._++_ t19 t2); slots = List.[] }
+T24 = record { locals = List._++_ t19 (List._++_ t20 (List._++_ t2 t3)); slots = List.[] }
 
 abbrev pub T25 : Row.Cx
-T25 = record { locals = List._++_ t18 (List._++_ t20 t2); slots = List.[] }
+T25 = record { locals = List._++_ t19 (List._++_ t18 (List._++_ t21 t3)); slots = List.[] }
 
 abbrev pub T27 : Row.Cx
-T27 = record { locals = List._++_ t21 (List._++_ t22 t2); slots = List.[] }
+T27 = record { locals = List._++_ t22 (List._++_ t18 (List._++_ t23 t3)); slots = List.[] }
 
 abbrev pub T28 : Row.Cx
-T28 = record { locals = List._++_ t21 (List._++_ t23 t2); slots = List.[] }
+T28 = record { locals = List._++_ t22 (List._++_ t18 (List._++_ t24 t3)); slots = List.[] }
+
+abbrev pub T29 : Row.Cx
+T29 = record { locals = List._++_ t22 (List._++_ t25 (List._++_ t24 t3)); slots = List.[] }
 
 abbrev pub T30 : Row.Cx
-T30 = record { locals = List._++_ t24 (List._++_ t25 t2); slots = List.[] }
+T30 = record { locals = List._++_ t22 (List._++_ t25 (List._++_ t26 t3)); slots = List.[] }
 
 abbrev pub T31 : Row.Cx
-T31 = record { locals = List._++_ t24 (List._++_ t23 t26); slots = List.[] }
+T31 = record { locals = List._++_ t22 (List._++_ t25 (List._++_ t27 t3)); slots = List.[] }
+
+abbrev pub T32 : Row.Cx
+T32 = record { locals = List._++_ t22 (List._++_ t25 (List._++_ t28 t3)); slots = List.[] }
 
 abbrev pub T33 : Row.Cx
-T33 = record { locals = List._++_ t27 (List._++_ t23 t28); slots = List.[] }
+T33 = record { locals = List._++_ t22 (List._++_ t29 (List._++_ t28 t3)); slots = List.[] }
 
 abbrev pub T34 : Row.Cx
-T34 = record { locals = List._++_ t27 (List._++_ t23 t29); slots = List.[] }
+T34 = record { locals = List._++_ t22 (List._++_ t30 (List._++_ t28 t3)); slots = List.[] }
+
+abbrev pub T35 : Row.Cx
+T35 = record { locals = List._++_ t0 (List._++_ t31 (List._++_ t2 t3)); slots = List.[] }
 
 abbrev pub T36 : Row.Cx
-T36 = record { locals = List._++_ t30 (List._++_ t23 t31); slots = List.[] }
+T36 = record { locals = List._++_ t22 (List._++_ t32 (List._++_ t28 t3)); slots = List.[] }
 
 abbrev pub T37 : Row.Cx
-T37 = record { locals = List._++_ t30 (List._++_ t23 t32); slots = List.[] }
+T37 = record { locals = List._++_ t22 (List._++_ t33 (List._++_ t28 t3)); slots = List.[] }
 
 abbrev pub T38 : Row.Cx
-T38 = record { locals = List._++_ t30 (List._++_ t33 t32); slots = List.[] }
+T38 = record { locals = List._++_ t22 (List._++_ t34 (List._++_ t28 t3)); slots = List.[] }
 
 abbrev pub T39 : Row.Cx
-T39 = record { locals = List._++_ t30 (List._++_ t34 t32); slots = List.[] }
+T39 = record { locals = List._++_ t22 (List._++_ t34 (List._++_ t35 t3)); slots = List.[] }
 
 abbrev pub T40 : Row.Cx
-T40 = record { locals = List._++_ t30 (List._++_ t35 t36); slots = List.[] }
+T40 = record { locals = List._++_ t22 (List._++_ t34 (List._++_ t36 t3)); slots = List.[] }
 
 abbrev pub T41 : Row.Cx
-T41 = record { locals = List._++_ t30 (List._++_ t37 t36); slots = List.[] }
+T41 = record { locals = List._++_ t22 (List._++_ t37 (List._++_ t36 t3)); slots = List.[] }
 
 abbrev pub T42 : Row.Cx
-T42 = record { locals = List._++_ t30 (List._++_ t38 t36); slots = List.[] }
+T42 = record { locals = List._++_ t22 (List._++_ t37 (List._++_ t38 t3)); slots = List.[] }
+
+abbrev pub T43 : Row.Cx
+T43 = record { locals = List._++_ t22 (List._++_ t37 (List._++_ t39 t3)); slots = List.[] }
 
 abbrev pub T44 : Row.Cx
-T44 = record { locals = List._++_ t39 (List._++_ t40 t36); slots = List.[] }
+T44 = record { locals = List._++_ t22 (List._++_ t37 (List._++_ t2 t3)); slots = List.[] }
 
-abbrev pub T47 : Row.Cx
-T47 = record { locals = List._++_ t41 (List._++_ t42 t36); slots = List.[] }
+abbrev pub T46 : Row.Cx
+T46 = record { locals = List._++_ t40 (List._++_ t37 (List._++_ t2 t3)); slots = List.[] }
 
-abbrev pub T48 : Row.Cx
-T48 = record { locals = List._++_ t41 (List._++_ t42 t36); slots = List.[] }
-
-abbrev pub T51 : Row.Cx
-T51 = record { locals = List._++_ t43 (List._++_ t44 t36); slots = List.[] }
+abbrev pub T49 : Row.Cx
+T49 = record { locals = List._++_ t41 (List._++_ t37 (List._++_ t2 t3)); slots = List.[] }
 
 abbrev pub T52 : Row.Cx
-T52 = record { locals = List._++_ t43 (List._++_ t44 t36); slots = List.[] }
+T52 = record { locals = List._++_ t42 (List._++_ t37 (List._++_ t2 t3)); slots = List.[] }
 
 abbrev pub T55 : Row.Cx
-T55 = record { locals = List._++_ t45 (List._++_ t46 t36); slots = List.[] }
+T55 = record { locals = List._++_ t43 (List._++_ t37 (List._++_ t2 t3)); slots = List.[] }
 
-abbrev pub T56 : Row.Cx
-T56 = record { locals = List._++_ t45 (List._++_ t46 t36); slots = List.[] }
+abbrev pub T58 : Row.Cx
+T58 = record { locals = List._++_ t0 (List._++_ t37 (List._++_ t2 t3)); slots = List.[] }
 
-abbrev pub T59 : Row.Cx
-T59 = record { locals = List._++_ t47 (List._++_ t48 t36); slots = List.[] }
+abbrev pub T60 : Row.Cx
+T60 = record { locals = List._++_ t0 (List._++_ t44 (List._++_ t2 t3)); slots = List.[] }
+
+abbrev pub T61 : Row.Cx
+T61 = record { locals = List._++_ t0 (List._++_ t45 (List._++_ t2 t3)); slots = List.[] }
 
 abbrev pub T62 : Row.Cx
-T62 = record { locals = List._++_ t49 (List._++_ t50 t36); slots = List.[] }
+T62 = record { locals = List._++_ t0 (List._++_ t45 (List._++_ t2 t3)); slots = List.[] }
 
 abbrev pub T63 : Row.Cx
-T63 = record { locals = List._++_ t49 (List._++_ t50 t36); slots = List.[] }
+T63 = record { locals = List._++_ t0 (List._++_ t46 (List._++_ t2 t3)); slots = List.[] }
+
+abbrev pub T64 : Row.Cx
+T64 = record { locals = List._++_ t0 (List._++_ t47 (List._++_ t2 t3)); slots = List.[] }
+
+abbrev pub T65 : Row.Cx
+T65 = record { locals = List._++_ t0 (List._++_ t48 (List._++_ t2 t3)); slots = List.[] }
 
 abbrev pub T66 : Row.Cx
-T66 = record { locals = List._++_ t51 (List._++_ t50 t52); slots = List.[] }
+T66 = record { locals = List._++_ t49 (List._++_ t48 (List._++_ t2 t3)); slots = List.[] }
 
 abbrev pub T67 : Row.Cx
-T67 = record { locals = List._++_ t51 (List._++_ t50 t52); slots = List.[] }
+T67 = record { locals = List._++_ t49 (List._++_ t50 (List._++_ t2 t3)); slots = List.[] }
+
+abbrev pub T68 : Row.Cx
+T68 = record { locals = List._++_ t49 (List._++_ t51 (List._++_ t2 t3)); slots = List.[] }
+
+abbrev pub T69 : Row.Cx
+T69 = record { locals = List._++_ t52 (List._++_ t51 (List._++_ t2 t3)); slots = List.[] }
 
 abbrev pub T70 : Row.Cx
-T70 = record { locals = List._++_ t53 (List._++_ t50 t54); slots = List.[] }
+T70 = record { locals = List._++_ t53 (List._++_ t51 (List._++_ t2 t3)); slots = List.[] }
 
 abbrev pub T71 : Row.Cx
-T71 = record { locals = List._++_ t53 (List._++_ t50 t54); slots = List.[] }
+T71 = record { locals = List._++_ t54 (List._++_ t51 (List._++_ t2 t3)); slots = List.[] }
+
+abbrev pub T72 : Row.Cx
+T72 = record { locals = List._++_ t55 (List._++_ t51 (List._++_ t2 t3)); slots = List.[] }
+
+abbrev pub T73 : Row.Cx
+T73 = record { locals = List._++_ t4 (List._++_ t51 (List._++_ t2 t3)); slots = List.[] }
 
 abbrev pub T74 : Row.Cx
-T74 = record { locals = List._++_ t0 (List._++_ t50 t2); slots = List.[] }
+T74 = record { locals = List._++_ t4 (List._++_ t1 (List._++_ t2 t3)); slots = List.[] }
 
 abbrev pub T75 : Row.Cx
-T75 = record { locals = List._++_ t0 (List._++_ t50 t2); slots = List.[] }
+T75 = record { locals = List._++_ t0 (List._++_ t44 (List._++_ t2 t3)); slots = List.[] }
 
-abbrev pub T77 : Row.Cx
-T77 = record { locals = List._++_ t55 (List._++_ t50 t2); slots = List.[] }
+abbrev pub T76 : Row.Cx
+T76 = record { locals = List._++_ t0 (List._++_ t31 (List._++_ t2 t3)); slots = List.[] }
 
 abbrev pub T78 : Row.Cx
-T78 = record { locals = List._++_ t55 (List._++_ t1 t2); slots = List.[] }
+T78 = record { locals = List._++_ t56 (List._++_ t31 (List._++_ t57 t3)); slots = List.[] }
 
 abbrev pub T79 : Row.Cx
-T79 = record { locals = List._++_ t56 (List._++_ t1 t2); slots = List.[] }
-
-abbrev pub T80 : Row.Cx
-T80 = record { locals = List._++_ t57 (List._++_ t1 t2); slots = List.[] }
+T79 = record { locals = List._++_ t56 (List._++_ t31 (List._++_ t58 t3)); slots = List.[] }
 
 abbrev pub T81 : Row.Cx
-T81 = record { locals = List._++_ t58 (List._++_ t1 t2); slots = List.[] }
+T81 = record { locals = List._++_ t59 (List._++_ t31 (List._++_ t60 t3)); slots = List.[] }
 
 abbrev pub T82 : Row.Cx
-T82 = record { locals = List._++_ t59 (List._++_ t1 t2); slots = List.[] }
+T82 = record { locals = List._++_ t59 (List._++_ t31 (List._++_ t61 t3)); slots = List.[] }
 
-abbrev pub T83 : Row.Cx
-T83 = record { locals = List._++_ t3 (List._++_ t1 t2); slots = List.[] }
+abbrev pub T84 : Row.Cx
+T84 = record { locals = List._++_ t62 (List._++_ t31 (List._++_ t63 t3)); slots = List.[] }
+
+abbrev pub T85 : Row.Cx
+T85 = record { locals = List._++_ t62 (List._++_ t31 (List._++_ t64 t3)); slots = List.[] }
+
+abbrev pub T87 : Row.Cx
+T87 = record { locals = List._++_ t65 (List._++_ t31 (List._++_ t66 t3)); slots = List.[] }
+
+abbrev pub T88 : Row.Cx
+T88 = record { locals = List._++_ t65 (List._++_ t31 (List._++_ t67 t3)); slots = List.[] }
+
+abbrev pub T90 : Row.Cx
+T90 = record { locals = List._++_ t68 (List._++_ t31 (List._++_ t69 t3)); slots = List.[] }
+
+abbrev pub T91 : Row.Cx
+T91 = record { locals = List._++_ t68 (List._++_ t31 (List._++_ t70 t3)); slots = List.[] }
+
+abbrev pub T93 : Row.Cx
+T93 = record { locals = List._++_ t71 (List._++_ t31 (List._++_ t70 t72)); slots = List.[] }
+
+abbrev pub T94 : Row.Cx
+T94 = record { locals = List._++_ t71 (List._++_ t31 (List._++_ t70 t73)); slots = List.[] }
+
+abbrev pub T96 : Row.Cx
+T96 = record { locals = List._++_ t74 (List._++_ t31 (List._++_ t70 t75)); slots = List.[] }
+
+abbrev pub T97 : Row.Cx
+T97 = record { locals = List._++_ t74 (List._++_ t31 (List._++_ t70 t76)); slots = List.[] }
+
+abbrev pub T99 : Row.Cx
+T99 = record { locals = List._++_ t77 (List._++_ t31 (List._++_ t70 t78)); slots = List.[] }
+
+abbrev pub T100 : Row.Cx
+T100 = record { locals = List._++_ t77 (List._++_ t31 (List._++_ t70 t79)); slots = List.[] }
+
+abbrev pub T102 : Row.Cx
+T102 = record { locals = List._++_ t80 (List._++_ t31 (List._++_ t70 t81)); slots = List.[] }
+
+abbrev pub T103 : Row.Cx
+T103 = record { locals = List._++_ t80 (List._++_ t31 (List._++_ t70 t82)); slots = List.[] }
+
+abbrev pub T104 : Row.Cx
+T104 = record { locals = List._++_ t80 (List._++_ t83 (List._++_ t84 t85)); slots = List.[] }
+
+abbrev pub T105 : Row.Cx
+T105 = record { locals = List._++_ t80 (List._++_ t86 (List._++_ t84 t85)); slots = List.[] }
+
+abbrev pub T106 : Row.Cx
+T106 = record { locals = List._++_ t80 (List._++_ t87 (List._++_ t84 t85)); slots = List.[] }
+
+abbrev pub T108 : Row.Cx
+T108 = record { locals = List._++_ t88 (List._++_ t87 (List._++_ t89 t85)); slots = List.[] }
+
+abbrev pub T111 : Row.Cx
+T111 = record { locals = List._++_ t90 (List._++_ t87 (List._++_ t91 t85)); slots = List.[] }
+
+abbrev pub T112 : Row.Cx
+T112 = record { locals = List._++_ t90 (List._++_ t87 (List._++_ t91 t85)); slots = List.[] }
+
+abbrev pub T115 : Row.Cx
+T115 = record { locals = List._++_ t92 (List._++_ t87 (List._++_ t93 t85)); slots = List.[] }
+
+abbrev pub T116 : Row.Cx
+T116 = record { locals = List._++_ t92 (List._++_ t87 (List._++_ t93 t85)); slots = List.[] }
+
+abbrev pub T119 : Row.Cx
+T119 = record { locals = List._++_ t94 (List._++_ t87 (List._++_ t95 t85)); slots = List.[] }
+
+abbrev pub T120 : Row.Cx
+T120 = record { locals = List._++_ t94 (List._++_ t87 (List._++_ t95 t85)); slots = List.[] }
+
+abbrev pub T123 : Row.Cx
+T123 = record { locals = List._++_ t96 (List._++_ t87 (List._++_ t2 t85)); slots = List.[] }
+
+abbrev pub T126 : Row.Cx
+T126 = record { locals = List._++_ t97 (List._++_ t87 (List._++_ t2 t98)); slots = List.[] }
+
+abbrev pub T127 : Row.Cx
+T127 = record { locals = List._++_ t97 (List._++_ t87 (List._++_ t2 t98)); slots = List.[] }
+
+abbrev pub T130 : Row.Cx
+T130 = record { locals = List._++_ t99 (List._++_ t87 (List._++_ t2 t100)); slots = List.[] }
+
+abbrev pub T131 : Row.Cx
+T131 = record { locals = List._++_ t99 (List._++_ t87 (List._++_ t2 t100)); slots = List.[] }
+
+abbrev pub T134 : Row.Cx
+T134 = record { locals = List._++_ t101 (List._++_ t87 (List._++_ t2 t102)); slots = List.[] }
+
+abbrev pub T135 : Row.Cx
+T135 = record { locals = List._++_ t101 (List._++_ t87 (List._++_ t2 t102)); slots = List.[] }
+
+abbrev pub T138 : Row.Cx
+T138 = record { locals = List._++_ t0 (List._++_ t87 (List._++_ t2 t3)); slots = List.[] }
+
+abbrev pub T139 : Row.Cx
+T139 = record { locals = List._++_ t0 (List._++_ t87 (List._++_ t2 t3)); slots = List.[] }
+
+abbrev pub T142 : Row.Cx
+T142 = record { locals = List._++_ t103 (List._++_ t87 (List._++_ t2 t104)); slots = List.[] }
+
+abbrev pub T143 : Row.Cx
+T143 = record { locals = List._++_ t103 (List._++_ t87 (List._++_ t2 t105)); slots = List.[] }
+
+abbrev pub T145 : Row.Cx
+T145 = record { locals = List._++_ t106 (List._++_ t87 (List._++_ t2 t107)); slots = List.[] }
+
+abbrev pub T146 : Row.Cx
+T146 = record { locals = List._++_ t106 (List._++_ t87 (List._++_ t2 t108)); slots = List.[] }
+
+abbrev pub T147 : Row.Cx
+T147 = record { locals = List._++_ t106 (List._++_ t87 (List._++_ t2 t109)); slots = List.[] }
+
+abbrev pub T148 : Row.Cx
+T148 = record { locals = List._++_ t106 (List._++_ t87 (List._++_ t2 t110)); slots = List.[] }
+
+abbrev pub T149 : Row.Cx
+T149 = record { locals = List._++_ t106 (List._++_ t87 (List._++_ t2 t111)); slots = List.[] }
+
+abbrev pub T151 : Row.Cx
+T151 = record { locals = List._++_ t112 (List._++_ t87 (List._++_ t2 t3)); slots = List.[] }
+
+abbrev pub T154 : Row.Cx
+T154 = record { locals = List._++_ t0 (List._++_ t87 (List._++_ t2 t3)); slots = List.[] }
+
+abbrev pub T156 : Row.Cx
+T156 = record { locals = List._++_ t49 (List._++_ t87 (List._++_ t2 t3)); slots = List.[] }
+
+abbrev pub T157 : Row.Cx
+T157 = record { locals = List._++_ t49 (List._++_ t113 (List._++_ t2 t3)); slots = List.[] }
+
+abbrev pub T158 : Row.Cx
+T158 = record { locals = List._++_ t49 (List._++_ t1 (List._++_ t2 t3)); slots = List.[] }
+
+abbrev pub T159 : Row.Cx
+T159 = record { locals = List._++_ t52 (List._++_ t1 (List._++_ t2 t3)); slots = List.[] }
+
+abbrev pub T160 : Row.Cx
+T160 = record { locals = List._++_ t53 (List._++_ t1 (List._++_ t2 t3)); slots = List.[] }
+
+abbrev pub T161 : Row.Cx
+T161 = record { locals = List._++_ t54 (List._++_ t1 (List._++_ t2 t3)); slots = List.[] }
+
+abbrev pub T162 : Row.Cx
+T162 = record { locals = List._++_ t55 (List._++_ t1 (List._++_ t2 t3)); slots = List.[] }
+
+abbrev pub T163 : Row.Cx
+T163 = record { locals = List._++_ t4 (List._++_ t1 (List._++_ t2 t3)); slots = List.[] }
 
 abbrev pub O0 : Typed.Outs
 O0 = record { next = Option.none; exits = List.[]; returns = Option.some T1 }
 
+abbrev pub O1 : Typed.Outs
+O1 = Typed.withNext (Option.some T35) O0
+
 module _ (claims· : Claims) where
   abbrev s0 : Typed.Gives T0 T2
-  s0 = Know.k-sl-known (Referent.fInt Syntax.w32) T0 5 1 ty·6 Row.off 0 λ x. x
+  s0 = Know.k-sl-known (Referent.fInt Syntax.w32) T0 6 2 ty·9 Row.off 0 λ x. x
 
   abbrev s1 : Typed.Gives T2 T3
-  s1 = Know.k-sl-known (Referent.fInt Syntax.w32) T2 6 2 ty·7 Row.off 0 λ x. x
+  s1 = Know.k-sl-known (Referent.fInt Syntax.w32) T2 7 3 ty·10 Row.off 0 λ x. x
 
   abbrev s2 : Typed.Gives T3 T4
-  s2 = Know.k-sl-known (Referent.fInt Syntax.w32) T3 7 3 ty·8 Row.off 0 λ x. x
+  s2 = Know.k-sl-known (Referent.fInt Syntax.w32) T3 8 4 ty·11 Row.off 0 λ x. x
 
   abbrev s3 : Typed.Gives T4 T5
-  s3 = Know.k-sl-known (Referent.fInt Syntax.w32) T4 9 5 ty·9 Row.off 0 λ x. x
+  s3 = Know.k-sl-known (Referent.fInt Syntax.w32) T4 10 6 ty·12 Row.off 0 λ x. x
 
   abbrev s4 : Typed.Gives T5 T6
-  s4 = Know.k-sl-known (Referent.fInt Syntax.w32) T5 10 6 ty·10 Row.off 0 λ x. x
+  s4 = Know.k-sl-known (Referent.fInt Syntax.w32) T5 11 7 ty·13 Row.off 0 λ x. x
 
   abbrev s5 : Typed.Gives T6 T7
-  s5 = Know.k-sl-known (Referent.fInt Syntax.w32) T6 11 7 ty·11 Row.off 0 λ x. x
+  s5 = Know.k-sl-known (Referent.fInt Syntax.w32) T6 12 8 ty·14 Row.off 0 λ x. x
 
   abbrev s6 : Typed.Gives T7 T8
-  s6 = Know.k-sl-known (Referent.fInt Syntax.w64) T7 12 8 ty·12 Row.off 0 λ x. x
+  s6 = Know.k-sl-known (Referent.fInt Syntax.w64) T7 13 9 ty·15 Row.off 0 λ x. x
 
   abbrev s7 : Typed.Mo T8 → Typed.Mo T9
-  s7 = Make.n-struct-make (Apart.apartT Counts.the-type) T8 16 λ m. (m .1 .0, (m .1 .1 .0, (m .1 .1 .1 .0, tt)))
+  s7 = Make.n-struct-make (Apart.apartT Counts.the-type) T8 18 λ m. (m .1 .0, (m .1 .1 .0, (m .1 .1 .1 .0, tt)))
 
   abbrev s8 : Typed.Mo T9 → Typed.Mo T10
-  s8 = Make.n-struct-make (Apart.apartT Point2.the-type) T9 17 λ m. (m .1 .1 .1 .1 .1 .1 .1 .1 .1 .1 .1 .1 .1 .0, (m .1 .1 .1 .1 .1 .1 .1 .1 .1 .1 .1 .1 .1 .1 .0, tt))
+  s8 = Make.n-struct-make (Apart.apartT Point2.the-type) T9 19 λ m. (m .1 .1 .1 .1 .1 .1 .1 .1 .1 .1 .1 .1 .1 .1 .0, (m .1 .1 .1 .1 .1 .1 .1 .1 .1 .1 .1 .1 .1 .1 .1 .0, tt))
 
-  abbrev s10 : Typed.Gives T10 T12
-  s10 = Relend.k-sl-relend (Signed.SInt Syntax.w32) T10 4 19 0 10 ty·5 ty·3 Row.off λ x. x
+  abbrev s9 : Typed.Mo T10 → Typed.Mo T11
+  s9 = Scalar.n-use T10 (Scalar.oFld 13 (List._∷_ (Syntax.field 1) List.[]) ty·1 8 Shared.lenV) 24 (Rows.sc-here (Row.sInt Syntax.w64)) (Row.sInt Syntax.w64 .of)
 
-  abbrev s11 : Typed.Asks T12 T13
-  s11 = Relend.k-sl-aggregate (Signed.SInt Syntax.w32) (Relend.asMut (Signed.SInt Syntax.w32)) T12 19 20 10 ty·3 ty·3 (λ x. x) (Scalar.oFld 4 (List._∷_ (Syntax.field 1) List.[]) ty·1 8 λ v. Shared.lenV (v .0))
+  abbrev s10 : Typed.Both T11 T12
+  s10 = Call.callB ps·0 r·0 (claims· .0) (claims· .1) T11 (Num.vAt 24 λ x. x, (record { pos = 16; ty = Syntax.tyRef (Syntax.named 10) Syntax.imm ty·0; ref = λ x. x }, tt)) 20 (List._∷_ 10 List.[]) Syntax.tyBool
+
+  abbrev s11 : Typed.Mo T12 → Typed.Mo T13
+  s11 = Scalar.n-room T12 24 ty·1
 
   abbrev s13 : Typed.Gives T13 T15
-  s13 = Relend.k-sl-relend (Referent.rtF (Referent.fInt Syntax.w32)) T13 5 21 1 11 ty·6 ty·3 Row.off λ x. x
+  s13 = Reshare.k-sl-reshare (Signed.SInt Syntax.w32) T13 4 25 0 12 ty·7 ty·3 Row.off λ x. x
 
   abbrev s14 : Typed.Asks T15 T16
-  s14 = Relend.k-sl-aggregate (Referent.rtF (Referent.fInt Syntax.w32)) (Relend.asMut (Referent.rtF (Referent.fInt Syntax.w32))) T15 21 22 11 ty·3 ty·3 (λ x. x) (Scalar.oFld 5 (List._∷_ (Syntax.field 1) List.[]) ty·1 8 λ v. Shared.lenV (v .0))
+  s14 = Relend.k-sl-aggregate (Signed.SInt Syntax.w32) (Relend.asShr (Signed.SInt Syntax.w32)) T15 25 26 12 ty·3 ty·3 (λ x. x) (Scalar.oFld 4 (List._∷_ (Syntax.field 1) List.[]) ty·1 8 λ v. Shared.lenV (v .0))
 
   abbrev s16 : Typed.Gives T16 T18
-  s16 = Relend.k-sl-relend (Referent.rtF (Referent.fInt Syntax.w32)) T16 6 23 2 12 ty·7 ty·3 Row.off λ x. x
+  s16 = Reshare.k-sl-reshare (Signed.SInt Syntax.w32) T16 5 27 1 13 ty·8 ty·3 Row.off λ x. x
 
   abbrev s17 : Typed.Asks T18 T19
-  s17 = Relend.k-sl-aggregate (Referent.rtF (Referent.fInt Syntax.w32)) (Relend.asMut (Referent.rtF (Referent.fInt Syntax.w32))) T18 23 24 12 ty·3 ty·3 (λ x. x) (Scalar.oFld 6 (List._∷_ (Syntax.field 1) List.[]) ty·1 8 λ v. Shared.lenV (v .0))
+  s17 = Relend.k-sl-aggregate (Signed.SInt Syntax.w32) (Relend.asShr (Signed.SInt Syntax.w32)) T18 27 28 13 ty·3 ty·3 (λ x. x) (Scalar.oFld 5 (List._∷_ (Syntax.field 1) List.[]) ty·1 8 λ v. Shared.lenV (v .0))
 
   abbrev s19 : Typed.Gives T19 T21
-  s19 = Relend.k-sl-relend (Referent.rtF (Referent.fInt Syntax.w32)) T19 7 25 3 13 ty·8 ty·3 Row.off λ x. x
+  s19 = Reshare.k-sl-reshare (Referent.rtF (Referent.fInt Syntax.w32)) T19 6 29 2 14 ty·9 ty·3 Row.off λ x. x
 
   abbrev s20 : Typed.Asks T21 T22
-  s20 = Relend.k-sl-aggregate (Referent.rtF (Referent.fInt Syntax.w32)) (Relend.asMut (Referent.rtF (Referent.fInt Syntax.w32))) T21 25 26 13 ty·3 ty·3 (λ x. x) (Scalar.oFld 7 (List._∷_ (Syntax.field 1) List.[]) ty·1 8 λ v. Shared.lenV (v .0))
+  s20 = Relend.k-sl-aggregate (Referent.rtF (Referent.fInt Syntax.w32)) (Relend.asShr (Referent.rtF (Referent.fInt Syntax.w32))) T21 29 30 14 ty·3 ty·3 (λ x. x) (Scalar.oFld 6 (List._∷_ (Syntax.field 1) List.[]) ty·1 8 λ v. Shared.lenV (v .0))
 
   abbrev s22 : Typed.Gives T22 T24
-  s22 = Relend.k-sl-relend ELEM.the-row T22 8 27 4 14 ty·15 ty·14 Row.off λ x. x
+  s22 = Reshare.k-sl-reshare (Referent.rtF (Referent.fInt Syntax.w32)) T22 7 31 3 15 ty·10 ty·3 Row.off λ x. x
 
   abbrev s23 : Typed.Asks T24 T25
-  s23 = Relend.k-sl-aggregate ELEM.the-row (Relend.asMut ELEM.the-row) T24 27 28 14 ty·14 ty·14 (λ x. x) (Scalar.oFld 8 (List._∷_ (Syntax.field 1) List.[]) ty·1 8 λ v. Shared.lenV (v .0))
+  s23 = Relend.k-sl-aggregate (Referent.rtF (Referent.fInt Syntax.w32)) (Relend.asShr (Referent.rtF (Referent.fInt Syntax.w32))) T24 31 32 15 ty·3 ty·3 (λ x. x) (Scalar.oFld 7 (List._∷_ (Syntax.field 1) List.[]) ty·1 8 λ v. Shared.lenV (v .0))
 
   abbrev s25 : Typed.Gives T25 T27
-  s25 = Relend.k-sl-relend (Referent.rtF (Referent.fInt Syntax.w32)) T25 9 29 5 15 ty·9 ty·3 Row.off λ x. x
+  s25 = Reshare.k-sl-reshare (Referent.rtF (Referent.fInt Syntax.w32)) T25 8 33 4 16 ty·11 ty·3 Row.off λ x. x
 
   abbrev s26 : Typed.Asks T27 T28
-  s26 = Relend.k-sl-aggregate (Referent.rtF (Referent.fInt Syntax.w32)) (Relend.asMut (Referent.rtF (Referent.fInt Syntax.w32))) T27 29 30 15 ty·3 ty·3 (λ x. x) (Scalar.oFld 9 (List._∷_ (Syntax.field 1) List.[]) ty·1 8 λ v. Shared.lenV (v .0))
+  s26 = Relend.k-sl-aggregate (Referent.rtF (Referent.fInt Syntax.w32)) (Relend.asShr (Referent.rtF (Referent.fInt Syntax.w32))) T27 33 34 16 ty·3 ty·3 (λ x. x) (Scalar.oFld 8 (List._∷_ (Syntax.field 1) List.[]) ty·1 8 λ v. Shared.lenV (v .0))
 
-  abbrev s28 : Typed.Gives T28 T30
-  s28 = Relend.k-sl-relend (Referent.rtF (Referent.fInt Syntax.w32)) T28 10 31 6 16 ty·10 ty·3 Row.off λ x. x
+  abbrev s27 : Typed.Mo T28 → Typed.Mo T29
+  s27 = Scalar.n-use T28 (Scalar.oFld 9 (List._∷_ (Syntax.field 1) List.[]) ty·1 8 Shared.lenV) 24 (Rows.sc-here (Row.sInt Syntax.w64)) (Row.sInt Syntax.w64 .of)
 
-  abbrev s29 : Typed.Asks T30 T31
-  s29 = Relend.k-sl-aggregate (Referent.rtF (Referent.fInt Syntax.w32)) (Relend.asMut (Referent.rtF (Referent.fInt Syntax.w32))) T30 31 32 16 ty·3 ty·3 (λ x. x) (Scalar.oFld 10 (List._∷_ (Syntax.field 1) List.[]) ty·1 8 λ v. Shared.lenV (v .0))
+  abbrev s28 : Typed.Mo T29 → Typed.Mo T30
+  s28 = Scalar.n-use T29 (Scalar.oFld 10 (List._∷_ (Syntax.field 1) List.[]) ty·1 8 Shared.lenV) 35 (Rows.sc-here (Row.sInt Syntax.w64)) (Row.sInt Syntax.w64 .of)
 
-  abbrev s31 : Typed.Gives T31 T33
-  s31 = Relend.k-sl-relend (Referent.rtF (Referent.fInt Syntax.w32)) T31 11 33 7 17 ty·11 ty·3 Row.off λ x. x
+  abbrev s29 : Typed.Mo T30 → Typed.Mo T31
+  s29 = Scalar.n-use T30 (Scalar.oFld 11 (List._∷_ (Syntax.field 1) List.[]) ty·1 8 Shared.lenV) 36 (Rows.sc-here (Row.sInt Syntax.w64)) (Row.sInt Syntax.w64 .of)
 
-  abbrev s32 : Typed.Asks T33 T34
-  s32 = Relend.k-sl-aggregate (Referent.rtF (Referent.fInt Syntax.w32)) (Relend.asMut (Referent.rtF (Referent.fInt Syntax.w32))) T33 33 34 17 ty·3 ty·3 (λ x. x) (Scalar.oFld 11 (List._∷_ (Syntax.field 1) List.[]) ty·1 8 λ v. Shared.lenV (v .0))
+  abbrev s30 : Typed.Mo T31 → Typed.Mo T32
+  s30 = Scalar.n-use T31 (Scalar.oFld 12 (List._∷_ (Syntax.field 1) List.[]) ty·1 8 Shared.lenV) 37 (Rows.sc-here (Row.sInt Syntax.w64)) (Row.sInt Syntax.w64 .of)
 
-  abbrev s34 : Typed.Gives T34 T36
-  s34 = Relend.k-sl-relend (Referent.rtF (Referent.fInt Syntax.w64)) T34 12 35 8 18 ty·12 ty·4 Row.off λ x. x
+  abbrev s31 : Typed.Mo T32 → Typed.Mo T33
+  s31 = AtSlots.n-as-by T32 18 (Rows.whole (Declared'.row Counts.the-type)) λ v. Counts.struct .make v tt
 
-  abbrev s35 : Typed.Asks T36 T37
-  s35 = Relend.k-sl-aggregate (Referent.rtF (Referent.fInt Syntax.w64)) (Relend.asMut (Referent.rtF (Referent.fInt Syntax.w64))) T36 35 36 18 ty·4 ty·4 (λ x. x) (Scalar.oFld 12 (List._∷_ (Syntax.field 1) List.[]) ty·1 8 λ v. Shared.lenV (v .0))
+  abbrev s32 : Typed.Both T33 T34
+  s32 = Call.callB ps·1 r·1 (claims· .2) (claims· .3) T33 (record { pos = 16; ty = Syntax.tyRef (Syntax.named 10) Syntax.imm ty·0; ref = λ x. x }, (record { pos = 17; ty = Syntax.tyRef (Syntax.named 11) Syntax.imm ty·0; ref = λ x. x }, (record { pos = 18; st = List.[]; d = 0; at = λ x. x }, (record { pos = 26; ty = Syntax.tyRef Syntax.erased Syntax.imm ty·0; ref = λ x. x }, (record { pos = 28; ty = Syntax.tyRef Syntax.erased Syntax.imm ty·0; ref = λ x. x }, (record { pos = 30; ty = Syntax.tyRef Syntax.erased Syntax.imm ty·0; ref = λ x. x }, (record { pos = 32; ty = Syntax.tyRef Syntax.erased Syntax.imm ty·0; ref = λ x. x }, (record { pos = 34; ty = Syntax.tyRef Syntax.erased Syntax.imm ty·0; ref = λ x. x }, (Num.vAt 24 λ x. x, (Num.vAt 35 λ x. x, (Num.vAt 36 λ x. x, (Num.vAt 37 λ x. x, (Bool.bAt 20 λ x. x, tt))))))))))))) 21 (List._∷_ 10 (List._∷_ 11 (List._∷_ 12 (List._∷_ 13 (List._∷_ 14 (List._∷_ 15 (List._∷_ 16 List.[]))))))) ty·29
 
-  abbrev s36 : Typed.Mo T37 → Typed.Mo T38
-  s36 = AtSlots.n-as-by T37 16 (Rows.whole (Declared.row Counts.the-type)) λ v. Counts.struct .make v tt
+  abbrev s33 : Typed.Mo T34 → Typed.Mo T36
+  s33 = Scalar.n-room T34 26 ty·20
 
-  abbrev s37 : Typed.Mo T38 → Typed.Mo T39
-  s37 = AtSlots.n-as-by T38 17 (Rows.whole (Declared.row Point2.the-type)) λ v. Point2.struct .make v tt
+  abbrev s34 : Typed.Mo T36 → Typed.Mo T37
+  s34 = Scalar.n-room T36 28 ty·20
 
-  abbrev s38 : Typed.Both T39 T40
-  s38 = Call.callB ps·0 r·0 (claims· .0) (claims· .1) T39 (record { pos = 16; st = List.[]; d = 0; at = λ x. x }, (record { pos = 20; ty = Syntax.tyRef Syntax.erased Syntax.mut ty·0; ref = λ x. x }, (record { pos = 22; ty = Syntax.tyRef Syntax.erased Syntax.mut ty·0; ref = λ x. x }, (record { pos = 24; ty = Syntax.tyRef Syntax.erased Syntax.mut ty·0; ref = λ x. x }, (record { pos = 26; ty = Syntax.tyRef Syntax.erased Syntax.mut ty·0; ref = λ x. x }, (record { pos = 28; ty = Syntax.tyRef Syntax.erased Syntax.mut (ELEMMEM.pointee (ELEM.the-row .written)); ref = λ x. x }, (record { pos = 30; ty = Syntax.tyRef Syntax.erased Syntax.mut ty·0; ref = λ x. x }, (record { pos = 32; ty = Syntax.tyRef Syntax.erased Syntax.mut ty·0; ref = λ x. x }, (record { pos = 34; ty = Syntax.tyRef Syntax.erased Syntax.mut ty·0; ref = λ x. x }, (record { pos = 36; ty = Syntax.tyRef Syntax.erased Syntax.mut ty·1; ref = λ x. x }, (record { pos = 17; st = List.[]; d = 0; at = λ x. x }, (record { pos = 15; ty = Syntax.tyRef (Syntax.named 9) Syntax.imm ty·0; ref = λ x. x }, tt)))))))))))) 18 (List._∷_ 10 (List._∷_ 11 (List._∷_ 12 (List._∷_ 13 (List._∷_ 14 (List._∷_ 15 (List._∷_ 16 (List._∷_ 17 (List._∷_ 18 (List._∷_ 9 List.[])))))))))) ty·25
+  abbrev s35 : Typed.Mo T37 → Typed.Mo T38
+  s35 = Scalar.n-room T37 30 ty·20
 
-  abbrev s39 : Typed.Mo T40 → Typed.Mo T41
-  s39 = Scalar.n-room T40 16 ty·20
+  abbrev s36 : Typed.Mo T38 → Typed.Mo T39
+  s36 = Scalar.n-room T38 32 ty·20
 
-  abbrev s40 : Typed.Mo T41 → Typed.Mo T42
-  s40 = Scalar.n-room T41 17 ty·19
+  abbrev s37 : Typed.Mo T39 → Typed.Mo T40
+  s37 = Scalar.n-room T39 34 ty·20
 
-  abbrev s42 : Typed.Both T42 T44
-  s42 = Relend.k-back-sl (Signed.SInt Syntax.w32) T42 20 4 0 10 ty·5 ty·3 Row.off (λ x. x) λ x. x
+  abbrev s38 : Typed.Mo T40 → Typed.Mo T41
+  s38 = Scalar.n-room T40 24 ty·1
 
-  abbrev s45 : Typed.Both T44 T47
-  s45 = Relend.k-back-sl (Referent.rtF (Referent.fInt Syntax.w32)) T44 22 5 1 11 ty·6 ty·3 Row.off (λ x. x) λ x. x
+  abbrev s39 : Typed.Mo T41 → Typed.Mo T42
+  s39 = Scalar.n-room T41 35 ty·1
 
-  abbrev s46 : Typed.Gives T47 T48
-  s46 = Know.k-sl-known (Referent.fInt Syntax.w32) T47 5 1 ty·6 Row.off 0 λ x. x
+  abbrev s40 : Typed.Mo T42 → Typed.Mo T43
+  s40 = Scalar.n-room T42 36 ty·1
 
-  abbrev s49 : Typed.Both T48 T51
-  s49 = Relend.k-back-sl (Referent.rtF (Referent.fInt Syntax.w32)) T48 24 6 2 12 ty·7 ty·3 Row.off (λ x. x) λ x. x
+  abbrev s41 : Typed.Mo T43 → Typed.Mo T44
+  s41 = Scalar.n-room T43 37 ty·1
 
-  abbrev s50 : Typed.Gives T51 T52
-  s50 = Know.k-sl-known (Referent.fInt Syntax.w32) T51 6 2 ty·7 Row.off 0 λ x. x
+  abbrev s43 : Typed.Mo T44 → Typed.Mo T46
+  s43 = Reshare.n-back-sl-shr (Signed.SInt Syntax.w32) T44 4 0 12 ty·7 Row.off λ x. x
 
-  abbrev s53 : Typed.Both T52 T55
-  s53 = Relend.k-back-sl (Referent.rtF (Referent.fInt Syntax.w32)) T52 26 7 3 13 ty·8 ty·3 Row.off (λ x. x) λ x. x
+  abbrev s46 : Typed.Mo T46 → Typed.Mo T49
+  s46 = Reshare.n-back-sl-shr (Signed.SInt Syntax.w32) T46 5 1 13 ty·8 Row.off λ x. x
 
-  abbrev s54 : Typed.Gives T55 T56
-  s54 = Know.k-sl-known (Referent.fInt Syntax.w32) T55 7 3 ty·8 Row.off 0 λ x. x
+  abbrev s49 : Typed.Mo T49 → Typed.Mo T52
+  s49 = Reshare.n-back-sl-shr (Referent.rtF (Referent.fInt Syntax.w32)) T49 6 2 14 ty·9 Row.off λ x. x
 
-  abbrev s57 : Typed.Both T56 T59
-  s57 = Relend.k-back-sl ELEM.the-row T56 28 8 4 14 ty·15 ty·14 Row.off (λ x. x) λ x. x
+  abbrev s52 : Typed.Mo T52 → Typed.Mo T55
+  s52 = Reshare.n-back-sl-shr (Referent.rtF (Referent.fInt Syntax.w32)) T52 7 3 15 ty·10 Row.off λ x. x
 
-  abbrev s60 : Typed.Both T59 T62
-  s60 = Relend.k-back-sl (Referent.rtF (Referent.fInt Syntax.w32)) T59 30 9 5 15 ty·9 ty·3 Row.off (λ x. x) λ x. x
+  abbrev s55 : Typed.Mo T55 → Typed.Mo T58
+  s55 = Reshare.n-back-sl-shr (Referent.rtF (Referent.fInt Syntax.w32)) T55 8 4 16 ty·11 Row.off λ x. x
 
-  abbrev s61 : Typed.Gives T62 T63
-  s61 = Know.k-sl-known (Referent.fInt Syntax.w32) T62 9 5 ty·9 Row.off 0 λ x. x
+  abbrev s57 : Typed.Mo T58 → Typed.Mo T60
+  s57 = AtSlots.n-as-by T58 19 (Rows.whole (Declared'.row Point2.the-type)) λ v. Point2.struct .make v tt
 
-  abbrev s64 : Typed.Both T63 T66
-  s64 = Relend.k-back-sl (Referent.rtF (Referent.fInt Syntax.w32)) T63 32 10 6 16 ty·10 ty·3 Row.off (λ x. x) λ x. x
+  abbrev s58 : Typed.Both T60 T61
+  s58 = Known.k-enum-known Checked.enum 1 T60 21 λ x. x
 
-  abbrev s65 : Typed.Gives T66 T67
-  s65 = Know.k-sl-known (Referent.fInt Syntax.w32) T66 10 6 ty·10 Row.off 0 λ x. x
+  abbrev s59 : Typed.Gives T61 T62
+  s59 = Known.k-known-told Checked.enum Laws'4.the-laws 1 T61 21 λ x. x
 
-  abbrev s68 : Typed.Both T67 T70
-  s68 = Relend.k-back-sl (Referent.rtF (Referent.fInt Syntax.w32)) T67 34 11 7 17 ty·11 ty·3 Row.off (λ x. x) λ x. x
+  abbrev s60 : Typed.Mo T62 → Typed.Mo T63
+  s60 = Scalar.n-room T62 19 ty·25
 
-  abbrev s69 : Typed.Gives T70 T71
-  s69 = Know.k-sl-known (Referent.fInt Syntax.w32) T70 11 7 ty·11 Row.off 0 λ x. x
+  abbrev s61 : Typed.Mo T63 → Typed.Mo T64
+  s61 = Make.n-make (Declared'.row Refusal.the-type) T63 22 λ m. m .1 .1 .1 .1 .1 .1 .1 .1 .1 .1 .1 .1 .1 .1 .1 .1 .1 .1 .1 .1 .1 .0 .0
 
-  abbrev s72 : Typed.Both T71 T74
-  s72 = Relend.k-back-sl (Referent.rtF (Referent.fInt Syntax.w64)) T71 36 12 8 18 ty·12 ty·4 Row.off (λ x. x) λ x. x
+  abbrev s62 : Typed.Mo T64 → Typed.Mo T65
+  s62 = Scalar.n-room T64 21 ty·29
 
-  abbrev s73 : Typed.Gives T74 T75
-  s73 = Know.k-sl-known (Referent.fInt Syntax.w64) T74 12 8 ty·12 Row.off 0 λ x. x
+  abbrev s63 : Typed.Both T65 T66
+  s63 = Call.callB ps·2 r·2 (claims· .4) (claims· .5) T65 (record { pos = 18; st = List.[]; d = 0; at = λ x. x }, (record { pos = 22; st = List.[]; d = 0; at = λ x. x }, tt)) 0 List.[] ty·30
 
-  abbrev s75 : Typed.Both T75 T77
-  s75 = Call.callB ps·1 r·1 (claims· .2) (claims· .3) T75 (record { pos = 18; st = List.[]; d = 0; at = λ x. x }, tt) 0 List.[] ty·23
+  abbrev s64 : Typed.Mo T66 → Typed.Mo T67
+  s64 = Scalar.n-room T66 18 ty·26
 
-  abbrev s76 : Typed.Mo T77 → Typed.Mo T78
-  s76 = Scalar.n-room T77 18 ty·25
+  abbrev s65 : Typed.Mo T67 → Typed.Mo T68
+  s65 = Scalar.n-room T67 22 ty·28
 
-  abbrev s77 : Typed.Mo T78 → Typed.Mo T79
-  s77 = Scalar.n-room T78 1 ty·0
+  abbrev s66 : Typed.Mo T68 → Typed.Mo T69
+  s66 = Scalar.n-room T68 1 ty·0
 
-  abbrev s78 : Typed.Mo T79 → Typed.Mo T80
-  s78 = Scalar.n-room T79 2 ty·0
+  abbrev s67 : Typed.Mo T69 → Typed.Mo T70
+  s67 = Scalar.n-room T69 2 ty·0
 
-  abbrev s79 : Typed.Mo T80 → Typed.Mo T81
-  s79 = Scalar.n-room T80 3 ty·0
+  abbrev s68 : Typed.Mo T70 → Typed.Mo T71
+  s68 = Scalar.n-room T70 3 ty·0
 
-  abbrev s80 : Typed.Mo T81 → Typed.Mo T82
-  s80 = Scalar.n-room T81 13 ty·2
+  abbrev s69 : Typed.Mo T71 → Typed.Mo T72
+  s69 = Scalar.n-room T71 14 ty·2
 
-  abbrev s81 : Typed.Mo T82 → Typed.Mo T83
-  s81 = Scalar.n-room T82 14 ty·2
+  abbrev s70 : Typed.Mo T72 → Typed.Mo T73
+  s70 = Scalar.n-room T72 15 ty·2
 
-  module _ (Pre· : (κs : Lifetimes.Lfts 10) → Kinds.Dens κs ps → Type 0) (Post· : (κs : Lifetimes.Lfts 10) → (a : Kinds.Dens κs ps) → Kinds.Plain 10 ps r κs) where
+  abbrev s71 : Typed.Mo T73 → Typed.Mo T74
+  s71 = Scalar.n-room T73 20 Syntax.tyBool
+
+  abbrev s72 : Typed.Both T60 T75
+  s72 = Known.k-enum-told Checked.enum 0 T60 21 λ x. x
+
+  abbrev s73 : Typed.Mo T75 → Typed.Mo T76
+  s73 = Scalar.n-room T75 21 ty·29
+
+  abbrev s75 : Typed.Gives T35 T78
+  s75 = Relend.k-sl-relend (Signed.SInt Syntax.w32) T35 4 38 0 17 ty·7 ty·5 Row.off λ x. x
+
+  abbrev s76 : Typed.Asks T78 T79
+  s76 = Relend.k-sl-aggregate (Signed.SInt Syntax.w32) (Relend.asMut (Signed.SInt Syntax.w32)) T78 38 39 17 ty·5 ty·5 (λ x. x) (Scalar.oFld 4 (List._∷_ (Syntax.field 1) List.[]) ty·1 8 λ v. Shared.lenV (v .0))
+
+  abbrev s78 : Typed.Gives T79 T81
+  s78 = Relend.k-sl-relend (Referent.rtF (Referent.fInt Syntax.w32)) T79 6 40 2 18 ty·9 ty·5 Row.off λ x. x
+
+  abbrev s79 : Typed.Asks T81 T82
+  s79 = Relend.k-sl-aggregate (Referent.rtF (Referent.fInt Syntax.w32)) (Relend.asMut (Referent.rtF (Referent.fInt Syntax.w32))) T81 40 41 18 ty·5 ty·5 (λ x. x) (Scalar.oFld 6 (List._∷_ (Syntax.field 1) List.[]) ty·1 8 λ v. Shared.lenV (v .0))
+
+  abbrev s81 : Typed.Gives T82 T84
+  s81 = Relend.k-sl-relend (Referent.rtF (Referent.fInt Syntax.w32)) T82 7 42 3 19 ty·10 ty·5 Row.off λ x. x
+
+  abbrev s82 : Typed.Asks T84 T85
+  s82 = Relend.k-sl-aggregate (Referent.rtF (Referent.fInt Syntax.w32)) (Relend.asMut (Referent.rtF (Referent.fInt Syntax.w32))) T84 42 43 19 ty·5 ty·5 (λ x. x) (Scalar.oFld 7 (List._∷_ (Syntax.field 1) List.[]) ty·1 8 λ v. Shared.lenV (v .0))
+
+  abbrev s84 : Typed.Gives T85 T87
+  s84 = Relend.k-sl-relend (Referent.rtF (Referent.fInt Syntax.w32)) T85 8 44 4 20 ty·11 ty·5 Row.off λ x. x
+
+  abbrev s85 : Typed.Asks T87 T88
+  s85 = Relend.k-sl-aggregate (Referent.rtF (Referent.fInt Syntax.w32)) (Relend.asMut (Referent.rtF (Referent.fInt Syntax.w32))) T87 44 45 20 ty·5 ty·5 (λ x. x) (Scalar.oFld 8 (List._∷_ (Syntax.field 1) List.[]) ty·1 8 λ v. Shared.lenV (v .0))
+
+  abbrev s87 : Typed.Gives T88 T90
+  s87 = Relend.k-sl-relend ELEM.the-row T88 9 46 5 21 ty·19 ty·18 Row.off λ x. x
+
+  abbrev s88 : Typed.Asks T90 T91
+  s88 = Relend.k-sl-aggregate ELEM.the-row (Relend.asMut ELEM.the-row) T90 46 47 21 ty·18 ty·18 (λ x. x) (Scalar.oFld 9 (List._∷_ (Syntax.field 1) List.[]) ty·1 8 λ v. Shared.lenV (v .0))
+
+  abbrev s90 : Typed.Gives T91 T93
+  s90 = Relend.k-sl-relend (Referent.rtF (Referent.fInt Syntax.w32)) T91 10 48 6 22 ty·12 ty·5 Row.off λ x. x
+
+  abbrev s91 : Typed.Asks T93 T94
+  s91 = Relend.k-sl-aggregate (Referent.rtF (Referent.fInt Syntax.w32)) (Relend.asMut (Referent.rtF (Referent.fInt Syntax.w32))) T93 48 49 22 ty·5 ty·5 (λ x. x) (Scalar.oFld 10 (List._∷_ (Syntax.field 1) List.[]) ty·1 8 λ v. Shared.lenV (v .0))
+
+  abbrev s93 : Typed.Gives T94 T96
+  s93 = Relend.k-sl-relend (Referent.rtF (Referent.fInt Syntax.w32)) T94 11 50 7 23 ty·13 ty·5 Row.off λ x. x
+
+  abbrev s94 : Typed.Asks T96 T97
+  s94 = Relend.k-sl-aggregate (Referent.rtF (Referent.fInt Syntax.w32)) (Relend.asMut (Referent.rtF (Referent.fInt Syntax.w32))) T96 50 51 23 ty·5 ty·5 (λ x. x) (Scalar.oFld 11 (List._∷_ (Syntax.field 1) List.[]) ty·1 8 λ v. Shared.lenV (v .0))
+
+  abbrev s96 : Typed.Gives T97 T99
+  s96 = Relend.k-sl-relend (Referent.rtF (Referent.fInt Syntax.w32)) T97 12 52 8 24 ty·14 ty·5 Row.off λ x. x
+
+  abbrev s97 : Typed.Asks T99 T100
+  s97 = Relend.k-sl-aggregate (Referent.rtF (Referent.fInt Syntax.w32)) (Relend.asMut (Referent.rtF (Referent.fInt Syntax.w32))) T99 52 53 24 ty·5 ty·5 (λ x. x) (Scalar.oFld 12 (List._∷_ (Syntax.field 1) List.[]) ty·1 8 λ v. Shared.lenV (v .0))
+
+  abbrev s99 : Typed.Gives T100 T102
+  s99 = Relend.k-sl-relend (Referent.rtF (Referent.fInt Syntax.w64)) T100 13 54 9 25 ty·15 ty·6 Row.off λ x. x
+
+  abbrev s100 : Typed.Asks T102 T103
+  s100 = Relend.k-sl-aggregate (Referent.rtF (Referent.fInt Syntax.w64)) (Relend.asMut (Referent.rtF (Referent.fInt Syntax.w64))) T102 54 55 25 ty·6 ty·6 (λ x. x) (Scalar.oFld 13 (List._∷_ (Syntax.field 1) List.[]) ty·1 8 λ v. Shared.lenV (v .0))
+
+  abbrev s101 : Typed.Both T103 T104
+  s101 = Call.callB ps·3 r·3 (claims· .6) (claims· .7) T103 (record { pos = 18; st = List.[]; d = 0; at = λ x. x }, (record { pos = 39; ty = Syntax.tyRef Syntax.erased Syntax.mut ty·0; ref = λ x. x }, (record { pos = 41; ty = Syntax.tyRef Syntax.erased Syntax.mut ty·0; ref = λ x. x }, (record { pos = 43; ty = Syntax.tyRef Syntax.erased Syntax.mut ty·0; ref = λ x. x }, (record { pos = 45; ty = Syntax.tyRef Syntax.erased Syntax.mut ty·0; ref = λ x. x }, (record { pos = 47; ty = Syntax.tyRef Syntax.erased Syntax.mut (ELEMMEM.pointee (ELEM.the-row .written)); ref = λ x. x }, (record { pos = 49; ty = Syntax.tyRef Syntax.erased Syntax.mut ty·0; ref = λ x. x }, (record { pos = 51; ty = Syntax.tyRef Syntax.erased Syntax.mut ty·0; ref = λ x. x }, (record { pos = 53; ty = Syntax.tyRef Syntax.erased Syntax.mut ty·0; ref = λ x. x }, (record { pos = 55; ty = Syntax.tyRef Syntax.erased Syntax.mut ty·1; ref = λ x. x }, (record { pos = 19; st = List.[]; d = 0; at = λ x. x }, (record { pos = 16; ty = Syntax.tyRef (Syntax.named 10) Syntax.imm ty·0; ref = λ x. x }, tt)))))))))))) 23 (List._∷_ 17 (List._∷_ 18 (List._∷_ 19 (List._∷_ 20 (List._∷_ 21 (List._∷_ 22 (List._∷_ 23 (List._∷_ 24 (List._∷_ 25 (List._∷_ 10 List.[])))))))))) ty·32
+
+  abbrev s102 : Typed.Mo T104 → Typed.Mo T105
+  s102 = Scalar.n-room T104 18 ty·26
+
+  abbrev s103 : Typed.Mo T105 → Typed.Mo T106
+  s103 = Scalar.n-room T105 19 ty·25
+
+  abbrev s105 : Typed.Both T106 T108
+  s105 = Relend.k-back-sl (Signed.SInt Syntax.w32) T106 39 4 0 17 ty·7 ty·5 Row.off (λ x. x) λ x. x
+
+  abbrev s108 : Typed.Both T108 T111
+  s108 = Relend.k-back-sl (Referent.rtF (Referent.fInt Syntax.w32)) T108 41 6 2 18 ty·9 ty·5 Row.off (λ x. x) λ x. x
+
+  abbrev s109 : Typed.Gives T111 T112
+  s109 = Know.k-sl-known (Referent.fInt Syntax.w32) T111 6 2 ty·9 Row.off 0 λ x. x
+
+  abbrev s112 : Typed.Both T112 T115
+  s112 = Relend.k-back-sl (Referent.rtF (Referent.fInt Syntax.w32)) T112 43 7 3 19 ty·10 ty·5 Row.off (λ x. x) λ x. x
+
+  abbrev s113 : Typed.Gives T115 T116
+  s113 = Know.k-sl-known (Referent.fInt Syntax.w32) T115 7 3 ty·10 Row.off 0 λ x. x
+
+  abbrev s116 : Typed.Both T116 T119
+  s116 = Relend.k-back-sl (Referent.rtF (Referent.fInt Syntax.w32)) T116 45 8 4 20 ty·11 ty·5 Row.off (λ x. x) λ x. x
+
+  abbrev s117 : Typed.Gives T119 T120
+  s117 = Know.k-sl-known (Referent.fInt Syntax.w32) T119 8 4 ty·11 Row.off 0 λ x. x
+
+  abbrev s120 : Typed.Both T120 T123
+  s120 = Relend.k-back-sl ELEM.the-row T120 47 9 5 21 ty·19 ty·18 Row.off (λ x. x) λ x. x
+
+  abbrev s123 : Typed.Both T123 T126
+  s123 = Relend.k-back-sl (Referent.rtF (Referent.fInt Syntax.w32)) T123 49 10 6 22 ty·12 ty·5 Row.off (λ x. x) λ x. x
+
+  abbrev s124 : Typed.Gives T126 T127
+  s124 = Know.k-sl-known (Referent.fInt Syntax.w32) T126 10 6 ty·12 Row.off 0 λ x. x
+
+  abbrev s127 : Typed.Both T127 T130
+  s127 = Relend.k-back-sl (Referent.rtF (Referent.fInt Syntax.w32)) T127 51 11 7 23 ty·13 ty·5 Row.off (λ x. x) λ x. x
+
+  abbrev s128 : Typed.Gives T130 T131
+  s128 = Know.k-sl-known (Referent.fInt Syntax.w32) T130 11 7 ty·13 Row.off 0 λ x. x
+
+  abbrev s131 : Typed.Both T131 T134
+  s131 = Relend.k-back-sl (Referent.rtF (Referent.fInt Syntax.w32)) T131 53 12 8 24 ty·14 ty·5 Row.off (λ x. x) λ x. x
+
+  abbrev s132 : Typed.Gives T134 T135
+  s132 = Know.k-sl-known (Referent.fInt Syntax.w32) T134 12 8 ty·14 Row.off 0 λ x. x
+
+  abbrev s135 : Typed.Both T135 T138
+  s135 = Relend.k-back-sl (Referent.rtF (Referent.fInt Syntax.w64)) T135 55 13 9 25 ty·15 ty·6 Row.off (λ x. x) λ x. x
+
+  abbrev s136 : Typed.Gives T138 T139
+  s136 = Know.k-sl-known (Referent.fInt Syntax.w64) T138 13 9 ty·15 Row.off 0 λ x. x
+
+  abbrev s139 : Typed.Gives T139 T142
+  s139 = Relend.k-sl-relend (Signed.SInt Syntax.w32) T139 5 57 1 26 ty·8 ty·5 Row.off λ x. x
+
+  abbrev s140 : Typed.Asks T142 T143
+  s140 = Relend.k-sl-aggregate (Signed.SInt Syntax.w32) (Relend.asMut (Signed.SInt Syntax.w32)) T142 57 58 26 ty·5 ty·5 (λ x. x) (Scalar.oFld 5 (List._∷_ (Syntax.field 1) List.[]) ty·1 8 λ v. Shared.lenV (v .0))
+
+  abbrev s142 : Typed.Gives T143 T145
+  s142 = Reshare.k-sl-reshare (Referent.rtF (Referent.fInt Syntax.w64)) T143 13 59 9 27 ty·15 ty·4 Row.off λ x. x
+
+  abbrev s143 : Typed.Asks T145 T146
+  s143 = Relend.k-sl-aggregate (Referent.rtF (Referent.fInt Syntax.w64)) (Relend.asShr (Referent.rtF (Referent.fInt Syntax.w64))) T145 59 60 27 ty·4 ty·4 (λ x. x) (Scalar.oFld 13 (List._∷_ (Syntax.field 1) List.[]) ty·1 8 λ v. Shared.lenV (v .0))
+
+  abbrev s144 : Typed.Both T146 T147
+  s144 = Call.callB ps·4 r·4 (claims· .8) (claims· .9) T146 (record { pos = 58; ty = Syntax.tyRef Syntax.erased Syntax.mut ty·0; ref = λ x. x }, (record { pos = 60; ty = Syntax.tyRef Syntax.erased Syntax.imm ty·1; ref = λ x. x }, (record { pos = 17; ty = Syntax.tyRef (Syntax.named 11) Syntax.imm ty·0; ref = λ x. x }, (record { pos = 16; ty = Syntax.tyRef (Syntax.named 10) Syntax.imm ty·0; ref = λ x. x }, (Num.vAt 1 λ x. x, (record { pos = 23; st = List.[]; d = 0; at = λ x. x }, tt)))))) 56 (List._∷_ 26 (List._∷_ 27 (List._∷_ 11 (List._∷_ 10 List.[])))) Syntax.tyUnit
+
+  abbrev s145 : Typed.Mo T147 → Typed.Mo T148
+  s145 = Scalar.n-room T147 60 ty·21
+
+  abbrev s146 : Typed.Mo T148 → Typed.Mo T149
+  s146 = Scalar.n-room T148 56 Syntax.tyUnit
+
+  abbrev s148 : Typed.Both T149 T151
+  s148 = Relend.k-back-sl (Signed.SInt Syntax.w32) T149 58 5 1 26 ty·8 ty·5 Row.off (λ x. x) λ x. x
+
+  abbrev s151 : Typed.Mo T151 → Typed.Mo T154
+  s151 = Reshare.n-back-sl-shr (Referent.rtF (Referent.fInt Syntax.w64)) T151 13 9 27 ty·15 Row.off λ x. x
+
+  abbrev s153 : Typed.Both T154 T156
+  s153 = Call.callB ps·5 r·5 (claims· .10) (claims· .11) T154 (record { pos = 23; st = List.[]; d = 0; at = λ x. x }, tt) 0 List.[] ty·30
+
+  abbrev s154 : Typed.Mo T156 → Typed.Mo T157
+  s154 = Scalar.n-room T156 20 Syntax.tyBool
+
+  abbrev s155 : Typed.Mo T157 → Typed.Mo T158
+  s155 = Scalar.n-room T157 23 ty·32
+
+  abbrev s156 : Typed.Mo T158 → Typed.Mo T159
+  s156 = Scalar.n-room T158 1 ty·0
+
+  abbrev s157 : Typed.Mo T159 → Typed.Mo T160
+  s157 = Scalar.n-room T159 2 ty·0
+
+  abbrev s158 : Typed.Mo T160 → Typed.Mo T161
+  s158 = Scalar.n-room T160 3 ty·0
+
+  abbrev s159 : Typed.Mo T161 → Typed.Mo T162
+  s159 = Scalar.n-room T161 14 ty·2
+
+  abbrev s160 : Typed.Mo T162 → Typed.Mo T163
+  s160 = Scalar.n-room T162 15 ty·2
+
+  module _ (Pre· : (κs : Lifetimes.Lfts 12) → Kinds.Dens κs ps → Type 0) (Post· : (κs : Lifetimes.Lfts 12) → (a : Kinds.Dens κs ps) → Kinds.Plain 12 ps r κs) where
     module _ (M : Type 1) where
       abbrev pub Closed : Type 2
-      Closed = (𝓤 : URA.URA M) (H : Wp.Heap 𝓤) (A : Atoms.Atoms 𝓤) (W : Kit.Given 𝓤 H A) (𝓣 : Wp.Tables 𝓤 H) (known0 : Plain.Known 𝓤 H A W 𝓣 10 ps·0 r·0 (claims· .0) (claims· .1) "run::run") (known1 : Plain.Known 𝓤 H A W 𝓣 0 ps·1 r·1 (claims· .2) (claims· .3) "fithmoul::results::finish_result") → Statement.Triple 𝓤 (Wp.WpFn 𝓤 H (𝓣 .C) (𝓣 .Λ) (Function.fnOf 10 ps r xs m hs body)) (Function.plainOf 𝓤 H A 10 ps r Pre· Post·)
+      Closed = (𝓤 : URA.URA M) (H : Wp.Heap 𝓤) (A : Atoms.Atoms 𝓤) (W : Kit.Given 𝓤 H A) (𝓣 : Wp.Tables 𝓤 H) (known0 : Plain.Known 𝓤 H A W 𝓣 1 ps·0 r·0 (claims· .0) (claims· .1) "run::answers_short") (known1 : Plain.Known 𝓤 H A W 𝓣 7 ps·1 r·1 (claims· .2) (claims· .3) "surface::check_run") (known2 : Plain.Known 𝓤 H A W 𝓣 0 ps·2 r·2 (claims· .4) (claims· .5) "fithmoul::results::finish_refused") (known3 : Plain.Known 𝓤 H A W 𝓣 10 ps·3 r·3 (claims· .6) (claims· .7) "run::run") (known4 : Plain.Known 𝓤 H A W 𝓣 4 ps·4 r·4 (claims· .8) (claims· .9) "surface::store_run") (known5 : Plain.Known 𝓤 H A W 𝓣 0 ps·5 r·5 (claims· .10) (claims· .11) "fithmoul::results::finish_result") → Statement.Triple 𝓤 (Wp.WpFn 𝓤 H (𝓣 .C) (𝓣 .Λ) (Function.fnOf 12 ps r xs m hs body)) (Function.plainOf 𝓤 H A 12 ps r Pre· Post·)
 
     module _ where
-      abbrev at0 : Typed.TF T83 O0
-      at0 = Typed.atRet O0
+      abbrev at0 : Typed.TF T74 O1
+      at0 = Typed.atRet O1
 
-      abbrev at1 : Typed.TF T82 O0
-      at1 = λ Ψ. Typed.pass T82 T83 s81 (at0 Ψ)
+      abbrev at1 : Typed.TF T73 O1
+      at1 = λ Ψ. Typed.pass T73 T74 s71 (at0 Ψ)
 
-      abbrev at2 : Typed.TF T81 O0
-      at2 = λ Ψ. Typed.pass T81 T82 s80 (at1 Ψ)
+      abbrev at2 : Typed.TF T72 O1
+      at2 = λ Ψ. Typed.pass T72 T73 s70 (at1 Ψ)
 
-      abbrev at3 : Typed.TF T80 O0
-      at3 = λ Ψ. Typed.pass T80 T81 s79 (at2 Ψ)
+      abbrev at3 : Typed.TF T71 O1
+      at3 = λ Ψ. Typed.pass T71 T72 s69 (at2 Ψ)
 
-      abbrev at4 : Typed.TF T79 O0
-      at4 = λ Ψ. Typed.pass T79 T80 s78 (at3 Ψ)
+      abbrev at4 : Typed.TF T70 O1
+      at4 = λ Ψ. Typed.pass T70 T71 s68 (at3 Ψ)
 
-      abbrev at5 : Typed.TF T78 O0
-      at5 = λ Ψ. Typed.pass T78 T79 s77 (at4 Ψ)
+      abbrev at5 : Typed.TF T69 O1
+      at5 = λ Ψ. Typed.pass T69 T70 s67 (at4 Ψ)
 
-      abbrev at6 : Typed.TF T77 O0
-      at6 = λ Ψ. Typed.pass T77 T78 s76 (at5 Ψ)
+      abbrev at6 : Typed.TF T68 O1
+      at6 = λ Ψ. Typed.pass T68 T69 s66 (at5 Ψ)
 
-      abbrev at7 : Typed.TF T75 O0
-      at7 = λ Ψ. Typed.both s75 (at6 Ψ)
+      abbrev at7 : Typed.TF T67 O1
+      at7 = λ Ψ. Typed.pass T67 T68 s65 (at6 Ψ)
 
-      abbrev at8 : Typed.TF T75 O0
-      at8 = λ Ψ. at7 Ψ
+      abbrev at8 : Typed.TF T66 O1
+      at8 = λ Ψ. Typed.pass T66 T67 s64 (at7 Ψ)
 
-      abbrev at9 : Typed.TF T74 O0
-      at9 = λ Ψ. Typed.give s73 (at8 Ψ)
+      abbrev at9 : Typed.TF T65 O1
+      at9 = λ Ψ. Typed.both s63 (at8 Ψ)
 
-      abbrev at10 : Typed.TF T71 O0
-      at10 = λ Ψ. Typed.both s72 (at9 Ψ)
+      abbrev at10 : Typed.TF T64 O1
+      at10 = λ Ψ. Typed.pass T64 T65 s62 (at9 Ψ)
 
-      abbrev at11 : Typed.TF T71 O0
-      at11 = λ Ψ. at10 Ψ
+      abbrev at11 : Typed.TF T63 O1
+      at11 = λ Ψ. Typed.pass T63 T64 s61 (at10 Ψ)
 
-      abbrev at12 : Typed.TF T71 O0
-      at12 = λ Ψ. at11 Ψ
+      abbrev at12 : Typed.TF T62 O1
+      at12 = λ Ψ. Typed.pass T62 T63 s60 (at11 Ψ)
 
-      abbrev at13 : Typed.TF T70 O0
-      at13 = λ Ψ. Typed.give s69 (at12 Ψ)
+      abbrev at13 : Typed.TF T61 O1
+      at13 = λ Ψ. Typed.give s59 (at12 Ψ)
 
-      abbrev at14 : Typed.TF T67 O0
-      at14 = λ Ψ. Typed.both s68 (at13 Ψ)
+      abbrev at14 : Typed.TF T60 O1
+      at14 = λ Ψ. Typed.both s58 (at13 Ψ)
 
-      abbrev at15 : Typed.TF T67 O0
-      at15 = λ Ψ. at14 Ψ
+      abbrev at15 : Typed.TF T76 O1
+      at15 = Typed.atNext O1
 
-      abbrev at16 : Typed.TF T67 O0
-      at16 = λ Ψ. at15 Ψ
+      abbrev at16 : Typed.TF T75 O1
+      at16 = λ Ψ. Typed.pass T75 T76 s73 (at15 Ψ)
 
-      abbrev at17 : Typed.TF T66 O0
-      at17 = λ Ψ. Typed.give s65 (at16 Ψ)
+      abbrev at17 : Typed.TF T60 O1
+      at17 = λ Ψ. Typed.both s72 (at16 Ψ)
 
-      abbrev at18 : Typed.TF T63 O0
-      at18 = λ Ψ. Typed.both s64 (at17 Ψ)
+      abbrev at18 : Typed.TF T60 O1
+      at18 = Switch.Φswitch T60 O1 21 (λ x. Declared.tagOf Checked.the-type x) (Syntax.arm (List._∷_ 1 List.[]) b23 (Syntax.arm (List._∷_ 0 List.[]) b24 Syntax.noDefault)) (at14, (at17, tt))
 
-      abbrev at19 : Typed.TF T63 O0
-      at19 = λ Ψ. at18 Ψ
+      abbrev at19 : Typed.TF T58 O1
+      at19 = λ Ψ. Typed.pass T58 T60 s57 (at18 Ψ)
 
-      abbrev at20 : Typed.TF T63 O0
+      abbrev at20 : Typed.TF T58 O1
       at20 = λ Ψ. at19 Ψ
 
-      abbrev at21 : Typed.TF T62 O0
-      at21 = λ Ψ. Typed.give s61 (at20 Ψ)
+      abbrev at21 : Typed.TF T55 O1
+      at21 = λ Ψ. Typed.pass T55 T58 s55 (at20 Ψ)
 
-      abbrev at22 : Typed.TF T59 O0
-      at22 = λ Ψ. Typed.both s60 (at21 Ψ)
+      abbrev at22 : Typed.TF T55 O1
+      at22 = λ Ψ. at21 Ψ
 
-      abbrev at23 : Typed.TF T59 O0
+      abbrev at23 : Typed.TF T55 O1
       at23 = λ Ψ. at22 Ψ
 
-      abbrev at24 : Typed.TF T59 O0
-      at24 = λ Ψ. at23 Ψ
+      abbrev at24 : Typed.TF T52 O1
+      at24 = λ Ψ. Typed.pass T52 T55 s52 (at23 Ψ)
 
-      abbrev at25 : Typed.TF T56 O0
-      at25 = λ Ψ. Typed.both s57 (at24 Ψ)
+      abbrev at25 : Typed.TF T52 O1
+      at25 = λ Ψ. at24 Ψ
 
-      abbrev at26 : Typed.TF T56 O0
+      abbrev at26 : Typed.TF T52 O1
       at26 = λ Ψ. at25 Ψ
 
-      abbrev at27 : Typed.TF T56 O0
-      at27 = λ Ψ. at26 Ψ
+      abbrev at27 : Typed.TF T49 O1
+      at27 = λ Ψ. Typed.pass T49 T52 s49 (at26 Ψ)
 
-      abbrev at28 : Typed.TF T55 O0
-      at28 = λ Ψ. Typed.give s54 (at27 Ψ)
+      abbrev at28 : Typed.TF T49 O1
+      at28 = λ Ψ. at27 Ψ
 
-      abbrev at29 : Typed.TF T52 O0
-      at29 = λ Ψ. Typed.both s53 (at28 Ψ)
+      abbrev at29 : Typed.TF T49 O1
+      at29 = λ Ψ. at28 Ψ
 
-      abbrev at30 : Typed.TF T52 O0
-      at30 = λ Ψ. at29 Ψ
+      abbrev at30 : Typed.TF T46 O1
+      at30 = λ Ψ. Typed.pass T46 T49 s46 (at29 Ψ)
 
-      abbrev at31 : Typed.TF T52 O0
+      abbrev at31 : Typed.TF T46 O1
       at31 = λ Ψ. at30 Ψ
 
-      abbrev at32 : Typed.TF T51 O0
-      at32 = λ Ψ. Typed.give s50 (at31 Ψ)
+      abbrev at32 : Typed.TF T46 O1
+      at32 = λ Ψ. at31 Ψ
 
-      abbrev at33 : Typed.TF T48 O0
-      at33 = λ Ψ. Typed.both s49 (at32 Ψ)
+      abbrev at33 : Typed.TF T44 O1
+      at33 = λ Ψ. Typed.pass T44 T46 s43 (at32 Ψ)
 
-      abbrev at34 : Typed.TF T48 O0
+      abbrev at34 : Typed.TF T44 O1
       at34 = λ Ψ. at33 Ψ
 
-      abbrev at35 : Typed.TF T48 O0
-      at35 = λ Ψ. at34 Ψ
+      abbrev at35 : Typed.TF T43 O1
+      at35 = λ Ψ. Typed.pass T43 T44 s41 (at34 Ψ)
 
-      abbrev at36 : Typed.TF T47 O0
-      at36 = λ Ψ. Typed.give s46 (at35 Ψ)
+      abbrev at36 : Typed.TF T42 O1
+      at36 = λ Ψ. Typed.pass T42 T43 s40 (at35 Ψ)
 
-      abbrev at37 : Typed.TF T44 O0
-      at37 = λ Ψ. Typed.both s45 (at36 Ψ)
+      abbrev at37 : Typed.TF T41 O1
+      at37 = λ Ψ. Typed.pass T41 T42 s39 (at36 Ψ)
 
-      abbrev at38 : Typed.TF T44 O0
-      at38 = λ Ψ. at37 Ψ
+      abbrev at38 : Typed.TF T40 O1
+      at38 = λ Ψ. Typed.pass T40 T41 s38 (at37 Ψ)
 
-      abbrev at39 : Typed.TF T44 O0
-      at39 = λ Ψ. at38 Ψ
+      abbrev at39 : Typed.TF T39 O1
+      at39 = λ Ψ. Typed.pass T39 T40 s37 (at38 Ψ)
 
-      abbrev at40 : Typed.TF T42 O0
-      at40 = λ Ψ. Typed.both s42 (at39 Ψ)
+      abbrev at40 : Typed.TF T38 O1
+      at40 = λ Ψ. Typed.pass T38 T39 s36 (at39 Ψ)
 
-      abbrev at41 : Typed.TF T42 O0
-      at41 = λ Ψ. at40 Ψ
+      abbrev at41 : Typed.TF T37 O1
+      at41 = λ Ψ. Typed.pass T37 T38 s35 (at40 Ψ)
 
-      abbrev at42 : Typed.TF T41 O0
-      at42 = λ Ψ. Typed.pass T41 T42 s40 (at41 Ψ)
+      abbrev at42 : Typed.TF T36 O1
+      at42 = λ Ψ. Typed.pass T36 T37 s34 (at41 Ψ)
 
-      abbrev at43 : Typed.TF T40 O0
-      at43 = λ Ψ. Typed.pass T40 T41 s39 (at42 Ψ)
+      abbrev at43 : Typed.TF T34 O1
+      at43 = λ Ψ. Typed.pass T34 T36 s33 (at42 Ψ)
 
-      abbrev at44 : Typed.TF T39 O0
-      at44 = λ Ψ. Typed.both s38 (at43 Ψ)
+      abbrev at44 : Typed.TF T163 O0
+      at44 = Typed.atRet O0
 
-      abbrev at45 : Typed.TF T38 O0
-      at45 = λ Ψ. Typed.pass T38 T39 s37 (at44 Ψ)
+      abbrev at45 : Typed.TF T162 O0
+      at45 = λ Ψ. Typed.pass T162 T163 s160 (at44 Ψ)
 
-      abbrev at46 : Typed.TF T37 O0
-      at46 = λ Ψ. Typed.pass T37 T38 s36 (at45 Ψ)
+      abbrev at46 : Typed.TF T161 O0
+      at46 = λ Ψ. Typed.pass T161 T162 s159 (at45 Ψ)
 
-      abbrev at47 : Typed.TF T36 O0
-      at47 = λ Ψ. Typed.ask s35 (at46 Ψ)
+      abbrev at47 : Typed.TF T160 O0
+      at47 = λ Ψ. Typed.pass T160 T161 s158 (at46 Ψ)
 
-      abbrev at48 : Typed.TF T34 O0
-      at48 = λ Ψ. Typed.give s34 (at47 Ψ)
+      abbrev at48 : Typed.TF T159 O0
+      at48 = λ Ψ. Typed.pass T159 T160 s157 (at47 Ψ)
 
-      abbrev at49 : Typed.TF T34 O0
-      at49 = λ Ψ. at48 Ψ
+      abbrev at49 : Typed.TF T158 O0
+      at49 = λ Ψ. Typed.pass T158 T159 s156 (at48 Ψ)
 
-      abbrev at50 : Typed.TF T33 O0
-      at50 = λ Ψ. Typed.ask s32 (at49 Ψ)
+      abbrev at50 : Typed.TF T157 O0
+      at50 = λ Ψ. Typed.pass T157 T158 s155 (at49 Ψ)
 
-      abbrev at51 : Typed.TF T31 O0
-      at51 = λ Ψ. Typed.give s31 (at50 Ψ)
+      abbrev at51 : Typed.TF T156 O0
+      at51 = λ Ψ. Typed.pass T156 T157 s154 (at50 Ψ)
 
-      abbrev at52 : Typed.TF T31 O0
-      at52 = λ Ψ. at51 Ψ
+      abbrev at52 : Typed.TF T154 O0
+      at52 = λ Ψ. Typed.both s153 (at51 Ψ)
 
-      abbrev at53 : Typed.TF T30 O0
-      at53 = λ Ψ. Typed.ask s29 (at52 Ψ)
+      abbrev at53 : Typed.TF T154 O0
+      at53 = λ Ψ. at52 Ψ
 
-      abbrev at54 : Typed.TF T28 O0
-      at54 = λ Ψ. Typed.give s28 (at53 Ψ)
+      abbrev at54 : Typed.TF T151 O0
+      at54 = λ Ψ. Typed.pass T151 T154 s151 (at53 Ψ)
 
-      abbrev at55 : Typed.TF T28 O0
+      abbrev at55 : Typed.TF T151 O0
       at55 = λ Ψ. at54 Ψ
 
-      abbrev at56 : Typed.TF T27 O0
-      at56 = λ Ψ. Typed.ask s26 (at55 Ψ)
+      abbrev at56 : Typed.TF T151 O0
+      at56 = λ Ψ. at55 Ψ
 
-      abbrev at57 : Typed.TF T25 O0
-      at57 = λ Ψ. Typed.give s25 (at56 Ψ)
+      abbrev at57 : Typed.TF T149 O0
+      at57 = λ Ψ. Typed.both s148 (at56 Ψ)
 
-      abbrev at58 : Typed.TF T25 O0
+      abbrev at58 : Typed.TF T149 O0
       at58 = λ Ψ. at57 Ψ
 
-      abbrev at59 : Typed.TF T24 O0
-      at59 = λ Ψ. Typed.ask s23 (at58 Ψ)
+      abbrev at59 : Typed.TF T148 O0
+      at59 = λ Ψ. Typed.pass T148 T149 s146 (at58 Ψ)
 
-      abbrev at60 : Typed.TF T22 O0
-      at60 = λ Ψ. Typed.give s22 (at59 Ψ)
+      abbrev at60 : Typed.TF T147 O0
+      at60 = λ Ψ. Typed.pass T147 T148 s145 (at59 Ψ)
 
-      abbrev at61 : Typed.TF T22 O0
-      at61 = λ Ψ. at60 Ψ
+      abbrev at61 : Typed.TF T146 O0
+      at61 = λ Ψ. Typed.both s144 (at60 Ψ)
 
-      abbrev at62 : Typed.TF T21 O0
-      at62 = λ Ψ. Typed.ask s20 (at61 Ψ)
+      abbrev at62 : Typed.TF T145 O0
+      at62 = λ Ψ. Typed.ask s143 (at61 Ψ)
 
-      abbrev at63 : Typed.TF T19 O0
-      at63 = λ Ψ. Typed.give s19 (at62 Ψ)
+      abbrev at63 : Typed.TF T143 O0
+      at63 = λ Ψ. Typed.give s142 (at62 Ψ)
 
-      abbrev at64 : Typed.TF T19 O0
+      abbrev at64 : Typed.TF T143 O0
       at64 = λ Ψ. at63 Ψ
 
-      abbrev at65 : Typed.TF T18 O0
-      at65 = λ Ψ. Typed.ask s17 (at64 Ψ)
+      abbrev at65 : Typed.TF T142 O0
+      at65 = λ Ψ. Typed.ask s140 (at64 Ψ)
 
-      abbrev at66 : Typed.TF T16 O0
-      at66 = λ Ψ. Typed.give s16 (at65 Ψ)
+      abbrev at66 : Typed.TF T139 O0
+      at66 = λ Ψ. Typed.give s139 (at65 Ψ)
 
-      abbrev at67 : Typed.TF T16 O0
+      abbrev at67 : Typed.TF T139 O0
       at67 = λ Ψ. at66 Ψ
 
-      abbrev at68 : Typed.TF T15 O0
-      at68 = λ Ψ. Typed.ask s14 (at67 Ψ)
+      abbrev at68 : Typed.TF T139 O0
+      at68 = λ Ψ. at67 Ψ
 
-      abbrev at69 : Typed.TF T13 O0
-      at69 = λ Ψ. Typed.give s13 (at68 Ψ)
+      abbrev at69 : Typed.TF T138 O0
+      at69 = λ Ψ. Typed.give s136 (at68 Ψ)
 
-      abbrev at70 : Typed.TF T13 O0
-      at70 = λ Ψ. at69 Ψ
+      abbrev at70 : Typed.TF T135 O0
+      at70 = λ Ψ. Typed.both s135 (at69 Ψ)
 
-      abbrev at71 : Typed.TF T12 O0
-      at71 = λ Ψ. Typed.ask s11 (at70 Ψ)
+      abbrev at71 : Typed.TF T135 O0
+      at71 = λ Ψ. at70 Ψ
 
-      abbrev at72 : Typed.TF T10 O0
-      at72 = λ Ψ. Typed.give s10 (at71 Ψ)
+      abbrev at72 : Typed.TF T135 O0
+      at72 = λ Ψ. at71 Ψ
 
-      abbrev at73 : Typed.TF T10 O0
-      at73 = λ Ψ. at72 Ψ
+      abbrev at73 : Typed.TF T134 O0
+      at73 = λ Ψ. Typed.give s132 (at72 Ψ)
 
-      abbrev at74 : Typed.TF T9 O0
-      at74 = λ Ψ. Typed.pass T9 T10 s8 (at73 Ψ)
+      abbrev at74 : Typed.TF T131 O0
+      at74 = λ Ψ. Typed.both s131 (at73 Ψ)
 
-      abbrev at75 : Typed.TF T8 O0
-      at75 = λ Ψ. Typed.pass T8 T9 s7 (at74 Ψ)
+      abbrev at75 : Typed.TF T131 O0
+      at75 = λ Ψ. at74 Ψ
 
-      abbrev at76 : Typed.TF T7 O0
-      at76 = λ Ψ. Typed.give s6 (at75 Ψ)
+      abbrev at76 : Typed.TF T131 O0
+      at76 = λ Ψ. at75 Ψ
 
-      abbrev at77 : Typed.TF T6 O0
-      at77 = λ Ψ. Typed.give s5 (at76 Ψ)
+      abbrev at77 : Typed.TF T130 O0
+      at77 = λ Ψ. Typed.give s128 (at76 Ψ)
 
-      abbrev at78 : Typed.TF T5 O0
-      at78 = λ Ψ. Typed.give s4 (at77 Ψ)
+      abbrev at78 : Typed.TF T127 O0
+      at78 = λ Ψ. Typed.both s127 (at77 Ψ)
 
-      abbrev at79 : Typed.TF T4 O0
-      at79 = λ Ψ. Typed.give s3 (at78 Ψ)
+      abbrev at79 : Typed.TF T127 O0
+      at79 = λ Ψ. at78 Ψ
 
-      abbrev at80 : Typed.TF T3 O0
-      at80 = λ Ψ. Typed.give s2 (at79 Ψ)
+      abbrev at80 : Typed.TF T127 O0
+      at80 = λ Ψ. at79 Ψ
 
-      abbrev at81 : Typed.TF T2 O0
-      at81 = λ Ψ. Typed.give s1 (at80 Ψ)
+      abbrev at81 : Typed.TF T126 O0
+      at81 = λ Ψ. Typed.give s124 (at80 Ψ)
 
-      abbrev at82 : Typed.TF T0 O0
-      at82 = λ Ψ. Typed.give s0 (at81 Ψ)
+      abbrev at82 : Typed.TF T123 O0
+      at82 = λ Ψ. Typed.both s123 (at81 Ψ)
+
+      abbrev at83 : Typed.TF T123 O0
+      at83 = λ Ψ. at82 Ψ
+
+      abbrev at84 : Typed.TF T123 O0
+      at84 = λ Ψ. at83 Ψ
+
+      abbrev at85 : Typed.TF T120 O0
+      at85 = λ Ψ. Typed.both s120 (at84 Ψ)
+
+      abbrev at86 : Typed.TF T120 O0
+      at86 = λ Ψ. at85 Ψ
+
+      abbrev at87 : Typed.TF T120 O0
+      at87 = λ Ψ. at86 Ψ
+
+      abbrev at88 : Typed.TF T119 O0
+      at88 = λ Ψ. Typed.give s117 (at87 Ψ)
+
+      abbrev at89 : Typed.TF T116 O0
+      at89 = λ Ψ. Typed.both s116 (at88 Ψ)
+
+      abbrev at90 : Typed.TF T116 O0
+      at90 = λ Ψ. at89 Ψ
+
+      abbrev at91 : Typed.TF T116 O0
+      at91 = λ Ψ. at90 Ψ
+
+      abbrev at92 : Typed.TF T115 O0
+      at92 = λ Ψ. Typed.give s113 (at91 Ψ)
+
+      abbrev at93 : Typed.TF T112 O0
+      at93 = λ Ψ. Typed.both s112 (at92 Ψ)
+
+      abbrev at94 : Typed.TF T112 O0
+      at94 = λ Ψ. at93 Ψ
+
+      abbrev at95 : Typed.TF T112 O0
+      at95 = λ Ψ. at94 Ψ
+
+      abbrev at96 : Typed.TF T111 O0
+      at96 = λ Ψ. Typed.give s109 (at95 Ψ)
+
+      abbrev at97 : Typed.TF T108 O0
+      at97 = λ Ψ. Typed.both s108 (at96 Ψ)
+
+      abbrev at98 : Typed.TF T108 O0
+      at98 = λ Ψ. at97 Ψ
+
+      abbrev at99 : Typed.TF T108 O0
+      at99 = λ Ψ. at98 Ψ
+
+      abbrev at100 : Typed.TF T106 O0
+      at100 = λ Ψ. Typed.both s105 (at99 Ψ)
+
+      abbrev at101 : Typed.TF T106 O0
+      at101 = λ Ψ. at100 Ψ
+
+      abbrev at102 : Typed.TF T105 O0
+      at102 = λ Ψ. Typed.pass T105 T106 s103 (at101 Ψ)
+
+      abbrev at103 : Typed.TF T104 O0
+      at103 = λ Ψ. Typed.pass T104 T105 s102 (at102 Ψ)
+
+      abbrev at104 : Typed.TF T103 O0
+      at104 = λ Ψ. Typed.both s101 (at103 Ψ)
+
+      abbrev at105 : Typed.TF T102 O0
+      at105 = λ Ψ. Typed.ask s100 (at104 Ψ)
+
+      abbrev at106 : Typed.TF T100 O0
+      at106 = λ Ψ. Typed.give s99 (at105 Ψ)
+
+      abbrev at107 : Typed.TF T100 O0
+      at107 = λ Ψ. at106 Ψ
+
+      abbrev at108 : Typed.TF T99 O0
+      at108 = λ Ψ. Typed.ask s97 (at107 Ψ)
+
+      abbrev at109 : Typed.TF T97 O0
+      at109 = λ Ψ. Typed.give s96 (at108 Ψ)
+
+      abbrev at110 : Typed.TF T97 O0
+      at110 = λ Ψ. at109 Ψ
+
+      abbrev at111 : Typed.TF T96 O0
+      at111 = λ Ψ. Typed.ask s94 (at110 Ψ)
+
+      abbrev at112 : Typed.TF T94 O0
+      at112 = λ Ψ. Typed.give s93 (at111 Ψ)
+
+      abbrev at113 : Typed.TF T94 O0
+      at113 = λ Ψ. at112 Ψ
+
+      abbrev at114 : Typed.TF T93 O0
+      at114 = λ Ψ. Typed.ask s91 (at113 Ψ)
+
+      abbrev at115 : Typed.TF T91 O0
+      at115 = λ Ψ. Typed.give s90 (at114 Ψ)
+
+      abbrev at116 : Typed.TF T91 O0
+      at116 = λ Ψ. at115 Ψ
+
+      abbrev at117 : Typed.TF T90 O0
+      at117 = λ Ψ. Typed.ask s88 (at116 Ψ)
+
+      abbrev at118 : Typed.TF T88 O0
+      at118 = λ Ψ. Typed.give s87 (at117 Ψ)
+
+      abbrev at119 : Typed.TF T88 O0
+      at119 = λ Ψ. at118 Ψ
+
+      abbrev at120 : Typed.TF T87 O0
+      at120 = λ Ψ. Typed.ask s85 (at119 Ψ)
+
+      abbrev at121 : Typed.TF T85 O0
+      at121 = λ Ψ. Typed.give s84 (at120 Ψ)
+
+      abbrev at122 : Typed.TF T85 O0
+      at122 = λ Ψ. at121 Ψ
+
+      abbrev at123 : Typed.TF T84 O0
+      at123 = λ Ψ. Typed.ask s82 (at122 Ψ)
+
+      abbrev at124 : Typed.TF T82 O0
+      at124 = λ Ψ. Typed.give s81 (at123 Ψ)
+
+      abbrev at125 : Typed.TF T82 O0
+      at125 = λ Ψ. at124 Ψ
+
+      abbrev at126 : Typed.TF T81 O0
+      at126 = λ Ψ. Typed.ask s79 (at125 Ψ)
+
+      abbrev at127 : Typed.TF T79 O0
+      at127 = λ Ψ. Typed.give s78 (at126 Ψ)
+
+      abbrev at128 : Typed.TF T79 O0
+      at128 = λ Ψ. at127 Ψ
+
+      abbrev at129 : Typed.TF T78 O0
+      at129 = λ Ψ. Typed.ask s76 (at128 Ψ)
+
+      abbrev at130 : Typed.TF T35 O0
+      at130 = λ Ψ. Typed.give s75 (at129 Ψ)
+
+      abbrev at131 : Typed.TF T35 O0
+      at131 = λ Ψ. at130 Ψ
+
+      abbrev at132 : Typed.TF T34 O0
+      at132 = λ Ψ. at43 (Typed.wantNext T35 O0 (at131 Ψ) Ψ)
+
+      abbrev at133 : Typed.TF T33 O0
+      at133 = λ Ψ. Typed.both s32 (at132 Ψ)
+
+      abbrev at134 : Typed.TF T32 O0
+      at134 = λ Ψ. Typed.pass T32 T33 s31 (at133 Ψ)
+
+      abbrev at135 : Typed.TF T31 O0
+      at135 = λ Ψ. Typed.pass T31 T32 s30 (at134 Ψ)
+
+      abbrev at136 : Typed.TF T30 O0
+      at136 = λ Ψ. Typed.pass T30 T31 s29 (at135 Ψ)
+
+      abbrev at137 : Typed.TF T29 O0
+      at137 = λ Ψ. Typed.pass T29 T30 s28 (at136 Ψ)
+
+      abbrev at138 : Typed.TF T28 O0
+      at138 = λ Ψ. Typed.pass T28 T29 s27 (at137 Ψ)
+
+      abbrev at139 : Typed.TF T27 O0
+      at139 = λ Ψ. Typed.ask s26 (at138 Ψ)
+
+      abbrev at140 : Typed.TF T25 O0
+      at140 = λ Ψ. Typed.give s25 (at139 Ψ)
+
+      abbrev at141 : Typed.TF T25 O0
+      at141 = λ Ψ. at140 Ψ
+
+      abbrev at142 : Typed.TF T24 O0
+      at142 = λ Ψ. Typed.ask s23 (at141 Ψ)
+
+      abbrev at143 : Typed.TF T22 O0
+      at143 = λ Ψ. Typed.give s22 (at142 Ψ)
+
+      abbrev at144 : Typed.TF T22 O0
+      at144 = λ Ψ. at143 Ψ
+
+      abbrev at145 : Typed.TF T21 O0
+      at145 = λ Ψ. Typed.ask s20 (at144 Ψ)
+
+      abbrev at146 : Typed.TF T19 O0
+      at146 = λ Ψ. Typed.give s19 (at145 Ψ)
+
+      abbrev at147 : Typed.TF T19 O0
+      at147 = λ Ψ. at146 Ψ
+
+      abbrev at148 : Typed.TF T18 O0
+      at148 = λ Ψ. Typed.ask s17 (at147 Ψ)
+
+      abbrev at149 : Typed.TF T16 O0
+      at149 = λ Ψ. Typed.give s16 (at148 Ψ)
+
+      abbrev at150 : Typed.TF T16 O0
+      at150 = λ Ψ. at149 Ψ
+
+      abbrev at151 : Typed.TF T15 O0
+      at151 = λ Ψ. Typed.ask s14 (at150 Ψ)
+
+      abbrev at152 : Typed.TF T13 O0
+      at152 = λ Ψ. Typed.give s13 (at151 Ψ)
+
+      abbrev at153 : Typed.TF T13 O0
+      at153 = λ Ψ. at152 Ψ
+
+      abbrev at154 : Typed.TF T12 O0
+      at154 = λ Ψ. Typed.pass T12 T13 s11 (at153 Ψ)
+
+      abbrev at155 : Typed.TF T11 O0
+      at155 = λ Ψ. Typed.both s10 (at154 Ψ)
+
+      abbrev at156 : Typed.TF T10 O0
+      at156 = λ Ψ. Typed.pass T10 T11 s9 (at155 Ψ)
+
+      abbrev at157 : Typed.TF T9 O0
+      at157 = λ Ψ. Typed.pass T9 T10 s8 (at156 Ψ)
+
+      abbrev at158 : Typed.TF T8 O0
+      at158 = λ Ψ. Typed.pass T8 T9 s7 (at157 Ψ)
+
+      abbrev at159 : Typed.TF T7 O0
+      at159 = λ Ψ. Typed.give s6 (at158 Ψ)
+
+      abbrev at160 : Typed.TF T6 O0
+      at160 = λ Ψ. Typed.give s5 (at159 Ψ)
+
+      abbrev at161 : Typed.TF T5 O0
+      at161 = λ Ψ. Typed.give s4 (at160 Ψ)
+
+      abbrev at162 : Typed.TF T4 O0
+      at162 = λ Ψ. Typed.give s3 (at161 Ψ)
+
+      abbrev at163 : Typed.TF T3 O0
+      at163 = λ Ψ. Typed.give s2 (at162 Ψ)
+
+      abbrev at164 : Typed.TF T2 O0
+      at164 = λ Ψ. Typed.give s1 (at163 Ψ)
+
+      abbrev at165 : Typed.TF T0 O0
+      at165 = λ Ψ. Typed.give s0 (at164 Ψ)
 
       abbrev pub Φ : Typed.TF T0 O0
-      Φ = at82
+      Φ = at165
 
       module _ {M : Type 1} (𝓤 : URA.URA M) (H : Wp.Heap 𝓤) (A : Atoms.Atoms 𝓤) (W : Kit.Given 𝓤 H A) (𝓣 : Wp.Tables 𝓤 H) where
         abbrev Knowns : Type 1
-        Knowns = Plain.Known 𝓤 H A W 𝓣 10 ps·0 r·0 (claims· .0) (claims· .1) "run::run" × Plain.Known 𝓤 H A W 𝓣 0 ps·1 r·1 (claims· .2) (claims· .3) "fithmoul::results::finish_result"
+        Knowns = Plain.Known 𝓤 H A W 𝓣 1 ps·0 r·0 (claims· .0) (claims· .1) "run::answers_short" × Plain.Known 𝓤 H A W 𝓣 7 ps·1 r·1 (claims· .2) (claims· .3) "surface::check_run" × Plain.Known 𝓤 H A W 𝓣 0 ps·2 r·2 (claims· .4) (claims· .5) "fithmoul::results::finish_refused" × Plain.Known 𝓤 H A W 𝓣 10 ps·3 r·3 (claims· .6) (claims· .7) "run::run" × Plain.Known 𝓤 H A W 𝓣 4 ps·4 r·4 (claims· .8) (claims· .9) "surface::store_run" × Plain.Known 𝓤 H A W 𝓣 0 ps·5 r·5 (claims· .10) (claims· .11) "fithmoul::results::finish_result"
 
-      module _ (κs : Lifetimes.Lfts 10) (qs : Lifetimes.Shares 10) where
-        abbrev g6 : List.List Row.Entry
-        g6 = List._∷_ (0, Rows.any-gone ty·23) (List._∷_ (1, Rows.sc-here (Row.sInt Syntax.w32)) (List._∷_ (2, Rows.sc-here (Row.sInt Syntax.w32)) (List._∷_ (3, Rows.sc-here (Row.sInt Syntax.w32)) (List._∷_ (4, Relend.mslice-owed (Signed.SInt Syntax.w32) ty·5 0 10 (Row.lease (κs .0) (qs .0))) (List._∷_ (5, Mut.mslice (Referent.rtF (Referent.fInt Syntax.w32)) ty·6 1) (List._∷_ (6, Mut.mslice (Referent.rtF (Referent.fInt Syntax.w32)) ty·7 2) (List._∷_ (7, Mut.mslice (Referent.rtF (Referent.fInt Syntax.w32)) ty·8 3) (List._∷_ (8, Mut.mslice ELEM.the-row ty·15 4) (List._∷_ (9, Mut.mslice (Referent.rtF (Referent.fInt Syntax.w32)) ty·9 5) (List._∷_ (10, Mut.mslice (Referent.rtF (Referent.fInt Syntax.w32)) ty·10 6) (List._∷_ (11, Mut.mslice (Referent.rtF (Referent.fInt Syntax.w32)) ty·11 7) (List._∷_ (12, Mut.mslice (Referent.rtF (Referent.fInt Syntax.w64)) ty·12 8) (List._∷_ (13, Rows.sc-here (Row.sFloat Ieee.binary64)) (List._∷_ (14, Rows.sc-here (Row.sFloat Ieee.binary64)) (List._∷_ (15, Rows.sslice (Signed.SInt Syntax.w32) ty·13 9) List.[])))))))))))))))
+      module _ (κs : Lifetimes.Lfts 12) (qs : Lifetimes.Shares 12) where
+        abbrev g10 : List.List Row.Entry
+        g10 = List._∷_ (0, Rows.any-gone ty·30) (List._∷_ (1, Rows.sc-here (Row.sInt Syntax.w32)) (List._∷_ (2, Rows.sc-here (Row.sInt Syntax.w32)) (List._∷_ (3, Rows.sc-here (Row.sInt Syntax.w32)) (List._∷_ (4, Reshare.mslice-owedS (Signed.SInt Syntax.w32) ty·7 0 12 (Row.lease (κs .0) (qs .0))) (List._∷_ (5, Mut.mslice (Signed.SInt Syntax.w32) ty·8 1) (List._∷_ (6, Mut.mslice (Referent.rtF (Referent.fInt Syntax.w32)) ty·9 2) (List._∷_ (7, Mut.mslice (Referent.rtF (Referent.fInt Syntax.w32)) ty·10 3) (List._∷_ (8, Mut.mslice (Referent.rtF (Referent.fInt Syntax.w32)) ty·11 4) (List._∷_ (9, Mut.mslice ELEM.the-row ty·19 5) (List._∷_ (10, Mut.mslice (Referent.rtF (Referent.fInt Syntax.w32)) ty·12 6) (List._∷_ (11, Mut.mslice (Referent.rtF (Referent.fInt Syntax.w32)) ty·13 7) (List._∷_ (12, Mut.mslice (Referent.rtF (Referent.fInt Syntax.w32)) ty·14 8) (List._∷_ (13, Mut.mslice (Referent.rtF (Referent.fInt Syntax.w64)) ty·15 9) (List._∷_ (14, Rows.sc-here (Row.sFloat Ieee.binary64)) (List._∷_ (15, Rows.sc-here (Row.sFloat Ieee.binary64)) List.[])))))))))))))))
 
-        abbrev g9 : List.List Row.Entry
-        g9 = List._∷_ (0, Rows.any-gone ty·23) (List._∷_ (1, Rows.sc-here (Row.sInt Syntax.w32)) (List._∷_ (2, Rows.sc-here (Row.sInt Syntax.w32)) (List._∷_ (3, Rows.sc-here (Row.sInt Syntax.w32)) (List._∷_ (4, Relend.mslice-owed (Signed.SInt Syntax.w32) ty·5 0 10 (Row.lease (κs .0) (qs .0))) (List._∷_ (5, Relend.mslice-owed (Referent.rtF (Referent.fInt Syntax.w32)) ty·6 1 11 (Row.lease (κs .1 .0) (qs .1 .0))) (List._∷_ (6, Mut.mslice (Referent.rtF (Referent.fInt Syntax.w32)) ty·7 2) (List._∷_ (7, Mut.mslice (Referent.rtF (Referent.fInt Syntax.w32)) ty·8 3) (List._∷_ (8, Mut.mslice ELEM.the-row ty·15 4) (List._∷_ (9, Mut.mslice (Referent.rtF (Referent.fInt Syntax.w32)) ty·9 5) (List._∷_ (10, Mut.mslice (Referent.rtF (Referent.fInt Syntax.w32)) ty·10 6) (List._∷_ (11, Mut.mslice (Referent.rtF (Referent.fInt Syntax.w32)) ty·11 7) (List._∷_ (12, Mut.mslice (Referent.rtF (Referent.fInt Syntax.w64)) ty·12 8) (List._∷_ (13, Rows.sc-here (Row.sFloat Ieee.binary64)) (List._∷_ (14, Rows.sc-here (Row.sFloat Ieee.binary64)) (List._∷_ (15, Rows.sslice (Signed.SInt Syntax.w32) ty·13 9) List.[])))))))))))))))
+        abbrev g13 : List.List Row.Entry
+        g13 = List._∷_ (0, Rows.any-gone ty·30) (List._∷_ (1, Rows.sc-here (Row.sInt Syntax.w32)) (List._∷_ (2, Rows.sc-here (Row.sInt Syntax.w32)) (List._∷_ (3, Rows.sc-here (Row.sInt Syntax.w32)) (List._∷_ (4, Reshare.mslice-owedS (Signed.SInt Syntax.w32) ty·7 0 12 (Row.lease (κs .0) (qs .0))) (List._∷_ (5, Reshare.mslice-owedS (Signed.SInt Syntax.w32) ty·8 1 13 (Row.lease (κs .1 .0) (qs .1 .0))) (List._∷_ (6, Mut.mslice (Referent.rtF (Referent.fInt Syntax.w32)) ty·9 2) (List._∷_ (7, Mut.mslice (Referent.rtF (Referent.fInt Syntax.w32)) ty·10 3) (List._∷_ (8, Mut.mslice (Referent.rtF (Referent.fInt Syntax.w32)) ty·11 4) (List._∷_ (9, Mut.mslice ELEM.the-row ty·19 5) (List._∷_ (10, Mut.mslice (Referent.rtF (Referent.fInt Syntax.w32)) ty·12 6) (List._∷_ (11, Mut.mslice (Referent.rtF (Referent.fInt Syntax.w32)) ty·13 7) (List._∷_ (12, Mut.mslice (Referent.rtF (Referent.fInt Syntax.w32)) ty·14 8) (List._∷_ (13, Mut.mslice (Referent.rtF (Referent.fInt Syntax.w64)) ty·15 9) (List._∷_ (14, Rows.sc-here (Row.sFloat Ieee.binary64)) (List._∷_ (15, Rows.sc-here (Row.sFloat Ieee.binary64)) List.[])))))))))))))))
 
-        abbrev g12 : List.List Row.Entry
-        g12 = List._∷_ (0, Rows.any-gone ty·23) (List._∷_ (1, Rows.sc-here (Row.sInt Syntax.w32)) (List._∷_ (2, Rows.sc-here (Row.sInt Syntax.w32)) (List._∷_ (3, Rows.sc-here (Row.sInt Syntax.w32)) (List._∷_ (4, Relend.mslice-owed (Signed.SInt Syntax.w32) ty·5 0 10 (Row.lease (κs .0) (qs .0))) (List._∷_ (5, Relend.mslice-owed (Referent.rtF (Referent.fInt Syntax.w32)) ty·6 1 11 (Row.lease (κs .1 .0) (qs .1 .0))) (List._∷_ (6, Relend.mslice-owed (Referent.rtF (Referent.fInt Syntax.w32)) ty·7 2 12 (Row.lease (κs .1 .1 .0) (qs .1 .1 .0))) (List._∷_ (7, Mut.mslice (Referent.rtF (Referent.fInt Syntax.w32)) ty·8 3) (List._∷_ (8, Mut.mslice ELEM.the-row ty·15 4) (List._∷_ (9, Mut.mslice (Referent.rtF (Referent.fInt Syntax.w32)) ty·9 5) (List._∷_ (10, Mut.mslice (Referent.rtF (Referent.fInt Syntax.w32)) ty·10 6) (List._∷_ (11, Mut.mslice (Referent.rtF (Referent.fInt Syntax.w32)) ty·11 7) (List._∷_ (12, Mut.mslice (Referent.rtF (Referent.fInt Syntax.w64)) ty·12 8) (List._∷_ (13, Rows.sc-here (Row.sFloat Ieee.binary64)) (List._∷_ (14, Rows.sc-here (Row.sFloat Ieee.binary64)) (List._∷_ (15, Rows.sslice (Signed.SInt Syntax.w32) ty·13 9) List.[])))))))))))))))
+        abbrev g16 : List.List Row.Entry
+        g16 = List._∷_ (0, Rows.any-gone ty·30) (List._∷_ (1, Rows.sc-here (Row.sInt Syntax.w32)) (List._∷_ (2, Rows.sc-here (Row.sInt Syntax.w32)) (List._∷_ (3, Rows.sc-here (Row.sInt Syntax.w32)) (List._∷_ (4, Reshare.mslice-owedS (Signed.SInt Syntax.w32) ty·7 0 12 (Row.lease (κs .0) (qs .0))) (List._∷_ (5, Reshare.mslice-owedS (Signed.SInt Syntax.w32) ty·8 1 13 (Row.lease (κs .1 .0) (qs .1 .0))) (List._∷_ (6, Reshare.mslice-owedS (Referent.rtF (Referent.fInt Syntax.w32)) ty·9 2 14 (Row.lease (κs .1 .1 .0) (qs .1 .1 .0))) (List._∷_ (7, Mut.mslice (Referent.rtF (Referent.fInt Syntax.w32)) ty·10 3) (List._∷_ (8, Mut.mslice (Referent.rtF (Referent.fInt Syntax.w32)) ty·11 4) (List._∷_ (9, Mut.mslice ELEM.the-row ty·19 5) (List._∷_ (10, Mut.mslice (Referent.rtF (Referent.fInt Syntax.w32)) ty·12 6) (List._∷_ (11, Mut.mslice (Referent.rtF (Referent.fInt Syntax.w32)) ty·13 7) (List._∷_ (12, Mut.mslice (Referent.rtF (Referent.fInt Syntax.w32)) ty·14 8) (List._∷_ (13, Mut.mslice (Referent.rtF (Referent.fInt Syntax.w64)) ty·15 9) (List._∷_ (14, Rows.sc-here (Row.sFloat Ieee.binary64)) (List._∷_ (15, Rows.sc-here (Row.sFloat Ieee.binary64)) List.[])))))))))))))))
 
-        abbrev g15 : List.List Row.Entry
-        g15 = List._∷_ (0, Rows.any-gone ty·23) (List._∷_ (1, Rows.sc-here (Row.sInt Syntax.w32)) (List._∷_ (2, Rows.sc-here (Row.sInt Syntax.w32)) (List._∷_ (3, Rows.sc-here (Row.sInt Syntax.w32)) (List._∷_ (4, Relend.mslice-owed (Signed.SInt Syntax.w32) ty·5 0 10 (Row.lease (κs .0) (qs .0))) (List._∷_ (5, Relend.mslice-owed (Referent.rtF (Referent.fInt Syntax.w32)) ty·6 1 11 (Row.lease (κs .1 .0) (qs .1 .0))) (List._∷_ (6, Relend.mslice-owed (Referent.rtF (Referent.fInt Syntax.w32)) ty·7 2 12 (Row.lease (κs .1 .1 .0) (qs .1 .1 .0))) (List._∷_ (7, Relend.mslice-owed (Referent.rtF (Referent.fInt Syntax.w32)) ty·8 3 13 (Row.lease (κs .1 .1 .1 .0) (qs .1 .1 .1 .0))) (List._∷_ (8, Mut.mslice ELEM.the-row ty·15 4) (List._∷_ (9, Mut.mslice (Referent.rtF (Referent.fInt Syntax.w32)) ty·9 5) (List._∷_ (10, Mut.mslice (Referent.rtF (Referent.fInt Syntax.w32)) ty·10 6) (List._∷_ (11, Mut.mslice (Referent.rtF (Referent.fInt Syntax.w32)) ty·11 7) (List._∷_ (12, Mut.mslice (Referent.rtF (Referent.fInt Syntax.w64)) ty·12 8) (List._∷_ (13, Rows.sc-here (Row.sFloat Ieee.binary64)) (List._∷_ (14, Rows.sc-here (Row.sFloat Ieee.binary64)) (List._∷_ (15, Rows.sslice (Signed.SInt Syntax.w32) ty·13 9) List.[])))))))))))))))
+        abbrev g19 : List.List Row.Entry
+        g19 = List._∷_ (0, Rows.any-gone ty·30) (List._∷_ (1, Rows.sc-here (Row.sInt Syntax.w32)) (List._∷_ (2, Rows.sc-here (Row.sInt Syntax.w32)) (List._∷_ (3, Rows.sc-here (Row.sInt Syntax.w32)) (List._∷_ (4, Reshare.mslice-owedS (Signed.SInt Syntax.w32) ty·7 0 12 (Row.lease (κs .0) (qs .0))) (List._∷_ (5, Reshare.mslice-owedS (Signed.SInt Syntax.w32) ty·8 1 13 (Row.lease (κs .1 .0) (qs .1 .0))) (List._∷_ (6, Reshare.mslice-owedS (Referent.rtF (Referent.fInt Syntax.w32)) ty·9 2 14 (Row.lease (κs .1 .1 .0) (qs .1 .1 .0))) (List._∷_ (7, Reshare.mslice-owedS (Referent.rtF (Referent.fInt Syntax.w32)) ty·10 3 15 (Row.lease (κs .1 .1 .1 .0) (qs .1 .1 .1 .0))) (List._∷_ (8, Mut.mslice (Referent.rtF (Referent.fInt Syntax.w32)) ty·11 4) (List._∷_ (9, Mut.mslice ELEM.the-row ty·19 5) (List._∷_ (10, Mut.mslice (Referent.rtF (Referent.fInt Syntax.w32)) ty·12 6) (List._∷_ (11, Mut.mslice (Referent.rtF (Referent.fInt Syntax.w32)) ty·13 7) (List._∷_ (12, Mut.mslice (Referent.rtF (Referent.fInt Syntax.w32)) ty·14 8) (List._∷_ (13, Mut.mslice (Referent.rtF (Referent.fInt Syntax.w64)) ty·15 9) (List._∷_ (14, Rows.sc-here (Row.sFloat Ieee.binary64)) (List._∷_ (15, Rows.sc-here (Row.sFloat Ieee.binary64)) List.[])))))))))))))))
 
-        abbrev g18 : List.List Row.Entry
-        g18 = List._∷_ (0, Rows.any-gone ty·23) (List._∷_ (1, Rows.sc-here (Row.sInt Syntax.w32)) (List._∷_ (2, Rows.sc-here (Row.sInt Syntax.w32)) (List._∷_ (3, Rows.sc-here (Row.sInt Syntax.w32)) (List._∷_ (4, Relend.mslice-owed (Signed.SInt Syntax.w32) ty·5 0 10 (Row.lease (κs .0) (qs .0))) (List._∷_ (5, Relend.mslice-owed (Referent.rtF (Referent.fInt Syntax.w32)) ty·6 1 11 (Row.lease (κs .1 .0) (qs .1 .0))) (List._∷_ (6, Relend.mslice-owed (Referent.rtF (Referent.fInt Syntax.w32)) ty·7 2 12 (Row.lease (κs .1 .1 .0) (qs .1 .1 .0))) (List._∷_ (7, Relend.mslice-owed (Referent.rtF (Referent.fInt Syntax.w32)) ty·8 3 13 (Row.lease (κs .1 .1 .1 .0) (qs .1 .1 .1 .0))) (List._∷_ (8, Relend.mslice-owed ELEM.the-row ty·15 4 14 (Row.lease (κs .1 .1 .1 .1 .0) (qs .1 .1 .1 .1 .0))) (List._∷_ (9, Mut.mslice (Referent.rtF (Referent.fInt Syntax.w32)) ty·9 5) (List._∷_ (10, Mut.mslice (Referent.rtF (Referent.fInt Syntax.w32)) ty·10 6) (List._∷_ (11, Mut.mslice (Referent.rtF (Referent.fInt Syntax.w32)) ty·11 7) (List._∷_ (12, Mut.mslice (Referent.rtF (Referent.fInt Syntax.w64)) ty·12 8) (List._∷_ (13, Rows.sc-here (Row.sFloat Ieee.binary64)) (List._∷_ (14, Rows.sc-here (Row.sFloat Ieee.binary64)) (List._∷_ (15, Rows.sslice (Signed.SInt Syntax.w32) ty·13 9) List.[])))))))))))))))
+        abbrev g22 : List.List Row.Entry
+        g22 = List._∷_ (0, Rows.any-gone ty·30) (List._∷_ (1, Rows.sc-here (Row.sInt Syntax.w32)) (List._∷_ (2, Rows.sc-here (Row.sInt Syntax.w32)) (List._∷_ (3, Rows.sc-here (Row.sInt Syntax.w32)) (List._∷_ (4, Reshare.mslice-owedS (Signed.SInt Syntax.w32) ty·7 0 12 (Row.lease (κs .0) (qs .0))) (List._∷_ (5, Reshare.mslice-owedS (Signed.SInt Syntax.w32) ty·8 1 13 (Row.lease (κs .1 .0) (qs .1 .0))) (List._∷_ (6, Reshare.mslice-owedS (Referent.rtF (Referent.fInt Syntax.w32)) ty·9 2 14 (Row.lease (κs .1 .1 .0) (qs .1 .1 .0))) (List._∷_ (7, Reshare.mslice-owedS (Referent.rtF (Referent.fInt Syntax.w32)) ty·10 3 15 (Row.lease (κs .1 .1 .1 .0) (qs .1 .1 .1 .0))) (List._∷_ (8, Reshare.mslice-owedS (Referent.rtF (Referent.fInt Syntax.w32)) ty·11 4 16 (Row.lease (κs .1 .1 .1 .1 .0) (qs .1 .1 .1 .1 .0))) (List._∷_ (9, Mut.mslice ELEM.the-row ty·19 5) (List._∷_ (10, Mut.mslice (Referent.rtF (Referent.fInt Syntax.w32)) ty·12 6) (List._∷_ (11, Mut.mslice (Referent.rtF (Referent.fInt Syntax.w32)) ty·13 7) (List._∷_ (12, Mut.mslice (Referent.rtF (Referent.fInt Syntax.w32)) ty·14 8) (List._∷_ (13, Mut.mslice (Referent.rtF (Referent.fInt Syntax.w64)) ty·15 9) (List._∷_ (14, Rows.sc-here (Row.sFloat Ieee.binary64)) (List._∷_ (15, Rows.sc-here (Row.sFloat Ieee.binary64)) List.[])))))))))))))))
 
-        abbrev g21 : List.List Row.Entry
-        g21 = List._∷_ (0, Rows.any-gone ty·23) (List._∷_ (1, Rows.sc-here (Row.sInt Syntax.w32)) (List._∷_ (2, Rows.sc-here (Row.sInt Syntax.w32)) (List._∷_ (3, Rows.sc-here (Row.sInt Syntax.w32)) (List._∷_ (4, Relend.mslice-owed (Signed.SInt Syntax.w32) ty·5 0 10 (Row.lease (κs .0) (qs .0))) (List._∷_ (5, Relend.mslice-owed (Referent.rtF (Referent.fInt Syntax.w32)) ty·6 1 11 (Row.lease (κs .1 .0) (qs .1 .0))) (List._∷_ (6, Relend.mslice-owed (Referent.rtF (Referent.fInt Syntax.w32)) ty·7 2 12 (Row.lease (κs .1 .1 .0) (qs .1 .1 .0))) (List._∷_ (7, Relend.mslice-owed (Referent.rtF (Referent.fInt Syntax.w32)) ty·8 3 13 (Row.lease (κs .1 .1 .1 .0) (qs .1 .1 .1 .0))) (List._∷_ (8, Relend.mslice-owed ELEM.the-row ty·15 4 14 (Row.lease (κs .1 .1 .1 .1 .0) (qs .1 .1 .1 .1 .0))) (List._∷_ (9, Relend.mslice-owed (Referent.rtF (Referent.fInt Syntax.w32)) ty·9 5 15 (Row.lease (κs .1 .1 .1 .1 .1 .0) (qs .1 .1 .1 .1 .1 .0))) (List._∷_ (10, Mut.mslice (Referent.rtF (Referent.fInt Syntax.w32)) ty·10 6) (List._∷_ (11, Mut.mslice (Referent.rtF (Referent.fInt Syntax.w32)) ty·11 7) (List._∷_ (12, Mut.mslice (Referent.rtF (Referent.fInt Syntax.w64)) ty·12 8) (List._∷_ (13, Rows.sc-here (Row.sFloat Ieee.binary64)) (List._∷_ (14, Rows.sc-here (Row.sFloat Ieee.binary64)) (List._∷_ (15, Rows.sslice (Signed.SInt Syntax.w32) ty·13 9) List.[])))))))))))))))
-
-        abbrev g24 : List.List Row.Entry
-        g24 = List._∷_ (0, Rows.any-gone ty·23) (List._∷_ (1, Rows.sc-here (Row.sInt Syntax.w32)) (List._∷_ (2, Rows.sc-here (Row.sInt Syntax.w32)) (List._∷_ (3, Rows.sc-here (Row.sInt Syntax.w32)) (List._∷_ (4, Relend.mslice-owed (Signed.SInt Syntax.w32) ty·5 0 10 (Row.lease (κs .0) (qs .0))) (List._∷_ (5, Relend.mslice-owed (Referent.rtF (Referent.fInt Syntax.w32)) ty·6 1 11 (Row.lease (κs .1 .0) (qs .1 .0))) (List._∷_ (6, Relend.mslice-owed (Referent.rtF (Referent.fInt Syntax.w32)) ty·7 2 12 (Row.lease (κs .1 .1 .0) (qs .1 .1 .0))) (List._∷_ (7, Relend.mslice-owed (Referent.rtF (Referent.fInt Syntax.w32)) ty·8 3 13 (Row.lease (κs .1 .1 .1 .0) (qs .1 .1 .1 .0))) (List._∷_ (8, Relend.mslice-owed ELEM.the-row ty·15 4 14 (Row.lease (κs .1 .1 .1 .1 .0) (qs .1 .1 .1 .1 .0))) (List._∷_ (9, Relend.mslice-owed (Referent.rtF (Referent.fInt Syntax.w32)) ty·9 5 15 (Row.lease (κs .1 .1 .1 .1 .1 .0) (qs .1 .1 .1 .1 .1 .0))) (List._∷_ (10, Relend.mslice-owed (Referent.rtF (Referent.fInt Syntax.w32)) ty·10 6 16 (Row.lease (κs .1 .1 .1 .1 .1 .1 .0) (qs .1 .1 .1 .1 .1 .1 .0))) (List._∷_ (11, Mut.mslice (Referent.rtF (Referent.fInt Syntax.w32)) ty·11 7) (List._∷_ (12, Mut.mslice (Referent.rtF (Referent.fInt Syntax.w64)) ty·12 8) (List._∷_ (13, Rows.sc-here (Row.sFloat Ieee.binary64)) (List._∷_ (14, Rows.sc-here (Row.sFloat Ieee.binary64)) (List._∷_ (15, Rows.sslice (Signed.SInt Syntax.w32) ty·13 9) List.[])))))))))))))))
-
-        abbrev g27 : List.List Row.Entry
-        g27 = List._∷_ (0, Rows.any-gone ty·23) (List._∷_ (1, Rows.sc-here (Row.sInt Syntax.w32)) (List._∷_ (2, Rows.sc-here (Row.sInt Syntax.w32)) (List._∷_ (3, Rows.sc-here (Row.sInt Syntax.w32)) (List._∷_ (4, Relend.mslice-owed (Signed.SInt Syntax.w32) ty·5 0 10 (Row.lease (κs .0) (qs .0))) (List._∷_ (5, Relend.mslice-owed (Referent.rtF (Referent.fInt Syntax.w32)) ty·6 1 11 (Row.lease (κs .1 .0) (qs .1 .0))) (List._∷_ (6, Relend.mslice-owed (Referent.rtF (Referent.fInt Syntax.w32)) ty·7 2 12 (Row.lease (κs .1 .1 .0) (qs .1 .1 .0))) (List._∷_ (7, Relend.mslice-owed (Referent.rtF (Referent.fInt Syntax.w32)) ty·8 3 13 (Row.lease (κs .1 .1 .1 .0) (qs .1 .1 .1 .0))) (List._∷_ (8, Relend.mslice-owed ELEM.the-row ty·15 4 14 (Row.lease (κs .1 .1 .1 .1 .0) (qs .1 .1 .1 .1 .0))) (List._∷_ (9, Relend.mslice-owed (Referent.rtF (Referent.fInt Syntax.w32)) ty·9 5 15 (Row.lease (κs .1 .1 .1 .1 .1 .0) (qs .1 .1 .1 .1 .1 .0))) (List._∷_ (10, Relend.mslice-owed (Referent.rtF (Referent.fInt Syntax.w32)) ty·10 6 16 (Row.lease (κs .1 .1 .1 .1 .1 .1 .0) (qs .1 .1 .1 .1 .1 .1 .0))) (List._∷_ (11, Relend.mslice-owed (Referent.rtF (Referent.fInt Syntax.w32)) ty·11 7 17 (Row.lease (κs .1 .1 .1 .1 .1 .1 .1 .0) (qs .1 .1 .1 .1 .1 .1 .1 .0))) (List._∷_ (12, Mut.mslice (Referent.rtF (Referent.fInt Syntax.w64)) ty·12 8) (List._∷_ (13, Rows.sc-here (Row.sFloat Ieee.binary64)) (List._∷_ (14, Rows.sc-here (Row.sFloat Ieee.binary64)) (List._∷_ (15, Rows.sslice (Signed.SInt Syntax.w32) ty·13 9) List.[])))))))))))))))
-
-        abbrev g30 : List.List Row.Entry
-        g30 = List._∷_ (0, Rows.any-gone ty·23) (List._∷_ (1, Rows.sc-here (Row.sInt Syntax.w32)) (List._∷_ (2, Rows.sc-here (Row.sInt Syntax.w32)) (List._∷_ (3, Rows.sc-here (Row.sInt Syntax.w32)) (List._∷_ (4, Relend.mslice-owed (Signed.SInt Syntax.w32) ty·5 0 10 (Row.lease (κs .0) (qs .0))) (List._∷_ (5, Relend.mslice-owed (Referent.rtF (Referent.fInt Syntax.w32)) ty·6 1 11 (Row.lease (κs .1 .0) (qs .1 .0))) (List._∷_ (6, Relend.mslice-owed (Referent.rtF (Referent.fInt Syntax.w32)) ty·7 2 12 (Row.lease (κs .1 .1 .0) (qs .1 .1 .0))) (List._∷_ (7, Relend.mslice-owed (Referent.rtF (Referent.fInt Syntax.w32)) ty·8 3 13 (Row.lease (κs .1 .1 .1 .0) (qs .1 .1 .1 .0))) (List._∷_ (8, Relend.mslice-owed ELEM.the-row ty·15 4 14 (Row.lease (κs .1 .1 .1 .1 .0) (qs .1 .1 .1 .1 .0))) (List._∷_ (9, Relend.mslice-owed (Referent.rtF (Referent.fInt Syntax.w32)) ty·9 5 15 (Row.lease (κs .1 .1 .1 .1 .1 .0) (qs .1 .1 .1 .1 .1 .0))) (List._∷_ (10, Relend.mslice-owed (Referent.rtF (Referent.fInt Syntax.w32)) ty·10 6 16 (Row.lease (κs .1 .1 .1 .1 .1 .1 .0) (qs .1 .1 .1 .1 .1 .1 .0))) (List._∷_ (11, Relend.mslice-owed (Referent.rtF (Referent.fInt Syntax.w32)) ty·11 7 17 (Row.lease (κs .1 .1 .1 .1 .1 .1 .1 .0) (qs .1 .1 .1 .1 .1 .1 .1 .0))) (List._∷_ (12, Relend.mslice-owed (Referent.rtF (Referent.fInt Syntax.w64)) ty·12 8 18 (Row.lease (κs .1 .1 .1 .1 .1 .1 .1 .1 .0) (qs .1 .1 .1 .1 .1 .1 .1 .1 .0))) (List._∷_ (13, Rows.sc-here (Row.sFloat Ieee.binary64)) (List._∷_ (14, Rows.sc-here (Row.sFloat Ieee.binary64)) (List._∷_ (15, Rows.sslice (Signed.SInt Syntax.w32) ty·13 9) List.[])))))))))))))))
-
-        abbrev g39 : List.List Row.Entry
-        g39 = List._∷_ (0, Rows.any-gone ty·23) (List._∷_ (1, Rows.sc-here (Row.sInt Syntax.w32)) (List._∷_ (2, Rows.sc-here (Row.sInt Syntax.w32)) (List._∷_ (3, Rows.sc-here (Row.sInt Syntax.w32)) (List._∷_ (4, Mut.mslice (Signed.SInt Syntax.w32) ty·5 0) (List._∷_ (5, Relend.mslice-owed (Referent.rtF (Referent.fInt Syntax.w32)) ty·6 1 11 (Row.lease (κs .1 .0) (qs .1 .0))) (List._∷_ (6, Relend.mslice-owed (Referent.rtF (Referent.fInt Syntax.w32)) ty·7 2 12 (Row.lease (κs .1 .1 .0) (qs .1 .1 .0))) (List._∷_ (7, Relend.mslice-owed (Referent.rtF (Referent.fInt Syntax.w32)) ty·8 3 13 (Row.lease (κs .1 .1 .1 .0) (qs .1 .1 .1 .0))) (List._∷_ (8, Relend.mslice-owed ELEM.the-row ty·15 4 14 (Row.lease (κs .1 .1 .1 .1 .0) (qs .1 .1 .1 .1 .0))) (List._∷_ (9, Relend.mslice-owed (Referent.rtF (Referent.fInt Syntax.w32)) ty·9 5 15 (Row.lease (κs .1 .1 .1 .1 .1 .0) (qs .1 .1 .1 .1 .1 .0))) (List._∷_ (10, Relend.mslice-owed (Referent.rtF (Referent.fInt Syntax.w32)) ty·10 6 16 (Row.lease (κs .1 .1 .1 .1 .1 .1 .0) (qs .1 .1 .1 .1 .1 .1 .0))) (List._∷_ (11, Relend.mslice-owed (Referent.rtF (Referent.fInt Syntax.w32)) ty·11 7 17 (Row.lease (κs .1 .1 .1 .1 .1 .1 .1 .0) (qs .1 .1 .1 .1 .1 .1 .1 .0))) (List._∷_ (12, Relend.mslice-owed (Referent.rtF (Referent.fInt Syntax.w64)) ty·12 8 18 (Row.lease (κs .1 .1 .1 .1 .1 .1 .1 .1 .0) (qs .1 .1 .1 .1 .1 .1 .1 .1 .0))) (List._∷_ (13, Rows.sc-here (Row.sFloat Ieee.binary64)) (List._∷_ (14, Rows.sc-here (Row.sFloat Ieee.binary64)) (List._∷_ (15, Rows.sslice (Signed.SInt Syntax.w32) ty·13 9) List.[])))))))))))))))
+        abbrev g40 : List.List Row.Entry
+        g40 = List._∷_ (0, Rows.any-gone ty·30) (List._∷_ (1, Rows.sc-here (Row.sInt Syntax.w32)) (List._∷_ (2, Rows.sc-here (Row.sInt Syntax.w32)) (List._∷_ (3, Rows.sc-here (Row.sInt Syntax.w32)) (List._∷_ (4, Mut.mslice (Signed.SInt Syntax.w32) ty·7 0) (List._∷_ (5, Reshare.mslice-owedS (Signed.SInt Syntax.w32) ty·8 1 13 (Row.lease (κs .1 .0) (qs .1 .0))) (List._∷_ (6, Reshare.mslice-owedS (Referent.rtF (Referent.fInt Syntax.w32)) ty·9 2 14 (Row.lease (κs .1 .1 .0) (qs .1 .1 .0))) (List._∷_ (7, Reshare.mslice-owedS (Referent.rtF (Referent.fInt Syntax.w32)) ty·10 3 15 (Row.lease (κs .1 .1 .1 .0) (qs .1 .1 .1 .0))) (List._∷_ (8, Reshare.mslice-owedS (Referent.rtF (Referent.fInt Syntax.w32)) ty·11 4 16 (Row.lease (κs .1 .1 .1 .1 .0) (qs .1 .1 .1 .1 .0))) (List._∷_ (9, Mut.mslice ELEM.the-row ty·19 5) (List._∷_ (10, Mut.mslice (Referent.rtF (Referent.fInt Syntax.w32)) ty·12 6) (List._∷_ (11, Mut.mslice (Referent.rtF (Referent.fInt Syntax.w32)) ty·13 7) (List._∷_ (12, Mut.mslice (Referent.rtF (Referent.fInt Syntax.w32)) ty·14 8) (List._∷_ (13, Mut.mslice (Referent.rtF (Referent.fInt Syntax.w64)) ty·15 9) (List._∷_ (14, Rows.sc-here (Row.sFloat Ieee.binary64)) (List._∷_ (15, Rows.sc-here (Row.sFloat Ieee.binary64)) List.[])))))))))))))))
 
         abbrev g41 : List.List Row.Entry
-        g41 = List._∷_ (0, Rows.any-gone ty·23) (List._∷_ (1, Rows.sc-here (Row.sInt Syntax.w32)) (List._∷_ (2, Rows.sc-here (Row.sInt Syntax.w32)) (List._∷_ (3, Rows.sc-here (Row.sInt Syntax.w32)) (List._∷_ (4, Mut.mslice (Signed.SInt Syntax.w32) ty·5 0) (List._∷_ (5, Mut.mslice (Referent.rtF (Referent.fInt Syntax.w32)) ty·6 1) (List._∷_ (6, Relend.mslice-owed (Referent.rtF (Referent.fInt Syntax.w32)) ty·7 2 12 (Row.lease (κs .1 .1 .0) (qs .1 .1 .0))) (List._∷_ (7, Relend.mslice-owed (Referent.rtF (Referent.fInt Syntax.w32)) ty·8 3 13 (Row.lease (κs .1 .1 .1 .0) (qs .1 .1 .1 .0))) (List._∷_ (8, Relend.mslice-owed ELEM.the-row ty·15 4 14 (Row.lease (κs .1 .1 .1 .1 .0) (qs .1 .1 .1 .1 .0))) (List._∷_ (9, Relend.mslice-owed (Referent.rtF (Referent.fInt Syntax.w32)) ty·9 5 15 (Row.lease (κs .1 .1 .1 .1 .1 .0) (qs .1 .1 .1 .1 .1 .0))) (List._∷_ (10, Relend.mslice-owed (Referent.rtF (Referent.fInt Syntax.w32)) ty·10 6 16 (Row.lease (κs .1 .1 .1 .1 .1 .1 .0) (qs .1 .1 .1 .1 .1 .1 .0))) (List._∷_ (11, Relend.mslice-owed (Referent.rtF (Referent.fInt Syntax.w32)) ty·11 7 17 (Row.lease (κs .1 .1 .1 .1 .1 .1 .1 .0) (qs .1 .1 .1 .1 .1 .1 .1 .0))) (List._∷_ (12, Relend.mslice-owed (Referent.rtF (Referent.fInt Syntax.w64)) ty·12 8 18 (Row.lease (κs .1 .1 .1 .1 .1 .1 .1 .1 .0) (qs .1 .1 .1 .1 .1 .1 .1 .1 .0))) (List._∷_ (13, Rows.sc-here (Row.sFloat Ieee.binary64)) (List._∷_ (14, Rows.sc-here (Row.sFloat Ieee.binary64)) (List._∷_ (15, Rows.sslice (Signed.SInt Syntax.w32) ty·13 9) List.[])))))))))))))))
+        g41 = List._∷_ (0, Rows.any-gone ty·30) (List._∷_ (1, Rows.sc-here (Row.sInt Syntax.w32)) (List._∷_ (2, Rows.sc-here (Row.sInt Syntax.w32)) (List._∷_ (3, Rows.sc-here (Row.sInt Syntax.w32)) (List._∷_ (4, Mut.mslice (Signed.SInt Syntax.w32) ty·7 0) (List._∷_ (5, Mut.mslice (Signed.SInt Syntax.w32) ty·8 1) (List._∷_ (6, Reshare.mslice-owedS (Referent.rtF (Referent.fInt Syntax.w32)) ty·9 2 14 (Row.lease (κs .1 .1 .0) (qs .1 .1 .0))) (List._∷_ (7, Reshare.mslice-owedS (Referent.rtF (Referent.fInt Syntax.w32)) ty·10 3 15 (Row.lease (κs .1 .1 .1 .0) (qs .1 .1 .1 .0))) (List._∷_ (8, Reshare.mslice-owedS (Referent.rtF (Referent.fInt Syntax.w32)) ty·11 4 16 (Row.lease (κs .1 .1 .1 .1 .0) (qs .1 .1 .1 .1 .0))) (List._∷_ (9, Mut.mslice ELEM.the-row ty·19 5) (List._∷_ (10, Mut.mslice (Referent.rtF (Referent.fInt Syntax.w32)) ty·12 6) (List._∷_ (11, Mut.mslice (Referent.rtF (Referent.fInt Syntax.w32)) ty·13 7) (List._∷_ (12, Mut.mslice (Referent.rtF (Referent.fInt Syntax.w32)) ty·14 8) (List._∷_ (13, Mut.mslice (Referent.rtF (Referent.fInt Syntax.w64)) ty·15 9) (List._∷_ (14, Rows.sc-here (Row.sFloat Ieee.binary64)) (List._∷_ (15, Rows.sc-here (Row.sFloat Ieee.binary64)) List.[])))))))))))))))
+
+        abbrev g42 : List.List Row.Entry
+        g42 = List._∷_ (0, Rows.any-gone ty·30) (List._∷_ (1, Rows.sc-here (Row.sInt Syntax.w32)) (List._∷_ (2, Rows.sc-here (Row.sInt Syntax.w32)) (List._∷_ (3, Rows.sc-here (Row.sInt Syntax.w32)) (List._∷_ (4, Mut.mslice (Signed.SInt Syntax.w32) ty·7 0) (List._∷_ (5, Mut.mslice (Signed.SInt Syntax.w32) ty·8 1) (List._∷_ (6, Mut.mslice (Referent.rtF (Referent.fInt Syntax.w32)) ty·9 2) (List._∷_ (7, Reshare.mslice-owedS (Referent.rtF (Referent.fInt Syntax.w32)) ty·10 3 15 (Row.lease (κs .1 .1 .1 .0) (qs .1 .1 .1 .0))) (List._∷_ (8, Reshare.mslice-owedS (Referent.rtF (Referent.fInt Syntax.w32)) ty·11 4 16 (Row.lease (κs .1 .1 .1 .1 .0) (qs .1 .1 .1 .1 .0))) (List._∷_ (9, Mut.mslice ELEM.the-row ty·19 5) (List._∷_ (10, Mut.mslice (Referent.rtF (Referent.fInt Syntax.w32)) ty·12 6) (List._∷_ (11, Mut.mslice (Referent.rtF (Referent.fInt Syntax.w32)) ty·13 7) (List._∷_ (12, Mut.mslice (Referent.rtF (Referent.fInt Syntax.w32)) ty·14 8) (List._∷_ (13, Mut.mslice (Referent.rtF (Referent.fInt Syntax.w64)) ty·15 9) (List._∷_ (14, Rows.sc-here (Row.sFloat Ieee.binary64)) (List._∷_ (15, Rows.sc-here (Row.sFloat Ieee.binary64)) List.[])))))))))))))))
 
         abbrev g43 : List.List Row.Entry
-        g43 = List._∷_ (0, Rows.any-gone ty·23) (List._∷_ (1, Rows.sc-here (Row.sInt Syntax.w32)) (List._∷_ (2, Rows.sc-here (Row.sInt Syntax.w32)) (List._∷_ (3, Rows.sc-here (Row.sInt Syntax.w32)) (List._∷_ (4, Mut.mslice (Signed.SInt Syntax.w32) ty·5 0) (List._∷_ (5, Mut.mslice (Referent.rtF (Referent.fInt Syntax.w32)) ty·6 1) (List._∷_ (6, Mut.mslice (Referent.rtF (Referent.fInt Syntax.w32)) ty·7 2) (List._∷_ (7, Relend.mslice-owed (Referent.rtF (Referent.fInt Syntax.w32)) ty·8 3 13 (Row.lease (κs .1 .1 .1 .0) (qs .1 .1 .1 .0))) (List._∷_ (8, Relend.mslice-owed ELEM.the-row ty·15 4 14 (Row.lease (κs .1 .1 .1 .1 .0) (qs .1 .1 .1 .1 .0))) (List._∷_ (9, Relend.mslice-owed (Referent.rtF (Referent.fInt Syntax.w32)) ty·9 5 15 (Row.lease (κs .1 .1 .1 .1 .1 .0) (qs .1 .1 .1 .1 .1 .0))) (List._∷_ (10, Relend.mslice-owed (Referent.rtF (Referent.fInt Syntax.w32)) ty·10 6 16 (Row.lease (κs .1 .1 .1 .1 .1 .1 .0) (qs .1 .1 .1 .1 .1 .1 .0))) (List._∷_ (11, Relend.mslice-owed (Referent.rtF (Referent.fInt Syntax.w32)) ty·11 7 17 (Row.lease (κs .1 .1 .1 .1 .1 .1 .1 .0) (qs .1 .1 .1 .1 .1 .1 .1 .0))) (List._∷_ (12, Relend.mslice-owed (Referent.rtF (Referent.fInt Syntax.w64)) ty·12 8 18 (Row.lease (κs .1 .1 .1 .1 .1 .1 .1 .1 .0) (qs .1 .1 .1 .1 .1 .1 .1 .1 .0))) (List._∷_ (13, Rows.sc-here (Row.sFloat Ieee.binary64)) (List._∷_ (14, Rows.sc-here (Row.sFloat Ieee.binary64)) (List._∷_ (15, Rows.sslice (Signed.SInt Syntax.w32) ty·13 9) List.[])))))))))))))))
+        g43 = List._∷_ (0, Rows.any-gone ty·30) (List._∷_ (1, Rows.sc-here (Row.sInt Syntax.w32)) (List._∷_ (2, Rows.sc-here (Row.sInt Syntax.w32)) (List._∷_ (3, Rows.sc-here (Row.sInt Syntax.w32)) (List._∷_ (4, Mut.mslice (Signed.SInt Syntax.w32) ty·7 0) (List._∷_ (5, Mut.mslice (Signed.SInt Syntax.w32) ty·8 1) (List._∷_ (6, Mut.mslice (Referent.rtF (Referent.fInt Syntax.w32)) ty·9 2) (List._∷_ (7, Mut.mslice (Referent.rtF (Referent.fInt Syntax.w32)) ty·10 3) (List._∷_ (8, Reshare.mslice-owedS (Referent.rtF (Referent.fInt Syntax.w32)) ty·11 4 16 (Row.lease (κs .1 .1 .1 .1 .0) (qs .1 .1 .1 .1 .0))) (List._∷_ (9, Mut.mslice ELEM.the-row ty·19 5) (List._∷_ (10, Mut.mslice (Referent.rtF (Referent.fInt Syntax.w32)) ty·12 6) (List._∷_ (11, Mut.mslice (Referent.rtF (Referent.fInt Syntax.w32)) ty·13 7) (List._∷_ (12, Mut.mslice (Referent.rtF (Referent.fInt Syntax.w32)) ty·14 8) (List._∷_ (13, Mut.mslice (Referent.rtF (Referent.fInt Syntax.w64)) ty·15 9) (List._∷_ (14, Rows.sc-here (Row.sFloat Ieee.binary64)) (List._∷_ (15, Rows.sc-here (Row.sFloat Ieee.binary64)) List.[])))))))))))))))
 
-        abbrev g45 : List.List Row.Entry
-        g45 = List._∷_ (0, Rows.any-gone ty·23) (List._∷_ (1, Rows.sc-here (Row.sInt Syntax.w32)) (List._∷_ (2, Rows.sc-here (Row.sInt Syntax.w32)) (List._∷_ (3, Rows.sc-here (Row.sInt Syntax.w32)) (List._∷_ (4, Mut.mslice (Signed.SInt Syntax.w32) ty·5 0) (List._∷_ (5, Mut.mslice (Referent.rtF (Referent.fInt Syntax.w32)) ty·6 1) (List._∷_ (6, Mut.mslice (Referent.rtF (Referent.fInt Syntax.w32)) ty·7 2) (List._∷_ (7, Mut.mslice (Referent.rtF (Referent.fInt Syntax.w32)) ty·8 3) (List._∷_ (8, Relend.mslice-owed ELEM.the-row ty·15 4 14 (Row.lease (κs .1 .1 .1 .1 .0) (qs .1 .1 .1 .1 .0))) (List._∷_ (9, Relend.mslice-owed (Referent.rtF (Referent.fInt Syntax.w32)) ty·9 5 15 (Row.lease (κs .1 .1 .1 .1 .1 .0) (qs .1 .1 .1 .1 .1 .0))) (List._∷_ (10, Relend.mslice-owed (Referent.rtF (Referent.fInt Syntax.w32)) ty·10 6 16 (Row.lease (κs .1 .1 .1 .1 .1 .1 .0) (qs .1 .1 .1 .1 .1 .1 .0))) (List._∷_ (11, Relend.mslice-owed (Referent.rtF (Referent.fInt Syntax.w32)) ty·11 7 17 (Row.lease (κs .1 .1 .1 .1 .1 .1 .1 .0) (qs .1 .1 .1 .1 .1 .1 .1 .0))) (List._∷_ (12, Relend.mslice-owed (Referent.rtF (Referent.fInt Syntax.w64)) ty·12 8 18 (Row.lease (κs .1 .1 .1 .1 .1 .1 .1 .1 .0) (qs .1 .1 .1 .1 .1 .1 .1 .1 .0))) (List._∷_ (13, Rows.sc-here (Row.sFloat Ieee.binary64)) (List._∷_ (14, Rows.sc-here (Row.sFloat Ieee.binary64)) (List._∷_ (15, Rows.sslice (Signed.SInt Syntax.w32) ty·13 9) List.[])))))))))))))))
+        abbrev g56 : List.List Row.Entry
+        g56 = List._∷_ (0, Rows.any-gone ty·30) (List._∷_ (1, Rows.sc-here (Row.sInt Syntax.w32)) (List._∷_ (2, Rows.sc-here (Row.sInt Syntax.w32)) (List._∷_ (3, Rows.sc-here (Row.sInt Syntax.w32)) (List._∷_ (4, Relend.mslice-owed (Signed.SInt Syntax.w32) ty·7 0 17 (Row.lease (κs .0) (qs .0))) (List._∷_ (5, Mut.mslice (Signed.SInt Syntax.w32) ty·8 1) (List._∷_ (6, Mut.mslice (Referent.rtF (Referent.fInt Syntax.w32)) ty·9 2) (List._∷_ (7, Mut.mslice (Referent.rtF (Referent.fInt Syntax.w32)) ty·10 3) (List._∷_ (8, Mut.mslice (Referent.rtF (Referent.fInt Syntax.w32)) ty·11 4) (List._∷_ (9, Mut.mslice ELEM.the-row ty·19 5) (List._∷_ (10, Mut.mslice (Referent.rtF (Referent.fInt Syntax.w32)) ty·12 6) (List._∷_ (11, Mut.mslice (Referent.rtF (Referent.fInt Syntax.w32)) ty·13 7) (List._∷_ (12, Mut.mslice (Referent.rtF (Referent.fInt Syntax.w32)) ty·14 8) (List._∷_ (13, Mut.mslice (Referent.rtF (Referent.fInt Syntax.w64)) ty·15 9) (List._∷_ (14, Rows.sc-here (Row.sFloat Ieee.binary64)) (List._∷_ (15, Rows.sc-here (Row.sFloat Ieee.binary64)) List.[])))))))))))))))
 
-        abbrev g47 : List.List Row.Entry
-        g47 = List._∷_ (0, Rows.any-gone ty·23) (List._∷_ (1, Rows.sc-here (Row.sInt Syntax.w32)) (List._∷_ (2, Rows.sc-here (Row.sInt Syntax.w32)) (List._∷_ (3, Rows.sc-here (Row.sInt Syntax.w32)) (List._∷_ (4, Mut.mslice (Signed.SInt Syntax.w32) ty·5 0) (List._∷_ (5, Mut.mslice (Referent.rtF (Referent.fInt Syntax.w32)) ty·6 1) (List._∷_ (6, Mut.mslice (Referent.rtF (Referent.fInt Syntax.w32)) ty·7 2) (List._∷_ (7, Mut.mslice (Referent.rtF (Referent.fInt Syntax.w32)) ty·8 3) (List._∷_ (8, Mut.mslice ELEM.the-row ty·15 4) (List._∷_ (9, Relend.mslice-owed (Referent.rtF (Referent.fInt Syntax.w32)) ty·9 5 15 (Row.lease (κs .1 .1 .1 .1 .1 .0) (qs .1 .1 .1 .1 .1 .0))) (List._∷_ (10, Relend.mslice-owed (Referent.rtF (Referent.fInt Syntax.w32)) ty·10 6 16 (Row.lease (κs .1 .1 .1 .1 .1 .1 .0) (qs .1 .1 .1 .1 .1 .1 .0))) (List._∷_ (11, Relend.mslice-owed (Referent.rtF (Referent.fInt Syntax.w32)) ty·11 7 17 (Row.lease (κs .1 .1 .1 .1 .1 .1 .1 .0) (qs .1 .1 .1 .1 .1 .1 .1 .0))) (List._∷_ (12, Relend.mslice-owed (Referent.rtF (Referent.fInt Syntax.w64)) ty·12 8 18 (Row.lease (κs .1 .1 .1 .1 .1 .1 .1 .1 .0) (qs .1 .1 .1 .1 .1 .1 .1 .1 .0))) (List._∷_ (13, Rows.sc-here (Row.sFloat Ieee.binary64)) (List._∷_ (14, Rows.sc-here (Row.sFloat Ieee.binary64)) (List._∷_ (15, Rows.sslice (Signed.SInt Syntax.w32) ty·13 9) List.[])))))))))))))))
+        abbrev g59 : List.List Row.Entry
+        g59 = List._∷_ (0, Rows.any-gone ty·30) (List._∷_ (1, Rows.sc-here (Row.sInt Syntax.w32)) (List._∷_ (2, Rows.sc-here (Row.sInt Syntax.w32)) (List._∷_ (3, Rows.sc-here (Row.sInt Syntax.w32)) (List._∷_ (4, Relend.mslice-owed (Signed.SInt Syntax.w32) ty·7 0 17 (Row.lease (κs .0) (qs .0))) (List._∷_ (5, Mut.mslice (Signed.SInt Syntax.w32) ty·8 1) (List._∷_ (6, Relend.mslice-owed (Referent.rtF (Referent.fInt Syntax.w32)) ty·9 2 18 (Row.lease (κs .1 .1 .0) (qs .1 .1 .0))) (List._∷_ (7, Mut.mslice (Referent.rtF (Referent.fInt Syntax.w32)) ty·10 3) (List._∷_ (8, Mut.mslice (Referent.rtF (Referent.fInt Syntax.w32)) ty·11 4) (List._∷_ (9, Mut.mslice ELEM.the-row ty·19 5) (List._∷_ (10, Mut.mslice (Referent.rtF (Referent.fInt Syntax.w32)) ty·12 6) (List._∷_ (11, Mut.mslice (Referent.rtF (Referent.fInt Syntax.w32)) ty·13 7) (List._∷_ (12, Mut.mslice (Referent.rtF (Referent.fInt Syntax.w32)) ty·14 8) (List._∷_ (13, Mut.mslice (Referent.rtF (Referent.fInt Syntax.w64)) ty·15 9) (List._∷_ (14, Rows.sc-here (Row.sFloat Ieee.binary64)) (List._∷_ (15, Rows.sc-here (Row.sFloat Ieee.binary64)) List.[])))))))))))))))
 
-        abbrev g49 : List.List Row.Entry
-        g49 = List._∷_ (0, Rows.any-gone ty·23) (List._∷_ (1, Rows.sc-here (Row.sInt Syntax.w32)) (List._∷_ (2, Rows.sc-here (Row.sInt Syntax.w32)) (List._∷_ (3, Rows.sc-here (Row.sInt Syntax.w32)) (List._∷_ (4, Mut.mslice (Signed.SInt Syntax.w32) ty·5 0) (List._∷_ (5, Mut.mslice (Referent.rtF (Referent.fInt Syntax.w32)) ty·6 1) (List._∷_ (6, Mut.mslice (Referent.rtF (Referent.fInt Syntax.w32)) ty·7 2) (List._∷_ (7, Mut.mslice (Referent.rtF (Referent.fInt Syntax.w32)) ty·8 3) (List._∷_ (8, Mut.mslice ELEM.the-row ty·15 4) (List._∷_ (9, Mut.mslice (Referent.rtF (Referent.fInt Syntax.w32)) ty·9 5) (List._∷_ (10, Relend.mslice-owed (Referent.rtF (Referent.fInt Syntax.w32)) ty·10 6 16 (Row.lease (κs .1 .1 .1 .1 .1 .1 .0) (qs .1 .1 .1 .1 .1 .1 .0))) (List._∷_ (11, Relend.mslice-owed (Referent.rtF (Referent.fInt Syntax.w32)) ty·11 7 17 (Row.lease (κs .1 .1 .1 .1 .1 .1 .1 .0) (qs .1 .1 .1 .1 .1 .1 .1 .0))) (List._∷_ (12, Relend.mslice-owed (Referent.rtF (Referent.fInt Syntax.w64)) ty·12 8 18 (Row.lease (κs .1 .1 .1 .1 .1 .1 .1 .1 .0) (qs .1 .1 .1 .1 .1 .1 .1 .1 .0))) (List._∷_ (13, Rows.sc-here (Row.sFloat Ieee.binary64)) (List._∷_ (14, Rows.sc-here (Row.sFloat Ieee.binary64)) (List._∷_ (15, Rows.sslice (Signed.SInt Syntax.w32) ty·13 9) List.[])))))))))))))))
+        abbrev g62 : List.List Row.Entry
+        g62 = List._∷_ (0, Rows.any-gone ty·30) (List._∷_ (1, Rows.sc-here (Row.sInt Syntax.w32)) (List._∷_ (2, Rows.sc-here (Row.sInt Syntax.w32)) (List._∷_ (3, Rows.sc-here (Row.sInt Syntax.w32)) (List._∷_ (4, Relend.mslice-owed (Signed.SInt Syntax.w32) ty·7 0 17 (Row.lease (κs .0) (qs .0))) (List._∷_ (5, Mut.mslice (Signed.SInt Syntax.w32) ty·8 1) (List._∷_ (6, Relend.mslice-owed (Referent.rtF (Referent.fInt Syntax.w32)) ty·9 2 18 (Row.lease (κs .1 .1 .0) (qs .1 .1 .0))) (List._∷_ (7, Relend.mslice-owed (Referent.rtF (Referent.fInt Syntax.w32)) ty·10 3 19 (Row.lease (κs .1 .1 .1 .0) (qs .1 .1 .1 .0))) (List._∷_ (8, Mut.mslice (Referent.rtF (Referent.fInt Syntax.w32)) ty·11 4) (List._∷_ (9, Mut.mslice ELEM.the-row ty·19 5) (List._∷_ (10, Mut.mslice (Referent.rtF (Referent.fInt Syntax.w32)) ty·12 6) (List._∷_ (11, Mut.mslice (Referent.rtF (Referent.fInt Syntax.w32)) ty·13 7) (List._∷_ (12, Mut.mslice (Referent.rtF (Referent.fInt Syntax.w32)) ty·14 8) (List._∷_ (13, Mut.mslice (Referent.rtF (Referent.fInt Syntax.w64)) ty·15 9) (List._∷_ (14, Rows.sc-here (Row.sFloat Ieee.binary64)) (List._∷_ (15, Rows.sc-here (Row.sFloat Ieee.binary64)) List.[])))))))))))))))
 
-        abbrev g51 : List.List Row.Entry
-        g51 = List._∷_ (0, Rows.any-gone ty·23) (List._∷_ (1, Rows.sc-here (Row.sInt Syntax.w32)) (List._∷_ (2, Rows.sc-here (Row.sInt Syntax.w32)) (List._∷_ (3, Rows.sc-here (Row.sInt Syntax.w32)) (List._∷_ (4, Mut.mslice (Signed.SInt Syntax.w32) ty·5 0) (List._∷_ (5, Mut.mslice (Referent.rtF (Referent.fInt Syntax.w32)) ty·6 1) (List._∷_ (6, Mut.mslice (Referent.rtF (Referent.fInt Syntax.w32)) ty·7 2) (List._∷_ (7, Mut.mslice (Referent.rtF (Referent.fInt Syntax.w32)) ty·8 3) (List._∷_ (8, Mut.mslice ELEM.the-row ty·15 4) (List._∷_ (9, Mut.mslice (Referent.rtF (Referent.fInt Syntax.w32)) ty·9 5) (List._∷_ (10, Mut.mslice (Referent.rtF (Referent.fInt Syntax.w32)) ty·10 6) (List._∷_ (11, Relend.mslice-owed (Referent.rtF (Referent.fInt Syntax.w32)) ty·11 7 17 (Row.lease (κs .1 .1 .1 .1 .1 .1 .1 .0) (qs .1 .1 .1 .1 .1 .1 .1 .0))) (List._∷_ (12, Relend.mslice-owed (Referent.rtF (Referent.fInt Syntax.w64)) ty·12 8 18 (Row.lease (κs .1 .1 .1 .1 .1 .1 .1 .1 .0) (qs .1 .1 .1 .1 .1 .1 .1 .1 .0))) (List._∷_ (13, Rows.sc-here (Row.sFloat Ieee.binary64)) (List._∷_ (14, Rows.sc-here (Row.sFloat Ieee.binary64)) (List._∷_ (15, Rows.sslice (Signed.SInt Syntax.w32) ty·13 9) List.[])))))))))))))))
+        abbrev g65 : List.List Row.Entry
+        g65 = List._∷_ (0, Rows.any-gone ty·30) (List._∷_ (1, Rows.sc-here (Row.sInt Syntax.w32)) (List._∷_ (2, Rows.sc-here (Row.sInt Syntax.w32)) (List._∷_ (3, Rows.sc-here (Row.sInt Syntax.w32)) (List._∷_ (4, Relend.mslice-owed (Signed.SInt Syntax.w32) ty·7 0 17 (Row.lease (κs .0) (qs .0))) (List._∷_ (5, Mut.mslice (Signed.SInt Syntax.w32) ty·8 1) (List._∷_ (6, Relend.mslice-owed (Referent.rtF (Referent.fInt Syntax.w32)) ty·9 2 18 (Row.lease (κs .1 .1 .0) (qs .1 .1 .0))) (List._∷_ (7, Relend.mslice-owed (Referent.rtF (Referent.fInt Syntax.w32)) ty·10 3 19 (Row.lease (κs .1 .1 .1 .0) (qs .1 .1 .1 .0))) (List._∷_ (8, Relend.mslice-owed (Referent.rtF (Referent.fInt Syntax.w32)) ty·11 4 20 (Row.lease (κs .1 .1 .1 .1 .0) (qs .1 .1 .1 .1 .0))) (List._∷_ (9, Mut.mslice ELEM.the-row ty·19 5) (List._∷_ (10, Mut.mslice (Referent.rtF (Referent.fInt Syntax.w32)) ty·12 6) (List._∷_ (11, Mut.mslice (Referent.rtF (Referent.fInt Syntax.w32)) ty·13 7) (List._∷_ (12, Mut.mslice (Referent.rtF (Referent.fInt Syntax.w32)) ty·14 8) (List._∷_ (13, Mut.mslice (Referent.rtF (Referent.fInt Syntax.w64)) ty·15 9) (List._∷_ (14, Rows.sc-here (Row.sFloat Ieee.binary64)) (List._∷_ (15, Rows.sc-here (Row.sFloat Ieee.binary64)) List.[])))))))))))))))
 
-        abbrev g53 : List.List Row.Entry
-        g53 = List._∷_ (0, Rows.any-gone ty·23) (List._∷_ (1, Rows.sc-here (Row.sInt Syntax.w32)) (List._∷_ (2, Rows.sc-here (Row.sInt Syntax.w32)) (List._∷_ (3, Rows.sc-here (Row.sInt Syntax.w32)) (List._∷_ (4, Mut.mslice (Signed.SInt Syntax.w32) ty·5 0) (List._∷_ (5, Mut.mslice (Referent.rtF (Referent.fInt Syntax.w32)) ty·6 1) (List._∷_ (6, Mut.mslice (Referent.rtF (Referent.fInt Syntax.w32)) ty·7 2) (List._∷_ (7, Mut.mslice (Referent.rtF (Referent.fInt Syntax.w32)) ty·8 3) (List._∷_ (8, Mut.mslice ELEM.the-row ty·15 4) (List._∷_ (9, Mut.mslice (Referent.rtF (Referent.fInt Syntax.w32)) ty·9 5) (List._∷_ (10, Mut.mslice (Referent.rtF (Referent.fInt Syntax.w32)) ty·10 6) (List._∷_ (11, Mut.mslice (Referent.rtF (Referent.fInt Syntax.w32)) ty·11 7) (List._∷_ (12, Relend.mslice-owed (Referent.rtF (Referent.fInt Syntax.w64)) ty·12 8 18 (Row.lease (κs .1 .1 .1 .1 .1 .1 .1 .1 .0) (qs .1 .1 .1 .1 .1 .1 .1 .1 .0))) (List._∷_ (13, Rows.sc-here (Row.sFloat Ieee.binary64)) (List._∷_ (14, Rows.sc-here (Row.sFloat Ieee.binary64)) (List._∷_ (15, Rows.sslice (Signed.SInt Syntax.w32) ty·13 9) List.[])))))))))))))))
+        abbrev g68 : List.List Row.Entry
+        g68 = List._∷_ (0, Rows.any-gone ty·30) (List._∷_ (1, Rows.sc-here (Row.sInt Syntax.w32)) (List._∷_ (2, Rows.sc-here (Row.sInt Syntax.w32)) (List._∷_ (3, Rows.sc-here (Row.sInt Syntax.w32)) (List._∷_ (4, Relend.mslice-owed (Signed.SInt Syntax.w32) ty·7 0 17 (Row.lease (κs .0) (qs .0))) (List._∷_ (5, Mut.mslice (Signed.SInt Syntax.w32) ty·8 1) (List._∷_ (6, Relend.mslice-owed (Referent.rtF (Referent.fInt Syntax.w32)) ty·9 2 18 (Row.lease (κs .1 .1 .0) (qs .1 .1 .0))) (List._∷_ (7, Relend.mslice-owed (Referent.rtF (Referent.fInt Syntax.w32)) ty·10 3 19 (Row.lease (κs .1 .1 .1 .0) (qs .1 .1 .1 .0))) (List._∷_ (8, Relend.mslice-owed (Referent.rtF (Referent.fInt Syntax.w32)) ty·11 4 20 (Row.lease (κs .1 .1 .1 .1 .0) (qs .1 .1 .1 .1 .0))) (List._∷_ (9, Relend.mslice-owed ELEM.the-row ty·19 5 21 (Row.lease (κs .1 .1 .1 .1 .1 .0) (qs .1 .1 .1 .1 .1 .0))) (List._∷_ (10, Mut.mslice (Referent.rtF (Referent.fInt Syntax.w32)) ty·12 6) (List._∷_ (11, Mut.mslice (Referent.rtF (Referent.fInt Syntax.w32)) ty·13 7) (List._∷_ (12, Mut.mslice (Referent.rtF (Referent.fInt Syntax.w32)) ty·14 8) (List._∷_ (13, Mut.mslice (Referent.rtF (Referent.fInt Syntax.w64)) ty·15 9) (List._∷_ (14, Rows.sc-here (Row.sFloat Ieee.binary64)) (List._∷_ (15, Rows.sc-here (Row.sFloat Ieee.binary64)) List.[])))))))))))))))
+
+        abbrev g71 : List.List Row.Entry
+        g71 = List._∷_ (0, Rows.any-gone ty·30) (List._∷_ (1, Rows.sc-here (Row.sInt Syntax.w32)) (List._∷_ (2, Rows.sc-here (Row.sInt Syntax.w32)) (List._∷_ (3, Rows.sc-here (Row.sInt Syntax.w32)) (List._∷_ (4, Relend.mslice-owed (Signed.SInt Syntax.w32) ty·7 0 17 (Row.lease (κs .0) (qs .0))) (List._∷_ (5, Mut.mslice (Signed.SInt Syntax.w32) ty·8 1) (List._∷_ (6, Relend.mslice-owed (Referent.rtF (Referent.fInt Syntax.w32)) ty·9 2 18 (Row.lease (κs .1 .1 .0) (qs .1 .1 .0))) (List._∷_ (7, Relend.mslice-owed (Referent.rtF (Referent.fInt Syntax.w32)) ty·10 3 19 (Row.lease (κs .1 .1 .1 .0) (qs .1 .1 .1 .0))) (List._∷_ (8, Relend.mslice-owed (Referent.rtF (Referent.fInt Syntax.w32)) ty·11 4 20 (Row.lease (κs .1 .1 .1 .1 .0) (qs .1 .1 .1 .1 .0))) (List._∷_ (9, Relend.mslice-owed ELEM.the-row ty·19 5 21 (Row.lease (κs .1 .1 .1 .1 .1 .0) (qs .1 .1 .1 .1 .1 .0))) (List._∷_ (10, Relend.mslice-owed (Referent.rtF (Referent.fInt Syntax.w32)) ty·12 6 22 (Row.lease (κs .1 .1 .1 .1 .1 .1 .0) (qs .1 .1 .1 .1 .1 .1 .0))) (List._∷_ (11, Mut.mslice (Referent.rtF (Referent.fInt Syntax.w32)) ty·13 7) (List._∷_ (12, Mut.mslice (Referent.rtF (Referent.fInt Syntax.w32)) ty·14 8) (List._∷_ (13, Mut.mslice (Referent.rtF (Referent.fInt Syntax.w64)) ty·15 9) (List._∷_ (14, Rows.sc-here (Row.sFloat Ieee.binary64)) (List._∷_ (15, Rows.sc-here (Row.sFloat Ieee.binary64)) List.[])))))))))))))))
+
+        abbrev g74 : List.List Row.Entry
+        g74 = List._∷_ (0, Rows.any-gone ty·30) (List._∷_ (1, Rows.sc-here (Row.sInt Syntax.w32)) (List._∷_ (2, Rows.sc-here (Row.sInt Syntax.w32)) (List._∷_ (3, Rows.sc-here (Row.sInt Syntax.w32)) (List._∷_ (4, Relend.mslice-owed (Signed.SInt Syntax.w32) ty·7 0 17 (Row.lease (κs .0) (qs .0))) (List._∷_ (5, Mut.mslice (Signed.SInt Syntax.w32) ty·8 1) (List._∷_ (6, Relend.mslice-owed (Referent.rtF (Referent.fInt Syntax.w32)) ty·9 2 18 (Row.lease (κs .1 .1 .0) (qs .1 .1 .0))) (List._∷_ (7, Relend.mslice-owed (Referent.rtF (Referent.fInt Syntax.w32)) ty·10 3 19 (Row.lease (κs .1 .1 .1 .0) (qs .1 .1 .1 .0))) (List._∷_ (8, Relend.mslice-owed (Referent.rtF (Referent.fInt Syntax.w32)) ty·11 4 20 (Row.lease (κs .1 .1 .1 .1 .0) (qs .1 .1 .1 .1 .0))) (List._∷_ (9, Relend.mslice-owed ELEM.the-row ty·19 5 21 (Row.lease (κs .1 .1 .1 .1 .1 .0) (qs .1 .1 .1 .1 .1 .0))) (List._∷_ (10, Relend.mslice-owed (Referent.rtF (Referent.fInt Syntax.w32)) ty·12 6 22 (Row.lease (κs .1 .1 .1 .1 .1 .1 .0) (qs .1 .1 .1 .1 .1 .1 .0))) (List._∷_ (11, Relend.mslice-owed (Referent.rtF (Referent.fInt Syntax.w32)) ty·13 7 23 (Row.lease (κs .1 .1 .1 .1 .1 .1 .1 .0) (qs .1 .1 .1 .1 .1 .1 .1 .0))) (List._∷_ (12, Mut.mslice (Referent.rtF (Referent.fInt Syntax.w32)) ty·14 8) (List._∷_ (13, Mut.mslice (Referent.rtF (Referent.fInt Syntax.w64)) ty·15 9) (List._∷_ (14, Rows.sc-here (Row.sFloat Ieee.binary64)) (List._∷_ (15, Rows.sc-here (Row.sFloat Ieee.binary64)) List.[])))))))))))))))
+
+        abbrev g77 : List.List Row.Entry
+        g77 = List._∷_ (0, Rows.any-gone ty·30) (List._∷_ (1, Rows.sc-here (Row.sInt Syntax.w32)) (List._∷_ (2, Rows.sc-here (Row.sInt Syntax.w32)) (List._∷_ (3, Rows.sc-here (Row.sInt Syntax.w32)) (List._∷_ (4, Relend.mslice-owed (Signed.SInt Syntax.w32) ty·7 0 17 (Row.lease (κs .0) (qs .0))) (List._∷_ (5, Mut.mslice (Signed.SInt Syntax.w32) ty·8 1) (List._∷_ (6, Relend.mslice-owed (Referent.rtF (Referent.fInt Syntax.w32)) ty·9 2 18 (Row.lease (κs .1 .1 .0) (qs .1 .1 .0))) (List._∷_ (7, Relend.mslice-owed (Referent.rtF (Referent.fInt Syntax.w32)) ty·10 3 19 (Row.lease (κs .1 .1 .1 .0) (qs .1 .1 .1 .0))) (List._∷_ (8, Relend.mslice-owed (Referent.rtF (Referent.fInt Syntax.w32)) ty·11 4 20 (Row.lease (κs .1 .1 .1 .1 .0) (qs .1 .1 .1 .1 .0))) (List._∷_ (9, Relend.mslice-owed ELEM.the-row ty·19 5 21 (Row.lease (κs .1 .1 .1 .1 .1 .0) (qs .1 .1 .1 .1 .1 .0))) (List._∷_ (10, Relend.mslice-owed (Referent.rtF (Referent.fInt Syntax.w32)) ty·12 6 22 (Row.lease (κs .1 .1 .1 .1 .1 .1 .0) (qs .1 .1 .1 .1 .1 .1 .0))) (List._∷_ (11, Relend.mslice-owed (Referent.rtF (Referent.fInt Syntax.w32)) ty·13 7 23 (Row.lease (κs .1 .1 .1 .1 .1 .1 .1 .0) (qs .1 .1 .1 .1 .1 .1 .1 .0))) (List._∷_ (12, Relend.mslice-owed (Referent.rtF (Referent.fInt Syntax.w32)) ty·14 8 24 (Row.lease (κs .1 .1 .1 .1 .1 .1 .1 .1 .0) (qs .1 .1 .1 .1 .1 .1 .1 .1 .0))) (List._∷_ (13, Mut.mslice (Referent.rtF (Referent.fInt Syntax.w64)) ty·15 9) (List._∷_ (14, Rows.sc-here (Row.sFloat Ieee.binary64)) (List._∷_ (15, Rows.sc-here (Row.sFloat Ieee.binary64)) List.[])))))))))))))))
+
+        abbrev g80 : List.List Row.Entry
+        g80 = List._∷_ (0, Rows.any-gone ty·30) (List._∷_ (1, Rows.sc-here (Row.sInt Syntax.w32)) (List._∷_ (2, Rows.sc-here (Row.sInt Syntax.w32)) (List._∷_ (3, Rows.sc-here (Row.sInt Syntax.w32)) (List._∷_ (4, Relend.mslice-owed (Signed.SInt Syntax.w32) ty·7 0 17 (Row.lease (κs .0) (qs .0))) (List._∷_ (5, Mut.mslice (Signed.SInt Syntax.w32) ty·8 1) (List._∷_ (6, Relend.mslice-owed (Referent.rtF (Referent.fInt Syntax.w32)) ty·9 2 18 (Row.lease (κs .1 .1 .0) (qs .1 .1 .0))) (List._∷_ (7, Relend.mslice-owed (Referent.rtF (Referent.fInt Syntax.w32)) ty·10 3 19 (Row.lease (κs .1 .1 .1 .0) (qs .1 .1 .1 .0))) (List._∷_ (8, Relend.mslice-owed (Referent.rtF (Referent.fInt Syntax.w32)) ty·11 4 20 (Row.lease (κs .1 .1 .1 .1 .0) (qs .1 .1 .1 .1 .0))) (List._∷_ (9, Relend.mslice-owed ELEM.the-row ty·19 5 21 (Row.lease (κs .1 .1 .1 .1 .1 .0) (qs .1 .1 .1 .1 .1 .0))) (List._∷_ (10, Relend.mslice-owed (Referent.rtF (Referent.fInt Syntax.w32)) ty·12 6 22 (Row.lease (κs .1 .1 .1 .1 .1 .1 .0) (qs .1 .1 .1 .1 .1 .1 .0))) (List._∷_ (11, Relend.mslice-owed (Referent.rtF (Referent.fInt Syntax.w32)) ty·13 7 23 (Row.lease (κs .1 .1 .1 .1 .1 .1 .1 .0) (qs .1 .1 .1 .1 .1 .1 .1 .0))) (List._∷_ (12, Relend.mslice-owed (Referent.rtF (Referent.fInt Syntax.w32)) ty·14 8 24 (Row.lease (κs .1 .1 .1 .1 .1 .1 .1 .1 .0) (qs .1 .1 .1 .1 .1 .1 .1 .1 .0))) (List._∷_ (13, Relend.mslice-owed (Referent.rtF (Referent.fInt Syntax.w64)) ty·15 9 25 (Row.lease (κs .1 .1 .1 .1 .1 .1 .1 .1 .1 .0) (qs .1 .1 .1 .1 .1 .1 .1 .1 .1 .0))) (List._∷_ (14, Rows.sc-here (Row.sFloat Ieee.binary64)) (List._∷_ (15, Rows.sc-here (Row.sFloat Ieee.binary64)) List.[])))))))))))))))
+
+        abbrev g88 : List.List Row.Entry
+        g88 = List._∷_ (0, Rows.any-gone ty·30) (List._∷_ (1, Rows.sc-here (Row.sInt Syntax.w32)) (List._∷_ (2, Rows.sc-here (Row.sInt Syntax.w32)) (List._∷_ (3, Rows.sc-here (Row.sInt Syntax.w32)) (List._∷_ (4, Mut.mslice (Signed.SInt Syntax.w32) ty·7 0) (List._∷_ (5, Mut.mslice (Signed.SInt Syntax.w32) ty·8 1) (List._∷_ (6, Relend.mslice-owed (Referent.rtF (Referent.fInt Syntax.w32)) ty·9 2 18 (Row.lease (κs .1 .1 .0) (qs .1 .1 .0))) (List._∷_ (7, Relend.mslice-owed (Referent.rtF (Referent.fInt Syntax.w32)) ty·10 3 19 (Row.lease (κs .1 .1 .1 .0) (qs .1 .1 .1 .0))) (List._∷_ (8, Relend.mslice-owed (Referent.rtF (Referent.fInt Syntax.w32)) ty·11 4 20 (Row.lease (κs .1 .1 .1 .1 .0) (qs .1 .1 .1 .1 .0))) (List._∷_ (9, Relend.mslice-owed ELEM.the-row ty·19 5 21 (Row.lease (κs .1 .1 .1 .1 .1 .0) (qs .1 .1 .1 .1 .1 .0))) (List._∷_ (10, Relend.mslice-owed (Referent.rtF (Referent.fInt Syntax.w32)) ty·12 6 22 (Row.lease (κs .1 .1 .1 .1 .1 .1 .0) (qs .1 .1 .1 .1 .1 .1 .0))) (List._∷_ (11, Relend.mslice-owed (Referent.rtF (Referent.fInt Syntax.w32)) ty·13 7 23 (Row.lease (κs .1 .1 .1 .1 .1 .1 .1 .0) (qs .1 .1 .1 .1 .1 .1 .1 .0))) (List._∷_ (12, Relend.mslice-owed (Referent.rtF (Referent.fInt Syntax.w32)) ty·14 8 24 (Row.lease (κs .1 .1 .1 .1 .1 .1 .1 .1 .0) (qs .1 .1 .1 .1 .1 .1 .1 .1 .0))) (List._∷_ (13, Relend.mslice-owed (Referent.rtF (Referent.fInt Syntax.w64)) ty·15 9 25 (Row.lease (κs .1 .1 .1 .1 .1 .1 .1 .1 .1 .0) (qs .1 .1 .1 .1 .1 .1 .1 .1 .1 .0))) (List._∷_ (14, Rows.sc-here (Row.sFloat Ieee.binary64)) (List._∷_ (15, Rows.sc-here (Row.sFloat Ieee.binary64)) List.[])))))))))))))))
+
+        abbrev g90 : List.List Row.Entry
+        g90 = List._∷_ (0, Rows.any-gone ty·30) (List._∷_ (1, Rows.sc-here (Row.sInt Syntax.w32)) (List._∷_ (2, Rows.sc-here (Row.sInt Syntax.w32)) (List._∷_ (3, Rows.sc-here (Row.sInt Syntax.w32)) (List._∷_ (4, Mut.mslice (Signed.SInt Syntax.w32) ty·7 0) (List._∷_ (5, Mut.mslice (Signed.SInt Syntax.w32) ty·8 1) (List._∷_ (6, Mut.mslice (Referent.rtF (Referent.fInt Syntax.w32)) ty·9 2) (List._∷_ (7, Relend.mslice-owed (Referent.rtF (Referent.fInt Syntax.w32)) ty·10 3 19 (Row.lease (κs .1 .1 .1 .0) (qs .1 .1 .1 .0))) (List._∷_ (8, Relend.mslice-owed (Referent.rtF (Referent.fInt Syntax.w32)) ty·11 4 20 (Row.lease (κs .1 .1 .1 .1 .0) (qs .1 .1 .1 .1 .0))) (List._∷_ (9, Relend.mslice-owed ELEM.the-row ty·19 5 21 (Row.lease (κs .1 .1 .1 .1 .1 .0) (qs .1 .1 .1 .1 .1 .0))) (List._∷_ (10, Relend.mslice-owed (Referent.rtF (Referent.fInt Syntax.w32)) ty·12 6 22 (Row.lease (κs .1 .1 .1 .1 .1 .1 .0) (qs .1 .1 .1 .1 .1 .1 .0))) (List._∷_ (11, Relend.mslice-owed (Referent.rtF (Referent.fInt Syntax.w32)) ty·13 7 23 (Row.lease (κs .1 .1 .1 .1 .1 .1 .1 .0) (qs .1 .1 .1 .1 .1 .1 .1 .0))) (List._∷_ (12, Relend.mslice-owed (Referent.rtF (Referent.fInt Syntax.w32)) ty·14 8 24 (Row.lease (κs .1 .1 .1 .1 .1 .1 .1 .1 .0) (qs .1 .1 .1 .1 .1 .1 .1 .1 .0))) (List._∷_ (13, Relend.mslice-owed (Referent.rtF (Referent.fInt Syntax.w64)) ty·15 9 25 (Row.lease (κs .1 .1 .1 .1 .1 .1 .1 .1 .1 .0) (qs .1 .1 .1 .1 .1 .1 .1 .1 .1 .0))) (List._∷_ (14, Rows.sc-here (Row.sFloat Ieee.binary64)) (List._∷_ (15, Rows.sc-here (Row.sFloat Ieee.binary64)) List.[])))))))))))))))
+
+        abbrev g92 : List.List Row.Entry
+        g92 = List._∷_ (0, Rows.any-gone ty·30) (List._∷_ (1, Rows.sc-here (Row.sInt Syntax.w32)) (List._∷_ (2, Rows.sc-here (Row.sInt Syntax.w32)) (List._∷_ (3, Rows.sc-here (Row.sInt Syntax.w32)) (List._∷_ (4, Mut.mslice (Signed.SInt Syntax.w32) ty·7 0) (List._∷_ (5, Mut.mslice (Signed.SInt Syntax.w32) ty·8 1) (List._∷_ (6, Mut.mslice (Referent.rtF (Referent.fInt Syntax.w32)) ty·9 2) (List._∷_ (7, Mut.mslice (Referent.rtF (Referent.fInt Syntax.w32)) ty·10 3) (List._∷_ (8, Relend.mslice-owed (Referent.rtF (Referent.fInt Syntax.w32)) ty·11 4 20 (Row.lease (κs .1 .1 .1 .1 .0) (qs .1 .1 .1 .1 .0))) (List._∷_ (9, Relend.mslice-owed ELEM.the-row ty·19 5 21 (Row.lease (κs .1 .1 .1 .1 .1 .0) (qs .1 .1 .1 .1 .1 .0))) (List._∷_ (10, Relend.mslice-owed (Referent.rtF (Referent.fInt Syntax.w32)) ty·12 6 22 (Row.lease (κs .1 .1 .1 .1 .1 .1 .0) (qs .1 .1 .1 .1 .1 .1 .0))) (List._∷_ (11, Relend.mslice-owed (Referent.rtF (Referent.fInt Syntax.w32)) ty·13 7 23 (Row.lease (κs .1 .1 .1 .1 .1 .1 .1 .0) (qs .1 .1 .1 .1 .1 .1 .1 .0))) (List._∷_ (12, Relend.mslice-owed (Referent.rtF (Referent.fInt Syntax.w32)) ty·14 8 24 (Row.lease (κs .1 .1 .1 .1 .1 .1 .1 .1 .0) (qs .1 .1 .1 .1 .1 .1 .1 .1 .0))) (List._∷_ (13, Relend.mslice-owed (Referent.rtF (Referent.fInt Syntax.w64)) ty·15 9 25 (Row.lease (κs .1 .1 .1 .1 .1 .1 .1 .1 .1 .0) (qs .1 .1 .1 .1 .1 .1 .1 .1 .1 .0))) (List._∷_ (14, Rows.sc-here (Row.sFloat Ieee.binary64)) (List._∷_ (15, Rows.sc-here (Row.sFloat Ieee.binary64)) List.[])))))))))))))))
+
+        abbrev g94 : List.List Row.Entry
+        g94 = List._∷_ (0, Rows.any-gone ty·30) (List._∷_ (1, Rows.sc-here (Row.sInt Syntax.w32)) (List._∷_ (2, Rows.sc-here (Row.sInt Syntax.w32)) (List._∷_ (3, Rows.sc-here (Row.sInt Syntax.w32)) (List._∷_ (4, Mut.mslice (Signed.SInt Syntax.w32) ty·7 0) (List._∷_ (5, Mut.mslice (Signed.SInt Syntax.w32) ty·8 1) (List._∷_ (6, Mut.mslice (Referent.rtF (Referent.fInt Syntax.w32)) ty·9 2) (List._∷_ (7, Mut.mslice (Referent.rtF (Referent.fInt Syntax.w32)) ty·10 3) (List._∷_ (8, Mut.mslice (Referent.rtF (Referent.fInt Syntax.w32)) ty·11 4) (List._∷_ (9, Relend.mslice-owed ELEM.the-row ty·19 5 21 (Row.lease (κs .1 .1 .1 .1 .1 .0) (qs .1 .1 .1 .1 .1 .0))) (List._∷_ (10, Relend.mslice-owed (Referent.rtF (Referent.fInt Syntax.w32)) ty·12 6 22 (Row.lease (κs .1 .1 .1 .1 .1 .1 .0) (qs .1 .1 .1 .1 .1 .1 .0))) (List._∷_ (11, Relend.mslice-owed (Referent.rtF (Referent.fInt Syntax.w32)) ty·13 7 23 (Row.lease (κs .1 .1 .1 .1 .1 .1 .1 .0) (qs .1 .1 .1 .1 .1 .1 .1 .0))) (List._∷_ (12, Relend.mslice-owed (Referent.rtF (Referent.fInt Syntax.w32)) ty·14 8 24 (Row.lease (κs .1 .1 .1 .1 .1 .1 .1 .1 .0) (qs .1 .1 .1 .1 .1 .1 .1 .1 .0))) (List._∷_ (13, Relend.mslice-owed (Referent.rtF (Referent.fInt Syntax.w64)) ty·15 9 25 (Row.lease (κs .1 .1 .1 .1 .1 .1 .1 .1 .1 .0) (qs .1 .1 .1 .1 .1 .1 .1 .1 .1 .0))) (List._∷_ (14, Rows.sc-here (Row.sFloat Ieee.binary64)) (List._∷_ (15, Rows.sc-here (Row.sFloat Ieee.binary64)) List.[])))))))))))))))
+
+        abbrev g96 : List.List Row.Entry
+        g96 = List._∷_ (0, Rows.any-gone ty·30) (List._∷_ (1, Rows.sc-here (Row.sInt Syntax.w32)) (List._∷_ (2, Rows.sc-here (Row.sInt Syntax.w32)) (List._∷_ (3, Rows.sc-here (Row.sInt Syntax.w32)) (List._∷_ (4, Mut.mslice (Signed.SInt Syntax.w32) ty·7 0) (List._∷_ (5, Mut.mslice (Signed.SInt Syntax.w32) ty·8 1) (List._∷_ (6, Mut.mslice (Referent.rtF (Referent.fInt Syntax.w32)) ty·9 2) (List._∷_ (7, Mut.mslice (Referent.rtF (Referent.fInt Syntax.w32)) ty·10 3) (List._∷_ (8, Mut.mslice (Referent.rtF (Referent.fInt Syntax.w32)) ty·11 4) (List._∷_ (9, Mut.mslice ELEM.the-row ty·19 5) (List._∷_ (10, Relend.mslice-owed (Referent.rtF (Referent.fInt Syntax.w32)) ty·12 6 22 (Row.lease (κs .1 .1 .1 .1 .1 .1 .0) (qs .1 .1 .1 .1 .1 .1 .0))) (List._∷_ (11, Relend.mslice-owed (Referent.rtF (Referent.fInt Syntax.w32)) ty·13 7 23 (Row.lease (κs .1 .1 .1 .1 .1 .1 .1 .0) (qs .1 .1 .1 .1 .1 .1 .1 .0))) (List._∷_ (12, Relend.mslice-owed (Referent.rtF (Referent.fInt Syntax.w32)) ty·14 8 24 (Row.lease (κs .1 .1 .1 .1 .1 .1 .1 .1 .0) (qs .1 .1 .1 .1 .1 .1 .1 .1 .0))) (List._∷_ (13, Relend.mslice-owed (Referent.rtF (Referent.fInt Syntax.w64)) ty·15 9 25 (Row.lease (κs .1 .1 .1 .1 .1 .1 .1 .1 .1 .0) (qs .1 .1 .1 .1 .1 .1 .1 .1 .1 .0))) (List._∷_ (14, Rows.sc-here (Row.sFloat Ieee.binary64)) (List._∷_ (15, Rows.sc-here (Row.sFloat Ieee.binary64)) List.[])))))))))))))))
+
+        abbrev g97 : List.List Row.Entry
+        g97 = List._∷_ (0, Rows.any-gone ty·30) (List._∷_ (1, Rows.sc-here (Row.sInt Syntax.w32)) (List._∷_ (2, Rows.sc-here (Row.sInt Syntax.w32)) (List._∷_ (3, Rows.sc-here (Row.sInt Syntax.w32)) (List._∷_ (4, Mut.mslice (Signed.SInt Syntax.w32) ty·7 0) (List._∷_ (5, Mut.mslice (Signed.SInt Syntax.w32) ty·8 1) (List._∷_ (6, Mut.mslice (Referent.rtF (Referent.fInt Syntax.w32)) ty·9 2) (List._∷_ (7, Mut.mslice (Referent.rtF (Referent.fInt Syntax.w32)) ty·10 3) (List._∷_ (8, Mut.mslice (Referent.rtF (Referent.fInt Syntax.w32)) ty·11 4) (List._∷_ (9, Mut.mslice ELEM.the-row ty·19 5) (List._∷_ (10, Mut.mslice (Referent.rtF (Referent.fInt Syntax.w32)) ty·12 6) (List._∷_ (11, Relend.mslice-owed (Referent.rtF (Referent.fInt Syntax.w32)) ty·13 7 23 (Row.lease (κs .1 .1 .1 .1 .1 .1 .1 .0) (qs .1 .1 .1 .1 .1 .1 .1 .0))) (List._∷_ (12, Relend.mslice-owed (Referent.rtF (Referent.fInt Syntax.w32)) ty·14 8 24 (Row.lease (κs .1 .1 .1 .1 .1 .1 .1 .1 .0) (qs .1 .1 .1 .1 .1 .1 .1 .1 .0))) (List._∷_ (13, Relend.mslice-owed (Referent.rtF (Referent.fInt Syntax.w64)) ty·15 9 25 (Row.lease (κs .1 .1 .1 .1 .1 .1 .1 .1 .1 .0) (qs .1 .1 .1 .1 .1 .1 .1 .1 .1 .0))) (List._∷_ (14, Rows.sc-here (Row.sFloat Ieee.binary64)) (List._∷_ (15, Rows.sc-here (Row.sFloat Ieee.binary64)) List.[])))))))))))))))
+
+        abbrev g99 : List.List Row.Entry
+        g99 = List._∷_ (0, Rows.any-gone ty·30) (List._∷_ (1, Rows.sc-here (Row.sInt Syntax.w32)) (List._∷_ (2, Rows.sc-here (Row.sInt Syntax.w32)) (List._∷_ (3, Rows.sc-here (Row.sInt Syntax.w32)) (List._∷_ (4, Mut.mslice (Signed.SInt Syntax.w32) ty·7 0) (List._∷_ (5, Mut.mslice (Signed.SInt Syntax.w32) ty·8 1) (List._∷_ (6, Mut.mslice (Referent.rtF (Referent.fInt Syntax.w32)) ty·9 2) (List._∷_ (7, Mut.mslice (Referent.rtF (Referent.fInt Syntax.w32)) ty·10 3) (List._∷_ (8, Mut.mslice (Referent.rtF (Referent.fInt Syntax.w32)) ty·11 4) (List._∷_ (9, Mut.mslice ELEM.the-row ty·19 5) (List._∷_ (10, Mut.mslice (Referent.rtF (Referent.fInt Syntax.w32)) ty·12 6) (List._∷_ (11, Mut.mslice (Referent.rtF (Referent.fInt Syntax.w32)) ty·13 7) (List._∷_ (12, Relend.mslice-owed (Referent.rtF (Referent.fInt Syntax.w32)) ty·14 8 24 (Row.lease (κs .1 .1 .1 .1 .1 .1 .1 .1 .0) (qs .1 .1 .1 .1 .1 .1 .1 .1 .0))) (List._∷_ (13, Relend.mslice-owed (Referent.rtF (Referent.fInt Syntax.w64)) ty·15 9 25 (Row.lease (κs .1 .1 .1 .1 .1 .1 .1 .1 .1 .0) (qs .1 .1 .1 .1 .1 .1 .1 .1 .1 .0))) (List._∷_ (14, Rows.sc-here (Row.sFloat Ieee.binary64)) (List._∷_ (15, Rows.sc-here (Row.sFloat Ieee.binary64)) List.[])))))))))))))))
+
+        abbrev g101 : List.List Row.Entry
+        g101 = List._∷_ (0, Rows.any-gone ty·30) (List._∷_ (1, Rows.sc-here (Row.sInt Syntax.w32)) (List._∷_ (2, Rows.sc-here (Row.sInt Syntax.w32)) (List._∷_ (3, Rows.sc-here (Row.sInt Syntax.w32)) (List._∷_ (4, Mut.mslice (Signed.SInt Syntax.w32) ty·7 0) (List._∷_ (5, Mut.mslice (Signed.SInt Syntax.w32) ty·8 1) (List._∷_ (6, Mut.mslice (Referent.rtF (Referent.fInt Syntax.w32)) ty·9 2) (List._∷_ (7, Mut.mslice (Referent.rtF (Referent.fInt Syntax.w32)) ty·10 3) (List._∷_ (8, Mut.mslice (Referent.rtF (Referent.fInt Syntax.w32)) ty·11 4) (List._∷_ (9, Mut.mslice ELEM.the-row ty·19 5) (List._∷_ (10, Mut.mslice (Referent.rtF (Referent.fInt Syntax.w32)) ty·12 6) (List._∷_ (11, Mut.mslice (Referent.rtF (Referent.fInt Syntax.w32)) ty·13 7) (List._∷_ (12, Mut.mslice (Referent.rtF (Referent.fInt Syntax.w32)) ty·14 8) (List._∷_ (13, Relend.mslice-owed (Referent.rtF (Referent.fInt Syntax.w64)) ty·15 9 25 (Row.lease (κs .1 .1 .1 .1 .1 .1 .1 .1 .1 .0) (qs .1 .1 .1 .1 .1 .1 .1 .1 .1 .0))) (List._∷_ (14, Rows.sc-here (Row.sFloat Ieee.binary64)) (List._∷_ (15, Rows.sc-here (Row.sFloat Ieee.binary64)) List.[])))))))))))))))
+
+        abbrev g103 : List.List Row.Entry
+        g103 = List._∷_ (0, Rows.any-gone ty·30) (List._∷_ (1, Rows.sc-here (Row.sInt Syntax.w32)) (List._∷_ (2, Rows.sc-here (Row.sInt Syntax.w32)) (List._∷_ (3, Rows.sc-here (Row.sInt Syntax.w32)) (List._∷_ (4, Mut.mslice (Signed.SInt Syntax.w32) ty·7 0) (List._∷_ (5, Relend.mslice-owed (Signed.SInt Syntax.w32) ty·8 1 26 (Row.lease (κs .1 .0) (qs .1 .0))) (List._∷_ (6, Mut.mslice (Referent.rtF (Referent.fInt Syntax.w32)) ty·9 2) (List._∷_ (7, Mut.mslice (Referent.rtF (Referent.fInt Syntax.w32)) ty·10 3) (List._∷_ (8, Mut.mslice (Referent.rtF (Referent.fInt Syntax.w32)) ty·11 4) (List._∷_ (9, Mut.mslice ELEM.the-row ty·19 5) (List._∷_ (10, Mut.mslice (Referent.rtF (Referent.fInt Syntax.w32)) ty·12 6) (List._∷_ (11, Mut.mslice (Referent.rtF (Referent.fInt Syntax.w32)) ty·13 7) (List._∷_ (12, Mut.mslice (Referent.rtF (Referent.fInt Syntax.w32)) ty·14 8) (List._∷_ (13, Mut.mslice (Referent.rtF (Referent.fInt Syntax.w64)) ty·15 9) (List._∷_ (14, Rows.sc-here (Row.sFloat Ieee.binary64)) (List._∷_ (15, Rows.sc-here (Row.sFloat Ieee.binary64)) List.[])))))))))))))))
+
+        abbrev g106 : List.List Row.Entry
+        g106 = List._∷_ (0, Rows.any-gone ty·30) (List._∷_ (1, Rows.sc-here (Row.sInt Syntax.w32)) (List._∷_ (2, Rows.sc-here (Row.sInt Syntax.w32)) (List._∷_ (3, Rows.sc-here (Row.sInt Syntax.w32)) (List._∷_ (4, Mut.mslice (Signed.SInt Syntax.w32) ty·7 0) (List._∷_ (5, Relend.mslice-owed (Signed.SInt Syntax.w32) ty·8 1 26 (Row.lease (κs .1 .0) (qs .1 .0))) (List._∷_ (6, Mut.mslice (Referent.rtF (Referent.fInt Syntax.w32)) ty·9 2) (List._∷_ (7, Mut.mslice (Referent.rtF (Referent.fInt Syntax.w32)) ty·10 3) (List._∷_ (8, Mut.mslice (Referent.rtF (Referent.fInt Syntax.w32)) ty·11 4) (List._∷_ (9, Mut.mslice ELEM.the-row ty·19 5) (List._∷_ (10, Mut.mslice (Referent.rtF (Referent.fInt Syntax.w32)) ty·12 6) (List._∷_ (11, Mut.mslice (Referent.rtF (Referent.fInt Syntax.w32)) ty·13 7) (List._∷_ (12, Mut.mslice (Referent.rtF (Referent.fInt Syntax.w32)) ty·14 8) (List._∷_ (13, Reshare.mslice-owedS (Referent.rtF (Referent.fInt Syntax.w64)) ty·15 9 27 (Row.lease (κs .1 .1 .1 .1 .1 .1 .1 .1 .1 .0) (qs .1 .1 .1 .1 .1 .1 .1 .1 .1 .0))) (List._∷_ (14, Rows.sc-here (Row.sFloat Ieee.binary64)) (List._∷_ (15, Rows.sc-here (Row.sFloat Ieee.binary64)) List.[])))))))))))))))
+
+        abbrev g112 : List.List Row.Entry
+        g112 = List._∷_ (0, Rows.any-gone ty·30) (List._∷_ (1, Rows.sc-here (Row.sInt Syntax.w32)) (List._∷_ (2, Rows.sc-here (Row.sInt Syntax.w32)) (List._∷_ (3, Rows.sc-here (Row.sInt Syntax.w32)) (List._∷_ (4, Mut.mslice (Signed.SInt Syntax.w32) ty·7 0) (List._∷_ (5, Mut.mslice (Signed.SInt Syntax.w32) ty·8 1) (List._∷_ (6, Mut.mslice (Referent.rtF (Referent.fInt Syntax.w32)) ty·9 2) (List._∷_ (7, Mut.mslice (Referent.rtF (Referent.fInt Syntax.w32)) ty·10 3) (List._∷_ (8, Mut.mslice (Referent.rtF (Referent.fInt Syntax.w32)) ty·11 4) (List._∷_ (9, Mut.mslice ELEM.the-row ty·19 5) (List._∷_ (10, Mut.mslice (Referent.rtF (Referent.fInt Syntax.w32)) ty·12 6) (List._∷_ (11, Mut.mslice (Referent.rtF (Referent.fInt Syntax.w32)) ty·13 7) (List._∷_ (12, Mut.mslice (Referent.rtF (Referent.fInt Syntax.w32)) ty·14 8) (List._∷_ (13, Reshare.mslice-owedS (Referent.rtF (Referent.fInt Syntax.w64)) ty·15 9 27 (Row.lease (κs .1 .1 .1 .1 .1 .1 .1 .1 .1 .0) (qs .1 .1 .1 .1 .1 .1 .1 .1 .1 .0))) (List._∷_ (14, Rows.sc-here (Row.sFloat Ieee.binary64)) (List._∷_ (15, Rows.sc-here (Row.sFloat Ieee.binary64)) List.[])))))))))))))))
 
         abbrev G0 : Row.Cx
-        G0 = record { locals = List._++_ t0 (List._++_ t1 t2); slots = List._∷_ (Row.lease (κs .0) (qs .0)) (List._∷_ (Row.lease (κs .1 .0) (qs .1 .0)) (List._∷_ (Row.lease (κs .1 .1 .0) (qs .1 .1 .0)) (List._∷_ (Row.lease (κs .1 .1 .1 .0) (qs .1 .1 .1 .0)) (List._∷_ (Row.lease (κs .1 .1 .1 .1 .0) (qs .1 .1 .1 .1 .0)) (List._∷_ (Row.lease (κs .1 .1 .1 .1 .1 .0) (qs .1 .1 .1 .1 .1 .0)) (List._∷_ (Row.lease (κs .1 .1 .1 .1 .1 .1 .0) (qs .1 .1 .1 .1 .1 .1 .0)) (List._∷_ (Row.lease (κs .1 .1 .1 .1 .1 .1 .1 .0) (qs .1 .1 .1 .1 .1 .1 .1 .0)) (List._∷_ (Row.lease (κs .1 .1 .1 .1 .1 .1 .1 .1 .0) (qs .1 .1 .1 .1 .1 .1 .1 .1 .0)) (List._∷_ (Row.lease (κs .1 .1 .1 .1 .1 .1 .1 .1 .1 .0) (qs .1 .1 .1 .1 .1 .1 .1 .1 .1 .0)) (List._∷_ Row.off (List._∷_ Row.off (List._∷_ Row.off (List._∷_ Row.off (List._∷_ Row.off (List._∷_ Row.off (List._∷_ Row.off (List._∷_ Row.off (List._∷_ Row.off List.[])))))))))))))))))) }
+        G0 = record { locals = List._++_ t0 (List._++_ t1 (List._++_ t2 t3)); slots = List._∷_ (Row.lease (κs .0) (qs .0)) (List._∷_ (Row.lease (κs .1 .0) (qs .1 .0)) (List._∷_ (Row.lease (κs .1 .1 .0) (qs .1 .1 .0)) (List._∷_ (Row.lease (κs .1 .1 .1 .0) (qs .1 .1 .1 .0)) (List._∷_ (Row.lease (κs .1 .1 .1 .1 .0) (qs .1 .1 .1 .1 .0)) (List._∷_ (Row.lease (κs .1 .1 .1 .1 .1 .0) (qs .1 .1 .1 .1 .1 .0)) (List._∷_ (Row.lease (κs .1 .1 .1 .1 .1 .1 .0) (qs .1 .1 .1 .1 .1 .1 .0)) (List._∷_ (Row.lease (κs .1 .1 .1 .1 .1 .1 .1 .0) (qs .1 .1 .1 .1 .1 .1 .1 .0)) (List._∷_ (Row.lease (κs .1 .1 .1 .1 .1 .1 .1 .1 .0) (qs .1 .1 .1 .1 .1 .1 .1 .1 .0)) (List._∷_ (Row.lease (κs .1 .1 .1 .1 .1 .1 .1 .1 .1 .0) (qs .1 .1 .1 .1 .1 .1 .1 .1 .1 .0)) (List._∷_ (Row.lease (κs .1 .1 .1 .1 .1 .1 .1 .1 .1 .1 .0) (qs .1 .1 .1 .1 .1 .1 .1 .1 .1 .1 .0)) (List._∷_ (Row.lease (κs .1 .1 .1 .1 .1 .1 .1 .1 .1 .1 .1 .0) (qs .1 .1 .1 .1 .1 .1 .1 .1 .1 .1 .1 .0)) (List._∷_ Row.off (List._∷_ Row.off (List._∷_ Row.off (List._∷_ Row.off (List._∷_ Row.off (List._∷_ Row.off (List._∷_ Row.off (List._∷_ Row.off (List._∷_ Row.off (List._∷_ Row.off (List._∷_ Row.off (List._∷_ Row.off (List._∷_ Row.off (List._∷_ Row.off (List._∷_ Row.off (List._∷_ Row.off List.[]))))))))))))))))))))))))))) }
 
         abbrev G1 : Row.Cx
-        G1 = record { locals = List._++_ t3 (List._++_ t1 t2); slots = List._∷_ (Row.lease (κs .0) (qs .0)) (List._∷_ (Row.lease (κs .1 .0) (qs .1 .0)) (List._∷_ (Row.lease (κs .1 .1 .0) (qs .1 .1 .0)) (List._∷_ (Row.lease (κs .1 .1 .1 .0) (qs .1 .1 .1 .0)) (List._∷_ (Row.lease (κs .1 .1 .1 .1 .0) (qs .1 .1 .1 .1 .0)) (List._∷_ (Row.lease (κs .1 .1 .1 .1 .1 .0) (qs .1 .1 .1 .1 .1 .0)) (List._∷_ (Row.lease (κs .1 .1 .1 .1 .1 .1 .0) (qs .1 .1 .1 .1 .1 .1 .0)) (List._∷_ (Row.lease (κs .1 .1 .1 .1 .1 .1 .1 .0) (qs .1 .1 .1 .1 .1 .1 .1 .0)) (List._∷_ (Row.lease (κs .1 .1 .1 .1 .1 .1 .1 .1 .0) (qs .1 .1 .1 .1 .1 .1 .1 .1 .0)) (List._∷_ (Row.lease (κs .1 .1 .1 .1 .1 .1 .1 .1 .1 .0) (qs .1 .1 .1 .1 .1 .1 .1 .1 .1 .0)) (List._∷_ Row.off (List._∷_ Row.off (List._∷_ Row.off (List._∷_ Row.off (List._∷_ Row.off (List._∷_ Row.off (List._∷_ Row.off (List._∷_ Row.off (List._∷_ Row.off List.[])))))))))))))))))) }
+        G1 = record { locals = List._++_ t4 (List._++_ t1 (List._++_ t2 t3)); slots = List._∷_ (Row.lease (κs .0) (qs .0)) (List._∷_ (Row.lease (κs .1 .0) (qs .1 .0)) (List._∷_ (Row.lease (κs .1 .1 .0) (qs .1 .1 .0)) (List._∷_ (Row.lease (κs .1 .1 .1 .0) (qs .1 .1 .1 .0)) (List._∷_ (Row.lease (κs .1 .1 .1 .1 .0) (qs .1 .1 .1 .1 .0)) (List._∷_ (Row.lease (κs .1 .1 .1 .1 .1 .0) (qs .1 .1 .1 .1 .1 .0)) (List._∷_ (Row.lease (κs .1 .1 .1 .1 .1 .1 .0) (qs .1 .1 .1 .1 .1 .1 .0)) (List._∷_ (Row.lease (κs .1 .1 .1 .1 .1 .1 .1 .0) (qs .1 .1 .1 .1 .1 .1 .1 .0)) (List._∷_ (Row.lease (κs .1 .1 .1 .1 .1 .1 .1 .1 .0) (qs .1 .1 .1 .1 .1 .1 .1 .1 .0)) (List._∷_ (Row.lease (κs .1 .1 .1 .1 .1 .1 .1 .1 .1 .0) (qs .1 .1 .1 .1 .1 .1 .1 .1 .1 .0)) (List._∷_ (Row.lease (κs .1 .1 .1 .1 .1 .1 .1 .1 .1 .1 .0) (qs .1 .1 .1 .1 .1 .1 .1 .1 .1 .1 .0)) (List._∷_ (Row.lease (κs .1 .1 .1 .1 .1 .1 .1 .1 .1 .1 .1 .0) (qs .1 .1 .1 .1 .1 .1 .1 .1 .1 .1 .1 .0)) (List._∷_ Row.off (List._∷_ Row.off (List._∷_ Row.off (List._∷_ Row.off (List._∷_ Row.off (List._∷_ Row.off (List._∷_ Row.off (List._∷_ Row.off (List._∷_ Row.off (List._∷_ Row.off (List._∷_ Row.off (List._∷_ Row.off (List._∷_ Row.off (List._∷_ Row.off (List._∷_ Row.off (List._∷_ Row.off List.[]))))))))))))))))))))))))))) }
 
         abbrev G2 : Row.Cx
-        G2 = record { locals = List._++_ t0 (List._++_ t1 t2); slots = List._∷_ (Row.lease (κs .0) (qs .0)) (List._∷_ (Row.lease (κs .1 .0) (qs .1 .0)) (List._∷_ (Row.lease (κs .1 .1 .0) (qs .1 .1 .0)) (List._∷_ (Row.lease (κs .1 .1 .1 .0) (qs .1 .1 .1 .0)) (List._∷_ (Row.lease (κs .1 .1 .1 .1 .0) (qs .1 .1 .1 .1 .0)) (List._∷_ (Row.lease (κs .1 .1 .1 .1 .1 .0) (qs .1 .1 .1 .1 .1 .0)) (List._∷_ (Row.lease (κs .1 .1 .1 .1 .1 .1 .0) (qs .1 .1 .1 .1 .1 .1 .0)) (List._∷_ (Row.lease (κs .1 .1 .1 .1 .1 .1 .1 .0) (qs .1 .1 .1 .1 .1 .1 .1 .0)) (List._∷_ (Row.lease (κs .1 .1 .1 .1 .1 .1 .1 .1 .0) (qs .1 .1 .1 .1 .1 .1 .1 .1 .0)) (List._∷_ (Row.lease (κs .1 .1 .1 .1 .1 .1 .1 .1 .1 .0) (qs .1 .1 .1 .1 .1 .1 .1 .1 .1 .0)) (List._∷_ Row.off (List._∷_ Row.off (List._∷_ Row.off (List._∷_ Row.off (List._∷_ Row.off (List._∷_ Row.off (List._∷_ Row.off (List._∷_ Row.off (List._∷_ Row.off List.[])))))))))))))))))) }
+        G2 = record { locals = List._++_ t0 (List._++_ t1 (List._++_ t2 t3)); slots = List._∷_ (Row.lease (κs .0) (qs .0)) (List._∷_ (Row.lease (κs .1 .0) (qs .1 .0)) (List._∷_ (Row.lease (κs .1 .1 .0) (qs .1 .1 .0)) (List._∷_ (Row.lease (κs .1 .1 .1 .0) (qs .1 .1 .1 .0)) (List._∷_ (Row.lease (κs .1 .1 .1 .1 .0) (qs .1 .1 .1 .1 .0)) (List._∷_ (Row.lease (κs .1 .1 .1 .1 .1 .0) (qs .1 .1 .1 .1 .1 .0)) (List._∷_ (Row.lease (κs .1 .1 .1 .1 .1 .1 .0) (qs .1 .1 .1 .1 .1 .1 .0)) (List._∷_ (Row.lease (κs .1 .1 .1 .1 .1 .1 .1 .0) (qs .1 .1 .1 .1 .1 .1 .1 .0)) (List._∷_ (Row.lease (κs .1 .1 .1 .1 .1 .1 .1 .1 .0) (qs .1 .1 .1 .1 .1 .1 .1 .1 .0)) (List._∷_ (Row.lease (κs .1 .1 .1 .1 .1 .1 .1 .1 .1 .0) (qs .1 .1 .1 .1 .1 .1 .1 .1 .1 .0)) (List._∷_ (Row.lease (κs .1 .1 .1 .1 .1 .1 .1 .1 .1 .1 .0) (qs .1 .1 .1 .1 .1 .1 .1 .1 .1 .1 .0)) (List._∷_ (Row.lease (κs .1 .1 .1 .1 .1 .1 .1 .1 .1 .1 .1 .0) (qs .1 .1 .1 .1 .1 .1 .1 .1 .1 .1 .1 .0)) (List._∷_ Row.off (List._∷_ Row.off (List._∷_ Row.off (List._∷_ Row.off (List._∷_ Row.off (List._∷_ Row.off (List._∷_ Row.off (List._∷_ Row.off (List._∷_ Row.off (List._∷_ Row.off (List._∷_ Row.off (List._∷_ Row.off (List._∷_ Row.off (List._∷_ Row.off (List._∷_ Row.off (List._∷_ Row.off List.[]))))))))))))))))))))))))))) }
 
         abbrev G3 : Row.Cx
-        G3 = record { locals = List._++_ t0 (List._++_ t1 t2); slots = List._∷_ (Row.lease (κs .0) (qs .0)) (List._∷_ (Row.lease (κs .1 .0) (qs .1 .0)) (List._∷_ (Row.lease (κs .1 .1 .0) (qs .1 .1 .0)) (List._∷_ (Row.lease (κs .1 .1 .1 .0) (qs .1 .1 .1 .0)) (List._∷_ (Row.lease (κs .1 .1 .1 .1 .0) (qs .1 .1 .1 .1 .0)) (List._∷_ (Row.lease (κs .1 .1 .1 .1 .1 .0) (qs .1 .1 .1 .1 .1 .0)) (List._∷_ (Row.lease (κs .1 .1 .1 .1 .1 .1 .0) (qs .1 .1 .1 .1 .1 .1 .0)) (List._∷_ (Row.lease (κs .1 .1 .1 .1 .1 .1 .1 .0) (qs .1 .1 .1 .1 .1 .1 .1 .0)) (List._∷_ (Row.lease (κs .1 .1 .1 .1 .1 .1 .1 .1 .0) (qs .1 .1 .1 .1 .1 .1 .1 .1 .0)) (List._∷_ (Row.lease (κs .1 .1 .1 .1 .1 .1 .1 .1 .1 .0) (qs .1 .1 .1 .1 .1 .1 .1 .1 .1 .0)) (List._∷_ Row.off (List._∷_ Row.off (List._∷_ Row.off (List._∷_ Row.off (List._∷_ Row.off (List._∷_ Row.off (List._∷_ Row.off (List._∷_ Row.off (List._∷_ Row.off List.[])))))))))))))))))) }
+        G3 = record { locals = List._++_ t0 (List._++_ t1 (List._++_ t2 t3)); slots = List._∷_ (Row.lease (κs .0) (qs .0)) (List._∷_ (Row.lease (κs .1 .0) (qs .1 .0)) (List._∷_ (Row.lease (κs .1 .1 .0) (qs .1 .1 .0)) (List._∷_ (Row.lease (κs .1 .1 .1 .0) (qs .1 .1 .1 .0)) (List._∷_ (Row.lease (κs .1 .1 .1 .1 .0) (qs .1 .1 .1 .1 .0)) (List._∷_ (Row.lease (κs .1 .1 .1 .1 .1 .0) (qs .1 .1 .1 .1 .1 .0)) (List._∷_ (Row.lease (κs .1 .1 .1 .1 .1 .1 .0) (qs .1 .1 .1 .1 .1 .1 .0)) (List._∷_ (Row.lease (κs .1 .1 .1 .1 .1 .1 .1 .0) (qs .1 .1 .1 .1 .1 .1 .1 .0)) (List._∷_ (Row.lease (κs .1 .1 .1 .1 .1 .1 .1 .1 .0) (qs .1 .1 .1 .1 .1 .1 .1 .1 .0)) (List._∷_ (Row.lease (κs .1 .1 .1 .1 .1 .1 .1 .1 .1 .0) (qs .1 .1 .1 .1 .1 .1 .1 .1 .1 .0)) (List._∷_ (Row.lease (κs .1 .1 .1 .1 .1 .1 .1 .1 .1 .1 .0) (qs .1 .1 .1 .1 .1 .1 .1 .1 .1 .1 .0)) (List._∷_ (Row.lease (κs .1 .1 .1 .1 .1 .1 .1 .1 .1 .1 .1 .0) (qs .1 .1 .1 .1 .1 .1 .1 .1 .1 .1 .1 .0)) (List._∷_ Row.off (List._∷_ Row.off (List._∷_ Row.off (List._∷_ Row.off (List._∷_ Row.off (List._∷_ Row.off (List._∷_ Row.off (List._∷_ Row.off (List._∷_ Row.off (List._∷_ Row.off (List._∷_ Row.off (List._∷_ Row.off (List._∷_ Row.off (List._∷_ Row.off (List._∷_ Row.off (List._∷_ Row.off List.[]))))))))))))))))))))))))))) }
 
         abbrev G4 : Row.Cx
-        G4 = record { locals = List._++_ t0 (List._++_ t1 t2); slots = List._∷_ (Row.lease (κs .0) (qs .0)) (List._∷_ (Row.lease (κs .1 .0) (qs .1 .0)) (List._∷_ (Row.lease (κs .1 .1 .0) (qs .1 .1 .0)) (List._∷_ (Row.lease (κs .1 .1 .1 .0) (qs .1 .1 .1 .0)) (List._∷_ (Row.lease (κs .1 .1 .1 .1 .0) (qs .1 .1 .1 .1 .0)) (List._∷_ (Row.lease (κs .1 .1 .1 .1 .1 .0) (qs .1 .1 .1 .1 .1 .0)) (List._∷_ (Row.lease (κs .1 .1 .1 .1 .1 .1 .0) (qs .1 .1 .1 .1 .1 .1 .0)) (List._∷_ (Row.lease (κs .1 .1 .1 .1 .1 .1 .1 .0) (qs .1 .1 .1 .1 .1 .1 .1 .0)) (List._∷_ (Row.lease (κs .1 .1 .1 .1 .1 .1 .1 .1 .0) (qs .1 .1 .1 .1 .1 .1 .1 .1 .0)) (List._∷_ (Row.lease (κs .1 .1 .1 .1 .1 .1 .1 .1 .1 .0) (qs .1 .1 .1 .1 .1 .1 .1 .1 .1 .0)) (List._∷_ Row.off (List._∷_ Row.off (List._∷_ Row.off (List._∷_ Row.off (List._∷_ Row.off (List._∷_ Row.off (List._∷_ Row.off (List._∷_ Row.off (List._∷_ Row.off List.[])))))))))))))))))) }
+        G4 = record { locals = List._++_ t0 (List._++_ t1 (List._++_ t2 t3)); slots = List._∷_ (Row.lease (κs .0) (qs .0)) (List._∷_ (Row.lease (κs .1 .0) (qs .1 .0)) (List._∷_ (Row.lease (κs .1 .1 .0) (qs .1 .1 .0)) (List._∷_ (Row.lease (κs .1 .1 .1 .0) (qs .1 .1 .1 .0)) (List._∷_ (Row.lease (κs .1 .1 .1 .1 .0) (qs .1 .1 .1 .1 .0)) (List._∷_ (Row.lease (κs .1 .1 .1 .1 .1 .0) (qs .1 .1 .1 .1 .1 .0)) (List._∷_ (Row.lease (κs .1 .1 .1 .1 .1 .1 .0) (qs .1 .1 .1 .1 .1 .1 .0)) (List._∷_ (Row.lease (κs .1 .1 .1 .1 .1 .1 .1 .0) (qs .1 .1 .1 .1 .1 .1 .1 .0)) (List._∷_ (Row.lease (κs .1 .1 .1 .1 .1 .1 .1 .1 .0) (qs .1 .1 .1 .1 .1 .1 .1 .1 .0)) (List._∷_ (Row.lease (κs .1 .1 .1 .1 .1 .1 .1 .1 .1 .0) (qs .1 .1 .1 .1 .1 .1 .1 .1 .1 .0)) (List._∷_ (Row.lease (κs .1 .1 .1 .1 .1 .1 .1 .1 .1 .1 .0) (qs .1 .1 .1 .1 .1 .1 .1 .1 .1 .1 .0)) (List._∷_ (Row.lease (κs .1 .1 .1 .1 .1 .1 .1 .1 .1 .1 .1 .0) (qs .1 .1 .1 .1 .1 .1 .1 .1 .1 .1 .1 .0)) (List._∷_ Row.off (List._∷_ Row.off (List._∷_ Row.off (List._∷_ Row.off (List._∷_ Row.off (List._∷_ Row.off (List._∷_ Row.off (List._∷_ Row.off (List._∷_ Row.off (List._∷_ Row.off (List._∷_ Row.off (List._∷_ Row.off (List._∷_ Row.off (List._∷_ Row.off (List._∷_ Row.off (List._∷_ Row.off List.[]))))))))))))))))))))))))))) }
 
         abbrev G5 : Row.Cx
-        G5 = record { locals = List._++_ t0 (List._++_ t1 t2); slots = List._∷_ (Row.lease (κs .0) (qs .0)) (List._∷_ (Row.lease (κs .1 .0) (qs .1 .0)) (List._∷_ (Row.lease (κs .1 .1 .0) (qs .1 .1 .0)) (List._∷_ (Row.lease (κs .1 .1 .1 .0) (qs .1 .1 .1 .0)) (List._∷_ (Row.lease (κs .1 .1 .1 .1 .0) (qs .1 .1 .1 .1 .0)) (List._∷_ (Row.lease (κs .1 .1 .1 .1 .1 .0) (qs .1 .1 .1 .1 .1 .0)) (List._∷_ (Row.lease (κs .1 .1 .1 .1 .1 .1 .0) (qs .1 .1 .1 .1 .1 .1 .0)) (List._∷_ (Row.lease (κs .1 .1 .1 .1 .1 .1 .1 .0) (qs .1 .1 .1 .1 .1 .1 .1 .0)) (List._∷_ (Row.lease (κs .1 .1 .1 .1 .1 .1 .1 .1 .0) (qs .1 .1 .1 .1 .1 .1 .1 .1 .0)) (List._∷_ (Row.lease (κs .1 .1 .1 .1 .1 .1 .1 .1 .1 .0) (qs .1 .1 .1 .1 .1 .1 .1 .1 .1 .0)) (List._∷_ Row.off (List._∷_ Row.off (List._∷_ Row.off (List._∷_ Row.off (List._∷_ Row.off (List._∷_ Row.off (List._∷_ Row.off (List._∷_ Row.off (List._∷_ Row.off List.[])))))))))))))))))) }
+        G5 = record { locals = List._++_ t0 (List._++_ t1 (List._++_ t2 t3)); slots = List._∷_ (Row.lease (κs .0) (qs .0)) (List._∷_ (Row.lease (κs .1 .0) (qs .1 .0)) (List._∷_ (Row.lease (κs .1 .1 .0) (qs .1 .1 .0)) (List._∷_ (Row.lease (κs .1 .1 .1 .0) (qs .1 .1 .1 .0)) (List._∷_ (Row.lease (κs .1 .1 .1 .1 .0) (qs .1 .1 .1 .1 .0)) (List._∷_ (Row.lease (κs .1 .1 .1 .1 .1 .0) (qs .1 .1 .1 .1 .1 .0)) (List._∷_ (Row.lease (κs .1 .1 .1 .1 .1 .1 .0) (qs .1 .1 .1 .1 .1 .1 .0)) (List._∷_ (Row.lease (κs .1 .1 .1 .1 .1 .1 .1 .0) (qs .1 .1 .1 .1 .1 .1 .1 .0)) (List._∷_ (Row.lease (κs .1 .1 .1 .1 .1 .1 .1 .1 .0) (qs .1 .1 .1 .1 .1 .1 .1 .1 .0)) (List._∷_ (Row.lease (κs .1 .1 .1 .1 .1 .1 .1 .1 .1 .0) (qs .1 .1 .1 .1 .1 .1 .1 .1 .1 .0)) (List._∷_ (Row.lease (κs .1 .1 .1 .1 .1 .1 .1 .1 .1 .1 .0) (qs .1 .1 .1 .1 .1 .1 .1 .1 .1 .1 .0)) (List._∷_ (Row.lease (κs .1 .1 .1 .1 .1 .1 .1 .1 .1 .1 .1 .0) (qs .1 .1 .1 .1 .1 .1 .1 .1 .1 .1 .1 .0)) (List._∷_ Row.off (List._∷_ Row.off (List._∷_ Row.off (List._∷_ Row.off (List._∷_ Row.off (List._∷_ Row.off (List._∷_ Row.off (List._∷_ Row.off (List._∷_ Row.off (List._∷_ Row.off (List._∷_ Row.off (List._∷_ Row.off (List._∷_ Row.off (List._∷_ Row.off (List._∷_ Row.off (List._∷_ Row.off List.[]))))))))))))))))))))))))))) }
 
         abbrev G6 : Row.Cx
-        G6 = record { locals = List._++_ t0 (List._++_ t1 t2); slots = List._∷_ (Row.lease (κs .0) (qs .0)) (List._∷_ (Row.lease (κs .1 .0) (qs .1 .0)) (List._∷_ (Row.lease (κs .1 .1 .0) (qs .1 .1 .0)) (List._∷_ (Row.lease (κs .1 .1 .1 .0) (qs .1 .1 .1 .0)) (List._∷_ (Row.lease (κs .1 .1 .1 .1 .0) (qs .1 .1 .1 .1 .0)) (List._∷_ (Row.lease (κs .1 .1 .1 .1 .1 .0) (qs .1 .1 .1 .1 .1 .0)) (List._∷_ (Row.lease (κs .1 .1 .1 .1 .1 .1 .0) (qs .1 .1 .1 .1 .1 .1 .0)) (List._∷_ (Row.lease (κs .1 .1 .1 .1 .1 .1 .1 .0) (qs .1 .1 .1 .1 .1 .1 .1 .0)) (List._∷_ (Row.lease (κs .1 .1 .1 .1 .1 .1 .1 .1 .0) (qs .1 .1 .1 .1 .1 .1 .1 .1 .0)) (List._∷_ (Row.lease (κs .1 .1 .1 .1 .1 .1 .1 .1 .1 .0) (qs .1 .1 .1 .1 .1 .1 .1 .1 .1 .0)) (List._∷_ Row.off (List._∷_ Row.off (List._∷_ Row.off (List._∷_ Row.off (List._∷_ Row.off (List._∷_ Row.off (List._∷_ Row.off (List._∷_ Row.off (List._∷_ Row.off List.[])))))))))))))))))) }
+        G6 = record { locals = List._++_ t0 (List._++_ t1 (List._++_ t2 t3)); slots = List._∷_ (Row.lease (κs .0) (qs .0)) (List._∷_ (Row.lease (κs .1 .0) (qs .1 .0)) (List._∷_ (Row.lease (κs .1 .1 .0) (qs .1 .1 .0)) (List._∷_ (Row.lease (κs .1 .1 .1 .0) (qs .1 .1 .1 .0)) (List._∷_ (Row.lease (κs .1 .1 .1 .1 .0) (qs .1 .1 .1 .1 .0)) (List._∷_ (Row.lease (κs .1 .1 .1 .1 .1 .0) (qs .1 .1 .1 .1 .1 .0)) (List._∷_ (Row.lease (κs .1 .1 .1 .1 .1 .1 .0) (qs .1 .1 .1 .1 .1 .1 .0)) (List._∷_ (Row.lease (κs .1 .1 .1 .1 .1 .1 .1 .0) (qs .1 .1 .1 .1 .1 .1 .1 .0)) (List._∷_ (Row.lease (κs .1 .1 .1 .1 .1 .1 .1 .1 .0) (qs .1 .1 .1 .1 .1 .1 .1 .1 .0)) (List._∷_ (Row.lease (κs .1 .1 .1 .1 .1 .1 .1 .1 .1 .0) (qs .1 .1 .1 .1 .1 .1 .1 .1 .1 .0)) (List._∷_ (Row.lease (κs .1 .1 .1 .1 .1 .1 .1 .1 .1 .1 .0) (qs .1 .1 .1 .1 .1 .1 .1 .1 .1 .1 .0)) (List._∷_ (Row.lease (κs .1 .1 .1 .1 .1 .1 .1 .1 .1 .1 .1 .0) (qs .1 .1 .1 .1 .1 .1 .1 .1 .1 .1 .1 .0)) (List._∷_ Row.off (List._∷_ Row.off (List._∷_ Row.off (List._∷_ Row.off (List._∷_ Row.off (List._∷_ Row.off (List._∷_ Row.off (List._∷_ Row.off (List._∷_ Row.off (List._∷_ Row.off (List._∷_ Row.off (List._∷_ Row.off (List._∷_ Row.off (List._∷_ Row.off (List._∷_ Row.off (List._∷_ Row.off List.[]))))))))))))))))))))))))))) }
 
         abbrev G7 : Row.Cx
-        G7 = record { locals = List._++_ t0 (List._++_ t1 t2); slots = List._∷_ (Row.lease (κs .0) (qs .0)) (List._∷_ (Row.lease (κs .1 .0) (qs .1 .0)) (List._∷_ (Row.lease (κs .1 .1 .0) (qs .1 .1 .0)) (List._∷_ (Row.lease (κs .1 .1 .1 .0) (qs .1 .1 .1 .0)) (List._∷_ (Row.lease (κs .1 .1 .1 .1 .0) (qs .1 .1 .1 .1 .0)) (List._∷_ (Row.lease (κs .1 .1 .1 .1 .1 .0) (qs .1 .1 .1 .1 .1 .0)) (List._∷_ (Row.lease (κs .1 .1 .1 .1 .1 .1 .0) (qs .1 .1 .1 .1 .1 .1 .0)) (List._∷_ (Row.lease (κs .1 .1 .1 .1 .1 .1 .1 .0) (qs .1 .1 .1 .1 .1 .1 .1 .0)) (List._∷_ (Row.lease (κs .1 .1 .1 .1 .1 .1 .1 .1 .0) (qs .1 .1 .1 .1 .1 .1 .1 .1 .0)) (List._∷_ (Row.lease (κs .1 .1 .1 .1 .1 .1 .1 .1 .1 .0) (qs .1 .1 .1 .1 .1 .1 .1 .1 .1 .0)) (List._∷_ Row.off (List._∷_ Row.off (List._∷_ Row.off (List._∷_ Row.off (List._∷_ Row.off (List._∷_ Row.off (List._∷_ Row.off (List._∷_ Row.off (List._∷_ Row.off List.[])))))))))))))))))) }
+        G7 = record { locals = List._++_ t0 (List._++_ t1 (List._++_ t2 t3)); slots = List._∷_ (Row.lease (κs .0) (qs .0)) (List._∷_ (Row.lease (κs .1 .0) (qs .1 .0)) (List._∷_ (Row.lease (κs .1 .1 .0) (qs .1 .1 .0)) (List._∷_ (Row.lease (κs .1 .1 .1 .0) (qs .1 .1 .1 .0)) (List._∷_ (Row.lease (κs .1 .1 .1 .1 .0) (qs .1 .1 .1 .1 .0)) (List._∷_ (Row.lease (κs .1 .1 .1 .1 .1 .0) (qs .1 .1 .1 .1 .1 .0)) (List._∷_ (Row.lease (κs .1 .1 .1 .1 .1 .1 .0) (qs .1 .1 .1 .1 .1 .1 .0)) (List._∷_ (Row.lease (κs .1 .1 .1 .1 .1 .1 .1 .0) (qs .1 .1 .1 .1 .1 .1 .1 .0)) (List._∷_ (Row.lease (κs .1 .1 .1 .1 .1 .1 .1 .1 .0) (qs .1 .1 .1 .1 .1 .1 .1 .1 .0)) (List._∷_ (Row.lease (κs .1 .1 .1 .1 .1 .1 .1 .1 .1 .0) (qs .1 .1 .1 .1 .1 .1 .1 .1 .1 .0)) (List._∷_ (Row.lease (κs .1 .1 .1 .1 .1 .1 .1 .1 .1 .1 .0) (qs .1 .1 .1 .1 .1 .1 .1 .1 .1 .1 .0)) (List._∷_ (Row.lease (κs .1 .1 .1 .1 .1 .1 .1 .1 .1 .1 .1 .0) (qs .1 .1 .1 .1 .1 .1 .1 .1 .1 .1 .1 .0)) (List._∷_ Row.off (List._∷_ Row.off (List._∷_ Row.off (List._∷_ Row.off (List._∷_ Row.off (List._∷_ Row.off (List._∷_ Row.off (List._∷_ Row.off (List._∷_ Row.off (List._∷_ Row.off (List._∷_ Row.off (List._∷_ Row.off (List._∷_ Row.off (List._∷_ Row.off (List._∷_ Row.off (List._∷_ Row.off List.[]))))))))))))))))))))))))))) }
 
         abbrev G8 : Row.Cx
-        G8 = record { locals = List._++_ t0 (List._++_ t1 t2); slots = List._∷_ (Row.lease (κs .0) (qs .0)) (List._∷_ (Row.lease (κs .1 .0) (qs .1 .0)) (List._∷_ (Row.lease (κs .1 .1 .0) (qs .1 .1 .0)) (List._∷_ (Row.lease (κs .1 .1 .1 .0) (qs .1 .1 .1 .0)) (List._∷_ (Row.lease (κs .1 .1 .1 .1 .0) (qs .1 .1 .1 .1 .0)) (List._∷_ (Row.lease (κs .1 .1 .1 .1 .1 .0) (qs .1 .1 .1 .1 .1 .0)) (List._∷_ (Row.lease (κs .1 .1 .1 .1 .1 .1 .0) (qs .1 .1 .1 .1 .1 .1 .0)) (List._∷_ (Row.lease (κs .1 .1 .1 .1 .1 .1 .1 .0) (qs .1 .1 .1 .1 .1 .1 .1 .0)) (List._∷_ (Row.lease (κs .1 .1 .1 .1 .1 .1 .1 .1 .0) (qs .1 .1 .1 .1 .1 .1 .1 .1 .0)) (List._∷_ (Row.lease (κs .1 .1 .1 .1 .1 .1 .1 .1 .1 .0) (qs .1 .1 .1 .1 .1 .1 .1 .1 .1 .0)) (List._∷_ Row.off (List._∷_ Row.off (List._∷_ Row.off (List._∷_ Row.off (List._∷_ Row.off (List._∷_ Row.off (List._∷_ Row.off (List._∷_ Row.off (List._∷_ Row.off List.[])))))))))))))))))) }
+        G8 = record { locals = List._++_ t0 (List._++_ t1 (List._++_ t2 t3)); slots = List._∷_ (Row.lease (κs .0) (qs .0)) (List._∷_ (Row.lease (κs .1 .0) (qs .1 .0)) (List._∷_ (Row.lease (κs .1 .1 .0) (qs .1 .1 .0)) (List._∷_ (Row.lease (κs .1 .1 .1 .0) (qs .1 .1 .1 .0)) (List._∷_ (Row.lease (κs .1 .1 .1 .1 .0) (qs .1 .1 .1 .1 .0)) (List._∷_ (Row.lease (κs .1 .1 .1 .1 .1 .0) (qs .1 .1 .1 .1 .1 .0)) (List._∷_ (Row.lease (κs .1 .1 .1 .1 .1 .1 .0) (qs .1 .1 .1 .1 .1 .1 .0)) (List._∷_ (Row.lease (κs .1 .1 .1 .1 .1 .1 .1 .0) (qs .1 .1 .1 .1 .1 .1 .1 .0)) (List._∷_ (Row.lease (κs .1 .1 .1 .1 .1 .1 .1 .1 .0) (qs .1 .1 .1 .1 .1 .1 .1 .1 .0)) (List._∷_ (Row.lease (κs .1 .1 .1 .1 .1 .1 .1 .1 .1 .0) (qs .1 .1 .1 .1 .1 .1 .1 .1 .1 .0)) (List._∷_ (Row.lease (κs .1 .1 .1 .1 .1 .1 .1 .1 .1 .1 .0) (qs .1 .1 .1 .1 .1 .1 .1 .1 .1 .1 .0)) (List._∷_ (Row.lease (κs .1 .1 .1 .1 .1 .1 .1 .1 .1 .1 .1 .0) (qs .1 .1 .1 .1 .1 .1 .1 .1 .1 .1 .1 .0)) (List._∷_ Row.off (List._∷_ Row.off (List._∷_ Row.off (List._∷_ Row.off (List._∷_ Row.off (List._∷_ Row.off (List._∷_ Row.off (List._∷_ Row.off (List._∷_ Row.off (List._∷_ Row.off (List._∷_ Row.off (List._∷_ Row.off (List._∷_ Row.off (List._∷_ Row.off (List._∷_ Row.off (List._∷_ Row.off List.[]))))))))))))))))))))))))))) }
 
         abbrev G9 : Row.Cx
-        G9 = record { locals = List._++_ t0 (List._++_ t4 t2); slots = List._∷_ (Row.lease (κs .0) (qs .0)) (List._∷_ (Row.lease (κs .1 .0) (qs .1 .0)) (List._∷_ (Row.lease (κs .1 .1 .0) (qs .1 .1 .0)) (List._∷_ (Row.lease (κs .1 .1 .1 .0) (qs .1 .1 .1 .0)) (List._∷_ (Row.lease (κs .1 .1 .1 .1 .0) (qs .1 .1 .1 .1 .0)) (List._∷_ (Row.lease (κs .1 .1 .1 .1 .1 .0) (qs .1 .1 .1 .1 .1 .0)) (List._∷_ (Row.lease (κs .1 .1 .1 .1 .1 .1 .0) (qs .1 .1 .1 .1 .1 .1 .0)) (List._∷_ (Row.lease (κs .1 .1 .1 .1 .1 .1 .1 .0) (qs .1 .1 .1 .1 .1 .1 .1 .0)) (List._∷_ (Row.lease (κs .1 .1 .1 .1 .1 .1 .1 .1 .0) (qs .1 .1 .1 .1 .1 .1 .1 .1 .0)) (List._∷_ (Row.lease (κs .1 .1 .1 .1 .1 .1 .1 .1 .1 .0) (qs .1 .1 .1 .1 .1 .1 .1 .1 .1 .0)) (List._∷_ Row.off (List._∷_ Row.off (List._∷_ Row.off (List._∷_ Row.off (List._∷_ Row.off (List._∷_ Row.off (List._∷_ Row.off (List._∷_ Row.off (List._∷_ Row.off List.[])))))))))))))))))) }
+        G9 = record { locals = List._++_ t0 (List._++_ t5 (List._++_ t2 t3)); slots = List._∷_ (Row.lease (κs .0) (qs .0)) (List._∷_ (Row.lease (κs .1 .0) (qs .1 .0)) (List._∷_ (Row.lease (κs .1 .1 .0) (qs .1 .1 .0)) (List._∷_ (Row.lease (κs .1 .1 .1 .0) (qs .1 .1 .1 .0)) (List._∷_ (Row.lease (κs .1 .1 .1 .1 .0) (qs .1 .1 .1 .1 .0)) (List._∷_ (Row.lease (κs .1 .1 .1 .1 .1 .0) (qs .1 .1 .1 .1 .1 .0)) (List._∷_ (Row.lease (κs .1 .1 .1 .1 .1 .1 .0) (qs .1 .1 .1 .1 .1 .1 .0)) (List._∷_ (Row.lease (κs .1 .1 .1 .1 .1 .1 .1 .0) (qs .1 .1 .1 .1 .1 .1 .1 .0)) (List._∷_ (Row.lease (κs .1 .1 .1 .1 .1 .1 .1 .1 .0) (qs .1 .1 .1 .1 .1 .1 .1 .1 .0)) (List._∷_ (Row.lease (κs .1 .1 .1 .1 .1 .1 .1 .1 .1 .0) (qs .1 .1 .1 .1 .1 .1 .1 .1 .1 .0)) (List._∷_ (Row.lease (κs .1 .1 .1 .1 .1 .1 .1 .1 .1 .1 .0) (qs .1 .1 .1 .1 .1 .1 .1 .1 .1 .1 .0)) (List._∷_ (Row.lease (κs .1 .1 .1 .1 .1 .1 .1 .1 .1 .1 .1 .0) (qs .1 .1 .1 .1 .1 .1 .1 .1 .1 .1 .1 .0)) (List._∷_ Row.off (List._∷_ Row.off (List._∷_ Row.off (List._∷_ Row.off (List._∷_ Row.off (List._∷_ Row.off (List._∷_ Row.off (List._∷_ Row.off (List._∷_ Row.off (List._∷_ Row.off (List._∷_ Row.off (List._∷_ Row.off (List._∷_ Row.off (List._∷_ Row.off (List._∷_ Row.off (List._∷_ Row.off List.[]))))))))))))))))))))))))))) }
 
         abbrev G10 : Row.Cx
-        G10 = record { locals = List._++_ t0 (List._++_ t5 t2); slots = List._∷_ (Row.lease (κs .0) (qs .0)) (List._∷_ (Row.lease (κs .1 .0) (qs .1 .0)) (List._∷_ (Row.lease (κs .1 .1 .0) (qs .1 .1 .0)) (List._∷_ (Row.lease (κs .1 .1 .1 .0) (qs .1 .1 .1 .0)) (List._∷_ (Row.lease (κs .1 .1 .1 .1 .0) (qs .1 .1 .1 .1 .0)) (List._∷_ (Row.lease (κs .1 .1 .1 .1 .1 .0) (qs .1 .1 .1 .1 .1 .0)) (List._∷_ (Row.lease (κs .1 .1 .1 .1 .1 .1 .0) (qs .1 .1 .1 .1 .1 .1 .0)) (List._∷_ (Row.lease (κs .1 .1 .1 .1 .1 .1 .1 .0) (qs .1 .1 .1 .1 .1 .1 .1 .0)) (List._∷_ (Row.lease (κs .1 .1 .1 .1 .1 .1 .1 .1 .0) (qs .1 .1 .1 .1 .1 .1 .1 .1 .0)) (List._∷_ (Row.lease (κs .1 .1 .1 .1 .1 .1 .1 .1 .1 .0) (qs .1 .1 .1 .1 .1 .1 .1 .1 .1 .0)) (List._∷_ Row.off (List._∷_ Row.off (List._∷_ Row.off (List._∷_ Row.off (List._∷_ Row.off (List._∷_ Row.off (List._∷_ Row.off (List._∷_ Row.off (List._∷_ Row.off List.[])))))))))))))))))) }
+        G10 = record { locals = List._++_ t0 (List._++_ t6 (List._++_ t2 t3)); slots = List._∷_ (Row.lease (κs .0) (qs .0)) (List._∷_ (Row.lease (κs .1 .0) (qs .1 .0)) (List._∷_ (Row.lease (κs .1 .1 .0) (qs .1 .1 .0)) (List._∷_ (Row.lease (κs .1 .1 .1 .0) (qs .1 .1 .1 .0)) (List._∷_ (Row.lease (κs .1 .1 .1 .1 .0) (qs .1 .1 .1 .1 .0)) (List._∷_ (Row.lease (κs .1 .1 .1 .1 .1 .0) (qs .1 .1 .1 .1 .1 .0)) (List._∷_ (Row.lease (κs .1 .1 .1 .1 .1 .1 .0) (qs .1 .1 .1 .1 .1 .1 .0)) (List._∷_ (Row.lease (κs .1 .1 .1 .1 .1 .1 .1 .0) (qs .1 .1 .1 .1 .1 .1 .1 .0)) (List._∷_ (Row.lease (κs .1 .1 .1 .1 .1 .1 .1 .1 .0) (qs .1 .1 .1 .1 .1 .1 .1 .1 .0)) (List._∷_ (Row.lease (κs .1 .1 .1 .1 .1 .1 .1 .1 .1 .0) (qs .1 .1 .1 .1 .1 .1 .1 .1 .1 .0)) (List._∷_ (Row.lease (κs .1 .1 .1 .1 .1 .1 .1 .1 .1 .1 .0) (qs .1 .1 .1 .1 .1 .1 .1 .1 .1 .1 .0)) (List._∷_ (Row.lease (κs .1 .1 .1 .1 .1 .1 .1 .1 .1 .1 .1 .0) (qs .1 .1 .1 .1 .1 .1 .1 .1 .1 .1 .1 .0)) (List._∷_ Row.off (List._∷_ Row.off (List._∷_ Row.off (List._∷_ Row.off (List._∷_ Row.off (List._∷_ Row.off (List._∷_ Row.off (List._∷_ Row.off (List._∷_ Row.off (List._∷_ Row.off (List._∷_ Row.off (List._∷_ Row.off (List._∷_ Row.off (List._∷_ Row.off (List._∷_ Row.off (List._∷_ Row.off List.[]))))))))))))))))))))))))))) }
 
         abbrev G11 : Row.Cx
-        G11 = record { locals = List._++_ t0 (List._++_ t5 t2); slots = List._∷_ (Row.lease (κs .0) (qs .0)) (List._∷_ (Row.lease (κs .1 .0) (qs .1 .0)) (List._∷_ (Row.lease (κs .1 .1 .0) (qs .1 .1 .0)) (List._∷_ (Row.lease (κs .1 .1 .1 .0) (qs .1 .1 .1 .0)) (List._∷_ (Row.lease (κs .1 .1 .1 .1 .0) (qs .1 .1 .1 .1 .0)) (List._∷_ (Row.lease (κs .1 .1 .1 .1 .1 .0) (qs .1 .1 .1 .1 .1 .0)) (List._∷_ (Row.lease (κs .1 .1 .1 .1 .1 .1 .0) (qs .1 .1 .1 .1 .1 .1 .0)) (List._∷_ (Row.lease (κs .1 .1 .1 .1 .1 .1 .1 .0) (qs .1 .1 .1 .1 .1 .1 .1 .0)) (List._∷_ (Row.lease (κs .1 .1 .1 .1 .1 .1 .1 .1 .0) (qs .1 .1 .1 .1 .1 .1 .1 .1 .0)) (List._∷_ (Row.lease (κs .1 .1 .1 .1 .1 .1 .1 .1 .1 .0) (qs .1 .1 .1 .1 .1 .1 .1 .1 .1 .0)) (List._∷_ Row.alive (List._∷_ Row.off (List._∷_ Row.off (List._∷_ Row.off (List._∷_ Row.off (List._∷_ Row.off (List._∷_ Row.off (List._∷_ Row.off (List._∷_ Row.off List.[])))))))))))))))))) }
+        G11 = record { locals = List._++_ t0 (List._++_ t7 (List._++_ t2 t3)); slots = List._∷_ (Row.lease (κs .0) (qs .0)) (List._∷_ (Row.lease (κs .1 .0) (qs .1 .0)) (List._∷_ (Row.lease (κs .1 .1 .0) (qs .1 .1 .0)) (List._∷_ (Row.lease (κs .1 .1 .1 .0) (qs .1 .1 .1 .0)) (List._∷_ (Row.lease (κs .1 .1 .1 .1 .0) (qs .1 .1 .1 .1 .0)) (List._∷_ (Row.lease (κs .1 .1 .1 .1 .1 .0) (qs .1 .1 .1 .1 .1 .0)) (List._∷_ (Row.lease (κs .1 .1 .1 .1 .1 .1 .0) (qs .1 .1 .1 .1 .1 .1 .0)) (List._∷_ (Row.lease (κs .1 .1 .1 .1 .1 .1 .1 .0) (qs .1 .1 .1 .1 .1 .1 .1 .0)) (List._∷_ (Row.lease (κs .1 .1 .1 .1 .1 .1 .1 .1 .0) (qs .1 .1 .1 .1 .1 .1 .1 .1 .0)) (List._∷_ (Row.lease (κs .1 .1 .1 .1 .1 .1 .1 .1 .1 .0) (qs .1 .1 .1 .1 .1 .1 .1 .1 .1 .0)) (List._∷_ (Row.lease (κs .1 .1 .1 .1 .1 .1 .1 .1 .1 .1 .0) (qs .1 .1 .1 .1 .1 .1 .1 .1 .1 .1 .0)) (List._∷_ (Row.lease (κs .1 .1 .1 .1 .1 .1 .1 .1 .1 .1 .1 .0) (qs .1 .1 .1 .1 .1 .1 .1 .1 .1 .1 .1 .0)) (List._∷_ Row.off (List._∷_ Row.off (List._∷_ Row.off (List._∷_ Row.off (List._∷_ Row.off (List._∷_ Row.off (List._∷_ Row.off (List._∷_ Row.off (List._∷_ Row.off (List._∷_ Row.off (List._∷_ Row.off (List._∷_ Row.off (List._∷_ Row.off (List._∷_ Row.off (List._∷_ Row.off (List._∷_ Row.off List.[]))))))))))))))))))))))))))) }
 
         abbrev G12 : Row.Cx
-        G12 = record { locals = List._++_ g6 (List._++_ t7 t2); slots = List._∷_ Row.off (List._∷_ (Row.lease (κs .1 .0) (qs .1 .0)) (List._∷_ (Row.lease (κs .1 .1 .0) (qs .1 .1 .0)) (List._∷_ (Row.lease (κs .1 .1 .1 .0) (qs .1 .1 .1 .0)) (List._∷_ (Row.lease (κs .1 .1 .1 .1 .0) (qs .1 .1 .1 .1 .0)) (List._∷_ (Row.lease (κs .1 .1 .1 .1 .1 .0) (qs .1 .1 .1 .1 .1 .0)) (List._∷_ (Row.lease (κs .1 .1 .1 .1 .1 .1 .0) (qs .1 .1 .1 .1 .1 .1 .0)) (List._∷_ (Row.lease (κs .1 .1 .1 .1 .1 .1 .1 .0) (qs .1 .1 .1 .1 .1 .1 .1 .0)) (List._∷_ (Row.lease (κs .1 .1 .1 .1 .1 .1 .1 .1 .0) (qs .1 .1 .1 .1 .1 .1 .1 .1 .0)) (List._∷_ (Row.lease (κs .1 .1 .1 .1 .1 .1 .1 .1 .1 .0) (qs .1 .1 .1 .1 .1 .1 .1 .1 .1 .0)) (List._∷_ Row.alive (List._∷_ Row.off (List._∷_ Row.off (List._∷_ Row.off (List._∷_ Row.off (List._∷_ Row.off (List._∷_ Row.off (List._∷_ Row.off (List._∷_ Row.off List.[])))))))))))))))))) }
+        G12 = record { locals = List._++_ t0 (List._++_ t8 (List._++_ t2 t3)); slots = List._∷_ (Row.lease (κs .0) (qs .0)) (List._∷_ (Row.lease (κs .1 .0) (qs .1 .0)) (List._∷_ (Row.lease (κs .1 .1 .0) (qs .1 .1 .0)) (List._∷_ (Row.lease (κs .1 .1 .1 .0) (qs .1 .1 .1 .0)) (List._∷_ (Row.lease (κs .1 .1 .1 .1 .0) (qs .1 .1 .1 .1 .0)) (List._∷_ (Row.lease (κs .1 .1 .1 .1 .1 .0) (qs .1 .1 .1 .1 .1 .0)) (List._∷_ (Row.lease (κs .1 .1 .1 .1 .1 .1 .0) (qs .1 .1 .1 .1 .1 .1 .0)) (List._∷_ (Row.lease (κs .1 .1 .1 .1 .1 .1 .1 .0) (qs .1 .1 .1 .1 .1 .1 .1 .0)) (List._∷_ (Row.lease (κs .1 .1 .1 .1 .1 .1 .1 .1 .0) (qs .1 .1 .1 .1 .1 .1 .1 .1 .0)) (List._∷_ (Row.lease (κs .1 .1 .1 .1 .1 .1 .1 .1 .1 .0) (qs .1 .1 .1 .1 .1 .1 .1 .1 .1 .0)) (List._∷_ (Row.lease (κs .1 .1 .1 .1 .1 .1 .1 .1 .1 .1 .0) (qs .1 .1 .1 .1 .1 .1 .1 .1 .1 .1 .0)) (List._∷_ (Row.lease (κs .1 .1 .1 .1 .1 .1 .1 .1 .1 .1 .1 .0) (qs .1 .1 .1 .1 .1 .1 .1 .1 .1 .1 .1 .0)) (List._∷_ Row.off (List._∷_ Row.off (List._∷_ Row.off (List._∷_ Row.off (List._∷_ Row.off (List._∷_ Row.off (List._∷_ Row.off (List._∷_ Row.off (List._∷_ Row.off (List._∷_ Row.off (List._∷_ Row.off (List._∷_ Row.off (List._∷_ Row.off (List._∷_ Row.off (List._∷_ Row.off (List._∷_ Row.off List.[]))))))))))))))))))))))))))) }
 
         abbrev G13 : Row.Cx
-        G13 = record { locals = List._++_ g6 (List._++_ t8 t2); slots = List._∷_ Row.off (List._∷_ (Row.lease (κs .1 .0) (qs .1 .0)) (List._∷_ (Row.lease (κs .1 .1 .0) (qs .1 .1 .0)) (List._∷_ (Row.lease (κs .1 .1 .1 .0) (qs .1 .1 .1 .0)) (List._∷_ (Row.lease (κs .1 .1 .1 .1 .0) (qs .1 .1 .1 .1 .0)) (List._∷_ (Row.lease (κs .1 .1 .1 .1 .1 .0) (qs .1 .1 .1 .1 .1 .0)) (List._∷_ (Row.lease (κs .1 .1 .1 .1 .1 .1 .0) (qs .1 .1 .1 .1 .1 .1 .0)) (List._∷_ (Row.lease (κs .1 .1 .1 .1 .1 .1 .1 .0) (qs .1 .1 .1 .1 .1 .1 .1 .0)) (List._∷_ (Row.lease (κs .1 .1 .1 .1 .1 .1 .1 .1 .0) (qs .1 .1 .1 .1 .1 .1 .1 .1 .0)) (List._∷_ (Row.lease (κs .1 .1 .1 .1 .1 .1 .1 .1 .1 .0) (qs .1 .1 .1 .1 .1 .1 .1 .1 .1 .0)) (List._∷_ Row.alive (List._∷_ Row.off (List._∷_ Row.off (List._∷_ Row.off (List._∷_ Row.off (List._∷_ Row.off (List._∷_ Row.off (List._∷_ Row.off (List._∷_ Row.off List.[])))))))))))))))))) }
+        G13 = record { locals = List._++_ t0 (List._++_ t9 (List._++_ t2 t3)); slots = List._∷_ (Row.lease (κs .0) (qs .0)) (List._∷_ (Row.lease (κs .1 .0) (qs .1 .0)) (List._∷_ (Row.lease (κs .1 .1 .0) (qs .1 .1 .0)) (List._∷_ (Row.lease (κs .1 .1 .1 .0) (qs .1 .1 .1 .0)) (List._∷_ (Row.lease (κs .1 .1 .1 .1 .0) (qs .1 .1 .1 .1 .0)) (List._∷_ (Row.lease (κs .1 .1 .1 .1 .1 .0) (qs .1 .1 .1 .1 .1 .0)) (List._∷_ (Row.lease (κs .1 .1 .1 .1 .1 .1 .0) (qs .1 .1 .1 .1 .1 .1 .0)) (List._∷_ (Row.lease (κs .1 .1 .1 .1 .1 .1 .1 .0) (qs .1 .1 .1 .1 .1 .1 .1 .0)) (List._∷_ (Row.lease (κs .1 .1 .1 .1 .1 .1 .1 .1 .0) (qs .1 .1 .1 .1 .1 .1 .1 .1 .0)) (List._∷_ (Row.lease (κs .1 .1 .1 .1 .1 .1 .1 .1 .1 .0) (qs .1 .1 .1 .1 .1 .1 .1 .1 .1 .0)) (List._∷_ (Row.lease (κs .1 .1 .1 .1 .1 .1 .1 .1 .1 .1 .0) (qs .1 .1 .1 .1 .1 .1 .1 .1 .1 .1 .0)) (List._∷_ (Row.lease (κs .1 .1 .1 .1 .1 .1 .1 .1 .1 .1 .1 .0) (qs .1 .1 .1 .1 .1 .1 .1 .1 .1 .1 .1 .0)) (List._∷_ Row.off (List._∷_ Row.off (List._∷_ Row.off (List._∷_ Row.off (List._∷_ Row.off (List._∷_ Row.off (List._∷_ Row.off (List._∷_ Row.off (List._∷_ Row.off (List._∷_ Row.off (List._∷_ Row.off (List._∷_ Row.off (List._∷_ Row.off (List._∷_ Row.off (List._∷_ Row.off (List._∷_ Row.off List.[]))))))))))))))))))))))))))) }
 
         abbrev G14 : Row.Cx
-        G14 = record { locals = List._++_ g6 (List._++_ t8 t2); slots = List._∷_ Row.off (List._∷_ (Row.lease (κs .1 .0) (qs .1 .0)) (List._∷_ (Row.lease (κs .1 .1 .0) (qs .1 .1 .0)) (List._∷_ (Row.lease (κs .1 .1 .1 .0) (qs .1 .1 .1 .0)) (List._∷_ (Row.lease (κs .1 .1 .1 .1 .0) (qs .1 .1 .1 .1 .0)) (List._∷_ (Row.lease (κs .1 .1 .1 .1 .1 .0) (qs .1 .1 .1 .1 .1 .0)) (List._∷_ (Row.lease (κs .1 .1 .1 .1 .1 .1 .0) (qs .1 .1 .1 .1 .1 .1 .0)) (List._∷_ (Row.lease (κs .1 .1 .1 .1 .1 .1 .1 .0) (qs .1 .1 .1 .1 .1 .1 .1 .0)) (List._∷_ (Row.lease (κs .1 .1 .1 .1 .1 .1 .1 .1 .0) (qs .1 .1 .1 .1 .1 .1 .1 .1 .0)) (List._∷_ (Row.lease (κs .1 .1 .1 .1 .1 .1 .1 .1 .1 .0) (qs .1 .1 .1 .1 .1 .1 .1 .1 .1 .0)) (List._∷_ Row.alive (List._∷_ Row.alive (List._∷_ Row.off (List._∷_ Row.off (List._∷_ Row.off (List._∷_ Row.off (List._∷_ Row.off (List._∷_ Row.off (List._∷_ Row.off List.[])))))))))))))))))) }
+        G14 = record { locals = List._++_ t0 (List._++_ t9 (List._++_ t2 t3)); slots = List._∷_ (Row.lease (κs .0) (qs .0)) (List._∷_ (Row.lease (κs .1 .0) (qs .1 .0)) (List._∷_ (Row.lease (κs .1 .1 .0) (qs .1 .1 .0)) (List._∷_ (Row.lease (κs .1 .1 .1 .0) (qs .1 .1 .1 .0)) (List._∷_ (Row.lease (κs .1 .1 .1 .1 .0) (qs .1 .1 .1 .1 .0)) (List._∷_ (Row.lease (κs .1 .1 .1 .1 .1 .0) (qs .1 .1 .1 .1 .1 .0)) (List._∷_ (Row.lease (κs .1 .1 .1 .1 .1 .1 .0) (qs .1 .1 .1 .1 .1 .1 .0)) (List._∷_ (Row.lease (κs .1 .1 .1 .1 .1 .1 .1 .0) (qs .1 .1 .1 .1 .1 .1 .1 .0)) (List._∷_ (Row.lease (κs .1 .1 .1 .1 .1 .1 .1 .1 .0) (qs .1 .1 .1 .1 .1 .1 .1 .1 .0)) (List._∷_ (Row.lease (κs .1 .1 .1 .1 .1 .1 .1 .1 .1 .0) (qs .1 .1 .1 .1 .1 .1 .1 .1 .1 .0)) (List._∷_ (Row.lease (κs .1 .1 .1 .1 .1 .1 .1 .1 .1 .1 .0) (qs .1 .1 .1 .1 .1 .1 .1 .1 .1 .1 .0)) (List._∷_ (Row.lease (κs .1 .1 .1 .1 .1 .1 .1 .1 .1 .1 .1 .0) (qs .1 .1 .1 .1 .1 .1 .1 .1 .1 .1 .1 .0)) (List._∷_ Row.alive (List._∷_ Row.off (List._∷_ Row.off (List._∷_ Row.off (List._∷_ Row.off (List._∷_ Row.off (List._∷_ Row.off (List._∷_ Row.off (List._∷_ Row.off (List._∷_ Row.off (List._∷_ Row.off (List._∷_ Row.off (List._∷_ Row.off (List._∷_ Row.off (List._∷_ Row.off (List._∷_ Row.off List.[]))))))))))))))))))))))))))) }
 
         abbrev G15 : Row.Cx
-        G15 = record { locals = List._++_ g9 (List._++_ t10 t2); slots = List._∷_ Row.off (List._∷_ Row.off (List._∷_ (Row.lease (κs .1 .1 .0) (qs .1 .1 .0)) (List._∷_ (Row.lease (κs .1 .1 .1 .0) (qs .1 .1 .1 .0)) (List._∷_ (Row.lease (κs .1 .1 .1 .1 .0) (qs .1 .1 .1 .1 .0)) (List._∷_ (Row.lease (κs .1 .1 .1 .1 .1 .0) (qs .1 .1 .1 .1 .1 .0)) (List._∷_ (Row.lease (κs .1 .1 .1 .1 .1 .1 .0) (qs .1 .1 .1 .1 .1 .1 .0)) (List._∷_ (Row.lease (κs .1 .1 .1 .1 .1 .1 .1 .0) (qs .1 .1 .1 .1 .1 .1 .1 .0)) (List._∷_ (Row.lease (κs .1 .1 .1 .1 .1 .1 .1 .1 .0) (qs .1 .1 .1 .1 .1 .1 .1 .1 .0)) (List._∷_ (Row.lease (κs .1 .1 .1 .1 .1 .1 .1 .1 .1 .0) (qs .1 .1 .1 .1 .1 .1 .1 .1 .1 .0)) (List._∷_ Row.alive (List._∷_ Row.alive (List._∷_ Row.off (List._∷_ Row.off (List._∷_ Row.off (List._∷_ Row.off (List._∷_ Row.off (List._∷_ Row.off (List._∷_ Row.off List.[])))))))))))))))))) }
+        G15 = record { locals = List._++_ g10 (List._++_ t11 (List._++_ t2 t3)); slots = List._∷_ Row.off (List._∷_ (Row.lease (κs .1 .0) (qs .1 .0)) (List._∷_ (Row.lease (κs .1 .1 .0) (qs .1 .1 .0)) (List._∷_ (Row.lease (κs .1 .1 .1 .0) (qs .1 .1 .1 .0)) (List._∷_ (Row.lease (κs .1 .1 .1 .1 .0) (qs .1 .1 .1 .1 .0)) (List._∷_ (Row.lease (κs .1 .1 .1 .1 .1 .0) (qs .1 .1 .1 .1 .1 .0)) (List._∷_ (Row.lease (κs .1 .1 .1 .1 .1 .1 .0) (qs .1 .1 .1 .1 .1 .1 .0)) (List._∷_ (Row.lease (κs .1 .1 .1 .1 .1 .1 .1 .0) (qs .1 .1 .1 .1 .1 .1 .1 .0)) (List._∷_ (Row.lease (κs .1 .1 .1 .1 .1 .1 .1 .1 .0) (qs .1 .1 .1 .1 .1 .1 .1 .1 .0)) (List._∷_ (Row.lease (κs .1 .1 .1 .1 .1 .1 .1 .1 .1 .0) (qs .1 .1 .1 .1 .1 .1 .1 .1 .1 .0)) (List._∷_ (Row.lease (κs .1 .1 .1 .1 .1 .1 .1 .1 .1 .1 .0) (qs .1 .1 .1 .1 .1 .1 .1 .1 .1 .1 .0)) (List._∷_ (Row.lease (κs .1 .1 .1 .1 .1 .1 .1 .1 .1 .1 .1 .0) (qs .1 .1 .1 .1 .1 .1 .1 .1 .1 .1 .1 .0)) (List._∷_ Row.alive (List._∷_ Row.off (List._∷_ Row.off (List._∷_ Row.off (List._∷_ Row.off (List._∷_ Row.off (List._∷_ Row.off (List._∷_ Row.off (List._∷_ Row.off (List._∷_ Row.off (List._∷_ Row.off (List._∷_ Row.off (List._∷_ Row.off (List._∷_ Row.off (List._∷_ Row.off (List._∷_ Row.off List.[]))))))))))))))))))))))))))) }
 
         abbrev G16 : Row.Cx
-        G16 = record { locals = List._++_ g9 (List._++_ t11 t2); slots = List._∷_ Row.off (List._∷_ Row.off (List._∷_ (Row.lease (κs .1 .1 .0) (qs .1 .1 .0)) (List._∷_ (Row.lease (κs .1 .1 .1 .0) (qs .1 .1 .1 .0)) (List._∷_ (Row.lease (κs .1 .1 .1 .1 .0) (qs .1 .1 .1 .1 .0)) (List._∷_ (Row.lease (κs .1 .1 .1 .1 .1 .0) (qs .1 .1 .1 .1 .1 .0)) (List._∷_ (Row.lease (κs .1 .1 .1 .1 .1 .1 .0) (qs .1 .1 .1 .1 .1 .1 .0)) (List._∷_ (Row.lease (κs .1 .1 .1 .1 .1 .1 .1 .0) (qs .1 .1 .1 .1 .1 .1 .1 .0)) (List._∷_ (Row.lease (κs .1 .1 .1 .1 .1 .1 .1 .1 .0) (qs .1 .1 .1 .1 .1 .1 .1 .1 .0)) (List._∷_ (Row.lease (κs .1 .1 .1 .1 .1 .1 .1 .1 .1 .0) (qs .1 .1 .1 .1 .1 .1 .1 .1 .1 .0)) (List._∷_ Row.alive (List._∷_ Row.alive (List._∷_ Row.off (List._∷_ Row.off (List._∷_ Row.off (List._∷_ Row.off (List._∷_ Row.off (List._∷_ Row.off (List._∷_ Row.off List.[])))))))))))))))))) }
+        G16 = record { locals = List._++_ g10 (List._++_ t12 (List._++_ t2 t3)); slots = List._∷_ Row.off (List._∷_ (Row.lease (κs .1 .0) (qs .1 .0)) (List._∷_ (Row.lease (κs .1 .1 .0) (qs .1 .1 .0)) (List._∷_ (Row.lease (κs .1 .1 .1 .0) (qs .1 .1 .1 .0)) (List._∷_ (Row.lease (κs .1 .1 .1 .1 .0) (qs .1 .1 .1 .1 .0)) (List._∷_ (Row.lease (κs .1 .1 .1 .1 .1 .0) (qs .1 .1 .1 .1 .1 .0)) (List._∷_ (Row.lease (κs .1 .1 .1 .1 .1 .1 .0) (qs .1 .1 .1 .1 .1 .1 .0)) (List._∷_ (Row.lease (κs .1 .1 .1 .1 .1 .1 .1 .0) (qs .1 .1 .1 .1 .1 .1 .1 .0)) (List._∷_ (Row.lease (κs .1 .1 .1 .1 .1 .1 .1 .1 .0) (qs .1 .1 .1 .1 .1 .1 .1 .1 .0)) (List._∷_ (Row.lease (κs .1 .1 .1 .1 .1 .1 .1 .1 .1 .0) (qs .1 .1 .1 .1 .1 .1 .1 .1 .1 .0)) (List._∷_ (Row.lease (κs .1 .1 .1 .1 .1 .1 .1 .1 .1 .1 .0) (qs .1 .1 .1 .1 .1 .1 .1 .1 .1 .1 .0)) (List._∷_ (Row.lease (κs .1 .1 .1 .1 .1 .1 .1 .1 .1 .1 .1 .0) (qs .1 .1 .1 .1 .1 .1 .1 .1 .1 .1 .1 .0)) (List._∷_ Row.alive (List._∷_ Row.off (List._∷_ Row.off (List._∷_ Row.off (List._∷_ Row.off (List._∷_ Row.off (List._∷_ Row.off (List._∷_ Row.off (List._∷_ Row.off (List._∷_ Row.off (List._∷_ Row.off (List._∷_ Row.off (List._∷_ Row.off (List._∷_ Row.off (List._∷_ Row.off (List._∷_ Row.off List.[]))))))))))))))))))))))))))) }
 
         abbrev G17 : Row.Cx
-        G17 = record { locals = List._++_ g9 (List._++_ t11 t2); slots = List._∷_ Row.off (List._∷_ Row.off (List._∷_ (Row.lease (κs .1 .1 .0) (qs .1 .1 .0)) (List._∷_ (Row.lease (κs .1 .1 .1 .0) (qs .1 .1 .1 .0)) (List._∷_ (Row.lease (κs .1 .1 .1 .1 .0) (qs .1 .1 .1 .1 .0)) (List._∷_ (Row.lease (κs .1 .1 .1 .1 .1 .0) (qs .1 .1 .1 .1 .1 .0)) (List._∷_ (Row.lease (κs .1 .1 .1 .1 .1 .1 .0) (qs .1 .1 .1 .1 .1 .1 .0)) (List._∷_ (Row.lease (κs .1 .1 .1 .1 .1 .1 .1 .0) (qs .1 .1 .1 .1 .1 .1 .1 .0)) (List._∷_ (Row.lease (κs .1 .1 .1 .1 .1 .1 .1 .1 .0) (qs .1 .1 .1 .1 .1 .1 .1 .1 .0)) (List._∷_ (Row.lease (κs .1 .1 .1 .1 .1 .1 .1 .1 .1 .0) (qs .1 .1 .1 .1 .1 .1 .1 .1 .1 .0)) (List._∷_ Row.alive (List._∷_ Row.alive (List._∷_ Row.alive (List._∷_ Row.off (List._∷_ Row.off (List._∷_ Row.off (List._∷_ Row.off (List._∷_ Row.off (List._∷_ Row.off List.[])))))))))))))))))) }
+        G17 = record { locals = List._++_ g10 (List._++_ t12 (List._++_ t2 t3)); slots = List._∷_ Row.off (List._∷_ (Row.lease (κs .1 .0) (qs .1 .0)) (List._∷_ (Row.lease (κs .1 .1 .0) (qs .1 .1 .0)) (List._∷_ (Row.lease (κs .1 .1 .1 .0) (qs .1 .1 .1 .0)) (List._∷_ (Row.lease (κs .1 .1 .1 .1 .0) (qs .1 .1 .1 .1 .0)) (List._∷_ (Row.lease (κs .1 .1 .1 .1 .1 .0) (qs .1 .1 .1 .1 .1 .0)) (List._∷_ (Row.lease (κs .1 .1 .1 .1 .1 .1 .0) (qs .1 .1 .1 .1 .1 .1 .0)) (List._∷_ (Row.lease (κs .1 .1 .1 .1 .1 .1 .1 .0) (qs .1 .1 .1 .1 .1 .1 .1 .0)) (List._∷_ (Row.lease (κs .1 .1 .1 .1 .1 .1 .1 .1 .0) (qs .1 .1 .1 .1 .1 .1 .1 .1 .0)) (List._∷_ (Row.lease (κs .1 .1 .1 .1 .1 .1 .1 .1 .1 .0) (qs .1 .1 .1 .1 .1 .1 .1 .1 .1 .0)) (List._∷_ (Row.lease (κs .1 .1 .1 .1 .1 .1 .1 .1 .1 .1 .0) (qs .1 .1 .1 .1 .1 .1 .1 .1 .1 .1 .0)) (List._∷_ (Row.lease (κs .1 .1 .1 .1 .1 .1 .1 .1 .1 .1 .1 .0) (qs .1 .1 .1 .1 .1 .1 .1 .1 .1 .1 .1 .0)) (List._∷_ Row.alive (List._∷_ Row.alive (List._∷_ Row.off (List._∷_ Row.off (List._∷_ Row.off (List._∷_ Row.off (List._∷_ Row.off (List._∷_ Row.off (List._∷_ Row.off (List._∷_ Row.off (List._∷_ Row.off (List._∷_ Row.off (List._∷_ Row.off (List._∷_ Row.off (List._∷_ Row.off (List._∷_ Row.off List.[]))))))))))))))))))))))))))) }
 
         abbrev G18 : Row.Cx
-        G18 = record { locals = List._++_ g12 (List._++_ t13 t2); slots = List._∷_ Row.off (List._∷_ Row.off (List._∷_ Row.off (List._∷_ (Row.lease (κs .1 .1 .1 .0) (qs .1 .1 .1 .0)) (List._∷_ (Row.lease (κs .1 .1 .1 .1 .0) (qs .1 .1 .1 .1 .0)) (List._∷_ (Row.lease (κs .1 .1 .1 .1 .1 .0) (qs .1 .1 .1 .1 .1 .0)) (List._∷_ (Row.lease (κs .1 .1 .1 .1 .1 .1 .0) (qs .1 .1 .1 .1 .1 .1 .0)) (List._∷_ (Row.lease (κs .1 .1 .1 .1 .1 .1 .1 .0) (qs .1 .1 .1 .1 .1 .1 .1 .0)) (List._∷_ (Row.lease (κs .1 .1 .1 .1 .1 .1 .1 .1 .0) (qs .1 .1 .1 .1 .1 .1 .1 .1 .0)) (List._∷_ (Row.lease (κs .1 .1 .1 .1 .1 .1 .1 .1 .1 .0) (qs .1 .1 .1 .1 .1 .1 .1 .1 .1 .0)) (List._∷_ Row.alive (List._∷_ Row.alive (List._∷_ Row.alive (List._∷_ Row.off (List._∷_ Row.off (List._∷_ Row.off (List._∷_ Row.off (List._∷_ Row.off (List._∷_ Row.off List.[])))))))))))))))))) }
+        G18 = record { locals = List._++_ g13 (List._++_ t14 (List._++_ t2 t3)); slots = List._∷_ Row.off (List._∷_ Row.off (List._∷_ (Row.lease (κs .1 .1 .0) (qs .1 .1 .0)) (List._∷_ (Row.lease (κs .1 .1 .1 .0) (qs .1 .1 .1 .0)) (List._∷_ (Row.lease (κs .1 .1 .1 .1 .0) (qs .1 .1 .1 .1 .0)) (List._∷_ (Row.lease (κs .1 .1 .1 .1 .1 .0) (qs .1 .1 .1 .1 .1 .0)) (List._∷_ (Row.lease (κs .1 .1 .1 .1 .1 .1 .0) (qs .1 .1 .1 .1 .1 .1 .0)) (List._∷_ (Row.lease (κs .1 .1 .1 .1 .1 .1 .1 .0) (qs .1 .1 .1 .1 .1 .1 .1 .0)) (List._∷_ (Row.lease (κs .1 .1 .1 .1 .1 .1 .1 .1 .0) (qs .1 .1 .1 .1 .1 .1 .1 .1 .0)) (List._∷_ (Row.lease (κs .1 .1 .1 .1 .1 .1 .1 .1 .1 .0) (qs .1 .1 .1 .1 .1 .1 .1 .1 .1 .0)) (List._∷_ (Row.lease (κs .1 .1 .1 .1 .1 .1 .1 .1 .1 .1 .0) (qs .1 .1 .1 .1 .1 .1 .1 .1 .1 .1 .0)) (List._∷_ (Row.lease (κs .1 .1 .1 .1 .1 .1 .1 .1 .1 .1 .1 .0) (qs .1 .1 .1 .1 .1 .1 .1 .1 .1 .1 .1 .0)) (List._∷_ Row.alive (List._∷_ Row.alive (List._∷_ Row.off (List._∷_ Row.off (List._∷_ Row.off (List._∷_ Row.off (List._∷_ Row.off (List._∷_ Row.off (List._∷_ Row.off (List._∷_ Row.off (List._∷_ Row.off (List._∷_ Row.off (List._∷_ Row.off (List._∷_ Row.off (List._∷_ Row.off (List._∷_ Row.off List.[]))))))))))))))))))))))))))) }
 
         abbrev G19 : Row.Cx
-        G19 = record { locals = List._++_ g12 (List._++_ t14 t2); slots = List._∷_ Row.off (List._∷_ Row.off (List._∷_ Row.off (List._∷_ (Row.lease (κs .1 .1 .1 .0) (qs .1 .1 .1 .0)) (List._∷_ (Row.lease (κs .1 .1 .1 .1 .0) (qs .1 .1 .1 .1 .0)) (List._∷_ (Row.lease (κs .1 .1 .1 .1 .1 .0) (qs .1 .1 .1 .1 .1 .0)) (List._∷_ (Row.lease (κs .1 .1 .1 .1 .1 .1 .0) (qs .1 .1 .1 .1 .1 .1 .0)) (List._∷_ (Row.lease (κs .1 .1 .1 .1 .1 .1 .1 .0) (qs .1 .1 .1 .1 .1 .1 .1 .0)) (List._∷_ (Row.lease (κs .1 .1 .1 .1 .1 .1 .1 .1 .0) (qs .1 .1 .1 .1 .1 .1 .1 .1 .0)) (List._∷_ (Row.lease (κs .1 .1 .1 .1 .1 .1 .1 .1 .1 .0) (qs .1 .1 .1 .1 .1 .1 .1 .1 .1 .0)) (List._∷_ Row.alive (List._∷_ Row.alive (List._∷_ Row.alive (List._∷_ Row.off (List._∷_ Row.off (List._∷_ Row.off (List._∷_ Row.off (List._∷_ Row.off (List._∷_ Row.off List.[])))))))))))))))))) }
+        G19 = record { locals = List._++_ g13 (List._++_ t15 (List._++_ t2 t3)); slots = List._∷_ Row.off (List._∷_ Row.off (List._∷_ (Row.lease (κs .1 .1 .0) (qs .1 .1 .0)) (List._∷_ (Row.lease (κs .1 .1 .1 .0) (qs .1 .1 .1 .0)) (List._∷_ (Row.lease (κs .1 .1 .1 .1 .0) (qs .1 .1 .1 .1 .0)) (List._∷_ (Row.lease (κs .1 .1 .1 .1 .1 .0) (qs .1 .1 .1 .1 .1 .0)) (List._∷_ (Row.lease (κs .1 .1 .1 .1 .1 .1 .0) (qs .1 .1 .1 .1 .1 .1 .0)) (List._∷_ (Row.lease (κs .1 .1 .1 .1 .1 .1 .1 .0) (qs .1 .1 .1 .1 .1 .1 .1 .0)) (List._∷_ (Row.lease (κs .1 .1 .1 .1 .1 .1 .1 .1 .0) (qs .1 .1 .1 .1 .1 .1 .1 .1 .0)) (List._∷_ (Row.lease (κs .1 .1 .1 .1 .1 .1 .1 .1 .1 .0) (qs .1 .1 .1 .1 .1 .1 .1 .1 .1 .0)) (List._∷_ (Row.lease (κs .1 .1 .1 .1 .1 .1 .1 .1 .1 .1 .0) (qs .1 .1 .1 .1 .1 .1 .1 .1 .1 .1 .0)) (List._∷_ (Row.lease (κs .1 .1 .1 .1 .1 .1 .1 .1 .1 .1 .1 .0) (qs .1 .1 .1 .1 .1 .1 .1 .1 .1 .1 .1 .0)) (List._∷_ Row.alive (List._∷_ Row.alive (List._∷_ Row.off (List._∷_ Row.off (List._∷_ Row.off (List._∷_ Row.off (List._∷_ Row.off (List._∷_ Row.off (List._∷_ Row.off (List._∷_ Row.off (List._∷_ Row.off (List._∷_ Row.off (List._∷_ Row.off (List._∷_ Row.off (List._∷_ Row.off (List._∷_ Row.off List.[]))))))))))))))))))))))))))) }
 
         abbrev G20 : Row.Cx
-        G20 = record { locals = List._++_ g12 (List._++_ t14 t2); slots = List._∷_ Row.off (List._∷_ Row.off (List._∷_ Row.off (List._∷_ (Row.lease (κs .1 .1 .1 .0) (qs .1 .1 .1 .0)) (List._∷_ (Row.lease (κs .1 .1 .1 .1 .0) (qs .1 .1 .1 .1 .0)) (List._∷_ (Row.lease (κs .1 .1 .1 .1 .1 .0) (qs .1 .1 .1 .1 .1 .0)) (List._∷_ (Row.lease (κs .1 .1 .1 .1 .1 .1 .0) (qs .1 .1 .1 .1 .1 .1 .0)) (List._∷_ (Row.lease (κs .1 .1 .1 .1 .1 .1 .1 .0) (qs .1 .1 .1 .1 .1 .1 .1 .0)) (List._∷_ (Row.lease (κs .1 .1 .1 .1 .1 .1 .1 .1 .0) (qs .1 .1 .1 .1 .1 .1 .1 .1 .0)) (List._∷_ (Row.lease (κs .1 .1 .1 .1 .1 .1 .1 .1 .1 .0) (qs .1 .1 .1 .1 .1 .1 .1 .1 .1 .0)) (List._∷_ Row.alive (List._∷_ Row.alive (List._∷_ Row.alive (List._∷_ Row.alive (List._∷_ Row.off (List._∷_ Row.off (List._∷_ Row.off (List._∷_ Row.off (List._∷_ Row.off List.[])))))))))))))))))) }
+        G20 = record { locals = List._++_ g13 (List._++_ t15 (List._++_ t2 t3)); slots = List._∷_ Row.off (List._∷_ Row.off (List._∷_ (Row.lease (κs .1 .1 .0) (qs .1 .1 .0)) (List._∷_ (Row.lease (κs .1 .1 .1 .0) (qs .1 .1 .1 .0)) (List._∷_ (Row.lease (κs .1 .1 .1 .1 .0) (qs .1 .1 .1 .1 .0)) (List._∷_ (Row.lease (κs .1 .1 .1 .1 .1 .0) (qs .1 .1 .1 .1 .1 .0)) (List._∷_ (Row.lease (κs .1 .1 .1 .1 .1 .1 .0) (qs .1 .1 .1 .1 .1 .1 .0)) (List._∷_ (Row.lease (κs .1 .1 .1 .1 .1 .1 .1 .0) (qs .1 .1 .1 .1 .1 .1 .1 .0)) (List._∷_ (Row.lease (κs .1 .1 .1 .1 .1 .1 .1 .1 .0) (qs .1 .1 .1 .1 .1 .1 .1 .1 .0)) (List._∷_ (Row.lease (κs .1 .1 .1 .1 .1 .1 .1 .1 .1 .0) (qs .1 .1 .1 .1 .1 .1 .1 .1 .1 .0)) (List._∷_ (Row.lease (κs .1 .1 .1 .1 .1 .1 .1 .1 .1 .1 .0) (qs .1 .1 .1 .1 .1 .1 .1 .1 .1 .1 .0)) (List._∷_ (Row.lease (κs .1 .1 .1 .1 .1 .1 .1 .1 .1 .1 .1 .0) (qs .1 .1 .1 .1 .1 .1 .1 .1 .1 .1 .1 .0)) (List._∷_ Row.alive (List._∷_ Row.alive (List._∷_ Row.alive (List._∷_ Row.off (List._∷_ Row.off (List._∷_ Row.off (List._∷_ Row.off (List._∷_ Row.off (List._∷_ Row.off (List._∷_ Row.off (List._∷_ Row.off (List._∷_ Row.off (List._∷_ Row.off (List._∷_ Row.off (List._∷_ Row.off (List._∷_ Row.off List.[]))))))))))))))))))))))))))) }
 
         abbrev G21 : Row.Cx
-        G21 = record { locals = List._++_ g15 (List._++_ t16 t2); slots = List._∷_ Row.off (List._∷_ Row.off (List._∷_ Row.off (List._∷_ Row.off (List._∷_ (Row.lease (κs .1 .1 .1 .1 .0) (qs .1 .1 .1 .1 .0)) (List._∷_ (Row.lease (κs .1 .1 .1 .1 .1 .0) (qs .1 .1 .1 .1 .1 .0)) (List._∷_ (Row.lease (κs .1 .1 .1 .1 .1 .1 .0) (qs .1 .1 .1 .1 .1 .1 .0)) (List._∷_ (Row.lease (κs .1 .1 .1 .1 .1 .1 .1 .0) (qs .1 .1 .1 .1 .1 .1 .1 .0)) (List._∷_ (Row.lease (κs .1 .1 .1 .1 .1 .1 .1 .1 .0) (qs .1 .1 .1 .1 .1 .1 .1 .1 .0)) (List._∷_ (Row.lease (κs .1 .1 .1 .1 .1 .1 .1 .1 .1 .0) (qs .1 .1 .1 .1 .1 .1 .1 .1 .1 .0)) (List._∷_ Row.alive (List._∷_ Row.alive (List._∷_ Row.alive (List._∷_ Row.alive (List._∷_ Row.off (List._∷_ Row.off (List._∷_ Row.off (List._∷_ Row.off (List._∷_ Row.off List.[])))))))))))))))))) }
+        G21 = record { locals = List._++_ g16 (List._++_ t17 (List._++_ t2 t3)); slots = List._∷_ Row.off (List._∷_ Row.off (List._∷_ Row.off (List._∷_ (Row.lease (κs .1 .1 .1 .0) (qs .1 .1 .1 .0)) (List._∷_ (Row.lease (κs .1 .1 .1 .1 .0) (qs .1 .1 .1 .1 .0)) (List._∷_ (Row.lease (κs .1 .1 .1 .1 .1 .0) (qs .1 .1 .1 .1 .1 .0)) (List._∷_ (Row.lease (κs .1 .1 .1 .1 .1 .1 .0) (qs .1 .1 .1 .1 .1 .1 .0)) (List._∷_ (Row.lease (κs .1 .1 .1 .1 .1 .1 .1 .0) (qs .1 .1 .1 .1 .1 .1 .1 .0)) (List._∷_ (Row.lease (κs .1 .1 .1 .1 .1 .1 .1 .1 .0) (qs .1 .1 .1 .1 .1 .1 .1 .1 .0)) (List._∷_ (Row.lease (κs .1 .1 .1 .1 .1 .1 .1 .1 .1 .0) (qs .1 .1 .1 .1 .1 .1 .1 .1 .1 .0)) (List._∷_ (Row.lease (κs .1 .1 .1 .1 .1 .1 .1 .1 .1 .1 .0) (qs .1 .1 .1 .1 .1 .1 .1 .1 .1 .1 .0)) (List._∷_ (Row.lease (κs .1 .1 .1 .1 .1 .1 .1 .1 .1 .1 .1 .0) (qs .1 .1 .1 .1 .1 .1 .1 .1 .1 .1 .1 .0)) (List._∷_ Row.alive (List._∷_ Row.alive (List._∷_ Row.alive (List._∷_ Row.off (List._∷_ Row.off (List._∷_ Row.off (List._∷_ Row.off (List._∷_ Row.off (List._∷_ Row.off (List._∷_ Row.off (List._∷_ Row.off (List._∷_ Row.off (List._∷_ Row.off (List._∷_ Row.off (List._∷_ Row.off (List._∷_ Row.off List.[]))))))))))))))))))))))))))) }
 
         abbrev G22 : Row.Cx
-        G22 = record { locals = List._++_ g15 (List._++_ t17 t2); slots = List._∷_ Row.off (List._∷_ Row.off (List._∷_ Row.off (List._∷_ Row.off (List._∷_ (Row.lease (κs .1 .1 .1 .1 .0) (qs .1 .1 .1 .1 .0)) (List._∷_ (Row.lease (κs .1 .1 .1 .1 .1 .0) (qs .1 .1 .1 .1 .1 .0)) (List._∷_ (Row.lease (κs .1 .1 .1 .1 .1 .1 .0) (qs .1 .1 .1 .1 .1 .1 .0)) (List._∷_ (Row.lease (κs .1 .1 .1 .1 .1 .1 .1 .0) (qs .1 .1 .1 .1 .1 .1 .1 .0)) (List._∷_ (Row.lease (κs .1 .1 .1 .1 .1 .1 .1 .1 .0) (qs .1 .1 .1 .1 .1 .1 .1 .1 .0)) (List._∷_ (Row.lease (κs .1 .1 .1 .1 .1 .1 .1 .1 .1 .0) (qs .1 .1 .1 .1 .1 .1 .1 .1 .1 .0)) (List._∷_ Row.alive (List._∷_ Row.alive (List._∷_ Row.alive (List._∷_ Row.alive (List._∷_ Row.off (List._∷_ Row.off (List._∷_ Row.off (List._∷_ Row.off (List._∷_ Row.off List.[])))))))))))))))))) }
+        G22 = record { locals = List._++_ g16 (List._++_ t18 (List._++_ t2 t3)); slots = List._∷_ Row.off (List._∷_ Row.off (List._∷_ Row.off (List._∷_ (Row.lease (κs .1 .1 .1 .0) (qs .1 .1 .1 .0)) (List._∷_ (Row.lease (κs .1 .1 .1 .1 .0) (qs .1 .1 .1 .1 .0)) (List._∷_ (Row.lease (κs .1 .1 .1 .1 .1 .0) (qs .1 .1 .1 .1 .1 .0)) (List._∷_ (Row.lease (κs .1 .1 .1 .1 .1 .1 .0) (qs .1 .1 .1 .1 .1 .1 .0)) (List._∷_ (Row.lease (κs .1 .1 .1 .1 .1 .1 .1 .0) (qs .1 .1 .1 .1 .1 .1 .1 .0)) (List._∷_ (Row.lease (κs .1 .1 .1 .1 .1 .1 .1 .1 .0) (qs .1 .1 .1 .1 .1 .1 .1 .1 .0)) (List._∷_ (Row.lease (κs .1 .1 .1 .1 .1 .1 .1 .1 .1 .0) (qs .1 .1 .1 .1 .1 .1 .1 .1 .1 .0)) (List._∷_ (Row.lease (κs .1 .1 .1 .1 .1 .1 .1 .1 .1 .1 .0) (qs .1 .1 .1 .1 .1 .1 .1 .1 .1 .1 .0)) (List._∷_ (Row.lease (κs .1 .1 .1 .1 .1 .1 .1 .1 .1 .1 .1 .0) (qs .1 .1 .1 .1 .1 .1 .1 .1 .1 .1 .1 .0)) (List._∷_ Row.alive (List._∷_ Row.alive (List._∷_ Row.alive (List._∷_ Row.off (List._∷_ Row.off (List._∷_ Row.off (List._∷_ Row.off (List._∷_ Row.off (List._∷_ Row.off (List._∷_ Row.off (List._∷_ Row.off (List._∷_ Row.off (List._∷_ Row.off (List._∷_ Row.off (List._∷_ Row.off (List._∷_ Row.off List.[]))))))))))))))))))))))))))) }
 
         abbrev G23 : Row.Cx
-        G23 = record { locals = List._++_ g15 (List._++_ t17 t2); slots = List._∷_ Row.off (List._∷_ Row.off (List._∷_ Row.off (List._∷_ Row.off (List._∷_ (Row.lease (κs .1 .1 .1 .1 .0) (qs .1 .1 .1 .1 .0)) (List._∷_ (Row.lease (κs .1 .1 .1 .1 .1 .0) (qs .1 .1 .1 .1 .1 .0)) (List._∷_ (Row.lease (κs .1 .1 .1 .1 .1 .1 .0) (qs .1 .1 .1 .1 .1 .1 .0)) (List._∷_ (Row.lease (κs .1 .1 .1 .1 .1 .1 .1 .0) (qs .1 .1 .1 .1 .1 .1 .1 .0)) (List._∷_ (Row.lease (κs .1 .1 .1 .1 .1 .1 .1 .1 .0) (qs .1 .1 .1 .1 .1 .1 .1 .1 .0)) (List._∷_ (Row.lease (κs .1 .1 .1 .1 .1 .1 .1 .1 .1 .0) (qs .1 .1 .1 .1 .1 .1 .1 .1 .1 .0)) (List._∷_ Row.alive (List._∷_ Row.alive (List._∷_ Row.alive (List._∷_ Row.alive (List._∷_ Row.alive (List._∷_ Row.off (List._∷_ Row.off (List._∷_ Row.off (List._∷_ Row.off List.[])))))))))))))))))) }
+        G23 = record { locals = List._++_ g16 (List._++_ t18 (List._++_ t2 t3)); slots = List._∷_ Row.off (List._∷_ Row.off (List._∷_ Row.off (List._∷_ (Row.lease (κs .1 .1 .1 .0) (qs .1 .1 .1 .0)) (List._∷_ (Row.lease (κs .1 .1 .1 .1 .0) (qs .1 .1 .1 .1 .0)) (List._∷_ (Row.lease (κs .1 .1 .1 .1 .1 .0) (qs .1 .1 .1 .1 .1 .0)) (List._∷_ (Row.lease (κs .1 .1 .1 .1 .1 .1 .0) (qs .1 .1 .1 .1 .1 .1 .0)) (List._∷_ (Row.lease (κs .1 .1 .1 .1 .1 .1 .1 .0) (qs .1 .1 .1 .1 .1 .1 .1 .0)) (List._∷_ (Row.lease (κs .1 .1 .1 .1 .1 .1 .1 .1 .0) (qs .1 .1 .1 .1 .1 .1 .1 .1 .0)) (List._∷_ (Row.lease (κs .1 .1 .1 .1 .1 .1 .1 .1 .1 .0) (qs .1 .1 .1 .1 .1 .1 .1 .1 .1 .0)) (List._∷_ (Row.lease (κs .1 .1 .1 .1 .1 .1 .1 .1 .1 .1 .0) (qs .1 .1 .1 .1 .1 .1 .1 .1 .1 .1 .0)) (List._∷_ (Row.lease (κs .1 .1 .1 .1 .1 .1 .1 .1 .1 .1 .1 .0) (qs .1 .1 .1 .1 .1 .1 .1 .1 .1 .1 .1 .0)) (List._∷_ Row.alive (List._∷_ Row.alive (List._∷_ Row.alive (List._∷_ Row.alive (List._∷_ Row.off (List._∷_ Row.off (List._∷_ Row.off (List._∷_ Row.off (List._∷_ Row.off (List._∷_ Row.off (List._∷_ Row.off (List._∷_ Row.off (List._∷_ Row.off (List._∷_ Row.off (List._∷_ Row.off (List._∷_ Row.off List.[]))))))))))))))))))))))))))) }
 
         abbrev G24 : Row.Cx
-        G24 = record { locals = List._++_ g18 (List._++_ t19 t2); slots = List._∷_ Row.off (List._∷_ Row.off (List._∷_ Row.off (List._∷_ Row.off (List._∷_ Row.off (List._∷_ (Row.lease (κs .1 .1 .1 .1 .1 .0) (qs .1 .1 .1 .1 .1 .0)) (List._∷_ (Row.lease (κs .1 .1 .1 .1 .1 .1 .0) (qs .1 .1 .1 .1 .1 .1 .0)) (List._∷_ (Row.lease (κs .1 .1 .1 .1 .1 .1 .1 .0) (qs .1 .1 .1 .1 .1 .1 .1 .0)) (List._∷_ (Row.lease (κs .1 .1 .1 .1 .1 .1 .1 .1 .0) (qs .1 .1 .1 .1 .1 .1 .1 .1 .0)) (List._∷_ (Row.lease (κs .1 .1 .1 .1 .1 .1 .1 .1 .1 .0) (qs .1 .1 .1 .1 .1 .1 .1 .1 .1 .0)) (List._∷_ Row.alive (List._∷_ Row.alive (List._∷_ Row.alive (List._∷_ Row.alive (List._∷_ Row.alive (List._∷_ Row.off (List._∷_ Row.off (List._∷_ Row.off (List._∷_ Row.off List.[])))))))))))))))))) }
+        G24 = record { locals = List._++_ g19 (List._++_ t20 (List._++_ t2 t3)); slots = List._∷_ Row.off (List._∷_ Row.off (List._∷_ Row.off (List._∷_ Row.off (List._∷_ (Row.lease (κs .1 .1 .1 .1 .0) (qs .1 .1 .1 .1 .0)) (List._∷_ (Row.lease (κs .1 .1 .1 .1 .1 .0) (qs .1 .1 .1 .1 .1 .0)) (List._∷_ (Row.lease (κs .1 .1 .1 .1 .1 .1 .0) (qs .1 .1 .1 .1 .1 .1 .0)) (List._∷_ (Row.lease (κs .1 .1 .1 .1 .1 .1 .1 .0) (qs .1 .1 .1 .1 .1 .1 .1 .0)) (List._∷_ (Row.lease (κs .1 .1 .1 .1 .1 .1 .1 .1 .0) (qs .1 .1 .1 .1 .1 .1 .1 .1 .0)) (List._∷_ (Row.lease (κs .1 .1 .1 .1 .1 .1 .1 .1 .1 .0) (qs .1 .1 .1 .1 .1 .1 .1 .1 .1 .0)) (List._∷_ (Row.lease (κs .1 .1 .1 .1 .1 .1 .1 .1 .1 .1 .0) (qs .1 .1 .1 .1 .1 .1 .1 .1 .1 .1 .0)) (List._∷_ (Row.lease (κs .1 .1 .1 .1 .1 .1 .1 .1 .1 .1 .1 .0) (qs .1 .1 .1 .1 .1 .1 .1 .1 .1 .1 .1 .0)) (List._∷_ Row.alive (List._∷_ Row.alive (List._∷_ Row.alive (List._∷_ Row.alive (List._∷_ Row.off (List._∷_ Row.off (List._∷_ Row.off (List._∷_ Row.off (List._∷_ Row.off (List._∷_ Row.off (List._∷_ Row.off (List._∷_ Row.off (List._∷_ Row.off (List._∷_ Row.off (List._∷_ Row.off (List._∷_ Row.off List.[]))))))))))))))))))))))))))) }
 
         abbrev G25 : Row.Cx
-        G25 = record { locals = List._++_ g18 (List._++_ t20 t2); slots = List._∷_ Row.off (List._∷_ Row.off (List._∷_ Row.off (List._∷_ Row.off (List._∷_ Row.off (List._∷_ (Row.lease (κs .1 .1 .1 .1 .1 .0) (qs .1 .1 .1 .1 .1 .0)) (List._∷_ (Row.lease (κs .1 .1 .1 .1 .1 .1 .0) (qs .1 .1 .1 .1 .1 .1 .0)) (List._∷_ (Row.lease (κs .1 .1 .1 .1 .1 .1 .1 .0) (qs .1 .1 .1 .1 .1 .1 .1 .0)) (List._∷_ (Row.lease (κs .1 .1 .1 .1 .1 .1 .1 .1 .0) (qs .1 .1 .1 .1 .1 .1 .1 .1 .0)) (List._∷_ (Row.lease (κs .1 .1 .1 .1 .1 .1 .1 .1 .1 .0) (qs .1 .1 .1 .1 .1 .1 .1 .1 .1 .0)) (List._∷_ Row.alive (List._∷_ Row.alive (List._∷_ Row.alive (List._∷_ Row.alive (List._∷_ Row.alive (List._∷_ Row.off (List._∷_ Row.off (List._∷_ Row.off (List._∷_ Row.off List.[])))))))))))))))))) }
+        G25 = record { locals = List._++_ g19 (List._++_ t18 (List._++_ t21 t3)); slots = List._∷_ Row.off (List._∷_ Row.off (List._∷_ Row.off (List._∷_ Row.off (List._∷_ (Row.lease (κs .1 .1 .1 .1 .0) (qs .1 .1 .1 .1 .0)) (List._∷_ (Row.lease (κs .1 .1 .1 .1 .1 .0) (qs .1 .1 .1 .1 .1 .0)) (List._∷_ (Row.lease (κs .1 .1 .1 .1 .1 .1 .0) (qs .1 .1 .1 .1 .1 .1 .0)) (List._∷_ (Row.lease (κs .1 .1 .1 .1 .1 .1 .1 .0) (qs .1 .1 .1 .1 .1 .1 .1 .0)) (List._∷_ (Row.lease (κs .1 .1 .1 .1 .1 .1 .1 .1 .0) (qs .1 .1 .1 .1 .1 .1 .1 .1 .0)) (List._∷_ (Row.lease (κs .1 .1 .1 .1 .1 .1 .1 .1 .1 .0) (qs .1 .1 .1 .1 .1 .1 .1 .1 .1 .0)) (List._∷_ (Row.lease (κs .1 .1 .1 .1 .1 .1 .1 .1 .1 .1 .0) (qs .1 .1 .1 .1 .1 .1 .1 .1 .1 .1 .0)) (List._∷_ (Row.lease (κs .1 .1 .1 .1 .1 .1 .1 .1 .1 .1 .1 .0) (qs .1 .1 .1 .1 .1 .1 .1 .1 .1 .1 .1 .0)) (List._∷_ Row.alive (List._∷_ Row.alive (List._∷_ Row.alive (List._∷_ Row.alive (List._∷_ Row.off (List._∷_ Row.off (List._∷_ Row.off (List._∷_ Row.off (List._∷_ Row.off (List._∷_ Row.off (List._∷_ Row.off (List._∷_ Row.off (List._∷_ Row.off (List._∷_ Row.off (List._∷_ Row.off (List._∷_ Row.off List.[]))))))))))))))))))))))))))) }
 
         abbrev G26 : Row.Cx
-        G26 = record { locals = List._++_ g18 (List._++_ t20 t2); slots = List._∷_ Row.off (List._∷_ Row.off (List._∷_ Row.off (List._∷_ Row.off (List._∷_ Row.off (List._∷_ (Row.lease (κs .1 .1 .1 .1 .1 .0) (qs .1 .1 .1 .1 .1 .0)) (List._∷_ (Row.lease (κs .1 .1 .1 .1 .1 .1 .0) (qs .1 .1 .1 .1 .1 .1 .0)) (List._∷_ (Row.lease (κs .1 .1 .1 .1 .1 .1 .1 .0) (qs .1 .1 .1 .1 .1 .1 .1 .0)) (List._∷_ (Row.lease (κs .1 .1 .1 .1 .1 .1 .1 .1 .0) (qs .1 .1 .1 .1 .1 .1 .1 .1 .0)) (List._∷_ (Row.lease (κs .1 .1 .1 .1 .1 .1 .1 .1 .1 .0) (qs .1 .1 .1 .1 .1 .1 .1 .1 .1 .0)) (List._∷_ Row.alive (List._∷_ Row.alive (List._∷_ Row.alive (List._∷_ Row.alive (List._∷_ Row.alive (List._∷_ Row.alive (List._∷_ Row.off (List._∷_ Row.off (List._∷_ Row.off List.[])))))))))))))))))) }
+        G26 = record { locals = List._++_ g19 (List._++_ t18 (List._++_ t21 t3)); slots = List._∷_ Row.off (List._∷_ Row.off (List._∷_ Row.off (List._∷_ Row.off (List._∷_ (Row.lease (κs .1 .1 .1 .1 .0) (qs .1 .1 .1 .1 .0)) (List._∷_ (Row.lease (κs .1 .1 .1 .1 .1 .0) (qs .1 .1 .1 .1 .1 .0)) (List._∷_ (Row.lease (κs .1 .1 .1 .1 .1 .1 .0) (qs .1 .1 .1 .1 .1 .1 .0)) (List._∷_ (Row.lease (κs .1 .1 .1 .1 .1 .1 .1 .0) (qs .1 .1 .1 .1 .1 .1 .1 .0)) (List._∷_ (Row.lease (κs .1 .1 .1 .1 .1 .1 .1 .1 .0) (qs .1 .1 .1 .1 .1 .1 .1 .1 .0)) (List._∷_ (Row.lease (κs .1 .1 .1 .1 .1 .1 .1 .1 .1 .0) (qs .1 .1 .1 .1 .1 .1 .1 .1 .1 .0)) (List._∷_ (Row.lease (κs .1 .1 .1 .1 .1 .1 .1 .1 .1 .1 .0) (qs .1 .1 .1 .1 .1 .1 .1 .1 .1 .1 .0)) (List._∷_ (Row.lease (κs .1 .1 .1 .1 .1 .1 .1 .1 .1 .1 .1 .0) (qs .1 .1 .1 .1 .1 .1 .1 .1 .1 .1 .1 .0)) (List._∷_ Row.alive (List._∷_ Row.alive (List._∷_ Row.alive (List._∷_ Row.alive (List._∷_ Row.alive (List._∷_ Row.off (List._∷_ Row.off (List._∷_ Row.off (List._∷_ Row.off (List._∷_ Row.off (List._∷_ Row.off (List._∷_ Row.off (List._∷_ Row.off (List._∷_ Row.off (List._∷_ Row.off (List._∷_ Row.off List.[]))))))))))))))))))))))))))) }
 
         abbrev G27 : Row.Cx
-        G27 = record { locals = List._++_ g21 (List._++_ t22 t2); slots = List._∷_ Row.off (List._∷_ Row.off (List._∷_ Row.off (List._∷_ Row.off (List._∷_ Row.off (List._∷_ Row.off (List._∷_ (Row.lease (κs .1 .1 .1 .1 .1 .1 .0) (qs .1 .1 .1 .1 .1 .1 .0)) (List._∷_ (Row.lease (κs .1 .1 .1 .1 .1 .1 .1 .0) (qs .1 .1 .1 .1 .1 .1 .1 .0)) (List._∷_ (Row.lease (κs .1 .1 .1 .1 .1 .1 .1 .1 .0) (qs .1 .1 .1 .1 .1 .1 .1 .1 .0)) (List._∷_ (Row.lease (κs .1 .1 .1 .1 .1 .1 .1 .1 .1 .0) (qs .1 .1 .1 .1 .1 .1 .1 .1 .1 .0)) (List._∷_ Row.alive (List._∷_ Row.alive (List._∷_ Row.alive (List._∷_ Row.alive (List._∷_ Row.alive (List._∷_ Row.alive (List._∷_ Row.off (List._∷_ Row.off (List._∷_ Row.off List.[])))))))))))))))))) }
+        G27 = record { locals = List._++_ g22 (List._++_ t18 (List._++_ t23 t3)); slots = List._∷_ Row.off (List._∷_ Row.off (List._∷_ Row.off (List._∷_ Row.off (List._∷_ Row.off (List._∷_ (Row.lease (κs .1 .1 .1 .1 .1 .0) (qs .1 .1 .1 .1 .1 .0)) (List._∷_ (Row.lease (κs .1 .1 .1 .1 .1 .1 .0) (qs .1 .1 .1 .1 .1 .1 .0)) (List._∷_ (Row.lease (κs .1 .1 .1 .1 .1 .1 .1 .0) (qs .1 .1 .1 .1 .1 .1 .1 .0)) (List._∷_ (Row.lease (κs .1 .1 .1 .1 .1 .1 .1 .1 .0) (qs .1 .1 .1 .1 .1 .1 .1 .1 .0)) (List._∷_ (Row.lease (κs .1 .1 .1 .1 .1 .1 .1 .1 .1 .0) (qs .1 .1 .1 .1 .1 .1 .1 .1 .1 .0)) (List._∷_ (Row.lease (κs .1 .1 .1 .1 .1 .1 .1 .1 .1 .1 .0) (qs .1 .1 .1 .1 .1 .1 .1 .1 .1 .1 .0)) (List._∷_ (Row.lease (κs .1 .1 .1 .1 .1 .1 .1 .1 .1 .1 .1 .0) (qs .1 .1 .1 .1 .1 .1 .1 .1 .1 .1 .1 .0)) (List._∷_ Row.alive (List._∷_ Row.alive (List._∷_ Row.alive (List._∷_ Row.alive (List._∷_ Row.alive (List._∷_ Row.off (List._∷_ Row.off (List._∷_ Row.off (List._∷_ Row.off (List._∷_ Row.off (List._∷_ Row.off (List._∷_ Row.off (List._∷_ Row.off (List._∷_ Row.off (List._∷_ Row.off (List._∷_ Row.off List.[]))))))))))))))))))))))))))) }
 
         abbrev G28 : Row.Cx
-        G28 = record { locals = List._++_ g21 (List._++_ t23 t2); slots = List._∷_ Row.off (List._∷_ Row.off (List._∷_ Row.off (List._∷_ Row.off (List._∷_ Row.off (List._∷_ Row.off (List._∷_ (Row.lease (κs .1 .1 .1 .1 .1 .1 .0) (qs .1 .1 .1 .1 .1 .1 .0)) (List._∷_ (Row.lease (κs .1 .1 .1 .1 .1 .1 .1 .0) (qs .1 .1 .1 .1 .1 .1 .1 .0)) (List._∷_ (Row.lease (κs .1 .1 .1 .1 .1 .1 .1 .1 .0) (qs .1 .1 .1 .1 .1 .1 .1 .1 .0)) (List._∷_ (Row.lease (κs .1 .1 .1 .1 .1 .1 .1 .1 .1 .0) (qs .1 .1 .1 .1 .1 .1 .1 .1 .1 .0)) (List._∷_ Row.alive (List._∷_ Row.alive (List._∷_ Row.alive (List._∷_ Row.alive (List._∷_ Row.alive (List._∷_ Row.alive (List._∷_ Row.off (List._∷_ Row.off (List._∷_ Row.off List.[])))))))))))))))))) }
+        G28 = record { locals = List._++_ g22 (List._++_ t18 (List._++_ t24 t3)); slots = List._∷_ Row.off (List._∷_ Row.off (List._∷_ Row.off (List._∷_ Row.off (List._∷_ Row.off (List._∷_ (Row.lease (κs .1 .1 .1 .1 .1 .0) (qs .1 .1 .1 .1 .1 .0)) (List._∷_ (Row.lease (κs .1 .1 .1 .1 .1 .1 .0) (qs .1 .1 .1 .1 .1 .1 .0)) (List._∷_ (Row.lease (κs .1 .1 .1 .1 .1 .1 .1 .0) (qs .1 .1 .1 .1 .1 .1 .1 .0)) (List._∷_ (Row.lease (κs .1 .1 .1 .1 .1 .1 .1 .1 .0) (qs .1 .1 .1 .1 .1 .1 .1 .1 .0)) (List._∷_ (Row.lease (κs .1 .1 .1 .1 .1 .1 .1 .1 .1 .0) (qs .1 .1 .1 .1 .1 .1 .1 .1 .1 .0)) (List._∷_ (Row.lease (κs .1 .1 .1 .1 .1 .1 .1 .1 .1 .1 .0) (qs .1 .1 .1 .1 .1 .1 .1 .1 .1 .1 .0)) (List._∷_ (Row.lease (κs .1 .1 .1 .1 .1 .1 .1 .1 .1 .1 .1 .0) (qs .1 .1 .1 .1 .1 .1 .1 .1 .1 .1 .1 .0)) (List._∷_ Row.alive (List._∷_ Row.alive (List._∷_ Row.alive (List._∷_ Row.alive (List._∷_ Row.alive (List._∷_ Row.off (List._∷_ Row.off (List._∷_ Row.off (List._∷_ Row.off (List._∷_ Row.off (List._∷_ Row.off (List._∷_ Row.off (List._∷_ Row.off (List._∷_ Row.off (List._∷_ Row.off (List._∷_ Row.off List.[]))))))))))))))))))))))))))) }
 
         abbrev G29 : Row.Cx
-        G29 = record { locals = List._++_ g21 (List._++_ t23 t2); slots = List._∷_ Row.off (List._∷_ Row.off (List._∷_ Row.off (List._∷_ Row.off (List._∷_ Row.off (List._∷_ Row.off (List._∷_ (Row.lease (κs .1 .1 .1 .1 .1 .1 .0) (qs .1 .1 .1 .1 .1 .1 .0)) (List._∷_ (Row.lease (κs .1 .1 .1 .1 .1 .1 .1 .0) (qs .1 .1 .1 .1 .1 .1 .1 .0)) (List._∷_ (Row.lease (κs .1 .1 .1 .1 .1 .1 .1 .1 .0) (qs .1 .1 .1 .1 .1 .1 .1 .1 .0)) (List._∷_ (Row.lease (κs .1 .1 .1 .1 .1 .1 .1 .1 .1 .0) (qs .1 .1 .1 .1 .1 .1 .1 .1 .1 .0)) (List._∷_ Row.alive (List._∷_ Row.alive (List._∷_ Row.alive (List._∷_ Row.alive (List._∷_ Row.alive (List._∷_ Row.alive (List._∷_ Row.alive (List._∷_ Row.off (List._∷_ Row.off List.[])))))))))))))))))) }
+        G29 = record { locals = List._++_ g22 (List._++_ t25 (List._++_ t24 t3)); slots = List._∷_ Row.off (List._∷_ Row.off (List._∷_ Row.off (List._∷_ Row.off (List._∷_ Row.off (List._∷_ (Row.lease (κs .1 .1 .1 .1 .1 .0) (qs .1 .1 .1 .1 .1 .0)) (List._∷_ (Row.lease (κs .1 .1 .1 .1 .1 .1 .0) (qs .1 .1 .1 .1 .1 .1 .0)) (List._∷_ (Row.lease (κs .1 .1 .1 .1 .1 .1 .1 .0) (qs .1 .1 .1 .1 .1 .1 .1 .0)) (List._∷_ (Row.lease (κs .1 .1 .1 .1 .1 .1 .1 .1 .0) (qs .1 .1 .1 .1 .1 .1 .1 .1 .0)) (List._∷_ (Row.lease (κs .1 .1 .1 .1 .1 .1 .1 .1 .1 .0) (qs .1 .1 .1 .1 .1 .1 .1 .1 .1 .0)) (List._∷_ (Row.lease (κs .1 .1 .1 .1 .1 .1 .1 .1 .1 .1 .0) (qs .1 .1 .1 .1 .1 .1 .1 .1 .1 .1 .0)) (List._∷_ (Row.lease (κs .1 .1 .1 .1 .1 .1 .1 .1 .1 .1 .1 .0) (qs .1 .1 .1 .1 .1 .1 .1 .1 .1 .1 .1 .0)) (List._∷_ Row.alive (List._∷_ Row.alive (List._∷_ Row.alive (List._∷_ Row.alive (List._∷_ Row.alive (List._∷_ Row.off (List._∷_ Row.off (List._∷_ Row.off (List._∷_ Row.off (List._∷_ Row.off (List._∷_ Row.off (List._∷_ Row.off (List._∷_ Row.off (List._∷_ Row.off (List._∷_ Row.off (List._∷_ Row.off List.[]))))))))))))))))))))))))))) }
 
         abbrev G30 : Row.Cx
-        G30 = record { locals = List._++_ g24 (List._++_ t25 t2); slots = List._∷_ Row.off (List._∷_ Row.off (List._∷_ Row.off (List._∷_ Row.off (List._∷_ Row.off (List._∷_ Row.off (List._∷_ Row.off (List._∷_ (Row.lease (κs .1 .1 .1 .1 .1 .1 .1 .0) (qs .1 .1 .1 .1 .1 .1 .1 .0)) (List._∷_ (Row.lease (κs .1 .1 .1 .1 .1 .1 .1 .1 .0) (qs .1 .1 .1 .1 .1 .1 .1 .1 .0)) (List._∷_ (Row.lease (κs .1 .1 .1 .1 .1 .1 .1 .1 .1 .0) (qs .1 .1 .1 .1 .1 .1 .1 .1 .1 .0)) (List._∷_ Row.alive (List._∷_ Row.alive (List._∷_ Row.alive (List._∷_ Row.alive (List._∷_ Row.alive (List._∷_ Row.alive (List._∷_ Row.alive (List._∷_ Row.off (List._∷_ Row.off List.[])))))))))))))))))) }
+        G30 = record { locals = List._++_ g22 (List._++_ t25 (List._++_ t26 t3)); slots = List._∷_ Row.off (List._∷_ Row.off (List._∷_ Row.off (List._∷_ Row.off (List._∷_ Row.off (List._∷_ (Row.lease (κs .1 .1 .1 .1 .1 .0) (qs .1 .1 .1 .1 .1 .0)) (List._∷_ (Row.lease (κs .1 .1 .1 .1 .1 .1 .0) (qs .1 .1 .1 .1 .1 .1 .0)) (List._∷_ (Row.lease (κs .1 .1 .1 .1 .1 .1 .1 .0) (qs .1 .1 .1 .1 .1 .1 .1 .0)) (List._∷_ (Row.lease (κs .1 .1 .1 .1 .1 .1 .1 .1 .0) (qs .1 .1 .1 .1 .1 .1 .1 .1 .0)) (List._∷_ (Row.lease (κs .1 .1 .1 .1 .1 .1 .1 .1 .1 .0) (qs .1 .1 .1 .1 .1 .1 .1 .1 .1 .0)) (List._∷_ (Row.lease (κs .1 .1 .1 .1 .1 .1 .1 .1 .1 .1 .0) (qs .1 .1 .1 .1 .1 .1 .1 .1 .1 .1 .0)) (List._∷_ (Row.lease (κs .1 .1 .1 .1 .1 .1 .1 .1 .1 .1 .1 .0) (qs .1 .1 .1 .1 .1 .1 .1 .1 .1 .1 .1 .0)) (List._∷_ Row.alive (List._∷_ Row.alive (List._∷_ Row.alive (List._∷_ Row.alive (List._∷_ Row.alive (List._∷_ Row.off (List._∷_ Row.off (List._∷_ Row.off (List._∷_ Row.off (List._∷_ Row.off (List._∷_ Row.off (List._∷_ Row.off (List._∷_ Row.off (List._∷_ Row.off (List._∷_ Row.off (List._∷_ Row.off List.[]))))))))))))))))))))))))))) }
 
         abbrev G31 : Row.Cx
-        G31 = record { locals = List._++_ g24 (List._++_ t23 t26); slots = List._∷_ Row.off (List._∷_ Row.off (List._∷_ Row.off (List._∷_ Row.off (List._∷_ Row.off (List._∷_ Row.off (List._∷_ Row.off (List._∷_ (Row.lease (κs .1 .1 .1 .1 .1 .1 .1 .0) (qs .1 .1 .1 .1 .1 .1 .1 .0)) (List._∷_ (Row.lease (κs .1 .1 .1 .1 .1 .1 .1 .1 .0) (qs .1 .1 .1 .1 .1 .1 .1 .1 .0)) (List._∷_ (Row.lease (κs .1 .1 .1 .1 .1 .1 .1 .1 .1 .0) (qs .1 .1 .1 .1 .1 .1 .1 .1 .1 .0)) (List._∷_ Row.alive (List._∷_ Row.alive (List._∷_ Row.alive (List._∷_ Row.alive (List._∷_ Row.alive (List._∷_ Row.alive (List._∷_ Row.alive (List._∷_ Row.off (List._∷_ Row.off List.[])))))))))))))))))) }
+        G31 = record { locals = List._++_ g22 (List._++_ t25 (List._++_ t27 t3)); slots = List._∷_ Row.off (List._∷_ Row.off (List._∷_ Row.off (List._∷_ Row.off (List._∷_ Row.off (List._∷_ (Row.lease (κs .1 .1 .1 .1 .1 .0) (qs .1 .1 .1 .1 .1 .0)) (List._∷_ (Row.lease (κs .1 .1 .1 .1 .1 .1 .0) (qs .1 .1 .1 .1 .1 .1 .0)) (List._∷_ (Row.lease (κs .1 .1 .1 .1 .1 .1 .1 .0) (qs .1 .1 .1 .1 .1 .1 .1 .0)) (List._∷_ (Row.lease (κs .1 .1 .1 .1 .1 .1 .1 .1 .0) (qs .1 .1 .1 .1 .1 .1 .1 .1 .0)) (List._∷_ (Row.lease (κs .1 .1 .1 .1 .1 .1 .1 .1 .1 .0) (qs .1 .1 .1 .1 .1 .1 .1 .1 .1 .0)) (List._∷_ (Row.lease (κs .1 .1 .1 .1 .1 .1 .1 .1 .1 .1 .0) (qs .1 .1 .1 .1 .1 .1 .1 .1 .1 .1 .0)) (List._∷_ (Row.lease (κs .1 .1 .1 .1 .1 .1 .1 .1 .1 .1 .1 .0) (qs .1 .1 .1 .1 .1 .1 .1 .1 .1 .1 .1 .0)) (List._∷_ Row.alive (List._∷_ Row.alive (List._∷_ Row.alive (List._∷_ Row.alive (List._∷_ Row.alive (List._∷_ Row.off (List._∷_ Row.off (List._∷_ Row.off (List._∷_ Row.off (List._∷_ Row.off (List._∷_ Row.off (List._∷_ Row.off (List._∷_ Row.off (List._∷_ Row.off (List._∷_ Row.off (List._∷_ Row.off List.[]))))))))))))))))))))))))))) }
 
         abbrev G32 : Row.Cx
-        G32 = record { locals = List._++_ g24 (List._++_ t23 t26); slots = List._∷_ Row.off (List._∷_ Row.off (List._∷_ Row.off (List._∷_ Row.off (List._∷_ Row.off (List._∷_ Row.off (List._∷_ Row.off (List._∷_ (Row.lease (κs .1 .1 .1 .1 .1 .1 .1 .0) (qs .1 .1 .1 .1 .1 .1 .1 .0)) (List._∷_ (Row.lease (κs .1 .1 .1 .1 .1 .1 .1 .1 .0) (qs .1 .1 .1 .1 .1 .1 .1 .1 .0)) (List._∷_ (Row.lease (κs .1 .1 .1 .1 .1 .1 .1 .1 .1 .0) (qs .1 .1 .1 .1 .1 .1 .1 .1 .1 .0)) (List._∷_ Row.alive (List._∷_ Row.alive (List._∷_ Row.alive (List._∷_ Row.alive (List._∷_ Row.alive (List._∷_ Row.alive (List._∷_ Row.alive (List._∷_ Row.alive (List._∷_ Row.off List.[])))))))))))))))))) }
+        G32 = record { locals = List._++_ g22 (List._++_ t25 (List._++_ t28 t3)); slots = List._∷_ Row.off (List._∷_ Row.off (List._∷_ Row.off (List._∷_ Row.off (List._∷_ Row.off (List._∷_ (Row.lease (κs .1 .1 .1 .1 .1 .0) (qs .1 .1 .1 .1 .1 .0)) (List._∷_ (Row.lease (κs .1 .1 .1 .1 .1 .1 .0) (qs .1 .1 .1 .1 .1 .1 .0)) (List._∷_ (Row.lease (κs .1 .1 .1 .1 .1 .1 .1 .0) (qs .1 .1 .1 .1 .1 .1 .1 .0)) (List._∷_ (Row.lease (κs .1 .1 .1 .1 .1 .1 .1 .1 .0) (qs .1 .1 .1 .1 .1 .1 .1 .1 .0)) (List._∷_ (Row.lease (κs .1 .1 .1 .1 .1 .1 .1 .1 .1 .0) (qs .1 .1 .1 .1 .1 .1 .1 .1 .1 .0)) (List._∷_ (Row.lease (κs .1 .1 .1 .1 .1 .1 .1 .1 .1 .1 .0) (qs .1 .1 .1 .1 .1 .1 .1 .1 .1 .1 .0)) (List._∷_ (Row.lease (κs .1 .1 .1 .1 .1 .1 .1 .1 .1 .1 .1 .0) (qs .1 .1 .1 .1 .1 .1 .1 .1 .1 .1 .1 .0)) (List._∷_ Row.alive (List._∷_ Row.alive (List._∷_ Row.alive (List._∷_ Row.alive (List._∷_ Row.alive (List._∷_ Row.off (List._∷_ Row.off (List._∷_ Row.off (List._∷_ Row.off (List._∷_ Row.off (List._∷_ Row.off (List._∷_ Row.off (List._∷_ Row.off (List._∷_ Row.off (List._∷_ Row.off (List._∷_ Row.off List.[]))))))))))))))))))))))))))) }
 
         abbrev G33 : Row.Cx
-        G33 = record { locals = List._++_ g27 (List._++_ t23 t28); slots = List._∷_ Row.off (List._∷_ Row.off (List._∷_ Row.off (List._∷_ Row.off (List._∷_ Row.off (List._∷_ Row.off (List._∷_ Row.off (List._∷_ Row.off (List._∷_ (Row.lease (κs .1 .1 .1 .1 .1 .1 .1 .1 .0) (qs .1 .1 .1 .1 .1 .1 .1 .1 .0)) (List._∷_ (Row.lease (κs .1 .1 .1 .1 .1 .1 .1 .1 .1 .0) (qs .1 .1 .1 .1 .1 .1 .1 .1 .1 .0)) (List._∷_ Row.alive (List._∷_ Row.alive (List._∷_ Row.alive (List._∷_ Row.alive (List._∷_ Row.alive (List._∷_ Row.alive (List._∷_ Row.alive (List._∷_ Row.alive (List._∷_ Row.off List.[])))))))))))))))))) }
+        G33 = record { locals = List._++_ g22 (List._++_ t29 (List._++_ t28 t3)); slots = List._∷_ Row.off (List._∷_ Row.off (List._∷_ Row.off (List._∷_ Row.off (List._∷_ Row.off (List._∷_ (Row.lease (κs .1 .1 .1 .1 .1 .0) (qs .1 .1 .1 .1 .1 .0)) (List._∷_ (Row.lease (κs .1 .1 .1 .1 .1 .1 .0) (qs .1 .1 .1 .1 .1 .1 .0)) (List._∷_ (Row.lease (κs .1 .1 .1 .1 .1 .1 .1 .0) (qs .1 .1 .1 .1 .1 .1 .1 .0)) (List._∷_ (Row.lease (κs .1 .1 .1 .1 .1 .1 .1 .1 .0) (qs .1 .1 .1 .1 .1 .1 .1 .1 .0)) (List._∷_ (Row.lease (κs .1 .1 .1 .1 .1 .1 .1 .1 .1 .0) (qs .1 .1 .1 .1 .1 .1 .1 .1 .1 .0)) (List._∷_ (Row.lease (κs .1 .1 .1 .1 .1 .1 .1 .1 .1 .1 .0) (qs .1 .1 .1 .1 .1 .1 .1 .1 .1 .1 .0)) (List._∷_ (Row.lease (κs .1 .1 .1 .1 .1 .1 .1 .1 .1 .1 .1 .0) (qs .1 .1 .1 .1 .1 .1 .1 .1 .1 .1 .1 .0)) (List._∷_ Row.alive (List._∷_ Row.alive (List._∷_ Row.alive (List._∷_ Row.alive (List._∷_ Row.alive (List._∷_ Row.off (List._∷_ Row.off (List._∷_ Row.off (List._∷_ Row.off (List._∷_ Row.off (List._∷_ Row.off (List._∷_ Row.off (List._∷_ Row.off (List._∷_ Row.off (List._∷_ Row.off (List._∷_ Row.off List.[]))))))))))))))))))))))))))) }
 
         abbrev G34 : Row.Cx
-        G34 = record { locals = List._++_ g27 (List._++_ t23 t29); slots = List._∷_ Row.off (List._∷_ Row.off (List._∷_ Row.off (List._∷_ Row.off (List._∷_ Row.off (List._∷_ Row.off (List._∷_ Row.off (List._∷_ Row.off (List._∷_ (Row.lease (κs .1 .1 .1 .1 .1 .1 .1 .1 .0) (qs .1 .1 .1 .1 .1 .1 .1 .1 .0)) (List._∷_ (Row.lease (κs .1 .1 .1 .1 .1 .1 .1 .1 .1 .0) (qs .1 .1 .1 .1 .1 .1 .1 .1 .1 .0)) (List._∷_ Row.alive (List._∷_ Row.alive (List._∷_ Row.alive (List._∷_ Row.alive (List._∷_ Row.alive (List._∷_ Row.alive (List._∷_ Row.alive (List._∷_ Row.alive (List._∷_ Row.off List.[])))))))))))))))))) }
+        G34 = record { locals = List._++_ g22 (List._++_ t30 (List._++_ t28 t3)); slots = List._∷_ Row.off (List._∷_ Row.off (List._∷_ Row.off (List._∷_ Row.off (List._∷_ Row.off (List._∷_ (Row.lease (κs .1 .1 .1 .1 .1 .0) (qs .1 .1 .1 .1 .1 .0)) (List._∷_ (Row.lease (κs .1 .1 .1 .1 .1 .1 .0) (qs .1 .1 .1 .1 .1 .1 .0)) (List._∷_ (Row.lease (κs .1 .1 .1 .1 .1 .1 .1 .0) (qs .1 .1 .1 .1 .1 .1 .1 .0)) (List._∷_ (Row.lease (κs .1 .1 .1 .1 .1 .1 .1 .1 .0) (qs .1 .1 .1 .1 .1 .1 .1 .1 .0)) (List._∷_ (Row.lease (κs .1 .1 .1 .1 .1 .1 .1 .1 .1 .0) (qs .1 .1 .1 .1 .1 .1 .1 .1 .1 .0)) (List._∷_ (Row.lease (κs .1 .1 .1 .1 .1 .1 .1 .1 .1 .1 .0) (qs .1 .1 .1 .1 .1 .1 .1 .1 .1 .1 .0)) (List._∷_ (Row.lease (κs .1 .1 .1 .1 .1 .1 .1 .1 .1 .1 .1 .0) (qs .1 .1 .1 .1 .1 .1 .1 .1 .1 .1 .1 .0)) (List._∷_ Row.alive (List._∷_ Row.alive (List._∷_ Row.alive (List._∷_ Row.alive (List._∷_ Row.alive (List._∷_ Row.off (List._∷_ Row.off (List._∷_ Row.off (List._∷_ Row.off (List._∷_ Row.off (List._∷_ Row.off (List._∷_ Row.off (List._∷_ Row.off (List._∷_ Row.off (List._∷_ Row.off (List._∷_ Row.off List.[]))))))))))))))))))))))))))) }
 
         abbrev G35 : Row.Cx
-        G35 = record { locals = List._++_ g27 (List._++_ t23 t29); slots = List._∷_ Row.off (List._∷_ Row.off (List._∷_ Row.off (List._∷_ Row.off (List._∷_ Row.off (List._∷_ Row.off (List._∷_ Row.off (List._∷_ Row.off (List._∷_ (Row.lease (κs .1 .1 .1 .1 .1 .1 .1 .1 .0) (qs .1 .1 .1 .1 .1 .1 .1 .1 .0)) (List._∷_ (Row.lease (κs .1 .1 .1 .1 .1 .1 .1 .1 .1 .0) (qs .1 .1 .1 .1 .1 .1 .1 .1 .1 .0)) (List._∷_ Row.alive (List._∷_ Row.alive (List._∷_ Row.alive (List._∷_ Row.alive (List._∷_ Row.alive (List._∷_ Row.alive (List._∷_ Row.alive (List._∷_ Row.alive (List._∷_ Row.alive List.[])))))))))))))))))) }
+        G35 = record { locals = List._++_ t0 (List._++_ t31 (List._++_ t2 t3)); slots = List._∷_ (Row.lease (κs .0) (qs .0)) (List._∷_ (Row.lease (κs .1 .0) (qs .1 .0)) (List._∷_ (Row.lease (κs .1 .1 .0) (qs .1 .1 .0)) (List._∷_ (Row.lease (κs .1 .1 .1 .0) (qs .1 .1 .1 .0)) (List._∷_ (Row.lease (κs .1 .1 .1 .1 .0) (qs .1 .1 .1 .1 .0)) (List._∷_ (Row.lease (κs .1 .1 .1 .1 .1 .0) (qs .1 .1 .1 .1 .1 .0)) (List._∷_ (Row.lease (κs .1 .1 .1 .1 .1 .1 .0) (qs .1 .1 .1 .1 .1 .1 .0)) (List._∷_ (Row.lease (κs .1 .1 .1 .1 .1 .1 .1 .0) (qs .1 .1 .1 .1 .1 .1 .1 .0)) (List._∷_ (Row.lease (κs .1 .1 .1 .1 .1 .1 .1 .1 .0) (qs .1 .1 .1 .1 .1 .1 .1 .1 .0)) (List._∷_ (Row.lease (κs .1 .1 .1 .1 .1 .1 .1 .1 .1 .0) (qs .1 .1 .1 .1 .1 .1 .1 .1 .1 .0)) (List._∷_ (Row.lease (κs .1 .1 .1 .1 .1 .1 .1 .1 .1 .1 .0) (qs .1 .1 .1 .1 .1 .1 .1 .1 .1 .1 .0)) (List._∷_ (Row.lease (κs .1 .1 .1 .1 .1 .1 .1 .1 .1 .1 .1 .0) (qs .1 .1 .1 .1 .1 .1 .1 .1 .1 .1 .1 .0)) (List._∷_ Row.off (List._∷_ Row.off (List._∷_ Row.off (List._∷_ Row.off (List._∷_ Row.off (List._∷_ Row.off (List._∷_ Row.off (List._∷_ Row.off (List._∷_ Row.off (List._∷_ Row.off (List._∷_ Row.off (List._∷_ Row.off (List._∷_ Row.off (List._∷_ Row.off (List._∷_ Row.off (List._∷_ Row.off List.[]))))))))))))))))))))))))))) }
 
         abbrev G36 : Row.Cx
-        G36 = record { locals = List._++_ g30 (List._++_ t23 t31); slots = List._∷_ Row.off (List._∷_ Row.off (List._∷_ Row.off (List._∷_ Row.off (List._∷_ Row.off (List._∷_ Row.off (List._∷_ Row.off (List._∷_ Row.off (List._∷_ Row.off (List._∷_ (Row.lease (κs .1 .1 .1 .1 .1 .1 .1 .1 .1 .0) (qs .1 .1 .1 .1 .1 .1 .1 .1 .1 .0)) (List._∷_ Row.alive (List._∷_ Row.alive (List._∷_ Row.alive (List._∷_ Row.alive (List._∷_ Row.alive (List._∷_ Row.alive (List._∷_ Row.alive (List._∷_ Row.alive (List._∷_ Row.alive List.[])))))))))))))))))) }
+        G36 = record { locals = List._++_ g22 (List._++_ t32 (List._++_ t28 t3)); slots = List._∷_ Row.off (List._∷_ Row.off (List._∷_ Row.off (List._∷_ Row.off (List._∷_ Row.off (List._∷_ (Row.lease (κs .1 .1 .1 .1 .1 .0) (qs .1 .1 .1 .1 .1 .0)) (List._∷_ (Row.lease (κs .1 .1 .1 .1 .1 .1 .0) (qs .1 .1 .1 .1 .1 .1 .0)) (List._∷_ (Row.lease (κs .1 .1 .1 .1 .1 .1 .1 .0) (qs .1 .1 .1 .1 .1 .1 .1 .0)) (List._∷_ (Row.lease (κs .1 .1 .1 .1 .1 .1 .1 .1 .0) (qs .1 .1 .1 .1 .1 .1 .1 .1 .0)) (List._∷_ (Row.lease (κs .1 .1 .1 .1 .1 .1 .1 .1 .1 .0) (qs .1 .1 .1 .1 .1 .1 .1 .1 .1 .0)) (List._∷_ (Row.lease (κs .1 .1 .1 .1 .1 .1 .1 .1 .1 .1 .0) (qs .1 .1 .1 .1 .1 .1 .1 .1 .1 .1 .0)) (List._∷_ (Row.lease (κs .1 .1 .1 .1 .1 .1 .1 .1 .1 .1 .1 .0) (qs .1 .1 .1 .1 .1 .1 .1 .1 .1 .1 .1 .0)) (List._∷_ Row.alive (List._∷_ Row.alive (List._∷_ Row.alive (List._∷_ Row.alive (List._∷_ Row.alive (List._∷_ Row.off (List._∷_ Row.off (List._∷_ Row.off (List._∷_ Row.off (List._∷_ Row.off (List._∷_ Row.off (List._∷_ Row.off (List._∷_ Row.off (List._∷_ Row.off (List._∷_ Row.off (List._∷_ Row.off List.[]))))))))))))))))))))))))))) }
 
         abbrev G37 : Row.Cx
-        G37 = record { locals = List._++_ g30 (List._++_ t23 t32); slots = List._∷_ Row.off (List._∷_ Row.off (List._∷_ Row.off (List._∷_ Row.off (List._∷_ Row.off (List._∷_ Row.off (List._∷_ Row.off (List._∷_ Row.off (List._∷_ Row.off (List._∷_ (Row.lease (κs .1 .1 .1 .1 .1 .1 .1 .1 .1 .0) (qs .1 .1 .1 .1 .1 .1 .1 .1 .1 .0)) (List._∷_ Row.alive (List._∷_ Row.alive (List._∷_ Row.alive (List._∷_ Row.alive (List._∷_ Row.alive (List._∷_ Row.alive (List._∷_ Row.alive (List._∷_ Row.alive (List._∷_ Row.alive List.[])))))))))))))))))) }
+        G37 = record { locals = List._++_ g22 (List._++_ t33 (List._++_ t28 t3)); slots = List._∷_ Row.off (List._∷_ Row.off (List._∷_ Row.off (List._∷_ Row.off (List._∷_ Row.off (List._∷_ (Row.lease (κs .1 .1 .1 .1 .1 .0) (qs .1 .1 .1 .1 .1 .0)) (List._∷_ (Row.lease (κs .1 .1 .1 .1 .1 .1 .0) (qs .1 .1 .1 .1 .1 .1 .0)) (List._∷_ (Row.lease (κs .1 .1 .1 .1 .1 .1 .1 .0) (qs .1 .1 .1 .1 .1 .1 .1 .0)) (List._∷_ (Row.lease (κs .1 .1 .1 .1 .1 .1 .1 .1 .0) (qs .1 .1 .1 .1 .1 .1 .1 .1 .0)) (List._∷_ (Row.lease (κs .1 .1 .1 .1 .1 .1 .1 .1 .1 .0) (qs .1 .1 .1 .1 .1 .1 .1 .1 .1 .0)) (List._∷_ (Row.lease (κs .1 .1 .1 .1 .1 .1 .1 .1 .1 .1 .0) (qs .1 .1 .1 .1 .1 .1 .1 .1 .1 .1 .0)) (List._∷_ (Row.lease (κs .1 .1 .1 .1 .1 .1 .1 .1 .1 .1 .1 .0) (qs .1 .1 .1 .1 .1 .1 .1 .1 .1 .1 .1 .0)) (List._∷_ Row.alive (List._∷_ Row.alive (List._∷_ Row.alive (List._∷_ Row.alive (List._∷_ Row.alive (List._∷_ Row.off (List._∷_ Row.off (List._∷_ Row.off (List._∷_ Row.off (List._∷_ Row.off (List._∷_ Row.off (List._∷_ Row.off (List._∷_ Row.off (List._∷_ Row.off (List._∷_ Row.off (List._∷_ Row.off List.[]))))))))))))))))))))))))))) }
 
         abbrev G38 : Row.Cx
-        G38 = record { locals = List._++_ g30 (List._++_ t33 t32); slots = List._∷_ Row.off (List._∷_ Row.off (List._∷_ Row.off (List._∷_ Row.off (List._∷_ Row.off (List._∷_ Row.off (List._∷_ Row.off (List._∷_ Row.off (List._∷_ Row.off (List._∷_ (Row.lease (κs .1 .1 .1 .1 .1 .1 .1 .1 .1 .0) (qs .1 .1 .1 .1 .1 .1 .1 .1 .1 .0)) (List._∷_ Row.alive (List._∷_ Row.alive (List._∷_ Row.alive (List._∷_ Row.alive (List._∷_ Row.alive (List._∷_ Row.alive (List._∷_ Row.alive (List._∷_ Row.alive (List._∷_ Row.alive List.[])))))))))))))))))) }
+        G38 = record { locals = List._++_ g22 (List._++_ t34 (List._++_ t28 t3)); slots = List._∷_ Row.off (List._∷_ Row.off (List._∷_ Row.off (List._∷_ Row.off (List._∷_ Row.off (List._∷_ (Row.lease (κs .1 .1 .1 .1 .1 .0) (qs .1 .1 .1 .1 .1 .0)) (List._∷_ (Row.lease (κs .1 .1 .1 .1 .1 .1 .0) (qs .1 .1 .1 .1 .1 .1 .0)) (List._∷_ (Row.lease (κs .1 .1 .1 .1 .1 .1 .1 .0) (qs .1 .1 .1 .1 .1 .1 .1 .0)) (List._∷_ (Row.lease (κs .1 .1 .1 .1 .1 .1 .1 .1 .0) (qs .1 .1 .1 .1 .1 .1 .1 .1 .0)) (List._∷_ (Row.lease (κs .1 .1 .1 .1 .1 .1 .1 .1 .1 .0) (qs .1 .1 .1 .1 .1 .1 .1 .1 .1 .0)) (List._∷_ (Row.lease (κs .1 .1 .1 .1 .1 .1 .1 .1 .1 .1 .0) (qs .1 .1 .1 .1 .1 .1 .1 .1 .1 .1 .0)) (List._∷_ (Row.lease (κs .1 .1 .1 .1 .1 .1 .1 .1 .1 .1 .1 .0) (qs .1 .1 .1 .1 .1 .1 .1 .1 .1 .1 .1 .0)) (List._∷_ Row.alive (List._∷_ Row.alive (List._∷_ Row.alive (List._∷_ Row.alive (List._∷_ Row.alive (List._∷_ Row.off (List._∷_ Row.off (List._∷_ Row.off (List._∷_ Row.off (List._∷_ Row.off (List._∷_ Row.off (List._∷_ Row.off (List._∷_ Row.off (List._∷_ Row.off (List._∷_ Row.off (List._∷_ Row.off List.[]))))))))))))))))))))))))))) }
 
         abbrev G39 : Row.Cx
-        G39 = record { locals = List._++_ g30 (List._++_ t34 t32); slots = List._∷_ Row.off (List._∷_ Row.off (List._∷_ Row.off (List._∷_ Row.off (List._∷_ Row.off (List._∷_ Row.off (List._∷_ Row.off (List._∷_ Row.off (List._∷_ Row.off (List._∷_ (Row.lease (κs .1 .1 .1 .1 .1 .1 .1 .1 .1 .0) (qs .1 .1 .1 .1 .1 .1 .1 .1 .1 .0)) (List._∷_ Row.alive (List._∷_ Row.alive (List._∷_ Row.alive (List._∷_ Row.alive (List._∷_ Row.alive (List._∷_ Row.alive (List._∷_ Row.alive (List._∷_ Row.alive (List._∷_ Row.alive List.[])))))))))))))))))) }
+        G39 = record { locals = List._++_ g22 (List._++_ t34 (List._++_ t35 t3)); slots = List._∷_ Row.off (List._∷_ Row.off (List._∷_ Row.off (List._∷_ Row.off (List._∷_ Row.off (List._∷_ (Row.lease (κs .1 .1 .1 .1 .1 .0) (qs .1 .1 .1 .1 .1 .0)) (List._∷_ (Row.lease (κs .1 .1 .1 .1 .1 .1 .0) (qs .1 .1 .1 .1 .1 .1 .0)) (List._∷_ (Row.lease (κs .1 .1 .1 .1 .1 .1 .1 .0) (qs .1 .1 .1 .1 .1 .1 .1 .0)) (List._∷_ (Row.lease (κs .1 .1 .1 .1 .1 .1 .1 .1 .0) (qs .1 .1 .1 .1 .1 .1 .1 .1 .0)) (List._∷_ (Row.lease (κs .1 .1 .1 .1 .1 .1 .1 .1 .1 .0) (qs .1 .1 .1 .1 .1 .1 .1 .1 .1 .0)) (List._∷_ (Row.lease (κs .1 .1 .1 .1 .1 .1 .1 .1 .1 .1 .0) (qs .1 .1 .1 .1 .1 .1 .1 .1 .1 .1 .0)) (List._∷_ (Row.lease (κs .1 .1 .1 .1 .1 .1 .1 .1 .1 .1 .1 .0) (qs .1 .1 .1 .1 .1 .1 .1 .1 .1 .1 .1 .0)) (List._∷_ Row.alive (List._∷_ Row.alive (List._∷_ Row.alive (List._∷_ Row.alive (List._∷_ Row.alive (List._∷_ Row.off (List._∷_ Row.off (List._∷_ Row.off (List._∷_ Row.off (List._∷_ Row.off (List._∷_ Row.off (List._∷_ Row.off (List._∷_ Row.off (List._∷_ Row.off (List._∷_ Row.off (List._∷_ Row.off List.[]))))))))))))))))))))))))))) }
 
         abbrev G40 : Row.Cx
-        G40 = record { locals = List._++_ g30 (List._++_ t35 t36); slots = List._∷_ Row.off (List._∷_ Row.off (List._∷_ Row.off (List._∷_ Row.off (List._∷_ Row.off (List._∷_ Row.off (List._∷_ Row.off (List._∷_ Row.off (List._∷_ Row.off (List._∷_ (Row.lease (κs .1 .1 .1 .1 .1 .1 .1 .1 .1 .0) (qs .1 .1 .1 .1 .1 .1 .1 .1 .1 .0)) (List._∷_ Row.alive (List._∷_ Row.alive (List._∷_ Row.alive (List._∷_ Row.alive (List._∷_ Row.alive (List._∷_ Row.alive (List._∷_ Row.alive (List._∷_ Row.alive (List._∷_ Row.alive List.[])))))))))))))))))) }
+        G40 = record { locals = List._++_ g22 (List._++_ t34 (List._++_ t36 t3)); slots = List._∷_ Row.off (List._∷_ Row.off (List._∷_ Row.off (List._∷_ Row.off (List._∷_ Row.off (List._∷_ (Row.lease (κs .1 .1 .1 .1 .1 .0) (qs .1 .1 .1 .1 .1 .0)) (List._∷_ (Row.lease (κs .1 .1 .1 .1 .1 .1 .0) (qs .1 .1 .1 .1 .1 .1 .0)) (List._∷_ (Row.lease (κs .1 .1 .1 .1 .1 .1 .1 .0) (qs .1 .1 .1 .1 .1 .1 .1 .0)) (List._∷_ (Row.lease (κs .1 .1 .1 .1 .1 .1 .1 .1 .0) (qs .1 .1 .1 .1 .1 .1 .1 .1 .0)) (List._∷_ (Row.lease (κs .1 .1 .1 .1 .1 .1 .1 .1 .1 .0) (qs .1 .1 .1 .1 .1 .1 .1 .1 .1 .0)) (List._∷_ (Row.lease (κs .1 .1 .1 .1 .1 .1 .1 .1 .1 .1 .0) (qs .1 .1 .1 .1 .1 .1 .1 .1 .1 .1 .0)) (List._∷_ (Row.lease (κs .1 .1 .1 .1 .1 .1 .1 .1 .1 .1 .1 .0) (qs .1 .1 .1 .1 .1 .1 .1 .1 .1 .1 .1 .0)) (List._∷_ Row.alive (List._∷_ Row.alive (List._∷_ Row.alive (List._∷_ Row.alive (List._∷_ Row.alive (List._∷_ Row.off (List._∷_ Row.off (List._∷_ Row.off (List._∷_ Row.off (List._∷_ Row.off (List._∷_ Row.off (List._∷_ Row.off (List._∷_ Row.off (List._∷_ Row.off (List._∷_ Row.off (List._∷_ Row.off List.[]))))))))))))))))))))))))))) }
 
         abbrev G41 : Row.Cx
-        G41 = record { locals = List._++_ g30 (List._++_ t37 t36); slots = List._∷_ Row.off (List._∷_ Row.off (List._∷_ Row.off (List._∷_ Row.off (List._∷_ Row.off (List._∷_ Row.off (List._∷_ Row.off (List._∷_ Row.off (List._∷_ Row.off (List._∷_ (Row.lease (κs .1 .1 .1 .1 .1 .1 .1 .1 .1 .0) (qs .1 .1 .1 .1 .1 .1 .1 .1 .1 .0)) (List._∷_ Row.alive (List._∷_ Row.alive (List._∷_ Row.alive (List._∷_ Row.alive (List._∷_ Row.alive (List._∷_ Row.alive (List._∷_ Row.alive (List._∷_ Row.alive (List._∷_ Row.alive List.[])))))))))))))))))) }
+        G41 = record { locals = List._++_ g22 (List._++_ t37 (List._++_ t36 t3)); slots = List._∷_ Row.off (List._∷_ Row.off (List._∷_ Row.off (List._∷_ Row.off (List._∷_ Row.off (List._∷_ (Row.lease (κs .1 .1 .1 .1 .1 .0) (qs .1 .1 .1 .1 .1 .0)) (List._∷_ (Row.lease (κs .1 .1 .1 .1 .1 .1 .0) (qs .1 .1 .1 .1 .1 .1 .0)) (List._∷_ (Row.lease (κs .1 .1 .1 .1 .1 .1 .1 .0) (qs .1 .1 .1 .1 .1 .1 .1 .0)) (List._∷_ (Row.lease (κs .1 .1 .1 .1 .1 .1 .1 .1 .0) (qs .1 .1 .1 .1 .1 .1 .1 .1 .0)) (List._∷_ (Row.lease (κs .1 .1 .1 .1 .1 .1 .1 .1 .1 .0) (qs .1 .1 .1 .1 .1 .1 .1 .1 .1 .0)) (List._∷_ (Row.lease (κs .1 .1 .1 .1 .1 .1 .1 .1 .1 .1 .0) (qs .1 .1 .1 .1 .1 .1 .1 .1 .1 .1 .0)) (List._∷_ (Row.lease (κs .1 .1 .1 .1 .1 .1 .1 .1 .1 .1 .1 .0) (qs .1 .1 .1 .1 .1 .1 .1 .1 .1 .1 .1 .0)) (List._∷_ Row.alive (List._∷_ Row.alive (List._∷_ Row.alive (List._∷_ Row.alive (List._∷_ Row.alive (List._∷_ Row.off (List._∷_ Row.off (List._∷_ Row.off (List._∷_ Row.off (List._∷_ Row.off (List._∷_ Row.off (List._∷_ Row.off (List._∷_ Row.off (List._∷_ Row.off (List._∷_ Row.off (List._∷_ Row.off List.[]))))))))))))))))))))))))))) }
 
         abbrev G42 : Row.Cx
-        G42 = record { locals = List._++_ g30 (List._++_ t38 t36); slots = List._∷_ Row.off (List._∷_ Row.off (List._∷_ Row.off (List._∷_ Row.off (List._∷_ Row.off (List._∷_ Row.off (List._∷_ Row.off (List._∷_ Row.off (List._∷_ Row.off (List._∷_ (Row.lease (κs .1 .1 .1 .1 .1 .1 .1 .1 .1 .0) (qs .1 .1 .1 .1 .1 .1 .1 .1 .1 .0)) (List._∷_ Row.alive (List._∷_ Row.alive (List._∷_ Row.alive (List._∷_ Row.alive (List._∷_ Row.alive (List._∷_ Row.alive (List._∷_ Row.alive (List._∷_ Row.alive (List._∷_ Row.alive List.[])))))))))))))))))) }
+        G42 = record { locals = List._++_ g22 (List._++_ t37 (List._++_ t38 t3)); slots = List._∷_ Row.off (List._∷_ Row.off (List._∷_ Row.off (List._∷_ Row.off (List._∷_ Row.off (List._∷_ (Row.lease (κs .1 .1 .1 .1 .1 .0) (qs .1 .1 .1 .1 .1 .0)) (List._∷_ (Row.lease (κs .1 .1 .1 .1 .1 .1 .0) (qs .1 .1 .1 .1 .1 .1 .0)) (List._∷_ (Row.lease (κs .1 .1 .1 .1 .1 .1 .1 .0) (qs .1 .1 .1 .1 .1 .1 .1 .0)) (List._∷_ (Row.lease (κs .1 .1 .1 .1 .1 .1 .1 .1 .0) (qs .1 .1 .1 .1 .1 .1 .1 .1 .0)) (List._∷_ (Row.lease (κs .1 .1 .1 .1 .1 .1 .1 .1 .1 .0) (qs .1 .1 .1 .1 .1 .1 .1 .1 .1 .0)) (List._∷_ (Row.lease (κs .1 .1 .1 .1 .1 .1 .1 .1 .1 .1 .0) (qs .1 .1 .1 .1 .1 .1 .1 .1 .1 .1 .0)) (List._∷_ (Row.lease (κs .1 .1 .1 .1 .1 .1 .1 .1 .1 .1 .1 .0) (qs .1 .1 .1 .1 .1 .1 .1 .1 .1 .1 .1 .0)) (List._∷_ Row.alive (List._∷_ Row.alive (List._∷_ Row.alive (List._∷_ Row.alive (List._∷_ Row.alive (List._∷_ Row.off (List._∷_ Row.off (List._∷_ Row.off (List._∷_ Row.off (List._∷_ Row.off (List._∷_ Row.off (List._∷_ Row.off (List._∷_ Row.off (List._∷_ Row.off (List._∷_ Row.off (List._∷_ Row.off List.[]))))))))))))))))))))))))))) }
 
         abbrev G43 : Row.Cx
-        G43 = record { locals = List._++_ g30 (List._++_ t38 t36); slots = List._∷_ Row.off (List._∷_ Row.off (List._∷_ Row.off (List._∷_ Row.off (List._∷_ Row.off (List._∷_ Row.off (List._∷_ Row.off (List._∷_ Row.off (List._∷_ Row.off (List._∷_ (Row.lease (κs .1 .1 .1 .1 .1 .1 .1 .1 .1 .0) (qs .1 .1 .1 .1 .1 .1 .1 .1 .1 .0)) (List._∷_ Row.dead (List._∷_ Row.alive (List._∷_ Row.alive (List._∷_ Row.alive (List._∷_ Row.alive (List._∷_ Row.alive (List._∷_ Row.alive (List._∷_ Row.alive (List._∷_ Row.alive List.[])))))))))))))))))) }
+        G43 = record { locals = List._++_ g22 (List._++_ t37 (List._++_ t39 t3)); slots = List._∷_ Row.off (List._∷_ Row.off (List._∷_ Row.off (List._∷_ Row.off (List._∷_ Row.off (List._∷_ (Row.lease (κs .1 .1 .1 .1 .1 .0) (qs .1 .1 .1 .1 .1 .0)) (List._∷_ (Row.lease (κs .1 .1 .1 .1 .1 .1 .0) (qs .1 .1 .1 .1 .1 .1 .0)) (List._∷_ (Row.lease (κs .1 .1 .1 .1 .1 .1 .1 .0) (qs .1 .1 .1 .1 .1 .1 .1 .0)) (List._∷_ (Row.lease (κs .1 .1 .1 .1 .1 .1 .1 .1 .0) (qs .1 .1 .1 .1 .1 .1 .1 .1 .0)) (List._∷_ (Row.lease (κs .1 .1 .1 .1 .1 .1 .1 .1 .1 .0) (qs .1 .1 .1 .1 .1 .1 .1 .1 .1 .0)) (List._∷_ (Row.lease (κs .1 .1 .1 .1 .1 .1 .1 .1 .1 .1 .0) (qs .1 .1 .1 .1 .1 .1 .1 .1 .1 .1 .0)) (List._∷_ (Row.lease (κs .1 .1 .1 .1 .1 .1 .1 .1 .1 .1 .1 .0) (qs .1 .1 .1 .1 .1 .1 .1 .1 .1 .1 .1 .0)) (List._∷_ Row.alive (List._∷_ Row.alive (List._∷_ Row.alive (List._∷_ Row.alive (List._∷_ Row.alive (List._∷_ Row.off (List._∷_ Row.off (List._∷_ Row.off (List._∷_ Row.off (List._∷_ Row.off (List._∷_ Row.off (List._∷_ Row.off (List._∷_ Row.off (List._∷_ Row.off (List._∷_ Row.off (List._∷_ Row.off List.[]))))))))))))))))))))))))))) }
 
         abbrev G44 : Row.Cx
-        G44 = record { locals = List._++_ g39 (List._++_ t40 t36); slots = List._∷_ (Row.lease (κs .0) (qs .0)) (List._∷_ Row.off (List._∷_ Row.off (List._∷_ Row.off (List._∷_ Row.off (List._∷_ Row.off (List._∷_ Row.off (List._∷_ Row.off (List._∷_ Row.off (List._∷_ (Row.lease (κs .1 .1 .1 .1 .1 .1 .1 .1 .1 .0) (qs .1 .1 .1 .1 .1 .1 .1 .1 .1 .0)) (List._∷_ Row.dead (List._∷_ Row.alive (List._∷_ Row.alive (List._∷_ Row.alive (List._∷_ Row.alive (List._∷_ Row.alive (List._∷_ Row.alive (List._∷_ Row.alive (List._∷_ Row.alive List.[])))))))))))))))))) }
+        G44 = record { locals = List._++_ g22 (List._++_ t37 (List._++_ t2 t3)); slots = List._∷_ Row.off (List._∷_ Row.off (List._∷_ Row.off (List._∷_ Row.off (List._∷_ Row.off (List._∷_ (Row.lease (κs .1 .1 .1 .1 .1 .0) (qs .1 .1 .1 .1 .1 .0)) (List._∷_ (Row.lease (κs .1 .1 .1 .1 .1 .1 .0) (qs .1 .1 .1 .1 .1 .1 .0)) (List._∷_ (Row.lease (κs .1 .1 .1 .1 .1 .1 .1 .0) (qs .1 .1 .1 .1 .1 .1 .1 .0)) (List._∷_ (Row.lease (κs .1 .1 .1 .1 .1 .1 .1 .1 .0) (qs .1 .1 .1 .1 .1 .1 .1 .1 .0)) (List._∷_ (Row.lease (κs .1 .1 .1 .1 .1 .1 .1 .1 .1 .0) (qs .1 .1 .1 .1 .1 .1 .1 .1 .1 .0)) (List._∷_ (Row.lease (κs .1 .1 .1 .1 .1 .1 .1 .1 .1 .1 .0) (qs .1 .1 .1 .1 .1 .1 .1 .1 .1 .1 .0)) (List._∷_ (Row.lease (κs .1 .1 .1 .1 .1 .1 .1 .1 .1 .1 .1 .0) (qs .1 .1 .1 .1 .1 .1 .1 .1 .1 .1 .1 .0)) (List._∷_ Row.alive (List._∷_ Row.alive (List._∷_ Row.alive (List._∷_ Row.alive (List._∷_ Row.alive (List._∷_ Row.off (List._∷_ Row.off (List._∷_ Row.off (List._∷_ Row.off (List._∷_ Row.off (List._∷_ Row.off (List._∷_ Row.off (List._∷_ Row.off (List._∷_ Row.off (List._∷_ Row.off (List._∷_ Row.off List.[]))))))))))))))))))))))))))) }
 
         abbrev G45 : Row.Cx
-        G45 = record { locals = List._++_ g39 (List._++_ t40 t36); slots = List._∷_ (Row.lease (κs .0) (qs .0)) (List._∷_ Row.off (List._∷_ Row.off (List._∷_ Row.off (List._∷_ Row.off (List._∷_ Row.off (List._∷_ Row.off (List._∷_ Row.off (List._∷_ Row.off (List._∷_ (Row.lease (κs .1 .1 .1 .1 .1 .1 .1 .1 .1 .0) (qs .1 .1 .1 .1 .1 .1 .1 .1 .1 .0)) (List._∷_ Row.off (List._∷_ Row.alive (List._∷_ Row.alive (List._∷_ Row.alive (List._∷_ Row.alive (List._∷_ Row.alive (List._∷_ Row.alive (List._∷_ Row.alive (List._∷_ Row.alive List.[])))))))))))))))))) }
+        G45 = record { locals = List._++_ g22 (List._++_ t37 (List._++_ t2 t3)); slots = List._∷_ Row.off (List._∷_ Row.off (List._∷_ Row.off (List._∷_ Row.off (List._∷_ Row.off (List._∷_ (Row.lease (κs .1 .1 .1 .1 .1 .0) (qs .1 .1 .1 .1 .1 .0)) (List._∷_ (Row.lease (κs .1 .1 .1 .1 .1 .1 .0) (qs .1 .1 .1 .1 .1 .1 .0)) (List._∷_ (Row.lease (κs .1 .1 .1 .1 .1 .1 .1 .0) (qs .1 .1 .1 .1 .1 .1 .1 .0)) (List._∷_ (Row.lease (κs .1 .1 .1 .1 .1 .1 .1 .1 .0) (qs .1 .1 .1 .1 .1 .1 .1 .1 .0)) (List._∷_ (Row.lease (κs .1 .1 .1 .1 .1 .1 .1 .1 .1 .0) (qs .1 .1 .1 .1 .1 .1 .1 .1 .1 .0)) (List._∷_ (Row.lease (κs .1 .1 .1 .1 .1 .1 .1 .1 .1 .1 .0) (qs .1 .1 .1 .1 .1 .1 .1 .1 .1 .1 .0)) (List._∷_ (Row.lease (κs .1 .1 .1 .1 .1 .1 .1 .1 .1 .1 .1 .0) (qs .1 .1 .1 .1 .1 .1 .1 .1 .1 .1 .1 .0)) (List._∷_ Row.dead (List._∷_ Row.alive (List._∷_ Row.alive (List._∷_ Row.alive (List._∷_ Row.alive (List._∷_ Row.off (List._∷_ Row.off (List._∷_ Row.off (List._∷_ Row.off (List._∷_ Row.off (List._∷_ Row.off (List._∷_ Row.off (List._∷_ Row.off (List._∷_ Row.off (List._∷_ Row.off (List._∷_ Row.off List.[]))))))))))))))))))))))))))) }
 
         abbrev G46 : Row.Cx
-        G46 = record { locals = List._++_ g39 (List._++_ t40 t36); slots = List._∷_ (Row.lease (κs .0) (qs .0)) (List._∷_ Row.off (List._∷_ Row.off (List._∷_ Row.off (List._∷_ Row.off (List._∷_ Row.off (List._∷_ Row.off (List._∷_ Row.off (List._∷_ Row.off (List._∷_ (Row.lease (κs .1 .1 .1 .1 .1 .1 .1 .1 .1 .0) (qs .1 .1 .1 .1 .1 .1 .1 .1 .1 .0)) (List._∷_ Row.off (List._∷_ Row.dead (List._∷_ Row.alive (List._∷_ Row.alive (List._∷_ Row.alive (List._∷_ Row.alive (List._∷_ Row.alive (List._∷_ Row.alive (List._∷_ Row.alive List.[])))))))))))))))))) }
+        G46 = record { locals = List._++_ g40 (List._++_ t37 (List._++_ t2 t3)); slots = List._∷_ (Row.lease (κs .0) (qs .0)) (List._∷_ Row.off (List._∷_ Row.off (List._∷_ Row.off (List._∷_ Row.off (List._∷_ (Row.lease (κs .1 .1 .1 .1 .1 .0) (qs .1 .1 .1 .1 .1 .0)) (List._∷_ (Row.lease (κs .1 .1 .1 .1 .1 .1 .0) (qs .1 .1 .1 .1 .1 .1 .0)) (List._∷_ (Row.lease (κs .1 .1 .1 .1 .1 .1 .1 .0) (qs .1 .1 .1 .1 .1 .1 .1 .0)) (List._∷_ (Row.lease (κs .1 .1 .1 .1 .1 .1 .1 .1 .0) (qs .1 .1 .1 .1 .1 .1 .1 .1 .0)) (List._∷_ (Row.lease (κs .1 .1 .1 .1 .1 .1 .1 .1 .1 .0) (qs .1 .1 .1 .1 .1 .1 .1 .1 .1 .0)) (List._∷_ (Row.lease (κs .1 .1 .1 .1 .1 .1 .1 .1 .1 .1 .0) (qs .1 .1 .1 .1 .1 .1 .1 .1 .1 .1 .0)) (List._∷_ (Row.lease (κs .1 .1 .1 .1 .1 .1 .1 .1 .1 .1 .1 .0) (qs .1 .1 .1 .1 .1 .1 .1 .1 .1 .1 .1 .0)) (List._∷_ Row.dead (List._∷_ Row.alive (List._∷_ Row.alive (List._∷_ Row.alive (List._∷_ Row.alive (List._∷_ Row.off (List._∷_ Row.off (List._∷_ Row.off (List._∷_ Row.off (List._∷_ Row.off (List._∷_ Row.off (List._∷_ Row.off (List._∷_ Row.off (List._∷_ Row.off (List._∷_ Row.off (List._∷_ Row.off List.[]))))))))))))))))))))))))))) }
 
         abbrev G47 : Row.Cx
-        G47 = record { locals = List._++_ g41 (List._++_ t42 t36); slots = List._∷_ (Row.lease (κs .0) (qs .0)) (List._∷_ (Row.lease (κs .1 .0) (qs .1 .0)) (List._∷_ Row.off (List._∷_ Row.off (List._∷_ Row.off (List._∷_ Row.off (List._∷_ Row.off (List._∷_ Row.off (List._∷_ Row.off (List._∷_ (Row.lease (κs .1 .1 .1 .1 .1 .1 .1 .1 .1 .0) (qs .1 .1 .1 .1 .1 .1 .1 .1 .1 .0)) (List._∷_ Row.off (List._∷_ Row.dead (List._∷_ Row.alive (List._∷_ Row.alive (List._∷_ Row.alive (List._∷_ Row.alive (List._∷_ Row.alive (List._∷_ Row.alive (List._∷_ Row.alive List.[])))))))))))))))))) }
+        G47 = record { locals = List._++_ g40 (List._++_ t37 (List._++_ t2 t3)); slots = List._∷_ (Row.lease (κs .0) (qs .0)) (List._∷_ Row.off (List._∷_ Row.off (List._∷_ Row.off (List._∷_ Row.off (List._∷_ (Row.lease (κs .1 .1 .1 .1 .1 .0) (qs .1 .1 .1 .1 .1 .0)) (List._∷_ (Row.lease (κs .1 .1 .1 .1 .1 .1 .0) (qs .1 .1 .1 .1 .1 .1 .0)) (List._∷_ (Row.lease (κs .1 .1 .1 .1 .1 .1 .1 .0) (qs .1 .1 .1 .1 .1 .1 .1 .0)) (List._∷_ (Row.lease (κs .1 .1 .1 .1 .1 .1 .1 .1 .0) (qs .1 .1 .1 .1 .1 .1 .1 .1 .0)) (List._∷_ (Row.lease (κs .1 .1 .1 .1 .1 .1 .1 .1 .1 .0) (qs .1 .1 .1 .1 .1 .1 .1 .1 .1 .0)) (List._∷_ (Row.lease (κs .1 .1 .1 .1 .1 .1 .1 .1 .1 .1 .0) (qs .1 .1 .1 .1 .1 .1 .1 .1 .1 .1 .0)) (List._∷_ (Row.lease (κs .1 .1 .1 .1 .1 .1 .1 .1 .1 .1 .1 .0) (qs .1 .1 .1 .1 .1 .1 .1 .1 .1 .1 .1 .0)) (List._∷_ Row.off (List._∷_ Row.alive (List._∷_ Row.alive (List._∷_ Row.alive (List._∷_ Row.alive (List._∷_ Row.off (List._∷_ Row.off (List._∷_ Row.off (List._∷_ Row.off (List._∷_ Row.off (List._∷_ Row.off (List._∷_ Row.off (List._∷_ Row.off (List._∷_ Row.off (List._∷_ Row.off (List._∷_ Row.off List.[]))))))))))))))))))))))))))) }
 
         abbrev G48 : Row.Cx
-        G48 = record { locals = List._++_ g41 (List._++_ t42 t36); slots = List._∷_ (Row.lease (κs .0) (qs .0)) (List._∷_ (Row.lease (κs .1 .0) (qs .1 .0)) (List._∷_ Row.off (List._∷_ Row.off (List._∷_ Row.off (List._∷_ Row.off (List._∷_ Row.off (List._∷_ Row.off (List._∷_ Row.off (List._∷_ (Row.lease (κs .1 .1 .1 .1 .1 .1 .1 .1 .1 .0) (qs .1 .1 .1 .1 .1 .1 .1 .1 .1 .0)) (List._∷_ Row.off (List._∷_ Row.dead (List._∷_ Row.alive (List._∷_ Row.alive (List._∷_ Row.alive (List._∷_ Row.alive (List._∷_ Row.alive (List._∷_ Row.alive (List._∷_ Row.alive List.[])))))))))))))))))) }
+        G48 = record { locals = List._++_ g40 (List._++_ t37 (List._++_ t2 t3)); slots = List._∷_ (Row.lease (κs .0) (qs .0)) (List._∷_ Row.off (List._∷_ Row.off (List._∷_ Row.off (List._∷_ Row.off (List._∷_ (Row.lease (κs .1 .1 .1 .1 .1 .0) (qs .1 .1 .1 .1 .1 .0)) (List._∷_ (Row.lease (κs .1 .1 .1 .1 .1 .1 .0) (qs .1 .1 .1 .1 .1 .1 .0)) (List._∷_ (Row.lease (κs .1 .1 .1 .1 .1 .1 .1 .0) (qs .1 .1 .1 .1 .1 .1 .1 .0)) (List._∷_ (Row.lease (κs .1 .1 .1 .1 .1 .1 .1 .1 .0) (qs .1 .1 .1 .1 .1 .1 .1 .1 .0)) (List._∷_ (Row.lease (κs .1 .1 .1 .1 .1 .1 .1 .1 .1 .0) (qs .1 .1 .1 .1 .1 .1 .1 .1 .1 .0)) (List._∷_ (Row.lease (κs .1 .1 .1 .1 .1 .1 .1 .1 .1 .1 .0) (qs .1 .1 .1 .1 .1 .1 .1 .1 .1 .1 .0)) (List._∷_ (Row.lease (κs .1 .1 .1 .1 .1 .1 .1 .1 .1 .1 .1 .0) (qs .1 .1 .1 .1 .1 .1 .1 .1 .1 .1 .1 .0)) (List._∷_ Row.off (List._∷_ Row.dead (List._∷_ Row.alive (List._∷_ Row.alive (List._∷_ Row.alive (List._∷_ Row.off (List._∷_ Row.off (List._∷_ Row.off (List._∷_ Row.off (List._∷_ Row.off (List._∷_ Row.off (List._∷_ Row.off (List._∷_ Row.off (List._∷_ Row.off (List._∷_ Row.off (List._∷_ Row.off List.[]))))))))))))))))))))))))))) }
 
         abbrev G49 : Row.Cx
-        G49 = record { locals = List._++_ g41 (List._++_ t42 t36); slots = List._∷_ (Row.lease (κs .0) (qs .0)) (List._∷_ (Row.lease (κs .1 .0) (qs .1 .0)) (List._∷_ Row.off (List._∷_ Row.off (List._∷_ Row.off (List._∷_ Row.off (List._∷_ Row.off (List._∷_ Row.off (List._∷_ Row.off (List._∷_ (Row.lease (κs .1 .1 .1 .1 .1 .1 .1 .1 .1 .0) (qs .1 .1 .1 .1 .1 .1 .1 .1 .1 .0)) (List._∷_ Row.off (List._∷_ Row.off (List._∷_ Row.alive (List._∷_ Row.alive (List._∷_ Row.alive (List._∷_ Row.alive (List._∷_ Row.alive (List._∷_ Row.alive (List._∷_ Row.alive List.[])))))))))))))))))) }
+        G49 = record { locals = List._++_ g41 (List._++_ t37 (List._++_ t2 t3)); slots = List._∷_ (Row.lease (κs .0) (qs .0)) (List._∷_ (Row.lease (κs .1 .0) (qs .1 .0)) (List._∷_ Row.off (List._∷_ Row.off (List._∷_ Row.off (List._∷_ (Row.lease (κs .1 .1 .1 .1 .1 .0) (qs .1 .1 .1 .1 .1 .0)) (List._∷_ (Row.lease (κs .1 .1 .1 .1 .1 .1 .0) (qs .1 .1 .1 .1 .1 .1 .0)) (List._∷_ (Row.lease (κs .1 .1 .1 .1 .1 .1 .1 .0) (qs .1 .1 .1 .1 .1 .1 .1 .0)) (List._∷_ (Row.lease (κs .1 .1 .1 .1 .1 .1 .1 .1 .0) (qs .1 .1 .1 .1 .1 .1 .1 .1 .0)) (List._∷_ (Row.lease (κs .1 .1 .1 .1 .1 .1 .1 .1 .1 .0) (qs .1 .1 .1 .1 .1 .1 .1 .1 .1 .0)) (List._∷_ (Row.lease (κs .1 .1 .1 .1 .1 .1 .1 .1 .1 .1 .0) (qs .1 .1 .1 .1 .1 .1 .1 .1 .1 .1 .0)) (List._∷_ (Row.lease (κs .1 .1 .1 .1 .1 .1 .1 .1 .1 .1 .1 .0) (qs .1 .1 .1 .1 .1 .1 .1 .1 .1 .1 .1 .0)) (List._∷_ Row.off (List._∷_ Row.dead (List._∷_ Row.alive (List._∷_ Row.alive (List._∷_ Row.alive (List._∷_ Row.off (List._∷_ Row.off (List._∷_ Row.off (List._∷_ Row.off (List._∷_ Row.off (List._∷_ Row.off (List._∷_ Row.off (List._∷_ Row.off (List._∷_ Row.off (List._∷_ Row.off (List._∷_ Row.off List.[]))))))))))))))))))))))))))) }
 
         abbrev G50 : Row.Cx
-        G50 = record { locals = List._++_ g41 (List._++_ t42 t36); slots = List._∷_ (Row.lease (κs .0) (qs .0)) (List._∷_ (Row.lease (κs .1 .0) (qs .1 .0)) (List._∷_ Row.off (List._∷_ Row.off (List._∷_ Row.off (List._∷_ Row.off (List._∷_ Row.off (List._∷_ Row.off (List._∷_ Row.off (List._∷_ (Row.lease (κs .1 .1 .1 .1 .1 .1 .1 .1 .1 .0) (qs .1 .1 .1 .1 .1 .1 .1 .1 .1 .0)) (List._∷_ Row.off (List._∷_ Row.off (List._∷_ Row.dead (List._∷_ Row.alive (List._∷_ Row.alive (List._∷_ Row.alive (List._∷_ Row.alive (List._∷_ Row.alive (List._∷_ Row.alive List.[])))))))))))))))))) }
+        G50 = record { locals = List._++_ g41 (List._++_ t37 (List._++_ t2 t3)); slots = List._∷_ (Row.lease (κs .0) (qs .0)) (List._∷_ (Row.lease (κs .1 .0) (qs .1 .0)) (List._∷_ Row.off (List._∷_ Row.off (List._∷_ Row.off (List._∷_ (Row.lease (κs .1 .1 .1 .1 .1 .0) (qs .1 .1 .1 .1 .1 .0)) (List._∷_ (Row.lease (κs .1 .1 .1 .1 .1 .1 .0) (qs .1 .1 .1 .1 .1 .1 .0)) (List._∷_ (Row.lease (κs .1 .1 .1 .1 .1 .1 .1 .0) (qs .1 .1 .1 .1 .1 .1 .1 .0)) (List._∷_ (Row.lease (κs .1 .1 .1 .1 .1 .1 .1 .1 .0) (qs .1 .1 .1 .1 .1 .1 .1 .1 .0)) (List._∷_ (Row.lease (κs .1 .1 .1 .1 .1 .1 .1 .1 .1 .0) (qs .1 .1 .1 .1 .1 .1 .1 .1 .1 .0)) (List._∷_ (Row.lease (κs .1 .1 .1 .1 .1 .1 .1 .1 .1 .1 .0) (qs .1 .1 .1 .1 .1 .1 .1 .1 .1 .1 .0)) (List._∷_ (Row.lease (κs .1 .1 .1 .1 .1 .1 .1 .1 .1 .1 .1 .0) (qs .1 .1 .1 .1 .1 .1 .1 .1 .1 .1 .1 .0)) (List._∷_ Row.off (List._∷_ Row.off (List._∷_ Row.alive (List._∷_ Row.alive (List._∷_ Row.alive (List._∷_ Row.off (List._∷_ Row.off (List._∷_ Row.off (List._∷_ Row.off (List._∷_ Row.off (List._∷_ Row.off (List._∷_ Row.off (List._∷_ Row.off (List._∷_ Row.off (List._∷_ Row.off (List._∷_ Row.off List.[]))))))))))))))))))))))))))) }
 
         abbrev G51 : Row.Cx
-        G51 = record { locals = List._++_ g43 (List._++_ t44 t36); slots = List._∷_ (Row.lease (κs .0) (qs .0)) (List._∷_ (Row.lease (κs .1 .0) (qs .1 .0)) (List._∷_ (Row.lease (κs .1 .1 .0) (qs .1 .1 .0)) (List._∷_ Row.off (List._∷_ Row.off (List._∷_ Row.off (List._∷_ Row.off (List._∷_ Row.off (List._∷_ Row.off (List._∷_ (Row.lease (κs .1 .1 .1 .1 .1 .1 .1 .1 .1 .0) (qs .1 .1 .1 .1 .1 .1 .1 .1 .1 .0)) (List._∷_ Row.off (List._∷_ Row.off (List._∷_ Row.dead (List._∷_ Row.alive (List._∷_ Row.alive (List._∷_ Row.alive (List._∷_ Row.alive (List._∷_ Row.alive (List._∷_ Row.alive List.[])))))))))))))))))) }
+        G51 = record { locals = List._++_ g41 (List._++_ t37 (List._++_ t2 t3)); slots = List._∷_ (Row.lease (κs .0) (qs .0)) (List._∷_ (Row.lease (κs .1 .0) (qs .1 .0)) (List._∷_ Row.off (List._∷_ Row.off (List._∷_ Row.off (List._∷_ (Row.lease (κs .1 .1 .1 .1 .1 .0) (qs .1 .1 .1 .1 .1 .0)) (List._∷_ (Row.lease (κs .1 .1 .1 .1 .1 .1 .0) (qs .1 .1 .1 .1 .1 .1 .0)) (List._∷_ (Row.lease (κs .1 .1 .1 .1 .1 .1 .1 .0) (qs .1 .1 .1 .1 .1 .1 .1 .0)) (List._∷_ (Row.lease (κs .1 .1 .1 .1 .1 .1 .1 .1 .0) (qs .1 .1 .1 .1 .1 .1 .1 .1 .0)) (List._∷_ (Row.lease (κs .1 .1 .1 .1 .1 .1 .1 .1 .1 .0) (qs .1 .1 .1 .1 .1 .1 .1 .1 .1 .0)) (List._∷_ (Row.lease (κs .1 .1 .1 .1 .1 .1 .1 .1 .1 .1 .0) (qs .1 .1 .1 .1 .1 .1 .1 .1 .1 .1 .0)) (List._∷_ (Row.lease (κs .1 .1 .1 .1 .1 .1 .1 .1 .1 .1 .1 .0) (qs .1 .1 .1 .1 .1 .1 .1 .1 .1 .1 .1 .0)) (List._∷_ Row.off (List._∷_ Row.off (List._∷_ Row.dead (List._∷_ Row.alive (List._∷_ Row.alive (List._∷_ Row.off (List._∷_ Row.off (List._∷_ Row.off (List._∷_ Row.off (List._∷_ Row.off (List._∷_ Row.off (List._∷_ Row.off (List._∷_ Row.off (List._∷_ Row.off (List._∷_ Row.off (List._∷_ Row.off List.[]))))))))))))))))))))))))))) }
 
         abbrev G52 : Row.Cx
-        G52 = record { locals = List._++_ g43 (List._++_ t44 t36); slots = List._∷_ (Row.lease (κs .0) (qs .0)) (List._∷_ (Row.lease (κs .1 .0) (qs .1 .0)) (List._∷_ (Row.lease (κs .1 .1 .0) (qs .1 .1 .0)) (List._∷_ Row.off (List._∷_ Row.off (List._∷_ Row.off (List._∷_ Row.off (List._∷_ Row.off (List._∷_ Row.off (List._∷_ (Row.lease (κs .1 .1 .1 .1 .1 .1 .1 .1 .1 .0) (qs .1 .1 .1 .1 .1 .1 .1 .1 .1 .0)) (List._∷_ Row.off (List._∷_ Row.off (List._∷_ Row.dead (List._∷_ Row.alive (List._∷_ Row.alive (List._∷_ Row.alive (List._∷_ Row.alive (List._∷_ Row.alive (List._∷_ Row.alive List.[])))))))))))))))))) }
+        G52 = record { locals = List._++_ g42 (List._++_ t37 (List._++_ t2 t3)); slots = List._∷_ (Row.lease (κs .0) (qs .0)) (List._∷_ (Row.lease (κs .1 .0) (qs .1 .0)) (List._∷_ (Row.lease (κs .1 .1 .0) (qs .1 .1 .0)) (List._∷_ Row.off (List._∷_ Row.off (List._∷_ (Row.lease (κs .1 .1 .1 .1 .1 .0) (qs .1 .1 .1 .1 .1 .0)) (List._∷_ (Row.lease (κs .1 .1 .1 .1 .1 .1 .0) (qs .1 .1 .1 .1 .1 .1 .0)) (List._∷_ (Row.lease (κs .1 .1 .1 .1 .1 .1 .1 .0) (qs .1 .1 .1 .1 .1 .1 .1 .0)) (List._∷_ (Row.lease (κs .1 .1 .1 .1 .1 .1 .1 .1 .0) (qs .1 .1 .1 .1 .1 .1 .1 .1 .0)) (List._∷_ (Row.lease (κs .1 .1 .1 .1 .1 .1 .1 .1 .1 .0) (qs .1 .1 .1 .1 .1 .1 .1 .1 .1 .0)) (List._∷_ (Row.lease (κs .1 .1 .1 .1 .1 .1 .1 .1 .1 .1 .0) (qs .1 .1 .1 .1 .1 .1 .1 .1 .1 .1 .0)) (List._∷_ (Row.lease (κs .1 .1 .1 .1 .1 .1 .1 .1 .1 .1 .1 .0) (qs .1 .1 .1 .1 .1 .1 .1 .1 .1 .1 .1 .0)) (List._∷_ Row.off (List._∷_ Row.off (List._∷_ Row.dead (List._∷_ Row.alive (List._∷_ Row.alive (List._∷_ Row.off (List._∷_ Row.off (List._∷_ Row.off (List._∷_ Row.off (List._∷_ Row.off (List._∷_ Row.off (List._∷_ Row.off (List._∷_ Row.off (List._∷_ Row.off (List._∷_ Row.off (List._∷_ Row.off List.[]))))))))))))))))))))))))))) }
 
         abbrev G53 : Row.Cx
-        G53 = record { locals = List._++_ g43 (List._++_ t44 t36); slots = List._∷_ (Row.lease (κs .0) (qs .0)) (List._∷_ (Row.lease (κs .1 .0) (qs .1 .0)) (List._∷_ (Row.lease (κs .1 .1 .0) (qs .1 .1 .0)) (List._∷_ Row.off (List._∷_ Row.off (List._∷_ Row.off (List._∷_ Row.off (List._∷_ Row.off (List._∷_ Row.off (List._∷_ (Row.lease (κs .1 .1 .1 .1 .1 .1 .1 .1 .1 .0) (qs .1 .1 .1 .1 .1 .1 .1 .1 .1 .0)) (List._∷_ Row.off (List._∷_ Row.off (List._∷_ Row.off (List._∷_ Row.alive (List._∷_ Row.alive (List._∷_ Row.alive (List._∷_ Row.alive (List._∷_ Row.alive (List._∷_ Row.alive List.[])))))))))))))))))) }
+        G53 = record { locals = List._++_ g42 (List._++_ t37 (List._++_ t2 t3)); slots = List._∷_ (Row.lease (κs .0) (qs .0)) (List._∷_ (Row.lease (κs .1 .0) (qs .1 .0)) (List._∷_ (Row.lease (κs .1 .1 .0) (qs .1 .1 .0)) (List._∷_ Row.off (List._∷_ Row.off (List._∷_ (Row.lease (κs .1 .1 .1 .1 .1 .0) (qs .1 .1 .1 .1 .1 .0)) (List._∷_ (Row.lease (κs .1 .1 .1 .1 .1 .1 .0) (qs .1 .1 .1 .1 .1 .1 .0)) (List._∷_ (Row.lease (κs .1 .1 .1 .1 .1 .1 .1 .0) (qs .1 .1 .1 .1 .1 .1 .1 .0)) (List._∷_ (Row.lease (κs .1 .1 .1 .1 .1 .1 .1 .1 .0) (qs .1 .1 .1 .1 .1 .1 .1 .1 .0)) (List._∷_ (Row.lease (κs .1 .1 .1 .1 .1 .1 .1 .1 .1 .0) (qs .1 .1 .1 .1 .1 .1 .1 .1 .1 .0)) (List._∷_ (Row.lease (κs .1 .1 .1 .1 .1 .1 .1 .1 .1 .1 .0) (qs .1 .1 .1 .1 .1 .1 .1 .1 .1 .1 .0)) (List._∷_ (Row.lease (κs .1 .1 .1 .1 .1 .1 .1 .1 .1 .1 .1 .0) (qs .1 .1 .1 .1 .1 .1 .1 .1 .1 .1 .1 .0)) (List._∷_ Row.off (List._∷_ Row.off (List._∷_ Row.off (List._∷_ Row.alive (List._∷_ Row.alive (List._∷_ Row.off (List._∷_ Row.off (List._∷_ Row.off (List._∷_ Row.off (List._∷_ Row.off (List._∷_ Row.off (List._∷_ Row.off (List._∷_ Row.off (List._∷_ Row.off (List._∷_ Row.off (List._∷_ Row.off List.[]))))))))))))))))))))))))))) }
 
         abbrev G54 : Row.Cx
-        G54 = record { locals = List._++_ g43 (List._++_ t44 t36); slots = List._∷_ (Row.lease (κs .0) (qs .0)) (List._∷_ (Row.lease (κs .1 .0) (qs .1 .0)) (List._∷_ (Row.lease (κs .1 .1 .0) (qs .1 .1 .0)) (List._∷_ Row.off (List._∷_ Row.off (List._∷_ Row.off (List._∷_ Row.off (List._∷_ Row.off (List._∷_ Row.off (List._∷_ (Row.lease (κs .1 .1 .1 .1 .1 .1 .1 .1 .1 .0) (qs .1 .1 .1 .1 .1 .1 .1 .1 .1 .0)) (List._∷_ Row.off (List._∷_ Row.off (List._∷_ Row.off (List._∷_ Row.dead (List._∷_ Row.alive (List._∷_ Row.alive (List._∷_ Row.alive (List._∷_ Row.alive (List._∷_ Row.alive List.[])))))))))))))))))) }
+        G54 = record { locals = List._++_ g42 (List._++_ t37 (List._++_ t2 t3)); slots = List._∷_ (Row.lease (κs .0) (qs .0)) (List._∷_ (Row.lease (κs .1 .0) (qs .1 .0)) (List._∷_ (Row.lease (κs .1 .1 .0) (qs .1 .1 .0)) (List._∷_ Row.off (List._∷_ Row.off (List._∷_ (Row.lease (κs .1 .1 .1 .1 .1 .0) (qs .1 .1 .1 .1 .1 .0)) (List._∷_ (Row.lease (κs .1 .1 .1 .1 .1 .1 .0) (qs .1 .1 .1 .1 .1 .1 .0)) (List._∷_ (Row.lease (κs .1 .1 .1 .1 .1 .1 .1 .0) (qs .1 .1 .1 .1 .1 .1 .1 .0)) (List._∷_ (Row.lease (κs .1 .1 .1 .1 .1 .1 .1 .1 .0) (qs .1 .1 .1 .1 .1 .1 .1 .1 .0)) (List._∷_ (Row.lease (κs .1 .1 .1 .1 .1 .1 .1 .1 .1 .0) (qs .1 .1 .1 .1 .1 .1 .1 .1 .1 .0)) (List._∷_ (Row.lease (κs .1 .1 .1 .1 .1 .1 .1 .1 .1 .1 .0) (qs .1 .1 .1 .1 .1 .1 .1 .1 .1 .1 .0)) (List._∷_ (Row.lease (κs .1 .1 .1 .1 .1 .1 .1 .1 .1 .1 .1 .0) (qs .1 .1 .1 .1 .1 .1 .1 .1 .1 .1 .1 .0)) (List._∷_ Row.off (List._∷_ Row.off (List._∷_ Row.off (List._∷_ Row.dead (List._∷_ Row.alive (List._∷_ Row.off (List._∷_ Row.off (List._∷_ Row.off (List._∷_ Row.off (List._∷_ Row.off (List._∷_ Row.off (List._∷_ Row.off (List._∷_ Row.off (List._∷_ Row.off (List._∷_ Row.off (List._∷_ Row.off List.[]))))))))))))))))))))))))))) }
 
         abbrev G55 : Row.Cx
-        G55 = record { locals = List._++_ g45 (List._++_ t46 t36); slots = List._∷_ (Row.lease (κs .0) (qs .0)) (List._∷_ (Row.lease (κs .1 .0) (qs .1 .0)) (List._∷_ (Row.lease (κs .1 .1 .0) (qs .1 .1 .0)) (List._∷_ (Row.lease (κs .1 .1 .1 .0) (qs .1 .1 .1 .0)) (List._∷_ Row.off (List._∷_ Row.off (List._∷_ Row.off (List._∷_ Row.off (List._∷_ Row.off (List._∷_ (Row.lease (κs .1 .1 .1 .1 .1 .1 .1 .1 .1 .0) (qs .1 .1 .1 .1 .1 .1 .1 .1 .1 .0)) (List._∷_ Row.off (List._∷_ Row.off (List._∷_ Row.off (List._∷_ Row.dead (List._∷_ Row.alive (List._∷_ Row.alive (List._∷_ Row.alive (List._∷_ Row.alive (List._∷_ Row.alive List.[])))))))))))))))))) }
+        G55 = record { locals = List._++_ g43 (List._++_ t37 (List._++_ t2 t3)); slots = List._∷_ (Row.lease (κs .0) (qs .0)) (List._∷_ (Row.lease (κs .1 .0) (qs .1 .0)) (List._∷_ (Row.lease (κs .1 .1 .0) (qs .1 .1 .0)) (List._∷_ (Row.lease (κs .1 .1 .1 .0) (qs .1 .1 .1 .0)) (List._∷_ Row.off (List._∷_ (Row.lease (κs .1 .1 .1 .1 .1 .0) (qs .1 .1 .1 .1 .1 .0)) (List._∷_ (Row.lease (κs .1 .1 .1 .1 .1 .1 .0) (qs .1 .1 .1 .1 .1 .1 .0)) (List._∷_ (Row.lease (κs .1 .1 .1 .1 .1 .1 .1 .0) (qs .1 .1 .1 .1 .1 .1 .1 .0)) (List._∷_ (Row.lease (κs .1 .1 .1 .1 .1 .1 .1 .1 .0) (qs .1 .1 .1 .1 .1 .1 .1 .1 .0)) (List._∷_ (Row.lease (κs .1 .1 .1 .1 .1 .1 .1 .1 .1 .0) (qs .1 .1 .1 .1 .1 .1 .1 .1 .1 .0)) (List._∷_ (Row.lease (κs .1 .1 .1 .1 .1 .1 .1 .1 .1 .1 .0) (qs .1 .1 .1 .1 .1 .1 .1 .1 .1 .1 .0)) (List._∷_ (Row.lease (κs .1 .1 .1 .1 .1 .1 .1 .1 .1 .1 .1 .0) (qs .1 .1 .1 .1 .1 .1 .1 .1 .1 .1 .1 .0)) (List._∷_ Row.off (List._∷_ Row.off (List._∷_ Row.off (List._∷_ Row.dead (List._∷_ Row.alive (List._∷_ Row.off (List._∷_ Row.off (List._∷_ Row.off (List._∷_ Row.off (List._∷_ Row.off (List._∷_ Row.off (List._∷_ Row.off (List._∷_ Row.off (List._∷_ Row.off (List._∷_ Row.off (List._∷_ Row.off List.[]))))))))))))))))))))))))))) }
 
         abbrev G56 : Row.Cx
-        G56 = record { locals = List._++_ g45 (List._++_ t46 t36); slots = List._∷_ (Row.lease (κs .0) (qs .0)) (List._∷_ (Row.lease (κs .1 .0) (qs .1 .0)) (List._∷_ (Row.lease (κs .1 .1 .0) (qs .1 .1 .0)) (List._∷_ (Row.lease (κs .1 .1 .1 .0) (qs .1 .1 .1 .0)) (List._∷_ Row.off (List._∷_ Row.off (List._∷_ Row.off (List._∷_ Row.off (List._∷_ Row.off (List._∷_ (Row.lease (κs .1 .1 .1 .1 .1 .1 .1 .1 .1 .0) (qs .1 .1 .1 .1 .1 .1 .1 .1 .1 .0)) (List._∷_ Row.off (List._∷_ Row.off (List._∷_ Row.off (List._∷_ Row.dead (List._∷_ Row.alive (List._∷_ Row.alive (List._∷_ Row.alive (List._∷_ Row.alive (List._∷_ Row.alive List.[])))))))))))))))))) }
+        G56 = record { locals = List._++_ g43 (List._++_ t37 (List._++_ t2 t3)); slots = List._∷_ (Row.lease (κs .0) (qs .0)) (List._∷_ (Row.lease (κs .1 .0) (qs .1 .0)) (List._∷_ (Row.lease (κs .1 .1 .0) (qs .1 .1 .0)) (List._∷_ (Row.lease (κs .1 .1 .1 .0) (qs .1 .1 .1 .0)) (List._∷_ Row.off (List._∷_ (Row.lease (κs .1 .1 .1 .1 .1 .0) (qs .1 .1 .1 .1 .1 .0)) (List._∷_ (Row.lease (κs .1 .1 .1 .1 .1 .1 .0) (qs .1 .1 .1 .1 .1 .1 .0)) (List._∷_ (Row.lease (κs .1 .1 .1 .1 .1 .1 .1 .0) (qs .1 .1 .1 .1 .1 .1 .1 .0)) (List._∷_ (Row.lease (κs .1 .1 .1 .1 .1 .1 .1 .1 .0) (qs .1 .1 .1 .1 .1 .1 .1 .1 .0)) (List._∷_ (Row.lease (κs .1 .1 .1 .1 .1 .1 .1 .1 .1 .0) (qs .1 .1 .1 .1 .1 .1 .1 .1 .1 .0)) (List._∷_ (Row.lease (κs .1 .1 .1 .1 .1 .1 .1 .1 .1 .1 .0) (qs .1 .1 .1 .1 .1 .1 .1 .1 .1 .1 .0)) (List._∷_ (Row.lease (κs .1 .1 .1 .1 .1 .1 .1 .1 .1 .1 .1 .0) (qs .1 .1 .1 .1 .1 .1 .1 .1 .1 .1 .1 .0)) (List._∷_ Row.off (List._∷_ Row.off (List._∷_ Row.off (List._∷_ Row.off (List._∷_ Row.alive (List._∷_ Row.off (List._∷_ Row.off (List._∷_ Row.off (List._∷_ Row.off (List._∷_ Row.off (List._∷_ Row.off (List._∷_ Row.off (List._∷_ Row.off (List._∷_ Row.off (List._∷_ Row.off (List._∷_ Row.off List.[]))))))))))))))))))))))))))) }
 
         abbrev G57 : Row.Cx
-        G57 = record { locals = List._++_ g45 (List._++_ t46 t36); slots = List._∷_ (Row.lease (κs .0) (qs .0)) (List._∷_ (Row.lease (κs .1 .0) (qs .1 .0)) (List._∷_ (Row.lease (κs .1 .1 .0) (qs .1 .1 .0)) (List._∷_ (Row.lease (κs .1 .1 .1 .0) (qs .1 .1 .1 .0)) (List._∷_ Row.off (List._∷_ Row.off (List._∷_ Row.off (List._∷_ Row.off (List._∷_ Row.off (List._∷_ (Row.lease (κs .1 .1 .1 .1 .1 .1 .1 .1 .1 .0) (qs .1 .1 .1 .1 .1 .1 .1 .1 .1 .0)) (List._∷_ Row.off (List._∷_ Row.off (List._∷_ Row.off (List._∷_ Row.off (List._∷_ Row.alive (List._∷_ Row.alive (List._∷_ Row.alive (List._∷_ Row.alive (List._∷_ Row.alive List.[])))))))))))))))))) }
+        G57 = record { locals = List._++_ g43 (List._++_ t37 (List._++_ t2 t3)); slots = List._∷_ (Row.lease (κs .0) (qs .0)) (List._∷_ (Row.lease (κs .1 .0) (qs .1 .0)) (List._∷_ (Row.lease (κs .1 .1 .0) (qs .1 .1 .0)) (List._∷_ (Row.lease (κs .1 .1 .1 .0) (qs .1 .1 .1 .0)) (List._∷_ Row.off (List._∷_ (Row.lease (κs .1 .1 .1 .1 .1 .0) (qs .1 .1 .1 .1 .1 .0)) (List._∷_ (Row.lease (κs .1 .1 .1 .1 .1 .1 .0) (qs .1 .1 .1 .1 .1 .1 .0)) (List._∷_ (Row.lease (κs .1 .1 .1 .1 .1 .1 .1 .0) (qs .1 .1 .1 .1 .1 .1 .1 .0)) (List._∷_ (Row.lease (κs .1 .1 .1 .1 .1 .1 .1 .1 .0) (qs .1 .1 .1 .1 .1 .1 .1 .1 .0)) (List._∷_ (Row.lease (κs .1 .1 .1 .1 .1 .1 .1 .1 .1 .0) (qs .1 .1 .1 .1 .1 .1 .1 .1 .1 .0)) (List._∷_ (Row.lease (κs .1 .1 .1 .1 .1 .1 .1 .1 .1 .1 .0) (qs .1 .1 .1 .1 .1 .1 .1 .1 .1 .1 .0)) (List._∷_ (Row.lease (κs .1 .1 .1 .1 .1 .1 .1 .1 .1 .1 .1 .0) (qs .1 .1 .1 .1 .1 .1 .1 .1 .1 .1 .1 .0)) (List._∷_ Row.off (List._∷_ Row.off (List._∷_ Row.off (List._∷_ Row.off (List._∷_ Row.dead (List._∷_ Row.off (List._∷_ Row.off (List._∷_ Row.off (List._∷_ Row.off (List._∷_ Row.off (List._∷_ Row.off (List._∷_ Row.off (List._∷_ Row.off (List._∷_ Row.off (List._∷_ Row.off (List._∷_ Row.off List.[]))))))))))))))))))))))))))) }
 
         abbrev G58 : Row.Cx
-        G58 = record { locals = List._++_ g45 (List._++_ t46 t36); slots = List._∷_ (Row.lease (κs .0) (qs .0)) (List._∷_ (Row.lease (κs .1 .0) (qs .1 .0)) (List._∷_ (Row.lease (κs .1 .1 .0) (qs .1 .1 .0)) (List._∷_ (Row.lease (κs .1 .1 .1 .0) (qs .1 .1 .1 .0)) (List._∷_ Row.off (List._∷_ Row.off (List._∷_ Row.off (List._∷_ Row.off (List._∷_ Row.off (List._∷_ (Row.lease (κs .1 .1 .1 .1 .1 .1 .1 .1 .1 .0) (qs .1 .1 .1 .1 .1 .1 .1 .1 .1 .0)) (List._∷_ Row.off (List._∷_ Row.off (List._∷_ Row.off (List._∷_ Row.off (List._∷_ Row.dead (List._∷_ Row.alive (List._∷_ Row.alive (List._∷_ Row.alive (List._∷_ Row.alive List.[])))))))))))))))))) }
+        G58 = record { locals = List._++_ t0 (List._++_ t37 (List._++_ t2 t3)); slots = List._∷_ (Row.lease (κs .0) (qs .0)) (List._∷_ (Row.lease (κs .1 .0) (qs .1 .0)) (List._∷_ (Row.lease (κs .1 .1 .0) (qs .1 .1 .0)) (List._∷_ (Row.lease (κs .1 .1 .1 .0) (qs .1 .1 .1 .0)) (List._∷_ (Row.lease (κs .1 .1 .1 .1 .0) (qs .1 .1 .1 .1 .0)) (List._∷_ (Row.lease (κs .1 .1 .1 .1 .1 .0) (qs .1 .1 .1 .1 .1 .0)) (List._∷_ (Row.lease (κs .1 .1 .1 .1 .1 .1 .0) (qs .1 .1 .1 .1 .1 .1 .0)) (List._∷_ (Row.lease (κs .1 .1 .1 .1 .1 .1 .1 .0) (qs .1 .1 .1 .1 .1 .1 .1 .0)) (List._∷_ (Row.lease (κs .1 .1 .1 .1 .1 .1 .1 .1 .0) (qs .1 .1 .1 .1 .1 .1 .1 .1 .0)) (List._∷_ (Row.lease (κs .1 .1 .1 .1 .1 .1 .1 .1 .1 .0) (qs .1 .1 .1 .1 .1 .1 .1 .1 .1 .0)) (List._∷_ (Row.lease (κs .1 .1 .1 .1 .1 .1 .1 .1 .1 .1 .0) (qs .1 .1 .1 .1 .1 .1 .1 .1 .1 .1 .0)) (List._∷_ (Row.lease (κs .1 .1 .1 .1 .1 .1 .1 .1 .1 .1 .1 .0) (qs .1 .1 .1 .1 .1 .1 .1 .1 .1 .1 .1 .0)) (List._∷_ Row.off (List._∷_ Row.off (List._∷_ Row.off (List._∷_ Row.off (List._∷_ Row.dead (List._∷_ Row.off (List._∷_ Row.off (List._∷_ Row.off (List._∷_ Row.off (List._∷_ Row.off (List._∷_ Row.off (List._∷_ Row.off (List._∷_ Row.off (List._∷_ Row.off (List._∷_ Row.off (List._∷_ Row.off List.[]))))))))))))))))))))))))))) }
 
         abbrev G59 : Row.Cx
-        G59 = record { locals = List._++_ g47 (List._++_ t48 t36); slots = List._∷_ (Row.lease (κs .0) (qs .0)) (List._∷_ (Row.lease (κs .1 .0) (qs .1 .0)) (List._∷_ (Row.lease (κs .1 .1 .0) (qs .1 .1 .0)) (List._∷_ (Row.lease (κs .1 .1 .1 .0) (qs .1 .1 .1 .0)) (List._∷_ (Row.lease (κs .1 .1 .1 .1 .0) (qs .1 .1 .1 .1 .0)) (List._∷_ Row.off (List._∷_ Row.off (List._∷_ Row.off (List._∷_ Row.off (List._∷_ (Row.lease (κs .1 .1 .1 .1 .1 .1 .1 .1 .1 .0) (qs .1 .1 .1 .1 .1 .1 .1 .1 .1 .0)) (List._∷_ Row.off (List._∷_ Row.off (List._∷_ Row.off (List._∷_ Row.off (List._∷_ Row.dead (List._∷_ Row.alive (List._∷_ Row.alive (List._∷_ Row.alive (List._∷_ Row.alive List.[])))))))))))))))))) }
+        G59 = record { locals = List._++_ t0 (List._++_ t37 (List._++_ t2 t3)); slots = List._∷_ (Row.lease (κs .0) (qs .0)) (List._∷_ (Row.lease (κs .1 .0) (qs .1 .0)) (List._∷_ (Row.lease (κs .1 .1 .0) (qs .1 .1 .0)) (List._∷_ (Row.lease (κs .1 .1 .1 .0) (qs .1 .1 .1 .0)) (List._∷_ (Row.lease (κs .1 .1 .1 .1 .0) (qs .1 .1 .1 .1 .0)) (List._∷_ (Row.lease (κs .1 .1 .1 .1 .1 .0) (qs .1 .1 .1 .1 .1 .0)) (List._∷_ (Row.lease (κs .1 .1 .1 .1 .1 .1 .0) (qs .1 .1 .1 .1 .1 .1 .0)) (List._∷_ (Row.lease (κs .1 .1 .1 .1 .1 .1 .1 .0) (qs .1 .1 .1 .1 .1 .1 .1 .0)) (List._∷_ (Row.lease (κs .1 .1 .1 .1 .1 .1 .1 .1 .0) (qs .1 .1 .1 .1 .1 .1 .1 .1 .0)) (List._∷_ (Row.lease (κs .1 .1 .1 .1 .1 .1 .1 .1 .1 .0) (qs .1 .1 .1 .1 .1 .1 .1 .1 .1 .0)) (List._∷_ (Row.lease (κs .1 .1 .1 .1 .1 .1 .1 .1 .1 .1 .0) (qs .1 .1 .1 .1 .1 .1 .1 .1 .1 .1 .0)) (List._∷_ (Row.lease (κs .1 .1 .1 .1 .1 .1 .1 .1 .1 .1 .1 .0) (qs .1 .1 .1 .1 .1 .1 .1 .1 .1 .1 .1 .0)) (List._∷_ Row.off (List._∷_ Row.off (List._∷_ Row.off (List._∷_ Row.off (List._∷_ Row.off (List._∷_ Row.off (List._∷_ Row.off (List._∷_ Row.off (List._∷_ Row.off (List._∷_ Row.off (List._∷_ Row.off (List._∷_ Row.off (List._∷_ Row.off (List._∷_ Row.off (List._∷_ Row.off (List._∷_ Row.off List.[]))))))))))))))))))))))))))) }
 
         abbrev G60 : Row.Cx
-        G60 = record { locals = List._++_ g47 (List._++_ t48 t36); slots = List._∷_ (Row.lease (κs .0) (qs .0)) (List._∷_ (Row.lease (κs .1 .0) (qs .1 .0)) (List._∷_ (Row.lease (κs .1 .1 .0) (qs .1 .1 .0)) (List._∷_ (Row.lease (κs .1 .1 .1 .0) (qs .1 .1 .1 .0)) (List._∷_ (Row.lease (κs .1 .1 .1 .1 .0) (qs .1 .1 .1 .1 .0)) (List._∷_ Row.off (List._∷_ Row.off (List._∷_ Row.off (List._∷_ Row.off (List._∷_ (Row.lease (κs .1 .1 .1 .1 .1 .1 .1 .1 .1 .0) (qs .1 .1 .1 .1 .1 .1 .1 .1 .1 .0)) (List._∷_ Row.off (List._∷_ Row.off (List._∷_ Row.off (List._∷_ Row.off (List._∷_ Row.off (List._∷_ Row.alive (List._∷_ Row.alive (List._∷_ Row.alive (List._∷_ Row.alive List.[])))))))))))))))))) }
+        G60 = record { locals = List._++_ t0 (List._++_ t44 (List._++_ t2 t3)); slots = List._∷_ (Row.lease (κs .0) (qs .0)) (List._∷_ (Row.lease (κs .1 .0) (qs .1 .0)) (List._∷_ (Row.lease (κs .1 .1 .0) (qs .1 .1 .0)) (List._∷_ (Row.lease (κs .1 .1 .1 .0) (qs .1 .1 .1 .0)) (List._∷_ (Row.lease (κs .1 .1 .1 .1 .0) (qs .1 .1 .1 .1 .0)) (List._∷_ (Row.lease (κs .1 .1 .1 .1 .1 .0) (qs .1 .1 .1 .1 .1 .0)) (List._∷_ (Row.lease (κs .1 .1 .1 .1 .1 .1 .0) (qs .1 .1 .1 .1 .1 .1 .0)) (List._∷_ (Row.lease (κs .1 .1 .1 .1 .1 .1 .1 .0) (qs .1 .1 .1 .1 .1 .1 .1 .0)) (List._∷_ (Row.lease (κs .1 .1 .1 .1 .1 .1 .1 .1 .0) (qs .1 .1 .1 .1 .1 .1 .1 .1 .0)) (List._∷_ (Row.lease (κs .1 .1 .1 .1 .1 .1 .1 .1 .1 .0) (qs .1 .1 .1 .1 .1 .1 .1 .1 .1 .0)) (List._∷_ (Row.lease (κs .1 .1 .1 .1 .1 .1 .1 .1 .1 .1 .0) (qs .1 .1 .1 .1 .1 .1 .1 .1 .1 .1 .0)) (List._∷_ (Row.lease (κs .1 .1 .1 .1 .1 .1 .1 .1 .1 .1 .1 .0) (qs .1 .1 .1 .1 .1 .1 .1 .1 .1 .1 .1 .0)) (List._∷_ Row.off (List._∷_ Row.off (List._∷_ Row.off (List._∷_ Row.off (List._∷_ Row.off (List._∷_ Row.off (List._∷_ Row.off (List._∷_ Row.off (List._∷_ Row.off (List._∷_ Row.off (List._∷_ Row.off (List._∷_ Row.off (List._∷_ Row.off (List._∷_ Row.off (List._∷_ Row.off (List._∷_ Row.off List.[]))))))))))))))))))))))))))) }
 
         abbrev G61 : Row.Cx
-        G61 = record { locals = List._++_ g47 (List._++_ t48 t36); slots = List._∷_ (Row.lease (κs .0) (qs .0)) (List._∷_ (Row.lease (κs .1 .0) (qs .1 .0)) (List._∷_ (Row.lease (κs .1 .1 .0) (qs .1 .1 .0)) (List._∷_ (Row.lease (κs .1 .1 .1 .0) (qs .1 .1 .1 .0)) (List._∷_ (Row.lease (κs .1 .1 .1 .1 .0) (qs .1 .1 .1 .1 .0)) (List._∷_ Row.off (List._∷_ Row.off (List._∷_ Row.off (List._∷_ Row.off (List._∷_ (Row.lease (κs .1 .1 .1 .1 .1 .1 .1 .1 .1 .0) (qs .1 .1 .1 .1 .1 .1 .1 .1 .1 .0)) (List._∷_ Row.off (List._∷_ Row.off (List._∷_ Row.off (List._∷_ Row.off (List._∷_ Row.off (List._∷_ Row.dead (List._∷_ Row.alive (List._∷_ Row.alive (List._∷_ Row.alive List.[])))))))))))))))))) }
+        G61 = record { locals = List._++_ t0 (List._++_ t45 (List._++_ t2 t3)); slots = List._∷_ (Row.lease (κs .0) (qs .0)) (List._∷_ (Row.lease (κs .1 .0) (qs .1 .0)) (List._∷_ (Row.lease (κs .1 .1 .0) (qs .1 .1 .0)) (List._∷_ (Row.lease (κs .1 .1 .1 .0) (qs .1 .1 .1 .0)) (List._∷_ (Row.lease (κs .1 .1 .1 .1 .0) (qs .1 .1 .1 .1 .0)) (List._∷_ (Row.lease (κs .1 .1 .1 .1 .1 .0) (qs .1 .1 .1 .1 .1 .0)) (List._∷_ (Row.lease (κs .1 .1 .1 .1 .1 .1 .0) (qs .1 .1 .1 .1 .1 .1 .0)) (List._∷_ (Row.lease (κs .1 .1 .1 .1 .1 .1 .1 .0) (qs .1 .1 .1 .1 .1 .1 .1 .0)) (List._∷_ (Row.lease (κs .1 .1 .1 .1 .1 .1 .1 .1 .0) (qs .1 .1 .1 .1 .1 .1 .1 .1 .0)) (List._∷_ (Row.lease (κs .1 .1 .1 .1 .1 .1 .1 .1 .1 .0) (qs .1 .1 .1 .1 .1 .1 .1 .1 .1 .0)) (List._∷_ (Row.lease (κs .1 .1 .1 .1 .1 .1 .1 .1 .1 .1 .0) (qs .1 .1 .1 .1 .1 .1 .1 .1 .1 .1 .0)) (List._∷_ (Row.lease (κs .1 .1 .1 .1 .1 .1 .1 .1 .1 .1 .1 .0) (qs .1 .1 .1 .1 .1 .1 .1 .1 .1 .1 .1 .0)) (List._∷_ Row.off (List._∷_ Row.off (List._∷_ Row.off (List._∷_ Row.off (List._∷_ Row.off (List._∷_ Row.off (List._∷_ Row.off (List._∷_ Row.off (List._∷_ Row.off (List._∷_ Row.off (List._∷_ Row.off (List._∷_ Row.off (List._∷_ Row.off (List._∷_ Row.off (List._∷_ Row.off (List._∷_ Row.off List.[]))))))))))))))))))))))))))) }
 
         abbrev G62 : Row.Cx
-        G62 = record { locals = List._++_ g49 (List._++_ t50 t36); slots = List._∷_ (Row.lease (κs .0) (qs .0)) (List._∷_ (Row.lease (κs .1 .0) (qs .1 .0)) (List._∷_ (Row.lease (κs .1 .1 .0) (qs .1 .1 .0)) (List._∷_ (Row.lease (κs .1 .1 .1 .0) (qs .1 .1 .1 .0)) (List._∷_ (Row.lease (κs .1 .1 .1 .1 .0) (qs .1 .1 .1 .1 .0)) (List._∷_ (Row.lease (κs .1 .1 .1 .1 .1 .0) (qs .1 .1 .1 .1 .1 .0)) (List._∷_ Row.off (List._∷_ Row.off (List._∷_ Row.off (List._∷_ (Row.lease (κs .1 .1 .1 .1 .1 .1 .1 .1 .1 .0) (qs .1 .1 .1 .1 .1 .1 .1 .1 .1 .0)) (List._∷_ Row.off (List._∷_ Row.off (List._∷_ Row.off (List._∷_ Row.off (List._∷_ Row.off (List._∷_ Row.dead (List._∷_ Row.alive (List._∷_ Row.alive (List._∷_ Row.alive List.[])))))))))))))))))) }
+        G62 = record { locals = List._++_ t0 (List._++_ t45 (List._++_ t2 t3)); slots = List._∷_ (Row.lease (κs .0) (qs .0)) (List._∷_ (Row.lease (κs .1 .0) (qs .1 .0)) (List._∷_ (Row.lease (κs .1 .1 .0) (qs .1 .1 .0)) (List._∷_ (Row.lease (κs .1 .1 .1 .0) (qs .1 .1 .1 .0)) (List._∷_ (Row.lease (κs .1 .1 .1 .1 .0) (qs .1 .1 .1 .1 .0)) (List._∷_ (Row.lease (κs .1 .1 .1 .1 .1 .0) (qs .1 .1 .1 .1 .1 .0)) (List._∷_ (Row.lease (κs .1 .1 .1 .1 .1 .1 .0) (qs .1 .1 .1 .1 .1 .1 .0)) (List._∷_ (Row.lease (κs .1 .1 .1 .1 .1 .1 .1 .0) (qs .1 .1 .1 .1 .1 .1 .1 .0)) (List._∷_ (Row.lease (κs .1 .1 .1 .1 .1 .1 .1 .1 .0) (qs .1 .1 .1 .1 .1 .1 .1 .1 .0)) (List._∷_ (Row.lease (κs .1 .1 .1 .1 .1 .1 .1 .1 .1 .0) (qs .1 .1 .1 .1 .1 .1 .1 .1 .1 .0)) (List._∷_ (Row.lease (κs .1 .1 .1 .1 .1 .1 .1 .1 .1 .1 .0) (qs .1 .1 .1 .1 .1 .1 .1 .1 .1 .1 .0)) (List._∷_ (Row.lease (κs .1 .1 .1 .1 .1 .1 .1 .1 .1 .1 .1 .0) (qs .1 .1 .1 .1 .1 .1 .1 .1 .1 .1 .1 .0)) (List._∷_ Row.off (List._∷_ Row.off (List._∷_ Row.off (List._∷_ Row.off (List._∷_ Row.off (List._∷_ Row.off (List._∷_ Row.off (List._∷_ Row.off (List._∷_ Row.off (List._∷_ Row.off (List._∷_ Row.off (List._∷_ Row.off (List._∷_ Row.off (List._∷_ Row.off (List._∷_ Row.off (List._∷_ Row.off List.[]))))))))))))))))))))))))))) }
 
         abbrev G63 : Row.Cx
-        G63 = record { locals = List._++_ g49 (List._++_ t50 t36); slots = List._∷_ (Row.lease (κs .0) (qs .0)) (List._∷_ (Row.lease (κs .1 .0) (qs .1 .0)) (List._∷_ (Row.lease (κs .1 .1 .0) (qs .1 .1 .0)) (List._∷_ (Row.lease (κs .1 .1 .1 .0) (qs .1 .1 .1 .0)) (List._∷_ (Row.lease (κs .1 .1 .1 .1 .0) (qs .1 .1 .1 .1 .0)) (List._∷_ (Row.lease (κs .1 .1 .1 .1 .1 .0) (qs .1 .1 .1 .1 .1 .0)) (List._∷_ Row.off (List._∷_ Row.off (List._∷_ Row.off (List._∷_ (Row.lease (κs .1 .1 .1 .1 .1 .1 .1 .1 .1 .0) (qs .1 .1 .1 .1 .1 .1 .1 .1 .1 .0)) (List._∷_ Row.off (List._∷_ Row.off (List._∷_ Row.off (List._∷_ Row.off (List._∷_ Row.off (List._∷_ Row.dead (List._∷_ Row.alive (List._∷_ Row.alive (List._∷_ Row.alive List.[])))))))))))))))))) }
+        G63 = record { locals = List._++_ t0 (List._++_ t46 (List._++_ t2 t3)); slots = List._∷_ (Row.lease (κs .0) (qs .0)) (List._∷_ (Row.lease (κs .1 .0) (qs .1 .0)) (List._∷_ (Row.lease (κs .1 .1 .0) (qs .1 .1 .0)) (List._∷_ (Row.lease (κs .1 .1 .1 .0) (qs .1 .1 .1 .0)) (List._∷_ (Row.lease (κs .1 .1 .1 .1 .0) (qs .1 .1 .1 .1 .0)) (List._∷_ (Row.lease (κs .1 .1 .1 .1 .1 .0) (qs .1 .1 .1 .1 .1 .0)) (List._∷_ (Row.lease (κs .1 .1 .1 .1 .1 .1 .0) (qs .1 .1 .1 .1 .1 .1 .0)) (List._∷_ (Row.lease (κs .1 .1 .1 .1 .1 .1 .1 .0) (qs .1 .1 .1 .1 .1 .1 .1 .0)) (List._∷_ (Row.lease (κs .1 .1 .1 .1 .1 .1 .1 .1 .0) (qs .1 .1 .1 .1 .1 .1 .1 .1 .0)) (List._∷_ (Row.lease (κs .1 .1 .1 .1 .1 .1 .1 .1 .1 .0) (qs .1 .1 .1 .1 .1 .1 .1 .1 .1 .0)) (List._∷_ (Row.lease (κs .1 .1 .1 .1 .1 .1 .1 .1 .1 .1 .0) (qs .1 .1 .1 .1 .1 .1 .1 .1 .1 .1 .0)) (List._∷_ (Row.lease (κs .1 .1 .1 .1 .1 .1 .1 .1 .1 .1 .1 .0) (qs .1 .1 .1 .1 .1 .1 .1 .1 .1 .1 .1 .0)) (List._∷_ Row.off (List._∷_ Row.off (List._∷_ Row.off (List._∷_ Row.off (List._∷_ Row.off (List._∷_ Row.off (List._∷_ Row.off (List._∷_ Row.off (List._∷_ Row.off (List._∷_ Row.off (List._∷_ Row.off (List._∷_ Row.off (List._∷_ Row.off (List._∷_ Row.off (List._∷_ Row.off (List._∷_ Row.off List.[]))))))))))))))))))))))))))) }
 
         abbrev G64 : Row.Cx
-        G64 = record { locals = List._++_ g49 (List._++_ t50 t36); slots = List._∷_ (Row.lease (κs .0) (qs .0)) (List._∷_ (Row.lease (κs .1 .0) (qs .1 .0)) (List._∷_ (Row.lease (κs .1 .1 .0) (qs .1 .1 .0)) (List._∷_ (Row.lease (κs .1 .1 .1 .0) (qs .1 .1 .1 .0)) (List._∷_ (Row.lease (κs .1 .1 .1 .1 .0) (qs .1 .1 .1 .1 .0)) (List._∷_ (Row.lease (κs .1 .1 .1 .1 .1 .0) (qs .1 .1 .1 .1 .1 .0)) (List._∷_ Row.off (List._∷_ Row.off (List._∷_ Row.off (List._∷_ (Row.lease (κs .1 .1 .1 .1 .1 .1 .1 .1 .1 .0) (qs .1 .1 .1 .1 .1 .1 .1 .1 .1 .0)) (List._∷_ Row.off (List._∷_ Row.off (List._∷_ Row.off (List._∷_ Row.off (List._∷_ Row.off (List._∷_ Row.off (List._∷_ Row.alive (List._∷_ Row.alive (List._∷_ Row.alive List.[])))))))))))))))))) }
+        G64 = record { locals = List._++_ t0 (List._++_ t47 (List._++_ t2 t3)); slots = List._∷_ (Row.lease (κs .0) (qs .0)) (List._∷_ (Row.lease (κs .1 .0) (qs .1 .0)) (List._∷_ (Row.lease (κs .1 .1 .0) (qs .1 .1 .0)) (List._∷_ (Row.lease (κs .1 .1 .1 .0) (qs .1 .1 .1 .0)) (List._∷_ (Row.lease (κs .1 .1 .1 .1 .0) (qs .1 .1 .1 .1 .0)) (List._∷_ (Row.lease (κs .1 .1 .1 .1 .1 .0) (qs .1 .1 .1 .1 .1 .0)) (List._∷_ (Row.lease (κs .1 .1 .1 .1 .1 .1 .0) (qs .1 .1 .1 .1 .1 .1 .0)) (List._∷_ (Row.lease (κs .1 .1 .1 .1 .1 .1 .1 .0) (qs .1 .1 .1 .1 .1 .1 .1 .0)) (List._∷_ (Row.lease (κs .1 .1 .1 .1 .1 .1 .1 .1 .0) (qs .1 .1 .1 .1 .1 .1 .1 .1 .0)) (List._∷_ (Row.lease (κs .1 .1 .1 .1 .1 .1 .1 .1 .1 .0) (qs .1 .1 .1 .1 .1 .1 .1 .1 .1 .0)) (List._∷_ (Row.lease (κs .1 .1 .1 .1 .1 .1 .1 .1 .1 .1 .0) (qs .1 .1 .1 .1 .1 .1 .1 .1 .1 .1 .0)) (List._∷_ (Row.lease (κs .1 .1 .1 .1 .1 .1 .1 .1 .1 .1 .1 .0) (qs .1 .1 .1 .1 .1 .1 .1 .1 .1 .1 .1 .0)) (List._∷_ Row.off (List._∷_ Row.off (List._∷_ Row.off (List._∷_ Row.off (List._∷_ Row.off (List._∷_ Row.off (List._∷_ Row.off (List._∷_ Row.off (List._∷_ Row.off (List._∷_ Row.off (List._∷_ Row.off (List._∷_ Row.off (List._∷_ Row.off (List._∷_ Row.off (List._∷_ Row.off (List._∷_ Row.off List.[]))))))))))))))))))))))))))) }
 
         abbrev G65 : Row.Cx
-        G65 = record { locals = List._++_ g49 (List._++_ t50 t36); slots = List._∷_ (Row.lease (κs .0) (qs .0)) (List._∷_ (Row.lease (κs .1 .0) (qs .1 .0)) (List._∷_ (Row.lease (κs .1 .1 .0) (qs .1 .1 .0)) (List._∷_ (Row.lease (κs .1 .1 .1 .0) (qs .1 .1 .1 .0)) (List._∷_ (Row.lease (κs .1 .1 .1 .1 .0) (qs .1 .1 .1 .1 .0)) (List._∷_ (Row.lease (κs .1 .1 .1 .1 .1 .0) (qs .1 .1 .1 .1 .1 .0)) (List._∷_ Row.off (List._∷_ Row.off (List._∷_ Row.off (List._∷_ (Row.lease (κs .1 .1 .1 .1 .1 .1 .1 .1 .1 .0) (qs .1 .1 .1 .1 .1 .1 .1 .1 .1 .0)) (List._∷_ Row.off (List._∷_ Row.off (List._∷_ Row.off (List._∷_ Row.off (List._∷_ Row.off (List._∷_ Row.off (List._∷_ Row.dead (List._∷_ Row.alive (List._∷_ Row.alive List.[])))))))))))))))))) }
+        G65 = record { locals = List._++_ t0 (List._++_ t48 (List._++_ t2 t3)); slots = List._∷_ (Row.lease (κs .0) (qs .0)) (List._∷_ (Row.lease (κs .1 .0) (qs .1 .0)) (List._∷_ (Row.lease (κs .1 .1 .0) (qs .1 .1 .0)) (List._∷_ (Row.lease (κs .1 .1 .1 .0) (qs .1 .1 .1 .0)) (List._∷_ (Row.lease (κs .1 .1 .1 .1 .0) (qs .1 .1 .1 .1 .0)) (List._∷_ (Row.lease (κs .1 .1 .1 .1 .1 .0) (qs .1 .1 .1 .1 .1 .0)) (List._∷_ (Row.lease (κs .1 .1 .1 .1 .1 .1 .0) (qs .1 .1 .1 .1 .1 .1 .0)) (List._∷_ (Row.lease (κs .1 .1 .1 .1 .1 .1 .1 .0) (qs .1 .1 .1 .1 .1 .1 .1 .0)) (List._∷_ (Row.lease (κs .1 .1 .1 .1 .1 .1 .1 .1 .0) (qs .1 .1 .1 .1 .1 .1 .1 .1 .0)) (List._∷_ (Row.lease (κs .1 .1 .1 .1 .1 .1 .1 .1 .1 .0) (qs .1 .1 .1 .1 .1 .1 .1 .1 .1 .0)) (List._∷_ (Row.lease (κs .1 .1 .1 .1 .1 .1 .1 .1 .1 .1 .0) (qs .1 .1 .1 .1 .1 .1 .1 .1 .1 .1 .0)) (List._∷_ (Row.lease (κs .1 .1 .1 .1 .1 .1 .1 .1 .1 .1 .1 .0) (qs .1 .1 .1 .1 .1 .1 .1 .1 .1 .1 .1 .0)) (List._∷_ Row.off (List._∷_ Row.off (List._∷_ Row.off (List._∷_ Row.off (List._∷_ Row.off (List._∷_ Row.off (List._∷_ Row.off (List._∷_ Row.off (List._∷_ Row.off (List._∷_ Row.off (List._∷_ Row.off (List._∷_ Row.off (List._∷_ Row.off (List._∷_ Row.off (List._∷_ Row.off (List._∷_ Row.off List.[]))))))))))))))))))))))))))) }
 
         abbrev G66 : Row.Cx
-        G66 = record { locals = List._++_ g51 (List._++_ t50 t52); slots = List._∷_ (Row.lease (κs .0) (qs .0)) (List._∷_ (Row.lease (κs .1 .0) (qs .1 .0)) (List._∷_ (Row.lease (κs .1 .1 .0) (qs .1 .1 .0)) (List._∷_ (Row.lease (κs .1 .1 .1 .0) (qs .1 .1 .1 .0)) (List._∷_ (Row.lease (κs .1 .1 .1 .1 .0) (qs .1 .1 .1 .1 .0)) (List._∷_ (Row.lease (κs .1 .1 .1 .1 .1 .0) (qs .1 .1 .1 .1 .1 .0)) (List._∷_ (Row.lease (κs .1 .1 .1 .1 .1 .1 .0) (qs .1 .1 .1 .1 .1 .1 .0)) (List._∷_ Row.off (List._∷_ Row.off (List._∷_ (Row.lease (κs .1 .1 .1 .1 .1 .1 .1 .1 .1 .0) (qs .1 .1 .1 .1 .1 .1 .1 .1 .1 .0)) (List._∷_ Row.off (List._∷_ Row.off (List._∷_ Row.off (List._∷_ Row.off (List._∷_ Row.off (List._∷_ Row.off (List._∷_ Row.dead (List._∷_ Row.alive (List._∷_ Row.alive List.[])))))))))))))))))) }
+        G66 = record { locals = List._++_ t49 (List._++_ t48 (List._++_ t2 t3)); slots = List._∷_ (Row.lease (κs .0) (qs .0)) (List._∷_ (Row.lease (κs .1 .0) (qs .1 .0)) (List._∷_ (Row.lease (κs .1 .1 .0) (qs .1 .1 .0)) (List._∷_ (Row.lease (κs .1 .1 .1 .0) (qs .1 .1 .1 .0)) (List._∷_ (Row.lease (κs .1 .1 .1 .1 .0) (qs .1 .1 .1 .1 .0)) (List._∷_ (Row.lease (κs .1 .1 .1 .1 .1 .0) (qs .1 .1 .1 .1 .1 .0)) (List._∷_ (Row.lease (κs .1 .1 .1 .1 .1 .1 .0) (qs .1 .1 .1 .1 .1 .1 .0)) (List._∷_ (Row.lease (κs .1 .1 .1 .1 .1 .1 .1 .0) (qs .1 .1 .1 .1 .1 .1 .1 .0)) (List._∷_ (Row.lease (κs .1 .1 .1 .1 .1 .1 .1 .1 .0) (qs .1 .1 .1 .1 .1 .1 .1 .1 .0)) (List._∷_ (Row.lease (κs .1 .1 .1 .1 .1 .1 .1 .1 .1 .0) (qs .1 .1 .1 .1 .1 .1 .1 .1 .1 .0)) (List._∷_ (Row.lease (κs .1 .1 .1 .1 .1 .1 .1 .1 .1 .1 .0) (qs .1 .1 .1 .1 .1 .1 .1 .1 .1 .1 .0)) (List._∷_ (Row.lease (κs .1 .1 .1 .1 .1 .1 .1 .1 .1 .1 .1 .0) (qs .1 .1 .1 .1 .1 .1 .1 .1 .1 .1 .1 .0)) (List._∷_ Row.off (List._∷_ Row.off (List._∷_ Row.off (List._∷_ Row.off (List._∷_ Row.off (List._∷_ Row.off (List._∷_ Row.off (List._∷_ Row.off (List._∷_ Row.off (List._∷_ Row.off (List._∷_ Row.off (List._∷_ Row.off (List._∷_ Row.off (List._∷_ Row.off (List._∷_ Row.off (List._∷_ Row.off List.[]))))))))))))))))))))))))))) }
 
         abbrev G67 : Row.Cx
-        G67 = record { locals = List._++_ g51 (List._++_ t50 t52); slots = List._∷_ (Row.lease (κs .0) (qs .0)) (List._∷_ (Row.lease (κs .1 .0) (qs .1 .0)) (List._∷_ (Row.lease (κs .1 .1 .0) (qs .1 .1 .0)) (List._∷_ (Row.lease (κs .1 .1 .1 .0) (qs .1 .1 .1 .0)) (List._∷_ (Row.lease (κs .1 .1 .1 .1 .0) (qs .1 .1 .1 .1 .0)) (List._∷_ (Row.lease (κs .1 .1 .1 .1 .1 .0) (qs .1 .1 .1 .1 .1 .0)) (List._∷_ (Row.lease (κs .1 .1 .1 .1 .1 .1 .0) (qs .1 .1 .1 .1 .1 .1 .0)) (List._∷_ Row.off (List._∷_ Row.off (List._∷_ (Row.lease (κs .1 .1 .1 .1 .1 .1 .1 .1 .1 .0) (qs .1 .1 .1 .1 .1 .1 .1 .1 .1 .0)) (List._∷_ Row.off (List._∷_ Row.off (List._∷_ Row.off (List._∷_ Row.off (List._∷_ Row.off (List._∷_ Row.off (List._∷_ Row.dead (List._∷_ Row.alive (List._∷_ Row.alive List.[])))))))))))))))))) }
+        G67 = record { locals = List._++_ t49 (List._++_ t50 (List._++_ t2 t3)); slots = List._∷_ (Row.lease (κs .0) (qs .0)) (List._∷_ (Row.lease (κs .1 .0) (qs .1 .0)) (List._∷_ (Row.lease (κs .1 .1 .0) (qs .1 .1 .0)) (List._∷_ (Row.lease (κs .1 .1 .1 .0) (qs .1 .1 .1 .0)) (List._∷_ (Row.lease (κs .1 .1 .1 .1 .0) (qs .1 .1 .1 .1 .0)) (List._∷_ (Row.lease (κs .1 .1 .1 .1 .1 .0) (qs .1 .1 .1 .1 .1 .0)) (List._∷_ (Row.lease (κs .1 .1 .1 .1 .1 .1 .0) (qs .1 .1 .1 .1 .1 .1 .0)) (List._∷_ (Row.lease (κs .1 .1 .1 .1 .1 .1 .1 .0) (qs .1 .1 .1 .1 .1 .1 .1 .0)) (List._∷_ (Row.lease (κs .1 .1 .1 .1 .1 .1 .1 .1 .0) (qs .1 .1 .1 .1 .1 .1 .1 .1 .0)) (List._∷_ (Row.lease (κs .1 .1 .1 .1 .1 .1 .1 .1 .1 .0) (qs .1 .1 .1 .1 .1 .1 .1 .1 .1 .0)) (List._∷_ (Row.lease (κs .1 .1 .1 .1 .1 .1 .1 .1 .1 .1 .0) (qs .1 .1 .1 .1 .1 .1 .1 .1 .1 .1 .0)) (List._∷_ (Row.lease (κs .1 .1 .1 .1 .1 .1 .1 .1 .1 .1 .1 .0) (qs .1 .1 .1 .1 .1 .1 .1 .1 .1 .1 .1 .0)) (List._∷_ Row.off (List._∷_ Row.off (List._∷_ Row.off (List._∷_ Row.off (List._∷_ Row.off (List._∷_ Row.off (List._∷_ Row.off (List._∷_ Row.off (List._∷_ Row.off (List._∷_ Row.off (List._∷_ Row.off (List._∷_ Row.off (List._∷_ Row.off (List._∷_ Row.off (List._∷_ Row.off (List._∷_ Row.off List.[]))))))))))))))))))))))))))) }
 
         abbrev G68 : Row.Cx
-        G68 = record { locals = List._++_ g51 (List._++_ t50 t52); slots = List._∷_ (Row.lease (κs .0) (qs .0)) (List._∷_ (Row.lease (κs .1 .0) (qs .1 .0)) (List._∷_ (Row.lease (κs .1 .1 .0) (qs .1 .1 .0)) (List._∷_ (Row.lease (κs .1 .1 .1 .0) (qs .1 .1 .1 .0)) (List._∷_ (Row.lease (κs .1 .1 .1 .1 .0) (qs .1 .1 .1 .1 .0)) (List._∷_ (Row.lease (κs .1 .1 .1 .1 .1 .0) (qs .1 .1 .1 .1 .1 .0)) (List._∷_ (Row.lease (κs .1 .1 .1 .1 .1 .1 .0) (qs .1 .1 .1 .1 .1 .1 .0)) (List._∷_ Row.off (List._∷_ Row.off (List._∷_ (Row.lease (κs .1 .1 .1 .1 .1 .1 .1 .1 .1 .0) (qs .1 .1 .1 .1 .1 .1 .1 .1 .1 .0)) (List._∷_ Row.off (List._∷_ Row.off (List._∷_ Row.off (List._∷_ Row.off (List._∷_ Row.off (List._∷_ Row.off (List._∷_ Row.off (List._∷_ Row.alive (List._∷_ Row.alive List.[])))))))))))))))))) }
+        G68 = record { locals = List._++_ t49 (List._++_ t51 (List._++_ t2 t3)); slots = List._∷_ (Row.lease (κs .0) (qs .0)) (List._∷_ (Row.lease (κs .1 .0) (qs .1 .0)) (List._∷_ (Row.lease (κs .1 .1 .0) (qs .1 .1 .0)) (List._∷_ (Row.lease (κs .1 .1 .1 .0) (qs .1 .1 .1 .0)) (List._∷_ (Row.lease (κs .1 .1 .1 .1 .0) (qs .1 .1 .1 .1 .0)) (List._∷_ (Row.lease (κs .1 .1 .1 .1 .1 .0) (qs .1 .1 .1 .1 .1 .0)) (List._∷_ (Row.lease (κs .1 .1 .1 .1 .1 .1 .0) (qs .1 .1 .1 .1 .1 .1 .0)) (List._∷_ (Row.lease (κs .1 .1 .1 .1 .1 .1 .1 .0) (qs .1 .1 .1 .1 .1 .1 .1 .0)) (List._∷_ (Row.lease (κs .1 .1 .1 .1 .1 .1 .1 .1 .0) (qs .1 .1 .1 .1 .1 .1 .1 .1 .0)) (List._∷_ (Row.lease (κs .1 .1 .1 .1 .1 .1 .1 .1 .1 .0) (qs .1 .1 .1 .1 .1 .1 .1 .1 .1 .0)) (List._∷_ (Row.lease (κs .1 .1 .1 .1 .1 .1 .1 .1 .1 .1 .0) (qs .1 .1 .1 .1 .1 .1 .1 .1 .1 .1 .0)) (List._∷_ (Row.lease (κs .1 .1 .1 .1 .1 .1 .1 .1 .1 .1 .1 .0) (qs .1 .1 .1 .1 .1 .1 .1 .1 .1 .1 .1 .0)) (List._∷_ Row.off (List._∷_ Row.off (List._∷_ Row.off (List._∷_ Row.off (List._∷_ Row.off (List._∷_ Row.off (List._∷_ Row.off (List._∷_ Row.off (List._∷_ Row.off (List._∷_ Row.off (List._∷_ Row.off (List._∷_ Row.off (List._∷_ Row.off (List._∷_ Row.off (List._∷_ Row.off (List._∷_ Row.off List.[]))))))))))))))))))))))))))) }
 
         abbrev G69 : Row.Cx
-        G69 = record { locals = List._++_ g51 (List._++_ t50 t52); slots = List._∷_ (Row.lease (κs .0) (qs .0)) (List._∷_ (Row.lease (κs .1 .0) (qs .1 .0)) (List._∷_ (Row.lease (κs .1 .1 .0) (qs .1 .1 .0)) (List._∷_ (Row.lease (κs .1 .1 .1 .0) (qs .1 .1 .1 .0)) (List._∷_ (Row.lease (κs .1 .1 .1 .1 .0) (qs .1 .1 .1 .1 .0)) (List._∷_ (Row.lease (κs .1 .1 .1 .1 .1 .0) (qs .1 .1 .1 .1 .1 .0)) (List._∷_ (Row.lease (κs .1 .1 .1 .1 .1 .1 .0) (qs .1 .1 .1 .1 .1 .1 .0)) (List._∷_ Row.off (List._∷_ Row.off (List._∷_ (Row.lease (κs .1 .1 .1 .1 .1 .1 .1 .1 .1 .0) (qs .1 .1 .1 .1 .1 .1 .1 .1 .1 .0)) (List._∷_ Row.off (List._∷_ Row.off (List._∷_ Row.off (List._∷_ Row.off (List._∷_ Row.off (List._∷_ Row.off (List._∷_ Row.off (List._∷_ Row.dead (List._∷_ Row.alive List.[])))))))))))))))))) }
+        G69 = record { locals = List._++_ t52 (List._++_ t51 (List._++_ t2 t3)); slots = List._∷_ (Row.lease (κs .0) (qs .0)) (List._∷_ (Row.lease (κs .1 .0) (qs .1 .0)) (List._∷_ (Row.lease (κs .1 .1 .0) (qs .1 .1 .0)) (List._∷_ (Row.lease (κs .1 .1 .1 .0) (qs .1 .1 .1 .0)) (List._∷_ (Row.lease (κs .1 .1 .1 .1 .0) (qs .1 .1 .1 .1 .0)) (List._∷_ (Row.lease (κs .1 .1 .1 .1 .1 .0) (qs .1 .1 .1 .1 .1 .0)) (List._∷_ (Row.lease (κs .1 .1 .1 .1 .1 .1 .0) (qs .1 .1 .1 .1 .1 .1 .0)) (List._∷_ (Row.lease (κs .1 .1 .1 .1 .1 .1 .1 .0) (qs .1 .1 .1 .1 .1 .1 .1 .0)) (List._∷_ (Row.lease (κs .1 .1 .1 .1 .1 .1 .1 .1 .0) (qs .1 .1 .1 .1 .1 .1 .1 .1 .0)) (List._∷_ (Row.lease (κs .1 .1 .1 .1 .1 .1 .1 .1 .1 .0) (qs .1 .1 .1 .1 .1 .1 .1 .1 .1 .0)) (List._∷_ (Row.lease (κs .1 .1 .1 .1 .1 .1 .1 .1 .1 .1 .0) (qs .1 .1 .1 .1 .1 .1 .1 .1 .1 .1 .0)) (List._∷_ (Row.lease (κs .1 .1 .1 .1 .1 .1 .1 .1 .1 .1 .1 .0) (qs .1 .1 .1 .1 .1 .1 .1 .1 .1 .1 .1 .0)) (List._∷_ Row.off (List._∷_ Row.off (List._∷_ Row.off (List._∷_ Row.off (List._∷_ Row.off (List._∷_ Row.off (List._∷_ Row.off (List._∷_ Row.off (List._∷_ Row.off (List._∷_ Row.off (List._∷_ Row.off (List._∷_ Row.off (List._∷_ Row.off (List._∷_ Row.off (List._∷_ Row.off (List._∷_ Row.off List.[]))))))))))))))))))))))))))) }
 
         abbrev G70 : Row.Cx
-        G70 = record { locals = List._++_ g53 (List._++_ t50 t54); slots = List._∷_ (Row.lease (κs .0) (qs .0)) (List._∷_ (Row.lease (κs .1 .0) (qs .1 .0)) (List._∷_ (Row.lease (κs .1 .1 .0) (qs .1 .1 .0)) (List._∷_ (Row.lease (κs .1 .1 .1 .0) (qs .1 .1 .1 .0)) (List._∷_ (Row.lease (κs .1 .1 .1 .1 .0) (qs .1 .1 .1 .1 .0)) (List._∷_ (Row.lease (κs .1 .1 .1 .1 .1 .0) (qs .1 .1 .1 .1 .1 .0)) (List._∷_ (Row.lease (κs .1 .1 .1 .1 .1 .1 .0) (qs .1 .1 .1 .1 .1 .1 .0)) (List._∷_ (Row.lease (κs .1 .1 .1 .1 .1 .1 .1 .0) (qs .1 .1 .1 .1 .1 .1 .1 .0)) (List._∷_ Row.off (List._∷_ (Row.lease (κs .1 .1 .1 .1 .1 .1 .1 .1 .1 .0) (qs .1 .1 .1 .1 .1 .1 .1 .1 .1 .0)) (List._∷_ Row.off (List._∷_ Row.off (List._∷_ Row.off (List._∷_ Row.off (List._∷_ Row.off (List._∷_ Row.off (List._∷_ Row.off (List._∷_ Row.dead (List._∷_ Row.alive List.[])))))))))))))))))) }
+        G70 = record { locals = List._++_ t53 (List._++_ t51 (List._++_ t2 t3)); slots = List._∷_ (Row.lease (κs .0) (qs .0)) (List._∷_ (Row.lease (κs .1 .0) (qs .1 .0)) (List._∷_ (Row.lease (κs .1 .1 .0) (qs .1 .1 .0)) (List._∷_ (Row.lease (κs .1 .1 .1 .0) (qs .1 .1 .1 .0)) (List._∷_ (Row.lease (κs .1 .1 .1 .1 .0) (qs .1 .1 .1 .1 .0)) (List._∷_ (Row.lease (κs .1 .1 .1 .1 .1 .0) (qs .1 .1 .1 .1 .1 .0)) (List._∷_ (Row.lease (κs .1 .1 .1 .1 .1 .1 .0) (qs .1 .1 .1 .1 .1 .1 .0)) (List._∷_ (Row.lease (κs .1 .1 .1 .1 .1 .1 .1 .0) (qs .1 .1 .1 .1 .1 .1 .1 .0)) (List._∷_ (Row.lease (κs .1 .1 .1 .1 .1 .1 .1 .1 .0) (qs .1 .1 .1 .1 .1 .1 .1 .1 .0)) (List._∷_ (Row.lease (κs .1 .1 .1 .1 .1 .1 .1 .1 .1 .0) (qs .1 .1 .1 .1 .1 .1 .1 .1 .1 .0)) (List._∷_ (Row.lease (κs .1 .1 .1 .1 .1 .1 .1 .1 .1 .1 .0) (qs .1 .1 .1 .1 .1 .1 .1 .1 .1 .1 .0)) (List._∷_ (Row.lease (κs .1 .1 .1 .1 .1 .1 .1 .1 .1 .1 .1 .0) (qs .1 .1 .1 .1 .1 .1 .1 .1 .1 .1 .1 .0)) (List._∷_ Row.off (List._∷_ Row.off (List._∷_ Row.off (List._∷_ Row.off (List._∷_ Row.off (List._∷_ Row.off (List._∷_ Row.off (List._∷_ Row.off (List._∷_ Row.off (List._∷_ Row.off (List._∷_ Row.off (List._∷_ Row.off (List._∷_ Row.off (List._∷_ Row.off (List._∷_ Row.off (List._∷_ Row.off List.[]))))))))))))))))))))))))))) }
 
         abbrev G71 : Row.Cx
-        G71 = record { locals = List._++_ g53 (List._++_ t50 t54); slots = List._∷_ (Row.lease (κs .0) (qs .0)) (List._∷_ (Row.lease (κs .1 .0) (qs .1 .0)) (List._∷_ (Row.lease (κs .1 .1 .0) (qs .1 .1 .0)) (List._∷_ (Row.lease (κs .1 .1 .1 .0) (qs .1 .1 .1 .0)) (List._∷_ (Row.lease (κs .1 .1 .1 .1 .0) (qs .1 .1 .1 .1 .0)) (List._∷_ (Row.lease (κs .1 .1 .1 .1 .1 .0) (qs .1 .1 .1 .1 .1 .0)) (List._∷_ (Row.lease (κs .1 .1 .1 .1 .1 .1 .0) (qs .1 .1 .1 .1 .1 .1 .0)) (List._∷_ (Row.lease (κs .1 .1 .1 .1 .1 .1 .1 .0) (qs .1 .1 .1 .1 .1 .1 .1 .0)) (List._∷_ Row.off (List._∷_ (Row.lease (κs .1 .1 .1 .1 .1 .1 .1 .1 .1 .0) (qs .1 .1 .1 .1 .1 .1 .1 .1 .1 .0)) (List._∷_ Row.off (List._∷_ Row.off (List._∷_ Row.off (List._∷_ Row.off (List._∷_ Row.off (List._∷_ Row.off (List._∷_ Row.off (List._∷_ Row.dead (List._∷_ Row.alive List.[])))))))))))))))))) }
+        G71 = record { locals = List._++_ t54 (List._++_ t51 (List._++_ t2 t3)); slots = List._∷_ (Row.lease (κs .0) (qs .0)) (List._∷_ (Row.lease (κs .1 .0) (qs .1 .0)) (List._∷_ (Row.lease (κs .1 .1 .0) (qs .1 .1 .0)) (List._∷_ (Row.lease (κs .1 .1 .1 .0) (qs .1 .1 .1 .0)) (List._∷_ (Row.lease (κs .1 .1 .1 .1 .0) (qs .1 .1 .1 .1 .0)) (List._∷_ (Row.lease (κs .1 .1 .1 .1 .1 .0) (qs .1 .1 .1 .1 .1 .0)) (List._∷_ (Row.lease (κs .1 .1 .1 .1 .1 .1 .0) (qs .1 .1 .1 .1 .1 .1 .0)) (List._∷_ (Row.lease (κs .1 .1 .1 .1 .1 .1 .1 .0) (qs .1 .1 .1 .1 .1 .1 .1 .0)) (List._∷_ (Row.lease (κs .1 .1 .1 .1 .1 .1 .1 .1 .0) (qs .1 .1 .1 .1 .1 .1 .1 .1 .0)) (List._∷_ (Row.lease (κs .1 .1 .1 .1 .1 .1 .1 .1 .1 .0) (qs .1 .1 .1 .1 .1 .1 .1 .1 .1 .0)) (List._∷_ (Row.lease (κs .1 .1 .1 .1 .1 .1 .1 .1 .1 .1 .0) (qs .1 .1 .1 .1 .1 .1 .1 .1 .1 .1 .0)) (List._∷_ (Row.lease (κs .1 .1 .1 .1 .1 .1 .1 .1 .1 .1 .1 .0) (qs .1 .1 .1 .1 .1 .1 .1 .1 .1 .1 .1 .0)) (List._∷_ Row.off (List._∷_ Row.off (List._∷_ Row.off (List._∷_ Row.off (List._∷_ Row.off (List._∷_ Row.off (List._∷_ Row.off (List._∷_ Row.off (List._∷_ Row.off (List._∷_ Row.off (List._∷_ Row.off (List._∷_ Row.off (List._∷_ Row.off (List._∷_ Row.off (List._∷_ Row.off (List._∷_ Row.off List.[]))))))))))))))))))))))))))) }
 
         abbrev G72 : Row.Cx
-        G72 = record { locals = List._++_ g53 (List._++_ t50 t54); slots = List._∷_ (Row.lease (κs .0) (qs .0)) (List._∷_ (Row.lease (κs .1 .0) (qs .1 .0)) (List._∷_ (Row.lease (κs .1 .1 .0) (qs .1 .1 .0)) (List._∷_ (Row.lease (κs .1 .1 .1 .0) (qs .1 .1 .1 .0)) (List._∷_ (Row.lease (κs .1 .1 .1 .1 .0) (qs .1 .1 .1 .1 .0)) (List._∷_ (Row.lease (κs .1 .1 .1 .1 .1 .0) (qs .1 .1 .1 .1 .1 .0)) (List._∷_ (Row.lease (κs .1 .1 .1 .1 .1 .1 .0) (qs .1 .1 .1 .1 .1 .1 .0)) (List._∷_ (Row.lease (κs .1 .1 .1 .1 .1 .1 .1 .0) (qs .1 .1 .1 .1 .1 .1 .1 .0)) (List._∷_ Row.off (List._∷_ (Row.lease (κs .1 .1 .1 .1 .1 .1 .1 .1 .1 .0) (qs .1 .1 .1 .1 .1 .1 .1 .1 .1 .0)) (List._∷_ Row.off (List._∷_ Row.off (List._∷_ Row.off (List._∷_ Row.off (List._∷_ Row.off (List._∷_ Row.off (List._∷_ Row.off (List._∷_ Row.off (List._∷_ Row.alive List.[])))))))))))))))))) }
+        G72 = record { locals = List._++_ t55 (List._++_ t51 (List._++_ t2 t3)); slots = List._∷_ (Row.lease (κs .0) (qs .0)) (List._∷_ (Row.lease (κs .1 .0) (qs .1 .0)) (List._∷_ (Row.lease (κs .1 .1 .0) (qs .1 .1 .0)) (List._∷_ (Row.lease (κs .1 .1 .1 .0) (qs .1 .1 .1 .0)) (List._∷_ (Row.lease (κs .1 .1 .1 .1 .0) (qs .1 .1 .1 .1 .0)) (List._∷_ (Row.lease (κs .1 .1 .1 .1 .1 .0) (qs .1 .1 .1 .1 .1 .0)) (List._∷_ (Row.lease (κs .1 .1 .1 .1 .1 .1 .0) (qs .1 .1 .1 .1 .1 .1 .0)) (List._∷_ (Row.lease (κs .1 .1 .1 .1 .1 .1 .1 .0) (qs .1 .1 .1 .1 .1 .1 .1 .0)) (List._∷_ (Row.lease (κs .1 .1 .1 .1 .1 .1 .1 .1 .0) (qs .1 .1 .1 .1 .1 .1 .1 .1 .0)) (List._∷_ (Row.lease (κs .1 .1 .1 .1 .1 .1 .1 .1 .1 .0) (qs .1 .1 .1 .1 .1 .1 .1 .1 .1 .0)) (List._∷_ (Row.lease (κs .1 .1 .1 .1 .1 .1 .1 .1 .1 .1 .0) (qs .1 .1 .1 .1 .1 .1 .1 .1 .1 .1 .0)) (List._∷_ (Row.lease (κs .1 .1 .1 .1 .1 .1 .1 .1 .1 .1 .1 .0) (qs .1 .1 .1 .1 .1 .1 .1 .1 .1 .1 .1 .0)) (List._∷_ Row.off (List._∷_ Row.off (List._∷_ Row.off (List._∷_ Row.off (List._∷_ Row.off (List._∷_ Row.off (List._∷_ Row.off (List._∷_ Row.off (List._∷_ Row.off (List._∷_ Row.off (List._∷_ Row.off (List._∷_ Row.off (List._∷_ Row.off (List._∷_ Row.off (List._∷_ Row.off (List._∷_ Row.off List.[]))))))))))))))))))))))))))) }
 
         abbrev G73 : Row.Cx
-        G73 = record { locals = List._++_ g53 (List._++_ t50 t54); slots = List._∷_ (Row.lease (κs .0) (qs .0)) (List._∷_ (Row.lease (κs .1 .0) (qs .1 .0)) (List._∷_ (Row.lease (κs .1 .1 .0) (qs .1 .1 .0)) (List._∷_ (Row.lease (κs .1 .1 .1 .0) (qs .1 .1 .1 .0)) (List._∷_ (Row.lease (κs .1 .1 .1 .1 .0) (qs .1 .1 .1 .1 .0)) (List._∷_ (Row.lease (κs .1 .1 .1 .1 .1 .0) (qs .1 .1 .1 .1 .1 .0)) (List._∷_ (Row.lease (κs .1 .1 .1 .1 .1 .1 .0) (qs .1 .1 .1 .1 .1 .1 .0)) (List._∷_ (Row.lease (κs .1 .1 .1 .1 .1 .1 .1 .0) (qs .1 .1 .1 .1 .1 .1 .1 .0)) (List._∷_ Row.off (List._∷_ (Row.lease (κs .1 .1 .1 .1 .1 .1 .1 .1 .1 .0) (qs .1 .1 .1 .1 .1 .1 .1 .1 .1 .0)) (List._∷_ Row.off (List._∷_ Row.off (List._∷_ Row.off (List._∷_ Row.off (List._∷_ Row.off (List._∷_ Row.off (List._∷_ Row.off (List._∷_ Row.off (List._∷_ Row.dead List.[])))))))))))))))))) }
+        G73 = record { locals = List._++_ t4 (List._++_ t51 (List._++_ t2 t3)); slots = List._∷_ (Row.lease (κs .0) (qs .0)) (List._∷_ (Row.lease (κs .1 .0) (qs .1 .0)) (List._∷_ (Row.lease (κs .1 .1 .0) (qs .1 .1 .0)) (List._∷_ (Row.lease (κs .1 .1 .1 .0) (qs .1 .1 .1 .0)) (List._∷_ (Row.lease (κs .1 .1 .1 .1 .0) (qs .1 .1 .1 .1 .0)) (List._∷_ (Row.lease (κs .1 .1 .1 .1 .1 .0) (qs .1 .1 .1 .1 .1 .0)) (List._∷_ (Row.lease (κs .1 .1 .1 .1 .1 .1 .0) (qs .1 .1 .1 .1 .1 .1 .0)) (List._∷_ (Row.lease (κs .1 .1 .1 .1 .1 .1 .1 .0) (qs .1 .1 .1 .1 .1 .1 .1 .0)) (List._∷_ (Row.lease (κs .1 .1 .1 .1 .1 .1 .1 .1 .0) (qs .1 .1 .1 .1 .1 .1 .1 .1 .0)) (List._∷_ (Row.lease (κs .1 .1 .1 .1 .1 .1 .1 .1 .1 .0) (qs .1 .1 .1 .1 .1 .1 .1 .1 .1 .0)) (List._∷_ (Row.lease (κs .1 .1 .1 .1 .1 .1 .1 .1 .1 .1 .0) (qs .1 .1 .1 .1 .1 .1 .1 .1 .1 .1 .0)) (List._∷_ (Row.lease (κs .1 .1 .1 .1 .1 .1 .1 .1 .1 .1 .1 .0) (qs .1 .1 .1 .1 .1 .1 .1 .1 .1 .1 .1 .0)) (List._∷_ Row.off (List._∷_ Row.off (List._∷_ Row.off (List._∷_ Row.off (List._∷_ Row.off (List._∷_ Row.off (List._∷_ Row.off (List._∷_ Row.off (List._∷_ Row.off (List._∷_ Row.off (List._∷_ Row.off (List._∷_ Row.off (List._∷_ Row.off (List._∷_ Row.off (List._∷_ Row.off (List._∷_ Row.off List.[]))))))))))))))))))))))))))) }
 
         abbrev G74 : Row.Cx
-        G74 = record { locals = List._++_ t0 (List._++_ t50 t2); slots = List._∷_ (Row.lease (κs .0) (qs .0)) (List._∷_ (Row.lease (κs .1 .0) (qs .1 .0)) (List._∷_ (Row.lease (κs .1 .1 .0) (qs .1 .1 .0)) (List._∷_ (Row.lease (κs .1 .1 .1 .0) (qs .1 .1 .1 .0)) (List._∷_ (Row.lease (κs .1 .1 .1 .1 .0) (qs .1 .1 .1 .1 .0)) (List._∷_ (Row.lease (κs .1 .1 .1 .1 .1 .0) (qs .1 .1 .1 .1 .1 .0)) (List._∷_ (Row.lease (κs .1 .1 .1 .1 .1 .1 .0) (qs .1 .1 .1 .1 .1 .1 .0)) (List._∷_ (Row.lease (κs .1 .1 .1 .1 .1 .1 .1 .0) (qs .1 .1 .1 .1 .1 .1 .1 .0)) (List._∷_ (Row.lease (κs .1 .1 .1 .1 .1 .1 .1 .1 .0) (qs .1 .1 .1 .1 .1 .1 .1 .1 .0)) (List._∷_ (Row.lease (κs .1 .1 .1 .1 .1 .1 .1 .1 .1 .0) (qs .1 .1 .1 .1 .1 .1 .1 .1 .1 .0)) (List._∷_ Row.off (List._∷_ Row.off (List._∷_ Row.off (List._∷_ Row.off (List._∷_ Row.off (List._∷_ Row.off (List._∷_ Row.off (List._∷_ Row.off (List._∷_ Row.dead List.[])))))))))))))))))) }
+        G74 = record { locals = List._++_ t4 (List._++_ t1 (List._++_ t2 t3)); slots = List._∷_ (Row.lease (κs .0) (qs .0)) (List._∷_ (Row.lease (κs .1 .0) (qs .1 .0)) (List._∷_ (Row.lease (κs .1 .1 .0) (qs .1 .1 .0)) (List._∷_ (Row.lease (κs .1 .1 .1 .0) (qs .1 .1 .1 .0)) (List._∷_ (Row.lease (κs .1 .1 .1 .1 .0) (qs .1 .1 .1 .1 .0)) (List._∷_ (Row.lease (κs .1 .1 .1 .1 .1 .0) (qs .1 .1 .1 .1 .1 .0)) (List._∷_ (Row.lease (κs .1 .1 .1 .1 .1 .1 .0) (qs .1 .1 .1 .1 .1 .1 .0)) (List._∷_ (Row.lease (κs .1 .1 .1 .1 .1 .1 .1 .0) (qs .1 .1 .1 .1 .1 .1 .1 .0)) (List._∷_ (Row.lease (κs .1 .1 .1 .1 .1 .1 .1 .1 .0) (qs .1 .1 .1 .1 .1 .1 .1 .1 .0)) (List._∷_ (Row.lease (κs .1 .1 .1 .1 .1 .1 .1 .1 .1 .0) (qs .1 .1 .1 .1 .1 .1 .1 .1 .1 .0)) (List._∷_ (Row.lease (κs .1 .1 .1 .1 .1 .1 .1 .1 .1 .1 .0) (qs .1 .1 .1 .1 .1 .1 .1 .1 .1 .1 .0)) (List._∷_ (Row.lease (κs .1 .1 .1 .1 .1 .1 .1 .1 .1 .1 .1 .0) (qs .1 .1 .1 .1 .1 .1 .1 .1 .1 .1 .1 .0)) (List._∷_ Row.off (List._∷_ Row.off (List._∷_ Row.off (List._∷_ Row.off (List._∷_ Row.off (List._∷_ Row.off (List._∷_ Row.off (List._∷_ Row.off (List._∷_ Row.off (List._∷_ Row.off (List._∷_ Row.off (List._∷_ Row.off (List._∷_ Row.off (List._∷_ Row.off (List._∷_ Row.off (List._∷_ Row.off List.[]))))))))))))))))))))))))))) }
 
         abbrev G75 : Row.Cx
-        G75 = record { locals = List._++_ t0 (List._++_ t50 t2); slots = List._∷_ (Row.lease (κs .0) (qs .0)) (List._∷_ (Row.lease (κs .1 .0) (qs .1 .0)) (List._∷_ (Row.lease (κs .1 .1 .0) (qs .1 .1 .0)) (List._∷_ (Row.lease (κs .1 .1 .1 .0) (qs .1 .1 .1 .0)) (List._∷_ (Row.lease (κs .1 .1 .1 .1 .0) (qs .1 .1 .1 .1 .0)) (List._∷_ (Row.lease (κs .1 .1 .1 .1 .1 .0) (qs .1 .1 .1 .1 .1 .0)) (List._∷_ (Row.lease (κs .1 .1 .1 .1 .1 .1 .0) (qs .1 .1 .1 .1 .1 .1 .0)) (List._∷_ (Row.lease (κs .1 .1 .1 .1 .1 .1 .1 .0) (qs .1 .1 .1 .1 .1 .1 .1 .0)) (List._∷_ (Row.lease (κs .1 .1 .1 .1 .1 .1 .1 .1 .0) (qs .1 .1 .1 .1 .1 .1 .1 .1 .0)) (List._∷_ (Row.lease (κs .1 .1 .1 .1 .1 .1 .1 .1 .1 .0) (qs .1 .1 .1 .1 .1 .1 .1 .1 .1 .0)) (List._∷_ Row.off (List._∷_ Row.off (List._∷_ Row.off (List._∷_ Row.off (List._∷_ Row.off (List._∷_ Row.off (List._∷_ Row.off (List._∷_ Row.off (List._∷_ Row.dead List.[])))))))))))))))))) }
+        G75 = record { locals = List._++_ t0 (List._++_ t44 (List._++_ t2 t3)); slots = List._∷_ (Row.lease (κs .0) (qs .0)) (List._∷_ (Row.lease (κs .1 .0) (qs .1 .0)) (List._∷_ (Row.lease (κs .1 .1 .0) (qs .1 .1 .0)) (List._∷_ (Row.lease (κs .1 .1 .1 .0) (qs .1 .1 .1 .0)) (List._∷_ (Row.lease (κs .1 .1 .1 .1 .0) (qs .1 .1 .1 .1 .0)) (List._∷_ (Row.lease (κs .1 .1 .1 .1 .1 .0) (qs .1 .1 .1 .1 .1 .0)) (List._∷_ (Row.lease (κs .1 .1 .1 .1 .1 .1 .0) (qs .1 .1 .1 .1 .1 .1 .0)) (List._∷_ (Row.lease (κs .1 .1 .1 .1 .1 .1 .1 .0) (qs .1 .1 .1 .1 .1 .1 .1 .0)) (List._∷_ (Row.lease (κs .1 .1 .1 .1 .1 .1 .1 .1 .0) (qs .1 .1 .1 .1 .1 .1 .1 .1 .0)) (List._∷_ (Row.lease (κs .1 .1 .1 .1 .1 .1 .1 .1 .1 .0) (qs .1 .1 .1 .1 .1 .1 .1 .1 .1 .0)) (List._∷_ (Row.lease (κs .1 .1 .1 .1 .1 .1 .1 .1 .1 .1 .0) (qs .1 .1 .1 .1 .1 .1 .1 .1 .1 .1 .0)) (List._∷_ (Row.lease (κs .1 .1 .1 .1 .1 .1 .1 .1 .1 .1 .1 .0) (qs .1 .1 .1 .1 .1 .1 .1 .1 .1 .1 .1 .0)) (List._∷_ Row.off (List._∷_ Row.off (List._∷_ Row.off (List._∷_ Row.off (List._∷_ Row.off (List._∷_ Row.off (List._∷_ Row.off (List._∷_ Row.off (List._∷_ Row.off (List._∷_ Row.off (List._∷_ Row.off (List._∷_ Row.off (List._∷_ Row.off (List._∷_ Row.off (List._∷_ Row.off (List._∷_ Row.off List.[]))))))))))))))))))))))))))) }
 
         abbrev G76 : Row.Cx
-        G76 = record { locals = List._++_ t0 (List._++_ t50 t2); slots = List._∷_ (Row.lease (κs .0) (qs .0)) (List._∷_ (Row.lease (κs .1 .0) (qs .1 .0)) (List._∷_ (Row.lease (κs .1 .1 .0) (qs .1 .1 .0)) (List._∷_ (Row.lease (κs .1 .1 .1 .0) (qs .1 .1 .1 .0)) (List._∷_ (Row.lease (κs .1 .1 .1 .1 .0) (qs .1 .1 .1 .1 .0)) (List._∷_ (Row.lease (κs .1 .1 .1 .1 .1 .0) (qs .1 .1 .1 .1 .1 .0)) (List._∷_ (Row.lease (κs .1 .1 .1 .1 .1 .1 .0) (qs .1 .1 .1 .1 .1 .1 .0)) (List._∷_ (Row.lease (κs .1 .1 .1 .1 .1 .1 .1 .0) (qs .1 .1 .1 .1 .1 .1 .1 .0)) (List._∷_ (Row.lease (κs .1 .1 .1 .1 .1 .1 .1 .1 .0) (qs .1 .1 .1 .1 .1 .1 .1 .1 .0)) (List._∷_ (Row.lease (κs .1 .1 .1 .1 .1 .1 .1 .1 .1 .0) (qs .1 .1 .1 .1 .1 .1 .1 .1 .1 .0)) (List._∷_ Row.off (List._∷_ Row.off (List._∷_ Row.off (List._∷_ Row.off (List._∷_ Row.off (List._∷_ Row.off (List._∷_ Row.off (List._∷_ Row.off (List._∷_ Row.off List.[])))))))))))))))))) }
+        G76 = record { locals = List._++_ t0 (List._++_ t31 (List._++_ t2 t3)); slots = List._∷_ (Row.lease (κs .0) (qs .0)) (List._∷_ (Row.lease (κs .1 .0) (qs .1 .0)) (List._∷_ (Row.lease (κs .1 .1 .0) (qs .1 .1 .0)) (List._∷_ (Row.lease (κs .1 .1 .1 .0) (qs .1 .1 .1 .0)) (List._∷_ (Row.lease (κs .1 .1 .1 .1 .0) (qs .1 .1 .1 .1 .0)) (List._∷_ (Row.lease (κs .1 .1 .1 .1 .1 .0) (qs .1 .1 .1 .1 .1 .0)) (List._∷_ (Row.lease (κs .1 .1 .1 .1 .1 .1 .0) (qs .1 .1 .1 .1 .1 .1 .0)) (List._∷_ (Row.lease (κs .1 .1 .1 .1 .1 .1 .1 .0) (qs .1 .1 .1 .1 .1 .1 .1 .0)) (List._∷_ (Row.lease (κs .1 .1 .1 .1 .1 .1 .1 .1 .0) (qs .1 .1 .1 .1 .1 .1 .1 .1 .0)) (List._∷_ (Row.lease (κs .1 .1 .1 .1 .1 .1 .1 .1 .1 .0) (qs .1 .1 .1 .1 .1 .1 .1 .1 .1 .0)) (List._∷_ (Row.lease (κs .1 .1 .1 .1 .1 .1 .1 .1 .1 .1 .0) (qs .1 .1 .1 .1 .1 .1 .1 .1 .1 .1 .0)) (List._∷_ (Row.lease (κs .1 .1 .1 .1 .1 .1 .1 .1 .1 .1 .1 .0) (qs .1 .1 .1 .1 .1 .1 .1 .1 .1 .1 .1 .0)) (List._∷_ Row.off (List._∷_ Row.off (List._∷_ Row.off (List._∷_ Row.off (List._∷_ Row.off (List._∷_ Row.off (List._∷_ Row.off (List._∷_ Row.off (List._∷_ Row.off (List._∷_ Row.off (List._∷_ Row.off (List._∷_ Row.off (List._∷_ Row.off (List._∷_ Row.off (List._∷_ Row.off (List._∷_ Row.off List.[]))))))))))))))))))))))))))) }
 
         abbrev G77 : Row.Cx
-        G77 = record { locals = List._++_ t55 (List._++_ t50 t2); slots = List._∷_ (Row.lease (κs .0) (qs .0)) (List._∷_ (Row.lease (κs .1 .0) (qs .1 .0)) (List._∷_ (Row.lease (κs .1 .1 .0) (qs .1 .1 .0)) (List._∷_ (Row.lease (κs .1 .1 .1 .0) (qs .1 .1 .1 .0)) (List._∷_ (Row.lease (κs .1 .1 .1 .1 .0) (qs .1 .1 .1 .1 .0)) (List._∷_ (Row.lease (κs .1 .1 .1 .1 .1 .0) (qs .1 .1 .1 .1 .1 .0)) (List._∷_ (Row.lease (κs .1 .1 .1 .1 .1 .1 .0) (qs .1 .1 .1 .1 .1 .1 .0)) (List._∷_ (Row.lease (κs .1 .1 .1 .1 .1 .1 .1 .0) (qs .1 .1 .1 .1 .1 .1 .1 .0)) (List._∷_ (Row.lease (κs .1 .1 .1 .1 .1 .1 .1 .1 .0) (qs .1 .1 .1 .1 .1 .1 .1 .1 .0)) (List._∷_ (Row.lease (κs .1 .1 .1 .1 .1 .1 .1 .1 .1 .0) (qs .1 .1 .1 .1 .1 .1 .1 .1 .1 .0)) (List._∷_ Row.off (List._∷_ Row.off (List._∷_ Row.off (List._∷_ Row.off (List._∷_ Row.off (List._∷_ Row.off (List._∷_ Row.off (List._∷_ Row.off (List._∷_ Row.off List.[])))))))))))))))))) }
+        G77 = record { locals = List._++_ t0 (List._++_ t31 (List._++_ t2 t3)); slots = List._∷_ (Row.lease (κs .0) (qs .0)) (List._∷_ (Row.lease (κs .1 .0) (qs .1 .0)) (List._∷_ (Row.lease (κs .1 .1 .0) (qs .1 .1 .0)) (List._∷_ (Row.lease (κs .1 .1 .1 .0) (qs .1 .1 .1 .0)) (List._∷_ (Row.lease (κs .1 .1 .1 .1 .0) (qs .1 .1 .1 .1 .0)) (List._∷_ (Row.lease (κs .1 .1 .1 .1 .1 .0) (qs .1 .1 .1 .1 .1 .0)) (List._∷_ (Row.lease (κs .1 .1 .1 .1 .1 .1 .0) (qs .1 .1 .1 .1 .1 .1 .0)) (List._∷_ (Row.lease (κs .1 .1 .1 .1 .1 .1 .1 .0) (qs .1 .1 .1 .1 .1 .1 .1 .0)) (List._∷_ (Row.lease (κs .1 .1 .1 .1 .1 .1 .1 .1 .0) (qs .1 .1 .1 .1 .1 .1 .1 .1 .0)) (List._∷_ (Row.lease (κs .1 .1 .1 .1 .1 .1 .1 .1 .1 .0) (qs .1 .1 .1 .1 .1 .1 .1 .1 .1 .0)) (List._∷_ (Row.lease (κs .1 .1 .1 .1 .1 .1 .1 .1 .1 .1 .0) (qs .1 .1 .1 .1 .1 .1 .1 .1 .1 .1 .0)) (List._∷_ (Row.lease (κs .1 .1 .1 .1 .1 .1 .1 .1 .1 .1 .1 .0) (qs .1 .1 .1 .1 .1 .1 .1 .1 .1 .1 .1 .0)) (List._∷_ Row.off (List._∷_ Row.off (List._∷_ Row.off (List._∷_ Row.off (List._∷_ Row.off (List._∷_ Row.alive (List._∷_ Row.off (List._∷_ Row.off (List._∷_ Row.off (List._∷_ Row.off (List._∷_ Row.off (List._∷_ Row.off (List._∷_ Row.off (List._∷_ Row.off (List._∷_ Row.off (List._∷_ Row.off List.[]))))))))))))))))))))))))))) }
 
         abbrev G78 : Row.Cx
-        G78 = record { locals = List._++_ t55 (List._++_ t1 t2); slots = List._∷_ (Row.lease (κs .0) (qs .0)) (List._∷_ (Row.lease (κs .1 .0) (qs .1 .0)) (List._∷_ (Row.lease (κs .1 .1 .0) (qs .1 .1 .0)) (List._∷_ (Row.lease (κs .1 .1 .1 .0) (qs .1 .1 .1 .0)) (List._∷_ (Row.lease (κs .1 .1 .1 .1 .0) (qs .1 .1 .1 .1 .0)) (List._∷_ (Row.lease (κs .1 .1 .1 .1 .1 .0) (qs .1 .1 .1 .1 .1 .0)) (List._∷_ (Row.lease (κs .1 .1 .1 .1 .1 .1 .0) (qs .1 .1 .1 .1 .1 .1 .0)) (List._∷_ (Row.lease (κs .1 .1 .1 .1 .1 .1 .1 .0) (qs .1 .1 .1 .1 .1 .1 .1 .0)) (List._∷_ (Row.lease (κs .1 .1 .1 .1 .1 .1 .1 .1 .0) (qs .1 .1 .1 .1 .1 .1 .1 .1 .0)) (List._∷_ (Row.lease (κs .1 .1 .1 .1 .1 .1 .1 .1 .1 .0) (qs .1 .1 .1 .1 .1 .1 .1 .1 .1 .0)) (List._∷_ Row.off (List._∷_ Row.off (List._∷_ Row.off (List._∷_ Row.off (List._∷_ Row.off (List._∷_ Row.off (List._∷_ Row.off (List._∷_ Row.off (List._∷_ Row.off List.[])))))))))))))))))) }
+        G78 = record { locals = List._++_ g56 (List._++_ t31 (List._++_ t57 t3)); slots = List._∷_ Row.off (List._∷_ (Row.lease (κs .1 .0) (qs .1 .0)) (List._∷_ (Row.lease (κs .1 .1 .0) (qs .1 .1 .0)) (List._∷_ (Row.lease (κs .1 .1 .1 .0) (qs .1 .1 .1 .0)) (List._∷_ (Row.lease (κs .1 .1 .1 .1 .0) (qs .1 .1 .1 .1 .0)) (List._∷_ (Row.lease (κs .1 .1 .1 .1 .1 .0) (qs .1 .1 .1 .1 .1 .0)) (List._∷_ (Row.lease (κs .1 .1 .1 .1 .1 .1 .0) (qs .1 .1 .1 .1 .1 .1 .0)) (List._∷_ (Row.lease (κs .1 .1 .1 .1 .1 .1 .1 .0) (qs .1 .1 .1 .1 .1 .1 .1 .0)) (List._∷_ (Row.lease (κs .1 .1 .1 .1 .1 .1 .1 .1 .0) (qs .1 .1 .1 .1 .1 .1 .1 .1 .0)) (List._∷_ (Row.lease (κs .1 .1 .1 .1 .1 .1 .1 .1 .1 .0) (qs .1 .1 .1 .1 .1 .1 .1 .1 .1 .0)) (List._∷_ (Row.lease (κs .1 .1 .1 .1 .1 .1 .1 .1 .1 .1 .0) (qs .1 .1 .1 .1 .1 .1 .1 .1 .1 .1 .0)) (List._∷_ (Row.lease (κs .1 .1 .1 .1 .1 .1 .1 .1 .1 .1 .1 .0) (qs .1 .1 .1 .1 .1 .1 .1 .1 .1 .1 .1 .0)) (List._∷_ Row.off (List._∷_ Row.off (List._∷_ Row.off (List._∷_ Row.off (List._∷_ Row.off (List._∷_ Row.alive (List._∷_ Row.off (List._∷_ Row.off (List._∷_ Row.off (List._∷_ Row.off (List._∷_ Row.off (List._∷_ Row.off (List._∷_ Row.off (List._∷_ Row.off (List._∷_ Row.off (List._∷_ Row.off List.[]))))))))))))))))))))))))))) }
 
         abbrev G79 : Row.Cx
-        G79 = record { locals = List._++_ t56 (List._++_ t1 t2); slots = List._∷_ (Row.lease (κs .0) (qs .0)) (List._∷_ (Row.lease (κs .1 .0) (qs .1 .0)) (List._∷_ (Row.lease (κs .1 .1 .0) (qs .1 .1 .0)) (List._∷_ (Row.lease (κs .1 .1 .1 .0) (qs .1 .1 .1 .0)) (List._∷_ (Row.lease (κs .1 .1 .1 .1 .0) (qs .1 .1 .1 .1 .0)) (List._∷_ (Row.lease (κs .1 .1 .1 .1 .1 .0) (qs .1 .1 .1 .1 .1 .0)) (List._∷_ (Row.lease (κs .1 .1 .1 .1 .1 .1 .0) (qs .1 .1 .1 .1 .1 .1 .0)) (List._∷_ (Row.lease (κs .1 .1 .1 .1 .1 .1 .1 .0) (qs .1 .1 .1 .1 .1 .1 .1 .0)) (List._∷_ (Row.lease (κs .1 .1 .1 .1 .1 .1 .1 .1 .0) (qs .1 .1 .1 .1 .1 .1 .1 .1 .0)) (List._∷_ (Row.lease (κs .1 .1 .1 .1 .1 .1 .1 .1 .1 .0) (qs .1 .1 .1 .1 .1 .1 .1 .1 .1 .0)) (List._∷_ Row.off (List._∷_ Row.off (List._∷_ Row.off (List._∷_ Row.off (List._∷_ Row.off (List._∷_ Row.off (List._∷_ Row.off (List._∷_ Row.off (List._∷_ Row.off List.[])))))))))))))))))) }
+        G79 = record { locals = List._++_ g56 (List._++_ t31 (List._++_ t58 t3)); slots = List._∷_ Row.off (List._∷_ (Row.lease (κs .1 .0) (qs .1 .0)) (List._∷_ (Row.lease (κs .1 .1 .0) (qs .1 .1 .0)) (List._∷_ (Row.lease (κs .1 .1 .1 .0) (qs .1 .1 .1 .0)) (List._∷_ (Row.lease (κs .1 .1 .1 .1 .0) (qs .1 .1 .1 .1 .0)) (List._∷_ (Row.lease (κs .1 .1 .1 .1 .1 .0) (qs .1 .1 .1 .1 .1 .0)) (List._∷_ (Row.lease (κs .1 .1 .1 .1 .1 .1 .0) (qs .1 .1 .1 .1 .1 .1 .0)) (List._∷_ (Row.lease (κs .1 .1 .1 .1 .1 .1 .1 .0) (qs .1 .1 .1 .1 .1 .1 .1 .0)) (List._∷_ (Row.lease (κs .1 .1 .1 .1 .1 .1 .1 .1 .0) (qs .1 .1 .1 .1 .1 .1 .1 .1 .0)) (List._∷_ (Row.lease (κs .1 .1 .1 .1 .1 .1 .1 .1 .1 .0) (qs .1 .1 .1 .1 .1 .1 .1 .1 .1 .0)) (List._∷_ (Row.lease (κs .1 .1 .1 .1 .1 .1 .1 .1 .1 .1 .0) (qs .1 .1 .1 .1 .1 .1 .1 .1 .1 .1 .0)) (List._∷_ (Row.lease (κs .1 .1 .1 .1 .1 .1 .1 .1 .1 .1 .1 .0) (qs .1 .1 .1 .1 .1 .1 .1 .1 .1 .1 .1 .0)) (List._∷_ Row.off (List._∷_ Row.off (List._∷_ Row.off (List._∷_ Row.off (List._∷_ Row.off (List._∷_ Row.alive (List._∷_ Row.off (List._∷_ Row.off (List._∷_ Row.off (List._∷_ Row.off (List._∷_ Row.off (List._∷_ Row.off (List._∷_ Row.off (List._∷_ Row.off (List._∷_ Row.off (List._∷_ Row.off List.[]))))))))))))))))))))))))))) }
 
         abbrev G80 : Row.Cx
-        G80 = record { locals = List._++_ t57 (List._++_ t1 t2); slots = List._∷_ (Row.lease (κs .0) (qs .0)) (List._∷_ (Row.lease (κs .1 .0) (qs .1 .0)) (List._∷_ (Row.lease (κs .1 .1 .0) (qs .1 .1 .0)) (List._∷_ (Row.lease (κs .1 .1 .1 .0) (qs .1 .1 .1 .0)) (List._∷_ (Row.lease (κs .1 .1 .1 .1 .0) (qs .1 .1 .1 .1 .0)) (List._∷_ (Row.lease (κs .1 .1 .1 .1 .1 .0) (qs .1 .1 .1 .1 .1 .0)) (List._∷_ (Row.lease (κs .1 .1 .1 .1 .1 .1 .0) (qs .1 .1 .1 .1 .1 .1 .0)) (List._∷_ (Row.lease (κs .1 .1 .1 .1 .1 .1 .1 .0) (qs .1 .1 .1 .1 .1 .1 .1 .0)) (List._∷_ (Row.lease (κs .1 .1 .1 .1 .1 .1 .1 .1 .0) (qs .1 .1 .1 .1 .1 .1 .1 .1 .0)) (List._∷_ (Row.lease (κs .1 .1 .1 .1 .1 .1 .1 .1 .1 .0) (qs .1 .1 .1 .1 .1 .1 .1 .1 .1 .0)) (List._∷_ Row.off (List._∷_ Row.off (List._∷_ Row.off (List._∷_ Row.off (List._∷_ Row.off (List._∷_ Row.off (List._∷_ Row.off (List._∷_ Row.off (List._∷_ Row.off List.[])))))))))))))))))) }
+        G80 = record { locals = List._++_ g56 (List._++_ t31 (List._++_ t58 t3)); slots = List._∷_ Row.off (List._∷_ (Row.lease (κs .1 .0) (qs .1 .0)) (List._∷_ (Row.lease (κs .1 .1 .0) (qs .1 .1 .0)) (List._∷_ (Row.lease (κs .1 .1 .1 .0) (qs .1 .1 .1 .0)) (List._∷_ (Row.lease (κs .1 .1 .1 .1 .0) (qs .1 .1 .1 .1 .0)) (List._∷_ (Row.lease (κs .1 .1 .1 .1 .1 .0) (qs .1 .1 .1 .1 .1 .0)) (List._∷_ (Row.lease (κs .1 .1 .1 .1 .1 .1 .0) (qs .1 .1 .1 .1 .1 .1 .0)) (List._∷_ (Row.lease (κs .1 .1 .1 .1 .1 .1 .1 .0) (qs .1 .1 .1 .1 .1 .1 .1 .0)) (List._∷_ (Row.lease (κs .1 .1 .1 .1 .1 .1 .1 .1 .0) (qs .1 .1 .1 .1 .1 .1 .1 .1 .0)) (List._∷_ (Row.lease (κs .1 .1 .1 .1 .1 .1 .1 .1 .1 .0) (qs .1 .1 .1 .1 .1 .1 .1 .1 .1 .0)) (List._∷_ (Row.lease (κs .1 .1 .1 .1 .1 .1 .1 .1 .1 .1 .0) (qs .1 .1 .1 .1 .1 .1 .1 .1 .1 .1 .0)) (List._∷_ (Row.lease (κs .1 .1 .1 .1 .1 .1 .1 .1 .1 .1 .1 .0) (qs .1 .1 .1 .1 .1 .1 .1 .1 .1 .1 .1 .0)) (List._∷_ Row.off (List._∷_ Row.off (List._∷_ Row.off (List._∷_ Row.off (List._∷_ Row.off (List._∷_ Row.alive (List._∷_ Row.alive (List._∷_ Row.off (List._∷_ Row.off (List._∷_ Row.off (List._∷_ Row.off (List._∷_ Row.off (List._∷_ Row.off (List._∷_ Row.off (List._∷_ Row.off (List._∷_ Row.off List.[]))))))))))))))))))))))))))) }
 
         abbrev G81 : Row.Cx
-        G81 = record { locals = List._++_ t58 (List._++_ t1 t2); slots = List._∷_ (Row.lease (κs .0) (qs .0)) (List._∷_ (Row.lease (κs .1 .0) (qs .1 .0)) (List._∷_ (Row.lease (κs .1 .1 .0) (qs .1 .1 .0)) (List._∷_ (Row.lease (κs .1 .1 .1 .0) (qs .1 .1 .1 .0)) (List._∷_ (Row.lease (κs .1 .1 .1 .1 .0) (qs .1 .1 .1 .1 .0)) (List._∷_ (Row.lease (κs .1 .1 .1 .1 .1 .0) (qs .1 .1 .1 .1 .1 .0)) (List._∷_ (Row.lease (κs .1 .1 .1 .1 .1 .1 .0) (qs .1 .1 .1 .1 .1 .1 .0)) (List._∷_ (Row.lease (κs .1 .1 .1 .1 .1 .1 .1 .0) (qs .1 .1 .1 .1 .1 .1 .1 .0)) (List._∷_ (Row.lease (κs .1 .1 .1 .1 .1 .1 .1 .1 .0) (qs .1 .1 .1 .1 .1 .1 .1 .1 .0)) (List._∷_ (Row.lease (κs .1 .1 .1 .1 .1 .1 .1 .1 .1 .0) (qs .1 .1 .1 .1 .1 .1 .1 .1 .1 .0)) (List._∷_ Row.off (List._∷_ Row.off (List._∷_ Row.off (List._∷_ Row.off (List._∷_ Row.off (List._∷_ Row.off (List._∷_ Row.off (List._∷_ Row.off (List._∷_ Row.off List.[])))))))))))))))))) }
+        G81 = record { locals = List._++_ g59 (List._++_ t31 (List._++_ t60 t3)); slots = List._∷_ Row.off (List._∷_ (Row.lease (κs .1 .0) (qs .1 .0)) (List._∷_ Row.off (List._∷_ (Row.lease (κs .1 .1 .1 .0) (qs .1 .1 .1 .0)) (List._∷_ (Row.lease (κs .1 .1 .1 .1 .0) (qs .1 .1 .1 .1 .0)) (List._∷_ (Row.lease (κs .1 .1 .1 .1 .1 .0) (qs .1 .1 .1 .1 .1 .0)) (List._∷_ (Row.lease (κs .1 .1 .1 .1 .1 .1 .0) (qs .1 .1 .1 .1 .1 .1 .0)) (List._∷_ (Row.lease (κs .1 .1 .1 .1 .1 .1 .1 .0) (qs .1 .1 .1 .1 .1 .1 .1 .0)) (List._∷_ (Row.lease (κs .1 .1 .1 .1 .1 .1 .1 .1 .0) (qs .1 .1 .1 .1 .1 .1 .1 .1 .0)) (List._∷_ (Row.lease (κs .1 .1 .1 .1 .1 .1 .1 .1 .1 .0) (qs .1 .1 .1 .1 .1 .1 .1 .1 .1 .0)) (List._∷_ (Row.lease (κs .1 .1 .1 .1 .1 .1 .1 .1 .1 .1 .0) (qs .1 .1 .1 .1 .1 .1 .1 .1 .1 .1 .0)) (List._∷_ (Row.lease (κs .1 .1 .1 .1 .1 .1 .1 .1 .1 .1 .1 .0) (qs .1 .1 .1 .1 .1 .1 .1 .1 .1 .1 .1 .0)) (List._∷_ Row.off (List._∷_ Row.off (List._∷_ Row.off (List._∷_ Row.off (List._∷_ Row.off (List._∷_ Row.alive (List._∷_ Row.alive (List._∷_ Row.off (List._∷_ Row.off (List._∷_ Row.off (List._∷_ Row.off (List._∷_ Row.off (List._∷_ Row.off (List._∷_ Row.off (List._∷_ Row.off (List._∷_ Row.off List.[]))))))))))))))))))))))))))) }
 
         abbrev G82 : Row.Cx
-        G82 = record { locals = List._++_ t59 (List._++_ t1 t2); slots = List._∷_ (Row.lease (κs .0) (qs .0)) (List._∷_ (Row.lease (κs .1 .0) (qs .1 .0)) (List._∷_ (Row.lease (κs .1 .1 .0) (qs .1 .1 .0)) (List._∷_ (Row.lease (κs .1 .1 .1 .0) (qs .1 .1 .1 .0)) (List._∷_ (Row.lease (κs .1 .1 .1 .1 .0) (qs .1 .1 .1 .1 .0)) (List._∷_ (Row.lease (κs .1 .1 .1 .1 .1 .0) (qs .1 .1 .1 .1 .1 .0)) (List._∷_ (Row.lease (κs .1 .1 .1 .1 .1 .1 .0) (qs .1 .1 .1 .1 .1 .1 .0)) (List._∷_ (Row.lease (κs .1 .1 .1 .1 .1 .1 .1 .0) (qs .1 .1 .1 .1 .1 .1 .1 .0)) (List._∷_ (Row.lease (κs .1 .1 .1 .1 .1 .1 .1 .1 .0) (qs .1 .1 .1 .1 .1 .1 .1 .1 .0)) (List._∷_ (Row.lease (κs .1 .1 .1 .1 .1 .1 .1 .1 .1 .0) (qs .1 .1 .1 .1 .1 .1 .1 .1 .1 .0)) (List._∷_ Row.off (List._∷_ Row.off (List._∷_ Row.off (List._∷_ Row.off (List._∷_ Row.off (List._∷_ Row.off (List._∷_ Row.off (List._∷_ Row.off (List._∷_ Row.off List.[])))))))))))))))))) }
+        G82 = record { locals = List._++_ g59 (List._++_ t31 (List._++_ t61 t3)); slots = List._∷_ Row.off (List._∷_ (Row.lease (κs .1 .0) (qs .1 .0)) (List._∷_ Row.off (List._∷_ (Row.lease (κs .1 .1 .1 .0) (qs .1 .1 .1 .0)) (List._∷_ (Row.lease (κs .1 .1 .1 .1 .0) (qs .1 .1 .1 .1 .0)) (List._∷_ (Row.lease (κs .1 .1 .1 .1 .1 .0) (qs .1 .1 .1 .1 .1 .0)) (List._∷_ (Row.lease (κs .1 .1 .1 .1 .1 .1 .0) (qs .1 .1 .1 .1 .1 .1 .0)) (List._∷_ (Row.lease (κs .1 .1 .1 .1 .1 .1 .1 .0) (qs .1 .1 .1 .1 .1 .1 .1 .0)) (List._∷_ (Row.lease (κs .1 .1 .1 .1 .1 .1 .1 .1 .0) (qs .1 .1 .1 .1 .1 .1 .1 .1 .0)) (List._∷_ (Row.lease (κs .1 .1 .1 .1 .1 .1 .1 .1 .1 .0) (qs .1 .1 .1 .1 .1 .1 .1 .1 .1 .0)) (List._∷_ (Row.lease (κs .1 .1 .1 .1 .1 .1 .1 .1 .1 .1 .0) (qs .1 .1 .1 .1 .1 .1 .1 .1 .1 .1 .0)) (List._∷_ (Row.lease (κs .1 .1 .1 .1 .1 .1 .1 .1 .1 .1 .1 .0) (qs .1 .1 .1 .1 .1 .1 .1 .1 .1 .1 .1 .0)) (List._∷_ Row.off (List._∷_ Row.off (List._∷_ Row.off (List._∷_ Row.off (List._∷_ Row.off (List._∷_ Row.alive (List._∷_ Row.alive (List._∷_ Row.off (List._∷_ Row.off (List._∷_ Row.off (List._∷_ Row.off (List._∷_ Row.off (List._∷_ Row.off (List._∷_ Row.off (List._∷_ Row.off (List._∷_ Row.off List.[]))))))))))))))))))))))))))) }
 
         abbrev G83 : Row.Cx
-        G83 = record { locals = List._++_ t3 (List._++_ t1 t2); slots = List._∷_ (Row.lease (κs .0) (qs .0)) (List._∷_ (Row.lease (κs .1 .0) (qs .1 .0)) (List._∷_ (Row.lease (κs .1 .1 .0) (qs .1 .1 .0)) (List._∷_ (Row.lease (κs .1 .1 .1 .0) (qs .1 .1 .1 .0)) (List._∷_ (Row.lease (κs .1 .1 .1 .1 .0) (qs .1 .1 .1 .1 .0)) (List._∷_ (Row.lease (κs .1 .1 .1 .1 .1 .0) (qs .1 .1 .1 .1 .1 .0)) (List._∷_ (Row.lease (κs .1 .1 .1 .1 .1 .1 .0) (qs .1 .1 .1 .1 .1 .1 .0)) (List._∷_ (Row.lease (κs .1 .1 .1 .1 .1 .1 .1 .0) (qs .1 .1 .1 .1 .1 .1 .1 .0)) (List._∷_ (Row.lease (κs .1 .1 .1 .1 .1 .1 .1 .1 .0) (qs .1 .1 .1 .1 .1 .1 .1 .1 .0)) (List._∷_ (Row.lease (κs .1 .1 .1 .1 .1 .1 .1 .1 .1 .0) (qs .1 .1 .1 .1 .1 .1 .1 .1 .1 .0)) (List._∷_ Row.off (List._∷_ Row.off (List._∷_ Row.off (List._∷_ Row.off (List._∷_ Row.off (List._∷_ Row.off (List._∷_ Row.off (List._∷_ Row.off (List._∷_ Row.off List.[])))))))))))))))))) }
+        G83 = record { locals = List._++_ g59 (List._++_ t31 (List._++_ t61 t3)); slots = List._∷_ Row.off (List._∷_ (Row.lease (κs .1 .0) (qs .1 .0)) (List._∷_ Row.off (List._∷_ (Row.lease (κs .1 .1 .1 .0) (qs .1 .1 .1 .0)) (List._∷_ (Row.lease (κs .1 .1 .1 .1 .0) (qs .1 .1 .1 .1 .0)) (List._∷_ (Row.lease (κs .1 .1 .1 .1 .1 .0) (qs .1 .1 .1 .1 .1 .0)) (List._∷_ (Row.lease (κs .1 .1 .1 .1 .1 .1 .0) (qs .1 .1 .1 .1 .1 .1 .0)) (List._∷_ (Row.lease (κs .1 .1 .1 .1 .1 .1 .1 .0) (qs .1 .1 .1 .1 .1 .1 .1 .0)) (List._∷_ (Row.lease (κs .1 .1 .1 .1 .1 .1 .1 .1 .0) (qs .1 .1 .1 .1 .1 .1 .1 .1 .0)) (List._∷_ (Row.lease (κs .1 .1 .1 .1 .1 .1 .1 .1 .1 .0) (qs .1 .1 .1 .1 .1 .1 .1 .1 .1 .0)) (List._∷_ (Row.lease (κs .1 .1 .1 .1 .1 .1 .1 .1 .1 .1 .0) (qs .1 .1 .1 .1 .1 .1 .1 .1 .1 .1 .0)) (List._∷_ (Row.lease (κs .1 .1 .1 .1 .1 .1 .1 .1 .1 .1 .1 .0) (qs .1 .1 .1 .1 .1 .1 .1 .1 .1 .1 .1 .0)) (List._∷_ Row.off (List._∷_ Row.off (List._∷_ Row.off (List._∷_ Row.off (List._∷_ Row.off (List._∷_ Row.alive (List._∷_ Row.alive (List._∷_ Row.alive (List._∷_ Row.off (List._∷_ Row.off (List._∷_ Row.off (List._∷_ Row.off (List._∷_ Row.off (List._∷_ Row.off (List._∷_ Row.off (List._∷_ Row.off List.[]))))))))))))))))))))))))))) }
+
+        abbrev G84 : Row.Cx
+        G84 = record { locals = List._++_ g62 (List._++_ t31 (List._++_ t63 t3)); slots = List._∷_ Row.off (List._∷_ (Row.lease (κs .1 .0) (qs .1 .0)) (List._∷_ Row.off (List._∷_ Row.off (List._∷_ (Row.lease (κs .1 .1 .1 .1 .0) (qs .1 .1 .1 .1 .0)) (List._∷_ (Row.lease (κs .1 .1 .1 .1 .1 .0) (qs .1 .1 .1 .1 .1 .0)) (List._∷_ (Row.lease (κs .1 .1 .1 .1 .1 .1 .0) (qs .1 .1 .1 .1 .1 .1 .0)) (List._∷_ (Row.lease (κs .1 .1 .1 .1 .1 .1 .1 .0) (qs .1 .1 .1 .1 .1 .1 .1 .0)) (List._∷_ (Row.lease (κs .1 .1 .1 .1 .1 .1 .1 .1 .0) (qs .1 .1 .1 .1 .1 .1 .1 .1 .0)) (List._∷_ (Row.lease (κs .1 .1 .1 .1 .1 .1 .1 .1 .1 .0) (qs .1 .1 .1 .1 .1 .1 .1 .1 .1 .0)) (List._∷_ (Row.lease (κs .1 .1 .1 .1 .1 .1 .1 .1 .1 .1 .0) (qs .1 .1 .1 .1 .1 .1 .1 .1 .1 .1 .0)) (List._∷_ (Row.lease (κs .1 .1 .1 .1 .1 .1 .1 .1 .1 .1 .1 .0) (qs .1 .1 .1 .1 .1 .1 .1 .1 .1 .1 .1 .0)) (List._∷_ Row.off (List._∷_ Row.off (List._∷_ Row.off (List._∷_ Row.off (List._∷_ Row.off (List._∷_ Row.alive (List._∷_ Row.alive (List._∷_ Row.alive (List._∷_ Row.off (List._∷_ Row.off (List._∷_ Row.off (List._∷_ Row.off (List._∷_ Row.off (List._∷_ Row.off (List._∷_ Row.off (List._∷_ Row.off List.[]))))))))))))))))))))))))))) }
+
+        abbrev G85 : Row.Cx
+        G85 = record { locals = List._++_ g62 (List._++_ t31 (List._++_ t64 t3)); slots = List._∷_ Row.off (List._∷_ (Row.lease (κs .1 .0) (qs .1 .0)) (List._∷_ Row.off (List._∷_ Row.off (List._∷_ (Row.lease (κs .1 .1 .1 .1 .0) (qs .1 .1 .1 .1 .0)) (List._∷_ (Row.lease (κs .1 .1 .1 .1 .1 .0) (qs .1 .1 .1 .1 .1 .0)) (List._∷_ (Row.lease (κs .1 .1 .1 .1 .1 .1 .0) (qs .1 .1 .1 .1 .1 .1 .0)) (List._∷_ (Row.lease (κs .1 .1 .1 .1 .1 .1 .1 .0) (qs .1 .1 .1 .1 .1 .1 .1 .0)) (List._∷_ (Row.lease (κs .1 .1 .1 .1 .1 .1 .1 .1 .0) (qs .1 .1 .1 .1 .1 .1 .1 .1 .0)) (List._∷_ (Row.lease (κs .1 .1 .1 .1 .1 .1 .1 .1 .1 .0) (qs .1 .1 .1 .1 .1 .1 .1 .1 .1 .0)) (List._∷_ (Row.lease (κs .1 .1 .1 .1 .1 .1 .1 .1 .1 .1 .0) (qs .1 .1 .1 .1 .1 .1 .1 .1 .1 .1 .0)) (List._∷_ (Row.lease (κs .1 .1 .1 .1 .1 .1 .1 .1 .1 .1 .1 .0) (qs .1 .1 .1 .1 .1 .1 .1 .1 .1 .1 .1 .0)) (List._∷_ Row.off (List._∷_ Row.off (List._∷_ Row.off (List._∷_ Row.off (List._∷_ Row.off (List._∷_ Row.alive (List._∷_ Row.alive (List._∷_ Row.alive (List._∷_ Row.off (List._∷_ Row.off (List._∷_ Row.off (List._∷_ Row.off (List._∷_ Row.off (List._∷_ Row.off (List._∷_ Row.off (List._∷_ Row.off List.[]))))))))))))))))))))))))))) }
+
+        abbrev G86 : Row.Cx
+        G86 = record { locals = List._++_ g62 (List._++_ t31 (List._++_ t64 t3)); slots = List._∷_ Row.off (List._∷_ (Row.lease (κs .1 .0) (qs .1 .0)) (List._∷_ Row.off (List._∷_ Row.off (List._∷_ (Row.lease (κs .1 .1 .1 .1 .0) (qs .1 .1 .1 .1 .0)) (List._∷_ (Row.lease (κs .1 .1 .1 .1 .1 .0) (qs .1 .1 .1 .1 .1 .0)) (List._∷_ (Row.lease (κs .1 .1 .1 .1 .1 .1 .0) (qs .1 .1 .1 .1 .1 .1 .0)) (List._∷_ (Row.lease (κs .1 .1 .1 .1 .1 .1 .1 .0) (qs .1 .1 .1 .1 .1 .1 .1 .0)) (List._∷_ (Row.lease (κs .1 .1 .1 .1 .1 .1 .1 .1 .0) (qs .1 .1 .1 .1 .1 .1 .1 .1 .0)) (List._∷_ (Row.lease (κs .1 .1 .1 .1 .1 .1 .1 .1 .1 .0) (qs .1 .1 .1 .1 .1 .1 .1 .1 .1 .0)) (List._∷_ (Row.lease (κs .1 .1 .1 .1 .1 .1 .1 .1 .1 .1 .0) (qs .1 .1 .1 .1 .1 .1 .1 .1 .1 .1 .0)) (List._∷_ (Row.lease (κs .1 .1 .1 .1 .1 .1 .1 .1 .1 .1 .1 .0) (qs .1 .1 .1 .1 .1 .1 .1 .1 .1 .1 .1 .0)) (List._∷_ Row.off (List._∷_ Row.off (List._∷_ Row.off (List._∷_ Row.off (List._∷_ Row.off (List._∷_ Row.alive (List._∷_ Row.alive (List._∷_ Row.alive (List._∷_ Row.alive (List._∷_ Row.off (List._∷_ Row.off (List._∷_ Row.off (List._∷_ Row.off (List._∷_ Row.off (List._∷_ Row.off (List._∷_ Row.off List.[]))))))))))))))))))))))))))) }
+
+        abbrev G87 : Row.Cx
+        G87 = record { locals = List._++_ g65 (List._++_ t31 (List._++_ t66 t3)); slots = List._∷_ Row.off (List._∷_ (Row.lease (κs .1 .0) (qs .1 .0)) (List._∷_ Row.off (List._∷_ Row.off (List._∷_ Row.off (List._∷_ (Row.lease (κs .1 .1 .1 .1 .1 .0) (qs .1 .1 .1 .1 .1 .0)) (List._∷_ (Row.lease (κs .1 .1 .1 .1 .1 .1 .0) (qs .1 .1 .1 .1 .1 .1 .0)) (List._∷_ (Row.lease (κs .1 .1 .1 .1 .1 .1 .1 .0) (qs .1 .1 .1 .1 .1 .1 .1 .0)) (List._∷_ (Row.lease (κs .1 .1 .1 .1 .1 .1 .1 .1 .0) (qs .1 .1 .1 .1 .1 .1 .1 .1 .0)) (List._∷_ (Row.lease (κs .1 .1 .1 .1 .1 .1 .1 .1 .1 .0) (qs .1 .1 .1 .1 .1 .1 .1 .1 .1 .0)) (List._∷_ (Row.lease (κs .1 .1 .1 .1 .1 .1 .1 .1 .1 .1 .0) (qs .1 .1 .1 .1 .1 .1 .1 .1 .1 .1 .0)) (List._∷_ (Row.lease (κs .1 .1 .1 .1 .1 .1 .1 .1 .1 .1 .1 .0) (qs .1 .1 .1 .1 .1 .1 .1 .1 .1 .1 .1 .0)) (List._∷_ Row.off (List._∷_ Row.off (List._∷_ Row.off (List._∷_ Row.off (List._∷_ Row.off (List._∷_ Row.alive (List._∷_ Row.alive (List._∷_ Row.alive (List._∷_ Row.alive (List._∷_ Row.off (List._∷_ Row.off (List._∷_ Row.off (List._∷_ Row.off (List._∷_ Row.off (List._∷_ Row.off (List._∷_ Row.off List.[]))))))))))))))))))))))))))) }
+
+        abbrev G88 : Row.Cx
+        G88 = record { locals = List._++_ g65 (List._++_ t31 (List._++_ t67 t3)); slots = List._∷_ Row.off (List._∷_ (Row.lease (κs .1 .0) (qs .1 .0)) (List._∷_ Row.off (List._∷_ Row.off (List._∷_ Row.off (List._∷_ (Row.lease (κs .1 .1 .1 .1 .1 .0) (qs .1 .1 .1 .1 .1 .0)) (List._∷_ (Row.lease (κs .1 .1 .1 .1 .1 .1 .0) (qs .1 .1 .1 .1 .1 .1 .0)) (List._∷_ (Row.lease (κs .1 .1 .1 .1 .1 .1 .1 .0) (qs .1 .1 .1 .1 .1 .1 .1 .0)) (List._∷_ (Row.lease (κs .1 .1 .1 .1 .1 .1 .1 .1 .0) (qs .1 .1 .1 .1 .1 .1 .1 .1 .0)) (List._∷_ (Row.lease (κs .1 .1 .1 .1 .1 .1 .1 .1 .1 .0) (qs .1 .1 .1 .1 .1 .1 .1 .1 .1 .0)) (List._∷_ (Row.lease (κs .1 .1 .1 .1 .1 .1 .1 .1 .1 .1 .0) (qs .1 .1 .1 .1 .1 .1 .1 .1 .1 .1 .0)) (List._∷_ (Row.lease (κs .1 .1 .1 .1 .1 .1 .1 .1 .1 .1 .1 .0) (qs .1 .1 .1 .1 .1 .1 .1 .1 .1 .1 .1 .0)) (List._∷_ Row.off (List._∷_ Row.off (List._∷_ Row.off (List._∷_ Row.off (List._∷_ Row.off (List._∷_ Row.alive (List._∷_ Row.alive (List._∷_ Row.alive (List._∷_ Row.alive (List._∷_ Row.off (List._∷_ Row.off (List._∷_ Row.off (List._∷_ Row.off (List._∷_ Row.off (List._∷_ Row.off (List._∷_ Row.off List.[]))))))))))))))))))))))))))) }
+
+        abbrev G89 : Row.Cx
+        G89 = record { locals = List._++_ g65 (List._++_ t31 (List._++_ t67 t3)); slots = List._∷_ Row.off (List._∷_ (Row.lease (κs .1 .0) (qs .1 .0)) (List._∷_ Row.off (List._∷_ Row.off (List._∷_ Row.off (List._∷_ (Row.lease (κs .1 .1 .1 .1 .1 .0) (qs .1 .1 .1 .1 .1 .0)) (List._∷_ (Row.lease (κs .1 .1 .1 .1 .1 .1 .0) (qs .1 .1 .1 .1 .1 .1 .0)) (List._∷_ (Row.lease (κs .1 .1 .1 .1 .1 .1 .1 .0) (qs .1 .1 .1 .1 .1 .1 .1 .0)) (List._∷_ (Row.lease (κs .1 .1 .1 .1 .1 .1 .1 .1 .0) (qs .1 .1 .1 .1 .1 .1 .1 .1 .0)) (List._∷_ (Row.lease (κs .1 .1 .1 .1 .1 .1 .1 .1 .1 .0) (qs .1 .1 .1 .1 .1 .1 .1 .1 .1 .0)) (List._∷_ (Row.lease (κs .1 .1 .1 .1 .1 .1 .1 .1 .1 .1 .0) (qs .1 .1 .1 .1 .1 .1 .1 .1 .1 .1 .0)) (List._∷_ (Row.lease (κs .1 .1 .1 .1 .1 .1 .1 .1 .1 .1 .1 .0) (qs .1 .1 .1 .1 .1 .1 .1 .1 .1 .1 .1 .0)) (List._∷_ Row.off (List._∷_ Row.off (List._∷_ Row.off (List._∷_ Row.off (List._∷_ Row.off (List._∷_ Row.alive (List._∷_ Row.alive (List._∷_ Row.alive (List._∷_ Row.alive (List._∷_ Row.alive (List._∷_ Row.off (List._∷_ Row.off (List._∷_ Row.off (List._∷_ Row.off (List._∷_ Row.off (List._∷_ Row.off List.[]))))))))))))))))))))))))))) }
+
+        abbrev G90 : Row.Cx
+        G90 = record { locals = List._++_ g68 (List._++_ t31 (List._++_ t69 t3)); slots = List._∷_ Row.off (List._∷_ (Row.lease (κs .1 .0) (qs .1 .0)) (List._∷_ Row.off (List._∷_ Row.off (List._∷_ Row.off (List._∷_ Row.off (List._∷_ (Row.lease (κs .1 .1 .1 .1 .1 .1 .0) (qs .1 .1 .1 .1 .1 .1 .0)) (List._∷_ (Row.lease (κs .1 .1 .1 .1 .1 .1 .1 .0) (qs .1 .1 .1 .1 .1 .1 .1 .0)) (List._∷_ (Row.lease (κs .1 .1 .1 .1 .1 .1 .1 .1 .0) (qs .1 .1 .1 .1 .1 .1 .1 .1 .0)) (List._∷_ (Row.lease (κs .1 .1 .1 .1 .1 .1 .1 .1 .1 .0) (qs .1 .1 .1 .1 .1 .1 .1 .1 .1 .0)) (List._∷_ (Row.lease (κs .1 .1 .1 .1 .1 .1 .1 .1 .1 .1 .0) (qs .1 .1 .1 .1 .1 .1 .1 .1 .1 .1 .0)) (List._∷_ (Row.lease (κs .1 .1 .1 .1 .1 .1 .1 .1 .1 .1 .1 .0) (qs .1 .1 .1 .1 .1 .1 .1 .1 .1 .1 .1 .0)) (List._∷_ Row.off (List._∷_ Row.off (List._∷_ Row.off (List._∷_ Row.off (List._∷_ Row.off (List._∷_ Row.alive (List._∷_ Row.alive (List._∷_ Row.alive (List._∷_ Row.alive (List._∷_ Row.alive (List._∷_ Row.off (List._∷_ Row.off (List._∷_ Row.off (List._∷_ Row.off (List._∷_ Row.off (List._∷_ Row.off List.[]))))))))))))))))))))))))))) }
+
+        abbrev G91 : Row.Cx
+        G91 = record { locals = List._++_ g68 (List._++_ t31 (List._++_ t70 t3)); slots = List._∷_ Row.off (List._∷_ (Row.lease (κs .1 .0) (qs .1 .0)) (List._∷_ Row.off (List._∷_ Row.off (List._∷_ Row.off (List._∷_ Row.off (List._∷_ (Row.lease (κs .1 .1 .1 .1 .1 .1 .0) (qs .1 .1 .1 .1 .1 .1 .0)) (List._∷_ (Row.lease (κs .1 .1 .1 .1 .1 .1 .1 .0) (qs .1 .1 .1 .1 .1 .1 .1 .0)) (List._∷_ (Row.lease (κs .1 .1 .1 .1 .1 .1 .1 .1 .0) (qs .1 .1 .1 .1 .1 .1 .1 .1 .0)) (List._∷_ (Row.lease (κs .1 .1 .1 .1 .1 .1 .1 .1 .1 .0) (qs .1 .1 .1 .1 .1 .1 .1 .1 .1 .0)) (List._∷_ (Row.lease (κs .1 .1 .1 .1 .1 .1 .1 .1 .1 .1 .0) (qs .1 .1 .1 .1 .1 .1 .1 .1 .1 .1 .0)) (List._∷_ (Row.lease (κs .1 .1 .1 .1 .1 .1 .1 .1 .1 .1 .1 .0) (qs .1 .1 .1 .1 .1 .1 .1 .1 .1 .1 .1 .0)) (List._∷_ Row.off (List._∷_ Row.off (List._∷_ Row.off (List._∷_ Row.off (List._∷_ Row.off (List._∷_ Row.alive (List._∷_ Row.alive (List._∷_ Row.alive (List._∷_ Row.alive (List._∷_ Row.alive (List._∷_ Row.off (List._∷_ Row.off (List._∷_ Row.off (List._∷_ Row.off (List._∷_ Row.off (List._∷_ Row.off List.[]))))))))))))))))))))))))))) }
+
+        abbrev G92 : Row.Cx
+        G92 = record { locals = List._++_ g68 (List._++_ t31 (List._++_ t70 t3)); slots = List._∷_ Row.off (List._∷_ (Row.lease (κs .1 .0) (qs .1 .0)) (List._∷_ Row.off (List._∷_ Row.off (List._∷_ Row.off (List._∷_ Row.off (List._∷_ (Row.lease (κs .1 .1 .1 .1 .1 .1 .0) (qs .1 .1 .1 .1 .1 .1 .0)) (List._∷_ (Row.lease (κs .1 .1 .1 .1 .1 .1 .1 .0) (qs .1 .1 .1 .1 .1 .1 .1 .0)) (List._∷_ (Row.lease (κs .1 .1 .1 .1 .1 .1 .1 .1 .0) (qs .1 .1 .1 .1 .1 .1 .1 .1 .0)) (List._∷_ (Row.lease (κs .1 .1 .1 .1 .1 .1 .1 .1 .1 .0) (qs .1 .1 .1 .1 .1 .1 .1 .1 .1 .0)) (List._∷_ (Row.lease (κs .1 .1 .1 .1 .1 .1 .1 .1 .1 .1 .0) (qs .1 .1 .1 .1 .1 .1 .1 .1 .1 .1 .0)) (List._∷_ (Row.lease (κs .1 .1 .1 .1 .1 .1 .1 .1 .1 .1 .1 .0) (qs .1 .1 .1 .1 .1 .1 .1 .1 .1 .1 .1 .0)) (List._∷_ Row.off (List._∷_ Row.off (List._∷_ Row.off (List._∷_ Row.off (List._∷_ Row.off (List._∷_ Row.alive (List._∷_ Row.alive (List._∷_ Row.alive (List._∷_ Row.alive (List._∷_ Row.alive (List._∷_ Row.alive (List._∷_ Row.off (List._∷_ Row.off (List._∷_ Row.off (List._∷_ Row.off (List._∷_ Row.off List.[]))))))))))))))))))))))))))) }
+
+        abbrev G93 : Row.Cx
+        G93 = record { locals = List._++_ g71 (List._++_ t31 (List._++_ t70 t72)); slots = List._∷_ Row.off (List._∷_ (Row.lease (κs .1 .0) (qs .1 .0)) (List._∷_ Row.off (List._∷_ Row.off (List._∷_ Row.off (List._∷_ Row.off (List._∷_ Row.off (List._∷_ (Row.lease (κs .1 .1 .1 .1 .1 .1 .1 .0) (qs .1 .1 .1 .1 .1 .1 .1 .0)) (List._∷_ (Row.lease (κs .1 .1 .1 .1 .1 .1 .1 .1 .0) (qs .1 .1 .1 .1 .1 .1 .1 .1 .0)) (List._∷_ (Row.lease (κs .1 .1 .1 .1 .1 .1 .1 .1 .1 .0) (qs .1 .1 .1 .1 .1 .1 .1 .1 .1 .0)) (List._∷_ (Row.lease (κs .1 .1 .1 .1 .1 .1 .1 .1 .1 .1 .0) (qs .1 .1 .1 .1 .1 .1 .1 .1 .1 .1 .0)) (List._∷_ (Row.lease (κs .1 .1 .1 .1 .1 .1 .1 .1 .1 .1 .1 .0) (qs .1 .1 .1 .1 .1 .1 .1 .1 .1 .1 .1 .0)) (List._∷_ Row.off (List._∷_ Row.off (List._∷_ Row.off (List._∷_ Row.off (List._∷_ Row.off (List._∷_ Row.alive (List._∷_ Row.alive (List._∷_ Row.alive (List._∷_ Row.alive (List._∷_ Row.alive (List._∷_ Row.alive (List._∷_ Row.off (List._∷_ Row.off (List._∷_ Row.off (List._∷_ Row.off (List._∷_ Row.off List.[]))))))))))))))))))))))))))) }
+
+        abbrev G94 : Row.Cx
+        G94 = record { locals = List._++_ g71 (List._++_ t31 (List._++_ t70 t73)); slots = List._∷_ Row.off (List._∷_ (Row.lease (κs .1 .0) (qs .1 .0)) (List._∷_ Row.off (List._∷_ Row.off (List._∷_ Row.off (List._∷_ Row.off (List._∷_ Row.off (List._∷_ (Row.lease (κs .1 .1 .1 .1 .1 .1 .1 .0) (qs .1 .1 .1 .1 .1 .1 .1 .0)) (List._∷_ (Row.lease (κs .1 .1 .1 .1 .1 .1 .1 .1 .0) (qs .1 .1 .1 .1 .1 .1 .1 .1 .0)) (List._∷_ (Row.lease (κs .1 .1 .1 .1 .1 .1 .1 .1 .1 .0) (qs .1 .1 .1 .1 .1 .1 .1 .1 .1 .0)) (List._∷_ (Row.lease (κs .1 .1 .1 .1 .1 .1 .1 .1 .1 .1 .0) (qs .1 .1 .1 .1 .1 .1 .1 .1 .1 .1 .0)) (List._∷_ (Row.lease (κs .1 .1 .1 .1 .1 .1 .1 .1 .1 .1 .1 .0) (qs .1 .1 .1 .1 .1 .1 .1 .1 .1 .1 .1 .0)) (List._∷_ Row.off (List._∷_ Row.off (List._∷_ Row.off (List._∷_ Row.off (List._∷_ Row.off (List._∷_ Row.alive (List._∷_ Row.alive (List._∷_ Row.alive (List._∷_ Row.alive (List._∷_ Row.alive (List._∷_ Row.alive (List._∷_ Row.off (List._∷_ Row.off (List._∷_ Row.off (List._∷_ Row.off (List._∷_ Row.off List.[]))))))))))))))))))))))))))) }
+
+        abbrev G95 : Row.Cx
+        G95 = record { locals = List._++_ g71 (List._++_ t31 (List._++_ t70 t73)); slots = List._∷_ Row.off (List._∷_ (Row.lease (κs .1 .0) (qs .1 .0)) (List._∷_ Row.off (List._∷_ Row.off (List._∷_ Row.off (List._∷_ Row.off (List._∷_ Row.off (List._∷_ (Row.lease (κs .1 .1 .1 .1 .1 .1 .1 .0) (qs .1 .1 .1 .1 .1 .1 .1 .0)) (List._∷_ (Row.lease (κs .1 .1 .1 .1 .1 .1 .1 .1 .0) (qs .1 .1 .1 .1 .1 .1 .1 .1 .0)) (List._∷_ (Row.lease (κs .1 .1 .1 .1 .1 .1 .1 .1 .1 .0) (qs .1 .1 .1 .1 .1 .1 .1 .1 .1 .0)) (List._∷_ (Row.lease (κs .1 .1 .1 .1 .1 .1 .1 .1 .1 .1 .0) (qs .1 .1 .1 .1 .1 .1 .1 .1 .1 .1 .0)) (List._∷_ (Row.lease (κs .1 .1 .1 .1 .1 .1 .1 .1 .1 .1 .1 .0) (qs .1 .1 .1 .1 .1 .1 .1 .1 .1 .1 .1 .0)) (List._∷_ Row.off (List._∷_ Row.off (List._∷_ Row.off (List._∷_ Row.off (List._∷_ Row.off (List._∷_ Row.alive (List._∷_ Row.alive (List._∷_ Row.alive (List._∷_ Row.alive (List._∷_ Row.alive (List._∷_ Row.alive (List._∷_ Row.alive (List._∷_ Row.off (List._∷_ Row.off (List._∷_ Row.off (List._∷_ Row.off List.[]))))))))))))))))))))))))))) }
+
+        abbrev G96 : Row.Cx
+        G96 = record { locals = List._++_ g74 (List._++_ t31 (List._++_ t70 t75)); slots = List._∷_ Row.off (List._∷_ (Row.lease (κs .1 .0) (qs .1 .0)) (List._∷_ Row.off (List._∷_ Row.off (List._∷_ Row.off (List._∷_ Row.off (List._∷_ Row.off (List._∷_ Row.off (List._∷_ (Row.lease (κs .1 .1 .1 .1 .1 .1 .1 .1 .0) (qs .1 .1 .1 .1 .1 .1 .1 .1 .0)) (List._∷_ (Row.lease (κs .1 .1 .1 .1 .1 .1 .1 .1 .1 .0) (qs .1 .1 .1 .1 .1 .1 .1 .1 .1 .0)) (List._∷_ (Row.lease (κs .1 .1 .1 .1 .1 .1 .1 .1 .1 .1 .0) (qs .1 .1 .1 .1 .1 .1 .1 .1 .1 .1 .0)) (List._∷_ (Row.lease (κs .1 .1 .1 .1 .1 .1 .1 .1 .1 .1 .1 .0) (qs .1 .1 .1 .1 .1 .1 .1 .1 .1 .1 .1 .0)) (List._∷_ Row.off (List._∷_ Row.off (List._∷_ Row.off (List._∷_ Row.off (List._∷_ Row.off (List._∷_ Row.alive (List._∷_ Row.alive (List._∷_ Row.alive (List._∷_ Row.alive (List._∷_ Row.alive (List._∷_ Row.alive (List._∷_ Row.alive (List._∷_ Row.off (List._∷_ Row.off (List._∷_ Row.off (List._∷_ Row.off List.[]))))))))))))))))))))))))))) }
+
+        abbrev G97 : Row.Cx
+        G97 = record { locals = List._++_ g74 (List._++_ t31 (List._++_ t70 t76)); slots = List._∷_ Row.off (List._∷_ (Row.lease (κs .1 .0) (qs .1 .0)) (List._∷_ Row.off (List._∷_ Row.off (List._∷_ Row.off (List._∷_ Row.off (List._∷_ Row.off (List._∷_ Row.off (List._∷_ (Row.lease (κs .1 .1 .1 .1 .1 .1 .1 .1 .0) (qs .1 .1 .1 .1 .1 .1 .1 .1 .0)) (List._∷_ (Row.lease (κs .1 .1 .1 .1 .1 .1 .1 .1 .1 .0) (qs .1 .1 .1 .1 .1 .1 .1 .1 .1 .0)) (List._∷_ (Row.lease (κs .1 .1 .1 .1 .1 .1 .1 .1 .1 .1 .0) (qs .1 .1 .1 .1 .1 .1 .1 .1 .1 .1 .0)) (List._∷_ (Row.lease (κs .1 .1 .1 .1 .1 .1 .1 .1 .1 .1 .1 .0) (qs .1 .1 .1 .1 .1 .1 .1 .1 .1 .1 .1 .0)) (List._∷_ Row.off (List._∷_ Row.off (List._∷_ Row.off (List._∷_ Row.off (List._∷_ Row.off (List._∷_ Row.alive (List._∷_ Row.alive (List._∷_ Row.alive (List._∷_ Row.alive (List._∷_ Row.alive (List._∷_ Row.alive (List._∷_ Row.alive (List._∷_ Row.off (List._∷_ Row.off (List._∷_ Row.off (List._∷_ Row.off List.[]))))))))))))))))))))))))))) }
+
+        abbrev G98 : Row.Cx
+        G98 = record { locals = List._++_ g74 (List._++_ t31 (List._++_ t70 t76)); slots = List._∷_ Row.off (List._∷_ (Row.lease (κs .1 .0) (qs .1 .0)) (List._∷_ Row.off (List._∷_ Row.off (List._∷_ Row.off (List._∷_ Row.off (List._∷_ Row.off (List._∷_ Row.off (List._∷_ (Row.lease (κs .1 .1 .1 .1 .1 .1 .1 .1 .0) (qs .1 .1 .1 .1 .1 .1 .1 .1 .0)) (List._∷_ (Row.lease (κs .1 .1 .1 .1 .1 .1 .1 .1 .1 .0) (qs .1 .1 .1 .1 .1 .1 .1 .1 .1 .0)) (List._∷_ (Row.lease (κs .1 .1 .1 .1 .1 .1 .1 .1 .1 .1 .0) (qs .1 .1 .1 .1 .1 .1 .1 .1 .1 .1 .0)) (List._∷_ (Row.lease (κs .1 .1 .1 .1 .1 .1 .1 .1 .1 .1 .1 .0) (qs .1 .1 .1 .1 .1 .1 .1 .1 .1 .1 .1 .0)) (List._∷_ Row.off (List._∷_ Row.off (List._∷_ Row.off (List._∷_ Row.off (List._∷_ Row.off (List._∷_ Row.alive (List._∷_ Row.alive (List._∷_ Row.alive (List._∷_ Row.alive (List._∷_ Row.alive (List._∷_ Row.alive (List._∷_ Row.alive (List._∷_ Row.alive (List._∷_ Row.off (List._∷_ Row.off (List._∷_ Row.off List.[]))))))))))))))))))))))))))) }
+
+        abbrev G99 : Row.Cx
+        G99 = record { locals = List._++_ g77 (List._++_ t31 (List._++_ t70 t78)); slots = List._∷_ Row.off (List._∷_ (Row.lease (κs .1 .0) (qs .1 .0)) (List._∷_ Row.off (List._∷_ Row.off (List._∷_ Row.off (List._∷_ Row.off (List._∷_ Row.off (List._∷_ Row.off (List._∷_ Row.off (List._∷_ (Row.lease (κs .1 .1 .1 .1 .1 .1 .1 .1 .1 .0) (qs .1 .1 .1 .1 .1 .1 .1 .1 .1 .0)) (List._∷_ (Row.lease (κs .1 .1 .1 .1 .1 .1 .1 .1 .1 .1 .0) (qs .1 .1 .1 .1 .1 .1 .1 .1 .1 .1 .0)) (List._∷_ (Row.lease (κs .1 .1 .1 .1 .1 .1 .1 .1 .1 .1 .1 .0) (qs .1 .1 .1 .1 .1 .1 .1 .1 .1 .1 .1 .0)) (List._∷_ Row.off (List._∷_ Row.off (List._∷_ Row.off (List._∷_ Row.off (List._∷_ Row.off (List._∷_ Row.alive (List._∷_ Row.alive (List._∷_ Row.alive (List._∷_ Row.alive (List._∷_ Row.alive (List._∷_ Row.alive (List._∷_ Row.alive (List._∷_ Row.alive (List._∷_ Row.off (List._∷_ Row.off (List._∷_ Row.off List.[]))))))))))))))))))))))))))) }
+
+        abbrev G100 : Row.Cx
+        G100 = record { locals = List._++_ g77 (List._++_ t31 (List._++_ t70 t79)); slots = List._∷_ Row.off (List._∷_ (Row.lease (κs .1 .0) (qs .1 .0)) (List._∷_ Row.off (List._∷_ Row.off (List._∷_ Row.off (List._∷_ Row.off (List._∷_ Row.off (List._∷_ Row.off (List._∷_ Row.off (List._∷_ (Row.lease (κs .1 .1 .1 .1 .1 .1 .1 .1 .1 .0) (qs .1 .1 .1 .1 .1 .1 .1 .1 .1 .0)) (List._∷_ (Row.lease (κs .1 .1 .1 .1 .1 .1 .1 .1 .1 .1 .0) (qs .1 .1 .1 .1 .1 .1 .1 .1 .1 .1 .0)) (List._∷_ (Row.lease (κs .1 .1 .1 .1 .1 .1 .1 .1 .1 .1 .1 .0) (qs .1 .1 .1 .1 .1 .1 .1 .1 .1 .1 .1 .0)) (List._∷_ Row.off (List._∷_ Row.off (List._∷_ Row.off (List._∷_ Row.off (List._∷_ Row.off (List._∷_ Row.alive (List._∷_ Row.alive (List._∷_ Row.alive (List._∷_ Row.alive (List._∷_ Row.alive (List._∷_ Row.alive (List._∷_ Row.alive (List._∷_ Row.alive (List._∷_ Row.off (List._∷_ Row.off (List._∷_ Row.off List.[]))))))))))))))))))))))))))) }
+
+        abbrev G101 : Row.Cx
+        G101 = record { locals = List._++_ g77 (List._++_ t31 (List._++_ t70 t79)); slots = List._∷_ Row.off (List._∷_ (Row.lease (κs .1 .0) (qs .1 .0)) (List._∷_ Row.off (List._∷_ Row.off (List._∷_ Row.off (List._∷_ Row.off (List._∷_ Row.off (List._∷_ Row.off (List._∷_ Row.off (List._∷_ (Row.lease (κs .1 .1 .1 .1 .1 .1 .1 .1 .1 .0) (qs .1 .1 .1 .1 .1 .1 .1 .1 .1 .0)) (List._∷_ (Row.lease (κs .1 .1 .1 .1 .1 .1 .1 .1 .1 .1 .0) (qs .1 .1 .1 .1 .1 .1 .1 .1 .1 .1 .0)) (List._∷_ (Row.lease (κs .1 .1 .1 .1 .1 .1 .1 .1 .1 .1 .1 .0) (qs .1 .1 .1 .1 .1 .1 .1 .1 .1 .1 .1 .0)) (List._∷_ Row.off (List._∷_ Row.off (List._∷_ Row.off (List._∷_ Row.off (List._∷_ Row.off (List._∷_ Row.alive (List._∷_ Row.alive (List._∷_ Row.alive (List._∷_ Row.alive (List._∷_ Row.alive (List._∷_ Row.alive (List._∷_ Row.alive (List._∷_ Row.alive (List._∷_ Row.alive (List._∷_ Row.off (List._∷_ Row.off List.[]))))))))))))))))))))))))))) }
+
+        abbrev G102 : Row.Cx
+        G102 = record { locals = List._++_ g80 (List._++_ t31 (List._++_ t70 t81)); slots = List._∷_ Row.off (List._∷_ (Row.lease (κs .1 .0) (qs .1 .0)) (List._∷_ Row.off (List._∷_ Row.off (List._∷_ Row.off (List._∷_ Row.off (List._∷_ Row.off (List._∷_ Row.off (List._∷_ Row.off (List._∷_ Row.off (List._∷_ (Row.lease (κs .1 .1 .1 .1 .1 .1 .1 .1 .1 .1 .0) (qs .1 .1 .1 .1 .1 .1 .1 .1 .1 .1 .0)) (List._∷_ (Row.lease (κs .1 .1 .1 .1 .1 .1 .1 .1 .1 .1 .1 .0) (qs .1 .1 .1 .1 .1 .1 .1 .1 .1 .1 .1 .0)) (List._∷_ Row.off (List._∷_ Row.off (List._∷_ Row.off (List._∷_ Row.off (List._∷_ Row.off (List._∷_ Row.alive (List._∷_ Row.alive (List._∷_ Row.alive (List._∷_ Row.alive (List._∷_ Row.alive (List._∷_ Row.alive (List._∷_ Row.alive (List._∷_ Row.alive (List._∷_ Row.alive (List._∷_ Row.off (List._∷_ Row.off List.[]))))))))))))))))))))))))))) }
+
+        abbrev G103 : Row.Cx
+        G103 = record { locals = List._++_ g80 (List._++_ t31 (List._++_ t70 t82)); slots = List._∷_ Row.off (List._∷_ (Row.lease (κs .1 .0) (qs .1 .0)) (List._∷_ Row.off (List._∷_ Row.off (List._∷_ Row.off (List._∷_ Row.off (List._∷_ Row.off (List._∷_ Row.off (List._∷_ Row.off (List._∷_ Row.off (List._∷_ (Row.lease (κs .1 .1 .1 .1 .1 .1 .1 .1 .1 .1 .0) (qs .1 .1 .1 .1 .1 .1 .1 .1 .1 .1 .0)) (List._∷_ (Row.lease (κs .1 .1 .1 .1 .1 .1 .1 .1 .1 .1 .1 .0) (qs .1 .1 .1 .1 .1 .1 .1 .1 .1 .1 .1 .0)) (List._∷_ Row.off (List._∷_ Row.off (List._∷_ Row.off (List._∷_ Row.off (List._∷_ Row.off (List._∷_ Row.alive (List._∷_ Row.alive (List._∷_ Row.alive (List._∷_ Row.alive (List._∷_ Row.alive (List._∷_ Row.alive (List._∷_ Row.alive (List._∷_ Row.alive (List._∷_ Row.alive (List._∷_ Row.off (List._∷_ Row.off List.[]))))))))))))))))))))))))))) }
+
+        abbrev G104 : Row.Cx
+        G104 = record { locals = List._++_ g80 (List._++_ t83 (List._++_ t84 t85)); slots = List._∷_ Row.off (List._∷_ (Row.lease (κs .1 .0) (qs .1 .0)) (List._∷_ Row.off (List._∷_ Row.off (List._∷_ Row.off (List._∷_ Row.off (List._∷_ Row.off (List._∷_ Row.off (List._∷_ Row.off (List._∷_ Row.off (List._∷_ (Row.lease (κs .1 .1 .1 .1 .1 .1 .1 .1 .1 .1 .0) (qs .1 .1 .1 .1 .1 .1 .1 .1 .1 .1 .0)) (List._∷_ (Row.lease (κs .1 .1 .1 .1 .1 .1 .1 .1 .1 .1 .1 .0) (qs .1 .1 .1 .1 .1 .1 .1 .1 .1 .1 .1 .0)) (List._∷_ Row.off (List._∷_ Row.off (List._∷_ Row.off (List._∷_ Row.off (List._∷_ Row.off (List._∷_ Row.alive (List._∷_ Row.alive (List._∷_ Row.alive (List._∷_ Row.alive (List._∷_ Row.alive (List._∷_ Row.alive (List._∷_ Row.alive (List._∷_ Row.alive (List._∷_ Row.alive (List._∷_ Row.off (List._∷_ Row.off List.[]))))))))))))))))))))))))))) }
+
+        abbrev G105 : Row.Cx
+        G105 = record { locals = List._++_ g80 (List._++_ t86 (List._++_ t84 t85)); slots = List._∷_ Row.off (List._∷_ (Row.lease (κs .1 .0) (qs .1 .0)) (List._∷_ Row.off (List._∷_ Row.off (List._∷_ Row.off (List._∷_ Row.off (List._∷_ Row.off (List._∷_ Row.off (List._∷_ Row.off (List._∷_ Row.off (List._∷_ (Row.lease (κs .1 .1 .1 .1 .1 .1 .1 .1 .1 .1 .0) (qs .1 .1 .1 .1 .1 .1 .1 .1 .1 .1 .0)) (List._∷_ (Row.lease (κs .1 .1 .1 .1 .1 .1 .1 .1 .1 .1 .1 .0) (qs .1 .1 .1 .1 .1 .1 .1 .1 .1 .1 .1 .0)) (List._∷_ Row.off (List._∷_ Row.off (List._∷_ Row.off (List._∷_ Row.off (List._∷_ Row.off (List._∷_ Row.alive (List._∷_ Row.alive (List._∷_ Row.alive (List._∷_ Row.alive (List._∷_ Row.alive (List._∷_ Row.alive (List._∷_ Row.alive (List._∷_ Row.alive (List._∷_ Row.alive (List._∷_ Row.off (List._∷_ Row.off List.[]))))))))))))))))))))))))))) }
+
+        abbrev G106 : Row.Cx
+        G106 = record { locals = List._++_ g80 (List._++_ t87 (List._++_ t84 t85)); slots = List._∷_ Row.off (List._∷_ (Row.lease (κs .1 .0) (qs .1 .0)) (List._∷_ Row.off (List._∷_ Row.off (List._∷_ Row.off (List._∷_ Row.off (List._∷_ Row.off (List._∷_ Row.off (List._∷_ Row.off (List._∷_ Row.off (List._∷_ (Row.lease (κs .1 .1 .1 .1 .1 .1 .1 .1 .1 .1 .0) (qs .1 .1 .1 .1 .1 .1 .1 .1 .1 .1 .0)) (List._∷_ (Row.lease (κs .1 .1 .1 .1 .1 .1 .1 .1 .1 .1 .1 .0) (qs .1 .1 .1 .1 .1 .1 .1 .1 .1 .1 .1 .0)) (List._∷_ Row.off (List._∷_ Row.off (List._∷_ Row.off (List._∷_ Row.off (List._∷_ Row.off (List._∷_ Row.alive (List._∷_ Row.alive (List._∷_ Row.alive (List._∷_ Row.alive (List._∷_ Row.alive (List._∷_ Row.alive (List._∷_ Row.alive (List._∷_ Row.alive (List._∷_ Row.alive (List._∷_ Row.off (List._∷_ Row.off List.[]))))))))))))))))))))))))))) }
+
+        abbrev G107 : Row.Cx
+        G107 = record { locals = List._++_ g80 (List._++_ t87 (List._++_ t84 t85)); slots = List._∷_ Row.off (List._∷_ (Row.lease (κs .1 .0) (qs .1 .0)) (List._∷_ Row.off (List._∷_ Row.off (List._∷_ Row.off (List._∷_ Row.off (List._∷_ Row.off (List._∷_ Row.off (List._∷_ Row.off (List._∷_ Row.off (List._∷_ (Row.lease (κs .1 .1 .1 .1 .1 .1 .1 .1 .1 .1 .0) (qs .1 .1 .1 .1 .1 .1 .1 .1 .1 .1 .0)) (List._∷_ (Row.lease (κs .1 .1 .1 .1 .1 .1 .1 .1 .1 .1 .1 .0) (qs .1 .1 .1 .1 .1 .1 .1 .1 .1 .1 .1 .0)) (List._∷_ Row.off (List._∷_ Row.off (List._∷_ Row.off (List._∷_ Row.off (List._∷_ Row.off (List._∷_ Row.dead (List._∷_ Row.alive (List._∷_ Row.alive (List._∷_ Row.alive (List._∷_ Row.alive (List._∷_ Row.alive (List._∷_ Row.alive (List._∷_ Row.alive (List._∷_ Row.alive (List._∷_ Row.off (List._∷_ Row.off List.[]))))))))))))))))))))))))))) }
+
+        abbrev G108 : Row.Cx
+        G108 = record { locals = List._++_ g88 (List._++_ t87 (List._++_ t89 t85)); slots = List._∷_ (Row.lease (κs .0) (qs .0)) (List._∷_ (Row.lease (κs .1 .0) (qs .1 .0)) (List._∷_ Row.off (List._∷_ Row.off (List._∷_ Row.off (List._∷_ Row.off (List._∷_ Row.off (List._∷_ Row.off (List._∷_ Row.off (List._∷_ Row.off (List._∷_ (Row.lease (κs .1 .1 .1 .1 .1 .1 .1 .1 .1 .1 .0) (qs .1 .1 .1 .1 .1 .1 .1 .1 .1 .1 .0)) (List._∷_ (Row.lease (κs .1 .1 .1 .1 .1 .1 .1 .1 .1 .1 .1 .0) (qs .1 .1 .1 .1 .1 .1 .1 .1 .1 .1 .1 .0)) (List._∷_ Row.off (List._∷_ Row.off (List._∷_ Row.off (List._∷_ Row.off (List._∷_ Row.off (List._∷_ Row.dead (List._∷_ Row.alive (List._∷_ Row.alive (List._∷_ Row.alive (List._∷_ Row.alive (List._∷_ Row.alive (List._∷_ Row.alive (List._∷_ Row.alive (List._∷_ Row.alive (List._∷_ Row.off (List._∷_ Row.off List.[]))))))))))))))))))))))))))) }
+
+        abbrev G109 : Row.Cx
+        G109 = record { locals = List._++_ g88 (List._++_ t87 (List._++_ t89 t85)); slots = List._∷_ (Row.lease (κs .0) (qs .0)) (List._∷_ (Row.lease (κs .1 .0) (qs .1 .0)) (List._∷_ Row.off (List._∷_ Row.off (List._∷_ Row.off (List._∷_ Row.off (List._∷_ Row.off (List._∷_ Row.off (List._∷_ Row.off (List._∷_ Row.off (List._∷_ (Row.lease (κs .1 .1 .1 .1 .1 .1 .1 .1 .1 .1 .0) (qs .1 .1 .1 .1 .1 .1 .1 .1 .1 .1 .0)) (List._∷_ (Row.lease (κs .1 .1 .1 .1 .1 .1 .1 .1 .1 .1 .1 .0) (qs .1 .1 .1 .1 .1 .1 .1 .1 .1 .1 .1 .0)) (List._∷_ Row.off (List._∷_ Row.off (List._∷_ Row.off (List._∷_ Row.off (List._∷_ Row.off (List._∷_ Row.off (List._∷_ Row.alive (List._∷_ Row.alive (List._∷_ Row.alive (List._∷_ Row.alive (List._∷_ Row.alive (List._∷_ Row.alive (List._∷_ Row.alive (List._∷_ Row.alive (List._∷_ Row.off (List._∷_ Row.off List.[]))))))))))))))))))))))))))) }
+
+        abbrev G110 : Row.Cx
+        G110 = record { locals = List._++_ g88 (List._++_ t87 (List._++_ t89 t85)); slots = List._∷_ (Row.lease (κs .0) (qs .0)) (List._∷_ (Row.lease (κs .1 .0) (qs .1 .0)) (List._∷_ Row.off (List._∷_ Row.off (List._∷_ Row.off (List._∷_ Row.off (List._∷_ Row.off (List._∷_ Row.off (List._∷_ Row.off (List._∷_ Row.off (List._∷_ (Row.lease (κs .1 .1 .1 .1 .1 .1 .1 .1 .1 .1 .0) (qs .1 .1 .1 .1 .1 .1 .1 .1 .1 .1 .0)) (List._∷_ (Row.lease (κs .1 .1 .1 .1 .1 .1 .1 .1 .1 .1 .1 .0) (qs .1 .1 .1 .1 .1 .1 .1 .1 .1 .1 .1 .0)) (List._∷_ Row.off (List._∷_ Row.off (List._∷_ Row.off (List._∷_ Row.off (List._∷_ Row.off (List._∷_ Row.off (List._∷_ Row.dead (List._∷_ Row.alive (List._∷_ Row.alive (List._∷_ Row.alive (List._∷_ Row.alive (List._∷_ Row.alive (List._∷_ Row.alive (List._∷_ Row.alive (List._∷_ Row.off (List._∷_ Row.off List.[]))))))))))))))))))))))))))) }
+
+        abbrev G111 : Row.Cx
+        G111 = record { locals = List._++_ g90 (List._++_ t87 (List._++_ t91 t85)); slots = List._∷_ (Row.lease (κs .0) (qs .0)) (List._∷_ (Row.lease (κs .1 .0) (qs .1 .0)) (List._∷_ (Row.lease (κs .1 .1 .0) (qs .1 .1 .0)) (List._∷_ Row.off (List._∷_ Row.off (List._∷_ Row.off (List._∷_ Row.off (List._∷_ Row.off (List._∷_ Row.off (List._∷_ Row.off (List._∷_ (Row.lease (κs .1 .1 .1 .1 .1 .1 .1 .1 .1 .1 .0) (qs .1 .1 .1 .1 .1 .1 .1 .1 .1 .1 .0)) (List._∷_ (Row.lease (κs .1 .1 .1 .1 .1 .1 .1 .1 .1 .1 .1 .0) (qs .1 .1 .1 .1 .1 .1 .1 .1 .1 .1 .1 .0)) (List._∷_ Row.off (List._∷_ Row.off (List._∷_ Row.off (List._∷_ Row.off (List._∷_ Row.off (List._∷_ Row.off (List._∷_ Row.dead (List._∷_ Row.alive (List._∷_ Row.alive (List._∷_ Row.alive (List._∷_ Row.alive (List._∷_ Row.alive (List._∷_ Row.alive (List._∷_ Row.alive (List._∷_ Row.off (List._∷_ Row.off List.[]))))))))))))))))))))))))))) }
+
+        abbrev G112 : Row.Cx
+        G112 = record { locals = List._++_ g90 (List._++_ t87 (List._++_ t91 t85)); slots = List._∷_ (Row.lease (κs .0) (qs .0)) (List._∷_ (Row.lease (κs .1 .0) (qs .1 .0)) (List._∷_ (Row.lease (κs .1 .1 .0) (qs .1 .1 .0)) (List._∷_ Row.off (List._∷_ Row.off (List._∷_ Row.off (List._∷_ Row.off (List._∷_ Row.off (List._∷_ Row.off (List._∷_ Row.off (List._∷_ (Row.lease (κs .1 .1 .1 .1 .1 .1 .1 .1 .1 .1 .0) (qs .1 .1 .1 .1 .1 .1 .1 .1 .1 .1 .0)) (List._∷_ (Row.lease (κs .1 .1 .1 .1 .1 .1 .1 .1 .1 .1 .1 .0) (qs .1 .1 .1 .1 .1 .1 .1 .1 .1 .1 .1 .0)) (List._∷_ Row.off (List._∷_ Row.off (List._∷_ Row.off (List._∷_ Row.off (List._∷_ Row.off (List._∷_ Row.off (List._∷_ Row.dead (List._∷_ Row.alive (List._∷_ Row.alive (List._∷_ Row.alive (List._∷_ Row.alive (List._∷_ Row.alive (List._∷_ Row.alive (List._∷_ Row.alive (List._∷_ Row.off (List._∷_ Row.off List.[]))))))))))))))))))))))))))) }
+
+        abbrev G113 : Row.Cx
+        G113 = record { locals = List._++_ g90 (List._++_ t87 (List._++_ t91 t85)); slots = List._∷_ (Row.lease (κs .0) (qs .0)) (List._∷_ (Row.lease (κs .1 .0) (qs .1 .0)) (List._∷_ (Row.lease (κs .1 .1 .0) (qs .1 .1 .0)) (List._∷_ Row.off (List._∷_ Row.off (List._∷_ Row.off (List._∷_ Row.off (List._∷_ Row.off (List._∷_ Row.off (List._∷_ Row.off (List._∷_ (Row.lease (κs .1 .1 .1 .1 .1 .1 .1 .1 .1 .1 .0) (qs .1 .1 .1 .1 .1 .1 .1 .1 .1 .1 .0)) (List._∷_ (Row.lease (κs .1 .1 .1 .1 .1 .1 .1 .1 .1 .1 .1 .0) (qs .1 .1 .1 .1 .1 .1 .1 .1 .1 .1 .1 .0)) (List._∷_ Row.off (List._∷_ Row.off (List._∷_ Row.off (List._∷_ Row.off (List._∷_ Row.off (List._∷_ Row.off (List._∷_ Row.off (List._∷_ Row.alive (List._∷_ Row.alive (List._∷_ Row.alive (List._∷_ Row.alive (List._∷_ Row.alive (List._∷_ Row.alive (List._∷_ Row.alive (List._∷_ Row.off (List._∷_ Row.off List.[]))))))))))))))))))))))))))) }
+
+        abbrev G114 : Row.Cx
+        G114 = record { locals = List._++_ g90 (List._++_ t87 (List._++_ t91 t85)); slots = List._∷_ (Row.lease (κs .0) (qs .0)) (List._∷_ (Row.lease (κs .1 .0) (qs .1 .0)) (List._∷_ (Row.lease (κs .1 .1 .0) (qs .1 .1 .0)) (List._∷_ Row.off (List._∷_ Row.off (List._∷_ Row.off (List._∷_ Row.off (List._∷_ Row.off (List._∷_ Row.off (List._∷_ Row.off (List._∷_ (Row.lease (κs .1 .1 .1 .1 .1 .1 .1 .1 .1 .1 .0) (qs .1 .1 .1 .1 .1 .1 .1 .1 .1 .1 .0)) (List._∷_ (Row.lease (κs .1 .1 .1 .1 .1 .1 .1 .1 .1 .1 .1 .0) (qs .1 .1 .1 .1 .1 .1 .1 .1 .1 .1 .1 .0)) (List._∷_ Row.off (List._∷_ Row.off (List._∷_ Row.off (List._∷_ Row.off (List._∷_ Row.off (List._∷_ Row.off (List._∷_ Row.off (List._∷_ Row.dead (List._∷_ Row.alive (List._∷_ Row.alive (List._∷_ Row.alive (List._∷_ Row.alive (List._∷_ Row.alive (List._∷_ Row.alive (List._∷_ Row.off (List._∷_ Row.off List.[]))))))))))))))))))))))))))) }
+
+        abbrev G115 : Row.Cx
+        G115 = record { locals = List._++_ g92 (List._++_ t87 (List._++_ t93 t85)); slots = List._∷_ (Row.lease (κs .0) (qs .0)) (List._∷_ (Row.lease (κs .1 .0) (qs .1 .0)) (List._∷_ (Row.lease (κs .1 .1 .0) (qs .1 .1 .0)) (List._∷_ (Row.lease (κs .1 .1 .1 .0) (qs .1 .1 .1 .0)) (List._∷_ Row.off (List._∷_ Row.off (List._∷_ Row.off (List._∷_ Row.off (List._∷_ Row.off (List._∷_ Row.off (List._∷_ (Row.lease (κs .1 .1 .1 .1 .1 .1 .1 .1 .1 .1 .0) (qs .1 .1 .1 .1 .1 .1 .1 .1 .1 .1 .0)) (List._∷_ (Row.lease (κs .1 .1 .1 .1 .1 .1 .1 .1 .1 .1 .1 .0) (qs .1 .1 .1 .1 .1 .1 .1 .1 .1 .1 .1 .0)) (List._∷_ Row.off (List._∷_ Row.off (List._∷_ Row.off (List._∷_ Row.off (List._∷_ Row.off (List._∷_ Row.off (List._∷_ Row.off (List._∷_ Row.dead (List._∷_ Row.alive (List._∷_ Row.alive (List._∷_ Row.alive (List._∷_ Row.alive (List._∷_ Row.alive (List._∷_ Row.alive (List._∷_ Row.off (List._∷_ Row.off List.[]))))))))))))))))))))))))))) }
+
+        abbrev G116 : Row.Cx
+        G116 = record { locals = List._++_ g92 (List._++_ t87 (List._++_ t93 t85)); slots = List._∷_ (Row.lease (κs .0) (qs .0)) (List._∷_ (Row.lease (κs .1 .0) (qs .1 .0)) (List._∷_ (Row.lease (κs .1 .1 .0) (qs .1 .1 .0)) (List._∷_ (Row.lease (κs .1 .1 .1 .0) (qs .1 .1 .1 .0)) (List._∷_ Row.off (List._∷_ Row.off (List._∷_ Row.off (List._∷_ Row.off (List._∷_ Row.off (List._∷_ Row.off (List._∷_ (Row.lease (κs .1 .1 .1 .1 .1 .1 .1 .1 .1 .1 .0) (qs .1 .1 .1 .1 .1 .1 .1 .1 .1 .1 .0)) (List._∷_ (Row.lease (κs .1 .1 .1 .1 .1 .1 .1 .1 .1 .1 .1 .0) (qs .1 .1 .1 .1 .1 .1 .1 .1 .1 .1 .1 .0)) (List._∷_ Row.off (List._∷_ Row.off (List._∷_ Row.off (List._∷_ Row.off (List._∷_ Row.off (List._∷_ Row.off (List._∷_ Row.off (List._∷_ Row.dead (List._∷_ Row.alive (List._∷_ Row.alive (List._∷_ Row.alive (List._∷_ Row.alive (List._∷_ Row.alive (List._∷_ Row.alive (List._∷_ Row.off (List._∷_ Row.off List.[]))))))))))))))))))))))))))) }
+
+        abbrev G117 : Row.Cx
+        G117 = record { locals = List._++_ g92 (List._++_ t87 (List._++_ t93 t85)); slots = List._∷_ (Row.lease (κs .0) (qs .0)) (List._∷_ (Row.lease (κs .1 .0) (qs .1 .0)) (List._∷_ (Row.lease (κs .1 .1 .0) (qs .1 .1 .0)) (List._∷_ (Row.lease (κs .1 .1 .1 .0) (qs .1 .1 .1 .0)) (List._∷_ Row.off (List._∷_ Row.off (List._∷_ Row.off (List._∷_ Row.off (List._∷_ Row.off (List._∷_ Row.off (List._∷_ (Row.lease (κs .1 .1 .1 .1 .1 .1 .1 .1 .1 .1 .0) (qs .1 .1 .1 .1 .1 .1 .1 .1 .1 .1 .0)) (List._∷_ (Row.lease (κs .1 .1 .1 .1 .1 .1 .1 .1 .1 .1 .1 .0) (qs .1 .1 .1 .1 .1 .1 .1 .1 .1 .1 .1 .0)) (List._∷_ Row.off (List._∷_ Row.off (List._∷_ Row.off (List._∷_ Row.off (List._∷_ Row.off (List._∷_ Row.off (List._∷_ Row.off (List._∷_ Row.off (List._∷_ Row.alive (List._∷_ Row.alive (List._∷_ Row.alive (List._∷_ Row.alive (List._∷_ Row.alive (List._∷_ Row.alive (List._∷_ Row.off (List._∷_ Row.off List.[]))))))))))))))))))))))))))) }
+
+        abbrev G118 : Row.Cx
+        G118 = record { locals = List._++_ g92 (List._++_ t87 (List._++_ t93 t85)); slots = List._∷_ (Row.lease (κs .0) (qs .0)) (List._∷_ (Row.lease (κs .1 .0) (qs .1 .0)) (List._∷_ (Row.lease (κs .1 .1 .0) (qs .1 .1 .0)) (List._∷_ (Row.lease (κs .1 .1 .1 .0) (qs .1 .1 .1 .0)) (List._∷_ Row.off (List._∷_ Row.off (List._∷_ Row.off (List._∷_ Row.off (List._∷_ Row.off (List._∷_ Row.off (List._∷_ (Row.lease (κs .1 .1 .1 .1 .1 .1 .1 .1 .1 .1 .0) (qs .1 .1 .1 .1 .1 .1 .1 .1 .1 .1 .0)) (List._∷_ (Row.lease (κs .1 .1 .1 .1 .1 .1 .1 .1 .1 .1 .1 .0) (qs .1 .1 .1 .1 .1 .1 .1 .1 .1 .1 .1 .0)) (List._∷_ Row.off (List._∷_ Row.off (List._∷_ Row.off (List._∷_ Row.off (List._∷_ Row.off (List._∷_ Row.off (List._∷_ Row.off (List._∷_ Row.off (List._∷_ Row.dead (List._∷_ Row.alive (List._∷_ Row.alive (List._∷_ Row.alive (List._∷_ Row.alive (List._∷_ Row.alive (List._∷_ Row.off (List._∷_ Row.off List.[]))))))))))))))))))))))))))) }
+
+        abbrev G119 : Row.Cx
+        G119 = record { locals = List._++_ g94 (List._++_ t87 (List._++_ t95 t85)); slots = List._∷_ (Row.lease (κs .0) (qs .0)) (List._∷_ (Row.lease (κs .1 .0) (qs .1 .0)) (List._∷_ (Row.lease (κs .1 .1 .0) (qs .1 .1 .0)) (List._∷_ (Row.lease (κs .1 .1 .1 .0) (qs .1 .1 .1 .0)) (List._∷_ (Row.lease (κs .1 .1 .1 .1 .0) (qs .1 .1 .1 .1 .0)) (List._∷_ Row.off (List._∷_ Row.off (List._∷_ Row.off (List._∷_ Row.off (List._∷_ Row.off (List._∷_ (Row.lease (κs .1 .1 .1 .1 .1 .1 .1 .1 .1 .1 .0) (qs .1 .1 .1 .1 .1 .1 .1 .1 .1 .1 .0)) (List._∷_ (Row.lease (κs .1 .1 .1 .1 .1 .1 .1 .1 .1 .1 .1 .0) (qs .1 .1 .1 .1 .1 .1 .1 .1 .1 .1 .1 .0)) (List._∷_ Row.off (List._∷_ Row.off (List._∷_ Row.off (List._∷_ Row.off (List._∷_ Row.off (List._∷_ Row.off (List._∷_ Row.off (List._∷_ Row.off (List._∷_ Row.dead (List._∷_ Row.alive (List._∷_ Row.alive (List._∷_ Row.alive (List._∷_ Row.alive (List._∷_ Row.alive (List._∷_ Row.off (List._∷_ Row.off List.[]))))))))))))))))))))))))))) }
+
+        abbrev G120 : Row.Cx
+        G120 = record { locals = List._++_ g94 (List._++_ t87 (List._++_ t95 t85)); slots = List._∷_ (Row.lease (κs .0) (qs .0)) (List._∷_ (Row.lease (κs .1 .0) (qs .1 .0)) (List._∷_ (Row.lease (κs .1 .1 .0) (qs .1 .1 .0)) (List._∷_ (Row.lease (κs .1 .1 .1 .0) (qs .1 .1 .1 .0)) (List._∷_ (Row.lease (κs .1 .1 .1 .1 .0) (qs .1 .1 .1 .1 .0)) (List._∷_ Row.off (List._∷_ Row.off (List._∷_ Row.off (List._∷_ Row.off (List._∷_ Row.off (List._∷_ (Row.lease (κs .1 .1 .1 .1 .1 .1 .1 .1 .1 .1 .0) (qs .1 .1 .1 .1 .1 .1 .1 .1 .1 .1 .0)) (List._∷_ (Row.lease (κs .1 .1 .1 .1 .1 .1 .1 .1 .1 .1 .1 .0) (qs .1 .1 .1 .1 .1 .1 .1 .1 .1 .1 .1 .0)) (List._∷_ Row.off (List._∷_ Row.off (List._∷_ Row.off (List._∷_ Row.off (List._∷_ Row.off (List._∷_ Row.off (List._∷_ Row.off (List._∷_ Row.off (List._∷_ Row.dead (List._∷_ Row.alive (List._∷_ Row.alive (List._∷_ Row.alive (List._∷_ Row.alive (List._∷_ Row.alive (List._∷_ Row.off (List._∷_ Row.off List.[]))))))))))))))))))))))))))) }
+
+        abbrev G121 : Row.Cx
+        G121 = record { locals = List._++_ g94 (List._++_ t87 (List._++_ t95 t85)); slots = List._∷_ (Row.lease (κs .0) (qs .0)) (List._∷_ (Row.lease (κs .1 .0) (qs .1 .0)) (List._∷_ (Row.lease (κs .1 .1 .0) (qs .1 .1 .0)) (List._∷_ (Row.lease (κs .1 .1 .1 .0) (qs .1 .1 .1 .0)) (List._∷_ (Row.lease (κs .1 .1 .1 .1 .0) (qs .1 .1 .1 .1 .0)) (List._∷_ Row.off (List._∷_ Row.off (List._∷_ Row.off (List._∷_ Row.off (List._∷_ Row.off (List._∷_ (Row.lease (κs .1 .1 .1 .1 .1 .1 .1 .1 .1 .1 .0) (qs .1 .1 .1 .1 .1 .1 .1 .1 .1 .1 .0)) (List._∷_ (Row.lease (κs .1 .1 .1 .1 .1 .1 .1 .1 .1 .1 .1 .0) (qs .1 .1 .1 .1 .1 .1 .1 .1 .1 .1 .1 .0)) (List._∷_ Row.off (List._∷_ Row.off (List._∷_ Row.off (List._∷_ Row.off (List._∷_ Row.off (List._∷_ Row.off (List._∷_ Row.off (List._∷_ Row.off (List._∷_ Row.off (List._∷_ Row.alive (List._∷_ Row.alive (List._∷_ Row.alive (List._∷_ Row.alive (List._∷_ Row.alive (List._∷_ Row.off (List._∷_ Row.off List.[]))))))))))))))))))))))))))) }
+
+        abbrev G122 : Row.Cx
+        G122 = record { locals = List._++_ g94 (List._++_ t87 (List._++_ t95 t85)); slots = List._∷_ (Row.lease (κs .0) (qs .0)) (List._∷_ (Row.lease (κs .1 .0) (qs .1 .0)) (List._∷_ (Row.lease (κs .1 .1 .0) (qs .1 .1 .0)) (List._∷_ (Row.lease (κs .1 .1 .1 .0) (qs .1 .1 .1 .0)) (List._∷_ (Row.lease (κs .1 .1 .1 .1 .0) (qs .1 .1 .1 .1 .0)) (List._∷_ Row.off (List._∷_ Row.off (List._∷_ Row.off (List._∷_ Row.off (List._∷_ Row.off (List._∷_ (Row.lease (κs .1 .1 .1 .1 .1 .1 .1 .1 .1 .1 .0) (qs .1 .1 .1 .1 .1 .1 .1 .1 .1 .1 .0)) (List._∷_ (Row.lease (κs .1 .1 .1 .1 .1 .1 .1 .1 .1 .1 .1 .0) (qs .1 .1 .1 .1 .1 .1 .1 .1 .1 .1 .1 .0)) (List._∷_ Row.off (List._∷_ Row.off (List._∷_ Row.off (List._∷_ Row.off (List._∷_ Row.off (List._∷_ Row.off (List._∷_ Row.off (List._∷_ Row.off (List._∷_ Row.off (List._∷_ Row.dead (List._∷_ Row.alive (List._∷_ Row.alive (List._∷_ Row.alive (List._∷_ Row.alive (List._∷_ Row.off (List._∷_ Row.off List.[]))))))))))))))))))))))))))) }
+
+        abbrev G123 : Row.Cx
+        G123 = record { locals = List._++_ g96 (List._++_ t87 (List._++_ t2 t85)); slots = List._∷_ (Row.lease (κs .0) (qs .0)) (List._∷_ (Row.lease (κs .1 .0) (qs .1 .0)) (List._∷_ (Row.lease (κs .1 .1 .0) (qs .1 .1 .0)) (List._∷_ (Row.lease (κs .1 .1 .1 .0) (qs .1 .1 .1 .0)) (List._∷_ (Row.lease (κs .1 .1 .1 .1 .0) (qs .1 .1 .1 .1 .0)) (List._∷_ (Row.lease (κs .1 .1 .1 .1 .1 .0) (qs .1 .1 .1 .1 .1 .0)) (List._∷_ Row.off (List._∷_ Row.off (List._∷_ Row.off (List._∷_ Row.off (List._∷_ (Row.lease (κs .1 .1 .1 .1 .1 .1 .1 .1 .1 .1 .0) (qs .1 .1 .1 .1 .1 .1 .1 .1 .1 .1 .0)) (List._∷_ (Row.lease (κs .1 .1 .1 .1 .1 .1 .1 .1 .1 .1 .1 .0) (qs .1 .1 .1 .1 .1 .1 .1 .1 .1 .1 .1 .0)) (List._∷_ Row.off (List._∷_ Row.off (List._∷_ Row.off (List._∷_ Row.off (List._∷_ Row.off (List._∷_ Row.off (List._∷_ Row.off (List._∷_ Row.off (List._∷_ Row.off (List._∷_ Row.dead (List._∷_ Row.alive (List._∷_ Row.alive (List._∷_ Row.alive (List._∷_ Row.alive (List._∷_ Row.off (List._∷_ Row.off List.[]))))))))))))))))))))))))))) }
+
+        abbrev G124 : Row.Cx
+        G124 = record { locals = List._++_ g96 (List._++_ t87 (List._++_ t2 t85)); slots = List._∷_ (Row.lease (κs .0) (qs .0)) (List._∷_ (Row.lease (κs .1 .0) (qs .1 .0)) (List._∷_ (Row.lease (κs .1 .1 .0) (qs .1 .1 .0)) (List._∷_ (Row.lease (κs .1 .1 .1 .0) (qs .1 .1 .1 .0)) (List._∷_ (Row.lease (κs .1 .1 .1 .1 .0) (qs .1 .1 .1 .1 .0)) (List._∷_ (Row.lease (κs .1 .1 .1 .1 .1 .0) (qs .1 .1 .1 .1 .1 .0)) (List._∷_ Row.off (List._∷_ Row.off (List._∷_ Row.off (List._∷_ Row.off (List._∷_ (Row.lease (κs .1 .1 .1 .1 .1 .1 .1 .1 .1 .1 .0) (qs .1 .1 .1 .1 .1 .1 .1 .1 .1 .1 .0)) (List._∷_ (Row.lease (κs .1 .1 .1 .1 .1 .1 .1 .1 .1 .1 .1 .0) (qs .1 .1 .1 .1 .1 .1 .1 .1 .1 .1 .1 .0)) (List._∷_ Row.off (List._∷_ Row.off (List._∷_ Row.off (List._∷_ Row.off (List._∷_ Row.off (List._∷_ Row.off (List._∷_ Row.off (List._∷_ Row.off (List._∷_ Row.off (List._∷_ Row.off (List._∷_ Row.alive (List._∷_ Row.alive (List._∷_ Row.alive (List._∷_ Row.alive (List._∷_ Row.off (List._∷_ Row.off List.[]))))))))))))))))))))))))))) }
+
+        abbrev G125 : Row.Cx
+        G125 = record { locals = List._++_ g96 (List._++_ t87 (List._++_ t2 t85)); slots = List._∷_ (Row.lease (κs .0) (qs .0)) (List._∷_ (Row.lease (κs .1 .0) (qs .1 .0)) (List._∷_ (Row.lease (κs .1 .1 .0) (qs .1 .1 .0)) (List._∷_ (Row.lease (κs .1 .1 .1 .0) (qs .1 .1 .1 .0)) (List._∷_ (Row.lease (κs .1 .1 .1 .1 .0) (qs .1 .1 .1 .1 .0)) (List._∷_ (Row.lease (κs .1 .1 .1 .1 .1 .0) (qs .1 .1 .1 .1 .1 .0)) (List._∷_ Row.off (List._∷_ Row.off (List._∷_ Row.off (List._∷_ Row.off (List._∷_ (Row.lease (κs .1 .1 .1 .1 .1 .1 .1 .1 .1 .1 .0) (qs .1 .1 .1 .1 .1 .1 .1 .1 .1 .1 .0)) (List._∷_ (Row.lease (κs .1 .1 .1 .1 .1 .1 .1 .1 .1 .1 .1 .0) (qs .1 .1 .1 .1 .1 .1 .1 .1 .1 .1 .1 .0)) (List._∷_ Row.off (List._∷_ Row.off (List._∷_ Row.off (List._∷_ Row.off (List._∷_ Row.off (List._∷_ Row.off (List._∷_ Row.off (List._∷_ Row.off (List._∷_ Row.off (List._∷_ Row.off (List._∷_ Row.dead (List._∷_ Row.alive (List._∷_ Row.alive (List._∷_ Row.alive (List._∷_ Row.off (List._∷_ Row.off List.[]))))))))))))))))))))))))))) }
+
+        abbrev G126 : Row.Cx
+        G126 = record { locals = List._++_ g97 (List._++_ t87 (List._++_ t2 t98)); slots = List._∷_ (Row.lease (κs .0) (qs .0)) (List._∷_ (Row.lease (κs .1 .0) (qs .1 .0)) (List._∷_ (Row.lease (κs .1 .1 .0) (qs .1 .1 .0)) (List._∷_ (Row.lease (κs .1 .1 .1 .0) (qs .1 .1 .1 .0)) (List._∷_ (Row.lease (κs .1 .1 .1 .1 .0) (qs .1 .1 .1 .1 .0)) (List._∷_ (Row.lease (κs .1 .1 .1 .1 .1 .0) (qs .1 .1 .1 .1 .1 .0)) (List._∷_ (Row.lease (κs .1 .1 .1 .1 .1 .1 .0) (qs .1 .1 .1 .1 .1 .1 .0)) (List._∷_ Row.off (List._∷_ Row.off (List._∷_ Row.off (List._∷_ (Row.lease (κs .1 .1 .1 .1 .1 .1 .1 .1 .1 .1 .0) (qs .1 .1 .1 .1 .1 .1 .1 .1 .1 .1 .0)) (List._∷_ (Row.lease (κs .1 .1 .1 .1 .1 .1 .1 .1 .1 .1 .1 .0) (qs .1 .1 .1 .1 .1 .1 .1 .1 .1 .1 .1 .0)) (List._∷_ Row.off (List._∷_ Row.off (List._∷_ Row.off (List._∷_ Row.off (List._∷_ Row.off (List._∷_ Row.off (List._∷_ Row.off (List._∷_ Row.off (List._∷_ Row.off (List._∷_ Row.off (List._∷_ Row.dead (List._∷_ Row.alive (List._∷_ Row.alive (List._∷_ Row.alive (List._∷_ Row.off (List._∷_ Row.off List.[]))))))))))))))))))))))))))) }
+
+        abbrev G127 : Row.Cx
+        G127 = record { locals = List._++_ g97 (List._++_ t87 (List._++_ t2 t98)); slots = List._∷_ (Row.lease (κs .0) (qs .0)) (List._∷_ (Row.lease (κs .1 .0) (qs .1 .0)) (List._∷_ (Row.lease (κs .1 .1 .0) (qs .1 .1 .0)) (List._∷_ (Row.lease (κs .1 .1 .1 .0) (qs .1 .1 .1 .0)) (List._∷_ (Row.lease (κs .1 .1 .1 .1 .0) (qs .1 .1 .1 .1 .0)) (List._∷_ (Row.lease (κs .1 .1 .1 .1 .1 .0) (qs .1 .1 .1 .1 .1 .0)) (List._∷_ (Row.lease (κs .1 .1 .1 .1 .1 .1 .0) (qs .1 .1 .1 .1 .1 .1 .0)) (List._∷_ Row.off (List._∷_ Row.off (List._∷_ Row.off (List._∷_ (Row.lease (κs .1 .1 .1 .1 .1 .1 .1 .1 .1 .1 .0) (qs .1 .1 .1 .1 .1 .1 .1 .1 .1 .1 .0)) (List._∷_ (Row.lease (κs .1 .1 .1 .1 .1 .1 .1 .1 .1 .1 .1 .0) (qs .1 .1 .1 .1 .1 .1 .1 .1 .1 .1 .1 .0)) (List._∷_ Row.off (List._∷_ Row.off (List._∷_ Row.off (List._∷_ Row.off (List._∷_ Row.off (List._∷_ Row.off (List._∷_ Row.off (List._∷_ Row.off (List._∷_ Row.off (List._∷_ Row.off (List._∷_ Row.dead (List._∷_ Row.alive (List._∷_ Row.alive (List._∷_ Row.alive (List._∷_ Row.off (List._∷_ Row.off List.[]))))))))))))))))))))))))))) }
+
+        abbrev G128 : Row.Cx
+        G128 = record { locals = List._++_ g97 (List._++_ t87 (List._++_ t2 t98)); slots = List._∷_ (Row.lease (κs .0) (qs .0)) (List._∷_ (Row.lease (κs .1 .0) (qs .1 .0)) (List._∷_ (Row.lease (κs .1 .1 .0) (qs .1 .1 .0)) (List._∷_ (Row.lease (κs .1 .1 .1 .0) (qs .1 .1 .1 .0)) (List._∷_ (Row.lease (κs .1 .1 .1 .1 .0) (qs .1 .1 .1 .1 .0)) (List._∷_ (Row.lease (κs .1 .1 .1 .1 .1 .0) (qs .1 .1 .1 .1 .1 .0)) (List._∷_ (Row.lease (κs .1 .1 .1 .1 .1 .1 .0) (qs .1 .1 .1 .1 .1 .1 .0)) (List._∷_ Row.off (List._∷_ Row.off (List._∷_ Row.off (List._∷_ (Row.lease (κs .1 .1 .1 .1 .1 .1 .1 .1 .1 .1 .0) (qs .1 .1 .1 .1 .1 .1 .1 .1 .1 .1 .0)) (List._∷_ (Row.lease (κs .1 .1 .1 .1 .1 .1 .1 .1 .1 .1 .1 .0) (qs .1 .1 .1 .1 .1 .1 .1 .1 .1 .1 .1 .0)) (List._∷_ Row.off (List._∷_ Row.off (List._∷_ Row.off (List._∷_ Row.off (List._∷_ Row.off (List._∷_ Row.off (List._∷_ Row.off (List._∷_ Row.off (List._∷_ Row.off (List._∷_ Row.off (List._∷_ Row.off (List._∷_ Row.alive (List._∷_ Row.alive (List._∷_ Row.alive (List._∷_ Row.off (List._∷_ Row.off List.[]))))))))))))))))))))))))))) }
+
+        abbrev G129 : Row.Cx
+        G129 = record { locals = List._++_ g97 (List._++_ t87 (List._++_ t2 t98)); slots = List._∷_ (Row.lease (κs .0) (qs .0)) (List._∷_ (Row.lease (κs .1 .0) (qs .1 .0)) (List._∷_ (Row.lease (κs .1 .1 .0) (qs .1 .1 .0)) (List._∷_ (Row.lease (κs .1 .1 .1 .0) (qs .1 .1 .1 .0)) (List._∷_ (Row.lease (κs .1 .1 .1 .1 .0) (qs .1 .1 .1 .1 .0)) (List._∷_ (Row.lease (κs .1 .1 .1 .1 .1 .0) (qs .1 .1 .1 .1 .1 .0)) (List._∷_ (Row.lease (κs .1 .1 .1 .1 .1 .1 .0) (qs .1 .1 .1 .1 .1 .1 .0)) (List._∷_ Row.off (List._∷_ Row.off (List._∷_ Row.off (List._∷_ (Row.lease (κs .1 .1 .1 .1 .1 .1 .1 .1 .1 .1 .0) (qs .1 .1 .1 .1 .1 .1 .1 .1 .1 .1 .0)) (List._∷_ (Row.lease (κs .1 .1 .1 .1 .1 .1 .1 .1 .1 .1 .1 .0) (qs .1 .1 .1 .1 .1 .1 .1 .1 .1 .1 .1 .0)) (List._∷_ Row.off (List._∷_ Row.off (List._∷_ Row.off (List._∷_ Row.off (List._∷_ Row.off (List._∷_ Row.off (List._∷_ Row.off (List._∷_ Row.off (List._∷_ Row.off (List._∷_ Row.off (List._∷_ Row.off (List._∷_ Row.dead (List._∷_ Row.alive (List._∷_ Row.alive (List._∷_ Row.off (List._∷_ Row.off List.[]))))))))))))))))))))))))))) }
+
+        abbrev G130 : Row.Cx
+        G130 = record { locals = List._++_ g99 (List._++_ t87 (List._++_ t2 t100)); slots = List._∷_ (Row.lease (κs .0) (qs .0)) (List._∷_ (Row.lease (κs .1 .0) (qs .1 .0)) (List._∷_ (Row.lease (κs .1 .1 .0) (qs .1 .1 .0)) (List._∷_ (Row.lease (κs .1 .1 .1 .0) (qs .1 .1 .1 .0)) (List._∷_ (Row.lease (κs .1 .1 .1 .1 .0) (qs .1 .1 .1 .1 .0)) (List._∷_ (Row.lease (κs .1 .1 .1 .1 .1 .0) (qs .1 .1 .1 .1 .1 .0)) (List._∷_ (Row.lease (κs .1 .1 .1 .1 .1 .1 .0) (qs .1 .1 .1 .1 .1 .1 .0)) (List._∷_ (Row.lease (κs .1 .1 .1 .1 .1 .1 .1 .0) (qs .1 .1 .1 .1 .1 .1 .1 .0)) (List._∷_ Row.off (List._∷_ Row.off (List._∷_ (Row.lease (κs .1 .1 .1 .1 .1 .1 .1 .1 .1 .1 .0) (qs .1 .1 .1 .1 .1 .1 .1 .1 .1 .1 .0)) (List._∷_ (Row.lease (κs .1 .1 .1 .1 .1 .1 .1 .1 .1 .1 .1 .0) (qs .1 .1 .1 .1 .1 .1 .1 .1 .1 .1 .1 .0)) (List._∷_ Row.off (List._∷_ Row.off (List._∷_ Row.off (List._∷_ Row.off (List._∷_ Row.off (List._∷_ Row.off (List._∷_ Row.off (List._∷_ Row.off (List._∷_ Row.off (List._∷_ Row.off (List._∷_ Row.off (List._∷_ Row.dead (List._∷_ Row.alive (List._∷_ Row.alive (List._∷_ Row.off (List._∷_ Row.off List.[]))))))))))))))))))))))))))) }
+
+        abbrev G131 : Row.Cx
+        G131 = record { locals = List._++_ g99 (List._++_ t87 (List._++_ t2 t100)); slots = List._∷_ (Row.lease (κs .0) (qs .0)) (List._∷_ (Row.lease (κs .1 .0) (qs .1 .0)) (List._∷_ (Row.lease (κs .1 .1 .0) (qs .1 .1 .0)) (List._∷_ (Row.lease (κs .1 .1 .1 .0) (qs .1 .1 .1 .0)) (List._∷_ (Row.lease (κs .1 .1 .1 .1 .0) (qs .1 .1 .1 .1 .0)) (List._∷_ (Row.lease (κs .1 .1 .1 .1 .1 .0) (qs .1 .1 .1 .1 .1 .0)) (List._∷_ (Row.lease (κs .1 .1 .1 .1 .1 .1 .0) (qs .1 .1 .1 .1 .1 .1 .0)) (List._∷_ (Row.lease (κs .1 .1 .1 .1 .1 .1 .1 .0) (qs .1 .1 .1 .1 .1 .1 .1 .0)) (List._∷_ Row.off (List._∷_ Row.off (List._∷_ (Row.lease (κs .1 .1 .1 .1 .1 .1 .1 .1 .1 .1 .0) (qs .1 .1 .1 .1 .1 .1 .1 .1 .1 .1 .0)) (List._∷_ (Row.lease (κs .1 .1 .1 .1 .1 .1 .1 .1 .1 .1 .1 .0) (qs .1 .1 .1 .1 .1 .1 .1 .1 .1 .1 .1 .0)) (List._∷_ Row.off (List._∷_ Row.off (List._∷_ Row.off (List._∷_ Row.off (List._∷_ Row.off (List._∷_ Row.off (List._∷_ Row.off (List._∷_ Row.off (List._∷_ Row.off (List._∷_ Row.off (List._∷_ Row.off (List._∷_ Row.dead (List._∷_ Row.alive (List._∷_ Row.alive (List._∷_ Row.off (List._∷_ Row.off List.[]))))))))))))))))))))))))))) }
+
+        abbrev G132 : Row.Cx
+        G132 = record { locals = List._++_ g99 (List._++_ t87 (List._++_ t2 t100)); slots = List._∷_ (Row.lease (κs .0) (qs .0)) (List._∷_ (Row.lease (κs .1 .0) (qs .1 .0)) (List._∷_ (Row.lease (κs .1 .1 .0) (qs .1 .1 .0)) (List._∷_ (Row.lease (κs .1 .1 .1 .0) (qs .1 .1 .1 .0)) (List._∷_ (Row.lease (κs .1 .1 .1 .1 .0) (qs .1 .1 .1 .1 .0)) (List._∷_ (Row.lease (κs .1 .1 .1 .1 .1 .0) (qs .1 .1 .1 .1 .1 .0)) (List._∷_ (Row.lease (κs .1 .1 .1 .1 .1 .1 .0) (qs .1 .1 .1 .1 .1 .1 .0)) (List._∷_ (Row.lease (κs .1 .1 .1 .1 .1 .1 .1 .0) (qs .1 .1 .1 .1 .1 .1 .1 .0)) (List._∷_ Row.off (List._∷_ Row.off (List._∷_ (Row.lease (κs .1 .1 .1 .1 .1 .1 .1 .1 .1 .1 .0) (qs .1 .1 .1 .1 .1 .1 .1 .1 .1 .1 .0)) (List._∷_ (Row.lease (κs .1 .1 .1 .1 .1 .1 .1 .1 .1 .1 .1 .0) (qs .1 .1 .1 .1 .1 .1 .1 .1 .1 .1 .1 .0)) (List._∷_ Row.off (List._∷_ Row.off (List._∷_ Row.off (List._∷_ Row.off (List._∷_ Row.off (List._∷_ Row.off (List._∷_ Row.off (List._∷_ Row.off (List._∷_ Row.off (List._∷_ Row.off (List._∷_ Row.off (List._∷_ Row.off (List._∷_ Row.alive (List._∷_ Row.alive (List._∷_ Row.off (List._∷_ Row.off List.[]))))))))))))))))))))))))))) }
+
+        abbrev G133 : Row.Cx
+        G133 = record { locals = List._++_ g99 (List._++_ t87 (List._++_ t2 t100)); slots = List._∷_ (Row.lease (κs .0) (qs .0)) (List._∷_ (Row.lease (κs .1 .0) (qs .1 .0)) (List._∷_ (Row.lease (κs .1 .1 .0) (qs .1 .1 .0)) (List._∷_ (Row.lease (κs .1 .1 .1 .0) (qs .1 .1 .1 .0)) (List._∷_ (Row.lease (κs .1 .1 .1 .1 .0) (qs .1 .1 .1 .1 .0)) (List._∷_ (Row.lease (κs .1 .1 .1 .1 .1 .0) (qs .1 .1 .1 .1 .1 .0)) (List._∷_ (Row.lease (κs .1 .1 .1 .1 .1 .1 .0) (qs .1 .1 .1 .1 .1 .1 .0)) (List._∷_ (Row.lease (κs .1 .1 .1 .1 .1 .1 .1 .0) (qs .1 .1 .1 .1 .1 .1 .1 .0)) (List._∷_ Row.off (List._∷_ Row.off (List._∷_ (Row.lease (κs .1 .1 .1 .1 .1 .1 .1 .1 .1 .1 .0) (qs .1 .1 .1 .1 .1 .1 .1 .1 .1 .1 .0)) (List._∷_ (Row.lease (κs .1 .1 .1 .1 .1 .1 .1 .1 .1 .1 .1 .0) (qs .1 .1 .1 .1 .1 .1 .1 .1 .1 .1 .1 .0)) (List._∷_ Row.off (List._∷_ Row.off (List._∷_ Row.off (List._∷_ Row.off (List._∷_ Row.off (List._∷_ Row.off (List._∷_ Row.off (List._∷_ Row.off (List._∷_ Row.off (List._∷_ Row.off (List._∷_ Row.off (List._∷_ Row.off (List._∷_ Row.dead (List._∷_ Row.alive (List._∷_ Row.off (List._∷_ Row.off List.[]))))))))))))))))))))))))))) }
+
+        abbrev G134 : Row.Cx
+        G134 = record { locals = List._++_ g101 (List._++_ t87 (List._++_ t2 t102)); slots = List._∷_ (Row.lease (κs .0) (qs .0)) (List._∷_ (Row.lease (κs .1 .0) (qs .1 .0)) (List._∷_ (Row.lease (κs .1 .1 .0) (qs .1 .1 .0)) (List._∷_ (Row.lease (κs .1 .1 .1 .0) (qs .1 .1 .1 .0)) (List._∷_ (Row.lease (κs .1 .1 .1 .1 .0) (qs .1 .1 .1 .1 .0)) (List._∷_ (Row.lease (κs .1 .1 .1 .1 .1 .0) (qs .1 .1 .1 .1 .1 .0)) (List._∷_ (Row.lease (κs .1 .1 .1 .1 .1 .1 .0) (qs .1 .1 .1 .1 .1 .1 .0)) (List._∷_ (Row.lease (κs .1 .1 .1 .1 .1 .1 .1 .0) (qs .1 .1 .1 .1 .1 .1 .1 .0)) (List._∷_ (Row.lease (κs .1 .1 .1 .1 .1 .1 .1 .1 .0) (qs .1 .1 .1 .1 .1 .1 .1 .1 .0)) (List._∷_ Row.off (List._∷_ (Row.lease (κs .1 .1 .1 .1 .1 .1 .1 .1 .1 .1 .0) (qs .1 .1 .1 .1 .1 .1 .1 .1 .1 .1 .0)) (List._∷_ (Row.lease (κs .1 .1 .1 .1 .1 .1 .1 .1 .1 .1 .1 .0) (qs .1 .1 .1 .1 .1 .1 .1 .1 .1 .1 .1 .0)) (List._∷_ Row.off (List._∷_ Row.off (List._∷_ Row.off (List._∷_ Row.off (List._∷_ Row.off (List._∷_ Row.off (List._∷_ Row.off (List._∷_ Row.off (List._∷_ Row.off (List._∷_ Row.off (List._∷_ Row.off (List._∷_ Row.off (List._∷_ Row.dead (List._∷_ Row.alive (List._∷_ Row.off (List._∷_ Row.off List.[]))))))))))))))))))))))))))) }
+
+        abbrev G135 : Row.Cx
+        G135 = record { locals = List._++_ g101 (List._++_ t87 (List._++_ t2 t102)); slots = List._∷_ (Row.lease (κs .0) (qs .0)) (List._∷_ (Row.lease (κs .1 .0) (qs .1 .0)) (List._∷_ (Row.lease (κs .1 .1 .0) (qs .1 .1 .0)) (List._∷_ (Row.lease (κs .1 .1 .1 .0) (qs .1 .1 .1 .0)) (List._∷_ (Row.lease (κs .1 .1 .1 .1 .0) (qs .1 .1 .1 .1 .0)) (List._∷_ (Row.lease (κs .1 .1 .1 .1 .1 .0) (qs .1 .1 .1 .1 .1 .0)) (List._∷_ (Row.lease (κs .1 .1 .1 .1 .1 .1 .0) (qs .1 .1 .1 .1 .1 .1 .0)) (List._∷_ (Row.lease (κs .1 .1 .1 .1 .1 .1 .1 .0) (qs .1 .1 .1 .1 .1 .1 .1 .0)) (List._∷_ (Row.lease (κs .1 .1 .1 .1 .1 .1 .1 .1 .0) (qs .1 .1 .1 .1 .1 .1 .1 .1 .0)) (List._∷_ Row.off (List._∷_ (Row.lease (κs .1 .1 .1 .1 .1 .1 .1 .1 .1 .1 .0) (qs .1 .1 .1 .1 .1 .1 .1 .1 .1 .1 .0)) (List._∷_ (Row.lease (κs .1 .1 .1 .1 .1 .1 .1 .1 .1 .1 .1 .0) (qs .1 .1 .1 .1 .1 .1 .1 .1 .1 .1 .1 .0)) (List._∷_ Row.off (List._∷_ Row.off (List._∷_ Row.off (List._∷_ Row.off (List._∷_ Row.off (List._∷_ Row.off (List._∷_ Row.off (List._∷_ Row.off (List._∷_ Row.off (List._∷_ Row.off (List._∷_ Row.off (List._∷_ Row.off (List._∷_ Row.dead (List._∷_ Row.alive (List._∷_ Row.off (List._∷_ Row.off List.[]))))))))))))))))))))))))))) }
+
+        abbrev G136 : Row.Cx
+        G136 = record { locals = List._++_ g101 (List._++_ t87 (List._++_ t2 t102)); slots = List._∷_ (Row.lease (κs .0) (qs .0)) (List._∷_ (Row.lease (κs .1 .0) (qs .1 .0)) (List._∷_ (Row.lease (κs .1 .1 .0) (qs .1 .1 .0)) (List._∷_ (Row.lease (κs .1 .1 .1 .0) (qs .1 .1 .1 .0)) (List._∷_ (Row.lease (κs .1 .1 .1 .1 .0) (qs .1 .1 .1 .1 .0)) (List._∷_ (Row.lease (κs .1 .1 .1 .1 .1 .0) (qs .1 .1 .1 .1 .1 .0)) (List._∷_ (Row.lease (κs .1 .1 .1 .1 .1 .1 .0) (qs .1 .1 .1 .1 .1 .1 .0)) (List._∷_ (Row.lease (κs .1 .1 .1 .1 .1 .1 .1 .0) (qs .1 .1 .1 .1 .1 .1 .1 .0)) (List._∷_ (Row.lease (κs .1 .1 .1 .1 .1 .1 .1 .1 .0) (qs .1 .1 .1 .1 .1 .1 .1 .1 .0)) (List._∷_ Row.off (List._∷_ (Row.lease (κs .1 .1 .1 .1 .1 .1 .1 .1 .1 .1 .0) (qs .1 .1 .1 .1 .1 .1 .1 .1 .1 .1 .0)) (List._∷_ (Row.lease (κs .1 .1 .1 .1 .1 .1 .1 .1 .1 .1 .1 .0) (qs .1 .1 .1 .1 .1 .1 .1 .1 .1 .1 .1 .0)) (List._∷_ Row.off (List._∷_ Row.off (List._∷_ Row.off (List._∷_ Row.off (List._∷_ Row.off (List._∷_ Row.off (List._∷_ Row.off (List._∷_ Row.off (List._∷_ Row.off (List._∷_ Row.off (List._∷_ Row.off (List._∷_ Row.off (List._∷_ Row.off (List._∷_ Row.alive (List._∷_ Row.off (List._∷_ Row.off List.[]))))))))))))))))))))))))))) }
+
+        abbrev G137 : Row.Cx
+        G137 = record { locals = List._++_ g101 (List._++_ t87 (List._++_ t2 t102)); slots = List._∷_ (Row.lease (κs .0) (qs .0)) (List._∷_ (Row.lease (κs .1 .0) (qs .1 .0)) (List._∷_ (Row.lease (κs .1 .1 .0) (qs .1 .1 .0)) (List._∷_ (Row.lease (κs .1 .1 .1 .0) (qs .1 .1 .1 .0)) (List._∷_ (Row.lease (κs .1 .1 .1 .1 .0) (qs .1 .1 .1 .1 .0)) (List._∷_ (Row.lease (κs .1 .1 .1 .1 .1 .0) (qs .1 .1 .1 .1 .1 .0)) (List._∷_ (Row.lease (κs .1 .1 .1 .1 .1 .1 .0) (qs .1 .1 .1 .1 .1 .1 .0)) (List._∷_ (Row.lease (κs .1 .1 .1 .1 .1 .1 .1 .0) (qs .1 .1 .1 .1 .1 .1 .1 .0)) (List._∷_ (Row.lease (κs .1 .1 .1 .1 .1 .1 .1 .1 .0) (qs .1 .1 .1 .1 .1 .1 .1 .1 .0)) (List._∷_ Row.off (List._∷_ (Row.lease (κs .1 .1 .1 .1 .1 .1 .1 .1 .1 .1 .0) (qs .1 .1 .1 .1 .1 .1 .1 .1 .1 .1 .0)) (List._∷_ (Row.lease (κs .1 .1 .1 .1 .1 .1 .1 .1 .1 .1 .1 .0) (qs .1 .1 .1 .1 .1 .1 .1 .1 .1 .1 .1 .0)) (List._∷_ Row.off (List._∷_ Row.off (List._∷_ Row.off (List._∷_ Row.off (List._∷_ Row.off (List._∷_ Row.off (List._∷_ Row.off (List._∷_ Row.off (List._∷_ Row.off (List._∷_ Row.off (List._∷_ Row.off (List._∷_ Row.off (List._∷_ Row.off (List._∷_ Row.dead (List._∷_ Row.off (List._∷_ Row.off List.[]))))))))))))))))))))))))))) }
+
+        abbrev G138 : Row.Cx
+        G138 = record { locals = List._++_ t0 (List._++_ t87 (List._++_ t2 t3)); slots = List._∷_ (Row.lease (κs .0) (qs .0)) (List._∷_ (Row.lease (κs .1 .0) (qs .1 .0)) (List._∷_ (Row.lease (κs .1 .1 .0) (qs .1 .1 .0)) (List._∷_ (Row.lease (κs .1 .1 .1 .0) (qs .1 .1 .1 .0)) (List._∷_ (Row.lease (κs .1 .1 .1 .1 .0) (qs .1 .1 .1 .1 .0)) (List._∷_ (Row.lease (κs .1 .1 .1 .1 .1 .0) (qs .1 .1 .1 .1 .1 .0)) (List._∷_ (Row.lease (κs .1 .1 .1 .1 .1 .1 .0) (qs .1 .1 .1 .1 .1 .1 .0)) (List._∷_ (Row.lease (κs .1 .1 .1 .1 .1 .1 .1 .0) (qs .1 .1 .1 .1 .1 .1 .1 .0)) (List._∷_ (Row.lease (κs .1 .1 .1 .1 .1 .1 .1 .1 .0) (qs .1 .1 .1 .1 .1 .1 .1 .1 .0)) (List._∷_ (Row.lease (κs .1 .1 .1 .1 .1 .1 .1 .1 .1 .0) (qs .1 .1 .1 .1 .1 .1 .1 .1 .1 .0)) (List._∷_ (Row.lease (κs .1 .1 .1 .1 .1 .1 .1 .1 .1 .1 .0) (qs .1 .1 .1 .1 .1 .1 .1 .1 .1 .1 .0)) (List._∷_ (Row.lease (κs .1 .1 .1 .1 .1 .1 .1 .1 .1 .1 .1 .0) (qs .1 .1 .1 .1 .1 .1 .1 .1 .1 .1 .1 .0)) (List._∷_ Row.off (List._∷_ Row.off (List._∷_ Row.off (List._∷_ Row.off (List._∷_ Row.off (List._∷_ Row.off (List._∷_ Row.off (List._∷_ Row.off (List._∷_ Row.off (List._∷_ Row.off (List._∷_ Row.off (List._∷_ Row.off (List._∷_ Row.off (List._∷_ Row.dead (List._∷_ Row.off (List._∷_ Row.off List.[]))))))))))))))))))))))))))) }
+
+        abbrev G139 : Row.Cx
+        G139 = record { locals = List._++_ t0 (List._++_ t87 (List._++_ t2 t3)); slots = List._∷_ (Row.lease (κs .0) (qs .0)) (List._∷_ (Row.lease (κs .1 .0) (qs .1 .0)) (List._∷_ (Row.lease (κs .1 .1 .0) (qs .1 .1 .0)) (List._∷_ (Row.lease (κs .1 .1 .1 .0) (qs .1 .1 .1 .0)) (List._∷_ (Row.lease (κs .1 .1 .1 .1 .0) (qs .1 .1 .1 .1 .0)) (List._∷_ (Row.lease (κs .1 .1 .1 .1 .1 .0) (qs .1 .1 .1 .1 .1 .0)) (List._∷_ (Row.lease (κs .1 .1 .1 .1 .1 .1 .0) (qs .1 .1 .1 .1 .1 .1 .0)) (List._∷_ (Row.lease (κs .1 .1 .1 .1 .1 .1 .1 .0) (qs .1 .1 .1 .1 .1 .1 .1 .0)) (List._∷_ (Row.lease (κs .1 .1 .1 .1 .1 .1 .1 .1 .0) (qs .1 .1 .1 .1 .1 .1 .1 .1 .0)) (List._∷_ (Row.lease (κs .1 .1 .1 .1 .1 .1 .1 .1 .1 .0) (qs .1 .1 .1 .1 .1 .1 .1 .1 .1 .0)) (List._∷_ (Row.lease (κs .1 .1 .1 .1 .1 .1 .1 .1 .1 .1 .0) (qs .1 .1 .1 .1 .1 .1 .1 .1 .1 .1 .0)) (List._∷_ (Row.lease (κs .1 .1 .1 .1 .1 .1 .1 .1 .1 .1 .1 .0) (qs .1 .1 .1 .1 .1 .1 .1 .1 .1 .1 .1 .0)) (List._∷_ Row.off (List._∷_ Row.off (List._∷_ Row.off (List._∷_ Row.off (List._∷_ Row.off (List._∷_ Row.off (List._∷_ Row.off (List._∷_ Row.off (List._∷_ Row.off (List._∷_ Row.off (List._∷_ Row.off (List._∷_ Row.off (List._∷_ Row.off (List._∷_ Row.dead (List._∷_ Row.off (List._∷_ Row.off List.[]))))))))))))))))))))))))))) }
+
+        abbrev G140 : Row.Cx
+        G140 = record { locals = List._++_ t0 (List._++_ t87 (List._++_ t2 t3)); slots = List._∷_ (Row.lease (κs .0) (qs .0)) (List._∷_ (Row.lease (κs .1 .0) (qs .1 .0)) (List._∷_ (Row.lease (κs .1 .1 .0) (qs .1 .1 .0)) (List._∷_ (Row.lease (κs .1 .1 .1 .0) (qs .1 .1 .1 .0)) (List._∷_ (Row.lease (κs .1 .1 .1 .1 .0) (qs .1 .1 .1 .1 .0)) (List._∷_ (Row.lease (κs .1 .1 .1 .1 .1 .0) (qs .1 .1 .1 .1 .1 .0)) (List._∷_ (Row.lease (κs .1 .1 .1 .1 .1 .1 .0) (qs .1 .1 .1 .1 .1 .1 .0)) (List._∷_ (Row.lease (κs .1 .1 .1 .1 .1 .1 .1 .0) (qs .1 .1 .1 .1 .1 .1 .1 .0)) (List._∷_ (Row.lease (κs .1 .1 .1 .1 .1 .1 .1 .1 .0) (qs .1 .1 .1 .1 .1 .1 .1 .1 .0)) (List._∷_ (Row.lease (κs .1 .1 .1 .1 .1 .1 .1 .1 .1 .0) (qs .1 .1 .1 .1 .1 .1 .1 .1 .1 .0)) (List._∷_ (Row.lease (κs .1 .1 .1 .1 .1 .1 .1 .1 .1 .1 .0) (qs .1 .1 .1 .1 .1 .1 .1 .1 .1 .1 .0)) (List._∷_ (Row.lease (κs .1 .1 .1 .1 .1 .1 .1 .1 .1 .1 .1 .0) (qs .1 .1 .1 .1 .1 .1 .1 .1 .1 .1 .1 .0)) (List._∷_ Row.off (List._∷_ Row.off (List._∷_ Row.off (List._∷_ Row.off (List._∷_ Row.off (List._∷_ Row.off (List._∷_ Row.off (List._∷_ Row.off (List._∷_ Row.off (List._∷_ Row.off (List._∷_ Row.off (List._∷_ Row.off (List._∷_ Row.off (List._∷_ Row.off (List._∷_ Row.off (List._∷_ Row.off List.[]))))))))))))))))))))))))))) }
+
+        abbrev G141 : Row.Cx
+        G141 = record { locals = List._++_ t0 (List._++_ t87 (List._++_ t2 t3)); slots = List._∷_ (Row.lease (κs .0) (qs .0)) (List._∷_ (Row.lease (κs .1 .0) (qs .1 .0)) (List._∷_ (Row.lease (κs .1 .1 .0) (qs .1 .1 .0)) (List._∷_ (Row.lease (κs .1 .1 .1 .0) (qs .1 .1 .1 .0)) (List._∷_ (Row.lease (κs .1 .1 .1 .1 .0) (qs .1 .1 .1 .1 .0)) (List._∷_ (Row.lease (κs .1 .1 .1 .1 .1 .0) (qs .1 .1 .1 .1 .1 .0)) (List._∷_ (Row.lease (κs .1 .1 .1 .1 .1 .1 .0) (qs .1 .1 .1 .1 .1 .1 .0)) (List._∷_ (Row.lease (κs .1 .1 .1 .1 .1 .1 .1 .0) (qs .1 .1 .1 .1 .1 .1 .1 .0)) (List._∷_ (Row.lease (κs .1 .1 .1 .1 .1 .1 .1 .1 .0) (qs .1 .1 .1 .1 .1 .1 .1 .1 .0)) (List._∷_ (Row.lease (κs .1 .1 .1 .1 .1 .1 .1 .1 .1 .0) (qs .1 .1 .1 .1 .1 .1 .1 .1 .1 .0)) (List._∷_ (Row.lease (κs .1 .1 .1 .1 .1 .1 .1 .1 .1 .1 .0) (qs .1 .1 .1 .1 .1 .1 .1 .1 .1 .1 .0)) (List._∷_ (Row.lease (κs .1 .1 .1 .1 .1 .1 .1 .1 .1 .1 .1 .0) (qs .1 .1 .1 .1 .1 .1 .1 .1 .1 .1 .1 .0)) (List._∷_ Row.off (List._∷_ Row.off (List._∷_ Row.off (List._∷_ Row.off (List._∷_ Row.off (List._∷_ Row.off (List._∷_ Row.off (List._∷_ Row.off (List._∷_ Row.off (List._∷_ Row.off (List._∷_ Row.off (List._∷_ Row.off (List._∷_ Row.off (List._∷_ Row.off (List._∷_ Row.alive (List._∷_ Row.off List.[]))))))))))))))))))))))))))) }
+
+        abbrev G142 : Row.Cx
+        G142 = record { locals = List._++_ g103 (List._++_ t87 (List._++_ t2 t104)); slots = List._∷_ (Row.lease (κs .0) (qs .0)) (List._∷_ Row.off (List._∷_ (Row.lease (κs .1 .1 .0) (qs .1 .1 .0)) (List._∷_ (Row.lease (κs .1 .1 .1 .0) (qs .1 .1 .1 .0)) (List._∷_ (Row.lease (κs .1 .1 .1 .1 .0) (qs .1 .1 .1 .1 .0)) (List._∷_ (Row.lease (κs .1 .1 .1 .1 .1 .0) (qs .1 .1 .1 .1 .1 .0)) (List._∷_ (Row.lease (κs .1 .1 .1 .1 .1 .1 .0) (qs .1 .1 .1 .1 .1 .1 .0)) (List._∷_ (Row.lease (κs .1 .1 .1 .1 .1 .1 .1 .0) (qs .1 .1 .1 .1 .1 .1 .1 .0)) (List._∷_ (Row.lease (κs .1 .1 .1 .1 .1 .1 .1 .1 .0) (qs .1 .1 .1 .1 .1 .1 .1 .1 .0)) (List._∷_ (Row.lease (κs .1 .1 .1 .1 .1 .1 .1 .1 .1 .0) (qs .1 .1 .1 .1 .1 .1 .1 .1 .1 .0)) (List._∷_ (Row.lease (κs .1 .1 .1 .1 .1 .1 .1 .1 .1 .1 .0) (qs .1 .1 .1 .1 .1 .1 .1 .1 .1 .1 .0)) (List._∷_ (Row.lease (κs .1 .1 .1 .1 .1 .1 .1 .1 .1 .1 .1 .0) (qs .1 .1 .1 .1 .1 .1 .1 .1 .1 .1 .1 .0)) (List._∷_ Row.off (List._∷_ Row.off (List._∷_ Row.off (List._∷_ Row.off (List._∷_ Row.off (List._∷_ Row.off (List._∷_ Row.off (List._∷_ Row.off (List._∷_ Row.off (List._∷_ Row.off (List._∷_ Row.off (List._∷_ Row.off (List._∷_ Row.off (List._∷_ Row.off (List._∷_ Row.alive (List._∷_ Row.off List.[]))))))))))))))))))))))))))) }
+
+        abbrev G143 : Row.Cx
+        G143 = record { locals = List._++_ g103 (List._++_ t87 (List._++_ t2 t105)); slots = List._∷_ (Row.lease (κs .0) (qs .0)) (List._∷_ Row.off (List._∷_ (Row.lease (κs .1 .1 .0) (qs .1 .1 .0)) (List._∷_ (Row.lease (κs .1 .1 .1 .0) (qs .1 .1 .1 .0)) (List._∷_ (Row.lease (κs .1 .1 .1 .1 .0) (qs .1 .1 .1 .1 .0)) (List._∷_ (Row.lease (κs .1 .1 .1 .1 .1 .0) (qs .1 .1 .1 .1 .1 .0)) (List._∷_ (Row.lease (κs .1 .1 .1 .1 .1 .1 .0) (qs .1 .1 .1 .1 .1 .1 .0)) (List._∷_ (Row.lease (κs .1 .1 .1 .1 .1 .1 .1 .0) (qs .1 .1 .1 .1 .1 .1 .1 .0)) (List._∷_ (Row.lease (κs .1 .1 .1 .1 .1 .1 .1 .1 .0) (qs .1 .1 .1 .1 .1 .1 .1 .1 .0)) (List._∷_ (Row.lease (κs .1 .1 .1 .1 .1 .1 .1 .1 .1 .0) (qs .1 .1 .1 .1 .1 .1 .1 .1 .1 .0)) (List._∷_ (Row.lease (κs .1 .1 .1 .1 .1 .1 .1 .1 .1 .1 .0) (qs .1 .1 .1 .1 .1 .1 .1 .1 .1 .1 .0)) (List._∷_ (Row.lease (κs .1 .1 .1 .1 .1 .1 .1 .1 .1 .1 .1 .0) (qs .1 .1 .1 .1 .1 .1 .1 .1 .1 .1 .1 .0)) (List._∷_ Row.off (List._∷_ Row.off (List._∷_ Row.off (List._∷_ Row.off (List._∷_ Row.off (List._∷_ Row.off (List._∷_ Row.off (List._∷_ Row.off (List._∷_ Row.off (List._∷_ Row.off (List._∷_ Row.off (List._∷_ Row.off (List._∷_ Row.off (List._∷_ Row.off (List._∷_ Row.alive (List._∷_ Row.off List.[]))))))))))))))))))))))))))) }
+
+        abbrev G144 : Row.Cx
+        G144 = record { locals = List._++_ g103 (List._++_ t87 (List._++_ t2 t105)); slots = List._∷_ (Row.lease (κs .0) (qs .0)) (List._∷_ Row.off (List._∷_ (Row.lease (κs .1 .1 .0) (qs .1 .1 .0)) (List._∷_ (Row.lease (κs .1 .1 .1 .0) (qs .1 .1 .1 .0)) (List._∷_ (Row.lease (κs .1 .1 .1 .1 .0) (qs .1 .1 .1 .1 .0)) (List._∷_ (Row.lease (κs .1 .1 .1 .1 .1 .0) (qs .1 .1 .1 .1 .1 .0)) (List._∷_ (Row.lease (κs .1 .1 .1 .1 .1 .1 .0) (qs .1 .1 .1 .1 .1 .1 .0)) (List._∷_ (Row.lease (κs .1 .1 .1 .1 .1 .1 .1 .0) (qs .1 .1 .1 .1 .1 .1 .1 .0)) (List._∷_ (Row.lease (κs .1 .1 .1 .1 .1 .1 .1 .1 .0) (qs .1 .1 .1 .1 .1 .1 .1 .1 .0)) (List._∷_ (Row.lease (κs .1 .1 .1 .1 .1 .1 .1 .1 .1 .0) (qs .1 .1 .1 .1 .1 .1 .1 .1 .1 .0)) (List._∷_ (Row.lease (κs .1 .1 .1 .1 .1 .1 .1 .1 .1 .1 .0) (qs .1 .1 .1 .1 .1 .1 .1 .1 .1 .1 .0)) (List._∷_ (Row.lease (κs .1 .1 .1 .1 .1 .1 .1 .1 .1 .1 .1 .0) (qs .1 .1 .1 .1 .1 .1 .1 .1 .1 .1 .1 .0)) (List._∷_ Row.off (List._∷_ Row.off (List._∷_ Row.off (List._∷_ Row.off (List._∷_ Row.off (List._∷_ Row.off (List._∷_ Row.off (List._∷_ Row.off (List._∷_ Row.off (List._∷_ Row.off (List._∷_ Row.off (List._∷_ Row.off (List._∷_ Row.off (List._∷_ Row.off (List._∷_ Row.alive (List._∷_ Row.alive List.[]))))))))))))))))))))))))))) }
+
+        abbrev G145 : Row.Cx
+        G145 = record { locals = List._++_ g106 (List._++_ t87 (List._++_ t2 t107)); slots = List._∷_ (Row.lease (κs .0) (qs .0)) (List._∷_ Row.off (List._∷_ (Row.lease (κs .1 .1 .0) (qs .1 .1 .0)) (List._∷_ (Row.lease (κs .1 .1 .1 .0) (qs .1 .1 .1 .0)) (List._∷_ (Row.lease (κs .1 .1 .1 .1 .0) (qs .1 .1 .1 .1 .0)) (List._∷_ (Row.lease (κs .1 .1 .1 .1 .1 .0) (qs .1 .1 .1 .1 .1 .0)) (List._∷_ (Row.lease (κs .1 .1 .1 .1 .1 .1 .0) (qs .1 .1 .1 .1 .1 .1 .0)) (List._∷_ (Row.lease (κs .1 .1 .1 .1 .1 .1 .1 .0) (qs .1 .1 .1 .1 .1 .1 .1 .0)) (List._∷_ (Row.lease (κs .1 .1 .1 .1 .1 .1 .1 .1 .0) (qs .1 .1 .1 .1 .1 .1 .1 .1 .0)) (List._∷_ Row.off (List._∷_ (Row.lease (κs .1 .1 .1 .1 .1 .1 .1 .1 .1 .1 .0) (qs .1 .1 .1 .1 .1 .1 .1 .1 .1 .1 .0)) (List._∷_ (Row.lease (κs .1 .1 .1 .1 .1 .1 .1 .1 .1 .1 .1 .0) (qs .1 .1 .1 .1 .1 .1 .1 .1 .1 .1 .1 .0)) (List._∷_ Row.off (List._∷_ Row.off (List._∷_ Row.off (List._∷_ Row.off (List._∷_ Row.off (List._∷_ Row.off (List._∷_ Row.off (List._∷_ Row.off (List._∷_ Row.off (List._∷_ Row.off (List._∷_ Row.off (List._∷_ Row.off (List._∷_ Row.off (List._∷_ Row.off (List._∷_ Row.alive (List._∷_ Row.alive List.[]))))))))))))))))))))))))))) }
+
+        abbrev G146 : Row.Cx
+        G146 = record { locals = List._++_ g106 (List._++_ t87 (List._++_ t2 t108)); slots = List._∷_ (Row.lease (κs .0) (qs .0)) (List._∷_ Row.off (List._∷_ (Row.lease (κs .1 .1 .0) (qs .1 .1 .0)) (List._∷_ (Row.lease (κs .1 .1 .1 .0) (qs .1 .1 .1 .0)) (List._∷_ (Row.lease (κs .1 .1 .1 .1 .0) (qs .1 .1 .1 .1 .0)) (List._∷_ (Row.lease (κs .1 .1 .1 .1 .1 .0) (qs .1 .1 .1 .1 .1 .0)) (List._∷_ (Row.lease (κs .1 .1 .1 .1 .1 .1 .0) (qs .1 .1 .1 .1 .1 .1 .0)) (List._∷_ (Row.lease (κs .1 .1 .1 .1 .1 .1 .1 .0) (qs .1 .1 .1 .1 .1 .1 .1 .0)) (List._∷_ (Row.lease (κs .1 .1 .1 .1 .1 .1 .1 .1 .0) (qs .1 .1 .1 .1 .1 .1 .1 .1 .0)) (List._∷_ Row.off (List._∷_ (Row.lease (κs .1 .1 .1 .1 .1 .1 .1 .1 .1 .1 .0) (qs .1 .1 .1 .1 .1 .1 .1 .1 .1 .1 .0)) (List._∷_ (Row.lease (κs .1 .1 .1 .1 .1 .1 .1 .1 .1 .1 .1 .0) (qs .1 .1 .1 .1 .1 .1 .1 .1 .1 .1 .1 .0)) (List._∷_ Row.off (List._∷_ Row.off (List._∷_ Row.off (List._∷_ Row.off (List._∷_ Row.off (List._∷_ Row.off (List._∷_ Row.off (List._∷_ Row.off (List._∷_ Row.off (List._∷_ Row.off (List._∷_ Row.off (List._∷_ Row.off (List._∷_ Row.off (List._∷_ Row.off (List._∷_ Row.alive (List._∷_ Row.alive List.[]))))))))))))))))))))))))))) }
+
+        abbrev G147 : Row.Cx
+        G147 = record { locals = List._++_ g106 (List._++_ t87 (List._++_ t2 t109)); slots = List._∷_ (Row.lease (κs .0) (qs .0)) (List._∷_ Row.off (List._∷_ (Row.lease (κs .1 .1 .0) (qs .1 .1 .0)) (List._∷_ (Row.lease (κs .1 .1 .1 .0) (qs .1 .1 .1 .0)) (List._∷_ (Row.lease (κs .1 .1 .1 .1 .0) (qs .1 .1 .1 .1 .0)) (List._∷_ (Row.lease (κs .1 .1 .1 .1 .1 .0) (qs .1 .1 .1 .1 .1 .0)) (List._∷_ (Row.lease (κs .1 .1 .1 .1 .1 .1 .0) (qs .1 .1 .1 .1 .1 .1 .0)) (List._∷_ (Row.lease (κs .1 .1 .1 .1 .1 .1 .1 .0) (qs .1 .1 .1 .1 .1 .1 .1 .0)) (List._∷_ (Row.lease (κs .1 .1 .1 .1 .1 .1 .1 .1 .0) (qs .1 .1 .1 .1 .1 .1 .1 .1 .0)) (List._∷_ Row.off (List._∷_ (Row.lease (κs .1 .1 .1 .1 .1 .1 .1 .1 .1 .1 .0) (qs .1 .1 .1 .1 .1 .1 .1 .1 .1 .1 .0)) (List._∷_ (Row.lease (κs .1 .1 .1 .1 .1 .1 .1 .1 .1 .1 .1 .0) (qs .1 .1 .1 .1 .1 .1 .1 .1 .1 .1 .1 .0)) (List._∷_ Row.off (List._∷_ Row.off (List._∷_ Row.off (List._∷_ Row.off (List._∷_ Row.off (List._∷_ Row.off (List._∷_ Row.off (List._∷_ Row.off (List._∷_ Row.off (List._∷_ Row.off (List._∷_ Row.off (List._∷_ Row.off (List._∷_ Row.off (List._∷_ Row.off (List._∷_ Row.alive (List._∷_ Row.alive List.[]))))))))))))))))))))))))))) }
+
+        abbrev G148 : Row.Cx
+        G148 = record { locals = List._++_ g106 (List._++_ t87 (List._++_ t2 t110)); slots = List._∷_ (Row.lease (κs .0) (qs .0)) (List._∷_ Row.off (List._∷_ (Row.lease (κs .1 .1 .0) (qs .1 .1 .0)) (List._∷_ (Row.lease (κs .1 .1 .1 .0) (qs .1 .1 .1 .0)) (List._∷_ (Row.lease (κs .1 .1 .1 .1 .0) (qs .1 .1 .1 .1 .0)) (List._∷_ (Row.lease (κs .1 .1 .1 .1 .1 .0) (qs .1 .1 .1 .1 .1 .0)) (List._∷_ (Row.lease (κs .1 .1 .1 .1 .1 .1 .0) (qs .1 .1 .1 .1 .1 .1 .0)) (List._∷_ (Row.lease (κs .1 .1 .1 .1 .1 .1 .1 .0) (qs .1 .1 .1 .1 .1 .1 .1 .0)) (List._∷_ (Row.lease (κs .1 .1 .1 .1 .1 .1 .1 .1 .0) (qs .1 .1 .1 .1 .1 .1 .1 .1 .0)) (List._∷_ Row.off (List._∷_ (Row.lease (κs .1 .1 .1 .1 .1 .1 .1 .1 .1 .1 .0) (qs .1 .1 .1 .1 .1 .1 .1 .1 .1 .1 .0)) (List._∷_ (Row.lease (κs .1 .1 .1 .1 .1 .1 .1 .1 .1 .1 .1 .0) (qs .1 .1 .1 .1 .1 .1 .1 .1 .1 .1 .1 .0)) (List._∷_ Row.off (List._∷_ Row.off (List._∷_ Row.off (List._∷_ Row.off (List._∷_ Row.off (List._∷_ Row.off (List._∷_ Row.off (List._∷_ Row.off (List._∷_ Row.off (List._∷_ Row.off (List._∷_ Row.off (List._∷_ Row.off (List._∷_ Row.off (List._∷_ Row.off (List._∷_ Row.alive (List._∷_ Row.alive List.[]))))))))))))))))))))))))))) }
+
+        abbrev G149 : Row.Cx
+        G149 = record { locals = List._++_ g106 (List._++_ t87 (List._++_ t2 t111)); slots = List._∷_ (Row.lease (κs .0) (qs .0)) (List._∷_ Row.off (List._∷_ (Row.lease (κs .1 .1 .0) (qs .1 .1 .0)) (List._∷_ (Row.lease (κs .1 .1 .1 .0) (qs .1 .1 .1 .0)) (List._∷_ (Row.lease (κs .1 .1 .1 .1 .0) (qs .1 .1 .1 .1 .0)) (List._∷_ (Row.lease (κs .1 .1 .1 .1 .1 .0) (qs .1 .1 .1 .1 .1 .0)) (List._∷_ (Row.lease (κs .1 .1 .1 .1 .1 .1 .0) (qs .1 .1 .1 .1 .1 .1 .0)) (List._∷_ (Row.lease (κs .1 .1 .1 .1 .1 .1 .1 .0) (qs .1 .1 .1 .1 .1 .1 .1 .0)) (List._∷_ (Row.lease (κs .1 .1 .1 .1 .1 .1 .1 .1 .0) (qs .1 .1 .1 .1 .1 .1 .1 .1 .0)) (List._∷_ Row.off (List._∷_ (Row.lease (κs .1 .1 .1 .1 .1 .1 .1 .1 .1 .1 .0) (qs .1 .1 .1 .1 .1 .1 .1 .1 .1 .1 .0)) (List._∷_ (Row.lease (κs .1 .1 .1 .1 .1 .1 .1 .1 .1 .1 .1 .0) (qs .1 .1 .1 .1 .1 .1 .1 .1 .1 .1 .1 .0)) (List._∷_ Row.off (List._∷_ Row.off (List._∷_ Row.off (List._∷_ Row.off (List._∷_ Row.off (List._∷_ Row.off (List._∷_ Row.off (List._∷_ Row.off (List._∷_ Row.off (List._∷_ Row.off (List._∷_ Row.off (List._∷_ Row.off (List._∷_ Row.off (List._∷_ Row.off (List._∷_ Row.alive (List._∷_ Row.alive List.[]))))))))))))))))))))))))))) }
+
+        abbrev G150 : Row.Cx
+        G150 = record { locals = List._++_ g106 (List._++_ t87 (List._++_ t2 t111)); slots = List._∷_ (Row.lease (κs .0) (qs .0)) (List._∷_ Row.off (List._∷_ (Row.lease (κs .1 .1 .0) (qs .1 .1 .0)) (List._∷_ (Row.lease (κs .1 .1 .1 .0) (qs .1 .1 .1 .0)) (List._∷_ (Row.lease (κs .1 .1 .1 .1 .0) (qs .1 .1 .1 .1 .0)) (List._∷_ (Row.lease (κs .1 .1 .1 .1 .1 .0) (qs .1 .1 .1 .1 .1 .0)) (List._∷_ (Row.lease (κs .1 .1 .1 .1 .1 .1 .0) (qs .1 .1 .1 .1 .1 .1 .0)) (List._∷_ (Row.lease (κs .1 .1 .1 .1 .1 .1 .1 .0) (qs .1 .1 .1 .1 .1 .1 .1 .0)) (List._∷_ (Row.lease (κs .1 .1 .1 .1 .1 .1 .1 .1 .0) (qs .1 .1 .1 .1 .1 .1 .1 .1 .0)) (List._∷_ Row.off (List._∷_ (Row.lease (κs .1 .1 .1 .1 .1 .1 .1 .1 .1 .1 .0) (qs .1 .1 .1 .1 .1 .1 .1 .1 .1 .1 .0)) (List._∷_ (Row.lease (κs .1 .1 .1 .1 .1 .1 .1 .1 .1 .1 .1 .0) (qs .1 .1 .1 .1 .1 .1 .1 .1 .1 .1 .1 .0)) (List._∷_ Row.off (List._∷_ Row.off (List._∷_ Row.off (List._∷_ Row.off (List._∷_ Row.off (List._∷_ Row.off (List._∷_ Row.off (List._∷_ Row.off (List._∷_ Row.off (List._∷_ Row.off (List._∷_ Row.off (List._∷_ Row.off (List._∷_ Row.off (List._∷_ Row.off (List._∷_ Row.dead (List._∷_ Row.alive List.[]))))))))))))))))))))))))))) }
+
+        abbrev G151 : Row.Cx
+        G151 = record { locals = List._++_ g112 (List._++_ t87 (List._++_ t2 t3)); slots = List._∷_ (Row.lease (κs .0) (qs .0)) (List._∷_ (Row.lease (κs .1 .0) (qs .1 .0)) (List._∷_ (Row.lease (κs .1 .1 .0) (qs .1 .1 .0)) (List._∷_ (Row.lease (κs .1 .1 .1 .0) (qs .1 .1 .1 .0)) (List._∷_ (Row.lease (κs .1 .1 .1 .1 .0) (qs .1 .1 .1 .1 .0)) (List._∷_ (Row.lease (κs .1 .1 .1 .1 .1 .0) (qs .1 .1 .1 .1 .1 .0)) (List._∷_ (Row.lease (κs .1 .1 .1 .1 .1 .1 .0) (qs .1 .1 .1 .1 .1 .1 .0)) (List._∷_ (Row.lease (κs .1 .1 .1 .1 .1 .1 .1 .0) (qs .1 .1 .1 .1 .1 .1 .1 .0)) (List._∷_ (Row.lease (κs .1 .1 .1 .1 .1 .1 .1 .1 .0) (qs .1 .1 .1 .1 .1 .1 .1 .1 .0)) (List._∷_ Row.off (List._∷_ (Row.lease (κs .1 .1 .1 .1 .1 .1 .1 .1 .1 .1 .0) (qs .1 .1 .1 .1 .1 .1 .1 .1 .1 .1 .0)) (List._∷_ (Row.lease (κs .1 .1 .1 .1 .1 .1 .1 .1 .1 .1 .1 .0) (qs .1 .1 .1 .1 .1 .1 .1 .1 .1 .1 .1 .0)) (List._∷_ Row.off (List._∷_ Row.off (List._∷_ Row.off (List._∷_ Row.off (List._∷_ Row.off (List._∷_ Row.off (List._∷_ Row.off (List._∷_ Row.off (List._∷_ Row.off (List._∷_ Row.off (List._∷_ Row.off (List._∷_ Row.off (List._∷_ Row.off (List._∷_ Row.off (List._∷_ Row.dead (List._∷_ Row.alive List.[]))))))))))))))))))))))))))) }
+
+        abbrev G152 : Row.Cx
+        G152 = record { locals = List._++_ g112 (List._++_ t87 (List._++_ t2 t3)); slots = List._∷_ (Row.lease (κs .0) (qs .0)) (List._∷_ (Row.lease (κs .1 .0) (qs .1 .0)) (List._∷_ (Row.lease (κs .1 .1 .0) (qs .1 .1 .0)) (List._∷_ (Row.lease (κs .1 .1 .1 .0) (qs .1 .1 .1 .0)) (List._∷_ (Row.lease (κs .1 .1 .1 .1 .0) (qs .1 .1 .1 .1 .0)) (List._∷_ (Row.lease (κs .1 .1 .1 .1 .1 .0) (qs .1 .1 .1 .1 .1 .0)) (List._∷_ (Row.lease (κs .1 .1 .1 .1 .1 .1 .0) (qs .1 .1 .1 .1 .1 .1 .0)) (List._∷_ (Row.lease (κs .1 .1 .1 .1 .1 .1 .1 .0) (qs .1 .1 .1 .1 .1 .1 .1 .0)) (List._∷_ (Row.lease (κs .1 .1 .1 .1 .1 .1 .1 .1 .0) (qs .1 .1 .1 .1 .1 .1 .1 .1 .0)) (List._∷_ Row.off (List._∷_ (Row.lease (κs .1 .1 .1 .1 .1 .1 .1 .1 .1 .1 .0) (qs .1 .1 .1 .1 .1 .1 .1 .1 .1 .1 .0)) (List._∷_ (Row.lease (κs .1 .1 .1 .1 .1 .1 .1 .1 .1 .1 .1 .0) (qs .1 .1 .1 .1 .1 .1 .1 .1 .1 .1 .1 .0)) (List._∷_ Row.off (List._∷_ Row.off (List._∷_ Row.off (List._∷_ Row.off (List._∷_ Row.off (List._∷_ Row.off (List._∷_ Row.off (List._∷_ Row.off (List._∷_ Row.off (List._∷_ Row.off (List._∷_ Row.off (List._∷_ Row.off (List._∷_ Row.off (List._∷_ Row.off (List._∷_ Row.off (List._∷_ Row.alive List.[]))))))))))))))))))))))))))) }
+
+        abbrev G153 : Row.Cx
+        G153 = record { locals = List._++_ g112 (List._++_ t87 (List._++_ t2 t3)); slots = List._∷_ (Row.lease (κs .0) (qs .0)) (List._∷_ (Row.lease (κs .1 .0) (qs .1 .0)) (List._∷_ (Row.lease (κs .1 .1 .0) (qs .1 .1 .0)) (List._∷_ (Row.lease (κs .1 .1 .1 .0) (qs .1 .1 .1 .0)) (List._∷_ (Row.lease (κs .1 .1 .1 .1 .0) (qs .1 .1 .1 .1 .0)) (List._∷_ (Row.lease (κs .1 .1 .1 .1 .1 .0) (qs .1 .1 .1 .1 .1 .0)) (List._∷_ (Row.lease (κs .1 .1 .1 .1 .1 .1 .0) (qs .1 .1 .1 .1 .1 .1 .0)) (List._∷_ (Row.lease (κs .1 .1 .1 .1 .1 .1 .1 .0) (qs .1 .1 .1 .1 .1 .1 .1 .0)) (List._∷_ (Row.lease (κs .1 .1 .1 .1 .1 .1 .1 .1 .0) (qs .1 .1 .1 .1 .1 .1 .1 .1 .0)) (List._∷_ Row.off (List._∷_ (Row.lease (κs .1 .1 .1 .1 .1 .1 .1 .1 .1 .1 .0) (qs .1 .1 .1 .1 .1 .1 .1 .1 .1 .1 .0)) (List._∷_ (Row.lease (κs .1 .1 .1 .1 .1 .1 .1 .1 .1 .1 .1 .0) (qs .1 .1 .1 .1 .1 .1 .1 .1 .1 .1 .1 .0)) (List._∷_ Row.off (List._∷_ Row.off (List._∷_ Row.off (List._∷_ Row.off (List._∷_ Row.off (List._∷_ Row.off (List._∷_ Row.off (List._∷_ Row.off (List._∷_ Row.off (List._∷_ Row.off (List._∷_ Row.off (List._∷_ Row.off (List._∷_ Row.off (List._∷_ Row.off (List._∷_ Row.off (List._∷_ Row.dead List.[]))))))))))))))))))))))))))) }
+
+        abbrev G154 : Row.Cx
+        G154 = record { locals = List._++_ t0 (List._++_ t87 (List._++_ t2 t3)); slots = List._∷_ (Row.lease (κs .0) (qs .0)) (List._∷_ (Row.lease (κs .1 .0) (qs .1 .0)) (List._∷_ (Row.lease (κs .1 .1 .0) (qs .1 .1 .0)) (List._∷_ (Row.lease (κs .1 .1 .1 .0) (qs .1 .1 .1 .0)) (List._∷_ (Row.lease (κs .1 .1 .1 .1 .0) (qs .1 .1 .1 .1 .0)) (List._∷_ (Row.lease (κs .1 .1 .1 .1 .1 .0) (qs .1 .1 .1 .1 .1 .0)) (List._∷_ (Row.lease (κs .1 .1 .1 .1 .1 .1 .0) (qs .1 .1 .1 .1 .1 .1 .0)) (List._∷_ (Row.lease (κs .1 .1 .1 .1 .1 .1 .1 .0) (qs .1 .1 .1 .1 .1 .1 .1 .0)) (List._∷_ (Row.lease (κs .1 .1 .1 .1 .1 .1 .1 .1 .0) (qs .1 .1 .1 .1 .1 .1 .1 .1 .0)) (List._∷_ (Row.lease (κs .1 .1 .1 .1 .1 .1 .1 .1 .1 .0) (qs .1 .1 .1 .1 .1 .1 .1 .1 .1 .0)) (List._∷_ (Row.lease (κs .1 .1 .1 .1 .1 .1 .1 .1 .1 .1 .0) (qs .1 .1 .1 .1 .1 .1 .1 .1 .1 .1 .0)) (List._∷_ (Row.lease (κs .1 .1 .1 .1 .1 .1 .1 .1 .1 .1 .1 .0) (qs .1 .1 .1 .1 .1 .1 .1 .1 .1 .1 .1 .0)) (List._∷_ Row.off (List._∷_ Row.off (List._∷_ Row.off (List._∷_ Row.off (List._∷_ Row.off (List._∷_ Row.off (List._∷_ Row.off (List._∷_ Row.off (List._∷_ Row.off (List._∷_ Row.off (List._∷_ Row.off (List._∷_ Row.off (List._∷_ Row.off (List._∷_ Row.off (List._∷_ Row.off (List._∷_ Row.dead List.[]))))))))))))))))))))))))))) }
+
+        abbrev G155 : Row.Cx
+        G155 = record { locals = List._++_ t0 (List._++_ t87 (List._++_ t2 t3)); slots = List._∷_ (Row.lease (κs .0) (qs .0)) (List._∷_ (Row.lease (κs .1 .0) (qs .1 .0)) (List._∷_ (Row.lease (κs .1 .1 .0) (qs .1 .1 .0)) (List._∷_ (Row.lease (κs .1 .1 .1 .0) (qs .1 .1 .1 .0)) (List._∷_ (Row.lease (κs .1 .1 .1 .1 .0) (qs .1 .1 .1 .1 .0)) (List._∷_ (Row.lease (κs .1 .1 .1 .1 .1 .0) (qs .1 .1 .1 .1 .1 .0)) (List._∷_ (Row.lease (κs .1 .1 .1 .1 .1 .1 .0) (qs .1 .1 .1 .1 .1 .1 .0)) (List._∷_ (Row.lease (κs .1 .1 .1 .1 .1 .1 .1 .0) (qs .1 .1 .1 .1 .1 .1 .1 .0)) (List._∷_ (Row.lease (κs .1 .1 .1 .1 .1 .1 .1 .1 .0) (qs .1 .1 .1 .1 .1 .1 .1 .1 .0)) (List._∷_ (Row.lease (κs .1 .1 .1 .1 .1 .1 .1 .1 .1 .0) (qs .1 .1 .1 .1 .1 .1 .1 .1 .1 .0)) (List._∷_ (Row.lease (κs .1 .1 .1 .1 .1 .1 .1 .1 .1 .1 .0) (qs .1 .1 .1 .1 .1 .1 .1 .1 .1 .1 .0)) (List._∷_ (Row.lease (κs .1 .1 .1 .1 .1 .1 .1 .1 .1 .1 .1 .0) (qs .1 .1 .1 .1 .1 .1 .1 .1 .1 .1 .1 .0)) (List._∷_ Row.off (List._∷_ Row.off (List._∷_ Row.off (List._∷_ Row.off (List._∷_ Row.off (List._∷_ Row.off (List._∷_ Row.off (List._∷_ Row.off (List._∷_ Row.off (List._∷_ Row.off (List._∷_ Row.off (List._∷_ Row.off (List._∷_ Row.off (List._∷_ Row.off (List._∷_ Row.off (List._∷_ Row.off List.[]))))))))))))))))))))))))))) }
+
+        abbrev G156 : Row.Cx
+        G156 = record { locals = List._++_ t49 (List._++_ t87 (List._++_ t2 t3)); slots = List._∷_ (Row.lease (κs .0) (qs .0)) (List._∷_ (Row.lease (κs .1 .0) (qs .1 .0)) (List._∷_ (Row.lease (κs .1 .1 .0) (qs .1 .1 .0)) (List._∷_ (Row.lease (κs .1 .1 .1 .0) (qs .1 .1 .1 .0)) (List._∷_ (Row.lease (κs .1 .1 .1 .1 .0) (qs .1 .1 .1 .1 .0)) (List._∷_ (Row.lease (κs .1 .1 .1 .1 .1 .0) (qs .1 .1 .1 .1 .1 .0)) (List._∷_ (Row.lease (κs .1 .1 .1 .1 .1 .1 .0) (qs .1 .1 .1 .1 .1 .1 .0)) (List._∷_ (Row.lease (κs .1 .1 .1 .1 .1 .1 .1 .0) (qs .1 .1 .1 .1 .1 .1 .1 .0)) (List._∷_ (Row.lease (κs .1 .1 .1 .1 .1 .1 .1 .1 .0) (qs .1 .1 .1 .1 .1 .1 .1 .1 .0)) (List._∷_ (Row.lease (κs .1 .1 .1 .1 .1 .1 .1 .1 .1 .0) (qs .1 .1 .1 .1 .1 .1 .1 .1 .1 .0)) (List._∷_ (Row.lease (κs .1 .1 .1 .1 .1 .1 .1 .1 .1 .1 .0) (qs .1 .1 .1 .1 .1 .1 .1 .1 .1 .1 .0)) (List._∷_ (Row.lease (κs .1 .1 .1 .1 .1 .1 .1 .1 .1 .1 .1 .0) (qs .1 .1 .1 .1 .1 .1 .1 .1 .1 .1 .1 .0)) (List._∷_ Row.off (List._∷_ Row.off (List._∷_ Row.off (List._∷_ Row.off (List._∷_ Row.off (List._∷_ Row.off (List._∷_ Row.off (List._∷_ Row.off (List._∷_ Row.off (List._∷_ Row.off (List._∷_ Row.off (List._∷_ Row.off (List._∷_ Row.off (List._∷_ Row.off (List._∷_ Row.off (List._∷_ Row.off List.[]))))))))))))))))))))))))))) }
+
+        abbrev G157 : Row.Cx
+        G157 = record { locals = List._++_ t49 (List._++_ t113 (List._++_ t2 t3)); slots = List._∷_ (Row.lease (κs .0) (qs .0)) (List._∷_ (Row.lease (κs .1 .0) (qs .1 .0)) (List._∷_ (Row.lease (κs .1 .1 .0) (qs .1 .1 .0)) (List._∷_ (Row.lease (κs .1 .1 .1 .0) (qs .1 .1 .1 .0)) (List._∷_ (Row.lease (κs .1 .1 .1 .1 .0) (qs .1 .1 .1 .1 .0)) (List._∷_ (Row.lease (κs .1 .1 .1 .1 .1 .0) (qs .1 .1 .1 .1 .1 .0)) (List._∷_ (Row.lease (κs .1 .1 .1 .1 .1 .1 .0) (qs .1 .1 .1 .1 .1 .1 .0)) (List._∷_ (Row.lease (κs .1 .1 .1 .1 .1 .1 .1 .0) (qs .1 .1 .1 .1 .1 .1 .1 .0)) (List._∷_ (Row.lease (κs .1 .1 .1 .1 .1 .1 .1 .1 .0) (qs .1 .1 .1 .1 .1 .1 .1 .1 .0)) (List._∷_ (Row.lease (κs .1 .1 .1 .1 .1 .1 .1 .1 .1 .0) (qs .1 .1 .1 .1 .1 .1 .1 .1 .1 .0)) (List._∷_ (Row.lease (κs .1 .1 .1 .1 .1 .1 .1 .1 .1 .1 .0) (qs .1 .1 .1 .1 .1 .1 .1 .1 .1 .1 .0)) (List._∷_ (Row.lease (κs .1 .1 .1 .1 .1 .1 .1 .1 .1 .1 .1 .0) (qs .1 .1 .1 .1 .1 .1 .1 .1 .1 .1 .1 .0)) (List._∷_ Row.off (List._∷_ Row.off (List._∷_ Row.off (List._∷_ Row.off (List._∷_ Row.off (List._∷_ Row.off (List._∷_ Row.off (List._∷_ Row.off (List._∷_ Row.off (List._∷_ Row.off (List._∷_ Row.off (List._∷_ Row.off (List._∷_ Row.off (List._∷_ Row.off (List._∷_ Row.off (List._∷_ Row.off List.[]))))))))))))))))))))))))))) }
+
+        abbrev G158 : Row.Cx
+        G158 = record { locals = List._++_ t49 (List._++_ t1 (List._++_ t2 t3)); slots = List._∷_ (Row.lease (κs .0) (qs .0)) (List._∷_ (Row.lease (κs .1 .0) (qs .1 .0)) (List._∷_ (Row.lease (κs .1 .1 .0) (qs .1 .1 .0)) (List._∷_ (Row.lease (κs .1 .1 .1 .0) (qs .1 .1 .1 .0)) (List._∷_ (Row.lease (κs .1 .1 .1 .1 .0) (qs .1 .1 .1 .1 .0)) (List._∷_ (Row.lease (κs .1 .1 .1 .1 .1 .0) (qs .1 .1 .1 .1 .1 .0)) (List._∷_ (Row.lease (κs .1 .1 .1 .1 .1 .1 .0) (qs .1 .1 .1 .1 .1 .1 .0)) (List._∷_ (Row.lease (κs .1 .1 .1 .1 .1 .1 .1 .0) (qs .1 .1 .1 .1 .1 .1 .1 .0)) (List._∷_ (Row.lease (κs .1 .1 .1 .1 .1 .1 .1 .1 .0) (qs .1 .1 .1 .1 .1 .1 .1 .1 .0)) (List._∷_ (Row.lease (κs .1 .1 .1 .1 .1 .1 .1 .1 .1 .0) (qs .1 .1 .1 .1 .1 .1 .1 .1 .1 .0)) (List._∷_ (Row.lease (κs .1 .1 .1 .1 .1 .1 .1 .1 .1 .1 .0) (qs .1 .1 .1 .1 .1 .1 .1 .1 .1 .1 .0)) (List._∷_ (Row.lease (κs .1 .1 .1 .1 .1 .1 .1 .1 .1 .1 .1 .0) (qs .1 .1 .1 .1 .1 .1 .1 .1 .1 .1 .1 .0)) (List._∷_ Row.off (List._∷_ Row.off (List._∷_ Row.off (List._∷_ Row.off (List._∷_ Row.off (List._∷_ Row.off (List._∷_ Row.off (List._∷_ Row.off (List._∷_ Row.off (List._∷_ Row.off (List._∷_ Row.off (List._∷_ Row.off (List._∷_ Row.off (List._∷_ Row.off (List._∷_ Row.off (List._∷_ Row.off List.[]))))))))))))))))))))))))))) }
+
+        abbrev G159 : Row.Cx
+        G159 = record { locals = List._++_ t52 (List._++_ t1 (List._++_ t2 t3)); slots = List._∷_ (Row.lease (κs .0) (qs .0)) (List._∷_ (Row.lease (κs .1 .0) (qs .1 .0)) (List._∷_ (Row.lease (κs .1 .1 .0) (qs .1 .1 .0)) (List._∷_ (Row.lease (κs .1 .1 .1 .0) (qs .1 .1 .1 .0)) (List._∷_ (Row.lease (κs .1 .1 .1 .1 .0) (qs .1 .1 .1 .1 .0)) (List._∷_ (Row.lease (κs .1 .1 .1 .1 .1 .0) (qs .1 .1 .1 .1 .1 .0)) (List._∷_ (Row.lease (κs .1 .1 .1 .1 .1 .1 .0) (qs .1 .1 .1 .1 .1 .1 .0)) (List._∷_ (Row.lease (κs .1 .1 .1 .1 .1 .1 .1 .0) (qs .1 .1 .1 .1 .1 .1 .1 .0)) (List._∷_ (Row.lease (κs .1 .1 .1 .1 .1 .1 .1 .1 .0) (qs .1 .1 .1 .1 .1 .1 .1 .1 .0)) (List._∷_ (Row.lease (κs .1 .1 .1 .1 .1 .1 .1 .1 .1 .0) (qs .1 .1 .1 .1 .1 .1 .1 .1 .1 .0)) (List._∷_ (Row.lease (κs .1 .1 .1 .1 .1 .1 .1 .1 .1 .1 .0) (qs .1 .1 .1 .1 .1 .1 .1 .1 .1 .1 .0)) (List._∷_ (Row.lease (κs .1 .1 .1 .1 .1 .1 .1 .1 .1 .1 .1 .0) (qs .1 .1 .1 .1 .1 .1 .1 .1 .1 .1 .1 .0)) (List._∷_ Row.off (List._∷_ Row.off (List._∷_ Row.off (List._∷_ Row.off (List._∷_ Row.off (List._∷_ Row.off (List._∷_ Row.off (List._∷_ Row.off (List._∷_ Row.off (List._∷_ Row.off (List._∷_ Row.off (List._∷_ Row.off (List._∷_ Row.off (List._∷_ Row.off (List._∷_ Row.off (List._∷_ Row.off List.[]))))))))))))))))))))))))))) }
+
+        abbrev G160 : Row.Cx
+        G160 = record { locals = List._++_ t53 (List._++_ t1 (List._++_ t2 t3)); slots = List._∷_ (Row.lease (κs .0) (qs .0)) (List._∷_ (Row.lease (κs .1 .0) (qs .1 .0)) (List._∷_ (Row.lease (κs .1 .1 .0) (qs .1 .1 .0)) (List._∷_ (Row.lease (κs .1 .1 .1 .0) (qs .1 .1 .1 .0)) (List._∷_ (Row.lease (κs .1 .1 .1 .1 .0) (qs .1 .1 .1 .1 .0)) (List._∷_ (Row.lease (κs .1 .1 .1 .1 .1 .0) (qs .1 .1 .1 .1 .1 .0)) (List._∷_ (Row.lease (κs .1 .1 .1 .1 .1 .1 .0) (qs .1 .1 .1 .1 .1 .1 .0)) (List._∷_ (Row.lease (κs .1 .1 .1 .1 .1 .1 .1 .0) (qs .1 .1 .1 .1 .1 .1 .1 .0)) (List._∷_ (Row.lease (κs .1 .1 .1 .1 .1 .1 .1 .1 .0) (qs .1 .1 .1 .1 .1 .1 .1 .1 .0)) (List._∷_ (Row.lease (κs .1 .1 .1 .1 .1 .1 .1 .1 .1 .0) (qs .1 .1 .1 .1 .1 .1 .1 .1 .1 .0)) (List._∷_ (Row.lease (κs .1 .1 .1 .1 .1 .1 .1 .1 .1 .1 .0) (qs .1 .1 .1 .1 .1 .1 .1 .1 .1 .1 .0)) (List._∷_ (Row.lease (κs .1 .1 .1 .1 .1 .1 .1 .1 .1 .1 .1 .0) (qs .1 .1 .1 .1 .1 .1 .1 .1 .1 .1 .1 .0)) (List._∷_ Row.off (List._∷_ Row.off (List._∷_ Row.off (List._∷_ Row.off (List._∷_ Row.off (List._∷_ Row.off (List._∷_ Row.off (List._∷_ Row.off (List._∷_ Row.off (List._∷_ Row.off (List._∷_ Row.off (List._∷_ Row.off (List._∷_ Row.off (List._∷_ Row.off (List._∷_ Row.off (List._∷_ Row.off List.[]))))))))))))))))))))))))))) }
+
+        abbrev G161 : Row.Cx
+        G161 = record { locals = List._++_ t54 (List._++_ t1 (List._++_ t2 t3)); slots = List._∷_ (Row.lease (κs .0) (qs .0)) (List._∷_ (Row.lease (κs .1 .0) (qs .1 .0)) (List._∷_ (Row.lease (κs .1 .1 .0) (qs .1 .1 .0)) (List._∷_ (Row.lease (κs .1 .1 .1 .0) (qs .1 .1 .1 .0)) (List._∷_ (Row.lease (κs .1 .1 .1 .1 .0) (qs .1 .1 .1 .1 .0)) (List._∷_ (Row.lease (κs .1 .1 .1 .1 .1 .0) (qs .1 .1 .1 .1 .1 .0)) (List._∷_ (Row.lease (κs .1 .1 .1 .1 .1 .1 .0) (qs .1 .1 .1 .1 .1 .1 .0)) (List._∷_ (Row.lease (κs .1 .1 .1 .1 .1 .1 .1 .0) (qs .1 .1 .1 .1 .1 .1 .1 .0)) (List._∷_ (Row.lease (κs .1 .1 .1 .1 .1 .1 .1 .1 .0) (qs .1 .1 .1 .1 .1 .1 .1 .1 .0)) (List._∷_ (Row.lease (κs .1 .1 .1 .1 .1 .1 .1 .1 .1 .0) (qs .1 .1 .1 .1 .1 .1 .1 .1 .1 .0)) (List._∷_ (Row.lease (κs .1 .1 .1 .1 .1 .1 .1 .1 .1 .1 .0) (qs .1 .1 .1 .1 .1 .1 .1 .1 .1 .1 .0)) (List._∷_ (Row.lease (κs .1 .1 .1 .1 .1 .1 .1 .1 .1 .1 .1 .0) (qs .1 .1 .1 .1 .1 .1 .1 .1 .1 .1 .1 .0)) (List._∷_ Row.off (List._∷_ Row.off (List._∷_ Row.off (List._∷_ Row.off (List._∷_ Row.off (List._∷_ Row.off (List._∷_ Row.off (List._∷_ Row.off (List._∷_ Row.off (List._∷_ Row.off (List._∷_ Row.off (List._∷_ Row.off (List._∷_ Row.off (List._∷_ Row.off (List._∷_ Row.off (List._∷_ Row.off List.[]))))))))))))))))))))))))))) }
+
+        abbrev G162 : Row.Cx
+        G162 = record { locals = List._++_ t55 (List._++_ t1 (List._++_ t2 t3)); slots = List._∷_ (Row.lease (κs .0) (qs .0)) (List._∷_ (Row.lease (κs .1 .0) (qs .1 .0)) (List._∷_ (Row.lease (κs .1 .1 .0) (qs .1 .1 .0)) (List._∷_ (Row.lease (κs .1 .1 .1 .0) (qs .1 .1 .1 .0)) (List._∷_ (Row.lease (κs .1 .1 .1 .1 .0) (qs .1 .1 .1 .1 .0)) (List._∷_ (Row.lease (κs .1 .1 .1 .1 .1 .0) (qs .1 .1 .1 .1 .1 .0)) (List._∷_ (Row.lease (κs .1 .1 .1 .1 .1 .1 .0) (qs .1 .1 .1 .1 .1 .1 .0)) (List._∷_ (Row.lease (κs .1 .1 .1 .1 .1 .1 .1 .0) (qs .1 .1 .1 .1 .1 .1 .1 .0)) (List._∷_ (Row.lease (κs .1 .1 .1 .1 .1 .1 .1 .1 .0) (qs .1 .1 .1 .1 .1 .1 .1 .1 .0)) (List._∷_ (Row.lease (κs .1 .1 .1 .1 .1 .1 .1 .1 .1 .0) (qs .1 .1 .1 .1 .1 .1 .1 .1 .1 .0)) (List._∷_ (Row.lease (κs .1 .1 .1 .1 .1 .1 .1 .1 .1 .1 .0) (qs .1 .1 .1 .1 .1 .1 .1 .1 .1 .1 .0)) (List._∷_ (Row.lease (κs .1 .1 .1 .1 .1 .1 .1 .1 .1 .1 .1 .0) (qs .1 .1 .1 .1 .1 .1 .1 .1 .1 .1 .1 .0)) (List._∷_ Row.off (List._∷_ Row.off (List._∷_ Row.off (List._∷_ Row.off (List._∷_ Row.off (List._∷_ Row.off (List._∷_ Row.off (List._∷_ Row.off (List._∷_ Row.off (List._∷_ Row.off (List._∷_ Row.off (List._∷_ Row.off (List._∷_ Row.off (List._∷_ Row.off (List._∷_ Row.off (List._∷_ Row.off List.[]))))))))))))))))))))))))))) }
+
+        abbrev G163 : Row.Cx
+        G163 = record { locals = List._++_ t4 (List._++_ t1 (List._++_ t2 t3)); slots = List._∷_ (Row.lease (κs .0) (qs .0)) (List._∷_ (Row.lease (κs .1 .0) (qs .1 .0)) (List._∷_ (Row.lease (κs .1 .1 .0) (qs .1 .1 .0)) (List._∷_ (Row.lease (κs .1 .1 .1 .0) (qs .1 .1 .1 .0)) (List._∷_ (Row.lease (κs .1 .1 .1 .1 .0) (qs .1 .1 .1 .1 .0)) (List._∷_ (Row.lease (κs .1 .1 .1 .1 .1 .0) (qs .1 .1 .1 .1 .1 .0)) (List._∷_ (Row.lease (κs .1 .1 .1 .1 .1 .1 .0) (qs .1 .1 .1 .1 .1 .1 .0)) (List._∷_ (Row.lease (κs .1 .1 .1 .1 .1 .1 .1 .0) (qs .1 .1 .1 .1 .1 .1 .1 .0)) (List._∷_ (Row.lease (κs .1 .1 .1 .1 .1 .1 .1 .1 .0) (qs .1 .1 .1 .1 .1 .1 .1 .1 .0)) (List._∷_ (Row.lease (κs .1 .1 .1 .1 .1 .1 .1 .1 .1 .0) (qs .1 .1 .1 .1 .1 .1 .1 .1 .1 .0)) (List._∷_ (Row.lease (κs .1 .1 .1 .1 .1 .1 .1 .1 .1 .1 .0) (qs .1 .1 .1 .1 .1 .1 .1 .1 .1 .1 .0)) (List._∷_ (Row.lease (κs .1 .1 .1 .1 .1 .1 .1 .1 .1 .1 .1 .0) (qs .1 .1 .1 .1 .1 .1 .1 .1 .1 .1 .1 .0)) (List._∷_ Row.off (List._∷_ Row.off (List._∷_ Row.off (List._∷_ Row.off (List._∷_ Row.off (List._∷_ Row.off (List._∷_ Row.off (List._∷_ Row.off (List._∷_ Row.off (List._∷_ Row.off (List._∷_ Row.off (List._∷_ Row.off (List._∷_ Row.off (List._∷_ Row.off (List._∷_ Row.off (List._∷_ Row.off List.[]))))))))))))))))))))))))))) }
 
         abbrev Δ0 : Typed.Outs
         Δ0 = record { next = Option.none; exits = List.[]; returns = Option.some G1 }
 
-        module _ {M : Type 1} (𝓤 : URA.URA M) (H : Wp.Heap 𝓤) (A : Atoms.Atoms 𝓤) (W : Kit.Given 𝓤 H A) (𝓣 : Wp.Tables 𝓤 H) (known : Knowns 𝓤 H A W 𝓣) (bs : List.List Nat.ℕ) (bd : Lifetimes.AllOutlive 10 (Kinds.osR r) κs) where
+        abbrev Δ1 : Typed.Outs
+        Δ1 = Typed.withNext (Option.some G35) Δ0
+
+        module _ {M : Type 1} (𝓤 : URA.URA M) (H : Wp.Heap 𝓤) (A : Atoms.Atoms 𝓤) (W : Kit.Given 𝓤 H A) (𝓣 : Wp.Tables 𝓤 H) (known : Knowns 𝓤 H A W 𝓣) (bs : List.List Nat.ℕ) (bd : Lifetimes.AllOutlive 12 (Kinds.osR r) κs) where
           abbrev E : Wp.Env 𝓤 H
           E = Frame.EnvOf 𝓤 H (List._∷_ (Kinds.tyR r) (Enter.tysP ps xs)) bs
 
-          d0 : Typed.Typed 𝓤 H A 𝓣 E G83 b22 Δ0 at0
-          d0 = Typed.t-return 𝓤 H A W 𝓣 E Δ0 tt
+          d0 : Typed.Typed 𝓤 H A 𝓣 E G74 b21 Δ1 at0
+          d0 = Typed.t-return 𝓤 H A W 𝓣 E Δ1 tt
 
-          d1 : Typed.Typed 𝓤 H A 𝓣 E G82 b22 Δ0 at1
-          d1 = Typed.g-pre 𝓤 H A W 𝓣 E G82 G83 b22 Δ0 (Typed.pass T82 T83 s81) at0 (Scalar.g-room 𝓤 H A W E G82 14 ty·2 (Scalar.room-sc 𝓤 H A W (Row.sFloat Ieee.binary64))) d0
+          d1 : Typed.Typed 𝓤 H A 𝓣 E G73 b21 Δ1 at1
+          d1 = Typed.g-pre 𝓤 H A W 𝓣 E G73 G74 b21 Δ1 (Typed.pass T73 T74 s71) at0 (Scalar.g-room 𝓤 H A W E G73 20 Syntax.tyBool (Scalar.room-sc 𝓤 H A W Row.sBool)) d0
 
-          d2 : Typed.Typed 𝓤 H A 𝓣 E G81 b22 Δ0 at2
-          d2 = Typed.g-pre 𝓤 H A W 𝓣 E G81 G82 b22 Δ0 (Typed.pass T81 T82 s80) at1 (Scalar.g-room 𝓤 H A W E G81 13 ty·2 (Scalar.room-sc 𝓤 H A W (Row.sFloat Ieee.binary64))) d1
+          d2 : Typed.Typed 𝓤 H A 𝓣 E G72 b21 Δ1 at2
+          d2 = Typed.g-pre 𝓤 H A W 𝓣 E G72 G73 b21 Δ1 (Typed.pass T72 T73 s70) at1 (Scalar.g-room 𝓤 H A W E G72 15 ty·2 (Scalar.room-sc 𝓤 H A W (Row.sFloat Ieee.binary64))) d1
 
-          d3 : Typed.Typed 𝓤 H A 𝓣 E G80 b22 Δ0 at3
-          d3 = Typed.g-pre 𝓤 H A W 𝓣 E G80 G81 b22 Δ0 (Typed.pass T80 T81 s79) at2 (Scalar.g-room 𝓤 H A W E G80 3 ty·0 (Scalar.room-sc 𝓤 H A W (Row.sInt Syntax.w32))) d2
+          d3 : Typed.Typed 𝓤 H A 𝓣 E G71 b21 Δ1 at3
+          d3 = Typed.g-pre 𝓤 H A W 𝓣 E G71 G72 b21 Δ1 (Typed.pass T71 T72 s69) at2 (Scalar.g-room 𝓤 H A W E G71 14 ty·2 (Scalar.room-sc 𝓤 H A W (Row.sFloat Ieee.binary64))) d2
 
-          d4 : Typed.Typed 𝓤 H A 𝓣 E G79 b22 Δ0 at4
-          d4 = Typed.g-pre 𝓤 H A W 𝓣 E G79 G80 b22 Δ0 (Typed.pass T79 T80 s78) at3 (Scalar.g-room 𝓤 H A W E G79 2 ty·0 (Scalar.room-sc 𝓤 H A W (Row.sInt Syntax.w32))) d3
+          d4 : Typed.Typed 𝓤 H A 𝓣 E G70 b21 Δ1 at4
+          d4 = Typed.g-pre 𝓤 H A W 𝓣 E G70 G71 b21 Δ1 (Typed.pass T70 T71 s68) at3 (Scalar.g-room 𝓤 H A W E G70 3 ty·0 (Scalar.room-sc 𝓤 H A W (Row.sInt Syntax.w32))) d3
 
-          d5 : Typed.Typed 𝓤 H A 𝓣 E G78 b22 Δ0 at5
-          d5 = Typed.g-pre 𝓤 H A W 𝓣 E G78 G79 b22 Δ0 (Typed.pass T78 T79 s77) at4 (Scalar.g-room 𝓤 H A W E G78 1 ty·0 (Scalar.room-sc 𝓤 H A W (Row.sInt Syntax.w32))) d4
+          d5 : Typed.Typed 𝓤 H A 𝓣 E G69 b21 Δ1 at5
+          d5 = Typed.g-pre 𝓤 H A W 𝓣 E G69 G70 b21 Δ1 (Typed.pass T69 T70 s67) at4 (Scalar.g-room 𝓤 H A W E G69 2 ty·0 (Scalar.room-sc 𝓤 H A W (Row.sInt Syntax.w32))) d4
 
-          d6 : Typed.Typed 𝓤 H A 𝓣 E G77 b22 Δ0 at6
-          d6 = Typed.g-pre 𝓤 H A W 𝓣 E G77 G78 b22 Δ0 (Typed.pass T77 T78 s76) at5 (Scalar.g-room 𝓤 H A W E G77 18 ty·25 (Local.room-whole 𝓤 H A W (Declared.row FinishAnswer.the-type) ty·25 Path'.refl)) d5
+          d6 : Typed.Typed 𝓤 H A 𝓣 E G68 b21 Δ1 at6
+          d6 = Typed.g-pre 𝓤 H A W 𝓣 E G68 G69 b21 Δ1 (Typed.pass T68 T69 s66) at5 (Scalar.g-room 𝓤 H A W E G68 1 ty·0 (Scalar.room-sc 𝓤 H A W (Row.sInt Syntax.w32))) d5
 
-          d7 : Typed.Typed 𝓤 H A 𝓣 E G76 b23 Δ0 at7
-          d7 = Typed.s-seq 𝓤 H A W 𝓣 E G76 G77 b21 b22 Δ0 (Typed.both s75) at6 (Plain.t-call-plain 𝓤 H A W 𝓣 0 ps·1 r·1 (claims· .2) (claims· .3) "fithmoul::results::finish_result" (known .1) E (λ pos β. β) G76 (record { pos = 18; st = List.[]; d = 0; at = λ x. x }, tt) 0 List.[] (Call.sub-id 𝓤 H A W (G76 .slots)) ((Yields.yields-copy 𝓤 H A W (λ ρ. Unit) (Declared.row FinishAnswer.the-type) Path'.refl (Copies.cStruct FinishAnswer.the-type Laws'.the-laws Laws'.the-copy .copy 𝓤 H A W) (Rows.whole (Declared.row FinishAnswer.the-type)) (λ x. x) (λ x. x) (λ ρ told. Local.mem-whole 𝓤 H A W (Declared.row FinishAnswer.the-type) ρ) λ ρ told. Local.whole-mem 𝓤 H A W (Declared.row FinishAnswer.the-type) ρ, Path'.refl), tt) (Reads.room-gone 𝓤 H A ty·23) tt Path'.refl) d6
+          d7 : Typed.Typed 𝓤 H A 𝓣 E G67 b21 Δ1 at7
+          d7 = Typed.g-pre 𝓤 H A W 𝓣 E G67 G68 b21 Δ1 (Typed.pass T67 T68 s65) at6 (Scalar.g-room 𝓤 H A W E G67 22 ty·28 (Local.room-whole 𝓤 H A W (Declared'.row Refusal.the-type) ty·28 Path'.refl)) d6
 
-          d8 : Typed.Typed 𝓤 H A 𝓣 E G75 b23 Δ0 at8
-          d8 = Typed.g-pre 𝓤 H A W 𝓣 E G75 G76 b23 Δ0 (λ Ψ. Ψ) at7 (Lifetime.g-forget 𝓤 H A W E G75 18 Row.dead Path'.refl) d7
+          d8 : Typed.Typed 𝓤 H A 𝓣 E G66 b21 Δ1 at8
+          d8 = Typed.g-pre 𝓤 H A W 𝓣 E G66 G67 b21 Δ1 (Typed.pass T66 T67 s64) at7 (Scalar.g-room 𝓤 H A W E G66 18 ty·26 (Local.room-whole 𝓤 H A W (Declared'.row Counts.the-type) ty·26 Path'.refl)) d7
 
-          d9 : Typed.Typed 𝓤 H A 𝓣 E G74 b23 Δ0 at9
-          d9 = Typed.g-pre 𝓤 H A W 𝓣 E G74 G75 b23 Δ0 (Typed.give s73) at8 (Know.g-sl-known 𝓤 H A W (Referent.fInt Syntax.w64) E G74 12 8 ty·12 (Row.lease (κs .1 .1 .1 .1 .1 .1 .1 .1 .0) (qs .1 .1 .1 .1 .1 .1 .1 .1 .0)) 0 (λ x. x) record { fits = Dec'.lit< tt } (Reads.as-is 𝓤 H A (Mut.mslice (Referent.rtF (Referent.fInt Syntax.w64)) ty·12 8)) Path'.refl tt) d8
+          d9 : Typed.Typed 𝓤 H A 𝓣 E G65 b22 Δ1 at9
+          d9 = Typed.s-seq 𝓤 H A W 𝓣 E G65 G66 b20 b21 Δ1 (Typed.both s63) at8 (Plain.t-call-plain 𝓤 H A W 𝓣 0 ps·2 r·2 (claims· .4) (claims· .5) "fithmoul::results::finish_refused" (known .2) E (λ pos β. β) G65 (record { pos = 18; st = List.[]; d = 0; at = λ x. x }, (record { pos = 22; st = List.[]; d = 0; at = λ x. x }, tt)) 0 List.[] (Call.sub-id 𝓤 H A W (G65 .slots)) ((Yields.yields-copy 𝓤 H A W (λ ρ. Unit) (Declared'.row Counts.the-type) Path'.refl (Copies.cStruct Counts.the-type Laws'3.the-laws Laws'3.the-copy .copy 𝓤 H A W) (Rows.whole (Declared'.row Counts.the-type)) (λ x. x) (λ x. x) (λ ρ told. Local.mem-whole 𝓤 H A W (Declared'.row Counts.the-type) ρ) λ ρ told. Local.whole-mem 𝓤 H A W (Declared'.row Counts.the-type) ρ, Path'.refl), ((Yields.yields-copy 𝓤 H A W (λ ρ. Unit) (Declared'.row Refusal.the-type) Path'.refl (Copies.cStruct Refusal.the-type Laws'5.the-laws Laws'5.the-copy .copy 𝓤 H A W) (Rows.whole (Declared'.row Refusal.the-type)) (λ x. x) (λ x. x) (λ ρ told. Local.mem-whole 𝓤 H A W (Declared'.row Refusal.the-type) ρ) λ ρ told. Local.whole-mem 𝓤 H A W (Declared'.row Refusal.the-type) ρ, Path'.refl), tt)) (Reads.room-gone 𝓤 H A ty·30) tt Path'.refl) d8
 
-          d10 : Typed.Typed 𝓤 H A 𝓣 E G73 b23 Δ0 at10
-          d10 = Typed.g-pre 𝓤 H A W 𝓣 E G73 G74 b23 Δ0 (Typed.both s72) at9 (Relend.g-back-sl 𝓤 H A W E (Referent.rtF (Referent.fInt Syntax.w64)) G73 36 12 8 18 ty·12 ty·4 (Row.lease (κs .1 .1 .1 .1 .1 .1 .1 .1 .0) (qs .1 .1 .1 .1 .1 .1 .1 .1 .0)) (λ x. x) (λ x. x) (Reads.as-is 𝓤 H A (Mut.msleft (Referent.rtF (Referent.fInt Syntax.w64)) ty·4)) (Reads.as-is 𝓤 H A (Relend.mslice-owed (Referent.rtF (Referent.fInt Syntax.w64)) ty·12 8 18 (Row.lease (κs .1 .1 .1 .1 .1 .1 .1 .1 .0) (qs .1 .1 .1 .1 .1 .1 .1 .1 .0)))) Path'.refl Path'.refl) d9
+          d10 : Typed.Typed 𝓤 H A 𝓣 E G64 b22 Δ1 at10
+          d10 = Typed.g-pre 𝓤 H A W 𝓣 E G64 G65 b22 Δ1 (Typed.pass T64 T65 s62) at9 (Scalar.g-room 𝓤 H A W E G64 21 ty·29 (Local.room-whole 𝓤 H A W (Known.Known Checked.enum 1) ty·29 Path'.refl)) d9
 
-          d11 : Typed.Typed 𝓤 H A 𝓣 E G72 b23 Δ0 at11
-          d11 = Typed.g-pre 𝓤 H A W 𝓣 E G72 G73 b23 Δ0 (λ Ψ. Ψ) at10 (Lifetime.g-end 𝓤 H A W E G72 18 Path'.refl) d10
+          d11 : Typed.Typed 𝓤 H A 𝓣 E G63 b23 Δ1 at11
+          d11 = Typed.s-seq 𝓤 H A W 𝓣 E G63 G64 b19 b22 Δ1 (Typed.pass T63 T64 s61) at10 (CopyOut.t-copy-told 𝓤 H A W E 𝓣 (Declared'.row Refusal.the-type) Path'.refl (Laws'7.val Refusal.the-type Laws'5.the-laws) (Laws'7.lawful Refusal.the-type Laws'5.the-laws 𝓤 H A W) (Laws'7.makes Refusal.the-type Laws'5.the-plain 𝓤 H A) G63 22 (Scalar.oFld 21 (List._∷_ (Syntax.variant 1) (List._∷_ (Syntax.field 1) List.[])) ty·28 4 λ v. Laws'7.val Refusal.the-type Laws'5.the-laws (v .0)) (λ m. m .1 .1 .1 .1 .1 .1 .1 .1 .1 .1 .1 .1 .1 .1 .1 .1 .1 .1 .1 .1 .1 .0 .0) (λ m. Laws'6.Fields (Declared.variants Checked.the-type) (Laws'6.spellss (Checked.enum .parts) Laws'4.the-laws) (Checked.the-type .to (Known.at Checked.enum 1 (m .1 .1 .1 .1 .1 .1 .1 .1 .1 .1 .1 .1 .1 .1 .1 .1 .1 .1 .1 .1 .1 .0)))) (Reads.room-gone 𝓤 H A ty·28) (Match.reads-payload 𝓤 H A W Checked.enum Laws'4.the-laws 1 Path'.refl Path'.refl (λ v. Val.vcons (Laws'7.val Refusal.the-type Laws'5.the-laws (v .0)) Val.vnil) (λ v. Path'.refl) 0 ty·28 4 Path'.refl, Path'.refl) Path'.refl (λ ρ m. Make.tells-row 𝓤 H A W E ρ (Row.out 22 (G63 .locals)) m 21 (Laws'6.Fields (Declared.variants Checked.the-type) (Laws'6.spellss (Checked.enum .parts) Laws'4.the-laws) (Checked.the-type .to (Known.at Checked.enum 1 (m .1 .1 .1 .1 .1 .1 .1 .1 .1 .1 .1 .1 .1 .1 .1 .1 .1 .1 .1 .1 .1 .0)))) (Known.known-is 𝓤 H A W E Checked.enum 1 Laws'4.the-laws ρ 21 (m .1 .1 .1 .1 .1 .1 .1 .1 .1 .1 .1 .1 .1 .1 .1 .1 .1 .1 .1 .1 .1 .0))) (λ m k wa. Path'.refl) λ m k wa. k .0) d10
 
-          d12 : Typed.Typed 𝓤 H A 𝓣 E G71 b23 Δ0 at12
-          d12 = Typed.g-pre 𝓤 H A W 𝓣 E G71 G72 b23 Δ0 (λ Ψ. Ψ) at11 (Lifetime.g-forget 𝓤 H A W E G71 17 Row.dead Path'.refl) d11
+          d12 : Typed.Typed 𝓤 H A 𝓣 E G62 b23 Δ1 at12
+          d12 = Typed.g-pre 𝓤 H A W 𝓣 E G62 G63 b23 Δ1 (Typed.pass T62 T63 s60) at11 (Scalar.g-room 𝓤 H A W E G62 19 ty·25 (Local.room-whole 𝓤 H A W (Declared'.row Point2.the-type) ty·25 Path'.refl)) d11
 
-          d13 : Typed.Typed 𝓤 H A 𝓣 E G70 b23 Δ0 at13
-          d13 = Typed.g-pre 𝓤 H A W 𝓣 E G70 G71 b23 Δ0 (Typed.give s69) at12 (Know.g-sl-known 𝓤 H A W (Referent.fInt Syntax.w32) E G70 11 7 ty·11 (Row.lease (κs .1 .1 .1 .1 .1 .1 .1 .0) (qs .1 .1 .1 .1 .1 .1 .1 .0)) 0 (λ x. x) record { fits = Dec'.lit< tt } (Reads.as-is 𝓤 H A (Mut.mslice (Referent.rtF (Referent.fInt Syntax.w32)) ty·11 7)) Path'.refl tt) d12
+          d13 : Typed.Typed 𝓤 H A 𝓣 E G61 b23 Δ1 at13
+          d13 = Typed.g-pre 𝓤 H A W 𝓣 E G61 G62 b23 Δ1 (Typed.give s59) at12 (Known.g-known-told 𝓤 H A W E Checked.enum 1 G61 21 Laws'4.the-laws (λ x. x) (Reads.as-is 𝓤 H A (Rows.whole (Known.Known Checked.enum 1)))) d12
 
-          d14 : Typed.Typed 𝓤 H A 𝓣 E G69 b23 Δ0 at14
-          d14 = Typed.g-pre 𝓤 H A W 𝓣 E G69 G70 b23 Δ0 (Typed.both s68) at13 (Relend.g-back-sl 𝓤 H A W E (Referent.rtF (Referent.fInt Syntax.w32)) G69 34 11 7 17 ty·11 ty·3 (Row.lease (κs .1 .1 .1 .1 .1 .1 .1 .0) (qs .1 .1 .1 .1 .1 .1 .1 .0)) (λ x. x) (λ x. x) (Reads.as-is 𝓤 H A (Mut.msleft (Referent.rtF (Referent.fInt Syntax.w32)) ty·3)) (Reads.as-is 𝓤 H A (Relend.mslice-owed (Referent.rtF (Referent.fInt Syntax.w32)) ty·11 7 17 (Row.lease (κs .1 .1 .1 .1 .1 .1 .1 .0) (qs .1 .1 .1 .1 .1 .1 .1 .0)))) Path'.refl Path'.refl) d13
+          d14 : Typed.Typed 𝓤 H A 𝓣 E G60 b23 Δ1 at14
+          d14 = Typed.g-pre 𝓤 H A W 𝓣 E G60 G61 b23 Δ1 (Typed.both s58) at13 (Known.g-enum-known 𝓤 H A W E Checked.enum 1 G60 21 (λ x. x) (Reads.as-is 𝓤 H A (Rows.whole (Declared.row Checked.the-type)))) d13
 
-          d15 : Typed.Typed 𝓤 H A 𝓣 E G68 b23 Δ0 at15
-          d15 = Typed.g-pre 𝓤 H A W 𝓣 E G68 G69 b23 Δ0 (λ Ψ. Ψ) at14 (Lifetime.g-end 𝓤 H A W E G68 17 Path'.refl) d14
+          d15 : Typed.Typed 𝓤 H A 𝓣 E G76 b24 Δ1 at15
+          d15 = Typed.t-skip 𝓤 H A W 𝓣 E Δ1 tt
 
-          d16 : Typed.Typed 𝓤 H A 𝓣 E G67 b23 Δ0 at16
-          d16 = Typed.g-pre 𝓤 H A W 𝓣 E G67 G68 b23 Δ0 (λ Ψ. Ψ) at15 (Lifetime.g-forget 𝓤 H A W E G67 16 Row.dead Path'.refl) d15
+          d16 : Typed.Typed 𝓤 H A 𝓣 E G75 b24 Δ1 at16
+          d16 = Typed.g-pre 𝓤 H A W 𝓣 E G75 G76 b24 Δ1 (Typed.pass T75 T76 s73) at15 (Scalar.g-room 𝓤 H A W E G75 21 ty·29 (Local.room-whole 𝓤 H A W (Declared.row Checked.the-type) ty·29 Path'.refl)) d15
 
-          d17 : Typed.Typed 𝓤 H A 𝓣 E G66 b23 Δ0 at17
-          d17 = Typed.g-pre 𝓤 H A W 𝓣 E G66 G67 b23 Δ0 (Typed.give s65) at16 (Know.g-sl-known 𝓤 H A W (Referent.fInt Syntax.w32) E G66 10 6 ty·10 (Row.lease (κs .1 .1 .1 .1 .1 .1 .0) (qs .1 .1 .1 .1 .1 .1 .0)) 0 (λ x. x) record { fits = Dec'.lit< tt } (Reads.as-is 𝓤 H A (Mut.mslice (Referent.rtF (Referent.fInt Syntax.w32)) ty·10 6)) Path'.refl tt) d16
+          d17 : Typed.Typed 𝓤 H A 𝓣 E G60 b24 Δ1 at17
+          d17 = Typed.g-pre 𝓤 H A W 𝓣 E G60 G75 b24 Δ1 (Typed.both s72) at16 (Known.g-enum-told 𝓤 H A W E Checked.enum 0 G60 21 λ x. x) d16
 
-          d18 : Typed.Typed 𝓤 H A 𝓣 E G65 b23 Δ0 at18
-          d18 = Typed.g-pre 𝓤 H A W 𝓣 E G65 G66 b23 Δ0 (Typed.both s64) at17 (Relend.g-back-sl 𝓤 H A W E (Referent.rtF (Referent.fInt Syntax.w32)) G65 32 10 6 16 ty·10 ty·3 (Row.lease (κs .1 .1 .1 .1 .1 .1 .0) (qs .1 .1 .1 .1 .1 .1 .0)) (λ x. x) (λ x. x) (Reads.as-is 𝓤 H A (Mut.msleft (Referent.rtF (Referent.fInt Syntax.w32)) ty·3)) (Reads.as-is 𝓤 H A (Relend.mslice-owed (Referent.rtF (Referent.fInt Syntax.w32)) ty·10 6 16 (Row.lease (κs .1 .1 .1 .1 .1 .1 .0) (qs .1 .1 .1 .1 .1 .1 .0)))) Path'.refl Path'.refl) d17
+          d18 : Typed.Typed 𝓤 H A 𝓣 E G60 b25 Δ1 at18
+          d18 = Switch.t-switch-on 𝓤 H A W E 𝓣 G60 (Scalar.oFld 21 (List._∷_ (Syntax.variant 0) (List._∷_ (Syntax.field 0) List.[])) (Syntax.tyInt Syntax.w8) 0 λ x. Val.vint Syntax.w8 (Declared.tagOf Checked.the-type x)) Syntax.w8 (λ u. Declared.tagOf Checked.the-type (u .1 .1 .1 .1 .1 .1 .1 .1 .1 .1 .1 .1 .1 .1 .1 .1 .1 .1 .1 .1 .1 .0)) (Syntax.arm (List._∷_ 1 List.[]) b23 (Syntax.arm (List._∷_ 0 List.[]) b24 Syntax.noDefault)) Δ1 (at14, (at17, tt)) (Match.reads-tag 𝓤 H A W Checked.the-type Laws'4.the-laws (Rows.whole (Declared.row Checked.the-type)) 0 (λ x. x) (Whole.reads-enum 𝓤 H A W Checked.the-type Laws'4.the-laws), Path'.refl) (λ u. Path'.refl) (d14, (d17, tt))
 
-          d19 : Typed.Typed 𝓤 H A 𝓣 E G64 b23 Δ0 at19
-          d19 = Typed.g-pre 𝓤 H A W 𝓣 E G64 G65 b23 Δ0 (λ Ψ. Ψ) at18 (Lifetime.g-end 𝓤 H A W E G64 16 Path'.refl) d18
+          d19 : Typed.Typed 𝓤 H A 𝓣 E G59 b25 Δ1 at19
+          d19 = Typed.g-pre 𝓤 H A W 𝓣 E G59 G60 b25 Δ1 (Typed.pass T58 T60 s57) at18 (AtSlots.g-as-by 𝓤 H A W E (λ ρ. Unit) G59 19 (Rows.whole (Declared'.row Point2.the-type)) (λ v. Point2.struct .make v tt) (Own.told-none 𝓤 H A (G59 .slots)) λ ρ told v b. Apart.folds 𝓤 H A Point2.the-type (Point2.struct .Ghost) (Point2.struct .make) (λ v g. Path'.refl) ρ v tt b) d18
 
-          d20 : Typed.Typed 𝓤 H A 𝓣 E G63 b23 Δ0 at20
-          d20 = Typed.g-pre 𝓤 H A W 𝓣 E G63 G64 b23 Δ0 (λ Ψ. Ψ) at19 (Lifetime.g-forget 𝓤 H A W E G63 15 Row.dead Path'.refl) d19
+          d20 : Typed.Typed 𝓤 H A 𝓣 E G58 b25 Δ1 at20
+          d20 = Typed.g-pre 𝓤 H A W 𝓣 E G58 G59 b25 Δ1 (λ Ψ. Ψ) at19 (Lifetime.g-forget 𝓤 H A W E G58 16 Row.dead Path'.refl) d19
 
-          d21 : Typed.Typed 𝓤 H A 𝓣 E G62 b23 Δ0 at21
-          d21 = Typed.g-pre 𝓤 H A W 𝓣 E G62 G63 b23 Δ0 (Typed.give s61) at20 (Know.g-sl-known 𝓤 H A W (Referent.fInt Syntax.w32) E G62 9 5 ty·9 (Row.lease (κs .1 .1 .1 .1 .1 .0) (qs .1 .1 .1 .1 .1 .0)) 0 (λ x. x) record { fits = Dec'.lit< tt } (Reads.as-is 𝓤 H A (Mut.mslice (Referent.rtF (Referent.fInt Syntax.w32)) ty·9 5)) Path'.refl tt) d20
+          d21 : Typed.Typed 𝓤 H A 𝓣 E G57 b25 Δ1 at21
+          d21 = Typed.g-pre 𝓤 H A W 𝓣 E G57 G58 b25 Δ1 (Typed.pass T55 T58 s55) at20 (Reshare.g-back-sl-shr 𝓤 H A W E (Referent.rtF (Referent.fInt Syntax.w32)) G57 8 4 16 ty·11 (Row.lease (κs .1 .1 .1 .1 .0) (qs .1 .1 .1 .1 .0)) (λ x. x) (Reads.as-is 𝓤 H A (Reshare.mslice-owedS (Referent.rtF (Referent.fInt Syntax.w32)) ty·11 4 16 (Row.lease (κs .1 .1 .1 .1 .0) (qs .1 .1 .1 .1 .0)))) Path'.refl Path'.refl) d20
 
-          d22 : Typed.Typed 𝓤 H A 𝓣 E G61 b23 Δ0 at22
-          d22 = Typed.g-pre 𝓤 H A W 𝓣 E G61 G62 b23 Δ0 (Typed.both s60) at21 (Relend.g-back-sl 𝓤 H A W E (Referent.rtF (Referent.fInt Syntax.w32)) G61 30 9 5 15 ty·9 ty·3 (Row.lease (κs .1 .1 .1 .1 .1 .0) (qs .1 .1 .1 .1 .1 .0)) (λ x. x) (λ x. x) (Reads.as-is 𝓤 H A (Mut.msleft (Referent.rtF (Referent.fInt Syntax.w32)) ty·3)) (Reads.as-is 𝓤 H A (Relend.mslice-owed (Referent.rtF (Referent.fInt Syntax.w32)) ty·9 5 15 (Row.lease (κs .1 .1 .1 .1 .1 .0) (qs .1 .1 .1 .1 .1 .0)))) Path'.refl Path'.refl) d21
+          d22 : Typed.Typed 𝓤 H A 𝓣 E G56 b25 Δ1 at22
+          d22 = Typed.g-pre 𝓤 H A W 𝓣 E G56 G57 b25 Δ1 (λ Ψ. Ψ) at21 (Lifetime.g-end 𝓤 H A W E G56 16 Path'.refl) d21
 
-          d23 : Typed.Typed 𝓤 H A 𝓣 E G60 b23 Δ0 at23
-          d23 = Typed.g-pre 𝓤 H A W 𝓣 E G60 G61 b23 Δ0 (λ Ψ. Ψ) at22 (Lifetime.g-end 𝓤 H A W E G60 15 Path'.refl) d22
+          d23 : Typed.Typed 𝓤 H A 𝓣 E G55 b25 Δ1 at23
+          d23 = Typed.g-pre 𝓤 H A W 𝓣 E G55 G56 b25 Δ1 (λ Ψ. Ψ) at22 (Lifetime.g-forget 𝓤 H A W E G55 15 Row.dead Path'.refl) d22
 
-          d24 : Typed.Typed 𝓤 H A 𝓣 E G59 b23 Δ0 at24
-          d24 = Typed.g-pre 𝓤 H A W 𝓣 E G59 G60 b23 Δ0 (λ Ψ. Ψ) at23 (Lifetime.g-forget 𝓤 H A W E G59 14 Row.dead Path'.refl) d23
+          d24 : Typed.Typed 𝓤 H A 𝓣 E G54 b25 Δ1 at24
+          d24 = Typed.g-pre 𝓤 H A W 𝓣 E G54 G55 b25 Δ1 (Typed.pass T52 T55 s52) at23 (Reshare.g-back-sl-shr 𝓤 H A W E (Referent.rtF (Referent.fInt Syntax.w32)) G54 7 3 15 ty·10 (Row.lease (κs .1 .1 .1 .0) (qs .1 .1 .1 .0)) (λ x. x) (Reads.as-is 𝓤 H A (Reshare.mslice-owedS (Referent.rtF (Referent.fInt Syntax.w32)) ty·10 3 15 (Row.lease (κs .1 .1 .1 .0) (qs .1 .1 .1 .0)))) Path'.refl Path'.refl) d23
 
-          d25 : Typed.Typed 𝓤 H A 𝓣 E G58 b23 Δ0 at25
-          d25 = Typed.g-pre 𝓤 H A W 𝓣 E G58 G59 b23 Δ0 (Typed.both s57) at24 (Relend.g-back-sl 𝓤 H A W E ELEM.the-row G58 28 8 4 14 ty·15 ty·14 (Row.lease (κs .1 .1 .1 .1 .0) (qs .1 .1 .1 .1 .0)) (λ x. x) (λ x. x) (Reads.as-is 𝓤 H A (Mut.msleft ELEM.the-row ty·14)) (Reads.as-is 𝓤 H A (Relend.mslice-owed ELEM.the-row ty·15 4 14 (Row.lease (κs .1 .1 .1 .1 .0) (qs .1 .1 .1 .1 .0)))) Path'.refl Path'.refl) d24
+          d25 : Typed.Typed 𝓤 H A 𝓣 E G53 b25 Δ1 at25
+          d25 = Typed.g-pre 𝓤 H A W 𝓣 E G53 G54 b25 Δ1 (λ Ψ. Ψ) at24 (Lifetime.g-end 𝓤 H A W E G53 15 Path'.refl) d24
 
-          d26 : Typed.Typed 𝓤 H A 𝓣 E G57 b23 Δ0 at26
-          d26 = Typed.g-pre 𝓤 H A W 𝓣 E G57 G58 b23 Δ0 (λ Ψ. Ψ) at25 (Lifetime.g-end 𝓤 H A W E G57 14 Path'.refl) d25
+          d26 : Typed.Typed 𝓤 H A 𝓣 E G52 b25 Δ1 at26
+          d26 = Typed.g-pre 𝓤 H A W 𝓣 E G52 G53 b25 Δ1 (λ Ψ. Ψ) at25 (Lifetime.g-forget 𝓤 H A W E G52 14 Row.dead Path'.refl) d25
 
-          d27 : Typed.Typed 𝓤 H A 𝓣 E G56 b23 Δ0 at27
-          d27 = Typed.g-pre 𝓤 H A W 𝓣 E G56 G57 b23 Δ0 (λ Ψ. Ψ) at26 (Lifetime.g-forget 𝓤 H A W E G56 13 Row.dead Path'.refl) d26
+          d27 : Typed.Typed 𝓤 H A 𝓣 E G51 b25 Δ1 at27
+          d27 = Typed.g-pre 𝓤 H A W 𝓣 E G51 G52 b25 Δ1 (Typed.pass T49 T52 s49) at26 (Reshare.g-back-sl-shr 𝓤 H A W E (Referent.rtF (Referent.fInt Syntax.w32)) G51 6 2 14 ty·9 (Row.lease (κs .1 .1 .0) (qs .1 .1 .0)) (λ x. x) (Reads.as-is 𝓤 H A (Reshare.mslice-owedS (Referent.rtF (Referent.fInt Syntax.w32)) ty·9 2 14 (Row.lease (κs .1 .1 .0) (qs .1 .1 .0)))) Path'.refl Path'.refl) d26
 
-          d28 : Typed.Typed 𝓤 H A 𝓣 E G55 b23 Δ0 at28
-          d28 = Typed.g-pre 𝓤 H A W 𝓣 E G55 G56 b23 Δ0 (Typed.give s54) at27 (Know.g-sl-known 𝓤 H A W (Referent.fInt Syntax.w32) E G55 7 3 ty·8 (Row.lease (κs .1 .1 .1 .0) (qs .1 .1 .1 .0)) 0 (λ x. x) record { fits = Dec'.lit< tt } (Reads.as-is 𝓤 H A (Mut.mslice (Referent.rtF (Referent.fInt Syntax.w32)) ty·8 3)) Path'.refl tt) d27
+          d28 : Typed.Typed 𝓤 H A 𝓣 E G50 b25 Δ1 at28
+          d28 = Typed.g-pre 𝓤 H A W 𝓣 E G50 G51 b25 Δ1 (λ Ψ. Ψ) at27 (Lifetime.g-end 𝓤 H A W E G50 14 Path'.refl) d27
 
-          d29 : Typed.Typed 𝓤 H A 𝓣 E G54 b23 Δ0 at29
-          d29 = Typed.g-pre 𝓤 H A W 𝓣 E G54 G55 b23 Δ0 (Typed.both s53) at28 (Relend.g-back-sl 𝓤 H A W E (Referent.rtF (Referent.fInt Syntax.w32)) G54 26 7 3 13 ty·8 ty·3 (Row.lease (κs .1 .1 .1 .0) (qs .1 .1 .1 .0)) (λ x. x) (λ x. x) (Reads.as-is 𝓤 H A (Mut.msleft (Referent.rtF (Referent.fInt Syntax.w32)) ty·3)) (Reads.as-is 𝓤 H A (Relend.mslice-owed (Referent.rtF (Referent.fInt Syntax.w32)) ty·8 3 13 (Row.lease (κs .1 .1 .1 .0) (qs .1 .1 .1 .0)))) Path'.refl Path'.refl) d28
+          d29 : Typed.Typed 𝓤 H A 𝓣 E G49 b25 Δ1 at29
+          d29 = Typed.g-pre 𝓤 H A W 𝓣 E G49 G50 b25 Δ1 (λ Ψ. Ψ) at28 (Lifetime.g-forget 𝓤 H A W E G49 13 Row.dead Path'.refl) d28
 
-          d30 : Typed.Typed 𝓤 H A 𝓣 E G53 b23 Δ0 at30
-          d30 = Typed.g-pre 𝓤 H A W 𝓣 E G53 G54 b23 Δ0 (λ Ψ. Ψ) at29 (Lifetime.g-end 𝓤 H A W E G53 13 Path'.refl) d29
+          d30 : Typed.Typed 𝓤 H A 𝓣 E G48 b25 Δ1 at30
+          d30 = Typed.g-pre 𝓤 H A W 𝓣 E G48 G49 b25 Δ1 (Typed.pass T46 T49 s46) at29 (Reshare.g-back-sl-shr 𝓤 H A W E (Signed.SInt Syntax.w32) G48 5 1 13 ty·8 (Row.lease (κs .1 .0) (qs .1 .0)) (λ x. x) (Reads.as-is 𝓤 H A (Reshare.mslice-owedS (Signed.SInt Syntax.w32) ty·8 1 13 (Row.lease (κs .1 .0) (qs .1 .0)))) Path'.refl Path'.refl) d29
 
-          d31 : Typed.Typed 𝓤 H A 𝓣 E G52 b23 Δ0 at31
-          d31 = Typed.g-pre 𝓤 H A W 𝓣 E G52 G53 b23 Δ0 (λ Ψ. Ψ) at30 (Lifetime.g-forget 𝓤 H A W E G52 12 Row.dead Path'.refl) d30
+          d31 : Typed.Typed 𝓤 H A 𝓣 E G47 b25 Δ1 at31
+          d31 = Typed.g-pre 𝓤 H A W 𝓣 E G47 G48 b25 Δ1 (λ Ψ. Ψ) at30 (Lifetime.g-end 𝓤 H A W E G47 13 Path'.refl) d30
 
-          d32 : Typed.Typed 𝓤 H A 𝓣 E G51 b23 Δ0 at32
-          d32 = Typed.g-pre 𝓤 H A W 𝓣 E G51 G52 b23 Δ0 (Typed.give s50) at31 (Know.g-sl-known 𝓤 H A W (Referent.fInt Syntax.w32) E G51 6 2 ty·7 (Row.lease (κs .1 .1 .0) (qs .1 .1 .0)) 0 (λ x. x) record { fits = Dec'.lit< tt } (Reads.as-is 𝓤 H A (Mut.mslice (Referent.rtF (Referent.fInt Syntax.w32)) ty·7 2)) Path'.refl tt) d31
+          d32 : Typed.Typed 𝓤 H A 𝓣 E G46 b25 Δ1 at32
+          d32 = Typed.g-pre 𝓤 H A W 𝓣 E G46 G47 b25 Δ1 (λ Ψ. Ψ) at31 (Lifetime.g-forget 𝓤 H A W E G46 12 Row.dead Path'.refl) d31
 
-          d33 : Typed.Typed 𝓤 H A 𝓣 E G50 b23 Δ0 at33
-          d33 = Typed.g-pre 𝓤 H A W 𝓣 E G50 G51 b23 Δ0 (Typed.both s49) at32 (Relend.g-back-sl 𝓤 H A W E (Referent.rtF (Referent.fInt Syntax.w32)) G50 24 6 2 12 ty·7 ty·3 (Row.lease (κs .1 .1 .0) (qs .1 .1 .0)) (λ x. x) (λ x. x) (Reads.as-is 𝓤 H A (Mut.msleft (Referent.rtF (Referent.fInt Syntax.w32)) ty·3)) (Reads.as-is 𝓤 H A (Relend.mslice-owed (Referent.rtF (Referent.fInt Syntax.w32)) ty·7 2 12 (Row.lease (κs .1 .1 .0) (qs .1 .1 .0)))) Path'.refl Path'.refl) d32
+          d33 : Typed.Typed 𝓤 H A 𝓣 E G45 b25 Δ1 at33
+          d33 = Typed.g-pre 𝓤 H A W 𝓣 E G45 G46 b25 Δ1 (Typed.pass T44 T46 s43) at32 (Reshare.g-back-sl-shr 𝓤 H A W E (Signed.SInt Syntax.w32) G45 4 0 12 ty·7 (Row.lease (κs .0) (qs .0)) (λ x. x) (Reads.as-is 𝓤 H A (Reshare.mslice-owedS (Signed.SInt Syntax.w32) ty·7 0 12 (Row.lease (κs .0) (qs .0)))) Path'.refl Path'.refl) d32
 
-          d34 : Typed.Typed 𝓤 H A 𝓣 E G49 b23 Δ0 at34
-          d34 = Typed.g-pre 𝓤 H A W 𝓣 E G49 G50 b23 Δ0 (λ Ψ. Ψ) at33 (Lifetime.g-end 𝓤 H A W E G49 12 Path'.refl) d33
+          d34 : Typed.Typed 𝓤 H A 𝓣 E G44 b25 Δ1 at34
+          d34 = Typed.g-pre 𝓤 H A W 𝓣 E G44 G45 b25 Δ1 (λ Ψ. Ψ) at33 (Lifetime.g-end 𝓤 H A W E G44 12 Path'.refl) d33
 
-          d35 : Typed.Typed 𝓤 H A 𝓣 E G48 b23 Δ0 at35
-          d35 = Typed.g-pre 𝓤 H A W 𝓣 E G48 G49 b23 Δ0 (λ Ψ. Ψ) at34 (Lifetime.g-forget 𝓤 H A W E G48 11 Row.dead Path'.refl) d34
+          d35 : Typed.Typed 𝓤 H A 𝓣 E G43 b25 Δ1 at35
+          d35 = Typed.g-pre 𝓤 H A W 𝓣 E G43 G44 b25 Δ1 (Typed.pass T43 T44 s41) at34 (Scalar.g-room 𝓤 H A W E G43 37 ty·1 (Scalar.room-sc 𝓤 H A W (Row.sInt Syntax.w64))) d34
 
-          d36 : Typed.Typed 𝓤 H A 𝓣 E G47 b23 Δ0 at36
-          d36 = Typed.g-pre 𝓤 H A W 𝓣 E G47 G48 b23 Δ0 (Typed.give s46) at35 (Know.g-sl-known 𝓤 H A W (Referent.fInt Syntax.w32) E G47 5 1 ty·6 (Row.lease (κs .1 .0) (qs .1 .0)) 0 (λ x. x) record { fits = Dec'.lit< tt } (Reads.as-is 𝓤 H A (Mut.mslice (Referent.rtF (Referent.fInt Syntax.w32)) ty·6 1)) Path'.refl tt) d35
+          d36 : Typed.Typed 𝓤 H A 𝓣 E G42 b25 Δ1 at36
+          d36 = Typed.g-pre 𝓤 H A W 𝓣 E G42 G43 b25 Δ1 (Typed.pass T42 T43 s40) at35 (Scalar.g-room 𝓤 H A W E G42 36 ty·1 (Scalar.room-sc 𝓤 H A W (Row.sInt Syntax.w64))) d35
 
-          d37 : Typed.Typed 𝓤 H A 𝓣 E G46 b23 Δ0 at37
-          d37 = Typed.g-pre 𝓤 H A W 𝓣 E G46 G47 b23 Δ0 (Typed.both s45) at36 (Relend.g-back-sl 𝓤 H A W E (Referent.rtF (Referent.fInt Syntax.w32)) G46 22 5 1 11 ty·6 ty·3 (Row.lease (κs .1 .0) (qs .1 .0)) (λ x. x) (λ x. x) (Reads.as-is 𝓤 H A (Mut.msleft (Referent.rtF (Referent.fInt Syntax.w32)) ty·3)) (Reads.as-is 𝓤 H A (Relend.mslice-owed (Referent.rtF (Referent.fInt Syntax.w32)) ty·6 1 11 (Row.lease (κs .1 .0) (qs .1 .0)))) Path'.refl Path'.refl) d36
+          d37 : Typed.Typed 𝓤 H A 𝓣 E G41 b25 Δ1 at37
+          d37 = Typed.g-pre 𝓤 H A W 𝓣 E G41 G42 b25 Δ1 (Typed.pass T41 T42 s39) at36 (Scalar.g-room 𝓤 H A W E G41 35 ty·1 (Scalar.room-sc 𝓤 H A W (Row.sInt Syntax.w64))) d36
 
-          d38 : Typed.Typed 𝓤 H A 𝓣 E G45 b23 Δ0 at38
-          d38 = Typed.g-pre 𝓤 H A W 𝓣 E G45 G46 b23 Δ0 (λ Ψ. Ψ) at37 (Lifetime.g-end 𝓤 H A W E G45 11 Path'.refl) d37
+          d38 : Typed.Typed 𝓤 H A 𝓣 E G40 b25 Δ1 at38
+          d38 = Typed.g-pre 𝓤 H A W 𝓣 E G40 G41 b25 Δ1 (Typed.pass T40 T41 s38) at37 (Scalar.g-room 𝓤 H A W E G40 24 ty·1 (Scalar.room-sc 𝓤 H A W (Row.sInt Syntax.w64))) d37
 
-          d39 : Typed.Typed 𝓤 H A 𝓣 E G44 b23 Δ0 at39
-          d39 = Typed.g-pre 𝓤 H A W 𝓣 E G44 G45 b23 Δ0 (λ Ψ. Ψ) at38 (Lifetime.g-forget 𝓤 H A W E G44 10 Row.dead Path'.refl) d38
+          d39 : Typed.Typed 𝓤 H A 𝓣 E G39 b25 Δ1 at39
+          d39 = Typed.g-pre 𝓤 H A W 𝓣 E G39 G40 b25 Δ1 (Typed.pass T39 T40 s37) at38 (Scalar.g-room 𝓤 H A W E G39 34 ty·20 (Shared.room-sslice 𝓤 H A W (Referent.rtF (Referent.fInt Syntax.w32)) ty·3 16)) d38
 
-          d40 : Typed.Typed 𝓤 H A 𝓣 E G43 b23 Δ0 at40
-          d40 = Typed.g-pre 𝓤 H A W 𝓣 E G43 G44 b23 Δ0 (Typed.both s42) at39 (Relend.g-back-sl 𝓤 H A W E (Signed.SInt Syntax.w32) G43 20 4 0 10 ty·5 ty·3 (Row.lease (κs .0) (qs .0)) (λ x. x) (λ x. x) (Reads.as-is 𝓤 H A (Mut.msleft (Signed.SInt Syntax.w32) ty·3)) (Reads.as-is 𝓤 H A (Relend.mslice-owed (Signed.SInt Syntax.w32) ty·5 0 10 (Row.lease (κs .0) (qs .0)))) Path'.refl Path'.refl) d39
+          d40 : Typed.Typed 𝓤 H A 𝓣 E G38 b25 Δ1 at40
+          d40 = Typed.g-pre 𝓤 H A W 𝓣 E G38 G39 b25 Δ1 (Typed.pass T38 T39 s36) at39 (Scalar.g-room 𝓤 H A W E G38 32 ty·20 (Shared.room-sslice 𝓤 H A W (Referent.rtF (Referent.fInt Syntax.w32)) ty·3 15)) d39
 
-          d41 : Typed.Typed 𝓤 H A 𝓣 E G42 b23 Δ0 at41
-          d41 = Typed.g-pre 𝓤 H A W 𝓣 E G42 G43 b23 Δ0 (λ Ψ. Ψ) at40 (Lifetime.g-end 𝓤 H A W E G42 10 Path'.refl) d40
+          d41 : Typed.Typed 𝓤 H A 𝓣 E G37 b25 Δ1 at41
+          d41 = Typed.g-pre 𝓤 H A W 𝓣 E G37 G38 b25 Δ1 (Typed.pass T37 T38 s35) at40 (Scalar.g-room 𝓤 H A W E G37 30 ty·20 (Shared.room-sslice 𝓤 H A W (Referent.rtF (Referent.fInt Syntax.w32)) ty·3 14)) d40
 
-          d42 : Typed.Typed 𝓤 H A 𝓣 E G41 b23 Δ0 at42
-          d42 = Typed.g-pre 𝓤 H A W 𝓣 E G41 G42 b23 Δ0 (Typed.pass T41 T42 s40) at41 (Scalar.g-room 𝓤 H A W E G41 17 ty·19 (Local.room-whole 𝓤 H A W (Declared.row Point2.the-type) ty·19 Path'.refl)) d41
+          d42 : Typed.Typed 𝓤 H A 𝓣 E G36 b25 Δ1 at42
+          d42 = Typed.g-pre 𝓤 H A W 𝓣 E G36 G37 b25 Δ1 (Typed.pass T36 T37 s34) at41 (Scalar.g-room 𝓤 H A W E G36 28 ty·20 (Shared.room-sslice 𝓤 H A W (Signed.SInt Syntax.w32) ty·3 13)) d41
 
-          d43 : Typed.Typed 𝓤 H A 𝓣 E G40 b23 Δ0 at43
-          d43 = Typed.g-pre 𝓤 H A W 𝓣 E G40 G41 b23 Δ0 (Typed.pass T40 T41 s39) at42 (Scalar.g-room 𝓤 H A W E G40 16 ty·20 (Local.room-whole 𝓤 H A W (Declared.row Counts.the-type) ty·20 Path'.refl)) d42
+          d43 : Typed.Typed 𝓤 H A 𝓣 E G34 b25 Δ1 at43
+          d43 = Typed.g-pre 𝓤 H A W 𝓣 E G34 G36 b25 Δ1 (Typed.pass T34 T36 s33) at42 (Scalar.g-room 𝓤 H A W E G34 26 ty·20 (Shared.room-sslice 𝓤 H A W (Signed.SInt Syntax.w32) ty·3 12)) d42
 
-          d44 : Typed.Typed 𝓤 H A 𝓣 E G39 b24 Δ0 at44
-          d44 = Typed.s-seq 𝓤 H A W 𝓣 E G39 G40 b20 b23 Δ0 (Typed.both s38) at43 (Plain.t-call-plain 𝓤 H A W 𝓣 10 ps·0 r·0 (claims· .0) (claims· .1) "run::run" (known .0) E (λ pos β. β) G39 (record { pos = 16; st = List.[]; d = 0; at = λ x. x }, (record { pos = 20; ty = Syntax.tyRef Syntax.erased Syntax.mut ty·0; ref = λ x. x }, (record { pos = 22; ty = Syntax.tyRef Syntax.erased Syntax.mut ty·0; ref = λ x. x }, (record { pos = 24; ty = Syntax.tyRef Syntax.erased Syntax.mut ty·0; ref = λ x. x }, (record { pos = 26; ty = Syntax.tyRef Syntax.erased Syntax.mut ty·0; ref = λ x. x }, (record { pos = 28; ty = Syntax.tyRef Syntax.erased Syntax.mut (ELEMMEM.pointee (ELEM.the-row .written)); ref = λ x. x }, (record { pos = 30; ty = Syntax.tyRef Syntax.erased Syntax.mut ty·0; ref = λ x. x }, (record { pos = 32; ty = Syntax.tyRef Syntax.erased Syntax.mut ty·0; ref = λ x. x }, (record { pos = 34; ty = Syntax.tyRef Syntax.erased Syntax.mut ty·0; ref = λ x. x }, (record { pos = 36; ty = Syntax.tyRef Syntax.erased Syntax.mut ty·1; ref = λ x. x }, (record { pos = 17; st = List.[]; d = 0; at = λ x. x }, (record { pos = 15; ty = Syntax.tyRef (Syntax.named 9) Syntax.imm ty·0; ref = λ x. x }, tt)))))))))))) 18 (List._∷_ 10 (List._∷_ 11 (List._∷_ 12 (List._∷_ 13 (List._∷_ 14 (List._∷_ 15 (List._∷_ 16 (List._∷_ 17 (List._∷_ 18 (List._∷_ 9 List.[])))))))))) (Call.sub-id 𝓤 H A W (G39 .slots)) ((Yields.yields-copy 𝓤 H A W (λ ρ. Unit) (Declared.row Counts.the-type) Path'.refl (Copies.cStruct Counts.the-type Laws'3.the-laws Laws'3.the-copy .copy 𝓤 H A W) (Rows.whole (Declared.row Counts.the-type)) (λ x. x) (λ x. x) (λ ρ told. Local.mem-whole 𝓤 H A W (Declared.row Counts.the-type) ρ) λ ρ told. Local.whole-mem 𝓤 H A W (Declared.row Counts.the-type) ρ, Path'.refl), (Reads.as-is 𝓤 H A (Mut.mslice (Signed.SInt Syntax.w32) ty·3 10), Mut.reads-mslice 𝓤 H A W (Signed.SInt Syntax.w32) ty·3 10, Path'.refl, (Reads.as-is 𝓤 H A (Mut.mslice (Referent.rtF (Referent.fInt Syntax.w32)) ty·3 11), Mut.reads-mslice 𝓤 H A W (Referent.rtF (Referent.fInt Syntax.w32)) ty·3 11, Path'.refl, (Reads.as-is 𝓤 H A (Mut.mslice (Referent.rtF (Referent.fInt Syntax.w32)) ty·3 12), Mut.reads-mslice 𝓤 H A W (Referent.rtF (Referent.fInt Syntax.w32)) ty·3 12, Path'.refl, (Reads.as-is 𝓤 H A (Mut.mslice (Referent.rtF (Referent.fInt Syntax.w32)) ty·3 13), Mut.reads-mslice 𝓤 H A W (Referent.rtF (Referent.fInt Syntax.w32)) ty·3 13, Path'.refl, (Reads.as-is 𝓤 H A (Mut.mslice ELEM.the-row ty·14 14), Mut.reads-mslice 𝓤 H A W ELEM.the-row ty·14 14, Path'.refl, (Reads.as-is 𝓤 H A (Mut.mslice (Referent.rtF (Referent.fInt Syntax.w32)) ty·3 15), Mut.reads-mslice 𝓤 H A W (Referent.rtF (Referent.fInt Syntax.w32)) ty·3 15, Path'.refl, (Reads.as-is 𝓤 H A (Mut.mslice (Referent.rtF (Referent.fInt Syntax.w32)) ty·3 16), Mut.reads-mslice 𝓤 H A W (Referent.rtF (Referent.fInt Syntax.w32)) ty·3 16, Path'.refl, (Reads.as-is 𝓤 H A (Mut.mslice (Referent.rtF (Referent.fInt Syntax.w32)) ty·3 17), Mut.reads-mslice 𝓤 H A W (Referent.rtF (Referent.fInt Syntax.w32)) ty·3 17, Path'.refl, (Reads.as-is 𝓤 H A (Mut.mslice (Referent.rtF (Referent.fInt Syntax.w64)) ty·4 18), Mut.reads-mslice 𝓤 H A W (Referent.rtF (Referent.fInt Syntax.w64)) ty·4 18, Path'.refl, ((Yields.yields-copy 𝓤 H A W (λ ρ. Unit) (Declared.row Point2.the-type) Path'.refl (Copies.cStruct Point2.the-type Laws.the-laws Laws.the-copy .copy 𝓤 H A W) (Rows.whole (Declared.row Point2.the-type)) (λ x. x) (λ x. x) (λ ρ told. Local.mem-whole 𝓤 H A W (Declared.row Point2.the-type) ρ) λ ρ told. Local.whole-mem 𝓤 H A W (Declared.row Point2.the-type) ρ, Path'.refl), (ShrSlice.spares-sslice 𝓤 H A W (Signed.SInt Syntax.w32) ty·13 9, Shared.reads-sslice 𝓤 H A W (Signed.SInt Syntax.w32) ty·13 9, Path'.refl, tt)))))))))))) (Reads.room-gone 𝓤 H A ty·25) (tt, (tt, (tt, (tt, (tt, (tt, (tt, (tt, (tt, (tt, tt)))))))))) Path'.refl) d43
+          d44 : Typed.Typed 𝓤 H A 𝓣 E G163 b51 Δ0 at44
+          d44 = Typed.t-return 𝓤 H A W 𝓣 E Δ0 tt
 
-          d45 : Typed.Typed 𝓤 H A 𝓣 E G38 b24 Δ0 at45
-          d45 = Typed.g-pre 𝓤 H A W 𝓣 E G38 G39 b24 Δ0 (Typed.pass T38 T39 s37) at44 (AtSlots.g-as-by 𝓤 H A W E (λ ρ. Unit) G38 17 (Rows.whole (Declared.row Point2.the-type)) (λ v. Point2.struct .make v tt) (Own.told-none 𝓤 H A (G38 .slots)) λ ρ told v b. Apart.folds 𝓤 H A Point2.the-type (Point2.struct .Ghost) (Point2.struct .make) (λ v g. Path'.refl) ρ v tt b) d44
+          d45 : Typed.Typed 𝓤 H A 𝓣 E G162 b51 Δ0 at45
+          d45 = Typed.g-pre 𝓤 H A W 𝓣 E G162 G163 b51 Δ0 (Typed.pass T162 T163 s160) at44 (Scalar.g-room 𝓤 H A W E G162 15 ty·2 (Scalar.room-sc 𝓤 H A W (Row.sFloat Ieee.binary64))) d44
 
-          d46 : Typed.Typed 𝓤 H A 𝓣 E G37 b24 Δ0 at46
-          d46 = Typed.g-pre 𝓤 H A W 𝓣 E G37 G38 b24 Δ0 (Typed.pass T37 T38 s36) at45 (AtSlots.g-as-by 𝓤 H A W E (λ ρ. Unit) G37 16 (Rows.whole (Declared.row Counts.the-type)) (λ v. Counts.struct .make v tt) (Own.told-none 𝓤 H A (G37 .slots)) λ ρ told v b. Apart.folds 𝓤 H A Counts.the-type (Counts.struct .Ghost) (Counts.struct .make) (λ v g. Path'.refl) ρ v tt b) d45
+          d46 : Typed.Typed 𝓤 H A 𝓣 E G161 b51 Δ0 at46
+          d46 = Typed.g-pre 𝓤 H A W 𝓣 E G161 G162 b51 Δ0 (Typed.pass T161 T162 s159) at45 (Scalar.g-room 𝓤 H A W E G161 14 ty·2 (Scalar.room-sc 𝓤 H A W (Row.sFloat Ieee.binary64))) d45
 
-          d47 : Typed.Typed 𝓤 H A 𝓣 E G36 b25 Δ0 at47
-          d47 = Typed.s-seq 𝓤 H A W 𝓣 E G36 G37 b19 b24 Δ0 (Typed.ask s35) at46 (Relend.t-sl-aggregate 𝓤 H A W E (Referent.rtF (Referent.fInt Syntax.w64)) 𝓣 (Relend.asMut (Referent.rtF (Referent.fInt Syntax.w64))) G36 35 36 18 ty·4 ty·4 (λ x. x) (Scalar.oFld 12 (List._∷_ (Syntax.field 1) List.[]) ty·1 8 λ v. Shared.lenV (v .0)) (Reads.as-is 𝓤 H A (Relend.msptr (Referent.rtF (Referent.fInt Syntax.w64)) ty·4 18)) (Reads.room-gone 𝓤 H A ty·17) (Relend.reads-owed-len 𝓤 H A W (Referent.rtF (Referent.fInt Syntax.w64)) ty·12 8 18 (Row.lease (κs .1 .1 .1 .1 .1 .1 .1 .1 .0) (qs .1 .1 .1 .1 .1 .1 .1 .1 .0)) 8 Path'.refl, Path'.refl) Path'.refl Path'.refl λ b o k. tt) d46
+          d47 : Typed.Typed 𝓤 H A 𝓣 E G160 b51 Δ0 at47
+          d47 = Typed.g-pre 𝓤 H A W 𝓣 E G160 G161 b51 Δ0 (Typed.pass T160 T161 s158) at46 (Scalar.g-room 𝓤 H A W E G160 3 ty·0 (Scalar.room-sc 𝓤 H A W (Row.sInt Syntax.w32))) d46
 
-          d48 : Typed.Typed 𝓤 H A 𝓣 E G35 b26 Δ0 at48
-          d48 = Typed.s-seq 𝓤 H A W 𝓣 E G35 G36 b18 b25 Δ0 (Typed.give s34) at47 (Relend.t-sl-relend 𝓤 H A W E (Referent.rtF (Referent.fInt Syntax.w64)) 𝓣 G35 12 35 8 18 ty·12 ty·4 (Row.lease (κs .1 .1 .1 .1 .1 .1 .1 .1 .0) (qs .1 .1 .1 .1 .1 .1 .1 .1 .0)) 0 (λ x. x) (Reads.as-is 𝓤 H A (Mut.mslice (Referent.rtF (Referent.fInt Syntax.w64)) ty·12 8)) (Reads.room-gone 𝓤 H A ty·4) Path'.refl tt Path'.refl Path'.refl Path'.refl λ b o. tt) d47
+          d48 : Typed.Typed 𝓤 H A 𝓣 E G159 b51 Δ0 at48
+          d48 = Typed.g-pre 𝓤 H A W 𝓣 E G159 G160 b51 Δ0 (Typed.pass T159 T160 s157) at47 (Scalar.g-room 𝓤 H A W E G159 2 ty·0 (Scalar.room-sc 𝓤 H A W (Row.sInt Syntax.w32))) d47
 
-          d49 : Typed.Typed 𝓤 H A 𝓣 E G34 b26 Δ0 at49
-          d49 = Typed.g-pre 𝓤 H A W 𝓣 E G34 G35 b26 Δ0 (λ Ψ. Ψ) at48 (Lifetime.g-begin 𝓤 H A W E G34 18 (tt, (tt, (tt, (tt, ((tt, tt), ((tt, tt), ((tt, tt), ((tt, tt), ((tt, tt), ((tt, tt), ((tt, tt), ((tt, tt), (tt, (tt, (tt, (tt, (tt, (tt, (tt, (tt, (tt, (tt, (tt, (tt, (tt, (tt, (tt, (tt, (tt, (tt, (tt, (tt, (tt, (tt, (tt, (tt, (tt, tt)))))))))))))))))))))))))))))))))))))) d48
+          d49 : Typed.Typed 𝓤 H A 𝓣 E G158 b51 Δ0 at49
+          d49 = Typed.g-pre 𝓤 H A W 𝓣 E G158 G159 b51 Δ0 (Typed.pass T158 T159 s156) at48 (Scalar.g-room 𝓤 H A W E G158 1 ty·0 (Scalar.room-sc 𝓤 H A W (Row.sInt Syntax.w32))) d48
 
-          d50 : Typed.Typed 𝓤 H A 𝓣 E G33 b27 Δ0 at50
-          d50 = Typed.s-seq 𝓤 H A W 𝓣 E G33 G34 b17 b26 Δ0 (Typed.ask s32) at49 (Relend.t-sl-aggregate 𝓤 H A W E (Referent.rtF (Referent.fInt Syntax.w32)) 𝓣 (Relend.asMut (Referent.rtF (Referent.fInt Syntax.w32))) G33 33 34 17 ty·3 ty·3 (λ x. x) (Scalar.oFld 11 (List._∷_ (Syntax.field 1) List.[]) ty·1 8 λ v. Shared.lenV (v .0)) (Reads.as-is 𝓤 H A (Relend.msptr (Referent.rtF (Referent.fInt Syntax.w32)) ty·3 17)) (Reads.room-gone 𝓤 H A ty·16) (Relend.reads-owed-len 𝓤 H A W (Referent.rtF (Referent.fInt Syntax.w32)) ty·11 7 17 (Row.lease (κs .1 .1 .1 .1 .1 .1 .1 .0) (qs .1 .1 .1 .1 .1 .1 .1 .0)) 8 Path'.refl, Path'.refl) Path'.refl Path'.refl λ b o k. tt) d49
+          d50 : Typed.Typed 𝓤 H A 𝓣 E G157 b51 Δ0 at50
+          d50 = Typed.g-pre 𝓤 H A W 𝓣 E G157 G158 b51 Δ0 (Typed.pass T157 T158 s155) at49 (Scalar.g-room 𝓤 H A W E G157 23 ty·32 (Local.room-whole 𝓤 H A W (Declared'.row FinishAnswer.the-type) ty·32 Path'.refl)) d49
 
-          d51 : Typed.Typed 𝓤 H A 𝓣 E G32 b28 Δ0 at51
-          d51 = Typed.s-seq 𝓤 H A W 𝓣 E G32 G33 b16 b27 Δ0 (Typed.give s31) at50 (Relend.t-sl-relend 𝓤 H A W E (Referent.rtF (Referent.fInt Syntax.w32)) 𝓣 G32 11 33 7 17 ty·11 ty·3 (Row.lease (κs .1 .1 .1 .1 .1 .1 .1 .0) (qs .1 .1 .1 .1 .1 .1 .1 .0)) 0 (λ x. x) (Reads.as-is 𝓤 H A (Mut.mslice (Referent.rtF (Referent.fInt Syntax.w32)) ty·11 7)) (Reads.room-gone 𝓤 H A ty·3) Path'.refl tt Path'.refl Path'.refl Path'.refl λ b o. tt) d50
+          d51 : Typed.Typed 𝓤 H A 𝓣 E G156 b51 Δ0 at51
+          d51 = Typed.g-pre 𝓤 H A W 𝓣 E G156 G157 b51 Δ0 (Typed.pass T156 T157 s154) at50 (Scalar.g-room 𝓤 H A W E G156 20 Syntax.tyBool (Scalar.room-sc 𝓤 H A W Row.sBool)) d50
 
-          d52 : Typed.Typed 𝓤 H A 𝓣 E G31 b28 Δ0 at52
-          d52 = Typed.g-pre 𝓤 H A W 𝓣 E G31 G32 b28 Δ0 (λ Ψ. Ψ) at51 (Lifetime.g-begin 𝓤 H A W E G31 17 (tt, (tt, (tt, (tt, ((tt, tt), ((tt, tt), ((tt, tt), ((tt, tt), ((tt, tt), ((tt, tt), ((tt, tt), (tt, (tt, (tt, (tt, (tt, (tt, (tt, (tt, (tt, (tt, (tt, (tt, (tt, (tt, (tt, (tt, (tt, (tt, (tt, (tt, (tt, (tt, (tt, (tt, (tt, (tt, tt)))))))))))))))))))))))))))))))))))))) d51
+          d52 : Typed.Typed 𝓤 H A 𝓣 E G155 b52 Δ0 at52
+          d52 = Typed.s-seq 𝓤 H A W 𝓣 E G155 G156 b50 b51 Δ0 (Typed.both s153) at51 (Plain.t-call-plain 𝓤 H A W 𝓣 0 ps·5 r·5 (claims· .10) (claims· .11) "fithmoul::results::finish_result" (known .5) E (λ pos β. β) G155 (record { pos = 23; st = List.[]; d = 0; at = λ x. x }, tt) 0 List.[] (Call.sub-id 𝓤 H A W (G155 .slots)) ((Yields.yields-copy 𝓤 H A W (λ ρ. Unit) (Declared'.row FinishAnswer.the-type) Path'.refl (Copies.cStruct FinishAnswer.the-type Laws'.the-laws Laws'.the-copy .copy 𝓤 H A W) (Rows.whole (Declared'.row FinishAnswer.the-type)) (λ x. x) (λ x. x) (λ ρ told. Local.mem-whole 𝓤 H A W (Declared'.row FinishAnswer.the-type) ρ) λ ρ told. Local.whole-mem 𝓤 H A W (Declared'.row FinishAnswer.the-type) ρ, Path'.refl), tt) (Reads.room-gone 𝓤 H A ty·30) tt Path'.refl) d51
 
-          d53 : Typed.Typed 𝓤 H A 𝓣 E G30 b29 Δ0 at53
-          d53 = Typed.s-seq 𝓤 H A W 𝓣 E G30 G31 b15 b28 Δ0 (Typed.ask s29) at52 (Relend.t-sl-aggregate 𝓤 H A W E (Referent.rtF (Referent.fInt Syntax.w32)) 𝓣 (Relend.asMut (Referent.rtF (Referent.fInt Syntax.w32))) G30 31 32 16 ty·3 ty·3 (λ x. x) (Scalar.oFld 10 (List._∷_ (Syntax.field 1) List.[]) ty·1 8 λ v. Shared.lenV (v .0)) (Reads.as-is 𝓤 H A (Relend.msptr (Referent.rtF (Referent.fInt Syntax.w32)) ty·3 16)) (Reads.room-gone 𝓤 H A ty·16) (Relend.reads-owed-len 𝓤 H A W (Referent.rtF (Referent.fInt Syntax.w32)) ty·10 6 16 (Row.lease (κs .1 .1 .1 .1 .1 .1 .0) (qs .1 .1 .1 .1 .1 .1 .0)) 8 Path'.refl, Path'.refl) Path'.refl Path'.refl λ b o k. tt) d52
+          d53 : Typed.Typed 𝓤 H A 𝓣 E G154 b52 Δ0 at53
+          d53 = Typed.g-pre 𝓤 H A W 𝓣 E G154 G155 b52 Δ0 (λ Ψ. Ψ) at52 (Lifetime.g-forget 𝓤 H A W E G154 27 Row.dead Path'.refl) d52
 
-          d54 : Typed.Typed 𝓤 H A 𝓣 E G29 b30 Δ0 at54
-          d54 = Typed.s-seq 𝓤 H A W 𝓣 E G29 G30 b14 b29 Δ0 (Typed.give s28) at53 (Relend.t-sl-relend 𝓤 H A W E (Referent.rtF (Referent.fInt Syntax.w32)) 𝓣 G29 10 31 6 16 ty·10 ty·3 (Row.lease (κs .1 .1 .1 .1 .1 .1 .0) (qs .1 .1 .1 .1 .1 .1 .0)) 0 (λ x. x) (Reads.as-is 𝓤 H A (Mut.mslice (Referent.rtF (Referent.fInt Syntax.w32)) ty·10 6)) (Reads.room-gone 𝓤 H A ty·3) Path'.refl tt Path'.refl Path'.refl Path'.refl λ b o. tt) d53
+          d54 : Typed.Typed 𝓤 H A 𝓣 E G153 b52 Δ0 at54
+          d54 = Typed.g-pre 𝓤 H A W 𝓣 E G153 G154 b52 Δ0 (Typed.pass T151 T154 s151) at53 (Reshare.g-back-sl-shr 𝓤 H A W E (Referent.rtF (Referent.fInt Syntax.w64)) G153 13 9 27 ty·15 (Row.lease (κs .1 .1 .1 .1 .1 .1 .1 .1 .1 .0) (qs .1 .1 .1 .1 .1 .1 .1 .1 .1 .0)) (λ x. x) (Reads.as-is 𝓤 H A (Reshare.mslice-owedS (Referent.rtF (Referent.fInt Syntax.w64)) ty·15 9 27 (Row.lease (κs .1 .1 .1 .1 .1 .1 .1 .1 .1 .0) (qs .1 .1 .1 .1 .1 .1 .1 .1 .1 .0)))) Path'.refl Path'.refl) d53
 
-          d55 : Typed.Typed 𝓤 H A 𝓣 E G28 b30 Δ0 at55
-          d55 = Typed.g-pre 𝓤 H A W 𝓣 E G28 G29 b30 Δ0 (λ Ψ. Ψ) at54 (Lifetime.g-begin 𝓤 H A W E G28 16 (tt, (tt, (tt, (tt, ((tt, tt), ((tt, tt), ((tt, tt), ((tt, tt), ((tt, tt), ((tt, tt), (tt, (tt, (tt, (tt, (tt, (tt, (tt, (tt, (tt, (tt, (tt, (tt, (tt, (tt, (tt, (tt, (tt, (tt, (tt, (tt, (tt, (tt, (tt, (tt, (tt, (tt, (tt, tt)))))))))))))))))))))))))))))))))))))) d54
+          d55 : Typed.Typed 𝓤 H A 𝓣 E G152 b52 Δ0 at55
+          d55 = Typed.g-pre 𝓤 H A W 𝓣 E G152 G153 b52 Δ0 (λ Ψ. Ψ) at54 (Lifetime.g-end 𝓤 H A W E G152 27 Path'.refl) d54
 
-          d56 : Typed.Typed 𝓤 H A 𝓣 E G27 b31 Δ0 at56
-          d56 = Typed.s-seq 𝓤 H A W 𝓣 E G27 G28 b13 b30 Δ0 (Typed.ask s26) at55 (Relend.t-sl-aggregate 𝓤 H A W E (Referent.rtF (Referent.fInt Syntax.w32)) 𝓣 (Relend.asMut (Referent.rtF (Referent.fInt Syntax.w32))) G27 29 30 15 ty·3 ty·3 (λ x. x) (Scalar.oFld 9 (List._∷_ (Syntax.field 1) List.[]) ty·1 8 λ v. Shared.lenV (v .0)) (Reads.as-is 𝓤 H A (Relend.msptr (Referent.rtF (Referent.fInt Syntax.w32)) ty·3 15)) (Reads.room-gone 𝓤 H A ty·16) (Relend.reads-owed-len 𝓤 H A W (Referent.rtF (Referent.fInt Syntax.w32)) ty·9 5 15 (Row.lease (κs .1 .1 .1 .1 .1 .0) (qs .1 .1 .1 .1 .1 .0)) 8 Path'.refl, Path'.refl) Path'.refl Path'.refl λ b o k. tt) d55
+          d56 : Typed.Typed 𝓤 H A 𝓣 E G151 b52 Δ0 at56
+          d56 = Typed.g-pre 𝓤 H A W 𝓣 E G151 G152 b52 Δ0 (λ Ψ. Ψ) at55 (Lifetime.g-forget 𝓤 H A W E G151 26 Row.dead Path'.refl) d55
 
-          d57 : Typed.Typed 𝓤 H A 𝓣 E G26 b32 Δ0 at57
-          d57 = Typed.s-seq 𝓤 H A W 𝓣 E G26 G27 b12 b31 Δ0 (Typed.give s25) at56 (Relend.t-sl-relend 𝓤 H A W E (Referent.rtF (Referent.fInt Syntax.w32)) 𝓣 G26 9 29 5 15 ty·9 ty·3 (Row.lease (κs .1 .1 .1 .1 .1 .0) (qs .1 .1 .1 .1 .1 .0)) 0 (λ x. x) (Reads.as-is 𝓤 H A (Mut.mslice (Referent.rtF (Referent.fInt Syntax.w32)) ty·9 5)) (Reads.room-gone 𝓤 H A ty·3) Path'.refl tt Path'.refl Path'.refl Path'.refl λ b o. tt) d56
+          d57 : Typed.Typed 𝓤 H A 𝓣 E G150 b52 Δ0 at57
+          d57 = Typed.g-pre 𝓤 H A W 𝓣 E G150 G151 b52 Δ0 (Typed.both s148) at56 (Relend.g-back-sl 𝓤 H A W E (Signed.SInt Syntax.w32) G150 58 5 1 26 ty·8 ty·5 (Row.lease (κs .1 .0) (qs .1 .0)) (λ x. x) (λ x. x) (Reads.as-is 𝓤 H A (Mut.msleft (Signed.SInt Syntax.w32) ty·5)) (Reads.as-is 𝓤 H A (Relend.mslice-owed (Signed.SInt Syntax.w32) ty·8 1 26 (Row.lease (κs .1 .0) (qs .1 .0)))) Path'.refl Path'.refl) d56
 
-          d58 : Typed.Typed 𝓤 H A 𝓣 E G25 b32 Δ0 at58
-          d58 = Typed.g-pre 𝓤 H A W 𝓣 E G25 G26 b32 Δ0 (λ Ψ. Ψ) at57 (Lifetime.g-begin 𝓤 H A W E G25 15 (tt, (tt, (tt, (tt, ((tt, tt), ((tt, tt), ((tt, tt), ((tt, tt), ((tt, tt), (tt, (tt, (tt, (tt, (tt, (tt, (tt, (tt, (tt, (tt, (tt, (tt, (tt, (tt, (tt, (tt, (tt, (tt, (tt, (tt, (tt, (tt, (tt, (tt, (tt, (tt, (tt, (tt, tt)))))))))))))))))))))))))))))))))))))) d57
+          d58 : Typed.Typed 𝓤 H A 𝓣 E G149 b52 Δ0 at58
+          d58 = Typed.g-pre 𝓤 H A W 𝓣 E G149 G150 b52 Δ0 (λ Ψ. Ψ) at57 (Lifetime.g-end 𝓤 H A W E G149 26 Path'.refl) d57
 
-          d59 : Typed.Typed 𝓤 H A 𝓣 E G24 b33 Δ0 at59
-          d59 = Typed.s-seq 𝓤 H A W 𝓣 E G24 G25 b11 b32 Δ0 (Typed.ask s23) at58 (Relend.t-sl-aggregate 𝓤 H A W E ELEM.the-row 𝓣 (Relend.asMut ELEM.the-row) G24 27 28 14 ty·14 ty·14 (λ x. x) (Scalar.oFld 8 (List._∷_ (Syntax.field 1) List.[]) ty·1 8 λ v. Shared.lenV (v .0)) (Reads.as-is 𝓤 H A (Relend.msptr ELEM.the-row ty·14 14)) (Reads.room-gone 𝓤 H A ty·18) (Relend.reads-owed-len 𝓤 H A W ELEM.the-row ty·15 4 14 (Row.lease (κs .1 .1 .1 .1 .0) (qs .1 .1 .1 .1 .0)) 8 Path'.refl, Path'.refl) Path'.refl Path'.refl λ b o k. tt) d58
+          d59 : Typed.Typed 𝓤 H A 𝓣 E G148 b52 Δ0 at59
+          d59 = Typed.g-pre 𝓤 H A W 𝓣 E G148 G149 b52 Δ0 (Typed.pass T148 T149 s146) at58 (Scalar.g-room 𝓤 H A W E G148 56 Syntax.tyUnit (Scalar.room-sc 𝓤 H A W Row.sUnit)) d58
 
-          d60 : Typed.Typed 𝓤 H A 𝓣 E G23 b34 Δ0 at60
-          d60 = Typed.s-seq 𝓤 H A W 𝓣 E G23 G24 b10 b33 Δ0 (Typed.give s22) at59 (Relend.t-sl-relend 𝓤 H A W E ELEM.the-row 𝓣 G23 8 27 4 14 ty·15 ty·14 (Row.lease (κs .1 .1 .1 .1 .0) (qs .1 .1 .1 .1 .0)) 0 (λ x. x) (Reads.as-is 𝓤 H A (Mut.mslice ELEM.the-row ty·15 4)) (Reads.room-gone 𝓤 H A ty·14) Path'.refl tt Path'.refl Path'.refl Path'.refl λ b o. tt) d59
+          d60 : Typed.Typed 𝓤 H A 𝓣 E G147 b52 Δ0 at60
+          d60 = Typed.g-pre 𝓤 H A W 𝓣 E G147 G148 b52 Δ0 (Typed.pass T147 T148 s145) at59 (Scalar.g-room 𝓤 H A W E G147 60 ty·21 (Shared.room-sslice 𝓤 H A W (Referent.rtF (Referent.fInt Syntax.w64)) ty·4 27)) d59
 
-          d61 : Typed.Typed 𝓤 H A 𝓣 E G22 b34 Δ0 at61
-          d61 = Typed.g-pre 𝓤 H A W 𝓣 E G22 G23 b34 Δ0 (λ Ψ. Ψ) at60 (Lifetime.g-begin 𝓤 H A W E G22 14 (tt, (tt, (tt, (tt, ((tt, tt), ((tt, tt), ((tt, tt), ((tt, tt), (tt, (tt, (tt, (tt, (tt, (tt, (tt, (tt, (tt, (tt, (tt, (tt, (tt, (tt, (tt, (tt, (tt, (tt, (tt, (tt, (tt, (tt, (tt, (tt, (tt, (tt, (tt, (tt, (tt, tt)))))))))))))))))))))))))))))))))))))) d60
+          d61 : Typed.Typed 𝓤 H A 𝓣 E G146 b53 Δ0 at61
+          d61 = Typed.s-seq 𝓤 H A W 𝓣 E G146 G147 b49 b52 Δ0 (Typed.both s144) at60 (Plain.t-call-plain 𝓤 H A W 𝓣 4 ps·4 r·4 (claims· .8) (claims· .9) "surface::store_run" (known .4) E (λ pos β. β) G146 (record { pos = 58; ty = Syntax.tyRef Syntax.erased Syntax.mut ty·0; ref = λ x. x }, (record { pos = 60; ty = Syntax.tyRef Syntax.erased Syntax.imm ty·1; ref = λ x. x }, (record { pos = 17; ty = Syntax.tyRef (Syntax.named 11) Syntax.imm ty·0; ref = λ x. x }, (record { pos = 16; ty = Syntax.tyRef (Syntax.named 10) Syntax.imm ty·0; ref = λ x. x }, (Num.vAt 1 λ x. x, (record { pos = 23; st = List.[]; d = 0; at = λ x. x }, tt)))))) 56 (List._∷_ 26 (List._∷_ 27 (List._∷_ 11 (List._∷_ 10 List.[])))) (Call.sub-id 𝓤 H A W (G146 .slots)) (Reads.as-is 𝓤 H A (Mut.mslice (Signed.SInt Syntax.w32) ty·5 26), Mut.reads-mslice 𝓤 H A W (Signed.SInt Syntax.w32) ty·5 26, Path'.refl, (ShrSlice.spares-sslice 𝓤 H A W (Referent.rtF (Referent.fInt Syntax.w64)) ty·4 27, Shared.reads-sslice 𝓤 H A W (Referent.rtF (Referent.fInt Syntax.w64)) ty·4 27, Path'.refl, (ShrSlice.spares-sslice 𝓤 H A W (Signed.SInt Syntax.w32) ty·17 11, Shared.reads-sslice 𝓤 H A W (Signed.SInt Syntax.w32) ty·17 11, Path'.refl, (ShrSlice.spares-sslice 𝓤 H A W (Signed.SInt Syntax.w32) ty·16 10, Shared.reads-sslice 𝓤 H A W (Signed.SInt Syntax.w32) ty·16 10, Path'.refl, ((Scalar.reads-sc 𝓤 H A W (Row.sInt Syntax.w32), Path'.refl), ((Yields.yields-copy 𝓤 H A W (λ ρ. Unit) (Declared'.row FinishAnswer.the-type) Path'.refl (Copies.cStruct FinishAnswer.the-type Laws'.the-laws Laws'.the-copy .copy 𝓤 H A W) (Rows.whole (Declared'.row FinishAnswer.the-type)) (λ x. x) (λ x. x) (λ ρ told. Local.mem-whole 𝓤 H A W (Declared'.row FinishAnswer.the-type) ρ) λ ρ told. Local.whole-mem 𝓤 H A W (Declared'.row FinishAnswer.the-type) ρ, Path'.refl), tt)))))) (Reads.room-gone 𝓤 H A Syntax.tyUnit) (tt, (tt, (tt, (tt, tt)))) Path'.refl) d60
 
-          d62 : Typed.Typed 𝓤 H A 𝓣 E G21 b35 Δ0 at62
-          d62 = Typed.s-seq 𝓤 H A W 𝓣 E G21 G22 b9 b34 Δ0 (Typed.ask s20) at61 (Relend.t-sl-aggregate 𝓤 H A W E (Referent.rtF (Referent.fInt Syntax.w32)) 𝓣 (Relend.asMut (Referent.rtF (Referent.fInt Syntax.w32))) G21 25 26 13 ty·3 ty·3 (λ x. x) (Scalar.oFld 7 (List._∷_ (Syntax.field 1) List.[]) ty·1 8 λ v. Shared.lenV (v .0)) (Reads.as-is 𝓤 H A (Relend.msptr (Referent.rtF (Referent.fInt Syntax.w32)) ty·3 13)) (Reads.room-gone 𝓤 H A ty·16) (Relend.reads-owed-len 𝓤 H A W (Referent.rtF (Referent.fInt Syntax.w32)) ty·8 3 13 (Row.lease (κs .1 .1 .1 .0) (qs .1 .1 .1 .0)) 8 Path'.refl, Path'.refl) Path'.refl Path'.refl λ b o k. tt) d61
+          d62 : Typed.Typed 𝓤 H A 𝓣 E G145 b54 Δ0 at62
+          d62 = Typed.s-seq 𝓤 H A W 𝓣 E G145 G146 b48 b53 Δ0 (Typed.ask s143) at61 (Relend.t-sl-aggregate 𝓤 H A W E (Referent.rtF (Referent.fInt Syntax.w64)) 𝓣 (Relend.asShr (Referent.rtF (Referent.fInt Syntax.w64))) G145 59 60 27 ty·4 ty·4 (λ x. x) (Scalar.oFld 13 (List._∷_ (Syntax.field 1) List.[]) ty·1 8 λ v. Shared.lenV (v .0)) (Reads.as-is 𝓤 H A (Relend.ssptr (Referent.rtF (Referent.fInt Syntax.w64)) ty·4 27)) (Reads.room-gone 𝓤 H A ty·21) (Reshare.reads-owedS-len 𝓤 H A W (Referent.rtF (Referent.fInt Syntax.w64)) ty·15 9 27 (Row.lease (κs .1 .1 .1 .1 .1 .1 .1 .1 .1 .0) (qs .1 .1 .1 .1 .1 .1 .1 .1 .1 .0)) 8 Path'.refl, Path'.refl) Path'.refl Path'.refl λ b o k. tt) d61
 
-          d63 : Typed.Typed 𝓤 H A 𝓣 E G20 b36 Δ0 at63
-          d63 = Typed.s-seq 𝓤 H A W 𝓣 E G20 G21 b8 b35 Δ0 (Typed.give s19) at62 (Relend.t-sl-relend 𝓤 H A W E (Referent.rtF (Referent.fInt Syntax.w32)) 𝓣 G20 7 25 3 13 ty·8 ty·3 (Row.lease (κs .1 .1 .1 .0) (qs .1 .1 .1 .0)) 0 (λ x. x) (Reads.as-is 𝓤 H A (Mut.mslice (Referent.rtF (Referent.fInt Syntax.w32)) ty·8 3)) (Reads.room-gone 𝓤 H A ty·3) Path'.refl tt Path'.refl Path'.refl Path'.refl λ b o. tt) d62
+          d63 : Typed.Typed 𝓤 H A 𝓣 E G144 b55 Δ0 at63
+          d63 = Typed.s-seq 𝓤 H A W 𝓣 E G144 G145 b47 b54 Δ0 (Typed.give s142) at62 (Reshare.t-sl-reshare 𝓤 H A W E (Referent.rtF (Referent.fInt Syntax.w64)) 𝓣 G144 13 59 9 27 ty·15 ty·4 (Row.lease (κs .1 .1 .1 .1 .1 .1 .1 .1 .1 .0) (qs .1 .1 .1 .1 .1 .1 .1 .1 .1 .0)) 0 (λ x. x) (Reads.as-is 𝓤 H A (Mut.mslice (Referent.rtF (Referent.fInt Syntax.w64)) ty·15 9)) (Reads.room-gone 𝓤 H A ty·4) Path'.refl tt Path'.refl Path'.refl Path'.refl λ b o. tt) d62
 
-          d64 : Typed.Typed 𝓤 H A 𝓣 E G19 b36 Δ0 at64
-          d64 = Typed.g-pre 𝓤 H A W 𝓣 E G19 G20 b36 Δ0 (λ Ψ. Ψ) at63 (Lifetime.g-begin 𝓤 H A W E G19 13 (tt, (tt, (tt, (tt, ((tt, tt), ((tt, tt), ((tt, tt), (tt, (tt, (tt, (tt, (tt, (tt, (tt, (tt, (tt, (tt, (tt, (tt, (tt, (tt, (tt, (tt, (tt, (tt, (tt, (tt, (tt, (tt, (tt, (tt, (tt, (tt, (tt, (tt, (tt, (tt, tt)))))))))))))))))))))))))))))))))))))) d63
+          d64 : Typed.Typed 𝓤 H A 𝓣 E G143 b55 Δ0 at64
+          d64 = Typed.g-pre 𝓤 H A W 𝓣 E G143 G144 b55 Δ0 (λ Ψ. Ψ) at63 (Lifetime.g-begin 𝓤 H A W E G143 27 (tt, (tt, (tt, (tt, (tt, ((tt, tt), (tt, (tt, (tt, (tt, (tt, (tt, (tt, (tt, (tt, (tt, (tt, (tt, (tt, (tt, (tt, (tt, (tt, (tt, (tt, (tt, (tt, (tt, (tt, (tt, (tt, (tt, (tt, (tt, (tt, (tt, (tt, (tt, (tt, (tt, (tt, (tt, (tt, (tt, (tt, (tt, (tt, (tt, (tt, (tt, (tt, (tt, (tt, (tt, (tt, (tt, (tt, (tt, (tt, (tt, (tt, tt)))))))))))))))))))))))))))))))))))))))))))))))))))))))))))))) d63
 
-          d65 : Typed.Typed 𝓤 H A 𝓣 E G18 b37 Δ0 at65
-          d65 = Typed.s-seq 𝓤 H A W 𝓣 E G18 G19 b7 b36 Δ0 (Typed.ask s17) at64 (Relend.t-sl-aggregate 𝓤 H A W E (Referent.rtF (Referent.fInt Syntax.w32)) 𝓣 (Relend.asMut (Referent.rtF (Referent.fInt Syntax.w32))) G18 23 24 12 ty·3 ty·3 (λ x. x) (Scalar.oFld 6 (List._∷_ (Syntax.field 1) List.[]) ty·1 8 λ v. Shared.lenV (v .0)) (Reads.as-is 𝓤 H A (Relend.msptr (Referent.rtF (Referent.fInt Syntax.w32)) ty·3 12)) (Reads.room-gone 𝓤 H A ty·16) (Relend.reads-owed-len 𝓤 H A W (Referent.rtF (Referent.fInt Syntax.w32)) ty·7 2 12 (Row.lease (κs .1 .1 .0) (qs .1 .1 .0)) 8 Path'.refl, Path'.refl) Path'.refl Path'.refl λ b o k. tt) d64
+          d65 : Typed.Typed 𝓤 H A 𝓣 E G142 b56 Δ0 at65
+          d65 = Typed.s-seq 𝓤 H A W 𝓣 E G142 G143 b46 b55 Δ0 (Typed.ask s140) at64 (Relend.t-sl-aggregate 𝓤 H A W E (Signed.SInt Syntax.w32) 𝓣 (Relend.asMut (Signed.SInt Syntax.w32)) G142 57 58 26 ty·5 ty·5 (λ x. x) (Scalar.oFld 5 (List._∷_ (Syntax.field 1) List.[]) ty·1 8 λ v. Shared.lenV (v .0)) (Reads.as-is 𝓤 H A (Relend.msptr (Signed.SInt Syntax.w32) ty·5 26)) (Reads.room-gone 𝓤 H A ty·22) (Relend.reads-owed-len 𝓤 H A W (Signed.SInt Syntax.w32) ty·8 1 26 (Row.lease (κs .1 .0) (qs .1 .0)) 8 Path'.refl, Path'.refl) Path'.refl Path'.refl λ b o k. tt) d64
 
-          d66 : Typed.Typed 𝓤 H A 𝓣 E G17 b38 Δ0 at66
-          d66 = Typed.s-seq 𝓤 H A W 𝓣 E G17 G18 b6 b37 Δ0 (Typed.give s16) at65 (Relend.t-sl-relend 𝓤 H A W E (Referent.rtF (Referent.fInt Syntax.w32)) 𝓣 G17 6 23 2 12 ty·7 ty·3 (Row.lease (κs .1 .1 .0) (qs .1 .1 .0)) 0 (λ x. x) (Reads.as-is 𝓤 H A (Mut.mslice (Referent.rtF (Referent.fInt Syntax.w32)) ty·7 2)) (Reads.room-gone 𝓤 H A ty·3) Path'.refl tt Path'.refl Path'.refl Path'.refl λ b o. tt) d65
+          d66 : Typed.Typed 𝓤 H A 𝓣 E G141 b57 Δ0 at66
+          d66 = Typed.s-seq 𝓤 H A W 𝓣 E G141 G142 b45 b56 Δ0 (Typed.give s139) at65 (Relend.t-sl-relend 𝓤 H A W E (Signed.SInt Syntax.w32) 𝓣 G141 5 57 1 26 ty·8 ty·5 (Row.lease (κs .1 .0) (qs .1 .0)) 0 (λ x. x) (Reads.as-is 𝓤 H A (Mut.mslice (Signed.SInt Syntax.w32) ty·8 1)) (Reads.room-gone 𝓤 H A ty·5) Path'.refl tt Path'.refl Path'.refl Path'.refl λ b o. tt) d65
 
-          d67 : Typed.Typed 𝓤 H A 𝓣 E G16 b38 Δ0 at67
-          d67 = Typed.g-pre 𝓤 H A W 𝓣 E G16 G17 b38 Δ0 (λ Ψ. Ψ) at66 (Lifetime.g-begin 𝓤 H A W E G16 12 (tt, (tt, (tt, (tt, ((tt, tt), ((tt, tt), (tt, (tt, (tt, (tt, (tt, (tt, (tt, (tt, (tt, (tt, (tt, (tt, (tt, (tt, (tt, (tt, (tt, (tt, (tt, (tt, (tt, (tt, (tt, (tt, (tt, (tt, (tt, (tt, (tt, (tt, (tt, tt)))))))))))))))))))))))))))))))))))))) d66
+          d67 : Typed.Typed 𝓤 H A 𝓣 E G140 b57 Δ0 at67
+          d67 = Typed.g-pre 𝓤 H A W 𝓣 E G140 G141 b57 Δ0 (λ Ψ. Ψ) at66 (Lifetime.g-begin 𝓤 H A W E G140 26 (tt, (tt, (tt, (tt, (tt, (tt, (tt, (tt, (tt, (tt, (tt, (tt, (tt, (tt, (tt, (tt, (tt, (tt, (tt, (tt, (tt, (tt, (tt, (tt, (tt, (tt, (tt, (tt, (tt, (tt, (tt, (tt, (tt, (tt, (tt, (tt, (tt, (tt, (tt, (tt, (tt, (tt, (tt, (tt, (tt, (tt, (tt, (tt, (tt, (tt, (tt, (tt, (tt, (tt, (tt, (tt, (tt, (tt, (tt, (tt, (tt, tt)))))))))))))))))))))))))))))))))))))))))))))))))))))))))))))) d66
 
-          d68 : Typed.Typed 𝓤 H A 𝓣 E G15 b39 Δ0 at68
-          d68 = Typed.s-seq 𝓤 H A W 𝓣 E G15 G16 b5 b38 Δ0 (Typed.ask s14) at67 (Relend.t-sl-aggregate 𝓤 H A W E (Referent.rtF (Referent.fInt Syntax.w32)) 𝓣 (Relend.asMut (Referent.rtF (Referent.fInt Syntax.w32))) G15 21 22 11 ty·3 ty·3 (λ x. x) (Scalar.oFld 5 (List._∷_ (Syntax.field 1) List.[]) ty·1 8 λ v. Shared.lenV (v .0)) (Reads.as-is 𝓤 H A (Relend.msptr (Referent.rtF (Referent.fInt Syntax.w32)) ty·3 11)) (Reads.room-gone 𝓤 H A ty·16) (Relend.reads-owed-len 𝓤 H A W (Referent.rtF (Referent.fInt Syntax.w32)) ty·6 1 11 (Row.lease (κs .1 .0) (qs .1 .0)) 8 Path'.refl, Path'.refl) Path'.refl Path'.refl λ b o k. tt) d67
+          d68 : Typed.Typed 𝓤 H A 𝓣 E G139 b57 Δ0 at68
+          d68 = Typed.g-pre 𝓤 H A W 𝓣 E G139 G140 b57 Δ0 (λ Ψ. Ψ) at67 (Lifetime.g-forget 𝓤 H A W E G139 25 Row.dead Path'.refl) d67
 
-          d69 : Typed.Typed 𝓤 H A 𝓣 E G14 b40 Δ0 at69
-          d69 = Typed.s-seq 𝓤 H A W 𝓣 E G14 G15 b4 b39 Δ0 (Typed.give s13) at68 (Relend.t-sl-relend 𝓤 H A W E (Referent.rtF (Referent.fInt Syntax.w32)) 𝓣 G14 5 21 1 11 ty·6 ty·3 (Row.lease (κs .1 .0) (qs .1 .0)) 0 (λ x. x) (Reads.as-is 𝓤 H A (Mut.mslice (Referent.rtF (Referent.fInt Syntax.w32)) ty·6 1)) (Reads.room-gone 𝓤 H A ty·3) Path'.refl tt Path'.refl Path'.refl Path'.refl λ b o. tt) d68
+          d69 : Typed.Typed 𝓤 H A 𝓣 E G138 b57 Δ0 at69
+          d69 = Typed.g-pre 𝓤 H A W 𝓣 E G138 G139 b57 Δ0 (Typed.give s136) at68 (Know.g-sl-known 𝓤 H A W (Referent.fInt Syntax.w64) E G138 13 9 ty·15 (Row.lease (κs .1 .1 .1 .1 .1 .1 .1 .1 .1 .0) (qs .1 .1 .1 .1 .1 .1 .1 .1 .1 .0)) 0 (λ x. x) record { fits = Dec'.lit< tt } (Reads.as-is 𝓤 H A (Mut.mslice (Referent.rtF (Referent.fInt Syntax.w64)) ty·15 9)) Path'.refl tt) d68
 
-          d70 : Typed.Typed 𝓤 H A 𝓣 E G13 b40 Δ0 at70
-          d70 = Typed.g-pre 𝓤 H A W 𝓣 E G13 G14 b40 Δ0 (λ Ψ. Ψ) at69 (Lifetime.g-begin 𝓤 H A W E G13 11 (tt, (tt, (tt, (tt, ((tt, tt), (tt, (tt, (tt, (tt, (tt, (tt, (tt, (tt, (tt, (tt, (tt, (tt, (tt, (tt, (tt, (tt, (tt, (tt, (tt, (tt, (tt, (tt, (tt, (tt, (tt, (tt, (tt, (tt, (tt, (tt, (tt, (tt, tt)))))))))))))))))))))))))))))))))))))) d69
+          d70 : Typed.Typed 𝓤 H A 𝓣 E G137 b57 Δ0 at70
+          d70 = Typed.g-pre 𝓤 H A W 𝓣 E G137 G138 b57 Δ0 (Typed.both s135) at69 (Relend.g-back-sl 𝓤 H A W E (Referent.rtF (Referent.fInt Syntax.w64)) G137 55 13 9 25 ty·15 ty·6 (Row.lease (κs .1 .1 .1 .1 .1 .1 .1 .1 .1 .0) (qs .1 .1 .1 .1 .1 .1 .1 .1 .1 .0)) (λ x. x) (λ x. x) (Reads.as-is 𝓤 H A (Mut.msleft (Referent.rtF (Referent.fInt Syntax.w64)) ty·6)) (Reads.as-is 𝓤 H A (Relend.mslice-owed (Referent.rtF (Referent.fInt Syntax.w64)) ty·15 9 25 (Row.lease (κs .1 .1 .1 .1 .1 .1 .1 .1 .1 .0) (qs .1 .1 .1 .1 .1 .1 .1 .1 .1 .0)))) Path'.refl Path'.refl) d69
 
-          d71 : Typed.Typed 𝓤 H A 𝓣 E G12 b41 Δ0 at71
-          d71 = Typed.s-seq 𝓤 H A W 𝓣 E G12 G13 b3 b40 Δ0 (Typed.ask s11) at70 (Relend.t-sl-aggregate 𝓤 H A W E (Signed.SInt Syntax.w32) 𝓣 (Relend.asMut (Signed.SInt Syntax.w32)) G12 19 20 10 ty·3 ty·3 (λ x. x) (Scalar.oFld 4 (List._∷_ (Syntax.field 1) List.[]) ty·1 8 λ v. Shared.lenV (v .0)) (Reads.as-is 𝓤 H A (Relend.msptr (Signed.SInt Syntax.w32) ty·3 10)) (Reads.room-gone 𝓤 H A ty·16) (Relend.reads-owed-len 𝓤 H A W (Signed.SInt Syntax.w32) ty·5 0 10 (Row.lease (κs .0) (qs .0)) 8 Path'.refl, Path'.refl) Path'.refl Path'.refl λ b o k. tt) d70
+          d71 : Typed.Typed 𝓤 H A 𝓣 E G136 b57 Δ0 at71
+          d71 = Typed.g-pre 𝓤 H A W 𝓣 E G136 G137 b57 Δ0 (λ Ψ. Ψ) at70 (Lifetime.g-end 𝓤 H A W E G136 25 Path'.refl) d70
 
-          d72 : Typed.Typed 𝓤 H A 𝓣 E G11 b42 Δ0 at72
-          d72 = Typed.s-seq 𝓤 H A W 𝓣 E G11 G12 b2 b41 Δ0 (Typed.give s10) at71 (Relend.t-sl-relend 𝓤 H A W E (Signed.SInt Syntax.w32) 𝓣 G11 4 19 0 10 ty·5 ty·3 (Row.lease (κs .0) (qs .0)) 0 (λ x. x) (Reads.as-is 𝓤 H A (Mut.mslice (Signed.SInt Syntax.w32) ty·5 0)) (Reads.room-gone 𝓤 H A ty·3) Path'.refl tt Path'.refl Path'.refl Path'.refl λ b o. tt) d71
+          d72 : Typed.Typed 𝓤 H A 𝓣 E G135 b57 Δ0 at72
+          d72 = Typed.g-pre 𝓤 H A W 𝓣 E G135 G136 b57 Δ0 (λ Ψ. Ψ) at71 (Lifetime.g-forget 𝓤 H A W E G135 24 Row.dead Path'.refl) d71
 
-          d73 : Typed.Typed 𝓤 H A 𝓣 E G10 b42 Δ0 at73
-          d73 = Typed.g-pre 𝓤 H A W 𝓣 E G10 G11 b42 Δ0 (λ Ψ. Ψ) at72 (Lifetime.g-begin 𝓤 H A W E G10 10 (tt, (tt, (tt, (tt, (tt, (tt, (tt, (tt, (tt, (tt, (tt, (tt, (tt, (tt, (tt, (tt, (tt, (tt, (tt, (tt, (tt, (tt, (tt, (tt, (tt, (tt, (tt, (tt, (tt, (tt, (tt, (tt, (tt, (tt, (tt, (tt, (tt, tt)))))))))))))))))))))))))))))))))))))) d72
+          d73 : Typed.Typed 𝓤 H A 𝓣 E G134 b57 Δ0 at73
+          d73 = Typed.g-pre 𝓤 H A W 𝓣 E G134 G135 b57 Δ0 (Typed.give s132) at72 (Know.g-sl-known 𝓤 H A W (Referent.fInt Syntax.w32) E G134 12 8 ty·14 (Row.lease (κs .1 .1 .1 .1 .1 .1 .1 .1 .0) (qs .1 .1 .1 .1 .1 .1 .1 .1 .0)) 0 (λ x. x) record { fits = Dec'.lit< tt } (Reads.as-is 𝓤 H A (Mut.mslice (Referent.rtF (Referent.fInt Syntax.w32)) ty·14 8)) Path'.refl tt) d72
 
-          d74 : Typed.Typed 𝓤 H A 𝓣 E G9 b43 Δ0 at74
-          d74 = Typed.s-seq 𝓤 H A W 𝓣 E G9 G10 b1 b42 Δ0 (Typed.pass T9 T10 s8) at73 (Make.t-struct-make 𝓤 H A W E 𝓣 (Apart.apartT Point2.the-type) Laws.the-laws Laws.the-plain G9 17 (List._∷_ (Scalar.oAt 13 ty·2 (Row.valS (Row.sFloat Ieee.binary64))) (List._∷_ (Scalar.oAt 14 ty·2 (Row.valS (Row.sFloat Ieee.binary64))) List.[])) (λ m. (m .1 .1 .1 .1 .1 .1 .1 .1 .1 .1 .1 .1 .1 .0, (m .1 .1 .1 .1 .1 .1 .1 .1 .1 .1 .1 .1 .1 .1 .0, tt))) (Reads.room-gone 𝓤 H A ty·19) ((Scalar.reads-sc 𝓤 H A W (Row.sFloat Ieee.binary64), Path'.refl), ((Scalar.reads-sc 𝓤 H A W (Row.sFloat Ieee.binary64), Path'.refl), tt)) Path'.refl (λ u. Path'.refl) λ m. Make.is-wt (Apart.apartT Point2.the-type) Laws.the-laws (Make.f64-wt, (Make.f64-wt, tt)) (m .1 .1 .1 .1 .1 .1 .1 .1 .1 .1 .1 .1 .1 .0, (m .1 .1 .1 .1 .1 .1 .1 .1 .1 .1 .1 .1 .1 .1 .0, tt))) d73
+          d74 : Typed.Typed 𝓤 H A 𝓣 E G133 b57 Δ0 at74
+          d74 = Typed.g-pre 𝓤 H A W 𝓣 E G133 G134 b57 Δ0 (Typed.both s131) at73 (Relend.g-back-sl 𝓤 H A W E (Referent.rtF (Referent.fInt Syntax.w32)) G133 53 12 8 24 ty·14 ty·5 (Row.lease (κs .1 .1 .1 .1 .1 .1 .1 .1 .0) (qs .1 .1 .1 .1 .1 .1 .1 .1 .0)) (λ x. x) (λ x. x) (Reads.as-is 𝓤 H A (Mut.msleft (Referent.rtF (Referent.fInt Syntax.w32)) ty·5)) (Reads.as-is 𝓤 H A (Relend.mslice-owed (Referent.rtF (Referent.fInt Syntax.w32)) ty·14 8 24 (Row.lease (κs .1 .1 .1 .1 .1 .1 .1 .1 .0) (qs .1 .1 .1 .1 .1 .1 .1 .1 .0)))) Path'.refl Path'.refl) d73
 
-          d75 : Typed.Typed 𝓤 H A 𝓣 E G8 b44 Δ0 at75
-          d75 = Typed.s-seq 𝓤 H A W 𝓣 E G8 G9 b0 b43 Δ0 (Typed.pass T8 T9 s7) at74 (Make.t-struct-make 𝓤 H A W E 𝓣 (Apart.apartT Counts.the-type) Laws'3.the-laws Laws'3.the-plain G8 16 (List._∷_ (Scalar.oAt 1 ty·0 (Row.valS (Row.sInt Syntax.w32))) (List._∷_ (Scalar.oAt 2 ty·0 (Row.valS (Row.sInt Syntax.w32))) (List._∷_ (Scalar.oAt 3 ty·0 (Row.valS (Row.sInt Syntax.w32))) List.[]))) (λ m. (m .1 .0, (m .1 .1 .0, (m .1 .1 .1 .0, tt)))) (Reads.room-gone 𝓤 H A ty·20) ((Scalar.reads-sc 𝓤 H A W (Row.sInt Syntax.w32), Path'.refl), ((Scalar.reads-sc 𝓤 H A W (Row.sInt Syntax.w32), Path'.refl), ((Scalar.reads-sc 𝓤 H A W (Row.sInt Syntax.w32), Path'.refl), tt))) Path'.refl (λ u. Path'.refl) λ m. Make.is-wt (Apart.apartT Counts.the-type) Laws'3.the-laws (Make.u32-wt, (Make.u32-wt, (Make.u32-wt, tt))) (m .1 .0, (m .1 .1 .0, (m .1 .1 .1 .0, tt)))) d74
+          d75 : Typed.Typed 𝓤 H A 𝓣 E G132 b57 Δ0 at75
+          d75 = Typed.g-pre 𝓤 H A W 𝓣 E G132 G133 b57 Δ0 (λ Ψ. Ψ) at74 (Lifetime.g-end 𝓤 H A W E G132 24 Path'.refl) d74
 
-          d76 : Typed.Typed 𝓤 H A 𝓣 E G7 b44 Δ0 at76
-          d76 = Typed.g-pre 𝓤 H A W 𝓣 E G7 G8 b44 Δ0 (Typed.give s6) at75 (Know.g-sl-known 𝓤 H A W (Referent.fInt Syntax.w64) E G7 12 8 ty·12 (Row.lease (κs .1 .1 .1 .1 .1 .1 .1 .1 .0) (qs .1 .1 .1 .1 .1 .1 .1 .1 .0)) 0 (λ x. x) record { fits = Dec'.lit< tt } (Reads.as-is 𝓤 H A (Mut.mslice (Referent.rtF (Referent.fInt Syntax.w64)) ty·12 8)) Path'.refl tt) d75
+          d76 : Typed.Typed 𝓤 H A 𝓣 E G131 b57 Δ0 at76
+          d76 = Typed.g-pre 𝓤 H A W 𝓣 E G131 G132 b57 Δ0 (λ Ψ. Ψ) at75 (Lifetime.g-forget 𝓤 H A W E G131 23 Row.dead Path'.refl) d75
 
-          d77 : Typed.Typed 𝓤 H A 𝓣 E G6 b44 Δ0 at77
-          d77 = Typed.g-pre 𝓤 H A W 𝓣 E G6 G7 b44 Δ0 (Typed.give s5) at76 (Know.g-sl-known 𝓤 H A W (Referent.fInt Syntax.w32) E G6 11 7 ty·11 (Row.lease (κs .1 .1 .1 .1 .1 .1 .1 .0) (qs .1 .1 .1 .1 .1 .1 .1 .0)) 0 (λ x. x) record { fits = Dec'.lit< tt } (Reads.as-is 𝓤 H A (Mut.mslice (Referent.rtF (Referent.fInt Syntax.w32)) ty·11 7)) Path'.refl tt) d76
+          d77 : Typed.Typed 𝓤 H A 𝓣 E G130 b57 Δ0 at77
+          d77 = Typed.g-pre 𝓤 H A W 𝓣 E G130 G131 b57 Δ0 (Typed.give s128) at76 (Know.g-sl-known 𝓤 H A W (Referent.fInt Syntax.w32) E G130 11 7 ty·13 (Row.lease (κs .1 .1 .1 .1 .1 .1 .1 .0) (qs .1 .1 .1 .1 .1 .1 .1 .0)) 0 (λ x. x) record { fits = Dec'.lit< tt } (Reads.as-is 𝓤 H A (Mut.mslice (Referent.rtF (Referent.fInt Syntax.w32)) ty·13 7)) Path'.refl tt) d76
 
-          d78 : Typed.Typed 𝓤 H A 𝓣 E G5 b44 Δ0 at78
-          d78 = Typed.g-pre 𝓤 H A W 𝓣 E G5 G6 b44 Δ0 (Typed.give s4) at77 (Know.g-sl-known 𝓤 H A W (Referent.fInt Syntax.w32) E G5 10 6 ty·10 (Row.lease (κs .1 .1 .1 .1 .1 .1 .0) (qs .1 .1 .1 .1 .1 .1 .0)) 0 (λ x. x) record { fits = Dec'.lit< tt } (Reads.as-is 𝓤 H A (Mut.mslice (Referent.rtF (Referent.fInt Syntax.w32)) ty·10 6)) Path'.refl tt) d77
+          d78 : Typed.Typed 𝓤 H A 𝓣 E G129 b57 Δ0 at78
+          d78 = Typed.g-pre 𝓤 H A W 𝓣 E G129 G130 b57 Δ0 (Typed.both s127) at77 (Relend.g-back-sl 𝓤 H A W E (Referent.rtF (Referent.fInt Syntax.w32)) G129 51 11 7 23 ty·13 ty·5 (Row.lease (κs .1 .1 .1 .1 .1 .1 .1 .0) (qs .1 .1 .1 .1 .1 .1 .1 .0)) (λ x. x) (λ x. x) (Reads.as-is 𝓤 H A (Mut.msleft (Referent.rtF (Referent.fInt Syntax.w32)) ty·5)) (Reads.as-is 𝓤 H A (Relend.mslice-owed (Referent.rtF (Referent.fInt Syntax.w32)) ty·13 7 23 (Row.lease (κs .1 .1 .1 .1 .1 .1 .1 .0) (qs .1 .1 .1 .1 .1 .1 .1 .0)))) Path'.refl Path'.refl) d77
 
-          d79 : Typed.Typed 𝓤 H A 𝓣 E G4 b44 Δ0 at79
-          d79 = Typed.g-pre 𝓤 H A W 𝓣 E G4 G5 b44 Δ0 (Typed.give s3) at78 (Know.g-sl-known 𝓤 H A W (Referent.fInt Syntax.w32) E G4 9 5 ty·9 (Row.lease (κs .1 .1 .1 .1 .1 .0) (qs .1 .1 .1 .1 .1 .0)) 0 (λ x. x) record { fits = Dec'.lit< tt } (Reads.as-is 𝓤 H A (Mut.mslice (Referent.rtF (Referent.fInt Syntax.w32)) ty·9 5)) Path'.refl tt) d78
+          d79 : Typed.Typed 𝓤 H A 𝓣 E G128 b57 Δ0 at79
+          d79 = Typed.g-pre 𝓤 H A W 𝓣 E G128 G129 b57 Δ0 (λ Ψ. Ψ) at78 (Lifetime.g-end 𝓤 H A W E G128 23 Path'.refl) d78
 
-          d80 : Typed.Typed 𝓤 H A 𝓣 E G3 b44 Δ0 at80
-          d80 = Typed.g-pre 𝓤 H A W 𝓣 E G3 G4 b44 Δ0 (Typed.give s2) at79 (Know.g-sl-known 𝓤 H A W (Referent.fInt Syntax.w32) E G3 7 3 ty·8 (Row.lease (κs .1 .1 .1 .0) (qs .1 .1 .1 .0)) 0 (λ x. x) record { fits = Dec'.lit< tt } (Reads.as-is 𝓤 H A (Mut.mslice (Referent.rtF (Referent.fInt Syntax.w32)) ty·8 3)) Path'.refl tt) d79
+          d80 : Typed.Typed 𝓤 H A 𝓣 E G127 b57 Δ0 at80
+          d80 = Typed.g-pre 𝓤 H A W 𝓣 E G127 G128 b57 Δ0 (λ Ψ. Ψ) at79 (Lifetime.g-forget 𝓤 H A W E G127 22 Row.dead Path'.refl) d79
 
-          d81 : Typed.Typed 𝓤 H A 𝓣 E G2 b44 Δ0 at81
-          d81 = Typed.g-pre 𝓤 H A W 𝓣 E G2 G3 b44 Δ0 (Typed.give s1) at80 (Know.g-sl-known 𝓤 H A W (Referent.fInt Syntax.w32) E G2 6 2 ty·7 (Row.lease (κs .1 .1 .0) (qs .1 .1 .0)) 0 (λ x. x) record { fits = Dec'.lit< tt } (Reads.as-is 𝓤 H A (Mut.mslice (Referent.rtF (Referent.fInt Syntax.w32)) ty·7 2)) Path'.refl tt) d80
+          d81 : Typed.Typed 𝓤 H A 𝓣 E G126 b57 Δ0 at81
+          d81 = Typed.g-pre 𝓤 H A W 𝓣 E G126 G127 b57 Δ0 (Typed.give s124) at80 (Know.g-sl-known 𝓤 H A W (Referent.fInt Syntax.w32) E G126 10 6 ty·12 (Row.lease (κs .1 .1 .1 .1 .1 .1 .0) (qs .1 .1 .1 .1 .1 .1 .0)) 0 (λ x. x) record { fits = Dec'.lit< tt } (Reads.as-is 𝓤 H A (Mut.mslice (Referent.rtF (Referent.fInt Syntax.w32)) ty·12 6)) Path'.refl tt) d80
 
-          d82 : Typed.Typed 𝓤 H A 𝓣 E G0 b44 Δ0 at82
-          d82 = Typed.g-pre 𝓤 H A W 𝓣 E G0 G2 b44 Δ0 (Typed.give s0) at81 (Know.g-sl-known 𝓤 H A W (Referent.fInt Syntax.w32) E G0 5 1 ty·6 (Row.lease (κs .1 .0) (qs .1 .0)) 0 (λ x. x) record { fits = Dec'.lit< tt } (Reads.as-is 𝓤 H A (Mut.mslice (Referent.rtF (Referent.fInt Syntax.w32)) ty·6 1)) Path'.refl tt) d81
+          d82 : Typed.Typed 𝓤 H A 𝓣 E G125 b57 Δ0 at82
+          d82 = Typed.g-pre 𝓤 H A W 𝓣 E G125 G126 b57 Δ0 (Typed.both s123) at81 (Relend.g-back-sl 𝓤 H A W E (Referent.rtF (Referent.fInt Syntax.w32)) G125 49 10 6 22 ty·12 ty·5 (Row.lease (κs .1 .1 .1 .1 .1 .1 .0) (qs .1 .1 .1 .1 .1 .1 .0)) (λ x. x) (λ x. x) (Reads.as-is 𝓤 H A (Mut.msleft (Referent.rtF (Referent.fInt Syntax.w32)) ty·5)) (Reads.as-is 𝓤 H A (Relend.mslice-owed (Referent.rtF (Referent.fInt Syntax.w32)) ty·12 6 22 (Row.lease (κs .1 .1 .1 .1 .1 .1 .0) (qs .1 .1 .1 .1 .1 .1 .0)))) Path'.refl Path'.refl) d81
 
-          pub typed : Typed.Typed 𝓤 H A 𝓣 E (Function.Γin 10 ps r xs m κs qs) b44 (Function.Δret 10 ps r xs m κs qs) Φ
-          typed = d82
+          d83 : Typed.Typed 𝓤 H A 𝓣 E G124 b57 Δ0 at83
+          d83 = Typed.g-pre 𝓤 H A W 𝓣 E G124 G125 b57 Δ0 (λ Ψ. Ψ) at82 (Lifetime.g-end 𝓤 H A W E G124 22 Path'.refl) d82
 
-      module _ (κs : Lifetimes.Lfts 10) where
+          d84 : Typed.Typed 𝓤 H A 𝓣 E G123 b57 Δ0 at84
+          d84 = Typed.g-pre 𝓤 H A W 𝓣 E G123 G124 b57 Δ0 (λ Ψ. Ψ) at83 (Lifetime.g-forget 𝓤 H A W E G123 21 Row.dead Path'.refl) d83
+
+          d85 : Typed.Typed 𝓤 H A 𝓣 E G122 b57 Δ0 at85
+          d85 = Typed.g-pre 𝓤 H A W 𝓣 E G122 G123 b57 Δ0 (Typed.both s120) at84 (Relend.g-back-sl 𝓤 H A W E ELEM.the-row G122 47 9 5 21 ty·19 ty·18 (Row.lease (κs .1 .1 .1 .1 .1 .0) (qs .1 .1 .1 .1 .1 .0)) (λ x. x) (λ x. x) (Reads.as-is 𝓤 H A (Mut.msleft ELEM.the-row ty·18)) (Reads.as-is 𝓤 H A (Relend.mslice-owed ELEM.the-row ty·19 5 21 (Row.lease (κs .1 .1 .1 .1 .1 .0) (qs .1 .1 .1 .1 .1 .0)))) Path'.refl Path'.refl) d84
+
+          d86 : Typed.Typed 𝓤 H A 𝓣 E G121 b57 Δ0 at86
+          d86 = Typed.g-pre 𝓤 H A W 𝓣 E G121 G122 b57 Δ0 (λ Ψ. Ψ) at85 (Lifetime.g-end 𝓤 H A W E G121 21 Path'.refl) d85
+
+          d87 : Typed.Typed 𝓤 H A 𝓣 E G120 b57 Δ0 at87
+          d87 = Typed.g-pre 𝓤 H A W 𝓣 E G120 G121 b57 Δ0 (λ Ψ. Ψ) at86 (Lifetime.g-forget 𝓤 H A W E G120 20 Row.dead Path'.refl) d86
+
+          d88 : Typed.Typed 𝓤 H A 𝓣 E G119 b57 Δ0 at88
+          d88 = Typed.g-pre 𝓤 H A W 𝓣 E G119 G120 b57 Δ0 (Typed.give s117) at87 (Know.g-sl-known 𝓤 H A W (Referent.fInt Syntax.w32) E G119 8 4 ty·11 (Row.lease (κs .1 .1 .1 .1 .0) (qs .1 .1 .1 .1 .0)) 0 (λ x. x) record { fits = Dec'.lit< tt } (Reads.as-is 𝓤 H A (Mut.mslice (Referent.rtF (Referent.fInt Syntax.w32)) ty·11 4)) Path'.refl tt) d87
+
+          d89 : Typed.Typed 𝓤 H A 𝓣 E G118 b57 Δ0 at89
+          d89 = Typed.g-pre 𝓤 H A W 𝓣 E G118 G119 b57 Δ0 (Typed.both s116) at88 (Relend.g-back-sl 𝓤 H A W E (Referent.rtF (Referent.fInt Syntax.w32)) G118 45 8 4 20 ty·11 ty·5 (Row.lease (κs .1 .1 .1 .1 .0) (qs .1 .1 .1 .1 .0)) (λ x. x) (λ x. x) (Reads.as-is 𝓤 H A (Mut.msleft (Referent.rtF (Referent.fInt Syntax.w32)) ty·5)) (Reads.as-is 𝓤 H A (Relend.mslice-owed (Referent.rtF (Referent.fInt Syntax.w32)) ty·11 4 20 (Row.lease (κs .1 .1 .1 .1 .0) (qs .1 .1 .1 .1 .0)))) Path'.refl Path'.refl) d88
+
+          d90 : Typed.Typed 𝓤 H A 𝓣 E G117 b57 Δ0 at90
+          d90 = Typed.g-pre 𝓤 H A W 𝓣 E G117 G118 b57 Δ0 (λ Ψ. Ψ) at89 (Lifetime.g-end 𝓤 H A W E G117 20 Path'.refl) d89
+
+          d91 : Typed.Typed 𝓤 H A 𝓣 E G116 b57 Δ0 at91
+          d91 = Typed.g-pre 𝓤 H A W 𝓣 E G116 G117 b57 Δ0 (λ Ψ. Ψ) at90 (Lifetime.g-forget 𝓤 H A W E G116 19 Row.dead Path'.refl) d90
+
+          d92 : Typed.Typed 𝓤 H A 𝓣 E G115 b57 Δ0 at92
+          d92 = Typed.g-pre 𝓤 H A W 𝓣 E G115 G116 b57 Δ0 (Typed.give s113) at91 (Know.g-sl-known 𝓤 H A W (Referent.fInt Syntax.w32) E G115 7 3 ty·10 (Row.lease (κs .1 .1 .1 .0) (qs .1 .1 .1 .0)) 0 (λ x. x) record { fits = Dec'.lit< tt } (Reads.as-is 𝓤 H A (Mut.mslice (Referent.rtF (Referent.fInt Syntax.w32)) ty·10 3)) Path'.refl tt) d91
+
+          d93 : Typed.Typed 𝓤 H A 𝓣 E G114 b57 Δ0 at93
+          d93 = Typed.g-pre 𝓤 H A W 𝓣 E G114 G115 b57 Δ0 (Typed.both s112) at92 (Relend.g-back-sl 𝓤 H A W E (Referent.rtF (Referent.fInt Syntax.w32)) G114 43 7 3 19 ty·10 ty·5 (Row.lease (κs .1 .1 .1 .0) (qs .1 .1 .1 .0)) (λ x. x) (λ x. x) (Reads.as-is 𝓤 H A (Mut.msleft (Referent.rtF (Referent.fInt Syntax.w32)) ty·5)) (Reads.as-is 𝓤 H A (Relend.mslice-owed (Referent.rtF (Referent.fInt Syntax.w32)) ty·10 3 19 (Row.lease (κs .1 .1 .1 .0) (qs .1 .1 .1 .0)))) Path'.refl Path'.refl) d92
+
+          d94 : Typed.Typed 𝓤 H A 𝓣 E G113 b57 Δ0 at94
+          d94 = Typed.g-pre 𝓤 H A W 𝓣 E G113 G114 b57 Δ0 (λ Ψ. Ψ) at93 (Lifetime.g-end 𝓤 H A W E G113 19 Path'.refl) d93
+
+          d95 : Typed.Typed 𝓤 H A 𝓣 E G112 b57 Δ0 at95
+          d95 = Typed.g-pre 𝓤 H A W 𝓣 E G112 G113 b57 Δ0 (λ Ψ. Ψ) at94 (Lifetime.g-forget 𝓤 H A W E G112 18 Row.dead Path'.refl) d94
+
+          d96 : Typed.Typed 𝓤 H A 𝓣 E G111 b57 Δ0 at96
+          d96 = Typed.g-pre 𝓤 H A W 𝓣 E G111 G112 b57 Δ0 (Typed.give s109) at95 (Know.g-sl-known 𝓤 H A W (Referent.fInt Syntax.w32) E G111 6 2 ty·9 (Row.lease (κs .1 .1 .0) (qs .1 .1 .0)) 0 (λ x. x) record { fits = Dec'.lit< tt } (Reads.as-is 𝓤 H A (Mut.mslice (Referent.rtF (Referent.fInt Syntax.w32)) ty·9 2)) Path'.refl tt) d95
+
+          d97 : Typed.Typed 𝓤 H A 𝓣 E G110 b57 Δ0 at97
+          d97 = Typed.g-pre 𝓤 H A W 𝓣 E G110 G111 b57 Δ0 (Typed.both s108) at96 (Relend.g-back-sl 𝓤 H A W E (Referent.rtF (Referent.fInt Syntax.w32)) G110 41 6 2 18 ty·9 ty·5 (Row.lease (κs .1 .1 .0) (qs .1 .1 .0)) (λ x. x) (λ x. x) (Reads.as-is 𝓤 H A (Mut.msleft (Referent.rtF (Referent.fInt Syntax.w32)) ty·5)) (Reads.as-is 𝓤 H A (Relend.mslice-owed (Referent.rtF (Referent.fInt Syntax.w32)) ty·9 2 18 (Row.lease (κs .1 .1 .0) (qs .1 .1 .0)))) Path'.refl Path'.refl) d96
+
+          d98 : Typed.Typed 𝓤 H A 𝓣 E G109 b57 Δ0 at98
+          d98 = Typed.g-pre 𝓤 H A W 𝓣 E G109 G110 b57 Δ0 (λ Ψ. Ψ) at97 (Lifetime.g-end 𝓤 H A W E G109 18 Path'.refl) d97
+
+          d99 : Typed.Typed 𝓤 H A 𝓣 E G108 b57 Δ0 at99
+          d99 = Typed.g-pre 𝓤 H A W 𝓣 E G108 G109 b57 Δ0 (λ Ψ. Ψ) at98 (Lifetime.g-forget 𝓤 H A W E G108 17 Row.dead Path'.refl) d98
+
+          d100 : Typed.Typed 𝓤 H A 𝓣 E G107 b57 Δ0 at100
+          d100 = Typed.g-pre 𝓤 H A W 𝓣 E G107 G108 b57 Δ0 (Typed.both s105) at99 (Relend.g-back-sl 𝓤 H A W E (Signed.SInt Syntax.w32) G107 39 4 0 17 ty·7 ty·5 (Row.lease (κs .0) (qs .0)) (λ x. x) (λ x. x) (Reads.as-is 𝓤 H A (Mut.msleft (Signed.SInt Syntax.w32) ty·5)) (Reads.as-is 𝓤 H A (Relend.mslice-owed (Signed.SInt Syntax.w32) ty·7 0 17 (Row.lease (κs .0) (qs .0)))) Path'.refl Path'.refl) d99
+
+          d101 : Typed.Typed 𝓤 H A 𝓣 E G106 b57 Δ0 at101
+          d101 = Typed.g-pre 𝓤 H A W 𝓣 E G106 G107 b57 Δ0 (λ Ψ. Ψ) at100 (Lifetime.g-end 𝓤 H A W E G106 17 Path'.refl) d100
+
+          d102 : Typed.Typed 𝓤 H A 𝓣 E G105 b57 Δ0 at102
+          d102 = Typed.g-pre 𝓤 H A W 𝓣 E G105 G106 b57 Δ0 (Typed.pass T105 T106 s103) at101 (Scalar.g-room 𝓤 H A W E G105 19 ty·25 (Local.room-whole 𝓤 H A W (Declared'.row Point2.the-type) ty·25 Path'.refl)) d101
+
+          d103 : Typed.Typed 𝓤 H A 𝓣 E G104 b57 Δ0 at103
+          d103 = Typed.g-pre 𝓤 H A W 𝓣 E G104 G105 b57 Δ0 (Typed.pass T104 T105 s102) at102 (Scalar.g-room 𝓤 H A W E G104 18 ty·26 (Local.room-whole 𝓤 H A W (Declared'.row Counts.the-type) ty·26 Path'.refl)) d102
+
+          d104 : Typed.Typed 𝓤 H A 𝓣 E G103 b58 Δ0 at104
+          d104 = Typed.s-seq 𝓤 H A W 𝓣 E G103 G104 b44 b57 Δ0 (Typed.both s101) at103 (Plain.t-call-plain 𝓤 H A W 𝓣 10 ps·3 r·3 (claims· .6) (claims· .7) "run::run" (known .3) E (λ pos β. β) G103 (record { pos = 18; st = List.[]; d = 0; at = λ x. x }, (record { pos = 39; ty = Syntax.tyRef Syntax.erased Syntax.mut ty·0; ref = λ x. x }, (record { pos = 41; ty = Syntax.tyRef Syntax.erased Syntax.mut ty·0; ref = λ x. x }, (record { pos = 43; ty = Syntax.tyRef Syntax.erased Syntax.mut ty·0; ref = λ x. x }, (record { pos = 45; ty = Syntax.tyRef Syntax.erased Syntax.mut ty·0; ref = λ x. x }, (record { pos = 47; ty = Syntax.tyRef Syntax.erased Syntax.mut (ELEMMEM.pointee (ELEM.the-row .written)); ref = λ x. x }, (record { pos = 49; ty = Syntax.tyRef Syntax.erased Syntax.mut ty·0; ref = λ x. x }, (record { pos = 51; ty = Syntax.tyRef Syntax.erased Syntax.mut ty·0; ref = λ x. x }, (record { pos = 53; ty = Syntax.tyRef Syntax.erased Syntax.mut ty·0; ref = λ x. x }, (record { pos = 55; ty = Syntax.tyRef Syntax.erased Syntax.mut ty·1; ref = λ x. x }, (record { pos = 19; st = List.[]; d = 0; at = λ x. x }, (record { pos = 16; ty = Syntax.tyRef (Syntax.named 10) Syntax.imm ty·0; ref = λ x. x }, tt)))))))))))) 23 (List._∷_ 17 (List._∷_ 18 (List._∷_ 19 (List._∷_ 20 (List._∷_ 21 (List._∷_ 22 (List._∷_ 23 (List._∷_ 24 (List._∷_ 25 (List._∷_ 10 List.[])))))))))) (Call.sub-id 𝓤 H A W (G103 .slots)) ((Yields.yields-copy 𝓤 H A W (λ ρ. Unit) (Declared'.row Counts.the-type) Path'.refl (Copies.cStruct Counts.the-type Laws'3.the-laws Laws'3.the-copy .copy 𝓤 H A W) (Rows.whole (Declared'.row Counts.the-type)) (λ x. x) (λ x. x) (λ ρ told. Local.mem-whole 𝓤 H A W (Declared'.row Counts.the-type) ρ) λ ρ told. Local.whole-mem 𝓤 H A W (Declared'.row Counts.the-type) ρ, Path'.refl), (Reads.as-is 𝓤 H A (Mut.mslice (Signed.SInt Syntax.w32) ty·5 17), Mut.reads-mslice 𝓤 H A W (Signed.SInt Syntax.w32) ty·5 17, Path'.refl, (Reads.as-is 𝓤 H A (Mut.mslice (Referent.rtF (Referent.fInt Syntax.w32)) ty·5 18), Mut.reads-mslice 𝓤 H A W (Referent.rtF (Referent.fInt Syntax.w32)) ty·5 18, Path'.refl, (Reads.as-is 𝓤 H A (Mut.mslice (Referent.rtF (Referent.fInt Syntax.w32)) ty·5 19), Mut.reads-mslice 𝓤 H A W (Referent.rtF (Referent.fInt Syntax.w32)) ty·5 19, Path'.refl, (Reads.as-is 𝓤 H A (Mut.mslice (Referent.rtF (Referent.fInt Syntax.w32)) ty·5 20), Mut.reads-mslice 𝓤 H A W (Referent.rtF (Referent.fInt Syntax.w32)) ty·5 20, Path'.refl, (Reads.as-is 𝓤 H A (Mut.mslice ELEM.the-row ty·18 21), Mut.reads-mslice 𝓤 H A W ELEM.the-row ty·18 21, Path'.refl, (Reads.as-is 𝓤 H A (Mut.mslice (Referent.rtF (Referent.fInt Syntax.w32)) ty·5 22), Mut.reads-mslice 𝓤 H A W (Referent.rtF (Referent.fInt Syntax.w32)) ty·5 22, Path'.refl, (Reads.as-is 𝓤 H A (Mut.mslice (Referent.rtF (Referent.fInt Syntax.w32)) ty·5 23), Mut.reads-mslice 𝓤 H A W (Referent.rtF (Referent.fInt Syntax.w32)) ty·5 23, Path'.refl, (Reads.as-is 𝓤 H A (Mut.mslice (Referent.rtF (Referent.fInt Syntax.w32)) ty·5 24), Mut.reads-mslice 𝓤 H A W (Referent.rtF (Referent.fInt Syntax.w32)) ty·5 24, Path'.refl, (Reads.as-is 𝓤 H A (Mut.mslice (Referent.rtF (Referent.fInt Syntax.w64)) ty·6 25), Mut.reads-mslice 𝓤 H A W (Referent.rtF (Referent.fInt Syntax.w64)) ty·6 25, Path'.refl, ((Yields.yields-copy 𝓤 H A W (λ ρ. Unit) (Declared'.row Point2.the-type) Path'.refl (Copies.cStruct Point2.the-type Laws.the-laws Laws.the-copy .copy 𝓤 H A W) (Rows.whole (Declared'.row Point2.the-type)) (λ x. x) (λ x. x) (λ ρ told. Local.mem-whole 𝓤 H A W (Declared'.row Point2.the-type) ρ) λ ρ told. Local.whole-mem 𝓤 H A W (Declared'.row Point2.the-type) ρ, Path'.refl), (ShrSlice.spares-sslice 𝓤 H A W (Signed.SInt Syntax.w32) ty·16 10, Shared.reads-sslice 𝓤 H A W (Signed.SInt Syntax.w32) ty·16 10, Path'.refl, tt)))))))))))) (Reads.room-gone 𝓤 H A ty·32) (tt, (tt, (tt, (tt, (tt, (tt, (tt, (tt, (tt, (tt, tt)))))))))) Path'.refl) d103
+
+          d105 : Typed.Typed 𝓤 H A 𝓣 E G102 b59 Δ0 at105
+          d105 = Typed.s-seq 𝓤 H A W 𝓣 E G102 G103 b43 b58 Δ0 (Typed.ask s100) at104 (Relend.t-sl-aggregate 𝓤 H A W E (Referent.rtF (Referent.fInt Syntax.w64)) 𝓣 (Relend.asMut (Referent.rtF (Referent.fInt Syntax.w64))) G102 54 55 25 ty·6 ty·6 (λ x. x) (Scalar.oFld 13 (List._∷_ (Syntax.field 1) List.[]) ty·1 8 λ v. Shared.lenV (v .0)) (Reads.as-is 𝓤 H A (Relend.msptr (Referent.rtF (Referent.fInt Syntax.w64)) ty·6 25)) (Reads.room-gone 𝓤 H A ty·23) (Relend.reads-owed-len 𝓤 H A W (Referent.rtF (Referent.fInt Syntax.w64)) ty·15 9 25 (Row.lease (κs .1 .1 .1 .1 .1 .1 .1 .1 .1 .0) (qs .1 .1 .1 .1 .1 .1 .1 .1 .1 .0)) 8 Path'.refl, Path'.refl) Path'.refl Path'.refl λ b o k. tt) d104
+
+          d106 : Typed.Typed 𝓤 H A 𝓣 E G101 b60 Δ0 at106
+          d106 = Typed.s-seq 𝓤 H A W 𝓣 E G101 G102 b42 b59 Δ0 (Typed.give s99) at105 (Relend.t-sl-relend 𝓤 H A W E (Referent.rtF (Referent.fInt Syntax.w64)) 𝓣 G101 13 54 9 25 ty·15 ty·6 (Row.lease (κs .1 .1 .1 .1 .1 .1 .1 .1 .1 .0) (qs .1 .1 .1 .1 .1 .1 .1 .1 .1 .0)) 0 (λ x. x) (Reads.as-is 𝓤 H A (Mut.mslice (Referent.rtF (Referent.fInt Syntax.w64)) ty·15 9)) (Reads.room-gone 𝓤 H A ty·6) Path'.refl tt Path'.refl Path'.refl Path'.refl λ b o. tt) d105
+
+          d107 : Typed.Typed 𝓤 H A 𝓣 E G100 b60 Δ0 at107
+          d107 = Typed.g-pre 𝓤 H A W 𝓣 E G100 G101 b60 Δ0 (λ Ψ. Ψ) at106 (Lifetime.g-begin 𝓤 H A W E G100 25 (tt, (tt, (tt, (tt, ((tt, tt), (tt, ((tt, tt), ((tt, tt), ((tt, tt), ((tt, tt), ((tt, tt), ((tt, tt), ((tt, tt), (tt, (tt, (tt, (tt, (tt, (tt, (tt, (tt, (tt, (tt, (tt, (tt, (tt, (tt, (tt, (tt, (tt, (tt, (tt, (tt, (tt, (tt, (tt, (tt, (tt, (tt, (tt, (tt, (tt, (tt, (tt, (tt, (tt, (tt, (tt, (tt, (tt, (tt, (tt, (tt, (tt, (tt, (tt, (tt, (tt, (tt, (tt, (tt, tt)))))))))))))))))))))))))))))))))))))))))))))))))))))))))))))) d106
+
+          d108 : Typed.Typed 𝓤 H A 𝓣 E G99 b61 Δ0 at108
+          d108 = Typed.s-seq 𝓤 H A W 𝓣 E G99 G100 b41 b60 Δ0 (Typed.ask s97) at107 (Relend.t-sl-aggregate 𝓤 H A W E (Referent.rtF (Referent.fInt Syntax.w32)) 𝓣 (Relend.asMut (Referent.rtF (Referent.fInt Syntax.w32))) G99 52 53 24 ty·5 ty·5 (λ x. x) (Scalar.oFld 12 (List._∷_ (Syntax.field 1) List.[]) ty·1 8 λ v. Shared.lenV (v .0)) (Reads.as-is 𝓤 H A (Relend.msptr (Referent.rtF (Referent.fInt Syntax.w32)) ty·5 24)) (Reads.room-gone 𝓤 H A ty·22) (Relend.reads-owed-len 𝓤 H A W (Referent.rtF (Referent.fInt Syntax.w32)) ty·14 8 24 (Row.lease (κs .1 .1 .1 .1 .1 .1 .1 .1 .0) (qs .1 .1 .1 .1 .1 .1 .1 .1 .0)) 8 Path'.refl, Path'.refl) Path'.refl Path'.refl λ b o k. tt) d107
+
+          d109 : Typed.Typed 𝓤 H A 𝓣 E G98 b62 Δ0 at109
+          d109 = Typed.s-seq 𝓤 H A W 𝓣 E G98 G99 b40 b61 Δ0 (Typed.give s96) at108 (Relend.t-sl-relend 𝓤 H A W E (Referent.rtF (Referent.fInt Syntax.w32)) 𝓣 G98 12 52 8 24 ty·14 ty·5 (Row.lease (κs .1 .1 .1 .1 .1 .1 .1 .1 .0) (qs .1 .1 .1 .1 .1 .1 .1 .1 .0)) 0 (λ x. x) (Reads.as-is 𝓤 H A (Mut.mslice (Referent.rtF (Referent.fInt Syntax.w32)) ty·14 8)) (Reads.room-gone 𝓤 H A ty·5) Path'.refl tt Path'.refl Path'.refl Path'.refl λ b o. tt) d108
+
+          d110 : Typed.Typed 𝓤 H A 𝓣 E G97 b62 Δ0 at110
+          d110 = Typed.g-pre 𝓤 H A W 𝓣 E G97 G98 b62 Δ0 (λ Ψ. Ψ) at109 (Lifetime.g-begin 𝓤 H A W E G97 24 (tt, (tt, (tt, (tt, ((tt, tt), (tt, ((tt, tt), ((tt, tt), ((tt, tt), ((tt, tt), ((tt, tt), ((tt, tt), (tt, (tt, (tt, (tt, (tt, (tt, (tt, (tt, (tt, (tt, (tt, (tt, (tt, (tt, (tt, (tt, (tt, (tt, (tt, (tt, (tt, (tt, (tt, (tt, (tt, (tt, (tt, (tt, (tt, (tt, (tt, (tt, (tt, (tt, (tt, (tt, (tt, (tt, (tt, (tt, (tt, (tt, (tt, (tt, (tt, (tt, (tt, (tt, (tt, tt)))))))))))))))))))))))))))))))))))))))))))))))))))))))))))))) d109
+
+          d111 : Typed.Typed 𝓤 H A 𝓣 E G96 b63 Δ0 at111
+          d111 = Typed.s-seq 𝓤 H A W 𝓣 E G96 G97 b39 b62 Δ0 (Typed.ask s94) at110 (Relend.t-sl-aggregate 𝓤 H A W E (Referent.rtF (Referent.fInt Syntax.w32)) 𝓣 (Relend.asMut (Referent.rtF (Referent.fInt Syntax.w32))) G96 50 51 23 ty·5 ty·5 (λ x. x) (Scalar.oFld 11 (List._∷_ (Syntax.field 1) List.[]) ty·1 8 λ v. Shared.lenV (v .0)) (Reads.as-is 𝓤 H A (Relend.msptr (Referent.rtF (Referent.fInt Syntax.w32)) ty·5 23)) (Reads.room-gone 𝓤 H A ty·22) (Relend.reads-owed-len 𝓤 H A W (Referent.rtF (Referent.fInt Syntax.w32)) ty·13 7 23 (Row.lease (κs .1 .1 .1 .1 .1 .1 .1 .0) (qs .1 .1 .1 .1 .1 .1 .1 .0)) 8 Path'.refl, Path'.refl) Path'.refl Path'.refl λ b o k. tt) d110
+
+          d112 : Typed.Typed 𝓤 H A 𝓣 E G95 b64 Δ0 at112
+          d112 = Typed.s-seq 𝓤 H A W 𝓣 E G95 G96 b38 b63 Δ0 (Typed.give s93) at111 (Relend.t-sl-relend 𝓤 H A W E (Referent.rtF (Referent.fInt Syntax.w32)) 𝓣 G95 11 50 7 23 ty·13 ty·5 (Row.lease (κs .1 .1 .1 .1 .1 .1 .1 .0) (qs .1 .1 .1 .1 .1 .1 .1 .0)) 0 (λ x. x) (Reads.as-is 𝓤 H A (Mut.mslice (Referent.rtF (Referent.fInt Syntax.w32)) ty·13 7)) (Reads.room-gone 𝓤 H A ty·5) Path'.refl tt Path'.refl Path'.refl Path'.refl λ b o. tt) d111
+
+          d113 : Typed.Typed 𝓤 H A 𝓣 E G94 b64 Δ0 at113
+          d113 = Typed.g-pre 𝓤 H A W 𝓣 E G94 G95 b64 Δ0 (λ Ψ. Ψ) at112 (Lifetime.g-begin 𝓤 H A W E G94 23 (tt, (tt, (tt, (tt, ((tt, tt), (tt, ((tt, tt), ((tt, tt), ((tt, tt), ((tt, tt), ((tt, tt), (tt, (tt, (tt, (tt, (tt, (tt, (tt, (tt, (tt, (tt, (tt, (tt, (tt, (tt, (tt, (tt, (tt, (tt, (tt, (tt, (tt, (tt, (tt, (tt, (tt, (tt, (tt, (tt, (tt, (tt, (tt, (tt, (tt, (tt, (tt, (tt, (tt, (tt, (tt, (tt, (tt, (tt, (tt, (tt, (tt, (tt, (tt, (tt, (tt, (tt, tt)))))))))))))))))))))))))))))))))))))))))))))))))))))))))))))) d112
+
+          d114 : Typed.Typed 𝓤 H A 𝓣 E G93 b65 Δ0 at114
+          d114 = Typed.s-seq 𝓤 H A W 𝓣 E G93 G94 b37 b64 Δ0 (Typed.ask s91) at113 (Relend.t-sl-aggregate 𝓤 H A W E (Referent.rtF (Referent.fInt Syntax.w32)) 𝓣 (Relend.asMut (Referent.rtF (Referent.fInt Syntax.w32))) G93 48 49 22 ty·5 ty·5 (λ x. x) (Scalar.oFld 10 (List._∷_ (Syntax.field 1) List.[]) ty·1 8 λ v. Shared.lenV (v .0)) (Reads.as-is 𝓤 H A (Relend.msptr (Referent.rtF (Referent.fInt Syntax.w32)) ty·5 22)) (Reads.room-gone 𝓤 H A ty·22) (Relend.reads-owed-len 𝓤 H A W (Referent.rtF (Referent.fInt Syntax.w32)) ty·12 6 22 (Row.lease (κs .1 .1 .1 .1 .1 .1 .0) (qs .1 .1 .1 .1 .1 .1 .0)) 8 Path'.refl, Path'.refl) Path'.refl Path'.refl λ b o k. tt) d113
+
+          d115 : Typed.Typed 𝓤 H A 𝓣 E G92 b66 Δ0 at115
+          d115 = Typed.s-seq 𝓤 H A W 𝓣 E G92 G93 b36 b65 Δ0 (Typed.give s90) at114 (Relend.t-sl-relend 𝓤 H A W E (Referent.rtF (Referent.fInt Syntax.w32)) 𝓣 G92 10 48 6 22 ty·12 ty·5 (Row.lease (κs .1 .1 .1 .1 .1 .1 .0) (qs .1 .1 .1 .1 .1 .1 .0)) 0 (λ x. x) (Reads.as-is 𝓤 H A (Mut.mslice (Referent.rtF (Referent.fInt Syntax.w32)) ty·12 6)) (Reads.room-gone 𝓤 H A ty·5) Path'.refl tt Path'.refl Path'.refl Path'.refl λ b o. tt) d114
+
+          d116 : Typed.Typed 𝓤 H A 𝓣 E G91 b66 Δ0 at116
+          d116 = Typed.g-pre 𝓤 H A W 𝓣 E G91 G92 b66 Δ0 (λ Ψ. Ψ) at115 (Lifetime.g-begin 𝓤 H A W E G91 22 (tt, (tt, (tt, (tt, ((tt, tt), (tt, ((tt, tt), ((tt, tt), ((tt, tt), ((tt, tt), (tt, (tt, (tt, (tt, (tt, (tt, (tt, (tt, (tt, (tt, (tt, (tt, (tt, (tt, (tt, (tt, (tt, (tt, (tt, (tt, (tt, (tt, (tt, (tt, (tt, (tt, (tt, (tt, (tt, (tt, (tt, (tt, (tt, (tt, (tt, (tt, (tt, (tt, (tt, (tt, (tt, (tt, (tt, (tt, (tt, (tt, (tt, (tt, (tt, (tt, (tt, tt)))))))))))))))))))))))))))))))))))))))))))))))))))))))))))))) d115
+
+          d117 : Typed.Typed 𝓤 H A 𝓣 E G90 b67 Δ0 at117
+          d117 = Typed.s-seq 𝓤 H A W 𝓣 E G90 G91 b35 b66 Δ0 (Typed.ask s88) at116 (Relend.t-sl-aggregate 𝓤 H A W E ELEM.the-row 𝓣 (Relend.asMut ELEM.the-row) G90 46 47 21 ty·18 ty·18 (λ x. x) (Scalar.oFld 9 (List._∷_ (Syntax.field 1) List.[]) ty·1 8 λ v. Shared.lenV (v .0)) (Reads.as-is 𝓤 H A (Relend.msptr ELEM.the-row ty·18 21)) (Reads.room-gone 𝓤 H A ty·24) (Relend.reads-owed-len 𝓤 H A W ELEM.the-row ty·19 5 21 (Row.lease (κs .1 .1 .1 .1 .1 .0) (qs .1 .1 .1 .1 .1 .0)) 8 Path'.refl, Path'.refl) Path'.refl Path'.refl λ b o k. tt) d116
+
+          d118 : Typed.Typed 𝓤 H A 𝓣 E G89 b68 Δ0 at118
+          d118 = Typed.s-seq 𝓤 H A W 𝓣 E G89 G90 b34 b67 Δ0 (Typed.give s87) at117 (Relend.t-sl-relend 𝓤 H A W E ELEM.the-row 𝓣 G89 9 46 5 21 ty·19 ty·18 (Row.lease (κs .1 .1 .1 .1 .1 .0) (qs .1 .1 .1 .1 .1 .0)) 0 (λ x. x) (Reads.as-is 𝓤 H A (Mut.mslice ELEM.the-row ty·19 5)) (Reads.room-gone 𝓤 H A ty·18) Path'.refl tt Path'.refl Path'.refl Path'.refl λ b o. tt) d117
+
+          d119 : Typed.Typed 𝓤 H A 𝓣 E G88 b68 Δ0 at119
+          d119 = Typed.g-pre 𝓤 H A W 𝓣 E G88 G89 b68 Δ0 (λ Ψ. Ψ) at118 (Lifetime.g-begin 𝓤 H A W E G88 21 (tt, (tt, (tt, (tt, ((tt, tt), (tt, ((tt, tt), ((tt, tt), ((tt, tt), (tt, (tt, (tt, (tt, (tt, (tt, (tt, (tt, (tt, (tt, (tt, (tt, (tt, (tt, (tt, (tt, (tt, (tt, (tt, (tt, (tt, (tt, (tt, (tt, (tt, (tt, (tt, (tt, (tt, (tt, (tt, (tt, (tt, (tt, (tt, (tt, (tt, (tt, (tt, (tt, (tt, (tt, (tt, (tt, (tt, (tt, (tt, (tt, (tt, (tt, (tt, (tt, tt)))))))))))))))))))))))))))))))))))))))))))))))))))))))))))))) d118
+
+          d120 : Typed.Typed 𝓤 H A 𝓣 E G87 b69 Δ0 at120
+          d120 = Typed.s-seq 𝓤 H A W 𝓣 E G87 G88 b33 b68 Δ0 (Typed.ask s85) at119 (Relend.t-sl-aggregate 𝓤 H A W E (Referent.rtF (Referent.fInt Syntax.w32)) 𝓣 (Relend.asMut (Referent.rtF (Referent.fInt Syntax.w32))) G87 44 45 20 ty·5 ty·5 (λ x. x) (Scalar.oFld 8 (List._∷_ (Syntax.field 1) List.[]) ty·1 8 λ v. Shared.lenV (v .0)) (Reads.as-is 𝓤 H A (Relend.msptr (Referent.rtF (Referent.fInt Syntax.w32)) ty·5 20)) (Reads.room-gone 𝓤 H A ty·22) (Relend.reads-owed-len 𝓤 H A W (Referent.rtF (Referent.fInt Syntax.w32)) ty·11 4 20 (Row.lease (κs .1 .1 .1 .1 .0) (qs .1 .1 .1 .1 .0)) 8 Path'.refl, Path'.refl) Path'.refl Path'.refl λ b o k. tt) d119
+
+          d121 : Typed.Typed 𝓤 H A 𝓣 E G86 b70 Δ0 at121
+          d121 = Typed.s-seq 𝓤 H A W 𝓣 E G86 G87 b32 b69 Δ0 (Typed.give s84) at120 (Relend.t-sl-relend 𝓤 H A W E (Referent.rtF (Referent.fInt Syntax.w32)) 𝓣 G86 8 44 4 20 ty·11 ty·5 (Row.lease (κs .1 .1 .1 .1 .0) (qs .1 .1 .1 .1 .0)) 0 (λ x. x) (Reads.as-is 𝓤 H A (Mut.mslice (Referent.rtF (Referent.fInt Syntax.w32)) ty·11 4)) (Reads.room-gone 𝓤 H A ty·5) Path'.refl tt Path'.refl Path'.refl Path'.refl λ b o. tt) d120
+
+          d122 : Typed.Typed 𝓤 H A 𝓣 E G85 b70 Δ0 at122
+          d122 = Typed.g-pre 𝓤 H A W 𝓣 E G85 G86 b70 Δ0 (λ Ψ. Ψ) at121 (Lifetime.g-begin 𝓤 H A W E G85 20 (tt, (tt, (tt, (tt, ((tt, tt), (tt, ((tt, tt), ((tt, tt), (tt, (tt, (tt, (tt, (tt, (tt, (tt, (tt, (tt, (tt, (tt, (tt, (tt, (tt, (tt, (tt, (tt, (tt, (tt, (tt, (tt, (tt, (tt, (tt, (tt, (tt, (tt, (tt, (tt, (tt, (tt, (tt, (tt, (tt, (tt, (tt, (tt, (tt, (tt, (tt, (tt, (tt, (tt, (tt, (tt, (tt, (tt, (tt, (tt, (tt, (tt, (tt, (tt, tt)))))))))))))))))))))))))))))))))))))))))))))))))))))))))))))) d121
+
+          d123 : Typed.Typed 𝓤 H A 𝓣 E G84 b71 Δ0 at123
+          d123 = Typed.s-seq 𝓤 H A W 𝓣 E G84 G85 b31 b70 Δ0 (Typed.ask s82) at122 (Relend.t-sl-aggregate 𝓤 H A W E (Referent.rtF (Referent.fInt Syntax.w32)) 𝓣 (Relend.asMut (Referent.rtF (Referent.fInt Syntax.w32))) G84 42 43 19 ty·5 ty·5 (λ x. x) (Scalar.oFld 7 (List._∷_ (Syntax.field 1) List.[]) ty·1 8 λ v. Shared.lenV (v .0)) (Reads.as-is 𝓤 H A (Relend.msptr (Referent.rtF (Referent.fInt Syntax.w32)) ty·5 19)) (Reads.room-gone 𝓤 H A ty·22) (Relend.reads-owed-len 𝓤 H A W (Referent.rtF (Referent.fInt Syntax.w32)) ty·10 3 19 (Row.lease (κs .1 .1 .1 .0) (qs .1 .1 .1 .0)) 8 Path'.refl, Path'.refl) Path'.refl Path'.refl λ b o k. tt) d122
+
+          d124 : Typed.Typed 𝓤 H A 𝓣 E G83 b72 Δ0 at124
+          d124 = Typed.s-seq 𝓤 H A W 𝓣 E G83 G84 b30 b71 Δ0 (Typed.give s81) at123 (Relend.t-sl-relend 𝓤 H A W E (Referent.rtF (Referent.fInt Syntax.w32)) 𝓣 G83 7 42 3 19 ty·10 ty·5 (Row.lease (κs .1 .1 .1 .0) (qs .1 .1 .1 .0)) 0 (λ x. x) (Reads.as-is 𝓤 H A (Mut.mslice (Referent.rtF (Referent.fInt Syntax.w32)) ty·10 3)) (Reads.room-gone 𝓤 H A ty·5) Path'.refl tt Path'.refl Path'.refl Path'.refl λ b o. tt) d123
+
+          d125 : Typed.Typed 𝓤 H A 𝓣 E G82 b72 Δ0 at125
+          d125 = Typed.g-pre 𝓤 H A W 𝓣 E G82 G83 b72 Δ0 (λ Ψ. Ψ) at124 (Lifetime.g-begin 𝓤 H A W E G82 19 (tt, (tt, (tt, (tt, ((tt, tt), (tt, ((tt, tt), (tt, (tt, (tt, (tt, (tt, (tt, (tt, (tt, (tt, (tt, (tt, (tt, (tt, (tt, (tt, (tt, (tt, (tt, (tt, (tt, (tt, (tt, (tt, (tt, (tt, (tt, (tt, (tt, (tt, (tt, (tt, (tt, (tt, (tt, (tt, (tt, (tt, (tt, (tt, (tt, (tt, (tt, (tt, (tt, (tt, (tt, (tt, (tt, (tt, (tt, (tt, (tt, (tt, (tt, tt)))))))))))))))))))))))))))))))))))))))))))))))))))))))))))))) d124
+
+          d126 : Typed.Typed 𝓤 H A 𝓣 E G81 b73 Δ0 at126
+          d126 = Typed.s-seq 𝓤 H A W 𝓣 E G81 G82 b29 b72 Δ0 (Typed.ask s79) at125 (Relend.t-sl-aggregate 𝓤 H A W E (Referent.rtF (Referent.fInt Syntax.w32)) 𝓣 (Relend.asMut (Referent.rtF (Referent.fInt Syntax.w32))) G81 40 41 18 ty·5 ty·5 (λ x. x) (Scalar.oFld 6 (List._∷_ (Syntax.field 1) List.[]) ty·1 8 λ v. Shared.lenV (v .0)) (Reads.as-is 𝓤 H A (Relend.msptr (Referent.rtF (Referent.fInt Syntax.w32)) ty·5 18)) (Reads.room-gone 𝓤 H A ty·22) (Relend.reads-owed-len 𝓤 H A W (Referent.rtF (Referent.fInt Syntax.w32)) ty·9 2 18 (Row.lease (κs .1 .1 .0) (qs .1 .1 .0)) 8 Path'.refl, Path'.refl) Path'.refl Path'.refl λ b o k. tt) d125
+
+          d127 : Typed.Typed 𝓤 H A 𝓣 E G80 b74 Δ0 at127
+          d127 = Typed.s-seq 𝓤 H A W 𝓣 E G80 G81 b28 b73 Δ0 (Typed.give s78) at126 (Relend.t-sl-relend 𝓤 H A W E (Referent.rtF (Referent.fInt Syntax.w32)) 𝓣 G80 6 40 2 18 ty·9 ty·5 (Row.lease (κs .1 .1 .0) (qs .1 .1 .0)) 0 (λ x. x) (Reads.as-is 𝓤 H A (Mut.mslice (Referent.rtF (Referent.fInt Syntax.w32)) ty·9 2)) (Reads.room-gone 𝓤 H A ty·5) Path'.refl tt Path'.refl Path'.refl Path'.refl λ b o. tt) d126
+
+          d128 : Typed.Typed 𝓤 H A 𝓣 E G79 b74 Δ0 at128
+          d128 = Typed.g-pre 𝓤 H A W 𝓣 E G79 G80 b74 Δ0 (λ Ψ. Ψ) at127 (Lifetime.g-begin 𝓤 H A W E G79 18 (tt, (tt, (tt, (tt, ((tt, tt), (tt, (tt, (tt, (tt, (tt, (tt, (tt, (tt, (tt, (tt, (tt, (tt, (tt, (tt, (tt, (tt, (tt, (tt, (tt, (tt, (tt, (tt, (tt, (tt, (tt, (tt, (tt, (tt, (tt, (tt, (tt, (tt, (tt, (tt, (tt, (tt, (tt, (tt, (tt, (tt, (tt, (tt, (tt, (tt, (tt, (tt, (tt, (tt, (tt, (tt, (tt, (tt, (tt, (tt, (tt, (tt, tt)))))))))))))))))))))))))))))))))))))))))))))))))))))))))))))) d127
+
+          d129 : Typed.Typed 𝓤 H A 𝓣 E G78 b75 Δ0 at129
+          d129 = Typed.s-seq 𝓤 H A W 𝓣 E G78 G79 b27 b74 Δ0 (Typed.ask s76) at128 (Relend.t-sl-aggregate 𝓤 H A W E (Signed.SInt Syntax.w32) 𝓣 (Relend.asMut (Signed.SInt Syntax.w32)) G78 38 39 17 ty·5 ty·5 (λ x. x) (Scalar.oFld 4 (List._∷_ (Syntax.field 1) List.[]) ty·1 8 λ v. Shared.lenV (v .0)) (Reads.as-is 𝓤 H A (Relend.msptr (Signed.SInt Syntax.w32) ty·5 17)) (Reads.room-gone 𝓤 H A ty·22) (Relend.reads-owed-len 𝓤 H A W (Signed.SInt Syntax.w32) ty·7 0 17 (Row.lease (κs .0) (qs .0)) 8 Path'.refl, Path'.refl) Path'.refl Path'.refl λ b o k. tt) d128
+
+          d130 : Typed.Typed 𝓤 H A 𝓣 E G77 b76 Δ0 at130
+          d130 = Typed.s-seq 𝓤 H A W 𝓣 E G77 G78 b26 b75 Δ0 (Typed.give s75) at129 (Relend.t-sl-relend 𝓤 H A W E (Signed.SInt Syntax.w32) 𝓣 G77 4 38 0 17 ty·7 ty·5 (Row.lease (κs .0) (qs .0)) 0 (λ x. x) (Reads.as-is 𝓤 H A (Mut.mslice (Signed.SInt Syntax.w32) ty·7 0)) (Reads.room-gone 𝓤 H A ty·5) Path'.refl tt Path'.refl Path'.refl Path'.refl λ b o. tt) d129
+
+          d131 : Typed.Typed 𝓤 H A 𝓣 E G35 b76 Δ0 at131
+          d131 = Typed.g-pre 𝓤 H A W 𝓣 E G35 G77 b76 Δ0 (λ Ψ. Ψ) at130 (Lifetime.g-begin 𝓤 H A W E G35 17 (tt, (tt, (tt, (tt, (tt, (tt, (tt, (tt, (tt, (tt, (tt, (tt, (tt, (tt, (tt, (tt, (tt, (tt, (tt, (tt, (tt, (tt, (tt, (tt, (tt, (tt, (tt, (tt, (tt, (tt, (tt, (tt, (tt, (tt, (tt, (tt, (tt, (tt, (tt, (tt, (tt, (tt, (tt, (tt, (tt, (tt, (tt, (tt, (tt, (tt, (tt, (tt, (tt, (tt, (tt, (tt, (tt, (tt, (tt, (tt, (tt, tt)))))))))))))))))))))))))))))))))))))))))))))))))))))))))))))) d130
+
+          d132 : Typed.Typed 𝓤 H A 𝓣 E G34 b77 Δ0 at132
+          d132 = Typed.t-seq 𝓤 H A W 𝓣 E G34 G35 b25 b76 Δ0 at43 at131 d43 d131
+
+          d133 : Typed.Typed 𝓤 H A 𝓣 E G33 b78 Δ0 at133
+          d133 = Typed.s-seq 𝓤 H A W 𝓣 E G33 G34 b18 b77 Δ0 (Typed.both s32) at132 (Plain.t-call-plain 𝓤 H A W 𝓣 7 ps·1 r·1 (claims· .2) (claims· .3) "surface::check_run" (known .1) E (λ pos β. β) G33 (record { pos = 16; ty = Syntax.tyRef (Syntax.named 10) Syntax.imm ty·0; ref = λ x. x }, (record { pos = 17; ty = Syntax.tyRef (Syntax.named 11) Syntax.imm ty·0; ref = λ x. x }, (record { pos = 18; st = List.[]; d = 0; at = λ x. x }, (record { pos = 26; ty = Syntax.tyRef Syntax.erased Syntax.imm ty·0; ref = λ x. x }, (record { pos = 28; ty = Syntax.tyRef Syntax.erased Syntax.imm ty·0; ref = λ x. x }, (record { pos = 30; ty = Syntax.tyRef Syntax.erased Syntax.imm ty·0; ref = λ x. x }, (record { pos = 32; ty = Syntax.tyRef Syntax.erased Syntax.imm ty·0; ref = λ x. x }, (record { pos = 34; ty = Syntax.tyRef Syntax.erased Syntax.imm ty·0; ref = λ x. x }, (Num.vAt 24 λ x. x, (Num.vAt 35 λ x. x, (Num.vAt 36 λ x. x, (Num.vAt 37 λ x. x, (Bool.bAt 20 λ x. x, tt))))))))))))) 21 (List._∷_ 10 (List._∷_ 11 (List._∷_ 12 (List._∷_ 13 (List._∷_ 14 (List._∷_ 15 (List._∷_ 16 List.[]))))))) (Call.sub-id 𝓤 H A W (G33 .slots)) (ShrSlice.spares-sslice 𝓤 H A W (Signed.SInt Syntax.w32) ty·16 10, Shared.reads-sslice 𝓤 H A W (Signed.SInt Syntax.w32) ty·16 10, Path'.refl, (ShrSlice.spares-sslice 𝓤 H A W (Signed.SInt Syntax.w32) ty·17 11, Shared.reads-sslice 𝓤 H A W (Signed.SInt Syntax.w32) ty·17 11, Path'.refl, ((Yields.yields-copy 𝓤 H A W (λ ρ. Unit) (Declared'.row Counts.the-type) Path'.refl (Copies.cStruct Counts.the-type Laws'3.the-laws Laws'3.the-copy .copy 𝓤 H A W) (Rows.whole (Declared'.row Counts.the-type)) (λ x. x) (λ x. x) (λ ρ told. Local.mem-whole 𝓤 H A W (Declared'.row Counts.the-type) ρ) λ ρ told. Local.whole-mem 𝓤 H A W (Declared'.row Counts.the-type) ρ, Path'.refl), (ShrSlice.spares-sslice 𝓤 H A W (Signed.SInt Syntax.w32) ty·3 12, Shared.reads-sslice 𝓤 H A W (Signed.SInt Syntax.w32) ty·3 12, Path'.refl, (ShrSlice.spares-sslice 𝓤 H A W (Signed.SInt Syntax.w32) ty·3 13, Shared.reads-sslice 𝓤 H A W (Signed.SInt Syntax.w32) ty·3 13, Path'.refl, (ShrSlice.spares-sslice 𝓤 H A W (Referent.rtF (Referent.fInt Syntax.w32)) ty·3 14, Shared.reads-sslice 𝓤 H A W (Referent.rtF (Referent.fInt Syntax.w32)) ty·3 14, Path'.refl, (ShrSlice.spares-sslice 𝓤 H A W (Referent.rtF (Referent.fInt Syntax.w32)) ty·3 15, Shared.reads-sslice 𝓤 H A W (Referent.rtF (Referent.fInt Syntax.w32)) ty·3 15, Path'.refl, (ShrSlice.spares-sslice 𝓤 H A W (Referent.rtF (Referent.fInt Syntax.w32)) ty·3 16, Shared.reads-sslice 𝓤 H A W (Referent.rtF (Referent.fInt Syntax.w32)) ty·3 16, Path'.refl, ((Scalar.reads-sc 𝓤 H A W (Row.sInt Syntax.w64), Path'.refl), ((Scalar.reads-sc 𝓤 H A W (Row.sInt Syntax.w64), Path'.refl), ((Scalar.reads-sc 𝓤 H A W (Row.sInt Syntax.w64), Path'.refl), ((Scalar.reads-sc 𝓤 H A W (Row.sInt Syntax.w64), Path'.refl), ((Scalar.reads-sc 𝓤 H A W Row.sBool, Path'.refl), tt))))))))))))) (Reads.room-gone 𝓤 H A ty·29) (tt, (tt, (tt, (tt, (tt, (tt, (tt, tt))))))) Path'.refl) d132
+
+          d134 : Typed.Typed 𝓤 H A 𝓣 E G32 b78 Δ0 at134
+          d134 = Typed.g-pre 𝓤 H A W 𝓣 E G32 G33 b78 Δ0 (Typed.pass T32 T33 s31) at133 (AtSlots.g-as-by 𝓤 H A W E (λ ρ. Unit) G32 18 (Rows.whole (Declared'.row Counts.the-type)) (λ v. Counts.struct .make v tt) (Own.told-none 𝓤 H A (G32 .slots)) λ ρ told v b. Apart.folds 𝓤 H A Counts.the-type (Counts.struct .Ghost) (Counts.struct .make) (λ v g. Path'.refl) ρ v tt b) d133
+
+          d135 : Typed.Typed 𝓤 H A 𝓣 E G31 b79 Δ0 at135
+          d135 = Typed.s-seq 𝓤 H A W 𝓣 E G31 G32 b17 b78 Δ0 (Typed.pass T31 T32 s30) at134 (Scalar.t-use 𝓤 H A W E 𝓣 G31 (Scalar.oFld 12 (List._∷_ (Syntax.field 1) List.[]) ty·1 8 Shared.lenV) 37 (Rows.sc-here (Row.sInt Syntax.w64)) ty·1 (Row.valS (Row.sInt Syntax.w64)) (Row.sInt Syntax.w64 .of) (Mut.reads-mslice-len 𝓤 H A W (Referent.rtF (Referent.fInt Syntax.w32)) ty·14 8 8 Path'.refl, Path'.refl) (Reads.room-gone 𝓤 H A ty·1) (Scalar.holds-sc 𝓤 H A W (Row.sInt Syntax.w64)) Path'.refl (λ u. Path'.refl) λ u. tt) d134
+
+          d136 : Typed.Typed 𝓤 H A 𝓣 E G30 b80 Δ0 at136
+          d136 = Typed.s-seq 𝓤 H A W 𝓣 E G30 G31 b16 b79 Δ0 (Typed.pass T30 T31 s29) at135 (Scalar.t-use 𝓤 H A W E 𝓣 G30 (Scalar.oFld 11 (List._∷_ (Syntax.field 1) List.[]) ty·1 8 Shared.lenV) 36 (Rows.sc-here (Row.sInt Syntax.w64)) ty·1 (Row.valS (Row.sInt Syntax.w64)) (Row.sInt Syntax.w64 .of) (Mut.reads-mslice-len 𝓤 H A W (Referent.rtF (Referent.fInt Syntax.w32)) ty·13 7 8 Path'.refl, Path'.refl) (Reads.room-gone 𝓤 H A ty·1) (Scalar.holds-sc 𝓤 H A W (Row.sInt Syntax.w64)) Path'.refl (λ u. Path'.refl) λ u. tt) d135
+
+          d137 : Typed.Typed 𝓤 H A 𝓣 E G29 b81 Δ0 at137
+          d137 = Typed.s-seq 𝓤 H A W 𝓣 E G29 G30 b15 b80 Δ0 (Typed.pass T29 T30 s28) at136 (Scalar.t-use 𝓤 H A W E 𝓣 G29 (Scalar.oFld 10 (List._∷_ (Syntax.field 1) List.[]) ty·1 8 Shared.lenV) 35 (Rows.sc-here (Row.sInt Syntax.w64)) ty·1 (Row.valS (Row.sInt Syntax.w64)) (Row.sInt Syntax.w64 .of) (Mut.reads-mslice-len 𝓤 H A W (Referent.rtF (Referent.fInt Syntax.w32)) ty·12 6 8 Path'.refl, Path'.refl) (Reads.room-gone 𝓤 H A ty·1) (Scalar.holds-sc 𝓤 H A W (Row.sInt Syntax.w64)) Path'.refl (λ u. Path'.refl) λ u. tt) d136
+
+          d138 : Typed.Typed 𝓤 H A 𝓣 E G28 b82 Δ0 at138
+          d138 = Typed.s-seq 𝓤 H A W 𝓣 E G28 G29 b14 b81 Δ0 (Typed.pass T28 T29 s27) at137 (Scalar.t-use 𝓤 H A W E 𝓣 G28 (Scalar.oFld 9 (List._∷_ (Syntax.field 1) List.[]) ty·1 8 Shared.lenV) 24 (Rows.sc-here (Row.sInt Syntax.w64)) ty·1 (Row.valS (Row.sInt Syntax.w64)) (Row.sInt Syntax.w64 .of) (Mut.reads-mslice-len 𝓤 H A W ELEM.the-row ty·19 5 8 Path'.refl, Path'.refl) (Reads.room-gone 𝓤 H A ty·1) (Scalar.holds-sc 𝓤 H A W (Row.sInt Syntax.w64)) Path'.refl (λ u. Path'.refl) λ u. tt) d137
+
+          d139 : Typed.Typed 𝓤 H A 𝓣 E G27 b83 Δ0 at139
+          d139 = Typed.s-seq 𝓤 H A W 𝓣 E G27 G28 b13 b82 Δ0 (Typed.ask s26) at138 (Relend.t-sl-aggregate 𝓤 H A W E (Referent.rtF (Referent.fInt Syntax.w32)) 𝓣 (Relend.asShr (Referent.rtF (Referent.fInt Syntax.w32))) G27 33 34 16 ty·3 ty·3 (λ x. x) (Scalar.oFld 8 (List._∷_ (Syntax.field 1) List.[]) ty·1 8 λ v. Shared.lenV (v .0)) (Reads.as-is 𝓤 H A (Relend.ssptr (Referent.rtF (Referent.fInt Syntax.w32)) ty·3 16)) (Reads.room-gone 𝓤 H A ty·20) (Reshare.reads-owedS-len 𝓤 H A W (Referent.rtF (Referent.fInt Syntax.w32)) ty·11 4 16 (Row.lease (κs .1 .1 .1 .1 .0) (qs .1 .1 .1 .1 .0)) 8 Path'.refl, Path'.refl) Path'.refl Path'.refl λ b o k. tt) d138
+
+          d140 : Typed.Typed 𝓤 H A 𝓣 E G26 b84 Δ0 at140
+          d140 = Typed.s-seq 𝓤 H A W 𝓣 E G26 G27 b12 b83 Δ0 (Typed.give s25) at139 (Reshare.t-sl-reshare 𝓤 H A W E (Referent.rtF (Referent.fInt Syntax.w32)) 𝓣 G26 8 33 4 16 ty·11 ty·3 (Row.lease (κs .1 .1 .1 .1 .0) (qs .1 .1 .1 .1 .0)) 0 (λ x. x) (Reads.as-is 𝓤 H A (Mut.mslice (Referent.rtF (Referent.fInt Syntax.w32)) ty·11 4)) (Reads.room-gone 𝓤 H A ty·3) Path'.refl tt Path'.refl Path'.refl Path'.refl λ b o. tt) d139
+
+          d141 : Typed.Typed 𝓤 H A 𝓣 E G25 b84 Δ0 at141
+          d141 = Typed.g-pre 𝓤 H A W 𝓣 E G25 G26 b84 Δ0 (λ Ψ. Ψ) at140 (Lifetime.g-begin 𝓤 H A W E G25 16 (tt, (tt, (tt, (tt, ((tt, tt), ((tt, tt), ((tt, tt), ((tt, tt), (tt, (tt, (tt, (tt, (tt, (tt, (tt, (tt, (tt, (tt, (tt, (tt, (tt, (tt, (tt, (tt, (tt, (tt, (tt, (tt, (tt, (tt, (tt, (tt, (tt, (tt, (tt, (tt, (tt, (tt, (tt, (tt, (tt, (tt, (tt, (tt, (tt, (tt, (tt, (tt, (tt, (tt, (tt, (tt, (tt, (tt, (tt, (tt, (tt, (tt, (tt, (tt, (tt, tt)))))))))))))))))))))))))))))))))))))))))))))))))))))))))))))) d140
+
+          d142 : Typed.Typed 𝓤 H A 𝓣 E G24 b85 Δ0 at142
+          d142 = Typed.s-seq 𝓤 H A W 𝓣 E G24 G25 b11 b84 Δ0 (Typed.ask s23) at141 (Relend.t-sl-aggregate 𝓤 H A W E (Referent.rtF (Referent.fInt Syntax.w32)) 𝓣 (Relend.asShr (Referent.rtF (Referent.fInt Syntax.w32))) G24 31 32 15 ty·3 ty·3 (λ x. x) (Scalar.oFld 7 (List._∷_ (Syntax.field 1) List.[]) ty·1 8 λ v. Shared.lenV (v .0)) (Reads.as-is 𝓤 H A (Relend.ssptr (Referent.rtF (Referent.fInt Syntax.w32)) ty·3 15)) (Reads.room-gone 𝓤 H A ty·20) (Reshare.reads-owedS-len 𝓤 H A W (Referent.rtF (Referent.fInt Syntax.w32)) ty·10 3 15 (Row.lease (κs .1 .1 .1 .0) (qs .1 .1 .1 .0)) 8 Path'.refl, Path'.refl) Path'.refl Path'.refl λ b o k. tt) d141
+
+          d143 : Typed.Typed 𝓤 H A 𝓣 E G23 b86 Δ0 at143
+          d143 = Typed.s-seq 𝓤 H A W 𝓣 E G23 G24 b10 b85 Δ0 (Typed.give s22) at142 (Reshare.t-sl-reshare 𝓤 H A W E (Referent.rtF (Referent.fInt Syntax.w32)) 𝓣 G23 7 31 3 15 ty·10 ty·3 (Row.lease (κs .1 .1 .1 .0) (qs .1 .1 .1 .0)) 0 (λ x. x) (Reads.as-is 𝓤 H A (Mut.mslice (Referent.rtF (Referent.fInt Syntax.w32)) ty·10 3)) (Reads.room-gone 𝓤 H A ty·3) Path'.refl tt Path'.refl Path'.refl Path'.refl λ b o. tt) d142
+
+          d144 : Typed.Typed 𝓤 H A 𝓣 E G22 b86 Δ0 at144
+          d144 = Typed.g-pre 𝓤 H A W 𝓣 E G22 G23 b86 Δ0 (λ Ψ. Ψ) at143 (Lifetime.g-begin 𝓤 H A W E G22 15 (tt, (tt, (tt, (tt, ((tt, tt), ((tt, tt), ((tt, tt), (tt, (tt, (tt, (tt, (tt, (tt, (tt, (tt, (tt, (tt, (tt, (tt, (tt, (tt, (tt, (tt, (tt, (tt, (tt, (tt, (tt, (tt, (tt, (tt, (tt, (tt, (tt, (tt, (tt, (tt, (tt, (tt, (tt, (tt, (tt, (tt, (tt, (tt, (tt, (tt, (tt, (tt, (tt, (tt, (tt, (tt, (tt, (tt, (tt, (tt, (tt, (tt, (tt, (tt, tt)))))))))))))))))))))))))))))))))))))))))))))))))))))))))))))) d143
+
+          d145 : Typed.Typed 𝓤 H A 𝓣 E G21 b87 Δ0 at145
+          d145 = Typed.s-seq 𝓤 H A W 𝓣 E G21 G22 b9 b86 Δ0 (Typed.ask s20) at144 (Relend.t-sl-aggregate 𝓤 H A W E (Referent.rtF (Referent.fInt Syntax.w32)) 𝓣 (Relend.asShr (Referent.rtF (Referent.fInt Syntax.w32))) G21 29 30 14 ty·3 ty·3 (λ x. x) (Scalar.oFld 6 (List._∷_ (Syntax.field 1) List.[]) ty·1 8 λ v. Shared.lenV (v .0)) (Reads.as-is 𝓤 H A (Relend.ssptr (Referent.rtF (Referent.fInt Syntax.w32)) ty·3 14)) (Reads.room-gone 𝓤 H A ty·20) (Reshare.reads-owedS-len 𝓤 H A W (Referent.rtF (Referent.fInt Syntax.w32)) ty·9 2 14 (Row.lease (κs .1 .1 .0) (qs .1 .1 .0)) 8 Path'.refl, Path'.refl) Path'.refl Path'.refl λ b o k. tt) d144
+
+          d146 : Typed.Typed 𝓤 H A 𝓣 E G20 b88 Δ0 at146
+          d146 = Typed.s-seq 𝓤 H A W 𝓣 E G20 G21 b8 b87 Δ0 (Typed.give s19) at145 (Reshare.t-sl-reshare 𝓤 H A W E (Referent.rtF (Referent.fInt Syntax.w32)) 𝓣 G20 6 29 2 14 ty·9 ty·3 (Row.lease (κs .1 .1 .0) (qs .1 .1 .0)) 0 (λ x. x) (Reads.as-is 𝓤 H A (Mut.mslice (Referent.rtF (Referent.fInt Syntax.w32)) ty·9 2)) (Reads.room-gone 𝓤 H A ty·3) Path'.refl tt Path'.refl Path'.refl Path'.refl λ b o. tt) d145
+
+          d147 : Typed.Typed 𝓤 H A 𝓣 E G19 b88 Δ0 at147
+          d147 = Typed.g-pre 𝓤 H A W 𝓣 E G19 G20 b88 Δ0 (λ Ψ. Ψ) at146 (Lifetime.g-begin 𝓤 H A W E G19 14 (tt, (tt, (tt, (tt, ((tt, tt), ((tt, tt), (tt, (tt, (tt, (tt, (tt, (tt, (tt, (tt, (tt, (tt, (tt, (tt, (tt, (tt, (tt, (tt, (tt, (tt, (tt, (tt, (tt, (tt, (tt, (tt, (tt, (tt, (tt, (tt, (tt, (tt, (tt, (tt, (tt, (tt, (tt, (tt, (tt, (tt, (tt, (tt, (tt, (tt, (tt, (tt, (tt, (tt, (tt, (tt, (tt, (tt, (tt, (tt, (tt, (tt, (tt, tt)))))))))))))))))))))))))))))))))))))))))))))))))))))))))))))) d146
+
+          d148 : Typed.Typed 𝓤 H A 𝓣 E G18 b89 Δ0 at148
+          d148 = Typed.s-seq 𝓤 H A W 𝓣 E G18 G19 b7 b88 Δ0 (Typed.ask s17) at147 (Relend.t-sl-aggregate 𝓤 H A W E (Signed.SInt Syntax.w32) 𝓣 (Relend.asShr (Signed.SInt Syntax.w32)) G18 27 28 13 ty·3 ty·3 (λ x. x) (Scalar.oFld 5 (List._∷_ (Syntax.field 1) List.[]) ty·1 8 λ v. Shared.lenV (v .0)) (Reads.as-is 𝓤 H A (Relend.ssptr (Signed.SInt Syntax.w32) ty·3 13)) (Reads.room-gone 𝓤 H A ty·20) (Reshare.reads-owedS-len 𝓤 H A W (Signed.SInt Syntax.w32) ty·8 1 13 (Row.lease (κs .1 .0) (qs .1 .0)) 8 Path'.refl, Path'.refl) Path'.refl Path'.refl λ b o k. tt) d147
+
+          d149 : Typed.Typed 𝓤 H A 𝓣 E G17 b90 Δ0 at149
+          d149 = Typed.s-seq 𝓤 H A W 𝓣 E G17 G18 b6 b89 Δ0 (Typed.give s16) at148 (Reshare.t-sl-reshare 𝓤 H A W E (Signed.SInt Syntax.w32) 𝓣 G17 5 27 1 13 ty·8 ty·3 (Row.lease (κs .1 .0) (qs .1 .0)) 0 (λ x. x) (Reads.as-is 𝓤 H A (Mut.mslice (Signed.SInt Syntax.w32) ty·8 1)) (Reads.room-gone 𝓤 H A ty·3) Path'.refl tt Path'.refl Path'.refl Path'.refl λ b o. tt) d148
+
+          d150 : Typed.Typed 𝓤 H A 𝓣 E G16 b90 Δ0 at150
+          d150 = Typed.g-pre 𝓤 H A W 𝓣 E G16 G17 b90 Δ0 (λ Ψ. Ψ) at149 (Lifetime.g-begin 𝓤 H A W E G16 13 (tt, (tt, (tt, (tt, ((tt, tt), (tt, (tt, (tt, (tt, (tt, (tt, (tt, (tt, (tt, (tt, (tt, (tt, (tt, (tt, (tt, (tt, (tt, (tt, (tt, (tt, (tt, (tt, (tt, (tt, (tt, (tt, (tt, (tt, (tt, (tt, (tt, (tt, (tt, (tt, (tt, (tt, (tt, (tt, (tt, (tt, (tt, (tt, (tt, (tt, (tt, (tt, (tt, (tt, (tt, (tt, (tt, (tt, (tt, (tt, (tt, (tt, tt)))))))))))))))))))))))))))))))))))))))))))))))))))))))))))))) d149
+
+          d151 : Typed.Typed 𝓤 H A 𝓣 E G15 b91 Δ0 at151
+          d151 = Typed.s-seq 𝓤 H A W 𝓣 E G15 G16 b5 b90 Δ0 (Typed.ask s14) at150 (Relend.t-sl-aggregate 𝓤 H A W E (Signed.SInt Syntax.w32) 𝓣 (Relend.asShr (Signed.SInt Syntax.w32)) G15 25 26 12 ty·3 ty·3 (λ x. x) (Scalar.oFld 4 (List._∷_ (Syntax.field 1) List.[]) ty·1 8 λ v. Shared.lenV (v .0)) (Reads.as-is 𝓤 H A (Relend.ssptr (Signed.SInt Syntax.w32) ty·3 12)) (Reads.room-gone 𝓤 H A ty·20) (Reshare.reads-owedS-len 𝓤 H A W (Signed.SInt Syntax.w32) ty·7 0 12 (Row.lease (κs .0) (qs .0)) 8 Path'.refl, Path'.refl) Path'.refl Path'.refl λ b o k. tt) d150
+
+          d152 : Typed.Typed 𝓤 H A 𝓣 E G14 b92 Δ0 at152
+          d152 = Typed.s-seq 𝓤 H A W 𝓣 E G14 G15 b4 b91 Δ0 (Typed.give s13) at151 (Reshare.t-sl-reshare 𝓤 H A W E (Signed.SInt Syntax.w32) 𝓣 G14 4 25 0 12 ty·7 ty·3 (Row.lease (κs .0) (qs .0)) 0 (λ x. x) (Reads.as-is 𝓤 H A (Mut.mslice (Signed.SInt Syntax.w32) ty·7 0)) (Reads.room-gone 𝓤 H A ty·3) Path'.refl tt Path'.refl Path'.refl Path'.refl λ b o. tt) d151
+
+          d153 : Typed.Typed 𝓤 H A 𝓣 E G13 b92 Δ0 at153
+          d153 = Typed.g-pre 𝓤 H A W 𝓣 E G13 G14 b92 Δ0 (λ Ψ. Ψ) at152 (Lifetime.g-begin 𝓤 H A W E G13 12 (tt, (tt, (tt, (tt, (tt, (tt, (tt, (tt, (tt, (tt, (tt, (tt, (tt, (tt, (tt, (tt, (tt, (tt, (tt, (tt, (tt, (tt, (tt, (tt, (tt, (tt, (tt, (tt, (tt, (tt, (tt, (tt, (tt, (tt, (tt, (tt, (tt, (tt, (tt, (tt, (tt, (tt, (tt, (tt, (tt, (tt, (tt, (tt, (tt, (tt, (tt, (tt, (tt, (tt, (tt, (tt, (tt, (tt, (tt, (tt, (tt, tt)))))))))))))))))))))))))))))))))))))))))))))))))))))))))))))) d152
+
+          d154 : Typed.Typed 𝓤 H A 𝓣 E G12 b92 Δ0 at154
+          d154 = Typed.g-pre 𝓤 H A W 𝓣 E G12 G13 b92 Δ0 (Typed.pass T12 T13 s11) at153 (Scalar.g-room 𝓤 H A W E G12 24 ty·1 (Scalar.room-sc 𝓤 H A W (Row.sInt Syntax.w64))) d153
+
+          d155 : Typed.Typed 𝓤 H A 𝓣 E G11 b93 Δ0 at155
+          d155 = Typed.s-seq 𝓤 H A W 𝓣 E G11 G12 b3 b92 Δ0 (Typed.both s10) at154 (Plain.t-call-plain 𝓤 H A W 𝓣 1 ps·0 r·0 (claims· .0) (claims· .1) "run::answers_short" (known .0) E (λ pos β. β) G11 (Num.vAt 24 λ x. x, (record { pos = 16; ty = Syntax.tyRef (Syntax.named 10) Syntax.imm ty·0; ref = λ x. x }, tt)) 20 (List._∷_ 10 List.[]) (Call.sub-id 𝓤 H A W (G11 .slots)) ((Scalar.reads-sc 𝓤 H A W (Row.sInt Syntax.w64), Path'.refl), (ShrSlice.spares-sslice 𝓤 H A W (Signed.SInt Syntax.w32) ty·16 10, Shared.reads-sslice 𝓤 H A W (Signed.SInt Syntax.w32) ty·16 10, Path'.refl, tt)) (Reads.room-gone 𝓤 H A Syntax.tyBool) (tt, tt) Path'.refl) d154
+
+          d156 : Typed.Typed 𝓤 H A 𝓣 E G10 b94 Δ0 at156
+          d156 = Typed.s-seq 𝓤 H A W 𝓣 E G10 G11 b2 b93 Δ0 (Typed.pass T10 T11 s9) at155 (Scalar.t-use 𝓤 H A W E 𝓣 G10 (Scalar.oFld 13 (List._∷_ (Syntax.field 1) List.[]) ty·1 8 Shared.lenV) 24 (Rows.sc-here (Row.sInt Syntax.w64)) ty·1 (Row.valS (Row.sInt Syntax.w64)) (Row.sInt Syntax.w64 .of) (Mut.reads-mslice-len 𝓤 H A W (Referent.rtF (Referent.fInt Syntax.w64)) ty·15 9 8 Path'.refl, Path'.refl) (Reads.room-gone 𝓤 H A ty·1) (Scalar.holds-sc 𝓤 H A W (Row.sInt Syntax.w64)) Path'.refl (λ u. Path'.refl) λ u. tt) d155
+
+          d157 : Typed.Typed 𝓤 H A 𝓣 E G9 b95 Δ0 at157
+          d157 = Typed.s-seq 𝓤 H A W 𝓣 E G9 G10 b1 b94 Δ0 (Typed.pass T9 T10 s8) at156 (Make.t-struct-make 𝓤 H A W E 𝓣 (Apart.apartT Point2.the-type) Laws.the-laws Laws.the-plain G9 19 (List._∷_ (Scalar.oAt 14 ty·2 (Row.valS (Row.sFloat Ieee.binary64))) (List._∷_ (Scalar.oAt 15 ty·2 (Row.valS (Row.sFloat Ieee.binary64))) List.[])) (λ m. (m .1 .1 .1 .1 .1 .1 .1 .1 .1 .1 .1 .1 .1 .1 .0, (m .1 .1 .1 .1 .1 .1 .1 .1 .1 .1 .1 .1 .1 .1 .1 .0, tt))) (Reads.room-gone 𝓤 H A ty·25) ((Scalar.reads-sc 𝓤 H A W (Row.sFloat Ieee.binary64), Path'.refl), ((Scalar.reads-sc 𝓤 H A W (Row.sFloat Ieee.binary64), Path'.refl), tt)) Path'.refl (λ u. Path'.refl) λ m. Make.is-wt (Apart.apartT Point2.the-type) Laws.the-laws (Make.f64-wt, (Make.f64-wt, tt)) (m .1 .1 .1 .1 .1 .1 .1 .1 .1 .1 .1 .1 .1 .1 .0, (m .1 .1 .1 .1 .1 .1 .1 .1 .1 .1 .1 .1 .1 .1 .1 .0, tt))) d156
+
+          d158 : Typed.Typed 𝓤 H A 𝓣 E G8 b96 Δ0 at158
+          d158 = Typed.s-seq 𝓤 H A W 𝓣 E G8 G9 b0 b95 Δ0 (Typed.pass T8 T9 s7) at157 (Make.t-struct-make 𝓤 H A W E 𝓣 (Apart.apartT Counts.the-type) Laws'3.the-laws Laws'3.the-plain G8 18 (List._∷_ (Scalar.oAt 1 ty·0 (Row.valS (Row.sInt Syntax.w32))) (List._∷_ (Scalar.oAt 2 ty·0 (Row.valS (Row.sInt Syntax.w32))) (List._∷_ (Scalar.oAt 3 ty·0 (Row.valS (Row.sInt Syntax.w32))) List.[]))) (λ m. (m .1 .0, (m .1 .1 .0, (m .1 .1 .1 .0, tt)))) (Reads.room-gone 𝓤 H A ty·26) ((Scalar.reads-sc 𝓤 H A W (Row.sInt Syntax.w32), Path'.refl), ((Scalar.reads-sc 𝓤 H A W (Row.sInt Syntax.w32), Path'.refl), ((Scalar.reads-sc 𝓤 H A W (Row.sInt Syntax.w32), Path'.refl), tt))) Path'.refl (λ u. Path'.refl) λ m. Make.is-wt (Apart.apartT Counts.the-type) Laws'3.the-laws (Make.u32-wt, (Make.u32-wt, (Make.u32-wt, tt))) (m .1 .0, (m .1 .1 .0, (m .1 .1 .1 .0, tt)))) d157
+
+          d159 : Typed.Typed 𝓤 H A 𝓣 E G7 b96 Δ0 at159
+          d159 = Typed.g-pre 𝓤 H A W 𝓣 E G7 G8 b96 Δ0 (Typed.give s6) at158 (Know.g-sl-known 𝓤 H A W (Referent.fInt Syntax.w64) E G7 13 9 ty·15 (Row.lease (κs .1 .1 .1 .1 .1 .1 .1 .1 .1 .0) (qs .1 .1 .1 .1 .1 .1 .1 .1 .1 .0)) 0 (λ x. x) record { fits = Dec'.lit< tt } (Reads.as-is 𝓤 H A (Mut.mslice (Referent.rtF (Referent.fInt Syntax.w64)) ty·15 9)) Path'.refl tt) d158
+
+          d160 : Typed.Typed 𝓤 H A 𝓣 E G6 b96 Δ0 at160
+          d160 = Typed.g-pre 𝓤 H A W 𝓣 E G6 G7 b96 Δ0 (Typed.give s5) at159 (Know.g-sl-known 𝓤 H A W (Referent.fInt Syntax.w32) E G6 12 8 ty·14 (Row.lease (κs .1 .1 .1 .1 .1 .1 .1 .1 .0) (qs .1 .1 .1 .1 .1 .1 .1 .1 .0)) 0 (λ x. x) record { fits = Dec'.lit< tt } (Reads.as-is 𝓤 H A (Mut.mslice (Referent.rtF (Referent.fInt Syntax.w32)) ty·14 8)) Path'.refl tt) d159
+
+          d161 : Typed.Typed 𝓤 H A 𝓣 E G5 b96 Δ0 at161
+          d161 = Typed.g-pre 𝓤 H A W 𝓣 E G5 G6 b96 Δ0 (Typed.give s4) at160 (Know.g-sl-known 𝓤 H A W (Referent.fInt Syntax.w32) E G5 11 7 ty·13 (Row.lease (κs .1 .1 .1 .1 .1 .1 .1 .0) (qs .1 .1 .1 .1 .1 .1 .1 .0)) 0 (λ x. x) record { fits = Dec'.lit< tt } (Reads.as-is 𝓤 H A (Mut.mslice (Referent.rtF (Referent.fInt Syntax.w32)) ty·13 7)) Path'.refl tt) d160
+
+          d162 : Typed.Typed 𝓤 H A 𝓣 E G4 b96 Δ0 at162
+          d162 = Typed.g-pre 𝓤 H A W 𝓣 E G4 G5 b96 Δ0 (Typed.give s3) at161 (Know.g-sl-known 𝓤 H A W (Referent.fInt Syntax.w32) E G4 10 6 ty·12 (Row.lease (κs .1 .1 .1 .1 .1 .1 .0) (qs .1 .1 .1 .1 .1 .1 .0)) 0 (λ x. x) record { fits = Dec'.lit< tt } (Reads.as-is 𝓤 H A (Mut.mslice (Referent.rtF (Referent.fInt Syntax.w32)) ty·12 6)) Path'.refl tt) d161
+
+          d163 : Typed.Typed 𝓤 H A 𝓣 E G3 b96 Δ0 at163
+          d163 = Typed.g-pre 𝓤 H A W 𝓣 E G3 G4 b96 Δ0 (Typed.give s2) at162 (Know.g-sl-known 𝓤 H A W (Referent.fInt Syntax.w32) E G3 8 4 ty·11 (Row.lease (κs .1 .1 .1 .1 .0) (qs .1 .1 .1 .1 .0)) 0 (λ x. x) record { fits = Dec'.lit< tt } (Reads.as-is 𝓤 H A (Mut.mslice (Referent.rtF (Referent.fInt Syntax.w32)) ty·11 4)) Path'.refl tt) d162
+
+          d164 : Typed.Typed 𝓤 H A 𝓣 E G2 b96 Δ0 at164
+          d164 = Typed.g-pre 𝓤 H A W 𝓣 E G2 G3 b96 Δ0 (Typed.give s1) at163 (Know.g-sl-known 𝓤 H A W (Referent.fInt Syntax.w32) E G2 7 3 ty·10 (Row.lease (κs .1 .1 .1 .0) (qs .1 .1 .1 .0)) 0 (λ x. x) record { fits = Dec'.lit< tt } (Reads.as-is 𝓤 H A (Mut.mslice (Referent.rtF (Referent.fInt Syntax.w32)) ty·10 3)) Path'.refl tt) d163
+
+          d165 : Typed.Typed 𝓤 H A 𝓣 E G0 b96 Δ0 at165
+          d165 = Typed.g-pre 𝓤 H A W 𝓣 E G0 G2 b96 Δ0 (Typed.give s0) at164 (Know.g-sl-known 𝓤 H A W (Referent.fInt Syntax.w32) E G0 6 2 ty·9 (Row.lease (κs .1 .1 .0) (qs .1 .1 .0)) 0 (λ x. x) record { fits = Dec'.lit< tt } (Reads.as-is 𝓤 H A (Mut.mslice (Referent.rtF (Referent.fInt Syntax.w32)) ty·9 2)) Path'.refl tt) d164
+
+          pub typed : Typed.Typed 𝓤 H A 𝓣 E (Function.Γin 12 ps r xs m κs qs) b96 (Function.Δret 12 ps r xs m κs qs) Φ
+          typed = d165
+
+      module _ (κs : Lifetimes.Lfts 12) where
         pub record Args : Type 0 where
-          pub vertices : Kinds.Den {n = 10} κs (Num.pNum Syntax.w32)
-          pub edges : Kinds.Den {n = 10} κs (Num.pNum Syntax.w32)
-          pub faces : Kinds.Den {n = 10} κs (Num.pNum Syntax.w32)
-          pub positions : Kinds.Den {n = 10} κs (MutSlice.pMutS (Signed.SInt Syntax.w32) 0 tt)
-          pub outs : Kinds.Den {n = 10} κs (MutSlice.pMutS (Referent.rtF (Referent.fInt Syntax.w32)) 1 tt)
-          pub halves : Kinds.Den {n = 10} κs (MutSlice.pMutS (Referent.rtF (Referent.fInt Syntax.w32)) 2 tt)
-          pub adjacent : Kinds.Den {n = 10} κs (MutSlice.pMutS (Referent.rtF (Referent.fInt Syntax.w32)) 3 tt)
-          pub nodes : Kinds.Den {n = 10} κs (MutSlice.pMutS ELEM.the-row 4 tt)
-          pub freed : Kinds.Den {n = 10} κs (MutSlice.pMutS (Referent.rtF (Referent.fInt Syntax.w32)) 5 tt)
-          pub buckets : Kinds.Den {n = 10} κs (MutSlice.pMutS (Referent.rtF (Referent.fInt Syntax.w32)) 6 tt)
-          pub pending : Kinds.Den {n = 10} κs (MutSlice.pMutS (Referent.rtF (Referent.fInt Syntax.w32)) 7 tt)
-          pub answers : Kinds.Den {n = 10} κs (MutSlice.pMutS (Referent.rtF (Referent.fInt Syntax.w64)) 8 tt)
-          pub center-x : Kinds.Den {n = 10} κs (Float.pFloat Ieee.binary64)
-          pub center-y : Kinds.Den {n = 10} κs (Float.pFloat Ieee.binary64)
-          pub points : Kinds.Den {n = 10} κs (ShrSlice.pShrS (Signed.SInt Syntax.w32) 9 tt)
+          pub vertices : Kinds.Den {n = 12} κs (Num.pNum Syntax.w32)
+          pub edges : Kinds.Den {n = 12} κs (Num.pNum Syntax.w32)
+          pub faces : Kinds.Den {n = 12} κs (Num.pNum Syntax.w32)
+          pub positions : Kinds.Den {n = 12} κs (MutSlice.pMutS (Signed.SInt Syntax.w32) 0 tt)
+          pub heights : Kinds.Den {n = 12} κs (MutSlice.pMutS (Signed.SInt Syntax.w32) 1 tt)
+          pub outs : Kinds.Den {n = 12} κs (MutSlice.pMutS (Referent.rtF (Referent.fInt Syntax.w32)) 2 tt)
+          pub halves : Kinds.Den {n = 12} κs (MutSlice.pMutS (Referent.rtF (Referent.fInt Syntax.w32)) 3 tt)
+          pub adjacent : Kinds.Den {n = 12} κs (MutSlice.pMutS (Referent.rtF (Referent.fInt Syntax.w32)) 4 tt)
+          pub nodes : Kinds.Den {n = 12} κs (MutSlice.pMutS ELEM.the-row 5 tt)
+          pub freed : Kinds.Den {n = 12} κs (MutSlice.pMutS (Referent.rtF (Referent.fInt Syntax.w32)) 6 tt)
+          pub buckets : Kinds.Den {n = 12} κs (MutSlice.pMutS (Referent.rtF (Referent.fInt Syntax.w32)) 7 tt)
+          pub pending : Kinds.Den {n = 12} κs (MutSlice.pMutS (Referent.rtF (Referent.fInt Syntax.w32)) 8 tt)
+          pub answers : Kinds.Den {n = 12} κs (MutSlice.pMutS (Referent.rtF (Referent.fInt Syntax.w64)) 9 tt)
+          pub center-x : Kinds.Den {n = 12} κs (Float.pFloat Ieee.binary64)
+          pub center-y : Kinds.Den {n = 12} κs (Float.pFloat Ieee.binary64)
+          pub points : Kinds.Den {n = 12} κs (ShrSlice.pShrS (Signed.SInt Syntax.w32) 10 tt)
+          pub levels : Kinds.Den {n = 12} κs (ShrSlice.pShrS (Signed.SInt Syntax.w32) 11 tt)
 
         abbrev pub dens : (a : Args) → Kinds.Dens κs ps
-        dens = λ a. (a .vertices, (a .edges, (a .faces, (a .positions, (a .outs, (a .halves, (a .adjacent, (a .nodes, (a .freed, (a .buckets, (a .pending, (a .answers, (a .center-x, (a .center-y, (a .points, tt)))))))))))))))
+        dens = λ a. (a .vertices, (a .edges, (a .faces, (a .positions, (a .heights, (a .outs, (a .halves, (a .adjacent, (a .nodes, (a .freed, (a .buckets, (a .pending, (a .answers, (a .center-x, (a .center-y, (a .points, (a .levels, tt)))))))))))))))))
 
         module _ (args· : Args) where
           pub record Ranges : Type 0 where
@@ -1679,14 +3190,14 @@ module _ (claims· : Claims) where
             pub edges : Val.Fits Syntax.w32 (args· .edges)
             pub faces : Val.Fits Syntax.w32 (args· .faces)
 
-      abbrev pub m0 : (κs : Lifetimes.Lfts 10) → (args : Args κs) → Typed.Mo T0
+      abbrev pub m0 : (κs : Lifetimes.Lfts 12) → (args : Args κs) → Typed.Mo T0
       m0 = λ κs args. (tt, Enter.partsP κs 1 ps xs (dens κs args))
 
-      abbrev W0 : (κs : Lifetimes.Lfts 10) → (args : Args κs) → Typed.Want O0
-      W0 = λ κs args. (λ u. ⊥, tt, λ u. Enter.Fixs κs 1 ps xs (dens κs args) (u .1) × Post· κs (dens κs args) (Function.resV r κs (u .0)) (Clauses.atExit (Kinds.endedOf 10 ps r) κs (dens κs args) (Enter.lastsP κs 1 ps xs (dens κs args) (u .1))))
+      abbrev W0 : (κs : Lifetimes.Lfts 12) → (args : Args κs) → Typed.Want O0
+      W0 = λ κs args. (λ u. ⊥, tt, λ u. Enter.Fixs κs 1 ps xs (dens κs args) (u .1) × Post· κs (dens κs args) (Function.resV r κs (u .0)) (Clauses.atExit (Kinds.endedOf 12 ps r) κs (dens κs args) (Enter.lastsP κs 1 ps xs (dens κs args) (u .1))))
 
       pub record Start : Type 0 where
-        pub κs : Lifetimes.Lfts 10
+        pub κs : Lifetimes.Lfts 12
         pub args : Args κs
         pub good : Kinds.GoodsP κs ps (dens κs args)
         pub fits : Ranges κs args
@@ -1767,6 +3278,9 @@ module _ (claims· : Claims) where
       abbrev pub m9 : (before : After-slice-known6) → (given : s6 .gives (m6 (before .before) (before .slice-known6 .given))) → Typed.Mo T10
       m9 = λ before given. s8 (m8 before given)
 
+      abbrev pub m10 : (before : After-slice-known6) → (given : s6 .gives (m6 (before .before) (before .slice-known6 .given))) → Typed.Mo T11
+      m10 = λ before given. s9 (m9 before given)
+
       module _ (before· : After-slice-known6) where
         pub record After-slice-known7·own : Type 0 where
           pub given : s6 .gives (m6 (before· .before) (before· .slice-known6 .given))
@@ -1775,422 +3289,795 @@ module _ (claims· : Claims) where
         pub before : After-slice-known6
         pub slice-known7 : After-slice-known7·own before
 
-      abbrev pub m10 : (before : After-slice-known7) → (given : s10 .gives (m9 (before .before) (before .slice-known7 .given))) → Typed.Mo T12
-      m10 = λ before given. s10 .next (m9 (before .before) (before .slice-known7 .given)) given
+      abbrev pub Need-answers-short-requires : Type 0
+      Need-answers-short-requires = (c : After-slice-known7) → s10 .asks (m10 (c .before) (c .slice-known7 .given))
 
-      abbrev pub m11 : (before : After-slice-known7) → (given : s10 .gives (m9 (before .before) (before .slice-known7 .given))) → Typed.Mo T13
-      m11 = λ before given. s11 .next (m10 before given)
+      abbrev pub m11 : (before : After-slice-known7) → (given : s10 .gives (m10 (before .before) (before .slice-known7 .given))) → Typed.Mo T12
+      m11 = λ before given. s10 .next (m10 (before .before) (before .slice-known7 .given)) given
 
       module _ (before· : After-slice-known7) where
+        abbrev pub After-answers-short·own : Type 0
+        After-answers-short·own = Called.Called ps·0 r·0 (claims· .1) T11 (Num.vAt 24 λ x. x, (record { pos = 16; ty = Syntax.tyRef (Syntax.named 10) Syntax.imm ty·0; ref = λ x. x }, tt)) (m10 (before· .before) (before· .slice-known7 .given))
+
+      pub record After-answers-short : Type 0 where
+        pub before : After-slice-known7
+        pub answers-short : After-answers-short·own before
+
+      abbrev pub After-answers-short·gave : (c : After-answers-short) → s10 .gives (m10 (c .before .before) (c .before .slice-known7 .given))
+      After-answers-short·gave = λ c. Called.given ps·0 r·0 (claims· .1) T11 (Num.vAt 24 λ x. x, (record { pos = 16; ty = Syntax.tyRef (Syntax.named 10) Syntax.imm ty·0; ref = λ x. x }, tt)) (m10 (c .before .before) (c .before .slice-known7 .given)) (c .answers-short)
+
+      abbrev pub m12 : (before : After-slice-known7) → (given : s10 .gives (m10 (before .before) (before .slice-known7 .given))) → Typed.Mo T13
+      m12 = λ before given. s11 (m11 before given)
+
+      abbrev pub m13 : (before : After-answers-short) → (given : s13 .gives (m12 (before .before) (After-answers-short·gave before))) → Typed.Mo T15
+      m13 = λ before given. s13 .next (m12 (before .before) (After-answers-short·gave before)) given
+
+      abbrev pub m14 : (before : After-answers-short) → (given : s13 .gives (m12 (before .before) (After-answers-short·gave before))) → Typed.Mo T16
+      m14 = λ before given. s14 .next (m13 before given)
+
+      module _ (before· : After-answers-short) where
+        pub record After-check-run-arg·own : Type 0 where
+          pub given : s13 .gives (m12 (before· .before) (After-answers-short·gave before·))
+
+      pub record After-check-run-arg : Type 0 where
+        pub before : After-answers-short
+        pub check-run-arg : After-check-run-arg·own before
+
+      abbrev pub m15 : (before : After-check-run-arg) → (given : s16 .gives (m14 (before .before) (before .check-run-arg .given))) → Typed.Mo T18
+      m15 = λ before given. s16 .next (m14 (before .before) (before .check-run-arg .given)) given
+
+      abbrev pub m16 : (before : After-check-run-arg) → (given : s16 .gives (m14 (before .before) (before .check-run-arg .given))) → Typed.Mo T19
+      m16 = λ before given. s17 .next (m15 before given)
+
+      module _ (before· : After-check-run-arg) where
+        pub record After-check-run-arg2·own : Type 0 where
+          pub given : s16 .gives (m14 (before· .before) (before· .check-run-arg .given))
+
+      pub record After-check-run-arg2 : Type 0 where
+        pub before : After-check-run-arg
+        pub check-run-arg2 : After-check-run-arg2·own before
+
+      abbrev pub m17 : (before : After-check-run-arg2) → (given : s19 .gives (m16 (before .before) (before .check-run-arg2 .given))) → Typed.Mo T21
+      m17 = λ before given. s19 .next (m16 (before .before) (before .check-run-arg2 .given)) given
+
+      abbrev pub m18 : (before : After-check-run-arg2) → (given : s19 .gives (m16 (before .before) (before .check-run-arg2 .given))) → Typed.Mo T22
+      m18 = λ before given. s20 .next (m17 before given)
+
+      module _ (before· : After-check-run-arg2) where
+        pub record After-check-run-arg3·own : Type 0 where
+          pub given : s19 .gives (m16 (before· .before) (before· .check-run-arg2 .given))
+
+      pub record After-check-run-arg3 : Type 0 where
+        pub before : After-check-run-arg2
+        pub check-run-arg3 : After-check-run-arg3·own before
+
+      abbrev pub m19 : (before : After-check-run-arg3) → (given : s22 .gives (m18 (before .before) (before .check-run-arg3 .given))) → Typed.Mo T24
+      m19 = λ before given. s22 .next (m18 (before .before) (before .check-run-arg3 .given)) given
+
+      abbrev pub m20 : (before : After-check-run-arg3) → (given : s22 .gives (m18 (before .before) (before .check-run-arg3 .given))) → Typed.Mo T25
+      m20 = λ before given. s23 .next (m19 before given)
+
+      module _ (before· : After-check-run-arg3) where
+        pub record After-check-run-arg4·own : Type 0 where
+          pub given : s22 .gives (m18 (before· .before) (before· .check-run-arg3 .given))
+
+      pub record After-check-run-arg4 : Type 0 where
+        pub before : After-check-run-arg3
+        pub check-run-arg4 : After-check-run-arg4·own before
+
+      abbrev pub m21 : (before : After-check-run-arg4) → (given : s25 .gives (m20 (before .before) (before .check-run-arg4 .given))) → Typed.Mo T27
+      m21 = λ before given. s25 .next (m20 (before .before) (before .check-run-arg4 .given)) given
+
+      abbrev pub m22 : (before : After-check-run-arg4) → (given : s25 .gives (m20 (before .before) (before .check-run-arg4 .given))) → Typed.Mo T28
+      m22 = λ before given. s26 .next (m21 before given)
+
+      abbrev pub m23 : (before : After-check-run-arg4) → (given : s25 .gives (m20 (before .before) (before .check-run-arg4 .given))) → Typed.Mo T29
+      m23 = λ before given. s27 (m22 before given)
+
+      abbrev pub m24 : (before : After-check-run-arg4) → (given : s25 .gives (m20 (before .before) (before .check-run-arg4 .given))) → Typed.Mo T30
+      m24 = λ before given. s28 (m23 before given)
+
+      abbrev pub m25 : (before : After-check-run-arg4) → (given : s25 .gives (m20 (before .before) (before .check-run-arg4 .given))) → Typed.Mo T31
+      m25 = λ before given. s29 (m24 before given)
+
+      abbrev pub m26 : (before : After-check-run-arg4) → (given : s25 .gives (m20 (before .before) (before .check-run-arg4 .given))) → Typed.Mo T32
+      m26 = λ before given. s30 (m25 before given)
+
+      abbrev pub m27 : (before : After-check-run-arg4) → (given : s25 .gives (m20 (before .before) (before .check-run-arg4 .given))) → Typed.Mo T33
+      m27 = λ before given. s31 (m26 before given)
+
+      module _ (before· : After-check-run-arg4) where
+        pub record After-check-run-arg5·own : Type 0 where
+          pub given : s25 .gives (m20 (before· .before) (before· .check-run-arg4 .given))
+
+      pub record After-check-run-arg5 : Type 0 where
+        pub before : After-check-run-arg4
+        pub check-run-arg5 : After-check-run-arg5·own before
+
+      abbrev pub Need-check-run-requires : Type 0
+      Need-check-run-requires = (c : After-check-run-arg5) → s32 .asks (m27 (c .before) (c .check-run-arg5 .given))
+
+      abbrev pub m28 : (before : After-check-run-arg5) → (given : s32 .gives (m27 (before .before) (before .check-run-arg5 .given))) → Typed.Mo T34
+      m28 = λ before given. s32 .next (m27 (before .before) (before .check-run-arg5 .given)) given
+
+      module _ (before· : After-check-run-arg5) where
+        abbrev pub After-check-run·own : Type 0
+        After-check-run·own = Called.Called ps·1 r·1 (claims· .3) T33 (record { pos = 16; ty = Syntax.tyRef (Syntax.named 10) Syntax.imm ty·0; ref = λ x. x }, (record { pos = 17; ty = Syntax.tyRef (Syntax.named 11) Syntax.imm ty·0; ref = λ x. x }, (record { pos = 18; st = List.[]; d = 0; at = λ x. x }, (record { pos = 26; ty = Syntax.tyRef Syntax.erased Syntax.imm ty·0; ref = λ x. x }, (record { pos = 28; ty = Syntax.tyRef Syntax.erased Syntax.imm ty·0; ref = λ x. x }, (record { pos = 30; ty = Syntax.tyRef Syntax.erased Syntax.imm ty·0; ref = λ x. x }, (record { pos = 32; ty = Syntax.tyRef Syntax.erased Syntax.imm ty·0; ref = λ x. x }, (record { pos = 34; ty = Syntax.tyRef Syntax.erased Syntax.imm ty·0; ref = λ x. x }, (Num.vAt 24 λ x. x, (Num.vAt 35 λ x. x, (Num.vAt 36 λ x. x, (Num.vAt 37 λ x. x, (Bool.bAt 20 λ x. x, tt))))))))))))) (m27 (before· .before) (before· .check-run-arg5 .given))
+
+      pub record After-check-run : Type 0 where
+        pub before : After-check-run-arg5
+        pub check-run : After-check-run·own before
+
+      abbrev pub After-check-run·gave : (c : After-check-run) → s32 .gives (m27 (c .before .before) (c .before .check-run-arg5 .given))
+      After-check-run·gave = λ c. Called.given ps·1 r·1 (claims· .3) T33 (record { pos = 16; ty = Syntax.tyRef (Syntax.named 10) Syntax.imm ty·0; ref = λ x. x }, (record { pos = 17; ty = Syntax.tyRef (Syntax.named 11) Syntax.imm ty·0; ref = λ x. x }, (record { pos = 18; st = List.[]; d = 0; at = λ x. x }, (record { pos = 26; ty = Syntax.tyRef Syntax.erased Syntax.imm ty·0; ref = λ x. x }, (record { pos = 28; ty = Syntax.tyRef Syntax.erased Syntax.imm ty·0; ref = λ x. x }, (record { pos = 30; ty = Syntax.tyRef Syntax.erased Syntax.imm ty·0; ref = λ x. x }, (record { pos = 32; ty = Syntax.tyRef Syntax.erased Syntax.imm ty·0; ref = λ x. x }, (record { pos = 34; ty = Syntax.tyRef Syntax.erased Syntax.imm ty·0; ref = λ x. x }, (Num.vAt 24 λ x. x, (Num.vAt 35 λ x. x, (Num.vAt 36 λ x. x, (Num.vAt 37 λ x. x, (Bool.bAt 20 λ x. x, tt))))))))))))) (m27 (c .before .before) (c .before .check-run-arg5 .given)) (c .check-run)
+
+      abbrev W1 : (before : After-check-run-arg5) → (given : s32 .gives (m27 (before .before) (before .check-run-arg5 .given))) → Typed.Want O1
+      W1 = λ before given. Typed.wantNext T35 O0 (at131 (W0 (before .before .before .before .before .before .before .before .before .before .before .before .before .before .κs) (before .before .before .before .before .before .before .before .before .before .before .before .before .before .args))) (W0 (before .before .before .before .before .before .before .before .before .before .before .before .before .before .κs) (before .before .before .before .before .before .before .before .before .before .before .before .before .before .args))
+
+      abbrev pub m29 : (before : After-check-run-arg5) → (given : s32 .gives (m27 (before .before) (before .check-run-arg5 .given))) → Typed.Mo T36
+      m29 = λ before given. s33 (m28 before given)
+
+      abbrev pub m30 : (before : After-check-run-arg5) → (given : s32 .gives (m27 (before .before) (before .check-run-arg5 .given))) → Typed.Mo T37
+      m30 = λ before given. s34 (m29 before given)
+
+      abbrev pub m31 : (before : After-check-run-arg5) → (given : s32 .gives (m27 (before .before) (before .check-run-arg5 .given))) → Typed.Mo T38
+      m31 = λ before given. s35 (m30 before given)
+
+      abbrev pub m32 : (before : After-check-run-arg5) → (given : s32 .gives (m27 (before .before) (before .check-run-arg5 .given))) → Typed.Mo T39
+      m32 = λ before given. s36 (m31 before given)
+
+      abbrev pub m33 : (before : After-check-run-arg5) → (given : s32 .gives (m27 (before .before) (before .check-run-arg5 .given))) → Typed.Mo T40
+      m33 = λ before given. s37 (m32 before given)
+
+      abbrev pub m34 : (before : After-check-run-arg5) → (given : s32 .gives (m27 (before .before) (before .check-run-arg5 .given))) → Typed.Mo T41
+      m34 = λ before given. s38 (m33 before given)
+
+      abbrev pub m35 : (before : After-check-run-arg5) → (given : s32 .gives (m27 (before .before) (before .check-run-arg5 .given))) → Typed.Mo T42
+      m35 = λ before given. s39 (m34 before given)
+
+      abbrev pub m36 : (before : After-check-run-arg5) → (given : s32 .gives (m27 (before .before) (before .check-run-arg5 .given))) → Typed.Mo T43
+      m36 = λ before given. s40 (m35 before given)
+
+      abbrev pub m37 : (before : After-check-run-arg5) → (given : s32 .gives (m27 (before .before) (before .check-run-arg5 .given))) → Typed.Mo T44
+      m37 = λ before given. s41 (m36 before given)
+
+      abbrev pub m38 : (before : After-check-run-arg5) → (given : s32 .gives (m27 (before .before) (before .check-run-arg5 .given))) → Typed.Mo T46
+      m38 = λ before given. s43 (m37 before given)
+
+      abbrev pub m39 : (before : After-check-run-arg5) → (given : s32 .gives (m27 (before .before) (before .check-run-arg5 .given))) → Typed.Mo T49
+      m39 = λ before given. s46 (m38 before given)
+
+      abbrev pub m40 : (before : After-check-run-arg5) → (given : s32 .gives (m27 (before .before) (before .check-run-arg5 .given))) → Typed.Mo T52
+      m40 = λ before given. s49 (m39 before given)
+
+      abbrev pub m41 : (before : After-check-run-arg5) → (given : s32 .gives (m27 (before .before) (before .check-run-arg5 .given))) → Typed.Mo T55
+      m41 = λ before given. s52 (m40 before given)
+
+      abbrev pub m42 : (before : After-check-run-arg5) → (given : s32 .gives (m27 (before .before) (before .check-run-arg5 .given))) → Typed.Mo T58
+      m42 = λ before given. s55 (m41 before given)
+
+      abbrev pub m43 : (before : After-check-run-arg5) → (given : s32 .gives (m27 (before .before) (before .check-run-arg5 .given))) → Typed.Mo T60
+      m43 = λ before given. s57 (m42 before given)
+
+      module _ (before· : After-check-run) where
+        pub record At-match-keys1·own : Type 0 where
+          pub keys1 : Run.OneOf (List._∷_ 1 List.[]) (Declared.tagOf Checked.the-type (Row.get 21 (T60 .locals) (m43 (before· .before) (After-check-run·gave before·))))
+
+      pub record At-match-keys1 : Type 0 where
+        pub before : After-check-run
+        pub match : At-match-keys1·own before
+
+      abbrev pub Need-enum-known-checked : Type 0
+      Need-enum-known-checked = (c : At-match-keys1) → s58 .asks (m43 (c .before .before) (After-check-run·gave (c .before)))
+
+      abbrev pub m44 : (before : At-match-keys1) → (given : s58 .gives (m43 (before .before .before) (After-check-run·gave (before .before)))) → Typed.Mo T61
+      m44 = λ before given. s58 .next (m43 (before .before .before) (After-check-run·gave (before .before))) given
+
+      module _ (before· : At-match-keys1) where
+        pub record After-checked·own : Type 0 where
+          pub given : s58 .gives (m43 (before· .before .before) (After-check-run·gave (before· .before)))
+
+      pub record After-checked : Type 0 where
+        pub before : At-match-keys1
+        pub checked : After-checked·own before
+
+      abbrev pub m45 : (before : After-checked) → (given : s59 .gives (m44 (before .before) (before .checked .given))) → Typed.Mo T62
+      m45 = λ before given. s59 .next (m44 (before .before) (before .checked .given)) given
+
+      abbrev pub m46 : (before : After-checked) → (given : s59 .gives (m44 (before .before) (before .checked .given))) → Typed.Mo T63
+      m46 = λ before given. s60 (m45 before given)
+
+      abbrev pub m47 : (before : After-checked) → (given : s59 .gives (m44 (before .before) (before .checked .given))) → Typed.Mo T64
+      m47 = λ before given. s61 (m46 before given)
+
+      abbrev pub m48 : (before : After-checked) → (given : s59 .gives (m44 (before .before) (before .checked .given))) → Typed.Mo T65
+      m48 = λ before given. s62 (m47 before given)
+
+      module _ (before· : After-checked) where
+        pub record After-known-told·own : Type 0 where
+          pub given : s59 .gives (m44 (before· .before) (before· .checked .given))
+
+      pub record After-known-told : Type 0 where
+        pub before : After-checked
+        pub known-told : After-known-told·own before
+
+      abbrev pub Need-finish-refused-requires : Type 0
+      Need-finish-refused-requires = (c : After-known-told) → s63 .asks (m48 (c .before) (c .known-told .given))
+
+      abbrev pub m49 : (before : After-known-told) → (given : s63 .gives (m48 (before .before) (before .known-told .given))) → Typed.Mo T66
+      m49 = λ before given. s63 .next (m48 (before .before) (before .known-told .given)) given
+
+      module _ (before· : After-known-told) where
+        abbrev pub After-finish-refused·own : Type 0
+        After-finish-refused·own = Called.Called ps·2 r·2 (claims· .5) T65 (record { pos = 18; st = List.[]; d = 0; at = λ x. x }, (record { pos = 22; st = List.[]; d = 0; at = λ x. x }, tt)) (m48 (before· .before) (before· .known-told .given))
+
+      pub record After-finish-refused : Type 0 where
+        pub before : After-known-told
+        pub finish-refused : After-finish-refused·own before
+
+      abbrev pub After-finish-refused·gave : (c : After-finish-refused) → s63 .gives (m48 (c .before .before) (c .before .known-told .given))
+      After-finish-refused·gave = λ c. Called.given ps·2 r·2 (claims· .5) T65 (record { pos = 18; st = List.[]; d = 0; at = λ x. x }, (record { pos = 22; st = List.[]; d = 0; at = λ x. x }, tt)) (m48 (c .before .before) (c .before .known-told .given)) (c .finish-refused)
+
+      abbrev pub m50 : (before : After-known-told) → (given : s63 .gives (m48 (before .before) (before .known-told .given))) → Typed.Mo T67
+      m50 = λ before given. s64 (m49 before given)
+
+      abbrev pub m51 : (before : After-known-told) → (given : s63 .gives (m48 (before .before) (before .known-told .given))) → Typed.Mo T68
+      m51 = λ before given. s65 (m50 before given)
+
+      abbrev pub m52 : (before : After-known-told) → (given : s63 .gives (m48 (before .before) (before .known-told .given))) → Typed.Mo T69
+      m52 = λ before given. s66 (m51 before given)
+
+      abbrev pub m53 : (before : After-known-told) → (given : s63 .gives (m48 (before .before) (before .known-told .given))) → Typed.Mo T70
+      m53 = λ before given. s67 (m52 before given)
+
+      abbrev pub m54 : (before : After-known-told) → (given : s63 .gives (m48 (before .before) (before .known-told .given))) → Typed.Mo T71
+      m54 = λ before given. s68 (m53 before given)
+
+      abbrev pub m55 : (before : After-known-told) → (given : s63 .gives (m48 (before .before) (before .known-told .given))) → Typed.Mo T72
+      m55 = λ before given. s69 (m54 before given)
+
+      abbrev pub m56 : (before : After-known-told) → (given : s63 .gives (m48 (before .before) (before .known-told .given))) → Typed.Mo T73
+      m56 = λ before given. s70 (m55 before given)
+
+      abbrev pub m57 : (before : After-known-told) → (given : s63 .gives (m48 (before .before) (before .known-told .given))) → Typed.Mo T74
+      m57 = λ before given. s71 (m56 before given)
+
+      abbrev pub Need-same-length : Type 0
+      Need-same-length = (c : After-finish-refused) → MutSlice.SameLen (Row.get 4 (T74 .locals) (m57 (c .before) (After-finish-refused·gave c))) (dens (c .before .before .before .before .before .before .before .before .before .before .before .before .before .before .before .before .before .before .κs) (c .before .before .before .before .before .before .before .before .before .before .before .before .before .before .before .before .before .before .args) .1 .1 .1 .0)
+
+      abbrev pub Need-same-length-2 : Type 0
+      Need-same-length-2 = (c : After-finish-refused) → MutSlice.SameLen (Row.get 5 (T74 .locals) (m57 (c .before) (After-finish-refused·gave c))) (dens (c .before .before .before .before .before .before .before .before .before .before .before .before .before .before .before .before .before .before .κs) (c .before .before .before .before .before .before .before .before .before .before .before .before .before .before .before .before .before .before .args) .1 .1 .1 .1 .0)
+
+      abbrev pub Need-same-length-3 : Type 0
+      Need-same-length-3 = (c : After-finish-refused) → MutSlice.SameLen (Row.get 6 (T74 .locals) (m57 (c .before) (After-finish-refused·gave c))) (dens (c .before .before .before .before .before .before .before .before .before .before .before .before .before .before .before .before .before .before .κs) (c .before .before .before .before .before .before .before .before .before .before .before .before .before .before .before .before .before .before .args) .1 .1 .1 .1 .1 .0)
+
+      abbrev pub Need-same-length-4 : Type 0
+      Need-same-length-4 = (c : After-finish-refused) → MutSlice.SameLen (Row.get 7 (T74 .locals) (m57 (c .before) (After-finish-refused·gave c))) (dens (c .before .before .before .before .before .before .before .before .before .before .before .before .before .before .before .before .before .before .κs) (c .before .before .before .before .before .before .before .before .before .before .before .before .before .before .before .before .before .before .args) .1 .1 .1 .1 .1 .1 .0)
+
+      abbrev pub Need-same-length-5 : Type 0
+      Need-same-length-5 = (c : After-finish-refused) → MutSlice.SameLen (Row.get 8 (T74 .locals) (m57 (c .before) (After-finish-refused·gave c))) (dens (c .before .before .before .before .before .before .before .before .before .before .before .before .before .before .before .before .before .before .κs) (c .before .before .before .before .before .before .before .before .before .before .before .before .before .before .before .before .before .before .args) .1 .1 .1 .1 .1 .1 .1 .0)
+
+      abbrev pub Need-returns : Type 0
+      Need-returns = (c : After-finish-refused) → Post· (c .before .before .before .before .before .before .before .before .before .before .before .before .before .before .before .before .before .before .κs) (dens (c .before .before .before .before .before .before .before .before .before .before .before .before .before .before .before .before .before .before .κs) (c .before .before .before .before .before .before .before .before .before .before .before .before .before .before .before .before .before .before .args)) (Function.resV r (c .before .before .before .before .before .before .before .before .before .before .before .before .before .before .before .before .before .before .κs) (m57 (c .before) (After-finish-refused·gave c) .0)) (Clauses.atExit (Kinds.endedOf 12 ps r) (c .before .before .before .before .before .before .before .before .before .before .before .before .before .before .before .before .before .before .κs) (dens (c .before .before .before .before .before .before .before .before .before .before .before .before .before .before .before .before .before .before .κs) (c .before .before .before .before .before .before .before .before .before .before .before .before .before .before .before .before .before .before .args)) (Enter.lastsP (c .before .before .before .before .before .before .before .before .before .before .before .before .before .before .before .before .before .before .κs) 1 ps xs (dens (c .before .before .before .before .before .before .before .before .before .before .before .before .before .before .before .before .before .before .κs) (c .before .before .before .before .before .before .before .before .before .before .before .before .before .before .before .before .before .before .args)) (m57 (c .before) (After-finish-refused·gave c) .1)))
+
+      module _ (before· : After-check-run) where
+        pub record At-match-keys2·own : Type 0 where
+          pub keys2 : Run.OneOf (List._∷_ 0 List.[]) (Declared.tagOf Checked.the-type (Row.get 21 (T60 .locals) (m43 (before· .before) (After-check-run·gave before·))))
+
+      pub record At-match-keys2 : Type 0 where
+        pub before : After-check-run
+        pub match : At-match-keys2·own before
+
+      abbrev pub Need-enum-told : Type 0
+      Need-enum-told = (c : At-match-keys2) → s72 .asks (m43 (c .before .before) (After-check-run·gave (c .before)))
+
+      abbrev pub m58 : (before : At-match-keys2) → (given : s72 .gives (m43 (before .before .before) (After-check-run·gave (before .before)))) → Typed.Mo T75
+      m58 = λ before given. s72 .next (m43 (before .before .before) (After-check-run·gave (before .before))) given
+
+      abbrev pub m59 : (before : At-match-keys2) → (given : s72 .gives (m43 (before .before .before) (After-check-run·gave (before .before)))) → Typed.Mo T76
+      m59 = λ before given. s73 (m58 before given)
+
+      module _ (before· : At-match-keys2) where
+        pub record After-enum-told·own : Type 0 where
+          pub given : s72 .gives (m43 (before· .before .before) (After-check-run·gave (before· .before)))
+
+      pub record After-enum-told : Type 0 where
+        pub before : At-match-keys2
+        pub enum-told : After-enum-told·own before
+
+      abbrev pub m60 : (before : After-enum-told) → (given : s75 .gives (m59 (before .before) (before .enum-told .given))) → Typed.Mo T78
+      m60 = λ before given. s75 .next (m59 (before .before) (before .enum-told .given)) given
+
+      abbrev pub m61 : (before : After-enum-told) → (given : s75 .gives (m59 (before .before) (before .enum-told .given))) → Typed.Mo T79
+      m61 = λ before given. s76 .next (m60 before given)
+
+      module _ (before· : After-enum-told) where
         pub record After-run-arg·own : Type 0 where
-          pub given : s10 .gives (m9 (before· .before) (before· .slice-known7 .given))
+          pub given : s75 .gives (m59 (before· .before) (before· .enum-told .given))
 
       pub record After-run-arg : Type 0 where
-        pub before : After-slice-known7
+        pub before : After-enum-told
         pub run-arg : After-run-arg·own before
 
-      abbrev pub m12 : (before : After-run-arg) → (given : s13 .gives (m11 (before .before) (before .run-arg .given))) → Typed.Mo T15
-      m12 = λ before given. s13 .next (m11 (before .before) (before .run-arg .given)) given
+      abbrev pub m62 : (before : After-run-arg) → (given : s78 .gives (m61 (before .before) (before .run-arg .given))) → Typed.Mo T81
+      m62 = λ before given. s78 .next (m61 (before .before) (before .run-arg .given)) given
 
-      abbrev pub m13 : (before : After-run-arg) → (given : s13 .gives (m11 (before .before) (before .run-arg .given))) → Typed.Mo T16
-      m13 = λ before given. s14 .next (m12 before given)
+      abbrev pub m63 : (before : After-run-arg) → (given : s78 .gives (m61 (before .before) (before .run-arg .given))) → Typed.Mo T82
+      m63 = λ before given. s79 .next (m62 before given)
 
       module _ (before· : After-run-arg) where
         pub record After-run-arg2·own : Type 0 where
-          pub given : s13 .gives (m11 (before· .before) (before· .run-arg .given))
+          pub given : s78 .gives (m61 (before· .before) (before· .run-arg .given))
 
       pub record After-run-arg2 : Type 0 where
         pub before : After-run-arg
         pub run-arg2 : After-run-arg2·own before
 
-      abbrev pub m14 : (before : After-run-arg2) → (given : s16 .gives (m13 (before .before) (before .run-arg2 .given))) → Typed.Mo T18
-      m14 = λ before given. s16 .next (m13 (before .before) (before .run-arg2 .given)) given
+      abbrev pub m64 : (before : After-run-arg2) → (given : s81 .gives (m63 (before .before) (before .run-arg2 .given))) → Typed.Mo T84
+      m64 = λ before given. s81 .next (m63 (before .before) (before .run-arg2 .given)) given
 
-      abbrev pub m15 : (before : After-run-arg2) → (given : s16 .gives (m13 (before .before) (before .run-arg2 .given))) → Typed.Mo T19
-      m15 = λ before given. s17 .next (m14 before given)
+      abbrev pub m65 : (before : After-run-arg2) → (given : s81 .gives (m63 (before .before) (before .run-arg2 .given))) → Typed.Mo T85
+      m65 = λ before given. s82 .next (m64 before given)
 
       module _ (before· : After-run-arg2) where
         pub record After-run-arg3·own : Type 0 where
-          pub given : s16 .gives (m13 (before· .before) (before· .run-arg2 .given))
+          pub given : s81 .gives (m63 (before· .before) (before· .run-arg2 .given))
 
       pub record After-run-arg3 : Type 0 where
         pub before : After-run-arg2
         pub run-arg3 : After-run-arg3·own before
 
-      abbrev pub m16 : (before : After-run-arg3) → (given : s19 .gives (m15 (before .before) (before .run-arg3 .given))) → Typed.Mo T21
-      m16 = λ before given. s19 .next (m15 (before .before) (before .run-arg3 .given)) given
+      abbrev pub m66 : (before : After-run-arg3) → (given : s84 .gives (m65 (before .before) (before .run-arg3 .given))) → Typed.Mo T87
+      m66 = λ before given. s84 .next (m65 (before .before) (before .run-arg3 .given)) given
 
-      abbrev pub m17 : (before : After-run-arg3) → (given : s19 .gives (m15 (before .before) (before .run-arg3 .given))) → Typed.Mo T22
-      m17 = λ before given. s20 .next (m16 before given)
+      abbrev pub m67 : (before : After-run-arg3) → (given : s84 .gives (m65 (before .before) (before .run-arg3 .given))) → Typed.Mo T88
+      m67 = λ before given. s85 .next (m66 before given)
 
       module _ (before· : After-run-arg3) where
         pub record After-run-arg4·own : Type 0 where
-          pub given : s19 .gives (m15 (before· .before) (before· .run-arg3 .given))
+          pub given : s84 .gives (m65 (before· .before) (before· .run-arg3 .given))
 
       pub record After-run-arg4 : Type 0 where
         pub before : After-run-arg3
         pub run-arg4 : After-run-arg4·own before
 
-      abbrev pub m18 : (before : After-run-arg4) → (given : s22 .gives (m17 (before .before) (before .run-arg4 .given))) → Typed.Mo T24
-      m18 = λ before given. s22 .next (m17 (before .before) (before .run-arg4 .given)) given
+      abbrev pub m68 : (before : After-run-arg4) → (given : s87 .gives (m67 (before .before) (before .run-arg4 .given))) → Typed.Mo T90
+      m68 = λ before given. s87 .next (m67 (before .before) (before .run-arg4 .given)) given
 
-      abbrev pub m19 : (before : After-run-arg4) → (given : s22 .gives (m17 (before .before) (before .run-arg4 .given))) → Typed.Mo T25
-      m19 = λ before given. s23 .next (m18 before given)
+      abbrev pub m69 : (before : After-run-arg4) → (given : s87 .gives (m67 (before .before) (before .run-arg4 .given))) → Typed.Mo T91
+      m69 = λ before given. s88 .next (m68 before given)
 
       module _ (before· : After-run-arg4) where
         pub record After-run-arg5·own : Type 0 where
-          pub given : s22 .gives (m17 (before· .before) (before· .run-arg4 .given))
+          pub given : s87 .gives (m67 (before· .before) (before· .run-arg4 .given))
 
       pub record After-run-arg5 : Type 0 where
         pub before : After-run-arg4
         pub run-arg5 : After-run-arg5·own before
 
-      abbrev pub m20 : (before : After-run-arg5) → (given : s25 .gives (m19 (before .before) (before .run-arg5 .given))) → Typed.Mo T27
-      m20 = λ before given. s25 .next (m19 (before .before) (before .run-arg5 .given)) given
+      abbrev pub m70 : (before : After-run-arg5) → (given : s90 .gives (m69 (before .before) (before .run-arg5 .given))) → Typed.Mo T93
+      m70 = λ before given. s90 .next (m69 (before .before) (before .run-arg5 .given)) given
 
-      abbrev pub m21 : (before : After-run-arg5) → (given : s25 .gives (m19 (before .before) (before .run-arg5 .given))) → Typed.Mo T28
-      m21 = λ before given. s26 .next (m20 before given)
+      abbrev pub m71 : (before : After-run-arg5) → (given : s90 .gives (m69 (before .before) (before .run-arg5 .given))) → Typed.Mo T94
+      m71 = λ before given. s91 .next (m70 before given)
 
       module _ (before· : After-run-arg5) where
         pub record After-run-arg6·own : Type 0 where
-          pub given : s25 .gives (m19 (before· .before) (before· .run-arg5 .given))
+          pub given : s90 .gives (m69 (before· .before) (before· .run-arg5 .given))
 
       pub record After-run-arg6 : Type 0 where
         pub before : After-run-arg5
         pub run-arg6 : After-run-arg6·own before
 
-      abbrev pub m22 : (before : After-run-arg6) → (given : s28 .gives (m21 (before .before) (before .run-arg6 .given))) → Typed.Mo T30
-      m22 = λ before given. s28 .next (m21 (before .before) (before .run-arg6 .given)) given
+      abbrev pub m72 : (before : After-run-arg6) → (given : s93 .gives (m71 (before .before) (before .run-arg6 .given))) → Typed.Mo T96
+      m72 = λ before given. s93 .next (m71 (before .before) (before .run-arg6 .given)) given
 
-      abbrev pub m23 : (before : After-run-arg6) → (given : s28 .gives (m21 (before .before) (before .run-arg6 .given))) → Typed.Mo T31
-      m23 = λ before given. s29 .next (m22 before given)
+      abbrev pub m73 : (before : After-run-arg6) → (given : s93 .gives (m71 (before .before) (before .run-arg6 .given))) → Typed.Mo T97
+      m73 = λ before given. s94 .next (m72 before given)
 
       module _ (before· : After-run-arg6) where
         pub record After-run-arg7·own : Type 0 where
-          pub given : s28 .gives (m21 (before· .before) (before· .run-arg6 .given))
+          pub given : s93 .gives (m71 (before· .before) (before· .run-arg6 .given))
 
       pub record After-run-arg7 : Type 0 where
         pub before : After-run-arg6
         pub run-arg7 : After-run-arg7·own before
 
-      abbrev pub m24 : (before : After-run-arg7) → (given : s31 .gives (m23 (before .before) (before .run-arg7 .given))) → Typed.Mo T33
-      m24 = λ before given. s31 .next (m23 (before .before) (before .run-arg7 .given)) given
+      abbrev pub m74 : (before : After-run-arg7) → (given : s96 .gives (m73 (before .before) (before .run-arg7 .given))) → Typed.Mo T99
+      m74 = λ before given. s96 .next (m73 (before .before) (before .run-arg7 .given)) given
+
+      abbrev pub m75 : (before : After-run-arg7) → (given : s96 .gives (m73 (before .before) (before .run-arg7 .given))) → Typed.Mo T100
+      m75 = λ before given. s97 .next (m74 before given)
 
       module _ (before· : After-run-arg7) where
         pub record After-run-arg8·own : Type 0 where
-          pub given : s31 .gives (m23 (before· .before) (before· .run-arg7 .given))
+          pub given : s96 .gives (m73 (before· .before) (before· .run-arg7 .given))
 
       pub record After-run-arg8 : Type 0 where
         pub before : After-run-arg7
         pub run-arg8 : After-run-arg8·own before
 
-      abbrev pub m25 : (before : After-run-arg7) → (given : s31 .gives (m23 (before .before) (before .run-arg7 .given))) → Typed.Mo T34
-      m25 = λ before given. s32 .next (m24 before given)
+      abbrev pub m76 : (before : After-run-arg8) → (given : s99 .gives (m75 (before .before) (before .run-arg8 .given))) → Typed.Mo T102
+      m76 = λ before given. s99 .next (m75 (before .before) (before .run-arg8 .given)) given
 
-      abbrev pub m26 : (before : After-run-arg8) → (given : s34 .gives (m25 (before .before) (before .run-arg8 .given))) → Typed.Mo T36
-      m26 = λ before given. s34 .next (m25 (before .before) (before .run-arg8 .given)) given
-
-      abbrev pub m27 : (before : After-run-arg8) → (given : s34 .gives (m25 (before .before) (before .run-arg8 .given))) → Typed.Mo T37
-      m27 = λ before given. s35 .next (m26 before given)
-
-      abbrev pub m28 : (before : After-run-arg8) → (given : s34 .gives (m25 (before .before) (before .run-arg8 .given))) → Typed.Mo T38
-      m28 = λ before given. s36 (m27 before given)
-
-      abbrev pub m29 : (before : After-run-arg8) → (given : s34 .gives (m25 (before .before) (before .run-arg8 .given))) → Typed.Mo T39
-      m29 = λ before given. s37 (m28 before given)
+      abbrev pub m77 : (before : After-run-arg8) → (given : s99 .gives (m75 (before .before) (before .run-arg8 .given))) → Typed.Mo T103
+      m77 = λ before given. s100 .next (m76 before given)
 
       module _ (before· : After-run-arg8) where
         pub record After-run-arg9·own : Type 0 where
-          pub given : s34 .gives (m25 (before· .before) (before· .run-arg8 .given))
+          pub given : s99 .gives (m75 (before· .before) (before· .run-arg8 .given))
 
       pub record After-run-arg9 : Type 0 where
         pub before : After-run-arg8
         pub run-arg9 : After-run-arg9·own before
 
       abbrev pub Need-run-requires : Type 0
-      Need-run-requires = (c : After-run-arg9) → s38 .asks (m29 (c .before) (c .run-arg9 .given))
+      Need-run-requires = (c : After-run-arg9) → s101 .asks (m77 (c .before) (c .run-arg9 .given))
 
-      abbrev pub m30 : (before : After-run-arg9) → (given : s38 .gives (m29 (before .before) (before .run-arg9 .given))) → Typed.Mo T40
-      m30 = λ before given. s38 .next (m29 (before .before) (before .run-arg9 .given)) given
+      abbrev pub m78 : (before : After-run-arg9) → (given : s101 .gives (m77 (before .before) (before .run-arg9 .given))) → Typed.Mo T104
+      m78 = λ before given. s101 .next (m77 (before .before) (before .run-arg9 .given)) given
 
       module _ (before· : After-run-arg9) where
         abbrev pub After-run·own : Type 0
-        After-run·own = Called.Called ps·0 r·0 (claims· .1) T39 (record { pos = 16; st = List.[]; d = 0; at = λ x. x }, (record { pos = 20; ty = Syntax.tyRef Syntax.erased Syntax.mut ty·0; ref = λ x. x }, (record { pos = 22; ty = Syntax.tyRef Syntax.erased Syntax.mut ty·0; ref = λ x. x }, (record { pos = 24; ty = Syntax.tyRef Syntax.erased Syntax.mut ty·0; ref = λ x. x }, (record { pos = 26; ty = Syntax.tyRef Syntax.erased Syntax.mut ty·0; ref = λ x. x }, (record { pos = 28; ty = Syntax.tyRef Syntax.erased Syntax.mut (ELEMMEM.pointee (ELEM.the-row .written)); ref = λ x. x }, (record { pos = 30; ty = Syntax.tyRef Syntax.erased Syntax.mut ty·0; ref = λ x. x }, (record { pos = 32; ty = Syntax.tyRef Syntax.erased Syntax.mut ty·0; ref = λ x. x }, (record { pos = 34; ty = Syntax.tyRef Syntax.erased Syntax.mut ty·0; ref = λ x. x }, (record { pos = 36; ty = Syntax.tyRef Syntax.erased Syntax.mut ty·1; ref = λ x. x }, (record { pos = 17; st = List.[]; d = 0; at = λ x. x }, (record { pos = 15; ty = Syntax.tyRef (Syntax.named 9) Syntax.imm ty·0; ref = λ x. x }, tt)))))))))))) (m29 (before· .before) (before· .run-arg9 .given))
+        After-run·own = Called.Called ps·3 r·3 (claims· .7) T103 (record { pos = 18; st = List.[]; d = 0; at = λ x. x }, (record { pos = 39; ty = Syntax.tyRef Syntax.erased Syntax.mut ty·0; ref = λ x. x }, (record { pos = 41; ty = Syntax.tyRef Syntax.erased Syntax.mut ty·0; ref = λ x. x }, (record { pos = 43; ty = Syntax.tyRef Syntax.erased Syntax.mut ty·0; ref = λ x. x }, (record { pos = 45; ty = Syntax.tyRef Syntax.erased Syntax.mut ty·0; ref = λ x. x }, (record { pos = 47; ty = Syntax.tyRef Syntax.erased Syntax.mut (ELEMMEM.pointee (ELEM.the-row .written)); ref = λ x. x }, (record { pos = 49; ty = Syntax.tyRef Syntax.erased Syntax.mut ty·0; ref = λ x. x }, (record { pos = 51; ty = Syntax.tyRef Syntax.erased Syntax.mut ty·0; ref = λ x. x }, (record { pos = 53; ty = Syntax.tyRef Syntax.erased Syntax.mut ty·0; ref = λ x. x }, (record { pos = 55; ty = Syntax.tyRef Syntax.erased Syntax.mut ty·1; ref = λ x. x }, (record { pos = 19; st = List.[]; d = 0; at = λ x. x }, (record { pos = 16; ty = Syntax.tyRef (Syntax.named 10) Syntax.imm ty·0; ref = λ x. x }, tt)))))))))))) (m77 (before· .before) (before· .run-arg9 .given))
 
       pub record After-run : Type 0 where
         pub before : After-run-arg9
         pub run : After-run·own before
 
-      abbrev pub After-run·gave : (c : After-run) → s38 .gives (m29 (c .before .before) (c .before .run-arg9 .given))
-      After-run·gave = λ c. Called.given ps·0 r·0 (claims· .1) T39 (record { pos = 16; st = List.[]; d = 0; at = λ x. x }, (record { pos = 20; ty = Syntax.tyRef Syntax.erased Syntax.mut ty·0; ref = λ x. x }, (record { pos = 22; ty = Syntax.tyRef Syntax.erased Syntax.mut ty·0; ref = λ x. x }, (record { pos = 24; ty = Syntax.tyRef Syntax.erased Syntax.mut ty·0; ref = λ x. x }, (record { pos = 26; ty = Syntax.tyRef Syntax.erased Syntax.mut ty·0; ref = λ x. x }, (record { pos = 28; ty = Syntax.tyRef Syntax.erased Syntax.mut (ELEMMEM.pointee (ELEM.the-row .written)); ref = λ x. x }, (record { pos = 30; ty = Syntax.tyRef Syntax.erased Syntax.mut ty·0; ref = λ x. x }, (record { pos = 32; ty = Syntax.tyRef Syntax.erased Syntax.mut ty·0; ref = λ x. x }, (record { pos = 34; ty = Syntax.tyRef Syntax.erased Syntax.mut ty·0; ref = λ x. x }, (record { pos = 36; ty = Syntax.tyRef Syntax.erased Syntax.mut ty·1; ref = λ x. x }, (record { pos = 17; st = List.[]; d = 0; at = λ x. x }, (record { pos = 15; ty = Syntax.tyRef (Syntax.named 9) Syntax.imm ty·0; ref = λ x. x }, tt)))))))))))) (m29 (c .before .before) (c .before .run-arg9 .given)) (c .run)
+      abbrev pub After-run·gave : (c : After-run) → s101 .gives (m77 (c .before .before) (c .before .run-arg9 .given))
+      After-run·gave = λ c. Called.given ps·3 r·3 (claims· .7) T103 (record { pos = 18; st = List.[]; d = 0; at = λ x. x }, (record { pos = 39; ty = Syntax.tyRef Syntax.erased Syntax.mut ty·0; ref = λ x. x }, (record { pos = 41; ty = Syntax.tyRef Syntax.erased Syntax.mut ty·0; ref = λ x. x }, (record { pos = 43; ty = Syntax.tyRef Syntax.erased Syntax.mut ty·0; ref = λ x. x }, (record { pos = 45; ty = Syntax.tyRef Syntax.erased Syntax.mut ty·0; ref = λ x. x }, (record { pos = 47; ty = Syntax.tyRef Syntax.erased Syntax.mut (ELEMMEM.pointee (ELEM.the-row .written)); ref = λ x. x }, (record { pos = 49; ty = Syntax.tyRef Syntax.erased Syntax.mut ty·0; ref = λ x. x }, (record { pos = 51; ty = Syntax.tyRef Syntax.erased Syntax.mut ty·0; ref = λ x. x }, (record { pos = 53; ty = Syntax.tyRef Syntax.erased Syntax.mut ty·0; ref = λ x. x }, (record { pos = 55; ty = Syntax.tyRef Syntax.erased Syntax.mut ty·1; ref = λ x. x }, (record { pos = 19; st = List.[]; d = 0; at = λ x. x }, (record { pos = 16; ty = Syntax.tyRef (Syntax.named 10) Syntax.imm ty·0; ref = λ x. x }, tt)))))))))))) (m77 (c .before .before) (c .before .run-arg9 .given)) (c .run)
 
-      abbrev pub m31 : (before : After-run-arg9) → (given : s38 .gives (m29 (before .before) (before .run-arg9 .given))) → Typed.Mo T41
-      m31 = λ before given. s39 (m30 before given)
+      abbrev pub m79 : (before : After-run-arg9) → (given : s101 .gives (m77 (before .before) (before .run-arg9 .given))) → Typed.Mo T105
+      m79 = λ before given. s102 (m78 before given)
 
-      abbrev pub m32 : (before : After-run-arg9) → (given : s38 .gives (m29 (before .before) (before .run-arg9 .given))) → Typed.Mo T42
-      m32 = λ before given. s40 (m31 before given)
+      abbrev pub m80 : (before : After-run-arg9) → (given : s101 .gives (m77 (before .before) (before .run-arg9 .given))) → Typed.Mo T106
+      m80 = λ before given. s103 (m79 before given)
 
-      abbrev pub m33 : (before : After-run) → (given : s42 .gives (m32 (before .before) (After-run·gave before))) → Typed.Mo T44
-      m33 = λ before given. s42 .next (m32 (before .before) (After-run·gave before)) given
+      abbrev pub m81 : (before : After-run) → (given : s105 .gives (m80 (before .before) (After-run·gave before))) → Typed.Mo T108
+      m81 = λ before given. s105 .next (m80 (before .before) (After-run·gave before)) given
 
       module _ (before· : After-run) where
         pub record After-positions·own : Type 0 where
-          pub given : s42 .gives (m32 (before· .before) (After-run·gave before·))
+          pub given : s105 .gives (m80 (before· .before) (After-run·gave before·))
 
       pub record After-positions : Type 0 where
         pub before : After-run
         pub positions : After-positions·own before
 
-      abbrev pub m34 : (before : After-positions) → (given : s45 .gives (m33 (before .before) (before .positions .given))) → Typed.Mo T47
-      m34 = λ before given. s45 .next (m33 (before .before) (before .positions .given)) given
+      abbrev pub m82 : (before : After-positions) → (given : s108 .gives (m81 (before .before) (before .positions .given))) → Typed.Mo T111
+      m82 = λ before given. s108 .next (m81 (before .before) (before .positions .given)) given
 
       module _ (before· : After-positions) where
         pub record After-outs·own : Type 0 where
-          pub given : s45 .gives (m33 (before· .before) (before· .positions .given))
+          pub given : s108 .gives (m81 (before· .before) (before· .positions .given))
 
       pub record After-outs : Type 0 where
         pub before : After-positions
         pub outs : After-outs·own before
 
-      abbrev pub m35 : (before : After-outs) → (given : s46 .gives (m34 (before .before) (before .outs .given))) → Typed.Mo T48
-      m35 = λ before given. s46 .next (m34 (before .before) (before .outs .given)) given
+      abbrev pub m83 : (before : After-outs) → (given : s109 .gives (m82 (before .before) (before .outs .given))) → Typed.Mo T112
+      m83 = λ before given. s109 .next (m82 (before .before) (before .outs .given)) given
 
       module _ (before· : After-outs) where
         pub record After-slice-known8·own : Type 0 where
-          pub given : s46 .gives (m34 (before· .before) (before· .outs .given))
+          pub given : s109 .gives (m82 (before· .before) (before· .outs .given))
 
       pub record After-slice-known8 : Type 0 where
         pub before : After-outs
         pub slice-known8 : After-slice-known8·own before
 
-      abbrev pub m36 : (before : After-slice-known8) → (given : s49 .gives (m35 (before .before) (before .slice-known8 .given))) → Typed.Mo T51
-      m36 = λ before given. s49 .next (m35 (before .before) (before .slice-known8 .given)) given
+      abbrev pub m84 : (before : After-slice-known8) → (given : s112 .gives (m83 (before .before) (before .slice-known8 .given))) → Typed.Mo T115
+      m84 = λ before given. s112 .next (m83 (before .before) (before .slice-known8 .given)) given
 
       module _ (before· : After-slice-known8) where
         pub record After-halves·own : Type 0 where
-          pub given : s49 .gives (m35 (before· .before) (before· .slice-known8 .given))
+          pub given : s112 .gives (m83 (before· .before) (before· .slice-known8 .given))
 
       pub record After-halves : Type 0 where
         pub before : After-slice-known8
         pub halves : After-halves·own before
 
-      abbrev pub m37 : (before : After-halves) → (given : s50 .gives (m36 (before .before) (before .halves .given))) → Typed.Mo T52
-      m37 = λ before given. s50 .next (m36 (before .before) (before .halves .given)) given
+      abbrev pub m85 : (before : After-halves) → (given : s113 .gives (m84 (before .before) (before .halves .given))) → Typed.Mo T116
+      m85 = λ before given. s113 .next (m84 (before .before) (before .halves .given)) given
 
       module _ (before· : After-halves) where
         pub record After-slice-known9·own : Type 0 where
-          pub given : s50 .gives (m36 (before· .before) (before· .halves .given))
+          pub given : s113 .gives (m84 (before· .before) (before· .halves .given))
 
       pub record After-slice-known9 : Type 0 where
         pub before : After-halves
         pub slice-known9 : After-slice-known9·own before
 
-      abbrev pub m38 : (before : After-slice-known9) → (given : s53 .gives (m37 (before .before) (before .slice-known9 .given))) → Typed.Mo T55
-      m38 = λ before given. s53 .next (m37 (before .before) (before .slice-known9 .given)) given
+      abbrev pub m86 : (before : After-slice-known9) → (given : s116 .gives (m85 (before .before) (before .slice-known9 .given))) → Typed.Mo T119
+      m86 = λ before given. s116 .next (m85 (before .before) (before .slice-known9 .given)) given
 
       module _ (before· : After-slice-known9) where
         pub record After-adjacent·own : Type 0 where
-          pub given : s53 .gives (m37 (before· .before) (before· .slice-known9 .given))
+          pub given : s116 .gives (m85 (before· .before) (before· .slice-known9 .given))
 
       pub record After-adjacent : Type 0 where
         pub before : After-slice-known9
         pub adjacent : After-adjacent·own before
 
-      abbrev pub m39 : (before : After-adjacent) → (given : s54 .gives (m38 (before .before) (before .adjacent .given))) → Typed.Mo T56
-      m39 = λ before given. s54 .next (m38 (before .before) (before .adjacent .given)) given
+      abbrev pub m87 : (before : After-adjacent) → (given : s117 .gives (m86 (before .before) (before .adjacent .given))) → Typed.Mo T120
+      m87 = λ before given. s117 .next (m86 (before .before) (before .adjacent .given)) given
 
       module _ (before· : After-adjacent) where
         pub record After-slice-known10·own : Type 0 where
-          pub given : s54 .gives (m38 (before· .before) (before· .adjacent .given))
+          pub given : s117 .gives (m86 (before· .before) (before· .adjacent .given))
 
       pub record After-slice-known10 : Type 0 where
         pub before : After-adjacent
         pub slice-known10 : After-slice-known10·own before
 
-      abbrev pub m40 : (before : After-slice-known10) → (given : s57 .gives (m39 (before .before) (before .slice-known10 .given))) → Typed.Mo T59
-      m40 = λ before given. s57 .next (m39 (before .before) (before .slice-known10 .given)) given
+      abbrev pub m88 : (before : After-slice-known10) → (given : s120 .gives (m87 (before .before) (before .slice-known10 .given))) → Typed.Mo T123
+      m88 = λ before given. s120 .next (m87 (before .before) (before .slice-known10 .given)) given
 
       module _ (before· : After-slice-known10) where
         pub record After-nodes·own : Type 0 where
-          pub given : s57 .gives (m39 (before· .before) (before· .slice-known10 .given))
+          pub given : s120 .gives (m87 (before· .before) (before· .slice-known10 .given))
 
       pub record After-nodes : Type 0 where
         pub before : After-slice-known10
         pub nodes : After-nodes·own before
 
-      abbrev pub m41 : (before : After-nodes) → (given : s60 .gives (m40 (before .before) (before .nodes .given))) → Typed.Mo T62
-      m41 = λ before given. s60 .next (m40 (before .before) (before .nodes .given)) given
+      abbrev pub m89 : (before : After-nodes) → (given : s123 .gives (m88 (before .before) (before .nodes .given))) → Typed.Mo T126
+      m89 = λ before given. s123 .next (m88 (before .before) (before .nodes .given)) given
 
       module _ (before· : After-nodes) where
         pub record After-freed·own : Type 0 where
-          pub given : s60 .gives (m40 (before· .before) (before· .nodes .given))
+          pub given : s123 .gives (m88 (before· .before) (before· .nodes .given))
 
       pub record After-freed : Type 0 where
         pub before : After-nodes
         pub freed : After-freed·own before
 
-      abbrev pub m42 : (before : After-freed) → (given : s61 .gives (m41 (before .before) (before .freed .given))) → Typed.Mo T63
-      m42 = λ before given. s61 .next (m41 (before .before) (before .freed .given)) given
+      abbrev pub m90 : (before : After-freed) → (given : s124 .gives (m89 (before .before) (before .freed .given))) → Typed.Mo T127
+      m90 = λ before given. s124 .next (m89 (before .before) (before .freed .given)) given
 
       module _ (before· : After-freed) where
         pub record After-slice-known11·own : Type 0 where
-          pub given : s61 .gives (m41 (before· .before) (before· .freed .given))
+          pub given : s124 .gives (m89 (before· .before) (before· .freed .given))
 
       pub record After-slice-known11 : Type 0 where
         pub before : After-freed
         pub slice-known11 : After-slice-known11·own before
 
-      abbrev pub m43 : (before : After-slice-known11) → (given : s64 .gives (m42 (before .before) (before .slice-known11 .given))) → Typed.Mo T66
-      m43 = λ before given. s64 .next (m42 (before .before) (before .slice-known11 .given)) given
+      abbrev pub m91 : (before : After-slice-known11) → (given : s127 .gives (m90 (before .before) (before .slice-known11 .given))) → Typed.Mo T130
+      m91 = λ before given. s127 .next (m90 (before .before) (before .slice-known11 .given)) given
 
       module _ (before· : After-slice-known11) where
         pub record After-buckets·own : Type 0 where
-          pub given : s64 .gives (m42 (before· .before) (before· .slice-known11 .given))
+          pub given : s127 .gives (m90 (before· .before) (before· .slice-known11 .given))
 
       pub record After-buckets : Type 0 where
         pub before : After-slice-known11
         pub buckets : After-buckets·own before
 
-      abbrev pub m44 : (before : After-buckets) → (given : s65 .gives (m43 (before .before) (before .buckets .given))) → Typed.Mo T67
-      m44 = λ before given. s65 .next (m43 (before .before) (before .buckets .given)) given
+      abbrev pub m92 : (before : After-buckets) → (given : s128 .gives (m91 (before .before) (before .buckets .given))) → Typed.Mo T131
+      m92 = λ before given. s128 .next (m91 (before .before) (before .buckets .given)) given
 
       module _ (before· : After-buckets) where
         pub record After-slice-known12·own : Type 0 where
-          pub given : s65 .gives (m43 (before· .before) (before· .buckets .given))
+          pub given : s128 .gives (m91 (before· .before) (before· .buckets .given))
 
       pub record After-slice-known12 : Type 0 where
         pub before : After-buckets
         pub slice-known12 : After-slice-known12·own before
 
-      abbrev pub m45 : (before : After-slice-known12) → (given : s68 .gives (m44 (before .before) (before .slice-known12 .given))) → Typed.Mo T70
-      m45 = λ before given. s68 .next (m44 (before .before) (before .slice-known12 .given)) given
+      abbrev pub m93 : (before : After-slice-known12) → (given : s131 .gives (m92 (before .before) (before .slice-known12 .given))) → Typed.Mo T134
+      m93 = λ before given. s131 .next (m92 (before .before) (before .slice-known12 .given)) given
 
       module _ (before· : After-slice-known12) where
         pub record After-pending·own : Type 0 where
-          pub given : s68 .gives (m44 (before· .before) (before· .slice-known12 .given))
+          pub given : s131 .gives (m92 (before· .before) (before· .slice-known12 .given))
 
       pub record After-pending : Type 0 where
         pub before : After-slice-known12
         pub pending : After-pending·own before
 
-      abbrev pub m46 : (before : After-pending) → (given : s69 .gives (m45 (before .before) (before .pending .given))) → Typed.Mo T71
-      m46 = λ before given. s69 .next (m45 (before .before) (before .pending .given)) given
+      abbrev pub m94 : (before : After-pending) → (given : s132 .gives (m93 (before .before) (before .pending .given))) → Typed.Mo T135
+      m94 = λ before given. s132 .next (m93 (before .before) (before .pending .given)) given
 
       module _ (before· : After-pending) where
         pub record After-slice-known13·own : Type 0 where
-          pub given : s69 .gives (m45 (before· .before) (before· .pending .given))
+          pub given : s132 .gives (m93 (before· .before) (before· .pending .given))
 
       pub record After-slice-known13 : Type 0 where
         pub before : After-pending
         pub slice-known13 : After-slice-known13·own before
 
-      abbrev pub m47 : (before : After-slice-known13) → (given : s72 .gives (m46 (before .before) (before .slice-known13 .given))) → Typed.Mo T74
-      m47 = λ before given. s72 .next (m46 (before .before) (before .slice-known13 .given)) given
+      abbrev pub m95 : (before : After-slice-known13) → (given : s135 .gives (m94 (before .before) (before .slice-known13 .given))) → Typed.Mo T138
+      m95 = λ before given. s135 .next (m94 (before .before) (before .slice-known13 .given)) given
 
       module _ (before· : After-slice-known13) where
         pub record After-answers·own : Type 0 where
-          pub given : s72 .gives (m46 (before· .before) (before· .slice-known13 .given))
+          pub given : s135 .gives (m94 (before· .before) (before· .slice-known13 .given))
 
       pub record After-answers : Type 0 where
         pub before : After-slice-known13
         pub answers : After-answers·own before
 
-      abbrev pub m48 : (before : After-answers) → (given : s73 .gives (m47 (before .before) (before .answers .given))) → Typed.Mo T75
-      m48 = λ before given. s73 .next (m47 (before .before) (before .answers .given)) given
+      abbrev pub m96 : (before : After-answers) → (given : s136 .gives (m95 (before .before) (before .answers .given))) → Typed.Mo T139
+      m96 = λ before given. s136 .next (m95 (before .before) (before .answers .given)) given
 
       module _ (before· : After-answers) where
         pub record After-slice-known14·own : Type 0 where
-          pub given : s73 .gives (m47 (before· .before) (before· .answers .given))
+          pub given : s136 .gives (m95 (before· .before) (before· .answers .given))
 
       pub record After-slice-known14 : Type 0 where
         pub before : After-answers
         pub slice-known14 : After-slice-known14·own before
 
-      abbrev pub Need-finish-result-requires : Type 0
-      Need-finish-result-requires = (c : After-slice-known14) → s75 .asks (m48 (c .before) (c .slice-known14 .given))
+      abbrev pub m97 : (before : After-slice-known14) → (given : s139 .gives (m96 (before .before) (before .slice-known14 .given))) → Typed.Mo T142
+      m97 = λ before given. s139 .next (m96 (before .before) (before .slice-known14 .given)) given
 
-      abbrev pub m49 : (before : After-slice-known14) → (given : s75 .gives (m48 (before .before) (before .slice-known14 .given))) → Typed.Mo T77
-      m49 = λ before given. s75 .next (m48 (before .before) (before .slice-known14 .given)) given
+      abbrev pub m98 : (before : After-slice-known14) → (given : s139 .gives (m96 (before .before) (before .slice-known14 .given))) → Typed.Mo T143
+      m98 = λ before given. s140 .next (m97 before given)
 
       module _ (before· : After-slice-known14) where
+        pub record After-store-run-arg·own : Type 0 where
+          pub given : s139 .gives (m96 (before· .before) (before· .slice-known14 .given))
+
+      pub record After-store-run-arg : Type 0 where
+        pub before : After-slice-known14
+        pub store-run-arg : After-store-run-arg·own before
+
+      abbrev pub m99 : (before : After-store-run-arg) → (given : s142 .gives (m98 (before .before) (before .store-run-arg .given))) → Typed.Mo T145
+      m99 = λ before given. s142 .next (m98 (before .before) (before .store-run-arg .given)) given
+
+      abbrev pub m100 : (before : After-store-run-arg) → (given : s142 .gives (m98 (before .before) (before .store-run-arg .given))) → Typed.Mo T146
+      m100 = λ before given. s143 .next (m99 before given)
+
+      module _ (before· : After-store-run-arg) where
+        pub record After-store-run-arg2·own : Type 0 where
+          pub given : s142 .gives (m98 (before· .before) (before· .store-run-arg .given))
+
+      pub record After-store-run-arg2 : Type 0 where
+        pub before : After-store-run-arg
+        pub store-run-arg2 : After-store-run-arg2·own before
+
+      abbrev pub Need-store-run-requires : Type 0
+      Need-store-run-requires = (c : After-store-run-arg2) → s144 .asks (m100 (c .before) (c .store-run-arg2 .given))
+
+      abbrev pub m101 : (before : After-store-run-arg2) → (given : s144 .gives (m100 (before .before) (before .store-run-arg2 .given))) → Typed.Mo T147
+      m101 = λ before given. s144 .next (m100 (before .before) (before .store-run-arg2 .given)) given
+
+      module _ (before· : After-store-run-arg2) where
+        abbrev pub After-store-run·own : Type 0
+        After-store-run·own = Called.Called ps·4 r·4 (claims· .9) T146 (record { pos = 58; ty = Syntax.tyRef Syntax.erased Syntax.mut ty·0; ref = λ x. x }, (record { pos = 60; ty = Syntax.tyRef Syntax.erased Syntax.imm ty·1; ref = λ x. x }, (record { pos = 17; ty = Syntax.tyRef (Syntax.named 11) Syntax.imm ty·0; ref = λ x. x }, (record { pos = 16; ty = Syntax.tyRef (Syntax.named 10) Syntax.imm ty·0; ref = λ x. x }, (Num.vAt 1 λ x. x, (record { pos = 23; st = List.[]; d = 0; at = λ x. x }, tt)))))) (m100 (before· .before) (before· .store-run-arg2 .given))
+
+      pub record After-store-run : Type 0 where
+        pub before : After-store-run-arg2
+        pub store-run : After-store-run·own before
+
+      abbrev pub After-store-run·gave : (c : After-store-run) → s144 .gives (m100 (c .before .before) (c .before .store-run-arg2 .given))
+      After-store-run·gave = λ c. Called.given ps·4 r·4 (claims· .9) T146 (record { pos = 58; ty = Syntax.tyRef Syntax.erased Syntax.mut ty·0; ref = λ x. x }, (record { pos = 60; ty = Syntax.tyRef Syntax.erased Syntax.imm ty·1; ref = λ x. x }, (record { pos = 17; ty = Syntax.tyRef (Syntax.named 11) Syntax.imm ty·0; ref = λ x. x }, (record { pos = 16; ty = Syntax.tyRef (Syntax.named 10) Syntax.imm ty·0; ref = λ x. x }, (Num.vAt 1 λ x. x, (record { pos = 23; st = List.[]; d = 0; at = λ x. x }, tt)))))) (m100 (c .before .before) (c .before .store-run-arg2 .given)) (c .store-run)
+
+      abbrev pub m102 : (before : After-store-run-arg2) → (given : s144 .gives (m100 (before .before) (before .store-run-arg2 .given))) → Typed.Mo T148
+      m102 = λ before given. s145 (m101 before given)
+
+      abbrev pub m103 : (before : After-store-run-arg2) → (given : s144 .gives (m100 (before .before) (before .store-run-arg2 .given))) → Typed.Mo T149
+      m103 = λ before given. s146 (m102 before given)
+
+      abbrev pub m104 : (before : After-store-run) → (given : s148 .gives (m103 (before .before) (After-store-run·gave before))) → Typed.Mo T151
+      m104 = λ before given. s148 .next (m103 (before .before) (After-store-run·gave before)) given
+
+      abbrev pub m105 : (before : After-store-run) → (given : s148 .gives (m103 (before .before) (After-store-run·gave before))) → Typed.Mo T154
+      m105 = λ before given. s151 (m104 before given)
+
+      module _ (before· : After-store-run) where
+        pub record After-heights·own : Type 0 where
+          pub given : s148 .gives (m103 (before· .before) (After-store-run·gave before·))
+
+      pub record After-heights : Type 0 where
+        pub before : After-store-run
+        pub heights : After-heights·own before
+
+      abbrev pub Need-finish-result-requires : Type 0
+      Need-finish-result-requires = (c : After-heights) → s153 .asks (m105 (c .before) (c .heights .given))
+
+      abbrev pub m106 : (before : After-heights) → (given : s153 .gives (m105 (before .before) (before .heights .given))) → Typed.Mo T156
+      m106 = λ before given. s153 .next (m105 (before .before) (before .heights .given)) given
+
+      module _ (before· : After-heights) where
         abbrev pub After-finish-result·own : Type 0
-        After-finish-result·own = Called.Called ps·1 r·1 (claims· .3) T75 (record { pos = 18; st = List.[]; d = 0; at = λ x. x }, tt) (m48 (before· .before) (before· .slice-known14 .given))
+        After-finish-result·own = Called.Called ps·5 r·5 (claims· .11) T154 (record { pos = 23; st = List.[]; d = 0; at = λ x. x }, tt) (m105 (before· .before) (before· .heights .given))
 
       pub record After-finish-result : Type 0 where
-        pub before : After-slice-known14
+        pub before : After-heights
         pub finish-result : After-finish-result·own before
 
-      abbrev pub After-finish-result·gave : (c : After-finish-result) → s75 .gives (m48 (c .before .before) (c .before .slice-known14 .given))
-      After-finish-result·gave = λ c. Called.given ps·1 r·1 (claims· .3) T75 (record { pos = 18; st = List.[]; d = 0; at = λ x. x }, tt) (m48 (c .before .before) (c .before .slice-known14 .given)) (c .finish-result)
+      abbrev pub After-finish-result·gave : (c : After-finish-result) → s153 .gives (m105 (c .before .before) (c .before .heights .given))
+      After-finish-result·gave = λ c. Called.given ps·5 r·5 (claims· .11) T154 (record { pos = 23; st = List.[]; d = 0; at = λ x. x }, tt) (m105 (c .before .before) (c .before .heights .given)) (c .finish-result)
 
-      abbrev pub m50 : (before : After-slice-known14) → (given : s75 .gives (m48 (before .before) (before .slice-known14 .given))) → Typed.Mo T78
-      m50 = λ before given. s76 (m49 before given)
+      abbrev pub m107 : (before : After-heights) → (given : s153 .gives (m105 (before .before) (before .heights .given))) → Typed.Mo T157
+      m107 = λ before given. s154 (m106 before given)
 
-      abbrev pub m51 : (before : After-slice-known14) → (given : s75 .gives (m48 (before .before) (before .slice-known14 .given))) → Typed.Mo T79
-      m51 = λ before given. s77 (m50 before given)
+      abbrev pub m108 : (before : After-heights) → (given : s153 .gives (m105 (before .before) (before .heights .given))) → Typed.Mo T158
+      m108 = λ before given. s155 (m107 before given)
 
-      abbrev pub m52 : (before : After-slice-known14) → (given : s75 .gives (m48 (before .before) (before .slice-known14 .given))) → Typed.Mo T80
-      m52 = λ before given. s78 (m51 before given)
+      abbrev pub m109 : (before : After-heights) → (given : s153 .gives (m105 (before .before) (before .heights .given))) → Typed.Mo T159
+      m109 = λ before given. s156 (m108 before given)
 
-      abbrev pub m53 : (before : After-slice-known14) → (given : s75 .gives (m48 (before .before) (before .slice-known14 .given))) → Typed.Mo T81
-      m53 = λ before given. s79 (m52 before given)
+      abbrev pub m110 : (before : After-heights) → (given : s153 .gives (m105 (before .before) (before .heights .given))) → Typed.Mo T160
+      m110 = λ before given. s157 (m109 before given)
 
-      abbrev pub m54 : (before : After-slice-known14) → (given : s75 .gives (m48 (before .before) (before .slice-known14 .given))) → Typed.Mo T82
-      m54 = λ before given. s80 (m53 before given)
+      abbrev pub m111 : (before : After-heights) → (given : s153 .gives (m105 (before .before) (before .heights .given))) → Typed.Mo T161
+      m111 = λ before given. s158 (m110 before given)
 
-      abbrev pub m55 : (before : After-slice-known14) → (given : s75 .gives (m48 (before .before) (before .slice-known14 .given))) → Typed.Mo T83
-      m55 = λ before given. s81 (m54 before given)
+      abbrev pub m112 : (before : After-heights) → (given : s153 .gives (m105 (before .before) (before .heights .given))) → Typed.Mo T162
+      m112 = λ before given. s159 (m111 before given)
 
-      abbrev pub Need-same-length : Type 0
-      Need-same-length = (c : After-finish-result) → MutSlice.SameLen (Row.get 4 (T83 .locals) (m55 (c .before) (After-finish-result·gave c))) (dens (c .before .before .before .before .before .before .before .before .before .before .before .before .before .before .before .before .before .before .before .before .before .before .before .before .before .before .before .before .before .before .before .before .before .before .κs) (c .before .before .before .before .before .before .before .before .before .before .before .before .before .before .before .before .before .before .before .before .before .before .before .before .before .before .before .before .before .before .before .before .before .before .args) .1 .1 .1 .0)
-
-      abbrev pub Need-same-length-2 : Type 0
-      Need-same-length-2 = (c : After-finish-result) → MutSlice.SameLen (Row.get 5 (T83 .locals) (m55 (c .before) (After-finish-result·gave c))) (dens (c .before .before .before .before .before .before .before .before .before .before .before .before .before .before .before .before .before .before .before .before .before .before .before .before .before .before .before .before .before .before .before .before .before .before .κs) (c .before .before .before .before .before .before .before .before .before .before .before .before .before .before .before .before .before .before .before .before .before .before .before .before .before .before .before .before .before .before .before .before .before .before .args) .1 .1 .1 .1 .0)
-
-      abbrev pub Need-same-length-3 : Type 0
-      Need-same-length-3 = (c : After-finish-result) → MutSlice.SameLen (Row.get 6 (T83 .locals) (m55 (c .before) (After-finish-result·gave c))) (dens (c .before .before .before .before .before .before .before .before .before .before .before .before .before .before .before .before .before .before .before .before .before .before .before .before .before .before .before .before .before .before .before .before .before .before .κs) (c .before .before .before .before .before .before .before .before .before .before .before .before .before .before .before .before .before .before .before .before .before .before .before .before .before .before .before .before .before .before .before .before .before .before .args) .1 .1 .1 .1 .1 .0)
-
-      abbrev pub Need-same-length-4 : Type 0
-      Need-same-length-4 = (c : After-finish-result) → MutSlice.SameLen (Row.get 7 (T83 .locals) (m55 (c .before) (After-finish-result·gave c))) (dens (c .before .before .before .before .before .before .before .before .before .before .before .before .before .before .before .before .before .before .before .before .before .before .before .before .before .before .before .before .before .before .before .before .before .before .κs) (c .before .before .before .before .before .before .before .before .before .before .before .before .before .before .before .before .before .before .before .before .before .before .before .before .before .before .before .before .before .before .before .before .before .before .args) .1 .1 .1 .1 .1 .1 .0)
-
-      abbrev pub Need-same-length-5 : Type 0
-      Need-same-length-5 = (c : After-finish-result) → MutSlice.SameLen (Row.get 8 (T83 .locals) (m55 (c .before) (After-finish-result·gave c))) (dens (c .before .before .before .before .before .before .before .before .before .before .before .before .before .before .before .before .before .before .before .before .before .before .before .before .before .before .before .before .before .before .before .before .before .before .κs) (c .before .before .before .before .before .before .before .before .before .before .before .before .before .before .before .before .before .before .before .before .before .before .before .before .before .before .before .before .before .before .before .before .before .before .args) .1 .1 .1 .1 .1 .1 .1 .0)
+      abbrev pub m113 : (before : After-heights) → (given : s153 .gives (m105 (before .before) (before .heights .given))) → Typed.Mo T163
+      m113 = λ before given. s160 (m112 before given)
 
       abbrev pub Need-same-length-6 : Type 0
-      Need-same-length-6 = (c : After-finish-result) → MutSlice.SameLen (Row.get 9 (T83 .locals) (m55 (c .before) (After-finish-result·gave c))) (dens (c .before .before .before .before .before .before .before .before .before .before .before .before .before .before .before .before .before .before .before .before .before .before .before .before .before .before .before .before .before .before .before .before .before .before .κs) (c .before .before .before .before .before .before .before .before .before .before .before .before .before .before .before .before .before .before .before .before .before .before .before .before .before .before .before .before .before .before .before .before .before .before .args) .1 .1 .1 .1 .1 .1 .1 .1 .0)
+      Need-same-length-6 = (c : After-finish-result) → MutSlice.SameLen (Row.get 4 (T163 .locals) (m113 (c .before) (After-finish-result·gave c))) (dens (c .before .before .before .before .before .before .before .before .before .before .before .before .before .before .before .before .before .before .before .before .before .before .before .before .before .before .before .before .before .before .before .before .before .before .before .before .before .before .before .before .before .before .before .before .before .before .before .κs) (c .before .before .before .before .before .before .before .before .before .before .before .before .before .before .before .before .before .before .before .before .before .before .before .before .before .before .before .before .before .before .before .before .before .before .before .before .before .before .before .before .before .before .before .before .before .before .before .args) .1 .1 .1 .0)
 
       abbrev pub Need-same-length-7 : Type 0
-      Need-same-length-7 = (c : After-finish-result) → MutSlice.SameLen (Row.get 10 (T83 .locals) (m55 (c .before) (After-finish-result·gave c))) (dens (c .before .before .before .before .before .before .before .before .before .before .before .before .before .before .before .before .before .before .before .before .before .before .before .before .before .before .before .before .before .before .before .before .before .before .κs) (c .before .before .before .before .before .before .before .before .before .before .before .before .before .before .before .before .before .before .before .before .before .before .before .before .before .before .before .before .before .before .before .before .before .before .args) .1 .1 .1 .1 .1 .1 .1 .1 .1 .0)
+      Need-same-length-7 = (c : After-finish-result) → MutSlice.SameLen (Row.get 5 (T163 .locals) (m113 (c .before) (After-finish-result·gave c))) (dens (c .before .before .before .before .before .before .before .before .before .before .before .before .before .before .before .before .before .before .before .before .before .before .before .before .before .before .before .before .before .before .before .before .before .before .before .before .before .before .before .before .before .before .before .before .before .before .before .κs) (c .before .before .before .before .before .before .before .before .before .before .before .before .before .before .before .before .before .before .before .before .before .before .before .before .before .before .before .before .before .before .before .before .before .before .before .before .before .before .before .before .before .before .before .before .before .before .before .args) .1 .1 .1 .1 .0)
 
       abbrev pub Need-same-length-8 : Type 0
-      Need-same-length-8 = (c : After-finish-result) → MutSlice.SameLen (Row.get 11 (T83 .locals) (m55 (c .before) (After-finish-result·gave c))) (dens (c .before .before .before .before .before .before .before .before .before .before .before .before .before .before .before .before .before .before .before .before .before .before .before .before .before .before .before .before .before .before .before .before .before .before .κs) (c .before .before .before .before .before .before .before .before .before .before .before .before .before .before .before .before .before .before .before .before .before .before .before .before .before .before .before .before .before .before .before .before .before .before .args) .1 .1 .1 .1 .1 .1 .1 .1 .1 .1 .0)
+      Need-same-length-8 = (c : After-finish-result) → MutSlice.SameLen (Row.get 6 (T163 .locals) (m113 (c .before) (After-finish-result·gave c))) (dens (c .before .before .before .before .before .before .before .before .before .before .before .before .before .before .before .before .before .before .before .before .before .before .before .before .before .before .before .before .before .before .before .before .before .before .before .before .before .before .before .before .before .before .before .before .before .before .before .κs) (c .before .before .before .before .before .before .before .before .before .before .before .before .before .before .before .before .before .before .before .before .before .before .before .before .before .before .before .before .before .before .before .before .before .before .before .before .before .before .before .before .before .before .before .before .before .before .before .args) .1 .1 .1 .1 .1 .0)
 
       abbrev pub Need-same-length-9 : Type 0
-      Need-same-length-9 = (c : After-finish-result) → MutSlice.SameLen (Row.get 12 (T83 .locals) (m55 (c .before) (After-finish-result·gave c))) (dens (c .before .before .before .before .before .before .before .before .before .before .before .before .before .before .before .before .before .before .before .before .before .before .before .before .before .before .before .before .before .before .before .before .before .before .κs) (c .before .before .before .before .before .before .before .before .before .before .before .before .before .before .before .before .before .before .before .before .before .before .before .before .before .before .before .before .before .before .before .before .before .before .args) .1 .1 .1 .1 .1 .1 .1 .1 .1 .1 .1 .0)
+      Need-same-length-9 = (c : After-finish-result) → MutSlice.SameLen (Row.get 7 (T163 .locals) (m113 (c .before) (After-finish-result·gave c))) (dens (c .before .before .before .before .before .before .before .before .before .before .before .before .before .before .before .before .before .before .before .before .before .before .before .before .before .before .before .before .before .before .before .before .before .before .before .before .before .before .before .before .before .before .before .before .before .before .before .κs) (c .before .before .before .before .before .before .before .before .before .before .before .before .before .before .before .before .before .before .before .before .before .before .before .before .before .before .before .before .before .before .before .before .before .before .before .before .before .before .before .before .before .before .before .before .before .before .before .args) .1 .1 .1 .1 .1 .1 .0)
 
-      abbrev pub Need-returns : Type 0
-      Need-returns = (c : After-finish-result) → Post· (c .before .before .before .before .before .before .before .before .before .before .before .before .before .before .before .before .before .before .before .before .before .before .before .before .before .before .before .before .before .before .before .before .before .before .κs) (dens (c .before .before .before .before .before .before .before .before .before .before .before .before .before .before .before .before .before .before .before .before .before .before .before .before .before .before .before .before .before .before .before .before .before .before .κs) (c .before .before .before .before .before .before .before .before .before .before .before .before .before .before .before .before .before .before .before .before .before .before .before .before .before .before .before .before .before .before .before .before .before .before .args)) (Function.resV r (c .before .before .before .before .before .before .before .before .before .before .before .before .before .before .before .before .before .before .before .before .before .before .before .before .before .before .before .before .before .before .before .before .before .before .κs) (m55 (c .before) (After-finish-result·gave c) .0)) (Clauses.atExit (Kinds.endedOf 10 ps r) (c .before .before .before .before .before .before .before .before .before .before .before .before .before .before .before .before .before .before .before .before .before .before .before .before .before .before .before .before .before .before .before .before .before .before .κs) (dens (c .before .before .before .before .before .before .before .before .before .before .before .before .before .before .before .before .before .before .before .before .before .before .before .before .before .before .before .before .before .before .before .before .before .before .κs) (c .before .before .before .before .before .before .before .before .before .before .before .before .before .before .before .before .before .before .before .before .before .before .before .before .before .before .before .before .before .before .before .before .before .before .args)) (Enter.lastsP (c .before .before .before .before .before .before .before .before .before .before .before .before .before .before .before .before .before .before .before .before .before .before .before .before .before .before .before .before .before .before .before .before .before .before .κs) 1 ps xs (dens (c .before .before .before .before .before .before .before .before .before .before .before .before .before .before .before .before .before .before .before .before .before .before .before .before .before .before .before .before .before .before .before .before .before .before .κs) (c .before .before .before .before .before .before .before .before .before .before .before .before .before .before .before .before .before .before .before .before .before .before .before .before .before .before .before .before .before .before .before .before .before .before .args)) (m55 (c .before) (After-finish-result·gave c) .1)))
+      abbrev pub Need-same-length-10 : Type 0
+      Need-same-length-10 = (c : After-finish-result) → MutSlice.SameLen (Row.get 8 (T163 .locals) (m113 (c .before) (After-finish-result·gave c))) (dens (c .before .before .before .before .before .before .before .before .before .before .before .before .before .before .before .before .before .before .before .before .before .before .before .before .before .before .before .before .before .before .before .before .before .before .before .before .before .before .before .before .before .before .before .before .before .before .before .κs) (c .before .before .before .before .before .before .before .before .before .before .before .before .before .before .before .before .before .before .before .before .before .before .before .before .before .before .before .before .before .before .before .before .before .before .before .before .before .before .before .before .before .before .before .before .before .before .before .args) .1 .1 .1 .1 .1 .1 .1 .0)
 
-      module _ (run-requires : Need-run-requires) (finish-result-requires : Need-finish-result-requires) (same-length : Need-same-length) (same-length-2 : Need-same-length-2) (same-length-3 : Need-same-length-3) (same-length-4 : Need-same-length-4) (same-length-5 : Need-same-length-5) (same-length-6 : Need-same-length-6) (same-length-7 : Need-same-length-7) (same-length-8 : Need-same-length-8) (same-length-9 : Need-same-length-9) (returns : Need-returns) where
-        lay4 : (c : After-finish-result) → at6 (W0 (c .before .before .before .before .before .before .before .before .before .before .before .before .before .before .before .before .before .before .before .before .before .before .before .before .before .before .before .before .before .before .before .before .before .before .κs) (c .before .before .before .before .before .before .before .before .before .before .before .before .before .before .before .before .before .before .before .before .before .before .before .before .before .before .before .before .before .before .before .before .before .before .args)) (m49 (c .before) (After-finish-result·gave c))
-        lay4 = λ c. ((tt, (tt, (tt, (MutSlice.fix-len (Row.get 4 (T83 .locals) (m55 (c .before) (After-finish-result·gave c)) .ptr) (Row.get 4 (T83 .locals) (m55 (c .before) (After-finish-result·gave c)) .name) (Row.get 4 (T83 .locals) (m55 (c .before) (After-finish-result·gave c)) .now) (dens (c .before .before .before .before .before .before .before .before .before .before .before .before .before .before .before .before .before .before .before .before .before .before .before .before .before .before .before .before .before .before .before .before .before .before .κs) (c .before .before .before .before .before .before .before .before .before .before .before .before .before .before .before .before .before .before .before .before .before .before .before .before .before .before .before .before .before .before .before .before .before .before .args) .1 .1 .1 .0 .now) (same-length record { before = c .before; finish-result = c .finish-result }), (MutSlice.fix-len (Row.get 5 (T83 .locals) (m55 (c .before) (After-finish-result·gave c)) .ptr) (Row.get 5 (T83 .locals) (m55 (c .before) (After-finish-result·gave c)) .name) (Row.get 5 (T83 .locals) (m55 (c .before) (After-finish-result·gave c)) .now) (dens (c .before .before .before .before .before .before .before .before .before .before .before .before .before .before .before .before .before .before .before .before .before .before .before .before .before .before .before .before .before .before .before .before .before .before .κs) (c .before .before .before .before .before .before .before .before .before .before .before .before .before .before .before .before .before .before .before .before .before .before .before .before .before .before .before .before .before .before .before .before .before .before .args) .1 .1 .1 .1 .0 .now) (same-length-2 record { before = c .before; finish-result = c .finish-result }), (MutSlice.fix-len (Row.get 6 (T83 .locals) (m55 (c .before) (After-finish-result·gave c)) .ptr) (Row.get 6 (T83 .locals) (m55 (c .before) (After-finish-result·gave c)) .name) (Row.get 6 (T83 .locals) (m55 (c .before) (After-finish-result·gave c)) .now) (dens (c .before .before .before .before .before .before .before .before .before .before .before .before .before .before .before .before .before .before .before .before .before .before .before .before .before .before .before .before .before .before .before .before .before .before .κs) (c .before .before .before .before .before .before .before .before .before .before .before .before .before .before .before .before .before .before .before .before .before .before .before .before .before .before .before .before .before .before .before .before .before .before .args) .1 .1 .1 .1 .1 .0 .now) (same-length-3 record { before = c .before; finish-result = c .finish-result }), (MutSlice.fix-len (Row.get 7 (T83 .locals) (m55 (c .before) (After-finish-result·gave c)) .ptr) (Row.get 7 (T83 .locals) (m55 (c .before) (After-finish-result·gave c)) .name) (Row.get 7 (T83 .locals) (m55 (c .before) (After-finish-result·gave c)) .now) (dens (c .before .before .before .before .before .before .before .before .before .before .before .before .before .before .before .before .before .before .before .before .before .before .before .before .before .before .before .before .before .before .before .before .before .before .κs) (c .before .before .before .before .before .before .before .before .before .before .before .before .before .before .before .before .before .before .before .before .before .before .before .before .before .before .before .before .before .before .before .before .before .before .args) .1 .1 .1 .1 .1 .1 .0 .now) (same-length-4 record { before = c .before; finish-result = c .finish-result }), (MutSlice.fix-len (Row.get 8 (T83 .locals) (m55 (c .before) (After-finish-result·gave c)) .ptr) (Row.get 8 (T83 .locals) (m55 (c .before) (After-finish-result·gave c)) .name) (Row.get 8 (T83 .locals) (m55 (c .before) (After-finish-result·gave c)) .now) (dens (c .before .before .before .before .before .before .before .before .before .before .before .before .before .before .before .before .before .before .before .before .before .before .before .before .before .before .before .before .before .before .before .before .before .before .κs) (c .before .before .before .before .before .before .before .before .before .before .before .before .before .before .before .before .before .before .before .before .before .before .before .before .before .before .before .before .before .before .before .before .before .before .args) .1 .1 .1 .1 .1 .1 .1 .0 .now) (same-length-5 record { before = c .before; finish-result = c .finish-result }), (MutSlice.fix-len (Row.get 9 (T83 .locals) (m55 (c .before) (After-finish-result·gave c)) .ptr) (Row.get 9 (T83 .locals) (m55 (c .before) (After-finish-result·gave c)) .name) (Row.get 9 (T83 .locals) (m55 (c .before) (After-finish-result·gave c)) .now) (dens (c .before .before .before .before .before .before .before .before .before .before .before .before .before .before .before .before .before .before .before .before .before .before .before .before .before .before .before .before .before .before .before .before .before .before .κs) (c .before .before .before .before .before .before .before .before .before .before .before .before .before .before .before .before .before .before .before .before .before .before .before .before .before .before .before .before .before .before .before .before .before .before .args) .1 .1 .1 .1 .1 .1 .1 .1 .0 .now) (same-length-6 record { before = c .before; finish-result = c .finish-result }), (MutSlice.fix-len (Row.get 10 (T83 .locals) (m55 (c .before) (After-finish-result·gave c)) .ptr) (Row.get 10 (T83 .locals) (m55 (c .before) (After-finish-result·gave c)) .name) (Row.get 10 (T83 .locals) (m55 (c .before) (After-finish-result·gave c)) .now) (dens (c .before .before .before .before .before .before .before .before .before .before .before .before .before .before .before .before .before .before .before .before .before .before .before .before .before .before .before .before .before .before .before .before .before .before .κs) (c .before .before .before .before .before .before .before .before .before .before .before .before .before .before .before .before .before .before .before .before .before .before .before .before .before .before .before .before .before .before .before .before .before .before .args) .1 .1 .1 .1 .1 .1 .1 .1 .1 .0 .now) (same-length-7 record { before = c .before; finish-result = c .finish-result }), (MutSlice.fix-len (Row.get 11 (T83 .locals) (m55 (c .before) (After-finish-result·gave c)) .ptr) (Row.get 11 (T83 .locals) (m55 (c .before) (After-finish-result·gave c)) .name) (Row.get 11 (T83 .locals) (m55 (c .before) (After-finish-result·gave c)) .now) (dens (c .before .before .before .before .before .before .before .before .before .before .before .before .before .before .before .before .before .before .before .before .before .before .before .before .before .before .before .before .before .before .before .before .before .before .κs) (c .before .before .before .before .before .before .before .before .before .before .before .before .before .before .before .before .before .before .before .before .before .before .before .before .before .before .before .before .before .before .before .before .before .before .args) .1 .1 .1 .1 .1 .1 .1 .1 .1 .1 .0 .now) (same-length-8 record { before = c .before; finish-result = c .finish-result }), (MutSlice.fix-len (Row.get 12 (T83 .locals) (m55 (c .before) (After-finish-result·gave c)) .ptr) (Row.get 12 (T83 .locals) (m55 (c .before) (After-finish-result·gave c)) .name) (Row.get 12 (T83 .locals) (m55 (c .before) (After-finish-result·gave c)) .now) (dens (c .before .before .before .before .before .before .before .before .before .before .before .before .before .before .before .before .before .before .before .before .before .before .before .before .before .before .before .before .before .before .before .before .before .before .κs) (c .before .before .before .before .before .before .before .before .before .before .before .before .before .before .before .before .before .before .before .before .before .before .before .before .before .before .before .before .before .before .before .before .before .before .args) .1 .1 .1 .1 .1 .1 .1 .1 .1 .1 .1 .0 .now) (same-length-9 record { before = c .before; finish-result = c .finish-result }), (tt, (tt, (Path'.refl, tt))))))))))))))), returns record { before = c .before; finish-result = c .finish-result })
+      abbrev pub Need-same-length-11 : Type 0
+      Need-same-length-11 = (c : After-finish-result) → MutSlice.SameLen (Row.get 9 (T163 .locals) (m113 (c .before) (After-finish-result·gave c))) (dens (c .before .before .before .before .before .before .before .before .before .before .before .before .before .before .before .before .before .before .before .before .before .before .before .before .before .before .before .before .before .before .before .before .before .before .before .before .before .before .before .before .before .before .before .before .before .before .before .κs) (c .before .before .before .before .before .before .before .before .before .before .before .before .before .before .before .before .before .before .before .before .before .before .before .before .before .before .before .before .before .before .before .before .before .before .before .before .before .before .before .before .before .before .before .before .before .before .before .args) .1 .1 .1 .1 .1 .1 .1 .1 .0)
 
-        lay3 : (c : After-slice-known13) → at11 (W0 (c .before .before .before .before .before .before .before .before .before .before .before .before .before .before .before .before .before .before .before .before .before .before .before .before .before .before .before .before .before .before .before .κs) (c .before .before .before .before .before .before .before .before .before .before .before .before .before .before .before .before .before .before .before .before .before .before .before .before .before .before .before .before .before .before .before .args)) (m46 (c .before) (c .slice-known13 .given))
-        lay3 = λ c. (Path'.refl, λ g. λ g'. (finish-result-requires record { before = record { before = record { before = c .before; slice-known13 = c .slice-known13 }; answers = record { given = g } }; slice-known14 = record { given = g' } }, λ g''. lay4 record { before = record { before = record { before = record { before = c .before; slice-known13 = c .slice-known13 }; answers = record { given = g } }; slice-known14 = record { given = g' } }; finish-result = Called.called ps·1 r·1 (claims· .3) T75 (record { pos = 18; st = List.[]; d = 0; at = λ x. x }, tt) (m48 record { before = record { before = c .before; slice-known13 = c .slice-known13 }; answers = record { given = g } } g') g'' }))
+      abbrev pub Need-same-length-12 : Type 0
+      Need-same-length-12 = (c : After-finish-result) → MutSlice.SameLen (Row.get 10 (T163 .locals) (m113 (c .before) (After-finish-result·gave c))) (dens (c .before .before .before .before .before .before .before .before .before .before .before .before .before .before .before .before .before .before .before .before .before .before .before .before .before .before .before .before .before .before .before .before .before .before .before .before .before .before .before .before .before .before .before .before .before .before .before .κs) (c .before .before .before .before .before .before .before .before .before .before .before .before .before .before .before .before .before .before .before .before .before .before .before .before .before .before .before .before .before .before .before .before .before .before .before .before .before .before .before .before .before .before .before .before .before .before .before .args) .1 .1 .1 .1 .1 .1 .1 .1 .1 .0)
 
-        lay2 : (c : After-run) → at43 (W0 (c .before .before .before .before .before .before .before .before .before .before .before .before .before .before .before .before .before .κs) (c .before .before .before .before .before .before .before .before .before .before .before .before .before .before .before .before .before .args)) (m30 (c .before) (After-run·gave c))
-        lay2 = λ c. (Path'.refl, λ g. (Path'.refl, λ g'. λ g''. (Path'.refl, λ g'3. λ g'4. (Path'.refl, λ g'5. λ g'6. (Path'.refl, λ g'7. (Path'.refl, λ g'8. λ g'9. (Path'.refl, λ g'10. λ g'11. (Path'.refl, λ g'12. λ g'13. lay3 record { before = record { before = record { before = record { before = record { before = record { before = record { before = record { before = record { before = record { before = record { before = record { before = record { before = record { before = record { before = c .before; run = c .run }; positions = record { given = g } }; outs = record { given = g' } }; slice-known8 = record { given = g'' } }; halves = record { given = g'3 } }; slice-known9 = record { given = g'4 } }; adjacent = record { given = g'5 } }; slice-known10 = record { given = g'6 } }; nodes = record { given = g'7 } }; freed = record { given = g'8 } }; slice-known11 = record { given = g'9 } }; buckets = record { given = g'10 } }; slice-known12 = record { given = g'11 } }; pending = record { given = g'12 } }; slice-known13 = record { given = g'13 } }))))))))
+      abbrev pub Need-same-length-13 : Type 0
+      Need-same-length-13 = (c : After-finish-result) → MutSlice.SameLen (Row.get 11 (T163 .locals) (m113 (c .before) (After-finish-result·gave c))) (dens (c .before .before .before .before .before .before .before .before .before .before .before .before .before .before .before .before .before .before .before .before .before .before .before .before .before .before .before .before .before .before .before .before .before .before .before .before .before .before .before .before .before .before .before .before .before .before .before .κs) (c .before .before .before .before .before .before .before .before .before .before .before .before .before .before .before .before .before .before .before .before .before .before .before .before .before .before .before .before .before .before .before .before .before .before .before .before .before .before .before .before .before .before .before .before .before .before .before .args) .1 .1 .1 .1 .1 .1 .1 .1 .1 .1 .0)
 
-        lay1 : (c : After-run-arg8) → at50 (W0 (c .before .before .before .before .before .before .before .before .before .before .before .before .before .before .before .κs) (c .before .before .before .before .before .before .before .before .before .before .before .before .before .before .before .args)) (m24 (c .before) (c .run-arg8 .given))
-        lay1 = λ c. (Path'.refl, λ g. (Path'.refl, (run-requires record { before = record { before = c .before; run-arg8 = c .run-arg8 }; run-arg9 = record { given = g } }, λ g'. lay2 record { before = record { before = record { before = c .before; run-arg8 = c .run-arg8 }; run-arg9 = record { given = g } }; run = Called.called ps·0 r·0 (claims· .1) T39 (record { pos = 16; st = List.[]; d = 0; at = λ x. x }, (record { pos = 20; ty = Syntax.tyRef Syntax.erased Syntax.mut ty·0; ref = λ x. x }, (record { pos = 22; ty = Syntax.tyRef Syntax.erased Syntax.mut ty·0; ref = λ x. x }, (record { pos = 24; ty = Syntax.tyRef Syntax.erased Syntax.mut ty·0; ref = λ x. x }, (record { pos = 26; ty = Syntax.tyRef Syntax.erased Syntax.mut ty·0; ref = λ x. x }, (record { pos = 28; ty = Syntax.tyRef Syntax.erased Syntax.mut (ELEMMEM.pointee (ELEM.the-row .written)); ref = λ x. x }, (record { pos = 30; ty = Syntax.tyRef Syntax.erased Syntax.mut ty·0; ref = λ x. x }, (record { pos = 32; ty = Syntax.tyRef Syntax.erased Syntax.mut ty·0; ref = λ x. x }, (record { pos = 34; ty = Syntax.tyRef Syntax.erased Syntax.mut ty·0; ref = λ x. x }, (record { pos = 36; ty = Syntax.tyRef Syntax.erased Syntax.mut ty·1; ref = λ x. x }, (record { pos = 17; st = List.[]; d = 0; at = λ x. x }, (record { pos = 15; ty = Syntax.tyRef (Syntax.named 9) Syntax.imm ty·0; ref = λ x. x }, tt)))))))))))) (m29 record { before = c .before; run-arg8 = c .run-arg8 } g) g' })))
+      abbrev pub Need-same-length-14 : Type 0
+      Need-same-length-14 = (c : After-finish-result) → MutSlice.SameLen (Row.get 12 (T163 .locals) (m113 (c .before) (After-finish-result·gave c))) (dens (c .before .before .before .before .before .before .before .before .before .before .before .before .before .before .before .before .before .before .before .before .before .before .before .before .before .before .before .before .before .before .before .before .before .before .before .before .before .before .before .before .before .before .before .before .before .before .before .κs) (c .before .before .before .before .before .before .before .before .before .before .before .before .before .before .before .before .before .before .before .before .before .before .before .before .before .before .before .before .before .before .before .before .before .before .before .before .before .before .before .before .before .before .before .before .before .before .before .args) .1 .1 .1 .1 .1 .1 .1 .1 .1 .1 .1 .0)
 
-        pub laid : (c : Start) → at82 (W0 (c .κs) (c .args)) (m0 (c .κs) (c .args))
-        laid = λ c. λ g. λ g'. λ g''. λ g'3. λ g'4. λ g'5. λ g'6. λ g'7. (Path'.refl, λ g'8. (Path'.refl, λ g'9. (Path'.refl, λ g'10. (Path'.refl, λ g'11. (Path'.refl, λ g'12. (Path'.refl, λ g'13. (Path'.refl, λ g'14. lay1 record { before = record { before = record { before = record { before = record { before = record { before = record { before = record { before = record { before = record { before = record { before = record { before = record { before = record { before = record { before = c; slice-known = record { given = g } }; slice-known2 = record { given = g' } }; slice-known3 = record { given = g'' } }; slice-known4 = record { given = g'3 } }; slice-known5 = record { given = g'4 } }; slice-known6 = record { given = g'5 } }; slice-known7 = record { given = g'6 } }; run-arg = record { given = g'7 } }; run-arg2 = record { given = g'8 } }; run-arg3 = record { given = g'9 } }; run-arg4 = record { given = g'10 } }; run-arg5 = record { given = g'11 } }; run-arg6 = record { given = g'12 } }; run-arg7 = record { given = g'13 } }; run-arg8 = record { given = g'14 } })))))))
+      abbrev pub Need-same-length-15 : Type 0
+      Need-same-length-15 = (c : After-finish-result) → MutSlice.SameLen (Row.get 13 (T163 .locals) (m113 (c .before) (After-finish-result·gave c))) (dens (c .before .before .before .before .before .before .before .before .before .before .before .before .before .before .before .before .before .before .before .before .before .before .before .before .before .before .before .before .before .before .before .before .before .before .before .before .before .before .before .before .before .before .before .before .before .before .before .κs) (c .before .before .before .before .before .before .before .before .before .before .before .before .before .before .before .before .before .before .before .before .before .before .before .before .before .before .before .before .before .before .before .before .before .before .before .before .before .before .before .before .before .before .before .before .before .before .before .args) .1 .1 .1 .1 .1 .1 .1 .1 .1 .1 .1 .1 .0)
 
-        module _ (κs : Lifetimes.Lfts 10) (qs : Lifetimes.Shares 10) where
-          pub asked : (a : Kinds.Dens κs ps) → (good : Kinds.GoodsP κs ps a) → (pre : Pre· κs a) → (bs : List.List Nat.ℕ) → Φ (Any.wantQ 10 ps r xs m κs qs a (Post· κs a)) (Function.init 10 ps r xs m κs qs a)
-          asked = λ a good pre bs. laid record { κs = κs; args = record { vertices = a .0; edges = a .1 .0; faces = a .1 .1 .0; positions = a .1 .1 .1 .0; outs = a .1 .1 .1 .1 .0; halves = a .1 .1 .1 .1 .1 .0; adjacent = a .1 .1 .1 .1 .1 .1 .0; nodes = a .1 .1 .1 .1 .1 .1 .1 .0; freed = a .1 .1 .1 .1 .1 .1 .1 .1 .0; buckets = a .1 .1 .1 .1 .1 .1 .1 .1 .1 .0; pending = a .1 .1 .1 .1 .1 .1 .1 .1 .1 .1 .0; answers = a .1 .1 .1 .1 .1 .1 .1 .1 .1 .1 .1 .0; center-x = a .1 .1 .1 .1 .1 .1 .1 .1 .1 .1 .1 .1 .0; center-y = a .1 .1 .1 .1 .1 .1 .1 .1 .1 .1 .1 .1 .1 .0; points = a .1 .1 .1 .1 .1 .1 .1 .1 .1 .1 .1 .1 .1 .1 .0 }; good = good; fits = record { vertices = record { fits = good .0 .1 }; edges = record { fits = good .1 .0 .1 }; faces = record { fits = good .1 .1 .0 .1 } }; pre = pre }
+      abbrev pub Need-returns-2 : Type 0
+      Need-returns-2 = (c : After-finish-result) → Post· (c .before .before .before .before .before .before .before .before .before .before .before .before .before .before .before .before .before .before .before .before .before .before .before .before .before .before .before .before .before .before .before .before .before .before .before .before .before .before .before .before .before .before .before .before .before .before .before .κs) (dens (c .before .before .before .before .before .before .before .before .before .before .before .before .before .before .before .before .before .before .before .before .before .before .before .before .before .before .before .before .before .before .before .before .before .before .before .before .before .before .before .before .before .before .before .before .before .before .before .κs) (c .before .before .before .before .before .before .before .before .before .before .before .before .before .before .before .before .before .before .before .before .before .before .before .before .before .before .before .before .before .before .before .before .before .before .before .before .before .before .before .before .before .before .before .before .before .before .before .args)) (Function.resV r (c .before .before .before .before .before .before .before .before .before .before .before .before .before .before .before .before .before .before .before .before .before .before .before .before .before .before .before .before .before .before .before .before .before .before .before .before .before .before .before .before .before .before .before .before .before .before .before .κs) (m113 (c .before) (After-finish-result·gave c) .0)) (Clauses.atExit (Kinds.endedOf 12 ps r) (c .before .before .before .before .before .before .before .before .before .before .before .before .before .before .before .before .before .before .before .before .before .before .before .before .before .before .before .before .before .before .before .before .before .before .before .before .before .before .before .before .before .before .before .before .before .before .before .κs) (dens (c .before .before .before .before .before .before .before .before .before .before .before .before .before .before .before .before .before .before .before .before .before .before .before .before .before .before .before .before .before .before .before .before .before .before .before .before .before .before .before .before .before .before .before .before .before .before .before .κs) (c .before .before .before .before .before .before .before .before .before .before .before .before .before .before .before .before .before .before .before .before .before .before .before .before .before .before .before .before .before .before .before .before .before .before .before .before .before .before .before .before .before .before .before .before .before .before .before .args)) (Enter.lastsP (c .before .before .before .before .before .before .before .before .before .before .before .before .before .before .before .before .before .before .before .before .before .before .before .before .before .before .before .before .before .before .before .before .before .before .before .before .before .before .before .before .before .before .before .before .before .before .before .κs) 1 ps xs (dens (c .before .before .before .before .before .before .before .before .before .before .before .before .before .before .before .before .before .before .before .before .before .before .before .before .before .before .before .before .before .before .before .before .before .before .before .before .before .before .before .before .before .before .before .before .before .before .before .κs) (c .before .before .before .before .before .before .before .before .before .before .before .before .before .before .before .before .before .before .before .before .before .before .before .before .before .before .before .before .before .before .before .before .before .before .before .before .before .before .before .before .before .before .before .before .before .before .before .args)) (m113 (c .before) (After-finish-result·gave c) .1)))
 
-        module _ {M : Type 1} (𝓤 : URA.URA M) (H : Wp.Heap 𝓤) (A : Atoms.Atoms 𝓤) (W : Kit.Given 𝓤 H A) (𝓣 : Wp.Tables 𝓤 H) (known0 : Plain.Known 𝓤 H A W 𝓣 10 ps·0 r·0 (claims· .0) (claims· .1) "run::run") (known1 : Plain.Known 𝓤 H A W 𝓣 0 ps·1 r·1 (claims· .2) (claims· .3) "fithmoul::results::finish_result") where
-          pub spec : Statement.Triple 𝓤 (Wp.WpFn 𝓤 H (𝓣 .C) (𝓣 .Λ) (Function.fnOf 10 ps r xs m hs body)) (Function.plainOf 𝓤 H A 10 ps r Pre· Post·)
-          spec = Plain.t-fn-plain 𝓤 H A W 𝓣 10 ps r xs m hs body (λ κs qs bs. Φ) (λ κs qs bs bd. typed κs qs 𝓤 H A W 𝓣 (known0, known1) bs bd) Pre· Post· asked
+      module _ (answers-short-requires : Need-answers-short-requires) (check-run-requires : Need-check-run-requires) (enum-known-checked : Need-enum-known-checked) (finish-refused-requires : Need-finish-refused-requires) (same-length : Need-same-length) (same-length-2 : Need-same-length-2) (same-length-3 : Need-same-length-3) (same-length-4 : Need-same-length-4) (same-length-5 : Need-same-length-5) (returns : Need-returns) (enum-told : Need-enum-told) (run-requires : Need-run-requires) (store-run-requires : Need-store-run-requires) (finish-result-requires : Need-finish-result-requires) (same-length-6 : Need-same-length-6) (same-length-7 : Need-same-length-7) (same-length-8 : Need-same-length-8) (same-length-9 : Need-same-length-9) (same-length-10 : Need-same-length-10) (same-length-11 : Need-same-length-11) (same-length-12 : Need-same-length-12) (same-length-13 : Need-same-length-13) (same-length-14 : Need-same-length-14) (same-length-15 : Need-same-length-15) (returns-2 : Need-returns-2) where
+        lay8 : (c : After-finish-result) → at51 (W0 (c .before .before .before .before .before .before .before .before .before .before .before .before .before .before .before .before .before .before .before .before .before .before .before .before .before .before .before .before .before .before .before .before .before .before .before .before .before .before .before .before .before .before .before .before .before .before .before .κs) (c .before .before .before .before .before .before .before .before .before .before .before .before .before .before .before .before .before .before .before .before .before .before .before .before .before .before .before .before .before .before .before .before .before .before .before .before .before .before .before .before .before .before .before .before .before .before .before .args)) (m106 (c .before) (After-finish-result·gave c))
+        lay8 = λ c. ((tt, (tt, (tt, (MutSlice.fix-len (Row.get 4 (T163 .locals) (m113 (c .before) (After-finish-result·gave c)) .ptr) (Row.get 4 (T163 .locals) (m113 (c .before) (After-finish-result·gave c)) .name) (Row.get 4 (T163 .locals) (m113 (c .before) (After-finish-result·gave c)) .now) (dens (c .before .before .before .before .before .before .before .before .before .before .before .before .before .before .before .before .before .before .before .before .before .before .before .before .before .before .before .before .before .before .before .before .before .before .before .before .before .before .before .before .before .before .before .before .before .before .before .κs) (c .before .before .before .before .before .before .before .before .before .before .before .before .before .before .before .before .before .before .before .before .before .before .before .before .before .before .before .before .before .before .before .before .before .before .before .before .before .before .before .before .before .before .before .before .before .before .before .args) .1 .1 .1 .0 .now) (same-length-6 record { before = c .before; finish-result = c .finish-result }), (MutSlice.fix-len (Row.get 5 (T163 .locals) (m113 (c .before) (After-finish-result·gave c)) .ptr) (Row.get 5 (T163 .locals) (m113 (c .before) (After-finish-result·gave c)) .name) (Row.get 5 (T163 .locals) (m113 (c .before) (After-finish-result·gave c)) .now) (dens (c .before .before .before .before .before .before .before .before .before .before .before .before .before .before .before .before .before .before .before .before .before .before .before .before .before .before .before .before .before .before .before .before .before .before .before .before .before .before .before .before .before .before .before .before .before .before .before .κs) (c .before .before .before .before .before .before .before .before .before .before .before .before .before .before .before .before .before .before .before .before .before .before .before .before .before .before .before .before .before .before .before .before .before .before .before .before .before .before .before .before .before .before .before .before .before .before .before .args) .1 .1 .1 .1 .0 .now) (same-length-7 record { before = c .before; finish-result = c .finish-result }), (MutSlice.fix-len (Row.get 6 (T163 .locals) (m113 (c .before) (After-finish-result·gave c)) .ptr) (Row.get 6 (T163 .locals) (m113 (c .before) (After-finish-result·gave c)) .name) (Row.get 6 (T163 .locals) (m113 (c .before) (After-finish-result·gave c)) .now) (dens (c .before .before .before .before .before .before .before .before .before .before .before .before .before .before .before .before .before .before .before .before .before .before .before .before .before .before .before .before .before .before .before .before .before .before .before .before .before .before .before .before .before .before .before .before .before .before .before .κs) (c .before .before .before .before .before .before .before .before .before .before .before .before .before .before .before .before .before .before .before .before .before .before .before .before .before .before .before .before .before .before .before .before .before .before .before .before .before .before .before .before .before .before .before .before .before .before .before .args) .1 .1 .1 .1 .1 .0 .now) (same-length-8 record { before = c .before; finish-result = c .finish-result }), (MutSlice.fix-len (Row.get 7 (T163 .locals) (m113 (c .before) (After-finish-result·gave c)) .ptr) (Row.get 7 (T163 .locals) (m113 (c .before) (After-finish-result·gave c)) .name) (Row.get 7 (T163 .locals) (m113 (c .before) (After-finish-result·gave c)) .now) (dens (c .before .before .before .before .before .before .before .before .before .before .before .before .before .before .before .before .before .before .before .before .before .before .before .before .before .before .before .before .before .before .before .before .before .before .before .before .before .before .before .before .before .before .before .before .before .before .before .κs) (c .before .before .before .before .before .before .before .before .before .before .before .before .before .before .before .before .before .before .before .before .before .before .before .before .before .before .before .before .before .before .before .before .before .before .before .before .before .before .before .before .before .before .before .before .before .before .before .args) .1 .1 .1 .1 .1 .1 .0 .now) (same-length-9 record { before = c .before; finish-result = c .finish-result }), (MutSlice.fix-len (Row.get 8 (T163 .locals) (m113 (c .before) (After-finish-result·gave c)) .ptr) (Row.get 8 (T163 .locals) (m113 (c .before) (After-finish-result·gave c)) .name) (Row.get 8 (T163 .locals) (m113 (c .before) (After-finish-result·gave c)) .now) (dens (c .before .before .before .before .before .before .before .before .before .before .before .before .before .before .before .before .before .before .before .before .before .before .before .before .before .before .before .before .before .before .before .before .before .before .before .before .before .before .before .before .before .before .before .before .before .before .before .κs) (c .before .before .before .before .before .before .before .before .before .before .before .before .before .before .before .before .before .before .before .before .before .before .before .before .before .before .before .before .before .before .before .before .before .before .before .before .before .before .before .before .before .before .before .before .before .before .before .args) .1 .1 .1 .1 .1 .1 .1 .0 .now) (same-length-10 record { before = c .before; finish-result = c .finish-result }), (MutSlice.fix-len (Row.get 9 (T163 .locals) (m113 (c .before) (After-finish-result·gave c)) .ptr) (Row.get 9 (T163 .locals) (m113 (c .before) (After-finish-result·gave c)) .name) (Row.get 9 (T163 .locals) (m113 (c .before) (After-finish-result·gave c)) .now) (dens (c .before .before .before .before .before .before .before .before .before .before .before .before .before .before .before .before .before .before .before .before .before .before .before .before .before .before .before .before .before .before .before .before .before .before .before .before .before .before .before .before .before .before .before .before .before .before .before .κs) (c .before .before .before .before .before .before .before .before .before .before .before .before .before .before .before .before .before .before .before .before .before .before .before .before .before .before .before .before .before .before .before .before .before .before .before .before .before .before .before .before .before .before .before .before .before .before .before .args) .1 .1 .1 .1 .1 .1 .1 .1 .0 .now) (same-length-11 record { before = c .before; finish-result = c .finish-result }), (MutSlice.fix-len (Row.get 10 (T163 .locals) (m113 (c .before) (After-finish-result·gave c)) .ptr) (Row.get 10 (T163 .locals) (m113 (c .before) (After-finish-result·gave c)) .name) (Row.get 10 (T163 .locals) (m113 (c .before) (After-finish-result·gave c)) .now) (dens (c .before .before .before .before .before .before .before .before .before .before .before .before .before .before .before .before .before .before .before .before .before .before .before .before .before .before .before .before .before .before .before .before .before .before .before .before .before .before .before .before .before .before .before .before .before .before .before .κs) (c .before .before .before .before .before .before .before .before .before .before .before .before .before .before .before .before .before .before .before .before .before .before .before .before .before .before .before .before .before .before .before .before .before .before .before .before .before .before .before .before .before .before .before .before .before .before .before .args) .1 .1 .1 .1 .1 .1 .1 .1 .1 .0 .now) (same-length-12 record { before = c .before; finish-result = c .finish-result }), (MutSlice.fix-len (Row.get 11 (T163 .locals) (m113 (c .before) (After-finish-result·gave c)) .ptr) (Row.get 11 (T163 .locals) (m113 (c .before) (After-finish-result·gave c)) .name) (Row.get 11 (T163 .locals) (m113 (c .before) (After-finish-result·gave c)) .now) (dens (c .before .before .before .before .before .before .before .before .before .before .before .before .before .before .before .before .before .before .before .before .before .before .before .before .before .before .before .before .before .before .before .before .before .before .before .before .before .before .before .before .before .before .before .before .before .before .before .κs) (c .before .before .before .before .before .before .before .before .before .before .before .before .before .before .before .before .before .before .before .before .before .before .before .before .before .before .before .before .before .before .before .before .before .before .before .before .before .before .before .before .before .before .before .before .before .before .before .args) .1 .1 .1 .1 .1 .1 .1 .1 .1 .1 .0 .now) (same-length-13 record { before = c .before; finish-result = c .finish-result }), (MutSlice.fix-len (Row.get 12 (T163 .locals) (m113 (c .before) (After-finish-result·gave c)) .ptr) (Row.get 12 (T163 .locals) (m113 (c .before) (After-finish-result·gave c)) .name) (Row.get 12 (T163 .locals) (m113 (c .before) (After-finish-result·gave c)) .now) (dens (c .before .before .before .before .before .before .before .before .before .before .before .before .before .before .before .before .before .before .before .before .before .before .before .before .before .before .before .before .before .before .before .before .before .before .before .before .before .before .before .before .before .before .before .before .before .before .before .κs) (c .before .before .before .before .before .before .before .before .before .before .before .before .before .before .before .before .before .before .before .before .before .before .before .before .before .before .before .before .before .before .before .before .before .before .before .before .before .before .before .before .before .before .before .before .before .before .before .args) .1 .1 .1 .1 .1 .1 .1 .1 .1 .1 .1 .0 .now) (same-length-14 record { before = c .before; finish-result = c .finish-result }), (MutSlice.fix-len (Row.get 13 (T163 .locals) (m113 (c .before) (After-finish-result·gave c)) .ptr) (Row.get 13 (T163 .locals) (m113 (c .before) (After-finish-result·gave c)) .name) (Row.get 13 (T163 .locals) (m113 (c .before) (After-finish-result·gave c)) .now) (dens (c .before .before .before .before .before .before .before .before .before .before .before .before .before .before .before .before .before .before .before .before .before .before .before .before .before .before .before .before .before .before .before .before .before .before .before .before .before .before .before .before .before .before .before .before .before .before .before .κs) (c .before .before .before .before .before .before .before .before .before .before .before .before .before .before .before .before .before .before .before .before .before .before .before .before .before .before .before .before .before .before .before .before .before .before .before .before .before .before .before .before .before .before .before .before .before .before .before .args) .1 .1 .1 .1 .1 .1 .1 .1 .1 .1 .1 .1 .0 .now) (same-length-15 record { before = c .before; finish-result = c .finish-result }), (tt, (tt, (Path'.refl, (Path'.refl, tt))))))))))))))))), returns-2 record { before = c .before; finish-result = c .finish-result })
+
+        lay7 : (c : After-store-run) → at60 (W0 (c .before .before .before .before .before .before .before .before .before .before .before .before .before .before .before .before .before .before .before .before .before .before .before .before .before .before .before .before .before .before .before .before .before .before .before .before .before .before .before .before .before .before .before .before .before .κs) (c .before .before .before .before .before .before .before .before .before .before .before .before .before .before .before .before .before .before .before .before .before .before .before .before .before .before .before .before .before .before .before .before .before .before .before .before .before .before .before .before .before .before .before .before .before .args)) (m101 (c .before) (After-store-run·gave c))
+        lay7 = λ c. (Path'.refl, λ g. (finish-result-requires record { before = record { before = c .before; store-run = c .store-run }; heights = record { given = g } }, λ g'. lay8 record { before = record { before = record { before = c .before; store-run = c .store-run }; heights = record { given = g } }; finish-result = Called.called ps·5 r·5 (claims· .11) T154 (record { pos = 23; st = List.[]; d = 0; at = λ x. x }, tt) (m105 record { before = c .before; store-run = c .store-run } g) g' }))
+
+        lay6 : (c : After-slice-known13) → at71 (W0 (c .before .before .before .before .before .before .before .before .before .before .before .before .before .before .before .before .before .before .before .before .before .before .before .before .before .before .before .before .before .before .before .before .before .before .before .before .before .before .before .before .κs) (c .before .before .before .before .before .before .before .before .before .before .before .before .before .before .before .before .before .before .before .before .before .before .before .before .before .before .before .before .before .before .before .before .before .before .before .before .before .before .before .before .args)) (m94 (c .before) (c .slice-known13 .given))
+        lay6 = λ c. (Path'.refl, λ g. λ g'. λ g''. (Path'.refl, λ g'3. (Path'.refl, (store-run-requires record { before = record { before = record { before = record { before = record { before = c .before; slice-known13 = c .slice-known13 }; answers = record { given = g } }; slice-known14 = record { given = g' } }; store-run-arg = record { given = g'' } }; store-run-arg2 = record { given = g'3 } }, λ g'4. lay7 record { before = record { before = record { before = record { before = record { before = record { before = c .before; slice-known13 = c .slice-known13 }; answers = record { given = g } }; slice-known14 = record { given = g' } }; store-run-arg = record { given = g'' } }; store-run-arg2 = record { given = g'3 } }; store-run = Called.called ps·4 r·4 (claims· .9) T146 (record { pos = 58; ty = Syntax.tyRef Syntax.erased Syntax.mut ty·0; ref = λ x. x }, (record { pos = 60; ty = Syntax.tyRef Syntax.erased Syntax.imm ty·1; ref = λ x. x }, (record { pos = 17; ty = Syntax.tyRef (Syntax.named 11) Syntax.imm ty·0; ref = λ x. x }, (record { pos = 16; ty = Syntax.tyRef (Syntax.named 10) Syntax.imm ty·0; ref = λ x. x }, (Num.vAt 1 λ x. x, (record { pos = 23; st = List.[]; d = 0; at = λ x. x }, tt)))))) (m100 record { before = record { before = record { before = record { before = c .before; slice-known13 = c .slice-known13 }; answers = record { given = g } }; slice-known14 = record { given = g' } }; store-run-arg = record { given = g'' } } g'3) g'4 }))))
+
+        lay5 : (c : After-run) → at103 (W0 (c .before .before .before .before .before .before .before .before .before .before .before .before .before .before .before .before .before .before .before .before .before .before .before .before .before .before .κs) (c .before .before .before .before .before .before .before .before .before .before .before .before .before .before .before .before .before .before .before .before .before .before .before .before .before .before .args)) (m78 (c .before) (After-run·gave c))
+        lay5 = λ c. (Path'.refl, λ g. (Path'.refl, λ g'. λ g''. (Path'.refl, λ g'3. λ g'4. (Path'.refl, λ g'5. λ g'6. (Path'.refl, λ g'7. (Path'.refl, λ g'8. λ g'9. (Path'.refl, λ g'10. λ g'11. (Path'.refl, λ g'12. λ g'13. lay6 record { before = record { before = record { before = record { before = record { before = record { before = record { before = record { before = record { before = record { before = record { before = record { before = record { before = record { before = record { before = c .before; run = c .run }; positions = record { given = g } }; outs = record { given = g' } }; slice-known8 = record { given = g'' } }; halves = record { given = g'3 } }; slice-known9 = record { given = g'4 } }; adjacent = record { given = g'5 } }; slice-known10 = record { given = g'6 } }; nodes = record { given = g'7 } }; freed = record { given = g'8 } }; slice-known11 = record { given = g'9 } }; buckets = record { given = g'10 } }; slice-known12 = record { given = g'11 } }; pending = record { given = g'12 } }; slice-known13 = record { given = g'13 } }))))))))
+
+        lay4 : (c : After-enum-told) → at131 (W0 (c .before .before .before .before .before .before .before .before .before .before .before .before .before .before .before .before .κs) (c .before .before .before .before .before .before .before .before .before .before .before .before .before .before .before .before .args)) (m59 (c .before) (c .enum-told .given))
+        lay4 = λ c. λ g. (Path'.refl, λ g'. (Path'.refl, λ g''. (Path'.refl, λ g'3. (Path'.refl, λ g'4. (Path'.refl, λ g'5. (Path'.refl, λ g'6. (Path'.refl, λ g'7. (Path'.refl, λ g'8. (Path'.refl, (run-requires record { before = record { before = record { before = record { before = record { before = record { before = record { before = record { before = record { before = record { before = c .before; enum-told = c .enum-told }; run-arg = record { given = g } }; run-arg2 = record { given = g' } }; run-arg3 = record { given = g'' } }; run-arg4 = record { given = g'3 } }; run-arg5 = record { given = g'4 } }; run-arg6 = record { given = g'5 } }; run-arg7 = record { given = g'6 } }; run-arg8 = record { given = g'7 } }; run-arg9 = record { given = g'8 } }, λ g'9. lay5 record { before = record { before = record { before = record { before = record { before = record { before = record { before = record { before = record { before = record { before = record { before = c .before; enum-told = c .enum-told }; run-arg = record { given = g } }; run-arg2 = record { given = g' } }; run-arg3 = record { given = g'' } }; run-arg4 = record { given = g'3 } }; run-arg5 = record { given = g'4 } }; run-arg6 = record { given = g'5 } }; run-arg7 = record { given = g'6 } }; run-arg8 = record { given = g'7 } }; run-arg9 = record { given = g'8 } }; run = Called.called ps·3 r·3 (claims· .7) T103 (record { pos = 18; st = List.[]; d = 0; at = λ x. x }, (record { pos = 39; ty = Syntax.tyRef Syntax.erased Syntax.mut ty·0; ref = λ x. x }, (record { pos = 41; ty = Syntax.tyRef Syntax.erased Syntax.mut ty·0; ref = λ x. x }, (record { pos = 43; ty = Syntax.tyRef Syntax.erased Syntax.mut ty·0; ref = λ x. x }, (record { pos = 45; ty = Syntax.tyRef Syntax.erased Syntax.mut ty·0; ref = λ x. x }, (record { pos = 47; ty = Syntax.tyRef Syntax.erased Syntax.mut (ELEMMEM.pointee (ELEM.the-row .written)); ref = λ x. x }, (record { pos = 49; ty = Syntax.tyRef Syntax.erased Syntax.mut ty·0; ref = λ x. x }, (record { pos = 51; ty = Syntax.tyRef Syntax.erased Syntax.mut ty·0; ref = λ x. x }, (record { pos = 53; ty = Syntax.tyRef Syntax.erased Syntax.mut ty·0; ref = λ x. x }, (record { pos = 55; ty = Syntax.tyRef Syntax.erased Syntax.mut ty·1; ref = λ x. x }, (record { pos = 19; st = List.[]; d = 0; at = λ x. x }, (record { pos = 16; ty = Syntax.tyRef (Syntax.named 10) Syntax.imm ty·0; ref = λ x. x }, tt)))))))))))) (m77 record { before = record { before = record { before = record { before = record { before = record { before = record { before = record { before = record { before = c .before; enum-told = c .enum-told }; run-arg = record { given = g } }; run-arg2 = record { given = g' } }; run-arg3 = record { given = g'' } }; run-arg4 = record { given = g'3 } }; run-arg5 = record { given = g'4 } }; run-arg6 = record { given = g'5 } }; run-arg7 = record { given = g'6 } }; run-arg8 = record { given = g'7 } } g'8) g'9 }))))))))))
+
+        lay3 : (c : After-finish-refused) → at8 (W1 (c .before .before .before .before .before) (After-check-run·gave (c .before .before .before .before))) (m49 (c .before) (After-finish-refused·gave c))
+        lay3 = λ c. ((tt, (tt, (tt, (MutSlice.fix-len (Row.get 4 (T74 .locals) (m57 (c .before) (After-finish-refused·gave c)) .ptr) (Row.get 4 (T74 .locals) (m57 (c .before) (After-finish-refused·gave c)) .name) (Row.get 4 (T74 .locals) (m57 (c .before) (After-finish-refused·gave c)) .now) (dens (c .before .before .before .before .before .before .before .before .before .before .before .before .before .before .before .before .before .before .κs) (c .before .before .before .before .before .before .before .before .before .before .before .before .before .before .before .before .before .before .args) .1 .1 .1 .0 .now) (same-length record { before = c .before; finish-refused = c .finish-refused }), (MutSlice.fix-len (Row.get 5 (T74 .locals) (m57 (c .before) (After-finish-refused·gave c)) .ptr) (Row.get 5 (T74 .locals) (m57 (c .before) (After-finish-refused·gave c)) .name) (Row.get 5 (T74 .locals) (m57 (c .before) (After-finish-refused·gave c)) .now) (dens (c .before .before .before .before .before .before .before .before .before .before .before .before .before .before .before .before .before .before .κs) (c .before .before .before .before .before .before .before .before .before .before .before .before .before .before .before .before .before .before .args) .1 .1 .1 .1 .0 .now) (same-length-2 record { before = c .before; finish-refused = c .finish-refused }), (MutSlice.fix-len (Row.get 6 (T74 .locals) (m57 (c .before) (After-finish-refused·gave c)) .ptr) (Row.get 6 (T74 .locals) (m57 (c .before) (After-finish-refused·gave c)) .name) (Row.get 6 (T74 .locals) (m57 (c .before) (After-finish-refused·gave c)) .now) (dens (c .before .before .before .before .before .before .before .before .before .before .before .before .before .before .before .before .before .before .κs) (c .before .before .before .before .before .before .before .before .before .before .before .before .before .before .before .before .before .before .args) .1 .1 .1 .1 .1 .0 .now) (same-length-3 record { before = c .before; finish-refused = c .finish-refused }), (MutSlice.fix-len (Row.get 7 (T74 .locals) (m57 (c .before) (After-finish-refused·gave c)) .ptr) (Row.get 7 (T74 .locals) (m57 (c .before) (After-finish-refused·gave c)) .name) (Row.get 7 (T74 .locals) (m57 (c .before) (After-finish-refused·gave c)) .now) (dens (c .before .before .before .before .before .before .before .before .before .before .before .before .before .before .before .before .before .before .κs) (c .before .before .before .before .before .before .before .before .before .before .before .before .before .before .before .before .before .before .args) .1 .1 .1 .1 .1 .1 .0 .now) (same-length-4 record { before = c .before; finish-refused = c .finish-refused }), (MutSlice.fix-len (Row.get 8 (T74 .locals) (m57 (c .before) (After-finish-refused·gave c)) .ptr) (Row.get 8 (T74 .locals) (m57 (c .before) (After-finish-refused·gave c)) .name) (Row.get 8 (T74 .locals) (m57 (c .before) (After-finish-refused·gave c)) .now) (dens (c .before .before .before .before .before .before .before .before .before .before .before .before .before .before .before .before .before .before .κs) (c .before .before .before .before .before .before .before .before .before .before .before .before .before .before .before .before .before .before .args) .1 .1 .1 .1 .1 .1 .1 .0 .now) (same-length-5 record { before = c .before; finish-refused = c .finish-refused }), (Path'.refl, (Path'.refl, (Path'.refl, (Path'.refl, (Path'.refl, (tt, (tt, (Path'.refl, (Path'.refl, tt))))))))))))))))), returns record { before = c .before; finish-refused = c .finish-refused })
+
+        lay2 : (c : After-check-run) → at132 (W0 (c .before .before .before .before .before .before .before .before .before .before .before .before .before .before .κs) (c .before .before .before .before .before .before .before .before .before .before .before .before .before .before .args)) (m28 (c .before) (After-check-run·gave c))
+        lay2 = λ c. (λ k. (enum-known-checked record { before = record { before = c .before; check-run = c .check-run }; match = record { keys1 = k } }, λ g. λ g'. (finish-refused-requires record { before = record { before = record { before = record { before = c .before; check-run = c .check-run }; match = record { keys1 = k } }; checked = record { given = g } }; known-told = record { given = g' } }, λ g''. lay3 record { before = record { before = record { before = record { before = record { before = c .before; check-run = c .check-run }; match = record { keys1 = k } }; checked = record { given = g } }; known-told = record { given = g' } }; finish-refused = Called.called ps·2 r·2 (claims· .5) T65 (record { pos = 18; st = List.[]; d = 0; at = λ x. x }, (record { pos = 22; st = List.[]; d = 0; at = λ x. x }, tt)) (m48 record { before = record { before = record { before = c .before; check-run = c .check-run }; match = record { keys1 = k } }; checked = record { given = g } } g') g'' })), (λ k. (enum-told record { before = record { before = c .before; check-run = c .check-run }; match = record { keys2 = k } }, λ g. lay4 record { before = record { before = record { before = c .before; check-run = c .check-run }; match = record { keys2 = k } }; enum-told = record { given = g } }), Match.each-below 2 (λ j. (Unit {0} × (Run.OneOf (List._∷_ 1 List.[]) j → ⊥)) × (Run.OneOf (List._∷_ 0 List.[]) j → ⊥) → ⊥) (λ n. n .0 .1 Path'.refl, (λ n. n .1 Path'.refl, tt)) (Declared.tagOf Checked.the-type (Row.get 21 (T60 .locals) (m43 (c .before) (After-check-run·gave c)))) (Match.tag-small Checked.the-type (Row.get 21 (T60 .locals) (m43 (c .before) (After-check-run·gave c))))))
+
+        lay1 : (c : After-answers-short) → at154 (W0 (c .before .before .before .before .before .before .before .before .κs) (c .before .before .before .before .before .before .before .before .args)) (m11 (c .before) (After-answers-short·gave c))
+        lay1 = λ c. λ g. (Path'.refl, λ g'. (Path'.refl, λ g''. (Path'.refl, λ g'3. (Path'.refl, λ g'4. (Path'.refl, (check-run-requires record { before = record { before = record { before = record { before = record { before = record { before = c .before; answers-short = c .answers-short }; check-run-arg = record { given = g } }; check-run-arg2 = record { given = g' } }; check-run-arg3 = record { given = g'' } }; check-run-arg4 = record { given = g'3 } }; check-run-arg5 = record { given = g'4 } }, λ g'5. lay2 record { before = record { before = record { before = record { before = record { before = record { before = record { before = c .before; answers-short = c .answers-short }; check-run-arg = record { given = g } }; check-run-arg2 = record { given = g' } }; check-run-arg3 = record { given = g'' } }; check-run-arg4 = record { given = g'3 } }; check-run-arg5 = record { given = g'4 } }; check-run = Called.called ps·1 r·1 (claims· .3) T33 (record { pos = 16; ty = Syntax.tyRef (Syntax.named 10) Syntax.imm ty·0; ref = λ x. x }, (record { pos = 17; ty = Syntax.tyRef (Syntax.named 11) Syntax.imm ty·0; ref = λ x. x }, (record { pos = 18; st = List.[]; d = 0; at = λ x. x }, (record { pos = 26; ty = Syntax.tyRef Syntax.erased Syntax.imm ty·0; ref = λ x. x }, (record { pos = 28; ty = Syntax.tyRef Syntax.erased Syntax.imm ty·0; ref = λ x. x }, (record { pos = 30; ty = Syntax.tyRef Syntax.erased Syntax.imm ty·0; ref = λ x. x }, (record { pos = 32; ty = Syntax.tyRef Syntax.erased Syntax.imm ty·0; ref = λ x. x }, (record { pos = 34; ty = Syntax.tyRef Syntax.erased Syntax.imm ty·0; ref = λ x. x }, (Num.vAt 24 λ x. x, (Num.vAt 35 λ x. x, (Num.vAt 36 λ x. x, (Num.vAt 37 λ x. x, (Bool.bAt 20 λ x. x, tt))))))))))))) (m27 record { before = record { before = record { before = record { before = record { before = c .before; answers-short = c .answers-short }; check-run-arg = record { given = g } }; check-run-arg2 = record { given = g' } }; check-run-arg3 = record { given = g'' } }; check-run-arg4 = record { given = g'3 } } g'4) g'5 }))))))
+
+        pub laid : (c : Start) → at165 (W0 (c .κs) (c .args)) (m0 (c .κs) (c .args))
+        laid = λ c. λ g. λ g'. λ g''. λ g'3. λ g'4. λ g'5. λ g'6. (answers-short-requires record { before = record { before = record { before = record { before = record { before = record { before = record { before = c; slice-known = record { given = g } }; slice-known2 = record { given = g' } }; slice-known3 = record { given = g'' } }; slice-known4 = record { given = g'3 } }; slice-known5 = record { given = g'4 } }; slice-known6 = record { given = g'5 } }; slice-known7 = record { given = g'6 } }, λ g'7. lay1 record { before = record { before = record { before = record { before = record { before = record { before = record { before = record { before = c; slice-known = record { given = g } }; slice-known2 = record { given = g' } }; slice-known3 = record { given = g'' } }; slice-known4 = record { given = g'3 } }; slice-known5 = record { given = g'4 } }; slice-known6 = record { given = g'5 } }; slice-known7 = record { given = g'6 } }; answers-short = Called.called ps·0 r·0 (claims· .1) T11 (Num.vAt 24 λ x. x, (record { pos = 16; ty = Syntax.tyRef (Syntax.named 10) Syntax.imm ty·0; ref = λ x. x }, tt)) (m10 record { before = record { before = record { before = record { before = record { before = record { before = c; slice-known = record { given = g } }; slice-known2 = record { given = g' } }; slice-known3 = record { given = g'' } }; slice-known4 = record { given = g'3 } }; slice-known5 = record { given = g'4 } }; slice-known6 = record { given = g'5 } } g'6) g'7 })
+
+        module _ (κs : Lifetimes.Lfts 12) (qs : Lifetimes.Shares 12) where
+          pub asked : (a : Kinds.Dens κs ps) → (good : Kinds.GoodsP κs ps a) → (pre : Pre· κs a) → (bs : List.List Nat.ℕ) → Φ (Any.wantQ 12 ps r xs m κs qs a (Post· κs a)) (Function.init 12 ps r xs m κs qs a)
+          asked = λ a good pre bs. laid record { κs = κs; args = record { vertices = a .0; edges = a .1 .0; faces = a .1 .1 .0; positions = a .1 .1 .1 .0; heights = a .1 .1 .1 .1 .0; outs = a .1 .1 .1 .1 .1 .0; halves = a .1 .1 .1 .1 .1 .1 .0; adjacent = a .1 .1 .1 .1 .1 .1 .1 .0; nodes = a .1 .1 .1 .1 .1 .1 .1 .1 .0; freed = a .1 .1 .1 .1 .1 .1 .1 .1 .1 .0; buckets = a .1 .1 .1 .1 .1 .1 .1 .1 .1 .1 .0; pending = a .1 .1 .1 .1 .1 .1 .1 .1 .1 .1 .1 .0; answers = a .1 .1 .1 .1 .1 .1 .1 .1 .1 .1 .1 .1 .0; center-x = a .1 .1 .1 .1 .1 .1 .1 .1 .1 .1 .1 .1 .1 .0; center-y = a .1 .1 .1 .1 .1 .1 .1 .1 .1 .1 .1 .1 .1 .1 .0; points = a .1 .1 .1 .1 .1 .1 .1 .1 .1 .1 .1 .1 .1 .1 .1 .0; levels = a .1 .1 .1 .1 .1 .1 .1 .1 .1 .1 .1 .1 .1 .1 .1 .1 .0 }; good = good; fits = record { vertices = record { fits = good .0 .1 }; edges = record { fits = good .1 .0 .1 }; faces = record { fits = good .1 .1 .0 .1 } }; pre = pre }
+
+        module _ {M : Type 1} (𝓤 : URA.URA M) (H : Wp.Heap 𝓤) (A : Atoms.Atoms 𝓤) (W : Kit.Given 𝓤 H A) (𝓣 : Wp.Tables 𝓤 H) (known0 : Plain.Known 𝓤 H A W 𝓣 1 ps·0 r·0 (claims· .0) (claims· .1) "run::answers_short") (known1 : Plain.Known 𝓤 H A W 𝓣 7 ps·1 r·1 (claims· .2) (claims· .3) "surface::check_run") (known2 : Plain.Known 𝓤 H A W 𝓣 0 ps·2 r·2 (claims· .4) (claims· .5) "fithmoul::results::finish_refused") (known3 : Plain.Known 𝓤 H A W 𝓣 10 ps·3 r·3 (claims· .6) (claims· .7) "run::run") (known4 : Plain.Known 𝓤 H A W 𝓣 4 ps·4 r·4 (claims· .8) (claims· .9) "surface::store_run") (known5 : Plain.Known 𝓤 H A W 𝓣 0 ps·5 r·5 (claims· .10) (claims· .11) "fithmoul::results::finish_result") where
+          pub spec : Statement.Triple 𝓤 (Wp.WpFn 𝓤 H (𝓣 .C) (𝓣 .Λ) (Function.fnOf 12 ps r xs m hs body)) (Function.plainOf 𝓤 H A 12 ps r Pre· Post·)
+          spec = Plain.t-fn-plain 𝓤 H A W 𝓣 12 ps r xs m hs body (λ κs qs bs. Φ) (λ κs qs bs bd. typed κs qs 𝓤 H A W 𝓣 (known0, known1, known2, known3, known4, known5) bs bd) Pre· Post· asked
