@@ -1,0 +1,59 @@
+-- `replay_calls::volume_on` meets its contract: what is lent of a row is within it. Assumes nothing.
+use mathlib.Core.Path.{refl}
+use Rattle.test_mesh.proofs.Lent.{part}
+use borrow.Author.Needs.{needs}
+use Rattle.replay_calls.proofs.volume_on.Statement.{statement}
+use Rattle.replay_calls.proofs.volume_on.Tie as tie
+
+array-share-prefix-positions : tie.Need-array-share-prefix-positions
+array-share-prefix-positions c = c .before .before .before .before .before .before .pre .0
+
+slice-aggregate-fithmoul-volume : tie.Need-slice-aggregate-fithmoul-volume
+slice-aggregate-fithmoul-volume c = part _ _ (c .before .before .before .before .before .before .before .args .mesh .positions .row) refl (c .before .before .before .before .before .before .before .pre .0)
+
+array-share-prefix-heights : tie.Need-array-share-prefix-heights
+array-share-prefix-heights c = c .before .before .before .before .before .before .before .pre .1 .0
+
+slice-aggregate-fithmoul-volume-2 : tie.Need-slice-aggregate-fithmoul-volume-2
+slice-aggregate-fithmoul-volume-2 c = part _ _ (c .before .before .before .before .before .before .before .before .args .mesh .heights .row) refl (c .before .before .before .before .before .before .before .before .pre .1 .0)
+
+array-share-prefix-outs : tie.Need-array-share-prefix-outs
+array-share-prefix-outs c = c .before .before .before .before .before .before .before .before .pre .1 .1 .0
+
+slice-aggregate-fithmoul-volume-3 : tie.Need-slice-aggregate-fithmoul-volume-3
+slice-aggregate-fithmoul-volume-3 c = part _ _ (c .before .before .before .before .before .before .before .before .before .args .mesh .outs .row) refl (c .before .before .before .before .before .before .before .before .before .pre .1 .1 .0)
+
+array-share-prefix-halves : tie.Need-array-share-prefix-halves
+array-share-prefix-halves c = c .before .before .before .before .before .before .before .before .before .pre .1 .1 .1 .0
+
+slice-aggregate-fithmoul-volume-4 : tie.Need-slice-aggregate-fithmoul-volume-4
+slice-aggregate-fithmoul-volume-4 c = part _ _ (c .before .before .before .before .before .before .before .before .before .before .args .mesh .halves .row) refl (c .before .before .before .before .before .before .before .before .before .before .pre .1 .1 .1 .0)
+
+array-share-prefix-faces : tie.Need-array-share-prefix-faces
+array-share-prefix-faces c = c .before .before .before .before .before .before .before .before .before .before .pre .1 .1 .1 .1
+
+slice-aggregate-fithmoul-volume-5 : tie.Need-slice-aggregate-fithmoul-volume-5
+slice-aggregate-fithmoul-volume-5 c = part _ _ (c .before .before .before .before .before .before .before .before .before .before .before .args .mesh .faces .row) refl (c .before .before .before .before .before .before .before .before .before .before .before .pre .1 .1 .1 .1)
+
+fithmoul-volume-requires : tie.Need-fithmoul-volume-requires
+fithmoul-volume-requires c κs = search needs
+
+returns : tie.Need-returns
+returns c = search needs
+
+pub volume-on-spec : {M : Type 1} → statement M
+volume-on-spec =
+    tie.close
+    (tie.spec
+    array-share-prefix-positions
+    slice-aggregate-fithmoul-volume
+    array-share-prefix-heights
+    slice-aggregate-fithmoul-volume-2
+    array-share-prefix-outs
+    slice-aggregate-fithmoul-volume-3
+    array-share-prefix-halves
+    slice-aggregate-fithmoul-volume-4
+    array-share-prefix-faces
+    slice-aggregate-fithmoul-volume-5
+    fithmoul-volume-requires
+    returns)
