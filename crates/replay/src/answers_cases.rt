@@ -2,14 +2,13 @@
 // first pass of `fix_convexity`, and the mesh after it. Ours are held against both meshes link by link: counts, positions and every entry of the rows. A run makes the
 // same steps and goes on with all passes and the closing pass. Its answers must be the Rust's too, and it must leave what a finish makes of the Rust's mesh after the
 // first pass, with the faces and flips of that pass and of that finish added up.
-ghost use Prim.Native.Nat.{_≤_};
-ghost use lib.ListN.{length};
+ghost use Rattle.test_mesh.specs.Lent.{CoordinatesLent, MeshLent};
 use super::lines;
 use angle::Point2;
 use fithmoul::results::FinishResult;
-use replay_calls::RunLeft;
-use replay_stages::Passed;
-use replay_stages::Stepped;
+use replay_runs::Passed;
+use replay_runs::RunLeft;
+use replay_runs::Stepped;
 use test_mesh::Agreed;
 use test_mesh::Coordinates;
 use test_mesh::CoordinatesLine;
@@ -52,7 +51,7 @@ fn read_pass(text: &[u8], at: usize) -> PassLine {
 
 // The line `q`.
 fn read_points(text: &[u8], at: usize) -> CoordinatesLine
-    ensures { λ r. ⌜ r .coordinates .length ≤ length (r .coordinates .row) ⌝ }
+    ensures { λ r. ⌜ CoordinatesLent (r .coordinates) ⌝ }
 {
     let q = test_mesh::read_points(text, test_text::behind(text, at));
     let points = q.coordinates;
@@ -133,12 +132,8 @@ fn run_agrees(text: &[u8], at: usize, pass: usize, ran: RunLeft) -> bool {
 
 // Whether all agree with the lines from `a` on.
 fn case_agrees(text: &[u8], at: usize, mesh: Mesh, center: Point2, points: Coordinates) -> bool
-    requires { ⌜ mesh .positions .length ≤ length (mesh .positions .row) ⌝ }
-    requires { ⌜ mesh .heights .length ≤ length (mesh .heights .row) ⌝ }
-    requires { ⌜ mesh .outs .length ≤ length (mesh .outs .row) ⌝ }
-    requires { ⌜ mesh .halves .length ≤ length (mesh .halves .row) ⌝ }
-    requires { ⌜ mesh .faces .length ≤ length (mesh .faces .row) ⌝ }
-    requires { ⌜ points .length ≤ length (points .row) ⌝ }
+    requires { ⌜ MeshLent mesh ⌝ }
+    requires { ⌜ CoordinatesLent points ⌝ }
 {
     let ring = Ring {
         nodes: NODES,
@@ -146,11 +141,11 @@ fn case_agrees(text: &[u8], at: usize, mesh: Mesh, center: Point2, points: Coord
         buckets: WORDS,
     };
     let levels = test_mesh::zero_heights();
-    let ran = replay_calls::run_on(mesh, ring, WORDS, LONGS, center, points, levels, 0);
-    let stepped = replay_stages::steps_on(mesh, center, points);
+    let ran = replay_runs::run_on(mesh, ring, WORDS, LONGS, center, points, levels, 0);
+    let stepped = replay_runs::steps_on(mesh, center, points);
     let last = stepped.mesh;
     let s = steps_agree(text, at, stepped);
-    let p = pass_agrees(text, s.at, replay_stages::pass_on(last));
+    let p = pass_agrees(text, s.at, replay_runs::pass_on(last));
     s.agrees & p & run_agrees(text, at, s.at, ran)
 }
 

@@ -1,5 +1,6 @@
 // The lines that the cases of several calls share.
 ghost use Prim.Native.Nat.{_≤_};
+ghost use Rattle.test_mesh.specs.Lent.{RingLent};
 use angle::Point2;
 use fithmoul::results::FinishResult;
 use math::Point;
@@ -44,9 +45,7 @@ pub struct HeightLine {
 
 // `n nodes freed buckets`
 pub fn read_ring(text: &[u8], at: usize) -> RingLine
-    ensures { λ r. ⌜ r .ring .nodes ≤ 256 ⌝ }
-    ensures { λ r. ⌜ r .ring .freed ≤ 6144 ⌝ }
-    ensures { λ r. ⌜ r .ring .buckets ≤ 6144 ⌝ }
+    ensures { λ r. ⌜ RingLent (r .ring) ⌝ }
 {
     let nodes = test_text::read_number(text, test_text::behind(text, at));
     let freed = test_text::read_number(text, nodes.at);

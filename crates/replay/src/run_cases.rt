@@ -1,10 +1,9 @@
 // Runs by `fithmoul_run` (tests/reference/run_cases.py run): every refusal, every fate, lists of points of many kinds, rings that grow and shrink, long runs of one angle, long walks,
 // pending lists that fill in a step and in the finish. A case agrees where the answer, the counts and every row over its whole length do: the ring's rows, pending
 // and the answers are lent full of sevens.
-ghost use Prim.Native.Nat.{_≤_};
-ghost use lib.ListN.{length};
+ghost use Rattle.test_mesh.specs.Lent.{CoordinatesLent};
 use super::lines;
-use replay_calls::RunLeft;
+use replay_runs::RunLeft;
 use test_mesh::Agreed;
 use test_mesh::CoordinatesLine;
 use test_mesh::LONGS;
@@ -13,7 +12,7 @@ use test_mesh::WORDS;
 
 // `v count x y x y ..`; a last number that stands alone counts as a point.
 fn read_points(text: &[u8], at: usize) -> CoordinatesLine
-    ensures { λ r. ⌜ r .coordinates .length ≤ length (r .coordinates .row) ⌝ }
+    ensures { λ r. ⌜ CoordinatesLent (r .coordinates) ⌝ }
 {
     let count = test_text::read_number(text, test_text::behind(text, at));
     let v = test_mesh::read_points(text, count.at);
@@ -62,7 +61,7 @@ pub fn agrees(text: &[u8], at: usize) -> bool {
     let v = read_points(text, w.at);
     let y = test_mesh::read_heights(text, v.at, b'y');
     let cleared = lines::cleared(text, y.at);
-    let left = replay_calls::run_on(
+    let left = replay_runs::run_on(
         m.mesh,
         n.ring,
         q.length,

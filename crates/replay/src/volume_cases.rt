@@ -5,8 +5,7 @@ use super::lines;
 // A number's pattern in two's complement, as the list has the cubic metres.
 fn pattern(n: i64) -> u64 {
     if n < 0 {
-        let below = -(n + 1);
-        return 18446744073709551615 - (below as u64);
+        return 18446744073709551615 - ((-1 - n) as u64);
     }
     n as u64
 }

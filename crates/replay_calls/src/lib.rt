@@ -1,7 +1,7 @@
-// The exported calls on rows that are owned here: each function lends a case's rows, of which so many entries are the call's, and hands back what the call has answered
-// and left. The ring's rows, pending and the answers are lent with 7 in every entry. Only these functions have a row of nodes to lend; nothing above them does.
+// The exported calls but the run, on rows that are owned here: each function lends the rows of a case, of which so many entries are the call's, and hands back what the
+// call has answered and left. The ring's rows and pending are lent with 7 in every entry. No function above these has a row of nodes.
 ghost use Prim.Native.Nat.{_≤_};
-ghost use lib.ListN.{length};
+ghost use Rattle.test_mesh.specs.Lent.{MeshLent, RingLent};
 use angle::Point2;
 use fithmoul::results::CheckResult;
 use fithmoul::results::FinishResult;
@@ -10,9 +10,6 @@ use fithmoul::results::StepResult;
 use fithmoul::results::VolumeResult;
 use math::Point;
 use mesh::Counts;
-use test_mesh::Coordinates;
-use test_mesh::LONGS;
-use test_mesh::Longs;
 use test_mesh::Mesh;
 use test_mesh::Ring;
 use test_mesh::WORDS;
@@ -37,20 +34,8 @@ pub struct FinishLeft {
     pub cleared: bool,
 }
 
-// What a run has answered and left; whether the ring's rows and pending hold what they must.
-pub struct RunLeft {
-    pub result: FinishResult,
-    pub mesh: Mesh,
-    pub answers: Longs,
-    pub cleared: bool,
-}
-
 pub fn check_on(mesh: Mesh) -> CheckResult
-    requires { ⌜ mesh .positions .length ≤ length (mesh .positions .row) ⌝ }
-    requires { ⌜ mesh .heights .length ≤ length (mesh .heights .row) ⌝ }
-    requires { ⌜ mesh .outs .length ≤ length (mesh .outs .row) ⌝ }
-    requires { ⌜ mesh .halves .length ≤ length (mesh .halves .row) ⌝ }
-    requires { ⌜ mesh .faces .length ≤ length (mesh .faces .row) ⌝ }
+    requires { ⌜ MeshLent mesh ⌝ }
 {
     let positions = mesh.positions.row;
     let heights = mesh.heights.row;
@@ -76,11 +61,7 @@ pub fn check_on(mesh: Mesh) -> CheckResult
 }
 
 pub fn volume_on(mesh: Mesh, level: i32) -> VolumeResult
-    requires { ⌜ mesh .positions .length ≤ length (mesh .positions .row) ⌝ }
-    requires { ⌜ mesh .heights .length ≤ length (mesh .heights .row) ⌝ }
-    requires { ⌜ mesh .outs .length ≤ length (mesh .outs .row) ⌝ }
-    requires { ⌜ mesh .halves .length ≤ length (mesh .halves .row) ⌝ }
-    requires { ⌜ mesh .faces .length ≤ length (mesh .faces .row) ⌝ }
+    requires { ⌜ MeshLent mesh ⌝ }
 {
     let positions = mesh.positions.row;
     let heights = mesh.heights.row;
@@ -108,14 +89,8 @@ pub fn volume_on(mesh: Mesh, level: i32) -> VolumeResult
 
 // The ring's rows must hold zeros after an accepted call, and sevens after a refused one.
 pub fn locate_on(mesh: Mesh, ring: Ring, center: Point2, angle: f64) -> LocateLeft
-    requires { ⌜ mesh .positions .length ≤ length (mesh .positions .row) ⌝ }
-    requires { ⌜ mesh .heights .length ≤ length (mesh .heights .row) ⌝ }
-    requires { ⌜ mesh .outs .length ≤ length (mesh .outs .row) ⌝ }
-    requires { ⌜ mesh .halves .length ≤ length (mesh .halves .row) ⌝ }
-    requires { ⌜ mesh .faces .length ≤ length (mesh .faces .row) ⌝ }
-    requires { ⌜ ring .nodes ≤ 256 ⌝ }
-    requires { ⌜ ring .freed ≤ 6144 ⌝ }
-    requires { ⌜ ring .buckets ≤ 6144 ⌝ }
+    requires { ⌜ MeshLent mesh ⌝ }
+    requires { ⌜ RingLent ring ⌝ }
 {
     let positions = mesh.positions.row;
     let heights = mesh.heights.row;
@@ -167,14 +142,8 @@ pub fn step_on(
     z: i32,
     v: u32,
 ) -> StepLeft
-    requires { ⌜ mesh .positions .length ≤ length (mesh .positions .row) ⌝ }
-    requires { ⌜ mesh .heights .length ≤ length (mesh .heights .row) ⌝ }
-    requires { ⌜ mesh .outs .length ≤ length (mesh .outs .row) ⌝ }
-    requires { ⌜ mesh .halves .length ≤ length (mesh .halves .row) ⌝ }
-    requires { ⌜ mesh .faces .length ≤ length (mesh .faces .row) ⌝ }
-    requires { ⌜ ring .nodes ≤ 256 ⌝ }
-    requires { ⌜ ring .freed ≤ 6144 ⌝ }
-    requires { ⌜ ring .buckets ≤ 6144 ⌝ }
+    requires { ⌜ MeshLent mesh ⌝ }
+    requires { ⌜ RingLent ring ⌝ }
     requires { ⌜ «pending_length» ≤ 6144 ⌝ }
 {
     let mut positions = mesh.positions.row;
@@ -229,11 +198,7 @@ pub fn step_on(
 
 // Pending must hold v after the call.
 pub fn finish_on(mesh: Mesh, pending_length: usize, v: u32) -> FinishLeft
-    requires { ⌜ mesh .positions .length ≤ length (mesh .positions .row) ⌝ }
-    requires { ⌜ mesh .heights .length ≤ length (mesh .heights .row) ⌝ }
-    requires { ⌜ mesh .outs .length ≤ length (mesh .outs .row) ⌝ }
-    requires { ⌜ mesh .halves .length ≤ length (mesh .halves .row) ⌝ }
-    requires { ⌜ mesh .faces .length ≤ length (mesh .faces .row) ⌝ }
+    requires { ⌜ MeshLent mesh ⌝ }
     requires { ⌜ «pending_length» ≤ 6144 ⌝ }
 {
     let positions = mesh.positions.row;
@@ -268,88 +233,5 @@ pub fn finish_on(mesh: Mesh, pending_length: usize, v: u32) -> FinishLeft
         result: r,
         mesh: test_mesh::with_rows(mesh, left, positions, heights, outs, halves, faces),
         cleared: test_mesh::holds(pending, pending_length, v),
-    }
-}
-
-// The ring's rows and pending must hold v after the call.
-pub fn run_on(
-    mesh: Mesh,
-    ring: Ring,
-    pending_length: usize,
-    answers_length: usize,
-    center: Point2,
-    points: Coordinates,
-    levels: Coordinates,
-    v: u32,
-) -> RunLeft
-    requires { ⌜ mesh .positions .length ≤ length (mesh .positions .row) ⌝ }
-    requires { ⌜ mesh .heights .length ≤ length (mesh .heights .row) ⌝ }
-    requires { ⌜ mesh .outs .length ≤ length (mesh .outs .row) ⌝ }
-    requires { ⌜ mesh .halves .length ≤ length (mesh .halves .row) ⌝ }
-    requires { ⌜ mesh .faces .length ≤ length (mesh .faces .row) ⌝ }
-    requires { ⌜ ring .nodes ≤ 256 ⌝ }
-    requires { ⌜ ring .freed ≤ 6144 ⌝ }
-    requires { ⌜ ring .buckets ≤ 6144 ⌝ }
-    requires { ⌜ «pending_length» ≤ 6144 ⌝ }
-    requires { ⌜ «answers_length» ≤ 1280 ⌝ }
-    requires { ⌜ points .length ≤ length (points .row) ⌝ }
-    requires { ⌜ levels .length ≤ length (levels .row) ⌝ }
-{
-    let mut positions = mesh.positions.row;
-    let mut heights = mesh.heights.row;
-    let mut outs = mesh.outs.row;
-    let mut halves = mesh.halves.row;
-    let mut faces = mesh.faces.row;
-    let mut nodes = test_mesh::seven_nodes();
-    let mut freed = [7u32; WORDS];
-    let mut buckets = [7u32; WORDS];
-    let mut pending = [7u32; WORDS];
-    let mut answers = [7u64; LONGS];
-    let list = points.row;
-    let heights_of_list = levels.row;
-    let positions_length = mesh.positions.length;
-    let heights_length = mesh.heights.length;
-    let outs_length = mesh.outs.length;
-    let halves_length = mesh.halves.length;
-    let faces_length = mesh.faces.length;
-    let nodes_length = ring.nodes;
-    let freed_length = ring.freed;
-    let buckets_length = ring.buckets;
-    let points_length = points.length;
-    let levels_length = levels.length;
-    let counts = mesh.counts;
-    let r = fithmoul::fithmoul_run(
-        counts.vertices,
-        counts.edges,
-        counts.faces,
-        &mut positions[..positions_length],
-        &mut heights[..heights_length],
-        &mut outs[..outs_length],
-        &mut halves[..halves_length],
-        &mut faces[..faces_length],
-        &mut nodes[..nodes_length],
-        &mut freed[..freed_length],
-        &mut buckets[..buckets_length],
-        &mut pending[..pending_length],
-        &mut answers[..answers_length],
-        center.x,
-        center.y,
-        &list[..points_length],
-        &heights_of_list[..levels_length],
-    );
-    let left = Counts {
-        vertices: r.vertices,
-        edges: r.edges,
-        faces: r.faces,
-    };
-    RunLeft {
-        result: r,
-        mesh: test_mesh::with_rows(mesh, left, positions, heights, outs, halves, faces),
-        answers: Longs {
-            row: answers,
-            length: answers_length,
-        },
-        cleared: test_mesh::ring_holds(ring, nodes, freed, buckets, v)
-            & test_mesh::holds(pending, pending_length, v),
     }
 }

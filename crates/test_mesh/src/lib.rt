@@ -7,6 +7,7 @@
 ghost use mathlib.Core.Path.{_≡_};
 ghost use Prim.Native.Nat.{_≤_};
 ghost use lib.ListN.{length};
+ghost use Rattle.test_mesh.specs.Lent.{CoordinatesLent, WordsLent, MeshLent};
 use angle::Point2;
 use math::Point;
 use mesh::Counts;
@@ -243,7 +244,7 @@ fn fill_coordinates(text: &[u8], at: usize, row: &mut [i32]) -> usize {
 
 // A row of u32 whose line began so.
 fn read_words(text: &[u8], start: RowStart) -> WordsLine
-    ensures { λ r. ⌜ r .words .length ≤ length (r .words .row) ⌝ }
+    ensures { λ r. ⌜ WordsLent (r .words) ⌝ }
 {
     let past = start.past;
     let filler = test_text::unsigned(past);
@@ -264,7 +265,7 @@ fn read_words(text: &[u8], start: RowStart) -> WordsLine
 
 // A row of coordinates whose line began so.
 fn read_coordinates(text: &[u8], start: RowStart) -> CoordinatesLine
-    ensures { λ r. ⌜ r .coordinates .length ≤ length (r .coordinates .row) ⌝ }
+    ensures { λ r. ⌜ CoordinatesLent (r .coordinates) ⌝ }
 {
     let past = start.past;
     let filler = test_text::signed(past);
@@ -285,7 +286,7 @@ fn read_coordinates(text: &[u8], start: RowStart) -> CoordinatesLine
 
 // Heights where a list has none: zeros, and more than any list needs.
 pub fn zero_heights() -> Coordinates
-    ensures { λ r. ⌜ r .length ≤ length (r .row) ⌝ }
+    ensures { λ r. ⌜ CoordinatesLent r ⌝ }
 {
     Coordinates {
         row: [0i32; COORDINATES],
@@ -295,7 +296,7 @@ pub fn zero_heights() -> Coordinates
 
 // A row of heights, whose line may be missing.
 pub fn read_heights(text: &[u8], at: usize, tag: u8) -> CoordinatesLine
-    ensures { λ r. ⌜ r .coordinates .length ≤ length (r .coordinates .row) ⌝ }
+    ensures { λ r. ⌜ CoordinatesLent (r .coordinates) ⌝ }
 {
     if test_text::byte(text, at) == tag {
         return read_coordinates(text, read_start(text, at, tag, false, COORDINATES));
@@ -310,11 +311,7 @@ pub fn read_heights(text: &[u8], at: usize, tag: u8) -> CoordinatesLine
 
 // Six lines with these tags; that of the heights may be missing.
 pub fn read_mesh(text: &[u8], at: usize, tags: [u8; 6], plain: bool) -> MeshLines
-    ensures { λ r. ⌜ r .mesh .positions .length ≤ length (r .mesh .positions .row) ⌝ }
-    ensures { λ r. ⌜ r .mesh .heights .length ≤ length (r .mesh .heights .row) ⌝ }
-    ensures { λ r. ⌜ r .mesh .outs .length ≤ length (r .mesh .outs .row) ⌝ }
-    ensures { λ r. ⌜ r .mesh .halves .length ≤ length (r .mesh .halves .row) ⌝ }
-    ensures { λ r. ⌜ r .mesh .faces .length ≤ length (r .mesh .faces .row) ⌝ }
+    ensures { λ r. ⌜ MeshLent (r .mesh) ⌝ }
 {
     let m = read_counts(text, at, tags[0]);
     let p = read_coordinates(text, read_start(text, m.at, tags[1], plain, COORDINATES));
@@ -396,7 +393,7 @@ fn numbers_from(text: &[u8], at: usize) -> usize {
 
 // The coordinates of points, as many as the line has from a place on.
 pub fn read_points(text: &[u8], at: usize) -> CoordinatesLine
-    ensures { λ r. ⌜ r .coordinates .length ≤ length (r .coordinates .row) ⌝ }
+    ensures { λ r. ⌜ CoordinatesLent (r .coordinates) ⌝ }
 {
     read_coordinates(
         text,

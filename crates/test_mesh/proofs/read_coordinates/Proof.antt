@@ -31,7 +31,7 @@ byte-requires c κs = search needs
 returns : tie.Need-returns
 returns c =
     let n = c .before .before .before .before .before .before .before .within in
-    whole {A = ℤ} (n .result) (take (n .result) (replicate 512 _)) (c .before .before .before .before .before .fill-coordinates .last .1 .1 .0) (drop (n .result) (replicate 512 _)) (part _ 512 (replicate 512 _) refl (n .ensures)) (c .before .before .before .before .before .fill-coordinates .kept .1 .1 .0)
+    record { within = whole {A = ℤ} (n .result) (take (n .result) (replicate 512 _)) (c .before .before .before .before .before .fill-coordinates .last .1 .1 .0) (drop (n .result) (replicate 512 _)) (part _ 512 (replicate 512 _) refl (n .ensures)) (c .before .before .before .before .before .fill-coordinates .kept .1 .1 .0) }
 
 pub read-coordinates-spec : {M : Type 1} → statement M
 read-coordinates-spec =

@@ -52,7 +52,7 @@ read-words-requires-3 : tie.Need-read-words-requires-3
 read-words-requires-3 c κs = search needs
 
 returns : tie.Need-returns
-returns c = (c .before .before .before .before .before .before .before .before .before .before .before .before .before .before .before .before .before .before .before .read-coordinates .ensures, (c .before .before .before .before .before .before .before .before .before .before .before .before .before .before .before .before .before .before .read-heights .ensures, (c .before .before .before .before .before .before .before .before .before .before .before .before .before .before .before .before .read-words .ensures, (c .before .before .before .before .before .before .before .before .before .before .before .before .before .before .read-words2 .ensures, c .before .before .before .before .before .before .before .before .before .before .before .before .read-words3 .ensures))))
+returns c = record { positions = c .before .before .before .before .before .before .before .before .before .before .before .before .before .before .before .before .before .before .before .read-coordinates .ensures; heights = c .before .before .before .before .before .before .before .before .before .before .before .before .before .before .before .before .before .before .read-heights .ensures; outs = c .before .before .before .before .before .before .before .before .before .before .before .before .before .before .before .before .read-words .ensures; halves = c .before .before .before .before .before .before .before .before .before .before .before .before .before .before .read-words2 .ensures; faces = c .before .before .before .before .before .before .before .before .before .before .before .before .read-words3 .ensures }
 
 pub read-mesh-spec : {M : Type 1} → statement M
 read-mesh-spec =

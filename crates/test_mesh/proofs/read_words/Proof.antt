@@ -31,7 +31,7 @@ byte-requires c κs = search needs
 returns : tie.Need-returns
 returns c =
     let n = c .before .before .before .before .before .before .before .within in
-    whole {A = ℕ} (n .result) (take (n .result) (replicate 6144 _)) (c .before .before .before .before .before .fill-words .last .1 .1 .0) (drop (n .result) (replicate 6144 _)) (part _ 6144 (replicate 6144 _) refl (n .ensures)) (c .before .before .before .before .before .fill-words .kept .1 .1 .0)
+    record { within = whole {A = ℕ} (n .result) (take (n .result) (replicate 6144 _)) (c .before .before .before .before .before .fill-words .last .1 .1 .0) (drop (n .result) (replicate 6144 _)) (part _ 6144 (replicate 6144 _) refl (n .ensures)) (c .before .before .before .before .before .fill-words .kept .1 .1 .0) }
 
 pub read-words-spec : {M : Type 1} → statement M
 read-words-spec =

@@ -1,9 +1,9 @@
--- `replay_stages::steps_on` meets its contract: rows are lent whole, and as many points as there are. Assumes nothing.
+-- `replay_runs::steps_on` meets its contract: rows are lent whole, and as many points as there are. Assumes nothing.
 use mathlib.Core.Path.{refl, sym}
 use Rattle.test_mesh.proofs.Lent.{part}
 use borrow.Author.Needs.{needs}
-use Rattle.replay_stages.proofs.steps_on.Statement.{statement}
-use Rattle.replay_stages.proofs.steps_on.Proof.Tie as tie
+use Rattle.replay_runs.proofs.steps_on.Statement.{statement}
+use Rattle.replay_runs.proofs.steps_on.Proof.Tie as tie
 mod Lts
 mod Tie
 

@@ -1,11 +1,11 @@
--- `replay_calls::run_on` meets its contract: what is lent of a row is within it. Assumes nothing.
+-- `replay_runs::run_on` meets its contract: what is lent of a row is within it. Assumes nothing.
 use mathlib.Core.Path.{refl}
 use lib.ListN.{replicate}
 use Rattle.test_mesh.proofs.Lent.{part}
-use Rattle.replay_calls.proofs.Nodes.{within}
+use Rattle.replay_runs.proofs.Nodes.{within}
 use borrow.Author.Needs.{needs}
-use Rattle.replay_calls.proofs.run_on.Statement.{statement}
-use Rattle.replay_calls.proofs.run_on.Proof.Tie as tie
+use Rattle.replay_runs.proofs.run_on.Statement.{statement}
+use Rattle.replay_runs.proofs.run_on.Proof.Tie as tie
 mod Lts
 mod Tie
 
