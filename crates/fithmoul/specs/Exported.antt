@@ -1,7 +1,7 @@
--- From the contracts of a call's parts to that of the export. Heights refuse: the call is refused and nothing has changed. They do not: the call
--- on the mesh alone is made, whose contract says that an outcome `x`, which a definition gives, is made of the call's answer `y` and the rows;
--- the export's result `r` is `y` in numbers, and `w` is the outcome with heights. So `r` is the answer of `w` in numbers, and the rows are
--- those of `w`. Assumes nothing.
+-- From the contracts of a call's parts to that of the export. Heights refuse: the call is refused and nothing has changed. They do not:
+-- the call on the mesh alone is made, whose contract says that an outcome `x`, which a definition gives, is made of the call's answer `y`
+-- and the rows; the export's result `r` is `y` in numbers, and `w` is the outcome with heights. So `r` is the answer of `w` in numbers,
+-- and the rows are those of `w`. Assumes nothing.
 use mathlib.Core.List.{List}
 use mathlib.Core.Path.{_≡_, refl, sym, _∙_, ap, ap₂}
 use Prim.Native.Nat.{ℕ}

@@ -9,7 +9,6 @@ use lib.Ieee.{Float}
 use lib.IntN.{ℤ}
 use Rattle.angle.specs.declared.Point2.{Point2}
 use Rattle.angle.specs.Angle.{validAngle}
-use Rattle.dcel.specs.MeshRows.{MeshRows}
 use Rattle.finish.specs.declared.Finished.{Finished}
 use Rattle.finish.specs.declared.Totals.{Totals}
 use Rattle.finish.specs.Finish.{Finishing, totalsFrom, finishedFrom, seedChecked, finishOutcome}
@@ -31,7 +30,7 @@ use Rattle.surface.specs.Surface.{surfaceLocate, surfaceFinish, surfaceStepChec
 use Rattle.surface.specs.Surface.{SurfaceRunLent, surfaceRunChecked, surfaceRun}
 use Rattle.surface.specs.SurfaceRunLaws.{CarriedHeights, surface-demand-3, carried-heights}
 use Rattle.sweep.specs.Demand3.{Demand3}
-use Rattle.sweep.specs.Run.{RunLent, runChecked, runOutcome}
+use Rattle.sweep.specs.Run.{runChecked, runOutcome}
 use Rattle.sweep.specs.declared.Stepped.{Stepped}
 use Rattle.sweep.specs.Step.{Stepping, answerOf}
 use Rattle.sweep.specs.StepCall.{answerFrom, stepChecked, stepOutcome}

@@ -1,9 +1,9 @@
-// The public calls, for C, C++, Rust and Rattle: check a mesh, locate an angle, step one point, finish a mesh, run a list of points, and the
-// volume between a mesh and a level. A mesh has a height on each vertex. For a C compiler this page is include/fithmoul.h. A call takes its
-// arguments as numbers and answers a struct of numbers: what it answers and leaves is what a definition gives, for every input (crates
-// `heights`, `surface`, `volume`). A slice is a pointer and a length for C. Nothing is
-// asked of the caller but that each row is there, as long as is said, that no row that is written overlaps another, and that doubles are
-// rounded to nearest and subnormal ones kept (docs/DECISIONS.md, "Who answers for what C cannot check?").
+// The public calls, for C, C++, Rust and Rattle: check a mesh, locate an angle, step one point, finish a mesh, run a list of points, and
+// the volume between a mesh and a level. A mesh has a height on each vertex. For a C compiler this page is include/fithmoul.h. A call
+// takes its arguments as numbers and answers a struct of numbers: what it answers and leaves is what a definition gives, for every input
+// (crates `heights`, `surface`, `volume`). A slice is a pointer and a length for C. Nothing is asked of the caller but that each row is
+// there, as long as is said, that no row that is written overlaps another, and that doubles are rounded to nearest and subnormal ones
+// kept (docs/DECISIONS.md, "Who answers for what C cannot check?").
 ghost use mathlib.Core.Bool.{false};
 ghost use mathlib.Core.Path.{_≡_};
 ghost use Rattle.dcel.specs.MeshRows.{meshRows};
@@ -241,8 +241,8 @@ pub extern "C" fn fithmoul_finish(
     results::finish_result(answer)
 }
 
-// A seed mesh, a centre and a list of points with their heights, to a finished mesh: all steps in list order, then the finish. Refusals 1 to 7,
-// 9 and 10.
+// A seed mesh, a centre and a list of points with their heights, to a finished mesh: all steps in list order, then the finish. Refusals 1
+// to 7, 9 and 10.
 #[no_mangle]
 pub extern "C" fn fithmoul_run(
     vertices: u32,
@@ -261,13 +261,13 @@ pub extern "C" fn fithmoul_run(
     center_x: f64,
     center_y: f64,
     points: &[i32],
-    levels: &[i32],
+    point_heights: &[i32],
 ) -> FinishResult
     ensures { λ r. ⌜ (let l = runLent (counted vertices edges faces)
         (meshRows (now (positions .entry)) (now (outs .entry)) (now (halves .entry)) (now (adjacent .entry)))
         (ringRows (now (nodes .entry)) (now (freed .entry)) (now (buckets .entry))) (now (pending .entry)) (now (answers .entry))
         (centerAt «center_x» «center_y») (now (points .entry)) in
-        let g = surfaceRunLent l (now (heights .entry)) (now (levels .entry)) in let w = surfaceRun g in
+        let g = surfaceRunLent l (now (heights .entry)) (now («point_heights» .entry)) in let w = surfaceRun g in
         (r ≡ finishResult (w .call .answer))
         × (surfaceRan (ranWith (w .call .answer)
         (meshRows (now (positions .exit)) (now (outs .exit)) (now (halves .exit)) (now (adjacent .exit)))
@@ -287,7 +287,7 @@ pub extern "C" fn fithmoul_run(
     let few = run::answers_short(answers.len(), points);
     let checked = surface::check_run(
         points,
-        levels,
+        point_heights,
         counts,
         positions,
         heights,
@@ -317,12 +317,12 @@ pub extern "C" fn fithmoul_run(
         center,
         points,
     );
-    surface::store_run(heights, answers, levels, points, vertices, answer);
+    surface::store_run(heights, answers, point_heights, points, vertices, answer);
     results::finish_result(answer)
 }
 
-// The volume between a mesh and a level: six times it, exactly, and in whole cubic metres, positive where the mesh is above. Refusals 1 to 5,
-// and 10.
+// The volume between a mesh and a level: six times it, exactly, and in whole cubic metres, positive where the mesh is above. Refusals 1
+// to 5, and 10.
 #[no_mangle]
 pub extern "C" fn fithmoul_volume(
     vertices: u32,
@@ -336,7 +336,8 @@ pub extern "C" fn fithmoul_volume(
     level: i32,
 ) -> VolumeResult
     ensures { λ r. ⌜ r ≡ volumeResult (volumeOf (counted vertices edges faces) (surfaceRows
-        (meshRows (now (positions .entry)) (now (outs .entry)) (now (halves .entry)) (now (adjacent .entry))) (now (heights .entry))) level) ⌝ }
+        (meshRows (now (positions .entry)) (now (outs .entry)) (now (halves .entry)) (now (adjacent .entry)))
+        (now (heights .entry))) level) ⌝ }
 {
     let counts = Counts {
         vertices: vertices,

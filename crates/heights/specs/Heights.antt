@@ -45,25 +45,25 @@ abbrev pub heightsShort : ℕ → List ℤ → Bool
 heightsShort n row = ltb (length row) n
 
 -- ---- a call's checks
--- What a call that has heights is given besides its mesh: points and their heights, both empty where it has none; whether another of its rows,
--- neither the mesh's nor one of these, is too short; and whether a level is outside
+-- What a call that has heights is given besides its mesh: points and their heights, both empty where it has none; whether another of its
+-- rows, neither the mesh's nor one of these, is too short; and whether a level is outside
 pub record HeightsLent : Type 0 where
   pub points : List ℤ
-  pub levels : List ℤ
+  pub pointHeights : List ℤ
   pub short : Bool
   pub outside : Bool
 
 abbrev pub heightsLent : List ℤ → List ℤ → Bool → Bool → HeightsLent
-heightsLent points levels short outside = record { points = points; levels = levels; short = short; outside = outside }
+heightsLent points pointHeights short outside = record { points = points; pointHeights = pointHeights; short = short; outside = outside }
 
 -- 01's sizes are for "N vertices", the seed's and the points': so many heights, and one for each point
 unfoldable pub anyHeightsShort : HeightsLent → Counts → List ℤ → Bool
-anyHeightsShort g C heights = heightsShort (vertexCount C (g .points)) heights || heightsShort (pointCount (g .points)) (g .levels)
+anyHeightsShort g C heights = heightsShort (vertexCount C (g .points)) heights || heightsShort (pointCount (g .points)) (g .pointHeights)
 
 -- the heights of the vertices in use and of the points
 unfoldable pub anyHeightsOutside : HeightsLent → Counts → List ℤ → Bool
 anyHeightsOutside g C heights =
-    g .outside || (heightsOutside (C .vertices) heights || heightsOutside (pointCount (g .points)) (g .levels))
+    g .outside || (heightsOutside (C .vertices) heights || heightsOutside (pointCount (g .points)) (g .pointHeights))
 
 -- "10 .. checked straight after 3": rows 1, 2 and 3 of the table, and then 10, which names no place
 unfoldable pub checkTen : List ℤ → Bool → Bool → Counts → MeshRows → Checked

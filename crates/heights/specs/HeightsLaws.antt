@@ -1,13 +1,12 @@
--- What the checks with heights come to: where no row of heights is too short and no height outside, heights refuse nothing, and a call's own
--- table decides (`tested-then`); otherwise the answer is one of 1, 2, 3 and 10 (`heights-numbered`). What is accepted has its heights, all of
--- them in range (`heights-accept`). Assumes nothing.
+-- What the checks with heights come to: where no row of heights is too short and no height outside, heights refuse nothing, and a call's
+-- own table decides (`tested-then`); otherwise the answer is one of 1, 2, 3 and 10 (`heights-numbered`). What is accepted has its
+-- heights, all of them in range (`heights-accept`). Assumes nothing.
 use mathlib.Core.Bool.{Bool, true, false, not, cond, _||_}
 use mathlib.Core.List.{List, []}
-use mathlib.Core.Path.{_≡_, refl, sym, _∙_, ap, subst}
-use Prim.Native.Nat.{ℕ, _+_, _<_, _≤_}
+use mathlib.Core.Path.{_≡_, refl, sym, _∙_, ap}
+use Prim.Native.Nat.{ℕ, _<_, _≤_}
 use native.Mathlib.Omega.{arith}
 use borrow.Author.Tests.{ltb-false, leb-true}
-use lib.Dec.{T, ltb, leb}
 use lib.IntN.{ℤ, natAbs}
 use lib.ListN.{length}
 use Rattle.dcel.specs.MeshRows.{MeshRows}
@@ -19,7 +18,7 @@ use Rattle.mesh_check.specs.Accepted.{or-false, AcceptedMesh, check-accepts, ra
 use Rattle.mesh_check.specs.Check.{refused, andThen, pointCount, vertexCount, rangeWith, checkWith, checkOf}
 use Rattle.mesh_check.specs.CheckLaws.{NumberedTo, accepts, numbered-more, numbered-cond, range-numbered, check-numbered}
 use Rattle.mesh_check.specs.CheckLaws.{then-next, then-refused, then-accepts, then-numbered}
-use Rattle.sums.specs.Bit.{from-false, from-true, is-false, is-true, sure}
+use Rattle.sums.specs.Bit.{from-false, is-true, sure}
 use Rattle.sums.specs.Bounded.{none-below→}
 use Rattle.heights.specs.Heights.{SurfaceRows, heightOf, isValidHeight, heightsOutside, heightsShort, HeightsLent}
 use Rattle.heights.specs.Heights.{HeightsGiven, checkTen, anyHeightsShort, anyHeightsOutside, heightsChecked, heightsTested, meshLent, surfaceChecked}
@@ -69,31 +68,31 @@ module _ (g : HeightsLent) (C : Counts) (s : SurfaceRows) where
   -- what is accepted: a height for each vertex and point, those of the vertices in use and of the points inside, and a level too
   pub record HeightsAccepted : Type 0 where
     pub vertices : vertexCount C (g .points) ≤ length (s .heights)
-    pub points : pointCount (g .points) ≤ length (g .levels)
+    pub points : pointCount (g .points) ≤ length (g .pointHeights)
     pub height : {v : ℕ} → v < C .vertices → natAbs (heightOf (s .heights) v) ≤ 1048576
-    pub level : {i : ℕ} → i < pointCount (g .points) → natAbs (heightOf (g .levels) i) ≤ 1048576
+    pub point-height : {i : ℕ} → i < pointCount (g .points) → natAbs (heightOf (g .pointHeights) i) ≤ 1048576
     pub inside : g .outside ≡ false
 
   pub long-enough : anyHeightsShort g C (s .heights) ≡ false
-      → (vertexCount C (g .points) ≤ length (s .heights)) × (pointCount (g .points) ≤ length (g .levels))
+      → (vertexCount C (g .points) ≤ length (s .heights)) × (pointCount (g .points) ≤ length (g .pointHeights))
   unfolding anyHeightsShort
   long-enough e =
-      let a = or-false (heightsShort (vertexCount C (g .points)) (s .heights)) (heightsShort (pointCount (g .points)) (g .levels)) e in
-      (ltb-false (length (s .heights)) (vertexCount C (g .points)) (a .0), ltb-false (length (g .levels)) (pointCount (g .points)) (a .1))
+      let a = or-false (heightsShort (vertexCount C (g .points)) (s .heights)) (heightsShort (pointCount (g .points)) (g .pointHeights)) e in
+      (ltb-false (length (s .heights)) (vertexCount C (g .points)) (a .0), ltb-false (length (g .pointHeights)) (pointCount (g .points)) (a .1))
 
   all-inside : anyHeightsShort g C (s .heights) ≡ false → anyHeightsOutside g C (s .heights) ≡ false → HeightsAccepted
   unfolding anyHeightsOutside
   all-inside e f =
       let l = long-enough e in
       let first = heightsOutside (C .vertices) (s .heights) in
-      let second = heightsOutside (pointCount (g .points)) (g .levels) in
+      let second = heightsOutside (pointCount (g .points)) (g .pointHeights) in
       let a = or-false (g .outside) (first || second) f in
       let b = or-false first second (a .1) in
       record {
         vertices = l .0;
         points = l .1;
         height = none-outside (C .vertices) (s .heights) (b .0);
-        level = none-outside (pointCount (g .points)) (g .levels) (b .1);
+        point-height = none-outside (pointCount (g .points)) (g .pointHeights) (b .1);
         inside = a .0;
       }
 

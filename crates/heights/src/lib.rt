@@ -1,6 +1,6 @@
-// Heights on the vertices, in a row of their own beside the mesh's: a height read and stored, the range of heights, and refusal 10, which comes
-// straight after 3. The call `check` of a mesh with heights.
-// What each function answers is an equation with a definition of `specs/Heights.antt`.
+// Heights on the vertices, in a row of their own beside the mesh's: a height read and stored, the range of heights, and refusal 10, which
+// comes straight after 3. The call `check` of a mesh with heights. What each function answers is an equation with a definition of
+// `specs/Heights.antt`.
 ghost use mathlib.Core.Bool.{Bool};
 ghost use mathlib.Core.Path.{_≡_};
 ghost use Prim.Native.Nat.{_<_, _≤_};
@@ -66,27 +66,27 @@ pub fn heights_outside(row: &[i32], count: usize) -> bool
 }
 
 // A row of heights is too short: one for each vertex, those that the points may become among them, and one for each point.
-fn any_heights_short(points: &[i32], levels: &[i32], counts: Counts, heights: &[i32]) -> bool
+fn any_heights_short(points: &[i32], point_heights: &[i32], counts: Counts, heights: &[i32]) -> bool
     ensures { λ r. ⌜ ((short outside : Bool)
-        → r ≡ anyHeightsShort (heightsLent (now (points .entry)) (now (levels .entry)) short outside) counts (now (heights .entry))) ⌝ }
+        → r ≡ anyHeightsShort (heightsLent (now (points .entry)) (now («point_heights» .entry)) short outside) counts (now (heights .entry))) ⌝ }
 {
     if heights.len() < mesh_check::vertex_count(counts, points) {
         return true;
     }
-    levels.len() < mesh_check::point_count(points)
+    point_heights.len() < mesh_check::point_count(points)
 }
 
 // A height of a vertex in use or of a point is outside, or `outside`.
 fn any_heights_outside(
     points: &[i32],
-    levels: &[i32],
+    point_heights: &[i32],
     outside: bool,
     counts: Counts,
     heights: &[i32],
 ) -> bool
-    requires { ⌜ (vertexCount counts (now points) ≤ length (now heights)) × (pointCount (now points) ≤ length (now levels)) ⌝ }
+    requires { ⌜ (vertexCount counts (now points) ≤ length (now heights)) × (pointCount (now points) ≤ length (now «point_heights»)) ⌝ }
     ensures { λ r. ⌜ ((short : Bool)
-        → r ≡ anyHeightsOutside (heightsLent (now (points .entry)) (now (levels .entry)) short outside) counts (now (heights .entry))) ⌝ }
+        → r ≡ anyHeightsOutside (heightsLent (now (points .entry)) (now («point_heights» .entry)) short outside) counts (now (heights .entry))) ⌝ }
 {
     if outside {
         return true;
@@ -94,7 +94,7 @@ fn any_heights_outside(
     if heights_outside(heights, counts.vertices as usize) {
         return true;
     }
-    heights_outside(levels, mesh_check::point_count(points))
+    heights_outside(point_heights, mesh_check::point_count(points))
 }
 
 // Rows 1, 2 and 3 of the table, and then 10 where `outside`. `short`: a row is too short that is neither the mesh's nor that of the points.
@@ -130,7 +130,7 @@ fn check_ten(
 // those of the call's own table.
 pub fn check_heights(
     points: &[i32],
-    levels: &[i32],
+    point_heights: &[i32],
     short: bool,
     outside: bool,
     counts: Counts,
@@ -140,11 +140,11 @@ pub fn check_heights(
     halves: &[u32],
     faces: &[u32],
 ) -> Checked
-    ensures { λ r. ⌜ r ≡ heightsTested (heightsLent (now (points .entry)) (now (levels .entry)) short outside) counts
+    ensures { λ r. ⌜ r ≡ heightsTested (heightsLent (now (points .entry)) (now («point_heights» .entry)) short outside) counts
         (surfaceRows (meshRows (now (positions .entry)) (now (outs .entry)) (now (halves .entry)) (now (faces .entry)))
         (now (heights .entry))) ⌝ }
 {
-    if any_heights_short(points, levels, counts, heights) {
+    if any_heights_short(points, point_heights, counts, heights) {
         return check_ten(
             points,
             true,
@@ -156,7 +156,7 @@ pub fn check_heights(
             faces,
         );
     }
-    if any_heights_outside(points, levels, outside, counts, heights) {
+    if any_heights_outside(points, point_heights, outside, counts, heights) {
         return check_ten(points, short, true, counts, positions, outs, halves, faces);
     }
     Checked::Accepted

@@ -26,8 +26,8 @@ use Rattle.mesh_check.specs.declared.Checked.{Checked}
 use Rattle.mesh_check.specs.declared.Checked.the-variants.{Accepted, Refused}
 use Rattle.mesh_check.specs.declared.Refusal.{Refusal}
 use Rattle.mesh_check.specs.Accepted.{AcceptedWith, with-accepts, or-false}
-use Rattle.mesh_check.specs.Check.{refused, andThen, checkWith, vertexCount}
-use Rattle.mesh_check.specs.CheckLaws.{NumberedTo, accepts, refuses, numbered-more, numbered-cond, check-numbered, then-next, then-refused, then-accepts, then-numbered}
+use Rattle.mesh_check.specs.Check.{refused, checkWith, vertexCount}
+use Rattle.mesh_check.specs.CheckLaws.{NumberedTo, accepts, numbered-more, numbered-cond, check-numbered, then-next, then-refused, then-accepts, then-numbered}
 use Rattle.ring.specs.Ring.{isStrictRing}
 use Rattle.ring.specs.Center.{turnsAbout, refusesCenter, refusesRing}
 use Rattle.sums.specs.Bit.{from-false, sure}

@@ -9,7 +9,7 @@ use lib.Dec.{ltb}
 use lib.IntN.{ℤ}
 use lib.ListN.{length}
 use borrow.Author.Tests.{ltb-false}
-use Rattle.dcel.specs.MeshRows.{MeshRows, linksIn, placesIn}
+use Rattle.dcel.specs.MeshRows.{MeshRows, linksIn}
 use Rattle.dcel.specs.Rows.{Placed}
 use Rattle.mesh.specs.declared.Counts.{Counts}
 use Rattle.mesh.specs.Rules.{rules}

@@ -1,6 +1,6 @@
--- Each row of the table, as it is met (`range-..`, `faces-..`), one after the other (`then-..`); only the positions of the counted vertices matter (`check-agree`);
--- and a mesh passes exactly when it is good and within the limits (`accepted-passes`, `passes-accepted`); a refusal's
--- number is from 1 to 5 (`check-numbered`). Assumes nothing.
+-- Each row of the table, as it is met (`range-..`, `faces-..`), one after the other (`then-..`); only the positions of the counted
+-- vertices matter (`check-agree`); and a mesh passes exactly when it is good and within the limits (`accepted-passes`,
+-- `passes-accepted`); a refusal's number is from 1 to 5 (`check-numbered`). Assumes nothing.
 use mathlib.Core.Path.{_≡_, refl, sym, _∙_, ap, subst}
 use mathlib.Core.Bool.{Bool, true, false, not, _&&_, _||_, cond}
 use Prim.Native.Nat.{ℕ, _*_, _<_, _≤_}
@@ -9,7 +9,7 @@ use borrow.Author.Tests.{lt-ltb, le-ltb, ltb-false, not-false}
 use lib.Dec.{T, ltb, ltb→lt, lt→ltb, T-not}
 use lib.Signed.{ltZ-yes}
 use Rattle.math.specs.declared.Point.{Point}
-use Rattle.math.specs.Determinant.{InRange, isValidCoordinate, isValidVertex}
+use Rattle.math.specs.Determinant.{InRange, isValidVertex}
 use Rattle.math.specs.Range.{in-range, valid-vertex}
 use Rattle.mesh.specs.declared.Counts.{Counts}
 use Rattle.mesh.specs.Mesh.{Links}

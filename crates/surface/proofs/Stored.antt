@@ -21,7 +21,7 @@ use Rattle.sums.specs.Bounded.{count, count-suc, count-le}
 use Rattle.sums.specs.Put.{put}
 use Rattle.sweep.specs.StepCall.{pointRow}
 use Rattle.surface.specs.StoreReady.{AddedRoom, StoreRoom, StoreReady}
-use Rattle.surface.specs.Surface.{heightStored, fateWord, addedAmong, answeredHeights, isMade, placeOf, finishedHeights}
+use Rattle.surface.specs.StoredHeights.{heightStored, fateWord, addedAmong, answeredHeights, isMade, placeOf, finishedHeights}
 
 pub none-added : (fate : ℕ → ℕ) (seed : ℕ) → seed ≡ seed + addedAmong fate 0
 unfolding count
@@ -75,12 +75,12 @@ module _ (fate : ℕ → ℕ) (seed : ℕ) (z h : ℕ → ℤ) (i : ℕ) where
       plus = omega arith
 
 -- the rows have room for the next
-pub room-more : {seed n heights heights′ levels : ℕ} {answers : List ℕ} → StoreRoom seed n heights levels answers → {v i : ℕ}
-    → v ≡ seed + addedAmong (fateWord answers) i → heights′ ≡ heights → i < n → AddedRoom heights′ (length answers) levels v i
+pub room-more : {seed n heights heights′ pointHeights : ℕ} {answers : List ℕ} → StoreRoom seed n heights pointHeights answers → {v i : ℕ}
+    → v ≡ seed + addedAmong (fateWord answers) i → heights′ ≡ heights → i < n → AddedRoom heights′ (length answers) pointHeights v i
 room-more {answers = answers} R {v} {i} e l k =
     let c = count-le i (λ j. eqb (fateWord answers j) 1) in
-    let a = R .heights-room in let b = R .levels-room in let d = R .answers-room in let s = R .small in
-    record { vertex = omega arith; answer = omega arith; level = omega arith; small = omega arith }
+    let a = R .heights-room in let b = R .points-room in let d = R .answers-room in let s = R .small in
+    record { vertex = omega arith; answer = omega arith; height = omega arith; small = omega arith }
 
 -- ---- a whole run
 module _ (r : FinishAnswer) (fate : ℕ → ℕ) (seed : ℕ) (z h : ℕ → ℤ) (n : ℕ) where
@@ -104,9 +104,9 @@ module _ (r : FinishAnswer) (fate : ℕ → ℕ) (seed : ℕ) (z h : ℕ → ℤ
         rw (e, lt-ltb (seed + addedAmong fate n) (r .counts .vertices) k, ← p, ← a, ← b, ← q) c
 
 -- the height of a vertex that has no answer is there
-pub last-level : {seed n heights levels : ℕ} {answers : List ℕ} {r : FinishAnswer} → StoreReady seed n heights levels answers r
+pub last-height : {seed n heights pointHeights : ℕ} {answers : List ℕ} {r : FinishAnswer} → StoreReady seed n heights pointHeights answers r
     → isMade (r .finished) ≡ true → {v m place : ℕ} → m ≡ n → v ≡ seed + addedAmong (fateWord answers) m → v < r .counts .vertices
-    → place ≡ placeOf (r .finished) → place < levels
-last-level {seed} {n} {answers = answers} {r = r} S e {m = m} p a l q =
+    → place ≡ placeOf (r .finished) → place < pointHeights
+last-height {seed} {n} {answers = answers} {r = r} S e {m = m} p a l q =
     let k = S .place e (subst (λ (x : ℕ). seed + addedAmong (fateWord answers) x < r .counts .vertices) p (omega arith)) in
-    let b = S .room e .levels-room in omega arith
+    let b = S .room e .points-room in omega arith

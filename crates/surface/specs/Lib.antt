@@ -1,4 +1,5 @@
 pub mod Surface
+pub mod StoredHeights
 pub mod StoreReady
 pub mod SurfaceLaws
 pub mod RunHeights

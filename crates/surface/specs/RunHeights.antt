@@ -1,34 +1,33 @@
--- The heights that a run leaves: what they are vertex by vertex (`SweptHeights`), and that they can be had from the answers alone, since vertices
--- are numbered in list order (`run-stored`). Assumes nothing.
+-- The heights that a run leaves: what they are vertex by vertex (`SweptHeights`), and that they can be had from the answers alone, since
+-- vertices are numbered in list order (`run-stored`). Assumes nothing.
 use mathlib.Core.Bool.{Bool, true, false, cond, false≢true}
-use mathlib.Core.List.{List}
-use mathlib.Core.Path.{_≡_, refl, sym, _∙_, ap, subst, subst⁻¹}
-use Prim.Native.Nat.{ℕ, zero, suc, _+_, _-_, _*_, _<_, _≤_}
-use native.Mathlib.Decide.{ℕ-discrete, decLt}
+use mathlib.Core.Path.{_≡_, refl, sym, _∙_, ap}
+use Prim.Native.Nat.{ℕ, zero, suc, _+_, _-_, _<_, _≤_}
+use native.Mathlib.Decide.{ℕ-discrete}
 use native.Mathlib.Omega.{arith}
-use borrow.Author.Tests.{lt-ltb, le-ltb, eq-eqb, ne-eqb}
+use borrow.Author.Tests.{lt-ltb, le-ltb}
 use lib.Dec.{ltb, eqb}
 use lib.IntN.{ℤ}
 use lib.ListN.{length}
 use Rattle.dcel.specs.MeshRows.{linksIn, placesIn}
-use Rattle.dcel.specs.Rows.{positionOf, rowOf}
+use Rattle.dcel.specs.Rows.{positionOf}
 use Rattle.decide.specs.declared.Fate.{Fate}
 use Rattle.decide.specs.declared.Fate.the-variants.{Added, Dropped, NotLeft, Unsound, AtCenter}
 use Rattle.decide.specs.Decide.{fateNumber}
-use Rattle.math.specs.Determinant.{InRange}
 use Rattle.mesh_check.specs.declared.Checked.{Checked}
 use Rattle.mesh_check.specs.Check.{pointCount}
 use Rattle.sums.specs.Bit.{bit, from-true}
 use Rattle.sums.specs.Bounded.{count, count-suc, count-ext, count-before}
 use Rattle.sums.specs.Put.{put, put-same, put-other}
 use Rattle.sweep.specs.Fates.{number-added, is-added}
-use Rattle.sweep.specs.Run.{Sweeping, sweepAfter, stepAt, RunLent, runChecked, sweepOf, stepsOf, runFinish}
+use Rattle.sweep.specs.Run.{Sweeping, sweepAfter, RunLent, runChecked, sweepOf, stepsOf, runFinish}
 use Rattle.sweep.specs.RunLaws.{run-swept, run-start, run-vertices}
-use Rattle.sweep.specs.Step.{Stepping, isAdded, stepMesh}
+use Rattle.sweep.specs.Step.{Stepping, isAdded}
 use Rattle.sweep.specs.StepCallLaws.{step-fate, full-added}
-use Rattle.sweep.specs.StepMesh.{Swept, added-of}
+use Rattle.sweep.specs.StepMesh.{added-of}
 use Rattle.sweep.specs.SweepLaws.{SweepKeeps, sweep-keeps, sweep-point, sweep-stays, step-count}
-use Rattle.surface.specs.Surface.{heightAdded, heightStored, sweepHeights, answeredHeights}
+use Rattle.surface.specs.StoredHeights.{heightStored, answeredHeights}
+use Rattle.surface.specs.Surface.{heightAdded, sweepHeights}
 
 -- ---- one point
 -- a point that is not added leaves the heights as they are

@@ -1,11 +1,11 @@
--- The calls on a mesh whose vertices have heights: `locate`, `step`, `finish` and `run`. (`check` is heights/Heights `surfaceChecked`.) Each has
--- the table of the call on the mesh alone, with 10 straight after 3, and does what that call does; a step and a run store the heights of the
--- vertices that they add. Definitions only, and each computes; `SurfaceLaws` and `RunHeights` say what they come to.
--- 02, Change 1: "Every call that carries a vertex carries it through." "Links and fates keep ignoring z."
-use mathlib.Core.Bool.{Bool, true, false, cond}
+-- The calls on a mesh whose vertices have heights: `locate`, `step`, `finish` and `run`. (`check` is heights/Heights `surfaceChecked`.)
+-- Each has the table of the call on the mesh alone, with 10 straight after 3, and does what that call does; a step and a run store the
+-- heights of the vertices that they add. Definitions only, and each computes; `SurfaceLaws` and `RunHeights` say what they come to. 02,
+-- Change 1: "Every call that carries a vertex carries it through." "Links and fates keep ignoring z."
+use mathlib.Core.Bool.{false, cond}
 use mathlib.Core.List.{List, [], _∷_}
-use Prim.Native.Nat.{ℕ, zero, suc, _+_, _*_}
-use lib.Dec.{ltb, eqb}
+use Prim.Native.Nat.{ℕ, zero, suc, _*_}
+use lib.Dec.{ltb}
 use lib.Ieee.{Float}
 use lib.IntN.{ℤ}
 use lib.ListN.{length}
@@ -15,10 +15,8 @@ use Rattle.dcel.specs.MeshRows.{linksIn, placesIn}
 use Rattle.dcel.specs.Rows.{rowFrom}
 use Rattle.decide.specs.declared.Fate.{Fate}
 use Rattle.decide.specs.declared.Fate.the-variants.{Added, Dropped, NotLeft, Unsound, AtCenter}
-use Rattle.finish.specs.declared.FinishAnswer.{FinishAnswer}
-use Rattle.finish.specs.declared.Finished.{Finished}
 use Rattle.finish.specs.Finish.{FinishOutcome, finishMesh, finishOutcome, seedChecked}
-use Rattle.heights.specs.Heights.{SurfaceRows, heightOf, heightsIn, heightsLent, heightsChecked}
+use Rattle.heights.specs.Heights.{SurfaceRows, surfaceRows, heightOf, heightsIn, heightsLent, heightsChecked}
 use Rattle.locate.specs.Locate.{ringShort, checkStart, checkAngle, placeAt, LocateOutcome, locateOutcome}
 use Rattle.math.specs.declared.Point.{Point}
 use Rattle.mesh.specs.declared.Counts.{Counts}
@@ -27,9 +25,8 @@ use Rattle.mesh_check.specs.Check.{andThen, pointCount, vertexCount}
 use Rattle.ring.specs.Center.{turnsAbout}
 use Rattle.ring_rows.specs.RingRows.{RingRows}
 use Rattle.start.specs.Start.{sweepRowsShort}
-use Rattle.sums.specs.Bounded.{count}
 use Rattle.sums.specs.Put.{put}
-use Rattle.sweep.specs.Run.{answerWords, answerIn, RunLent, RunOutcome, runChecked, sweepOf, stepsOf, runOutcome}
+use Rattle.sweep.specs.Run.{answerWords, RunLent, RunOutcome, runChecked, sweepOf, stepsOf, runOutcome}
 use Rattle.sweep.specs.Step.{stepMesh}
 use Rattle.sweep.specs.StepCall.{StepOutcome, pointRow, stepChecked, stepOutcome}
 
@@ -56,10 +53,6 @@ heightAdded NotLeft z h = h
 heightAdded Unsound z h = h
 heightAdded AtCenter z h = h
 
--- the same from the numbers of vertices before and after a step: it adds one at most
-unfoldable pub heightStored : (ℕ → ℤ) → ℕ → ℕ → ℤ → ℕ → ℤ
-heightStored h before after z = cond (ltb before after) (put h before z) h
-
 -- 01: "All but 9 change nothing lent"; the function has every entry of its row
 unfoldable pub heightsAfter : Checked → List ℤ → (ℕ → ℤ) → List ℤ
 heightsAfter (Checked.Refused r) row h = row
@@ -83,19 +76,21 @@ surfaceStepChecked C s nodes freed buckets pending center v z =
 
 unfoldable pub surfaceStep : Counts → SurfaceRows → RingRows → List ℕ → Point2 → Point → ℤ → SurfaceStepped
 surfaceStep C s ring pending center v z =
-    let checked = surfaceStepChecked C s (length (ring .nodes)) (length (ring .freed)) (length (ring .buckets)) (length pending) center v z in
+    let checked =
+    surfaceStepChecked C s (length (ring .nodes)) (length (ring .freed)) (length (ring .buckets)) (length pending) center v z in
     let t = stepMesh (length pending) (center .x) (center .y) C (linksIn (s .mesh)) (placesIn (s .mesh)) v in
-    surfaceStepped (stepOutcome C (s .mesh) ring pending checked t) (heightsAfter checked (s .heights) (heightAdded (t .fate) z (heightsIn s)))
+    surfaceStepped (stepOutcome C (s .mesh) ring pending checked t)
+    (heightsAfter checked (s .heights) (heightAdded (t .fate) z (heightsIn s)))
 
 -- ---- run
 -- what is lent: what a run on the mesh alone is lent, the vertices' heights and the points'
 pub record SurfaceRunLent : Type 0 where
   pub run : RunLent
   pub heights : List ℤ
-  pub levels : List ℤ
+  pub pointHeights : List ℤ
 
 abbrev pub surfaceRunLent : RunLent → List ℤ → List ℤ → SurfaceRunLent
-surfaceRunLent l heights levels = record { run = l; heights = heights; levels = levels }
+surfaceRunLent l heights pointHeights = record { run = l; heights = heights; pointHeights = pointHeights }
 
 -- what that run comes to, and the row of heights afterwards
 pub record SurfaceRan : Type 0 where
@@ -111,35 +106,6 @@ sweepHeights l z h zero = h
 sweepHeights l z h (suc n) =
     cond (sweepOf l n .full) (sweepHeights l z h n) (heightAdded (stepsOf l n .fate) (z n) (sweepHeights l z h n))
 
--- the same from the numbers of the fates in the answers: vertices are numbered in list order, after the seed's
-abbrev pub fateWord : List ℕ → ℕ → ℕ
-fateWord answers i = answerIn answers i 0
-
-abbrev pub addedAmong : (ℕ → ℕ) → ℕ → ℕ
-addedAmong fate n = count n (λ i. eqb (fate i) 1)
-
-unfoldable pub answeredHeights : (ℕ → ℕ) → ℕ → (ℕ → ℤ) → (ℕ → ℤ) → ℕ → ℕ → ℤ
-answeredHeights fate seed z h zero = h
-answeredHeights fate seed z h (suc n) =
-    cond (eqb (fate n) 1) (put (answeredHeights fate seed z h n) (seed + addedAmong fate n) (z n)) (answeredHeights fate seed z h n)
-
--- the steps of a run were made: it is accepted, or refused 9
-unfoldable pub isMade : Finished → Bool
-isMade (Finished.Accepted t) = true
-isMade (Finished.Refused x) = eqb (x .number) 9
-
-unfoldable pub placeOf : Finished → ℕ
-placeOf (Finished.Accepted t) = 0
-placeOf (Finished.Refused x) = x .place
-
--- and so the heights after a run of n points, from its answer and the answers row: a step that was refused a flip has its vertex in the mesh,
--- the last one, and no answer
-unfoldable pub finishedHeights : FinishAnswer → (ℕ → ℕ) → ℕ → (ℕ → ℤ) → (ℕ → ℤ) → ℕ → ℕ → ℤ
-finishedHeights r fate seed z h n =
-    cond (isMade (r .finished))
-    (heightStored (answeredHeights fate seed z h n) (seed + addedAmong fate n) (r .counts .vertices) (z (placeOf (r .finished))))
-    h
-
 -- rows 1, 2, 3, 10, 4, 5, 6 and 7
 unfoldable pub surfaceRunChecked : SurfaceRunLent → Checked
 surfaceRunChecked g =
@@ -147,7 +113,8 @@ surfaceRunChecked g =
     let answers = ltb (length (l .answers)) (answerWords * pointCount (l .points)) in
     let short = sweepRowsShort answers (vertexCount (l .counts) (l .points))
     (length (l .ring .nodes)) (length (l .ring .freed)) (length (l .ring .buckets)) (length (l .pending)) in
-    andThen (heightsChecked (heightsLent (l .points) (g .levels) short false) (l .counts) (record { mesh = l .mesh; heights = g .heights }))
+    andThen
+    (heightsChecked (heightsLent (l .points) (g .pointHeights) short false) (l .counts) (surfaceRows (l .mesh) (g .heights)))
     (runChecked l)
 
 unfoldable pub surfaceRun : SurfaceRunLent → SurfaceRan
@@ -155,4 +122,4 @@ surfaceRun g =
     let l = g .run in
     let checked = surfaceRunChecked g in
     surfaceRan (runOutcome l checked)
-    (heightsAfter checked (g .heights) (sweepHeights l (heightOf (g .levels)) (heightOf (g .heights)) (pointCount (l .points))))
+    (heightsAfter checked (g .heights) (sweepHeights l (heightOf (g .pointHeights)) (heightOf (g .heights)) (pointCount (l .points))))

@@ -1,11 +1,11 @@
--- The calls with heights beside those on the mesh alone. Where heights refuse nothing the table is that call's own, and so are its answer and what
--- it leaves of the mesh: they do not depend on any height (`locate-own`, `finish-own`, `step-own`, `run-own`, and `step-ignores` and its like:
--- two inputs that differ in heights alone). Otherwise the call is refused and nothing changes (`..-refused`). And what a step makes of the row
--- of heights. Assumes nothing.
-use mathlib.Core.Bool.{Bool, true, false, cond}
+-- The calls with heights beside those on the mesh alone. Where heights refuse nothing the table is that call's own, and so are its answer
+-- and what it leaves of the mesh: they do not depend on any height (`locate-own`, `finish-own`, `step-own`, `run-own`, and `step-ignores`
+-- and its like: two inputs that differ in heights alone). Otherwise the call is refused and nothing changes (`..-refused`). And what a
+-- step makes of the row of heights. Assumes nothing.
+use mathlib.Core.Bool.{Bool, false, cond}
 use mathlib.Core.List.{List, [], _∷_}
-use mathlib.Core.Path.{_≡_, refl, sym, _∙_, ap, ap₂, subst}
-use Prim.Native.Nat.{ℕ, suc, _+_, _*_, _<_, _≤_}
+use mathlib.Core.Path.{_≡_, refl, sym, _∙_, ap}
+use Prim.Native.Nat.{ℕ, _+_, _<_, _≤_}
 use native.Mathlib.Decide.{decLt}
 use native.Mathlib.Omega.{arith}
 use borrow.Author.Tests.{lt-ltb, le-ltb}
@@ -20,7 +20,7 @@ use Rattle.dcel.specs.Views.{length-from, getD-from, from-entries}
 use Rattle.decide.specs.declared.Fate.{Fate}
 use Rattle.decide.specs.declared.Fate.the-variants.{Added, Dropped, NotLeft, Unsound, AtCenter}
 use Rattle.finish.specs.declared.Finished.{Finished}
-use Rattle.finish.specs.Finish.{FinishOutcome, finishedWith, finishOutcome, finishOf, seedChecked}
+use Rattle.finish.specs.Finish.{finishedWith, finishOutcome, finishOf, seedChecked}
 use Rattle.heights.specs.Heights.{SurfaceRows, surfaceRows, heightOf, heightsIn, HeightsLent, heightsLent, HeightsGiven, heightsChecked, heightsTested}
 use Rattle.heights.specs.HeightsLaws.{heights-accept, given-tested, tested-refused, tested-accept, tested-then}
 use Rattle.locate.specs.declared.Located.{Located}
@@ -41,14 +41,14 @@ use Rattle.sums.specs.Put.{put, put-same, put-other}
 use Rattle.sweep.specs.declared.StepAnswer.{StepAnswer}
 use Rattle.sweep.specs.declared.Stepped.{Stepped}
 use Rattle.sweep.specs.Fates.{is-added}
-use Rattle.sweep.specs.Run.{answerWords, RunLent, RunOutcome, ranWith, runChecked, runOutcome, runOf}
 use Rattle.sweep.specs.Step.{Stepping, isAdded, stepMesh}
 use Rattle.sweep.specs.StepCallLaws.{step-fate, step-range, step-swept}
 use Rattle.sweep.specs.StepMesh.{Swept}
 use Rattle.sweep.specs.SweepLaws.{step-count}
-use Rattle.sweep.specs.StepCall.{answerFrom, StepOutcome, pointRow, stepChecked, steppedWith, stepOutcome, stepOf}
-use Rattle.surface.specs.Surface.{heightAdded, heightStored, heightsAfter, SurfaceStepped, surfaceStepped}
-use Rattle.surface.specs.Surface.{surfaceLocate, surfaceFinish, surfaceStepChecked, surfaceStep, SurfaceRunLent, surfaceRunChecked, surfaceRun}
+use Rattle.sweep.specs.StepCall.{answerFrom, pointRow, stepChecked, steppedWith, stepOutcome, stepOf}
+use Rattle.surface.specs.StoredHeights.{heightStored}
+use Rattle.surface.specs.Surface.{heightAdded, heightsAfter, SurfaceStepped, surfaceStepped}
+use Rattle.surface.specs.Surface.{surfaceLocate, surfaceFinish, surfaceStepChecked, surfaceStep}
 
 -- ---- a call's own table, which begins with the rows of its mesh
 then-alone : (c : Checked) → andThen c Accepted ≡ c

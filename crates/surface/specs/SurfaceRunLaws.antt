@@ -1,18 +1,18 @@
--- The call `run` with heights beside that on the mesh alone, as `SurfaceLaws` has it of the others: its table, its outcome, and the row of heights
--- that it leaves, as the code makes it from the answers (`run-heights`) and vertex by vertex (`CarriedHeights`). Assumes nothing.
-use mathlib.Core.Bool.{Bool, true, false, cond, false≢true}
+-- The call `run` with heights beside that on the mesh alone, as `SurfaceLaws` has it of the others: its table, its outcome, and the row
+-- of heights that it leaves, as the code makes it from the answers (`run-heights`) and vertex by vertex (`CarriedHeights`). Assumes
+-- nothing.
+use mathlib.Core.Bool.{Bool, true, false, false≢true}
 use mathlib.Core.List.{List}
 use mathlib.Core.Path.{_≡_, refl, sym, _∙_, ap, subst, subst⁻¹}
-use Prim.Native.Nat.{ℕ, zero, suc, _+_, _*_, _<_, _≤_}
-use native.Mathlib.Decide.{decLt}
+use Prim.Native.Nat.{ℕ, _+_, _*_, _<_, _≤_}
 use native.Mathlib.Omega.{arith}
-use borrow.Author.Tests.{lt-ltb, le-ltb, ltb-false, ne-eqb}
-use lib.Dec.{ltb, eqb}
-use lib.IntN.{ℤ, pos}
-use lib.ListN.{length, getD, List·getD-eq-default}
+use borrow.Author.Tests.{ltb-false, ne-eqb}
+use lib.Dec.{ltb}
+use lib.IntN.{ℤ}
+use lib.ListN.{length}
 use Rattle.dcel.specs.MeshRows.{linksIn, placesIn}
-use Rattle.dcel.specs.Rows.{rowOf, rowFrom, positionOf}
-use Rattle.dcel.specs.Views.{length-from, getD-from}
+use Rattle.dcel.specs.Rows.{rowFrom}
+use Rattle.dcel.specs.Views.{length-from}
 use Rattle.decide.specs.declared.Fate.the-variants.{Added}
 use Rattle.decide.specs.Decide.{fateNumber, fateVertex}
 use Rattle.finish.specs.declared.FinishAnswer.{FinishAnswer}
@@ -31,15 +31,16 @@ use Rattle.mesh_check.specs.CheckLaws.{NumberedTo, numbered-at, then-accepts}
 use Rattle.start.specs.Start.{sweepRowsShort, sweepChecked}
 use Rattle.start.specs.StartLaws.{sweep-numbered}
 use Rattle.sums.specs.Bit.{from-true}
-use Rattle.sums.specs.Bounded.{count, count-le, count-before}
+use Rattle.sums.specs.Bounded.{count-le, count-before}
 use Rattle.sweep.specs.Step.{isAdded}
-use Rattle.sweep.specs.Run.{finishAfter, answerWords, answerIn, answerWord, answersAfter}
+use Rattle.sweep.specs.Run.{finishAfter, answerWords, answerIn, answerWord}
 use Rattle.sweep.specs.Run.{RunLent, RunOutcome, ranWith, runChecked, sweepOf, stepsOf, runFinish, runOutcome, runOf}
 use Rattle.sweep.specs.Demand3.{fateOf, vertexOf, Demand3}
 use Rattle.sweep.specs.RunLaws.{vertex-added, answer-at, answer-none, run-accepts, run-start, run-keeps, run-vertices, run-accepted}
-use Rattle.surface.specs.Surface.{heightsAfter, heightStored, sweepHeights, addedAmong, answeredHeights, isMade, placeOf, finishedHeights}
+use Rattle.surface.specs.StoredHeights.{addedAmong, isMade, placeOf, finishedHeights}
+use Rattle.surface.specs.Surface.{heightsAfter, sweepHeights}
 use Rattle.surface.specs.Surface.{SurfaceRunLent, surfaceRunLent, SurfaceRan, surfaceRan, surfaceRunChecked, surfaceRun}
-use Rattle.surface.specs.StoreReady.{StoreRoom, StoreReady}
+use Rattle.surface.specs.StoreReady.{StoreReady}
 use Rattle.surface.specs.SurfaceLaws.{own-table, own-refused, heights-after, row-height, row-entry}
 use Rattle.surface.specs.RunHeights.{is-added-one, run-stored, run-place, sweep-kept, sweep-past, sweep-added}
 
@@ -55,7 +56,7 @@ module _ (g : SurfaceRunLent) where
 
   abbrev pub runHeightsLent : HeightsLent
   runHeightsLent =
-      heightsLent (l .points) (g .levels)
+      heightsLent (l .points) (g .pointHeights)
       (sweepRowsShort (ltb (length (l .answers)) (answerWords * N)) (vertexCount (l .counts) (l .points))
       (length (l .ring .nodes)) (length (l .ring .freed)) (length (l .ring .buckets)) (length (l .pending))) false
 
@@ -82,7 +83,7 @@ module _ (g : SurfaceRunLent) where
 
   -- ---- the row of heights, from the answers
   abbrev z : ℕ → ℤ
-  z = heightOf (g .levels)
+  z = heightOf (g .pointHeights)
 
   abbrev h : ℕ → ℤ
   h = heightOf (g .heights)
@@ -196,7 +197,7 @@ pub record CarriedHeights (g : SurfaceRunLent) (w : SurfaceRan) : Type 0 where
   pub seed : (u : ℕ) → u < g .run .counts .vertices → heightOf (w .heights) u ≡ heightOf (g .heights) u
   -- each added vertex has that of its point,
   pub added : (i : ℕ) → i < pointCount (g .run .points) → fateOf (w .call) i ≡ 1
-      → heightOf (w .heights) (vertexOf (w .call) i) ≡ heightOf (g .levels) i
+      → heightOf (w .heights) (vertexOf (w .call) i) ≡ heightOf (g .pointHeights) i
   -- and entries past the counts in use are untouched
   pub past : (u : ℕ) → w .call .answer .counts .vertices ≤ u → heightOf (w .heights) u ≡ heightOf (g .heights) u
   pub length-same : length (w .heights) ≡ length (g .heights)
@@ -233,7 +234,7 @@ module _ (g : SurfaceRunLent) (t : Totals) (q : surfaceRun g .call .answer .fini
 
   -- ---- the heights
   abbrev hs : ℕ → ℤ
-  hs = sweepHeights (g .run) (heightOf (g .levels)) (heightOf (g .heights)) (pointCount (g .run .points))
+  hs = sweepHeights (g .run) (heightOf (g .pointHeights)) (heightOf (g .heights)) (pointCount (g .run .points))
 
   heights-are : surfaceRun g .heights ≡ rowFrom (length (g .heights)) hs
   unfolding surfaceRun heightsAfter
@@ -265,7 +266,7 @@ module _ (g : SurfaceRunLent) (t : Totals) (q : surfaceRun g .call .answer .fini
   carried-heights =
       let l = g .run in
       let n = pointCount (l .points) in
-      let z = heightOf (g .levels) in
+      let z = heightOf (g .pointHeights) in
       let h = heightOf (g .heights) in
       let A = heights-accept (runHeightsLent g) (l .counts) (surfaceOf g) (parts .0) in
       record {
@@ -282,12 +283,12 @@ module _ (g : SurfaceRunLent) (t : Totals) (q : surfaceRun g .call .answer .fini
       }
 
 -- ---- links and fates ignore heights: two runs that differ in heights alone
-pub run-ignores : (l : RunLent) (heights levels heights′ levels′ : List ℤ)
-    → (let g = surfaceRunLent l heights levels in HeightsGiven (runHeightsLent g) (l .counts) (surfaceOf g))
-    → (let g = surfaceRunLent l heights′ levels′ in HeightsGiven (runHeightsLent g) (l .counts) (surfaceOf g))
-    → surfaceRun (surfaceRunLent l heights levels) .call ≡ surfaceRun (surfaceRunLent l heights′ levels′) .call
-run-ignores l heights levels heights′ levels′ G G′ =
-    run-own (surfaceRunLent l heights levels) (given-tested _ _ _ G) ∙ sym (run-own (surfaceRunLent l heights′ levels′) (given-tested _ _ _ G′))
+pub run-ignores : (l : RunLent) (heights pointHeights heights′ pointHeights′ : List ℤ)
+    → (let g = surfaceRunLent l heights pointHeights in HeightsGiven (runHeightsLent g) (l .counts) (surfaceOf g))
+    → (let g = surfaceRunLent l heights′ pointHeights′ in HeightsGiven (runHeightsLent g) (l .counts) (surfaceOf g))
+    → surfaceRun (surfaceRunLent l heights pointHeights) .call ≡ surfaceRun (surfaceRunLent l heights′ pointHeights′) .call
+run-ignores l heights pointHeights heights′ pointHeights′ G G′ =
+    run-own (surfaceRunLent l heights pointHeights) (given-tested _ _ _ G) ∙ sym (run-own (surfaceRunLent l heights′ pointHeights′) (given-tested _ _ _ G′))
 
 -- ---- what is stored from
 module _ (g : SurfaceRunLent) (e : heightsTested (runHeightsLent g) (g .run .counts) (surfaceOf g) ≡ Accepted) where
@@ -302,7 +303,7 @@ module _ (g : SurfaceRunLent) (e : heightsTested (runHeightsLent g) (g .run .cou
       go Accepted k = k
       go (Refused r) k = absurd (false≢true (sym (refused-made g k) ∙ m))
 
-  pub store-ready : StoreReady (l₁ .counts .vertices) (pointCount (l₁ .points)) (length (g .heights)) (length (g .levels))
+  pub store-ready : StoreReady (l₁ .counts .vertices) (pointCount (l₁ .points)) (length (g .heights)) (length (g .pointHeights))
       (runOf l₁ .answers) (runOf l₁ .answer)
   unfolding vertexCount
   store-ready =
@@ -312,7 +313,7 @@ module _ (g : SurfaceRunLent) (e : heightsTested (runHeightsLent g) (g .run .cou
             let k = made-checked m in
             let a = A .vertices in let b = A .points in let c = room g k in let d = answers-same g k in
             let s = run-start l₁ k .mesh .most in
-            record { heights-room = a; levels-room = b; answers-room = omega arith; small = s };
+            record { heights-room = a; points-room = b; answers-room = omega arith; small = s };
         most = λ m. vertices-most g (made-checked m);
         place = λ m u. last-place g (made-checked m) u;
       }

@@ -1,8 +1,4 @@
 -- `surface::check_locate` meets its contract. Assumes nothing.
-use mathlib.Core.Bool.{Bool, false}
-use mathlib.Core.List.{[]}
-use mathlib.Core.Path.{_∙_, ap}
-use Rattle.heights.specs.Heights.{heightsLent, heightsTested}
 use borrow.Author.Needs.{needs}
 use Rattle.surface.proofs.check_locate.Statement.{statement}
 use Rattle.surface.proofs.check_locate.Tie as tie

@@ -1,6 +1,6 @@
 -- `surface::is_made` meets its contract. Assumes nothing.
 use mathlib.Core.Path.{sym, ap}
-use Rattle.surface.specs.Surface.{isMade}
+use Rattle.surface.specs.StoredHeights.{isMade}
 use borrow.Author.Needs.{needs}
 use Rattle.surface.proofs.is_made.Statement.{statement}
 use Rattle.surface.proofs.is_made.Tie as tie

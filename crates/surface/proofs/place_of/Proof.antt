@@ -1,6 +1,6 @@
 -- `surface::place_of` meets its contract. Assumes nothing.
 use mathlib.Core.Path.{sym, ap}
-use Rattle.surface.specs.Surface.{placeOf}
+use Rattle.surface.specs.StoredHeights.{placeOf}
 use borrow.Author.Needs.{needs}
 use Rattle.surface.proofs.place_of.Statement.{statement}
 use Rattle.surface.proofs.place_of.Tie as tie

@@ -2,7 +2,7 @@
 use mathlib.Core.Path.{refl, _∙_}
 use borrow.Author.Tests.{lt-ltb, le-ltb}
 use mir.Facts.{toZ-ofZ}
-use Rattle.surface.specs.Surface.{heightStored}
+use Rattle.surface.specs.StoredHeights.{heightStored}
 use borrow.Author.Needs.{needs}
 use Rattle.surface.proofs.store_height.Statement.{statement}
 use Rattle.surface.proofs.store_height.Tie as tie

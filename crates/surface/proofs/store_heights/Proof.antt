@@ -5,18 +5,18 @@ use mathlib.Core.Path.{_≡_, refl, sym, _∙_, ap}
 use Prim.Native.Nat.{ℕ, _+_, _-_, _≤_}
 use lib.ListN.{length}
 use Rattle.heights.specs.Heights.{heightOf}
-use Rattle.surface.specs.Surface.{fateWord, addedAmong, answeredHeights}
+use Rattle.surface.specs.StoredHeights.{fateWord, addedAmong, answeredHeights}
 use Rattle.surface.proofs.Stored.{none-added, none-stored}
 use Rattle.surface.proofs.store_heights.Statement.{statement}
 use Rattle.surface.proofs.store_heights.Tie as tie
 
 abbrev Inv-loop : tie.InvT-loop
-Inv-loop heights₀ answers levels seed n v₀ i₀ heights v i =
+Inv-loop heights₀ answers pointHeights seed n v₀ i₀ heights v i =
     (i ≤ n) × (v ≡ seed + addedAmong (fateWord answers) i) × (length heights ≡ length heights₀)
-    × (heightOf heights ≡ answeredHeights (fateWord answers) seed (heightOf levels) (heightOf heights₀) i)
+    × (heightOf heights ≡ answeredHeights (fateWord answers) seed (heightOf pointHeights) (heightOf heights₀) i)
 
 abbrev μ-loop : tie.MeasureT-loop
-μ-loop heights₀ answers levels seed n v₀ i₀ heights v i = n - i
+μ-loop heights₀ answers pointHeights seed n v₀ i₀ heights v i = n - i
 
 loop-holds : tie.Need-loop-holds Inv-loop μ-loop
 loop-holds c =
@@ -38,7 +38,7 @@ loop-again : tie.Need-loop-again Inv-loop μ-loop
 loop-again c =
     let I = c .before .before .before .before .loop .inv in (
       omega arith,
-      added-more (fateWord (c .before .before .before .before .before .before .args .answers .now)) _ (heightOf (c .before .before .before .before .before .before .args .levels .now)) (heightOf (c .before .before .before .before .before .before .args .heights .now)) _ (I .1) (c .before .store-added .ensures .0),
+      added-more (fateWord (c .before .before .before .before .before .before .args .answers .now)) _ (heightOf (c .before .before .before .before .before .before .args .point-heights .now)) (heightOf (c .before .before .before .before .before .before .args .heights .now)) _ (I .1) (c .before .store-added .ensures .0),
       c .before .store-added .kept .0 ∙ I .2,
       stored-more _ _ _ _ _ (I .1) (I .3) (c .before .store-added .ensures .1),
     )

@@ -5,7 +5,7 @@ use borrow.Author.Tests.{not-true, not-false}
 use mir.Facts.{toZ-ofZ}
 use Rattle.heights.specs.Heights.{heightOf}
 use Rattle.sums.specs.Put.{put}
-use Rattle.surface.proofs.Stored.{not-made, made-alone, made-stored, last-level}
+use Rattle.surface.proofs.Stored.{not-made, made-alone, made-stored, last-height}
 use borrow.Author.Needs.{needs}
 use Rattle.surface.proofs.store_run.Statement.{statement}
 use Rattle.surface.proofs.store_run.Tie as tie
@@ -33,7 +33,7 @@ place-of-requires c κs = search needs
 
 height-requires : tie.Need-height-requires
 height-requires c κs =
-    last-level (c .before .before .before .before .before .before .before .before .before .before .before .pre) (sym (c .before .before .before .before .before .before .before .before .is-made .ensures) ∙ not-false _ (c .before .before .before .before .before .before .before .if1 .left)) (c .before .before .before .before .before .before .point-count .ensures)
+    last-height (c .before .before .before .before .before .before .before .before .before .before .before .pre) (sym (c .before .before .before .before .before .before .before .before .is-made .ensures) ∙ not-false _ (c .before .before .before .before .before .before .before .if1 .left)) (c .before .before .before .before .before .before .point-count .ensures)
     (c .before .before .before .before .store-heights .ensures .0) (c .before .if2 .taken) (c .place-of .ensures)
 
 set-height-requires : tie.Need-set-height-requires

@@ -3179,10 +3179,10 @@ module _ (claims· : Claims) where
           pub center-x : Kinds.Den {n = 12} κs (Float.pFloat Ieee.binary64)
           pub center-y : Kinds.Den {n = 12} κs (Float.pFloat Ieee.binary64)
           pub points : Kinds.Den {n = 12} κs (ShrSlice.pShrS (Signed.SInt Syntax.w32) 10 tt)
-          pub levels : Kinds.Den {n = 12} κs (ShrSlice.pShrS (Signed.SInt Syntax.w32) 11 tt)
+          pub point-heights : Kinds.Den {n = 12} κs (ShrSlice.pShrS (Signed.SInt Syntax.w32) 11 tt)
 
         abbrev pub dens : (a : Args) → Kinds.Dens κs ps
-        dens = λ a. (a .vertices, (a .edges, (a .faces, (a .positions, (a .heights, (a .outs, (a .halves, (a .adjacent, (a .nodes, (a .freed, (a .buckets, (a .pending, (a .answers, (a .center-x, (a .center-y, (a .points, (a .levels, tt)))))))))))))))))
+        dens = λ a. (a .vertices, (a .edges, (a .faces, (a .positions, (a .heights, (a .outs, (a .halves, (a .adjacent, (a .nodes, (a .freed, (a .buckets, (a .pending, (a .answers, (a .center-x, (a .center-y, (a .points, (a .point-heights, tt)))))))))))))))))
 
         module _ (args· : Args) where
           pub record Ranges : Type 0 where
@@ -4076,7 +4076,7 @@ module _ (claims· : Claims) where
 
         module _ (κs : Lifetimes.Lfts 12) (qs : Lifetimes.Shares 12) where
           pub asked : (a : Kinds.Dens κs ps) → (good : Kinds.GoodsP κs ps a) → (pre : Pre· κs a) → (bs : List.List Nat.ℕ) → Φ (Any.wantQ 12 ps r xs m κs qs a (Post· κs a)) (Function.init 12 ps r xs m κs qs a)
-          asked = λ a good pre bs. laid record { κs = κs; args = record { vertices = a .0; edges = a .1 .0; faces = a .1 .1 .0; positions = a .1 .1 .1 .0; heights = a .1 .1 .1 .1 .0; outs = a .1 .1 .1 .1 .1 .0; halves = a .1 .1 .1 .1 .1 .1 .0; adjacent = a .1 .1 .1 .1 .1 .1 .1 .0; nodes = a .1 .1 .1 .1 .1 .1 .1 .1 .0; freed = a .1 .1 .1 .1 .1 .1 .1 .1 .1 .0; buckets = a .1 .1 .1 .1 .1 .1 .1 .1 .1 .1 .0; pending = a .1 .1 .1 .1 .1 .1 .1 .1 .1 .1 .1 .0; answers = a .1 .1 .1 .1 .1 .1 .1 .1 .1 .1 .1 .1 .0; center-x = a .1 .1 .1 .1 .1 .1 .1 .1 .1 .1 .1 .1 .1 .0; center-y = a .1 .1 .1 .1 .1 .1 .1 .1 .1 .1 .1 .1 .1 .1 .0; points = a .1 .1 .1 .1 .1 .1 .1 .1 .1 .1 .1 .1 .1 .1 .1 .0; levels = a .1 .1 .1 .1 .1 .1 .1 .1 .1 .1 .1 .1 .1 .1 .1 .1 .0 }; good = good; fits = record { vertices = record { fits = good .0 .1 }; edges = record { fits = good .1 .0 .1 }; faces = record { fits = good .1 .1 .0 .1 } }; pre = pre }
+          asked = λ a good pre bs. laid record { κs = κs; args = record { vertices = a .0; edges = a .1 .0; faces = a .1 .1 .0; positions = a .1 .1 .1 .0; heights = a .1 .1 .1 .1 .0; outs = a .1 .1 .1 .1 .1 .0; halves = a .1 .1 .1 .1 .1 .1 .0; adjacent = a .1 .1 .1 .1 .1 .1 .1 .0; nodes = a .1 .1 .1 .1 .1 .1 .1 .1 .0; freed = a .1 .1 .1 .1 .1 .1 .1 .1 .1 .0; buckets = a .1 .1 .1 .1 .1 .1 .1 .1 .1 .1 .0; pending = a .1 .1 .1 .1 .1 .1 .1 .1 .1 .1 .1 .0; answers = a .1 .1 .1 .1 .1 .1 .1 .1 .1 .1 .1 .1 .0; center-x = a .1 .1 .1 .1 .1 .1 .1 .1 .1 .1 .1 .1 .1 .0; center-y = a .1 .1 .1 .1 .1 .1 .1 .1 .1 .1 .1 .1 .1 .1 .0; points = a .1 .1 .1 .1 .1 .1 .1 .1 .1 .1 .1 .1 .1 .1 .1 .0; point-heights = a .1 .1 .1 .1 .1 .1 .1 .1 .1 .1 .1 .1 .1 .1 .1 .1 .0 }; good = good; fits = record { vertices = record { fits = good .0 .1 }; edges = record { fits = good .1 .0 .1 }; faces = record { fits = good .1 .1 .0 .1 } }; pre = pre }
 
         module _ {M : Type 1} (𝓤 : URA.URA M) (H : Wp.Heap 𝓤) (A : Atoms.Atoms 𝓤) (W : Kit.Given 𝓤 H A) (𝓣 : Wp.Tables 𝓤 H) (known0 : Plain.Known 𝓤 H A W 𝓣 1 ps·0 r·0 (claims· .0) (claims· .1) "run::answers_short") (known1 : Plain.Known 𝓤 H A W 𝓣 7 ps·1 r·1 (claims· .2) (claims· .3) "surface::check_run") (known2 : Plain.Known 𝓤 H A W 𝓣 0 ps·2 r·2 (claims· .4) (claims· .5) "fithmoul::results::finish_refused") (known3 : Plain.Known 𝓤 H A W 𝓣 10 ps·3 r·3 (claims· .6) (claims· .7) "run::run") (known4 : Plain.Known 𝓤 H A W 𝓣 4 ps·4 r·4 (claims· .8) (claims· .9) "surface::store_run") (known5 : Plain.Known 𝓤 H A W 𝓣 0 ps·5 r·5 (claims· .10) (claims· .11) "fithmoul::results::finish_result") where
           pub spec : Statement.Triple 𝓤 (Wp.WpFn 𝓤 H (𝓣 .C) (𝓣 .Λ) (Function.fnOf 12 ps r xs m hs body)) (Function.plainOf 𝓤 H A 12 ps r Pre· Post·)
