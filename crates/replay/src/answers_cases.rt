@@ -140,8 +140,8 @@ fn case_agrees(text: &[u8], at: usize, mesh: Mesh, center: Point2, points: Coord
         freed: WORDS,
         buckets: WORDS,
     };
-    let levels = test_mesh::zero_heights();
-    let ran = replay_runs::run_on(mesh, ring, WORDS, LONGS, center, points, levels, 0);
+    let point_heights = test_mesh::zero_heights();
+    let ran = replay_runs::run_on(mesh, ring, WORDS, LONGS, center, points, point_heights, 0);
     let stepped = replay_runs::steps_on(mesh, center, points);
     let last = stepped.mesh;
     let s = steps_agree(text, at, stepped);

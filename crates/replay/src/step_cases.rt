@@ -30,7 +30,7 @@ fn step_agrees(text: &[u8], mesh: usize, at: usize, left: StepLeft) -> bool {
 }
 
 // The point's height, 0 where its line is missing.
-fn read_level(text: &[u8], at: usize) -> HeightLine {
+fn read_point_height(text: &[u8], at: usize) -> HeightLine {
     if test_text::byte(text, at) == b'y' {
         return lines::read_height(text, at, b'y');
     }
@@ -48,7 +48,7 @@ pub fn agrees(text: &[u8], at: usize) -> bool {
     let q = lines::read_sevens(text, n.at, b'q', WORDS);
     let x = lines::read_center(text, q.at, b'x');
     let v = lines::read_point(text, x.at);
-    let y = read_level(text, v.at);
+    let y = read_point_height(text, v.at);
     let cleared = lines::cleared(text, y.at);
     let left = replay_calls::step_on(
         m.mesh,

@@ -1,3 +1,2 @@
--- Signatures of functions over the row of nodes, and lemmas for the proofs of this crate.
-pub mod Nodes
+-- Signatures of functions over the row of nodes.
 pub mod Sig

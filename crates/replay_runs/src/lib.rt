@@ -42,7 +42,7 @@ pub fn run_on(
     answers_length: usize,
     center: Point2,
     points: Coordinates,
-    levels: Coordinates,
+    point_heights: Coordinates,
     v: u32,
 ) -> RunLeft
     requires { ⌜ MeshLent mesh ⌝ }
@@ -50,7 +50,7 @@ pub fn run_on(
     requires { ⌜ «pending_length» ≤ 6144 ⌝ }
     requires { ⌜ «answers_length» ≤ 1280 ⌝ }
     requires { ⌜ CoordinatesLent points ⌝ }
-    requires { ⌜ CoordinatesLent levels ⌝ }
+    requires { ⌜ CoordinatesLent «point_heights» ⌝ }
 {
     let mut positions = mesh.positions.row;
     let mut heights = mesh.heights.row;
@@ -63,7 +63,7 @@ pub fn run_on(
     let mut pending = [7u32; WORDS];
     let mut answers = [7u64; LONGS];
     let points_row = points.row;
-    let levels_row = levels.row;
+    let point_heights_row = point_heights.row;
     let positions_length = mesh.positions.length;
     let heights_length = mesh.heights.length;
     let outs_length = mesh.outs.length;
@@ -73,7 +73,7 @@ pub fn run_on(
     let freed_length = ring.freed;
     let buckets_length = ring.buckets;
     let points_length = points.length;
-    let levels_length = levels.length;
+    let point_heights_length = point_heights.length;
     let counts = mesh.counts;
     let r = fithmoul::fithmoul_run(
         counts.vertices,
@@ -92,7 +92,7 @@ pub fn run_on(
         center.x,
         center.y,
         &points_row[..points_length],
-        &levels_row[..levels_length],
+        &point_heights_row[..point_heights_length],
     );
     let left = Counts {
         vertices: r.vertices,
@@ -116,7 +116,6 @@ pub fn steps_on(mesh: Mesh, center: Point2, points: Coordinates) -> Stepped
     requires { ⌜ CoordinatesLent points ⌝ }
 {
     let mut positions = mesh.positions.row;
-    let heights = mesh.heights.row;
     let mut outs = mesh.outs.row;
     let mut halves = mesh.halves.row;
     let mut faces = mesh.faces.row;
@@ -142,6 +141,7 @@ pub fn steps_on(mesh: Mesh, center: Point2, points: Coordinates) -> Stepped
         &points_row[..points_length],
     );
     let left = end.counts;
+    let heights = mesh.heights.row;
     Stepped {
         mesh: test_mesh::with_rows(mesh, left, positions, heights, outs, halves, faces),
         answers: Longs {
@@ -154,7 +154,6 @@ pub fn steps_on(mesh: Mesh, center: Point2, points: Coordinates) -> Stepped
 // One pass of `fix_convexity`.
 pub fn pass_on(mesh: Mesh) -> Passed {
     let positions = mesh.positions.row;
-    let heights = mesh.heights.row;
     let mut outs = mesh.outs.row;
     let mut halves = mesh.halves.row;
     let mut faces = mesh.faces.row;
@@ -168,6 +167,7 @@ pub fn pass_on(mesh: Mesh) -> Passed {
         &mut pending,
     );
     let left = added.counts;
+    let heights = mesh.heights.row;
     Passed {
         mesh: test_mesh::with_rows(mesh, left, positions, heights, outs, halves, faces),
         faces: added.faces as u64,

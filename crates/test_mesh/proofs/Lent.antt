@@ -12,6 +12,9 @@ use Rattle.test_mesh.specs.Lent.{CoordinatesLent, WordsLent}
 pub part : {A : Type 0} (n k : ℕ) (l : List A) → length l ≡ k → n ≤ k → n ≡ length (take n l)
 part n k l z h = sym (length-take-le n l (omega arith))
 
+pub within : {n m k : ℕ} → k ≡ m → n ≤ m → n ≤ k
+within e l = omega arith
+
 pub of-coordinates : (r : Coordinates) → CoordinatesLent r → r .length ≡ length (take (r .length) (r .row))
 of-coordinates r l = part (r .length) (length (r .row)) (r .row) refl (l .within)
 

@@ -1,6 +1,6 @@
 -- `replay_runs::steps_on` meets its contract: rows are lent whole, and as many points as there are. Assumes nothing.
-use mathlib.Core.Path.{refl, sym}
-use Rattle.test_mesh.proofs.Lent.{part}
+use mathlib.Core.Path.{sym}
+use Rattle.test_mesh.proofs.Lent.{of-coordinates}
 use borrow.Author.Needs.{needs}
 use Rattle.replay_runs.proofs.steps_on.Statement.{statement}
 use Rattle.replay_runs.proofs.steps_on.Proof.Tie as tie
@@ -19,8 +19,9 @@ slice-aggregate-steps-2 c = search needs
 slice-aggregate-steps-3 : tie.Need-slice-aggregate-steps-3
 slice-aggregate-steps-3 c = search needs
 
+-- Owning the mesh tells how long each of its rows is; the search does not come as far as the last.
 slice-aggregate-steps-4 : tie.Need-slice-aggregate-steps-4
-slice-aggregate-steps-4 c = let faces = c .before .before .before .before .before .before .before .before .before .before .before .good .0 .1 .1 .1 .1 .1 .1 .1 .0 .1 .1 .0 .1 .0 .1 in search needs
+slice-aggregate-steps-4 c = let faces = c .before .before .before .before .before .before .before .before .before .before .good .0 .1 .1 .1 .1 .1 .1 .1 .0 .1 .1 .0 .1 .0 .1 in search needs
 
 slice-aggregate-steps-5 : tie.Need-slice-aggregate-steps-5
 slice-aggregate-steps-5 c = sym (c .before .before .before .before .before .before .seven-nodes .ensures)
@@ -37,11 +38,11 @@ slice-aggregate-steps-8 c = search needs
 slice-aggregate-steps-9 : tie.Need-slice-aggregate-steps-9
 slice-aggregate-steps-9 c = search needs
 
-array-share-prefix-list : tie.Need-array-share-prefix-list
-array-share-prefix-list c = c .before .before .before .before .before .before .before .before .before .before .before .before .before .before .before .before .pre
+array-share-prefix-points-row : tie.Need-array-share-prefix-points-row
+array-share-prefix-points-row c = c .before .before .before .before .before .before .before .before .before .before .before .before .before .before .before .pre .within
 
 slice-aggregate-steps-10 : tie.Need-slice-aggregate-steps-10
-slice-aggregate-steps-10 c = part _ _ (c .before .before .before .before .before .before .before .before .before .before .before .before .before .before .before .before .before .args .points .row) refl (c .before .before .before .before .before .before .before .before .before .before .before .before .before .before .before .before .before .pre)
+slice-aggregate-steps-10 c = of-coordinates (c .before .before .before .before .before .before .before .before .before .before .before .before .before .before .before .before .args .points) (c .before .before .before .before .before .before .before .before .before .before .before .before .before .before .before .before .pre)
 
 steps-requires : tie.Need-steps-requires
 steps-requires c κs = search needs
@@ -66,7 +67,7 @@ steps-on-spec =
     slice-aggregate-steps-7
     slice-aggregate-steps-8
     slice-aggregate-steps-9
-    array-share-prefix-list
+    array-share-prefix-points-row
     slice-aggregate-steps-10
     steps-requires
     with-rows-requires

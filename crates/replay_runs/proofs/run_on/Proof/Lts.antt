@@ -3513,11 +3513,11 @@ module _ (claims· : Claims) where
         pub answers-length : Kinds.Den {n = 0} tt (Num.pNum Syntax.w64)
         pub center : Kinds.Den {n = 0} tt (Value.pVal record { ty = Declared.row Point2.the-type; one = Path'.refl; val = Laws'10.val Point2.the-type Laws.the-laws; tells = Laws'10.tells Point2.the-type Laws.the-laws; still = Laws'10.still Point2.the-type Laws.the-copy Exit.yes; row = Rows'.whole (Declared.row Point2.the-type); rd = λ x. x; mk = λ x. x } λ M 𝓤 H A W. record { copies = Laws'10.copy Point2.the-type Laws.the-copy 𝓤 H A W; lawful = Laws'10.lawful Point2.the-type Laws.the-laws 𝓤 H A W; makes = Laws'10.makes Point2.the-type Laws.the-plain 𝓤 H A; in-mem = Local.mem-whole 𝓤 H A W (Declared.row Point2.the-type); of-mem = Local.whole-mem 𝓤 H A W (Declared.row Point2.the-type) })
         pub points : Kinds.Den {n = 0} tt (Value.pVal record { ty = Declared.row Coordinates.the-type; one = Path'.refl; val = Laws'10.val Coordinates.the-type Laws'4.the-laws; tells = Laws'10.tells Coordinates.the-type Laws'4.the-laws; still = Laws'10.still Coordinates.the-type Laws'4.the-copy Exit.yes; row = Rows'.whole (Declared.row Coordinates.the-type); rd = λ x. x; mk = λ x. x } λ M 𝓤 H A W. record { copies = Laws'10.copy Coordinates.the-type Laws'4.the-copy 𝓤 H A W; lawful = Laws'10.lawful Coordinates.the-type Laws'4.the-laws 𝓤 H A W; makes = Laws'10.makes Coordinates.the-type Laws'4.the-plain 𝓤 H A; in-mem = Local.mem-whole 𝓤 H A W (Declared.row Coordinates.the-type); of-mem = Local.whole-mem 𝓤 H A W (Declared.row Coordinates.the-type) })
-        pub levels : Kinds.Den {n = 0} tt (Value.pVal record { ty = Declared.row Coordinates.the-type; one = Path'.refl; val = Laws'10.val Coordinates.the-type Laws'4.the-laws; tells = Laws'10.tells Coordinates.the-type Laws'4.the-laws; still = Laws'10.still Coordinates.the-type Laws'4.the-copy Exit.yes; row = Rows'.whole (Declared.row Coordinates.the-type); rd = λ x. x; mk = λ x. x } λ M 𝓤 H A W. record { copies = Laws'10.copy Coordinates.the-type Laws'4.the-copy 𝓤 H A W; lawful = Laws'10.lawful Coordinates.the-type Laws'4.the-laws 𝓤 H A W; makes = Laws'10.makes Coordinates.the-type Laws'4.the-plain 𝓤 H A; in-mem = Local.mem-whole 𝓤 H A W (Declared.row Coordinates.the-type); of-mem = Local.whole-mem 𝓤 H A W (Declared.row Coordinates.the-type) })
+        pub point-heights : Kinds.Den {n = 0} tt (Value.pVal record { ty = Declared.row Coordinates.the-type; one = Path'.refl; val = Laws'10.val Coordinates.the-type Laws'4.the-laws; tells = Laws'10.tells Coordinates.the-type Laws'4.the-laws; still = Laws'10.still Coordinates.the-type Laws'4.the-copy Exit.yes; row = Rows'.whole (Declared.row Coordinates.the-type); rd = λ x. x; mk = λ x. x } λ M 𝓤 H A W. record { copies = Laws'10.copy Coordinates.the-type Laws'4.the-copy 𝓤 H A W; lawful = Laws'10.lawful Coordinates.the-type Laws'4.the-laws 𝓤 H A W; makes = Laws'10.makes Coordinates.the-type Laws'4.the-plain 𝓤 H A; in-mem = Local.mem-whole 𝓤 H A W (Declared.row Coordinates.the-type); of-mem = Local.whole-mem 𝓤 H A W (Declared.row Coordinates.the-type) })
         pub v : Kinds.Den {n = 0} tt (Num.pNum Syntax.w32)
 
       abbrev pub dens : (a : Args) → Kinds.Dens tt ps
-      dens = λ a. (a .mesh, (a .ring, (a .pending-length, (a .answers-length, (a .center, (a .points, (a .levels, (a .v, tt))))))))
+      dens = λ a. (a .mesh, (a .ring, (a .pending-length, (a .answers-length, (a .center, (a .points, (a .point-heights, (a .v, tt))))))))
 
       module _ (args· : Args) where
         pub record Ranges : Type 0 where
@@ -3691,22 +3691,22 @@ module _ (claims· : Claims) where
       m30 = λ before given. s29 (before .before .before .before .before .before .before .before .blocks) (m29 before given)
 
       module _ (before· : After-points-row) where
-        pub record After-levels-row·own : Type 0 where
+        pub record After-point-heights-row·own : Type 0 where
           pub given : s17 (before· .before .before .before .before .before .before .before .blocks) .gives (m17 (before· .before) (before· .points-row .given))
 
-      pub record After-levels-row : Type 0 where
+      pub record After-point-heights-row : Type 0 where
         pub before : After-points-row
-        pub levels-row : After-levels-row·own before
+        pub point-heights-row : After-point-heights-row·own before
 
-      abbrev pub m31 : (before : After-levels-row) → (given : s30 (before .before .before .before .before .before .before .before .before .blocks) .gives (m30 (before .before) (before .levels-row .given))) → Typed.Mo T32
-      m31 = λ before given. s30 (before .before .before .before .before .before .before .before .before .blocks) .next (m30 (before .before) (before .levels-row .given)) given
+      abbrev pub m31 : (before : After-point-heights-row) → (given : s30 (before .before .before .before .before .before .before .before .before .blocks) .gives (m30 (before .before) (before .point-heights-row .given))) → Typed.Mo T32
+      m31 = λ before given. s30 (before .before .before .before .before .before .before .before .before .blocks) .next (m30 (before .before) (before .point-heights-row .given)) given
 
-      module _ (before· : After-levels-row) where
+      module _ (before· : After-point-heights-row) where
         pub record After-counts·own : Type 0 where
-          pub given : s30 (before· .before .before .before .before .before .before .before .before .blocks) .gives (m30 (before· .before) (before· .levels-row .given))
+          pub given : s30 (before· .before .before .before .before .before .before .before .before .blocks) .gives (m30 (before· .before) (before· .point-heights-row .given))
 
       pub record After-counts : Type 0 where
-        pub before : After-levels-row
+        pub before : After-point-heights-row
         pub counts : After-counts·own before
 
       abbrev pub Need-array-borrow-prefix-positions : Type 0
@@ -3929,53 +3929,53 @@ module _ (claims· : Claims) where
       abbrev pub m53 : (before : After-answers) → (given : s62 (before .before .before .before .before .before .before .before .before .before .before .before .before .before .before .before .before .before .before .before .blocks) .gives (m51 (before .before) (before .answers .given))) → Typed.Mo T65
       m53 = λ before given. s63 (before .before .before .before .before .before .before .before .before .before .before .before .before .before .before .before .before .before .before .before .blocks) .next (m52 before given)
 
-      abbrev pub Need-array-share-prefix-levels-row : Type 0
-      Need-array-share-prefix-levels-row = (c : After-points-row2) → s65 (c .before .before .before .before .before .before .before .before .before .before .before .before .before .before .before .before .before .before .before .before .blocks) .asks (m53 (c .before) (c .points-row2 .given))
+      abbrev pub Need-array-share-prefix-point-heights-row : Type 0
+      Need-array-share-prefix-point-heights-row = (c : After-points-row2) → s65 (c .before .before .before .before .before .before .before .before .before .before .before .before .before .before .before .before .before .before .before .before .blocks) .asks (m53 (c .before) (c .points-row2 .given))
 
       abbrev pub m54 : (before : After-points-row2) → (given : s65 (before .before .before .before .before .before .before .before .before .before .before .before .before .before .before .before .before .before .before .before .before .blocks) .gives (m53 (before .before) (before .points-row2 .given))) → Typed.Mo T67
       m54 = λ before given. s65 (before .before .before .before .before .before .before .before .before .before .before .before .before .before .before .before .before .before .before .before .before .blocks) .next (m53 (before .before) (before .points-row2 .given)) given
 
       module _ (before· : After-points-row2) where
-        pub record After-levels-row2·own : Type 0 where
+        pub record After-point-heights-row2·own : Type 0 where
           pub given : s65 (before· .before .before .before .before .before .before .before .before .before .before .before .before .before .before .before .before .before .before .before .before .blocks) .gives (m53 (before· .before) (before· .points-row2 .given))
 
-      pub record After-levels-row2 : Type 0 where
+      pub record After-point-heights-row2 : Type 0 where
         pub before : After-points-row2
-        pub levels-row2 : After-levels-row2·own before
+        pub point-heights-row2 : After-point-heights-row2·own before
 
       abbrev pub Need-slice-aggregate-fithmoul-run-12 : Type 0
-      Need-slice-aggregate-fithmoul-run-12 = (c : After-levels-row2) → Relend.CountIs T67 57 58 (λ x. x) (λ u. u .1 .1 .1 .1 .1 .1 .1 .1 .1 .1 .1 .1 .1 .1 .1 .1 .1 .1 .1 .1 .1 .1 .1 .1 .1 .1 .1 .1 .1 .1 .0) (m54 (c .before) (c .levels-row2 .given))
+      Need-slice-aggregate-fithmoul-run-12 = (c : After-point-heights-row2) → Relend.CountIs T67 57 58 (λ x. x) (λ u. u .1 .1 .1 .1 .1 .1 .1 .1 .1 .1 .1 .1 .1 .1 .1 .1 .1 .1 .1 .1 .1 .1 .1 .1 .1 .1 .1 .1 .1 .1 .0) (m54 (c .before) (c .point-heights-row2 .given))
 
       abbrev pub m55 : (before : After-points-row2) → (given : s65 (before .before .before .before .before .before .before .before .before .before .before .before .before .before .before .before .before .before .before .before .before .blocks) .gives (m53 (before .before) (before .points-row2 .given))) → Typed.Mo T68
       m55 = λ before given. s66 (before .before .before .before .before .before .before .before .before .before .before .before .before .before .before .before .before .before .before .before .before .blocks) .next (m54 before given)
 
       abbrev pub Need-fithmoul-run-requires : Type 0
-      Need-fithmoul-run-requires = (c : After-levels-row2) → s67 (c .before .before .before .before .before .before .before .before .before .before .before .before .before .before .before .before .before .before .before .before .before .blocks) .asks (m55 (c .before) (c .levels-row2 .given))
+      Need-fithmoul-run-requires = (c : After-point-heights-row2) → s67 (c .before .before .before .before .before .before .before .before .before .before .before .before .before .before .before .before .before .before .before .before .before .blocks) .asks (m55 (c .before) (c .point-heights-row2 .given))
 
-      abbrev pub m56 : (before : After-levels-row2) → (given : s67 (before .before .before .before .before .before .before .before .before .before .before .before .before .before .before .before .before .before .before .before .before .before .blocks) .gives (m55 (before .before) (before .levels-row2 .given))) → Typed.Mo T69
-      m56 = λ before given. s67 (before .before .before .before .before .before .before .before .before .before .before .before .before .before .before .before .before .before .before .before .before .before .blocks) .next (m55 (before .before) (before .levels-row2 .given)) given
+      abbrev pub m56 : (before : After-point-heights-row2) → (given : s67 (before .before .before .before .before .before .before .before .before .before .before .before .before .before .before .before .before .before .before .before .before .before .blocks) .gives (m55 (before .before) (before .point-heights-row2 .given))) → Typed.Mo T69
+      m56 = λ before given. s67 (before .before .before .before .before .before .before .before .before .before .before .before .before .before .before .before .before .before .before .before .before .before .blocks) .next (m55 (before .before) (before .point-heights-row2 .given)) given
 
-      module _ (before· : After-levels-row2) where
+      module _ (before· : After-point-heights-row2) where
         abbrev pub After-fithmoul-run·own : Type 0
-        After-fithmoul-run·own = Called.Called ps·1 r·1 (claims· .3) T68 (Num.vFld 31 (List._∷_ (Syntax.field 0) List.[]) 0 λ x. Counts.struct .as-values x .0, (Num.vFld 31 (List._∷_ (Syntax.field 1) List.[]) 4 λ x. Counts.struct .as-values x .1 .0, (Num.vFld 31 (List._∷_ (Syntax.field 2) List.[]) 8 λ x. Counts.struct .as-values x .1 .1 .0, (record { pos = 36; ty = Syntax.tyRef Syntax.erased Syntax.mut ty·0; ref = λ x. x }, (record { pos = 38; ty = Syntax.tyRef Syntax.erased Syntax.mut ty·0; ref = λ x. x }, (record { pos = 40; ty = Syntax.tyRef Syntax.erased Syntax.mut ty·0; ref = λ x. x }, (record { pos = 42; ty = Syntax.tyRef Syntax.erased Syntax.mut ty·0; ref = λ x. x }, (record { pos = 44; ty = Syntax.tyRef Syntax.erased Syntax.mut ty·0; ref = λ x. x }, (record { pos = 46; ty = Syntax.tyRef Syntax.erased Syntax.mut (ELEMMEM.pointee (ELEM.the-row .written)); ref = λ x. x }, (record { pos = 48; ty = Syntax.tyRef Syntax.erased Syntax.mut ty·0; ref = λ x. x }, (record { pos = 50; ty = Syntax.tyRef Syntax.erased Syntax.mut ty·0; ref = λ x. x }, (record { pos = 52; ty = Syntax.tyRef Syntax.erased Syntax.mut ty·0; ref = λ x. x }, (record { pos = 54; ty = Syntax.tyRef Syntax.erased Syntax.mut ty·1; ref = λ x. x }, (Float.fFld 5 (List._∷_ (Syntax.field 0) List.[]) 0 λ x. Point2.struct .as-values x .0, (Float.fFld 5 (List._∷_ (Syntax.field 1) List.[]) 8 λ x. Point2.struct .as-values x .1 .0, (record { pos = 56; ty = Syntax.tyRef Syntax.erased Syntax.imm ty·0; ref = λ x. x }, (record { pos = 58; ty = Syntax.tyRef Syntax.erased Syntax.imm ty·0; ref = λ x. x }, tt))))))))))))))))) (m55 (before· .before) (before· .levels-row2 .given))
+        After-fithmoul-run·own = Called.Called ps·1 r·1 (claims· .3) T68 (Num.vFld 31 (List._∷_ (Syntax.field 0) List.[]) 0 λ x. Counts.struct .as-values x .0, (Num.vFld 31 (List._∷_ (Syntax.field 1) List.[]) 4 λ x. Counts.struct .as-values x .1 .0, (Num.vFld 31 (List._∷_ (Syntax.field 2) List.[]) 8 λ x. Counts.struct .as-values x .1 .1 .0, (record { pos = 36; ty = Syntax.tyRef Syntax.erased Syntax.mut ty·0; ref = λ x. x }, (record { pos = 38; ty = Syntax.tyRef Syntax.erased Syntax.mut ty·0; ref = λ x. x }, (record { pos = 40; ty = Syntax.tyRef Syntax.erased Syntax.mut ty·0; ref = λ x. x }, (record { pos = 42; ty = Syntax.tyRef Syntax.erased Syntax.mut ty·0; ref = λ x. x }, (record { pos = 44; ty = Syntax.tyRef Syntax.erased Syntax.mut ty·0; ref = λ x. x }, (record { pos = 46; ty = Syntax.tyRef Syntax.erased Syntax.mut (ELEMMEM.pointee (ELEM.the-row .written)); ref = λ x. x }, (record { pos = 48; ty = Syntax.tyRef Syntax.erased Syntax.mut ty·0; ref = λ x. x }, (record { pos = 50; ty = Syntax.tyRef Syntax.erased Syntax.mut ty·0; ref = λ x. x }, (record { pos = 52; ty = Syntax.tyRef Syntax.erased Syntax.mut ty·0; ref = λ x. x }, (record { pos = 54; ty = Syntax.tyRef Syntax.erased Syntax.mut ty·1; ref = λ x. x }, (Float.fFld 5 (List._∷_ (Syntax.field 0) List.[]) 0 λ x. Point2.struct .as-values x .0, (Float.fFld 5 (List._∷_ (Syntax.field 1) List.[]) 8 λ x. Point2.struct .as-values x .1 .0, (record { pos = 56; ty = Syntax.tyRef Syntax.erased Syntax.imm ty·0; ref = λ x. x }, (record { pos = 58; ty = Syntax.tyRef Syntax.erased Syntax.imm ty·0; ref = λ x. x }, tt))))))))))))))))) (m55 (before· .before) (before· .point-heights-row2 .given))
 
       pub record After-fithmoul-run : Type 0 where
-        pub before : After-levels-row2
+        pub before : After-point-heights-row2
         pub fithmoul-run : After-fithmoul-run·own before
 
-      abbrev pub After-fithmoul-run·gave : (c : After-fithmoul-run) → s67 (c .before .before .before .before .before .before .before .before .before .before .before .before .before .before .before .before .before .before .before .before .before .before .blocks) .gives (m55 (c .before .before) (c .before .levels-row2 .given))
-      After-fithmoul-run·gave = λ c. Called.given ps·1 r·1 (claims· .3) T68 (Num.vFld 31 (List._∷_ (Syntax.field 0) List.[]) 0 λ x. Counts.struct .as-values x .0, (Num.vFld 31 (List._∷_ (Syntax.field 1) List.[]) 4 λ x. Counts.struct .as-values x .1 .0, (Num.vFld 31 (List._∷_ (Syntax.field 2) List.[]) 8 λ x. Counts.struct .as-values x .1 .1 .0, (record { pos = 36; ty = Syntax.tyRef Syntax.erased Syntax.mut ty·0; ref = λ x. x }, (record { pos = 38; ty = Syntax.tyRef Syntax.erased Syntax.mut ty·0; ref = λ x. x }, (record { pos = 40; ty = Syntax.tyRef Syntax.erased Syntax.mut ty·0; ref = λ x. x }, (record { pos = 42; ty = Syntax.tyRef Syntax.erased Syntax.mut ty·0; ref = λ x. x }, (record { pos = 44; ty = Syntax.tyRef Syntax.erased Syntax.mut ty·0; ref = λ x. x }, (record { pos = 46; ty = Syntax.tyRef Syntax.erased Syntax.mut (ELEMMEM.pointee (ELEM.the-row .written)); ref = λ x. x }, (record { pos = 48; ty = Syntax.tyRef Syntax.erased Syntax.mut ty·0; ref = λ x. x }, (record { pos = 50; ty = Syntax.tyRef Syntax.erased Syntax.mut ty·0; ref = λ x. x }, (record { pos = 52; ty = Syntax.tyRef Syntax.erased Syntax.mut ty·0; ref = λ x. x }, (record { pos = 54; ty = Syntax.tyRef Syntax.erased Syntax.mut ty·1; ref = λ x. x }, (Float.fFld 5 (List._∷_ (Syntax.field 0) List.[]) 0 λ x. Point2.struct .as-values x .0, (Float.fFld 5 (List._∷_ (Syntax.field 1) List.[]) 8 λ x. Point2.struct .as-values x .1 .0, (record { pos = 56; ty = Syntax.tyRef Syntax.erased Syntax.imm ty·0; ref = λ x. x }, (record { pos = 58; ty = Syntax.tyRef Syntax.erased Syntax.imm ty·0; ref = λ x. x }, tt))))))))))))))))) (m55 (c .before .before) (c .before .levels-row2 .given)) (c .fithmoul-run)
+      abbrev pub After-fithmoul-run·gave : (c : After-fithmoul-run) → s67 (c .before .before .before .before .before .before .before .before .before .before .before .before .before .before .before .before .before .before .before .before .before .before .blocks) .gives (m55 (c .before .before) (c .before .point-heights-row2 .given))
+      After-fithmoul-run·gave = λ c. Called.given ps·1 r·1 (claims· .3) T68 (Num.vFld 31 (List._∷_ (Syntax.field 0) List.[]) 0 λ x. Counts.struct .as-values x .0, (Num.vFld 31 (List._∷_ (Syntax.field 1) List.[]) 4 λ x. Counts.struct .as-values x .1 .0, (Num.vFld 31 (List._∷_ (Syntax.field 2) List.[]) 8 λ x. Counts.struct .as-values x .1 .1 .0, (record { pos = 36; ty = Syntax.tyRef Syntax.erased Syntax.mut ty·0; ref = λ x. x }, (record { pos = 38; ty = Syntax.tyRef Syntax.erased Syntax.mut ty·0; ref = λ x. x }, (record { pos = 40; ty = Syntax.tyRef Syntax.erased Syntax.mut ty·0; ref = λ x. x }, (record { pos = 42; ty = Syntax.tyRef Syntax.erased Syntax.mut ty·0; ref = λ x. x }, (record { pos = 44; ty = Syntax.tyRef Syntax.erased Syntax.mut ty·0; ref = λ x. x }, (record { pos = 46; ty = Syntax.tyRef Syntax.erased Syntax.mut (ELEMMEM.pointee (ELEM.the-row .written)); ref = λ x. x }, (record { pos = 48; ty = Syntax.tyRef Syntax.erased Syntax.mut ty·0; ref = λ x. x }, (record { pos = 50; ty = Syntax.tyRef Syntax.erased Syntax.mut ty·0; ref = λ x. x }, (record { pos = 52; ty = Syntax.tyRef Syntax.erased Syntax.mut ty·0; ref = λ x. x }, (record { pos = 54; ty = Syntax.tyRef Syntax.erased Syntax.mut ty·1; ref = λ x. x }, (Float.fFld 5 (List._∷_ (Syntax.field 0) List.[]) 0 λ x. Point2.struct .as-values x .0, (Float.fFld 5 (List._∷_ (Syntax.field 1) List.[]) 8 λ x. Point2.struct .as-values x .1 .0, (record { pos = 56; ty = Syntax.tyRef Syntax.erased Syntax.imm ty·0; ref = λ x. x }, (record { pos = 58; ty = Syntax.tyRef Syntax.erased Syntax.imm ty·0; ref = λ x. x }, tt))))))))))))))))) (m55 (c .before .before) (c .before .point-heights-row2 .given)) (c .fithmoul-run)
 
-      abbrev pub m57 : (before : After-levels-row2) → (given : s67 (before .before .before .before .before .before .before .before .before .before .before .before .before .before .before .before .before .before .before .before .before .before .blocks) .gives (m55 (before .before) (before .levels-row2 .given))) → Typed.Mo T70
+      abbrev pub m57 : (before : After-point-heights-row2) → (given : s67 (before .before .before .before .before .before .before .before .before .before .before .before .before .before .before .before .before .before .before .before .before .before .blocks) .gives (m55 (before .before) (before .point-heights-row2 .given))) → Typed.Mo T70
       m57 = λ before given. s68 (before .before .before .before .before .before .before .before .before .before .before .before .before .before .before .before .before .before .before .before .before .before .blocks) (m56 before given)
 
-      abbrev pub m58 : (before : After-levels-row2) → (given : s67 (before .before .before .before .before .before .before .before .before .before .before .before .before .before .before .before .before .before .before .before .before .before .blocks) .gives (m55 (before .before) (before .levels-row2 .given))) → Typed.Mo T71
+      abbrev pub m58 : (before : After-point-heights-row2) → (given : s67 (before .before .before .before .before .before .before .before .before .before .before .before .before .before .before .before .before .before .before .before .before .before .blocks) .gives (m55 (before .before) (before .point-heights-row2 .given))) → Typed.Mo T71
       m58 = λ before given. s69 (before .before .before .before .before .before .before .before .before .before .before .before .before .before .before .before .before .before .before .before .before .before .blocks) (m57 before given)
 
-      abbrev pub m59 : (before : After-levels-row2) → (given : s67 (before .before .before .before .before .before .before .before .before .before .before .before .before .before .before .before .before .before .before .before .before .before .blocks) .gives (m55 (before .before) (before .levels-row2 .given))) → Typed.Mo T72
+      abbrev pub m59 : (before : After-point-heights-row2) → (given : s67 (before .before .before .before .before .before .before .before .before .before .before .before .before .before .before .before .before .before .before .before .before .before .blocks) .gives (m55 (before .before) (before .point-heights-row2 .given))) → Typed.Mo T72
       m59 = λ before given. s70 (before .before .before .before .before .before .before .before .before .before .before .before .before .before .before .before .before .before .before .before .before .before .blocks) (m58 before given)
 
-      abbrev pub m60 : (before : After-levels-row2) → (given : s67 (before .before .before .before .before .before .before .before .before .before .before .before .before .before .before .before .before .before .before .before .before .before .blocks) .gives (m55 (before .before) (before .levels-row2 .given))) → Typed.Mo T73
+      abbrev pub m60 : (before : After-point-heights-row2) → (given : s67 (before .before .before .before .before .before .before .before .before .before .before .before .before .before .before .before .before .before .before .before .before .before .blocks) .gives (m55 (before .before) (before .point-heights-row2 .given))) → Typed.Mo T73
       m60 = λ before given. s71 (before .before .before .before .before .before .before .before .before .before .before .before .before .before .before .before .before .before .before .before .before .before .blocks) (m59 before given)
 
       abbrev pub m61 : (before : After-fithmoul-run) → (given : s73 (before .before .before .before .before .before .before .before .before .before .before .before .before .before .before .before .before .before .before .before .before .before .before .blocks) .gives (m60 (before .before) (After-fithmoul-run·gave before))) → Typed.Mo T75
@@ -4331,7 +4331,7 @@ module _ (claims· : Claims) where
       abbrev pub Need-returns : Type 0
       Need-returns = (c : After-holds) → Post· tt (dens (c .before .before .before .before .before .before .before .before .before .before .before .before .before .before .before .before .before .before .before .before .before .before .before .before .before .before .before .before .before .before .before .before .before .before .before .args)) (Function.resV r tt (m136 (c .before) (After-holds·gave c) .0)) (Clauses.atExit (Kinds.endedOf 0 ps r) tt (dens (c .before .before .before .before .before .before .before .before .before .before .before .before .before .before .before .before .before .before .before .before .before .before .before .before .before .before .before .before .before .before .before .before .before .before .before .args)) (Enter.lastsP tt 1 ps xs (dens (c .before .before .before .before .before .before .before .before .before .before .before .before .before .before .before .before .before .before .before .before .before .before .before .before .before .before .before .before .before .before .before .before .before .before .before .args)) (m136 (c .before) (After-holds·gave c) .1)))
 
-      module _ (seven-nodes-requires : Need-seven-nodes-requires) (array-borrow-prefix-positions : Need-array-borrow-prefix-positions) (slice-aggregate-fithmoul-run : Need-slice-aggregate-fithmoul-run) (array-borrow-prefix-heights : Need-array-borrow-prefix-heights) (slice-aggregate-fithmoul-run-2 : Need-slice-aggregate-fithmoul-run-2) (array-borrow-prefix-outs : Need-array-borrow-prefix-outs) (slice-aggregate-fithmoul-run-3 : Need-slice-aggregate-fithmoul-run-3) (array-borrow-prefix-halves : Need-array-borrow-prefix-halves) (slice-aggregate-fithmoul-run-4 : Need-slice-aggregate-fithmoul-run-4) (array-borrow-prefix-faces : Need-array-borrow-prefix-faces) (slice-aggregate-fithmoul-run-5 : Need-slice-aggregate-fithmoul-run-5) (array-borrow-prefix-nodes : Need-array-borrow-prefix-nodes) (slice-aggregate-fithmoul-run-6 : Need-slice-aggregate-fithmoul-run-6) (array-borrow-prefix-freed : Need-array-borrow-prefix-freed) (slice-aggregate-fithmoul-run-7 : Need-slice-aggregate-fithmoul-run-7) (array-borrow-prefix-buckets : Need-array-borrow-prefix-buckets) (slice-aggregate-fithmoul-run-8 : Need-slice-aggregate-fithmoul-run-8) (array-borrow-prefix-pending : Need-array-borrow-prefix-pending) (slice-aggregate-fithmoul-run-9 : Need-slice-aggregate-fithmoul-run-9) (array-borrow-prefix-answers : Need-array-borrow-prefix-answers) (slice-aggregate-fithmoul-run-10 : Need-slice-aggregate-fithmoul-run-10) (array-share-prefix-points-row : Need-array-share-prefix-points-row) (slice-aggregate-fithmoul-run-11 : Need-slice-aggregate-fithmoul-run-11) (array-share-prefix-levels-row : Need-array-share-prefix-levels-row) (slice-aggregate-fithmoul-run-12 : Need-slice-aggregate-fithmoul-run-12) (fithmoul-run-requires : Need-fithmoul-run-requires) (with-rows-requires : Need-with-rows-requires) (ring-holds-requires : Need-ring-holds-requires) (holds-requires : Need-holds-requires) (returns : Need-returns) where
+      module _ (seven-nodes-requires : Need-seven-nodes-requires) (array-borrow-prefix-positions : Need-array-borrow-prefix-positions) (slice-aggregate-fithmoul-run : Need-slice-aggregate-fithmoul-run) (array-borrow-prefix-heights : Need-array-borrow-prefix-heights) (slice-aggregate-fithmoul-run-2 : Need-slice-aggregate-fithmoul-run-2) (array-borrow-prefix-outs : Need-array-borrow-prefix-outs) (slice-aggregate-fithmoul-run-3 : Need-slice-aggregate-fithmoul-run-3) (array-borrow-prefix-halves : Need-array-borrow-prefix-halves) (slice-aggregate-fithmoul-run-4 : Need-slice-aggregate-fithmoul-run-4) (array-borrow-prefix-faces : Need-array-borrow-prefix-faces) (slice-aggregate-fithmoul-run-5 : Need-slice-aggregate-fithmoul-run-5) (array-borrow-prefix-nodes : Need-array-borrow-prefix-nodes) (slice-aggregate-fithmoul-run-6 : Need-slice-aggregate-fithmoul-run-6) (array-borrow-prefix-freed : Need-array-borrow-prefix-freed) (slice-aggregate-fithmoul-run-7 : Need-slice-aggregate-fithmoul-run-7) (array-borrow-prefix-buckets : Need-array-borrow-prefix-buckets) (slice-aggregate-fithmoul-run-8 : Need-slice-aggregate-fithmoul-run-8) (array-borrow-prefix-pending : Need-array-borrow-prefix-pending) (slice-aggregate-fithmoul-run-9 : Need-slice-aggregate-fithmoul-run-9) (array-borrow-prefix-answers : Need-array-borrow-prefix-answers) (slice-aggregate-fithmoul-run-10 : Need-slice-aggregate-fithmoul-run-10) (array-share-prefix-points-row : Need-array-share-prefix-points-row) (slice-aggregate-fithmoul-run-11 : Need-slice-aggregate-fithmoul-run-11) (array-share-prefix-point-heights-row : Need-array-share-prefix-point-heights-row) (slice-aggregate-fithmoul-run-12 : Need-slice-aggregate-fithmoul-run-12) (fithmoul-run-requires : Need-fithmoul-run-requires) (with-rows-requires : Need-with-rows-requires) (ring-holds-requires : Need-ring-holds-requires) (holds-requires : Need-holds-requires) (returns : Need-returns) where
         lay7 : (c : After-holds) → at24 (c .before .before .before .before .before .before .before .before .before .before .before .before .before .before .before .before .before .before .before .before .before .before .before .before .before .before .before .before .before .before .before .before .before .before .before .blocks) (W0 (c .before .before .before .before .before .before .before .before .before .before .before .before .before .before .before .before .before .before .before .before .before .before .before .before .before .before .before .before .before .before .before .before .before .before .before .args) (c .before .before .before .before .before .before .before .before .before .before .before .before .before .before .before .before .before .before .before .before .before .before .before .before .before .before .before .before .before .before .before .before .before .before .before .blocks)) (m112 (c .before) (After-holds·gave c))
         lay7 = λ c. (tt, ((tt, (tt, (tt, (tt, (tt, (tt, (tt, (tt, tt)))))))), returns record { before = c .before; holds = c .holds }))
 
@@ -4348,17 +4348,17 @@ module _ (claims· : Claims) where
         lay3 = λ c. (Path'.refl, λ g. (Path'.refl, λ g'. (Path'.refl, λ g''. (Path'.refl, λ g'3. (Path'.refl, λ g'4. (Path'.refl, λ g'5. (Path'.refl, λ g'6. (Path'.refl, λ g'7. (Path'.refl, λ g'8. lay4 record { before = record { before = record { before = record { before = record { before = record { before = record { before = record { before = record { before = record { before = c .before; fithmoul-run = c .fithmoul-run }; positions3 = record { given = g } }; heights3 = record { given = g' } }; outs3 = record { given = g'' } }; halves3 = record { given = g'3 } }; faces3 = record { given = g'4 } }; nodes2 = record { given = g'5 } }; freed2 = record { given = g'6 } }; buckets2 = record { given = g'7 } }; pending2 = record { given = g'8 } })))))))))
 
         lay2 : (c : After-heights2) → at134 (c .before .before .before .before .before .before .before .before .before .before .before .blocks) (W0 (c .before .before .before .before .before .before .before .before .before .before .before .args) (c .before .before .before .before .before .before .before .before .before .before .before .blocks)) (m35 (c .before) (c .heights2 .given))
-        lay2 = λ c. (array-borrow-prefix-outs record { before = c .before; heights2 = c .heights2 }, λ g. (Relend.count-is T40 39 40 (λ x. x) (λ u. u .1 .1 .1 .1 .1 .1 .1 .1 .1 .1 .1 .1 .1 .1 .1 .1 .1 .1 .1 .1 .1 .1 .1 .0) (m36 record { before = c .before; heights2 = c .heights2 } g) (slice-aggregate-fithmoul-run-3 record { before = record { before = c .before; heights2 = c .heights2 }; outs2 = record { given = g } }), (array-borrow-prefix-halves record { before = record { before = c .before; heights2 = c .heights2 }; outs2 = record { given = g } }, λ g'. (Relend.count-is T43 41 42 (λ x. x) (λ u. u .1 .1 .1 .1 .1 .1 .1 .1 .1 .1 .1 .1 .1 .1 .1 .1 .1 .1 .1 .1 .1 .1 .1 .1 .0) (m38 record { before = record { before = c .before; heights2 = c .heights2 }; outs2 = record { given = g } } g') (slice-aggregate-fithmoul-run-4 record { before = record { before = record { before = c .before; heights2 = c .heights2 }; outs2 = record { given = g } }; halves2 = record { given = g' } }), (array-borrow-prefix-faces record { before = record { before = record { before = c .before; heights2 = c .heights2 }; outs2 = record { given = g } }; halves2 = record { given = g' } }, λ g''. (Relend.count-is T46 43 44 (λ x. x) (λ u. u .1 .1 .1 .1 .1 .1 .1 .1 .1 .1 .1 .1 .1 .1 .1 .1 .1 .1 .1 .1 .1 .1 .1 .1 .1 .0) (m40 record { before = record { before = record { before = c .before; heights2 = c .heights2 }; outs2 = record { given = g } }; halves2 = record { given = g' } } g'') (slice-aggregate-fithmoul-run-5 record { before = record { before = record { before = record { before = c .before; heights2 = c .heights2 }; outs2 = record { given = g } }; halves2 = record { given = g' } }; faces2 = record { given = g'' } }), (array-borrow-prefix-nodes record { before = record { before = record { before = record { before = c .before; heights2 = c .heights2 }; outs2 = record { given = g } }; halves2 = record { given = g' } }; faces2 = record { given = g'' } }, λ g'3. (Relend.count-is T49 45 46 (λ x. x) (λ u. u .1 .1 .1 .1 .1 .1 .1 .1 .1 .1 .1 .1 .1 .1 .1 .1 .1 .1 .1 .1 .1 .1 .1 .1 .1 .1 .0) (m42 record { before = record { before = record { before = record { before = c .before; heights2 = c .heights2 }; outs2 = record { given = g } }; halves2 = record { given = g' } }; faces2 = record { given = g'' } } g'3) (slice-aggregate-fithmoul-run-6 record { before = record { before = record { before = record { before = record { before = c .before; heights2 = c .heights2 }; outs2 = record { given = g } }; halves2 = record { given = g' } }; faces2 = record { given = g'' } }; nodes = record { given = g'3 } }), (array-borrow-prefix-freed record { before = record { before = record { before = record { before = record { before = c .before; heights2 = c .heights2 }; outs2 = record { given = g } }; halves2 = record { given = g' } }; faces2 = record { given = g'' } }; nodes = record { given = g'3 } }, λ g'4. (Relend.count-is T52 47 48 (λ x. x) (λ u. u .1 .1 .1 .1 .1 .1 .1 .1 .1 .1 .1 .1 .1 .1 .1 .1 .1 .1 .1 .1 .1 .1 .1 .1 .1 .1 .1 .0) (m44 record { before = record { before = record { before = record { before = record { before = c .before; heights2 = c .heights2 }; outs2 = record { given = g } }; halves2 = record { given = g' } }; faces2 = record { given = g'' } }; nodes = record { given = g'3 } } g'4) (slice-aggregate-fithmoul-run-7 record { before = record { before = record { before = record { before = record { before = record { before = c .before; heights2 = c .heights2 }; outs2 = record { given = g } }; halves2 = record { given = g' } }; faces2 = record { given = g'' } }; nodes = record { given = g'3 } }; freed = record { given = g'4 } }), (array-borrow-prefix-buckets record { before = record { before = record { before = record { before = record { before = record { before = c .before; heights2 = c .heights2 }; outs2 = record { given = g } }; halves2 = record { given = g' } }; faces2 = record { given = g'' } }; nodes = record { given = g'3 } }; freed = record { given = g'4 } }, λ g'5. (Relend.count-is T55 49 50 (λ x. x) (λ u. u .1 .1 .1 .1 .1 .1 .1 .1 .1 .1 .1 .1 .1 .1 .1 .1 .1 .1 .1 .1 .1 .1 .1 .1 .1 .1 .1 .1 .0) (m46 record { before = record { before = record { before = record { before = record { before = record { before = c .before; heights2 = c .heights2 }; outs2 = record { given = g } }; halves2 = record { given = g' } }; faces2 = record { given = g'' } }; nodes = record { given = g'3 } }; freed = record { given = g'4 } } g'5) (slice-aggregate-fithmoul-run-8 record { before = record { before = record { before = record { before = record { before = record { before = record { before = c .before; heights2 = c .heights2 }; outs2 = record { given = g } }; halves2 = record { given = g' } }; faces2 = record { given = g'' } }; nodes = record { given = g'3 } }; freed = record { given = g'4 } }; buckets = record { given = g'5 } }), (array-borrow-prefix-pending record { before = record { before = record { before = record { before = record { before = record { before = record { before = c .before; heights2 = c .heights2 }; outs2 = record { given = g } }; halves2 = record { given = g' } }; faces2 = record { given = g'' } }; nodes = record { given = g'3 } }; freed = record { given = g'4 } }; buckets = record { given = g'5 } }, λ g'6. (Relend.count-is T58 51 52 (λ x. x) (λ u. u .1 .1 .1 .0) (m48 record { before = record { before = record { before = record { before = record { before = record { before = record { before = c .before; heights2 = c .heights2 }; outs2 = record { given = g } }; halves2 = record { given = g' } }; faces2 = record { given = g'' } }; nodes = record { given = g'3 } }; freed = record { given = g'4 } }; buckets = record { given = g'5 } } g'6) (slice-aggregate-fithmoul-run-9 record { before = record { before = record { before = record { before = record { before = record { before = record { before = record { before = c .before; heights2 = c .heights2 }; outs2 = record { given = g } }; halves2 = record { given = g' } }; faces2 = record { given = g'' } }; nodes = record { given = g'3 } }; freed = record { given = g'4 } }; buckets = record { given = g'5 } }; pending = record { given = g'6 } }), (array-borrow-prefix-answers record { before = record { before = record { before = record { before = record { before = record { before = record { before = record { before = c .before; heights2 = c .heights2 }; outs2 = record { given = g } }; halves2 = record { given = g' } }; faces2 = record { given = g'' } }; nodes = record { given = g'3 } }; freed = record { given = g'4 } }; buckets = record { given = g'5 } }; pending = record { given = g'6 } }, λ g'7. (Relend.count-is T61 53 54 (λ x. x) (λ u. u .1 .1 .1 .1 .0) (m50 record { before = record { before = record { before = record { before = record { before = record { before = record { before = record { before = c .before; heights2 = c .heights2 }; outs2 = record { given = g } }; halves2 = record { given = g' } }; faces2 = record { given = g'' } }; nodes = record { given = g'3 } }; freed = record { given = g'4 } }; buckets = record { given = g'5 } }; pending = record { given = g'6 } } g'7) (slice-aggregate-fithmoul-run-10 record { before = record { before = record { before = record { before = record { before = record { before = record { before = record { before = record { before = c .before; heights2 = c .heights2 }; outs2 = record { given = g } }; halves2 = record { given = g' } }; faces2 = record { given = g'' } }; nodes = record { given = g'3 } }; freed = record { given = g'4 } }; buckets = record { given = g'5 } }; pending = record { given = g'6 } }; answers = record { given = g'7 } }), (array-share-prefix-points-row record { before = record { before = record { before = record { before = record { before = record { before = record { before = record { before = record { before = c .before; heights2 = c .heights2 }; outs2 = record { given = g } }; halves2 = record { given = g' } }; faces2 = record { given = g'' } }; nodes = record { given = g'3 } }; freed = record { given = g'4 } }; buckets = record { given = g'5 } }; pending = record { given = g'6 } }; answers = record { given = g'7 } }, λ g'8. (Relend.count-is T64 55 56 (λ x. x) (λ u. u .1 .1 .1 .1 .1 .1 .1 .1 .1 .1 .1 .1 .1 .1 .1 .1 .1 .1 .1 .1 .1 .1 .1 .1 .1 .1 .1 .1 .1 .0) (m52 record { before = record { before = record { before = record { before = record { before = record { before = record { before = record { before = record { before = c .before; heights2 = c .heights2 }; outs2 = record { given = g } }; halves2 = record { given = g' } }; faces2 = record { given = g'' } }; nodes = record { given = g'3 } }; freed = record { given = g'4 } }; buckets = record { given = g'5 } }; pending = record { given = g'6 } }; answers = record { given = g'7 } } g'8) (slice-aggregate-fithmoul-run-11 record { before = record { before = record { before = record { before = record { before = record { before = record { before = record { before = record { before = record { before = c .before; heights2 = c .heights2 }; outs2 = record { given = g } }; halves2 = record { given = g' } }; faces2 = record { given = g'' } }; nodes = record { given = g'3 } }; freed = record { given = g'4 } }; buckets = record { given = g'5 } }; pending = record { given = g'6 } }; answers = record { given = g'7 } }; points-row2 = record { given = g'8 } }), (array-share-prefix-levels-row record { before = record { before = record { before = record { before = record { before = record { before = record { before = record { before = record { before = record { before = c .before; heights2 = c .heights2 }; outs2 = record { given = g } }; halves2 = record { given = g' } }; faces2 = record { given = g'' } }; nodes = record { given = g'3 } }; freed = record { given = g'4 } }; buckets = record { given = g'5 } }; pending = record { given = g'6 } }; answers = record { given = g'7 } }; points-row2 = record { given = g'8 } }, λ g'9. (Relend.count-is T67 57 58 (λ x. x) (λ u. u .1 .1 .1 .1 .1 .1 .1 .1 .1 .1 .1 .1 .1 .1 .1 .1 .1 .1 .1 .1 .1 .1 .1 .1 .1 .1 .1 .1 .1 .1 .0) (m54 record { before = record { before = record { before = record { before = record { before = record { before = record { before = record { before = record { before = record { before = c .before; heights2 = c .heights2 }; outs2 = record { given = g } }; halves2 = record { given = g' } }; faces2 = record { given = g'' } }; nodes = record { given = g'3 } }; freed = record { given = g'4 } }; buckets = record { given = g'5 } }; pending = record { given = g'6 } }; answers = record { given = g'7 } }; points-row2 = record { given = g'8 } } g'9) (slice-aggregate-fithmoul-run-12 record { before = record { before = record { before = record { before = record { before = record { before = record { before = record { before = record { before = record { before = record { before = c .before; heights2 = c .heights2 }; outs2 = record { given = g } }; halves2 = record { given = g' } }; faces2 = record { given = g'' } }; nodes = record { given = g'3 } }; freed = record { given = g'4 } }; buckets = record { given = g'5 } }; pending = record { given = g'6 } }; answers = record { given = g'7 } }; points-row2 = record { given = g'8 } }; levels-row2 = record { given = g'9 } }), (fithmoul-run-requires record { before = record { before = record { before = record { before = record { before = record { before = record { before = record { before = record { before = record { before = record { before = c .before; heights2 = c .heights2 }; outs2 = record { given = g } }; halves2 = record { given = g' } }; faces2 = record { given = g'' } }; nodes = record { given = g'3 } }; freed = record { given = g'4 } }; buckets = record { given = g'5 } }; pending = record { given = g'6 } }; answers = record { given = g'7 } }; points-row2 = record { given = g'8 } }; levels-row2 = record { given = g'9 } }, λ g'10. lay3 record { before = record { before = record { before = record { before = record { before = record { before = record { before = record { before = record { before = record { before = record { before = record { before = c .before; heights2 = c .heights2 }; outs2 = record { given = g } }; halves2 = record { given = g' } }; faces2 = record { given = g'' } }; nodes = record { given = g'3 } }; freed = record { given = g'4 } }; buckets = record { given = g'5 } }; pending = record { given = g'6 } }; answers = record { given = g'7 } }; points-row2 = record { given = g'8 } }; levels-row2 = record { given = g'9 } }; fithmoul-run = Called.called ps·1 r·1 (claims· .3) T68 (Num.vFld 31 (List._∷_ (Syntax.field 0) List.[]) 0 λ x. Counts.struct .as-values x .0, (Num.vFld 31 (List._∷_ (Syntax.field 1) List.[]) 4 λ x. Counts.struct .as-values x .1 .0, (Num.vFld 31 (List._∷_ (Syntax.field 2) List.[]) 8 λ x. Counts.struct .as-values x .1 .1 .0, (record { pos = 36; ty = Syntax.tyRef Syntax.erased Syntax.mut ty·0; ref = λ x. x }, (record { pos = 38; ty = Syntax.tyRef Syntax.erased Syntax.mut ty·0; ref = λ x. x }, (record { pos = 40; ty = Syntax.tyRef Syntax.erased Syntax.mut ty·0; ref = λ x. x }, (record { pos = 42; ty = Syntax.tyRef Syntax.erased Syntax.mut ty·0; ref = λ x. x }, (record { pos = 44; ty = Syntax.tyRef Syntax.erased Syntax.mut ty·0; ref = λ x. x }, (record { pos = 46; ty = Syntax.tyRef Syntax.erased Syntax.mut (ELEMMEM.pointee (ELEM.the-row .written)); ref = λ x. x }, (record { pos = 48; ty = Syntax.tyRef Syntax.erased Syntax.mut ty·0; ref = λ x. x }, (record { pos = 50; ty = Syntax.tyRef Syntax.erased Syntax.mut ty·0; ref = λ x. x }, (record { pos = 52; ty = Syntax.tyRef Syntax.erased Syntax.mut ty·0; ref = λ x. x }, (record { pos = 54; ty = Syntax.tyRef Syntax.erased Syntax.mut ty·1; ref = λ x. x }, (Float.fFld 5 (List._∷_ (Syntax.field 0) List.[]) 0 λ x. Point2.struct .as-values x .0, (Float.fFld 5 (List._∷_ (Syntax.field 1) List.[]) 8 λ x. Point2.struct .as-values x .1 .0, (record { pos = 56; ty = Syntax.tyRef Syntax.erased Syntax.imm ty·0; ref = λ x. x }, (record { pos = 58; ty = Syntax.tyRef Syntax.erased Syntax.imm ty·0; ref = λ x. x }, tt))))))))))))))))) (m55 record { before = record { before = record { before = record { before = record { before = record { before = record { before = record { before = record { before = record { before = c .before; heights2 = c .heights2 }; outs2 = record { given = g } }; halves2 = record { given = g' } }; faces2 = record { given = g'' } }; nodes = record { given = g'3 } }; freed = record { given = g'4 } }; buckets = record { given = g'5 } }; pending = record { given = g'6 } }; answers = record { given = g'7 } }; points-row2 = record { given = g'8 } } g'9) g'10 })))))))))))))))))))))
+        lay2 = λ c. (array-borrow-prefix-outs record { before = c .before; heights2 = c .heights2 }, λ g. (Relend.count-is T40 39 40 (λ x. x) (λ u. u .1 .1 .1 .1 .1 .1 .1 .1 .1 .1 .1 .1 .1 .1 .1 .1 .1 .1 .1 .1 .1 .1 .1 .0) (m36 record { before = c .before; heights2 = c .heights2 } g) (slice-aggregate-fithmoul-run-3 record { before = record { before = c .before; heights2 = c .heights2 }; outs2 = record { given = g } }), (array-borrow-prefix-halves record { before = record { before = c .before; heights2 = c .heights2 }; outs2 = record { given = g } }, λ g'. (Relend.count-is T43 41 42 (λ x. x) (λ u. u .1 .1 .1 .1 .1 .1 .1 .1 .1 .1 .1 .1 .1 .1 .1 .1 .1 .1 .1 .1 .1 .1 .1 .1 .0) (m38 record { before = record { before = c .before; heights2 = c .heights2 }; outs2 = record { given = g } } g') (slice-aggregate-fithmoul-run-4 record { before = record { before = record { before = c .before; heights2 = c .heights2 }; outs2 = record { given = g } }; halves2 = record { given = g' } }), (array-borrow-prefix-faces record { before = record { before = record { before = c .before; heights2 = c .heights2 }; outs2 = record { given = g } }; halves2 = record { given = g' } }, λ g''. (Relend.count-is T46 43 44 (λ x. x) (λ u. u .1 .1 .1 .1 .1 .1 .1 .1 .1 .1 .1 .1 .1 .1 .1 .1 .1 .1 .1 .1 .1 .1 .1 .1 .1 .0) (m40 record { before = record { before = record { before = c .before; heights2 = c .heights2 }; outs2 = record { given = g } }; halves2 = record { given = g' } } g'') (slice-aggregate-fithmoul-run-5 record { before = record { before = record { before = record { before = c .before; heights2 = c .heights2 }; outs2 = record { given = g } }; halves2 = record { given = g' } }; faces2 = record { given = g'' } }), (array-borrow-prefix-nodes record { before = record { before = record { before = record { before = c .before; heights2 = c .heights2 }; outs2 = record { given = g } }; halves2 = record { given = g' } }; faces2 = record { given = g'' } }, λ g'3. (Relend.count-is T49 45 46 (λ x. x) (λ u. u .1 .1 .1 .1 .1 .1 .1 .1 .1 .1 .1 .1 .1 .1 .1 .1 .1 .1 .1 .1 .1 .1 .1 .1 .1 .1 .0) (m42 record { before = record { before = record { before = record { before = c .before; heights2 = c .heights2 }; outs2 = record { given = g } }; halves2 = record { given = g' } }; faces2 = record { given = g'' } } g'3) (slice-aggregate-fithmoul-run-6 record { before = record { before = record { before = record { before = record { before = c .before; heights2 = c .heights2 }; outs2 = record { given = g } }; halves2 = record { given = g' } }; faces2 = record { given = g'' } }; nodes = record { given = g'3 } }), (array-borrow-prefix-freed record { before = record { before = record { before = record { before = record { before = c .before; heights2 = c .heights2 }; outs2 = record { given = g } }; halves2 = record { given = g' } }; faces2 = record { given = g'' } }; nodes = record { given = g'3 } }, λ g'4. (Relend.count-is T52 47 48 (λ x. x) (λ u. u .1 .1 .1 .1 .1 .1 .1 .1 .1 .1 .1 .1 .1 .1 .1 .1 .1 .1 .1 .1 .1 .1 .1 .1 .1 .1 .1 .0) (m44 record { before = record { before = record { before = record { before = record { before = c .before; heights2 = c .heights2 }; outs2 = record { given = g } }; halves2 = record { given = g' } }; faces2 = record { given = g'' } }; nodes = record { given = g'3 } } g'4) (slice-aggregate-fithmoul-run-7 record { before = record { before = record { before = record { before = record { before = record { before = c .before; heights2 = c .heights2 }; outs2 = record { given = g } }; halves2 = record { given = g' } }; faces2 = record { given = g'' } }; nodes = record { given = g'3 } }; freed = record { given = g'4 } }), (array-borrow-prefix-buckets record { before = record { before = record { before = record { before = record { before = record { before = c .before; heights2 = c .heights2 }; outs2 = record { given = g } }; halves2 = record { given = g' } }; faces2 = record { given = g'' } }; nodes = record { given = g'3 } }; freed = record { given = g'4 } }, λ g'5. (Relend.count-is T55 49 50 (λ x. x) (λ u. u .1 .1 .1 .1 .1 .1 .1 .1 .1 .1 .1 .1 .1 .1 .1 .1 .1 .1 .1 .1 .1 .1 .1 .1 .1 .1 .1 .1 .0) (m46 record { before = record { before = record { before = record { before = record { before = record { before = c .before; heights2 = c .heights2 }; outs2 = record { given = g } }; halves2 = record { given = g' } }; faces2 = record { given = g'' } }; nodes = record { given = g'3 } }; freed = record { given = g'4 } } g'5) (slice-aggregate-fithmoul-run-8 record { before = record { before = record { before = record { before = record { before = record { before = record { before = c .before; heights2 = c .heights2 }; outs2 = record { given = g } }; halves2 = record { given = g' } }; faces2 = record { given = g'' } }; nodes = record { given = g'3 } }; freed = record { given = g'4 } }; buckets = record { given = g'5 } }), (array-borrow-prefix-pending record { before = record { before = record { before = record { before = record { before = record { before = record { before = c .before; heights2 = c .heights2 }; outs2 = record { given = g } }; halves2 = record { given = g' } }; faces2 = record { given = g'' } }; nodes = record { given = g'3 } }; freed = record { given = g'4 } }; buckets = record { given = g'5 } }, λ g'6. (Relend.count-is T58 51 52 (λ x. x) (λ u. u .1 .1 .1 .0) (m48 record { before = record { before = record { before = record { before = record { before = record { before = record { before = c .before; heights2 = c .heights2 }; outs2 = record { given = g } }; halves2 = record { given = g' } }; faces2 = record { given = g'' } }; nodes = record { given = g'3 } }; freed = record { given = g'4 } }; buckets = record { given = g'5 } } g'6) (slice-aggregate-fithmoul-run-9 record { before = record { before = record { before = record { before = record { before = record { before = record { before = record { before = c .before; heights2 = c .heights2 }; outs2 = record { given = g } }; halves2 = record { given = g' } }; faces2 = record { given = g'' } }; nodes = record { given = g'3 } }; freed = record { given = g'4 } }; buckets = record { given = g'5 } }; pending = record { given = g'6 } }), (array-borrow-prefix-answers record { before = record { before = record { before = record { before = record { before = record { before = record { before = record { before = c .before; heights2 = c .heights2 }; outs2 = record { given = g } }; halves2 = record { given = g' } }; faces2 = record { given = g'' } }; nodes = record { given = g'3 } }; freed = record { given = g'4 } }; buckets = record { given = g'5 } }; pending = record { given = g'6 } }, λ g'7. (Relend.count-is T61 53 54 (λ x. x) (λ u. u .1 .1 .1 .1 .0) (m50 record { before = record { before = record { before = record { before = record { before = record { before = record { before = record { before = c .before; heights2 = c .heights2 }; outs2 = record { given = g } }; halves2 = record { given = g' } }; faces2 = record { given = g'' } }; nodes = record { given = g'3 } }; freed = record { given = g'4 } }; buckets = record { given = g'5 } }; pending = record { given = g'6 } } g'7) (slice-aggregate-fithmoul-run-10 record { before = record { before = record { before = record { before = record { before = record { before = record { before = record { before = record { before = c .before; heights2 = c .heights2 }; outs2 = record { given = g } }; halves2 = record { given = g' } }; faces2 = record { given = g'' } }; nodes = record { given = g'3 } }; freed = record { given = g'4 } }; buckets = record { given = g'5 } }; pending = record { given = g'6 } }; answers = record { given = g'7 } }), (array-share-prefix-points-row record { before = record { before = record { before = record { before = record { before = record { before = record { before = record { before = record { before = c .before; heights2 = c .heights2 }; outs2 = record { given = g } }; halves2 = record { given = g' } }; faces2 = record { given = g'' } }; nodes = record { given = g'3 } }; freed = record { given = g'4 } }; buckets = record { given = g'5 } }; pending = record { given = g'6 } }; answers = record { given = g'7 } }, λ g'8. (Relend.count-is T64 55 56 (λ x. x) (λ u. u .1 .1 .1 .1 .1 .1 .1 .1 .1 .1 .1 .1 .1 .1 .1 .1 .1 .1 .1 .1 .1 .1 .1 .1 .1 .1 .1 .1 .1 .0) (m52 record { before = record { before = record { before = record { before = record { before = record { before = record { before = record { before = record { before = c .before; heights2 = c .heights2 }; outs2 = record { given = g } }; halves2 = record { given = g' } }; faces2 = record { given = g'' } }; nodes = record { given = g'3 } }; freed = record { given = g'4 } }; buckets = record { given = g'5 } }; pending = record { given = g'6 } }; answers = record { given = g'7 } } g'8) (slice-aggregate-fithmoul-run-11 record { before = record { before = record { before = record { before = record { before = record { before = record { before = record { before = record { before = record { before = c .before; heights2 = c .heights2 }; outs2 = record { given = g } }; halves2 = record { given = g' } }; faces2 = record { given = g'' } }; nodes = record { given = g'3 } }; freed = record { given = g'4 } }; buckets = record { given = g'5 } }; pending = record { given = g'6 } }; answers = record { given = g'7 } }; points-row2 = record { given = g'8 } }), (array-share-prefix-point-heights-row record { before = record { before = record { before = record { before = record { before = record { before = record { before = record { before = record { before = record { before = c .before; heights2 = c .heights2 }; outs2 = record { given = g } }; halves2 = record { given = g' } }; faces2 = record { given = g'' } }; nodes = record { given = g'3 } }; freed = record { given = g'4 } }; buckets = record { given = g'5 } }; pending = record { given = g'6 } }; answers = record { given = g'7 } }; points-row2 = record { given = g'8 } }, λ g'9. (Relend.count-is T67 57 58 (λ x. x) (λ u. u .1 .1 .1 .1 .1 .1 .1 .1 .1 .1 .1 .1 .1 .1 .1 .1 .1 .1 .1 .1 .1 .1 .1 .1 .1 .1 .1 .1 .1 .1 .0) (m54 record { before = record { before = record { before = record { before = record { before = record { before = record { before = record { before = record { before = record { before = c .before; heights2 = c .heights2 }; outs2 = record { given = g } }; halves2 = record { given = g' } }; faces2 = record { given = g'' } }; nodes = record { given = g'3 } }; freed = record { given = g'4 } }; buckets = record { given = g'5 } }; pending = record { given = g'6 } }; answers = record { given = g'7 } }; points-row2 = record { given = g'8 } } g'9) (slice-aggregate-fithmoul-run-12 record { before = record { before = record { before = record { before = record { before = record { before = record { before = record { before = record { before = record { before = record { before = c .before; heights2 = c .heights2 }; outs2 = record { given = g } }; halves2 = record { given = g' } }; faces2 = record { given = g'' } }; nodes = record { given = g'3 } }; freed = record { given = g'4 } }; buckets = record { given = g'5 } }; pending = record { given = g'6 } }; answers = record { given = g'7 } }; points-row2 = record { given = g'8 } }; point-heights-row2 = record { given = g'9 } }), (fithmoul-run-requires record { before = record { before = record { before = record { before = record { before = record { before = record { before = record { before = record { before = record { before = record { before = c .before; heights2 = c .heights2 }; outs2 = record { given = g } }; halves2 = record { given = g' } }; faces2 = record { given = g'' } }; nodes = record { given = g'3 } }; freed = record { given = g'4 } }; buckets = record { given = g'5 } }; pending = record { given = g'6 } }; answers = record { given = g'7 } }; points-row2 = record { given = g'8 } }; point-heights-row2 = record { given = g'9 } }, λ g'10. lay3 record { before = record { before = record { before = record { before = record { before = record { before = record { before = record { before = record { before = record { before = record { before = record { before = c .before; heights2 = c .heights2 }; outs2 = record { given = g } }; halves2 = record { given = g' } }; faces2 = record { given = g'' } }; nodes = record { given = g'3 } }; freed = record { given = g'4 } }; buckets = record { given = g'5 } }; pending = record { given = g'6 } }; answers = record { given = g'7 } }; points-row2 = record { given = g'8 } }; point-heights-row2 = record { given = g'9 } }; fithmoul-run = Called.called ps·1 r·1 (claims· .3) T68 (Num.vFld 31 (List._∷_ (Syntax.field 0) List.[]) 0 λ x. Counts.struct .as-values x .0, (Num.vFld 31 (List._∷_ (Syntax.field 1) List.[]) 4 λ x. Counts.struct .as-values x .1 .0, (Num.vFld 31 (List._∷_ (Syntax.field 2) List.[]) 8 λ x. Counts.struct .as-values x .1 .1 .0, (record { pos = 36; ty = Syntax.tyRef Syntax.erased Syntax.mut ty·0; ref = λ x. x }, (record { pos = 38; ty = Syntax.tyRef Syntax.erased Syntax.mut ty·0; ref = λ x. x }, (record { pos = 40; ty = Syntax.tyRef Syntax.erased Syntax.mut ty·0; ref = λ x. x }, (record { pos = 42; ty = Syntax.tyRef Syntax.erased Syntax.mut ty·0; ref = λ x. x }, (record { pos = 44; ty = Syntax.tyRef Syntax.erased Syntax.mut ty·0; ref = λ x. x }, (record { pos = 46; ty = Syntax.tyRef Syntax.erased Syntax.mut (ELEMMEM.pointee (ELEM.the-row .written)); ref = λ x. x }, (record { pos = 48; ty = Syntax.tyRef Syntax.erased Syntax.mut ty·0; ref = λ x. x }, (record { pos = 50; ty = Syntax.tyRef Syntax.erased Syntax.mut ty·0; ref = λ x. x }, (record { pos = 52; ty = Syntax.tyRef Syntax.erased Syntax.mut ty·0; ref = λ x. x }, (record { pos = 54; ty = Syntax.tyRef Syntax.erased Syntax.mut ty·1; ref = λ x. x }, (Float.fFld 5 (List._∷_ (Syntax.field 0) List.[]) 0 λ x. Point2.struct .as-values x .0, (Float.fFld 5 (List._∷_ (Syntax.field 1) List.[]) 8 λ x. Point2.struct .as-values x .1 .0, (record { pos = 56; ty = Syntax.tyRef Syntax.erased Syntax.imm ty·0; ref = λ x. x }, (record { pos = 58; ty = Syntax.tyRef Syntax.erased Syntax.imm ty·0; ref = λ x. x }, tt))))))))))))))))) (m55 record { before = record { before = record { before = record { before = record { before = record { before = record { before = record { before = record { before = record { before = c .before; heights2 = c .heights2 }; outs2 = record { given = g } }; halves2 = record { given = g' } }; faces2 = record { given = g'' } }; nodes = record { given = g'3 } }; freed = record { given = g'4 } }; buckets = record { given = g'5 } }; pending = record { given = g'6 } }; answers = record { given = g'7 } }; points-row2 = record { given = g'8 } } g'9) g'10 })))))))))))))))))))))
 
         lay1 : (c : After-seven-nodes) → at166 (c .before .before .before .before .before .before .blocks) (W0 (c .before .before .before .before .before .before .args) (c .before .before .before .before .before .before .blocks)) (m6 (c .before) (After-seven-nodes·gave c))
-        lay1 = λ c. (tt, λ g. (tt, λ g'. (tt, λ g''. (array-borrow-prefix-positions record { before = record { before = record { before = record { before = c .before; seven-nodes = c .seven-nodes }; points-row = record { given = g } }; levels-row = record { given = g' } }; counts = record { given = g'' } }, λ g'3. (Relend.count-is T34 35 36 (λ x. x) (λ u. u .1 .1 .1 .1 .1 .1 .1 .1 .1 .1 .1 .1 .1 .1 .1 .1 .1 .1 .1 .1 .1 .0) (m32 record { before = record { before = record { before = record { before = c .before; seven-nodes = c .seven-nodes }; points-row = record { given = g } }; levels-row = record { given = g' } }; counts = record { given = g'' } } g'3) (slice-aggregate-fithmoul-run record { before = record { before = record { before = record { before = record { before = c .before; seven-nodes = c .seven-nodes }; points-row = record { given = g } }; levels-row = record { given = g' } }; counts = record { given = g'' } }; positions2 = record { given = g'3 } }), (array-borrow-prefix-heights record { before = record { before = record { before = record { before = record { before = c .before; seven-nodes = c .seven-nodes }; points-row = record { given = g } }; levels-row = record { given = g' } }; counts = record { given = g'' } }; positions2 = record { given = g'3 } }, λ g'4. (Relend.count-is T37 37 38 (λ x. x) (λ u. u .1 .1 .1 .1 .1 .1 .1 .1 .1 .1 .1 .1 .1 .1 .1 .1 .1 .1 .1 .1 .1 .1 .0) (m34 record { before = record { before = record { before = record { before = record { before = c .before; seven-nodes = c .seven-nodes }; points-row = record { given = g } }; levels-row = record { given = g' } }; counts = record { given = g'' } }; positions2 = record { given = g'3 } } g'4) (slice-aggregate-fithmoul-run-2 record { before = record { before = record { before = record { before = record { before = record { before = c .before; seven-nodes = c .seven-nodes }; points-row = record { given = g } }; levels-row = record { given = g' } }; counts = record { given = g'' } }; positions2 = record { given = g'3 } }; heights2 = record { given = g'4 } }), lay2 record { before = record { before = record { before = record { before = record { before = record { before = c .before; seven-nodes = c .seven-nodes }; points-row = record { given = g } }; levels-row = record { given = g' } }; counts = record { given = g'' } }; positions2 = record { given = g'3 } }; heights2 = record { given = g'4 } })))))))
+        lay1 = λ c. (tt, λ g. (tt, λ g'. (tt, λ g''. (array-borrow-prefix-positions record { before = record { before = record { before = record { before = c .before; seven-nodes = c .seven-nodes }; points-row = record { given = g } }; point-heights-row = record { given = g' } }; counts = record { given = g'' } }, λ g'3. (Relend.count-is T34 35 36 (λ x. x) (λ u. u .1 .1 .1 .1 .1 .1 .1 .1 .1 .1 .1 .1 .1 .1 .1 .1 .1 .1 .1 .1 .1 .0) (m32 record { before = record { before = record { before = record { before = c .before; seven-nodes = c .seven-nodes }; points-row = record { given = g } }; point-heights-row = record { given = g' } }; counts = record { given = g'' } } g'3) (slice-aggregate-fithmoul-run record { before = record { before = record { before = record { before = record { before = c .before; seven-nodes = c .seven-nodes }; points-row = record { given = g } }; point-heights-row = record { given = g' } }; counts = record { given = g'' } }; positions2 = record { given = g'3 } }), (array-borrow-prefix-heights record { before = record { before = record { before = record { before = record { before = c .before; seven-nodes = c .seven-nodes }; points-row = record { given = g } }; point-heights-row = record { given = g' } }; counts = record { given = g'' } }; positions2 = record { given = g'3 } }, λ g'4. (Relend.count-is T37 37 38 (λ x. x) (λ u. u .1 .1 .1 .1 .1 .1 .1 .1 .1 .1 .1 .1 .1 .1 .1 .1 .1 .1 .1 .1 .1 .1 .0) (m34 record { before = record { before = record { before = record { before = record { before = c .before; seven-nodes = c .seven-nodes }; points-row = record { given = g } }; point-heights-row = record { given = g' } }; counts = record { given = g'' } }; positions2 = record { given = g'3 } } g'4) (slice-aggregate-fithmoul-run-2 record { before = record { before = record { before = record { before = record { before = record { before = c .before; seven-nodes = c .seven-nodes }; points-row = record { given = g } }; point-heights-row = record { given = g' } }; counts = record { given = g'' } }; positions2 = record { given = g'3 } }; heights2 = record { given = g'4 } }), lay2 record { before = record { before = record { before = record { before = record { before = record { before = c .before; seven-nodes = c .seven-nodes }; points-row = record { given = g } }; point-heights-row = record { given = g' } }; counts = record { given = g'' } }; positions2 = record { given = g'3 } }; heights2 = record { given = g'4 } })))))))
 
         pub laid : (c : Start) → at172 (c .blocks) (W0 (c .args) (c .blocks)) (m0 (c .args) (c .blocks))
         laid = λ c. (tt, λ g. (tt, λ g'. (tt, λ g''. (tt, λ g'3. (tt, λ g'4. (seven-nodes-requires record { before = record { before = record { before = record { before = record { before = c; positions = record { given = g } }; heights = record { given = g' } }; outs = record { given = g'' } }; halves = record { given = g'3 } }; faces = record { given = g'4 } }, λ g'5. lay1 record { before = record { before = record { before = record { before = record { before = record { before = c; positions = record { given = g } }; heights = record { given = g' } }; outs = record { given = g'' } }; halves = record { given = g'3 } }; faces = record { given = g'4 } }; seven-nodes = Called.called ps·0 r·0 (claims· .1) T6 tt (m5 record { before = record { before = record { before = record { before = c; positions = record { given = g } }; heights = record { given = g' } }; outs = record { given = g'' } }; halves = record { given = g'3 } } g'4) g'5 }))))))
 
         module _ (κs : Lifetimes.Lfts 0) (qs : Lifetimes.Shares 0) where
           pub asked : (a : Kinds.Dens κs ps) → (good : Kinds.GoodsP κs ps a) → (pre : Pre· κs a) → (bs : List.List Nat.ℕ) → Φ bs (Any.wantQ 0 ps r xs m κs qs a (Post· κs a)) (Function.init 0 ps r xs m κs qs a)
-          asked = λ a good pre bs. laid record { args = record { mesh = a .0; ring = a .1 .0; pending-length = a .1 .1 .0; answers-length = a .1 .1 .1 .0; center = a .1 .1 .1 .1 .0; points = a .1 .1 .1 .1 .1 .0; levels = a .1 .1 .1 .1 .1 .1 .0; v = a .1 .1 .1 .1 .1 .1 .1 .0 }; blocks = bs; good = good; fits = record { pending-length = record { fits = good .1 .1 .0 .1 }; answers-length = record { fits = good .1 .1 .1 .0 .1 }; v = record { fits = good .1 .1 .1 .1 .1 .1 .1 .0 .1 } }; pre = pre }
+          asked = λ a good pre bs. laid record { args = record { mesh = a .0; ring = a .1 .0; pending-length = a .1 .1 .0; answers-length = a .1 .1 .1 .0; center = a .1 .1 .1 .1 .0; points = a .1 .1 .1 .1 .1 .0; point-heights = a .1 .1 .1 .1 .1 .1 .0; v = a .1 .1 .1 .1 .1 .1 .1 .0 }; blocks = bs; good = good; fits = record { pending-length = record { fits = good .1 .1 .0 .1 }; answers-length = record { fits = good .1 .1 .1 .0 .1 }; v = record { fits = good .1 .1 .1 .1 .1 .1 .1 .0 .1 } }; pre = pre }
 
         module _ {M : Type 1} (𝓤 : URA.URA M) (H : Wp.Heap 𝓤) (A : Atoms.Atoms 𝓤) (W : Kit.Given 𝓤 H A) (𝓣 : Wp.Tables 𝓤 H) (known0 : Plain.Known 𝓤 H A W 𝓣 0 ps·0 r·0 (claims· .0) (claims· .1) "test_mesh::seven_nodes") (known1 : Plain.Known 𝓤 H A W 𝓣 12 ps·1 r·1 (claims· .2) (claims· .3) "fithmoul::fithmoul_run") (known2 : Plain.Known 𝓤 H A W 𝓣 0 ps·2 r·2 (claims· .4) (claims· .5) "test_mesh::with_rows") (known3 : Plain.Known 𝓤 H A W 𝓣 0 ps·3 r·3 (claims· .6) (claims· .7) "test_mesh::ring_holds") (known4 : Plain.Known 𝓤 H A W 𝓣 0 ps·4 r·4 (claims· .8) (claims· .9) "test_mesh::holds") where
           pub spec : Statement.Triple 𝓤 (Wp.WpFn 𝓤 H (𝓣 .C) (𝓣 .Λ) (Function.fnOf 0 ps r xs m hs body)) (Function.plainOf 𝓤 H A 0 ps r Pre· Post·)

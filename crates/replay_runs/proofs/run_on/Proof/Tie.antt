@@ -48,8 +48,8 @@ After-seven-nodes = Lts.After-seven-nodes (Reads'4.Asked, Reads'4.Learnt, Reads.
 abbrev pub After-points-row : Type 0
 After-points-row = Lts.After-points-row (Reads'4.Asked, Reads'4.Learnt, Reads.Asked, Reads.Learnt, Reads'5.Asked, Reads'5.Learnt, Reads'3.Asked, Reads'3.Learnt, Reads''.Asked, Reads''.Learnt) Reads'.Pre Reads'.Post
 
-abbrev pub After-levels-row : Type 0
-After-levels-row = Lts.After-levels-row (Reads'4.Asked, Reads'4.Learnt, Reads.Asked, Reads.Learnt, Reads'5.Asked, Reads'5.Learnt, Reads'3.Asked, Reads'3.Learnt, Reads''.Asked, Reads''.Learnt) Reads'.Pre Reads'.Post
+abbrev pub After-point-heights-row : Type 0
+After-point-heights-row = Lts.After-point-heights-row (Reads'4.Asked, Reads'4.Learnt, Reads.Asked, Reads.Learnt, Reads'5.Asked, Reads'5.Learnt, Reads'3.Asked, Reads'3.Learnt, Reads''.Asked, Reads''.Learnt) Reads'.Pre Reads'.Post
 
 abbrev pub After-counts : Type 0
 After-counts = Lts.After-counts (Reads'4.Asked, Reads'4.Learnt, Reads.Asked, Reads.Learnt, Reads'5.Asked, Reads'5.Learnt, Reads'3.Asked, Reads'3.Learnt, Reads''.Asked, Reads''.Learnt) Reads'.Pre Reads'.Post
@@ -87,8 +87,8 @@ After-answers = Lts.After-answers (Reads'4.Asked, Reads'4.Learnt, Reads.Asked, R
 abbrev pub After-points-row2 : Type 0
 After-points-row2 = Lts.After-points-row2 (Reads'4.Asked, Reads'4.Learnt, Reads.Asked, Reads.Learnt, Reads'5.Asked, Reads'5.Learnt, Reads'3.Asked, Reads'3.Learnt, Reads''.Asked, Reads''.Learnt) Reads'.Pre Reads'.Post
 
-abbrev pub After-levels-row2 : Type 0
-After-levels-row2 = Lts.After-levels-row2 (Reads'4.Asked, Reads'4.Learnt, Reads.Asked, Reads.Learnt, Reads'5.Asked, Reads'5.Learnt, Reads'3.Asked, Reads'3.Learnt, Reads''.Asked, Reads''.Learnt) Reads'.Pre Reads'.Post
+abbrev pub After-point-heights-row2 : Type 0
+After-point-heights-row2 = Lts.After-point-heights-row2 (Reads'4.Asked, Reads'4.Learnt, Reads.Asked, Reads.Learnt, Reads'5.Asked, Reads'5.Learnt, Reads'3.Asked, Reads'3.Learnt, Reads''.Asked, Reads''.Learnt) Reads'.Pre Reads'.Post
 
 abbrev pub After-fithmoul-run : Type 0
 After-fithmoul-run = Lts.After-fithmoul-run (Reads'4.Asked, Reads'4.Learnt, Reads.Asked, Reads.Learnt, Reads'5.Asked, Reads'5.Learnt, Reads'3.Asked, Reads'3.Learnt, Reads''.Asked, Reads''.Learnt) Reads'.Pre Reads'.Post
@@ -201,8 +201,8 @@ Need-array-share-prefix-points-row = Lts.Need-array-share-prefix-points-row (Rea
 abbrev pub Need-slice-aggregate-fithmoul-run-11 : Type 0
 Need-slice-aggregate-fithmoul-run-11 = Lts.Need-slice-aggregate-fithmoul-run-11 (Reads'4.Asked, Reads'4.Learnt, Reads.Asked, Reads.Learnt, Reads'5.Asked, Reads'5.Learnt, Reads'3.Asked, Reads'3.Learnt, Reads''.Asked, Reads''.Learnt) Reads'.Pre Reads'.Post
 
-abbrev pub Need-array-share-prefix-levels-row : Type 0
-Need-array-share-prefix-levels-row = Lts.Need-array-share-prefix-levels-row (Reads'4.Asked, Reads'4.Learnt, Reads.Asked, Reads.Learnt, Reads'5.Asked, Reads'5.Learnt, Reads'3.Asked, Reads'3.Learnt, Reads''.Asked, Reads''.Learnt) Reads'.Pre Reads'.Post
+abbrev pub Need-array-share-prefix-point-heights-row : Type 0
+Need-array-share-prefix-point-heights-row = Lts.Need-array-share-prefix-point-heights-row (Reads'4.Asked, Reads'4.Learnt, Reads.Asked, Reads.Learnt, Reads'5.Asked, Reads'5.Learnt, Reads'3.Asked, Reads'3.Learnt, Reads''.Asked, Reads''.Learnt) Reads'.Pre Reads'.Post
 
 abbrev pub Need-slice-aggregate-fithmoul-run-12 : Type 0
 Need-slice-aggregate-fithmoul-run-12 = Lts.Need-slice-aggregate-fithmoul-run-12 (Reads'4.Asked, Reads'4.Learnt, Reads.Asked, Reads.Learnt, Reads'5.Asked, Reads'5.Learnt, Reads'3.Asked, Reads'3.Learnt, Reads''.Asked, Reads''.Learnt) Reads'.Pre Reads'.Post
@@ -223,7 +223,7 @@ abbrev pub Need-returns : Type 0
 Need-returns = Lts.Need-returns (Reads'4.Asked, Reads'4.Learnt, Reads.Asked, Reads.Learnt, Reads'5.Asked, Reads'5.Learnt, Reads'3.Asked, Reads'3.Learnt, Reads''.Asked, Reads''.Learnt) Reads'.Pre Reads'.Post
 
 module _ {M : Type 1} where
-  pub spec : (answer : Need-seven-nodes-requires) → (answer : Need-array-borrow-prefix-positions) → (answer : Need-slice-aggregate-fithmoul-run) → (answer : Need-array-borrow-prefix-heights) → (answer : Need-slice-aggregate-fithmoul-run-2) → (answer : Need-array-borrow-prefix-outs) → (answer : Need-slice-aggregate-fithmoul-run-3) → (answer : Need-array-borrow-prefix-halves) → (answer : Need-slice-aggregate-fithmoul-run-4) → (answer : Need-array-borrow-prefix-faces) → (answer : Need-slice-aggregate-fithmoul-run-5) → (answer : Need-array-borrow-prefix-nodes) → (answer : Need-slice-aggregate-fithmoul-run-6) → (answer : Need-array-borrow-prefix-freed) → (answer : Need-slice-aggregate-fithmoul-run-7) → (answer : Need-array-borrow-prefix-buckets) → (answer : Need-slice-aggregate-fithmoul-run-8) → (answer : Need-array-borrow-prefix-pending) → (answer : Need-slice-aggregate-fithmoul-run-9) → (answer : Need-array-borrow-prefix-answers) → (answer : Need-slice-aggregate-fithmoul-run-10) → (answer : Need-array-share-prefix-points-row) → (answer : Need-slice-aggregate-fithmoul-run-11) → (answer : Need-array-share-prefix-levels-row) → (answer : Need-slice-aggregate-fithmoul-run-12) → (answer : Need-fithmoul-run-requires) → (answer : Need-with-rows-requires) → (answer : Need-ring-holds-requires) → (answer : Need-holds-requires) → (answer : Need-returns) → Lts.Closed (Reads'4.Asked, Reads'4.Learnt, Reads.Asked, Reads.Learnt, Reads'5.Asked, Reads'5.Learnt, Reads'3.Asked, Reads'3.Learnt, Reads''.Asked, Reads''.Learnt) Reads'.Pre Reads'.Post M
+  pub spec : (answer : Need-seven-nodes-requires) → (answer : Need-array-borrow-prefix-positions) → (answer : Need-slice-aggregate-fithmoul-run) → (answer : Need-array-borrow-prefix-heights) → (answer : Need-slice-aggregate-fithmoul-run-2) → (answer : Need-array-borrow-prefix-outs) → (answer : Need-slice-aggregate-fithmoul-run-3) → (answer : Need-array-borrow-prefix-halves) → (answer : Need-slice-aggregate-fithmoul-run-4) → (answer : Need-array-borrow-prefix-faces) → (answer : Need-slice-aggregate-fithmoul-run-5) → (answer : Need-array-borrow-prefix-nodes) → (answer : Need-slice-aggregate-fithmoul-run-6) → (answer : Need-array-borrow-prefix-freed) → (answer : Need-slice-aggregate-fithmoul-run-7) → (answer : Need-array-borrow-prefix-buckets) → (answer : Need-slice-aggregate-fithmoul-run-8) → (answer : Need-array-borrow-prefix-pending) → (answer : Need-slice-aggregate-fithmoul-run-9) → (answer : Need-array-borrow-prefix-answers) → (answer : Need-slice-aggregate-fithmoul-run-10) → (answer : Need-array-share-prefix-points-row) → (answer : Need-slice-aggregate-fithmoul-run-11) → (answer : Need-array-share-prefix-point-heights-row) → (answer : Need-slice-aggregate-fithmoul-run-12) → (answer : Need-fithmoul-run-requires) → (answer : Need-with-rows-requires) → (answer : Need-ring-holds-requires) → (answer : Need-holds-requires) → (answer : Need-returns) → Lts.Closed (Reads'4.Asked, Reads'4.Learnt, Reads.Asked, Reads.Learnt, Reads'5.Asked, Reads'5.Learnt, Reads'3.Asked, Reads'3.Learnt, Reads''.Asked, Reads''.Learnt) Reads'.Pre Reads'.Post M
   spec = λ answer answer' answer'' answer'3 answer'4 answer'5 answer'6 answer'7 answer'8 answer'9 answer'10 answer'11 answer'12 answer'13 answer'14 answer'15 answer'16 answer'17 answer'18 answer'19 answer'20 answer'21 answer'22 answer'23 answer'24 answer'25 answer'26 answer'27 answer'28 answer'29. Lts.spec (Reads'4.Asked, Reads'4.Learnt, Reads.Asked, Reads.Learnt, Reads'5.Asked, Reads'5.Learnt, Reads'3.Asked, Reads'3.Learnt, Reads''.Asked, Reads''.Learnt) Reads'.Pre Reads'.Post answer answer' answer'' answer'3 answer'4 answer'5 answer'6 answer'7 answer'8 answer'9 answer'10 answer'11 answer'12 answer'13 answer'14 answer'15 answer'16 answer'17 answer'18 answer'19 answer'20 answer'21 answer'22 answer'23 answer'24 answer'25 answer'26 answer'27 answer'28 answer'29
 
   pub close : Lts.Closed (Reads'4.Asked, Reads'4.Learnt, Reads.Asked, Reads.Learnt, Reads'5.Asked, Reads'5.Learnt, Reads'3.Asked, Reads'3.Learnt, Reads''.Asked, Reads''.Learnt) Reads'.Pre Reads'.Post M → Statement.statement M

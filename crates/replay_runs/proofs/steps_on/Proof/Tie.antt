@@ -24,9 +24,6 @@ Start = Lts.Start (Reads''.Asked, Reads''.Learnt, Reads'.Asked, Reads'.Learnt, R
 abbrev pub After-positions : Type 0
 After-positions = Lts.After-positions (Reads''.Asked, Reads''.Learnt, Reads'.Asked, Reads'.Learnt, Reads'3.Asked, Reads'3.Learnt) Reads.Pre Reads.Post
 
-abbrev pub After-heights : Type 0
-After-heights = Lts.After-heights (Reads''.Asked, Reads''.Learnt, Reads'.Asked, Reads'.Learnt, Reads'3.Asked, Reads'3.Learnt) Reads.Pre Reads.Post
-
 abbrev pub After-outs : Type 0
 After-outs = Lts.After-outs (Reads''.Asked, Reads''.Learnt, Reads'.Asked, Reads'.Learnt, Reads'3.Asked, Reads'3.Learnt) Reads.Pre Reads.Post
 
@@ -104,6 +101,9 @@ After-answers2 = Lts.After-answers2 (Reads''.Asked, Reads''.Learnt, Reads'.Asked
 
 abbrev pub After-left : Type 0
 After-left = Lts.After-left (Reads''.Asked, Reads''.Learnt, Reads'.Asked, Reads'.Learnt, Reads'3.Asked, Reads'3.Learnt) Reads.Pre Reads.Post
+
+abbrev pub After-heights : Type 0
+After-heights = Lts.After-heights (Reads''.Asked, Reads''.Learnt, Reads'.Asked, Reads'.Learnt, Reads'3.Asked, Reads'3.Learnt) Reads.Pre Reads.Post
 
 abbrev pub After-with-rows : Type 0
 After-with-rows = Lts.After-with-rows (Reads''.Asked, Reads''.Learnt, Reads'.Asked, Reads'.Learnt, Reads'3.Asked, Reads'3.Learnt) Reads.Pre Reads.Post
