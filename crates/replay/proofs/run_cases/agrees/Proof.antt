@@ -28,7 +28,7 @@ cleared-requires : tie.Need-cleared-requires
 cleared-requires c κs = search needs
 
 run-on-requires : tie.Need-run-on-requires
-run-on-requires c κs = (c .before .before .before .before .before .before .before .read-mesh .ensures .0, (c .before .before .before .before .before .before .before .read-mesh .ensures .1 .0, (c .before .before .before .before .before .before .before .read-mesh .ensures .1 .1 .0, (c .before .before .before .before .before .before .before .read-mesh .ensures .1 .1 .1 .0, (c .before .before .before .before .before .before .before .read-mesh .ensures .1 .1 .1 .1, (c .before .before .before .before .before .before .read-ring .ensures .0, (c .before .before .before .before .before .before .read-ring .ensures .1 .0, (c .before .before .before .before .before .before .read-ring .ensures .1 .1, (c .before .before .before .before .before .read-sevens .ensures, (c .before .before .before .read-sevens2 .ensures, (c .before .before .read-points .ensures, c .before .read-heights .ensures)))))))))))
+run-on-requires c κs = (c .before .before .before .before .before .before .before .read-mesh .ensures, (c .before .before .before .before .before .before .read-ring .ensures, (c .before .before .before .before .before .read-sevens .ensures, (c .before .before .before .read-sevens2 .ensures, (c .before .before .read-points .ensures, c .before .read-heights .ensures)))))
 
 run-agrees-requires : tie.Need-run-agrees-requires
 run-agrees-requires c κs = search needs
