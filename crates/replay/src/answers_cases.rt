@@ -2,18 +2,13 @@
 // first pass of `fix_convexity`, and the mesh after it. Ours are held against both meshes link by link: counts, positions and every entry of the rows. A run makes the
 // same steps and goes on with all passes and the closing pass. Its answers must be the Rust's too, and it must leave what a finish makes of the Rust's mesh after the
 // first pass, with the faces and flips of that pass and of that finish added up.
-ghost use Prim.Native.Nat.{_≤_};
-ghost use lib.ListN.{length};
-use super::calls;
-use super::calls::Ring;
-use super::finish_cases;
-use super::meshes;
-use super::meshes::Passed;
-use super::meshes::Stepped;
-use super::run_cases;
-use super::run_cases::Ran;
+ghost use Rattle.test_mesh.specs.Lent.{CoordinatesLent, MeshLent};
+use super::lines;
 use angle::Point2;
 use fithmoul::results::FinishResult;
+use replay_runs::Passed;
+use replay_runs::RunLeft;
+use replay_runs::Stepped;
 use test_mesh::Agreed;
 use test_mesh::Coordinates;
 use test_mesh::CoordinatesLine;
@@ -21,6 +16,7 @@ use test_mesh::LONGS;
 use test_mesh::Longs;
 use test_mesh::Mesh;
 use test_mesh::NODES;
+use test_mesh::Ring;
 use test_mesh::WORDS;
 
 // The line `g faces flips`, of the first pass.
@@ -55,7 +51,7 @@ fn read_pass(text: &[u8], at: usize) -> PassLine {
 
 // The line `q`.
 fn read_points(text: &[u8], at: usize) -> CoordinatesLine
-    ensures { λ r. ⌜ r .coordinates .length ≤ length (r .coordinates .row) ⌝ }
+    ensures { λ r. ⌜ CoordinatesLent (r .coordinates) ⌝ }
 {
     let q = test_mesh::read_points(text, test_text::behind(text, at));
     let points = q.coordinates;
@@ -104,8 +100,8 @@ fn pass_agrees(text: &[u8], at: usize, after: Passed) -> bool {
 
 // Whether the numbers of a run are those of a pass and of the finish after it together.
 fn add_up(run: FinishResult, pass: PassLine, rest: FinishResult) -> bool {
-    let all = calls::numbers_of(run);
-    let later = calls::numbers_of(rest);
+    let all = lines::numbers_of(run);
+    let later = lines::numbers_of(rest);
     let faces = all[2];
     let flips = all[3];
     if faces < pass.faces {
@@ -122,11 +118,11 @@ fn add_up(run: FinishResult, pass: PassLine, rest: FinishResult) -> bool {
 }
 
 // Whether a run has answered as the line `a` has it, and has left what a finish makes of the mesh behind the line `g`.
-fn run_agrees(text: &[u8], at: usize, pass: usize, ran: Ran) -> bool {
+fn run_agrees(text: &[u8], at: usize, pass: usize, ran: RunLeft) -> bool {
     let a = compare_answers(text, at, ran.answers);
     let g = read_pass(text, pass);
     let m = test_mesh::read_mesh(text, g.at, test_mesh::LENT, true);
-    let ended = finish_cases::finish_on(m.mesh, WORDS, 0);
+    let ended = replay_calls::finish_on(m.mesh, WORDS, 0);
     a.agrees
         & ran.cleared
         & ended.cleared
@@ -136,22 +132,20 @@ fn run_agrees(text: &[u8], at: usize, pass: usize, ran: Ran) -> bool {
 
 // Whether all agree with the lines from `a` on.
 fn case_agrees(text: &[u8], at: usize, mesh: Mesh, center: Point2, points: Coordinates) -> bool
-    requires { ⌜ mesh .positions .length ≤ length (mesh .positions .row) ⌝ }
-    requires { ⌜ mesh .outs .length ≤ length (mesh .outs .row) ⌝ }
-    requires { ⌜ mesh .halves .length ≤ length (mesh .halves .row) ⌝ }
-    requires { ⌜ mesh .faces .length ≤ length (mesh .faces .row) ⌝ }
-    requires { ⌜ points .length ≤ length (points .row) ⌝ }
+    requires { ⌜ MeshLent mesh ⌝ }
+    requires { ⌜ CoordinatesLent points ⌝ }
 {
     let ring = Ring {
         nodes: NODES,
         freed: WORDS,
         buckets: WORDS,
     };
-    let ran = run_cases::run_on(mesh, ring, WORDS, LONGS, center, points, 0);
-    let stepped = meshes::steps_on(mesh, center, points);
+    let point_heights = test_mesh::zero_heights();
+    let ran = replay_runs::run_on(mesh, ring, WORDS, LONGS, center, points, point_heights, 0);
+    let stepped = replay_runs::steps_on(mesh, center, points);
     let last = stepped.mesh;
     let s = steps_agree(text, at, stepped);
-    let p = pass_agrees(text, s.at, meshes::pass_on(last));
+    let p = pass_agrees(text, s.at, replay_runs::pass_on(last));
     s.agrees & p & run_agrees(text, at, s.at, ran)
 }
 
@@ -159,7 +153,7 @@ fn case_agrees(text: &[u8], at: usize, mesh: Mesh, center: Point2, points: Coord
 pub fn agrees(text: &[u8], at: usize) -> bool {
     let i = read_number_line(text, at);
     let m = test_mesh::read_mesh(text, i.at, test_mesh::LENT, true);
-    let c = calls::read_center(text, m.at, b'c');
+    let c = lines::read_center(text, m.at, b'c');
     let q = read_points(text, c.at);
     let same = case_agrees(text, q.at, m.mesh, c.center, q.coordinates);
     same & i.agrees & m.is_whole & c.is_whole & q.is_whole

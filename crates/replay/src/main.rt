@@ -4,16 +4,16 @@
 // difference more.
 mod angles;
 mod answers_cases;
-mod calls;
 mod check_cases;
 mod finish_cases;
+mod lines;
 mod locate_cases;
-mod meshes;
 mod rows;
 mod run_cases;
 mod samples;
 mod step_cases;
 mod tests;
+mod volume_cases;
 
 // A list, by the call that it is about; `Answers` are those of the Rust.
 enum List {
@@ -23,6 +23,7 @@ enum List {
     Locate,
     Step,
     Run,
+    Volume,
     Answers,
 }
 
@@ -66,45 +67,45 @@ fn passed(t: Tally, mesh: usize, at: usize) -> Tally {
     }
 }
 
-// A line of the list for `locate`: a mesh has several lines `l`, and each is a case.
-fn locate_line(text: &[u8], t: Tally, tag: u8) -> Tally {
-    let after = test_text::next_line(text, t.at);
-    if tag == b'l' {
-        return counted(t, locate_cases::agrees(text, t.mesh, t.at), after);
-    }
-    let mesh = if tag == b'm' { t.at } else { t.mesh };
-    passed(t, mesh, after)
-}
-
-// The case whose first line stands at a place, and the place behind its last.
-fn case(text: &[u8], t: Tally, list: List) -> Tally {
-    let after = test_text::behind_line(text, t.at, b'r');
+// Whether a line is a case or begins one. Comments and the closing line do not; for `locate` a mesh has several lines `l`, and each is a case.
+fn is_case(tag: u8, list: List) -> bool {
     match list {
-        List::Check => counted(t, check_cases::agrees(text, t.at), after),
-        List::Finish => counted(t, finish_cases::agrees(text, t.at), after),
-        List::Step => counted(t, step_cases::agrees(text, t.at), after),
-        List::Run => counted(t, run_cases::agrees(text, t.at), after),
-        List::Answers => counted(
-            t,
-            answers_cases::agrees(text, t.at),
-            test_text::behind_line(text, t.at, b'e'),
-        ),
-        List::Samples => counted(
-            t,
-            samples::agrees(text, t.at),
-            test_text::next_line(text, t.at),
-        ),
-        List::Locate => locate_line(text, t, test_text::byte(text, t.at)),
+        List::Locate => tag == b'l',
+        _ => (tag != b'#') & (tag != b'z'),
     }
 }
 
-// A comment, the closing line, or a case.
+// Whether the case that begins at the next line agrees.
+fn agrees(text: &[u8], t: Tally, list: List) -> bool {
+    match list {
+        List::Samples => samples::agrees(text, t.at),
+        List::Check => check_cases::agrees(text, t.at),
+        List::Finish => finish_cases::agrees(text, t.at),
+        List::Locate => locate_cases::agrees(text, t.mesh, t.at),
+        List::Step => step_cases::agrees(text, t.at),
+        List::Run => run_cases::agrees(text, t.at),
+        List::Volume => volume_cases::agrees(text, t.at),
+        List::Answers => answers_cases::agrees(text, t.at),
+    }
+}
+
+// The place behind the last line of the case that begins at a place.
+fn behind_case(text: &[u8], at: usize, list: List) -> usize {
+    match list {
+        List::Samples | List::Locate => test_text::next_line(text, at),
+        List::Answers => test_text::behind_line(text, at, b'e'),
+        _ => test_text::behind_line(text, at, b'r'),
+    }
+}
+
+// The next line, with the lines after it that belong to its case.
 fn line(text: &[u8], t: Tally, list: List) -> Tally {
     let tag = test_text::byte(text, t.at);
-    if (tag == b'#') | (tag == b'z') {
-        return passed(t, t.mesh, test_text::next_line(text, t.at));
+    if is_case(tag, list) {
+        return counted(t, agrees(text, t, list), behind_case(text, t.at, list));
     }
-    case(text, t, list)
+    let mesh = if tag == b'm' { t.at } else { t.mesh };
+    passed(t, mesh, test_text::next_line(text, t.at))
 }
 
 // Every case of a list.
@@ -176,5 +177,6 @@ fn main() {
     replay(b"locate", b"locate.txt", List::Locate);
     replay(b"step", b"step.txt", List::Step);
     replay(b"run", b"run.txt", List::Run);
+    replay(b"volume", b"volume.txt", List::Volume);
     replay(b"answers", b"answers.txt", List::Answers);
 }

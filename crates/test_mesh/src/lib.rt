@@ -2,12 +2,16 @@
 // formats). A line of a row is its tag, the row's length, the number that fills it, and the row's first entries; a plain line is its tag and entries. A reader answers
 // where the next line begins and whether the line was as it should be; what it cannot read is never taken for something else.
 //
-// A row is an array with the number of its entries that are lent, passed and answered by value: only the function that makes a public call lends the rows.
+// A row is an array with the number of its entries that are lent, passed and answered by value: only the function that makes a public call lends the rows. Those of the
+// ring are lent with 7 in every entry.
+ghost use mathlib.Core.Path.{_≡_};
 ghost use Prim.Native.Nat.{_≤_};
 ghost use lib.ListN.{length};
+ghost use Rattle.test_mesh.specs.Lent.{CoordinatesLent, WordsLent, MeshLent};
 use angle::Point2;
 use math::Point;
 use mesh::Counts;
+use ring_rows::Node;
 use test_text::Number;
 
 // No row of a list is longer than these.
@@ -46,12 +50,21 @@ pub struct Longs {
     pub length: usize,
 }
 
+// `heights` has a number for each vertex.
 pub struct Mesh {
     pub counts: Counts,
     pub positions: Coordinates,
+    pub heights: Coordinates,
     pub outs: Words,
     pub halves: Words,
     pub faces: Words,
+}
+
+// The lengths of the ring's rows.
+pub struct Ring {
+    pub nodes: usize,
+    pub freed: usize,
+    pub buckets: usize,
 }
 
 pub struct CoordinatesLine {
@@ -90,10 +103,10 @@ pub struct RowStart {
 }
 
 // The tags of a mesh that is lent.
-pub const LENT: [u8; 5] = [b'm', b'p', b'o', b'h', b'f'];
+pub const LENT: [u8; 6] = [b'm', b'p', b'e', b'o', b'h', b'f'];
 
 // The tags of the mesh that a call must leave.
-pub const LEFT: [u8; 5] = [b'M', b'P', b'O', b'H', b'F'];
+pub const LEFT: [u8; 6] = [b'M', b'P', b'E', b'O', b'H', b'F'];
 
 // The place is the end of a line that began with a tag.
 pub fn is_line(text: &[u8], start: usize, tag: u8, end: usize) -> bool {
@@ -195,12 +208,15 @@ pub fn within(length: u64, most: usize) -> usize
     length as usize
 }
 
-// The entries that begin at a place into a row of u32; the place behind them.
-fn fill_words(text: &[u8], at: usize, past: Number, row: &mut [u32]) -> usize {
+// The entries that are written from a place on into a row of u32; the place behind them.
+fn fill_words(text: &[u8], at: usize, row: &mut [u32]) -> usize {
     let mut place = at;
     let mut i: usize = 0;
     while i < row.len() {
-        let entry = next_entry(text, place, past);
+        if test_text::byte(text, place) != b' ' {
+            return place;
+        }
+        let entry = test_text::read_number(text, place);
         let value = test_text::unsigned(entry);
         row[i] = value;
         place = entry.at;
@@ -210,11 +226,14 @@ fn fill_words(text: &[u8], at: usize, past: Number, row: &mut [u32]) -> usize {
 }
 
 // The same for a row of coordinates.
-fn fill_coordinates(text: &[u8], at: usize, past: Number, row: &mut [i32]) -> usize {
+fn fill_coordinates(text: &[u8], at: usize, row: &mut [i32]) -> usize {
     let mut place = at;
     let mut i: usize = 0;
     while i < row.len() {
-        let entry = next_entry(text, place, past);
+        if test_text::byte(text, place) != b' ' {
+            return place;
+        }
+        let entry = test_text::read_number(text, place);
         let value = test_text::signed(entry);
         row[i] = value;
         place = entry.at;
@@ -225,12 +244,13 @@ fn fill_coordinates(text: &[u8], at: usize, past: Number, row: &mut [i32]) -> us
 
 // A row of u32 whose line began so.
 fn read_words(text: &[u8], start: RowStart) -> WordsLine
-    ensures { λ r. ⌜ r .words .length ≤ length (r .words .row) ⌝ }
+    ensures { λ r. ⌜ WordsLent (r .words) ⌝ }
 {
-    let mut row = [0u32; WORDS];
     let past = start.past;
+    let filler = test_text::unsigned(past);
+    let mut row = [filler; WORDS];
     let count = within(start.length, WORDS);
-    let end = fill_words(text, past.at, past, &mut row[..count]);
+    let end = fill_words(text, past.at, &mut row[..count]);
     WordsLine {
         words: Words {
             row: row,
@@ -245,12 +265,13 @@ fn read_words(text: &[u8], start: RowStart) -> WordsLine
 
 // A row of coordinates whose line began so.
 fn read_coordinates(text: &[u8], start: RowStart) -> CoordinatesLine
-    ensures { λ r. ⌜ r .coordinates .length ≤ length (r .coordinates .row) ⌝ }
+    ensures { λ r. ⌜ CoordinatesLent (r .coordinates) ⌝ }
 {
-    let mut row = [0i32; COORDINATES];
     let past = start.past;
+    let filler = test_text::signed(past);
+    let mut row = [filler; COORDINATES];
     let count = within(start.length, COORDINATES);
-    let end = fill_coordinates(text, past.at, past, &mut row[..count]);
+    let end = fill_coordinates(text, past.at, &mut row[..count]);
     CoordinatesLine {
         coordinates: Coordinates {
             row: row,
@@ -263,20 +284,44 @@ fn read_coordinates(text: &[u8], start: RowStart) -> CoordinatesLine
     }
 }
 
-// Five lines with these tags.
-pub fn read_mesh(text: &[u8], at: usize, tags: [u8; 5], plain: bool) -> MeshLines
-    ensures { λ r. ⌜ r .mesh .positions .length ≤ length (r .mesh .positions .row) ⌝ }
-    ensures { λ r. ⌜ r .mesh .outs .length ≤ length (r .mesh .outs .row) ⌝ }
-    ensures { λ r. ⌜ r .mesh .halves .length ≤ length (r .mesh .halves .row) ⌝ }
-    ensures { λ r. ⌜ r .mesh .faces .length ≤ length (r .mesh .faces .row) ⌝ }
+// Heights where a list has none: zeros, and more than any list needs.
+pub fn zero_heights() -> Coordinates
+    ensures { λ r. ⌜ CoordinatesLent r ⌝ }
+{
+    Coordinates {
+        row: [0i32; COORDINATES],
+        length: COORDINATES,
+    }
+}
+
+// A row of heights, whose line may be missing.
+pub fn read_heights(text: &[u8], at: usize, tag: u8) -> CoordinatesLine
+    ensures { λ r. ⌜ CoordinatesLent (r .coordinates) ⌝ }
+{
+    if test_text::byte(text, at) == tag {
+        return read_coordinates(text, read_start(text, at, tag, false, COORDINATES));
+    }
+    let heights = zero_heights();
+    CoordinatesLine {
+        coordinates: heights,
+        at: at,
+        is_whole: true,
+    }
+}
+
+// Six lines with these tags; that of the heights may be missing.
+pub fn read_mesh(text: &[u8], at: usize, tags: [u8; 6], plain: bool) -> MeshLines
+    ensures { λ r. ⌜ MeshLent (r .mesh) ⌝ }
 {
     let m = read_counts(text, at, tags[0]);
     let p = read_coordinates(text, read_start(text, m.at, tags[1], plain, COORDINATES));
-    let o = read_words(text, read_start(text, p.at, tags[2], plain, WORDS));
-    let h = read_words(text, read_start(text, o.at, tags[3], plain, WORDS));
-    let f = read_words(text, read_start(text, h.at, tags[4], plain, WORDS));
+    let e = read_heights(text, p.at, tags[2]);
+    let o = read_words(text, read_start(text, e.at, tags[3], plain, WORDS));
+    let h = read_words(text, read_start(text, o.at, tags[4], plain, WORDS));
+    let f = read_words(text, read_start(text, h.at, tags[5], plain, WORDS));
     let counts = m.counts;
     let positions = p.coordinates;
+    let heights = e.coordinates;
     let outs = o.words;
     let halves = h.words;
     let faces = f.words;
@@ -284,12 +329,48 @@ pub fn read_mesh(text: &[u8], at: usize, tags: [u8; 5], plain: bool) -> MeshLine
         mesh: Mesh {
             counts: counts,
             positions: positions,
+            heights: heights,
             outs: outs,
             halves: halves,
             faces: faces,
         },
         at: f.at,
-        is_whole: m.is_whole & p.is_whole & o.is_whole & h.is_whole & f.is_whole,
+        is_whole: m.is_whole & p.is_whole & e.is_whole & o.is_whole & h.is_whole & f.is_whole,
+    }
+}
+
+// A mesh with other counts, and rows of the same lengths.
+pub fn with_rows(
+    mesh: Mesh,
+    counts: Counts,
+    positions: [i32; COORDINATES],
+    heights: [i32; COORDINATES],
+    outs: [u32; WORDS],
+    halves: [u32; WORDS],
+    faces: [u32; WORDS],
+) -> Mesh {
+    Mesh {
+        counts: counts,
+        positions: Coordinates {
+            row: positions,
+            length: mesh.positions.length,
+        },
+        heights: Coordinates {
+            row: heights,
+            length: mesh.heights.length,
+        },
+        outs: Words {
+            row: outs,
+            length: mesh.outs.length,
+        },
+        halves: Words {
+            row: halves,
+            length: mesh.halves.length,
+        },
+        faces: Words {
+            row: faces,
+            length: mesh.faces.length,
+        },
     }
 }
 
@@ -312,7 +393,7 @@ fn numbers_from(text: &[u8], at: usize) -> usize {
 
 // The coordinates of points, as many as the line has from a place on.
 pub fn read_points(text: &[u8], at: usize) -> CoordinatesLine
-    ensures { λ r. ⌜ r .coordinates .length ≤ length (r .coordinates .row) ⌝ }
+    ensures { λ r. ⌜ CoordinatesLent (r .coordinates) ⌝ }
 {
     read_coordinates(
         text,
@@ -365,13 +446,14 @@ pub fn same_counts(a: Counts, b: Counts) -> bool {
 pub fn same_mesh(a: Mesh, b: Mesh) -> bool {
     same_counts(a.counts, b.counts)
         & same_coordinates(a.positions, b.positions)
+        & same_coordinates(a.heights, b.heights)
         & same_words(a.outs, b.outs)
         & same_words(a.halves, b.halves)
         & same_words(a.faces, b.faces)
 }
 
-// Whether counts and rows are those of five lines with these tags.
-pub fn compare_mesh(text: &[u8], at: usize, tags: [u8; 5], mesh: Mesh) -> Agreed {
+// Whether counts and rows are those of the lines with these tags.
+pub fn compare_mesh(text: &[u8], at: usize, tags: [u8; 6], mesh: Mesh) -> Agreed {
     let due = read_mesh(text, at, tags, false);
     Agreed {
         agrees: due.is_whole & same_mesh(due.mesh, mesh),
@@ -411,4 +493,44 @@ pub fn holds(row: [u32; WORDS], n: usize, v: u32) -> bool {
         i += 1;
     }
     n <= WORDS
+}
+
+// A row of nodes that is lent with 7 in every field.
+pub fn seven_nodes() -> [Node; NODES]
+    ensures { λ r. ⌜ length r ≡ 256 ⌝ }
+{
+    let seven = Node {
+        angle: 7.0,
+        edge: 7,
+        left: 7,
+        right: 7,
+    };
+    [seven; NODES]
+}
+
+fn node_holds(node: Node, v: u32) -> bool {
+    (node.angle == v as f64) & (node.edge == v) & (node.left == v) & (node.right == v)
+}
+
+// Whether every field of each of the first n nodes is v.
+fn nodes_hold(row: [Node; NODES], n: usize, v: u32) -> bool {
+    let mut i: usize = 0;
+    while i < NODES {
+        if (i < n) & !node_holds(row[i], v) {
+            return false;
+        }
+        i += 1;
+    }
+    n <= NODES
+}
+
+// Whether the ring's rows hold v in every entry.
+pub fn ring_holds(
+    ring: Ring,
+    nodes: [Node; NODES],
+    freed: [u32; WORDS],
+    buckets: [u32; WORDS],
+    v: u32,
+) -> bool {
+    nodes_hold(nodes, ring.nodes, v) & holds(freed, ring.freed, v) & holds(buckets, ring.buckets, v)
 }

@@ -8,16 +8,25 @@ use Rattle.test_mesh.proofs.fill_coordinates.Statement.{statement}
 use Rattle.test_mesh.proofs.fill_coordinates.Tie as tie
 
 abbrev Inv-loop : tie.InvT-loop
-Inv-loop text at past row₀ place₀ i₀ row place i = (i ≤ length row) × (length row ≡ length row₀)
+Inv-loop text at row₀ place₀ i₀ row place i = (i ≤ length row) × (length row ≡ length row₀)
 
 abbrev μ-loop : tie.MeasureT-loop
-μ-loop text at past row₀ place₀ i₀ row place i = length row₀ - i
+μ-loop text at row₀ place₀ i₀ row place i = length row₀ - i
 
 loop-holds : tie.Need-loop-holds Inv-loop μ-loop
 loop-holds c = search needs
 
-next-entry-requires : tie.Need-next-entry-requires Inv-loop μ-loop
-next-entry-requires c κs = search needs
+byte-requires : tie.Need-byte-requires Inv-loop μ-loop
+byte-requires c κs = search needs
+
+same-length : tie.Need-same-length Inv-loop μ-loop
+same-length c = search needs
+
+returns : tie.Need-returns Inv-loop μ-loop
+returns c = search needs
+
+read-number-requires : tie.Need-read-number-requires Inv-loop μ-loop
+read-number-requires c κs = search needs
 
 signed-requires : tie.Need-signed-requires Inv-loop μ-loop
 signed-requires c κs = search needs
@@ -37,11 +46,11 @@ loop-less c = search needs
 loop-again : tie.Need-loop-again Inv-loop μ-loop
 loop-again c = simp length-set (omega arith)
 
-same-length : tie.Need-same-length Inv-loop μ-loop
-same-length c = search needs
+same-length-2 : tie.Need-same-length-2 Inv-loop μ-loop
+same-length-2 c = search needs
 
-returns : tie.Need-returns Inv-loop μ-loop
-returns c = search needs
+returns-2 : tie.Need-returns-2 Inv-loop μ-loop
+returns-2 c = search needs
 
 pub fill-coordinates-spec : {M : Type 1} → statement M
 fill-coordinates-spec =
@@ -50,12 +59,15 @@ fill-coordinates-spec =
     Inv-loop
     μ-loop
     loop-holds
-    next-entry-requires
+    byte-requires
+    same-length
+    returns
+    read-number-requires
     signed-requires
     mul-value
     slice-set-from-value
     add-i
     loop-less
     loop-again
-    same-length
-    returns)
+    same-length-2
+    returns-2)

@@ -1,11 +1,14 @@
 -- `test_mesh::read_coordinates` meets its contract: the row keeps its length. Assumes nothing.
 use mathlib.Core.Path.{refl}
 use lib.ListN.{replicate, take, drop}
-use lib.IntN.{ℤ, pos}
+use lib.IntN.{ℤ}
 use Rattle.test_mesh.proofs.Lent.{part, whole}
 use borrow.Author.Needs.{needs}
 use Rattle.test_mesh.proofs.read_coordinates.Statement.{statement}
 use Rattle.test_mesh.proofs.read_coordinates.Tie as tie
+
+signed-requires : tie.Need-signed-requires
+signed-requires c κs = search needs
 
 within-requires : tie.Need-within-requires
 within-requires c κs = search needs
@@ -28,12 +31,13 @@ byte-requires c κs = search needs
 returns : tie.Need-returns
 returns c =
     let n = c .before .before .before .before .before .before .before .within in
-    whole {A = ℤ} (n .result) (take (n .result) (replicate 512 (pos 0))) (c .before .before .before .before .before .fill-coordinates .last .1 .1 .1 .0) (drop (n .result) (replicate 512 (pos 0))) (part _ 512 (replicate 512 (pos 0)) refl (n .ensures)) (c .before .before .before .before .before .fill-coordinates .kept .1 .1 .1 .0)
+    record { within = whole {A = ℤ} (n .result) (take (n .result) (replicate 512 _)) (c .before .before .before .before .before .fill-coordinates .last .1 .1 .0) (drop (n .result) (replicate 512 _)) (part _ 512 (replicate 512 _) refl (n .ensures)) (c .before .before .before .before .before .fill-coordinates .kept .1 .1 .0) }
 
 pub read-coordinates-spec : {M : Type 1} → statement M
 read-coordinates-spec =
     tie.close
     (tie.spec
+    signed-requires
     within-requires
     array-borrow-prefix-row
     slice-aggregate-fill-coordinates

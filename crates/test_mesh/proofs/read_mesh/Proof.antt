@@ -18,6 +18,12 @@ read-start-requires c κs = search needs
 read-coordinates-requires : tie.Need-read-coordinates-requires
 read-coordinates-requires c κs = search needs
 
+array-read-read-heights : tie.Need-array-read-read-heights
+array-read-read-heights c = search needs
+
+read-heights-requires : tie.Need-read-heights-requires
+read-heights-requires c κs = search needs
+
 array-read-read-start-2 : tie.Need-array-read-read-start-2
 array-read-read-start-2 c = search needs
 
@@ -46,7 +52,7 @@ read-words-requires-3 : tie.Need-read-words-requires-3
 read-words-requires-3 c κs = search needs
 
 returns : tie.Need-returns
-returns c = (c .before .before .before .before .before .before .before .before .before .before .before .before .before .before .before .before .read-coordinates .ensures, (c .before .before .before .before .before .before .before .before .before .before .before .before .before .before .read-words .ensures, (c .before .before .before .before .before .before .before .before .before .before .before .before .read-words2 .ensures, c .before .before .before .before .before .before .before .before .before .before .read-words3 .ensures)))
+returns c = record { positions = c .before .before .before .before .before .before .before .before .before .before .before .before .before .before .before .before .before .before .before .read-coordinates .ensures; heights = c .before .before .before .before .before .before .before .before .before .before .before .before .before .before .before .before .before .before .read-heights .ensures; outs = c .before .before .before .before .before .before .before .before .before .before .before .before .before .before .before .before .read-words .ensures; halves = c .before .before .before .before .before .before .before .before .before .before .before .before .before .before .read-words2 .ensures; faces = c .before .before .before .before .before .before .before .before .before .before .before .before .read-words3 .ensures }
 
 pub read-mesh-spec : {M : Type 1} → statement M
 read-mesh-spec =
@@ -57,6 +63,8 @@ read-mesh-spec =
     array-read-read-start
     read-start-requires
     read-coordinates-requires
+    array-read-read-heights
+    read-heights-requires
     array-read-read-start-2
     read-start-requires-2
     read-words-requires

@@ -7,6 +7,9 @@ use borrow.Author.Needs.{needs}
 use Rattle.test_mesh.proofs.read_words.Statement.{statement}
 use Rattle.test_mesh.proofs.read_words.Tie as tie
 
+unsigned-requires : tie.Need-unsigned-requires
+unsigned-requires c κs = search needs
+
 within-requires : tie.Need-within-requires
 within-requires c κs = search needs
 
@@ -28,12 +31,13 @@ byte-requires c κs = search needs
 returns : tie.Need-returns
 returns c =
     let n = c .before .before .before .before .before .before .before .within in
-    whole {A = ℕ} (n .result) (take (n .result) (replicate 6144 0)) (c .before .before .before .before .before .fill-words .last .1 .1 .1 .0) (drop (n .result) (replicate 6144 0)) (part _ 6144 (replicate 6144 0) refl (n .ensures)) (c .before .before .before .before .before .fill-words .kept .1 .1 .1 .0)
+    record { within = whole {A = ℕ} (n .result) (take (n .result) (replicate 6144 _)) (c .before .before .before .before .before .fill-words .last .1 .1 .0) (drop (n .result) (replicate 6144 _)) (part _ 6144 (replicate 6144 _) refl (n .ensures)) (c .before .before .before .before .before .fill-words .kept .1 .1 .0) }
 
 pub read-words-spec : {M : Type 1} → statement M
 read-words-spec =
     tie.close
     (tie.spec
+    unsigned-requires
     within-requires
     array-borrow-prefix-row
     slice-aggregate-fill-words

@@ -21,38 +21,14 @@ read-sevens-requires-2 c κs = search needs
 read-points-requires : tie.Need-read-points-requires
 read-points-requires c κs = search needs
 
+read-heights-requires : tie.Need-read-heights-requires
+read-heights-requires c κs = search needs
+
 cleared-requires : tie.Need-cleared-requires
 cleared-requires c κs = search needs
 
 run-on-requires : tie.Need-run-on-requires
-run-on-requires c κs = (
-  c .before .before .before .before .before .before .read-mesh .ensures .0,
-  (
-    c .before .before .before .before .before .before .read-mesh .ensures .1 .0,
-    (
-      c .before .before .before .before .before .before .read-mesh .ensures .1 .1 .0,
-      (
-        c .before .before .before .before .before .before .read-mesh .ensures .1 .1 .1,
-        (
-          c .before .before .before .before .before .read-ring .ensures .0,
-          (
-            c .before .before .before .before .before .read-ring .ensures .1 .0,
-            (
-              c .before .before .before .before .before .read-ring .ensures .1 .1,
-              (
-                c .before .before .before .before .read-sevens .ensures,
-                (
-                  c .before .before .read-sevens2 .ensures,
-                  c .before .read-points .ensures,
-                ),
-              ),
-            ),
-          ),
-        ),
-      ),
-    ),
-  ),
-)
+run-on-requires c κs = (c .before .before .before .before .before .before .before .read-mesh .ensures, (c .before .before .before .before .before .before .read-ring .ensures, (c .before .before .before .before .before .read-sevens .ensures, (c .before .before .before .read-sevens2 .ensures, (c .before .before .read-points .ensures, c .before .read-heights .ensures)))))
 
 run-agrees-requires : tie.Need-run-agrees-requires
 run-agrees-requires c κs = search needs
@@ -70,6 +46,7 @@ agrees-spec =
     read-center-requires
     read-sevens-requires-2
     read-points-requires
+    read-heights-requires
     cleared-requires
     run-on-requires
     run-agrees-requires

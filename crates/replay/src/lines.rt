@@ -1,0 +1,159 @@
+// The lines that the cases of several calls share.
+ghost use Prim.Native.Nat.{_≤_};
+ghost use Rattle.test_mesh.specs.Lent.{RingLent};
+use angle::Point2;
+use fithmoul::results::FinishResult;
+use math::Point;
+use test_mesh::Agreed;
+use test_mesh::Mesh;
+use test_mesh::NODES;
+use test_mesh::Ring;
+use test_mesh::WORDS;
+use test_text::Number;
+
+pub struct RingLine {
+    pub ring: Ring,
+    pub at: usize,
+    pub is_whole: bool,
+}
+
+// So many entries of a row are lent.
+pub struct SevensLine {
+    pub length: usize,
+    pub at: usize,
+    pub is_whole: bool,
+}
+
+pub struct CenterLine {
+    pub center: Point2,
+    pub at: usize,
+    pub is_whole: bool,
+}
+
+pub struct PointLine {
+    pub point: Point,
+    pub at: usize,
+    pub is_whole: bool,
+}
+
+// A single height: a point's, or a level.
+pub struct HeightLine {
+    pub height: i32,
+    pub at: usize,
+    pub is_whole: bool,
+}
+
+// `n nodes freed buckets`
+pub fn read_ring(text: &[u8], at: usize) -> RingLine
+    ensures { λ r. ⌜ RingLent (r .ring) ⌝ }
+{
+    let nodes = test_text::read_number(text, test_text::behind(text, at));
+    let freed = test_text::read_number(text, nodes.at);
+    let buckets = test_text::read_number(text, freed.at);
+    let end = buckets.at;
+    let ring = Ring {
+        nodes: test_mesh::within(nodes.magnitude, NODES),
+        freed: test_mesh::within(freed.magnitude, WORDS),
+        buckets: test_mesh::within(buckets.magnitude, WORDS),
+    };
+    RingLine {
+        ring: ring,
+        at: test_text::behind(text, end),
+        is_whole: test_mesh::is_line(text, at, b'n', end)
+            & is_length(nodes, ring.nodes)
+            & is_length(freed, ring.freed)
+            & is_length(buckets, ring.buckets),
+    }
+}
+
+// Whether a number is a length.
+fn is_length(n: Number, length: usize) -> bool {
+    !n.negative & (n.magnitude == length as u64)
+}
+
+// A line of a row that is lent with 7 in every entry.
+pub fn read_sevens(text: &[u8], at: usize, tag: u8, most: usize) -> SevensLine
+    ensures { λ r. ⌜ r .length ≤ most ⌝ }
+{
+    let start = test_mesh::read_start(text, at, tag, false, most);
+    let past = start.past;
+    let end = past.at;
+    let length = test_mesh::within(start.length, most);
+    SevensLine {
+        length: length,
+        at: test_text::behind(text, end),
+        is_whole: start.is_right
+            & (start.length == length as u64)
+            & (past.magnitude == 7)
+            & (test_text::byte(text, end) == b'\n'),
+    }
+}
+
+// A line with a centre.
+pub fn read_center(text: &[u8], at: usize, tag: u8) -> CenterLine {
+    let c = test_mesh::read_center(text, test_text::behind(text, at));
+    let center = c.p;
+    let end = c.at;
+    CenterLine {
+        center: center,
+        at: test_text::behind(text, end),
+        is_whole: test_mesh::is_line(text, at, tag, end),
+    }
+}
+
+// The line `v` with a single point.
+pub fn read_point(text: &[u8], at: usize) -> PointLine {
+    let count = test_text::read_number(text, test_text::behind(text, at));
+    let v = test_mesh::read_point(text, count.at);
+    let point = v.p;
+    let end = v.at;
+    PointLine {
+        point: point,
+        at: test_text::behind(text, end),
+        is_whole: test_mesh::is_line(text, at, b'v', end) & (count.magnitude == 1),
+    }
+}
+
+// A line with a single height.
+pub fn read_height(text: &[u8], at: usize, tag: u8) -> HeightLine {
+    let z = test_text::read_number(text, test_text::behind(text, at));
+    let end = z.at;
+    HeightLine {
+        height: test_text::signed(z),
+        at: test_text::behind(text, end),
+        is_whole: test_mesh::is_line(text, at, tag, end),
+    }
+}
+
+// Whether the list says at a place what mesh the call must leave; where it does not, the call must change nothing.
+pub fn is_told(text: &[u8], at: usize) -> bool {
+    test_text::byte(text, at) == b'M'
+}
+
+// What the ring's rows and pending must hold after the call.
+pub fn cleared(text: &[u8], at: usize) -> u32 {
+    if is_told(text, at) { 0 } else { 7 }
+}
+
+// Whether a call has left the mesh as it must; the place of the line after that.
+pub fn compare_mesh(text: &[u8], lent: usize, told: usize, mesh: Mesh) -> Agreed {
+    if is_told(text, told) {
+        return test_mesh::compare_mesh(text, told, test_mesh::LEFT, mesh);
+    }
+    let a = test_mesh::compare_mesh(text, lent, test_mesh::LENT, mesh);
+    Agreed {
+        agrees: a.agrees,
+        at: told,
+    }
+}
+
+// Numbers of a result: refusal, place, faces, flips of the convexity passes and of the closing pass.
+pub fn numbers_of(r: FinishResult) -> [u64; 5] {
+    [
+        r.refusal as u64,
+        r.place as u64,
+        r.faces_added as u64,
+        r.convex_flips,
+        r.closing_flips,
+    ]
+}

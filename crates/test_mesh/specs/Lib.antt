@@ -1,0 +1,2 @@
+-- `Lent` says that no more of a row is lent than it has.
+pub mod Lent
