@@ -1,7 +1,8 @@
-// The answers of the Rust itself (oracle/answers.txt): for each point its fate, vertex, faces and flips, then the mesh after the last step, the faces and flips of the
-// first pass of `fix_convexity`, and the mesh after it. Ours are held against both meshes link by link: counts, positions and every entry of the rows. A run makes the
-// same steps and goes on with all passes and the closing pass. Its answers must be the Rust's too, and it must leave what a finish makes of the Rust's mesh after the
-// first pass, with the faces and flips of that pass and of that finish added up.
+// The answers of the Rust itself (oracle/answers.txt): for each point its fate, vertex, faces and flips, then the mesh after the last
+// step, the faces and flips of the first pass of `fix_convexity`, and the mesh after it. Ours are held against both meshes link by link:
+// counts, positions and every entry of the rows. A run makes the same steps and goes on with all passes and the closing pass. Its answers
+// must be the Rust's too, and it must leave what a finish makes of the Rust's mesh after the first pass, with the faces and flips of that
+// pass and of that finish added up.
 ghost use Rattle.test_mesh.specs.Lent.{CoordinatesLent, MeshLent};
 use super::lines;
 use angle::Point2;

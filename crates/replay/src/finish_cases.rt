@@ -1,5 +1,6 @@
-// Meshes and what `fithmoul_finish` makes of them (tests/reference/finish_cases.py): unsettled fans, zigzag arms that need many passes, overlapping and pinched meshes,
-// pending lists that fill, and every refusal. A case agrees where the answer, the counts and every row over its whole length do.
+// Meshes and what `fithmoul_finish` makes of them (tests/reference/finish_cases.py): unsettled fans, zigzag arms that need many passes,
+// overlapping and pinched meshes, pending lists that fill, and every refusal. A case agrees where the answer, the counts and every row
+// over its whole length do.
 use super::lines;
 use test_mesh::WORDS;
 

@@ -1,6 +1,7 @@
-// Meshes, centres and angles and what `fithmoul_locate` answers (tests/reference/locate_cases.py): every boundary angle and its two neighbours, eighths, 0.0, -0.0, 1.0,
-// subnormal angles, NaN and infinities; centres outside, on a vertex, dead west and nearly so; gaps of 3/4; rows one entry short. The ring's rows are lent full of
-// sevens: a refused call must leave them, an accepted one must leave zeros.
+// Meshes, centres and angles and what `fithmoul_locate` answers (tests/reference/locate_cases.py): every boundary angle and its two
+// neighbours, eighths, 0.0, -0.0, 1.0, subnormal angles, NaN and infinities; centres outside, on a vertex, dead west and nearly so; gaps
+// of 3/4; rows one entry short. The ring's rows are lent full of sevens: a refused call must leave them, an accepted one must leave
+// zeros.
 use super::lines;
 
 // The line `l` at a place, of the mesh whose line `m` stands at another.

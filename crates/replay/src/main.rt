@@ -1,7 +1,7 @@
-// Runs every fixed list of cases and prints one line for each: its name, and how many cases agree and differ. The lists are in data/, copies of those that
-// tests/reference makes from an independent reading of the specification, and of oracle/answers.txt, the answers of the Rust itself (their formats are in
-// tests/reference/README.md and oracle/FORMAT.md). The lists of the calls go through the exports of the crate `fithmoul`. A list that is not whole counts as one
-// difference more.
+// Runs every fixed list of cases and prints one line for each: its name, and how many cases agree and differ. The lists are in data/,
+// copies of those that tests/reference makes from an independent reading of the specification, and of oracle/answers.txt, the answers of
+// the Rust itself (their formats are in tests/reference/README.md and oracle/FORMAT.md). The lists of the calls go through the exports of
+// the crate `fithmoul`. A list that is not whole counts as one difference more.
 mod angles;
 mod answers_cases;
 mod check_cases;
@@ -67,7 +67,8 @@ fn passed(t: Tally, mesh: usize, at: usize) -> Tally {
     }
 }
 
-// Whether a line is a case or begins one. Comments and the closing line do not; for `locate` a mesh has several lines `l`, and each is a case.
+// Whether a line is a case or begins one. Comments and the closing line do not; for `locate` a mesh has several lines `l`, and each is a
+// case.
 fn is_case(tag: u8, list: List) -> bool {
     match list {
         List::Locate => tag == b'l',

@@ -1,6 +1,6 @@
-// Runs by `fithmoul_run` (tests/reference/run_cases.py run): every refusal, every fate, lists of points of many kinds, rings that grow and shrink, long runs of one angle, long walks,
-// pending lists that fill in a step and in the finish. A case agrees where the answer, the counts and every row over its whole length do: the ring's rows, pending
-// and the answers are lent full of sevens.
+// Runs by `fithmoul_run` (tests/reference/run_cases.py run): every refusal, every fate, lists of points of many kinds, rings that grow
+// and shrink, long runs of one angle, long walks, pending lists that fill in a step and in the finish. A case agrees where the answer,
+// the counts and every row over its whole length do: the ring's rows, pending and the answers are lent full of sevens.
 ghost use Rattle.test_mesh.specs.Lent.{CoordinatesLent};
 use super::lines;
 use replay_runs::RunLeft;
@@ -27,7 +27,8 @@ fn read_points(text: &[u8], at: usize) -> CoordinatesLine
     }
 }
 
-// Whether the answers are those of the line `W` at a place, or untouched as in the line `w` where there is none; the place of the line after that.
+// Whether the answers are those of the line `W` at a place, or untouched as in the line `w` where there is none; the place of the line
+// after that.
 fn compare_answers(text: &[u8], lent: usize, told: usize, answers: Longs) -> Agreed {
     if test_text::byte(text, told) == b'W' {
         let start = test_mesh::read_start(text, told, b'W', false, LONGS);

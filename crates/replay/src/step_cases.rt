@@ -1,6 +1,7 @@
-// Single steps by `fithmoul_step` (tests/reference/run_cases.py step): every refusal and fate, rows exactly long enough and one entry short, points at and beside an edge's ends and line
-// and at the limit of the coordinates, pending lists that fill, long walks, unsettled seeds. A case agrees where the answer, the counts and every row over its whole
-// length do: the ring's rows and pending are lent full of sevens.
+// Single steps by `fithmoul_step` (tests/reference/run_cases.py step): every refusal and fate, rows exactly long enough and one entry
+// short, points at and beside an edge's ends and line and at the limit of the coordinates, pending lists that fill, long walks, unsettled
+// seeds. A case agrees where the answer, the counts and every row over its whole length do: the ring's rows and pending are lent full of
+// sevens.
 use super::lines;
 use super::lines::HeightLine;
 use fithmoul::results::StepResult;

@@ -1,5 +1,6 @@
-// Meshes, levels and what `fithmoul_volume` answers (tests/reference/volume_cases.py): the largest triangles with heights at the limits, volumes at a half cubic metre and
-// one beside it on both sides of zero, single heights, oddities of the mesh, and every refusal. The mesh cannot be changed: its rows are lent to be read.
+// Meshes, levels and what `fithmoul_volume` answers (tests/reference/volume_cases.py): the largest triangles with heights at the limits,
+// volumes at a half cubic metre and one beside it on both sides of zero, single heights, oddities of the mesh, and every refusal. The
+// mesh cannot be changed: its rows are lent to be read.
 use super::lines;
 
 // A number's pattern in two's complement, as the list has the cubic metres.

@@ -1,6 +1,6 @@
-// Lists every text of a list of cases and prints how many listings agree with those that must come, in length and in every byte. The list is in data/, a copy of
-// the one that tests/reference makes from an independent reading of the specification (its format is in tests/reference/README.md). A list that is not whole counts
-// as one difference more.
+// Lists every text of a list of cases and prints how many listings agree with those that must come, in length and in every byte. The list
+// is in data/, a copy of the one that tests/reference makes from an independent reading of the specification (its format is in
+// tests/reference/README.md). A list that is not whole counts as one difference more.
 ghost use Prim.Native.Nat.{_≤_};
 ghost use lib.ListN.{length};
 

@@ -1,6 +1,6 @@
-// Runs on rows that are owned here: the exported run, of whose rows so many entries are lent; and the two meshes that a case of the Rust's answers has, after the last step
-// of a run and after one pass of `fix_convexity`, for which all rows are lent whole. The ring's rows, pending and the answers are lent with 7 in every entry. No function
-// above these has a row of nodes.
+// Runs on rows that are owned here: the exported run, of whose rows so many entries are lent; and the two meshes that a case of the
+// Rust's answers has, after the last step of a run and after one pass of `fix_convexity`, for which all rows are lent whole. The ring's
+// rows, pending and the answers are lent with 7 in every entry. No function above these has a row of nodes.
 ghost use Prim.Native.Nat.{_≤_};
 ghost use Rattle.test_mesh.specs.Lent.{CoordinatesLent, MeshLent, RingLent};
 use angle::Point2;

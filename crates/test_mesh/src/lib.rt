@@ -1,9 +1,10 @@
-// Meshes, rows, points and centres from the text of a list of cases, and rows held against such a text (tests/reference/README.md and oracle/FORMAT.md have the
-// formats). A line of a row is its tag, the row's length, the number that fills it, and the row's first entries; a plain line is its tag and entries. A reader answers
-// where the next line begins and whether the line was as it should be; what it cannot read is never taken for something else.
+// Meshes, rows, points and centres from the text of a list of cases, and rows held against such a text (tests/reference/README.md and
+// oracle/FORMAT.md have the formats). A line of a row is its tag, the row's length, the number that fills it, and the row's first
+// entries; a plain line is its tag and entries. A reader answers where the next line begins and whether the line was as it should be;
+// what it cannot read is never taken for something else.
 //
-// A row is an array with the number of its entries that are lent, passed and answered by value: only the function that makes a public call lends the rows. Those of the
-// ring are lent with 7 in every entry.
+// A row is an array with the number of its entries that are lent, passed and answered by value: only the function that makes a public
+// call lends the rows. Those of the ring are lent with 7 in every entry.
 ghost use mathlib.Core.Path.{_≡_};
 ghost use Prim.Native.Nat.{_≤_};
 ghost use lib.ListN.{length};
@@ -95,7 +96,8 @@ pub struct CenterAt {
     pub at: usize,
 }
 
-// The start of a line of a row: whether it has its tag, how many entries the row has, what fills it, and where its written entries begin (`past.at`).
+// The start of a line of a row: whether it has its tag, how many entries the row has, what fills it, and where its written entries begin
+// (`past.at`).
 pub struct RowStart {
     pub is_right: bool,
     pub length: u64,
