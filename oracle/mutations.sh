@@ -3,7 +3,10 @@
 # a time and in a copy that is thrown away, and the entries of the list are counted that the altered
 # oracle answers otherwise. Fails if an alteration changes none, or if one that the sweep cannot see
 # changes any.
+#
+#     ./mutations.sh [WORDS]      those alone that have WORDS in their name
 set -eu
+only=${1:-}
 here=$(cd "$(dirname "$0")" && pwd)
 spade=${SPADE_SRC:-$here/../../shared/docs/src}
 copy=$(mktemp -d)
@@ -39,17 +42,22 @@ altered() {
     return $same
 }
 
+wanted() {
+    case $1 in *"$only"*) return 0 ;; *) return 1 ;; esac
+}
+
 seen() {
-    if altered "$@"; then wrong=$((wrong + 1)); fi
+    if wanted "$1" && altered "$@"; then wrong=$((wrong + 1)); fi
 }
 
 unseen() {
-    if ! altered "$@"; then wrong=$((wrong + 1)); fi
+    if wanted "$1" && ! altered "$@"; then wrong=$((wrong + 1)); fi
 }
 
 robust=stand-ins/robust/src/lib.rs
 handles=src/delaunay_core/handles/handle_impls.rs
 iterators=src/delaunay_core/handles/iterators.rs
+driver=src/delaunay_core/bulk_load/driver.rs
 bulk_load=spade/src/delaunay_core/bulk_load.rs
 operations=spade/src/delaunay_core/dcel_operations.rs
 ext=spade/src/delaunay_core/triangulation_ext.rs
@@ -75,9 +83,9 @@ seen "an outer half-edge has a far vertex" $handles \
 seen "out_edges turns the other way and so ends after two" $iterators \
     'self.ends = (front != back).then(|| [front.ccw(), back]);' \
     'self.ends = (front != back).then(|| [front.cw(), back]);'
-# The sweep asks out_edges for the outer one at the new vertex, and there is only one: so an order that
-# goes through them all cannot be seen.
-unseen "out_edges in another order, all of them" $iterators \
+# The steps ask out_edges for the outer one at the new vertex, and there is only one. The insertions go
+# by its order.
+seen "out_edges in another order, all of them" $iterators \
     'OutEdgeIterator { ends: out_edge.map(|first| [first, first.cw()]) }' \
     'OutEdgeIterator { ends: out_edge.map(|first| [first.ccw(), first]) }'
 
@@ -138,5 +146,50 @@ seen "the new vertex has the outer out edge" $operations \
 seen "a closed corner leaves face 0 another stored edge" $operations \
     'dcel.faces[OUTER_FACE_HANDLE.index()].adjacent_edge = Some(new_outer_handle);' \
     'dcel.faces[OUTER_FACE_HANDLE.index()].adjacent_edge = Some(edge_entry.prev);'
+
+echo "the insertions:"
+seen "insertions: the search starts at vertex 1" $driver \
+    'Ok(Sweep { swept, hull, centre, buffer: Vec::new(), watch: Watch::Domain, hint: 0 })' \
+    'Ok(Sweep { swept, hull, centre, buffer: Vec::new(), watch: Watch::Domain, hint: 1 })' \
+    'answer_from(case, watch, 0)' 'answer_from(case, watch, 1)'
+seen "insertions: no walk to the nearest vertex" $ext \
+    'let closest_vertex = self.walk_to_nearest_neighbor(start, target_position);' \
+    'let closest_vertex = self.vertex(start);'
+seen "insertions: the walk to the nearest vertex ends one early" $ext \
+    'if new_distance < current_minimal_distance {' \
+    'if new_distance + new_distance < current_minimal_distance {'
+seen "insertions: the search counts an eighth of its turns" $ext \
+    'let mut loop_counter = self.s().num_directed_edges();' \
+    'let mut loop_counter = self.s().num_directed_edges() / 8;'
+seen "insertions: the search does not count its turns" $ext \
+    'let mut loop_counter = self.s().num_directed_edges();' 'let mut loop_counter = usize::MAX;'
+seen "insertions: the search stops turning on a line" $ext \
+    'if rotated_query.is_on_line() || rotated_query.is_on_left_side() == rotate_ccw {' \
+    'if rotated_query.is_on_left_side() == rotate_ccw {'
+seen "insertions: the other half of the edge is named" $ext \
+    'return PositionInTriangulation::OnEdge(e2.fix());' \
+    'return PositionInTriangulation::OnEdge(e2.rev().fix());'
+# A point on an edge is found from inside a face, so the half that is named is never an outer one.
+unseen "insertions: no case for an outer half" $ext \
+    'if edge_handle.is_outer_edge() {' 'if edge_handle.is_outer_edge() && panic!() {'
+# The position that is written is the one that stands there; only a height could tell.
+unseen "insertions: a point on a vertex is not written" $ext \
+    'self.s_mut().update_vertex(vertex, t.into_vertex());' ''
+seen "insertions: a new vertex's edges are legalized in the other order" $ext \
+    'for edge_to_legalize in edges {' 'for &edge_to_legalize in edges.iter().rev() {'
+seen "insertions: the spokes are legalized, not the edges across" $ext \
+    '.map(|edge| edge.next().fix())' '.map(|edge| edge.fix())'
+seen "insertions: outside, the first edge is not legalized" $ext \
+    'self.legalize_edge(convex_hull_edge, false);' ''
+seen "insertions: outside, the edge of the first walk is not legalized" $ext \
+    'self.legalize_edge(current_edge, false);' ''
+seen "insertions: outside, the other edge of the second walk is legalized" $ext \
+    'self.legalize_edge(next_fix, false);' 'self.legalize_edge(current_edge, false);'
+seen "insertions: another out edge in a triangle" $operations \
+    'dcel.vertices[v.index()].out_edge = Some(e4);' 'dcel.vertices[v.index()].out_edge = Some(e6);'
+seen "insertions: another out edge at the end of a boundary edge" $operations \
+    'dcel.vertices[to.index()].out_edge = Some(e2.rev());' 'dcel.vertices[to.index()].out_edge = Some(edge_next);'
+seen "insertions: another stored edge beside an edge" $operations \
+    'dcel.faces[f1.index()].adjacent_edge = Some(e1);' 'dcel.faces[f1.index()].adjacent_edge = Some(t0);'
 
 [ "$wrong" = 0 ] || { echo "$wrong alterations not as expected"; exit 1; }

@@ -3,8 +3,11 @@
     python3 oracle/replay.py COUNT SEED [MOST_POINTS]      at the repository's root
 
 `oracle generate` makes the inputs and `oracle answer` has the Rust answer them; those inside the domain go to
-target/bin/replay as its list answers.txt, as many at a time as it has room for. Needs `cargo build --release`
-in oracle/ and `rt check replay`. An input that takes more vertices than replay's rows have is counted apart.
+target/bin/replay, as many at a time as it has room for: all of them, as the oracle writes them, as its list answers.txt,
+and those whose insertions are inside the domain too as its list run.txt. A run must give the Rust's answers, report the
+faces and flips of the Rust's pass, and leave what the closing pass makes of the Rust's mesh after the insertions; that
+pass is the one of tests/reference. Needs `cargo build --release` in oracle/ and `rt check replay`. An input that takes
+more vertices than replay's rows have is counted apart.
 """
 
 import os
@@ -13,10 +16,17 @@ import subprocess
 import sys
 import tempfile
 
+sys.path.insert(0, os.path.join(os.path.dirname(os.path.abspath(__file__)), "../tests/reference"))
+
+import answer as reference
+import lists
+import meshes
+import sweep
+
 ORACLE = os.environ.get("ORACLE", "oracle/target/release/oracle")
-PROGRAM = os.path.abspath("target/bin/replay")
+PROGRAM = os.path.abspath(os.environ.get("REPLAY", "target/bin/replay"))
 DATA = "crates/replay/data"
-TEXT, VERTICES = 500000, 250
+TEXT, VERTICES, PENDING = 500000, 250, 6144
 
 
 def output(*command, text=None, cwd=None):
@@ -34,19 +44,80 @@ def cases(text, last):
             case = []
 
 
-def agreed(folder, entries):
-    """How many agree and differ, as the program's last line has it."""
-    with open(os.path.join(folder, "answers.txt"), "w") as f:
-        f.write("\n".join(entries) + "\n")
-    words = output(PROGRAM, cwd=folder).splitlines()[-1].split()
-    return int(words[2]), int(words[4])
+def numbers(line):
+    return [int(word) for word in line.split()[1:]]
+
+
+def mesh_of(lines):
+    return reference.mesh_of({line[0]: numbers(line) for line in lines})
+
+
+def insertions(answer):
+    """How the Rust's insertions ended: `made`, or by the line that says why they are outside the domain."""
+    if answer[-2][0] == "f" and answer[-7][0] == "b":
+        return "made"
+    return {"b": "passes", "l": "search"}[answer[-2]]
+
+
+def run_of(given, answer):
+    """A case of run.txt: the rows that are lent, then what the run must leave. Answers the closing flips too."""
+    points = numbers(given[-1])
+    count = len(points) // 2
+    seed = mesh_of(given[1:6])
+    n = seed.vertices + count
+    left = meshes.with_room(mesh_of(answer[-6:-1]), n)
+    faces, flips = numbers(next(line for line in answer if line[0] == "g"))
+    closing = sweep.closing_pass(left)
+    row = lists.line
+    return closing, lists.mesh_lines(meshes.with_room(seed, n)) + [
+        row("n", (n + 1, n + 1, max(16, n))), row("q", (PENDING, 7)), row("x", numbers(given[-2])),
+        row("w", (4 * count, 7)), row("v", [count] + points)
+    ] + lists.mesh_lines(left, "MPOHF") + [
+        lists.row_line("W", numbers(answer[-7])), row("r", (0, 0, faces, flips, closing))]
+
+
+class Batch:
+    """Cases for one list of the program, and how many of them agreed and differed."""
+
+    def __init__(self, name, closed):
+        self.name, self.closed = name, closed
+        self.lines, self.size = [], 0
+        self.agree = self.differ = 0
+
+    def has_room(self, lines):
+        return not self.lines or self.size + sum(map(len, lines)) + len(lines) <= TEXT
+
+    def add(self, lines):
+        self.lines += lines
+        self.size += sum(map(len, lines)) + len(lines)
+
+    def write(self, folder):
+        closing = ["z %d" % len(self.lines)] if self.closed else []
+        with open(os.path.join(folder, self.name + ".txt"), "w") as f:
+            f.write("".join(line + "\n" for line in self.lines + closing))
+
+    def count(self, printed):
+        words = next(line.split() for line in printed if line.startswith(self.name + " agree"))
+        self.agree += int(words[2])
+        self.differ += int(words[4])
+        self.lines, self.size = [], 0
+
+
+def replayed(folder, batches):
+    for batch in batches:
+        batch.write(folder)
+    printed = output(PROGRAM, cwd=folder).splitlines()
+    for batch in batches:
+        batch.count(printed)
 
 
 def main():
     inputs = output(ORACLE, "generate", *sys.argv[1:])
     answers = output(ORACLE, "answer", text=inputs)
-    agree = differ = outside = large = points = size = 0
-    entries = []
+    steps, runs = Batch("answers", False), Batch("run", True)
+    counts = {"made": 0, "passes": 0, "search": 0}
+    fates = {6: 0, 7: 0, 8: 0, 9: 0}
+    outside = large = points = settled = 0
     with tempfile.TemporaryDirectory() as folder:
         for name in os.listdir(DATA):
             shutil.copy(os.path.join(DATA, name), folder)
@@ -54,22 +125,30 @@ def main():
             if any(line[0] == "x" for line in answer):
                 outside += 1
                 continue
-            n = (len(given[-1].split()) - 1) // 2
+            n = len(numbers(given[-1])) // 2
             if int(given[1].split()[1]) + n > VERTICES:
                 large += 1
                 continue
-            entry = "\n".join(given + answer[1:])
-            if entries and size + len(entry) > TEXT:
-                a, d = agreed(folder, entries)
-                agree, differ, entries, size = agree + a, differ + d, [], 0
-            entries.append(entry)
-            size += len(entry) + 1
             points += n
-        if entries:
-            a, d = agreed(folder, entries)
-            agree, differ = agree + a, differ + d
-    print(f"agree {agree} differ {differ} points {points} outside {outside} too large {large}")
-    return differ != 0
+            entry, run, kind = given + answer[1:], [], insertions(answer)
+            counts[kind] += 1
+            if kind == "made":
+                closing, run = run_of(given, answer)
+                settled += closing == 0
+                for fate in numbers(answer[-7])[::4]:
+                    if fate in fates:
+                        fates[fate] += 1
+            if not (steps.has_room(entry) and runs.has_room(run)):
+                replayed(folder, (steps, runs))
+            steps.add(entry)
+            runs.add(run)
+        if steps.lines:
+            replayed(folder, (steps, runs))
+    print(f"steps and passes: agree {steps.agree} differ {steps.differ} points {points} outside {outside} too large {large}")
+    print(f"runs: agree {runs.agree} differ {runs.differ}; with no closing flip {settled}; inserted "
+          + ", ".join(f"{count} of fate {fate}" for fate, count in fates.items()))
+    print(f"insertions outside the domain: a later pass adds a face {counts['passes']}, the search panics {counts['search']}")
+    return steps.differ + runs.differ != 0
 
 
 if __name__ == "__main__":

@@ -22,11 +22,13 @@ pub struct Answer {
 
 #[derive(Clone, Debug, PartialEq, Eq)]
 pub enum Ending {
-    /// The mesh after the last step, the faces and flips of the first pass, the mesh after it.
+    /// The mesh after the last step, the faces and flips of the first pass, the mesh after it, and what
+    /// the insertions of the skipped points came to.
     Inside {
         stepped: Mesh,
         pass: [u32; 2],
         passed: Mesh,
+        inserted: Insertions,
     },
     Outside {
         reason: u32,
@@ -36,6 +38,17 @@ pub enum Ending {
         number: u32,
         place: u32,
     },
+}
+
+/// The insertions of the skipped points (Change 2).
+#[derive(Clone, Debug, PartialEq, Eq)]
+pub enum Insertions {
+    /// The answers of the whole run, and the mesh after the last insertion.
+    Made { fates: Vec<[u32; 4]>, mesh: Mesh },
+    /// A further pass would add a face, so that the points go into another mesh than the Rust has then.
+    AfterPasses,
+    /// The Rust's search for a point goes round for ever; it panics.
+    SearchPanics,
 }
 
 /// Why a case is outside the domain.
@@ -48,6 +61,10 @@ pub mod reason {
     pub const REFUSED: u32 = 6;
     pub const NO_HULL: u32 = 7;
     pub const PASS_FAILS: u32 = 8;
+    pub const INSERTION_FAILS: u32 = 9;
+    /// The last two are of the insertions alone: the answer before them stays.
+    pub const AFTER_PASSES: u32 = 10;
+    pub const SEARCH_PANICS: u32 = 11;
 }
 
 fn line<T: Display>(text: &mut String, tag: char, numbers: impl IntoIterator<Item = T>) {
@@ -98,15 +115,29 @@ impl Answer {
             line(text, 'a', self.fates.iter().flatten());
         }
         match &self.ending {
-            Ending::Inside { stepped, pass, passed } => {
+            Ending::Inside { stepped, pass, passed, inserted } => {
                 write_mesh(text, stepped);
                 line(text, 'g', pass);
                 write_mesh(text, passed);
+                inserted.write(text);
             }
             Ending::Outside { reason, index } => line(text, 'x', [reason, index]),
             Ending::Refused { .. } => {}
         }
         line(text, 'e', [0u32; 0]);
+    }
+}
+
+impl Insertions {
+    fn write(&self, text: &mut String) {
+        match self {
+            Insertions::Made { fates, mesh } => {
+                line(text, 'b', fates.iter().flatten());
+                write_mesh(text, mesh);
+            }
+            Insertions::AfterPasses => line(text, 'b', [0u32; 0]),
+            Insertions::SearchPanics => line(text, 'l', [0u32; 0]),
+        }
     }
 }
 
@@ -203,7 +234,21 @@ impl<'a> Lines<'a> {
         }
         let stepped = self.mesh()?;
         let pass = self.take_exactly('g')?;
-        Ok(Ending::Inside { stepped, pass, passed: self.mesh()? })
+        Ok(Ending::Inside { stepped, pass, passed: self.mesh()?, inserted: self.insertions()? })
+    }
+
+    /// The line after `b` tells whether the insertions were made: a mesh follows, also when there is no
+    /// point.
+    fn insertions(&mut self) -> Read<Insertions> {
+        if self.tag() == Some('l') {
+            let [] = self.take_exactly::<u32, 0>('l')?;
+            return Ok(Insertions::SearchPanics);
+        }
+        let fates = self.take_groups('b')?;
+        if self.tag() != Some('m') && fates.is_empty() {
+            return Ok(Insertions::AfterPasses);
+        }
+        Ok(Insertions::Made { fates, mesh: self.mesh()? })
     }
 
     /// An entry of a list: a case with its answer.

@@ -5,7 +5,7 @@ use std::io::{Read, Write};
 use std::process::{Command, Stdio};
 use std::thread;
 
-use crate::case::{read_answers, reason, Answer, Case, Ending, Lines};
+use crate::case::{read_answers, reason, Answer, Case, Ending, Insertions, Lines};
 use crate::generate;
 use crate::mesh::Mesh;
 use crate::worker::Oracle;
@@ -67,6 +67,36 @@ fn mesh_difference(rust: &Mesh, other: &Mesh) -> Option<String> {
         .or_else(|| rows("position", &rust.positions, &other.positions))
 }
 
+fn fates_difference(rust: &[[u32; 4]], other: &[[u32; 4]]) -> Option<String> {
+    let at = (0..rust.len()).find(|&i| other.get(i) != Some(&rust[i]))?;
+    Some(format!("point {at} (fate vertex faces flips): {:?} against {:?}", rust[at], other.get(at)))
+}
+
+fn after(when: &'static str) -> impl FnOnce(String) -> String {
+    move |text| format!("{when}: {text}")
+}
+
+/// Where the Rust's insertions are outside the domain, the other side has them all the same, and the
+/// answers of the points that were not skipped stay.
+fn insertions_difference(steps: &[[u32; 4]], rust: &Insertions, other: &Insertions) -> Option<String> {
+    match (rust, other) {
+        (Insertions::Made { fates, mesh }, Insertions::Made { fates: f, mesh: m }) => {
+            let extra = (fates.len() != f.len()).then(|| "more points answered".to_string());
+            extra
+                .or(fates_difference(fates, f).map(after("in the run")))
+                .or(mesh_difference(mesh, m).map(after("after the insertions")))
+        }
+        (Insertions::Made { .. }, _) => Some("no insertions".to_string()),
+        (_, Insertions::Made { fates, .. }) => {
+            let stays =
+                |(a, b): (&[u32; 4], &[u32; 4])| if a[0] < 3 { a == b } else { (6..=9).contains(&b[0]) };
+            let all = steps.len() == fates.len() && steps.iter().zip(fates).all(stays);
+            (!all).then(|| format!("in the run: {fates:?} after the steps' {steps:?}"))
+        }
+        (rust, other) => (rust != other).then(|| format!("insertions: {rust:?} against {other:?}")),
+    }
+}
+
 /// What the other answer says otherwise than the Rust's; the Rust's comes first.
 pub fn difference(rust: &Answer, other: &Answer) -> Option<String> {
     if rust.number != other.number {
@@ -75,21 +105,21 @@ pub fn difference(rust: &Answer, other: &Answer) -> Option<String> {
     if let Ending::Refused { number, place } = other.ending {
         return Some(format!("refused {number}, place {place}"));
     }
-    for (index, fate) in rust.fates.iter().enumerate() {
-        let theirs = other.fates.get(index);
-        if theirs != Some(fate) {
-            return Some(format!("point {index} (fate vertex faces flips): {fate:?} against {theirs:?}"));
-        }
+    if let Some(text) = fates_difference(&rust.fates, &other.fates) {
+        return Some(text);
     }
     match (&rust.ending, &other.ending) {
-        (Ending::Inside { stepped, pass, passed }, Ending::Inside { stepped: s, pass: p, passed: q }) => {
-            let after = |when: &'static str| move |text| format!("{when}: {text}");
+        (
+            Ending::Inside { stepped, pass, passed, inserted },
+            Ending::Inside { stepped: s, pass: p, passed: q, inserted: i },
+        ) => {
             let extra = (rust.fates.len() != other.fates.len()).then(|| "more points answered".to_string());
             let flips = (pass != p).then(|| format!("pass (faces flips): {pass:?} against {p:?}"));
             extra
                 .or(mesh_difference(stepped, s).map(after("after the last step")))
                 .or(flips)
                 .or(mesh_difference(passed, q).map(after("after the pass")))
+                .or(insertions_difference(&rust.fates, inserted, i))
         }
         (Ending::Outside { reason, index }, _) => outside_difference(*reason, *index, other),
         (_, ending) => Some(format!("no answer of the domain: {ending:?}")),
@@ -129,11 +159,16 @@ struct Tally {
     faces: u64,
     flips: u64,
     pass: [u64; 2],
+    /// Of fates 6 to 9, each with the flips.
+    inserted: [[u64; 2]; 4],
+    /// Inputs whose insertions are compared, that of the others a further pass would add a face, and that
+    /// the Rust's search panics.
+    insertions: [u64; 3],
 }
 
 impl Tally {
     fn add(&mut self, rust: &Answer) {
-        let Ending::Inside { pass, .. } = &rust.ending else { return };
+        let Ending::Inside { pass, inserted, .. } = &rust.ending else { return };
         self.compared += 1;
         for &[fate, _, faces, flips] in &rust.fates {
             self.fates[fate as usize] += 1;
@@ -141,6 +176,19 @@ impl Tally {
             self.flips += u64::from(flips);
         }
         self.pass = [self.pass[0] + u64::from(pass[0]), self.pass[1] + u64::from(pass[1])];
+        self.add_insertions(inserted);
+    }
+
+    fn add_insertions(&mut self, inserted: &Insertions) {
+        let Insertions::Made { fates, .. } = inserted else {
+            self.insertions[if *inserted == Insertions::AfterPasses { 1 } else { 2 }] += 1;
+            return;
+        };
+        self.insertions[0] += 1;
+        for &[fate, _, _, flips] in fates.iter().filter(|f| f[0] >= 6) {
+            let [count, total] = &mut self.inserted[fate as usize - 6];
+            [*count, *total] = [*count + 1, *total + u64::from(flips)];
+        }
     }
 
     fn print(&self) {
@@ -154,12 +202,20 @@ impl Tally {
             "refused",
             "no hull",
             "the pass fails",
+            "an insertion fails",
         ];
         println!("compared inside the domain: {}", self.compared);
         println!(
             "  with points added {} (faces {}, flips {}), dropped {}, skipped {}; passes' faces {}, flips {}",
             self.fates[1], self.faces, self.flips, self.fates[2], self.fates[3], self.pass[0], self.pass[1]
         );
+        let [[face, f], [edge, e], [outside, o], [vertex, _]] = self.inserted;
+        let [made, after_passes, lost] = self.insertions;
+        println!("  of these compared with their insertions: {made}");
+        println!(
+            "    into a face {face} (flips {f}), on an edge {edge} (flips {e}), outside {outside} (flips {o}), on a vertex {vertex}"
+        );
+        println!("  without: a further pass adds a face {after_passes}, the search panics {lost}");
         println!("outside the domain: {}", self.outside.values().sum::<u64>());
         for (&reason, count) in &self.outside {
             println!("  {}: {count}", reasons[reason as usize]);

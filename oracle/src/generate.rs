@@ -1,20 +1,59 @@
 //! Inputs from fixed seeds. Case `number` of a `seed` is always the same input, whatever else is made.
 
 use crate::case::Case;
-use crate::driver::{refusal, Sweep};
+use crate::driver::{boundary_angles, built, is_strict, refusal, Sweep};
 use crate::mesh::{orient, Mesh, Position, RANGE};
 use crate::random::Random;
+use crate::Point2;
 
 /// Half the side of the square that a case's coordinates come from.
 const SPREADS: [i32; 9] = [2, 4, 8, 20, 100, 3_000, 100_000, 4_000_000, RANGE];
 
-/// The case's number goes with its seed, so that the same numbers of two seeds differ.
+/// The case's number goes with its seed, so that the same numbers of two seeds differ. Every third case
+/// is one of many skipped points.
 pub fn case(seed: u64, number: u64, most_points: u64) -> Case {
+    match number % 3 {
+        2 => filling(seed, number, most_points),
+        _ => sweeping(seed, number, most_points),
+    }
+}
+
+/// A case whose points are placed about the seed, as in a sweep.
+pub fn sweeping(seed: u64, number: u64, most_points: u64) -> Case {
+    drawn(seed, number, |random, spread| {
+        let (seed, centre) = seed_and_centre(random, spread)?;
+        let points = points(random, &seed, centre, spread, most_points);
+        Some((seed, centre, points))
+    })
+}
+
+/// A case whose points lie in the seed, on its edges and its vertices, and between it and the centre.
+pub fn filling(seed: u64, number: u64, most_points: u64) -> Case {
+    drawn(!seed, number, |random, spread| {
+        // By the number, so that a kind that is often refused keeps its share.
+        let ((seed, centre), first) = match number / 3 % 6 {
+            0 | 1 => (centre_outside(random, spread)?, None),
+            2 => pinwheel(random, spread)?,
+            3 => (quilt(random, spread)?, None),
+            _ => (seed_and_centre(random, spread)?, None),
+        };
+        let mut points = points_within(random, &seed, centre, spread, most_points);
+        points.splice(0..0, first);
+        if random.one_in(2) {
+            points = skipped_alone(&seed, centre, points)?;
+        }
+        Some((seed, centre, points))
+    })
+}
+
+type Drawn = (Mesh, [f64; 2], Vec<Position>);
+
+/// The first case that is not refused.
+fn drawn(seed: u64, number: u64, mut draw: impl FnMut(&mut Random, i32) -> Option<Drawn>) -> Case {
     let mut random = Random::new(seed, number);
     loop {
         let spread = *random.pick(&SPREADS);
-        let Some((seed, centre)) = seed_and_centre(&mut random, spread) else { continue };
-        let points = points(&mut random, &seed, centre, spread, most_points);
+        let Some((seed, centre, points)) = draw(&mut random, spread) else { continue };
         let case = Case { number, seed, centre, points };
         if refusal(&case).is_none() {
             return case;
@@ -190,6 +229,126 @@ fn grid(random: &mut Random) -> Option<(Mesh, [f64; 2])> {
     Some((mesh, centre))
 }
 
+/// A mesh, and a centre outside it, which sees the boundary go round once all the same where its ring
+/// is strict: at most 3/4 of the angles between two of them are without a vertex.
+fn centre_outside(random: &mut Random, spread: i32) -> Option<(Mesh, [f64; 2])> {
+    let mesh = match random.below(4) {
+        0 => swept_mesh(random, spread)?.0,
+        _ => triangle(random, spread)?,
+    };
+    let [a, b] = {
+        let e = *random.pick(&mesh.boundary());
+        [e, mesh.next(e)].map(|e| mesh.position(e).map(f64::from))
+    };
+    // Beside a boundary edge, on its left: the boundary has the mesh on its right.
+    let [along, off] = [random.unit(), 0.5 * random.unit()];
+    let [dx, dy] = [b[0] - a[0], b[1] - a[1]];
+    let centre = [a[0] + along * dx - off * dy, a[1] + along * dy + off * dx];
+    let centre = if random.one_in(2) { centre.map(f64::round) } else { centre };
+    let angles = boundary_angles(&built(&mesh), Point2::new(centre[0], centre[1]));
+    is_strict(&angles).then_some((mesh, centre))
+}
+
+/// Three blades about a triangle, and a point in that triangle on the line of one of its spokes. Where
+/// the search comes along that spoke, it turns off and goes round the blades for ever.
+fn pinwheel(random: &mut Random, spread: i32) -> Option<((Mesh, [f64; 2]), Option<Position>)> {
+    let size = f64::from(spread.clamp(18, RANGE)) / 18.0;
+    let bend = *random.pick(&[0.0, 0.0, 0.3]);
+    let turned = random.one_in(2);
+    let place = |[x, y]: [f64; 2]| {
+        let [x, y] = [x, y].map(|c| size * c);
+        if turned {
+            rounded(-y, x)
+        } else {
+            rounded(x, y)
+        }
+    };
+    let positions = BLADES.map(|[x, y]| {
+        // The spoke stays on its line.
+        let bend = if y == 0 { 0.0 } else { bend };
+        let [dx, dy] = [(); 2].map(|()| bend * (2.0 * random.unit() - 1.0));
+        place([f64::from(x) + dx, f64::from(y) + dy])
+    });
+    let first = place([-1.2 + random.unit(), 0.0]);
+    let mut triangles = PINWHEEL;
+    if random.one_in(4) {
+        flip_at_will(random, &positions, &mut triangles);
+    }
+    let mesh = Mesh::of_triangles(&positions, &triangles, random)?;
+    let centre = centre_near(random, &mesh, spread);
+    Some(((mesh, centre), Some(first)))
+}
+
+/// The pinwheel as it is, numbered so that the search for its point goes round for ever.
+pub fn going_round() -> Case {
+    let mut seed = Mesh::of_triangles(&BLADES, &PINWHEEL, &mut Random::new(0, 0)).unwrap();
+    let at = |position: Position| seed.positions.iter().position(|&p| p == position).unwrap() as u32;
+    let [from, to] = [at([-2, 0]), at([-8, 0])];
+    let spoke =
+        (0..seed.half_edges.len() as u32).find(|&e| seed.origin(e) == from && seed.origin(e ^ 1) == to);
+    seed.out_edges[from as usize] = spoke.unwrap();
+    Case { number: 0, seed, centre: [-0.5, 0.0], points: vec![[-1, 0]] }
+}
+
+/// So many triangles about (0,0), and a point that flips all their edges one after the other.
+pub fn fan(count: u32) -> Case {
+    let rim = (0..=count as i32).map(|i| [-4 * i, 40]);
+    let positions: Vec<Position> = [[0, 0]].into_iter().chain(rim).collect();
+    let triangles: Vec<[u32; 3]> = (0..count).map(|i| [0, i + 1, i + 2]).collect();
+    let seed = Mesh::of_triangles(&positions, &triangles, &mut Random::new(0, 0)).unwrap();
+    Case { number: 0, seed, centre: [-6.0, 30.0], points: vec![[1, 6]] }
+}
+
+const BLADES: [Position; 9] =
+    [[4, 7], [-8, 0], [1, -1], [1, 1], [4, -7], [10, -15], [-18, -1], [-2, 0], [8, 16]];
+
+const PINWHEEL: [[u32; 3]; 13] = [
+    [2, 7, 4],
+    [1, 6, 5],
+    [7, 2, 3],
+    [1, 7, 3],
+    [3, 8, 6],
+    [1, 5, 7],
+    [4, 5, 8],
+    [3, 2, 4],
+    [3, 0, 8],
+    [0, 3, 4],
+    [1, 3, 6],
+    [5, 4, 7],
+    [8, 0, 4],
+];
+
+/// A square of bent squares, its boundary straight and so without a left corner, its edges flipped at
+/// will: convex and unsettled.
+fn quilt(random: &mut Random, spread: i32) -> Option<(Mesh, [f64; 2])> {
+    let side = 2 + random.below(4) as i32;
+    let step = (spread / side).max(1);
+    let inner = |k: i32| 0 < k && k < side;
+    let mut positions = Vec::new();
+    for y in 0..=side {
+        for x in 0..=side {
+            let [dx, dy] = within(random, step / 3);
+            let [dx, dy] = if inner(x) && inner(y) { [dx, dy] } else { [0, 0] };
+            positions.push([x * step + dx, y * step + dy]);
+        }
+    }
+    let corner = |x: i32, y: i32| (y * (side + 1) + x) as u32;
+    let squares = (0..side * side).map(|i| (i % side, i / side));
+    let mut triangles: Vec<[u32; 3]> = squares
+        .flat_map(|(x, y)| {
+            let [a, b, c, d] = [corner(x, y), corner(x + 1, y), corner(x + 1, y + 1), corner(x, y + 1)];
+            [[a, b, c], [a, c, d]]
+        })
+        .collect();
+    for _ in 0..3 {
+        flip_at_will(random, &positions, &mut triangles);
+    }
+    let mesh = Mesh::of_triangles(&positions, &triangles, random)?;
+    // A straight corner seen from inside has an angle of its own.
+    let centre = centre_near(random, &mesh, side * step);
+    Some((mesh, centre))
+}
+
 // Centres
 
 /// A point inside a triangle of the mesh, whole or not, or near the mesh.
@@ -238,6 +397,98 @@ fn points(random: &mut Random, seed: &Mesh, centre: [f64; 2], spread: i32, most:
         _ => {}
     }
     points
+}
+
+/// Points of the seed: in its triangles, on its edges and vertices, beside them, towards the centre; and
+/// some elsewhere, often before all others, so that the others are skipped and the mesh is larger.
+fn points_within(
+    random: &mut Random,
+    seed: &Mesh,
+    centre: [f64; 2],
+    spread: i32,
+    most: u64,
+) -> Vec<Position> {
+    let count = random.below(most + 1) as usize;
+    let elsewhere = if random.one_in(2) { 0 } else { random.below(1 + count as u64 / 2) as usize };
+    let mut points = placed(random, seed, centre, spread, elsewhere);
+    let kinds = 1 + random.below(63);
+    while points.len() < count {
+        let kind = random.below(6);
+        if kinds >> kind & 1 == 1 {
+            let point = point_within(random, seed, centre, kind);
+            points.push(point);
+        }
+    }
+    if random.one_in(3) {
+        repeat_some(random, seed, &mut points);
+    }
+    if random.one_in(3) {
+        random.shuffle(&mut points);
+    }
+    points
+}
+
+/// The points that a step from the seed skips: they go into the seed as it stands.
+fn skipped_alone(seed: &Mesh, centre: [f64; 2], points: Vec<Position>) -> Option<Vec<Position>> {
+    let case = Case { number: 0, seed: seed.clone(), centre, points };
+    if refusal(&case).is_some() {
+        return None;
+    }
+    let skipped = |&position: &Position| {
+        let step = Sweep::new(seed, centre).and_then(|mut sweep| sweep.step(position));
+        matches!(step, Ok([3, ..]))
+    };
+    Some(case.points.into_iter().filter(skipped).collect())
+}
+
+fn point_within(random: &mut Random, seed: &Mesh, centre: [f64; 2], kind: u64) -> Position {
+    let e = random.below(seed.half_edges.len() as u64) as u32;
+    let [a, b, c] = [e, seed.next(e), seed.prev(e)].map(|e| seed.position(e));
+    let between = |p: Position, q: [f64; 2], part: f64| {
+        let [x, y] = [0, 1].map(|i| f64::from(p[i]) + part * (q[i] - f64::from(p[i])));
+        rounded(x, y)
+    };
+    match kind {
+        0 => a,
+        // On the edge, where it has a grid point between its ends.
+        1 => {
+            let [dx, dy] = [b[0] - a[0], b[1] - a[1]];
+            let parts = greatest_divisor(dx.abs(), dy.abs()).max(1);
+            let k = random.between(0, parts);
+            [a[0] + dx / parts * k, a[1] + dy / parts * k]
+        }
+        // On the line between the edge and the far vertex, or the next but one of the boundary.
+        2 => {
+            let [u, v] = [random.unit(), random.unit()];
+            let q = between(b, c.map(f64::from), u).map(f64::from);
+            between(a, q, v)
+        }
+        // Towards the centre, up to a little beyond it.
+        3 => {
+            let [u, v] = [random.unit(), 1.25 * random.unit()];
+            between(between(a, b.map(f64::from), u), centre, v)
+        }
+        // Beyond the edge's first end, in its line or beside it.
+        4 => {
+            let [u, v] = [-2.0 * random.unit(), if random.one_in(2) { 0.0 } else { random.unit() - 0.5 }];
+            let [dx, dy] = [b[0] - a[0], b[1] - a[1]].map(f64::from);
+            rounded(f64::from(a[0]) + u * (dx - v * dy), f64::from(a[1]) + u * (dy + v * dx))
+        }
+        // Beside the edge.
+        _ => {
+            let [u, v] = [random.unit(), 0.25 * random.unit()];
+            let [dx, dy] = [b[0] - a[0], b[1] - a[1]].map(f64::from);
+            rounded(f64::from(a[0]) + u * dx - v * dy, f64::from(a[1]) + u * dy + v * dx)
+        }
+    }
+}
+
+fn greatest_divisor(a: i32, b: i32) -> i32 {
+    if b == 0 {
+        a
+    } else {
+        greatest_divisor(b, a % b)
+    }
 }
 
 /// Sets points to others of the list, or to vertices of the seed.

@@ -4,6 +4,7 @@ use std::io::{Read, Write};
 use std::process::ExitCode;
 
 use oracle::case::{read_cases, read_list};
+use oracle::driver::Watch;
 use oracle::worker::{work, Oracle};
 use oracle::{compare, generate, list, smallest};
 
@@ -18,8 +19,9 @@ const USAGE: &str = "usage:
   oracle smallest COUNT SEED SPREAD          search small listings for the kinds of differences
   oracle listing < LINES                     answer lines S, C, P as 01's listing does, as far as
                                              the Rust has it
-  oracle beyond < LINES                      the same without stopping at refusals 6 and 7
-                                             and fates 4 and 5";
+  oracle beyond < LINES                      the same without stopping at refusals 6 and 7,
+                                             at fates 4 and 5 and where a further pass
+                                             would add a face";
 
 fn standard_input() -> String {
     let mut text = String::new();
@@ -49,8 +51,9 @@ fn numbers(arguments: &[String]) -> Result<[u64; 3], String> {
 fn run(arguments: &[String]) -> Result<bool, String> {
     let command = arguments.first().map(String::as_str).unwrap_or_default();
     match (command, &arguments[1.min(arguments.len())..]) {
-        ("worker", []) => work(true),
-        ("worker-beyond", []) => work(false),
+        ("worker", []) => work(Watch::Domain),
+        ("worker-centre", []) => work(Watch::Centre),
+        ("worker-beyond", []) => work(Watch::Nowhere),
         ("generate", rest) => {
             let [count, seed, most] = numbers(rest)?;
             for number in 0..count {

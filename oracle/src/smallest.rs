@@ -4,7 +4,8 @@
 use std::collections::BTreeMap;
 use std::fmt::Write;
 
-use crate::case::{reason, Answer, Case, Ending};
+use crate::case::{reason, Answer, Case, Ending, Insertions};
+use crate::driver::{answer_from, Watch};
 use crate::mesh::{incircle, orient, Mesh, Position};
 use crate::random::Random;
 use crate::worker::Oracle;
@@ -61,15 +62,37 @@ pub fn has_unsettled_edge(mesh: &Mesh) -> bool {
     })
 }
 
+/// Whether searches from another vertex than 0 lead to another answer, or to other links alone.
+fn other_starts(case: &Case, answer: &Answer) -> Vec<&'static str> {
+    let run = |answer: &Answer| match &answer.ending {
+        Ending::Inside { inserted: Insertions::Made { fates, mesh }, .. } => {
+            Some((fates.clone(), mesh.clone()))
+        }
+        _ => None,
+    };
+    let Some((fates, mesh)) = run(answer) else { return vec![] };
+    let others = (1..mesh.positions.len()).filter_map(|hint| run(&answer_from(case, Watch::Domain, hint)));
+    let others: Vec<_> = others.collect();
+    let mut kinds = Vec::new();
+    kinds.extend(others.iter().any(|o| o.0 != fates).then_some("another start, another answer"));
+    kinds.extend(others.iter().any(|o| o.1 != mesh).then_some("another start, other links"));
+    kinds
+}
+
 /// The kinds of an input, with the part of it that shows the kind.
 fn kinds(case: &Case, answer: &Answer, beyond: impl FnOnce(&Case) -> Answer) -> Vec<(&'static str, Case)> {
     let upto = |index: u32| case.cut(case.points.len().min(index as usize + 1));
     match &answer.ending {
-        Ending::Inside { passed, .. } => {
-            let again = has_left_corner(passed).then_some(("a second pass adds a face", case.clone()));
-            let unsettled =
-                has_unsettled_edge(passed).then_some(("an edge is left for the closing pass", case.clone()));
-            again.into_iter().chain(unsettled).collect()
+        Ending::Inside { passed, inserted, .. } => {
+            let skipped = answer.fates.iter().any(|f| f[0] == 3);
+            let again = has_left_corner(passed);
+            let lost = *inserted == Insertions::SearchPanics;
+            let mut kinds = if skipped { other_starts(case, answer) } else { vec![] };
+            kinds.extend(again.then_some("a second pass adds a face"));
+            kinds.extend((again && skipped).then_some("a second pass adds a face, and a point is skipped"));
+            kinds.extend(has_unsettled_edge(passed).then_some("an edge is left for the closing pass"));
+            kinds.extend(lost.then_some("the search goes round for ever"));
+            kinds.into_iter().map(|kind| (kind, case.clone())).collect()
         }
         Ending::Outside { reason: reason::AT_CENTRE, index } => vec![("fate 5", upto(*index))],
         Ending::Outside { reason: reason::UNSOUND, index } => {
@@ -100,7 +123,7 @@ pub fn search([count, seed, spread]: [u64; 3]) {
     let mut random = Random::new(seed, spread);
     let mut oracle = Oracle::default();
     let mut beyond = Oracle::default();
-    beyond.beyond = true;
+    beyond.watch = Watch::Nowhere;
     let mut found: BTreeMap<&str, (u64, Measure, String)> = BTreeMap::new();
     for _ in 0..count {
         let Some(case) = small(&mut random, spread as i32) else { continue };

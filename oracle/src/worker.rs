@@ -10,7 +10,7 @@ use std::thread;
 use std::time::Duration;
 
 use crate::case::{read_answers, read_cases, reason, Answer, Case, Ending};
-use crate::driver;
+use crate::driver::{self, Watch};
 
 /// The time that a case may take.
 const TIME: Duration = Duration::from_secs(2);
@@ -25,11 +25,11 @@ extern "C" {
 const RLIMIT_AS: i32 = 9;
 
 /// The worker's own loop: inputs from standard input, each answered at once.
-pub fn work(watched: bool) {
+pub fn work(watch: Watch) {
     // SAFETY: the array has the layout of `struct rlimit` of 64-bit Linux.
     unsafe { setrlimit(RLIMIT_AS, &[MEMORY, MEMORY]) };
     std::panic::set_hook(Box::new(move |panic| {
-        if !watched {
+        if watch == Watch::Nowhere {
             eprintln!("{}", panic.to_string().replace('\n', " "));
         }
     }));
@@ -41,7 +41,7 @@ pub fn work(watched: bool) {
         text.push('\n');
         if line.starts_with('q') {
             let case = read_cases(&text).expect("an input").remove(0);
-            driver::answer(&case, watched).write(&mut answered);
+            driver::answer(&case, watch).write(&mut answered);
             let mut out = std::io::stdout().lock();
             out.write_all(answered.as_bytes()).and_then(|()| out.flush()).expect("a reader");
             text.clear();
@@ -57,10 +57,14 @@ struct Running {
 }
 
 impl Running {
-    fn start(beyond: bool, loud: bool) -> Running {
+    fn start(watch: Watch, loud: bool) -> Running {
         let program = std::env::current_exe().expect("this program has a place");
         let mut child = Command::new(program)
-            .arg(if beyond { "worker-beyond" } else { "worker" })
+            .arg(match watch {
+                Watch::Domain => "worker",
+                Watch::Centre => "worker-centre",
+                Watch::Nowhere => "worker-beyond",
+            })
             .stdin(Stdio::piped())
             .stdout(Stdio::piped())
             .stderr(if loud { Stdio::inherit() } else { Stdio::null() })
@@ -88,7 +92,7 @@ impl Running {
 pub struct Oracle {
     running: Option<Running>,
     /// Whether the Rust goes on beyond the domain.
-    pub beyond: bool,
+    pub watch: Watch,
     /// Whether its panics there are told on standard error.
     pub loud: bool,
 }
@@ -122,7 +126,7 @@ impl Oracle {
 
     /// The worker's answer; nothing where it does not answer in time.
     pub fn ask(&mut self, case: &Case) -> Option<Answer> {
-        let running = self.running.get_or_insert_with(|| Running::start(self.beyond, self.loud));
+        let running = self.running.get_or_insert_with(|| Running::start(self.watch, self.loud));
         let mut text = String::new();
         case.write(&mut text);
         let sent = running.input.write_all(text.as_bytes()).and_then(|()| running.input.flush());

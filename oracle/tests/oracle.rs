@@ -2,15 +2,18 @@
 
 use std::process::{Command, Stdio};
 
-use oracle::case::{read_list, reason, Answer, Case, Ending};
+use oracle::case::{read_answers, read_list, reason, Answer, Case, Ending, Insertions};
 use oracle::compare::difference;
-use oracle::delaunay_core::bulk_load::driver::{self, angle, answer, boundary_angles, built};
+use oracle::delaunay_core::bulk_load::driver::{
+    self, angle, answer, answer_from, boundary_angles, built, Sweep, Watch,
+};
 use oracle::mesh::{orient, Mesh, Position};
 use oracle::random::Random;
 use oracle::smallest::{has_left_corner, has_unsettled_edge};
 use oracle::{generate, list, Point2};
 
 const ORACLE: &str = env!("CARGO_BIN_EXE_oracle");
+const SECOND_PASS: &str = "S -2 -2 0 -1 -1 2\nC 0 -2\nP 2 -2\nP 1 -1\n";
 const SAMPLE: &str = "S 0 0 4 0 0 4\nC 1 1\nP 4 4\nP 2 2\nP 4 4\nP 1 1\n";
 
 fn stored() -> Vec<(Case, Answer)> {
@@ -26,11 +29,33 @@ fn printed(arguments: &[&str], input: &str) -> String {
     String::from_utf8(child.wait_with_output().unwrap().stdout).unwrap()
 }
 
-/// 01's sample listing up to its fate 5, and its totals but for the closing flips.
+/// M4 as Change 2 has it: its point at the centre is skipped, and inserted like the others. The totals but
+/// for the closing flips.
 #[test]
 fn sample_listing() {
-    let expected = "p 0 1 3 1 0\np 1 3 0 0 0\np 2 2 0 0 0\nx 3 3\nt 4 5 2 32 0 0\n";
+    let expected = "p 0 1 3 1 0\np 1 7 4 2 0\np 2 2 0 0 0\np 3 7 5 2 0\nt 6 11 6 32 0 0\n";
     assert_eq!(printed(&["listing"], SAMPLE), expected);
+    let case = list::listed(SAMPLE).unwrap();
+    let outside = Ending::Outside { reason: reason::AT_CENTRE, index: 3 };
+    assert_eq!(answer(&case, Watch::Domain).ending, outside);
+}
+
+/// The four fates of an insertion, and both kinds of edges: the triangle (0,0) (8,0) (0,8) with its centre
+/// outside, beside the long side.
+#[test]
+fn insertions() {
+    let seed = Mesh::triangle([[0, 0], [8, 0], [0, 8]]);
+    let points = vec![[2, 2], [4, 4], [2, 2], [1, 1], [5, 5], [3, 3]];
+    let case = Case { number: 0, seed, centre: [6.0, 6.0], points };
+    let answered = answer(&case, Watch::Domain);
+    assert_eq!(answered.fates.iter().map(|f| f[0]).collect::<Vec<_>>(), [3, 3, 3, 3, 3, 3]);
+    let Ending::Inside { inserted: Insertions::Made { fates, mesh }, .. } = answered.ending else {
+        panic!("not inside")
+    };
+    let expected = [[6, 3, 2, 0], [7, 4, 1, 0], [9, 3, 0, 0], [7, 5, 2, 0], [8, 6, 2, 0], [7, 7, 2, 0]];
+    assert_eq!(fates, expected);
+    assert_eq!(mesh.refusal(&[]), None);
+    assert_eq!(mesh.positions[3..], [[2, 2], [4, 4], [1, 1], [5, 5], [3, 3]]);
 }
 
 /// The Rust itself does not return from a point at the centre: the worker is ended.
@@ -58,7 +83,7 @@ fn marked_angles() {
 fn marked_flip() {
     let seed = Mesh::triangle([[0, 0], [4, 0], [2, 1]]);
     let case = Case { number: 0, seed, centre: [2.0, 0.5], points: vec![[2, -1]] };
-    assert_eq!(answer(&case, true).fates, [[1, 3, 1, 1]]);
+    assert_eq!(answer(&case, Watch::Domain).fates, [[1, 3, 1, 1]]);
 }
 
 /// M9: that seed with the centre (9,9) is refused 7; and the other refusals of a run.
@@ -91,9 +116,9 @@ fn differences_in_listings() {
     let fate_4 = "S -1 -2 0 -1 0 0\nC -1 0\nP 2 0\n";
     assert!(printed(&["listing"], fate_4).starts_with("x 4 0\n"));
     assert!(printed(&["beyond"], fate_4).starts_with("p 0 1 3 2 0\nt 4 "));
-    let second_pass = "S -2 -2 0 -1 -1 2\nC 0 -2\nP 2 -2\nP 1 -1\n";
-    assert!(printed(&["listing"], second_pass).ends_with("t 5 8 4 15 1 0\n"));
-    let Ending::Inside { passed, .. } = answer(&list::listed(second_pass).unwrap(), true).ending else {
+    assert!(printed(&["listing"], SECOND_PASS).ends_with("x 10 2\nt 5 8 4 15 1 0\n"));
+    let Ending::Inside { passed, .. } = answer(&list::listed(SECOND_PASS).unwrap(), Watch::Domain).ending
+    else {
         panic!("not inside")
     };
     assert!(has_left_corner(&passed));
@@ -116,22 +141,49 @@ fn differences_of_other_seeds() {
     let seed = mesh_of(&[[-1, -1], [1, 1], [0, 1], [1, 0]], &[[0, 1, 2], [1, 0, 3]]);
     assert!(has_unsettled_edge(&seed));
     let case = Case { number: 0, seed: seed.clone(), centre: [0.25, 0.25], points: vec![] };
-    let ending = Ending::Inside { stepped: seed.clone(), pass: [0, 0], passed: seed };
-    assert_eq!(answer(&case, true).ending, ending);
+    let inserted = Insertions::Made { fates: vec![], mesh: seed.clone() };
+    let ending = Ending::Inside { stepped: seed.clone(), pass: [0, 0], passed: seed, inserted };
+    assert_eq!(answer(&case, Watch::Domain).ending, ending);
 
-    let positions: Vec<Position> = [[0, 0]].into_iter().chain((0..9).map(|i| [-4 * i, 40])).collect();
-    let triangles: Vec<[u32; 3]> = (0..8).map(|i| [0, i + 1, i + 2]).collect();
-    let seed = mesh_of(&positions, &triangles);
-    let case = Case { number: 0, seed, centre: [-6.0, 30.0], points: vec![[1, 6]] };
-    assert_eq!(answer(&case, true).fates, [[1, 10, 1, 8]]);
+    assert_eq!(answer(&generate::fan(8), Watch::Domain).fates, [[1, 10, 1, 8]]);
 
     let seed = Mesh::triangle([[-1, 0], [1, -1], [0, 0]]);
     let case = Case { number: 0, seed, centre: [-0.5, 0.0], points: vec![[1, 0], [3, 5]] };
-    let answered = answer(&case, true);
+    let answered = answer(&case, Watch::Domain);
     assert!(answered.fates.iter().all(|fate| fate[0] == 1));
-    let Ending::Inside { stepped, .. } = answer(&case.cut(1), true).ending else { panic!("not inside") };
+    let Ending::Inside { stepped, .. } = answer(&case.cut(1), Watch::Domain).ending else {
+        panic!("not inside")
+    };
     let angles = boundary_angles(&built(&stepped), Point2::new(-0.5, 0.0));
     assert!(driver::is_sound(&angles) && !driver::is_strict(&angles));
+}
+
+/// The differences of the insertions: a second pass before them, a search that goes round, another start.
+#[test]
+fn differences_of_insertions() {
+    let text = "S -1 2 -2 -1 0 -1\nC -1 -2\nP 2 -2\nP 1 -1\nP -1 0\n";
+    let steps = "p 0 1 3 1 0\np 1 1 4 1 0\n";
+    assert_eq!(printed(&["listing"], text), format!("{steps}p 2 3 0 0 0\nx 10 3\nt 5 8 4 12 1 0\n"));
+    assert_eq!(printed(&["beyond"], text), format!("{steps}p 2 6 5 2 1\nt 6 11 6 12 1 0\n"));
+
+    let case = generate::going_round();
+    assert_eq!(driver::refusal(&case), None);
+    let answered = answer(&case, Watch::Domain);
+    assert_eq!(answered.fates, [[3, 0, 0, 0]]);
+    assert!(matches!(answered.ending, Ending::Inside { inserted: Insertions::SearchPanics, .. }));
+
+    let made = |text: &str, hint: usize| match answer_from(&list::listed(text).unwrap(), Watch::Domain, hint)
+        .ending
+    {
+        Ending::Inside { inserted: Insertions::Made { fates, mesh }, .. } => (fates, mesh),
+        _ => panic!("not inside"),
+    };
+    let links = "S 1 -1 0 1 -1 -1\nC 1 0\nP 0 -1\nP 0 0\n";
+    let [first, second] = [0, 1].map(|hint| made(links, hint));
+    assert_eq!(first.0, second.0);
+    assert_ne!(first.1, second.1);
+    let flips = "S 0 -1 2 -1 1 1\nC 0 1\nP 0 0\nP -1 -1\nP -2 1\nP 0 -2\n";
+    assert_eq!([0, 5].map(|hint| made(flips, hint).0[1]), [[8, 6, 1, 0], [8, 6, 1, 1]]);
 }
 
 /// The watch for flips beside the outer face can fire: on a mesh with a triangle that turns right, which
@@ -141,14 +193,14 @@ fn other_flips_are_noticed() {
     let positions = [[0, 0], [-1, 0], [-1, 1], [0, -1], [0, -2]];
     let seed = mesh_of(&positions, &[[0, 1, 2], [2, 1, 3], [2, 3, 4]]);
     assert_eq!(seed.refusal(&[]), Some(5));
-    let mut sweep = driver::Sweep::new(&seed, [2.5, -0.75]).ok().unwrap();
+    let mut sweep = Sweep::new(&seed, [2.5, -0.75]).ok().unwrap();
     assert_eq!(sweep.pass(), Err(reason::OTHER_FLIP));
 }
 
 #[test]
 fn list_is_what_the_oracle_answers() {
     for (case, stored) in stored() {
-        assert_eq!(answer(&case, true), stored, "entry {}", case.number);
+        assert_eq!(answer(&case, Watch::Domain), stored, "entry {}", case.number);
     }
 }
 
@@ -176,6 +228,26 @@ fn list_covers() {
     assert!(count(&|_, a| a.fates.iter().any(|f| f[3] > 2)) > 20);
     assert!(count(&|_, a| a.fates.iter().any(|f| f[3] >= 8)) > 5);
     assert!(pass(0) > 20 && pass(1) > 20);
+    let inserted = |holds: &dyn Fn(&[u32; 4]) -> bool| {
+        count(&|_, a| match &a.ending {
+            Ending::Inside { inserted: Insertions::Made { fates, .. }, .. } => fates.iter().any(|f| holds(f)),
+            _ => false,
+        })
+    };
+    for fate in 6..=9 {
+        assert!(inserted(&|f| f[0] == fate) > 20);
+    }
+    for faces in [1, 2] {
+        assert!(inserted(&|f| f[0] == 7 && f[2] == faces) > 10);
+    }
+    assert!(inserted(&|f| f[0] == 8 && f[2] > 2) > 5);
+    for fate in 6..=8 {
+        assert!(inserted(&|f| f[0] == fate && f[3] > 2) > 5);
+    }
+    let ends = |ending: Insertions| {
+        count(&|_, a| matches!(&a.ending, Ending::Inside { inserted, .. } if *inserted == ending))
+    };
+    assert!(ends(Insertions::AfterPasses) > 3 && ends(Insertions::SearchPanics) > 1);
     assert!(count(&|c, _| c.seed.faces.len() == 2) > 50);
     assert!(count(&|c, _| c.seed.faces.len() > 2) > 50);
     assert!(count(&|c, _| c.centre.iter().any(|x| x.fract() != 0.0)) > 50);
@@ -187,12 +259,16 @@ fn list_covers() {
 #[test]
 fn list_is_small() {
     let text = include_str!("../answers.txt");
-    assert!(text.len() < 1_000_000);
+    assert!(text.len() < 524_288);
     assert!(text.lines().all(|line| line.len() < 8_192));
-    for (_, answer) in stored() {
-        let Ending::Inside { pass, passed, .. } = answer.ending else { panic!("not inside") };
-        assert!(passed.positions.len() <= 100);
-        let flips = answer.fates.iter().map(|f| f[3]).chain([pass[1]]).max().unwrap();
+    for (case, answer) in stored() {
+        let Ending::Inside { pass, inserted, .. } = answer.ending else { panic!("not inside") };
+        assert!(case.size() <= 100);
+        let run = match inserted {
+            Insertions::Made { fates, .. } => fates,
+            _ => answer.fates,
+        };
+        let flips = run.iter().map(|f| f[3]).chain([pass[1]]).max().unwrap();
         assert!(2 + 4 * flips <= 4_096);
     }
 }
@@ -201,7 +277,7 @@ fn list_is_small() {
 #[test]
 fn meshes_of_the_list_keep_the_rules() {
     for (case, answer) in stored() {
-        let Ending::Inside { stepped, passed, .. } = answer.ending else { panic!("not inside") };
+        let Ending::Inside { stepped, passed, inserted, .. } = answer.ending else { panic!("not inside") };
         assert_eq!(driver::refusal(&case), None);
         assert_eq!(stepped.refusal(&[]), None);
         assert_eq!(passed.refusal(&[]), None);
@@ -211,6 +287,26 @@ fn meshes_of_the_list_keep_the_rules() {
             m.triangles().into_iter().map(corner).map(|[a, b, c]| orient(a, b, c)).sum()
         };
         assert_eq!(areas(&passed), list::doubled_area(&passed));
+        let Insertions::Made { fates, mesh } = inserted else { continue };
+        assert_eq!(mesh.refusal(&[]), None);
+        assert_eq!(areas(&mesh), list::doubled_area(&mesh));
+        let added = fates.iter().zip(&answer.fates).filter(|(a, b)| a != b && a[0] != 9).count();
+        assert_eq!(mesh.positions.len(), passed.positions.len() + added);
+        assert_eq!(mesh.positions[..passed.positions.len()], passed.positions);
+    }
+}
+
+/// Where the list has insertions, and where it has none: a further pass adds a face exactly where a
+/// corner of the boundary turns left, and after the insertions none does.
+#[test]
+fn passes_and_left_corners() {
+    let listed = stored().into_iter().map(|(case, _)| case);
+    for case in listed.chain((0..600).map(|number| generate::case(7, number, 40))) {
+        let Ending::Inside { passed, inserted, .. } = answer(&case, Watch::Domain).ending else { continue };
+        assert_eq!(has_left_corner(&passed), inserted == Insertions::AfterPasses);
+        if let Insertions::Made { mesh, .. } = inserted {
+            assert!(!has_left_corner(&mesh));
+        }
     }
 }
 
@@ -227,7 +323,9 @@ fn generator_is_fixed() {
 #[test]
 fn comparison_can_fail() {
     let entries = stored();
-    let (_, rust) = entries.iter().find(|(_, a)| a.fates.iter().any(|f| f[3] > 0)).unwrap();
+    let inserted = |a: &Answer| matches!(a.ending, Ending::Inside { inserted: Insertions::Made { .. }, .. });
+    let flipped = |a: &Answer| a.fates.iter().any(|f| f[3] > 0);
+    let (_, rust) = entries.iter().find(|(_, a)| flipped(a) && inserted(a)).unwrap();
     assert_eq!(difference(rust, rust), None);
     let differs = |change: &dyn Fn(&mut Answer)| {
         let mut other = rust.clone();
@@ -237,11 +335,24 @@ fn comparison_can_fail() {
     for at in 0..4 {
         assert!(differs(&|a| a.fates.last_mut().unwrap()[at] += 1));
     }
-    for after_pass in [false, true] {
+    let run = |change: &dyn Fn(&mut Vec<[u32; 4]>, &mut Mesh)| {
+        differs(&|a| {
+            let Ending::Inside { inserted: Insertions::Made { fates, mesh }, .. } = &mut a.ending else {
+                panic!()
+            };
+            change(fates, mesh);
+        })
+    };
+    for at in 0..4 {
+        assert!(run(&|fates, _| fates.last_mut().unwrap()[at] += 1));
+    }
+    assert!(run(&|fates, _| fates.push([1, 0, 0, 0])));
+    for when in 0..3 {
         let mesh_differs = |change: &dyn Fn(&mut Mesh)| {
             differs(&|a| {
-                let Ending::Inside { stepped, passed, .. } = &mut a.ending else { panic!() };
-                change(if after_pass { passed } else { stepped });
+                let Ending::Inside { stepped, passed, inserted, .. } = &mut a.ending else { panic!() };
+                let Insertions::Made { mesh, .. } = inserted else { panic!() };
+                change([stepped, passed, mesh][when]);
             })
         };
         for at in 0..4 {
@@ -257,6 +368,46 @@ fn comparison_can_fail() {
             pass[at] += 1;
         }));
     }
+}
+
+/// Where the Rust has no insertions, another side may have some; where it has some, the other side must.
+#[test]
+fn comparison_of_insertions() {
+    let case = list::listed("S 0 0 4 0 0 4\nC 1 1\nP 4 4\nP 2 2\n").unwrap();
+    let made = answer(&case, Watch::Domain);
+    let with = |inserted: Insertions| {
+        let mut other = made.clone();
+        let Ending::Inside { inserted: place, .. } = &mut other.ending else { panic!() };
+        *place = inserted;
+        other
+    };
+    for inserted in [Insertions::AfterPasses, Insertions::SearchPanics] {
+        let none = with(inserted);
+        assert!(difference(&made, &none).is_some());
+        assert_eq!(difference(&none, &made), None);
+        assert_eq!(difference(&none, &none), None);
+        // The point that was added keeps its answer.
+        let Ending::Inside { inserted: Insertions::Made { mut fates, mesh }, .. } = made.clone().ending
+        else {
+            panic!()
+        };
+        fates[0][3] += 1;
+        assert!(difference(&none, &with(Insertions::Made { fates, mesh })).is_some());
+    }
+}
+
+/// The text of each kind of answer is read as it was written; also where a run has no point.
+#[test]
+fn text_of_insertions() {
+    let cases = ["S 0 0 4 0 0 4\nC 1 1\n", "S 0 0 4 0 0 4\nC 1 1\nP 2 2\n", SECOND_PASS];
+    let cases = cases.map(|text| list::listed(text).unwrap()).into_iter().chain([generate::going_round()]);
+    let answers: Vec<Answer> = cases.map(|case| answer(&case, Watch::Domain)).collect();
+    let mut text = String::new();
+    for answer in &answers {
+        answer.write(&mut text);
+    }
+    assert_eq!(read_answers(&text).unwrap(), answers);
+    assert!(text.contains("\nb\nm ") && text.contains("\nb\ne\n") && text.contains("\nl\ne\n"));
 }
 
 /// `oracle compare` beside itself agrees; beside a program that answers nothing it does not.

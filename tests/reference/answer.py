@@ -49,6 +49,22 @@ def mesh_lines(mesh):
             line("h", mesh.halves[:8 * e]), line("f", mesh.stored[:f])]
 
 
+def inserted(mesh, points, answers):
+    """Change 2 from the first pass on: `b` and the answers of the run, then the mesh after the insertions; `b` alone
+    where a later pass would add a face first, `l` alone where the search does not end (the Rust panics)."""
+    later = mesh.copy()
+    if sweep.convexity(later, PLENTY)[0]:
+        return ["b"]
+    for i, p in enumerate(points):
+        if answers[4 * i] in sweep.SKIPPED:
+            try:
+                sweep.walk_to_target(mesh, sweep.walk_to_nearest_neighbor(mesh, 0, p), p)
+            except sweep.TooManyTurns:
+                return ["l"]
+            answers[4 * i:4 * i + 4] = sweep.insert_skipped(mesh, p, 0, PLENTY)
+    return [line("b", answers)] + mesh_lines(mesh)
+
+
 def answer(case):
     points = pairs(case["q"])
     centre = tuple(of_bits(b) for b in case["c"])
@@ -65,7 +81,8 @@ def answer(case):
     out = [line("a", answers)] + mesh_lines(mesh)
     faces = mesh.faces
     flips = sweep.fix_convexity(mesh, PLENTY)
-    return out + [line("g", (mesh.faces - faces, flips))] + mesh_lines(mesh)
+    out += [line("g", (mesh.faces - faces, flips))] + mesh_lines(mesh)
+    return out + inserted(mesh, points, answers)
 
 
 if __name__ == "__main__":

@@ -14,6 +14,7 @@ import sys
 
 import run_cases
 import selfcheck
+import skipped_cases
 import sweep
 from selfcheck import SAMPLE, SAMPLE_OUT
 
@@ -157,7 +158,7 @@ def unsound():
             def moved(p):
                 p = run_cases.turned(p, quarters)
                 return scale * p[0] + x, scale * p[1] + y
-            yield text(list(map(moved, corners)), moved(centre), list(map(moved, points)))
+            yield list(map(moved, corners)), moved(centre), list(map(moved, points))
 
 
 def fan(count, x, rise, first, then):
@@ -237,7 +238,7 @@ def drawn(rng):
 
 def drawn_cases(rng):
     """Name, input: so many of each kind."""
-    fate = lambda n: lambda given, ps, t: any(p[1] == n for p in ps)
+    fate = lambda n: lambda given, ps, t: n in step_fates(given)
     wanted = [["convexity flips", 24, lambda given, ps, t: t[5] > 0],
               ["several convexity flips", 8, lambda given, ps, t: t[5] > 2],
               ["fate 5", 8, fate(5)], ["fate 2", 6, fate(2)], ["fate 3", 6, fate(3)],
@@ -258,6 +259,12 @@ def drawn_cases(rng):
                 break
 
 
+def step_fates(given):
+    """The fates that the steps give: 3 to 5 stand in no listing."""
+    seed, centre, points = given
+    return selfcheck.step_fates(sweep.seed_triangle(seed, 3), tuple(map(float, centre)), points)
+
+
 def exchanged(given):
     seed, (x, y), points = given
     return sweep.listing(text(seed, (y, x), points))
@@ -271,6 +278,67 @@ def counts_of(printed):
     """The numbers of the lines `p`, and of the line `t`."""
     *ps, t = [tuple(map(int, line.split(b" ")[1:])) for line in printed.split(b"\n")[:-1]]
     return ps, t
+
+
+def skipped(rng):
+    """Name, input, the fates of the points or None: skipped points go in."""
+    low, centre = [(0, 0), (40, 0), (20, 30)], (20, -4)
+    for quarters in range(4):
+        for points, fates in (([(20, -4)], [8]), ([(20, -2), (20, -4)], [8, 8]), ([(20, -4), (21, -2)], [8, 6]),
+                              ([(10, -1), (30, -1), (20, -4)], [8, 8, 8]), ([(20, -4), (20, -4)], [8, 9]),
+                              ([(20, 10), (20, 0), (20, 10), (20, 5), (10, 15)], [6, 7, 9, 7, 7]),
+                              ([(20, -4), (20, -40), (20, -4), (20, -40)], [6, 1, 9, 2])):
+            turn = lambda ps: [run_cases.turned(p, quarters) for p in ps]
+            yield "about the centre outside", (turn(low), *turn([centre]), turn(points)), fates
+    corners, centre = TRIANGLE
+    for far in (50, 9000, sweep.LIMIT):
+        points = [(-far, -far), (far, -far), (far, far), (-far, far)] + corners + [corners[2], (1, 1)]
+        yield "at the seed's corners, covered", (corners, centre, points), [1] * 4 + [9] * 4 + [6]
+    for name, corners, triangles, twice, points in skipped_cases.OVERLAPS:
+        if len(corners) == 3:
+            for scale, shift in ((2, (0, 0)), (600000, (7, -5))):
+                where = lambda ps: skipped_cases.placed(ps, scale, shift, 0)
+                at = tuple(scale * c // 2 + s for c, s in zip(twice, shift))
+                yield name, (where(corners), at, where(points)), None
+    limit = sweep.LIMIT
+    wide = [(-limit, -limit), (limit, -limit), (0, limit)]
+    grid = [(x, y) for x in range(-7, 8) for y in range(-5, 6)]
+    rng.shuffle(grid)
+    yield "a grid, every point skipped", (wide, (1, 0), grid), None
+    few = [(-9000, -9000), (9000, -9000), (0, 9000)]
+    for count, spread in ((20, 2), (60, 30), (394, 2000)):
+        inside = [(rng.randint(-spread, spread), rng.randint(-spread, spread)) for _ in range(count)]
+        seed = [(x // 3 * 2, y // 3 * 2) for x, y in few]
+        points = few[:1] + inside[::2] + few[1:2] + inside[1::2] + few[2:]
+        yield "all but three are skipped, %d points" % len(points), (seed, (0, 1), points), None
+    yield "one position, again and again", (wide, (1, 0), [(5, 5)] * 30 + [(limit, limit)] + [(5, 5)] * 3), None
+    sides = [(x, -limit) for x in range(-limit + 5, limit, limit // 8)]
+    yield "on a side", (wide, (1, 0), sides), [7] * len(sides)
+
+
+def skipped_fans():
+    """Name, input, the pending entries that it needs, the point at which fewer are too few: a point in a fan's
+    first triangle is within all its circles, and its insertion flips them all."""
+    for count in (9, 30, 101, 300):
+        yield "a skipped point in a fan", fan(count, 100000, 10, [(20001, 1)], []), count, 0
+    yield "a skipped point in a fan after others", fan(40, 100000, 10, [], [(1, -1), (20001, 1)]), 41, 39
+    yield "a skipped point in a fan that turns the other way", fan(30, 100000, -10, [(20001, -1)], []), 8, 0
+
+
+def drawn_skipped(rng):
+    """Name, input: so many runs of each kind, drawn."""
+    wanted = {6: 10, 7: 14, 8: 14, 9: 10}
+    while any(wanted.values()):
+        given = drawn(rng)
+        if any(abs(c) > sweep.LIMIT for p in given[2] for c in p):
+            continue
+        printed = sweep.listing(text(*given))
+        if accepts(printed):
+            for fate in (8, 9, 7, 6):
+                if wanted[fate] and sum(p[1] == fate for p in counts_of(printed)[0]) > (fate != 8):
+                    wanted[fate] -= 1
+                    yield "drawn: fate %d" % fate, text(*given)
+                    break
 
 
 def examples():
@@ -294,7 +362,8 @@ def varied(found):
         else:
             rs.append(tuple(map(int, printed.split()[1:])))
     index, fate, vertex, faces, flips = map(set, zip(*ps))
-    assert index == set(range(397)) and fate == {1, 2, 3, 4, 5} and vertex == {0} | set(range(3, 400))
+    assert index == set(range(397)) and fate == {1, 2, 6, 7, 8, 9} and vertex == set(range(400))
+    assert {p[2] for p in ps if p[1] == 9} > {0, 1, 2} and all(sum(p[1] == f for p in ps) > 40 for f in fate)
     assert len(faces) > 15 and max(faces) > 100 and len(flips) > 300 and max(flips) > 390
     *counts, closing = map(set, zip(*ts))
     assert all(len(values) > 12 for values in counts) and closing == {0}
@@ -312,15 +381,24 @@ def cases():
         yield name, given, printed
     assert sweep.listing(SAMPLE) == SAMPLE_OUT
     for given in unsound():
-        printed = sweep.listing(given)
-        assert printed.startswith(b"p 0 4 0 0 0\n"), printed
-        yield "fate 4, then others", given, printed
-    for name, given, need, at in filling():
+        assert step_fates(given)[0] == 4
+        printed = sweep.listing(text(*given))
+        assert printed.startswith(b"p 0 8 6 "), printed
+        yield "fate 4 in its step, then others", text(*given), printed
+    for name, given, need, at in [*filling(), *skipped_fans()]:
         given = text(*given)
         printed = sweep.listing(given)
         assert accepts(printed) and with_pending(given, need) == printed, name
         assert with_pending(given, need - 1) == (b"r 2 0\n" if need == 8 else b"r 9 %d\n" % at), name
         yield "%s: %d pending entries" % (name, need), given, printed
+    rng = random.Random(97)
+    for name, given, fates in skipped(rng):
+        printed = sweep.listing(text(*given))
+        assert accepts(printed), name
+        assert fates is None or [p[1] for p in counts_of(printed)[0]] == fates, (name, printed)
+        yield name, text(*given), printed
+    for name, given in drawn_skipped(rng):
+        yield name, given, sweep.listing(given)
     for name, given, printed in [*examples(), *refused()]:
         assert printed == sweep.listing(given), (name, sweep.listing(given))
         yield name, given, printed

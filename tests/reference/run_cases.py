@@ -77,11 +77,14 @@ def watched(case, mesh, lent, answer):
     selfcheck.standing(mesh)
     selfcheck.untouched(mesh.rows(), case.mesh.rows(), mesh.counts())
     assert not any(lent.nodes + lent.freed + lent.buckets + lent.pending) and mesh.left_out == 0
+    full = selfcheck.plenty(case.mesh, case.centre, case.points)
+    told = selfcheck.answers_told(full, *answer[:2])
+    assert lent.answers[:len(told)] == told and set(lent.answers[len(told):]) <= {7}
+    selfcheck.vertices_kept(mesh, case.mesh, case.points, full, answer, case.zs)
     if answer[0] == 0:
-        selfcheck.vertices_kept(mesh, case.mesh, case.points, lent.answers, case.zs)
         selfcheck.finished(mesh)
-        again = selfcheck.steps_watched(case.mesh, case.centre, case.points, 1 << 30, {})
-        selfcheck.finish_watched(again, 1 << 30, {})
+        again, *flips = selfcheck.run_watched(case.mesh, case.centre, case.points, selfcheck.PLENTY, {})
+        assert flips == list(answer[3:])
         v, e, f = mesh.counts()
         assert again.halves[:8 * e] == mesh.halves[:8 * e] and again.counts() == (v, e, f)
 
@@ -725,6 +728,7 @@ def run_list():
         *found, again = carried_ring(case)
         assert found == told and again and add_run(out, name, case)[0] == 0, (name, found, again)
     run_heights(out, random.Random(75))
+    skipped_cases.add_cases(out, add_run, random.Random(76))
     return out
 
 
@@ -814,4 +818,5 @@ def step_heights(out, rng):
 
 
 if __name__ == "__main__":
+    import skipped_cases  # which needs what stands above
     {"run": run_list, "step": step_list}[sys.argv[1]]().print()

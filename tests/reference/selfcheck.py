@@ -1,5 +1,6 @@
-"""Checks of the reference itself: 01's listing, M1 to M10, rare cases, volumes, and an adversarial campaign
-of whole runs that asserts what demand 3 claims of them, and what heights must and must not change.
+"""Checks of the reference itself: the listing of 01 and Change 2, M1 to M10, rare cases, volumes, and an
+adversarial campaign of whole runs that asserts what demand 3 claims of them, what the search and the insertion
+of skipped points must satisfy, and what heights must and must not change.
 
     python3 selfcheck.py [seconds of campaign, 20 if none is given] [seed]
 """
@@ -14,13 +15,20 @@ import meshes
 import sweep
 
 SAMPLE = b"S 0 0 4 0 0 4\nC 1 1\nP 4 4\nP 2 2\nP 4 4\nP 1 1\n"
-SAMPLE_OUT = (b"p 0 1 3 1 0\np 1 3 0 0 0\np 2 2 0 0 0\np 3 5 0 0 0\nt 4 5 2 32 0 0 0\n")
+SAMPLE_OUT = (b"p 0 1 3 1 0\np 1 7 4 2 0\np 2 2 0 0 0\np 3 7 5 2 0\nt 6 11 6 32 0 0 0\n")
+PLENTY = 1 << 30  # pending entries that are never filled
 
 
 def run_of(seed, centre, points, pending=4096):
     n = seed.vertices + len(points)
     mesh, lent = meshes.with_room(seed, n), sweep.lent_for(n, pending, len(points))
     return mesh, lent, sweep.run(mesh, lent, centre, points)
+
+
+def step_fates(seed, centre, points):
+    """The fates that the steps of a run give, 3 to 5 among them."""
+    mesh = meshes.with_room(seed, seed.vertices + len(points))
+    return [sweep.one_step(mesh, p, centre, PLENTY)[0] for p in points]
 
 
 def marked():
@@ -35,7 +43,7 @@ def marked():
     assert [sweep.pseudo_angle(p, (1.0, 1.0)) for p in corners] == [0.875, 0.5625, 0.1875], "M3"
     assert ([a for a, _ in sweep.boundary_angles(seed, (1.0, 1.0))] == [0.5625, 0.875, 0.1875]), "M3"
     mesh, _, answer = run_of(seed, (1.0, 1.0), [(4, 4), (2, 2), (4, 4), (1, 1)])
-    assert answer[0] == 0 and sweep.height_sum(mesh) == 1536, "M4"
+    assert answer[0] == 0 and sweep.height_sum(mesh) == 1248, "M4"
 
     five = sweep.seed_triangle([(0, 0), (4, 0), (2, 1)], 4)
     assert sweep.incircle((0, 0), (4, 0), (2, 1), (2, -1)) == 24, "M5"
@@ -64,8 +72,15 @@ def marked():
 def examples():
     """Rare cases, each at its smallest."""
     tri = sweep.seed_triangle
-    _, lent, answer = run_of(tri([(0, 0), (0, -1), (1, 1)], 3), (1.0, -1.0), [(-2, -1)])
-    assert answer[0] == 0 and lent.answers == [4, 0, 0, 0], "fate 4"
+    seed = tri([(0, 0), (0, -1), (1, 1)], 3)
+    _, lent, answer = run_of(seed, (1.0, -1.0), [(-2, -1)])
+    assert step_fates(seed, (1.0, -1.0), [(-2, -1)]) == [4], "fate 4"
+    assert answer[0] == 0 and lent.answers == [8, 3, 2, 0], "fate 4, then 8"
+
+    square = meshes.of_triangles([(0, 0), (4, 0), (4, 4), (0, 4)], [(0, 1, 2), (0, 2, 3)])
+    mesh, lent, answer = run_of(square, (2.0, 1.0), [(1, 1), (2, 1), (0, 0), (0, 2), (1, 1), (0, 4)])
+    assert answer[0] == 0 and lent.answers[0::sweep.WORDS] == [7, 6, 2, 7, 9, 2], "fates 2, 6, 7, 9"
+    assert lent.answers[2::sweep.WORDS] == [2, 2, 0, 1, 0, 0] and mesh.counts() == (7, 13, 8)
 
     mesh, lent, answer = run_of(tri([(-6, 4), (0, -6), (6, 4)], 3), (6.0, -5.0),
                                 [(6, 0), (12, -2), (6, 4)])
@@ -139,18 +154,59 @@ def finished(mesh):
                 assert sweep.incircle(*sweep.face_corners(mesh, f), mesh.at(far)) <= 0, "circle"
 
 
-def vertices_kept(mesh, seed, points, answers, heights=None):
-    """The vertices are the seed's and the points of fate 1, each at its position and at its height, numbered
-    in order."""
-    expected = [(seed.at(v), seed.heights[v]) for v in range(seed.vertices)]
-    for i, p in enumerate(points):
-        fate, vertex, faces, flips = sweep.answer_at(answers, i)
-        if fate == 1:
-            assert vertex == len(expected), "vertex number"
-            expected.append((p, heights[i] if heights else 0))
+def went_in(full, number, place):
+    """The points of fates 1 and 6 to 9 in the order in which they go in, up to the one that 9 names; `full` are
+    the answers of the same run with pending entries in plenty."""
+    steps = [i for i, a in enumerate(full) if a[0] == 1]
+    skipped = [i for i, a in enumerate(full) if a[0] in (6, 7, 8, 9)]
+    if number == 0:
+        return steps + skipped
+    if place == len(full):  # in the convexity passes
+        return steps
+    if full[place][0] == 1:
+        return steps[:steps.index(place) + 1]
+    return steps + skipped[:skipped.index(place) + 1]
+
+
+def answers_told(full, number, place):
+    """The answers that stand. 01: those of a step's index on are 0; Change 2: "A 9 met here names that point's
+    index, whose answer is 0; after any 9 a skipped point not yet in answers 0, and from convexity on the rest
+    stand." """
+    stand = set(went_in(full, number, place))
+    in_step = number == 9 and place < len(full) and full[place][0] == 1
+    stand |= {i for i, a in enumerate(full) if a[0] == 2 and not (in_step and i > place)}
+    if number == 9:
+        stand.discard(place)
+    return [word for i, a in enumerate(full) for word in (a if i in stand else (0, 0, 0, 0))]
+
+
+def answers_of(row):
+    return [sweep.answer_at(row, i) for i in range(len(row) // sweep.WORDS)]
+
+
+def plenty(seed, centre, points):
+    """The answers of the run with pending entries in plenty."""
+    _, lent, answer = run_of(seed, centre, points, 1 << 16)
+    assert answer[0] == 0
+    return answers_of(lent.answers)
+
+
+def vertices_kept(mesh, seed, points, full, answer, heights=None):
+    """The vertices are the seed's and the points that went in, each at its position, numbered as they went in.
+    A height is the vertex's own, or that of the last point of fate 9 that met it. `full` as in went_in."""
+    zs = heights or [0] * len(points)
+    expected = [[seed.at(v), seed.heights[v]] for v in range(seed.vertices)]
+    for i in went_in(full, *answer[:2]):
+        fate, vertex, faces, flips = full[i]
+        if fate == 9:
+            assert expected[vertex][0] == points[i] and (faces, flips) == (0, 0), "fate 9"
+            expected[vertex][1] = zs[i]
         else:
-            assert (vertex, faces, flips) == (0, 0, 0)
-    assert [(mesh.at(v), mesh.heights[v]) for v in range(mesh.vertices)] == expected, "vertices"
+            assert vertex == len(expected), "vertex number"
+            assert faces == 2 if fate == 6 else faces in (1, 2) if fate == 7 else faces >= 1, "faces"
+            expected.append([points[i], zs[i]])
+    assert all(a == (2, 0, 0, 0) for a in full if a[0] not in (1, 6, 7, 8, 9)), "fate 2"
+    assert [[mesh.at(v), mesh.heights[v]] for v in range(mesh.vertices)] == expected, "vertices"
 
 
 def untouched(rows, before, counts):
@@ -178,12 +234,15 @@ def one_pass_with_counter(mesh, capacity):
 
 def steps_watched(seed, centre, points, pending, tally):
     """The run's steps once more, one by one, with the carried ring beside them and the height sum's
-    fall held against the flips; answers the mesh that they leave."""
-    mesh = meshes.with_room(seed, seed.vertices + len(points))
+    fall held against the flips; answers the mesh that they leave, and the skipped points."""
+    mesh, skipped = meshes.with_room(seed, seed.vertices + len(points)), []
     carried = hull.Hull(mesh, centre)
     carried.agree(mesh)
     for p in points:
         fate, edge = sweep.fate_of(mesh, p, centre)
+        tally["step's fate %d" % fate] = tally.get("step's fate %d" % fate, 0) + 1
+        if fate in (3, 4, 5):
+            skipped.append(p)
         if fate != 5:
             assert carried.get(sweep.pseudo_angle(p, centre))[0] == edge, "located"
         if fate != 1:
@@ -208,11 +267,11 @@ def steps_watched(seed, centre, points, pending, tally):
         n = seed.vertices + len(points)
         assert nodes <= n + 1 and buckets <= max(16, n), "ring rows"
         tally["most buckets"] = max(tally.get("most buckets", 0), buckets)
-    return mesh
+    return mesh, skipped
 
 
-def finish_watched(mesh, pending, tally):
-    """The finish once more, pass by pass."""
+def convexity_watched(mesh, pending, tally):
+    """The convexity passes once more, one by one."""
     twin = mesh.copy()
     flips = 0
     passes = 0
@@ -225,15 +284,81 @@ def finish_watched(mesh, pending, tally):
         if mesh.faces == faces:
             break
     tally["most passes"] = max(tally.get("most passes", 0), passes)
+    return flips
+
+
+def closing_watched(mesh):
     height = sweep.height_sum(mesh)
     closing = sweep.closing_pass(mesh)
     assert height - sweep.height_sum(mesh) >= closing, "height"
-    return flips, closing
+    return closing
+
+
+def place_holds(mesh, fate, met, p):
+    """What the search answers is true of the mesh, also where the mesh overlaps itself."""
+    if fate == 9:
+        return mesh.at(met) == p
+    if fate == 8:
+        return mesh.face(met) == 0 and sweep.side(mesh, met, p) > 0
+    if fate == 7:
+        beside = [mesh.next(met), mesh.prev(met)]
+        return (mesh.face(met) != 0 and sweep.side(mesh, met, p) == 0
+                and all(sweep.side(mesh, e, p) > 0 for e in beside))
+    return all(sweep.side(mesh, e, p) > 0 for e in sweep.cycle(mesh.next, mesh.stored[met], 3))
+
+
+def without_flips(mesh, p):
+    """The insertion of a point with nothing legalized."""
+    bare, legalize_edge = mesh.copy(), sweep.legalize_edge
+    sweep.legalize_edge = lambda *_: 0
+    try:
+        sweep.insert_skipped(bare, p, 0, PLENTY)
+    finally:
+        sweep.legalize_edge = legalize_edge
+    return bare
+
+
+def insertions_watched(mesh, skipped, pending, tally):
+    """The insertions once more, one by one: what the search answers, the counts, the boundary, and the height
+    sum's fall held against the flips."""
+    for p in skipped:
+        fate, met = sweep.search(mesh, p)
+        assert place_holds(mesh, fate, met, p) and place_holds(mesh, *sweep.scan(mesh, p), p), "search"
+        if fate != sweep.scan(mesh, p)[0]:
+            tally["search and scan differ"] = tally.get("search and scan differ", 0) + 1
+        bare, (v, e, f), area = without_flips(mesh, p), mesh.counts(), sweep.boundary_area(mesh)
+        outline = len(sweep.boundary(mesh))
+        answer = sweep.insert_skipped(mesh, p, 0, pending)
+        faces, flips = answer[2:]
+        assert answer[:2] == (fate, met if fate == 9 else v)
+        if fate == 9:
+            assert mesh.counts() == (v, e, f) and mesh.rows() == bare.rows()
+            continue
+        at_boundary = 2 * (e + 1 + faces) - 3 * (f - 1 + faces)
+        assert mesh.counts() == (v + 1, e + 1 + faces, f + faces), "counts of an insertion"
+        assert len(sweep.boundary(mesh)) == at_boundary
+        assert fate == 8 or at_boundary == outline + 2 - faces and area == sweep.boundary_area(mesh), "boundary"
+        standing(bare)
+        standing(mesh)
+        assert sweep.height_sum(bare) - sweep.height_sum(mesh) >= flips, "height"
+        assert not any(sweep.left(*c) for c in corners_of(mesh)), "a left corner after an insertion"
+
+
+def run_watched(seed, centre, points, pending, tally):
+    """The whole run once more; answers the mesh that it leaves, its convexity flips and its closing flips."""
+    mesh, skipped = steps_watched(seed, centre, points, pending, tally)
+    standing(mesh)
+    flips = convexity_watched(mesh, pending, tally)
+    insertions_watched(mesh, skipped, pending, tally)
+    faces = mesh.faces
+    flips += convexity_watched(mesh, pending, tally)
+    assert mesh.faces == faces, "faces after the insertions"
+    return mesh, flips, closing_watched(mesh)
 
 
 def at_heights(seed, centre, points, pending, plain, rng):
     """The same run with heights: but for the heights row nothing else is answered or left, and the row has
-    the seed's heights and those of the points that were added, also where the run is refused 9."""
+    the heights that vertices_kept tells, also where the run is refused 9."""
     n = seed.vertices + len(points)
     most = rng.choice([2, 1000, sweep.HEIGHT_LIMIT])
     zs = [rng.randint(-most, most) for _ in points]
@@ -244,11 +369,10 @@ def at_heights(seed, centre, points, pending, plain, rng):
     flat, flat_lent, flat_answer = plain
     assert answer == flat_answer and lent.answers == flat_lent.answers, "heights and answers"
     assert mesh.rows()[:4] == flat.rows()[:4] and mesh.counts() == flat.counts(), "heights and links"
-    added = [z for i, z in enumerate(zs) if lent.answers[sweep.WORDS * i] == 1]
-    if answer[0] == 9 and answer[1] < len(points):
-        added.append(zs[answer[1]])
-    kept = given.heights[:seed.vertices] + added
-    assert mesh.heights == kept + given.heights[len(kept):], "the heights row"
+    if answer[0] in (0, 9):
+        vertices_kept(mesh, given, points, plenty(seed, centre, points), answer, zs)
+    kept = mesh.vertices
+    assert mesh.heights[kept:] == given.heights[kept:], "the heights row"
     return mesh
 
 
@@ -288,15 +412,16 @@ def whole_run(seed, centre, points, pending, tally, rng):
         tally["fate %d" % fate] = tally.get("fate %d" % fate, 0) + 1
     untouched(mesh.rows(), given.rows(), mesh.counts())
     assert mesh.left_out == 0, "a flip left out"
+    full = plenty(seed, centre, points)
+    assert lent.answers == answers_told(full, *answer[:2]), "answers"
     if answer[0] == 9:
         standing(mesh)
-        assert not any(lent.answers[sweep.WORDS * answer[1]:])
+        stage = full[answer[1]][0] if answer[1] < len(points) else "convexity"
+        tally["9 at %s" % stage] = tally.get("9 at %s" % stage, 0) + 1
         return
-    vertices_kept(mesh, seed, points, lent.answers)
+    vertices_kept(mesh, seed, points, full, answer)
     finished(mesh)
-    again = steps_watched(seed, centre, points, pending, tally)
-    standing(again)
-    flips, closing = finish_watched(again, pending, tally)
+    again, flips, closing = run_watched(seed, centre, points, pending, tally)
     assert (flips, closing) == answer[3:] and again.rows() == mesh.rows(), "the run step by step"
     flips += sum(sweep.answer_at(lent.answers, i)[3] for i in range(len(points)))
     tally["flips"] = tally.get("flips", 0) + flips

@@ -1,8 +1,8 @@
-"""An executable reading of 01-scope.md and of Change 1 to it (02-change-requests.md), independent of the
-proved code.
+"""An executable reading of 01-scope.md and of Changes 1 and 2 to it (02-change-requests.md), independent of
+the proved code.
 
-Every function states one sentence of 01 or of Change 1 (cited as '01: "..."', 'Change 1: "..."') or one
-function of the Rust that 01 names (000 bulk_load.rs, 001 dcel_operations.rs, 002 triangulation_ext.rs, 003
+Every function states one sentence of 01 or of a change (cited as '01: "..."', 'Change 1: "..."') or one
+function of the Rust that they name (000 bulk_load.rs, 001 dcel_operations.rs, 002 triangulation_ext.rs, 003
 math.rs).  Where they can be read in two ways the reading of docs/DECISIONS.md is taken.  Plain Python 3,
 whole numbers of any size, floats as IEEE doubles.  Nothing here is fast: the ring is made anew from the
 boundary at every step, because that is what the words say.
@@ -447,7 +447,7 @@ def refuse_angle(angle):
 
 
 # ---------------------------------------------------------------------------------------------------
-# The three operations of 001, link by link
+# The operations of 001, link by link: 01's three, then Change 2's
 
 
 def flip_cw(mesh, u):
@@ -507,15 +507,19 @@ def create_single_face_between_edge_and_next(mesh, edge):
     return new_outer
 
 
-def create_new_face_adjacent_to_edge(mesh, edge, point, z=0):
-    """The new vertex is appended first (`VertexToInsert::NewVertex`); 01: "An added vertex takes the next
-    number after those in use." Change 1: "Every call that carries a vertex carries it through." Answers the
-    vertex."""
+def append_unconnected_vertex(mesh, point, z):
+    """01: "An added vertex takes the next number after those in use." Change 1: "Every call that carries a
+    vertex carries it through." Answers the vertex."""
     vertex = mesh.vertices
     mesh.positions[2 * vertex:2 * vertex + 2] = list(point)
     mesh.heights[vertex] = z
     mesh.vertices += 1
+    return vertex
 
+
+def create_new_face_adjacent_to_edge(mesh, edge, point, z=0):
+    """The new vertex is appended first (`VertexToInsert::NewVertex`). Answers the vertex."""
+    vertex = append_unconnected_vertex(mesh, point, z)
     entry_next, entry_prev, entry_face = mesh.next(edge), mesh.prev(edge), mesh.face(edge)
     edge_from, edge_to = mesh.origin(edge), mesh.to(edge)
     new_next, new_prev, new_face = 2 * mesh.edges, 2 * mesh.edges + 2, mesh.faces
@@ -533,6 +537,95 @@ def create_new_face_adjacent_to_edge(mesh, edge, point, z=0):
     mesh.set(entry_next, PREV, rev(new_next))
     mesh.set(entry_prev, NEXT, rev(new_prev))
     return vertex
+
+
+def insert_into_triangle(mesh, f0, point, z):
+    """Answers the vertex."""
+    v = append_unconnected_vertex(mesh, point, z)
+    e0 = mesh.stored[f0]
+    e1 = mesh.next(e0)
+    e2 = mesh.next(e1)
+    e3, e4, e5, e6, e7, e8 = range(2 * mesh.edges, 2 * mesh.edges + 6)
+    v0, v1, v2 = mesh.origin(e0), mesh.origin(e1), mesh.origin(e2)
+    f1, f2 = mesh.faces, mesh.faces + 1
+
+    mesh.stored[f1], mesh.stored[f2] = e1, e2
+    mesh.outs[v] = e4
+    put_half(mesh, e0, e3, e8, f0, v0)
+    put_half(mesh, e1, e5, e4, f1, v1)
+    put_half(mesh, e2, e7, e6, f2, v2)
+    put_half(mesh, e3, e8, e0, f0, v1)
+    put_half(mesh, e4, e1, e5, f1, v)
+    put_half(mesh, e5, e4, e1, f1, v2)
+    put_half(mesh, e6, e2, e7, f2, v)
+    put_half(mesh, e7, e6, e2, f2, v0)
+    put_half(mesh, e8, e0, e3, f0, v)
+    mesh.edges += 3
+    mesh.faces += 2
+    return v
+
+
+def split_half_edge(mesh, edge, point, z):
+    """Of an inner half-edge whose reverse is outer. Answers the vertex."""
+    vertex = append_unconnected_vertex(mesh, point, z)
+    en, ep, twin = mesh.next(edge), mesh.prev(edge), rev(edge)
+    v, to = mesh.origin(ep), mesh.to(edge)
+    twin_prev, twin_face = mesh.prev(twin), mesh.face(twin)
+    f1, nf = mesh.face(edge), mesh.faces
+    e1, t1, e2, t2 = range(2 * mesh.edges, 2 * mesh.edges + 4)
+
+    put_half(mesh, e1, e2, en, nf, v)
+    put_half(mesh, t1, ep, edge, f1, vertex)
+    put_half(mesh, e2, en, e1, nf, vertex)
+    put_half(mesh, t2, twin, twin_prev, twin_face, to)
+    mesh.stored[nf] = e2
+    mesh.edges += 2
+    mesh.faces += 1
+    mesh.outs[vertex] = e2
+    mesh.set(twin_prev, NEXT, t2)
+    mesh.set(en, PREV, e2)
+    mesh.set(ep, PREV, t1)
+    mesh.set(twin, PREV, t2)
+    mesh.set(en, NEXT, e1)
+    mesh.set(edge, NEXT, t1)
+    mesh.set(en, FACE, nf)
+    mesh.set(twin, ORIGIN, vertex)
+    mesh.outs[to] = t2
+    mesh.stored[f1] = edge
+    return vertex
+
+
+def split_edge(mesh, e0, point, z):
+    """Of an edge with an inner face on both sides. Answers the vertex."""
+    v0 = append_unconnected_vertex(mesh, point, z)
+    t0 = rev(e0)
+    ep, en, tn, tp = mesh.prev(e0), mesh.next(e0), mesh.next(t0), mesh.prev(t0)
+    f0, f1, f2, f3 = mesh.face(e0), mesh.face(t0), mesh.faces, mesh.faces + 1
+    e1, t1, e2, t2, e3, t3 = range(2 * mesh.edges, 2 * mesh.edges + 6)
+    v1, v2, v3, v4 = mesh.origin(e0), mesh.origin(tp), mesh.origin(t0), mesh.origin(ep)
+
+    put_half(mesh, e0, t3, ep, f0, v1)
+    put_half(mesh, t0, tn, e1, f1, v0)
+    put_half(mesh, e1, t0, tn, f1, v2)
+    put_half(mesh, t1, tp, e2, f2, v0)
+    put_half(mesh, e2, t1, tp, f2, v3)
+    put_half(mesh, t2, en, e3, f3, v0)
+    put_half(mesh, e3, t2, en, f3, v4)
+    put_half(mesh, t3, ep, e0, f0, v0)
+    mesh.edges += 3
+    mesh.set(en, NEXT, e3)
+    mesh.set(en, PREV, t2)
+    mesh.set(en, FACE, f3)
+    mesh.set(tp, NEXT, e2)
+    mesh.set(tp, PREV, t1)
+    mesh.set(tp, FACE, f2)
+    mesh.set(tn, NEXT, e1)
+    mesh.set(ep, PREV, t3)
+    mesh.outs[v0] = t0
+    mesh.outs[v3] = e2
+    mesh.stored[f0], mesh.stored[f1], mesh.stored[f2], mesh.stored[f3] = e0, e1, e2, e3
+    mesh.faces += 2
+    return v0
 
 
 # ---------------------------------------------------------------------------------------------------
@@ -745,11 +838,174 @@ def closing_pass(mesh):
             return count
 
 
-def finishing(mesh, capacity):
-    """Answers faces added, convexity flips, closing flips."""
+def convexity(mesh, capacity):
+    """Answers faces added and flips."""
     faces_before = mesh.faces
     flips, _ = convexity_passes(mesh, capacity)
-    return mesh.faces - faces_before, flips, closing_pass(mesh)
+    return mesh.faces - faces_before, flips
+
+
+# ---------------------------------------------------------------------------------------------------
+# Skipped points: the search
+
+
+INTO, ON_EDGE, OUTSIDE, ON_VERTEX = 6, 7, 8, 9
+SKIPPED = (3, 4, 5)
+
+
+class TooManyTurns(Exception):
+    """Change 2: "where a loop of it would take more turns than the mesh has half-edges" """
+
+
+def side(mesh, e, target):
+    """`side_query`, as a number: positive on the left of the half-edge."""
+    return orient2d(mesh.at(mesh.origin(e)), mesh.at(mesh.to(e)), target)
+
+
+def distance_2(a, b):
+    return (a[0] - b[0]) ** 2 + (a[1] - b[1]) ** 2
+
+
+def walk_to_nearest_neighbor(mesh, start, target):
+    """002: to the end of the first out edge that is strictly closer, until there is none."""
+    vertex, turns_left = start, 2 * mesh.edges
+    while True:
+        closest = distance_2(mesh.at(vertex), target)
+        closer = [v for v in (mesh.to(e) for e in turn_about(mesh, vertex))
+                  if distance_2(mesh.at(v), target) < closest]
+        if not closer:
+            return vertex
+        if turns_left == 0:
+            raise TooManyTurns
+        turns_left -= 1
+        vertex = closer[0]
+
+
+def walk_to_target(mesh, start, target):
+    """002, `locate_with_hint_fixed_core` from the closest vertex on: the rotating loop, line by line.
+    Answers a fate and the face, edge or vertex that was met."""
+    e0 = mesh.outs[start]
+    query = side(mesh, e0, target)
+    rotate_ccw = query >= 0
+    turns_left = 2 * mesh.edges
+    while True:
+        if turns_left == 0:
+            raise TooManyTurns
+        turns_left -= 1
+        if mesh.at(mesh.origin(e0)) == target:
+            return ON_VERTEX, mesh.origin(e0)
+        if mesh.at(mesh.to(e0)) == target:
+            return ON_VERTEX, mesh.to(e0)
+        if query == 0:
+            if mesh.face(e0) == 0:
+                e0 = rev(e0)
+            e0 = mesh.prev(e0)
+            query = side(mesh, e0, target)
+            rotate_ccw = query >= 0
+            continue
+        e1 = e0 if rotate_ccw else rev(e0)
+        if mesh.face(e1) == 0:
+            return OUTSIDE, e1
+        rotated = rev(mesh.prev(e0)) if rotate_ccw else mesh.next(rev(e0))
+        rotated_query = side(mesh, rotated, target)
+        if rotated_query == 0 or (rotated_query > 0) == rotate_ccw:
+            e0, query = rotated, rotated_query
+            continue
+        e2 = mesh.next(e1) if rotate_ccw else mesh.prev(e1)
+        e2_query = side(mesh, e2, target)
+        if e2_query == 0:
+            return ON_EDGE, e2
+        if e2_query > 0:
+            return INTO, mesh.face(e1)
+        e0, query = rev(e2), -e2_query
+        if mesh.face(e0) != 0:
+            e0 = mesh.prev(e0)
+            query = side(mesh, e0, target)
+        rotate_ccw = query >= 0
+
+
+def scan(mesh, target):
+    """Change 2: "a scan of the triangles by number, then of the boundary, decides by its first hit, edges
+    by next from the stored one". A triangle has its corners, its sides and its inside."""
+    for f in range(1, mesh.faces):
+        around = cycle(mesh.next, mesh.stored[f], 3)
+        sides = [side(mesh, e, target) for e in around]
+        if min(sides) < 0:
+            continue
+        for e, s in zip(around, sides):
+            if mesh.at(mesh.origin(e)) == target:
+                return ON_VERTEX, mesh.origin(e)
+            if s == 0 and mesh.at(mesh.to(e)) != target:
+                return ON_EDGE, e
+        return INTO, f
+    for e in boundary(mesh):
+        if side(mesh, e, target) > 0:
+            return OUTSIDE, e
+    raise AssertionError("every point is in a triangle or left of a boundary edge")
+
+
+def search(mesh, target):
+    """Change 2: "The search starts at vertex 0" """
+    try:
+        return walk_to_target(mesh, walk_to_nearest_neighbor(mesh, 0, target), target)
+    except TooManyTurns:
+        return scan(mesh, target)
+
+
+# ---------------------------------------------------------------------------------------------------
+# Skipped points go in (002, `insert_with_hint_option_impl`)
+
+
+def legalize_vertex(mesh, vertex, capacity):
+    """002; the edges that it collects are no pending entries, and each is legalized with a list of its own.
+    Answers the flips."""
+    edges = [mesh.next(e) for e in turn_about(mesh, vertex) if mesh.face(e) != 0]
+    return sum(legalize_edge(mesh, e, capacity) for e in edges)
+
+
+def insert_on_edge(mesh, edge, point, z):
+    """002; the edge is a triangle's own half-edge. Answers the vertex."""
+    if mesh.face(rev(edge)) == 0:
+        return split_half_edge(mesh, edge, point, z)
+    return split_edge(mesh, edge, point, z)
+
+
+def insert_outside_of_convex_hull(mesh, edge, point, z, capacity):
+    """002; answers the vertex and the flips."""
+    vertex = create_new_face_adjacent_to_edge(mesh, edge, point, z)
+    ccw_walk_start, cw_walk_start = rev(mesh.prev(edge)), rev(mesh.next(edge))
+    flips = legalize_edge(mesh, edge, capacity)
+
+    current = ccw_walk_start
+    while side(mesh, mesh.prev(current), point) > 0:
+        before = mesh.prev(current)
+        current = create_single_face_between_edge_and_next(mesh, before)
+        flips += legalize_edge(mesh, before, capacity)
+
+    current = cw_walk_start
+    while side(mesh, mesh.next(current), point) > 0:
+        after = mesh.next(current)
+        current = create_single_face_between_edge_and_next(mesh, current)
+        flips += legalize_edge(mesh, after, capacity)
+    return vertex, flips
+
+
+def insert_skipped(mesh, point, z, capacity):
+    """Change 2: "into a triangle (fate 6), on an edge (7), outside (8), or on an existing vertex (9: that
+    vertex takes the new height)"; "Fates 6 to 9 give their vertex, with the inner faces that the insertion
+    adds and its flips .. for fate 9 both are 0." """
+    faces_before = mesh.faces
+    fate, met = search(mesh, point)
+    if fate == ON_VERTEX:
+        mesh.heights[met] = z
+        return (fate, met, 0, 0)
+    if fate == OUTSIDE:
+        vertex, flips = insert_outside_of_convex_hull(mesh, met, point, z, capacity)
+    else:
+        put = insert_into_triangle if fate == INTO else insert_on_edge
+        vertex = put(mesh, met, point, z)
+        flips = legalize_vertex(mesh, vertex, capacity)
+    return (fate, vertex, mesh.faces - faces_before, flips)
 
 
 # ---------------------------------------------------------------------------------------------------
@@ -888,11 +1144,16 @@ def finish(mesh, lent):
     except Refusal as r:
         return (r.number, r.place, 0, 0, 0)
     try:
-        answer = (0, 0) + finishing(mesh, len(lent.pending))
+        answer = (0, 0) + convexity(mesh, len(lent.pending)) + (closing_pass(mesh),)
     except PendingFull:
         answer = (9, 0, 0, 0, 0)
     lent.clear_pending()
     return answer
+
+
+def put_answer(row, i, answer):
+    """The answer of point i, to the row."""
+    row[WORDS * i:WORDS * i + WORDS] = answer
 
 
 def answer_at(row, i):
@@ -903,23 +1164,34 @@ def answer_at(row, i):
 
 def run(mesh, lent, centre, points, heights=None):
     """Answers (number, place, faces added, convexity flips, closing flips); the points' answers go to
-    the row.  01: "A run takes its points in list order." """
+    the row.  01: "A run takes its points in list order." Change 2: "After convexity and before the closing
+    pass, points of fates 3, 4 and 5 are inserted in list order"; "Convexity passes then repeat until one adds
+    no face." Until it is in, a skipped point answers 0. """
     heights = [0] * len(points) if heights is None else heights
     try:
         refuse_run(mesh, lent, centre, points, len(points), heights)
     except Refusal as r:
         return (r.number, r.place, 0, 0, 0)
-    capacity, done = len(lent.pending), 0
+    capacity, skipped = len(lent.pending), []
     lent.answers[:WORDS * len(points)] = [0] * (WORDS * len(points))
     try:
-        for i, point in enumerate(points):
-            answer = one_step(mesh, point, centre, capacity, heights[i])
-            lent.answers[WORDS * i:WORDS * i + WORDS] = answer
-            done = i + 1
-        answer = (0, 0) + finishing(mesh, capacity)
+        for place, point in enumerate(points):
+            answer = one_step(mesh, point, centre, capacity, heights[place])
+            if answer[0] in SKIPPED:
+                skipped.append(place)
+            else:
+                put_answer(lent.answers, place, answer)
+        place = len(points)
+        faces, flips = convexity(mesh, capacity)
+        for place in skipped:
+            put_answer(lent.answers, place, insert_skipped(mesh, points[place], heights[place], capacity))
+        place = len(points)
+        more_faces, more_flips = convexity(mesh, capacity)
+        answer = (0, 0, faces + more_faces, flips + more_flips, closing_pass(mesh))
     except PendingFull:
-        # 9 "answers the point's index (.. the point count in a finish within a run ..)"
-        answer = (9, done, 0, 0, 0)
+        # 9 "answers the point's index (.. the point count in a finish within a run ..)"; Change 2: "A 9 met
+        # here names that point's index"
+        answer = (9, place, 0, 0, 0)
     lent.clear_ring()
     lent.clear_pending()
     return answer

@@ -2,8 +2,9 @@
 in one place at a time and shows that some list notices each change, so that the lists can fail. A change of
 the listing program's part has to be noticed by three cases of its list.
 
-    python3 verify.py            # the lists as they stand
-    python3 verify.py mutants    # and the changes
+    python3 verify.py                    # the lists as they stand
+    python3 verify.py mutants            # and the changes
+    python3 verify.py mutants skipped    # and some of the changes: base, heights, skipped, listing
 """
 
 import math
@@ -335,14 +336,14 @@ MUTANTS = [  # name, text, what takes its place; and why, where no list can noti
     ("a number alone not counted", "n = mesh.vertices + len(points)",
      "n = mesh.vertices + sum(len(p) == 2 for p in points)"),
     ("an answers row of five words", "WORDS = 4", "WORDS = 5"),
-    ("an answer's words turned round", "lent.answers[WORDS * i:WORDS * i + WORDS] = answer",
-     "lent.answers[WORDS * i:WORDS * i + WORDS] = answer[::-1]"),
+    ("an answer's words turned round", "row[WORDS * i:WORDS * i + WORDS] = answer",
+     "row[WORDS * i:WORDS * i + WORDS] = answer[::-1]"),
     ("answers after 9 kept", "lent.answers[:WORDS * len(points)] = [0] * (WORDS * len(points))", "pass"),
-    ("9 names no place", "answer = (9, done, 0, 0, 0)", "answer = (9, 0, 0, 0, 0)"),
+    ("9 names no place", "answer = (9, place, 0, 0, 0)", "answer = (9, 0, 0, 0, 0)"),
     ("the pending row not cleared", "        self.pending[:] = [0] * len(self.pending)", "        pass"),
     ("the buckets not cleared", "        self.buckets[:] = [0] * len(self.buckets)", "        pass"),
-    ("at most 64 pending entries used", "capacity, done = len(lent.pending), 0",
-     "capacity, done = min(64, len(lent.pending)), 0"),
+    ("at most 64 pending entries used", "capacity, skipped = len(lent.pending), []",
+     "capacity, skipped = min(64, len(lent.pending)), []"),
 ]
 # Pieces of sweep.py that the changes below put in another order.
 COORDINATES, NO_OTHERS = "        refuse_coordinates(mesh, [])\n", "        refuse_heights(mesh, [])\n"
@@ -367,7 +368,7 @@ RUN_RULES, RUN_CENTRE = "    refuse_mesh(mesh)\n", "    refuse_centre(mesh, cent
 RUN_RING = "    refuse_ring(mesh, centre)\n"
 ANY_HEIGHT = "    refuse_heights(mesh, heights)\n"
 FULL = "    except PendingFull:\n        answer, number = (0, 0, 0, 0), 9\n"
-RUN_FULL = "        answer = (9, done, 0, 0, 0)\n"
+RUN_FULL = "        answer = (9, place, 0, 0, 0)\n"
 LOSE = "        mesh.heights[mesh.vertices - 1] = 0\n"
 STORED = "    mesh.heights[vertex] = z\n"
 NO_FATE = "    if fate != 1:\n        return (fate, 0, 0, 0)\n"
@@ -375,7 +376,7 @@ ROW = " or len(mesh.heights) < n):"
 POINTS_ROW = "if len(heights) < len(points):"
 IN_RANGE = "z < -HEIGHT_LIMIT or z > HEIGHT_LIMIT"
 IN_USE = "for z in mesh.heights[:mesh.vertices] + list(others)"
-GIVEN = "capacity, heights[i])"
+GIVEN = "capacity, heights[place])"
 FACTOR = "(sum(heights) - 3 * level)"
 EACH_FACE = "    for f in range(1, mesh.faces):\n        heights"
 TOTAL = "    return total\n\n\ndef two_halves"
@@ -394,8 +395,8 @@ HEIGHTS = [  # the same of Change 1
     ("the height stored at the vertex after", STORED,
      "    mesh.heights[min(vertex + 1, len(mesh.heights) - 1)] = z\n"),
     ("the height stored at vertex 0", STORED, "    mesh.heights[0] = z\n"),
-    ("the height stored at the edge's origin too", STORED,
-     STORED + "    mesh.heights[mesh.origin(edge)] = z\n"),
+    ("the height stored at the edge's origin too", "    mesh.outs[vertex] = new_prev\n",
+     "    mesh.outs[vertex] = new_prev\n    mesh.heights[edge_from] = z\n"),
     ("zeros past the new vertex", STORED,
      STORED + "    mesh.heights[vertex + 1:] = [0] * len(mesh.heights[vertex + 1:])\n"),
     ("a skipped point's height stored past the counts", NO_FATE,
@@ -405,12 +406,12 @@ HEIGHTS = [  # the same of Change 1
     ("the height lost after 9 in a step", FULL, FULL + LOSE),
     ("the height lost after 9 in a run", RUN_FULL, RUN_FULL + LOSE),
     ("heights of points not reached stored after 9", RUN_FULL,
-     RUN_FULL + "        for i in range(done + 1, len(points)):\n"
-     "            mesh.heights[mesh.vertices - 1 + i - done] = heights[i]\n"),
+     RUN_FULL + "        for i in range(place + 1, len(points)):\n"
+     "            mesh.heights[mesh.vertices - 1 + i - place] = heights[i]\n"),
     ("the last point's height for every point", GIVEN, "capacity, heights[len(points) - 1])"),
-    ("the next point's height", GIVEN, "capacity, heights[(i + 1) % len(points)])"),
+    ("the next point's height", GIVEN, "capacity, heights[(place + 1) % len(points)])"),
     ("points' heights counted by the points added", GIVEN,
-     "capacity, heights[sum(f == 1 for f in lent.answers[:WORDS * i:WORDS])])"),
+     "capacity, heights[sum(f == 1 for f in lent.answers[:WORDS * place:WORDS])])"),
     ("the heights row's length not asked", ROW, "):"),
     ("a heights row of the vertices alone", ROW, " or len(mesh.heights) < mesh.vertices):"),
     ("a heights row one entry longer asked", ROW, " or len(mesh.heights) < n + 1):"),
@@ -517,6 +518,181 @@ HEIGHTS = [  # the same of Change 1
     ("cubic metres of the low half", "(cubic_metres(six),)",
      "(cubic_metres((six + (1 << 63)) % (1 << 64) - (1 << 63)),)"),
 ]
+FROM_ZERO = "walk_to_nearest_neighbor(mesh, 0, target)"
+ROUND = "        return walk_to_target(mesh, walk_to_nearest_neighbor(mesh, 0, target), target)\n"
+LOOP = "    turns_left = 2 * mesh.edges\n    while True:\n        if turns_left == 0:\n            raise TooManyTurns\n"
+LAST_SIDE = ("        if e2_query == 0:\n            return ON_EDGE, e2\n        if e2_query > 0:\n"
+             "            return INTO, mesh.face(e1)\n")
+BOTH_ENDS = ("        if mesh.at(mesh.origin(e0)) == target:\n            return ON_VERTEX, mesh.origin(e0)\n"
+             "        if mesh.at(mesh.to(e0)) == target:\n            return ON_VERTEX, mesh.to(e0)\n")
+HITS = "            if s == 0 and mesh.at(mesh.to(e)) != target:\n                return ON_EDGE, e\n"
+EACH = "    return sum(legalize_edge(mesh, e, capacity) for e in edges)\n"
+FIRST = "    flips = legalize_edge(mesh, edge, capacity)\n\n    current = ccw_walk_start\n    while side("
+BEFORE = ("        current = create_single_face_between_edge_and_next(mesh, before)\n"
+          "        flips += legalize_edge(mesh, before, capacity)\n")
+AFTER_IT = ("        current = create_single_face_between_edge_and_next(mesh, current)\n"
+            "        flips += legalize_edge(mesh, after, capacity)\n")
+LEFT_LOOP = ("    current = ccw_walk_start\n    while side(mesh, mesh.prev(current), point) > 0:\n"
+             "        before = mesh.prev(current)\n" + BEFORE)
+RIGHT_LOOP = ("    current = cw_walk_start\n    while side(mesh, mesh.next(current), point) > 0:\n"
+              "        after = mesh.next(current)\n" + AFTER_IT)
+LEGALIZED = "        flips = legalize_vertex(mesh, vertex, capacity)\n"
+MET = "        mesh.heights[met] = z\n"
+ANSWER_9 = "        return (fate, met, 0, 0)\n"
+ANSWER_IN = "    return (fate, vertex, mesh.faces - faces_before, flips)\n"
+SORTED = ("            if answer[0] in SKIPPED:\n                skipped.append(place)\n            else:\n"
+          "                put_answer(lent.answers, place, answer)\n")
+PASSES = "        faces, flips = convexity(mesh, capacity)\n"
+GO_IN = ("        for place in skipped:\n            put_answer(lent.answers, place, "
+         "insert_skipped(mesh, points[place], heights[place], capacity))\n")
+WITH_HEIGHT = "insert_skipped(mesh, points[place], heights[place], capacity)"
+SKIPPING = [  # the same of Change 2
+    ("the search from vertex 1", FROM_ZERO, "walk_to_nearest_neighbor(mesh, 1, target)"),
+    ("the search from the last vertex", FROM_ZERO, "walk_to_nearest_neighbor(mesh, mesh.vertices - 1, target)"),
+    ("the search without the walk to the nearest", ROUND, "        return walk_to_target(mesh, 0, target)\n"),
+    ("the last closer neighbour", "        vertex = closer[0]\n", "        vertex = closer[-1]\n"),
+    ("the closest neighbour", "        vertex = closer[0]\n",
+     "        vertex = min(closer, key=lambda v: distance_2(mesh.at(v), target))\n"),
+    ("a neighbour as close is closer", "target) < closest]", "target) <= closest]"),
+    ("the scan for the search", ROUND, "        return scan(mesh, target)\n"),
+    ("the search from 0, then from 1", "        return scan(mesh, target)\n",
+     "        return walk_to_target(mesh, 1, target)\n"),
+    ("eight turns of the rotating loop", LOOP, LOOP.replace("2 * mesh.edges", "8")),
+    ("no turn of the nearest walk", "vertex, turns_left = start, 2 * mesh.edges", "vertex, turns_left = start, 0"),
+    ("an outer edge on the line not turned round", "            if mesh.face(e0) == 0:\n                e0 = rev(e0)\n", "",
+     "(no run is known that tells it)"),
+    ("the next edge for the one before, on the line", "                e0 = rev(e0)\n            e0 = mesh.prev(e0)\n",
+     "                e0 = rev(e0)\n            e0 = mesh.next(e0)\n"),
+    ("turned on to the point's line", "if rotated_query == 0 or (rotated_query > 0) == rotate_ccw:",
+     "if (rotated_query > 0) == rotate_ccw:"),
+    ("turned the other way", "rotated = rev(mesh.prev(e0)) if rotate_ccw else mesh.next(rev(e0))",
+     "rotated = mesh.next(rev(e0)) if rotate_ccw else rev(mesh.prev(e0))"),
+    ("the other side of the segment", "e2 = mesh.next(e1) if rotate_ccw else mesh.prev(e1)",
+     "e2 = mesh.prev(e1) if rotate_ccw else mesh.next(e1)"),
+    ("the walk goes on round the near end", "        if mesh.face(e0) != 0:\n            e0 = mesh.prev(e0)\n",
+     "        if mesh.face(e0) != 0:\n            e0 = mesh.next(e0)\n"),
+    ("a point on an edge put into the triangle", LAST_SIDE, LAST_SIDE.replace("e2_query == 0", "False").replace("> 0", ">= 0")),
+    ("the edge named from the other side", "            return ON_EDGE, e2\n", "            return ON_EDGE, rev(e2)\n"),
+    ("an end of the edge not looked at", "        if mesh.at(mesh.to(e0)) == target:\n", "        if False:\n",
+     "(no run is known that tells it: a later turn finds the vertex)"),
+    ("the origin not looked at", "        if mesh.at(mesh.origin(e0)) == target:\n", "        if False:\n",
+     "(no run is known that tells it: a later turn finds the vertex)"),
+    ("neither end of the edge looked at", BOTH_ENDS, ""),
+    ("a scan without triangle 1", "    for f in range(1, mesh.faces):\n        around",
+     "    for f in range(2, mesh.faces):\n        around"),
+    ("a scan without the last triangle", "    for f in range(1, mesh.faces):\n        around",
+     "    for f in range(1, mesh.faces - 1):\n        around"),
+    ("a scan from the last triangle down", "    for f in range(1, mesh.faces):\n        around",
+     "    for f in reversed(range(1, mesh.faces)):\n        around"),
+    ("a scan that names the other half-edge", HITS, HITS.replace("ON_EDGE, e", "ON_EDGE, rev(e)")),
+    ("a scan without edges", HITS, ""),
+    ("a scan without corners", "            if mesh.at(mesh.origin(e)) == target:\n", "            if False:\n"),
+    ("a scan of the boundary from its last edge", "    for e in boundary(mesh):\n        if side",
+     "    for e in boundary(mesh)[::-1]:\n        if side",
+     "(no run is known in which the scan goes on to the boundary)"),
+    ("the collected edges turned round", EACH, EACH.replace("in edges)", "in reversed(edges))")),
+    ("the collected edges from the second on", EACH, EACH.replace("in edges)", "in edges[1:] + edges[:1])")),
+    ("the last collected edge forgotten", EACH, EACH.replace("in edges)", "in edges[:-1])")),
+    ("the first collected edge forgotten", EACH, EACH.replace("in edges)", "in edges[1:])")),
+    ("the collected edges are pending entries", EACH,
+     "    return sum(legalize_edge(mesh, e, capacity - len(edges) + 1 + i) for i, e in enumerate(edges))\n"),
+    ("the edges at the new vertex collected", "edges = [mesh.next(e) for e in turn_about(mesh, vertex)",
+     "edges = [e for e in turn_about(mesh, vertex)"),
+    ("an inserted vertex not legalized", LEGALIZED, "        flips = 0\n"),
+    ("flips of an insertion not counted", LEGALIZED, LEGALIZED + "        flips = 0\n"),
+    ("the edge found outside not legalized", FIRST, FIRST.replace("legalize_edge(mesh, edge, capacity)", "0", 1)),
+    ("the first loop outside left out", LEFT_LOOP, ""),
+    ("the second loop outside left out", RIGHT_LOOP, ""),
+    ("the loops outside in the other order", LEFT_LOOP + "\n" + RIGHT_LOOP, RIGHT_LOOP + "\n" + LEFT_LOOP),
+    ("the first loop outside at most once", BEFORE, BEFORE + "        break\n"),
+    ("the second loop outside at most once", AFTER_IT, AFTER_IT + "        break\n"),
+    ("nothing legalized in the first loop", BEFORE, BEFORE.replace("legalize_edge(mesh, before, capacity)", "0")),
+    ("nothing legalized in the second loop", AFTER_IT, AFTER_IT.replace("legalize_edge(mesh, after, capacity)", "0")),
+    ("the first loop legalizes as a step does", BEFORE,
+     BEFORE.replace("current = create", "near, current = current, create")
+     .replace("legalize_edge(mesh, before, capacity)",
+              "legalize_edges_after_removal(mesh, [near // 2, before // 2], capacity)")),
+    ("the second loop legalizes as a step does", AFTER_IT,
+     AFTER_IT.replace("current = create", "near, current = current, create")
+     .replace("legalize_edge(mesh, after, capacity)",
+              "legalize_edges_after_removal(mesh, [near // 2, after // 2], capacity)")),
+    ("the first loop closes straight corners", "while side(mesh, mesh.prev(current), point) > 0:",
+     "while side(mesh, mesh.prev(current), point) >= 0:"),
+    ("the second loop closes straight corners", "while side(mesh, mesh.next(current), point) > 0:",
+     "while side(mesh, mesh.next(current), point) >= 0:"),
+    ("a triangle's new out edge", "    mesh.outs[v] = e4\n", "    mesh.outs[v] = e6\n"),
+    ("a triangle's new stored edges", "    mesh.stored[f1], mesh.stored[f2] = e1, e2\n",
+     "    mesh.stored[f1], mesh.stored[f2] = e4, e6\n"),
+    ("a triangle split from another side", "    e0 = mesh.stored[f0]\n", "    e0 = mesh.next(mesh.stored[f0])\n"),
+    ("the new faces of a triangle exchanged", "    f1, f2 = mesh.faces, mesh.faces + 1\n",
+     "    f2, f1 = mesh.faces, mesh.faces + 1\n"),
+    ("a split side's out edge forgotten", "    mesh.outs[to] = t2\n", ""),
+    ("a split side's stored edge forgotten", "    mesh.stored[f1] = edge\n", ""),
+    ("a split side's new out edge", "    mesh.outs[vertex] = e2\n", "    mesh.outs[vertex] = t1\n"),
+    ("a split side's new stored edge", "    mesh.stored[nf] = e2\n", "    mesh.stored[nf] = e1\n"),
+    ("a split side's new edges exchanged", "    e1, t1, e2, t2 = range(2 * mesh.edges, 2 * mesh.edges + 4)\n",
+     "    e2, t2, e1, t1 = range(2 * mesh.edges, 2 * mesh.edges + 4)\n"),
+    ("a split edge's out edge forgotten", "    mesh.outs[v3] = e2\n", ""),
+    ("a split edge's new out edge", "    mesh.outs[v0] = t0\n", "    mesh.outs[v0] = t1\n"),
+    ("a split edge's stored edges", "mesh.stored[f3] = e0, e1, e2, e3\n", "mesh.stored[f3] = e0, t0, e2, e3\n"),
+    ("a split edge's new edges exchanged", "    e1, t1, e2, t2, e3, t3 = range(", "    e3, t3, e2, t2, e1, t1 = range("),
+    ("a split edge's new faces exchanged", "mesh.face(e0), mesh.face(t0), mesh.faces, mesh.faces + 1\n",
+     "mesh.face(e0), mesh.face(t0), mesh.faces + 1, mesh.faces\n"),
+    ("fate 9 keeps the old height", MET, ""),
+    ("fate 9 keeps the higher height", MET, "        mesh.heights[met] = max(z, mesh.heights[met])\n"),
+    ("fate 9 gives its height to vertex 0", MET, "        mesh.heights[0] = z\n"),
+    ("fate 9 gives its height to every vertex there", MET,
+     "        for v in range(mesh.vertices):\n            if mesh.at(v) == point:\n"
+     "                mesh.heights[v] = z\n"),
+    ("fate 9 names no vertex", ANSWER_9, "        return (fate, 0, 0, 0)\n"),
+    ("fate 2 for fate 9", ANSWER_9, "        return (2, 0, 0, 0)\n"),
+    ("two faces for every insertion", ANSWER_IN, "    return (fate, vertex, 2, flips)\n"),
+    ("fate 1 for an inserted point", ANSWER_IN, ANSWER_IN.replace("(fate,", "(1,")),
+    ("fates 6 and 7 exchanged", "INTO, ON_EDGE, OUTSIDE, ON_VERTEX = 6, 7, 8, 9", "INTO, ON_EDGE, OUTSIDE, ON_VERTEX = 7, 6, 8, 9"),
+    ("points of fate 3 left out", "SKIPPED = (3, 4, 5)", "SKIPPED = (4, 5)"),
+    ("points of fate 4 left out", "SKIPPED = (3, 4, 5)", "SKIPPED = (3, 5)"),
+    ("points of fate 5 left out", "SKIPPED = (3, 4, 5)", "SKIPPED = (3, 4)"),
+    ("dropped points inserted too", "SKIPPED = (3, 4, 5)", "SKIPPED = (2, 3, 4, 5)"),
+    ("the first skipped point forgotten", GO_IN, GO_IN.replace("in skipped", "in skipped[1:]")),
+    ("the last skipped point forgotten", GO_IN, GO_IN.replace("in skipped", "in skipped[:-1]")),
+    ("the skipped points from the last", GO_IN, GO_IN.replace("in skipped", "in reversed(skipped)")),
+    ("skipped points go in at once", SORTED,
+     SORTED.replace("                skipped.append(place)\n",
+                    "                put_answer(lent.answers, place, %s)\n" % WITH_HEIGHT)),
+    ("skipped points go in before convexity", PASSES + GO_IN, GO_IN + "        place = len(points)\n" + PASSES),
+    ("skipped points go in after one pass", PASSES,
+     "        faces, flips = mesh.faces, fix_convexity(mesh, capacity)\n        faces = mesh.faces - faces\n"),
+    ("no convexity passes after the insertions", "        more_faces, more_flips = convexity(mesh, capacity)\n",
+     "        more_faces, more_flips = 0, 0\n", "(they add no face)"),
+    ("skipped points answer 3 to 5 until they are in", SORTED,
+     "            put_answer(lent.answers, place, answer)\n            if answer[0] in SKIPPED:\n"
+     "                skipped.append(place)\n"),
+    ("skipped points before a step's 9 go in", RUN_FULL, RUN_FULL +
+     "        if place < len(points) and mesh.at(mesh.vertices - 1) == points[place] and answer_at(lent.answers, place)[0] == 0"
+     " and place not in skipped:\n            for i in skipped:\n"
+     "                put_answer(lent.answers, i, insert_skipped(mesh, points[i], heights[i], 1 << 30))\n"),
+    ("answers after an insertion's 9 all 0", RUN_FULL, RUN_FULL +
+     "        lent.answers[WORDS * place:WORDS * len(points)] = [0] * (WORDS * (len(points) - place))\n"),
+    ("answers of insertions lost after 9", RUN_FULL, RUN_FULL +
+     "        for i in skipped:\n            put_answer(lent.answers, i, (0, 0, 0, 0))\n"),
+    ("the refused insertion answers its vertex", RUN_FULL, RUN_FULL +
+     "        if place in skipped:\n            put_answer(lent.answers, place, (0, mesh.vertices - 1, 0, 0))\n"),
+    ("an insertion's 9 names the number of points", RUN_FULL,
+     "        answer = (9, len(points) if place in skipped else place, 0, 0, 0)\n"),
+    ("an insertion's 9 names the place among the skipped", RUN_FULL,
+     "        answer = (9, skipped.index(place) if place in skipped else place, 0, 0, 0)\n"),
+    ("the refused insertion taken back", RUN_FULL, RUN_FULL +
+     "        if place in skipped:\n            mesh.vertices -= 1\n"),
+    ("the refused insertion's height lost", RUN_FULL, RUN_FULL +
+     "        if place in skipped:\n            mesh.heights[mesh.vertices - 1] = 0\n"),
+    ("the height 0 for a skipped point", WITH_HEIGHT, WITH_HEIGHT.replace("heights[place]", "0")),
+    ("the next point's height for a skipped one", WITH_HEIGHT,
+     WITH_HEIGHT.replace("heights[place]", "heights[(place + 1) % len(points)]")),
+    ("skipped points' heights counted by themselves", WITH_HEIGHT,
+     WITH_HEIGHT.replace("heights[place]", "heights[skipped.index(place)]")),
+    ("a run's flips without those of the first passes", "faces + more_faces, flips + more_flips,",
+     "faces + more_faces, more_flips,"),
+]
 LISTING = [  # the same of the listing program's part
     ("8 pending entries lent", "LISTING_PENDING = 400, 4096", "LISTING_PENDING = 400, 8"),
     ("100 pending entries lent", "LISTING_PENDING = 400, 4096", "LISTING_PENDING = 400, 100"),
@@ -567,21 +743,22 @@ def source():
 
 def changed_as(name):
     """sweep.py changed as the list above names it."""
-    old, new = next(m[1:3] for m in MUTANTS + HEIGHTS + LISTING if m[0] == name)
+    old, new = next(m[1:3] for m in MUTANTS + HEIGHTS + SKIPPING + LISTING if m[0] == name)
     return changed(source(), old, new)
 
 
-def mutants():
+def mutants(only):
     text, silent = source(), 0
-    # Samples and listings have no heights.
+    # Samples and listings have no heights, and only runs and listings insert.
     high = [n for n in NAMES if n not in ("samples", "listing")]
-    for changes, names in ((MUTANTS, NAMES), (HEIGHTS, high)):
-        for name, old, new, *implied in changes:
+    for part, changes, names in (("base", MUTANTS, NAMES), ("heights", HEIGHTS, high),
+                                 ("skipped", SKIPPING, ("run", "listing"))):
+        for name, old, new, *implied in changes if part in only else []:
             module = changed(text, old, new)
             noticed = [n for n in names if failures(module, n, first_only=True)[1]]
             silent += not noticed and not implied
-            print("%-50s %s" % (name, " ".join(noticed + implied) or "NOTICED BY NONE"))
-    for name, old, new in LISTING:
+            print("%-50s %s" % (name, " ".join(noticed + implied) or "NOTICED BY NONE"), flush=True)
+    for name, old, new in LISTING if "listing" in only else []:
         noticed = failures(changed(text, old, new), "listing")[1]
         silent += noticed < FEWEST
         print("%-50s listing, %d cases%s" % (name, noticed, "" if noticed >= FEWEST else ": TOO FEW"))
@@ -597,5 +774,5 @@ if __name__ == "__main__":
         wrong += bad
         print("%-8s %5d cases, %d answered otherwise" % (name, total, bad))
     if len(sys.argv) > 1:
-        wrong += mutants()
+        wrong += mutants(sys.argv[2:] or ("base", "heights", "skipped", "listing"))
     sys.exit(1 if wrong else 0)

@@ -26,7 +26,7 @@ pub struct Entered {
 }
 
 // The new vertex with its first face over the outer half-edge e, and that edge legalized.
-fn first_face(
+pub fn first_face(
     positions: &[i32],
     outs: &mut [u32],
     halves: &mut [u32],
@@ -51,7 +51,7 @@ fn first_face(
 }
 
 // The boundary edge before the current one, or after it.
-fn beside(halves: &[u32], e: u32, side: Side) -> u32
+pub fn beside(halves: &[u32], e: u32, side: Side) -> u32
     requires { ⌜ There (now halves) e ⌝ }
     ensures { λ r. ⌜ r ≡ besideIn side (halvesOf (now (halves .entry))) e ⌝ }
 {

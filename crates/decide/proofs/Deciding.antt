@@ -15,7 +15,7 @@ use Rattle.hull.specs.Boundary.{Angled, AngleAt, AngledBoundary, edgeAt, origin
 use Rattle.hull.specs.Ready.{size-small}
 use Rattle.math.specs.declared.LineSideInfo.{LineSideInfo}
 use Rattle.math.specs.declared.Point.{Point}
-use Rattle.math.specs.Determinant.{orient2d, sideOf, isOnLeftSide}
+use Rattle.math.specs.Determinant.{orient2d, sideOf, isOnLeftSide, isPosition}
 use Rattle.mesh.specs.declared.Counts.{Counts}
 use Rattle.mesh.specs.Mesh.{Links, In}
 use Rattle.mesh.specs.Area.{boundaryLength}
@@ -40,7 +40,7 @@ use Rattle.decide.specs.declared.Ends.{Ends}
 use Rattle.decide.specs.declared.Fate.{Fate}
 use Rattle.decide.specs.declared.Fate.the-variants.{Added, Dropped, NotLeft, Unsound}
 use Rattle.decide.specs.declared.WalkEnd.{WalkEnd}
-use Rattle.decide.specs.Decide.{Decided, atEnd, decidedAt, fateAt, ifAdded, isPosition, notAdded}
+use Rattle.decide.specs.Decide.{Decided, atEnd, decidedAt, fateAt, ifAdded, notAdded}
 use Rattle.decide.specs.SweepRows.{ChainAngles, Decides}
 use Rattle.decide.specs.Walks.{originPosition, EndsOf, EdgeAbout, ToWalk, WalkedTo}
 use Rattle.decide.specs.Walks.{ToCount, CountedChain, LocatedRows, DecidesAt, LeavesOut}

@@ -1,16 +1,13 @@
 -- What the tests of a decision read and answer, over plain values, so that the needs of the code are single applications. Assumes nothing.
 use mathlib.Core.Bool.{Bool, true, false, not, _&&_, _||_}
 use mathlib.Core.List.{List}
-use mathlib.Core.Path.{_≡_, refl, sym, _∙_, ap, ap₂, subst}
+use mathlib.Core.Path.{_≡_, refl, sym, _∙_, ap, ap₂}
 use Prim.Native.Nat.{ℕ}
-use borrow.Author.Tests.{not-true, not-false, eq-eqb, ne-eqb}
-use lib.Dec.{T, eqb, eqb→eq, eqb-refl}
+use borrow.Author.Tests.{not-true, not-false}
+use lib.Dec.{T, eqb}
 use lib.Ieee.{Float}
-use lib.IntN.{ℤ, pos, negsuc}
+use lib.IntN.{ℤ, pos}
 use lib.Signed.{ltZ}
-use mir.Facts.{toZ-ofZ}
-use mir.Syntax.{w32}
-use mir.Val.{SFits, ofZ, toZ}
 use Rattle.angle.specs.Angle.{turns, angleAbout, atCenter}
 use Rattle.dcel.specs.Rows.{linksOf}
 use Rattle.hull.specs.Boundary.{vertexAtCenter}
@@ -20,45 +17,9 @@ use Rattle.math.specs.Determinant.{InRange, orient2d, sideOf, isOnLeftSide, isB
 use Rattle.math.specs.Side.{on-left}
 use Rattle.ring.specs.Center.{turnsAbout}
 use Rattle.ring.specs.declared.Side.the-variants.{Left, Right}
-use Rattle.sums.specs.Bit.{eq-test, test-ext}
 use Rattle.sums.specs.Half.{rev}
 use Rattle.decide.specs.declared.Ends.{Ends}
-use Rattle.decide.specs.Decide.{isCoordinate, isPosition}
 use Rattle.decide.specs.Walks.{originPosition, EndsIn, EndsOf, ToCover, coverTest, walkTest, ToTest}
-
--- ---- equal positions
-same-coordinate : (a b : ℤ) → T (isCoordinate a b) → a ≡ b
-unfolding isCoordinate
-same-coordinate (pos a) (pos b) t = ap pos (eqb→eq a b t)
-same-coordinate (pos a) (negsuc b) t = absurd t
-same-coordinate (negsuc a) (pos b) t = absurd t
-same-coordinate (negsuc a) (negsuc b) t = ap negsuc (eqb→eq a b t)
-
-coordinate-itself : (a : ℤ) → T (isCoordinate a a)
-unfolding isCoordinate
-coordinate-itself (pos a) = eqb-refl a
-coordinate-itself (negsuc a) = eqb-refl a
-
--- `==` of two signed numbers compares their bits
-coordinate-bits : {a b : ℤ} → SFits w32 a → SFits w32 b → eqb (ofZ w32 a) (ofZ w32 b) ≡ isCoordinate a b
-coordinate-bits {a} {b} f g = test-ext (eqb (ofZ w32 a) (ofZ w32 b)) (isCoordinate a b)
-    (λ t. subst (λ (z : ℤ). T (isCoordinate a z))
-    (sym (toZ-ofZ f) ∙ ap (toZ w32) (eqb→eq (ofZ w32 a) (ofZ w32 b) t) ∙ toZ-ofZ g) (coordinate-itself a))
-    (λ t. eq-test (ap (ofZ w32) (same-coordinate a b t)))
-
-module _ (a b : Point) (f : SFits w32 (a .x)) (g : SFits w32 (b .x)) where
-  pub first-differs : (ofZ w32 (a .x) ≡ ofZ w32 (b .x) → ⊥) → eqb (ofZ w32 (a .x)) (ofZ w32 (b .x)) ≡ isPosition a b
-  unfolding isPosition
-  first-differs n =
-      let e = ne-eqb (ofZ w32 (a .x)) (ofZ w32 (b .x)) n in
-      e ∙ ap (λ (t : Bool). t && isCoordinate (a .y) (b .y)) (sym e ∙ coordinate-bits f g)
-
-  pub second-decides : SFits w32 (a .y) → SFits w32 (b .y) → ofZ w32 (a .x) ≡ ofZ w32 (b .x)
-      → eqb (ofZ w32 (a .y)) (ofZ w32 (b .y)) ≡ isPosition a b
-  unfolding isPosition
-  second-decides i j e =
-      coordinate-bits i j
-      ∙ ap (λ (t : Bool). t && isCoordinate (a .y) (b .y)) (sym (eq-eqb (ofZ w32 (a .x)) (ofZ w32 (b .x)) e) ∙ coordinate-bits f g)
 
 -- ---- the tests of the walks, by the side first and by the angle last
 unseen : (x : Bool) {t s : Bool} → t ≡ s → not t ≡ true → false ≡ (x && s)

@@ -2,11 +2,10 @@
 -- angles alone. Definitions only, and each computes; `Apply` of crate `apply` has what becomes of the mesh.
 use Prim.Native.Nat.{ℕ}
 use mathlib.Core.Bool.{Bool, false, not, cond, _&&_, _||_}
-use lib.Dec.{eqb}
 use lib.Ieee.{Float}
-use lib.IntN.{ℤ, pos, negsuc}
 use Rattle.angle.specs.Angle.{angleAbout, atCenter, turns}
 use Rattle.math.specs.declared.Point.{Point}
+use Rattle.math.specs.Determinant.{isPosition}
 use Rattle.mesh.specs.declared.Counts.{Counts}
 use Rattle.mesh.specs.Mesh.{Links, to}
 use Rattle.ring.specs.Ring.{located}
@@ -33,15 +32,6 @@ fateVertex Unsound = 0
 fateVertex AtCenter = 0
 
 -- ---- the tests, for a point v with the angle q, and the located edge e
-unfoldable pub isCoordinate : ℤ → ℤ → Bool
-isCoordinate (pos a) (pos b) = eqb a b
-isCoordinate (pos a) (negsuc b) = false
-isCoordinate (negsuc a) (pos b) = false
-isCoordinate (negsuc a) (negsuc b) = eqb a b
-
-unfoldable pub isPosition : Point → Point → Bool
-isPosition a b = isCoordinate (a .x) (b .x) && isCoordinate (a .y) (b .y)
-
 -- fate 2: "equal to an end of the located edge"
 unfoldable pub atEnd : Links → (ℕ → Point) → Point → ℕ → Bool
 atEnd L p v e = isPosition v (p (L .origin e)) || isPosition v (p (to L e))

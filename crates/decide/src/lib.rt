@@ -7,7 +7,7 @@ ghost use Prim.Native.Nat.{ℕ};
 ghost use Rattle.dcel.specs.Rows.{linksOf, positionOf};
 ghost use Rattle.mesh.specs.declared.Counts.{Counts};
 ghost use Rattle.ring.specs.declared.Side.the-variants.{Left, Right};
-ghost use Rattle.decide.specs.Decide.{fateNumber, fateVertex, decided, isPosition};
+ghost use Rattle.decide.specs.Decide.{fateNumber, fateVertex, decided};
 ghost use Rattle.decide.specs.SweepRows.{SweepRows, ToDecide, Decides};
 ghost use Rattle.decide.specs.Walks.{EndsIn, EndsOf, ToCover, coverTest, walkTest, ToTest};
 ghost use Rattle.decide.specs.Walks.{ToWalk, WalkedTo};
@@ -95,12 +95,6 @@ fn ends_of(positions: &[i32], halves: &[u32], e: u32) -> Ends
         from: dcel::position(positions, u),
         to: dcel::position(positions, w),
     }
-}
-
-fn is_position(a: Point, b: Point) -> bool
-    ensures { λ r. ⌜ r ≡ isPosition a b ⌝ }
-{
-    a.x == b.x && a.y == b.y
 }
 
 // What the tests of the two loops share: is an edge with these ends covered by a point with this angle? `behind` is
@@ -276,10 +270,10 @@ fn decide_at(
     let edge = ends_of(positions, halves, e);
     let from = edge.from;
     let to = edge.to;
-    if is_position(point, from) {
+    if math::is_position(point, from) {
         return leave(Fate::Dropped);
     }
-    if is_position(point, to) {
+    if math::is_position(point, to) {
         return leave(Fate::Dropped);
     }
     if !math::side_query(from, to, point).is_on_left_side() {

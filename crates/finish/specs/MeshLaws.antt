@@ -28,7 +28,7 @@ use Rattle.mesh.specs.HeightLaws.{heights-nonneg}
 use Rattle.finish.specs.Finish.{Finishing, closeAfter, finishMesh}
 
 -- ---- a fall in whole numbers
-fall-by : (n : ℕ) (a b : ℤ) → pos 0 ≤ℤ a → pos 0 ≤ℤ b → n + natAbs b ≤ natAbs a → pos n ≤ℤ (a -ℤ b)
+pub fall-by : (n : ℕ) (a b : ℤ) → pos 0 ≤ℤ a → pos 0 ≤ℤ b → n + natAbs b ≤ natAbs a → pos n ≤ℤ (a -ℤ b)
 fall-by n a b u v l =
     subst⁻¹ (λ (z : ℤ). pos n ≤ℤ z)
     (ap₂ (λ (x y : ℤ). x -ℤ y) (sym (abs-0≤ u) ∙ ap pos (more (natAbs a) (natAbs b) (omega arith))) (sym (abs-0≤ v)) ∙ +ℤ-negℤ-cancel (pos (natAbs a - natAbs b)) (pos (natAbs b)))

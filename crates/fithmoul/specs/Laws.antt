@@ -28,7 +28,8 @@ use Rattle.ring_rows.specs.RingRows.{RingRows}
 use Rattle.start.specs.StartLaws.{sweep-numbered}
 use Rattle.surface.specs.Surface.{surfaceLocate, surfaceFinish, surfaceStepChecked, surfaceStep}
 use Rattle.surface.specs.Surface.{SurfaceRunLent, surfaceRunChecked, surfaceRun}
-use Rattle.surface.specs.SurfaceRunLaws.{CarriedHeights, surface-demand-3, carried-heights}
+use Rattle.surface.specs.CarriedHeights.{CarriedHeights}
+use Rattle.surface.specs.SurfaceRunLaws.{surface-demand-3, carried-heights}
 use Rattle.sweep.specs.Demand3.{Demand3}
 use Rattle.sweep.specs.Run.{runChecked, runOutcome}
 use Rattle.sweep.specs.declared.Stepped.{Stepped}

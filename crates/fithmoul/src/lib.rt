@@ -12,7 +12,7 @@ ghost use Rattle.heights.specs.Heights.{surfaceRows, surfaceChecked};
 ghost use Rattle.locate.specs.Locate.{locatedWith};
 ghost use Rattle.ring_rows.specs.RingRows.{ringRows};
 ghost use Rattle.surface.specs.Surface.{surfaceLocate, surfaceFinish, surfaceStepped, surfaceStep, surfaceRunLent, surfaceRan, surfaceRun};
-ghost use Rattle.surface.specs.SurfaceRunLaws.{CarriedHeights};
+ghost use Rattle.surface.specs.CarriedHeights.{CarriedHeights};
 ghost use Rattle.sweep.specs.Demand3.{Demand3};
 ghost use Rattle.sweep.specs.Run.{runLent, ranWith};
 ghost use Rattle.sweep.specs.StepCall.{steppedWith};
@@ -284,7 +284,7 @@ pub extern "C" fn fithmoul_run(
         x: center_x,
         y: center_y,
     };
-    let few = run::answers_short(answers.len(), points);
+    let few = answers::answers_short(answers.len(), points);
     let checked = surface::check_run(
         points,
         point_heights,
@@ -317,7 +317,7 @@ pub extern "C" fn fithmoul_run(
         center,
         points,
     );
-    surface::store_run(heights, answers, point_heights, points, vertices, answer);
+    surface::store_run(heights, answers, point_heights, points, answer);
     results::finish_result(answer)
 }
 

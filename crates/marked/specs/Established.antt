@@ -2,11 +2,21 @@
 -- a law. The definitions that are computed with stand below it, a line or two for each crate. Assumes nothing.
 use mathlib.Core.Path.{refl}
 use lib.Ieee.{ofInt, neg, add, sub, mul, div, sum, round, units, odd, size, span, climb, lt}
-use Rattle.sweep.specs.Run.{sweepPoint, sweepAfter, finishAfter, answerWord, answersAfter, runChecked, runOutcome, runOf}
+use Rattle.sweep.specs.Run.{sweepPoint, sweepAfter, isSkipped, completeAfter, answerWord, answersAfter, completedAnswers}
+use Rattle.sweep.specs.Run.{runChecked, runOutcome, runOf}
+use Rattle.skipped.specs.Fill.{fillPoint, fillAfter, insertWord, fillFrom, convexAfter, completeMesh}
+use Rattle.skipped.specs.Insert.{legalizeOne, legalizeEach, innerNexts, starEdges, legalizeVertex}
+use Rattle.skipped.specs.Insert.{insertIntoFace, insertInEdge, coverEdge, outsideEnds, outsideTurn, outsideWalk, insertOutside}
+use Rattle.skipped.specs.Insert.{positionFate, positionVertex, isNew, placesAt, meshAt, insertPoint}
+use Rattle.insertion.specs.Operations.{intoTriangle, insertIntoTriangle, edgeBetween, splitEdge}
+use Rattle.insertion.specs.Operations.{halfEdgeBetween, splitHalfEdge, insertOnEdge, withEdgeVertex}
+use Rattle.location.specs.Search.{firstCloser, isNearest, nearer, nearest, acrossEdge, rotateCcw, rotateCw, bySide, searchTurn}
+use Rattle.location.specs.Search.{ended, advance, searchFrom}
+use Rattle.location.specs.Scan as scans
 use Rattle.sweep.specs.SeedTriangle.{seedOuts, seedHalves, seedFaces}
 use Rattle.sweep.specs.Step.{isAdded, leftAlone, addedAt, appliedBy, applied, stepMesh}
 use Rattle.start.specs.Start.{sweepRowsShort, sweepChecked}
-use Rattle.decide.specs.Decide.{fateNumber, fateVertex, isCoordinate, isPosition, atEnd, fateAt, ifAdded, decidedAt, decided}
+use Rattle.decide.specs.Decide.{fateNumber, fateVertex, atEnd, fateAt, ifAdded, decidedAt, decided}
 use Rattle.apply.specs.Apply.{firstFace, walkEnds, walk, addVertex}
 use Rattle.convexity.specs.Convexity.{turnsLeftAt, lastTurnsLeft, closeCorners}
 use Rattle.convexity.specs.Convexity.{passTurn, isSecond, fixConvexity, passAgain, convexity}
@@ -31,7 +41,7 @@ use Rattle.segment.specs.Arc.{holds, gap, wide}
 use Rattle.angle.specs.Angle.{absoluteOf, slope, ofDiff, pseudoAngle, angleAbout, bounded, validCenter, isNumber, atCenter, validAngle}
 use Rattle.dcel.specs.MeshRows.{meshRowsFrom}
 use Rattle.dcel.specs.Rows.{halvesOf, rowOf, positionOf, linksOf, rowFrom, field, halvesIn, halvesFrom, coordinate, positionsFrom}
-use Rattle.math.specs.Determinant.{orient2d, incircle, height, factor, length2}
+use Rattle.math.specs.Determinant.{orient2d, incircle, height, factor, length2, isCoordinate, isPosition}
 use Rattle.sums.specs.Bounded.{all-below, any-below, first-below}
 use Rattle.sums.specs.Half.{rev}
 use Rattle.sums.specs.Iterate.{reaches, period-below}
@@ -45,7 +55,14 @@ use Rattle.marked.specs.NoPoints.{no-points}
 
 pub marked : Marked
 unfolding seedOuts seedHalves seedFaces
-    sweepPoint sweepAfter finishAfter answerWord answersAfter runChecked runOutcome runOf
+    sweepPoint sweepAfter isSkipped completeAfter answerWord answersAfter completedAnswers runChecked runOutcome runOf
+    fillPoint fillAfter insertWord fillFrom convexAfter completeMesh
+    legalizeOne legalizeEach innerNexts starEdges legalizeVertex
+    insertIntoFace insertInEdge coverEdge outsideEnds outsideTurn outsideWalk insertOutside
+    positionFate positionVertex isNew placesAt meshAt insertPoint
+    intoTriangle insertIntoTriangle edgeBetween splitEdge halfEdgeBetween splitHalfEdge insertOnEdge withEdgeVertex
+    firstCloser isNearest nearer nearest acrossEdge rotateCcw rotateCw bySide searchTurn ended advance searchFrom
+    scans.holdsAt scans.placeAt scans.firstHolding scans.firstLeft scans.scan scans.answer scans.locatePoint
     isAdded leftAlone addedAt appliedBy applied stepMesh
     sweepRowsShort sweepChecked
     fateNumber fateVertex isCoordinate isPosition atEnd fateAt ifAdded decidedAt decided
@@ -73,7 +90,7 @@ marked = (
   (refl, refl, refl, refl, refl, refl),
   refl,
   refl,
-  refl,
+  (refl, refl, refl, refl, refl),
   (refl, refl, refl, refl),
   (refl, refl),
   refl,

@@ -15,7 +15,7 @@ use Rattle.finish.specs.Finish.{finishedWith, finishOf}
 use Rattle.locate.specs.declared.Located.{Located}
 use Rattle.locate.specs.Locate.{locateOf}
 use Rattle.mesh.specs.Mesh.{Links}
-use Rattle.mesh.specs.Area.{heightSum, circleAt}
+use Rattle.mesh.specs.Area.{areaTotal, heightSum, circleAt}
 use Rattle.mesh.specs.Operations.{withVertex, createNewFaceAdjacentToEdge}
 use Rattle.mesh_check.specs.declared.Checked.{Checked}
 use Rattle.ring.specs.Center.{turnsAbout}
@@ -52,6 +52,9 @@ about n points = seeded 3 n seed (at one64 one64) points
 abbrev heightAfter : RunOutcome → ℤ
 heightAfter r = heightSum (r .answer .counts) (linksIn (r .mesh)) (placesIn (r .mesh))
 
+abbrev areaAfter : RunOutcome → ℤ
+areaAfter r = areaTotal (r .answer .counts) (linksIn (r .mesh)) (placesIn (r .mesh))
+
 -- ---- the list
 -- "M1 centre (0,0): (-4,0) is 1.0; (0,4) 0.25; (4,0) 0.5; (0,-4) 0.75; (4,4) 0.375; (-4,-4) 0.875."
 abbrev pub M1 : Type 0
@@ -74,9 +77,20 @@ M3 =
     boundaryAngles (l .counts) (linksIn (l .mesh)) (turnsAbout (l .center .x) (l .center .y) (placesIn (l .mesh)))
     ≡ 9 * 2 ^ 49 ∷ 7 * 2 ^ 50 ∷ 3 * 2 ^ 49 ∷ []
 
--- "M4 the input above finishes with height sum 1536": `P 4 4`, `P 2 2`, `P 4 4`, `P 1 1`
+-- 01's input: `P 4 4`, `P 2 2`, `P 4 4`, `P 1 1`
+abbrev sample : RunLent
+sample = about 4 (pos 4 ∷ pos 4 ∷ pos 2 ∷ pos 2 ∷ pos 4 ∷ pos 4 ∷ pos 1 ∷ pos 1 ∷ [])
+
+-- 02, Change 2: "M4 is then shown with height sum 1248, and its listing has `p 1 7 4 2 0`, `p 3 7 5 2 0` and `t 6 11 6 32 0 0 0` in place of
+-- the old lines."
 abbrev pub M4 : Type 0
-M4 = heightAfter (runOf (about 4 (pos 4 ∷ pos 4 ∷ pos 2 ∷ pos 2 ∷ pos 4 ∷ pos 4 ∷ pos 1 ∷ pos 1 ∷ []))) ≡ pos 1536
+M4 =
+    (heightAfter (runOf sample) ≡ pos 1248)
+    × (take (4 * answerWords) (runOf sample .answers)
+    ≡ 1 ∷ 3 ∷ 1 ∷ 0 ∷ 7 ∷ 4 ∷ 2 ∷ 0 ∷ 2 ∷ 0 ∷ 0 ∷ 0 ∷ 7 ∷ 5 ∷ 2 ∷ 0 ∷ [])
+    × (runOf sample .answer .counts ≡ record { vertices = 6; edges = 11; faces = 7 })
+    × (areaAfter (runOf sample) ≡ pos 32)
+    × (runOf sample .answer .finished ≡ Finished.Accepted (record { faces = 0; convexflips = 0; closingflips = 0 }))
 
 -- "M5 seed (0,0) (4,0) (2,1), centre (2, 0.5), point (2,-1):
 abbrev kite : RunLent

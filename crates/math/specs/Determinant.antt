@@ -7,7 +7,7 @@
 -- contract says, and at the expressions `E` what the ring solver computes with.
 use mathlib.Core.Bool.{Bool, true, false, _&&_}
 use Prim.Native.Nat.{zero, suc, _≤_}
-use lib.Dec.{leb}
+use lib.Dec.{eqb, leb}
 use lib.IntN.{ℤ, pos, negsuc, natAbs, _+ℤ_, _-ℤ_, _*ℤ_}
 use lib.Signed.{ltZ, leZ}
 use Rattle.math.specs.declared.Point.{Point}
@@ -157,6 +157,16 @@ isBehind p = ltZ (p .«length_2») (p .factor)
 -- 01: "With these coordinates `is_behind_edge` equals the whole-number comparison factor > length_2."
 abbrev pub isBehindEdge : Point → Point → Point → Bool
 isBehindEdge e1 e2 q = ltZ (length2 e1 e2) (factor e1 e2 q)
+
+-- ---- equal positions
+unfoldable pub isCoordinate : ℤ → ℤ → Bool
+isCoordinate (pos a) (pos b) = eqb a b
+isCoordinate (pos a) (negsuc b) = false
+isCoordinate (negsuc a) (pos b) = false
+isCoordinate (negsuc a) (negsuc b) = eqb a b
+
+unfoldable pub isPosition : Point → Point → Bool
+isPosition a b = isCoordinate (a .x) (b .x) && isCoordinate (a .y) (b .y)
 
 -- ---- 01, refusal 3: "a coordinate is outside -16,777,216..16,777,216"
 abbrev pub isValidCoordinate : ℤ → Bool

@@ -7,3 +7,4 @@ pub mod Side
 pub mod Circle
 pub mod Whole
 pub mod Projection
+pub mod Position

@@ -3,7 +3,7 @@
 // What each function answers is an equation with a definition of `specs/Determinant.antt`.
 ghost use mathlib.Core.Path.{_≡_};
 ghost use mathlib.Core.Bool.{not, _&&_};
-ghost use Rattle.math.specs.Determinant.{InRange, orient2d, sideOf, isOnLeftSide, isOnRightSide, isOnLine, reverseOf, containedInCircumference, isOrderedCcw, projectionOf, isBefore, isBehind, isBehindEdge, isValidCoordinate, isValidVertex};
+ghost use Rattle.math.specs.Determinant.{InRange, orient2d, sideOf, isOnLeftSide, isOnRightSide, isOnLine, reverseOf, containedInCircumference, isOrderedCcw, projectionOf, isBefore, isBehind, isBehindEdge, isValidCoordinate, isValidVertex, length2, isPosition};
 ghost use Rattle.math.specs.Vector.{Short, difference, dotOf, crossOf};
 
 mod wide;
@@ -42,6 +42,15 @@ impl Point {
             x: self.x as i64 - other.x as i64,
             y: self.y as i64 - other.y as i64,
         }
+    }
+
+    // The squared distance.
+    pub fn distance_2(self, other: Point) -> i64
+        requires { ⌜ InRange self × InRange other ⌝ }
+        ensures { λ r. ⌜ r ≡ length2 self other ⌝ }
+    {
+        let dir = other.sub(self);
+        dir.dot(dir)
     }
 }
 
@@ -207,6 +216,12 @@ pub fn is_behind_edge(e1: Point, e2: Point, q: Point) -> bool
     ensures { λ r. ⌜ r ≡ isBehindEdge e1 e2 q ⌝ }
 {
     project_point(e1, e2, q).is_behind_edge()
+}
+
+pub fn is_position(a: Point, b: Point) -> bool
+    ensures { λ r. ⌜ r ≡ isPosition a b ⌝ }
+{
+    a.x == b.x && a.y == b.y
 }
 
 // Whether a coordinate is within ±16,777,216.

@@ -1,24 +1,26 @@
--- The area theorem: the inner faces' doubled areas total the boundary's doubled area. The two halves of an edge cancel,
--- so the sum over all half-edges is 0; it goes along the boundary and face by face. Assumes nothing.
+-- The area theorem: the inner faces' doubled areas total the boundary's doubled area. It is `stokes` of the cross
+-- products of the half-edges' ends. Assumes nothing.
 use mathlib.Core.Path.{_≡_, refl, sym, _∙_, ap, ap₂}
 use mathlib.Core.List.{[], _∷_}
-use Prim.Native.Nat.{ℕ, suc, _+_, _-_, _*_, _<_}
+use Prim.Native.Nat.{ℕ, suc, _-_, _*_, _<_}
 use native.Mathlib.Omega.{arith}
 use lib.Dec.{eqb}
-use lib.IntN.{ℤ, pos, negℤ, _+ℤ_, +ℤ-idl, negℤ-negℤ}
-use Rattle.algebra.specs.Ring.{num, _⊕_, _⊖_, _⊗_, ⊝_, v0, v1, v2, v3, ring}
-use Rattle.algebra.specs.Sign.{eq-in, eq-by, _+⁰_}
+use lib.IntN.{ℤ, negℤ, _+ℤ_, +ℤ-idl, negℤ-negℤ}
+use Rattle.algebra.specs.Ring.{_⊖_, _⊗_, ⊝_, v0, v1, v2, v3, ring}
 use Rattle.math.specs.declared.Point.{Point}
 use Rattle.math.specs.Determinant.{orient2d}
 use Rattle.math.specs.Plane.{orient2d-cross}
-use Rattle.sums.specs.Half.{rev-even, rev-odd}
+use Rattle.sums.specs.Half.{rev-rev}
 use Rattle.sums.specs.Iterate.{iter, iter-last, iter-keeps, period-three}
-use Rattle.sums.specs.Sum.{sum, sum-ext, sum-neg, sum-none, sum-pairs, only}
+use Rattle.sums.specs.Sum.{sum, sum-ext, sum-neg, only}
 use Rattle.mesh.specs.declared.Counts.{Counts}
 use Rattle.mesh.specs.Mesh.{Links, In}
 use Rattle.mesh.specs.Wf.{Wf}
 use Rattle.mesh.specs.Area.{boundaryLength, boundaryArea, cross, atCorners, overFaces, areaTotal}
-use Rattle.mesh.specs.BoundaryLaws.{first<, first-outer, boundary-period, inner-stored, three-back, outer-period, by-face, along-next, along-prev}
+use Rattle.mesh.specs.BoundaryLaws.{first<, first-outer, boundary-period, inner-stored, three-back, outer-period, along-next, along-prev}
+use Rattle.mesh.specs.Cochain.{Cochain, innerCirculation, boundaryCirculation}
+use Rattle.mesh.specs.Stokes.{stokes}
+use Rattle.mesh.specs.Triangle.{rev-in}
 
 pub cross-back : (a b : Point) → cross a b ≡ negℤ (cross b a)
 unfolding cross
@@ -41,33 +43,25 @@ module _ {C : Counts} {L : Links} (W : Wf C L) (p : ℕ → Point) where
       ap (λ (d : ℕ). part e +ℤ part (L .next e) +ℤ cross (p (L .origin (L .next (L .next e)))) (p (L .origin d))) q
       ∙ sym (area-cross (p (L .origin e)) (p (L .origin (L .next e))) (p (L .origin (L .next (L .next e)))))
 
-  -- the two halves of an edge cancel
-  edges-cancel : sum (2 * C .edges) part ≡ pos 0
-  edges-cancel = sum-pairs (C .edges) part ∙ sum-none (C .edges) (λ u. part (2 * u) +ℤ part (2 * u + 1)) pair
-    where
-      pair : (u : ℕ) → u < C .edges → part (2 * u) +ℤ part (2 * u + 1) ≡ pos 0
-      pair u l =
-          let a = p (L .origin (2 * u)) in let b = p (L .origin (2 * u + 1)) in
-          ap₂ (λ (m n : ℕ). cross a (p m) +ℤ cross b (p n))
-          (W .links .origin-next {e = 2 * u} (omega arith) ∙ ap (L .origin) (rev-even u))
-          (W .links .origin-next {e = 2 * u + 1} (omega arith) ∙ ap (L .origin) (rev-odd u))
-          ∙ ap (λ (z : ℤ). z +ℤ cross b a) (cross-back a b)
-          ∙ ring (cross b a ∷ []) (⊝ v0 ⊕ v0) (num (pos 0)) refl
+  -- the reverse's part is the other way round
+  part-cochain : Cochain C part
+  part-cochain = record {
+    odd = λ {e} l.
+        ap₂ (λ (m n : ℕ). cross (p m) (p n)) (sym (W .links .origin-next l))
+        (W .links .origin-next (rev-in C l) ∙ ap (L .origin) (rev-rev e))
+        ∙ cross-back (p (L .origin (L .next e))) (p (L .origin e));
+  }
 
   -- the parts of the half-edges of face 0
   outerParts : ℤ
   outerParts = sum (2 * C .edges) (λ e. only (eqb (L .face e) 0) (part e))
 
   inner-outer : areaTotal C L p ≡ negℤ outerParts
-  unfolding outerParts overFaces
+  unfolding outerParts overFaces innerCirculation boundaryCirculation
   inner-outer =
-      let B = sum (boundaryLength C L) (λ k. part (iter k (L .next) (L .adjacent 0))) in
-      let ρ = outerParts ∷ B ∷ areaTotal C L p ∷ [] in
-      let whole : B +ℤ areaTotal C L p ≡ pos 0 =
-      ap (λ (z : ℤ). B +ℤ z) (sum-ext (C .faces - 1) (λ f l. let m : suc f < C .faces = omega arith in
-      sym (three-parts (L .adjacent (suc f)) (three-back W (W .ranges .adjacent< m) (inner-stored W (omega arith) m)))))
-      ∙ sym (by-face W part) ∙ edges-cancel in
-      eq-by (eq-in ρ (v1 ⊕ v2) (num (pos 0)) whole +⁰ eq-in ρ v0 v1 (along-next W (first< W) (first-outer W) (boundary-period W) part)) v2 (⊝ v0) refl
+      sum-ext (C .faces - 1) (λ f l. let m : suc f < C .faces = omega arith in
+      sym (three-parts (L .adjacent (suc f)) (three-back W (W .ranges .adjacent< m) (inner-stored W (omega arith) m))))
+      ∙ stokes W part-cochain ∙ ap negℤ (sym (along-next W (first< W) (first-outer W) (boundary-period W) part))
 
   boundary-outer : boundaryArea C L p ≡ negℤ outerParts
   unfolding outerParts boundaryArea

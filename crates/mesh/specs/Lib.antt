@@ -11,6 +11,8 @@ pub mod Area
 pub mod BoundaryLaws
 pub mod AreaCorners
 pub mod CountsLaws
+pub mod Cochain
+pub mod Stokes
 pub mod AreaLaws
 pub mod LeftLaws
 pub mod HeightLaws

@@ -1,6 +1,6 @@
 -- The three half-edges of an inner face, and four half-edges of the outer face, each after the one before. Assumes nothing.
 use Prim.Native.Nat.{ℕ, _<_}
-use mathlib.Core.Path.{_≡_, refl, sym}
+use mathlib.Core.Path.{_≡_, refl, sym, _∙_}
 use mathlib.Core.Logic.{_≢_, _⊎_, ⊎-elim, inl, inr}
 use Rattle.mesh.specs.declared.Counts.{Counts}
 use Rattle.mesh.specs.Mesh.{Links, In, to}
@@ -26,6 +26,25 @@ pub record Triangle (C : Counts) (L : Links) (a b c : ℕ) : Type 0 where
   pub to-a : to L a ≡ L .origin b
   pub to-b : to L b ≡ L .origin c
   pub to-c : to L c ≡ L .origin a
+
+-- from another edge of the triangle
+pub next-triangle : {C : Counts} {L : Links} {a b c : ℕ} → Triangle C L a b c → Triangle C L b c a
+next-triangle t = record {
+  in-a = t .in-b;
+  in-b = t .in-c;
+  in-c = t .in-a;
+  next-a = t .next-b;
+  next-b = t .next-c;
+  next-c = t .next-a;
+  prev-a = t .prev-b;
+  prev-b = t .prev-c;
+  prev-c = t .prev-a;
+  face-b = t .face-c ∙ sym (t .face-b);
+  face-c = sym (t .face-b);
+  to-a = t .to-b;
+  to-b = t .to-c;
+  to-c = t .to-a;
+}
 
 module _ {C : Counts} {L : Links} (W : Wf C L) where
   pub triangle : {x : ℕ} → In C x → 0 < L .face x → Triangle C L x (L .next x) (L .prev x)

@@ -1,8 +1,9 @@
-// The answers of the Rust itself (oracle/answers.txt): for each point its fate, vertex, faces and flips, then the mesh after the last
-// step, the faces and flips of the first pass of `fix_convexity`, and the mesh after it. Ours are held against both meshes link by link:
-// counts, positions and every entry of the rows. A run makes the same steps and goes on with all passes and the closing pass. Its answers
-// must be the Rust's too, and it must leave what a finish makes of the Rust's mesh after the first pass, with the faces and flips of that
-// pass and of that finish added up.
+// The answers of the Rust itself (oracle/answers.txt): for each point the fate, vertex, faces and flips of its step, then the mesh after the
+// last step, the faces and flips of the first pass of `fix_convexity`, and the mesh after it; then the answers of all points with the
+// skipped ones put in, and the mesh with them in it. Ours are held against the first two meshes link by link: counts, positions and every
+// entry of the rows. A run makes the same steps and goes on with all passes, the skipped points and the closing pass. Its answers must be
+// the Rust's too, and it must leave what a finish makes of the Rust's last mesh, with the faces and flips of the first pass and of that
+// finish added up. Where the Rust's search goes on for ever, or a later pass adds a face, there is no such mesh: then the run is accepted.
 ghost use Rattle.test_mesh.specs.Lent.{CoordinatesLent, MeshLent};
 use super::lines;
 use angle::Point2;
@@ -72,15 +73,15 @@ fn compare_mesh(text: &[u8], at: usize, mesh: Mesh) -> Agreed {
     }
 }
 
-// Whether answers are those of the line `a` at a place, and the place behind it.
-fn compare_answers(text: &[u8], at: usize, answers: Longs) -> Agreed {
-    let start = test_mesh::plain_start(text, at, b'a', LONGS, 7);
+// Whether answers are those of the line at a place, which has a tag, and the place behind it.
+fn compare_answers(text: &[u8], at: usize, tag: u8, answers: Longs) -> Agreed {
+    let start = test_mesh::plain_start(text, at, tag, LONGS, 7);
     test_mesh::compare_longs(text, start, answers)
 }
 
 // Whether the steps have left what the lines from `a` on have; the place of the line `g`.
 fn steps_agree(text: &[u8], at: usize, after: Stepped) -> Agreed {
-    let a = compare_answers(text, at, after.answers);
+    let a = compare_answers(text, at, b'a', after.answers);
     let m = compare_mesh(text, a.at, after.mesh);
     Agreed {
         agrees: a.agrees & m.agrees,
@@ -88,15 +89,14 @@ fn steps_agree(text: &[u8], at: usize, after: Stepped) -> Agreed {
     }
 }
 
-// Whether the first pass has left what the lines from `g` on have.
-fn pass_agrees(text: &[u8], at: usize, after: Passed) -> bool {
+// Whether the first pass has left what the lines from `g` on have; the place behind them.
+fn pass_agrees(text: &[u8], at: usize, after: Passed) -> Agreed {
     let g = read_pass(text, at);
     let m = compare_mesh(text, g.at, after.mesh);
-    g.is_whole
-        & m.agrees
-        & (after.faces == g.faces)
-        & (after.flips == g.flips)
-        & test_text::is_line_of(text, m.at, b'e', &[])
+    Agreed {
+        agrees: g.is_whole & m.agrees & (after.faces == g.faces) & (after.flips == g.flips),
+        at: m.at,
+    }
 }
 
 // Whether the numbers of a run are those of a pass and of the finish after it together.
@@ -118,17 +118,33 @@ fn add_up(run: FinishResult, pass: PassLine, rest: FinishResult) -> bool {
         & (all[4] == later[4])
 }
 
-// Whether a run has answered as the line `a` has it, and has left what a finish makes of the mesh behind the line `g`.
-fn run_agrees(text: &[u8], at: usize, pass: usize, ran: RunLeft) -> bool {
-    let a = compare_answers(text, at, ran.answers);
-    let g = read_pass(text, pass);
-    let m = test_mesh::read_mesh(text, g.at, test_mesh::LENT, true);
+// Whether a line has a tag alone and is the last of its case.
+fn is_last(text: &[u8], at: usize, tag: u8) -> bool {
+    test_text::is_line_of(text, at, tag, &[])
+        & test_text::is_line_of(text, test_text::next_line(text, at), b'e', &[])
+}
+
+// Whether a run has answered as the line `b` has it, and has left what a finish makes of the mesh behind that line; g is the first pass's.
+fn completed_agrees(text: &[u8], at: usize, g: PassLine, ran: RunLeft) -> bool {
+    let b = compare_answers(text, at, b'b', ran.answers);
+    let m = test_mesh::read_mesh(text, b.at, test_mesh::LENT, true);
     let ended = replay_calls::finish_on(m.mesh, WORDS, 0);
-    a.agrees
-        & ran.cleared
+    b.agrees
+        & m.is_whole
         & ended.cleared
         & test_mesh::same_mesh(ran.mesh, ended.mesh)
         & add_up(ran.result, g, ended.result)
+        & test_text::is_line_of(text, m.at, b'e', &[])
+}
+
+// Whether a run agrees with the lines behind the first pass, whose line `g` stands at `pass`.
+fn run_agrees(text: &[u8], pass: usize, at: usize, ran: RunLeft) -> bool {
+    let numbers = lines::numbers_of(ran.result);
+    if is_last(text, at, b'l') | is_last(text, at, b'b') {
+        return ran.cleared & (numbers[0] == 0);
+    }
+    let cleared = ran.cleared;
+    completed_agrees(text, at, read_pass(text, pass), ran) & cleared
 }
 
 // Whether all agree with the lines from `a` on.
@@ -147,7 +163,7 @@ fn case_agrees(text: &[u8], at: usize, mesh: Mesh, center: Point2, points: Coord
     let last = stepped.mesh;
     let s = steps_agree(text, at, stepped);
     let p = pass_agrees(text, s.at, replay_runs::pass_on(last));
-    s.agrees & p & run_agrees(text, at, s.at, ran)
+    s.agrees & p.agrees & run_agrees(text, s.at, p.at, ran)
 }
 
 // The case whose line `i` stands at a place.

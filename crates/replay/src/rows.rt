@@ -1,2 +1,2 @@
 // No list is as long as this.
-pub const TEXT: usize = 524288;
+pub const TEXT: usize = 1048576;

@@ -1,5 +1,3 @@
-pub mod AnswerRows
 pub mod SweepLoop
-pub mod FinishRows
 pub mod RunDone
 pub mod Sig

@@ -28,12 +28,13 @@ use Rattle.sweep.specs.StepMesh.{Swept}
 use Rattle.step.specs.StepRows.{steppingOf, StepRoom, StepReady, StepLeaves}
 use Rattle.sweep.specs.Run.{Sweeping, sweepAfter, stepAt, answerWords, answerWord}
 use Rattle.sweep.specs.SweepLaws.{sweep-point, sweep-stays, sweep-keeps}
-use Rattle.run.specs.RunRows.{withAnswer, answersBelow, sweepingOf, SweepReady, SweepLeaves}
+use Rattle.answers.specs.AnswerRows.{withWords}
+use Rattle.run.specs.RunRows.{answersBelow, sweepingOf, SweepReady, SweepLeaves}
 
 -- ---- the row with the answers of i points has that of point i too
 words-more : (row old : ℕ → ℕ) (i : ℕ) (step : ℕ → Stepping) (s : Stepping) → step i ≡ s → ((x : ℕ) → row x ≡ answersBelow step i old x)
-    → (x : ℕ) → withAnswer row i (answerOf s) x ≡ answersBelow step (i + 1) old x
-unfolding withAnswer
+    → (x : ℕ) → withWords row i (answerWord (answerOf s)) x ≡ answersBelow step (i + 1) old x
+unfolding withWords
 words-more row old i step s e h x = go (decLt x (answerWords * i)) (decLt x (answerWords * (i + 1)))
   where
     go : Dec (x < answerWords * i) → Dec (x < answerWords * (i + 1))
@@ -185,7 +186,7 @@ module _ {q₀ : List ℤ} {o₀ h₀ a₀ row₀ : List ℕ} {nodes₀ : List N
         pub sweeping-on : r .full ≡ false
             → length q′ ≡ length q → length o′ ≡ length o → length h′ ≡ length h → length a′ ≡ length a → {row′ : List ℕ} → length row′ ≡ length row
             → length nodes′ ≡ length nodes → length freed′ ≡ length freed → length buckets′ ≡ length buckets
-            → (answers′ : List ℕ) → rowOf answers′ ≡ withAnswer (rowOf answers) i (r .answer) → length answers′ ≡ length answers
+            → (answers′ : List ℕ) → rowOf answers′ ≡ withWords (rowOf answers) i (answerWord (r .answer)) → length answers′ ≡ length answers
             → SweepingAt q₀ o₀ h₀ a₀ row₀ nodes₀ freed₀ buckets₀ answers₀ cx cy points count C₀ hull₀ q′ o′ h′ a′ row′ nodes′ freed′ buckets′ answers′ (r .counts) (r .hull) (i + 1)
         unfolding steppingOf
         sweeping-on f lq lo lh la lr ln lf lb answers′ w lw =

@@ -1,13 +1,12 @@
 -- Rows as the states of a run, and what each function asks of them and leaves. Definitions only.
-use mathlib.Core.Bool.{Bool, false, cond, _&&_}
+use mathlib.Core.Bool.{cond}
 use mathlib.Core.List.{List}
 use mathlib.Core.Path.{_≡_}
 use Prim.Native.Nat.{ℕ, suc, _+_, _*_, _/_, _%_, _<_, _≤_}
-use lib.Dec.{eqb, leb, ltb}
+use lib.Dec.{ltb}
 use lib.Ieee.{Float}
 use lib.IntN.{ℤ}
 use lib.ListN.{length}
-use Rattle.convexity.specs.ConvexityRows.{MeshReady}
 use Rattle.corner.specs.CornerRows.{MeshRoom}
 use Rattle.dcel.specs.MeshRows.{MeshRows, meshRows, linksIn, placesIn}
 use Rattle.dcel.specs.Rows.{linksOf, positionOf, rowOf}
@@ -16,24 +15,15 @@ use Rattle.math.specs.Determinant.{InRange}
 use Rattle.mesh.specs.declared.Counts.{Counts}
 use Rattle.ring_rows.specs.declared.Node.{Node}
 use Rattle.ring_rows.specs.declared.Hull.{Hull}
-use Rattle.sweep.specs.declared.Answer.{Answer}
 use Rattle.run.specs.declared.SweepEnd.{SweepEnd}
 use Rattle.sweep.specs.Step.{Stepping, answerOf}
 use Rattle.sweep.specs.Run.{Sweeping, sweepAfter, stepAt, answerWords, answerWord}
 
 -- ---- answers
--- the words of point i's answer are stored
-unfoldable pub withAnswer : (ℕ → ℕ) → ℕ → Answer → ℕ → ℕ
-withAnswer row i r x = cond (eqb (x / answerWords) i) (answerWord r (x % answerWords)) (row x)
-
 -- the answers of the first n points, and what the row held past them
 abbrev pub answersBelow : (ℕ → Stepping) → ℕ → (ℕ → ℕ) → ℕ → ℕ
 answersBelow step n row x =
     cond (ltb x (answerWords * n)) (answerWord (answerOf (step (x / answerWords))) (x % answerWords)) (row x)
-
--- zeros from `from` up to `to`
-pub record Zeroed (row row′ : List ℕ) (from to : ℕ) : Type 0 where
-  pub each : (x : ℕ) → rowOf row′ x ≡ cond (leb from x && ltb x to) 0 (rowOf row x)
 
 -- ---- the steps
 unfoldable pub sweepingOf : MeshRows → SweepEnd → Sweeping
@@ -63,7 +53,3 @@ pub record SweepLeaves (C : Counts) (q : List ℤ) (o h a row answers : List ℕ
   pub is : sweepingOf (meshRows q′ o′ h′ a′) r ≡ sweepAfter (length row) cx cy C (linksOf o h a) (positionOf q) (positionOf points) count
   pub answers-are : (x : ℕ) → rowOf answers′ x
       ≡ answersBelow (stepAt (length row) cx cy C (linksOf o h a) (positionOf q) (positionOf points)) (r .answered) (rowOf answers) x
-
--- ---- the finish
-pub record FinishReady (q : List ℤ) (o h a row : List ℕ) (end : SweepEnd) : Type 0 where
-  pub mesh : end .full ≡ false → MeshReady q o h a row (end .counts)

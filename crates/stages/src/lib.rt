@@ -80,7 +80,7 @@ pub fn steps(
         (ringRows (now (nodes .entry)) (now (freed .entry)) (now (buckets .entry))) (now (pending .entry)) (now (answers .entry))
         center (now (points .entry))) ⌝ }
 {
-    let short = run::answers_short(answers.len(), points);
+    let short = answers::answers_short(answers.len(), points);
     match start::check_sweep(
         points,
         short,

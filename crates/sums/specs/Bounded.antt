@@ -290,3 +290,39 @@ zeros-drop f a v n l z p =
     let b = bit-yes (eqb (f a) 0) (eq-test z) in
     let o = bit-no (eqb (put f a v a) 0) (λ t. let e = eqb→eq (put f a v a) 0 t in let s = put-same f a v in omega arith) in
     omega arith
+
+-- ---- counts of two tests
+bit-imp : (x y : Bool) → (T x → T y) → bit x ≤ bit y
+bit-imp true true k = omega arith
+bit-imp true false k = absurd (k tt)
+bit-imp false y k = omega arith
+
+pub count-imp : (n : ℕ) (s t : ℕ → Bool) → ((i : ℕ) → i < n → T (s i) → T (t i)) → count n s ≤ count n t
+unfolding count
+count-imp zero s t h = omega arith
+count-imp (suc n) s t h = let r = count-imp n s t (λ i l. h i (omega arith)) in let b = bit-imp (s n) (t n) (h n (le-refl (suc n))) in omega arith
+
+-- one passes the second test and not the first
+pub count-less : (n : ℕ) (s t : ℕ → Bool) → ((i : ℕ) → i < n → T (s i) → T (t i)) → {k : ℕ} → k < n → (T (s k) → ⊥)
+    → T (t k) → count n s < count n t
+unfolding count
+count-less zero s t h l a b = absurd (omega arith)
+count-less (suc n) s t h {k} l a b = go (ℕ-discrete k n) (λ m. count-less n s t (λ i l. h i (omega arith)) {k = k} m a b) (count-imp n s t (λ i l. h i (omega arith)))
+  where
+    go : Dec (k ≡ n) → (k < n → count n s < count n t) → count n s ≤ count n t → bit (s n) + count n s < bit (t n) + count n t
+    go (yes e) ih c =
+        let x = bit-no (s n) (λ z. a (subst (λ (j : ℕ). T (s j)) (sym e) z)) in
+        let y = bit-yes (t n) (subst (λ (j : ℕ). T (t j)) e b) in
+        omega arith
+    go (no d) ih c = let x = ih (omega arith) in let y = bit-imp (s n) (t n) (h n (le-refl (suc n))) in omega arith
+
+-- one count of two that exclude each other
+pub count-parts : (n : ℕ) (a b c : ℕ → Bool) → ((i : ℕ) → i < n → bit (c i) ≡ bit (a i) + bit (b i)) → count n c ≡ count n a + count n b
+unfolding count
+count-parts zero a b c h = refl
+count-parts (suc n) a b c h = let k = count-parts n a b c (λ i l. h i (omega arith)) in let m = h n (omega arith) in omega arith
+
+pub count-apart : (n : ℕ) (a b : ℕ → Bool) → ((i : ℕ) → i < n → bit (a i) + bit (b i) ≤ 1) → count n a + count n b ≤ n
+unfolding count
+count-apart zero a b h = omega arith
+count-apart (suc n) a b h = let k = count-apart n a b (λ i l. h i (omega arith)) in let m = h n (omega arith) in omega arith

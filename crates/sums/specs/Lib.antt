@@ -4,6 +4,7 @@ pub mod Cases
 pub mod Bounded
 pub mod Listed
 pub mod Sum
+pub mod SumSign
 pub mod Iterate
 pub mod Half
 pub mod Store
@@ -11,3 +12,4 @@ pub mod Tally
 pub mod Until
 pub mod Usage
 pub mod Orbits
+pub mod Round

@@ -154,3 +154,9 @@ count-change-list n (a ∷ l) low d p q h =
     agree : (i : ℕ) → i < n → None i l → Dec (i ≡ a) → put p a (q a) i ≡ q i
     agree i u o (yes e) = rw e (put-same p a (q a))
     agree i u o (no m) = put-other p a (q a) i m ∙ h i u (m, o)
+
+-- what each step keeps holds along a walk
+pub walk-all : (P : ℕ → Type 0) (f : ℕ → ℕ) → ((x : ℕ) → P x → P (f x)) → (n s : ℕ) → P s → All P (walk n f s)
+unfolding walk
+walk-all P f k zero s h = tt
+walk-all P f k (suc n) s h = (h, walk-all P f k n (f s) (k s h))

@@ -137,3 +137,14 @@ pub until-map : {S S′ : Type 0} (done : S → Bool) (f : S → S) (done′ : S
     → ((s : S) → done s ≡ done′ (h s))
     → ((s : S) → done s ≡ false → h (f s) ≡ f′ (h s)) → (n : ℕ) (s : S) → h (until done f n s) ≡ until done′ f′ n (h s)
 until-map done f done′ f′ h test turn n s = until-related done f done′ f′ (λ s t. h s ≡ t) (λ s t e. test s ∙ ap done′ e) (λ s t e q. turn s q ∙ ap f′ e) n s (h s) refl
+
+-- a loop keeps what each of its turns keeps
+pub until-holds : {S : Type 0} (P : S → Type 0) (done : S → Bool) (f : S → S) → ((s : S) → P s → P (f s))
+    → (n : ℕ) (s : S) → P s → P (until done f n s)
+unfolding until when
+until-holds P done f keeps zero s h = h
+until-holds {S} P done f keeps (suc n) s h = go (until-holds P done f keeps n) (done s)
+  where
+    go : ((s : S) → P s → P (until done f n s)) → (b : Bool) → P (when b (until done f n) f s)
+    go ih true = h
+    go ih false = ih (f s) (keeps s h)

@@ -1,8 +1,9 @@
 -- The calls on a mesh whose vertices have heights: `locate`, `step`, `finish` and `run`. (`check` is heights/Heights `surfaceChecked`.)
 -- Each has the table of the call on the mesh alone, with 10 straight after 3, and does what that call does; a step and a run store the
--- heights of the vertices that they add. Definitions only, and each computes; `SurfaceLaws` and `RunHeights` say what they come to. 02,
--- Change 1: "Every call that carries a vertex carries it through." "Links and fates keep ignoring z."
-use mathlib.Core.Bool.{false, cond}
+-- heights of the vertices that they add, and a run those of the skipped points that it puts in. Definitions only, and each computes;
+-- `SurfaceLaws` and `SurfaceRunLaws` say what they come to. 02, Change 1: "Every call that carries a vertex carries it through." "Links
+-- and fates keep ignoring z."
+use mathlib.Core.Bool.{false, cond, _||_}
 use mathlib.Core.List.{List, [], _∷_}
 use Prim.Native.Nat.{ℕ, zero, suc, _*_}
 use lib.Dec.{ltb}
@@ -18,6 +19,8 @@ use Rattle.decide.specs.declared.Fate.the-variants.{Added, Dropped, NotLeft, Un
 use Rattle.finish.specs.Finish.{FinishOutcome, finishMesh, finishOutcome, seedChecked}
 use Rattle.heights.specs.Heights.{SurfaceRows, surfaceRows, heightOf, heightsIn, heightsLent, heightsChecked}
 use Rattle.locate.specs.Locate.{ringShort, checkStart, checkAngle, placeAt, LocateOutcome, locateOutcome}
+use Rattle.location.specs.declared.PositionInTriangulation.{PositionInTriangulation}
+use Rattle.location.specs.declared.PositionInTriangulation.the-variants.{OnVertex, OnFace, OnEdge, OutsideOfConvexHull}
 use Rattle.math.specs.declared.Point.{Point}
 use Rattle.mesh.specs.declared.Counts.{Counts}
 use Rattle.mesh_check.specs.declared.Checked.{Checked}
@@ -26,7 +29,7 @@ use Rattle.ring.specs.Center.{turnsAbout}
 use Rattle.ring_rows.specs.RingRows.{RingRows}
 use Rattle.start.specs.Start.{sweepRowsShort}
 use Rattle.sums.specs.Put.{put}
-use Rattle.sweep.specs.Run.{answerWords, RunLent, RunOutcome, runChecked, sweepOf, stepsOf, runOutcome}
+use Rattle.sweep.specs.Run.{answerWords, RunLent, RunOutcome, runChecked, sweepOf, stepsOf, skippedOf, passedOf, fillOf, insertOf, runOutcome}
 use Rattle.sweep.specs.Step.{stepMesh}
 use Rattle.sweep.specs.StepCall.{StepOutcome, pointRow, stepChecked, stepOutcome}
 
@@ -52,6 +55,13 @@ heightAdded Dropped z h = h
 heightAdded NotLeft z h = h
 heightAdded Unsound z h = h
 heightAdded AtCenter z h = h
+
+-- a skipped point goes in at its place. 02, Change 2: "on an existing vertex (9: that vertex takes the new height)"
+unfoldable pub heightInserted : Counts → PositionInTriangulation → ℤ → (ℕ → ℤ) → ℕ → ℤ
+heightInserted C (OnFace f) z h = put h (C .vertices) z
+heightInserted C (OnEdge e) z h = put h (C .vertices) z
+heightInserted C (OutsideOfConvexHull e) z h = put h (C .vertices) z
+heightInserted C (OnVertex v) z h = put h v z
 
 -- 01: "All but 9 change nothing lent"; the function has every entry of its row
 unfoldable pub heightsAfter : Checked → List ℤ → (ℕ → ℤ) → List ℤ
@@ -100,11 +110,27 @@ pub record SurfaceRan : Type 0 where
 abbrev pub surfaceRan : RunOutcome → List ℤ → SurfaceRan
 surfaceRan call heights = record { call = call; heights = heights }
 
--- the heights after the first n points, each of height z i: after a refused flip no point follows
+-- the heights after the steps of the first n points, each of height z i: after a refused flip no point follows. The point whose step was
+-- refused one has its vertex in the mesh, and its height
 unfoldable pub sweepHeights : RunLent → (ℕ → ℤ) → (ℕ → ℤ) → ℕ → ℕ → ℤ
 sweepHeights l z h zero = h
 sweepHeights l z h (suc n) =
     cond (sweepOf l n .full) (sweepHeights l z h n) (heightAdded (stepsOf l n .fate) (z n) (sweepHeights l z h n))
+
+-- the same when those of the first n points that the steps skipped have gone in, "in list order": after a refused flip no point follows
+unfoldable pub fillHeights : RunLent → (ℕ → ℤ) → (ℕ → ℤ) → ℕ → ℕ → ℤ
+fillHeights l z h zero = h
+fillHeights l z h (suc n) =
+    cond (fillOf l n .full) (fillHeights l z h n)
+    (cond (skippedOf l n) (heightInserted (fillOf l n .counts) (insertOf l n .place) (z n) (fillHeights l z h n)) (fillHeights l z h n))
+
+-- 02: "After convexity and before the closing pass, points of fates 3, 4 and 5 are inserted": all steps come before them, and where a flip
+-- was refused in a step or in the first convexity passes none goes in
+unfoldable pub runHeights : RunLent → (ℕ → ℤ) → (ℕ → ℤ) → ℕ → ℤ
+runHeights l z h =
+    let n = pointCount (l .points) in
+    let steps = sweepHeights l z h n in
+    cond (sweepOf l n .full || passedOf l .full) steps (fillHeights l z steps n)
 
 -- rows 1, 2, 3, 10, 4, 5, 6 and 7
 unfoldable pub surfaceRunChecked : SurfaceRunLent → Checked
@@ -122,4 +148,4 @@ surfaceRun g =
     let l = g .run in
     let checked = surfaceRunChecked g in
     surfaceRan (runOutcome l checked)
-    (heightsAfter checked (g .heights) (sweepHeights l (heightOf (g .pointHeights)) (heightOf (g .heights)) (pointCount (l .points))))
+    (heightsAfter checked (g .heights) (runHeights l (heightOf (g .pointHeights)) (heightOf (g .heights))))

@@ -1,28 +1,23 @@
 -- The call `run` with heights beside that on the mesh alone, as `SurfaceLaws` has it of the others: its table, its outcome, and the row
 -- of heights that it leaves, as the code makes it from the answers (`run-heights`) and vertex by vertex (`CarriedHeights`). Assumes
 -- nothing.
-use mathlib.Core.Bool.{Bool, true, false, false≢true}
+use mathlib.Core.Bool.{true, false, false≢true}
 use mathlib.Core.List.{List}
 use mathlib.Core.Path.{_≡_, refl, sym, _∙_, ap, subst, subst⁻¹}
 use Prim.Native.Nat.{ℕ, _+_, _*_, _<_, _≤_}
 use native.Mathlib.Omega.{arith}
 use borrow.Author.Tests.{ltb-false, ne-eqb}
-use lib.Dec.{ltb}
+use lib.Dec.{T, ltb}
 use lib.IntN.{ℤ}
 use lib.ListN.{length}
 use Rattle.dcel.specs.MeshRows.{linksIn, placesIn}
 use Rattle.dcel.specs.Rows.{rowFrom}
 use Rattle.dcel.specs.Views.{length-from}
-use Rattle.decide.specs.declared.Fate.the-variants.{Added}
-use Rattle.decide.specs.Decide.{fateNumber, fateVertex}
-use Rattle.finish.specs.declared.FinishAnswer.{FinishAnswer}
 use Rattle.finish.specs.declared.Finished.{Finished}
 use Rattle.finish.specs.declared.Totals.{Totals}
-use Rattle.finish.specs.Finish.{totalsFrom, finishedFrom}
 use Rattle.heights.specs.Heights.{SurfaceRows, heightOf, HeightsLent, heightsLent, HeightsGiven, heightsChecked, heightsTested}
 use Rattle.heights.specs.HeightsLaws.{heights-accept, given-tested, tested-accept}
 use Rattle.locate.specs.Locate.{checkRing, checkStart}
-use Rattle.mesh.specs.declared.Counts.{Counts}
 use Rattle.mesh_check.specs.declared.Checked.{Checked}
 use Rattle.mesh_check.specs.declared.Checked.the-variants.{Accepted, Refused}
 use Rattle.mesh_check.specs.declared.Refusal.{Refusal}
@@ -30,19 +25,17 @@ use Rattle.mesh_check.specs.Check.{andThen, checkWith, pointCount, vertexCount}
 use Rattle.mesh_check.specs.CheckLaws.{NumberedTo, numbered-at, then-accepts}
 use Rattle.start.specs.Start.{sweepRowsShort, sweepChecked}
 use Rattle.start.specs.StartLaws.{sweep-numbered}
-use Rattle.sums.specs.Bit.{from-true}
-use Rattle.sums.specs.Bounded.{count-le, count-before}
-use Rattle.sweep.specs.Step.{isAdded}
-use Rattle.sweep.specs.Run.{finishAfter, answerWords, answerIn, answerWord}
-use Rattle.sweep.specs.Run.{RunLent, RunOutcome, ranWith, runChecked, sweepOf, stepsOf, runFinish, runOutcome, runOf}
-use Rattle.sweep.specs.Demand3.{fateOf, vertexOf, Demand3}
-use Rattle.sweep.specs.RunLaws.{vertex-added, answer-at, answer-none, run-accepts, run-start, run-keeps, run-vertices, run-accepted}
-use Rattle.surface.specs.StoredHeights.{addedAmong, isMade, placeOf, finishedHeights}
-use Rattle.surface.specs.Surface.{heightsAfter, sweepHeights}
-use Rattle.surface.specs.Surface.{SurfaceRunLent, surfaceRunLent, SurfaceRan, surfaceRan, surfaceRunChecked, surfaceRun}
-use Rattle.surface.specs.StoreReady.{StoreReady}
-use Rattle.surface.specs.SurfaceLaws.{own-table, own-refused, heights-after, row-height, row-entry}
-use Rattle.surface.specs.RunHeights.{is-added-one, run-stored, run-place, sweep-kept, sweep-past, sweep-added}
+use Rattle.sweep.specs.Run.{answerWords, RunLent, RunOutcome, ranWith, runChecked, runOutcome, runOf}
+use Rattle.sweep.specs.Demand3.{Demand3}
+use Rattle.sweep.specs.RunLaws.{run-accepts, run-start, run-accepted, run-finishes}
+use Rattle.surface.specs.CarriedHeights.{CarriedHeights, carried-by}
+use Rattle.surface.specs.RunHeights.{run-stored}
+use Rattle.surface.specs.RunVertices.{added-used, inserted-used, last-used}
+use Rattle.surface.specs.StoredLaws.{heights-end}
+use Rattle.surface.specs.StoredHeights.{fateWord, isFrom, vertexWord, answeredHeights, isMade, placeOf, finishedHeights}
+use Rattle.surface.specs.Surface.{heightsAfter, runHeights, SurfaceRunLent, surfaceRunLent, surfaceRan, surfaceRunChecked, surfaceRun}
+use Rattle.surface.specs.StoreReady.{FatesRoom, StoreReady}
+use Rattle.surface.specs.SurfaceLaws.{own-table, own-refused, heights-after}
 
 module _ (g : SurfaceRunLent) where
   abbrev l : RunLent
@@ -88,9 +81,6 @@ module _ (g : SurfaceRunLent) where
   abbrev h : ℕ → ℤ
   h = heightOf (g .heights)
 
-  abbrev fates : ℕ → ℕ
-  fates i = answerIn (runOf l .answers) i 0
-
   table-numbered : NumberedTo 7 (runChecked l)
   unfolding runChecked
   table-numbered = sweep-numbered _ _ _ _ _ _ _ _ _
@@ -98,79 +88,6 @@ module _ (g : SurfaceRunLent) where
   refused-answer : {r : Refusal} → runChecked l ≡ Refused r → runOf l .answer ≡ record { counts = l .counts; finished = Finished.Refused r }
   unfolding runOf runOutcome
   refused-answer k = rw k refl
-
-  module _ (k : runChecked l ≡ Accepted) where
-    room : answerWords * N ≤ length (l .answers)
-    room = ltb-false (length (l .answers)) (answerWords * N) (run-accepts l k .others)
-
-    most : sweepOf l N .answered ≤ N
-    most = run-keeps l k .answered-most
-
-    told : (i : ℕ) → i < sweepOf l N .answered → fates i ≡ fateNumber (stepsOf l i .fate)
-    unfolding runOf runOutcome answerWord
-    told i a = rw k (answer-at (stepsOf l) (sweepOf l N .answered) N (l .answers) room i 0 a (let m = most in omega arith) (omega arith))
-
-    told-vertex : (i : ℕ) → i < sweepOf l N .answered → answerIn (runOf l .answers) i 1 ≡ fateVertex (stepsOf l i .fate)
-    unfolding runOf runOutcome answerWord
-    told-vertex i a = rw k (answer-at (stepsOf l) (sweepOf l N .answered) N (l .answers) room i 1 a (let m = most in omega arith) (omega arith))
-
-    none : (i : ℕ) → sweepOf l N .answered ≤ i → i < N → fates i ≡ 0
-    unfolding runOf runOutcome
-    none i a b = rw k (answer-none (stepsOf l) (sweepOf l N .answered) N (l .answers) room (answerWords * i + 0) (omega arith) (omega arith))
-
-    all-refused : sweepOf l N .full ≡ true → runFinish l .full ≡ true
-    unfolding finishAfter
-    all-refused f = rw f refl
-
-    steps-made : runFinish l .full ≡ false → sweepOf l N .full ≡ false
-    unfolding finishAfter
-    steps-made f = go (sweepOf l N .full) refl
-      where
-        go : (b : Bool) → sweepOf l N .full ≡ b → sweepOf l N .full ≡ false
-        go false q = q
-        go true q = absurd (false≢true (sym f ∙ rw q refl))
-
-    answer-is : runOf l .answer ≡ record { counts = runFinish l .counts; finished = finishedFrom (sweepOf l N .answered) (runFinish l) }
-    unfolding runOf runOutcome
-    answer-is = rw k refl
-
-    refused-is : runFinish l .full ≡ true
-        → finishedFrom (sweepOf l N .answered) (runFinish l) ≡ Finished.Refused (record { number = 9; place = sweepOf l N .answered })
-    unfolding finishedFrom
-    refused-is q = rw q refl
-
-    finished-is : runFinish l .full ≡ false → (t : Totals) × (finishedFrom (sweepOf l N .answered) (runFinish l) ≡ Finished.Accepted t)
-    unfolding finishedFrom
-    finished-is q = (totalsFrom (runFinish l), rw q refl)
-
-    accepted-heights : sweepHeights l z h N ≡ finishedHeights (runOf l .answer) fates (l .counts .vertices) z h N
-    unfolding finishedHeights isMade placeOf
-    accepted-heights = rw answer-is (go (runFinish l .full) refl)
-      where
-        go : (b : Bool) → runFinish l .full ≡ b → sweepHeights l z h N
-            ≡ finishedHeights (record { counts = runFinish l .counts; finished = finishedFrom (sweepOf l N .answered) (runFinish l) })
-            fates (l .counts .vertices) z h N
-        go true q = rw (refused-is q) (run-stored l k z h fates told none (λ f. refl))
-        go false q =
-            rw (finished-is q .1) (run-stored l k z h fates told none (λ f. absurd (false≢true (sym (steps-made q) ∙ f))))
-
-    placed : sweepOf l N .full ≡ true → placeOf (runOf l .answer .finished) ≡ sweepOf l N .answered
-    unfolding placeOf
-    placed f = ap (λ (r : FinishAnswer). placeOf (r .finished)) answer-is ∙ ap placeOf (refused-is (all-refused f))
-
-    answers-same : length (runOf l .answers) ≡ length (l .answers)
-    unfolding runOf runOutcome
-    answers-same = rw k (length-from (length (l .answers)) _)
-
-    vertices-most : runOf l .answer .counts .vertices ≤ l .counts .vertices + N
-    vertices-most =
-        let a = ap (λ (r : FinishAnswer). r .counts .vertices) answer-is in
-        let b = run-vertices l k in
-        let c = run-keeps l k .most in omega arith
-
-    last-place : l .counts .vertices + addedAmong fates N < runOf l .answer .counts .vertices → placeOf (runOf l .answer .finished) < N
-    last-place u =
-        run-place l k z h fates told none placed (subst (λ (r : FinishAnswer). l .counts .vertices + addedAmong fates N < r .counts .vertices) answer-is u)
 
   -- refused by the table of the call on the mesh alone: a number up to 7, and no height is stored
   refused-made : {r : Refusal} → runChecked l ≡ Refused r → isMade (runOf l .answer .finished) ≡ false
@@ -180,32 +97,18 @@ module _ (g : SurfaceRunLent) where
       numbered : r .number ≤ 7
       numbered = numbered-at (subst (NumberedTo 7) k table-numbered) .1
 
-  refused-heights : {r : Refusal} → runChecked l ≡ Refused r → h ≡ finishedHeights (runOf l .answer) fates (l .counts .vertices) z h N
+  refused-heights : {r : Refusal} → runChecked l ≡ Refused r → h ≡ finishedHeights (runOf l .answer) (runOf l .answers) z h N
   unfolding finishedHeights
   refused-heights k = rw (refused-made k) refl
 
   pub run-heights : heightsTested runHeightsLent (l .counts) surfaceOf ≡ Accepted → (row : List ℤ) → length row ≡ length (g .heights)
-      → heightOf row ≡ finishedHeights (runOf l .answer) fates (l .counts .vertices) z h N
+      → heightOf row ≡ finishedHeights (runOf l .answer) (runOf l .answers) z h N
       → surfaceRun g .heights ≡ row
   unfolding surfaceRun
   run-heights e row a b =
-      rw (run-table e) (sym (heights-after (runChecked l) (g .heights) row a (λ r k. b ∙ sym (refused-heights k)) (λ k. b ∙ sym (accepted-heights k))))
+      rw (run-table e) (sym (heights-after (runChecked l) (g .heights) row a (λ r k. b ∙ sym (refused-heights k)) (λ k. b ∙ sym (run-stored l k z h))))
 
--- ---- vertex by vertex, as a caller finds it: the vertices' heights are carried through
-pub record CarriedHeights (g : SurfaceRunLent) (w : SurfaceRan) : Type 0 where
-  -- the seed's vertices keep their heights,
-  pub seed : (u : ℕ) → u < g .run .counts .vertices → heightOf (w .heights) u ≡ heightOf (g .heights) u
-  -- each added vertex has that of its point,
-  pub added : (i : ℕ) → i < pointCount (g .run .points) → fateOf (w .call) i ≡ 1
-      → heightOf (w .heights) (vertexOf (w .call) i) ≡ heightOf (g .pointHeights) i
-  -- and entries past the counts in use are untouched
-  pub past : (u : ℕ) → w .call .answer .counts .vertices ≤ u → heightOf (w .heights) u ≡ heightOf (g .heights) u
-  pub length-same : length (w .heights) ≡ length (g .heights)
-
-vertex-fits : (C : Counts) (points : List ℤ) {v n a b : ℕ} → vertexCount C points ≤ n → v ≡ C .vertices + a → a < b → b ≤ pointCount points → v < n
-unfolding vertexCount
-vertex-fits C points r e c m = omega arith
-
+-- ---- where no refusal number is answered
 module _ (g : SurfaceRunLent) (t : Totals) (q : surfaceRun g .call .answer .finished ≡ Finished.Accepted t) where
   refused-finished : {r : Refusal} → surfaceRunChecked g ≡ Refused r → surfaceRun g .call .answer .finished ≡ Finished.Refused r
   unfolding surfaceRun runOutcome
@@ -217,7 +120,7 @@ module _ (g : SurfaceRunLent) (t : Totals) (q : surfaceRun g .call .answer .fini
     where
       go : (c : Checked) → surfaceRunChecked g ≡ c → surfaceRunChecked g ≡ Accepted
       go Accepted k = k
-      go (Refused r) k = absurd (let w = sym (refused-finished k) ∙ q in let z : _≡_ {A = ℕ} 0 1 = cc in omega arith)
+      go (Refused r) k = absurd (let w = sym (refused-finished k) ∙ q in let y : _≡_ {A = ℕ} 0 1 = cc in omega arith)
 
   parts : (heightsChecked (runHeightsLent g) (g .run .counts) (surfaceOf g) ≡ Accepted) × (runChecked (g .run) ≡ Accepted)
   unfolding surfaceRunChecked
@@ -227,60 +130,46 @@ module _ (g : SurfaceRunLent) (t : Totals) (q : surfaceRun g .call .answer .fini
   unfolding surfaceRun runOf
   own-run = rw (checked, parts .1) refl
 
+  run-answer : runOf (g .run) .answer .finished ≡ surfaceRun g .call .answer .finished
+  run-answer = ap (λ (r : RunOutcome). r .answer .finished) (sym own-run)
+
   pub surface-demand-3 : Demand3 (g .run) (surfaceRun g .call) t
   surface-demand-3 =
       subst⁻¹ (λ (r : RunOutcome). Demand3 (g .run) r t) own-run
-      (run-accepted (g .run) t (ap (λ (r : RunOutcome). r .answer .finished) (sym own-run) ∙ q) .0)
+      (run-accepted (g .run) t (run-answer ∙ q) .0)
 
-  -- ---- the heights
-  abbrev hs : ℕ → ℤ
-  hs = sweepHeights (g .run) (heightOf (g .pointHeights)) (heightOf (g .heights)) (pointCount (g .run .points))
+  -- ---- the heights are those that the answers store
+  made : isMade (runOf (g .run) .answer .finished) ≡ true
+  unfolding isMade
+  made = ap isMade (run-answer ∙ q)
 
-  heights-are : surfaceRun g .heights ≡ rowFrom (length (g .heights)) hs
+  ended : placeOf (N g) (runOf (g .run) .answer .finished) ≡ N g
+  unfolding placeOf
+  ended = ap (placeOf (N g)) (run-answer ∙ q)
+
+  row-is : surfaceRun g .heights ≡ rowFrom (length (g .heights)) (runHeights (g .run) (z g) (h g))
   unfolding surfaceRun heightsAfter
-  heights-are = rw checked refl
+  row-is = rw checked refl
 
-  counts-are : surfaceRun g .call .answer .counts ≡ runFinish (g .run) .counts
-  unfolding runOf runOutcome
-  counts-are = ap (λ (r : RunOutcome). r .answer .counts) own-run ∙ rw (parts .1) refl
+  heights-are : surfaceRun g .heights
+      ≡ rowFrom (length (g .heights)) (answeredHeights (surfaceRun g .call .answers) (z g) (h g) (N g))
+  heights-are =
+      row-is
+      ∙ ap (rowFrom (length (g .heights)))
+      (run-stored (g .run) (parts .1) (z g) (h g)
+      ∙ heights-end (runOf (g .run) .answer) (runOf (g .run) .answers) (z g) (h g) (N g) made ended
+      ∙ ap (λ (r : RunOutcome). answeredHeights (r .answers) (z g) (h g) (N g)) (sym own-run))
 
-  steps-whole : sweepOf (g .run) (pointCount (g .run .points)) .full ≡ false
-  steps-whole = steps-made g (parts .1) (go (runFinish (g .run) .full) refl)
-    where
-      go : (b : Bool) → runFinish (g .run) .full ≡ b → runFinish (g .run) .full ≡ false
-      go false f = f
-      go true f =
-          absurd (let w = sym (refused-is g (parts .1) f) ∙ sym (ap (λ (r : FinishAnswer). r .finished) (answer-is g (parts .1)))
-          ∙ ap (λ (r : RunOutcome). r .answer .finished) (sym own-run) ∙ q in let z : _≡_ {A = ℕ} 0 1 = cc in omega arith)
-
-  -- the answer of a point that was added
-  fate-added : (i : ℕ) → i < pointCount (g .run .points) → fateOf (surfaceRun g .call) i ≡ 1
-      → stepsOf (g .run) i .fate ≡ Added (vertexOf (surfaceRun g .call) i)
-  fate-added i k e =
-      let a = run-keeps (g .run) (parts .1) .answered steps-whole in
-      let f = told g (parts .1) i (omega arith) in
-      let v = told-vertex g (parts .1) i (omega arith) in
-      rw own-run (vertex-added (stepsOf (g .run) i .fate) (sym f ∙ rw own-run at e) ∙ ap Added (sym v))
+  most : surfaceRun g .call .answer .counts .vertices ≤ length (g .heights)
+  unfolding vertexCount
+  most =
+      let a = heights-accept (runHeightsLent g) (g .run .counts) (surfaceOf g) (parts .0) .vertices in
+      let b = run-finishes (g .run) t (run-answer ∙ q) .most in
+      let e = ap (λ (r : RunOutcome). r .answer .counts .vertices) own-run in
+      omega arith
 
   pub carried-heights : CarriedHeights g (surfaceRun g)
-  carried-heights =
-      let l = g .run in
-      let n = pointCount (l .points) in
-      let z = heightOf (g .pointHeights) in
-      let h = heightOf (g .heights) in
-      let A = heights-accept (runHeightsLent g) (l .counts) (surfaceOf g) (parts .0) in
-      record {
-        seed = λ u k. rw heights-are (row-height (g .heights) hs u (sweep-kept l (parts .1) z h u k));
-        added = λ i k e.
-            let w = fate-added i k e in
-            let b = run-keeps l (parts .1) .added steps-whole i _ k w .0 in
-            let c = count-before i n (λ j. isAdded (stepsOf l j .fate)) k (from-true (ap isAdded w ∙ is-added-one _)) in
-            let m = count-le n (λ j. isAdded (stepsOf l j .fate)) in
-            let r = A .vertices in
-            rw heights-are (row-entry (length (g .heights)) hs _ (vertex-fits (l .counts) (l .points) r b c m) ∙ sweep-added l (parts .1) z h steps-whole i _ k w);
-        past = λ u k. rw heights-are (row-height (g .heights) hs u (sweep-past l (parts .1) z h u (subst (λ (C : Counts). C .vertices ≤ u) counts-are k)));
-        length-same = rw heights-are (length-from (length (g .heights)) hs);
-      }
+  carried-heights = carried-by g (surfaceRun g) t surface-demand-3 heights-are most
 
 -- ---- links and fates ignore heights: two runs that differ in heights alone
 pub run-ignores : (l : RunLent) (heights pointHeights heights′ pointHeights′ : List ℤ)
@@ -303,17 +192,38 @@ module _ (g : SurfaceRunLent) (e : heightsTested (runHeightsLent g) (g .run .cou
       go Accepted k = k
       go (Refused r) k = absurd (false≢true (sym (refused-made g k) ∙ m))
 
-  pub store-ready : StoreReady (l₁ .counts .vertices) (pointCount (l₁ .points)) (length (g .heights)) (length (g .pointHeights))
-      (runOf l₁ .answers) (runOf l₁ .answer)
+  answers-same : runChecked l₁ ≡ Accepted → length (runOf l₁ .answers) ≡ length (l₁ .answers)
+  unfolding runOf runOutcome
+  answers-same k = rw k (length-from (length (l₁ .answers)) _)
+
+  -- the rows have room for what the answers name
+  rooms : (low high : ℕ) (k : runChecked l₁ ≡ Accepted)
+      → ((i : ℕ) → i < pointCount (l₁ .points) → T (isFrom low high (fateWord (runOf l₁ .answers) i))
+      → vertexWord (runOf l₁ .answers) i < l₁ .counts .vertices + pointCount (l₁ .points))
+      → FatesRoom low high (length (g .heights)) (length (g .pointHeights)) (runOf l₁ .answers) (pointCount (l₁ .points))
+  unfolding vertexCount
+  rooms low high k used i a =
+      let A = tested-accept (runHeightsLent g) (l₁ .counts) (surfaceOf g) e in
+      let v = A .vertices in let p = A .points in
+      let r = ltb-false (length (l₁ .answers)) (answerWords * pointCount (l₁ .points)) (run-accepts l₁ k .others) in
+      let n = answers-same k in
+      let s = run-start l₁ k .mesh .most in
+      record {
+        answer = omega arith;
+        height = omega arith;
+        vertex = λ t. let u = used i a t in omega arith;
+        small = λ t. let u = used i a t in omega arith;
+      }
+
+  pub store-ready : StoreReady (pointCount (l₁ .points)) (length (g .heights)) (length (g .pointHeights)) (runOf l₁ .answers) (runOf l₁ .answer)
   unfolding vertexCount
   store-ready =
       let A = tested-accept (runHeightsLent g) (l₁ .counts) (surfaceOf g) e in
+      let v = A .vertices in
       record {
-        room = λ m.
-            let k = made-checked m in
-            let a = A .vertices in let b = A .points in let c = room g k in let d = answers-same g k in
-            let s = run-start l₁ k .mesh .most in
-            record { heights-room = a; points-room = b; answers-room = omega arith; small = s };
-        most = λ m. vertices-most g (made-checked m);
-        place = λ m u. last-place g (made-checked m) u;
+        few = λ m. let s = run-start l₁ (made-checked m) .mesh .most in omega arith;
+        points = λ m. A .points;
+        added = λ m. let k = made-checked m in rooms 1 1 k (added-used l₁ k);
+        inserted = λ m. let k = made-checked m in rooms 6 9 k (inserted-used l₁ k);
+        last = λ m a. let u = last-used l₁ (made-checked m) a in (u .0, let w = u .1 in omega arith);
       }

@@ -1,23 +1,23 @@
 // What the calls with heights do besides the calls on the mesh alone. Before: the rows of the table up to 10, where a height may refuse.
-// After: the heights of the vertices that a step or a run has added, which are numbered in the order in which they are added, so that the
-// counts and the answers say which is whose. What each function answers or leaves is an equation with a definition of
-// `specs/Surface.antt` or of `heights`.
+// After: the heights of the vertices that a step or a run has added, and those that skipped points have given to vertices; the counts and
+// the answers say which is whose. What each function answers or leaves is an equation with a definition of `specs/StoredHeights.antt` or
+// of `heights`.
 ghost use mathlib.Core.Bool.{false, cond};
 ghost use mathlib.Core.List.{[], _∷_};
 ghost use mathlib.Core.Path.{_≡_};
-ghost use Prim.Native.Nat.{_+_, _<_};
-ghost use lib.Dec.{ltb, eqb};
+ghost use Prim.Native.Nat.{_+_, _*_, _<_, _≤_};
+ghost use lib.Dec.{ltb};
 ghost use lib.ListN.{length};
 ghost use Rattle.dcel.specs.MeshRows.{meshRows};
 ghost use Rattle.heights.specs.Heights.{surfaceRows, heightOf, heightsLent, heightsTested};
 ghost use Rattle.locate.specs.Locate.{ringRowsShort};
 ghost use Rattle.mesh_check.specs.Check.{pointCount, vertexCount};
 ghost use Rattle.start.specs.Start.{sweepRowsShort};
-ghost use Rattle.sums.specs.Bit.{bit};
 ghost use Rattle.sums.specs.Put.{put};
+ghost use Rattle.sweep.specs.Run.{answerWords};
 ghost use Rattle.sweep.specs.StepCall.{pointRow};
-ghost use Rattle.surface.specs.StoreReady.{AddedRoom, StoreRoom, StoreReady};
-ghost use Rattle.surface.specs.StoredHeights.{heightStored, fateWord, addedAmong, answeredHeights, isMade, placeOf, finishedHeights};
+ghost use Rattle.surface.specs.StoreReady.{FateRoom, FatesRoom, StoreReady};
+ghost use Rattle.surface.specs.StoredHeights.{heightStored, fateWord, vertexWord, isFrom, storedFrom, isMade, placeOf, finishedHeights};
 use finish::FinishAnswer;
 use finish::Finished;
 use math::Point;
@@ -172,42 +172,55 @@ pub fn store_height(heights: &mut [i32], before: u32, after: u32, z: i32)
     }
 }
 
-// The height of point i, where its answer says that it was added, for vertex v. The vertex of the next.
-fn store_added(heights: &mut [i32], answers: &[u64], point_heights: &[i32], v: u32, i: u32) -> u32
-    requires { ⌜ AddedRoom (length (now heights)) (length (now answers)) (length (now «point_heights»)) v i ⌝ }
-    ensures next { λ r. ⌜ r ≡ v + bit (eqb (fateWord (now (answers .entry)) i) 1) ⌝ }
-    ensures stored { λ r. ⌜ heightOf (now (heights .exit)) ≡ cond (eqb (fateWord (now (answers .entry)) i) 1)
-        (put (heightOf (now (heights .entry))) v (heightOf (now («point_heights» .entry)) i)) (heightOf (now (heights .entry))) ⌝ }
+// Whether the fate of point i is from `low` to `high`.
+fn has_fate(answers: &[u64], low: u64, high: u64, i: u32) -> bool
+    requires { ⌜ answerWords * i < length (now answers) ⌝ }
+    ensures { λ r. ⌜ r ≡ isFrom low high (fateWord (now (answers .entry)) i) ⌝ }
 {
-    let at = ANSWER_WORDS * (i as usize);
-    if answers[at] != 1 {
-        return v;
-    }
-    let z = heights::height(point_heights, i);
-    heights::set_height(heights, v, z);
-    v + 1
+    let fate = answers[ANSWER_WORDS * (i as usize)];
+    low <= fate && fate <= high
 }
 
-// The heights of the points that were added, by the fates in their answers. The number of vertices that then have one.
-fn store_heights(
+// The height of point i for the vertex in its answer, if its fate is from `low` to `high`.
+fn store_fate(
     heights: &mut [i32],
     answers: &[u64],
     point_heights: &[i32],
-    seed: u32,
+    low: u64,
+    high: u64,
+    i: u32,
+)
+    requires { ⌜ FateRoom low high (length (now heights)) (length (now «point_heights»)) (now answers) i ⌝ }
+    ensures { λ r. ⌜ heightOf (now (heights .exit)) ≡ cond (isFrom low high (fateWord (now (answers .entry)) i))
+        (put (heightOf (now (heights .entry))) (vertexWord (now (answers .entry)) i) (heightOf (now («point_heights» .entry)) i))
+        (heightOf (now (heights .entry))) ⌝ }
+{
+    if !has_fate(answers, low, high, i) {
+        return;
+    }
+    let v = answers[ANSWER_WORDS * (i as usize) + 1] as u32;
+    let z = heights::height(point_heights, i);
+    heights::set_height(heights, v, z);
+}
+
+// The heights of those of the first n points whose fates are from `low` to `high`, in list order, each for the vertex in its answer.
+fn store_fates(
+    heights: &mut [i32],
+    answers: &[u64],
+    point_heights: &[i32],
+    low: u64,
+    high: u64,
     n: u32,
-) -> u32
-    requires { ⌜ StoreRoom seed n (length (now heights)) (length (now «point_heights»)) (now answers) ⌝ }
-    ensures counted { λ r. ⌜ r ≡ seed + addedAmong (fateWord (now (answers .entry))) n ⌝ }
-    ensures stored { λ r. ⌜ heightOf (now (heights .exit)) ≡ answeredHeights (fateWord (now (answers .entry))) seed
+)
+    requires { ⌜ FatesRoom low high (length (now heights)) (length (now «point_heights»)) (now answers) n ⌝ }
+    ensures { λ r. ⌜ heightOf (now (heights .exit)) ≡ storedFrom low high (now (answers .entry))
         (heightOf (now («point_heights» .entry))) (heightOf (now (heights .entry))) n ⌝ }
 {
-    let mut v = seed;
     let mut i: u32 = 0;
     while i < n {
-        v = store_added(heights, answers, point_heights, v, i);
+        store_fate(heights, answers, point_heights, low, high, i);
         i += 1;
     }
-    v
 }
 
 // The steps of a run were made: it is accepted, or refused 9.
@@ -220,27 +233,27 @@ fn is_made(finished: Finished) -> bool
     }
 }
 
-// The place that a refused run names, else 0.
-fn place_of(finished: Finished) -> u32
-    ensures { λ r. ⌜ r ≡ placeOf finished ⌝ }
+// The point at which a run of n points was refused a flip, else n.
+fn place_of(n: u32, finished: Finished) -> u32
+    ensures { λ r. ⌜ r ≡ placeOf n finished ⌝ }
 {
     match finished {
-        Finished::Accepted(totals) => 0,
+        Finished::Accepted(totals) => n,
         Finished::Refused(refusal) => refusal.place,
     }
 }
 
-// The heights after a run. One that was refused a flip in a step has that point's vertex in the mesh, and no answer for it.
+// The heights after a run: of the points that its steps added, then of the skipped points that it put in, since one of these may be on a
+// vertex that a later point's step added. The point that was refused a flip has the last vertex in the mesh, and no answer.
 pub fn store_run(
     heights: &mut [i32],
     answers: &[u64],
     point_heights: &[i32],
     points: &[i32],
-    seed: u32,
     answer: FinishAnswer,
 )
-    requires { ⌜ StoreReady seed (pointCount (now points)) (length (now heights)) (length (now «point_heights»)) (now answers) answer ⌝ }
-    ensures { λ r. ⌜ heightOf (now (heights .exit)) ≡ finishedHeights answer (fateWord (now (answers .entry))) seed
+    requires { ⌜ StoreReady (pointCount (now points)) (length (now heights)) (length (now «point_heights»)) (now answers) answer ⌝ }
+    ensures { λ r. ⌜ heightOf (now (heights .exit)) ≡ finishedHeights answer (now (answers .entry))
         (heightOf (now («point_heights» .entry))) (heightOf (now (heights .entry))) (pointCount (now (points .entry))) ⌝ }
 {
     let finished = answer.finished;
@@ -249,10 +262,11 @@ pub fn store_run(
         return;
     }
     let n = mesh_check::point_count(points) as u32;
-    let v = store_heights(heights, answers, point_heights, seed, n);
-    if v < counts.vertices {
-        let place = place_of(finished);
+    store_fates(heights, answers, point_heights, 1, 1, n);
+    store_fates(heights, answers, point_heights, 6, 9, n);
+    let place = place_of(n, finished);
+    if place < n {
         let z = heights::height(point_heights, place);
-        heights::set_height(heights, v, z);
+        heights::set_height(heights, counts.vertices - 1, z);
     }
 }

@@ -11,4 +11,5 @@ pub mod Run
 pub mod SeedTriangle
 pub mod SweepLaws
 pub mod Demand3
+pub mod RunFates
 pub mod RunLaws

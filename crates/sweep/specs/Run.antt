@@ -1,7 +1,7 @@
--- The call `run`: the seed's ring, all steps in list order, the finish. Definitions only, and each computes; `Demand3` says what a finished
--- run means.
+-- The call `run`: the seed's ring, all steps in list order, the finish with the points that the steps skipped. Definitions only, and each
+-- computes; `Demand3` says what a finished run means.
 -- `point` gives each point of the list its position, by its index; `room` is the number of pending entries.
-use mathlib.Core.Bool.{Bool, true, false, cond}
+use mathlib.Core.Bool.{Bool, true, false, cond, _&&_}
 use mathlib.Core.List.{List}
 use Prim.Native.Nat.{ℕ, zero, suc, _+_, _*_, _/_, _%_}
 use lib.Dec.{ltb}
@@ -9,18 +9,24 @@ use lib.Ieee.{Float}
 use lib.IntN.{ℤ}
 use lib.ListN.{length, replicate}
 use Rattle.angle.specs.declared.Point2.{Point2}
+use Rattle.convexity.specs.Convexity.{convexity}
+use Rattle.corner.specs.Corner.{Extended}
 use Rattle.dcel.specs.MeshRows.{MeshRows, linksIn, placesIn, meshRowsFrom}
 use Rattle.dcel.specs.Rows.{positionOf, rowOf, rowFrom}
+use Rattle.decide.specs.declared.Fate.{Fate}
+use Rattle.decide.specs.declared.Fate.the-variants.{Added, Dropped, NotLeft, Unsound, AtCenter}
 use Rattle.decide.specs.Decide.{fateNumber, fateVertex}
 use Rattle.finish.specs.declared.FinishAnswer.{FinishAnswer}
 use Rattle.finish.specs.declared.Finished.{Finished}
-use Rattle.finish.specs.Finish.{Finishing, finishMesh, finishedFrom}
+use Rattle.finish.specs.Finish.{finishedFrom}
 use Rattle.math.specs.declared.Point.{Point}
 use Rattle.mesh.specs.declared.Counts.{Counts}
 use Rattle.mesh.specs.Mesh.{Links}
 use Rattle.mesh_check.specs.declared.Checked.{Checked}
 use Rattle.mesh_check.specs.Check.{pointCount}
 use Rattle.ring_rows.specs.RingRows.{RingRows, ringZeros}
+use Rattle.skipped.specs.Insert.{Inserting}
+use Rattle.skipped.specs.Fill.{Filling, fillAfter, insertOn, insertWord, Completing, completeMesh}
 use Rattle.start.specs.Start.{sweepChecked}
 use Rattle.sweep.specs.declared.Answer.{Answer}
 use Rattle.sweep.specs.Step.{Stepping, answerOf, stepMesh}
@@ -64,13 +70,26 @@ sweepAfter room cx cy C L p point (suc n) = sweepPoint room cx cy (sweepAfter ro
 abbrev pub stepAt : ℕ → Float → Float → Counts → Links → (ℕ → Point) → (ℕ → Point) → ℕ → Stepping
 stepAt room cx cy C L p point i = stepOn room cx cy (sweepAfter room cx cy C L p point i) (point i)
 
--- ---- the finish
+-- ---- the finish, with the skipped points
+-- 02, Change 2: "points of fates 3, 4 and 5 are inserted in list order"
+unfoldable pub isSkipped : Fate → Bool
+isSkipped (Added v) = false
+isSkipped Dropped = false
+isSkipped NotLeft = true
+isSkipped Unsound = true
+isSkipped AtCenter = true
+
 -- 01: "the finish gets the mesh that then stands"; after a refused flip there is none
-unfoldable pub finishAfter : ℕ → Sweeping → Finishing
-finishAfter room s =
+unfoldable pub completeAfter : ℕ → Sweeping → (ℕ → Bool) → (ℕ → Point) → ℕ → Completing
+completeAfter room s skipped point n =
     cond (s .full)
-    (record { counts = s .counts; links = s .links; faces = 0; convexflips = 0; closingflips = 0; full = true })
-    (finishMesh room (s .counts) (s .positions) (s .links))
+    (record {
+      mesh = record { counts = s .counts; links = s .links; faces = 0; convexflips = 0; closingflips = 0; full = true };
+      positions = s .positions;
+      place = s .answered;
+      inserted = 0;
+    })
+    (completeMesh room (s .counts) (s .links) (s .positions) skipped point n)
 
 -- ---- the answers row
 -- 01: "one answer (fate, vertex, faces, flips) per point": so many words
@@ -92,6 +111,14 @@ unfoldable pub answersAfter : (ℕ → Stepping) → ℕ → ℕ → (ℕ → �
 answersAfter step answered count row x =
     cond (ltb x (answerWords * count))
     (cond (ltb (x / answerWords) answered) (answerWord (answerOf (step (x / answerWords))) (x % answerWords)) 0)
+    (row x)
+
+-- the same after the finish, where `answer` gives the words of the skipped points; of these, those below `inserted` are in.
+-- 02: "after any 9 a skipped point not yet in answers 0, and from convexity on the rest stand"
+unfoldable pub completedAnswers : (ℕ → ℕ → ℕ) → (ℕ → Bool) → ℕ → ℕ → (ℕ → ℕ) → ℕ → ℕ
+completedAnswers answer skipped inserted count row x =
+    cond (ltb x (answerWords * count) && skipped (x / answerWords))
+    (cond (ltb (x / answerWords) inserted) (answer (x / answerWords) (x % answerWords)) 0)
     (row x)
 
 -- ---- the call
@@ -144,23 +171,52 @@ stepsOf l i =
     stepAt (length (l .pending)) (l .center .x) (l .center .y)
     (l .counts) (linksIn (l .mesh)) (placesIn (l .mesh)) (positionOf (l .points)) i
 
--- the finish after the last
-abbrev pub runFinish : RunLent → Finishing
-runFinish l = finishAfter (length (l .pending)) (sweepOf l (pointCount (l .points)))
+-- whether the step of point i skipped it
+abbrev pub skippedOf : RunLent → ℕ → Bool
+skippedOf l i = isSkipped (stepsOf l i .fate)
 
--- 01: "All but 9 change nothing lent"; "9 answers the point's index (.. the point count in a finish within a run ..)": as many as have been
--- answered. "After 9 and after every accepted call the ring, freed, bucket and pending rows hold zeros, and mesh and answer entries past
--- the counts in use are untouched": the functions have every entry of their rows
+-- the finish after the last
+abbrev pub runCompletes : RunLent → Completing
+runCompletes l =
+    let n = pointCount (l .points) in
+    completeAfter (length (l .pending)) (sweepOf l n) (skippedOf l) (positionOf (l .points)) n
+
+-- the mesh after the last step and the first convexity passes, and when point i goes in
+abbrev pub passedOf : RunLent → Extended
+passedOf l =
+    let s = sweepOf l (pointCount (l .points)) in
+    convexity (length (l .pending)) (s .counts) (s .positions) (s .links)
+
+abbrev pub fillOf : RunLent → ℕ → Filling
+fillOf l i =
+    fillAfter (length (l .pending)) (passedOf l .counts) (passedOf l .links) (sweepOf l (pointCount (l .points)) .positions)
+    (skippedOf l) (positionOf (l .points)) i
+
+-- the insertion of point i, which was skipped, and its answer
+abbrev pub insertOf : RunLent → ℕ → Inserting
+insertOf l i = insertOn (length (l .pending)) (fillOf l i) (positionOf (l .points) i)
+
+abbrev pub insertedWord : RunLent → ℕ → ℕ → ℕ
+insertedWord l i k = insertWord (fillOf l i .counts) (insertOf l i) k
+
+-- the answers row of a run
+abbrev pub runAnswers : RunLent → ℕ → ℕ
+runAnswers l =
+    let n = pointCount (l .points) in
+    completedAnswers (insertedWord l) (skippedOf l) (runCompletes l .inserted) n
+    (answersAfter (stepsOf l) (sweepOf l n .answered) n (rowOf (l .answers)))
+
+-- 01: "All but 9 change nothing lent"; "9 answers the point's index (.. the point count in a finish within a run ..)"; 02: "A 9 met here
+-- names that point's index". 01: "After 9 and after every accepted call the ring, freed, bucket and pending rows hold zeros, and mesh and
+-- answer entries past the counts in use are untouched": the functions have every entry of their rows
 unfoldable pub runOutcome : RunLent → Checked → RunOutcome
 runOutcome l (Checked.Refused r) =
     ranWith (record { counts = l .counts; finished = Finished.Refused r }) (l .mesh) (l .ring) (l .pending) (l .answers)
 runOutcome l Checked.Accepted =
-    let n = pointCount (l .points) in
-    let s = sweepOf l n in
-    let f = runFinish l in
-    ranWith (record { counts = f .counts; finished = finishedFrom (s .answered) f })
-    (meshRowsFrom (l .mesh) (f .links) (s .positions)) (ringZeros (l .ring)) (replicate (length (l .pending)) 0)
-    (rowFrom (length (l .answers)) (answersAfter (stepsOf l) (s .answered) n (rowOf (l .answers))))
+    let c = runCompletes l in
+    ranWith (record { counts = c .mesh .counts; finished = finishedFrom (c .place) (c .mesh) })
+    (meshRowsFrom (l .mesh) (c .mesh .links) (c .positions)) (ringZeros (l .ring)) (replicate (length (l .pending)) 0)
+    (rowFrom (length (l .answers)) (runAnswers l))
 
 -- THE RUN, for whatever is lent
 unfoldable pub runOf : RunLent → RunOutcome

@@ -1,23 +1,21 @@
 -- THE THEOREM of the whole run, for every seed, centre and list of points: a run that is answered with no refusal number meets demand 3;
--- one that is refused 9 leaves earlier answers and a good mesh; and one that is refused another number changes nothing. Assumes nothing.
-use mathlib.Core.Bool.{Bool, true, false, cond, not, false≢true}
+-- one that is refused 9 leaves a good mesh and the answers that stand; and one that is refused another number changes nothing.
+-- Assumes nothing.
+use mathlib.Core.Bool.{Bool, true, false, cond, not, false≢true, _&&_}
 use mathlib.Core.List.{List}
 use mathlib.Core.Logic.{_⊎_, inl, inr}
-use mathlib.Core.Path.{_≡_, refl, sym, _∙_, ap, ap₂, subst, subst⁻¹, fun-ext}
-use Prim.Native.Nat.{ℕ, zero, suc, _+_, _-_, _*_, _/_, _%_, _<_, _≤_}
+use mathlib.Core.Path.{_≡_, refl, sym, _∙_, ap, ap₂, subst, subst⁻¹}
+use Prim.Native.Nat.{ℕ, _+_, _*_, _/_, _%_, _<_, _≤_}
 use native.Mathlib.Decide.{decLt}
 use native.Mathlib.Omega.{arith}
 use borrow.Author.Tests.{lt-ltb, le-ltb, ltb-false, eq-eqb}
-use lib.Dec.{T, ltb, eqb, le→leb}
-use lib.Ieee.{Float}
-use lib.IntN.{ℤ, pos, natAbs, _-ℤ_, +ℤ-negℤ-cancel}
+use lib.Dec.{T, ltb, eqb}
+use lib.IntN.{pos, _-ℤ_}
 use lib.ListN.{length, getD, replicate, List·getD-eq-default}
-use lib.Signed.{_≤ℤ_, leZ-yes}
-use Rattle.algebra.specs.Order.{abs-0≤}
+use lib.Signed.{_≤ℤ_}
 use Rattle.closing.specs.Closing.{Closing, closingPass}
-use Rattle.convexity.specs.Convexity.{convexity, NoLeftCorner}
-use Rattle.convexity.specs.ConvexityLaws.{convexity-good}
-use Rattle.corner.specs.Untouched.{Untouched, Grown, untouched-join}
+use Rattle.convexity.specs.Convexity.{NoLeftCorner}
+use Rattle.corner.specs.Untouched.{Untouched, untouched-join}
 use Rattle.dcel.specs.MeshRows.{linksIn, placesIn, meshRowsFrom}
 use Rattle.dcel.specs.Rows.{positionOf, rowOf, rowFrom}
 use Rattle.dcel.specs.Views.{length-from, getD-from}
@@ -27,22 +25,17 @@ use Rattle.decide.specs.Decide.{fateNumber, fateVertex}
 use Rattle.finish.specs.declared.Finished.{Finished}
 use Rattle.finish.specs.declared.Totals.{Totals}
 use Rattle.finish.specs.CallLeavesLaws.{in-rows, call-leaves}
-use Rattle.finish.specs.Finish.{Finishing, finishMesh, totalsFrom, finishedFrom}
-use Rattle.finish.specs.MeshLaws.{finish-flips, finish-good, finish-counts, finish-fall, finish-untouched, finish-closing, finish-convex, finish-settled}
+use Rattle.finish.specs.Finish.{totalsFrom, finishedFrom}
 use Rattle.locate.specs.Start.{AcceptedStart}
 use Rattle.math.specs.declared.Point.{Point}
 use Rattle.math.specs.Determinant.{InRange}
 use Rattle.mesh.specs.declared.Counts.{Counts}
 use Rattle.mesh.specs.Mesh.{Links}
-use Rattle.mesh.specs.Area.{LeftTurning, areaTotal, boundaryArea, heightSum}
-use Rattle.mesh.specs.AreaLaws.{area-theorem}
-use Rattle.mesh.specs.Circle.{LocallyDelaunay, Settled}
+use Rattle.mesh.specs.Area.{heightSum}
+use Rattle.mesh.specs.Circle.{Settled}
 use Rattle.mesh.specs.CircleLaws.{settled-far}
-use Rattle.mesh.specs.CountsLaws.{count-edges, count-faces}
-use Rattle.mesh.specs.FlipRun.{FlipRun, run-good}
-use Rattle.mesh.specs.HeightLaws.{heights-nonneg}
+use Rattle.mesh.specs.FlipRun.{FlipRun}
 use Rattle.mesh.specs.Good.{Good}
-use Rattle.mesh.specs.Wf.{Wf}
 use Rattle.mesh_check.specs.declared.Checked.{Checked}
 use Rattle.mesh_check.specs.declared.Refusal.{Refusal}
 use Rattle.mesh_check.specs.Check.{pointCount, vertexCount}
@@ -51,13 +44,19 @@ use Rattle.ring.specs.Boundary.{strict-ring}
 use Rattle.ring.specs.Center.{turnsAbout}
 use Rattle.ring_rows.specs.RingRows.{ringZeros}
 use Rattle.start.specs.StartLaws.{AcceptedSweep, sweep-accepts, sweep-numbered}
-use Rattle.sweep.specs.Fates.{number-added}
 use Rattle.sweep.specs.Step.{Stepping, answerOf, isAdded}
 use Rattle.sweep.specs.StepMesh.{Swept}
-use Rattle.sums.specs.Bounded.{count, count-ext}
-use Rattle.sweep.specs.Run.{Sweeping, sweepAfter, finishAfter, answerWords, answerIn, answerWord, answersAfter, RunLent, RunOutcome, ranWith, runChecked, sweepOf, stepsOf, runFinish, runOutcome, runOf}
+use Rattle.sums.specs.Bounded.{count, count-ext, count-before, count-parts, count-apart}
+use Rattle.sweep.specs.Run.{Sweeping, answerWords, answerIn, answerWord, answersAfter, RunLent, RunOutcome, ranWith, runChecked, sweepOf, stepsOf, runOutcome, runOf, completeAfter, completedAnswers, skippedOf, runCompletes, passedOf, fillOf, insertOf, insertedWord, runAnswers}
 use Rattle.sweep.specs.SweepLaws.{SweepKeeps, sweep-keeps}
-use Rattle.sweep.specs.Demand3.{fateOf, vertexOf, addedBefore, beforeClosing, Demand3, RunLeaves, Full, Ran}
+use Rattle.sweep.specs.Demand3.{fateOf, vertexOf, addedBefore, beforeClosing, Demand3, RunLeaves, Full, Ran, isEntered, isVertex, isRunFate, enteredBefore}
+use Rattle.corner.specs.Corner.{Extended}
+use Rattle.location.specs.declared.PositionInTriangulation.{PositionInTriangulation}
+use Rattle.skipped.specs.Insert.{isNew}
+use Rattle.skipped.specs.Fill.{insertedVertex, insertWord, enters, Completing, completeMesh}
+use Rattle.sums.specs.Bit.{bit, from-true, is-true, and-left, and-right, or-cases}
+use Rattle.sweep.specs.RunFates.{numberOf, one-added, entered-new, run-fate, nine-skipped, added-not-skipped, added-vertex, parts-of, apart-of}
+use Rattle.skipped.specs.CompleteLaws as complete
 
 -- ---- the answers
 -- fate 1 is that of an added point, and its vertex is in the answer
@@ -69,36 +68,42 @@ vertex-added NotLeft z = absurd (omega arith)
 vertex-added Unsound z = absurd (omega arith)
 vertex-added AtCenter z = absurd (omega arith)
 
-module _ (step : ℕ → Stepping) (answered count : ℕ) (row : List ℕ) (k : answerWords * count ≤ length row) where
+-- a row of answers, by the words of its points
+module _ (f : ℕ → ℕ) (row : List ℕ) where
   abbrev rows : List ℕ
-  rows = rowFrom (length row) (answersAfter step answered count (rowOf row))
+  rows = rowFrom (length row) f
 
-  at : (x : ℕ) → x < length row → rowOf rows x ≡ answersAfter step answered count (rowOf row) x
+  pub answer-at : (x : ℕ) → x < length row → rowOf rows x ≡ f x
   unfolding rowOf
-  at x l = getD-from (length row) (answersAfter step answered count (rowOf row)) 0 x l
+  answer-at x l = getD-from (length row) f 0 x l
 
-  -- of a point that was answered
-  pub answer-at : (i j : ℕ) → i < answered → i < count → j < answerWords → answerIn rows i j ≡ answerWord (answerOf (step i)) j
-  unfolding answersAfter
-  answer-at i j a c l =
-      let x : (answerWords * i + j) / answerWords ≡ i = omega arith in
-      let y : (answerWords * i + j) % answerWords ≡ j = omega arith in
-      at (answerWords * i + j) (omega arith) ∙ rw (lt-ltb (answerWords * i + j) (answerWords * count) (omega arith), x, y, lt-ltb i answered a) refl
-
-  -- of one that was not
-  pub answer-none : (x : ℕ) → answerWords * answered ≤ x → x < answerWords * count → rowOf rows x ≡ 0
-  unfolding answersAfter
-  answer-none x a c = at x (omega arith) ∙ rw (lt-ltb x (answerWords * count) c, le-ltb (x / answerWords) answered (omega arith)) refl
-
-  pub answer-past : (x : ℕ) → answerWords * count ≤ x → rowOf rows x ≡ rowOf row x
-  unfolding answersAfter rowOf
-  answer-past x c = go (decLt x (length row))
+  pub answer-past : (x : ℕ) → f x ≡ rowOf row x → rowOf rows x ≡ rowOf row x
+  unfolding rowOf
+  answer-past x e = go (decLt x (length row))
     where
       go : Dec (x < length row) → getD rows x 0 ≡ getD row x 0
-      go (yes b) = getD-from (length row) (answersAfter step answered count (rowOf row)) 0 x b ∙ rw (le-ltb x (answerWords * count) c) refl
+      go (yes b) = getD-from (length row) f 0 x b ∙ e
       go (no b) =
-          let w = length-from (length row) (answersAfter step answered count (rowOf row)) in
+          let w = length-from (length row) f in
           List·getD-eq-default rows 0 (omega arith) ∙ sym (List·getD-eq-default row 0 (omega arith))
+
+-- the words of point i after the finish
+module _ (answer : ℕ → ℕ → ℕ) (skipped : ℕ → Bool) (inserted : ℕ) (step : ℕ → Stepping) (answered count : ℕ) (row : ℕ → ℕ) where
+  abbrev after : ℕ → ℕ
+  after = completedAnswers answer skipped inserted count (answersAfter step answered count row)
+
+  pub word-is : (i k : ℕ) → i < count → k < answerWords
+      → after (answerWords * i + k)
+      ≡ cond (skipped i) (cond (ltb i inserted) (answer i k) 0) (cond (ltb i answered) (answerWord (answerOf (step i)) k) 0)
+  unfolding completedAnswers answersAfter
+  word-is i k a b =
+      let x : (answerWords * i + k) / answerWords ≡ i = omega arith in
+      let y : (answerWords * i + k) % answerWords ≡ k = omega arith in
+      rw (lt-ltb (answerWords * i + k) (answerWords * count) (omega arith), x, y) refl
+
+  pub word-past : (x : ℕ) → answerWords * count ≤ x → after x ≡ row x
+  unfolding completedAnswers answersAfter
+  word-past x c = rw (le-ltb x (answerWords * count) c) refl
 
 -- ---- what the checks accept
 module _ (l : RunLent) (e : runChecked l ≡ Checked.Accepted) where
@@ -114,8 +119,22 @@ module _ (l : RunLent) (e : runChecked l ≡ Checked.Accepted) where
   abbrev s : Sweeping
   s = sweepOf l n
 
-  abbrev m : Finishing
-  m = runFinish l
+  abbrev room : ℕ
+  room = length (l .pending)
+
+  abbrev point : ℕ → Point
+  point = positionOf (l .points)
+
+  -- the mesh after the first convexity passes, and what is left
+  abbrev v : Extended
+  v = passedOf l
+
+  abbrev c : Completing
+  c = runCompletes l
+
+  -- the finish of the mesh that the steps left
+  abbrev z : Completing
+  z = completeMesh room (s .counts) (s .links) (s .positions) (skippedOf l) point n
 
   pub run-accepts : AcceptedSweep (l .points) (ltb (length (l .answers)) (answerWords * n)) (l .counts) (l .mesh)
       (length (l .ring .nodes)) (length (l .ring .freed)) (length (l .ring .buckets)) (length (l .pending)) (l .center)
@@ -139,154 +158,288 @@ module _ (l : RunLent) (e : runChecked l ≡ Checked.Accepted) where
   pub run-keeps : SweepKeeps (length (l .pending)) (l .center .x) (l .center .y) (l .counts) L p (positionOf (l .points)) n s
   run-keeps = sweep-keeps (length (l .pending)) run-swept (positionOf (l .points)) n (λ i k. run-start .mesh .range k)
 
-  -- ---- the finish
-  finished-is : s .full ≡ false → m ≡ finishMesh (length (l .pending)) (s .counts) (s .positions) (s .links)
-  unfolding finishAfter
-  finished-is f = rw f refl
+  pub swept-good : Good (s .counts) (s .links) (s .positions)
+  swept-good = run-keeps .good
 
-  refused-is : s .full ≡ true → m
-      ≡ record { counts = s .counts; links = s .links; faces = 0; convexflips = 0; closingflips = 0; full = true }
-  unfolding finishAfter
-  refused-is f = rw f refl
+  pub points-range : (i : ℕ) → i < n → InRange (point i)
+  points-range i k = run-start .mesh .range k
 
-  -- what it keeps, by whether a step was refused a flip
-  record Keeps (m : Finishing) : Type 0 where
-    good : Good (m .counts) (m .links) (s .positions)
-    untouched : Untouched (m .counts) L (m .links)
-    vertices : m .counts .vertices ≡ s .counts .vertices
+  abbrev adds : ℕ → Bool
+  adds i = isAdded (stepsOf l i .fate)
 
-  finish-keeps : Keeps m
-  finish-keeps = go (s .full) refl
+  abbrev entering : ℕ → Bool
+  entering i = enters room (v .counts) (v .links) (s .positions) (skippedOf l) point i
+
+  abbrev placed : ℕ → PositionInTriangulation
+  placed i = insertOf l i .place
+
+  abbrev vertexIn : ℕ → ℕ
+  vertexIn i = insertedVertex room (v .counts) (v .links) (s .positions) (skippedOf l) point i
+
+  -- ---- by whether a step was refused a flip
+  abbrev stopped : Completing
+  stopped = record {
+    mesh = record { counts = s .counts; links = s .links; faces = 0; convexflips = 0; closingflips = 0; full = true };
+    positions = s .positions;
+    place = s .answered;
+    inserted = 0;
+  }
+
+  pub refused-is : s .full ≡ true → c ≡ stopped
+  unfolding completeAfter
+  refused-is f = ap (λ (b : Bool). cond b stopped z) f
+
+  pub completed-is : s .full ≡ false → c ≡ z
+  unfolding completeAfter
+  completed-is f = ap (λ (b : Bool). cond b stopped z) f
+
+  -- no point is added and put in as well
+  pub one-each : count n adds + count n entering ≤ n
+  unfolding enters
+  one-each = count-apart n adds entering (λ i _. apart-of (stepsOf l i .fate) (fillOf l i .full) (isNew (placed i)))
+
+  record Keeps (c : Completing) : Type 0 where
+    good : Good (c .mesh .counts) (c .mesh .links) (c .positions)
+    untouched : Untouched (c .mesh .counts) L (c .mesh .links)
+    most : c .mesh .counts .vertices ≤ l .counts .vertices + n
+    places : (u : ℕ) → u < l .counts .vertices → c .positions u ≡ p u
+    past : (u : ℕ) → c .mesh .counts .vertices ≤ u → c .positions u ≡ p u
+    within : c .place ≤ n
+
+  keeps : Keeps c
+  keeps = go (s .full) refl
     where
-      go : (b : Bool) → s .full ≡ b → Keeps m
-      go true f = subst⁻¹ Keeps (refused-is f) (record { good = run-keeps .good; untouched = run-keeps .untouched; vertices = refl })
+      go : (b : Bool) → s .full ≡ b → Keeps c
+      go true f = subst⁻¹ Keeps (refused-is f) (record {
+        good = swept-good;
+        untouched = run-keeps .untouched;
+        most = run-keeps .most;
+        places = run-keeps .places;
+        past = run-keeps .past;
+        within = run-keeps .answered-most;
+      })
       go false f =
-          let room = length (l .pending) in
-          let c = finish-counts room (s .counts) (s .positions) (s .links) (run-keeps .good) in
-          subst⁻¹ Keeps (finished-is f) (record {
-            good = finish-good room (s .counts) (s .positions) (s .links) (run-keeps .good);
-            untouched = untouched-join (record {
-              vertices = (let x = ap (λ (K : Counts). K .vertices) c in omega arith);
-              edges = (let x = ap (λ (K : Counts). K .edges) c in omega arith);
-              faces = (let x = ap (λ (K : Counts). K .faces) c in omega arith);
-            }) (run-keeps .untouched) (finish-untouched room (s .counts) (s .positions) (s .links) (run-keeps .good));
-            vertices = ap (λ (K : Counts). K .vertices) c;
+          let g = complete.complete-grown room swept-good (skippedOf l) point n points-range in
+          subst⁻¹ Keeps (completed-is f) (record {
+            good = complete.complete-good room swept-good (skippedOf l) point n points-range;
+            untouched = untouched-join g (run-keeps .untouched) (complete.complete-untouched room swept-good (skippedOf l) point n points-range);
+            most = let a = complete.complete-most room swept-good (skippedOf l) point n points-range in
+                let b = run-keeps .number f in let d = one-each in omega arith;
+            places = λ u k. complete.complete-old room swept-good (skippedOf l) point n points-range u (let a = run-keeps .grown in omega arith)
+                ∙ run-keeps .places u k;
+            past = λ u k. complete.complete-past room swept-good (skippedOf l) point n points-range u k ∙ run-keeps .past u (omega arith);
+            within = complete.complete-place room swept-good (skippedOf l) point n points-range;
           })
 
-  -- the finish adds no vertex
-  pub run-vertices : m .counts .vertices ≡ s .counts .vertices
-  run-vertices = finish-keeps .vertices
-
   -- ---- the rows hold all of it
-  most : m .counts .vertices ≤ vertexCount (l .counts) (l .points)
+  most : c .mesh .counts .vertices ≤ vertexCount (l .counts) (l .points)
   unfolding vertexCount
-  most = let c = finish-keeps .vertices in let k = run-keeps .most in omega arith
-
-  past : (u : ℕ) → m .counts .vertices ≤ u → s .positions u ≡ p u
-  past u k = run-keeps .past u (let c = finish-keeps .vertices in omega arith)
+  most = keeps .most
 
   -- ---- the outcome
   abbrev R : RunOutcome
   R =
-      ranWith (record { counts = m .counts; finished = finishedFrom (s .answered) m })
-      (meshRowsFrom (l .mesh) (m .links) (s .positions)) (ringZeros (l .ring)) (replicate (length (l .pending)) 0)
-      (rowFrom (length (l .answers)) (answersAfter (stepsOf l) (s .answered) n (rowOf (l .answers))))
+      ranWith (record { counts = c .mesh .counts; finished = finishedFrom (c .place) (c .mesh) })
+      (meshRowsFrom (l .mesh) (c .mesh .links) (c .positions)) (ringZeros (l .ring)) (replicate (length (l .pending)) 0)
+      (rowFrom (length (l .answers)) (runAnswers l))
 
-  run-is : runOf l ≡ R
+  pub run-is : runOf l ≡ R
   unfolding runOf runOutcome
   run-is = rw e refl
 
   leaves : RunLeaves l R
   leaves = record {
-    leaves = call-leaves (l .mesh) (run-start .mesh .rows) most (finish-keeps .good) (finish-keeps .untouched) past
-        (l .counts) (run-keeps .places) (l .pending);
+    leaves = call-leaves (l .mesh) (run-start .mesh .rows) most (keeps .good) (keeps .untouched) (keeps .past)
+        (l .counts) (keeps .places) (l .pending);
     ring-zero = refl;
-    answers-past = answer-past (stepsOf l) (s .answered) n (l .answers) answers-room;
+    answers-past = λ x k. answer-past (runAnswers l) (l .answers) x
+        (word-past (insertedWord l) (skippedOf l) (c .inserted) (stepsOf l) (s .answered) n (rowOf (l .answers)) x k);
     answers-length = length-from (length (l .answers)) _;
   }
 
   -- a fact of the mesh that is left is one of the rows
-  written : (F : Links → (ℕ → Point) → Type 0) → F (m .links) (s .positions) → F (linksIn (R .mesh)) (placesIn (R .mesh))
-  written = in-rows (l .mesh) (run-start .mesh .rows) most (finish-keeps .good) (finish-keeps .untouched) past
+  written : (F : Links → (ℕ → Point) → Type 0) → F (c .mesh .links) (c .positions) → F (linksIn (R .mesh)) (placesIn (R .mesh))
+  written = in-rows (l .mesh) (run-start .mesh .rows) most (keeps .good) (keeps .untouched) (keeps .past)
+
+  -- ---- the answers
+  pub word : (i k : ℕ) → i < n → k < answerWords → answerIn (R .answers) i k
+      ≡ cond (skippedOf l i) (cond (ltb i (c .inserted)) (insertedWord l i k) 0)
+      (cond (ltb i (s .answered)) (answerWord (answerOf (stepsOf l i)) k) 0)
+  word i k a b =
+      answer-at (runAnswers l) (l .answers) (answerWords * i + k) (let r = answers-room in omega arith)
+      ∙ word-is (insertedWord l) (skippedOf l) (c .inserted) (stepsOf l) (s .answered) n (rowOf (l .answers)) i k a b
 
   -- ---- 9
-  full : Full l R (s .answered)
+  full : Full l R (c .place)
   full = record {
-    within = run-keeps .answered-most;
-    earlier = λ i k a c. answer-at (stepsOf l) (s .answered) n (l .answers) answers-room i k a (let b = run-keeps .answered-most in omega arith) c;
-    later = answer-none (stepsOf l) (s .answered) n (l .answers) answers-room;
+    within = keeps .within;
+    words = λ x k. answer-at (runAnswers l) (l .answers) x (let r = answers-room in omega arith);
     leaves = leaves;
   }
 
   -- ---- no flip was refused
-  module _ (f : m .full ≡ false) where
+  module _ (f : c .mesh .full ≡ false) where
     steps-made : s .full ≡ false
     steps-made = go (s .full) refl
       where
         go : (b : Bool) → s .full ≡ b → s .full ≡ false
-        go true z = absurd (false≢true (sym f ∙ ap (λ (x : Finishing). x .full) (refused-is z)))
-        go false z = z
+        go true q = absurd (false≢true (sym f ∙ ap (λ (x : Completing). x .mesh .full) (refused-is q)))
+        go false q = q
 
-    abbrev room : ℕ
-    room = length (l .pending)
+    made : c ≡ z
+    made = completed-is steps-made
 
-    G : Good (s .counts) (s .links) (s .positions)
-    G = run-keeps .good
+    whole : z .mesh .full ≡ false
+    whole = ap (λ (x : Completing). x .mesh .full) (sym made) ∙ f
 
-    made : m ≡ finishMesh room (s .counts) (s .positions) (s .links)
-    made = finished-is steps-made
-
-    full-not : finishMesh room (s .counts) (s .positions) (s .links) .full ≡ false
-    full-not = ap (λ (x : Finishing). x .full) (sym made) ∙ f
+    reached : (i : ℕ) → i < n → fillOf l i .full ≡ false
+    reached = complete.complete-reached room swept-good (skippedOf l) point n points-range whole
 
     -- the answer of point i
-    word : (i k : ℕ) → i < n → k < answerWords → answerIn (R .answers) i k ≡ answerWord (answerOf (stepsOf l i)) k
-    word i k a c = answer-at (stepsOf l) (s .answered) n (l .answers) answers-room i k (let z = run-keeps .answered steps-made in omega arith) a c
+    answer-is : (i k : ℕ) → i < n → k < answerWords
+        → answerIn (R .answers) i k ≡ cond (skippedOf l i) (insertedWord l i k) (answerWord (answerOf (stepsOf l i)) k)
+    answer-is i k a b =
+        word i k a b
+        ∙ ap₂ (λ (x y : Bool). cond (skippedOf l i) (cond x (insertedWord l i k) 0) (cond y (answerWord (answerOf (stepsOf l i)) k) 0))
+        (lt-ltb i (c .inserted) (let q = ap (λ (x : Completing). x .inserted) made
+        ∙ complete.complete-inserted room swept-good (skippedOf l) point n points-range whole in omega arith))
+        (lt-ltb i (s .answered) (let q = run-keeps .answered steps-made in omega arith))
 
-    fate-is : (i : ℕ) → i < n → fateOf R i ≡ fateNumber (stepsOf l i .fate)
-    unfolding answerWord
-    fate-is i a = word i 0 a (omega arith)
+    fate-is : (i : ℕ) → i < n → fateOf R i ≡ numberOf (stepsOf l i .fate) (placed i)
+    unfolding answerWord insertWord
+    fate-is i a = answer-is i 0 a (omega arith)
 
-    vertex-is : (i : ℕ) → i < n → vertexOf R i ≡ fateVertex (stepsOf l i .fate)
-    unfolding answerWord
-    vertex-is i a = word i 1 a (omega arith)
+    vertex-is : (i : ℕ) → i < n → vertexOf R i ≡ cond (skippedOf l i) (vertexIn i) (fateVertex (stepsOf l i .fate))
+    unfolding answerWord insertWord
+    vertex-is i a = answer-is i 1 a (omega arith)
 
-    count-is : (k : ℕ) → k ≤ n → count k (λ i. isAdded (stepsOf l i .fate)) ≡ addedBefore R k
-    count-is k a = count-ext k (λ i. isAdded (stepsOf l i .fate)) (λ i. eqb (fateOf R i) 1)
-        (λ i b. sym (ap (λ (x : ℕ). eqb x 1) (fate-is i (omega arith)) ∙ number-added (stepsOf l i .fate)))
+    -- ---- counts
+    entering-is : (i : ℕ) → i < n → entering i ≡ (skippedOf l i && isNew (placed i))
+    unfolding enters
+    entering-is i a = ap (λ (b : Bool). not b && (skippedOf l i && isNew (placed i))) (reached i a)
 
-    added-is : (i : ℕ) → i < n → fateOf R i ≡ 1
-        → (fateVertex (stepsOf l i .fate) ≡ l .counts .vertices + count i (λ j. isAdded (stepsOf l j .fate)))
-        × (s .positions (fateVertex (stepsOf l i .fate)) ≡ positionOf (l .points) i)
-    added-is i a z = run-keeps .added steps-made i (fateVertex (stepsOf l i .fate)) a (vertex-added (stepsOf l i .fate) (sym (fate-is i a) ∙ z))
+    ones : (k : ℕ) → k ≤ n → addedBefore R k ≡ count k adds
+    ones k a = count-ext k (λ j. eqb (fateOf R j) 1) adds
+        (λ i b. ap (λ (x : ℕ). eqb x 1) (fate-is i (omega arith)) ∙ one-added (stepsOf l i .fate) (placed i))
 
-    demand-3 : (t : Totals) → t .closingflips ≡ m .closingflips → Demand3 l R t
-    unfolding finishMesh
-    demand-3 t c = record {
+    entered-are : (k : ℕ) → k ≤ n → enteredBefore R k ≡ count k entering
+    entered-are k a =
+        count-ext k (λ j. isEntered (fateOf R j)) entering
+        (λ i b. ap isEntered (fate-is i (omega arith)) ∙ entered-new (stepsOf l i .fate) (placed i) ∙ sym (entering-is i (omega arith)))
+
+    all : count n (λ j. isVertex (fateOf R j)) ≡ count n adds + count n entering
+    all =
+        count-parts n adds entering (λ j. isVertex (fateOf R j))
+        (λ i b. ap (λ (x : ℕ). bit (isVertex x)) (fate-is i b) ∙ parts-of (stepsOf l i .fate) (placed i)
+        ∙ ap (λ (x : Bool). bit (adds i) + bit x) (sym (entering-is i b)))
+
+    -- ---- a point that a step added
+    module _ (i : ℕ) (a : i < n) (t : T (adds i)) where
+      step-added : (fateVertex (stepsOf l i .fate) ≡ l .counts .vertices + count i adds)
+          × (s .positions (fateVertex (stepsOf l i .fate)) ≡ point i)
+      step-added = run-keeps .added steps-made i (fateVertex (stepsOf l i .fate)) a (added-vertex (stepsOf l i .fate) t)
+
+      step-number : vertexOf R i ≡ fateVertex (stepsOf l i .fate)
+      step-number = vertex-is i a
+          ∙ ap (λ (b : Bool). cond b (vertexIn i) (fateVertex (stepsOf l i .fate))) (added-not-skipped (stepsOf l i .fate) t)
+
+      step-place : placesIn (R .mesh) (vertexOf R i) ≡ point i
+      step-place =
+          let k = count-before i n adds a t in let m = run-keeps .number steps-made in let q = step-added .0 in
+          ap (placesIn (R .mesh)) step-number
+          ∙ written (λ K P. P (fateVertex (stepsOf l i .fate)) ≡ point i)
+          (ap (λ (x : Completing). x .positions (fateVertex (stepsOf l i .fate))) made
+          ∙ complete.complete-old room swept-good (skippedOf l) point n points-range (fateVertex (stepsOf l i .fate)) (omega arith)
+          ∙ step-added .1)
+
+    -- ---- a point that was skipped
+    module _ (i : ℕ) (a : i < n) (t : T (skippedOf l i)) where
+      skipped-number : vertexOf R i ≡ vertexIn i
+      skipped-number = vertex-is i a
+          ∙ ap (λ (b : Bool). cond b (vertexIn i) (fateVertex (stepsOf l i .fate))) (is-true (skippedOf l i) t)
+
+      skipped-place : placesIn (R .mesh) (vertexOf R i) ≡ point i
+      skipped-place =
+          ap (placesIn (R .mesh)) skipped-number
+          ∙ written (λ K P. P (vertexIn i) ≡ point i)
+          (ap (λ (x : Completing). x .positions (vertexIn i)) made
+          ∙ complete.complete-here room swept-good (skippedOf l) point n points-range whole a t)
+
+      skipped-used : vertexOf R i < c .mesh .counts .vertices
+      skipped-used =
+          let q = skipped-number in let k = complete.complete-used room swept-good (skippedOf l) point n points-range whole a t in
+          let m = ap (λ (x : Completing). x .mesh .counts .vertices) made in omega arith
+
+    -- ---- by the fate's number
+    added-by : (i : ℕ) → i < n → T (eqb (fateOf R i) 1) → T (adds i)
+    added-by i a t = subst T (ap (λ (x : ℕ). eqb x 1) (fate-is i a) ∙ one-added (stepsOf l i .fate) (placed i)) t
+
+    entered-by : (i : ℕ) → i < n → T (isEntered (fateOf R i)) → T (skippedOf l i && isNew (placed i))
+    entered-by i a t = subst T (ap isEntered (fate-is i a) ∙ entered-new (stepsOf l i .fate) (placed i)) t
+
+    skipped-by : (i : ℕ) → i < n → T (isEntered (fateOf R i)) → T (skippedOf l i)
+    skipped-by i a t = and-left (skippedOf l i) (isNew (placed i)) (entered-by i a t)
+
+    vertex-place : (i : ℕ) → i < n → T (isVertex (fateOf R i)) → placesIn (R .mesh) (vertexOf R i) ≡ point i
+    unfolding isVertex
+    vertex-place i a t = go (or-cases (eqb (fateOf R i) 1) (isEntered (fateOf R i)) t)
+      where
+        go : T (eqb (fateOf R i) 1) ⊎ T (isEntered (fateOf R i)) → placesIn (R .mesh) (vertexOf R i) ≡ point i
+        go (inl u) = step-place i a (added-by i a u)
+        go (inr u) = skipped-place i a (skipped-by i a u)
+
+    entered-number : (i : ℕ) → i < n → T (isEntered (fateOf R i))
+        → vertexOf R i ≡ l .counts .vertices + addedBefore R n + enteredBefore R i
+    entered-number i a t =
+        let u = entered-by i a t in
+        let q = skipped-number i a (skipped-by i a t) in
+        let k = complete.complete-number room swept-good (skippedOf l) point n points-range whole a (skipped-by i a t)
+        (and-right (skippedOf l i) (isNew (placed i)) u) in
+        let m = run-keeps .number steps-made in let o = ones n (omega arith) in let d = entered-are i (omega arith) in
+        omega arith
+
+    demand-3 : (t : Totals) → t .closingflips ≡ c .mesh .closingflips → Demand3 l R t
+    unfolding completeMesh
+    demand-3 t q = record {
       seed = leaves .leaves .seed;
-      place = λ i a z. ap (placesIn (R .mesh)) (vertex-is i a)
-          ∙ written (λ K P. P (fateVertex (stepsOf l i .fate)) ≡ positionOf (l .points) i) (added-is i a z .1);
-      vertex = λ i a z. vertex-is i a ∙ added-is i a z .0 ∙ ap (λ (k : ℕ). l .counts .vertices + k) (count-is i (omega arith));
-      number = finish-keeps .vertices ∙ run-keeps .number steps-made ∙ ap (λ (k : ℕ). l .counts .vertices + k) (count-is n (omega arith));
+      place = vertex-place;
+      vertex = λ i a y.
+          let t = added-by i a (from-true (eq-eqb (fateOf R i) 1 y)) in
+          step-number i a t ∙ step-added i a t .0 ∙ ap (λ (k : ℕ). l .counts .vertices + k) (sym (ones i (omega arith)));
+      entered = entered-number;
+      number = ap (λ (x : Completing). x .mesh .counts .vertices) made ∙ vertices;
+      fates = λ i a. subst⁻¹ (λ (x : ℕ). T (isRunFate x)) (fate-is i a) (run-fate (stepsOf l i .fate) (placed i));
+      on-vertex = λ i a y.
+          let t = from-true (nine-skipped (stepsOf l i .fate) (placed i) (sym (fate-is i a) ∙ y)) in
+          (skipped-used i a t, skipped-place i a t);
       rules = leaves .leaves .good .wf;
       turning = leaves .leaves .good .turning;
       area = leaves .leaves .area;
-      corners = there (λ C K P k. NoLeftCorner C K P) (finish-convex room (s .counts) (s .positions) (s .links) G full-not);
-      circles = settled-far (leaves .leaves .good) (there (λ C K P k. Settled C K P) (finish-settled room (s .counts) (s .positions) (s .links) G full-not));
-      closing = there (λ C K P k. _≡_ {A = Closing} (record { links = K; flips = k }) (closingPass C P (beforeClosing l))) (finish-closing room (s .counts) (s .positions) (s .links) G full-not);
-      flips = there (λ C K P k. FlipRun C P (beforeClosing l) K k) (finish-flips room (s .counts) (s .positions) (s .links) G);
-      fall = there (λ C K P k. pos k ≤ℤ (heightSum C (beforeClosing l) P -ℤ heightSum C K P))
-          (finish-fall room (s .counts) (s .positions) (s .links) G);
+      corners = there (λ C M P k. NoLeftCorner C M P) (complete.complete-convex room swept-good (skippedOf l) point n points-range whole);
+      circles = settled-far (leaves .leaves .good)
+          (there (λ C M P k. Settled C M P) (complete.complete-settled room swept-good (skippedOf l) point n points-range whole));
+      closing = there (λ C M P k. _≡_ {A = Closing} (record { links = M; flips = k }) (closingPass C P (beforeClosing l)))
+          (complete.complete-closing room swept-good (skippedOf l) point n points-range whole);
+      flips = there (λ C M P k. FlipRun C P (beforeClosing l) M k)
+          (complete.complete-flips room swept-good (skippedOf l) point n points-range);
+      fall = there (λ C M P k. pos k ≤ℤ (heightSum C (beforeClosing l) P -ℤ heightSum C M P))
+          (complete.complete-fall room swept-good (skippedOf l) point n points-range);
     }
       where
+        vertices : z .mesh .counts .vertices ≡ l .counts .vertices + count n (λ j. isVertex (fateOf R j))
+        vertices =
+            let k = complete.complete-vertices room swept-good (skippedOf l) point n points-range whole in
+            let m = run-keeps .number steps-made in let b = all in
+            omega arith
+
         -- a fact of the finished mesh and of its closing flips is one of the rows and of the answer
         there : (F : Counts → Links → (ℕ → Point) → ℕ → Type 0)
-            → (let z = finishMesh room (s .counts) (s .positions) (s .links) in F (z .counts) (z .links) (s .positions) (z .closingflips))
-            → F (m .counts) (linksIn (R .mesh)) (placesIn (R .mesh)) (t .closingflips)
+            → F (z .mesh .counts) (z .mesh .links) (z .positions) (z .mesh .closingflips)
+            → F (c .mesh .counts) (linksIn (R .mesh)) (placesIn (R .mesh)) (t .closingflips)
         there F x =
-            subst⁻¹ (F (m .counts) (linksIn (R .mesh)) (placesIn (R .mesh))) c
-            (written (λ K P. F (m .counts) K P (m .closingflips))
-            (subst⁻¹ (λ (z : Finishing). F (z .counts) (z .links) (s .positions) (z .closingflips)) made x))
+            subst⁻¹ (F (c .mesh .counts) (linksIn (R .mesh)) (placesIn (R .mesh))) q
+            (written (λ M P. F (c .mesh .counts) M P (c .mesh .closingflips))
+            (subst⁻¹ (λ (y : Completing). F (y .mesh .counts) (y .mesh .links) (y .positions) (y .mesh .closingflips)) made x))
 
 -- ---- by what is answered
 module _ (l : RunLent) where
@@ -295,19 +448,19 @@ module _ (l : RunLent) where
   unfolding runOf runOutcome finishedFrom totalsFrom
   run-accepted t z = by (runChecked l) refl
     where
-      at : (e : runChecked l ≡ Checked.Accepted) (b : Bool) → runFinish l .full ≡ b → Demand3 l (runOf l) t × RunLeaves l (runOf l)
+      at : (e : runChecked l ≡ Checked.Accepted) (b : Bool) → runCompletes l .mesh .full ≡ b → Demand3 l (runOf l) t × RunLeaves l (runOf l)
       at e true f =
-          let x : Finished.Refused (record { number = 9; place = sweepOf l (pointCount (l .points)) .answered })
+          let x : Finished.Refused (record { number = 9; place = runCompletes l .place })
           ≡ Finished.Accepted t = sym (rw (run-is l e, f) refl) ∙ z in
           absurd (let w : _≡_ {A = ℕ} 0 1 = cc in omega arith)
       at e false f =
-          let x : Finished.Accepted (totalsFrom (runFinish l)) ≡ Finished.Accepted t = sym (rw (run-is l e, f) refl) ∙ z in
-          let y : totalsFrom (runFinish l) ≡ t = cc in
+          let x : Finished.Accepted (totalsFrom (runCompletes l .mesh)) ≡ Finished.Accepted t = sym (rw (run-is l e, f) refl) ∙ z in
+          let y : totalsFrom (runCompletes l .mesh) ≡ t = cc in
           subst⁻¹ (λ (r : RunOutcome). Demand3 l r t × RunLeaves l r) (run-is l e)
           (demand-3 l e f t (ap (λ (u : Totals). u .closingflips) (sym y)), leaves l e)
 
       by : (c : Checked) → runChecked l ≡ c → Demand3 l (runOf l) t × RunLeaves l (runOf l)
-      by Checked.Accepted e = at e (runFinish l .full) refl
+      by Checked.Accepted e = at e (runCompletes l .mesh .full) refl
       by (Checked.Refused x) e =
           let y : Finished.Refused x ≡ Finished.Accepted t = rw e at z in
           absurd (let w : _≡_ {A = ℕ} 0 1 = cc in omega arith)
@@ -330,21 +483,21 @@ module _ (l : RunLent) where
           ≡ ranWith (record { counts = l .counts; finished = Finished.Refused x }) (l .mesh) (l .ring) (l .pending) (l .answers)))
           ⊎ ((x .number ≡ 9) × Full l (runOf l) (x .place))
 
-      at : (e : runChecked l ≡ Checked.Accepted) (b : Bool) → runFinish l .full ≡ b → Wanted
+      at : (e : runChecked l ≡ Checked.Accepted) (b : Bool) → runCompletes l .mesh .full ≡ b → Wanted
       at e true f =
-          let y : Finished.Refused (record { number = 9; place = sweepOf l (pointCount (l .points)) .answered })
+          let y : Finished.Refused (record { number = 9; place = runCompletes l .place })
           ≡ Finished.Refused x = sym (rw (run-is l e, f) refl) ∙ z in
-          let w : record { number = 9; place = sweepOf l (pointCount (l .points)) .answered } ≡ x = cc in
+          let w : record { number = 9; place = runCompletes l .place } ≡ x = cc in
           inr (
             ap (λ (r : Refusal). r .number) (sym w),
             subst⁻¹ (λ (r : RunOutcome). Full l r (x .place)) (run-is l e) (subst (Full l (R l e)) (ap (λ (r : Refusal). r .place) w) (full l e)),
           )
       at e false f =
-          let y : Finished.Accepted (totalsFrom (runFinish l)) ≡ Finished.Refused x = sym (rw (run-is l e, f) refl) ∙ z in
+          let y : Finished.Accepted (totalsFrom (runCompletes l .mesh)) ≡ Finished.Refused x = sym (rw (run-is l e, f) refl) ∙ z in
           absurd (let w : _≡_ {A = ℕ} 0 1 = cc in omega arith)
 
       by : (c : Checked) → runChecked l ≡ c → NumberedTo 7 c → Wanted
-      by Checked.Accepted e k = at e (runFinish l .full) refl
+      by Checked.Accepted e k = at e (runCompletes l .mesh .full) refl
       by (Checked.Refused y) e k =
           let u : Finished.Refused y ≡ Finished.Refused x = rw e at z in
           let w : y ≡ x = cc in
@@ -365,7 +518,7 @@ module _ (l : RunLent) where
         checked = e;
         good = subst⁻¹ (λ (r : RunOutcome). Good (r .answer .counts) (linksIn (r .mesh)) (placesIn (r .mesh))) (run-is l e) (leaves l e .leaves .good);
         most = subst⁻¹ (λ (r : RunOutcome). r .answer .counts .vertices ≤ l .counts .vertices + pointCount (l .points)) (run-is l e)
-            (let c = finish-keeps l e .vertices in let k = run-keeps l e .most in omega arith);
+            (keeps l e .most);
       }
       by (Checked.Refused x) e =
           let y : Finished.Refused x ≡ Finished.Accepted t = rw e at z in

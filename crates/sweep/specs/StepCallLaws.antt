@@ -42,7 +42,7 @@ use Rattle.sweep.specs.declared.Stepped.{Stepped}
 use Rattle.sweep.specs.StepCall.{StepOutcome, pointRow, answerFrom, stepChecked, steppedWith, stepOutcome, stepOf}
 use Rattle.sweep.specs.Fates.{is-added}
 use Rattle.sweep.specs.Step.{Stepping, answerOf, isAdded, leftAlone, addedAt, appliedBy, applied, stepMesh}
-use Rattle.sweep.specs.StepMesh.{Swept, StepKeeps, StepAdds, step-keeps, step-adds, step-alone, added-of}
+use Rattle.sweep.specs.StepMesh.{Swept, StepKeeps, step-keeps, step-adds, step-alone, added-of}
 
 -- 01: "1 added, with the new vertex, k faces and the flips. The step adds one vertex, k faces and k + 1 edges": vertex n, with k faces and
 -- f flips, over the edge at the point's angle. The new vertex's first face and its flips, then corners closed one after another, each

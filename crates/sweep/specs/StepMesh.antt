@@ -1,25 +1,24 @@
 -- What a step makes of a good mesh with a sound ring about a centre that no boundary vertex equals: the same again, with the point as its
 -- next vertex where that was added. Assumes nothing.
 use mathlib.Core.Bool.{Bool, true, false, not, false≢true, _||_}
-use mathlib.Core.Logic.{_⊎_, inl, inr, ⊎-elim}
+use mathlib.Core.Logic.{_⊎_, inl, inr}
 use mathlib.Core.Path.{_≡_, refl, sym, _∙_, ap, subst, subst⁻¹}
-use Prim.Native.Nat.{ℕ, suc, _+_, _-_, _*_, _<_, _≤_}
+use Prim.Native.Nat.{ℕ, _+_, _<_, _≤_}
 use native.Mathlib.Omega.{arith}
 use lib.Dec.{T, T-not, not-T}
 use lib.Ieee.{Float}
 use Rattle.angle.specs.Angle.{angleAbout, atCenter, validCenter, turns}
-use Rattle.apply.specs.Apply.{Applied, firstFace, addVertex, addTurns}
+use Rattle.apply.specs.Apply.{Applied, firstFace, addTurns}
 use Rattle.apply.specs.ApplyLaws.{add-turns, add-good, add-bound, add-counts, add-untouched, add-sound, add-along, add-closings, add-faces}
 use Rattle.apply.specs.FirstFace.{first-run}
 use Rattle.apply.specs.Origins.{OldVertex, along-origin}
 use Rattle.apply.specs.Walks.{Before}
 use Rattle.conflicts.specs.FlipsWithin.{FlipsWithin, within-none}
-use Rattle.corner.specs.Corner.{Extended}
 use Rattle.corner.specs.CornerLaws.{Closings}
 use Rattle.corner.specs.Untouched.{Untouched, Grown, untouched-none}
 use Rattle.decide.specs.declared.Fate.{Fate}
 use Rattle.decide.specs.declared.Fate.the-variants.{Added, Dropped, NotLeft, Unsound, AtCenter}
-use Rattle.decide.specs.Decide.{Decided, decided}
+use Rattle.decide.specs.Decide.{decided}
 use Rattle.math.specs.declared.Point.{Point}
 use Rattle.math.specs.Determinant.{InRange}
 use Rattle.mesh.specs.declared.Counts.{Counts}

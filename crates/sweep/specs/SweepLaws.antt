@@ -3,7 +3,7 @@
 use mathlib.Core.Bool.{Bool, true, false, cond, false≢true}
 use mathlib.Core.Path.{_≡_, refl, sym, _∙_, ap, subst, subst⁻¹}
 use Prim.Native.Nat.{ℕ, zero, suc, _+_, _<_, _≤_}
-use native.Mathlib.Decide.{ℕ-discrete, decLt}
+use native.Mathlib.Decide.{ℕ-discrete}
 use native.Mathlib.Omega.{arith}
 use lib.Ieee.{Float}
 use Rattle.corner.specs.Untouched.{Untouched, Grown, untouched-none, untouched-join}
@@ -16,10 +16,10 @@ use Rattle.mesh.specs.declared.Counts.{Counts}
 use Rattle.mesh.specs.Mesh.{Links}
 use Rattle.mesh.specs.Good.{Good}
 use Rattle.sweep.specs.Step.{Stepping, isAdded, leftAlone, stepMesh}
-use Rattle.sweep.specs.StepMesh.{Swept, StepKeeps, StepAdds, step-keeps, step-adds, step-alone, added-of}
+use Rattle.sweep.specs.StepMesh.{Swept, StepKeeps, step-keeps, step-adds, step-alone, added-of}
 use Rattle.sums.specs.Bit.{bit, from-true}
 use Rattle.sums.specs.Bounded.{count, count-suc, count-before}
-use Rattle.sweep.specs.Run.{Sweeping, sweepStart, stepOn, sweepPoint, sweepAfter, stepAt}
+use Rattle.sweep.specs.Run.{Sweeping, stepOn, sweepPoint, sweepAfter, stepAt}
 
 -- ---- fates
 added-same : {m v : ℕ} → Added m ≡ Added v → m ≡ v

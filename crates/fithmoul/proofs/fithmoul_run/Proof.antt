@@ -4,7 +4,7 @@ use lib.ListN.{length}
 use Rattle.heights.specs.Heights.{heightOf}
 use Rattle.mesh_check.specs.Check.{pointCount}
 use Rattle.surface.specs.StoreReady.{StoreReady}
-use Rattle.surface.specs.StoredHeights.{fateWord, finishedHeights}
+use Rattle.surface.specs.StoredHeights.{finishedHeights}
 use Rattle.surface.specs.SurfaceRunLaws.{run-refused, run-own, run-heights, store-ready}
 use Rattle.sweep.specs.Run.{RunOutcome}
 use Rattle.fithmoul.specs.Exported.{run-exported, run-whole}
@@ -60,7 +60,7 @@ store-run-requires c κs =
     let b = c .before .before .before .before .before .before .before .before .before .before .before .before .before .before .before .before .before .before .run .ensures .is in
     let a = c .before .before .before .before .before .before .before .before .before .before .before .before .before .before .before .before .before .before .before .before .before .before .before .before .before .before .before .before .before .before .before .before .before .before .before .before .before .before .before .before .before .before .before .before .args in
     subst⁻¹ (λ (w : RunOutcome).
-    StoreReady (a .vertices) (pointCount (a .points .now)) (length (a .heights .now)) (length (a .point-heights .now)) (w .answers) (w .answer))
+    StoreReady (pointCount (a .points .now)) (length (a .heights .now)) (length (a .point-heights .now)) (w .answers) (w .answer))
     b (store-ready _ (sym e ∙ c .before .before .before .before .before .before .before .before .before .before .before .before .before .before .before .before .before .before .before .before .before .before .before .before .before .before .before .before .enum-told .given .1))
 
 finish-result-requires : tie.Need-finish-result-requires
@@ -105,7 +105,7 @@ returns-2 c =
     let h =
     c .before .before .store-run .ensures
     ∙ ap (λ (w : RunOutcome).
-    finishedHeights (w .answer) (fateWord (w .answers)) (a .vertices) (heightOf (a .point-heights .now)) (heightOf (a .heights .now))
+    finishedHeights (w .answer) (w .answers) (heightOf (a .point-heights .now)) (heightOf (a .heights .now))
     (pointCount (a .points .now))) b in
     let x = run-exported (run-whole (run-own _ E) b (run-heights _ E _ (c .before .before .store-run .kept .0) h)) (c .finish-result .ensures) in
     (x .0, x .1, λ z. accepted-run _ _ (x .0) z)

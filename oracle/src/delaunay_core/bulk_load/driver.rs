@@ -1,22 +1,24 @@
 //! Drives the sweep of bulk_load.rs from any seed mesh: every point in list order through
-//! `single_bulk_insertion_step`, then `fix_convexity` once.
+//! `single_bulk_insertion_step`, then `fix_convexity` once, then the skipped points in list order
+//! through `insert_with_hint_option_impl`, each with the hint at vertex 0.
 //!
 //! The functions of the Rust run as they are. Around them stand the tests of the domain: 01's
-//! refusals of the seed, a point at the centre before its step, a sound ring after a step.
+//! refusals of the seed, a point at the centre before its step, a sound ring after a step, a further
+//! pass before the insertions.
 
 use std::any::Any;
 use std::panic::{catch_unwind, AssertUnwindSafe};
 
 use super::{fix_convexity, pseudo_angle, single_bulk_insertion_step, Hull};
 use crate::budget;
-use crate::case::{reason, Answer, Case, Ending};
+use crate::case::{reason, Answer, Case, Ending, Insertions};
 use crate::delaunay_core::dcel::{EdgeEntry, FaceEntry, HalfEdgeEntry, VertexEntry};
 use crate::delaunay_core::triangulation_ext::VertexToInsert;
 use crate::delaunay_core::{
     Dcel, FixedDirectedEdgeHandle, FixedFaceHandle, FixedUndirectedEdgeHandle, FixedVertexHandle,
 };
 use crate::mesh::{Mesh, Position, RANGE};
-use crate::{DelaunayTriangulation, Point2, Triangulation};
+use crate::{DelaunayTriangulation, Point2, PositionInTriangulation, Triangulation, TriangulationExt};
 
 type Swept = DelaunayTriangulation<Point2<f64>>;
 
@@ -113,14 +115,31 @@ pub fn refusal(case: &Case) -> Option<u32> {
     (!is_strict(&boundary_angles(&swept, centre))).then_some(7)
 }
 
+/// The text of the panic by which the Rust ends a search that goes round.
+const LOST: &str = "Failed to locate position. This is a bug in spade.";
+
+/// Where the Rust is stopped.
+#[derive(Clone, Copy, Debug, Default, PartialEq, Eq)]
+pub enum Watch {
+    /// At the end of the domain.
+    #[default]
+    Domain,
+    /// There too, but a point at the centre is skipped, as in 01, and goes in with the other skipped ones:
+    /// M4's listing has such a point.
+    Centre,
+    /// Nowhere: it does as it does, with fates 4 and 5 and with a boundary that is not convex.
+    Nowhere,
+}
+
 /// A sweep under way.
 pub struct Sweep {
     pub swept: Swept,
     hull: Hull,
     centre: Point2<f64>,
     buffer: Vec<FixedUndirectedEdgeHandle>,
-    /// Whether a step is tested for fates 4 and 5. Without that, the Rust does as it does.
-    pub watched: bool,
+    pub watch: Watch,
+    /// The vertex where a search starts.
+    pub hint: usize,
 }
 
 /// What a call of the Rust came to: its answer, or the reason why the case is outside the domain.
@@ -140,10 +159,11 @@ fn guarded<T>(panics: u32, runs_on: u32, part: impl FnOnce() -> T) -> Outcome<T>
     match result {
         Ok(_) if budget::other_flips() != before => Err(reason::OTHER_FLIP),
         Ok(value) => Ok(value),
-        Err(payload) => {
-            let spent = text_of(&payload) == budget::SPENT;
-            Err(if spent { runs_on } else { panics })
-        }
+        Err(payload) => Err(match text_of(&payload) {
+            budget::SPENT => runs_on,
+            LOST => reason::SEARCH_PANICS,
+            _ => panics,
+        }),
     }
 }
 
@@ -153,15 +173,21 @@ impl Sweep {
         let centre = Point2::new(x, y);
         let hull = catch_unwind(AssertUnwindSafe(|| Hull::from_triangulation(&swept, centre)));
         match hull {
-            Ok(Some(hull)) => Ok(Sweep { swept, hull, centre, buffer: Vec::new(), watched: true }),
+            Ok(Some(hull)) => {
+                Ok(Sweep { swept, hull, centre, buffer: Vec::new(), watch: Watch::Domain, hint: 0 })
+            }
             _ => Err(reason::NO_HULL),
         }
     }
 
     /// One step: fate, vertex, faces, flips.
     pub fn step(&mut self, position: Position) -> Outcome<[u32; 4]> {
-        if self.watched && point(position) == self.centre {
-            return Err(reason::AT_CENTRE);
+        if point(position) == self.centre {
+            match self.watch {
+                Watch::Domain => return Err(reason::AT_CENTRE),
+                Watch::Centre => return Ok([5, 0, 0, 0]),
+                Watch::Nowhere => {}
+            }
         }
         let [vertices, faces] = [self.swept.num_vertices(), self.swept.num_all_faces()];
         let flips = budget::flips();
@@ -173,7 +199,7 @@ impl Sweep {
         if self.swept.num_vertices() == vertices {
             return Ok([if skipped.is_some() { 3 } else { 2 }, 0, 0, 0]);
         }
-        if self.watched && !is_sound(&boundary_angles(&self.swept, self.centre)) {
+        if self.watch != Watch::Nowhere && !is_sound(&boundary_angles(&self.swept, self.centre)) {
             return Err(reason::UNSOUND);
         }
         let faces = self.swept.num_all_faces() - faces;
@@ -187,6 +213,35 @@ impl Sweep {
         guarded(reason::PASS_FAILS, reason::PASS_FAILS, || fix_convexity(&mut self.swept))?;
         let faces = self.swept.num_all_faces() as u64 - faces;
         Ok([faces, budget::flips() - flips].map(|n| n as u32))
+    }
+
+    /// Whether a further pass would add a face, tried on a copy.
+    pub fn passes_on(&self) -> Outcome<bool> {
+        let mut copy = self.swept.clone();
+        let faces = copy.num_all_faces();
+        guarded(reason::PASS_FAILS, reason::PASS_FAILS, || fix_convexity(&mut copy))?;
+        Ok(copy.num_all_faces() != faces)
+    }
+
+    /// One insertion: fate, vertex, faces, flips. The fate is where the Rust's own search, asked before,
+    /// has the point; the insertion asks it again with the same hint.
+    pub fn insert(&mut self, position: Position) -> Outcome<[u32; 4]> {
+        let [panics, runs_on] = [reason::INSERTION_FAILS; 2];
+        let hint = Some(FixedVertexHandle::new(self.hint));
+        let place =
+            guarded(panics, runs_on, || self.swept.locate_with_hint_option_core(point(position), hint))?;
+        let [faces, flips] = [self.swept.num_all_faces() as u64, budget::flips()];
+        let vertex = VertexToInsert::NewVertex(point(position));
+        let vertex = guarded(panics, runs_on, || self.swept.insert_with_hint_option_impl(vertex, hint))?;
+        let fate = match place {
+            PositionInTriangulation::OnFace(_) => 6,
+            PositionInTriangulation::OnEdge(_) => 7,
+            PositionInTriangulation::OutsideOfConvexHull(_) => 8,
+            PositionInTriangulation::OnVertex(_) => 9,
+            PositionInTriangulation::NoTriangulation => return Err(reason::INSERTION_FAILS),
+        };
+        let faces = self.swept.num_all_faces() as u64 - faces;
+        Ok([fate, vertex.index() as u32, faces as u32, (budget::flips() - flips) as u32])
     }
 
     /// Room for a mesh of so many vertices, as `bulk_load` makes it.
@@ -216,24 +271,53 @@ impl Sweep {
 }
 
 /// The Rust's answer to a case; beyond the domain too, where it is not watched.
-pub fn answer(case: &Case, watched: bool) -> Answer {
+pub fn answer(case: &Case, watch: Watch) -> Answer {
+    answer_from(case, watch, 0)
+}
+
+/// The same with every search from the vertex `hint`.
+pub fn answer_from(case: &Case, watch: Watch, hint: usize) -> Answer {
     let mut fates = Vec::new();
-    let ending = ending(case, watched, &mut fates).unwrap_or_else(|ending| ending);
+    let ending = ending(case, watch, hint, &mut fates).unwrap_or_else(|ending| ending);
     Answer { number: case.number, fates, ending }
 }
 
-fn ending(case: &Case, watched: bool, fates: &mut Vec<[u32; 4]>) -> Result<Ending, Ending> {
-    let outside = |index: usize| move |reason| Ending::Outside { reason, index: index as u32 };
+fn outside(index: usize) -> impl FnOnce(u32) -> Ending {
+    move |reason| Ending::Outside { reason, index: index as u32 }
+}
+
+fn ending(case: &Case, watch: Watch, hint: usize, fates: &mut Vec<[u32; 4]>) -> Result<Ending, Ending> {
+    let watched = watch != Watch::Nowhere;
     let refused = if watched { refusal(case) } else { case.seed.refusal(&case.points) };
     if let Some(number) = refused {
         return Err(outside(number as usize)(reason::REFUSED));
     }
     let mut sweep = Sweep::new(&case.seed, case.centre).map_err(outside(0))?;
-    sweep.watched = watched;
+    (sweep.watch, sweep.hint) = (watch, hint);
     for (index, &position) in case.points.iter().enumerate() {
         fates.push(sweep.step(position).map_err(outside(index))?);
     }
     let stepped = sweep.rows();
     let pass = sweep.pass().map_err(outside(case.points.len()))?;
-    Ok(Ending::Inside { stepped, pass, passed: sweep.rows() })
+    let passed = sweep.rows();
+    let inserted = insertions(case, sweep, fates.clone())?;
+    Ok(Ending::Inside { stepped, pass, passed, inserted })
+}
+
+/// The skipped points, in list order, into the mesh that the pass has left.
+fn insertions(case: &Case, mut sweep: Sweep, mut fates: Vec<[u32; 4]>) -> Result<Insertions, Ending> {
+    if sweep.watch != Watch::Nowhere && sweep.passes_on().map_err(outside(case.points.len()))? {
+        return Ok(Insertions::AfterPasses);
+    }
+    for (index, &position) in case.points.iter().enumerate() {
+        if fates[index][0] < 3 {
+            continue;
+        }
+        match sweep.insert(position) {
+            Ok(fate) => fates[index] = fate,
+            Err(reason::SEARCH_PANICS) => return Ok(Insertions::SearchPanics),
+            Err(reason) => return Err(outside(index)(reason)),
+        }
+    }
+    Ok(Insertions::Made { fates, mesh: sweep.rows() })
 }

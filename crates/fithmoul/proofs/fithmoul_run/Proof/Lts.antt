@@ -212,7 +212,7 @@ abbrev pub r·3 : Kinds.RK 10
 r·3 = Value.rVal record { ty = Declared'.row FinishAnswer.the-type; one = Path'.refl; val = Laws'7.val FinishAnswer.the-type Laws'.the-laws; tells = Laws'7.tells FinishAnswer.the-type Laws'.the-laws; still = Laws'7.still FinishAnswer.the-type Laws'.the-copy Exit.yes; row = Rows.whole (Declared'.row FinishAnswer.the-type); rd = λ x. x; mk = λ x. x } λ M 𝓤 H A W. record { copies = Laws'7.copy FinishAnswer.the-type Laws'.the-copy 𝓤 H A W; lawful = Laws'7.lawful FinishAnswer.the-type Laws'.the-laws 𝓤 H A W; makes = Laws'7.makes FinishAnswer.the-type Laws'.the-plain 𝓤 H A; in-mem = Local.mem-whole 𝓤 H A W (Declared'.row FinishAnswer.the-type); of-mem = Local.whole-mem 𝓤 H A W (Declared'.row FinishAnswer.the-type) }
 
 abbrev pub ps·4 : List.List (Kinds.PK 4)
-ps·4 = List._∷_ (MutSlice.pMutS (Signed.SInt Syntax.w32) 0 tt) (List._∷_ (ShrSlice.pShrS (Referent.rtF (Referent.fInt Syntax.w64)) 1 tt) (List._∷_ (ShrSlice.pShrS (Signed.SInt Syntax.w32) 2 tt) (List._∷_ (ShrSlice.pShrS (Signed.SInt Syntax.w32) 3 tt) (List._∷_ (Num.pNum Syntax.w32) (List._∷_ (Value.pVal record { ty = Declared'.row FinishAnswer.the-type; one = Path'.refl; val = Laws'7.val FinishAnswer.the-type Laws'.the-laws; tells = Laws'7.tells FinishAnswer.the-type Laws'.the-laws; still = Laws'7.still FinishAnswer.the-type Laws'.the-copy Exit.yes; row = Rows.whole (Declared'.row FinishAnswer.the-type); rd = λ x. x; mk = λ x. x } λ M 𝓤 H A W. record { copies = Laws'7.copy FinishAnswer.the-type Laws'.the-copy 𝓤 H A W; lawful = Laws'7.lawful FinishAnswer.the-type Laws'.the-laws 𝓤 H A W; makes = Laws'7.makes FinishAnswer.the-type Laws'.the-plain 𝓤 H A; in-mem = Local.mem-whole 𝓤 H A W (Declared'.row FinishAnswer.the-type); of-mem = Local.whole-mem 𝓤 H A W (Declared'.row FinishAnswer.the-type) }) List.[])))))
+ps·4 = List._∷_ (MutSlice.pMutS (Signed.SInt Syntax.w32) 0 tt) (List._∷_ (ShrSlice.pShrS (Referent.rtF (Referent.fInt Syntax.w64)) 1 tt) (List._∷_ (ShrSlice.pShrS (Signed.SInt Syntax.w32) 2 tt) (List._∷_ (ShrSlice.pShrS (Signed.SInt Syntax.w32) 3 tt) (List._∷_ (Value.pVal record { ty = Declared'.row FinishAnswer.the-type; one = Path'.refl; val = Laws'7.val FinishAnswer.the-type Laws'.the-laws; tells = Laws'7.tells FinishAnswer.the-type Laws'.the-laws; still = Laws'7.still FinishAnswer.the-type Laws'.the-copy Exit.yes; row = Rows.whole (Declared'.row FinishAnswer.the-type); rd = λ x. x; mk = λ x. x } λ M 𝓤 H A W. record { copies = Laws'7.copy FinishAnswer.the-type Laws'.the-copy 𝓤 H A W; lawful = Laws'7.lawful FinishAnswer.the-type Laws'.the-laws 𝓤 H A W; makes = Laws'7.makes FinishAnswer.the-type Laws'.the-plain 𝓤 H A; in-mem = Local.mem-whole 𝓤 H A W (Declared'.row FinishAnswer.the-type); of-mem = Local.whole-mem 𝓤 H A W (Declared'.row FinishAnswer.the-type) }) List.[]))))
 
 abbrev pub r·4 : Kinds.RK 4
 r·4 = Unit'.rUnit
@@ -236,7 +236,7 @@ abbrev b2 : Syntax.Body
 b2 = Syntax.assign (Syntax.place 24 List.[]) (Syntax.rvOpd (Syntax.copy (Syntax.place 13 (List._∷_ (Syntax.field 1) List.[]))))
 
 abbrev b3 : Syntax.Body
-b3 = Syntax.call "run::answers_short" (List._∷_ (Syntax.copy (Syntax.place 24 List.[])) (List._∷_ (Syntax.copy (Syntax.place 16 List.[])) List.[])) (Syntax.place 20 List.[])
+b3 = Syntax.call "answers::answers_short" (List._∷_ (Syntax.copy (Syntax.place 24 List.[])) (List._∷_ (Syntax.copy (Syntax.place 16 List.[])) List.[])) (Syntax.place 20 List.[])
 
 abbrev b4 : Syntax.Body
 b4 = Syntax.assign (Syntax.place 25 List.[]) (Syntax.addrOf (Syntax.place 4 (List._∷_ (Syntax.field 0) (List._∷_ (Syntax.deref ty·0) List.[]))))
@@ -374,7 +374,7 @@ abbrev b48 : Syntax.Body
 b48 = Syntax.assign (Syntax.place 60 List.[]) (Syntax.aggregate (List._∷_ (Syntax.copy (Syntax.place 59 List.[])) (List._∷_ (Syntax.copy (Syntax.place 13 (List._∷_ (Syntax.field 1) List.[]))) List.[])))
 
 abbrev b49 : Syntax.Body
-b49 = Syntax.call "surface::store_run" (List._∷_ (Syntax.copy (Syntax.place 58 List.[])) (List._∷_ (Syntax.copy (Syntax.place 60 List.[])) (List._∷_ (Syntax.copy (Syntax.place 17 List.[])) (List._∷_ (Syntax.copy (Syntax.place 16 List.[])) (List._∷_ (Syntax.copy (Syntax.place 1 List.[])) (List._∷_ (Syntax.copy (Syntax.place 23 List.[])) List.[])))))) (Syntax.place 56 List.[])
+b49 = Syntax.call "surface::store_run" (List._∷_ (Syntax.copy (Syntax.place 58 List.[])) (List._∷_ (Syntax.copy (Syntax.place 60 List.[])) (List._∷_ (Syntax.copy (Syntax.place 17 List.[])) (List._∷_ (Syntax.copy (Syntax.place 16 List.[])) (List._∷_ (Syntax.copy (Syntax.place 23 List.[])) List.[]))))) (Syntax.place 56 List.[])
 
 abbrev b50 : Syntax.Body
 b50 = Syntax.call "fithmoul::results::finish_result" (List._∷_ (Syntax.copy (Syntax.place 23 List.[])) List.[]) (Syntax.place 0 List.[])
@@ -1521,7 +1521,7 @@ module _ (claims· : Claims) where
   s143 = Relend.k-sl-aggregate (Referent.rtF (Referent.fInt Syntax.w64)) (Relend.asShr (Referent.rtF (Referent.fInt Syntax.w64))) T145 59 60 27 ty·4 ty·4 (λ x. x) (Scalar.oFld 13 (List._∷_ (Syntax.field 1) List.[]) ty·1 8 λ v. Shared.lenV (v .0))
 
   abbrev s144 : Typed.Both T146 T147
-  s144 = Call.callB ps·4 r·4 (claims· .8) (claims· .9) T146 (record { pos = 58; ty = Syntax.tyRef Syntax.erased Syntax.mut ty·0; ref = λ x. x }, (record { pos = 60; ty = Syntax.tyRef Syntax.erased Syntax.imm ty·1; ref = λ x. x }, (record { pos = 17; ty = Syntax.tyRef (Syntax.named 11) Syntax.imm ty·0; ref = λ x. x }, (record { pos = 16; ty = Syntax.tyRef (Syntax.named 10) Syntax.imm ty·0; ref = λ x. x }, (Num.vAt 1 λ x. x, (record { pos = 23; st = List.[]; d = 0; at = λ x. x }, tt)))))) 56 (List._∷_ 26 (List._∷_ 27 (List._∷_ 11 (List._∷_ 10 List.[])))) Syntax.tyUnit
+  s144 = Call.callB ps·4 r·4 (claims· .8) (claims· .9) T146 (record { pos = 58; ty = Syntax.tyRef Syntax.erased Syntax.mut ty·0; ref = λ x. x }, (record { pos = 60; ty = Syntax.tyRef Syntax.erased Syntax.imm ty·1; ref = λ x. x }, (record { pos = 17; ty = Syntax.tyRef (Syntax.named 11) Syntax.imm ty·0; ref = λ x. x }, (record { pos = 16; ty = Syntax.tyRef (Syntax.named 10) Syntax.imm ty·0; ref = λ x. x }, (record { pos = 23; st = List.[]; d = 0; at = λ x. x }, tt))))) 56 (List._∷_ 26 (List._∷_ 27 (List._∷_ 11 (List._∷_ 10 List.[])))) Syntax.tyUnit
 
   abbrev s145 : Typed.Mo T147 → Typed.Mo T148
   s145 = Scalar.n-room T147 60 ty·21
@@ -1562,7 +1562,7 @@ module _ (claims· : Claims) where
   module _ (Pre· : (κs : Lifetimes.Lfts 12) → Kinds.Dens κs ps → Type 0) (Post· : (κs : Lifetimes.Lfts 12) → (a : Kinds.Dens κs ps) → Kinds.Plain 12 ps r κs) where
     module _ (M : Type 1) where
       abbrev pub Closed : Type 2
-      Closed = (𝓤 : URA.URA M) (H : Wp.Heap 𝓤) (A : Atoms.Atoms 𝓤) (W : Kit.Given 𝓤 H A) (𝓣 : Wp.Tables 𝓤 H) (known0 : Plain.Known 𝓤 H A W 𝓣 1 ps·0 r·0 (claims· .0) (claims· .1) "run::answers_short") (known1 : Plain.Known 𝓤 H A W 𝓣 7 ps·1 r·1 (claims· .2) (claims· .3) "surface::check_run") (known2 : Plain.Known 𝓤 H A W 𝓣 0 ps·2 r·2 (claims· .4) (claims· .5) "fithmoul::results::finish_refused") (known3 : Plain.Known 𝓤 H A W 𝓣 10 ps·3 r·3 (claims· .6) (claims· .7) "run::run") (known4 : Plain.Known 𝓤 H A W 𝓣 4 ps·4 r·4 (claims· .8) (claims· .9) "surface::store_run") (known5 : Plain.Known 𝓤 H A W 𝓣 0 ps·5 r·5 (claims· .10) (claims· .11) "fithmoul::results::finish_result") → Statement.Triple 𝓤 (Wp.WpFn 𝓤 H (𝓣 .C) (𝓣 .Λ) (Function.fnOf 12 ps r xs m hs body)) (Function.plainOf 𝓤 H A 12 ps r Pre· Post·)
+      Closed = (𝓤 : URA.URA M) (H : Wp.Heap 𝓤) (A : Atoms.Atoms 𝓤) (W : Kit.Given 𝓤 H A) (𝓣 : Wp.Tables 𝓤 H) (known0 : Plain.Known 𝓤 H A W 𝓣 1 ps·0 r·0 (claims· .0) (claims· .1) "answers::answers_short") (known1 : Plain.Known 𝓤 H A W 𝓣 7 ps·1 r·1 (claims· .2) (claims· .3) "surface::check_run") (known2 : Plain.Known 𝓤 H A W 𝓣 0 ps·2 r·2 (claims· .4) (claims· .5) "fithmoul::results::finish_refused") (known3 : Plain.Known 𝓤 H A W 𝓣 10 ps·3 r·3 (claims· .6) (claims· .7) "run::run") (known4 : Plain.Known 𝓤 H A W 𝓣 4 ps·4 r·4 (claims· .8) (claims· .9) "surface::store_run") (known5 : Plain.Known 𝓤 H A W 𝓣 0 ps·5 r·5 (claims· .10) (claims· .11) "fithmoul::results::finish_result") → Statement.Triple 𝓤 (Wp.WpFn 𝓤 H (𝓣 .C) (𝓣 .Λ) (Function.fnOf 12 ps r xs m hs body)) (Function.plainOf 𝓤 H A 12 ps r Pre· Post·)
 
     module _ where
       abbrev at0 : Typed.TF T74 O1
@@ -2068,7 +2068,7 @@ module _ (claims· : Claims) where
 
       module _ {M : Type 1} (𝓤 : URA.URA M) (H : Wp.Heap 𝓤) (A : Atoms.Atoms 𝓤) (W : Kit.Given 𝓤 H A) (𝓣 : Wp.Tables 𝓤 H) where
         abbrev Knowns : Type 1
-        Knowns = Plain.Known 𝓤 H A W 𝓣 1 ps·0 r·0 (claims· .0) (claims· .1) "run::answers_short" × Plain.Known 𝓤 H A W 𝓣 7 ps·1 r·1 (claims· .2) (claims· .3) "surface::check_run" × Plain.Known 𝓤 H A W 𝓣 0 ps·2 r·2 (claims· .4) (claims· .5) "fithmoul::results::finish_refused" × Plain.Known 𝓤 H A W 𝓣 10 ps·3 r·3 (claims· .6) (claims· .7) "run::run" × Plain.Known 𝓤 H A W 𝓣 4 ps·4 r·4 (claims· .8) (claims· .9) "surface::store_run" × Plain.Known 𝓤 H A W 𝓣 0 ps·5 r·5 (claims· .10) (claims· .11) "fithmoul::results::finish_result"
+        Knowns = Plain.Known 𝓤 H A W 𝓣 1 ps·0 r·0 (claims· .0) (claims· .1) "answers::answers_short" × Plain.Known 𝓤 H A W 𝓣 7 ps·1 r·1 (claims· .2) (claims· .3) "surface::check_run" × Plain.Known 𝓤 H A W 𝓣 0 ps·2 r·2 (claims· .4) (claims· .5) "fithmoul::results::finish_refused" × Plain.Known 𝓤 H A W 𝓣 10 ps·3 r·3 (claims· .6) (claims· .7) "run::run" × Plain.Known 𝓤 H A W 𝓣 4 ps·4 r·4 (claims· .8) (claims· .9) "surface::store_run" × Plain.Known 𝓤 H A W 𝓣 0 ps·5 r·5 (claims· .10) (claims· .11) "fithmoul::results::finish_result"
 
       module _ (κs : Lifetimes.Lfts 12) (qs : Lifetimes.Shares 12) where
         abbrev g10 : List.List Row.Entry
@@ -2844,7 +2844,7 @@ module _ (claims· : Claims) where
           d60 = Typed.g-pre 𝓤 H A W 𝓣 E G147 G148 b52 Δ0 (Typed.pass T147 T148 s145) at59 (Scalar.g-room 𝓤 H A W E G147 60 ty·21 (Shared.room-sslice 𝓤 H A W (Referent.rtF (Referent.fInt Syntax.w64)) ty·4 27)) d59
 
           d61 : Typed.Typed 𝓤 H A 𝓣 E G146 b53 Δ0 at61
-          d61 = Typed.s-seq 𝓤 H A W 𝓣 E G146 G147 b49 b52 Δ0 (Typed.both s144) at60 (Plain.t-call-plain 𝓤 H A W 𝓣 4 ps·4 r·4 (claims· .8) (claims· .9) "surface::store_run" (known .4) E (λ pos β. β) G146 (record { pos = 58; ty = Syntax.tyRef Syntax.erased Syntax.mut ty·0; ref = λ x. x }, (record { pos = 60; ty = Syntax.tyRef Syntax.erased Syntax.imm ty·1; ref = λ x. x }, (record { pos = 17; ty = Syntax.tyRef (Syntax.named 11) Syntax.imm ty·0; ref = λ x. x }, (record { pos = 16; ty = Syntax.tyRef (Syntax.named 10) Syntax.imm ty·0; ref = λ x. x }, (Num.vAt 1 λ x. x, (record { pos = 23; st = List.[]; d = 0; at = λ x. x }, tt)))))) 56 (List._∷_ 26 (List._∷_ 27 (List._∷_ 11 (List._∷_ 10 List.[])))) (Call.sub-id 𝓤 H A W (G146 .slots)) (Reads.as-is 𝓤 H A (Mut.mslice (Signed.SInt Syntax.w32) ty·5 26), Mut.reads-mslice 𝓤 H A W (Signed.SInt Syntax.w32) ty·5 26, Path'.refl, (ShrSlice.spares-sslice 𝓤 H A W (Referent.rtF (Referent.fInt Syntax.w64)) ty·4 27, Shared.reads-sslice 𝓤 H A W (Referent.rtF (Referent.fInt Syntax.w64)) ty·4 27, Path'.refl, (ShrSlice.spares-sslice 𝓤 H A W (Signed.SInt Syntax.w32) ty·17 11, Shared.reads-sslice 𝓤 H A W (Signed.SInt Syntax.w32) ty·17 11, Path'.refl, (ShrSlice.spares-sslice 𝓤 H A W (Signed.SInt Syntax.w32) ty·16 10, Shared.reads-sslice 𝓤 H A W (Signed.SInt Syntax.w32) ty·16 10, Path'.refl, ((Scalar.reads-sc 𝓤 H A W (Row.sInt Syntax.w32), Path'.refl), ((Yields.yields-copy 𝓤 H A W (λ ρ. Unit) (Declared'.row FinishAnswer.the-type) Path'.refl (Copies.cStruct FinishAnswer.the-type Laws'.the-laws Laws'.the-copy .copy 𝓤 H A W) (Rows.whole (Declared'.row FinishAnswer.the-type)) (λ x. x) (λ x. x) (λ ρ told. Local.mem-whole 𝓤 H A W (Declared'.row FinishAnswer.the-type) ρ) λ ρ told. Local.whole-mem 𝓤 H A W (Declared'.row FinishAnswer.the-type) ρ, Path'.refl), tt)))))) (Reads.room-gone 𝓤 H A Syntax.tyUnit) (tt, (tt, (tt, (tt, tt)))) Path'.refl) d60
+          d61 = Typed.s-seq 𝓤 H A W 𝓣 E G146 G147 b49 b52 Δ0 (Typed.both s144) at60 (Plain.t-call-plain 𝓤 H A W 𝓣 4 ps·4 r·4 (claims· .8) (claims· .9) "surface::store_run" (known .4) E (λ pos β. β) G146 (record { pos = 58; ty = Syntax.tyRef Syntax.erased Syntax.mut ty·0; ref = λ x. x }, (record { pos = 60; ty = Syntax.tyRef Syntax.erased Syntax.imm ty·1; ref = λ x. x }, (record { pos = 17; ty = Syntax.tyRef (Syntax.named 11) Syntax.imm ty·0; ref = λ x. x }, (record { pos = 16; ty = Syntax.tyRef (Syntax.named 10) Syntax.imm ty·0; ref = λ x. x }, (record { pos = 23; st = List.[]; d = 0; at = λ x. x }, tt))))) 56 (List._∷_ 26 (List._∷_ 27 (List._∷_ 11 (List._∷_ 10 List.[])))) (Call.sub-id 𝓤 H A W (G146 .slots)) (Reads.as-is 𝓤 H A (Mut.mslice (Signed.SInt Syntax.w32) ty·5 26), Mut.reads-mslice 𝓤 H A W (Signed.SInt Syntax.w32) ty·5 26, Path'.refl, (ShrSlice.spares-sslice 𝓤 H A W (Referent.rtF (Referent.fInt Syntax.w64)) ty·4 27, Shared.reads-sslice 𝓤 H A W (Referent.rtF (Referent.fInt Syntax.w64)) ty·4 27, Path'.refl, (ShrSlice.spares-sslice 𝓤 H A W (Signed.SInt Syntax.w32) ty·17 11, Shared.reads-sslice 𝓤 H A W (Signed.SInt Syntax.w32) ty·17 11, Path'.refl, (ShrSlice.spares-sslice 𝓤 H A W (Signed.SInt Syntax.w32) ty·16 10, Shared.reads-sslice 𝓤 H A W (Signed.SInt Syntax.w32) ty·16 10, Path'.refl, ((Yields.yields-copy 𝓤 H A W (λ ρ. Unit) (Declared'.row FinishAnswer.the-type) Path'.refl (Copies.cStruct FinishAnswer.the-type Laws'.the-laws Laws'.the-copy .copy 𝓤 H A W) (Rows.whole (Declared'.row FinishAnswer.the-type)) (λ x. x) (λ x. x) (λ ρ told. Local.mem-whole 𝓤 H A W (Declared'.row FinishAnswer.the-type) ρ) λ ρ told. Local.whole-mem 𝓤 H A W (Declared'.row FinishAnswer.the-type) ρ, Path'.refl), tt))))) (Reads.room-gone 𝓤 H A Syntax.tyUnit) (tt, (tt, (tt, (tt, tt)))) Path'.refl) d60
 
           d62 : Typed.Typed 𝓤 H A 𝓣 E G145 b54 Δ0 at62
           d62 = Typed.s-seq 𝓤 H A W 𝓣 E G145 G146 b48 b53 Δ0 (Typed.ask s143) at61 (Relend.t-sl-aggregate 𝓤 H A W E (Referent.rtF (Referent.fInt Syntax.w64)) 𝓣 (Relend.asShr (Referent.rtF (Referent.fInt Syntax.w64))) G145 59 60 27 ty·4 ty·4 (λ x. x) (Scalar.oFld 13 (List._∷_ (Syntax.field 1) List.[]) ty·1 8 λ v. Shared.lenV (v .0)) (Reads.as-is 𝓤 H A (Relend.ssptr (Referent.rtF (Referent.fInt Syntax.w64)) ty·4 27)) (Reads.room-gone 𝓤 H A ty·21) (Reshare.reads-owedS-len 𝓤 H A W (Referent.rtF (Referent.fInt Syntax.w64)) ty·15 9 27 (Row.lease (κs .1 .1 .1 .1 .1 .1 .1 .1 .1 .0) (qs .1 .1 .1 .1 .1 .1 .1 .1 .1 .0)) 8 Path'.refl, Path'.refl) Path'.refl Path'.refl λ b o k. tt) d61
@@ -3126,7 +3126,7 @@ module _ (claims· : Claims) where
           d154 = Typed.g-pre 𝓤 H A W 𝓣 E G12 G13 b92 Δ0 (Typed.pass T12 T13 s11) at153 (Scalar.g-room 𝓤 H A W E G12 24 ty·1 (Scalar.room-sc 𝓤 H A W (Row.sInt Syntax.w64))) d153
 
           d155 : Typed.Typed 𝓤 H A 𝓣 E G11 b93 Δ0 at155
-          d155 = Typed.s-seq 𝓤 H A W 𝓣 E G11 G12 b3 b92 Δ0 (Typed.both s10) at154 (Plain.t-call-plain 𝓤 H A W 𝓣 1 ps·0 r·0 (claims· .0) (claims· .1) "run::answers_short" (known .0) E (λ pos β. β) G11 (Num.vAt 24 λ x. x, (record { pos = 16; ty = Syntax.tyRef (Syntax.named 10) Syntax.imm ty·0; ref = λ x. x }, tt)) 20 (List._∷_ 10 List.[]) (Call.sub-id 𝓤 H A W (G11 .slots)) ((Scalar.reads-sc 𝓤 H A W (Row.sInt Syntax.w64), Path'.refl), (ShrSlice.spares-sslice 𝓤 H A W (Signed.SInt Syntax.w32) ty·16 10, Shared.reads-sslice 𝓤 H A W (Signed.SInt Syntax.w32) ty·16 10, Path'.refl, tt)) (Reads.room-gone 𝓤 H A Syntax.tyBool) (tt, tt) Path'.refl) d154
+          d155 = Typed.s-seq 𝓤 H A W 𝓣 E G11 G12 b3 b92 Δ0 (Typed.both s10) at154 (Plain.t-call-plain 𝓤 H A W 𝓣 1 ps·0 r·0 (claims· .0) (claims· .1) "answers::answers_short" (known .0) E (λ pos β. β) G11 (Num.vAt 24 λ x. x, (record { pos = 16; ty = Syntax.tyRef (Syntax.named 10) Syntax.imm ty·0; ref = λ x. x }, tt)) 20 (List._∷_ 10 List.[]) (Call.sub-id 𝓤 H A W (G11 .slots)) ((Scalar.reads-sc 𝓤 H A W (Row.sInt Syntax.w64), Path'.refl), (ShrSlice.spares-sslice 𝓤 H A W (Signed.SInt Syntax.w32) ty·16 10, Shared.reads-sslice 𝓤 H A W (Signed.SInt Syntax.w32) ty·16 10, Path'.refl, tt)) (Reads.room-gone 𝓤 H A Syntax.tyBool) (tt, tt) Path'.refl) d154
 
           d156 : Typed.Typed 𝓤 H A 𝓣 E G10 b94 Δ0 at156
           d156 = Typed.s-seq 𝓤 H A W 𝓣 E G10 G11 b2 b93 Δ0 (Typed.pass T10 T11 s9) at155 (Scalar.t-use 𝓤 H A W E 𝓣 G10 (Scalar.oFld 13 (List._∷_ (Syntax.field 1) List.[]) ty·1 8 Shared.lenV) 24 (Rows.sc-here (Row.sInt Syntax.w64)) ty·1 (Row.valS (Row.sInt Syntax.w64)) (Row.sInt Syntax.w64 .of) (Mut.reads-mslice-len 𝓤 H A W (Referent.rtF (Referent.fInt Syntax.w64)) ty·15 9 8 Path'.refl, Path'.refl) (Reads.room-gone 𝓤 H A ty·1) (Scalar.holds-sc 𝓤 H A W (Row.sInt Syntax.w64)) Path'.refl (λ u. Path'.refl) λ u. tt) d155
@@ -3946,14 +3946,14 @@ module _ (claims· : Claims) where
 
       module _ (before· : After-store-run-arg2) where
         abbrev pub After-store-run·own : Type 0
-        After-store-run·own = Called.Called ps·4 r·4 (claims· .9) T146 (record { pos = 58; ty = Syntax.tyRef Syntax.erased Syntax.mut ty·0; ref = λ x. x }, (record { pos = 60; ty = Syntax.tyRef Syntax.erased Syntax.imm ty·1; ref = λ x. x }, (record { pos = 17; ty = Syntax.tyRef (Syntax.named 11) Syntax.imm ty·0; ref = λ x. x }, (record { pos = 16; ty = Syntax.tyRef (Syntax.named 10) Syntax.imm ty·0; ref = λ x. x }, (Num.vAt 1 λ x. x, (record { pos = 23; st = List.[]; d = 0; at = λ x. x }, tt)))))) (m100 (before· .before) (before· .store-run-arg2 .given))
+        After-store-run·own = Called.Called ps·4 r·4 (claims· .9) T146 (record { pos = 58; ty = Syntax.tyRef Syntax.erased Syntax.mut ty·0; ref = λ x. x }, (record { pos = 60; ty = Syntax.tyRef Syntax.erased Syntax.imm ty·1; ref = λ x. x }, (record { pos = 17; ty = Syntax.tyRef (Syntax.named 11) Syntax.imm ty·0; ref = λ x. x }, (record { pos = 16; ty = Syntax.tyRef (Syntax.named 10) Syntax.imm ty·0; ref = λ x. x }, (record { pos = 23; st = List.[]; d = 0; at = λ x. x }, tt))))) (m100 (before· .before) (before· .store-run-arg2 .given))
 
       pub record After-store-run : Type 0 where
         pub before : After-store-run-arg2
         pub store-run : After-store-run·own before
 
       abbrev pub After-store-run·gave : (c : After-store-run) → s144 .gives (m100 (c .before .before) (c .before .store-run-arg2 .given))
-      After-store-run·gave = λ c. Called.given ps·4 r·4 (claims· .9) T146 (record { pos = 58; ty = Syntax.tyRef Syntax.erased Syntax.mut ty·0; ref = λ x. x }, (record { pos = 60; ty = Syntax.tyRef Syntax.erased Syntax.imm ty·1; ref = λ x. x }, (record { pos = 17; ty = Syntax.tyRef (Syntax.named 11) Syntax.imm ty·0; ref = λ x. x }, (record { pos = 16; ty = Syntax.tyRef (Syntax.named 10) Syntax.imm ty·0; ref = λ x. x }, (Num.vAt 1 λ x. x, (record { pos = 23; st = List.[]; d = 0; at = λ x. x }, tt)))))) (m100 (c .before .before) (c .before .store-run-arg2 .given)) (c .store-run)
+      After-store-run·gave = λ c. Called.given ps·4 r·4 (claims· .9) T146 (record { pos = 58; ty = Syntax.tyRef Syntax.erased Syntax.mut ty·0; ref = λ x. x }, (record { pos = 60; ty = Syntax.tyRef Syntax.erased Syntax.imm ty·1; ref = λ x. x }, (record { pos = 17; ty = Syntax.tyRef (Syntax.named 11) Syntax.imm ty·0; ref = λ x. x }, (record { pos = 16; ty = Syntax.tyRef (Syntax.named 10) Syntax.imm ty·0; ref = λ x. x }, (record { pos = 23; st = List.[]; d = 0; at = λ x. x }, tt))))) (m100 (c .before .before) (c .before .store-run-arg2 .given)) (c .store-run)
 
       abbrev pub m102 : (before : After-store-run-arg2) → (given : s144 .gives (m100 (before .before) (before .store-run-arg2 .given))) → Typed.Mo T148
       m102 = λ before given. s145 (m101 before given)
@@ -4054,7 +4054,7 @@ module _ (claims· : Claims) where
         lay7 = λ c. (Path'.refl, λ g. (finish-result-requires record { before = record { before = c .before; store-run = c .store-run }; heights = record { given = g } }, λ g'. lay8 record { before = record { before = record { before = c .before; store-run = c .store-run }; heights = record { given = g } }; finish-result = Called.called ps·5 r·5 (claims· .11) T154 (record { pos = 23; st = List.[]; d = 0; at = λ x. x }, tt) (m105 record { before = c .before; store-run = c .store-run } g) g' }))
 
         lay6 : (c : After-slice-known13) → at71 (W0 (c .before .before .before .before .before .before .before .before .before .before .before .before .before .before .before .before .before .before .before .before .before .before .before .before .before .before .before .before .before .before .before .before .before .before .before .before .before .before .before .before .κs) (c .before .before .before .before .before .before .before .before .before .before .before .before .before .before .before .before .before .before .before .before .before .before .before .before .before .before .before .before .before .before .before .before .before .before .before .before .before .before .before .before .args)) (m94 (c .before) (c .slice-known13 .given))
-        lay6 = λ c. (Path'.refl, λ g. λ g'. λ g''. (Path'.refl, λ g'3. (Path'.refl, (store-run-requires record { before = record { before = record { before = record { before = record { before = c .before; slice-known13 = c .slice-known13 }; answers = record { given = g } }; slice-known14 = record { given = g' } }; store-run-arg = record { given = g'' } }; store-run-arg2 = record { given = g'3 } }, λ g'4. lay7 record { before = record { before = record { before = record { before = record { before = record { before = c .before; slice-known13 = c .slice-known13 }; answers = record { given = g } }; slice-known14 = record { given = g' } }; store-run-arg = record { given = g'' } }; store-run-arg2 = record { given = g'3 } }; store-run = Called.called ps·4 r·4 (claims· .9) T146 (record { pos = 58; ty = Syntax.tyRef Syntax.erased Syntax.mut ty·0; ref = λ x. x }, (record { pos = 60; ty = Syntax.tyRef Syntax.erased Syntax.imm ty·1; ref = λ x. x }, (record { pos = 17; ty = Syntax.tyRef (Syntax.named 11) Syntax.imm ty·0; ref = λ x. x }, (record { pos = 16; ty = Syntax.tyRef (Syntax.named 10) Syntax.imm ty·0; ref = λ x. x }, (Num.vAt 1 λ x. x, (record { pos = 23; st = List.[]; d = 0; at = λ x. x }, tt)))))) (m100 record { before = record { before = record { before = record { before = c .before; slice-known13 = c .slice-known13 }; answers = record { given = g } }; slice-known14 = record { given = g' } }; store-run-arg = record { given = g'' } } g'3) g'4 }))))
+        lay6 = λ c. (Path'.refl, λ g. λ g'. λ g''. (Path'.refl, λ g'3. (Path'.refl, (store-run-requires record { before = record { before = record { before = record { before = record { before = c .before; slice-known13 = c .slice-known13 }; answers = record { given = g } }; slice-known14 = record { given = g' } }; store-run-arg = record { given = g'' } }; store-run-arg2 = record { given = g'3 } }, λ g'4. lay7 record { before = record { before = record { before = record { before = record { before = record { before = c .before; slice-known13 = c .slice-known13 }; answers = record { given = g } }; slice-known14 = record { given = g' } }; store-run-arg = record { given = g'' } }; store-run-arg2 = record { given = g'3 } }; store-run = Called.called ps·4 r·4 (claims· .9) T146 (record { pos = 58; ty = Syntax.tyRef Syntax.erased Syntax.mut ty·0; ref = λ x. x }, (record { pos = 60; ty = Syntax.tyRef Syntax.erased Syntax.imm ty·1; ref = λ x. x }, (record { pos = 17; ty = Syntax.tyRef (Syntax.named 11) Syntax.imm ty·0; ref = λ x. x }, (record { pos = 16; ty = Syntax.tyRef (Syntax.named 10) Syntax.imm ty·0; ref = λ x. x }, (record { pos = 23; st = List.[]; d = 0; at = λ x. x }, tt))))) (m100 record { before = record { before = record { before = record { before = c .before; slice-known13 = c .slice-known13 }; answers = record { given = g } }; slice-known14 = record { given = g' } }; store-run-arg = record { given = g'' } } g'3) g'4 }))))
 
         lay5 : (c : After-run) → at103 (W0 (c .before .before .before .before .before .before .before .before .before .before .before .before .before .before .before .before .before .before .before .before .before .before .before .before .before .before .κs) (c .before .before .before .before .before .before .before .before .before .before .before .before .before .before .before .before .before .before .before .before .before .before .before .before .before .before .args)) (m78 (c .before) (After-run·gave c))
         lay5 = λ c. (Path'.refl, λ g. (Path'.refl, λ g'. λ g''. (Path'.refl, λ g'3. λ g'4. (Path'.refl, λ g'5. λ g'6. (Path'.refl, λ g'7. (Path'.refl, λ g'8. λ g'9. (Path'.refl, λ g'10. λ g'11. (Path'.refl, λ g'12. λ g'13. lay6 record { before = record { before = record { before = record { before = record { before = record { before = record { before = record { before = record { before = record { before = record { before = record { before = record { before = record { before = record { before = c .before; run = c .run }; positions = record { given = g } }; outs = record { given = g' } }; slice-known8 = record { given = g'' } }; halves = record { given = g'3 } }; slice-known9 = record { given = g'4 } }; adjacent = record { given = g'5 } }; slice-known10 = record { given = g'6 } }; nodes = record { given = g'7 } }; freed = record { given = g'8 } }; slice-known11 = record { given = g'9 } }; buckets = record { given = g'10 } }; slice-known12 = record { given = g'11 } }; pending = record { given = g'12 } }; slice-known13 = record { given = g'13 } }))))))))
@@ -4078,6 +4078,6 @@ module _ (claims· : Claims) where
           pub asked : (a : Kinds.Dens κs ps) → (good : Kinds.GoodsP κs ps a) → (pre : Pre· κs a) → (bs : List.List Nat.ℕ) → Φ (Any.wantQ 12 ps r xs m κs qs a (Post· κs a)) (Function.init 12 ps r xs m κs qs a)
           asked = λ a good pre bs. laid record { κs = κs; args = record { vertices = a .0; edges = a .1 .0; faces = a .1 .1 .0; positions = a .1 .1 .1 .0; heights = a .1 .1 .1 .1 .0; outs = a .1 .1 .1 .1 .1 .0; halves = a .1 .1 .1 .1 .1 .1 .0; adjacent = a .1 .1 .1 .1 .1 .1 .1 .0; nodes = a .1 .1 .1 .1 .1 .1 .1 .1 .0; freed = a .1 .1 .1 .1 .1 .1 .1 .1 .1 .0; buckets = a .1 .1 .1 .1 .1 .1 .1 .1 .1 .1 .0; pending = a .1 .1 .1 .1 .1 .1 .1 .1 .1 .1 .1 .0; answers = a .1 .1 .1 .1 .1 .1 .1 .1 .1 .1 .1 .1 .0; center-x = a .1 .1 .1 .1 .1 .1 .1 .1 .1 .1 .1 .1 .1 .0; center-y = a .1 .1 .1 .1 .1 .1 .1 .1 .1 .1 .1 .1 .1 .1 .0; points = a .1 .1 .1 .1 .1 .1 .1 .1 .1 .1 .1 .1 .1 .1 .1 .0; point-heights = a .1 .1 .1 .1 .1 .1 .1 .1 .1 .1 .1 .1 .1 .1 .1 .1 .0 }; good = good; fits = record { vertices = record { fits = good .0 .1 }; edges = record { fits = good .1 .0 .1 }; faces = record { fits = good .1 .1 .0 .1 } }; pre = pre }
 
-        module _ {M : Type 1} (𝓤 : URA.URA M) (H : Wp.Heap 𝓤) (A : Atoms.Atoms 𝓤) (W : Kit.Given 𝓤 H A) (𝓣 : Wp.Tables 𝓤 H) (known0 : Plain.Known 𝓤 H A W 𝓣 1 ps·0 r·0 (claims· .0) (claims· .1) "run::answers_short") (known1 : Plain.Known 𝓤 H A W 𝓣 7 ps·1 r·1 (claims· .2) (claims· .3) "surface::check_run") (known2 : Plain.Known 𝓤 H A W 𝓣 0 ps·2 r·2 (claims· .4) (claims· .5) "fithmoul::results::finish_refused") (known3 : Plain.Known 𝓤 H A W 𝓣 10 ps·3 r·3 (claims· .6) (claims· .7) "run::run") (known4 : Plain.Known 𝓤 H A W 𝓣 4 ps·4 r·4 (claims· .8) (claims· .9) "surface::store_run") (known5 : Plain.Known 𝓤 H A W 𝓣 0 ps·5 r·5 (claims· .10) (claims· .11) "fithmoul::results::finish_result") where
+        module _ {M : Type 1} (𝓤 : URA.URA M) (H : Wp.Heap 𝓤) (A : Atoms.Atoms 𝓤) (W : Kit.Given 𝓤 H A) (𝓣 : Wp.Tables 𝓤 H) (known0 : Plain.Known 𝓤 H A W 𝓣 1 ps·0 r·0 (claims· .0) (claims· .1) "answers::answers_short") (known1 : Plain.Known 𝓤 H A W 𝓣 7 ps·1 r·1 (claims· .2) (claims· .3) "surface::check_run") (known2 : Plain.Known 𝓤 H A W 𝓣 0 ps·2 r·2 (claims· .4) (claims· .5) "fithmoul::results::finish_refused") (known3 : Plain.Known 𝓤 H A W 𝓣 10 ps·3 r·3 (claims· .6) (claims· .7) "run::run") (known4 : Plain.Known 𝓤 H A W 𝓣 4 ps·4 r·4 (claims· .8) (claims· .9) "surface::store_run") (known5 : Plain.Known 𝓤 H A W 𝓣 0 ps·5 r·5 (claims· .10) (claims· .11) "fithmoul::results::finish_result") where
           pub spec : Statement.Triple 𝓤 (Wp.WpFn 𝓤 H (𝓣 .C) (𝓣 .Λ) (Function.fnOf 12 ps r xs m hs body)) (Function.plainOf 𝓤 H A 12 ps r Pre· Post·)
           spec = Plain.t-fn-plain 𝓤 H A W 𝓣 12 ps r xs m hs body (λ κs qs bs. Φ) (λ κs qs bs bd. typed κs qs 𝓤 H A W 𝓣 (known0, known1, known2, known3, known4, known5) bs bd) Pre· Post· asked

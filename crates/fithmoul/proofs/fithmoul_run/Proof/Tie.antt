@@ -1,19 +1,19 @@
 -- Made by tools/transplant.py from what the borrow checker makes of the twin of this crate.
+use Rattle.answers.proofs.answers_short.Met
+use Rattle.answers.proofs.answers_short.Reads
+use Rattle.answers.proofs.answers_short.Symbol
 use Rattle.fithmoul.proofs.fithmoul_run.Code
 use Rattle.fithmoul.proofs.fithmoul_run.Key
 use Rattle.fithmoul.proofs.Sig.Kinds_fithmoul_run as Kinds
 use Rattle.fithmoul.proofs.fithmoul_run.Proof.Lts
-use Rattle.fithmoul.proofs.Sig.Reads_fithmoul_run as Reads
+use Rattle.fithmoul.proofs.Sig.Reads_fithmoul_run as Reads'
 use Rattle.fithmoul.proofs.fithmoul_run.Statement
-use Rattle.fithmoul.proofs.results.finish_refused.Met
-use Rattle.fithmoul.proofs.results.finish_refused.Reads as Reads'
-use Rattle.fithmoul.proofs.results.finish_refused.Symbol
-use Rattle.fithmoul.proofs.results.finish_result.Met as Met'
-use Rattle.fithmoul.proofs.results.finish_result.Reads as Reads''
-use Rattle.fithmoul.proofs.results.finish_result.Symbol as Symbol'
-use Rattle.run.proofs.answers_short.Met as Met''
-use Rattle.run.proofs.answers_short.Reads as Reads'3
-use Rattle.run.proofs.answers_short.Symbol as Symbol''
+use Rattle.fithmoul.proofs.results.finish_refused.Met as Met'
+use Rattle.fithmoul.proofs.results.finish_refused.Reads as Reads''
+use Rattle.fithmoul.proofs.results.finish_refused.Symbol as Symbol'
+use Rattle.fithmoul.proofs.results.finish_result.Met as Met''
+use Rattle.fithmoul.proofs.results.finish_result.Reads as Reads'3
+use Rattle.fithmoul.proofs.results.finish_result.Symbol as Symbol''
 use Rattle.run.proofs.run.Met as Met'3
 use Rattle.fithmoul.proofs.Sig.Reads_run_run as Reads'4
 use Rattle.run.proofs.run.Symbol as Symbol'3
@@ -28,240 +28,240 @@ use borrow.Fn.Written
 use contract.Running
 
 abbrev pub Start : Type 0
-Start = Lts.Start (Reads'3.Asked, Reads'3.Learnt, Reads'5.Asked, Reads'5.Learnt, Reads'.Asked, Reads'.Learnt, Reads'4.Asked, Reads'4.Learnt, Reads'6.Asked, Reads'6.Learnt, Reads''.Asked, Reads''.Learnt) Reads.Pre Reads.Post
+Start = Lts.Start (Reads.Asked, Reads.Learnt, Reads'5.Asked, Reads'5.Learnt, Reads''.Asked, Reads''.Learnt, Reads'4.Asked, Reads'4.Learnt, Reads'6.Asked, Reads'6.Learnt, Reads'3.Asked, Reads'3.Learnt) Reads'.Pre Reads'.Post
 
 abbrev pub After-slice-known : Type 0
-After-slice-known = Lts.After-slice-known (Reads'3.Asked, Reads'3.Learnt, Reads'5.Asked, Reads'5.Learnt, Reads'.Asked, Reads'.Learnt, Reads'4.Asked, Reads'4.Learnt, Reads'6.Asked, Reads'6.Learnt, Reads''.Asked, Reads''.Learnt) Reads.Pre Reads.Post
+After-slice-known = Lts.After-slice-known (Reads.Asked, Reads.Learnt, Reads'5.Asked, Reads'5.Learnt, Reads''.Asked, Reads''.Learnt, Reads'4.Asked, Reads'4.Learnt, Reads'6.Asked, Reads'6.Learnt, Reads'3.Asked, Reads'3.Learnt) Reads'.Pre Reads'.Post
 
 abbrev pub After-slice-known2 : Type 0
-After-slice-known2 = Lts.After-slice-known2 (Reads'3.Asked, Reads'3.Learnt, Reads'5.Asked, Reads'5.Learnt, Reads'.Asked, Reads'.Learnt, Reads'4.Asked, Reads'4.Learnt, Reads'6.Asked, Reads'6.Learnt, Reads''.Asked, Reads''.Learnt) Reads.Pre Reads.Post
+After-slice-known2 = Lts.After-slice-known2 (Reads.Asked, Reads.Learnt, Reads'5.Asked, Reads'5.Learnt, Reads''.Asked, Reads''.Learnt, Reads'4.Asked, Reads'4.Learnt, Reads'6.Asked, Reads'6.Learnt, Reads'3.Asked, Reads'3.Learnt) Reads'.Pre Reads'.Post
 
 abbrev pub After-slice-known3 : Type 0
-After-slice-known3 = Lts.After-slice-known3 (Reads'3.Asked, Reads'3.Learnt, Reads'5.Asked, Reads'5.Learnt, Reads'.Asked, Reads'.Learnt, Reads'4.Asked, Reads'4.Learnt, Reads'6.Asked, Reads'6.Learnt, Reads''.Asked, Reads''.Learnt) Reads.Pre Reads.Post
+After-slice-known3 = Lts.After-slice-known3 (Reads.Asked, Reads.Learnt, Reads'5.Asked, Reads'5.Learnt, Reads''.Asked, Reads''.Learnt, Reads'4.Asked, Reads'4.Learnt, Reads'6.Asked, Reads'6.Learnt, Reads'3.Asked, Reads'3.Learnt) Reads'.Pre Reads'.Post
 
 abbrev pub After-slice-known4 : Type 0
-After-slice-known4 = Lts.After-slice-known4 (Reads'3.Asked, Reads'3.Learnt, Reads'5.Asked, Reads'5.Learnt, Reads'.Asked, Reads'.Learnt, Reads'4.Asked, Reads'4.Learnt, Reads'6.Asked, Reads'6.Learnt, Reads''.Asked, Reads''.Learnt) Reads.Pre Reads.Post
+After-slice-known4 = Lts.After-slice-known4 (Reads.Asked, Reads.Learnt, Reads'5.Asked, Reads'5.Learnt, Reads''.Asked, Reads''.Learnt, Reads'4.Asked, Reads'4.Learnt, Reads'6.Asked, Reads'6.Learnt, Reads'3.Asked, Reads'3.Learnt) Reads'.Pre Reads'.Post
 
 abbrev pub After-slice-known5 : Type 0
-After-slice-known5 = Lts.After-slice-known5 (Reads'3.Asked, Reads'3.Learnt, Reads'5.Asked, Reads'5.Learnt, Reads'.Asked, Reads'.Learnt, Reads'4.Asked, Reads'4.Learnt, Reads'6.Asked, Reads'6.Learnt, Reads''.Asked, Reads''.Learnt) Reads.Pre Reads.Post
+After-slice-known5 = Lts.After-slice-known5 (Reads.Asked, Reads.Learnt, Reads'5.Asked, Reads'5.Learnt, Reads''.Asked, Reads''.Learnt, Reads'4.Asked, Reads'4.Learnt, Reads'6.Asked, Reads'6.Learnt, Reads'3.Asked, Reads'3.Learnt) Reads'.Pre Reads'.Post
 
 abbrev pub After-slice-known6 : Type 0
-After-slice-known6 = Lts.After-slice-known6 (Reads'3.Asked, Reads'3.Learnt, Reads'5.Asked, Reads'5.Learnt, Reads'.Asked, Reads'.Learnt, Reads'4.Asked, Reads'4.Learnt, Reads'6.Asked, Reads'6.Learnt, Reads''.Asked, Reads''.Learnt) Reads.Pre Reads.Post
+After-slice-known6 = Lts.After-slice-known6 (Reads.Asked, Reads.Learnt, Reads'5.Asked, Reads'5.Learnt, Reads''.Asked, Reads''.Learnt, Reads'4.Asked, Reads'4.Learnt, Reads'6.Asked, Reads'6.Learnt, Reads'3.Asked, Reads'3.Learnt) Reads'.Pre Reads'.Post
 
 abbrev pub After-slice-known7 : Type 0
-After-slice-known7 = Lts.After-slice-known7 (Reads'3.Asked, Reads'3.Learnt, Reads'5.Asked, Reads'5.Learnt, Reads'.Asked, Reads'.Learnt, Reads'4.Asked, Reads'4.Learnt, Reads'6.Asked, Reads'6.Learnt, Reads''.Asked, Reads''.Learnt) Reads.Pre Reads.Post
+After-slice-known7 = Lts.After-slice-known7 (Reads.Asked, Reads.Learnt, Reads'5.Asked, Reads'5.Learnt, Reads''.Asked, Reads''.Learnt, Reads'4.Asked, Reads'4.Learnt, Reads'6.Asked, Reads'6.Learnt, Reads'3.Asked, Reads'3.Learnt) Reads'.Pre Reads'.Post
 
 abbrev pub After-answers-short : Type 0
-After-answers-short = Lts.After-answers-short (Reads'3.Asked, Reads'3.Learnt, Reads'5.Asked, Reads'5.Learnt, Reads'.Asked, Reads'.Learnt, Reads'4.Asked, Reads'4.Learnt, Reads'6.Asked, Reads'6.Learnt, Reads''.Asked, Reads''.Learnt) Reads.Pre Reads.Post
+After-answers-short = Lts.After-answers-short (Reads.Asked, Reads.Learnt, Reads'5.Asked, Reads'5.Learnt, Reads''.Asked, Reads''.Learnt, Reads'4.Asked, Reads'4.Learnt, Reads'6.Asked, Reads'6.Learnt, Reads'3.Asked, Reads'3.Learnt) Reads'.Pre Reads'.Post
 
 abbrev pub After-check-run-arg : Type 0
-After-check-run-arg = Lts.After-check-run-arg (Reads'3.Asked, Reads'3.Learnt, Reads'5.Asked, Reads'5.Learnt, Reads'.Asked, Reads'.Learnt, Reads'4.Asked, Reads'4.Learnt, Reads'6.Asked, Reads'6.Learnt, Reads''.Asked, Reads''.Learnt) Reads.Pre Reads.Post
+After-check-run-arg = Lts.After-check-run-arg (Reads.Asked, Reads.Learnt, Reads'5.Asked, Reads'5.Learnt, Reads''.Asked, Reads''.Learnt, Reads'4.Asked, Reads'4.Learnt, Reads'6.Asked, Reads'6.Learnt, Reads'3.Asked, Reads'3.Learnt) Reads'.Pre Reads'.Post
 
 abbrev pub After-check-run-arg2 : Type 0
-After-check-run-arg2 = Lts.After-check-run-arg2 (Reads'3.Asked, Reads'3.Learnt, Reads'5.Asked, Reads'5.Learnt, Reads'.Asked, Reads'.Learnt, Reads'4.Asked, Reads'4.Learnt, Reads'6.Asked, Reads'6.Learnt, Reads''.Asked, Reads''.Learnt) Reads.Pre Reads.Post
+After-check-run-arg2 = Lts.After-check-run-arg2 (Reads.Asked, Reads.Learnt, Reads'5.Asked, Reads'5.Learnt, Reads''.Asked, Reads''.Learnt, Reads'4.Asked, Reads'4.Learnt, Reads'6.Asked, Reads'6.Learnt, Reads'3.Asked, Reads'3.Learnt) Reads'.Pre Reads'.Post
 
 abbrev pub After-check-run-arg3 : Type 0
-After-check-run-arg3 = Lts.After-check-run-arg3 (Reads'3.Asked, Reads'3.Learnt, Reads'5.Asked, Reads'5.Learnt, Reads'.Asked, Reads'.Learnt, Reads'4.Asked, Reads'4.Learnt, Reads'6.Asked, Reads'6.Learnt, Reads''.Asked, Reads''.Learnt) Reads.Pre Reads.Post
+After-check-run-arg3 = Lts.After-check-run-arg3 (Reads.Asked, Reads.Learnt, Reads'5.Asked, Reads'5.Learnt, Reads''.Asked, Reads''.Learnt, Reads'4.Asked, Reads'4.Learnt, Reads'6.Asked, Reads'6.Learnt, Reads'3.Asked, Reads'3.Learnt) Reads'.Pre Reads'.Post
 
 abbrev pub After-check-run-arg4 : Type 0
-After-check-run-arg4 = Lts.After-check-run-arg4 (Reads'3.Asked, Reads'3.Learnt, Reads'5.Asked, Reads'5.Learnt, Reads'.Asked, Reads'.Learnt, Reads'4.Asked, Reads'4.Learnt, Reads'6.Asked, Reads'6.Learnt, Reads''.Asked, Reads''.Learnt) Reads.Pre Reads.Post
+After-check-run-arg4 = Lts.After-check-run-arg4 (Reads.Asked, Reads.Learnt, Reads'5.Asked, Reads'5.Learnt, Reads''.Asked, Reads''.Learnt, Reads'4.Asked, Reads'4.Learnt, Reads'6.Asked, Reads'6.Learnt, Reads'3.Asked, Reads'3.Learnt) Reads'.Pre Reads'.Post
 
 abbrev pub After-check-run-arg5 : Type 0
-After-check-run-arg5 = Lts.After-check-run-arg5 (Reads'3.Asked, Reads'3.Learnt, Reads'5.Asked, Reads'5.Learnt, Reads'.Asked, Reads'.Learnt, Reads'4.Asked, Reads'4.Learnt, Reads'6.Asked, Reads'6.Learnt, Reads''.Asked, Reads''.Learnt) Reads.Pre Reads.Post
+After-check-run-arg5 = Lts.After-check-run-arg5 (Reads.Asked, Reads.Learnt, Reads'5.Asked, Reads'5.Learnt, Reads''.Asked, Reads''.Learnt, Reads'4.Asked, Reads'4.Learnt, Reads'6.Asked, Reads'6.Learnt, Reads'3.Asked, Reads'3.Learnt) Reads'.Pre Reads'.Post
 
 abbrev pub After-check-run : Type 0
-After-check-run = Lts.After-check-run (Reads'3.Asked, Reads'3.Learnt, Reads'5.Asked, Reads'5.Learnt, Reads'.Asked, Reads'.Learnt, Reads'4.Asked, Reads'4.Learnt, Reads'6.Asked, Reads'6.Learnt, Reads''.Asked, Reads''.Learnt) Reads.Pre Reads.Post
+After-check-run = Lts.After-check-run (Reads.Asked, Reads.Learnt, Reads'5.Asked, Reads'5.Learnt, Reads''.Asked, Reads''.Learnt, Reads'4.Asked, Reads'4.Learnt, Reads'6.Asked, Reads'6.Learnt, Reads'3.Asked, Reads'3.Learnt) Reads'.Pre Reads'.Post
 
 abbrev pub At-match-keys1 : Type 0
-At-match-keys1 = Lts.At-match-keys1 (Reads'3.Asked, Reads'3.Learnt, Reads'5.Asked, Reads'5.Learnt, Reads'.Asked, Reads'.Learnt, Reads'4.Asked, Reads'4.Learnt, Reads'6.Asked, Reads'6.Learnt, Reads''.Asked, Reads''.Learnt) Reads.Pre Reads.Post
+At-match-keys1 = Lts.At-match-keys1 (Reads.Asked, Reads.Learnt, Reads'5.Asked, Reads'5.Learnt, Reads''.Asked, Reads''.Learnt, Reads'4.Asked, Reads'4.Learnt, Reads'6.Asked, Reads'6.Learnt, Reads'3.Asked, Reads'3.Learnt) Reads'.Pre Reads'.Post
 
 abbrev pub After-checked : Type 0
-After-checked = Lts.After-checked (Reads'3.Asked, Reads'3.Learnt, Reads'5.Asked, Reads'5.Learnt, Reads'.Asked, Reads'.Learnt, Reads'4.Asked, Reads'4.Learnt, Reads'6.Asked, Reads'6.Learnt, Reads''.Asked, Reads''.Learnt) Reads.Pre Reads.Post
+After-checked = Lts.After-checked (Reads.Asked, Reads.Learnt, Reads'5.Asked, Reads'5.Learnt, Reads''.Asked, Reads''.Learnt, Reads'4.Asked, Reads'4.Learnt, Reads'6.Asked, Reads'6.Learnt, Reads'3.Asked, Reads'3.Learnt) Reads'.Pre Reads'.Post
 
 abbrev pub After-known-told : Type 0
-After-known-told = Lts.After-known-told (Reads'3.Asked, Reads'3.Learnt, Reads'5.Asked, Reads'5.Learnt, Reads'.Asked, Reads'.Learnt, Reads'4.Asked, Reads'4.Learnt, Reads'6.Asked, Reads'6.Learnt, Reads''.Asked, Reads''.Learnt) Reads.Pre Reads.Post
+After-known-told = Lts.After-known-told (Reads.Asked, Reads.Learnt, Reads'5.Asked, Reads'5.Learnt, Reads''.Asked, Reads''.Learnt, Reads'4.Asked, Reads'4.Learnt, Reads'6.Asked, Reads'6.Learnt, Reads'3.Asked, Reads'3.Learnt) Reads'.Pre Reads'.Post
 
 abbrev pub After-finish-refused : Type 0
-After-finish-refused = Lts.After-finish-refused (Reads'3.Asked, Reads'3.Learnt, Reads'5.Asked, Reads'5.Learnt, Reads'.Asked, Reads'.Learnt, Reads'4.Asked, Reads'4.Learnt, Reads'6.Asked, Reads'6.Learnt, Reads''.Asked, Reads''.Learnt) Reads.Pre Reads.Post
+After-finish-refused = Lts.After-finish-refused (Reads.Asked, Reads.Learnt, Reads'5.Asked, Reads'5.Learnt, Reads''.Asked, Reads''.Learnt, Reads'4.Asked, Reads'4.Learnt, Reads'6.Asked, Reads'6.Learnt, Reads'3.Asked, Reads'3.Learnt) Reads'.Pre Reads'.Post
 
 abbrev pub At-match-keys2 : Type 0
-At-match-keys2 = Lts.At-match-keys2 (Reads'3.Asked, Reads'3.Learnt, Reads'5.Asked, Reads'5.Learnt, Reads'.Asked, Reads'.Learnt, Reads'4.Asked, Reads'4.Learnt, Reads'6.Asked, Reads'6.Learnt, Reads''.Asked, Reads''.Learnt) Reads.Pre Reads.Post
+At-match-keys2 = Lts.At-match-keys2 (Reads.Asked, Reads.Learnt, Reads'5.Asked, Reads'5.Learnt, Reads''.Asked, Reads''.Learnt, Reads'4.Asked, Reads'4.Learnt, Reads'6.Asked, Reads'6.Learnt, Reads'3.Asked, Reads'3.Learnt) Reads'.Pre Reads'.Post
 
 abbrev pub After-enum-told : Type 0
-After-enum-told = Lts.After-enum-told (Reads'3.Asked, Reads'3.Learnt, Reads'5.Asked, Reads'5.Learnt, Reads'.Asked, Reads'.Learnt, Reads'4.Asked, Reads'4.Learnt, Reads'6.Asked, Reads'6.Learnt, Reads''.Asked, Reads''.Learnt) Reads.Pre Reads.Post
+After-enum-told = Lts.After-enum-told (Reads.Asked, Reads.Learnt, Reads'5.Asked, Reads'5.Learnt, Reads''.Asked, Reads''.Learnt, Reads'4.Asked, Reads'4.Learnt, Reads'6.Asked, Reads'6.Learnt, Reads'3.Asked, Reads'3.Learnt) Reads'.Pre Reads'.Post
 
 abbrev pub After-run-arg : Type 0
-After-run-arg = Lts.After-run-arg (Reads'3.Asked, Reads'3.Learnt, Reads'5.Asked, Reads'5.Learnt, Reads'.Asked, Reads'.Learnt, Reads'4.Asked, Reads'4.Learnt, Reads'6.Asked, Reads'6.Learnt, Reads''.Asked, Reads''.Learnt) Reads.Pre Reads.Post
+After-run-arg = Lts.After-run-arg (Reads.Asked, Reads.Learnt, Reads'5.Asked, Reads'5.Learnt, Reads''.Asked, Reads''.Learnt, Reads'4.Asked, Reads'4.Learnt, Reads'6.Asked, Reads'6.Learnt, Reads'3.Asked, Reads'3.Learnt) Reads'.Pre Reads'.Post
 
 abbrev pub After-run-arg2 : Type 0
-After-run-arg2 = Lts.After-run-arg2 (Reads'3.Asked, Reads'3.Learnt, Reads'5.Asked, Reads'5.Learnt, Reads'.Asked, Reads'.Learnt, Reads'4.Asked, Reads'4.Learnt, Reads'6.Asked, Reads'6.Learnt, Reads''.Asked, Reads''.Learnt) Reads.Pre Reads.Post
+After-run-arg2 = Lts.After-run-arg2 (Reads.Asked, Reads.Learnt, Reads'5.Asked, Reads'5.Learnt, Reads''.Asked, Reads''.Learnt, Reads'4.Asked, Reads'4.Learnt, Reads'6.Asked, Reads'6.Learnt, Reads'3.Asked, Reads'3.Learnt) Reads'.Pre Reads'.Post
 
 abbrev pub After-run-arg3 : Type 0
-After-run-arg3 = Lts.After-run-arg3 (Reads'3.Asked, Reads'3.Learnt, Reads'5.Asked, Reads'5.Learnt, Reads'.Asked, Reads'.Learnt, Reads'4.Asked, Reads'4.Learnt, Reads'6.Asked, Reads'6.Learnt, Reads''.Asked, Reads''.Learnt) Reads.Pre Reads.Post
+After-run-arg3 = Lts.After-run-arg3 (Reads.Asked, Reads.Learnt, Reads'5.Asked, Reads'5.Learnt, Reads''.Asked, Reads''.Learnt, Reads'4.Asked, Reads'4.Learnt, Reads'6.Asked, Reads'6.Learnt, Reads'3.Asked, Reads'3.Learnt) Reads'.Pre Reads'.Post
 
 abbrev pub After-run-arg4 : Type 0
-After-run-arg4 = Lts.After-run-arg4 (Reads'3.Asked, Reads'3.Learnt, Reads'5.Asked, Reads'5.Learnt, Reads'.Asked, Reads'.Learnt, Reads'4.Asked, Reads'4.Learnt, Reads'6.Asked, Reads'6.Learnt, Reads''.Asked, Reads''.Learnt) Reads.Pre Reads.Post
+After-run-arg4 = Lts.After-run-arg4 (Reads.Asked, Reads.Learnt, Reads'5.Asked, Reads'5.Learnt, Reads''.Asked, Reads''.Learnt, Reads'4.Asked, Reads'4.Learnt, Reads'6.Asked, Reads'6.Learnt, Reads'3.Asked, Reads'3.Learnt) Reads'.Pre Reads'.Post
 
 abbrev pub After-run-arg5 : Type 0
-After-run-arg5 = Lts.After-run-arg5 (Reads'3.Asked, Reads'3.Learnt, Reads'5.Asked, Reads'5.Learnt, Reads'.Asked, Reads'.Learnt, Reads'4.Asked, Reads'4.Learnt, Reads'6.Asked, Reads'6.Learnt, Reads''.Asked, Reads''.Learnt) Reads.Pre Reads.Post
+After-run-arg5 = Lts.After-run-arg5 (Reads.Asked, Reads.Learnt, Reads'5.Asked, Reads'5.Learnt, Reads''.Asked, Reads''.Learnt, Reads'4.Asked, Reads'4.Learnt, Reads'6.Asked, Reads'6.Learnt, Reads'3.Asked, Reads'3.Learnt) Reads'.Pre Reads'.Post
 
 abbrev pub After-run-arg6 : Type 0
-After-run-arg6 = Lts.After-run-arg6 (Reads'3.Asked, Reads'3.Learnt, Reads'5.Asked, Reads'5.Learnt, Reads'.Asked, Reads'.Learnt, Reads'4.Asked, Reads'4.Learnt, Reads'6.Asked, Reads'6.Learnt, Reads''.Asked, Reads''.Learnt) Reads.Pre Reads.Post
+After-run-arg6 = Lts.After-run-arg6 (Reads.Asked, Reads.Learnt, Reads'5.Asked, Reads'5.Learnt, Reads''.Asked, Reads''.Learnt, Reads'4.Asked, Reads'4.Learnt, Reads'6.Asked, Reads'6.Learnt, Reads'3.Asked, Reads'3.Learnt) Reads'.Pre Reads'.Post
 
 abbrev pub After-run-arg7 : Type 0
-After-run-arg7 = Lts.After-run-arg7 (Reads'3.Asked, Reads'3.Learnt, Reads'5.Asked, Reads'5.Learnt, Reads'.Asked, Reads'.Learnt, Reads'4.Asked, Reads'4.Learnt, Reads'6.Asked, Reads'6.Learnt, Reads''.Asked, Reads''.Learnt) Reads.Pre Reads.Post
+After-run-arg7 = Lts.After-run-arg7 (Reads.Asked, Reads.Learnt, Reads'5.Asked, Reads'5.Learnt, Reads''.Asked, Reads''.Learnt, Reads'4.Asked, Reads'4.Learnt, Reads'6.Asked, Reads'6.Learnt, Reads'3.Asked, Reads'3.Learnt) Reads'.Pre Reads'.Post
 
 abbrev pub After-run-arg8 : Type 0
-After-run-arg8 = Lts.After-run-arg8 (Reads'3.Asked, Reads'3.Learnt, Reads'5.Asked, Reads'5.Learnt, Reads'.Asked, Reads'.Learnt, Reads'4.Asked, Reads'4.Learnt, Reads'6.Asked, Reads'6.Learnt, Reads''.Asked, Reads''.Learnt) Reads.Pre Reads.Post
+After-run-arg8 = Lts.After-run-arg8 (Reads.Asked, Reads.Learnt, Reads'5.Asked, Reads'5.Learnt, Reads''.Asked, Reads''.Learnt, Reads'4.Asked, Reads'4.Learnt, Reads'6.Asked, Reads'6.Learnt, Reads'3.Asked, Reads'3.Learnt) Reads'.Pre Reads'.Post
 
 abbrev pub After-run-arg9 : Type 0
-After-run-arg9 = Lts.After-run-arg9 (Reads'3.Asked, Reads'3.Learnt, Reads'5.Asked, Reads'5.Learnt, Reads'.Asked, Reads'.Learnt, Reads'4.Asked, Reads'4.Learnt, Reads'6.Asked, Reads'6.Learnt, Reads''.Asked, Reads''.Learnt) Reads.Pre Reads.Post
+After-run-arg9 = Lts.After-run-arg9 (Reads.Asked, Reads.Learnt, Reads'5.Asked, Reads'5.Learnt, Reads''.Asked, Reads''.Learnt, Reads'4.Asked, Reads'4.Learnt, Reads'6.Asked, Reads'6.Learnt, Reads'3.Asked, Reads'3.Learnt) Reads'.Pre Reads'.Post
 
 abbrev pub After-run : Type 0
-After-run = Lts.After-run (Reads'3.Asked, Reads'3.Learnt, Reads'5.Asked, Reads'5.Learnt, Reads'.Asked, Reads'.Learnt, Reads'4.Asked, Reads'4.Learnt, Reads'6.Asked, Reads'6.Learnt, Reads''.Asked, Reads''.Learnt) Reads.Pre Reads.Post
+After-run = Lts.After-run (Reads.Asked, Reads.Learnt, Reads'5.Asked, Reads'5.Learnt, Reads''.Asked, Reads''.Learnt, Reads'4.Asked, Reads'4.Learnt, Reads'6.Asked, Reads'6.Learnt, Reads'3.Asked, Reads'3.Learnt) Reads'.Pre Reads'.Post
 
 abbrev pub After-positions : Type 0
-After-positions = Lts.After-positions (Reads'3.Asked, Reads'3.Learnt, Reads'5.Asked, Reads'5.Learnt, Reads'.Asked, Reads'.Learnt, Reads'4.Asked, Reads'4.Learnt, Reads'6.Asked, Reads'6.Learnt, Reads''.Asked, Reads''.Learnt) Reads.Pre Reads.Post
+After-positions = Lts.After-positions (Reads.Asked, Reads.Learnt, Reads'5.Asked, Reads'5.Learnt, Reads''.Asked, Reads''.Learnt, Reads'4.Asked, Reads'4.Learnt, Reads'6.Asked, Reads'6.Learnt, Reads'3.Asked, Reads'3.Learnt) Reads'.Pre Reads'.Post
 
 abbrev pub After-outs : Type 0
-After-outs = Lts.After-outs (Reads'3.Asked, Reads'3.Learnt, Reads'5.Asked, Reads'5.Learnt, Reads'.Asked, Reads'.Learnt, Reads'4.Asked, Reads'4.Learnt, Reads'6.Asked, Reads'6.Learnt, Reads''.Asked, Reads''.Learnt) Reads.Pre Reads.Post
+After-outs = Lts.After-outs (Reads.Asked, Reads.Learnt, Reads'5.Asked, Reads'5.Learnt, Reads''.Asked, Reads''.Learnt, Reads'4.Asked, Reads'4.Learnt, Reads'6.Asked, Reads'6.Learnt, Reads'3.Asked, Reads'3.Learnt) Reads'.Pre Reads'.Post
 
 abbrev pub After-slice-known8 : Type 0
-After-slice-known8 = Lts.After-slice-known8 (Reads'3.Asked, Reads'3.Learnt, Reads'5.Asked, Reads'5.Learnt, Reads'.Asked, Reads'.Learnt, Reads'4.Asked, Reads'4.Learnt, Reads'6.Asked, Reads'6.Learnt, Reads''.Asked, Reads''.Learnt) Reads.Pre Reads.Post
+After-slice-known8 = Lts.After-slice-known8 (Reads.Asked, Reads.Learnt, Reads'5.Asked, Reads'5.Learnt, Reads''.Asked, Reads''.Learnt, Reads'4.Asked, Reads'4.Learnt, Reads'6.Asked, Reads'6.Learnt, Reads'3.Asked, Reads'3.Learnt) Reads'.Pre Reads'.Post
 
 abbrev pub After-halves : Type 0
-After-halves = Lts.After-halves (Reads'3.Asked, Reads'3.Learnt, Reads'5.Asked, Reads'5.Learnt, Reads'.Asked, Reads'.Learnt, Reads'4.Asked, Reads'4.Learnt, Reads'6.Asked, Reads'6.Learnt, Reads''.Asked, Reads''.Learnt) Reads.Pre Reads.Post
+After-halves = Lts.After-halves (Reads.Asked, Reads.Learnt, Reads'5.Asked, Reads'5.Learnt, Reads''.Asked, Reads''.Learnt, Reads'4.Asked, Reads'4.Learnt, Reads'6.Asked, Reads'6.Learnt, Reads'3.Asked, Reads'3.Learnt) Reads'.Pre Reads'.Post
 
 abbrev pub After-slice-known9 : Type 0
-After-slice-known9 = Lts.After-slice-known9 (Reads'3.Asked, Reads'3.Learnt, Reads'5.Asked, Reads'5.Learnt, Reads'.Asked, Reads'.Learnt, Reads'4.Asked, Reads'4.Learnt, Reads'6.Asked, Reads'6.Learnt, Reads''.Asked, Reads''.Learnt) Reads.Pre Reads.Post
+After-slice-known9 = Lts.After-slice-known9 (Reads.Asked, Reads.Learnt, Reads'5.Asked, Reads'5.Learnt, Reads''.Asked, Reads''.Learnt, Reads'4.Asked, Reads'4.Learnt, Reads'6.Asked, Reads'6.Learnt, Reads'3.Asked, Reads'3.Learnt) Reads'.Pre Reads'.Post
 
 abbrev pub After-adjacent : Type 0
-After-adjacent = Lts.After-adjacent (Reads'3.Asked, Reads'3.Learnt, Reads'5.Asked, Reads'5.Learnt, Reads'.Asked, Reads'.Learnt, Reads'4.Asked, Reads'4.Learnt, Reads'6.Asked, Reads'6.Learnt, Reads''.Asked, Reads''.Learnt) Reads.Pre Reads.Post
+After-adjacent = Lts.After-adjacent (Reads.Asked, Reads.Learnt, Reads'5.Asked, Reads'5.Learnt, Reads''.Asked, Reads''.Learnt, Reads'4.Asked, Reads'4.Learnt, Reads'6.Asked, Reads'6.Learnt, Reads'3.Asked, Reads'3.Learnt) Reads'.Pre Reads'.Post
 
 abbrev pub After-slice-known10 : Type 0
-After-slice-known10 = Lts.After-slice-known10 (Reads'3.Asked, Reads'3.Learnt, Reads'5.Asked, Reads'5.Learnt, Reads'.Asked, Reads'.Learnt, Reads'4.Asked, Reads'4.Learnt, Reads'6.Asked, Reads'6.Learnt, Reads''.Asked, Reads''.Learnt) Reads.Pre Reads.Post
+After-slice-known10 = Lts.After-slice-known10 (Reads.Asked, Reads.Learnt, Reads'5.Asked, Reads'5.Learnt, Reads''.Asked, Reads''.Learnt, Reads'4.Asked, Reads'4.Learnt, Reads'6.Asked, Reads'6.Learnt, Reads'3.Asked, Reads'3.Learnt) Reads'.Pre Reads'.Post
 
 abbrev pub After-nodes : Type 0
-After-nodes = Lts.After-nodes (Reads'3.Asked, Reads'3.Learnt, Reads'5.Asked, Reads'5.Learnt, Reads'.Asked, Reads'.Learnt, Reads'4.Asked, Reads'4.Learnt, Reads'6.Asked, Reads'6.Learnt, Reads''.Asked, Reads''.Learnt) Reads.Pre Reads.Post
+After-nodes = Lts.After-nodes (Reads.Asked, Reads.Learnt, Reads'5.Asked, Reads'5.Learnt, Reads''.Asked, Reads''.Learnt, Reads'4.Asked, Reads'4.Learnt, Reads'6.Asked, Reads'6.Learnt, Reads'3.Asked, Reads'3.Learnt) Reads'.Pre Reads'.Post
 
 abbrev pub After-freed : Type 0
-After-freed = Lts.After-freed (Reads'3.Asked, Reads'3.Learnt, Reads'5.Asked, Reads'5.Learnt, Reads'.Asked, Reads'.Learnt, Reads'4.Asked, Reads'4.Learnt, Reads'6.Asked, Reads'6.Learnt, Reads''.Asked, Reads''.Learnt) Reads.Pre Reads.Post
+After-freed = Lts.After-freed (Reads.Asked, Reads.Learnt, Reads'5.Asked, Reads'5.Learnt, Reads''.Asked, Reads''.Learnt, Reads'4.Asked, Reads'4.Learnt, Reads'6.Asked, Reads'6.Learnt, Reads'3.Asked, Reads'3.Learnt) Reads'.Pre Reads'.Post
 
 abbrev pub After-slice-known11 : Type 0
-After-slice-known11 = Lts.After-slice-known11 (Reads'3.Asked, Reads'3.Learnt, Reads'5.Asked, Reads'5.Learnt, Reads'.Asked, Reads'.Learnt, Reads'4.Asked, Reads'4.Learnt, Reads'6.Asked, Reads'6.Learnt, Reads''.Asked, Reads''.Learnt) Reads.Pre Reads.Post
+After-slice-known11 = Lts.After-slice-known11 (Reads.Asked, Reads.Learnt, Reads'5.Asked, Reads'5.Learnt, Reads''.Asked, Reads''.Learnt, Reads'4.Asked, Reads'4.Learnt, Reads'6.Asked, Reads'6.Learnt, Reads'3.Asked, Reads'3.Learnt) Reads'.Pre Reads'.Post
 
 abbrev pub After-buckets : Type 0
-After-buckets = Lts.After-buckets (Reads'3.Asked, Reads'3.Learnt, Reads'5.Asked, Reads'5.Learnt, Reads'.Asked, Reads'.Learnt, Reads'4.Asked, Reads'4.Learnt, Reads'6.Asked, Reads'6.Learnt, Reads''.Asked, Reads''.Learnt) Reads.Pre Reads.Post
+After-buckets = Lts.After-buckets (Reads.Asked, Reads.Learnt, Reads'5.Asked, Reads'5.Learnt, Reads''.Asked, Reads''.Learnt, Reads'4.Asked, Reads'4.Learnt, Reads'6.Asked, Reads'6.Learnt, Reads'3.Asked, Reads'3.Learnt) Reads'.Pre Reads'.Post
 
 abbrev pub After-slice-known12 : Type 0
-After-slice-known12 = Lts.After-slice-known12 (Reads'3.Asked, Reads'3.Learnt, Reads'5.Asked, Reads'5.Learnt, Reads'.Asked, Reads'.Learnt, Reads'4.Asked, Reads'4.Learnt, Reads'6.Asked, Reads'6.Learnt, Reads''.Asked, Reads''.Learnt) Reads.Pre Reads.Post
+After-slice-known12 = Lts.After-slice-known12 (Reads.Asked, Reads.Learnt, Reads'5.Asked, Reads'5.Learnt, Reads''.Asked, Reads''.Learnt, Reads'4.Asked, Reads'4.Learnt, Reads'6.Asked, Reads'6.Learnt, Reads'3.Asked, Reads'3.Learnt) Reads'.Pre Reads'.Post
 
 abbrev pub After-pending : Type 0
-After-pending = Lts.After-pending (Reads'3.Asked, Reads'3.Learnt, Reads'5.Asked, Reads'5.Learnt, Reads'.Asked, Reads'.Learnt, Reads'4.Asked, Reads'4.Learnt, Reads'6.Asked, Reads'6.Learnt, Reads''.Asked, Reads''.Learnt) Reads.Pre Reads.Post
+After-pending = Lts.After-pending (Reads.Asked, Reads.Learnt, Reads'5.Asked, Reads'5.Learnt, Reads''.Asked, Reads''.Learnt, Reads'4.Asked, Reads'4.Learnt, Reads'6.Asked, Reads'6.Learnt, Reads'3.Asked, Reads'3.Learnt) Reads'.Pre Reads'.Post
 
 abbrev pub After-slice-known13 : Type 0
-After-slice-known13 = Lts.After-slice-known13 (Reads'3.Asked, Reads'3.Learnt, Reads'5.Asked, Reads'5.Learnt, Reads'.Asked, Reads'.Learnt, Reads'4.Asked, Reads'4.Learnt, Reads'6.Asked, Reads'6.Learnt, Reads''.Asked, Reads''.Learnt) Reads.Pre Reads.Post
+After-slice-known13 = Lts.After-slice-known13 (Reads.Asked, Reads.Learnt, Reads'5.Asked, Reads'5.Learnt, Reads''.Asked, Reads''.Learnt, Reads'4.Asked, Reads'4.Learnt, Reads'6.Asked, Reads'6.Learnt, Reads'3.Asked, Reads'3.Learnt) Reads'.Pre Reads'.Post
 
 abbrev pub After-answers : Type 0
-After-answers = Lts.After-answers (Reads'3.Asked, Reads'3.Learnt, Reads'5.Asked, Reads'5.Learnt, Reads'.Asked, Reads'.Learnt, Reads'4.Asked, Reads'4.Learnt, Reads'6.Asked, Reads'6.Learnt, Reads''.Asked, Reads''.Learnt) Reads.Pre Reads.Post
+After-answers = Lts.After-answers (Reads.Asked, Reads.Learnt, Reads'5.Asked, Reads'5.Learnt, Reads''.Asked, Reads''.Learnt, Reads'4.Asked, Reads'4.Learnt, Reads'6.Asked, Reads'6.Learnt, Reads'3.Asked, Reads'3.Learnt) Reads'.Pre Reads'.Post
 
 abbrev pub After-slice-known14 : Type 0
-After-slice-known14 = Lts.After-slice-known14 (Reads'3.Asked, Reads'3.Learnt, Reads'5.Asked, Reads'5.Learnt, Reads'.Asked, Reads'.Learnt, Reads'4.Asked, Reads'4.Learnt, Reads'6.Asked, Reads'6.Learnt, Reads''.Asked, Reads''.Learnt) Reads.Pre Reads.Post
+After-slice-known14 = Lts.After-slice-known14 (Reads.Asked, Reads.Learnt, Reads'5.Asked, Reads'5.Learnt, Reads''.Asked, Reads''.Learnt, Reads'4.Asked, Reads'4.Learnt, Reads'6.Asked, Reads'6.Learnt, Reads'3.Asked, Reads'3.Learnt) Reads'.Pre Reads'.Post
 
 abbrev pub After-store-run-arg : Type 0
-After-store-run-arg = Lts.After-store-run-arg (Reads'3.Asked, Reads'3.Learnt, Reads'5.Asked, Reads'5.Learnt, Reads'.Asked, Reads'.Learnt, Reads'4.Asked, Reads'4.Learnt, Reads'6.Asked, Reads'6.Learnt, Reads''.Asked, Reads''.Learnt) Reads.Pre Reads.Post
+After-store-run-arg = Lts.After-store-run-arg (Reads.Asked, Reads.Learnt, Reads'5.Asked, Reads'5.Learnt, Reads''.Asked, Reads''.Learnt, Reads'4.Asked, Reads'4.Learnt, Reads'6.Asked, Reads'6.Learnt, Reads'3.Asked, Reads'3.Learnt) Reads'.Pre Reads'.Post
 
 abbrev pub After-store-run-arg2 : Type 0
-After-store-run-arg2 = Lts.After-store-run-arg2 (Reads'3.Asked, Reads'3.Learnt, Reads'5.Asked, Reads'5.Learnt, Reads'.Asked, Reads'.Learnt, Reads'4.Asked, Reads'4.Learnt, Reads'6.Asked, Reads'6.Learnt, Reads''.Asked, Reads''.Learnt) Reads.Pre Reads.Post
+After-store-run-arg2 = Lts.After-store-run-arg2 (Reads.Asked, Reads.Learnt, Reads'5.Asked, Reads'5.Learnt, Reads''.Asked, Reads''.Learnt, Reads'4.Asked, Reads'4.Learnt, Reads'6.Asked, Reads'6.Learnt, Reads'3.Asked, Reads'3.Learnt) Reads'.Pre Reads'.Post
 
 abbrev pub After-store-run : Type 0
-After-store-run = Lts.After-store-run (Reads'3.Asked, Reads'3.Learnt, Reads'5.Asked, Reads'5.Learnt, Reads'.Asked, Reads'.Learnt, Reads'4.Asked, Reads'4.Learnt, Reads'6.Asked, Reads'6.Learnt, Reads''.Asked, Reads''.Learnt) Reads.Pre Reads.Post
+After-store-run = Lts.After-store-run (Reads.Asked, Reads.Learnt, Reads'5.Asked, Reads'5.Learnt, Reads''.Asked, Reads''.Learnt, Reads'4.Asked, Reads'4.Learnt, Reads'6.Asked, Reads'6.Learnt, Reads'3.Asked, Reads'3.Learnt) Reads'.Pre Reads'.Post
 
 abbrev pub After-heights : Type 0
-After-heights = Lts.After-heights (Reads'3.Asked, Reads'3.Learnt, Reads'5.Asked, Reads'5.Learnt, Reads'.Asked, Reads'.Learnt, Reads'4.Asked, Reads'4.Learnt, Reads'6.Asked, Reads'6.Learnt, Reads''.Asked, Reads''.Learnt) Reads.Pre Reads.Post
+After-heights = Lts.After-heights (Reads.Asked, Reads.Learnt, Reads'5.Asked, Reads'5.Learnt, Reads''.Asked, Reads''.Learnt, Reads'4.Asked, Reads'4.Learnt, Reads'6.Asked, Reads'6.Learnt, Reads'3.Asked, Reads'3.Learnt) Reads'.Pre Reads'.Post
 
 abbrev pub After-finish-result : Type 0
-After-finish-result = Lts.After-finish-result (Reads'3.Asked, Reads'3.Learnt, Reads'5.Asked, Reads'5.Learnt, Reads'.Asked, Reads'.Learnt, Reads'4.Asked, Reads'4.Learnt, Reads'6.Asked, Reads'6.Learnt, Reads''.Asked, Reads''.Learnt) Reads.Pre Reads.Post
+After-finish-result = Lts.After-finish-result (Reads.Asked, Reads.Learnt, Reads'5.Asked, Reads'5.Learnt, Reads''.Asked, Reads''.Learnt, Reads'4.Asked, Reads'4.Learnt, Reads'6.Asked, Reads'6.Learnt, Reads'3.Asked, Reads'3.Learnt) Reads'.Pre Reads'.Post
 
 abbrev pub Need-answers-short-requires : Type 0
-Need-answers-short-requires = Lts.Need-answers-short-requires (Reads'3.Asked, Reads'3.Learnt, Reads'5.Asked, Reads'5.Learnt, Reads'.Asked, Reads'.Learnt, Reads'4.Asked, Reads'4.Learnt, Reads'6.Asked, Reads'6.Learnt, Reads''.Asked, Reads''.Learnt) Reads.Pre Reads.Post
+Need-answers-short-requires = Lts.Need-answers-short-requires (Reads.Asked, Reads.Learnt, Reads'5.Asked, Reads'5.Learnt, Reads''.Asked, Reads''.Learnt, Reads'4.Asked, Reads'4.Learnt, Reads'6.Asked, Reads'6.Learnt, Reads'3.Asked, Reads'3.Learnt) Reads'.Pre Reads'.Post
 
 abbrev pub Need-check-run-requires : Type 0
-Need-check-run-requires = Lts.Need-check-run-requires (Reads'3.Asked, Reads'3.Learnt, Reads'5.Asked, Reads'5.Learnt, Reads'.Asked, Reads'.Learnt, Reads'4.Asked, Reads'4.Learnt, Reads'6.Asked, Reads'6.Learnt, Reads''.Asked, Reads''.Learnt) Reads.Pre Reads.Post
+Need-check-run-requires = Lts.Need-check-run-requires (Reads.Asked, Reads.Learnt, Reads'5.Asked, Reads'5.Learnt, Reads''.Asked, Reads''.Learnt, Reads'4.Asked, Reads'4.Learnt, Reads'6.Asked, Reads'6.Learnt, Reads'3.Asked, Reads'3.Learnt) Reads'.Pre Reads'.Post
 
 abbrev pub Need-enum-known-checked : Type 0
-Need-enum-known-checked = Lts.Need-enum-known-checked (Reads'3.Asked, Reads'3.Learnt, Reads'5.Asked, Reads'5.Learnt, Reads'.Asked, Reads'.Learnt, Reads'4.Asked, Reads'4.Learnt, Reads'6.Asked, Reads'6.Learnt, Reads''.Asked, Reads''.Learnt) Reads.Pre Reads.Post
+Need-enum-known-checked = Lts.Need-enum-known-checked (Reads.Asked, Reads.Learnt, Reads'5.Asked, Reads'5.Learnt, Reads''.Asked, Reads''.Learnt, Reads'4.Asked, Reads'4.Learnt, Reads'6.Asked, Reads'6.Learnt, Reads'3.Asked, Reads'3.Learnt) Reads'.Pre Reads'.Post
 
 abbrev pub Need-finish-refused-requires : Type 0
-Need-finish-refused-requires = Lts.Need-finish-refused-requires (Reads'3.Asked, Reads'3.Learnt, Reads'5.Asked, Reads'5.Learnt, Reads'.Asked, Reads'.Learnt, Reads'4.Asked, Reads'4.Learnt, Reads'6.Asked, Reads'6.Learnt, Reads''.Asked, Reads''.Learnt) Reads.Pre Reads.Post
+Need-finish-refused-requires = Lts.Need-finish-refused-requires (Reads.Asked, Reads.Learnt, Reads'5.Asked, Reads'5.Learnt, Reads''.Asked, Reads''.Learnt, Reads'4.Asked, Reads'4.Learnt, Reads'6.Asked, Reads'6.Learnt, Reads'3.Asked, Reads'3.Learnt) Reads'.Pre Reads'.Post
 
 abbrev pub Need-same-length : Type 0
-Need-same-length = Lts.Need-same-length (Reads'3.Asked, Reads'3.Learnt, Reads'5.Asked, Reads'5.Learnt, Reads'.Asked, Reads'.Learnt, Reads'4.Asked, Reads'4.Learnt, Reads'6.Asked, Reads'6.Learnt, Reads''.Asked, Reads''.Learnt) Reads.Pre Reads.Post
+Need-same-length = Lts.Need-same-length (Reads.Asked, Reads.Learnt, Reads'5.Asked, Reads'5.Learnt, Reads''.Asked, Reads''.Learnt, Reads'4.Asked, Reads'4.Learnt, Reads'6.Asked, Reads'6.Learnt, Reads'3.Asked, Reads'3.Learnt) Reads'.Pre Reads'.Post
 
 abbrev pub Need-same-length-2 : Type 0
-Need-same-length-2 = Lts.Need-same-length-2 (Reads'3.Asked, Reads'3.Learnt, Reads'5.Asked, Reads'5.Learnt, Reads'.Asked, Reads'.Learnt, Reads'4.Asked, Reads'4.Learnt, Reads'6.Asked, Reads'6.Learnt, Reads''.Asked, Reads''.Learnt) Reads.Pre Reads.Post
+Need-same-length-2 = Lts.Need-same-length-2 (Reads.Asked, Reads.Learnt, Reads'5.Asked, Reads'5.Learnt, Reads''.Asked, Reads''.Learnt, Reads'4.Asked, Reads'4.Learnt, Reads'6.Asked, Reads'6.Learnt, Reads'3.Asked, Reads'3.Learnt) Reads'.Pre Reads'.Post
 
 abbrev pub Need-same-length-3 : Type 0
-Need-same-length-3 = Lts.Need-same-length-3 (Reads'3.Asked, Reads'3.Learnt, Reads'5.Asked, Reads'5.Learnt, Reads'.Asked, Reads'.Learnt, Reads'4.Asked, Reads'4.Learnt, Reads'6.Asked, Reads'6.Learnt, Reads''.Asked, Reads''.Learnt) Reads.Pre Reads.Post
+Need-same-length-3 = Lts.Need-same-length-3 (Reads.Asked, Reads.Learnt, Reads'5.Asked, Reads'5.Learnt, Reads''.Asked, Reads''.Learnt, Reads'4.Asked, Reads'4.Learnt, Reads'6.Asked, Reads'6.Learnt, Reads'3.Asked, Reads'3.Learnt) Reads'.Pre Reads'.Post
 
 abbrev pub Need-same-length-4 : Type 0
-Need-same-length-4 = Lts.Need-same-length-4 (Reads'3.Asked, Reads'3.Learnt, Reads'5.Asked, Reads'5.Learnt, Reads'.Asked, Reads'.Learnt, Reads'4.Asked, Reads'4.Learnt, Reads'6.Asked, Reads'6.Learnt, Reads''.Asked, Reads''.Learnt) Reads.Pre Reads.Post
+Need-same-length-4 = Lts.Need-same-length-4 (Reads.Asked, Reads.Learnt, Reads'5.Asked, Reads'5.Learnt, Reads''.Asked, Reads''.Learnt, Reads'4.Asked, Reads'4.Learnt, Reads'6.Asked, Reads'6.Learnt, Reads'3.Asked, Reads'3.Learnt) Reads'.Pre Reads'.Post
 
 abbrev pub Need-same-length-5 : Type 0
-Need-same-length-5 = Lts.Need-same-length-5 (Reads'3.Asked, Reads'3.Learnt, Reads'5.Asked, Reads'5.Learnt, Reads'.Asked, Reads'.Learnt, Reads'4.Asked, Reads'4.Learnt, Reads'6.Asked, Reads'6.Learnt, Reads''.Asked, Reads''.Learnt) Reads.Pre Reads.Post
+Need-same-length-5 = Lts.Need-same-length-5 (Reads.Asked, Reads.Learnt, Reads'5.Asked, Reads'5.Learnt, Reads''.Asked, Reads''.Learnt, Reads'4.Asked, Reads'4.Learnt, Reads'6.Asked, Reads'6.Learnt, Reads'3.Asked, Reads'3.Learnt) Reads'.Pre Reads'.Post
 
 abbrev pub Need-returns : Type 0
-Need-returns = Lts.Need-returns (Reads'3.Asked, Reads'3.Learnt, Reads'5.Asked, Reads'5.Learnt, Reads'.Asked, Reads'.Learnt, Reads'4.Asked, Reads'4.Learnt, Reads'6.Asked, Reads'6.Learnt, Reads''.Asked, Reads''.Learnt) Reads.Pre Reads.Post
+Need-returns = Lts.Need-returns (Reads.Asked, Reads.Learnt, Reads'5.Asked, Reads'5.Learnt, Reads''.Asked, Reads''.Learnt, Reads'4.Asked, Reads'4.Learnt, Reads'6.Asked, Reads'6.Learnt, Reads'3.Asked, Reads'3.Learnt) Reads'.Pre Reads'.Post
 
 abbrev pub Need-enum-told : Type 0
-Need-enum-told = Lts.Need-enum-told (Reads'3.Asked, Reads'3.Learnt, Reads'5.Asked, Reads'5.Learnt, Reads'.Asked, Reads'.Learnt, Reads'4.Asked, Reads'4.Learnt, Reads'6.Asked, Reads'6.Learnt, Reads''.Asked, Reads''.Learnt) Reads.Pre Reads.Post
+Need-enum-told = Lts.Need-enum-told (Reads.Asked, Reads.Learnt, Reads'5.Asked, Reads'5.Learnt, Reads''.Asked, Reads''.Learnt, Reads'4.Asked, Reads'4.Learnt, Reads'6.Asked, Reads'6.Learnt, Reads'3.Asked, Reads'3.Learnt) Reads'.Pre Reads'.Post
 
 abbrev pub Need-run-requires : Type 0
-Need-run-requires = Lts.Need-run-requires (Reads'3.Asked, Reads'3.Learnt, Reads'5.Asked, Reads'5.Learnt, Reads'.Asked, Reads'.Learnt, Reads'4.Asked, Reads'4.Learnt, Reads'6.Asked, Reads'6.Learnt, Reads''.Asked, Reads''.Learnt) Reads.Pre Reads.Post
+Need-run-requires = Lts.Need-run-requires (Reads.Asked, Reads.Learnt, Reads'5.Asked, Reads'5.Learnt, Reads''.Asked, Reads''.Learnt, Reads'4.Asked, Reads'4.Learnt, Reads'6.Asked, Reads'6.Learnt, Reads'3.Asked, Reads'3.Learnt) Reads'.Pre Reads'.Post
 
 abbrev pub Need-store-run-requires : Type 0
-Need-store-run-requires = Lts.Need-store-run-requires (Reads'3.Asked, Reads'3.Learnt, Reads'5.Asked, Reads'5.Learnt, Reads'.Asked, Reads'.Learnt, Reads'4.Asked, Reads'4.Learnt, Reads'6.Asked, Reads'6.Learnt, Reads''.Asked, Reads''.Learnt) Reads.Pre Reads.Post
+Need-store-run-requires = Lts.Need-store-run-requires (Reads.Asked, Reads.Learnt, Reads'5.Asked, Reads'5.Learnt, Reads''.Asked, Reads''.Learnt, Reads'4.Asked, Reads'4.Learnt, Reads'6.Asked, Reads'6.Learnt, Reads'3.Asked, Reads'3.Learnt) Reads'.Pre Reads'.Post
 
 abbrev pub Need-finish-result-requires : Type 0
-Need-finish-result-requires = Lts.Need-finish-result-requires (Reads'3.Asked, Reads'3.Learnt, Reads'5.Asked, Reads'5.Learnt, Reads'.Asked, Reads'.Learnt, Reads'4.Asked, Reads'4.Learnt, Reads'6.Asked, Reads'6.Learnt, Reads''.Asked, Reads''.Learnt) Reads.Pre Reads.Post
+Need-finish-result-requires = Lts.Need-finish-result-requires (Reads.Asked, Reads.Learnt, Reads'5.Asked, Reads'5.Learnt, Reads''.Asked, Reads''.Learnt, Reads'4.Asked, Reads'4.Learnt, Reads'6.Asked, Reads'6.Learnt, Reads'3.Asked, Reads'3.Learnt) Reads'.Pre Reads'.Post
 
 abbrev pub Need-same-length-6 : Type 0
-Need-same-length-6 = Lts.Need-same-length-6 (Reads'3.Asked, Reads'3.Learnt, Reads'5.Asked, Reads'5.Learnt, Reads'.Asked, Reads'.Learnt, Reads'4.Asked, Reads'4.Learnt, Reads'6.Asked, Reads'6.Learnt, Reads''.Asked, Reads''.Learnt) Reads.Pre Reads.Post
+Need-same-length-6 = Lts.Need-same-length-6 (Reads.Asked, Reads.Learnt, Reads'5.Asked, Reads'5.Learnt, Reads''.Asked, Reads''.Learnt, Reads'4.Asked, Reads'4.Learnt, Reads'6.Asked, Reads'6.Learnt, Reads'3.Asked, Reads'3.Learnt) Reads'.Pre Reads'.Post
 
 abbrev pub Need-same-length-7 : Type 0
-Need-same-length-7 = Lts.Need-same-length-7 (Reads'3.Asked, Reads'3.Learnt, Reads'5.Asked, Reads'5.Learnt, Reads'.Asked, Reads'.Learnt, Reads'4.Asked, Reads'4.Learnt, Reads'6.Asked, Reads'6.Learnt, Reads''.Asked, Reads''.Learnt) Reads.Pre Reads.Post
+Need-same-length-7 = Lts.Need-same-length-7 (Reads.Asked, Reads.Learnt, Reads'5.Asked, Reads'5.Learnt, Reads''.Asked, Reads''.Learnt, Reads'4.Asked, Reads'4.Learnt, Reads'6.Asked, Reads'6.Learnt, Reads'3.Asked, Reads'3.Learnt) Reads'.Pre Reads'.Post
 
 abbrev pub Need-same-length-8 : Type 0
-Need-same-length-8 = Lts.Need-same-length-8 (Reads'3.Asked, Reads'3.Learnt, Reads'5.Asked, Reads'5.Learnt, Reads'.Asked, Reads'.Learnt, Reads'4.Asked, Reads'4.Learnt, Reads'6.Asked, Reads'6.Learnt, Reads''.Asked, Reads''.Learnt) Reads.Pre Reads.Post
+Need-same-length-8 = Lts.Need-same-length-8 (Reads.Asked, Reads.Learnt, Reads'5.Asked, Reads'5.Learnt, Reads''.Asked, Reads''.Learnt, Reads'4.Asked, Reads'4.Learnt, Reads'6.Asked, Reads'6.Learnt, Reads'3.Asked, Reads'3.Learnt) Reads'.Pre Reads'.Post
 
 abbrev pub Need-same-length-9 : Type 0
-Need-same-length-9 = Lts.Need-same-length-9 (Reads'3.Asked, Reads'3.Learnt, Reads'5.Asked, Reads'5.Learnt, Reads'.Asked, Reads'.Learnt, Reads'4.Asked, Reads'4.Learnt, Reads'6.Asked, Reads'6.Learnt, Reads''.Asked, Reads''.Learnt) Reads.Pre Reads.Post
+Need-same-length-9 = Lts.Need-same-length-9 (Reads.Asked, Reads.Learnt, Reads'5.Asked, Reads'5.Learnt, Reads''.Asked, Reads''.Learnt, Reads'4.Asked, Reads'4.Learnt, Reads'6.Asked, Reads'6.Learnt, Reads'3.Asked, Reads'3.Learnt) Reads'.Pre Reads'.Post
 
 abbrev pub Need-same-length-10 : Type 0
-Need-same-length-10 = Lts.Need-same-length-10 (Reads'3.Asked, Reads'3.Learnt, Reads'5.Asked, Reads'5.Learnt, Reads'.Asked, Reads'.Learnt, Reads'4.Asked, Reads'4.Learnt, Reads'6.Asked, Reads'6.Learnt, Reads''.Asked, Reads''.Learnt) Reads.Pre Reads.Post
+Need-same-length-10 = Lts.Need-same-length-10 (Reads.Asked, Reads.Learnt, Reads'5.Asked, Reads'5.Learnt, Reads''.Asked, Reads''.Learnt, Reads'4.Asked, Reads'4.Learnt, Reads'6.Asked, Reads'6.Learnt, Reads'3.Asked, Reads'3.Learnt) Reads'.Pre Reads'.Post
 
 abbrev pub Need-same-length-11 : Type 0
-Need-same-length-11 = Lts.Need-same-length-11 (Reads'3.Asked, Reads'3.Learnt, Reads'5.Asked, Reads'5.Learnt, Reads'.Asked, Reads'.Learnt, Reads'4.Asked, Reads'4.Learnt, Reads'6.Asked, Reads'6.Learnt, Reads''.Asked, Reads''.Learnt) Reads.Pre Reads.Post
+Need-same-length-11 = Lts.Need-same-length-11 (Reads.Asked, Reads.Learnt, Reads'5.Asked, Reads'5.Learnt, Reads''.Asked, Reads''.Learnt, Reads'4.Asked, Reads'4.Learnt, Reads'6.Asked, Reads'6.Learnt, Reads'3.Asked, Reads'3.Learnt) Reads'.Pre Reads'.Post
 
 abbrev pub Need-same-length-12 : Type 0
-Need-same-length-12 = Lts.Need-same-length-12 (Reads'3.Asked, Reads'3.Learnt, Reads'5.Asked, Reads'5.Learnt, Reads'.Asked, Reads'.Learnt, Reads'4.Asked, Reads'4.Learnt, Reads'6.Asked, Reads'6.Learnt, Reads''.Asked, Reads''.Learnt) Reads.Pre Reads.Post
+Need-same-length-12 = Lts.Need-same-length-12 (Reads.Asked, Reads.Learnt, Reads'5.Asked, Reads'5.Learnt, Reads''.Asked, Reads''.Learnt, Reads'4.Asked, Reads'4.Learnt, Reads'6.Asked, Reads'6.Learnt, Reads'3.Asked, Reads'3.Learnt) Reads'.Pre Reads'.Post
 
 abbrev pub Need-same-length-13 : Type 0
-Need-same-length-13 = Lts.Need-same-length-13 (Reads'3.Asked, Reads'3.Learnt, Reads'5.Asked, Reads'5.Learnt, Reads'.Asked, Reads'.Learnt, Reads'4.Asked, Reads'4.Learnt, Reads'6.Asked, Reads'6.Learnt, Reads''.Asked, Reads''.Learnt) Reads.Pre Reads.Post
+Need-same-length-13 = Lts.Need-same-length-13 (Reads.Asked, Reads.Learnt, Reads'5.Asked, Reads'5.Learnt, Reads''.Asked, Reads''.Learnt, Reads'4.Asked, Reads'4.Learnt, Reads'6.Asked, Reads'6.Learnt, Reads'3.Asked, Reads'3.Learnt) Reads'.Pre Reads'.Post
 
 abbrev pub Need-same-length-14 : Type 0
-Need-same-length-14 = Lts.Need-same-length-14 (Reads'3.Asked, Reads'3.Learnt, Reads'5.Asked, Reads'5.Learnt, Reads'.Asked, Reads'.Learnt, Reads'4.Asked, Reads'4.Learnt, Reads'6.Asked, Reads'6.Learnt, Reads''.Asked, Reads''.Learnt) Reads.Pre Reads.Post
+Need-same-length-14 = Lts.Need-same-length-14 (Reads.Asked, Reads.Learnt, Reads'5.Asked, Reads'5.Learnt, Reads''.Asked, Reads''.Learnt, Reads'4.Asked, Reads'4.Learnt, Reads'6.Asked, Reads'6.Learnt, Reads'3.Asked, Reads'3.Learnt) Reads'.Pre Reads'.Post
 
 abbrev pub Need-same-length-15 : Type 0
-Need-same-length-15 = Lts.Need-same-length-15 (Reads'3.Asked, Reads'3.Learnt, Reads'5.Asked, Reads'5.Learnt, Reads'.Asked, Reads'.Learnt, Reads'4.Asked, Reads'4.Learnt, Reads'6.Asked, Reads'6.Learnt, Reads''.Asked, Reads''.Learnt) Reads.Pre Reads.Post
+Need-same-length-15 = Lts.Need-same-length-15 (Reads.Asked, Reads.Learnt, Reads'5.Asked, Reads'5.Learnt, Reads''.Asked, Reads''.Learnt, Reads'4.Asked, Reads'4.Learnt, Reads'6.Asked, Reads'6.Learnt, Reads'3.Asked, Reads'3.Learnt) Reads'.Pre Reads'.Post
 
 abbrev pub Need-returns-2 : Type 0
-Need-returns-2 = Lts.Need-returns-2 (Reads'3.Asked, Reads'3.Learnt, Reads'5.Asked, Reads'5.Learnt, Reads'.Asked, Reads'.Learnt, Reads'4.Asked, Reads'4.Learnt, Reads'6.Asked, Reads'6.Learnt, Reads''.Asked, Reads''.Learnt) Reads.Pre Reads.Post
+Need-returns-2 = Lts.Need-returns-2 (Reads.Asked, Reads.Learnt, Reads'5.Asked, Reads'5.Learnt, Reads''.Asked, Reads''.Learnt, Reads'4.Asked, Reads'4.Learnt, Reads'6.Asked, Reads'6.Learnt, Reads'3.Asked, Reads'3.Learnt) Reads'.Pre Reads'.Post
 
 module _ {M : Type 1} where
-  pub spec : (answer : Need-answers-short-requires) → (answer : Need-check-run-requires) → (answer : Need-enum-known-checked) → (answer : Need-finish-refused-requires) → (answer : Need-same-length) → (answer : Need-same-length-2) → (answer : Need-same-length-3) → (answer : Need-same-length-4) → (answer : Need-same-length-5) → (answer : Need-returns) → (answer : Need-enum-told) → (answer : Need-run-requires) → (answer : Need-store-run-requires) → (answer : Need-finish-result-requires) → (answer : Need-same-length-6) → (answer : Need-same-length-7) → (answer : Need-same-length-8) → (answer : Need-same-length-9) → (answer : Need-same-length-10) → (answer : Need-same-length-11) → (answer : Need-same-length-12) → (answer : Need-same-length-13) → (answer : Need-same-length-14) → (answer : Need-same-length-15) → (answer : Need-returns-2) → Lts.Closed (Reads'3.Asked, Reads'3.Learnt, Reads'5.Asked, Reads'5.Learnt, Reads'.Asked, Reads'.Learnt, Reads'4.Asked, Reads'4.Learnt, Reads'6.Asked, Reads'6.Learnt, Reads''.Asked, Reads''.Learnt) Reads.Pre Reads.Post M
-  spec = λ answer answer' answer'' answer'3 answer'4 answer'5 answer'6 answer'7 answer'8 answer'9 answer'10 answer'11 answer'12 answer'13 answer'14 answer'15 answer'16 answer'17 answer'18 answer'19 answer'20 answer'21 answer'22 answer'23 answer'24. Lts.spec (Reads'3.Asked, Reads'3.Learnt, Reads'5.Asked, Reads'5.Learnt, Reads'.Asked, Reads'.Learnt, Reads'4.Asked, Reads'4.Learnt, Reads'6.Asked, Reads'6.Learnt, Reads''.Asked, Reads''.Learnt) Reads.Pre Reads.Post answer answer' answer'' answer'3 answer'4 answer'5 answer'6 answer'7 answer'8 answer'9 answer'10 answer'11 answer'12 answer'13 answer'14 answer'15 answer'16 answer'17 answer'18 answer'19 answer'20 answer'21 answer'22 answer'23 answer'24
+  pub spec : (answer : Need-answers-short-requires) → (answer : Need-check-run-requires) → (answer : Need-enum-known-checked) → (answer : Need-finish-refused-requires) → (answer : Need-same-length) → (answer : Need-same-length-2) → (answer : Need-same-length-3) → (answer : Need-same-length-4) → (answer : Need-same-length-5) → (answer : Need-returns) → (answer : Need-enum-told) → (answer : Need-run-requires) → (answer : Need-store-run-requires) → (answer : Need-finish-result-requires) → (answer : Need-same-length-6) → (answer : Need-same-length-7) → (answer : Need-same-length-8) → (answer : Need-same-length-9) → (answer : Need-same-length-10) → (answer : Need-same-length-11) → (answer : Need-same-length-12) → (answer : Need-same-length-13) → (answer : Need-same-length-14) → (answer : Need-same-length-15) → (answer : Need-returns-2) → Lts.Closed (Reads.Asked, Reads.Learnt, Reads'5.Asked, Reads'5.Learnt, Reads''.Asked, Reads''.Learnt, Reads'4.Asked, Reads'4.Learnt, Reads'6.Asked, Reads'6.Learnt, Reads'3.Asked, Reads'3.Learnt) Reads'.Pre Reads'.Post M
+  spec = λ answer answer' answer'' answer'3 answer'4 answer'5 answer'6 answer'7 answer'8 answer'9 answer'10 answer'11 answer'12 answer'13 answer'14 answer'15 answer'16 answer'17 answer'18 answer'19 answer'20 answer'21 answer'22 answer'23 answer'24. Lts.spec (Reads.Asked, Reads.Learnt, Reads'5.Asked, Reads'5.Learnt, Reads''.Asked, Reads''.Learnt, Reads'4.Asked, Reads'4.Learnt, Reads'6.Asked, Reads'6.Learnt, Reads'3.Asked, Reads'3.Learnt) Reads'.Pre Reads'.Post answer answer' answer'' answer'3 answer'4 answer'5 answer'6 answer'7 answer'8 answer'9 answer'10 answer'11 answer'12 answer'13 answer'14 answer'15 answer'16 answer'17 answer'18 answer'19 answer'20 answer'21 answer'22 answer'23 answer'24
 
-  pub close : Lts.Closed (Reads'3.Asked, Reads'3.Learnt, Reads'5.Asked, Reads'5.Learnt, Reads'.Asked, Reads'.Learnt, Reads'4.Asked, Reads'4.Learnt, Reads'6.Asked, Reads'6.Learnt, Reads''.Asked, Reads''.Learnt) Reads.Pre Reads.Post M → Statement.statement M
+  pub close : Lts.Closed (Reads.Asked, Reads.Learnt, Reads'5.Asked, Reads'5.Learnt, Reads''.Asked, Reads''.Learnt, Reads'4.Asked, Reads'4.Learnt, Reads'6.Asked, Reads'6.Learnt, Reads'3.Asked, Reads'3.Learnt) Reads'.Pre Reads'.Post M → Statement.statement M
   unfolding Code.routine Running.tablesOf
-  close = λ closed 𝓤 H 𝓜 𝓖 𝓡. Written.close 12 Kinds.ps Kinds.r Reads.Ghost Reads.requires Reads.ensures Reads.pre-read Reads.Pinned Reads.Owned Reads.post-read record { M = M; 𝓤 = 𝓤; H = H; 𝓜 = 𝓜; 𝓖 = 𝓖; 𝓡 = 𝓡 } Code.env Key.name Code.function (Code.unfolded 𝓤 H 𝓜 𝓡) (λ κs a g. tt) (λ κs. Reads.owns κs record { M = M; 𝓤 = 𝓤; H = H; 𝓜 = 𝓜; 𝓖 = 𝓖; 𝓡 = 𝓡 }) (Reads.passes record { M = M; 𝓤 = 𝓤; H = H; 𝓜 = 𝓜; 𝓖 = 𝓖; 𝓡 = 𝓡 }) λ g. closed 𝓤 H (𝓖 .A) (Running.givenOf 𝓤 H 𝓜 𝓖) (Run.Over 𝓤 H 𝓜 𝓖 𝓡 Code.env) (Reads'3.known record { M = M; 𝓤 = 𝓤; H = H; 𝓜 = 𝓜; 𝓖 = 𝓖; 𝓡 = 𝓡 } Code.env Symbol''.name Symbol''.routine Code.calls-run·answers-short (Met''.met 𝓤 H 𝓜 𝓖 𝓡)) (Reads'5.known record { M = M; 𝓤 = 𝓤; H = H; 𝓜 = 𝓜; 𝓖 = 𝓖; 𝓡 = 𝓡 } Code.env Symbol'4.name Symbol'4.routine Code.calls-surface·check-run (Met'4.met 𝓤 H 𝓜 𝓖 𝓡)) (Reads'.known record { M = M; 𝓤 = 𝓤; H = H; 𝓜 = 𝓜; 𝓖 = 𝓖; 𝓡 = 𝓡 } Code.env Symbol.name Symbol.routine Code.calls-fithmoul·results·finish-refused (Met.met 𝓤 H 𝓜 𝓖 𝓡)) (Reads'4.known record { M = M; 𝓤 = 𝓤; H = H; 𝓜 = 𝓜; 𝓖 = 𝓖; 𝓡 = 𝓡 } Code.env Symbol'3.name Symbol'3.routine Code.calls-run·run (Met'3.met 𝓤 H 𝓜 𝓖 𝓡)) (Reads'6.known record { M = M; 𝓤 = 𝓤; H = H; 𝓜 = 𝓜; 𝓖 = 𝓖; 𝓡 = 𝓡 } Code.env Symbol'5.name Symbol'5.routine Code.calls-surface·store-run (Met'5.met 𝓤 H 𝓜 𝓖 𝓡)) (Reads''.known record { M = M; 𝓤 = 𝓤; H = H; 𝓜 = 𝓜; 𝓖 = 𝓖; 𝓡 = 𝓡 } Code.env Symbol'.name Symbol'.routine Code.calls-fithmoul·results·finish-result (Met'.met 𝓤 H 𝓜 𝓖 𝓡))
+  close = λ closed 𝓤 H 𝓜 𝓖 𝓡. Written.close 12 Kinds.ps Kinds.r Reads'.Ghost Reads'.requires Reads'.ensures Reads'.pre-read Reads'.Pinned Reads'.Owned Reads'.post-read record { M = M; 𝓤 = 𝓤; H = H; 𝓜 = 𝓜; 𝓖 = 𝓖; 𝓡 = 𝓡 } Code.env Key.name Code.function (Code.unfolded 𝓤 H 𝓜 𝓡) (λ κs a g. tt) (λ κs. Reads'.owns κs record { M = M; 𝓤 = 𝓤; H = H; 𝓜 = 𝓜; 𝓖 = 𝓖; 𝓡 = 𝓡 }) (Reads'.passes record { M = M; 𝓤 = 𝓤; H = H; 𝓜 = 𝓜; 𝓖 = 𝓖; 𝓡 = 𝓡 }) λ g. closed 𝓤 H (𝓖 .A) (Running.givenOf 𝓤 H 𝓜 𝓖) (Run.Over 𝓤 H 𝓜 𝓖 𝓡 Code.env) (Reads.known record { M = M; 𝓤 = 𝓤; H = H; 𝓜 = 𝓜; 𝓖 = 𝓖; 𝓡 = 𝓡 } Code.env Symbol.name Symbol.routine Code.calls-answers·answers-short (Met.met 𝓤 H 𝓜 𝓖 𝓡)) (Reads'5.known record { M = M; 𝓤 = 𝓤; H = H; 𝓜 = 𝓜; 𝓖 = 𝓖; 𝓡 = 𝓡 } Code.env Symbol'4.name Symbol'4.routine Code.calls-surface·check-run (Met'4.met 𝓤 H 𝓜 𝓖 𝓡)) (Reads''.known record { M = M; 𝓤 = 𝓤; H = H; 𝓜 = 𝓜; 𝓖 = 𝓖; 𝓡 = 𝓡 } Code.env Symbol'.name Symbol'.routine Code.calls-fithmoul·results·finish-refused (Met'.met 𝓤 H 𝓜 𝓖 𝓡)) (Reads'4.known record { M = M; 𝓤 = 𝓤; H = H; 𝓜 = 𝓜; 𝓖 = 𝓖; 𝓡 = 𝓡 } Code.env Symbol'3.name Symbol'3.routine Code.calls-run·run (Met'3.met 𝓤 H 𝓜 𝓖 𝓡)) (Reads'6.known record { M = M; 𝓤 = 𝓤; H = H; 𝓜 = 𝓜; 𝓖 = 𝓖; 𝓡 = 𝓡 } Code.env Symbol'5.name Symbol'5.routine Code.calls-surface·store-run (Met'5.met 𝓤 H 𝓜 𝓖 𝓡)) (Reads'3.known record { M = M; 𝓤 = 𝓤; H = H; 𝓜 = 𝓜; 𝓖 = 𝓖; 𝓡 = 𝓡 } Code.env Symbol''.name Symbol''.routine Code.calls-fithmoul·results·finish-result (Met''.met 𝓤 H 𝓜 𝓖 𝓡))

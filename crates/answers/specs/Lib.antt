@@ -1,0 +1,2 @@
+pub mod AnswerRows
+pub mod AnswerLaws

@@ -1,0 +1,246 @@
+// The finish of a run: convexity passes, the points that its steps skipped in list order, and the closing pass, on lent rows. What it leaves
+// is `completeAfter` of the crate `sweep`, specs/Run.antt, whose second convexity stage changes nothing (`second-idle` of `skipped`), so
+// there is none here.
+ghost use mathlib.Core.Path.{_≡_};
+ghost use lib.ListN.{length};
+ghost use Rattle.finish.specs.FinishRows.{finishingOf};
+ghost use Rattle.skipped.specs.Insert.{positionFate, positionVertex};
+ghost use Rattle.complete.specs.CompleteRows.{fillingOf, PointRows, PointLeaves, FillReady, FillLeaves};
+ghost use Rattle.complete.specs.CompleteRows.{stoppedAt, closeFill, CloseReady, CompleteReady, CompleteLeaves};
+use corner::Extension;
+use finish::Ended;
+use finish::Totals;
+use location::PositionInTriangulation;
+use mesh::Counts;
+
+// Where the skipped points have come to: the mesh's counts, how many points have been looked at, and whether a flip's pushes would have
+// overfilled the pending list.
+pub struct FillEnd {
+    pub counts: Counts,
+    pub answered: u32,
+    pub full: bool,
+}
+
+// What is left of a run, and what a refusal 9 names.
+pub struct Completed {
+    pub ended: Ended,
+    pub place: u32,
+}
+
+// The number of the fate of a point that was put in at a position.
+fn position_fate(position: PositionInTriangulation) -> u64
+    ensures { λ r. ⌜ r ≡ positionFate position ⌝ }
+{
+    match position {
+        PositionInTriangulation::OnVertex(_) => 9,
+        PositionInTriangulation::OnEdge(_) => 7,
+        PositionInTriangulation::OnFace(_) => 6,
+        PositionInTriangulation::OutsideOfConvexHull(_) => 8,
+    }
+}
+
+// Its vertex: the one that is there, or the next.
+fn position_vertex(counts: Counts, position: PositionInTriangulation) -> u64
+    ensures { λ r. ⌜ r ≡ positionVertex counts position ⌝ }
+{
+    match position {
+        PositionInTriangulation::OnVertex(v) => v as u64,
+        PositionInTriangulation::OnEdge(_) => counts.vertices as u64,
+        PositionInTriangulation::OnFace(_) => counts.vertices as u64,
+        PositionInTriangulation::OutsideOfConvexHull(_) => counts.vertices as u64,
+    }
+}
+
+// Point i, if it was skipped: it is put in, and its answer stored, unless a flip is refused.
+fn fill_point(
+    positions: &mut [i32],
+    outs: &mut [u32],
+    halves: &mut [u32],
+    faces: &mut [u32],
+    pending: &mut [u32],
+    answers: &mut [u64],
+    counts: Counts,
+    points: &[i32],
+    i: u32,
+) -> FillEnd
+    requires { ⌜ PointRows counts (now positions) (now outs) (now halves) (now faces) (now pending) (now answers) (now points) i ⌝ }
+    ensures { λ r. ⌜ PointLeaves counts (now (positions .entry)) (now (outs .entry)) (now (halves .entry)) (now (faces .entry))
+        (length (now (pending .entry))) (now (answers .entry)) (now (points .entry)) i
+        (now (positions .exit)) (now (outs .exit)) (now (halves .exit)) (now (faces .exit)) (now (answers .exit)) r ⌝ }
+{
+    if !answers::is_skipped(answers, i) {
+        return FillEnd {
+            counts: counts,
+            answered: i + 1,
+            full: false,
+        };
+    }
+    let point = dcel::position(points, i);
+    let done = insert::insert_point(positions, outs, halves, faces, pending, counts, point);
+    let added = done.added;
+    let after = added.counts;
+    if added.full {
+        return FillEnd {
+            counts: after,
+            answered: i,
+            full: true,
+        };
+    }
+    let position = done.position;
+    let fate = position_fate(position);
+    let vertex = position_vertex(counts, position);
+    answers::store_words(answers, i, fate, vertex, added.faces as u64, added.flips);
+    FillEnd {
+        counts: after,
+        answered: i + 1,
+        full: false,
+    }
+}
+
+// All skipped points, in list order, until a flip is refused.
+fn fill(
+    positions: &mut [i32],
+    outs: &mut [u32],
+    halves: &mut [u32],
+    faces: &mut [u32],
+    pending: &mut [u32],
+    answers: &mut [u64],
+    counts: Counts,
+    points: &[i32],
+    count: u32,
+) -> FillEnd
+    requires { ⌜ FillReady counts (now positions) (now outs) (now halves) (now faces) (now pending) (now answers) (now points) count ⌝ }
+    ensures { λ r. ⌜ FillLeaves counts (now (positions .entry)) (now (outs .entry)) (now (halves .entry)) (now (faces .entry))
+        (length (now (pending .entry))) (now (answers .entry)) (now (points .entry)) count
+        (now (positions .exit)) (now (outs .exit)) (now (halves .exit)) (now (faces .exit)) (now (answers .exit)) r ⌝ }
+{
+    let mut now = counts;
+    let mut i: u32 = 0;
+    while i < count {
+        let done = fill_point(
+            positions,
+            outs,
+            halves,
+            faces,
+            pending,
+            answers,
+            now,
+            points,
+            i,
+        );
+        let after = done.counts;
+        if done.full {
+            return FillEnd {
+                counts: after,
+                answered: i,
+                full: true,
+            };
+        }
+        now = after;
+        i += 1;
+    }
+    FillEnd {
+        counts: now,
+        answered: i,
+        full: false,
+    }
+}
+
+// After a refused flip: the mesh as it stands, with what the first convexity passes did.
+fn stopped(counts: Counts, faces: u32, flips: u64, place: u32) -> Completed
+    ensures { λ r. ⌜ r ≡ stoppedAt counts faces flips place ⌝ }
+{
+    Completed {
+        ended: Ended {
+            counts: counts,
+            totals: Totals {
+                faces: faces,
+                convexflips: flips,
+                closingflips: 0,
+            },
+            full: true,
+        },
+        place: place,
+    }
+}
+
+// The closing pass after the skipped points; none after a refused flip.
+fn close(
+    positions: &[i32],
+    outs: &mut [u32],
+    halves: &mut [u32],
+    faces: &mut [u32],
+    passed: Extension,
+    filled: FillEnd,
+) -> Completed
+    requires { ⌜ CloseReady (now positions) (now outs) (now halves) (now faces) filled ⌝ }
+    ensures { λ r. ⌜ (finishingOf (now (outs .exit)) (now (halves .exit)) (now (faces .exit)) (r .ended)
+        ≡ closeFill (passed .faces) (passed .flips)
+        (fillingOf (now (positions .entry)) (now (outs .entry)) (now (halves .entry)) (now (faces .entry)) filled))
+        × (r .place ≡ filled .answered) ⌝ }
+{
+    let counts = filled.counts;
+    let place = filled.answered;
+    if filled.full {
+        return stopped(counts, passed.faces, passed.flips, place);
+    }
+    let flips = closing::closing_pass(positions, outs, halves, faces, counts);
+    Completed {
+        ended: Ended {
+            counts: counts,
+            totals: Totals {
+                faces: passed.faces,
+                convexflips: passed.flips,
+                closingflips: flips,
+            },
+            full: false,
+        },
+        place: place,
+    }
+}
+
+// The finish of the mesh that the steps left: `answered` points have their answers, and `full` says whether a flip was refused in a step.
+pub fn complete_after(
+    positions: &mut [i32],
+    outs: &mut [u32],
+    halves: &mut [u32],
+    faces: &mut [u32],
+    pending: &mut [u32],
+    answers: &mut [u64],
+    counts: Counts,
+    answered: u32,
+    full: bool,
+    points: &[i32],
+    count: u32,
+) -> Completed
+    requires { ⌜ CompleteReady counts full (now positions) (now outs) (now halves) (now faces) (now pending) (now answers)
+        (now points) count ⌝ }
+    ensures { λ r. ⌜ CompleteLeaves counts answered full
+        (now (positions .entry)) (now (outs .entry)) (now (halves .entry)) (now (faces .entry)) (length (now (pending .entry)))
+        (now (answers .entry)) (now (points .entry)) count
+        (now (positions .exit)) (now (outs .exit)) (now (halves .exit)) (now (faces .exit)) (now (answers .exit)) r ⌝ }
+{
+    if full {
+        answers::zero_skipped(answers, 0, count);
+        return stopped(counts, 0, 0, answered);
+    }
+    let passed = convexity::convexity(positions, outs, halves, faces, pending, counts);
+    let after = passed.counts;
+    if passed.full {
+        answers::zero_skipped(answers, 0, count);
+        return stopped(after, passed.faces, passed.flips, count);
+    }
+    let filled = fill(
+        positions,
+        outs,
+        halves,
+        faces,
+        pending,
+        answers,
+        after,
+        points,
+        count,
+    );
+    answers::zero_skipped(answers, filled.answered, count);
+    close(positions, outs, halves, faces, passed, filled)
+}

@@ -1,0 +1,4 @@
+pub mod Crossing
+pub mod CrossingLaws
+pub mod Holds
+pub mod HoldsLaws

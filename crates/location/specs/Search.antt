@@ -1,0 +1,95 @@
+-- The search for the place of q, as `locate_with_hint_fixed_core` makes it: first the walk to a nearest vertex, then
+-- the rotating walk. Definitions only; `SearchLaws` has the laws.
+use mathlib.Core.Bool.{Bool, true, false, not, cond}
+use Prim.Native.Nat.{ℕ, _*_}
+use lib.Dec.{eqb, ltb}
+use lib.Signed.{ltZ}
+use Rattle.sums.specs.Bounded.{first-below, count}
+use Rattle.sums.specs.Half.{rev}
+use Rattle.sums.specs.Iterate.{iter, period-below}
+use Rattle.sums.specs.Until.{until}
+use Rattle.math.specs.declared.Point.{Point}
+use Rattle.math.specs.declared.LineSideInfo.{LineSideInfo}
+use Rattle.math.specs.declared.LineSideInfo.the-variants.{OnLeftSide, OnRightSide, OnLine}
+use Rattle.math.specs.Determinant.{sideOf, length2, isPosition}
+use Rattle.mesh.specs.declared.Counts.{Counts}
+use Rattle.mesh.specs.Mesh.{Links, to, turn}
+use Rattle.location.specs.declared.PositionInTriangulation.the-variants.{OnVertex, OnFace, OnEdge, OutsideOfConvexHull}
+use Rattle.location.specs.Place.{SearchState, found, onward, areaAt}
+
+-- ---- the tests
+abbrev pub sideAt : Links → (ℕ → Point) → Point → ℕ → LineSideInfo
+sideAt L p q e = sideOf (areaAt L p q e)
+
+abbrev pub isOuter : Links → ℕ → Bool
+isOuter L e = eqb (L .face e) 0
+
+-- ---- 1. a nearest vertex: from vertex 0, to the end of the first out edge that is strictly closer to q, while there is one
+abbrev pub spokes : Counts → Links → ℕ → ℕ
+spokes C L v = period-below (2 * C .edges) (turn L) (L .out v)
+
+abbrev pub spokeEnd : Links → ℕ → ℕ → ℕ
+spokeEnd L v k = to L (iter k (turn L) (L .out v))
+
+abbrev pub closer : (ℕ → Point) → Point → ℕ → ℕ → Bool
+closer p q v w = ltZ (length2 (p w) q) (length2 (p v) q)
+
+unfoldable pub firstCloser : Counts → Links → (ℕ → Point) → Point → ℕ → ℕ
+firstCloser C L p q v = first-below (spokes C L v) (λ k. closer p q v (spokeEnd L v k))
+
+unfoldable pub isNearest : Counts → Links → (ℕ → Point) → Point → ℕ → Bool
+isNearest C L p q v = not (ltb (firstCloser C L p q v) (spokes C L v))
+
+unfoldable pub nearer : Counts → Links → (ℕ → Point) → Point → ℕ → ℕ
+nearer C L p q v = spokeEnd L v (firstCloser C L p q v)
+
+-- how many vertices are strictly closer than v: the walk's measure
+unfoldable pub closerCount : Counts → (ℕ → Point) → Point → ℕ → ℕ
+closerCount C p q v = count (C .vertices) (closer p q v)
+
+-- with 2E turns at most
+unfoldable pub nearest : Counts → Links → (ℕ → Point) → Point → ℕ
+nearest C L p q = until (isNearest C L p q) (nearer C L p q) (2 * C .edges) 0
+
+-- ---- 2. one turn from the half-edge e
+-- e and f: q is strictly left of e1, and of the edge of e1's triangle that is neither e1 nor e2; s is its side of e2
+unfoldable pub acrossEdge : Links → ℕ → ℕ → LineSideInfo → SearchState
+acrossEdge L e1 e2 OnLine = found (OnEdge e2)
+acrossEdge L e1 e2 OnLeftSide = found (OnFace (L .face e1))
+acrossEdge L e1 e2 OnRightSide = onward (cond (isOuter L (rev e2)) (rev e2) (L .prev (rev e2)))
+
+-- d, q strictly left of e: s is its side of rev prev e
+unfoldable pub rotateCcw : Links → (ℕ → Point) → Point → ℕ → LineSideInfo → SearchState
+rotateCcw L p q e OnLine = onward (rev (L .prev e))
+rotateCcw L p q e OnLeftSide = onward (rev (L .prev e))
+rotateCcw L p q e OnRightSide = acrossEdge L e (L .next e) (sideAt L p q (L .next e))
+
+-- d, q strictly right of e: s is its side of next rev e
+unfoldable pub rotateCw : Links → (ℕ → Point) → Point → ℕ → LineSideInfo → SearchState
+rotateCw L p q e OnLine = onward (L .next (rev e))
+rotateCw L p q e OnRightSide = onward (L .next (rev e))
+rotateCw L p q e OnLeftSide = acrossEdge L (rev e) (L .prev (rev e)) (sideAt L p q (L .prev (rev e)))
+
+-- b and c: s is the side of e
+unfoldable pub bySide : Links → (ℕ → Point) → Point → ℕ → LineSideInfo → SearchState
+bySide L p q e OnLine = onward (L .prev (cond (isOuter L e) (rev e) e))
+bySide L p q e OnLeftSide = cond (isOuter L e) (found (OutsideOfConvexHull e)) (rotateCcw L p q e (sideAt L p q (rev (L .prev e))))
+bySide L p q e OnRightSide = cond (isOuter L (rev e)) (found (OutsideOfConvexHull (rev e))) (rotateCw L p q e (sideAt L p q (L .next (rev e))))
+
+-- a
+unfoldable pub searchTurn : Links → (ℕ → Point) → Point → ℕ → SearchState
+searchTurn L p q e =
+    cond (isPosition (p (L .origin e)) q) (found (OnVertex (L .origin e)))
+    (cond (isPosition (p (to L e)) q) (found (OnVertex (to L e))) (bySide L p q e (sideAt L p q e)))
+
+-- ---- the rotating walk, with 2E turns at most
+unfoldable pub ended : SearchState → Bool
+ended (found x) = true
+ended (onward e) = false
+
+unfoldable pub advance : Links → (ℕ → Point) → Point → SearchState → SearchState
+advance L p q (found x) = found x
+advance L p q (onward e) = searchTurn L p q e
+
+unfoldable pub searchFrom : Counts → Links → (ℕ → Point) → Point → ℕ → SearchState
+searchFrom C L p q e = until ended (advance L p q) (2 * C .edges) (onward e)

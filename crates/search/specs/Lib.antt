@@ -1,0 +1,9 @@
+pub mod Round
+pub mod SearchRows
+pub mod Spokes
+pub mod Nearing
+pub mod Turns
+pub mod Searching
+pub mod Triangles
+pub mod Scanning
+pub mod Located
