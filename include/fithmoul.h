@@ -64,15 +64,26 @@
  *    7  locate, step, run   seen from the centre, the boundary's angles do not go round once, strictly rising, with
  *                           gaps of at most 3/4 of a turn
  *    8  locate              the angle is NaN, below 0.0 or above 1.0
- *    9  step, finish, run   the pending row is too short for a flip, which is not made. place: in a run the point's
- *                           index, or the number of points where the finish was refused; otherwise 0
+ *    9  step, finish, run   the pending row is too short for a flip, which is not made. place: in a run the index of
+ *                           the point whose step or insertion it was, or the number of points where the finish was
+ *                           refused; otherwise 0
  *
  * AFTERWARDS. Every refusal but 9 leaves every row as it was. After 9 and after every accepted call the rows nodes,
  * freed, buckets and pending that were lent hold zeros over their whole length: of a node its four fields do, and
  * nothing is said of its four bytes of padding. After 9 the mesh is the one that stood before that flip, a good mesh
- * with the counts of the result; in a run the answers of the points before `place` stay and the others are zeros. A
- * vertex that a step or a run has added, refused 9 or not, has its point's position and height; no call moves another
- * vertex or changes its height.
+ * with the counts of the result: the vertex of the point named is in it, and the faces that were made so far. The
+ * answers of a run that is refused 9:
+ *
+ *   in a step         points before `place` that were added or dropped keep their answers, all others are zeros
+ *   in the convexity  (place: the number of points) points that were added or dropped keep their answers, those that
+ *   passes            the steps skipped are zeros: none of them is in the mesh
+ *   in an insertion   points that were added or dropped keep their answers, also behind `place`, and so do the skipped
+ *                     points before `place`, which are in; the one named and the skipped ones after it are zeros
+ *
+ * A vertex that a step or a run has added, refused 9 or not, has its point's position and height. A skipped point that
+ * is put in on a vertex (FITHMOUL_ON_VERTEX) gives its height to that vertex, in list order, so that the last one
+ * counts; other vertices at that position keep theirs, and a point that is dropped leaves no height. Otherwise no call
+ * moves a vertex or changes its height.
  */
 #ifndef FITHMOUL_H
 #define FITHMOUL_H
@@ -105,21 +116,27 @@ typedef struct fithmoul_node {
     uint32_t right;
 } fithmoul_node;
 
-/* What became of a point. */
+/* What became of a point. A lone step answers 1 to 5. A run answers 1, 2 and 6 to 9: a point that its steps skip, for
+ * the reasons 3, 4 and 5, is put in after the convexity passes. */
 enum {
-    FITHMOUL_ADDED = 1,      /* it is the vertex `vertex` */
-    FITHMOUL_DROPPED = 2,    /* it equals an end of the boundary edge at its angle */
-    FITHMOUL_NOT_LEFT = 3,   /* it is not outside that edge: inside the mesh, or on the edge's line */
-    FITHMOUL_UNSOUND = 4,    /* the boundary that it would leave has no sound ring about the centre */
-    FITHMOUL_AT_CENTER = 5   /* it is the centre */
+    FITHMOUL_ADDED = 1,       /* a step made it the vertex `vertex` */
+    FITHMOUL_DROPPED = 2,     /* it equals an end of the boundary edge at its angle */
+    FITHMOUL_NOT_LEFT = 3,    /* it is not outside that edge: inside the mesh, or on the edge's line */
+    FITHMOUL_UNSOUND = 4,     /* the boundary that it would leave has no sound ring about the centre */
+    FITHMOUL_AT_CENTER = 5,   /* it is the centre */
+    FITHMOUL_IN_TRIANGLE = 6, /* put into a triangle, as the vertex `vertex` */
+    FITHMOUL_ON_EDGE = 7,     /* put on an edge, of the boundary or not, as the vertex `vertex` */
+    FITHMOUL_OUTSIDE = 8,     /* put in outside the boundary, as the vertex `vertex` */
+    FITHMOUL_ON_VERTEX = 9    /* put in on the vertex `vertex`, which takes the point's height; the mesh stays */
 };
 
-/* A point's answer. All but FITHMOUL_ADDED leave the mesh alone, and the other fields are 0. */
+/* A point's answer. With 2 to 5 the mesh is left alone, and the other fields are 0; with 9 faces and flips are 0. All
+ * four fields are 0 where a run was refused 9 and the point is not in (above). */
 typedef struct fithmoul_point_answer {
     uint64_t fate;
     uint64_t vertex;
-    uint64_t faces; /* added */
-    uint64_t flips;
+    uint64_t faces; /* inner faces that the step or the insertion added */
+    uint64_t flips; /* and its flips */
 } fithmoul_point_answer;
 
 typedef struct fithmoul_check_result {
@@ -218,9 +235,11 @@ fithmoul_finish_result fithmoul_finish(
     uint32_t *pending, size_t pending_length);
 
 /* A mesh to start from (a triangle is enough), a centre in it and a list of points with their heights, to a finished
- * mesh: a step for each point in list order, then the finish. `points_length` counts numbers, two for each point.
- * Refusals 1 to 7, 9 and 10. Leaves the finished mesh, an answer for each point in `answers`, and zeros in the other
- * rows. The sweep grows outwards: sort the points by their distance from the centre. */
+ * mesh with every point in it: a step for each point in list order, the convexity passes, the points that the steps
+ * skipped, in list order, each searched for from vertex 0, and the rest of the finish. `points_length` counts numbers,
+ * two for each point. Refusals 1 to 7, 9 and 10. Leaves the finished mesh, an answer for each point in `answers`, and
+ * zeros in the other rows. The sweep grows outwards: sort the points by their distance from the centre. In another
+ * order the mesh is as good, but each skipped point pays for a search through the mesh. */
 fithmoul_finish_result fithmoul_run(
     uint32_t vertices, uint32_t edges, uint32_t faces,
     int32_t *positions, size_t positions_length,

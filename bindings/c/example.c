@@ -1,13 +1,13 @@
-/* A triangle, a centre and four points, to a finished mesh: the sample of the specification, with heights, through
- * include/fithmoul.h. Prints each point's answer, the triangles, the volume above two levels, and what a refused
- * call answers. It is C and C++. */
+/* A triangle, a centre and five points, to a finished mesh: the sample of the specification, with heights, and a fifth
+ * point at the place of the fourth, through include/fithmoul.h. Prints each point's answer, the triangles, the heights,
+ * the volume above two levels, and what a refused call answers. It is C and C++. */
 #include "fithmoul.h"
 
 #include <inttypes.h>
 #include <stdio.h>
 
 #define SEED 3
-#define POINTS 4
+#define POINTS 5
 #define N (SEED + POINTS)
 
 /* the seed: half-edges 0, 2, 4 run through vertices 0, 1, 2 in face 1; the odd ones are their reverses in the outer face, 0 */
@@ -24,8 +24,8 @@ static uint32_t buckets[FITHMOUL_BUCKETS(N)];
 static uint32_t pending[4096];
 static uint64_t answers[FITHMOUL_ANSWERS(POINTS)];
 
-static const int32_t points[2 * POINTS] = {4, 4, 2, 2, 4, 4, 1, 1};
-static const int32_t point_heights[FITHMOUL_POINT_HEIGHTS(POINTS)] = {40, 50, 60, 70};
+static const int32_t points[2 * POINTS] = {4, 4, 2, 2, 4, 4, 1, 1, 1, 1};
+static const int32_t point_heights[FITHMOUL_POINT_HEIGHTS(POINTS)] = {40, 50, 60, 70, 80};
 
 #define LENGTH(row) (sizeof(row) / sizeof((row)[0]))
 
@@ -35,6 +35,18 @@ static fithmoul_finish_result run(double x, double y) {
         adjacent, LENGTH(adjacent), nodes, LENGTH(nodes), freed, LENGTH(freed), buckets, LENGTH(buckets),
         pending, LENGTH(pending), answers, LENGTH(answers), x, y, points, LENGTH(points),
         point_heights, LENGTH(point_heights));
+}
+
+static const char *named(uint64_t fate) {
+    switch (fate) {
+        case FITHMOUL_ADDED: return "added";
+        case FITHMOUL_DROPPED: return "dropped";
+        case FITHMOUL_IN_TRIANGLE: return "put into a triangle";
+        case FITHMOUL_ON_EDGE: return "put on an edge";
+        case FITHMOUL_OUTSIDE: return "put in outside";
+        case FITHMOUL_ON_VERTEX: return "put on a vertex";
+        default: return "not in";
+    }
 }
 
 static void print_triangles(uint32_t faces) {
@@ -65,7 +77,8 @@ int main(void) {
     }
     for (int i = 0; i < POINTS; i++) {
         const uint64_t *a = &answers[FITHMOUL_ANSWERS(i)];
-        printf("point %d: fate %" PRIu64 ", vertex %" PRIu64 ", %" PRIu64 " faces, %" PRIu64 " flips\n", i, a[0], a[1], a[2], a[3]);
+        printf("point %d: fate %" PRIu64 " (%s), vertex %" PRIu64 ", %" PRIu64 " faces, %" PRIu64 " flips\n",
+            i, a[0], named(a[0]), a[1], a[2], a[3]);
     }
     printf("%" PRIu32 " vertices, %" PRIu32 " edges, %" PRIu32 " triangles\n", done.vertices, done.edges, done.faces - 1);
     print_triangles(done.faces);

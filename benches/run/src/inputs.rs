@@ -16,7 +16,12 @@ fn flat([x, y, _]: Point) -> [i32; 2] {
     [x, y]
 }
 
-pub const KINDS: [&str; 6] = ["uniform", "clustered", "gridded", "along lines", "spiral", "random order"];
+/// Those that are sorted as `bulk_load` sorts them, and others.
+pub const SORTED: [&str; 4] = ["uniform", "clustered", "gridded", "along lines"];
+pub const OTHERS: [&str; 4] = ["spiral", "random order", LAST[0].0, LAST[1].0];
+
+/// Uniform points, sorted, of which so many tenths come last.
+const LAST: [(&str, u64); 2] = [("a tenth last", 1), ("nine tenths last", 9)];
 
 struct Random(u64);
 
@@ -96,12 +101,28 @@ fn positions(kind: &str, count: usize) -> Vec<[i32; 2]> {
     }
 }
 
-/// The same with a seed and a centre: as `bulk_load` sorts them, but for the spiral and the random order.
+/// Some of the points come last, in random order: they are inside the mesh by then, so that their steps skip them.
+fn put_last(order: Vec<usize>, tenths: u64) -> Vec<usize> {
+    let random = &mut Random(0xd1b5_4a32_d192_ed03);
+    let (mut last, mut first): (Vec<usize>, Vec<usize>) =
+        order.into_iter().partition(|_| random.next() % 10 < tenths);
+    for i in (1..last.len()).rev() {
+        last.swap(i, (random.next() % (i as u64 + 1)) as usize);
+    }
+    first.append(&mut last);
+    first
+}
+
+/// The same with a seed and a centre: as `bulk_load` sorts them, but for the spiral, the random order and what comes last.
 pub fn make(kind: &str, count: usize) -> Input {
     let all = unsorted(kind, count);
     let sorted = by_distance(&all);
     let seed = seed_of(&all, &sorted).expect("three points that are not on one line");
-    let order = if matches!(kind, "spiral" | "random order") { (0..count).collect() } else { sorted };
+    let order = match LAST.iter().find(|(name, _)| *name == kind) {
+        Some(&(_, tenths)) => put_last(sorted, tenths),
+        None if matches!(kind, "spiral" | "random order") => (0..count).collect(),
+        None => sorted,
+    };
     let corners = seed.map(|i| all[i]);
     let points: Vec<Point> = order.into_iter().filter(|i| !seed.contains(i)).map(|i| all[i]).collect();
     let (flat_corners, flat) = (corners.map(flat), points.iter().map(|&p| flat(p)).collect());

@@ -1,9 +1,10 @@
 //! Processor seconds and memory of a run: this library's, through its exports, beside the Rust's sweep from the same seed and centre, and beside CGAL.
 //!
-//! `bench_run [TURNS [LARGEST]]` prints the tables; `bench_run once SIDE KIND COUNT` makes one run, for a profiler; `bench_run memory SIDE KIND COUNT`
-//! prints the peak of one run's memory. In each turn all sides take the same input one after the other, and the median of the turns counts.
-//! Before it is timed each input is compared: our finished mesh is what our finish makes of the mesh after the Rust's last step, link by link. Our points have
-//! heights, the Rust's and CGAL's have none.
+//! `bench_run [TURNS [LARGEST]]` prints the tables; `bench_run once SIDE KIND COUNT` makes one run, for a profiler, and prints how many
+//! points ours skipped; `bench_run memory SIDE KIND COUNT` prints the peak of one run's memory. In each turn all sides take the same input
+//! one after the other, and each side's best turn counts.
+//! Before it is timed each input is compared: our finished mesh is what our finish makes of the mesh after the Rust's last insertion, link
+//! by link, and both skip as many points. Our points have heights, the Rust's and CGAL's have none.
 
 mod inputs;
 
@@ -13,7 +14,7 @@ use std::path::Path;
 use std::process::Command;
 
 use fithmoul::{by_distance, Fate, Mesh, Point, Run};
-use inputs::{make, unsorted, Input, KINDS};
+use inputs::{make, unsorted, Input, OTHERS, SORTED};
 use oracle::driver::Sweep;
 use oracle::mesh;
 
@@ -27,21 +28,24 @@ fn ours(input: &Input) -> (Mesh, Run) {
     (mesh, run)
 }
 
-/// The same of the Rust: to the mesh after the first convexity pass, which is where its bulk load ends but for the points that it skipped.
+/// The same of the Rust: every step, one convexity pass, and the points that the steps skipped, each searched for from vertex 0. Its bulk
+/// load ends there.
 #[inline(never)]
 fn rust(input: &Input) -> Sweep {
-    let mut sweep = rust_stepped(input);
+    let (mut sweep, _) = rust_stepped(input);
     sweep.pass_alone();
+    sweep.insertions_alone();
     sweep
 }
 
-fn rust_stepped(input: &Input) -> Sweep {
+/// And how many points the steps skipped.
+fn rust_stepped(input: &Input) -> (Sweep, usize) {
     let Ok(mut sweep) = Sweep::new(&mesh::Mesh::triangle(input.flat_corners), input.center) else {
         panic!("the Rust finds no hull")
     };
     sweep.reserve(input.flat.len());
-    sweep.steps_alone(&input.flat);
-    sweep
+    let skipped = sweep.steps_alone(&input.flat);
+    (sweep, skipped)
 }
 
 /// `struct timespec` of 64-bit Linux.
@@ -79,20 +83,20 @@ fn each<T>(times: usize, mut work: impl FnMut() -> T) -> f64 {
     (now() - start) / times as f64
 }
 
-/// Seconds of the Rust's run and of its pass alone, one of so many.
-fn rust_times(input: &Input, times: usize) -> [f64; 2] {
-    let mut sums = [0.0; 2];
+/// Seconds of the Rust's run, of its pass alone and of its insertions alone, one of so many.
+fn rust_times(input: &Input, times: usize) -> [f64; 3] {
+    let mut sums = [0.0; 3];
     for _ in 0..times {
-        let (steps, mut sweep) = seconds(|| rust_stepped(input));
+        let (steps, (mut sweep, _)) = seconds(|| rust_stepped(input));
         let pass = seconds(|| sweep.pass_alone()).0;
-        sums = [sums[0] + steps + pass, sums[1] + pass];
+        let insertions = seconds(|| sweep.insertions_alone()).0;
+        sums = [sums[0] + steps + pass + insertions, sums[1] + pass, sums[2] + insertions];
     }
     sums.map(|s| s / times as f64)
 }
 
-fn median(mut all: Vec<f64>) -> f64 {
-    all.sort_by(f64::total_cmp);
-    all[all.len() / 2]
+fn best(all: &[f64]) -> f64 {
+    all.iter().copied().reduce(f64::min).unwrap_or(f64::NAN)
 }
 
 /// A time in milliseconds, with three digits.
@@ -108,7 +112,8 @@ fn of_rows(m: &mesh::Mesh, heights: &[i32]) -> Mesh {
     Mesh::from_rows(&points, &m.out_edges, &m.half_edges, &m.faces).expect("a good mesh")
 }
 
-/// The parts of our run, in seconds, taken on the meshes that the Rust leaves after its steps and after its first pass, which are ours too.
+/// The parts of our run, in seconds, taken on the meshes that the Rust leaves after its steps, its pass and its insertions, which are ours
+/// too.
 struct Parts {
     check: f64,
     first_pass: f64,
@@ -116,41 +121,44 @@ struct Parts {
 }
 
 struct Checked {
-    added: usize,
-    comparable: bool,
+    vertices: usize,
+    skipped: usize,
     parts: Parts,
+}
+
+/// The points that the steps skipped.
+fn skipped_of(run: &Run) -> usize {
+    run.answers.iter().filter(|a| !matches!(a.fate(), Fate::Added(_) | Fate::Dropped)).count()
 }
 
 /// Both sides once, compared; and the parts.
 fn compared(input: &Input, turns: usize) -> Checked {
     let (finished, run) = ours(input);
-    let count = |wanted: fn(Fate) -> bool| run.answers.iter().filter(|a| wanted(a.fate())).count();
-    let added = count(|f| matches!(f, Fate::Added(_)));
-    let beyond = count(|f| matches!(f, Fate::Unsound | Fate::AtCenter));
-    let mut parts = Parts { check: f64::NAN, first_pass: f64::NAN, rest: f64::NAN };
-    if beyond != 0 {
-        return Checked { added, comparable: false, parts };
-    }
-    let mut sweep = rust_stepped(input);
+    let skipped = skipped_of(&run);
+    let at_center = |p: &[i32; 2]| p.map(f64::from) == input.center;
+    assert!(!input.flat.iter().any(at_center), "a point at the centre: the Rust would not return");
+    let (mut sweep, others) = rust_stepped(input);
+    assert_eq!(skipped, others, "skipped points");
     let stepped = of_rows(&sweep.rows(), finished.heights());
     sweep.pass_alone();
     let passed = of_rows(&sweep.rows(), finished.heights());
+    sweep.insertions_alone();
+    let inserted = of_rows(&sweep.rows(), finished.heights());
     let timed = |mesh: &Mesh| {
         let mut copy = mesh.clone();
         let (time, totals) = seconds(|| copy.finish().expect("a good mesh"));
-        assert!(copy == finished, "the finished meshes differ");
-        (time, totals)
+        (time, copy, totals)
     };
-    assert_eq!(timed(&stepped).1, run.totals);
+    let (_, mesh, totals) = timed(&inserted);
+    assert!(mesh == finished, "the finished meshes differ");
+    assert_eq!(totals.closing_flips, run.totals.closing_flips);
     // differences of these are taken, so the best counts
     let tries = turns + 300_000 / input.points.len();
     let take = |work: &dyn Fn() -> f64| (0..tries).map(|_| work()).fold(f64::MAX, f64::min);
-    parts.check = take(&|| seconds(|| stepped.check().expect("a good mesh")).0);
-    let whole = take(&|| timed(&stepped).0);
-    let after = take(&|| timed(&passed).0);
-    parts.first_pass = (whole - after).max(0.0);
-    parts.rest = (after - parts.check).max(0.0);
-    Checked { added, comparable: true, parts }
+    let check = take(&|| seconds(|| inserted.check().expect("a good mesh")).0);
+    let [whole, after, last] = [&stepped, &passed, &inserted].map(|mesh| take(&|| timed(mesh).0));
+    let parts = Parts { check, first_pass: (whole - after).max(0.0), rest: (last - check).max(0.0) };
+    Checked { vertices: finished.vertex_count(), skipped, parts }
 }
 
 /// What /proc has of this process, in kB.
@@ -160,11 +168,13 @@ fn status(name: &str) -> u64 {
     line.split_whitespace().nth(1).and_then(|w| w.parse().ok()).unwrap_or(0)
 }
 
-fn once(side: &str, input: &Input) {
-    match side {
-        "ours" => drop(black_box(ours(input))),
-        _ => drop(black_box(rust(input))),
+/// One run, and how many points were skipped, as far as its side tells.
+fn once(side: &str, input: &Input) -> Option<usize> {
+    if side == "ours" {
+        return Some(skipped_of(&black_box(ours(input)).1));
     }
+    drop(black_box(rust(input)));
+    None
 }
 
 /// The peak of one side's memory, in MB, with the list of points: a process of its own.
@@ -195,6 +205,7 @@ struct Row {
     ours: f64,
     rust: f64,
     pass: f64,
+    insertions: f64,
     /// CGAL's time and memory, and the time that our sorting takes.
     cgal: Option<[f64; 3]>,
     checked: Checked,
@@ -205,29 +216,26 @@ fn measure(kind: &'static str, count: usize, turns: usize, beside: Option<&Path>
     let checked = compared(&input, turns);
     let times = (100_000 / count).max(1);
     let file = Path::new("target/bench_points.bin");
-    let sorted = !matches!(kind, "spiral" | "random order");
-    let beside = beside.filter(|_| sorted && count >= 100_000);
+    let beside = beside.filter(|_| SORTED.contains(&kind) && count >= 100_000);
     if beside.is_some() {
         write_points(file, &input);
     }
     let all = if beside.is_some() { unsorted(kind, count) } else { Vec::new() };
-    let [mut a, mut b, mut p, mut c, mut m, mut o] = [const { Vec::new() }; 6];
+    let [mut a, mut b, mut p, mut i, mut c, mut m, mut o] = [const { Vec::new() }; 7];
     for _ in 0..turns {
         a.push(each(times, || ours(&input)));
-        if checked.comparable {
-            let [whole, pass] = rust_times(&input, times);
-            b.push(whole);
-            p.push(pass);
-        }
+        let [whole, pass, insertions] = rust_times(&input, times);
+        b.push(whole);
+        p.push(pass);
+        i.push(insertions);
         if let Some([time, memory]) = beside.and_then(|program| cgal(program, file)) {
             c.push(time);
             m.push(memory);
             o.push(seconds(|| by_distance(&all)).0);
         }
     }
-    let one = |all: Vec<f64>| if all.is_empty() { f64::NAN } else { median(all) };
-    let cgal = (!c.is_empty()).then(|| [one(c), one(m), one(o)]);
-    Row { kind, count, ours: one(a), rust: one(b), pass: one(p), cgal, checked }
+    let cgal = (!c.is_empty()).then(|| [best(&c), best(&m), best(&o)]);
+    Row { kind, count, ours: best(&a), rust: best(&b), pass: best(&p), insertions: best(&i), cgal, checked }
 }
 
 fn main() {
@@ -242,23 +250,31 @@ fn main() {
         unsafe { malloc_trim(0) };
         // the peak from here on
         let _ = std::fs::write("/proc/self/clear_refs", "5");
-        once(side, &input);
-        if mode == "memory" {
-            println!("{}", status("VmHWM:"));
+        let skipped = once(side, &input);
+        match (mode.as_str(), skipped) {
+            ("memory", _) => println!("{}", status("VmHWM:")),
+            (_, Some(skipped)) => println!("{skipped}"),
+            _ => {}
         }
         return;
     }
     let number = |i: usize, other: usize| words.get(i).and_then(|w| w.parse().ok()).unwrap_or(other);
-    let (turns, largest) = (number(0, 5), number(1, 1_000_000));
+    let (turns, largest) = (number(0, 5), number(1, 100_000));
     let program = Path::new("target/bench_cgal");
     let beside = program.exists().then_some(program);
     tables(turns, largest, beside);
 }
 
+/// Whether 1,000,000 points are done in seconds: not where flips or searches grow faster than the number.
+fn is_quick(kind: &str) -> bool {
+    SORTED[..3].contains(&kind) || kind == "spiral"
+}
+
 fn tables(turns: usize, largest: usize, beside: Option<&Path>) {
-    let cases = KINDS.iter().flat_map(|&kind| SIZES.map(|count| (kind, count)));
+    let kinds = SORTED.iter().chain(&OTHERS);
+    let cases = kinds.flat_map(|&kind| SIZES.map(|count| (kind, count)));
     let rows: Vec<Row> = cases
-        .filter(|&(kind, count)| count <= largest && !(kind == "along lines" && count > 100_000))
+        .filter(|&(kind, count)| count <= largest && (count <= 100_000 || is_quick(kind)))
         .map(|(kind, count)| {
             eprintln!("{kind} {count}");
             measure(kind, count, turns, beside)
@@ -289,19 +305,20 @@ fn ratio(a: f64, b: f64) -> String {
 }
 
 fn table_of_runs(rows: &[Row]) {
-    let sides = ["ours", "Rust", "ours / Rust"];
+    let sides = ["skipped", "ours", "Rust", "ours / Rust"];
+    let work = ["steps, insertions", "Rust's", "ratio", "Rust's insertions"];
     let parts = ["first pass", "Rust's", "further passes, closing", "check"];
-    let names = ["points", "number", "in the mesh"].iter().chain(&sides).chain(&["steps", "Rust's", "ratio"]);
+    let names = ["points", "number", "vertices"].iter().chain(&sides).chain(&work);
     head(&names.chain(&parts).copied().collect::<Vec<_>>());
     for r in rows {
         let Parts { check, first_pass, rest } = r.checked.parts;
         let [ours, rust] = [r.ours - first_pass - rest, r.rust - r.pass];
-        let added = r.checked.added + 3;
-        let whole: [&dyn Display; 6] =
-            [&r.kind, &r.count, &added, &ms(r.ours), &ms(r.rust), &ratio(r.ours, r.rust)];
-        let steps: [&dyn Display; 3] = [&ms(ours), &ms(rust), &ratio(ours, rust)];
+        let Checked { vertices, skipped, .. } = r.checked;
+        let whole: [&dyn Display; 7] =
+            [&r.kind, &r.count, &vertices, &skipped, &ms(r.ours), &ms(r.rust), &ratio(r.ours, r.rust)];
+        let work: [&dyn Display; 4] = [&ms(ours), &ms(rust), &ratio(ours, rust), &ms(r.insertions)];
         let finish: [&dyn Display; 4] = [&ms(first_pass), &ms(r.pass), &ms(rest), &ms(check)];
-        line(&[&whole[..], &steps, &finish].concat());
+        line(&[&whole[..], &work, &finish].concat());
     }
 }
 

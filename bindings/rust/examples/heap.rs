@@ -20,9 +20,8 @@ fn main() -> Result<(), fithmoul::LoadError> {
     for [a, b, c] in loaded.mesh.triangles() {
         println!("{a} {b} {c}");
     }
-    let left_out = loaded.vertices.iter().filter(|v| v.is_none()).count();
     let volume = loaded.mesh.volume(0)?;
-    println!("{left_out} points left out, {} cubic metres", volume.cubic_metres);
+    println!("{} points, {} cubic metres", loaded.vertices.len(), volume.cubic_metres);
     println!("six times that, exactly: {} cubic millimetres", volume.six_volumes);
     Ok(())
 }

@@ -43,21 +43,42 @@ pub const MOST_VERTICES: usize = 1_000_000;
 /// x, y and height.
 pub type Point = [i32; 3];
 
-/// What became of a point.
+/// What became of a point. A lone step skips points that are `NotLeft`, `Unsound` or `AtCenter`. A run puts those in after its convexity
+/// passes, so that its answers have `InTriangle`, `OnEdge`, `Outside` or `OnVertex` in their place.
 #[derive(Clone, Copy, Debug, PartialEq, Eq)]
 pub enum Fate {
-    /// It is this vertex.
+    /// 1: a step made it this vertex.
     Added(u32),
-    /// It equals an end of the boundary edge at its angle.
+    /// 2: it equals an end of the boundary edge at its angle.
     Dropped,
-    /// It is not outside the boundary edge at its angle: inside the mesh, or on that edge's line.
+    /// 3: it is not outside the boundary edge at its angle: inside the mesh, or on that edge's line.
     NotLeft,
-    /// The boundary that it would leave has no sound ring about the centre.
+    /// 4: the boundary that it would leave has no sound ring about the centre.
     Unsound,
-    /// It is the centre.
+    /// 5: it is the centre.
     AtCenter,
-    /// It was not reached: the run was refused before it.
+    /// 6: it was put into a triangle, as this vertex.
+    InTriangle(u32),
+    /// 7: it was put on an edge, of the boundary or not, as this vertex.
+    OnEdge(u32),
+    /// 8: it was put in outside the boundary, as this vertex.
+    Outside(u32),
+    /// 9: it was put in on this vertex, which has its height now.
+    OnVertex(u32),
+    /// 0: it is not in: the run was refused before that.
     NotReached,
+}
+
+impl Fate {
+    /// The vertex that the point is, or was put in on. A dropped point names none.
+    pub fn vertex(self) -> Option<u32> {
+        match self {
+            Fate::Added(v) | Fate::InTriangle(v) | Fate::OnEdge(v) | Fate::Outside(v) | Fate::OnVertex(v) => {
+                Some(v)
+            }
+            Fate::Dropped | Fate::NotLeft | Fate::Unsound | Fate::AtCenter | Fate::NotReached => None,
+        }
+    }
 }
 
 /// A point's answer as the library writes it, word by word; [`Answer::fate`], `faces` and `flips` read it.
@@ -66,9 +87,9 @@ pub enum Fate {
 pub struct Answer {
     fate: u64,
     vertex: u64,
-    /// The faces that its step added.
+    /// The inner faces that its step or its insertion added.
     pub faces: u64,
-    /// The flips of its step.
+    /// The flips of its step or its insertion.
     pub flips: u64,
 }
 
@@ -80,6 +101,10 @@ impl Answer {
             3 => Fate::NotLeft,
             4 => Fate::Unsound,
             5 => Fate::AtCenter,
+            6 => Fate::InTriangle(self.vertex as u32),
+            7 => Fate::OnEdge(self.vertex as u32),
+            8 => Fate::Outside(self.vertex as u32),
+            9 => Fate::OnVertex(self.vertex as u32),
             _ => Fate::NotReached,
         }
     }
@@ -121,9 +146,9 @@ pub struct Run {
 #[derive(Clone, Debug)]
 pub struct Loaded {
     pub mesh: Mesh,
-    /// For each point, in the order in which they were given, its vertex; `None` where the point is not in the mesh: it equals another one, or the sweep
-    /// left it out. None is lost silently.
-    pub vertices: Vec<Option<u32>>,
+    /// For each point, in the order in which they were given, its vertex. Every point has one; points at one place have the same.
+    pub vertices: Vec<u32>,
+    /// Its answers are those of the points that are neither in the seed nor at the place of one before them, nearest first.
     pub run: Run,
 }
 
@@ -152,8 +177,9 @@ impl Mesh {
         Ok(mesh)
     }
 
-    /// The mesh of a list of points, as spade's `bulk_load` goes about it: sorted by their distance from their average; the first three that are not on
-    /// one line are the seed, the middle of the seed is the centre, and the others are run. Of points at one place the first counts, with its height.
+    /// The mesh of a list of points, with all of them in it, as spade's `bulk_load` goes about it: sorted by their distance from their
+    /// average; the first three that are not on one line are the seed, the middle of the seed is the centre, and the others are run. Of
+    /// points at one place the first counts, with its height, and the others are not run.
     pub fn bulk_load(points: &[Point]) -> Result<Loaded, LoadError> {
         let outside = |p: &Point| at(*p).iter().any(|c| !(-RANGE..=RANGE).contains(c));
         if let Some(point) = points.iter().position(outside) {
@@ -163,22 +189,30 @@ impl Mesh {
         if let Some(point) = points.iter().position(too_high) {
             return Err(LoadError::Height { point });
         }
-        let order = by_distance(points);
+        let mut order = by_distance(points);
+        // points at one place are neighbours there: of each, the first
+        let mut first: Vec<usize> = (0..points.len()).collect();
+        for pair in order.windows(2) {
+            if at(points[pair[0]]) == at(points[pair[1]]) {
+                first[pair[1]] = first[pair[0]];
+            }
+        }
+        order.dedup_by_key(|i| at(points[*i]));
         let seed = seed_of(points, &order).ok_or(LoadError::NoTriangle)?;
         let corners = seed.map(|i| points[i]);
         let rest: Vec<usize> = order.into_iter().filter(|i| !seed.contains(i)).collect();
         let swept: Vec<Point> = rest.iter().map(|&i| points[i]).collect();
         let mut mesh = Mesh::triangle(corners)?;
         let run = mesh.run(middle(corners), &swept)?;
-        let mut vertices = vec![None; points.len()];
+        let mut vertex_of = vec![0; points.len()];
         for (vertex, &i) in (0..).zip(&seed) {
-            vertices[i] = Some(vertex);
+            vertex_of[i] = vertex;
         }
+        // no two of these are at one place, so that none is dropped and each answer names a vertex
         for (answer, &i) in run.answers.iter().zip(&rest) {
-            if let Fate::Added(vertex) = answer.fate() {
-                vertices[i] = Some(vertex);
-            }
+            vertex_of[i] = answer.vertex as u32;
         }
+        let vertices = first.into_iter().map(|i| vertex_of[i]).collect();
         Ok(Loaded { mesh, vertices, run })
     }
 
@@ -214,10 +248,15 @@ impl Mesh {
         Ok(totals_of(&result))
     }
 
-    /// A step for each point in list order, about a centre inside the mesh, then the finish. The sweep grows outwards: points that come before others
-    /// nearer to the centre may leave those out, which their answers tell.
+    /// A step for each point in list order, about a centre inside the mesh; then the convexity passes, the points that the steps skipped,
+    /// in list order, and the rest of the finish. All points are in the mesh then: as a vertex of their own, or at the position of
+    /// another one. The sweep grows outwards, and a point that comes after others farther from the centre is mostly skipped, which takes
+    /// a search through the mesh: sort them ([`by_distance`]).
     ///
-    /// After [`Refusal::Pending`] the mesh is good, and the points before the named one are in it.
+    /// A skipped point on a vertex gives it its height, in list order; a dropped one does not.
+    ///
+    /// After [`Refusal::Pending`] the mesh is good, and may have grown; it has the points that had their turn before the named one, the
+    /// skipped ones after all steps.
     pub fn run(&mut self, center: [f64; 2], points: &[Point]) -> Result<Run, Refusal> {
         let room = self.rows.reserve(points.len());
         let mut answers = rows::zeros(points.len());

@@ -22,7 +22,8 @@ pub enum Refusal {
     Ring,
     /// 8: the angle is NaN, below 0.0 or above 1.0.
     Angle,
-    /// 9: the pending list is full. In a run the point, or the number of points where the finish was refused; otherwise 0.
+    /// 9: the pending list is full. In a run the point whose step or insertion it was, or the number of points where the finish was
+    /// refused; otherwise 0.
     Pending { point: u32 },
     /// 10: a height, of a vertex or of a point, or a level is outside -1,048,576..1,048,576. It comes straight after 3, and names no vertex.
     Height,
@@ -93,7 +94,7 @@ pub enum LoadError {
     Height { point: usize },
     /// All points are on one line, or so close to one that no sweep can start; or there are fewer than three.
     NoTriangle,
-    /// `Count`, or `Pending`, which counts points as the sweep took them.
+    /// `Count`, of different places, or `Pending`, which counts points as the sweep took them.
     Refused(Refusal),
 }
 

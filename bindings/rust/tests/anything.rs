@@ -25,6 +25,7 @@ impl Random {
         match self.below(40) {
             0 => i32::MIN,
             1 => 16_777_217,
+            2..16 => self.below(5) as i32,
             _ => self.below(21) as i32 - 10,
         }
     }
@@ -160,7 +161,7 @@ fn call(which: u64, r: &mut Rows, [x, y]: [f64; 2], points: &[i32], point_height
 #[test]
 fn a_call_takes_anything() {
     let mut random = Random(0x2545_f491_4f6c_dd1d);
-    let mut seen = [0u32; 11];
+    let (mut seen, mut fates) = ([0u32; 11], [0u32; 10]);
     for _ in 0..40_000 {
         let mut rows = seed(7);
         for _ in 0..random.below(3) {
@@ -170,15 +171,27 @@ fn a_call_takes_anything() {
         let points: Vec<i32> = (0..random.below(9)).map(|_| random.coordinate()).collect();
         let point_heights: Vec<i32> = (0..=random.below(12)).map(|_| random.height()).collect();
         let before = rows.clone();
-        let refusal = call(random.below(6), &mut rows, center, &points, &point_heights);
+        let which = random.below(6);
+        let refusal = call(which, &mut rows, center, &points, &point_heights);
         seen[refusal as usize] += 1;
         if ![0, 9].contains(&refusal) {
             assert!(rows == before, "refusal {refusal} changed a row");
         } else {
-            assert!(rows.heights[..3] == before.heights[..3], "a height was changed");
+            let mut heights = before.heights[..3].to_vec();
+            if which == 4 {
+                // a run's answers: a skipped point on a vertex gives it its height
+                for (answer, &z) in rows.answers.chunks(4).zip(&point_heights).take(points.len() / 2) {
+                    fates[answer[0] as usize] += 1;
+                    if let (9, Some(height)) = (answer[0], heights.get_mut(answer[1] as usize)) {
+                        *height = z;
+                    }
+                }
+            }
+            assert!(rows.heights[..3] == heights, "a height was changed");
             assert!(rows.nodes.iter().all(|n| *n == Node::default() || *n == NOISE));
         }
     }
-    println!("{seen:?}");
+    println!("{seen:?} {fates:?}");
     assert!([0, 1, 2, 3, 4, 5, 6, 10].iter().all(|&k| seen[k] > 0), "{seen:?}");
+    assert!([1, 2, 6, 7, 8, 9].iter().all(|&k| fates[k] > 0) && fates[3..6] == [0; 3], "{fates:?}");
 }

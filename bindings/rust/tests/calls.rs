@@ -11,15 +11,29 @@ fn sample() {
     let mut mesh = seed();
     let run = mesh.run([1.0, 1.0], &[[4, 4, 40], [2, 2, 50], [4, 4, 60], [1, 1, 70]]).unwrap();
     let fates: Vec<Fate> = run.answers.iter().map(|a| a.fate()).collect();
-    assert_eq!(fates, [Fate::Added(3), Fate::NotLeft, Fate::Dropped, Fate::AtCenter]);
-    assert_eq!([mesh.vertex_count(), mesh.edge_count(), mesh.face_count()], [4, 5, 3]);
+    assert_eq!(fates, [Fate::Added(3), Fate::OnEdge(4), Fate::Dropped, Fate::OnEdge(5)]);
+    assert_eq!([mesh.vertex_count(), mesh.edge_count(), mesh.face_count()], [6, 11, 7]);
     assert_eq!(run.totals, fithmoul::Totals { faces: 0, convex_flips: 0, closing_flips: 0 });
-    assert_eq!(mesh.triangles().count(), 2);
+    assert_eq!(mesh.triangles().count(), 6);
     let mut boundary = mesh.boundary();
     boundary.sort();
     assert_eq!(boundary, [0, 1, 2, 3]);
+    assert_eq!(mesh.heights(), [10, 20, 30, 40, 50, 70]);
+    // four triangles at the edge from (0, 0) to (2, 2), two at the one from there to (4, 4)
+    let [below, above] = [4 * (10 + 20 + 70 - 75) + 4 * (20 + 50 + 70 - 75), 8 * (20 + 40 + 50 - 75)];
+    let [left, over] = [4 * (10 + 30 + 70 - 75) + 4 * (30 + 50 + 70 - 75), 8 * (30 + 40 + 50 - 75)];
+    assert_eq!(mesh.volume(25).unwrap().six_volumes, below + above + left + over);
+}
+
+/// What the same points answer alone.
+#[test]
+fn sample_step_by_step() {
+    let mut mesh = seed();
+    let fates =
+        [[4, 4, 40], [2, 2, 50], [4, 4, 60], [1, 1, 70]].map(|p| mesh.step([1.0, 1.0], p).unwrap().fate());
+    assert_eq!(fates, [Fate::Added(3), Fate::NotLeft, Fate::Dropped, Fate::AtCenter]);
+    assert_eq!(fates.map(Fate::vertex), [Some(3), None, None, None]);
     assert_eq!(mesh.heights(), [10, 20, 30, 40]);
-    assert_eq!(mesh.volume(25).unwrap().six_volumes, 16 * (60 - 75) + 16 * (90 - 75));
 }
 
 #[test]
@@ -100,15 +114,11 @@ fn loads_points() {
     let points: Vec<Point> = (0..400).map(|i| [i * 7919 % 1009, i * 104_729 % 1013, 17 * i - 3000]).collect();
     let loaded = Mesh::bulk_load(&points).unwrap();
     loaded.mesh.check().unwrap();
-    for (point, vertex) in points.iter().zip(&loaded.vertices) {
-        if let Some(v) = vertex {
-            let [x, y] = loaded.mesh.positions()[*v as usize];
-            assert_eq!([x, y, loaded.mesh.heights()[*v as usize]], *point);
-        }
+    for (point, &v) in points.iter().zip(&loaded.vertices) {
+        let [x, y] = loaded.mesh.positions()[v as usize];
+        assert_eq!([x, y, loaded.mesh.heights()[v as usize]], *point);
     }
-    let vertices = loaded.vertices.iter().flatten().count();
-    assert_eq!(vertices, loaded.mesh.vertex_count());
-    assert!(vertices > 390, "{vertices}");
+    assert_eq!(loaded.mesh.vertex_count(), 400);
     assert_eq!(loaded.mesh.clone().finish().unwrap().closing_flips, 0);
 }
 
@@ -122,13 +132,20 @@ fn loads_points_of_hardly_any_width() {
     assert!(matches!(thin, Ok(_) | Err(LoadError::NoTriangle)), "{thin:?}");
 }
 
-/// Heights decide neither the order nor the seed, and of points at one place the first counts, whatever their heights are.
+/// Heights decide neither the order nor the seed, and of points at one place the first counts, whatever their heights are. They have one
+/// vertex.
 #[test]
 fn loads_points_at_one_place() {
-    let once = [[0, 0, 5], [40, 0, 6], [0, 40, 7], [40, 40, 8]];
+    let once = [[0, 0, 5], [40, 0, 6], [0, 40, 7], [40, 40, 8], [20, 20, 9], [13, 11, 10]];
     let again = once.map(|[x, y, z]| [x, y, 100 - z]);
     let loaded = Mesh::bulk_load(&[once, again].concat()).unwrap();
-    let height = |v: &Option<u32>| loaded.mesh.heights()[v.unwrap() as usize];
-    assert_eq!(loaded.vertices[..4].iter().map(height).collect::<Vec<_>>(), [5, 6, 7, 8]);
-    assert_eq!(loaded.vertices[4..], [None; 4]);
+    let height = |v: &u32| loaded.mesh.heights()[*v as usize];
+    assert_eq!(loaded.vertices[..6].iter().map(height).collect::<Vec<_>>(), [5, 6, 7, 8, 9, 10]);
+    assert_eq!(loaded.vertices[6..], loaded.vertices[..6]);
+    assert_eq!(loaded.mesh.vertex_count(), 6);
+    assert!(loaded
+        .run
+        .answers
+        .iter()
+        .all(|a| a.fate().vertex().is_some() && !matches!(a.fate(), Fate::OnVertex(_))));
 }

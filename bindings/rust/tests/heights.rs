@@ -1,10 +1,15 @@
 //! Each vertex keeps the height of its point, through every call and also through refusal 9; and nothing else depends on heights.
 
 mod common;
+#[path = "common/rows.rs"]
+mod rows;
+
+use std::collections::HashMap;
 
 use common::{of_triangles, Random};
-use fithmoul::sys::{self, FinishResult, Node, StepResult};
-use fithmoul::{Fate, Mesh, Point};
+use fithmoul::sys::{self, StepResult};
+use fithmoul::{Answer, Fate, Mesh, Point};
+use rows::{rows_of, Rows, PAST};
 
 fn random_points(random: &mut Random, count: u64, reach: i32) -> Vec<Point> {
     (0..count).map(|_| [random.within(reach), random.within(reach), random.within(1_048_576)]).collect()
@@ -16,14 +21,12 @@ fn loaded() {
     for reach in [5, 40, 16_777_216] {
         let points = random_points(random, 400, reach);
         let loaded = Mesh::bulk_load(&points).expect("a triangle");
-        let mut seen = 0;
-        for (point, vertex) in points.iter().zip(&loaded.vertices) {
-            if let Some(v) = vertex {
-                assert_eq!(loaded.mesh.heights()[*v as usize], point[2]);
-                seen += 1;
-            }
+        let mut first = HashMap::new();
+        for (point, &v) in points.iter().zip(&loaded.vertices) {
+            let &mut z = first.entry([point[0], point[1]]).or_insert(point[2]);
+            assert_eq!(loaded.mesh.heights()[v as usize], z);
         }
-        assert_eq!(seen, loaded.mesh.vertex_count());
+        assert_eq!(first.len(), loaded.mesh.vertex_count());
     }
 }
 
@@ -50,8 +53,19 @@ fn stepped_and_run() {
 
     let mut run = seed.clone();
     let answers = run.run([0.0, 0.0], &points).expect("accepted").answers;
-    let added = points.iter().zip(&answers).filter(|(_, a)| matches!(a.fate(), Fate::Added(_)));
-    let expected: Vec<i32> = [1, 2, 3].into_iter().chain(added.map(|(p, _)| p[2])).collect();
+    let is_added = |a: &Answer| matches!(a.fate(), Fate::Added(_));
+    let added = points.iter().zip(&answers).filter(|(_, a)| is_added(a));
+    let mut expected: Vec<i32> = [1, 2, 3].into_iter().chain(added.map(|(p, _)| p[2])).collect();
+    // then the skipped points, in list order
+    for (point, answer) in points.iter().zip(&answers).filter(|(_, a)| !is_added(a)) {
+        match answer.fate() {
+            Fate::OnVertex(v) => expected[v as usize] = point[2],
+            other => {
+                assert_eq!(other.vertex(), Some(expected.len() as u32), "{other:?}");
+                expected.push(point[2]);
+            }
+        }
+    }
     assert_eq!(run.heights(), expected);
 }
 
@@ -72,42 +86,6 @@ fn ignored_by_links() {
             (answer, l.mesh.locate([0.0, 0.0], 0.3), mesh.halves().to_vec())
         });
         assert_eq!(c, d);
-    }
-}
-
-/// Past the counts, where nothing may be written.
-const PAST: i32 = 77;
-
-/// A mesh's rows with room for some vertices more, and a pending row of a given length.
-struct Rows {
-    counts: [u32; 3],
-    positions: Vec<i32>,
-    heights: Vec<i32>,
-    outs: Vec<u32>,
-    halves: Vec<u32>,
-    adjacent: Vec<u32>,
-    pending: Vec<u32>,
-    nodes: Vec<Node>,
-    freed: Vec<u32>,
-    buckets: Vec<u32>,
-}
-
-fn rows_of(mesh: &Mesh, more: usize, pending: usize) -> Rows {
-    fn longer<T: Copy>(row: &[T], length: usize, past: T) -> Vec<T> {
-        row.iter().copied().chain(std::iter::repeat(past)).take(length).collect()
-    }
-    let n = mesh.vertex_count() + more;
-    Rows {
-        counts: [mesh.vertex_count(), mesh.edge_count(), mesh.face_count()].map(|c| c as u32),
-        positions: longer(mesh.positions().as_flattened(), 2 * n, PAST),
-        heights: longer(mesh.heights(), n, PAST),
-        outs: longer(mesh.outs(), n, 7),
-        halves: longer(mesh.halves().as_flattened(), 24 * n, 7),
-        adjacent: longer(mesh.adjacent(), 2 * n, 7),
-        pending: vec![7; pending],
-        nodes: vec![Node::default(); n + 1],
-        freed: vec![7; n + 1],
-        buckets: vec![7; n.max(16)],
     }
 }
 
@@ -146,46 +124,6 @@ impl Rows {
             )
         }
     }
-
-    fn run(&mut self, [cx, cy]: [f64; 2], points: &[Point], answers: &mut [u64]) -> FinishResult {
-        let [v, e, f] = self.counts;
-        let flat: Vec<i32> = points.iter().flat_map(|p| [p[0], p[1]]).collect();
-        let point_heights: Vec<i32> = points.iter().map(|p| p[2]).collect();
-        let Rows { positions, heights, outs, halves, adjacent, nodes, freed, buckets, pending, .. } = self;
-        unsafe {
-            sys::fithmoul_run(
-                v,
-                e,
-                f,
-                positions.as_mut_ptr(),
-                positions.len(),
-                heights.as_mut_ptr(),
-                heights.len(),
-                outs.as_mut_ptr(),
-                outs.len(),
-                halves.as_mut_ptr(),
-                halves.len(),
-                adjacent.as_mut_ptr(),
-                adjacent.len(),
-                nodes.as_mut_ptr(),
-                nodes.len(),
-                freed.as_mut_ptr(),
-                freed.len(),
-                buckets.as_mut_ptr(),
-                buckets.len(),
-                pending.as_mut_ptr(),
-                pending.len(),
-                answers.as_mut_ptr(),
-                answers.len(),
-                cx,
-                cy,
-                flat.as_ptr(),
-                flat.len(),
-                point_heights.as_ptr(),
-                point_heights.len(),
-            )
-        }
-    }
 }
 
 /// A fan about (0, 0) to points on a vertical line. The point (1, -1) is inside all its circles, so that all inner edges flip, and the pending list grows to
@@ -212,7 +150,7 @@ fn a_step_refused_9() {
         assert_eq!(rows.heights[n..], [-5, PAST, PAST]);
         assert_eq!(rows.positions[2 * n..], [1, -1, PAST, PAST, PAST, PAST]);
     }
-    // a point that is left out leaves no height behind
+    // a point that a step skips leaves no height behind
     let mut rows = rows_of(&fan, 3, 8);
     assert_eq!(rows.step(CENTER, [60, 3, -5]).answer.fate(), Fate::NotLeft);
     assert_eq!(rows.heights[n..], [PAST; 3]);
@@ -232,12 +170,14 @@ fn a_run_refused_9() {
         let fates: Vec<u64> = answers.chunks(4).map(|a| a[0]).collect();
         assert_eq!(rows.heights[..n], *fan.heights());
         if refusal == 9 {
-            assert_eq!(fates, [1, 3, 5, 0, 0]);
+            // the skipped ones are not in
+            assert_eq!(answers[4..], [0; 16]);
+            assert_eq!(fates, [1, 0, 0, 0, 0]);
             assert_eq!(result.vertices as usize, n + 2);
             assert_eq!(rows.heights[n..], [11, 14, PAST, PAST, PAST]);
         } else {
-            assert_eq!(fates, [1, 3, 5, 1, 1]);
-            assert_eq!(rows.heights[n..], [11, 14, 15, PAST, PAST]);
+            assert_eq!(fates, [1, 6, 7, 1, 1]);
+            assert_eq!(rows.heights[n..], [11, 14, 15, 12, 13]);
         }
     }
 }
@@ -258,8 +198,13 @@ fn a_finish_of_a_run_refused_9() {
         let mut answers = [7; 12];
         let result = rows.run([-1.0, 0.5], &added, &mut answers);
         assert_eq!([result.refusal, result.place], [refusal, place]);
-        let taken = added.iter().zip(answers.chunks(4)).filter(|(_, a)| a[0] == 1);
-        let heights: Vec<i32> = taken.map(|(p, _)| p[2]).collect();
+        // those of the steps, then the skipped ones, which are not in where the passes were refused
+        let taken = |from: u64, to: u64| {
+            let answered = added.iter().zip(answers.chunks(4));
+            answered.filter(move |(_, a)| (from..=to).contains(&a[0])).map(|(p, _)| p[2])
+        };
+        let heights: Vec<i32> = taken(1, 1).chain(taken(6, 8)).collect();
+        assert_eq!(taken(0, 0).count(), if refusal == 9 { 1 } else { 0 });
         assert!(!heights.is_empty() && result.vertices as usize == n + heights.len());
         assert_eq!(rows.heights[..n], *mesh.heights());
         assert_eq!(rows.heights[n..n + heights.len()], heights);

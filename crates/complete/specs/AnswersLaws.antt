@@ -15,7 +15,8 @@ unfolding withWords
 words-same i word r t x e = rw e refl
 
 -- equal words, equal rows
-pub words-are : (row : ℕ → ℕ) (i : ℕ) (full : Bool) (f g : ℕ → ℕ) → ((k : ℕ) → f k ≡ g k) → withInserted row i full f ≡ withInserted row i full g
+pub words-are : (row : ℕ → ℕ) (i : ℕ) (full : Bool) (f g : ℕ → ℕ) → ((k : ℕ) → f k ≡ g k)
+    → withInserted row i full f ≡ withInserted row i full g
 words-are row i full f g e = ap (withInserted row i full) (fun-ext e)
 
 entries : (x n : ℕ) → ltb (x / answerWords) n ≡ ltb x (answerWords * n)

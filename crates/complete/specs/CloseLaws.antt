@@ -20,7 +20,8 @@ module _ (q : List ℤ) (o h a : List ℕ) (s : FillEnd) (faces flips : ℕ) whe
   unfolding closeFill closeAfter finishingOf
   close-refused f e = (rw (e, f) refl, rw e refl)
 
-  pub close-made : s .full ≡ false → (o′ h′ a′ : List ℕ) (k : ℕ) → closingOf o′ h′ a′ k ≡ closingPass (s .counts) (positionOf q) (linksOf o h a)
+  pub close-made : s .full ≡ false → (o′ h′ a′ : List ℕ) (k : ℕ)
+      → closingOf o′ h′ a′ k ≡ closingPass (s .counts) (positionOf q) (linksOf o h a)
       → finishingOf o′ h′ a′
       (record { counts = s .counts; totals = record { faces = faces; convexflips = flips; closingflips = k }; full = false })
       ≡ closeFill faces flips (fillingOf q o h a s)

@@ -102,7 +102,8 @@ module _ (C : Counts) (answered : ℕ) {full : Bool} {q : List ℤ} {o h a row w
   }
 
   -- a flip was refused in them
-  pub refused-in : g .full ≡ true → {w′ : List ℕ} → SkippedZeroed w w′ 0 n → {r : Completed} → r ≡ stoppedAt (g .counts) (g .faces) (g .flips) n
+  pub refused-in : g .full ≡ true → {w′ : List ℕ} → SkippedZeroed w w′ 0 n → {r : Completed}
+      → r ≡ stoppedAt (g .counts) (g .faces) (g .flips) n
       → CompleteLeaves C answered full q o h a room w points n q o₁ h₁ a₁ w′ r
   unfolding finishingOf
   refused-in z {w′} Z {r} d =

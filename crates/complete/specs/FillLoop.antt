@@ -183,7 +183,8 @@ module _ {C₀ : Counts} {q₀ : List ℤ} {o₀ h₀ a₀ row₀ w₀ : List �
           ∙ point-answered (length row) (fillingAt C q o h a i) (skippedIn (rowOf w) i) (point i) refl
           ∙ ap (λ (s : Filling). cond (s .full) i (suc i)) (sym (X .is))
 
-      word-is : (k : ℕ) → insertWord C (insertOn (length row) (fillingAt C q o h a i) (point i)) k ≡ fillWord (length row₀) C₀ L₀ p₀ sk point i k
+      word-is : (k : ℕ)
+          → insertWord C (insertOn (length row) (fillingAt C q o h a i) (point i)) k ≡ fillWord (length row₀) C₀ L₀ p₀ sk point i k
       word-is k =
           ap (λ (m : ℕ). insertWord C (insertOn m (fillingAt C q o h a i) (point i)) k) (I .lengths .pending)
           ∙ ap (λ (s : Filling). insertWord (s .counts) (insertOn (length row₀) s (point i)) k) (sym (I .at))
@@ -201,7 +202,8 @@ module _ {C₀ : Counts} {q₀ : List ℤ} {o₀ h₀ a₀ row₀ w₀ : List �
             answers-are = λ x. ap (λ (g : ℕ → ℕ). g x) (X .answers-are) ∙ same (skippedIn (rowOf w) i) x ∙ I .answers-are x;
           }
         where
-          same : (b : Bool) (x : ℕ) → cond (b && not (r .full)) (withWords (rowOf w) i (insertWord C (insertOn (length row) (fillingAt C q o h a i) (point i)))) (rowOf w) x ≡ rowOf w x
+          same : (b : Bool) (x : ℕ)
+              → cond (b && not (r .full)) (withWords (rowOf w) i (insertWord C (insertOn (length row) (fillingAt C q o h a i) (point i)))) (rowOf w) x ≡ rowOf w x
           same true x = rw f refl
           same false x = refl
 
@@ -226,7 +228,8 @@ module _ {C₀ : Counts} {q₀ : List ℤ} {o₀ h₀ a₀ row₀ w₀ : List �
             most = omega arith;
           }
 
-  pub filling-end : n ≤ i → FillLeaves C₀ q₀ o₀ h₀ a₀ (length row₀) w₀ points n q o h a w (record { counts = C; answered = i; full = false })
+  pub filling-end : n ≤ i
+      → FillLeaves C₀ q₀ o₀ h₀ a₀ (length row₀) w₀ points n q o h a w (record { counts = C; answered = i; full = false })
   filling-end l =
       let z : i ≡ n = (let m = I .most in omega arith) in
       record { is = sym (ap list (sym z) ∙ I .at); answers-are = I .answers-are }

@@ -24,7 +24,8 @@ use Rattle.mesh.specs.Rules.{halfEdgeInUse, linksInUse, halfEdgeLinked, innerFa
 use Rattle.mesh.specs.RulesWf.{rules-wf}
 use Rattle.location.specs.declared.PositionInTriangulation.{PositionInTriangulation}
 use Rattle.location.specs.declared.PositionInTriangulation.the-variants.{OnVertex, OnFace, OnEdge, OutsideOfConvexHull}
-use Rattle.location.specs.Place.{onward, InFace, InEdge}
+use Rattle.location.specs.declared.SearchState.the-variants.{Onward}
+use Rattle.location.specs.Place.{InFace, InEdge}
 use Rattle.location.specs.Search.{firstCloser, isNearest, nearer, nearest, acrossEdge, rotateCcw, rotateCw, bySide, searchTurn, ended, advance, searchFrom}
 use Rattle.location.specs.Scan.{holdsAt, placeAt, firstHolding, firstLeft, scan, answer, locatePoint}
 use Rattle.location.specs.LocateLaws.{locate-certified}
@@ -156,7 +157,7 @@ round-17 : ended (searchFrom pinwheelCounts pinwheel blades (at (negsuc 0) (pos 
 unfolding pinwheel blades orient2d rev isCoordinate until when isPosition acrossEdge rotateCcw rotateCw bySide searchTurn ended advance searchFrom
 round-17 = refl
 
-for-ever-round : (n : ℕ) → ended (until ended (advance pinwheel blades (at (negsuc 0) (pos 0))) n (onward 17)) ≡ false
+for-ever-round : (n : ℕ) → ended (until ended (advance pinwheel blades (at (negsuc 0) (pos 0))) n (Onward 17)) ≡ false
 for-ever-round n = search-limit pinwheel-wf blades (at (negsuc 0) (pos 0)) {e = 17} (lit< tt) round-17 n
 
 scan-answers : locatePoint pinwheelCounts pinwheel blades (at (negsuc 0) (pos 0)) ≡ OnFace 3

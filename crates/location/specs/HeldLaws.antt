@@ -1,4 +1,4 @@
--- 6.2: where a point is strictly left of no boundary edge, some triangle holds it. Some boundary edge has it strictly
+-- Where a point is strictly left of no boundary edge, some triangle holds it. Some boundary edge has it strictly
 -- right, since the triangles' areas are positive; seen from the point with that edge's start due east, the edge crosses
 -- the ray to the east and no boundary edge crosses it the other way, so the crossings of some triangle total more than
 -- 0.

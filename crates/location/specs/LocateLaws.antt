@@ -7,7 +7,9 @@ use Rattle.mesh.specs.Mesh.{Links, In}
 use Rattle.mesh.specs.Wf.{Wf}
 use Rattle.mesh.specs.Area.{LeftTurning}
 use Rattle.mesh.specs.Good.{Good}
-use Rattle.location.specs.Place.{SearchState, found, onward, Certified, Sound}
+use Rattle.location.specs.declared.SearchState.{SearchState}
+use Rattle.location.specs.declared.SearchState.the-variants.{Found, Onward}
+use Rattle.location.specs.Place.{Certified, Sound}
 use Rattle.location.specs.Search.{isNearest, nearest, searchFrom}
 use Rattle.location.specs.SearchLaws.{search-sound, nearest-used}
 use Rattle.location.specs.Scan.{scan, answer, locatePoint}
@@ -16,8 +18,8 @@ use Rattle.location.specs.ScanLaws.{scan-certified}
 module _ {C : Counts} {L : Links} (W : Wf C L) {p : ℕ → Point} (turning : LeftTurning C L p) (q : Point) where
   pub answer-certified : (s : SearchState) → Sound C L p q s → Certified C L p q (answer (scan C L p q) s)
   unfolding answer
-  answer-certified (found x) h = h
-  answer-certified (onward e) h = scan-certified W p q turning
+  answer-certified (Found x) h = h
+  answer-certified (Onward e) h = scan-certified W p q turning
 
   -- from any half-edge in use
   pub from-certified : {e : ℕ} → In C e → Certified C L p q (answer (scan C L p q) (searchFrom C L p q e))

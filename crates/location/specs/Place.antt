@@ -9,11 +9,8 @@ use Rattle.mesh.specs.declared.Counts.{Counts}
 use Rattle.mesh.specs.Mesh.{Links, In, to}
 use Rattle.location.specs.declared.PositionInTriangulation.{PositionInTriangulation}
 use Rattle.location.specs.declared.PositionInTriangulation.the-variants.{OnVertex, OnFace, OnEdge, OutsideOfConvexHull}
-
--- a turn of the search ends it, or leads on to a half-edge
-pub data SearchState : Type 0 where
-  found : PositionInTriangulation → SearchState
-  onward : ℕ → SearchState
+use Rattle.location.specs.declared.SearchState.{SearchState}
+use Rattle.location.specs.declared.SearchState.the-variants.{Found, Onward}
 
 -- side(e): twice the signed area of the ends of e and q
 abbrev pub areaAt : Links → (ℕ → Point) → Point → ℕ → ℤ
@@ -57,5 +54,5 @@ Certified C L p q (OutsideOfConvexHull e) = Beyond C L p q e
 
 -- of a turn: the answer's, or the half-edge is in use
 abbrev pub Sound : Counts → Links → (ℕ → Point) → Point → SearchState → Type 0
-Sound C L p q (found x) = Certified C L p q x
-Sound C L p q (onward e) = In C e
+Sound C L p q (Found x) = Certified C L p q x
+Sound C L p q (Onward e) = In C e

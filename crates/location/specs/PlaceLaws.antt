@@ -15,13 +15,15 @@ use Rattle.insertion.specs.InTriangle.{strict-between}
 use Rattle.insertion.specs.Plane.{Inside, Between}
 use Rattle.location.specs.Place.{areaAt, InFace, InEdge}
 
-module _ {C : Counts} {L : Links} (W : Wf C L) (p : ℕ → Point) (q : Point) where
-  area-next : {a b c : ℕ} → Triangle C L a b c → areaAt L p q b ≡ orient2d (p (to L a)) (p (L .origin c)) q
+-- the second and the third area of a triangle, by its corners
+module _ {C : Counts} {L : Links} (p : ℕ → Point) (q : Point) where
+  pub area-next : {a b c : ℕ} → Triangle C L a b c → areaAt L p q b ≡ orient2d (p (to L a)) (p (L .origin c)) q
   area-next t = ap₂ (λ (u v : ℕ). orient2d (p u) (p v) q) (sym (t .to-a)) (t .to-b)
 
-  area-prev : {a b c : ℕ} → Triangle C L a b c → areaAt L p q c ≡ orient2d (p (L .origin c)) (p (L .origin a)) q
+  pub area-prev : {a b c : ℕ} → Triangle C L a b c → areaAt L p q c ≡ orient2d (p (L .origin c)) (p (L .origin a)) q
   area-prev {a} {b} {c} t = ap (λ (v : ℕ). orient2d (p (L .origin c)) (p v) q) (t .to-c)
 
+module _ {C : Counts} {L : Links} (W : Wf C L) (p : ℕ → Point) (q : Point) where
   -- strictly inside the triangle, from any of its half-edges
   pub in-face-at : {f : ℕ} → InFace C L p q f → {e : ℕ} → In C e → L .face e ≡ f
       → Inside (p (L .origin e)) (p (to L e)) (p (L .origin (L .prev e))) q
@@ -29,8 +31,8 @@ module _ {C : Counts} {L : Links} (W : Wf C L) (p : ℕ → Point) (q : Point) w
       let t = triangle W l (subst (λ (g : ℕ). 0 < g) (sym k) (I .inner)) in
       record {
         ab = I .left l k;
-        bc = subst (λ (z : ℤ). pos 0 <ℤ z) (area-next t) (I .left (t .in-b) (cc (t .face-b, k)));
-        ca = subst (λ (z : ℤ). pos 0 <ℤ z) (area-prev t) (I .left (t .in-c) (cc (t .face-c, k)));
+        bc = subst (λ (z : ℤ). pos 0 <ℤ z) (area-next p q t) (I .left (t .in-b) (cc (t .face-b, k)));
+        ca = subst (λ (z : ℤ). pos 0 <ℤ z) (area-prev p q t) (I .left (t .in-c) (cc (t .face-c, k)));
       }
 
   -- strictly between the ends of the edge
@@ -38,5 +40,5 @@ module _ {C : Counts} {L : Links} (W : Wf C L) (p : ℕ → Point) (q : Point) w
   in-edge-at T {e} I =
       let t = triangle W (I .used) (I .inner) in
       strict-between (p (L .origin e)) (p (to L e)) (p (L .origin (L .prev e))) q (left-at W T (I .used) (I .inner)) (I .on)
-      (subst (λ (z : ℤ). pos 0 <ℤ z) (area-next t) (I .left-next))
-      (subst (λ (z : ℤ). pos 0 <ℤ z) (area-prev t) (I .left-prev))
+      (subst (λ (z : ℤ). pos 0 <ℤ z) (area-next p q t) (I .left-next))
+      (subst (λ (z : ℤ). pos 0 <ℤ z) (area-prev p q t) (I .left-prev))

@@ -12,7 +12,9 @@ use Rattle.mesh.specs.Area.{boundaryLength, hullEdge}
 use Rattle.math.specs.Determinant.{isCoordinate, isPosition}
 use Rattle.location.specs.declared.PositionInTriangulation.{PositionInTriangulation}
 use Rattle.location.specs.declared.PositionInTriangulation.the-variants.{OnVertex, OnFace, OnEdge, OutsideOfConvexHull}
-use Rattle.location.specs.Place.{SearchState, found, onward, areaAt}
+use Rattle.location.specs.declared.SearchState.{SearchState}
+use Rattle.location.specs.declared.SearchState.the-variants.{Found, Onward}
+use Rattle.location.specs.Place.{areaAt}
 use Rattle.location.specs.Search.{isNearest, nearest, searchFrom}
 
 abbrev pub isLeft : Links → (ℕ → Point) → Point → ℕ → Bool
@@ -54,8 +56,8 @@ scan C L p q =
 
 -- ---- point location: the search, or the scan where one of its loops would make more than 2E turns
 unfoldable pub answer : PositionInTriangulation → SearchState → PositionInTriangulation
-answer x (found y) = y
-answer x (onward e) = x
+answer x (Found y) = y
+answer x (Onward e) = x
 
 unfoldable pub locatePoint : Counts → Links → (ℕ → Point) → Point → PositionInTriangulation
 locatePoint C L p q =

@@ -183,7 +183,7 @@ module _ {C : Counts} {L : Links} (W : Wf C L) (p : ℕ → Point) (q : Point) w
       go (suc f) H = let k = first-below-at-most (C .faces - 1) (λ f. holdsAt L p q (L .adjacent (suc f))) f (holds-tested H) in omega arith
 
   module _ (turning : LeftTurning C L p) where
-    -- 6.2 for the scan: strictly left of no boundary edge, so some triangle is hit
+    -- strictly left of no boundary edge, so some triangle is hit
     pub inner-found : ((e : ℕ) → In C e → L .face e ≡ 0 → LeftOf L p q e → ⊥) → firstHolding C L p q < C .faces - 1
     inner-found none = let H = held W turning q none in let s = holding-first (H .1) in let b = H .1 .below in omega arith
 

@@ -15,7 +15,9 @@ use Rattle.math.specs.Determinant.{sideOf, length2, isPosition}
 use Rattle.mesh.specs.declared.Counts.{Counts}
 use Rattle.mesh.specs.Mesh.{Links, to, turn}
 use Rattle.location.specs.declared.PositionInTriangulation.the-variants.{OnVertex, OnFace, OnEdge, OutsideOfConvexHull}
-use Rattle.location.specs.Place.{SearchState, found, onward, areaAt}
+use Rattle.location.specs.declared.SearchState.{SearchState}
+use Rattle.location.specs.declared.SearchState.the-variants.{Found, Onward}
+use Rattle.location.specs.Place.{areaAt}
 
 -- ---- the tests
 abbrev pub sideAt : Links → (ℕ → Point) → Point → ℕ → LineSideInfo
@@ -54,42 +56,42 @@ nearest C L p q = until (isNearest C L p q) (nearer C L p q) (2 * C .edges) 0
 -- ---- 2. one turn from the half-edge e
 -- e and f: q is strictly left of e1, and of the edge of e1's triangle that is neither e1 nor e2; s is its side of e2
 unfoldable pub acrossEdge : Links → ℕ → ℕ → LineSideInfo → SearchState
-acrossEdge L e1 e2 OnLine = found (OnEdge e2)
-acrossEdge L e1 e2 OnLeftSide = found (OnFace (L .face e1))
-acrossEdge L e1 e2 OnRightSide = onward (cond (isOuter L (rev e2)) (rev e2) (L .prev (rev e2)))
+acrossEdge L e1 e2 OnLine = Found (OnEdge e2)
+acrossEdge L e1 e2 OnLeftSide = Found (OnFace (L .face e1))
+acrossEdge L e1 e2 OnRightSide = Onward (cond (isOuter L (rev e2)) (rev e2) (L .prev (rev e2)))
 
 -- d, q strictly left of e: s is its side of rev prev e
 unfoldable pub rotateCcw : Links → (ℕ → Point) → Point → ℕ → LineSideInfo → SearchState
-rotateCcw L p q e OnLine = onward (rev (L .prev e))
-rotateCcw L p q e OnLeftSide = onward (rev (L .prev e))
+rotateCcw L p q e OnLine = Onward (rev (L .prev e))
+rotateCcw L p q e OnLeftSide = Onward (rev (L .prev e))
 rotateCcw L p q e OnRightSide = acrossEdge L e (L .next e) (sideAt L p q (L .next e))
 
 -- d, q strictly right of e: s is its side of next rev e
 unfoldable pub rotateCw : Links → (ℕ → Point) → Point → ℕ → LineSideInfo → SearchState
-rotateCw L p q e OnLine = onward (L .next (rev e))
-rotateCw L p q e OnRightSide = onward (L .next (rev e))
+rotateCw L p q e OnLine = Onward (L .next (rev e))
+rotateCw L p q e OnRightSide = Onward (L .next (rev e))
 rotateCw L p q e OnLeftSide = acrossEdge L (rev e) (L .prev (rev e)) (sideAt L p q (L .prev (rev e)))
 
 -- b and c: s is the side of e
 unfoldable pub bySide : Links → (ℕ → Point) → Point → ℕ → LineSideInfo → SearchState
-bySide L p q e OnLine = onward (L .prev (cond (isOuter L e) (rev e) e))
-bySide L p q e OnLeftSide = cond (isOuter L e) (found (OutsideOfConvexHull e)) (rotateCcw L p q e (sideAt L p q (rev (L .prev e))))
-bySide L p q e OnRightSide = cond (isOuter L (rev e)) (found (OutsideOfConvexHull (rev e))) (rotateCw L p q e (sideAt L p q (L .next (rev e))))
+bySide L p q e OnLine = Onward (L .prev (cond (isOuter L e) (rev e) e))
+bySide L p q e OnLeftSide = cond (isOuter L e) (Found (OutsideOfConvexHull e)) (rotateCcw L p q e (sideAt L p q (rev (L .prev e))))
+bySide L p q e OnRightSide = cond (isOuter L (rev e)) (Found (OutsideOfConvexHull (rev e))) (rotateCw L p q e (sideAt L p q (L .next (rev e))))
 
 -- a
 unfoldable pub searchTurn : Links → (ℕ → Point) → Point → ℕ → SearchState
 searchTurn L p q e =
-    cond (isPosition (p (L .origin e)) q) (found (OnVertex (L .origin e)))
-    (cond (isPosition (p (to L e)) q) (found (OnVertex (to L e))) (bySide L p q e (sideAt L p q e)))
+    cond (isPosition (p (L .origin e)) q) (Found (OnVertex (L .origin e)))
+    (cond (isPosition (p (to L e)) q) (Found (OnVertex (to L e))) (bySide L p q e (sideAt L p q e)))
 
 -- ---- the rotating walk, with 2E turns at most
 unfoldable pub ended : SearchState → Bool
-ended (found x) = true
-ended (onward e) = false
+ended (Found x) = true
+ended (Onward e) = false
 
 unfoldable pub advance : Links → (ℕ → Point) → Point → SearchState → SearchState
-advance L p q (found x) = found x
-advance L p q (onward e) = searchTurn L p q e
+advance L p q (Found x) = Found x
+advance L p q (Onward e) = searchTurn L p q e
 
 unfoldable pub searchFrom : Counts → Links → (ℕ → Point) → Point → ℕ → SearchState
-searchFrom C L p q e = until ended (advance L p q) (2 * C .edges) (onward e)
+searchFrom C L p q e = until ended (advance L p q) (2 * C .edges) (Onward e)

@@ -27,7 +27,9 @@ use Rattle.mesh.specs.BoundaryLaws.{first<}
 use Rattle.math.specs.Position.{same-position}
 use Rattle.location.specs.declared.PositionInTriangulation.{PositionInTriangulation}
 use Rattle.location.specs.declared.PositionInTriangulation.the-variants.{OnVertex, OutsideOfConvexHull}
-use Rattle.location.specs.Place.{SearchState, found, onward, areaAt, LeftOf, InFace, InEdge, Certified, Sound}
+use Rattle.location.specs.declared.SearchState.{SearchState}
+use Rattle.location.specs.declared.SearchState.the-variants.{Found, Onward}
+use Rattle.location.specs.Place.{areaAt, LeftOf, InFace, InEdge, Certified, Sound}
 use Rattle.location.specs.Search.{sideAt, isOuter, firstCloser, isNearest, nearer, nearest, acrossEdge, rotateCcw, rotateCw, bySide, searchTurn, ended, advance, searchFrom}
 
 -- ---- tests
@@ -114,7 +116,7 @@ module _ {C : Counts} {L : Links} (W : Wf C L) (p : ℕ → Point) (q : Point) w
       l : LeftOf L p q e
       l = is-left (areaAt L p q e) k
 
-      go : (o : Bool) → isOuter L e ≡ o → Sound C L p q (cond o (found (OutsideOfConvexHull e)) (rotateCcw L p q e (sideAt L p q (rev (L .prev e)))))
+      go : (o : Bool) → isOuter L e ≡ o → Sound C L p q (cond o (Found (OutsideOfConvexHull e)) (rotateCcw L p q e (sideAt L p q (rev (L .prev e)))))
       go true x = record { used = h; outer = eqb→eq (L .face e) 0 (from-true x); left = l }
       go false x = ccw-sound h (not-outer (L .face e) x) l (sideAt L p q (rev (L .prev e))) refl
   side-sound {e} h OnRightSide k = go (isOuter L (rev e)) refl
@@ -123,7 +125,7 @@ module _ {C : Counts} {L : Links} (W : Wf C L) (p : ℕ → Point) (q : Point) w
       l = left-rev L p q e (is-right (areaAt L p q e) k)
 
       go : (o : Bool) → isOuter L (rev e) ≡ o
-          → Sound C L p q (cond o (found (OutsideOfConvexHull (rev e))) (rotateCw L p q e (sideAt L p q (L .next (rev e)))))
+          → Sound C L p q (cond o (Found (OutsideOfConvexHull (rev e))) (rotateCw L p q e (sideAt L p q (L .next (rev e)))))
       go true x = record { used = rev-in C h; outer = eqb→eq (L .face (rev e)) 0 (from-true x); left = l }
       go false x = cw-sound h (not-outer (L .face (rev e)) x) l (sideAt L p q (L .next (rev e))) refl
 
@@ -133,7 +135,7 @@ module _ {C : Counts} {L : Links} (W : Wf C L) (p : ℕ → Point) (q : Point) w
   turn-sound {e} h = go (isPosition (p (L .origin e)) q) (isPosition (p (to L e)) q) refl refl
     where
       go : (a b : Bool) → isPosition (p (L .origin e)) q ≡ a → isPosition (p (to L e)) q ≡ b
-          → Sound C L p q (cond a (found (OnVertex (L .origin e))) (cond b (found (OnVertex (to L e))) (bySide L p q e (sideAt L p q e))))
+          → Sound C L p q (cond a (Found (OnVertex (L .origin e))) (cond b (Found (OnVertex (to L e))) (bySide L p q e (sideAt L p q e))))
       go true b x y = record { used = W .ranges .origin< h; here = same-position (p (L .origin e)) q (from-true x) }
       go false true x y = record { used = W .ranges .origin< (rev-in C h); here = same-position (p (to L e)) q (from-true y) }
       go false false x y = side-sound h (sideAt L p q e) refl
@@ -141,13 +143,13 @@ module _ {C : Counts} {L : Links} (W : Wf C L) (p : ℕ → Point) (q : Point) w
   -- THE WALK, from any half-edge in use, whatever it did
   pub search-sound : {e : ℕ} → In C e → Sound C L p q (searchFrom C L p q e)
   unfolding searchFrom advance
-  search-sound {e} h = until-holds (Sound C L p q) ended (advance L p q) step (2 * C .edges) (onward e) h
+  search-sound {e} h = until-holds (Sound C L p q) ended (advance L p q) step (2 * C .edges) (Onward e) h
     where
       step : (s : SearchState) → Sound C L p q s → Sound C L p q (advance L p q s)
-      step (found x) k = k
-      step (onward d) k = turn-sound k
+      step (Found x) k = k
+      step (Onward d) k = turn-sound k
 
-  pub search-certified : {e : ℕ} → In C e → {x : PositionInTriangulation} → searchFrom C L p q e ≡ found x → Certified C L p q x
+  pub search-certified : {e : ℕ} → In C e → {x : PositionInTriangulation} → searchFrom C L p q e ≡ Found x → Certified C L p q x
   search-certified {e} h k = subst (Sound C L p q) k (search-sound h)
 
   -- where the walk to a nearest vertex stops is in use

@@ -13,3 +13,9 @@ pub enum PositionInTriangulation {
     // strictly left of this half-edge of the outer face
     OutsideOfConvexHull(u32),
 }
+
+// Where a turn of the search has come to: the answer, which ends it, or the half-edge from which it goes on.
+pub enum SearchState {
+    Found(PositionInTriangulation),
+    Onward(u32),
+}

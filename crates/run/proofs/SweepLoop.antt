@@ -172,7 +172,8 @@ module _ {q₀ : List ℤ} {o₀ h₀ a₀ row₀ : List ℕ} {nodes₀ : List N
             step-is (ap (λ (s : Sweeping). s .answered) (I .at))
 
         -- a flip was refused
-        pub sweeping-full : r .full ≡ true → SweepLeaves C₀ q₀ o₀ h₀ a₀ row₀ answers₀ cx cy points count q′ o′ h′ a′ answers (record { counts = r .counts; answered = i; full = true })
+        pub sweeping-full : r .full ≡ true
+            → SweepLeaves C₀ q₀ o₀ h₀ a₀ row₀ answers₀ cx cy points count q′ o′ h′ a′ answers (record { counts = r .counts; answered = i; full = true })
         unfolding sweepingOf
         sweeping-full f =
             let k : suc i + (count - suc i) ≡ count = omega arith in
@@ -184,7 +185,8 @@ module _ {q₀ : List ℤ} {o₀ h₀ a₀ row₀ : List ℕ} {nodes₀ : List N
 
         -- the answer is stored, and the loop goes on
         pub sweeping-on : r .full ≡ false
-            → length q′ ≡ length q → length o′ ≡ length o → length h′ ≡ length h → length a′ ≡ length a → {row′ : List ℕ} → length row′ ≡ length row
+            → length q′ ≡ length q → length o′ ≡ length o → length h′ ≡ length h → length a′ ≡ length a → {row′ : List ℕ}
+            → length row′ ≡ length row
             → length nodes′ ≡ length nodes → length freed′ ≡ length freed → length buckets′ ≡ length buckets
             → (answers′ : List ℕ) → rowOf answers′ ≡ withWords (rowOf answers) i (answerWord (r .answer)) → length answers′ ≡ length answers
             → SweepingAt q₀ o₀ h₀ a₀ row₀ nodes₀ freed₀ buckets₀ answers₀ cx cy points count C₀ hull₀ q′ o′ h′ a′ row′ nodes′ freed′ buckets′ answers′ (r .counts) (r .hull) (i + 1)
@@ -214,6 +216,7 @@ module _ {q₀ : List ℤ} {o₀ h₀ a₀ row₀ : List ℕ} {nodes₀ : List N
               most = omega arith;
             }
 
-  pub sweeping-end : count ≤ i → SweepLeaves C₀ q₀ o₀ h₀ a₀ row₀ answers₀ cx cy points count q o h a answers (record { counts = C; answered = i; full = false })
+  pub sweeping-end : count ≤ i
+      → SweepLeaves C₀ q₀ o₀ h₀ a₀ row₀ answers₀ cx cy points count q o h a answers (record { counts = C; answered = i; full = false })
   unfolding sweepingOf
   sweeping-end l = let z : i ≡ count = (let m = I .most in omega arith) in record { is = sym (ap (sweepAfter (length row₀) cx cy C₀ L₀ p₀ point) (sym z) ∙ I .at); answers-are = I .answers-are }

@@ -12,7 +12,8 @@ use Rattle.dcel.specs.MeshHeld.{there-out, out-in}
 use Rattle.location.specs.declared.PositionInTriangulation.{PositionInTriangulation}
 use Rattle.location.specs.declared.PositionInTriangulation.the-variants.{OutsideOfConvexHull}
 use Rattle.location.specs.NearestLaws.{locate-search}
-use Rattle.location.specs.Place.{SearchState, found, onward}
+use Rattle.location.specs.declared.SearchState.{SearchState}
+use Rattle.location.specs.declared.SearchState.the-variants.{Found, Onward}
 use Rattle.location.specs.Scan.{placeAt, firstHolding, firstLeft, scan, answer, locatePoint}
 use Rattle.location.specs.Search.{nearest, searchFrom}
 use Rattle.location.specs.SearchLaws.{nearest-used}
@@ -79,11 +80,11 @@ module _ {C : Counts} {q : List ℤ} {o h a : List ℕ} {point : Point} (R : Sea
             locate-search (R .rows .good .wf) (positionOf q) point
             ∙ ap (answer (scan C (linksOf o h a) (positionOf q) point)) (sym (t o a ∙ ap (searchFrom C (linksOf o h a) (positionOf q) point) (y ∙ ap (rowOf o) (x a))))
 
-        pub located-found : {p : PositionInTriangulation} → s ≡ found p → p ≡ locatePoint C (linksOf o h a) (positionOf q) point
+        pub located-found : {p : PositionInTriangulation} → s ≡ Found p → p ≡ locatePoint C (linksOf o h a) (positionOf q) point
         unfolding answer
         located-found i = sym (located ∙ ap (answer (scan C (linksOf o h a) (positionOf q) point)) i)
 
-        pub located-scanned : {d : ℕ} → s ≡ onward d → {p : PositionInTriangulation}
+        pub located-scanned : {d : ℕ} → s ≡ Onward d → {p : PositionInTriangulation}
             → ((i : List ℕ) → p ≡ scan C (linksOf i h a) (positionOf q) point) → p ≡ locatePoint C (linksOf o h a) (positionOf q) point
         unfolding answer
         located-scanned i z = z o ∙ sym (located ∙ ap (answer (scan C (linksOf o h a) (positionOf q) point)) i)

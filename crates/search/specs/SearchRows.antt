@@ -1,4 +1,4 @@
--- What the functions of point location ask of the rows, and their answers as those of crate location. Assumes nothing.
+-- What the functions of point location ask of the rows, and what two of them answer. Assumes nothing.
 use mathlib.Core.Bool.{true, false}
 use mathlib.Core.List.{List}
 use mathlib.Core.Path.{_≡_}
@@ -9,7 +9,6 @@ use lib.ListN.{length}
 use Rattle.circle_test.specs.GoodRows.{GoodRows, held}
 use Rattle.dcel.specs.Rows.{halvesOf, linksOf, positionOf, There, Placed}
 use Rattle.dcel.specs.MeshHeld.{MeshHeld}
-use Rattle.location.specs.Place as place
 use Rattle.location.specs.Search.{isNearest, nearer}
 use Rattle.location.specs.Scan.{firstHolding}
 use Rattle.math.specs.declared.Point.{Point}
@@ -20,8 +19,6 @@ use Rattle.sums.specs.Half.{rev}
 use Rattle.search.specs.declared.Closer.{Closer}
 use Rattle.search.specs.declared.Closer.the-variants.{Vertex, Nothing}
 use Rattle.search.specs.declared.Corners.{Corners}
-use Rattle.search.specs.declared.SearchState.{SearchState}
-use Rattle.search.specs.declared.SearchState.the-variants.{Found, Onward}
 
 -- ---- the mesh
 -- the rows hold a good mesh, and the point is in range
@@ -46,10 +43,6 @@ CloserIs C L p q v (Vertex w d) = (isNearest C L p q v ≡ false) × (w ≡ near
 CloserIs C L p q v Nothing = isNearest C L p q v ≡ true
 
 -- ---- one turn
-abbrev pub stateOf : SearchState → place.SearchState
-stateOf (Found x) = place.found x
-stateOf (Onward e) = place.onward e
-
 -- e is a half-edge of some mesh whose positions and half-edges the rows hold
 pub record TurnReady (q : List ℤ) (h : List ℕ) (point : Point) (e : ℕ) : Type 0 where
   pub counts : Counts

@@ -12,14 +12,16 @@ use lib.ListN.{length}
 use Rattle.dcel.specs.Rows.{halvesOf, linksOf, positionOf, There, Placed}
 use Rattle.dcel.specs.MeshHeld.{MeshHeld, there, there-rev, next-in, prev-in, origin-in, to-in}
 use Rattle.location.specs.declared.PositionInTriangulation.the-variants.{OnVertex, OnFace, OnEdge, OutsideOfConvexHull}
-use Rattle.location.specs.Place.{SearchState, found, onward}
+use Rattle.location.specs.declared.SearchState.{SearchState}
+use Rattle.location.specs.declared.SearchState.the-variants.{Found, Onward}
+use Rattle.location.specs.PlaceLaws.{area-next, area-prev}
 use Rattle.location.specs.Search.{sideAt, acrossEdge, rotateCcw, rotateCw, bySide, searchTurn}
 use Rattle.math.specs.declared.LineSideInfo.{LineSideInfo}
 use Rattle.math.specs.declared.LineSideInfo.the-variants.{OnLeftSide, OnRightSide, OnLine}
 use Rattle.math.specs.declared.Point.{Point}
 use Rattle.math.specs.Determinant.{InRange, orient2d, sideOf, isOnLeftSide, isOnRightSide, isPosition}
 use Rattle.mesh.specs.declared.Counts.{Counts}
-use Rattle.mesh.specs.Mesh.{Links, to}
+use Rattle.mesh.specs.Mesh.{Links}
 use Rattle.mesh.specs.Triangle.{Triangle, triangle, rev-in}
 use Rattle.sums.specs.Half.{rev, rev-rev}
 use Rattle.search.specs.SearchRows.{TurnReady, EndsReady, LineReady, ready-held, ready-placed}
@@ -27,51 +29,45 @@ use Rattle.search.specs.SearchRows.{TurnReady, EndsReady, LineReady, rea
 -- ---- the line of e
 module _ (h : List ℕ) (e : ℕ) {f : ℕ} (x : f ≡ halvesOf h .face e) where
   pub line-outer : f ≡ 0 → {t d : ℕ} → t ≡ rev e → d ≡ halvesOf h .prev t → (o a : List ℕ) (p : ℕ → Point) (q : Point)
-      → onward d ≡ bySide (linksOf o h a) p q e OnLine
+      → Onward d ≡ bySide (linksOf o h a) p q e OnLine
   unfolding bySide linksOf
   line-outer z y w o a p q = rw (w, y, eq-eqb (halvesOf h .face e) 0 (sym x ∙ z)) refl
 
   pub line-inner : f ≢ 0 → {d : ℕ} → d ≡ halvesOf h .prev e → (o a : List ℕ) (p : ℕ → Point) (q : Point)
-      → onward d ≡ bySide (linksOf o h a) p q e OnLine
+      → Onward d ≡ bySide (linksOf o h a) p q e OnLine
   unfolding bySide linksOf
   line-inner z w o a p q = rw (w, ne-eqb (halvesOf h .face e) 0 (λ k. z (x ∙ k))) refl
 
 -- ---- across e2
 module _ (h : List ℕ) (e2 : ℕ) {t f : ℕ} (x : t ≡ rev e2) (y : f ≡ halvesOf h .face t) where
-  pub beyond-outer : f ≡ 0 → (o a : List ℕ) (e1 : ℕ) → onward t ≡ acrossEdge (linksOf o h a) e1 e2 OnRightSide
+  pub beyond-outer : f ≡ 0 → (o a : List ℕ) (e1 : ℕ) → Onward t ≡ acrossEdge (linksOf o h a) e1 e2 OnRightSide
   unfolding acrossEdge linksOf
   beyond-outer z o a e1 = rw (x, eq-eqb (halvesOf h .face (rev e2)) 0 (sym (y ∙ ap (halvesOf h .face) x) ∙ z)) refl
 
-  pub beyond-inner : f ≢ 0 → {d : ℕ} → d ≡ halvesOf h .prev t → (o a : List ℕ) (e1 : ℕ) → onward d ≡ acrossEdge (linksOf o h a) e1 e2 OnRightSide
+  pub beyond-inner : f ≢ 0 → {d : ℕ} → d ≡ halvesOf h .prev t → (o a : List ℕ) (e1 : ℕ) → Onward d ≡ acrossEdge (linksOf o h a) e1 e2 OnRightSide
   unfolding acrossEdge linksOf
   beyond-inner z w o a e1 = rw (w, x, ne-eqb (halvesOf h .face (rev e2)) 0 (λ k. z (y ∙ ap (halvesOf h .face) x ∙ k))) refl
 
 module _ (h : List ℕ) (e2 : ℕ) {s : LineSideInfo} {f : ℕ} (o a : List ℕ) (e1 : ℕ) (x : f ≡ halvesOf h .face e1) where
-  pub across-line : s ≡ OnLine → found (OnEdge e2) ≡ acrossEdge (linksOf o h a) e1 e2 s
+  pub across-line : s ≡ OnLine → Found (OnEdge e2) ≡ acrossEdge (linksOf o h a) e1 e2 s
   unfolding acrossEdge
   across-line k = rw k refl
 
-  pub across-left : s ≡ OnLeftSide → found (OnFace f) ≡ acrossEdge (linksOf o h a) e1 e2 s
+  pub across-left : s ≡ OnLeftSide → Found (OnFace f) ≡ acrossEdge (linksOf o h a) e1 e2 s
   unfolding acrossEdge linksOf
   across-left k = rw (k, x) refl
 
   pub across-right : s ≡ OnRightSide → {r : SearchState} → r ≡ acrossEdge (linksOf o h a) e1 e2 OnRightSide → r ≡ acrossEdge (linksOf o h a) e1 e2 s
   across-right k m = m ∙ ap (acrossEdge (linksOf o h a) e1 e2) (sym k)
 
--- ---- the sides of a triangle, by three positions
+-- ---- the third side of a triangle from behind, by its corners
 module _ {C : Counts} {L : Links} (p : ℕ → Point) (q : Point) {a b c : ℕ} (t : Triangle C L a b c) where
-  side-b : sideAt L p q b ≡ sideOf (orient2d (p (to L a)) (p (L .origin c)) q)
-  side-b = ap₂ (λ (u v : ℕ). sideOf (orient2d (p u) (p v) q)) (sym (t .to-a)) (t .to-b)
-
-  side-c : sideAt L p q c ≡ sideOf (orient2d (p (L .origin c)) (p (L .origin a)) q)
-  side-c = ap (λ (v : ℕ). sideOf (orient2d (p (L .origin c)) (p v) q)) (t .to-c)
-
   side-back : sideAt L p q (rev c) ≡ sideOf (orient2d (p (L .origin a)) (p (L .origin c)) q)
   side-back = ap₂ (λ (u v : ℕ). sideOf (orient2d (p u) (p v) q)) (t .to-c) (ap (L .origin) (rev-rev c))
 
 -- ---- rotating
 rotated-ccw : (L : Links) (p : ℕ → Point) (q : Point) (e : ℕ) (s : LineSideInfo) → not (isOnRightSide s) ≡ true
-    → rotateCcw L p q e s ≡ onward (rev (L .prev e))
+    → rotateCcw L p q e s ≡ Onward (rev (L .prev e))
 unfolding rotateCcw
 rotated-ccw L p q e OnLine k = refl
 rotated-ccw L p q e OnLeftSide k = refl
@@ -85,7 +81,7 @@ crossed-ccw L p q e OnLeftSide k = absurd (false≢true (sym k))
 crossed-ccw L p q e OnRightSide k = refl
 
 rotated-cw : (L : Links) (p : ℕ → Point) (q : Point) (e : ℕ) (s : LineSideInfo) → not (isOnLeftSide s) ≡ true
-    → rotateCw L p q e s ≡ onward (L .next (rev e))
+    → rotateCw L p q e s ≡ Onward (L .next (rev e))
 unfolding rotateCw
 rotated-cw L p q e OnLine k = refl
 rotated-cw L p q e OnRightSide k = refl
@@ -167,7 +163,7 @@ module _ {q : List ℤ} {h : List ℕ} {point : Point} {e : ℕ} {f t : Point} (
 
   -- the point is strictly left
   module _ {b : ℕ} (x : b ≡ halvesOf h .face e) where
-    pub ccw-outer : b ≡ 0 → (o a : List ℕ) → found (OutsideOfConvexHull e) ≡ bySide (linksOf o h a) (positionOf q) point e OnLeftSide
+    pub ccw-outer : b ≡ 0 → (o a : List ℕ) → Found (OutsideOfConvexHull e) ≡ bySide (linksOf o h a) (positionOf q) point e OnLeftSide
     unfolding bySide linksOf
     ccw-outer z o a = rw (eq-eqb (halvesOf h .face e) 0 (sym x ∙ z)) refl
 
@@ -184,10 +180,10 @@ module _ {q : List ℤ} {h : List ℕ} {point : Point} {e : ℕ} {f t : Point} (
         ccw-side o a = side-back (positionOf q) point (three (R .turn) x z) ∙ sym (i ∙ rw (k, g, y, R .from) refl)
 
         pub ccw-on : {n : Bool} → n ≡ isOnRightSide s → not n ≡ true → {d : ℕ} → d ≡ rev c → (o a : List ℕ)
-            → onward d ≡ bySide (linksOf o h a) (positionOf q) point e OnLeftSide
+            → Onward d ≡ bySide (linksOf o h a) (positionOf q) point e OnLeftSide
         unfolding linksOf
         ccw-on j u w o a =
-            ap onward (w ∙ ap rev y) ∙ sym (rotated-ccw (linksOf o h a) (positionOf q) point e s (ap not (sym j) ∙ u)) ∙
+            ap Onward (w ∙ ap rev y) ∙ sym (rotated-ccw (linksOf o h a) (positionOf q) point e s (ap not (sym j) ∙ u)) ∙
             sym (inner-left o a ∙ ap (rotateCcw (linksOf o h a) (positionOf q) point e) (ccw-side o a))
 
         pub ccw-across : {n : Bool} → n ≡ isOnRightSide s → not n ≡ false → {d : ℕ} {s₂ : LineSideInfo} {r : SearchState} → d ≡ halvesOf h .next e
@@ -196,12 +192,12 @@ module _ {q : List ℤ} {h : List ℕ} {point : Point} {e : ℕ} {f t : Point} (
             → r ≡ bySide (linksOf o h a) (positionOf q) point e OnLeftSide
         unfolding linksOf
         ccw-across j u w l r o a =
-            r o a e x ∙ ap₂ (acrossEdge (linksOf o h a) e) w (l ∙ rw (k, g, y, R .to) refl ∙ sym (side-b (positionOf q) point (three (R .turn) x z)))
+            r o a e x ∙ ap₂ (acrossEdge (linksOf o h a) e) w (l ∙ rw (k, g, y, R .to) refl ∙ sym (ap sideOf (area-next (positionOf q) point (three (R .turn) x z))))
             ∙ sym (inner-left o a ∙ ap (rotateCcw (linksOf o h a) (positionOf q) point e) (ccw-side o a) ∙ crossed-ccw (linksOf o h a) (positionOf q) point e s (ap not (sym j) ∙ u))
 
   -- the point is strictly right; e₁ is the reverse
   module _ {e₁ b : ℕ} (w : e₁ ≡ rev e) (x : b ≡ halvesOf h .face e₁) where
-    pub cw-outer : b ≡ 0 → (o a : List ℕ) → found (OutsideOfConvexHull e₁) ≡ bySide (linksOf o h a) (positionOf q) point e OnRightSide
+    pub cw-outer : b ≡ 0 → (o a : List ℕ) → Found (OutsideOfConvexHull e₁) ≡ bySide (linksOf o h a) (positionOf q) point e OnRightSide
     unfolding bySide linksOf
     cw-outer z o a = rw (w, eq-eqb (halvesOf h .face (rev e)) 0 (sym (x ∙ ap (halvesOf h .face) w) ∙ z)) refl
 
@@ -220,15 +216,15 @@ module _ {q : List ℤ} {h : List ℕ} {point : Point} {e : ℕ} {f t : Point} (
         cw-side : (o a : List ℕ) → sideAt (linksOf o h a) (positionOf q) point (halvesOf h .next (rev e)) ≡ s
         unfolding linksOf
         cw-side o a =
-            side-b (positionOf q) point three-back
+            ap sideOf (area-next (positionOf q) point three-back)
             ∙ ap (λ (d : ℕ). sideOf (orient2d (positionOf q (halvesOf h .origin d)) (positionOf q (halvesOf h .origin (halvesOf h .prev (rev e)))) point)) (rev-rev e)
             ∙ sym (i ∙ rw (k, g, y, w, R .from) refl)
 
         pub cw-on : {n : Bool} → n ≡ isOnLeftSide s → not n ≡ true → {d : ℕ} → d ≡ halvesOf h .next e₁ → (o a : List ℕ)
-            → onward d ≡ bySide (linksOf o h a) (positionOf q) point e OnRightSide
+            → Onward d ≡ bySide (linksOf o h a) (positionOf q) point e OnRightSide
         unfolding linksOf
         cw-on j u m o a =
-            ap onward (m ∙ ap (halvesOf h .next) w) ∙ sym (rotated-cw (linksOf o h a) (positionOf q) point e s (ap not (sym j) ∙ u)) ∙
+            ap Onward (m ∙ ap (halvesOf h .next) w) ∙ sym (rotated-cw (linksOf o h a) (positionOf q) point e s (ap not (sym j) ∙ u)) ∙
             sym (inner-right o a ∙ ap (rotateCw (linksOf o h a) (positionOf q) point e) (cw-side o a))
 
         pub cw-across : {n : Bool} → n ≡ isOnLeftSide s → not n ≡ false → {s₂ : LineSideInfo} {r : SearchState}
@@ -238,7 +234,7 @@ module _ {q : List ℤ} {h : List ℕ} {point : Point} {e : ℕ} {f t : Point} (
         unfolding linksOf
         cw-across j u l r o a =
             r o a (rev e) (x ∙ ap (halvesOf h .face) w)
-            ∙ ap₂ (acrossEdge (linksOf o h a) (rev e)) (y ∙ ap (halvesOf h .prev) w) (l ∙ rw (k, g, y, w, R .to) refl ∙ sym (side-c (positionOf q) point three-back))
+            ∙ ap₂ (acrossEdge (linksOf o h a) (rev e)) (y ∙ ap (halvesOf h .prev) w) (l ∙ rw (k, g, y, w, R .to) refl ∙ sym (ap sideOf (area-prev (positionOf q) point three-back)))
             ∙ sym (inner-right o a ∙ ap (rotateCw (linksOf o h a) (positionOf q) point e) (cw-side o a) ∙ crossed-cw (linksOf o h a) (positionOf q) point e s (ap not (sym j) ∙ u))
 
 -- ---- the ends of e
@@ -247,7 +243,7 @@ module _ {q : List ℤ} {h : List ℕ} {point : Point} {e : ℕ} (R : TurnReady 
   first-test : isPosition (positionOf q (halvesOf h .origin e)) point ≡ m
   first-test = sym (i ∙ rw (y, x) refl)
 
-  pub at-origin : m ≡ true → (o a : List ℕ) → found (OnVertex u) ≡ searchTurn (linksOf o h a) (positionOf q) point e
+  pub at-origin : m ≡ true → (o a : List ℕ) → Found (OnVertex u) ≡ searchTurn (linksOf o h a) (positionOf q) point e
   unfolding searchTurn linksOf
   at-origin k o a = rw (first-test, k, x) refl
 
@@ -255,7 +251,7 @@ module _ {q : List ℤ} {h : List ℕ} {point : Point} {e : ℕ} (R : TurnReady 
     second-test : isPosition (positionOf q (halvesOf h .origin (rev e))) point ≡ l
     second-test = sym (j ∙ rw (k, z) refl)
 
-    pub at-to : l ≡ true → (o a : List ℕ) → found (OnVertex w) ≡ searchTurn (linksOf o h a) (positionOf q) point e
+    pub at-to : l ≡ true → (o a : List ℕ) → Found (OnVertex w) ≡ searchTurn (linksOf o h a) (positionOf q) point e
     unfolding searchTurn linksOf
     at-to b o a = rw (first-test, n, second-test, b, z) refl
 

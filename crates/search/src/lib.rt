@@ -14,18 +14,13 @@ ghost use Rattle.math.specs.declared.LineSideInfo.the-variants.{OnLeftSide, OnR
 ghost use Rattle.mesh.specs.Area.{hullEdge};
 ghost use Rattle.sums.specs.Half.{rev};
 ghost use Rattle.search.specs.SearchRows.{SearchReady, NearReady, SpokesReady, CloserIs};
-ghost use Rattle.search.specs.SearchRows.{stateOf, TurnReady, EndsReady, LineReady};
+ghost use Rattle.search.specs.SearchRows.{TurnReady, EndsReady, LineReady};
 ghost use Rattle.search.specs.SearchRows.{CornersIn, CornersOf, TriangleReady, ScanReady, LeftReady};
 use location::PositionInTriangulation;
+use location::SearchState;
 use math::LineSideInfo;
 use math::Point;
 use mesh::Counts;
-
-// A turn of the search ends it, or leads on to a half-edge.
-pub enum SearchState {
-    Found(PositionInTriangulation),
-    Onward(u32),
-}
 
 // The end of an out edge that is closer to the point than the vertex, with its squared distance.
 pub enum Closer {
@@ -111,7 +106,7 @@ fn walk_to_nearest_neighbor(
 fn on_line(halves: &[u32], e: u32) -> SearchState
     requires { ⌜ LineReady (now halves) e ⌝ }
     ensures { λ r. ⌜ ((o a : List ℕ) (p : ℕ → Point) (q : Point)
-        → stateOf r ≡ bySide (linksOf o (now (halves .entry)) a) p q e OnLine) ⌝ }
+        → r ≡ bySide (linksOf o (now (halves .entry)) a) p q e OnLine) ⌝ }
 {
     let f = dcel::face(halves, e);
     if f == 0 {
@@ -125,7 +120,7 @@ fn on_line(halves: &[u32], e: u32) -> SearchState
 fn beyond(halves: &[u32], e2: u32) -> SearchState
     requires { ⌜ There (now halves) (rev e2) ⌝ }
     ensures { λ r. ⌜ ((o a : List ℕ) (e1 : ℕ)
-        → stateOf r ≡ acrossEdge (linksOf o (now (halves .entry)) a) e1 e2 OnRightSide) ⌝ }
+        → r ≡ acrossEdge (linksOf o (now (halves .entry)) a) e1 e2 OnRightSide) ⌝ }
 {
     let t = dcel::rev(e2);
     let f = dcel::face(halves, t);
@@ -139,7 +134,7 @@ fn beyond(halves: &[u32], e2: u32) -> SearchState
 fn across_edge(halves: &[u32], face: u32, e2: u32, side: LineSideInfo) -> SearchState
     requires { ⌜ There (now halves) (rev e2) ⌝ }
     ensures { λ r. ⌜ ((o a : List ℕ) (e1 : ℕ) → face ≡ halvesOf (now (halves .entry)) .face e1
-        → stateOf r ≡ acrossEdge (linksOf o (now (halves .entry)) a) e1 e2 side) ⌝ }
+        → r ≡ acrossEdge (linksOf o (now (halves .entry)) a) e1 e2 side) ⌝ }
 {
     match side {
         LineSideInfo::OnLine => SearchState::Found(PositionInTriangulation::OnEdge(e2)),
@@ -159,7 +154,7 @@ fn rotate_ccw(
 ) -> SearchState
     requires { ⌜ EndsReady (now positions) (now halves) point e from to ⌝ }
     ensures { λ r. ⌜ ((o a : List ℕ)
-        → stateOf r ≡ bySide (linksOf o (now (halves .entry)) a) (positionOf (now (positions .entry))) point e OnLeftSide) ⌝ }
+        → r ≡ bySide (linksOf o (now (halves .entry)) a) (positionOf (now (positions .entry))) point e OnLeftSide) ⌝ }
 {
     let face = dcel::face(halves, e);
     if face == 0 {
@@ -187,7 +182,7 @@ fn rotate_cw(
 ) -> SearchState
     requires { ⌜ EndsReady (now positions) (now halves) point e from to ⌝ }
     ensures { λ r. ⌜ ((o a : List ℕ)
-        → stateOf r ≡ bySide (linksOf o (now (halves .entry)) a) (positionOf (now (positions .entry))) point e OnRightSide) ⌝ }
+        → r ≡ bySide (linksOf o (now (halves .entry)) a) (positionOf (now (positions .entry))) point e OnRightSide) ⌝ }
 {
     let e1 = dcel::rev(e);
     let face = dcel::face(halves, e1);
@@ -215,7 +210,7 @@ fn by_side(
 ) -> SearchState
     requires { ⌜ EndsReady (now positions) (now halves) point e from to ⌝ }
     ensures { λ r. ⌜ ((o a : List ℕ)
-        → stateOf r ≡ bySide (linksOf o (now (halves .entry)) a) (positionOf (now (positions .entry))) point e
+        → r ≡ bySide (linksOf o (now (halves .entry)) a) (positionOf (now (positions .entry))) point e
         (sideAt (linksOf o (now (halves .entry)) a) (positionOf (now (positions .entry))) point e)) ⌝ }
 {
     let side = math::side_query(from, to, point);
@@ -230,7 +225,7 @@ fn by_side(
 fn search_turn(positions: &[i32], halves: &[u32], e: u32, point: Point) -> SearchState
     requires { ⌜ TurnReady (now positions) (now halves) point e ⌝ }
     ensures { λ r. ⌜ ((o a : List ℕ)
-        → stateOf r ≡ searchTurn (linksOf o (now (halves .entry)) a) (positionOf (now (positions .entry))) point e) ⌝ }
+        → r ≡ searchTurn (linksOf o (now (halves .entry)) a) (positionOf (now (positions .entry))) point e) ⌝ }
 {
     let u = dcel::origin(halves, e);
     let from = dcel::position(positions, u);
@@ -255,7 +250,7 @@ fn search_from(
 ) -> SearchState
     requires { ⌜ TurnReady (now positions) (now halves) point e × (counts .edges < 2 ^ 31) ⌝ }
     ensures { λ r. ⌜ ((o a : List ℕ)
-        → stateOf r ≡ searchFrom counts (linksOf o (now (halves .entry)) a) (positionOf (now (positions .entry))) point e) ⌝ }
+        → r ≡ searchFrom counts (linksOf o (now (halves .entry)) a) (positionOf (now (positions .entry))) point e) ⌝ }
 {
     let mut current = e;
     let mut left = 2 * counts.edges;

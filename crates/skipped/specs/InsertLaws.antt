@@ -178,7 +178,8 @@ pub record PointIn (C : Counts) (L : Links) (p : ℕ → Point) (v : Point) (t :
 
 module _ (room : ℕ) {C : Counts} {L : Links} {p : ℕ → Point} (G : Good C L p) (v : Point) (range : InRange v) where
   -- a new vertex
-  fresh : (x : PositionInTriangulation) {m : Extended} → positionVertex C x ≡ C .vertices → bit (isNew x) ≡ 1 → MeshIn C L (put p (C .vertices) v) 1 m
+  fresh : (x : PositionInTriangulation) {m : Extended} → positionVertex C x ≡ C .vertices → bit (isNew x) ≡ 1
+      → MeshIn C L (put p (C .vertices) v) 1 m
       → PointIn C L p v (record { place = x; positions = put p (C .vertices) v; mesh = m })
   fresh x a b M = record {
     good = M .good;

@@ -26,7 +26,8 @@ use Rattle.surface.specs.StoredHeights.{fateWord, vertexWord, isFrom, st
 
 -- ---- the checks of a step, whose point and height are rows of their own
 pub point-tested : {x y z z′ : ℤ} {v : Point} → x ≡ v .x → y ≡ v .y → z′ ≡ z → (C : Counts) (s : SurfaceRows)
-    → (nodes freed buckets pending : ℕ) {n : ℕ} → n ≡ vertexCount C (x ∷ y ∷ []) → {short : Bool} → short ≡ sweepRowsShort false n nodes freed buckets pending
+    → (nodes freed buckets pending : ℕ) {n : ℕ} → n ≡ vertexCount C (x ∷ y ∷ []) → {short : Bool}
+    → short ≡ sweepRowsShort false n nodes freed buckets pending
     → {r : Checked} → r ≡ heightsTested (heightsLent (x ∷ y ∷ []) (z′ ∷ []) short false) C s
     → r ≡ heightsTested (heightsLent (pointRow v) (z ∷ []) (sweepRowsShort false (vertexCount C (pointRow v)) nodes freed buckets pending) false) C s
 point-tested a b c C s nodes freed buckets pending n short e = rw (← a, ← b, ← c, ← n, ← short) e
@@ -77,7 +78,8 @@ module _ (low high : ℕ) (answers : List ℕ) (z h : ℕ → ℤ) where
   none-stored = refl
 
   pub stored-more : (i : ℕ) {g g′ : ℕ → ℤ} → g ≡ storedFrom low high answers z h i
-      → g′ ≡ cond (isFrom low high (fateWord answers i)) (put g (vertexWord answers i) (z i)) g → g′ ≡ storedFrom low high answers z h (i + 1)
+      → g′ ≡ cond (isFrom low high (fateWord answers i)) (put g (vertexWord answers i) (z i)) g
+      → g′ ≡ storedFrom low high answers z h (i + 1)
   unfolding putEach
   stored-more i a b = rw a at b ∙ ap (λ (n : ℕ). storedFrom low high answers z h n) (sym (plus i))
     where

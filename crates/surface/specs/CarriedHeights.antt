@@ -143,7 +143,8 @@ module _ (g : SurfaceRunLent) (w : SurfaceRan) (t : Totals) (D : Demand3 (g .run
       (λ j b k u q. let v = added-vertex i a t in let y = added-vertex j k u in
       let c = count-before i j (λ m. eqb (fate m) 1) b (eq-test (only-one (fate i) t)) in omega arith)
 
-  pub carried-by : w .heights ≡ rowFrom (length (g .heights)) hs → w .call .answer .counts .vertices ≤ length (g .heights) → CarriedHeights g w
+  pub carried-by : w .heights ≡ rowFrom (length (g .heights)) hs → w .call .answer .counts .vertices ≤ length (g .heights)
+      → CarriedHeights g w
   carried-by e m = record {
     inserted = λ i a t n. let u = inserted-used i a t in rw e (row-entry (length (g .heights)) hs (vertex i) (omega arith) ∙ last-in i a t n);
     added = λ i a f n.

@@ -86,7 +86,8 @@ module _ (C : Counts) (s : SurfaceRows) (ring : RingRows) (center : Point2) (a :
   unfolding surfaceLocate locateOf
   locate-own e = rw (own-table locateLent C s locateNext locate-begins e) refl
 
-  pub locate-refused : {r : Refusal} → heightsTested locateLent C s ≡ Refused r → surfaceLocate C s ring center a ≡ locatedWith (Located.Refused r) ring
+  pub locate-refused : {r : Refusal} → heightsTested locateLent C s ≡ Refused r
+      → surfaceLocate C s ring center a ≡ locatedWith (Located.Refused r) ring
   unfolding surfaceLocate locateOutcome
   locate-refused e = rw (own-refused locateLent C s locateNext locate-begins e) refl
 
@@ -192,7 +193,8 @@ module _ (C : Counts) (s : SurfaceRows) (ring : RingRows) (pending : List ℕ) (
   step-refused e = rw (own-refused stepLent C s stepNext step-begins e) refl
 
   -- the call on the mesh alone, and its vertex's height
-  pub step-own : heightsTested stepLent C s ≡ Accepted → surfaceStep C s ring pending center v z .call ≡ stepOf C (s .mesh) ring pending center v
+  pub step-own : heightsTested stepLent C s ≡ Accepted
+      → surfaceStep C s ring pending center v z .call ≡ stepOf C (s .mesh) ring pending center v
   unfolding surfaceStep stepOf
   step-own e = rw (step-table e) refl
 

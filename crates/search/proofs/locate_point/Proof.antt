@@ -1,7 +1,5 @@
 -- `search::locate_point` meets its contract. Assumes nothing.
-use mathlib.Core.Path.{ap}
 use borrow.Author.Needs.{needs}
-use Rattle.search.specs.SearchRows.{stateOf}
 use Rattle.search.specs.Located.{near-ready, scan-ready, nearest-there, from-ready, located-found, located-scanned}
 use Rattle.search.proofs.locate_point.Statement.{statement}
 use Rattle.search.proofs.locate_point.Tie as tie
@@ -37,14 +35,14 @@ returns c =
     let s = c .before .before .before in
     let t = s .before .before .before .before .before .before in
     located-found (t .pre) (s .before .before .walk-to-nearest-neighbor .ensures) (s .before .out .ensures) (s .search-from .ensures)
-    (ap stateOf (c .before .state .given .1))
+    (c .before .state .given .1)
 
 returns-2 : tie.Need-returns-2
 returns-2 c =
     let s = c .before .before .before in
     let t = s .before .before .before .before .before .before in
     located-scanned (t .pre) (s .before .before .walk-to-nearest-neighbor .ensures) (s .before .out .ensures) (s .search-from .ensures)
-    (ap stateOf (c .before .enum-told .given .1)) (c .scan .ensures)
+    (c .before .enum-told .given .1) (c .scan .ensures)
 
 pub locate-point-spec : {M : Type 1} → statement M
 locate-point-spec =

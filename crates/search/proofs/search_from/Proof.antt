@@ -1,9 +1,8 @@
 -- `search::search_from` meets its contract. The invariant: to go on from here with the turns that are left is to go on from the
 -- start. The measure is their number. Assumes nothing.
 use native.Mathlib.Omega.{arith}
-use mathlib.Core.Path.{refl, ap}
+use mathlib.Core.Path.{refl}
 use borrow.Author.Needs.{needs}
-use Rattle.search.specs.SearchRows.{stateOf}
 use Rattle.search.specs.Searching.{Searching, searching-start, searching-found, searching-on, searching-end}
 use Rattle.search.proofs.search_from.Statement.{statement}
 use Rattle.search.proofs.search_from.Tie as tie
@@ -30,7 +29,7 @@ enum-known-state c = search needs
 returns : tie.Need-returns Inv-loop μ-loop
 returns c =
     let s = c .before .before .before in
-    searching-found (s .before .before .loop .inv) (s .before .loop-test .taken) (s .search-turn .ensures) (ap stateOf (c .before .state .given .1))
+    searching-found (s .before .before .loop .inv) (s .before .loop-test .taken) (s .search-turn .ensures) (c .before .state .given .1)
     _ refl
 
 enum-known-state-2 : tie.Need-enum-known-state-2 Inv-loop μ-loop
@@ -45,7 +44,7 @@ loop-less c = search needs
 loop-again : tie.Need-loop-again Inv-loop μ-loop
 loop-again c =
     let s = c .before .before .before in
-    searching-on (s .before .before .loop .inv) (s .before .loop-test .taken) (s .search-turn .ensures) (ap stateOf (c .before .state2 .given .1))
+    searching-on (s .before .before .loop .inv) (s .before .loop-test .taken) (s .search-turn .ensures) (c .before .state2 .given .1)
 
 returns-2 : tie.Need-returns-2 Inv-loop μ-loop
 returns-2 c = searching-end (c .before .loop .inv) (let l = c .loop-test .left in omega arith) _ refl

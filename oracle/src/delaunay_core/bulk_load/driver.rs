@@ -140,6 +140,8 @@ pub struct Sweep {
     pub watch: Watch,
     /// The vertex where a search starts.
     pub hint: usize,
+    /// What `steps_alone` has skipped.
+    skipped: Vec<VertexToInsert<Point2<f64>>>,
 }
 
 /// What a call of the Rust came to: its answer, or the reason why the case is outside the domain.
@@ -174,7 +176,8 @@ impl Sweep {
         let hull = catch_unwind(AssertUnwindSafe(|| Hull::from_triangulation(&swept, centre)));
         match hull {
             Ok(Some(hull)) => {
-                Ok(Sweep { swept, hull, centre, buffer: Vec::new(), watch: Watch::Domain, hint: 0 })
+                let (buffer, skipped) = (Vec::new(), Vec::new());
+                Ok(Sweep { swept, hull, centre, buffer, watch: Watch::Domain, hint: 0, skipped })
             }
             _ => Err(reason::NO_HULL),
         }
@@ -252,17 +255,28 @@ impl Sweep {
         dcel.faces.reserve(2 * vertices);
     }
 
-    /// Every step, with nothing around the Rust's own function: what a benchmark times.
-    pub fn steps_alone(&mut self, points: &[Position]) {
+    /// Every step, with nothing around the Rust's own function: what a benchmark times. The skipped points are
+    /// kept as `bulk_load` keeps them; their number.
+    pub fn steps_alone(&mut self, points: &[Position]) -> usize {
         for &position in points {
             let vertex = VertexToInsert::NewVertex(point(position));
-            single_bulk_insertion_step(&mut self.swept, false, &mut self.hull, vertex, &mut self.buffer);
+            let Sweep { swept, hull, buffer, .. } = self;
+            self.skipped.extend(single_bulk_insertion_step(swept, false, hull, vertex, buffer));
         }
+        self.skipped.len()
     }
 
     /// `fix_convexity` once, likewise.
     pub fn pass_alone(&mut self) {
         fix_convexity(&mut self.swept);
+    }
+
+    /// The insertions of what `steps_alone` has skipped, likewise.
+    pub fn insertions_alone(&mut self) {
+        let hint = Some(FixedVertexHandle::new(self.hint));
+        for vertex in std::mem::take(&mut self.skipped) {
+            self.swept.insert_with_hint_option_impl(vertex, hint);
+        }
     }
 
     pub fn rows(&self) -> Mesh {
