@@ -78,6 +78,9 @@ pub record Demand3 (l : RunLent) (r : RunOutcome) (t : Totals) : Type 0 where
   pub fates : (i : ℕ) → i < pointCount (l .points) → T (isRunFate (fateOf r i))
   pub on-vertex : (i : ℕ) → i < pointCount (l .points) → fateOf r i ≡ 9
       → (vertexOf r i < r .answer .counts .vertices) × (placesIn (r .mesh) (vertexOf r i) ≡ positionOf (l .points) i)
+  -- so no point is lost: a vertex stands at each
+  pub all-in : (i : ℕ) → i < pointCount (l .points)
+      → (u : ℕ) × (u < r .answer .counts .vertices) × (placesIn (r .mesh) u ≡ positionOf (l .points) i)
   -- it keeps the mesh rules; (as facts: the test `rules` of mesh/Rules passes exactly where they hold, `rules-wf` and `wf-rules`)
   pub rules : Wf (r .answer .counts) (linksIn (r .mesh))
   -- every triangle turns strictly left;

@@ -1,5 +1,5 @@
 -- What an added point's fate says: it has an angle, is at no end of the located edge, is strictly left of it, and the boundary that the
--- step would leave has a sound ring; and what fate 4 says: all of this but the last. Assumes nothing.
+-- step would leave has a sound ring; what fate 4 says: all of this but the last; and what fate 2 says. Assumes nothing.
 use mathlib.Core.Bool.{Bool, true, false, not, cond}
 use mathlib.Core.Path.{_≡_, refl, sym, _∙_, ap}
 use Prim.Native.Nat.{ℕ}
@@ -53,6 +53,17 @@ unsound-cases false false t m e = absurd (let z : _≡_ {A = ℕ} 0 1 = cc in om
 unsound-cases false true false m e = (tt, refl)
 unsound-cases false true true m e = absurd (let z : _≡_ {A = ℕ} 0 1 = cc in omega arith)
 
+-- and of fate 2
+center-dropped : (c : Bool) (X : Decided) → cond c (notAdded AtCenter) X .fate ≡ Dropped → c ≡ false
+center-dropped true X e = absurd (let z : _≡_ {A = ℕ} 0 1 = cc in omega arith)
+center-dropped false X e = refl
+
+dropped-cases : (a s t : Bool) (m : ℕ) → cond a Dropped (cond (not s) NotLeft (cond (not t) Unsound (Added m))) ≡ Dropped → T a
+dropped-cases true s t m e = tt
+dropped-cases false false t m e = absurd (let z : _≡_ {A = ℕ} 0 1 = cc in omega arith)
+dropped-cases false true false m e = absurd (let z : _≡_ {A = ℕ} 0 1 = cc in omega arith)
+dropped-cases false true true m e = absurd (let z : _≡_ {A = ℕ} 0 1 = cc in omega arith)
+
 added-is : (f : Fate) {m n : ℕ} → f ≡ Added m → ifAdded f n ≡ n
 unfolding ifAdded
 added-is f e = rw e refl
@@ -102,6 +113,13 @@ module _ (cx cy : Float) (C : Counts) (L : Links) (p : ℕ → Point) (v : Point
         left = ap (λ (D : Decided). D .left) d ∙ added-is (fateAt C L p α v q e) f;
         right = ap (λ (D : Decided). D .right) d ∙ added-is (fateAt C L p α v q e) f;
       }
+
+  pub is-dropped : decided cx cy C L p v .fate ≡ Dropped → T (atEnd L p v e)
+  unfolding decided decidedAt fateAt
+  is-dropped z =
+      let c = center-dropped (atCenter (v .x) (v .y) cx cy) (decidedAt C L p α v q e) z in
+      dropped-cases (atEnd L p v e) (seesEdge L p v e) (soundAfter C L p α v q e) (C .vertices)
+      (sym (ap (λ (D : Decided). D .fate) (decided-off c)) ∙ z)
 
   pub is-unsound : decided cx cy C L p v .fate ≡ Unsound
       → T (seesEdge L p v e) × (soundAfter C L p α v q e ≡ false)

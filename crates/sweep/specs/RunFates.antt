@@ -15,6 +15,23 @@ use Rattle.sweep.specs.Step.{isAdded}
 use Rattle.sweep.specs.Run.{isSkipped}
 use Rattle.sweep.specs.Demand3.{isEntered, isVertex, isRunFate}
 
+-- ---- what the step's fate says
+pub is-added-point : (v : ℕ) → isAdded (Added v) ≡ true
+unfolding isAdded
+is-added-point v = refl
+
+pub three-skipped : T (isSkipped NotLeft)
+unfolding isSkipped
+three-skipped = tt
+
+pub four-skipped : T (isSkipped Unsound)
+unfolding isSkipped
+four-skipped = tt
+
+pub five-skipped : T (isSkipped AtCenter)
+unfolding isSkipped
+five-skipped = tt
+
 -- ---- the fate's number of a point whose step had the fate f, and which was put in at x if it was skipped
 abbrev pub numberOf : Fate → PositionInTriangulation → ℕ
 numberOf f x = cond (isSkipped f) (positionFate x) (fateNumber f)

@@ -47,7 +47,7 @@ use Rattle.start.specs.StartLaws.{AcceptedSweep, sweep-accepts, sweep-numbered}
 use Rattle.sweep.specs.Step.{Stepping, answerOf, isAdded}
 use Rattle.sweep.specs.StepMesh.{Swept}
 use Rattle.sums.specs.Bounded.{count, count-ext, count-before, count-parts, count-apart}
-use Rattle.sweep.specs.Run.{Sweeping, answerWords, answerIn, answerWord, answersAfter, RunLent, RunOutcome, ranWith, runChecked, sweepOf, stepsOf, runOutcome, runOf, completeAfter, completedAnswers, skippedOf, runCompletes, passedOf, fillOf, insertOf, insertedWord, runAnswers}
+use Rattle.sweep.specs.Run.{Sweeping, answerWords, answerIn, answerWord, answersAfter, RunLent, RunOutcome, ranWith, runChecked, sweepOf, stepsOf, runOutcome, runOf, completeAfter, completedAnswers, skippedOf, runCompletes, passedOf, fillOf, insertOf, insertedWord, runAnswers, isSkipped}
 use Rattle.sweep.specs.SweepLaws.{SweepKeeps, sweep-keeps}
 use Rattle.sweep.specs.Demand3.{fateOf, vertexOf, addedBefore, beforeClosing, Demand3, RunLeaves, Full, Ran, isEntered, isVertex, isRunFate, enteredBefore}
 use Rattle.corner.specs.Corner.{Extended}
@@ -55,7 +55,7 @@ use Rattle.location.specs.declared.PositionInTriangulation.{PositionInTriangula
 use Rattle.skipped.specs.Insert.{isNew}
 use Rattle.skipped.specs.Fill.{insertedVertex, insertWord, enters, Completing, completeMesh}
 use Rattle.sums.specs.Bit.{bit, from-true, is-true, and-left, and-right, or-cases}
-use Rattle.sweep.specs.RunFates.{numberOf, one-added, entered-new, run-fate, nine-skipped, added-not-skipped, added-vertex, parts-of, apart-of}
+use Rattle.sweep.specs.RunFates.{numberOf, one-added, entered-new, run-fate, nine-skipped, added-not-skipped, added-vertex, parts-of, apart-of, is-added-point, three-skipped, four-skipped, five-skipped}
 use Rattle.skipped.specs.CompleteLaws as complete
 
 -- ---- the answers
@@ -398,6 +398,35 @@ module _ (l : RunLent) (e : runChecked l ≡ Checked.Accepted) where
         let m = run-keeps .number steps-made in let o = ones n (omega arith) in let d = entered-are i (omega arith) in
         omega arith
 
+    -- NO POINT IS LOST, by what its step did
+    every-in : (i : ℕ) → i < n → (u : ℕ) × (u < c .mesh .counts .vertices) × (placesIn (R .mesh) u ≡ point i)
+    every-in i a = go (stepsOf l i .fate) refl
+      where
+        most-used : (u : ℕ) → u < s .counts .vertices → u < c .mesh .counts .vertices
+        most-used u k =
+            let m = ap (λ (x : Completing). x .mesh .counts .vertices) made in
+            let g = complete.complete-grown room swept-good (skippedOf l) point n points-range .vertices in omega arith
+
+        here : (f : Fate) → stepsOf l i .fate ≡ f → T (isSkipped f) → (u : ℕ) × (u < c .mesh .counts .vertices) × (placesIn (R .mesh) u ≡ point i)
+        here f e t = let k = subst⁻¹ (λ (f : Fate). T (isSkipped f)) e t in (vertexOf R i, skipped-used i a k, skipped-place i a k)
+
+        go : (f : Fate) → stepsOf l i .fate ≡ f → (u : ℕ) × (u < c .mesh .counts .vertices) × (placesIn (R .mesh) u ≡ point i)
+        go (Added v) e =
+            let t : T (adds i) = from-true (ap isAdded e ∙ is-added-point v) in
+            let k = count-before i n adds a t in let m = run-keeps .number steps-made in let q = step-added i a t .0 in
+            let w = step-number i a t in
+            (vertexOf R i, most-used (vertexOf R i) (omega arith), step-place i a t)
+        go Dropped e =
+            let (u, k, q) = run-keeps .dropped steps-made i a e in (
+              u,
+              most-used u k,
+              written (λ M P. P u ≡ point i)
+                  (ap (λ (x : Completing). x .positions u) made ∙ complete.complete-old room swept-good (skippedOf l) point n points-range u k ∙ q),
+            )
+        go NotLeft e = here NotLeft e three-skipped
+        go Unsound e = here Unsound e four-skipped
+        go AtCenter e = here AtCenter e five-skipped
+
     demand-3 : (t : Totals) → t .closingflips ≡ c .mesh .closingflips → Demand3 l R t
     unfolding completeMesh
     demand-3 t q = record {
@@ -412,6 +441,7 @@ module _ (l : RunLent) (e : runChecked l ≡ Checked.Accepted) where
       on-vertex = λ i a y.
           let t = from-true (nine-skipped (stepsOf l i .fate) (placed i) (sym (fate-is i a) ∙ y)) in
           (skipped-used i a t, skipped-place i a t);
+      all-in = every-in;
       rules = leaves .leaves .good .wf;
       turning = leaves .leaves .good .turning;
       area = leaves .leaves .area;

@@ -8,18 +8,28 @@ use native.Mathlib.Omega.{arith}
 use lib.Ieee.{Float}
 use Rattle.corner.specs.Untouched.{Untouched, Grown, untouched-none, untouched-join}
 use Rattle.decide.specs.declared.Fate.{Fate}
-use Rattle.decide.specs.declared.Fate.the-variants.{Added}
-use Rattle.decide.specs.Decide.{decided}
+use Rattle.decide.specs.declared.Fate.the-variants.{Added, Dropped}
+use Rattle.decide.specs.Decide.{decided, atEnd}
 use Rattle.math.specs.declared.Point.{Point}
-use Rattle.math.specs.Determinant.{InRange}
+use Rattle.math.specs.Determinant.{InRange, isPosition}
 use Rattle.mesh.specs.declared.Counts.{Counts}
-use Rattle.mesh.specs.Mesh.{Links}
+use Rattle.mesh.specs.Mesh.{Links, In, to}
 use Rattle.mesh.specs.Good.{Good}
 use Rattle.sweep.specs.Step.{Stepping, isAdded, leftAlone, stepMesh}
 use Rattle.sweep.specs.StepMesh.{Swept, StepKeeps, step-keeps, step-adds, step-alone, added-of}
-use Rattle.sums.specs.Bit.{bit, from-true}
+use Rattle.sums.specs.Bit.{bit, from-true, or-cases}
 use Rattle.sums.specs.Bounded.{count, count-suc, count-before}
 use Rattle.sweep.specs.Run.{Sweeping, stepOn, sweepPoint, sweepAfter, stepAt}
+use Rattle.sweep.specs.Fates.{is-dropped}
+use Rattle.sweep.specs.StepCallLaws.{step-fate}
+use Rattle.math.specs.Position.{same-position}
+use Rattle.ring.specs.Ring.{located}
+use Rattle.ring.specs.Boundary.{located<}
+use Rattle.ring.specs.Center.{turnsAbout}
+use Rattle.angle.specs.Angle.{turns, angleAbout}
+use Rattle.mesh.specs.Triangle.{rev-in}
+use mathlib.Core.Logic.{_⊎_, inl, inr}
+use lib.Dec.{T}
 
 -- ---- fates
 added-same : {m v : ℕ} → Added m ≡ Added v → m ≡ v
@@ -67,6 +77,24 @@ alone-not : (room : ℕ) (cx cy : Float) (C : Counts) (L : Links) (p : ℕ → P
 unfolding leftAlone
 alone-not room cx cy C L p v z = ap (λ (s : Stepping). isAdded (s .fate)) (step-alone room cx cy C L p v z) ∙ z
 
+-- fate 2 is that of a point at a vertex in use
+dropped-here : {cx cy : Float} {C : Counts} {L : Links} {p : ℕ → Point} → Swept cx cy C L p → (room : ℕ) (v : Point)
+    → stepMesh room cx cy C L p v .fate ≡ Dropped → (u : ℕ) × (u < C .vertices) × (p u ≡ v)
+unfolding atEnd
+dropped-here {cx} {cy} {C} {L} {p} S room v z =
+    go (or-cases (isPosition v (p (L .origin e))) (isPosition v (p (to L e)))
+    (is-dropped cx cy C L p v (sym (step-fate room cx cy C L p v) ∙ z)))
+  where
+    e : ℕ
+    e = located C L (turnsAbout cx cy p) (turns (angleAbout (v .x) (v .y) cx cy))
+
+    used : In C e
+    used = located< (S .good .wf) (turnsAbout cx cy p) (S .sound) (turns (angleAbout (v .x) (v .y) cx cy))
+
+    go : T (isPosition v (p (L .origin e))) ⊎ T (isPosition v (p (to L e))) → (u : ℕ) × (u < C .vertices) × (p u ≡ v)
+    go (inl t) = (L .origin e, S .good .wf .ranges .origin< used, sym (same-position v (p (L .origin e)) t))
+    go (inr t) = (to L e, S .good .wf .ranges .origin< (rev-in C used), sym (same-position v (p (to L e)) t))
+
 -- ---- all of them
 pub record SweepKeeps (room : ℕ) (cx cy : Float) (C : Counts) (L : Links) (p point : ℕ → Point) (n : ℕ) (s : Sweeping) : Type 0 where
   -- a refused flip too
@@ -83,6 +111,8 @@ pub record SweepKeeps (room : ℕ) (cx cy : Float) (C : Counts) (L : Links) (p p
   pub number : s .full ≡ false → s .counts .vertices ≡ C .vertices + count n (λ i. isAdded (stepAt room cx cy C L p point i .fate))
   pub added : s .full ≡ false → (i v : ℕ) → i < n → stepAt room cx cy C L p point i .fate ≡ Added v
       → (v ≡ C .vertices + count i (λ j. isAdded (stepAt room cx cy C L p point j .fate))) × (s .positions v ≡ point i)
+  pub dropped : s .full ≡ false → (i : ℕ) → i < n → stepAt room cx cy C L p point i .fate ≡ Dropped
+      → (u : ℕ) × (u < s .counts .vertices) × (s .positions u ≡ point i)
 
 module _ (room : ℕ) {cx cy : Float} {C : Counts} {L : Links} {p : ℕ → Point} (S : Swept cx cy C L p) (point : ℕ → Point) where
   abbrev after : ℕ → Sweeping
@@ -130,6 +160,20 @@ module _ (room : ℕ) {cx cy : Float} {C : Counts} {L : Links} {p : ℕ → Poin
             let b = K .number f in
             (r .0, T′ .places v (let a = r .0 in omega arith) ∙ r .1)
 
+    -- a point that was dropped is at a vertex, which stays
+    dropped′ : (j : ℕ) → j < suc n → steps j .fate ≡ Dropped → (u : ℕ) × (u < t .mesh .counts .vertices) × (t .positions u ≡ point j)
+    dropped′ j l z = go (ℕ-discrete j n)
+      where
+        stays : (u : ℕ) × (u < after n .counts .vertices) × (after n .positions u ≡ point j)
+            → (u : ℕ) × (u < t .mesh .counts .vertices) × (t .positions u ≡ point j)
+        stays (u, a, b) = (u, (let g = T′ .grown .vertices in omega arith), T′ .places u a ∙ b)
+
+        go : Dec (j ≡ n) → (u : ℕ) × (u < t .mesh .counts .vertices) × (t .positions u ≡ point j)
+        go (yes e) =
+            stays (subst (λ (k : ℕ). (u : ℕ) × (u < after n .counts .vertices) × (after n .positions u ≡ point k)) (sym e)
+            (dropped-here (K .swept f) room (point n) (subst (λ (k : ℕ). steps k .fate ≡ Dropped) e z)))
+        go (no d) = stays (K .dropped f j (omega arith) z)
+
     one-more : SweepKeeps room cx cy C L p point (suc n)
         (record { counts = t .mesh .counts; links = t .mesh .links; positions = t .positions; answered = cond (t .mesh .full) (after n .answered) (suc (after n .answered)); full = t .mesh .full })
     one-more = record {
@@ -144,6 +188,7 @@ module _ (room : ℕ) {cx cy : Float} {C : Counts} {L : Links} {p : ℕ → Poin
       answered = λ g. rw g (ap suc (K .answered f));
       number = λ g. number′;
       added = λ g. added′;
+      dropped = λ g. dropped′;
     }
       where
         answers : (b : Bool) → cond b (after n .answered) (suc (after n .answered)) ≤ suc n
@@ -165,6 +210,7 @@ module _ (room : ℕ) {cx cy : Float} {C : Counts} {L : Links} {p : ℕ → Poin
     answered = λ g. refl;
     number = λ g. start;
     added = λ g i v l. absurd (omega arith);
+    dropped = λ g i l. absurd (omega arith);
   }
     where
       start : C .vertices ≡ C .vertices + count 0 adds
@@ -186,4 +232,5 @@ module _ (room : ℕ) {cx cy : Float} {C : Counts} {L : Links} {p : ℕ → Poin
         answered = λ g. absurd (false≢true (sym g ∙ f));
         number = λ g. absurd (false≢true (sym g ∙ f));
         added = λ g. absurd (false≢true (sym g ∙ f));
+        dropped = λ g. absurd (false≢true (sym g ∙ f));
       })
