@@ -4,7 +4,8 @@
 //! points ours skipped; `bench_run memory SIDE KIND COUNT` prints the peak of one run's memory. In each turn all sides take the same input
 //! one after the other, and each side's best turn counts.
 //! Before it is timed each input is compared: our finished mesh is what our finish makes of the mesh after the Rust's last insertion, link
-//! by link, and both skip as many points. Our points have heights, the Rust's and CGAL's have none.
+//! by link (triangle by triangle where points were skipped and a convexity pass after the first adds faces: those come after the Rust's
+//! insertions, before ours), and both skip as many points. Our points have heights, the Rust's and CGAL's have none.
 
 mod inputs;
 
@@ -131,6 +132,15 @@ fn skipped_of(run: &Run) -> usize {
     run.answers.iter().filter(|a| !matches!(a.fate(), Fate::Added(_) | Fate::Dropped)).count()
 }
 
+/// The triangles by their vertices, whatever their numbers and first corners are.
+fn triangles_of(mesh: &Mesh) -> Vec<[u32; 3]> {
+    let from_least =
+        |[a, b, c]: [u32; 3]| [[a, b, c], [b, c, a], [c, a, b]].into_iter().min().expect("three");
+    let mut all: Vec<[u32; 3]> = mesh.triangles().map(from_least).collect();
+    all.sort();
+    all
+}
+
 /// Both sides once, compared; and the parts.
 fn compared(input: &Input, turns: usize) -> Checked {
     let (finished, run) = ours(input);
@@ -150,7 +160,12 @@ fn compared(input: &Input, turns: usize) -> Checked {
         (time, copy, totals)
     };
     let (_, mesh, totals) = timed(&inserted);
-    assert!(mesh == finished, "the finished meshes differ");
+    // the Rust makes one pass before its insertions: where another adds a face, vertices have the same numbers, edges and faces others
+    let is_same = |mesh: &Mesh| match timed(&passed).2.faces == 0 || skipped == 0 {
+        true => *mesh == finished,
+        false => mesh.positions() == finished.positions() && triangles_of(mesh) == triangles_of(&finished),
+    };
+    assert!(is_same(&mesh), "the finished meshes differ");
     assert_eq!(totals.closing_flips, run.totals.closing_flips);
     // differences of these are taken, so the best counts
     let tries = turns + 300_000 / input.points.len();
