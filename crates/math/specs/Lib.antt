@@ -3,6 +3,7 @@ pub mod Plane
 pub mod Vector
 pub mod Wide
 pub mod Range
+pub mod AreaBound
 pub mod Side
 pub mod Circle
 pub mod Whole

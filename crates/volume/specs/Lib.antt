@@ -1,5 +1,4 @@
 pub mod Volume
-pub mod AreaBound
 pub mod VolumeLaws
 pub mod DigitSums
 pub mod DigitSumsLaws

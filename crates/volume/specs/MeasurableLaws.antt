@@ -15,6 +15,7 @@ use Rattle.dcel.specs.Rows.{There, Placed, rowOf, linksOf, positionOf}
 use Rattle.heights.specs.Heights.{surfaceRows, heightOf, isValidHeight, meshLent, surfaceChecked}
 use Rattle.heights.specs.HeightsLaws.{HeightsAccepted, surface-accepts, seed-there, valid-within}
 use Rattle.math.specs.declared.Point.{Point}
+use Rattle.math.specs.AreaBound.{area-bound}
 use Rattle.math.specs.Determinant.{orient2d}
 use Rattle.mesh.specs.declared.Counts.{Counts}
 use Rattle.mesh.specs.Area.{atCorners}
@@ -23,7 +24,6 @@ use Rattle.mesh.specs.Mesh.{Links}
 use Rattle.mesh_check.specs.declared.Checked.{Checked}
 use Rattle.mesh_check.specs.Accepted.{AcceptedMesh}
 use Rattle.volume.specs.declared.DigitSums.{DigitSums}
-use Rattle.volume.specs.AreaBound.{area-bound}
 use Rattle.volume.specs.DigitSums.{plusTriangle, wholeOf, SmallSums}
 use Rattle.volume.specs.DigitSumsLaws.{none-yet, one-more, whole-is, sums-small}
 use Rattle.volume.specs.Measurable.{Measurable, Triangle, faceSums}

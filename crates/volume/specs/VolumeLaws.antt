@@ -12,6 +12,7 @@ use Rattle.algebra.specs.Bound.{[]ᵉ, _∷ᵉ_, within}
 use Rattle.int128.specs.CubicMetres.{toNearest, cubicMetres}
 use Rattle.int128.specs.Int128Laws.{natAbs-sign}
 use Rattle.math.specs.declared.Point.{Point}
+use Rattle.math.specs.AreaBound.{area-bound}
 use Rattle.math.specs.Determinant.{orient2d}
 use Rattle.mesh.specs.declared.Counts.{Counts}
 use Rattle.mesh.specs.Mesh.{Links}
@@ -22,7 +23,6 @@ use Rattle.mesh.specs.Good.{Good}
 use Rattle.mesh.specs.Wf.{Wf}
 use Rattle.sums.specs.Sum.{sum, sum-ext, sum-add, sum-scale, sum-none, sum-small}
 use Rattle.volume.specs.Volume.{aboveLevel, sixVolumes}
-use Rattle.volume.specs.AreaBound.{area-bound}
 
 module _ (C : Counts) (L : Links) (p : ℕ → Point) (h : ℕ → ℤ) where
   -- of the inner face f + 1: its doubled area, and its part above level 0
