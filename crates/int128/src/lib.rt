@@ -147,6 +147,15 @@ impl Int128 {
         n as i64
     }
 
+    // The number in 64 bits.
+    pub fn to_i64(self) -> i64
+        requires { ⌜ natAbs (int128Of self) < 2 ^ 63 ⌝ }
+        ensures { λ r. ⌜ r ≡ int128Of self ⌝ }
+    {
+        let n = self.abs();
+        self.sign_on(n.low)
+    }
+
     // Cubic metres of six times a volume in cubic millimetres: the half ones, and one more, halved.
     pub fn cubic_metres(self) -> i64
         requires { ⌜ natAbs (int128Of self) < 2 ^ 94 ⌝ }
