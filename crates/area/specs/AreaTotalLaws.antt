@@ -3,9 +3,7 @@
 use mathlib.Core.Bool.{false}
 use mathlib.Core.Path.{_≡_, refl}
 use Prim.Native.Nat.{ℕ, _^_, _<_}
-use native.Mathlib.Nat.{lt-of-lt-of-le}
 use native.Mathlib.Omega.{arith}
-use lib.Dec.{lit≤}
 use lib.IntN.{ℤ, pos, natAbs}
 use lib.Signed.{_<ℤ_}
 use Rattle.dcel.specs.MeshRows.{linksIn, placesIn}
@@ -13,7 +11,6 @@ use Rattle.heights.specs.Heights.{SurfaceRows, surfaceChecked}
 use Rattle.heights.specs.HeightsLaws.{surface-accepts}
 use Rattle.int128.specs.declared.Int128.{Int128}
 use Rattle.int128.specs.Int128.{int128Of, inHalves}
-use Rattle.int128.specs.Int128Laws.{fits-abs, halves-mean}
 use Rattle.mesh.specs.declared.Counts.{Counts}
 use Rattle.mesh.specs.Area.{areaTotal, boundaryArea}
 use Rattle.mesh.specs.AreaLaws.{area-theorem}
@@ -23,7 +20,7 @@ use Rattle.mesh_check.specs.declared.Refusal.{Refusal}
 use Rattle.area.specs.declared.Totalled.{Totalled}
 use Rattle.area.specs.AreaTotal.{totalledOf, areaTotalOf}
 use Rattle.area.specs.Summable.{Summable}
-use Rattle.area.specs.SummableLaws.{total-less, accepted-summable}
+use Rattle.area.specs.SummableLaws.{total-less, total-meant, accepted-summable}
 
 module _ (C : Counts) (s : SurfaceRows) where
   -- of the lent mesh
@@ -46,13 +43,12 @@ module _ (C : Counts) (s : SurfaceRows) where
   found : checked ≡ Checked.Accepted → AreaAccepted (inHalves total)
   found e =
       let G = surface-accepts false C s e .0 .good in
-      let less = total-less (checked-summable e) (s .mesh .outs) in
       record {
         check = e;
-        halves = halves-mean total (fits-abs total (lt-of-lt-of-le less (lit≤ tt)));
+        halves = total-meant (checked-summable e) (s .mesh .outs) refl;
         boundary = area-theorem (G .wf) (placesIn (s .mesh));
         positive = area-positive (G .wf) (G .turning);
-        less = less;
+        less = total-less (checked-summable e) (s .mesh .outs);
       }
 
   pub area-accepted : {n : Int128} → areaTotalOf C s ≡ Totalled.Accepted n → AreaAccepted n

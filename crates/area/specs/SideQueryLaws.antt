@@ -2,7 +2,7 @@
 -- size. Assumes nothing.
 use mathlib.Core.Bool.{Bool, true, false, not, cond}
 use mathlib.Core.Path.{_≡_, refl, sym, _∙_}
-use Prim.Native.Nat.{ℕ, _^_, _≤_}
+use Prim.Native.Nat.{ℕ, _^_, _<_, _≤_}
 use native.Mathlib.Omega.{arith}
 use borrow.Author.Tests.{not-false}
 use lib.IntN.{ℤ, natAbs}
@@ -10,6 +10,7 @@ use Rattle.math.specs.declared.Point.{Point}
 use Rattle.math.specs.AreaBound.{area-bound}
 use Rattle.math.specs.Determinant.{InRange, orient2d, isValidVertex}
 use Rattle.math.specs.Range.{in-range, valid-vertex}
+use Rattle.mesh_check.specs.declared.Refusal.{Refusal}
 use Rattle.mesh_check.specs.Check.{isOutside}
 use Rattle.area.specs.declared.Sided.{Sided}
 use Rattle.area.specs.SideQuery.{sideRefused, sideQueryOf}
@@ -64,6 +65,21 @@ module _ (p1 p2 q : Point) where
             is = w;
             most = rw w (area-bound (inside x) (inside y) (inside z));
           }
+
+  pub side-refused : {r : Refusal} → sideQueryOf p1 p2 q ≡ Sided.Refused r → (r .number ≡ 3) × (r .place < 3)
+  unfolding sideQueryOf
+  side-refused {r} e = go (isOutside p1) (isOutside p2) (isOutside q) e
+    where
+      at : {n : ℕ} → n < 3 → sideRefused n ≡ Sided.Refused r → (r .number ≡ 3) × (r .place < 3)
+      at {n} l e = let w : _≡_ {A = Refusal} (record { number = 3; place = n }) r = cc in rw (← w) (refl, l)
+
+      go : (a b c : Bool)
+          → cond a (sideRefused 0) (cond b (sideRefused 1) (cond c (sideRefused 2) (Sided.Accepted (orient2d p1 p2 q)))) ≡ Sided.Refused r
+          → (r .number ≡ 3) × (r .place < 3)
+      go true b c e = at (omega arith) e
+      go false true c e = at (omega arith) e
+      go false false true e = at (omega arith) e
+      go false false false e = absurd (let z : _≡_ {A = ℕ} 0 1 = cc in omega arith)
 
   pub accepted-side : InRange p1 → InRange p2 → InRange q → sideQueryOf p1 p2 q ≡ Sided.Accepted (orient2d p1 p2 q)
   unfolding sideQueryOf

@@ -1,12 +1,16 @@
 -- Sums of doubled areas: how large they can be, and that the rows of an accepted mesh can be summed. Assumes nothing.
 use mathlib.Core.List.{List}
+use mathlib.Core.Path.{_≡_, _∙_, ap}
 use Prim.Native.Nat.{ℕ, suc, _-_, _*_, _^_, _<_, _≤_}
-use native.Mathlib.Nat.{le-refl, le-trans, lt-of-le-of-lt, mul-le-mul-right}
+use native.Mathlib.Nat.{le-refl, le-trans, lt-of-le-of-lt, lt-of-lt-of-le, mul-le-mul-right}
 use native.Mathlib.Omega.{arith}
-use lib.Dec.{lit<}
+use lib.Dec.{lit<, lit≤}
 use lib.IntN.{ℤ, natAbs}
 use Rattle.dcel.specs.MeshRows.{MeshRows}
 use Rattle.dcel.specs.Rows.{linksOf, positionOf}
+use Rattle.int128.specs.declared.Int128.{Int128}
+use Rattle.int128.specs.Int128.{int128Of, inHalves}
+use Rattle.int128.specs.Int128Laws.{fits-abs, halves-mean}
 use Rattle.math.specs.AreaBound.{area-bound}
 use Rattle.mesh.specs.declared.Counts.{Counts}
 use Rattle.mesh.specs.Area.{overFaces, areaTotal}
@@ -38,6 +42,11 @@ module _ {C : Counts} {p : List ℤ} {h a : List ℕ} (S : Summable C p h a) (o 
   pub total-less : natAbs (areaTotal C (linksOf o h a) (positionOf p)) < 2 ^ 71
   unfolding areasTo overFaces
   total-less = areas-less (C .faces - 1) (le-refl (C .faces - 1))
+
+  -- what its halves mean
+  pub total-meant : {n : Int128} → n ≡ inHalves (areaTotal C (linksOf o h a) (positionOf p))
+      → int128Of n ≡ areaTotal C (linksOf o h a) (positionOf p)
+  total-meant e = ap int128Of e ∙ halves-mean _ (fits-abs _ (lt-of-lt-of-le total-less (lit≤ tt)))
 
 pub accepted-summable : {C : Counts} {m : MeshRows} → AcceptedMesh C m → Summable C (m .positions) (m .halves) (m .faces)
 accepted-summable {C} {m} A =

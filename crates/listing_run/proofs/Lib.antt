@@ -1,6 +1,5 @@
 -- What the code of the listing shows, over plain rows and numbers.
 pub mod Rows
-pub mod Areas
 pub mod Runs
 pub mod Seed
 pub mod Texts

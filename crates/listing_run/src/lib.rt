@@ -60,15 +60,8 @@ fn doubled_area(positions: &[i32], halves: &[u32], faces: &[u32], counts: Counts
     ensures { λ r. ⌜ ((o : List ℕ) → r
         ≡ areaTotal counts (linksOf o (now (halves .entry)) (now (faces .entry))) (positionOf (now (positions .entry)))) ⌝ }
 {
-    let count = counts.faces;
-    let mut total: i64 = 0;
-    let mut f: u32 = 1;
-    while f < count {
-        let a = dcel::adjacent(faces, f);
-        total += mesh_check::doubled_area_at(positions, halves, a);
-        f += 1;
-    }
-    total
+    let total = area::sum_areas(positions, halves, faces, counts);
+    total.to_i64()
 }
 
 // The answer of point i.
