@@ -9,6 +9,12 @@ use lib.Ieee.{Float}
 use lib.IntN.{ℤ}
 use Rattle.angle.specs.declared.Point2.{Point2}
 use Rattle.angle.specs.Angle.{validAngle}
+use Rattle.area.specs.declared.Sided.{Sided}
+use Rattle.area.specs.declared.Totalled.{Totalled}
+use Rattle.area.specs.AreaTotal.{areaTotalOf}
+use Rattle.area.specs.AreaTotalLaws.{area-refused}
+use Rattle.area.specs.SideQuery.{sideQueryOf}
+use Rattle.area.specs.SideQueryLaws.{side-refused}
 use Rattle.finish.specs.declared.Finished.{Finished}
 use Rattle.finish.specs.declared.Totals.{Totals}
 use Rattle.finish.specs.Finish.{Finishing, totalsFrom, finishedFrom, seedChecked, finishOutcome}
@@ -70,6 +76,12 @@ volume-named C s level x e = by _ (surface-numbered _ C s) _ e
     by : (c : Checked) → NumberedTo 10 c → (v : Volumes) → measuredOf c v ≡ Measured.Refused x → 0 < x .number
     by Checked.Accepted g v z = absurd (let w : _≡_ {A = ℕ} 0 1 = cc in omega arith)
     by (Checked.Refused y) g v z = same-number {x = x} g cc
+
+pub area-total-named : (C : Counts) (s : SurfaceRows) (x : Refusal) → areaTotalOf C s ≡ Totalled.Refused x → 0 < x .number
+area-total-named C s x e = check-named C s x (area-refused C s e)
+
+pub side-query-named : (p1 p2 q : Point) (x : Refusal) → sideQueryOf p1 p2 q ≡ Sided.Refused x → 0 < x .number
+side-query-named p1 p2 q x e = let n = side-refused p1 p2 q e .0 in omega arith
 
 -- a finish and a run: a number of the checks, or 9
 finished-nine : (place : ℕ) (f : Finishing) (x : Refusal) → finishedFrom place f ≡ Finished.Refused x → 0 < x .number

@@ -4,6 +4,8 @@ use Prim.Native.Nat.{ℕ}
 use lib.Ieee.{Float}
 use lib.IntN.{ℤ, pos}
 use Rattle.angle.specs.declared.Point2.{Point2}
+use Rattle.area.specs.declared.Sided.{Sided}
+use Rattle.area.specs.declared.Totalled.{Totalled}
 use Rattle.finish.specs.declared.FinishAnswer.{FinishAnswer}
 use Rattle.finish.specs.declared.Finished.{Finished}
 use Rattle.finish.specs.declared.Totals.{Totals}
@@ -15,9 +17,11 @@ use Rattle.sweep.specs.declared.Answer.{Answer}
 use Rattle.sweep.specs.declared.StepAnswer.{StepAnswer}
 use Rattle.sweep.specs.declared.Stepped.{Stepped}
 use Rattle.sweep.specs.Run.{answerWord}
+use Rattle.fithmoul.specs.declared.results.AreaTotalResult.{AreaTotalResult}
 use Rattle.fithmoul.specs.declared.results.CheckResult.{CheckResult}
 use Rattle.fithmoul.specs.declared.results.LocateResult.{LocateResult}
 use Rattle.fithmoul.specs.declared.results.PointAnswer.{PointAnswer}
+use Rattle.fithmoul.specs.declared.results.SideQueryResult.{SideQueryResult}
 use Rattle.fithmoul.specs.declared.results.StepResult.{StepResult}
 use Rattle.volume.specs.declared.Measured.{Measured}
 use Rattle.fithmoul.specs.declared.results.FinishResult.{FinishResult}
@@ -116,3 +120,14 @@ volumeResult (Measured.Refused x) = record {
   «six_volumes_low» = 0;
   «cubic_metres» = pos 0;
 }
+
+-- areas
+abbrev pub areaTotalResult : Totalled → AreaTotalResult
+areaTotalResult (Totalled.Accepted n) =
+    record { refusal = 0; place = 0; «area_total_high» = n .high; «area_total_low» = n .low }
+areaTotalResult (Totalled.Refused x) =
+    record { refusal = x .number; place = x .place; «area_total_high» = 0; «area_total_low» = 0 }
+
+abbrev pub sideQueryResult : Sided → SideQueryResult
+sideQueryResult (Sided.Accepted area) = record { refusal = 0; place = 0; «doubled_area» = area }
+sideQueryResult (Sided.Refused x) = record { refusal = x .number; place = x .place; «doubled_area» = pos 0 }

@@ -1,11 +1,13 @@
-// The public calls, for C, C++, Rust and Rattle: check a mesh, locate an angle, step one point, finish a mesh, run a list of points, and
-// the volume between a mesh and a level. A mesh has a height on each vertex. For a C compiler this page is include/fithmoul.h. A call
-// takes its arguments as numbers and answers a struct of numbers: what it answers and leaves is what a definition gives, for every input
-// (crates `heights`, `surface`, `volume`). A slice is a pointer and a length for C. Nothing is asked of the caller but that each row is
-// there, as long as is said, that no row that is written overlaps another, and that doubles are rounded to nearest and subnormal ones
-// kept (docs/DECISIONS.md, "Who answers for what C cannot check?").
+// The public calls, for C, C++, Rust and Rattle: check a mesh, locate an angle, step one point, finish a mesh, run a list of points, the
+// volume between a mesh and a level, the area total of a mesh, and the side query, the area of one triangle. A mesh has a height on each
+// vertex. For a C compiler this page is include/fithmoul.h. A call takes its arguments as numbers and answers a struct of numbers: what it
+// answers and leaves is what a definition gives, for every input (crates `heights`, `surface`, `volume`, `area`). A slice is a pointer and
+// a length for C. Nothing is asked of the caller but that each row is there, as long as is said, that no row that is written overlaps
+// another, and that doubles are rounded to nearest and subnormal ones kept (docs/DECISIONS.md, "Who answers for what C cannot check?").
 ghost use mathlib.Core.Bool.{false};
 ghost use mathlib.Core.Path.{_≡_};
+ghost use Rattle.area.specs.AreaTotal.{areaTotalOf};
+ghost use Rattle.area.specs.SideQuery.{sideQueryOf};
 ghost use Rattle.dcel.specs.MeshRows.{meshRows};
 ghost use Rattle.finish.specs.Finish.{finishedWith};
 ghost use Rattle.heights.specs.Heights.{surfaceRows, surfaceChecked};
@@ -18,6 +20,7 @@ ghost use Rattle.sweep.specs.Run.{runLent, ranWith};
 ghost use Rattle.sweep.specs.StepCall.{steppedWith};
 ghost use Rattle.fithmoul.specs.Results.{counted, centerAt, pointAt, reported};
 ghost use Rattle.fithmoul.specs.Results.{checkResult, locateResult, stepResult, finishResult, volumeResult};
+ghost use Rattle.fithmoul.specs.Results.{areaTotalResult, sideQueryResult};
 ghost use Rattle.volume.specs.Volume.{volumeOf};
 use angle::Point2;
 use math::Point;
@@ -27,9 +30,11 @@ use ring_rows::Node;
 
 pub mod results;
 
+use results::AreaTotalResult;
 use results::CheckResult;
 use results::FinishResult;
 use results::LocateResult;
+use results::SideQueryResult;
 use results::StepResult;
 use results::VolumeResult;
 
@@ -353,4 +358,45 @@ pub extern "C" fn fithmoul_volume(
         adjacent,
         level,
     ))
+}
+
+// The doubled areas of all triangles of a mesh, in total, exactly. Refusals 1 to 5, and 10.
+#[no_mangle]
+pub extern "C" fn fithmoul_area_total(
+    vertices: u32,
+    edges: u32,
+    faces: u32,
+    positions: &[i32],
+    heights: &[i32],
+    outs: &[u32],
+    halves: &[u32],
+    adjacent: &[u32],
+) -> AreaTotalResult
+    ensures { λ r. ⌜ r ≡ areaTotalResult (areaTotalOf (counted vertices edges faces) (surfaceRows
+        (meshRows (now (positions .entry)) (now (outs .entry)) (now (halves .entry)) (now (adjacent .entry))) (now (heights .entry)))) ⌝ }
+{
+    let counts = Counts {
+        vertices: vertices,
+        edges: edges,
+        faces: faces,
+    };
+    results::area_total_result(area::area_total(counts, positions, heights, outs, halves, adjacent))
+}
+
+// Twice the signed area of the triangle p1 p2 q, exactly: positive where q lies left of the line from p1 to p2. Refusal 3.
+#[no_mangle]
+pub extern "C" fn fithmoul_side_query(
+    p1x: i32,
+    p1y: i32,
+    p2x: i32,
+    p2y: i32,
+    qx: i32,
+    qy: i32,
+) -> SideQueryResult
+    ensures { λ r. ⌜ r ≡ sideQueryResult (sideQueryOf (pointAt p1x p1y) (pointAt p2x p2y) (pointAt qx qy)) ⌝ }
+{
+    let p1 = Point { x: p1x, y: p1y };
+    let p2 = Point { x: p2x, y: p2y };
+    let q = Point { x: qx, y: qy };
+    results::side_query_result(area::side_query(p1, p2, q))
 }

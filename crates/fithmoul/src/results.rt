@@ -6,6 +6,9 @@ ghost use Rattle.locate.specs.declared.Located.{Located};
 ghost use Rattle.sweep.specs.declared.Stepped.{Stepped};
 ghost use Rattle.fithmoul.specs.Results.{checkResult, locateResult, pointAnswer};
 ghost use Rattle.fithmoul.specs.Results.{steppedResult, stepResult, finishedResult, finishResult, volumeResult};
+ghost use Rattle.fithmoul.specs.Results.{areaTotalResult, sideQueryResult};
+use area::Sided;
+use area::Totalled;
 use finish::FinishAnswer;
 use finish::Finished;
 use locate::Located;
@@ -74,6 +77,23 @@ pub struct VolumeResult {
     pub six_volumes_high: u64,
     pub six_volumes_low: u64,
     pub cubic_metres: i64,
+}
+
+// The doubled areas of a mesh's triangles, in total, in two halves.
+#[repr(C)]
+pub struct AreaTotalResult {
+    pub refusal: u32,
+    pub place: u32,
+    pub area_total_high: u64,
+    pub area_total_low: u64,
+}
+
+// A triangle's doubled area.
+#[repr(C)]
+pub struct SideQueryResult {
+    pub refusal: u32,
+    pub place: u32,
+    pub doubled_area: i64,
 }
 
 pub fn check_result(checked: Checked) -> CheckResult
@@ -235,6 +255,42 @@ pub fn volume_result(measured: Measured) -> VolumeResult
             six_volumes_high: 0,
             six_volumes_low: 0,
             cubic_metres: 0,
+        },
+    }
+}
+
+pub fn area_total_result(totalled: Totalled) -> AreaTotalResult
+    ensures { λ r. ⌜ r ≡ areaTotalResult totalled ⌝ }
+{
+    match totalled {
+        Totalled::Accepted(total) => AreaTotalResult {
+            refusal: 0,
+            place: 0,
+            area_total_high: total.high,
+            area_total_low: total.low,
+        },
+        Totalled::Refused(x) => AreaTotalResult {
+            refusal: x.number,
+            place: x.place,
+            area_total_high: 0,
+            area_total_low: 0,
+        },
+    }
+}
+
+pub fn side_query_result(sided: Sided) -> SideQueryResult
+    ensures { λ r. ⌜ r ≡ sideQueryResult sided ⌝ }
+{
+    match sided {
+        Sided::Accepted(area) => SideQueryResult {
+            refusal: 0,
+            place: 0,
+            doubled_area: area,
+        },
+        Sided::Refused(x) => SideQueryResult {
+            refusal: x.number,
+            place: x.place,
+            doubled_area: 0,
         },
     }
 }
