@@ -1,5 +1,5 @@
-/* The six calls of the library: check a mesh, locate an angle, step one point, finish a mesh, run a list of points, and
- * the volume between a mesh and a level.
+/* The eight calls of the library: check a mesh, locate an angle, step one point, finish a mesh, run a list of points,
+ * the volume between a mesh and a level, the area total of a mesh, and the side query, the area of one triangle.
  *
  * Link with libfithmoul.a, which `rt staticlib fithmoul` writes to target/staticlib/ (Linux, x86-64). Nothing else is
  * needed. crates/fithmoul/src/lib.rt has the same calls with their contracts, which are proved; docs/SPECIFICATION.md
@@ -21,8 +21,8 @@
  * volume depends on heights that are in range: links, answers and counts are the same whatever they are.
  *
  * THE MESH'S ROWS, for N vertices. A call may need room for vertices that it adds: N is `vertices` in a check, locate,
- * finish and volume, one more in a step, and `vertices` plus the number of points in a run. A row may be longer;
- * entries past the counts in use are never read for their meaning, nor changed.
+ * finish, volume and area total, one more in a step, and `vertices` plus the number of points in a run. A row may be
+ * longer; entries past the counts in use are never read for their meaning, nor changed.
  *
  *   positions  2N   int32_t   x and y of vertex v at 2v and 2v + 1
  *   heights     N   int32_t   the height of vertex v at v
@@ -50,7 +50,8 @@
  *   point_heights  1 per point  the height of each point. The row may be longer
  *
  * REFUSALS. `refusal` is 0 where a call is accepted. Otherwise it is the first row of this table that applies, from the
- * top down (10 straight after 3), and `place` what the row names, else 0.
+ * top down (10 straight after 3), and `place` what the row names, else 0. "Every call" is every call on a mesh: a side
+ * query has none, and knows 3 alone, with the place 0, 1 or 2: the first of p1, p2 and q that is out of range.
  *
  *    1  every call          fewer than 3 or more than 1,000,000 vertices (N)
  *    2  every call          a row is shorter than above, or the row of points has an odd length
@@ -182,6 +183,21 @@ typedef struct fithmoul_volume_result {
     int64_t cubic_metres; /* of 10^9 cubic millimetres: the nearest whole, exact halves away from zero */
 } fithmoul_volume_result;
 
+/* Doubled areas are in square millimetres. One triangle's is at most 2^50; where triangles overlap each other the total
+ * of a mesh can pass 64 bits: a number of 128 bits in two's complement, as six times a volume is. */
+typedef struct fithmoul_area_total_result {
+    uint32_t refusal;
+    uint32_t place;
+    uint64_t area_total_high; /* both are 0 where refused */
+    uint64_t area_total_low;
+} fithmoul_area_total_result;
+
+typedef struct fithmoul_side_query_result {
+    uint32_t refusal;
+    uint32_t place;
+    int64_t doubled_area; /* 0 where refused */
+} fithmoul_side_query_result;
+
 /* Does a mesh keep the rules, turn left everywhere and stay in range, its heights too? Refusals 1 to 5, and 10. Writes
  * nothing. */
 fithmoul_check_result fithmoul_check(
@@ -267,6 +283,22 @@ fithmoul_volume_result fithmoul_volume(
     const uint32_t *halves, size_t halves_length,
     const uint32_t *adjacent, size_t adjacent_length,
     int32_t level);
+
+/* The doubled areas of all triangles of a mesh, in total, exactly: it is the doubled area of the boundary, and never 0.
+ * Where triangles overlap each counts. Refusals 1 to 5, and 10. Writes nothing. */
+fithmoul_area_total_result fithmoul_area_total(
+    uint32_t vertices, uint32_t edges, uint32_t faces,
+    const int32_t *positions, size_t positions_length,
+    const int32_t *heights, size_t heights_length,
+    const uint32_t *outs, size_t outs_length,
+    const uint32_t *halves, size_t halves_length,
+    const uint32_t *adjacent, size_t adjacent_length);
+
+/* On which side of the line from p1 to p2 is q? The answer is twice the signed area of the triangle p1 p2 q, exactly:
+ * positive where q is on the left, negative on the right, 0 on the line. Of a triangle's corners along next it is the
+ * triangle's doubled area. Refusal 3. */
+fithmoul_side_query_result fithmoul_side_query(
+    int32_t p1x, int32_t p1y, int32_t p2x, int32_t p2y, int32_t qx, int32_t qy);
 
 #ifdef __cplusplus
 }

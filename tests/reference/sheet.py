@@ -29,6 +29,9 @@ def sheet(mesh, level):
         area = sweep.orient2d(*sweep.face_corners(mesh, f))
         above = sum(mesh.heights[v] for v in corners) - 3 * level
         yield "%d  %d %d %d  %d  %d  %d" % ((f,) + tuple(corners) + (area, above, area * above))
+    # the boundary's area, which the triangles' total
+    assert sweep.inner_area(mesh) == sweep.boundary_area(mesh)
+    yield "area total %d" % sweep.boundary_area(mesh)
     number, place, high, low, metres = sweep.volume(mesh, level)
     assert (number, place) == (0, 0) and (high, low) == sweep.two_halves(sweep.six_volumes(mesh, level))
     yield "six volumes %d" % sweep.six_volumes(mesh, level)

@@ -1,4 +1,4 @@
-//! The load sheet of a heap: each triangle's part of six times the volume above a level, and the volume (examples/sheet.md).
+//! The load sheet of a heap: each triangle's area and part of six times the volume above a level, the area total and the volume (examples/sheet.md).
 //!
 //! `sheet TEXT HEIGHTS LEVEL`: a listing's text (examples/README.md), the heights of the seed's vertices and of the points, one a line, and the level.
 
@@ -29,12 +29,12 @@ fn main() -> Result<(), Box<dyn Error>> {
     mesh.run(center.map(f64::from), points)?;
     println!("triangle  vertices  doubled area  heights - 3 * {level}  product");
     for (number, corners) in (1..).zip(mesh.triangles()) {
-        let [p, q, r] = corners.map(|v| mesh.positions()[v as usize].map(i64::from));
-        let area = (q[0] - p[0]) * (r[1] - p[1]) - (q[1] - p[1]) * (r[0] - p[0]);
+        let area = mesh.doubled_area(number).ok_or("a triangle has an area")?;
         let above = corners.map(|v| i64::from(mesh.heights()[v as usize] - level)).iter().sum::<i64>();
         let [u, v, w] = corners;
         println!("{number}  {u} {v} {w}  {area}  {above}  {}", area * above);
     }
+    println!("area total {}", mesh.area_total()?);
     let volume = mesh.volume(level)?;
     println!("six volumes {}", volume.six_volumes);
     println!("cubic metres {}", volume.cubic_metres);

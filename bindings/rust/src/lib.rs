@@ -1,4 +1,4 @@
-//! A mesh of triangles over points on a whole-number grid: points in, triangles and volumes out.
+//! A mesh of triangles over points on a whole-number grid: points in, triangles, their areas and volumes out.
 //!
 //! The work is done by libfithmoul.a, whose every function is proved; this crate owns the rows that it works on, so that a call cannot be given wrong
 //! ones, and turns its numbers into Rust's types. Every call answers a result or a [`Refusal`]; none panics, whatever it is given. What is left to the
@@ -13,6 +13,7 @@
 //! assert_eq!(loaded.mesh.triangles().count(), 3);
 //! let above = loaded.mesh.volume(7)?; // above the level 7
 //! assert_eq!((above.six_volumes, above.cubic_metres), (52_000_000_000, 9));
+//! assert_eq!(loaded.mesh.area_total()?, 52_000_000); // doubled, in square millimetres
 //! # Ok(())
 //! # }
 //! ```
@@ -269,8 +270,22 @@ impl Mesh {
     pub fn volume(&self, level: i32) -> Result<Volume, Refusal> {
         let result = self.rows.volume(level);
         refusal::of(result.refusal, result.place)?;
-        let bits = u128::from(result.six_volumes_high) << 64 | u128::from(result.six_volumes_low);
-        Ok(Volume { six_volumes: bits as i128, cubic_metres: result.cubic_metres })
+        let six_volumes = int128(result.six_volumes_high, result.six_volumes_low);
+        Ok(Volume { six_volumes, cubic_metres: result.cubic_metres })
+    }
+
+    /// The doubled areas of all triangles in total, in square millimetres. Where triangles overlap each counts.
+    pub fn area_total(&self) -> Result<i128, Refusal> {
+        let result = self.rows.area_total();
+        refusal::of(result.refusal, result.place)?;
+        Ok(int128(result.area_total_high, result.area_total_low))
+    }
+
+    /// A triangle's doubled area, in square millimetres. The outer face, 0, has none, nor has a face that does not exist.
+    pub fn doubled_area(&self, face: u32) -> Option<i64> {
+        let &a = self.adjacent().get(face as usize).filter(|_| face != 0)?;
+        let [p1, p2, q] = self.corners(a).map(|v| self.positions()[v as usize]);
+        side_query(p1, p2, q).ok()
     }
 
     pub fn vertex_count(&self) -> usize {
@@ -313,12 +328,15 @@ impl Mesh {
 
     /// The vertices of each triangle, counterclockwise, by rising face.
     pub fn triangles(&self) -> impl Iterator<Item = [u32; 3]> + '_ {
+        self.adjacent().iter().skip(1).map(|&a| self.corners(a))
+    }
+
+    /// The vertices of the triangle of a half-edge, from where it starts.
+    fn corners(&self, a: u32) -> [u32; 3] {
         let halves = self.halves();
-        self.adjacent().iter().skip(1).map(move |&a| {
-            let [b, _, _, u] = halves[a as usize];
-            let [c, _, _, v] = halves[b as usize];
-            [u, v, halves[c as usize][3]]
-        })
+        let [b, _, _, u] = halves[a as usize];
+        let [c, _, _, v] = halves[b as usize];
+        [u, v, halves[c as usize][3]]
     }
 
     /// The boundary's vertices, clockwise.
@@ -368,6 +386,18 @@ fn totals_of(result: &sys::FinishResult) -> Totals {
     }
 }
 
+/// A number of 128 bits by its halves.
+fn int128(high: u64, low: u64) -> i128 {
+    (u128::from(high) << 64 | u128::from(low)) as i128
+}
+
+/// Twice the signed area of the triangle p1 p2 q, in square millimetres: positive where q is left of the line from p1 to p2, 0 where it is on it.
+pub fn side_query(p1: [i32; 2], p2: [i32; 2], q: [i32; 2]) -> Result<i64, Refusal> {
+    let result = rows::side_query(p1, p2, q);
+    refusal::of(result.refusal, result.place)?;
+    Ok(result.doubled_area)
+}
+
 /// x and y.
 fn at([x, y, _]: Point) -> [i32; 2] {
     [x, y]
@@ -391,18 +421,13 @@ pub fn by_distance(points: &[Point]) -> Vec<usize> {
     order
 }
 
-/// Positive where c is left of the line from a to b.
-fn orient(a: Point, b: Point, c: Point) -> i128 {
-    let [ax, ay, bx, by, cx, cy] = [a[0], a[1], b[0], b[1], c[0], c[1]].map(i128::from);
-    (bx - ax) * (cy - ay) - (by - ay) * (cx - ax)
-}
-
 /// The first three of an order that are not on one line, turning left, with a middle from which a sweep can start: in a triangle of hardly any width
 /// that is rounded to a side.
 pub fn seed_of(points: &[Point], order: &[usize]) -> Option<[usize; 3]> {
     let &a = order.first()?;
     let &b = order.iter().find(|&&i| at(points[i]) != at(points[a]))?;
-    let turned = |&c: &usize| match orient(points[a], points[b], points[c]) {
+    // a point out of range is in no triangle
+    let turned = |&c: &usize| match side_query(at(points[a]), at(points[b]), at(points[c])).ok()? {
         0 => None,
         1.. => Some([a, b, c]),
         _ => Some([a, c, b]),

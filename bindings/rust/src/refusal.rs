@@ -10,7 +10,8 @@ pub enum Refusal {
     Count,
     /// 2: a row is too short. This crate never lends one.
     Rows,
-    /// 3: a coordinate is out of range; the first such vertex, points counted on after the mesh's.
+    /// 3: a coordinate is out of range; the first such vertex, points counted on after the mesh's. Of a side query 0, 1 or 2: the first
+    /// such point.
     Coordinate { vertex: u32 },
     /// 4: the links are no mesh.
     Rules,

@@ -1,9 +1,10 @@
-//! The rows that the library works on, and the six calls on them. Every pointer and length comes from a vector, so what C cannot check holds.
+//! The rows that the library works on, and the eight calls, all but one on them. Every pointer and length comes from a vector, so what C cannot check holds.
 
 use std::alloc::{self, Layout};
 
 use crate::refusal::Refusal;
-use crate::sys::{self, CheckResult, FinishResult, LocateResult, Node, StepResult, VolumeResult};
+use crate::sys::{self, AreaTotalResult, CheckResult, FinishResult, LocateResult, Node, SideQueryResult};
+use crate::sys::{StepResult, VolumeResult};
 use crate::{Answer, Point, MOST_VERTICES};
 
 #[derive(Clone, Copy, Debug, PartialEq, Eq)]
@@ -331,4 +332,30 @@ impl Rows {
             )
         }
     }
+
+    pub fn area_total(&self) -> AreaTotalResult {
+        let Counts { vertices, edges, faces } = self.counts;
+        unsafe {
+            sys::fithmoul_area_total(
+                vertices,
+                edges,
+                faces,
+                self.positions.as_ptr().cast(),
+                2 * self.positions.len(),
+                self.heights.as_ptr(),
+                self.heights.len(),
+                self.outs.as_ptr(),
+                self.outs.len(),
+                self.halves.as_ptr().cast(),
+                4 * self.halves.len(),
+                self.adjacent.as_ptr(),
+                self.adjacent.len(),
+            )
+        }
+    }
+}
+
+pub fn side_query(p1: [i32; 2], p2: [i32; 2], q: [i32; 2]) -> SideQueryResult {
+    // numbers alone: the call reads and writes no memory of ours
+    unsafe { sys::fithmoul_side_query(p1[0], p1[1], p2[0], p2[1], q[0], q[1]) }
 }

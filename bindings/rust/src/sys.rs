@@ -62,6 +62,23 @@ pub struct VolumeResult {
     pub cubic_metres: i64,
 }
 
+#[repr(C)]
+#[derive(Clone, Copy, Debug, Default, PartialEq, Eq)]
+pub struct AreaTotalResult {
+    pub refusal: u32,
+    pub place: u32,
+    pub area_total_high: u64,
+    pub area_total_low: u64,
+}
+
+#[repr(C)]
+#[derive(Clone, Copy, Debug, Default, PartialEq, Eq)]
+pub struct SideQueryResult {
+    pub refusal: u32,
+    pub place: u32,
+    pub doubled_area: i64,
+}
+
 extern "C" {
     pub fn fithmoul_check(
         vertices: u32,
@@ -199,4 +216,22 @@ extern "C" {
         adjacent_length: usize,
         level: i32,
     ) -> VolumeResult;
+
+    pub fn fithmoul_area_total(
+        vertices: u32,
+        edges: u32,
+        faces: u32,
+        positions: *const i32,
+        positions_length: usize,
+        heights: *const i32,
+        heights_length: usize,
+        outs: *const u32,
+        outs_length: usize,
+        halves: *const u32,
+        halves_length: usize,
+        adjacent: *const u32,
+        adjacent_length: usize,
+    ) -> AreaTotalResult;
+
+    pub fn fithmoul_side_query(p1x: i32, p1y: i32, p2x: i32, p2y: i32, qx: i32, qy: i32) -> SideQueryResult;
 }

@@ -116,7 +116,7 @@ fn damage(random: &mut Random, rows: &mut Rows) {
     }
 }
 
-/// The refusal of one of the six calls, on these rows; `point_heights` has at least one entry, which is a step's height and a volume's level.
+/// The refusal of one of the seven calls on a mesh, on these rows; `point_heights` has at least one entry, which is a step's height and a volume's level.
 fn call(which: u64, r: &mut Rows, [x, y]: [f64; 2], points: &[i32], point_heights: &[i32]) -> u32 {
     let [v, e, f] = r.counts;
     let (p, o) = (r.positions.as_mut_ptr(), r.outs.as_mut_ptr());
@@ -153,7 +153,8 @@ fn call(which: u64, r: &mut Rows, [x, y]: [f64; 2], points: &[i32], point_height
                 );
                 run.refusal
             }
-            _ => sys::fithmoul_volume(v, e, f, p, pl, z, zl, o, ol, h, hl, a, al, k).refusal,
+            5 => sys::fithmoul_volume(v, e, f, p, pl, z, zl, o, ol, h, hl, a, al, k).refusal,
+            _ => sys::fithmoul_area_total(v, e, f, p, pl, z, zl, o, ol, h, hl, a, al).refusal,
         }
     }
 }
@@ -171,7 +172,7 @@ fn a_call_takes_anything() {
         let points: Vec<i32> = (0..random.below(9)).map(|_| random.coordinate()).collect();
         let point_heights: Vec<i32> = (0..=random.below(12)).map(|_| random.height()).collect();
         let before = rows.clone();
-        let which = random.below(6);
+        let which = random.below(7);
         let refusal = call(which, &mut rows, center, &points, &point_heights);
         seen[refusal as usize] += 1;
         if ![0, 9].contains(&refusal) {
