@@ -1,6 +1,7 @@
 /* A triangle, a centre and five points, to a finished mesh: the sample of the specification, with heights, and a fifth
  * point at the place of the fourth, through include/fithmoul.h. Prints each point's answer, the triangles, the heights,
- * the volume above two levels, and what a refused call answers. It is C and C++. */
+ * the volume above two levels, the area total, on which side of a line three points are, and what a refused call
+ * answers. It is C and C++. */
 #include "fithmoul.h"
 
 #include <inttypes.h>
@@ -66,6 +67,12 @@ static void print_volume(const fithmoul_finish_result *mesh, int32_t level) {
         level, v.refusal, v.six_volumes_high, v.six_volumes_low, v.cubic_metres);
 }
 
+static void print_side(int32_t qx, int32_t qy) {
+    fithmoul_side_query_result s = fithmoul_side_query(-16777216, -16777216, 16777216, -16777216, qx, qy);
+    printf("(%" PRId32 ", %" PRId32 "): refusal %" PRIu32 " at %" PRIu32 ", doubled area %" PRId64 "\n",
+        qx, qy, s.refusal, s.place, s.doubled_area);
+}
+
 int main(void) {
     fithmoul_finish_result refused = run(9.0, 9.0);
     printf("about (9, 9): refusal %" PRIu32 "\n", refused.refusal);
@@ -88,6 +95,14 @@ int main(void) {
     print_volume(&done, 7);
     print_volume(&done, 1000000);
     print_volume(&done, 1048577);
+    fithmoul_area_total_result total = fithmoul_area_total(
+        done.vertices, done.edges, done.faces, positions, LENGTH(positions), heights, LENGTH(heights), outs, LENGTH(outs),
+        halves, LENGTH(halves), adjacent, LENGTH(adjacent));
+    printf("area total: refusal %" PRIu32 ", 0x%016" PRIx64 " %016" PRIx64 "\n",
+        total.refusal, total.area_total_high, total.area_total_low);
+    print_side(16777216, 16777216);
+    print_side(5, -16777216);
+    print_side(5, 16777217);
 
     fithmoul_check_result good = fithmoul_check(
         done.vertices, done.edges, done.faces, positions, LENGTH(positions), heights, LENGTH(heights), outs, LENGTH(outs),
