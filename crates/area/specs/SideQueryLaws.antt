@@ -1,7 +1,7 @@
 -- What an answer of the call `side_query` means: refusal 3 at the first point out of range, or the doubled area, of at most 2 ^ 50 in
 -- size. Assumes nothing.
-use mathlib.Core.Bool.{Bool, true, false, not, cond}
-use mathlib.Core.Path.{_≡_, refl, sym, _∙_}
+use mathlib.Core.Bool.{Bool, true, false, cond}
+use mathlib.Core.Path.{_≡_, refl}
 use Prim.Native.Nat.{ℕ, _^_, _<_, _≤_}
 use native.Mathlib.Omega.{arith}
 use borrow.Author.Tests.{not-false}
@@ -38,7 +38,11 @@ module _ (p1 p2 q : Point) where
       unfolding sideQueryOf
       none-outside e = rw (a, b, e) refl
 
-  -- ---- an accepted one
+  -- by what is found of the three points
+  abbrev tested : Bool → Bool → Bool → Sided
+  tested a b c = cond a (sideRefused 0) (cond b (sideRefused 1) (cond c (sideRefused 2) (Sided.Accepted (orient2d p1 p2 q))))
+
+  -- ---- what they mean
   pub record SideAccepted (area : ℤ) : Type 0 where
     pub first : InRange p1
     pub second : InRange p2
@@ -50,9 +54,7 @@ module _ (p1 p2 q : Point) where
   unfolding sideQueryOf
   side-accepted {area} e = go (isOutside p1) (isOutside p2) (isOutside q) refl refl refl e
     where
-      go : (a b c : Bool) → isOutside p1 ≡ a → isOutside p2 ≡ b → isOutside q ≡ c
-          → cond a (sideRefused 0) (cond b (sideRefused 1) (cond c (sideRefused 2) (Sided.Accepted (orient2d p1 p2 q)))) ≡ Sided.Accepted area
-          → SideAccepted area
+      go : (a b c : Bool) → isOutside p1 ≡ a → isOutside p2 ≡ b → isOutside q ≡ c → tested a b c ≡ Sided.Accepted area → SideAccepted area
       go true b c x y z e = absurd (let z : _≡_ {A = ℕ} 0 1 = cc in omega arith)
       go false true c x y z e = absurd (let z : _≡_ {A = ℕ} 0 1 = cc in omega arith)
       go false false true x y z e = absurd (let z : _≡_ {A = ℕ} 0 1 = cc in omega arith)
@@ -73,9 +75,7 @@ module _ (p1 p2 q : Point) where
       at : {n : ℕ} → n < 3 → sideRefused n ≡ Sided.Refused r → (r .number ≡ 3) × (r .place < 3)
       at {n} l e = let w : _≡_ {A = Refusal} (record { number = 3; place = n }) r = cc in rw (← w) (refl, l)
 
-      go : (a b c : Bool)
-          → cond a (sideRefused 0) (cond b (sideRefused 1) (cond c (sideRefused 2) (Sided.Accepted (orient2d p1 p2 q)))) ≡ Sided.Refused r
-          → (r .number ≡ 3) × (r .place < 3)
+      go : (a b c : Bool) → tested a b c ≡ Sided.Refused r → (r .number ≡ 3) × (r .place < 3)
       go true b c e = at (omega arith) e
       go false true c e = at (omega arith) e
       go false false true e = at (omega arith) e
