@@ -1,4 +1,4 @@
-/* The eight calls of the library: check a mesh, locate an angle, step one point, finish a mesh, run a list of points,
+/* The calls of the library: check a mesh, locate an angle, step one point, finish a mesh, run a list of points,
  * the volume between a mesh and a level, the area total of a mesh, and the side query, the area of one triangle.
  *
  * Link with libfithmoul.a, which `rt staticlib fithmoul` writes to target/staticlib/ (Linux, x86-64). Nothing else is

@@ -1,11 +1,20 @@
-//! Nanoseconds a call of the circle test and of the side test: this library's (`libmath_c.a`) beside the same tests in Rust with i128 and i64, on the same inputs, in one run.
+//! Nanoseconds a call of the circle test and of the side test: this library's (`libmath_c.a`, `libfithmoul.a`) beside the same tests in Rust with i128 and i64, on the same inputs, in one run.
 //! Every call tests that its coordinates are in range, here and there, and every answer is compared.
 use std::hint::black_box;
 use std::time::Instant;
 
 extern "C" {
     fn math_contained_in_circumference(v1x: i32, v1y: i32, v2x: i32, v2y: i32, v3x: i32, v3y: i32, px: i32, py: i32) -> u8;
-    fn math_side_query(p1x: i32, p1y: i32, p2x: i32, p2y: i32, qx: i32, qy: i32) -> u8;
+    fn fithmoul_side_query(p1x: i32, p1y: i32, p2x: i32, p2y: i32, qx: i32, qy: i32) -> Side;
+}
+
+/// A doubled area, or refusal 3 and the first of the three points that is out of range.
+#[repr(C)]
+#[derive(Clone, Copy, PartialEq)]
+struct Side {
+    refusal: u32,
+    place: u32,
+    doubled_area: i64,
 }
 
 type Quad = [i32; 8];
@@ -45,16 +54,14 @@ extern "C" fn circle_mixed(ax: i32, ay: i32, bx: i32, by: i32, cx: i32, cy: i32,
 }
 
 #[inline(never)]
-extern "C" fn side_i64(ax: i32, ay: i32, bx: i32, by: i32, cx: i32, cy: i32) -> u8 {
-    if !in_range(&[ax, ay, bx, by, cx, cy]) {
-        return 3;
+extern "C" fn side_i64(ax: i32, ay: i32, bx: i32, by: i32, cx: i32, cy: i32) -> Side {
+    for (place, point) in [[ax, ay], [bx, by], [cx, cy]].iter().enumerate() {
+        if !in_range(point) {
+            return Side { refusal: 3, place: place as u32, doubled_area: 0 };
+        }
     }
-    let area = (bx as i64 - ax as i64) * (cy as i64 - ay as i64) - (by as i64 - ay as i64) * (cx as i64 - ax as i64);
-    match area {
-        0 => 0,
-        a if a > 0 => 1,
-        _ => 2,
-    }
+    let doubled_area = (bx as i64 - ax as i64) * (cy as i64 - ay as i64) - (by as i64 - ay as i64) * (cx as i64 - ax as i64);
+    Side { refusal: 0, place: 0, doubled_area }
 }
 
 struct Random(u64);
@@ -108,7 +115,7 @@ fn main() {
         let ours = |q: &Quad| unsafe { math_contained_in_circumference(q[0], q[1], q[2], q[3], q[4], q[5], q[6], q[7]) };
         let wide = |q: &Quad| circle_i128(q[0], q[1], q[2], q[3], q[4], q[5], q[6], q[7]);
         let mixed = |q: &Quad| circle_mixed(q[0], q[1], q[2], q[3], q[4], q[5], q[6], q[7]);
-        let side = |q: &Quad| unsafe { math_side_query(q[0], q[1], q[2], q[3], q[4], q[5]) };
+        let side = |q: &Quad| unsafe { fithmoul_side_query(q[0], q[1], q[2], q[3], q[4], q[5]) };
         let plain = |q: &Quad| side_i64(q[0], q[1], q[2], q[3], q[4], q[5]);
         let unlike = quads.iter().filter(|q| ours(q) != wide(q) || ours(q) != mixed(q) || side(q) != plain(q)).count();
         // the five take turns, so that a busy moment of the machine falls on all of them; the best of 61 turns counts
@@ -116,8 +123,8 @@ fn main() {
             &|qs| qs.iter().map(|q| black_box(ours(q)) as u64).sum(),
             &|qs| qs.iter().map(|q| black_box(wide(q)) as u64).sum(),
             &|qs| qs.iter().map(|q| black_box(mixed(q)) as u64).sum(),
-            &|qs| qs.iter().map(|q| black_box(side(q)) as u64).sum(),
-            &|qs| qs.iter().map(|q| black_box(plain(q)) as u64).sum(),
+            &|qs| qs.iter().fold(0, |sum: u64, q| sum.wrapping_add(black_box(side(q)).doubled_area as u64)),
+            &|qs| qs.iter().fold(0, |sum: u64, q| sum.wrapping_add(black_box(plain(q)).doubled_area as u64)),
         ];
         let mut best = [f64::MAX; 5];
         for _ in 0..61 {

@@ -1,6 +1,6 @@
 """Samples of the exact tests, of angles, segments and buckets, with the values that they must give.
 
-    python3 samples.py > samples.txt
+    python3 samples.py > lists/samples.txt
 
 The values come from exact rational arithmetic: determinants by the sum over permutations, each float
 operation of `pseudo_angle` as a rational rounded to the nearest double (ties to even, subnormals
@@ -44,9 +44,9 @@ def sign(x):
     return (x > 0) - (x < 0)
 
 
-def orient_sign(a, b, c):
+def doubled_area(a, b, c):
     """Shewchuk: the 3x3 determinant with the column of ones."""
-    return sign(determinant([[x, y, 1] for x, y in (a, b, c)]))
+    return determinant([[x, y, 1] for x, y in (a, b, c)])
 
 
 def incircle_sign(a, b, c, d):
@@ -150,6 +150,51 @@ def orient_samples(rng):
     yield (-LIMIT, -LIMIT), (LIMIT, LIMIT), (0, 1)
     yield (-LIMIT, -LIMIT), (LIMIT, LIMIT), (1, 0)
     yield (-LIMIT, -LIMIT), (LIMIT, LIMIT - 1), (LIMIT - 1, LIMIT - 2)
+
+
+CORNERS = [(-LIMIT, -LIMIT), (LIMIT, -LIMIT), (LIMIT, LIMIT), (-LIMIT, LIMIT)]
+NARROW = (1, 2, 1 << 16, 1 << 24, (1 << 31) - 1, 1 << 31, (1 << 31) + 1, (1 << 32) - 1, 1 << 32, (1 << 32) + 1,
+          3 << 31, (3 << 31) + 1, 1 << 33, (1 << 33) - 1, 5 << 32, (1 << 40) - 1)
+
+
+def fibonacci(most):
+    """The last three that are at most this: the square of the middle one is one off the product of the others."""
+    a, b, c = 0, 1, 1
+    while b + c <= most:
+        a, b, c = b, c, b + c
+    return a, b, c
+
+
+def told_areas():
+    """A doubled area, and three points that have it: the ends of the range, areas about the ends of 32 bits, long thin
+    triangles next to 0, and none."""
+    a, b, c, d = CORNERS
+    for three in ((a, b, c), (b, c, d), (c, d, a), (d, a, b)):
+        yield 1 << 50, three
+    yield (1 << 50) - 1, (a, (LIMIT, 1 - LIMIT), (1 - LIMIT, LIMIT))
+    yield (1 << 50) - 2, (a, (LIMIT, 2 - LIMIT), (1 - LIMIT, LIMIT))
+    yield (1 << 50) - (1 << 25), (a, b, (LIMIT, LIMIT - 1))
+    yield (1 << 50) - (1 << 26) + 1, (a, (LIMIT - 1, -LIMIT), (-LIMIT, LIMIT - 1))
+    yield 1 << 49, ((0, 0), c, d)
+    for area in NARROW:
+        tall = (area + 65535) // 65536
+        yield area, ((0, 0), (65536, 65536 * tall - area), (1, tall))
+    most, (x, y, z) = 2 * LIMIT, fibonacci(2 * LIMIT)
+    for area, u, v in ((1, (z, y), (y, x)), (-1, (y, x), (z - y, y - x)), (1, (most, most - 1), (1, 1)),
+                       (-1, (most, most - 1), (most - 1, most - 2))):
+        for sx, sy in ((1, 1), (-1, 1), (-1, -1), (1, -1)):  # from each corner of the range; a mirror turns them
+            yield area * sx * sy, [(sx * (p[0] - LIMIT), sy * (p[1] - LIMIT)) for p in ((0, 0), u, v)]
+    for three in ((a, c, (0, 0)), (b, d, (0, 0)), (a, c, c), (a, (0, -1), (LIMIT, LIMIT - 2)), (a, b, (1, -LIMIT)),
+                  (a, (LIMIT, 0), (0, -LIMIT // 2)), (c, b, (LIMIT, 7))):
+        yield 0, three
+
+
+def area_samples():
+    """Those from each of the three points on, turning one way and the other."""
+    for area, (a, b, c) in told_areas():
+        for p, q, r in ((a, b, c), (b, c, a), (c, a, b)):
+            yield area, (p, q, r)
+            yield -area, (q, p, r)
 
 
 def circle_samples(rng):
@@ -308,11 +353,11 @@ def flat(*points):
 
 def lines():
     rng = random.Random(20152)
-    yield "# orient2d: o ax ay bx by cx cy sign"
-    for a, b, c in orient_samples(rng):
-        s = orient_sign(a, b, c)
-        assert s == sign(sweep.orient2d(a, b, c))
-        yield "o %s %d" % (flat(a, b, c), s)
+    yield "# side_query: o ax ay bx by cx cy area"
+    for told, (a, b, c) in [*((None, s) for s in orient_samples(rng)), *area_samples()]:
+        area = doubled_area(a, b, c)
+        assert area == sweep.orient2d(a, b, c) and told in (None, area), (a, b, c)
+        yield "o %s %d" % (flat(a, b, c), area)
     yield "# incircle: i ax ay bx by cx cy dx dy sign"
     for a, b, c, d in circle_samples(rng):
         s = incircle_sign(a, b, c, d)

@@ -1,4 +1,4 @@
-"""Checks of the reference itself: the listing of 01 and Change 2, M1 to M10, rare cases, volumes, and an
+"""Checks of the reference itself: the listing of 01 and Change 2, M1 to M10, rare cases, volumes, areas, and an
 adversarial campaign of whole runs that asserts what demand 3 claims of them, what the search and the insertion
 of skipped points must satisfy, and what heights must and must not change.
 
@@ -13,6 +13,7 @@ import time
 import hull
 import meshes
 import sweep
+import volume_cases
 
 SAMPLE = b"S 0 0 4 0 0 4\nC 1 1\nP 4 4\nP 2 2\nP 4 4\nP 1 1\n"
 SAMPLE_OUT = (b"p 0 1 3 1 0\np 1 7 4 2 0\np 2 2 0 0 0\np 3 7 5 2 0\nt 6 11 6 32 0 0 0\n")
@@ -125,6 +126,13 @@ def heights():
         -3, -2, -1, -1, 0, 1, 1, 2, 3]
     wedge.heights[1] = -1048577
     assert sweep.check(wedge) == (10, 0)
+
+
+def areas():
+    """An area total past 64 bits, which no list has, and its neighbours below."""
+    for rim, odd, halves in ((1 << 15, False, (1, 0)), (1 << 15, True, (0, (1 << 64) - (1 << 26) + 1)),
+                             (1 << 16, True, (1, (1 << 64) - (1 << 26) + 1))):
+        assert sweep.area_total(volume_cases.often_round(rim, odd)) == (0, 0) + halves, rim
 
 
 # ---------------------------------------------------------------------------------------------------
@@ -389,6 +397,7 @@ def volumes(mesh, rng):
     assert sweep.six_volumes(mesh, level + 1) == six - 3 * area, "the level one higher"
     twin = meshes.renumbered(meshes.with_room(mesh, mesh.vertices), rng)
     assert sweep.volume(twin, level) == sweep.volume(mesh, level), "other numbers"
+    assert sweep.area_total(mesh) == sweep.area_total(twin) == (0, 0) + divmod(area, 1 << 64), "the area total"
     twin.heights = [2 * level - z for z in twin.heights]
     assert sweep.six_volumes(twin, level) == -six, "mirrored at the level"
     twin.heights = [level] * len(twin.heights)
@@ -538,5 +547,6 @@ if __name__ == "__main__":
     marked()
     examples()
     heights()
-    print("the listing, M1 to M10, the rare cases and the volumes agree")
+    areas()
+    print("the listing, M1 to M10, the rare cases, the volumes and the areas agree")
     campaign(float(sys.argv[1]) if len(sys.argv) > 1 else 20, int(sys.argv[2]) if len(sys.argv) > 2 else 1)

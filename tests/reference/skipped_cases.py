@@ -5,8 +5,10 @@ against sweep.py when the lists are made.
 """
 
 import math
+import os
 import random
 
+import answer as oracle
 import heights
 import lists
 import meshes
@@ -172,6 +174,34 @@ def mills(rng):
                Case(mesh, (shift[0] + 0.5, shift[1] + 7.25), [shift, (shift[0] + 1, shift[1])], pending=16), [6])
     turned_round = meshes.renumbered(mill((0, 3), 4), rng)
     yield "a mill, the search from another vertex", Case(turned_round, (0.25, 0.5), [(0, 0)]), [7]
+
+
+ORACLE = os.path.join(os.path.dirname(os.path.abspath(__file__)), "..", "..", "oracle", "answers.txt")
+
+
+def on_which_the_rust_panics():
+    """The inputs of the oracle's list whose answer has a line `l`: its search goes round for ever."""
+    case = {}
+    for line in open(ORACLE):
+        tag, *numbers = line.split()
+        if tag == "i":
+            case = {}
+        if tag == "l":
+            yield case
+        if tag != "#" and tag not in case:  # the seed's mesh stands before those of the answer
+            case[tag] = [int(n) for n in numbers]
+
+
+def pinwheels():
+    """Name, case: seeds of nine vertices, three blades about a triangle that holds the first point. The links are the
+    oracle's, so that the gate asks what the Rust cannot tell. Only the heights are ours."""
+    for case in on_which_the_rust_panics():
+        points = oracle.pairs(case["q"])
+        mesh = heights.put(oracle.mesh_of(case), more=len(points))
+        assert mesh.vertices == 9 and oracle.answer(case)[-1] == "l"
+        yield ("a pinwheel, case %d of the oracle's list" % case["i"][0],
+               as_given(mesh, tuple(map(oracle.of_bits, case["c"])), points, [50 * i - 20 for i in range(len(points))],
+                        pending=64))
 
 
 OVERLAPS = (  # corners, triangles, centre, points, the fates: where triangles overlap the search is not the scan
@@ -510,6 +540,12 @@ def add_cases(out, add_run, rng):
         answer, watch = watched_run(case.mesh, case.centre, case.points, case.lengths["pending"])
         assert (watch.scanned > 0) == ("another vertex" not in name), (name, watch.scanned)
         assert add_run(out, name, case)[0] == 0 and fates_of(case)[:1] == fates, (name, fates_of(case))
+    wheels = list(pinwheels())
+    for name, case in wheels:
+        answered, watch = watched_run(case.mesh, case.centre, case.points, 64)
+        assert watch.found[0] == "6" and watch.scanned > 0, (name, watch.found)
+        assert add_run(out, name, case)[0] == 0 and fates_of(case)[0] == 6, (name, fates_of(case))
+    assert len(wheels) == 4
     for name, case in overlaps():
         assert differs(case) and add_run(out, name, case)[0] == 0, name
     for name, case, number, place in refused_nine(rng):

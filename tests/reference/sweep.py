@@ -1,4 +1,4 @@
-"""An executable reading of 01-scope.md and of Changes 1 and 2 to it (02-change-requests.md), independent of
+"""An executable reading of 01-scope.md and of Changes 1 to 3 to it (02-change-requests.md), independent of
 the proved code.
 
 Every function states one sentence of 01 or of a change (cited as '01: "..."', 'Change 1: "..."') or one
@@ -120,7 +120,8 @@ def turn_about(mesh, v):
 
 
 def orient2d(a, b, c):
-    """Shewchuk's orient2d as a determinant; positive: c is left of a -> b."""
+    """003, `side_query`, in the value of Shewchuk's orient2d.  Change 3: "The side test answers the exact signed
+    doubled area, positive on the left": c is left of a -> b."""
     return (b[0] - a[0]) * (c[1] - a[1]) - (b[1] - a[1]) * (c[0] - a[0])
 
 
@@ -175,7 +176,7 @@ def boundary_area(mesh):
 
 
 def inner_area(mesh):
-    """The doubled areas of the inner faces, added up."""
+    """The doubled areas of the inner faces, added up.  Change 3: "the area total from its value" """
     return sum(orient2d(*face_corners(mesh, f)) for f in range(1, mesh.faces))
 
 
@@ -858,7 +859,8 @@ class TooManyTurns(Exception):
 
 
 def side(mesh, e, target):
-    """`side_query`, as a number: positive on the left of the half-edge."""
+    """`side_query` of a half-edge: positive on its left.  Change 3: "walks .. take their decision from its
+    sign" """
     return orient2d(mesh.at(mesh.origin(e)), mesh.at(mesh.to(e)), target)
 
 
@@ -1038,7 +1040,7 @@ def cubic_metres(six):
 
 
 # ---------------------------------------------------------------------------------------------------
-# The public calls: 01's five, and the volume
+# The public calls: 01's five, the volume and the area total
 
 
 class Lent:
@@ -1210,6 +1212,15 @@ def volume(mesh, level):
         return (r.number, r.place, 0, 0, 0)
     six = six_volumes(mesh, level)
     return (0, 0) + two_halves(six) + (cubic_metres(six),)
+
+
+def area_total(mesh):
+    """Answers (number, place, high half, low half): Change 3's area total, past 64 bits as Change 1 says it, of a
+    mesh that a check accepts; else the check's refusal."""
+    number, place = check(mesh)
+    if number:
+        return (number, place, 0, 0)
+    return (0, 0) + two_halves(inner_area(mesh))
 
 
 # ---------------------------------------------------------------------------------------------------

@@ -4,7 +4,7 @@ the listing program's part has to be noticed by three cases of its list.
 
     python3 verify.py                    # the lists as they stand
     python3 verify.py mutants            # and the changes
-    python3 verify.py mutants skipped    # and some of the changes: base, heights, skipped, listing
+    python3 verify.py mutants skipped    # and some of the changes: base, heights, skipped, areas, listing
 """
 
 import math
@@ -20,7 +20,7 @@ SECONDS = 20.0  # the longest case takes two
 SHORT = 1000  # bytes of a listing's text that every change is tried on
 FEWEST = 3  # cases of the listing's list that notice a change of the listing
 NAMES = ("samples", "check", "finish", "locate", "step", "run", "volume", "listing")
-ORDER = "mpeohfnqxwvylMPEOHFWr"  # of the lines of a case, as far as it has them
+ORDER = "mpeohfnqxwvylMPEOHFWra"  # of the lines of a case, as far as it has them
 
 
 def of_bits(b):
@@ -43,6 +43,7 @@ def read(name):
         fields = line.split(b" ")
         assert all(f.lstrip(b"-").isdigit() for f in fields[1:]) and len(fields[0]) == 1, line
         rows.append((fields[0].decode(), [int(f) for f in fields[1:]]))
+        assert all(-2 ** 63 <= n < 2 ** 64 for n in rows[-1][1]), line
     tag, (count,) = rows.pop()
     assert tag == "z" and count == len(rows), name
     return rows
@@ -118,7 +119,8 @@ def pairs(numbers):
 def sample(sweep, tag, n):
     sign = lambda x: (x > 0) - (x < 0)
     if tag == "o":
-        return sign(sweep.orient2d(*pairs(n[:6]))) == n[6]
+        assert -2 ** 50 <= n[6] <= 2 ** 50, n
+        return sweep.orient2d(*pairs(n[:6])) == n[6]
     if tag == "i":
         p = pairs(n[:8])
         return sign(sweep.incircle(*p)) == n[8] and sweep.contained_in_circumference(*p) == (n[8] == 1)
@@ -145,7 +147,8 @@ def check_one(sweep, case):
 def volume_one(sweep, case):
     mesh = mesh_of(sweep, case, "mpeohf")
     number, place, high, low, metres = sweep.volume(mesh, *case["l"])
-    return ([number, place, high, low, metres % (1 << 64)] == case["r"] and left_as_told(sweep, case, mesh))
+    return ([number, place, high, low, metres % (1 << 64)] == case["r"] and list(sweep.area_total(mesh)) == case["a"]
+            and left_as_told(sweep, case, mesh))
 
 
 def finish_one(sweep, case):
@@ -222,7 +225,7 @@ def failures(sweep, name, first_only=False):
         tests = queries()
     else:
         one, last = {"check": (check_one, "r"), "finish": (finish_one, "r"), "step": (call_one, "r"),
-                     "run": (call_one, "r"), "volume": (volume_one, "r")}[name]
+                     "run": (call_one, "r"), "volume": (volume_one, "a")}[name]
         tests = ((one, case) for case in cases(rows, last))
     for test, *arguments in tests:
         total += 1
@@ -693,6 +696,70 @@ SKIPPING = [  # the same of Change 2
     ("a run's flips without those of the first passes", "faces + more_faces, flips + more_flips,",
      "faces + more_faces, more_flips,"),
 ]
+DETERMINANT = "    return (b[0] - a[0]) * (c[1] - a[1]) - (b[1] - a[1]) * (c[0] - a[0])\n"
+AREA = DETERMINANT[len("    return "):-1]
+SUM = "    return sum(orient2d(*face_corners(mesh, f)) for f in range(1, mesh.faces))\n"
+CHECKED_AREA = "    number, place = check(mesh)\n"
+REFUSED_AREA = "        return (number, place, 0, 0)\n"
+HALVES_OF_AREA = "two_halves(inner_area(mesh))"
+AT_BOUNDARY = "0 in [mesh.face(rev(h)) for h in cycle(mesh.next, mesh.stored[f], 3)]"
+AREAS = [  # the same of Change 3: the side test, then the area total
+    ("a side test without its sign", DETERMINANT, "    return abs(%s)\n" % AREA),
+    ("a side test turned", DETERMINANT, "    return -(%s)\n" % AREA),
+    ("the sign of the area alone", DETERMINANT, "    area = %s\n    return (area > 0) - (area < 0)\n" % AREA),
+    ("the area not doubled", DETERMINANT, "    return (%s) // 2\n" % AREA),
+    ("the area doubled twice", DETERMINANT, "    return 2 * (%s)\n" % AREA),
+    ("32 bits of the area, signed", DETERMINANT, "    return ((%s) + 2 ** 31) %% 2 ** 32 - 2 ** 31\n" % AREA),
+    ("32 bits of the area, unsigned", DETERMINANT, "    return (%s) %% 2 ** 32\n" % AREA),
+    ("32 bits of the area and its sign", DETERMINANT,
+     "    area = %s\n    return abs(area) %% 2 ** 32 * ((area > 0) - (area < 0))\n" % AREA),
+    ("an area that stops at 32 bits", DETERMINANT, "    return max(-2 ** 31, min(2 ** 31 - 1, %s))\n" % AREA),
+    ("an area of 50 bits", DETERMINANT, "    return ((%s) + 2 ** 49) %% 2 ** 50 - 2 ** 49\n" % AREA),
+    ("an area of 51 bits", DETERMINANT, "    return ((%s) + 2 ** 50) %% 2 ** 51 - 2 ** 50\n" % AREA),
+    ("an area that stops one below 2^50", DETERMINANT, "    return max(-2 ** 50, min(2 ** 50 - 1, %s))\n" % AREA),
+    ("an area that stops one above -2^50", DETERMINANT, "    return max(1 - 2 ** 50, %s)\n" % AREA),
+    ("products of 50 bits", DETERMINANT, "    return ((b[0] - a[0]) * (c[1] - a[1]) + 2 ** 49) % 2 ** 50 - 2 ** 49"
+     " - ((b[1] - a[1]) * (c[0] - a[0]) + 2 ** 49) % 2 ** 50 + 2 ** 49\n"),
+    ("the last bits of the area left out", DETERMINANT, "    area = %s\n    return area - area %% 2 ** 11\n" % AREA),
+    ("1 and -1 taken for 0", DETERMINANT, "    area = %s\n    return area if abs(area) > 1 else 0\n" % AREA),
+    ("the last two points exchanged", DETERMINANT, "    b, c = c, b\n" + DETERMINANT),
+    ("the sum of the products", DETERMINANT, DETERMINANT.replace(") - (b[1]", ") + (b[1]")),
+    ("areas without a sign in the total", SUM, SUM.replace("orient2d(*face_corners(mesh, f))",
+                                                         "abs(orient2d(*face_corners(mesh, f)))"),
+     "(every triangle turns left)"),
+    ("the total of the boundary", HALVES_OF_AREA, "two_halves(boundary_area(mesh))", "(the same number)"),
+    ("the total's sign turned", HALVES_OF_AREA, "two_halves(-inner_area(mesh))"),
+    ("the total not doubled", HALVES_OF_AREA, "two_halves(inner_area(mesh) // 2)"),
+    ("the first face left out of the total", SUM, SUM.replace("range(1,", "range(2,")),
+    ("the last face left out of the total", SUM, SUM.replace("mesh.faces)", "mesh.faces - 1)")),
+    ("the outer face in the total", SUM, SUM.replace("range(1, mesh.faces)", "range(mesh.faces)")),
+    ("the first face alone", SUM, SUM.replace("range(1, mesh.faces)", "range(1, 2)")),
+    ("the largest face alone", SUM, SUM.replace("sum(", "max(")),
+    ("the first face for every one", SUM, SUM.replace("face_corners(mesh, f)", "face_corners(mesh, 1)")),
+    ("faces at the boundary alone", SUM, SUM.replace("mesh.faces))", "mesh.faces) if %s)" % AT_BOUNDARY)),
+    ("faces away from the boundary alone", SUM, SUM.replace("mesh.faces))", "mesh.faces) if not %s)" % AT_BOUNDARY)),
+    ("32 bits of the total", HALVES_OF_AREA, "two_halves(inner_area(mesh) % 2 ** 32)"),
+    ("a total that stops at 2^50", HALVES_OF_AREA, "two_halves(min(2 ** 50, inner_area(mesh)))"),
+    ("the total as a double", HALVES_OF_AREA, "two_halves(int(float(inner_area(mesh))))"),
+    ("the total's halves exchanged", HALVES_OF_AREA, HALVES_OF_AREA + "[::-1]"),
+    ("the total in both halves", HALVES_OF_AREA, "(inner_area(mesh), inner_area(mesh))"),
+    ("the total's high half left out", HALVES_OF_AREA, "(0, inner_area(mesh) % (1 << 64))",
+     "(no mesh of a list passes 64 bits)"),
+    ("six volumes for the total", HALVES_OF_AREA, "two_halves(six_volumes(mesh, -1))"),
+    ("the total by the heights", HALVES_OF_AREA, "two_halves(six_volumes(mesh, 0) // 3)"),
+    ("no place in the total's refusal", REFUSED_AREA, "        return (number, 0, 0, 0)\n"),
+    ("the total of a face that turns right", REFUSED_AREA,
+     "        return (number, place) + (two_halves(inner_area(mesh)) if number == 5 else (0, 0))\n"),
+    ("no 10 in a total", CHECKED_AREA,
+     "    number, place = check(Mesh(*mesh.rows()[:4], *mesh.counts(), [0] * len(mesh.heights)))\n"),
+    ("the heights row not asked for a total", CHECKED_AREA,
+     "    number, place = check(Mesh(*mesh.rows()[:4], *mesh.counts()))\n"),
+    ("a total of any mesh", CHECKED_AREA, "    number, place = 0, 0\n"),
+    ("a total of a mesh with bad rules", CHECKED_AREA + "    if number:\n",
+     CHECKED_AREA + "    if number not in (0, 4):\n"),
+    ("a total of a mesh that turns right", CHECKED_AREA + "    if number:\n",
+     CHECKED_AREA + "    if number not in (0, 5):\n"),
+]
 LISTING = [  # the same of the listing program's part
     ("8 pending entries lent", "LISTING_PENDING = 400, 4096", "LISTING_PENDING = 400, 8"),
     ("100 pending entries lent", "LISTING_PENDING = 400, 4096", "LISTING_PENDING = 400, 100"),
@@ -743,16 +810,17 @@ def source():
 
 def changed_as(name):
     """sweep.py changed as the list above names it."""
-    old, new = next(m[1:3] for m in MUTANTS + HEIGHTS + SKIPPING + LISTING if m[0] == name)
+    old, new = next(m[1:3] for m in MUTANTS + HEIGHTS + SKIPPING + AREAS + LISTING if m[0] == name)
     return changed(source(), old, new)
 
 
 def mutants(only):
     text, silent = source(), 0
-    # Samples and listings have no heights, and only runs and listings insert.
+    # Samples and listings have no heights, only runs and listings insert, and only samples and volumes have areas.
     high = [n for n in NAMES if n not in ("samples", "listing")]
     for part, changes, names in (("base", MUTANTS, NAMES), ("heights", HEIGHTS, high),
-                                 ("skipped", SKIPPING, ("run", "listing"))):
+                                 ("skipped", SKIPPING, ("run", "listing")),
+                                 ("areas", AREAS, ("samples", "volume"))):
         for name, old, new, *implied in changes if part in only else []:
             module = changed(text, old, new)
             noticed = [n for n in names if failures(module, n, first_only=True)[1]]
@@ -774,5 +842,5 @@ if __name__ == "__main__":
         wrong += bad
         print("%-8s %5d cases, %d answered otherwise" % (name, total, bad))
     if len(sys.argv) > 1:
-        wrong += mutants(sys.argv[2:] or ("base", "heights", "skipped", "listing"))
+        wrong += mutants(sys.argv[2:] or ("base", "heights", "skipped", "areas", "listing"))
     sys.exit(1 if wrong else 0)

@@ -1,4 +1,4 @@
-//! The rows that the library works on, and the eight calls, all but one on them. Every pointer and length comes from a vector, so what C cannot check holds.
+//! The rows that the library works on, and the calls, all but one on them. Every pointer and length comes from a vector, so what C cannot check holds.
 
 use std::alloc::{self, Layout};
 

@@ -1,13 +1,13 @@
 -- What a branch on signed numbers tells. The logic has the test of two locals as an equation of a flag,
 -- `ltZ u v ≡ true`, over what the machine reads of them, u and v; each lemma takes that these are a and b
 -- (`toZ-ofZ (c .fits .x)`, `reads64 env e tt`), and gives the fact about a and b.
--- `x > 0` is `0 < x`, and `x >= y` is `y <= x`. And two tests that pass alike are equal.
+-- `x > 0` is `0 < x`, and `x >= y` is `y <= x`. And two tests that pass alike are equal, as `x <= y` and `!(y < x)` are.
 -- Assumes nothing.
 use mathlib.Core.Path.{_≡_, refl, sym, subst, subst₂}
 use mathlib.Core.Bool.{Bool, true, false, not}
 use lib.Dec.{T, le→leb}
 use lib.IntN.{ℤ}
-use lib.Signed.{ltZ, leZ, _<ℤ_, _≤ℤ_, ltZ-yes, ltZ-no, leZ-yes}
+use lib.Signed.{ltZ, leZ, _<ℤ_, _≤ℤ_, ltZ-yes, ltZ-no, leZ-yes, clashℤ}
 use Rattle.algebra.specs.Order.{leZ-no}
 
 module _ {u v a b : ℤ} (p : u ≡ a) (q : v ≡ b) where
@@ -29,3 +29,11 @@ test-ext true true f g = refl
 test-ext true false f g = absurd (f tt)
 test-ext false true f g = absurd (g tt)
 test-ext false false f g = refl
+
+-- at most is not above
+pub le-not-lt : (a b : ℤ) → leZ a b ≡ not (ltZ b a)
+le-not-lt a b = test-ext (leZ a b) (not (ltZ b a)) (λ t. go (ltZ b a) (λ u. clashℤ {a = b} {b = a} (ltZ-yes u) (leZ-yes t))) (λ t. ltZ-no {a = b} {b = a} t .le)
+  where
+    go : (f : Bool) → (T f → ⊥) → T (not f)
+    go true n = absurd (n tt)
+    go false n = tt

@@ -96,5 +96,5 @@ pub fn side_query(p1: Point, p2: Point, q: Point) -> Sided
     if !math::validate_vertex(q) {
         return outside(2);
     }
-    Sided::Accepted(math::orient2d(p1, p2, q))
+    Sided::Accepted(math::side_query(p1, p2, q))
 }

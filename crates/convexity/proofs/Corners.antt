@@ -5,12 +5,11 @@ use mathlib.Core.Path.{_≡_, refl, _∙_, ap, subst⁻¹}
 use Prim.Native.Nat.{ℕ, _<_, _≤_}
 use native.Mathlib.Omega.{arith}
 use borrow.Author.Tests.{lt-ltb, le-ltb}
-use lib.IntN.{ℤ}
+use lib.IntN.{ℤ, pos}
+use lib.Signed.{ltZ}
 use Rattle.dcel.specs.Rows.{halvesOf, linksOf, positionOf, Placed}
-use Rattle.math.specs.declared.LineSideInfo.{LineSideInfo}
 use Rattle.math.specs.declared.Point.{Point}
-use Rattle.math.specs.Determinant.{InRange, orient2d, sideOf, isOnLeftSide}
-use Rattle.math.specs.Side.{on-left}
+use Rattle.math.specs.Determinant.{InRange, orient2d}
 use Rattle.mesh.specs.Mesh.{Links}
 use Rattle.sums.specs.Half.{rev}
 use Rattle.convexity.specs.Convexity.{turnsLeftAt}
@@ -23,11 +22,12 @@ pub in-range : (q : List ℤ) {p : Point} {v w : ℕ} → p ≡ positionOf q v �
 in-range q e f h = subst⁻¹ InRange (e ∙ ap (positionOf q) f) (h .range)
 
 module _ (q : List ℤ) (h : List ℕ) (d e : ℕ) where
-  pub side-left : {a b c : ℕ} {p1 p2 t : Point} {s : LineSideInfo} {r : Bool} → a ≡ halvesOf h .origin d → b ≡ halvesOf h .origin (rev d) → c ≡ halvesOf h .origin (rev e)
-      → p1 ≡ positionOf q a → p2 ≡ positionOf q b → t ≡ positionOf q c → s ≡ sideOf (orient2d p1 p2 t) → r ≡ isOnLeftSide s
-      → (o f : List ℕ) → r ≡ turnsLeftAt (linksOf o h f) (positionOf q) d e
+  pub side-left : {a b c : ℕ} {p1 p2 t : Point} {s : ℤ}
+      → a ≡ halvesOf h .origin d → b ≡ halvesOf h .origin (rev d) → c ≡ halvesOf h .origin (rev e)
+      → p1 ≡ positionOf q a → p2 ≡ positionOf q b → t ≡ positionOf q c → s ≡ orient2d p1 p2 t
+      → (o f : List ℕ) → ltZ (pos 0) s ≡ turnsLeftAt (linksOf o h f) (positionOf q) d e
   unfolding turnsLeftAt linksOf
-  side-left {p1 = p1} {p2} {t} x y z u v w s r o f = r ∙ ap isOnLeftSide s ∙ on-left (orient2d p1 p2 t) ∙ rw (u, v, w, x, y, z) refl
+  side-left x y z u v w s o f = ap (ltZ (pos 0)) s ∙ rw (u, v, w, x, y, z) refl
 
 -- ---- the two half-edges behind the current one
 module _ (q : List ℤ) (h : List ℕ) (c : ℕ) {e₁ e₂ : ℕ} (x : e₂ ≡ halvesOf h .prev c) (y : e₁ ≡ halvesOf h .prev e₂) where

@@ -34,7 +34,7 @@ fn turns_left_at(positions: &[i32], halves: &[u32], edge1: u32, edge2: u32) -> b
     let p1 = dcel::position(positions, a);
     let p2 = dcel::position(positions, b);
     let target = dcel::position(positions, c);
-    math::side_query(p1, p2, target).is_on_left_side()
+    math::side_query(p1, p2, target) > 0
 }
 
 // Whether the two half-edges behind the current one are a corner to be closed.

@@ -6,16 +6,16 @@ use Prim.Native.Nat.{ℕ, suc, _+_, _<_, _^_}
 use borrow.Author.Tests.{not-true, not-false}
 use native.Mathlib.Omega.{arith}
 use lib.Ieee.{Float}
-use lib.IntN.{ℤ}
+use lib.IntN.{ℤ, pos}
+use lib.Signed.{ltZ, leZ}
 use Rattle.angle.specs.Angle.{IsAngle, turns}
 use Rattle.circle_test.specs.GoodRows.{held}
 use Rattle.dcel.specs.Rows.{halvesOf, linksOf, positionOf}
 use Rattle.dcel.specs.MeshHeld.{counts-fit}
 use Rattle.hull.specs.Boundary.{Angled, AngleAt, AngledBoundary, edgeAt, originTurns}
 use Rattle.hull.specs.Ready.{size-small}
-use Rattle.math.specs.declared.LineSideInfo.{LineSideInfo}
 use Rattle.math.specs.declared.Point.{Point}
-use Rattle.math.specs.Determinant.{orient2d, sideOf, isOnLeftSide, isPosition}
+use Rattle.math.specs.Determinant.{orient2d, isPosition}
 use Rattle.mesh.specs.declared.Counts.{Counts}
 use Rattle.mesh.specs.Mesh.{Links, In}
 use Rattle.mesh.specs.Area.{boundaryLength}
@@ -45,7 +45,7 @@ use Rattle.decide.specs.SweepRows.{ChainAngles, Decides}
 use Rattle.decide.specs.Walks.{originPosition, EndsOf, EdgeAbout, ToWalk, WalkedTo}
 use Rattle.decide.specs.Walks.{ToCount, CountedChain, LocatedRows, DecidesAt, LeavesOut}
 use Rattle.decide.specs.WalkLaws.{edge-about, about-from, to-walk, walked-chain}
-use Rattle.decide.proofs.Tests.{sees-is}
+use Rattle.decide.proofs.Tests.{sees-is, right-read}
 
 -- ---- the decision by four tests: is the point at the first end, at the second, is it strictly left, is the ring sound after the step
 abbrev fateOf : ℕ → Bool → Bool → Bool → Bool → Fate
@@ -112,19 +112,18 @@ module _ {C : Counts} {q : List ℤ} {o h f : List ℕ} {cx cy : Float} {e size 
       at-to j w = left-out Dropped refl w
           (decided-by C q o h f (turnsAbout cx cy (positionOf q)) v (turns a) e (from-is ∙ i) (to-is ∙ j) refl refl)
 
-      module _ (j : y ≡ false) {s : LineSideInfo} {t : Bool}
-          (s-is : s ≡ sideOf (orient2d (r .from) (r .to) v)) (t-is : t ≡ isOnLeftSide s) where
-        side-is : seesEdge (linksOf o h f) (positionOf q) v e ≡ t
+      module _ (j : y ≡ false) {s : ℤ} (s-is : s ≡ orient2d (r .from) (r .to) v) where
+        side-is : seesEdge (linksOf o h f) (positionOf q) v e ≡ ltZ (pos 0) s
         unfolding linksOf
-        side-is = sym (sees-is q h e E v s-is t-is)
+        side-is = sym (sees-is q h e E v s-is)
 
-        pub not-left : not t ≡ true → {d : Decision} → LeavesOut NotLeft d → DecidesAt C q o h f cx cy e v a d
+        pub not-left : leZ s (pos 0) ≡ true → {d : Decision} → LeavesOut NotLeft d → DecidesAt C q o h f cx cy e v a d
         unfolding ifAdded
         not-left k w = left-out NotLeft refl w
-            (decided-by C q o h f (turnsAbout cx cy (positionOf q)) v (turns a) e (from-is ∙ i) (to-is ∙ j) (side-is ∙ not-true t k) refl)
+            (decided-by C q o h f (turnsAbout cx cy (positionOf q)) v (turns a) e (from-is ∙ i) (to-is ∙ j) (side-is ∙ not-true (ltZ (pos 0) s) (right-read r v s-is k)) refl)
 
-        pub passes : not t ≡ false → Passes q o h f v e
-        passes k = record { from = from-is ∙ i; to = to-is ∙ j; side = side-is ∙ not-false t k }
+        pub passes : leZ s (pos 0) ≡ false → Passes q o h f v e
+        passes k = record { from = from-is ∙ i; to = to-is ∙ j; side = side-is ∙ not-false (ltZ (pos 0) s) (right-read r v s-is k) }
 
   -- ---- the chain that the walks cover: its first edge
   module _ {left : WalkEnd} (A : WalkedTo Left q h cx cy v a e left) where

@@ -7,14 +7,13 @@ use borrow.Author.Tests.{not-true, not-false}
 use lib.Dec.{T, eqb}
 use lib.Ieee.{Float}
 use lib.IntN.{ℤ, pos}
-use lib.Signed.{ltZ}
+use lib.Signed.{ltZ, leZ}
+use Rattle.algebra.specs.Test.{le-not-lt}
 use Rattle.angle.specs.Angle.{turns, angleAbout, atCenter}
 use Rattle.dcel.specs.Rows.{linksOf}
 use Rattle.hull.specs.Boundary.{vertexAtCenter}
-use Rattle.math.specs.declared.LineSideInfo.{LineSideInfo}
 use Rattle.math.specs.declared.Point.{Point}
-use Rattle.math.specs.Determinant.{InRange, orient2d, sideOf, isOnLeftSide, isBehindEdge}
-use Rattle.math.specs.Side.{on-left}
+use Rattle.math.specs.Determinant.{InRange, orient2d, isBehindEdge}
 use Rattle.ring.specs.Center.{turnsAbout}
 use Rattle.ring.specs.declared.Side.the-variants.{Left, Right}
 use Rattle.sums.specs.Half.{rev}
@@ -36,29 +35,32 @@ level {u} {w} {t} {s} {b} e z f y g = g ∙ rw (← f, ← e, not-false t z, not
     same true = refl
     same false = refl
 
--- the side, from what was read
-module _ (r : Ends) (v : Point) {s : LineSideInfo} {t : Bool} (i : s ≡ sideOf (orient2d (r .from) (r .to) v)) (j : t ≡ isOnLeftSide s) where
-  left-read : t ≡ ltZ (pos 0) (orient2d (r .from) (r .to) v)
-  left-read = j ∙ ap isOnLeftSide i ∙ on-left (orient2d (r .from) (r .to) v)
+-- the side, by the area s that was read: `s <= 0` is not `s > 0`
+module _ (r : Ends) (v : Point) {s : ℤ} (i : s ≡ orient2d (r .from) (r .to) v) where
+  left-read : ltZ (pos 0) s ≡ ltZ (pos 0) (orient2d (r .from) (r .to) v)
+  left-read = ap (ltZ (pos 0)) i
+
+  pub right-read : {t : Bool} → leZ s (pos 0) ≡ t → not (ltZ (pos 0) s) ≡ t
+  right-read k = sym (le-not-lt s (pos 0)) ∙ k
 
   module _ (behind : Bool) (near : Point) (cx cy a : Float) where
     abbrev level-with : Bool
     level-with = eqb (turns a) (turns (angleAbout (near .x) (near .y) cx cy))
 
-    pub test-unseen : not t ≡ true → false ≡ coverTest r v behind near cx cy a
+    pub test-unseen : leZ s (pos 0) ≡ true → false ≡ coverTest r v behind near cx cy a
     unfolding coverTest
-    test-unseen = unseen (not behind || level-with) left-read
+    test-unseen z = unseen (not behind || level-with) left-read (right-read z)
 
-    module _ (z : not t ≡ false) where
+    module _ (z : leZ s (pos 0) ≡ false) where
       pub test-ahead : not behind ≡ true → true ≡ coverTest r v behind near cx cy a
       unfolding coverTest
-      test-ahead = ahead level-with {b = behind} left-read z refl
+      test-ahead = ahead level-with {b = behind} left-read (right-read z) refl
 
       pub test-level : not behind ≡ false → {x y : ℤ} {g : Float} {u : Bool} → x ≡ near .x → y ≡ near .y
           → g ≡ angleAbout x y cx cy → u ≡ eqb (turns a) (turns g) → u ≡ coverTest r v behind near cx cy a
       unfolding coverTest
       test-level k x-is y-is g-is u-is =
-          level {w = level-with} {b = behind} left-read z refl k
+          level {w = level-with} {b = behind} left-read (right-read z) refl k
           (u-is ∙ ap (λ (g : Float). eqb (turns a) (turns g)) {y = angleAbout (near .x) (near .y) cx cy} (g-is ∙ rw (x-is, y-is)))
 
 pub apart-read : (near : Point) (cx cy : Float) {x y : ℤ} → x ≡ near .x → y ≡ near .y → T (not (atCenter (near .x) (near .y) cx cy))
@@ -73,9 +75,9 @@ module _ (q : List ℤ) (h : List ℕ) (d : ℕ) {r : Ends} (E : EndsOf q h d r)
   to-range R = rw (E .to) (R .to .range)
 
   module _ (v : Point) where
-    pub sees-is : {s : LineSideInfo} {t : Bool} → s ≡ sideOf (orient2d (r .from) (r .to) v) → t ≡ isOnLeftSide s
-        → t ≡ ltZ (pos 0) (orient2d (originPosition q h d) (originPosition q h (rev d)) v)
-    sees-is i j = left-read r v i j ∙ ap₂ (λ (x y : Point). ltZ (pos 0) (orient2d x y v)) (E .from) (E .to)
+    pub sees-is : {s : ℤ} → s ≡ orient2d (r .from) (r .to) v
+        → ltZ (pos 0) s ≡ ltZ (pos 0) (orient2d (originPosition q h d) (originPosition q h (rev d)) v)
+    sees-is i = left-read r v i ∙ ap₂ (λ (x y : Point). ltZ (pos 0) (orient2d x y v)) (E .from) (E .to)
 
     -- the two tests, by the ends that were read
     module _ (cx cy a : Float) where

@@ -105,7 +105,7 @@ fn covers(ends: Ends, point: Point, behind: bool, near: Point, angle: f64, cente
 {
     let from = ends.from;
     let to = ends.to;
-    if !math::side_query(from, to, point).is_on_left_side() {
+    if math::side_query(from, to, point) <= 0 {
         return false;
     }
     if !behind {
@@ -276,7 +276,7 @@ fn decide_at(
     if math::is_position(point, to) {
         return leave(Fate::Dropped);
     }
-    if !math::side_query(from, to, point).is_on_left_side() {
+    if math::side_query(from, to, point) <= 0 {
         return leave(Fate::NotLeft);
     }
     let left = walk_left(positions, halves, e, point, angle, center);

@@ -4,17 +4,16 @@ use mathlib.Core.List.{List}
 use mathlib.Core.Path.{_≡_, refl, _∙_, ap, subst⁻¹}
 use Prim.Native.Nat.{ℕ, _<_}
 use native.Mathlib.Omega.{arith}
-use lib.IntN.{ℤ}
+use lib.IntN.{ℤ, pos}
+use lib.Signed.{ltZ}
 use Rattle.apply.specs.declared.Walked.{Walked}
 use Rattle.apply.specs.ApplyRows.{walkingOf, besideIn}
 use Rattle.circle_test.specs.GoodRows.{GoodRows, held}
 use Rattle.corner.specs.CornerRows.{extendedOf}
 use Rattle.dcel.specs.Rows.{halvesOf, linksOf, positionOf, Placed}
 use Rattle.dcel.specs.MeshHeld.{there, there-rev, prev-in, next-in, origin-in, to-in}
-use Rattle.math.specs.declared.LineSideInfo.{LineSideInfo}
 use Rattle.math.specs.declared.Point.{Point}
-use Rattle.math.specs.Determinant.{InRange, orient2d, sideOf, isOnLeftSide}
-use Rattle.math.specs.Side.{on-left}
+use Rattle.math.specs.Determinant.{InRange, orient2d}
 use Rattle.mesh.specs.declared.Counts.{Counts}
 use Rattle.mesh.specs.Mesh.{In}
 use Rattle.ring.specs.declared.Side.{Side}
@@ -29,11 +28,11 @@ use Rattle.insert_outside.specs.OutsideRows.{SightReady, BesideReady}
 pub in-range : (q : List ℤ) {p : Point} {u w : ℕ} → p ≡ positionOf q u → u ≡ w → Placed q w → InRange p
 in-range q e f h = subst⁻¹ InRange (e ∙ ap (positionOf q) f) (h .range)
 
-pub side-seen : (q : List ℤ) (h : List ℕ) (d : ℕ) (v : Point) {u w : ℕ} {p1 p2 : Point} {s : LineSideInfo} {r : Bool}
+pub side-seen : (q : List ℤ) (h : List ℕ) (d : ℕ) (v : Point) {u w : ℕ} {p1 p2 : Point} {s : ℤ}
     → u ≡ halvesOf h .origin d → w ≡ halvesOf h .origin (rev d) → p1 ≡ positionOf q u → p2 ≡ positionOf q w
-    → s ≡ sideOf (orient2d p1 p2 v) → r ≡ isOnLeftSide s → (o a : List ℕ) → r ≡ seesEdge (linksOf o h a) (positionOf q) v d
+    → s ≡ orient2d p1 p2 v → (o a : List ℕ) → ltZ (pos 0) s ≡ seesEdge (linksOf o h a) (positionOf q) v d
 unfolding linksOf
-side-seen q h d v {p1 = p1} {p2} x y i j s r o a = r ∙ ap isOnLeftSide s ∙ on-left (orient2d p1 p2 v) ∙ rw (i, j, x, y) refl
+side-seen q h d v x y i j s o a = ap (ltZ (pos 0)) s ∙ rw (i, j, x, y) refl
 
 -- ---- of the edge beside the current one
 pub beside-is : (side : Side) (o h a : List ℕ) (e : ℕ) → besideIn side (halvesOf h) e ≡ beside side (linksOf o h a) e

@@ -66,7 +66,7 @@ fn sees_edge(positions: &[i32], halves: &[u32], d: u32, point: Point) -> bool
     let w = dcel::to(halves, d);
     let from = dcel::position(positions, u);
     let to = dcel::position(positions, w);
-    math::side_query(from, to, point).is_on_left_side()
+    math::side_query(from, to, point) > 0
 }
 
 // Whether a loop goes on: no flip was refused, and the edge beside the current one is seen.

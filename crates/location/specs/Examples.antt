@@ -15,7 +15,7 @@ use Rattle.sums.specs.Half.{rev}
 use Rattle.sums.specs.Iterate.{reaches, period-below}
 use Rattle.sums.specs.Until.{until, when}
 use Rattle.math.specs.declared.Point.{Point}
-use Rattle.math.specs.Determinant.{orient2d, length2, isPosition, isCoordinate}
+use Rattle.math.specs.Determinant.{orient2d, bySign, length2, isPosition, isCoordinate}
 use Rattle.mesh.specs.declared.Counts.{Counts}
 use Rattle.mesh.specs.Mesh.{Links}
 use Rattle.mesh.specs.Wf.{Wf}
@@ -26,7 +26,7 @@ use Rattle.location.specs.declared.PositionInTriangulation.{PositionInTr
 use Rattle.location.specs.declared.PositionInTriangulation.the-variants.{OnVertex, OnFace, OnEdge, OutsideOfConvexHull}
 use Rattle.location.specs.declared.SearchState.the-variants.{Onward}
 use Rattle.location.specs.Place.{InFace, InEdge}
-use Rattle.location.specs.Search.{firstCloser, isNearest, nearer, nearest, acrossEdge, rotateCcw, rotateCw, bySide, searchTurn, ended, advance, searchFrom}
+use Rattle.location.specs.Search.{firstCloser, isNearest, nearer, nearest, beyond, acrossEdge, rotateCcw, rotateCw, onLine, bySide, searchTurn, ended, advance, searchFrom}
 use Rattle.location.specs.Scan.{holdsAt, placeAt, firstHolding, firstLeft, scan, answer, locatePoint}
 use Rattle.location.specs.LocateLaws.{locate-certified}
 use Rattle.location.specs.LimitLaws.{search-limit}
@@ -76,24 +76,24 @@ scans x y = scan wheelCounts wheel corners (at x y)
 
 -- the search: at the centre, inside triangle 1, on the spoke from 0, on the square's lower edge, beyond its right edge
 at-centre : locates (pos 2) (pos 2) ≡ OnVertex 4
-unfolding wheel corners orient2d length2 rev isCoordinate boundaryLength period-below first-below until when isPosition firstCloser isNearest nearer nearest acrossEdge rotateCcw rotateCw bySide searchTurn ended advance searchFrom holdsAt placeAt firstHolding firstLeft scan answer locatePoint
+unfolding wheel corners orient2d length2 rev isCoordinate boundaryLength period-below first-below until when isPosition firstCloser isNearest nearer nearest beyond acrossEdge rotateCcw rotateCw onLine bySide bySign searchTurn ended advance searchFrom holdsAt placeAt firstHolding firstLeft scan answer locatePoint
 at-centre = refl
 
 in-triangle : locates (pos 2) (pos 1) ≡ OnFace 1
-unfolding wheel corners orient2d length2 rev isCoordinate boundaryLength period-below first-below until when isPosition firstCloser isNearest nearer nearest acrossEdge rotateCcw rotateCw bySide searchTurn ended advance searchFrom holdsAt placeAt firstHolding firstLeft scan answer locatePoint
+unfolding wheel corners orient2d length2 rev isCoordinate boundaryLength period-below first-below until when isPosition firstCloser isNearest nearer nearest beyond acrossEdge rotateCcw rotateCw onLine bySide bySign searchTurn ended advance searchFrom holdsAt placeAt firstHolding firstLeft scan answer locatePoint
 in-triangle = refl
 
 on-spoke : locates (pos 1) (pos 1) ≡ OnEdge 8
-unfolding wheel corners orient2d length2 rev isCoordinate boundaryLength period-below first-below until when isPosition firstCloser isNearest nearer nearest acrossEdge rotateCcw rotateCw bySide searchTurn ended advance searchFrom holdsAt placeAt firstHolding firstLeft scan answer locatePoint
+unfolding wheel corners orient2d length2 rev isCoordinate boundaryLength period-below first-below until when isPosition firstCloser isNearest nearer nearest beyond acrossEdge rotateCcw rotateCw onLine bySide bySign searchTurn ended advance searchFrom holdsAt placeAt firstHolding firstLeft scan answer locatePoint
 on-spoke = refl
 
 on-boundary : locates (pos 3) (pos 0) ≡ OnEdge 0
-unfolding wheel corners orient2d length2 rev isCoordinate boundaryLength period-below first-below until when isPosition firstCloser isNearest nearer nearest acrossEdge rotateCcw rotateCw bySide searchTurn ended advance searchFrom holdsAt placeAt firstHolding firstLeft scan answer locatePoint
+unfolding wheel corners orient2d length2 rev isCoordinate boundaryLength period-below first-below until when isPosition firstCloser isNearest nearer nearest beyond acrossEdge rotateCcw rotateCw onLine bySide bySign searchTurn ended advance searchFrom holdsAt placeAt firstHolding firstLeft scan answer locatePoint
 on-boundary = refl
 
-beyond : locates (pos 6) (pos 2) ≡ OutsideOfConvexHull 3
-unfolding wheel corners orient2d length2 rev isCoordinate boundaryLength period-below first-below until when isPosition firstCloser isNearest nearer nearest acrossEdge rotateCcw rotateCw bySide searchTurn ended advance searchFrom holdsAt placeAt firstHolding firstLeft scan answer locatePoint
-beyond = refl
+outside : locates (pos 6) (pos 2) ≡ OutsideOfConvexHull 3
+unfolding wheel corners orient2d length2 rev isCoordinate boundaryLength period-below first-below until when isPosition firstCloser isNearest nearer nearest beyond acrossEdge rotateCcw rotateCw onLine bySide bySign searchTurn ended advance searchFrom holdsAt placeAt firstHolding firstLeft scan answer locatePoint
+outside = refl
 
 -- the scan of the same points: it names the spoke by the other half, which is triangle 1's
 scan-centre : scans (pos 2) (pos 2) ≡ OnVertex 4
@@ -150,18 +150,18 @@ pinwheel-turning = record { left = λ {f} i l. ltZ-yes (implies→ (ltb 0 f) _ (
 -- near the middle of its blades
 round-and-round : ended (searchFrom pinwheelCounts pinwheel blades (at (negsuc 0) (pos 0))
     (pinwheel .out (nearest pinwheelCounts pinwheel blades (at (negsuc 0) (pos 0))))) ≡ false
-unfolding pinwheel blades orient2d length2 rev isCoordinate boundaryLength period-below first-below until when isPosition firstCloser isNearest nearer nearest acrossEdge rotateCcw rotateCw bySide searchTurn ended advance searchFrom holdsAt placeAt firstHolding firstLeft scan answer locatePoint
+unfolding pinwheel blades orient2d length2 rev isCoordinate boundaryLength period-below first-below until when isPosition firstCloser isNearest nearer nearest beyond acrossEdge rotateCcw rotateCw onLine bySide bySign searchTurn ended advance searchFrom holdsAt placeAt firstHolding firstLeft scan answer locatePoint
 round-and-round = refl
 
 round-17 : ended (searchFrom pinwheelCounts pinwheel blades (at (negsuc 0) (pos 0)) 17) ≡ false
-unfolding pinwheel blades orient2d rev isCoordinate until when isPosition acrossEdge rotateCcw rotateCw bySide searchTurn ended advance searchFrom
+unfolding pinwheel blades orient2d rev isCoordinate until when isPosition beyond acrossEdge rotateCcw rotateCw onLine bySide bySign searchTurn ended advance searchFrom
 round-17 = refl
 
 for-ever-round : (n : ℕ) → ended (until ended (advance pinwheel blades (at (negsuc 0) (pos 0))) n (Onward 17)) ≡ false
 for-ever-round n = search-limit pinwheel-wf blades (at (negsuc 0) (pos 0)) {e = 17} (lit< tt) round-17 n
 
 scan-answers : locatePoint pinwheelCounts pinwheel blades (at (negsuc 0) (pos 0)) ≡ OnFace 3
-unfolding pinwheel blades orient2d length2 rev isCoordinate boundaryLength period-below first-below until when isPosition firstCloser isNearest nearer nearest acrossEdge rotateCcw rotateCw bySide searchTurn ended advance searchFrom holdsAt placeAt firstHolding firstLeft scan answer locatePoint
+unfolding pinwheel blades orient2d length2 rev isCoordinate boundaryLength period-below first-below until when isPosition firstCloser isNearest nearer nearest beyond acrossEdge rotateCcw rotateCw onLine bySide bySign searchTurn ended advance searchFrom holdsAt placeAt firstHolding firstLeft scan answer locatePoint
 scan-answers = refl
 
 scan-holds : InFace pinwheelCounts pinwheel blades (at (negsuc 0) (pos 0)) 3
@@ -186,9 +186,9 @@ unfoldable folded : ℕ → Point
 folded i = getD (at (pos 0) (pos 2) ∷ at (pos 3) (pos 0) ∷ at (pos 1) (pos 2) ∷ at (pos 3) (negsuc 0) ∷ at (pos 5) (pos 5) ∷ []) i (at (pos 0) (pos 0))
 
 fold-search : locatePoint foldCounts fold folded (at (pos 3) (pos 1)) ≡ OutsideOfConvexHull 3
-unfolding fold folded orient2d length2 rev isCoordinate boundaryLength period-below first-below until when isPosition firstCloser isNearest nearer nearest acrossEdge rotateCcw rotateCw bySide searchTurn ended advance searchFrom holdsAt placeAt firstHolding firstLeft scan answer locatePoint
+unfolding fold folded orient2d length2 rev isCoordinate boundaryLength period-below first-below until when isPosition firstCloser isNearest nearer nearest beyond acrossEdge rotateCcw rotateCw onLine bySide bySign searchTurn ended advance searchFrom holdsAt placeAt firstHolding firstLeft scan answer locatePoint
 fold-search = refl
 
 fold-scan : scan foldCounts fold folded (at (pos 3) (pos 1)) ≡ OnFace 3
-unfolding fold folded orient2d length2 rev isCoordinate boundaryLength period-below first-below until when isPosition firstCloser isNearest nearer nearest acrossEdge rotateCcw rotateCw bySide searchTurn ended advance searchFrom holdsAt placeAt firstHolding firstLeft scan answer locatePoint
+unfolding fold folded orient2d length2 rev isCoordinate boundaryLength period-below first-below until when isPosition firstCloser isNearest nearer nearest beyond acrossEdge rotateCcw rotateCw onLine bySide bySign searchTurn ended advance searchFrom holdsAt placeAt firstHolding firstLeft scan answer locatePoint
 fold-scan = refl

@@ -1,10 +1,11 @@
 -- The answers of point location, and what each claims of the mesh. Definitions only; `SearchLaws` and `ScanLaws` prove the claims.
+use mathlib.Core.Bool.{Bool}
 use mathlib.Core.Path.{_≡_}
 use Prim.Native.Nat.{ℕ, _<_}
 use lib.IntN.{ℤ, pos}
-use lib.Signed.{_<ℤ_}
+use lib.Signed.{ltZ, _<ℤ_}
 use Rattle.math.specs.declared.Point.{Point}
-use Rattle.math.specs.Determinant.{orient2d}
+use Rattle.math.specs.Determinant.{orient2d, isCoordinate}
 use Rattle.mesh.specs.declared.Counts.{Counts}
 use Rattle.mesh.specs.Mesh.{Links, In, to}
 use Rattle.location.specs.declared.PositionInTriangulation.{PositionInTriangulation}
@@ -19,6 +20,16 @@ areaAt L p q e = orient2d (p (L .origin e)) (p (to L e)) q
 -- q is strictly left of e
 abbrev pub LeftOf : Links → (ℕ → Point) → Point → ℕ → Type 0
 LeftOf L p q e = pos 0 <ℤ areaAt L p q e
+
+-- ---- the tests
+abbrev pub isLeft : Links → (ℕ → Point) → Point → ℕ → Bool
+isLeft L p q e = ltZ (pos 0) (areaAt L p q e)
+
+abbrev pub isRight : Links → (ℕ → Point) → Point → ℕ → Bool
+isRight L p q e = ltZ (areaAt L p q e) (pos 0)
+
+abbrev pub isOnLine : Links → (ℕ → Point) → Point → ℕ → Bool
+isOnLine L p q e = isCoordinate (areaAt L p q e) (pos 0)
 
 -- ---- what an answer claims: the condition of the operation that it leads to
 pub record AtVertex (C : Counts) (p : ℕ → Point) (q : Point) (v : ℕ) : Type 0 where

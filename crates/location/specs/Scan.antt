@@ -2,29 +2,18 @@
 use mathlib.Core.Bool.{Bool, not, _&&_, cond}
 use Prim.Native.Nat.{ℕ, suc, _-_}
 use lib.Dec.{ltb}
-use lib.IntN.{pos}
-use lib.Signed.{ltZ}
 use Rattle.sums.specs.Bounded.{first-below}
 use Rattle.math.specs.declared.Point.{Point}
 use Rattle.mesh.specs.declared.Counts.{Counts}
 use Rattle.mesh.specs.Mesh.{Links}
 use Rattle.mesh.specs.Area.{boundaryLength, hullEdge}
-use Rattle.math.specs.Determinant.{isCoordinate, isPosition}
+use Rattle.math.specs.Determinant.{isPosition}
 use Rattle.location.specs.declared.PositionInTriangulation.{PositionInTriangulation}
 use Rattle.location.specs.declared.PositionInTriangulation.the-variants.{OnVertex, OnFace, OnEdge, OutsideOfConvexHull}
 use Rattle.location.specs.declared.SearchState.{SearchState}
 use Rattle.location.specs.declared.SearchState.the-variants.{Found, Onward}
-use Rattle.location.specs.Place.{areaAt}
+use Rattle.location.specs.Place.{isLeft, isRight, isOnLine}
 use Rattle.location.specs.Search.{isNearest, nearest, searchFrom}
-
-abbrev pub isLeft : Links → (ℕ → Point) → Point → ℕ → Bool
-isLeft L p q e = ltZ (pos 0) (areaAt L p q e)
-
-abbrev pub isRight : Links → (ℕ → Point) → Point → ℕ → Bool
-isRight L p q e = ltZ (areaAt L p q e) (pos 0)
-
-abbrev pub isOnLine : Links → (ℕ → Point) → Point → ℕ → Bool
-isOnLine L p q e = isCoordinate (areaAt L p q e) (pos 0)
 
 -- the triangle of a holds q: q is strictly right of none of its three half-edges
 unfoldable pub holdsAt : Links → (ℕ → Point) → Point → ℕ → Bool

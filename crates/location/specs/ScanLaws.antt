@@ -27,10 +27,10 @@ use Rattle.math.specs.Position.{same-coordinate, coordinate-same, same-position
 use Rattle.covering.specs.Holds.{Holds, HoldsFace}
 use Rattle.covering.specs.HoldsLaws.{at-corner}
 use Rattle.location.specs.declared.PositionInTriangulation.the-variants.{OnVertex, OnFace, OnEdge, OutsideOfConvexHull}
-use Rattle.location.specs.Place.{areaAt, LeftOf, AtVertex, Certified}
+use Rattle.location.specs.Place.{isLeft, isRight, isOnLine, areaAt, LeftOf, AtVertex, Certified}
 use Rattle.location.specs.SearchLaws.{in-face, in-edge}
 use Rattle.location.specs.HeldLaws.{held}
-use Rattle.location.specs.Scan.{isLeft, isRight, isOnLine, holdsAt, placeAt, firstHolding, firstLeft, scan}
+use Rattle.location.specs.Scan.{holdsAt, placeAt, firstHolding, firstLeft, scan}
 
 -- ---- tests
 strict : (z : ℤ) → pos 0 ≤ℤ z → (z ≡ pos 0 → ⊥) → pos 0 <ℤ z

@@ -7,18 +7,16 @@ use Prim.Native.Nat.{ℕ, _*_, _<_}
 use native.Mathlib.Omega.{arith}
 use lib.Dec.{eqb, eqb→eq}
 use lib.IntN.{ℤ, pos, negℤ}
-use lib.Signed.{_<ℤ_}
+use lib.Signed.{_<ℤ_, ltZ-yes}
 use Rattle.algebra.specs.Order.{neg-0<}
 use Rattle.sums.specs.Bit.{from-true, from-false, eq?}
 use Rattle.sums.specs.Half.{rev, rev-rev}
 use Rattle.sums.specs.Iterate.{iter-keeps}
 use Rattle.sums.specs.Until.{until-holds}
 use Rattle.math.specs.declared.Point.{Point}
-use Rattle.math.specs.declared.LineSideInfo.{LineSideInfo}
-use Rattle.math.specs.declared.LineSideInfo.the-variants.{OnLeftSide, OnRightSide, OnLine}
 use Rattle.math.specs.Determinant.{orient2d, isPosition}
 use Rattle.math.specs.Plane.{orient2d-swap}
-use Rattle.math.specs.Side.{is-left, is-right, is-on-line}
+use Rattle.math.specs.Side.{by-sign}
 use Rattle.mesh.specs.declared.Counts.{Counts}
 use Rattle.mesh.specs.Mesh.{Links, In, to, turn}
 use Rattle.mesh.specs.Wf.{Wf}
@@ -29,8 +27,8 @@ use Rattle.location.specs.declared.PositionInTriangulation.{PositionInTr
 use Rattle.location.specs.declared.PositionInTriangulation.the-variants.{OnVertex, OutsideOfConvexHull}
 use Rattle.location.specs.declared.SearchState.{SearchState}
 use Rattle.location.specs.declared.SearchState.the-variants.{Found, Onward}
-use Rattle.location.specs.Place.{areaAt, LeftOf, InFace, InEdge, Certified, Sound}
-use Rattle.location.specs.Search.{sideAt, isOuter, firstCloser, isNearest, nearer, nearest, acrossEdge, rotateCcw, rotateCw, bySide, searchTurn, ended, advance, searchFrom}
+use Rattle.location.specs.Place.{areaAt, isLeft, isRight, LeftOf, InFace, InEdge, Certified, Sound}
+use Rattle.location.specs.Search.{isOuter, firstCloser, isNearest, nearer, nearest, beyond, acrossEdge, rotateCcw, rotateCw, onLine, bySide, searchTurn, ended, advance, searchFrom}
 
 -- ---- tests
 pub not-outer : (n : ℕ) → eqb n 0 ≡ false → 0 < n
@@ -74,60 +72,57 @@ module _ {C : Counts} {L : Links} (W : Wf C L) (p : ℕ → Point) (q : Point) w
     left-prev = subst (λ (d : ℕ). LeftOf L p q d) (sym (t .prev-b)) la;
   }
 
-  -- e and f
   across-sound : {a b c : ℕ} → Triangle C L a b c → 0 < L .face a → LeftOf L p q a → LeftOf L p q c → {e1 : ℕ} → L .face e1 ≡ L .face a
-      → (s : LineSideInfo) → sideAt L p q b ≡ s → Sound C L p q (acrossEdge L e1 b s)
-  unfolding acrossEdge
-  across-sound {a} {b} {c} t i la lc m OnLine e = in-edge t i la (is-on-line (areaAt L p q b) e) lc
-  across-sound {a} {b} {c} t i la lc m OnLeftSide e = subst (InFace C L p q) (sym m) (in-face t i la (is-left (areaAt L p q b) e) lc)
-  across-sound {a} {b} {c} t i la lc m OnRightSide e = go (isOuter L (rev b))
+      → Sound C L p q (acrossEdge L e1 b (areaAt L p q b))
+  unfolding acrossEdge beyond
+  across-sound {b = b} t i la lc m =
+      by-sign (Sound C L p q) (areaAt L p q b)
+      (λ lb. subst (InFace C L p q) (sym m) (in-face t i la lb lc))
+      (λ r. go (isOuter L (rev b)))
+      (λ z. in-edge t i la z lc)
     where
       go : (o : Bool) → In C (cond o (rev b) (L .prev (rev b)))
       go true = rev-in C (t .in-b)
       go false = W .ranges .prev< (rev-in C (t .in-b))
 
-  ccw-sound : {e : ℕ} → In C e → 0 < L .face e → LeftOf L p q e → (s : LineSideInfo)
-      → sideAt L p q (rev (L .prev e)) ≡ s → Sound C L p q (rotateCcw L p q e s)
+  ccw-sound : {e : ℕ} → In C e → LeftOf L p q e → Sound C L p q (rotateCcw L p q e)
   unfolding rotateCcw
-  ccw-sound {e} h i l OnLine k = rev-in C (W .ranges .prev< h)
-  ccw-sound {e} h i l OnLeftSide k = rev-in C (W .ranges .prev< h)
-  ccw-sound {e} h i l OnRightSide k =
-      across-sound (triangle W h i) i l (left-back L p q (L .prev e) (is-right (areaAt L p q (rev (L .prev e))) k)) refl (sideAt L p q (L .next e)) refl
+  ccw-sound {e} h l = go (isOuter L e) (isRight L p q (rev (L .prev e))) refl refl
+    where
+      go : (o r : Bool) → isOuter L e ≡ o → isRight L p q (rev (L .prev e)) ≡ r
+          → Sound C L p q (cond o (Found (OutsideOfConvexHull e))
+          (cond r (acrossEdge L e (L .next e) (areaAt L p q (L .next e))) (Onward (rev (L .prev e)))))
+      go true r x y = record { used = h; outer = eqb→eq (L .face e) 0 (from-true x); left = l }
+      go false true x y =
+          let i = not-outer (L .face e) x in
+          across-sound (triangle W h i) i l (left-back L p q (L .prev e) (ltZ-yes (from-true y))) refl
+      go false false x y = rev-in C (W .ranges .prev< h)
 
-  cw-sound : {e : ℕ} → In C e → 0 < L .face (rev e) → LeftOf L p q (rev e) → (s : LineSideInfo)
-      → sideAt L p q (L .next (rev e)) ≡ s → Sound C L p q (rotateCw L p q e s)
+  cw-sound : {e : ℕ} → In C e → LeftOf L p q (rev e) → Sound C L p q (rotateCw L p q e)
   unfolding rotateCw
-  cw-sound {e} h i l OnLine k = W .ranges .next< (rev-in C h)
-  cw-sound {e} h i l OnRightSide k = W .ranges .next< (rev-in C h)
-  cw-sound {e} h i l OnLeftSide k =
-      let t = triangle W (rev-in C h) i in
-      across-sound (next-triangle t) (subst (λ (f : ℕ). 0 < f) (sym (t .face-b)) i) (is-left (areaAt L p q (L .next (rev e))) k) l (sym (t .face-b))
-      (sideAt L p q (L .prev (rev e))) refl
+  cw-sound {e} h l = go (isOuter L (rev e)) (isLeft L p q (L .next (rev e))) refl refl
+    where
+      go : (o r : Bool) → isOuter L (rev e) ≡ o → isLeft L p q (L .next (rev e)) ≡ r
+          → Sound C L p q (cond o (Found (OutsideOfConvexHull (rev e)))
+          (cond r (acrossEdge L (rev e) (L .prev (rev e)) (areaAt L p q (L .prev (rev e)))) (Onward (L .next (rev e)))))
+      go true r x y = record { used = rev-in C h; outer = eqb→eq (L .face (rev e)) 0 (from-true x); left = l }
+      go false true x y =
+          let i = not-outer (L .face (rev e)) x in
+          let t = triangle W (rev-in C h) i in
+          across-sound (next-triangle t) (subst (λ (f : ℕ). 0 < f) (sym (t .face-b)) i) (ltZ-yes (from-true y)) l (sym (t .face-b))
+      go false false x y = W .ranges .next< (rev-in C h)
 
-  side-sound : {e : ℕ} → In C e → (s : LineSideInfo) → sideAt L p q e ≡ s → Sound C L p q (bySide L p q e s)
-  unfolding bySide
-  side-sound {e} h OnLine k = W .ranges .prev< (go (isOuter L e))
+  side-sound : {e : ℕ} → In C e → Sound C L p q (bySide L p q e)
+  unfolding bySide onLine
+  side-sound {e} h =
+      by-sign (Sound C L p q) (areaAt L p q e)
+      (λ l. ccw-sound h l)
+      (λ r. cw-sound h (left-rev L p q e r))
+      (λ z. W .ranges .prev< (go (isOuter L e)))
     where
       go : (o : Bool) → In C (cond o (rev e) e)
       go true = rev-in C h
       go false = h
-  side-sound {e} h OnLeftSide k = go (isOuter L e) refl
-    where
-      l : LeftOf L p q e
-      l = is-left (areaAt L p q e) k
-
-      go : (o : Bool) → isOuter L e ≡ o → Sound C L p q (cond o (Found (OutsideOfConvexHull e)) (rotateCcw L p q e (sideAt L p q (rev (L .prev e)))))
-      go true x = record { used = h; outer = eqb→eq (L .face e) 0 (from-true x); left = l }
-      go false x = ccw-sound h (not-outer (L .face e) x) l (sideAt L p q (rev (L .prev e))) refl
-  side-sound {e} h OnRightSide k = go (isOuter L (rev e)) refl
-    where
-      l : LeftOf L p q (rev e)
-      l = left-rev L p q e (is-right (areaAt L p q e) k)
-
-      go : (o : Bool) → isOuter L (rev e) ≡ o
-          → Sound C L p q (cond o (Found (OutsideOfConvexHull (rev e))) (rotateCw L p q e (sideAt L p q (L .next (rev e)))))
-      go true x = record { used = rev-in C h; outer = eqb→eq (L .face (rev e)) 0 (from-true x); left = l }
-      go false x = cw-sound h (not-outer (L .face (rev e)) x) l (sideAt L p q (L .next (rev e))) refl
 
   -- ONE TURN
   pub turn-sound : {e : ℕ} → In C e → Sound C L p q (searchTurn L p q e)
@@ -135,10 +130,10 @@ module _ {C : Counts} {L : Links} (W : Wf C L) (p : ℕ → Point) (q : Point) w
   turn-sound {e} h = go (isPosition (p (L .origin e)) q) (isPosition (p (to L e)) q) refl refl
     where
       go : (a b : Bool) → isPosition (p (L .origin e)) q ≡ a → isPosition (p (to L e)) q ≡ b
-          → Sound C L p q (cond a (Found (OnVertex (L .origin e))) (cond b (Found (OnVertex (to L e))) (bySide L p q e (sideAt L p q e))))
+          → Sound C L p q (cond a (Found (OnVertex (L .origin e))) (cond b (Found (OnVertex (to L e))) (bySide L p q e)))
       go true b x y = record { used = W .ranges .origin< h; here = same-position (p (L .origin e)) q (from-true x) }
       go false true x y = record { used = W .ranges .origin< (rev-in C h); here = same-position (p (to L e)) q (from-true y) }
-      go false false x y = side-sound h (sideAt L p q e) refl
+      go false false x y = side-sound h
 
   -- THE WALK, from any half-edge in use, whatever it did
   pub search-sound : {e : ℕ} → In C e → Sound C L p q (searchFrom C L p q e)

@@ -10,7 +10,7 @@ use Rattle.skipped.specs.Insert.{insertIntoFace, insertInEdge, coverEdge, outsi
 use Rattle.skipped.specs.Insert.{positionFate, positionVertex, isNew, placesAt, meshAt, insertPoint}
 use Rattle.insertion.specs.Operations.{intoTriangle, insertIntoTriangle, edgeBetween, splitEdge}
 use Rattle.insertion.specs.Operations.{halfEdgeBetween, splitHalfEdge, insertOnEdge, withEdgeVertex}
-use Rattle.location.specs.Search.{firstCloser, isNearest, nearer, nearest, acrossEdge, rotateCcw, rotateCw, bySide, searchTurn}
+use Rattle.location.specs.Search.{firstCloser, isNearest, nearer, nearest, beyond, acrossEdge, rotateCcw, rotateCw, onLine, bySide, searchTurn}
 use Rattle.location.specs.Search.{ended, advance, searchFrom}
 use Rattle.location.specs.Scan as scans
 use Rattle.sweep.specs.SeedTriangle.{seedOuts, seedHalves, seedFaces}
@@ -41,7 +41,7 @@ use Rattle.segment.specs.Arc.{holds, gap, wide}
 use Rattle.angle.specs.Angle.{absoluteOf, slope, ofDiff, pseudoAngle, angleAbout, bounded, validCenter, isNumber, atCenter, validAngle}
 use Rattle.dcel.specs.MeshRows.{meshRowsFrom}
 use Rattle.dcel.specs.Rows.{halvesOf, rowOf, positionOf, linksOf, rowFrom, field, halvesIn, halvesFrom, coordinate, positionsFrom}
-use Rattle.math.specs.Determinant.{orient2d, incircle, height, factor, length2, isCoordinate, isPosition}
+use Rattle.math.specs.Determinant.{orient2d, bySign, incircle, height, factor, length2, isCoordinate, isPosition}
 use Rattle.sums.specs.Bounded.{all-below, any-below, first-below}
 use Rattle.sums.specs.Half.{rev}
 use Rattle.sums.specs.Iterate.{reaches, period-below}
@@ -61,7 +61,7 @@ unfolding seedOuts seedHalves seedFaces
     insertIntoFace insertInEdge coverEdge outsideEnds outsideTurn outsideWalk insertOutside
     positionFate positionVertex isNew placesAt meshAt insertPoint
     intoTriangle insertIntoTriangle edgeBetween splitEdge halfEdgeBetween splitHalfEdge insertOnEdge withEdgeVertex
-    firstCloser isNearest nearer nearest acrossEdge rotateCcw rotateCw bySide searchTurn ended advance searchFrom
+    firstCloser isNearest nearer nearest beyond acrossEdge rotateCcw rotateCw onLine bySide bySign searchTurn ended advance searchFrom
     scans.holdsAt scans.placeAt scans.firstHolding scans.firstLeft scans.scan scans.answer scans.locatePoint
     isAdded leftAlone addedAt appliedBy applied stepMesh
     sweepRowsShort sweepChecked

@@ -5,15 +5,13 @@
 -- 01: "`robust::orient2d` and `robust::incircle` mean the exact sign of Shewchuk's determinants", "Left is strictly positive."
 -- A formula is written once, over any numbers R with a sum ⊞, a difference ⊟, a product ⊠ and a one: at ℤ it is what a
 -- contract says, and at the expressions `E` what the ring solver computes with.
-use mathlib.Core.Bool.{Bool, true, false, _&&_}
-use Prim.Native.Nat.{zero, suc, _≤_}
+use mathlib.Core.Bool.{Bool, true, false, cond, _&&_}
+use Prim.Native.Nat.{_≤_}
 use lib.Dec.{eqb, leb}
 use lib.IntN.{ℤ, pos, negsuc, natAbs, _+ℤ_, _-ℤ_, _*ℤ_}
 use lib.Signed.{ltZ, leZ}
 use Rattle.math.specs.declared.Point.{Point}
 use Rattle.math.specs.declared.PointProjection.{PointProjection}
-use Rattle.math.specs.declared.LineSideInfo.{LineSideInfo}
-use Rattle.math.specs.declared.LineSideInfo.the-variants.{OnLeftSide, OnRightSide, OnLine}
 
 pub record Ops (R : Type 0) : Type 0 where
   pub _⊞_ : R → R → R
@@ -110,33 +108,11 @@ unfoldable pub length2 : Point → Point → ℤ
 length2 p1 p2 = Length2 ℤ· (pt p1) (pt p2)
 
 -- ---- answers
--- line_side_info.rs: the side that a determinant means
-abbrev pub sideOf : ℤ → LineSideInfo
-sideOf (pos zero) = OnLine
-sideOf (pos (suc n)) = OnLeftSide
-sideOf (negsuc n) = OnRightSide
+-- which of three a doubled area chooses: positive the left one, negative the right one, 0 that on the line
+unfoldable pub bySign : {A : Type 0} → ℤ → A → A → A → A
+bySign area left right line = cond (ltZ (pos 0) area) left (cond (ltZ area (pos 0)) right line)
 
-abbrev pub isOnLeftSide : LineSideInfo → Bool
-isOnLeftSide OnLeftSide = true
-isOnLeftSide OnRightSide = false
-isOnLeftSide OnLine = false
-
-abbrev pub isOnRightSide : LineSideInfo → Bool
-isOnRightSide OnLeftSide = false
-isOnRightSide OnRightSide = true
-isOnRightSide OnLine = false
-
-abbrev pub isOnLine : LineSideInfo → Bool
-isOnLine OnLeftSide = false
-isOnLine OnRightSide = false
-isOnLine OnLine = true
-
-abbrev pub reverseOf : LineSideInfo → LineSideInfo
-reverseOf OnLeftSide = OnRightSide
-reverseOf OnRightSide = OnLeftSide
-reverseOf OnLine = OnLine
-
--- math.rs: `is_ordered_ccw` is `side_query(..).is_on_left_side_or_on_line()`
+-- math.rs: `is_ordered_ccw` is `side_query(..).is_on_left_side_or_on_line()`: an area of at least 0
 abbrev pub isOrderedCcw : Point → Point → Point → Bool
 isOrderedCcw p1 p2 q = leZ (pos 0) (orient2d p1 p2 q)
 

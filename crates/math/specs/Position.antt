@@ -1,9 +1,12 @@
 -- The test of equal positions says what it means, both ways. Assumes nothing.
 use mathlib.Core.Bool.{_&&_}
-use mathlib.Core.Path.{_≡_, refl, ap, subst}
-use lib.Dec.{T, eqb→eq, eqb-refl}
+use mathlib.Core.Path.{_≡_, refl, sym, _∙_, ap, subst}
+use lib.Dec.{T, eqb, eqb→eq, eqb-refl}
 use lib.IntN.{ℤ, pos, negsuc}
-use Rattle.sums.specs.Bit.{and-left, and-right, and-both}
+use mir.Facts.{toZ-ofZ}
+use mir.Syntax.{Width}
+use mir.Val.{SFits, ofZ, toZ}
+use Rattle.sums.specs.Bit.{and-left, and-right, and-both, eq-test, test-ext}
 use Rattle.math.specs.declared.Point.{Point}
 use Rattle.math.specs.Determinant.{isCoordinate, isPosition}
 
@@ -24,6 +27,12 @@ coordinate-itself (negsuc a) = eqb-refl a
 
 pub coordinate-same : (a b : ℤ) → a ≡ b → T (isCoordinate a b)
 coordinate-same a b e = subst (λ (c : ℤ). T (isCoordinate a c)) e (coordinate-itself a)
+
+-- `==` of two signed numbers compares their bits
+pub coordinate-bits : {w : Width} {a b : ℤ} → SFits w a → SFits w b → eqb (ofZ w a) (ofZ w b) ≡ isCoordinate a b
+coordinate-bits {w} {a} {b} f g = test-ext (eqb (ofZ w a) (ofZ w b)) (isCoordinate a b)
+    (λ t. coordinate-same a b (sym (toZ-ofZ f) ∙ ap (toZ w) (eqb→eq (ofZ w a) (ofZ w b) t) ∙ toZ-ofZ g))
+    (λ t. eq-test (ap (ofZ w) (same-coordinate a b t)))
 
 pub same-position : (a b : Point) → T (isPosition a b) → a ≡ b
 unfolding isPosition

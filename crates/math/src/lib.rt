@@ -1,9 +1,9 @@
-// Exact tests on points whose coordinates are within ±16,777,216, in 64-bit whole numbers: math.rs, line_side_info.rs
-// and point.rs of spade 2.15.1.
+// Exact tests on points whose coordinates are within ±16,777,216, in 64-bit whole numbers: math.rs and
+// point.rs of spade 2.15.1.
 // What each function answers is an equation with a definition of `specs/Determinant.antt`.
 ghost use mathlib.Core.Path.{_≡_};
 ghost use mathlib.Core.Bool.{not, _&&_};
-ghost use Rattle.math.specs.Determinant.{InRange, orient2d, sideOf, isOnLeftSide, isOnRightSide, isOnLine, reverseOf, containedInCircumference, isOrderedCcw, projectionOf, isBefore, isBehind, isBehindEdge, isValidCoordinate, isValidVertex, length2, isPosition};
+ghost use Rattle.math.specs.Determinant.{InRange, orient2d, containedInCircumference, isOrderedCcw, projectionOf, isBefore, isBehind, isBehindEdge, isValidCoordinate, isValidVertex, length2, isPosition};
 ghost use Rattle.math.specs.Vector.{Short, difference, dotOf, crossOf};
 
 mod wide;
@@ -24,13 +24,6 @@ pub struct Vector {
 pub struct PointProjection {
     pub factor: i64,
     pub length_2: i64,
-}
-
-// On which side of a line a point lies.
-pub enum LineSideInfo {
-    OnLeftSide,
-    OnRightSide,
-    OnLine,
 }
 
 impl Point {
@@ -90,70 +83,9 @@ impl PointProjection {
     }
 }
 
-impl LineSideInfo {
-    pub fn is_on_left_side(self) -> bool
-        ensures { λ r. ⌜ r ≡ isOnLeftSide self ⌝ }
-    {
-        match self {
-            LineSideInfo::OnLeftSide => true,
-            LineSideInfo::OnRightSide => false,
-            LineSideInfo::OnLine => false,
-        }
-    }
-
-    pub fn is_on_right_side(self) -> bool
-        ensures { λ r. ⌜ r ≡ isOnRightSide self ⌝ }
-    {
-        match self {
-            LineSideInfo::OnLeftSide => false,
-            LineSideInfo::OnRightSide => true,
-            LineSideInfo::OnLine => false,
-        }
-    }
-
-    pub fn is_on_line(self) -> bool
-        ensures { λ r. ⌜ r ≡ isOnLine self ⌝ }
-    {
-        match self {
-            LineSideInfo::OnLeftSide => false,
-            LineSideInfo::OnRightSide => false,
-            LineSideInfo::OnLine => true,
-        }
-    }
-
-    pub fn is_on_left_side_or_on_line(self) -> bool
-        ensures { λ r. ⌜ r ≡ not (isOnRightSide self) ⌝ }
-    {
-        match self {
-            LineSideInfo::OnLeftSide => true,
-            LineSideInfo::OnRightSide => false,
-            LineSideInfo::OnLine => true,
-        }
-    }
-
-    pub fn is_on_right_side_or_on_line(self) -> bool
-        ensures { λ r. ⌜ r ≡ not (isOnLeftSide self) ⌝ }
-    {
-        match self {
-            LineSideInfo::OnLeftSide => false,
-            LineSideInfo::OnRightSide => true,
-            LineSideInfo::OnLine => true,
-        }
-    }
-
-    pub fn reversed(self) -> LineSideInfo
-        ensures { λ r. ⌜ r ≡ reverseOf self ⌝ }
-    {
-        match self {
-            LineSideInfo::OnLeftSide => LineSideInfo::OnRightSide,
-            LineSideInfo::OnRightSide => LineSideInfo::OnLeftSide,
-            LineSideInfo::OnLine => LineSideInfo::OnLine,
-        }
-    }
-}
-
-// Twice the signed area of the triangle p1 p2 q: positive where q lies left of the line from p1 to p2.
-pub fn orient2d(p1: Point, p2: Point, q: Point) -> i64
+// Twice the signed area of the triangle p1 p2 q: positive where q lies left of the line from p1 to p2, negative where it
+// lies right of it, 0 on the line. In the Rust this is the side alone, a `LineSideInfo`.
+pub fn side_query(p1: Point, p2: Point, q: Point) -> i64
     requires { ⌜ InRange p1 × InRange p2 × InRange q ⌝ }
     ensures { λ r. ⌜ r ≡ orient2d p1 p2 q ⌝ }
 {
@@ -162,27 +94,12 @@ pub fn orient2d(p1: Point, p2: Point, q: Point) -> i64
     u.cross(v)
 }
 
-// On which side of the line from p1 to p2 the point q lies.
-pub fn side_query(p1: Point, p2: Point, q: Point) -> LineSideInfo
-    requires { ⌜ InRange p1 × InRange p2 × InRange q ⌝ }
-    ensures { λ r. ⌜ r ≡ sideOf (orient2d p1 p2 q) ⌝ }
-{
-    let area = orient2d(p1, p2, q);
-    if area > 0 {
-        LineSideInfo::OnLeftSide
-    } else if area < 0 {
-        LineSideInfo::OnRightSide
-    } else {
-        LineSideInfo::OnLine
-    }
-}
-
 // Whether p1 p2 q turns left or not at all.
 pub fn is_ordered_ccw(p1: Point, p2: Point, q: Point) -> bool
     requires { ⌜ InRange p1 × InRange p2 × InRange q ⌝ }
     ensures { λ r. ⌜ r ≡ isOrderedCcw p1 p2 q ⌝ }
 {
-    side_query(p1, p2, q).is_on_left_side_or_on_line()
+    side_query(p1, p2, q) >= 0
 }
 
 // Whether p lies strictly inside the circle of v1, v2 and v3, which turn left. The determinant by two products, where Shewchuk's has three.

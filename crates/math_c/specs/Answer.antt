@@ -1,19 +1,12 @@
--- What the exported tests answer, as numbers. A point out of range has an answer of its own, since whoever calls from C has shown nothing.
+-- What the exported test answers, as a number. A point out of range has an answer of its own, since whoever calls from C has shown nothing.
 use mathlib.Core.Bool.{Bool, true, false, _&&_}
 use Prim.Native.Nat.{ℕ}
 use lib.IntN.{ℤ}
 use Rattle.math.specs.declared.Point.{Point}
-use Rattle.math.specs.declared.LineSideInfo.{LineSideInfo}
-use Rattle.math.specs.declared.LineSideInfo.the-variants.{OnLeftSide, OnRightSide, OnLine}
-use Rattle.math.specs.Determinant.{orient2d, sideOf, containedInCircumference, isValidVertex}
+use Rattle.math.specs.Determinant.{containedInCircumference, isValidVertex}
 
 abbrev pub at : ℤ → ℤ → Point
 at x y = record { x = x; y = y }
-
-abbrev pub sideNumber : LineSideInfo → ℕ
-sideNumber OnLine = 0
-sideNumber OnLeftSide = 1
-sideNumber OnRightSide = 2
 
 abbrev pub insideNumber : Bool → ℕ
 insideNumber false = 0
@@ -23,9 +16,6 @@ insideNumber true = 1
 abbrev pub inRangeOr : Bool → ℕ → ℕ → ℕ
 inRangeOr false other n = other
 inRangeOr true other n = n
-
-abbrev pub sideAnswer : Point → Point → Point → ℕ
-sideAnswer p1 p2 q = inRangeOr (isValidVertex p1 && (isValidVertex p2 && isValidVertex q)) 3 (sideNumber (sideOf (orient2d p1 p2 q)))
 
 abbrev pub circleAnswer : Point → Point → Point → Point → ℕ
 circleAnswer v1 v2 v3 p =

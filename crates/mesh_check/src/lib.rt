@@ -127,7 +127,7 @@ pub fn doubled_area_at(positions: &[i32], halves: &[u32], a: u32) -> i64
     let p = dcel::position(positions, u);
     let q = dcel::position(positions, v);
     let r = dcel::position(positions, w);
-    math::orient2d(p, q, r)
+    math::side_query(p, q, r)
 }
 
 // The three corners along next from half-edge a turn strictly left.
@@ -135,7 +135,7 @@ fn turns_left(positions: &[i32], halves: &[u32], a: u32) -> bool
     requires { ⌜ Corners (now positions) (now halves) a ⌝ }
     ensures { λ r. ⌜ ((o s : List ℕ) → r ≡ turnsLeft (linksOf o (now (halves .entry)) s) (positionOf (now (positions .entry))) a) ⌝ }
 {
-    0 < doubled_area_at(positions, halves, a)
+    doubled_area_at(positions, halves, a) > 0
 }
 
 // The lowest inner face that does not turn strictly left, or the number of faces.

@@ -2,7 +2,6 @@
 // copies of those that tests/reference makes from an independent reading of the specification, and of oracle/answers.txt, the answers of
 // the Rust itself (their formats are in tests/reference/README.md and oracle/FORMAT.md). The lists of the calls go through the exports of
 // the crate `fithmoul`. A list that is not whole counts as one difference more.
-mod angles;
 mod answers_cases;
 mod check_cases;
 mod finish_cases;
@@ -10,9 +9,7 @@ mod lines;
 mod locate_cases;
 mod rows;
 mod run_cases;
-mod samples;
 mod step_cases;
-mod tests;
 mod volume_cases;
 
 // A list, by the call that it is about; `Answers` are those of the Rust.
@@ -79,7 +76,7 @@ fn is_case(tag: u8, list: List) -> bool {
 // Whether the case that begins at the next line agrees.
 fn agrees(text: &[u8], t: Tally, list: List) -> bool {
     match list {
-        List::Samples => samples::agrees(text, t.at),
+        List::Samples => replay_samples::agrees(text, t.at),
         List::Check => check_cases::agrees(text, t.at),
         List::Finish => finish_cases::agrees(text, t.at),
         List::Locate => locate_cases::agrees(text, t.mesh, t.at),
@@ -94,6 +91,7 @@ fn agrees(text: &[u8], t: Tally, list: List) -> bool {
 fn behind_case(text: &[u8], at: usize, list: List) -> usize {
     match list {
         List::Samples | List::Locate => test_text::next_line(text, at),
+        List::Volume => test_text::behind_line(text, at, b'a'),
         List::Answers => test_text::behind_line(text, at, b'e'),
         _ => test_text::behind_line(text, at, b'r'),
     }

@@ -4,6 +4,7 @@
 ghost use Prim.Native.Nat.{_≤_};
 ghost use Rattle.test_mesh.specs.Lent.{MeshLent, RingLent};
 use angle::Point2;
+use fithmoul::results::AreaTotalResult;
 use fithmoul::results::CheckResult;
 use fithmoul::results::FinishResult;
 use fithmoul::results::LocateResult;
@@ -85,6 +86,32 @@ pub fn volume_on(mesh: Mesh, level: i32) -> VolumeResult
         &halves[..halves_length],
         &faces[..faces_length],
         level,
+    )
+}
+
+pub fn area_total_on(mesh: Mesh) -> AreaTotalResult
+    requires { ⌜ MeshLent mesh ⌝ }
+{
+    let positions = mesh.positions.row;
+    let heights = mesh.heights.row;
+    let outs = mesh.outs.row;
+    let halves = mesh.halves.row;
+    let faces = mesh.faces.row;
+    let positions_length = mesh.positions.length;
+    let heights_length = mesh.heights.length;
+    let outs_length = mesh.outs.length;
+    let halves_length = mesh.halves.length;
+    let faces_length = mesh.faces.length;
+    let counts = mesh.counts;
+    fithmoul::fithmoul_area_total(
+        counts.vertices,
+        counts.edges,
+        counts.faces,
+        &positions[..positions_length],
+        &heights[..heights_length],
+        &outs[..outs_length],
+        &halves[..halves_length],
+        &faces[..faces_length],
     )
 }
 

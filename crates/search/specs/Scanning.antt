@@ -14,10 +14,8 @@ use Rattle.dcel.specs.Rows.{halvesOf, rowOf, linksOf, positionOf, There, Placed
 use Rattle.dcel.specs.MeshHeld.{MeshHeld, there, there-adjacent, next-in, origin-in, adjacent-in}
 use Rattle.location.specs.Scan.{holdsAt, firstHolding, firstLeft}
 use Rattle.location.specs.ScanLaws.{left-found}
-use Rattle.math.specs.declared.LineSideInfo.{LineSideInfo}
 use Rattle.math.specs.declared.Point.{Point}
-use Rattle.math.specs.Determinant.{InRange, orient2d, sideOf, isOnLeftSide}
-use Rattle.math.specs.Side.{on-left}
+use Rattle.math.specs.Determinant.{InRange, orient2d}
 use Rattle.mesh.specs.declared.Counts.{Counts}
 use Rattle.mesh.specs.Mesh.{In}
 use Rattle.mesh.specs.Area.{boundaryLength, hullEdge}
@@ -164,27 +162,27 @@ module _ {C : Counts} {q : List ℤ} {h a : List ℕ} {point : Point} (R : LeftR
             pub along-range : InRange p × InRange t × InRange point
             along-range = (rw (K .from) (placed in-use .range), rw z (next-placed .range), R .scan .ready .range)
 
-            module _ {i : LineSideInfo} {b : Bool} (j : i ≡ sideOf (orient2d p t point)) (k : b ≡ isOnLeftSide i) where
-              tested-left : leftOf q h point e ≡ b
+            module _ {i : ℤ} (j : i ≡ orient2d p t point) where
+              tested-left : leftOf q h point e ≡ ltZ (pos 0) i
               unfolding linksOf
               tested-left =
-                  sym (k ∙ ap isOnLeftSide j ∙ on-left (orient2d p t point) ∙ rw (K .from, z, y, x)
+                  sym (ap (ltZ (pos 0)) j ∙ rw (K .from, z, y, x)
                   (ap (λ (w : ℕ). ltZ (pos 0) (orient2d (positionOf q (halvesOf h .origin e)) (positionOf q w) point)) (M .rules .links .origin-next in-use)))
 
-              pub along-hit : b ≡ true → (o : List ℕ) → e ≡ hullEdge (linksOf o h a) (firstLeft C (linksOf o h a) (positionOf q) point)
+              pub along-hit : ltZ (pos 0) i ≡ true → (o : List ℕ) → e ≡ hullEdge (linksOf o h a) (firstLeft C (linksOf o h a) (positionOf q) point)
               unfolding linksOf
               along-hit n o =
                   sym (passing-hit inverse (leftOf q h point) start-in more (K .passing) (tested-left ∙ n))
                   ∙ ap (λ (k : ℕ). iter k (halvesOf h .next) start) (first-is o) ∙ ap (iter (firstLeft C (linksOf o h a) (positionOf q) point) (halvesOf h .next)) s
 
-              goes-on : b ≡ false → halvesOf h .next e ≢ start
+              goes-on : ltZ (pos 0) i ≡ false → halvesOf h .next e ≢ start
               goes-on n w = let l = found in let m = passing-none inverse (leftOf q h point) start-in more (K .passing) (tested-left ∙ n) w in omega arith
 
-              pub along-on : b ≡ false → Along q h point start d t
+              pub along-on : ltZ (pos 0) i ≡ false → Along q h point start d t
               along-on n = record {
                 passing = rw x (passing-on inverse (leftOf q h point) start-in more (K .passing) (tested-left ∙ n) (goes-on n));
                 from = z ∙ ap (positionOf q) y;
               }
 
-              pub along-less : b ≡ false → boundaryLeft h start d < boundaryLeft h start e
+              pub along-less : ltZ (pos 0) i ≡ false → boundaryLeft h start d < boundaryLeft h start e
               along-less n = rw x (passing-less inverse (leftOf q h point) start-in more (K .passing) (goes-on n))

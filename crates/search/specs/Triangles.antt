@@ -1,39 +1,38 @@
 -- What the scan's tests of one triangle read, and what they answer. Assumes nothing.
-use mathlib.Core.Bool.{Bool, true, false, not}
+use mathlib.Core.Bool.{Bool, true, false}
 use mathlib.Core.List.{List}
 use mathlib.Core.Path.{_≡_, refl, sym, _∙_, ap, ap₂}
-use Prim.Native.Nat.{ℕ, zero, suc, _+_, _*_, _<_}
-use native.Mathlib.Omega.{arith}
-use borrow.Author.Tests.{ne-eqb}
-use lib.IntN.{ℤ, pos, negsuc}
+use mathlib.Core.Logic.{_≢_}
+use Prim.Native.Nat.{ℕ, zero-le, _+_, _*_, _<_}
+use borrow.Author.Tests.{eq-eqb, ne-eqb}
+use lib.Dec.{eqb}
+use lib.IntN.{ℤ, pos}
 use lib.ListN.{length}
-use lib.Signed.{ltZ}
+use lib.Signed.{ltZ, leZ}
+use mir.Syntax.{w64}
+use mir.Val.{SFits, ofZ}
+use Rattle.algebra.specs.Bound.{small-fits}
+use Rattle.algebra.specs.Test.{le-not-lt}
 use Rattle.dcel.specs.Rows.{halvesOf, linksOf, positionOf, There, Placed}
 use Rattle.dcel.specs.MeshHeld.{MeshHeld, there, next-in, origin-in}
 use Rattle.location.specs.declared.PositionInTriangulation.the-variants.{OnVertex, OnFace, OnEdge}
 use Rattle.location.specs.Place.{areaAt}
 use Rattle.location.specs.Scan.{holdsAt, placeAt}
-use Rattle.math.specs.declared.LineSideInfo.{LineSideInfo}
 use Rattle.math.specs.declared.Point.{Point}
-use Rattle.math.specs.Determinant.{InRange, orient2d, sideOf, isOnRightSide, isOnLine, isCoordinate, isPosition}
-use Rattle.math.specs.Side.{on-right}
+use Rattle.math.specs.Determinant.{InRange, orient2d, isCoordinate, isPosition}
+use Rattle.math.specs.Position.{coordinate-bits}
 use Rattle.mesh.specs.Mesh.{In}
 use Rattle.mesh.specs.Triangle.{Triangle, triangle}
 use Rattle.search.specs.declared.Corners.{Corners}
 use Rattle.search.specs.SearchRows.{CornersIn, CornersOf, TriangleReady, ready-held, ready-placed}
 
--- ---- the sides that the code asks for, as the definition's tests of an area
-right-is : {x z : ℤ} → x ≡ z → {s : LineSideInfo} {t : Bool} → s ≡ sideOf z → t ≡ isOnRightSide s → ltZ x (pos 0) ≡ t
-right-is {x} {z} e i j = ap (λ (y : ℤ). ltZ y (pos 0)) e ∙ sym (j ∙ ap isOnRightSide i ∙ on-right z)
+-- ---- the tests that the code makes of an area that it reads as s, as the definition's
+right-is : {x s : ℤ} → x ≡ s → {t : Bool} → ltZ s (pos 0) ≡ t → ltZ x (pos 0) ≡ t
+right-is e j = ap (λ (y : ℤ). ltZ y (pos 0)) e ∙ j
 
-on-line : (z : ℤ) → isOnLine (sideOf z) ≡ isCoordinate z (pos 0)
-unfolding isCoordinate
-on-line (pos zero) = refl
-on-line (pos (suc n)) = sym (ne-eqb (suc n) 0 (λ k. omega arith))
-on-line (negsuc n) = refl
-
-line-is : {x z : ℤ} → x ≡ z → {s : LineSideInfo} {t : Bool} → s ≡ sideOf z → t ≡ isOnLine s → isCoordinate x (pos 0) ≡ t
-line-is {x} {z} e i j = ap (λ (y : ℤ). isCoordinate y (pos 0)) e ∙ sym (j ∙ ap isOnLine i ∙ on-line z)
+line-is : {x s : ℤ} → x ≡ s → SFits w64 s → {t : Bool} → eqb (ofZ w64 s) (ofZ w64 (pos 0)) ≡ t → isCoordinate x (pos 0) ≡ t
+line-is {x} {s} e f j =
+    ap (λ (y : ℤ). isCoordinate y (pos 0)) e ∙ sym (coordinate-bits f (small-fits w64 {z = pos 0} {B = 0} zero-le tt)) ∙ j
 
 -- ---- reading them
 module _ {s : List ℤ} {h : List ℕ} {a : ℕ} (R : CornersIn s h a) {b : ℕ} (x : b ≡ halvesOf h .next a) where
@@ -119,51 +118,56 @@ module _ {s : List ℤ} {h : List ℕ} {point : Point} {a : ℕ} (R : TriangleRe
         ap (λ (v : ℕ). orient2d (positionOf s (halvesOf h .origin (halvesOf h .next a))) (positionOf s v) point) (three .to-b)
         ∙ ap₂ (λ (u v : Point). orient2d u v point) (sym (K .q)) (sym (K .r))
 
-    area-c : (o f : List ℕ) → areaAt (linksOf o h f) (positionOf s) point (halvesOf h .next (halvesOf h .next a)) ≡ orient2d (k .r) (k .p) point
+    area-c : (o f : List ℕ)
+        → areaAt (linksOf o h f) (positionOf s) point (halvesOf h .next (halvesOf h .next a)) ≡ orient2d (k .r) (k .p) point
     unfolding linksOf
     area-c o f =
-        ap (λ (v : ℕ). orient2d (positionOf s (halvesOf h .origin (halvesOf h .next (halvesOf h .next a)))) (positionOf s v) point) (three .to-c)
+        ap (λ (v : ℕ). orient2d (positionOf s (halvesOf h .origin (halvesOf h .next (halvesOf h .next a)))) (positionOf s v) point)
+        (three .to-c)
         ∙ ap₂ (λ (u v : Point). orient2d u v point) (sym (K .r)) (sym (K .p))
 
-    -- the point's sides of the three edges
-    module _ {s₁ : LineSideInfo} (i₁ : s₁ ≡ sideOf (orient2d (k .p) (k .q) point)) where
-      right-a : {t : Bool} → t ≡ isOnRightSide s₁ → (o f : List ℕ) → ltZ (areaAt (linksOf o h f) (positionOf s) point a) (pos 0) ≡ t
-      right-a j o f = right-is (area-a o f) i₁ j
+    -- the tests of the three areas
+    module _ {s₁ : ℤ} (i₁ : s₁ ≡ orient2d (k .p) (k .q) point) where
+      right-a : {t : Bool} → ltZ s₁ (pos 0) ≡ t → (o f : List ℕ) → ltZ (areaAt (linksOf o h f) (positionOf s) point a) (pos 0) ≡ t
+      right-a j o f = right-is (area-a o f ∙ sym i₁) j
 
-      line-a : {t : Bool} → t ≡ isOnLine s₁ → (o f : List ℕ) → isCoordinate (areaAt (linksOf o h f) (positionOf s) point a) (pos 0) ≡ t
-      line-a j o f = line-is (area-a o f) i₁ j
+      line-a : SFits w64 s₁ → {t : Bool} → eqb (ofZ w64 s₁) (ofZ w64 (pos 0)) ≡ t → (o f : List ℕ)
+          → isCoordinate (areaAt (linksOf o h f) (positionOf s) point a) (pos 0) ≡ t
+      line-a g j o f = line-is (area-a o f ∙ sym i₁) g j
 
-      pub holds-not-a : {t : Bool} → t ≡ isOnRightSide s₁ → t ≡ true → (o f : List ℕ) → false ≡ holdsAt (linksOf o h f) (positionOf s) point a
+      pub holds-not-a : ltZ s₁ (pos 0) ≡ true → (o f : List ℕ) → false ≡ holdsAt (linksOf o h f) (positionOf s) point a
       unfolding holdsAt linksOf
-      holds-not-a j e o f = rw (right-a j o f, e) refl
+      holds-not-a j o f = rw (right-a j o f) refl
 
-      module _ {s₂ : LineSideInfo} (i₂ : s₂ ≡ sideOf (orient2d (k .q) (k .r) point)) where
-        right-b : {t : Bool} → t ≡ isOnRightSide s₂ → (o f : List ℕ)
-            → ltZ (areaAt (linksOf o h f) (positionOf s) point (halvesOf h .next a)) (pos 0) ≡ t
-        right-b j o f = right-is (area-b o f) i₂ j
+    module _ {s₂ : ℤ} (i₂ : s₂ ≡ orient2d (k .q) (k .r) point) where
+      right-b : {t : Bool} → ltZ s₂ (pos 0) ≡ t → (o f : List ℕ)
+          → ltZ (areaAt (linksOf o h f) (positionOf s) point (halvesOf h .next a)) (pos 0) ≡ t
+      right-b j o f = right-is (area-b o f ∙ sym i₂) j
 
-        line-b : {t : Bool} → t ≡ isOnLine s₂ → (o f : List ℕ)
-            → isCoordinate (areaAt (linksOf o h f) (positionOf s) point (halvesOf h .next a)) (pos 0) ≡ t
-        line-b j o f = line-is (area-b o f) i₂ j
+      line-b : SFits w64 s₂ → {t : Bool} → eqb (ofZ w64 s₂) (ofZ w64 (pos 0)) ≡ t → (o f : List ℕ)
+          → isCoordinate (areaAt (linksOf o h f) (positionOf s) point (halvesOf h .next a)) (pos 0) ≡ t
+      line-b g j o f = line-is (area-b o f ∙ sym i₂) g j
 
-        pub holds-not-b : {t₁ t₂ : Bool} → t₁ ≡ isOnRightSide s₁ → t₁ ≡ false → t₂ ≡ isOnRightSide s₂ → t₂ ≡ true → (o f : List ℕ)
-            → false ≡ holdsAt (linksOf o h f) (positionOf s) point a
-        unfolding holdsAt linksOf
-        holds-not-b j₁ e₁ j₂ e₂ o f = rw (right-a j₁ o f, e₁, right-b j₂ o f, e₂) refl
+    module _ {s₃ : ℤ} (i₃ : s₃ ≡ orient2d (k .r) (k .p) point) where
+      right-c : {t : Bool} → ltZ s₃ (pos 0) ≡ t → (o f : List ℕ)
+          → ltZ (areaAt (linksOf o h f) (positionOf s) point (halvesOf h .next (halvesOf h .next a))) (pos 0) ≡ t
+      right-c j o f = right-is (area-c o f ∙ sym i₃) j
 
-        module _ {s₃ : LineSideInfo} (i₃ : s₃ ≡ sideOf (orient2d (k .r) (k .p) point)) where
-          right-c : {t : Bool} → t ≡ isOnRightSide s₃ → (o f : List ℕ)
-              → ltZ (areaAt (linksOf o h f) (positionOf s) point (halvesOf h .next (halvesOf h .next a))) (pos 0) ≡ t
-          right-c j o f = right-is (area-c o f) i₃ j
+      line-c : SFits w64 s₃ → {t : Bool} → eqb (ofZ w64 s₃) (ofZ w64 (pos 0)) ≡ t → (o f : List ℕ)
+          → isCoordinate (areaAt (linksOf o h f) (positionOf s) point (halvesOf h .next (halvesOf h .next a))) (pos 0) ≡ t
+      line-c g j o f = line-is (area-c o f ∙ sym i₃) g j
 
-          line-c : {t : Bool} → t ≡ isOnLine s₃ → (o f : List ℕ)
-              → isCoordinate (areaAt (linksOf o h f) (positionOf s) point (halvesOf h .next (halvesOf h .next a))) (pos 0) ≡ t
-          line-c j o f = line-is (area-c o f) i₃ j
+    module _ {s₁ s₂ : ℤ} (i₁ : s₁ ≡ orient2d (k .p) (k .q) point) (i₂ : s₂ ≡ orient2d (k .q) (k .r) point)
+        (j₁ : ltZ s₁ (pos 0) ≡ false) where
+      pub holds-not-b : ltZ s₂ (pos 0) ≡ true → (o f : List ℕ) → false ≡ holdsAt (linksOf o h f) (positionOf s) point a
+      unfolding holdsAt linksOf
+      holds-not-b j₂ o f = rw (right-a i₁ j₁ o f, right-b i₂ j₂ o f) refl
 
-          pub holds-c : {t₁ t₂ t₃ : Bool} → t₁ ≡ isOnRightSide s₁ → t₁ ≡ false → t₂ ≡ isOnRightSide s₂ → t₂ ≡ false → t₃ ≡ isOnRightSide s₃
-              → (o f : List ℕ) → not t₃ ≡ holdsAt (linksOf o h f) (positionOf s) point a
-          unfolding holdsAt linksOf
-          holds-c j₁ e₁ j₂ e₂ j₃ o f = rw (right-a j₁ o f, e₁, right-b j₂ o f, e₂, right-c j₃ o f) refl
+      pub holds-c : {s₃ : ℤ} → s₃ ≡ orient2d (k .r) (k .p) point → ltZ s₂ (pos 0) ≡ false → (o f : List ℕ)
+          → leZ (pos 0) s₃ ≡ holdsAt (linksOf o h f) (positionOf s) point a
+      unfolding holdsAt linksOf
+      holds-c {s₃} i₃ j₂ o f =
+          le-not-lt (pos 0) s₃ ∙ rw (right-a i₁ j₁ o f, right-b i₂ j₂ o f, right-c i₃ {t = ltZ s₃ (pos 0)} refl o f) refl
 
     -- where the point is
     module _ {m₁ : Bool} (g₁ : m₁ ≡ isPosition (k .p) point) where
@@ -190,24 +194,50 @@ module _ {s : List ℤ} {h : List ℕ} {point : Point} {a : ℕ} (R : TriangleRe
           unfolding placeAt linksOf
           place-w e o f = rw (at-u, n₁, at-v, n₂, at-w, e, K .w) refl
 
-          module _ (n₃ : m₃ ≡ false) {s₁ : LineSideInfo} {t₁ : Bool} (i₁ : s₁ ≡ sideOf (orient2d (k .p) (k .q) point)) (j₁ : t₁ ≡ isOnLine s₁) where
-            pub place-a : t₁ ≡ true → (o f : List ℕ) → OnEdge a ≡ placeAt (linksOf o h f) (positionOf s) point a
+          module _ (n₃ : m₃ ≡ false) {s₁ : ℤ} (i₁ : s₁ ≡ orient2d (k .p) (k .q) point) (g₄ : SFits w64 s₁) where
+            on-a : {t : Bool} → eqb (ofZ w64 s₁) (ofZ w64 (pos 0)) ≡ t → (o f : List ℕ)
+                → isCoordinate (areaAt (linksOf o h f) (positionOf s) point a) (pos 0) ≡ t
+            on-a = line-a i₁ g₄
+
+            pub place-a : ofZ w64 s₁ ≡ ofZ w64 (pos 0) → (o f : List ℕ) → OnEdge a ≡ placeAt (linksOf o h f) (positionOf s) point a
             unfolding placeAt linksOf
-            place-a e o f = rw (at-u, n₁, at-v, n₂, at-w, n₃, line-a i₁ j₁ o f, e) refl
+            place-a e o f = rw (at-u, n₁, at-v, n₂, at-w, n₃, on-a (eq-eqb _ _ e) o f) refl
 
-            module _ (f₁ : t₁ ≡ false) {s₂ : LineSideInfo} {t₂ : Bool} (i₂ : s₂ ≡ sideOf (orient2d (k .q) (k .r) point)) (j₂ : t₂ ≡ isOnLine s₂) where
-              pub place-b : t₂ ≡ true → (o f : List ℕ) → OnEdge (k .b) ≡ placeAt (linksOf o h f) (positionOf s) point a
+            module _ (f₁ : ofZ w64 s₁ ≢ ofZ w64 (pos 0)) {s₂ : ℤ} (i₂ : s₂ ≡ orient2d (k .q) (k .r) point) (g₅ : SFits w64 s₂) where
+              pub place-b : ofZ w64 s₂ ≡ ofZ w64 (pos 0) → (o f : List ℕ) → OnEdge (k .b) ≡ placeAt (linksOf o h f) (positionOf s) point a
               unfolding placeAt linksOf
-              place-b e o f = rw (at-u, n₁, at-v, n₂, at-w, n₃, line-a i₁ j₁ o f, f₁, line-b i₁ i₂ j₂ o f, e, K .b) refl
+              place-b e o f = rw (at-u, n₁, at-v, n₂, at-w, n₃, on-a (ne-eqb _ _ f₁) o f, line-b i₂ g₅ (eq-eqb _ _ e) o f, K .b) refl
 
-              module _ (f₂ : t₂ ≡ false) {s₃ : LineSideInfo} {t₃ : Bool} (i₃ : s₃ ≡ sideOf (orient2d (k .r) (k .p) point)) (j₃ : t₃ ≡ isOnLine s₃) where
-                pub place-c : t₃ ≡ true → (o f : List ℕ) → OnEdge (k .c) ≡ placeAt (linksOf o h f) (positionOf s) point a
+              module _ (f₂ : ofZ w64 s₂ ≢ ofZ w64 (pos 0)) {s₃ : ℤ} (i₃ : s₃ ≡ orient2d (k .r) (k .p) point) (g₆ : SFits w64 s₃) where
+                pub place-c : ofZ w64 s₃ ≡ ofZ w64 (pos 0) → (o f : List ℕ) → OnEdge (k .c) ≡ placeAt (linksOf o h f) (positionOf s) point a
                 unfolding placeAt linksOf
                 place-c e o f =
-                    rw (at-u, n₁, at-v, n₂, at-w, n₃, line-a i₁ j₁ o f, f₁, line-b i₁ i₂ j₂ o f, f₂, line-c i₁ i₂ i₃ j₃ o f, e, K .c) refl
+                    rw (
+                      at-u,
+                      n₁,
+                      at-v,
+                      n₂,
+                      at-w,
+                      n₃,
+                      on-a (ne-eqb _ _ f₁) o f,
+                      line-b i₂ g₅ (ne-eqb _ _ f₂) o f,
+                      line-c i₃ g₆ (eq-eqb _ _ e) o f,
+                      K .c,
+                    ) refl
 
-                pub place-face : t₃ ≡ false → {b : ℕ} → b ≡ halvesOf h .face a → (o f : List ℕ)
+                pub place-face : ofZ w64 s₃ ≢ ofZ w64 (pos 0) → {b : ℕ} → b ≡ halvesOf h .face a → (o f : List ℕ)
                     → OnFace b ≡ placeAt (linksOf o h f) (positionOf s) point a
                 unfolding placeAt linksOf
                 place-face e x o f =
-                    rw (at-u, n₁, at-v, n₂, at-w, n₃, line-a i₁ j₁ o f, f₁, line-b i₁ i₂ j₂ o f, f₂, line-c i₁ i₂ i₃ j₃ o f, e, x) refl
+                    rw (
+                      at-u,
+                      n₁,
+                      at-v,
+                      n₂,
+                      at-w,
+                      n₃,
+                      on-a (ne-eqb _ _ f₁) o f,
+                      line-b i₂ g₅ (ne-eqb _ _ f₂) o f,
+                      line-c i₃ g₆ (ne-eqb _ _ e) o f,
+                      x,
+                    ) refl

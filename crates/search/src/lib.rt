@@ -7,10 +7,9 @@ ghost use mathlib.Core.List.{List};
 ghost use mathlib.Core.Path.{_≡_};
 ghost use Prim.Native.Nat.{ℕ, _+_, _<_, _^_};
 ghost use Rattle.dcel.specs.Rows.{halvesOf, linksOf, positionOf, There};
-ghost use Rattle.location.specs.Search.{sideAt, acrossEdge, bySide, searchTurn, searchFrom, nearest};
+ghost use Rattle.location.specs.Search.{beyond, acrossEdge, rotateCcw, rotateCw, onLine, bySide, searchTurn, searchFrom, nearest};
 ghost use Rattle.location.specs.Scan.{holdsAt, placeAt, firstHolding, firstLeft, scan, locatePoint};
 ghost use Rattle.math.specs.declared.Point.{Point};
-ghost use Rattle.math.specs.declared.LineSideInfo.the-variants.{OnLeftSide, OnRightSide, OnLine};
 ghost use Rattle.mesh.specs.Area.{hullEdge};
 ghost use Rattle.sums.specs.Half.{rev};
 ghost use Rattle.search.specs.SearchRows.{SearchReady, NearReady, SpokesReady, CloserIs};
@@ -18,7 +17,6 @@ ghost use Rattle.search.specs.SearchRows.{TurnReady, EndsReady, LineRead
 ghost use Rattle.search.specs.SearchRows.{CornersIn, CornersOf, TriangleReady, ScanReady, LeftReady};
 use location::PositionInTriangulation;
 use location::SearchState;
-use math::LineSideInfo;
 use math::Point;
 use mesh::Counts;
 
@@ -105,8 +103,7 @@ fn walk_to_nearest_neighbor(
 // The point is on the line of e: on to the half-edge before it in its triangle, or in that of its reverse.
 fn on_line(halves: &[u32], e: u32) -> SearchState
     requires { ⌜ LineReady (now halves) e ⌝ }
-    ensures { λ r. ⌜ ((o a : List ℕ) (p : ℕ → Point) (q : Point)
-        → r ≡ bySide (linksOf o (now (halves .entry)) a) p q e OnLine) ⌝ }
+    ensures { λ r. ⌜ ((o a : List ℕ) → r ≡ onLine (linksOf o (now (halves .entry)) a) e) ⌝ }
 {
     let f = dcel::face(halves, e);
     if f == 0 {
@@ -119,8 +116,7 @@ fn on_line(halves: &[u32], e: u32) -> SearchState
 // The point is strictly right of e2: on to its reverse, or to the half-edge that leaves the vertex across.
 fn beyond(halves: &[u32], e2: u32) -> SearchState
     requires { ⌜ There (now halves) (rev e2) ⌝ }
-    ensures { λ r. ⌜ ((o a : List ℕ) (e1 : ℕ)
-        → r ≡ acrossEdge (linksOf o (now (halves .entry)) a) e1 e2 OnRightSide) ⌝ }
+    ensures { λ r. ⌜ ((o a : List ℕ) → r ≡ beyond (linksOf o (now (halves .entry)) a) e2) ⌝ }
 {
     let t = dcel::rev(e2);
     let f = dcel::face(halves, t);
@@ -130,17 +126,19 @@ fn beyond(halves: &[u32], e2: u32) -> SearchState
     SearchState::Onward(dcel::prev(halves, t))
 }
 
-// The point is between two edges of a triangle; `side` is its side of the third, e2.
-fn across_edge(halves: &[u32], face: u32, e2: u32, side: LineSideInfo) -> SearchState
+// The point is between two edges of a triangle; `area` is the doubled area of the third, e2, and the point.
+fn across_edge(halves: &[u32], face: u32, e2: u32, area: i64) -> SearchState
     requires { ⌜ There (now halves) (rev e2) ⌝ }
     ensures { λ r. ⌜ ((o a : List ℕ) (e1 : ℕ) → face ≡ halvesOf (now (halves .entry)) .face e1
-        → r ≡ acrossEdge (linksOf o (now (halves .entry)) a) e1 e2 side) ⌝ }
+        → r ≡ acrossEdge (linksOf o (now (halves .entry)) a) e1 e2 area) ⌝ }
 {
-    match side {
-        LineSideInfo::OnLine => SearchState::Found(PositionInTriangulation::OnEdge(e2)),
-        LineSideInfo::OnLeftSide => SearchState::Found(PositionInTriangulation::OnFace(face)),
-        LineSideInfo::OnRightSide => beyond(halves, e2),
+    if area > 0 {
+        return SearchState::Found(PositionInTriangulation::OnFace(face));
     }
+    if area < 0 {
+        return beyond(halves, e2);
+    }
+    SearchState::Found(PositionInTriangulation::OnEdge(e2))
 }
 
 // The point is strictly left of e, which goes from `from` to `to`.
@@ -154,7 +152,7 @@ fn rotate_ccw(
 ) -> SearchState
     requires { ⌜ EndsReady (now positions) (now halves) point e from to ⌝ }
     ensures { λ r. ⌜ ((o a : List ℕ)
-        → r ≡ bySide (linksOf o (now (halves .entry)) a) (positionOf (now (positions .entry))) point e OnLeftSide) ⌝ }
+        → r ≡ rotateCcw (linksOf o (now (halves .entry)) a) (positionOf (now (positions .entry))) point e) ⌝ }
 {
     let face = dcel::face(halves, e);
     if face == 0 {
@@ -163,12 +161,12 @@ fn rotate_ccw(
     let prev = dcel::prev(halves, e);
     let v = dcel::origin(halves, prev);
     let far = dcel::position(positions, v);
-    if !math::side_query(from, far, point).is_on_right_side() {
+    if math::side_query(from, far, point) >= 0 {
         return SearchState::Onward(dcel::rev(prev));
     }
     let e2 = dcel::next(halves, e);
-    let side = math::side_query(to, far, point);
-    across_edge(halves, face, e2, side)
+    let area = math::side_query(to, far, point);
+    across_edge(halves, face, e2, area)
 }
 
 // The point is strictly right of e.
@@ -182,7 +180,7 @@ fn rotate_cw(
 ) -> SearchState
     requires { ⌜ EndsReady (now positions) (now halves) point e from to ⌝ }
     ensures { λ r. ⌜ ((o a : List ℕ)
-        → r ≡ bySide (linksOf o (now (halves .entry)) a) (positionOf (now (positions .entry))) point e OnRightSide) ⌝ }
+        → r ≡ rotateCw (linksOf o (now (halves .entry)) a) (positionOf (now (positions .entry))) point e) ⌝ }
 {
     let e1 = dcel::rev(e);
     let face = dcel::face(halves, e1);
@@ -192,11 +190,11 @@ fn rotate_cw(
     let e2 = dcel::prev(halves, e1);
     let v = dcel::origin(halves, e2);
     let far = dcel::position(positions, v);
-    if !math::side_query(from, far, point).is_on_left_side() {
+    if math::side_query(from, far, point) <= 0 {
         return SearchState::Onward(dcel::next(halves, e1));
     }
-    let side = math::side_query(far, to, point);
-    across_edge(halves, face, e2, side)
+    let area = math::side_query(far, to, point);
+    across_edge(halves, face, e2, area)
 }
 
 // Neither end of e is at the point.
@@ -210,15 +208,16 @@ fn by_side(
 ) -> SearchState
     requires { ⌜ EndsReady (now positions) (now halves) point e from to ⌝ }
     ensures { λ r. ⌜ ((o a : List ℕ)
-        → r ≡ bySide (linksOf o (now (halves .entry)) a) (positionOf (now (positions .entry))) point e
-        (sideAt (linksOf o (now (halves .entry)) a) (positionOf (now (positions .entry))) point e)) ⌝ }
+        → r ≡ bySide (linksOf o (now (halves .entry)) a) (positionOf (now (positions .entry))) point e) ⌝ }
 {
-    let side = math::side_query(from, to, point);
-    match side {
-        LineSideInfo::OnLine => on_line(halves, e),
-        LineSideInfo::OnLeftSide => rotate_ccw(positions, halves, e, from, to, point),
-        LineSideInfo::OnRightSide => rotate_cw(positions, halves, e, from, to, point),
+    let area = math::side_query(from, to, point);
+    if area > 0 {
+        return rotate_ccw(positions, halves, e, from, to, point);
     }
+    if area < 0 {
+        return rotate_cw(positions, halves, e, from, to, point);
+    }
+    on_line(halves, e)
 }
 
 // One turn of the search, from e.
@@ -300,13 +299,13 @@ fn holds_at(positions: &[i32], halves: &[u32], a: u32, point: Point) -> bool
     let p = k.p;
     let q = k.q;
     let r = k.r;
-    if math::side_query(p, q, point).is_on_right_side() {
+    if math::side_query(p, q, point) < 0 {
         return false;
     }
-    if math::side_query(q, r, point).is_on_right_side() {
+    if math::side_query(q, r, point) < 0 {
         return false;
     }
-    !math::side_query(r, p, point).is_on_right_side()
+    math::side_query(r, p, point) >= 0
 }
 
 // Where in the triangle of a, which holds it, the point is.
@@ -328,13 +327,13 @@ fn place_at(positions: &[i32], halves: &[u32], a: u32, point: Point) -> Position
     if math::is_position(r, point) {
         return PositionInTriangulation::OnVertex(k.w);
     }
-    if math::side_query(p, q, point).is_on_line() {
+    if math::side_query(p, q, point) == 0 {
         return PositionInTriangulation::OnEdge(a);
     }
-    if math::side_query(q, r, point).is_on_line() {
+    if math::side_query(q, r, point) == 0 {
         return PositionInTriangulation::OnEdge(k.b);
     }
-    if math::side_query(r, p, point).is_on_line() {
+    if math::side_query(r, p, point) == 0 {
         return PositionInTriangulation::OnEdge(k.c);
     }
     PositionInTriangulation::OnFace(dcel::face(halves, a))
@@ -380,7 +379,7 @@ fn first_left(positions: &[i32], halves: &[u32], faces: &[u32], counts: Counts, 
         let next = dcel::next(halves, e);
         let v = dcel::origin(halves, next);
         let to = dcel::position(positions, v);
-        if math::side_query(from, to, point).is_on_left_side() {
+        if math::side_query(from, to, point) > 0 {
             return e;
         }
         e = next;

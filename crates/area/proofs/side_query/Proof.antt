@@ -56,15 +56,15 @@ returns-3 c =
     ∙ third-outside _ _ _ (p1-inside (second .before .before)) (p2-inside second)
     (ap not (sym (t .before .validate-vertex3 .ensures)) ∙ t .if3 .taken)
 
-orient2d-requires : tie.Need-orient2d-requires
-orient2d-requires c κs =
+side-query-requires : tie.Need-side-query-requires
+side-query-requires c κs =
     let second = c .before .before in
     (inside (p1-inside (second .before .before)), inside (p2-inside second), inside (q-inside c))
 
 returns-4 : tie.Need-returns-4
 returns-4 c =
     let second = c .before .before .before in
-    ap Sided.Accepted (toZ-ofZ (sfits-of (c .orient2d .ok)) ∙ c .orient2d .ensures)
+    ap Sided.Accepted (toZ-ofZ (sfits-of (c .side-query .ok)) ∙ c .side-query .ensures)
     ∙ none-outside _ _ _ (p1-inside (second .before .before)) (p2-inside second) (q-inside (c .before))
 
 pub side-query-spec : {M : Type 1} → statement M
@@ -80,5 +80,5 @@ side-query-spec =
     validate-vertex-requires-3
     outside-requires-3
     returns-3
-    orient2d-requires
+    side-query-requires
     returns-4)

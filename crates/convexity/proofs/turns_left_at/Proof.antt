@@ -1,5 +1,7 @@
 -- `convexity::turns_left_at` meets its contract. Assumes nothing.
-use borrow.Author.Needs.{needs}
+use mathlib.Core.Path.{_∙_}
+use borrow.Author.Needs.{needs, sfits-of}
+use mir.Facts.{toZ-ofZ}
 use Rattle.convexity.proofs.Corners.{in-range, side-left}
 use Rattle.convexity.proofs.turns_left_at.Statement.{statement}
 use Rattle.convexity.proofs.turns_left_at.Tie as tie
@@ -30,14 +32,11 @@ side-query-requires c κs =
       in-range _ (c .position3 .ensures) (c .before .before .before .to2 .ensures) (s .pre .target),
     )
 
-is-on-left-side-requires : tie.Need-is-on-left-side-requires
-is-on-left-side-requires c κs = search needs
-
 returns : tie.Need-returns
 returns c =
-    let p = c .before .before in
+    let p = c .before in
     side-left _ _ _ _ (p .before .before .before .before .before .origin .ensures) (p .before .before .before .before .to .ensures) (p .before .before .before .to2 .ensures)
-    (p .before .before .position .ensures) (p .before .position2 .ensures) (p .position3 .ensures) (c .before .side-query .ensures) (c .is-on-left-side .ensures)
+    (p .before .before .position .ensures) (p .before .position2 .ensures) (p .position3 .ensures) (toZ-ofZ (sfits-of (c .side-query .ok)) ∙ c .side-query .ensures)
 
 pub turns-left-at-spec : {M : Type 1} → statement M
 turns-left-at-spec =
@@ -50,5 +49,4 @@ turns-left-at-spec =
     position-requires-2
     position-requires-3
     side-query-requires
-    is-on-left-side-requires
     returns)

@@ -1,8 +1,10 @@
 -- `decide::decide_at` meets its contract: each answer is the fate that its tests mean. Assumes nothing.
 use mathlib.Core.List.{List}
+use mathlib.Core.Path.{_∙_}
 use Prim.Native.Nat.{ℕ}
 use native.Mathlib.Omega.{arith}
-use borrow.Author.Needs.{needs}
+use borrow.Author.Needs.{needs, sfits-of}
+use mir.Facts.{toZ-ofZ}
 use denote.Ref.{now}
 use Rattle.mesh.specs.declared.Counts.{Counts}
 use Rattle.decide.specs.Walks.{LocatedRows}
@@ -45,32 +47,29 @@ side-query-requires c κs =
     let K = e .before .before .pre .located in let R = here-about K .ends in
     (from-range _ _ _ (e .ends-of .ensures) R, to-range _ _ _ (e .ends-of .ensures) R, K .range)
 
-is-on-left-side-requires : tie.Need-is-on-left-side-requires
-is-on-left-side-requires c κs = search needs
-
 leave-requires-3 : tie.Need-leave-requires-3
 leave-requires-3 c κs = search needs
 
 returns-3 : tie.Need-returns-3
 returns-3 c C o a K =
-    let t = c .before .before in let s = t .before in let j = s .before in let y = j .before in let i = y .before in
+    let s = c .before .before in let j = s .before in let y = j .before in let i = y .before in
     let x = i .before in let e = x .before .before .before in
     not-left K (e .ends-of .ensures) (x .is-position .ensures) (i .if1 .left) (y .is-position2 .ensures) (j .if2 .left)
-    (s .side-query .ensures) (t .is-on-left-side .ensures) (c .before .if3 .taken) (c .leave3 .ensures)
+    (toZ-ofZ (sfits-of (s .side-query .ok)) ∙ s .side-query .ensures) (c .before .if3 .taken) (c .leave3 .ensures)
 
 -- past the test of the side
 abbrev start : tie.Else3 → tie.Start
-start l = l .before .before .before .before .before .before .before .before .before .before .before
+start l = l .before .before .before .before .before .before .before .before .before .before
 
 passed : (l : tie.Else3) {C : Counts} {o a : List ℕ}
     → LocatedRows C (now (start l .args .positions)) o (now (start l .args .halves)) a (start l .args .center .x) (start l .args .center .y)
     (start l .args .e) (start l .args .size) (start l .args .next) (start l .args .point) (start l .args .angle)
     → Passes (now (start l .args .positions)) o (now (start l .args .halves)) a (start l .args .point) (start l .args .e)
 passed l K =
-    let t = l .before in let s = t .before in let j = s .before in let y = j .before in let i = y .before in
+    let s = l .before in let j = s .before in let y = j .before in let i = y .before in
     let x = i .before in let e = x .before .before .before in
     passes K (e .ends-of .ensures) (x .is-position .ensures) (i .if1 .left) (y .is-position2 .ensures) (j .if2 .left)
-    (s .side-query .ensures) (t .is-on-left-side .ensures) (l .if3 .left)
+    (toZ-ofZ (sfits-of (s .side-query .ok)) ∙ s .side-query .ensures) (l .if3 .left)
 
 walk-left-requires : tie.Need-walk-left-requires
 walk-left-requires c κs = asks-walk (start c .pre .located) Left
@@ -132,7 +131,6 @@ decide-at-spec =
     leave-requires-2
     returns-2
     side-query-requires
-    is-on-left-side-requires
     leave-requires-3
     returns-3
     walk-left-requires

@@ -1,5 +1,7 @@
 -- `insert_outside::sees_edge` meets its contract. Assumes nothing.
-use borrow.Author.Needs.{needs}
+use mathlib.Core.Path.{_∙_}
+use borrow.Author.Needs.{needs, sfits-of}
+use mir.Facts.{toZ-ofZ}
 use Rattle.insert_outside.proofs.Sight.{in-range, side-seen}
 use Rattle.insert_outside.proofs.sees_edge.Statement.{statement}
 use Rattle.insert_outside.proofs.sees_edge.Tie as tie
@@ -24,14 +26,11 @@ side-query-requires c κs =
       s .range,
     )
 
-is-on-left-side-requires : tie.Need-is-on-left-side-requires
-is-on-left-side-requires c κs = search needs
-
 returns : tie.Need-returns
 returns c =
-    let p = c .before .before in
+    let p = c .before in
     side-seen _ _ _ _ (p .before .before .before .origin .ensures) (p .before .before .to .ensures)
-    (p .before .position .ensures) (p .position2 .ensures) (c .before .side-query .ensures) (c .is-on-left-side .ensures)
+    (p .before .position .ensures) (p .position2 .ensures) (toZ-ofZ (sfits-of (c .side-query .ok)) ∙ c .side-query .ensures)
 
 pub sees-edge-spec : {M : Type 1} → statement M
 sees-edge-spec =
@@ -42,5 +41,4 @@ sees-edge-spec =
     position-requires
     position-requires-2
     side-query-requires
-    is-on-left-side-requires
     returns)

@@ -1,24 +1,16 @@
 -- `math::is_position` meets its contract: `==` of two signed numbers compares their bits. Assumes nothing.
 use mathlib.Core.Bool.{Bool, _&&_}
-use mathlib.Core.Path.{_≡_, sym, _∙_, ap, subst}
+use mathlib.Core.Path.{_≡_, sym, _∙_, ap}
 use borrow.Author.Needs.{sfits-of}
 use borrow.Author.Tests.{eq-eqb, ne-eqb}
-use lib.Dec.{T, eqb, eqb→eq}
-use lib.IntN.{ℤ}
-use mir.Facts.{toZ-ofZ}
+use lib.Dec.{eqb}
 use mir.Syntax.{w32}
-use mir.Val.{SFits, ofZ, toZ}
-use Rattle.sums.specs.Bit.{eq-test, test-ext}
+use mir.Val.{SFits, ofZ}
 use Rattle.math.specs.declared.Point.{Point}
 use Rattle.math.specs.Determinant.{isCoordinate, isPosition}
-use Rattle.math.specs.Position.{same-coordinate, coordinate-same}
+use Rattle.math.specs.Position.{coordinate-bits}
 use Rattle.math.proofs.is_position.Statement.{statement}
 use Rattle.math.proofs.is_position.Tie as tie
-
-coordinate-bits : {a b : ℤ} → SFits w32 a → SFits w32 b → eqb (ofZ w32 a) (ofZ w32 b) ≡ isCoordinate a b
-coordinate-bits {a} {b} f g = test-ext (eqb (ofZ w32 a) (ofZ w32 b)) (isCoordinate a b)
-    (λ t. coordinate-same a b (sym (toZ-ofZ f) ∙ ap (toZ w32) (eqb→eq (ofZ w32 a) (ofZ w32 b) t) ∙ toZ-ofZ g))
-    (λ t. eq-test (ap (ofZ w32) (same-coordinate a b t)))
 
 module _ (a b : Point) (f : SFits w32 (a .x)) (g : SFits w32 (b .x)) where
   first-differs : (ofZ w32 (a .x) ≡ ofZ w32 (b .x) → ⊥) → eqb (ofZ w32 (a .x)) (ofZ w32 (b .x)) ≡ isPosition a b

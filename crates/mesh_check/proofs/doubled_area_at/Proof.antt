@@ -30,8 +30,8 @@ position-requires-2 c κs = placed-two (c .before .before .before .before .befor
 position-requires-3 : tie.Need-position-requires-3
 position-requires-3 c κs = placed-three (c .before .before .before .before .before .before .before .before .pre) (c .before .before .before .before .before .before .next .ensures) (c .before .before .before .before .before .next2 .ensures) (c .before .before .origin3 .ensures) .there
 
-orient2d-requires : tie.Need-orient2d-requires
-orient2d-requires c κs = (
+side-query-requires : tie.Need-side-query-requires
+side-query-requires c κs = (
   placed-range (placed-one (c .before .before .before .before .before .before .before .before .before .pre) (c .before .before .before .before .before .before .before .next .ensures) (c .before .before .before .before .before .origin .ensures)) (c .before .before .position .ensures),
   placed-range (placed-two (c .before .before .before .before .before .before .before .before .before .pre) (c .before .before .before .before .before .before .before .next .ensures) (c .before .before .before .before .origin2 .ensures)) (c .before .position2 .ensures),
   placed-range (placed-three (c .before .before .before .before .before .before .before .before .before .pre) (c .before .before .before .before .before .before .before .next .ensures) (c .before .before .before .before .before .before .next2 .ensures) (c .before .before .before .origin3 .ensures)) (c .position3 .ensures),
@@ -39,7 +39,7 @@ orient2d-requires c κs = (
 
 returns : tie.Need-returns
 returns c = λ o s.
-    toZ-ofZ (sfits-of (c .orient2d .ok)) ∙ c .orient2d .ensures ∙
+    toZ-ofZ (sfits-of (c .side-query .ok)) ∙ c .side-query .ensures ∙
     area-is o _ s _ _ (c .before .before .before .before .before .before .before .before .next .ensures) (c .before .before .before .before .before .before .before .next2 .ensures) (c .before .before .before .before .before .before .origin .ensures) (c .before .before .before .before .before .origin2 .ensures) (c .before .before .before .before .origin3 .ensures) (c .before .before .before .position .ensures) (c .before .before .position2 .ensures) (c .before .position3 .ensures)
 
 pub doubled-area-at-spec : {M : Type 1} → statement M
@@ -54,5 +54,5 @@ doubled-area-at-spec =
     position-requires
     position-requires-2
     position-requires-3
-    orient2d-requires
+    side-query-requires
     returns)

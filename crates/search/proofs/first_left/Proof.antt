@@ -1,5 +1,8 @@
 -- `search::first_left` meets its contract. The invariant: the point is strictly left of no half-edge from the stored one on to e.
 -- The measure is what the row's length leaves of the steps to e. Assumes nothing.
+use mathlib.Core.Path.{_∙_}
+use borrow.Author.Needs.{sfits-of}
+use mir.Facts.{toZ-ofZ}
 use Rattle.search.specs.Scanning.{Along, boundaryLeft, outer-there, start-there, along-placed, along-start, along-there, along-next, along-next-placed, along-range, along-hit, along-on, along-less}
 use Rattle.search.proofs.first_left.Statement.{statement}
 use Rattle.search.proofs.first_left.Tie as tie
@@ -53,35 +56,32 @@ side-query-requires c κs =
     let s = a .before .before .before in
     along-range (s .pre) (a .adjacent .ensures) (l .loop .inv) (c .before .before .next .ensures) (c .before .origin2 .ensures) (c .position2 .ensures)
 
-is-on-left-side-requires : tie.Need-is-on-left-side-requires Inv-loop μ-loop
-is-on-left-side-requires c κs = tt
-
 returns : tie.Need-returns Inv-loop μ-loop
 returns c =
-    let p = c .before .before .before in
+    let p = c .before .before in
     let l = p .before .before .before in
     let a = l .before .before .before in
     let s = a .before .before .before in
     along-hit (s .pre) (a .adjacent .ensures) (l .loop .inv) (p .before .before .next .ensures) (p .before .origin2 .ensures) (p .position2 .ensures)
-    (c .before .before .side-query .ensures) (c .before .is-on-left-side .ensures) (c .if1 .taken)
+    (toZ-ofZ (sfits-of (c .before .side-query .ok)) ∙ c .before .side-query .ensures) (c .if1 .taken)
 
 loop-less : tie.Need-loop-less Inv-loop μ-loop
 loop-less c =
-    let p = c .before .before .before in
+    let p = c .before .before in
     let l = p .before .before .before in
     let a = l .before .before .before in
     let s = a .before .before .before in
     along-less (s .pre) (a .adjacent .ensures) (l .loop .inv) (p .before .before .next .ensures) (p .before .origin2 .ensures) (p .position2 .ensures)
-    (c .before .before .side-query .ensures) (c .before .is-on-left-side .ensures) (c .if1 .left)
+    (toZ-ofZ (sfits-of (c .before .side-query .ok)) ∙ c .before .side-query .ensures) (c .if1 .left)
 
 loop-again : tie.Need-loop-again Inv-loop μ-loop
 loop-again c =
-    let p = c .before .before .before in
+    let p = c .before .before in
     let l = p .before .before .before in
     let a = l .before .before .before in
     let s = a .before .before .before in
     along-on (s .pre) (a .adjacent .ensures) (l .loop .inv) (p .before .before .next .ensures) (p .before .origin2 .ensures) (p .position2 .ensures)
-    (c .before .before .side-query .ensures) (c .before .is-on-left-side .ensures) (c .if1 .left)
+    (toZ-ofZ (sfits-of (c .before .side-query .ok)) ∙ c .before .side-query .ensures) (c .if1 .left)
 
 pub first-left-spec : {M : Type 1} → statement M
 first-left-spec =
@@ -97,7 +97,6 @@ first-left-spec =
     origin-requires-2
     position-requires-2
     side-query-requires
-    is-on-left-side-requires
     returns
     loop-less
     loop-again)

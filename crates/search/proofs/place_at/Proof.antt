@@ -1,4 +1,5 @@
 -- `search::place_at` meets its contract. Assumes nothing.
+use borrow.Author.Needs.{sfits-of}
 use Rattle.search.specs.Triangles.{corners-in, p-range, q-range, r-range, place-u, place-v, place-w, place-a, place-b, place-c, place-face}
 use Rattle.search.proofs.place_at.Statement.{statement}
 use Rattle.search.proofs.place_at.Tie as tie
@@ -41,79 +42,72 @@ side-query-requires c κs =
     let s = t .before .before in
     (p-range (s .pre) (t .corners-of .ensures), q-range (s .pre) (t .corners-of .ensures), s .pre .turn .ready .range)
 
-is-on-line-requires : tie.Need-is-on-line-requires
-is-on-line-requires c κs = tt
-
 returns-4 : tie.Need-returns-4
 returns-4 c =
-    let i = c .before .before .before in
+    let q = c .before in
+    let i = q .before in
     let t = i .before .before .before in
     let u = t .before .before .before .before .before .before in
     place-a (u .before .before .pre) (u .corners-of .ensures) (t .before .before .is-position .ensures) (t .before .if1 .left)
     (t .is-position2 .ensures) (i .before .before .if2 .left)
-    (i .before .is-position3 .ensures) (i .if3 .left) (c .before .before .side-query .ensures) (c .before .is-on-line .ensures) (c .if4 .taken)
+    (i .before .is-position3 .ensures) (i .if3 .left) (q .side-query .ensures) (sfits-of (q .side-query .ok)) (c .if4 .taken)
 
 side-query-requires-2 : tie.Need-side-query-requires-2
 side-query-requires-2 c κs =
-    let t = c .before .before .before .before .before .before .before .before .before .before .before .before in
+    let t = c .before .before .before .before .before .before .before .before .before .before .before in
     let s = t .before .before in
     (q-range (s .pre) (t .corners-of .ensures), r-range (s .pre) (t .corners-of .ensures), s .pre .turn .ready .range)
 
-is-on-line-requires-2 : tie.Need-is-on-line-requires-2
-is-on-line-requires-2 c κs = tt
-
 returns-5 : tie.Need-returns-5
 returns-5 c =
-    let i = c .before .before .before in
+    let r = c .before in
+    let q = r .before .before in
+    let i = q .before in
     let t = i .before .before .before in
-    let u = t .before .before .before in
-    let v = u .before .before .before .before .before .before in
-    place-b (v .before .before .pre) (v .corners-of .ensures) (u .before .before .is-position .ensures) (u .before .if1 .left)
-    (u .is-position2 .ensures) (t .before .before .if2 .left)
-    (t .before .is-position3 .ensures) (t .if3 .left) (i .before .before .side-query .ensures) (i .before .is-on-line .ensures) (i .if4 .left)
-    (c .before .before .side-query2 .ensures) (c .before .is-on-line2 .ensures) (c .if5 .taken)
+    let u = t .before .before .before .before .before .before in
+    place-b (u .before .before .pre) (u .corners-of .ensures) (t .before .before .is-position .ensures) (t .before .if1 .left)
+    (t .is-position2 .ensures) (i .before .before .if2 .left)
+    (i .before .is-position3 .ensures) (i .if3 .left) (q .side-query .ensures) (sfits-of (q .side-query .ok)) (r .before .if4 .left)
+    (r .side-query2 .ensures) (sfits-of (r .side-query2 .ok)) (c .if5 .taken)
 
 side-query-requires-3 : tie.Need-side-query-requires-3
 side-query-requires-3 c κs =
-    let t = c .before .before .before .before .before .before .before .before .before .before .before .before .before .before .before in
+    let t = c .before .before .before .before .before .before .before .before .before .before .before .before .before in
     let s = t .before .before in
     (r-range (s .pre) (t .corners-of .ensures), p-range (s .pre) (t .corners-of .ensures), s .pre .turn .ready .range)
 
-is-on-line-requires-3 : tie.Need-is-on-line-requires-3
-is-on-line-requires-3 c κs = tt
-
 returns-6 : tie.Need-returns-6
 returns-6 c =
-    let i = c .before .before .before in
+    let p = c .before in
+    let r = p .before .before in
+    let q = r .before .before in
+    let i = q .before in
     let t = i .before .before .before in
-    let u = t .before .before .before in
-    let v = u .before .before .before in
-    let w = v .before .before .before .before .before .before in
-    place-c (w .before .before .pre) (w .corners-of .ensures) (v .before .before .is-position .ensures) (v .before .if1 .left)
-    (v .is-position2 .ensures) (u .before .before .if2 .left)
-    (u .before .is-position3 .ensures) (u .if3 .left) (t .before .before .side-query .ensures) (t .before .is-on-line .ensures) (t .if4 .left)
-    (i .before .before .side-query2 .ensures) (i .before .is-on-line2 .ensures) (i .if5 .left) (c .before .before .side-query3 .ensures)
-    (c .before .is-on-line3 .ensures) (c .if6 .taken)
+    let u = t .before .before .before .before .before .before in
+    place-c (u .before .before .pre) (u .corners-of .ensures) (t .before .before .is-position .ensures) (t .before .if1 .left)
+    (t .is-position2 .ensures) (i .before .before .if2 .left)
+    (i .before .is-position3 .ensures) (i .if3 .left) (q .side-query .ensures) (sfits-of (q .side-query .ok)) (r .before .if4 .left)
+    (r .side-query2 .ensures) (sfits-of (r .side-query2 .ok)) (p .before .if5 .left)
+    (p .side-query3 .ensures) (sfits-of (p .side-query3 .ok)) (c .if6 .taken)
 
 face-requires : tie.Need-face-requires
 face-requires c κs =
-    let s = c .before .before .before .before .before .before .before .before .before .before .before .before .before .before .before .before .before .before .before .before in
+    let s = c .before .before .before .before .before .before .before .before .before .before .before .before .before .before .before .before .before in
     corners-in (s .pre) .here
 
 returns-7 : tie.Need-returns-7
 returns-7 c =
-    let s = c .before .before .before in
-    let t = s .before .before .before in
-    let u = t .before .before .before in
-    let i = u .before .before .before in
-    let v = i .before .before .before in
-    let w = v .before .before .before .before in
-    place-face (w .before .before .pre) (w .corners-of .ensures) (v .is-position .ensures) (i .before .before .if1 .left)
-    (i .before .is-position2 .ensures) (i .if2 .left)
-    (u .before .before .is-position3 .ensures) (u .before .if3 .left) (u .side-query .ensures) (t .before .before .is-on-line .ensures)
-    (t .before .if4 .left)
-    (t .side-query2 .ensures) (s .before .before .is-on-line2 .ensures) (s .before .if5 .left) (s .side-query3 .ensures)
-    (c .before .before .is-on-line3 .ensures) (c .before .if6 .left) (c .face .ensures)
+    let p = c .before .before in
+    let r = p .before .before in
+    let q = r .before .before in
+    let i = q .before in
+    let t = i .before .before .before in
+    let u = t .before .before .before .before .before .before in
+    place-face (u .before .before .pre) (u .corners-of .ensures) (t .before .before .is-position .ensures) (t .before .if1 .left)
+    (t .is-position2 .ensures) (i .before .before .if2 .left)
+    (i .before .is-position3 .ensures) (i .if3 .left) (q .side-query .ensures) (sfits-of (q .side-query .ok)) (r .before .if4 .left)
+    (r .side-query2 .ensures) (sfits-of (r .side-query2 .ok)) (p .before .if5 .left)
+    (p .side-query3 .ensures) (sfits-of (p .side-query3 .ok)) (c .before .if6 .left) (c .face .ensures)
 
 pub place-at-spec : {M : Type 1} → statement M
 place-at-spec =
@@ -127,13 +121,10 @@ place-at-spec =
     is-position-requires-3
     returns-3
     side-query-requires
-    is-on-line-requires
     returns-4
     side-query-requires-2
-    is-on-line-requires-2
     returns-5
     side-query-requires-3
-    is-on-line-requires-3
     returns-6
     face-requires
     returns-7)
