@@ -17,7 +17,7 @@ use Rattle.math.specs.Determinant.{InRange, length2}
 use Rattle.mesh.specs.declared.Counts.{Counts}
 use Rattle.mesh.specs.Mesh.{In}
 use Rattle.mesh.specs.WfParts.{turn-inverse}
-use Rattle.sums.specs.Half.{rev}
+use Rattle.sums.specs.Half.{rev, rev-rev}
 use Rattle.sums.specs.Iterate.{iter, Inverse, period-below}
 use Rattle.search.specs.declared.Closer.the-variants.{Vertex, Nothing}
 use Rattle.search.specs.Round.{stepsTo, Passing, firstPassing, passing-start, passing-below, passing-on, passing-less, passing-hit, passing-hit-below, passing-none}
@@ -32,8 +32,12 @@ abbrev pub endNearer : List ℤ → List ℕ → Point → ℤ → ℕ → Bool
 endNearer q h point d e = ltZ (length2 (positionOf q (halvesOf h .origin (rev e))) point) d
 
 -- no end from the stored out edge on to e is
-abbrev pub Spoke : List ℤ → List ℕ → Point → ℤ → ℕ → ℕ → Type 0
+abbrev Spoke : List ℤ → List ℕ → Point → ℤ → ℕ → ℕ → Type 0
 Spoke q h point d start e = Passing (length h) (turnIn h) (endNearer q h point d) start e
+
+-- the same of an out edge by its reverse b
+pub record SpokeBack (q : List ℤ) (h : List ℕ) (point : Point) (d : ℤ) (start b : ℕ) : Type 0 where
+  pub passing : Spoke q h point d start (rev b)
 
 abbrev pub spokesLeft : List ℕ → ℕ → ℕ → ℕ
 spokesLeft h start e = length h - stepsTo (length h) (turnIn h) start e
@@ -65,61 +69,83 @@ module _ {C : Counts} {q : List ℤ} {o h : List ℕ} {point : Point} {v : ℕ} 
     unfolding linksOf
     spokes-are a = rw s refl
 
-    pub spoke-start : Spoke q h point z start start
-    spoke-start = passing-start inverse (endNearer q h point z) start-in more
+    -- the loop has each out edge by its reverse, whose origin is the out edge's end: first that of the stored one
+    module _ {first : ℕ} (l : first ≡ rev start) where
+      pub spoke-start : SpokeBack q h point z start first
+      spoke-start = record {
+        passing = subst (Spoke q h point z start) (sym (ap rev l ∙ rev-rev start))
+            (passing-start inverse (endNearer q h point z) start-in more);
+      }
 
-    module _ {e : ℕ} (K : Spoke q h point z start e) where
-      in-use : In C e
-      in-use = passing-below inverse (endNearer q h point z) start-in more K
+      module _ {b : ℕ} (K : SpokeBack q h point z start b) where
+        in-use : In C (rev b)
+        in-use = passing-below inverse (endNearer q h point z) start-in more (K .passing)
 
-      pub spoke-there : There h e
-      spoke-there = there H in-use
+        pub spoke-there : {e : ℕ} → e ≡ rev b → There h e
+        spoke-there g = rw g (there H in-use)
 
-      pub spoke-back : There h (rev e)
-      spoke-back = there-rev H in-use
+        pub spoke-back : There h b
+        spoke-back = subst (There h) (rev-rev b) (there-rev H in-use)
 
-      -- its end w, at p
-      module _ {w : ℕ} (x : w ≡ halvesOf h .origin (rev e)) where
-        end-placed : Placed q w
-        end-placed = rw x (ready-placed (R .near .ready) (to-in H in-use))
+        -- the end w, at p
+        module _ {w : ℕ} (x : w ≡ halvesOf h .origin b) where
+          end-is : w ≡ halvesOf h .origin (rev (rev b))
+          end-is = x ∙ ap (halvesOf h .origin) (sym (rev-rev b))
 
-        pub end-there : 2 * w + 1 < length q
-        end-there = end-placed .there
+          end-placed : Placed q w
+          end-placed = rw end-is (ready-placed (R .near .ready) (to-in H in-use))
 
-        module _ {p : Point} (y : p ≡ positionOf q w) where
-          pub end-range : InRange p × InRange point
-          end-range = (rw y (end-placed .range), R .near .ready .range)
+          pub end-there : 2 * w + 1 < length q
+          end-there = end-placed .there
 
-          -- at the squared distance u
-          module _ {u : ℤ} (j : u ≡ length2 p point) where
-            tested : ltZ u z ≡ endNearer q h point z e
-            tested = rw (j, y, x) refl
+          module _ {p : Point} (y : p ≡ positionOf q w) where
+            pub end-range : InRange p × InRange point
+            end-range = (rw y (end-placed .range), R .near .ready .range)
 
-            near : (a : List ℕ) → endNearer q h point z e ≡ true → w ≡ nearer C (linksOf o h a) (positionOf q) point v
-            unfolding nearer linksOf
-            near a t =
-                x ∙ ap (λ (y : ℕ). halvesOf h .origin (rev y)) (sym (passing-hit inverse (endNearer q h point z) start-in more K t)
-                ∙ ap (λ (k : ℕ). iter k (turnIn h) start) (first-is a) ∙ ap (iter (firstCloser C (linksOf o h a) (positionOf q) point v) (turnIn h)) s)
+            -- at the squared distance u
+            module _ {u : ℤ} (j : u ≡ length2 p point) where
+              tested : ltZ u z ≡ endNearer q h point z (rev b)
+              tested = rw (j, y, end-is) refl
 
-            pub spoke-hit : ltZ u z ≡ true → (a : List ℕ) → CloserIs C (linksOf o h a) (positionOf q) point v (Vertex w u)
-            unfolding isNearest nearer
-            spoke-hit t a =
-                let b = passing-hit-below inverse (endNearer q h point z) start-in more K (sym tested ∙ t) in
-                let l : firstCloser C (linksOf o h a) (positionOf q) point v < spokes C (linksOf o h a) v = rw (← first-is a, ← spokes-are a) b in
-                (ap not (lt-ltb (firstCloser C (linksOf o h a) (positionOf q) point v) (spokes C (linksOf o h a) v) l), near a (sym tested ∙ t), rw (j, y) refl)
+              near : (a : List ℕ) → endNearer q h point z (rev b) ≡ true → w ≡ nearer C (linksOf o h a) (positionOf q) point v
+              unfolding nearer linksOf
+              near a t =
+                  end-is
+                  ∙ ap (λ (y : ℕ). halvesOf h .origin (rev y)) (sym (passing-hit inverse (endNearer q h point z) start-in more (K .passing) t)
+                  ∙ ap (λ (k : ℕ). iter k (turnIn h) start) (first-is a)
+                  ∙ ap (iter (firstCloser C (linksOf o h a) (positionOf q) point v) (turnIn h)) s)
 
-            module _ (t : ltZ u z ≡ false) {n m : ℕ} (g : m ≡ halvesOf h .prev e) (f : n ≡ rev m) where
-              turned : turnIn h e ≡ n
-              turned = sym (f ∙ ap rev g)
+              pub spoke-hit : ltZ u z ≡ true → (a : List ℕ) → CloserIs C (linksOf o h a) (positionOf q) point v (Vertex w u)
+              unfolding isNearest nearer
+              spoke-hit t a =
+                  let f = firstCloser C (linksOf o h a) (positionOf q) point v in
+                  let b = passing-hit-below inverse (endNearer q h point z) start-in more (K .passing) (sym tested ∙ t) in
+                  let l : f < spokes C (linksOf o h a) v = rw (← first-is a, ← spokes-are a) b in
+                  (ap not (lt-ltb f (spokes C (linksOf o h a) v) l), near a (sym tested ∙ t), rw (j, y) refl)
 
-              pub spoke-none : n ≡ start → (a : List ℕ) → CloserIs C (linksOf o h a) (positionOf q) point v Nothing
-              unfolding isNearest
-              spoke-none k a =
-                  let b = passing-none inverse (endNearer q h point z) start-in more K (sym tested ∙ t) (turned ∙ k) in
-                  ap not (le-ltb (firstCloser C (linksOf o h a) (positionOf q) point v) (spokes C (linksOf o h a) v) (let e = first-is a in let g = spokes-are a in omega arith))
+              -- none so far: on to the reverse n of the next
+              module _ (t : ltZ u z ≡ false) {e n : ℕ} (g : e ≡ rev b) (f : n ≡ halvesOf h .prev e) where
+                turned : turnIn h (rev b) ≡ rev n
+                turned = sym (ap rev (f ∙ ap (halvesOf h .prev) g))
 
-              pub spoke-on : n ≢ start → Spoke q h point z start n
-              spoke-on k = subst (Spoke q h point z start) turned (passing-on inverse (endNearer q h point z) start-in more K (sym tested ∙ t) (λ b. k (sym turned ∙ b)))
+                pub spoke-none : n ≡ first → (a : List ℕ) → CloserIs C (linksOf o h a) (positionOf q) point v Nothing
+                unfolding isNearest
+                spoke-none k a =
+                    let b = passing-none inverse (endNearer q h point z) start-in more (K .passing) (sym tested ∙ t) (turned ∙ ap rev (k ∙ l) ∙ rev-rev start) in
+                    ap not (le-ltb (firstCloser C (linksOf o h a) (positionOf q) point v) (spokes C (linksOf o h a) v)
+                    (let e = first-is a in let g = spokes-are a in omega arith))
 
-              pub spoke-less : n ≢ start → spokesLeft h start n < spokesLeft h start e
-              spoke-less k = subst (λ (x : ℕ). spokesLeft h start x < spokesLeft h start e) turned (passing-less inverse (endNearer q h point z) start-in more K (λ b. k (sym turned ∙ b)))
+                module _ (k : n ≢ first) where
+                  not-start : turnIn h (rev b) ≢ start
+                  not-start m = k (sym (rev-rev n) ∙ ap rev (sym turned ∙ m) ∙ sym l)
+
+                  pub spoke-on : SpokeBack q h point z start n
+                  spoke-on = record {
+                    passing = subst (Spoke q h point z start) turned
+                        (passing-on inverse (endNearer q h point z) start-in more (K .passing) (sym tested ∙ t) not-start);
+                  }
+
+                  pub spoke-less : spokesLeft h start (rev n) < spokesLeft h start (rev b)
+                  spoke-less =
+                      subst (λ (x : ℕ). spokesLeft h start x < spokesLeft h start (rev b)) turned
+                      (passing-less inverse (endNearer q h point z) start-in more (K .passing) not-start)

@@ -54,17 +54,19 @@ fn first_closer(
         → CloserIs counts (linksOf (now (outs .entry)) (now (halves .entry)) a) (positionOf (now (positions .entry))) point v r) ⌝ }
 {
     let start = dcel::out(outs, v);
-    let mut e = start;
+    // an out edge by its reverse: the end that is looked at is the origin of that
+    let first = dcel::rev(start);
+    let mut back = first;
     loop {
-        let w = dcel::to(halves, e);
+        let w = dcel::origin(halves, back);
         let p = dcel::position(positions, w);
         let new_distance = p.distance_2(point);
         if new_distance < distance {
             return Closer::Vertex(w, new_distance);
         }
-        let prev = dcel::prev(halves, e);
-        e = dcel::rev(prev);
-        if e == start {
+        let e = dcel::rev(back);
+        back = dcel::prev(halves, e);
+        if back == first {
             return Closer::Nothing;
         }
     }
