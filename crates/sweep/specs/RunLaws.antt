@@ -1,27 +1,25 @@
 -- THE THEOREM of the whole run, for every seed, centre and list of points: a run that is answered with no refusal number meets demand 3;
 -- one that is refused 9 leaves a good mesh and the answers that stand; and one that is refused another number changes nothing.
--- Assumes nothing.
+-- One file, though a long one: all of it is about one run, whose stages are named once, at its beginning. Assumes nothing.
 use mathlib.Core.Bool.{Bool, true, false, cond, not, false≢true, _&&_}
-use mathlib.Core.List.{List}
 use mathlib.Core.Logic.{_⊎_, inl, inr}
 use mathlib.Core.Path.{_≡_, refl, sym, _∙_, ap, ap₂, subst, subst⁻¹}
-use Prim.Native.Nat.{ℕ, _+_, _*_, _/_, _%_, _<_, _≤_}
-use native.Mathlib.Decide.{decLt}
+use Prim.Native.Nat.{ℕ, _+_, _*_, _<_, _≤_}
 use native.Mathlib.Omega.{arith}
-use borrow.Author.Tests.{lt-ltb, le-ltb, ltb-false, eq-eqb}
+use borrow.Author.Tests.{lt-ltb, ltb-false, eq-eqb}
 use lib.Dec.{T, ltb, eqb}
 use lib.IntN.{pos, _-ℤ_}
-use lib.ListN.{length, getD, replicate, List·getD-eq-default}
+use lib.ListN.{length, replicate}
 use lib.Signed.{_≤ℤ_}
 use Rattle.closing.specs.Closing.{Closing, closingPass}
 use Rattle.convexity.specs.Convexity.{NoLeftCorner}
 use Rattle.corner.specs.Untouched.{Untouched, untouched-join}
 use Rattle.dcel.specs.MeshRows.{linksIn, placesIn, meshRowsFrom}
 use Rattle.dcel.specs.Rows.{positionOf, rowOf, rowFrom}
-use Rattle.dcel.specs.Views.{length-from, getD-from}
+use Rattle.dcel.specs.Views.{length-from}
 use Rattle.decide.specs.declared.Fate.{Fate}
 use Rattle.decide.specs.declared.Fate.the-variants.{Added, Dropped, NotLeft, Unsound, AtCenter}
-use Rattle.decide.specs.Decide.{fateNumber, fateVertex}
+use Rattle.decide.specs.Decide.{fateVertex}
 use Rattle.finish.specs.declared.Finished.{Finished}
 use Rattle.finish.specs.declared.Totals.{Totals}
 use Rattle.finish.specs.CallLeavesLaws.{in-rows, call-leaves}
@@ -44,10 +42,10 @@ use Rattle.ring.specs.Boundary.{strict-ring}
 use Rattle.ring.specs.Center.{turnsAbout}
 use Rattle.ring_rows.specs.RingRows.{ringZeros}
 use Rattle.start.specs.StartLaws.{AcceptedSweep, sweep-accepts, sweep-numbered}
-use Rattle.sweep.specs.Step.{Stepping, answerOf, isAdded}
+use Rattle.sweep.specs.Step.{answerOf, isAdded}
 use Rattle.sweep.specs.StepMesh.{Swept}
 use Rattle.sums.specs.Bounded.{count, count-ext, count-before, count-parts, count-apart}
-use Rattle.sweep.specs.Run.{Sweeping, answerWords, answerIn, answerWord, answersAfter, RunLent, RunOutcome, ranWith, runChecked, sweepOf, stepsOf, runOutcome, runOf, completeAfter, completedAnswers, skippedOf, runCompletes, passedOf, fillOf, insertOf, insertedWord, runAnswers, isSkipped}
+use Rattle.sweep.specs.Run.{Sweeping, answerWords, answerIn, answerWord, RunLent, RunOutcome, ranWith, runChecked, sweepOf, stepsOf, runOutcome, runOf, completeAfter, skippedOf, runCompletes, passedOf, fillOf, insertOf, insertedWord, runAnswers, isSkipped}
 use Rattle.sweep.specs.SweepLaws.{SweepKeeps, sweep-keeps}
 use Rattle.sweep.specs.Demand3.{fateOf, vertexOf, addedBefore, beforeClosing, Demand3, RunLeaves, Full, Ran, isEntered, isVertex, isRunFate, enteredBefore}
 use Rattle.corner.specs.Corner.{Extended}
@@ -55,55 +53,9 @@ use Rattle.location.specs.declared.PositionInTriangulation.{PositionInTriangula
 use Rattle.skipped.specs.Insert.{isNew}
 use Rattle.skipped.specs.Fill.{insertedVertex, insertWord, enters, Completing, completeMesh}
 use Rattle.sums.specs.Bit.{bit, from-true, is-true, and-left, and-right, or-cases}
+use Rattle.sweep.specs.RunAnswers.{answer-at, answer-past, word-is, word-past}
 use Rattle.sweep.specs.RunFates.{numberOf, one-added, entered-new, run-fate, nine-skipped, added-not-skipped, added-vertex, parts-of, apart-of, is-added-point, three-skipped, four-skipped, five-skipped}
 use Rattle.skipped.specs.CompleteLaws as complete
-
--- ---- the answers
--- fate 1 is that of an added point, and its vertex is in the answer
-pub vertex-added : (f : Fate) → fateNumber f ≡ 1 → f ≡ Added (fateVertex f)
-unfolding fateNumber fateVertex
-vertex-added (Added v) z = refl
-vertex-added Dropped z = absurd (omega arith)
-vertex-added NotLeft z = absurd (omega arith)
-vertex-added Unsound z = absurd (omega arith)
-vertex-added AtCenter z = absurd (omega arith)
-
--- a row of answers, by the words of its points
-module _ (f : ℕ → ℕ) (row : List ℕ) where
-  abbrev rows : List ℕ
-  rows = rowFrom (length row) f
-
-  pub answer-at : (x : ℕ) → x < length row → rowOf rows x ≡ f x
-  unfolding rowOf
-  answer-at x l = getD-from (length row) f 0 x l
-
-  pub answer-past : (x : ℕ) → f x ≡ rowOf row x → rowOf rows x ≡ rowOf row x
-  unfolding rowOf
-  answer-past x e = go (decLt x (length row))
-    where
-      go : Dec (x < length row) → getD rows x 0 ≡ getD row x 0
-      go (yes b) = getD-from (length row) f 0 x b ∙ e
-      go (no b) =
-          let w = length-from (length row) f in
-          List·getD-eq-default rows 0 (omega arith) ∙ sym (List·getD-eq-default row 0 (omega arith))
-
--- the words of point i after the finish
-module _ (answer : ℕ → ℕ → ℕ) (skipped : ℕ → Bool) (inserted : ℕ) (step : ℕ → Stepping) (answered count : ℕ) (row : ℕ → ℕ) where
-  abbrev after : ℕ → ℕ
-  after = completedAnswers answer skipped inserted count (answersAfter step answered count row)
-
-  pub word-is : (i k : ℕ) → i < count → k < answerWords
-      → after (answerWords * i + k)
-      ≡ cond (skipped i) (cond (ltb i inserted) (answer i k) 0) (cond (ltb i answered) (answerWord (answerOf (step i)) k) 0)
-  unfolding completedAnswers answersAfter
-  word-is i k a b =
-      let x : (answerWords * i + k) / answerWords ≡ i = omega arith in
-      let y : (answerWords * i + k) % answerWords ≡ k = omega arith in
-      rw (lt-ltb (answerWords * i + k) (answerWords * count) (omega arith), x, y) refl
-
-  pub word-past : (x : ℕ) → answerWords * count ≤ x → after x ≡ row x
-  unfolding completedAnswers answersAfter
-  word-past x c = rw (le-ltb x (answerWords * count) c) refl
 
 -- ---- what the checks accept
 module _ (l : RunLent) (e : runChecked l ≡ Checked.Accepted) where
