@@ -3,7 +3,7 @@
 -- (`toZ-ofZ (c .fits .x)`, `reads64 env e tt`), and gives the fact about a and b.
 -- `x > 0` is `0 < x`, and `x >= y` is `y <= x`. And two tests that pass alike are equal, as `x <= y` and `!(y < x)` are.
 -- Assumes nothing.
-use mathlib.Core.Path.{_≡_, refl, sym, subst, subst₂}
+use mathlib.Core.Path.{_≡_, refl, sym, _∙_, ap, subst, subst₂}
 use mathlib.Core.Bool.{Bool, true, false, not}
 use lib.Dec.{T, le→leb}
 use lib.IntN.{ℤ}
@@ -37,3 +37,11 @@ le-not-lt a b = test-ext (leZ a b) (not (ltZ b a)) (λ t. go (ltZ b a) (λ u. cl
     go : (f : Bool) → (T f → ⊥) → T (not f)
     go true n = absurd (n tt)
     go false n = tt
+
+-- so that a branch on the one tells of the other
+pub le-read : (a b : ℤ) {t : Bool} → leZ a b ≡ t → ltZ b a ≡ not t
+le-read a b k = go (ltZ b a) (sym (le-not-lt a b) ∙ k)
+  where
+    go : (f : Bool) {t : Bool} → not f ≡ t → f ≡ not t
+    go true k = ap not k
+    go false k = ap not k

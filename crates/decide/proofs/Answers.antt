@@ -27,7 +27,7 @@ use Rattle.decide.specs.declared.Fate.the-variants.{AtCenter as AtCenter
 use Rattle.decide.specs.Decide.{Decided, decided, decidedAt, ifAdded}
 use Rattle.decide.specs.SweepRows.{Decides, SweepRows, ToDecide}
 use Rattle.decide.specs.SweepRowsLaws.{decided-none, decided-some, found-located, located-rows}
-use Rattle.decide.specs.Walks.{DecidesAt, LeavesOut, LocatedRows, ToDecideAt}
+use Rattle.decide.specs.Located.{DecidesAt, LeavesOut, LocatedRows, ToDecideAt}
 use Rattle.decide.proofs.Deciding.{left-out}
 
 -- ---- an answer of `vertex_angle`

@@ -9,19 +9,18 @@ use lib.Ieee.{Float}
 use lib.IntN.{ℤ, pos}
 use lib.Signed.{ltZ, leZ}
 use Rattle.angle.specs.Angle.{IsAngle, turns}
+use Rattle.algebra.specs.Test.{le-read}
 use Rattle.circle_test.specs.GoodRows.{held}
 use Rattle.dcel.specs.Rows.{halvesOf, linksOf, positionOf}
 use Rattle.dcel.specs.MeshHeld.{counts-fit}
-use Rattle.hull.specs.Boundary.{Angled, AngleAt, AngledBoundary, edgeAt, originTurns}
-use Rattle.hull.specs.Ready.{size-small}
+use Rattle.hull.specs.Boundary.{edgeAt, originTurns}
 use Rattle.math.specs.declared.Point.{Point}
-use Rattle.math.specs.Determinant.{orient2d, isPosition}
+use Rattle.math.specs.Determinant.{InRange, orient2d, isPosition}
 use Rattle.mesh.specs.declared.Counts.{Counts}
 use Rattle.mesh.specs.Mesh.{Links, In}
 use Rattle.mesh.specs.Area.{boundaryLength}
 use Rattle.mesh.specs.BoundaryLaws.{next-inverse}
 use Rattle.mesh.specs.CountsLaws.{count-halves, faces-least}
-use Rattle.ring.specs.declared.Side.{Side}
 use Rattle.ring.specs.declared.Side.the-variants.{Left, Right}
 use Rattle.ring.specs.Ring.{fullTurn, atEnds, proper}
 use Rattle.ring.specs.Center.{turnsAbout}
@@ -30,22 +29,21 @@ use Rattle.ring.specs.Chain.{seesEdge, leftChain, rightChain, chainStart, chain
 use Rattle.ring.specs.ChainMesh.{before-walk, chain-short, chain-sound}
 use Rattle.ring.specs.Node.{nodes as nodeCount}
 use Rattle.ring.specs.RingOf.{nodes-most}
-use Rattle.sums.specs.Bit.{from-true}
+use Rattle.ring.specs.Segments.{holds-proper}
+use Rattle.sums.specs.Bit.{bit, bit-yes, from-true}
 use Rattle.sums.specs.Half.{rev}
 use Rattle.sums.specs.Iterate.{iter, iter-add, iter-back, inverse-sym}
 use Rattle.sums.specs.Tally.{tally-at, tally-most}
-use Rattle.decide.specs.declared.Chain.{Chain}
 use Rattle.decide.specs.declared.Decision.{Decision}
-use Rattle.decide.specs.declared.Ends.{Ends}
 use Rattle.decide.specs.declared.Fate.{Fate}
 use Rattle.decide.specs.declared.Fate.the-variants.{Added, Dropped, NotLeft, Unsound}
-use Rattle.decide.specs.declared.WalkEnd.{WalkEnd}
 use Rattle.decide.specs.Decide.{Decided, atEnd, decidedAt, fateAt, ifAdded, notAdded}
 use Rattle.decide.specs.SweepRows.{ChainAngles, Decides}
-use Rattle.decide.specs.Walks.{originPosition, EndsOf, EdgeAbout, ToWalk, WalkedTo}
-use Rattle.decide.specs.Walks.{ToCount, CountedChain, LocatedRows, DecidesAt, LeavesOut}
-use Rattle.decide.specs.WalkLaws.{edge-about, about-from, to-walk, walked-chain}
-use Rattle.decide.proofs.Tests.{sees-is, right-read}
+use Rattle.decide.specs.Located.{LocatedRows, DecidesAt, LeavesOut}
+use Rattle.walks.specs.declared.BoundaryVertex.{BoundaryVertex}
+use Rattle.walks.specs.declared.WalkEnd.{WalkEnd}
+use Rattle.walks.specs.Walks.{originPosition, EdgeAbout, ToRead, ReadAt, ToWalk, WalkedTo}
+use Rattle.walks.specs.WalkLaws.{to-read, read-at, edge-about, stands-at, to-walk, walked-chain, chain-nodes}
 
 -- ---- the decision by four tests: is the point at the first end, at the second, is it strictly left, is the ring sound after the step
 abbrev fateOf : ℕ → Bool → Bool → Bool → Bool → Fate
@@ -78,6 +76,11 @@ left-out F never i j = record {
 abbrev pub addedWith : ℕ → ℕ → ℕ → ℕ → Float → Float → Float → Decision
 addedWith n e i j a s t = record { fate = Added n; edge = e; left = i; right = j; angle = a; startangle = s; endangle = t }
 
+-- the positions of e's ends
+pub record EndsAt (q : List ℤ) (h : List ℕ) (e : ℕ) (from to : Point) : Type 0 where
+  pub from-is : from ≡ originPosition q h e
+  pub to-is : to ≡ originPosition q h (rev e)
+
 -- the point is at neither end of e, and strictly left of it
 pub record Passes (q : List ℤ) (o h f : List ℕ) (v : Point) (e : ℕ) : Type 0 where
   pub from : isPosition v (originPosition q h e) ≡ false
@@ -90,66 +93,78 @@ module _ {C : Counts} {q : List ℤ} {o h f : List ℕ} {cx cy : Float} {e size 
   pub here-about : EdgeAbout q h cx cy e
   here-about = edge-about (K .mesh) cx cy (K .center) (K .in-use) (K .outer)
 
-  pub asks-walk : (side : Side) → ToWalk side q h cx cy v a e
-  asks-walk = to-walk (K .mesh) cx cy (K .center) (K .in-use) (K .outer) (K .range) (K .is-angle)
-
   -- ---- the tests of its ends and its side
-  module _ {r : Ends} (E : EndsOf q h e r) {x : Bool} (x-is : x ≡ isPosition v (r .from)) where
-    from-is : isPosition v (originPosition q h e) ≡ x
-    from-is = ap (isPosition v) (sym (E .from)) ∙ sym x-is
+  pub ends-at : {from to : Point} {t : ℕ} → from ≡ originPosition q h e → t ≡ rev e → to ≡ originPosition q h t → EndsAt q h e from to
+  ends-at x y z = record { from-is = x; to-is = z ∙ ap (originPosition q h) y }
 
-    pub at-from : x ≡ true → {d : Decision} → LeavesOut Dropped d → DecidesAt C q o h f cx cy e v a d
-    unfolding ifAdded
-    at-from i w = left-out Dropped refl w
-        (decided-by C q o h f (turnsAbout cx cy (positionOf q)) v (turns a) e (from-is ∙ i) refl refl refl)
+  module _ {from to : Point} (E : EndsAt q h e from to) where
+    pub asks-side : InRange from × InRange to × InRange v
+    asks-side = (rw (E .from-is) (here-about .from .placed .range), rw (E .to-is) (here-about .to .placed .range), K .range)
 
-    module _ (i : x ≡ false) {y : Bool} (y-is : y ≡ isPosition v (r .to)) where
-      to-is : isPosition v (originPosition q h (rev e)) ≡ y
-      to-is = ap (isPosition v) (sym (E .to)) ∙ sym y-is
+    module _ {x : Bool} (x-is : x ≡ isPosition v from) where
+      first-is : isPosition v (originPosition q h e) ≡ x
+      first-is = ap (isPosition v) (sym (E .from-is)) ∙ sym x-is
 
-      pub at-to : y ≡ true → {d : Decision} → LeavesOut Dropped d → DecidesAt C q o h f cx cy e v a d
+      pub at-from : x ≡ true → {d : Decision} → LeavesOut Dropped d → DecidesAt C q o h f cx cy e v a d
       unfolding ifAdded
-      at-to j w = left-out Dropped refl w
-          (decided-by C q o h f (turnsAbout cx cy (positionOf q)) v (turns a) e (from-is ∙ i) (to-is ∙ j) refl refl)
+      at-from i w = left-out Dropped refl w
+          (decided-by C q o h f (turnsAbout cx cy (positionOf q)) v (turns a) e (first-is ∙ i) refl refl refl)
 
-      module _ (j : y ≡ false) {s : ℤ} (s-is : s ≡ orient2d (r .from) (r .to) v) where
-        side-is : seesEdge (linksOf o h f) (positionOf q) v e ≡ ltZ (pos 0) s
-        unfolding linksOf
-        side-is = sym (sees-is q h e E v s-is)
+      module _ (i : x ≡ false) {y : Bool} (y-is : y ≡ isPosition v to) where
+        second-is : isPosition v (originPosition q h (rev e)) ≡ y
+        second-is = ap (isPosition v) (sym (E .to-is)) ∙ sym y-is
 
-        pub not-left : leZ s (pos 0) ≡ true → {d : Decision} → LeavesOut NotLeft d → DecidesAt C q o h f cx cy e v a d
+        pub at-to : y ≡ true → {d : Decision} → LeavesOut Dropped d → DecidesAt C q o h f cx cy e v a d
         unfolding ifAdded
-        not-left k w = left-out NotLeft refl w
-            (decided-by C q o h f (turnsAbout cx cy (positionOf q)) v (turns a) e (from-is ∙ i) (to-is ∙ j) (side-is ∙ not-true (ltZ (pos 0) s) (right-read r v s-is k)) refl)
+        at-to j w = left-out Dropped refl w
+            (decided-by C q o h f (turnsAbout cx cy (positionOf q)) v (turns a) e (first-is ∙ i) (second-is ∙ j) refl refl)
 
-        pub passes : leZ s (pos 0) ≡ false → Passes q o h f v e
-        passes k = record { from = from-is ∙ i; to = to-is ∙ j; side = side-is ∙ not-false (ltZ (pos 0) s) (right-read r v s-is k) }
+        module _ (j : y ≡ false) {s : ℤ} (s-is : s ≡ orient2d from to v) where
+          side-is : {t : Bool} → leZ s (pos 0) ≡ t → seesEdge (linksOf o h f) (positionOf q) v e ≡ not t
+          unfolding linksOf
+          side-is k =
+              sym (ap (ltZ (pos 0)) (s-is ∙ ap₂ (λ (x y : Point). orient2d x y v) (E .from-is) (E .to-is))) ∙ le-read s (pos 0) k
 
-  -- ---- the chain that the walks cover: its first edge
-  module _ {left : WalkEnd} (A : WalkedTo Left q h cx cy v a e left) where
-    start-outer : In C (left .edge) × (linksOf o h f .face (left .edge) ≡ 0)
-    unfolding linksOf
-    start-outer = subst (λ (d : ℕ). In C d × (halvesOf h .face d ≡ 0)) (sym (A .edge))
-        (before-walk (K .mesh .good .wf) (positionOf q) (turnsAbout cx cy (positionOf q)) v (turns a) (K .in-use) (K .outer) (left .count))
+          pub not-left : leZ s (pos 0) ≡ true → {d : Decision} → LeavesOut NotLeft d → DecidesAt C q o h f cx cy e v a d
+          unfolding ifAdded
+          not-left k w = left-out NotLeft refl w
+              (decided-by C q o h f (turnsAbout cx cy (positionOf q)) v (turns a) e (first-is ∙ i) (second-is ∙ j) (side-is k) refl)
 
-    start-boundary : AngledBoundary q h cx cy (left .edge)
-    start-boundary = about-from (K .mesh) cx cy (K .center) (start-outer .0) (start-outer .1)
+          pub passes : leZ s (pos 0) ≡ false → Passes q o h f v e
+          passes k = record { from = first-is ∙ i; to = second-is ∙ j; side = side-is k }
 
-    pub start-angled : Angled q h cx cy (left .edge)
-    start-angled =
-        let B = start-boundary in record { there = B .rows .there 0; placed = B .rows .placed 0; valid = B .valid; apart = B .apart 0 }
+    -- ---- the walks, from its ends
+    pub asks-from : ToRead from cx cy
+    asks-from = to-read q h e (E .from-is) (here-about .valid) (here-about .from-apart)
 
-    pub asks-count : {s : Float} → AngleAt q h cx cy (left .edge) s → ToCount q h cx cy (left .edge) s
-    asks-count P = record { boundary = start-boundary; first = P }
+    pub asks-to : ToRead to cx cy
+    asks-to = to-read q h (rev e) (E .to-is) (here-about .valid) (here-about .to-apart)
 
-    -- along it to e
-    start-to : iter (left .count) (halvesOf h .next) (left .edge) ≡ e
-    unfolding linksOf
-    start-to =
-        ap (iter (left .count) (halvesOf h .next)) (A .edge)
-        ∙ iter-back (inverse-sym (next-inverse (K .mesh .good .wf))) (left .count) (K .in-use)
+    pub asks-left : {r : BoundaryVertex} → ReadAt from cx cy r → ToWalk Left q h cx cy v a e r
+    asks-left R =
+        to-walk (K .mesh) cx cy (K .center) (K .in-use) (K .outer) (K .range) (K .is-angle) Left (read-at q h e (E .from-is) R)
 
-  -- ---- its length, and whether the ring is sound after the step
+    pub asks-right : {r : BoundaryVertex} → ReadAt to cx cy r → ToWalk Right q h cx cy v a e r
+    asks-right R =
+        to-walk (K .mesh) cx cy (K .center) (K .in-use) (K .outer) (K .range) (K .is-angle) Right (read-at q h (rev e) (E .to-is) R)
+
+  -- ---- the chain's first edge, m edges before e
+  start-outer : (m : ℕ) → In C (iter m (halvesOf h .prev) e) × (linksOf o h f .face (iter m (halvesOf h .prev) e) ≡ 0)
+  unfolding linksOf
+  start-outer = before-walk (K .mesh .good .wf) (positionOf q) (turnsAbout cx cy (positionOf q)) v (turns a) (K .in-use) (K .outer)
+
+  -- along it to e
+  start-to : (m : ℕ) → iter m (halvesOf h .next) (iter m (halvesOf h .prev) e) ≡ e
+  unfolding linksOf
+  start-to m = iter-back (inverse-sym (next-inverse (K .mesh .good .wf))) m (K .in-use)
+
+  -- e has a node, since it holds the angle
+  own-node : bit (atEnds proper (halvesOf h .next) (originTurns q h cx cy) e) ≡ 1
+  unfolding linksOf
+  own-node = bit-yes (atEnds proper (halvesOf h .next) (originTurns q h cx cy) e)
+      (holds-proper (turns a) (originTurns q h cx cy e) (originTurns q h cx cy (halvesOf h .next e)) (K .at))
+
+  -- ---- the chain's length, and whether the ring is sound after the step
   module _ (S : Passes q o h f v e) {left right : WalkEnd}
       (A : WalkedTo Left q h cx cy v a e left) (B : WalkedTo Right q h cx cy v a e right) where
     left-is : leftChain C (linksOf o h f) (positionOf q) (turnsAbout cx cy (positionOf q)) v (turns a) e ≡ left .count
@@ -164,9 +179,12 @@ module _ {C : Counts} {q : List ℤ} {o h f : List ℕ} {cx cy : Float} {e size 
         chainLength C (linksOf o h f) (positionOf q) (turnsAbout cx cy (positionOf q)) v (turns a) e ≡ left .count + 1 + right .count
     length-is = ap₂ (λ (i j : ℕ). i + 1 + j) left-is right-is
 
-    start-is : chainStart C (linksOf o h f) (positionOf q) (turnsAbout cx cy (positionOf q)) v (turns a) e ≡ left .edge
-    unfolding linksOf
-    start-is = ap (λ (i : ℕ). iter i (halvesOf h .prev) e) left-is ∙ sym (A .edge)
+    start : ℕ
+    start = iter (left .count) (halvesOf h .prev) e
+
+    start-is : chainStart C (linksOf o h f) (positionOf q) (turnsAbout cx cy (positionOf q)) v (turns a) e ≡ start
+    unfolding linksOf start
+    start-is = ap (λ (i : ℕ). iter i (halvesOf h .prev) e) left-is
 
     -- an edge is left over
     short : left .count + 1 + right .count < boundaryLength C (linksOf o h f)
@@ -174,52 +192,71 @@ module _ {C : Counts} {q : List ℤ} {o h f : List ℕ} {cx cy : Float} {e size 
         (chain-short (K .mesh .good .wf) (positionOf q) (turnsAbout cx cy (positionOf q)) v (turns a) (K .in-use) (K .outer)
         (K .mesh .good .turning) (from-true (S .side)))
 
-    pub count-fits : left .count + 1 + right .count < 2 ^ 32
-    count-fits = let u = short in let s = size-small (held (K .mesh)) in omega arith
+    -- the angles at its two ends
+    start-turns : turns (left .vertex .angle) ≡ originTurns q h cx cy start
+    unfolding start
+    start-turns = A .vertex .angle .turns-are
+        ∙ ap (turnsAbout cx cy (positionOf q)) (stands-at (K .mesh) cx cy (K .center) (K .in-use) (K .outer) Left (left .count))
 
-    end-is : edgeAt h (left .edge) (left .count + 1 + right .count) ≡ iter (suc (right .count)) (halvesOf h .next) e
+    end-is : edgeAt h start (left .count + 1 + right .count) ≡ iter (suc (right .count)) (halvesOf h .next) e
+    unfolding start
     end-is =
-        ap (edgeAt h (left .edge)) (regroup (left .count) (right .count))
-        ∙ iter-add (left .count) (suc (right .count)) (halvesOf h .next) (left .edge)
-        ∙ ap (iter (suc (right .count)) (halvesOf h .next)) (start-to A)
+        ap (edgeAt h (iter (left .count) (halvesOf h .prev) e)) (regroup (left .count) (right .count))
+        ∙ iter-add (left .count) (suc (right .count)) (halvesOf h .next) (iter (left .count) (halvesOf h .prev) e)
+        ∙ ap (iter (suc (right .count)) (halvesOf h .next)) (start-to (left .count))
       where
         regroup : (i j : ℕ) → i + 1 + j ≡ i + suc j
         regroup i j = omega arith
 
-    -- the whole ring's nodes, from the chain's first edge on
-    size-is : nodeCount (halvesOf h .next) (originTurns q h cx cy) (boundaryLength C (linksOf o h f)) (left .edge) ≡ size
-    unfolding linksOf
+    -- its nodes, and the whole ring's from its first edge on
+    nodes-are : nodeCount (halvesOf h .next) (originTurns q h cx cy) (left .count + 1 + right .count) start ≡ left .nodes + 1 + right .nodes
+    unfolding start
+    nodes-are =
+        chain-nodes (K .mesh) cx cy (K .center) (K .in-use) (K .outer) (left .count) (right .count) (A .nodes) (B .nodes)
+        ∙ ap (λ (k : ℕ). left .nodes + k + right .nodes) own-node
+
+    size-is : nodeCount (halvesOf h .next) (originTurns q h cx cy) (boundaryLength C (linksOf o h f)) start ≡ size
+    unfolding linksOf start
     size-is =
+        let s = iter (left .count) (halvesOf h .prev) e in let w = start-outer (left .count) in
         sym (tally-at (atEnds proper (halvesOf h .next) (originTurns q h cx cy)) (halvesOf h .next) (boundaryLength C (linksOf o h f))
-        (left .edge) (outer-round (K .mesh .good .wf) (start-outer A .0) (start-outer A .1)) (left .count))
-        ∙ ap (nodeCount (halvesOf h .next) (originTurns q h cx cy) (boundaryLength C (linksOf o h f))) (start-to A) ∙ K .count
+        s (outer-round (K .mesh .good .wf) (w .0) (w .1)) (left .count))
+        ∙ ap (nodeCount (halvesOf h .next) (originTurns q h cx cy) (boundaryLength C (linksOf o h f))) (start-to (left .count)) ∙ K .count
 
-    module _ {s : Float} (P : AngleAt q h cx cy (left .edge) s)
-        {r : Chain} (R : CountedChain q h cx cy (left .edge) (left .count + 1 + right .count) r) where
-      -- what the test of the ring asks
-      pub asks-fit : IsAngle s × IsAngle a × IsAngle (r .endangle) × (3 + r .nodes < 2 ^ 32) × (size + 2 < 2 ^ 32)
-      asks-fit =
-          let W = K .mesh .good .wf in
-          let u = short in let c = count-halves W in let m = faces-least W in let l = K .mesh .room .small in
-          let i = R .nodes in
-          let b = atEnds proper (halvesOf h .next) (originTurns q h cx cy) in
-          let j = tally-most b (halvesOf h .next) (left .count + 1 + right .count) (left .edge) in
-          let t = nodes-most W (turnsAbout cx cy (positionOf q)) (K .sound) (K .in-use) (K .outer) in
-          let g = K .count in let w = counts-fit (held (K .mesh)) in
-          (P .is-angle, K .is-angle, R .end .is-angle, omega arith, omega arith)
+    -- what the test of the ring asks
+    nodes-fit : 3 + (left .nodes + 1 + right .nodes) < 2 ^ 32
+    nodes-fit =
+        let W = K .mesh .good .wf in
+        let u = short in let c = count-halves W in let m = faces-least W in let l = K .mesh .room .small in
+        let i = nodes-are in
+        let b = atEnds proper (halvesOf h .next) (originTurns q h cx cy) in
+        let j = tally-most b (halvesOf h .next) (left .count + 1 + right .count) start in
+        omega arith
 
-      -- it tests what fate 4 asks
-      module _ {t : Bool} (t-is : t ≡ isFit fullTurn (turns s) (turns a) (turns (r .endangle)) (r .nodes) size) where
+    pub asks-fit : IsAngle (left .vertex .angle) × IsAngle a × IsAngle (right .vertex .angle)
+        × (3 + (left .nodes + 1 + right .nodes) < 2 ^ 32) × (size + 2 < 2 ^ 32)
+    asks-fit =
+        let W = K .mesh .good .wf in
+        let t = nodes-most W (turnsAbout cx cy (positionOf q)) (K .sound) (K .in-use) (K .outer) in
+        let u = short in let c = count-halves W in let m = faces-least W in let l = K .mesh .room .small in
+        let g = K .count in let w = counts-fit (held (K .mesh)) in
+        (A .vertex .angle .is-angle, K .is-angle, B .vertex .angle .is-angle, nodes-fit, omega arith)
+
+    -- it tests what fate 4 asks
+    module _ {t : Bool}
+        (t-is : t ≡ isFit fullTurn (turns (left .vertex .angle)) (turns a) (turns (right .vertex .angle))
+        (left .nodes + 1 + right .nodes) size)
+      where
         sound-is : soundAfter C (linksOf o h f) (positionOf q) (turnsAbout cx cy (positionOf q)) v (turns a) e ≡ t
         unfolding linksOf
         sound-is =
             let β = originTurns q h cx cy in
-            let x = sym (P .turns-are) in let y = sym (R .end .turns-are) in let z = sym (R .nodes) in
+            let x = sym start-turns in let y = ap β end-is ∙ sym (B .vertex .angle .turns-are) in
             chain-sound (K .mesh .good .wf) (positionOf q) (turnsAbout cx cy (positionOf q)) v (turns a) (K .in-use) (K .outer)
             (K .mesh .good .turning) (from-true (S .side)) (K .sound) (K .at)
             ∙ ap₂ (λ (d i : ℕ). isFit fullTurn (β d) (turns a) (β (edgeAt h d i)) (nodeCount (halvesOf h .next) β i d)
             (nodeCount (halvesOf h .next) β (boundaryLength C (linksOf o h f)) d)) start-is length-is
-            ∙ (λ i. isFit fullTurn (x i) (turns a) (y i) (z i) (size-is i))
+            ∙ (λ i. isFit fullTurn (x i) (turns a) (y i) (nodes-are i) (size-is i))
             ∙ sym t-is
 
         pub unsound : not t ≡ true → {d : Decision} → LeavesOut Unsound d → DecidesAt C q o h f cx cy e v a d
@@ -236,19 +273,21 @@ module _ {C : Counts} {q : List ℤ} {o h f : List ℕ} {cx cy : Float} {e size 
             ∙ (λ i. record { fate = Added (K .vertex i); edge = e; left = left-is i; right = right-is i })
 
         -- an added point, with the angles of the chain's ends
-        pub added : not t ≡ false → DecidesAt C q o h f cx cy e v a (addedWith next e (left .count) (right .count) a s (r .endangle))
-        unfolding linksOf
+        pub added : not t ≡ false
+            → DecidesAt C q o h f cx cy e v a
+            (addedWith next e (left .count) (right .count) a (left .vertex .angle) (right .vertex .angle))
+        unfolding linksOf start
         added k = record {
           is = sym (added-is k);
           angles = λ m z. subst
               (λ (D : Decided). ChainAngles C (linksOf o h f) (positionOf q) cx cy v D
-              (addedWith next e (left .count) (right .count) a s (r .endangle)))
+              (addedWith next e (left .count) (right .count) a (left .vertex .angle) (right .vertex .angle)))
               (sym (added-is k)) (record {
                 is-angle = K .is-angle;
                 angle = K .angle;
-                start-angle = P .is-angle;
-                start = P .turns-are ∙ ap (originTurns q h cx cy) (A .edge);
-                end-angle = R .end .is-angle;
-                end = R .end .turns-are ∙ ap (originTurns q h cx cy) end-is;
+                start-angle = A .vertex .angle .is-angle;
+                start = start-turns;
+                end-angle = B .vertex .angle .is-angle;
+                end = B .vertex .angle .turns-are;
               });
         }

@@ -1,6 +1,3 @@
-pub mod Tests
-pub mod Walking
-pub mod Counting
 pub mod Deciding
 pub mod Answers
 pub mod Sig

@@ -1,6 +1,5 @@
--- `Decide` has the definitions, `SweepRows` and `Walks` what the contracts ask and give, the others the laws.
+-- `Decide` has the definitions, `SweepRows` and `Located` what the contracts ask and give, the others the laws.
 pub mod Decide
 pub mod SweepRows
-pub mod Walks
-pub mod WalkLaws
+pub mod Located
 pub mod SweepRowsLaws

@@ -29,7 +29,7 @@ use Rattle.segment.specs.Bucket.{floorOf}
 use Rattle.decide.specs.declared.Fate.the-variants.{AtCenter}
 use Rattle.decide.specs.Decide.{decided, decidedAt, notAdded}
 use Rattle.decide.specs.SweepRows.{SweepRows}
-use Rattle.decide.specs.Walks.{LocatedRows}
+use Rattle.decide.specs.Located.{LocatedRows}
 
 -- ---- the decision by whether the point is at the centre
 module _ (cx cy : Float) (C : Counts) (L : Links) (p : ℕ → Point) (v : Point) where

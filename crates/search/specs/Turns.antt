@@ -6,11 +6,11 @@ use mathlib.Core.Logic.{_≢_}
 use mathlib.Core.Path.{_≡_, refl, sym, _∙_, ap, ap₂}
 use Prim.Native.Nat.{ℕ, _+_, _*_, _<_}
 use native.Mathlib.Omega.{arith}
-use borrow.Author.Tests.{eq-eqb, ne-eqb, not-true, not-false}
+use borrow.Author.Tests.{eq-eqb, ne-eqb}
 use lib.IntN.{ℤ, pos}
 use lib.ListN.{length}
 use lib.Signed.{ltZ, leZ}
-use Rattle.algebra.specs.Test.{le-not-lt}
+use Rattle.algebra.specs.Test.{le-read}
 use Rattle.dcel.specs.Rows.{halvesOf, linksOf, positionOf, There, Placed}
 use Rattle.dcel.specs.MeshHeld.{MeshHeld, there, there-rev, next-in, prev-in, origin-in, to-in}
 use Rattle.location.specs.declared.PositionInTriangulation.the-variants.{OnVertex, OnFace, OnEdge, OutsideOfConvexHull}
@@ -68,19 +68,6 @@ module _ (h : List ℕ) (e2 : ℕ) {s z : ℤ} (r : s ≡ z) {f : ℕ} (o a : Li
 module _ {C : Counts} {L : Links} (p : ℕ → Point) (q : Point) {a b c : ℕ} (t : Triangle C L a b c) where
   area-back : areaAt L p q (rev c) ≡ orient2d (p (L .origin a)) (p (L .origin c)) q
   area-back = ap₂ (λ (u v : ℕ). orient2d (p u) (p v) q) (t .to-c) (ap (L .origin) (rev-rev c))
-
--- ---- a test that fails, by the opposite one
-not-right : (s : ℤ) → leZ (pos 0) s ≡ true → ltZ s (pos 0) ≡ false
-not-right s k = not-true (ltZ s (pos 0)) (sym (le-not-lt (pos 0) s) ∙ k)
-
-is-right : (s : ℤ) → leZ (pos 0) s ≡ false → ltZ s (pos 0) ≡ true
-is-right s k = not-false (ltZ s (pos 0)) (sym (le-not-lt (pos 0) s) ∙ k)
-
-not-left : (s : ℤ) → leZ s (pos 0) ≡ true → ltZ (pos 0) s ≡ false
-not-left s k = not-true (ltZ (pos 0) s) (sym (le-not-lt s (pos 0)) ∙ k)
-
-is-left : (s : ℤ) → leZ s (pos 0) ≡ false → ltZ (pos 0) s ≡ true
-is-left s k = not-false (ltZ (pos 0) s) (sym (le-not-lt s (pos 0)) ∙ k)
 
 -- ---- a half-edge in its mesh
 module _ {q : List ℤ} {h : List ℕ} {point : Point} {e : ℕ} (R : TurnReady q h point e) where
@@ -184,7 +171,7 @@ module _ {q : List ℤ} {h : List ℕ} {point : Point} {e : ℕ} {f t : Point} (
       ccw-by u o a = rw (ne-eqb (halvesOf h .face e) 0 (λ k. z (x ∙ k)), ccw-area o a, u) refl
 
       pub ccw-on : leZ (pos 0) s ≡ true → {d : ℕ} → d ≡ rev c → (o a : List ℕ) → Onward d ≡ rotateCcw (linksOf o h a) (positionOf q) point e
-      ccw-on u w o a = ap Onward (w ∙ ap rev y) ∙ sym (ccw-by (not-right s u) o a)
+      ccw-on u w o a = ap Onward (w ∙ ap rev y) ∙ sym (ccw-by (le-read (pos 0) s u) o a)
 
       pub ccw-across : leZ (pos 0) s ≡ false → {d : ℕ} {s₂ : ℤ} {r : SearchState} → d ≡ halvesOf h .next e → s₂ ≡ orient2d t far point
           → ((o a : List ℕ) (e1 : ℕ) → b ≡ halvesOf h .face e1 → r ≡ acrossEdge (linksOf o h a) e1 d s₂) → (o a : List ℕ)
@@ -193,7 +180,7 @@ module _ {q : List ℤ} {h : List ℕ} {point : Point} {e : ℕ} {f t : Point} (
       ccw-across u w l r o a =
           r o a e x
           ∙ ap₂ (acrossEdge (linksOf o h a) e) w (l ∙ rw (k, g, y, R .to) refl ∙ sym (area-next (positionOf q) point (three (R .turn) x z)))
-          ∙ sym (ccw-by (is-right s u) o a)
+          ∙ sym (ccw-by (le-read (pos 0) s u) o a)
 
   -- the point is strictly right; e₁ is the reverse
   module _ {e₁ b : ℕ} (w : e₁ ≡ rev e) (x : b ≡ halvesOf h .face e₁) where
@@ -227,7 +214,7 @@ module _ {q : List ℤ} {h : List ℕ} {point : Point} {e : ℕ} {f t : Point} (
 
         pub cw-on : leZ s (pos 0) ≡ true → {d : ℕ} → d ≡ halvesOf h .next e₁ → (o a : List ℕ)
             → Onward d ≡ rotateCw (linksOf o h a) (positionOf q) point e
-        cw-on u m o a = ap Onward (m ∙ ap (halvesOf h .next) w) ∙ sym (cw-by (not-left s u) o a)
+        cw-on u m o a = ap Onward (m ∙ ap (halvesOf h .next) w) ∙ sym (cw-by (le-read s (pos 0) u) o a)
 
         pub cw-across : leZ s (pos 0) ≡ false → {s₂ : ℤ} {r : SearchState} → s₂ ≡ orient2d far t point
             → ((o a : List ℕ) (e1 : ℕ) → b ≡ halvesOf h .face e1 → r ≡ acrossEdge (linksOf o h a) e1 c s₂) → (o a : List ℕ)
@@ -237,7 +224,7 @@ module _ {q : List ℤ} {h : List ℕ} {point : Point} {e : ℕ} {f t : Point} (
             r o a (rev e) (x ∙ ap (halvesOf h .face) w)
             ∙ ap₂ (acrossEdge (linksOf o h a) (rev e)) (y ∙ ap (halvesOf h .prev) w)
             (l ∙ rw (k, g, y, w, R .to) refl ∙ sym (area-prev (positionOf q) point three-back))
-            ∙ sym (cw-by (is-left s u) o a)
+            ∙ sym (cw-by (le-read s (pos 0) u) o a)
 
 -- ---- the ends of e
 module _ {q : List ℤ} {h : List ℕ} {point : Point} {e : ℕ} (R : TurnReady q h point e) {u : ℕ} {f : Point} {m : Bool}

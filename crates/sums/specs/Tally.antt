@@ -16,7 +16,7 @@ use Rattle.sums.specs.Bit.{bit}
 use Rattle.sums.specs.Put.{put, put-same, put-other}
 use Rattle.sums.specs.Cases.{All, None, Distinct, all-map}
 use Rattle.sums.specs.Bounded.{count, count-ext, count-le, count-change, count-some, count-positive, count-before, count-sole, Least, least-unique, first-below, first-below-least, first-below-at-most}
-use Rattle.sums.specs.Iterate.{iter, iter-last, Reach}
+use Rattle.sums.specs.Iterate.{iter, iter-below, iter-last, Inverse, inverse-sym, Reach}
 
 -- the n places from s on
 unfoldable pub walk : ℕ → (ℕ → ℕ) → ℕ → List ℕ
@@ -91,6 +91,18 @@ tally-at b f n s e (suc k) = tally-at b f n (f s) (iter-last n f s ∙ ap f e) k
 pub tally-round : (b : ℕ → Bool) (f : ℕ → ℕ) (n s : ℕ) → iter n f s ≡ s → {t : ℕ} → Reach f s t
     → tally b (walk n f t) ≡ tally b (walk n f s)
 tally-round b f n s e (k, q) = ap (λ (x : ℕ). tally b (walk n f x)) (sym q) ∙ tally-at b f n s e k
+
+-- along f to a place, or from it back along g
+pub tally-back : {m : ℕ} {f g : ℕ → ℕ} → Inverse m f g → (b : ℕ → Bool) (n : ℕ) {s : ℕ} → s < m
+    → tally b (walk n f (iter n g s)) ≡ tally b (walk n g (g s))
+unfolding tally walk
+tally-back i b zero l = refl
+tally-back {f = f} {g = g} i b (suc n) {s} l =
+    let x = iter (suc n) g s in
+    let back : f x ≡ iter n g s = ap f (iter-last n g s) ∙ i .fg (iter n g s) (iter-below (inverse-sym i) n l) in
+    let first = tally-first b f n x in let last = tally-last b g n (g s) in
+    let rest = ap (λ (y : ℕ). tally b (walk n f y)) back ∙ tally-back i b n l in
+    omega arith
 
 pub tally-most : (b : ℕ → Bool) (f : ℕ → ℕ) (n s : ℕ) → tally b (walk n f s) ≤ n
 tally-most b f n s = rw (tally-count b f n s) (count-le n (λ k. b (iter k f s)))

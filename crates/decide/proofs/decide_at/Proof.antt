@@ -7,16 +7,20 @@ use borrow.Author.Needs.{needs, sfits-of}
 use mir.Facts.{toZ-ofZ}
 use denote.Ref.{now}
 use Rattle.mesh.specs.declared.Counts.{Counts}
-use Rattle.decide.specs.Walks.{LocatedRows}
-use Rattle.decide.proofs.Tests.{from-range, to-range}
-use Rattle.ring.specs.declared.Side.the-variants.{Left, Right}
-use Rattle.decide.proofs.Deciding.{here-about, asks-walk, at-from, at-to, not-left, Passes, passes}
-use Rattle.decide.proofs.Deciding.{start-angled, asks-count, count-fits, asks-fit, unsound, added}
+use Rattle.decide.specs.Located.{LocatedRows}
+use Rattle.decide.proofs.Deciding.{here-about, ends-at, asks-side, at-from, at-to, not-left, Passes, passes}
+use Rattle.decide.proofs.Deciding.{asks-from, asks-to, asks-left, asks-right, asks-fit, unsound, added}
 use Rattle.decide.proofs.decide_at.Statement.{statement}
 use Rattle.decide.proofs.decide_at.Tie as tie
 
-ends-of-requires : tie.Need-ends-of-requires
-ends-of-requires c κs = here-about (c .before .pre .located) .ends
+origin-position-requires : tie.Need-origin-position-requires
+origin-position-requires c κs = here-about (c .before .pre .located) .from
+
+rev-requires : tie.Need-rev-requires
+rev-requires c κs = search needs
+
+origin-position-requires-2 : tie.Need-origin-position-requires-2
+origin-position-requires-2 c κs = rw (c .rev .ensures) (here-about (c .before .before .before .pre .located) .to)
 
 is-position-requires : tie.Need-is-position-requires
 is-position-requires c κs = search needs
@@ -26,8 +30,9 @@ leave-requires c κs = search needs
 
 returns : tie.Need-returns
 returns c C o a K =
-    let x = c .before .before in let e = x .before .before .before in
-    at-from K (e .ends-of .ensures) (x .is-position .ensures) (c .before .if1 .taken) (c .leave .ensures)
+    let x = c .before .before in let t = x .before in let r = t .before in
+    at-from K (ends-at K (r .before .origin-position .ensures) (r .rev .ensures) (t .origin-position2 .ensures))
+    (x .is-position .ensures) (c .before .if1 .taken) (c .leave .ensures)
 
 is-position-requires-2 : tie.Need-is-position-requires-2
 is-position-requires-2 c κs = search needs
@@ -37,15 +42,14 @@ leave-requires-2 c κs = search needs
 
 returns-2 : tie.Need-returns-2
 returns-2 c C o a K =
-    let y = c .before .before in let i = y .before in let x = i .before in let e = x .before .before .before in
-    at-to K (e .ends-of .ensures) (x .is-position .ensures) (i .if1 .left) (y .is-position2 .ensures) (c .before .if2 .taken)
-    (c .leave2 .ensures)
+    let y = c .before .before in let i = y .before in let x = i .before in let t = x .before in let r = t .before in
+    at-to K (ends-at K (r .before .origin-position .ensures) (r .rev .ensures) (t .origin-position2 .ensures))
+    (x .is-position .ensures) (i .if1 .left) (y .is-position2 .ensures) (c .before .if2 .taken) (c .leave2 .ensures)
 
 side-query-requires : tie.Need-side-query-requires
 side-query-requires c κs =
-    let e = c .before .before .before .before .before .before in
-    let K = e .before .before .pre .located in let R = here-about K .ends in
-    (from-range _ _ _ (e .ends-of .ensures) R, to-range _ _ _ (e .ends-of .ensures) R, K .range)
+    let t = c .before .before .before .before in let r = t .before in let K = r .before .before .before .pre .located in
+    asks-side K (ends-at K (r .before .origin-position .ensures) (r .rev .ensures) (t .origin-position2 .ensures))
 
 leave-requires-3 : tie.Need-leave-requires-3
 leave-requires-3 c κs = search needs
@@ -53,13 +57,17 @@ leave-requires-3 c κs = search needs
 returns-3 : tie.Need-returns-3
 returns-3 c C o a K =
     let s = c .before .before in let j = s .before in let y = j .before in let i = y .before in
-    let x = i .before in let e = x .before .before .before in
-    not-left K (e .ends-of .ensures) (x .is-position .ensures) (i .if1 .left) (y .is-position2 .ensures) (j .if2 .left)
+    let x = i .before in let t = x .before in let r = t .before in
+    not-left K (ends-at K (r .before .origin-position .ensures) (r .rev .ensures) (t .origin-position2 .ensures))
+    (x .is-position .ensures) (i .if1 .left) (y .is-position2 .ensures) (j .if2 .left)
     (toZ-ofZ (sfits-of (s .side-query .ok)) ∙ s .side-query .ensures) (c .before .if3 .taken) (c .leave3 .ensures)
 
 -- past the test of the side
+abbrev to-read : tie.Else3 → tie.After-origin-position2
+to-read l = l .before .before .before .before .before .before
+
 abbrev start : tie.Else3 → tie.Start
-start l = l .before .before .before .before .before .before .before .before .before .before
+start l = to-read l .before .before .before .before
 
 passed : (l : tie.Else3) {C : Counts} {o a : List ℕ}
     → LocatedRows C (now (start l .args .positions)) o (now (start l .args .halves)) a (start l .args .center .x) (start l .args .center .y)
@@ -67,63 +75,75 @@ passed : (l : tie.Else3) {C : Counts} {o a : List ℕ}
     → Passes (now (start l .args .positions)) o (now (start l .args .halves)) a (start l .args .point) (start l .args .e)
 passed l K =
     let s = l .before in let j = s .before in let y = j .before in let i = y .before in
-    let x = i .before in let e = x .before .before .before in
-    passes K (e .ends-of .ensures) (x .is-position .ensures) (i .if1 .left) (y .is-position2 .ensures) (j .if2 .left)
+    let x = i .before in let t = x .before in let r = t .before in
+    passes K (ends-at K (r .before .origin-position .ensures) (r .rev .ensures) (t .origin-position2 .ensures))
+    (x .is-position .ensures) (i .if1 .left) (y .is-position2 .ensures) (j .if2 .left)
     (toZ-ofZ (sfits-of (s .side-query .ok)) ∙ s .side-query .ensures) (l .if3 .left)
 
+boundary-vertex-requires : tie.Need-boundary-vertex-requires
+boundary-vertex-requires c κs =
+    let t = to-read c in let r = t .before in let K = start c .pre .located in
+    asks-from K (ends-at K (r .before .origin-position .ensures) (r .rev .ensures) (t .origin-position2 .ensures))
+
+boundary-vertex-requires-2 : tie.Need-boundary-vertex-requires-2
+boundary-vertex-requires-2 c κs =
+    let l = c .before in let t = to-read l in let r = t .before in let K = start l .pre .located in
+    asks-to K (ends-at K (r .before .origin-position .ensures) (r .rev .ensures) (t .origin-position2 .ensures))
+
 walk-left-requires : tie.Need-walk-left-requires
-walk-left-requires c κs = asks-walk (start c .pre .located) Left
+walk-left-requires c κs =
+    let f = c .before in let l = f .before in let t = to-read l in let r = t .before in let K = start l .pre .located in
+    asks-left K (ends-at K (r .before .origin-position .ensures) (r .rev .ensures) (t .origin-position2 .ensures))
+    (f .boundary-vertex .ensures)
 
 walk-right-requires : tie.Need-walk-right-requires
-walk-right-requires c κs = asks-walk (start (c .before) .pre .located) Right
+walk-right-requires c κs =
+    let g = c .before in let l = g .before .before in let t = to-read l in let r = t .before in let K = start l .pre .located in
+    asks-right K (ends-at K (r .before .origin-position .ensures) (r .rev .ensures) (t .origin-position2 .ensures))
+    (g .boundary-vertex2 .ensures)
 
-angle-at-requires : tie.Need-angle-at-requires
-angle-at-requires c κs = let w = c .before in start-angled (start (w .before) .pre .located) (w .walk-left .ensures)
-
-add-count : tie.Need-add-count
-add-count c =
-    let r = c .before .before in let w = r .before in let l = w .before in let K = start l .pre .located in
-    let m = count-fits K (passed l K) (w .walk-left .ensures) (r .walk-right .ensures) in
+add-nodes : tie.Need-add-nodes
+add-nodes c =
+    let r = c .before .before .before in let w = r .before in let l = w .before .before .before in let K = start l .pre .located in
+    let m = asks-fit K (passed l K) (w .walk-left .ensures) (r .walk-right .ensures) .3 in
     record { fits = omega arith }
 
-add-count-2 : tie.Need-add-count-2
-add-count-2 c =
-    let r = c .before .before .before in let w = r .before in let l = w .before in let K = start l .pre .located in
-    record { fits = count-fits K (passed l K) (w .walk-left .ensures) (r .walk-right .ensures) }
-
-chain-nodes-requires : tie.Need-chain-nodes-requires
-chain-nodes-requires c κs =
-    let g = c .before .before in let w = g .before .before in
-    asks-count (start (w .before) .pre .located) (w .walk-left .ensures) (g .angle-at .ensures)
+add-nodes-2 : tie.Need-add-nodes-2
+add-nodes-2 c =
+    let r = c .before .before .before .before in let w = r .before in let l = w .before .before .before in
+    let K = start l .pre .located in
+    let m = asks-fit K (passed l K) (w .walk-left .ensures) (r .walk-right .ensures) .3 in
+    record { fits = omega arith }
 
 is-fit-requires : tie.Need-is-fit-requires
 is-fit-requires c κs =
-    let g = c .before .before .before in let r = g .before in let w = r .before in let l = w .before in
+    let r = c .before .before .before .before in let w = r .before in let l = w .before .before .before in
     let K = start l .pre .located in
-    asks-fit K (passed l K) (w .walk-left .ensures) (r .walk-right .ensures) (g .angle-at .ensures) (c .chain-nodes .ensures)
+    asks-fit K (passed l K) (w .walk-left .ensures) (r .walk-right .ensures)
 
 leave-requires-4 : tie.Need-leave-requires-4
 leave-requires-4 c κs = search needs
 
 returns-4 : tie.Need-returns-4
 returns-4 c C o a K =
-    let i = c .before .before in let n = i .before in let g = n .before .before .before in let r = g .before in
-    let w = r .before in let l = w .before in
-    unsound K (passed l K) (w .walk-left .ensures) (r .walk-right .ensures) (g .angle-at .ensures) (n .chain-nodes .ensures)
-    (i .is-fit .ensures) (c .before .if4 .taken) (c .leave4 .ensures)
+    let i = c .before .before in let r = i .before .before .before .before .before in
+    let w = r .before in let l = w .before .before .before in
+    unsound K (passed l K) (w .walk-left .ensures) (r .walk-right .ensures) (i .is-fit .ensures) (c .before .if4 .taken)
+    (c .leave4 .ensures)
 
 returns-5 : tie.Need-returns-5
 returns-5 c C o a K =
-    let i = c .before in let n = i .before in let g = n .before .before .before in let r = g .before in
-    let w = r .before in let l = w .before in
-    added K (passed l K) (w .walk-left .ensures) (r .walk-right .ensures) (g .angle-at .ensures) (n .chain-nodes .ensures)
-    (i .is-fit .ensures) (c .if4 .left)
+    let i = c .before in let r = i .before .before .before .before .before in
+    let w = r .before in let l = w .before .before .before in
+    added K (passed l K) (w .walk-left .ensures) (r .walk-right .ensures) (i .is-fit .ensures) (c .if4 .left)
 
 pub decide-at-spec : {M : Type 1} → statement M
 decide-at-spec =
     tie.close
     (tie.spec
-    ends-of-requires
+    origin-position-requires
+    rev-requires
+    origin-position-requires-2
     is-position-requires
     leave-requires
     returns
@@ -133,12 +153,12 @@ decide-at-spec =
     side-query-requires
     leave-requires-3
     returns-3
+    boundary-vertex-requires
+    boundary-vertex-requires-2
     walk-left-requires
     walk-right-requires
-    angle-at-requires
-    add-count
-    add-count-2
-    chain-nodes-requires
+    add-nodes
+    add-nodes-2
     is-fit-requires
     leave-requires-4
     returns-4

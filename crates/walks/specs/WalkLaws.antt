@@ -1,5 +1,5 @@
 -- The walks on the boundary of a good mesh about an accepted centre, for any point in range and any angle: each edge can be tested,
--- a walk ends, and what it covers is the chain's part on its side. Assumes nothing.
+-- a walk ends, and what it covers is the chain's part on its side, with that part's nodes. Assumes nothing.
 use mathlib.Core.Bool.{Bool, not}
 use mathlib.Core.List.{List}
 use mathlib.Core.Path.{_≡_, refl, sym, _∙_, ap, subst}
@@ -9,11 +9,11 @@ use native.Mathlib.Omega.{arith}
 use lib.Dec.{T, T-not, not-T}
 use lib.Ieee.{Float}
 use lib.IntN.{ℤ}
-use Rattle.angle.specs.Angle.{IsAngle, turns}
+use Rattle.angle.specs.Angle.{IsAngle, turns, angleAbout, validCenter}
 use Rattle.circle_test.specs.GoodRows.{GoodRows, held}
 use Rattle.dcel.specs.Rows.{halvesOf, linksOf, positionOf, rowOf, Placed}
 use Rattle.dcel.specs.MeshHeld.{there, there-rev, origin-in, to-in}
-use Rattle.hull.specs.Boundary.{AngledBoundary, originAtCenter, vertexAtCenter}
+use Rattle.hull.specs.Boundary.{AngleAt, AngledBoundary, originAtCenter, originTurns, vertexAtCenter}
 use Rattle.hull.specs.Ready.{angled-boundary, size-small}
 use Rattle.math.specs.declared.Point.{Point}
 use Rattle.math.specs.Determinant.{InRange}
@@ -22,15 +22,38 @@ use Rattle.mesh.specs.Mesh.{Links, In}
 use Rattle.mesh.specs.Wf.{Wf}
 use Rattle.mesh.specs.Area.{boundaryLength, LeftTurning}
 use Rattle.mesh.specs.BoundaryLaws.{next-inverse, first<, first-outer, boundary-least}
+use Rattle.ring.specs.Ring.{atEnds, proper}
 use Rattle.ring.specs.Center.{refusesCenter, turnsAbout}
 use Rattle.ring.specs.Boundary.{outer-round, outer-walk, outer-on}
 use Rattle.ring.specs.declared.Side.{Side}
 use Rattle.ring.specs.declared.Side.the-variants.{Left, Right}
 use Rattle.ring.specs.Chain.{seesEdge, beside, covers, chainOn}
 use Rattle.ring.specs.ChainMesh.{some-unseen, covers-sees, before-walk}
+use Rattle.ring.specs.Node.{nodes as nodeCount}
+use Rattle.sums.specs.Bit.{bit}
 use Rattle.sums.specs.Bounded.{first-below, first-below-is}
-use Rattle.sums.specs.Iterate.{iter, iter-add, iter-back}
-use Rattle.decide.specs.Walks.{EdgeAbout, walkTest, walkStep, ToTest, Covers, ToWalk}
+use Rattle.sums.specs.Half.{rev}
+use Rattle.sums.specs.Iterate.{iter, iter-add, iter-back, iter-last, inverse-sym}
+use Rattle.sums.specs.Tally.{tally, tally-add, tally-back, tally-ext, tally-first, walk}
+use Rattle.walks.specs.declared.BoundaryVertex.{BoundaryVertex}
+use Rattle.walks.specs.Walks.{originPosition, OriginIn, EdgeAbout, ToRead, ReadAt, VertexAt, walkTest, walkStep, walkEdge}
+use Rattle.walks.specs.Walks.{nearHalf, farHalf, hasNode, ToWalk, Covers}
+
+-- ---- a boundary vertex at the origin of a half-edge, whose position p was read
+module _ (q : List ℤ) (h : List ℕ) {cx cy : Float} (d : ℕ) {p : Point} (x : p ≡ originPosition q h d) where
+  pub to-read : T (validCenter cx cy) → T (not (originAtCenter q h cx cy d)) → ToRead p cx cy
+  unfolding vertexAtCenter
+  to-read k t = record { valid = k; apart = rw x t }
+
+  pub read-at : {r : BoundaryVertex} → ReadAt p cx cy r → VertexAt q h cx cy d r
+  unfolding turnsAbout
+  read-at R = record {
+    position = R .position ∙ x;
+    angle = record {
+      is-angle = R .is-angle;
+      turns-are = R .turns-are ∙ ap (λ (p : Point). turns (angleAbout (p .x) (p .y) cx cy)) x;
+    };
+  }
 
 -- ---- the tests read origins alone
 test-rows : (side : Side) (q : List ℤ) (o h f : List ℕ) (cx cy : Float) (v : Point) (a : Float) (d : ℕ)
@@ -131,43 +154,64 @@ module _ {C : Counts} {q : List ℤ} {o h f : List ℕ} (G : GoodRows C q o h f)
   edge-about {d} l b =
       let W = G .good .wf in
       let M = held G in record {
-        ends = record { here = there M l; reverse = there-rev M l; from = placed (origin-in M l); to = placed (to-in M l) };
+        from = record { here = there M l; placed = placed (origin-in M l) };
+        to = record { here = there-rev M l; placed = placed (to-in M l) };
         valid = first-about .valid;
-        from = outer-apart l b;
-        to = subst (λ (u : ℕ). T (not (vertexAtCenter (positionOf q) cx cy u))) (W .links .origin-next l)
+        from-apart = outer-apart l b;
+        to-apart = subst (λ (u : ℕ). T (not (vertexAtCenter (positionOf q) cx cy u))) (W .links .origin-next l)
             (outer-apart (W .ranges .next< l) (W .links .face-next l ∙ b));
       }
 
+  next-origin : {d : ℕ} → In C d → halvesOf h .origin (halvesOf h .next d) ≡ halvesOf h .origin (rev d)
+  unfolding linksOf
+  next-origin i = G .good .wf .links .origin-next i
+
+  -- a half-edge on a walk begins where the one before it ends
+  meets : (side : Side) {d : ℕ} → In C d
+      → halvesOf h .origin (nearHalf side (walkStep side h d)) ≡ halvesOf h .origin (farHalf side d)
+  unfolding linksOf
+  meets Left i =
+      let W = G .good .wf in sym (next-origin (W .ranges .prev< i)) ∙ ap (halvesOf h .origin) (W .links .next-prev i)
+  meets Right i = next-origin i
+
+  -- its node, by the half-edge after it
+  node-is : {d : ℕ} → In C d → hasNode q h cx cy d ≡ atEnds proper (halvesOf h .next) (originTurns q h cx cy) d
+  node-is {d} i = ap (λ (u : ℕ). proper (originTurns q h cx cy d) (turnsAbout cx cy (positionOf q) u)) (sym (next-origin i))
+
   module _ {e : ℕ} (l : In C e) (b : linksOf o h f .face e ≡ 0) where
-    -- the boundary from any of its edges on
-    pub about-from : AngledBoundary q h cx cy e
-    unfolding linksOf
-    about-from = record {
-      rows = record {
-        there = λ k. there (held G) (outer-walk (G .good .wf) l b k .0);
-        placed = λ k. placed (origin-in (held G) (outer-walk (G .good .wf) l b k .0)) .there;
-        edges = λ k. (let w = outer-walk (G .good .wf) l b k .0 in let s = G .room .small in omega arith);
-      };
-      valid = first-about .valid;
-      apart = λ k. (let w = outer-walk (G .good .wf) l b k in outer-apart (w .0) (w .1));
-    }
+    -- the k-th half-edge of a walk
+    walk-in : (side : Side) (k : ℕ) → In C (iter k (walkStep side h) e) × (linksOf o h f .face (iter k (walkStep side h) e) ≡ 0)
+    walk-in side k = rw (step-rows side o h f)
+        (beside-outer (G .good .wf) l b (positionOf q) (turnsAbout cx cy (positionOf q)) (positionOf q 0) 0 side k)
+
+    -- a walk stands, after k half-edges, where the last of them ends
+    pub stands-at : (side : Side) (k : ℕ)
+        → halvesOf h .origin (nearHalf side (walkEdge side h e k)) ≡ halvesOf h .origin (farHalf side (iter k (walkStep side h) e))
+    stands-at side k =
+        ap (λ (d : ℕ). halvesOf h .origin (nearHalf side d)) (iter-last k (walkStep side h) e)
+        ∙ meets side (walk-in side k .0)
 
     -- ---- for any point in range and any angle
     module _ {v : Point} (R : InRange v) {a : Float} (A : IsAngle a) where
-      to-test : {d : ℕ} → In C d → linksOf o h f .face d ≡ 0 → ToTest q h cx cy v a d
-      to-test i j = record { edge = edge-about i j; range = R; is-angle = A }
-
-      -- what the walk on a side asks
-      pub to-walk : (side : Side) → ToWalk side q h cx cy v a e
-      to-walk side =
+      -- what the walk on a side asks, from the end of e on that side
+      pub to-walk : (side : Side) {r : BoundaryVertex} → VertexAt q h cx cy (farHalf side e) r → ToWalk side q h cx cy v a e r
+      unfolding linksOf
+      to-walk side {r} S =
           let α = turnsAbout cx cy (positionOf q) in
-          let r = walk-ends (G .good .wf) l b (G .good .turning) α v (turns a) side in record {
+          let m = walk-ends (G .good .wf) l b (G .good .turning) α v (turns a) side in
+          let z = sym (stands-at side 0) in record {
             here = there (held G) l;
-            each = λ k. rw (step-rows side o h f)
-                (let w = beside-outer (G .good .wf) l b (positionOf q) α v (turns a) side (suc k) in to-test (w .0) (w .1));
-            most = r .0;
-            fails = subst (λ (t : Bool). T (not t)) (sym (walk-rows side q o h f cx cy v a e (suc (r .0)))) (r .2);
-            small = let m = r .1 in let s = size-small (held G) in omega arith;
+            each = λ k. (let w = walk-in side (suc k) in edge-about (w .0) (w .1));
+            joined = λ k. stands-at side (suc k);
+            from = record {
+              position = S .position ∙ ap (positionOf q) z;
+              angle = record { is-angle = S .angle .is-angle; turns-are = S .angle .turns-are ∙ ap α z };
+            };
+            range = R;
+            is-angle = A;
+            most = m .0;
+            fails = subst (λ (t : Bool). T (not t)) (sym (walk-rows side q o h f cx cy v a e (suc (m .0)))) (m .2);
+            small = let k = m .1 in let s = size-small (held G) in omega arith;
           }
 
       -- what it covers is the chain's part on that side
@@ -180,3 +224,31 @@ module _ {C : Counts} {q : List ℤ} {o h f : List ℕ} (G : GoodRows C q o h f)
           (λ k u. subst T (walk-rows side q o h f cx cy v a e (suc k)) (K .covered k u))
           (subst (λ (t : Bool). T (not t)) (walk-rows side q o h f cx cy v a e (suc n)) (K .stops))
           (boundaryLength C L) (r .0) (r .1) (r .2)
+
+    -- ---- the nodes of the chain from n half-edges before e to m after it: those of the two walks, and e's own
+    walked-nodes : (side : Side) (n : ℕ)
+        → tally (atEnds proper (halvesOf h .next) (originTurns q h cx cy)) (walk n (walkStep side h) (walkStep side h e))
+        ≡ tally (hasNode q h cx cy) (walk n (walkStep side h) (walkStep side h e))
+    walked-nodes side n = sym
+        (tally-ext (atEnds proper (halvesOf h .next) (originTurns q h cx cy)) (hasNode q h cx cy) (walkStep side h) n (walkStep side h e)
+        (λ k u. node-is (walk-in side (suc k) .0)))
+
+    pub chain-nodes : (n m : ℕ) {i j : ℕ}
+        → i ≡ tally (hasNode q h cx cy) (walk n (halvesOf h .prev) (halvesOf h .prev e))
+        → j ≡ tally (hasNode q h cx cy) (walk m (halvesOf h .next) (halvesOf h .next e))
+        → nodeCount (halvesOf h .next) (originTurns q h cx cy) (n + 1 + m) (iter n (halvesOf h .prev) e)
+        ≡ i + bit (atEnds proper (halvesOf h .next) (originTurns q h cx cy) e) + j
+    unfolding linksOf
+    chain-nodes n m x y =
+        let W = G .good .wf in
+        let t = atEnds proper (halvesOf h .next) (originTurns q h cx cy) in
+        let s = iter n (halvesOf h .prev) e in
+        let on : iter n (halvesOf h .next) s ≡ e = iter-back (inverse-sym (next-inverse W)) n l in
+        let whole = ap (λ (k : ℕ). tally t (walk k (halvesOf h .next) s)) (regroup n m) ∙ tally-add t (halvesOf h .next) n (suc m) s in
+        let first = tally-back (next-inverse W) t n l ∙ walked-nodes Left n in
+        let rest = ap (λ (d : ℕ). tally t (walk (suc m) (halvesOf h .next) d)) on ∙ tally-first t (halvesOf h .next) m e in
+        let last = walked-nodes Right m in
+        omega arith
+      where
+        regroup : (i j : ℕ) → i + 1 + j ≡ i + suc j
+        regroup i j = omega arith
