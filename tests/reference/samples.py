@@ -1,4 +1,4 @@
-"""Samples of the exact tests, of angles, segments and buckets, with the values that they must give.
+"""Samples of side queries and the other exact tests, of angles, segments and buckets, with what they must give.
 
     python3 samples.py > lists/samples.txt
 
@@ -47,6 +47,12 @@ def sign(x):
 def doubled_area(a, b, c):
     """Shewchuk: the 3x3 determinant with the column of ones."""
     return determinant([[x, y, 1] for x, y in (a, b, c)])
+
+
+def side_answer(*points):
+    """Number, place and doubled area: a point is out of range where the nearest point in range is another."""
+    moved = [clip(p) != p for p in points]
+    return (3, moved.index(True), 0) if any(moved) else (0, 0, doubled_area(*points))
 
 
 def incircle_sign(a, b, c, d):
@@ -190,11 +196,44 @@ def told_areas():
 
 
 def area_samples():
-    """Those from each of the three points on, turning one way and the other."""
+    """Those from each of the three points on, turning one way and the other, with what must be answered."""
     for area, (a, b, c) in told_areas():
         for p, q, r in ((a, b, c), (b, c, a), (c, a, b)):
-            yield area, (p, q, r)
-            yield -area, (q, p, r)
+            yield (0, 0, area), (p, q, r)
+            yield (0, 0, -area), (q, p, r)
+
+
+BEYOND = (LIMIT + 1, -LIMIT - 1, (1 << 31) - 1, -1 << 31)
+ENDS = (-LIMIT, LIMIT, LIMIT, -LIMIT, LIMIT, LIMIT)
+NEAR = (3, -2, 9, 1, 4, 8)
+
+
+def points_of(six):
+    return [tuple(six[i:i + 2]) for i in (0, 2, 4)]
+
+
+def beyond_samples():
+    """What must be answered, if it is told, and three points: each coordinate alone at an end of the range and one
+    beyond it; every choice of coordinates out of range, the others at the ends or near 0; then one point out of range
+    or all three, with little area or none."""
+    for i in range(6):
+        for end in (LIMIT, -LIMIT):
+            yield None, points_of(NEAR[:i] + (end,) + NEAR[i + 1:])
+            yield (3, i // 2, 0), points_of(NEAR[:i] + (end + sign(end),) + NEAR[i + 1:])
+    for chosen in [*itertools.product((True, False), repeat=6)][:-1]:  # the last one chooses none
+        for turn in range(4):
+            values = itertools.cycle(BEYOND[turn:] + BEYOND[:turn])  # each of another sign than the one before
+            others = ENDS if turn < 2 else NEAR
+            yield (3, chosen.index(True) // 2, 0), points_of([next(values) if c else o for c, o in zip(chosen, others)])
+    for x in BEYOND:
+        end, inner = sign(x) * LIMIT, x - sign(x)
+        for turned in (1, -1):  # out of range in x, then in y
+            out, on, by = [p[::turned] for p in ((x, 0), (end, 0), (end, 1))]
+            for place in range(3):
+                for a, b in ((on, by), (on, on)):
+                    yield (3, place, 0), (a, b)[:place] + (out,) + (a, b)[place:]
+            yield (3, 0, 0), (out, out, out)
+        yield (3, 0, 0), ((x, x), (inner, x), (x, inner))
 
 
 def circle_samples(rng):
@@ -353,11 +392,11 @@ def flat(*points):
 
 def lines():
     rng = random.Random(20152)
-    yield "# side_query: o ax ay bx by cx cy area"
-    for told, (a, b, c) in [*((None, s) for s in orient_samples(rng)), *area_samples()]:
-        area = doubled_area(a, b, c)
-        assert area == sweep.orient2d(a, b, c) and told in (None, area), (a, b, c)
-        yield "o %s %d" % (flat(a, b, c), area)
+    yield "# side_query: o ax ay bx by cx cy number place area"
+    for told, three in [*((None, s) for s in orient_samples(rng)), *area_samples(), *beyond_samples()]:
+        answer = side_answer(*three)
+        assert answer == sweep.side_query(*three) and told in (None, answer), three
+        yield "o %s %d %d %d" % (flat(*three), *answer)
     yield "# incircle: i ax ay bx by cx cy dx dy sign"
     for a, b, c, d in circle_samples(rng):
         s = incircle_sign(a, b, c, d)

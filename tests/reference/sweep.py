@@ -239,12 +239,16 @@ def refuse_answer_row(lent, points):
         raise Refusal(2)
 
 
-def refuse_coordinates(mesh, points):
-    """3: "a coordinate is outside -16,777,216..16,777,216 (place = the first such vertex, points counted
-    on after the seed's)" """
-    for i, p in enumerate([mesh.at(v) for v in range(mesh.vertices)] + list(points)):
+def refuse_positions(positions):
+    """3: "a coordinate is outside -16,777,216..16,777,216 (place = the first such vertex .." """
+    for i, p in enumerate(positions):
         if any(c < -LIMIT or c > LIMIT for c in p):
             raise Refusal(3, i)
+
+
+def refuse_coordinates(mesh, points):
+    """3: ".. points counted on after the seed's)" """
+    refuse_positions([mesh.at(v) for v in range(mesh.vertices)] + list(points))
 
 
 def refuse_heights(mesh, others):
@@ -1040,7 +1044,7 @@ def cubic_metres(six):
 
 
 # ---------------------------------------------------------------------------------------------------
-# The public calls: 01's five, the volume and the area total
+# The public calls: 01's five, the volume, the area total and the side query
 
 
 class Lent:
@@ -1221,6 +1225,16 @@ def area_total(mesh):
     if number:
         return (number, place, 0, 0)
     return (0, 0) + two_halves(inner_area(mesh))
+
+
+def side_query(a, b, c):
+    """Answers (number, place, doubled area): Change 3's side test of three positions that are in range; else 3, and
+    the first that is not, 0 for a, 1 for b, 2 for c."""
+    try:
+        refuse_positions([a, b, c])
+    except Refusal as r:
+        return (r.number, r.place, 0)
+    return (0, 0, orient2d(a, b, c))
 
 
 # ---------------------------------------------------------------------------------------------------

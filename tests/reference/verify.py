@@ -119,8 +119,10 @@ def pairs(numbers):
 def sample(sweep, tag, n):
     sign = lambda x: (x > 0) - (x < 0)
     if tag == "o":
-        assert -2 ** 50 <= n[6] <= 2 ** 50, n
-        return sweep.orient2d(*pairs(n[:6])) == n[6]
+        number, place, area = n[6:]
+        assert number == place == 0 and abs(area) <= 2 ** 50 or number == 3 and place in (0, 1, 2) and area == 0, n
+        assert all(-2 ** 31 <= c < 2 ** 31 for c in n[:6]), n
+        return list(sweep.side_query(*pairs(n[:6]))) == n[6:]
     if tag == "i":
         p = pairs(n[:8])
         return sign(sweep.incircle(*p)) == n[8] and sweep.contained_in_circumference(*p) == (n[8] == 1)
@@ -698,12 +700,17 @@ SKIPPING = [  # the same of Change 2
 ]
 DETERMINANT = "    return (b[0] - a[0]) * (c[1] - a[1]) - (b[1] - a[1]) * (c[0] - a[0])\n"
 AREA = DETERMINANT[len("    return "):-1]
+TESTED = "        refuse_positions([a, b, c])\n"
+NAMED = "        for i, p in %s:\n            if %s:\n                raise Refusal(3, %s)\n"  # points, test, place
+POINTS, OUT = "enumerate([a, b, c])", "max(map(abs, p)) > LIMIT"
+REFUSED_SIDE = "        return (r.number, r.place, 0)\n"
+ACCEPTED_SIDE = "    return (0, 0, orient2d(a, b, c))\n"
 SUM = "    return sum(orient2d(*face_corners(mesh, f)) for f in range(1, mesh.faces))\n"
 CHECKED_AREA = "    number, place = check(mesh)\n"
 REFUSED_AREA = "        return (number, place, 0, 0)\n"
 HALVES_OF_AREA = "two_halves(inner_area(mesh))"
 AT_BOUNDARY = "0 in [mesh.face(rev(h)) for h in cycle(mesh.next, mesh.stored[f], 3)]"
-AREAS = [  # the same of Change 3: the side test, then the area total
+AREAS = [  # the same of Change 3: the side test, the side query, then the area total
     ("a side test without its sign", DETERMINANT, "    return abs(%s)\n" % AREA),
     ("a side test turned", DETERMINANT, "    return -(%s)\n" % AREA),
     ("the sign of the area alone", DETERMINANT, "    area = %s\n    return (area > 0) - (area < 0)\n" % AREA),
@@ -724,6 +731,53 @@ AREAS = [  # the same of Change 3: the side test, then the area total
     ("1 and -1 taken for 0", DETERMINANT, "    area = %s\n    return area if abs(area) > 1 else 0\n" % AREA),
     ("the last two points exchanged", DETERMINANT, "    b, c = c, b\n" + DETERMINANT),
     ("the sum of the products", DETERMINANT, DETERMINANT.replace(") - (b[1]", ") + (b[1]")),
+    ("the last point out of range named", TESTED, NAMED % ("reversed([*%s])" % POINTS, OUT, "i")),
+    ("the farthest point named", TESTED, NAMED % ("sorted(%s, key=lambda e: -max(map(abs, e[1])))" % POINTS, OUT, "i")),
+    ("every x tested before any y", TESTED,
+     NAMED % (POINTS, "abs(p[0]) > LIMIT", "i") + NAMED % (POINTS, "abs(p[1]) > LIMIT", "i")),
+    ("every y tested before any x", TESTED,
+     NAMED % (POINTS, "abs(p[1]) > LIMIT", "i") + NAMED % (POINTS, "abs(p[0]) > LIMIT", "i")),
+    ("points above the range named before those below", TESTED,
+     NAMED % (POINTS, "max(p) > LIMIT", "i") + NAMED % (POINTS, "min(p) < -LIMIT", "i")),
+    ("points below the range named before those above", TESTED,
+     NAMED % (POINTS, "min(p) < -LIMIT", "i") + NAMED % (POINTS, "max(p) > LIMIT", "i")),
+    ("points out in both coordinates named first", TESTED,
+     NAMED % (POINTS, "min(map(abs, p)) > LIMIT", "i") + NAMED % (POINTS, OUT, "i")),
+    ("the three points' places from 1", TESTED, NAMED % (POINTS, OUT, "i + 1")),
+    ("the three points' places from the last", TESTED, NAMED % (POINTS, OUT, "2 - i")),
+    ("the three points' places by coordinates", TESTED, NAMED % (POINTS, OUT, "2 * i + (abs(p[0]) <= LIMIT)")),
+    ("no place in a side query's refusal", TESTED, NAMED % (POINTS, OUT, "0")),
+    ("how many are out of range for the place", TESTED,
+     NAMED % (POINTS, OUT, "sum(max(map(abs, q)) > LIMIT for q in (a, b, c)) - 1")),
+    ("16777217 in range", TESTED, NAMED % (POINTS, "max(p) > LIMIT + 1 or min(p) < -LIMIT", "i")),
+    ("-16777217 in range", TESTED, NAMED % (POINTS, "max(p) > LIMIT or min(p) < -LIMIT - 1", "i")),
+    ("16777216 out of range", TESTED, NAMED % (POINTS, "max(p) >= LIMIT or min(p) < -LIMIT", "i")),
+    ("-16777216 out of range", TESTED, NAMED % (POINTS, "max(p) > LIMIT or min(p) <= -LIMIT", "i")),
+    ("2147483647 in range", TESTED, NAMED % (POINTS, "any(abs(x) > LIMIT and x != 2 ** 31 - 1 for x in p)", "i")),
+    ("-2147483648 in range", TESTED, NAMED % (POINTS, "any(abs(x) > LIMIT and x != -2 ** 31 for x in p)", "i")),
+    ("points above the range accepted", TESTED, NAMED % (POINTS, "min(p) < -LIMIT", "i")),
+    ("points below the range accepted", TESTED, NAMED % (POINTS, "max(p) > LIMIT", "i")),
+    ("x out of range accepted", TESTED, NAMED % (POINTS, "abs(p[1]) > LIMIT", "i")),
+    ("y out of range accepted", TESTED, NAMED % (POINTS, "abs(p[0]) > LIMIT", "i")),
+    ("one coordinate out of range accepted", TESTED, NAMED % (POINTS, "min(map(abs, p)) > LIMIT", "i")),
+    ("both coordinates out of range accepted", TESTED,
+     NAMED % (POINTS, "(abs(p[0]) > LIMIT) != (abs(p[1]) > LIMIT)", "i")),
+    ("the first point not tested", TESTED, NAMED % ("[(1, b), (2, c)]", OUT, "i")),
+    ("the second point not tested", TESTED, NAMED % ("[(0, a), (2, c)]", OUT, "i")),
+    ("the third point not tested", TESTED, NAMED % ("[(0, a), (1, b)]", OUT, "i")),
+    ("the range about the first point", TESTED,
+     NAMED % (POINTS, "max(abs(p[0] - a[0]), abs(p[1] - a[1])) > 2 * LIMIT", "i")),
+    ("refused where the area passes 2^50 alone", TESTED,
+     NAMED % (POINTS, OUT + " and abs(orient2d(a, b, c)) > 2 ** 50", "i")),
+    ("an area of 0 never refused", TESTED, NAMED % (POINTS, OUT + " and orient2d(a, b, c)", "i")),
+    ("points out of range moved into it", TESTED,
+     "        a, b, c = [tuple(max(-LIMIT, min(LIMIT, x)) for x in p) for p in (a, b, c)]\n"),
+    ("an area of any points", TESTED, "        pass\n"),
+    ("an area beside the refusal", REFUSED_SIDE, "        return (r.number, r.place, orient2d(a, b, c))\n"),
+    ("a side query refused 10", REFUSED_SIDE, "        return (10, r.place, 0)\n"),
+    ("number 0 with the place of a refusal", REFUSED_SIDE, "        return (0, r.place, 0)\n"),
+    ("a side query's number and place exchanged", REFUSED_SIDE, "        return (r.place, r.number, 0)\n"),
+    ("a place beside the area", ACCEPTED_SIDE, ACCEPTED_SIDE.replace("(0, 0,", "(0, 2,")),
     ("areas without a sign in the total", SUM, SUM.replace("orient2d(*face_corners(mesh, f))",
                                                          "abs(orient2d(*face_corners(mesh, f)))"),
      "(every triangle turns left)"),

@@ -1,7 +1,7 @@
 // Runs every fixed list of cases and prints one line for each: its name, and how many cases agree and differ. The lists are in data/,
 // copies of those that tests/reference makes from an independent reading of the specification, and of oracle/answers.txt, the answers of
-// the Rust itself (their formats are in tests/reference/README.md and oracle/FORMAT.md). The lists of the calls go through the exports of
-// the crate `fithmoul`. A list that is not whole counts as one difference more.
+// the Rust itself (their formats are in tests/reference/README.md and oracle/FORMAT.md). The lists of the calls, and the side queries among
+// the samples, go through the exports of the crate `fithmoul`. A list that is not whole counts as one difference more.
 mod answers_cases;
 mod check_cases;
 mod finish_cases;
@@ -9,6 +9,7 @@ mod lines;
 mod locate_cases;
 mod rows;
 mod run_cases;
+mod side_cases;
 mod step_cases;
 mod volume_cases;
 
@@ -73,10 +74,19 @@ fn is_case(tag: u8, list: List) -> bool {
     }
 }
 
+// Whether a sample agrees: a side query, or another test.
+fn sample_agrees(text: &[u8], at: usize) -> bool {
+    if test_text::byte(text, at) == b'o' {
+        side_cases::agrees(text, at)
+    } else {
+        replay_samples::agrees(text, at)
+    }
+}
+
 // Whether the case that begins at the next line agrees.
 fn agrees(text: &[u8], t: Tally, list: List) -> bool {
     match list {
-        List::Samples => replay_samples::agrees(text, t.at),
+        List::Samples => sample_agrees(text, t.at),
         List::Check => check_cases::agrees(text, t.at),
         List::Finish => finish_cases::agrees(text, t.at),
         List::Locate => locate_cases::agrees(text, t.mesh, t.at),

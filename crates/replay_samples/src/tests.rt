@@ -1,28 +1,5 @@
-// The samples of the exact tests.
+// The samples of the circle test and of `is_behind_edge`.
 use math::Point;
-
-// No doubled area is larger.
-const LARGEST: u64 = 1125899906842624;
-
-// Whether a doubled area is the number that the list has.
-fn is_area(area: i64, n: test_text::Number) -> bool {
-    if n.magnitude > LARGEST {
-        return false;
-    }
-    let m = n.magnitude as i64;
-    if n.negative { area == -m } else { area == m }
-}
-
-fn side(a: Point, b: Point, c: Point, expected: test_text::Number) -> bool {
-    if math::validate_vertex(a) {
-        if math::validate_vertex(b) {
-            if math::validate_vertex(c) {
-                return is_area(math::side_query(a, b, c), expected);
-            }
-        }
-    }
-    false
-}
 
 fn behind(a: Point, b: Point, c: Point, expected: test_text::Number) -> bool {
     if math::validate_vertex(a) {
@@ -60,8 +37,5 @@ pub fn holds(text: &[u8], at: usize, tag: u8) -> bool {
         return circle(a.p, b.p, c.p, d.p, n);
     }
     let n = test_text::read_number(text, c.at);
-    if tag == b'o' {
-        return side(a.p, b.p, c.p, n);
-    }
     behind(a.p, b.p, c.p, n)
 }
