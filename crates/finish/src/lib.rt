@@ -54,7 +54,7 @@ pub fn check_seed(
     let none = &positions[0..0];
     mesh_check::check_with(
         none,
-        pending.len() < 8,
+        pending::is_short(pending.len()),
         counts,
         positions,
         outs,

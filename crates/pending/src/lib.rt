@@ -3,8 +3,16 @@
 ghost use mathlib.Core.Path.{_≡_};
 ghost use mathlib.Core.List.{List, _∷_};
 ghost use Prim.Native.Nat.{ℕ, _-_, _<_, _≤_};
+ghost use lib.Dec.{ltb};
 ghost use lib.ListN.{length};
 ghost use Rattle.pending.specs.Pending.{pendingOf, contains, oneOf, pushIfNotContained, Holds};
+
+// 01: "at least 8 pending entries". Whether a row of this length is shorter.
+pub fn is_short(length: usize) -> bool
+    ensures { λ r. ⌜ r ≡ ltb length 8 ⌝ }
+{
+    length < 8
+}
 
 // The last of n entries.
 pub fn last(pending: &[u32], n: usize) -> u32

@@ -29,7 +29,7 @@ pub fn sweep_rows_short(
     if locate::ring_rows_short(n, nodes, freed, buckets) {
         return true;
     }
-    pending < 8
+    pending::is_short(pending)
 }
 
 // Rows 1 to 7 of the table, for a call that is given points, a centre, and rows for the ring and the pending list, which are given by their

@@ -13,13 +13,16 @@ part-none-start c = search needs
 part-none-end : tie.Need-part-none-end
 part-none-end c = search needs
 
+is-short-requires : tie.Need-is-short-requires
+is-short-requires c κs = search needs
+
 check-with-requires : tie.Need-check-with-requires
 check-with-requires c κs = search needs
 
 returns : tie.Need-returns
 unfolding seedChecked
-returns c = c .check-with .ensures
+returns c = rw (← c .before .is-short .ensures) (c .check-with .ensures)
 
 pub check-seed-spec : {M : Type 1} → statement M
 check-seed-spec =
-    tie.close (tie.spec sub-none part-none-start part-none-end check-with-requires returns)
+    tie.close (tie.spec sub-none part-none-start part-none-end is-short-requires check-with-requires returns)

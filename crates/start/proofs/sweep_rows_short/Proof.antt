@@ -31,8 +31,13 @@ ring-rows-short-requires c κs = search needs
 returns-2 : tie.Need-returns-2
 returns-2 c = ring _ _ _ _ _ _ (c .before .before .if1 .left) (sym (c .before .ring-rows-short .ensures) ∙ c .if2 .taken)
 
+is-short-requires : tie.Need-is-short-requires
+is-short-requires c κs = search needs
+
 returns-3 : tie.Need-returns-3
-returns-3 c = list _ _ _ _ _ _ (c .before .before .if1 .left) (sym (c .before .ring-rows-short .ensures) ∙ c .if2 .left)
+returns-3 c =
+    let l = c .before in let r = l .before in
+    c .is-short .ensures ∙ list _ _ _ _ _ _ (r .before .if1 .left) (sym (r .ring-rows-short .ensures) ∙ l .if2 .left)
 
 pub sweep-rows-short-spec : {M : Type 1} → statement M
-sweep-rows-short-spec = tie.close (tie.spec returns ring-rows-short-requires returns-2 returns-3)
+sweep-rows-short-spec = tie.close (tie.spec returns ring-rows-short-requires returns-2 is-short-requires returns-3)
