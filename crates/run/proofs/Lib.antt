@@ -1,3 +1,2 @@
-pub mod SweepLoop
 pub mod RunDone
 pub mod Sig

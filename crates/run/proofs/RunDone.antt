@@ -26,10 +26,10 @@ use Rattle.ring_rows.specs.Laws.{zeros-same}
 use Rattle.ring_rows.specs.RingRows.{RingRows}
 use Rattle.start.specs.StartRows.{RowsCleared}
 use Rattle.sweep.specs.Step.{Stepping, answerOf}
-use Rattle.run.specs.declared.SweepEnd.{SweepEnd}
+use Rattle.steps.specs.declared.SweepEnd.{SweepEnd}
 use Rattle.sweep.specs.Run.{Sweeping, completeAfter, completedAnswers, answerWords, answerWord, answersAfter, RunLent, ranWith, runChecked, sweepOf, stepsOf, runCompletes, runAnswers, runOutcome, runOf}
 use Rattle.sweep.specs.RunLaws.{run-accepts, run-start, run-keeps}
-use Rattle.run.specs.RunRows.{answersBelow, sweepingOf, SweepLeaves}
+use Rattle.steps.specs.StepsRows.{answersBelow, sweepingOf, SweepLeaves}
 use Rattle.run.specs.RunWords.{vertices-most, completes-same, answers-same}
 use Rattle.answers.specs.AnswerRows.{skippedIn, Zeroed}
 use Rattle.complete.specs.declared.Completed.{Completed}

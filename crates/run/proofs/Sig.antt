@@ -7,7 +7,5 @@ pub mod Kinds_start_clear_rows
 pub mod Reads_start_clear_rows
 pub mod Kinds_start_start_ring
 pub mod Reads_start_start_ring
-pub mod Kinds_step_single_bulk_insertion_step
-pub mod Reads_step_single_bulk_insertion_step
-pub mod Kinds_sweep
-pub mod Reads_sweep
+pub mod Kinds_steps_sweep
+pub mod Reads_steps_sweep

@@ -1,4 +1,2 @@
--- `RunRows` has what the functions ask of rows and leave, `RunReady` what the checks give them.
-pub mod RunRows
-pub mod RunReady
+-- `RunWords` has what the finish makes of the answers row.
 pub mod RunWords

@@ -1,20 +1,18 @@
 -- The answers of a run: the row after the steps says which points were skipped, and what the finish makes of it is the definition's. Assumes nothing.
 use mathlib.Core.Bool.{Bool, true, false, cond}
-use mathlib.Core.Path.{_≡_, refl, sym, _∙_, ap, fun-ext}
+use mathlib.Core.Path.{_≡_, refl, sym, ap}
 use Prim.Native.Nat.{ℕ, _+_, _*_, _/_, _%_, _<_, _≤_}
 use native.Mathlib.Decide.{decLt}
 use native.Mathlib.Omega.{arith}
 use borrow.Author.Tests.{lt-ltb, le-ltb}
 use lib.ListN.{length}
-use Rattle.answers.specs.AnswerRows.{wordsOf, withWords, skippedNumber, skippedIn}
-use Rattle.answers.specs.AnswerLaws.{answer-words}
-use Rattle.sweep.specs.declared.Answer.{Answer}
+use Rattle.answers.specs.AnswerRows.{skippedNumber, skippedIn}
 use Rattle.complete.specs.CompleteRows.{fillWord}
 use Rattle.complete.specs.SameSkipped.{word-same, complete-same}
 use Rattle.dcel.specs.Rows.{positionOf, rowOf}
 use Rattle.decide.specs.declared.Fate.{Fate}
 use Rattle.decide.specs.declared.Fate.the-variants.{Added, Dropped, NotLeft, Unsound, AtCenter}
-use Rattle.decide.specs.Decide.{fateNumber, fateVertex}
+use Rattle.decide.specs.Decide.{fateNumber}
 use Rattle.mesh_check.specs.declared.Checked.{Checked}
 use Rattle.mesh_check.specs.Check.{pointCount}
 use Rattle.skipped.specs.Fill.{Completing}
@@ -40,11 +38,6 @@ apart Dropped = omega arith
 apart NotLeft = omega arith
 apart Unsound = omega arith
 apart AtCenter = omega arith
-
--- a step's answer, by its words
-pub stored-answer : (row : ℕ → ℕ) (i : ℕ) (r : Answer) {a b : ℕ} {w : ℕ → ℕ} → w ≡ withWords row i (wordsOf a b (r .faces) (r .flips))
-    → a ≡ fateNumber (r .fate) → b ≡ fateVertex (r .fate) → w ≡ withWords row i (answerWord r)
-stored-answer row i r e x y = e ∙ rw (x, y) (ap (withWords row i) (fun-ext (λ k. sym (answer-words r k))))
 
 module _ (l : RunLent) (e : runChecked l ≡ Checked.Accepted) where
   abbrev n : ℕ

@@ -17,7 +17,7 @@ use Rattle.mesh.specs.declared.Counts.{Counts}
 use Rattle.mesh_check.specs.declared.Checked.{Checked}
 use Rattle.mesh_check.specs.declared.Refusal.{Refusal}
 use Rattle.mesh_check.specs.Check.{pointCount}
-use Rattle.run.specs.RunRows.{sweepingOf}
+use Rattle.steps.specs.StepsRows.{sweepingOf}
 use Rattle.sweep.specs.Run.{RunLent, runChecked, sweepAfter, sweepOf}
 use Rattle.stages.specs.Stages.{stepCount, steppedOf, passChecked, passedOf}
 

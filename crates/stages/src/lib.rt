@@ -1,12 +1,13 @@
-// A run stopped after its last step, and one pass of `fix_convexity` by itself: the two meshes that the Rust is compared by. For the comparison alone; no
-// call needs them. Both take anything that is lent, as the calls do: what the checks of a run, or of a finish, refuse is left as it was.
+// A run stopped after its last step, and one pass of `fix_convexity` by itself: the two meshes that the Rust is compared by. For the
+// comparison alone; no call needs them. Both take anything that is lent, as the calls do: what the checks of a run, or of a finish, refuse
+// is left as it was.
 ghost use mathlib.Core.Path.{_≡_};
 ghost use Rattle.corner.specs.CornerRows.{extendedOf};
 ghost use Rattle.dcel.specs.MeshRows.{meshRows};
 ghost use Rattle.mesh_check.specs.declared.Checked.the-variants.{Accepted};
 ghost use Rattle.mesh_check.specs.Check.{pointCount};
-ghost use Rattle.run.specs.RunRows.{sweepingOf};
 ghost use Rattle.ring_rows.specs.RingRows.{ringRows};
+ghost use Rattle.steps.specs.StepsRows.{sweepingOf};
 ghost use Rattle.sweep.specs.Run.{runLent, runChecked, sweepOf};
 ghost use Rattle.stages.specs.Stages.{steppedOf, passedOf};
 use angle::Point2;
@@ -14,7 +15,7 @@ use corner::Extension;
 use mesh::Counts;
 use mesh_check::Checked;
 use ring_rows::Node;
-use run::SweepEnd;
+use steps::SweepEnd;
 
 // What the checks accept.
 fn steps_accepted(
@@ -41,7 +42,7 @@ fn steps_accepted(
 {
     let count = mesh_check::point_count(points) as u32;
     let hull = start::start_ring(positions, halves, faces, nodes, buckets, counts, center);
-    run::sweep(
+    steps::sweep(
         positions,
         outs,
         halves,

@@ -2,7 +2,7 @@
 use borrow.Author.Needs.{needs}
 use mathlib.Core.Path.{sym, _∙_}
 use Rattle.sweep.specs.RunLaws.{run-ran}
-use Rattle.run.specs.RunReady.{run-checks}
+use Rattle.steps.specs.StepsReady.{run-checks}
 use Rattle.run.proofs.RunDone.{refused-run}
 use Rattle.run.proofs.run.Statement.{statement}
 use Rattle.run.proofs.run.Proof.Tie as tie

@@ -3,7 +3,7 @@ use borrow.Author.Needs.{needs}
 use mathlib.Core.Path.{sym, _∙_, subst}
 use Prim.Native.Nat.{ℕ, _<_, _^_}
 use Rattle.run.proofs.RunDone.{to-zero, to-complete, run-done}
-use Rattle.run.specs.RunReady.{points-fit, to-start, to-sweep}
+use Rattle.steps.specs.StepsReady.{points-fit, to-start, to-sweep}
 use Rattle.run.proofs.run_accepted.Statement.{statement}
 use Rattle.run.proofs.run_accepted.Proof.Tie as tie
 mod Lts

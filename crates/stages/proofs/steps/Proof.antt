@@ -1,7 +1,7 @@
 -- `stages::steps` meets its contract. Assumes nothing.
 use borrow.Author.Needs.{needs}
 use mathlib.Core.Path.{sym, _∙_}
-use Rattle.run.specs.RunReady.{run-checks}
+use Rattle.steps.specs.StepsReady.{run-checks}
 use Rattle.stages.proofs.StagesRows.{stepped-refused, stepped-accepted}
 use Rattle.stages.proofs.steps.Statement.{statement}
 use Rattle.stages.proofs.steps.Proof.Tie as tie

@@ -2,7 +2,7 @@
 use borrow.Author.Needs.{needs}
 use mathlib.Core.Path.{sym, _∙_, ap, subst}
 use Prim.Native.Nat.{ℕ, _<_, _^_}
-use Rattle.run.specs.RunReady.{points-fit, to-start, to-sweep}
+use Rattle.steps.specs.StepsReady.{points-fit, to-start, to-sweep}
 use Rattle.sweep.specs.Run.{sweepAfter}
 use Rattle.stages.proofs.steps_accepted.Statement.{statement}
 use Rattle.stages.proofs.steps_accepted.Proof.Tie as tie

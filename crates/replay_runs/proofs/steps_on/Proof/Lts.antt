@@ -9,8 +9,8 @@ use Rattle.mesh.proofs.Counts
 use Rattle.mesh.proofs.Counts.Laws as Laws'
 use Rattle.replay_runs.proofs.Stepped
 use Rattle.replay_runs.proofs.Stepped.Laws as Laws''
-use Rattle.run.proofs.SweepEnd
-use Rattle.run.proofs.SweepEnd.Laws as Laws'3
+use Rattle.steps.proofs.SweepEnd
+use Rattle.steps.proofs.SweepEnd.Laws as Laws'3
 use Rattle.test_mesh.proofs.Coordinates
 use Rattle.test_mesh.proofs.Coordinates.Laws as Laws'4
 use Rattle.test_mesh.proofs.Longs
@@ -167,7 +167,7 @@ abbrev ty·24 : Syntax.Ty
 ty·24 = Syntax.tyStruct (List._∷_ 116 (List._∷_ 101 (List._∷_ 115 (List._∷_ 116 (List._∷_ 95 (List._∷_ 109 (List._∷_ 101 (List._∷_ 115 (List._∷_ 104 (List._∷_ 58 (List._∷_ 58 (List._∷_ 67 (List._∷_ 111 (List._∷_ 111 (List._∷_ 114 (List._∷_ 100 (List._∷_ 105 (List._∷_ 110 (List._∷_ 97 (List._∷_ 116 (List._∷_ 101 (List._∷_ 115 List.[])))))))))))))))))))))) (Syntax.tcons ty·3 (Syntax.tcons ty·1 Syntax.tnil))
 
 abbrev ty·25 : Syntax.Ty
-ty·25 = Syntax.tyStruct (List._∷_ 114 (List._∷_ 117 (List._∷_ 110 (List._∷_ 58 (List._∷_ 58 (List._∷_ 83 (List._∷_ 119 (List._∷_ 101 (List._∷_ 101 (List._∷_ 112 (List._∷_ 69 (List._∷_ 110 (List._∷_ 100 List.[]))))))))))))) (Syntax.tcons ty·21 (Syntax.tcons ty·0 (Syntax.tcons Syntax.tyBool Syntax.tnil)))
+ty·25 = Syntax.tyStruct (List._∷_ 115 (List._∷_ 116 (List._∷_ 101 (List._∷_ 112 (List._∷_ 115 (List._∷_ 58 (List._∷_ 58 (List._∷_ 83 (List._∷_ 119 (List._∷_ 101 (List._∷_ 101 (List._∷_ 112 (List._∷_ 69 (List._∷_ 110 (List._∷_ 100 List.[]))))))))))))))) (Syntax.tcons ty·21 (Syntax.tcons ty·0 (Syntax.tcons Syntax.tyBool Syntax.tnil)))
 
 abbrev ty·26 : Syntax.Ty
 ty·26 = Syntax.tyStruct (List._∷_ 116 (List._∷_ 101 (List._∷_ 115 (List._∷_ 116 (List._∷_ 95 (List._∷_ 109 (List._∷_ 101 (List._∷_ 115 (List._∷_ 104 (List._∷_ 58 (List._∷_ 58 (List._∷_ 77 (List._∷_ 101 (List._∷_ 115 (List._∷_ 104 List.[]))))))))))))))) (Syntax.tcons ty·21 (Syntax.tcons ty·24 (Syntax.tcons ty·24 (Syntax.tcons ty·23 (Syntax.tcons ty·23 (Syntax.tcons ty·23 Syntax.tnil))))))

@@ -10,8 +10,8 @@ use Rattle.mesh_check.proofs.Checked
 use Rattle.mesh_check.proofs.Checked.Laws as Laws''
 use Rattle.mesh_check.proofs.Refusal
 use Rattle.mesh_check.proofs.Refusal.Laws as Laws'3
-use Rattle.run.proofs.SweepEnd
-use Rattle.run.proofs.SweepEnd.Laws as Laws'4
+use Rattle.steps.proofs.SweepEnd
+use Rattle.steps.proofs.SweepEnd.Laws as Laws'4
 use borrow.Author.Called
 use borrow.Enum.Known
 use borrow.Enum.Match
@@ -148,7 +148,7 @@ abbrev ty·23 : Syntax.Ty
 ty·23 = Syntax.tyStruct (List._∷_ 109 (List._∷_ 101 (List._∷_ 115 (List._∷_ 104 (List._∷_ 95 (List._∷_ 99 (List._∷_ 104 (List._∷_ 101 (List._∷_ 99 (List._∷_ 107 (List._∷_ 58 (List._∷_ 58 (List._∷_ 82 (List._∷_ 101 (List._∷_ 102 (List._∷_ 117 (List._∷_ 115 (List._∷_ 97 (List._∷_ 108 List.[]))))))))))))))))))) (Syntax.tcons ty·0 (Syntax.tcons ty·0 Syntax.tnil))
 
 abbrev ty·24 : Syntax.Ty
-ty·24 = Syntax.tyStruct (List._∷_ 114 (List._∷_ 117 (List._∷_ 110 (List._∷_ 58 (List._∷_ 58 (List._∷_ 83 (List._∷_ 119 (List._∷_ 101 (List._∷_ 101 (List._∷_ 112 (List._∷_ 69 (List._∷_ 110 (List._∷_ 100 List.[]))))))))))))) (Syntax.tcons ty·22 (Syntax.tcons ty·0 (Syntax.tcons Syntax.tyBool Syntax.tnil)))
+ty·24 = Syntax.tyStruct (List._∷_ 115 (List._∷_ 116 (List._∷_ 101 (List._∷_ 112 (List._∷_ 115 (List._∷_ 58 (List._∷_ 58 (List._∷_ 83 (List._∷_ 119 (List._∷_ 101 (List._∷_ 101 (List._∷_ 112 (List._∷_ 69 (List._∷_ 110 (List._∷_ 100 List.[]))))))))))))))) (Syntax.tcons ty·22 (Syntax.tcons ty·0 (Syntax.tcons Syntax.tyBool Syntax.tnil)))
 
 abbrev ty·25 : Syntax.Ty
 ty·25 = Syntax.tyEnum (List._∷_ 109 (List._∷_ 101 (List._∷_ 115 (List._∷_ 104 (List._∷_ 95 (List._∷_ 99 (List._∷_ 104 (List._∷_ 101 (List._∷_ 99 (List._∷_ 107 (List._∷_ 58 (List._∷_ 58 (List._∷_ 67 (List._∷_ 104 (List._∷_ 101 (List._∷_ 99 (List._∷_ 107 (List._∷_ 101 (List._∷_ 100 List.[]))))))))))))))))))) (Syntax.ttcons Syntax.tnil (Syntax.ttcons (Syntax.tcons ty·23 Syntax.tnil) Syntax.ttnil))

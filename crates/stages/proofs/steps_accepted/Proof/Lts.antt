@@ -8,8 +8,8 @@ use Rattle.mesh.proofs.Counts
 use Rattle.mesh.proofs.Counts.Laws as Laws'
 use Rattle.ring_rows.proofs.Hull
 use Rattle.ring_rows.proofs.Hull.Laws as Laws''
-use Rattle.run.proofs.SweepEnd
-use Rattle.run.proofs.SweepEnd.Laws as Laws'3
+use Rattle.steps.proofs.SweepEnd
+use Rattle.steps.proofs.SweepEnd.Laws as Laws'3
 use borrow.Author.Called
 use borrow.Fn.Any
 use borrow.Fn.Call
@@ -129,7 +129,7 @@ abbrev ty·23 : Syntax.Ty
 ty·23 = Syntax.tyStruct (List._∷_ 114 (List._∷_ 105 (List._∷_ 110 (List._∷_ 103 (List._∷_ 95 (List._∷_ 114 (List._∷_ 111 (List._∷_ 119 (List._∷_ 115 (List._∷_ 58 (List._∷_ 58 (List._∷_ 72 (List._∷_ 117 (List._∷_ 108 (List._∷_ 108 List.[]))))))))))))))) (Syntax.tcons ty·0 (Syntax.tcons ty·0 (Syntax.tcons ty·0 Syntax.tnil)))
 
 abbrev ty·24 : Syntax.Ty
-ty·24 = Syntax.tyStruct (List._∷_ 114 (List._∷_ 117 (List._∷_ 110 (List._∷_ 58 (List._∷_ 58 (List._∷_ 83 (List._∷_ 119 (List._∷_ 101 (List._∷_ 101 (List._∷_ 112 (List._∷_ 69 (List._∷_ 110 (List._∷_ 100 List.[]))))))))))))) (Syntax.tcons ty·22 (Syntax.tcons ty·0 (Syntax.tcons Syntax.tyBool Syntax.tnil)))
+ty·24 = Syntax.tyStruct (List._∷_ 115 (List._∷_ 116 (List._∷_ 101 (List._∷_ 112 (List._∷_ 115 (List._∷_ 58 (List._∷_ 58 (List._∷_ 83 (List._∷_ 119 (List._∷_ 101 (List._∷_ 101 (List._∷_ 112 (List._∷_ 69 (List._∷_ 110 (List._∷_ 100 List.[]))))))))))))))) (Syntax.tcons ty·22 (Syntax.tcons ty·0 (Syntax.tcons Syntax.tyBool Syntax.tnil)))
 
 abbrev pub ps : List.List (Kinds.PK 10)
 ps = List._∷_ (Value.pVal record { ty = Declared.row Counts.the-type; one = Path'.refl; val = Laws'4.val Counts.the-type Laws'.the-laws; tells = Laws'4.tells Counts.the-type Laws'.the-laws; still = Laws'4.still Counts.the-type Laws'.the-copy Exit.yes; row = Rows.whole (Declared.row Counts.the-type); rd = λ x. x; mk = λ x. x } λ M 𝓤 H A W. record { copies = Laws'4.copy Counts.the-type Laws'.the-copy 𝓤 H A W; lawful = Laws'4.lawful Counts.the-type Laws'.the-laws 𝓤 H A W; makes = Laws'4.makes Counts.the-type Laws'.the-plain 𝓤 H A; in-mem = Local.mem-whole 𝓤 H A W (Declared.row Counts.the-type); of-mem = Local.whole-mem 𝓤 H A W (Declared.row Counts.the-type) }) (List._∷_ (MutSlice.pMutS (Signed.SInt Syntax.w32) 0 tt) (List._∷_ (MutSlice.pMutS (Referent.rtF (Referent.fInt Syntax.w32)) 1 tt) (List._∷_ (MutSlice.pMutS (Referent.rtF (Referent.fInt Syntax.w32)) 2 tt) (List._∷_ (MutSlice.pMutS (Referent.rtF (Referent.fInt Syntax.w32)) 3 tt) (List._∷_ (MutSlice.pMutS ELEM.the-row 4 tt) (List._∷_ (MutSlice.pMutS (Referent.rtF (Referent.fInt Syntax.w32)) 5 tt) (List._∷_ (MutSlice.pMutS (Referent.rtF (Referent.fInt Syntax.w32)) 6 tt) (List._∷_ (MutSlice.pMutS (Referent.rtF (Referent.fInt Syntax.w32)) 7 tt) (List._∷_ (MutSlice.pMutS (Referent.rtF (Referent.fInt Syntax.w64)) 8 tt) (List._∷_ (Value.pVal record { ty = Declared.row Point2.the-type; one = Path'.refl; val = Laws'4.val Point2.the-type Laws.the-laws; tells = Laws'4.tells Point2.the-type Laws.the-laws; still = Laws'4.still Point2.the-type Laws.the-copy Exit.yes; row = Rows.whole (Declared.row Point2.the-type); rd = λ x. x; mk = λ x. x } λ M 𝓤 H A W. record { copies = Laws'4.copy Point2.the-type Laws.the-copy 𝓤 H A W; lawful = Laws'4.lawful Point2.the-type Laws.the-laws 𝓤 H A W; makes = Laws'4.makes Point2.the-type Laws.the-plain 𝓤 H A; in-mem = Local.mem-whole 𝓤 H A W (Declared.row Point2.the-type); of-mem = Local.whole-mem 𝓤 H A W (Declared.row Point2.the-type) }) (List._∷_ (ShrSlice.pShrS (Signed.SInt Syntax.w32) 9 tt) List.[])))))))))))
@@ -258,7 +258,7 @@ abbrev b30 : Syntax.Body
 b30 = Syntax.assign (Syntax.place 43 List.[]) (Syntax.aggregate (List._∷_ (Syntax.copy (Syntax.place 42 List.[])) (List._∷_ (Syntax.copy (Syntax.place 10 (List._∷_ (Syntax.field 1) List.[]))) List.[])))
 
 abbrev b31 : Syntax.Body
-b31 = Syntax.call "run::sweep" (List._∷_ (Syntax.copy (Syntax.place 27 List.[])) (List._∷_ (Syntax.copy (Syntax.place 29 List.[])) (List._∷_ (Syntax.copy (Syntax.place 31 List.[])) (List._∷_ (Syntax.copy (Syntax.place 33 List.[])) (List._∷_ (Syntax.copy (Syntax.place 35 List.[])) (List._∷_ (Syntax.copy (Syntax.place 37 List.[])) (List._∷_ (Syntax.copy (Syntax.place 39 List.[])) (List._∷_ (Syntax.copy (Syntax.place 41 List.[])) (List._∷_ (Syntax.copy (Syntax.place 43 List.[])) (List._∷_ (Syntax.copy (Syntax.place 1 List.[])) (List._∷_ (Syntax.copy (Syntax.place 14 List.[])) (List._∷_ (Syntax.copy (Syntax.place 11 List.[])) (List._∷_ (Syntax.copy (Syntax.place 12 List.[])) (List._∷_ (Syntax.copy (Syntax.place 13 List.[])) List.[])))))))))))))) (Syntax.place 0 List.[])
+b31 = Syntax.call "steps::sweep" (List._∷_ (Syntax.copy (Syntax.place 27 List.[])) (List._∷_ (Syntax.copy (Syntax.place 29 List.[])) (List._∷_ (Syntax.copy (Syntax.place 31 List.[])) (List._∷_ (Syntax.copy (Syntax.place 33 List.[])) (List._∷_ (Syntax.copy (Syntax.place 35 List.[])) (List._∷_ (Syntax.copy (Syntax.place 37 List.[])) (List._∷_ (Syntax.copy (Syntax.place 39 List.[])) (List._∷_ (Syntax.copy (Syntax.place 41 List.[])) (List._∷_ (Syntax.copy (Syntax.place 43 List.[])) (List._∷_ (Syntax.copy (Syntax.place 1 List.[])) (List._∷_ (Syntax.copy (Syntax.place 14 List.[])) (List._∷_ (Syntax.copy (Syntax.place 11 List.[])) (List._∷_ (Syntax.copy (Syntax.place 12 List.[])) (List._∷_ (Syntax.copy (Syntax.place 13 List.[])) List.[])))))))))))))) (Syntax.place 0 List.[])
 
 abbrev b32 : Syntax.Body
 b32 = Syntax.return
@@ -1038,7 +1038,7 @@ module _ (claims· : Claims) where
   module _ (Pre· : (κs : Lifetimes.Lfts 10) → Kinds.Dens κs ps → Type 0) (Post· : (κs : Lifetimes.Lfts 10) → (a : Kinds.Dens κs ps) → Kinds.Plain 10 ps r κs) where
     module _ (M : Type 1) where
       abbrev pub Closed : Type 2
-      Closed = (𝓤 : URA.URA M) (H : Wp.Heap 𝓤) (A : Atoms.Atoms 𝓤) (W : Kit.Given 𝓤 H A) (𝓣 : Wp.Tables 𝓤 H) (known0 : Plain.Known 𝓤 H A W 𝓣 1 ps·0 r·0 (claims· .0) (claims· .1) "mesh_check::point_count") (known1 : Plain.Known 𝓤 H A W 𝓣 5 ps·1 r·1 (claims· .2) (claims· .3) "start::start_ring") (known2 : Plain.Known 𝓤 H A W 𝓣 10 ps·2 r·2 (claims· .4) (claims· .5) "run::sweep") → Statement.Triple 𝓤 (Wp.WpFn 𝓤 H (𝓣 .C) (𝓣 .Λ) (Function.fnOf 10 ps r xs m hs body)) (Function.plainOf 𝓤 H A 10 ps r Pre· Post·)
+      Closed = (𝓤 : URA.URA M) (H : Wp.Heap 𝓤) (A : Atoms.Atoms 𝓤) (W : Kit.Given 𝓤 H A) (𝓣 : Wp.Tables 𝓤 H) (known0 : Plain.Known 𝓤 H A W 𝓣 1 ps·0 r·0 (claims· .0) (claims· .1) "mesh_check::point_count") (known1 : Plain.Known 𝓤 H A W 𝓣 5 ps·1 r·1 (claims· .2) (claims· .3) "start::start_ring") (known2 : Plain.Known 𝓤 H A W 𝓣 10 ps·2 r·2 (claims· .4) (claims· .5) "steps::sweep") → Statement.Triple 𝓤 (Wp.WpFn 𝓤 H (𝓣 .C) (𝓣 .Λ) (Function.fnOf 10 ps r xs m hs body)) (Function.plainOf 𝓤 H A 10 ps r Pre· Post·)
 
     module _ where
       abbrev at0 : Typed.TF T111 O0
@@ -1382,7 +1382,7 @@ module _ (claims· : Claims) where
 
       module _ {M : Type 1} (𝓤 : URA.URA M) (H : Wp.Heap 𝓤) (A : Atoms.Atoms 𝓤) (W : Kit.Given 𝓤 H A) (𝓣 : Wp.Tables 𝓤 H) where
         abbrev Knowns : Type 1
-        Knowns = Plain.Known 𝓤 H A W 𝓣 1 ps·0 r·0 (claims· .0) (claims· .1) "mesh_check::point_count" × Plain.Known 𝓤 H A W 𝓣 5 ps·1 r·1 (claims· .2) (claims· .3) "start::start_ring" × Plain.Known 𝓤 H A W 𝓣 10 ps·2 r·2 (claims· .4) (claims· .5) "run::sweep"
+        Knowns = Plain.Known 𝓤 H A W 𝓣 1 ps·0 r·0 (claims· .0) (claims· .1) "mesh_check::point_count" × Plain.Known 𝓤 H A W 𝓣 5 ps·1 r·1 (claims· .2) (claims· .3) "start::start_ring" × Plain.Known 𝓤 H A W 𝓣 10 ps·2 r·2 (claims· .4) (claims· .5) "steps::sweep"
 
       module _ (κs : Lifetimes.Lfts 10) (qs : Lifetimes.Shares 10) where
         abbrev g7 : List.List Row.Entry
@@ -1945,7 +1945,7 @@ module _ (claims· : Claims) where
           d38 = Typed.g-pre 𝓤 H A W 𝓣 E G74 G75 b32 Δ0 (Typed.pass T74 T75 s73) at37 (Scalar.g-room 𝓤 H A W E G74 1 ty·22 (Local.room-whole 𝓤 H A W (Declared.row Counts.the-type) ty·22 Path'.refl)) d37
 
           d39 : Typed.Typed 𝓤 H A 𝓣 E G73 b33 Δ0 at39
-          d39 = Typed.s-seq 𝓤 H A W 𝓣 E G73 G74 b31 b32 Δ0 (Typed.both s72) at38 (Plain.t-call-plain 𝓤 H A W 𝓣 10 ps·2 r·2 (claims· .4) (claims· .5) "run::sweep" (known .2) E (λ pos β. β) G73 (record { pos = 27; ty = Syntax.tyRef Syntax.erased Syntax.mut ty·0; ref = λ x. x }, (record { pos = 29; ty = Syntax.tyRef Syntax.erased Syntax.mut ty·0; ref = λ x. x }, (record { pos = 31; ty = Syntax.tyRef Syntax.erased Syntax.mut ty·0; ref = λ x. x }, (record { pos = 33; ty = Syntax.tyRef Syntax.erased Syntax.mut ty·0; ref = λ x. x }, (record { pos = 35; ty = Syntax.tyRef Syntax.erased Syntax.mut ty·0; ref = λ x. x }, (record { pos = 37; ty = Syntax.tyRef Syntax.erased Syntax.mut (ELEMMEM.pointee (ELEM.the-row .written)); ref = λ x. x }, (record { pos = 39; ty = Syntax.tyRef Syntax.erased Syntax.mut ty·0; ref = λ x. x }, (record { pos = 41; ty = Syntax.tyRef Syntax.erased Syntax.mut ty·0; ref = λ x. x }, (record { pos = 43; ty = Syntax.tyRef Syntax.erased Syntax.mut ty·1; ref = λ x. x }, (record { pos = 1; st = List.[]; d = 0; at = λ x. x }, (record { pos = 14; st = List.[]; d = 0; at = λ x. x }, (record { pos = 11; st = List.[]; d = 0; at = λ x. x }, (record { pos = 12; ty = Syntax.tyRef (Syntax.named 9) Syntax.imm ty·0; ref = λ x. x }, (Num.vAt 13 λ x. x, tt)))))))))))))) 0 (List._∷_ 15 (List._∷_ 16 (List._∷_ 17 (List._∷_ 18 (List._∷_ 19 (List._∷_ 20 (List._∷_ 21 (List._∷_ 22 (List._∷_ 23 (List._∷_ 9 List.[])))))))))) (Call.sub-id 𝓤 H A W (G73 .slots)) (Reads.as-is 𝓤 H A (Mut.mslice (Signed.SInt Syntax.w32) ty·4 15), Mut.reads-mslice 𝓤 H A W (Signed.SInt Syntax.w32) ty·4 15, Path'.refl, (Reads.as-is 𝓤 H A (Mut.mslice (Referent.rtF (Referent.fInt Syntax.w32)) ty·4 16), Mut.reads-mslice 𝓤 H A W (Referent.rtF (Referent.fInt Syntax.w32)) ty·4 16, Path'.refl, (Reads.as-is 𝓤 H A (Mut.mslice (Referent.rtF (Referent.fInt Syntax.w32)) ty·4 17), Mut.reads-mslice 𝓤 H A W (Referent.rtF (Referent.fInt Syntax.w32)) ty·4 17, Path'.refl, (Reads.as-is 𝓤 H A (Mut.mslice (Referent.rtF (Referent.fInt Syntax.w32)) ty·4 18), Mut.reads-mslice 𝓤 H A W (Referent.rtF (Referent.fInt Syntax.w32)) ty·4 18, Path'.refl, (Reads.as-is 𝓤 H A (Mut.mslice (Referent.rtF (Referent.fInt Syntax.w32)) ty·4 19), Mut.reads-mslice 𝓤 H A W (Referent.rtF (Referent.fInt Syntax.w32)) ty·4 19, Path'.refl, (Reads.as-is 𝓤 H A (Mut.mslice ELEM.the-row ty·15 20), Mut.reads-mslice 𝓤 H A W ELEM.the-row ty·15 20, Path'.refl, (Reads.as-is 𝓤 H A (Mut.mslice (Referent.rtF (Referent.fInt Syntax.w32)) ty·4 21), Mut.reads-mslice 𝓤 H A W (Referent.rtF (Referent.fInt Syntax.w32)) ty·4 21, Path'.refl, (Reads.as-is 𝓤 H A (Mut.mslice (Referent.rtF (Referent.fInt Syntax.w32)) ty·4 22), Mut.reads-mslice 𝓤 H A W (Referent.rtF (Referent.fInt Syntax.w32)) ty·4 22, Path'.refl, (Reads.as-is 𝓤 H A (Mut.mslice (Referent.rtF (Referent.fInt Syntax.w64)) ty·5 23), Mut.reads-mslice 𝓤 H A W (Referent.rtF (Referent.fInt Syntax.w64)) ty·5 23, Path'.refl, ((Yields.yields-copy 𝓤 H A W (λ ρ. Unit) (Declared.row Counts.the-type) Path'.refl (Copies.cStruct Counts.the-type Laws'.the-laws Laws'.the-copy .copy 𝓤 H A W) (Rows.whole (Declared.row Counts.the-type)) (λ x. x) (λ x. x) (λ ρ told. Local.mem-whole 𝓤 H A W (Declared.row Counts.the-type) ρ) λ ρ told. Local.whole-mem 𝓤 H A W (Declared.row Counts.the-type) ρ, Path'.refl), ((Yields.yields-copy 𝓤 H A W (λ ρ. Unit) (Declared.row Hull.the-type) Path'.refl (Copies.cStruct Hull.the-type Laws''.the-laws Laws''.the-copy .copy 𝓤 H A W) (Rows.whole (Declared.row Hull.the-type)) (λ x. x) (λ x. x) (λ ρ told. Local.mem-whole 𝓤 H A W (Declared.row Hull.the-type) ρ) λ ρ told. Local.whole-mem 𝓤 H A W (Declared.row Hull.the-type) ρ, Path'.refl), ((Yields.yields-copy 𝓤 H A W (λ ρ. Unit) (Declared.row Point2.the-type) Path'.refl (Copies.cStruct Point2.the-type Laws.the-laws Laws.the-copy .copy 𝓤 H A W) (Rows.whole (Declared.row Point2.the-type)) (λ x. x) (λ x. x) (λ ρ told. Local.mem-whole 𝓤 H A W (Declared.row Point2.the-type) ρ) λ ρ told. Local.whole-mem 𝓤 H A W (Declared.row Point2.the-type) ρ, Path'.refl), (ShrSlice.spares-sslice 𝓤 H A W (Signed.SInt Syntax.w32) ty·14 9, Shared.reads-sslice 𝓤 H A W (Signed.SInt Syntax.w32) ty·14 9, Path'.refl, ((Scalar.reads-sc 𝓤 H A W (Row.sInt Syntax.w32), Path'.refl), tt)))))))))))))) (Reads.room-gone 𝓤 H A ty·24) (tt, (tt, (tt, (tt, (tt, (tt, (tt, (tt, (tt, (tt, tt)))))))))) Path'.refl) d38
+          d39 = Typed.s-seq 𝓤 H A W 𝓣 E G73 G74 b31 b32 Δ0 (Typed.both s72) at38 (Plain.t-call-plain 𝓤 H A W 𝓣 10 ps·2 r·2 (claims· .4) (claims· .5) "steps::sweep" (known .2) E (λ pos β. β) G73 (record { pos = 27; ty = Syntax.tyRef Syntax.erased Syntax.mut ty·0; ref = λ x. x }, (record { pos = 29; ty = Syntax.tyRef Syntax.erased Syntax.mut ty·0; ref = λ x. x }, (record { pos = 31; ty = Syntax.tyRef Syntax.erased Syntax.mut ty·0; ref = λ x. x }, (record { pos = 33; ty = Syntax.tyRef Syntax.erased Syntax.mut ty·0; ref = λ x. x }, (record { pos = 35; ty = Syntax.tyRef Syntax.erased Syntax.mut ty·0; ref = λ x. x }, (record { pos = 37; ty = Syntax.tyRef Syntax.erased Syntax.mut (ELEMMEM.pointee (ELEM.the-row .written)); ref = λ x. x }, (record { pos = 39; ty = Syntax.tyRef Syntax.erased Syntax.mut ty·0; ref = λ x. x }, (record { pos = 41; ty = Syntax.tyRef Syntax.erased Syntax.mut ty·0; ref = λ x. x }, (record { pos = 43; ty = Syntax.tyRef Syntax.erased Syntax.mut ty·1; ref = λ x. x }, (record { pos = 1; st = List.[]; d = 0; at = λ x. x }, (record { pos = 14; st = List.[]; d = 0; at = λ x. x }, (record { pos = 11; st = List.[]; d = 0; at = λ x. x }, (record { pos = 12; ty = Syntax.tyRef (Syntax.named 9) Syntax.imm ty·0; ref = λ x. x }, (Num.vAt 13 λ x. x, tt)))))))))))))) 0 (List._∷_ 15 (List._∷_ 16 (List._∷_ 17 (List._∷_ 18 (List._∷_ 19 (List._∷_ 20 (List._∷_ 21 (List._∷_ 22 (List._∷_ 23 (List._∷_ 9 List.[])))))))))) (Call.sub-id 𝓤 H A W (G73 .slots)) (Reads.as-is 𝓤 H A (Mut.mslice (Signed.SInt Syntax.w32) ty·4 15), Mut.reads-mslice 𝓤 H A W (Signed.SInt Syntax.w32) ty·4 15, Path'.refl, (Reads.as-is 𝓤 H A (Mut.mslice (Referent.rtF (Referent.fInt Syntax.w32)) ty·4 16), Mut.reads-mslice 𝓤 H A W (Referent.rtF (Referent.fInt Syntax.w32)) ty·4 16, Path'.refl, (Reads.as-is 𝓤 H A (Mut.mslice (Referent.rtF (Referent.fInt Syntax.w32)) ty·4 17), Mut.reads-mslice 𝓤 H A W (Referent.rtF (Referent.fInt Syntax.w32)) ty·4 17, Path'.refl, (Reads.as-is 𝓤 H A (Mut.mslice (Referent.rtF (Referent.fInt Syntax.w32)) ty·4 18), Mut.reads-mslice 𝓤 H A W (Referent.rtF (Referent.fInt Syntax.w32)) ty·4 18, Path'.refl, (Reads.as-is 𝓤 H A (Mut.mslice (Referent.rtF (Referent.fInt Syntax.w32)) ty·4 19), Mut.reads-mslice 𝓤 H A W (Referent.rtF (Referent.fInt Syntax.w32)) ty·4 19, Path'.refl, (Reads.as-is 𝓤 H A (Mut.mslice ELEM.the-row ty·15 20), Mut.reads-mslice 𝓤 H A W ELEM.the-row ty·15 20, Path'.refl, (Reads.as-is 𝓤 H A (Mut.mslice (Referent.rtF (Referent.fInt Syntax.w32)) ty·4 21), Mut.reads-mslice 𝓤 H A W (Referent.rtF (Referent.fInt Syntax.w32)) ty·4 21, Path'.refl, (Reads.as-is 𝓤 H A (Mut.mslice (Referent.rtF (Referent.fInt Syntax.w32)) ty·4 22), Mut.reads-mslice 𝓤 H A W (Referent.rtF (Referent.fInt Syntax.w32)) ty·4 22, Path'.refl, (Reads.as-is 𝓤 H A (Mut.mslice (Referent.rtF (Referent.fInt Syntax.w64)) ty·5 23), Mut.reads-mslice 𝓤 H A W (Referent.rtF (Referent.fInt Syntax.w64)) ty·5 23, Path'.refl, ((Yields.yields-copy 𝓤 H A W (λ ρ. Unit) (Declared.row Counts.the-type) Path'.refl (Copies.cStruct Counts.the-type Laws'.the-laws Laws'.the-copy .copy 𝓤 H A W) (Rows.whole (Declared.row Counts.the-type)) (λ x. x) (λ x. x) (λ ρ told. Local.mem-whole 𝓤 H A W (Declared.row Counts.the-type) ρ) λ ρ told. Local.whole-mem 𝓤 H A W (Declared.row Counts.the-type) ρ, Path'.refl), ((Yields.yields-copy 𝓤 H A W (λ ρ. Unit) (Declared.row Hull.the-type) Path'.refl (Copies.cStruct Hull.the-type Laws''.the-laws Laws''.the-copy .copy 𝓤 H A W) (Rows.whole (Declared.row Hull.the-type)) (λ x. x) (λ x. x) (λ ρ told. Local.mem-whole 𝓤 H A W (Declared.row Hull.the-type) ρ) λ ρ told. Local.whole-mem 𝓤 H A W (Declared.row Hull.the-type) ρ, Path'.refl), ((Yields.yields-copy 𝓤 H A W (λ ρ. Unit) (Declared.row Point2.the-type) Path'.refl (Copies.cStruct Point2.the-type Laws.the-laws Laws.the-copy .copy 𝓤 H A W) (Rows.whole (Declared.row Point2.the-type)) (λ x. x) (λ x. x) (λ ρ told. Local.mem-whole 𝓤 H A W (Declared.row Point2.the-type) ρ) λ ρ told. Local.whole-mem 𝓤 H A W (Declared.row Point2.the-type) ρ, Path'.refl), (ShrSlice.spares-sslice 𝓤 H A W (Signed.SInt Syntax.w32) ty·14 9, Shared.reads-sslice 𝓤 H A W (Signed.SInt Syntax.w32) ty·14 9, Path'.refl, ((Scalar.reads-sc 𝓤 H A W (Row.sInt Syntax.w32), Path'.refl), tt)))))))))))))) (Reads.room-gone 𝓤 H A ty·24) (tt, (tt, (tt, (tt, (tt, (tt, (tt, (tt, (tt, (tt, tt)))))))))) Path'.refl) d38
 
           d40 : Typed.Typed 𝓤 H A 𝓣 E G72 b34 Δ0 at40
           d40 = Typed.s-seq 𝓤 H A W 𝓣 E G72 G73 b30 b33 Δ0 (Typed.ask s71) at39 (Relend.t-sl-aggregate 𝓤 H A W E (Referent.rtF (Referent.fInt Syntax.w64)) 𝓣 (Relend.asMut (Referent.rtF (Referent.fInt Syntax.w64))) G72 42 43 23 ty·5 ty·5 (λ x. x) (Scalar.oFld 10 (List._∷_ (Syntax.field 1) List.[]) ty·1 8 λ v. Shared.lenV (v .0)) (Reads.as-is 𝓤 H A (Relend.msptr (Referent.rtF (Referent.fInt Syntax.w64)) ty·5 23)) (Reads.room-gone 𝓤 H A ty·19) (Relend.reads-owed-len 𝓤 H A W (Referent.rtF (Referent.fInt Syntax.w64)) ty·13 8 23 (Row.lease (κs .1 .1 .1 .1 .1 .1 .1 .1 .0) (qs .1 .1 .1 .1 .1 .1 .1 .1 .0)) 8 Path'.refl, Path'.refl) Path'.refl Path'.refl λ b o k. tt) d39
@@ -2821,6 +2821,6 @@ module _ (claims· : Claims) where
           pub asked : (a : Kinds.Dens κs ps) → (good : Kinds.GoodsP κs ps a) → (pre : Pre· κs a) → (bs : List.List Nat.ℕ) → Φ (Any.wantQ 10 ps r xs m κs qs a (Post· κs a)) (Function.init 10 ps r xs m κs qs a)
           asked = λ a good pre bs. laid record { κs = κs; args = record { counts = a .0; positions = a .1 .0; outs = a .1 .1 .0; halves = a .1 .1 .1 .0; faces = a .1 .1 .1 .1 .0; nodes = a .1 .1 .1 .1 .1 .0; freed = a .1 .1 .1 .1 .1 .1 .0; buckets = a .1 .1 .1 .1 .1 .1 .1 .0; pending = a .1 .1 .1 .1 .1 .1 .1 .1 .0; answers = a .1 .1 .1 .1 .1 .1 .1 .1 .1 .0; center = a .1 .1 .1 .1 .1 .1 .1 .1 .1 .1 .0; points = a .1 .1 .1 .1 .1 .1 .1 .1 .1 .1 .1 .0 }; good = good; pre = pre }
 
-        module _ {M : Type 1} (𝓤 : URA.URA M) (H : Wp.Heap 𝓤) (A : Atoms.Atoms 𝓤) (W : Kit.Given 𝓤 H A) (𝓣 : Wp.Tables 𝓤 H) (known0 : Plain.Known 𝓤 H A W 𝓣 1 ps·0 r·0 (claims· .0) (claims· .1) "mesh_check::point_count") (known1 : Plain.Known 𝓤 H A W 𝓣 5 ps·1 r·1 (claims· .2) (claims· .3) "start::start_ring") (known2 : Plain.Known 𝓤 H A W 𝓣 10 ps·2 r·2 (claims· .4) (claims· .5) "run::sweep") where
+        module _ {M : Type 1} (𝓤 : URA.URA M) (H : Wp.Heap 𝓤) (A : Atoms.Atoms 𝓤) (W : Kit.Given 𝓤 H A) (𝓣 : Wp.Tables 𝓤 H) (known0 : Plain.Known 𝓤 H A W 𝓣 1 ps·0 r·0 (claims· .0) (claims· .1) "mesh_check::point_count") (known1 : Plain.Known 𝓤 H A W 𝓣 5 ps·1 r·1 (claims· .2) (claims· .3) "start::start_ring") (known2 : Plain.Known 𝓤 H A W 𝓣 10 ps·2 r·2 (claims· .4) (claims· .5) "steps::sweep") where
           pub spec : Statement.Triple 𝓤 (Wp.WpFn 𝓤 H (𝓣 .C) (𝓣 .Λ) (Function.fnOf 10 ps r xs m hs body)) (Function.plainOf 𝓤 H A 10 ps r Pre· Post·)
           spec = Plain.t-fn-plain 𝓤 H A W 𝓣 10 ps r xs m hs body (λ κs qs bs. Φ) (λ κs qs bs bd. typed κs qs 𝓤 H A W 𝓣 (known0, known1, known2) bs bd) Pre· Post· asked

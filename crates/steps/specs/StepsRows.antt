@@ -1,4 +1,4 @@
--- Rows as the states of a run, and what each function asks of them and leaves. Definitions only.
+-- Rows as the states of a run between its steps, and what the steps ask of them and leave. Definitions only.
 use mathlib.Core.Bool.{cond}
 use mathlib.Core.List.{List}
 use mathlib.Core.Path.{_≡_}
@@ -15,7 +15,7 @@ use Rattle.math.specs.Determinant.{InRange}
 use Rattle.mesh.specs.declared.Counts.{Counts}
 use Rattle.ring_rows.specs.declared.Node.{Node}
 use Rattle.ring_rows.specs.declared.Hull.{Hull}
-use Rattle.run.specs.declared.SweepEnd.{SweepEnd}
+use Rattle.steps.specs.declared.SweepEnd.{SweepEnd}
 use Rattle.sweep.specs.Step.{Stepping, answerOf}
 use Rattle.sweep.specs.Run.{Sweeping, sweepAfter, stepAt, answerWords, answerWord}
 

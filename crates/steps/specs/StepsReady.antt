@@ -16,7 +16,7 @@ use Rattle.start.specs.Start.{sweepChecked}
 use Rattle.start.specs.StartRows.{ToStart, Started}
 use Rattle.sweep.specs.Run.{answerWords, RunLent, runChecked}
 use Rattle.sweep.specs.RunLaws.{run-accepts, run-start}
-use Rattle.run.specs.RunRows.{SweepReady}
+use Rattle.steps.specs.StepsRows.{SweepReady}
 
 -- the checks, with the test of the answers row
 pub run-checks : (l : RunLent) {short : Bool} {r : Checked} → short ≡ ltb (length (l .answers)) (answerWords * pointCount (l .points))

@@ -1,8 +1,19 @@
--- `run::store_answer` meets its contract. Assumes nothing.
-use Rattle.run.specs.RunWords.{stored-answer}
+-- `steps::store_answer` meets its contract. Assumes nothing.
+use mathlib.Core.Path.{_≡_, sym, _∙_, ap, fun-ext}
+use Prim.Native.Nat.{ℕ}
+use Rattle.answers.specs.AnswerRows.{wordsOf, withWords}
+use Rattle.answers.specs.AnswerLaws.{answer-words}
+use Rattle.decide.specs.Decide.{fateNumber, fateVertex}
+use Rattle.sweep.specs.declared.Answer.{Answer}
+use Rattle.sweep.specs.Run.{answerWord}
 use borrow.Author.Needs.{needs}
-use Rattle.run.proofs.store_answer.Statement.{statement}
-use Rattle.run.proofs.store_answer.Tie as tie
+use Rattle.steps.proofs.store_answer.Statement.{statement}
+use Rattle.steps.proofs.store_answer.Tie as tie
+
+-- a step's answer, by its words
+stored-answer : (row : ℕ → ℕ) (i : ℕ) (r : Answer) {a b : ℕ} {w : ℕ → ℕ} → w ≡ withWords row i (wordsOf a b (r .faces) (r .flips))
+    → a ≡ fateNumber (r .fate) → b ≡ fateVertex (r .fate) → w ≡ withWords row i (answerWord r)
+stored-answer row i r e x y = e ∙ rw (x, y) (ap (withWords row i) (fun-ext (λ k. sym (answer-words r k))))
 
 fate-number-requires : tie.Need-fate-number-requires
 fate-number-requires c κs = search needs

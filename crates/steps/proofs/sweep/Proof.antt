@@ -1,10 +1,11 @@
--- `run::sweep` meets its contract. The loop's invariant: after i points the rows hold the definition's sweep of them. The measure is the points that are left. Assumes nothing.
+-- `steps::sweep` meets its contract. The loop's invariant: after i points the rows hold the definition's sweep of them. The measure is the
+-- points that are left. Assumes nothing.
 use mathlib.Core.Path.{_∙_}
 use Prim.Native.Nat.{_-_}
 use native.Mathlib.Omega.{arith}
-use Rattle.run.proofs.SweepLoop.{SweepingAt, sweeping-starts, sweeping-point, sweeping-ready, sweeping-full, sweeping-on, sweeping-end}
-use Rattle.run.proofs.sweep.Statement.{statement}
-use Rattle.run.proofs.sweep.Proof.Tie as tie
+use Rattle.steps.proofs.SweepLoop.{SweepingAt, sweeping-starts, sweeping-point, sweeping-ready, sweeping-full, sweeping-on, sweeping-end}
+use Rattle.steps.proofs.sweep.Statement.{statement}
+use Rattle.steps.proofs.sweep.Proof.Tie as tie
 mod Lts
 mod Tie
 

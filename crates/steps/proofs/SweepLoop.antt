@@ -1,4 +1,5 @@
--- The loop over the points: after i of them the rows hold the mesh and the ring of the definition's sweep, and the answers of those i. Assumes nothing.
+-- The loop over the points: after i of them the rows hold the mesh and the ring of the definition's sweep, and the answers of those i.
+-- Assumes nothing.
 use mathlib.Core.Bool.{true, false, cond}
 use mathlib.Core.List.{List}
 use mathlib.Core.Path.{_≡_, refl, sym, _∙_, ap, ap₂}
@@ -29,7 +30,7 @@ use Rattle.step.specs.StepRows.{steppingOf, StepRoom, StepReady, StepLeaves}
 use Rattle.sweep.specs.Run.{Sweeping, sweepAfter, stepAt, answerWords, answerWord}
 use Rattle.sweep.specs.SweepLaws.{sweep-point, sweep-stays, sweep-keeps}
 use Rattle.answers.specs.AnswerRows.{withWords}
-use Rattle.run.specs.RunRows.{answersBelow, sweepingOf, SweepReady, SweepLeaves}
+use Rattle.steps.specs.StepsRows.{answersBelow, sweepingOf, SweepReady, SweepLeaves}
 
 -- ---- the row with the answers of i points has that of point i too
 words-more : (row old : ℕ → ℕ) (i : ℕ) (step : ℕ → Stepping) (s : Stepping) → step i ≡ s → ((x : ℕ) → row x ≡ answersBelow step i old x)

@@ -1,0 +1,2 @@
+pub mod SweepLoop
+pub mod Sig
