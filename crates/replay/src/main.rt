@@ -2,16 +2,9 @@
 // copies of those that tests/reference makes from an independent reading of the specification, and of oracle/answers.txt, the answers of
 // the Rust itself (their formats are in tests/reference/README.md and oracle/FORMAT.md). The lists of the calls, and the side queries among
 // the samples, go through the exports of the crate `fithmoul`. A list that is not whole counts as one difference more.
-mod answers_cases;
-mod check_cases;
-mod finish_cases;
-mod lines;
-mod locate_cases;
-mod rows;
-mod run_cases;
-mod side_cases;
-mod step_cases;
-mod volume_cases;
+
+// No list is as long as this.
+const TEXT: usize = 1048576;
 
 // A list, by the call that it is about; `Answers` are those of the Rust.
 enum List {
@@ -77,7 +70,7 @@ fn is_case(tag: u8, list: List) -> bool {
 // Whether a sample agrees: a side query, or another test.
 fn sample_agrees(text: &[u8], at: usize) -> bool {
     if test_text::byte(text, at) == b'o' {
-        side_cases::agrees(text, at)
+        replay_calls::side_cases::agrees(text, at)
     } else {
         replay_samples::agrees(text, at)
     }
@@ -87,13 +80,13 @@ fn sample_agrees(text: &[u8], at: usize) -> bool {
 fn agrees(text: &[u8], t: Tally, list: List) -> bool {
     match list {
         List::Samples => sample_agrees(text, t.at),
-        List::Check => check_cases::agrees(text, t.at),
-        List::Finish => finish_cases::agrees(text, t.at),
-        List::Locate => locate_cases::agrees(text, t.mesh, t.at),
-        List::Step => step_cases::agrees(text, t.at),
-        List::Run => run_cases::agrees(text, t.at),
-        List::Volume => volume_cases::agrees(text, t.at),
-        List::Answers => answers_cases::agrees(text, t.at),
+        List::Check => replay_calls::check_cases::agrees(text, t.at),
+        List::Finish => replay_runs::finish_cases::agrees(text, t.at),
+        List::Locate => replay_calls::locate_cases::agrees(text, t.mesh, t.at),
+        List::Step => replay_calls::step_cases::agrees(text, t.at),
+        List::Run => replay_runs::run_cases::agrees(text, t.at),
+        List::Volume => replay_calls::volume_cases::agrees(text, t.at),
+        List::Answers => replay_runs::answers_cases::agrees(text, t.at),
     }
 }
 
@@ -138,7 +131,7 @@ fn run_list(text: &[u8], list: List) -> Tally {
 
 // Whether nothing of a list was cut off. The oracle's list has no closing line.
 fn is_whole(text: &[u8], list: List) -> bool {
-    if text.len() == rows::TEXT {
+    if text.len() == TEXT {
         return false;
     }
     match list {
@@ -172,7 +165,7 @@ fn print(name: &[u8], t: Tally) {
 
 // The list of a file.
 fn replay(name: &[u8], path: &[u8], list: List) {
-    let mut buffer = [0u8; rows::TEXT];
+    let mut buffer = [0u8; TEXT];
     let file = os::open_read(path);
     let n = io::read_full(file, &mut buffer);
     libc::close(file);

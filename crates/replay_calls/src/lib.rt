@@ -1,12 +1,11 @@
-// The exported calls but the run, on rows that are owned here: each function lends the rows of a case, of which so many entries are the
-// call's, and hands back what the call has answered and left. The ring's rows and pending are lent with 7 in every entry. No function
-// above these has a row of nodes.
+// The cases of the exported calls but the finish and the run: a file for each list, whose `agrees` says whether a case does. The calls are
+// made on rows that are owned here: each function lends the rows of a case, of which so many entries are the call's, and hands back what
+// the call has answered and left. The ring's rows and pending are lent with 7 in every entry. No function above these has a row of nodes.
 ghost use Prim.Native.Nat.{_≤_};
 ghost use Rattle.test_mesh.specs.Lent.{MeshLent, RingLent};
 use angle::Point2;
 use fithmoul::results::AreaTotalResult;
 use fithmoul::results::CheckResult;
-use fithmoul::results::FinishResult;
 use fithmoul::results::LocateResult;
 use fithmoul::results::StepResult;
 use fithmoul::results::VolumeResult;
@@ -15,6 +14,12 @@ use mesh::Counts;
 use test_mesh::Mesh;
 use test_mesh::Ring;
 use test_mesh::WORDS;
+
+pub mod check_cases;
+pub mod locate_cases;
+pub mod side_cases;
+pub mod step_cases;
+pub mod volume_cases;
 
 // What a locate has answered; whether the ring's rows hold what they must.
 pub struct LocateLeft {
@@ -25,13 +30,6 @@ pub struct LocateLeft {
 // What a step has answered and left; whether the ring's rows and pending hold what they must.
 pub struct StepLeft {
     pub result: StepResult,
-    pub mesh: Mesh,
-    pub cleared: bool,
-}
-
-// What a finish has answered and left; whether pending holds what it must.
-pub struct FinishLeft {
-    pub result: FinishResult,
     pub mesh: Mesh,
     pub cleared: bool,
 }
@@ -221,45 +219,5 @@ pub fn step_on(
         mesh: test_mesh::with_rows(mesh, left, positions, heights, outs, halves, faces),
         cleared: test_mesh::ring_holds(ring, nodes, freed, buckets, v)
             & test_mesh::holds(pending, pending_length, v),
-    }
-}
-
-// Pending must hold v after the call.
-pub fn finish_on(mesh: Mesh, pending_length: usize, v: u32) -> FinishLeft
-    requires { ⌜ MeshLent mesh ⌝ }
-    requires { ⌜ «pending_length» ≤ 6144 ⌝ }
-{
-    let positions = mesh.positions.row;
-    let heights = mesh.heights.row;
-    let mut outs = mesh.outs.row;
-    let mut halves = mesh.halves.row;
-    let mut faces = mesh.faces.row;
-    let mut pending = [7u32; WORDS];
-    let positions_length = mesh.positions.length;
-    let heights_length = mesh.heights.length;
-    let outs_length = mesh.outs.length;
-    let halves_length = mesh.halves.length;
-    let faces_length = mesh.faces.length;
-    let counts = mesh.counts;
-    let r = fithmoul::fithmoul_finish(
-        counts.vertices,
-        counts.edges,
-        counts.faces,
-        &positions[..positions_length],
-        &heights[..heights_length],
-        &mut outs[..outs_length],
-        &mut halves[..halves_length],
-        &mut faces[..faces_length],
-        &mut pending[..pending_length],
-    );
-    let left = Counts {
-        vertices: r.vertices,
-        edges: r.edges,
-        faces: r.faces,
-    };
-    FinishLeft {
-        result: r,
-        mesh: test_mesh::with_rows(mesh, left, positions, heights, outs, halves, faces),
-        cleared: test_mesh::holds(pending, pending_length, v),
     }
 }

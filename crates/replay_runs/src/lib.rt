@@ -1,6 +1,7 @@
-// Runs on rows that are owned here: the exported run, of whose rows so many entries are lent; and the two meshes that a case of the
-// Rust's answers has, after the last step of a run and after one pass of `fix_convexity`, for which all rows are lent whole. The ring's
-// rows, pending and the answers are lent with 7 in every entry. No function above these has a row of nodes.
+// The cases of finishes and runs: a file for each list, whose `agrees` says whether a case does. The calls are made on rows that are owned
+// here: the exported finish and run, of whose rows so many entries are lent; and the two meshes that a case of the Rust's answers has,
+// after the last step of a run and after one pass of `fix_convexity`, for which all rows are lent whole. The ring's rows, pending and the
+// answers are lent with 7 in every entry. No function above these has a row of nodes.
 ghost use Prim.Native.Nat.{_≤_};
 ghost use Rattle.test_mesh.specs.Lent.{CoordinatesLent, MeshLent, RingLent};
 use angle::Point2;
@@ -12,6 +13,17 @@ use test_mesh::Longs;
 use test_mesh::Mesh;
 use test_mesh::Ring;
 use test_mesh::WORDS;
+
+pub mod answers_cases;
+pub mod finish_cases;
+pub mod run_cases;
+
+// What a finish has answered and left; whether pending holds what it must.
+pub struct FinishLeft {
+    pub result: FinishResult,
+    pub mesh: Mesh,
+    pub cleared: bool,
+}
 
 // What a run has answered and left; whether the ring's rows and pending hold what they must.
 pub struct RunLeft {
@@ -32,6 +44,57 @@ pub struct Passed {
     pub mesh: Mesh,
     pub faces: u64,
     pub flips: u64,
+}
+
+// Numbers of a result: refusal, place, faces, flips of the convexity passes and of the closing pass.
+pub fn numbers_of(r: FinishResult) -> [u64; 5] {
+    [
+        r.refusal as u64,
+        r.place as u64,
+        r.faces_added as u64,
+        r.convex_flips,
+        r.closing_flips,
+    ]
+}
+
+// Pending must hold v after the call.
+pub fn finish_on(mesh: Mesh, pending_length: usize, v: u32) -> FinishLeft
+    requires { ⌜ MeshLent mesh ⌝ }
+    requires { ⌜ «pending_length» ≤ 6144 ⌝ }
+{
+    let positions = mesh.positions.row;
+    let heights = mesh.heights.row;
+    let mut outs = mesh.outs.row;
+    let mut halves = mesh.halves.row;
+    let mut faces = mesh.faces.row;
+    let mut pending = [7u32; WORDS];
+    let positions_length = mesh.positions.length;
+    let heights_length = mesh.heights.length;
+    let outs_length = mesh.outs.length;
+    let halves_length = mesh.halves.length;
+    let faces_length = mesh.faces.length;
+    let counts = mesh.counts;
+    let r = fithmoul::fithmoul_finish(
+        counts.vertices,
+        counts.edges,
+        counts.faces,
+        &positions[..positions_length],
+        &heights[..heights_length],
+        &mut outs[..outs_length],
+        &mut halves[..halves_length],
+        &mut faces[..faces_length],
+        &mut pending[..pending_length],
+    );
+    let left = Counts {
+        vertices: r.vertices,
+        edges: r.edges,
+        faces: r.faces,
+    };
+    FinishLeft {
+        result: r,
+        mesh: test_mesh::with_rows(mesh, left, positions, heights, outs, halves, faces),
+        cleared: test_mesh::holds(pending, pending_length, v),
+    }
 }
 
 // The ring's rows and pending must hold v after the call.

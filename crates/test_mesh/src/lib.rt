@@ -15,6 +15,8 @@ use mesh::Counts;
 use ring_rows::Node;
 use test_text::Number;
 
+pub mod lines;
+
 // No row of a list is longer than these.
 pub const COORDINATES: usize = 512;
 

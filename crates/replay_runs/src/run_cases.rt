@@ -2,13 +2,13 @@
 // and shrink, long runs of one angle, long walks, pending lists that fill in a step and in the finish. A case agrees where the answer,
 // the counts and every row over its whole length do: the ring's rows, pending and the answers are lent full of sevens.
 ghost use Rattle.test_mesh.specs.Lent.{CoordinatesLent};
-use super::lines;
-use replay_runs::RunLeft;
+use super::RunLeft;
 use test_mesh::Agreed;
 use test_mesh::CoordinatesLine;
 use test_mesh::LONGS;
 use test_mesh::Longs;
 use test_mesh::WORDS;
+use test_mesh::lines;
 
 // `v count x y x y ..`; a last number that stands alone counts as a point.
 fn read_points(text: &[u8], at: usize) -> CoordinatesLine
@@ -47,7 +47,7 @@ fn run_agrees(text: &[u8], mesh: usize, answers: usize, at: usize, left: RunLeft
     let result = left.result;
     let m = lines::compare_mesh(text, mesh, at, left.mesh);
     let a = compare_answers(text, answers, m.at, left.answers);
-    let numbers = lines::numbers_of(result);
+    let numbers = super::numbers_of(result);
     let line = test_text::is_line_of(text, a.at, b'r', &numbers);
     m.agrees & a.agrees & left.cleared & line
 }
@@ -62,7 +62,7 @@ pub fn agrees(text: &[u8], at: usize) -> bool {
     let v = read_points(text, w.at);
     let y = test_mesh::read_heights(text, v.at, b'y');
     let cleared = lines::cleared(text, y.at);
-    let left = replay_runs::run_on(
+    let left = super::run_on(
         m.mesh,
         n.ring,
         q.length,

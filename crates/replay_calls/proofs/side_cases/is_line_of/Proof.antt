@@ -1,9 +1,9 @@
--- `replay::side_cases::is_line_of` meets its contract: the loop stays within the numbers. Assumes nothing.
+-- `replay_calls::side_cases::is_line_of` meets its contract: the loop stays within the numbers. Assumes nothing.
 use Prim.Native.Nat.{_≤_, _-_}
 use lib.ListN.{length}
 use borrow.Author.Needs.{needs}
-use Rattle.replay.proofs.side_cases.is_line_of.Statement.{statement}
-use Rattle.replay.proofs.side_cases.is_line_of.Tie as tie
+use Rattle.replay_calls.proofs.side_cases.is_line_of.Statement.{statement}
+use Rattle.replay_calls.proofs.side_cases.is_line_of.Tie as tie
 
 abbrev Inv-loop : tie.InvT-loop
 Inv-loop text at numbers place₀ same₀ i₀ place same i = i ≤ length numbers

@@ -1,8 +1,8 @@
--- `replay::side_cases::magnitude` meets its contract: no step of it leaves 64 bits. Assumes nothing.
+-- `replay_calls::side_cases::magnitude` meets its contract: no step of it leaves 64 bits. Assumes nothing.
 use borrow.Author.Needs.{needs}
 use Rattle.int128.proofs.Signs.{complement-fits, complement-casts, complement-more, positive-casts}
-use Rattle.replay.proofs.side_cases.magnitude.Statement.{statement}
-use Rattle.replay.proofs.side_cases.magnitude.Tie as tie
+use Rattle.replay_calls.proofs.side_cases.magnitude.Statement.{statement}
+use Rattle.replay_calls.proofs.side_cases.magnitude.Tie as tie
 
 sub-result : tie.Need-sub-result
 sub-result c = complement-fits (c .before .fits .n) (c .if1 .taken)

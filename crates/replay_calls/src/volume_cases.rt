@@ -1,9 +1,9 @@
 // Meshes, levels and what `fithmoul_volume` and `fithmoul_area_total` answer (tests/reference/volume_cases.py): the largest triangles with
 // heights at the limits, volumes at a half cubic metre and one beside it on both sides of zero, single heights, areas at the ends of 32
 // bits and past those of a double, oddities of the mesh, and every refusal. The mesh cannot be changed: its rows are lent to be read.
-use super::lines;
 use fithmoul::results::AreaTotalResult;
 use fithmoul::results::VolumeResult;
+use test_mesh::lines;
 
 // A number's pattern in two's complement, as the list has the cubic metres.
 fn pattern(n: i64) -> u64 {
@@ -40,8 +40,8 @@ fn area_agrees(text: &[u8], at: usize, r: AreaTotalResult) -> bool {
 pub fn agrees(text: &[u8], at: usize) -> bool {
     let m = test_mesh::read_mesh(text, at, test_mesh::LENT, false);
     let l = lines::read_height(text, m.at, b'l');
-    let volume = replay_calls::volume_on(m.mesh, l.height);
-    let area = replay_calls::area_total_on(m.mesh);
+    let volume = super::volume_on(m.mesh, l.height);
+    let area = super::area_total_on(m.mesh);
     m.is_whole
         & l.is_whole
         & volume_agrees(text, l.at, volume)

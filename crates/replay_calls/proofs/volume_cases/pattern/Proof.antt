@@ -1,9 +1,9 @@
--- `replay::volume_cases::pattern` meets its contract: no step of it leaves 64 bits. Assumes nothing.
+-- `replay_calls::volume_cases::pattern` meets its contract: no step of it leaves 64 bits. Assumes nothing.
 use native.Mathlib.Omega.{arith}
 use borrow.Author.Needs.{needs}
 use Rattle.int128.proofs.Signs.{complement-fits, complement-casts, complement-more, positive-casts}
-use Rattle.replay.proofs.volume_cases.pattern.Statement.{statement}
-use Rattle.replay.proofs.volume_cases.pattern.Tie as tie
+use Rattle.replay_calls.proofs.volume_cases.pattern.Statement.{statement}
+use Rattle.replay_calls.proofs.volume_cases.pattern.Tie as tie
 
 sub-result : tie.Need-sub-result
 sub-result c = complement-fits (c .before .fits .n) (c .if1 .taken)

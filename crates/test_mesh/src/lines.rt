@@ -1,14 +1,13 @@
 // The lines that the cases of several calls share.
 ghost use Prim.Native.Nat.{_≤_};
 ghost use Rattle.test_mesh.specs.Lent.{RingLent};
+use super::Agreed;
+use super::Mesh;
+use super::NODES;
+use super::Ring;
+use super::WORDS;
 use angle::Point2;
-use fithmoul::results::FinishResult;
 use math::Point;
-use test_mesh::Agreed;
-use test_mesh::Mesh;
-use test_mesh::NODES;
-use test_mesh::Ring;
-use test_mesh::WORDS;
 use test_text::Number;
 
 pub struct RingLine {
@@ -52,14 +51,14 @@ pub fn read_ring(text: &[u8], at: usize) -> RingLine
     let buckets = test_text::read_number(text, freed.at);
     let end = buckets.at;
     let ring = Ring {
-        nodes: test_mesh::within(nodes.magnitude, NODES),
-        freed: test_mesh::within(freed.magnitude, WORDS),
-        buckets: test_mesh::within(buckets.magnitude, WORDS),
+        nodes: super::within(nodes.magnitude, NODES),
+        freed: super::within(freed.magnitude, WORDS),
+        buckets: super::within(buckets.magnitude, WORDS),
     };
     RingLine {
         ring: ring,
         at: test_text::behind(text, end),
-        is_whole: test_mesh::is_line(text, at, b'n', end)
+        is_whole: super::is_line(text, at, b'n', end)
             & is_length(nodes, ring.nodes)
             & is_length(freed, ring.freed)
             & is_length(buckets, ring.buckets),
@@ -75,10 +74,10 @@ fn is_length(n: Number, length: usize) -> bool {
 pub fn read_sevens(text: &[u8], at: usize, tag: u8, most: usize) -> SevensLine
     ensures { λ r. ⌜ r .length ≤ most ⌝ }
 {
-    let start = test_mesh::read_start(text, at, tag, false, most);
+    let start = super::read_start(text, at, tag, false, most);
     let past = start.past;
     let end = past.at;
-    let length = test_mesh::within(start.length, most);
+    let length = super::within(start.length, most);
     SevensLine {
         length: length,
         at: test_text::behind(text, end),
@@ -91,26 +90,26 @@ pub fn read_sevens(text: &[u8], at: usize, tag: u8, most: usize) -> SevensLine
 
 // A line with a centre.
 pub fn read_center(text: &[u8], at: usize, tag: u8) -> CenterLine {
-    let c = test_mesh::read_center(text, test_text::behind(text, at));
+    let c = super::read_center(text, test_text::behind(text, at));
     let center = c.p;
     let end = c.at;
     CenterLine {
         center: center,
         at: test_text::behind(text, end),
-        is_whole: test_mesh::is_line(text, at, tag, end),
+        is_whole: super::is_line(text, at, tag, end),
     }
 }
 
 // The line `v` with a single point.
 pub fn read_point(text: &[u8], at: usize) -> PointLine {
     let count = test_text::read_number(text, test_text::behind(text, at));
-    let v = test_mesh::read_point(text, count.at);
+    let v = super::read_point(text, count.at);
     let point = v.p;
     let end = v.at;
     PointLine {
         point: point,
         at: test_text::behind(text, end),
-        is_whole: test_mesh::is_line(text, at, b'v', end) & (count.magnitude == 1),
+        is_whole: super::is_line(text, at, b'v', end) & (count.magnitude == 1),
     }
 }
 
@@ -121,7 +120,7 @@ pub fn read_height(text: &[u8], at: usize, tag: u8) -> HeightLine {
     HeightLine {
         height: test_text::signed(z),
         at: test_text::behind(text, end),
-        is_whole: test_mesh::is_line(text, at, tag, end),
+        is_whole: super::is_line(text, at, tag, end),
     }
 }
 
@@ -138,22 +137,11 @@ pub fn cleared(text: &[u8], at: usize) -> u32 {
 // Whether a call has left the mesh as it must; the place of the line after that.
 pub fn compare_mesh(text: &[u8], lent: usize, told: usize, mesh: Mesh) -> Agreed {
     if is_told(text, told) {
-        return test_mesh::compare_mesh(text, told, test_mesh::LEFT, mesh);
+        return super::compare_mesh(text, told, super::LEFT, mesh);
     }
-    let a = test_mesh::compare_mesh(text, lent, test_mesh::LENT, mesh);
+    let a = super::compare_mesh(text, lent, super::LENT, mesh);
     Agreed {
         agrees: a.agrees,
         at: told,
     }
-}
-
-// Numbers of a result: refusal, place, faces, flips of the convexity passes and of the closing pass.
-pub fn numbers_of(r: FinishResult) -> [u64; 5] {
-    [
-        r.refusal as u64,
-        r.place as u64,
-        r.faces_added as u64,
-        r.convex_flips,
-        r.closing_flips,
-    ]
 }

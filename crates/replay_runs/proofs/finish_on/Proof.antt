@@ -1,10 +1,10 @@
--- `replay_calls::finish_on` meets its contract: what is lent of a row is within it. Assumes nothing.
+-- `replay_runs::finish_on` meets its contract: what is lent of a row is within it. Assumes nothing.
 use mathlib.Core.Path.{refl}
 use lib.ListN.{replicate}
 use Rattle.test_mesh.proofs.Lent.{part, of-coordinates, of-words}
 use borrow.Author.Needs.{needs}
-use Rattle.replay_calls.proofs.finish_on.Statement.{statement}
-use Rattle.replay_calls.proofs.finish_on.Tie as tie
+use Rattle.replay_runs.proofs.finish_on.Statement.{statement}
+use Rattle.replay_runs.proofs.finish_on.Tie as tie
 
 array-share-prefix-positions : tie.Need-array-share-prefix-positions
 array-share-prefix-positions c = c .before .before .before .before .before .before .pre .0 .positions .within

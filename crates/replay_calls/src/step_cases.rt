@@ -2,11 +2,11 @@
 // short, points at and beside an edge's ends and line and at the limit of the coordinates, pending lists that fill, long walks, unsettled
 // seeds. A case agrees where the answer, the counts and every row over its whole length do: the ring's rows and pending are lent full of
 // sevens.
-use super::lines;
-use super::lines::HeightLine;
+use super::StepLeft;
 use fithmoul::results::StepResult;
-use replay_calls::StepLeft;
 use test_mesh::WORDS;
+use test_mesh::lines;
+use test_mesh::lines::HeightLine;
 
 // Refusal, place, fate, vertex, faces and flips.
 fn numbers_of(r: StepResult) -> [u64; 6] {
@@ -51,7 +51,7 @@ pub fn agrees(text: &[u8], at: usize) -> bool {
     let v = lines::read_point(text, x.at);
     let y = read_point_height(text, v.at);
     let cleared = lines::cleared(text, y.at);
-    let left = replay_calls::step_on(
+    let left = super::step_on(
         m.mesh,
         n.ring,
         q.length,

@@ -2,7 +2,7 @@
 // neighbours, eighths, 0.0, -0.0, 1.0, subnormal angles, NaN and infinities; centres outside, on a vertex, dead west and nearly so; gaps
 // of 3/4; rows one entry short. The ring's rows are lent full of sevens: a refused call must leave them, an accepted one must leave
 // zeros.
-use super::lines;
+use test_mesh::lines;
 
 // The line `l` at a place, of the mesh whose line `m` stands at another.
 pub fn agrees(text: &[u8], mesh: usize, at: usize) -> bool {
@@ -11,7 +11,7 @@ pub fn agrees(text: &[u8], mesh: usize, at: usize) -> bool {
     let x = lines::read_center(text, n.at, b'x');
     let angle = test_text::read_number(text, test_text::behind(text, at));
     let given = test_text::double(angle.magnitude);
-    let left = replay_calls::locate_on(m.mesh, n.ring, x.center, given);
+    let left = super::locate_on(m.mesh, n.ring, x.center, given);
     let r = left.result;
     let numbers = [
         angle.magnitude,

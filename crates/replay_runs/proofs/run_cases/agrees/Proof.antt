@@ -1,7 +1,7 @@
--- `replay::run_cases::agrees` meets its contract: the lengths that are read are within the rows. Assumes nothing.
+-- `replay_runs::run_cases::agrees` meets its contract: the lengths that are read are within the rows. Assumes nothing.
 use borrow.Author.Needs.{needs}
-use Rattle.replay.proofs.run_cases.agrees.Statement.{statement}
-use Rattle.replay.proofs.run_cases.agrees.Tie as tie
+use Rattle.replay_runs.proofs.run_cases.agrees.Statement.{statement}
+use Rattle.replay_runs.proofs.run_cases.agrees.Tie as tie
 
 read-mesh-requires : tie.Need-read-mesh-requires
 read-mesh-requires c κs = search needs

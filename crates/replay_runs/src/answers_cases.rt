@@ -5,12 +5,11 @@
 // the Rust's too, and it must leave what a finish makes of the Rust's last mesh, with the faces and flips of the first pass and of that
 // finish added up. Where the Rust's search goes on for ever, or a later pass adds a face, there is no such mesh: then the run is accepted.
 ghost use Rattle.test_mesh.specs.Lent.{CoordinatesLent, MeshLent};
-use super::lines;
+use super::Passed;
+use super::RunLeft;
+use super::Stepped;
 use angle::Point2;
 use fithmoul::results::FinishResult;
-use replay_runs::Passed;
-use replay_runs::RunLeft;
-use replay_runs::Stepped;
 use test_mesh::Agreed;
 use test_mesh::Coordinates;
 use test_mesh::CoordinatesLine;
@@ -20,6 +19,7 @@ use test_mesh::Mesh;
 use test_mesh::NODES;
 use test_mesh::Ring;
 use test_mesh::WORDS;
+use test_mesh::lines;
 
 // The line `g faces flips`, of the first pass.
 struct PassLine {
@@ -101,8 +101,8 @@ fn pass_agrees(text: &[u8], at: usize, after: Passed) -> Agreed {
 
 // Whether the numbers of a run are those of a pass and of the finish after it together.
 fn add_up(run: FinishResult, pass: PassLine, rest: FinishResult) -> bool {
-    let all = lines::numbers_of(run);
-    let later = lines::numbers_of(rest);
+    let all = super::numbers_of(run);
+    let later = super::numbers_of(rest);
     let faces = all[2];
     let flips = all[3];
     if faces < pass.faces {
@@ -128,7 +128,7 @@ fn is_last(text: &[u8], at: usize, tag: u8) -> bool {
 fn completed_agrees(text: &[u8], at: usize, g: PassLine, ran: RunLeft) -> bool {
     let b = compare_answers(text, at, b'b', ran.answers);
     let m = test_mesh::read_mesh(text, b.at, test_mesh::LENT, true);
-    let ended = replay_calls::finish_on(m.mesh, WORDS, 0);
+    let ended = super::finish_on(m.mesh, WORDS, 0);
     b.agrees
         & m.is_whole
         & ended.cleared
@@ -139,7 +139,7 @@ fn completed_agrees(text: &[u8], at: usize, g: PassLine, ran: RunLeft) -> bool {
 
 // Whether a run agrees with the lines behind the first pass, whose line `g` stands at `pass`.
 fn run_agrees(text: &[u8], pass: usize, at: usize, ran: RunLeft) -> bool {
-    let numbers = lines::numbers_of(ran.result);
+    let numbers = super::numbers_of(ran.result);
     if is_last(text, at, b'l') | is_last(text, at, b'b') {
         return ran.cleared & (numbers[0] == 0);
     }
@@ -158,11 +158,11 @@ fn case_agrees(text: &[u8], at: usize, mesh: Mesh, center: Point2, points: Coord
         buckets: WORDS,
     };
     let point_heights = test_mesh::zero_heights();
-    let ran = replay_runs::run_on(mesh, ring, WORDS, LONGS, center, points, point_heights, 0);
-    let stepped = replay_runs::steps_on(mesh, center, points);
+    let ran = super::run_on(mesh, ring, WORDS, LONGS, center, points, point_heights, 0);
+    let stepped = super::steps_on(mesh, center, points);
     let last = stepped.mesh;
     let s = steps_agree(text, at, stepped);
-    let p = pass_agrees(text, s.at, replay_runs::pass_on(last));
+    let p = pass_agrees(text, s.at, super::pass_on(last));
     s.agrees & p.agrees & run_agrees(text, s.at, p.at, ran)
 }
 

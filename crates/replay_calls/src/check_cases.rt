@@ -3,7 +3,7 @@
 // right-turning faces. The case whose line `m` stands at a place.
 pub fn agrees(text: &[u8], at: usize) -> bool {
     let m = test_mesh::read_mesh(text, at, test_mesh::LENT, false);
-    let r = replay_calls::check_on(m.mesh);
+    let r = super::check_on(m.mesh);
     let numbers = [r.refusal as u64, r.place as u64];
     m.is_whole & test_text::is_line_of(text, m.at, b'r', &numbers)
 }

@@ -1,2 +1,0 @@
-// No list is as long as this.
-pub const TEXT: usize = 1048576;
