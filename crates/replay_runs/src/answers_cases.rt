@@ -1,5 +1,5 @@
-// The answers of the Rust itself (oracle/answers.txt): for each point the fate, vertex, faces and flips of its step, then the mesh after the
-// last step, the faces and flips of the first pass of `fix_convexity`, and the mesh after it; then the answers of all points with the
+// The answers of the Rust itself (oracle/answers.txt): for each point the fate, vertex, faces and flips of its step, then the mesh after
+// the last step, the faces and flips of the first pass of `fix_convexity`, and the mesh after it; then the answers of all points with the
 // skipped ones put in, and the mesh with them in it. Ours are held against the first two meshes link by link: counts, positions and every
 // entry of the rows. A run makes the same steps and goes on with all passes, the skipped points and the closing pass. Its answers must be
 // the Rust's too, and it must leave what a finish makes of the Rust's last mesh, with the faces and flips of the first pass and of that
@@ -31,7 +31,7 @@ struct PassLine {
 
 // The line `i`, with the case's number.
 fn read_number_line(text: &[u8], at: usize) -> Agreed {
-    let n = test_text::read_number(text, test_text::behind(text, at));
+    let n = test_text::read_natural(text, test_text::behind(text, at));
     let end = n.at;
     Agreed {
         agrees: test_mesh::is_line(text, at, b'i', end),
@@ -40,8 +40,8 @@ fn read_number_line(text: &[u8], at: usize) -> Agreed {
 }
 
 fn read_pass(text: &[u8], at: usize) -> PassLine {
-    let faces = test_text::read_number(text, test_text::behind(text, at));
-    let flips = test_text::read_number(text, faces.at);
+    let faces = test_text::read_natural(text, test_text::behind(text, at));
+    let flips = test_text::read_natural(text, faces.at);
     let end = flips.at;
     PassLine {
         faces: faces.magnitude,
@@ -101,21 +101,19 @@ fn pass_agrees(text: &[u8], at: usize, after: Passed) -> Agreed {
 
 // Whether the numbers of a run are those of a pass and of the finish after it together.
 fn add_up(run: FinishResult, pass: PassLine, rest: FinishResult) -> bool {
-    let all = super::numbers_of(run);
-    let later = super::numbers_of(rest);
-    let faces = all[2];
-    let flips = all[3];
+    let faces = run.faces_added as u64;
+    let flips = run.convex_flips;
     if faces < pass.faces {
         return false;
     }
     if flips < pass.flips {
         return false;
     }
-    (all[0] == 0)
-        & (later[0] == 0)
-        & (faces - pass.faces == later[2])
-        & (flips - pass.flips == later[3])
-        & (all[4] == later[4])
+    (run.refusal == 0)
+        & (rest.refusal == 0)
+        & (faces - pass.faces == rest.faces_added as u64)
+        & (flips - pass.flips == rest.convex_flips)
+        & (run.closing_flips == rest.closing_flips)
 }
 
 // Whether a line has a tag alone and is the last of its case.
@@ -139,9 +137,8 @@ fn completed_agrees(text: &[u8], at: usize, g: PassLine, ran: RunLeft) -> bool {
 
 // Whether a run agrees with the lines behind the first pass, whose line `g` stands at `pass`.
 fn run_agrees(text: &[u8], pass: usize, at: usize, ran: RunLeft) -> bool {
-    let numbers = super::numbers_of(ran.result);
     if is_last(text, at, b'l') | is_last(text, at, b'b') {
-        return ran.cleared & (numbers[0] == 0);
+        return ran.cleared & (ran.result.refusal == 0);
     }
     let cleared = ran.cleared;
     completed_agrees(text, at, read_pass(text, pass), ran) & cleared

@@ -14,7 +14,7 @@ use test_mesh::lines;
 fn read_points(text: &[u8], at: usize) -> CoordinatesLine
     ensures { λ r. ⌜ CoordinatesLent (r .coordinates) ⌝ }
 {
-    let count = test_text::read_number(text, test_text::behind(text, at));
+    let count = test_text::read_natural(text, test_text::behind(text, at));
     let v = test_mesh::read_points(text, count.at);
     let points = v.coordinates;
     let numbers = points.length;

@@ -122,12 +122,12 @@ pub fn is_line(text: &[u8], start: usize, tag: u8, end: usize) -> bool {
 
 // Two whole numbers.
 pub fn read_point(text: &[u8], at: usize) -> PointAt {
-    let x = test_text::read_number(text, at);
-    let y = test_text::read_number(text, x.at);
+    let x = test_text::read_coordinate(text, at);
+    let y = test_text::read_coordinate(text, x.at);
     PointAt {
         p: Point {
-            x: test_text::signed(x),
-            y: test_text::signed(y),
+            x: x.value,
+            y: y.value,
         },
         at: y.at,
     }
@@ -135,8 +135,8 @@ pub fn read_point(text: &[u8], at: usize) -> PointAt {
 
 // The bits of two doubles.
 pub fn read_center(text: &[u8], at: usize) -> CenterAt {
-    let x = test_text::read_number(text, at);
-    let y = test_text::read_number(text, x.at);
+    let x = test_text::read_natural(text, at);
+    let y = test_text::read_natural(text, x.at);
     CenterAt {
         p: Point2 {
             x: test_text::double(x.magnitude),
@@ -149,15 +149,15 @@ pub fn read_center(text: &[u8], at: usize) -> CenterAt {
 // The line with the counts.
 pub fn read_counts(text: &[u8], at: usize, tag: u8) -> CountsLine {
     let start = test_text::behind(text, at);
-    let v = test_text::read_number(text, start);
-    let e = test_text::read_number(text, v.at);
-    let f = test_text::read_number(text, e.at);
+    let v = test_text::read_word(text, start);
+    let e = test_text::read_word(text, v.at);
+    let f = test_text::read_word(text, e.at);
     let end = f.at;
     CountsLine {
         counts: Counts {
-            vertices: test_text::unsigned(v),
-            edges: test_text::unsigned(e),
-            faces: test_text::unsigned(f),
+            vertices: v.value,
+            edges: e.value,
+            faces: f.value,
         },
         at: test_text::behind(text, end),
         is_whole: is_line(text, at, tag, end),
@@ -220,8 +220,8 @@ fn fill_words(text: &[u8], at: usize, row: &mut [u32]) -> usize {
         if test_text::byte(text, place) != b' ' {
             return place;
         }
-        let entry = test_text::read_number(text, place);
-        let value = test_text::unsigned(entry);
+        let entry = test_text::read_word(text, place);
+        let value = entry.value;
         row[i] = value;
         place = entry.at;
         i += 1;
@@ -237,8 +237,8 @@ fn fill_coordinates(text: &[u8], at: usize, row: &mut [i32]) -> usize {
         if test_text::byte(text, place) != b' ' {
             return place;
         }
-        let entry = test_text::read_number(text, place);
-        let value = test_text::signed(entry);
+        let entry = test_text::read_coordinate(text, place);
+        let value = entry.value;
         row[i] = value;
         place = entry.at;
         i += 1;
@@ -250,8 +250,8 @@ fn fill_coordinates(text: &[u8], at: usize, row: &mut [i32]) -> usize {
 fn read_words(text: &[u8], start: RowStart) -> WordsLine
     ensures { λ r. ⌜ WordsLent (r .words) ⌝ }
 {
-    let past = start.past;
-    let filler = test_text::unsigned(past);
+    let past = test_text::as_word(text, start.past);
+    let filler = past.value;
     let mut row = [filler; WORDS];
     let count = within(start.length, WORDS);
     let end = fill_words(text, past.at, &mut row[..count]);
@@ -271,8 +271,8 @@ fn read_words(text: &[u8], start: RowStart) -> WordsLine
 fn read_coordinates(text: &[u8], start: RowStart) -> CoordinatesLine
     ensures { λ r. ⌜ CoordinatesLent (r .coordinates) ⌝ }
 {
-    let past = start.past;
-    let filler = test_text::signed(past);
+    let past = test_text::as_coordinate(text, start.past);
+    let filler = past.value;
     let mut row = [filler; COORDINATES];
     let count = within(start.length, COORDINATES);
     let end = fill_coordinates(text, past.at, &mut row[..count]);

@@ -83,6 +83,7 @@ pub fn read_sevens(text: &[u8], at: usize, tag: u8, most: usize) -> SevensLine
         at: test_text::behind(text, end),
         is_whole: start.is_right
             & (start.length == length as u64)
+            & !past.negative
             & (past.magnitude == 7)
             & (test_text::byte(text, end) == b'\n'),
     }
@@ -102,7 +103,7 @@ pub fn read_center(text: &[u8], at: usize, tag: u8) -> CenterLine {
 
 // The line `v` with a single point.
 pub fn read_point(text: &[u8], at: usize) -> PointLine {
-    let count = test_text::read_number(text, test_text::behind(text, at));
+    let count = test_text::read_natural(text, test_text::behind(text, at));
     let v = super::read_point(text, count.at);
     let point = v.p;
     let end = v.at;
@@ -115,10 +116,10 @@ pub fn read_point(text: &[u8], at: usize) -> PointLine {
 
 // A line with a single height.
 pub fn read_height(text: &[u8], at: usize, tag: u8) -> HeightLine {
-    let z = test_text::read_number(text, test_text::behind(text, at));
+    let z = test_text::read_coordinate(text, test_text::behind(text, at));
     let end = z.at;
     HeightLine {
-        height: test_text::signed(z),
+        height: z.value,
         at: test_text::behind(text, end),
         is_whole: super::is_line(text, at, tag, end),
     }

@@ -1,8 +1,20 @@
-// Lines of a tag and decimal numbers in a text of bytes, for the program that runs lists of cases. A cursor is a place in the text; past its end there is nothing to
-// read.
+// Lines of a tag and decimal numbers in a text of bytes, for the program that runs lists of cases. A cursor is a place in the text; past
+// its end there is nothing to read. What is no number, or too large for where it stands, leads there.
 pub struct Number {
     pub negative: bool,
     pub magnitude: u64,
+    pub at: usize,
+}
+
+// 32 signed bits.
+pub struct Coordinate {
+    pub value: i32,
+    pub at: usize,
+}
+
+// 32 bits.
+pub struct Word {
+    pub value: u32,
     pub at: usize,
 }
 
@@ -26,7 +38,22 @@ fn skip_blank(text: &[u8], at: usize) -> usize {
     at
 }
 
-// A number with one more digit; one that would not fit stays as it is.
+fn is_digit(b: u8) -> bool {
+    b >= b'0' && b <= b'9'
+}
+
+// Whether a byte is a digit, and the number fits with it.
+fn takes_digit(magnitude: u64, b: u8) -> bool {
+    if !is_digit(b) {
+        return false;
+    }
+    if magnitude == 1844674407370955161 {
+        return b <= b'5';
+    }
+    magnitude < 1844674407370955161
+}
+
+// A number with one more digit; one that it does not take leaves it as it is.
 fn with_digit(magnitude: u64, digit: u8) -> u64 {
     if digit < b'0' {
         return magnitude;
@@ -47,38 +74,52 @@ fn with_digit(magnitude: u64, digit: u8) -> u64 {
     magnitude * 10 + (d as u64)
 }
 
-fn is_digit(b: u8) -> bool {
-    b >= b'0' && b <= b'9'
-}
-
-// The number that begins here, with the blank before it and a sign.
-pub fn read_number(text: &[u8], at: usize) -> Number {
-    let mut i = skip_blank(text, at);
-    let mut negative = false;
-    if byte(text, i) == b'-' {
-        negative = true;
-        if i < text.len() {
-            i = i + 1;
-        }
-    }
+// The digits from a place on, up to one with which the number would not fit.
+fn read_digits(text: &[u8], at: usize) -> Number {
     let mut magnitude: u64 = 0;
+    let mut i = at;
     while i < text.len() {
         let b = text[i];
-        if is_digit(b) {
-            magnitude = with_digit(magnitude, b);
-            i = i + 1;
-        } else {
+        if !takes_digit(magnitude, b) {
             return Number {
-                negative: negative,
+                negative: false,
                 magnitude: magnitude,
                 at: i,
             };
         }
+        magnitude = with_digit(magnitude, b);
+        i = i + 1;
     }
     Number {
-        negative: negative,
+        negative: false,
         magnitude: magnitude,
         at: i,
+    }
+}
+
+// The number that begins here, with the blank before it and a sign. Where there is none, or none that fits, the place is the text's end:
+// no line ends there, so whoever looks for the end of the line sees it.
+pub fn read_number(text: &[u8], at: usize) -> Number {
+    let first = skip_blank(text, at);
+    let negative = byte(text, first) == b'-';
+    let start = if negative { behind(text, first) } else { first };
+    let digits = read_digits(text, start);
+    let end = digits.at;
+    let is_whole = is_digit(byte(text, start)) & !is_digit(byte(text, end));
+    Number {
+        negative: negative,
+        magnitude: digits.magnitude,
+        at: if is_whole { end } else { text.len() },
+    }
+}
+
+// A number without a sign; one with a sign is none.
+pub fn read_natural(text: &[u8], at: usize) -> Number {
+    let n = read_number(text, at);
+    Number {
+        negative: false,
+        magnitude: n.magnitude,
+        at: if n.negative { text.len() } else { n.at },
     }
 }
 
@@ -127,7 +168,7 @@ pub fn is_line_of(text: &[u8], at: usize, tag: u8, numbers: &[u64]) -> bool {
 
 // Whether a line `z` is the last one and has a number.
 fn is_closing(text: &[u8], at: usize, lines: u32) -> bool {
-    let n = read_number(text, behind(text, at));
+    let n = read_natural(text, behind(text, at));
     let end = n.at;
     n.magnitude == lines as u64 && byte(text, end) == b'\n' && behind(text, end) == text.len()
 }
@@ -157,7 +198,7 @@ pub fn is_whole_list(text: &[u8]) -> bool {
 }
 
 // The number as 32 signed bits, 0 where it does not fit.
-pub fn signed(n: Number) -> i32 {
+fn signed(n: Number) -> i32 {
     if n.magnitude > 2147483647 {
         if n.magnitude == 2147483648 && n.negative {
             return -2147483648;
@@ -168,12 +209,46 @@ pub fn signed(n: Number) -> i32 {
     if n.negative { -m } else { m }
 }
 
-// The number as 32 bits, 0 where it does not fit.
-pub fn unsigned(n: Number) -> u32 {
-    if n.magnitude > 4294967295 {
-        return 0;
+// The number as a coordinate; one that does not fit is none, as for `read_number`.
+pub fn as_coordinate(text: &[u8], n: Number) -> Coordinate {
+    if (n.magnitude < 2147483648) | (n.negative & (n.magnitude == 2147483648)) {
+        return Coordinate {
+            value: signed(n),
+            at: n.at,
+        };
     }
-    n.magnitude as u32
+    Coordinate {
+        value: 0,
+        at: text.len(),
+    }
+}
+
+pub fn read_coordinate(text: &[u8], at: usize) -> Coordinate {
+    as_coordinate(text, read_number(text, at))
+}
+
+// The number as 32 bits; one that does not fit is none, as for `read_number`.
+pub fn as_word(text: &[u8], n: Number) -> Word {
+    if n.negative {
+        return Word {
+            value: 0,
+            at: text.len(),
+        };
+    }
+    if n.magnitude > 4294967295 {
+        return Word {
+            value: 0,
+            at: text.len(),
+        };
+    }
+    Word {
+        value: n.magnitude as u32,
+        at: n.at,
+    }
+}
+
+pub fn read_word(text: &[u8], at: usize) -> Word {
+    as_word(text, read_number(text, at))
 }
 
 // A double from its 64 bits, a NaN for every pattern of one.

@@ -25,11 +25,8 @@ same-length c = search needs
 returns : tie.Need-returns Inv-loop μ-loop
 returns c = search needs
 
-read-number-requires : tie.Need-read-number-requires Inv-loop μ-loop
-read-number-requires c κs = search needs
-
-signed-requires : tie.Need-signed-requires Inv-loop μ-loop
-signed-requires c κs = search needs
+read-coordinate-requires : tie.Need-read-coordinate-requires Inv-loop μ-loop
+read-coordinate-requires c κs = search needs
 
 mul-value : tie.Need-mul-value Inv-loop μ-loop
 mul-value c = search needs
@@ -62,8 +59,7 @@ fill-coordinates-spec =
     byte-requires
     same-length
     returns
-    read-number-requires
-    signed-requires
+    read-coordinate-requires
     mul-value
     slice-set-from-value
     add-i

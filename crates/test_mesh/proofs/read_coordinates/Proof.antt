@@ -7,8 +7,8 @@ use borrow.Author.Needs.{needs}
 use Rattle.test_mesh.proofs.read_coordinates.Statement.{statement}
 use Rattle.test_mesh.proofs.read_coordinates.Tie as tie
 
-signed-requires : tie.Need-signed-requires
-signed-requires c κs = search needs
+as-coordinate-requires : tie.Need-as-coordinate-requires
+as-coordinate-requires c κs = search needs
 
 within-requires : tie.Need-within-requires
 within-requires c κs = search needs
@@ -37,7 +37,7 @@ pub read-coordinates-spec : {M : Type 1} → statement M
 read-coordinates-spec =
     tie.close
     (tie.spec
-    signed-requires
+    as-coordinate-requires
     within-requires
     array-borrow-prefix-row
     slice-aggregate-fill-coordinates

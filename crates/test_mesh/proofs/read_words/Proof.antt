@@ -7,8 +7,8 @@ use borrow.Author.Needs.{needs}
 use Rattle.test_mesh.proofs.read_words.Statement.{statement}
 use Rattle.test_mesh.proofs.read_words.Tie as tie
 
-unsigned-requires : tie.Need-unsigned-requires
-unsigned-requires c κs = search needs
+as-word-requires : tie.Need-as-word-requires
+as-word-requires c κs = search needs
 
 within-requires : tie.Need-within-requires
 within-requires c κs = search needs
@@ -37,7 +37,7 @@ pub read-words-spec : {M : Type 1} → statement M
 read-words-spec =
     tie.close
     (tie.spec
-    unsigned-requires
+    as-word-requires
     within-requires
     array-borrow-prefix-row
     slice-aggregate-fill-words
