@@ -87,7 +87,7 @@ fn segment_sample(text: &[u8], at: usize) -> bool {
     let VertexAngle::Angle(to) = angle::vertex_angle(q.p.x, q.p.y, c.p) else {
         return false;
     };
-    segment_agrees(from, to, test_text::double(n.magnitude), r.magnitude == 1)
+    segment_agrees(from, to, test_text::double(n.magnitude), r.magnitude == 1) & (r.magnitude < 2)
 }
 
 // Whether the floor bucket of a given double is as expected, for the counts that the list has.

@@ -26,7 +26,7 @@ fn circle(a: Point, b: Point, c: Point, d: Point, expected: test_text::Number) -
     false
 }
 
-// The sample whose numbers begin at a place.
+// The sample whose numbers begin at a place. An answer is 0 or 1, or the sign of a determinant.
 pub fn holds(text: &[u8], at: usize, tag: u8) -> bool {
     let a = test_mesh::read_point(text, at);
     let b = test_mesh::read_point(text, a.at);
@@ -34,8 +34,8 @@ pub fn holds(text: &[u8], at: usize, tag: u8) -> bool {
     if tag == b'i' {
         let d = test_mesh::read_point(text, c.at);
         let n = test_text::read_number(text, d.at);
-        return circle(a.p, b.p, c.p, d.p, n);
+        return circle(a.p, b.p, c.p, d.p, n) & (n.magnitude < 2);
     }
     let n = test_text::read_number(text, c.at);
-    behind(a.p, b.p, c.p, n)
+    behind(a.p, b.p, c.p, n) & (n.magnitude < 2)
 }
