@@ -1,0 +1,2 @@
+-- `Same` reads the tests of `is_same`.
+pub mod Same
