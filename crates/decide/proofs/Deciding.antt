@@ -40,6 +40,7 @@ use Rattle.decide.specs.declared.Fate.the-variants.{Added, Dropped, NotL
 use Rattle.decide.specs.Decide.{Decided, atEnd, decidedAt, fateAt, ifAdded, notAdded}
 use Rattle.decide.specs.SweepRows.{ChainAngles, Decides}
 use Rattle.decide.specs.Located.{LocatedRows, DecidesAt, LeavesOut}
+use Rattle.decide.specs.VertexAngles.{left-out}
 use Rattle.walks.specs.declared.BoundaryVertex.{BoundaryVertex}
 use Rattle.walks.specs.declared.WalkEnd.{WalkEnd}
 use Rattle.walks.specs.Walks.{originPosition, EdgeAbout, ToRead, ReadAt, ToWalk, WalkedTo}
@@ -62,15 +63,6 @@ module _ (C : Counts) (q : List ℤ) (o h f : List ℕ) (α : ℕ → ℕ) (v : 
   decided-by x y s g = λ i.
       withFate (fateOf (C .vertices) (x i) (y i) (s i) (g i)) e (leftChain C (linksOf o h f) (positionOf q) α v a e)
       (rightChain C (linksOf o h f) (positionOf q) α v a e)
-
--- a point that is not added
-pub left-out : {C : Counts} {L : Links} {p : ℕ → Point} {cx cy : Float} {v : Point} {D : Decided} {r : Decision}
-    (F : Fate) → ifAdded F 1 ≡ 0 → LeavesOut F r → D ≡ notAdded F → Decides C L p cx cy v D r
-unfolding ifAdded
-left-out F never i j = record {
-  is = i ∙ sym j;
-  angles = λ n z. absurd (let k = ap (λ (f : Fate). ifAdded f 1) (sym (ap (λ (D : Decided). D .fate) i) ∙ z) in omega arith);
-}
 
 -- the answer about one that is
 abbrev pub addedWith : ℕ → ℕ → ℕ → ℕ → Float → Float → Float → Decision

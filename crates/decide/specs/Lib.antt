@@ -3,3 +3,4 @@ pub mod Decide
 pub mod SweepRows
 pub mod Located
 pub mod SweepRowsLaws
+pub mod VertexAngles

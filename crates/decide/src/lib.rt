@@ -65,7 +65,7 @@ pub struct Decision {
 }
 
 // A point that is not added.
-fn leave(fate: Fate) -> Decision
+pub fn leave(fate: Fate) -> Decision
     ensures { λ r. ⌜ LeavesOut fate r ⌝ }
 {
     Decision {
@@ -81,7 +81,7 @@ fn leave(fate: Fate) -> Decision
 
 // Fates 2, 3, 4 and 1 of a point with an angle, of which e is the located edge. `size` is the number of the ring's
 // nodes, `next` the next vertex.
-fn decide_at(
+pub fn decide_at(
     positions: &[i32],
     halves: &[u32],
     e: u32,

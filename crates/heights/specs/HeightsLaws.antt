@@ -1,5 +1,5 @@
 -- What the checks with heights come to: where no row of heights is too short and no height outside, heights refuse nothing, and a call's
--- own table decides (`tested-then`); otherwise the answer is one of 1, 2, 3 and 10 (`heights-numbered`). What is accepted has its
+-- own table decides (`tested-then`, `own-table`); otherwise the answer is one of 1, 2, 3 and 10 (`heights-numbered`). What is accepted has its
 -- heights, all of them in range (`heights-accept`). Assumes nothing.
 use mathlib.Core.Bool.{Bool, true, false, not, cond, _||_}
 use mathlib.Core.List.{List, []}
@@ -176,6 +176,24 @@ module _ (g : HeightsLent) (C : Counts) (s : SurfaceRows) where
           ≡ andThen (checkWith (g .points) (g .short) C (s .mesh)) next
       go true p k = then-next _ k
       go false p k = let u = or-false (anyHeightsShort g C (s .heights)) (anyHeightsOutside g C (s .heights)) p in fine-then (u .0) (u .1) next
+
+  -- what the rows up to 10 accept, the quick test accepts
+  pub checked-tested : heightsChecked g C s ≡ Accepted → heightsTested g C s ≡ Accepted
+  unfolding heightsTested
+  checked-tested e = go (anyHeightsShort g C (s .heights) || anyHeightsOutside g C (s .heights))
+    where
+      go : (b : Bool) → cond b (heightsChecked g C s) Accepted ≡ Accepted
+      go true = e
+      go false = refl
+
+-- ---- a call's own table, which begins with the rows of its mesh
+module _ (g : HeightsLent) (C : Counts) (s : SurfaceRows) {own : Checked} (next : Checked)
+    (begins : own ≡ andThen (checkWith (g .points) (g .short) C (s .mesh)) next) where
+  pub own-table : heightsTested g C s ≡ Accepted → andThen (heightsChecked g C s) own ≡ own
+  own-table e = rw begins (tested-then g C s e next)
+
+  pub own-refused : {r : Refusal} → heightsTested g C s ≡ Refused r → andThen (heightsChecked g C s) own ≡ Refused r
+  own-refused e = then-refused own (tested-refused g C s e)
 
 -- ---- a refusal has one of the numbers 1, 2, 3 and 10, and in `check` and `volume` 4 and 5 too
 pub heights-numbered : (g : HeightsLent) (C : Counts) (s : SurfaceRows) → NumberedTo 10 (heightsChecked g C s)

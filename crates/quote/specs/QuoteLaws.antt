@@ -37,7 +37,7 @@ module _ (q p : Quote) where
         same-coordinate (q .y) (p .y) (and-left (isCoordinate (q .y) (p .y)) (isCoordinate (q .z) (p .z)) yz),
         same-coordinate (q .z) (p .z) (and-right (isCoordinate (q .y) (p .y)) (isCoordinate (q .z) (p .z)) yz),
         eqb→eq (q .fate) (p .fate) (and-left (eqb (q .fate) (p .fate)) (eqb (q .faces) (p .faces)) w),
-        eqb→eq (q .faces) (p .faces) (and-right (eqb (q .fate) (p .fate)) (eqb (q .faces) (p .faces)) w)
+        eqb→eq (q .faces) (p .faces) (and-right (eqb (q .fate) (p .fate)) (eqb (q .faces) (p .faces)) w),
       ) refl
 
 quote-itself : (q : Quote) → T (sameQuote q q)

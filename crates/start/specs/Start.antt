@@ -1,16 +1,21 @@
 -- Refusals 1 to 7 of a call that sweeps: it is given a mesh, points, a centre, and rows for the ring and the pending list. Definitions
 -- only; `StartLaws` says what an accepted call has.
 use mathlib.Core.Bool.{Bool, _||_}
-use mathlib.Core.List.{List}
+use mathlib.Core.List.{List, [], _∷_}
 use Prim.Native.Nat.{ℕ}
 use lib.Dec.{ltb}
 use lib.IntN.{ℤ}
 use Rattle.angle.specs.declared.Point2.{Point2}
 use Rattle.dcel.specs.MeshRows.{MeshRows}
 use Rattle.locate.specs.Locate.{ringRowsShort, checkStart}
+use Rattle.math.specs.declared.Point.{Point}
 use Rattle.mesh.specs.declared.Counts.{Counts}
 use Rattle.mesh_check.specs.declared.Checked.{Checked}
 use Rattle.mesh_check.specs.Check.{vertexCount}
+
+-- a point as a row of points: an x and a y
+abbrev pub pointRow : Point → List ℤ
+pointRow v = v .x ∷ v .y ∷ []
 
 -- 2, of the rows that are not the mesh's, by their lengths: the ring's, and "at least 8 pending entries". short: another one, a run's
 -- answers, is too short

@@ -20,15 +20,16 @@ use Rattle.ring_rows.specs.declared.Node.{Node}
 use Rattle.ring_rows.specs.declared.Hull.{Hull}
 use Rattle.ring_rows.specs.Laws.{zeros-same}
 use Rattle.ring_rows.specs.RingRows.{RingRows, ringRows}
-use Rattle.start.specs.Start.{sweepChecked}
+use Rattle.start.specs.Start.{pointRow, sweepChecked}
 use Rattle.start.specs.StartLaws.{AcceptedSweep, sweep-accepts}
 use Rattle.start.specs.StartRows.{ToStart, Started, RowsCleared}
 use Rattle.step.specs.declared.Progress.{Progress}
 use Rattle.sweep.specs.declared.StepAnswer.{StepAnswer}
 use Rattle.sweep.specs.declared.Stepped.{Stepped}
-use Rattle.sweep.specs.StepCall.{pointRow, answerFrom, stepChecked, steppedWith, stepOutcome, stepOf}
+use Rattle.sweep.specs.StepCall.{answerFrom, stepChecked, steppedWith, stepOutcome, stepOf}
 use Rattle.sweep.specs.Step.{Stepping, stepMesh}
 use Rattle.step.specs.StepRows.{steppingOf, StepRoom, StepReady, StepLeaves, SweptOnce}
+use Rattle.step.specs.StepOnce.{swept-outcome}
 
 -- ---- the answer
 module _ (r : Progress) (place : ℕ) (m : MeshRows) where
@@ -136,14 +137,8 @@ module _ (C : Counts) (m : MeshRows) (ring : RingRows) (pending : List ℕ) (cen
   unfolding stepOf stepOutcome
   refused-outcome e f = rw (← f, e) refl
 
-  outcome-is : {x x′ : StepAnswer} {m₁ m₂ : MeshRows} {g₁ g₂ : RingRows} {p₁ p₂ : List ℕ} → x ≡ x′ → m₁ ≡ m₂ → g₁ ≡ g₂ → p₁ ≡ p₂
-      → steppedWith x m₁ g₁ p₁ ≡ steppedWith x′ m₂ g₂ p₂
-  outcome-is a b c d = rw (a, b, c, d) refl
-
   pub accepted-outcome : {k : Checked} → k ≡ Checked.Accepted → k ≡ checks
       → {x : StepAnswer} {m′ : MeshRows} {ring′ : RingRows} {pending′ : List ℕ} {r : Progress}
       → SweptOnce C m ring pending m′ ring′ pending′ center v r → SameLengths m m′ → x ≡ answerFrom 0 (steppingOf m′ r)
       → steppedWith x m′ ring′ pending′ ≡ stepOf C m ring pending center v
-  unfolding stepOf stepOutcome steppingOf
-  accepted-outcome e f K S y =
-      rw (← f, e, ← K .is) (outcome-is y (mesh-rows-from S refl refl) (K .zeros .ring-zero) (K .zeros .pending-zero))
+  accepted-outcome e f = swept-outcome C m ring pending center v (sym f ∙ e)

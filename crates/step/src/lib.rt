@@ -9,7 +9,8 @@ ghost use Rattle.ring_rows.specs.RingRows.{ringRows};
 ghost use Rattle.start.specs.StartLaws.{AcceptedSweep};
 ghost use Rattle.sweep.specs.Step.{isAdded};
 ghost use Rattle.step.specs.StepRows.{progressOf, steppingOf, PointReady, PointAdded, StepReady, StepLeaves, SweptOnce};
-ghost use Rattle.sweep.specs.StepCall.{pointRow, answerFrom, stepChecked, steppedWith, stepOf};
+ghost use Rattle.start.specs.Start.{pointRow};
+ghost use Rattle.sweep.specs.StepCall.{answerFrom, stepChecked, steppedWith, stepOf};
 use angle::Point2;
 use apply::Entered;
 use corner::Extension;
@@ -194,7 +195,7 @@ fn check_step(
 }
 
 // The ring of an accepted mesh, one step with it, and zeros in the rows that end so.
-fn sweep_once(
+pub fn sweep_once(
     positions: &mut [i32],
     outs: &mut [u32],
     halves: &mut [u32],
@@ -236,7 +237,7 @@ fn sweep_once(
 }
 
 // 9: "the pushes of a flip would overfill the pending list", with the place that the call names.
-fn answer_of(progress: Progress, place: u32) -> StepAnswer
+pub fn answer_of(progress: Progress, place: u32) -> StepAnswer
     ensures { λ r. ⌜ ((m : MeshRows) → r ≡ answerFrom place (steppingOf m progress)) ⌝ }
 {
     let counts = progress.counts;

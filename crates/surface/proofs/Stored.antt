@@ -16,10 +16,9 @@ use Rattle.math.specs.declared.Point.{Point}
 use Rattle.mesh.specs.declared.Counts.{Counts}
 use Rattle.mesh_check.specs.declared.Checked.{Checked}
 use Rattle.mesh_check.specs.Check.{vertexCount}
-use Rattle.start.specs.Start.{sweepRowsShort}
+use Rattle.start.specs.Start.{pointRow, sweepRowsShort}
 use Rattle.sums.specs.Bit.{from-true}
 use Rattle.sums.specs.Put.{put}
-use Rattle.sweep.specs.StepCall.{pointRow}
 use Rattle.surface.specs.PutEach.{putEach}
 use Rattle.surface.specs.StoreReady.{FateRoom, FatesRoom, StoreReady}
 use Rattle.surface.specs.StoredHeights.{fateWord, vertexWord, isFrom, storedFrom, answeredHeights, isMade, placeOf, finishedHeights}

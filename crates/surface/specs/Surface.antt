@@ -27,11 +27,11 @@ use Rattle.mesh_check.specs.declared.Checked.{Checked}
 use Rattle.mesh_check.specs.Check.{andThen, pointCount, vertexCount}
 use Rattle.ring.specs.Center.{turnsAbout}
 use Rattle.ring_rows.specs.RingRows.{RingRows}
-use Rattle.start.specs.Start.{sweepRowsShort}
+use Rattle.start.specs.Start.{pointRow, sweepRowsShort}
 use Rattle.sums.specs.Put.{put}
 use Rattle.sweep.specs.Run.{answerWords, RunLent, RunOutcome, runChecked, sweepOf, stepsOf, skippedOf, passedOf, fillOf, insertOf, runOutcome}
 use Rattle.sweep.specs.Step.{stepMesh}
-use Rattle.sweep.specs.StepCall.{StepOutcome, pointRow, stepChecked, stepOutcome}
+use Rattle.sweep.specs.StepCall.{StepOutcome, stepChecked, stepOutcome}
 
 -- ---- locate and finish: no height is written
 unfoldable pub surfaceLocate : Counts → SurfaceRows → RingRows → Point2 → Float → LocateOutcome

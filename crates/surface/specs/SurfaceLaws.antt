@@ -22,7 +22,7 @@ use Rattle.decide.specs.declared.Fate.the-variants.{Added, Dropped, NotLeft, Un
 use Rattle.finish.specs.declared.Finished.{Finished}
 use Rattle.finish.specs.Finish.{finishedWith, finishOutcome, finishOf, seedChecked}
 use Rattle.heights.specs.Heights.{SurfaceRows, surfaceRows, heightOf, heightsIn, HeightsLent, heightsLent, HeightsGiven, heightsChecked, heightsTested}
-use Rattle.heights.specs.HeightsLaws.{heights-accept, given-tested, tested-refused, tested-accept, tested-then}
+use Rattle.heights.specs.HeightsLaws.{heights-accept, given-tested, tested-accept, own-table, own-refused}
 use Rattle.locate.specs.declared.Located.{Located}
 use Rattle.locate.specs.Locate.{ringShort, checkRing, checkStart, checkAngle, locatedWith, locateOutcome, locateOf}
 use Rattle.math.specs.declared.Point.{Point}
@@ -33,9 +33,9 @@ use Rattle.mesh_check.specs.declared.Checked.{Checked}
 use Rattle.mesh_check.specs.declared.Checked.the-variants.{Accepted, Refused}
 use Rattle.mesh_check.specs.declared.Refusal.{Refusal}
 use Rattle.mesh_check.specs.Check.{andThen, checkWith, pointCount, vertexCount}
-use Rattle.mesh_check.specs.CheckLaws.{then-refused, then-accepts}
+use Rattle.mesh_check.specs.CheckLaws.{then-accepts}
 use Rattle.ring_rows.specs.RingRows.{RingRows}
-use Rattle.start.specs.Start.{sweepRowsShort, sweepChecked}
+use Rattle.start.specs.Start.{pointRow, sweepRowsShort, sweepChecked}
 use Rattle.sums.specs.Bit.{bit}
 use Rattle.sums.specs.Put.{put, put-same, put-other}
 use Rattle.sweep.specs.declared.StepAnswer.{StepAnswer}
@@ -45,7 +45,7 @@ use Rattle.sweep.specs.Step.{Stepping, isAdded, stepMesh}
 use Rattle.sweep.specs.StepCallLaws.{step-fate, step-range, step-swept}
 use Rattle.sweep.specs.StepMesh.{Swept}
 use Rattle.sweep.specs.SweepLaws.{step-count}
-use Rattle.sweep.specs.StepCall.{answerFrom, pointRow, stepChecked, steppedWith, stepOutcome, stepOf}
+use Rattle.sweep.specs.StepCall.{answerFrom, stepChecked, steppedWith, stepOutcome, stepOf}
 use Rattle.surface.specs.StoredHeights.{heightStored}
 use Rattle.surface.specs.Surface.{heightAdded, heightsAfter, SurfaceStepped, surfaceStepped}
 use Rattle.surface.specs.Surface.{surfaceLocate, surfaceFinish, surfaceStepChecked, surfaceStep}
@@ -60,14 +60,6 @@ then-both : (a b c : Checked) → andThen (andThen a b) c ≡ andThen a (andThen
 unfolding andThen
 then-both Accepted b c = refl
 then-both (Refused r) b c = refl
-
-module _ (g : HeightsLent) (C : Counts) (s : SurfaceRows) {own : Checked} (next : Checked)
-    (begins : own ≡ andThen (checkWith (g .points) (g .short) C (s .mesh)) next) where
-  pub own-table : heightsTested g C s ≡ Accepted → andThen (heightsChecked g C s) own ≡ own
-  own-table e = rw begins (tested-then g C s e next)
-
-  pub own-refused : {r : Refusal} → heightsTested g C s ≡ Refused r → andThen (heightsChecked g C s) own ≡ Refused r
-  own-refused e = then-refused own (tested-refused g C s e)
 
 -- ---- locate
 module _ (C : Counts) (s : SurfaceRows) (ring : RingRows) (center : Point2) (a : Float) where

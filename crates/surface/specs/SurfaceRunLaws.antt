@@ -16,7 +16,7 @@ use Rattle.dcel.specs.Views.{length-from}
 use Rattle.finish.specs.declared.Finished.{Finished}
 use Rattle.finish.specs.declared.Totals.{Totals}
 use Rattle.heights.specs.Heights.{SurfaceRows, heightOf, HeightsLent, heightsLent, HeightsGiven, heightsChecked, heightsTested}
-use Rattle.heights.specs.HeightsLaws.{heights-accept, given-tested, tested-accept}
+use Rattle.heights.specs.HeightsLaws.{heights-accept, given-tested, tested-accept, own-table, own-refused}
 use Rattle.locate.specs.Locate.{checkRing, checkStart}
 use Rattle.mesh_check.specs.declared.Checked.{Checked}
 use Rattle.mesh_check.specs.declared.Checked.the-variants.{Accepted, Refused}
@@ -35,7 +35,7 @@ use Rattle.surface.specs.StoredLaws.{heights-end}
 use Rattle.surface.specs.StoredHeights.{fateWord, isFrom, vertexWord, answeredHeights, isMade, placeOf, finishedHeights}
 use Rattle.surface.specs.Surface.{heightsAfter, runHeights, SurfaceRunLent, surfaceRunLent, surfaceRan, surfaceRunChecked, surfaceRun}
 use Rattle.surface.specs.StoreReady.{FatesRoom, StoreReady}
-use Rattle.surface.specs.SurfaceLaws.{own-table, own-refused, heights-after}
+use Rattle.surface.specs.SurfaceLaws.{heights-after}
 
 module _ (g : SurfaceRunLent) where
   abbrev l : RunLent

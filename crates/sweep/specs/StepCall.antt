@@ -2,9 +2,8 @@
 -- each computes; `StepCallLaws` says what they come to. 01: "Locate and a lone step build the ring from the mesh": the ring is no part of
 -- what is defined here, which knows the mesh's boundary alone.
 use mathlib.Core.Bool.{false, cond}
-use mathlib.Core.List.{List, [], _∷_}
+use mathlib.Core.List.{List}
 use Prim.Native.Nat.{ℕ}
-use lib.IntN.{ℤ}
 use lib.ListN.{length, replicate}
 use Rattle.angle.specs.declared.Point2.{Point2}
 use Rattle.dcel.specs.MeshRows.{MeshRows, linksIn, placesIn, meshRowsFrom}
@@ -12,16 +11,12 @@ use Rattle.math.specs.declared.Point.{Point}
 use Rattle.mesh.specs.declared.Counts.{Counts}
 use Rattle.mesh_check.specs.declared.Checked.{Checked}
 use Rattle.ring_rows.specs.RingRows.{RingRows, ringZeros}
-use Rattle.start.specs.Start.{sweepChecked}
+use Rattle.start.specs.Start.{pointRow, sweepChecked}
 use Rattle.sweep.specs.declared.StepAnswer.{StepAnswer}
 use Rattle.sweep.specs.declared.Stepped.{Stepped}
 use Rattle.sweep.specs.Step.{Stepping, answerOf, stepMesh}
 
 -- ---- the refusals
--- the point as a row of points: an x and a y
-abbrev pub pointRow : Point → List ℤ
-pointRow v = v .x ∷ v .y ∷ []
-
 -- rows 1 to 7 of the table. 01, row 1: "seed plus points", which is one more than the mesh has
 unfoldable pub stepChecked : Counts → MeshRows → ℕ → ℕ → ℕ → ℕ → Point2 → Point → Checked
 stepChecked C m nodes freed buckets pending center v = sweepChecked (pointRow v) false C m nodes freed buckets pending center

@@ -39,7 +39,8 @@ use Rattle.ring_rows.specs.RingRows.{RingRows, ringZeros}
 use Rattle.start.specs.StartLaws.{AcceptedSweep, sweep-accepts, sweep-numbered}
 use Rattle.sweep.specs.declared.Answer.{Answer}
 use Rattle.sweep.specs.declared.Stepped.{Stepped}
-use Rattle.sweep.specs.StepCall.{StepOutcome, pointRow, answerFrom, stepChecked, steppedWith, stepOutcome, stepOf}
+use Rattle.start.specs.Start.{pointRow}
+use Rattle.sweep.specs.StepCall.{StepOutcome, answerFrom, stepChecked, steppedWith, stepOutcome, stepOf}
 use Rattle.sweep.specs.Fates.{is-added}
 use Rattle.sweep.specs.Step.{Stepping, answerOf, isAdded, leftAlone, addedAt, appliedBy, applied, stepMesh}
 use Rattle.sweep.specs.StepMesh.{Swept, StepKeeps, step-keeps, step-adds, step-alone, added-of}

@@ -4,7 +4,8 @@ use mir.Facts.{toZ-ofZ}
 use Rattle.angle.specs.Bits.{angle-valid}
 use Rattle.hull.specs.Find.{held-rows}
 use Rattle.decide.specs.SweepRowsLaws.{sweep-center}
-use Rattle.decide.proofs.Answers.{carried, at-center, asks-at, at-located}
+use Rattle.decide.specs.VertexAngles.{carried, at-center}
+use Rattle.decide.proofs.Answers.{asks-at, at-located}
 use Rattle.decide.proofs.decide.Statement.{statement}
 use Rattle.decide.proofs.decide.Proof.Tie as tie
 mod Lts

@@ -19,7 +19,7 @@ check-changes-requires : tie.Need-check-changes-requires
 check-changes-requires c κs = search needs
 
 returns-2 : tie.Need-returns-2
-returns-2 c = 
+returns-2 c =
     c .check-changes .ensures
     ∙ sym (quote-then-same _ _ _ (sym (c .before .before .is-same .ensures) ∙ not-false _ (c .before .if1 .left)))
 
