@@ -223,7 +223,7 @@ fn store_fates(
 }
 
 // The steps of a run were made: it is accepted, or refused 9.
-fn is_made(finished: Finished) -> bool
+pub fn is_made(finished: Finished) -> bool
     ensures { λ r. ⌜ r ≡ isMade finished ⌝ }
 {
     match finished {

