@@ -4,7 +4,7 @@
 -- `commit-late`), and at the count's end 12 (`commit-end`). A refusal other than 9 changes nothing (`commit-refused`). The count rises with
 -- the vertices (`commit-counts`). Assumes nothing.
 use mathlib.Core.Bool.{Bool, true, false, cond}
-use mathlib.Core.List.{List}
+use mathlib.Core.List.{List, [], _∷_}
 use mathlib.Core.Logic.{_≢_}
 use mathlib.Core.Path.{_≡_, refl, sym, _∙_, ap, subst}
 use Prim.Native.Nat.{ℕ, _+_, _<_, _≤_}
@@ -22,7 +22,8 @@ use Rattle.dcel.specs.MeshRows.{linksIn, placesIn}
 use Rattle.decide.specs.declared.Fate.{Fate}
 use Rattle.decide.specs.declared.Fate.the-variants.{Added, Dropped, NotLeft, Unsound, AtCenter}
 use Rattle.decide.specs.Decide.{Decided, decided, fateNumber, ifAdded}
-use Rattle.heights.specs.Heights.{SurfaceRows}
+use Rattle.heights.specs.Heights.{SurfaceRows, heightOf, heightsIn, heightsLent, heightsChecked, heightsTested}
+use Rattle.heights.specs.HeightsLaws.{checked-tested}
 use Rattle.locate.specs.Start.{AcceptedStart}
 use Rattle.math.specs.declared.Point.{Point}
 use Rattle.mesh.specs.declared.Counts.{Counts}
@@ -33,15 +34,18 @@ use Rattle.mesh_check.specs.Check.{refused, andThen, pointCount, vertexCount}
 use Rattle.mesh_check.specs.CheckLaws.{then-next, then-refused, then-accepts}
 use Rattle.quote.specs.declared.Quote.{Quote}
 use Rattle.quote.specs.Quote.{checkQuote, checkChanges, lastChange}
-use Rattle.quote.specs.QuoteLaws.{quote-fresh, quote-stale, changes-at-end, changes-accepted}
+use Rattle.quote.specs.QuoteLaws.{quote-fresh, quote-stale, quote-accepted, changes-at-end, changes-not-at-end, changes-accepted}
 use Rattle.ring_rows.specs.RingRows.{RingRows}
 use Rattle.start.specs.Start.{pointRow, sweepRowsShort, sweepChecked}
+use Rattle.start.specs.StartLaws.{AcceptedSweep, sweep-accepts}
 use Rattle.sums.specs.Bit.{bit}
+use Rattle.surface.specs.StoredHeights.{heightStored}
 use Rattle.surface.specs.Surface.{SurfaceStepped, surfaceStepped, surfaceStepChecked, surfaceStep, heightsAfter}
+use Rattle.surface.specs.SurfaceLaws.{step-room, step-own, step-heights}
 use Rattle.sweep.specs.declared.Answer.{Answer}
 use Rattle.sweep.specs.declared.Stepped.{Stepped}
 use Rattle.sweep.specs.Step.{Stepping, answerOf, isAdded, stepMesh}
-use Rattle.sweep.specs.StepCall.{answerFrom, stepChecked, steppedWith, stepOutcome, stepOf}
+use Rattle.sweep.specs.StepCall.{StepOutcome, answerFrom, stepChecked, steppedWith, stepOutcome, stepOf}
 use Rattle.sweep.specs.StepCallLaws.{StepAccepted, step-accepted, step-fate, full-added, step-range, step-swept}
 use Rattle.sweep.specs.StepMesh.{added-of}
 use Rattle.sweep.specs.SweepLaws.{step-count}
@@ -68,3 +72,80 @@ module _ (C : Counts) (s : SurfaceRows) (nodes freed buckets pending : ℕ) (cen
         ≡ andThen (checkQuote q present) (checkChanges (present .changes))
     unfolding commitChecked quoteOf quoteFrom
     commit-point-accepted e {present} p = then-next _ (step-point ∙ rw short-is at e) ∙ rw p refl
+
+-- ---- what is accepted
+module _ (changes : ℕ) (C : Counts) (s : SurfaceRows) (nodes freed buckets pending : ℕ) (center : Point2) (v : Point) (z : ℤ) (q : Quote)
+    (e : commitChecked changes C s nodes freed buckets pending center v z q ≡ Accepted) where
+  parts : (surfaceStepChecked C s nodes freed buckets pending center v z ≡ Accepted)
+      × (andThen (checkQuote q (quoteOf changes C (s .mesh) center v z)) (checkChanges changes) ≡ Accepted)
+  unfolding commitChecked
+  parts = then-accepts _ _ e
+
+  -- a step's checks accept,
+  pub commit-step : surfaceStepChecked C s nodes freed buckets pending center v z ≡ Accepted
+  commit-step = parts .0
+
+  -- the quote is the one that asking gives now,
+  pub commit-quote : q ≡ quoteOf changes C (s .mesh) center v z
+  commit-quote = quote-accepted (then-accepts _ (checkChanges changes) (parts .1) .0)
+
+  -- and the count is not at its end
+  pub commit-not-at-end : changes ≢ lastChange
+  commit-not-at-end = changes-accepted (then-accepts (checkQuote q (quoteOf changes C (s .mesh) center v z)) _ (parts .1) .1)
+
+  own : (heightsChecked (heightsLent (pointRow v) (z ∷ []) (sweepRowsShort false (vertexCount C (pointRow v)) nodes freed buckets pending) false) C s
+      ≡ Accepted) × (stepChecked C (s .mesh) nodes freed buckets pending center v ≡ Accepted)
+  unfolding surfaceStepChecked
+  own = then-accepts _ _ commit-step
+
+  pub commit-own : stepChecked C (s .mesh) nodes freed buckets pending center v ≡ Accepted
+  commit-own = own .1
+
+  pub commit-sweep : AcceptedSweep (pointRow v) false C (s .mesh) nodes freed buckets pending center
+  unfolding stepChecked
+  commit-sweep = sweep-accepts commit-own
+
+  pub commit-heights :
+      heightsTested (heightsLent (pointRow v) (z ∷ []) (sweepRowsShort false (vertexCount C (pointRow v)) nodes freed buckets pending) false) C s
+      ≡ Accepted
+  commit-heights = checked-tested _ C s (own .0)
+
+  pub commit-room : C .vertices < length (s .heights)
+  commit-room = step-room v z _ C s commit-heights
+
+-- ---- the call
+module _ (changes : ℕ) (C : Counts) (s : SurfaceRows) (ring : RingRows) (pending : List ℕ) (center : Point2) (v : Point) (z : ℤ) (q : Quote)
+    where
+  abbrev checks : Checked
+  checks = commitChecked changes C s (length (ring .nodes)) (length (ring .freed)) (length (ring .buckets)) (length pending) center v z q
+
+  abbrev whole : CommitOutcome
+  whole = commitOf changes C s ring pending center v z q
+
+  abbrev step : SurfaceStepped
+  step = surfaceStep C s ring pending center v z
+
+  pub commit-none : {r : Refusal} → checks ≡ Refused r
+      → commitOf changes C s ring pending center v z q ≡ nothingDone changes C s ring pending (Stepped.Refused r)
+  unfolding commitOf commitOutcome
+  commit-none e = rw e refl
+
+  pub commit-is : checks ≡ Accepted
+      → commitOf changes C s ring pending center v z q
+      ≡ (let w = surfaceStep C s ring pending center v z in committedWith w (commitChanges changes (w .call .answer .stepped)))
+  unfolding commitOf commitOutcome
+  commit-is e = rw e refl
+
+  -- by the call on the mesh alone, and the row of heights
+  pub commit-made : checks ≡ Accepted → {y : StepOutcome} → y ≡ stepOf C (s .mesh) ring pending center v
+      → (row : List ℤ) → length row ≡ length (s .heights)
+      → heightOf row ≡ heightStored (heightsIn s) (C .vertices) (y .answer .counts .vertices) z
+      → committedWith (surfaceStepped y row) (commitChanges changes (y .answer .stepped)) ≡ commitOf changes C s ring pending center v z q
+  commit-made e {y} k row l h =
+      let t = commit-heights changes C s _ _ _ _ center v z q e in
+      let own = step-own C s ring pending center v z t in
+      let whole : surfaceStepped y row ≡ step = rw (
+        k ∙ sym own,
+        sym (step-heights C s ring pending center v z t (y .answer) (ap (λ (x : StepOutcome). x .answer) (sym k)) row l h),
+      ) refl in
+      ap (λ (w : SurfaceStepped). committedWith w (commitChanges changes (w .call .answer .stepped))) whole ∙ sym (commit-is e)
