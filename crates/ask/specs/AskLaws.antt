@@ -25,10 +25,10 @@ use Rattle.mesh_check.specs.Check.{andThen, pointCount, vertexCount}
 use Rattle.mesh_check.specs.CheckLaws.{NumberedTo, numbered-more, then-next, then-refused, then-accepts, then-numbered}
 use Rattle.quote.specs.declared.Quote.{Quote}
 use Rattle.quote.specs.Quote.{checkChanges}
-use Rattle.ring_rows.specs.RingRows.{RingRows}
+use Rattle.ring_rows.specs.RingRows.{RingRows, ringZeros}
 use Rattle.start.specs.Start.{pointRow}
 use Rattle.ask.specs.declared.Asked.{Asked}
-use Rattle.ask.specs.Ask.{quoteOf, pointChecked, askChecked, askedBy, AskOutcome, askOutcome, askOf}
+use Rattle.ask.specs.Ask.{quoteOf, pointChecked, askChecked, askedBy, askedWith, askOutcome, askOf}
 
 -- ---- a number for an added point alone
 pub added-number : (f : Fate) (n : ℕ) → fateNumber f ≡ 1 → ifAdded f n ≡ n
@@ -113,3 +113,33 @@ ask-alone changes C s ring center v z = go (askChecked changes C s _ _ _ center 
     go : (c : Checked) (q : Quote) → askOutcome c q s ring .surface ≡ s
     go Accepted q = refl
     go (Refused r) q = refl
+
+-- by what its parts answer
+module _ (changes : ℕ) (C : Counts) (s : SurfaceRows) (ring : RingRows) (center : Point2) (v : Point) (z : ℤ) {y : Asked}
+    (is : y ≡ askedBy (askChecked changes C s (length (ring .nodes)) (length (ring .freed)) (length (ring .buckets)) center v z)
+    (quoteOf changes C (s .mesh) center v z)) where
+  abbrev checks : Checked
+  checks = askChecked changes C s (length (ring .nodes)) (length (ring .freed)) (length (ring .buckets)) center v z
+
+  pub ask-none : {r : Refusal} → y ≡ Asked.Refused r → askedWith (Asked.Refused r) s ring ≡ askOf changes C s ring center v z
+  unfolding askOf askOutcome askedBy
+  ask-none {r} e = go checks refl
+    where
+      go : (c : Checked) → checks ≡ c → askedWith (Asked.Refused r) s ring ≡ askOf changes C s ring center v z
+      go Accepted k =
+          let w : Asked.Refused r ≡ Asked.Quoted (quoteOf changes C (s .mesh) center v z) = sym e ∙ is ∙ rw k refl in
+          absurd (let n : _≡_ {A = ℕ} 0 1 = cc in omega arith)
+      go (Refused x) k =
+          let w : Asked.Refused r ≡ Asked.Refused x = sym e ∙ is ∙ rw k refl in
+          rw (k, w) refl
+
+  pub ask-made : {q : Quote} → y ≡ Asked.Quoted q → {ring′ : RingRows} → ring′ ≡ ringZeros ring
+      → askedWith y s ring′ ≡ askOf changes C s ring center v z
+  unfolding askOf askOutcome askedBy
+  ask-made {q} e {ring′} zeros = go checks refl
+    where
+      go : (c : Checked) → checks ≡ c → askedWith y s ring′ ≡ askOf changes C s ring center v z
+      go Accepted k = rw (is, k, zeros) refl
+      go (Refused x) k =
+          let w : Asked.Refused x ≡ Asked.Quoted q = sym (is ∙ rw k refl) ∙ e in
+          absurd (let n : _≡_ {A = ℕ} 0 1 = cc in omega arith)

@@ -7,7 +7,7 @@ use mathlib.Core.Bool.{Bool, true, false, cond}
 use mathlib.Core.List.{List, [], _∷_}
 use mathlib.Core.Logic.{_≢_}
 use mathlib.Core.Path.{_≡_, refl, sym, _∙_, ap, subst}
-use Prim.Native.Nat.{ℕ, _+_, _<_, _≤_}
+use Prim.Native.Nat.{ℕ, _+_, _<_, _≤_, _^_}
 use native.Mathlib.Decide.{ℕ-discrete}
 use native.Mathlib.Omega.{arith}
 use borrow.Author.Tests.{eq-eqb, ne-eqb}
@@ -93,6 +93,10 @@ module _ (changes : ℕ) (C : Counts) (s : SurfaceRows) (nodes freed buckets pen
   pub commit-not-at-end : changes ≢ lastChange
   commit-not-at-end = changes-accepted (then-accepts (checkQuote q (quoteOf changes C (s .mesh) center v z)) _ (parts .1) .1)
 
+  -- so it can rise
+  pub commit-below : changes < 2 ^ 32 → changes < lastChange
+  commit-below l = let d = commit-not-at-end in omega arith
+
   own : (heightsChecked (heightsLent (pointRow v) (z ∷ []) (sweepRowsShort false (vertexCount C (pointRow v)) nodes freed buckets pending) false) C s
       ≡ Accepted) × (stepChecked C (s .mesh) nodes freed buckets pending center v ≡ Accepted)
   unfolding surfaceStepChecked
@@ -115,37 +119,37 @@ module _ (changes : ℕ) (C : Counts) (s : SurfaceRows) (nodes freed buckets pen
 
 -- ---- the call
 module _ (changes : ℕ) (C : Counts) (s : SurfaceRows) (ring : RingRows) (pending : List ℕ) (center : Point2) (v : Point) (z : ℤ) (q : Quote)
-    where
-  abbrev checks : Checked
-  checks = commitChecked changes C s (length (ring .nodes)) (length (ring .freed)) (length (ring .buckets)) (length pending) center v z q
+  where
+    abbrev checks : Checked
+    checks = commitChecked changes C s (length (ring .nodes)) (length (ring .freed)) (length (ring .buckets)) (length pending) center v z q
 
-  abbrev whole : CommitOutcome
-  whole = commitOf changes C s ring pending center v z q
+    abbrev whole : CommitOutcome
+    whole = commitOf changes C s ring pending center v z q
 
-  abbrev step : SurfaceStepped
-  step = surfaceStep C s ring pending center v z
+    abbrev step : SurfaceStepped
+    step = surfaceStep C s ring pending center v z
 
-  pub commit-none : {r : Refusal} → checks ≡ Refused r
-      → commitOf changes C s ring pending center v z q ≡ nothingDone changes C s ring pending (Stepped.Refused r)
-  unfolding commitOf commitOutcome
-  commit-none e = rw e refl
+    pub commit-none : {r : Refusal} → checks ≡ Refused r
+        → commitOf changes C s ring pending center v z q ≡ nothingDone changes C s ring pending (Stepped.Refused r)
+    unfolding commitOf commitOutcome
+    commit-none e = rw e refl
 
-  pub commit-is : checks ≡ Accepted
-      → commitOf changes C s ring pending center v z q
-      ≡ (let w = surfaceStep C s ring pending center v z in committedWith w (commitChanges changes (w .call .answer .stepped)))
-  unfolding commitOf commitOutcome
-  commit-is e = rw e refl
+    pub commit-is : checks ≡ Accepted
+        → commitOf changes C s ring pending center v z q
+        ≡ (let w = surfaceStep C s ring pending center v z in committedWith w (commitChanges changes (w .call .answer .stepped)))
+    unfolding commitOf commitOutcome
+    commit-is e = rw e refl
 
-  -- by the call on the mesh alone, and the row of heights
-  pub commit-made : checks ≡ Accepted → {y : StepOutcome} → y ≡ stepOf C (s .mesh) ring pending center v
-      → (row : List ℤ) → length row ≡ length (s .heights)
-      → heightOf row ≡ heightStored (heightsIn s) (C .vertices) (y .answer .counts .vertices) z
-      → committedWith (surfaceStepped y row) (commitChanges changes (y .answer .stepped)) ≡ commitOf changes C s ring pending center v z q
-  commit-made e {y} k row l h =
-      let t = commit-heights changes C s _ _ _ _ center v z q e in
-      let own = step-own C s ring pending center v z t in
-      let whole : surfaceStepped y row ≡ step = rw (
-        k ∙ sym own,
-        sym (step-heights C s ring pending center v z t (y .answer) (ap (λ (x : StepOutcome). x .answer) (sym k)) row l h),
-      ) refl in
-      ap (λ (w : SurfaceStepped). committedWith w (commitChanges changes (w .call .answer .stepped))) whole ∙ sym (commit-is e)
+    -- by the call on the mesh alone, and the row of heights
+    pub commit-made : checks ≡ Accepted → {y : StepOutcome} → y ≡ stepOf C (s .mesh) ring pending center v
+        → (row : List ℤ) → length row ≡ length (s .heights)
+        → heightOf row ≡ heightStored (heightsIn s) (C .vertices) (y .answer .counts .vertices) z
+        → committedWith (surfaceStepped y row) (commitChanges changes (y .answer .stepped)) ≡ commitOf changes C s ring pending center v z q
+    commit-made e {y} k row l h =
+        let t = commit-heights changes C s _ _ _ _ center v z q e in
+        let own = step-own C s ring pending center v z t in
+        let whole : surfaceStepped y row ≡ step = rw (
+          k ∙ sym own,
+          sym (step-heights C s ring pending center v z t (y .answer) (ap (λ (x : StepOutcome). x .answer) (sym k)) row l h),
+        ) refl in
+        ap (λ (w : SurfaceStepped). committedWith w (commitChanges changes (w .call .answer .stepped))) whole ∙ sym (commit-is e)

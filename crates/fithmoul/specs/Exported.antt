@@ -6,9 +6,13 @@ use mathlib.Core.List.{List}
 use mathlib.Core.Path.{_≡_, refl, sym, _∙_, ap, ap₂}
 use Prim.Native.Nat.{ℕ}
 use lib.IntN.{ℤ}
+use Rattle.ask.specs.declared.Asked.{Asked}
+use Rattle.ask.specs.Ask.{AskOutcome, askedWith}
+use Rattle.commit.specs.Commit.{CommitOutcome, committedWith, runChanges}
 use Rattle.dcel.specs.MeshRows.{MeshRows}
 use Rattle.finish.specs.declared.FinishAnswer.{FinishAnswer}
 use Rattle.finish.specs.Finish.{FinishOutcome, finishedWith}
+use Rattle.heights.specs.Heights.{SurfaceRows}
 use Rattle.locate.specs.declared.Located.{Located}
 use Rattle.locate.specs.Locate.{LocateOutcome, locatedWith}
 use Rattle.ring_rows.specs.RingRows.{RingRows}
@@ -16,10 +20,13 @@ use Rattle.surface.specs.Surface.{SurfaceStepped, surfaceStepped, SurfaceRan, s
 use Rattle.sweep.specs.declared.StepAnswer.{StepAnswer}
 use Rattle.sweep.specs.Run.{RunOutcome, ranWith}
 use Rattle.sweep.specs.StepCall.{StepOutcome, steppedWith}
+use Rattle.fithmoul.specs.declared.results.AskResult.{AskResult}
+use Rattle.fithmoul.specs.declared.results.CommitResult.{CommitResult}
 use Rattle.fithmoul.specs.declared.results.FinishResult.{FinishResult}
 use Rattle.fithmoul.specs.declared.results.LocateResult.{LocateResult}
+use Rattle.fithmoul.specs.declared.results.RunResult.{RunResult}
 use Rattle.fithmoul.specs.declared.results.StepResult.{StepResult}
-use Rattle.fithmoul.specs.Results.{locateResult, stepResult, finishResult}
+use Rattle.fithmoul.specs.Results.{locateResult, stepResult, finishResult, runResult, askResult, commitResult}
 
 -- for every type of answer, result and outcome
 exported : {A R X : Type 0} (answer : X → A) (make : A → X) → ((y : A) → answer (make y) ≡ y) → (number : A → R)
@@ -43,11 +50,30 @@ pub step-exported : {m : MeshRows} {g : RingRows} {p : List ℕ} {row : List ℤ
 step-exported {m} {g} {p} {row} e z =
     exported (λ (w : SurfaceStepped). w .call .answer) (λ (y : StepAnswer). surfaceStepped (steppedWith y m g p) row) (λ y. refl) stepResult e z
 
-pub run-exported : {m : MeshRows} {g : RingRows} {p a : List ℕ} {row : List ℤ} {w : SurfaceRan} {y : FinishAnswer} {r : FinishResult}
-    → surfaceRan (ranWith y m g p a) row ≡ w → r ≡ finishResult y
-    → (r ≡ finishResult (w .call .answer)) × (surfaceRan (ranWith (w .call .answer) m g p a) row ≡ w)
-run-exported {m} {g} {p} {a} {row} e z =
-    exported (λ (w : SurfaceRan). w .call .answer) (λ (y : FinishAnswer). surfaceRan (ranWith y m g p a) row) (λ y. refl) finishResult e z
+pub run-exported : {m : MeshRows} {g : RingRows} {p a : List ℕ} {row : List ℤ} {w : SurfaceRan} {y : FinishAnswer} {r : RunResult}
+    (changes : ℕ) → surfaceRan (ranWith y m g p a) row ≡ w → r ≡ runResult (runChanges changes (y .finished)) y
+    → (r ≡ runResult (runChanges changes (w .call .answer .finished)) (w .call .answer))
+    × (surfaceRan (ranWith (w .call .answer) m g p a) row ≡ w)
+run-exported {m} {g} {p} {a} {row} changes e z =
+    exported (λ (w : SurfaceRan). w .call .answer) (λ (y : FinishAnswer). surfaceRan (ranWith y m g p a) row) (λ y. refl)
+    (λ (y : FinishAnswer). runResult (runChanges changes (y .finished)) y) e z
+
+-- asking leaves the mesh and the heights
+pub ask-exported : {s : SurfaceRows} {g : RingRows} {x : AskOutcome} {y : Asked} {r : AskResult} → askedWith y s g ≡ x → r ≡ askResult y
+    → (r ≡ askResult (x .answer)) × (askedWith (x .answer) s g ≡ x)
+ask-exported {s} {g} e z = exported (λ (x : AskOutcome). x .answer) (λ (y : Asked). askedWith y s g) (λ y. refl) askResult e z
+
+-- a commit has the change count besides
+pub commit-exported : {m : MeshRows} {g : RingRows} {p : List ℕ} {row : List ℤ} {n : ℕ} {w : CommitOutcome} {y : StepAnswer}
+    {r : CommitResult} → committedWith (surfaceStepped (steppedWith y m g p) row) n ≡ w → r ≡ commitResult n y
+    → (r ≡ commitResult (w .changes) (w .step .call .answer))
+    × (committedWith (surfaceStepped (steppedWith (w .step .call .answer) m g p) row) (w .changes) ≡ w)
+commit-exported {m} {g} {p} {row} {n} {w} {y} e z =
+    let a : y ≡ w .step .call .answer = ap (λ (x : CommitOutcome). x .step .call .answer) e in
+    let b : n ≡ w .changes = ap (λ (x : CommitOutcome). x .changes) e in (
+      z ∙ ap₂ commitResult b a,
+      ap₂ (λ (k : ℕ) (x : StepAnswer). committedWith (surfaceStepped (steppedWith x m g p) row) k) (sym b) (sym a) ∙ e,
+    )
 
 -- from the call on the mesh alone and the row of heights
 pub step-whole : {w : SurfaceStepped} {x y : StepOutcome} {row : List ℤ} → w .call ≡ x → y ≡ x → w .heights ≡ row → surfaceStepped y row ≡ w

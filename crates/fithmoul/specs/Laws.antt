@@ -44,8 +44,8 @@ use Rattle.sweep.specs.StepCall.{answerFrom, stepChecked, stepOutcome}
 use Rattle.volume.specs.declared.Measured.{Measured}
 use Rattle.volume.specs.declared.Volumes.{Volumes}
 use Rattle.volume.specs.Volume.{measuredOf, volumeOf}
-use Rattle.fithmoul.specs.declared.results.FinishResult.{FinishResult}
-use Rattle.fithmoul.specs.Results.{finishResult, finishedResult, reported}
+use Rattle.fithmoul.specs.declared.results.RunResult.{RunResult}
+use Rattle.fithmoul.specs.Results.{finishedResult, ranWithChanges, runResult, reported}
 
 -- ---- the calls
 -- a refusal of the table, and one that the table does not know
@@ -131,17 +131,20 @@ step-named C s ring pending center v z x e =
     by (Checked.Refused y) g t w = same-number {x = x} g cc
 
 -- ---- demand 3 and the heights, of a run's result
-module _ (g : SurfaceRunLent) (r : FinishResult) (e : r ≡ finishResult (surfaceRun g .call .answer)) (z : r .refusal ≡ 0) where
+module _ (g : SurfaceRunLent) (r : RunResult) (changes : ℕ) (e : r ≡ runResult changes (surfaceRun g .call .answer)) (z : r .refusal ≡ 0) where
   pub accepted-run : Demand3 (g .run) (surfaceRun g .call) (reported r) × CarriedHeights g (surfaceRun g)
   accepted-run = by (surfaceRun g .call .answer .finished) refl
     where
+      ran : Finished → RunResult
+      ran y = ranWithChanges changes (finishedResult (surfaceRun g .call .answer .counts) y)
+
       by : (f : Finished) → surfaceRun g .call .answer .finished ≡ f
           → Demand3 (g .run) (surfaceRun g .call) (reported r) × CarriedHeights g (surfaceRun g)
       by (Finished.Accepted t) k =
-          let same : reported r ≡ t = ap reported e ∙ ap (λ (y : Finished). reported (finishedResult (surfaceRun g .call .answer .counts) y)) k in
+          let same : reported r ≡ t = ap reported e ∙ ap (λ (y : Finished). reported (ran y)) k in
           (subst (λ (u : Totals). Demand3 (g .run) (surfaceRun g .call) u) (sym same) (surface-demand-3 g t k), carried-heights g t k)
       by (Finished.Refused x) k =
-          let same = ap (λ (y : Finished). finishedResult (surfaceRun g .call .answer .counts) y .refusal) k in
-          let n : x .number ≡ 0 = sym (ap (λ (u : FinishResult). u .refusal) e ∙ same) ∙ z in
+          let same = ap (λ (y : Finished). ran y .refusal) k in
+          let n : x .number ≡ 0 = sym (ap (λ (u : RunResult). u .refusal) e ∙ same) ∙ z in
           let m : 0 < x .number = run-named g x k in
           absurd (omega arith)

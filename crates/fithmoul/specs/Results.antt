@@ -6,6 +6,7 @@ use lib.IntN.{ℤ, pos}
 use Rattle.angle.specs.declared.Point2.{Point2}
 use Rattle.area.specs.declared.Sided.{Sided}
 use Rattle.area.specs.declared.Totalled.{Totalled}
+use Rattle.ask.specs.declared.Asked.{Asked}
 use Rattle.finish.specs.declared.FinishAnswer.{FinishAnswer}
 use Rattle.finish.specs.declared.Finished.{Finished}
 use Rattle.finish.specs.declared.Totals.{Totals}
@@ -13,18 +14,22 @@ use Rattle.locate.specs.declared.Located.{Located}
 use Rattle.math.specs.declared.Point.{Point}
 use Rattle.mesh.specs.declared.Counts.{Counts}
 use Rattle.mesh_check.specs.declared.Checked.{Checked}
+use Rattle.quote.specs.declared.Quote.{Quote}
 use Rattle.sweep.specs.declared.Answer.{Answer}
 use Rattle.sweep.specs.declared.StepAnswer.{StepAnswer}
 use Rattle.sweep.specs.declared.Stepped.{Stepped}
 use Rattle.sweep.specs.Run.{answerWord}
 use Rattle.fithmoul.specs.declared.results.AreaTotalResult.{AreaTotalResult}
+use Rattle.fithmoul.specs.declared.results.AskResult.{AskResult}
 use Rattle.fithmoul.specs.declared.results.CheckResult.{CheckResult}
+use Rattle.fithmoul.specs.declared.results.CommitResult.{CommitResult}
 use Rattle.fithmoul.specs.declared.results.LocateResult.{LocateResult}
 use Rattle.fithmoul.specs.declared.results.PointAnswer.{PointAnswer}
 use Rattle.fithmoul.specs.declared.results.SideQueryResult.{SideQueryResult}
 use Rattle.fithmoul.specs.declared.results.StepResult.{StepResult}
 use Rattle.volume.specs.declared.Measured.{Measured}
 use Rattle.fithmoul.specs.declared.results.FinishResult.{FinishResult}
+use Rattle.fithmoul.specs.declared.results.RunResult.{RunResult}
 use Rattle.fithmoul.specs.declared.results.VolumeResult.{VolumeResult}
 
 -- ---- what goes in as numbers
@@ -75,6 +80,29 @@ steppedResult C (Stepped.Refused x) = record {
 abbrev pub stepResult : StepAnswer → StepResult
 stepResult a = steppedResult (a .counts) (a .stepped)
 
+-- with the change count after the call
+abbrev pub withChanges : ℕ → StepResult → CommitResult
+withChanges changes r = record {
+  refusal = r .refusal;
+  place = r .place;
+  vertices = r .vertices;
+  edges = r .edges;
+  faces = r .faces;
+  changes = changes;
+  answer = r .answer;
+}
+
+abbrev pub commitResult : ℕ → StepAnswer → CommitResult
+commitResult changes a = withChanges changes (stepResult a)
+
+-- a quote as it is
+abbrev pub noQuote : Quote
+noQuote = record { changes = 0; x = pos 0; y = pos 0; z = pos 0; fate = 0; faces = 0 }
+
+abbrev pub askResult : Asked → AskResult
+askResult (Asked.Quoted q) = record { refusal = 0; place = 0; quote = q }
+askResult (Asked.Refused x) = record { refusal = x .number; place = x .place; quote = noQuote }
+
 abbrev pub finishedResult : Counts → Finished → FinishResult
 finishedResult C (Finished.Accepted t) = record {
   refusal = 0;
@@ -100,8 +128,25 @@ finishedResult C (Finished.Refused x) = record {
 abbrev pub finishResult : FinishAnswer → FinishResult
 finishResult a = finishedResult (a .counts) (a .finished)
 
--- the totals that an accepted finish or run reports
-abbrev pub reported : FinishResult → Totals
+-- with the change count after the call
+abbrev pub ranWithChanges : ℕ → FinishResult → RunResult
+ranWithChanges changes r = record {
+  refusal = r .refusal;
+  place = r .place;
+  vertices = r .vertices;
+  edges = r .edges;
+  faces = r .faces;
+  changes = changes;
+  «faces_added» = r .«faces_added»;
+  «convex_flips» = r .«convex_flips»;
+  «closing_flips» = r .«closing_flips»;
+}
+
+abbrev pub runResult : ℕ → FinishAnswer → RunResult
+runResult changes a = ranWithChanges changes (finishResult a)
+
+-- the totals that an accepted run reports
+abbrev pub reported : RunResult → Totals
 reported r = record { faces = r .«faces_added»; convexflips = r .«convex_flips»; closingflips = r .«closing_flips» }
 
 -- what is measured

@@ -1,13 +1,16 @@
-// The public calls, for C, C++, Rust and Rattle: check a mesh, locate an angle, step one point, finish a mesh, run a list of points, the
-// volume between a mesh and a level, the area total of a mesh, and the side query, the area of one triangle. A mesh has a height on each
-// vertex. For a C compiler this page is include/fithmoul.h. A call takes its arguments as numbers and answers a struct of numbers: what it
-// answers and leaves is what a definition gives, for every input (crates `heights`, `surface`, `volume`, `area`). A slice is a pointer and
-// a length for C. Nothing is asked of the caller but that each row is there, as long as is said, that no row that is written overlaps
+// The public calls, for C, C++, Rust and Rattle: check a mesh, locate an angle, step one point, ask what a point would do, commit the quote,
+// finish a mesh, run a list of points, the volume between a mesh and a level, the area total of a mesh, and the side query, the area of one
+// triangle. A mesh has a height on each vertex and a change count beside its counts. For a C compiler this page is include/fithmoul.h. A
+// call takes its arguments as numbers, and a quote as it was given, and answers a struct of numbers: what it answers and leaves is what a
+// definition gives, for every input (crates `heights`, `surface`, `ask`, `commit`, `volume`, `area`). A slice is a pointer and a length for
+// C. Nothing is asked of the caller but that each row is there, as long as is said, that no row that is written overlaps
 // another, and that doubles are rounded to nearest and subnormal ones kept (docs/DECISIONS.md, "Who answers for what C cannot check?").
 ghost use mathlib.Core.Bool.{false};
 ghost use mathlib.Core.Path.{_≡_};
 ghost use Rattle.area.specs.AreaTotal.{areaTotalOf};
 ghost use Rattle.area.specs.SideQuery.{sideQueryOf};
+ghost use Rattle.ask.specs.Ask.{askedWith, askOf};
+ghost use Rattle.commit.specs.Commit.{committedWith, commitOf, runChanges};
 ghost use Rattle.dcel.specs.MeshRows.{meshRows};
 ghost use Rattle.finish.specs.Finish.{finishedWith};
 ghost use Rattle.heights.specs.Heights.{surfaceRows, surfaceChecked};
@@ -19,21 +22,27 @@ ghost use Rattle.sweep.specs.Demand3.{Demand3};
 ghost use Rattle.sweep.specs.Run.{runLent, ranWith};
 ghost use Rattle.sweep.specs.StepCall.{steppedWith};
 ghost use Rattle.fithmoul.specs.Results.{counted, centerAt, pointAt, reported};
-ghost use Rattle.fithmoul.specs.Results.{checkResult, locateResult, stepResult, finishResult, volumeResult};
+ghost use Rattle.fithmoul.specs.Results.{checkResult, locateResult, stepResult, finishResult, runResult, volumeResult};
+ghost use Rattle.fithmoul.specs.Results.{askResult, commitResult};
 ghost use Rattle.fithmoul.specs.Results.{areaTotalResult, sideQueryResult};
 ghost use Rattle.volume.specs.Volume.{volumeOf};
 use angle::Point2;
+use ask::Asked;
 use math::Point;
 use mesh::Counts;
 use mesh_check::Checked;
+use quote::Quote;
 use ring_rows::Node;
 
 pub mod results;
 
 use results::AreaTotalResult;
+use results::AskResult;
 use results::CheckResult;
+use results::CommitResult;
 use results::FinishResult;
 use results::LocateResult;
+use results::RunResult;
 use results::SideQueryResult;
 use results::StepResult;
 use results::VolumeResult;
@@ -205,6 +214,149 @@ pub extern "C" fn fithmoul_step(
     results::step_result(answer)
 }
 
+// What a point would do: the fate and the faces of the step's answer, with the change count and the point, for a commit. The mesh is left
+// alone. Refusals 1 to 7, 10 and 12.
+#[no_mangle]
+pub extern "C" fn fithmoul_ask(
+    vertices: u32,
+    edges: u32,
+    faces: u32,
+    changes: u32,
+    positions: &[i32],
+    heights: &[i32],
+    outs: &[u32],
+    halves: &[u32],
+    adjacent: &[u32],
+    nodes: &mut [Node],
+    freed: &mut [u32],
+    buckets: &mut [u32],
+    center_x: f64,
+    center_y: f64,
+    x: i32,
+    y: i32,
+    z: i32,
+) -> AskResult
+    ensures { λ r. ⌜ (let s = surfaceRows
+        (meshRows (now (positions .entry)) (now (outs .entry)) (now (halves .entry)) (now (adjacent .entry))) (now (heights .entry)) in
+        let w = askOf changes (counted vertices edges faces) s (ringRows (now (nodes .entry)) (now (freed .entry)) (now (buckets .entry)))
+        (centerAt «center_x» «center_y») (pointAt x y) z in
+        (r ≡ askResult (w .answer))
+        × (askedWith (w .answer) s (ringRows (now (nodes .exit)) (now (freed .exit)) (now (buckets .exit))) ≡ w)) ⌝ }
+{
+    let counts = Counts {
+        vertices: vertices,
+        edges: edges,
+        faces: faces,
+    };
+    let center = Point2 {
+        x: center_x,
+        y: center_y,
+    };
+    let point = Point { x: x, y: y };
+    let asked = ask::ask(
+        changes,
+        counts,
+        positions,
+        heights,
+        outs,
+        halves,
+        adjacent,
+        nodes.len(),
+        freed.len(),
+        buckets.len(),
+        center,
+        point,
+        z,
+    );
+    if let Asked::Refused(refusal) = asked {
+        return results::ask_result(Asked::Refused(refusal));
+    }
+    locate::clear_ring(nodes, freed, buckets);
+    results::ask_result(asked)
+}
+
+// The step that a quote told of, if it still would be that. The change count rises where a vertex is added or a flip is refused. Refusals 1
+// to 7, 10, 11, 12 and 9.
+#[no_mangle]
+pub extern "C" fn fithmoul_commit(
+    vertices: u32,
+    edges: u32,
+    faces: u32,
+    changes: u32,
+    positions: &mut [i32],
+    heights: &mut [i32],
+    outs: &mut [u32],
+    halves: &mut [u32],
+    adjacent: &mut [u32],
+    nodes: &mut [Node],
+    freed: &mut [u32],
+    buckets: &mut [u32],
+    pending: &mut [u32],
+    center_x: f64,
+    center_y: f64,
+    x: i32,
+    y: i32,
+    z: i32,
+    quote: Quote,
+) -> CommitResult
+    ensures { λ r. ⌜ (let w = commitOf changes (counted vertices edges faces) (surfaceRows
+        (meshRows (now (positions .entry)) (now (outs .entry)) (now (halves .entry)) (now (adjacent .entry))) (now (heights .entry)))
+        (ringRows (now (nodes .entry)) (now (freed .entry)) (now (buckets .entry))) (now (pending .entry))
+        (centerAt «center_x» «center_y») (pointAt x y) z quote in
+        (r ≡ commitResult (w .changes) (w .step .call .answer))
+        × (committedWith (surfaceStepped (steppedWith (w .step .call .answer)
+        (meshRows (now (positions .exit)) (now (outs .exit)) (now (halves .exit)) (now (adjacent .exit)))
+        (ringRows (now (nodes .exit)) (now (freed .exit)) (now (buckets .exit))) (now (pending .exit))) (now (heights .exit)))
+        (w .changes) ≡ w)) ⌝ }
+{
+    let counts = Counts {
+        vertices: vertices,
+        edges: edges,
+        faces: faces,
+    };
+    let center = Point2 {
+        x: center_x,
+        y: center_y,
+    };
+    let point = Point { x: x, y: y };
+    let checked = commit::check_commit(
+        changes,
+        counts,
+        positions,
+        heights,
+        outs,
+        halves,
+        adjacent,
+        nodes.len(),
+        freed.len(),
+        buckets.len(),
+        pending.len(),
+        center,
+        point,
+        z,
+        quote,
+    );
+    if let Checked::Refused(refusal) = checked {
+        return results::commit_refused(changes, counts, refusal);
+    }
+    let progress = step::sweep_once(
+        positions,
+        outs,
+        halves,
+        adjacent,
+        nodes,
+        freed,
+        buckets,
+        pending,
+        counts,
+        center,
+        point,
+    );
+    let answer = step::answer_of(progress, 0);
+    surface::store_height(heights, vertices, answer.counts.vertices, z);
+    results::commit_result(changes, answer)
+}
+
 // Convexity passes until one adds no face, then the closing pass, on a mesh. Refusals 1 to 5, 9 and 10.
 #[no_mangle]
 pub extern "C" fn fithmoul_finish(
@@ -246,13 +398,14 @@ pub extern "C" fn fithmoul_finish(
     results::finish_result(answer)
 }
 
-// A seed mesh, a centre and a list of points with their heights, to a finished mesh: all steps in list order, then the finish. Refusals 1
-// to 7, 9 and 10.
+// A seed mesh, a centre and a list of points with their heights, to a finished mesh: all steps in list order, then the finish. It starts the
+// change count at 0. Refusals 1 to 7, 9 and 10.
 #[no_mangle]
 pub extern "C" fn fithmoul_run(
     vertices: u32,
     edges: u32,
     faces: u32,
+    changes: u32,
     positions: &mut [i32],
     heights: &mut [i32],
     outs: &mut [u32],
@@ -267,13 +420,13 @@ pub extern "C" fn fithmoul_run(
     center_y: f64,
     points: &[i32],
     point_heights: &[i32],
-) -> FinishResult
+) -> RunResult
     ensures { λ r. ⌜ (let l = runLent (counted vertices edges faces)
         (meshRows (now (positions .entry)) (now (outs .entry)) (now (halves .entry)) (now (adjacent .entry)))
         (ringRows (now (nodes .entry)) (now (freed .entry)) (now (buckets .entry))) (now (pending .entry)) (now (answers .entry))
         (centerAt «center_x» «center_y») (now (points .entry)) in
         let g = surfaceRunLent l (now (heights .entry)) (now («point_heights» .entry)) in let w = surfaceRun g in
-        (r ≡ finishResult (w .call .answer))
+        (r ≡ runResult (runChanges changes (w .call .answer .finished)) (w .call .answer))
         × (surfaceRan (ranWith (w .call .answer)
         (meshRows (now (positions .exit)) (now (outs .exit)) (now (halves .exit)) (now (adjacent .exit)))
         (ringRows (now (nodes .exit)) (now (freed .exit)) (now (buckets .exit))) (now (pending .exit)) (now (answers .exit)))
@@ -306,7 +459,7 @@ pub extern "C" fn fithmoul_run(
         few,
     );
     if let Checked::Refused(refusal) = checked {
-        return results::finish_refused(counts, refusal);
+        return results::run_refused(changes, counts, refusal);
     }
     let answer = run::run(
         counts,
@@ -323,7 +476,7 @@ pub extern "C" fn fithmoul_run(
         points,
     );
     surface::store_run(heights, answers, point_heights, points, answer);
-    results::finish_result(answer)
+    results::run_result(changes, answer)
 }
 
 // The volume between a mesh and a level: six times it, exactly, and in whole cubic metres, positive where the mesh is above. Refusals 1

@@ -1,20 +1,26 @@
 // What the calls answer, as structs of numbers that C can read, and how they are made of the library's answers. `refusal` is 0 where the
 // call is accepted, else a row of 01's table with its place; what a refused call has no answer for is 0.
 ghost use mathlib.Core.Path.{_≡_};
+ghost use Prim.Native.Nat.{_<_};
+ghost use Rattle.commit.specs.Commit.{commitChanges, runChanges};
 ghost use Rattle.finish.specs.declared.Finished.{Finished};
 ghost use Rattle.locate.specs.declared.Located.{Located};
+ghost use Rattle.quote.specs.Quote.{lastChange};
 ghost use Rattle.sweep.specs.declared.Stepped.{Stepped};
-ghost use Rattle.fithmoul.specs.Results.{checkResult, locateResult, pointAnswer};
+ghost use Rattle.fithmoul.specs.Results.{checkResult, locateResult, pointAnswer, askResult};
+ghost use Rattle.fithmoul.specs.Results.{withChanges, commitResult, ranWithChanges, runResult};
 ghost use Rattle.fithmoul.specs.Results.{steppedResult, stepResult, finishedResult, finishResult, volumeResult};
 ghost use Rattle.fithmoul.specs.Results.{areaTotalResult, sideQueryResult};
 use area::Sided;
 use area::Totalled;
+use ask::Asked;
 use finish::FinishAnswer;
 use finish::Finished;
 use locate::Located;
 use mesh::Counts;
 use mesh_check::Checked;
 use mesh_check::Refusal;
+use quote::Quote;
 use sweep::Answer;
 use sweep::StepAnswer;
 use sweep::Stepped;
@@ -56,6 +62,26 @@ pub struct StepResult {
     pub answer: PointAnswer,
 }
 
+// A quote: zeros where refused.
+#[repr(C)]
+pub struct AskResult {
+    pub refusal: u32,
+    pub place: u32,
+    pub quote: Quote,
+}
+
+// A step's result, with the change count after the call.
+#[repr(C)]
+pub struct CommitResult {
+    pub refusal: u32,
+    pub place: u32,
+    pub vertices: u32,
+    pub edges: u32,
+    pub faces: u32,
+    pub changes: u32,
+    pub answer: PointAnswer,
+}
+
 // The mesh's counts after the call, the faces added by the convexity passes, their flips and those of the closing pass.
 #[repr(C)]
 pub struct FinishResult {
@@ -64,6 +90,20 @@ pub struct FinishResult {
     pub vertices: u32,
     pub edges: u32,
     pub faces: u32,
+    pub faces_added: u32,
+    pub convex_flips: u64,
+    pub closing_flips: u64,
+}
+
+// A finish's result, with the change count after the call.
+#[repr(C)]
+pub struct RunResult {
+    pub refusal: u32,
+    pub place: u32,
+    pub vertices: u32,
+    pub edges: u32,
+    pub faces: u32,
+    pub changes: u32,
     pub faces_added: u32,
     pub convex_flips: u64,
     pub closing_flips: u64,
@@ -293,4 +333,102 @@ pub fn side_query_result(sided: Sided) -> SideQueryResult
             doubled_area: 0,
         },
     }
+}
+
+pub fn ask_result(asked: Asked) -> AskResult
+    ensures { λ r. ⌜ r ≡ askResult asked ⌝ }
+{
+    match asked {
+        Asked::Quoted(quote) => AskResult {
+            refusal: 0,
+            place: 0,
+            quote: quote,
+        },
+        Asked::Refused(x) => AskResult {
+            refusal: x.number,
+            place: x.place,
+            quote: Quote {
+                changes: 0,
+                x: 0,
+                y: 0,
+                z: 0,
+                fate: 0,
+                faces: 0,
+            },
+        },
+    }
+}
+
+fn with_changes(changes: u32, result: StepResult) -> CommitResult
+    ensures { λ r. ⌜ r ≡ withChanges changes result ⌝ }
+{
+    let answer = result.answer;
+    CommitResult {
+        refusal: result.refusal,
+        place: result.place,
+        vertices: result.vertices,
+        edges: result.edges,
+        faces: result.faces,
+        changes: changes,
+        answer: answer,
+    }
+}
+
+// Nothing has changed, the count neither.
+pub fn commit_refused(changes: u32, counts: Counts, refusal: Refusal) -> CommitResult
+    ensures { λ r. ⌜ r ≡ commitResult changes (record { counts = counts; stepped = Stepped.Refused refusal }) ⌝ }
+{
+    let result = step_refused(counts, refusal);
+    with_changes(changes, result)
+}
+
+// A commit that the checks accept, from the count before it.
+pub fn commit_result(changes: u32, answer: StepAnswer) -> CommitResult
+    requires { ⌜ changes < lastChange ⌝ }
+    ensures { λ r. ⌜ r ≡ commitResult (commitChanges changes (answer .stepped)) answer ⌝ }
+{
+    let stepped = answer.stepped;
+    let after = commit::commit_changes(changes, stepped);
+    let result = step_result(answer);
+    with_changes(after, result)
+}
+
+fn ran_with_changes(changes: u32, result: FinishResult) -> RunResult
+    ensures { λ r. ⌜ r ≡ ranWithChanges changes result ⌝ }
+{
+    RunResult {
+        refusal: result.refusal,
+        place: result.place,
+        vertices: result.vertices,
+        edges: result.edges,
+        faces: result.faces,
+        changes: changes,
+        faces_added: result.faces_added,
+        convex_flips: result.convex_flips,
+        closing_flips: result.closing_flips,
+    }
+}
+
+// A run, from the count before it.
+pub fn run_result(changes: u32, answer: FinishAnswer) -> RunResult
+    ensures { λ r. ⌜ r ≡ runResult (runChanges changes (answer .finished)) answer ⌝ }
+{
+    let finished = answer.finished;
+    let after = commit::run_changes(changes, finished);
+    let result = finish_result(answer);
+    ran_with_changes(after, result)
+}
+
+// Refused before anything is done.
+pub fn run_refused(changes: u32, counts: Counts, refusal: Refusal) -> RunResult
+    ensures { λ r. ⌜ r ≡ runResult (runChanges changes (Finished.Refused refusal))
+        (record { counts = counts; finished = Finished.Refused refusal }) ⌝ }
+{
+    run_result(
+        changes,
+        FinishAnswer {
+            counts: counts,
+            finished: Finished::Refused(refusal),
+        },
+    )
 }

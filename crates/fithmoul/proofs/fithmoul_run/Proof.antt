@@ -24,8 +24,8 @@ check-run-requires c κs = search needs
 enum-known-checked : tie.Need-enum-known-checked
 enum-known-checked c = search needs
 
-finish-refused-requires : tie.Need-finish-refused-requires
-finish-refused-requires c κs = search needs
+run-refused-requires : tie.Need-run-refused-requires
+run-refused-requires c κs = search needs
 
 same-length : tie.Need-same-length
 same-length c = search needs
@@ -45,8 +45,8 @@ same-length-5 c = search needs
 returns : tie.Need-returns
 returns c =
     let e = rw (c .before .before .before .before .before .before .before .before .before .before .answers-short .ensures) at (c .before .before .before .before .check-run .ensures) in
-    let x = run-exported (sym (run-refused _ (sym e ∙ c .before .before .checked .given .1))) (c .finish-refused .ensures) in
-    (x .0, x .1, λ z. accepted-run _ _ (x .0) z)
+    let x = run-exported _ (sym (run-refused _ (sym e ∙ c .before .before .checked .given .1))) (c .run-refused .ensures) in
+    (x .0, x .1, λ z. accepted-run _ _ _ (x .0) z)
 
 enum-told : tie.Need-enum-told
 enum-told c = search needs
@@ -63,8 +63,8 @@ store-run-requires c κs =
     StoreReady (pointCount (a .points .now)) (length (a .heights .now)) (length (a .point-heights .now)) (w .answers) (w .answer))
     b (store-ready _ (sym e ∙ c .before .before .before .before .before .before .before .before .before .before .before .before .before .before .before .before .before .before .before .before .before .before .before .before .before .before .before .before .enum-told .given .1))
 
-finish-result-requires : tie.Need-finish-result-requires
-finish-result-requires c κs = search needs
+run-result-requires : tie.Need-run-result-requires
+run-result-requires c κs = search needs
 
 same-length-6 : tie.Need-same-length-6
 same-length-6 c = search needs
@@ -107,8 +107,8 @@ returns-2 c =
     ∙ ap (λ (w : RunOutcome).
     finishedHeights (w .answer) (w .answers) (heightOf (a .point-heights .now)) (heightOf (a .heights .now))
     (pointCount (a .points .now))) b in
-    let x = run-exported (run-whole (run-own _ E) b (run-heights _ E _ (c .before .before .store-run .kept .0) h)) (c .finish-result .ensures) in
-    (x .0, x .1, λ z. accepted-run _ _ (x .0) z)
+    let x = run-exported _ (run-whole (run-own _ E) b (run-heights _ E _ (c .before .before .store-run .kept .0) h)) (c .run-result .ensures) in
+    (x .0, x .1, λ z. accepted-run _ _ _ (x .0) z)
 
 pub fithmoul-run-spec : {M : Type 1} → statement M
-fithmoul-run-spec = tie.close (tie.spec answers-short-requires check-run-requires enum-known-checked finish-refused-requires same-length same-length-2 same-length-3 same-length-4 same-length-5 returns enum-told run-requires store-run-requires finish-result-requires same-length-6 same-length-7 same-length-8 same-length-9 same-length-10 same-length-11 same-length-12 same-length-13 same-length-14 same-length-15 returns-2)
+fithmoul-run-spec = tie.close (tie.spec answers-short-requires check-run-requires enum-known-checked run-refused-requires same-length same-length-2 same-length-3 same-length-4 same-length-5 returns enum-told run-requires store-run-requires run-result-requires same-length-6 same-length-7 same-length-8 same-length-9 same-length-10 same-length-11 same-length-12 same-length-13 same-length-14 same-length-15 returns-2)

@@ -8,12 +8,12 @@ use Rattle.fithmoul.proofs.Sig.Kinds_fithmoul_run as Kinds
 use Rattle.fithmoul.proofs.fithmoul_run.Proof.Lts
 use Rattle.fithmoul.proofs.Sig.Reads_fithmoul_run as Reads'
 use Rattle.fithmoul.proofs.fithmoul_run.Statement
-use Rattle.fithmoul.proofs.results.finish_refused.Met as Met'
-use Rattle.fithmoul.proofs.results.finish_refused.Reads as Reads''
-use Rattle.fithmoul.proofs.results.finish_refused.Symbol as Symbol'
-use Rattle.fithmoul.proofs.results.finish_result.Met as Met''
-use Rattle.fithmoul.proofs.results.finish_result.Reads as Reads'3
-use Rattle.fithmoul.proofs.results.finish_result.Symbol as Symbol''
+use Rattle.fithmoul.proofs.results.run_refused.Met as Met'
+use Rattle.fithmoul.proofs.results.run_refused.Reads as Reads''
+use Rattle.fithmoul.proofs.results.run_refused.Symbol as Symbol'
+use Rattle.fithmoul.proofs.results.run_result.Met as Met''
+use Rattle.fithmoul.proofs.results.run_result.Reads as Reads'3
+use Rattle.fithmoul.proofs.results.run_result.Symbol as Symbol''
 use Rattle.run.proofs.run.Met as Met'3
 use Rattle.fithmoul.proofs.Sig.Reads_run_run as Reads'4
 use Rattle.run.proofs.run.Symbol as Symbol'3
@@ -81,8 +81,8 @@ After-checked = Lts.After-checked (Reads.Asked, Reads.Learnt, Reads'5.Asked, Rea
 abbrev pub After-known-told : Type 0
 After-known-told = Lts.After-known-told (Reads.Asked, Reads.Learnt, Reads'5.Asked, Reads'5.Learnt, Reads''.Asked, Reads''.Learnt, Reads'4.Asked, Reads'4.Learnt, Reads'6.Asked, Reads'6.Learnt, Reads'3.Asked, Reads'3.Learnt) Reads'.Pre Reads'.Post
 
-abbrev pub After-finish-refused : Type 0
-After-finish-refused = Lts.After-finish-refused (Reads.Asked, Reads.Learnt, Reads'5.Asked, Reads'5.Learnt, Reads''.Asked, Reads''.Learnt, Reads'4.Asked, Reads'4.Learnt, Reads'6.Asked, Reads'6.Learnt, Reads'3.Asked, Reads'3.Learnt) Reads'.Pre Reads'.Post
+abbrev pub After-run-refused : Type 0
+After-run-refused = Lts.After-run-refused (Reads.Asked, Reads.Learnt, Reads'5.Asked, Reads'5.Learnt, Reads''.Asked, Reads''.Learnt, Reads'4.Asked, Reads'4.Learnt, Reads'6.Asked, Reads'6.Learnt, Reads'3.Asked, Reads'3.Learnt) Reads'.Pre Reads'.Post
 
 abbrev pub At-match-keys2 : Type 0
 At-match-keys2 = Lts.At-match-keys2 (Reads.Asked, Reads.Learnt, Reads'5.Asked, Reads'5.Learnt, Reads''.Asked, Reads''.Learnt, Reads'4.Asked, Reads'4.Learnt, Reads'6.Asked, Reads'6.Learnt, Reads'3.Asked, Reads'3.Learnt) Reads'.Pre Reads'.Post
@@ -180,8 +180,8 @@ After-store-run = Lts.After-store-run (Reads.Asked, Reads.Learnt, Reads'5.Asked,
 abbrev pub After-heights : Type 0
 After-heights = Lts.After-heights (Reads.Asked, Reads.Learnt, Reads'5.Asked, Reads'5.Learnt, Reads''.Asked, Reads''.Learnt, Reads'4.Asked, Reads'4.Learnt, Reads'6.Asked, Reads'6.Learnt, Reads'3.Asked, Reads'3.Learnt) Reads'.Pre Reads'.Post
 
-abbrev pub After-finish-result : Type 0
-After-finish-result = Lts.After-finish-result (Reads.Asked, Reads.Learnt, Reads'5.Asked, Reads'5.Learnt, Reads''.Asked, Reads''.Learnt, Reads'4.Asked, Reads'4.Learnt, Reads'6.Asked, Reads'6.Learnt, Reads'3.Asked, Reads'3.Learnt) Reads'.Pre Reads'.Post
+abbrev pub After-run-result : Type 0
+After-run-result = Lts.After-run-result (Reads.Asked, Reads.Learnt, Reads'5.Asked, Reads'5.Learnt, Reads''.Asked, Reads''.Learnt, Reads'4.Asked, Reads'4.Learnt, Reads'6.Asked, Reads'6.Learnt, Reads'3.Asked, Reads'3.Learnt) Reads'.Pre Reads'.Post
 
 abbrev pub Need-answers-short-requires : Type 0
 Need-answers-short-requires = Lts.Need-answers-short-requires (Reads.Asked, Reads.Learnt, Reads'5.Asked, Reads'5.Learnt, Reads''.Asked, Reads''.Learnt, Reads'4.Asked, Reads'4.Learnt, Reads'6.Asked, Reads'6.Learnt, Reads'3.Asked, Reads'3.Learnt) Reads'.Pre Reads'.Post
@@ -192,8 +192,8 @@ Need-check-run-requires = Lts.Need-check-run-requires (Reads.Asked, Reads.Learnt
 abbrev pub Need-enum-known-checked : Type 0
 Need-enum-known-checked = Lts.Need-enum-known-checked (Reads.Asked, Reads.Learnt, Reads'5.Asked, Reads'5.Learnt, Reads''.Asked, Reads''.Learnt, Reads'4.Asked, Reads'4.Learnt, Reads'6.Asked, Reads'6.Learnt, Reads'3.Asked, Reads'3.Learnt) Reads'.Pre Reads'.Post
 
-abbrev pub Need-finish-refused-requires : Type 0
-Need-finish-refused-requires = Lts.Need-finish-refused-requires (Reads.Asked, Reads.Learnt, Reads'5.Asked, Reads'5.Learnt, Reads''.Asked, Reads''.Learnt, Reads'4.Asked, Reads'4.Learnt, Reads'6.Asked, Reads'6.Learnt, Reads'3.Asked, Reads'3.Learnt) Reads'.Pre Reads'.Post
+abbrev pub Need-run-refused-requires : Type 0
+Need-run-refused-requires = Lts.Need-run-refused-requires (Reads.Asked, Reads.Learnt, Reads'5.Asked, Reads'5.Learnt, Reads''.Asked, Reads''.Learnt, Reads'4.Asked, Reads'4.Learnt, Reads'6.Asked, Reads'6.Learnt, Reads'3.Asked, Reads'3.Learnt) Reads'.Pre Reads'.Post
 
 abbrev pub Need-same-length : Type 0
 Need-same-length = Lts.Need-same-length (Reads.Asked, Reads.Learnt, Reads'5.Asked, Reads'5.Learnt, Reads''.Asked, Reads''.Learnt, Reads'4.Asked, Reads'4.Learnt, Reads'6.Asked, Reads'6.Learnt, Reads'3.Asked, Reads'3.Learnt) Reads'.Pre Reads'.Post
@@ -222,8 +222,8 @@ Need-run-requires = Lts.Need-run-requires (Reads.Asked, Reads.Learnt, Reads'5.As
 abbrev pub Need-store-run-requires : Type 0
 Need-store-run-requires = Lts.Need-store-run-requires (Reads.Asked, Reads.Learnt, Reads'5.Asked, Reads'5.Learnt, Reads''.Asked, Reads''.Learnt, Reads'4.Asked, Reads'4.Learnt, Reads'6.Asked, Reads'6.Learnt, Reads'3.Asked, Reads'3.Learnt) Reads'.Pre Reads'.Post
 
-abbrev pub Need-finish-result-requires : Type 0
-Need-finish-result-requires = Lts.Need-finish-result-requires (Reads.Asked, Reads.Learnt, Reads'5.Asked, Reads'5.Learnt, Reads''.Asked, Reads''.Learnt, Reads'4.Asked, Reads'4.Learnt, Reads'6.Asked, Reads'6.Learnt, Reads'3.Asked, Reads'3.Learnt) Reads'.Pre Reads'.Post
+abbrev pub Need-run-result-requires : Type 0
+Need-run-result-requires = Lts.Need-run-result-requires (Reads.Asked, Reads.Learnt, Reads'5.Asked, Reads'5.Learnt, Reads''.Asked, Reads''.Learnt, Reads'4.Asked, Reads'4.Learnt, Reads'6.Asked, Reads'6.Learnt, Reads'3.Asked, Reads'3.Learnt) Reads'.Pre Reads'.Post
 
 abbrev pub Need-same-length-6 : Type 0
 Need-same-length-6 = Lts.Need-same-length-6 (Reads.Asked, Reads.Learnt, Reads'5.Asked, Reads'5.Learnt, Reads''.Asked, Reads''.Learnt, Reads'4.Asked, Reads'4.Learnt, Reads'6.Asked, Reads'6.Learnt, Reads'3.Asked, Reads'3.Learnt) Reads'.Pre Reads'.Post
@@ -259,9 +259,9 @@ abbrev pub Need-returns-2 : Type 0
 Need-returns-2 = Lts.Need-returns-2 (Reads.Asked, Reads.Learnt, Reads'5.Asked, Reads'5.Learnt, Reads''.Asked, Reads''.Learnt, Reads'4.Asked, Reads'4.Learnt, Reads'6.Asked, Reads'6.Learnt, Reads'3.Asked, Reads'3.Learnt) Reads'.Pre Reads'.Post
 
 module _ {M : Type 1} where
-  pub spec : (answer : Need-answers-short-requires) → (answer : Need-check-run-requires) → (answer : Need-enum-known-checked) → (answer : Need-finish-refused-requires) → (answer : Need-same-length) → (answer : Need-same-length-2) → (answer : Need-same-length-3) → (answer : Need-same-length-4) → (answer : Need-same-length-5) → (answer : Need-returns) → (answer : Need-enum-told) → (answer : Need-run-requires) → (answer : Need-store-run-requires) → (answer : Need-finish-result-requires) → (answer : Need-same-length-6) → (answer : Need-same-length-7) → (answer : Need-same-length-8) → (answer : Need-same-length-9) → (answer : Need-same-length-10) → (answer : Need-same-length-11) → (answer : Need-same-length-12) → (answer : Need-same-length-13) → (answer : Need-same-length-14) → (answer : Need-same-length-15) → (answer : Need-returns-2) → Lts.Closed (Reads.Asked, Reads.Learnt, Reads'5.Asked, Reads'5.Learnt, Reads''.Asked, Reads''.Learnt, Reads'4.Asked, Reads'4.Learnt, Reads'6.Asked, Reads'6.Learnt, Reads'3.Asked, Reads'3.Learnt) Reads'.Pre Reads'.Post M
+  pub spec : (answer : Need-answers-short-requires) → (answer : Need-check-run-requires) → (answer : Need-enum-known-checked) → (answer : Need-run-refused-requires) → (answer : Need-same-length) → (answer : Need-same-length-2) → (answer : Need-same-length-3) → (answer : Need-same-length-4) → (answer : Need-same-length-5) → (answer : Need-returns) → (answer : Need-enum-told) → (answer : Need-run-requires) → (answer : Need-store-run-requires) → (answer : Need-run-result-requires) → (answer : Need-same-length-6) → (answer : Need-same-length-7) → (answer : Need-same-length-8) → (answer : Need-same-length-9) → (answer : Need-same-length-10) → (answer : Need-same-length-11) → (answer : Need-same-length-12) → (answer : Need-same-length-13) → (answer : Need-same-length-14) → (answer : Need-same-length-15) → (answer : Need-returns-2) → Lts.Closed (Reads.Asked, Reads.Learnt, Reads'5.Asked, Reads'5.Learnt, Reads''.Asked, Reads''.Learnt, Reads'4.Asked, Reads'4.Learnt, Reads'6.Asked, Reads'6.Learnt, Reads'3.Asked, Reads'3.Learnt) Reads'.Pre Reads'.Post M
   spec = λ answer answer' answer'' answer'3 answer'4 answer'5 answer'6 answer'7 answer'8 answer'9 answer'10 answer'11 answer'12 answer'13 answer'14 answer'15 answer'16 answer'17 answer'18 answer'19 answer'20 answer'21 answer'22 answer'23 answer'24. Lts.spec (Reads.Asked, Reads.Learnt, Reads'5.Asked, Reads'5.Learnt, Reads''.Asked, Reads''.Learnt, Reads'4.Asked, Reads'4.Learnt, Reads'6.Asked, Reads'6.Learnt, Reads'3.Asked, Reads'3.Learnt) Reads'.Pre Reads'.Post answer answer' answer'' answer'3 answer'4 answer'5 answer'6 answer'7 answer'8 answer'9 answer'10 answer'11 answer'12 answer'13 answer'14 answer'15 answer'16 answer'17 answer'18 answer'19 answer'20 answer'21 answer'22 answer'23 answer'24
 
   pub close : Lts.Closed (Reads.Asked, Reads.Learnt, Reads'5.Asked, Reads'5.Learnt, Reads''.Asked, Reads''.Learnt, Reads'4.Asked, Reads'4.Learnt, Reads'6.Asked, Reads'6.Learnt, Reads'3.Asked, Reads'3.Learnt) Reads'.Pre Reads'.Post M → Statement.statement M
   unfolding Code.routine Running.tablesOf
-  close = λ closed 𝓤 H 𝓜 𝓖 𝓡. Written.close 12 Kinds.ps Kinds.r Reads'.Ghost Reads'.requires Reads'.ensures Reads'.pre-read Reads'.Pinned Reads'.Owned Reads'.post-read record { M = M; 𝓤 = 𝓤; H = H; 𝓜 = 𝓜; 𝓖 = 𝓖; 𝓡 = 𝓡 } Code.env Key.name Code.function (Code.unfolded 𝓤 H 𝓜 𝓡) (λ κs a g. tt) (λ κs. Reads'.owns κs record { M = M; 𝓤 = 𝓤; H = H; 𝓜 = 𝓜; 𝓖 = 𝓖; 𝓡 = 𝓡 }) (Reads'.passes record { M = M; 𝓤 = 𝓤; H = H; 𝓜 = 𝓜; 𝓖 = 𝓖; 𝓡 = 𝓡 }) λ g. closed 𝓤 H (𝓖 .A) (Running.givenOf 𝓤 H 𝓜 𝓖) (Run.Over 𝓤 H 𝓜 𝓖 𝓡 Code.env) (Reads.known record { M = M; 𝓤 = 𝓤; H = H; 𝓜 = 𝓜; 𝓖 = 𝓖; 𝓡 = 𝓡 } Code.env Symbol.name Symbol.routine Code.calls-answers·answers-short (Met.met 𝓤 H 𝓜 𝓖 𝓡)) (Reads'5.known record { M = M; 𝓤 = 𝓤; H = H; 𝓜 = 𝓜; 𝓖 = 𝓖; 𝓡 = 𝓡 } Code.env Symbol'4.name Symbol'4.routine Code.calls-surface·check-run (Met'4.met 𝓤 H 𝓜 𝓖 𝓡)) (Reads''.known record { M = M; 𝓤 = 𝓤; H = H; 𝓜 = 𝓜; 𝓖 = 𝓖; 𝓡 = 𝓡 } Code.env Symbol'.name Symbol'.routine Code.calls-fithmoul·results·finish-refused (Met'.met 𝓤 H 𝓜 𝓖 𝓡)) (Reads'4.known record { M = M; 𝓤 = 𝓤; H = H; 𝓜 = 𝓜; 𝓖 = 𝓖; 𝓡 = 𝓡 } Code.env Symbol'3.name Symbol'3.routine Code.calls-run·run (Met'3.met 𝓤 H 𝓜 𝓖 𝓡)) (Reads'6.known record { M = M; 𝓤 = 𝓤; H = H; 𝓜 = 𝓜; 𝓖 = 𝓖; 𝓡 = 𝓡 } Code.env Symbol'5.name Symbol'5.routine Code.calls-surface·store-run (Met'5.met 𝓤 H 𝓜 𝓖 𝓡)) (Reads'3.known record { M = M; 𝓤 = 𝓤; H = H; 𝓜 = 𝓜; 𝓖 = 𝓖; 𝓡 = 𝓡 } Code.env Symbol''.name Symbol''.routine Code.calls-fithmoul·results·finish-result (Met''.met 𝓤 H 𝓜 𝓖 𝓡))
+  close = λ closed 𝓤 H 𝓜 𝓖 𝓡. Written.close 12 Kinds.ps Kinds.r Reads'.Ghost Reads'.requires Reads'.ensures Reads'.pre-read Reads'.Pinned Reads'.Owned Reads'.post-read record { M = M; 𝓤 = 𝓤; H = H; 𝓜 = 𝓜; 𝓖 = 𝓖; 𝓡 = 𝓡 } Code.env Key.name Code.function (Code.unfolded 𝓤 H 𝓜 𝓡) (λ κs a g. tt) (λ κs. Reads'.owns κs record { M = M; 𝓤 = 𝓤; H = H; 𝓜 = 𝓜; 𝓖 = 𝓖; 𝓡 = 𝓡 }) (Reads'.passes record { M = M; 𝓤 = 𝓤; H = H; 𝓜 = 𝓜; 𝓖 = 𝓖; 𝓡 = 𝓡 }) λ g. closed 𝓤 H (𝓖 .A) (Running.givenOf 𝓤 H 𝓜 𝓖) (Run.Over 𝓤 H 𝓜 𝓖 𝓡 Code.env) (Reads.known record { M = M; 𝓤 = 𝓤; H = H; 𝓜 = 𝓜; 𝓖 = 𝓖; 𝓡 = 𝓡 } Code.env Symbol.name Symbol.routine Code.calls-answers·answers-short (Met.met 𝓤 H 𝓜 𝓖 𝓡)) (Reads'5.known record { M = M; 𝓤 = 𝓤; H = H; 𝓜 = 𝓜; 𝓖 = 𝓖; 𝓡 = 𝓡 } Code.env Symbol'4.name Symbol'4.routine Code.calls-surface·check-run (Met'4.met 𝓤 H 𝓜 𝓖 𝓡)) (Reads''.known record { M = M; 𝓤 = 𝓤; H = H; 𝓜 = 𝓜; 𝓖 = 𝓖; 𝓡 = 𝓡 } Code.env Symbol'.name Symbol'.routine Code.calls-fithmoul·results·run-refused (Met'.met 𝓤 H 𝓜 𝓖 𝓡)) (Reads'4.known record { M = M; 𝓤 = 𝓤; H = H; 𝓜 = 𝓜; 𝓖 = 𝓖; 𝓡 = 𝓡 } Code.env Symbol'3.name Symbol'3.routine Code.calls-run·run (Met'3.met 𝓤 H 𝓜 𝓖 𝓡)) (Reads'6.known record { M = M; 𝓤 = 𝓤; H = H; 𝓜 = 𝓜; 𝓖 = 𝓖; 𝓡 = 𝓡 } Code.env Symbol'5.name Symbol'5.routine Code.calls-surface·store-run (Met'5.met 𝓤 H 𝓜 𝓖 𝓡)) (Reads'3.known record { M = M; 𝓤 = 𝓤; H = H; 𝓜 = 𝓜; 𝓖 = 𝓖; 𝓡 = 𝓡 } Code.env Symbol''.name Symbol''.routine Code.calls-fithmoul·results·run-result (Met''.met 𝓤 H 𝓜 𝓖 𝓡))
