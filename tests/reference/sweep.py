@@ -1,4 +1,4 @@
-"""An executable reading of 01-scope.md and of Changes 1 to 3 to it (02-change-requests.md), independent of
+"""An executable reading of 01-scope.md and of Changes 1 to 3 and 5 to it (02-change-requests.md), independent of
 the proved code.
 
 Every function states one sentence of 01 or of a change (cited as '01: "..."', 'Change 1: "..."') or one
@@ -13,6 +13,8 @@ Rows are Python lists, laid out as the proved code has them:
   per point.
 Only the lengths of the ring's rows (nodes, freed, buckets) and of pending matter here.  Where a caller
 gives no heights, of the vertices or of the points, they are zeros in a row that is long enough.
+
+The mesh's change count is carried with its counts. A quote is a tuple: change count, x, y, z, fate, faces.
 """
 
 from fractions import Fraction
@@ -21,6 +23,7 @@ import math
 LIMIT = 16777216
 HEIGHT_LIMIT = 1048576
 MOST_VERTICES = 1000000
+MOST_CHANGES = 4294967295
 LEAST_PENDING = 8
 NEXT, PREV, FACE, ORIGIN = 0, 1, 2, 3
 WORDS = 4  # of an answer in the answers row
@@ -28,7 +31,7 @@ CUBIC_METRE = 6 * 10 ** 9  # cubic millimetres, six times over
 
 
 class Refusal(Exception):
-    """A row of 01's table, or the number of Change 1: its number and a place."""
+    """A row of 01's table, or a number of Change 1 or 5: its number and a place."""
 
     def __init__(self, number, place=0):
         super().__init__(number, place)
@@ -46,16 +49,17 @@ class PendingFull(Exception):
 class Mesh:
     """The lent rows of a mesh and the counts in use."""
 
-    def __init__(self, positions, outs, halves, stored, vertices, edges, faces, heights=None):
+    def __init__(self, positions, outs, halves, stored, vertices, edges, faces, heights=None, changes=0):
         self.positions, self.outs, self.halves, self.stored = positions, outs, halves, stored
         self.vertices, self.edges, self.faces = vertices, edges, faces
         # Zeros are long enough wherever the positions are, for a vertex has two of those.
         self.heights = [0] * len(positions) if heights is None else heights
+        self.changes = changes  # Change 5: "the mesh's change count"
         self.left_out = 0  # flips of legalize_edges_after_removal left out, "recorded"
 
     def copy(self):
         return Mesh(self.positions[:], self.outs[:], self.halves[:], self.stored[:],
-                    self.vertices, self.edges, self.faces, self.heights[:])
+                    self.vertices, self.edges, self.faces, self.heights[:], self.changes)
 
     def rows(self):
         return (self.positions, self.outs, self.halves, self.stored, self.heights)
@@ -1044,7 +1048,48 @@ def cubic_metres(six):
 
 
 # ---------------------------------------------------------------------------------------------------
-# The public calls: 01's five, the volume, the area total and the side query
+# Quotes
+
+
+NO_QUOTE = (0, 0, 0, 0, 0, 0)
+
+
+def asked(mesh, point, centre):
+    """Change 5: "Asking gives the fate number and faces of a step's answer". Neither depends on a flip, for the
+    faces are one for each boundary edge that the walks find, so both are given also where the step would be
+    refused 9; the faces are 0 unless the fate is 1."""
+    fate, edge = fate_of(mesh, point, centre)
+    if fate != 1:
+        return (fate, 0)
+    return (fate, len(chain_of(mesh, edge, point, pseudo_angle(point, centre), centre)))
+
+
+def quote_of(mesh, point, z, centre):
+    """Change 5: "A quote carries the mesh's change count"; the point that it is for is x, y and z."""
+    return (mesh.changes, *point, z, *asked(mesh, point, centre))
+
+
+def refuse_quote(mesh, point, z, centre, quote):
+    """11, Change 5: "the quote's count or point isn't the present one, or its fate or faces differ from what
+    asking gives now". No place is named for it, so it is 0."""
+    changes, x, y, height, fate, faces = quote
+    if changes != mesh.changes:
+        raise Refusal(11)
+    if (x, y, height) != (*point, z):
+        raise Refusal(11)
+    if (fate, faces) != asked(mesh, point, centre):
+        raise Refusal(11)
+
+
+def refuse_end(mesh):
+    """12, Change 5: "the change count is at its end"; "The count stops at 4,294,967,295 and no quote is given
+    there." No place is named for it, so it is 0."""
+    if mesh.changes == MOST_CHANGES:
+        raise Refusal(12)
+
+
+# ---------------------------------------------------------------------------------------------------
+# The public calls: 01's five, the volume, the area total, the side query, and those of quotes
 
 
 class Lent:
@@ -1137,6 +1182,43 @@ def step(mesh, lent, centre, point, z=0):
     return (number, 0, answer)
 
 
+def ask(mesh, lent, centre, point, z=0):
+    """Answers (number, place, quote).  Change 5: "Both make a step's checks", so the point is counted; "on a
+    locate's rows", so pending is not lent; it takes no quote, so 12 comes after 7. Asking "leaves the mesh
+    alone". """
+    n = mesh.vertices + 1
+    try:
+        refuse_count(n)
+        refuse_mesh_rows(mesh, n)
+        refuse_ring_rows(lent, n)
+        refuse_coordinates(mesh, [point])
+        refuse_heights(mesh, [z])
+        refuse_mesh(mesh)
+        refuse_centre(mesh, centre)
+        refuse_ring(mesh, centre)
+        refuse_end(mesh)
+    except Refusal as r:
+        return (r.number, r.place, NO_QUOTE)
+    lent.clear_ring()
+    return (0, 0, quote_of(mesh, point, z, centre))
+
+
+def commit(mesh, lent, centre, point, quote, z=0):
+    """Answers (number, place, answer).  Change 5: "Committing takes the quote and the point, and gives the mesh and
+    answer that a step gives, on a step's rows"; 11 is "checked after 7", 12 "after 11"; the change count "rises by
+    one with each commit that adds a vertex or is refused 9". """
+    try:
+        refuse_run(mesh, lent, centre, [point], 0, [z])
+        refuse_quote(mesh, point, z, centre, quote)
+        refuse_end(mesh)
+    except Refusal as r:
+        return (r.number, r.place, (0, 0, 0, 0))
+    number, place, answer = step(mesh, lent, centre, point, z)
+    if answer[0] == 1 or number == 9:
+        mesh.changes += 1
+    return (number, place, answer)
+
+
 def finish(mesh, lent):
     """Answers (number, place, faces added, convexity flips, closing flips).  01: "finish those of the
     mesh and pending" """
@@ -1172,12 +1254,14 @@ def run(mesh, lent, centre, points, heights=None):
     """Answers (number, place, faces added, convexity flips, closing flips); the points' answers go to
     the row.  01: "A run takes its points in list order." Change 2: "After convexity and before the closing
     pass, points of fates 3, 4 and 5 are inserted in list order"; "Convexity passes then repeat until one adds
-    no face." Until it is in, a skipped point answers 0. """
+    no face." Until it is in, a skipped point answers 0. A run that is refused by a check leaves the change count,
+    one that is refused 9 was made. """
     heights = [0] * len(points) if heights is None else heights
     try:
         refuse_run(mesh, lent, centre, points, len(points), heights)
     except Refusal as r:
         return (r.number, r.place, 0, 0, 0)
+    mesh.changes = 0  # Change 5: "the run starts it at 0"
     capacity, skipped = len(lent.pending), []
     lent.answers[:WORDS * len(points)] = [0] * (WORDS * len(points))
     try:
