@@ -7,6 +7,7 @@ import sweep
 ROWS = "pohfe"  # the tags of Mesh.rows()
 PAST = (-2147483648, 4294967295, 4000000007, 77, 2147483647)  # what entries past the counts hold, row by row
 HIGH = "mpeohf"  # the tags of a mesh with its heights
+CHANGES = 7  # the change count of a mesh where a list does not say it
 LENT = {"p": 512, "e": 256, "o": 6144, "h": 6144, "f": 6144, "w": 1280, "y": 256}  # no row is longer
 
 

@@ -27,12 +27,13 @@ NAN = float("nan")
 
 class Case:
     """A seed, a centre, points, and the lengths of the rows lent: exactly long enough, or with room for
-    `spare` more. With `high` the heights row is written, with `zs` the points' heights."""
+    `spare` more. With `high` the heights row is written, with `zs` the points' heights, with `changes` the change
+    count."""
 
     def __init__(self, mesh, centre, points, pending=8, room=None, short=None, ring=None, spare=0, high=False,
-                 zs=None):
+                 zs=None, changes=None):
         n = mesh.vertices + len(points)
-        self.tags, self.zs = lists.HIGH if high else "mpohf", zs
+        self.tags, self.zs, self.changes = lists.HIGH if high else "mpohf", zs, changes
         self.mesh, self.centre, self.points = lists.with_past(mesh, room or n + spare), centre, points
         self.lengths = {"nodes": n + 1, "freed": n + 1, "buckets": max(16, n), "pending": pending,
                         "answers": sweep.WORDS * len(points)}
@@ -48,15 +49,23 @@ class Case:
         return sweep.Lent(*([7] * self.lengths[k] for k in ("nodes", "freed", "buckets", "pending",
                                                             "answers")))
 
-    def lines(self):
+    def start(self):
+        """The mesh as it is lent, with its change count."""
+        mesh = self.mesh.copy()
+        mesh.changes = lists.CHANGES if self.changes is None else self.changes
+        return mesh
+
+    def lines(self, pending=True):
         ring = [self.lengths[k] for k in ("nodes", "freed", "buckets")]
-        return (lists.mesh_lines(self.mesh, self.tags)
-                + [lists.line("n", ring), lists.line("q", (self.lengths["pending"], 7)),
-                   lists.line("x", map(bits, self.centre))])
+        lines = lists.mesh_lines(self.mesh, self.tags)
+        lines += [lists.line("c", [self.changes])] if self.changes is not None else []
+        lines += [lists.line("n", ring)]
+        lines += [lists.line("q", (self.lengths["pending"], 7))] if pending else []
+        return lines + [lists.line("x", map(bits, self.centre))]
 
 
 def add_run(out, name, case):
-    mesh, lent = case.mesh.copy(), case.lent()
+    mesh, lent = case.start(), case.lent()
     answer = sweep.run(mesh, lent, case.centre, case.points, case.zs)
     out.remark(name)
     flat = [c for p in case.points for c in p]
@@ -66,9 +75,11 @@ def add_run(out, name, case):
         out.add(lists.row_line("y", case.zs))
     if answer[0] in (0, 9):
         watched(case, mesh, lent, answer)
+        assert mesh.changes == 0
         out.add(*lists.mesh_lines(mesh, case.tags.upper()), lists.row_line("W", lent.answers))
     else:
         assert mesh.rows() == case.mesh.rows() and set(lent.answers + lent.pending) <= {7}
+        assert mesh.changes == case.start().changes
     out.add(lists.line("r", answer))
     return answer
 
@@ -683,6 +694,17 @@ def high_runs(rng):
             yield "random, with heights %d" % found, case, 0
 
 
+def run_changes():
+    """Name, case, number: a run at other change counts, also at the last, where it is no refusal."""
+    t, one, points = check_cases.triangle(), (1.0, 1.0), [(4, 4), (2, 2)]
+    for changes in (0, 1, sweep.MOST_CHANGES - 1, sweep.MOST_CHANGES):
+        name = "the change count %d: " % changes
+        yield name + "a run", Case(t, one, points, changes=changes), 0
+        yield name + "a run without points", Case(t, one, [], changes=changes), 0
+        yield name + "refused 9", Case(meshes.flat_fan(8), (70.0, 3.0), [(1, -1)], changes=changes), 9
+        yield name + "refused by a check", Case(t, (9.0, 9.0), points, changes=changes), 7
+
+
 def run_list():
     out, rng = lists.List("run_cases.py run"), random.Random(74)
     for points in ([], [(9, 9)], [(9, 9), (-9, 9), (9, -9)]):
@@ -729,6 +751,8 @@ def run_list():
         assert found == told and again and add_run(out, name, case)[0] == 0, (name, found, again)
     run_heights(out, random.Random(75))
     skipped_cases.add_cases(out, add_run, random.Random(76))
+    for name, case, number in run_changes():
+        assert add_run(out, name, case)[0] == number, name
     return out
 
 
