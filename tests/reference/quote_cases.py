@@ -307,7 +307,7 @@ def as_standing(mesh, centre, p, z):
     return Case(mesh, centre, [p], pending=64, high=True, zs=[z], changes=mesh.changes)
 
 
-BETWEEN = {("a step", "nothing"): 4, ("a step", "fate"): 3, ("a step", "faces"): 4, ("a step", "fate and faces"): 4,
+BETWEEN = {("a step", "nothing"): 4, ("a step", "fate"): 1, ("a step", "faces"): 4, ("a step", "fate and faces"): 4,
            ("a commit", "nothing"): 4, ("a commit", "count"): 5, ("a commit", "count and faces"): 2,
            ("a commit", "count and fate and faces"): 2, ("a finish", "nothing"): 3, ("a finish", "faces"): 2,
            ("a finish", "fate and faces"): 2, ("a run", "nothing"): 2, ("a run", "count"): 3, ("a run", "faces"): 2}
@@ -376,7 +376,7 @@ def at_random(rng):
 
 
 def calls():
-    rng = random.Random(95)
+    rng = random.Random(96)
     for maker in (refusals, row_lengths, fates, stale, filling, walks, after_nine):
         yield from maker()
     yield from stories(rng)

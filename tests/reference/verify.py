@@ -4,7 +4,7 @@ the listing program's part has to be noticed by three cases of its list.
 
     python3 verify.py                    # the lists as they stand
     python3 verify.py mutants            # and the changes
-    python3 verify.py mutants skipped    # and some of the changes: base, heights, skipped, areas, listing
+    python3 verify.py mutants skipped    # and some of the changes: base, heights, skipped, areas, quotes, listing
 """
 
 import math
@@ -19,8 +19,9 @@ HERE = os.path.dirname(os.path.abspath(__file__))
 SECONDS = 20.0  # the longest case takes two
 SHORT = 1000  # bytes of a listing's text that every change is tried on
 FEWEST = 3  # cases of the listing's list that notice a change of the listing
-NAMES = ("samples", "check", "finish", "locate", "step", "run", "volume", "listing")
-ORDER = "mpeohfnqxwvylMPEOHFWra"  # of the lines of a case, as far as it has them
+NAMES = ("samples", "check", "finish", "locate", "step", "run", "volume", "ask", "commit", "listing")
+ORDER = "mpeohfcnqxwvygGlMPEOHFWra"  # of the lines of a case, as far as it has them
+CHANGES = [7]  # the change count where the line `c` is missing
 
 
 def of_bits(b):
@@ -81,7 +82,7 @@ def mesh_of(sweep, case, tags):
     """The mesh of the lines with these tags; where the line of the heights is missing they are zeros."""
     counts, positions, heights, *rows = tags
     return sweep.Mesh(row(case[positions]), *(row(case[t]) for t in rows), *case[counts],
-                      row(case[heights]) if heights in case else None)
+                      row(case[heights]) if heights in case else None, *case.get("c", CHANGES))
 
 
 def in_order(case):
@@ -101,10 +102,12 @@ def cases(rows, last):
     assert not case
 
 
-def left_as_told(sweep, case, mesh):
-    """The counts and rows are those of `M P E O H F`, or the given ones where these are missing."""
+def left_as_told(sweep, case, mesh, changes=None):
+    """The counts and rows are those of `M P E O H F`, or the given ones where these are missing; so is the change
+    count, where no other is told."""
     told = mesh_of(sweep, case, "MPEOHF" if "M" in case else "mpeohf")
-    return mesh.rows() == told.rows() and mesh.counts() == told.counts()
+    return (mesh.rows() == told.rows() and mesh.counts() == told.counts()
+            and mesh.changes == (told.changes if changes is None else changes))
 
 
 def cleared(number, *rows):
@@ -177,12 +180,30 @@ def call_one(sweep, case):
     centre = tuple(map(of_bits, case["x"]))
     if "w" in case:
         answer = sweep.run(mesh, lent, centre, points, row(case["y"]) if "y" in case else None)
-        told = row(case["W"] if "W" in case else case["w"])
+        told, changes = row(case["W"] if "W" in case else case["w"]), 0 if "M" in case else None
     else:
         number, place, given = sweep.step(mesh, lent, centre, points[0], *case.get("y", [0]))
-        answer, told = (number, place) + tuple(given), []
-    return (list(answer) == case["r"] and left_as_told(sweep, case, mesh) and lent.answers == told
+        answer, told, changes = (number, place) + tuple(given), [], None
+    return (list(answer) == case["r"] and left_as_told(sweep, case, mesh, changes) and lent.answers == told
             and cleared(answer[0], lent.nodes, lent.freed, lent.buckets, lent.pending))
+
+
+def ask_one(sweep, case):
+    lent, mesh = sweep.Lent(*([7] * n for n in case["n"])), mesh_of(sweep, case, "mpeohf")
+    (point,), centre = pairs(case["v"][1:]), tuple(map(of_bits, case["x"]))
+    number, place, quote = sweep.ask(mesh, lent, centre, point, *case.get("y", [0]))
+    assert "c" in case and "M" not in case
+    return ([number, place] == case["r"] and list(quote) == case["G"] and left_as_told(sweep, case, mesh)
+            and cleared(number, lent.nodes, lent.freed, lent.buckets))
+
+
+def commit_one(sweep, case):
+    lent = sweep.Lent(*([7] * n for n in case["n"]), pending=row(case["q"]))
+    mesh, (point,), centre = mesh_of(sweep, case, "mpeohf"), pairs(case["v"][1:]), tuple(map(of_bits, case["x"]))
+    number, place, answer = sweep.commit(mesh, lent, centre, point, tuple(case["g"]), *case.get("y", [0]))
+    assert "c" in case
+    return ([number, place, *answer, mesh.changes] == case["r"] and left_as_told(sweep, case, mesh, mesh.changes)
+            and cleared(number, lent.nodes, lent.freed, lent.buckets, lent.pending))
 
 
 def listing_one(sweep, given, printed):
@@ -227,7 +248,8 @@ def failures(sweep, name, first_only=False):
         tests = queries()
     else:
         one, last = {"check": (check_one, "r"), "finish": (finish_one, "r"), "step": (call_one, "r"),
-                     "run": (call_one, "r"), "volume": (volume_one, "a")}[name]
+                     "run": (call_one, "r"), "volume": (volume_one, "a"), "ask": (ask_one, "r"),
+                     "commit": (commit_one, "r")}[name]
         tests = ((one, case) for case in cases(rows, last))
     for test, *arguments in tests:
         total += 1
@@ -814,6 +836,198 @@ AREAS = [  # the same of Change 3: the side test, the side query, then the area 
     ("a total of a mesh that turns right", CHECKED_AREA + "    if number:\n",
      CHECKED_AREA + "    if number not in (0, 5):\n"),
 ]
+ASK_COUNTED = "    n = mesh.vertices + 1\n"
+ASK_COUNT = "        refuse_count(n)\n"
+ASK_MESH_ROWS, ASK_RING_ROWS = "        refuse_mesh_rows(mesh, n)\n", "        refuse_ring_rows(lent, n)\n"
+ASK_COORDINATES, ASK_HEIGHTS = "        refuse_coordinates(mesh, [point])\n", "        refuse_heights(mesh, [z])\n"
+ASK_RULES = RULES + "        refuse_centre(mesh, centre)\n        refuse_ring(mesh, centre)\n"
+AT_END = "        refuse_end(mesh)\n"
+ASK_REFUSED = "    except Refusal as r:\n        return (r.number, r.place, NO_QUOTE)\n"
+ASK_CLEARED = ASK_REFUSED + "    lent.clear_ring()\n"
+ASK_GIVEN = "    return (0, 0, quote_of(mesh, point, z, centre))\n"
+QUOTED = "    return (mesh.changes, *point, z, *asked(mesh, point, centre))\n"
+NO_FACES = "    if fate != 1:\n        return (fate, 0)\n"
+FACES_ASKED = "    return (fate, len(chain_of(mesh, edge, point, pseudo_angle(point, centre), centre)))\n"
+OTHER_COUNT = "    if changes != mesh.changes:\n"
+OTHER_POINT = "    if (x, y, height) != (*point, z):\n"
+OTHER_ANSWER = "    if (fate, faces) != asked(mesh, point, centre):\n"
+ENDED = "    if mesh.changes == MOST_CHANGES:\n"
+STEPS_CHECKS = "        refuse_run(mesh, lent, centre, [point], 0, [z])\n"
+QUOTE_CHECKED = "        refuse_quote(mesh, point, z, centre, quote)\n"
+COMMIT_CHECKS = STEPS_CHECKS + QUOTE_CHECKED + AT_END
+COMMITTED = COMMIT_CHECKS + "    except Refusal as r:\n"
+RAISED = "    if answer[0] == 1 or number == 9:\n        mesh.changes += 1\n"
+RUN_STARTS = "    mesh.changes = 0  # Change 5: \"the run starts it at 0\"\n"
+RUN_REFUSED = "        refuse_run(mesh, lent, centre, points, len(points), heights)\n"
+QUOTES = [  # the same of Change 5: asking, the quote, then committing
+    ("N is the vertices in an ask", ASK_COUNTED, "    n = mesh.vertices\n"),
+    ("N is the vertices in an ask's 1", ASK_COUNT + ASK_MESH_ROWS + ASK_RING_ROWS + ASK_COORDINATES,
+     "        refuse_count(mesh.vertices)\n" + ASK_MESH_ROWS + ASK_RING_ROWS + ASK_COORDINATES),
+    ("N is the vertices in an ask's 2", ASK_MESH_ROWS + ASK_RING_ROWS + ASK_COORDINATES,
+     (ASK_MESH_ROWS + ASK_RING_ROWS).replace(", n)", ", mesh.vertices)") + ASK_COORDINATES),
+    ("N is the vertices for an ask's mesh", ASK_MESH_ROWS + ASK_RING_ROWS + ASK_COORDINATES,
+     ASK_MESH_ROWS.replace(", n)", ", mesh.vertices)") + ASK_RING_ROWS + ASK_COORDINATES),
+    ("N is the vertices for an ask's ring", ASK_RING_ROWS + ASK_COORDINATES,
+     ASK_RING_ROWS.replace(", n)", ", mesh.vertices)") + ASK_COORDINATES),
+    ("no ring rows asked of an ask", ASK_RING_ROWS + ASK_COORDINATES, ASK_COORDINATES),
+    ("the point not under 3 in an ask", ASK_COORDINATES + ASK_HEIGHTS, COORDINATES + ASK_HEIGHTS),
+    ("the point's height not under 10 in an ask", ASK_COORDINATES + ASK_HEIGHTS, ASK_COORDINATES + NO_OTHERS),
+    ("no 10 in an ask", ASK_COORDINATES + ASK_HEIGHTS, ASK_COORDINATES),
+    ("10 before 3 in an ask", ASK_COORDINATES + ASK_HEIGHTS, ASK_HEIGHTS + ASK_COORDINATES),
+    ("10 after 4 and 5 in an ask", ASK_HEIGHTS + RULES, RULES + ASK_HEIGHTS),
+    ("10 after 7 in an ask", ASK_HEIGHTS + ASK_RULES, ASK_RULES + ASK_HEIGHTS),
+    ("no 7 in an ask", ASK_RULES + AT_END, ASK_RULES.replace("        refuse_ring(mesh, centre)\n", "") + AT_END),
+    ("no 6 in an ask", ASK_RULES + AT_END, ASK_RULES.replace("        refuse_centre(mesh, centre)\n", "") + AT_END),
+    ("no 12 in an ask", AT_END + ASK_REFUSED, ASK_REFUSED),
+    *(("12 before %s in an ask" % number, ASK_COORDINATES + ASK_HEIGHTS + ASK_RULES + AT_END,
+       "".join(checks[:i] + [AT_END] + checks[i:]))
+      for checks in [[ASK_COORDINATES, ASK_HEIGHTS, RULES, "        refuse_centre(mesh, centre)\n",
+                      "        refuse_ring(mesh, centre)\n"]]
+      for i, number in enumerate(("3", "10", "4 and 5", "6", "7"))),
+    ("12 before 1 in an ask", ASK_COUNTED + "    try:\n", ASK_COUNTED + "    try:\n" + AT_END),
+    ("12 before 2 in an ask", ASK_MESH_ROWS + ASK_RING_ROWS + ASK_COORDINATES,
+     AT_END + ASK_MESH_ROWS + ASK_RING_ROWS + ASK_COORDINATES),
+    ("12 for an added point alone in an ask", AT_END + ASK_REFUSED,
+     "        if asked(mesh, point, centre)[0] == 1:\n    " + AT_END + ASK_REFUSED),
+    ("an ask's rows left as they were", ASK_CLEARED, ASK_REFUSED),
+    ("a refused ask's rows cleared", ASK_REFUSED,
+     ASK_REFUSED.replace("        return", "        lent.clear_ring()\n        return")),
+    ("a refused ask that quotes its point", ASK_REFUSED,
+     ASK_REFUSED.replace("NO_QUOTE", "(mesh.changes, *point, z, 0, 0)")),
+    ("an ask that adds its point", ASK_GIVEN,
+     "    quote = quote_of(mesh, point, z, centre)\n    one_step(mesh, point, centre, 64, z)\n    return (0, 0, quote)\n"),
+    ("an ask that raises the count", ASK_GIVEN,
+     "    quote = quote_of(mesh, point, z, centre)\n    mesh.changes += 1\n    return (0, 0, quote)\n"),
+    ("an ask that is refused 9", ASK_GIVEN,
+     "    try:\n        one_step(mesh.copy(), point, centre, 8, z)\n    except PendingFull:\n"
+     "        return (9, 0, NO_QUOTE)\n" + ASK_GIVEN),
+    ("a quote of the count 0", QUOTED, QUOTED.replace("mesh.changes", "0")),
+    ("a quote of the count after the commit", QUOTED, QUOTED.replace("mesh.changes", "mesh.changes + 1")),
+    ("a quote's x and y exchanged", QUOTED, QUOTED.replace("*point", "*point[::-1]")),
+    ("a quote without z", QUOTED, QUOTED.replace(" z,", " 0,")),
+    ("a quote's z without its sign", QUOTED, QUOTED.replace(" z,", " abs(z),")),
+    ("a quote's fate and faces exchanged", QUOTED, QUOTED.replace("centre))", "centre)[::-1])")),
+    ("a face for every fate", NO_FACES, NO_FACES.replace("(fate, 0)", "(fate, 1)")),
+    ("no faces quoted", FACES_ASKED, "    return (fate, 0)\n"),
+    ("one face quoted", FACES_ASKED, "    return (fate, 1)\n"),
+    ("the walks' faces alone quoted", FACES_ASKED, FACES_ASKED.replace("centre)))", "centre)) - 1)")),
+    ("the vertex quoted for the faces", FACES_ASKED, "    return (fate, mesh.vertices)\n"),
+    ("fate 4 quoted as added", NO_FACES, "    fate = 1 if fate == 4 else fate\n" + NO_FACES),
+    ("fate 5 quoted as 3", NO_FACES, "    fate = 3 if fate == 5 else fate\n" + NO_FACES),
+    ("fate 2 quoted as 3", NO_FACES, "    fate = 3 if fate == 2 else fate\n" + NO_FACES),
+    ("the count not compared", OTHER_COUNT, "    if False:\n"),
+    ("quotes of a later count accepted", OTHER_COUNT, "    if changes < mesh.changes:\n"),
+    ("quotes of an earlier count accepted", OTHER_COUNT, "    if changes > mesh.changes:\n"),
+    ("quotes of the count before accepted", OTHER_COUNT, "    if changes not in (mesh.changes, mesh.changes - 1):\n"),
+    ("quotes of the count 0 accepted", OTHER_COUNT, "    if changes not in (mesh.changes, 0):\n"),
+    ("8 bits of the count compared", OTHER_COUNT, "    if (changes - mesh.changes) % 256:\n"),
+    ("16 bits of the count compared", OTHER_COUNT, "    if (changes - mesh.changes) % 65536:\n"),
+    ("31 bits of the count compared", OTHER_COUNT, "    if (changes - mesh.changes) % 2 ** 31:\n"),
+    ("the point not compared", OTHER_POINT, "    if False:\n"),
+    ("x not compared", OTHER_POINT, "    if (y, height) != (point[1], z):\n"),
+    ("y not compared", OTHER_POINT, "    if (x, height) != (point[0], z):\n"),
+    ("z not compared", OTHER_POINT, "    if (x, y) != point:\n"),
+    ("x and y compared in any order", OTHER_POINT, "    if (sorted((x, y)), height) != (sorted(point), z):\n"),
+    ("z compared without its sign", OTHER_POINT, "    if (x, y, abs(height)) != (*point, abs(z)):\n"),
+    ("x and y compared without their signs", OTHER_POINT,
+     "    if (abs(x), abs(y), height) != (abs(point[0]), abs(point[1]), z):\n"),
+    ("16 bits of the point compared", OTHER_POINT,
+     "    if any((a - b) % 65536 for a, b in zip((x, y, height), (*point, z))):\n"),
+    ("the point compared by its sum", OTHER_POINT, "    if x + y + height != sum(point) + z:\n"),
+    ("z compared for an added point alone", OTHER_POINT,
+     "    if (x, y) != point or fate == 1 and height != z:\n"),
+    ("fate and faces not compared", OTHER_ANSWER, "    if False:\n"),
+    ("the fate not compared", OTHER_ANSWER, "    if faces != asked(mesh, point, centre)[1]:\n"),
+    ("the faces not compared", OTHER_ANSWER, "    if fate != asked(mesh, point, centre)[0]:\n"),
+    ("the faces compared for an added point alone", OTHER_ANSWER,
+     "    if fate != asked(mesh, point, centre)[0] or fate == 1 and faces != asked(mesh, point, centre)[1]:\n"),
+    ("more faces than quoted refused alone", OTHER_ANSWER,
+     "    if fate != asked(mesh, point, centre)[0] or faces < asked(mesh, point, centre)[1]:\n"),
+    ("fewer faces than quoted refused alone", OTHER_ANSWER,
+     "    if fate != asked(mesh, point, centre)[0] or faces > asked(mesh, point, centre)[1]:\n"),
+    ("added or not compared alone", OTHER_ANSWER,
+     "    if (fate == 1, faces) != (asked(mesh, point, centre)[0] == 1, asked(mesh, point, centre)[1]):\n"),
+    ("fates 3 to 5 taken for one", OTHER_ANSWER,
+     "    if (min(fate, 3), faces) != (min(asked(mesh, point, centre)[0], 3), asked(mesh, point, centre)[1]):\n"),
+    ("32 bits of the fate", OTHER_ANSWER, "    if (fate % 2 ** 32, faces) != asked(mesh, point, centre):\n"),
+    ("8 bits of the fate", OTHER_ANSWER, "    if (fate % 256, faces) != asked(mesh, point, centre):\n"),
+    ("63 bits of the fate", OTHER_ANSWER, "    if (fate % 2 ** 63, faces) != asked(mesh, point, centre):\n"),
+    ("32 bits of the faces", OTHER_ANSWER, "    if (fate, faces % 2 ** 32) != asked(mesh, point, centre):\n"),
+    ("8 bits of the faces", OTHER_ANSWER, "    if (fate, faces % 256) != asked(mesh, point, centre):\n"),
+    ("63 bits of the faces", OTHER_ANSWER, "    if (fate, faces % 2 ** 63) != asked(mesh, point, centre):\n"),
+    ("fate and faces compared by their sum", OTHER_ANSWER, "    if fate + faces != sum(asked(mesh, point, centre)):\n"),
+    ("a quote of the fate 0 accepted", OTHER_ANSWER,
+     "    if (fate, faces) not in ((0, 0), asked(mesh, point, centre)):\n"),
+    ("11 names the point", OTHER_ANSWER + "        raise Refusal(11)\n",
+     OTHER_ANSWER + "        raise Refusal(11, mesh.vertices)\n"),
+    ("the count's 11 names the count", OTHER_COUNT + "        raise Refusal(11)\n",
+     OTHER_COUNT + "        raise Refusal(11, mesh.changes)\n"),
+    ("12 names the count", ENDED + "        raise Refusal(12)\n", ENDED + "        raise Refusal(12, mesh.changes)\n"),
+    ("the count's end one too low", ENDED, "    if mesh.changes >= MOST_CHANGES - 1:\n"),
+    ("the count's end in 31 bits", ENDED, "    if mesh.changes >= 2 ** 31 - 1:\n"),
+    ("no 11", COMMITTED, COMMITTED.replace(QUOTE_CHECKED, "")),
+    ("no 12 in a commit", COMMITTED, COMMITTED.replace(AT_END, "")),
+    ("12 before 11", QUOTE_CHECKED + AT_END, AT_END + QUOTE_CHECKED),
+    ("12 before a step's checks", COMMIT_CHECKS, AT_END + COMMIT_CHECKS),
+    ("11 before a step's checks", COMMIT_CHECKS, "        if quote != (mesh.changes, *point, z, *quote[4:]):\n"
+     "            raise Refusal(11)\n" + COMMIT_CHECKS),
+    ("the count compared before a step's checks", COMMIT_CHECKS, "        if quote[0] != mesh.changes:\n"
+     "            raise Refusal(11)\n" + COMMIT_CHECKS),
+    ("12 for an added point alone in a commit", COMMITTED,
+     COMMITTED.replace(AT_END, "        if quote[4] == 1:\n    " + AT_END)),
+    ("12 for a point that is not added alone", COMMITTED,
+     COMMITTED.replace(AT_END, "        if quote[4] != 1:\n    " + AT_END)),
+    ("12 where the count cannot rise, after the step", COMMITTED + "        return (r.number, r.place, (0, 0, 0, 0))\n"
+     "    number, place, answer = step(mesh, lent, centre, point, z)\n",
+     COMMITTED.replace(AT_END, "") + "        return (r.number, r.place, (0, 0, 0, 0))\n"
+     "    number, place, answer = step(mesh, lent, centre, point, z)\n    if mesh.changes == MOST_CHANGES:\n"
+     "        return (12, 0, (0, 0, 0, 0))\n"),
+    ("a refused commit's ring cleared", COMMITTED, COMMITTED + "        lent.clear_ring()\n"),
+    ("a refused commit's pending cleared", COMMITTED, COMMITTED + "        lent.clear_pending()\n"),
+    ("a refused commit raises the count", COMMITTED,
+     COMMITTED + "        mesh.changes = min(MOST_CHANGES, mesh.changes + 1)\n"),
+    ("a commit refused 11 raises the count", COMMITTED,
+     COMMITTED + "        mesh.changes += r.number == 11 and mesh.changes < MOST_CHANGES\n"),
+    ("a commit refused 11 takes the quote's count", COMMITTED,
+     COMMITTED + "        mesh.changes = quote[0] if r.number == 11 else mesh.changes\n"),
+    ("a commit refused 11 places its point", COMMITTED,
+     COMMITTED + "        if r.number == 11:\n            step(mesh, lent, centre, point, z)\n"),
+    ("a commit refused 12 places its point", COMMITTED,
+     COMMITTED + "        if r.number == 12:\n            step(mesh, lent, centre, point, z)\n"),
+    ("a commit refused 12 starts the count again", COMMITTED,
+     COMMITTED + "        mesh.changes = 0 if r.number == 12 else mesh.changes\n"),
+    ("the count stays", RAISED, ""),
+    ("the count stays after 9", RAISED, RAISED.replace(" or number == 9", "")),
+    ("the count rises after 9 alone", RAISED, RAISED.replace("answer[0] == 1 or ", "")),
+    ("the count rises with every commit", RAISED, "    mesh.changes += 1\n"),
+    *(("the count rises with fate %d" % fate, RAISED, RAISED.replace("answer[0] == 1", "answer[0] in (1, %d)" % fate))
+      for fate in (2, 3, 4, 5)),
+    ("the count rises by two", RAISED, RAISED.replace("+= 1", "= min(MOST_CHANGES, mesh.changes + 2)")),
+    ("the count rises by the faces", RAISED, RAISED.replace("+= 1", "+= mesh.faces and max(1, answer[2])")),
+    ("the count rises in 31 bits", RAISED, RAISED.replace("+= 1", "= (mesh.changes + 1) % 2 ** 31")),
+    ("the count rises in 16 bits", RAISED, RAISED.replace("+= 1", "= (mesh.changes + 1) % 2 ** 16")),
+    ("the count stops one early", RAISED, RAISED.replace("+= 1", "= min(MOST_CHANGES - 1, mesh.changes + 1)")),
+    ("the count starts again at its end", RAISED, RAISED.replace("+= 1", "= (mesh.changes + 1) % MOST_CHANGES")),
+    ("the height 0 for a committed point", "    number, place, answer = step(mesh, lent, centre, point, z)\n",
+     "    number, place, answer = step(mesh, lent, centre, point)\n"),
+    ("the quote's point placed", "    number, place, answer = step(mesh, lent, centre, point, z)\n",
+     "    number, place, answer = step(mesh, lent, centre, quote[1:3], quote[3])\n", "(the same point)"),
+]
+COUNTED = [  # and of the count in the calls of 01
+    ("a step raises the count", "    lent.clear_ring()\n    lent.clear_pending()\n    return (number, 0, answer)\n",
+     "    mesh.changes += answer[0] == 1\n    lent.clear_ring()\n    lent.clear_pending()\n"
+     "    return (number, 0, answer)\n"),
+    ("a finish starts the count", "    lent.clear_pending()\n    return answer\n\n\ndef put_answer",
+     "    mesh.changes = 0\n    lent.clear_pending()\n    return answer\n\n\ndef put_answer"),
+    ("a run keeps the count", RUN_STARTS, ""),
+    ("a run starts the count at 1", RUN_STARTS, "    mesh.changes = 1\n"),
+    ("a refused run starts the count", RUN_REFUSED, "        mesh.changes = 0\n" + RUN_REFUSED),
+    ("a run refused 9 raises the count", RUN_FULL, RUN_FULL + "        mesh.changes += 1\n"),
+    ("a run raises the count", RUN_STARTS, "    mesh.changes = min(MOST_CHANGES, mesh.changes + 1)\n"),
+    ("a run counts its points", RUN_STARTS, "    mesh.changes = len(points)\n"),
+    ("a run refused 12", RUN_STARTS, "    if mesh.changes == MOST_CHANGES:\n        return (12, 0, 0, 0, 0)\n"
+     + RUN_STARTS),
+]
 LISTING = [  # the same of the listing program's part
     ("8 pending entries lent", "LISTING_PENDING = 400, 4096", "LISTING_PENDING = 400, 8"),
     ("100 pending entries lent", "LISTING_PENDING = 400, 4096", "LISTING_PENDING = 400, 100"),
@@ -864,17 +1078,21 @@ def source():
 
 def changed_as(name):
     """sweep.py changed as the list above names it."""
-    old, new = next(m[1:3] for m in MUTANTS + HEIGHTS + SKIPPING + AREAS + LISTING if m[0] == name)
+    changes = MUTANTS + HEIGHTS + SKIPPING + AREAS + QUOTES + COUNTED + LISTING
+    old, new = next(m[1:3] for m in changes if m[0] == name)
     return changed(source(), old, new)
 
 
 def mutants(only):
     text, silent = source(), 0
-    # Samples and listings have no heights, only runs and listings insert, and only samples and volumes have areas.
-    high = [n for n in NAMES if n not in ("samples", "listing")]
-    for part, changes, names in (("base", MUTANTS, NAMES), ("heights", HEIGHTS, high),
+    # Samples and listings have no heights, only runs and listings insert, and only samples and volumes have areas. The
+    # lists of asks and commits have their own changes.
+    high = [n for n in NAMES if n not in ("samples", "listing", "ask", "commit")]
+    for part, changes, names in (("base", MUTANTS, high + ["samples", "listing"]), ("heights", HEIGHTS, high),
                                  ("skipped", SKIPPING, ("run", "listing")),
-                                 ("areas", AREAS, ("samples", "volume"))):
+                                 ("areas", AREAS, ("samples", "volume")),
+                                 ("quotes", QUOTES, ("ask", "commit")),
+                                 ("quotes", COUNTED, ("step", "finish", "run"))):
         for name, old, new, *implied in changes if part in only else []:
             module = changed(text, old, new)
             noticed = [n for n in names if failures(module, n, first_only=True)[1]]
@@ -896,5 +1114,5 @@ if __name__ == "__main__":
         wrong += bad
         print("%-8s %5d cases, %d answered otherwise" % (name, total, bad))
     if len(sys.argv) > 1:
-        wrong += mutants(sys.argv[2:] or ("base", "heights", "skipped", "areas", "listing"))
+        wrong += mutants(sys.argv[2:] or ("base", "heights", "skipped", "areas", "quotes", "listing"))
     sys.exit(1 if wrong else 0)
