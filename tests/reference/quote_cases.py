@@ -20,6 +20,7 @@ import run_cases
 import selfcheck
 import sweep
 from run_cases import Case, as_given
+from selfcheck import same_mesh
 
 END = sweep.MOST_CHANGES
 COUNTS = (0, 1, 5, 65536, 2147483648, END - 1)
@@ -64,10 +65,6 @@ def stepped(case, pending):
     mesh, lent = case.start(), case.lent()
     lent.pending = [7] * pending
     return sweep.step(mesh, lent, case.centre, case.points[0], height_of(case)), mesh, lent
-
-
-def same_mesh(a, b):
-    return a.rows() == b.rows() and a.counts() == b.counts()
 
 
 def point_lines(case):

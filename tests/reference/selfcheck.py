@@ -1,6 +1,6 @@
-"""Checks of the reference itself: the listing of 01 and Change 2, M1 to M10, rare cases, volumes, areas, and an
+"""Checks of the reference itself: the listing of 01 and Change 2, M1 to M10, rare cases, volumes, areas, quotes, and an
 adversarial campaign of whole runs that asserts what demand 3 claims of them, what the search and the insertion
-of skipped points must satisfy, and what heights must and must not change.
+of skipped points must satisfy, what heights must and must not change, and what quotes and commits have of a step.
 
     python3 selfcheck.py [seconds of campaign, 20 if none is given] [seed]
 """
@@ -133,6 +133,28 @@ def areas():
     for rim, odd, halves in ((1 << 15, False, (1, 0)), (1 << 15, True, (0, (1 << 64) - (1 << 26) + 1)),
                              (1 << 16, True, (1, (1 << 64) - (1 << 26) + 1))):
         assert sweep.area_total(volume_cases.often_round(rim, odd)) == (0, 0) + halves, rim
+
+
+def quotes():
+    """Change 5 at its smallest: 01's sample, asked and committed point by point."""
+    mesh, centre = sweep.seed_triangle([(0, 0), (4, 0), (0, 4)], 6), (1.0, 1.0)
+    told = ((4, 4), (0, 4, 4, 9, 1, 1), (1, 3, 1, 0)), ((2, 2), (1, 2, 2, 9, 3, 0), (3, 0, 0, 0)), (
+        (4, 4), (1, 4, 4, 9, 2, 0), (2, 0, 0, 0)), ((1, 1), (1, 1, 1, 9, 5, 0), (5, 0, 0, 0))
+    for point, quote, answer in told:
+        assert sweep.ask(mesh, sweep.lent_for(5, 8), centre, point, 9) == (0, 0, quote)
+        assert sweep.commit(mesh, sweep.lent_for(5, 8), centre, point, quote, 9) == (0, 0, answer)
+    assert sweep.ask(mesh, sweep.lent_for(4, 8), centre, (9, 9))[0] == 2, "the point is counted"
+    mesh.changes = sweep.MOST_CHANGES - 1
+    last = sweep.ask(mesh, sweep.lent_for(5, 8), centre, (-4, 9))
+    assert sweep.commit(mesh, sweep.lent_for(5, 8), centre, (-4, 9), last[2])[0] == 0
+    assert mesh.changes == sweep.MOST_CHANGES and mesh.vertices == 5
+    for point, fate, faces in (((-4, 9), 2, 0), ((9, -4), 1, 1)):
+        assert sweep.ask(mesh, sweep.lent_for(6, 8), centre, point) == (12, 0, sweep.NO_QUOTE)
+        quote = (sweep.MOST_CHANGES, *point, 0, fate, faces)
+        assert sweep.commit(mesh, sweep.lent_for(6, 8), centre, point, quote)[0] == 12
+        assert sweep.commit(mesh, sweep.lent_for(6, 8), centre, point, last[2])[0] == 11
+    for outside, number, changes in (((9.0, 99.0), 7, sweep.MOST_CHANGES), (centre, 0, 0)):
+        assert sweep.run(mesh, sweep.lent_for(6, 8, 1), outside, [(9, -4)])[0] == number and mesh.changes == changes
 
 
 # ---------------------------------------------------------------------------------------------------
@@ -441,6 +463,52 @@ def whole_run(seed, centre, points, pending, tally, rng):
     assert settled.rows() == same.rows()
 
 
+def same_mesh(mesh, other):
+    return mesh.rows() == other.rows() and mesh.counts() == other.counts()
+
+
+def another(quote, rng):
+    """A quote that differs in one part."""
+    part = rng.randrange(6)
+    least, most = ((0, 2 ** 32 - 1), (-2 ** 31, 2 ** 31 - 1), (0, 2 ** 64 - 1))[(part > 0) + (part > 3)]
+    value = rng.choice([quote[part] - 1, quote[part] + 1, least, most, rng.randint(least, most)])
+    if value == quote[part] or not least <= value <= most:
+        return another(quote, rng)
+    return quote[:part] + (value,) + quote[part + 1:]
+
+
+def quotes_watched(seed, centre, points, pending, tally, rng):
+    """Each point asked and committed in turn. Asking gives what a step with pending entries in plenty answers; a
+    commit of its quote is the step on the same rows, and raises the count where a vertex is added, after 9 too; one
+    of another quote changes nothing."""
+    mesh = meshes.with_room(seed, seed.vertices + len(points))
+    mesh.changes = rng.choice([0, 5, sweep.MOST_CHANGES - 2])
+    for p in points:
+        n, z, given = mesh.vertices + 1, rng.randint(-9, 9), mesh.copy()
+        lent = sweep.lent_for(n, 0)
+        number, place, quote = sweep.ask(mesh, lent, centre, p, z)
+        full, alone = mesh.copy(), mesh.copy()
+        told = sweep.step(full, sweep.lent_for(n, 4096), centre, p, z)
+        assert same_mesh(mesh, given) and mesh.changes == given.changes, "asking leaves the mesh"
+        if number:
+            assert (number, place) == told[:2] or number == 12 and given.changes == sweep.MOST_CHANGES, "ask refused"
+            assert quote == sweep.NO_QUOTE and set(lent.nodes + lent.freed + lent.buckets) == {7}
+            return
+        assert quote == (mesh.changes, *p, z, told[2][0], told[2][2]) and told[0] == 0, "a quote"
+        assert not any(lent.nodes + lent.freed + lent.buckets)
+        lent = sweep.lent_for(n, pending)
+        assert sweep.commit(mesh, lent, centre, p, another(quote, rng), z) == (11, 0, (0, 0, 0, 0)), "stale"
+        assert same_mesh(mesh, given) and mesh.changes == given.changes and set(lent.nodes + lent.pending) == {7}
+        stepped = sweep.step(alone, sweep.lent_for(n, pending), centre, p, z)
+        assert alone.changes == given.changes, "a step leaves the count"
+        assert sweep.commit(mesh, lent, centre, p, quote, z) == stepped and same_mesh(mesh, alone), "a commit is a step"
+        assert not any(lent.nodes + lent.freed + lent.buckets + lent.pending)
+        added = mesh.vertices - given.vertices
+        assert mesh.changes == given.changes + added and added == (quote[4] == 1), "the count"
+        key = "commits refused 9" if stepped[0] else "commits"
+        tally[key] = tally.get(key, 0) + 1
+
+
 def random_points(rng, centre, spread, count):
     """Lists that are sorted by distance, unsorted, spiral, on few rays, repeated."""
     kind = rng.randrange(6)
@@ -536,6 +604,7 @@ def campaign(seconds, seed):
         runs += 1
         try:
             whole_run(start, centre, points, pending, tally, rng)
+            quotes_watched(start, centre, points, pending, tally, rng)
         except AssertionError:
             print("run", runs, [start.at(v) for v in range(start.vertices)], centre, points, pending)
             raise
@@ -548,5 +617,6 @@ if __name__ == "__main__":
     examples()
     heights()
     areas()
-    print("the listing, M1 to M10, the rare cases, the volumes and the areas agree")
+    quotes()
+    print("the listing, M1 to M10, the rare cases, the volumes, the areas and the quotes agree")
     campaign(float(sys.argv[1]) if len(sys.argv) > 1 else 20, int(sys.argv[2]) if len(sys.argv) > 2 else 1)

@@ -971,6 +971,10 @@ QUOTES = [  # the same of Change 5: asking, the quote, then committing
     ("12 before a step's checks", COMMIT_CHECKS, AT_END + COMMIT_CHECKS),
     ("11 before a step's checks", COMMIT_CHECKS, "        if quote != (mesh.changes, *point, z, *quote[4:]):\n"
      "            raise Refusal(11)\n" + COMMIT_CHECKS),
+    *(("11 before %d" % number, COMMITTED, COMMITTED + "        if r.number == %d and quote[:4] != (mesh.changes, *point, z):\n"
+       "            return (11, 0, (0, 0, 0, 0))\n" % number) for number in (1, 2, 3, 10, 4, 5, 6, 7)),
+    *(("12 before %d in a commit" % number, COMMITTED, COMMITTED + "        if r.number == %d and mesh.changes == MOST_CHANGES:\n"
+       "            return (12, 0, (0, 0, 0, 0))\n" % number) for number in (1, 2, 3, 10, 4, 5, 6, 7, 11)),
     ("the count compared before a step's checks", COMMIT_CHECKS, "        if quote[0] != mesh.changes:\n"
      "            raise Refusal(11)\n" + COMMIT_CHECKS),
     ("12 for an added point alone in a commit", COMMITTED,
