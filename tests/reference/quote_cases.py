@@ -239,9 +239,10 @@ def stale():
 def filling():
     """Where a step is refused 9 the point is quoted as added, and the commit raises the count."""
     for i, (name, case, _) in enumerate(run_cases.filling()):
-        zs = [-heights.LIMIT + i]
-        mesh = heights.put(case.mesh, more=1) if i % 2 else case.mesh
-        case = as_given(mesh, case.centre, case.points, zs, changes=COUNTS[i % 5]) if i % 2 else at_count(case, 6)
+        case = at_count(case, 6)
+        if i % 2:
+            case = as_given(heights.put(case.mesh, more=1), case.centre, case.points, [i - heights.LIMIT],
+                            changes=COUNTS[i % 5])
         yield from both(name, case, 9)
         enough = lending(case, run_cases.least_pending(case))
         yield name + ", with as many as it takes: commit", enough, fresh(case), 0
