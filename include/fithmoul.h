@@ -1,15 +1,16 @@
-/* The calls of the library: check a mesh, locate an angle, step one point, finish a mesh, run a list of points,
- * the volume between a mesh and a level, the area total of a mesh, and the side query, the area of one triangle.
+/* The calls of the library: check a mesh, locate an angle, step one point, finish a mesh, run a list of points, ask
+ * what a point would do, commit a point by its quote, the volume between a mesh and a level, the area total of a mesh,
+ * and the side query, the area of one triangle.
  *
  * Link with libfithmoul.a, which `rt staticlib fithmoul` writes to target/staticlib/ (Linux, x86-64). Nothing else is
  * needed. crates/fithmoul/src/lib.rt has the same calls with their contracts, which are proved; docs/SPECIFICATION.md
  * says what they mean.
  *
- * A CALL TAKES ANYTHING. Whatever the counts, rows, centre, angle, points and level are, it returns, reads and writes
- * inside the rows alone, and answers a result or one numbered refusal. What C cannot check is the caller's: a pointer
- * is not NULL (not even of a row of length 0) and is aligned for its type; there are as many entries behind it as the
- * length after it says; a row that a call may write overlaps no other row, and nobody else uses it meanwhile. No call
- * keeps a pointer, allocates, or uses anything global: calls on different rows may run at the same time.
+ * A CALL TAKES ANYTHING. Whatever the counts, rows, centre, angle, points, quote and level are, it returns, reads and
+ * writes inside the rows alone, and answers a result or one numbered refusal. What C cannot check is the caller's: a
+ * pointer is not NULL (not even of a row of length 0) and is aligned for its type; there are as many entries behind it
+ * as the length after it says; a row that a call may write overlaps no other row, and nobody else uses it meanwhile. No
+ * call keeps a pointer, allocates, or uses anything global: calls on different rows may run at the same time.
  *
  * The caller's too is the floating-point environment: rounding to nearest, subnormal numbers kept, as C starts a
  * program. Angles are doubles, and where a program sets flush-to-zero (linking with gcc's -ffast-math does) or another
@@ -18,11 +19,12 @@
  *
  * COORDINATES are whole millimetres from -16,777,216 to 16,777,216. A centre is two doubles in the same range. HEIGHTS,
  * of vertices and of points, and a volume's level are whole millimetres from -1,048,576 to 1,048,576. Nothing but a
- * volume depends on heights that are in range: links, answers and counts are the same whatever they are.
+ * volume depends on heights that are in range: links, answers and counts are the same whatever they are. A quote is for
+ * a point with its height.
  *
  * THE MESH'S ROWS, for N vertices. A call may need room for vertices that it adds: N is `vertices` in a check, locate,
- * finish, volume and area total, one more in a step, and `vertices` plus the number of points in a run. A row may be
- * longer; entries past the counts in use are never read for their meaning, nor changed.
+ * finish, volume and area total, one more in a step, ask and commit, and `vertices` plus the number of points in a run.
+ * A row may be longer; entries past the counts in use are never read for their meaning, nor changed.
  *
  *   positions  2N   int32_t   x and y of vertex v at 2v and 2v + 1
  *   heights     N   int32_t   the height of vertex v at v
@@ -34,6 +36,18 @@
  *
  * `vertices`, `edges` (half as many as half-edges) and `faces` (with face 0) count what is in use. A result has the
  * counts after the call.
+ *
+ * THE CHANGE COUNT of a mesh, `changes`, goes by value beside those counts. A run starts it at 0, where it is accepted
+ * and where it is refused 9; a commit that adds a vertex or is refused 9 raises it by one. Otherwise it stays: a call
+ * that is not given it leaves it alone, a step and a finish too. It ends at 4,294,967,295, where no quote is given. For
+ * a mesh that no run has made, start it at 0.
+ *
+ * A QUOTE is what asking answers and committing takes: the mesh's change count, a point, and the fate and the faces of
+ * that point's step. It names neither mesh nor centre: commit it on the mesh and about the centre that it is for. A
+ * commit holds its count and point against those that it is given, its fate and faces against those that asking gives
+ * now, and is refused 11 where one differs. So a commit that adds a vertex leaves no quote of its mesh that still
+ * holds, its own included. A step or a finish in between is noticed only where it has changed the point's fate or
+ * faces, and so is a run where the count was 0 before it: after one of these ask again.
  *
  * THE OTHER ROWS. They hold nothing between calls, and may be lent with anything in them.
  *
@@ -61,12 +75,16 @@
  *    4  every call          the rows are no mesh: a link is wrong or outside the counts, a face is no triangle, and so
  *                           on (docs/SPECIFICATION.md)
  *    5  every call          a triangle does not turn strictly left. place: the lowest such face
- *    6  locate, step, run   the centre is not finite, is out of range, or is a boundary vertex
- *    7  locate, step, run   seen from the centre, the boundary's angles do not go round once, strictly rising, with
- *                           gaps of at most 3/4 of a turn
+ *    6  locate, step, run,  the centre is not finite, is out of range, or is a boundary vertex
+ *       ask, commit
+ *    7  locate, step, run,  seen from the centre, the boundary's angles do not go round once, strictly rising, with
+ *       ask, commit         gaps of at most 3/4 of a turn
  *    8  locate              the angle is NaN, below 0.0 or above 1.0
- *    9  step, finish, run   the pending row is too short for a flip, which is not made. place: in a run the index of
- *                           the point whose step or insertion it was, or the number of points where the finish was
+ *   11  commit              the quote's change count or point is not the one that is given, or its fate or faces are
+ *                           not those that asking gives now
+ *   12  ask, commit         the change count is at its end, 4,294,967,295
+ *    9  step, finish, run,  the pending row is too short for a flip, which is not made. place: in a run the index of
+ *       commit              the point whose step or insertion it was, or the number of points where the finish was
  *                           refused; otherwise 0
  *
  * AFTERWARDS. Every refusal but 9 leaves every row as it was. After 9 and after every accepted call the rows nodes,
@@ -81,10 +99,10 @@
  *   in an insertion   points that were added or dropped keep their answers, also behind `place`, and so do the skipped
  *                     points before `place`, which are in; the one named and the skipped ones after it are zeros
  *
- * A vertex that a step or a run has added, refused 9 or not, has its point's position and height. A skipped point that
- * is put in on a vertex (FITHMOUL_ON_VERTEX) gives its height to that vertex, in list order, so that the last one
- * counts; other vertices at that position keep theirs, and a point that is dropped leaves no height. Otherwise no call
- * moves a vertex or changes its height.
+ * A vertex that a step, a commit or a run has added, refused 9 or not, has its point's position and height. A skipped
+ * point that is put in on a vertex (FITHMOUL_ON_VERTEX) gives its height to that vertex, in list order, so that the
+ * last one counts; other vertices at that position keep theirs, and a point that is dropped leaves no height. Otherwise
+ * no call moves a vertex or changes its height.
  */
 #ifndef FITHMOUL_H
 #define FITHMOUL_H
@@ -117,8 +135,8 @@ typedef struct fithmoul_node {
     uint32_t right;
 } fithmoul_node;
 
-/* What became of a point. A lone step answers 1 to 5. A run answers 1, 2 and 6 to 9: a point that its steps skip, for
- * the reasons 3, 4 and 5, is put in after the convexity passes. */
+/* What became of a point. A lone step or a commit answers 1 to 5, and a quote has one of them. A run answers 1, 2 and 6
+ * to 9: a point that its steps skip, for the reasons 3, 4 and 5, is put in after the convexity passes. */
 enum {
     FITHMOUL_ADDED = 1,       /* a step made it the vertex `vertex` */
     FITHMOUL_DROPPED = 2,     /* it equals an end of the boundary edge at its angle */
@@ -161,6 +179,32 @@ typedef struct fithmoul_step_result {
     fithmoul_point_answer answer; /* all 0 where refused */
 } fithmoul_step_result;
 
+/* What a point would do, 32 bytes. It goes to a commit by value, and stays the caller's. */
+typedef struct fithmoul_quote {
+    uint32_t changes; /* the change count of the mesh that was asked */
+    int32_t x;        /* the point */
+    int32_t y;
+    int32_t z;
+    uint64_t fate;  /* 1 to 5, as a step answers it */
+    uint64_t faces; /* inner faces that the step adds: 0 unless the fate is 1 */
+} fithmoul_quote;
+
+typedef struct fithmoul_ask_result {
+    uint32_t refusal;
+    uint32_t place;
+    fithmoul_quote quote; /* all 0 where refused */
+} fithmoul_ask_result;
+
+typedef struct fithmoul_commit_result {
+    uint32_t refusal;
+    uint32_t place;
+    uint32_t vertices; /* the counts after the call, refused or not */
+    uint32_t edges;
+    uint32_t faces;
+    uint32_t changes;
+    fithmoul_point_answer answer; /* all 0 where refused */
+} fithmoul_commit_result;
+
 typedef struct fithmoul_finish_result {
     uint32_t refusal;
     uint32_t place;
@@ -171,6 +215,18 @@ typedef struct fithmoul_finish_result {
     uint64_t convex_flips;
     uint64_t closing_flips;
 } fithmoul_finish_result;
+
+typedef struct fithmoul_run_result {
+    uint32_t refusal;
+    uint32_t place;
+    uint32_t vertices; /* the counts after the call, refused or not */
+    uint32_t edges;
+    uint32_t faces;
+    uint32_t changes;     /* 0 where accepted or refused 9, else as given */
+    uint32_t faces_added; /* by the convexity passes; this and the flips are 0 where refused */
+    uint64_t convex_flips;
+    uint64_t closing_flips;
+} fithmoul_run_result;
 
 /* Six times a volume in cubic millimetres is past 64 bits: a number of 128 bits in two's complement, its high and its
  * low half. Where the compiler has such a type it is
@@ -256,8 +312,8 @@ fithmoul_finish_result fithmoul_finish(
  * two for each point. Refusals 1 to 7, 9 and 10. Leaves the finished mesh, an answer for each point in `answers`, and
  * zeros in the other rows. The sweep grows outwards: sort the points by their distance from the centre. In another
  * order the mesh is as good, but each skipped point pays for a search through the mesh. */
-fithmoul_finish_result fithmoul_run(
-    uint32_t vertices, uint32_t edges, uint32_t faces,
+fithmoul_run_result fithmoul_run(
+    uint32_t vertices, uint32_t edges, uint32_t faces, uint32_t changes,
     int32_t *positions, size_t positions_length,
     int32_t *heights, size_t heights_length,
     uint32_t *outs, size_t outs_length,
@@ -271,6 +327,36 @@ fithmoul_finish_result fithmoul_run(
     double center_x, double center_y,
     const int32_t *points, size_t points_length,
     const int32_t *point_heights, size_t point_heights_length);
+
+/* What would a point do? A step's checks and its decision, on a locate's rows: the quote has the fate and the faces of
+ * the step's answer, also where the step would be refused 9. Refusals 1 to 7, 10 and 12. Leaves the mesh alone, and
+ * zeros in nodes, freed and buckets. */
+fithmoul_ask_result fithmoul_ask(
+    uint32_t vertices, uint32_t edges, uint32_t faces, uint32_t changes,
+    const int32_t *positions, size_t positions_length,
+    const int32_t *heights, size_t heights_length,
+    const uint32_t *outs, size_t outs_length,
+    const uint32_t *halves, size_t halves_length,
+    const uint32_t *adjacent, size_t adjacent_length,
+    fithmoul_node *nodes, size_t nodes_length,
+    uint32_t *freed, size_t freed_length,
+    uint32_t *buckets, size_t buckets_length,
+    double center_x, double center_y, int32_t x, int32_t y, int32_t z);
+
+/* A step of a point that was asked about, where its quote still holds: the mesh, its heights and the answer are the
+ * step's. Refusals 1 to 7, and 9 to 12. Leaves the mesh after the step, and zeros in the other rows. */
+fithmoul_commit_result fithmoul_commit(
+    uint32_t vertices, uint32_t edges, uint32_t faces, uint32_t changes,
+    int32_t *positions, size_t positions_length,
+    int32_t *heights, size_t heights_length,
+    uint32_t *outs, size_t outs_length,
+    uint32_t *halves, size_t halves_length,
+    uint32_t *adjacent, size_t adjacent_length,
+    fithmoul_node *nodes, size_t nodes_length,
+    uint32_t *freed, size_t freed_length,
+    uint32_t *buckets, size_t buckets_length,
+    uint32_t *pending, size_t pending_length,
+    double center_x, double center_y, int32_t x, int32_t y, int32_t z, fithmoul_quote quote);
 
 /* The volume between a mesh and a level, positive where the mesh is above it: six times it is, exactly, the sum over
  * all triangles of the doubled area times (the three heights minus three times the level). Where triangles overlap each
