@@ -18,10 +18,13 @@
 //! # }
 //! ```
 //!
+//! [`Mesh::ask`] tells what a point would do before [`Mesh::commit`] does it.
+//!
 //! Coordinates are whole millimetres from -16,777,216 to 16,777,216, heights and levels from -1,048,576 to 1,048,576; a mesh has at most 1,000,000
 //! vertices. Nothing but a volume depends on heights. In a finished mesh every triangle turns left (counterclockwise), no corner of the boundary turns left,
 //! and no triangle's circle strictly contains the far vertex of a neighbour.
 
+mod quote;
 mod refusal;
 mod rows;
 pub mod sys;
@@ -29,6 +32,7 @@ pub mod sys;
 use std::cmp::Reverse;
 use std::fmt;
 
+pub use quote::Quote;
 pub use refusal::{LoadError, Refusal};
 use rows::{Rows, Scratch};
 
@@ -44,8 +48,9 @@ pub const MOST_VERTICES: usize = 1_000_000;
 /// x, y and height.
 pub type Point = [i32; 3];
 
-/// What became of a point. A lone step skips points that are `NotLeft`, `Unsound` or `AtCenter`. A run puts those in after its convexity
-/// passes, so that its answers have `InTriangle`, `OnEdge`, `Outside` or `OnVertex` in their place.
+/// What became of a point, or in a quote would become of it. A lone step or a commit skips points that are `NotLeft`, `Unsound` or
+/// `AtCenter`. A run puts those in after its convexity passes, so that its answers have `InTriangle`, `OnEdge`, `Outside` or `OnVertex` in
+/// their place.
 #[derive(Clone, Copy, Debug, PartialEq, Eq)]
 pub enum Fate {
     /// 1: a step made it this vertex.
@@ -71,6 +76,22 @@ pub enum Fate {
 }
 
 impl Fate {
+    /// A fate by its number; the vertex counts where the fate names one.
+    pub(crate) fn of(number: u64, vertex: u32) -> Fate {
+        match number {
+            1 => Fate::Added(vertex),
+            2 => Fate::Dropped,
+            3 => Fate::NotLeft,
+            4 => Fate::Unsound,
+            5 => Fate::AtCenter,
+            6 => Fate::InTriangle(vertex),
+            7 => Fate::OnEdge(vertex),
+            8 => Fate::Outside(vertex),
+            9 => Fate::OnVertex(vertex),
+            _ => Fate::NotReached,
+        }
+    }
+
     /// The vertex that the point is, or was put in on. A dropped point names none.
     pub fn vertex(self) -> Option<u32> {
         match self {
@@ -96,18 +117,7 @@ pub struct Answer {
 
 impl Answer {
     pub fn fate(&self) -> Fate {
-        match self.fate {
-            1 => Fate::Added(self.vertex as u32),
-            2 => Fate::Dropped,
-            3 => Fate::NotLeft,
-            4 => Fate::Unsound,
-            5 => Fate::AtCenter,
-            6 => Fate::InTriangle(self.vertex as u32),
-            7 => Fate::OnEdge(self.vertex as u32),
-            8 => Fate::Outside(self.vertex as u32),
-            9 => Fate::OnVertex(self.vertex as u32),
-            _ => Fate::NotReached,
-        }
+        Fate::of(self.fate, self.vertex as u32)
     }
 }
 
@@ -154,6 +164,10 @@ pub struct Loaded {
 }
 
 /// A mesh with its rows. Vertices, edges, half-edges and faces are numbers; half-edges 2u and 2u + 1 are each other's reverse; face 0 is the outer one.
+///
+/// It has a change count too, by which a commit knows whether its quote is of the mesh as it stands. That starts at 0, and again with each
+/// run, also one that is refused as [`Refusal::Pending`]; a commit that adds a vertex or is refused so raises it by one. Nothing else
+/// changes it.
 #[derive(Clone)]
 pub struct Mesh {
     rows: Rows,
@@ -246,7 +260,8 @@ impl Mesh {
     pub fn finish(&mut self) -> Result<Totals, Refusal> {
         let result = self.rows.finish(&mut Scratch::new(self.vertex_count()));
         refusal::of(result.refusal, result.place)?;
-        Ok(totals_of(&result))
+        let sys::FinishResult { faces_added: faces, convex_flips, closing_flips, .. } = result;
+        Ok(Totals { faces, convex_flips, closing_flips })
     }
 
     /// A step for each point in list order, about a centre inside the mesh; then the convexity passes, the points that the steps skipped,
@@ -263,7 +278,28 @@ impl Mesh {
         let mut answers = rows::zeros(points.len());
         let result = self.rows.run(&mut Scratch::new(room), &mut answers, center, points);
         refusal::of(result.refusal, result.place)?;
-        Ok(Run { answers, totals: totals_of(&result) })
+        let sys::RunResult { faces_added: faces, convex_flips, closing_flips, .. } = result;
+        Ok(Run { answers, totals: Totals { faces, convex_flips, closing_flips } })
+    }
+
+    /// What a point would do in a step about a centre. The mesh stays as it is.
+    ///
+    /// Whether the pending list is long enough shows only when the point is committed.
+    pub fn ask(&self, center: [f64; 2], point: Point) -> Result<Quote, Refusal> {
+        let result = self.rows.ask(&mut Scratch::new(self.vertex_count() + 1), center, point);
+        refusal::of(result.refusal, result.place)?;
+        Ok(Quote { numbers: result.quote, center, vertices: self.rows.counts.vertices })
+    }
+
+    /// The step of the point that was asked about, about the same centre, where its quote still holds; otherwise [`Refusal::Quote`]. The
+    /// quote is used up either way.
+    ///
+    /// After [`Refusal::Pending`] the mesh is good, and may have grown.
+    pub fn commit(&mut self, quote: Quote) -> Result<Answer, Refusal> {
+        let room = self.rows.reserve(1);
+        let result = self.rows.commit(&mut Scratch::new(room), quote.center, quote.numbers);
+        refusal::of(result.refusal, result.place)?;
+        Ok(result.answer)
     }
 
     /// The volume between the mesh and a level.
@@ -300,6 +336,17 @@ impl Mesh {
     /// Faces, the outer one counted.
     pub fn face_count(&self) -> usize {
         self.rows.counts.faces as usize
+    }
+
+    /// The change count.
+    pub fn change_count(&self) -> u32 {
+        self.rows.counts.changes
+    }
+
+    /// The same mesh with another change count, for one that was stored with its count: [`Mesh::from_rows`] starts at 0.
+    pub fn with_change_count(mut self, changes: u32) -> Mesh {
+        self.rows.counts.changes = changes;
+        self
     }
 
     pub fn positions(&self) -> &[[i32; 2]] {
@@ -353,7 +400,7 @@ impl Mesh {
     }
 }
 
-/// The same counts, positions, heights and links: out edges, half-edges, stored edges.
+/// The same positions, heights and links: out edges, half-edges, stored edges. Change counts may differ.
 impl PartialEq for Mesh {
     fn eq(&self, other: &Mesh) -> bool {
         self.positions() == other.positions()
@@ -375,14 +422,6 @@ impl fmt::Debug for Mesh {
             self.edge_count(),
             self.face_count()
         )
-    }
-}
-
-fn totals_of(result: &sys::FinishResult) -> Totals {
-    Totals {
-        faces: result.faces_added,
-        convex_flips: result.convex_flips,
-        closing_flips: result.closing_flips,
     }
 }
 

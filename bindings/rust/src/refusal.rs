@@ -28,6 +28,11 @@ pub enum Refusal {
     Pending { point: u32 },
     /// 10: a height, of a vertex or of a point, or a level is outside -1,048,576..1,048,576. It comes straight after 3, and names no vertex.
     Height,
+    /// 11: the quote does not hold any more: the mesh's change count is another, or the point would have another fate or other faces. Ask
+    /// again.
+    Quote,
+    /// 12: the mesh's change count is at its end, 4,294,967,295. A run starts it at 0 again, one of no points too.
+    Changes,
 }
 
 impl Refusal {
@@ -44,6 +49,8 @@ impl Refusal {
             Refusal::Angle => 8,
             Refusal::Pending { .. } => 9,
             Refusal::Height => 10,
+            Refusal::Quote => 11,
+            Refusal::Changes => 12,
         }
     }
 }
@@ -61,7 +68,9 @@ pub(crate) fn of(number: u32, place: u32) -> Result<(), Refusal> {
         7 => Refusal::Ring,
         8 => Refusal::Angle,
         9 => Refusal::Pending { point: place },
-        _ => Refusal::Height,
+        10 => Refusal::Height,
+        11 => Refusal::Quote,
+        _ => Refusal::Changes,
     })
 }
 
@@ -80,6 +89,8 @@ impl fmt::Display for Refusal {
             Refusal::Angle => write!(f, "the angle is not from 0.0 to 1.0"),
             Refusal::Pending { point } => write!(f, "the pending list is full at point {point}"),
             Refusal::Height => write!(f, "a height or level is outside -1,048,576..1,048,576"),
+            Refusal::Quote => write!(f, "the quote is not what asking gives now"),
+            Refusal::Changes => write!(f, "the change count is at its end, 4,294,967,295"),
         }
     }
 }

@@ -3,8 +3,8 @@
 use std::alloc::{self, Layout};
 
 use crate::refusal::Refusal;
-use crate::sys::{self, AreaTotalResult, CheckResult, FinishResult, LocateResult, Node, SideQueryResult};
-use crate::sys::{StepResult, VolumeResult};
+use crate::sys::{self, AreaTotalResult, AskResult, CheckResult, CommitResult, FinishResult, LocateResult};
+use crate::sys::{Node, RunResult, SideQueryResult, StepResult, VolumeResult};
 use crate::{Answer, Point, MOST_VERTICES};
 
 #[derive(Clone, Copy, Debug, PartialEq, Eq)]
@@ -12,9 +12,11 @@ pub struct Counts {
     pub vertices: u32,
     pub edges: u32,
     pub faces: u32,
+    /// The change count.
+    pub changes: u32,
 }
 
-/// The mesh's rows, with room for some vertices more than are in use.
+/// The mesh's rows, with room for at least one vertex more than are in use: an ask needs it and, since it changes nothing, cannot make it.
 #[derive(Clone)]
 pub struct Rows {
     pub counts: Counts,
@@ -93,8 +95,12 @@ impl Rows {
         if outs.len() != n || halves.len() % 2 != 0 {
             return Err(Refusal::Rules);
         }
-        let counts =
-            Counts { vertices: number(n)?, edges: number(halves.len() / 2)?, faces: number(adjacent.len())? };
+        let counts = Counts {
+            vertices: number(n)?,
+            edges: number(halves.len() / 2)?,
+            faces: number(adjacent.len())?,
+            changes: 0,
+        };
         let (positions, heights) = split(points);
         let mut rows = Rows {
             counts,
@@ -104,7 +110,7 @@ impl Rows {
             halves: halves.to_vec(),
             adjacent: adjacent.to_vec(),
         };
-        rows.grow(n);
+        rows.grow(n + 1);
         Ok(rows)
     }
 
@@ -123,13 +129,13 @@ impl Rows {
         grown(&mut self.adjacent, 2 * vertices, |n| vec![0; n]);
     }
 
-    /// Room for so many vertices more; how many there is room for. Past the limit nothing is made: the call refuses.
+    /// Room for so many vertices more, and one; how many there will be at most. Past the limit nothing is made: the call refuses.
     pub fn reserve(&mut self, more: usize) -> usize {
         let vertices = (self.counts.vertices as usize).saturating_add(more);
         if vertices > MOST_VERTICES {
             return 0;
         }
-        self.grow(vertices);
+        self.grow(vertices + 1);
         vertices
     }
 
@@ -154,7 +160,7 @@ impl Rows {
     }
 
     pub fn check(&self) -> CheckResult {
-        let Counts { vertices, edges, faces } = self.counts;
+        let Counts { vertices, edges, faces, .. } = self.counts;
         unsafe {
             sys::fithmoul_check(
                 vertices,
@@ -175,7 +181,7 @@ impl Rows {
     }
 
     pub fn locate(&self, scratch: &mut Scratch, [x, y]: [f64; 2], angle: f64) -> LocateResult {
-        let Counts { vertices, edges, faces } = self.counts;
+        let Counts { vertices, edges, faces, .. } = self.counts;
         unsafe {
             sys::fithmoul_locate(
                 vertices,
@@ -205,7 +211,7 @@ impl Rows {
     }
 
     pub fn step(&mut self, scratch: &mut Scratch, [x, y]: [f64; 2], point: Point) -> StepResult {
-        let Counts { vertices, edges, faces } = self.counts;
+        let Counts { vertices, edges, faces, .. } = self.counts;
         let result = unsafe {
             sys::fithmoul_step(
                 vertices,
@@ -236,12 +242,13 @@ impl Rows {
                 point[2],
             )
         };
-        self.counts = Counts { vertices: result.vertices, edges: result.edges, faces: result.faces };
+        let StepResult { vertices, edges, faces, .. } = result;
+        self.counts = Counts { vertices, edges, faces, ..self.counts };
         result
     }
 
     pub fn finish(&mut self, scratch: &mut Scratch) -> FinishResult {
-        let Counts { vertices, edges, faces } = self.counts;
+        let Counts { vertices, edges, faces, .. } = self.counts;
         let result = unsafe {
             sys::fithmoul_finish(
                 vertices,
@@ -261,7 +268,8 @@ impl Rows {
                 scratch.pending.len(),
             )
         };
-        self.counts = Counts { vertices: result.vertices, edges: result.edges, faces: result.faces };
+        let FinishResult { vertices, edges, faces, .. } = result;
+        self.counts = Counts { vertices, edges, faces, ..self.counts };
         result
     }
 
@@ -271,14 +279,15 @@ impl Rows {
         answers: &mut [Answer],
         [x, y]: [f64; 2],
         points: &[Point],
-    ) -> FinishResult {
-        let Counts { vertices, edges, faces } = self.counts;
+    ) -> RunResult {
+        let Counts { vertices, edges, faces, changes } = self.counts;
         let (points, point_heights) = split(points);
         let result = unsafe {
             sys::fithmoul_run(
                 vertices,
                 edges,
                 faces,
+                changes,
                 self.positions.as_mut_ptr().cast(),
                 2 * self.positions.len(),
                 self.heights.as_mut_ptr(),
@@ -307,12 +316,85 @@ impl Rows {
                 point_heights.len(),
             )
         };
-        self.counts = Counts { vertices: result.vertices, edges: result.edges, faces: result.faces };
+        let RunResult { vertices, edges, faces, changes, .. } = result;
+        self.counts = Counts { vertices, edges, faces, changes };
+        result
+    }
+
+    pub fn ask(&self, scratch: &mut Scratch, [x, y]: [f64; 2], point: Point) -> AskResult {
+        let Counts { vertices, edges, faces, changes } = self.counts;
+        unsafe {
+            sys::fithmoul_ask(
+                vertices,
+                edges,
+                faces,
+                changes,
+                self.positions.as_ptr().cast(),
+                2 * self.positions.len(),
+                self.heights.as_ptr(),
+                self.heights.len(),
+                self.outs.as_ptr(),
+                self.outs.len(),
+                self.halves.as_ptr().cast(),
+                4 * self.halves.len(),
+                self.adjacent.as_ptr(),
+                self.adjacent.len(),
+                scratch.nodes.as_mut_ptr(),
+                scratch.nodes.len(),
+                scratch.freed.as_mut_ptr(),
+                scratch.freed.len(),
+                scratch.buckets.as_mut_ptr(),
+                scratch.buckets.len(),
+                x,
+                y,
+                point[0],
+                point[1],
+                point[2],
+            )
+        }
+    }
+
+    pub fn commit(&mut self, scratch: &mut Scratch, [x, y]: [f64; 2], quote: sys::Quote) -> CommitResult {
+        let Counts { vertices, edges, faces, changes } = self.counts;
+        let result = unsafe {
+            sys::fithmoul_commit(
+                vertices,
+                edges,
+                faces,
+                changes,
+                self.positions.as_mut_ptr().cast(),
+                2 * self.positions.len(),
+                self.heights.as_mut_ptr(),
+                self.heights.len(),
+                self.outs.as_mut_ptr(),
+                self.outs.len(),
+                self.halves.as_mut_ptr().cast(),
+                4 * self.halves.len(),
+                self.adjacent.as_mut_ptr(),
+                self.adjacent.len(),
+                scratch.nodes.as_mut_ptr(),
+                scratch.nodes.len(),
+                scratch.freed.as_mut_ptr(),
+                scratch.freed.len(),
+                scratch.buckets.as_mut_ptr(),
+                scratch.buckets.len(),
+                scratch.pending.as_mut_ptr(),
+                scratch.pending.len(),
+                x,
+                y,
+                quote.x,
+                quote.y,
+                quote.z,
+                quote,
+            )
+        };
+        let CommitResult { vertices, edges, faces, changes, .. } = result;
+        self.counts = Counts { vertices, edges, faces, changes };
         result
     }
 
     pub fn volume(&self, level: i32) -> VolumeResult {
-        let Counts { vertices, edges, faces } = self.counts;
+        let Counts { vertices, edges, faces, .. } = self.counts;
         unsafe {
             sys::fithmoul_volume(
                 vertices,
@@ -334,7 +416,7 @@ impl Rows {
     }
 
     pub fn area_total(&self) -> AreaTotalResult {
-        let Counts { vertices, edges, faces } = self.counts;
+        let Counts { vertices, edges, faces, .. } = self.counts;
         unsafe {
             sys::fithmoul_area_total(
                 vertices,

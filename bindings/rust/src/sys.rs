@@ -39,6 +39,38 @@ pub struct StepResult {
     pub answer: Answer,
 }
 
+/// What a point would do, 32 bytes. It goes to a commit by value.
+#[repr(C)]
+#[derive(Clone, Copy, Debug, Default, PartialEq, Eq)]
+pub struct Quote {
+    pub changes: u32,
+    pub x: i32,
+    pub y: i32,
+    pub z: i32,
+    pub fate: u64,
+    pub faces: u64,
+}
+
+#[repr(C)]
+#[derive(Clone, Copy, Debug, Default, PartialEq, Eq)]
+pub struct AskResult {
+    pub refusal: u32,
+    pub place: u32,
+    pub quote: Quote,
+}
+
+#[repr(C)]
+#[derive(Clone, Copy, Debug, Default, PartialEq, Eq)]
+pub struct CommitResult {
+    pub refusal: u32,
+    pub place: u32,
+    pub vertices: u32,
+    pub edges: u32,
+    pub faces: u32,
+    pub changes: u32,
+    pub answer: Answer,
+}
+
 #[repr(C)]
 #[derive(Clone, Copy, Debug, Default, PartialEq, Eq)]
 pub struct FinishResult {
@@ -47,6 +79,20 @@ pub struct FinishResult {
     pub vertices: u32,
     pub edges: u32,
     pub faces: u32,
+    pub faces_added: u32,
+    pub convex_flips: u64,
+    pub closing_flips: u64,
+}
+
+#[repr(C)]
+#[derive(Clone, Copy, Debug, Default, PartialEq, Eq)]
+pub struct RunResult {
+    pub refusal: u32,
+    pub place: u32,
+    pub vertices: u32,
+    pub edges: u32,
+    pub faces: u32,
+    pub changes: u32,
     pub faces_added: u32,
     pub convex_flips: u64,
     pub closing_flips: u64,
@@ -172,6 +218,7 @@ extern "C" {
         vertices: u32,
         edges: u32,
         faces: u32,
+        changes: u32,
         positions: *mut i32,
         positions_length: usize,
         heights: *mut i32,
@@ -198,7 +245,66 @@ extern "C" {
         points_length: usize,
         point_heights: *const i32,
         point_heights_length: usize,
-    ) -> FinishResult;
+    ) -> RunResult;
+
+    pub fn fithmoul_ask(
+        vertices: u32,
+        edges: u32,
+        faces: u32,
+        changes: u32,
+        positions: *const i32,
+        positions_length: usize,
+        heights: *const i32,
+        heights_length: usize,
+        outs: *const u32,
+        outs_length: usize,
+        halves: *const u32,
+        halves_length: usize,
+        adjacent: *const u32,
+        adjacent_length: usize,
+        nodes: *mut Node,
+        nodes_length: usize,
+        freed: *mut u32,
+        freed_length: usize,
+        buckets: *mut u32,
+        buckets_length: usize,
+        center_x: f64,
+        center_y: f64,
+        x: i32,
+        y: i32,
+        z: i32,
+    ) -> AskResult;
+
+    pub fn fithmoul_commit(
+        vertices: u32,
+        edges: u32,
+        faces: u32,
+        changes: u32,
+        positions: *mut i32,
+        positions_length: usize,
+        heights: *mut i32,
+        heights_length: usize,
+        outs: *mut u32,
+        outs_length: usize,
+        halves: *mut u32,
+        halves_length: usize,
+        adjacent: *mut u32,
+        adjacent_length: usize,
+        nodes: *mut Node,
+        nodes_length: usize,
+        freed: *mut u32,
+        freed_length: usize,
+        buckets: *mut u32,
+        buckets_length: usize,
+        pending: *mut u32,
+        pending_length: usize,
+        center_x: f64,
+        center_y: f64,
+        x: i32,
+        y: i32,
+        z: i32,
+        quote: Quote,
+    ) -> CommitResult;
 
     pub fn fithmoul_volume(
         vertices: u32,

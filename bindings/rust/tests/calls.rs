@@ -85,6 +85,8 @@ fn refusals() {
         Refusal::Angle,
         Refusal::Pending { point: 0 },
         Refusal::Height,
+        Refusal::Quote,
+        Refusal::Changes,
     ]) {
         assert_eq!(refusal.number(), number);
         assert!(!refusal.to_string().is_empty());

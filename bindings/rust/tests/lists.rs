@@ -2,7 +2,7 @@
 //! answers, refusal 9 in every place included. An independent reading of the specification made them; tests/reference/README.md has the
 //! form of the list.
 
-use fithmoul::sys::{self, FinishResult, Node};
+use fithmoul::sys::{self, Node, RunResult};
 use std::collections::HashMap;
 use std::str::FromStr;
 
@@ -64,6 +64,9 @@ const NOISE: Node = Node { angle: 7.0, edge: 7, left: 7, right: 7 };
 /// More heights than any case has vertices or points, where the list has no row of them.
 const ENOUGH: usize = 1_000_001;
 
+/// The change count that each run is given.
+const CHANGES: u32 = 7;
+
 fn lent(case: &Case) -> Rows {
     let lengths: Vec<usize> = case.numbers('n').expect("the ring's rows");
     Rows {
@@ -98,7 +101,7 @@ fn left(case: &Case, lent: &Rows) -> Rows {
     rows
 }
 
-fn run(case: &Case, counts: &[u32], r: &mut Rows) -> FinishResult {
+fn run(case: &Case, counts: &[u32], r: &mut Rows) -> RunResult {
     let center: Vec<u64> = case.numbers('x').expect("a centre");
     let points: Vec<i32> = case.numbers('v').expect("points");
     let points = &points[1..];
@@ -108,6 +111,7 @@ fn run(case: &Case, counts: &[u32], r: &mut Rows) -> FinishResult {
             counts[0],
             counts[1],
             counts[2],
+            CHANGES,
             r.positions.as_mut_ptr(),
             r.positions.len(),
             r.heights.as_mut_ptr(),
@@ -153,6 +157,8 @@ fn every_run_of_the_list() {
         assert_eq!(answer, case.numbers::<u64>('r').expect("an answer"), "{}", case.name);
         let after = case.numbers('M').unwrap_or(counts);
         assert_eq!([result.vertices, result.edges, result.faces], after[..], "{}", case.name);
+        let changes = if [0, 9].contains(&result.refusal) { 0 } else { CHANGES };
+        assert_eq!(result.changes, changes, "{}", case.name);
         assert!(rows == expected, "{}: {rows:?}, not {expected:?}", case.name);
         refusals[result.refusal as usize] += 1;
         if case.lines.contains_key(&'W') {

@@ -1,14 +1,16 @@
 //! Rows of given lengths through the exports: a pending row that is too short, and what is left in every entry.
 
-use fithmoul::sys::{self, FinishResult, Node};
+use fithmoul::sys::{self, Node, RunResult};
 use fithmoul::{Mesh, Point};
 
 /// Past the counts, where nothing may be written.
 pub const PAST: i32 = 77;
 
 /// A mesh's rows with room for some vertices more, and a pending row of a given length.
+#[derive(Clone, Debug, PartialEq)]
 pub struct Rows {
     pub counts: [u32; 3],
+    pub changes: u32,
     pub positions: Vec<i32>,
     pub heights: Vec<i32>,
     pub outs: Vec<u32>,
@@ -27,6 +29,7 @@ pub fn rows_of(mesh: &Mesh, more: usize, pending: usize) -> Rows {
     let n = mesh.vertex_count() + more;
     Rows {
         counts: [mesh.vertex_count(), mesh.edge_count(), mesh.face_count()].map(|c| c as u32),
+        changes: mesh.change_count(),
         positions: longer(mesh.positions().as_flattened(), 2 * n, PAST),
         heights: longer(mesh.heights(), n, PAST),
         outs: longer(mesh.outs(), n, 7),
@@ -40,7 +43,7 @@ pub fn rows_of(mesh: &Mesh, more: usize, pending: usize) -> Rows {
 }
 
 impl Rows {
-    pub fn run(&mut self, [cx, cy]: [f64; 2], points: &[Point], answers: &mut [u64]) -> FinishResult {
+    pub fn run(&mut self, [cx, cy]: [f64; 2], points: &[Point], answers: &mut [u64]) -> RunResult {
         let [v, e, f] = self.counts;
         let flat: Vec<i32> = points.iter().flat_map(|p| [p[0], p[1]]).collect();
         let point_heights: Vec<i32> = points.iter().map(|p| p[2]).collect();
@@ -50,6 +53,7 @@ impl Rows {
                 v,
                 e,
                 f,
+                self.changes,
                 positions.as_mut_ptr(),
                 positions.len(),
                 heights.as_mut_ptr(),
