@@ -30,9 +30,9 @@ static const int32_t point_heights[FITHMOUL_POINT_HEIGHTS(POINTS)] = {40, 50, 60
 
 #define LENGTH(row) (sizeof(row) / sizeof((row)[0]))
 
-static fithmoul_finish_result run(double x, double y) {
+static fithmoul_run_result run(double x, double y) {
     return fithmoul_run(
-        SEED, 3, 2, positions, LENGTH(positions), heights, LENGTH(heights), outs, LENGTH(outs), halves, LENGTH(halves),
+        SEED, 3, 2, 0, positions, LENGTH(positions), heights, LENGTH(heights), outs, LENGTH(outs), halves, LENGTH(halves),
         adjacent, LENGTH(adjacent), nodes, LENGTH(nodes), freed, LENGTH(freed), buckets, LENGTH(buckets),
         pending, LENGTH(pending), answers, LENGTH(answers), x, y, points, LENGTH(points),
         point_heights, LENGTH(point_heights));
@@ -59,7 +59,7 @@ static void print_triangles(uint32_t faces) {
     }
 }
 
-static void print_volume(const fithmoul_finish_result *mesh, int32_t level) {
+static void print_volume(const fithmoul_run_result *mesh, int32_t level) {
     fithmoul_volume_result v = fithmoul_volume(
         mesh->vertices, mesh->edges, mesh->faces, positions, LENGTH(positions), heights, LENGTH(heights), outs, LENGTH(outs),
         halves, LENGTH(halves), adjacent, LENGTH(adjacent), level);
@@ -74,10 +74,10 @@ static void print_side(int32_t qx, int32_t qy) {
 }
 
 int main(void) {
-    fithmoul_finish_result refused = run(9.0, 9.0);
+    fithmoul_run_result refused = run(9.0, 9.0);
     printf("about (9, 9): refusal %" PRIu32 "\n", refused.refusal);
 
-    fithmoul_finish_result done = run(1.0, 1.0);
+    fithmoul_run_result done = run(1.0, 1.0);
     if (done.refusal != 0) {
         printf("refusal %" PRIu32 " at %" PRIu32 "\n", done.refusal, done.place);
         return 1;
