@@ -64,7 +64,7 @@ const NOISE: Node = Node { angle: 7.0, edge: 7, left: 7, right: 7 };
 /// More heights than any case has vertices or points, where the list has no row of them.
 const ENOUGH: usize = 1_000_001;
 
-/// The change count that each run is given.
+/// The change count that is given where the list has none.
 const CHANGES: u32 = 7;
 
 fn lent(case: &Case) -> Rows {
@@ -101,6 +101,10 @@ fn left(case: &Case, lent: &Rows) -> Rows {
     rows
 }
 
+fn changes_of(case: &Case) -> u32 {
+    case.numbers('c').map_or(CHANGES, |c| c[0])
+}
+
 fn run(case: &Case, counts: &[u32], r: &mut Rows) -> RunResult {
     let center: Vec<u64> = case.numbers('x').expect("a centre");
     let points: Vec<i32> = case.numbers('v').expect("points");
@@ -111,7 +115,7 @@ fn run(case: &Case, counts: &[u32], r: &mut Rows) -> RunResult {
             counts[0],
             counts[1],
             counts[2],
-            CHANGES,
+            changes_of(case),
             r.positions.as_mut_ptr(),
             r.positions.len(),
             r.heights.as_mut_ptr(),
@@ -157,7 +161,7 @@ fn every_run_of_the_list() {
         assert_eq!(answer, case.numbers::<u64>('r').expect("an answer"), "{}", case.name);
         let after = case.numbers('M').unwrap_or(counts);
         assert_eq!([result.vertices, result.edges, result.faces], after[..], "{}", case.name);
-        let changes = if [0, 9].contains(&result.refusal) { 0 } else { CHANGES };
+        let changes = if [0, 9].contains(&result.refusal) { 0 } else { changes_of(&case) };
         assert_eq!(result.changes, changes, "{}", case.name);
         assert!(rows == expected, "{}: {rows:?}, not {expected:?}", case.name);
         refusals[result.refusal as usize] += 1;

@@ -281,7 +281,9 @@ fn the_point_counts() {
             7 => drop(rows.buckets.pop()),
             _ => drop(rows.pending.pop()),
         }
-        assert_eq!(rows.clone().commit(MIDDLE, point, quote).refusal, 2);
+        for quote in [quote, Quote::default()] {
+            assert_eq!(rows.clone().commit(MIDDLE, point, quote).refusal, 2);
+        }
         assert_eq!(rows.ask(MIDDLE, point).refusal, if row == 8 { 0 } else { 2 });
     }
     for (vertices, refusal) in [(0, 1), (1, 1), (2, 4), (999_999, 2), (1_000_000, 1), (END, 1)] {
