@@ -2,48 +2,11 @@
 //! answers, refusal 9 in every place included. An independent reading of the specification made them; tests/reference/README.md has the
 //! form of the list.
 
+#[path = "common/cases.rs"]
+mod cases;
+
+use cases::{cases, Case};
 use fithmoul::sys::{self, Node, RunResult};
-use std::collections::HashMap;
-use std::str::FromStr;
-
-/// The lines of one case by their tags.
-struct Case<'a> {
-    name: &'a str,
-    lines: HashMap<char, &'a str>,
-}
-
-impl<'a> Case<'a> {
-    fn numbers<T: FromStr>(&self, tag: char) -> Option<Vec<T>> {
-        let words = self.lines.get(&tag)?.split_whitespace();
-        Some(words.map(|w| w.parse().ok().expect("a number")).collect())
-    }
-
-    /// `length past ..`: the entries that are not written hold `past`.
-    fn row<T: FromStr + Clone>(&self, tag: char) -> Option<Vec<T>> {
-        let (length, rest) = self.lines.get(&tag)?.trim_start().split_once(' ').expect("two numbers");
-        let words: Vec<T> = rest.split(' ').map(|w| w.parse().ok().expect("a number")).collect();
-        let mut row = words[1..].to_vec();
-        row.resize(length.parse().expect("a length"), words[0].clone());
-        Some(row)
-    }
-}
-
-fn cases(text: &str) -> Vec<Case<'_>> {
-    let (mut cases, mut name, mut lines) = (Vec::new(), "", HashMap::new());
-    for line in text.lines() {
-        let (tag, rest) = line.split_at(1);
-        match tag.chars().next() {
-            Some('#') => name = rest,
-            Some('z') => assert!(lines.is_empty()),
-            Some(tag) => assert!(lines.insert(tag, rest).is_none(), "{line}"),
-            None => panic!("an empty line"),
-        }
-        if tag == "r" {
-            cases.push(Case { name, lines: std::mem::take(&mut lines) });
-        }
-    }
-    cases
-}
 
 #[derive(Clone, PartialEq, Debug)]
 struct Rows {
@@ -63,9 +26,6 @@ const NOISE: Node = Node { angle: 7.0, edge: 7, left: 7, right: 7 };
 
 /// More heights than any case has vertices or points, where the list has no row of them.
 const ENOUGH: usize = 1_000_001;
-
-/// The change count that is given where the list has none.
-const CHANGES: u32 = 7;
 
 fn lent(case: &Case) -> Rows {
     let lengths: Vec<usize> = case.numbers('n').expect("the ring's rows");
@@ -101,10 +61,6 @@ fn left(case: &Case, lent: &Rows) -> Rows {
     rows
 }
 
-fn changes_of(case: &Case) -> u32 {
-    case.numbers('c').map_or(CHANGES, |c| c[0])
-}
-
 fn run(case: &Case, counts: &[u32], r: &mut Rows) -> RunResult {
     let center: Vec<u64> = case.numbers('x').expect("a centre");
     let points: Vec<i32> = case.numbers('v').expect("points");
@@ -115,7 +71,7 @@ fn run(case: &Case, counts: &[u32], r: &mut Rows) -> RunResult {
             counts[0],
             counts[1],
             counts[2],
-            changes_of(case),
+            case.changes(),
             r.positions.as_mut_ptr(),
             r.positions.len(),
             r.heights.as_mut_ptr(),
@@ -148,8 +104,7 @@ fn run(case: &Case, counts: &[u32], r: &mut Rows) -> RunResult {
 
 #[test]
 fn every_run_of_the_list() {
-    let path = concat!(env!("CARGO_MANIFEST_DIR"), "/../../tests/reference/lists/run.txt");
-    let text = std::fs::read_to_string(path).expect("the list");
+    let text = cases::text("run");
     let (mut refusals, mut fates) = ([0; 11], [0; 10]);
     for case in cases(&text) {
         let counts: Vec<u32> = case.numbers('m').expect("counts");
@@ -161,7 +116,7 @@ fn every_run_of_the_list() {
         assert_eq!(answer, case.numbers::<u64>('r').expect("an answer"), "{}", case.name);
         let after = case.numbers('M').unwrap_or(counts);
         assert_eq!([result.vertices, result.edges, result.faces], after[..], "{}", case.name);
-        let changes = if [0, 9].contains(&result.refusal) { 0 } else { changes_of(&case) };
+        let changes = if [0, 9].contains(&result.refusal) { 0 } else { case.changes() };
         assert_eq!(result.changes, changes, "{}", case.name);
         assert!(rows == expected, "{}: {rows:?}, not {expected:?}", case.name);
         refusals[result.refusal as usize] += 1;

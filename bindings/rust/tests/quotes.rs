@@ -1,6 +1,8 @@
 //! Asking and committing. A fresh quote commits as a step does, entry by entry; a stale one is refused 11 and changes nothing; who raises
 //! the change count, and where it ends. Through the exports, and through the crate's own calls.
 
+#[path = "common/cases.rs"]
+mod cases;
 mod common;
 #[path = "common/quotes.rs"]
 mod quotes;
@@ -9,6 +11,7 @@ mod rows;
 #[path = "common/step.rs"]
 mod step;
 
+use cases::{cases, Case};
 use common::{of_triangles, Random};
 use fithmoul::sys::{AskResult, CommitResult, Node, Quote, RunResult};
 use fithmoul::{Answer, Fate, Mesh, Point, Refusal, MOST_VERTICES};
@@ -17,6 +20,9 @@ use step::{flat_fan, CENTER};
 
 const MIDDLE: [f64; 2] = [1.0, 1.0];
 const END: u32 = u32::MAX;
+
+/// A node that a call must not rely on.
+const NOISE: Node = Node { angle: 7.0, edge: 7, left: 7, right: 7 };
 
 fn seed() -> Mesh {
     Mesh::triangle([[0, 0, 10], [4, 0, 20], [0, 4, 30]]).expect("a triangle")
@@ -49,8 +55,14 @@ fn number(fate: Fate) -> u64 {
 fn lent(mesh: &Mesh, pending: usize, changes: u32) -> Rows {
     let mut rows = rows_of(mesh, 1, pending);
     rows.changes = changes;
-    rows.nodes.fill(Node { angle: 7.0, edge: 7, left: 7, right: 7 });
+    rows.nodes.fill(NOISE);
     rows
+}
+
+fn zeros_in_ring(rows: &mut Rows) {
+    rows.nodes.fill(Node::default());
+    rows.freed.fill(0);
+    rows.buckets.fill(0);
 }
 
 /// A commit that was refused before anything was done.
@@ -85,9 +97,7 @@ fn beside_a_step(rows: &mut Rows, center: [f64; 2], point: Point) -> CommitResul
     let quote = Quote { changes: before.changes, x, y, z, fate, faces: answer.faces };
     assert_eq!(ask, AskResult { refusal: 0, place: 0, quote });
     let mut zeros = before.clone();
-    zeros.nodes.fill(Node::default());
-    zeros.freed.fill(0);
-    zeros.buckets.fill(0);
+    zeros_in_ring(&mut zeros);
     assert!(asked == zeros, "asking leaves the mesh alone, and zeros in the ring's rows");
     assert_eq!(commit.changes, before.changes + u32::from(fate == 1));
     commit
@@ -309,6 +319,93 @@ fn a_run_starts_the_count() {
     assert_eq!([result.refusal, result.changes], [2, 7]);
     let result = run(&seed(), 8, [9.0, 9.0], [4, 4, 40]);
     assert_eq!([result.refusal, result.changes], [7, 7]);
+}
+
+/// What a case of a list lends, with 7 in every entry of the rows that hold nothing between calls.
+fn lent_by(case: &Case) -> Rows {
+    let counts: Vec<u32> = case.numbers('m').expect("counts");
+    let lengths: Vec<usize> = case.numbers('n').expect("the ring's rows");
+    Rows {
+        counts: [counts[0], counts[1], counts[2]],
+        changes: case.changes(),
+        positions: case.row('p').expect("positions"),
+        // zeros, and enough of them, where the list has none
+        heights: case.row('e').unwrap_or_else(|| vec![0; MOST_VERTICES + 1]),
+        outs: case.row('o').expect("out edges"),
+        halves: case.row('h').expect("half-edges"),
+        adjacent: case.row('f').expect("faces"),
+        nodes: vec![NOISE; lengths[0]],
+        freed: vec![7; lengths[1]],
+        buckets: vec![7; lengths[2]],
+        pending: case.row('q').unwrap_or_default(),
+    }
+}
+
+/// The centre and the point of a case.
+fn asked_of(case: &Case) -> ([f64; 2], Point) {
+    let center: Vec<u64> = case.numbers('x').expect("a centre");
+    let point: Vec<i32> = case.numbers('v').expect("a point");
+    let z = case.numbers('y').map_or(0, |z| z[0]);
+    ([f64::from_bits(center[0]), f64::from_bits(center[1])], [point[1], point[2], z])
+}
+
+fn quote_by(case: &Case, tag: char) -> Quote {
+    let numbers: Vec<i128> = case.numbers(tag).expect("a quote");
+    let [x, y, z] = [1, 2, 3].map(|k| numbers[k] as i32);
+    Quote { changes: numbers[0] as u32, x, y, z, fate: numbers[4] as u64, faces: numbers[5] as u64 }
+}
+
+/// Every ask of tests/reference/lists/ask.txt.
+#[test]
+fn asks_of_the_list() {
+    let (text, mut seen) = (cases::text("ask"), [0; 13]);
+    for case in cases(&text) {
+        let (mut rows, (center, point)) = (lent_by(&case), asked_of(&case));
+        let mut left = rows.clone();
+        let due: Vec<u32> = case.numbers('r').expect("an answer");
+        let ask = rows.ask(center, point);
+        let expected = AskResult { refusal: due[0], place: due[1], quote: quote_by(&case, 'G') };
+        assert_eq!(ask, expected, "{}", case.name);
+        if ask.refusal == 0 {
+            zeros_in_ring(&mut left);
+        }
+        assert!(rows == left, "{}", case.name);
+        seen[ask.refusal as usize] += 1;
+    }
+    assert!([0, 1, 2, 3, 4, 5, 6, 7, 10, 12].iter().all(|&refusal| seen[refusal] > 0), "{seen:?}");
+}
+
+/// Every commit of tests/reference/lists/commit.txt.
+#[test]
+fn commits_of_the_list() {
+    let (text, mut seen) = (cases::text("commit"), [0; 13]);
+    for case in cases(&text) {
+        let (mut rows, (center, point)) = (lent_by(&case), asked_of(&case));
+        let mut left = rows.clone();
+        let mut counts = left.counts.to_vec();
+        if let Some(after) = case.numbers('M') {
+            counts = after;
+            left.positions = case.row('P').expect("positions");
+            left.heights = case.row('E').unwrap_or(left.heights);
+            left.outs = case.row('O').expect("out edges");
+            left.halves = case.row('H').expect("half-edges");
+            left.adjacent = case.row('F').expect("faces");
+            left.pending.fill(0);
+            zeros_in_ring(&mut left);
+        }
+        let r = rows.commit(center, point, quote_by(&case, 'g'));
+        let (number, vertex) = match r.answer.fate() {
+            Fate::NotReached => (0, 0),
+            fate => (number(fate), u64::from(fate.vertex().unwrap_or(0))),
+        };
+        let answer = [number, vertex, r.answer.faces, r.answer.flips, r.changes.into()];
+        let answer = [&[r.refusal.into(), r.place.into()], &answer[..]].concat();
+        assert_eq!(answer, case.numbers::<u64>('r').expect("an answer"), "{}", case.name);
+        assert_eq!([r.vertices, r.edges, r.faces], counts[..], "{}", case.name);
+        assert!(rows == left, "{}", case.name);
+        seen[r.refusal as usize] += 1;
+    }
+    assert!([0, 1, 2, 3, 4, 5, 6, 7, 9, 10, 11, 12].iter().all(|&refusal| seen[refusal] > 0), "{seen:?}");
 }
 
 /// What C reads: include/fithmoul.h.
