@@ -45,9 +45,10 @@
  * A QUOTE is what asking answers and committing takes: the mesh's change count, a point, and the fate and the faces of
  * that point's step. It names neither mesh nor centre: commit it on the mesh and about the centre that it is for. A
  * commit holds its count and point against those that it is given, its fate and faces against those that asking gives
- * now, and is refused 11 where one differs. So a commit that adds a vertex leaves no quote of its mesh that still
- * holds, its own included. A step or a finish in between is noticed only where it has changed the point's fate or
- * faces, and so is a run where the count was 0 before it: after one of these ask again.
+ * now, and is refused 11 where one differs. So a commit that adds a vertex makes every quote stale that its mesh gave
+ * since the last run, its own included. A step or a finish in between is noticed only where it has changed the point's
+ * fate or faces, and a run starts the count anew, so that a quote from before it can meet its count again: after one
+ * of these ask again.
  *
  * THE OTHER ROWS. They hold nothing between calls, and may be lent with anything in them.
  *

@@ -30,9 +30,10 @@ use crate::{sys, Fate, Point};
 /// # }
 /// ```
 ///
-/// It holds as long as asking about the point gives the same change count, fate and faces. A step or a finish leaves the change count
-/// alone, and is noticed only where fate or faces are others by then. A quote of another mesh is judged in the same way: where that one
-/// would have given it too, it is taken, and does what it says.
+/// It holds where asking about the point gives the same change count, fate and faces. A step or a finish leaves the change count alone, and
+/// is noticed only where fate or faces are others by then; a run starts it anew, so that a quote from before can meet its count again.
+/// After one of these ask again. A quote of another mesh is judged in the same way: where that one would have given it too, it is taken,
+/// and does what it says.
 #[derive(Debug, PartialEq)]
 pub struct Quote {
     /// As the library has them.
