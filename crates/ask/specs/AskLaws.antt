@@ -24,7 +24,8 @@ use Rattle.mesh_check.specs.declared.Refusal.{Refusal}
 use Rattle.mesh_check.specs.Check.{andThen, pointCount, vertexCount}
 use Rattle.mesh_check.specs.CheckLaws.{NumberedTo, numbered-more, then-next, then-refused, then-accepts, then-numbered}
 use Rattle.quote.specs.declared.Quote.{Quote}
-use Rattle.quote.specs.Quote.{checkChanges}
+use Rattle.quote.specs.Quote.{checkChanges, lastChange}
+use Rattle.quote.specs.QuoteLaws.{changes-at-end}
 use Rattle.ring_rows.specs.RingRows.{RingRows, ringZeros}
 use Rattle.start.specs.Start.{pointRow}
 use Rattle.ask.specs.declared.Asked.{Asked}
@@ -143,3 +144,25 @@ module _ (changes : ℕ) (C : Counts) (s : SurfaceRows) (ring : RingRows) (cente
       go (Refused x) k =
           let w : Asked.Refused x ≡ Asked.Quoted q = sym (is ∙ rw k refl) ∙ e in
           absurd (let n : _≡_ {A = ℕ} 0 1 = cc in omega arith)
+
+-- ---- the quote that is given
+module _ (changes : ℕ) (C : Counts) (s : SurfaceRows) (ring : RingRows) (center : Point2) (v : Point) (z : ℤ) where
+  -- it is the one of the mesh, and the count is not at its end
+  pub ask-quoted : (q : Quote) → askOf changes C s ring center v z .answer ≡ Asked.Quoted q
+      → (checkChanges changes ≡ Accepted) × (q ≡ quoteOf changes C (s .mesh) center v z)
+  unfolding askOf askOutcome askChecked
+  ask-quoted q e = go (askChecked changes C s (length (ring .nodes)) (length (ring .freed)) (length (ring .buckets)) center v z) refl e
+    where
+      go : (c : Checked) → askChecked changes C s (length (ring .nodes)) (length (ring .freed)) (length (ring .buckets)) center v z ≡ c
+          → askOutcome c (quoteOf changes C (s .mesh) center v z) s ring .answer ≡ Asked.Quoted q
+          → (checkChanges changes ≡ Accepted) × (q ≡ quoteOf changes C (s .mesh) center v z)
+      go Accepted k w = (then-accepts _ (checkChanges changes) k .1, cc)
+      go (Refused x) k w = absurd (let n : _≡_ {A = ℕ} 0 1 = cc in omega arith)
+
+  -- 02: "no quote is given there"
+  pub ask-end : changes ≡ lastChange
+      → pointChecked (ringRowsShort (C .vertices + 1) (length (ring .nodes)) (length (ring .freed)) (length (ring .buckets))) C s center v z
+      ≡ Accepted
+      → askOf changes C s ring center v z ≡ askedWith (Asked.Refused (record { number = 12; place = 0 })) s ring
+  unfolding askOf askOutcome askChecked vertexCount pointCount
+  ask-end e k = rw (then-next (checkChanges changes) k, changes-at-end e) refl
