@@ -15,6 +15,11 @@ use Rattle.area.specs.AreaTotal.{areaTotalOf}
 use Rattle.area.specs.AreaTotalLaws.{area-refused}
 use Rattle.area.specs.SideQuery.{sideQueryOf}
 use Rattle.area.specs.SideQueryLaws.{side-refused}
+use Rattle.ask.specs.declared.Asked.{Asked}
+use Rattle.ask.specs.Ask.{quoteOf, askChecked, askOutcome, askOf}
+use Rattle.ask.specs.AskLaws.{point-numbered}
+use Rattle.commit.specs.Commit.{commitChecked, commitOutcome, commitOf}
+use Rattle.commit.specs.CommitParts.{step-point}
 use Rattle.finish.specs.declared.Finished.{Finished}
 use Rattle.finish.specs.declared.Totals.{Totals}
 use Rattle.finish.specs.Finish.{Finishing, totalsFrom, finishedFrom, seedChecked, finishOutcome}
@@ -30,6 +35,8 @@ use Rattle.mesh_check.specs.declared.Checked.{Checked}
 use Rattle.mesh_check.specs.declared.Refusal.{Refusal}
 use Rattle.mesh_check.specs.Check.{refused, checkWith}
 use Rattle.mesh_check.specs.CheckLaws.{NumberedTo, accepts, refuses, numbered-at, numbered-more, check-numbered, then-numbered}
+use Rattle.quote.specs.declared.Quote.{Quote}
+use Rattle.quote.specs.QuoteLaws.{changes-numbered, quote-numbered}
 use Rattle.ring_rows.specs.RingRows.{RingRows}
 use Rattle.start.specs.StartLaws.{sweep-numbered}
 use Rattle.surface.specs.Surface.{surfaceLocate, surfaceFinish, surfaceStepChecked, surfaceStep}
@@ -129,6 +136,34 @@ step-named C s ring pending center v z x e =
         → 0 < x .number
     by Checked.Accepted g t w = nine t (t .mesh .full) w
     by (Checked.Refused y) g t w = same-number {x = x} g cc
+
+-- asking
+pub ask-named : (changes : ℕ) (C : Counts) (s : SurfaceRows) (ring : RingRows) (center : Point2) (v : Point) (z : ℤ) (x : Refusal)
+    → askOf changes C s ring center v z .answer ≡ Asked.Refused x → 0 < x .number
+unfolding askOf askOutcome askChecked
+ask-named changes C s ring center v z x e =
+    by _ (then-numbered (numbered-more (omega arith) (point-numbered _ C s center v z)) (changes-numbered changes)) e
+  where
+    by : (c : Checked) → NumberedTo 12 c → askOutcome c (quoteOf changes C (s .mesh) center v z) s ring .answer ≡ Asked.Refused x
+        → 0 < x .number
+    by Checked.Accepted g w = absurd (let i : _≡_ {A = ℕ} 0 1 = cc in omega arith)
+    by (Checked.Refused y) g w = same-number {x = x} g cc
+
+-- and a commit: a number of the checks, or one of the step
+pub commit-named : (changes : ℕ) (C : Counts) (s : SurfaceRows) (ring : RingRows) (pending : List ℕ) (center : Point2) (v : Point) (z : ℤ)
+    (q : Quote) (x : Refusal)
+    → commitOf changes C s ring pending center v z q .step .call .answer .stepped ≡ Stepped.Refused x → 0 < x .number
+unfolding commitOf commitOutcome commitChecked
+commit-named changes C s ring pending center v z q x e =
+    by _
+    (then-numbered (subst (NumberedTo 12) (sym (step-point C s _ _ _ _ center v z)) (numbered-more (omega arith) (point-numbered _ C s center v z)))
+    (then-numbered (quote-numbered q (quoteOf changes C (s .mesh) center v z)) (changes-numbered changes))) e
+  where
+    by : (c : Checked) → NumberedTo 12 c
+        → commitOutcome changes C s ring pending c (surfaceStep C s ring pending center v z) .step .call .answer .stepped ≡ Stepped.Refused x
+        → 0 < x .number
+    by Checked.Accepted g w = step-named C s ring pending center v z x w
+    by (Checked.Refused y) g w = same-number {x = x} g cc
 
 -- ---- demand 3 and the heights, of a run's result
 module _ (g : SurfaceRunLent) (r : RunResult) (changes : ℕ) (e : r ≡ runResult changes (surfaceRun g .call .answer)) (z : r .refusal ≡ 0) where

@@ -11,6 +11,7 @@ use Rattle.math.specs.Position.{same-coordinate, coordinate-same}
 use Rattle.mesh_check.specs.declared.Checked.{Checked}
 use Rattle.mesh_check.specs.declared.Checked.the-variants.{Accepted, Refused}
 use Rattle.mesh_check.specs.Check.{refused, andThen}
+use Rattle.mesh_check.specs.CheckLaws.{NumberedTo, accepts, refuses, numbered-cond}
 use Rattle.sums.specs.Bit.{is-true, and-left, and-right, and-both}
 use Rattle.quote.specs.declared.Quote.{Quote}
 use Rattle.quote.specs.Quote.{sameQuote, checkQuote, checkChanges, lastChange}
@@ -92,3 +93,16 @@ module _ (q p : Quote) (next : Checked) where
   pub quote-then-same : sameQuote q p ≡ true → andThen (checkQuote q p) next ≡ next
   unfolding checkQuote andThen
   quote-then-same e = rw e refl
+
+-- ---- a refusal has one of the numbers 11 and 12
+pub changes-numbered : (n : ℕ) → NumberedTo 12 (checkChanges n)
+unfolding checkChanges
+changes-numbered n = numbered-cond (eqb n lastChange) 12 0 (omega arith) (omega arith) accepts
+
+pub quote-numbered : (q p : Quote) → NumberedTo 12 (checkQuote q p)
+unfolding checkQuote
+quote-numbered q p = go (sameQuote q p)
+  where
+    go : (t : Bool) → NumberedTo 12 (cond t Accepted (refused 11 0))
+    go true = accepts
+    go false = refuses {r = record { number = 11; place = 0 }} (omega arith) (omega arith)

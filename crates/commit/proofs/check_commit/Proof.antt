@@ -2,7 +2,7 @@
 use mathlib.Core.Path.{sym, _∙_}
 use mir.Facts.{toZ-ofZ}
 use Rattle.ask.specs.AskLaws.{point-accepts}
-use Rattle.commit.specs.CommitLaws.{commit-point-refused, commit-point-accepted}
+use Rattle.commit.specs.CommitParts.{commit-point-refused, commit-point-accepted}
 use borrow.Author.Needs.{needs}
 use Rattle.commit.proofs.check_commit.Statement.{statement}
 use Rattle.commit.proofs.check_commit.Tie as tie

@@ -2,7 +2,7 @@
 use mathlib.Core.Path.{refl, sym, _∙_, ap}
 use native.Mathlib.Omega.{arith}
 use mir.Facts.{toZ-ofZ}
-use Rattle.commit.specs.CommitLaws.{commit-none, commit-made, commit-sweep, commit-room, commit-own, commit-below}
+use Rattle.commit.specs.CommitParts.{commit-none, commit-made, commit-sweep, commit-room, commit-own, commit-below}
 use Rattle.step.specs.StepOnce.{swept-outcome}
 use Rattle.fithmoul.specs.Exported.{commit-exported}
 use borrow.Author.Needs.{needs}
