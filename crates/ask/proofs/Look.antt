@@ -1,38 +1,28 @@
 -- The look round the boundary for the edge at an angle: no edge so far holds it. Assumes nothing.
 use mathlib.Core.Bool.{Bool, true, false}
 use mathlib.Core.List.{List}
-use mathlib.Core.Path.{_≡_, refl, sym, _∙_, ap, ap₂, subst}
-use Prim.Native.Nat.{ℕ, suc, _+_, _<_, _≤_}
+use mathlib.Core.Path.{_≡_, sym, _∙_, ap, ap₂, subst}
+use Prim.Native.Nat.{ℕ, _+_, _<_, _≤_}
 use native.Mathlib.Decide.{ℕ-discrete}
 use native.Mathlib.Omega.{arith}
 use lib.Dec.{T, T-not, eqb}
 use lib.Ieee.{Float}
 use lib.IntN.{ℤ}
-use Rattle.angle.specs.Angle.{IsAngle, turns}
+use Rattle.angle.specs.Angle.{turns}
 use Rattle.dcel.specs.Rows.{halvesOf, There}
+use Rattle.hull.specs.Along.{next-at, angled}
 use Rattle.hull.specs.Boundary.{AngledBoundary, Angled, AngleAt, edgeAt, originTurns}
-use Rattle.ring.specs.Ring.{atEnds, proper}
+use Rattle.ring.specs.Ring.{proper}
 use Rattle.ring.specs.Segments.{holds-proper}
 use Rattle.segment.specs.Arc.{holds}
 use Rattle.sums.specs.Bit.{is-false}
-use Rattle.sums.specs.Bounded.{first-below, first-below-is}
-use Rattle.sums.specs.Iterate.{iter-last}
+use Rattle.sums.specs.Bounded.{first-below-is}
 use Rattle.ask.specs.AskRows.{edgeHolds, edgeHolding}
 
 -- equal angles have no segment
 pub equal-none : (x a b : ℕ) → eqb a b ≡ true → false ≡ holds x a b
 unfolding proper
 equal-none x a b e = sym (is-false (holds x a b) (λ t. T-not (eqb a b) (holds-proper x a b t) (subst T (sym e) tt)))
-
-one : (k : ℕ) → suc k ≡ k + 1
-one k = omega arith
-
-module _ (p : List ℤ) (h : List ℕ) (cx cy : Float) (start : ℕ) where
-  pub next-at : (k : ℕ) {e n : ℕ} → e ≡ edgeAt h start k → n ≡ halvesOf h .next e → n ≡ edgeAt h start (k + 1)
-  next-at k a b = b ∙ ap (halvesOf h .next) a ∙ sym (iter-last k (halvesOf h .next) start) ∙ ap (edgeAt h start) (one k)
-
-  pub angled : {e : ℕ} (k : ℕ) → AngledBoundary p h cx cy start → e ≡ edgeAt h start k → Angled p h cx cy e
-  angled k B a = record { there = rw a (B .rows .there k); placed = rw a (B .rows .placed k); valid = B .valid; apart = rw a (B .apart k) }
 
 -- at the k-th edge e, whose origin is at the angle `from`
 pub record Looking (p : List ℤ) (h : List ℕ) (cx cy : Float) (start size x e : ℕ) (from : Float) (k : ℕ) : Type 0 where
@@ -49,7 +39,7 @@ module _ {p : List ℤ} {h : List ℕ} {cx cy : Float} {start size x e k : ℕ} 
 
   module _ {n : ℕ} (next : n ≡ halvesOf h .next e) where
     pub next-angled : Angled p h cx cy n
-    next-angled = angled p h cx cy start (k + 1) (K .boundary) (next-at p h cx cy start k (K .at) next)
+    next-angled = angled (k + 1) (K .boundary) (next-at h start k (K .at) next)
 
     module _ {to : Float} (A : AngleAt p h cx cy n to) {t : Bool} (is : t ≡ holds x (turns from) (turns to)) where
       test-is : t ≡ edgeHolds p h cx cy start x k
@@ -65,7 +55,7 @@ module _ {p : List ℤ} {h : List ℕ} {cx cy : Float} {start size x e k : ℕ} 
       pub looking : k < size → t ≡ false → Looking p h cx cy start size x n to (k + 1)
       looking l y = record {
         boundary = K .boundary;
-        at = next-at p h cx cy start k (K .at) next;
+        at = next-at h start k (K .at) next;
         most = omega arith;
         angle = A;
         none = λ j u. go j u (ℕ-discrete j k);

@@ -1,8 +1,8 @@
 -- What asking comes to: the table as its parts meet it, what is accepted, and that the mesh is left alone. That a quote's fate and faces are
 -- those of the step is `CommitLaws` of the crate `commit`. Assumes nothing.
 use mathlib.Core.Bool.{Bool, false}
-use mathlib.Core.List.{List, [], _∷_}
-use mathlib.Core.Path.{_≡_, refl, sym, _∙_, ap, subst}
+use mathlib.Core.List.{[], _∷_}
+use mathlib.Core.Path.{_≡_, refl, sym, _∙_}
 use Prim.Native.Nat.{ℕ, _+_}
 use native.Mathlib.Omega.{arith}
 use lib.IntN.{ℤ}
@@ -21,7 +21,7 @@ use Rattle.mesh.specs.declared.Counts.{Counts}
 use Rattle.mesh_check.specs.declared.Checked.{Checked}
 use Rattle.mesh_check.specs.declared.Checked.the-variants.{Accepted, Refused}
 use Rattle.mesh_check.specs.declared.Refusal.{Refusal}
-use Rattle.mesh_check.specs.Check.{andThen, pointCount, vertexCount}
+use Rattle.mesh_check.specs.Check.{pointCount, vertexCount}
 use Rattle.mesh_check.specs.CheckLaws.{NumberedTo, numbered-more, then-next, then-refused, then-accepts, then-numbered}
 use Rattle.quote.specs.declared.Quote.{Quote}
 use Rattle.quote.specs.Quote.{checkChanges, lastChange}

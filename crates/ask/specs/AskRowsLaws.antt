@@ -10,7 +10,7 @@ use lib.IntN.{ℤ}
 use Rattle.angle.specs.declared.Point2.{Point2}
 use Rattle.angle.specs.Angle.{IsAngle, angleAbout, turns, validCenter}
 use Rattle.dcel.specs.MeshHeld.{MeshHeld}
-use Rattle.dcel.specs.MeshRows.{MeshRows, meshRows, linksIn, placesIn}
+use Rattle.dcel.specs.MeshRows.{meshRows}
 use Rattle.dcel.specs.Rows.{linksOf, positionOf, rowOf}
 use Rattle.decide.specs.Located.{LocatedRows}
 use Rattle.hull.specs.Boundary.{AngledBoundary}
@@ -20,7 +20,7 @@ use Rattle.math.specs.declared.Point.{Point}
 use Rattle.math.specs.Determinant.{InRange}
 use Rattle.mesh.specs.declared.Counts.{Counts}
 use Rattle.mesh.specs.Mesh.{In}
-use Rattle.mesh.specs.Area.{boundaryLength, hullEdge}
+use Rattle.mesh.specs.Area.{boundaryLength}
 use Rattle.mesh.specs.BoundaryLaws.{first<, first-outer}
 use Rattle.mesh_check.specs.Check.{pointCount}
 use Rattle.ring.specs.Boundary.{located<, located-outer, located-holds, outer-on, outer-round, strict-ring, strict-nodes}
@@ -30,7 +30,7 @@ use Rattle.ring.specs.Ring.{atEnds, boundaryEdges, edgeAngle, isSoundRing, loca
 use Rattle.start.specs.Start.{pointRow}
 use Rattle.start.specs.StartLaws.{accepted-rows}
 use Rattle.sums.specs.Tally.{tally-at}
-use Rattle.ask.specs.AskRows.{edgeHolds, edgeHolding}
+use Rattle.ask.specs.AskRows.{edgeHolding}
 
 module _ {v : Point} {C : Counts} {q : List ℤ} {o h a : List ℕ} {center : Point2}
     (A : AcceptedStart (pointRow v) C (meshRows q o h a) center) where

@@ -17,7 +17,7 @@ use Rattle.hull.specs.Boundary.{edgeAt, originTurns}
 use Rattle.math.specs.declared.Point.{Point}
 use Rattle.math.specs.Determinant.{InRange, orient2d, isPosition}
 use Rattle.mesh.specs.declared.Counts.{Counts}
-use Rattle.mesh.specs.Mesh.{Links, In}
+use Rattle.mesh.specs.Mesh.{In}
 use Rattle.mesh.specs.Area.{boundaryLength}
 use Rattle.mesh.specs.BoundaryLaws.{next-inverse}
 use Rattle.mesh.specs.CountsLaws.{count-halves, faces-least}
@@ -37,8 +37,8 @@ use Rattle.sums.specs.Tally.{tally-at, tally-most}
 use Rattle.decide.specs.declared.Decision.{Decision}
 use Rattle.decide.specs.declared.Fate.{Fate}
 use Rattle.decide.specs.declared.Fate.the-variants.{Added, Dropped, NotLeft, Unsound}
-use Rattle.decide.specs.Decide.{Decided, atEnd, decidedAt, fateAt, ifAdded, notAdded}
-use Rattle.decide.specs.SweepRows.{ChainAngles, Decides}
+use Rattle.decide.specs.Decide.{Decided, atEnd, decidedAt, fateAt, ifAdded}
+use Rattle.decide.specs.SweepRows.{ChainAngles}
 use Rattle.decide.specs.Located.{LocatedRows, DecidesAt, LeavesOut}
 use Rattle.decide.specs.VertexAngles.{left-out}
 use Rattle.walks.specs.declared.BoundaryVertex.{BoundaryVertex}

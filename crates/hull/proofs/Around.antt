@@ -1,6 +1,7 @@
 -- What holds on the way around the boundary: no vertex so far at the centre, the counts so far. Assumes nothing.
-use Prim.Native.Nat.{ℕ, suc, _+_, _-_, _*_, _<_, _≤_}
+use Prim.Native.Nat.{ℕ, _+_, _-_, _*_, _<_, _≤_}
 use native.Mathlib.Decide.{ℕ-discrete}
+use native.Mathlib.Numerals.{add-one}
 use native.Mathlib.Omega.{arith}
 use mathlib.Core.Path.{_≡_, refl, sym, _∙_, ap, ap₂, subst}
 use mathlib.Core.Bool.{Bool, true, false, _&&_}
@@ -11,7 +12,6 @@ use lib.Ieee.{Float}
 use lib.ListN.{length}
 use Rattle.sums.specs.Bit.{bit, is-true, is-false}
 use Rattle.sums.specs.Bounded.{any-below, any-below→, any-below←}
-use Rattle.sums.specs.Iterate.{iter-last}
 use Rattle.sums.specs.Tally.{walk, tally, tally-last, tally-most}
 use Rattle.angle.specs.Angle.{IsAngle, turns, atCenter, angleAbout}
 use Rattle.segment.specs.Arc.{wide}
@@ -20,17 +20,8 @@ use Rattle.dcel.specs.Rows.{halvesOf, positionOf, There}
 use Rattle.ring.specs.Ring.{fullTurn, atEnds, wraps, isStrict}
 use Rattle.ring.specs.Center.{turnsAbout}
 use Rattle.hull.specs.Boundary.{BoundaryRows, AngledBoundary, Angled, AngleAt, edgeAt, originTurns, originAtCenter, anglesOf, vertexAtCenter}
+use Rattle.hull.specs.Along.{next-at, angled}
 use Rattle.hull.specs.Strict.{strict-counts}
-
-one : (k : ℕ) → suc k ≡ k + 1
-one k = omega arith
-
--- the next edge
-pub next-at : (h : List ℕ) (start k : ℕ) {e n : ℕ} → e ≡ edgeAt h start k → n ≡ halvesOf h .next e → n ≡ edgeAt h start (k + 1)
-next-at h start k a b = b ∙ ap (halvesOf h .next) a ∙ sym (iter-last k (halvesOf h .next) start) ∙ ap (edgeAt h start) (one k)
-
-pub angled : {p : List ℤ} {h : List ℕ} {cx cy : Float} {start e : ℕ} (k : ℕ) → AngledBoundary p h cx cy start → e ≡ edgeAt h start k → Angled p h cx cy e
-angled k B a = record { there = rw a (B .rows .there k); placed = rw a (B .rows .placed k); valid = B .valid; apart = rw a (B .apart k) }
 
 -- ---- the point at the origin of e, as it is read
 module _ (p : List ℤ) (h : List ℕ) (e : ℕ) {v : ℕ} {P : Point} {x y : ℤ} (q : v ≡ halvesOf h .origin e) (r : P ≡ positionOf p v) (x-is : x ≡ P .x) (y-is : y ≡ P .y) where
@@ -107,7 +98,7 @@ module _ {p : List ℤ} {h : List ℕ} {cx cy : Float} {start size e : ℕ} {fro
       more-count φ {c} {b} {t} e₁ e₂ e₃ =
           ap₂ _+_ e₁ (e₂ ∙ ap bit (e₃ ∙ ap₂ φ (K .angle .turns-are) (a .turns-are ∙ ap (originTurns p h cx cy) (d ∙ ap (halvesOf h .next) (K .at)))))
           ∙ sym (tally-last (atEnds φ (halvesOf h .next) (originTurns p h cx cy)) (halvesOf h .next) k start)
-          ∙ ap (λ (j : ℕ). tally (atEnds φ (halvesOf h .next) (originTurns p h cx cy)) (walk j (halvesOf h .next) start)) (one k)
+          ∙ ap (λ (j : ℕ). tally (atEnds φ (halvesOf h .next) (originTurns p h cx cy)) (walk j (halvesOf h .next) start)) (sym (add-one k))
 
       pub counted : {b₁ b₂ b₃ : ℕ} {t₁ t₂ t₃ : Bool} → k < size → b₁ ≡ bit t₁ → t₁ ≡ ltb (turns to) (turns from) → b₂ ≡ bit t₂ → t₂ ≡ wide fullTurn (turns from) (turns to) → b₃ ≡ bit t₃ → t₃ ≡ eqb (turns from) (turns to)
           → Counting p h cx cy start size n to (wrapped + b₁) (wides + b₂) (equals + b₃) (k + 1)

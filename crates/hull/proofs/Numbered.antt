@@ -12,7 +12,7 @@ use Rattle.dcel.specs.Rows.{halvesOf}
 use Rattle.ring_rows.specs.declared.Node.{Node}
 use Rattle.ring_rows.specs.Rows.{nodesOf}
 use Rattle.hull.specs.Boundary.{AngledBoundary, Angled, AngleAt, edgeAt, NodeOfEdge, NodesOfEdges}
-use Rattle.hull.proofs.Around.{next-at, angled}
+use Rattle.hull.specs.Along.{next-at, angled}
 
 pub record Building (p : List ℤ) (h : List ℕ) (cx cy : Float) (start size : ℕ) (old new : List Node) (e left k : ℕ) : Type 0 where
   pub boundary : AngledBoundary p h cx cy start

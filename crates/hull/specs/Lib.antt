@@ -1,6 +1,7 @@
 -- `Boundary`, `Held` and `EntersRing` have what the contracts cite, the others the laws.
 pub mod Boundary
 pub mod Held
+pub mod Along
 pub mod Strict
 pub mod Find
 pub mod Build

@@ -1,7 +1,7 @@
 -- Row 11 lets pass just the quote that asking gives now, and row 12 every count before its end. Assumes nothing.
 use mathlib.Core.Bool.{Bool, true, false, cond, _&&_}
 use mathlib.Core.Logic.{_≢_}
-use mathlib.Core.Path.{_≡_, refl, sym, _∙_, ap, subst}
+use mathlib.Core.Path.{_≡_, refl, sym, _∙_, subst}
 use Prim.Native.Nat.{ℕ}
 use native.Mathlib.Omega.{arith}
 use borrow.Author.Tests.{eq-eqb, ne-eqb}
@@ -9,7 +9,7 @@ use lib.Dec.{T, eqb, eqb→eq, eqb-refl}
 use Rattle.math.specs.Determinant.{isCoordinate}
 use Rattle.math.specs.Position.{same-coordinate, coordinate-same}
 use Rattle.mesh_check.specs.declared.Checked.{Checked}
-use Rattle.mesh_check.specs.declared.Checked.the-variants.{Accepted, Refused}
+use Rattle.mesh_check.specs.declared.Checked.the-variants.{Accepted}
 use Rattle.mesh_check.specs.Check.{refused, andThen}
 use Rattle.mesh_check.specs.CheckLaws.{NumberedTo, accepts, refuses, numbered-cond}
 use Rattle.sums.specs.Bit.{is-true, and-left, and-right, and-both}

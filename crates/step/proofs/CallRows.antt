@@ -2,14 +2,13 @@
 use mathlib.Core.Bool.{true, false}
 use mathlib.Core.List.{List, [], _∷_}
 use mathlib.Core.Path.{_≡_, refl, sym, _∙_, ap}
-use Prim.Native.Nat.{ℕ, suc, _+_, _*_, _^_, _<_, _≤_}
+use Prim.Native.Nat.{ℕ, _+_}
 use native.Mathlib.Omega.{arith}
 use lib.IntN.{ℤ}
 use lib.ListN.{length, replicate}
 use Rattle.angle.specs.declared.Point2.{Point2}
-use Rattle.dcel.specs.MeshRows.{MeshRows, meshRows, linksIn, placesIn, SameLengths}
+use Rattle.dcel.specs.MeshRows.{MeshRows, meshRows, SameLengths}
 use Rattle.dcel.specs.Rows.{positionOf}
-use Rattle.dcel.specs.Views.{mesh-rows-from}
 use Rattle.math.specs.declared.Point.{Point}
 use Rattle.math.specs.Determinant.{InRange}
 use Rattle.mesh.specs.declared.Counts.{Counts}
@@ -27,8 +26,7 @@ use Rattle.step.specs.declared.Progress.{Progress}
 use Rattle.sweep.specs.declared.StepAnswer.{StepAnswer}
 use Rattle.sweep.specs.declared.Stepped.{Stepped}
 use Rattle.sweep.specs.StepCall.{answerFrom, stepChecked, steppedWith, stepOutcome, stepOf}
-use Rattle.sweep.specs.Step.{Stepping, stepMesh}
-use Rattle.step.specs.StepRows.{steppingOf, StepRoom, StepReady, StepLeaves, SweptOnce}
+use Rattle.step.specs.StepRows.{steppingOf, StepReady, StepLeaves, SweptOnce}
 use Rattle.step.specs.StepOnce.{swept-outcome}
 
 -- ---- the answer

@@ -1,6 +1,6 @@
 -- The step on rows that the checks accept, by its two parts `sweep_once` and `answer_of`: it is the call's. Assumes nothing.
 use mathlib.Core.List.{List}
-use mathlib.Core.Path.{_≡_, refl, sym}
+use mathlib.Core.Path.{_≡_, refl}
 use Prim.Native.Nat.{ℕ}
 use lib.ListN.{length}
 use Rattle.angle.specs.declared.Point2.{Point2}

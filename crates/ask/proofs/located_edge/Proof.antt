@@ -4,7 +4,8 @@ use mathlib.Core.Path.{refl}
 use Prim.Native.Nat.{_-_}
 use native.Mathlib.Omega.{arith}
 use Rattle.angle.specs.Angle.{turns}
-use Rattle.ask.proofs.Look.{Looking, angled, there, next-angled, found, looking, not-found}
+use Rattle.hull.specs.Along.{angled}
+use Rattle.ask.proofs.Look.{Looking, there, next-angled, found, looking, not-found}
 use Rattle.ask.proofs.located_edge.Statement.{statement}
 use Rattle.ask.proofs.located_edge.Tie as tie
 
@@ -16,7 +17,7 @@ abbrev μ-loop : tie.MeasureT-loop
 μ-loop positions halves start size center angle e₀ from₀ k₀ e from k = size - k
 
 angle-at-requires : tie.Need-angle-at-requires Inv-loop μ-loop
-angle-at-requires c κs = angled _ _ _ _ _ 0 (c .before .pre .0) refl
+angle-at-requires c κs = angled 0 (c .before .pre .0) refl
 
 loop-holds : tie.Need-loop-holds Inv-loop μ-loop
 loop-holds c = record {

@@ -3,7 +3,8 @@ use Prim.Native.Nat.{_-_}
 use native.Mathlib.Omega.{arith}
 use mathlib.Core.Path.{refl}
 use Rattle.sums.specs.Bit.{bit-le}
-use Rattle.hull.proofs.Around.{Counting, counting, angled, here-angled, next-angled, small-counts, counted, strict-end}
+use Rattle.hull.specs.Along.{angled}
+use Rattle.hull.proofs.Around.{Counting, counting, here-angled, next-angled, small-counts, counted, strict-end}
 use Rattle.hull.proofs.is_strict.Statement.{statement}
 use Rattle.hull.proofs.is_strict.Tie as tie
 
