@@ -1,6 +1,7 @@
 -- A commit beside the step. One of a quote that was asked for on the same mesh is the step (`commit-fresh`); with any other quote, so after
--- any change of the count, it is refused 11 (`commit-stale`, `commit-late`), and at the count's end 12 (`commit-end`). A refusal other than
--- 9 changes nothing (`commit-refused`). The count rises with the vertices (`commit-counts`). Assumes nothing.
+-- any change of the count, it is refused 11 (`commit-stale`, `commit-late`), and at the count's end 12 (`commit-end`). An accepted one has
+-- the quote's fate and faces (`commit-told`). A refusal other than 9 changes nothing (`commit-refused`). The count rises with the vertices
+-- (`commit-counts`). Assumes nothing.
 use mathlib.Core.Bool.{Bool, true, false}
 use mathlib.Core.List.{List}
 use mathlib.Core.Logic.{_≢_}
@@ -15,6 +16,7 @@ use Rattle.ask.specs.declared.Asked.{Asked}
 use Rattle.ask.specs.Ask.{quoteFrom, quoteOf, askOf}
 use Rattle.ask.specs.AskLaws.{ask-quoted}
 use Rattle.dcel.specs.MeshRows.{linksIn, placesIn}
+use Rattle.decide.specs.Decide.{fateNumber}
 use Rattle.heights.specs.Heights.{SurfaceRows}
 use Rattle.math.specs.declared.Point.{Point}
 use Rattle.mesh.specs.declared.Counts.{Counts}
@@ -27,6 +29,7 @@ use Rattle.quote.specs.Quote.{checkChanges, lastChange}
 use Rattle.ring_rows.specs.RingRows.{RingRows}
 use Rattle.sums.specs.Bit.{bit}
 use Rattle.surface.specs.Surface.{SurfaceStepped, surfaceStep}
+use Rattle.sweep.specs.declared.Answer.{Answer}
 use Rattle.sweep.specs.declared.StepAnswer.{StepAnswer}
 use Rattle.sweep.specs.declared.Stepped.{Stepped}
 use Rattle.sweep.specs.Step.{Stepping, answerOf, isAdded}
@@ -35,8 +38,8 @@ use Rattle.sweep.specs.StepCallLaws.{step-fate, full-added, step-range, step-sw
 use Rattle.sweep.specs.SweepLaws.{step-count}
 use Rattle.commit.specs.Commit.{isCounted, commitChanges, CommitOutcome, committedWith, nothingDone}
 use Rattle.commit.specs.Commit.{commitOf}
-use Rattle.commit.specs.CommitParts.{checks, commit-step, commit-none, commit-is, commit-table, stale-table, end-table, plus-none, counts-of}
-use Rattle.commit.specs.QuoteAnswer.{stepChecks, made, told, step-never, step-none, mesh-accepts, answer-is, answered}
+use Rattle.commit.specs.CommitParts.{checks, commit-step, commit-quote, commit-none, commit-is, commit-table, stale-table, end-table, plus-none, counts-of}
+use Rattle.commit.specs.QuoteAnswer.{stepChecks, made, told, step-never, step-none, mesh-accepts, answer-is, answered, quote-answer}
 
 -- ---- the commit beside the step
 module _ (changes : ℕ) (C : Counts) (s : SurfaceRows) (ring : RingRows) (pending : List ℕ) (center : Point2) (v : Point) (z : ℤ) where
@@ -82,6 +85,22 @@ module _ (changes : ℕ) (C : Counts) (s : SurfaceRows) (ring : RingRows) (pendi
     commit-end e k = commit-none changes C s ring pending center v z q (end-table changes C s _ _ _ _ center v z q accepted k e)
 
   module _ (q : Quote) where
+    -- WHAT WAS QUOTED IS WHAT IS DONE: an accepted commit's answer has the fate and the faces of its quote
+    pub commit-told : (x : Answer) → commitOf changes C s ring pending center v z q .step .call .answer .stepped ≡ Stepped.Accepted x
+        → (q .fate ≡ fateNumber (x .fate)) × (q .faces ≡ x .faces)
+    commit-told x e = go (checks changes C s ring pending center v z q) refl
+      where
+        go : (c : Checked) → checks changes C s ring pending center v z q ≡ c → (q .fate ≡ fateNumber (x .fate)) × (q .faces ≡ x .faces)
+        go (Refused r) k =
+            let w : Stepped.Refused r ≡ Stepped.Accepted x
+            = ap (λ (y : CommitOutcome). y .step .call .answer .stepped) (sym (commit-none changes C s ring pending center v z q k)) ∙ e in
+            absurd (let i : _≡_ {A = ℕ} 0 1 = cc in omega arith)
+        go Accepted k =
+            let same = commit-quote changes C s _ _ _ _ center v z q k in
+            let w = quote-answer C s ring pending center v z changes x
+            (ap (λ (y : CommitOutcome). y .step .call .answer .stepped) (sym (commit-is changes C s ring pending center v z q k)) ∙ e) in
+            (ap (λ (p : Quote). p .fate) same ∙ w .0, ap (λ (p : Quote). p .faces) same ∙ w .1)
+
     -- A REFUSED COMMIT OTHER THAN 9 CHANGES NOTHING, the count neither
     pub commit-refused : (r : Refusal) → commitOf changes C s ring pending center v z q .step .call .answer .stepped ≡ Stepped.Refused r
         → r .number ≢ 9 → commitOf changes C s ring pending center v z q ≡ nothingDone changes C s ring pending (Stepped.Refused r)
