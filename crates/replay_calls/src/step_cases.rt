@@ -6,7 +6,6 @@ use super::StepLeft;
 use fithmoul::results::StepResult;
 use test_mesh::WORDS;
 use test_mesh::lines;
-use test_mesh::lines::HeightLine;
 
 // Refusal, place, fate, vertex, faces and flips.
 fn numbers_of(r: StepResult) -> [u64; 6] {
@@ -30,18 +29,6 @@ fn step_agrees(text: &[u8], mesh: usize, at: usize, left: StepLeft) -> bool {
     m.agrees & left.cleared & line
 }
 
-// The point's height, 0 where its line is missing.
-fn read_point_height(text: &[u8], at: usize) -> HeightLine {
-    if test_text::byte(text, at) == b'y' {
-        return lines::read_height(text, at, b'y');
-    }
-    HeightLine {
-        height: 0,
-        at: at,
-        is_whole: true,
-    }
-}
-
 // The case whose line `m` stands at a place.
 pub fn agrees(text: &[u8], at: usize) -> bool {
     let m = test_mesh::read_mesh(text, at, test_mesh::LENT, false);
@@ -49,7 +36,7 @@ pub fn agrees(text: &[u8], at: usize) -> bool {
     let q = lines::read_sevens(text, n.at, b'q', WORDS);
     let x = lines::read_center(text, q.at, b'x');
     let v = lines::read_point(text, x.at);
-    let y = read_point_height(text, v.at);
+    let y = lines::read_point_height(text, v.at);
     let cleared = lines::cleared(text, y.at);
     let left = super::step_on(
         m.mesh,

@@ -8,6 +8,7 @@ use super::Ring;
 use super::WORDS;
 use angle::Point2;
 use math::Point;
+use quote::Quote;
 use test_text::Number;
 
 pub struct RingLine {
@@ -40,6 +41,36 @@ pub struct HeightLine {
     pub height: i32,
     pub at: usize,
     pub is_whole: bool,
+}
+
+pub struct ChangesLine {
+    pub changes: u32,
+    pub at: usize,
+    pub is_whole: bool,
+}
+
+pub struct QuoteLine {
+    pub quote: Quote,
+    pub at: usize,
+    pub is_whole: bool,
+}
+
+// The change count of a mesh, 7 where its line `c` is missing, as rows are lent with 7.
+pub fn read_changes(text: &[u8], at: usize) -> ChangesLine {
+    if test_text::byte(text, at) == b'c' {
+        let changes = test_text::read_word(text, test_text::behind(text, at));
+        let end = changes.at;
+        return ChangesLine {
+            changes: changes.value,
+            at: test_text::behind(text, end),
+            is_whole: super::is_line(text, at, b'c', end),
+        };
+    }
+    ChangesLine {
+        changes: 7,
+        at: at,
+        is_whole: true,
+    }
 }
 
 // `n nodes freed buckets`
@@ -120,6 +151,40 @@ pub fn read_height(text: &[u8], at: usize, tag: u8) -> HeightLine {
     let end = z.at;
     HeightLine {
         height: z.value,
+        at: test_text::behind(text, end),
+        is_whole: super::is_line(text, at, tag, end),
+    }
+}
+
+// The height of a single point, 0 where its line `y` is missing.
+pub fn read_point_height(text: &[u8], at: usize) -> HeightLine {
+    if test_text::byte(text, at) == b'y' {
+        return read_height(text, at, b'y');
+    }
+    HeightLine {
+        height: 0,
+        at: at,
+        is_whole: true,
+    }
+}
+
+// A line with a quote: `changes x y z fate faces` behind its tag.
+pub fn read_quote(text: &[u8], at: usize, tag: u8) -> QuoteLine {
+    let changes = test_text::read_word(text, test_text::behind(text, at));
+    let p = super::read_point(text, changes.at);
+    let z = test_text::read_coordinate(text, p.at);
+    let fate = test_text::read_natural(text, z.at);
+    let faces = test_text::read_natural(text, fate.at);
+    let end = faces.at;
+    QuoteLine {
+        quote: Quote {
+            changes: changes.value,
+            x: p.p.x,
+            y: p.p.y,
+            z: z.value,
+            fate: fate.magnitude,
+            faces: faces.magnitude,
+        },
         at: test_text::behind(text, end),
         is_whole: super::is_line(text, at, tag, end),
     }
