@@ -10,6 +10,7 @@ use super::RunLeft;
 use super::Stepped;
 use angle::Point2;
 use fithmoul::results::FinishResult;
+use fithmoul::results::RunResult;
 use test_mesh::Agreed;
 use test_mesh::Coordinates;
 use test_mesh::CoordinatesLine;
@@ -100,7 +101,7 @@ fn pass_agrees(text: &[u8], at: usize, after: Passed) -> Agreed {
 }
 
 // Whether the numbers of a run are those of a pass and of the finish after it together.
-fn add_up(run: FinishResult, pass: PassLine, rest: FinishResult) -> bool {
+fn add_up(run: RunResult, pass: PassLine, rest: FinishResult) -> bool {
     let faces = run.faces_added as u64;
     let flips = run.convex_flips;
     if faces < pass.faces {
@@ -135,12 +136,13 @@ fn completed_agrees(text: &[u8], at: usize, g: PassLine, ran: RunLeft) -> bool {
         & test_text::is_line_of(text, m.at, b'e', &[])
 }
 
-// Whether a run agrees with the lines behind the first pass, whose line `g` stands at `pass`.
+// Whether a run agrees with the lines behind the first pass, whose line `g` stands at `pass`. The Rust has no change count; a run starts
+// it at 0.
 fn run_agrees(text: &[u8], pass: usize, at: usize, ran: RunLeft) -> bool {
+    let cleared = ran.cleared & (ran.result.changes == 0);
     if is_last(text, at, b'l') | is_last(text, at, b'b') {
-        return ran.cleared & (ran.result.refusal == 0);
+        return cleared & (ran.result.refusal == 0);
     }
-    let cleared = ran.cleared;
     completed_agrees(text, at, read_pass(text, pass), ran) & cleared
 }
 
@@ -155,7 +157,17 @@ fn case_agrees(text: &[u8], at: usize, mesh: Mesh, center: Point2, points: Coord
         buckets: WORDS,
     };
     let point_heights = test_mesh::zero_heights();
-    let ran = super::run_on(mesh, ring, WORDS, LONGS, center, points, point_heights, 0);
+    let ran = super::run_on(
+        mesh,
+        7,
+        ring,
+        WORDS,
+        LONGS,
+        center,
+        points,
+        point_heights,
+        0,
+    );
     let stepped = super::steps_on(mesh, center, points);
     let last = stepped.mesh;
     let s = steps_agree(text, at, stepped);

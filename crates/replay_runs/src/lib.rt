@@ -6,6 +6,7 @@ ghost use Prim.Native.Nat.{_≤_};
 ghost use Rattle.test_mesh.specs.Lent.{CoordinatesLent, MeshLent, RingLent};
 use angle::Point2;
 use fithmoul::results::FinishResult;
+use fithmoul::results::RunResult;
 use mesh::Counts;
 use test_mesh::Coordinates;
 use test_mesh::LONGS;
@@ -27,7 +28,7 @@ pub struct FinishLeft {
 
 // What a run has answered and left; whether the ring's rows and pending hold what they must.
 pub struct RunLeft {
-    pub result: FinishResult,
+    pub result: RunResult,
     pub mesh: Mesh,
     pub answers: Longs,
     pub cleared: bool,
@@ -46,7 +47,7 @@ pub struct Passed {
     pub flips: u64,
 }
 
-// Numbers of a result: refusal, place, faces, flips of the convexity passes and of the closing pass.
+// Numbers of a finish: refusal, place, faces, flips of the convexity passes and of the closing pass.
 pub fn numbers_of(r: FinishResult) -> [u64; 5] {
     [
         r.refusal as u64,
@@ -100,6 +101,7 @@ pub fn finish_on(mesh: Mesh, pending_length: usize, v: u32) -> FinishLeft
 // The ring's rows and pending must hold v after the call.
 pub fn run_on(
     mesh: Mesh,
+    changes: u32,
     ring: Ring,
     pending_length: usize,
     answers_length: usize,
@@ -142,6 +144,7 @@ pub fn run_on(
         counts.vertices,
         counts.edges,
         counts.faces,
+        changes,
         &mut positions[..positions_length],
         &mut heights[..heights_length],
         &mut outs[..outs_length],

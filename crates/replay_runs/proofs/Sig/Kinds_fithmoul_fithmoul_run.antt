@@ -1,7 +1,7 @@
 -- Made by tools/transplant.py from what the borrow checker makes of the twin of this crate.
 use Rattle.ring_rows.proofs.Node as ELEM
-use Rattle.fithmoul.proofs.results.FinishResult
-use Rattle.fithmoul.proofs.results.FinishResult.Laws
+use Rattle.fithmoul.proofs.results.RunResult
+use Rattle.fithmoul.proofs.results.RunResult.Laws
 use borrow.Fn.Kinds
 use borrow.Kind.Float
 use borrow.Kind.MutSlice
@@ -21,7 +21,7 @@ use mathlib.Core.Path as Path'
 use mir.Syntax
 
 abbrev pub ps : List.List (Kinds.PK 12)
-ps = List._∷_ (Kinds.pNum Syntax.w32) (List._∷_ (Kinds.pNum Syntax.w32) (List._∷_ (Kinds.pNum Syntax.w32) (List._∷_ (MutSlice.pMutS (Signed.SInt Syntax.w32) 0 tt) (List._∷_ (MutSlice.pMutS (Signed.SInt Syntax.w32) 1 tt) (List._∷_ (MutSlice.pMutS (Referent.rtF (Referent.fInt Syntax.w32)) 2 tt) (List._∷_ (MutSlice.pMutS (Referent.rtF (Referent.fInt Syntax.w32)) 3 tt) (List._∷_ (MutSlice.pMutS (Referent.rtF (Referent.fInt Syntax.w32)) 4 tt) (List._∷_ (MutSlice.pMutS ELEM.the-row 5 tt) (List._∷_ (MutSlice.pMutS (Referent.rtF (Referent.fInt Syntax.w32)) 6 tt) (List._∷_ (MutSlice.pMutS (Referent.rtF (Referent.fInt Syntax.w32)) 7 tt) (List._∷_ (MutSlice.pMutS (Referent.rtF (Referent.fInt Syntax.w32)) 8 tt) (List._∷_ (MutSlice.pMutS (Referent.rtF (Referent.fInt Syntax.w64)) 9 tt) (List._∷_ (Float.pFloat Ieee.binary64) (List._∷_ (Float.pFloat Ieee.binary64) (List._∷_ (ShrSlice.pShrS (Signed.SInt Syntax.w32) 10 tt) (List._∷_ (ShrSlice.pShrS (Signed.SInt Syntax.w32) 11 tt) List.[]))))))))))))))))
+ps = List._∷_ (Kinds.pNum Syntax.w32) (List._∷_ (Kinds.pNum Syntax.w32) (List._∷_ (Kinds.pNum Syntax.w32) (List._∷_ (Kinds.pNum Syntax.w32) (List._∷_ (MutSlice.pMutS (Signed.SInt Syntax.w32) 0 tt) (List._∷_ (MutSlice.pMutS (Signed.SInt Syntax.w32) 1 tt) (List._∷_ (MutSlice.pMutS (Referent.rtF (Referent.fInt Syntax.w32)) 2 tt) (List._∷_ (MutSlice.pMutS (Referent.rtF (Referent.fInt Syntax.w32)) 3 tt) (List._∷_ (MutSlice.pMutS (Referent.rtF (Referent.fInt Syntax.w32)) 4 tt) (List._∷_ (MutSlice.pMutS ELEM.the-row 5 tt) (List._∷_ (MutSlice.pMutS (Referent.rtF (Referent.fInt Syntax.w32)) 6 tt) (List._∷_ (MutSlice.pMutS (Referent.rtF (Referent.fInt Syntax.w32)) 7 tt) (List._∷_ (MutSlice.pMutS (Referent.rtF (Referent.fInt Syntax.w32)) 8 tt) (List._∷_ (MutSlice.pMutS (Referent.rtF (Referent.fInt Syntax.w64)) 9 tt) (List._∷_ (Float.pFloat Ieee.binary64) (List._∷_ (Float.pFloat Ieee.binary64) (List._∷_ (ShrSlice.pShrS (Signed.SInt Syntax.w32) 10 tt) (List._∷_ (ShrSlice.pShrS (Signed.SInt Syntax.w32) 11 tt) List.[])))))))))))))))))
 
 abbrev pub r : Kinds.RK 12
-r = Value.rVal record { ty = Declared.row FinishResult.the-type; one = Path'.refl; val = Laws'.val FinishResult.the-type Laws.the-laws; tells = Laws'.tells FinishResult.the-type Laws.the-laws; still = Laws'.still FinishResult.the-type Laws.the-copy Exit.yes; row = Rows.whole (Declared.row FinishResult.the-type); rd = λ x. x; mk = λ x. x } λ M 𝓤 H A W. record { copies = Laws'.copy FinishResult.the-type Laws.the-copy 𝓤 H A W; lawful = Laws'.lawful FinishResult.the-type Laws.the-laws 𝓤 H A W; makes = Laws'.makes FinishResult.the-type Laws.the-plain 𝓤 H A; in-mem = Local.mem-whole 𝓤 H A W (Declared.row FinishResult.the-type); of-mem = Local.whole-mem 𝓤 H A W (Declared.row FinishResult.the-type) }
+r = Value.rVal record { ty = Declared.row RunResult.the-type; one = Path'.refl; val = Laws'.val RunResult.the-type Laws.the-laws; tells = Laws'.tells RunResult.the-type Laws.the-laws; still = Laws'.still RunResult.the-type Laws.the-copy Exit.yes; row = Rows.whole (Declared.row RunResult.the-type); rd = λ x. x; mk = λ x. x } λ M 𝓤 H A W. record { copies = Laws'.copy RunResult.the-type Laws.the-copy 𝓤 H A W; lawful = Laws'.lawful RunResult.the-type Laws.the-laws 𝓤 H A W; makes = Laws'.makes RunResult.the-type Laws.the-plain 𝓤 H A; in-mem = Local.mem-whole 𝓤 H A W (Declared.row RunResult.the-type); of-mem = Local.whole-mem 𝓤 H A W (Declared.row RunResult.the-type) }

@@ -6,6 +6,9 @@ use Rattle.replay_runs.proofs.run_cases.agrees.Tie as tie
 read-mesh-requires : tie.Need-read-mesh-requires
 read-mesh-requires c κs = search needs
 
+read-changes-requires : tie.Need-read-changes-requires
+read-changes-requires c κs = search needs
+
 read-ring-requires : tie.Need-read-ring-requires
 read-ring-requires c κs = search needs
 
@@ -27,8 +30,11 @@ read-heights-requires c κs = search needs
 cleared-requires : tie.Need-cleared-requires
 cleared-requires c κs = search needs
 
+changes-due-requires : tie.Need-changes-due-requires
+changes-due-requires c κs = search needs
+
 run-on-requires : tie.Need-run-on-requires
-run-on-requires c κs = (c .before .before .before .before .before .before .before .read-mesh .ensures, (c .before .before .before .before .before .before .read-ring .ensures, (c .before .before .before .before .before .read-sevens .ensures, (c .before .before .before .read-sevens2 .ensures, (c .before .before .read-points .ensures, c .before .read-heights .ensures)))))
+run-on-requires c κs = (c .before .before .before .before .before .before .before .before .before .read-mesh .ensures, (c .before .before .before .before .before .before .before .read-ring .ensures, (c .before .before .before .before .before .before .read-sevens .ensures, (c .before .before .before .before .read-sevens2 .ensures, (c .before .before .before .read-points .ensures, c .before .before .read-heights .ensures)))))
 
 run-agrees-requires : tie.Need-run-agrees-requires
 run-agrees-requires c κs = search needs
@@ -41,6 +47,7 @@ agrees-spec =
     tie.close
     (tie.spec
     read-mesh-requires
+    read-changes-requires
     read-ring-requires
     read-sevens-requires
     read-center-requires
@@ -48,6 +55,7 @@ agrees-spec =
     read-points-requires
     read-heights-requires
     cleared-requires
+    changes-due-requires
     run-on-requires
     run-agrees-requires
     returns)
