@@ -15,6 +15,8 @@ enum List {
     Step,
     Run,
     Volume,
+    Ask,
+    Commit,
     Answers,
 }
 
@@ -86,6 +88,8 @@ fn agrees(text: &[u8], t: Tally, list: List) -> bool {
         List::Step => replay_calls::step_cases::agrees(text, t.at),
         List::Run => replay_runs::run_cases::agrees(text, t.at),
         List::Volume => replay_calls::volume_cases::agrees(text, t.at),
+        List::Ask => replay_quotes::ask_cases::agrees(text, t.at),
+        List::Commit => replay_quotes::commit_cases::agrees(text, t.at),
         List::Answers => replay_runs::answers_cases::agrees(text, t.at),
     }
 }
@@ -180,5 +184,7 @@ fn main() {
     replay(b"step", b"step.txt", List::Step);
     replay(b"run", b"run.txt", List::Run);
     replay(b"volume", b"volume.txt", List::Volume);
+    replay(b"ask", b"ask.txt", List::Ask);
+    replay(b"commit", b"commit.txt", List::Commit);
     replay(b"answers", b"answers.txt", List::Answers);
 }

@@ -1,0 +1,27 @@
+-- Made by tools/transplant.py from what the borrow checker makes of the twin of this crate.
+use Rattle.ring_rows.proofs.Node as ELEM
+use Rattle.fithmoul.proofs.results.AskResult
+use Rattle.fithmoul.proofs.results.AskResult.Laws
+use borrow.Fn.Kinds
+use borrow.Kind.Float
+use borrow.Kind.MutSlice
+use borrow.Kind.ShrSlice
+use borrow.Kind.Value
+use borrow.Rule.Local
+use borrow.Table.Referent
+use borrow.Table.Rows
+use denote.Array
+use denote.Exit
+use denote.Signed
+use denote.Struct.Declared
+use denote.Struct.Laws as Laws'
+use lib.Ieee
+use mathlib.Core.List
+use mathlib.Core.Path as Path'
+use mir.Syntax
+
+abbrev pub ps : List.List (Kinds.PK 8)
+ps = List._∷_ (Kinds.pNum Syntax.w32) (List._∷_ (Kinds.pNum Syntax.w32) (List._∷_ (Kinds.pNum Syntax.w32) (List._∷_ (Kinds.pNum Syntax.w32) (List._∷_ (ShrSlice.pShrS (Signed.SInt Syntax.w32) 0 tt) (List._∷_ (ShrSlice.pShrS (Signed.SInt Syntax.w32) 1 tt) (List._∷_ (ShrSlice.pShrS (Referent.rtF (Referent.fInt Syntax.w32)) 2 tt) (List._∷_ (ShrSlice.pShrS (Referent.rtF (Referent.fInt Syntax.w32)) 3 tt) (List._∷_ (ShrSlice.pShrS (Referent.rtF (Referent.fInt Syntax.w32)) 4 tt) (List._∷_ (MutSlice.pMutS ELEM.the-row 5 tt) (List._∷_ (MutSlice.pMutS (Referent.rtF (Referent.fInt Syntax.w32)) 6 tt) (List._∷_ (MutSlice.pMutS (Referent.rtF (Referent.fInt Syntax.w32)) 7 tt) (List._∷_ (Float.pFloat Ieee.binary64) (List._∷_ (Float.pFloat Ieee.binary64) (List._∷_ (Kinds.pSNum Syntax.w32) (List._∷_ (Kinds.pSNum Syntax.w32) (List._∷_ (Kinds.pSNum Syntax.w32) List.[]))))))))))))))))
+
+abbrev pub r : Kinds.RK 8
+r = Value.rVal record { ty = Declared.row AskResult.the-type; one = Path'.refl; val = Laws'.val AskResult.the-type Laws.the-laws; tells = Laws'.tells AskResult.the-type Laws.the-laws; still = Laws'.still AskResult.the-type Laws.the-copy Exit.yes; row = Rows.whole (Declared.row AskResult.the-type); rd = λ x. x; mk = λ x. x } λ M 𝓤 H A W. record { copies = Laws'.copy AskResult.the-type Laws.the-copy 𝓤 H A W; lawful = Laws'.lawful AskResult.the-type Laws.the-laws 𝓤 H A W; makes = Laws'.makes AskResult.the-type Laws.the-plain 𝓤 H A; in-mem = Local.mem-whole 𝓤 H A W (Declared.row AskResult.the-type); of-mem = Local.whole-mem 𝓤 H A W (Declared.row AskResult.the-type) }

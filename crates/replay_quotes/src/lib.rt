@@ -1,0 +1,146 @@
+// The cases of asking and committing: a file for each list, whose `agrees` says whether a case does. The calls are made on rows that are
+// owned here: each function lends the rows of a case, of which so many entries are the call's, and hands back what the call has answered
+// and left. The ring's rows and pending are lent with 7 in every entry. No function above these has a row of nodes.
+ghost use Prim.Native.Nat.{_≤_};
+ghost use Rattle.test_mesh.specs.Lent.{MeshLent, RingLent};
+use angle::Point2;
+use fithmoul::results::AskResult;
+use fithmoul::results::CommitResult;
+use math::Point;
+use mesh::Counts;
+use quote::Quote;
+use test_mesh::Mesh;
+use test_mesh::Ring;
+use test_mesh::WORDS;
+
+pub mod ask_cases;
+pub mod commit_cases;
+
+// What an ask has answered; whether the ring's rows hold what they must.
+pub struct AskLeft {
+    pub result: AskResult,
+    pub cleared: bool,
+}
+
+// What a commit has answered and left; whether the ring's rows and pending hold what they must.
+pub struct CommitLeft {
+    pub result: CommitResult,
+    pub mesh: Mesh,
+    pub cleared: bool,
+}
+
+// The ring's rows must hold zeros after an accepted call, and sevens after a refused one.
+pub fn ask_on(mesh: Mesh, changes: u32, ring: Ring, center: Point2, point: Point, z: i32) -> AskLeft
+    requires { ⌜ MeshLent mesh ⌝ }
+    requires { ⌜ RingLent ring ⌝ }
+{
+    let positions = mesh.positions.row;
+    let heights = mesh.heights.row;
+    let outs = mesh.outs.row;
+    let halves = mesh.halves.row;
+    let faces = mesh.faces.row;
+    let mut nodes = test_mesh::seven_nodes();
+    let mut freed = [7u32; WORDS];
+    let mut buckets = [7u32; WORDS];
+    let positions_length = mesh.positions.length;
+    let heights_length = mesh.heights.length;
+    let outs_length = mesh.outs.length;
+    let halves_length = mesh.halves.length;
+    let faces_length = mesh.faces.length;
+    let nodes_length = ring.nodes;
+    let freed_length = ring.freed;
+    let buckets_length = ring.buckets;
+    let counts = mesh.counts;
+    let r = fithmoul::fithmoul_ask(
+        counts.vertices,
+        counts.edges,
+        counts.faces,
+        changes,
+        &positions[..positions_length],
+        &heights[..heights_length],
+        &outs[..outs_length],
+        &halves[..halves_length],
+        &faces[..faces_length],
+        &mut nodes[..nodes_length],
+        &mut freed[..freed_length],
+        &mut buckets[..buckets_length],
+        center.x,
+        center.y,
+        point.x,
+        point.y,
+        z,
+    );
+    let v: u32 = if r.refusal == 0 { 0 } else { 7 };
+    AskLeft {
+        result: r,
+        cleared: test_mesh::ring_holds(ring, nodes, freed, buckets, v),
+    }
+}
+
+// The ring's rows and pending must hold v after the call.
+pub fn commit_on(
+    mesh: Mesh,
+    changes: u32,
+    ring: Ring,
+    pending_length: usize,
+    center: Point2,
+    point: Point,
+    z: i32,
+    quote: Quote,
+    v: u32,
+) -> CommitLeft
+    requires { ⌜ MeshLent mesh ⌝ }
+    requires { ⌜ RingLent ring ⌝ }
+    requires { ⌜ «pending_length» ≤ 6144 ⌝ }
+{
+    let mut positions = mesh.positions.row;
+    let mut heights = mesh.heights.row;
+    let mut outs = mesh.outs.row;
+    let mut halves = mesh.halves.row;
+    let mut faces = mesh.faces.row;
+    let mut nodes = test_mesh::seven_nodes();
+    let mut freed = [7u32; WORDS];
+    let mut buckets = [7u32; WORDS];
+    let mut pending = [7u32; WORDS];
+    let positions_length = mesh.positions.length;
+    let heights_length = mesh.heights.length;
+    let outs_length = mesh.outs.length;
+    let halves_length = mesh.halves.length;
+    let faces_length = mesh.faces.length;
+    let nodes_length = ring.nodes;
+    let freed_length = ring.freed;
+    let buckets_length = ring.buckets;
+    let counts = mesh.counts;
+    let r = fithmoul::fithmoul_commit(
+        counts.vertices,
+        counts.edges,
+        counts.faces,
+        changes,
+        &mut positions[..positions_length],
+        &mut heights[..heights_length],
+        &mut outs[..outs_length],
+        &mut halves[..halves_length],
+        &mut faces[..faces_length],
+        &mut nodes[..nodes_length],
+        &mut freed[..freed_length],
+        &mut buckets[..buckets_length],
+        &mut pending[..pending_length],
+        center.x,
+        center.y,
+        point.x,
+        point.y,
+        z,
+        quote,
+    );
+    let left = Counts {
+        vertices: r.vertices,
+        edges: r.edges,
+        faces: r.faces,
+    };
+    CommitLeft {
+        result: r,
+        mesh: test_mesh::with_rows(mesh, left, positions, heights, outs, halves, faces),
+        cleared: test_mesh::ring_holds(ring, nodes, freed, buckets, v)
+            & test_mesh::holds(pending, pending_length, v),
+    }
+}
