@@ -10,18 +10,19 @@ use Rattle.angle.specs.declared.VertexAngle.the-variants.{Angle}
 use Rattle.angle.specs.Angle.{IsAngle, turns}
 use Rattle.angle.specs.Answer.{vertexAngle}
 use Rattle.dcel.specs.MeshRows.{meshRows, linksIn, placesIn}
-use Rattle.dcel.specs.Rows.{rowOf}
+use Rattle.dcel.specs.Rows.{halvesOf, rowOf}
 use Rattle.decide.specs.declared.Decision.{Decision}
 use Rattle.decide.specs.Decide.{decided}
 use Rattle.decide.specs.Located.{DecidesAt, LocatedRows, ToDecideAt}
 use Rattle.decide.specs.SweepRows.{Decides}
 use Rattle.decide.specs.VertexAngles.{angle-is, decided-located}
+use Rattle.hull.specs.Boundary.{AngleAt}
 use Rattle.locate.specs.Start.{AcceptedStart}
 use Rattle.math.specs.declared.Point.{Point}
 use Rattle.mesh.specs.declared.Counts.{Counts}
 use Rattle.start.specs.Start.{pointRow}
 use Rattle.ask.specs.AskRows.{edgeHolding, ToQuote}
-use Rattle.ask.specs.AskRowsLaws.{held-located, quote-located}
+use Rattle.ask.specs.AskRowsLaws.{held-located, quote-located, quote-ends}
 
 module _ (v : Point) (center : Point2) {r : VertexAngle} {x y : ℤ} (is : r ≡ vertexAngle x y (center .x) (center .y))
     (x-is : x ≡ v .x) (y-is : y ≡ v .y) {g : Float} (z : r ≡ Angle g) (A : IsAngle g) {C : Counts} {q : List ℤ} {h a : List ℕ}
@@ -31,8 +32,12 @@ module _ (v : Point) (center : Point2) {r : VertexAngle} {x y : ℤ} (is : r ≡
       → LocatedRows C q o h a (center .x) (center .y) e size (C .vertices) v g
   located S = quote-located S s n A (angle-is v (center .x) (center .y) is x-is y-is z .1) found
 
-  pub asks-at : ToQuote C q h a center v → ToDecideAt q h (center .x) (center .y) e size (C .vertices) v g
-  asks-at T = record { counts = C; outs = T .outs; faces = a; located = located (T .start) }
+  pub asks-at : {d : ℕ} → d ≡ halvesOf h .next e
+      → {from to : Float} → AngleAt q h (center .x) (center .y) e from → AngleAt q h (center .x) (center .y) d to
+      → ToQuote C q h a center v → ToDecideAt q h (center .x) (center .y) e from to size (C .vertices) v g
+  asks-at d F G T =
+      let K = located (T .start) in
+      record { counts = C; outs = T .outs; faces = a; located = K; ends = quote-ends (T .start) (K .in-use) d F G }
 
   pub at-located : {d : Decision}
       → ((B : Counts) (o f : List ℕ) → LocatedRows B q o h f (center .x) (center .y) e size (C .vertices) v g

@@ -2,7 +2,7 @@
 -- nothing.
 use mathlib.Core.List.{List}
 use mathlib.Core.Path.{_≡_, refl, sym, _∙_, ap, subst}
-use Prim.Native.Nat.{ℕ, _-_, _*_}
+use Prim.Native.Nat.{ℕ, _+_, _-_, _*_}
 use native.Mathlib.Omega.{arith}
 use lib.Dec.{T}
 use lib.Ieee.{Float}
@@ -11,9 +11,10 @@ use Rattle.angle.specs.declared.Point2.{Point2}
 use Rattle.angle.specs.Angle.{IsAngle, angleAbout, turns, validCenter}
 use Rattle.dcel.specs.MeshHeld.{MeshHeld}
 use Rattle.dcel.specs.MeshRows.{meshRows}
-use Rattle.dcel.specs.Rows.{linksOf, positionOf, rowOf}
-use Rattle.decide.specs.Located.{LocatedRows}
-use Rattle.hull.specs.Boundary.{AngledBoundary}
+use Rattle.dcel.specs.Rows.{halvesOf, linksOf, positionOf, rowOf}
+use Rattle.decide.specs.Located.{LocatedRows, EndAngles}
+use Rattle.hull.specs.Along.{next-at, angled}
+use Rattle.hull.specs.Boundary.{AngledBoundary, Angled, AngleAt, originTurns}
 use Rattle.hull.specs.Ready.{size-is, angled-boundary}
 use Rattle.locate.specs.Start.{AcceptedStart, accepted-held, accepted-placed}
 use Rattle.math.specs.declared.Point.{Point}
@@ -23,14 +24,15 @@ use Rattle.mesh.specs.Mesh.{In}
 use Rattle.mesh.specs.Area.{boundaryLength}
 use Rattle.mesh.specs.BoundaryLaws.{first<, first-outer}
 use Rattle.mesh_check.specs.Check.{pointCount}
-use Rattle.ring.specs.Boundary.{located<, located-outer, located-holds, outer-on, outer-round, strict-ring, strict-nodes}
+use Rattle.ring.specs.Boundary.{edge-end, located<, located-outer, located-holds, outer-on, outer-round, strict-ring, strict-nodes}
 use Rattle.ring.specs.Center.{turnsAbout}
 use Rattle.ring.specs.Node.{nodes as nodeCount}
 use Rattle.ring.specs.Ring.{atEnds, boundaryEdges, edgeAngle, isSoundRing, located, proper}
 use Rattle.start.specs.Start.{pointRow}
 use Rattle.start.specs.StartLaws.{accepted-rows}
+use Rattle.sums.specs.Bounded.{first-below}
 use Rattle.sums.specs.Tally.{tally-at}
-use Rattle.ask.specs.AskRows.{edgeHolding}
+use Rattle.ask.specs.AskRows.{edgeHolds, edgeHolding}
 
 module _ {v : Point} {C : Counts} {q : List ℤ} {o h a : List ℕ} {center : Point2}
     (A : AcceptedStart (pointRow v) C (meshRows q o h a) center) where
@@ -81,6 +83,28 @@ module _ {v : Point} {C : Counts} {q : List ℤ} {o h a : List ℕ} {center : Po
     pub held-located : e ≡ located C (linksOf o h a) α x
     unfolding located linksOf
     held-located = is ∙ rw (s, whole) refl
+
+  -- the edge that is found has an angle at its origin, and the next one too
+  pub found-angled : (start size x : ℕ) {e : ℕ} → start ≡ rowOf a 0 → e ≡ edgeHolding q h cx cy start size x → Angled q h cx cy e
+  found-angled start size x s is = angled (first-below size (edgeHolds q h cx cy start x)) (quote-boundary s) is
+
+  pub next-angled : (start size x : ℕ) {e n : ℕ} → start ≡ rowOf a 0 → e ≡ edgeHolding q h cx cy start size x → n ≡ halvesOf h .next e
+      → Angled q h cx cy n
+  next-angled start size x s is d =
+      let k = first-below size (edgeHolds q h cx cy start x) in
+      angled (k + 1) (quote-boundary s) (next-at h start k is d)
+
+  -- those are the angles of its ends
+  pub quote-ends : {e n : ℕ} → In C e → n ≡ halvesOf h .next e → {from to : Float} → AngleAt q h cx cy e from → AngleAt q h cx cy n to
+      → EndAngles q h cx cy e from to
+  unfolding linksOf
+  quote-ends l d A B = record {
+    from-angle = A;
+    to-angle = record {
+      is-angle = B .is-angle;
+      turns-are = B .turns-are ∙ ap (originTurns q h cx cy) d ∙ edge-end (held .rules) α l;
+    };
+  }
 
   pub quote-located : {start size e : ℕ} → start ≡ rowOf a 0 → size ≡ 2 * C .edges - 3 * (C .faces - 1)
       → {g : Float} → IsAngle g → g ≡ angleAbout (v .x) (v .y) cx cy → e ≡ edgeHolding q h cx cy start size (turns g)

@@ -94,10 +94,14 @@ fn decide_now(
     let start = dcel::adjacent(faces, 0);
     let size = hull::convex_hull_size(counts);
     let e = located_edge(positions, halves, start, size, center, angle);
+    let from = hull::angle_at(positions, halves, e, center);
+    let to = hull::angle_at(positions, halves, dcel::next(halves, e), center);
     decide::decide_at(
         positions,
         halves,
         e,
+        from,
+        to,
         size,
         counts.vertices,
         point,

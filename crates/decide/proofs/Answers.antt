@@ -20,7 +20,7 @@ use Rattle.segment.specs.Bucket.{floorOf}
 use Rattle.decide.specs.declared.Decision.{Decision}
 use Rattle.decide.specs.Decide.{decided}
 use Rattle.decide.specs.SweepRows.{Decides, SweepRows, ToDecide}
-use Rattle.decide.specs.SweepRowsLaws.{found-located, located-rows}
+use Rattle.decide.specs.SweepRowsLaws.{found-located, found-ends, located-rows}
 use Rattle.decide.specs.Located.{DecidesAt, LocatedRows, ToDecideAt}
 use Rattle.decide.specs.VertexAngles.{angle-is, decided-located}
 
@@ -28,12 +28,14 @@ module _ (v : Point) (cx cy : Float) {r : VertexAngle} {x y : ℤ} (is : r ≡ v
     {g : Float} (z : r ≡ Angle g) (A : IsAngle g) {C : Counts} {q : List ℤ} {h : List ℕ} {nodes : List Node} {buckets : List ℕ}
     {hull : Hull} {found : Found}
     (G : Got (nodesOf nodes) (sizeOf hull) (rowOf buckets (floorOf (turns g) (hull .buckets))) (turns g) found) where
-  pub asks-at : ToDecide C q h nodes buckets hull cx cy v → ToDecideAt q h cx cy (found .edge) (sizeOf hull) (C .vertices) v g
-  asks-at T = record {
+  pub asks-at : {n m : Node} → n ≡ nodesOf nodes (found .node) → m ≡ nodesOf nodes (n .right) → ToDecide C q h nodes buckets hull cx cy v
+      → ToDecideAt q h cx cy (found .edge) (n .angle) (m .angle) (sizeOf hull) (C .vertices) v g
+  asks-at i j T = record {
     counts = C;
     outs = T .outs;
     faces = T .faces;
     located = located-rows (T .sweep) (T .range) A (angle-is v cx cy is x-is y-is z .1) G;
+    ends = found-ends (T .sweep) G i j;
   }
 
   pub at-located : InRange v → {d : Decision}

@@ -39,7 +39,7 @@ use Rattle.decide.specs.declared.Fate.{Fate}
 use Rattle.decide.specs.declared.Fate.the-variants.{Added, Dropped, NotLeft, Unsound}
 use Rattle.decide.specs.Decide.{Decided, atEnd, decidedAt, fateAt, ifAdded}
 use Rattle.decide.specs.SweepRows.{ChainAngles}
-use Rattle.decide.specs.Located.{LocatedRows, DecidesAt, LeavesOut}
+use Rattle.decide.specs.Located.{LocatedRows, EndAngles, DecidesAt, LeavesOut}
 use Rattle.decide.specs.VertexAngles.{left-out}
 use Rattle.walks.specs.declared.BoundaryVertex.{BoundaryVertex}
 use Rattle.walks.specs.declared.WalkEnd.{WalkEnd}
@@ -126,19 +126,16 @@ module _ {C : Counts} {q : List ℤ} {o h f : List ℕ} {cx cy : Float} {e size 
           passes k = record { from = first-is ∙ i; to = second-is ∙ j; side = side-is k }
 
     -- ---- the walks, from its ends
-    pub asks-from : ToRead from cx cy
-    asks-from = to-read q h e (E .from-is) (here-about .valid) (here-about .from-apart)
+    module _ {s t : Float} (A : EndAngles q h cx cy e s t) where
+      pub asks-left : ToWalk Left q h cx cy v a e (record { position = from; angle = s })
+      asks-left =
+          to-walk (K .mesh) cx cy (K .center) (K .in-use) (K .outer) (K .range) (K .is-angle) Left
+          (record { position = E .from-is; angle = A .from-angle })
 
-    pub asks-to : ToRead to cx cy
-    asks-to = to-read q h (rev e) (E .to-is) (here-about .valid) (here-about .to-apart)
-
-    pub asks-left : {r : BoundaryVertex} → ReadAt from cx cy r → ToWalk Left q h cx cy v a e r
-    asks-left R =
-        to-walk (K .mesh) cx cy (K .center) (K .in-use) (K .outer) (K .range) (K .is-angle) Left (read-at q h e (E .from-is) R)
-
-    pub asks-right : {r : BoundaryVertex} → ReadAt to cx cy r → ToWalk Right q h cx cy v a e r
-    asks-right R =
-        to-walk (K .mesh) cx cy (K .center) (K .in-use) (K .outer) (K .range) (K .is-angle) Right (read-at q h (rev e) (E .to-is) R)
+      pub asks-right : ToWalk Right q h cx cy v a e (record { position = to; angle = t })
+      asks-right =
+          to-walk (K .mesh) cx cy (K .center) (K .in-use) (K .outer) (K .range) (K .is-angle) Right
+          (record { position = E .to-is; angle = A .to-angle })
 
   -- ---- the chain's first edge, m edges before e
   start-outer : (m : ℕ) → In C (iter m (halvesOf h .prev) e) × (linksOf o h f .face (iter m (halvesOf h .prev) e) ≡ 0)

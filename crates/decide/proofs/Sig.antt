@@ -3,3 +3,5 @@ pub mod Kinds_decide
 pub mod Reads_decide
 pub mod Kinds_ring_rows_get
 pub mod Reads_ring_rows_get
+pub mod Kinds_ring_rows_load
+pub mod Reads_ring_rows_load

@@ -9,6 +9,7 @@ use lib.IntN.{ℤ}
 use Rattle.angle.specs.Angle.{IsAngle, turns, angleAbout}
 use Rattle.circle_test.specs.GoodRows.{GoodRows}
 use Rattle.dcel.specs.Rows.{linksOf, positionOf}
+use Rattle.hull.specs.Boundary.{AngleAt}
 use Rattle.math.specs.declared.Point.{Point}
 use Rattle.math.specs.Determinant.{InRange}
 use Rattle.mesh.specs.declared.Counts.{Counts}
@@ -18,6 +19,7 @@ use Rattle.ring.specs.Ring.{atEnds, edgeAngle, isSoundRing}
 use Rattle.ring.specs.Center.{refusesCenter, turnsAbout}
 use Rattle.ring.specs.Node.{nodes as nodeCount}
 use Rattle.segment.specs.Arc.{holds}
+use Rattle.sums.specs.Half.{rev}
 use Rattle.decide.specs.declared.Decision.{Decision}
 use Rattle.decide.specs.declared.Fate.{Fate}
 use Rattle.decide.specs.Decide.{decidedAt, notAdded}
@@ -41,12 +43,19 @@ pub record LocatedRows (C : Counts) (q : List ℤ) (o h f : List ℕ) (cx cy : F
   pub is-angle : IsAngle a
   pub angle : turns a ≡ turns (angleAbout (v .x) (v .y) cx cy)
 
+-- the angles of its two ends
+pub record EndAngles (q : List ℤ) (h : List ℕ) (cx cy : Float) (e : ℕ) (from to : Float) : Type 0 where
+  pub from-angle : AngleAt q h cx cy e from
+  pub to-angle : AngleAt q h cx cy (rev e) to
+
 -- some such mesh, of which the rows of positions and half-edges are read
-pub record ToDecideAt (q : List ℤ) (h : List ℕ) (cx cy : Float) (e size next : ℕ) (v : Point) (a : Float) : Type 0 where
+pub record ToDecideAt (q : List ℤ) (h : List ℕ) (cx cy : Float) (e : ℕ) (from to : Float) (size next : ℕ) (v : Point) (a : Float)
+    : Type 0 where
   pub counts : Counts
   pub outs : List ℕ
   pub faces : List ℕ
   pub located : LocatedRows counts q outs h faces cx cy e size next v a
+  pub ends : EndAngles q h cx cy e from to
 
 -- r is the decision about v, by that edge
 abbrev pub DecidesAt : Counts → List ℤ → List ℕ → List ℕ → List ℕ → Float → Float → ℕ → Point → Float → Decision → Type 0

@@ -3,14 +3,14 @@
 use mathlib.Core.Bool.{true, false}
 use mathlib.Core.List.{List}
 use mathlib.Core.Path.{_≡_, refl, sym, _∙_, ap, subst}
-use Prim.Native.Nat.{ℕ}
+use Prim.Native.Nat.{ℕ, _<_}
 use lib.Dec.{T}
 use lib.Ieee.{Float}
 use lib.IntN.{ℤ}
 use Rattle.angle.specs.Angle.{IsAngle, angleAbout, atCenter, turns, validCenter}
 use Rattle.circle_test.specs.GoodRows.{held}
 use Rattle.dcel.specs.Rows.{linksOf, positionOf, rowOf}
-use Rattle.hull.specs.Find.{get-located}
+use Rattle.hull.specs.Find.{get-located, got-below, got-angles, got-ends}
 use Rattle.hull.specs.Ready.{angled-boundary}
 use Rattle.math.specs.declared.Point.{Point}
 use Rattle.math.specs.Determinant.{InRange}
@@ -18,18 +18,19 @@ use Rattle.mesh.specs.declared.Counts.{Counts}
 use Rattle.mesh.specs.Mesh.{Links, In}
 use Rattle.ring.specs.Ring.{atEnds, edgeAngle, isSoundRing, located}
 use Rattle.ring.specs.Center.{turnsAbout}
-use Rattle.ring.specs.Boundary.{located<, located-outer, located-holds}
+use Rattle.ring.specs.Boundary.{located<, located-outer, located-holds, edge-end}
 use Rattle.ring.specs.RingOf.{ring-from, ring-sound-ring}
 use Rattle.ring_rows.specs.declared.Node.{Node}
 use Rattle.ring_rows.specs.declared.Found.{Found}
 use Rattle.ring_rows.specs.declared.Hull.{Hull}
-use Rattle.ring_rows.specs.Rows.{nodesOf, sizeOf, Got}
+use Rattle.ring_rows.specs.Laws.{floor-below}
+use Rattle.ring_rows.specs.Rows.{nodesOf, rightOf, sizeOf, Got}
 use Rattle.segment.specs.Arc.{holds}
 use Rattle.segment.specs.Bucket.{floorOf}
 use Rattle.decide.specs.declared.Fate.the-variants.{AtCenter}
 use Rattle.decide.specs.Decide.{decided, decidedAt, notAdded}
 use Rattle.decide.specs.SweepRows.{SweepRows}
-use Rattle.decide.specs.Located.{LocatedRows}
+use Rattle.decide.specs.Located.{LocatedRows, EndAngles}
 
 -- ---- the decision by whether the point is at the centre
 module _ (cx cy : Float) (C : Counts) (L : Links) (p : ℕ → Point) (v : Point) where
@@ -68,6 +69,27 @@ module _ {C : Counts} {q : List ℤ} {o h a : List ℕ} {nodes : List Node} {fre
     found-holds =
         subst (λ (e : ℕ). T (atEnds (holds x) (linksOf o h a .next) (edgeAngle (linksOf o h a) (turnsAbout cx cy (positionOf q))) e))
         (sym found-located) (located-holds (S .mesh .good .wf) (turnsAbout cx cy (positionOf q)) sweep-sound x)
+
+  -- the node that was found, and the one to its right, have the angles of the edge's ends
+  module _ {x : ℕ} {r : Found} (G : Got (nodesOf nodes) (sizeOf hull) (rowOf buckets (floorOf x (hull .buckets))) x r) where
+    pub found-below : (r .node < hull .nodes) × (rightOf (nodesOf nodes) (r .node) < hull .nodes)
+    found-below = got-below (S .ring) (floor-below x (S .ring .counted)) G
+
+    pub found-ends : {n m : Node} → n ≡ nodesOf nodes (r .node) → m ≡ nodesOf nodes (n .right) → EndAngles q h cx cy (r .edge) (n .angle) (m .angle)
+    unfolding linksOf
+    found-ends {n} {m} n-is m-is =
+        let W = S .mesh .good .wf in
+        let l = floor-below x (S .ring .counted) in
+        let A = got-angles (S .ring) l G in
+        let E = got-ends (S .ring) l G W in
+        let m-at : m ≡ nodesOf nodes (rightOf (nodesOf nodes) (r .node)) = m-is ∙ ap (λ (i : Node). nodesOf nodes (i .right)) n-is in
+        record {
+          from-angle = record { is-angle = rw n-is (A .0); turns-are = ap (λ (i : Node). turns (i .angle)) n-is ∙ E .0 };
+          to-angle = record {
+            is-angle = rw m-at (A .1);
+            turns-are = ap (λ (i : Node). turns (i .angle)) m-at ∙ E .1 ∙ edge-end W (turnsAbout cx cy (positionOf q)) (found-in G);
+          };
+        }
 
   -- so they are what a decision by that edge asks
   pub located-rows : {v : Point} {g : Float} {r : Found} → InRange v → IsAngle g → g ≡ angleAbout (v .x) (v .y) cx cy

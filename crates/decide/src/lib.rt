@@ -15,6 +15,7 @@ use math::Point;
 use mesh::Counts;
 use ring_rows::Hull;
 use ring_rows::Node;
+use walks::BoundaryVertex;
 
 // 01's fates: 1 added, with the new vertex; 2 dropped; 3 skipped, not left of the located edge; 4 skipped, no sound
 // ring; 5 skipped, at the centre.
@@ -79,19 +80,21 @@ pub fn leave(fate: Fate) -> Decision
     }
 }
 
-// Fates 2, 3, 4 and 1 of a point with an angle, of which e is the located edge. `size` is the number of the ring's
-// nodes, `next` the next vertex.
+// Fates 2, 3, 4 and 1 of a point with an angle, of which e is the located edge; `fromangle` and `toangle` are the angles of its ends.
+// `size` is the number of the ring's nodes, `next` the next vertex.
 pub fn decide_at(
     positions: &[i32],
     halves: &[u32],
     e: u32,
+    fromangle: f64,
+    toangle: f64,
     size: u32,
     next: u32,
     point: Point,
     angle: f64,
     center: Point2,
 ) -> Decision
-    requires { ⌜ ToDecideAt (now positions) (now halves) (center .x) (center .y) e size next point angle ⌝ }
+    requires { ⌜ ToDecideAt (now positions) (now halves) (center .x) (center .y) e fromangle toangle size next point angle ⌝ }
     ensures { λ r. ⌜ ((C : Counts) (o a : List ℕ)
         → LocatedRows C (now (positions .entry)) o (now (halves .entry)) a (center .x) (center .y) e size next point angle
         → DecidesAt C (now (positions .entry)) o (now (halves .entry)) a (center .x) (center .y) e point angle r) ⌝ }
@@ -107,8 +110,14 @@ pub fn decide_at(
     if math::side_query(from, to, point) <= 0 {
         return leave(Fate::NotLeft);
     }
-    let first = walks::boundary_vertex(from, center);
-    let last = walks::boundary_vertex(to, center);
+    let first = BoundaryVertex {
+        position: from,
+        angle: fromangle,
+    };
+    let last = BoundaryVertex {
+        position: to,
+        angle: toangle,
+    };
     let left = walks::walk_left(positions, halves, e, first, point, angle, center);
     let right = walks::walk_right(positions, halves, e, last, point, angle, center);
     let start = left.vertex;
@@ -151,10 +160,15 @@ pub fn decide(
         return leave(Fate::AtCenter);
     };
     let found = ring_rows::get(nodes, buckets, hull, angle);
+    // The ring has the angles of the edge's ends.
+    let node = ring_rows::load(nodes, found.node);
+    let right = ring_rows::load(nodes, node.right);
     decide_at(
         positions,
         halves,
         found.edge,
+        node.angle,
+        right.angle,
         hull.nodes - hull.freed,
         counts.vertices,
         point,

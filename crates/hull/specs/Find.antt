@@ -4,6 +4,7 @@ use native.Mathlib.Omega.{arith}
 use mathlib.Core.Path.{_≡_, refl, sym, _∙_, ap, subst}
 use mathlib.Core.List.{List}
 use lib.Dec.{T}
+use Rattle.angle.specs.Angle.{IsAngle}
 use Rattle.mesh.specs.declared.Counts.{Counts}
 use Rattle.mesh.specs.Mesh.{Links}
 use Rattle.mesh.specs.Wf.{Wf}
@@ -19,7 +20,7 @@ use Rattle.ring.specs.Sound.{Sound}
 use Rattle.ring.specs.Insert.{On, ring-proper, ring-sound}
 use Rattle.ring.specs.Hull.{HullFrom, on-from}
 use Rattle.ring.specs.Located.{locate-passed}
-use Rattle.ring.specs.RingOf.{ring-located, ring-from}
+use Rattle.ring.specs.RingOf.{ring-located, ring-ends, ring-from}
 use Rattle.ring_rows.specs.declared.Node.{Node}
 use Rattle.ring_rows.specs.declared.Hull.{Hull}
 use Rattle.ring_rows.specs.declared.Found.{Found}
@@ -68,6 +69,19 @@ module _ {C : Counts} {L : Links} {α : ℕ → ℕ} {nodes : List Node} {freed 
     -- THE EDGE
     pub got-located : Wf C L → r .edge ≡ located C L α x
     got-located W = G .edge ∙ ring-located W (H .ring) x (r .node) got-on got-holds
+
+    -- the node and the one to its right can be read, and have the angles of the edge's two ends
+    pub got-below : (r .node < h .nodes) × (rightOf (nodesOf nodes) (r .node) < h .nodes)
+    got-below = let l = H .free .live-below (r .node) got-on in (l, H .valid (r .node) l .right)
+
+    pub got-angles : IsAngle (nodesOf nodes (r .node) .angle) × IsAngle (nodesOf nodes (rightOf (nodesOf nodes) (r .node)) .angle)
+    got-angles = (H .valid (r .node) (got-below .0) .angle, H .valid (rightOf (nodesOf nodes) (r .node)) (got-below .1) .angle)
+
+    pub got-ends : Wf C L → (angleOf (nodesOf nodes) (r .node) ≡ edgeAngle L α (r .edge))
+        × (angleOf (nodesOf nodes) (rightOf (nodesOf nodes) (r .node)) ≡ edgeAngle L α (L .next (r .edge)))
+    got-ends W =
+        let n = ring-ends W (H .ring) (r .node) got-on in
+        (sym (n .0) ∙ ap (edgeAngle L α) (sym (G .edge)), sym (n .1) ∙ ap (λ (i : ℕ). edgeAngle L α (L .next i)) (sym (G .edge)))
 
   -- as `get` answers, from the bucket of x
   pub get-located : {x : ℕ} {r : Found} → Wf C L → Got (nodesOf nodes) (sizeOf h) (rowOf buckets (floorOf x (h .buckets))) x r → r .edge ≡ located C L α x

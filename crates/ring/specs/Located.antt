@@ -117,18 +117,25 @@ node-place {N} {next} {α} {τ} {bucket} {e} {h} {s} H y (k, l, z) =
     let r = kth (atEnds proper next α) next h e k l in
     (r .0, r .1, ap (τ .edge) (sym z) ∙ ap (λ (i : ℕ). τ .edge (iter i (τ .right) s)) (sym (r .3)) ∙ match-at next α τ h e s (H .ring .match) (r .0) (r .1) (r .2) .0)
 
+-- and has the angle of that edge's origin; the node to its right has the angle of the edge's end
+pub node-ends : {N : ℕ} {next α : ℕ → ℕ} {τ : NodeTable} {bucket : ℕ → ℕ} {e h s B w : ℕ}
+    → HullFrom N next α τ bucket e h s B w → (y : ℕ) → On (τ .right) (nodes next α h e) s y
+    → (α (τ .edge y) ≡ τ .angle y) × (α (next (τ .edge y)) ≡ τ .angle (τ .right y))
+node-ends {N} {next} {α} {τ} H y (k, u, z) =
+    let n = node-edge (H .ring) k u in (
+      ap (λ (i : ℕ). α (τ .edge i)) (sym z) ∙ n .0 ∙ ap (τ .angle) z,
+      ap (λ (i : ℕ). α (next (τ .edge i))) (sym z) ∙ n .1 ∙ ap (λ (i : ℕ). τ .angle (τ .right i)) z,
+    )
+
 -- the node that holds x has the located edge, whatever the number of buckets
 pub node-located : {C : Counts} {L : Links} (W : Wf C L) (α : ℕ → ℕ) {τ : NodeTable} {bucket : ℕ → ℕ}
     {e s B w : ℕ} → In C e → L .face e ≡ 0
     → HullFrom fullTurn (L .next) (edgeAngle L α) τ bucket e (boundaryLength C L) s B w
     → (x y : ℕ) → On (τ .right) (nodes (L .next) (edgeAngle L α) (boundaryLength C L) e) s y
     → T (atEnds (holds x) (τ .right) (τ .angle) y) → τ .edge y ≡ located C L α x
-node-located {C} {L} W α {τ} {bucket} {e} {s} l o H x y (k, u, z) t =
-    let r = node-place H y (k, u, z) in
+node-located {C} {L} W α {τ} {bucket} {e} {s} l o H x y m t =
+    let r = node-place H y m in
     let b = outer-walk W l o (r .0) in
-    let n = node-edge (H .ring) k u in
-    let f : edgeAngle L α (τ .edge y) ≡ τ .angle y = ap (λ (i : ℕ). edgeAngle L α (τ .edge i)) (sym z) ∙ n .0 ∙ ap (τ .angle) z in
-    let g : edgeAngle L α (L .next (τ .edge y)) ≡ τ .angle (τ .right y) = ap (λ (i : ℕ). edgeAngle L α (L .next (τ .edge i))) (sym z) ∙ n .1
-    ∙ ap (λ (i : ℕ). τ .angle (τ .right i)) z in
+    let n = node-ends H y m in
     located-sole W α (outer-sound W α l o (H .ring .sound)) x (subst (In C) (sym (r .2)) (b .0)) (ap (L .face) (r .2) ∙ b .1)
-    (subst T (ap₂ (holds x) (sym f) (sym g)) t)
+    (subst T (ap₂ (holds x) (sym (n .0)) (sym (n .1))) t)

@@ -31,7 +31,7 @@ use Rattle.ring.specs.Free.{Free, free-fewer}
 use Rattle.ring.specs.Hull.{HullFrom, hull-turns, hull-home, kth, on-to, on-from}
 use Rattle.ring.specs.WholeInsert.{Stack, InsertParts, insert-keeps-hull, insert-keeps-freed}
 use Rattle.ring.specs.Boundary.{outer-round, outer-walk, outer-on, sound-outer, outer-sound}
-use Rattle.ring.specs.Located.{node-place, node-located}
+use Rattle.ring.specs.Located.{node-place, node-ends, node-located}
 use Rattle.ring.specs.Covered.{Covered}
 
 -- B buckets; `size` nodes
@@ -124,6 +124,11 @@ module _ {C : Counts} {L : Links} (W : Wf C L) {α : ℕ → ℕ} {τ : NodeTabl
         → τ .edge y ≡ located C L α x
     ring-located x y m u =
         node-located W α (R .in-use) (R .outer) (R .hull) x y (subst (λ (i : ℕ). On (τ .right) i (bucket 0) y) (sym (R .count)) m) u
+
+    -- a node has the angle of its edge's origin, and the node to its right that of the edge's end
+    pub ring-ends : (y : ℕ) → On (τ .right) size (bucket 0) y
+        → (edgeAngle L α (τ .edge y) ≡ τ .angle y) × (edgeAngle L α (L .next (τ .edge y)) ≡ τ .angle (τ .right y))
+    ring-ends y m = node-ends (R .hull) y (subst (λ (i : ℕ). On (τ .right) i (bucket 0) y) (sym (R .count)) m)
 
 -- ---- a fresh build, nodes numbered from 0 along the boundary from e
 pub ring-built : {C : Counts} {L : Links} (W : Wf C L) {α : ℕ → ℕ} {τ : NodeTable} {bucket : ℕ → ℕ} {e m B : ℕ}

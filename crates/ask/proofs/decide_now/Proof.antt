@@ -3,7 +3,7 @@ use borrow.Author.Needs.{needs, sfits-of}
 use mir.Facts.{toZ-ofZ}
 use Rattle.decide.specs.VertexAngles.{carried, at-center}
 use Rattle.start.specs.StartLaws.{started-face, started-size}
-use Rattle.ask.specs.AskRowsLaws.{quote-center, quote-boundary}
+use Rattle.ask.specs.AskRowsLaws.{quote-center, quote-boundary, found-angled, next-angled}
 use Rattle.ask.proofs.Deciding.{asks-at, at-located}
 use Rattle.ask.proofs.decide_now.Statement.{statement}
 use Rattle.ask.proofs.decide_now.Tie as tie
@@ -39,16 +39,36 @@ located-edge-requires c κs =
       carried (g .vertex-angle .ensures .1) (n .angle .given .1),
     )
 
+angle-at-requires : tie.Need-angle-at-requires
+angle-at-requires c κs =
+    let d = c .before .before in let g = d .before .before .before .before in
+    found-angled (g .before .before .before .before .before .pre .start) _ _ _ (d .adjacent .ensures) (c .located-edge .ensures)
+
+next-requires : tie.Need-next-requires
+next-requires c κs =
+    let l = c .before in let d = l .before .before in let g = d .before .before .before .before in
+    found-angled (g .before .before .before .before .before .pre .start) _ _ _ (d .adjacent .ensures) (l .located-edge .ensures) .there
+
+angle-at-requires-2 : tie.Need-angle-at-requires-2
+angle-at-requires-2 c κs =
+    let l = c .before .before in let d = l .before .before in let g = d .before .before .before .before in
+    next-angled (g .before .before .before .before .before .pre .start) _ _ _ (d .adjacent .ensures) (l .located-edge .ensures)
+    (c .next .ensures)
+
 decide-at-requires : tie.Need-decide-at-requires
 decide-at-requires c κs =
-    let z = c .before in let d = z .before in let n = d .before .before in let g = n .before .before in let y = g .before in
+    let n₁ = c .before in let f = n₁ .before in
+    let l = f .before in let z = l .before in let d = z .before in let n = d .before .before in let g = n .before .before in
+    let y = g .before in
     let px = toZ-ofZ (sfits-of (y .before .struct-told .given .0 .1)) in let py = toZ-ofZ (sfits-of (y .struct-told2 .given .1 .0 .1)) in
     asks-at _ _ (g .vertex-angle .ensures .0) px py (n .angle .given .1) (carried (g .vertex-angle .ensures .1) (n .angle .given .1))
-    (d .adjacent .ensures) (z .convex-hull-size .ensures) (c .located-edge .ensures) (y .before .before .before .before .pre)
+    (d .adjacent .ensures) (z .convex-hull-size .ensures) (l .located-edge .ensures)
+    (n₁ .next .ensures) (f .angle-at .ensures) (c .angle-at2 .ensures) (y .before .before .before .before .pre)
 
 returns-2 : tie.Need-returns-2
 returns-2 c =
-    let l = c .before in let z = l .before in let d = z .before in let n = d .before .before in let g = n .before .before in
+    let l = c .before .before .before .before in
+    let z = l .before in let d = z .before in let n = d .before .before in let g = n .before .before in
     let y = g .before in
     let px = toZ-ofZ (sfits-of (y .before .struct-told .given .0 .1)) in let py = toZ-ofZ (sfits-of (y .struct-told2 .given .1 .0 .1)) in
     at-located _ _ (g .vertex-angle .ensures .0) px py (n .angle .given .1) (carried (g .vertex-angle .ensures .1) (n .angle .given .1))
@@ -66,5 +86,8 @@ decide-now-spec =
     adjacent-requires
     convex-hull-size-requires
     located-edge-requires
+    angle-at-requires
+    next-requires
+    angle-at-requires-2
     decide-at-requires
     returns-2)

@@ -1,9 +1,10 @@
 -- `decide::decide` meets its contract. Assumes nothing.
 use borrow.Author.Needs.{needs, sfits-of}
 use mir.Facts.{toZ-ofZ}
+use native.Mathlib.Omega.{arith}
 use Rattle.angle.specs.Bits.{angle-valid}
 use Rattle.hull.specs.Find.{held-rows}
-use Rattle.decide.specs.SweepRowsLaws.{sweep-center}
+use Rattle.decide.specs.SweepRowsLaws.{sweep-center, found-below}
 use Rattle.decide.specs.VertexAngles.{carried, at-center}
 use Rattle.decide.proofs.Answers.{asks-at, at-located}
 use Rattle.decide.proofs.decide.Statement.{statement}
@@ -34,19 +35,32 @@ get-requires c κs =
     let n = c .before in let g = n .before .before in let s = g .before .before .before .before .before in
     (held-rows (s .pre .sweep .ring), angle-valid _ (carried (g .vertex-angle .ensures .1) (n .angle .given .1)))
 
+load-requires : tie.Need-load-requires
+load-requires c κs =
+    let s = c .before .before .before .before .before .before .before .before .before in
+    let S = s .pre .sweep in let l = found-below S (c .get .ensures) .0 in let m = S .ring .node-room in
+    omega arith
+
+load-requires-2 : tie.Need-load-requires-2
+load-requires-2 c κs =
+    let r = c .before in let s = r .before .before .before .before .before .before .before .before .before in
+    let S = s .pre .sweep in let l = found-below S (r .get .ensures) .1 in let m = S .ring .node-room in
+    rw (c .load .ensures) (omega arith)
+
 sub-decide-at : tie.Need-sub-decide-at
 sub-decide-at c = search needs
 
 decide-at-requires : tie.Need-decide-at-requires
 decide-at-requires c κs =
-    let r = c .before in let n = r .before .before in let g = n .before .before in let y = g .before in
+    let m = c .before in let l = m .before in
+    let r = l .before in let n = r .before .before in let g = n .before .before in let y = g .before in
     let px = toZ-ofZ (sfits-of (y .before .struct-told .given .0 .1)) in let py = toZ-ofZ (sfits-of (y .struct-told2 .given .1 .0 .1)) in
     asks-at _ _ _ (g .vertex-angle .ensures .0) px py (n .angle .given .1) (carried (g .vertex-angle .ensures .1) (n .angle .given .1))
-    (r .get .ensures) (y .before .before .before .before .pre)
+    (r .get .ensures) (l .load .ensures) (m .load2 .ensures) (y .before .before .before .before .pre)
 
 returns-2 : tie.Need-returns-2
 returns-2 c =
-    let r = c .before .before in let n = r .before .before in let g = n .before .before in let y = g .before in
+    let r = c .before .before .before .before in let n = r .before .before in let g = n .before .before in let y = g .before in
     let px = toZ-ofZ (sfits-of (y .before .struct-told .given .0 .1)) in let py = toZ-ofZ (sfits-of (y .struct-told2 .given .1 .0 .1)) in
     at-located _ _ _ (g .vertex-angle .ensures .0) px py (n .angle .given .1) (carried (g .vertex-angle .ensures .1) (n .angle .given .1))
     (r .get .ensures) (y .before .before .before .before .pre .range) (c .decide-at .ensures)
@@ -61,6 +75,8 @@ decide-spec =
     leave-requires
     returns
     get-requires
+    load-requires
+    load-requires-2
     sub-decide-at
     decide-at-requires
     returns-2)

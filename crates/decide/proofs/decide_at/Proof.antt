@@ -9,7 +9,7 @@ use denote.Ref.{now}
 use Rattle.mesh.specs.declared.Counts.{Counts}
 use Rattle.decide.specs.Located.{LocatedRows}
 use Rattle.decide.proofs.Deciding.{here-about, ends-at, asks-side, at-from, at-to, not-left, Passes, passes}
-use Rattle.decide.proofs.Deciding.{asks-from, asks-to, asks-left, asks-right, asks-fit, unsound, added}
+use Rattle.decide.proofs.Deciding.{asks-left, asks-right, asks-fit, unsound, added}
 use Rattle.decide.proofs.decide_at.Statement.{statement}
 use Rattle.decide.proofs.decide_at.Tie as tie
 
@@ -80,44 +80,32 @@ passed l K =
     (x .is-position .ensures) (i .if1 .left) (y .is-position2 .ensures) (j .if2 .left)
     (toZ-ofZ (sfits-of (s .side-query .ok)) ∙ s .side-query .ensures) (l .if3 .left)
 
-boundary-vertex-requires : tie.Need-boundary-vertex-requires
-boundary-vertex-requires c κs =
-    let t = to-read c in let r = t .before in let K = start c .pre .located in
-    asks-from K (ends-at K (r .before .origin-position .ensures) (r .rev .ensures) (t .origin-position2 .ensures))
-
-boundary-vertex-requires-2 : tie.Need-boundary-vertex-requires-2
-boundary-vertex-requires-2 c κs =
-    let l = c .before in let t = to-read l in let r = t .before in let K = start l .pre .located in
-    asks-to K (ends-at K (r .before .origin-position .ensures) (r .rev .ensures) (t .origin-position2 .ensures))
-
 walk-left-requires : tie.Need-walk-left-requires
 walk-left-requires c κs =
-    let f = c .before in let l = f .before in let t = to-read l in let r = t .before in let K = start l .pre .located in
-    asks-left K (ends-at K (r .before .origin-position .ensures) (r .rev .ensures) (t .origin-position2 .ensures))
-    (f .boundary-vertex .ensures)
+    let t = to-read c in let r = t .before in let P = start c .pre in let K = P .located in
+    asks-left K (ends-at K (r .before .origin-position .ensures) (r .rev .ensures) (t .origin-position2 .ensures)) (P .ends)
 
 walk-right-requires : tie.Need-walk-right-requires
 walk-right-requires c κs =
-    let g = c .before in let l = g .before .before in let t = to-read l in let r = t .before in let K = start l .pre .located in
-    asks-right K (ends-at K (r .before .origin-position .ensures) (r .rev .ensures) (t .origin-position2 .ensures))
-    (g .boundary-vertex2 .ensures)
+    let l = c .before in let t = to-read l in let r = t .before in let P = start l .pre in let K = P .located in
+    asks-right K (ends-at K (r .before .origin-position .ensures) (r .rev .ensures) (t .origin-position2 .ensures)) (P .ends)
 
 add-nodes : tie.Need-add-nodes
 add-nodes c =
-    let r = c .before .before .before in let w = r .before in let l = w .before .before .before in let K = start l .pre .located in
+    let r = c .before .before .before in let w = r .before in let l = w .before in let K = start l .pre .located in
     let m = asks-fit K (passed l K) (w .walk-left .ensures) (r .walk-right .ensures) .3 in
     record { fits = omega arith }
 
 add-nodes-2 : tie.Need-add-nodes-2
 add-nodes-2 c =
-    let r = c .before .before .before .before in let w = r .before in let l = w .before .before .before in
+    let r = c .before .before .before .before in let w = r .before in let l = w .before in
     let K = start l .pre .located in
     let m = asks-fit K (passed l K) (w .walk-left .ensures) (r .walk-right .ensures) .3 in
     record { fits = omega arith }
 
 is-fit-requires : tie.Need-is-fit-requires
 is-fit-requires c κs =
-    let r = c .before .before .before .before in let w = r .before in let l = w .before .before .before in
+    let r = c .before .before .before .before in let w = r .before in let l = w .before in
     let K = start l .pre .located in
     asks-fit K (passed l K) (w .walk-left .ensures) (r .walk-right .ensures)
 
@@ -127,14 +115,14 @@ leave-requires-4 c κs = search needs
 returns-4 : tie.Need-returns-4
 returns-4 c C o a K =
     let i = c .before .before in let r = i .before .before .before .before .before in
-    let w = r .before in let l = w .before .before .before in
+    let w = r .before in let l = w .before in
     unsound K (passed l K) (w .walk-left .ensures) (r .walk-right .ensures) (i .is-fit .ensures) (c .before .if4 .taken)
     (c .leave4 .ensures)
 
 returns-5 : tie.Need-returns-5
 returns-5 c C o a K =
     let i = c .before in let r = i .before .before .before .before .before in
-    let w = r .before in let l = w .before .before .before in
+    let w = r .before in let l = w .before in
     added K (passed l K) (w .walk-left .ensures) (r .walk-right .ensures) (i .is-fit .ensures) (c .if4 .left)
 
 pub decide-at-spec : {M : Type 1} → statement M
@@ -153,8 +141,6 @@ decide-at-spec =
     side-query-requires
     leave-requires-3
     returns-3
-    boundary-vertex-requires
-    boundary-vertex-requires-2
     walk-left-requires
     walk-right-requires
     add-nodes
