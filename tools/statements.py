@@ -11,7 +11,8 @@ import os
 import re
 import sys
 
-FUNCTION = re.compile(r'^( *)((?:pub )?(?:extern "C" )?fn (\w+).*?)^\1\{', re.S | re.M)
+# a function without clauses has its brace at the end of a line, one with clauses on a line of its own
+FUNCTION = re.compile(r'^( *)((?:pub )?(?:extern "C" )?fn (\w+).*?)(?: \{$|^\1\{)', re.S | re.M)
 TYPE = re.compile(r'^(?:pub )?(?:struct|enum) (\w+) \{.*?^\}', re.S | re.M)
 DEFINED = re.compile(r'(?:unfoldable |abbrev )?(?:pub )?(?:record |data )?(\S+)')
 DEFINES = re.compile(r'(?:unfoldable|abbrev|record|data|pub record|pub data)\b')

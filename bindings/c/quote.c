@@ -66,7 +66,7 @@ static fithmoul_quote asked(const int32_t *point) {
     if (r.refusal != 0) {
         printf(": refusal %" PRIu32 "\n", r.refusal);
     } else {
-        printf(" %s; %" PRIu64 " faces, ", named(r.quote.fate), r.quote.faces);
+        printf(" %s; faces %" PRIu64 ", ", named(r.quote.fate), r.quote.faces);
         printf("change count %" PRIu32 "\n", r.quote.changes);
     }
     return r.quote;
@@ -78,7 +78,7 @@ static void committed(const int32_t *point, fithmoul_quote quote) {
     if (r.refusal != 0) {
         printf("refusal %" PRIu32 ", change count %" PRIu32 "\n", r.refusal, r.changes);
     } else {
-        printf("fate %" PRIu64 ", vertex %" PRIu64 ", %" PRIu64 " faces, %" PRIu64 " flips, ", r.answer.fate,
+        printf("fate %" PRIu64 ", vertex %" PRIu64 ", faces %" PRIu64 ", flips %" PRIu64 ", ", r.answer.fate,
             r.answer.vertex, r.answer.faces, r.answer.flips);
         printf("change count %" PRIu32 "\n", r.changes);
     }
@@ -89,7 +89,7 @@ int main(void) {
     for (int i = 0; i < POINTS; i++) {
         quotes[i] = asked(points[i]);
     }
-    printf("%" PRIu32 " vertices, %" PRIu32 " triangles\n", vertices, faces - 1);
+    printf("vertices %" PRIu32 ", triangles %" PRIu32 "\n", vertices, faces - 1);
 
     committed(points[3], quotes[3]); /* adds nothing, so that the others still hold */
     committed(points[0], quotes[0]); /* adds a vertex */
@@ -100,7 +100,7 @@ int main(void) {
     const int32_t higher[3] = {points[4][0], points[4][1], points[4][2] + 1};
     committed(higher, again); /* another point */
     committed(points[4], again);
-    printf("%" PRIu32 " vertices, %" PRIu32 " triangles\n", vertices, faces - 1);
+    printf("vertices %" PRIu32 ", triangles %" PRIu32 "\n", vertices, faces - 1);
     for (uint32_t v = 0; v < vertices; v++) {
         printf("vertex %" PRIu32 " at (%" PRId32 ", %" PRId32 "), height %" PRId32 "\n",
             v, positions[2 * v], positions[2 * v + 1], heights[v]);
