@@ -41,10 +41,9 @@ use Rattle.decide.specs.Decide.{Decided, atEnd, decidedAt, fateAt, ifAdd
 use Rattle.decide.specs.SweepRows.{ChainAngles}
 use Rattle.decide.specs.Located.{LocatedRows, EndAngles, DecidesAt, LeavesOut}
 use Rattle.decide.specs.VertexAngles.{left-out}
-use Rattle.walks.specs.declared.BoundaryVertex.{BoundaryVertex}
 use Rattle.walks.specs.declared.WalkEnd.{WalkEnd}
-use Rattle.walks.specs.Walks.{originPosition, EdgeAbout, ToRead, ReadAt, ToWalk, WalkedTo}
-use Rattle.walks.specs.WalkLaws.{to-read, read-at, edge-about, stands-at, to-walk, walked-chain, chain-nodes}
+use Rattle.walks.specs.Walks.{originPosition, EdgeAbout, ToWalk, WalkedTo}
+use Rattle.walks.specs.WalkLaws.{edge-about, stands-at, to-walk, walked-chain, chain-nodes}
 
 -- ---- the decision by four tests: is the point at the first end, at the second, is it strictly left, is the ring sound after the step
 abbrev fateOf : ℕ → Bool → Bool → Bool → Bool → Fate

@@ -1,7 +1,7 @@
 -- What a step decides about a point before it changes anything: the located edge, the fate, and how many edges the two walks of an added point cover. It reads boundary edges, positions and
 -- angles alone. Definitions only, and each computes; `Apply` of crate `apply` has what becomes of the mesh.
 use Prim.Native.Nat.{ℕ}
-use mathlib.Core.Bool.{Bool, false, not, cond, _&&_, _||_}
+use mathlib.Core.Bool.{Bool, not, cond, _||_}
 use lib.Ieee.{Float}
 use Rattle.angle.specs.Angle.{angleAbout, atCenter, turns}
 use Rattle.math.specs.declared.Point.{Point}

@@ -1,9 +1,9 @@
 -- THE INVARIANT: the nodes and buckets are the ring of the mesh's boundary. It names rows and numbers only, and starts
 -- at the node of bucket 0; from any boundary edge there is a node with which the theory's `Hull` holds, and the other
 -- way round. An insert carries it over a step. Assumes nothing.
-use mathlib.Core.Path.{_≡_, refl, sym, _∙_, ap, subst}
+use mathlib.Core.Path.{_≡_, sym, _∙_, ap, subst}
 use mathlib.Core.Bool.{Bool, _&&_}
-use Prim.Native.Nat.{ℕ, suc, _+_, _%_, _<_, _≤_}
+use Prim.Native.Nat.{ℕ, _+_, _%_, _<_, _≤_}
 use native.Mathlib.Omega.{arith}
 use lib.Dec.{T, eqb, eqb→eq}
 use Rattle.mesh.specs.declared.Counts.{Counts}

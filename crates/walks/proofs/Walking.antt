@@ -110,14 +110,17 @@ module _ {side : Side} {q : List ℤ} {h : List ℕ} {cx cy : Float} {v : Point}
       is-angle = K .ready .is-angle;
     }
 
-    -- the walk is not past the half-edge that fails
-    pub few : end .count < 2 ^ 32
-    few = go (decLt (K .ready .most) (end .count))
+    -- no walk is past the half-edge that fails
+    not-past : (n : ℕ) → ((k : ℕ) → k < n → T (walkTest side q h cx cy v a (walkEdge side h e k))) → n < 2 ^ 32
+    not-past n covered = go (decLt (K .ready .most) n)
       where
-        go : Dec (K .ready .most < end .count) → end .count < 2 ^ 32
+        go : Dec (K .ready .most < n) → n < 2 ^ 32
         go (yes l) = absurd
-            (T-not (walkTest side q h cx cy v a (walkEdge side h e (K .ready .most))) (K .ready .fails) (K .covered (K .ready .most) l))
+            (T-not (walkTest side q h cx cy v a (walkEdge side h e (K .ready .most))) (K .ready .fails) (covered (K .ready .most) l))
         go (no l) = let s = K .ready .small in omega arith
+
+    pub few : end .count < 2 ^ 32
+    few = not-past (end .count) (K .covered)
 
     -- d is tested
     module _ {t : Bool} (y : t ≡ coverTest side far (end .vertex) v a) where
@@ -142,21 +145,12 @@ module _ {side : Side} {q : List ℤ} {h : List ℕ} {cx cy : Float} {v : Point}
         up : (k : ℕ) → k < suc (end .count) → T (walkTest side q h cx cy v a (walkEdge side h e k))
         up = up-to {P = λ k. T (walkTest side q h cx cy v a (walkEdge side h e k))} (end .count) (K .covered) (passes z)
 
-        more : end .count + 1 < 2 ^ 32
-        more = go (decLt (K .ready .most) (end .count + 1))
-          where
-            go : Dec (K .ready .most < end .count + 1) → end .count + 1 < 2 ^ 32
-            go (yes l) = absurd
-                (T-not (walkTest side q h cx cy v a (walkEdge side h e (K .ready .most))) (K .ready .fails)
-                (up (K .ready .most) (omega arith)))
-            go (no l) = let s = K .ready .small in omega arith
-
         pub to-extend : ToExtend end far cx cy
         to-extend = record {
           read = to-read q h (farHalf side d) (K .far-is) (about .valid) (far-apart about side);
           near-angle = K .vertex .angle .is-angle;
           few = rw (K .nodes) (tally-most (hasNode q h cx cy) (walkStep side h) (end .count) (walkStep side h e));
-          fits = more;
+          fits = not-past (end .count + 1) (λ k l. up k (omega arith));
         }
 
         next-at : {n : ℕ} → n ≡ walkStep side h d → n ≡ walkEdge side h e (suc (end .count))

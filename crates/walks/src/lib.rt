@@ -31,7 +31,7 @@ pub fn origin_position(positions: &[i32], halves: &[u32], e: u32) -> Point
 }
 
 // The boundary vertex at a position.
-pub fn boundary_vertex(position: Point, center: Point2) -> BoundaryVertex
+fn boundary_vertex(position: Point, center: Point2) -> BoundaryVertex
     requires { ⌜ ToRead position (center .x) (center .y) ⌝ }
     ensures { λ r. ⌜ ReadAt position (center .x) (center .y) r ⌝ }
 {
