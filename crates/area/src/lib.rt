@@ -47,7 +47,7 @@ pub fn sum_areas(positions: &[i32], halves: &[u32], faces: &[u32], counts: Count
     let mut f: u32 = 1;
     while f < count {
         let a = dcel::adjacent(faces, f);
-        let area = mesh_check::doubled_area_at(positions, halves, a);
+        let area = mesh_check_rows::doubled_area_at(positions, halves, a);
         total = add_area(total, area);
         f += 1;
     }

@@ -39,7 +39,7 @@ pub fn check_commit(
 {
     let n = (counts.vertices as usize) + 1;
     let short = start::sweep_rows_short(false, n, nodes, freed, buckets, pending);
-    match ask::check_point(
+    match ask_rows::check_point(
         short,
         counts,
         positions,
@@ -53,7 +53,7 @@ pub fn check_commit(
     ) {
         Checked::Refused(r) => Checked::Refused(r),
         Checked::Accepted => {
-            let present = ask::quote_now(
+            let present = ask_rows::quote_now(
                 changes,
                 counts,
                 positions,
@@ -96,7 +96,7 @@ pub fn commit_changes(changes: u32, stepped: Stepped) -> u32
 pub fn run_changes(changes: u32, finished: Finished) -> u32
     ensures { λ r. ⌜ r ≡ runChanges changes finished ⌝ }
 {
-    if surface::is_made(finished) {
+    if surface_rows::is_made(finished) {
         return 0;
     }
     changes

@@ -52,7 +52,7 @@ pub fn check_seed(
         (meshRows (now (positions .entry)) (now (outs .entry)) (now (halves .entry)) (now (faces .entry))) (now (pending .entry)) ⌝ }
 {
     let none = &positions[0..0];
-    mesh_check::check_with(
+    mesh_check_rows::check_with(
         none,
         pending::is_short(pending.len()),
         counts,

@@ -111,7 +111,7 @@ pub extern "C" fn fithmoul_locate(
         x: center_x,
         y: center_y,
     };
-    let checked = surface::check_locate(
+    let checked = surface_rows::check_locate(
         counts,
         positions,
         heights,
@@ -180,7 +180,7 @@ pub extern "C" fn fithmoul_step(
         y: center_y,
     };
     let point = Point { x: x, y: y };
-    let checked = surface::check_step(
+    let checked = surface_rows::check_step(
         counts,
         positions,
         heights,
@@ -210,7 +210,7 @@ pub extern "C" fn fithmoul_step(
         center,
         point,
     );
-    surface::store_height(heights, vertices, answer.counts.vertices, z);
+    surface_rows::store_height(heights, vertices, answer.counts.vertices, z);
     results::step_result(answer)
 }
 
@@ -253,7 +253,7 @@ pub extern "C" fn fithmoul_ask(
         y: center_y,
     };
     let point = Point { x: x, y: y };
-    let asked = ask::ask(
+    let asked = ask_rows::ask(
         changes,
         counts,
         positions,
@@ -353,7 +353,7 @@ pub extern "C" fn fithmoul_commit(
         point,
     );
     let answer = step::answer_of(progress, 0);
-    surface::store_height(heights, vertices, answer.counts.vertices, z);
+    surface_rows::store_height(heights, vertices, answer.counts.vertices, z);
     results::commit_result(changes, answer)
 }
 
@@ -382,7 +382,7 @@ pub extern "C" fn fithmoul_finish(
         edges: edges,
         faces: faces,
     };
-    let checked = surface::check_finish(
+    let checked = surface_rows::check_finish(
         counts,
         positions,
         heights,
@@ -443,7 +443,7 @@ pub extern "C" fn fithmoul_run(
         y: center_y,
     };
     let few = answers::answers_short(answers.len(), points);
-    let checked = surface::check_run(
+    let checked = surface_rows::check_run(
         points,
         point_heights,
         counts,
@@ -475,7 +475,7 @@ pub extern "C" fn fithmoul_run(
         center,
         points,
     );
-    surface::store_run(heights, answers, point_heights, points, answer);
+    surface_rows::store_run(heights, answers, point_heights, points, answer);
     results::run_result(changes, answer)
 }
 

@@ -111,7 +111,7 @@ fn check_ten(
     ensures { λ r. ⌜ r ≡ checkTen (now (points .entry)) short outside counts
         (meshRows (now (positions .entry)) (now (outs .entry)) (now (halves .entry)) (now (faces .entry))) ⌝ }
 {
-    match mesh_check::check_range(points, short, counts, positions, outs, halves, faces) {
+    match mesh_check_rows::check_range(points, short, counts, positions, outs, halves, faces) {
         Checked::Refused(r) => Checked::Refused(r),
         Checked::Accepted => {
             if outside {
@@ -190,6 +190,6 @@ pub fn check_surface(
         faces,
     ) {
         Checked::Refused(r) => Checked::Refused(r),
-        Checked::Accepted => mesh_check::check(counts, positions, outs, halves, faces),
+        Checked::Accepted => mesh_check_rows::check(counts, positions, outs, halves, faces),
     }
 }

@@ -80,7 +80,7 @@ fn sees_beside(positions: &[i32], halves: &[u32], side: Side, walked: Walked, po
     if added.full {
         return false;
     }
-    let d = apply::beside(halves, walked.edge, side);
+    let d = apply_rows::beside(halves, walked.edge, side);
     sees_edge(positions, halves, d, point)
 }
 
@@ -101,7 +101,7 @@ fn outside_turn(
 {
     let added = walked.added;
     let e = walked.edge;
-    let d = apply::beside(halves, e, side);
+    let d = apply_rows::beside(halves, e, side);
     let at = match side {
         Side::Left => d,
         Side::Right => e,
@@ -155,7 +155,7 @@ pub fn insert_outside(
 {
     let to = 2 * counts.edges + 2 + 1;
     let from = 2 * counts.edges + 1;
-    let first = apply::first_face(positions, outs, halves, faces, pending, counts, e);
+    let first = apply_rows::first_face(positions, outs, halves, faces, pending, counts, e);
     let left = outside_walk(
         positions,
         outs,

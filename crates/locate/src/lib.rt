@@ -84,7 +84,7 @@ pub fn check_start(
     ensures { λ r. ⌜ r ≡ checkStart (now (points .entry)) short counts
         (meshRows (now (positions .entry)) (now (outs .entry)) (now (halves .entry)) (now (faces .entry))) center ⌝ }
 {
-    match mesh_check::check_with(points, short, counts, positions, outs, halves, faces) {
+    match mesh_check_rows::check_with(points, short, counts, positions, outs, halves, faces) {
         Checked::Refused(r) => Checked::Refused(r),
         Checked::Accepted => {
             let start = dcel::adjacent(faces, 0);

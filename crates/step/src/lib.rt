@@ -51,7 +51,7 @@ fn add_point(
         (now (outs .exit)) (now (halves .exit)) (now (faces .exit)) point decision r ⌝ }
 {
     dcel::set_position(positions, counts.vertices, point);
-    apply::add_vertex(
+    apply_rows::add_vertex(
         positions,
         outs,
         halves,

@@ -96,7 +96,7 @@ fn add_face(
         (atCorners orient2d (linksOf o (now (halves .entry)) s) (positionOf (now (positions .entry))) a)
         (aboveLevel (linksOf o (now (halves .entry)) s) (heightOf (now (heights .entry))) level a)) ⌝ }
 {
-    let area = mesh_check::doubled_area_at(positions, halves, a);
+    let area = mesh_check_rows::doubled_area_at(positions, halves, a);
     let above = above_level(heights, halves, level, a);
     add_triangle(sums, area, above)
 }

@@ -196,7 +196,7 @@ abbrev b5 : Syntax.Body
 b5 = Syntax.assign (Syntax.place 25 List.[]) (Syntax.rvOpd (Syntax.copy (Syntax.place 12 (List._∷_ (Syntax.field 1) List.[]))))
 
 abbrev b6 : Syntax.Body
-b6 = Syntax.call "ask::ask" (List._∷_ (Syntax.copy (Syntax.place 4 List.[])) (List._∷_ (Syntax.copy (Syntax.place 18 List.[])) (List._∷_ (Syntax.copy (Syntax.place 5 List.[])) (List._∷_ (Syntax.copy (Syntax.place 6 List.[])) (List._∷_ (Syntax.copy (Syntax.place 7 List.[])) (List._∷_ (Syntax.copy (Syntax.place 8 List.[])) (List._∷_ (Syntax.copy (Syntax.place 9 List.[])) (List._∷_ (Syntax.copy (Syntax.place 23 List.[])) (List._∷_ (Syntax.copy (Syntax.place 24 List.[])) (List._∷_ (Syntax.copy (Syntax.place 25 List.[])) (List._∷_ (Syntax.copy (Syntax.place 19 List.[])) (List._∷_ (Syntax.copy (Syntax.place 20 List.[])) (List._∷_ (Syntax.copy (Syntax.place 17 List.[])) List.[]))))))))))))) (Syntax.place 21 List.[])
+b6 = Syntax.call "ask_rows::ask" (List._∷_ (Syntax.copy (Syntax.place 4 List.[])) (List._∷_ (Syntax.copy (Syntax.place 18 List.[])) (List._∷_ (Syntax.copy (Syntax.place 5 List.[])) (List._∷_ (Syntax.copy (Syntax.place 6 List.[])) (List._∷_ (Syntax.copy (Syntax.place 7 List.[])) (List._∷_ (Syntax.copy (Syntax.place 8 List.[])) (List._∷_ (Syntax.copy (Syntax.place 9 List.[])) (List._∷_ (Syntax.copy (Syntax.place 23 List.[])) (List._∷_ (Syntax.copy (Syntax.place 24 List.[])) (List._∷_ (Syntax.copy (Syntax.place 25 List.[])) (List._∷_ (Syntax.copy (Syntax.place 19 List.[])) (List._∷_ (Syntax.copy (Syntax.place 20 List.[])) (List._∷_ (Syntax.copy (Syntax.place 17 List.[])) List.[]))))))))))))) (Syntax.place 21 List.[])
 
 abbrev b7 : Syntax.Body
 b7 = Syntax.assign (Syntax.place 22 List.[]) (Syntax.rvOpd (Syntax.copy (Syntax.place 21 (List._∷_ (Syntax.variant 1) (List._∷_ (Syntax.field 1) List.[])))))
@@ -850,7 +850,7 @@ module _ (claims· : Claims) where
   module _ (Pre· : (κs : Lifetimes.Lfts 8) → Kinds.Dens κs ps → Type 0) (Post· : (κs : Lifetimes.Lfts 8) → (a : Kinds.Dens κs ps) → Kinds.Plain 8 ps r κs) where
     module _ (M : Type 1) where
       abbrev pub Closed : Type 2
-      Closed = (𝓤 : URA.URA M) (H : Wp.Heap 𝓤) (A : Atoms.Atoms 𝓤) (W : Kit.Given 𝓤 H A) (𝓣 : Wp.Tables 𝓤 H) (known0 : Plain.Known 𝓤 H A W 𝓣 5 ps·0 r·0 (claims· .0) (claims· .1) "ask::ask") (known1 : Plain.Known 𝓤 H A W 𝓣 0 ps·1 r·1 (claims· .2) (claims· .3) "fithmoul::results::ask_result") (known2 : Plain.Known 𝓤 H A W 𝓣 3 ps·2 r·2 (claims· .4) (claims· .5) "locate::clear_ring") → Statement.Triple 𝓤 (Wp.WpFn 𝓤 H (𝓣 .C) (𝓣 .Λ) (Function.fnOf 8 ps r xs m hs body)) (Function.plainOf 𝓤 H A 8 ps r Pre· Post·)
+      Closed = (𝓤 : URA.URA M) (H : Wp.Heap 𝓤) (A : Atoms.Atoms 𝓤) (W : Kit.Given 𝓤 H A) (𝓣 : Wp.Tables 𝓤 H) (known0 : Plain.Known 𝓤 H A W 𝓣 5 ps·0 r·0 (claims· .0) (claims· .1) "ask_rows::ask") (known1 : Plain.Known 𝓤 H A W 𝓣 0 ps·1 r·1 (claims· .2) (claims· .3) "fithmoul::results::ask_result") (known2 : Plain.Known 𝓤 H A W 𝓣 3 ps·2 r·2 (claims· .4) (claims· .5) "locate::clear_ring") → Statement.Triple 𝓤 (Wp.WpFn 𝓤 H (𝓣 .C) (𝓣 .Λ) (Function.fnOf 8 ps r xs m hs body)) (Function.plainOf 𝓤 H A 8 ps r Pre· Post·)
 
     module _ where
       abbrev at0 : Typed.TF T40 O1
@@ -1089,7 +1089,7 @@ module _ (claims· : Claims) where
 
       module _ {M : Type 1} (𝓤 : URA.URA M) (H : Wp.Heap 𝓤) (A : Atoms.Atoms 𝓤) (W : Kit.Given 𝓤 H A) (𝓣 : Wp.Tables 𝓤 H) where
         abbrev Knowns : Type 1
-        Knowns = Plain.Known 𝓤 H A W 𝓣 5 ps·0 r·0 (claims· .0) (claims· .1) "ask::ask" × Plain.Known 𝓤 H A W 𝓣 0 ps·1 r·1 (claims· .2) (claims· .3) "fithmoul::results::ask_result" × Plain.Known 𝓤 H A W 𝓣 3 ps·2 r·2 (claims· .4) (claims· .5) "locate::clear_ring"
+        Knowns = Plain.Known 𝓤 H A W 𝓣 5 ps·0 r·0 (claims· .0) (claims· .1) "ask_rows::ask" × Plain.Known 𝓤 H A W 𝓣 0 ps·1 r·1 (claims· .2) (claims· .3) "fithmoul::results::ask_result" × Plain.Known 𝓤 H A W 𝓣 3 ps·2 r·2 (claims· .4) (claims· .5) "locate::clear_ring"
 
       module _ (κs : Lifetimes.Lfts 8) (qs : Lifetimes.Shares 8) where
         abbrev g34 : List.List Row.Entry
@@ -1529,7 +1529,7 @@ module _ (claims· : Claims) where
           d61 = Typed.t-seq 𝓤 H A W 𝓣 E G16 G17 b15 b32 Δ0 at26 at60 d26 d60
 
           d62 : Typed.Typed 𝓤 H A 𝓣 E G15 b34 Δ0 at62
-          d62 = Typed.s-seq 𝓤 H A W 𝓣 E G15 G16 b6 b33 Δ0 (Typed.both s14) at61 (Plain.t-call-plain 𝓤 H A W 𝓣 5 ps·0 r·0 (claims· .0) (claims· .1) "ask::ask" (known .0) E (λ pos β. β) G15 (Num.vAt 4 λ x. x, (record { pos = 18; st = List.[]; d = 0; at = λ x. x }, (record { pos = 5; ty = Syntax.tyRef (Syntax.named 0) Syntax.imm ty·0; ref = λ x. x }, (record { pos = 6; ty = Syntax.tyRef (Syntax.named 1) Syntax.imm ty·0; ref = λ x. x }, (record { pos = 7; ty = Syntax.tyRef (Syntax.named 2) Syntax.imm ty·0; ref = λ x. x }, (record { pos = 8; ty = Syntax.tyRef (Syntax.named 3) Syntax.imm ty·0; ref = λ x. x }, (record { pos = 9; ty = Syntax.tyRef (Syntax.named 4) Syntax.imm ty·0; ref = λ x. x }, (Num.vAt 23 λ x. x, (Num.vAt 24 λ x. x, (Num.vAt 25 λ x. x, (record { pos = 19; st = List.[]; d = 0; at = λ x. x }, (record { pos = 20; st = List.[]; d = 0; at = λ x. x }, (Num.vAt 17 λ x. x, tt))))))))))))) 21 (List._∷_ 0 (List._∷_ 1 (List._∷_ 2 (List._∷_ 3 (List._∷_ 4 List.[]))))) (Call.sub-id 𝓤 H A W (G15 .slots)) ((Scalar.reads-sc 𝓤 H A W (Row.sInt Syntax.w32), Path'.refl), ((Yields.yields-copy 𝓤 H A W (λ ρ. Unit) (Declared'.row Counts.the-type) Path'.refl (Copies.cStruct Counts.the-type Laws'4.the-laws Laws'4.the-copy .copy 𝓤 H A W) (Rows.whole (Declared'.row Counts.the-type)) (λ x. x) (λ x. x) (λ ρ told. Local.mem-whole 𝓤 H A W (Declared'.row Counts.the-type) ρ) λ ρ told. Local.whole-mem 𝓤 H A W (Declared'.row Counts.the-type) ρ, Path'.refl), (ShrSlice.spares-sslice 𝓤 H A W (Signed'.SInt Syntax.w32) ty·4 0, Shared.reads-sslice 𝓤 H A W (Signed'.SInt Syntax.w32) ty·4 0, Path'.refl, (ShrSlice.spares-sslice 𝓤 H A W (Signed'.SInt Syntax.w32) ty·5 1, Shared.reads-sslice 𝓤 H A W (Signed'.SInt Syntax.w32) ty·5 1, Path'.refl, (ShrSlice.spares-sslice 𝓤 H A W (Referent.rtF (Referent.fInt Syntax.w32)) ty·6 2, Shared.reads-sslice 𝓤 H A W (Referent.rtF (Referent.fInt Syntax.w32)) ty·6 2, Path'.refl, (ShrSlice.spares-sslice 𝓤 H A W (Referent.rtF (Referent.fInt Syntax.w32)) ty·7 3, Shared.reads-sslice 𝓤 H A W (Referent.rtF (Referent.fInt Syntax.w32)) ty·7 3, Path'.refl, (ShrSlice.spares-sslice 𝓤 H A W (Referent.rtF (Referent.fInt Syntax.w32)) ty·8 4, Shared.reads-sslice 𝓤 H A W (Referent.rtF (Referent.fInt Syntax.w32)) ty·8 4, Path'.refl, ((Scalar.reads-sc 𝓤 H A W (Row.sInt Syntax.w64), Path'.refl), ((Scalar.reads-sc 𝓤 H A W (Row.sInt Syntax.w64), Path'.refl), ((Scalar.reads-sc 𝓤 H A W (Row.sInt Syntax.w64), Path'.refl), ((Yields.yields-copy 𝓤 H A W (λ ρ. Unit) (Declared'.row Point2.the-type) Path'.refl (Copies.cStruct Point2.the-type Laws.the-laws Laws.the-copy .copy 𝓤 H A W) (Rows.whole (Declared'.row Point2.the-type)) (λ x. x) (λ x. x) (λ ρ told. Local.mem-whole 𝓤 H A W (Declared'.row Point2.the-type) ρ) λ ρ told. Local.whole-mem 𝓤 H A W (Declared'.row Point2.the-type) ρ, Path'.refl), ((Yields.yields-copy 𝓤 H A W (λ ρ. Unit) (Declared'.row Point.the-type) Path'.refl (Copies.cStruct Point.the-type Laws'3.the-laws Laws'3.the-copy .copy 𝓤 H A W) (Rows.whole (Declared'.row Point.the-type)) (λ x. x) (λ x. x) (λ ρ told. Local.mem-whole 𝓤 H A W (Declared'.row Point.the-type) ρ) λ ρ told. Local.whole-mem 𝓤 H A W (Declared'.row Point.the-type) ρ, Path'.refl), ((Scalar.reads-sc 𝓤 H A W (Row.sInt Syntax.w32), Path'.refl), tt))))))))))))) (Reads'.room-gone 𝓤 H A ty·21) (tt, (tt, (tt, (tt, (tt, tt))))) Path'.refl) d61
+          d62 = Typed.s-seq 𝓤 H A W 𝓣 E G15 G16 b6 b33 Δ0 (Typed.both s14) at61 (Plain.t-call-plain 𝓤 H A W 𝓣 5 ps·0 r·0 (claims· .0) (claims· .1) "ask_rows::ask" (known .0) E (λ pos β. β) G15 (Num.vAt 4 λ x. x, (record { pos = 18; st = List.[]; d = 0; at = λ x. x }, (record { pos = 5; ty = Syntax.tyRef (Syntax.named 0) Syntax.imm ty·0; ref = λ x. x }, (record { pos = 6; ty = Syntax.tyRef (Syntax.named 1) Syntax.imm ty·0; ref = λ x. x }, (record { pos = 7; ty = Syntax.tyRef (Syntax.named 2) Syntax.imm ty·0; ref = λ x. x }, (record { pos = 8; ty = Syntax.tyRef (Syntax.named 3) Syntax.imm ty·0; ref = λ x. x }, (record { pos = 9; ty = Syntax.tyRef (Syntax.named 4) Syntax.imm ty·0; ref = λ x. x }, (Num.vAt 23 λ x. x, (Num.vAt 24 λ x. x, (Num.vAt 25 λ x. x, (record { pos = 19; st = List.[]; d = 0; at = λ x. x }, (record { pos = 20; st = List.[]; d = 0; at = λ x. x }, (Num.vAt 17 λ x. x, tt))))))))))))) 21 (List._∷_ 0 (List._∷_ 1 (List._∷_ 2 (List._∷_ 3 (List._∷_ 4 List.[]))))) (Call.sub-id 𝓤 H A W (G15 .slots)) ((Scalar.reads-sc 𝓤 H A W (Row.sInt Syntax.w32), Path'.refl), ((Yields.yields-copy 𝓤 H A W (λ ρ. Unit) (Declared'.row Counts.the-type) Path'.refl (Copies.cStruct Counts.the-type Laws'4.the-laws Laws'4.the-copy .copy 𝓤 H A W) (Rows.whole (Declared'.row Counts.the-type)) (λ x. x) (λ x. x) (λ ρ told. Local.mem-whole 𝓤 H A W (Declared'.row Counts.the-type) ρ) λ ρ told. Local.whole-mem 𝓤 H A W (Declared'.row Counts.the-type) ρ, Path'.refl), (ShrSlice.spares-sslice 𝓤 H A W (Signed'.SInt Syntax.w32) ty·4 0, Shared.reads-sslice 𝓤 H A W (Signed'.SInt Syntax.w32) ty·4 0, Path'.refl, (ShrSlice.spares-sslice 𝓤 H A W (Signed'.SInt Syntax.w32) ty·5 1, Shared.reads-sslice 𝓤 H A W (Signed'.SInt Syntax.w32) ty·5 1, Path'.refl, (ShrSlice.spares-sslice 𝓤 H A W (Referent.rtF (Referent.fInt Syntax.w32)) ty·6 2, Shared.reads-sslice 𝓤 H A W (Referent.rtF (Referent.fInt Syntax.w32)) ty·6 2, Path'.refl, (ShrSlice.spares-sslice 𝓤 H A W (Referent.rtF (Referent.fInt Syntax.w32)) ty·7 3, Shared.reads-sslice 𝓤 H A W (Referent.rtF (Referent.fInt Syntax.w32)) ty·7 3, Path'.refl, (ShrSlice.spares-sslice 𝓤 H A W (Referent.rtF (Referent.fInt Syntax.w32)) ty·8 4, Shared.reads-sslice 𝓤 H A W (Referent.rtF (Referent.fInt Syntax.w32)) ty·8 4, Path'.refl, ((Scalar.reads-sc 𝓤 H A W (Row.sInt Syntax.w64), Path'.refl), ((Scalar.reads-sc 𝓤 H A W (Row.sInt Syntax.w64), Path'.refl), ((Scalar.reads-sc 𝓤 H A W (Row.sInt Syntax.w64), Path'.refl), ((Yields.yields-copy 𝓤 H A W (λ ρ. Unit) (Declared'.row Point2.the-type) Path'.refl (Copies.cStruct Point2.the-type Laws.the-laws Laws.the-copy .copy 𝓤 H A W) (Rows.whole (Declared'.row Point2.the-type)) (λ x. x) (λ x. x) (λ ρ told. Local.mem-whole 𝓤 H A W (Declared'.row Point2.the-type) ρ) λ ρ told. Local.whole-mem 𝓤 H A W (Declared'.row Point2.the-type) ρ, Path'.refl), ((Yields.yields-copy 𝓤 H A W (λ ρ. Unit) (Declared'.row Point.the-type) Path'.refl (Copies.cStruct Point.the-type Laws'3.the-laws Laws'3.the-copy .copy 𝓤 H A W) (Rows.whole (Declared'.row Point.the-type)) (λ x. x) (λ x. x) (λ ρ told. Local.mem-whole 𝓤 H A W (Declared'.row Point.the-type) ρ) λ ρ told. Local.whole-mem 𝓤 H A W (Declared'.row Point.the-type) ρ, Path'.refl), ((Scalar.reads-sc 𝓤 H A W (Row.sInt Syntax.w32), Path'.refl), tt))))))))))))) (Reads'.room-gone 𝓤 H A ty·21) (tt, (tt, (tt, (tt, (tt, tt))))) Path'.refl) d61
 
           d63 : Typed.Typed 𝓤 H A 𝓣 E G14 b34 Δ0 at63
           d63 = Typed.g-pre 𝓤 H A W 𝓣 E G14 G15 b34 Δ0 (Typed.pass T14 T15 s13) at62 (AtSlots.g-as-by 𝓤 H A W E (λ ρ. Unit) G14 20 (Rows.whole (Declared'.row Point.the-type)) (λ v. Point.struct .make v tt) (Own.told-none 𝓤 H A (G14 .slots)) λ ρ told v b. Apart.folds 𝓤 H A Point.the-type (Point.struct .Ghost) (Point.struct .make) (λ v g. Path'.refl) ρ v tt b) d62
@@ -2058,6 +2058,6 @@ module _ (claims· : Claims) where
           pub asked : (a : Kinds.Dens κs ps) → (good : Kinds.GoodsP κs ps a) → (pre : Pre· κs a) → (bs : List.List Nat.ℕ) → Φ (Any.wantQ 8 ps r xs m κs qs a (Post· κs a)) (Function.init 8 ps r xs m κs qs a)
           asked = λ a good pre bs. laid record { κs = κs; args = record { vertices = a .0; edges = a .1 .0; faces = a .1 .1 .0; changes = a .1 .1 .1 .0; positions = a .1 .1 .1 .1 .0; heights = a .1 .1 .1 .1 .1 .0; outs = a .1 .1 .1 .1 .1 .1 .0; halves = a .1 .1 .1 .1 .1 .1 .1 .0; adjacent = a .1 .1 .1 .1 .1 .1 .1 .1 .0; nodes = a .1 .1 .1 .1 .1 .1 .1 .1 .1 .0; freed = a .1 .1 .1 .1 .1 .1 .1 .1 .1 .1 .0; buckets = a .1 .1 .1 .1 .1 .1 .1 .1 .1 .1 .1 .0; center-x = a .1 .1 .1 .1 .1 .1 .1 .1 .1 .1 .1 .1 .0; center-y = a .1 .1 .1 .1 .1 .1 .1 .1 .1 .1 .1 .1 .1 .0; x = a .1 .1 .1 .1 .1 .1 .1 .1 .1 .1 .1 .1 .1 .1 .0; y = a .1 .1 .1 .1 .1 .1 .1 .1 .1 .1 .1 .1 .1 .1 .1 .0; z = a .1 .1 .1 .1 .1 .1 .1 .1 .1 .1 .1 .1 .1 .1 .1 .1 .0 }; good = good; fits = record { vertices = record { fits = good .0 .1 }; edges = record { fits = good .1 .0 .1 }; faces = record { fits = good .1 .1 .0 .1 }; changes = record { fits = good .1 .1 .1 .0 .1 }; x = record { sfits = good .1 .1 .1 .1 .1 .1 .1 .1 .1 .1 .1 .1 .1 .1 .0 }; y = record { sfits = good .1 .1 .1 .1 .1 .1 .1 .1 .1 .1 .1 .1 .1 .1 .1 .0 }; z = record { sfits = good .1 .1 .1 .1 .1 .1 .1 .1 .1 .1 .1 .1 .1 .1 .1 .1 .0 } }; pre = pre }
 
-        module _ {M : Type 1} (𝓤 : URA.URA M) (H : Wp.Heap 𝓤) (A : Atoms.Atoms 𝓤) (W : Kit.Given 𝓤 H A) (𝓣 : Wp.Tables 𝓤 H) (known0 : Plain.Known 𝓤 H A W 𝓣 5 ps·0 r·0 (claims· .0) (claims· .1) "ask::ask") (known1 : Plain.Known 𝓤 H A W 𝓣 0 ps·1 r·1 (claims· .2) (claims· .3) "fithmoul::results::ask_result") (known2 : Plain.Known 𝓤 H A W 𝓣 3 ps·2 r·2 (claims· .4) (claims· .5) "locate::clear_ring") where
+        module _ {M : Type 1} (𝓤 : URA.URA M) (H : Wp.Heap 𝓤) (A : Atoms.Atoms 𝓤) (W : Kit.Given 𝓤 H A) (𝓣 : Wp.Tables 𝓤 H) (known0 : Plain.Known 𝓤 H A W 𝓣 5 ps·0 r·0 (claims· .0) (claims· .1) "ask_rows::ask") (known1 : Plain.Known 𝓤 H A W 𝓣 0 ps·1 r·1 (claims· .2) (claims· .3) "fithmoul::results::ask_result") (known2 : Plain.Known 𝓤 H A W 𝓣 3 ps·2 r·2 (claims· .4) (claims· .5) "locate::clear_ring") where
           pub spec : Statement.Triple 𝓤 (Wp.WpFn 𝓤 H (𝓣 .C) (𝓣 .Λ) (Function.fnOf 8 ps r xs m hs body)) (Function.plainOf 𝓤 H A 8 ps r Pre· Post·)
           spec = Plain.t-fn-plain 𝓤 H A W 𝓣 8 ps r xs m hs body (λ κs qs bs. Φ) (λ κs qs bs bd. typed κs qs 𝓤 H A W 𝓣 (known0, known1, known2) bs bd) Pre· Post· asked

@@ -366,7 +366,7 @@ abbrev b44 : Syntax.Body
 b44 = Syntax.assign (Syntax.place 59 List.[]) (Syntax.aggregate (List._∷_ (Syntax.copy (Syntax.place 58 List.[])) (List._∷_ (Syntax.copy (Syntax.place 6 (List._∷_ (Syntax.field 1) List.[]))) List.[])))
 
 abbrev b45 : Syntax.Body
-b45 = Syntax.call "surface::store_height" (List._∷_ (Syntax.copy (Syntax.place 59 List.[])) (List._∷_ (Syntax.copy (Syntax.place 1 List.[])) (List._∷_ (Syntax.copy (Syntax.place 26 (List._∷_ (Syntax.field 0) (List._∷_ (Syntax.field 0) List.[])))) (List._∷_ (Syntax.copy (Syntax.place 18 List.[])) List.[])))) (Syntax.place 57 List.[])
+b45 = Syntax.call "surface_rows::store_height" (List._∷_ (Syntax.copy (Syntax.place 59 List.[])) (List._∷_ (Syntax.copy (Syntax.place 1 List.[])) (List._∷_ (Syntax.copy (Syntax.place 26 (List._∷_ (Syntax.field 0) (List._∷_ (Syntax.field 0) List.[])))) (List._∷_ (Syntax.copy (Syntax.place 18 List.[])) List.[])))) (Syntax.place 57 List.[])
 
 abbrev b46 : Syntax.Body
 b46 = Syntax.call "fithmoul::results::commit_result" (List._∷_ (Syntax.copy (Syntax.place 4 List.[])) (List._∷_ (Syntax.copy (Syntax.place 26 List.[])) List.[])) (Syntax.place 0 List.[])
@@ -1539,7 +1539,7 @@ module _ (claims· : Claims) where
   module _ (Pre· : (κs : Lifetimes.Lfts 9) → Kinds.Dens κs ps → Type 0) (Post· : (κs : Lifetimes.Lfts 9) → (a : Kinds.Dens κs ps) → Kinds.Plain 9 ps r κs) where
     module _ (M : Type 1) where
       abbrev pub Closed : Type 2
-      Closed = (𝓤 : URA.URA M) (H : Wp.Heap 𝓤) (A : Atoms.Atoms 𝓤) (W : Kit.Given 𝓤 H A) (𝓣 : Wp.Tables 𝓤 H) (known0 : Plain.Known 𝓤 H A W 𝓣 5 ps·0 r·0 (claims· .0) (claims· .1) "commit::check_commit") (known1 : Plain.Known 𝓤 H A W 𝓣 0 ps·1 r·1 (claims· .2) (claims· .3) "fithmoul::results::commit_refused") (known2 : Plain.Known 𝓤 H A W 𝓣 8 ps·2 r·2 (claims· .4) (claims· .5) "step::sweep_once") (known3 : Plain.Known 𝓤 H A W 𝓣 0 ps·3 r·3 (claims· .6) (claims· .7) "step::answer_of") (known4 : Plain.Known 𝓤 H A W 𝓣 1 ps·4 r·4 (claims· .8) (claims· .9) "surface::store_height") (known5 : Plain.Known 𝓤 H A W 𝓣 0 ps·5 r·5 (claims· .10) (claims· .11) "fithmoul::results::commit_result") → Statement.Triple 𝓤 (Wp.WpFn 𝓤 H (𝓣 .C) (𝓣 .Λ) (Function.fnOf 9 ps r xs m hs body)) (Function.plainOf 𝓤 H A 9 ps r Pre· Post·)
+      Closed = (𝓤 : URA.URA M) (H : Wp.Heap 𝓤) (A : Atoms.Atoms 𝓤) (W : Kit.Given 𝓤 H A) (𝓣 : Wp.Tables 𝓤 H) (known0 : Plain.Known 𝓤 H A W 𝓣 5 ps·0 r·0 (claims· .0) (claims· .1) "commit::check_commit") (known1 : Plain.Known 𝓤 H A W 𝓣 0 ps·1 r·1 (claims· .2) (claims· .3) "fithmoul::results::commit_refused") (known2 : Plain.Known 𝓤 H A W 𝓣 8 ps·2 r·2 (claims· .4) (claims· .5) "step::sweep_once") (known3 : Plain.Known 𝓤 H A W 𝓣 0 ps·3 r·3 (claims· .6) (claims· .7) "step::answer_of") (known4 : Plain.Known 𝓤 H A W 𝓣 1 ps·4 r·4 (claims· .8) (claims· .9) "surface_rows::store_height") (known5 : Plain.Known 𝓤 H A W 𝓣 0 ps·5 r·5 (claims· .10) (claims· .11) "fithmoul::results::commit_result") → Statement.Triple 𝓤 (Wp.WpFn 𝓤 H (𝓣 .C) (𝓣 .Λ) (Function.fnOf 9 ps r xs m hs body)) (Function.plainOf 𝓤 H A 9 ps r Pre· Post·)
 
     module _ where
       abbrev at0 : Typed.TF T77 O1
@@ -2030,7 +2030,7 @@ module _ (claims· : Claims) where
 
       module _ {M : Type 1} (𝓤 : URA.URA M) (H : Wp.Heap 𝓤) (A : Atoms.Atoms 𝓤) (W : Kit.Given 𝓤 H A) (𝓣 : Wp.Tables 𝓤 H) where
         abbrev Knowns : Type 1
-        Knowns = Plain.Known 𝓤 H A W 𝓣 5 ps·0 r·0 (claims· .0) (claims· .1) "commit::check_commit" × Plain.Known 𝓤 H A W 𝓣 0 ps·1 r·1 (claims· .2) (claims· .3) "fithmoul::results::commit_refused" × Plain.Known 𝓤 H A W 𝓣 8 ps·2 r·2 (claims· .4) (claims· .5) "step::sweep_once" × Plain.Known 𝓤 H A W 𝓣 0 ps·3 r·3 (claims· .6) (claims· .7) "step::answer_of" × Plain.Known 𝓤 H A W 𝓣 1 ps·4 r·4 (claims· .8) (claims· .9) "surface::store_height" × Plain.Known 𝓤 H A W 𝓣 0 ps·5 r·5 (claims· .10) (claims· .11) "fithmoul::results::commit_result"
+        Knowns = Plain.Known 𝓤 H A W 𝓣 5 ps·0 r·0 (claims· .0) (claims· .1) "commit::check_commit" × Plain.Known 𝓤 H A W 𝓣 0 ps·1 r·1 (claims· .2) (claims· .3) "fithmoul::results::commit_refused" × Plain.Known 𝓤 H A W 𝓣 8 ps·2 r·2 (claims· .4) (claims· .5) "step::sweep_once" × Plain.Known 𝓤 H A W 𝓣 0 ps·3 r·3 (claims· .6) (claims· .7) "step::answer_of" × Plain.Known 𝓤 H A W 𝓣 1 ps·4 r·4 (claims· .8) (claims· .9) "surface_rows::store_height" × Plain.Known 𝓤 H A W 𝓣 0 ps·5 r·5 (claims· .10) (claims· .11) "fithmoul::results::commit_result"
 
       module _ (κs : Lifetimes.Lfts 9) (qs : Lifetimes.Shares 9) where
         abbrev g9 : List.List Row.Entry
@@ -2788,7 +2788,7 @@ module _ (claims· : Claims) where
           d63 = Typed.g-pre 𝓤 H A W 𝓣 E G143 G144 b48 Δ0 (Typed.pass T143 T144 s141) at62 (Scalar.g-room 𝓤 H A W E G143 57 Syntax.tyUnit (Scalar.room-sc 𝓤 H A W Row.sUnit)) d62
 
           d64 : Typed.Typed 𝓤 H A 𝓣 E G142 b49 Δ0 at64
-          d64 = Typed.s-seq 𝓤 H A W 𝓣 E G142 G143 b45 b48 Δ0 (Typed.both s140) at63 (Plain.t-call-plain 𝓤 H A W 𝓣 1 ps·4 r·4 (claims· .8) (claims· .9) "surface::store_height" (known .4) E (λ pos β. β) G142 (record { pos = 59; ty = Syntax.tyRef Syntax.erased Syntax.mut ty·0; ref = λ x. x }, (Num.vAt 1 λ x. x, (Num.vFld 26 (List._∷_ (Syntax.field 0) (List._∷_ (Syntax.field 0) List.[])) 0 λ x. Counts.struct .as-values (StepAnswer.struct .as-values x .0) .0, (Num.vAt 18 λ x. x, tt)))) 57 (List._∷_ 22 List.[]) (Call.sub-id 𝓤 H A W (G142 .slots)) (Reads'.as-is 𝓤 H A (Mut.mslice (Signed'.SInt Syntax.w32) ty·4 22), Mut.reads-mslice 𝓤 H A W (Signed'.SInt Syntax.w32) ty·4 22, Path'.refl, ((Scalar.reads-sc 𝓤 H A W (Row.sInt Syntax.w32), Path'.refl), ((Reads.reads-inner 𝓤 H A W Counts.the-type Laws'3.the-laws (Rows.whole (Declared'.row StepAnswer.the-type)) 0 (λ x. StepAnswer.struct .as-values x .0) (Reads.reads-field 𝓤 H A W StepAnswer.the-type Laws'8.the-laws 0 ty·20 0 Path'.refl) 0 ty·0 0 Path'.refl, Path'.refl), ((Scalar.reads-sc 𝓤 H A W (Row.sInt Syntax.w32), Path'.refl), tt)))) (Reads'.room-gone 𝓤 H A Syntax.tyUnit) (tt, tt) Path'.refl) d63
+          d64 = Typed.s-seq 𝓤 H A W 𝓣 E G142 G143 b45 b48 Δ0 (Typed.both s140) at63 (Plain.t-call-plain 𝓤 H A W 𝓣 1 ps·4 r·4 (claims· .8) (claims· .9) "surface_rows::store_height" (known .4) E (λ pos β. β) G142 (record { pos = 59; ty = Syntax.tyRef Syntax.erased Syntax.mut ty·0; ref = λ x. x }, (Num.vAt 1 λ x. x, (Num.vFld 26 (List._∷_ (Syntax.field 0) (List._∷_ (Syntax.field 0) List.[])) 0 λ x. Counts.struct .as-values (StepAnswer.struct .as-values x .0) .0, (Num.vAt 18 λ x. x, tt)))) 57 (List._∷_ 22 List.[]) (Call.sub-id 𝓤 H A W (G142 .slots)) (Reads'.as-is 𝓤 H A (Mut.mslice (Signed'.SInt Syntax.w32) ty·4 22), Mut.reads-mslice 𝓤 H A W (Signed'.SInt Syntax.w32) ty·4 22, Path'.refl, ((Scalar.reads-sc 𝓤 H A W (Row.sInt Syntax.w32), Path'.refl), ((Reads.reads-inner 𝓤 H A W Counts.the-type Laws'3.the-laws (Rows.whole (Declared'.row StepAnswer.the-type)) 0 (λ x. StepAnswer.struct .as-values x .0) (Reads.reads-field 𝓤 H A W StepAnswer.the-type Laws'8.the-laws 0 ty·20 0 Path'.refl) 0 ty·0 0 Path'.refl, Path'.refl), ((Scalar.reads-sc 𝓤 H A W (Row.sInt Syntax.w32), Path'.refl), tt)))) (Reads'.room-gone 𝓤 H A Syntax.tyUnit) (tt, tt) Path'.refl) d63
 
           d65 : Typed.Typed 𝓤 H A 𝓣 E G141 b50 Δ0 at65
           d65 = Typed.s-seq 𝓤 H A W 𝓣 E G141 G142 b44 b49 Δ0 (Typed.ask s139) at64 (Relend.t-sl-aggregate 𝓤 H A W E (Signed'.SInt Syntax.w32) 𝓣 (Relend.asMut (Signed'.SInt Syntax.w32)) G141 58 59 22 ty·4 ty·4 (λ x. x) (Scalar.oFld 6 (List._∷_ (Syntax.field 1) List.[]) ty·1 8 λ v. Shared.lenV (v .0)) (Reads'.as-is 𝓤 H A (Relend.msptr (Signed'.SInt Syntax.w32) ty·4 22)) (Reads'.room-gone 𝓤 H A ty·16) (Relend.reads-owed-len 𝓤 H A W (Signed'.SInt Syntax.w32) ty·6 1 22 (Row.lease (κs .1 .0) (qs .1 .0)) 8 Path'.refl, Path'.refl) Path'.refl Path'.refl λ b o k. tt) d64
@@ -3964,6 +3964,6 @@ module _ (claims· : Claims) where
           pub asked : (a : Kinds.Dens κs ps) → (good : Kinds.GoodsP κs ps a) → (pre : Pre· κs a) → (bs : List.List Nat.ℕ) → Φ (Any.wantQ 9 ps r xs m κs qs a (Post· κs a)) (Function.init 9 ps r xs m κs qs a)
           asked = λ a good pre bs. laid record { κs = κs; args = record { vertices = a .0; edges = a .1 .0; faces = a .1 .1 .0; changes = a .1 .1 .1 .0; positions = a .1 .1 .1 .1 .0; heights = a .1 .1 .1 .1 .1 .0; outs = a .1 .1 .1 .1 .1 .1 .0; halves = a .1 .1 .1 .1 .1 .1 .1 .0; adjacent = a .1 .1 .1 .1 .1 .1 .1 .1 .0; nodes = a .1 .1 .1 .1 .1 .1 .1 .1 .1 .0; freed = a .1 .1 .1 .1 .1 .1 .1 .1 .1 .1 .0; buckets = a .1 .1 .1 .1 .1 .1 .1 .1 .1 .1 .1 .0; pending = a .1 .1 .1 .1 .1 .1 .1 .1 .1 .1 .1 .1 .0; center-x = a .1 .1 .1 .1 .1 .1 .1 .1 .1 .1 .1 .1 .1 .0; center-y = a .1 .1 .1 .1 .1 .1 .1 .1 .1 .1 .1 .1 .1 .1 .0; x = a .1 .1 .1 .1 .1 .1 .1 .1 .1 .1 .1 .1 .1 .1 .1 .0; y = a .1 .1 .1 .1 .1 .1 .1 .1 .1 .1 .1 .1 .1 .1 .1 .1 .0; z = a .1 .1 .1 .1 .1 .1 .1 .1 .1 .1 .1 .1 .1 .1 .1 .1 .1 .0; quote = a .1 .1 .1 .1 .1 .1 .1 .1 .1 .1 .1 .1 .1 .1 .1 .1 .1 .1 .0 }; good = good; fits = record { vertices = record { fits = good .0 .1 }; edges = record { fits = good .1 .0 .1 }; faces = record { fits = good .1 .1 .0 .1 }; changes = record { fits = good .1 .1 .1 .0 .1 }; x = record { sfits = good .1 .1 .1 .1 .1 .1 .1 .1 .1 .1 .1 .1 .1 .1 .1 .0 }; y = record { sfits = good .1 .1 .1 .1 .1 .1 .1 .1 .1 .1 .1 .1 .1 .1 .1 .1 .0 }; z = record { sfits = good .1 .1 .1 .1 .1 .1 .1 .1 .1 .1 .1 .1 .1 .1 .1 .1 .1 .0 } }; pre = pre }
 
-        module _ {M : Type 1} (𝓤 : URA.URA M) (H : Wp.Heap 𝓤) (A : Atoms.Atoms 𝓤) (W : Kit.Given 𝓤 H A) (𝓣 : Wp.Tables 𝓤 H) (known0 : Plain.Known 𝓤 H A W 𝓣 5 ps·0 r·0 (claims· .0) (claims· .1) "commit::check_commit") (known1 : Plain.Known 𝓤 H A W 𝓣 0 ps·1 r·1 (claims· .2) (claims· .3) "fithmoul::results::commit_refused") (known2 : Plain.Known 𝓤 H A W 𝓣 8 ps·2 r·2 (claims· .4) (claims· .5) "step::sweep_once") (known3 : Plain.Known 𝓤 H A W 𝓣 0 ps·3 r·3 (claims· .6) (claims· .7) "step::answer_of") (known4 : Plain.Known 𝓤 H A W 𝓣 1 ps·4 r·4 (claims· .8) (claims· .9) "surface::store_height") (known5 : Plain.Known 𝓤 H A W 𝓣 0 ps·5 r·5 (claims· .10) (claims· .11) "fithmoul::results::commit_result") where
+        module _ {M : Type 1} (𝓤 : URA.URA M) (H : Wp.Heap 𝓤) (A : Atoms.Atoms 𝓤) (W : Kit.Given 𝓤 H A) (𝓣 : Wp.Tables 𝓤 H) (known0 : Plain.Known 𝓤 H A W 𝓣 5 ps·0 r·0 (claims· .0) (claims· .1) "commit::check_commit") (known1 : Plain.Known 𝓤 H A W 𝓣 0 ps·1 r·1 (claims· .2) (claims· .3) "fithmoul::results::commit_refused") (known2 : Plain.Known 𝓤 H A W 𝓣 8 ps·2 r·2 (claims· .4) (claims· .5) "step::sweep_once") (known3 : Plain.Known 𝓤 H A W 𝓣 0 ps·3 r·3 (claims· .6) (claims· .7) "step::answer_of") (known4 : Plain.Known 𝓤 H A W 𝓣 1 ps·4 r·4 (claims· .8) (claims· .9) "surface_rows::store_height") (known5 : Plain.Known 𝓤 H A W 𝓣 0 ps·5 r·5 (claims· .10) (claims· .11) "fithmoul::results::commit_result") where
           pub spec : Statement.Triple 𝓤 (Wp.WpFn 𝓤 H (𝓣 .C) (𝓣 .Λ) (Function.fnOf 9 ps r xs m hs body)) (Function.plainOf 𝓤 H A 9 ps r Pre· Post·)
           spec = Plain.t-fn-plain 𝓤 H A W 𝓣 9 ps r xs m hs body (λ κs qs bs. Φ) (λ κs qs bs bd. typed κs qs 𝓤 H A W 𝓣 (known0, known1, known2, known3, known4, known5) bs bd) Pre· Post· asked

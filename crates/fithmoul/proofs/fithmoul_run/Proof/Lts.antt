@@ -281,7 +281,7 @@ abbrev b17 : Syntax.Body
 b17 = Syntax.assign (Syntax.place 38 List.[]) (Syntax.rvOpd (Syntax.copy (Syntax.place 13 (List._∷_ (Syntax.field 1) List.[]))))
 
 abbrev b18 : Syntax.Body
-b18 = Syntax.call "surface::check_run" (List._∷_ (Syntax.copy (Syntax.place 17 List.[])) (List._∷_ (Syntax.copy (Syntax.place 18 List.[])) (List._∷_ (Syntax.copy (Syntax.place 19 List.[])) (List._∷_ (Syntax.copy (Syntax.place 27 List.[])) (List._∷_ (Syntax.copy (Syntax.place 29 List.[])) (List._∷_ (Syntax.copy (Syntax.place 31 List.[])) (List._∷_ (Syntax.copy (Syntax.place 33 List.[])) (List._∷_ (Syntax.copy (Syntax.place 35 List.[])) (List._∷_ (Syntax.copy (Syntax.place 25 List.[])) (List._∷_ (Syntax.copy (Syntax.place 36 List.[])) (List._∷_ (Syntax.copy (Syntax.place 37 List.[])) (List._∷_ (Syntax.copy (Syntax.place 38 List.[])) (List._∷_ (Syntax.copy (Syntax.place 21 List.[])) List.[]))))))))))))) (Syntax.place 22 List.[])
+b18 = Syntax.call "surface_rows::check_run" (List._∷_ (Syntax.copy (Syntax.place 17 List.[])) (List._∷_ (Syntax.copy (Syntax.place 18 List.[])) (List._∷_ (Syntax.copy (Syntax.place 19 List.[])) (List._∷_ (Syntax.copy (Syntax.place 27 List.[])) (List._∷_ (Syntax.copy (Syntax.place 29 List.[])) (List._∷_ (Syntax.copy (Syntax.place 31 List.[])) (List._∷_ (Syntax.copy (Syntax.place 33 List.[])) (List._∷_ (Syntax.copy (Syntax.place 35 List.[])) (List._∷_ (Syntax.copy (Syntax.place 25 List.[])) (List._∷_ (Syntax.copy (Syntax.place 36 List.[])) (List._∷_ (Syntax.copy (Syntax.place 37 List.[])) (List._∷_ (Syntax.copy (Syntax.place 38 List.[])) (List._∷_ (Syntax.copy (Syntax.place 21 List.[])) List.[]))))))))))))) (Syntax.place 22 List.[])
 
 abbrev b19 : Syntax.Body
 b19 = Syntax.assign (Syntax.place 23 List.[]) (Syntax.rvOpd (Syntax.copy (Syntax.place 22 (List._∷_ (Syntax.variant 1) (List._∷_ (Syntax.field 1) List.[])))))
@@ -374,7 +374,7 @@ abbrev b48 : Syntax.Body
 b48 = Syntax.assign (Syntax.place 61 List.[]) (Syntax.aggregate (List._∷_ (Syntax.copy (Syntax.place 60 List.[])) (List._∷_ (Syntax.copy (Syntax.place 14 (List._∷_ (Syntax.field 1) List.[]))) List.[])))
 
 abbrev b49 : Syntax.Body
-b49 = Syntax.call "surface::store_run" (List._∷_ (Syntax.copy (Syntax.place 59 List.[])) (List._∷_ (Syntax.copy (Syntax.place 61 List.[])) (List._∷_ (Syntax.copy (Syntax.place 18 List.[])) (List._∷_ (Syntax.copy (Syntax.place 17 List.[])) (List._∷_ (Syntax.copy (Syntax.place 24 List.[])) List.[]))))) (Syntax.place 57 List.[])
+b49 = Syntax.call "surface_rows::store_run" (List._∷_ (Syntax.copy (Syntax.place 59 List.[])) (List._∷_ (Syntax.copy (Syntax.place 61 List.[])) (List._∷_ (Syntax.copy (Syntax.place 18 List.[])) (List._∷_ (Syntax.copy (Syntax.place 17 List.[])) (List._∷_ (Syntax.copy (Syntax.place 24 List.[])) List.[]))))) (Syntax.place 57 List.[])
 
 abbrev b50 : Syntax.Body
 b50 = Syntax.call "fithmoul::results::run_result" (List._∷_ (Syntax.copy (Syntax.place 4 List.[])) (List._∷_ (Syntax.copy (Syntax.place 24 List.[])) List.[])) (Syntax.place 0 List.[])
@@ -1580,7 +1580,7 @@ module _ (claims· : Claims) where
   module _ (Pre· : (κs : Lifetimes.Lfts 12) → Kinds.Dens κs ps → Type 0) (Post· : (κs : Lifetimes.Lfts 12) → (a : Kinds.Dens κs ps) → Kinds.Plain 12 ps r κs) where
     module _ (M : Type 1) where
       abbrev pub Closed : Type 2
-      Closed = (𝓤 : URA.URA M) (H : Wp.Heap 𝓤) (A : Atoms.Atoms 𝓤) (W : Kit.Given 𝓤 H A) (𝓣 : Wp.Tables 𝓤 H) (known0 : Plain.Known 𝓤 H A W 𝓣 1 ps·0 r·0 (claims· .0) (claims· .1) "answers::answers_short") (known1 : Plain.Known 𝓤 H A W 𝓣 7 ps·1 r·1 (claims· .2) (claims· .3) "surface::check_run") (known2 : Plain.Known 𝓤 H A W 𝓣 0 ps·2 r·2 (claims· .4) (claims· .5) "fithmoul::results::run_refused") (known3 : Plain.Known 𝓤 H A W 𝓣 10 ps·3 r·3 (claims· .6) (claims· .7) "run::run") (known4 : Plain.Known 𝓤 H A W 𝓣 4 ps·4 r·4 (claims· .8) (claims· .9) "surface::store_run") (known5 : Plain.Known 𝓤 H A W 𝓣 0 ps·5 r·5 (claims· .10) (claims· .11) "fithmoul::results::run_result") → Statement.Triple 𝓤 (Wp.WpFn 𝓤 H (𝓣 .C) (𝓣 .Λ) (Function.fnOf 12 ps r xs m hs body)) (Function.plainOf 𝓤 H A 12 ps r Pre· Post·)
+      Closed = (𝓤 : URA.URA M) (H : Wp.Heap 𝓤) (A : Atoms.Atoms 𝓤) (W : Kit.Given 𝓤 H A) (𝓣 : Wp.Tables 𝓤 H) (known0 : Plain.Known 𝓤 H A W 𝓣 1 ps·0 r·0 (claims· .0) (claims· .1) "answers::answers_short") (known1 : Plain.Known 𝓤 H A W 𝓣 7 ps·1 r·1 (claims· .2) (claims· .3) "surface_rows::check_run") (known2 : Plain.Known 𝓤 H A W 𝓣 0 ps·2 r·2 (claims· .4) (claims· .5) "fithmoul::results::run_refused") (known3 : Plain.Known 𝓤 H A W 𝓣 10 ps·3 r·3 (claims· .6) (claims· .7) "run::run") (known4 : Plain.Known 𝓤 H A W 𝓣 4 ps·4 r·4 (claims· .8) (claims· .9) "surface_rows::store_run") (known5 : Plain.Known 𝓤 H A W 𝓣 0 ps·5 r·5 (claims· .10) (claims· .11) "fithmoul::results::run_result") → Statement.Triple 𝓤 (Wp.WpFn 𝓤 H (𝓣 .C) (𝓣 .Λ) (Function.fnOf 12 ps r xs m hs body)) (Function.plainOf 𝓤 H A 12 ps r Pre· Post·)
 
     module _ where
       abbrev at0 : Typed.TF T75 O1
@@ -2092,7 +2092,7 @@ module _ (claims· : Claims) where
 
       module _ {M : Type 1} (𝓤 : URA.URA M) (H : Wp.Heap 𝓤) (A : Atoms.Atoms 𝓤) (W : Kit.Given 𝓤 H A) (𝓣 : Wp.Tables 𝓤 H) where
         abbrev Knowns : Type 1
-        Knowns = Plain.Known 𝓤 H A W 𝓣 1 ps·0 r·0 (claims· .0) (claims· .1) "answers::answers_short" × Plain.Known 𝓤 H A W 𝓣 7 ps·1 r·1 (claims· .2) (claims· .3) "surface::check_run" × Plain.Known 𝓤 H A W 𝓣 0 ps·2 r·2 (claims· .4) (claims· .5) "fithmoul::results::run_refused" × Plain.Known 𝓤 H A W 𝓣 10 ps·3 r·3 (claims· .6) (claims· .7) "run::run" × Plain.Known 𝓤 H A W 𝓣 4 ps·4 r·4 (claims· .8) (claims· .9) "surface::store_run" × Plain.Known 𝓤 H A W 𝓣 0 ps·5 r·5 (claims· .10) (claims· .11) "fithmoul::results::run_result"
+        Knowns = Plain.Known 𝓤 H A W 𝓣 1 ps·0 r·0 (claims· .0) (claims· .1) "answers::answers_short" × Plain.Known 𝓤 H A W 𝓣 7 ps·1 r·1 (claims· .2) (claims· .3) "surface_rows::check_run" × Plain.Known 𝓤 H A W 𝓣 0 ps·2 r·2 (claims· .4) (claims· .5) "fithmoul::results::run_refused" × Plain.Known 𝓤 H A W 𝓣 10 ps·3 r·3 (claims· .6) (claims· .7) "run::run" × Plain.Known 𝓤 H A W 𝓣 4 ps·4 r·4 (claims· .8) (claims· .9) "surface_rows::store_run" × Plain.Known 𝓤 H A W 𝓣 0 ps·5 r·5 (claims· .10) (claims· .11) "fithmoul::results::run_result"
 
       module _ (κs : Lifetimes.Lfts 12) (qs : Lifetimes.Shares 12) where
         abbrev g11 : List.List Row.Entry
@@ -2880,7 +2880,7 @@ module _ (claims· : Claims) where
           d62 = Typed.g-pre 𝓤 H A W 𝓣 E G148 G149 b52 Δ0 (Typed.pass T148 T149 s146) at61 (Scalar.g-room 𝓤 H A W E G148 61 ty·21 (Shared.room-sslice 𝓤 H A W (Referent.rtF (Referent.fInt Syntax.w64)) ty·4 27)) d61
 
           d63 : Typed.Typed 𝓤 H A 𝓣 E G147 b53 Δ0 at63
-          d63 = Typed.s-seq 𝓤 H A W 𝓣 E G147 G148 b49 b52 Δ0 (Typed.both s145) at62 (Plain.t-call-plain 𝓤 H A W 𝓣 4 ps·4 r·4 (claims· .8) (claims· .9) "surface::store_run" (known .4) E (λ pos β. β) G147 (record { pos = 59; ty = Syntax.tyRef Syntax.erased Syntax.mut ty·0; ref = λ x. x }, (record { pos = 61; ty = Syntax.tyRef Syntax.erased Syntax.imm ty·1; ref = λ x. x }, (record { pos = 18; ty = Syntax.tyRef (Syntax.named 11) Syntax.imm ty·0; ref = λ x. x }, (record { pos = 17; ty = Syntax.tyRef (Syntax.named 10) Syntax.imm ty·0; ref = λ x. x }, (record { pos = 24; st = List.[]; d = 0; at = λ x. x }, tt))))) 57 (List._∷_ 26 (List._∷_ 27 (List._∷_ 11 (List._∷_ 10 List.[])))) (Call.sub-id 𝓤 H A W (G147 .slots)) (Reads.as-is 𝓤 H A (Mut.mslice (Signed.SInt Syntax.w32) ty·5 26), Mut.reads-mslice 𝓤 H A W (Signed.SInt Syntax.w32) ty·5 26, Path'.refl, (ShrSlice.spares-sslice 𝓤 H A W (Referent.rtF (Referent.fInt Syntax.w64)) ty·4 27, Shared.reads-sslice 𝓤 H A W (Referent.rtF (Referent.fInt Syntax.w64)) ty·4 27, Path'.refl, (ShrSlice.spares-sslice 𝓤 H A W (Signed.SInt Syntax.w32) ty·17 11, Shared.reads-sslice 𝓤 H A W (Signed.SInt Syntax.w32) ty·17 11, Path'.refl, (ShrSlice.spares-sslice 𝓤 H A W (Signed.SInt Syntax.w32) ty·16 10, Shared.reads-sslice 𝓤 H A W (Signed.SInt Syntax.w32) ty·16 10, Path'.refl, ((Yields.yields-copy 𝓤 H A W (λ ρ. Unit) (Declared'.row FinishAnswer.the-type) Path'.refl (Copies.cStruct FinishAnswer.the-type Laws'.the-laws Laws'.the-copy .copy 𝓤 H A W) (Rows.whole (Declared'.row FinishAnswer.the-type)) (λ x. x) (λ x. x) (λ ρ told. Local.mem-whole 𝓤 H A W (Declared'.row FinishAnswer.the-type) ρ) λ ρ told. Local.whole-mem 𝓤 H A W (Declared'.row FinishAnswer.the-type) ρ, Path'.refl), tt))))) (Reads.room-gone 𝓤 H A Syntax.tyUnit) (tt, (tt, (tt, (tt, tt)))) Path'.refl) d62
+          d63 = Typed.s-seq 𝓤 H A W 𝓣 E G147 G148 b49 b52 Δ0 (Typed.both s145) at62 (Plain.t-call-plain 𝓤 H A W 𝓣 4 ps·4 r·4 (claims· .8) (claims· .9) "surface_rows::store_run" (known .4) E (λ pos β. β) G147 (record { pos = 59; ty = Syntax.tyRef Syntax.erased Syntax.mut ty·0; ref = λ x. x }, (record { pos = 61; ty = Syntax.tyRef Syntax.erased Syntax.imm ty·1; ref = λ x. x }, (record { pos = 18; ty = Syntax.tyRef (Syntax.named 11) Syntax.imm ty·0; ref = λ x. x }, (record { pos = 17; ty = Syntax.tyRef (Syntax.named 10) Syntax.imm ty·0; ref = λ x. x }, (record { pos = 24; st = List.[]; d = 0; at = λ x. x }, tt))))) 57 (List._∷_ 26 (List._∷_ 27 (List._∷_ 11 (List._∷_ 10 List.[])))) (Call.sub-id 𝓤 H A W (G147 .slots)) (Reads.as-is 𝓤 H A (Mut.mslice (Signed.SInt Syntax.w32) ty·5 26), Mut.reads-mslice 𝓤 H A W (Signed.SInt Syntax.w32) ty·5 26, Path'.refl, (ShrSlice.spares-sslice 𝓤 H A W (Referent.rtF (Referent.fInt Syntax.w64)) ty·4 27, Shared.reads-sslice 𝓤 H A W (Referent.rtF (Referent.fInt Syntax.w64)) ty·4 27, Path'.refl, (ShrSlice.spares-sslice 𝓤 H A W (Signed.SInt Syntax.w32) ty·17 11, Shared.reads-sslice 𝓤 H A W (Signed.SInt Syntax.w32) ty·17 11, Path'.refl, (ShrSlice.spares-sslice 𝓤 H A W (Signed.SInt Syntax.w32) ty·16 10, Shared.reads-sslice 𝓤 H A W (Signed.SInt Syntax.w32) ty·16 10, Path'.refl, ((Yields.yields-copy 𝓤 H A W (λ ρ. Unit) (Declared'.row FinishAnswer.the-type) Path'.refl (Copies.cStruct FinishAnswer.the-type Laws'.the-laws Laws'.the-copy .copy 𝓤 H A W) (Rows.whole (Declared'.row FinishAnswer.the-type)) (λ x. x) (λ x. x) (λ ρ told. Local.mem-whole 𝓤 H A W (Declared'.row FinishAnswer.the-type) ρ) λ ρ told. Local.whole-mem 𝓤 H A W (Declared'.row FinishAnswer.the-type) ρ, Path'.refl), tt))))) (Reads.room-gone 𝓤 H A Syntax.tyUnit) (tt, (tt, (tt, (tt, tt)))) Path'.refl) d62
 
           d64 : Typed.Typed 𝓤 H A 𝓣 E G146 b54 Δ0 at64
           d64 = Typed.s-seq 𝓤 H A W 𝓣 E G146 G147 b48 b53 Δ0 (Typed.ask s144) at63 (Relend.t-sl-aggregate 𝓤 H A W E (Referent.rtF (Referent.fInt Syntax.w64)) 𝓣 (Relend.asShr (Referent.rtF (Referent.fInt Syntax.w64))) G146 60 61 27 ty·4 ty·4 (λ x. x) (Scalar.oFld 14 (List._∷_ (Syntax.field 1) List.[]) ty·1 8 λ v. Shared.lenV (v .0)) (Reads.as-is 𝓤 H A (Relend.ssptr (Referent.rtF (Referent.fInt Syntax.w64)) ty·4 27)) (Reads.room-gone 𝓤 H A ty·21) (Reshare.reads-owedS-len 𝓤 H A W (Referent.rtF (Referent.fInt Syntax.w64)) ty·15 9 27 (Row.lease (κs .1 .1 .1 .1 .1 .1 .1 .1 .1 .0) (qs .1 .1 .1 .1 .1 .1 .1 .1 .1 .0)) 8 Path'.refl, Path'.refl) Path'.refl Path'.refl λ b o k. tt) d63
@@ -3096,7 +3096,7 @@ module _ (claims· : Claims) where
           d134 = Typed.t-seq 𝓤 H A W 𝓣 E G34 G35 b25 b76 Δ0 at44 at133 d44 d133
 
           d135 : Typed.Typed 𝓤 H A 𝓣 E G33 b78 Δ0 at135
-          d135 = Typed.s-seq 𝓤 H A W 𝓣 E G33 G34 b18 b77 Δ0 (Typed.both s32) at134 (Plain.t-call-plain 𝓤 H A W 𝓣 7 ps·1 r·1 (claims· .2) (claims· .3) "surface::check_run" (known .1) E (λ pos β. β) G33 (record { pos = 17; ty = Syntax.tyRef (Syntax.named 10) Syntax.imm ty·0; ref = λ x. x }, (record { pos = 18; ty = Syntax.tyRef (Syntax.named 11) Syntax.imm ty·0; ref = λ x. x }, (record { pos = 19; st = List.[]; d = 0; at = λ x. x }, (record { pos = 27; ty = Syntax.tyRef Syntax.erased Syntax.imm ty·0; ref = λ x. x }, (record { pos = 29; ty = Syntax.tyRef Syntax.erased Syntax.imm ty·0; ref = λ x. x }, (record { pos = 31; ty = Syntax.tyRef Syntax.erased Syntax.imm ty·0; ref = λ x. x }, (record { pos = 33; ty = Syntax.tyRef Syntax.erased Syntax.imm ty·0; ref = λ x. x }, (record { pos = 35; ty = Syntax.tyRef Syntax.erased Syntax.imm ty·0; ref = λ x. x }, (Num.vAt 25 λ x. x, (Num.vAt 36 λ x. x, (Num.vAt 37 λ x. x, (Num.vAt 38 λ x. x, (Bool.bAt 21 λ x. x, tt))))))))))))) 22 (List._∷_ 10 (List._∷_ 11 (List._∷_ 12 (List._∷_ 13 (List._∷_ 14 (List._∷_ 15 (List._∷_ 16 List.[]))))))) (Call.sub-id 𝓤 H A W (G33 .slots)) (ShrSlice.spares-sslice 𝓤 H A W (Signed.SInt Syntax.w32) ty·16 10, Shared.reads-sslice 𝓤 H A W (Signed.SInt Syntax.w32) ty·16 10, Path'.refl, (ShrSlice.spares-sslice 𝓤 H A W (Signed.SInt Syntax.w32) ty·17 11, Shared.reads-sslice 𝓤 H A W (Signed.SInt Syntax.w32) ty·17 11, Path'.refl, ((Yields.yields-copy 𝓤 H A W (λ ρ. Unit) (Declared'.row Counts.the-type) Path'.refl (Copies.cStruct Counts.the-type Laws'3.the-laws Laws'3.the-copy .copy 𝓤 H A W) (Rows.whole (Declared'.row Counts.the-type)) (λ x. x) (λ x. x) (λ ρ told. Local.mem-whole 𝓤 H A W (Declared'.row Counts.the-type) ρ) λ ρ told. Local.whole-mem 𝓤 H A W (Declared'.row Counts.the-type) ρ, Path'.refl), (ShrSlice.spares-sslice 𝓤 H A W (Signed.SInt Syntax.w32) ty·3 12, Shared.reads-sslice 𝓤 H A W (Signed.SInt Syntax.w32) ty·3 12, Path'.refl, (ShrSlice.spares-sslice 𝓤 H A W (Signed.SInt Syntax.w32) ty·3 13, Shared.reads-sslice 𝓤 H A W (Signed.SInt Syntax.w32) ty·3 13, Path'.refl, (ShrSlice.spares-sslice 𝓤 H A W (Referent.rtF (Referent.fInt Syntax.w32)) ty·3 14, Shared.reads-sslice 𝓤 H A W (Referent.rtF (Referent.fInt Syntax.w32)) ty·3 14, Path'.refl, (ShrSlice.spares-sslice 𝓤 H A W (Referent.rtF (Referent.fInt Syntax.w32)) ty·3 15, Shared.reads-sslice 𝓤 H A W (Referent.rtF (Referent.fInt Syntax.w32)) ty·3 15, Path'.refl, (ShrSlice.spares-sslice 𝓤 H A W (Referent.rtF (Referent.fInt Syntax.w32)) ty·3 16, Shared.reads-sslice 𝓤 H A W (Referent.rtF (Referent.fInt Syntax.w32)) ty·3 16, Path'.refl, ((Scalar.reads-sc 𝓤 H A W (Row.sInt Syntax.w64), Path'.refl), ((Scalar.reads-sc 𝓤 H A W (Row.sInt Syntax.w64), Path'.refl), ((Scalar.reads-sc 𝓤 H A W (Row.sInt Syntax.w64), Path'.refl), ((Scalar.reads-sc 𝓤 H A W (Row.sInt Syntax.w64), Path'.refl), ((Scalar.reads-sc 𝓤 H A W Row.sBool, Path'.refl), tt))))))))))))) (Reads.room-gone 𝓤 H A ty·29) (tt, (tt, (tt, (tt, (tt, (tt, (tt, tt))))))) Path'.refl) d134
+          d135 = Typed.s-seq 𝓤 H A W 𝓣 E G33 G34 b18 b77 Δ0 (Typed.both s32) at134 (Plain.t-call-plain 𝓤 H A W 𝓣 7 ps·1 r·1 (claims· .2) (claims· .3) "surface_rows::check_run" (known .1) E (λ pos β. β) G33 (record { pos = 17; ty = Syntax.tyRef (Syntax.named 10) Syntax.imm ty·0; ref = λ x. x }, (record { pos = 18; ty = Syntax.tyRef (Syntax.named 11) Syntax.imm ty·0; ref = λ x. x }, (record { pos = 19; st = List.[]; d = 0; at = λ x. x }, (record { pos = 27; ty = Syntax.tyRef Syntax.erased Syntax.imm ty·0; ref = λ x. x }, (record { pos = 29; ty = Syntax.tyRef Syntax.erased Syntax.imm ty·0; ref = λ x. x }, (record { pos = 31; ty = Syntax.tyRef Syntax.erased Syntax.imm ty·0; ref = λ x. x }, (record { pos = 33; ty = Syntax.tyRef Syntax.erased Syntax.imm ty·0; ref = λ x. x }, (record { pos = 35; ty = Syntax.tyRef Syntax.erased Syntax.imm ty·0; ref = λ x. x }, (Num.vAt 25 λ x. x, (Num.vAt 36 λ x. x, (Num.vAt 37 λ x. x, (Num.vAt 38 λ x. x, (Bool.bAt 21 λ x. x, tt))))))))))))) 22 (List._∷_ 10 (List._∷_ 11 (List._∷_ 12 (List._∷_ 13 (List._∷_ 14 (List._∷_ 15 (List._∷_ 16 List.[]))))))) (Call.sub-id 𝓤 H A W (G33 .slots)) (ShrSlice.spares-sslice 𝓤 H A W (Signed.SInt Syntax.w32) ty·16 10, Shared.reads-sslice 𝓤 H A W (Signed.SInt Syntax.w32) ty·16 10, Path'.refl, (ShrSlice.spares-sslice 𝓤 H A W (Signed.SInt Syntax.w32) ty·17 11, Shared.reads-sslice 𝓤 H A W (Signed.SInt Syntax.w32) ty·17 11, Path'.refl, ((Yields.yields-copy 𝓤 H A W (λ ρ. Unit) (Declared'.row Counts.the-type) Path'.refl (Copies.cStruct Counts.the-type Laws'3.the-laws Laws'3.the-copy .copy 𝓤 H A W) (Rows.whole (Declared'.row Counts.the-type)) (λ x. x) (λ x. x) (λ ρ told. Local.mem-whole 𝓤 H A W (Declared'.row Counts.the-type) ρ) λ ρ told. Local.whole-mem 𝓤 H A W (Declared'.row Counts.the-type) ρ, Path'.refl), (ShrSlice.spares-sslice 𝓤 H A W (Signed.SInt Syntax.w32) ty·3 12, Shared.reads-sslice 𝓤 H A W (Signed.SInt Syntax.w32) ty·3 12, Path'.refl, (ShrSlice.spares-sslice 𝓤 H A W (Signed.SInt Syntax.w32) ty·3 13, Shared.reads-sslice 𝓤 H A W (Signed.SInt Syntax.w32) ty·3 13, Path'.refl, (ShrSlice.spares-sslice 𝓤 H A W (Referent.rtF (Referent.fInt Syntax.w32)) ty·3 14, Shared.reads-sslice 𝓤 H A W (Referent.rtF (Referent.fInt Syntax.w32)) ty·3 14, Path'.refl, (ShrSlice.spares-sslice 𝓤 H A W (Referent.rtF (Referent.fInt Syntax.w32)) ty·3 15, Shared.reads-sslice 𝓤 H A W (Referent.rtF (Referent.fInt Syntax.w32)) ty·3 15, Path'.refl, (ShrSlice.spares-sslice 𝓤 H A W (Referent.rtF (Referent.fInt Syntax.w32)) ty·3 16, Shared.reads-sslice 𝓤 H A W (Referent.rtF (Referent.fInt Syntax.w32)) ty·3 16, Path'.refl, ((Scalar.reads-sc 𝓤 H A W (Row.sInt Syntax.w64), Path'.refl), ((Scalar.reads-sc 𝓤 H A W (Row.sInt Syntax.w64), Path'.refl), ((Scalar.reads-sc 𝓤 H A W (Row.sInt Syntax.w64), Path'.refl), ((Scalar.reads-sc 𝓤 H A W (Row.sInt Syntax.w64), Path'.refl), ((Scalar.reads-sc 𝓤 H A W Row.sBool, Path'.refl), tt))))))))))))) (Reads.room-gone 𝓤 H A ty·29) (tt, (tt, (tt, (tt, (tt, (tt, (tt, tt))))))) Path'.refl) d134
 
           d136 : Typed.Typed 𝓤 H A 𝓣 E G32 b78 Δ0 at136
           d136 = Typed.g-pre 𝓤 H A W 𝓣 E G32 G33 b78 Δ0 (Typed.pass T32 T33 s31) at135 (AtSlots.g-as-by 𝓤 H A W E (λ ρ. Unit) G32 19 (Rows.whole (Declared'.row Counts.the-type)) (λ v. Counts.struct .make v tt) (Own.told-none 𝓤 H A (G32 .slots)) λ ρ told v b. Apart.folds 𝓤 H A Counts.the-type (Counts.struct .Ghost) (Counts.struct .make) (λ v g. Path'.refl) ρ v tt b) d135
@@ -4122,6 +4122,6 @@ module _ (claims· : Claims) where
           pub asked : (a : Kinds.Dens κs ps) → (good : Kinds.GoodsP κs ps a) → (pre : Pre· κs a) → (bs : List.List Nat.ℕ) → Φ (Any.wantQ 12 ps r xs m κs qs a (Post· κs a)) (Function.init 12 ps r xs m κs qs a)
           asked = λ a good pre bs. laid record { κs = κs; args = record { vertices = a .0; edges = a .1 .0; faces = a .1 .1 .0; changes = a .1 .1 .1 .0; positions = a .1 .1 .1 .1 .0; heights = a .1 .1 .1 .1 .1 .0; outs = a .1 .1 .1 .1 .1 .1 .0; halves = a .1 .1 .1 .1 .1 .1 .1 .0; adjacent = a .1 .1 .1 .1 .1 .1 .1 .1 .0; nodes = a .1 .1 .1 .1 .1 .1 .1 .1 .1 .0; freed = a .1 .1 .1 .1 .1 .1 .1 .1 .1 .1 .0; buckets = a .1 .1 .1 .1 .1 .1 .1 .1 .1 .1 .1 .0; pending = a .1 .1 .1 .1 .1 .1 .1 .1 .1 .1 .1 .1 .0; answers = a .1 .1 .1 .1 .1 .1 .1 .1 .1 .1 .1 .1 .1 .0; center-x = a .1 .1 .1 .1 .1 .1 .1 .1 .1 .1 .1 .1 .1 .1 .0; center-y = a .1 .1 .1 .1 .1 .1 .1 .1 .1 .1 .1 .1 .1 .1 .1 .0; points = a .1 .1 .1 .1 .1 .1 .1 .1 .1 .1 .1 .1 .1 .1 .1 .1 .0; point-heights = a .1 .1 .1 .1 .1 .1 .1 .1 .1 .1 .1 .1 .1 .1 .1 .1 .1 .0 }; good = good; fits = record { vertices = record { fits = good .0 .1 }; edges = record { fits = good .1 .0 .1 }; faces = record { fits = good .1 .1 .0 .1 }; changes = record { fits = good .1 .1 .1 .0 .1 } }; pre = pre }
 
-        module _ {M : Type 1} (𝓤 : URA.URA M) (H : Wp.Heap 𝓤) (A : Atoms.Atoms 𝓤) (W : Kit.Given 𝓤 H A) (𝓣 : Wp.Tables 𝓤 H) (known0 : Plain.Known 𝓤 H A W 𝓣 1 ps·0 r·0 (claims· .0) (claims· .1) "answers::answers_short") (known1 : Plain.Known 𝓤 H A W 𝓣 7 ps·1 r·1 (claims· .2) (claims· .3) "surface::check_run") (known2 : Plain.Known 𝓤 H A W 𝓣 0 ps·2 r·2 (claims· .4) (claims· .5) "fithmoul::results::run_refused") (known3 : Plain.Known 𝓤 H A W 𝓣 10 ps·3 r·3 (claims· .6) (claims· .7) "run::run") (known4 : Plain.Known 𝓤 H A W 𝓣 4 ps·4 r·4 (claims· .8) (claims· .9) "surface::store_run") (known5 : Plain.Known 𝓤 H A W 𝓣 0 ps·5 r·5 (claims· .10) (claims· .11) "fithmoul::results::run_result") where
+        module _ {M : Type 1} (𝓤 : URA.URA M) (H : Wp.Heap 𝓤) (A : Atoms.Atoms 𝓤) (W : Kit.Given 𝓤 H A) (𝓣 : Wp.Tables 𝓤 H) (known0 : Plain.Known 𝓤 H A W 𝓣 1 ps·0 r·0 (claims· .0) (claims· .1) "answers::answers_short") (known1 : Plain.Known 𝓤 H A W 𝓣 7 ps·1 r·1 (claims· .2) (claims· .3) "surface_rows::check_run") (known2 : Plain.Known 𝓤 H A W 𝓣 0 ps·2 r·2 (claims· .4) (claims· .5) "fithmoul::results::run_refused") (known3 : Plain.Known 𝓤 H A W 𝓣 10 ps·3 r·3 (claims· .6) (claims· .7) "run::run") (known4 : Plain.Known 𝓤 H A W 𝓣 4 ps·4 r·4 (claims· .8) (claims· .9) "surface_rows::store_run") (known5 : Plain.Known 𝓤 H A W 𝓣 0 ps·5 r·5 (claims· .10) (claims· .11) "fithmoul::results::run_result") where
           pub spec : Statement.Triple 𝓤 (Wp.WpFn 𝓤 H (𝓣 .C) (𝓣 .Λ) (Function.fnOf 12 ps r xs m hs body)) (Function.plainOf 𝓤 H A 12 ps r Pre· Post·)
           spec = Plain.t-fn-plain 𝓤 H A W 𝓣 12 ps r xs m hs body (λ κs qs bs. Φ) (λ κs qs bs bd. typed κs qs 𝓤 H A W 𝓣 (known0, known1, known2, known3, known4, known5) bs bd) Pre· Post· asked

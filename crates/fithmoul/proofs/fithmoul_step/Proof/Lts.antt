@@ -263,7 +263,7 @@ abbrev b16 : Syntax.Body
 b16 = Syntax.assign (Syntax.place 37 List.[]) (Syntax.rvOpd (Syntax.copy (Syntax.place 12 (List._∷_ (Syntax.field 1) List.[]))))
 
 abbrev b17 : Syntax.Body
-b17 = Syntax.call "surface::check_step" (List._∷_ (Syntax.copy (Syntax.place 18 List.[])) (List._∷_ (Syntax.copy (Syntax.place 25 List.[])) (List._∷_ (Syntax.copy (Syntax.place 27 List.[])) (List._∷_ (Syntax.copy (Syntax.place 29 List.[])) (List._∷_ (Syntax.copy (Syntax.place 31 List.[])) (List._∷_ (Syntax.copy (Syntax.place 33 List.[])) (List._∷_ (Syntax.copy (Syntax.place 34 List.[])) (List._∷_ (Syntax.copy (Syntax.place 35 List.[])) (List._∷_ (Syntax.copy (Syntax.place 36 List.[])) (List._∷_ (Syntax.copy (Syntax.place 37 List.[])) (List._∷_ (Syntax.copy (Syntax.place 20 List.[])) (List._∷_ (Syntax.copy (Syntax.place 17 List.[])) List.[])))))))))))) (Syntax.place 21 List.[])
+b17 = Syntax.call "surface_rows::check_step" (List._∷_ (Syntax.copy (Syntax.place 18 List.[])) (List._∷_ (Syntax.copy (Syntax.place 25 List.[])) (List._∷_ (Syntax.copy (Syntax.place 27 List.[])) (List._∷_ (Syntax.copy (Syntax.place 29 List.[])) (List._∷_ (Syntax.copy (Syntax.place 31 List.[])) (List._∷_ (Syntax.copy (Syntax.place 33 List.[])) (List._∷_ (Syntax.copy (Syntax.place 34 List.[])) (List._∷_ (Syntax.copy (Syntax.place 35 List.[])) (List._∷_ (Syntax.copy (Syntax.place 36 List.[])) (List._∷_ (Syntax.copy (Syntax.place 37 List.[])) (List._∷_ (Syntax.copy (Syntax.place 20 List.[])) (List._∷_ (Syntax.copy (Syntax.place 17 List.[])) List.[])))))))))))) (Syntax.place 21 List.[])
 
 abbrev b18 : Syntax.Body
 b18 = Syntax.assign (Syntax.place 22 List.[]) (Syntax.rvOpd (Syntax.copy (Syntax.place 21 (List._∷_ (Syntax.variant 1) (List._∷_ (Syntax.field 1) List.[])))))
@@ -344,7 +344,7 @@ abbrev b43 : Syntax.Body
 b43 = Syntax.assign (Syntax.place 56 List.[]) (Syntax.aggregate (List._∷_ (Syntax.copy (Syntax.place 55 List.[])) (List._∷_ (Syntax.copy (Syntax.place 5 (List._∷_ (Syntax.field 1) List.[]))) List.[])))
 
 abbrev b44 : Syntax.Body
-b44 = Syntax.call "surface::store_height" (List._∷_ (Syntax.copy (Syntax.place 56 List.[])) (List._∷_ (Syntax.copy (Syntax.place 1 List.[])) (List._∷_ (Syntax.copy (Syntax.place 23 (List._∷_ (Syntax.field 0) (List._∷_ (Syntax.field 0) List.[])))) (List._∷_ (Syntax.copy (Syntax.place 17 List.[])) List.[])))) (Syntax.place 54 List.[])
+b44 = Syntax.call "surface_rows::store_height" (List._∷_ (Syntax.copy (Syntax.place 56 List.[])) (List._∷_ (Syntax.copy (Syntax.place 1 List.[])) (List._∷_ (Syntax.copy (Syntax.place 23 (List._∷_ (Syntax.field 0) (List._∷_ (Syntax.field 0) List.[])))) (List._∷_ (Syntax.copy (Syntax.place 17 List.[])) List.[])))) (Syntax.place 54 List.[])
 
 abbrev b45 : Syntax.Body
 b45 = Syntax.call "fithmoul::results::step_result" (List._∷_ (Syntax.copy (Syntax.place 23 List.[])) List.[]) (Syntax.place 0 List.[])
@@ -1469,7 +1469,7 @@ module _ (claims· : Claims) where
   module _ (Pre· : (κs : Lifetimes.Lfts 9) → Kinds.Dens κs ps → Type 0) (Post· : (κs : Lifetimes.Lfts 9) → (a : Kinds.Dens κs ps) → Kinds.Plain 9 ps r κs) where
     module _ (M : Type 1) where
       abbrev pub Closed : Type 2
-      Closed = (𝓤 : URA.URA M) (H : Wp.Heap 𝓤) (A : Atoms.Atoms 𝓤) (W : Kit.Given 𝓤 H A) (𝓣 : Wp.Tables 𝓤 H) (known0 : Plain.Known 𝓤 H A W 𝓣 5 ps·0 r·0 (claims· .0) (claims· .1) "surface::check_step") (known1 : Plain.Known 𝓤 H A W 𝓣 0 ps·1 r·1 (claims· .2) (claims· .3) "fithmoul::results::step_refused") (known2 : Plain.Known 𝓤 H A W 𝓣 8 ps·2 r·2 (claims· .4) (claims· .5) "step::step") (known3 : Plain.Known 𝓤 H A W 𝓣 1 ps·3 r·3 (claims· .6) (claims· .7) "surface::store_height") (known4 : Plain.Known 𝓤 H A W 𝓣 0 ps·4 r·4 (claims· .8) (claims· .9) "fithmoul::results::step_result") → Statement.Triple 𝓤 (Wp.WpFn 𝓤 H (𝓣 .C) (𝓣 .Λ) (Function.fnOf 9 ps r xs m hs body)) (Function.plainOf 𝓤 H A 9 ps r Pre· Post·)
+      Closed = (𝓤 : URA.URA M) (H : Wp.Heap 𝓤) (A : Atoms.Atoms 𝓤) (W : Kit.Given 𝓤 H A) (𝓣 : Wp.Tables 𝓤 H) (known0 : Plain.Known 𝓤 H A W 𝓣 5 ps·0 r·0 (claims· .0) (claims· .1) "surface_rows::check_step") (known1 : Plain.Known 𝓤 H A W 𝓣 0 ps·1 r·1 (claims· .2) (claims· .3) "fithmoul::results::step_refused") (known2 : Plain.Known 𝓤 H A W 𝓣 8 ps·2 r·2 (claims· .4) (claims· .5) "step::step") (known3 : Plain.Known 𝓤 H A W 𝓣 1 ps·3 r·3 (claims· .6) (claims· .7) "surface_rows::store_height") (known4 : Plain.Known 𝓤 H A W 𝓣 0 ps·4 r·4 (claims· .8) (claims· .9) "fithmoul::results::step_result") → Statement.Triple 𝓤 (Wp.WpFn 𝓤 H (𝓣 .C) (𝓣 .Λ) (Function.fnOf 9 ps r xs m hs body)) (Function.plainOf 𝓤 H A 9 ps r Pre· Post·)
 
     module _ where
       abbrev at0 : Typed.TF T75 O1
@@ -1945,7 +1945,7 @@ module _ (claims· : Claims) where
 
       module _ {M : Type 1} (𝓤 : URA.URA M) (H : Wp.Heap 𝓤) (A : Atoms.Atoms 𝓤) (W : Kit.Given 𝓤 H A) (𝓣 : Wp.Tables 𝓤 H) where
         abbrev Knowns : Type 1
-        Knowns = Plain.Known 𝓤 H A W 𝓣 5 ps·0 r·0 (claims· .0) (claims· .1) "surface::check_step" × Plain.Known 𝓤 H A W 𝓣 0 ps·1 r·1 (claims· .2) (claims· .3) "fithmoul::results::step_refused" × Plain.Known 𝓤 H A W 𝓣 8 ps·2 r·2 (claims· .4) (claims· .5) "step::step" × Plain.Known 𝓤 H A W 𝓣 1 ps·3 r·3 (claims· .6) (claims· .7) "surface::store_height" × Plain.Known 𝓤 H A W 𝓣 0 ps·4 r·4 (claims· .8) (claims· .9) "fithmoul::results::step_result"
+        Knowns = Plain.Known 𝓤 H A W 𝓣 5 ps·0 r·0 (claims· .0) (claims· .1) "surface_rows::check_step" × Plain.Known 𝓤 H A W 𝓣 0 ps·1 r·1 (claims· .2) (claims· .3) "fithmoul::results::step_refused" × Plain.Known 𝓤 H A W 𝓣 8 ps·2 r·2 (claims· .4) (claims· .5) "step::step" × Plain.Known 𝓤 H A W 𝓣 1 ps·3 r·3 (claims· .6) (claims· .7) "surface_rows::store_height" × Plain.Known 𝓤 H A W 𝓣 0 ps·4 r·4 (claims· .8) (claims· .9) "fithmoul::results::step_result"
 
       module _ (κs : Lifetimes.Lfts 9) (qs : Lifetimes.Shares 9) where
         abbrev g9 : List.List Row.Entry
@@ -2682,7 +2682,7 @@ module _ (claims· : Claims) where
           d61 = Typed.g-pre 𝓤 H A W 𝓣 E G139 G140 b47 Δ0 (Typed.pass T139 T140 s137) at60 (Scalar.g-room 𝓤 H A W E G139 54 Syntax.tyUnit (Scalar.room-sc 𝓤 H A W Row.sUnit)) d60
 
           d62 : Typed.Typed 𝓤 H A 𝓣 E G138 b48 Δ0 at62
-          d62 = Typed.s-seq 𝓤 H A W 𝓣 E G138 G139 b44 b47 Δ0 (Typed.both s136) at61 (Plain.t-call-plain 𝓤 H A W 𝓣 1 ps·3 r·3 (claims· .6) (claims· .7) "surface::store_height" (known .3) E (λ pos β. β) G138 (record { pos = 56; ty = Syntax.tyRef Syntax.erased Syntax.mut ty·0; ref = λ x. x }, (Num.vAt 1 λ x. x, (Num.vFld 23 (List._∷_ (Syntax.field 0) (List._∷_ (Syntax.field 0) List.[])) 0 λ x. Counts.struct .as-values (StepAnswer.struct .as-values x .0) .0, (Num.vAt 17 λ x. x, tt)))) 54 (List._∷_ 22 List.[]) (Call.sub-id 𝓤 H A W (G138 .slots)) (Reads'.as-is 𝓤 H A (Mut.mslice (Signed'.SInt Syntax.w32) ty·4 22), Mut.reads-mslice 𝓤 H A W (Signed'.SInt Syntax.w32) ty·4 22, Path'.refl, ((Scalar.reads-sc 𝓤 H A W (Row.sInt Syntax.w32), Path'.refl), ((Reads.reads-inner 𝓤 H A W Counts.the-type Laws'3.the-laws (Rows.whole (Declared'.row StepAnswer.the-type)) 0 (λ x. StepAnswer.struct .as-values x .0) (Reads.reads-field 𝓤 H A W StepAnswer.the-type Laws'6.the-laws 0 ty·20 0 Path'.refl) 0 ty·0 0 Path'.refl, Path'.refl), ((Scalar.reads-sc 𝓤 H A W (Row.sInt Syntax.w32), Path'.refl), tt)))) (Reads'.room-gone 𝓤 H A Syntax.tyUnit) (tt, tt) Path'.refl) d61
+          d62 = Typed.s-seq 𝓤 H A W 𝓣 E G138 G139 b44 b47 Δ0 (Typed.both s136) at61 (Plain.t-call-plain 𝓤 H A W 𝓣 1 ps·3 r·3 (claims· .6) (claims· .7) "surface_rows::store_height" (known .3) E (λ pos β. β) G138 (record { pos = 56; ty = Syntax.tyRef Syntax.erased Syntax.mut ty·0; ref = λ x. x }, (Num.vAt 1 λ x. x, (Num.vFld 23 (List._∷_ (Syntax.field 0) (List._∷_ (Syntax.field 0) List.[])) 0 λ x. Counts.struct .as-values (StepAnswer.struct .as-values x .0) .0, (Num.vAt 17 λ x. x, tt)))) 54 (List._∷_ 22 List.[]) (Call.sub-id 𝓤 H A W (G138 .slots)) (Reads'.as-is 𝓤 H A (Mut.mslice (Signed'.SInt Syntax.w32) ty·4 22), Mut.reads-mslice 𝓤 H A W (Signed'.SInt Syntax.w32) ty·4 22, Path'.refl, ((Scalar.reads-sc 𝓤 H A W (Row.sInt Syntax.w32), Path'.refl), ((Reads.reads-inner 𝓤 H A W Counts.the-type Laws'3.the-laws (Rows.whole (Declared'.row StepAnswer.the-type)) 0 (λ x. StepAnswer.struct .as-values x .0) (Reads.reads-field 𝓤 H A W StepAnswer.the-type Laws'6.the-laws 0 ty·20 0 Path'.refl) 0 ty·0 0 Path'.refl, Path'.refl), ((Scalar.reads-sc 𝓤 H A W (Row.sInt Syntax.w32), Path'.refl), tt)))) (Reads'.room-gone 𝓤 H A Syntax.tyUnit) (tt, tt) Path'.refl) d61
 
           d63 : Typed.Typed 𝓤 H A 𝓣 E G137 b49 Δ0 at63
           d63 = Typed.s-seq 𝓤 H A W 𝓣 E G137 G138 b43 b48 Δ0 (Typed.ask s135) at62 (Relend.t-sl-aggregate 𝓤 H A W E (Signed'.SInt Syntax.w32) 𝓣 (Relend.asMut (Signed'.SInt Syntax.w32)) G137 55 56 22 ty·4 ty·4 (λ x. x) (Scalar.oFld 5 (List._∷_ (Syntax.field 1) List.[]) ty·1 8 λ v. Shared.lenV (v .0)) (Reads'.as-is 𝓤 H A (Relend.msptr (Signed'.SInt Syntax.w32) ty·4 22)) (Reads'.room-gone 𝓤 H A ty·16) (Relend.reads-owed-len 𝓤 H A W (Signed'.SInt Syntax.w32) ty·6 1 22 (Row.lease (κs .1 .0) (qs .1 .0)) 8 Path'.refl, Path'.refl) Path'.refl Path'.refl λ b o k. tt) d62
@@ -2871,7 +2871,7 @@ module _ (claims· : Claims) where
           d124 = Typed.t-seq 𝓤 H A W 𝓣 E G32 G33 b24 b67 Δ0 at46 at123 d46 d123
 
           d125 : Typed.Typed 𝓤 H A 𝓣 E G31 b69 Δ0 at125
-          d125 = Typed.s-seq 𝓤 H A W 𝓣 E G31 G32 b17 b68 Δ0 (Typed.both s30) at124 (Plain.t-call-plain 𝓤 H A W 𝓣 5 ps·0 r·0 (claims· .0) (claims· .1) "surface::check_step" (known .0) E (λ pos β. β) G31 (record { pos = 18; st = List.[]; d = 0; at = λ x. x }, (record { pos = 25; ty = Syntax.tyRef Syntax.erased Syntax.imm ty·0; ref = λ x. x }, (record { pos = 27; ty = Syntax.tyRef Syntax.erased Syntax.imm ty·0; ref = λ x. x }, (record { pos = 29; ty = Syntax.tyRef Syntax.erased Syntax.imm ty·0; ref = λ x. x }, (record { pos = 31; ty = Syntax.tyRef Syntax.erased Syntax.imm ty·0; ref = λ x. x }, (record { pos = 33; ty = Syntax.tyRef Syntax.erased Syntax.imm ty·0; ref = λ x. x }, (Num.vAt 34 λ x. x, (Num.vAt 35 λ x. x, (Num.vAt 36 λ x. x, (Num.vAt 37 λ x. x, (record { pos = 20; st = List.[]; d = 0; at = λ x. x }, (Num.vAt 17 λ x. x, tt)))))))))))) 21 (List._∷_ 9 (List._∷_ 10 (List._∷_ 11 (List._∷_ 12 (List._∷_ 13 List.[]))))) (Call.sub-id 𝓤 H A W (G31 .slots)) ((Yields.yields-copy 𝓤 H A W (λ ρ. Unit) (Declared'.row Counts.the-type) Path'.refl (Copies.cStruct Counts.the-type Laws'3.the-laws Laws'3.the-copy .copy 𝓤 H A W) (Rows.whole (Declared'.row Counts.the-type)) (λ x. x) (λ x. x) (λ ρ told. Local.mem-whole 𝓤 H A W (Declared'.row Counts.the-type) ρ) λ ρ told. Local.whole-mem 𝓤 H A W (Declared'.row Counts.the-type) ρ, Path'.refl), (ShrSlice.spares-sslice 𝓤 H A W (Signed'.SInt Syntax.w32) ty·3 9, Shared.reads-sslice 𝓤 H A W (Signed'.SInt Syntax.w32) ty·3 9, Path'.refl, (ShrSlice.spares-sslice 𝓤 H A W (Signed'.SInt Syntax.w32) ty·3 10, Shared.reads-sslice 𝓤 H A W (Signed'.SInt Syntax.w32) ty·3 10, Path'.refl, (ShrSlice.spares-sslice 𝓤 H A W (Referent.rtF (Referent.fInt Syntax.w32)) ty·3 11, Shared.reads-sslice 𝓤 H A W (Referent.rtF (Referent.fInt Syntax.w32)) ty·3 11, Path'.refl, (ShrSlice.spares-sslice 𝓤 H A W (Referent.rtF (Referent.fInt Syntax.w32)) ty·3 12, Shared.reads-sslice 𝓤 H A W (Referent.rtF (Referent.fInt Syntax.w32)) ty·3 12, Path'.refl, (ShrSlice.spares-sslice 𝓤 H A W (Referent.rtF (Referent.fInt Syntax.w32)) ty·3 13, Shared.reads-sslice 𝓤 H A W (Referent.rtF (Referent.fInt Syntax.w32)) ty·3 13, Path'.refl, ((Scalar.reads-sc 𝓤 H A W (Row.sInt Syntax.w64), Path'.refl), ((Scalar.reads-sc 𝓤 H A W (Row.sInt Syntax.w64), Path'.refl), ((Scalar.reads-sc 𝓤 H A W (Row.sInt Syntax.w64), Path'.refl), ((Scalar.reads-sc 𝓤 H A W (Row.sInt Syntax.w64), Path'.refl), ((Yields.yields-copy 𝓤 H A W (λ ρ. Unit) (Declared'.row Point.the-type) Path'.refl (Copies.cStruct Point.the-type Laws''.the-laws Laws''.the-copy .copy 𝓤 H A W) (Rows.whole (Declared'.row Point.the-type)) (λ x. x) (λ x. x) (λ ρ told. Local.mem-whole 𝓤 H A W (Declared'.row Point.the-type) ρ) λ ρ told. Local.whole-mem 𝓤 H A W (Declared'.row Point.the-type) ρ, Path'.refl), ((Scalar.reads-sc 𝓤 H A W (Row.sInt Syntax.w32), Path'.refl), tt)))))))))))) (Reads'.room-gone 𝓤 H A ty·25) (tt, (tt, (tt, (tt, (tt, tt))))) Path'.refl) d124
+          d125 = Typed.s-seq 𝓤 H A W 𝓣 E G31 G32 b17 b68 Δ0 (Typed.both s30) at124 (Plain.t-call-plain 𝓤 H A W 𝓣 5 ps·0 r·0 (claims· .0) (claims· .1) "surface_rows::check_step" (known .0) E (λ pos β. β) G31 (record { pos = 18; st = List.[]; d = 0; at = λ x. x }, (record { pos = 25; ty = Syntax.tyRef Syntax.erased Syntax.imm ty·0; ref = λ x. x }, (record { pos = 27; ty = Syntax.tyRef Syntax.erased Syntax.imm ty·0; ref = λ x. x }, (record { pos = 29; ty = Syntax.tyRef Syntax.erased Syntax.imm ty·0; ref = λ x. x }, (record { pos = 31; ty = Syntax.tyRef Syntax.erased Syntax.imm ty·0; ref = λ x. x }, (record { pos = 33; ty = Syntax.tyRef Syntax.erased Syntax.imm ty·0; ref = λ x. x }, (Num.vAt 34 λ x. x, (Num.vAt 35 λ x. x, (Num.vAt 36 λ x. x, (Num.vAt 37 λ x. x, (record { pos = 20; st = List.[]; d = 0; at = λ x. x }, (Num.vAt 17 λ x. x, tt)))))))))))) 21 (List._∷_ 9 (List._∷_ 10 (List._∷_ 11 (List._∷_ 12 (List._∷_ 13 List.[]))))) (Call.sub-id 𝓤 H A W (G31 .slots)) ((Yields.yields-copy 𝓤 H A W (λ ρ. Unit) (Declared'.row Counts.the-type) Path'.refl (Copies.cStruct Counts.the-type Laws'3.the-laws Laws'3.the-copy .copy 𝓤 H A W) (Rows.whole (Declared'.row Counts.the-type)) (λ x. x) (λ x. x) (λ ρ told. Local.mem-whole 𝓤 H A W (Declared'.row Counts.the-type) ρ) λ ρ told. Local.whole-mem 𝓤 H A W (Declared'.row Counts.the-type) ρ, Path'.refl), (ShrSlice.spares-sslice 𝓤 H A W (Signed'.SInt Syntax.w32) ty·3 9, Shared.reads-sslice 𝓤 H A W (Signed'.SInt Syntax.w32) ty·3 9, Path'.refl, (ShrSlice.spares-sslice 𝓤 H A W (Signed'.SInt Syntax.w32) ty·3 10, Shared.reads-sslice 𝓤 H A W (Signed'.SInt Syntax.w32) ty·3 10, Path'.refl, (ShrSlice.spares-sslice 𝓤 H A W (Referent.rtF (Referent.fInt Syntax.w32)) ty·3 11, Shared.reads-sslice 𝓤 H A W (Referent.rtF (Referent.fInt Syntax.w32)) ty·3 11, Path'.refl, (ShrSlice.spares-sslice 𝓤 H A W (Referent.rtF (Referent.fInt Syntax.w32)) ty·3 12, Shared.reads-sslice 𝓤 H A W (Referent.rtF (Referent.fInt Syntax.w32)) ty·3 12, Path'.refl, (ShrSlice.spares-sslice 𝓤 H A W (Referent.rtF (Referent.fInt Syntax.w32)) ty·3 13, Shared.reads-sslice 𝓤 H A W (Referent.rtF (Referent.fInt Syntax.w32)) ty·3 13, Path'.refl, ((Scalar.reads-sc 𝓤 H A W (Row.sInt Syntax.w64), Path'.refl), ((Scalar.reads-sc 𝓤 H A W (Row.sInt Syntax.w64), Path'.refl), ((Scalar.reads-sc 𝓤 H A W (Row.sInt Syntax.w64), Path'.refl), ((Scalar.reads-sc 𝓤 H A W (Row.sInt Syntax.w64), Path'.refl), ((Yields.yields-copy 𝓤 H A W (λ ρ. Unit) (Declared'.row Point.the-type) Path'.refl (Copies.cStruct Point.the-type Laws''.the-laws Laws''.the-copy .copy 𝓤 H A W) (Rows.whole (Declared'.row Point.the-type)) (λ x. x) (λ x. x) (λ ρ told. Local.mem-whole 𝓤 H A W (Declared'.row Point.the-type) ρ) λ ρ told. Local.whole-mem 𝓤 H A W (Declared'.row Point.the-type) ρ, Path'.refl), ((Scalar.reads-sc 𝓤 H A W (Row.sInt Syntax.w32), Path'.refl), tt)))))))))))) (Reads'.room-gone 𝓤 H A ty·25) (tt, (tt, (tt, (tt, (tt, tt))))) Path'.refl) d124
 
           d126 : Typed.Typed 𝓤 H A 𝓣 E G30 b69 Δ0 at126
           d126 = Typed.g-pre 𝓤 H A W 𝓣 E G30 G31 b69 Δ0 (Typed.pass T30 T31 s29) at125 (AtSlots.g-as-by 𝓤 H A W E (λ ρ. Unit) G30 20 (Rows.whole (Declared'.row Point.the-type)) (λ v. Point.struct .make v tt) (Own.told-none 𝓤 H A (G30 .slots)) λ ρ told v b. Apart.folds 𝓤 H A Point.the-type (Point.struct .Ghost) (Point.struct .make) (λ v g. Path'.refl) ρ v tt b) d125
@@ -3814,6 +3814,6 @@ module _ (claims· : Claims) where
           pub asked : (a : Kinds.Dens κs ps) → (good : Kinds.GoodsP κs ps a) → (pre : Pre· κs a) → (bs : List.List Nat.ℕ) → Φ (Any.wantQ 9 ps r xs m κs qs a (Post· κs a)) (Function.init 9 ps r xs m κs qs a)
           asked = λ a good pre bs. laid record { κs = κs; args = record { vertices = a .0; edges = a .1 .0; faces = a .1 .1 .0; positions = a .1 .1 .1 .0; heights = a .1 .1 .1 .1 .0; outs = a .1 .1 .1 .1 .1 .0; halves = a .1 .1 .1 .1 .1 .1 .0; adjacent = a .1 .1 .1 .1 .1 .1 .1 .0; nodes = a .1 .1 .1 .1 .1 .1 .1 .1 .0; freed = a .1 .1 .1 .1 .1 .1 .1 .1 .1 .0; buckets = a .1 .1 .1 .1 .1 .1 .1 .1 .1 .1 .0; pending = a .1 .1 .1 .1 .1 .1 .1 .1 .1 .1 .1 .0; center-x = a .1 .1 .1 .1 .1 .1 .1 .1 .1 .1 .1 .1 .0; center-y = a .1 .1 .1 .1 .1 .1 .1 .1 .1 .1 .1 .1 .1 .0; x = a .1 .1 .1 .1 .1 .1 .1 .1 .1 .1 .1 .1 .1 .1 .0; y = a .1 .1 .1 .1 .1 .1 .1 .1 .1 .1 .1 .1 .1 .1 .1 .0; z = a .1 .1 .1 .1 .1 .1 .1 .1 .1 .1 .1 .1 .1 .1 .1 .1 .0 }; good = good; fits = record { vertices = record { fits = good .0 .1 }; edges = record { fits = good .1 .0 .1 }; faces = record { fits = good .1 .1 .0 .1 }; x = record { sfits = good .1 .1 .1 .1 .1 .1 .1 .1 .1 .1 .1 .1 .1 .1 .0 }; y = record { sfits = good .1 .1 .1 .1 .1 .1 .1 .1 .1 .1 .1 .1 .1 .1 .1 .0 }; z = record { sfits = good .1 .1 .1 .1 .1 .1 .1 .1 .1 .1 .1 .1 .1 .1 .1 .1 .0 } }; pre = pre }
 
-        module _ {M : Type 1} (𝓤 : URA.URA M) (H : Wp.Heap 𝓤) (A : Atoms.Atoms 𝓤) (W : Kit.Given 𝓤 H A) (𝓣 : Wp.Tables 𝓤 H) (known0 : Plain.Known 𝓤 H A W 𝓣 5 ps·0 r·0 (claims· .0) (claims· .1) "surface::check_step") (known1 : Plain.Known 𝓤 H A W 𝓣 0 ps·1 r·1 (claims· .2) (claims· .3) "fithmoul::results::step_refused") (known2 : Plain.Known 𝓤 H A W 𝓣 8 ps·2 r·2 (claims· .4) (claims· .5) "step::step") (known3 : Plain.Known 𝓤 H A W 𝓣 1 ps·3 r·3 (claims· .6) (claims· .7) "surface::store_height") (known4 : Plain.Known 𝓤 H A W 𝓣 0 ps·4 r·4 (claims· .8) (claims· .9) "fithmoul::results::step_result") where
+        module _ {M : Type 1} (𝓤 : URA.URA M) (H : Wp.Heap 𝓤) (A : Atoms.Atoms 𝓤) (W : Kit.Given 𝓤 H A) (𝓣 : Wp.Tables 𝓤 H) (known0 : Plain.Known 𝓤 H A W 𝓣 5 ps·0 r·0 (claims· .0) (claims· .1) "surface_rows::check_step") (known1 : Plain.Known 𝓤 H A W 𝓣 0 ps·1 r·1 (claims· .2) (claims· .3) "fithmoul::results::step_refused") (known2 : Plain.Known 𝓤 H A W 𝓣 8 ps·2 r·2 (claims· .4) (claims· .5) "step::step") (known3 : Plain.Known 𝓤 H A W 𝓣 1 ps·3 r·3 (claims· .6) (claims· .7) "surface_rows::store_height") (known4 : Plain.Known 𝓤 H A W 𝓣 0 ps·4 r·4 (claims· .8) (claims· .9) "fithmoul::results::step_result") where
           pub spec : Statement.Triple 𝓤 (Wp.WpFn 𝓤 H (𝓣 .C) (𝓣 .Λ) (Function.fnOf 9 ps r xs m hs body)) (Function.plainOf 𝓤 H A 9 ps r Pre· Post·)
           spec = Plain.t-fn-plain 𝓤 H A W 𝓣 9 ps r xs m hs body (λ κs qs bs. Φ) (λ κs qs bs bd. typed κs qs 𝓤 H A W 𝓣 (known0, known1, known2, known3, known4) bs bd) Pre· Post· asked
