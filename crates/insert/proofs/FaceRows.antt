@@ -11,7 +11,7 @@ use Rattle.corner.specs.CornerRows.{extendedOf}
 use Rattle.corner.specs.RowsLaws.{SameLengths}
 use Rattle.dcel.specs.Rows.{halvesOf, rowOf, linksOf, positionOf, There}
 use Rattle.dcel.specs.MeshHeld.{there, there-adjacent, next-in, adjacent-in}
-use Rattle.insertion.specs.OnEdge.{Inserted, inserted-into-triangle}
+use Rattle.insertion_laws.specs.OnEdge.{Inserted, inserted-into-triangle}
 use Rattle.insertion.specs.Operations.{insertIntoTriangle, withInnerVertex}
 use Rattle.insertion.specs.Plane.{Inside}
 use Rattle.insertion_operations.specs.Insert.{TriangleReady, IntoTriangle}

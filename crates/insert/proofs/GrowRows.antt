@@ -15,7 +15,7 @@ use Rattle.corner.specs.CornerRows.{extendedOf, MeshRoom, Ready}
 use Rattle.corner.specs.RowsLaws.{SameLengths, sized-room}
 use Rattle.dcel.specs.Rows.{linksOf, positionOf}
 use Rattle.dcel.specs.MeshHeld.{Room, MeshHeld}
-use Rattle.insertion.specs.OnEdge.{Inserted}
+use Rattle.insertion_laws.specs.OnEdge.{Inserted}
 use Rattle.mesh.specs.declared.Counts.{Counts}
 use Rattle.mesh.specs.Mesh.{Links, In}
 use Rattle.mesh.specs.CountsLaws.{halves-fit, faces-fit}

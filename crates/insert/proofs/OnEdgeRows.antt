@@ -11,8 +11,8 @@ use borrow.Author.Tests.{eq-eqb, ne-eqb}
 use Rattle.corner.specs.Corner.{Extended}
 use Rattle.dcel.specs.Rows.{halvesOf, linksOf, positionOf, There}
 use Rattle.dcel.specs.MeshHeld.{there, there-rev}
-use Rattle.insertion.specs.EdgeSplitLaws.{splittable}
-use Rattle.insertion.specs.OnEdge.{inserted-split-edge, inserted-split-half-edge}
+use Rattle.insertion_laws.specs.EdgeSplitLaws.{splittable}
+use Rattle.insertion_laws.specs.OnEdge.{inserted-split-edge, inserted-split-half-edge}
 use Rattle.insertion.specs.Operations.{splitEdge, splitHalfEdge, insertOnEdge, withInnerVertex, withEdgeVertex}
 use Rattle.insertion.specs.Plane.{Between, between-rev}
 use Rattle.math.specs.declared.Point.{Point}

@@ -10,7 +10,7 @@ use Rattle.corner.specs.CornerRows.{extendedOf, MeshRoom, Ready}
 use Rattle.dcel.specs.Rows.{linksOf, positionOf}
 use Rattle.insertion.specs.Operations.{splitEdge, splitHalfEdge, withInnerVertex}
 use Rattle.insertion.specs.Plane.{Between}
-use Rattle.insertion.specs.SplitEdge.{Splittable}
+use Rattle.insertion_laws.specs.SplitEdge.{Splittable}
 use Rattle.location.specs.declared.PositionInTriangulation.{PositionInTriangulation}
 use Rattle.location.specs.Place.{InFace, Certified}
 use Rattle.math.specs.declared.Point.{Point}

@@ -1,18 +1,6 @@
--- A new vertex in an inner face or on an edge: what each operation stores, and that the mesh rules, left turning and
--- the boundary are kept.
+-- A new vertex in an inner face or on an edge: the operations, what each of them stores, and where in the plane the vertex is.
 pub mod Operations
 pub mod IntoTriangle
-pub mod Below
-pub mod InsertIntoTriangle
-pub mod OverFaces
 pub mod Plane
-pub mod IntoTriangleLaws
 pub mod EdgeSplit
-pub mod SplitEdge
-pub mod EdgeSplitLaws
 pub mod HalfEdgeSplit
-pub mod SplitHalfEdge
-pub mod HalfEdgeSplitLaws
-pub mod InTriangle
-pub mod OnEdge
-pub mod Star

@@ -11,7 +11,7 @@ use Rattle.mesh.specs.Wf.{Wf}
 use Rattle.mesh.specs.Area.{LeftTurning}
 use Rattle.mesh.specs.LeftLaws.{left-at}
 use Rattle.mesh.specs.Triangle.{Triangle, triangle}
-use Rattle.insertion.specs.InTriangle.{strict-between}
+use Rattle.insertion_laws.specs.InTriangle.{strict-between}
 use Rattle.insertion.specs.Plane.{Inside, Between}
 use Rattle.location.specs.Place.{areaAt, InFace, InEdge}
 

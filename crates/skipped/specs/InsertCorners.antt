@@ -17,11 +17,11 @@ use Rattle.convexity.specs.Convexity.{convexity, NoLeftCorner}
 use Rattle.convexity.specs.ConvexityLaws.{convexity-good, convexity-convex, convexity-bound, run-corners}
 use Rattle.corner.specs.Corner.{Extended}
 use Rattle.insertion.specs.Operations.{insertIntoTriangle, splitHalfEdge, insertOnEdge, withInnerVertex, withEdgeVertex}
-use Rattle.insertion.specs.InsertIntoTriangle.{insert-into-triangle-frame}
-use Rattle.insertion.specs.EdgeSplitLaws.{splittable}
+use Rattle.insertion_laws.specs.InsertIntoTriangle.{insert-into-triangle-frame}
+use Rattle.insertion_laws.specs.EdgeSplitLaws.{splittable}
 use Rattle.insertion.specs.Plane.{Between}
-use Rattle.insertion.specs.SplitEdge.{split-edge-frame}
-use Rattle.insertion.specs.SplitHalfEdge.{HalfEdgeSplitFrame, split-half-edge-frame, split-half-edge-keeps}
+use Rattle.insertion_laws.specs.SplitEdge.{split-edge-frame}
+use Rattle.insertion_laws.specs.SplitHalfEdge.{HalfEdgeSplitFrame, split-half-edge-frame, split-half-edge-keeps}
 use Rattle.location.specs.LocateLaws.{locate-good}
 use Rattle.location.specs.declared.PositionInTriangulation.{PositionInTriangulation}
 use Rattle.location.specs.declared.PositionInTriangulation.the-variants.{OnVertex, OnFace, OnEdge, OutsideOfConvexHull}

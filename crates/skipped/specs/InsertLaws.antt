@@ -9,7 +9,7 @@ use lib.Dec.{eqb}
 use Rattle.corner.specs.Corner.{Extended}
 use Rattle.corner.specs.CornerLaws.{closings-count, closings-bound}
 use Rattle.corner.specs.Untouched.{Untouched, untouched-none, untouched-flips, untouched-join, new-face-untouched, closings-untouched}
-use Rattle.insertion.specs.OnEdge.{Inserted, inserted-into-triangle, inserted-on-edge}
+use Rattle.insertion_laws.specs.OnEdge.{Inserted, inserted-into-triangle, inserted-on-edge}
 use Rattle.insertion.specs.Operations.{insertIntoTriangle, insertOnEdge, withInnerVertex, withEdgeVertex}
 use Rattle.insertion.specs.Plane.{Inside, Between}
 use Rattle.location.specs.LocateLaws.{locate-good}

@@ -22,12 +22,12 @@ use Rattle.mesh.specs.AreaLaws.{area-theorem}
 use Rattle.mesh.specs.LeftLaws.{left-at}
 use Rattle.mesh.specs.HeightLaws.{heights-nonneg}
 use Rattle.mesh.specs.Good.{Good}
 use Rattle.insertion.specs.Operations.{insertIntoTriangle, splitEdge, splitHalfEdge, insertOnEdge, withInnerVertex, withEdgeVertex}
 use Rattle.insertion.specs.Plane.{Inside, Between, between-rev, between-first, between-second}
-use Rattle.insertion.specs.InTriangle.{inside-circle, between-circle}
-use Rattle.insertion.specs.IntoTriangleLaws.{insert-into-triangle-areas, insert-into-triangle-heights, insert-into-triangle-good}
-use Rattle.insertion.specs.EdgeSplitLaws.{splittable, split-edge-areas, split-edge-heights, split-edge-good}
-use Rattle.insertion.specs.HalfEdgeSplitLaws.{split-half-edge-areas, split-half-edge-heights, split-half-edge-good}
+use Rattle.insertion_laws.specs.InTriangle.{inside-circle, between-circle}
+use Rattle.insertion_laws.specs.IntoTriangleLaws.{insert-into-triangle-areas, insert-into-triangle-heights, insert-into-triangle-good}
+use Rattle.insertion_laws.specs.EdgeSplitLaws.{splittable, split-edge-areas, split-edge-heights, split-edge-good}
+use Rattle.insertion_laws.specs.HalfEdgeSplitLaws.{split-half-edge-areas, split-half-edge-heights, split-half-edge-good}
 use Rattle.sums.specs.Half.{rev, rev-rev}
 
 -- strictly between the ends of a side of a triangle that turns left, a position is strictly inside the triangle's circle
