@@ -4,7 +4,6 @@
 ghost use mathlib.Core.List.{List};
 ghost use mathlib.Core.Path.{_≡_};
 ghost use Prim.Native.Nat.{ℕ};
-ghost use lib.Dec.{T};
 ghost use Rattle.angle.specs.Angle.{IsAngle, turns};
 ghost use Rattle.dcel.specs.MeshRows.{meshRows, linksIn, placesIn};
 ghost use Rattle.decide.specs.Decide.{decided};

@@ -30,7 +30,7 @@ use Rattle.surface.specs.SurfaceLaws.{step-room, step-own, step-heights}
 use Rattle.sweep.specs.declared.Stepped.{Stepped}
 use Rattle.sweep.specs.Step.{Stepping}
 use Rattle.sweep.specs.StepCall.{StepOutcome, answerFrom, stepChecked, stepOf}
-use Rattle.commit.specs.Commit.{commitChecked, commitChanges, CommitOutcome, committedWith, nothingDone}
+use Rattle.commit.specs.Commit.{commitChecked, commitChanges, committedWith, nothingDone}
 use Rattle.commit.specs.Commit.{commitOutcome, commitOf}
 
 -- ---- the checks
@@ -103,9 +103,6 @@ module _ (changes : ℕ) (C : Counts) (s : SurfaceRows) (ring : RingRows) (pendi
   where
     abbrev pub checks : Checked
     checks = commitChecked changes C s (length (ring .nodes)) (length (ring .freed)) (length (ring .buckets)) (length pending) center v z q
-
-    abbrev whole : CommitOutcome
-    whole = commitOf changes C s ring pending center v z q
 
     abbrev step : SurfaceStepped
     step = surfaceStep C s ring pending center v z

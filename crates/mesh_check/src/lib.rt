@@ -1,5 +1,6 @@
-// Refusals 1 to 5 of 01's table, which every public call tests first: what they are, in `specs/Check.antt`, and what an accepted mesh has. The
-// code that tests them is the crate `mesh_check_rows`; here are the types of its answer, and the count of vertices that rows 1 and 2 go by.
+// Refusals 1 to 5 of 01's table, which every public call tests first: what they are, in `specs/Check.antt`, and what an accepted mesh has.
+// The code that tests them is the crate `mesh_check_rows`; here are the types of its answer, and the count of vertices that rows 1 and 2
+// go by.
 ghost use mathlib.Core.Path.{_≡_};
 ghost use Rattle.mesh_check.specs.Check.{pointCount, vertexCount};
 use mesh::Counts;
