@@ -70,7 +70,13 @@ fn sees_edge(positions: &[i32], halves: &[u32], d: u32, point: Point) -> bool
 }
 
 // Whether a loop goes on: no flip was refused, and the edge beside the current one is seen.
-fn sees_beside(positions: &[i32], halves: &[u32], side: Side, walked: Walked, point: Point) -> bool
+pub fn sees_beside(
+    positions: &[i32],
+    halves: &[u32],
+    side: Side,
+    walked: Walked,
+    point: Point,
+) -> bool
     requires { ⌜ BesideReady side (now positions) (now halves) (walked .edge) point ⌝ }
     ensures { λ r. ⌜ ((o a : List ℕ)
         → r ≡ not (outsideEnds side (positionOf (now (positions .entry))) point

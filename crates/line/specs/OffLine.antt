@@ -55,37 +55,37 @@ pub record OffLine (C₀ : Counts) (p : ℕ → Point) (m : Extended) : Type 0 w
   pub flips : m .flips ≡ 0
   pub full : m .full ≡ false
 
+-- a fan, and no flip so far
+pub record Stand (C₀ : Counts) (L₀ : Links) (at r : ℕ → ℕ) (p : ℕ → Point) (lo hi l f : ℕ) (m : Extended) : Type 0 where
+  pub fan : Fan C₀ L₀ at r p (m .counts) (m .links) lo hi l f
+  pub faces : m .faces + lo ≡ hi
+  pub flips : m .flips ≡ 0
+  pub full : m .full ≡ false
+
 module _ {C₀ : Counts} {L₀ : Links} {at r : ℕ → ℕ} (K : Chain C₀ L₀ at r) {p : ℕ → Point} (S : Seen C₀ at p (C₀ .vertices))
-    {v : Point} (here : p (C₀ .vertices) ≡ v) (room : ℕ) where
+    {v : Point} (here : p (C₀ .vertices) ≡ v) where
   abbrev E : ℕ
   E = C₀ .edges
 
-  -- no flip so far
-  record Stand (lo hi l f : ℕ) (m : Extended) : Type 0 where
-    fan : Fan C₀ L₀ at r p (m .counts) (m .links) lo hi l f
-    faces : m .faces + lo ≡ hi
-    flips : m .flips ≡ 0
-    full : m .full ≡ false
-
   -- ---- which edges are seen
-  module _ {lo hi l f : ℕ} {m : Extended} (X : Stand lo hi l f m) where
+  module _ {lo hi l f : ℕ} {m : Extended} (X : Stand C₀ L₀ at r p lo hi l f m) where
     abbrev L : Links
     L = m .links
 
-    sees : {i : ℕ} → i < E → seesEdge L p v (r (suc i)) ≡ true
+    pub sees : {i : ℕ} → i < E → seesEdge L p v (r (suc i)) ≡ true
     sees {i} u =
         let a = X .fan .ends (in-r K {i = suc i} (omega arith)) ∙ K .from {i = i} (omega arith) in
         let b = X .fan .ends (in-rev K {i = suc i} (omega arith)) ∙ K .to {i = suc i} u in
         rw (a, b, ← here) (is-true _ (S .left u .lt))
 
-    sees-low : seesEdge L p v (r 0) ≡ false
+    pub sees-low : seesEdge L p v (r 0) ≡ false
     sees-low =
         let s = K .some in
         let a = ap (L .origin) (K .low) ∙ X .fan .ends (in-rev K {i = 1} (omega arith)) ∙ K .to {i = 1} s in
         let b = X .fan .ends (in-rev K {i = 0} (omega arith)) ∙ K .to {i = 0} (omega arith) in
         rw (a, b, ← here) (not-seen (p (at 0)) (p (at 1)) (p (C₀ .vertices)) (S .left s))
 
-    sees-high : seesEdge L p v (r (suc E)) ≡ false
+    pub sees-high : seesEdge L p v (r (suc E)) ≡ false
     sees-high = go E (K .some) refl
       where
         go : (e : ℕ) → 0 < e → E ≡ e → seesEdge L p v (r (suc E)) ≡ false
@@ -102,59 +102,59 @@ module _ {C₀ : Counts} {L₀ : Links} {at r : ℕ → ℕ} (K : Chain C₀ L�
   unfolding outsideEnds
   ends-at side s d t u q e = rw (u, q, e) refl
 
-  left-turn : {lo hi f : ℕ} (s : Walking) → Stand (suc lo) hi (s .current) f (s .mesh)
-      → Stand lo hi (outsideTurn Left room p s .current) f (outsideTurn Left room p s .mesh)
+  pub left-turn : (room : ℕ) {lo hi f : ℕ} (s : Walking) → Stand C₀ L₀ at r p (suc lo) hi (s .current) f (s .mesh)
+      → Stand C₀ L₀ at r p lo hi (outsideTurn Left room p s .current) f (outsideTurn Left room p s .mesh)
   unfolding outsideTurn faceEdge
-  left-turn {lo} {hi} {f} s X =
+  left-turn room {lo} {hi} {f} s X =
       let Y = fan-left K S (X .fan) in
       let q = X .fan .prev-l in
       let lo< : lo < E = (let a = X .fan .some in let b = X .fan .most in omega arith) in
       rw (q, cover-still room p (s .mesh) (r (suc lo)) (r (suc lo)) (Y .beneath lo<))
       (record { fan = Y; faces = let a = X .faces in omega arith; flips = X .flips; full = refl })
 
-  right-turn : {lo hi l : ℕ} (s : Walking) → hi < E → Stand lo hi l (s .current) (s .mesh)
-      → Stand lo (suc hi) l (outsideTurn Right room p s .current) (outsideTurn Right room p s .mesh)
+  pub right-turn : (room : ℕ) {lo hi l : ℕ} (s : Walking) → hi < E → Stand C₀ L₀ at r p lo hi l (s .current) (s .mesh)
+      → Stand C₀ L₀ at r p lo (suc hi) l (outsideTurn Right room p s .current) (outsideTurn Right room p s .mesh)
   unfolding outsideTurn faceEdge
-  right-turn {lo} {hi} {l} s u X =
+  right-turn room {lo} {hi} {l} s u X =
       let Y = fan-right K S (X .fan) u in
       let q = X .fan .next-f in
       rw (q, cover-still room p (s .mesh) (s .current) (r (suc hi)) (Y .beneath u))
       (record { fan = Y; faces = let a = X .faces in omega arith; flips = X .flips; full = refl })
 
-  left-walk : (lo n : ℕ) {hi f : ℕ} (s : Walking) → lo < n → Stand lo hi (s .current) f (s .mesh)
-      → let z = until (outsideEnds Left p v) (outsideTurn Left room p) n s in Stand 0 hi (z .current) f (z .mesh)
-  left-walk zero n s u X = rw (until-done (outsideEnds Left p v) (outsideTurn Left room p) n s
+  pub left-walk : (room lo n : ℕ) {hi f : ℕ} (s : Walking) → lo < n → Stand C₀ L₀ at r p lo hi (s .current) f (s .mesh)
+      → let z = until (outsideEnds Left p v) (outsideTurn Left room p) n s in Stand C₀ L₀ at r p 0 hi (z .current) f (z .mesh)
+  left-walk room zero n s u X = rw (until-done (outsideEnds Left p v) (outsideTurn Left room p) n s
       (ends-at Left s (r 0) false (X .full) (X .fan .prev-l) (sees-low X))) X
-  left-walk (suc lo) zero s u X = absurd (omega arith)
-  left-walk (suc lo) (suc n) s u X = rw (until-next (outsideEnds Left p v) (outsideTurn Left room p) n s
+  left-walk room (suc lo) zero s u X = absurd (omega arith)
+  left-walk room (suc lo) (suc n) s u X = rw (until-next (outsideEnds Left p v) (outsideTurn Left room p) n s
       (ends-at Left s (r (suc lo)) true (X .full) (X .fan .prev-l) (sees X (let a = X .fan .some in let b = X .fan .most in omega arith))))
-      (left-walk lo n (outsideTurn Left room p s) (omega arith) (left-turn s X))
+      (left-walk room lo n (outsideTurn Left room p s) (omega arith) (left-turn room s X))
 
-  right-walk : (k n : ℕ) {hi l : ℕ} (s : Walking) → hi + k ≡ E → k < n → Stand 0 hi l (s .current) (s .mesh)
-      → let z = until (outsideEnds Right p v) (outsideTurn Right room p) n s in Stand 0 (C₀ .edges) l (z .current) (z .mesh)
-  right-walk zero n {hi} {l} s e u X =
+  pub right-walk : (room k n : ℕ) {hi l : ℕ} (s : Walking) → hi + k ≡ E → k < n → Stand C₀ L₀ at r p 0 hi l (s .current) (s .mesh)
+      → let z = until (outsideEnds Right p v) (outsideTurn Right room p) n s in Stand C₀ L₀ at r p 0 (C₀ .edges) l (z .current) (z .mesh)
+  right-walk room zero n {hi} {l} s e u X =
       let q : hi ≡ E = omega arith in
-      let X′ = subst (λ (h : ℕ). Stand 0 h l (s .current) (s .mesh)) q X in
+      let X′ = subst (λ (h : ℕ). Stand C₀ L₀ at r p 0 h l (s .current) (s .mesh)) q X in
       rw (until-done (outsideEnds Right p v) (outsideTurn Right room p) n s
       (ends-at Right s (r (suc E)) false (X .full) (X′ .fan .next-f) (sees-high X))) X′
-  right-walk (suc k) zero s e u X = absurd (omega arith)
-  right-walk (suc k) (suc n) {hi} s e u X = rw (until-next (outsideEnds Right p v) (outsideTurn Right room p) n s
+  right-walk room (suc k) zero s e u X = absurd (omega arith)
+  right-walk room (suc k) (suc n) {hi} s e u X = rw (until-next (outsideEnds Right p v) (outsideTurn Right room p) n s
       (ends-at Right s (r (suc hi)) true (X .full) (X .fan .next-f) (sees X {i = hi} (omega arith))))
-      (right-walk k n (outsideTurn Right room p s) (omega arith) (omega arith) (right-turn s (omega arith) X))
+      (right-walk room k n (outsideTurn Right room p s) (omega arith) (omega arith) (right-turn room s (omega arith) X))
 
   -- ---- all of it
-  first-stand : {k : ℕ} → k < E → Stand k (suc k) (2 * C₀ .edges + 2 + 1) (2 * C₀ .edges + 1) (firstFace room p C₀ L₀ (r (suc k)))
-  first-stand {k} u = let Y = fan-first K S u in rw (first-still room p C₀ L₀ (r (suc k)) (Y .beneath u))
+  pub first-stand : (room : ℕ) {k : ℕ} → k < E → Stand C₀ L₀ at r p k (suc k) (2 * C₀ .edges + 2 + 1) (2 * C₀ .edges + 1) (firstFace room p C₀ L₀ (r (suc k)))
+  first-stand room {k} u = let Y = fan-first K S u in rw (first-still room p C₀ L₀ (r (suc k)) (Y .beneath u))
       (record { fan = Y; faces = omega arith; flips = refl; full = refl })
 
-  pub off-line : {k : ℕ} → Straight C₀ at p → k < C₀ .edges → ((u : ℕ) → u < C₀ .vertices + 1 → InRange (p u))
+  pub off-line : (room : ℕ) {k : ℕ} → Straight C₀ at p → k < C₀ .edges → ((u : ℕ) → u < C₀ .vertices + 1 → InRange (p u))
       → OffLine C₀ p (insertOutside room p C₀ L₀ v (r (suc k)))
   unfolding insertOutside outsideWalk
-  off-line {k} Y u range =
-      let X = first-stand u in
-      let a = left-walk k (2 * firstFace room p C₀ L₀ (r (suc k)) .counts .edges + 1) (record { mesh = firstFace room p C₀ L₀ (r (suc k)); current = 2 * C₀ .edges + 2 + 1 })
+  off-line room {k} Y u range =
+      let X = first-stand room u in
+      let a = left-walk room k (2 * firstFace room p C₀ L₀ (r (suc k)) .counts .edges + 1) (record { mesh = firstFace room p C₀ L₀ (r (suc k)); current = 2 * C₀ .edges + 2 + 1 })
       (let e = X .fan .edges in omega arith) X in
-      let b = right-walk (E - suc k) (2 * outsideWalk Left room p v (record { mesh = firstFace room p C₀ L₀ (r (suc k)); current = 2 * C₀ .edges + 2 + 1 }) .mesh .counts .edges + 1)
+      let b = right-walk room (E - suc k) (2 * outsideWalk Left room p v (record { mesh = firstFace room p C₀ L₀ (r (suc k)); current = 2 * C₀ .edges + 2 + 1 }) .mesh .counts .edges + 1)
       (record { mesh = outsideWalk Left room p v (record { mesh = firstFace room p C₀ L₀ (r (suc k)); current = 2 * C₀ .edges + 2 + 1 }) .mesh; current = 2 * C₀ .edges + 1 })
       (omega arith) (let e = a .fan .edges in omega arith) a in
       record {

@@ -14,11 +14,12 @@ use Rattle.dcel.specs.Rows.{rowFrom}
 use Rattle.dcel.specs.Views.{length-from}
 use Rattle.finish.specs.declared.Totals.{Totals}
 use Rattle.heights.specs.Heights.{heightOf}
+use Rattle.mesh.specs.Mesh.{Links}
 use Rattle.mesh_check.specs.Check.{pointCount}
 use Rattle.sums.specs.Bit.{bit, eq-test, and-left, and-right}
 use Rattle.sums.specs.Bounded.{count-before, count-parts}
 use Rattle.sweep.specs.Run.{RunOutcome}
-use Rattle.sweep.specs.Demand3.{fateOf, vertexOf, isEntered, isVertex, addedBefore, enteredBefore, Demand3}
+use Rattle.sweep.specs.Demand3.{fateOf, vertexOf, isEntered, isVertex, addedBefore, enteredBefore, Demand3From}
 use Rattle.surface.specs.PutEach.{put-each-kept, put-each-last}
 use Rattle.surface.specs.StoredHeights.{isFrom, isInserted, storedFrom, answeredHeights}
 use Rattle.surface.specs.Surface.{SurfaceRunLent, SurfaceRan}
@@ -73,7 +74,7 @@ vertex-parts f = go (ℕ-discrete f 1)
     go (no n) = rw (ne-eqb f 1 n) (omega arith)
 
 -- ---- from the answers
-module _ (g : SurfaceRunLent) (w : SurfaceRan) (t : Totals) (D : Demand3 (g .run) (w .call) t) where
+module _ (g : SurfaceRunLent) (w : SurfaceRan) {before : Links} (t : Totals) (D : Demand3From (g .run) before (w .call) t) where
   abbrev N : ℕ
   N = pointCount (g .run .points)
 

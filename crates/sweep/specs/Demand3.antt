@@ -60,8 +60,8 @@ beforeClosing l =
     let room = length (l .pending) in
     convexAfter room (fillFrom room (sweepOf l n .positions) (skippedOf l) (positionOf (l .points)) n (passedOf l)) .links
 
--- ---- the run is finished
-pub record Demand3 (l : RunLent) (r : RunOutcome) (t : Totals) : Type 0 where
+-- ---- the run is finished: l is what it was lent, `before` the mesh before its closing pass
+pub record Demand3From (l : RunLent) (before : Links) (r : RunOutcome) (t : Totals) : Type 0 where
   -- "the finished mesh holds the seed's vertices under their own numbers and positions,
   pub seed : (u : ℕ) → u < l .counts .vertices → placesIn (r .mesh) u ≡ placesIn (l .mesh) u
   -- one vertex for each point whose fate is added, at that point's position
@@ -94,12 +94,16 @@ pub record Demand3 (l : RunLent) (r : RunOutcome) (t : Totals) : Type 0 where
   pub circles : LocallyDelaunay (r .answer .counts) (linksIn (r .mesh)) (placesIn (r .mesh))
   -- and the closing flips reported are exactly as many as the closing pass made
   pub closing : _≡_ {A = Closing} (record { links = linksIn (r .mesh); flips = t .closingflips })
-      (closingPass (r .answer .counts) (placesIn (r .mesh)) (beforeClosing l))
-  pub flips : FlipRun (r .answer .counts) (placesIn (r .mesh)) (beforeClosing l) (linksIn (r .mesh)) (t .closingflips)
+      (closingPass (r .answer .counts) (placesIn (r .mesh)) before)
+  pub flips : FlipRun (r .answer .counts) (placesIn (r .mesh)) before (linksIn (r .mesh)) (t .closingflips)
   -- and at most the fall of the height sum during it."
   pub fall : pos (t .closingflips)
-      ≤ℤ (heightSum (r .answer .counts) (beforeClosing l) (placesIn (r .mesh))
+      ≤ℤ (heightSum (r .answer .counts) before (placesIn (r .mesh))
       -ℤ heightSum (r .answer .counts) (linksIn (r .mesh)) (placesIn (r .mesh)))
+
+-- DEMAND 3
+abbrev pub Demand3 : RunLent → RunOutcome → Totals → Type 0
+Demand3 l r t = Demand3From l (beforeClosing l) r t
 
 -- ---- what a run leaves besides, after 9 too
 pub record RunLeaves (l : RunLent) (r : RunOutcome) : Type 0 where

@@ -1,0 +1,9 @@
+-- `Seed` has how a seed grows from the front of the list, `BulkLoad` the call.
+pub mod Seed
+pub mod SeedLaws
+pub mod RestLaws
+pub mod BulkLoad
+pub mod Accepted
+pub mod Rest
+pub mod Demand3
+pub mod SweptLaws
