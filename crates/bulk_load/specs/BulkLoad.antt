@@ -198,23 +198,23 @@ loadedWith r m heights ring pending answers = record {
 abbrev pub noCounts : Counts
 noCounts = record { vertices = 0; edges = 0; faces = 0 }
 
--- the row of answers
-abbrev pub answersLeft : BulkLoadLent → List ℕ
-answersLeft l = rowFrom (length (l .answers)) (loadingOf l .answers)
+-- 01: "After 9 and after every accepted call the ring, freed, bucket and pending rows hold zeros, and mesh and answer entries past the counts
+-- in use are untouched": the functions have every entry of their rows. A point's height goes to the vertex in its answer: 02, Change 1:
+-- "Every call that carries a vertex carries it through."; Change 2, of fate 9: "that vertex takes the new height"
+unfoldable pub loadedBy : BulkLoadLent → Loading → BulkLoadOutcome
+loadedBy l w =
+    let answers = rowFrom (length (l .answers)) (w .answers) in
+    loadedWith (w .answer) (meshRowsFrom (l .mesh) (w .links) (w .positions))
+    (rowFrom (length (l .heights))
+    (finishedHeights (w .answer .finish) answers (heightOf (l .pointHeights)) (heightOf (l .heights)) (count l)))
+    (ringZeros (l .ring)) (replicate (length (l .pending)) 0) answers
 
--- 01: "All but 9 change nothing lent"; "After 9 and after every accepted call the ring, freed, bucket and pending rows hold zeros, and mesh
--- and answer entries past the counts in use are untouched". A point's height goes to the vertex in its answer: 02, Change 1: "Every call
--- that carries a vertex carries it through."; Change 2, of fate 9: "that vertex takes the new height"
+-- 01: "All but 9 change nothing lent"
 unfoldable pub bulkLoadOutcome : BulkLoadLent → Checked → BulkLoadOutcome
 bulkLoadOutcome l (Checked.Refused r) =
     loadedWith (record { finish = record { counts = noCounts; finished = Finished.Refused r }; line = false })
     (l .mesh) (l .heights) (l .ring) (l .pending) (l .answers)
-bulkLoadOutcome l Checked.Accepted =
-    let w = loadingOf l in
-    loadedWith (w .answer) (meshRowsFrom (l .mesh) (w .links) (w .positions))
-    (rowFrom (length (l .heights))
-    (finishedHeights (w .answer .finish) (answersLeft l) (heightOf (l .pointHeights)) (heightOf (l .heights)) (count l)))
-    (ringZeros (l .ring)) (replicate (length (l .pending)) 0) (answersLeft l)
+bulkLoadOutcome l Checked.Accepted = loadedBy l (loadingOf l)
 
 -- THE BULK LOAD, for whatever is lent
 unfoldable pub bulkLoadOf : BulkLoadLent → BulkLoadOutcome

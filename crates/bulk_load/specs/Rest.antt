@@ -13,6 +13,7 @@ use Rattle.dcel.specs.MeshRows.{linksIn, placesIn, meshRowsFrom}
 use Rattle.dcel.specs.Rows.{positionOf}
 use Rattle.dcel.specs.Views.{lengths-from}
 use Rattle.finish.specs.CallLeavesLaws.{links-back, places-back, in-rows}
+use Rattle.grow_untouched.specs.GrowUntouched.{Fits}
 use Rattle.hull_center.specs.HullCenter.{isReady, hullCenter}
 use Rattle.hull_center.specs.Laws.{ReadyStart, ready-start}
 use Rattle.line.specs.GrowLaws.{Phase, none, one, line, mesh}
@@ -31,16 +32,19 @@ use Rattle.mesh_check.specs.CheckLaws.{then-next}
 use Rattle.start.specs.Start.{sweepRowsShort, sweepChecked}
 use Rattle.sums.specs.Bit.{bit, and-left, and-right, from-true, is-true, is-false}
 use Rattle.sweep.specs.Run.{answerWords, runChecked}
+use Rattle.bulk_load.specs.OneVertex.{OneZero}
 use Rattle.bulk_load.specs.Seed.{mayStart}
 use Rattle.bulk_load.specs.SeedLaws.{grown-most, SeedKeeps, seed-keeps}
 use Rattle.bulk_load.specs.BulkLoad.{BulkLoadLent, bulkLoadChecked, count, seeded, counts, links, positions, restOf}
 use Rattle.bulk_load.specs.Accepted.{BulkLoadAccepted, load-accepts}
 use Rattle.bulk_load.specs.RestLaws.{position-rest, count-rest}
 
--- entries past the counts in use are as they were lent
+-- entries past the counts in use are as they were lent, and those in use are few enough for the rows; one vertex has links 0
 pub record SeedRows (l : BulkLoadLent) : Type 0 where
   pub links-past : Untouched (counts l) (linksIn (l .mesh)) (links l)
   pub places-past : (u : ℕ) → counts l .vertices ≤ u → positions l u ≡ placesIn (l .mesh) u
+  pub fits : seeded l .growing .mesh .full ≡ false → Fits (counts l)
+  pub one-zero : OneZero (seeded l .growing)
 
 module _ (l : BulkLoadLent) (e : bulkLoadChecked l ≡ Checked.Accepted) where
   pub accepted : BulkLoadAccepted l

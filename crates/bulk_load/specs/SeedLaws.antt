@@ -80,6 +80,7 @@ module _ (room : ℕ) (L : Links) (p point : ℕ → Point) where
     pub phase : Phase (s .growing)
     pub most : s .answered ≤ n
     pub going : s .ready ≡ false → s .growing .mesh .full ≡ false → s .answered ≡ n
+    pub stopped : s .growing .mesh .full ≡ true → s .answered < n
     pub started : s .ready ≡ true → mayStart (s .growing) ≡ true
     -- those in use are those of fate 1, and the vertex of a point whose flips were refused
     pub vertices : s .growing .mesh .counts .vertices ≡ grownBefore (s .answered) + bit (s .growing .mesh .full)
@@ -94,6 +95,7 @@ module _ (room : ℕ) (L : Links) (p point : ℕ → Point) where
     phase = none refl refl;
     most = omega arith;
     going = λ _ _. refl;
+    stopped = λ e. absurd (false≢true e);
     started = λ e. absurd (false≢true e);
     vertices = refl;
     fates = λ i l. absurd (omega arith);
@@ -108,6 +110,7 @@ module _ (room : ℕ) (L : Links) (p point : ℕ → Point) where
     phase = K .phase;
     most = let m = K .most in omega arith;
     going = λ a b. absurd (false≢true (sym (rw (a, b) refl) ∙ e));
+    stopped = λ q. let m = K .stopped q in omega arith;
     started = K .started;
     vertices = K .vertices;
     fates = K .fates;
@@ -157,6 +160,7 @@ module _ (room : ℕ) (L : Links) (p point : ℕ → Point) where
       phase = grow-keeps room (s .growing) (point n) rq f (K .phase);
       most = rw t (let a = answered in omega arith);
       going = λ _ e. absurd (false≢true (sym e ∙ t));
+      stopped = λ _. rw t (let a = answered in omega arith);
       started = λ e. e;
       vertices = rw t (go (A .number));
       fates = rw t (λ i l. K .fates i l);
@@ -174,6 +178,7 @@ module _ (room : ℕ) (L : Links) (p point : ℕ → Point) where
       phase = grow-keeps room (s .growing) (point n) rq f (K .phase);
       most = rw t (let a = answered in omega arith);
       going = λ _ _. rw t (ap suc answered);
+      stopped = λ e. absurd (false≢true (sym t ∙ e));
       started = λ e. e;
       vertices = rw (t, answered) (count-now (A .number));
       fates = rw t (λ i l. fate-at i (ℕ-discrete i n) (let a = answered in omega arith));

@@ -44,7 +44,7 @@ module _ (l : BulkLoadLent) (e : bulkLoadChecked l ≡ Checked.Accepted) where
   abbrev k : ℕ
   k = seeded l .answered
 
-  abbrev grown : ℕ → ℕ
+  abbrev pub grown : ℕ → ℕ
   grown n = grownBefore (length (l .pending)) (linksIn (l .mesh)) (placesIn (l .mesh)) (positionOf (l .points)) n
 
   abbrev K : SeedKeeps (length (l .pending)) (linksIn (l .mesh)) (placesIn (l .mesh)) (positionOf (l .points)) (count l) (seeded l)
