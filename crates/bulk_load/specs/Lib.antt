@@ -12,3 +12,4 @@ pub mod SweptLaws
 pub mod EndedLaws
 pub mod LoadAnswers
 pub mod LoadLaws
+pub mod StoreLaws

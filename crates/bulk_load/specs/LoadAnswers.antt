@@ -50,6 +50,14 @@ module _ (l : BulkLoadLent) (e : bulkLoadChecked l ≡ Checked.Accepted) where
       answer-at (seedAnswers l) (l .answers) (answerWords * i + w) (within i w (omega arith) b)
       ∙ rw (lt-ltb (answerWords * i + w) (answerWords * count l) (omega arith), x .0, x .1, lt-ltb i k a) refl
 
+  -- no answer yet
+  pub zero-word : (i w : ℕ) → k ≤ i → i < count l → w < answerWords → answerIn (rowFrom (length (l .answers)) (seedAnswers l)) i w ≡ 0
+  unfolding seedAnswers
+  zero-word i w a c b =
+      let x = word-of i w b in
+      answer-at (seedAnswers l) (l .answers) (answerWords * i + w) (within i w c b)
+      ∙ rw (lt-ltb (answerWords * i + w) (answerWords * count l) (omega arith), x .0, le-ltb i k a) refl
+
   pub swept-word : (i w : ℕ) → i < k → w < answerWords → answerIn (rowFrom (length (l .answers)) (sweptAnswers l)) i w ≡ seededWord l i w
   unfolding sweptAnswers
   swept-word i w a b =

@@ -92,7 +92,7 @@ module _ (l : BulkLoadLent) (e : bulkLoadChecked l ≡ Checked.Accepted) where
   load-is q = rw e (ap (loadedBy l) q)
 
   -- ---- the seed's answers
-  swept-answers : SeedAnswers l e (asRun (loadedBy l (swept l)))
+  pub swept-answers : SeedAnswers l e (asRun (loadedBy l (swept l)))
   unfolding loadedBy swept
   swept-answers = record { word = λ i w a b. swept-word l e i w a b }
 
@@ -100,11 +100,11 @@ module _ (l : BulkLoadLent) (e : bulkLoadChecked l ≡ Checked.Accepted) where
   unfolding restOf
   rest-mesh L p = sym (rows-again (l .mesh) (links l) L (positions l) p)
 
-  rest-count : seeded l .ready ≡ true → seeded l .answered + pointCount (restOf l .points) ≡ count l
+  pub rest-count : seeded l .ready ≡ true → seeded l .answered + pointCount (restOf l .points) ≡ count l
   unfolding restOf
   rest-count r = rest.rest-count l e S r
 
-  rest-answers : (r : seeded l .ready ≡ true) → RestAnswers l e S r (asRun (loadedBy l (swept l)))
+  pub rest-answers : (r : seeded l .ready ≡ true) → RestAnswers l e S r (asRun (loadedBy l (swept l)))
   unfolding loadedBy swept
   rest-answers r =
       let q = run-is (restOf l) (rest.rest-accepted l e S r) in
@@ -115,11 +115,15 @@ module _ (l : BulkLoadLent) (e : bulkLoadChecked l ≡ Checked.Accepted) where
         counts = ap (λ (R : RunOutcome). R .answer .counts) (sym q);
       }
 
-  ended-answers : SeedAnswers l e (asRun (loadedBy l (ended l)))
+  pub ended-answers : SeedAnswers l e (asRun (loadedBy l (ended l)))
   unfolding loadedBy ended
   ended-answers = record { word = λ i w a b. seed-word l e i w a b }
 
-  lined-answers : SeedAnswers l e (asRun (loadedBy l (lined l)))
+  pub stopped-answers : SeedAnswers l e (asRun (loadedBy l (stopped l)))
+  unfolding loadedBy stopped
+  stopped-answers = record { word = λ i w a b. seed-word l e i w a b }
+
+  pub lined-answers : SeedAnswers l e (asRun (loadedBy l (lined l)))
   unfolding loadedBy lined
   lined-answers = record { word = λ i w a b. seed-word l e i w a b }
 
