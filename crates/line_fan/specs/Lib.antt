@@ -1,0 +1,3 @@
+-- `FanRows` has what the functions ask, `RowsLaws` what a caller needs of it.
+pub mod FanRows
+pub mod RowsLaws
