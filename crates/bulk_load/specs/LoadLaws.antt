@@ -234,19 +234,19 @@ module _ (l : BulkLoadLent) where
   unfolding loadedBy stopped
   stopped-not t x = let w : _≡_ {A = ℕ} 0 1 = cc in omega arith
 
-  stopped-mark : loadedBy l (stopped l) .answer .line ≡ false
+  pub stopped-mark : loadedBy l (stopped l) .answer .line ≡ false
   unfolding loadedBy stopped
   stopped-mark = refl
 
-  swept-mark : loadedBy l (swept l) .answer .line ≡ false
+  pub swept-mark : loadedBy l (swept l) .answer .line ≡ false
   unfolding loadedBy swept
   swept-mark = refl
 
-  ended-mark : loadedBy l (ended l) .answer .line ≡ false
+  pub ended-mark : loadedBy l (ended l) .answer .line ≡ false
   unfolding loadedBy ended
   ended-mark = refl
 
-  lined-mark : loadedBy l (lined l) .answer .line ≡ true
+  pub lined-mark : loadedBy l (lined l) .answer .line ≡ true
   unfolding loadedBy lined
   lined-mark = refl
 

@@ -15,7 +15,7 @@ use mesh_check::Checked;
 use ring_rows::Node;
 
 // What the checks accept.
-fn run_accepted(
+pub fn run_accepted(
     counts: Counts,
     positions: &mut [i32],
     outs: &mut [u32],
