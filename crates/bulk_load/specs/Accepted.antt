@@ -1,8 +1,7 @@
 -- What the checks of a bulk load accept: so many points, rows that do for them, every point and height in range. Assumes nothing.
-use mathlib.Core.Bool.{Bool, true, false, cond, _||_}
-use mathlib.Core.Path.{_≡_, refl}
+use mathlib.Core.Bool.{Bool, false, _||_}
+use mathlib.Core.Path.{_≡_}
 use Prim.Native.Nat.{ℕ, _*_, _<_, _≤_}
-use native.Mathlib.Omega.{arith}
 use borrow.Author.Tests.{ltb-false}
 use lib.Dec.{ltb}
 use lib.ListN.{length}
@@ -14,16 +13,10 @@ use Rattle.math.specs.Determinant.{InRange}
 use Rattle.mesh_check.specs.declared.Checked.{Checked}
 use Rattle.mesh_check.specs.Accepted.{MeshSizes, not-short-rows, or-false}
 use Rattle.mesh_check.specs.Check.{firstOutside, pointCount, meshShort, rowsShort}
-use Rattle.mesh_check.specs.CheckLaws.{inside-range}
+use Rattle.mesh_check.specs.CheckLaws.{inside-range, not-refused}
 use Rattle.start.specs.Start.{sweepRowsShort}
 use Rattle.sweep.specs.Run.{answerWords}
 use Rattle.bulk_load.specs.BulkLoad.{BulkLoadLent, count, bulkLoadShort, bulkLoadChecked}
-
--- TODO not-refused of mesh_check/CheckLaws, made pub there
-use Rattle.mesh_check.specs.declared.Refusal.{Refusal}
-not-refused : (t : Bool) (r : Refusal) (x : Checked) → cond t (Checked.Refused r) x ≡ Checked.Accepted → (t ≡ false) × (x ≡ Checked.Accepted)
-not-refused true r x e = absurd (let z : _≡_ {A = ℕ} 0 1 = cc in omega arith)
-not-refused false r x e = (refl, e)
 
 pub record BulkLoadAccepted (l : BulkLoadLent) : Type 0 where
   pub most : count l ≤ 1000000

@@ -5,6 +5,7 @@ pub mod OneVertex
 pub mod RestLaws
 pub mod BulkLoad
 pub mod Accepted
+pub mod Numbered
 pub mod Rest
 pub mod Past
 pub mod Demand3

@@ -33,7 +33,7 @@ use Rattle.sums.specs.Until.{until, until-done, until-next}
 use Rattle.line.specs.Operations.{setupInitialTwoVertices, extendAt, extendLine, splitAt, splitEdgeWhenAllVerticesOnLine, withLineVertex, twoVertices}
 use Rattle.line.specs.Chain.{Chain}
 use Rattle.line.specs.ChainLaws.{in-r, in-rev}
-use Rattle.line.specs.LooseChain.{chain-loose}
+use Rattle.line.specs.ChainRules.{chain-rules}
 use Rattle.line.specs.Fan.{Seen, fan-left, fan-right, fan-first}
 use Rattle.line.specs.Still.{first-still, cover-still}
 use Rattle.line.specs.OffLine.{OffLine, Stand, sees, sees-low, sees-high, left-turn, right-turn, left-walk, first-stand}
@@ -194,14 +194,14 @@ module _ {C₀ : Counts} {L₀ : Links} {at r : ℕ → ℕ} (K : Chain C₀ L�
   unfolding outsideTurn faceEdge
   left-kept room {lo} s X U =
       let a = X .fan .some in let b = X .fan .most in let e = X .fan .edges in let h = in-r K {i = suc lo} (omega arith) in
-      rw (X .fan .prev-l) (cover-untouched room p (s .mesh) (r (suc lo)) (r (suc lo)) (X .fan .loose .ranges) (omega arith)
+      rw (X .fan .prev-l) (cover-untouched room p (s .mesh) (r (suc lo)) (r (suc lo)) (X .fan .rules .ranges) (omega arith)
       (fan-left K S (X .fan) .beneath {i = lo} (omega arith)) U)
 
   right-kept : (room : ℕ) {lo hi l : ℕ} (s : Walking) → hi < E → Stand C₀ L₀ at r p lo hi l (s .current) (s .mesh) → Kept (s .mesh)
       → Kept (outsideTurn Right room p s .mesh)
   unfolding outsideTurn faceEdge
   right-kept room {hi = hi} s u X U =
-      rw (X .fan .next-f) (cover-untouched room p (s .mesh) (s .current) (r (suc hi)) (X .fan .loose .ranges) (X .fan .in-f)
+      rw (X .fan .next-f) (cover-untouched room p (s .mesh) (s .current) (r (suc hi)) (X .fan .rules .ranges) (X .fan .in-f)
       (fan-right K S (X .fan) u .beneath u) U)
 
   -- ---- the loops
@@ -232,7 +232,7 @@ module _ {C₀ : Counts} {L₀ : Links} {at r : ℕ → ℕ} (K : Chain C₀ L�
   -- ---- all of it
   first-kept : (room : ℕ) {k : ℕ} → k < E → Kept (firstFace room p C₀ L₀ (r (suc k)))
   first-kept room {k} u = rw (first-still room p C₀ L₀ (r (suc k)) (fan-first K S u .beneath u))
-      (new-face-past (chain-loose K .ranges) (in-r K {i = suc k} (omega arith)))
+      (new-face-past (chain-rules K .ranges) (in-r K {i = suc k} (omega arith)))
 
   off-untouched : (room : ℕ) {k : ℕ} → k < C₀ .edges → Kept (insertOutside room p C₀ L₀ v (r (suc k)))
   unfolding insertOutside outsideWalk
@@ -288,7 +288,7 @@ second-leaves L p q = go (isSame (p 0) q)
 
 module _ {C : Counts} {L : Links} {p : ℕ → Point} (X : Line C L p) {q : Point} (rq : InRange q) (room : ℕ) where
   R : Ranges C L
-  R = chain-loose (X .chain) .ranges
+  R = chain-rules (X .chain) .ranges
 
   new-past : (n u : ℕ) → n ≡ C .vertices + 1 → n ≤ u → put p (C .vertices) q u ≡ p u
   new-past n u e k = put-other p (C .vertices) q u (λ z. omega arith)

@@ -27,7 +27,7 @@ use Rattle.sums.specs.Half.{rev, rev-below}
 use Rattle.sums.specs.Put.{put, put-same, put-other}
 use Rattle.line.specs.Operations.{setupInitialTwoVertices, withLineVertex, twoVertices}
 use Rattle.line.specs.Chain.{Chain}
-use Rattle.line.specs.LooseChain.{chain-loose}
+use Rattle.line.specs.ChainRules.{chain-rules}
 use Rattle.line.specs.Order.{comesBefore, isSame, key}
 use Rattle.line.specs.OrderLaws.{is-same, three-ways, before-key}
 use Rattle.line.specs.Line.{Line}
@@ -73,7 +73,7 @@ module _ {C : Counts} {L : Links} {p : ℕ → Point} (X : Line C L p) where
       in-0 = let s = X .chain .some in omega arith
 
       flat : orient2d (p (L .origin 0)) (p (to L 0)) (p v) ≡ pos 0
-      flat = let R = chain-loose (X .chain) .ranges in X .flat (R .origin< in-0) (R .origin< (rev-below (C .edges) in-0)) l
+      flat = let R = chain-rules (X .chain) .ranges in X .flat (R .origin< in-0) (R .origin< (rev-below (C .edges) in-0)) l
 
       is : first-below (C .vertices) (λ u. isSame (p u) (p v)) ≡ v
       is =

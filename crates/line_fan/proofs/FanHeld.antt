@@ -15,7 +15,7 @@ use Rattle.dcel.specs.Rows.{halvesOf, linksOf, positionOf, There, Placed}
 use Rattle.dcel_operations.specs.Face.{SingleReady}
 use Rattle.insert_outside.specs.OutsideRows.{BesideReady}
 use Rattle.insert_outside.proofs.Sight.{beside-is}
-use Rattle.line.specs.Loose.{Loose}
+use Rattle.mesh.specs.LinkRules.{LinkRules}
 use Rattle.line.specs.OffLine.{Stand}
 use Rattle.math.specs.declared.Point.{Point}
 use Rattle.mesh.specs.declared.Counts.{Counts}
@@ -64,9 +64,9 @@ module _ {side : Side} {q : List ℤ} {h a : List ℕ} {w : Walked} {v : Point} 
   added-are = let a = R .stand .fan .faces in let b = R .stand .faces in omega arith
 
   -- half-edges in use, and what they name
-  loose : Loose C (linksOf (R .outs) h a)
+  rules : LinkRules C (linksOf (R .outs) h a)
   unfolding extendedOf
-  loose = R .stand .fan .loose
+  rules = R .stand .fan .rules
 
   there : {e : ℕ} → In C e → There h e
   there l = let a = edges-most in let b = R .sized .halves in let k = R .facing .chain .vertices in omega arith
@@ -76,15 +76,15 @@ module _ {side : Side} {q : List ℤ} {h a : List ℕ} {w : Walked} {v : Point} 
 
   next-in : {e : ℕ} → In C e → In C (halvesOf h .next e)
   unfolding linksOf
-  next-in l = loose .ranges .next< l
+  next-in l = rules .ranges .next< l
 
   prev-in : {e : ℕ} → In C e → In C (halvesOf h .prev e)
   unfolding linksOf
-  prev-in l = loose .ranges .prev< l
+  prev-in l = rules .ranges .prev< l
 
   origin-in : {e : ℕ} → In C e → halvesOf h .origin e < C .vertices
   unfolding linksOf
-  origin-in l = loose .ranges .origin< l
+  origin-in l = rules .ranges .origin< l
 
   placed : {u : ℕ} → u < C .vertices → Placed q u
   placed {u} l =

@@ -17,7 +17,7 @@ use Rattle.dcel.specs.Rows.{linksOf, positionOf}
 use Rattle.dcel_operations.specs.Face.{NewReady, NewFace}
 use Rattle.line.specs.Fan.{fan-first}
 use Rattle.line.specs.LineLaws.{Facing}
-use Rattle.line.specs.LooseChain.{chain-loose}
+use Rattle.line.specs.ChainRules.{chain-rules}
 use Rattle.line.specs.OffLine.{Stand, first-stand, left-walk}
 use Rattle.line.specs.Still.{first-still}
 use Rattle.math.specs.declared.Point.{Point}
@@ -47,7 +47,7 @@ module _ {C : Counts} {q : List ℤ} {o h a : List ℕ} {v : Point} {e : ℕ} (R
   new-ready =
       let K = R .line .chain in
       let k = K .vertices in let f = K .faces in let s = R .sized in let b = R .outs in
-      let W = chain-loose K .ranges in
+      let W = chain-rules K .ranges in
       let u = R .off .used in
       let n = W .next< u in let m = W .prev< u in let t = rev-below (C .edges) u in let z = K .outer u in
       record {

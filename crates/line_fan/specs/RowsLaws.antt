@@ -13,7 +13,7 @@ use Rattle.dcel.specs.Rows.{linksOf, positionOf}
 use Rattle.line.specs.Line.{Line}
 use Rattle.line.specs.LineLaws.{Facing, line-facing, line-off}
 use Rattle.line.specs.Locate.{Off}
-use Rattle.line.specs.LooseChain.{chain-loose}
+use Rattle.line.specs.ChainRules.{chain-rules}
 use Rattle.line.specs.OffLine.{OffLine}
 use Rattle.math.specs.declared.Point.{Point}
 use Rattle.math.specs.Determinant.{orient2d, InRange}
@@ -66,7 +66,7 @@ module _ {C : Counts} {q : List ℤ} {o h a : List ℕ} {v : Point} {e : ℕ} (R
 
   left-now : pos 0 <ℤ orient2d (p (L .origin e)) (p (to L e)) v
   left-now =
-      let W = chain-loose (R .line .chain) .ranges in
+      let W = chain-rules (R .line .chain) .ranges in
       let u = R .off .used in
       rw (R .same (L .origin e) (W .origin< u), R .same (to L e) (W .origin< (rev-below (C .edges) u))) (R .off .left)
 

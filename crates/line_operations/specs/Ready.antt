@@ -9,7 +9,7 @@ use Rattle.mesh.specs.Mesh.{In}
 use Rattle.mesh.specs.Wf.{Ranges}
 use Rattle.sums.specs.Half.{rev-below}
 use Rattle.line.specs.Line.{Line}
-use Rattle.line.specs.LooseChain.{chain-loose}
+use Rattle.line.specs.ChainRules.{chain-rules}
 use Rattle.line.specs.Operations.{withLineVertex, twoVertices}
 use Rattle.dcel.specs.Rows.{linksOf}
 use Rattle.dcel.specs.MeshHeld.{Room}
@@ -21,7 +21,7 @@ initial-ready r = record { added = omega arith; from = omega arith; to = omega a
 
 module _ {C : Counts} {o h a : List ℕ} {p : ℕ → Point} (M : Line C (linksOf o h a) p) (R : Room (withLineVertex C) o h a) where
   ranges : Ranges C (linksOf o h a)
-  ranges = chain-loose (M .chain) .ranges
+  ranges = chain-rules (M .chain) .ranges
 
   pub extend-ready : {v : ℕ} → v < C .vertices → ExtendReady o h C v
   unfolding linksOf

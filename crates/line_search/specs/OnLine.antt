@@ -15,7 +15,7 @@ use Rattle.line.specs.declared.PositionWhenAllVerticesOnLine.{PositionWhenAllVe
 use Rattle.line.specs.declared.PositionWhenAllVerticesOnLine.the-variants.{OnEdge, OnVertex, NotOnLine, ExtendingLine}
 use Rattle.line.specs.GrowLaws.{line-distinct}
 use Rattle.line.specs.Locate.{vertexOn, lastBefore, firstAfter, edgeFromNeighbors, locateOnLine, locateWhenAllVerticesOnLine}
-use Rattle.line.specs.LooseChain.{chain-loose}
+use Rattle.line.specs.ChainRules.{chain-rules}
 use Rattle.math.specs.declared.Point.{Point}
 use Rattle.math.specs.Determinant.{InRange, orient2d}
 use Rattle.math.specs.Side.{by-left, by-right, by-line}
@@ -101,7 +101,7 @@ module _ {C : Counts} {q : List ℤ} {o h : List ℕ} {point : Point} (R : LineR
 
   origin-in : {e : ℕ} → In C e → halvesOf h .origin e < C .vertices
   unfolding linksOf
-  origin-in l = chain-loose (R .line .chain) .ranges .origin< l
+  origin-in l = chain-rules (R .line .chain) .ranges .origin< l
 
   placed : {v : ℕ} → v < C .vertices → Placed q v
   placed l = record { there = let k = R .positions in omega arith; range = R .line .range l }

@@ -8,9 +8,9 @@ use mathlib.Core.List.{[], _∷_}
 use Rattle.mesh.specs.declared.Counts.{Counts}
 use Rattle.mesh.specs.Mesh.{Links, In, to}
 use Rattle.mesh.specs.Operations.{faceAdjacent, withVertex}
-use Rattle.mesh.specs.Wf.{Wf}
+use Rattle.mesh.specs.LinkRules.{LinkRules}
 use Rattle.mesh.specs.Cases.{Differ, differ}
-use Rattle.mesh.specs.Triangle.{Outer, p-e, p-n, e-n}
+use Rattle.mesh.specs.Triangle.{Outer, link-p-e, link-e-n}
 use Rattle.sums.specs.Cases.{None}
 use Rattle.sums.specs.Half.{rev}
 use Rattle.sums.specs.Put.{put-same, stores}
@@ -62,7 +62,6 @@ pub record FaceAdjacent (C C′ : Counts) (L L′ : Links) (p e n a a′ b b′ 
 -- the numbers at which the operation stores
 record Apart (p e n a a′ b b′ : ℕ) : Type 0 where
   pe : Differ p e
-  pn : Differ p n
   en : Differ e n
   ap′ : Differ a p
   ae : Differ a e
@@ -83,7 +82,7 @@ record Apart (p e n a a′ b b′ : ℕ) : Type 0 where
   a′b′ : Differ a′ b′
   bb′ : Differ b b′
 
-module _ {C : Counts} {L : Links} {p e n q : ℕ} (W : Wf C L) (A : Outer C L p e n q) where
+module _ {C : Counts} {L : Links} {p e n q : ℕ} (W : LinkRules C L) (A : Outer C L p e n q) where
   abbrev a : ℕ
   a = 2 * C .edges
 
@@ -92,9 +91,8 @@ module _ {C : Counts} {L : Links} {p e n q : ℕ} (W : Wf C L) (A : Outer C L p 
 
   apart : Apart p e n a (a + 1) b (b + 1)
   apart = record {
-    pe = differ (p-e W A);
-    pn = differ (p-n W A);
-    en = differ (e-n W A);
+    pe = differ (link-p-e W A);
+    en = differ (link-e-n W A);
     ap′ = differ (omega arith);
     ae = differ (omega arith);
     an = differ (omega arith);

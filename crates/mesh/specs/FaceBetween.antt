@@ -8,9 +8,9 @@ use mathlib.Core.List.{[], _∷_}
 use Rattle.mesh.specs.declared.Counts.{Counts}
 use Rattle.mesh.specs.Mesh.{Links, In, to}
 use Rattle.mesh.specs.Operations.{faceBetween, withFace}
-use Rattle.mesh.specs.Wf.{Wf}
+use Rattle.mesh.specs.LinkRules.{LinkRules}
 use Rattle.mesh.specs.Cases.{Differ, differ}
-use Rattle.mesh.specs.Triangle.{Outer, p-e, p-n, e-n, e-q, n-q}
+use Rattle.mesh.specs.Triangle.{Outer, link-p-e, link-e-n, link-n-q}
 use Rattle.sums.specs.Cases.{None}
 use Rattle.sums.specs.Half.{rev, rev-even, rev-odd}
 use Rattle.sums.specs.Put.{stores}
@@ -66,15 +66,15 @@ record Apart (p e n q i o g : ℕ) : Type 0 where
   oq : Differ o q
   og : Differ 0 g
 
-module _ {C : Counts} {L : Links} {p e n q : ℕ} (W : Wf C L) (A : Outer C L p e n q) (four : p ≢ q) where
+module _ {C : Counts} {L : Links} {p e n q : ℕ} (W : LinkRules C L) (A : Outer C L p e n q) (pn : p ≢ n) (eq : e ≢ q) (four : p ≢ q) where
   apart : Apart p e n q (2 * C .edges) (2 * C .edges + 1) (C .faces)
   apart = record {
-    pe = differ (p-e W A);
-    pn = differ (p-n W A);
+    pe = differ (link-p-e W A);
+    pn = differ pn;
     pq = differ four;
-    en = differ (e-n W A);
-    eq = differ (e-q W A);
-    nq = differ (n-q W A);
+    en = differ (link-e-n W A);
+    eq = differ eq;
+    nq = differ (link-n-q W A);
     ip = differ (omega arith);
     ie = differ (omega arith);
     in′ = differ (omega arith);

@@ -6,8 +6,10 @@ use mathlib.Core.Path.{_≡_, refl, sym, _∙_}
 use mathlib.Core.Logic.{_⊎_, ⊎-elim, inl, inr}
 use Rattle.mesh.specs.declared.Counts.{Counts}
 use Rattle.mesh.specs.Mesh.{Links, In, to, turn}
+use Rattle.mesh.specs.LinkRules.{LinkRules}
+use Rattle.mesh.specs.LinkRulesWf.{link-rules}
 use Rattle.mesh.specs.Wf.{Wf}
-use Rattle.mesh.specs.Triangle.{Triangle, triangle, rev-in}
+use Rattle.mesh.specs.Triangle.{Triangle, link-triangle, triangle, rev-in}
 use Rattle.sums.specs.Iterate.{Reach, reach-by}
 
 -- the half-edge x keeps its links and its two ends
@@ -63,6 +65,20 @@ boundary-trans a b = record {
 pub same-corners : {L L′ : Links} {f a b c : ℕ} → SameFace L L′ f → Corners L f a b c → Corners L′ f a b c
 same-corners s k = let u = s .first in let v = s .second in let w = s .third in record { first = cc; second = cc; third = cc }
 
+module _ {C : Counts} {L : Links} (W : LinkRules C L) where
+  -- an inner face keeps its half-edges, where inner half-edges keep their links
+  pub kept-face : {L′ : Links} → ((x : ℕ) → In C x → 0 < L .face x → Keeps L L′ x) → {f : ℕ} → 0 < f → f < C .faces
+      → L′ .adjacent f ≡ L .adjacent f → SameFace L L′ f
+  kept-face k {f} z l a =
+      let i : 0 < L .face (L .adjacent f) = rw (W .faces .stored l) z in
+      let T = link-triangle W (W .ranges .adjacent< l) i in
+      record { adjacent = a; first = k _ (T .in-a) i; second = k _ (T .in-b) (rw (T .face-b) i); third = k _ (T .in-c) (rw (T .face-c) i) }
+
+  -- half-edges about one vertex meet each other still, where each comes to the one that it turned to
+  pub link-still-round : (L′ : Links) → ((x : ℕ) → In C x → Reach (turn L′) x (turn L x)) → {x y : ℕ} → In C x → In C y
+      → L .origin x ≡ L .origin y → Reach (turn L′) x y
+  link-still-round L′ t h k p = reach-by (In C) (λ z. z) (λ z l. rev-in C (W .ranges .prev< l)) t h (W .about .round h k p)
+
 module _ {C : Counts} {L : Links} (W : Wf C L) where
   -- what is the same for the three corners of a face from whichever of them on is found at any of its half-edges
   pub by-corners : {X : Type 0} (A : ℕ → ℕ → ℕ → X) → ((a b c : ℕ) → A a b c ≡ A b c a) → {e : ℕ} → In C e
@@ -82,15 +98,6 @@ module _ {C : Counts} {L : Links} (W : Wf C L) where
       go T (inr (inl p)) = cc (k .first, k .second, k .third, r a b c)
       go T (inr (inr p)) = cc (k .first, k .second, k .third, r c a b)
 
-  -- an inner face keeps its half-edges, where inner half-edges keep their links
-  pub kept-face : {L′ : Links} → ((x : ℕ) → In C x → 0 < L .face x → Keeps L L′ x) → {f : ℕ} → 0 < f → f < C .faces
-      → L′ .adjacent f ≡ L .adjacent f → SameFace L L′ f
-  kept-face k {f} z l a =
-      let i : 0 < L .face (L .adjacent f) = rw (W .faces .stored l) z in
-      let T = triangle W (W .ranges .adjacent< l) i in
-      record { adjacent = a; first = k _ (T .in-a) i; second = k _ (T .in-b) (rw (T .face-b) i); third = k _ (T .in-c) (rw (T .face-c) i) }
-
-  -- half-edges about one vertex meet each other still, where each comes to the one that it turned to
   pub still-round : (L′ : Links) → ((x : ℕ) → In C x → Reach (turn L′) x (turn L x)) → {x y : ℕ} → In C x → In C y
       → L .origin x ≡ L .origin y → Reach (turn L′) x y
-  still-round L′ t h k p = reach-by (In C) (λ z. z) (λ z l. rev-in C (W .ranges .prev< l)) t h (W .about .round h k p)
+  still-round = link-still-round (link-rules W)

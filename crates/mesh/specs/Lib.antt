@@ -2,6 +2,8 @@
 pub mod Mesh
 pub mod Operations
 pub mod Wf
+pub mod LinkRules
+pub mod LinkRulesWf
 pub mod Cases
 pub mod Triangle
 pub mod Frame

@@ -1,4 +1,6 @@
--- `create_new_face_adjacent_to_edge` at an outer half-edge, with a new vertex, keeps the rules. Assumes nothing.
+-- `create_new_face_adjacent_to_edge` at an outer half-edge, with a new vertex, keeps the rules: those of the links, and
+-- each of the two others. The half-edge before and the one after may be the same: so it is on a line of two points.
+-- Assumes nothing.
 use Prim.Native.Nat.{ℕ, _+_, _*_, _<_}
 use native.Mathlib.Omega.{arith}
 use mathlib.Core.Path.{_≡_, refl, sym, _∙_}
@@ -7,10 +9,12 @@ use mathlib.Core.List.{List, [], _∷_}
 use Rattle.mesh.specs.declared.Counts.{Counts}
 use Rattle.mesh.specs.Mesh.{Links, In, to, turn}
 use Rattle.mesh.specs.Operations.{createNewFaceAdjacentToEdge, withVertex}
-use Rattle.mesh.specs.Wf.{Wf, Ranges, Linked, Faces, Vertices}
+use Rattle.mesh.specs.Wf.{Wf, Ranges, Linked, Vertices}
+use Rattle.mesh.specs.LinkRules.{LinkRules, FaceCycles, Wide, Sided}
+use Rattle.mesh.specs.LinkRulesWf.{link-rules, wide-of, sided-of, wf-of-links}
 use Rattle.mesh.specs.Cases.{over}
-use Rattle.mesh.specs.Frame.{Keeps, SameFace, Corners, kept-face, still-round}
-use Rattle.mesh.specs.Triangle.{Outer, outer, p-e, p-n, e-n, rev-in}
+use Rattle.mesh.specs.Frame.{Keeps, SameFace, Corners, kept-face, link-still-round}
+use Rattle.mesh.specs.Triangle.{Outer, link-outer, link-p-e, link-e-n, rev-in}
 use Rattle.mesh.specs.FaceAdjacent.{FaceAdjacent, face-adjacent}
 use Rattle.sums.specs.Cases.{All, None, each}
 use Rattle.sums.specs.Half.{rev, rev-rev}
@@ -46,7 +50,7 @@ pub record NewFaceFrame (C C′ : Counts) (L L′ : Links) (p e n a a′ b b′ 
 below : {x m a a′ b b′ : ℕ} → a ≡ m → a′ ≡ m + 1 → b ≡ m + 2 → b′ ≡ m + 3 → x < m + 4 → x ≢ a → x ≢ a′ → x ≢ b → x ≢ b′ → x < m
 below p q r s h i j k l = omega arith
 
-module _ {C C′ : Counts} {L L′ : Links} {p e n q a a′ b b′ : ℕ} (W : Wf C L) (A : Outer C L p e n q)
+module _ {C C′ : Counts} {L L′ : Links} {p e n q a a′ b b′ : ℕ} (W : LinkRules C L) (A : Outer C L p e n q)
     (F : FaceAdjacent C C′ L L′ p e n a a′ b b′) where
   abbrev new : List ℕ
   new = a ∷ a′ ∷ b ∷ b′ ∷ []
@@ -73,10 +77,10 @@ module _ {C C′ : Counts} {L L′ : Links} {p e n q a a′ b b′ : ℕ} (W : W
   face-old h c = let k = old h in F .face-rest (k .0, (k .1 .0, (k .1 .1 .0, (k .1 .1 .1 .0, (c, tt)))))
 
   face-p′ : L′ .face p ≡ 0
-  face-p′ = face-old (A .in-p) (p-e W A) ∙ A .face-p
+  face-p′ = face-old (A .in-p) (link-p-e W A) ∙ A .face-p
 
   face-n′ : L′ .face n ≡ 0
-  face-n′ = face-old (A .in-n) (λ k. e-n W A (sym k)) ∙ A .face-n
+  face-n′ = face-old (A .in-n) (λ k. link-e-n W A (sym k)) ∙ A .face-n
 
   links : Linked C′ L′
   links = let fp = face-p′ in let fn = face-n′ in let op = far p (A .in-p) in let oe = far e (A .in-e) in let on = far n (A .in-n) in record {
@@ -141,7 +145,7 @@ module _ {C C′ : Counts} {L L′ : Links} {p e n q a a′ b b′ : ℕ} (W : W
   past-rest {x} c = put-other _ e b′ x c
 
   walks : (x : ℕ) → In C x → Reach (L′ .next) (past x) (past (L .next x))
-  walks = let c = past-e in let d = past-rest (p-e W A) in let f = past-rest (λ k. e-n W A (sym k)) in
+  walks = let c = past-e in let d = past-rest (link-p-e W A) in let f = past-rest (λ k. link-e-n W A (sym k)) in
       each {P = λ x. In C x → Reach (L′ .next) (past x) (past (L .next x))} (p ∷ e ∷ []) (λ _. reach-one (cc), (λ _. reach-two (cc), tt))
       (λ x k h. let c = W .links .prev-next h in let d = past-rest (k .1 .0) in let f = next-old h (k .0) (k .1 .0) in
       let g = past-rest (λ (m : L .next x ≡ e). k .0 (cc)) in reach-one (cc))
@@ -151,7 +155,7 @@ module _ {C C′ : Counts} {L L′ : Links} {p e n q a a′ b b′ : ℕ} (W : W
   Met R x = (y : ℕ) × In C y × (L .face y ≡ 0) × R x (past y)
 
   leads : {x : ℕ} → In C′ x → L′ .face x ≡ 0 → Met (λ x y. Reach (L′ .next) x y) x
-  leads {x} h z = let c = past-e in let f = past-rest (λ k. e-n W A (sym k)) in
+  leads {x} h z = let c = past-e in let f = past-rest (λ k. link-e-n W A (sym k)) in
       every (λ x. L′ .face x ≡ 0 → Met (λ x y. Reach (L′ .next) x y) x) []
       (λ z. absurd (omega (arith, W .some)), (λ z. (n, A .in-n, A .face-n, reach-one (cc)), (λ z. absurd (omega (arith, W .some)), (λ z. (e, A .in-e, A .face-e, reach-at (cc)), tt)))) tt
       (λ x h k z. let w = outer-was h z in (x, h, w .0, reach-at (sym (past-rest (w .1))))) h z
@@ -162,7 +166,7 @@ module _ {C C′ : Counts} {L L′ : Links} {p e n q a a′ b b′ : ℕ} (W : W
       (λ z. absurd (omega (arith, W .some)), (λ z. (e, A .in-e, A .face-e, reach-one (cc)), (λ z. absurd (omega (arith, W .some)), (λ z. (e, A .in-e, A .face-e, reach-at (cc)), tt)))) tt
       (λ x h k z. let w = outer-was h z in (x, h, w .0, reach-at (past-rest (w .1)))) h z
 
-  faces : Faces C′ L′
+  faces : FaceCycles C′ L′
   faces = record {
     stored = λ {f} h. each {P = λ f. f < C′ .faces → L′ .face (L′ .adjacent f) ≡ f} (0 ∷ C .faces ∷ []) (λ _. cc, (λ _. cc, tt))
         (λ f k h. let l : f < C .faces = omega (arith, k .1 .0) in let s = W .faces .stored l in let c = F .adjacent-rest (k .0) (k .1 .0) in
@@ -179,21 +183,6 @@ module _ {C C′ : Counts} {L L′ : Links} {p e n q a a′ b b′ : ℕ} (W : W
         ⊎-elim (λ w. inl (cc)) (⊎-elim (λ w. inr (inl (cc))) (λ w. inr (inr (cc)))) (W .faces .inner h g));
     outer = λ {d = x} {e = y} h k c d. let v = leads h c in let w = comes k d in
         reach-trans (v .3) (reach-trans (reach-by (In C) past (λ z l. W .ranges .next< l) walks (v .1) (W .faces .outer (v .1) (w .1) (v .2) (w .2))) (w .3));
-    wide = λ {e = x} h z. every (λ x. L′ .face x ≡ 0 → L′ .next (L′ .next x) ≢ x) (p ∷ []) (
-      λ z. absurd (omega (arith, W .some)),
-      (
-        λ z m. let c = next-old (A .in-n) (λ k. p-n W A (sym k)) (λ k. e-n W A (sym k)) in old (W .ranges .next< (A .in-n)) .1 .0 (cc),
-        (λ z. absurd (omega (arith, W .some)), (λ z m. old (A .in-n) .1 .1 .1 .0 (cc), tt)),
-      ),
-    )
-        (λ z m. old (A .in-p) .1 .0 (cc), tt)
-        (λ x h k z m. let w = outer-was h z in let c = next-old h (k .0) (w .1) in let d = W .links .prev-next h in
-        each {P = λ y. L .next x ≡ y → L′ .next y ≢ x} (p ∷ []) (λ _ m. old h .1 .1 .1 .0 (cc), tt)
-        (λ y l r m. let f : L′ .next (L .next x) ≡ L .next (L .next x) = next-old (W .ranges .next< h) (λ t. l .0 (cc)) (λ t. k .0 (cc)) in
-        W .faces .wide h (w .0) (cc)) (L .next x) refl (cc)) h z;
-    side = λ {e = x} h z. every (λ x. L′ .face x ≡ 0 → 0 < L′ .face (rev x)) []
-        (λ z. absurd (omega (arith, W .some)), (λ z. rw (F .rev-a′, F .face-a) (W .some), (λ z. absurd (omega (arith, W .some)), (λ z. rw (F .rev-b′, F .face-b) (W .some), tt)))) tt
-        (λ x h k z. let s = W .faces .side h (outer-was h z .0) in rw (keeps _ (rev-in C h) s .face) s) h z;
   }
 
   turns : (x : ℕ) → In C x → Reach (turn L′) x (turn L x)
@@ -219,7 +208,7 @@ module _ {C C′ : Counts} {L L′ : Links} {p e n q a a′ b b′ : ℕ} (W : W
   meet (inl c) (inl d) r = reach-trans (c .1) (d .2)
   meet (inl c) (inr d) r = absurd (omega (arith, W .ranges .origin< (d .2)))
   meet (inr c) (inl d) r = absurd (omega (arith, W .ranges .origin< (c .2)))
-  meet (inr c) (inr d) r = reach-trans (c .6) (reach-trans (still-round W L′ turns (c .2) (d .3) (c .4 ∙ r ∙ sym (d .5))) (d .7))
+  meet (inr c) (inr d) r = reach-trans (c .6) (reach-trans (link-still-round W L′ turns (c .2) (d .3) (c .4 ∙ r ∙ sym (d .5))) (d .7))
 
   about : Vertices C′ L′
   about = record {
@@ -228,8 +217,34 @@ module _ {C C′ : Counts} {L L′ : Links} {p e n q a a′ b b′ : ℕ} (W : W
     round = λ {d = x} {e = y} h k r. meet (kind h) (kind k) r;
   }
 
-  pub adjacent-keeps : Wf C′ L′
+  pub adjacent-keeps : LinkRules C′ L′
   adjacent-keeps = record { ranges = ranges; links = links; faces = faces; about = about; euler = omega (arith, W .euler); some = omega arith }
+
+  -- the two rules that a line breaks, where they held
+  pub adjacent-wide : Wide C L → Wide C′ L′
+  adjacent-wide w x h z = every (λ x. L′ .face x ≡ 0 → L′ .next (L′ .next x) ≢ x) (p ∷ []) (
+    λ z. absurd (omega (arith, W .some)),
+    (
+      λ z m. let c = next-old (A .in-n) (λ k. w p (A .in-p) (A .face-p) (cc)) (λ k. link-e-n W A (sym k)) in
+          old (W .ranges .next< (A .in-n)) .1 .0 (cc),
+      (λ z. absurd (omega (arith, W .some)), (λ z m. old (A .in-n) .1 .1 .1 .0 (cc), tt)),
+    ),
+  )
+      (λ z m. old (A .in-p) .1 .0 (cc), tt)
+      (λ x h k z m. let o = outer-was h z in let c = next-old h (k .0) (o .1) in let d = W .links .prev-next h in
+      each {P = λ y. L .next x ≡ y → L′ .next y ≢ x} (p ∷ []) (λ _ m. old h .1 .1 .1 .0 (cc), tt)
+      (λ y l r m. let f : L′ .next (L .next x) ≡ L .next (L .next x) = next-old (W .ranges .next< h) (λ t. l .0 (cc)) (λ t. k .0 (cc)) in
+      w x h (o .0) (cc)) (L .next x) refl (cc)) h z
+
+  pub adjacent-sided : Sided C L → Sided C′ L′
+  adjacent-sided s x h z = every (λ x. L′ .face x ≡ 0 → 0 < L′ .face (rev x)) [] (
+    λ z. absurd (omega (arith, W .some)),
+    (
+      λ z. rw (F .rev-a′, F .face-a) (W .some),
+      (λ z. absurd (omega (arith, W .some)), (λ z. rw (F .rev-b′, F .face-b) (W .some), tt)),
+    ),
+  ) tt
+      (λ x h k z. let i = s x h (outer-was h z .0) in rw (keeps _ (rev-in C h) i .face) i) h z
 
   pub adjacent-frame : NewFaceFrame C C′ L L′ p e n a a′ b b′
   adjacent-frame = let oe = far e (A .in-e) in record {
@@ -259,15 +274,17 @@ module _ {C C′ : Counts} {L L′ : Links} {p e n q a a′ b b′ : ℕ} (W : W
         (λ x h k z. let w = outer-was h z in inr (inr (h, w .0, w .1))) h z;
   }
 
-module _ {C : Counts} {L : Links} (W : Wf C L) {e : ℕ} (h : In C e) (z : L .face e ≡ 0) where
+module _ {C : Counts} {L : Links} (W : LinkRules C L) {e : ℕ} (h : In C e) (z : L .face e ≡ 0) where
   pub new-face-is : FaceAdjacent C (withVertex C) L (createNewFaceAdjacentToEdge L C e) (L .prev e) e (L .next e)
       (2 * C .edges) (2 * C .edges + 1) (2 * C .edges + 2) (2 * C .edges + 2 + 1)
   unfolding createNewFaceAdjacentToEdge
-  new-face-is = face-adjacent W (outer W h z)
+  new-face-is = face-adjacent W (link-outer W h z)
 
+module _ {C : Counts} {L : Links} (W : Wf C L) {e : ℕ} (h : In C e) (z : L .face e ≡ 0) where
   pub new-face-keeps : Wf (withVertex C) (createNewFaceAdjacentToEdge L C e)
-  new-face-keeps = adjacent-keeps W (outer W h z) new-face-is
+  new-face-keeps = let R = link-rules W in let A = link-outer R h z in let F = new-face-is R h z in
+      wf-of-links (adjacent-keeps R A F) (adjacent-wide R A F (wide-of W)) (adjacent-sided R A F (sided-of W))
 
   pub new-face-frame : NewFaceFrame C (withVertex C) L (createNewFaceAdjacentToEdge L C e) (L .prev e) e (L .next e)
       (2 * C .edges) (2 * C .edges + 1) (2 * C .edges + 2) (2 * C .edges + 2 + 1)
-  new-face-frame = adjacent-frame W (outer W h z) new-face-is
+  new-face-frame = let R = link-rules W in adjacent-frame R (link-outer R h z) (new-face-is R h z)

@@ -1,5 +1,6 @@
--- `create_single_face_between_edge_and_next` at an outer half-edge keeps the rules, where the boundary has at least
--- four edges: it has one less afterwards.
+-- `create_single_face_between_edge_and_next` at an outer half-edge keeps the rules: those of the links, and each of the two
+-- others, where the half-edges around it on the boundary differ. In a mesh they do when the boundary has at least four
+-- edges: it has one less afterwards.
 -- Assumes nothing.
 use Prim.Native.Nat.{ℕ, _+_, _*_, _<_}
 use native.Mathlib.Omega.{arith}
@@ -9,10 +10,12 @@ use mathlib.Core.List.{List, [], _∷_}
 use Rattle.mesh.specs.declared.Counts.{Counts}
 use Rattle.mesh.specs.Mesh.{Links, In, to, turn}
 use Rattle.mesh.specs.Operations.{createSingleFaceBetweenEdgeAndNext, withFace}
-use Rattle.mesh.specs.Wf.{Wf, Ranges, Linked, Faces, Vertices}
+use Rattle.mesh.specs.Wf.{Wf, Ranges, Linked, Vertices}
+use Rattle.mesh.specs.LinkRules.{LinkRules, FaceCycles, Wide, Sided}
+use Rattle.mesh.specs.LinkRulesWf.{link-rules, wide-of, sided-of, wf-of-links}
 use Rattle.mesh.specs.Cases.{over}
-use Rattle.mesh.specs.Frame.{Keeps, SameFace, Corners, kept-face, still-round}
-use Rattle.mesh.specs.Triangle.{Outer, outer, p-e, p-n, e-n, e-q, n-q, rev-in}
+use Rattle.mesh.specs.Frame.{Keeps, SameFace, Corners, kept-face, link-still-round}
+use Rattle.mesh.specs.Triangle.{Outer, link-outer, link-p-e, link-e-n, link-n-q, p-n, e-q, rev-in}
 use Rattle.mesh.specs.FaceBetween.{FaceBetween, face-between}
 use Rattle.sums.specs.Cases.{All, None, each}
 use Rattle.sums.specs.Half.{rev, rev-rev}
@@ -39,15 +42,20 @@ pub record SingleFaceFrame (C C′ : Counts) (L L′ : Links) (p e n q i o : ℕ
   pub prev-rest : {x : ℕ} → In C x → x ≢ e → x ≢ q → L′ .prev x ≡ L .prev x
   pub was : {x : ℕ} → In C′ x → L′ .face x ≡ 0 → (x ≡ o) ⊎ (In C x × (L .face x ≡ 0) × (x ≢ e) × (x ≢ n))
 
-module _ {C C′ : Counts} {L L′ : Links} {p e n q i o : ℕ} (W : Wf C L) (A : Outer C L p e n q)
-    (F : FaceBetween C C′ L L′ p e n q i o) (four : p ≢ q) where
+-- what is below m + 2 and none of the two from m on is below m
+below : {x m i o : ℕ} → i ≡ m → o ≡ m + 1 → x < m + 2 → x ≢ i → x ≢ o → x < m
+below p q h j k = omega arith
+
+module _ {C C′ : Counts} {L L′ : Links} {p e n q i o : ℕ} (W : LinkRules C L) (A : Outer C L p e n q)
+    (F : FaceBetween C C′ L L′ p e n q i o) (pn : p ≢ n) (eq : e ≢ q) (four : p ≢ q) where
   -- an old half-edge is none of the two new ones
   old : {x : ℕ} → In C x → (x ≢ i) × (x ≢ o)
   old h = (omega arith, omega arith)
 
   -- a statement of every half-edge: at the new ones, at some of the old, and at the other old ones
   every : (P : ℕ → Type 0) (l : List ℕ) → P i → P o → All P l → ((x : ℕ) → In C x → None x l → P x) → {x : ℕ} → In C′ x → P x
-  every P l pi po a f h = over P (2 * C .edges) (2 * C′ .edges) (i ∷ o ∷ []) l (λ x h k. omega (arith, k .0, k .1 .0)) (pi, (po, tt)) a f h
+  every P l pi po a f h = over P (2 * C .edges) (2 * C′ .edges) (i ∷ o ∷ []) l
+      (λ x h k. below (F .i-is) (F .o-is) (omega arith) (k .0) (k .1 .0)) (pi, (po, tt)) a f h
 
   far : (x : ℕ) → In C x → (L′ .origin x ≡ L .origin x) × (L′ .origin (rev x) ≡ L .origin (rev x))
   far x h = let k = old h in let l = old (rev-in C h) in (F .origin-rest (k .0, (k .1, tt)), F .origin-rest (l .0, (l .1, tt)))
@@ -62,16 +70,16 @@ module _ {C C′ : Counts} {L L′ : Links} {p e n q i o : ℕ} (W : Wf C L) (A 
   face-old h a b = let k = old h in F .face-rest (k .0, (k .1, (a, (b, tt))))
 
   next-e′ : L′ .next e ≡ n
-  next-e′ = next-old (A .in-e) (λ k. p-e W A (sym k)) (e-n W A) ∙ A .next-e
+  next-e′ = next-old (A .in-e) (λ k. link-p-e W A (sym k)) (link-e-n W A) ∙ A .next-e
 
   prev-n′ : L′ .prev n ≡ e
-  prev-n′ = prev-old (A .in-n) (λ k. e-n W A (sym k)) (n-q W A) ∙ A .prev-n
+  prev-n′ = prev-old (A .in-n) (λ k. link-e-n W A (sym k)) (link-n-q W A) ∙ A .prev-n
 
   face-p′ : L′ .face p ≡ 0
-  face-p′ = face-old (A .in-p) (p-e W A) (p-n W A) ∙ A .face-p
+  face-p′ = face-old (A .in-p) (link-p-e W A) pn ∙ A .face-p
 
   face-q′ : L′ .face q ≡ 0
-  face-q′ = face-old (A .in-q) (λ k. e-q W A (sym k)) (λ k. n-q W A (sym k)) ∙ A .face-q
+  face-q′ = face-old (A .in-q) (λ k. eq (sym k)) (λ k. link-n-q W A (sym k)) ∙ A .face-q
 
   links : Linked C′ L′
   links = let ne′ = next-e′ in let pn′ = prev-n′ in let fp = face-p′ in let fq = face-q′ in
@@ -130,14 +138,14 @@ module _ {C C′ : Counts} {L L′ : Links} {p e n q i o : ℕ} (W : Wf C L) (A 
 
   past-at : (past e ≡ o) × (past n ≡ o)
   unfolding past
-  past-at = (put-same _ e o, put-other _ e o n (λ k. e-n W A (sym k)) ∙ put-same _ n o)
+  past-at = (put-same _ e o, put-other _ e o n (λ k. link-e-n W A (sym k)) ∙ put-same _ n o)
 
   past-rest : {x : ℕ} → x ≢ e → x ≢ n → past x ≡ x
   unfolding past
   past-rest {x} a b = put-other _ e o x a ∙ put-other _ n o x b
 
   walks : (x : ℕ) → In C x → Reach (L′ .next) (past x) (past (L .next x))
-  walks = let a = past-at in let b = past-rest (p-e W A) (p-n W A) in let c = past-rest (λ k. e-q W A (sym k)) (λ k. n-q W A (sym k)) in
+  walks = let a = past-at in let b = past-rest (link-p-e W A) pn in let c = past-rest (λ k. eq (sym k)) (λ k. link-n-q W A (sym k)) in
       each {P = λ x. In C x → Reach (L′ .next) (past x) (past (L .next x))} (p ∷ e ∷ n ∷ []) (λ _. reach-one (cc), (λ _. reach-at (cc), (λ _. reach-one (cc), tt)))
       (λ x k h. let c = W .links .prev-next h in let d = past-rest (k .1 .0) (k .1 .1 .0) in let f = next-old h (k .0) (k .1 .1 .0) in
       let g = past-rest (λ (m : L .next x ≡ e). k .0 (cc)) (λ (m : L .next x ≡ n). k .1 .0 (cc)) in reach-one (cc))
@@ -148,7 +156,7 @@ module _ {C C′ : Counts} {L L′ : Links} {p e n q i o : ℕ} (W : Wf C L) (A 
       (λ z. absurd (omega arith)) (λ z. (e, A .in-e, A .face-e, past-at .0)) tt
       (λ x h k z. let w = outer-was h z in (x, h, w .0, past-rest (w .1 .0) (w .1 .1 .0))) h z
 
-  faces : Faces C′ L′
+  faces : FaceCycles C′ L′
   faces = let ne′ = next-e′ in let pn′ = prev-n′ in let fp = face-p′ in let fq = face-q′ in record {
     stored = λ {f} h. each {P = λ f. f < C′ .faces → L′ .face (L′ .adjacent f) ≡ f} (0 ∷ C .faces ∷ []) (λ _. cc, (λ _. cc, tt))
         (λ f k h. let l : f < C .faces = omega (arith, k .1 .0) in let s = W .faces .stored l in let a = F .adjacent-rest (k .0) (k .1 .0) in
@@ -165,14 +173,6 @@ module _ {C C′ : Counts} {L L′ : Links} {p e n q i o : ℕ} (W : Wf C L) (A 
         ⊎-elim (λ w. inl (cc)) (⊎-elim (λ w. inr (inl (cc))) (λ w. inr (inr (cc)))) (W .faces .inner h g));
     outer = λ {d = x} {e = y} h k a b. let v = from h a in let w = from k b in rw (v .3, w .3) at
         (reach-by (In C) past (λ z l. W .ranges .next< l) walks (v .1) (W .faces .outer (v .1) (w .1) (v .2) (w .2)));
-    wide = λ {e = x} h z. every (λ x. L′ .face x ≡ 0 → L′ .next (L′ .next x) ≢ x) (p ∷ []) (λ z. absurd (omega arith))
-        (λ z m. let a = next-old (A .in-q) (λ k. four (sym k)) (λ k. n-q W A (sym k)) in old (W .ranges .next< (A .in-q)) .1 (cc)) (λ z m. four (cc), tt)
-        (λ x h k z m. let w = outer-was h z in let a = next-old h (k .0) (w .1 .1 .0) in let c = W .links .prev-next h in
-        each {P = λ y. L .next x ≡ y → L′ .next y ≢ x} (p ∷ []) (λ _ m. old h .1 (cc), tt)
-        (λ y l r m. let b : L′ .next (L .next x) ≡ L .next (L .next x) = next-old (W .ranges .next< h) (λ t. l .0 (cc)) (λ t. w .1 .0 (cc)) in
-        W .faces .wide h (w .0) (cc)) (L .next x) refl (cc)) h z;
-    side = λ {e = x} h z. every (λ x. L′ .face x ≡ 0 → 0 < L′ .face (rev x)) [] (λ z. absurd (omega arith)) (λ z. rw (F .o-i, F .face-i) (W .some)) tt
-        (λ x h k z. let s = W .faces .side h (outer-was h z .0) in rw (keeps _ (rev-in C h) s .face) s) h z;
   }
 
   turns : (x : ℕ) → In C x → Reach (turn L′) x (turn L x)
@@ -194,11 +194,26 @@ module _ {C C′ : Counts} {L L′ : Links} {p e n q i o : ℕ} (W : Wf C L) (A 
   about = record {
     based = λ {v} h. let l : v < C .vertices = omega arith in let a = F .out-rest v in let b = far (L .out v) (W .ranges .out< l) in cc (W .about .based l);
     round = λ {d = x} {e = y} h k a. let v = to-old h in let w = from-old k in
-        reach-trans (v .3) (reach-trans (still-round W L′ turns (v .1) (w .1) (v .2 ∙ a ∙ sym (w .2))) (w .3));
+        reach-trans (v .3) (reach-trans (link-still-round W L′ turns (v .1) (w .1) (v .2 ∙ a ∙ sym (w .2))) (w .3));
   }
 
-  pub between-keeps : Wf C′ L′
+  pub between-keeps : LinkRules C′ L′
   between-keeps = record { ranges = ranges; links = links; faces = faces; about = about; euler = omega (arith, W .euler); some = omega arith }
+
+  -- the two rules that a line breaks, where they held
+  pub between-wide : Wide C L → Wide C′ L′
+  between-wide w x h z = every (λ x. L′ .face x ≡ 0 → L′ .next (L′ .next x) ≢ x) (p ∷ []) (λ z. absurd (omega arith))
+      (λ z m. let a = next-old (A .in-q) (λ k. four (sym k)) (λ k. link-n-q W A (sym k)) in old (W .ranges .next< (A .in-q)) .1 (cc))
+      (λ z m. four (cc), tt)
+      (λ x h k z m. let r = outer-was h z in let a = next-old h (k .0) (r .1 .1 .0) in let c = W .links .prev-next h in
+      each {P = λ y. L .next x ≡ y → L′ .next y ≢ x} (p ∷ []) (λ _ m. old h .1 (cc), tt)
+      (λ y l s m. let b : L′ .next (L .next x) ≡ L .next (L .next x) = next-old (W .ranges .next< h) (λ t. l .0 (cc)) (λ t. r .1 .0 (cc)) in
+      w x h (r .0) (cc)) (L .next x) refl (cc)) h z
+
+  pub between-sided : Sided C L → Sided C′ L′
+  between-sided s x h z = every (λ x. L′ .face x ≡ 0 → 0 < L′ .face (rev x)) []
+      (λ z. absurd (omega arith)) (λ z. rw (F .o-i, F .face-i) (W .some)) tt
+      (λ x h k z. let j = s x h (outer-was h z .0) in rw (keeps _ (rev-in C h) j .face) j) h z
 
   pub between-frame : SingleFaceFrame C C′ L L′ p e n q i o
   between-frame = let ne′ = next-e′ in let oe = far e (A .in-e) in let on = far n (A .in-n) in record {
@@ -222,15 +237,22 @@ module _ {C C′ : Counts} {L L′ : Links} {p e n q i o : ℕ} (W : Wf C L) (A 
         (λ z. absurd (omega (arith, W .some))) (λ z. inl refl) tt (λ x h k z. let w = outer-was h z in inr (h, w .0, w .1 .0, w .1 .1 .0)) h z;
   }
 
-module _ {C : Counts} {L : Links} (W : Wf C L) {e : ℕ} (h : In C e) (z : L .face e ≡ 0) (four : L .prev e ≢ L .next (L .next e)) where
+module _ {C : Counts} {L : Links} (W : LinkRules C L) {e : ℕ} (h : In C e) (z : L .face e ≡ 0) (pn : L .prev e ≢ L .next e)
+    (eq : e ≢ L .next (L .next e)) (four : L .prev e ≢ L .next (L .next e)) where
   pub single-face-is : FaceBetween C (withFace C) L (createSingleFaceBetweenEdgeAndNext L C e) (L .prev e) e
       (L .next e) (L .next (L .next e)) (2 * C .edges) (2 * C .edges + 1)
   unfolding createSingleFaceBetweenEdgeAndNext
-  single-face-is = face-between W (outer W h z) four
+  single-face-is = face-between W (link-outer W h z) pn eq four
 
+module _ {C : Counts} {L : Links} (W : Wf C L) {e : ℕ} (h : In C e) (z : L .face e ≡ 0) (four : L .prev e ≢ L .next (L .next e)) where
   pub single-face-keeps : Wf (withFace C) (createSingleFaceBetweenEdgeAndNext L C e)
-  single-face-keeps = between-keeps W (outer W h z) single-face-is four
+  single-face-keeps =
+      let R = link-rules W in let A = link-outer R h z in let pn = p-n W A in let eq = e-q W A in
+      let F = single-face-is R h z pn eq four in
+      wf-of-links (between-keeps R A F pn eq four) (between-wide R A F pn eq four (wide-of W)) (between-sided R A F pn eq four (sided-of W))
 
   pub single-face-frame : SingleFaceFrame C (withFace C) L (createSingleFaceBetweenEdgeAndNext L C e) (L .prev e) e
       (L .next e) (L .next (L .next e)) (2 * C .edges) (2 * C .edges + 1)
-  single-face-frame = between-frame W (outer W h z) single-face-is four
+  single-face-frame =
+      let R = link-rules W in let A = link-outer R h z in let pn = p-n W A in let eq = e-q W A in
+      between-frame R A (single-face-is R h z pn eq four) pn eq four

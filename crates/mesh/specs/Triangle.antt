@@ -1,9 +1,12 @@
--- The three half-edges of an inner face, and four half-edges of the outer face, each after the one before. Assumes nothing.
+-- The three half-edges of an inner face, and four half-edges of the outer face, each after the one before. The laws whose
+-- names begin with `link` need the links' rules alone. Assumes nothing.
 use Prim.Native.Nat.{ℕ, _<_}
 use mathlib.Core.Path.{_≡_, refl, sym, _∙_}
 use mathlib.Core.Logic.{_≢_, _⊎_, ⊎-elim, inl, inr}
 use Rattle.mesh.specs.declared.Counts.{Counts}
 use Rattle.mesh.specs.Mesh.{Links, In, to}
+use Rattle.mesh.specs.LinkRules.{LinkRules}
+use Rattle.mesh.specs.LinkRulesWf.{link-rules}
 use Rattle.mesh.specs.Wf.{Wf}
 use Rattle.sums.specs.Half.{rev, rev-rev, rev-ne, rev-below}
 
@@ -46,9 +49,9 @@ next-triangle t = record {
   to-c = t .to-a;
 }
 
-module _ {C : Counts} {L : Links} (W : Wf C L) where
-  pub triangle : {x : ℕ} → In C x → 0 < L .face x → Triangle C L x (L .next x) (L .prev x)
-  triangle {x} h f =
+module _ {C : Counts} {L : Links} (W : LinkRules C L) where
+  pub link-triangle : {x : ℕ} → In C x → 0 < L .face x → Triangle C L x (L .next x) (L .prev x)
+  link-triangle {x} h f =
       let nx = W .ranges .next< h in
       let px = W .ranges .prev< h in
       let nn = W .faces .three h f in
@@ -71,6 +74,10 @@ module _ {C : Counts} {L : Links} (W : Wf C L) where
         to-b = cc (W .links .origin-next nx);
         to-c = cc;
       }
+
+module _ {C : Counts} {L : Links} (W : Wf C L) where
+  pub triangle : {x : ℕ} → In C x → 0 < L .face x → Triangle C L x (L .next x) (L .prev x)
+  triangle = link-triangle (link-rules W)
 
   -- two half-edges of one inner face
   pub same-face : {x y : ℕ} → In C x → In C y → 0 < L .face x → L .face x ≡ L .face y
@@ -125,8 +132,9 @@ pub record Outer (C : Counts) (L : Links) (p e n q : ℕ) : Type 0 where
   pub to-e : to L e ≡ L .origin n
   pub to-n : to L n ≡ L .origin q
 
-pub outer : {C : Counts} {L : Links} → Wf C L → {e : ℕ} → In C e → L .face e ≡ 0 → Outer C L (L .prev e) e (L .next e) (L .next (L .next e))
-outer {C} {L} W {e} h z =
+pub link-outer : {C : Counts} {L : Links} → LinkRules C L → {e : ℕ} → In C e → L .face e ≡ 0
+    → Outer C L (L .prev e) e (L .next e) (L .next (L .next e))
+link-outer {C} {L} W {e} h z =
     let hp = W .ranges .prev< h in
     let hn = W .ranges .next< h in
     let np = W .links .next-prev h in
@@ -154,16 +162,30 @@ outer {C} {L} W {e} h z =
       to-n = sym (W .links .origin-next hn);
     }
 
+pub outer : {C : Counts} {L : Links} → Wf C L → {e : ℕ} → In C e → L .face e ≡ 0 → Outer C L (L .prev e) e (L .next e) (L .next (L .next e))
+outer W = link-outer (link-rules W)
+
+-- each differs from its next
+module _ {C : Counts} {L : Links} {p e n q : ℕ} (W : LinkRules C L) (A : Outer C L p e n q) where
+  pub link-p-e : p ≢ e
+  link-p-e k = W .faces .apart (A .in-p) (cc)
+
+  pub link-e-n : e ≢ n
+  link-e-n k = W .faces .apart (A .in-e) (cc)
+
+  pub link-n-q : n ≢ q
+  link-n-q k = W .faces .apart (A .in-n) (cc)
+
 -- the four differ, but for p and q: these are one where the boundary has three edges
 module _ {C : Counts} {L : Links} {p e n q : ℕ} (W : Wf C L) (A : Outer C L p e n q) where
   pub p-e : p ≢ e
-  p-e k = W .faces .apart (A .in-p) (cc)
+  p-e = link-p-e (link-rules W) A
 
   pub e-n : e ≢ n
-  e-n k = W .faces .apart (A .in-e) (cc)
+  e-n = link-e-n (link-rules W) A
 
   pub n-q : n ≢ q
-  n-q k = W .faces .apart (A .in-n) (cc)
+  n-q = link-n-q (link-rules W) A
 
   pub p-n : p ≢ n
   p-n k = W .faces .wide (A .in-p) (A .face-p) (cc)

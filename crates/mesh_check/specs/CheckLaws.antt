@@ -201,7 +201,7 @@ unfolding countRefused
 within-count {n} l m = rw (le-ltb n 3 l, le-ltb 1000000 n m)
 
 -- a test that would have refused did not
-not-refused : (t : Bool) (r : Refusal) (x : Checked) → cond t (Refused r) x ≡ Accepted → (t ≡ false) × (x ≡ Accepted)
+pub not-refused : (t : Bool) (r : Refusal) (x : Checked) → cond t (Refused r) x ≡ Accepted → (t ≡ false) × (x ≡ Accepted)
 not-refused true r x e = absurd (let z : _≡_ {A = ℕ} 0 1 = cc in omega arith)
 not-refused false r x e = (refl, e)
 

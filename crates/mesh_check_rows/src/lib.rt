@@ -28,7 +28,7 @@ fn count_refused(n: usize) -> bool
 }
 
 // One of the mesh's rows, given by their lengths, is too short for n vertices.
-fn mesh_rows_short(n: usize, positions: usize, outs: usize, halves: usize, faces: usize) -> bool
+pub fn mesh_rows_short(n: usize, positions: usize, outs: usize, halves: usize, faces: usize) -> bool
     requires { ⌜ n ≤ 1000000 ⌝ }
     ensures { λ r. ⌜ r ≡ meshRowsShort n positions outs halves faces ⌝ }
 {
@@ -63,7 +63,7 @@ fn rows_short(
 }
 
 // The first of so many points of a row with a coordinate out of range, or their number.
-fn first_outside(row: &[i32], count: u32) -> u32
+pub fn first_outside(row: &[i32], count: u32) -> u32
     requires { ⌜ 2 * count ≤ length (now row) ⌝ }
     ensures { λ r. ⌜ r ≡ firstOutside count (positionOf (now (row .entry))) ⌝ }
 {
