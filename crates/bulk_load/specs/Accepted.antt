@@ -18,9 +18,9 @@ use Rattle.mesh_check.specs.CheckLaws.{inside-range}
 use Rattle.start.specs.Start.{sweepRowsShort}
 use Rattle.sweep.specs.Run.{answerWords}
 use Rattle.bulk_load.specs.BulkLoad.{BulkLoadLent, count, bulkLoadShort, bulkLoadChecked}
-
 -- TODO not-refused of mesh_check/CheckLaws, made pub there
 use Rattle.mesh_check.specs.declared.Refusal.{Refusal}
+
 not-refused : (t : Bool) (r : Refusal) (x : Checked) → cond t (Checked.Refused r) x ≡ Checked.Accepted → (t ≡ false) × (x ≡ Checked.Accepted)
 not-refused true r x e = absurd (let z : _≡_ {A = ℕ} 0 1 = cc in omega arith)
 not-refused false r x e = (refl, e)
