@@ -135,7 +135,7 @@ module _ (l : BulkLoadLent) (e : bulkLoadChecked l ≡ Checked.Accepted) where
       let q = run-is (restOf l) (rest.rest-accepted l e S r) in
       let c = runCompletes (restOf l) in
       let f : runOf (restOf l) .answer .finished ≡ Finished.Accepted t = ap (λ (R : RunOutcome). R .answer .finished) q
-          ∙ finished-as (seeded l .answered + c .place) (c .place) (c .mesh) t z in
+      ∙ finished-as (seeded l .answered + c .place) (c .place) (c .mesh) t z in
       rw r (swept-demand-3 l e S r (asRun (loadedBy l (swept l))) swept-answers (rest-answers r) t (run-accepted (restOf l) t f .0))
 
   ended-finished : seeded l .ready ≡ false → seeded l .growing .mesh .full ≡ false → 1 < counts l .faces
@@ -277,9 +277,10 @@ module _ (l : BulkLoadLent) where
       go : (c : Checked) → bulkLoadChecked l ≡ c → Means (bulkLoadOf l)
       go Checked.Accepted e = means-by e (end-of l e)
       go (Checked.Refused x) e =
-          let R = refused-not l e in
-          ((λ t y n. absurd (let z : Finished.Refused x ≡ Finished.Accepted t = sym (R .0) ∙ y in let w : _≡_ {A = ℕ} 0 1 = cc in omega arith)),
-          λ y. absurd (false≢true (sym (R .1) ∙ y)))
+          let R = refused-not l e in (
+            (λ t y n. absurd (let z : Finished.Refused x ≡ Finished.Accepted t = sym (R .0) ∙ y in let w : _≡_ {A = ℕ} 0 1 = cc in omega arith)),
+            λ y. absurd (false≢true (sym (R .1) ∙ y)),
+          )
 
   pub bulk-loaded : (r : BulkLoadOutcome) → r ≡ bulkLoadOf l → BulkLoaded l r
   bulk-loaded r q =

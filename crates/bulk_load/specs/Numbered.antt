@@ -1,4 +1,5 @@
--- A refusal of a bulk load's checks has one of the numbers 1, 2, 3 and 10 (`load-numbers`), none of them 0 (`load-numbered`). Assumes nothing.
+-- A refusal of a bulk load's checks has one of the numbers 1, 2, 3 and 10 (`load-numbers`), and so never 0 (`load-numbered`). Assumes
+-- nothing.
 use mathlib.Core.Bool.{Bool, true, false, cond}
 use mathlib.Core.Logic.{_⊎_, inl, inr}
 use mathlib.Core.Path.{_≡_}

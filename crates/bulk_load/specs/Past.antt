@@ -55,5 +55,5 @@ module _ (room : ℕ) (L : Links) (p point : ℕ → Point) where
 pub seed-rows : (l : BulkLoadLent) → bulkLoadChecked l ≡ Checked.Accepted → SeedRows l
 seed-rows l e =
     let P = past-all (length (l .pending)) (linksIn (l .mesh)) (placesIn (l .mesh)) (positionOf (l .points)) (count l)
-        (accepted l e .range) (count l) (omega arith) in
+    (accepted l e .range) (count l) (omega arith) in
     record { links-past = P .links-past; places-past = P .places-past; fits = P .fits; one-zero = P .one-zero }

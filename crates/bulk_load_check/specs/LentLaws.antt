@@ -1,5 +1,6 @@
--- The rows of the table as the checks of a bulk load meet them, one after the other (`many-refused`, `short-refused`, `points-decide`), and
--- what rows that are long enough let them read (`points-long`). Every call is lent by its own rows (`lent-self`). Assumes nothing.
+-- The rows of the table as the checks of a bulk load meet them, one after the other (`many-refused`, `short-refused`, `points-decide`);
+-- rows that are long enough have every point and its height (`points-long`); and a bulk load's own rows are what it is lent (`lent-self`).
+-- Assumes nothing.
 use mathlib.Core.Bool.{Bool, true, false, _||_}
 use mathlib.Core.List.{List}
 use mathlib.Core.Path.{_≡_, refl, sym, _∙_, ap}
@@ -35,19 +36,19 @@ lent-self l = record {
   answers-length = refl;
 }
 
--- rows that are long enough have every point and its height
 module _ (n points pointHeights positions heights outs halves faces nodes freed buckets pending answers : ℕ) where
   pub points-long : loadShort n points pointHeights positions heights outs halves faces nodes freed buckets pending answers ≡ false
       → (2 * n ≤ points) × (n ≤ pointHeights)
   unfolding loadShort surfaceShort
   points-long e =
       let mesh = meshRowsShort n positions outs halves faces in
-      let lent = ltb points (2 * n) || mesh in
-      let tall = ltb heights n || ltb pointHeights n in
-      let x = or-false (sweepRowsShort (ltb answers (answerWords * n)) n nodes freed buckets pending) (lent || tall) e in
-      let y = or-false lent tall (x .1) in
-      (ltb-false points (2 * n) (or-false (ltb points (2 * n)) mesh (y .0) .0),
-      ltb-false pointHeights n (or-false (ltb heights n) (ltb pointHeights n) (y .1) .1))
+      let rows = ltb points (2 * n) || mesh in
+      let both = ltb heights n || ltb pointHeights n in
+      let x = or-false (sweepRowsShort (ltb answers (answerWords * n)) n nodes freed buckets pending) (rows || both) e in
+      let y = or-false rows both (x .1) in (
+        ltb-false points (2 * n) (or-false (ltb points (2 * n)) mesh (y .0) .0),
+        ltb-false pointHeights n (or-false (ltb heights n) (ltb pointHeights n) (y .1) .1),
+      )
 
 module _ {l : BulkLoadLent} {points pointHeights : List ℤ} {positions heights outs halves faces nodes freed buckets pending answers : ℕ}
     (B : LentBy l points pointHeights positions heights outs halves faces nodes freed buckets pending answers)

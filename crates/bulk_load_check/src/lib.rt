@@ -69,7 +69,16 @@ fn load_short(
     if start::sweep_rows_short(few, n, nodes, freed, buckets, pending) {
         return true;
     }
-    surface_short(n, points, point_heights, positions, heights, outs, halves, faces)
+    surface_short(
+        n,
+        points,
+        point_heights,
+        positions,
+        heights,
+        outs,
+        halves,
+        faces,
+    )
 }
 
 // Rows 3 and 10 of the table, for n points and their heights.
@@ -103,7 +112,8 @@ pub fn check_bulk_load(
     answers: usize,
 ) -> Checked
     ensures { λ r. ⌜ ((l : BulkLoadLent)
-        → LentBy l (now (points .entry)) (now («point_heights» .entry)) positions heights outs halves faces nodes freed buckets pending answers
+        → LentBy l (now (points .entry)) (now («point_heights» .entry))
+        positions heights outs halves faces nodes freed buckets pending answers
         → r ≡ bulkLoadChecked l) ⌝ }
 {
     let n = mesh_check::point_count(points);

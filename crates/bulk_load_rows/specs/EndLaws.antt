@@ -20,14 +20,14 @@ use Rattle.seed.specs.declared.SeedEnd.{SeedEnd}
 use Rattle.sweep.specs.Run.{answerWords}
 use Rattle.bulk_load_rows.specs.LoadRows.{endOf, zeroFrom, EndLeaves}
 
-module _ (q : List ℤ) (o h a : List ℕ) (room : ℕ) (w : List ℕ) (s : SeedEnd) (n : ℕ) where
+module _ (q : List ℤ) (o h a row w : List ℕ) (s : SeedEnd) (n : ℕ) where
   zero-not : s .full ≡ false → (x : ℕ) → rowOf w x ≡ zeroFrom (s .full) (s .answered) n (rowOf w) x
   unfolding zeroFrom
   zero-not f x = rw f refl
 
   -- a flip was refused
   pub end-full : {w′ : List ℕ} → s .full ≡ true → Zeroed w w′ (answerWords * s .answered) (answerWords * n)
-      → EndLeaves q o h a room w s n o h a w′ (record {
+      → EndLeaves q o h a row w s n o h a w′ (record {
         finish = record { counts = s .counts; finished = Finished.Refused (record { number = 9; place = s .answered }) };
         line = false;
       })
@@ -36,7 +36,7 @@ module _ (q : List ℤ) (o h a : List ℕ) (room : ℕ) (w : List ℕ) (s : Seed
 
   -- a line
   pub end-line : s .full ≡ false → s .counts .faces < 2
-      → EndLeaves q o h a room w s n o h a w (record {
+      → EndLeaves q o h a row w s n o h a w (record {
         finish = record { counts = s .counts; finished = Finished.Accepted (record { faces = 0; convexflips = 0; closingflips = 0 }) };
         line = true;
       })
@@ -47,9 +47,9 @@ module _ (q : List ℤ) (o h a : List ℕ) (room : ℕ) (w : List ℕ) (s : Seed
 
   -- a mesh
   pub end-mesh : {o′ h′ a′ : List ℕ} (e : Ended) {r : FinishAnswer} → s .full ≡ false → 2 ≤ s .counts .faces
-      → finishingOf o′ h′ a′ e ≡ finishMesh room (s .counts) (positionOf q) (linksOf o h a)
+      → finishingOf o′ h′ a′ e ≡ finishMesh (length row) (s .counts) (positionOf q) (linksOf o h a)
       → ((o h a : List ℕ) → r ≡ record { counts = e .counts; finished = finishedFrom n (finishingOf o h a e) })
-      → EndLeaves q o h a room w s n o′ h′ a′ w (record { finish = r; line = false })
+      → EndLeaves q o h a row w s n o′ h′ a′ w (record { finish = r; line = false })
   unfolding endOf finishingOf
   end-mesh {o′} {h′} {a′} e {r} f l E A =
       let t = lt-ltb 1 (s .counts .faces) (omega arith) in

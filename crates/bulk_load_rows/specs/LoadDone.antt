@@ -74,6 +74,9 @@ module _ (l : BulkLoadLent) (e : bulkLoadChecked l ≡ Checked.Accepted) where
   abbrev n : ℕ
   n = count l
 
+  pub count-fits : n < 2 ^ 32
+  count-fits = let m = A .most in omega arith
+
   -- what the seed asks
   pub to-seed : (c : ℕ) → c ≡ n
       → SeedReady (l .mesh .positions) (l .mesh .outs) (l .mesh .halves) (l .mesh .faces) (l .pending) (l .answers) (l .points) c
@@ -362,7 +365,7 @@ module _ (l : BulkLoadLent) (e : bulkLoadChecked l ≡ Checked.Accepted) where
           ready-mesh : s .full ≡ false → 1 < s .counts .faces → MeshReady q₁ o₁ h₁ a₁ row₁ (s .counts)
           ready-mesh f t =
               let G : Good (s .counts) (linksOf o₁ h₁ a₁) (positionOf q₁)
-                  = rw (counts-are, links-are, places-are) (rest.grown-good l e (subst (λ (C : Counts). 1 < C .faces) counts-are t)) in
+              = rw (counts-are, links-are, places-are) (rest.grown-good l e (subst (λ (C : Counts). 1 < C .faces) counts-are t)) in
               let z = A .sizes in
               let x₁ = z .positions in let x₂ = z .outs in let x₃ = z .halves in let x₄ = z .faces in let x₅ = A .pending-rows in
               let y₁ = S .positions in let y₂ = S .outs in let y₃ = S .halves in let y₄ = S .faces in let y₅ = pending-same in
@@ -381,7 +384,7 @@ module _ (l : BulkLoadLent) (e : bulkLoadChecked l ≡ Checked.Accepted) where
               }
 
       -- ---- after it
-      module _ (o₂ h₂ a₂ w₂ : List ℕ) (x : BulkLoadAnswer) (Q : EndLeaves q₁ o₁ h₁ a₁ (length row₁) w₁ s c o₂ h₂ a₂ w₂ x)
+      module _ (o₂ h₂ a₂ w₂ : List ℕ) (x : BulkLoadAnswer) (Q : EndLeaves q₁ o₁ h₁ a₁ row₁ w₁ s c o₂ h₂ a₂ w₂ x)
           (T : SameLengths (meshRows q₁ o₁ h₁ a₁) (meshRows q₁ o₂ h₂ a₂)) (answers-kept : length w₂ ≡ length w₁) where
         end-is : endOf (length row₁) (s .counts) (linksOf o₁ h₁ a₁) (positionOf q₁) (s .full) (s .answered) c ≡ F
         end-is = rw (pending-same, counts-are, links-are, places-are, full-is, answered-is, cn) refl

@@ -65,10 +65,10 @@ pub record EndReady (q : List ℤ) (o h a row w : List ℕ) (s : SeedEnd) (n : �
 unfoldable pub zeroFrom : Bool → ℕ → ℕ → (ℕ → ℕ) → ℕ → ℕ
 zeroFrom full answered n row x = cond (full && (leb (answerWords * answered) x && ltb x (answerWords * n))) 0 (row x)
 
-pub record EndLeaves (q : List ℤ) (o h a : List ℕ) (room : ℕ) (w : List ℕ) (s : SeedEnd) (n : ℕ)
+pub record EndLeaves (q : List ℤ) (o h a row w : List ℕ) (s : SeedEnd) (n : ℕ)
     (o′ h′ a′ w′ : List ℕ) (r : BulkLoadAnswer) : Type 0 where
-  pub answer : r ≡ endOf room (s .counts) (linksOf o h a) (positionOf q) (s .full) (s .answered) n .answer
-  pub links : linksOf o′ h′ a′ ≡ endOf room (s .counts) (linksOf o h a) (positionOf q) (s .full) (s .answered) n .links
+  pub answer : r ≡ endOf (length row) (s .counts) (linksOf o h a) (positionOf q) (s .full) (s .answered) n .answer
+  pub links : linksOf o′ h′ a′ ≡ endOf (length row) (s .counts) (linksOf o h a) (positionOf q) (s .full) (s .answered) n .links
   pub answers-are : (x : ℕ) → rowOf w′ x ≡ zeroFrom (s .full) (s .answered) n (rowOf w) x
 
 -- ---- the sweep of the points that are left

@@ -1,21 +1,23 @@
 -- The sweep of the points that are left, on the rows as the seed left them: it is the run of the definition, whatever the pending row held.
 -- Assumes nothing.
 use mathlib.Core.Bool.{Bool, true, false, cond}
-use mathlib.Core.List.{List, _++_}
+use mathlib.Core.List.{List, [], _++_, append-nil}
 use mathlib.Core.Logic.{_⊎_, inl, inr}
-use mathlib.Core.Path.{_≡_, refl, sym, _∙_, ap, fun-ext}
+use mathlib.Core.Path.{_≡_, refl, sym, _∙_, ap, subst, fun-ext}
 use Prim.Native.Nat.{ℕ, _+_, _-_, _*_, _<_, _≤_, _^_}
 use native.Mathlib.Decide.{decLt}
 use native.Mathlib.Omega.{arith}
 use lib.IntN.{ℤ}
-use lib.ListN.{length, replicate, getD, take, drop, length-drop, length-append}
-use lib.Seq.{length-take-le, getD-take, getD-drop, getD-append-add, ext-getD, take-append-le}
+use lib.ListN.{length, replicate, getD, take, drop, length-drop, length-append, drop-of-length-le}
+use lib.Seq.{take-all, length-take-le, getD-take, getD-drop, getD-append-add, ext-getD, take-append-le}
 use Rattle.angle.specs.declared.Point2.{Point2}
 use Rattle.corner.specs.Corner.{Extended}
-use Rattle.dcel.specs.MeshRows.{MeshRows, meshRowsFrom}
+use Rattle.dcel.specs.MeshRows.{MeshRows, placesIn, meshRowsFrom}
+use Rattle.hull_center.specs.HullCenter.{hullCenter}
 use Rattle.dcel.specs.Rows.{positionOf, rowOf, rowFrom}
 use Rattle.finish.specs.declared.FinishAnswer.{FinishAnswer}
 use Rattle.finish.specs.declared.Finished.{Finished}
+use Rattle.finish.specs.declared.Totals.{Totals}
 use Rattle.finish.specs.Finish.{Finishing, totalsFrom, finishedFrom}
 use Rattle.mesh.specs.declared.Counts.{Counts}
 use Rattle.mesh_check.specs.declared.Checked.{Checked}
@@ -28,7 +30,7 @@ use Rattle.sweep.specs.Demand3.{Full}
 use Rattle.sweep.specs.Run.{Sweeping, isSkipped, completeAfter, answersAfter, completedAnswers, RunLent, RunOutcome, runLent, ranWith, answerWords, runChecked, sweepOf, stepsOf, skippedOf, runCompletes, passedOf, fillOf, insertedWord, runAnswers, runOutcome, runOf}
 use Rattle.sweep.specs.Step.{Stepping}
 use Rattle.sweep.specs.RunLaws.{run-refused}
-use Rattle.bulk_load_rows.specs.LoadRows.{placedAfter, PlaceFits, restLent, RestReady}
+use Rattle.bulk_load_rows.specs.LoadRows.{placedAfter, answerAfter, PlaceFits, restLent, RestReady, RestLeaves}
 
 -- ---- a run knows the length of its pending row alone
 module _ (C : Counts) (m : MeshRows) (ring : RingRows) (row row′ : List ℕ) (w : List ℕ) (c : Point2) (points : List ℤ)
@@ -111,6 +113,17 @@ place-fits k l e m x z = go (run-refused l x z)
     go (inl (a, b, c)) = absurd (let y : Checked.Accepted ≡ Checked.Refused x = sym e ∙ b in let w : _≡_ {A = ℕ} 0 1 = cc in omega arith)
     go (inr (a, F)) = let w = F .within in omega arith
 
+-- by its cases
+pub placed-accepted : (k : ℕ) (r : FinishAnswer) (t : Totals) → r .finished ≡ Finished.Accepted t
+    → _≡_ {A = FinishAnswer} (record { counts = r .counts; finished = Finished.Accepted t }) (answerAfter k r)
+unfolding placedAfter
+placed-accepted k r t e = ap (λ (f : Finished). record { counts = r .counts; finished = f }) (sym (ap (placedAfter k) e))
+
+pub placed-refused : (k : ℕ) (r : FinishAnswer) (x : Refusal) → r .finished ≡ Finished.Refused x
+    → _≡_ {A = FinishAnswer} (record { counts = r .counts; finished = Finished.Refused (record { number = x .number; place = k + x .place }) }) (answerAfter k r)
+unfolding placedAfter
+placed-refused k r x e = ap (λ (f : Finished). record { counts = r .counts; finished = f }) (sym (ap (placedAfter k) e))
+
 pub placed-from : (k place : ℕ) (z : Finishing) → placedAfter k (finishedFrom place z) ≡ finishedFrom (k + place) z
 unfolding placedAfter finishedFrom
 placed-from k place z = go (z .full)
@@ -147,3 +160,48 @@ module _ (k : ℕ) (v u : List ℕ) (l : k ≤ length v) where
   joined-last x =
       let b = length-take-le k v l in
       ap (λ (n : ℕ). getD (take k v ++ u) (n + x) 0) (sym b) ∙ getD-append-add (take k v) u x 0
+
+-- ---- the rest of a row, as it is lent from a place on, and the row after it has come back
+abbrev pub part : {A : Type 0} → ℕ → List A → List A
+part k xs = take (length xs - k) (drop k xs)
+
+part-is : {A : Type 0} (k : ℕ) (xs : List A) → part k xs ≡ drop k xs
+part-is k xs = let d = length-drop k xs in take-all (length xs - k) (drop k xs) (omega arith)
+
+drop-all : {A : Type 0} (k : ℕ) (xs : List A) → drop (length xs - k) (drop k xs) ≡ []
+drop-all k xs = let d = length-drop k xs in drop-of-length-le (drop k xs) {i = length xs - k} (omega arith)
+
+pub part-back : {A : Type 0} (k : ℕ) (xs ys : List A) → take k xs ++ (ys ++ drop (length xs - k) (drop k xs)) ≡ take k xs ++ ys
+part-back {A} k xs ys = ap (λ (zs : List A). take k xs ++ (ys ++ zs)) (drop-all k xs) ∙ ap (λ (zs : List A). take k xs ++ zs) (append-nil ys)
+
+module _ {C : Counts} {m : MeshRows} {ring : RingRows} {row w : List ℕ} {points : List ℤ} {k : ℕ} (R : RestReady C m ring row w points k)
+    {c : Point2} (q : c ≡ hullCenter C (placesIn m)) where
+  -- the run as it is called
+  abbrev called : RunLent
+  called = runLent C m ring row (part (answerWords * k) w) c (part (2 * k) points)
+
+  called-is : called ≡ restLent C m ring row w points k
+  called-is = rw (part-is (answerWords * k) w, part-is (2 * k) points, q) refl
+
+  pub rest-requires : runChecked called ≡ Checked.Accepted
+  rest-requires = ap runChecked called-is ∙ R .checked
+
+  module _ {m′ : MeshRows} {ring′ : RingRows} {row′ ys : List ℕ} {x : FinishAnswer} (E : ranWith x m′ ring′ row′ ys ≡ runOf called) where
+    ran-is : ranWith x m′ ring′ row′ ys ≡ runOf (restLent C m ring row w points k)
+    ran-is = E ∙ ap runOf called-is
+
+    pub rest-fits : PlaceFits k x
+    rest-fits =
+        subst (λ (r : RunOutcome). PlaceFits k (r .answer)) (sym ran-is)
+        (place-fits k (restLent C m ring row w points k) (R .checked) (R .most))
+
+    pub rest-done : {r : FinishAnswer} → r ≡ answerAfter k x
+        → RestLeaves k (runOf (restLent C m ring row w points k)) w m′ ring′ row′
+        (take (answerWords * k) w ++ (ys ++ drop (length w - answerWords * k) (drop (answerWords * k) w))) r
+    rest-done e = record {
+      answer = e ∙ ap (λ (o : RunOutcome). answerAfter k (o .answer)) ran-is;
+      mesh = ap (λ (o : RunOutcome). o .mesh) ran-is;
+      ring-is = ap (λ (o : RunOutcome). o .ring) ran-is;
+      pending-is = ap (λ (o : RunOutcome). o .pending) ran-is;
+      answers-are = part-back (answerWords * k) w ys ∙ ap (λ (o : RunOutcome). take (answerWords * k) w ++ o .answers) ran-is;
+    }

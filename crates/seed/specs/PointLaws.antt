@@ -98,7 +98,7 @@ module _ {C : Counts} {q : List ℤ} {o h a row : List ℕ} {w : List ℕ} {poin
     unfolding extendedOf
     center-ready x y z u k =
         let H = subst (λ (m : Growing). Good (m .mesh .counts) (m .mesh .links) (m .positions)) (sym is)
-            (good-after (subst (λ (m : Growing). 1 < m .mesh .counts .faces) is k)) in
+        (good-after (subst (λ (m : Growing). 1 < m .mesh .counts .faces) is k)) in
         let n = subst (λ (m : Growing). m .mesh .counts .vertices ≤ C .vertices + 1) (sym is) one-more in
         let s = R .ready .sized in
         let c = count-edges (H .wf) in let d = count-faces (H .wf) in

@@ -1,0 +1,14 @@
+-- Made by tools/transplant.py from what the borrow checker makes of the twin of this crate.
+use Rattle.ring_rows.proofs.Node as ELEM
+use borrow.Fn.Kinds
+use borrow.Kind.MutSlice
+use borrow.Table.Referent
+use denote.Array
+use mathlib.Core.List
+use mir.Syntax
+
+abbrev pub ps : List.List (Kinds.PK 4)
+ps = List._∷_ (MutSlice.pMutS ELEM.the-row 0 tt) (List._∷_ (MutSlice.pMutS (Referent.rtF (Referent.fInt Syntax.w32)) 1 tt) (List._∷_ (MutSlice.pMutS (Referent.rtF (Referent.fInt Syntax.w32)) 2 tt) (List._∷_ (MutSlice.pMutS (Referent.rtF (Referent.fInt Syntax.w32)) 3 tt) List.[])))
+
+abbrev pub r : Kinds.RK 4
+r = Kinds.rUnit
