@@ -18,7 +18,7 @@ use Rattle.finish.specs.declared.FinishAnswer.{FinishAnswer}
 use Rattle.finish.specs.declared.Finished.{Finished}
 use Rattle.finish.specs.declared.Totals.{Totals}
 use Rattle.finish.specs.Finish.{Finishing, finishMesh, totalsFrom, finishedFrom}
-use Rattle.grow_untouched.specs.GrowUntouched.{Fits}
+use Rattle.line.specs.GrowUntouched.{Fits}
 use Rattle.heights.specs.Heights.{heightOf}
 use Rattle.line.specs.GrowLaws as phase
 use Rattle.line.specs.GrowLaws.{Phase}

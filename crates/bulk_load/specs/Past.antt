@@ -7,7 +7,7 @@ use lib.ListN.{length}
 use Rattle.corner.specs.Untouched.{Untouched, untouched-none, untouched-join}
 use Rattle.dcel.specs.MeshRows.{linksIn, placesIn}
 use Rattle.dcel.specs.Rows.{positionOf}
-use Rattle.grow_untouched.specs.GrowUntouched.{Fits, nothing-fits, grow-untouched, grow-past, grow-grown, grow-fits}
+use Rattle.line.specs.GrowUntouched.{Fits, nothing-fits, grow-untouched, grow-past, grow-grown, grow-fits}
 use Rattle.math.specs.declared.Point.{Point}
 use Rattle.math.specs.Determinant.{InRange}
 use Rattle.mesh.specs.declared.Counts.{Counts}

@@ -13,7 +13,7 @@ use Rattle.dcel.specs.MeshRows.{linksIn, placesIn, meshRowsFrom}
 use Rattle.dcel.specs.Rows.{positionOf}
 use Rattle.dcel.specs.Views.{lengths-from}
 use Rattle.finish.specs.CallLeavesLaws.{links-back, places-back, in-rows}
-use Rattle.grow_untouched.specs.GrowUntouched.{Fits}
+use Rattle.line.specs.GrowUntouched.{Fits}
 use Rattle.hull_center.specs.HullCenter.{isReady, hullCenter}
 use Rattle.hull_center.specs.Laws.{ReadyStart, ready-start}
 use Rattle.line.specs.GrowLaws.{Phase, none, one, line, mesh}
