@@ -50,11 +50,15 @@ pub record LineLoaded (l : BulkLoadLent) (r : BulkLoadOutcome) : Type 0 where
   pub place : (i : ℕ) → i < count l → placesIn (r .mesh) (vertexOf (asRun r) i) ≡ positionOf (l .points) i
   pub number : r .answer .finish .counts .vertices ≡ bounded.count (count l) (λ i. eqb (fateOf (asRun r) i) 1)
 
+-- ---- a finished mesh
+-- 02: "a mesh finished here meets demand 3 with an empty seed"; each vertex has its point's height
+abbrev pub LoadFinished : BulkLoadLent → BulkLoadOutcome → Totals → Type 0
+LoadFinished l r t =
+    Demand3From (emptySeed l) (beforeLoadCloses l) (asRun r) t
+    × CarriedHeights (surfaceRunLent (emptySeed l) (l .heights) (l .pointHeights)) (surfaceRan (asRun r) (r .heights))
+
 -- ---- THE CONTRACT of the call: what is defined, and what that means where it is answered with no refusal number
 pub record BulkLoaded (l : BulkLoadLent) (r : BulkLoadOutcome) : Type 0 where
   pub is : r ≡ bulkLoadOf l
-  -- 02: "a mesh finished here meets demand 3 with an empty seed"; each vertex has its point's height
-  pub finished : (t : Totals) → r .answer .finish .finished ≡ Finished.Accepted t → r .answer .line ≡ false
-      → Demand3From (emptySeed l) (beforeLoadCloses l) (asRun r) t
-      × CarriedHeights (surfaceRunLent (emptySeed l) (l .heights) (l .pointHeights)) (surfaceRan (asRun r) (r .heights))
+  pub finished : (t : Totals) → r .answer .finish .finished ≡ Finished.Accepted t → r .answer .line ≡ false → LoadFinished l r t
   pub lined : r .answer .line ≡ true → LineLoaded l r

@@ -14,3 +14,4 @@ pub mod EndedLaws
 pub mod LoadAnswers
 pub mod LoadLaws
 pub mod StoreLaws
+pub mod Named

@@ -37,8 +37,8 @@ use Rattle.surface.specs.Surface.{surfaceRunLent, surfaceRan}
 use Rattle.sweep.specs.Demand3.{fateOf, vertexOf, isVertex, beforeClosing, Demand3From}
 use Rattle.sweep.specs.Run.{RunOutcome, runCompletes, runOf}
 use Rattle.sweep.specs.RunLaws.{run-is, run-accepted}
-use Rattle.bulk_load.specs.BulkLoad.{BulkLoadLent, BulkLoadOutcome, Loading, bulkLoadChecked, bulkLoadOutcome, bulkLoadOf, count, counts, links, positions, seeded, restOf, swept, ended, lined, stopped, loadingOf, noCounts, loadedBy}
-use Rattle.bulk_load.specs.Demand3.{emptySeed, asRun, beforeLoadCloses, LineOf, LineLoaded, BulkLoaded}
+use Rattle.bulk_load.specs.BulkLoad.{BulkLoadLent, BulkLoadOutcome, Loading, bulkLoadChecked, bulkLoadOutcome, bulkLoadOf, count, counts, links, positions, seeded, restOf, swept, ended, lined, stopped, loadingOf, noCounts, loadedWith, loadedBy}
+use Rattle.bulk_load.specs.Demand3.{emptySeed, asRun, beforeLoadCloses, LineOf, LineLoaded, LoadFinished, BulkLoaded}
 use Rattle.bulk_load.specs.EndedLaws.{all-taken, grown-most, ended-demand-3}
 use Rattle.bulk_load.specs.LoadAnswers.{rows-again, seed-word, swept-word, rest-word}
 use Rattle.bulk_load.specs.Past.{seed-rows}
@@ -223,10 +223,17 @@ module _ (l : BulkLoadLent) (e : bulkLoadChecked l ≡ Checked.Accepted) where
         }
 
 -- ---- THE THEOREM
-refused-not : (l : BulkLoadLent) {x : Refusal} → bulkLoadChecked l ≡ Checked.Refused x
+pub refused-not : (l : BulkLoadLent) {x : Refusal} → bulkLoadChecked l ≡ Checked.Refused x
     → (bulkLoadOf l .answer .finish .finished ≡ Finished.Refused x) × (bulkLoadOf l .answer .line ≡ false)
 unfolding bulkLoadOf bulkLoadOutcome
 refused-not l e = rw e (refl, refl)
+
+-- refused before anything is done
+pub refused-is : (l : BulkLoadLent) {x : Refusal} → bulkLoadChecked l ≡ Checked.Refused x
+    → loadedWith (record { finish = record { counts = noCounts; finished = Finished.Refused x }; line = false })
+    (l .mesh) (l .heights) (l .ring) (l .pending) (l .answers) ≡ bulkLoadOf l
+unfolding bulkLoadOf bulkLoadOutcome
+refused-is l e = rw e refl
 
 -- the marks of the four ends
 module _ (l : BulkLoadLent) where
@@ -250,15 +257,9 @@ module _ (l : BulkLoadLent) where
   unfolding loadedBy lined
   lined-mark = refl
 
-  -- where it is answered with no refusal number
-  abbrev Finishes : BulkLoadOutcome → Totals → Type 0
-  Finishes r t =
-      Demand3From (emptySeed l) (beforeLoadCloses l) (asRun r) t
-      × CarriedHeights (surfaceRunLent (emptySeed l) (l .heights) (l .pointHeights)) (surfaceRan (asRun r) (r .heights))
-
   -- what is to be shown of each end
   abbrev Means : BulkLoadOutcome → Type 0
-  Means r = ((t : Totals) → r .answer .finish .finished ≡ Finished.Accepted t → r .answer .line ≡ false → Finishes r t)
+  Means r = ((t : Totals) → r .answer .finish .finished ≡ Finished.Accepted t → r .answer .line ≡ false → LoadFinished l r t)
       × (r .answer .line ≡ true → LineLoaded l r)
 
   means-by : (e : bulkLoadChecked l ≡ Checked.Accepted) → End l e → Means (bulkLoadOf l)

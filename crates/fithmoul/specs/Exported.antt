@@ -8,6 +8,8 @@ use Prim.Native.Nat.{ℕ}
 use lib.IntN.{ℤ}
 use Rattle.ask.specs.declared.Asked.{Asked}
 use Rattle.ask.specs.Ask.{AskOutcome, askedWith}
+use Rattle.bulk_load.specs.declared.BulkLoadAnswer.{BulkLoadAnswer}
+use Rattle.bulk_load.specs.BulkLoad.{BulkLoadOutcome, loadedWith}
 use Rattle.commit.specs.Commit.{CommitOutcome, committedWith, runChanges}
 use Rattle.dcel.specs.MeshRows.{MeshRows}
 use Rattle.finish.specs.declared.FinishAnswer.{FinishAnswer}
@@ -21,12 +23,13 @@ use Rattle.sweep.specs.declared.StepAnswer.{StepAnswer}
 use Rattle.sweep.specs.Run.{RunOutcome, ranWith}
 use Rattle.sweep.specs.StepCall.{StepOutcome, steppedWith}
 use Rattle.fithmoul.specs.declared.results.AskResult.{AskResult}
+use Rattle.fithmoul.specs.declared.results.BulkLoadResult.{BulkLoadResult}
 use Rattle.fithmoul.specs.declared.results.CommitResult.{CommitResult}
 use Rattle.fithmoul.specs.declared.results.FinishResult.{FinishResult}
 use Rattle.fithmoul.specs.declared.results.LocateResult.{LocateResult}
 use Rattle.fithmoul.specs.declared.results.RunResult.{RunResult}
 use Rattle.fithmoul.specs.declared.results.StepResult.{StepResult}
-use Rattle.fithmoul.specs.Results.{locateResult, stepResult, finishResult, runResult, askResult, commitResult}
+use Rattle.fithmoul.specs.Results.{locateResult, stepResult, finishResult, runResult, askResult, commitResult, bulkLoadResult}
 
 -- for every type of answer, result and outcome
 exported : {A R X : Type 0} (answer : X → A) (make : A → X) → ((y : A) → answer (make y) ≡ y) → (number : A → R)
@@ -57,6 +60,12 @@ pub run-exported : {m : MeshRows} {g : RingRows} {p a : List ℕ} {row : List �
 run-exported {m} {g} {p} {a} {row} changes e z =
     exported (λ (w : SurfaceRan). w .call .answer) (λ (y : FinishAnswer). surfaceRan (ranWith y m g p a) row) (λ y. refl)
     (λ (y : FinishAnswer). runResult (runChanges changes (y .finished)) y) e z
+
+-- a bulk load
+pub load-exported : {m : MeshRows} {hs : List ℤ} {g : RingRows} {p a : List ℕ} {w : BulkLoadOutcome} {y : BulkLoadAnswer} {r : BulkLoadResult}
+    → loadedWith y m hs g p a ≡ w → r ≡ bulkLoadResult y → (r ≡ bulkLoadResult (w .answer)) × (loadedWith (w .answer) m hs g p a ≡ w)
+load-exported {m} {hs} {g} {p} {a} e z =
+    exported (λ (w : BulkLoadOutcome). w .answer) (λ (y : BulkLoadAnswer). loadedWith y m hs g p a) (λ y. refl) bulkLoadResult e z
 
 -- asking leaves the mesh and the heights
 pub ask-exported : {s : SurfaceRows} {g : RingRows} {x : AskOutcome} {y : Asked} {r : AskResult} → askedWith y s g ≡ x → r ≡ askResult y

@@ -1,3 +1,4 @@
 pub mod Results
 pub mod Exported
 pub mod Laws
+pub mod LoadLaws

@@ -1,5 +1,6 @@
 -- The calls' answers as flat records of numbers, for C: `refusal` is 0 where the call is accepted, else a row of 01's table, with its
 -- place. What a refused call has no answer for is 0. Definitions only. `Laws`: no refusal has the number 0.
+use mathlib.Core.Bool.{Bool}
 use Prim.Native.Nat.{ℕ}
 use lib.Ieee.{Float}
 use lib.IntN.{ℤ, pos}
@@ -7,6 +8,7 @@ use Rattle.angle.specs.declared.Point2.{Point2}
 use Rattle.area.specs.declared.Sided.{Sided}
 use Rattle.area.specs.declared.Totalled.{Totalled}
 use Rattle.ask.specs.declared.Asked.{Asked}
+use Rattle.bulk_load.specs.declared.BulkLoadAnswer.{BulkLoadAnswer}
 use Rattle.finish.specs.declared.FinishAnswer.{FinishAnswer}
 use Rattle.finish.specs.declared.Finished.{Finished}
 use Rattle.finish.specs.declared.Totals.{Totals}
@@ -15,12 +17,14 @@ use Rattle.math.specs.declared.Point.{Point}
 use Rattle.mesh.specs.declared.Counts.{Counts}
 use Rattle.mesh_check.specs.declared.Checked.{Checked}
 use Rattle.quote.specs.declared.Quote.{Quote}
+use Rattle.sums.specs.Bit.{bit}
 use Rattle.sweep.specs.declared.Answer.{Answer}
 use Rattle.sweep.specs.declared.StepAnswer.{StepAnswer}
 use Rattle.sweep.specs.declared.Stepped.{Stepped}
 use Rattle.sweep.specs.Run.{answerWord}
 use Rattle.fithmoul.specs.declared.results.AreaTotalResult.{AreaTotalResult}
 use Rattle.fithmoul.specs.declared.results.AskResult.{AskResult}
+use Rattle.fithmoul.specs.declared.results.BulkLoadResult.{BulkLoadResult}
 use Rattle.fithmoul.specs.declared.results.CheckResult.{CheckResult}
 use Rattle.fithmoul.specs.declared.results.CommitResult.{CommitResult}
 use Rattle.fithmoul.specs.declared.results.LocateResult.{LocateResult}
@@ -148,6 +152,27 @@ runResult changes a = ranWithChanges changes (finishResult a)
 -- the totals that an accepted run reports
 abbrev pub reported : RunResult → Totals
 reported r = record { faces = r .«faces_added»; convexflips = r .«convex_flips»; closingflips = r .«closing_flips» }
+
+-- with the mark of a line. 02, Change 6: it "starts the change count at 0"
+abbrev pub loadedResult : Bool → FinishResult → BulkLoadResult
+loadedResult line r = record {
+  refusal = r .refusal;
+  place = r .place;
+  vertices = r .vertices;
+  edges = r .edges;
+  faces = r .faces;
+  changes = 0;
+  line = bit line;
+  «faces_added» = r .«faces_added»;
+  «convex_flips» = r .«convex_flips»;
+  «closing_flips» = r .«closing_flips»;
+}
+
+abbrev pub bulkLoadResult : BulkLoadAnswer → BulkLoadResult
+bulkLoadResult a = loadedResult (a .line) (finishResult (a .finish))
+
+abbrev pub loadReported : BulkLoadResult → Totals
+loadReported r = record { faces = r .«faces_added»; convexflips = r .«convex_flips»; closingflips = r .«closing_flips» }
 
 -- what is measured
 abbrev pub volumeResult : Measured → VolumeResult

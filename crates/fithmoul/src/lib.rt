@@ -1,5 +1,5 @@
 // The public calls, for C, C++, Rust and Rattle: check a mesh, locate an angle, step one point, ask what a point would do, commit the quote,
-// finish a mesh, run a list of points, the volume between a mesh and a level, the area total of a mesh, and the side query, the area of one
+// finish a mesh, run a list of points, load a list of bare points, the volume between a mesh and a level, the area total of a mesh, and the side query, the area of one
 // triangle. A mesh has a height on each vertex and a change count beside its counts. For a C compiler this page is include/fithmoul.h. A
 // call takes its arguments as numbers, and a quote as it was given, and answers a struct of numbers: what it answers and leaves is what a
 // definition gives, for every input (crates `heights`, `surface`, `ask`, `commit`, `volume`, `area`). A slice is a pointer and a length for
@@ -10,6 +10,8 @@ ghost use mathlib.Core.Path.{_≡_};
 ghost use Rattle.area.specs.AreaTotal.{areaTotalOf};
 ghost use Rattle.area.specs.SideQuery.{sideQueryOf};
 ghost use Rattle.ask.specs.Ask.{askedWith, askOf};
+ghost use Rattle.bulk_load.specs.BulkLoad.{bulkLoadLent, loadedWith, bulkLoadOf};
+ghost use Rattle.bulk_load.specs.Demand3.{LoadFinished, LineLoaded};
 ghost use Rattle.commit.specs.Commit.{committedWith, commitOf, runChanges};
 ghost use Rattle.dcel.specs.MeshRows.{meshRows};
 ghost use Rattle.finish.specs.Finish.{finishedWith};
@@ -25,6 +27,7 @@ ghost use Rattle.fithmoul.specs.Results.{counted, centerAt, pointAt, rep
 ghost use Rattle.fithmoul.specs.Results.{checkResult, locateResult, stepResult, finishResult, runResult, volumeResult};
 ghost use Rattle.fithmoul.specs.Results.{askResult, commitResult};
 ghost use Rattle.fithmoul.specs.Results.{areaTotalResult, sideQueryResult};
+ghost use Rattle.fithmoul.specs.Results.{bulkLoadResult, loadReported};
 ghost use Rattle.volume.specs.Volume.{volumeOf};
 use angle::Point2;
 use ask::Asked;
@@ -38,6 +41,7 @@ pub mod results;
 
 use results::AreaTotalResult;
 use results::AskResult;
+use results::BulkLoadResult;
 use results::CheckResult;
 use results::CommitResult;
 use results::FinishResult;
@@ -477,6 +481,68 @@ pub extern "C" fn fithmoul_run(
     );
     surface_rows::store_run(heights, answers, point_heights, points, answer);
     results::run_result(changes, answer)
+}
+
+// A list of bare points, to a finished mesh, or to a line where all of them lie on one. The seed grows from the front of the list, and a
+// run takes the rest. Refusals 1 (over 1,000,000 points), 2, 3, 9 and 10. It starts the change count at 0.
+#[no_mangle]
+pub extern "C" fn fithmoul_bulk_load(
+    positions: &mut [i32],
+    heights: &mut [i32],
+    outs: &mut [u32],
+    halves: &mut [u32],
+    adjacent: &mut [u32],
+    nodes: &mut [Node],
+    freed: &mut [u32],
+    buckets: &mut [u32],
+    pending: &mut [u32],
+    answers: &mut [u64],
+    points: &[i32],
+    point_heights: &[i32],
+) -> BulkLoadResult
+    ensures { λ r. ⌜ (let l = bulkLoadLent
+        (meshRows (now (positions .entry)) (now (outs .entry)) (now (halves .entry)) (now (adjacent .entry))) (now (heights .entry))
+        (ringRows (now (nodes .entry)) (now (freed .entry)) (now (buckets .entry))) (now (pending .entry)) (now (answers .entry))
+        (now (points .entry)) (now («point_heights» .entry)) in let w = bulkLoadOf l in
+        (r ≡ bulkLoadResult (w .answer))
+        × (loadedWith (w .answer)
+        (meshRows (now (positions .exit)) (now (outs .exit)) (now (halves .exit)) (now (adjacent .exit))) (now (heights .exit))
+        (ringRows (now (nodes .exit)) (now (freed .exit)) (now (buckets .exit))) (now (pending .exit)) (now (answers .exit)) ≡ w)
+        × (r .refusal ≡ 0 → r .line ≡ 0 → LoadFinished l w (loadReported r))
+        × (r .line ≡ 1 → LineLoaded l w)) ⌝ }
+{
+    let checked = bulk_load_check::check_bulk_load(
+        points,
+        point_heights,
+        positions.len(),
+        heights.len(),
+        outs.len(),
+        halves.len(),
+        adjacent.len(),
+        nodes.len(),
+        freed.len(),
+        buckets.len(),
+        pending.len(),
+        answers.len(),
+    );
+    if let Checked::Refused(refusal) = checked {
+        return results::bulk_load_refused(refusal);
+    }
+    let answer = bulk_load_rows::load(
+        positions,
+        heights,
+        outs,
+        halves,
+        adjacent,
+        nodes,
+        freed,
+        buckets,
+        pending,
+        answers,
+        points,
+        point_heights,
+    );
+    results::bulk_load_result(answer)
 }
 
 // The volume between a mesh and a level: six times it, exactly, and in whole cubic metres, positive where the mesh is above. Refusals 1

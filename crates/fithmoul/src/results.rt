@@ -1,7 +1,9 @@
 // What the calls answer, as structs of numbers that C can read, and how they are made of the library's answers. `refusal` is 0 where the
 // call is accepted, else a row of 01's table with its place; what a refused call has no answer for is 0.
 ghost use mathlib.Core.Path.{_≡_};
+ghost use mathlib.Core.Bool.{false};
 ghost use Prim.Native.Nat.{_<_};
+ghost use Rattle.bulk_load.specs.BulkLoad.{noCounts};
 ghost use Rattle.commit.specs.Commit.{commitChanges, runChanges};
 ghost use Rattle.finish.specs.declared.Finished.{Finished};
 ghost use Rattle.locate.specs.declared.Located.{Located};
@@ -11,9 +13,12 @@ ghost use Rattle.fithmoul.specs.Results.{checkResult, locateResult, poin
 ghost use Rattle.fithmoul.specs.Results.{withChanges, commitResult, ranWithChanges, runResult};
 ghost use Rattle.fithmoul.specs.Results.{steppedResult, stepResult, finishedResult, finishResult, volumeResult};
 ghost use Rattle.fithmoul.specs.Results.{areaTotalResult, sideQueryResult};
+ghost use Rattle.fithmoul.specs.Results.{loadedResult, bulkLoadResult};
+ghost use Rattle.sums.specs.Bit.{bit};
 use area::Sided;
 use area::Totalled;
 use ask::Asked;
+use bulk_load::BulkLoadAnswer;
 use finish::FinishAnswer;
 use finish::Finished;
 use locate::Located;
@@ -104,6 +109,21 @@ pub struct RunResult {
     pub edges: u32,
     pub faces: u32,
     pub changes: u32,
+    pub faces_added: u32,
+    pub convex_flips: u64,
+    pub closing_flips: u64,
+}
+
+// A run's result, and whether the points came to no triangle: 1 for a line of points, one point, or none.
+#[repr(C)]
+pub struct BulkLoadResult {
+    pub refusal: u32,
+    pub place: u32,
+    pub vertices: u32,
+    pub edges: u32,
+    pub faces: u32,
+    pub changes: u32,
+    pub line: u32,
     pub faces_added: u32,
     pub convex_flips: u64,
     pub closing_flips: u64,
@@ -431,4 +451,59 @@ pub fn run_refused(changes: u32, counts: Counts, refusal: Refusal) -> RunResult
             finished: Finished::Refused(refusal),
         },
     )
+}
+
+// 1 for a line of points.
+fn line_mark(line: bool) -> u32
+    ensures { λ r. ⌜ r ≡ bit line ⌝ }
+{
+    if line {
+        return 1;
+    }
+    0
+}
+
+// With the mark of a line. The change count starts at 0.
+fn loaded_result(line: bool, result: FinishResult) -> BulkLoadResult
+    ensures { λ r. ⌜ r ≡ loadedResult line result ⌝ }
+{
+    BulkLoadResult {
+        refusal: result.refusal,
+        place: result.place,
+        vertices: result.vertices,
+        edges: result.edges,
+        faces: result.faces,
+        changes: 0,
+        line: line_mark(line),
+        faces_added: result.faces_added,
+        convex_flips: result.convex_flips,
+        closing_flips: result.closing_flips,
+    }
+}
+
+// A bulk load.
+pub fn bulk_load_result(answer: BulkLoadAnswer) -> BulkLoadResult
+    ensures { λ r. ⌜ r ≡ bulkLoadResult answer ⌝ }
+{
+    let finish = answer.finish;
+    let result = finish_result(finish);
+    loaded_result(answer.line, result)
+}
+
+// Refused before anything is done: no mesh was given.
+pub fn bulk_load_refused(refusal: Refusal) -> BulkLoadResult
+    ensures { λ r. ⌜ r ≡ bulkLoadResult
+        (record { finish = record { counts = noCounts; finished = Finished.Refused refusal }; line = false }) ⌝ }
+{
+    bulk_load_result(BulkLoadAnswer {
+        finish: FinishAnswer {
+            counts: Counts {
+                vertices: 0,
+                edges: 0,
+                faces: 0,
+            },
+            finished: Finished::Refused(refusal),
+        },
+        line: false,
+    })
 }
