@@ -149,8 +149,8 @@ seen "a closed corner leaves face 0 another stored edge" $operations \
 
 echo "the insertions:"
 seen "insertions: the search starts at vertex 1" $driver \
-    'Ok(Sweep { swept, hull, centre, buffer, watch: Watch::Domain, hint: 0, skipped })' \
-    'Ok(Sweep { swept, hull, centre, buffer, watch: Watch::Domain, hint: 1, skipped })' \
+    'Sweep { swept, hull, centre, buffer, watch: Watch::Domain, hint: 0, skipped }' \
+    'Sweep { swept, hull, centre, buffer, watch: Watch::Domain, hint: 1, skipped }' \
     'answer_from(case, watch, 0)' 'answer_from(case, watch, 1)'
 seen "insertions: no walk to the nearest vertex" $ext \
     'let closest_vertex = self.walk_to_nearest_neighbor(start, target_position);' \

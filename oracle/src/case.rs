@@ -38,6 +38,8 @@ pub enum Ending {
         number: u32,
         place: u32,
     },
+    /// Of bare points alone: the list ends before a point is left for a step, and this is the mesh so far.
+    Grown(Mesh),
 }
 
 /// The insertions of the skipped points (Change 2).
@@ -62,12 +64,15 @@ pub mod reason {
     pub const NO_HULL: u32 = 7;
     pub const PASS_FAILS: u32 = 8;
     pub const INSERTION_FAILS: u32 = 9;
-    /// The last two are of the insertions alone: the answer before them stays.
+    /// These two are of the insertions alone: the answer before them stays.
     pub const AFTER_PASSES: u32 = 10;
     pub const SEARCH_PANICS: u32 = 11;
+    /// Of bare points alone.
+    pub const NOT_STRICT: u32 = 12;
+    pub const GROWING_FAILS: u32 = 13;
 }
 
-fn line<T: Display>(text: &mut String, tag: char, numbers: impl IntoIterator<Item = T>) {
+pub fn line<T: Display>(text: &mut String, tag: char, numbers: impl IntoIterator<Item = T>) {
     text.push(tag);
     for number in numbers {
         write!(text, " {number}").unwrap();
@@ -123,6 +128,7 @@ impl Answer {
             }
             Ending::Outside { reason, index } => line(text, 'x', [reason, index]),
             Ending::Refused { .. } => {}
+            Ending::Grown(mesh) => write_mesh(text, mesh),
         }
         line(text, 'e', [0u32; 0]);
     }
@@ -159,12 +165,12 @@ impl<'a> Lines<'a> {
         self.at >= self.lines.len()
     }
 
-    fn tag(&self) -> Option<char> {
+    pub fn tag(&self) -> Option<char> {
         self.lines.get(self.at)?.chars().next()
     }
 
     /// The numbers of the next line, which has this tag.
-    fn take<T: std::str::FromStr>(&mut self, tag: char) -> Read<Vec<T>> {
+    pub fn take<T: std::str::FromStr>(&mut self, tag: char) -> Read<Vec<T>> {
         let line = self.lines.get(self.at).ok_or(format!("the text ends before a line {tag}"))?;
         self.at += 1;
         let mut fields = line.split(' ');
@@ -175,13 +181,16 @@ impl<'a> Lines<'a> {
         fields.map(number).collect()
     }
 
-    fn take_exactly<T: std::str::FromStr, const N: usize>(&mut self, tag: char) -> Read<[T; N]> {
+    pub fn take_exactly<T: std::str::FromStr, const N: usize>(&mut self, tag: char) -> Read<[T; N]> {
         let numbers = self.take(tag)?;
         let at = self.at;
         numbers.try_into().map_err(|_| format!("line {at}: not {N} numbers"))
     }
 
-    fn take_groups<T: std::str::FromStr + Copy, const N: usize>(&mut self, tag: char) -> Read<Vec<[T; N]>> {
+    pub fn take_groups<T: std::str::FromStr + Copy, const N: usize>(
+        &mut self,
+        tag: char,
+    ) -> Read<Vec<[T; N]>> {
         let numbers: Vec<T> = self.take(tag)?;
         if numbers.len() % N != 0 {
             return Err(format!("line {}: not groups of {N} numbers", self.at));
@@ -216,7 +225,7 @@ impl<'a> Lines<'a> {
         self.unnumbered_answer(number)
     }
 
-    fn unnumbered_answer(&mut self, number: u64) -> Read<Answer> {
+    pub fn unnumbered_answer(&mut self, number: u64) -> Read<Answer> {
         let (fates, ending) = if self.tag() == Some('r') {
             let [number, place] = self.take_exactly('r')?;
             (Vec::new(), Ending::Refused { number, place })
@@ -233,6 +242,9 @@ impl<'a> Lines<'a> {
             return Ok(Ending::Outside { reason, index });
         }
         let stepped = self.mesh()?;
+        if self.tag() == Some('e') {
+            return Ok(Ending::Grown(stepped));
+        }
         let pass = self.take_exactly('g')?;
         Ok(Ending::Inside { stepped, pass, passed: self.mesh()?, inserted: self.insertions()? })
     }
@@ -258,7 +270,7 @@ impl<'a> Lines<'a> {
         Ok((case, answer))
     }
 
-    fn all<T>(&mut self, mut one: impl FnMut(&mut Self) -> Read<T>) -> Read<Vec<T>> {
+    pub fn all<T>(&mut self, mut one: impl FnMut(&mut Self) -> Read<T>) -> Read<Vec<T>> {
         let mut items = Vec::new();
         while !self.is_empty() {
             items.push(one(self)?);

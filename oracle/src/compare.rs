@@ -1,11 +1,11 @@
 //! Another program's answers beside the Rust's, on thousands of inputs.
 
 use std::collections::BTreeMap;
-use std::io::{Read, Write};
+use std::io::{Read as _, Write};
 use std::process::{Command, Stdio};
 use std::thread;
 
-use crate::case::{read_answers, reason, Answer, Case, Ending, Insertions, Lines};
+use crate::case::{reason, Answer, Case, Ending, Insertions, Lines, Read};
 use crate::generate;
 use crate::mesh::Mesh;
 use crate::worker::Oracle;
@@ -16,12 +16,12 @@ pub const MOST_POINTS: u64 = 40;
 /// Inputs that the program gets in one run of it.
 const CHUNK: u64 = 500;
 
-/// The program's answers, as far as it gives them in the format.
-fn answers_of(program: &[String], cases: &[(Case, Answer)]) -> Result<Vec<Answer>, String> {
-    let mut text = String::new();
-    for (case, _) in cases {
-        case.write(&mut text);
-    }
+/// The program's answers to a text of inputs, as far as it gives them in the format.
+pub fn answers_of<T>(
+    program: &[String],
+    text: String,
+    mut one: impl FnMut(&mut Lines) -> Read<T>,
+) -> Result<Vec<T>, String> {
     let mut child = Command::new(&program[0])
         .args(&program[1..])
         .stdin(Stdio::piped())
@@ -41,7 +41,7 @@ fn answers_of(program: &[String], cases: &[(Case, Answer)]) -> Result<Vec<Answer
     let mut lines = Lines::new(&output);
     let mut answers = Vec::new();
     while !lines.is_empty() {
-        match lines.answer() {
+        match one(&mut lines) {
             Ok(answer) => answers.push(answer),
             Err(text) => {
                 eprintln!("{}: {text}", program[0]);
@@ -52,8 +52,16 @@ fn answers_of(program: &[String], cases: &[(Case, Answer)]) -> Result<Vec<Answer
     Ok(answers)
 }
 
+fn case_answers(program: &[String], cases: &[(Case, Answer)]) -> Result<Vec<Answer>, String> {
+    let mut text = String::new();
+    for (case, _) in cases {
+        case.write(&mut text);
+    }
+    answers_of(program, text, |lines| lines.answer())
+}
+
 /// The first difference of two meshes, in words.
-fn mesh_difference(rust: &Mesh, other: &Mesh) -> Option<String> {
+pub fn mesh_difference(rust: &Mesh, other: &Mesh) -> Option<String> {
     fn rows<T: PartialEq + std::fmt::Debug>(name: &str, a: &[T], b: &[T]) -> Option<String> {
         if a.len() != b.len() {
             return Some(format!("{name}: {} against {}", a.len(), b.len()));
@@ -121,6 +129,10 @@ pub fn difference(rust: &Answer, other: &Answer) -> Option<String> {
                 .or(mesh_difference(passed, q).map(after("after the pass")))
                 .or(insertions_difference(&rust.fates, inserted, i))
         }
+        (Ending::Grown(mesh), Ending::Grown(grown)) => {
+            let extra = (rust.fates.len() != other.fates.len()).then(|| "more points answered".to_string());
+            extra.or(mesh_difference(mesh, grown).map(after("after the last point")))
+        }
         (Ending::Outside { reason, index }, _) => outside_difference(*reason, *index, other),
         (_, ending) => Some(format!("no answer of the domain: {ending:?}")),
     }
@@ -151,10 +163,8 @@ struct Disagreement {
 
 /// What was compared, in numbers.
 #[derive(Default)]
-struct Tally {
+pub struct Tally {
     compared: u64,
-    outside: BTreeMap<u32, u64>,
-    disagreements: u64,
     fates: [u64; 4],
     faces: u64,
     flips: u64,
@@ -167,7 +177,7 @@ struct Tally {
 }
 
 impl Tally {
-    fn add(&mut self, rust: &Answer) {
+    pub fn add(&mut self, rust: &Answer) {
         let Ending::Inside { pass, inserted, .. } = &rust.ending else { return };
         self.compared += 1;
         for &[fate, _, faces, flips] in &rust.fates {
@@ -191,19 +201,7 @@ impl Tally {
         }
     }
 
-    fn print(&self) {
-        let reasons = [
-            "",
-            "the Rust panics in a step",
-            "the Rust does not return from a step",
-            "a point at the centre (fate 5)",
-            "no sound ring (fate 4), the Rust returns",
-            "a flip for another reason",
-            "refused",
-            "no hull",
-            "the pass fails",
-            "an insertion fails",
-        ];
+    pub fn print_inside(&self) {
         println!("compared inside the domain: {}", self.compared);
         println!(
             "  with points added {} (faces {}, flips {}), dropped {}, skipped {}; passes' faces {}, flips {}",
@@ -216,11 +214,30 @@ impl Tally {
             "    into a face {face} (flips {f}), on an edge {edge} (flips {e}), outside {outside} (flips {o}), on a vertex {vertex}"
         );
         println!("  without: a further pass adds a face {after_passes}, the search panics {lost}");
-        println!("outside the domain: {}", self.outside.values().sum::<u64>());
-        for (&reason, count) in &self.outside {
-            println!("  {}: {count}", reasons[reason as usize]);
-        }
-        println!("disagreements: {}", self.disagreements);
+    }
+}
+
+/// How many inputs are outside the domain, by the reason.
+pub fn outside_counts(counts: &BTreeMap<u32, u64>) {
+    let reasons = [
+        "",
+        "the Rust panics in a step",
+        "the Rust does not return from a step",
+        "a point at the centre (fate 5)",
+        "no sound ring (fate 4), the Rust returns",
+        "a flip for another reason",
+        "refused",
+        "no hull",
+        "the pass fails",
+        "an insertion fails",
+        "a further pass adds a face",
+        "the search panics",
+        "the first hull is not strict",
+        "the seed does not grow",
+    ];
+    println!("outside the domain: {}", counts.values().sum::<u64>());
+    for (&reason, count) in counts {
+        println!("  {}: {count}", reasons[reason as usize]);
     }
 }
 
@@ -229,6 +246,7 @@ impl Tally {
 pub fn at_scale([count, seed, most]: [u64; 3], program: &[String]) -> Result<bool, String> {
     let mut oracle = Oracle::default();
     let mut tally = Tally::default();
+    let (mut outside, mut disagreements) = (BTreeMap::new(), 0);
     let mut smallest: Option<Disagreement> = None;
     for start in (0..count).step_by(CHUNK as usize) {
         let mut cases = Vec::new();
@@ -236,14 +254,14 @@ pub fn at_scale([count, seed, most]: [u64; 3], program: &[String]) -> Result<boo
             let case = generate::case(seed, number, most);
             let answer = oracle.answer(&case);
             if let Ending::Outside { reason, index } = answer.ending {
-                *tally.outside.entry(reason).or_default() += 1;
+                *outside.entry(reason).or_default() += 1;
                 let cut = case.cut((index as usize).min(case.points.len()));
                 let answer = oracle.answer(&cut);
                 cases.push((cut, answer));
             }
             cases.push((case, answer));
         }
-        let answers = answers_of(program, &cases)?;
+        let answers = case_answers(program, &cases)?;
         for (at, (case, rust)) in cases.into_iter().enumerate() {
             tally.add(&rust);
             let text = match answers.get(at) {
@@ -251,23 +269,25 @@ pub fn at_scale([count, seed, most]: [u64; 3], program: &[String]) -> Result<boo
                 None => Some("no answer".to_string()),
             };
             let Some(text) = text else { continue };
-            tally.disagreements += 1;
+            disagreements += 1;
             if smallest.as_ref().is_none_or(|d| case.size() < d.case.size()) {
                 smallest = Some(Disagreement { case, text });
             }
         }
     }
-    tally.print();
+    tally.print_inside();
+    outside_counts(&outside);
+    println!("disagreements: {disagreements}");
     if let Some(found) = smallest {
         report(&mut oracle, program, found)?;
     }
-    Ok(tally.disagreements == 0)
+    Ok(disagreements == 0)
 }
 
 fn disagreement(oracle: &mut Oracle, program: &[String], case: Case) -> Result<Option<Disagreement>, String> {
     let rust = oracle.answer(&case);
     let cases = [(case, rust)];
-    let answers = answers_of(program, &cases)?;
+    let answers = case_answers(program, &cases)?;
     let [(case, rust)] = cases;
     let text = match answers.first() {
         Some(answer) => difference(&rust, answer),

@@ -3,8 +3,8 @@
 //!
 //! A line `spade!("..")` below takes a file of spade as it stands. The stand-ins have the places of
 //! spade's own files (handle_impls.rs, iterators.rs, hint_generator.rs, delaunay_triangulation.rs;
-//! unused.rs for the rest) and follow 01-scope.md, which gives the accessors' meanings. The driver is a
-//! child of the module of bulk_load.rs, because the sweep's functions are private there.
+//! unused.rs for the rest) and follow 01-scope.md, which gives the accessors' meanings. The drivers are
+//! children of the module of bulk_load.rs, because the sweep's functions are private there.
 
 #![allow(unexpected_cfgs, dead_code, unused_imports, unused_variables)]
 #![allow(clippy::all)]
@@ -43,6 +43,8 @@ pub mod delaunay_core {
         spade!("delaunay_core/bulk_load.rs");
 
         pub mod driver;
+
+        pub mod growing;
     }
 
     pub mod dcel {
@@ -107,9 +109,11 @@ pub use point::{HasPosition, Point2, SpadeNum};
 pub use triangulation::{FloatTriangulation, PositionInTriangulation, Triangulation};
 pub use unused::{flood_fill_iterator, intersection_iterator, Barycentric};
 
+pub mod bare;
 pub mod case;
 pub mod compare;
 pub mod generate;
+pub mod generate_bare;
 pub mod list;
 pub mod mesh;
 pub mod random;

@@ -280,6 +280,7 @@ fn told(answer: &Answer) -> (&[[u32; 4]], Option<[u32; 2]>) {
         }
         Ending::Outside { reason, index } => (&answer.fates, Some([*reason, *index])),
         Ending::Refused { .. } => (&[], None),
+        Ending::Grown(_) => (&answer.fates, None),
     }
 }
 

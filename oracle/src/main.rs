@@ -3,10 +3,10 @@
 use std::io::{Read, Write};
 use std::process::ExitCode;
 
-use oracle::case::{read_cases, read_list};
+use oracle::case::{read_cases, read_list, Lines};
 use oracle::driver::Watch;
-use oracle::worker::{work, Oracle};
-use oracle::{compare, generate, list, smallest};
+use oracle::worker::{work, write_loaded, Oracle, Work};
+use oracle::{bare, compare, generate, list, smallest};
 
 const USAGE: &str = "usage:
   oracle generate COUNT SEED [MOST_POINTS]   write inputs
@@ -21,7 +21,18 @@ const USAGE: &str = "usage:
                                              the Rust has it
   oracle beyond < LINES                      the same without stopping at refusals 6 and 7,
                                              at fates 4 and 5 and where a further pass
-                                             would add a face";
+                                             would add a face
+  oracle bare generate COUNT SEED [MOST_POINTS]
+                                             write lists of bare points
+  oracle bare answer < LISTS                 write the Rust's answers, in list order
+  oracle bare compare COUNT SEED [MOST_POINTS] -- PROGRAM [ARGUMENT..]
+                                             compare a program's answers with the Rust's
+  oracle load generate COUNT SEED [MOST_POINTS]
+                                             the same lists in the order in which bulk_load
+                                             takes their points
+  oracle load answer < LISTS                 write the meshes that bulk_load itself makes
+  oracle load compare COUNT SEED [MOST_POINTS] -- PROGRAM [ARGUMENT..]
+                                             as `oracle bare compare`, and with these meshes";
 
 fn standard_input() -> String {
     let mut text = String::new();
@@ -48,12 +59,60 @@ fn numbers(arguments: &[String]) -> Result<[u64; 3], String> {
     }
 }
 
+/// COUNT SEED [MOST_POINTS] -- PROGRAM [ARGUMENT..].
+fn numbers_and_program(arguments: &[String]) -> Result<([u64; 3], &[String]), String> {
+    let split = arguments.iter().position(|a| a == "--").ok_or(USAGE)?;
+    let program = &arguments[split + 1..];
+    if program.is_empty() {
+        return Err(USAGE.to_string());
+    }
+    Ok((numbers(&arguments[..split])?, program))
+}
+
+/// The commands of bare points; `taken`: of lists in the order in which `bulk_load` takes them, and of that
+/// function itself.
+fn run_bare(taken: bool, arguments: &[String]) -> Result<bool, String> {
+    let command = arguments.first().map(String::as_str).unwrap_or_default();
+    let rest = &arguments[1.min(arguments.len())..];
+    match command {
+        "generate" => {
+            let [count, seed, most] = numbers(rest)?;
+            for number in 0..count {
+                let mut text = String::new();
+                bare::list(seed, number, most, taken).write(&mut text);
+                print(&text);
+            }
+        }
+        "answer" if rest.is_empty() => {
+            let mut oracle = Oracle::default();
+            for list in Lines::new(&standard_input()).all(bare::read_bare)? {
+                let mut text = String::new();
+                if taken {
+                    write_loaded(&mut text, list.number, oracle.loaded(&list));
+                } else {
+                    oracle.bare(&list).write(&mut text);
+                }
+                print(&text);
+            }
+        }
+        "compare" => {
+            let (numbers, program) = numbers_and_program(rest)?;
+            return bare::at_scale(numbers, taken, program);
+        }
+        _ => return Err(USAGE.to_string()),
+    }
+    Ok(true)
+}
+
 fn run(arguments: &[String]) -> Result<bool, String> {
     let command = arguments.first().map(String::as_str).unwrap_or_default();
     match (command, &arguments[1.min(arguments.len())..]) {
-        ("worker", []) => work(Watch::Domain),
-        ("worker-centre", []) => work(Watch::Centre),
-        ("worker-beyond", []) => work(Watch::Nowhere),
+        ("worker", []) => work(Work::Answer(Watch::Domain)),
+        ("worker-centre", []) => work(Work::Answer(Watch::Centre)),
+        ("worker-beyond", []) => work(Work::Answer(Watch::Nowhere)),
+        ("worker-load", []) => work(Work::Load),
+        ("bare", rest) => return run_bare(false, rest),
+        ("load", rest) => return run_bare(true, rest),
         ("generate", rest) => {
             let [count, seed, most] = numbers(rest)?;
             for number in 0..count {
@@ -81,12 +140,8 @@ fn run(arguments: &[String]) -> Result<bool, String> {
         }
         ("smallest", [_, _, _]) => smallest::search(numbers(&arguments[1..])?),
         ("compare", rest) => {
-            let split = rest.iter().position(|a| a == "--").ok_or(USAGE)?;
-            let program = &rest[split + 1..];
-            if program.is_empty() {
-                return Err(USAGE.to_string());
-            }
-            return compare::at_scale(numbers(&rest[..split])?, program);
+            let (numbers, program) = numbers_and_program(rest)?;
+            return compare::at_scale(numbers, program);
         }
         ("listing", []) => print(&list::listing(&standard_input(), false)?),
         ("beyond", []) => print(&list::listing(&standard_input(), true)?),

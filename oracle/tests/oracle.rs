@@ -2,11 +2,13 @@
 
 use std::process::{Command, Stdio};
 
-use oracle::case::{read_answers, read_list, reason, Answer, Case, Ending, Insertions};
+use oracle::bare::{self, bare_difference, Bare, BareAnswer};
+use oracle::case::{read_answers, read_list, reason, Answer, Case, Ending, Insertions, Lines};
 use oracle::compare::difference;
 use oracle::delaunay_core::bulk_load::driver::{
     self, angle, answer, answer_from, boundary_angles, built, Sweep, Watch,
 };
+use oracle::delaunay_core::bulk_load::growing;
 use oracle::mesh::{orient, Mesh, Position};
 use oracle::random::Random;
 use oracle::smallest::{has_left_corner, has_unsettled_edge};
@@ -418,4 +420,136 @@ fn compare_command() {
     assert!(same.ends_with("disagreements: 0\n"), "{same}");
     let none = printed(&["compare", "3", "2", "--", "true"], "");
     assert!(none.contains("the smallest disagreement"), "{none}");
+}
+
+fn bare_of(points: &[Position]) -> Bare {
+    Bare { number: 0, points: points.to_vec() }
+}
+
+/// The answers of bare points: those of the growing seed, then of the steps; the points in the seed, where the
+/// sweep starts; the last mesh.
+fn grown(points: &[Position]) -> (Vec<[u32; 4]>, Option<u32>, Mesh) {
+    let BareAnswer { start, answer } = growing::answer(&bare_of(points));
+    let start = start.map(|s| s.taken);
+    match answer.ending {
+        Ending::Grown(mesh) => (answer.fates, start, mesh),
+        Ending::Inside { inserted: Insertions::Made { fates, mesh }, .. } => (fates, start, mesh),
+        ending => panic!("{ending:?}"),
+    }
+}
+
+/// No points, one, two, a line; links as Change 6 has them.
+#[test]
+fn bare_points_on_a_line() {
+    let nothing = "i 7\ns\na\nm 0 0 0\np\no\nh\nf\ne\n";
+    assert_eq!(printed(&["bare", "answer"], "i 7\nq\n"), nothing);
+    let one = "i 0\ns\na 1 0 0 0 9 0 0 0\nm 1 0 1\np 3 4\no 0\nh\nf 0\ne\n";
+    assert_eq!(printed(&["bare", "answer"], "i 0\nq 3 4 3 4\n"), one);
+    let (fates, start, mesh) = grown(&[[0, 0], [4, 0]]);
+    assert_eq!((fates.len(), start), (2, None));
+    assert_eq!(mesh.half_edges, [[1, 1, 0, 0], [0, 0, 0, 1]]);
+    assert_eq!((mesh.out_edges, mesh.faces), (vec![0, 1], vec![0]));
+    let (fates, start, mesh) = grown(&[[0, 0], [4, 0], [1, 0], [4, 0], [-3, 0]]);
+    assert_eq!(fates, [[1, 0, 0, 0], [1, 1, 0, 0], [1, 2, 0, 0], [9, 1, 0, 0], [1, 3, 0, 0]]);
+    assert_eq!((start, &mesh.faces[..]), (None, &[0][..]));
+    let walk: Vec<u32> = mesh.boundary().into_iter().map(|e| mesh.origin(e)).collect();
+    assert_eq!(walk, [2, 1, 2, 0, 3, 0]);
+    for points in [vec![], vec![[3, 4]], vec![[0, 0], [4, 0], [1, 0]]] {
+        let points = growing::as_taken(&points);
+        assert_eq!(growing::loaded(&bare_of(&points)).unwrap(), grown(&points).2);
+    }
+}
+
+/// 01's sample without its seed, as in Change 2; and a seed that grows on, the middle of its last three vertices
+/// being on an edge, or outside by the rounding of a third.
+#[test]
+fn bare_points_and_their_start() {
+    let (fates, start, mesh) = grown(&[[0, 0], [4, 0], [0, 4], [4, 4], [2, 2], [4, 4], [1, 1]]);
+    assert_eq!(fates.iter().map(|f| f[0]).collect::<Vec<_>>(), [1, 1, 1, 1, 7, 2, 7]);
+    assert_eq!((start, mesh.positions.len(), mesh.edges(), mesh.faces.len()), (Some(3), 6, 11, 7));
+    assert_eq!(grown(&[[0, 0], [0, 5], [0, -5], [7, 1]]).1, None);
+    assert_eq!(grown(&[[0, 0], [0, 5], [0, -5], [7, 1], [9, 9]]).1, Some(5));
+    let far = 16_777_216;
+    assert_eq!(grown(&[[far, 0], [far, 4], [far - 1, 2]]).1, None);
+    assert_eq!(grown(&[[far, 0], [far, 4], [far - 2, 2]]).1, Some(3));
+}
+
+/// What `bulk_load` itself makes of its points is what its parts make of them in the order in which it takes
+/// them; and such a mesh keeps the rules, is convex and settled.
+#[test]
+fn bulk_load_in_its_own_order() {
+    let mut compared = 0;
+    for number in 0..1400 {
+        let list = bare::list(3, number, 30, true);
+        assert_eq!(growing::as_taken(&list.points), list.points);
+        let BareAnswer { answer, .. } = growing::answer(&list);
+        let (Ending::Grown(mesh) | Ending::Inside { inserted: Insertions::Made { mesh, .. }, .. }) =
+            answer.ending
+        else {
+            continue;
+        };
+        compared += 1;
+        assert_eq!(growing::loaded(&list).unwrap(), mesh, "list {number}");
+        if mesh.faces.len() > 1 {
+            assert_eq!(mesh.refusal(&[]), None);
+            assert!(!has_left_corner(&mesh) && !has_unsettled_edge(&mesh));
+        }
+    }
+    assert!(compared > 1300, "{compared}");
+}
+
+/// Each part of an answer to bare points is compared, and its text is read as it was written.
+#[test]
+fn comparison_of_bare_points() {
+    let mut started = 0;
+    for number in 0..70 {
+        let rust = growing::answer(&bare::list(4, number, 20, false));
+        let mut text = String::new();
+        rust.write(&mut text);
+        assert_eq!(bare::read_answer(&mut Lines::new(&text)).unwrap(), rust);
+        assert_eq!(bare_difference(&rust, &rust), None);
+        let differs = |change: &dyn Fn(&mut BareAnswer)| {
+            let mut other = rust.clone();
+            change(&mut other);
+            other == rust || bare_difference(&rust, &other).is_some()
+        };
+        for at in 0..4 {
+            assert!(differs(&|a| a.answer.fates.iter_mut().take(1).for_each(|fate| fate[at] += 1)));
+        }
+        assert!(differs(&|a| a.start = None));
+        assert!(differs(&|a| {
+            if let Ending::Grown(mesh) = &mut a.answer.ending {
+                mesh.out_edges.iter_mut().for_each(|e| *e += 1);
+            }
+        }));
+        if let Some(mut start) = rust.start {
+            started += 1;
+            start.centre[1] ^= 1;
+            assert!(differs(&|a| a.start = Some(start)));
+            start = rust.start.unwrap();
+            start.taken += 1;
+            assert!(differs(&|a| a.start = Some(start)));
+        }
+    }
+    assert!(started > 20);
+}
+
+/// The commands of bare points.
+#[test]
+fn compare_bare_commands() {
+    let same = printed(&["bare", "compare", "300", "2", "--", ORACLE, "bare", "answer"], "");
+    assert!(same.ends_with("disagreements: 0\n") && !same.contains("bulk_load"), "{same}");
+    let same = printed(&["load", "compare", "300", "2", "--", ORACLE, "bare", "answer"], "");
+    assert!(
+        same.ends_with("disagreements: 0\n") && same.contains("put to bulk_load itself: 300\n"),
+        "{same}"
+    );
+    for command in ["bare", "load"] {
+        let none = printed(&[command, "compare", "3", "2", "--", "true"], "");
+        assert!(none.contains("the smallest disagreement"), "{none}");
+    }
+    let lists = printed(&["load", "generate", "40", "5"], "");
+    assert_eq!(lists, printed(&["load", "generate", "40", "5"], ""));
+    let meshes = printed(&["load", "answer"], &lists);
+    assert_eq!(meshes.lines().filter(|line| *line == "e").count(), 40);
 }

@@ -1,5 +1,5 @@
-"""The reference as the side that is compared with the Rust oracle: inputs on stdin, answers on stdout, in
-the oracle's text format (oracle/FORMAT.md).
+"""The reference as the side that is compared with the Rust oracle: inputs on stdin, runs and lists of bare points,
+answers on stdout, in the oracle's text format (oracle/FORMAT.md).
 
     python3 answer.py < inputs.txt > answers.txt
 """
@@ -9,6 +9,7 @@ import sys
 
 import meshes
 import sweep
+from samples import bits
 
 PLENTY = 1 << 30  # pending entries: refusal 9 is never given
 
@@ -22,7 +23,7 @@ def pairs(numbers):
 
 
 def inputs(stream):
-    """The lines `i m p o h f c q` of each case."""
+    """The lines `i m p o h f c q` of each case, `i q` where its points are bare."""
     case = {}
     for line in stream:
         if line.startswith("#"):
@@ -65,7 +66,41 @@ def inserted(mesh, points, answers):
     return [line("b", answers)] + mesh_lines(mesh)
 
 
+def swept(mesh, centre, points, answers):
+    """The steps of the points that have no answer yet, the first pass, and what comes after it."""
+    for p in points[len(answers) // sweep.WORDS:]:
+        answers += sweep.one_step(mesh, p, centre, PLENTY)
+    out = [line("a", answers)] + mesh_lines(mesh)
+    faces = mesh.faces
+    flips = sweep.fix_convexity(mesh, PLENTY)
+    out += [line("g", (mesh.faces - faces, flips))] + mesh_lines(mesh)
+    return out + inserted(mesh, points, answers)
+
+
+def bare_answer(case):
+    """Change 6: the points that the seed takes, and the centre; then as a run, or nothing more where the list ends."""
+    points = pairs(case["q"])
+    n = len(points)
+    mesh = meshes.with_room(sweep.Mesh([], [], [], [], 0, 0, 0), n)
+    lent = sweep.lent_for(n, 8, n)
+    try:
+        sweep.refuse_bulk_load(mesh, lent, points, [0] * n)
+    except sweep.Refusal as r:
+        return [line("r", (r.number, r.place))]
+    answers, centre = [], None
+    while len(answers) < sweep.WORDS * n and centre is None:
+        answers += sweep.grow(mesh, points[len(answers) // sweep.WORDS], 0, PLENTY)
+        centre = sweep.start_of_sweep(mesh)
+    taken = len(answers) // sweep.WORDS
+    out = [line("s", [] if centre is None else [taken, *map(bits, centre)])]
+    if taken == n:
+        return out + [line("a", answers)] + mesh_lines(mesh)
+    return out + swept(mesh, centre, points, answers)
+
+
 def answer(case):
+    if "m" not in case:
+        return bare_answer(case)
     points = pairs(case["q"])
     centre = tuple(of_bits(b) for b in case["c"])
     given = mesh_of(case)
@@ -75,14 +110,7 @@ def answer(case):
         sweep.refuse_run(mesh, sweep.lent_for(n, 8, len(points)), centre, points, len(points))
     except sweep.Refusal as r:
         return [line("r", (r.number, r.place))]
-    answers = []
-    for p in points:
-        answers += sweep.one_step(mesh, p, centre, PLENTY)
-    out = [line("a", answers)] + mesh_lines(mesh)
-    faces = mesh.faces
-    flips = sweep.fix_convexity(mesh, PLENTY)
-    out += [line("g", (mesh.faces - faces, flips))] + mesh_lines(mesh)
-    return out + inserted(mesh, points, answers)
+    return swept(mesh, centre, points, [])
 
 
 if __name__ == "__main__":

@@ -1,5 +1,5 @@
-"""Checks of the reference itself: the listing of 01 and Change 2, M1 to M10, rare cases, volumes, areas, quotes, and an
-adversarial campaign of whole runs that asserts what demand 3 claims of them, what the search and the insertion
+"""Checks of the reference itself: the listing of 01 and Change 2, M1 to M10, rare cases, volumes, areas, quotes, bare
+points, and an adversarial campaign of whole runs that asserts what demand 3 claims of them, what the search and the insertion
 of skipped points must satisfy, what heights must and must not change, and what quotes and commits have of a step.
 
     python3 selfcheck.py [seconds of campaign, 20 if none is given] [seed]
@@ -155,6 +155,30 @@ def quotes():
         assert sweep.commit(mesh, sweep.lent_for(6, 8), centre, point, last[2])[0] == 11
     for outside, number, changes in (((9.0, 99.0), 7, sweep.MOST_CHANGES), (centre, 0, 0)):
         assert sweep.run(mesh, sweep.lent_for(6, 8, 1), outside, [(9, -4)])[0] == number and mesh.changes == changes
+
+
+def bulk_load_of(points, pending=64, heights=None):
+    n = len(points)
+    mesh, lent = meshes.with_room(sweep.Mesh([], [], [], [], 0, 0, 0), n), sweep.lent_for(n, pending, n)
+    return sweep.bulk_load(mesh, lent, points, heights), mesh, answers_of(lent.answers)
+
+
+def bare():
+    """Change 6 at its smallest: no points, one, a line, 01's sample without its seed, and refusal 1, which no list has."""
+    assert bulk_load_of([])[0] == (0, 0, 0, 0, 0, 0, 1, 0, 0, 0)
+    answer, mesh, answers = bulk_load_of([(3, 4), (3, 4)], heights=[5, 6])
+    assert answer == (0, 0, 1, 0, 1, 0, 1, 0, 0, 0) and answers == [(1, 0, 0, 0), (9, 0, 0, 0)] and mesh.heights[0] == 6
+    answer, mesh, answers = bulk_load_of([(0, 0), (4, 0), (1, 0)])
+    assert answer == (0, 0, 3, 2, 1, 0, 1, 0, 0, 0) and mesh.outs[:3] == [3, 1, 2] and mesh.stored[0] == 0
+    assert mesh.halves[:16] == [1, 3, 0, 2, 2, 0, 0, 1, 3, 1, 0, 2, 0, 2, 0, 0]
+    answer, mesh, answers = bulk_load_of([(0, 0), (4, 0), (0, 4), (4, 4), (2, 2), (4, 4), (1, 1)])
+    assert answer == (0, 0, 6, 11, 7, 0, 0, 0, 0, 0) and sweep.height_sum(mesh) == 1248
+    assert answers == [(1, 0, 0, 0), (1, 1, 0, 0), (1, 2, 1, 0), (1, 3, 1, 0), (7, 4, 2, 0), (2, 0, 0, 0), (7, 5, 2, 0)]
+    third = 11184811 / 33554432
+    assert sweep.hull_centre(sweep.seed_triangle([(0, 0), (4, 0), (0, 4)], 3)) == (4.0 * third, 4.0 * third)
+    rows = sweep.Mesh([], [], [], [], 0, 0, 0)
+    for count, number in ((1000000, 2), (1000001, 1)):
+        assert sweep.bulk_load(rows, sweep.lent_for(0, 8), [(1 << 30, 0)] * count)[:2] == (number, 0)
 
 
 # ---------------------------------------------------------------------------------------------------
@@ -618,5 +642,6 @@ if __name__ == "__main__":
     heights()
     areas()
     quotes()
-    print("the listing, M1 to M10, the rare cases, the volumes, the areas and the quotes agree")
+    bare()
+    print("the listing, M1 to M10, the rare cases, the volumes, the areas, the quotes and the bare points agree")
     campaign(float(sys.argv[1]) if len(sys.argv) > 1 else 20, int(sys.argv[2]) if len(sys.argv) > 2 else 1)

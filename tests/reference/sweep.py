@@ -1,4 +1,4 @@
-"""An executable reading of 01-scope.md and of Changes 1 to 3 and 5 to it (02-change-requests.md), independent of
+"""An executable reading of 01-scope.md and of Changes 1 to 3, 5 and 6 to it (02-change-requests.md), independent of
 the proved code.
 
 Every function states one sentence of 01 or of a change (cited as '01: "..."', 'Change 1: "..."') or one
@@ -15,6 +15,7 @@ Only the lengths of the ring's rows (nodes, freed, buckets) and of pending matte
 gives no heights, of the vertices or of the points, they are zeros in a row that is long enough.
 
 The mesh's change count is carried with its counts. A quote is a tuple: change count, x, y, z, fate, faces.
+Where a call is given no mesh, its rows are lent in a Mesh whose counts are 0.
 """
 
 from fractions import Fraction
@@ -637,6 +638,56 @@ def split_edge(mesh, e0, point, z):
     return v0
 
 
+# On a line of vertices both half-edges of an edge are the outer face's (Change 6).
+
+
+def setup_initial_two_vertices(mesh, first, second):
+    put_half(mesh, 0, 1, 1, 0, first)
+    put_half(mesh, 1, 0, 0, 0, second)
+    mesh.edges += 1
+    mesh.outs[first], mesh.outs[second] = 0, 1
+    mesh.stored[0] = 0
+
+
+def extend_line(mesh, end, point, z):
+    """The new vertex beyond the line's vertex `end`. Answers the vertex."""
+    vertex = append_unconnected_vertex(mesh, point, z)
+    out_edge, in_edge = mesh.outs[end], rev(mesh.outs[end])
+    face = mesh.face(out_edge)
+    new_edge, new_edge_rev = 2 * mesh.edges, 2 * mesh.edges + 1
+
+    mesh.set(out_edge, PREV, new_edge)
+    mesh.set(in_edge, NEXT, new_edge_rev)
+    put_half(mesh, new_edge, out_edge, new_edge_rev, face, vertex)
+    put_half(mesh, new_edge_rev, new_edge, in_edge, face, end)
+    mesh.edges += 1
+    mesh.outs[vertex] = new_edge
+    return vertex
+
+
+def split_edge_when_all_vertices_on_line(mesh, edge, point, z):
+    """The edge then ends at the new vertex, and a new one leads on from there. Answers the vertex."""
+    vertex = append_unconnected_vertex(mesh, point, z)
+    twin = rev(edge)
+    edge_next, twin_prev, to, face = mesh.next(edge), mesh.prev(twin), mesh.to(edge), mesh.face(edge)
+    new_edge, new_edge_rev = 2 * mesh.edges, 2 * mesh.edges + 1
+
+    mesh.set(edge, NEXT, new_edge)
+    mesh.set(twin, PREV, new_edge_rev)
+    mesh.set(twin, ORIGIN, vertex)
+    mesh.outs[to] = new_edge_rev
+    if edge_next == twin:  # the line ends at `to`
+        edge_next, twin_prev = new_edge_rev, new_edge
+    else:
+        mesh.set(edge_next, PREV, new_edge)
+        mesh.set(twin_prev, NEXT, new_edge_rev)
+    put_half(mesh, new_edge, edge_next, edge, face, vertex)
+    put_half(mesh, new_edge_rev, twin, twin_prev, face, to)
+    mesh.edges += 1
+    mesh.outs[vertex] = new_edge
+    return vertex
+
+
 # ---------------------------------------------------------------------------------------------------
 # Flipping with a pending list (002)
 
@@ -1019,6 +1070,109 @@ def insert_skipped(mesh, point, z, capacity):
 
 
 # ---------------------------------------------------------------------------------------------------
+# The seed grows (Change 6; 002, `insert_with_hint_option_impl` by the number of vertices, and 000, `bulk_load`)
+
+
+PARTS = 1 << 25  # the centre is a whole number of 2^-25
+THIRD = 11184811  # of these parts in the Rust's 1f32 / 3f32
+MET, SPLIT, OFF, BEYOND = "OnVertex", "OnEdge", "NotOnLine", "ExtendingLine"
+
+
+def locate_when_all_vertices_on_line(mesh, point):
+    """002: off the line, by half-edge 0 or its reverse; else by the vertices in the order of x, then y. Answers which
+    it is, and the vertex or half-edge."""
+    query = side(mesh, 0, point)
+    if query != 0:
+        return OFF, 0 if query > 0 else 1
+    vertices = sorted(range(mesh.vertices), key=mesh.at)
+    index = sum(mesh.at(v) < point for v in vertices)
+    if index < mesh.vertices and mesh.at(vertices[index]) == point:
+        return MET, vertices[index]
+    if index == 0 or index == mesh.vertices:
+        return BEYOND, vertices[min(index, mesh.vertices - 1)]
+    after, before = vertices[index], vertices[index - 1]
+    return SPLIT, next(e for e in turn_about(mesh, after) if mesh.to(e) == before)
+
+
+def insert_when_all_vertices_on_line(mesh, point, z, capacity):
+    """002. Change 6: "one on an existing vertex Change 2's fate 9", so that the vertex takes the height."""
+    faces_before, flips = mesh.faces, 0
+    place, found = locate_when_all_vertices_on_line(mesh, point)
+    if place == MET:
+        mesh.heights[found] = z
+        return (9, found, 0, 0)
+    if place == OFF:
+        vertex, flips = insert_outside_of_convex_hull(mesh, found, point, z, capacity)
+    elif place == SPLIT:
+        vertex = split_edge_when_all_vertices_on_line(mesh, found, point, z)
+    else:
+        vertex = extend_line(mesh, found, point, z)
+    return (1, vertex, mesh.faces - faces_before, flips)
+
+
+def insert_first_vertex(mesh, point, z):
+    """Change 6: "it may hold one vertex (its links 0)": its out edge and face 0's stored edge."""
+    vertex = append_unconnected_vertex(mesh, point, z)
+    mesh.outs[vertex] = mesh.stored[0] = 0
+    mesh.faces = 1
+    return (1, vertex, 0, 0)
+
+
+def insert_second_vertex(mesh, point, z):
+    """002"""
+    if mesh.at(0) == point:
+        mesh.heights[0] = z
+        return (9, 0, 0, 0)
+    vertex = append_unconnected_vertex(mesh, point, z)
+    setup_initial_two_vertices(mesh, 0, vertex)
+    return (1, vertex, 0, 0)
+
+
+def grow(mesh, point, z, capacity):
+    """Change 6: "A point placed in this phase has fate 1 with its vertex and the counts as in Change 2, one on an
+    existing vertex Change 2's fate 9." Answers fate, vertex, faces, flips."""
+    if mesh.vertices == 0:
+        return insert_first_vertex(mesh, point, z)
+    if mesh.vertices == 1:
+        return insert_second_vertex(mesh, point, z)
+    if mesh.faces == 1:
+        return insert_when_all_vertices_on_line(mesh, point, z, capacity)
+    fate, vertex, faces, flips = insert_skipped(mesh, point, z, capacity)
+    return (9 if fate == ON_VERTEX else 1, vertex, faces, flips)
+
+
+def holds(mesh, f, target):
+    """Whether the position, in whole parts, is strictly inside an inner face."""
+    corners = [tuple(PARTS * c for c in p) for p in face_corners(mesh, f)]
+    return all(left(corners[i - 1], corners[i], target) for i in range(3))
+
+
+def hull_centre(mesh):
+    """000, `try_get_hull_center` of the last three vertices by number: the centre where a triangle has it strictly
+    inside, else None. Change 6: "The centre is worked out with the Rust's own float steps"; each of them is exact."""
+    if mesh.faces < 2:
+        return None
+    last = [mesh.at(v) for v in range(mesh.vertices - 3, mesh.vertices)]
+    target = tuple(THIRD * sum(c) for c in zip(*last))
+    if not any(holds(mesh, f, target) for f in range(1, mesh.faces)):
+        return None
+    return tuple(float(c) / PARTS for c in target)
+
+
+def start_of_sweep(mesh):
+    """Change 6: "until `try_get_hull_center` and `Hull::from_triangulation` succeed with a strict ring". The centre,
+    or None."""
+    centre = hull_centre(mesh)
+    if centre is not None:
+        try:
+            refuse_centre(mesh, centre)
+            refuse_ring(mesh, centre)
+        except Refusal:
+            centre = None
+    return centre
+
+
+# ---------------------------------------------------------------------------------------------------
 # Volume
 
 
@@ -1089,7 +1243,7 @@ def refuse_end(mesh):
 
 
 # ---------------------------------------------------------------------------------------------------
-# The public calls: 01's five, the volume, the area total, the side query, and those of quotes
+# The public calls: 01's five, the volume, the area total, the side query, those of quotes, and that of bare points
 
 
 class Lent:
@@ -1165,6 +1319,22 @@ def refuse_run(mesh, lent, centre, points, answered, heights=None):
     refuse_mesh(mesh)
     refuse_centre(mesh, centre)
     refuse_ring(mesh, centre)
+
+
+def refuse_bulk_load(mesh, lent, points, zs):
+    """Change 6: "the 1,000,000 limit counts all points, and fewer than 3 is no refusal in this call. It needs a run's
+    rows". 3 names the point's index; there is no mesh, so 4 to 7 refuse nothing."""
+    count = len(points)
+    if count > MOST_VERTICES:
+        raise Refusal(1)
+    refuse_mesh_rows(mesh, count)
+    refuse_ring_rows(lent, count)
+    refuse_pending_row(lent)
+    refuse_point_row(points)
+    refuse_height_row(points, zs)
+    refuse_answer_row(lent, count)
+    refuse_positions(points)
+    refuse_heights(mesh, zs[:count])
 
 
 def step(mesh, lent, centre, point, z=0):
@@ -1250,23 +1420,20 @@ def answer_at(row, i):
     return (fate, vertex, faces, flips)
 
 
-def run(mesh, lent, centre, points, heights=None):
-    """Answers (number, place, faces added, convexity flips, closing flips); the points' answers go to
-    the row.  01: "A run takes its points in list order." Change 2: "After convexity and before the closing
-    pass, points of fates 3, 4 and 5 are inserted in list order"; "Convexity passes then repeat until one adds
-    no face." Until it is in, a skipped point answers 0. A run that is refused by a check leaves the change count,
-    one that is refused 9 was made. """
-    heights = [0] * len(points) if heights is None else heights
-    try:
-        refuse_run(mesh, lent, centre, points, len(points), heights)
-    except Refusal as r:
-        return (r.number, r.place, 0, 0, 0)
-    mesh.changes = 0  # Change 5: "the run starts it at 0"
-    capacity, skipped = len(lent.pending), []
+def clear_answers(lent, points):
+    """Until it is in, a point answers 0."""
     lent.answers[:WORDS * len(points)] = [0] * (WORDS * len(points))
+
+
+def swept(mesh, lent, centre, points, heights, first=0):
+    """The sweep of the points from the index `first` on. Answers (number, place, faces added, convexity flips, closing
+    flips); the points' answers go to the row.  01: "A run takes its points in list order." Change 2: "After convexity
+    and before the closing pass, points of fates 3, 4 and 5 are inserted in list order"; "Convexity passes then repeat
+    until one adds no face." """
+    capacity, skipped = len(lent.pending), []
     try:
-        for place, point in enumerate(points):
-            answer = one_step(mesh, point, centre, capacity, heights[place])
+        for place in range(first, len(points)):
+            answer = one_step(mesh, points[place], centre, capacity, heights[place])
             if answer[0] in SKIPPED:
                 skipped.append(place)
             else:
@@ -1282,9 +1449,59 @@ def run(mesh, lent, centre, points, heights=None):
         # 9 "answers the point's index (.. the point count in a finish within a run ..)"; Change 2: "A 9 met
         # here names that point's index"
         answer = (9, place, 0, 0, 0)
+    return answer
+
+
+def run(mesh, lent, centre, points, heights=None):
+    """Answers as `swept`. A run that is refused by a check leaves the change count, one that is refused 9 was made. """
+    heights = [0] * len(points) if heights is None else heights
+    try:
+        refuse_run(mesh, lent, centre, points, len(points), heights)
+    except Refusal as r:
+        return (r.number, r.place, 0, 0, 0)
+    mesh.changes = 0  # Change 5: "the run starts it at 0"
+    clear_answers(lent, points)
+    answer = swept(mesh, lent, centre, points, heights)
     lent.clear_ring()
     lent.clear_pending()
     return answer
+
+
+def grown(mesh, lent, points, heights):
+    """Change 6: "The seed grows from the front of the list". Answers whether 9 was met, how many points are in before
+    that, and the centre, None where the list ends first. After 9 no later point is looked at."""
+    count, centre = 0, None
+    try:
+        while count < len(points) and centre is None:
+            put_answer(lent.answers, count, grow(mesh, points[count], heights[count], len(lent.pending)))
+            count, centre = count + 1, start_of_sweep(mesh)
+    except PendingFull:
+        return True, count, None
+    return False, count, centre
+
+
+def bulk_load(mesh, lent, points, heights=None):
+    """Answers (number, place, vertices, edges, faces, change count, line, faces added, convexity flips, closing flips):
+    all 0 but number and place where a check refuses.  Change 6: "If the list ends first, the answer is the mesh so
+    far, finished if it has a triangle, else marked as a line of points." """
+    heights = [0] * len(points) if heights is None else heights
+    try:
+        refuse_bulk_load(mesh, lent, points, heights)
+    except Refusal as r:
+        return (r.number, r.place, 0, 0, 0, 0, 0, 0, 0, 0)
+    mesh.changes, line = 0, 0  # Change 6: "starts the change count at 0"
+    clear_answers(lent, points)
+    full, count, centre = grown(mesh, lent, points, heights)
+    if full:
+        number, place, *totals = (9, count, 0, 0, 0)
+    elif mesh.faces < 2:
+        number, place, *totals = (0, 0, 0, 0, 0)
+        line = 1
+    else:  # where the list has ended, the finish alone
+        number, place, *totals = swept(mesh, lent, centre, points, heights, count)
+    lent.clear_ring()
+    lent.clear_pending()
+    return (number, place, *mesh.counts(), mesh.changes, line, *totals)
 
 
 def volume(mesh, level):

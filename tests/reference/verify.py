@@ -4,7 +4,7 @@ the listing program's part has to be noticed by three cases of its list.
 
     python3 verify.py                    # the lists as they stand
     python3 verify.py mutants            # and the changes
-    python3 verify.py mutants skipped    # and some of the changes: base, heights, skipped, areas, quotes, listing
+    python3 verify.py mutants skipped    # and some of the changes: base, heights, skipped, areas, quotes, bare, listing
 """
 
 import math
@@ -19,7 +19,7 @@ HERE = os.path.dirname(os.path.abspath(__file__))
 SECONDS = 20.0  # the longest case takes two
 SHORT = 1000  # bytes of a listing's text that every change is tried on
 FEWEST = 3  # cases of the listing's list that notice a change of the listing
-NAMES = ("samples", "check", "finish", "locate", "step", "run", "volume", "ask", "commit", "listing")
+NAMES = ("samples", "check", "finish", "locate", "step", "run", "volume", "ask", "commit", "bulk_load", "listing")
 ORDER = "mpeohfcnqxwvygGlMPEOHFWra"  # of the lines of a case, as far as it has them
 CHANGES = [7]  # the change count where the line `c` is missing
 
@@ -206,6 +206,18 @@ def commit_one(sweep, case):
             and cleared(number, lent.nodes, lent.freed, lent.buckets, lent.pending))
 
 
+def bulk_load_one(sweep, case):
+    """Rows without a mesh: the counts that are given are those that a refused call answers."""
+    lent = sweep.Lent(*([7] * n for n in case["n"]), pending=row(case["q"]), answers=row(case["w"]))
+    mesh, points = mesh_of(sweep, case, "mpeohf"), pairs(case["v"][1:])
+    assert case["m"] == [0, 0, 0] and len(points) == case["v"][0] and "c" not in case and "x" not in case
+    answer = sweep.bulk_load(mesh, lent, points, row(case["y"]) if "y" in case else None)
+    told, changes = row(case["W"] if "W" in case else case["w"]), 0 if "M" in case else None
+    return (list(answer) == case["r"] and case["r"][2:5] == case.get("M", case["m"])
+            and left_as_told(sweep, case, mesh, changes) and lent.answers == told
+            and cleared(answer[0], lent.nodes, lent.freed, lent.buckets, lent.pending))
+
+
 def listing_one(sweep, given, printed):
     return sweep.listing(given) == printed
 
@@ -249,7 +261,7 @@ def failures(sweep, name, first_only=False):
     else:
         one, last = {"check": (check_one, "r"), "finish": (finish_one, "r"), "step": (call_one, "r"),
                      "run": (call_one, "r"), "volume": (volume_one, "a"), "ask": (ask_one, "r"),
-                     "commit": (commit_one, "r")}[name]
+                     "commit": (commit_one, "r"), "bulk_load": (bulk_load_one, "r")}[name]
         tests = ((one, case) for case in cases(rows, last))
     for test, *arguments in tests:
         total += 1
@@ -1032,6 +1044,237 @@ COUNTED = [  # and of the count in the calls of 01
     ("a run refused 12", RUN_STARTS, "    if mesh.changes == MOST_CHANGES:\n        return (12, 0, 0, 0, 0)\n"
      + RUN_STARTS),
 ]
+TWO_HALVES = "    put_half(mesh, 0, 1, 1, 0, first)\n    put_half(mesh, 1, 0, 0, 0, second)\n"
+TWO_OUTS = "    mesh.outs[first], mesh.outs[second] = 0, 1\n"
+EXTENDED = ("    put_half(mesh, new_edge, out_edge, new_edge_rev, face, vertex)\n"
+            "    put_half(mesh, new_edge_rev, new_edge, in_edge, face, end)\n")
+ENDED_LINE = "    if edge_next == twin:  # the line ends at `to`\n"
+SPLIT_OUTS = "    mesh.outs[to] = new_edge_rev\n"
+SPLIT_HALVES = ("    put_half(mesh, new_edge, edge_next, edge, face, vertex)\n"
+                "    put_half(mesh, new_edge_rev, twin, twin_prev, face, to)\n")
+NEW_OUT = "    mesh.outs[vertex] = new_edge\n    return vertex\n\n\n"
+EXTEND_OUT = NEW_OUT + "def split_edge_when"
+SPLIT_OUT = NEW_OUT + "# ---"
+OFF_LINE = "    if query != 0:\n        return OFF, 0 if query > 0 else 1\n"
+IN_ORDER = "    vertices = sorted(range(mesh.vertices), key=mesh.at)\n"
+ON_LINE_VERTEX = "    if index < mesh.vertices and mesh.at(vertices[index]) == point:\n"
+AT_LINE_END = "        return BEYOND, vertices[min(index, mesh.vertices - 1)]\n"
+NEIGHBOURS = "    return SPLIT, next(e for e in turn_about(mesh, after) if mesh.to(e) == before)\n"
+LINE_HEIGHT = "        mesh.heights[found] = z\n"
+LINE_MET = "        return (9, found, 0, 0)\n"
+LINE_ANSWER = "    return (1, vertex, mesh.faces - faces_before, flips)\n"
+FIRST_LINKS = "    mesh.outs[vertex] = mesh.stored[0] = 0\n"
+FIRST_FACE = "    mesh.faces = 1\n"
+SECOND_MET = "        mesh.heights[0] = z\n        return (9, 0, 0, 0)\n"
+GROWN_FATE = "    return (9 if fate == ON_VERTEX else 1, vertex, faces, flips)\n"
+INSIDE = "    return all(left(corners[i - 1], corners[i], target) for i in range(3))\n"
+LAST_THREE = "range(mesh.vertices - 3, mesh.vertices)]"
+TARGET = "    target = tuple(THIRD * sum(c) for c in zip(*last))\n"
+NOT_HELD = "    if not any(holds(mesh, f, target) for f in range(1, mesh.faces)):\n        return None\n"
+NO_TRIANGLE = "    if mesh.faces < 2:\n        return None\n    last"
+STARTED = "            refuse_centre(mesh, centre)\n            refuse_ring(mesh, centre)\n"
+BARE_COUNT = "    if count > MOST_VERTICES:\n        raise Refusal(1)\n"
+BARE_MESH, BARE_RING = "    refuse_mesh_rows(mesh, count)\n", "    refuse_ring_rows(lent, count)\n"
+BARE_PENDING = "    refuse_pending_row(lent)\n    refuse_point_row(points)\n    refuse_height_row(points, zs)\n"
+BARE_POINTS, BARE_ZS = "    refuse_positions(points)\n", "    refuse_heights(mesh, zs[:count])\n"
+BARE_ANSWERS = "    refuse_answer_row(lent, count)\n"
+BARE_REFUSED = "        return (r.number, r.place, 0, 0, 0, 0, 0, 0, 0, 0)\n"
+BARE_STARTS = "    mesh.changes, line = 0, 0  # Change 6: \"starts the change count at 0\"\n    clear_answers(lent, points)\n"
+GROWTH = "        while count < len(points) and centre is None:\n"
+GROWS = "grow(mesh, points[count], heights[count], len(lent.pending))"
+COUNTED_START = "            count, centre = count + 1, start_of_sweep(mesh)\n"
+GROWING_FULL = "    except PendingFull:\n        return True, count, None\n"
+BARE_FULL = "        number, place, *totals = (9, count, 0, 0, 0)\n"
+LINE_TOTALS = "        number, place, *totals = (0, 0, 0, 0, 0)\n        line = 1\n"
+REST = "        number, place, *totals = swept(mesh, lent, centre, points, heights, count)\n"
+BARE_CLEARED = ("    lent.clear_ring()\n    lent.clear_pending()\n"
+                "    return (number, place, *mesh.counts(), mesh.changes, line, *totals)\n")
+BARE_ANSWER = "    return (number, place, *mesh.counts(), mesh.changes, line, *totals)\n"
+GROWING = [  # the same of Change 6: the operations on a line, the growing seed, the start, then the call
+    ("the two vertices exchanged", TWO_HALVES, TWO_HALVES.replace("first", "x").replace("second", "first").replace(
+        "x)", "second)")),
+    ("no out edge of the second vertex", TWO_OUTS, "    mesh.outs[first] = 0\n"),
+    ("the same out edge for both", TWO_OUTS, "    mesh.outs[first] = mesh.outs[second] = 0\n"),
+    ("two vertices, another stored edge", TWO_OUTS + "    mesh.stored[0] = 0\n", TWO_OUTS + "    mesh.stored[0] = 1\n"),
+    ("a line extended from the end outwards", EXTENDED, EXTENDED.replace(
+        "new_edge, out_edge, new_edge_rev", "new_edge_rev, out_edge, new_edge").replace(
+        "new_edge_rev, new_edge, in_edge", "new_edge, new_edge_rev, in_edge")),
+    ("an extended line's prev kept", "    mesh.set(out_edge, PREV, new_edge)\n", ""),
+    ("an extended line's next kept", "    mesh.set(in_edge, NEXT, new_edge_rev)\n", ""),
+    ("an extended line's new out edge", EXTEND_OUT, EXTEND_OUT.replace("= new_edge\n", "= new_edge_rev\n")),
+    ("the old end's out edge led to the new vertex", EXTEND_OUT,
+     "    mesh.outs[end] = new_edge_rev\n" + EXTEND_OUT),
+    ("an extended line's stored edge", EXTEND_OUT, "    mesh.stored[0] = new_edge\n" + EXTEND_OUT),
+    ("a split line's out edge forgotten", SPLIT_OUTS, ""),
+    ("a split line's origin kept", "    mesh.set(twin, ORIGIN, vertex)\n" + SPLIT_OUTS, SPLIT_OUTS),
+    ("a split line never at its end", ENDED_LINE, "    if False:\n"),
+    ("a split line always at its end", ENDED_LINE, "    if True:\n"),
+    ("a split line's new out edge", SPLIT_OUT, SPLIT_OUT.replace("= new_edge\n", "= twin\n")),
+    ("a split line's new halves exchanged", SPLIT_HALVES, "    new_edge, new_edge_rev = new_edge_rev, new_edge\n" + SPLIT_HALVES),
+    ("a split line's neighbours kept", "        mesh.set(twin_prev, NEXT, new_edge_rev)\n", ""),
+    ("a split line's next neighbour kept", "        mesh.set(edge_next, PREV, new_edge)\n", ""),
+    ("off the line by half-edge 0 alone", OFF_LINE, "    if query != 0:\n        return OFF, 0\n"),
+    ("off the line, the other half-edge", OFF_LINE, OFF_LINE.replace("0 if query > 0 else 1", "1 if query > 0 else 0")),
+    ("off the line on the left alone", OFF_LINE, OFF_LINE.replace("query != 0", "query > 0")),
+    ("a line by y, then x", IN_ORDER + "    index = sum(mesh.at(v) < point for v in vertices)\n",
+     "    vertices = sorted(range(mesh.vertices), key=lambda v: mesh.at(v)[::-1])\n"
+     "    index = sum(mesh.at(v)[::-1] < point[::-1] for v in vertices)\n"),
+    ("a line in the order of its vertices' numbers", IN_ORDER, "    vertices = list(range(mesh.vertices))\n"),
+    ("a line by x alone", "    index = sum(mesh.at(v) < point for v in vertices)\n",
+     "    index = sum(mesh.at(v)[0] < point[0] for v in vertices)\n"),
+    ("a line's vertex not met", ON_LINE_VERTEX, "    if False:\n"),
+    ("the other end extended", AT_LINE_END, "        return BEYOND, vertices[0 if index else -1]\n"),
+    ("the last end extended always", AT_LINE_END, "        return BEYOND, vertices[-1]\n"),
+    ("the edge named from before to after", NEIGHBOURS,
+     "    return SPLIT, next(e for e in turn_about(mesh, before) if mesh.to(e) == after)\n"),
+    ("the out edge of the vertex after split", NEIGHBOURS, "    return SPLIT, mesh.outs[after]\n"),
+    ("a line's vertex keeps its height", LINE_HEIGHT, ""),
+    ("a line's height given to vertex 0", LINE_HEIGHT, "        mesh.heights[0] = z\n" + "        pass\n"),
+    ("fate 2 on a line's vertex", LINE_MET, "        return (2, 0, 0, 0)\n"),
+    ("a line's vertex not named", LINE_MET, "        return (9, 0, 0, 0)\n"),
+    ("a line's vertex named by its place", LINE_MET,
+     "        return (9, sorted(range(mesh.vertices), key=mesh.at).index(found), 0, 0)\n"),
+    ("the first faces not counted", LINE_ANSWER, "    return (1, vertex, 0, flips)\n"),
+    ("one face for the first point off a line", LINE_ANSWER, "    return (1, vertex, min(1, mesh.faces - faces_before), flips)\n"),
+    ("fate 8 off a line", LINE_ANSWER, "    return (8 if place == OFF else 1, vertex, mesh.faces - faces_before, flips)\n"),
+    ("fate 7 on a line", LINE_ANSWER, "    return (7 if place == SPLIT else 1, vertex, mesh.faces - faces_before, flips)\n"),
+    ("no links of the first vertex", FIRST_LINKS, "    pass\n"),
+    ("no out edge of the first vertex", FIRST_LINKS, "    mesh.stored[0] = 0\n"),
+    ("no stored edge beside the first vertex", FIRST_LINKS, "    mesh.outs[vertex] = 0\n"),
+    ("no face beside the first vertex", FIRST_FACE, "    mesh.faces = 0\n"),
+    ("a second stored edge beside the first vertex", FIRST_FACE, FIRST_FACE + "    mesh.stored[1] = 0\n"),
+    ("the first face counted", "    mesh.faces = 1\n    return (1, vertex, 0, 0)\n", "    mesh.faces = 1\n    return (1, vertex, 1, 0)\n"),
+    ("the first vertex keeps its height", SECOND_MET, "        return (9, 0, 0, 0)\n"),
+    ("two vertices at one position", "    if mesh.at(0) == point:\n", "    if False:\n"),
+    ("fate 2 on the first vertex", SECOND_MET, SECOND_MET.replace("(9,", "(2,")),
+    ("one coordinate compared with the first vertex", "    if mesh.at(0) == point:\n", "    if mesh.at(0)[0] == point[0]:\n"),
+    ("the fates of Change 2 while the seed grows", GROWN_FATE, "    return (fate, vertex, faces, flips)\n"),
+    ("fate 1 on a vertex of the growing seed", GROWN_FATE, "    return (1, vertex, faces, flips)\n"),
+    ("fate 2 on a vertex of the growing seed", GROWN_FATE, GROWN_FATE.replace("9 if", "2 if")),
+    ("no faces while the seed grows", GROWN_FATE, GROWN_FATE.replace("faces, flips", "0, flips")),
+    ("no flips while the seed grows", GROWN_FATE, GROWN_FATE.replace("faces, flips", "faces, 0")),
+    ("a line until a triangle has four vertices", "    if mesh.faces == 1:\n        return insert_when",
+     "    if mesh.vertices < 4 or mesh.faces == 1:\n        return insert_when"),
+    ("the centre on an edge too", INSIDE, INSIDE.replace("left(corners[i - 1], corners[i], target)",
+                                                        "orient2d(corners[i - 1], corners[i], target) >= 0")),
+    ("two sides of a triangle looked at", INSIDE, INSIDE.replace("range(3)", "range(2)")),
+    ("the centre not looked for", NOT_HELD, ""),
+    ("the centre in the first triangle alone", NOT_HELD, NOT_HELD.replace("range(1, mesh.faces)", "range(1, 2)")),
+    ("the centre in the last triangle alone", NOT_HELD,
+     NOT_HELD.replace("range(1, mesh.faces)", "range(mesh.faces - 1, mesh.faces)")),
+    ("the first three vertices", LAST_THREE, "range(3)]"),
+    ("the last vertex and the first two", LAST_THREE, "(0, 1, mesh.vertices - 1)]"),
+    ("the three before the last vertex", LAST_THREE, "range(max(0, mesh.vertices - 4), max(3, mesh.vertices - 1))]"),
+    ("an exact third, rounded down", TARGET, "    target = tuple(PARTS * sum(c) // 3 for c in zip(*last))\n"),
+    ("one part less in a third", TARGET, TARGET.replace("THIRD", "(THIRD - 1)")),
+    ("one part more in a third", TARGET, TARGET.replace("THIRD", "(THIRD + 1)")),
+    ("the middle of two vertices", TARGET, "    target = tuple(PARTS * (c[1] + c[2]) // 2 for c in zip(*last))\n"),
+    ("the centre rounded to whole numbers", TARGET, TARGET + "    target = tuple((c + PARTS // 2) // PARTS * PARTS for c in target)\n"),
+    ("the mean of all vertices", TARGET,
+     "    target = tuple(PARTS * sum(mesh.at(v)[i] for v in range(mesh.vertices)) // mesh.vertices for i in (0, 1))\n"),
+    ("a centre from another triangle", "    return tuple(float(c) / PARTS for c in target)\n",
+     "    return tuple(sum(c) / 3.0 for c in zip(*face_corners(mesh, 1)))\n"),
+    ("the centre's coordinates exchanged, once found", "    return tuple(float(c) / PARTS for c in target)\n",
+     "    return tuple(float(c) / PARTS for c in target)[::-1]\n"),
+    ("the centre from a line", NO_TRIANGLE, "    if mesh.vertices < 3:\n        return None\n    last",
+     "(no triangle holds it)"),
+    ("no ring asked for the start", STARTED, "            pass\n", "(no list is known that tells it)"),
+    ("the sweep from four vertices on", NO_TRIANGLE, "    if mesh.vertices < 4 or mesh.faces < 2:\n        return None\n    last"),
+    ("fewer than 3 points refused", BARE_COUNT, BARE_COUNT.replace("count > MOST", "count < 3 or count > MOST")),
+    ("no points refused", BARE_COUNT, BARE_COUNT.replace("count > MOST", "count < 1 or count > MOST")),
+    ("rows for three points at least", "    count = len(points)\n", "    count = max(3, len(points))\n"),
+    ("rows for one point more", "    count = len(points)\n", "    count = len(points) + 1\n"),
+    ("mesh rows not asked", BARE_MESH, ""),
+    ("ring rows not asked of bare points", BARE_RING, ""),
+    ("pending not asked of bare points", BARE_PENDING, BARE_PENDING.replace("    refuse_pending_row(lent)\n", "")),
+    ("a number alone not refused", BARE_PENDING, BARE_PENDING.replace("    refuse_point_row(points)\n", "")),
+    ("the points' heights row not asked of bare points", BARE_PENDING,
+     BARE_PENDING.replace("    refuse_height_row(points, zs)\n", "")),
+    ("answers not asked of bare points", BARE_ANSWERS, ""),
+    ("no 3 of bare points", BARE_POINTS, ""),
+    ("no 10 of bare points", BARE_ZS, ""),
+    ("3 before 2 of bare points", BARE_MESH, BARE_POINTS + BARE_MESH),
+    ("3 before the ring rows", BARE_RING, BARE_POINTS + BARE_RING),
+    ("3 before the answers row", BARE_ANSWERS + BARE_POINTS, BARE_POINTS + BARE_ANSWERS),
+    ("10 before 2 of bare points", BARE_MESH, BARE_ZS + BARE_MESH),
+    ("10 before the answers row", BARE_ANSWERS + BARE_POINTS + BARE_ZS, BARE_ZS + BARE_ANSWERS + BARE_POINTS),
+    ("10 before 3 of bare points", BARE_POINTS + BARE_ZS, BARE_ZS + BARE_POINTS),
+    ("every height of the row under 10", BARE_ZS, BARE_ZS.replace("[:count]", "")),
+    ("the last point's height not under 10", BARE_ZS, BARE_ZS.replace("[:count]", "[:count - 1]")),
+    ("the old heights under 10", BARE_ZS, "    refuse_heights(mesh, mesh.heights[:count] + zs[:count])\n"),
+    ("places of bare points from 1", BARE_POINTS, "    try:\n        refuse_positions(points)\n    except Refusal as r:\n"
+     "        raise Refusal(3, r.place + 1)\n"),
+    ("a refused call counts the points", BARE_REFUSED, "        return (r.number, r.place, len(points), 0, 0, 0, 0, 0, 0, 0)\n"),
+    ("a refused call marks a line", BARE_REFUSED, "        return (r.number, r.place, 0, 0, 0, 0, 1, 0, 0, 0)\n"),
+    ("a refused call's answers cleared", BARE_REFUSED, "        clear_answers(lent, points)\n" + BARE_REFUSED),
+    ("a refused call's ring cleared", BARE_REFUSED, "        lent.clear_ring()\n" + BARE_REFUSED),
+    ("the change count kept", BARE_STARTS, "    line = 0\n    clear_answers(lent, points)\n"),
+    ("the change count starts at 1", BARE_STARTS, BARE_STARTS.replace("line = 0, 0", "line = 1, 0")),
+    ("answers of bare points not cleared", BARE_STARTS, BARE_STARTS.replace("    clear_answers(lent, points)\n", "")),
+    ("the whole answers row cleared", BARE_STARTS, BARE_STARTS + "    lent.answers[:] = [0] * len(lent.answers)\n"),
+    ("the mesh's rows cleared first", BARE_STARTS, BARE_STARTS +
+     "    for row in mesh.rows():\n        row[:] = [0] * len(row)\n"),
+    ("the points sorted", BARE_STARTS, BARE_STARTS + "    points = sorted(points)\n"),
+    ("the points from the last", BARE_STARTS, BARE_STARTS + "    points = points[::-1]\n"),
+    ("the sweep never starts", GROWTH, "        while count < len(points):\n"),
+    ("the seed takes three points at most", GROWTH, "        while count < min(3, len(points)) and centre is None:\n"),
+    ("the seed takes twelve points at most", GROWTH,
+     "        while count < len(points) and centre is None and (count < 12 or mesh.faces < 2):\n"),
+    ("eight pending entries while the seed grows", GROWS, GROWS.replace("len(lent.pending)", "8")),
+    ("9 one entry early while the seed grows", GROWS, GROWS.replace("len(lent.pending)", "len(lent.pending) - 1")),
+    ("no 9 while the seed grows", GROWS, GROWS.replace("len(lent.pending)", "1 << 30")),
+    ("the height 0 while the seed grows", GROWS, GROWS.replace("heights[count]", "0")),
+    ("the next point's height while the seed grows", GROWS, GROWS.replace("heights[count]", "heights[count - 1]")),
+    ("the last point of the seed swept again", COUNTED_START, COUNTED_START.replace(
+        "            count, centre = count + 1, start_of_sweep(mesh)\n",
+        "            centre = start_of_sweep(mesh)\n            count += centre is None\n")),
+    ("the start only with a point left", COUNTED_START, COUNTED_START +
+     "            centre = centre if count < len(points) else None\n", "(the finish alone is left)"),
+    ("the start not tried after fate 9", COUNTED_START, "            count += 1\n"
+     "            centre = start_of_sweep(mesh) if lent.answers[WORDS * count - WORDS] == 1 else None\n", "(nothing has changed)"),
+    ("the refused point of the seed taken back", GROWING_FULL, "    except PendingFull:\n        mesh.vertices -= 1\n"
+     "        return True, count, None\n"),
+    ("the refused point of the seed loses its height", GROWING_FULL,
+     "    except PendingFull:\n        mesh.heights[mesh.vertices - 1] = 0\n        return True, count, None\n"),
+    ("the refused point of the seed has an answer", GROWING_FULL, "    except PendingFull:\n"
+     "        put_answer(lent.answers, count, (1, mesh.vertices - 1, 0, 0))\n        return True, count, None\n"),
+    ("the seed's answers lost after its 9", GROWING_FULL, "    except PendingFull:\n        clear_answers(lent, points)\n"
+     "        return True, count, None\n"),
+    ("9 while the seed grows names no place", BARE_FULL, BARE_FULL.replace("count", "0")),
+    ("9 while the seed grows names the vertex", BARE_FULL, BARE_FULL.replace("count", "mesh.vertices - 1")),
+    ("9 while the seed grows marks a line", BARE_FULL, BARE_FULL + "        line = 1\n"),
+    ("a line not marked", LINE_TOTALS, LINE_TOTALS.replace("line = 1", "line = 0")),
+    ("no mark for no points", LINE_TOTALS, LINE_TOTALS.replace("line = 1", "line = int(mesh.vertices > 0)")),
+    ("no mark for one point", LINE_TOTALS, LINE_TOTALS.replace("line = 1", "line = int(mesh.vertices != 1)")),
+    ("no mark for two points", LINE_TOTALS, LINE_TOTALS.replace("line = 1", "line = int(mesh.vertices != 2)")),
+    ("a line counts its edges as faces", LINE_TOTALS, LINE_TOTALS.replace("(0, 0, 0, 0, 0)", "(0, 0, mesh.edges, 0, 0)")),
+    ("no counts of a line", LINE_TOTALS, LINE_TOTALS + "        mesh.vertices = mesh.edges = mesh.faces = 0\n"),
+    ("one face where there are no points", LINE_TOTALS, LINE_TOTALS + "        mesh.faces = 1\n"),
+    ("a mesh that is not swept marked as a line", REST, REST + "        line = int(centre is None)\n"),
+    ("places of the sweep from its start", REST, REST + "        place -= count if number else 0\n"),
+    ("9 in convexity names the points that are swept", REST, REST +
+     "        place -= count if number and place == len(points) else 0\n"),
+    ("the seed's answers lost in the sweep's 9", REST, REST +
+     "        if number:\n            lent.answers[:WORDS * count] = [0] * (WORDS * count)\n"),
+    ("the sweep without its finish", REST, "        number, place, *totals = (0, 0, 0, 0, 0)\n"
+     "        for i in range(count, len(points)):\n"
+     "            put_answer(lent.answers, i, one_step(mesh, points[i], centre, 1 << 30, heights[i]))\n"),
+    ("every point put in as the seed's are", REST, "        number, place, *totals = (0, 0, 0, 0, 0)\n"
+     "        for i in range(count, len(points)):\n"
+     "            put_answer(lent.answers, i, grow(mesh, points[i], heights[i], 1 << 30))\n"),
+    ("no finish where the list ends", REST, "        number, place, *totals = (0, 0, 0, 0, 0)\n"
+     "        if count < len(points):\n    " + REST, "(it adds no face and makes no flip)"),
+    ("the ring not cleared", BARE_CLEARED, BARE_CLEARED.replace("    lent.clear_ring()\n", "")),
+    ("pending not cleared", BARE_CLEARED, BARE_CLEARED.replace("    lent.clear_pending()\n", "")),
+    ("rows not cleared for a line", BARE_CLEARED, "    if line:\n    " + BARE_ANSWER + BARE_CLEARED),
+    ("rows not cleared where there are no points", BARE_CLEARED, "    if not points:\n    " + BARE_ANSWER + BARE_CLEARED),
+    ("rows not cleared where the sweep does not start", BARE_CLEARED, "    if centre is None:\n    " + BARE_ANSWER + BARE_CLEARED),
+    ("rows not cleared after the seed's 9", BARE_CLEARED, "    if full:\n    " + BARE_ANSWER + BARE_CLEARED),
+    ("a mark in place of the change count", BARE_ANSWER, BARE_ANSWER.replace("mesh.changes, line,", "line, mesh.changes,")),
+    ("no counts after 9", BARE_ANSWER, "    if number:\n        return (number, place, 0, 0, 0, 0, 0, 0, 0, 0)\n" + BARE_ANSWER),
+    ("the inner faces counted alone", BARE_ANSWER,
+     BARE_ANSWER.replace("*mesh.counts()", "mesh.vertices, mesh.edges, max(0, mesh.faces - 1)")),
+]
 LISTING = [  # the same of the listing program's part
     ("8 pending entries lent", "LISTING_PENDING = 400, 4096", "LISTING_PENDING = 400, 8"),
     ("100 pending entries lent", "LISTING_PENDING = 400, 4096", "LISTING_PENDING = 400, 100"),
@@ -1082,7 +1325,7 @@ def source():
 
 def changed_as(name):
     """sweep.py changed as the list above names it."""
-    changes = MUTANTS + HEIGHTS + SKIPPING + AREAS + QUOTES + COUNTED + LISTING
+    changes = MUTANTS + HEIGHTS + SKIPPING + AREAS + QUOTES + COUNTED + GROWING + LISTING
     old, new = next(m[1:3] for m in changes if m[0] == name)
     return changed(source(), old, new)
 
@@ -1090,13 +1333,14 @@ def changed_as(name):
 def mutants(only):
     text, silent = source(), 0
     # Samples and listings have no heights, only runs and listings insert, and only samples and volumes have areas. The
-    # lists of asks and commits have their own changes.
-    high = [n for n in NAMES if n not in ("samples", "listing", "ask", "commit")]
+    # lists of asks and commits, and that of bare points, have their own changes.
+    high = [n for n in NAMES if n not in ("samples", "listing", "ask", "commit", "bulk_load")]
     for part, changes, names in (("base", MUTANTS, high + ["samples", "listing"]), ("heights", HEIGHTS, high),
                                  ("skipped", SKIPPING, ("run", "listing")),
                                  ("areas", AREAS, ("samples", "volume")),
                                  ("quotes", QUOTES, ("ask", "commit")),
-                                 ("quotes", COUNTED, ("step", "finish", "run"))):
+                                 ("quotes", COUNTED, ("step", "finish", "run")),
+                                 ("bare", GROWING, ("bulk_load",))):
         for name, old, new, *implied in changes if part in only else []:
             module = changed(text, old, new)
             noticed = [n for n in names if failures(module, n, first_only=True)[1]]
@@ -1116,7 +1360,7 @@ if __name__ == "__main__":
     for name in NAMES:
         total, bad = failures(sweep, name)
         wrong += bad
-        print("%-8s %5d cases, %d answered otherwise" % (name, total, bad))
+        print("%-9s %5d cases, %d answered otherwise" % (name, total, bad))
     if len(sys.argv) > 1:
-        wrong += mutants(sys.argv[2:] or ("base", "heights", "skipped", "areas", "quotes", "listing"))
+        wrong += mutants(sys.argv[2:] or ("base", "heights", "skipped", "areas", "quotes", "bare", "listing"))
     sys.exit(1 if wrong else 0)

@@ -1,4 +1,5 @@
-//! Stand-in for spade's hint_generator.rs. A sweep from a given mesh asks for no hint.
+//! Stand-in for spade's hint_generator.rs. A sweep from a given mesh asks for no hint; `insert`, by which a seed
+//! grows from bare points, does, and gets vertex 0, as 02 sets it.
 
 use super::FixedVertexHandle;
 use crate::{Point2, SpadeNum, Triangulation};

@@ -20,7 +20,7 @@ use crate::delaunay_core::{
 use crate::mesh::{Mesh, Position, RANGE};
 use crate::{DelaunayTriangulation, Point2, PositionInTriangulation, Triangulation, TriangulationExt};
 
-type Swept = DelaunayTriangulation<Point2<f64>>;
+pub type Swept = DelaunayTriangulation<Point2<f64>>;
 
 /// Accesses to the mesh that one call of the Rust may make.
 const BUDGET: u64 = 50_000_000;
@@ -61,10 +61,15 @@ pub fn built(mesh: &Mesh) -> Swept {
     Swept::from_parts(dcel, Default::default(), 0)
 }
 
-/// The Rust's mesh as rows, link by link.
+/// The Rust's mesh as rows, link by link. A vertex alone, and the outer face beside it, have no edge in the
+/// Rust, and 0 in Change 6; where there is no vertex there is no face either.
 pub fn rows(swept: &Swept) -> Mesh {
     let dcel = swept.s();
-    let number = |e: Option<FixedDirectedEdgeHandle>| e.unwrap().index() as u32;
+    let alone = dcel.edges.is_empty();
+    let number = |e: Option<FixedDirectedEdgeHandle>| if alone { 0 } else { e.unwrap().index() as u32 };
+    if dcel.vertices.is_empty() {
+        return Mesh::default();
+    }
     let half = |h: &HalfEdgeEntry| {
         [h.next.index(), h.prev.index(), h.face.index(), h.origin.index()].map(|n| n as u32)
     };
@@ -145,7 +150,7 @@ pub struct Sweep {
 }
 
 /// What a call of the Rust came to: its answer, or the reason why the case is outside the domain.
-type Outcome<T> = Result<T, u32>;
+pub type Outcome<T> = Result<T, u32>;
 
 fn text_of(payload: &Box<dyn Any + Send>) -> &str {
     let text = payload.downcast_ref::<String>().map(String::as_str);
@@ -153,7 +158,7 @@ fn text_of(payload: &Box<dyn Any + Send>) -> &str {
 }
 
 /// Runs a part of the Rust within the budget.
-fn guarded<T>(panics: u32, runs_on: u32, part: impl FnOnce() -> T) -> Outcome<T> {
+pub fn guarded<T>(panics: u32, runs_on: u32, part: impl FnOnce() -> T) -> Outcome<T> {
     let before = budget::other_flips();
     budget::set(BUDGET);
     let result = catch_unwind(AssertUnwindSafe(part));
@@ -175,12 +180,15 @@ impl Sweep {
         let centre = Point2::new(x, y);
         let hull = catch_unwind(AssertUnwindSafe(|| Hull::from_triangulation(&swept, centre)));
         match hull {
-            Ok(Some(hull)) => {
-                let (buffer, skipped) = (Vec::new(), Vec::new());
-                Ok(Sweep { swept, hull, centre, buffer, watch: Watch::Domain, hint: 0, skipped })
-            }
+            Ok(Some(hull)) => Ok(Sweep::from_hull(swept, hull)),
             _ => Err(reason::NO_HULL),
         }
+    }
+
+    /// From a mesh and its hull, whose centre is the sweep's.
+    pub fn from_hull(swept: Swept, hull: Hull) -> Sweep {
+        let (centre, buffer, skipped) = (hull.center, Vec::new(), Vec::new());
+        Sweep { swept, hull, centre, buffer, watch: Watch::Domain, hint: 0, skipped }
     }
 
     /// One step: fate, vertex, faces, flips.
@@ -296,7 +304,7 @@ pub fn answer_from(case: &Case, watch: Watch, hint: usize) -> Answer {
     Answer { number: case.number, fates, ending }
 }
 
-fn outside(index: usize) -> impl FnOnce(u32) -> Ending {
+pub fn outside(index: usize) -> impl FnOnce(u32) -> Ending {
     move |reason| Ending::Outside { reason, index: index as u32 }
 }
 
@@ -308,23 +316,28 @@ fn ending(case: &Case, watch: Watch, hint: usize, fates: &mut Vec<[u32; 4]>) -> 
     }
     let mut sweep = Sweep::new(&case.seed, case.centre).map_err(outside(0))?;
     (sweep.watch, sweep.hint) = (watch, hint);
-    for (index, &position) in case.points.iter().enumerate() {
+    swept(&case.points, sweep, fates)
+}
+
+/// The points from the first on that has no fate yet: their steps, the pass, the insertions.
+pub fn swept(points: &[Position], mut sweep: Sweep, fates: &mut Vec<[u32; 4]>) -> Result<Ending, Ending> {
+    for (index, &position) in points.iter().enumerate().skip(fates.len()) {
         fates.push(sweep.step(position).map_err(outside(index))?);
     }
     let stepped = sweep.rows();
-    let pass = sweep.pass().map_err(outside(case.points.len()))?;
+    let pass = sweep.pass().map_err(outside(points.len()))?;
     let passed = sweep.rows();
-    let inserted = insertions(case, sweep, fates.clone())?;
+    let inserted = insertions(points, sweep, fates.clone())?;
     Ok(Ending::Inside { stepped, pass, passed, inserted })
 }
 
 /// The skipped points, in list order, into the mesh that the pass has left.
-fn insertions(case: &Case, mut sweep: Sweep, mut fates: Vec<[u32; 4]>) -> Result<Insertions, Ending> {
-    if sweep.watch != Watch::Nowhere && sweep.passes_on().map_err(outside(case.points.len()))? {
+fn insertions(points: &[Position], mut sweep: Sweep, mut fates: Vec<[u32; 4]>) -> Result<Insertions, Ending> {
+    if sweep.watch != Watch::Nowhere && sweep.passes_on().map_err(outside(points.len()))? {
         return Ok(Insertions::AfterPasses);
     }
-    for (index, &position) in case.points.iter().enumerate() {
-        if fates[index][0] < 3 {
+    for (index, &position) in points.iter().enumerate() {
+        if !(3..=5).contains(&fates[index][0]) {
             continue;
         }
         match sweep.insert(position) {

@@ -1,8 +1,10 @@
 //! `robust` as the exact signs of Shewchuk's determinants, by whole numbers of 128 bits.
 //!
-//! Coordinates are whole numbers from -2^24 to 2^24. Differences then lie within 2^25, the orientation
-//! within 2^52 and the circle determinant within 2^104. The answers are -1.0, 0.0 or 1.0: spade asks
-//! for signs alone. With the feature `filter`, for benchmarks, floats decide where they can.
+//! Coordinates are whole numbers from -2^24 to 2^24. Differences then lie within 2^25 and the circle
+//! determinant within 2^104. The third point of an orientation may be a centre that `try_get_hull_center`
+//! has made, a whole number of 2^-25 up to half beyond that: in such parts differences lie within 2^51 and
+//! the orientation within 2^103. The answers are -1.0, 0.0 or 1.0: spade asks for signs alone. With the
+//! feature `filter`, for benchmarks, floats decide where they can.
 
 #[cfg(feature = "filter")]
 mod filter;
@@ -29,6 +31,17 @@ fn whole_coord([x, y]: [f64; 2]) -> [i128; 2] {
     [whole(x), whole(y)]
 }
 
+/// The parts of 2^-25 in 1.
+const PARTS: f64 = 33_554_432.0;
+
+/// A centre's coordinate in parts. The product with a power of two is exact.
+fn parts(value: f64) -> i128 {
+    let scaled = value * PARTS;
+    let holds = value.abs() <= RANGE + 0.5 && scaled == scaled.trunc();
+    assert!(holds, "{value} is no whole number of 2^-25 within 2^24 and a half");
+    scaled as i128
+}
+
 fn sign(determinant: i128) -> f64 {
     determinant.signum() as f64
 }
@@ -40,7 +53,8 @@ pub fn orient2d<T: Into<f64>>(pa: Coord<T>, pb: Coord<T>, pc: Coord<T>) -> f64 {
     if let Some(sure) = filter::orient2d([pa, pb, pc]) {
         return sure;
     }
-    let [pa, pb, pc] = [pa, pb, pc].map(whole_coord);
+    let [pa, pb] = [pa, pb].map(|p| whole_coord(p).map(|c| c * PARTS as i128));
+    let pc = pc.map(parts);
     let [acx, acy] = [pa[0] - pc[0], pa[1] - pc[1]];
     let [bcx, bcy] = [pb[0] - pc[0], pb[1] - pc[1]];
     sign(acx * bcy - acy * bcx)
