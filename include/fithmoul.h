@@ -1,6 +1,6 @@
-/* The calls of the library: check a mesh, locate an angle, step one point, finish a mesh, run a list of points, ask
- * what a point would do, commit a point by its quote, the volume between a mesh and a level, the area total of a mesh,
- * and the side query, the area of one triangle.
+/* The calls of the library: load a list of bare points, check a mesh, locate an angle, step one point, finish a mesh,
+ * run a list of points from a mesh, ask what a point would do, commit a point by its quote, the volume between a mesh
+ * and a level, the area total of a mesh, and the side query, the area of one triangle.
  *
  * Link with libfithmoul.a, which `rt staticlib fithmoul` writes to target/staticlib/ (Linux, x86-64). Nothing else is
  * needed. crates/fithmoul/src/lib.rt has the same calls with their contracts, which are proved; docs/SPECIFICATION.md
@@ -23,8 +23,9 @@
  * a point with its height.
  *
  * THE MESH'S ROWS, for N vertices. A call may need room for vertices that it adds: N is `vertices` in a check, locate,
- * finish, volume and area total, one more in a step, ask and commit, and `vertices` plus the number of points in a run.
- * A row may be longer; entries past the counts in use are never read for their meaning, nor changed.
+ * finish, volume and area total, one more in a step, ask and commit, `vertices` plus the number of points in a run, and
+ * the number of points in a bulk load. A row may be longer; entries past the counts in use are never read for their
+ * meaning, nor changed. A bulk load is given no mesh: what these rows hold before it does not matter.
  *
  *   positions  2N   int32_t   x and y of vertex v at 2v and 2v + 1
  *   heights     N   int32_t   the height of vertex v at v
@@ -37,18 +38,24 @@
  * `vertices`, `edges` (half as many as half-edges) and `faces` (with face 0) count what is in use. A result has the
  * counts after the call.
  *
- * THE CHANGE COUNT of a mesh, `changes`, goes by value beside those counts. A run starts it at 0, where it is accepted
- * and where it is refused 9; a commit that adds a vertex or is refused 9 raises it by one. Otherwise it stays: a call
- * that is not given it leaves it alone, a step and a finish too. It ends at 4,294,967,295, where no quote is given. For
- * a mesh that no run has made, start it at 0.
+ * A LINE OF POINTS is what a bulk load leaves in those rows where its points make no triangle: its result has `line` 1.
+ * The other calls refuse it. No points: the counts are 0, 0 and 0, and no entry was written. All at one place: 1, 0 and
+ * 1, with outs[0] = 0 and adjacent[0] = 0. Several on one line: each vertex is joined to the next in the order of x,
+ * then y, so that there is one edge less than there are vertices; every half-edge is in face 0, whose half-edge is 0.
+ * Along next one goes to an end of the line and from there to the other end: at an end next is the reverse.
+ *
+ * THE CHANGE COUNT of a mesh, `changes`, goes by value beside those counts. A run and a bulk load start it at 0, where
+ * they are accepted and where they are refused 9; a commit that adds a vertex or is refused 9 raises it by one.
+ * Otherwise it stays: a call that is not given it leaves it alone, a step and a finish too. It ends at 4,294,967,295,
+ * where no quote is given. For a mesh that neither has made, start it at 0.
  *
  * A QUOTE is what asking answers and committing takes: the mesh's change count, a point, and the fate and the faces of
  * that point's step. It names neither mesh nor centre: commit it on the mesh and about the centre that it is for. A
  * commit holds its count and point against those that it is given, its fate and faces against those that asking gives
  * now, and is refused 11 where one differs. So a commit that adds a vertex makes every quote stale that its mesh gave
  * since the last run, its own included. A step or a finish in between is noticed only where it has changed the point's
- * fate or faces, and a run starts the count anew, so that a quote from before it can meet its count again: after one
- * of these ask again.
+ * fate or faces, and a run or a bulk load starts the count anew, so that a quote from before it can meet its count
+ * again: after one of these ask again.
  *
  * THE OTHER ROWS. They hold nothing between calls, and may be lent with anything in them.
  *
@@ -57,21 +64,22 @@
  *   buckets    max(16, N)   uint32_t        the ring's buckets
  *   pending    at least 8   uint32_t        edges that wait for the circle test. Lend N, and 4,096 at least: mostly 16
  *                                           are used, but 100,000 points along thirty lines used more than 1,024
- *   answers    4 per point  uint64_t        a run's answers, a fithmoul_point_answer for each point
+ *   answers    4 per point  uint64_t        the answers of a run or a bulk load, a fithmoul_point_answer for each point
  *
- * A RUN'S POINTS are two rows of int32_t that it only reads:
+ * THE POINTS of a run and of a bulk load are two rows of int32_t that it only reads:
  *
  *   points         2 per point  x and y of each point: half the row's length is their number
  *   point_heights  1 per point  the height of each point. The row may be longer
  *
  * REFUSALS. `refusal` is 0 where a call is accepted. Otherwise it is the first row of this table that applies, from the
- * top down (10 straight after 3), and `place` what the row names, else 0. "Every call" is every call on a mesh: a side
- * query has none, and knows 3 alone, with the place 0, 1 or 2: the first of p1, p2 and q that is out of range.
+ * top down (10 straight after 3), and `place` what the row names, else 0. "Every call" is every call on a mesh. A bulk
+ * load, which is given none, knows 1, 2, 3, 10 and 9: 1 where there are more than 1,000,000 points, and never because
+ * there are few. A side query knows 3 alone, with the place 0, 1 or 2: the first of p1, p2 and q that is out of range.
  *
  *    1  every call          fewer than 3 or more than 1,000,000 vertices (N)
  *    2  every call          a row is shorter than above, or the row of points has an odd length
  *    3  every call          a coordinate is out of range. place: the first such vertex, points counted on after the
- *                           mesh's vertices
+ *                           mesh's vertices; in a bulk load the first such point, from 0
  *   10  every call          a height is out of range, of a vertex in use or of a point, or a volume's level is
  *    4  every call          the rows are no mesh: a link is wrong or outside the counts, a face is no triangle, and so
  *                           on (docs/SPECIFICATION.md)
@@ -84,26 +92,28 @@
  *   11  commit              the quote's change count or point is not the one that is given, or its fate or faces are
  *                           not those that asking gives now
  *   12  ask, commit         the change count is at its end, 4,294,967,295
- *    9  step, finish, run,  the pending row is too short for a flip, which is not made. place: in a run the index of
- *       commit              the point whose step or insertion it was, or the number of points where the finish was
- *                           refused; otherwise 0
+ *    9  step, finish, run,  the pending row is too short for a flip, which is not made. place: in a run and in a bulk
+ *       commit, bulk load   load the index of the point whose step or insertion it was, or the number of points where
+ *                           the finish was refused; otherwise 0
  *
  * AFTERWARDS. Every refusal but 9 leaves every row as it was. After 9 and after every accepted call the rows nodes,
  * freed, buckets and pending that were lent hold zeros over their whole length: of a node its four fields do, and
  * nothing is said of its four bytes of padding. After 9 the mesh is the one that stood before that flip, a good mesh
  * with the counts of the result: the vertex of the point named is in it, and the faces that were made so far. The
- * answers of a run that is refused 9:
+ * answers of a run that is refused 9, and of a bulk load:
  *
+ *   in the seed       (of a bulk load) points before `place` keep their answers, all others are zeros. In the cases
+ *                     below the seed's points keep theirs
  *   in a step         points before `place` that were added or dropped keep their answers, all others are zeros
  *   in the convexity  (place: the number of points) points that were added or dropped keep their answers, those that
  *   passes            the steps skipped are zeros: none of them is in the mesh
  *   in an insertion   points that were added or dropped keep their answers, also behind `place`, and so do the skipped
  *                     points before `place`, which are in; the one named and the skipped ones after it are zeros
  *
- * A vertex that a step, a commit or a run has added, refused 9 or not, has its point's position and height. A skipped
- * point that is put in on a vertex (FITHMOUL_ON_VERTEX) gives its height to that vertex, in list order, so that the
- * last one counts; other vertices at that position keep theirs, and a point that is dropped leaves no height. Otherwise
- * no call moves a vertex or changes its height.
+ * A vertex that a step, a commit, a run or a bulk load has added, refused 9 or not, has its point's position and
+ * height. A point that is put in on a vertex (FITHMOUL_ON_VERTEX), a skipped one or one of a bulk load's seed, gives
+ * its height to that vertex, in list order, so that the last one counts; other vertices at that position keep theirs,
+ * and a point that is dropped leaves no height. Otherwise no call moves a vertex or changes its height.
  */
 #ifndef FITHMOUL_H
 #define FITHMOUL_H
@@ -137,9 +147,10 @@ typedef struct fithmoul_node {
 } fithmoul_node;
 
 /* What became of a point. A lone step or a commit answers 1 to 5, and a quote has one of them. A run answers 1, 2 and 6
- * to 9: a point that its steps skip, for the reasons 3, 4 and 5, is put in after the convexity passes. */
+ * to 9: a point that its steps skip, for the reasons 3, 4 and 5, is put in after the convexity passes. A bulk load
+ * answers 1 or 9 for the points of its seed, wherever they were put, and the fates of a run for the others. */
 enum {
-    FITHMOUL_ADDED = 1,       /* a step made it the vertex `vertex` */
+    FITHMOUL_ADDED = 1,       /* a step, or a bulk load's seed, made it the vertex `vertex` */
     FITHMOUL_DROPPED = 2,     /* it equals an end of the boundary edge at its angle */
     FITHMOUL_NOT_LEFT = 3,    /* it is not outside that edge: inside the mesh, or on the edge's line */
     FITHMOUL_UNSOUND = 4,     /* the boundary that it would leave has no sound ring about the centre */
@@ -229,6 +240,21 @@ typedef struct fithmoul_run_result {
     uint64_t closing_flips;
 } fithmoul_run_result;
 
+/* A run's result, and whether the points made no triangle. Where it is refused 1, 2, 3 or 10 all but refusal and place
+ * are 0. */
+typedef struct fithmoul_bulk_load_result {
+    uint32_t refusal;
+    uint32_t place;
+    uint32_t vertices; /* the counts of what was made, refused 9 or not */
+    uint32_t edges;
+    uint32_t faces;
+    uint32_t changes;     /* 0: the count of a mesh that was made anew */
+    uint32_t line;        /* 1 for a line of points, of one or none too; 0 for a finished mesh and where refused */
+    uint32_t faces_added; /* by the convexity passes; this and the flips are 0 where refused and for a line */
+    uint64_t convex_flips;
+    uint64_t closing_flips;
+} fithmoul_bulk_load_result;
+
 /* Six times a volume in cubic millimetres is past 64 bits: a number of 128 bits in two's complement, its high and its
  * low half. Where the compiler has such a type it is
  * (__int128)((unsigned __int128)six_volumes_high << 64 | six_volumes_low). */
@@ -254,6 +280,39 @@ typedef struct fithmoul_side_query_result {
     uint32_t place;
     int64_t doubled_area; /* 0 where refused */
 } fithmoul_side_query_result;
+
+/* A list of points with their heights, and nothing else, to a finished mesh with every point in it; or to a line of
+ * points, marked as such, where they make no triangle. Up to 1,000,000 points, in any order, with repeats, or none.
+ * `points_length` counts numbers, two for each point. For N points lend rows for N vertices, with anything in them, and
+ * 4N answers.
+ *
+ * The points go in one after the other from the front of the list, each where it lies: the seed, which is a vertex, a
+ * line, and from the first point off it a mesh. As soon as a triangle holds the middle of the last three vertices
+ * (their sum times 11184811 / 2^25, which is the Rust's third) strictly inside, and the boundary goes round it as
+ * refusals 6 and 7 want, the points that are left are a run from this seed about that centre. Where the list ends
+ * before that the seed is finished, or is the line.
+ *
+ * Nothing is sorted. As in a run a list is best sorted by the distance from its middle, nearest first; in another order
+ * the mesh is as good, but each point that the steps skip pays for a search through the mesh. While all points are on
+ * one line each is compared with those before it, so that a list of one line takes a time that grows with the square of
+ * its length.
+ *
+ * Refusals 1, 2, 3, 9 and 10, as above. Leaves the finished mesh or the line, with its heights, an answer for each
+ * point in `answers`, and zeros in nodes, freed, buckets and pending. A finished mesh is one for every other call, with
+ * the counts of the result. */
+fithmoul_bulk_load_result fithmoul_bulk_load(
+    int32_t *positions, size_t positions_length,
+    int32_t *heights, size_t heights_length,
+    uint32_t *outs, size_t outs_length,
+    uint32_t *halves, size_t halves_length,
+    uint32_t *adjacent, size_t adjacent_length,
+    fithmoul_node *nodes, size_t nodes_length,
+    uint32_t *freed, size_t freed_length,
+    uint32_t *buckets, size_t buckets_length,
+    uint32_t *pending, size_t pending_length,
+    uint64_t *answers, size_t answers_length,
+    const int32_t *points, size_t points_length,
+    const int32_t *point_heights, size_t point_heights_length);
 
 /* Does a mesh keep the rules, turn left everywhere and stay in range, its heights too? Refusals 1 to 5, and 10. Writes
  * nothing. */

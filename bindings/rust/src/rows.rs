@@ -3,11 +3,11 @@
 use std::alloc::{self, Layout};
 
 use crate::refusal::Refusal;
-use crate::sys::{self, AreaTotalResult, AskResult, CheckResult, CommitResult, FinishResult, LocateResult};
-use crate::sys::{Node, RunResult, SideQueryResult, StepResult, VolumeResult};
+use crate::sys::{self, AreaTotalResult, AskResult, BulkLoadResult, CheckResult, CommitResult, FinishResult};
+use crate::sys::{LocateResult, Node, RunResult, SideQueryResult, StepResult, VolumeResult};
 use crate::{Answer, Point, MOST_VERTICES};
 
-#[derive(Clone, Copy, Debug, PartialEq, Eq)]
+#[derive(Clone, Copy, Debug, Default, PartialEq, Eq)]
 pub struct Counts {
     pub vertices: u32,
     pub edges: u32,
@@ -16,8 +16,9 @@ pub struct Counts {
     pub changes: u32,
 }
 
-/// The mesh's rows, with room for at least one vertex more than are in use: an ask needs it and, since it changes nothing, cannot make it.
-#[derive(Clone)]
+/// The rows of a mesh or of a line, with room for at least one vertex more than are in use: an ask needs it and, since it changes nothing, cannot
+/// make it.
+#[derive(Clone, Default)]
 pub struct Rows {
     pub counts: Counts,
     positions: Vec<[i32; 2]>,
@@ -112,6 +113,13 @@ impl Rows {
         };
         rows.grow(n + 1);
         Ok(rows)
+    }
+
+    /// Room for the mesh of so many points, and nothing in it. Past the limit nothing is made: the call refuses.
+    pub fn for_points(points: usize) -> Rows {
+        let mut rows = Rows::default();
+        rows.reserve(points);
+        rows
     }
 
     fn grow(&mut self, vertices: usize) {
@@ -321,6 +329,47 @@ impl Rows {
         result
     }
 
+    /// What these rows held is gone, unless the call refuses.
+    pub fn bulk_load(
+        &mut self,
+        scratch: &mut Scratch,
+        answers: &mut [Answer],
+        points: &[Point],
+    ) -> BulkLoadResult {
+        let (points, point_heights) = split(points);
+        let result = unsafe {
+            sys::fithmoul_bulk_load(
+                self.positions.as_mut_ptr().cast(),
+                2 * self.positions.len(),
+                self.heights.as_mut_ptr(),
+                self.heights.len(),
+                self.outs.as_mut_ptr(),
+                self.outs.len(),
+                self.halves.as_mut_ptr().cast(),
+                4 * self.halves.len(),
+                self.adjacent.as_mut_ptr(),
+                self.adjacent.len(),
+                scratch.nodes.as_mut_ptr(),
+                scratch.nodes.len(),
+                scratch.freed.as_mut_ptr(),
+                scratch.freed.len(),
+                scratch.buckets.as_mut_ptr(),
+                scratch.buckets.len(),
+                scratch.pending.as_mut_ptr(),
+                scratch.pending.len(),
+                answers.as_mut_ptr().cast(),
+                ANSWER_WORDS * answers.len(),
+                points.as_ptr().cast(),
+                2 * points.len(),
+                point_heights.as_ptr(),
+                point_heights.len(),
+            )
+        };
+        let BulkLoadResult { vertices, edges, faces, changes, .. } = result;
+        self.counts = Counts { vertices, edges, faces, changes };
+        result
+    }
+
     pub fn ask(&self, scratch: &mut Scratch, [x, y]: [f64; 2], point: Point) -> AskResult {
         let Counts { vertices, edges, faces, changes } = self.counts;
         unsafe {
@@ -436,6 +485,19 @@ impl Rows {
         }
     }
 }
+
+/// The same positions, heights and links. Change counts may differ.
+impl PartialEq for Rows {
+    fn eq(&self, other: &Rows) -> bool {
+        self.positions() == other.positions()
+            && self.heights() == other.heights()
+            && self.outs() == other.outs()
+            && self.halves() == other.halves()
+            && self.adjacent() == other.adjacent()
+    }
+}
+
+impl Eq for Rows {}
 
 pub fn side_query(p1: [i32; 2], p2: [i32; 2], q: [i32; 2]) -> SideQueryResult {
     // numbers alone: the call reads and writes no memory of ours

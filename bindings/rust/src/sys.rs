@@ -100,6 +100,21 @@ pub struct RunResult {
 
 #[repr(C)]
 #[derive(Clone, Copy, Debug, Default, PartialEq, Eq)]
+pub struct BulkLoadResult {
+    pub refusal: u32,
+    pub place: u32,
+    pub vertices: u32,
+    pub edges: u32,
+    pub faces: u32,
+    pub changes: u32,
+    pub line: u32,
+    pub faces_added: u32,
+    pub convex_flips: u64,
+    pub closing_flips: u64,
+}
+
+#[repr(C)]
+#[derive(Clone, Copy, Debug, Default, PartialEq, Eq)]
 pub struct VolumeResult {
     pub refusal: u32,
     pub place: u32,
@@ -246,6 +261,33 @@ extern "C" {
         point_heights: *const i32,
         point_heights_length: usize,
     ) -> RunResult;
+
+    pub fn fithmoul_bulk_load(
+        positions: *mut i32,
+        positions_length: usize,
+        heights: *mut i32,
+        heights_length: usize,
+        outs: *mut u32,
+        outs_length: usize,
+        halves: *mut u32,
+        halves_length: usize,
+        adjacent: *mut u32,
+        adjacent_length: usize,
+        nodes: *mut Node,
+        nodes_length: usize,
+        freed: *mut u32,
+        freed_length: usize,
+        buckets: *mut u32,
+        buckets_length: usize,
+        pending: *mut u32,
+        pending_length: usize,
+        answers: *mut u64,
+        answers_length: usize,
+        points: *const i32,
+        points_length: usize,
+        point_heights: *const i32,
+        point_heights_length: usize,
+    ) -> BulkLoadResult;
 
     pub fn fithmoul_ask(
         vertices: u32,

@@ -53,7 +53,7 @@ module _ (l : BulkLoadLent) (x : Refusal) where
     where
       go : (c : Checked) → bulkLoadChecked l ≡ c → NumberedTo 10 c → Named (bulkLoadOf l)
       go Checked.Accepted e k = by-end e (end-of l e)
-      go (Checked.Refused y) e k z =
+      go (Checked.Refused y) e k = λ z.
           let w : Finished.Refused y ≡ Finished.Refused x = sym (refused-not l e .0) ∙ z in
           let v : y ≡ x = cc in
           subst (λ (r : Refusal). 0 < r .number) v (numbered-at k .0)

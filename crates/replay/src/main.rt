@@ -17,6 +17,7 @@ enum List {
     Volume,
     Ask,
     Commit,
+    BulkLoad,
     Answers,
 }
 
@@ -90,6 +91,7 @@ fn agrees(text: &[u8], t: Tally, list: List) -> bool {
         List::Volume => replay_calls::volume_cases::agrees(text, t.at),
         List::Ask => replay_quotes::ask_cases::agrees(text, t.at),
         List::Commit => replay_quotes::commit_cases::agrees(text, t.at),
+        List::BulkLoad => replay_loads::bulk_load_cases::agrees(text, t.at),
         List::Answers => replay_runs::answers_cases::agrees(text, t.at),
     }
 }
@@ -186,5 +188,6 @@ fn main() {
     replay(b"volume", b"volume.txt", List::Volume);
     replay(b"ask", b"ask.txt", List::Ask);
     replay(b"commit", b"commit.txt", List::Commit);
+    replay(b"bulk_load", b"bulk_load.txt", List::BulkLoad);
     replay(b"answers", b"answers.txt", List::Answers);
 }
