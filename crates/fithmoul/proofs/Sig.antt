@@ -1,6 +1,10 @@
 -- Made by tools/transplant.py: signatures with the row of nodes, and the readings of their contracts.
+pub mod Kinds_bulk_load_rows_load
+pub mod Reads_bulk_load_rows_load
 pub mod Kinds_fithmoul_ask
 pub mod Reads_fithmoul_ask
+pub mod Kinds_fithmoul_bulk_load
+pub mod Reads_fithmoul_bulk_load
 pub mod Kinds_fithmoul_commit
 pub mod Reads_fithmoul_commit
 pub mod Kinds_fithmoul_locate

@@ -14,7 +14,24 @@ use Rattle.finish.specs.declared.Totals.{Totals}
 use Rattle.mesh_check.specs.declared.Refusal.{Refusal}
 use Rattle.sums.specs.Bit.{bit}
 use Rattle.fithmoul.specs.declared.results.BulkLoadResult.{BulkLoadResult}
+use Rattle.fithmoul.specs.declared.results.FinishResult.{FinishResult}
 use Rattle.fithmoul.specs.Results.{finishedResult, loadedResult, bulkLoadResult, loadReported}
+
+-- the mark, as it is worked out
+pub load-marked : (line : Bool) (x : FinishResult) {m : ℕ} → m ≡ bit line
+    → _≡_ {A = BulkLoadResult} (record {
+      refusal = x .refusal;
+      place = x .place;
+      vertices = x .vertices;
+      edges = x .edges;
+      faces = x .faces;
+      changes = 0;
+      line = m;
+      «faces_added» = x .«faces_added»;
+      «convex_flips» = x .«convex_flips»;
+      «closing_flips» = x .«closing_flips»;
+    }) (loadedResult line x)
+load-marked line x e = rw e refl
 
 module _ (l : BulkLoadLent) (r : BulkLoadResult) (e : r ≡ bulkLoadResult (bulkLoadOf l .answer)) where
   abbrev w : BulkLoadOutcome

@@ -1,0 +1,2 @@
+-- Signatures of functions over the row of nodes.
+pub mod Sig
