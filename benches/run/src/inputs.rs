@@ -1,6 +1,6 @@
 //! The points of a benchmark: the same numbers give the same points.
 
-use fithmoul::{by_distance, middle, seed_of, Point, HEIGHT_RANGE};
+use fithmoul::{by_distance, middle, side_query, Mesh, Point, HEIGHT_RANGE};
 
 /// A seed triangle, a centre in it, and the points to run.
 pub struct Input {
@@ -10,6 +10,14 @@ pub struct Input {
     /// The same without heights, which the Rust and CGAL take.
     pub flat_corners: [[i32; 2]; 3],
     pub flat: Vec<[i32; 2]>,
+}
+
+/// Points alone: in the order in which they go in, and as they are made.
+pub struct Bare {
+    pub points: Vec<Point>,
+    pub flat: Vec<[i32; 2]>,
+    pub made: Vec<Point>,
+    pub made_flat: Vec<[i32; 2]>,
 }
 
 fn flat([x, y, _]: Point) -> [i32; 2] {
@@ -111,6 +119,33 @@ fn put_last(order: Vec<usize>, tenths: u64) -> Vec<usize> {
     }
     first.append(&mut last);
     first
+}
+
+/// The same in the order in which the Rust's `bulk_load` takes them, nearest first; those in random order stay as they are made.
+pub fn bare(kind: &str, count: usize) -> Bare {
+    let made = unsorted(kind, count);
+    let points: Vec<Point> = match kind {
+        "random order" => made.clone(),
+        _ => by_distance(&made).into_iter().map(|i| made[i]).collect(),
+    };
+    let [flat, made_flat] = [&points, &made].map(|list| list.iter().map(|&p| flat(p)).collect());
+    Bare { points, flat, made, made_flat }
+}
+
+/// The first three of an order that are not on one line, turning left, with a middle from which a sweep can start.
+fn seed_of(points: &[Point], order: &[usize]) -> Option<[usize; 3]> {
+    let &a = order.first()?;
+    let &b = order.iter().find(|&&i| flat(points[i]) != flat(points[a]))?;
+    let turned = |&c: &usize| match side_query(flat(points[a]), flat(points[b]), flat(points[c])).ok()? {
+        0 => None,
+        1.. => Some([a, b, c]),
+        _ => Some([a, c, b]),
+    };
+    let starts = |seed: &[usize; 3]| {
+        let corners = seed.map(|i| points[i]);
+        Mesh::triangle(corners).is_ok_and(|mesh| mesh.locate(middle(corners), 0.0).is_ok())
+    };
+    order.iter().filter_map(turned).find(starts)
 }
 
 /// The same with a seed and a centre: as `bulk_load` sorts them, but for the spiral, the random order and what comes last.

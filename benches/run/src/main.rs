@@ -1,13 +1,16 @@
 //! Processor seconds and memory of a run: this library's, through its exports, beside the Rust's sweep from the same seed and centre, and beside CGAL.
+//! And those of a bulk load from bare points: see `loads`.
 //!
-//! `bench_run [TURNS [LARGEST]]` prints the tables; `bench_run once SIDE KIND COUNT` makes one run, for a profiler, and prints how many
-//! points ours skipped; `bench_run memory SIDE KIND COUNT` prints the peak of one run's memory. In each turn all sides take the same input
-//! one after the other, and each side's best turn counts.
+//! `bench_run [runs | loads] [TURNS [LARGEST]]` prints the tables, or those of the one kind alone; `bench_run once SIDE KIND COUNT` makes
+//! one run, for a profiler, and prints how many points ours skipped; `bench_run memory SIDE KIND COUNT` prints the peak of one run's
+//! memory. SIDE is `ours`, `rust`, `load_ours` or `load_rust`. In each turn all sides take the same input one after the other, and each
+//! side's best turn counts.
 //! Before it is timed each input is compared: our finished mesh is what our finish makes of the mesh after the Rust's last insertion, link
 //! by link (triangle by triangle where points were skipped and a convexity pass after the first adds faces: those come after the Rust's
 //! insertions, before ours), and both skip as many points. Our points have heights, the Rust's and CGAL's have none.
 
 mod inputs;
+mod loads;
 
 use std::fmt::Display;
 use std::hint::black_box;
@@ -15,7 +18,7 @@ use std::path::Path;
 use std::process::Command;
 
 use fithmoul::{by_distance, Fate, Mesh, Point, Run};
-use inputs::{make, unsorted, Input, OTHERS, SORTED};
+use inputs::{bare, make, unsorted, Input, OTHERS, SORTED};
 use oracle::driver::Sweep;
 use oracle::mesh;
 
@@ -208,9 +211,8 @@ fn cgal(program: &Path, file: &Path) -> Option<[f64; 2]> {
     Some([numbers.next()?.ok()?, numbers.next()?.ok()? / 1024.0])
 }
 
-fn write_points(file: &Path, input: &Input) {
-    let all = input.flat_corners.iter().chain(&input.flat);
-    let bytes: Vec<u8> = all.flatten().flat_map(|c| c.to_le_bytes()).collect();
+fn write_points(file: &Path, points: &[[i32; 2]]) {
+    let bytes: Vec<u8> = points.iter().flatten().flat_map(|c| c.to_le_bytes()).collect();
     std::fs::write(file, bytes).expect("the folder target/ can be written");
 }
 
@@ -233,7 +235,7 @@ fn measure(kind: &'static str, count: usize, turns: usize, beside: Option<&Path>
     let file = Path::new("target/bench_points.bin");
     let beside = beside.filter(|_| SORTED.contains(&kind) && count >= 100_000);
     if beside.is_some() {
-        write_points(file, &input);
+        write_points(file, &[&input.flat_corners[..], &input.flat].concat());
     }
     let all = if beside.is_some() { unsorted(kind, count) } else { Vec::new() };
     let [mut a, mut b, mut p, mut i, mut c, mut m, mut o] = [const { Vec::new() }; 7];
@@ -256,16 +258,7 @@ fn measure(kind: &'static str, count: usize, turns: usize, beside: Option<&Path>
 fn main() {
     let words: Vec<String> = std::env::args().skip(1).collect();
     if let [mode, side, kind, count] = &words[..] {
-        let mut input = make(kind, count.parse().expect("a number of points"));
-        // one list of points is enough, and what made it goes back to the system
-        match side.as_str() {
-            "ours" => input.flat = Vec::new(),
-            _ => input.points = Vec::new(),
-        }
-        unsafe { malloc_trim(0) };
-        // the peak from here on
-        let _ = std::fs::write("/proc/self/clear_refs", "5");
-        let skipped = once(side, &input);
+        let skipped = only(side, kind, count.parse().expect("a number of points"));
         match (mode.as_str(), skipped) {
             ("memory", _) => println!("{}", status("VmHWM:")),
             (_, Some(skipped)) => println!("{skipped}"),
@@ -273,11 +266,43 @@ fn main() {
         }
         return;
     }
-    let number = |i: usize, other: usize| words.get(i).and_then(|w| w.parse().ok()).unwrap_or(other);
+    let kinds = words.first().filter(|w| ["runs", "loads"].contains(&w.as_str()));
+    let rest = &words[usize::from(kinds.is_some())..];
+    let number = |i: usize, other: usize| rest.get(i).and_then(|w| w.parse().ok()).unwrap_or(other);
     let (turns, largest) = (number(0, 5), number(1, 100_000));
     let program = Path::new("target/bench_cgal");
     let beside = program.exists().then_some(program);
-    tables(turns, largest, beside);
+    if kinds.is_none_or(|w| w == "runs") {
+        tables(turns, largest, beside);
+    }
+    if kinds.is_none_or(|w| w == "loads") {
+        loads::tables(turns, largest, beside);
+    }
+}
+
+/// One side once, with the peak of memory from its start on. One list of points is enough, and what made it goes back to the system.
+fn only(side: &str, kind: &str, count: usize) -> Option<usize> {
+    fn from_here() {
+        unsafe { malloc_trim(0) };
+        let _ = std::fs::write("/proc/self/clear_refs", "5");
+    }
+    if side.starts_with("load") {
+        let mut input = bare(kind, count);
+        (input.made, input.made_flat) = (Vec::new(), Vec::new());
+        match side {
+            "load_ours" => input.flat = Vec::new(),
+            _ => input.points = Vec::new(),
+        }
+        from_here();
+        return loads::once(side, &input);
+    }
+    let mut input = make(kind, count);
+    match side {
+        "ours" => input.flat = Vec::new(),
+        _ => input.points = Vec::new(),
+    }
+    from_here();
+    once(side, &input)
 }
 
 /// Whether 1,000,000 points are done in seconds: not where flips or searches grow faster than the number.

@@ -1,6 +1,6 @@
 //! A heap surveyed at some points: its triangles, and its volume over the ground at height 0. `cargo run --example heap`
 
-use fithmoul::{Mesh, Point};
+use fithmoul::{Mesh, Point, Refusal, Shape};
 
 /// East, north and height, in millimetres.
 const SURVEY: [Point; 9] = [
@@ -15,13 +15,16 @@ const SURVEY: [Point; 9] = [
     [8000, 8000, 0],
 ];
 
-fn main() -> Result<(), fithmoul::LoadError> {
-    let loaded = Mesh::bulk_load(&SURVEY)?;
-    for [a, b, c] in loaded.mesh.triangles() {
+fn main() -> Result<(), Refusal> {
+    let Shape::Mesh(mesh) = Mesh::bulk_load(&SURVEY)?.shape else {
+        println!("no triangle: all points are on one line");
+        return Ok(());
+    };
+    for [a, b, c] in mesh.triangles() {
         println!("{a} {b} {c}");
     }
-    let volume = loaded.mesh.volume(0)?;
-    println!("{} points, {} cubic metres", loaded.vertices.len(), volume.cubic_metres);
+    let volume = mesh.volume(0)?;
+    println!("{} points, {} cubic metres", SURVEY.len(), volume.cubic_metres);
     println!("six times that, exactly: {} cubic millimetres", volume.six_volumes);
     Ok(())
 }

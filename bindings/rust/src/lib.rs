@@ -5,25 +5,33 @@
 //! program is the floating-point environment: doubles rounded to nearest and subnormal ones kept, as a program starts.
 //!
 //! ```
-//! # fn main() -> Result<(), fithmoul::LoadError> {
-//! let loaded = fithmoul::Mesh::bulk_load(&[[0, 0, 7], [4000, 0, 7], [0, 4000, 7], [4000, 4000, 1007], [9000, 1000, 7]])?;
-//! for [a, b, c] in loaded.mesh.triangles() {
-//!     println!("{a} {b} {c}");
+//! # fn main() -> Result<(), fithmoul::Refusal> {
+//! use fithmoul::{Mesh, Shape};
+//!
+//! let points = [[0, 0, 7], [4000, 0, 7], [0, 4000, 7], [4000, 4000, 1007], [9000, 1000, 7]];
+//! match Mesh::bulk_load(&points)?.shape {
+//!     Shape::Mesh(mesh) => {
+//!         for [a, b, c] in mesh.triangles() {
+//!             println!("{a} {b} {c}");
+//!         }
+//!         assert_eq!(mesh.triangles().count(), 3);
+//!         let above = mesh.volume(7)?; // above the level 7
+//!         assert_eq!((above.six_volumes, above.cubic_metres), (52_000_000_000, 9));
+//!         assert_eq!(mesh.area_total()?, 52_000_000); // doubled, in square millimetres
+//!     }
+//!     Shape::Line(line) => println!("no triangle: {} points on one line", line.vertex_count()),
 //! }
-//! assert_eq!(loaded.mesh.triangles().count(), 3);
-//! let above = loaded.mesh.volume(7)?; // above the level 7
-//! assert_eq!((above.six_volumes, above.cubic_metres), (52_000_000_000, 9));
-//! assert_eq!(loaded.mesh.area_total()?, 52_000_000); // doubled, in square millimetres
 //! # Ok(())
 //! # }
 //! ```
 //!
-//! [`Mesh::ask`] tells what a point would do before [`Mesh::commit`] does it.
+//! [`Mesh::ask`] tells what a point would do before [`Mesh::commit`] does it. [`Mesh::run`] takes points into a mesh that is there.
 //!
 //! Coordinates are whole millimetres from -16,777,216 to 16,777,216, heights and levels from -1,048,576 to 1,048,576; a mesh has at most 1,000,000
 //! vertices. Nothing but a volume depends on heights. In a finished mesh every triangle turns left (counterclockwise), no corner of the boundary turns left,
 //! and no triangle's circle strictly contains the far vertex of a neighbour.
 
+mod line;
 mod quote;
 mod refusal;
 mod rows;
@@ -32,8 +40,9 @@ pub mod sys;
 use std::cmp::Reverse;
 use std::fmt;
 
+pub use line::Line;
 pub use quote::Quote;
-pub use refusal::{LoadError, Refusal};
+pub use refusal::Refusal;
 use rows::{Rows, Scratch};
 
 /// The greatest coordinate.
@@ -50,10 +59,10 @@ pub type Point = [i32; 3];
 
 /// What became of a point, or in a quote would become of it. A lone step or a commit skips points that are `NotLeft`, `Unsound` or
 /// `AtCenter`. A run puts those in after its convexity passes, so that its answers have `InTriangle`, `OnEdge`, `Outside` or `OnVertex` in
-/// their place.
+/// their place. The points of a bulk load's seed are `Added` or `OnVertex`, wherever they were put; the others have the fates of a run.
 #[derive(Clone, Copy, Debug, PartialEq, Eq)]
 pub enum Fate {
-    /// 1: a step made it this vertex.
+    /// 1: a step, or the seed of a bulk load, made it this vertex.
     Added(u32),
     /// 2: it equals an end of the boundary edge at its angle.
     Dropped,
@@ -146,20 +155,47 @@ pub struct Volume {
     pub cubic_metres: i64,
 }
 
-/// What a run did: an answer for each point, and its finish.
+/// What a run or a bulk load did: an answer for each point, and its finish.
 #[derive(Clone, Debug, PartialEq, Eq)]
 pub struct Run {
     pub answers: Vec<Answer>,
     pub totals: Totals,
 }
 
-/// A mesh that was made of points alone.
-#[derive(Clone, Debug)]
+/// What points alone come to.
+#[derive(Clone, Debug, PartialEq, Eq)]
+pub enum Shape {
+    /// A finished mesh, its change count 0.
+    Mesh(Mesh),
+    /// They make no triangle.
+    Line(Line),
+}
+
+impl Shape {
+    /// The mesh, where it is one.
+    pub fn mesh(&self) -> Option<&Mesh> {
+        match self {
+            Shape::Mesh(mesh) => Some(mesh),
+            Shape::Line(_) => None,
+        }
+    }
+
+    /// The mesh itself, where it is one.
+    pub fn into_mesh(self) -> Option<Mesh> {
+        match self {
+            Shape::Mesh(mesh) => Some(mesh),
+            Shape::Line(_) => None,
+        }
+    }
+}
+
+/// What [`Mesh::bulk_load`] made.
+#[derive(Clone, Debug, PartialEq, Eq)]
 pub struct Loaded {
-    pub mesh: Mesh,
-    /// For each point, in the order in which they were given, its vertex. Every point has one; points at one place have the same.
+    pub shape: Shape,
+    /// For each point its vertex, in the order in which they were given. Every point has one; points at one place have the same.
     pub vertices: Vec<u32>,
-    /// Its answers are those of the points that are neither in the seed nor at the place of one before them, nearest first.
+    /// For each point its answer, in the order in which they were given.
     pub run: Run,
 }
 
@@ -167,8 +203,9 @@ pub struct Loaded {
 ///
 /// It has a change count too, by which a commit knows whether its quote is of the mesh as it stands. That starts at 0, and again with each
 /// run, also one that is refused as [`Refusal::Pending`]; a commit that adds a vertex or is refused so raises it by one. Nothing else
-/// changes it.
-#[derive(Clone)]
+/// changes it. Two meshes are equal whose positions, heights and links are: out edges, half-edges, stored edges. Their change counts may
+/// differ.
+#[derive(Clone, PartialEq, Eq)]
 pub struct Mesh {
     rows: Rows,
 }
@@ -192,43 +229,50 @@ impl Mesh {
         Ok(mesh)
     }
 
-    /// The mesh of a list of points, with all of them in it, as spade's `bulk_load` goes about it: sorted by their distance from their
-    /// average; the first three that are not on one line are the seed, the middle of the seed is the centre, and the others are run. Of
-    /// points at one place the first counts, with its height, and the others are not run.
-    pub fn bulk_load(points: &[Point]) -> Result<Loaded, LoadError> {
-        let outside = |p: &Point| at(*p).iter().any(|c| !(-RANGE..=RANGE).contains(c));
-        if let Some(point) = points.iter().position(outside) {
-            return Err(LoadError::Coordinate { point });
+    /// A list of points, in any order and with repeats, to a finished mesh with all of them in it; or to a line where they make no
+    /// triangle.
+    ///
+    /// It is [`Mesh::bulk_load_in_order`] of the points as [`by_distance`] sorts them, so that hardly any is skipped; that is how spade's
+    /// `bulk_load` takes them. The answers are put back into the order in which the points were given. Points at one place have one
+    /// vertex, with the height of the last of them that is not [`Fate::Dropped`].
+    ///
+    /// Refusals name points as they were given: the first that is out of range, the one at which the pending list was full.
+    pub fn bulk_load(points: &[Point]) -> Result<Loaded, Refusal> {
+        let order = by_distance(points);
+        let sorted: Vec<Point> = order.iter().map(|&i| points[i]).collect();
+        let (shape, taken) =
+            Mesh::bulk_load_in_order(&sorted).map_err(|refusal| as_given(refusal, points, &order))?;
+        let mut run = Run { answers: vec![Answer::default(); points.len()], totals: taken.totals };
+        let (mut vertices, mut last) = (vec![0; points.len()], 0);
+        for (answer, &i) in taken.answers.into_iter().zip(&order) {
+            // a dropped point names no vertex: it is at the place of the one before it
+            last = answer.fate().vertex().unwrap_or(last);
+            (run.answers[i], vertices[i]) = (answer, last);
         }
-        let too_high = |p: &Point| !(-HEIGHT_RANGE..=HEIGHT_RANGE).contains(&p[2]);
-        if let Some(point) = points.iter().position(too_high) {
-            return Err(LoadError::Height { point });
-        }
-        let mut order = by_distance(points);
-        // points at one place are neighbours there: of each, the first
-        let mut first: Vec<usize> = (0..points.len()).collect();
-        for pair in order.windows(2) {
-            if at(points[pair[0]]) == at(points[pair[1]]) {
-                first[pair[1]] = first[pair[0]];
-            }
-        }
-        order.dedup_by_key(|i| at(points[*i]));
-        let seed = seed_of(points, &order).ok_or(LoadError::NoTriangle)?;
-        let corners = seed.map(|i| points[i]);
-        let rest: Vec<usize> = order.into_iter().filter(|i| !seed.contains(i)).collect();
-        let swept: Vec<Point> = rest.iter().map(|&i| points[i]).collect();
-        let mut mesh = Mesh::triangle(corners)?;
-        let run = mesh.run(middle(corners), &swept)?;
-        let mut vertex_of = vec![0; points.len()];
-        for (vertex, &i) in (0..).zip(&seed) {
-            vertex_of[i] = vertex;
-        }
-        // no two of these are at one place, so that none is dropped and each answer names a vertex
-        for (answer, &i) in run.answers.iter().zip(&rest) {
-            vertex_of[i] = answer.vertex as u32;
-        }
-        let vertices = first.into_iter().map(|i| vertex_of[i]).collect();
-        Ok(Loaded { mesh, vertices, run })
+        Ok(Loaded { shape, vertices, run })
+    }
+
+    /// The same of the points as they come, and an answer for each: nothing is sorted. They go in one after the other, each where it lies,
+    /// until a sweep can start in the mesh that they make, about the middle of the last three vertices; the others are a run. Where the
+    /// list ends before that, the mesh is finished, or is the line.
+    ///
+    /// The mesh is as good in any order. But a sweep grows outwards, as in [`Mesh::run`]: a point that comes after others farther from the
+    /// centre is mostly skipped, which takes a search through the mesh. While all points are on one line each is compared with those
+    /// before it.
+    ///
+    /// A point on a vertex gives it its height, those of the seed at once and skipped ones after all steps; a dropped one does not.
+    pub fn bulk_load_in_order(points: &[Point]) -> Result<(Shape, Run), Refusal> {
+        let mut rows = Rows::default();
+        let room = rows.reserve(points.len());
+        let mut answers = rows::zeros(points.len());
+        let result = rows.bulk_load(&mut Scratch::new(room), &mut answers, points);
+        refusal::of(result.refusal, result.place)?;
+        let shape = match result.line {
+            0 => Shape::Mesh(Mesh { rows }),
+            _ => Shape::Line(Line { rows }),
+        };
+        let sys::BulkLoadResult { faces_added: faces, convex_flips, closing_flips, .. } = result;
+        Ok((shape, Run { answers, totals: Totals { faces, convex_flips, closing_flips } }))
     }
 
     /// Whether the mesh is one that every call takes. A mesh that a call of this crate left always is.
@@ -400,19 +444,6 @@ impl Mesh {
     }
 }
 
-/// The same positions, heights and links: out edges, half-edges, stored edges. Change counts may differ.
-impl PartialEq for Mesh {
-    fn eq(&self, other: &Mesh) -> bool {
-        self.positions() == other.positions()
-            && self.heights() == other.heights()
-            && self.outs() == other.outs()
-            && self.halves() == other.halves()
-            && self.adjacent() == other.adjacent()
-    }
-}
-
-impl Eq for Mesh {}
-
 impl fmt::Debug for Mesh {
     fn fmt(&self, f: &mut fmt::Formatter<'_>) -> fmt::Result {
         write!(
@@ -442,6 +473,18 @@ fn at([x, y, _]: Point) -> [i32; 2] {
     [x, y]
 }
 
+/// A refusal of the points in this order, as one of the points as they were given.
+fn as_given(refusal: Refusal, points: &[Point], order: &[usize]) -> Refusal {
+    match refusal {
+        // as they were given they are refused for the same reason, at their own first place
+        Refusal::Coordinate { .. } => Mesh::bulk_load_in_order(points).err().unwrap_or(refusal),
+        Refusal::Pending { point } => {
+            Refusal::Pending { point: order.get(point as usize).map_or(point, |&i| i as u32) }
+        }
+        _ => refusal,
+    }
+}
+
 /// The points' indices by their distance from their average, nearest first; of equal ones that with the greater x, then y, as the Rust has them. Points at
 /// one place stay in their order.
 pub fn by_distance(points: &[Point]) -> Vec<usize> {
@@ -460,25 +503,7 @@ pub fn by_distance(points: &[Point]) -> Vec<usize> {
     order
 }
 
-/// The first three of an order that are not on one line, turning left, with a middle from which a sweep can start: in a triangle of hardly any width
-/// that is rounded to a side.
-pub fn seed_of(points: &[Point], order: &[usize]) -> Option<[usize; 3]> {
-    let &a = order.first()?;
-    let &b = order.iter().find(|&&i| at(points[i]) != at(points[a]))?;
-    // a point out of range is in no triangle
-    let turned = |&c: &usize| match side_query(at(points[a]), at(points[b]), at(points[c])).ok()? {
-        0 => None,
-        1.. => Some([a, b, c]),
-        _ => Some([a, c, b]),
-    };
-    let starts = |seed: &[usize; 3]| {
-        let corners = seed.map(|i| points[i]);
-        Mesh::triangle(corners).is_ok_and(|mesh| mesh.locate(middle(corners), 0.0).is_ok())
-    };
-    order.iter().filter_map(turned).find(starts)
-}
-
-/// The middle of a triangle.
+/// The middle of a triangle: a centre for a run from it, unless the triangle has hardly any width.
 pub fn middle(corners: [Point; 3]) -> [f64; 2] {
     [0, 1].map(|k| corners.iter().map(|p| f64::from(p[k])).sum::<f64>() / 3.0)
 }

@@ -6,12 +6,12 @@ use std::fmt;
 /// A refusal, by its number in the library's table. All but `Pending` leave the mesh as it was.
 #[derive(Clone, Copy, Debug, PartialEq, Eq)]
 pub enum Refusal {
-    /// 1: fewer than 3 or more than 1,000,000 vertices, the mesh's and the points together.
+    /// 1: fewer than 3 or more than 1,000,000 vertices, the mesh's and the points together. Of a bulk load more than 1,000,000 points.
     Count,
     /// 2: a row is too short. This crate never lends one.
     Rows,
-    /// 3: a coordinate is out of range; the first such vertex, points counted on after the mesh's. Of a side query 0, 1 or 2: the first
-    /// such point.
+    /// 3: a coordinate is out of range; the first such vertex, points counted on after the mesh's. Of a bulk load the index of the first
+    /// such point, of a side query 0, 1 or 2.
     Coordinate { vertex: u32 },
     /// 4: the links are no mesh.
     Rules,
@@ -23,8 +23,8 @@ pub enum Refusal {
     Ring,
     /// 8: the angle is NaN, below 0.0 or above 1.0.
     Angle,
-    /// 9: the pending list is full. In a run the point whose step or insertion it was, or the number of points where the finish was
-    /// refused; otherwise 0.
+    /// 9: the pending list is full. In a run and a bulk load the point whose step or insertion it was, or the number of points where the
+    /// finish was refused; otherwise 0.
     Pending { point: u32 },
     /// 10: a height, of a vertex or of a point, or a level is outside -1,048,576..1,048,576. It comes straight after 3, and names no vertex.
     Height,
@@ -96,39 +96,3 @@ impl fmt::Display for Refusal {
 }
 
 impl Error for Refusal {}
-
-/// Why points could not be loaded.
-#[derive(Clone, Copy, Debug, PartialEq, Eq)]
-pub enum LoadError {
-    /// This point has a coordinate outside -16,777,216..16,777,216.
-    Coordinate { point: usize },
-    /// Every coordinate is in range, and this point has a height outside -1,048,576..1,048,576.
-    Height { point: usize },
-    /// All points are on one line, or so close to one that no sweep can start; or there are fewer than three.
-    NoTriangle,
-    /// `Count`, of different places, or `Pending`, which counts points as the sweep took them.
-    Refused(Refusal),
-}
-
-impl From<Refusal> for LoadError {
-    fn from(refusal: Refusal) -> LoadError {
-        LoadError::Refused(refusal)
-    }
-}
-
-impl fmt::Display for LoadError {
-    fn fmt(&self, f: &mut fmt::Formatter<'_>) -> fmt::Result {
-        match self {
-            LoadError::Coordinate { point } => {
-                write!(f, "point {point} has a coordinate outside -16,777,216..16,777,216")
-            }
-            LoadError::Height { point } => {
-                write!(f, "point {point} has a height outside -1,048,576..1,048,576")
-            }
-            LoadError::NoTriangle => write!(f, "no three points make a triangle"),
-            LoadError::Refused(refusal) => refusal.fmt(f),
-        }
-    }
-}
-
-impl Error for LoadError {}

@@ -115,13 +115,6 @@ impl Rows {
         Ok(rows)
     }
 
-    /// Room for the mesh of so many points, and nothing in it. Past the limit nothing is made: the call refuses.
-    pub fn for_points(points: usize) -> Rows {
-        let mut rows = Rows::default();
-        rows.reserve(points);
-        rows
-    }
-
     fn grow(&mut self, vertices: usize) {
         // a new row of zeros is not touched by anybody before it is used
         fn grown<T: Copy>(row: &mut Vec<T>, length: usize, zeros: fn(usize) -> Vec<T>) {
@@ -329,7 +322,7 @@ impl Rows {
         result
     }
 
-    /// What these rows held is gone, unless the call refuses.
+    /// Into rows of which nothing is in use.
     pub fn bulk_load(
         &mut self,
         scratch: &mut Scratch,

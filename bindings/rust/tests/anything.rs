@@ -1,7 +1,7 @@
 //! A call takes anything: rows of any length with anything in them, any counts, centre, points, quote and level. It returns, and a refusal
 //! but 9 leaves every row as it was. Through the exports themselves, on seeds that were damaged a little and on noise.
 
-use fithmoul::sys::{self, AskResult, Node, Quote};
+use fithmoul::sys::{self, AskResult, BulkLoadResult, Node, Quote};
 
 struct Random(u64);
 
@@ -264,4 +264,64 @@ fn a_call_takes_anything() {
     assert!([1, 2, 4, 7, 8].iter().all(|&which| seen[which][6] > 0), "{seen:?}");
     assert!(seen[7][11] == 0 && seen[7][12] > 0 && seen[8][11] > 0 && seen[8][12] > 0, "{seen:?}");
     assert!([1, 2, 6, 7, 8, 9].iter().all(|&k| fates[k] > 0) && fates[3..6] == [0; 3], "{fates:?}");
+}
+
+fn bulk_load(r: &mut Rows, points: &[i32], point_heights: &[i32]) -> BulkLoadResult {
+    let (p, pl, z, zl) =
+        (r.positions.as_mut_ptr(), r.positions.len(), r.heights.as_mut_ptr(), r.heights.len());
+    let (o, ol, h, hl) = (r.outs.as_mut_ptr(), r.outs.len(), r.halves.as_mut_ptr(), r.halves.len());
+    let (a, al, n, nl) = (r.adjacent.as_mut_ptr(), r.adjacent.len(), r.nodes.as_mut_ptr(), r.nodes.len());
+    let (d, dl, b, bl) = (r.freed.as_mut_ptr(), r.freed.len(), r.buckets.as_mut_ptr(), r.buckets.len());
+    let (q, ql, s, sl) = (r.pending.as_mut_ptr(), r.pending.len(), r.answers.as_mut_ptr(), r.answers.len());
+    let (t, tl, u, ul) = (points.as_ptr(), points.len(), point_heights.as_ptr(), point_heights.len());
+    unsafe {
+        sys::fithmoul_bulk_load(
+            p, pl, z, zl, o, ol, h, hl, a, al, n, nl, d, dl, b, bl, q, ql, s, sl, t, tl, u, ul,
+        )
+    }
+}
+
+/// What the rows hold before a bulk load makes no difference but for the entries that it does not use.
+#[test]
+fn a_bulk_load_takes_anything() {
+    let mut random = Random(0x9e37_79b9_7f4a_7c15);
+    let (mut seen, mut lines) = ([0u32; 13], 0);
+    for _ in 0..60_000 {
+        let mut rows = seed(7);
+        for _ in 0..random.below(3) {
+            damage(&mut random, &mut rows);
+        }
+        let points: Vec<i32> = (0..random.below(17)).map(|_| random.coordinate()).collect();
+        let point_heights: Vec<i32> = (0..6 + random.below(6)).map(|_| random.height()).collect();
+        let before = rows.clone();
+        let result = bulk_load(&mut rows, &points, &point_heights);
+        seen[result.refusal as usize] += 1;
+        lines += result.line;
+        if ![0, 9].contains(&result.refusal) {
+            assert!(rows == before, "refusal {} changed a row", result.refusal);
+            let BulkLoadResult { refusal, place, .. } = result;
+            assert_eq!(result, BulkLoadResult { refusal, place, ..BulkLoadResult::default() });
+            continue;
+        }
+        let [v, e, f] = [result.vertices, result.edges, result.faces].map(|n| n as usize);
+        assert!(
+            rows.positions[2 * v..] == before.positions[2 * v..] && rows.heights[v..] == before.heights[v..]
+        );
+        assert!(rows.outs[v..] == before.outs[v..] && rows.adjacent[f..] == before.adjacent[f..]);
+        assert!(rows.halves[8 * e..] == before.halves[8 * e..]);
+        assert!(rows.answers[2 * points.len()..] == before.answers[2 * points.len()..]);
+        assert!(rows.nodes.iter().all(|n| *n == Node::default()));
+        assert!(rows.freed.iter().chain(&rows.buckets).chain(&rows.pending).all(|&w| w == 0));
+        // the same as in rows of another kind
+        let mut other = Rows { positions: vec![-9; 14], heights: vec![9; 7], outs: vec![9; 7], ..seed(7) };
+        (other.halves, other.adjacent) = (vec![9; 168], vec![9; 14]);
+        other.pending.resize(before.pending.len(), 7);
+        assert_eq!(bulk_load(&mut other, &points, &point_heights), result);
+        assert!(other.halves[..8 * e] == rows.halves[..8 * e] && other.outs[..v] == rows.outs[..v]);
+        assert!(other.adjacent[..f] == rows.adjacent[..f] && other.heights[..v] == rows.heights[..v]);
+        assert!(other.positions[..2 * v] == rows.positions[..2 * v]);
+    }
+    println!("{seen:?}, lines {lines}");
+    assert!([0, 2, 3, 10].iter().all(|&k| seen[k] > 100) && lines > 100, "{seen:?}, {lines}");
+    assert!([1, 4, 5, 6, 7, 8, 11, 12].iter().all(|&k| seen[k] == 0), "{seen:?}");
 }

@@ -5,7 +5,7 @@ mod common;
 
 use common::{of_triangles, Random};
 use fithmoul::sys::{self, AreaTotalResult, SideQueryResult};
-use fithmoul::{seed_of, side_query, Mesh, Point, Refusal, MOST_VERTICES, RANGE};
+use fithmoul::{side_query, Mesh, Point, Refusal, MOST_VERTICES, RANGE};
 
 /// The doubled area of one triangle.
 fn expected(corners: [[i32; 2]; 3]) -> i128 {
@@ -79,14 +79,6 @@ fn the_first_point_out_of_range() {
     }
 }
 
-#[test]
-fn no_seed_of_points_out_of_range() {
-    let points: Vec<Point> = vec![[0, 0, 0], [RANGE + 1, 0, 0], [9, 0, 0], [0, 9, 0]];
-    assert_eq!(seed_of(&points, &[0, 1, 2, 3]), None);
-    assert_eq!(seed_of(&points, &[0, 2, 1, 3]), Some([0, 2, 3]));
-    assert_eq!(seed_of(&points, &[0, 3, 2, 1]), Some([0, 2, 3]));
-}
-
 /// So many squares as large as the range, all joined at one corner: they lie on each other.
 fn squares(count: u32) -> Mesh {
     let corners = [[-RANGE, RANGE, 0], [-RANGE, -RANGE, 0], [RANGE, -RANGE, 0]];
@@ -120,7 +112,8 @@ fn random_meshes() {
         for _ in 0..12 {
             let points: Vec<Point> =
                 (0..count).map(|_| [random.within(reach), random.within(reach), random.within(9)]).collect();
-            let mesh = Mesh::bulk_load(&points).expect("a triangle").mesh;
+            let loaded = Mesh::bulk_load(&points).expect("accepted");
+            let mesh = loaded.shape.into_mesh().expect("a triangle");
             let boundary = mesh.boundary();
             // clockwise, so backwards
             let round: i128 = (0..boundary.len())

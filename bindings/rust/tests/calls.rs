@@ -1,6 +1,6 @@
-//! The wrapper's own tests: the specification's sample, each refusal that can be met, meshes of points.
+//! The wrapper's own tests: the specification's sample, each refusal that can be met. tests/bulk_load.rs has meshes of bare points.
 
-use fithmoul::{Fate, LoadError, Mesh, Place, Point, Refusal};
+use fithmoul::{Fate, Mesh, Place, Refusal};
 
 fn seed() -> Mesh {
     Mesh::triangle([[0, 0, 10], [4, 0, 20], [0, 4, 30]]).unwrap()
@@ -98,56 +98,4 @@ fn refused_changes_nothing() {
     let mut mesh = seed();
     assert!(mesh.run([9.0, 9.0], &[[5, 5, 5]]).is_err());
     assert_eq!(mesh, seed());
-}
-
-#[test]
-fn loads_points() {
-    assert_eq!(Mesh::bulk_load(&[]).unwrap_err(), LoadError::NoTriangle);
-    assert_eq!(
-        Mesh::bulk_load(&[[0, 0, 1], [1, 1, 2], [2, 2, 3], [2, 2, 4]]).unwrap_err(),
-        LoadError::NoTriangle
-    );
-    let far = Mesh::bulk_load(&[[0, 0, 1_048_577], [1, 0, 0], [0, 1, 0], [-16_777_217, 0, 0]]);
-    assert_eq!(far.unwrap_err(), LoadError::Coordinate { point: 3 });
-    let high = Mesh::bulk_load(&[[0, 0, 0], [1, 0, 0], [0, 1, -1_048_577], [3, 0, 1_048_577]]);
-    assert_eq!(high.unwrap_err(), LoadError::Height { point: 2 });
-    let many = Mesh::bulk_load(&(0..1_000_001).map(|i| [i % 1_001, i / 1_001, 0]).collect::<Vec<_>>());
-    assert_eq!(many.unwrap_err(), LoadError::Refused(Refusal::Count));
-    let points: Vec<Point> = (0..400).map(|i| [i * 7919 % 1009, i * 104_729 % 1013, 17 * i - 3000]).collect();
-    let loaded = Mesh::bulk_load(&points).unwrap();
-    loaded.mesh.check().unwrap();
-    for (point, &v) in points.iter().zip(&loaded.vertices) {
-        let [x, y] = loaded.mesh.positions()[v as usize];
-        assert_eq!([x, y, loaded.mesh.heights()[v as usize]], *point);
-    }
-    assert_eq!(loaded.mesh.vertex_count(), 400);
-    assert_eq!(loaded.mesh.clone().finish().unwrap().closing_flips, 0);
-}
-
-#[test]
-fn loads_points_of_hardly_any_width() {
-    let r = 16_777_216;
-    let points = [[-r, -r, 1], [r, r - 1, 2], [0, 0, 3], [r, r, 4], [-r, -r + 1, 5], [5, -7, 6]];
-    let loaded = Mesh::bulk_load(&points).unwrap();
-    loaded.mesh.check().unwrap();
-    let thin = Mesh::bulk_load(&[[-r, -r, 0], [0, 0, 0], [r, r - 1, 0]]);
-    assert!(matches!(thin, Ok(_) | Err(LoadError::NoTriangle)), "{thin:?}");
-}
-
-/// Heights decide neither the order nor the seed, and of points at one place the first counts, whatever their heights are. They have one
-/// vertex.
-#[test]
-fn loads_points_at_one_place() {
-    let once = [[0, 0, 5], [40, 0, 6], [0, 40, 7], [40, 40, 8], [20, 20, 9], [13, 11, 10]];
-    let again = once.map(|[x, y, z]| [x, y, 100 - z]);
-    let loaded = Mesh::bulk_load(&[once, again].concat()).unwrap();
-    let height = |v: &u32| loaded.mesh.heights()[*v as usize];
-    assert_eq!(loaded.vertices[..6].iter().map(height).collect::<Vec<_>>(), [5, 6, 7, 8, 9, 10]);
-    assert_eq!(loaded.vertices[6..], loaded.vertices[..6]);
-    assert_eq!(loaded.mesh.vertex_count(), 6);
-    assert!(loaded
-        .run
-        .answers
-        .iter()
-        .all(|a| a.fate().vertex().is_some() && !matches!(a.fate(), Fate::OnVertex(_))));
 }

@@ -22,13 +22,19 @@ fn loaded() {
     let random = &mut Random(0x9e37_79b9_7f4a_7c15);
     for reach in [5, 40, 16_777_216] {
         let points = random_points(random, 400, reach);
-        let loaded = Mesh::bulk_load(&points).expect("a triangle");
-        let mut first = HashMap::new();
-        for (point, &v) in points.iter().zip(&loaded.vertices) {
-            let &mut z = first.entry([point[0], point[1]]).or_insert(point[2]);
-            assert_eq!(loaded.mesh.heights()[v as usize], z);
+        let loaded = Mesh::bulk_load(&points).expect("accepted");
+        let mesh = loaded.shape.mesh().expect("a triangle");
+        // of points at one place the last that is not dropped
+        let mut last = HashMap::new();
+        for ((point, answer), v) in points.iter().zip(&loaded.run.answers).zip(&loaded.vertices) {
+            assert_eq!(answer.fate().vertex().unwrap_or(*v), *v);
+            assert_eq!(mesh.positions()[*v as usize], point[..2]);
+            if answer.fate() != Fate::Dropped {
+                last.insert(*v as usize, point[2]);
+            }
         }
-        assert_eq!(first.len(), loaded.mesh.vertex_count());
+        assert_eq!(last.len(), mesh.vertex_count());
+        assert!(last.iter().all(|(&v, &z)| mesh.heights()[v] == z));
     }
 }
 
@@ -78,14 +84,15 @@ fn ignored_by_links() {
     for reach in [6, 60, 16_777_216] {
         let points = random_points(random, 300, reach);
         let flat: Vec<Point> = points.iter().map(|&[x, y, _]| [x, y, 0]).collect();
-        let [a, b] = [&points, &flat].map(|p| Mesh::bulk_load(p).expect("a triangle"));
-        assert!(a.mesh.halves() == b.mesh.halves() && a.mesh.positions() == b.mesh.positions());
-        assert!(a.mesh.outs() == b.mesh.outs() && a.mesh.adjacent() == b.mesh.adjacent());
+        let [a, b] = [&points, &flat].map(|p| Mesh::bulk_load(p).expect("accepted"));
         assert!(a.run == b.run && a.vertices == b.vertices);
-        let [c, d] = [&a, &b].map(|l| {
-            let mut mesh = l.mesh.clone();
-            let answer = mesh.step([0.0, 0.0], [16_777_216, -16_777_215, l.mesh.heights()[0]]);
-            (answer, l.mesh.locate([0.0, 0.0], 0.3), mesh.halves().to_vec())
+        let [a, b] = [a, b].map(|l| l.shape.into_mesh().expect("a triangle"));
+        assert!(a.halves() == b.halves() && a.positions() == b.positions());
+        assert!(a.outs() == b.outs() && a.adjacent() == b.adjacent());
+        let [c, d] = [&a, &b].map(|loaded| {
+            let mut mesh = loaded.clone();
+            let answer = mesh.step([0.0, 0.0], [16_777_216, -16_777_215, loaded.heights()[0]]);
+            (answer, loaded.locate([0.0, 0.0], 0.3), mesh.halves().to_vec())
         });
         assert_eq!(c, d);
     }

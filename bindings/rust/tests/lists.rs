@@ -1,12 +1,12 @@
-//! The runs of tests/reference/lists/run.txt through the exports: every row that a call is lent, what it leaves in each entry and what it
-//! answers, refusal 9 in every place included. An independent reading of the specification made them; tests/reference/README.md has the
-//! form of the list.
+//! The runs of tests/reference/lists/run.txt and the bulk loads of bulk_load.txt there through the exports: every row that a call is lent,
+//! what it leaves in each entry and what it answers, refusal 9 in every place included. An independent reading of the specification made
+//! them; tests/reference/README.md has the form of the lists.
 
 #[path = "common/cases.rs"]
 mod cases;
 
 use cases::{cases, Case};
-use fithmoul::sys::{self, Node, RunResult};
+use fithmoul::sys::{self, BulkLoadResult, Node, RunResult};
 
 #[derive(Clone, PartialEq, Debug)]
 struct Rows {
@@ -128,4 +128,62 @@ fn every_run_of_the_list() {
     println!("by refusal {refusals:?}, points by fate {fates:?}");
     assert!(refusals[0] > 400 && refusals[9] > 60, "{refusals:?}");
     assert!([1, 2, 6, 7, 8, 9].iter().all(|&k| fates[k] > 100) && fates[3..6] == [0; 3], "{fates:?}");
+}
+
+fn bulk_load(case: &Case, r: &mut Rows) -> BulkLoadResult {
+    let points: Vec<i32> = case.numbers('v').expect("points");
+    let points = &points[1..];
+    let heights: Vec<i32> = case.row('y').unwrap_or_else(|| vec![0; ENOUGH]);
+    unsafe {
+        sys::fithmoul_bulk_load(
+            r.positions.as_mut_ptr(),
+            r.positions.len(),
+            r.heights.as_mut_ptr(),
+            r.heights.len(),
+            r.outs.as_mut_ptr(),
+            r.outs.len(),
+            r.halves.as_mut_ptr(),
+            r.halves.len(),
+            r.adjacent.as_mut_ptr(),
+            r.adjacent.len(),
+            r.nodes.as_mut_ptr(),
+            r.nodes.len(),
+            r.freed.as_mut_ptr(),
+            r.freed.len(),
+            r.buckets.as_mut_ptr(),
+            r.buckets.len(),
+            r.pending.as_mut_ptr(),
+            r.pending.len(),
+            r.answers.as_mut_ptr(),
+            r.answers.len(),
+            points.as_ptr(),
+            points.len(),
+            heights.as_ptr(),
+            heights.len(),
+        )
+    }
+}
+
+#[test]
+fn every_bulk_load_of_the_list() {
+    let text = cases::text("bulk_load");
+    let (mut refusals, mut fates, mut lines) = ([0; 11], [0; 10], 0);
+    for case in cases(&text) {
+        let mut rows = lent(&case);
+        let expected = left(&case, &rows);
+        let r = bulk_load(&case, &mut rows);
+        let numbers = [r.refusal, r.place, r.vertices, r.edges, r.faces, r.changes, r.line, r.faces_added];
+        let answer = [&numbers.map(u64::from)[..], &[r.convex_flips, r.closing_flips]].concat();
+        assert_eq!(answer, case.numbers::<u64>('r').expect("an answer"), "{}", case.name);
+        assert!(rows == expected, "{}: {rows:?}, not {expected:?}", case.name);
+        refusals[r.refusal as usize] += 1;
+        lines += r.line;
+        if case.lines.contains_key(&'W') {
+            let points = case.numbers::<i64>('v').expect("points")[0] as usize;
+            rows.answers.chunks(4).take(points).for_each(|a| fates[a[0] as usize] += 1);
+        }
+    }
+    println!("by refusal {refusals:?}, lines {lines}, points by fate {fates:?}");
+    assert!(refusals[0] > 300 && refusals[9] > 40 && lines > 70, "{refusals:?}, {lines}");
+    assert!([1, 2, 6, 7, 9].iter().all(|&k| fates[k] > 80) && fates[3..6] == [0; 3], "{fates:?}");
 }

@@ -13,7 +13,7 @@ mod step;
 
 use cases::{cases, Case};
 use common::{of_triangles, Random};
-use fithmoul::sys::{AskResult, CommitResult, Node, Quote, RunResult};
+use fithmoul::sys::{AskResult, BulkLoadResult, CommitResult, Node, Quote, RunResult};
 use fithmoul::{Answer, Fate, Mesh, Point, Refusal, MOST_VERTICES};
 use rows::{rows_of, Rows};
 use step::{flat_fan, CENTER};
@@ -415,6 +415,7 @@ fn sizes() {
     assert_eq!(size_of::<AskResult>(), 40);
     assert_eq!(size_of::<CommitResult>(), 56);
     assert_eq!(size_of::<RunResult>(), 48);
+    assert_eq!(size_of::<BulkLoadResult>(), 48);
 }
 
 #[test]
@@ -523,7 +524,7 @@ fn refusals_of_the_crate() {
 #[test]
 fn room_to_ask() {
     let points: Vec<Point> = (0..50).map(|i| [i * 7919 % 1009, i * 104_729 % 1013, i]).collect();
-    let loaded = Mesh::bulk_load(&points).expect("a triangle").mesh;
+    let loaded = Mesh::bulk_load(&points).expect("accepted").shape.into_mesh().expect("a triangle");
     let mut swept = seed();
     swept.run(MIDDLE, &[[4, 4, 0], [-3, 1, 0]]).expect("accepted");
     let mut stepped = seed();

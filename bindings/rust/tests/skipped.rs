@@ -8,7 +8,7 @@ mod rows;
 use std::collections::{HashMap, HashSet};
 
 use common::{of_triangles, Random};
-use fithmoul::{Fate, Mesh, Point};
+use fithmoul::{Fate, Mesh, Point, Shape};
 use rows::{rows_of, PAST};
 
 /// Every fate of a run, with its faces and flips (examples/fates.txt).
@@ -183,14 +183,17 @@ fn no_point_is_missing() {
     for turn in 0..300 {
         let points = drawn(random, turn % 3);
         let places: HashSet<[i32; 2]> = points.iter().map(|p| [p[0], p[1]]).collect();
-        let Ok(loaded) = Mesh::bulk_load(&points) else { continue };
+        let loaded = Mesh::bulk_load(&points).expect("accepted");
+        let Shape::Mesh(all) = loaded.shape else { continue };
         for (point, &v) in points.iter().zip(&loaded.vertices) {
-            assert_eq!(loaded.mesh.positions()[v as usize], point[..2]);
+            assert_eq!(all.positions()[v as usize], point[..2]);
         }
-        assert_eq!(loaded.mesh.vertex_count(), places.len());
+        assert_eq!(all.vertex_count(), places.len());
 
-        // as they come, about the same seed's middle
-        let corners = [0, 1, 2].map(|v| loaded.mesh.positions()[v]).map(|[x, y]| [x, y, 0]);
+        // as they come, about the middle of one of its triangles
+        let widest =
+            (1..).zip(all.triangles()).max_by_key(|&(f, _)| all.doubled_area(f)).expect("a triangle").1;
+        let corners = widest.map(|v| all.positions()[v as usize]).map(|[x, y]| [x, y, 0]);
         let mut mesh = Mesh::triangle(corners).expect("a triangle");
         let answers = mesh.run(fithmoul::middle(corners), &points).expect("accepted").answers;
         let all: HashSet<[i32; 2]> = mesh.positions().iter().copied().collect();

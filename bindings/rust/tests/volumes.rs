@@ -160,7 +160,8 @@ fn random_meshes() {
     for (count, reach, rise) in [(9, 4, 3), (40, 50, 9), (300, 100_000, 5_000), (3_000, RANGE, HEIGHT_RANGE)]
     {
         for _ in 0..12 {
-            let mesh = Mesh::bulk_load(&random_points(random, count, reach, rise)).expect("a triangle").mesh;
+            let loaded = Mesh::bulk_load(&random_points(random, count, reach, rise)).expect("accepted");
+            let mesh = loaded.shape.into_mesh().expect("a triangle");
             let level = random.within(rise);
             let above = agrees(&mesh, level).six_volumes;
             // a level higher takes a layer over the boundary's area away

@@ -1,24 +1,11 @@
 //! What the tests share: numbers that are the same each time, and meshes of given triangles.
 
+mod random;
+
 use std::collections::HashMap;
 
 use fithmoul::{Mesh, Point};
-
-pub struct Random(pub u64);
-
-impl Random {
-    pub fn below(&mut self, n: u64) -> u64 {
-        self.0 ^= self.0 << 13;
-        self.0 ^= self.0 >> 7;
-        self.0 ^= self.0 << 17;
-        self.0 % n
-    }
-
-    /// From -r to r.
-    pub fn within(&mut self, r: i32) -> i32 {
-        self.below(2 * r as u64 + 1) as i32 - r
-    }
-}
+pub use random::Random;
 
 /// The mesh of triangles that turn left and share whole edges. Where a vertex has several fans they are joined in the order in which they come.
 pub fn of_triangles(points: &[Point], triangles: &[[u32; 3]]) -> Mesh {

@@ -1,0 +1,164 @@
+//! From bare points: this library's bulk load, through its export, beside the Rust's own `bulk_load`, and beside CGAL.
+//!
+//! Nothing is sorted in ours, and the Rust always sorts. So the points come in the order in which the Rust takes them, for ours as they
+//! are, for the Rust the other way round, as its sort leaves them: that finds nothing to do, and both insert the same points one after the
+//! other. With sorting, both get the points as they are made. In `random order` ours takes them so, without a sort, and the Rust sorts.
+//!
+//! Before it is timed each input is compared: our finished mesh is what our finish makes of the Rust's, link by link (triangle by triangle
+//! where points were skipped and a convexity pass after the first adds faces, and in random order, where the vertices have other numbers).
+
+use std::hint::black_box;
+use std::path::Path;
+
+use fithmoul::{Mesh, Point, Run};
+use oracle::delaunay_core::bulk_load;
+use oracle::driver::{point, rows, Swept};
+use oracle::Point2;
+
+use crate::inputs::{bare, Bare, SORTED};
+use crate::{
+    best, cgal, each, head, line, ms, of_rows, ratio, skipped_of, triangles_of, write_points, SIZES,
+};
+
+pub const KINDS: [&str; 5] = [SORTED[0], SORTED[1], SORTED[2], SORTED[3], "random order"];
+
+/// From the list to the finished mesh, memory and all.
+#[inline(never)]
+pub fn load_ours(input: &Bare) -> (Mesh, Run) {
+    let (shape, run) = Mesh::bulk_load_in_order(&input.points).expect("accepted");
+    (shape.into_mesh().expect("a triangle"), run)
+}
+
+/// The same of the Rust, whose sort finds the points in its order.
+#[inline(never)]
+pub fn load_rust(input: &Bare) -> Swept {
+    rust_of(input.flat.iter().rev())
+}
+
+fn rust_of<'a>(points: impl Iterator<Item = &'a [i32; 2]>) -> Swept {
+    let elements: Vec<Point2<f64>> = points.map(|&p| point(p)).collect();
+    bulk_load::<_, Swept>(elements).expect("valid points")
+}
+
+/// Both from the points as they are made.
+fn sorted_ours(points: &[Point]) -> Mesh {
+    Mesh::bulk_load(points).expect("accepted").shape.into_mesh().expect("a triangle")
+}
+
+/// The triangles by their corners' positions.
+fn placed_triangles(mesh: &Mesh) -> Vec<[[i32; 2]; 3]> {
+    let places = |t: [u32; 3]| {
+        let mut corners = t.map(|v| mesh.positions()[v as usize]);
+        corners.sort();
+        corners
+    };
+    let mut all: Vec<[[i32; 2]; 3]> = mesh.triangles().map(places).collect();
+    all.sort();
+    all
+}
+
+/// Both sides once, compared: how many vertices, and how many points were skipped or met again.
+fn compared(kind: &str, input: &Bare) -> (usize, usize) {
+    let (ours, run) = load_ours(input);
+    let theirs = of_rows(&rows(&load_rust(input)), &vec![0; ours.vertex_count()]);
+    let mut finished = theirs.clone();
+    let totals = finished.finish().expect("a good mesh");
+    if kind == "random order" {
+        assert!(placed_triangles(&ours) == placed_triangles(&finished), "the meshes differ");
+        return (ours.vertex_count(), skipped_of(&run));
+    }
+    assert!(ours.positions() == finished.positions(), "the vertices differ");
+    let is_same = ours.halves() == finished.halves()
+        && ours.outs() == finished.outs()
+        && ours.adjacent() == finished.adjacent();
+    assert!(
+        is_same || (totals.faces > 0 && triangles_of(&ours) == triangles_of(&finished)),
+        "the meshes differ"
+    );
+    (ours.vertex_count(), skipped_of(&run))
+}
+
+struct Row {
+    kind: &'static str,
+    count: usize,
+    vertices: usize,
+    skipped: usize,
+    ours: f64,
+    rust: f64,
+    /// With sorting, ours and the Rust's.
+    sorted: Option<[f64; 2]>,
+    cgal: Option<f64>,
+}
+
+fn measure(kind: &'static str, count: usize, turns: usize, beside: Option<&Path>) -> Row {
+    let input = bare(kind, count);
+    let (vertices, skipped) = compared(kind, &input);
+    let times = (100_000 / count).max(1);
+    let file = Path::new("target/bench_points.bin");
+    let beside = beside.filter(|_| count >= 100_000);
+    if beside.is_some() {
+        write_points(file, &input.made_flat);
+    }
+    let [mut a, mut b, mut s, mut t, mut c] = [const { Vec::new() }; 5];
+    for _ in 0..turns {
+        a.push(each(times, || load_ours(&input)));
+        b.push(each(times, || load_rust(&input)));
+        if kind != "random order" {
+            s.push(each(times, || sorted_ours(&input.made)));
+            t.push(each(times, || rust_of(input.made_flat.iter())));
+        }
+        c.extend(beside.and_then(|program| cgal(program, file)).map(|[time, _]| time));
+    }
+    let sorted = (!s.is_empty()).then(|| [best(&s), best(&t)]);
+    let cgal = (!c.is_empty()).then(|| best(&c));
+    Row { kind, count, vertices, skipped, ours: best(&a), rust: best(&b), sorted, cgal }
+}
+
+/// One side once, for a profiler; how many points ours skipped.
+pub fn once(side: &str, input: &Bare) -> Option<usize> {
+    if side == "load_ours" {
+        return Some(skipped_of(&black_box(load_ours(input)).1));
+    }
+    drop(black_box(load_rust(input)));
+    None
+}
+
+pub fn tables(turns: usize, largest: usize, beside: Option<&Path>) {
+    let cases = KINDS.iter().flat_map(|&kind| SIZES.map(|count| (kind, count)));
+    let rows: Vec<Row> = cases
+        .filter(|&(kind, count)| count <= largest && (count <= 100_000 || SORTED[..3].contains(&kind)))
+        .map(|(kind, count)| {
+            eprintln!("bare points: {kind} {count}");
+            measure(kind, count, turns, beside)
+        })
+        .collect();
+    println!("\nFrom bare points, milliseconds:\n");
+    let sides =
+        ["ours", "Rust", "ours / Rust", "with sorting", "Rust's", "ratio", "CGAL", "with sorting / CGAL"];
+    head(&["points", "number", "vertices", "skipped"].iter().chain(&sides).copied().collect::<Vec<_>>());
+    for r in &rows {
+        let [ours, rust, both] = match r.sorted {
+            Some([a, b]) => [ms(a), ms(b), ratio(a, b)],
+            None => Default::default(),
+        };
+        let [time, beside] = match (r.cgal, r.sorted) {
+            (Some(c), Some([a, _])) => [ms(c), ratio(a, c)],
+            (Some(c), None) => [ms(c), String::new()],
+            _ => Default::default(),
+        };
+        line(&[
+            &r.kind,
+            &r.count,
+            &r.vertices,
+            &r.skipped,
+            &ms(r.ours),
+            &ms(r.rust),
+            &ratio(r.ours, r.rust),
+            &ours,
+            &rust,
+            &both,
+            &time,
+            &beside,
+        ]);
+    }
+}
