@@ -20,6 +20,20 @@ pub struct Bare {
     pub made_flat: Vec<[i32; 2]>,
 }
 
+impl Bare {
+    /// What one side takes, and no more.
+    pub fn only(self, side: &str) -> Bare {
+        let mut kept = Bare { points: Vec::new(), flat: Vec::new(), made: Vec::new(), made_flat: Vec::new() };
+        match side {
+            "load_ours" => kept.points = self.points,
+            "load_rust" => kept.flat = self.flat,
+            "sorted_ours" => kept.made = self.made,
+            _ => kept.made_flat = self.made_flat,
+        }
+        kept
+    }
+}
+
 fn flat([x, y, _]: Point) -> [i32; 2] {
     [x, y]
 }

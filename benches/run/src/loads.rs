@@ -4,9 +4,13 @@
 //! are, for the Rust the other way round, as its sort leaves them: that finds nothing to do, and both insert the same points one after the
 //! other. With sorting, both get the points as they are made. In `random order` ours takes them so, without a sort, and the Rust sorts.
 //!
+//! There are two tables: one of calls whose memory the process has had before, and one of a process's first call, whose memory is new. CGAL
+//! stands in the second, since each of its turns is a process.
+//!
 //! Before it is timed each input is compared: our finished mesh is what our finish makes of the Rust's, link by link (triangle by triangle
 //! where points were skipped and a convexity pass after the first adds faces, and in random order, where the vertices have other numbers).
 
+use std::fmt::Display;
 use std::hint::black_box;
 use std::path::Path;
 
@@ -17,7 +21,7 @@ use oracle::Point2;
 
 use crate::inputs::{bare, Bare, SORTED};
 use crate::{
-    best, cgal, each, head, line, ms, of_rows, ratio, skipped_of, triangles_of, write_points, SIZES,
+    alone, best, cgal, each, head, line, ms, of_rows, ratio, skipped_of, triangles_of, write_points, SIZES,
 };
 
 pub const KINDS: [&str; 5] = [SORTED[0], SORTED[1], SORTED[2], SORTED[3], "random order"];
@@ -78,16 +82,18 @@ fn compared(kind: &str, input: &Bare) -> (usize, usize) {
     (ours.vertex_count(), skipped_of(&run))
 }
 
+/// The sides, as `bench_run` knows them.
+const SIDES: [&str; 4] = ["load_ours", "load_rust", "sorted_ours", "sorted_rust"];
+
 struct Row {
     kind: &'static str,
     count: usize,
     vertices: usize,
     skipped: usize,
-    ours: f64,
-    rust: f64,
-    /// With sorting, ours and the Rust's.
-    sorted: Option<[f64; 2]>,
-    cgal: Option<f64>,
+    /// By sides, where memory is kept and where the call is a process's first; NaN where the sorting is not taken.
+    kept: [f64; 4],
+    first: [f64; 4],
+    cgal: f64,
 }
 
 fn measure(kind: &'static str, count: usize, turns: usize, beside: Option<&Path>) -> Row {
@@ -99,28 +105,35 @@ fn measure(kind: &'static str, count: usize, turns: usize, beside: Option<&Path>
     if beside.is_some() {
         write_points(file, &input.made_flat);
     }
-    let [mut a, mut b, mut s, mut t, mut c] = [const { Vec::new() }; 5];
+    let sides = if kind == "random order" { 2 } else { 4 };
+    let [mut kept, mut first] = [const { [const { Vec::new() }; 4] }; 2];
+    let mut c = Vec::new();
     for _ in 0..turns {
-        a.push(each(times, || load_ours(&input)));
-        b.push(each(times, || load_rust(&input)));
-        if kind != "random order" {
-            s.push(each(times, || sorted_ours(&input.made)));
-            t.push(each(times, || rust_of(input.made_flat.iter())));
+        for i in 0..sides {
+            kept[i].push(each(times, || once(SIDES[i], &input)));
+            first[i].push(alone("first", SIDES[i], kind, count));
         }
         c.extend(beside.and_then(|program| cgal(program, file)).map(|[time, _]| time));
     }
-    let sorted = (!s.is_empty()).then(|| [best(&s), best(&t)]);
-    let cgal = (!c.is_empty()).then(|| best(&c));
-    Row { kind, count, vertices, skipped, ours: best(&a), rust: best(&b), sorted, cgal }
+    let [kept, first] = [kept, first].map(|all| all.map(|times| best(&times)));
+    Row { kind, count, vertices, skipped, kept, first, cgal: best(&c) }
 }
 
-/// One side once, for a profiler; how many points ours skipped.
-pub fn once(side: &str, input: &Bare) -> Option<usize> {
-    if side == "load_ours" {
-        return Some(skipped_of(&black_box(load_ours(input)).1));
+/// One side once, and what ours says of the points in the order in which they came.
+pub fn once(side: &str, input: &Bare) -> Option<Run> {
+    match side {
+        "load_ours" => return Some(black_box(load_ours(input)).1),
+        "load_rust" => drop(black_box(load_rust(input))),
+        "sorted_ours" => drop(black_box(sorted_ours(&input.made))),
+        _ => drop(black_box(rust_of(input.made_flat.iter()))),
     }
-    drop(black_box(load_rust(input)));
     None
+}
+
+/// The cells of the sides' times.
+fn cells([a, b, s, t]: [f64; 4]) -> [String; 6] {
+    let sorted = |cell: String| if s.is_nan() { String::new() } else { cell };
+    [ms(a), ms(b), ratio(a, b), sorted(ms(s)), sorted(ms(t)), sorted(ratio(s, t))]
 }
 
 pub fn tables(turns: usize, largest: usize, beside: Option<&Path>) {
@@ -132,33 +145,22 @@ pub fn tables(turns: usize, largest: usize, beside: Option<&Path>) {
             measure(kind, count, turns, beside)
         })
         .collect();
-    println!("\nFrom bare points, milliseconds:\n");
-    let sides =
-        ["ours", "Rust", "ours / Rust", "with sorting", "Rust's", "ratio", "CGAL", "with sorting / CGAL"];
+    let sides = ["ours", "Rust", "ours / Rust", "with sorting", "Rust's", "ratio"];
+    println!("\nFrom bare points, milliseconds, memory kept:\n");
     head(&["points", "number", "vertices", "skipped"].iter().chain(&sides).copied().collect::<Vec<_>>());
     for r in &rows {
-        let [ours, rust, both] = match r.sorted {
-            Some([a, b]) => [ms(a), ms(b), ratio(a, b)],
-            None => Default::default(),
-        };
-        let [time, beside] = match (r.cgal, r.sorted) {
-            (Some(c), Some([a, _])) => [ms(c), ratio(a, c)],
-            (Some(c), None) => [ms(c), String::new()],
-            _ => Default::default(),
-        };
-        line(&[
-            &r.kind,
-            &r.count,
-            &r.vertices,
-            &r.skipped,
-            &ms(r.ours),
-            &ms(r.rust),
-            &ratio(r.ours, r.rust),
-            &ours,
-            &rust,
-            &both,
-            &time,
-            &beside,
-        ]);
+        let named: [&dyn Display; 4] = [&r.kind, &r.count, &r.vertices, &r.skipped];
+        let times = cells(r.kept);
+        line(&named.into_iter().chain(times.iter().map(|c| c as &dyn Display)).collect::<Vec<_>>());
+    }
+    println!("\nFrom bare points, milliseconds, a process's first call:\n");
+    let others = ["CGAL", "with sorting / CGAL"];
+    head(&["points", "number"].iter().chain(&sides).chain(&others).copied().collect::<Vec<_>>());
+    for r in &rows {
+        let named: [&dyn Display; 2] = [&r.kind, &r.count];
+        let beside = |cell: String| if r.cgal.is_nan() { String::new() } else { cell };
+        let sorted = if r.first[2].is_nan() { String::new() } else { beside(ratio(r.first[2], r.cgal)) };
+        let times = cells(r.first).into_iter().chain([beside(ms(r.cgal)), sorted]).collect::<Vec<_>>();
+        line(&named.into_iter().chain(times.iter().map(|c| c as &dyn Display)).collect::<Vec<_>>());
     }
 }

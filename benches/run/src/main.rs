@@ -3,8 +3,10 @@
 //!
 //! `bench_run [runs | loads] [TURNS [LARGEST]]` prints the tables, or those of the one kind alone; `bench_run once SIDE KIND COUNT` makes
 //! one run, for a profiler, and prints how many points ours skipped; `bench_run memory SIDE KIND COUNT` prints the peak of one run's
-//! memory. SIDE is `ours`, `rust`, `load_ours` or `load_rust`. In each turn all sides take the same input one after the other, and each
-//! side's best turn counts.
+//! memory, `bench_run first SIDE KIND COUNT` its seconds. SIDE is `ours`, `rust`, `load_ours`, `load_rust`, `sorted_ours` or `sorted_rust`.
+//! In each turn all sides take the same input one after the other, and each side's best turn counts.
+//! Memory that a call gives back stays with the process, for both sides alike (`keep_memory`); what a first call costs, whose memory is all
+//! new, is taken in processes of its own.
 //! Before it is timed each input is compared: our finished mesh is what our finish makes of the mesh after the Rust's last insertion, link
 //! by link (triangle by triangle where points were skipped and a convexity pass after the first adds faces: those come after the Rust's
 //! insertions, before ours), and both skip as many points. Our points have heights, the Rust's and CGAL's have none.
@@ -62,6 +64,17 @@ struct Timespec {
 extern "C" {
     fn clock_gettime(clock: i32, time: *mut Timespec) -> i32;
     fn malloc_trim(pad: usize) -> i32;
+    fn mallopt(parameter: i32, value: i32) -> i32;
+}
+
+/// Memory that is given back stays with the process. Left to itself the C library decides by the sizes that were given back before, so that
+/// the rows of one side may be new to the system in each turn, which makes and clears every page of them, and those of the other never.
+fn keep_memory() {
+    const TRIM_THRESHOLD: i32 = -1;
+    const MMAP_THRESHOLD: i32 = -3;
+    for parameter in [TRIM_THRESHOLD, MMAP_THRESHOLD] {
+        assert_eq!(unsafe { mallopt(parameter, 1 << 30) }, 1, "a limit of the C library's memory");
+    }
 }
 
 /// Seconds that this thread had a processor, so that other work on the machine weighs less.
@@ -186,21 +199,26 @@ fn status(name: &str) -> u64 {
     line.split_whitespace().nth(1).and_then(|w| w.parse().ok()).unwrap_or(0)
 }
 
-/// One run, and how many points were skipped, as far as its side tells.
-fn once(side: &str, input: &Input) -> Option<usize> {
+/// One side once, and what ours says of the points.
+fn once(side: &str, input: &Input) -> Option<Run> {
     if side == "ours" {
-        return Some(skipped_of(&black_box(ours(input)).1));
+        return Some(black_box(ours(input)).1);
     }
     drop(black_box(rust(input)));
     None
 }
 
-/// The peak of one side's memory, in MB, with the list of points: a process of its own.
-fn peak(side: &str, kind: &str, count: usize) -> f64 {
+/// What one side once prints in a mode of this program: a process of its own.
+fn alone(mode: &str, side: &str, kind: &str, count: usize) -> f64 {
     let program = std::env::current_exe().expect("this program");
-    let output = Command::new(program).args(["memory", side, kind, &count.to_string()]).output();
+    let output = Command::new(program).args([mode, side, kind, &count.to_string()]).output();
     let text = String::from_utf8(output.expect("it runs").stdout).unwrap_or_default();
-    text.trim().parse::<f64>().unwrap_or(f64::NAN) / 1024.0
+    text.trim().parse().unwrap_or(f64::NAN)
+}
+
+/// The peak of one side's memory, in MB, with the list of points.
+fn peak(side: &str, kind: &str, count: usize) -> f64 {
+    alone("memory", side, kind, count) / 1024.0
 }
 
 /// CGAL's seconds and MB on points that were written to a file; none where its program was not built.
@@ -258,14 +276,16 @@ fn measure(kind: &'static str, count: usize, turns: usize, beside: Option<&Path>
 fn main() {
     let words: Vec<String> = std::env::args().skip(1).collect();
     if let [mode, side, kind, count] = &words[..] {
-        let skipped = only(side, kind, count.parse().expect("a number of points"));
-        match (mode.as_str(), skipped) {
+        let (took, run) = only(side, kind, count.parse().expect("a number of points"));
+        match (mode.as_str(), run) {
             ("memory", _) => println!("{}", status("VmHWM:")),
-            (_, Some(skipped)) => println!("{skipped}"),
+            ("first", _) => println!("{took}"),
+            (_, Some(run)) => println!("{}", skipped_of(&run)),
             _ => {}
         }
         return;
     }
+    keep_memory();
     let kinds = words.first().filter(|w| ["runs", "loads"].contains(&w.as_str()));
     let rest = &words[usize::from(kinds.is_some())..];
     let number = |i: usize, other: usize| rest.get(i).and_then(|w| w.parse().ok()).unwrap_or(other);
@@ -280,21 +300,17 @@ fn main() {
     }
 }
 
-/// One side once, with the peak of memory from its start on. One list of points is enough, and what made it goes back to the system.
-fn only(side: &str, kind: &str, count: usize) -> Option<usize> {
+/// One side once, with the peak of memory from its start on, and its seconds. One list of points is enough, and what made it goes back to
+/// the system.
+fn only(side: &str, kind: &str, count: usize) -> (f64, Option<Run>) {
     fn from_here() {
         unsafe { malloc_trim(0) };
         let _ = std::fs::write("/proc/self/clear_refs", "5");
     }
-    if side.starts_with("load") {
-        let mut input = bare(kind, count);
-        (input.made, input.made_flat) = (Vec::new(), Vec::new());
-        match side {
-            "load_ours" => input.flat = Vec::new(),
-            _ => input.points = Vec::new(),
-        }
+    if side.contains('_') {
+        let input = bare(kind, count).only(side);
         from_here();
-        return loads::once(side, &input);
+        return seconds(|| loads::once(side, &input));
     }
     let mut input = make(kind, count);
     match side {
@@ -302,7 +318,7 @@ fn only(side: &str, kind: &str, count: usize) -> Option<usize> {
         _ => input.points = Vec::new(),
     }
     from_here();
-    once(side, &input)
+    seconds(|| once(side, &input))
 }
 
 /// Whether 1,000,000 points are done in seconds: not where flips or searches grow faster than the number.

@@ -239,9 +239,8 @@ impl Mesh {
     /// Refusals name points as they were given: the first that is out of range, the one at which the pending list was full.
     pub fn bulk_load(points: &[Point]) -> Result<Loaded, Refusal> {
         let order = by_distance(points);
-        let sorted: Vec<Point> = order.iter().map(|&i| points[i]).collect();
-        let (shape, taken) =
-            Mesh::bulk_load_in_order(&sorted).map_err(|refusal| as_given(refusal, points, &order))?;
+        let (shape, taken) = Mesh::bulk_load_of(order.iter().map(|&i| points[i]))
+            .map_err(|refusal| as_given(refusal, points, &order))?;
         let mut run = Run { answers: vec![Answer::default(); points.len()], totals: taken.totals };
         let (mut vertices, mut last) = (vec![0; points.len()], 0);
         for (answer, &i) in taken.answers.into_iter().zip(&order) {
@@ -262,6 +261,10 @@ impl Mesh {
     ///
     /// A point on a vertex gives it its height, those of the seed at once and skipped ones after all steps; a dropped one does not.
     pub fn bulk_load_in_order(points: &[Point]) -> Result<(Shape, Run), Refusal> {
+        Mesh::bulk_load_of(points.iter().copied())
+    }
+
+    fn bulk_load_of(points: impl ExactSizeIterator<Item = Point>) -> Result<(Shape, Run), Refusal> {
         let mut rows = Rows::default();
         let room = rows.reserve(points.len());
         let mut answers = rows::zeros(points.len());
@@ -493,14 +496,15 @@ pub fn by_distance(points: &[Point]) -> Vec<usize> {
         sum = [sum[0] + f64::from(p[0]), sum[1] + f64::from(p[1])];
     }
     let [x, y] = sum.map(|s| s * (1.0 / points.len() as f64));
-    let distance = |p: Point| {
+    let distance = |p: &Point| {
         let [dx, dy] = [f64::from(p[0]) - x, f64::from(p[1]) - y];
         // not negative, so its bits rise with it
         (dx * dx + dy * dy).to_bits()
     };
-    let mut order: Vec<usize> = (0..points.len()).collect();
-    order.sort_by_cached_key(|&i| (distance(points[i]), Reverse(at(points[i]))));
-    order
+    let mut order: Vec<(u64, usize)> = points.iter().map(distance).zip(0..).collect();
+    let among_equals = |i: usize| (Reverse(at(points[i])), i);
+    order.sort_unstable_by(|a, b| a.0.cmp(&b.0).then_with(|| among_equals(a.1).cmp(&among_equals(b.1))));
+    order.into_iter().map(|(_, i)| i).collect()
 }
 
 /// The middle of a triangle: a centre for a run from it, unless the triangle has hardly any width.

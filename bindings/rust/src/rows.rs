@@ -74,8 +74,8 @@ pub fn zeros<T: Zero>(length: usize) -> Vec<T> {
 }
 
 /// The positions and the heights of points: the library has them in two rows.
-fn split(points: &[Point]) -> (Vec<[i32; 2]>, Vec<i32>) {
-    points.iter().map(|&[x, y, z]| ([x, y], z)).unzip()
+fn split(points: impl Iterator<Item = Point>) -> (Vec<[i32; 2]>, Vec<i32>) {
+    points.map(|[x, y, z]| ([x, y], z)).unzip()
 }
 
 fn number(length: usize) -> Result<u32, Refusal> {
@@ -102,7 +102,7 @@ impl Rows {
             faces: number(adjacent.len())?,
             changes: 0,
         };
-        let (positions, heights) = split(points);
+        let (positions, heights) = split(points.iter().copied());
         let mut rows = Rows {
             counts,
             positions,
@@ -282,7 +282,7 @@ impl Rows {
         points: &[Point],
     ) -> RunResult {
         let Counts { vertices, edges, faces, changes } = self.counts;
-        let (points, point_heights) = split(points);
+        let (points, point_heights) = split(points.iter().copied());
         let result = unsafe {
             sys::fithmoul_run(
                 vertices,
@@ -327,7 +327,7 @@ impl Rows {
         &mut self,
         scratch: &mut Scratch,
         answers: &mut [Answer],
-        points: &[Point],
+        points: impl Iterator<Item = Point>,
     ) -> BulkLoadResult {
         let (points, point_heights) = split(points);
         let result = unsafe {

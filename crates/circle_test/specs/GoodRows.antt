@@ -37,7 +37,7 @@ module _ {C : Counts} {q : List ℤ} {o h a : List ℕ} (R : GoodRows C q o h a)
   placed : {v : ℕ} → v < C .vertices → Placed q v
   placed l = record { there = let k = R .positions in omega arith; range = R .good .range l }
 
-  corner : {e : ℕ} → In C e → Corner q h e
+  pub corner : {e : ℕ} → In C e → Corner q h e
   corner l = record {
     here = there held l;
     prev = there held (prev-in held l);

@@ -9,7 +9,7 @@ ghost use Rattle.circle_test.specs.GoodRows.{CircleReady};
 use dcel::handles::Far;
 
 // Whether vertex d is strictly inside the circle of the vertices a, b and c, which turn left.
-fn is_inside(positions: &[i32], a: u32, b: u32, c: u32, d: u32) -> bool
+pub fn is_inside(positions: &[i32], a: u32, b: u32, c: u32, d: u32) -> bool
     requires { ⌜ Placed (now positions) a × Placed (now positions) b × Placed (now positions) c × Placed (now positions) d ⌝ }
     ensures { λ r. ⌜ r ≡ containedInCircumference
         (positionOf (now (positions .entry)) a) (positionOf (now (positions .entry)) b)

@@ -8,6 +8,8 @@ use native.Mathlib.Omega.{arith}
 use lib.Dec.{eqb}
 use lib.IntN.{ℤ, natAbs}
 use lib.ListN.{length}
+use Rattle.circle_scan.specs.Scan.{ScanReady, Unbroken}
+use Rattle.circle_scan.specs.ScanLaws.{scan-ready}
 use Rattle.circle_test.specs.GoodRows.{GoodRows, CircleReady, held, circle-ready, good-again}
 use Rattle.conflicts.specs.FlipsWithin.{FlipsWithin, within-none, within-run, within-room}
 use Rattle.dcel.specs.Rows.{linksOf, positionOf}
@@ -22,7 +24,7 @@ use Rattle.mesh.specs.Circle.{breaksCircle}
 use Rattle.mesh.specs.FlipRun.{run-good}
 use Rattle.sums.specs.Until.{Going, going-start, going-turn, going-less, going-end}
 use Rattle.closing.specs.Closing.{Closing, closeEdge, closeBelow, Turned, closeTurn, unturned, closingPass}
-use Rattle.closing.specs.ClosingLaws.{edge-flips, edge-stays, Flipping, flipping-edge, flipping-below, Turning, heightLeft, turns-fall, begins, enough}
+use Rattle.closing.specs.ClosingLaws.{edge-flips, edge-stays, Flipping, flipping-edge, flipping-below, below-over, Turning, heightLeft, turns-fall, begins, enough}
 use Rattle.closing.specs.ClosingRows.{closingOf, Closable}
 
 -- the rows keep their lengths
@@ -77,6 +79,9 @@ unfolding closeBelow
 turn-starts K = record { at = omega arith; ready = K; same = refl; lengths = same-refl }
 
 module _ {C : Counts} {q : List ℤ} {o₀ h₀ a₀ : List ℕ} {c₀ : ℕ} {o h a : List ℕ} {c : ℕ} {u : ℕ} (I : TurnAt C q o₀ h₀ a₀ c₀ o h a c u) where
+  pub scannable : ScanReady q h (C .edges) × (u ≤ C .edges)
+  scannable = (scan-ready (I .ready .rows), I .at)
+
   pub edge-ready : u < C .edges → CircleReady q h u × FlipReady o h a u × (c + 1 < 2 ^ 64)
   edge-ready l = let K = I .ready in (circle-ready (K .rows) l, flip-ready (held (K .rows)) l, within-room (K .bound) (K .rows .good .wf) (K .few))
 
@@ -88,6 +93,17 @@ module _ {C : Counts} {q : List ℤ} {o₀ h₀ a₀ : List ℕ} {c₀ : ℕ} {o
     ready = closable-on (I .ready) (flipping-edge C (positionOf q) u l (closingOf o h a c)) e s;
     same = e ∙ ap (closeEdge (positionOf q) u) (I .same) ∙ ap (λ (n : ℕ). closeBelow (positionOf q) n (closingOf o₀ h₀ a₀ c₀)) (sym (add-one u));
     lengths = same-trans (I .lengths) s;
+  }
+
+  -- edges that do not break the rule are passed over
+  pub turn-over : (v : ℕ) → Unbroken q h u (C .edges) v → TurnAt C q o₀ h₀ a₀ c₀ o h a c v
+  unfolding closingOf
+  turn-over v U = record {
+    at = U .high;
+    ready = I .ready;
+    same = I .same ∙ sym (below-over (positionOf q) (closingOf o₀ h₀ a₀ c₀) u v (U .low)
+        (λ k l m. ap (λ (s : Closing). breaksCircle (s .links) (positionOf q) k) (sym (I .same)) ∙ U .keeps l m o a));
+    lengths = I .lengths;
   }
 
   pub turn-ends : C .edges ≤ u → closingOf o h a c ≡ closeBelow (positionOf q) (C .edges) (closingOf o₀ h₀ a₀ c₀)

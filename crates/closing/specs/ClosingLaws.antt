@@ -6,6 +6,7 @@ use mathlib.Core.Bool.{Bool, true, false, false≢true, cond}
 use mathlib.Core.Path.{_≡_, refl, sym, _∙_, ap, subst}
 use mathlib.Core.Logic.{_≢_}
 use Prim.Native.Nat.{ℕ, zero, suc, _+_, _*_, _<_, _≤_}
+use native.Mathlib.Decide.{decLe}
 use native.Mathlib.Omega.{arith}
 use borrow.Author.Tests.{eqb-true, eqb-false}
 use lib.Dec.{eqb}
@@ -35,6 +36,17 @@ module _ (p : ℕ → Point) (u : ℕ) (s : Closing) where
   pub edge-stays : breaksCircle (s .links) p u ≡ false → closeEdge p u s ≡ s
   unfolding closeEdge
   edge-stays e = ap (λ (t : Bool). cond t (record { links = flipCw (s .links) u; flips = suc (s .flips) }) s) e
+
+-- edges from u up to v that do not break the rule change nothing
+pub below-over : (p : ℕ → Point) (s : Closing) (u v : ℕ) → u ≤ v
+    → ((k : ℕ) → u ≤ k → k < v → breaksCircle (closeBelow p u s .links) p k ≡ false) → closeBelow p v s ≡ closeBelow p u s
+unfolding closeBelow
+below-over p s u zero l keeps = let e : zero ≡ u = omega arith in ap (λ (n : ℕ). closeBelow p n s) e
+below-over p s u (suc v) l keeps = go (decLe u v) (λ k. below-over p s u v k (λ i a b. keeps i a (omega arith)))
+  where
+    go : Dec (u ≤ v) → (u ≤ v → closeBelow p v s ≡ closeBelow p u s) → closeBelow p (suc v) s ≡ closeBelow p u s
+    go (yes k) e = ap (closeEdge p v) (e k) ∙ edge-stays p v (closeBelow p u s) (keeps v k (omega arith))
+    go (no k) e = let d : suc v ≡ u = omega arith in ap (λ (n : ℕ). closeBelow p n s) d
 
 -- ---- from one state to another by flips that are counted
 pub record Flipping (C : Counts) (p : ℕ → Point) (s t : Closing) : Type 0 where

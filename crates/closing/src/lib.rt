@@ -50,8 +50,14 @@ fn close_turn(
     let mut made = flips;
     let mut u = 0;
     while u < counts.edges {
-        made = close_edge(positions, outs, halves, faces, u, made);
-        u += 1;
+        // edges that are not flipped are mostly passed over together
+        let v = circle_scan::unbroken(positions, halves, u, counts.edges);
+        if v > u {
+            u = v;
+        } else {
+            made = close_edge(positions, outs, halves, faces, u, made);
+            u += 1;
+        }
     }
     made
 }

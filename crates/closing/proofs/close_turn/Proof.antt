@@ -1,7 +1,7 @@
 -- `closing::close_turn` meets its contract. The loop's invariant: the edges below u are done. The measure is what is left of the edges. Assumes nothing.
 use Prim.Native.Nat.{_-_}
 use native.Mathlib.Omega.{arith}
-use Rattle.closing.proofs.Loops.{TurnAt, turn-starts, edge-ready, turn-on, turn-ends}
+use Rattle.closing.proofs.Loops.{TurnAt, turn-starts, scannable, edge-ready, turn-over, turn-on, turn-ends}
 use Rattle.closing.proofs.close_turn.Statement.{statement}
 use Rattle.closing.proofs.close_turn.Tie as tie
 
@@ -14,19 +14,33 @@ abbrev μ-loop : tie.MeasureT-loop
 loop-holds : tie.Need-loop-holds Inv-loop μ-loop
 loop-holds c = turn-starts (c .before .before .before .pre)
 
-close-edge-requires : tie.Need-close-edge-requires Inv-loop μ-loop
-close-edge-requires c κs = edge-ready (c .before .before .before .before .before .loop .inv) (c .before .before .before .if1 .taken)
-
-add-u : tie.Need-add-u Inv-loop μ-loop
-add-u c = record { fits = omega (arith, c .before .before .before .before .before .before .before .before .before .before .if1 .taken, c .before .before .before .before .before .before .before .before .before .before .before .before .loop .inv .ready .rows .room .small) }
+unbroken-requires : tie.Need-unbroken-requires Inv-loop μ-loop
+unbroken-requires c κs = scannable (c .before .before .before .loop .inv)
 
 loop-less : tie.Need-loop-less Inv-loop μ-loop
-loop-less c = omega (arith, c .before .before .before .before .before .before .before .before .before .before .if1 .taken)
+loop-less c = omega (arith, c .if2 .taken, c .before .unbroken .ensures .high)
 
 loop-again : tie.Need-loop-again Inv-loop μ-loop
-loop-again c =
-    let e = c .before .before .before .before .before .before .close-edge in
-    let t = c .before .before .before .before .before .before .before .before .before .before in
+loop-again c = turn-over (c .before .before .before .before .before .loop .inv) _ (c .before .unbroken .ensures)
+
+close-edge-requires : tie.Need-close-edge-requires Inv-loop μ-loop
+close-edge-requires c κs = let t = c .before .before .before .before .before .before in edge-ready (t .before .before .loop .inv) (t .if1 .taken)
+
+add-u : tie.Need-add-u Inv-loop μ-loop
+add-u c =
+    let t = c .before .before .before .before .before .before .before .before .before .before .before .before .before in
+    record { fits = omega (arith, t .if1 .taken, t .before .before .loop .inv .ready .rows .room .small) }
+
+loop-less-2 : tie.Need-loop-less-2 Inv-loop μ-loop
+loop-less-2 c =
+    let t = c .before .before .before .before .before .before .before .before .before .before .before .before .before in
+    omega (arith, t .if1 .taken)
+
+loop-again-2 : tie.Need-loop-again-2 Inv-loop μ-loop
+loop-again-2 c =
+    let d = c .before .before .before .before .before .before in
+    let e = d .close-edge in
+    let t = d .before .before .before .before .before .before .before in
     turn-on (t .before .before .loop .inv) (t .if1 .taken) (e .ensures) (record { outs = e .kept .1 .0; halves = e .kept .1 .1 .0; faces = e .kept .1 .1 .1 .0 })
 
 same-length : tie.Need-same-length Inv-loop μ-loop
@@ -48,10 +62,13 @@ close-turn-spec =
     Inv-loop
     μ-loop
     loop-holds
-    close-edge-requires
-    add-u
+    unbroken-requires
     loop-less
     loop-again
+    close-edge-requires
+    add-u
+    loop-less-2
+    loop-again-2
     same-length
     same-length-2
     same-length-3
