@@ -106,7 +106,7 @@ module _ {C : Counts} {L : Links} {p₀ : ℕ → Point} {α₀ : ℕ → ℕ} {
   add-untouched =
       let c = closings-count add-closings in
       untouched-join (record { vertices = (let x = c .vertices in omega arith); edges = (let x = c .edges in let y = c .more in omega arith); faces = (let x = c .faces in let y = c .more in omega arith) })
-      (untouched-join (record { vertices = omega arith; edges = omega arith; faces = omega arith }) (new-face-untouched (B .good .wf) (B .edge)) (run-untouched (new-good B room) (first-run B room)))
+      (untouched-join (record { vertices = omega arith; edges = omega arith; faces = omega arith }) (new-face-untouched (B .good .wf .ranges) (B .edge)) (run-untouched (new-good B room) (first-run B room)))
       (closings-untouched (first-good B room) add-closings)
 
   -- ---- where no flip is refused

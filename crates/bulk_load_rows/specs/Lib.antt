@@ -1,5 +1,7 @@
--- `LoadRows` has what the functions ask of rows and leave, `EndLaws`, `RestRows` and `LoadDone` what they come to.
+-- `LoadRows` has what the functions ask of rows and leave, the others what they come to.
 pub mod LoadRows
 pub mod EndLaws
 pub mod RestRows
-pub mod LoadDone
+pub mod LoadSeeded
+pub mod LoadSwept
+pub mod LoadEnded

@@ -21,7 +21,7 @@ use Rattle.mesh.specs.FlipRun as runs
 use Rattle.mesh.specs.FlipRun.{FlipRun, run-good}
 use Rattle.mesh.specs.Good.{Good}
 use Rattle.mesh.specs.GoodLaws.{single-face-good}
-use Rattle.mesh.specs.Wf.{Wf}
+use Rattle.mesh.specs.Wf.{Ranges}
 use Rattle.sums.specs.Put.{put, put-other}
 
 pub record Untouched (C : Counts) (L L′ : Links) : Type 0 where
@@ -52,32 +52,32 @@ untouched-join g a b = record {
   adjacent = λ f l. b .adjacent f l ∙ a .adjacent f (omega arith);
 }
 
--- ---- the three operations
+-- ---- the three operations, by the ranges alone: a line, which breaks other rules, keeps them too
 -- a store below n is not seen from n on
-past : (f : ℕ → ℕ) (a v : ℕ) {n x : ℕ} → n ≤ x → a < n → put f a v x ≡ f x
-past f a v {n} {x} l m = put-other f a v x (λ q. omega arith)
+pub past : {A : Type 0} (f : ℕ → A) (a : ℕ) (v : A) {n x : ℕ} → n ≤ x → a < n → put f a v x ≡ f x
+past {A} f a v {n} {x} l m = put-other f a v x (λ q. omega arith)
 
-pub flip-untouched : {C : Counts} {L : Links} → Wf C L → {u : ℕ} → u < C .edges → Untouched C L (flipCw L u)
+pub flip-untouched : {C : Counts} {L : Links} → Ranges C L → {u : ℕ} → u < C .edges → Untouched C L (flipCw L u)
 unfolding flipCw flipBetween
-flip-untouched {C} {L} W {u} l =
+flip-untouched {C} {L} R {u} l =
     let e : In C (2 * u) = omega arith in
     let t : In C (2 * u + 1) = omega arith in
-    let en = W .ranges .next< e in let ep = W .ranges .prev< e in
-    let tn = W .ranges .next< t in let tp = W .ranges .prev< t in
+    let en = R .next< e in let ep = R .prev< e in
+    let tn = R .next< t in let tp = R .prev< t in
     record {
       next = λ x k. past _ _ _ k tn ∙ past _ _ _ k ep ∙ past _ _ _ k t ∙ past _ _ _ k en ∙ past _ _ _ k tp ∙ past _ _ _ k e;
       prev = λ x k. past _ _ _ k t ∙ past _ _ _ k tn ∙ past _ _ _ k ep ∙ past _ _ _ k e ∙ past _ _ _ k en ∙ past _ _ _ k tp;
       face = λ x k. past _ _ _ k ep ∙ past _ _ _ k tp;
       origin = λ x k. past _ _ _ k t ∙ past _ _ _ k e;
-      out = λ v k. past _ _ _ k (W .ranges .origin< t) ∙ past _ _ _ k (W .ranges .origin< e);
-      adjacent = λ f k. past _ _ _ k (W .ranges .face< t) ∙ past _ _ _ k (W .ranges .face< e);
+      out = λ v k. past _ _ _ k (R .origin< t) ∙ past _ _ _ k (R .origin< e);
+      adjacent = λ f k. past _ _ _ k (R .face< t) ∙ past _ _ _ k (R .face< e);
     }
 
-pub single-face-untouched : {C : Counts} {L : Links} → Wf C L → {e : ℕ} → In C e
+pub single-face-untouched : {C : Counts} {L : Links} → Ranges C L → {e : ℕ} → In C e
     → Untouched (withFace C) L (createSingleFaceBetweenEdgeAndNext L C e)
 unfolding createSingleFaceBetweenEdgeAndNext faceBetween
-single-face-untouched {C} {L} W {e} l =
-    let p = W .ranges .prev< l in let n = W .ranges .next< l in let q = W .ranges .next< n in
+single-face-untouched {C} {L} R {e} l =
+    let p = R .prev< l in let n = R .next< l in let q = R .next< n in
     let e′ : In (withFace C) e = omega arith in
     let p′ : In (withFace C) (L .prev e) = omega arith in
     let n′ : In (withFace C) (L .next e) = omega arith in
@@ -94,11 +94,11 @@ single-face-untouched {C} {L} W {e} l =
     }
 
 -- the new vertex and its first face
-pub new-face-untouched : {C : Counts} {L : Links} → Wf C L → {e : ℕ} → In C e
+pub new-face-untouched : {C : Counts} {L : Links} → Ranges C L → {e : ℕ} → In C e
     → Untouched (withVertex C) L (createNewFaceAdjacentToEdge L C e)
 unfolding createNewFaceAdjacentToEdge faceAdjacent
-new-face-untouched {C} {L} W {e} l =
-    let p = W .ranges .prev< l in let n = W .ranges .next< l in
+new-face-untouched {C} {L} R {e} l =
+    let p = R .prev< l in let n = R .next< l in
     let e′ : In (withVertex C) e = omega arith in
     let p′ : In (withVertex C) (L .prev e) = omega arith in
     let n′ : In (withVertex C) (L .next e) = omega arith in
@@ -112,7 +112,7 @@ new-face-untouched {C} {L} W {e} l =
       face = λ x k. past _ _ _ k e′ ∙ past _ _ _ k b′ ∙ past _ _ _ k b ∙ past _ _ _ k a′ ∙ past _ _ _ k a;
       origin = λ x k. past _ _ _ k b′ ∙ past _ _ _ k b ∙ past _ _ _ k a′ ∙ past _ _ _ k a;
       out = λ v k. past _ _ _ k (let g : C .vertices < C .vertices + 1 = omega arith in g);
-      adjacent = λ f k. past _ _ _ k (let g = W .ranges .face< l in let h : L .face e < C .faces + 1 = omega arith in h) ∙ past _ _ _ k (let g : C .faces < C .faces + 1 = omega arith in g);
+      adjacent = λ f k. past _ _ _ k (let g = R .face< l in let h : L .face e < C .faces + 1 = omega arith in h) ∙ past _ _ _ k (let g : C .faces < C .faces + 1 = omega arith in g);
     }
 
 -- ---- sequences of them
@@ -121,12 +121,12 @@ grown-same = record { vertices = omega arith; edges = omega arith; faces = omega
 
 pub run-untouched : {C : Counts} {p : ℕ → Point} {L M : Links} {n : ℕ} → Good C L p → FlipRun C p L M n → Untouched C L M
 run-untouched G runs.none = untouched-none
-run-untouched G (runs.then r u l b) = untouched-join grown-same (run-untouched G r) (flip-untouched (run-good G r .wf) l)
+run-untouched G (runs.then r u l b) = untouched-join grown-same (run-untouched G r) (flip-untouched (run-good G r .wf .ranges) l)
 
 corner-untouched : {p : ℕ → Point} {m m′ : Extended} {e : ℕ} → Good (m .counts) (m .links) p → CornerClosed p m m′ e
     → Untouched (m′ .counts) (m .links) (m′ .links)
 corner-untouched {p} {m} {m′} G S =
-    rw (S .counts) (untouched-join grown-same (single-face-untouched (G .wf) (S .edge)) (run-untouched (single-face-good G (S .edge) (S .outer) (S .left)) (S .run)))
+    rw (S .counts) (untouched-join grown-same (single-face-untouched (G .wf .ranges) (S .edge)) (run-untouched (single-face-good G (S .edge) (S .outer) (S .left)) (S .run)))
 
 pub closings-untouched : {p : ℕ → Point} {m n : Extended} → Good (m .counts) (m .links) p → Closings p m n
     → Untouched (n .counts) (m .links) (n .links)

@@ -18,10 +18,11 @@ use Rattle.mesh.specs.declared.Counts.{Counts}
 use Rattle.mesh.specs.Mesh.{In}
 use Rattle.ring.specs.declared.Side.{Side}
 use Rattle.ring.specs.declared.Side.the-variants.{Left, Right}
-use Rattle.ring.specs.Chain.{beside, seesEdge}
+use Rattle.ring.specs.Chain.{seesEdge}
 use Rattle.skipped.specs.Insert.{outsideEnds}
 use Rattle.sums.specs.Half.{rev}
 use Rattle.insert_outside.specs.OutsideRows.{SightReady, BesideReady}
+use Rattle.insert_outside.specs.TurnLaws.{beside-is}
 
 -- ---- the side test
 -- a position that was read is in range
@@ -35,11 +36,6 @@ unfolding linksOf
 side-seen q h d v x y i j s o a = ap (ltZ (pos 0)) s ∙ rw (i, j, x, y) refl
 
 -- ---- of the edge beside the current one
-pub beside-is : (side : Side) (o h a : List ℕ) (e : ℕ) → besideIn side (halvesOf h) e ≡ beside side (linksOf o h a) e
-unfolding besideIn linksOf
-beside-is Left o h a e = refl
-beside-is Right o h a e = refl
-
 pub beside-in : {C : Counts} {q : List ℤ} {o h a : List ℕ} (side : Side) → GoodRows C q o h a → {e : ℕ} → In C e
     → In C (besideIn side (halvesOf h) e)
 unfolding besideIn

@@ -11,20 +11,10 @@ use Rattle.corner.specs.declared.Extension.{Extension}
 use Rattle.corner.specs.CornerRows.{extendedOf}
 use Rattle.dcel.specs.Rows.{halvesOf, linksOf, positionOf}
 use Rattle.ring.specs.declared.Side.{Side}
-use Rattle.ring.specs.declared.Side.the-variants.{Left, Right}
 use Rattle.ring.specs.Chain.{beside}
 use Rattle.skipped.specs.Insert.{coverEdge, outsideTurn}
 use Rattle.insert_outside.specs.OutsideRows.{CoverReady, TurnReady}
-use Rattle.insert_outside.proofs.Sight.{beside-is}
-
--- the edge that the face is made at, by the case of the match
-pub face-left : {side : Side} (e : ℕ) {at d : ℕ} → side ≡ Left → at ≡ d → at ≡ faceEdge side e d
-unfolding faceEdge
-face-left e z y = rw z y
-
-pub face-right : {side : Side} (d : ℕ) {at e : ℕ} → side ≡ Right → at ≡ e → at ≡ faceEdge side e d
-unfolding faceEdge
-face-right d z y = rw z y
+use Rattle.insert_outside.specs.TurnLaws.{beside-is}
 
 module _ {side : Side} {q : List ℤ} {o h a row : List ℕ} {w : Walked} (R : TurnReady side q o h a row w)
     {d at : ℕ} (x : d ≡ besideIn side (halvesOf h) (w .edge)) (y : at ≡ faceEdge side (w .edge) d) where

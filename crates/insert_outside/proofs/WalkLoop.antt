@@ -26,7 +26,8 @@ use Rattle.skipped.specs.Insert.{outsideEnds, outsideTurn, outsideWalk}
 use Rattle.skipped.specs.Outside.{Standing, TipOn, turn-closes, outside-falls}
 use Rattle.sums.specs.Until.{Going, going-start, going-turn, going-less, going-end}
 use Rattle.insert_outside.specs.OutsideRows.{BesideReady, TurnReady, WalkReady}
-use Rattle.insert_outside.proofs.Sight.{beside-in, beside-is, beside-ready}
+use Rattle.insert_outside.specs.TurnLaws.{beside-is}
+use Rattle.insert_outside.proofs.Sight.{beside-in, beside-ready}
 
 pub record WalkingAt (side : Side) (v : Point) (q : List ℤ) (o₀ h₀ a₀ row₀ : List ℕ) (w₀ : Walked)
     (o h a row : List ℕ) (w : Walked) : Type 0 where

@@ -2,7 +2,7 @@
 -- or a line of them. Definitions only, and each computes; `GrowLaws` has the laws.
 -- 02, Change 6: "A point placed in this phase has fate 1 with its vertex and the counts as in Change 2, one on an existing
 -- vertex Change 2's fate 9"; "it may hold one vertex (its links 0), or none".
-use mathlib.Core.Bool.{Bool, true, false, cond}
+use mathlib.Core.Bool.{cond}
 use Prim.Native.Nat.{ℕ, zero, suc}
 use lib.Dec.{ltb}
 use Rattle.corner.specs.Corner.{Extended}
@@ -100,11 +100,3 @@ growOn room g q =
 -- nothing yet. C6.4: "None: 0, 0, 0"
 abbrev pub nothing : Links → (ℕ → Point) → Growing
 nothing L p = record { fate = 0; vertex = 0; positions = p; mesh = unflipped (record { vertices = 0; edges = 0; faces = 0 }) L 0 }
-
--- after n points of the list; a refused flip ends it (C6.7)
-unfoldable pub growAfter : ℕ → Growing → (ℕ → Point) → ℕ → Growing
-growAfter room g point zero = g
-growAfter room g point (suc n) =
-    let s = growAfter room g point n in
-    let r = growOn room s (point n) in
-    cond (s .mesh .full) s r

@@ -1,15 +1,15 @@
 -- What one more point makes of no vertex, of one, and of a line of points: a line, or, off the line, a good mesh; with the
 -- point at its vertex and no flip. Assumes nothing.
-use mathlib.Core.Bool.{Bool, true, false, not, cond, _&&_, _||_}
+use mathlib.Core.Bool.{Bool, true, false, not, cond}
 use mathlib.Core.Path.{_≡_, refl, sym, _∙_, ap, subst}
-use mathlib.Core.Logic.{_≢_, _⊎_, ⊎-elim, inl, inr}
-use Prim.Native.Nat.{ℕ, zero, suc, _+_, _*_, _<_, _≤_}
-use native.Mathlib.Decide.{ℕ-discrete, decLt}
+use mathlib.Core.Logic.{_⊎_, ⊎-elim, inl, inr}
+use Prim.Native.Nat.{ℕ, zero, suc, _+_, _<_, _≤_}
+use native.Mathlib.Decide.{decLt}
 use native.Mathlib.Omega.{arith}
 use borrow.Author.Tests.{lt-ltb, le-ltb}
-use lib.Dec.{T, ltb}
+use lib.Dec.{T}
 use lib.IntN.{ℤ, pos}
-use lib.Signed.{_<ℤ_, _≤ℤ_, clashℤ, <ℤ-irrefl, ≤ℤ-refl}
+use lib.Signed.{_<ℤ_, <ℤ-irrefl}
 use Rattle.convexity.specs.Convexity.{NoLeftCorner}
 use Rattle.corner.specs.Corner.{Extended}
 use Rattle.math.specs.declared.Point.{Point}
@@ -18,15 +18,14 @@ use Rattle.mesh.specs.declared.Counts.{Counts}
 use Rattle.mesh.specs.Mesh.{Links, In, to}
 use Rattle.mesh.specs.Good.{Good}
 use Rattle.location.specs.declared.PositionInTriangulation.{PositionInTriangulation}
-use Rattle.skipped.specs.Insert.{unflipped, insertOutside, isNew, positionVertex, insertPoint}
-use Rattle.skipped.specs.InsertLaws.{PointIn, grownBy, insert-point}
+use Rattle.skipped.specs.Insert.{unflipped, isNew, positionVertex}
+use Rattle.skipped.specs.InsertLaws.{insert-point}
 use Rattle.skipped.specs.InsertCorners.{insert-corners}
 use Rattle.sums.specs.Bit.{bit, is-true, is-false, from-true, and-both, test}
 use Rattle.sums.specs.Bounded.{first-below, first-below-passes, first-below-at-most}
-use Rattle.sums.specs.Half.{rev, rev-below}
+use Rattle.sums.specs.Half.{rev-below}
 use Rattle.sums.specs.Put.{put, put-same, put-other}
 use Rattle.line.specs.Operations.{setupInitialTwoVertices, withLineVertex, twoVertices}
-use Rattle.line.specs.Chain.{Chain}
 use Rattle.line.specs.ChainRules.{chain-rules}
 use Rattle.line.specs.Order.{comesBefore, isSame, key}
 use Rattle.line.specs.OrderLaws.{is-same, three-ways, before-key}
@@ -35,9 +34,9 @@ use Rattle.line.specs.LineLaws.{two-line, key-apart, extend-high, extend
 use Rattle.line.specs.OffLine.{OffLine}
 use Rattle.line.specs.declared.PositionWhenAllVerticesOnLine.{PositionWhenAllVerticesOnLine}
 use Rattle.line.specs.declared.PositionWhenAllVerticesOnLine.the-variants.{OnEdge, OnVertex, NotOnLine, ExtendingLine}
-use Rattle.line.specs.Locate.{vertexOn, locateOnLine, locateWhenAllVerticesOnLine, Off, AtVertex, AtEnd, InEdge, LineCertified}
+use Rattle.line.specs.Locate.{vertexOn, locateOnLine, locateWhenAllVerticesOnLine, LineCertified}
 use Rattle.line.specs.LocateLaws.{locate-certified}
-use Rattle.line.specs.Grow.{Growing, oneVertex, insertFirstVertex, insertSecondVertex, insertAtLinePlace, insertWhenAllVerticesOnLine, insertByCount, growPoint, growInMesh, growOn, nothing, growAfter}
+use Rattle.line.specs.Grow.{Growing, oneVertex, insertFirstVertex, insertSecondVertex, insertAtLinePlace, insertWhenAllVerticesOnLine, insertByCount, growPoint, growInMesh, growOn}
 
 -- ---- positions differ
 module _ {C : Counts} {L : Links} {p : ℕ → Point} (X : Line C L p) where
@@ -234,19 +233,6 @@ grow-keeps room g q rq f P = go (decLt 1 (g .mesh .counts .faces)) P
     go (yes l) (one e r) = absurd (let c = ap (λ (C : Counts). C .faces) e in omega arith)
     go (yes l) (line X) = absurd (let c = X .chain .faces in omega arith)
     go (yes l) (mesh G N u) = rw (lt-ltb 1 (g .mesh .counts .faces) l) (mesh-keeps room g q rq G (N f) l)
-
-pub grow-all : (room : ℕ) (L : Links) (p point : ℕ → Point) (m : ℕ) → ((i : ℕ) → i < m → InRange (point i)) → (n : ℕ) → n ≤ m
-    → Phase (growAfter room (nothing L p) point n)
-unfolding growAfter
-grow-all room L p point m range zero l = none refl refl
-grow-all room L p point m range (suc n) l = go (s .mesh .full) refl (grow-all room L p point m range n (omega arith))
-  where
-    s : Growing
-    s = growAfter room (nothing L p) point n
-
-    go : (t : Bool) → s .mesh .full ≡ t → Phase s → Phase (cond t s (growOn room s (point n)))
-    go true e P = P
-    go false e P = grow-keeps room s (point n) (range n (omega arith)) e P
 
 -- ---- where each point is
 -- The point is at its vertex, which is in use; the others keep their positions. A point of fate 1 is a new vertex with the

@@ -28,7 +28,9 @@ use Rattle.sums.specs.Half.{rev, rev-rev}
 use Rattle.sums.specs.Until.{until, until-done, until-next}
 use Rattle.line.specs.Chain.{Chain}
 use Rattle.line.specs.ChainLaws.{in-r, in-rev}
-use Rattle.line.specs.Fan.{Fan, Seen, fan-first, fan-left, fan-right, fan-good}
+use Rattle.line.specs.Fan.{Fan, Seen, fan-first}
+use Rattle.line.specs.FanGrows.{fan-left, fan-right}
+use Rattle.line.specs.FanWhole.{fan-good}
 use Rattle.line.specs.FanCorners.{fan-corners}
 use Rattle.line.specs.FanSettled.{fan-settled}
 use Rattle.line.specs.Still.{first-still, cover-still}
@@ -158,7 +160,7 @@ module _ {C₀ : Counts} {L₀ : Links} {at r : ℕ → ℕ} (K : Chain C₀ L�
       (record { mesh = outsideWalk Left room p v (record { mesh = firstFace room p C₀ L₀ (r (suc k)); current = 2 * C₀ .edges + 2 + 1 }) .mesh; current = 2 * C₀ .edges + 1 })
       (omega arith) (let e = a .fan .edges in omega arith) a in
       record {
-        good = fan-good K S (b .fan) range;
+        good = fan-good K (b .fan) range;
         settled = fan-settled K S Y (b .fan);
         convex = fan-corners K S Y (b .fan);
         vertices = b .fan .vertices;

@@ -14,7 +14,7 @@ use Rattle.corner.specs.CornerRows.{extendedOf}
 use Rattle.dcel.specs.Rows.{halvesOf, linksOf, positionOf, There, Placed}
 use Rattle.dcel_operations.specs.Face.{SingleReady}
 use Rattle.insert_outside.specs.OutsideRows.{BesideReady}
-use Rattle.insert_outside.proofs.Sight.{beside-is}
+use Rattle.insert_outside.specs.TurnLaws.{beside-is}
 use Rattle.mesh.specs.LinkRules.{LinkRules}
 use Rattle.line.specs.OffLine.{Stand}
 use Rattle.math.specs.declared.Point.{Point}

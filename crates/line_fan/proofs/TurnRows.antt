@@ -11,7 +11,7 @@ use Rattle.corner.specs.CornerRows.{extendedOf}
 use Rattle.dcel.specs.Rows.{halvesOf, linksOf}
 use Rattle.dcel_operations.specs.declared.NewEdge.{NewEdge}
 use Rattle.dcel_operations.specs.Face.{SingleReady, SingleFace}
-use Rattle.insert_outside.proofs.Sight.{beside-is}
+use Rattle.insert_outside.specs.TurnLaws.{beside-is}
 use Rattle.line.specs.Still.{cover-still}
 use Rattle.math.specs.declared.Point.{Point}
 use Rattle.ring.specs.declared.Side.{Side}

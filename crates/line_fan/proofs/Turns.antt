@@ -8,7 +8,8 @@ use native.Mathlib.Omega.{arith}
 use Rattle.apply.specs.Apply.{Walking, faceEdge}
 use Rattle.line.specs.Chain.{Chain}
 use Rattle.line.specs.ChainLaws.{in-r}
-use Rattle.line.specs.Fan.{Seen, fan-left, fan-right}
+use Rattle.line.specs.Fan.{Seen}
+use Rattle.line.specs.FanGrows.{fan-left, fan-right}
 use Rattle.line.specs.OffLine.{Stand, sees-low, sees-high, left-turn, right-turn}
 use Rattle.math.specs.declared.Point.{Point}
 use Rattle.mesh.specs.declared.Counts.{Counts}

@@ -2,47 +2,11 @@
 // point off them, seeds that grow until the sweep may start, pending lists that fill while the seed grows and after it, sweeps of many
 // kinds. A case agrees where the answer, the counts and every row over its whole length do: the mesh's rows are lent with anything in
 // them, the ring's rows, pending and the answers full of sevens.
-ghost use Rattle.test_mesh.specs.Lent.{CoordinatesLent};
 use super::LoadLeft;
 use fithmoul::results::BulkLoadResult;
-use test_mesh::Agreed;
-use test_mesh::CoordinatesLine;
 use test_mesh::LONGS;
-use test_mesh::Longs;
 use test_mesh::WORDS;
 use test_mesh::lines;
-
-// `v count x y x y ..`; a last number that stands alone counts as a point.
-fn read_points(text: &[u8], at: usize) -> CoordinatesLine
-    ensures { λ r. ⌜ CoordinatesLent (r .coordinates) ⌝ }
-{
-    let count = test_text::read_natural(text, test_text::behind(text, at));
-    let v = test_mesh::read_points(text, count.at);
-    let points = v.coordinates;
-    let numbers = points.length;
-    CoordinatesLine {
-        coordinates: points,
-        at: v.at,
-        is_whole: v.is_whole
-            & (test_text::byte(text, at) == b'v')
-            & (count.magnitude == (numbers / 2 + numbers % 2) as u64),
-    }
-}
-
-// Whether the answers are those of the line `W` at a place, or untouched as in the line `w` where there is none; the place of the line
-// after that.
-fn compare_answers(text: &[u8], lent: usize, told: usize, answers: Longs) -> Agreed {
-    if test_text::byte(text, told) == b'W' {
-        let start = test_mesh::read_start(text, told, b'W', false, LONGS);
-        return test_mesh::compare_longs(text, start, answers);
-    }
-    let start = test_mesh::read_start(text, lent, b'w', false, LONGS);
-    let a = test_mesh::compare_longs(text, start, answers);
-    Agreed {
-        agrees: a.agrees,
-        at: told,
-    }
-}
 
 // All of them, in order.
 fn numbers_of(r: BulkLoadResult) -> [u64; 10] {
@@ -64,7 +28,7 @@ fn numbers_of(r: BulkLoadResult) -> [u64; 10] {
 fn load_agrees(text: &[u8], mesh: usize, answers: usize, at: usize, left: LoadLeft) -> bool {
     let result = left.result;
     let m = lines::compare_mesh(text, mesh, at, left.mesh);
-    let a = compare_answers(text, answers, m.at, left.answers);
+    let a = lines::compare_answers(text, answers, m.at, left.answers);
     let numbers = numbers_of(result);
     let line = test_text::is_line_of(text, a.at, b'r', &numbers);
     m.agrees & a.agrees & left.cleared & line
@@ -82,7 +46,7 @@ pub fn agrees(text: &[u8], at: usize) -> bool {
     let n = lines::read_ring(text, m.at);
     let q = lines::read_sevens(text, n.at, b'q', WORDS);
     let w = lines::read_sevens(text, q.at, b'w', LONGS);
-    let v = read_points(text, w.at);
+    let v = lines::read_counted_points(text, w.at);
     let y = test_mesh::read_heights(text, v.at, b'y');
     let cleared = lines::cleared(text, y.at);
     let left = super::bulk_load_on(

@@ -1,47 +1,11 @@
 // Runs by `fithmoul_run` (tests/reference/run_cases.py run): every refusal, every fate, lists of points of many kinds, rings that grow
 // and shrink, long runs of one angle, long walks, pending lists that fill in a step and in the finish. A case agrees where the answer,
 // the counts, the change count and every row over its whole length do: the ring's rows, pending and the answers are lent full of sevens.
-ghost use Rattle.test_mesh.specs.Lent.{CoordinatesLent};
 use super::RunLeft;
 use fithmoul::results::RunResult;
-use test_mesh::Agreed;
-use test_mesh::CoordinatesLine;
 use test_mesh::LONGS;
-use test_mesh::Longs;
 use test_mesh::WORDS;
 use test_mesh::lines;
-
-// `v count x y x y ..`; a last number that stands alone counts as a point.
-fn read_points(text: &[u8], at: usize) -> CoordinatesLine
-    ensures { λ r. ⌜ CoordinatesLent (r .coordinates) ⌝ }
-{
-    let count = test_text::read_natural(text, test_text::behind(text, at));
-    let v = test_mesh::read_points(text, count.at);
-    let points = v.coordinates;
-    let numbers = points.length;
-    CoordinatesLine {
-        coordinates: points,
-        at: v.at,
-        is_whole: v.is_whole
-            & (test_text::byte(text, at) == b'v')
-            & (count.magnitude == (numbers / 2 + numbers % 2) as u64),
-    }
-}
-
-// Whether the answers are those of the line `W` at a place, or untouched as in the line `w` where there is none; the place of the line
-// after that.
-fn compare_answers(text: &[u8], lent: usize, told: usize, answers: Longs) -> Agreed {
-    if test_text::byte(text, told) == b'W' {
-        let start = test_mesh::read_start(text, told, b'W', false, LONGS);
-        return test_mesh::compare_longs(text, start, answers);
-    }
-    let start = test_mesh::read_start(text, lent, b'w', false, LONGS);
-    let a = test_mesh::compare_longs(text, start, answers);
-    Agreed {
-        agrees: a.agrees,
-        at: told,
-    }
-}
 
 // Refusal, place, faces, flips of the convexity passes and of the closing pass.
 fn numbers_of(r: RunResult) -> [u64; 5] {
@@ -71,7 +35,7 @@ fn run_agrees(
 ) -> bool {
     let result = left.result;
     let m = lines::compare_mesh(text, mesh, at, left.mesh);
-    let a = compare_answers(text, answers, m.at, left.answers);
+    let a = lines::compare_answers(text, answers, m.at, left.answers);
     let same = result.changes == changes;
     let numbers = numbers_of(result);
     let line = test_text::is_line_of(text, a.at, b'r', &numbers);
@@ -86,7 +50,7 @@ pub fn agrees(text: &[u8], at: usize) -> bool {
     let q = lines::read_sevens(text, n.at, b'q', WORDS);
     let x = lines::read_center(text, q.at, b'x');
     let w = lines::read_sevens(text, x.at, b'w', LONGS);
-    let v = read_points(text, w.at);
+    let v = lines::read_counted_points(text, w.at);
     let y = test_mesh::read_heights(text, v.at, b'y');
     let cleared = lines::cleared(text, y.at);
     let changes = changes_due(text, y.at, c.changes);

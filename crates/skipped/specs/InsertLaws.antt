@@ -155,7 +155,7 @@ module _ (room : ℕ) {C : Counts} {L : Links} {p : ℕ → Point} (G : Good C L
           bound = closings-bound (first-good room G (I .used) (I .outer) (I .left) old here range) X (legalized-bound N A within-none);
           untouched =
               untouched-join (record { vertices = (let x = c .vertices in omega arith); edges = (let x = c .edges in let y = c .more in omega arith); faces = (let x = c .faces in let y = c .more in omega arith) })
-              (untouched-flips (subst (λ (D : Counts). Untouched D L (createNewFaceAdjacentToEdge L C e)) (sym a) (new-face-untouched (G .wf) (I .used))) (legalized-untouched N A))
+              (untouched-flips (subst (λ (D : Counts). Untouched D L (createNewFaceAdjacentToEdge L C e)) (sym a) (new-face-untouched (G .wf .ranges) (I .used))) (legalized-untouched N A))
               (closings-untouched (first-good room G (I .used) (I .outer) (I .left) old here range) X);
         }
 

@@ -1,7 +1,10 @@
 // The lines that the cases of several calls share.
 ghost use Prim.Native.Nat.{_≤_};
-ghost use Rattle.test_mesh.specs.Lent.{RingLent};
+ghost use Rattle.test_mesh.specs.Lent.{CoordinatesLent, RingLent};
 use super::Agreed;
+use super::CoordinatesLine;
+use super::LONGS;
+use super::Longs;
 use super::Mesh;
 use super::NODES;
 use super::Ring;
@@ -206,6 +209,38 @@ pub fn compare_mesh(text: &[u8], lent: usize, told: usize, mesh: Mesh) -> Agreed
         return super::compare_mesh(text, told, super::LEFT, mesh);
     }
     let a = super::compare_mesh(text, lent, super::LENT, mesh);
+    Agreed {
+        agrees: a.agrees,
+        at: told,
+    }
+}
+
+// `v count x y x y ..`; a last number that stands alone counts as a point.
+pub fn read_counted_points(text: &[u8], at: usize) -> CoordinatesLine
+    ensures { λ r. ⌜ CoordinatesLent (r .coordinates) ⌝ }
+{
+    let count = test_text::read_natural(text, test_text::behind(text, at));
+    let v = super::read_points(text, count.at);
+    let points = v.coordinates;
+    let numbers = points.length;
+    CoordinatesLine {
+        coordinates: points,
+        at: v.at,
+        is_whole: v.is_whole
+            & (test_text::byte(text, at) == b'v')
+            & (count.magnitude == (numbers / 2 + numbers % 2) as u64),
+    }
+}
+
+// Whether the answers are those of the line `W` at a place, or untouched as in the line `w` where there is none; the place of the line
+// after that.
+pub fn compare_answers(text: &[u8], lent: usize, told: usize, answers: Longs) -> Agreed {
+    if test_text::byte(text, told) == b'W' {
+        let start = super::read_start(text, told, b'W', false, LONGS);
+        return super::compare_longs(text, start, answers);
+    }
+    let start = super::read_start(text, lent, b'w', false, LONGS);
+    let a = super::compare_longs(text, start, answers);
     Agreed {
         agrees: a.agrees,
         at: told,

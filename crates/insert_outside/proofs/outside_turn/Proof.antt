@@ -1,7 +1,8 @@
 -- `insert_outside::outside_turn` meets its contract. Assumes nothing.
 use borrow.Author.Needs.{needs}
 use mathlib.Core.Logic.{⊎-elim}
-use Rattle.insert_outside.proofs.TurnRows.{face-left, face-right, cover-ready, turned-row}
+use Rattle.insert_outside.specs.TurnLaws.{face-left, face-right}
+use Rattle.insert_outside.proofs.TurnRows.{cover-ready, turned-row}
 use Rattle.insert_outside.proofs.outside_turn.Statement.{statement}
 use Rattle.insert_outside.proofs.outside_turn.Tie as tie
 

@@ -1,7 +1,7 @@
 -- `line_fan::fan_turn` meets its contract. Assumes nothing.
 use borrow.Author.Needs.{needs}
 use mathlib.Core.Logic.{⊎-elim}
-use Rattle.insert_outside.proofs.TurnRows.{face-left, face-right}
+use Rattle.insert_outside.specs.TurnLaws.{face-left, face-right}
 use Rattle.line_fan.proofs.TurnRows.{single-ready, turned-row}
 use Rattle.line_fan.proofs.fan_turn.Statement.{statement}
 use Rattle.line_fan.proofs.fan_turn.Tie as tie
