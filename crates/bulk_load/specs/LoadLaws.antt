@@ -30,7 +30,7 @@ use Rattle.mesh_check.specs.declared.Refusal.{Refusal}
 use Rattle.mesh_check.specs.Check.{pointCount}
 use Rattle.sums.specs.Bit.{bit}
 use Rattle.sums.specs.Bounded.{count-le}
-use Rattle.surface.specs.CarriedHeights.{CarriedHeights, carried-by}
+use Rattle.surface.specs.CarriedHeights.{Numbered, numbered, carried-by}
 use Rattle.surface.specs.StoredHeights.{isMade, placeOf, answeredHeights}
 use Rattle.surface.specs.StoredLaws.{heights-end}
 use Rattle.surface.specs.Surface.{surfaceRunLent, surfaceRan}
@@ -38,13 +38,13 @@ use Rattle.sweep.specs.Demand3.{fateOf, vertexOf, isVertex, beforeClosing, Dema
 use Rattle.sweep.specs.Run.{RunOutcome, runCompletes, runOf}
 use Rattle.sweep.specs.RunLaws.{run-is, run-accepted}
 use Rattle.bulk_load.specs.BulkLoad.{BulkLoadLent, BulkLoadOutcome, Loading, bulkLoadChecked, bulkLoadOutcome, bulkLoadOf, count, counts, links, positions, seeded, restOf, swept, ended, lined, stopped, loadingOf, noCounts, loadedWith, loadedBy}
-use Rattle.bulk_load.specs.Demand3.{emptySeed, asRun, beforeLoadCloses, LineOf, LineLoaded, LoadFinished, BulkLoaded}
+use Rattle.bulk_load.specs.Demand3.{emptySeed, asRun, beforeLoadCloses, LineOf, LoadHeights, LineLoaded, LoadFinished, BulkLoaded}
 use Rattle.bulk_load.specs.EndedLaws.{all-taken, grown-most, ended-demand-3}
 use Rattle.bulk_load.specs.LoadAnswers.{rows-again, seed-word, swept-word, rest-word}
 use Rattle.bulk_load.specs.Past.{seed-rows}
 use Rattle.bulk_load.specs.Rest as rest
 use Rattle.bulk_load.specs.Rest.{SeedRows}
-use Rattle.bulk_load.specs.SweptLaws.{grown, SeedAnswers, seed-added, seed-used, seed-here, RestAnswers, swept-demand-3}
+use Rattle.bulk_load.specs.SweptLaws.{grown, SeedAnswers, seed-fate, seed-not-entered, seed-added, seed-vertices, seed-vertex, seed-used, seed-here, RestAnswers, swept-demand-3}
 
 counts-are : (C : Counts) {a b d : ℕ} → C .vertices ≡ a → C .edges ≡ b → C .faces ≡ d → C ≡ record { vertices = a; edges = b; faces = d }
 counts-are C x y z = rw (← x, ← y, ← z) refl
@@ -147,8 +147,8 @@ module _ (l : BulkLoadLent) (e : bulkLoadChecked l ≡ Checked.Accepted) where
       rw r (ended-demand-3 l e S r f m (asRun (loadedBy l (ended l))) ended-answers refl refl (x .0) t (ap (λ (u : Totals). u .closingflips) (x .1)))
 
   -- ---- the heights: those that the answers store
-  module _ (w : Loading) {before : Links} (t : Totals) (q : loadedBy l w .answer .finish .finished ≡ Finished.Accepted t)
-      (D : Demand3From (emptySeed l) before (asRun (loadedBy l w)) t) where
+  module _ (w : Loading) (t : Totals) (q : loadedBy l w .answer .finish .finished ≡ Finished.Accepted t)
+      (D : Numbered (emptySeed l) (asRun (loadedBy l w))) where
     heights-are : loadedBy l w .heights
         ≡ rowFrom (length (l .heights)) (answeredHeights (loadedBy l w .answers) (heightOf (l .pointHeights)) (heightOf (l .heights)) (count l))
     unfolding loadedBy isMade placeOf
@@ -163,8 +163,8 @@ module _ (l : BulkLoadLent) (e : bulkLoadChecked l ≡ Checked.Accepted) where
         let h = rest.accepted l e .heights-room in
         omega arith
 
-    carried : CarriedHeights (surfaceRunLent (emptySeed l) (l .heights) (l .pointHeights)) (surfaceRan (asRun (loadedBy l w)) (loadedBy l w .heights))
-    carried = carried-by (surfaceRunLent (emptySeed l) (l .heights) (l .pointHeights)) (surfaceRan (asRun (loadedBy l w)) (loadedBy l w .heights)) t D heights-are most
+    carried : LoadHeights l (loadedBy l w)
+    carried = carried-by (surfaceRunLent (emptySeed l) (l .heights) (l .pointHeights)) (surfaceRan (asRun (loadedBy l w)) (loadedBy l w .heights)) D heights-are most
 
   -- ---- a line
   module _ (r : seeded l .ready ≡ false) (f : seeded l .growing .mesh .full ≡ false) (m : counts l .faces ≤ 1) where
@@ -205,21 +205,47 @@ module _ (l : BulkLoadLent) (e : bulkLoadChecked l ≡ Checked.Accepted) where
         go (phase.line X) = LineOf.line X
         go (phase.mesh G N k) = absurd (omega arith)
 
+    line-used : (i : ℕ) → i < count l → vertexOf (asRun B) i < B .answer .finish .counts .vertices
+    line-used i a = let k = all-taken l e S r f in let u = seed-used l e (asRun B) lined-answers i (omega arith) in rw line-counts u
+
+    line-number : B .answer .finish .counts .vertices ≡ grown l e (count l)
+    line-number =
+        let v = rest.keeps l e .vertices in
+        let b = ap bit f in
+        let n = ap (λ (x : ℕ). grown l e x) (all-taken l e S r f) in
+        let w = ap (λ (C : Counts). C .vertices) line-counts in
+        omega arith
+
+    line-numbered : Numbered (emptySeed l) (asRun B)
+    line-numbered =
+        let A = lined-answers in
+        let k = all-taken l e S r f in
+        record {
+          vertex = λ i a x. let y = seed-vertex l e (asRun B) A i (omega arith) x in omega arith;
+          entered = λ i a x. absurd (subst T (seed-not-entered l e (asRun B) A i (omega arith)) x);
+          number = let c = seed-vertices l e (asRun B) A (count l) (omega arith) in let n = line-number in omega arith;
+          met = λ i a x. line-used i a;
+        }
+
+    line-accepted : B .answer .finish .finished ≡ Finished.Accepted (record { faces = 0; convexflips = 0; closingflips = 0 })
+    unfolding loadedBy lined
+    line-accepted = refl
+
     lined-loaded : LineLoaded l B
     lined-loaded =
         let A = lined-answers in
         let k = all-taken l e S r f in
         record {
           order = rw (line-counts, line-links, line-places) order;
-          used = λ i a. let u = seed-used l e (asRun B) A i (omega arith) in rw line-counts u;
+          fates = λ i a. seed-fate l e (asRun B) A i (omega arith);
+          vertex = λ i a. seed-vertex l e (asRun B) A i (omega arith);
+          used = line-used;
           place = λ i a. ap (λ (p : ℕ → Point). p (vertexOf (asRun B) i)) line-places ∙ seed-here l e (asRun B) A i (omega arith);
-          number =
-              let v = rest.keeps l e .vertices in
-              let b = ap bit f in
-              let c = seed-added l e (asRun B) A (count l) (omega arith) in
-              let n = ap (λ (x : ℕ). grown l e x) k in
-              let w = ap (λ (C : Counts). C .vertices) line-counts in
-              omega arith;
+          number = let c = seed-added l e (asRun B) A (count l) (omega arith) in let n = line-number in omega arith;
+          heights = carried (lined l) _ line-accepted line-numbered;
+          links-past = rw (line-counts, line-links) (S .links-past);
+          places-past = λ u a. ap (λ (p : ℕ → Point). p u) line-places
+              ∙ S .places-past u (let w = ap (λ (C : Counts). C .vertices) line-counts in omega arith);
         }
 
 -- ---- THE THEOREM
@@ -266,9 +292,9 @@ module _ (l : BulkLoadLent) where
   means-by e (at-flip f q) = subst⁻¹ Means (load-is l e q)
       ((λ t x n. absurd (stopped-not t x)), λ y. absurd (false≢true (sym stopped-mark ∙ y)))
   means-by e (at-start r q) = subst⁻¹ Means (load-is l e q)
-      ((λ t x n. let D = swept-finished l e r t x in (D, carried l e (swept l) t x D)), λ y. absurd (false≢true (sym swept-mark ∙ y)))
+      ((λ t x n. let D = swept-finished l e r t x in (D, carried l e (swept l) t x (numbered D))), λ y. absurd (false≢true (sym swept-mark ∙ y)))
   means-by e (at-mesh r f m q) = subst⁻¹ Means (load-is l e q)
-      ((λ t x n. let D = ended-finished l e r f m t x in (D, carried l e (ended l) t x D)), λ y. absurd (false≢true (sym ended-mark ∙ y)))
+      ((λ t x n. let D = ended-finished l e r f m t x in (D, carried l e (ended l) t x (numbered D))), λ y. absurd (false≢true (sym ended-mark ∙ y)))
   means-by e (at-line r f m q) = subst⁻¹ Means (load-is l e q)
       ((λ t x n. absurd (false≢true (sym n ∙ lined-mark))), λ y. lined-loaded l e r f m)
 

@@ -1,5 +1,5 @@
 -- The heights after a run that is answered with no refusal number, vertex by vertex, as a caller finds them in the answers: the vertices'
--- heights are carried through. They follow from demand 3, which numbers the vertices, and from what the answers store. Assumes nothing.
+-- heights are carried through. They follow from the vertices' numbers, which demand 3 says, and from what the answers store. Assumes nothing.
 use mathlib.Core.Bool.{_||_}
 use mathlib.Core.Logic.{_≢_, _⊎_, inl, inr}
 use mathlib.Core.Path.{_≡_, refl, _∙_}
@@ -17,8 +17,8 @@ use Rattle.heights.specs.Heights.{heightOf}
 use Rattle.mesh.specs.Mesh.{Links}
 use Rattle.mesh_check.specs.Check.{pointCount}
 use Rattle.sums.specs.Bit.{bit, eq-test, and-left, and-right}
-use Rattle.sums.specs.Bounded.{count-before, count-parts}
-use Rattle.sweep.specs.Run.{RunOutcome}
+use Rattle.sums.specs.Bounded.{count, count-before, count-parts}
+use Rattle.sweep.specs.Run.{RunLent, RunOutcome}
 use Rattle.sweep.specs.Demand3.{fateOf, vertexOf, isEntered, isVertex, addedBefore, enteredBefore, Demand3From}
 use Rattle.surface.specs.PutEach.{put-each-kept, put-each-last}
 use Rattle.surface.specs.StoredHeights.{isFrom, isInserted, storedFrom, answeredHeights}
@@ -74,7 +74,19 @@ vertex-parts f = go (ℕ-discrete f 1)
     go (no n) = rw (ne-eqb f 1 n) (omega arith)
 
 -- ---- from the answers
-module _ (g : SurfaceRunLent) (w : SurfaceRan) {before : Links} (t : Totals) (D : Demand3From (g .run) before (w .call) t) where
+-- what the heights ask of the vertices' numbers; clauses of demand 3
+pub record Numbered (l : RunLent) (r : RunOutcome) : Type 0 where
+  pub vertex : (i : ℕ) → i < pointCount (l .points) → fateOf r i ≡ 1 → vertexOf r i ≡ l .counts .vertices + addedBefore r i
+  pub entered : (i : ℕ) → i < pointCount (l .points) → T (isEntered (fateOf r i))
+      → vertexOf r i ≡ l .counts .vertices + addedBefore r (pointCount (l .points)) + enteredBefore r i
+  pub number : r .answer .counts .vertices
+      ≡ l .counts .vertices + count (pointCount (l .points)) (λ i. isVertex (fateOf r i))
+  pub met : (i : ℕ) → i < pointCount (l .points) → fateOf r i ≡ 9 → vertexOf r i < r .answer .counts .vertices
+
+pub numbered : {l : RunLent} {before : Links} {r : RunOutcome} {t : Totals} → Demand3From l before r t → Numbered l r
+numbered D = record { vertex = D .vertex; entered = D .entered; number = D .number; met = λ i a f. D .on-vertex i a f .0 }
+
+module _ (g : SurfaceRunLent) (w : SurfaceRan) (D : Numbered (g .run) (w .call)) where
   abbrev N : ℕ
   N = pointCount (g .run .points)
 
@@ -122,7 +134,7 @@ module _ (g : SurfaceRunLent) (w : SurfaceRan) {before : Links} (t : Totals) (D 
           let b = count-before i N (λ j. isEntered (fate j)) a u in
           let n = number in
           omega arith
-      go (inr u) = D .on-vertex i a u .0
+      go (inr u) = D .met i a u
 
   -- a vertex at which no skipped point was put in
   none-in : (u : ℕ) → NoneFrom g (w .call) 0 u → hs u ≡ added u

@@ -28,7 +28,7 @@ use Rattle.start.specs.StartLaws.{sweep-numbered}
 use Rattle.sweep.specs.Run.{answerWords, RunLent, RunOutcome, ranWith, runChecked, runOutcome, runOf}
 use Rattle.sweep.specs.Demand3.{Demand3}
 use Rattle.sweep.specs.RunLaws.{run-accepts, run-start, run-accepted, run-finishes}
-use Rattle.surface.specs.CarriedHeights.{CarriedHeights, carried-by}
+use Rattle.surface.specs.CarriedHeights.{CarriedHeights, numbered, carried-by}
 use Rattle.surface.specs.RunHeights.{run-stored}
 use Rattle.surface.specs.RunVertices.{added-used, inserted-used, last-used}
 use Rattle.surface.specs.StoredLaws.{heights-end}
@@ -169,7 +169,7 @@ module _ (g : SurfaceRunLent) (t : Totals) (q : surfaceRun g .call .answer .fini
       omega arith
 
   pub carried-heights : CarriedHeights g (surfaceRun g)
-  carried-heights = carried-by g (surfaceRun g) t surface-demand-3 heights-are most
+  carried-heights = carried-by g (surfaceRun g) (numbered surface-demand-3) heights-are most
 
 -- ---- links and fates ignore heights: two runs that differ in heights alone
 pub run-ignores : (l : RunLent) (heights pointHeights heights′ pointHeights′ : List ℤ)

@@ -15,8 +15,8 @@ read-sevens-requires c κs = search needs
 read-sevens-requires-2 : tie.Need-read-sevens-requires-2
 read-sevens-requires-2 c κs = search needs
 
-read-points-requires : tie.Need-read-points-requires
-read-points-requires c κs = search needs
+read-counted-points-requires : tie.Need-read-counted-points-requires
+read-counted-points-requires c κs = search needs
 
 read-heights-requires : tie.Need-read-heights-requires
 read-heights-requires c κs = search needs
@@ -25,7 +25,7 @@ cleared-requires : tie.Need-cleared-requires
 cleared-requires c κs = search needs
 
 bulk-load-on-requires : tie.Need-bulk-load-on-requires
-bulk-load-on-requires c κs = (c .before .before .before .before .before .before .read-mesh .ensures, (c .before .before .before .before .before .read-ring .ensures, (c .before .before .before .before .read-sevens .ensures, (c .before .before .before .read-sevens2 .ensures, (c .before .before .read-points .ensures, c .before .read-heights .ensures)))))
+bulk-load-on-requires c κs = (c .before .before .before .before .before .before .read-mesh .ensures, (c .before .before .before .before .before .read-ring .ensures, (c .before .before .before .before .read-sevens .ensures, (c .before .before .before .read-sevens2 .ensures, (c .before .before .read-counted-points .ensures, c .before .read-heights .ensures)))))
 
 load-agrees-requires : tie.Need-load-agrees-requires
 load-agrees-requires c κs = search needs
@@ -44,7 +44,7 @@ agrees-spec =
     read-ring-requires
     read-sevens-requires
     read-sevens-requires-2
-    read-points-requires
+    read-counted-points-requires
     read-heights-requires
     cleared-requires
     bulk-load-on-requires

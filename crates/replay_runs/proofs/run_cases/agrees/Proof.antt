@@ -21,8 +21,8 @@ read-center-requires c κs = search needs
 read-sevens-requires-2 : tie.Need-read-sevens-requires-2
 read-sevens-requires-2 c κs = search needs
 
-read-points-requires : tie.Need-read-points-requires
-read-points-requires c κs = search needs
+read-counted-points-requires : tie.Need-read-counted-points-requires
+read-counted-points-requires c κs = search needs
 
 read-heights-requires : tie.Need-read-heights-requires
 read-heights-requires c κs = search needs
@@ -34,7 +34,7 @@ changes-due-requires : tie.Need-changes-due-requires
 changes-due-requires c κs = search needs
 
 run-on-requires : tie.Need-run-on-requires
-run-on-requires c κs = (c .before .before .before .before .before .before .before .before .before .read-mesh .ensures, (c .before .before .before .before .before .before .before .read-ring .ensures, (c .before .before .before .before .before .before .read-sevens .ensures, (c .before .before .before .before .read-sevens2 .ensures, (c .before .before .before .read-points .ensures, c .before .before .read-heights .ensures)))))
+run-on-requires c κs = (c .before .before .before .before .before .before .before .before .before .read-mesh .ensures, (c .before .before .before .before .before .before .before .read-ring .ensures, (c .before .before .before .before .before .before .read-sevens .ensures, (c .before .before .before .before .read-sevens2 .ensures, (c .before .before .before .read-counted-points .ensures, c .before .before .read-heights .ensures)))))
 
 run-agrees-requires : tie.Need-run-agrees-requires
 run-agrees-requires c κs = search needs
@@ -52,7 +52,7 @@ agrees-spec =
     read-sevens-requires
     read-center-requires
     read-sevens-requires-2
-    read-points-requires
+    read-counted-points-requires
     read-heights-requires
     cleared-requires
     changes-due-requires
