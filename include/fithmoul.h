@@ -263,7 +263,7 @@ typedef struct fithmoul_volume_result {
     uint32_t place;
     uint64_t six_volumes_high; /* this and the rest are 0 where refused */
     uint64_t six_volumes_low;
-    int64_t cubic_metres; /* of 10^9 cubic millimetres: the nearest whole, exact halves away from zero */
+    int64_t cubic_metres; /* of 10^9 cubic millimetres: the nearest whole, an exact half to the even one */
 } fithmoul_volume_result;
 
 /* Doubled areas are in square millimetres. One triangle's is at most 2^50; where triangles overlap each other the total

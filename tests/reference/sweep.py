@@ -1193,10 +1193,10 @@ def two_halves(number):
 
 
 def cubic_metres(six):
-    """Change 1: "that volume in cubic metres (10^9 mm³), rounded to the nearest whole, exact halves away
-    from zero" """
+    """Change 1: "that volume in cubic metres (10^9 mm³), rounded to the nearest whole"; Change 7: "rounds a half
+    cubic metre to the even whole: 2.5 gives 2, 3.5 gives 4, -2.5 gives -2" """
     whole, rest = divmod(abs(six), CUBIC_METRE)
-    if 2 * rest >= CUBIC_METRE:
+    if 2 * rest > CUBIC_METRE or 2 * rest == CUBIC_METRE and whole % 2 == 1:
         whole += 1
     return whole if six > 0 else -whole
 

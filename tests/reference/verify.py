@@ -421,8 +421,8 @@ EACH_FACE = "    for f in range(1, mesh.faces):\n        heights"
 TOTAL = "    return total\n\n\ndef two_halves"
 PATTERN = "pattern = number % (1 << 128)"
 HALVES = "return (pattern >> 64, pattern % (1 << 64))"
-ROUNDED = "    if 2 * rest >= CUBIC_METRE:\n"
 ROUNDED_WITH = "    if 2 * rest > CUBIC_METRE or 2 * rest == CUBIC_METRE and %s:\n"
+ROUNDED = ROUNDED_WITH % "whole % 2 == 1"
 SIGNED = "    return whole if six > 0 else -whole"
 METRE = "CUBIC_METRE = 6 * 10 ** 9"
 HEIGHTS = [  # the same of Change 1
@@ -538,19 +538,23 @@ HEIGHTS = [  # the same of Change 1
     ("a low half of 63 bits", HALVES, "return (pattern >> 63, pattern % (1 << 63))"),
     ("a low half that is signed", HALVES,
      "return ((pattern >> 64) - (pattern >> 63 & 1), pattern % (1 << 64))"),
-    ("exact halves to even", ROUNDED, ROUNDED_WITH % "whole % 2 == 1"),
+    ("exact halves away from zero", ROUNDED, "    if 2 * rest >= CUBIC_METRE:\n"),
     ("exact halves to odd", ROUNDED, ROUNDED_WITH % "whole % 2 == 0"),
     ("exact halves up", ROUNDED, ROUNDED_WITH % "six > 0"),
     ("exact halves down", ROUNDED, ROUNDED_WITH % "six < 0"),
     ("exact halves towards zero", ROUNDED, "    if 2 * rest > CUBIC_METRE:\n"),
     ("one less than a half away from zero", ROUNDED, "    if 2 * rest >= CUBIC_METRE - 2:\n"),
+    ("one less than a half to even", ROUNDED, ROUNDED.replace("rest", "(rest + 1)")),
+    ("one more than a half to even", ROUNDED, ROUNDED.replace("rest", "(rest - 1)")),
+    ("every half of an odd whole up", ROUNDED, "    if 2 * rest > CUBIC_METRE or whole % 2 == 1:\n"),
+    ("exact halves below zero away from it", SIGNED,
+     "    return whole if six > 0 else -((abs(six) + CUBIC_METRE // 2) // CUBIC_METRE)"),
     ("the fraction cut off", ROUNDED, "    if False:\n"),
     ("any fraction away from zero", ROUNDED, "    if rest:\n"),
     ("the floor", SIGNED, "    return six // CUBIC_METRE"),
     ("the ceiling", SIGNED, "    return -(-six // CUBIC_METRE)"),
     ("cubic metres without a sign", SIGNED, "    return whole"),
-    ("cubic metres by a float", SIGNED,
-     "    return int(abs(six / CUBIC_METRE) + 0.5) * (1 if six > 0 else -1)"),
+    ("cubic metres by a float", SIGNED, "    return round(six / CUBIC_METRE)"),
     ("cubic metres of six times the volume", METRE, "CUBIC_METRE = 10 ** 9"),
     ("cubic metres of twice the volume", METRE, "CUBIC_METRE = 3 * 10 ** 9"),
     ("litres for cubic metres", METRE, "CUBIC_METRE = 6 * 10 ** 6"),

@@ -9,6 +9,7 @@ of the random meshes come from sweep.py, each held against a sum over single hei
 written here as well; all are held against the boundary and against another formula.
 """
 
+import fractions
 import random
 
 import check_cases
@@ -61,12 +62,13 @@ def twice_area(mesh):
 
 def told(six):
     """The halves as a signed and an unsigned number put together again, and the cubic metres as the whole
-    number that is nearest: of two that are as near, the one farther from zero."""
+    number that is nearest: of two that are as near, the even one."""
     high, low = divmod(six, WORD)
     metre = sweep.CUBIC_METRE
     near = [six // metre, six // metre + 1]
-    far = max(near, key=lambda m: (-abs(m * metre - six), abs(m)))
-    return (high % WORD, low, far)
+    nearest = min(near, key=lambda m: (abs(m * metre - six), m % 2))
+    assert nearest == round(fractions.Fraction(six, metre)), "Python's own rounding, which is to even"
+    return (high % WORD, low, nearest)
 
 
 def triangle_of(area, turn=0):
@@ -124,16 +126,16 @@ def extremes(out):
 
 
 def halves(out):
-    """Cubic metres: exact halves on both sides of zero and their neighbours, and whole numbers."""
+    """Cubic metres: exact halves on both sides of zero, above an even and an odd whole, with every rest from two less
+    than a half to two more, and whole numbers."""
     metre = sweep.CUBIC_METRE
-    for half in (1, 3, 5, 7, 9):
+    for half in (1, 3, 5, 7, 9, 11):
         for sign in (1, -1):
-            for more in (-1, 0, 1):
+            for more, name in NEAR:
                 six = sign * (half * metre // 2 + more)
                 mesh, level = made(abs(six), sign, 40 * half)
-                add(out, "%d half cubic metres%s" % (sign * half, (" less one", "", " and one")[more + 1]),
-                    mesh, level, six=six, area=abs(six))
-    for half in (1, 3, 5):
+                add(out, "%d half cubic metres%s" % (sign * half, name), mesh, level, six=six, area=abs(six))
+    for half in (1, 3, 5, 7):
         for sign in (1, -1):
             mesh, level = made(10 ** 6, sign * half * 3000, -5, half)
             add(out, "%d half cubic metres, by the heights" % (sign * half), mesh, level,
@@ -142,18 +144,20 @@ def halves(out):
         mesh, level = made(abs(six), 1 if six > 0 else -1, 1)
         add(out, "about whole cubic metres", mesh, level, six=six, area=abs(six))
     # Many cubic metres and a half, where a double would no longer tell the neighbours apart: the factor has no
-    # divisor in common with a cubic metre, so some area leaves any wanted rest.
+    # divisor in common with two cubic metres, so some area leaves any wanted rest above an even or an odd whole.
     factor = 6291451
     for sign in (1, -1):
-        for more in (-1, 0, 1):
-            rest = metre // 2 + more
-            area = 180000 * metre + rest * pow(factor, -1, metre) % metre
-            mesh, level = made(area, sign * factor, -sign * LIMIT)
-            assert area * factor % metre == rest
-            add(out, "many cubic metres and a half%s" % (" less one", "", " and one")[more + 1], mesh, level,
-                six=sign * area * factor, area=area)
+        for odd in (0, 1):
+            for more, name in NEAR:
+                rest = odd * metre + metre // 2 + more
+                area = 180000 * metre + rest * pow(factor, -1, 2 * metre) % (2 * metre)
+                mesh, level = made(area, sign * factor, -sign * LIMIT)
+                assert area * factor % (2 * metre) == rest
+                add(out, "an %s number of cubic metres, large, and a half%s" % (("even", "odd")[odd], name), mesh, level,
+                    six=sign * area * factor, area=area)
 
 
+NEAR = ((-2, " less two"), (-1, " less one"), (0, ""), (1, " and one"), (2, " and two"))
 WORDS = (  # a number, and a factor of it that heights and a level can have
     (2 ** 63 - 1, 92737), (2 ** 63, 2 ** 20), (2 ** 63 + 1, 43 * 5419), (2 ** 64 - 1, 257 * 641),
     (2 ** 64, 2 ** 21), (2 ** 64 + 1, 274177), (2 ** 65, 2 ** 22), (2 ** 32, 1), (2 ** 32 - 1, 3),

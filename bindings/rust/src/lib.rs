@@ -151,7 +151,7 @@ pub struct Totals {
 pub struct Volume {
     /// Six times it, in cubic millimetres, exactly: over all triangles, the doubled area times (the three heights minus three times the level).
     pub six_volumes: i128,
-    /// The nearest whole number of cubic metres, exact halves away from zero.
+    /// The nearest whole number of cubic metres, an exact half to the even one: 2.5 gives 2, 3.5 gives 4, -2.5 gives -2.
     pub cubic_metres: i64,
 }
 

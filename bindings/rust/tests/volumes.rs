@@ -14,8 +14,10 @@ fn expected(mesh: &Mesh, level: i32) -> Volume {
         let heights: i128 = corners.iter().map(|&v| i128::from(mesh.heights()[v as usize])).sum();
         six_volumes += doubled_area * (heights - 3 * i128::from(level));
     }
-    let magnitude = (six_volumes.abs() + 3_000_000_000) / 6_000_000_000;
-    let cubic_metres = i64::try_from(six_volumes.signum() * magnitude).expect("a number of 64 bits");
+    // the whole number below, and the next one where that is nearer, or as near and even
+    let (below, rest) = (six_volumes.div_euclid(6_000_000_000), six_volumes.rem_euclid(6_000_000_000));
+    let up = rest > 3_000_000_000 || (rest == 3_000_000_000 && below % 2 != 0);
+    let cubic_metres = i64::try_from(below + i128::from(up)).expect("a number of 64 bits");
     Volume { six_volumes, cubic_metres }
 }
 
@@ -103,10 +105,21 @@ fn heights_of(sum: i32) -> [i32; 3] {
 #[test]
 fn exact_halves() {
     let half = 3_000_000_000;
-    // 0.5, 1.5 and 2.5 cubic metres, and next to them
-    for (doubled_area, metres) in
-        [(half, 1), (half - 1, 0), (half + 1, 1), (3 * half, 2), (5 * half, 3), (5 * half - 1, 2)]
-    {
+    // 0.5, 1.5, 2.5 and 3.5 cubic metres, and next to them
+    for (doubled_area, metres) in [
+        (half, 0),
+        (half - 1, 0),
+        (half + 1, 1),
+        (3 * half - 1, 1),
+        (3 * half, 2),
+        (3 * half + 1, 2),
+        (5 * half - 1, 2),
+        (5 * half, 2),
+        (5 * half + 1, 3),
+        (7 * half - 1, 3),
+        (7 * half, 4),
+        (7 * half + 1, 4),
+    ] {
         for sign in [1, -1] {
             let volume = agrees(&triangle(doubled_area, [0, sign, 0]), 0);
             assert_eq!(volume.six_volumes, i128::from(doubled_area) * i128::from(sign));
@@ -122,8 +135,8 @@ fn exact_halves() {
         let sum = 2 * random.within(3 * HEIGHT_RANGE / 2 - 1) + 1;
         let volume = agrees(&triangle(doubled_area, heights_of(sum)), 0);
         assert_eq!(volume.six_volumes.abs() % (2 * i128::from(half)), i128::from(half));
-        let away = i128::from(volume.cubic_metres) * 2 * i128::from(half) - volume.six_volumes;
-        assert_eq!(away, i128::from(half) * volume.six_volumes.signum());
+        let off = i128::from(volume.cubic_metres) * 2 * i128::from(half) - volume.six_volumes;
+        assert_eq!((off.abs(), volume.cubic_metres % 2), (i128::from(half), 0));
     }
 }
 

@@ -1,9 +1,10 @@
 -- The product and the division by digits of 32 bits, and the rounding of a number of half cubic metres. Assumes nothing.
-use mathlib.Core.Path.{_≡_, _∙_, ap₂}
+use mathlib.Core.Path.{_≡_, _∙_, ap, ap₂}
 use Prim.Native.Nat.{ℕ, _+_, _*_, _/_, _%_, _^_, _<_, _≤_}
 use native.Mathlib.Nat.{mul-le-mul, div-add-mod'}
 use native.Mathlib.Omega.{arith}
-use Rattle.int128.specs.CubicMetres.{toNearest}
+use Rattle.int128.specs.CubicMetres.{halfToEven}
+use Rattle.int128.specs.CubicMetresLaws.{next-even, rounded-only}
 
 -- ---- the product
 abbrev B : ℕ
@@ -39,9 +40,6 @@ steps : (h l c d e f g r : ℕ) → l ≡ B * c + d → h * B + c ≡ 3000000000
     → h * 2 ^ 64 + l ≡ 3000000000 * (e * B + g) + r
 steps h l c d e f g r p q s = omega arith
 
-quotient : (n q r : ℕ) → n ≡ 3000000000 * q + r → r < 3000000000 → q ≡ n / 3000000000
-quotient n q r e l = omega arith
-
 split : (n : ℕ) → (n ≡ 3000000000 * (n / 3000000000) + n % 3000000000) × (n % 3000000000 < 3000000000)
 split n = (omega arith, omega arith)
 
@@ -55,22 +53,45 @@ module _ (h l : ℕ) where
   abbrev last : ℕ
   last = middle % 3000000000 * B + l % B
 
-  pub divided : middle / 3000000000 * B + last / 3000000000 ≡ (h * 2 ^ 64 + l) / 3000000000
+  pub divided : (h * 2 ^ 64 + l ≡ 3000000000 * (middle / 3000000000 * B + last / 3000000000) + last % 3000000000)
+      × (last % 3000000000 < 3000000000)
   divided =
       let m = split middle in
       let n = split last in
-      quotient (h * 2 ^ 64 + l) _ (last % 3000000000) (steps h l _ _ _ _ _ _ (split32 l) (m .0) (n .0)) (n .1)
+      (steps h l _ _ _ _ _ _ (split32 l) (m .0) (n .0), n .1)
 
 pub small-high : (h l : ℕ) {n : ℕ} → h * 2 ^ 64 + l ≡ n → n < 2 ^ 94 → h < 2 ^ 30
 small-high h l e m = omega arith
 
--- ---- the rounding: half cubic metres, and one more, halved
-pub rounded : (n : ℕ) {h : ℕ} → h ≡ n / 3000000000 → (h + 1) / 2 ≡ toNearest n
-rounded n e = omega arith
+-- ---- the rounding: of h half cubic metres and a rest
+-- one more, where there is a rest or the whole ones are odd
+abbrev more : ℕ → ℕ → ℕ
+more h r = (r + 2999999999 + h / 2 % 2) / 3000000000
 
--- one more of them still fits 64 bits, and half of that 63
-pub one-more : {h n : ℕ} → h ≡ n / 3000000000 → n < 2 ^ 94 → h + 1 < 2 ^ 64
-one-more e l = omega arith
+pub rest-fits : (r : ℕ) → r < 3000000000 → r + 2999999999 < 2 ^ 64
+rest-fits r l = omega arith
 
-pub rounded-less : {h n : ℕ} → h ≡ n / 3000000000 → n < 2 ^ 94 → (h + 1) / 2 < 2 ^ 63
-rounded-less e l = omega arith
+pub odd-fits : (h r : ℕ) → r < 3000000000 → r + 2999999999 + h / 2 % 2 < 2 ^ 64
+odd-fits h r l = omega arith
+
+module _ (h r : ℕ) {n : ℕ} (e : n ≡ 3000000000 * h + r) (l : r < 3000000000) where
+  pub halves-rounded : (h + more h r) / 2 ≡ halfToEven n
+  halves-rounded =
+      rounded-only (record {
+        not-far-below = omega arith;
+        not-far-above = omega arith;
+        even = λ d. to-even (h / 2) (omega arith) (omega arith);
+      })
+    where
+      to-even : (w : ℕ) → h ≡ 2 * w + 1 → r ≡ 0 → (h + (r + 2999999999 + w % 2) / 3000000000) / 2 % 2 ≡ 0
+      to-even w d z = ap (λ (x : ℕ). x % 2) (up (w % 2) (omega arith)) ∙ next-even w
+        where
+          up : (b : ℕ) → b < 2 → (h + (r + 2999999999 + b) / 3000000000) / 2 ≡ w + b
+          up b l = omega arith
+
+  -- one more of them still fits 64 bits, and half of that 63
+  pub one-more : n < 2 ^ 94 → h + more h r < 2 ^ 64
+  one-more m = omega arith
+
+  pub rounded-less : n < 2 ^ 94 → (h + more h r) / 2 < 2 ^ 63
+  rounded-less m = omega arith

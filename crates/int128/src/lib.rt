@@ -49,15 +49,25 @@ fn product(a: u64, b: u64) -> Int128
     }
 }
 
+// A number of half cubic metres, and what is left over of six times a volume.
+struct HalfMetres {
+    count: u64,
+    rest: u64,
+}
+
 // The half cubic metres in six times a volume that has no sign: 3,000,000,000 is below 2 ^ 32, so long division by digits
 // of 32 bits takes two steps.
-fn half_metres(high: u64, low: u64) -> u64
+fn half_metres(high: u64, low: u64) -> HalfMetres
     requires { ⌜ high < 2 ^ 30 ⌝ }
-    ensures { λ r. ⌜ r ≡ (high * 2 ^ 64 + low) / 3000000000 ⌝ }
+    ensures { λ r. ⌜ (high * 2 ^ 64 + low ≡ 3000000000 * r .count + r .rest) × (r .rest < 3000000000) ⌝ }
 {
     let middle = high * 4294967296 + low / 4294967296;
     let last = middle % 3000000000 * 4294967296 + low % 4294967296;
-    middle / 3000000000 * 4294967296 + last / 3000000000
+    let count = middle / 3000000000 * 4294967296 + last / 3000000000;
+    HalfMetres {
+        count: count,
+        rest: last % 3000000000,
+    }
 }
 
 impl Int128 {
@@ -156,12 +166,15 @@ impl Int128 {
         self.sign_on(n.low)
     }
 
-    // Cubic metres of six times a volume in cubic millimetres: the half ones, and one more, halved.
+    // Cubic metres of six times a volume in cubic millimetres: the half ones, halved, with one more before that where
+    // something is left over of them or the whole ones are odd.
     pub fn cubic_metres(self) -> i64
         requires { ⌜ natAbs (int128Of self) < 2 ^ 94 ⌝ }
         ensures { λ r. ⌜ r ≡ cubicMetres (int128Of self) ⌝ }
     {
         let n = self.abs();
-        self.sign_on((half_metres(n.high, n.low) + 1) / 2)
+        let halves = half_metres(n.high, n.low);
+        let more = (halves.rest + 2999999999 + halves.count / 2 % 2) / 3000000000;
+        self.sign_on((halves.count + more) / 2)
     }
 }

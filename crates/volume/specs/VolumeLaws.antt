@@ -9,7 +9,8 @@ use lib.IntN.{ℤ, pos, natAbs, _+ℤ_, _-ℤ_, _*ℤ_}
 use Rattle.algebra.specs.Ring.{_⊕_, _⊖_, _⊗_, ⊝_, #_, v0, v1, v2, v3, v4, ring}
 use Rattle.algebra.specs.Sign.{eq-in, eq-by, _*⁰_, _+⁰_}
 use Rattle.algebra.specs.Bound.{[]ᵉ, _∷ᵉ_, within}
-use Rattle.int128.specs.CubicMetres.{toNearest, cubicMetres}
+use Rattle.int128.specs.CubicMetres.{halfToEven, cubicMetres}
+use Rattle.int128.specs.CubicMetresLaws.{Rounded, rounded}
 use Rattle.int128.specs.Int128Laws.{natAbs-sign}
 use Rattle.math.specs.declared.Point.{Point}
 use Rattle.math.specs.AreaBound.{area-bound}
@@ -112,7 +113,7 @@ module _ {C : Counts} {L : Links} {p : ℕ → Point} (G : Good C L p) (most : C
   unfolding cubicMetres
   metres-most =
       let six = sixVolumes C L p h level in
-      rw (natAbs-sign six (pos (toNearest (natAbs six)))) (rounded six-most)
+      rw (natAbs-sign six (pos (halfToEven (natAbs six)))) (few-metres (rounded (natAbs six)) six-most)
     where
-      rounded : {n : ℕ} → n ≤ 1999995 * (2 ^ 50 * 6291456) → toNearest n ≤ 2361177338476719020
-      rounded l = omega arith
+      few-metres : {n r : ℕ} → Rounded n r → n ≤ 1999995 * (2 ^ 50 * 6291456) → r ≤ 2361177338476719020
+      few-metres R l = let a = R .not-far-above in omega arith

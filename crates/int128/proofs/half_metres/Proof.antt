@@ -16,14 +16,14 @@ mul-last c = search needs
 add-last : tie.Need-add-last
 add-last c = search needs
 
-mul-result : tie.Need-mul-result
-mul-result c = search needs
+mul-count : tie.Need-mul-count
+mul-count c = search needs
 
-add-result : tie.Need-add-result
-add-result c = search needs
+add-count : tie.Need-add-count
+add-count c = search needs
 
 returns : tie.Need-returns
 returns c = divided (c .args .high) (c .args .low)
 
 pub half-metres-spec : {M : Type 1} → statement M
-half-metres-spec = tie.close (tie.spec mul-middle add-middle mul-last add-last mul-result add-result returns)
+half-metres-spec = tie.close (tie.spec mul-middle add-middle mul-last add-last mul-count add-count returns)
