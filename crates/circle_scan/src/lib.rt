@@ -1,13 +1,13 @@
-// Edges that keep the circle rule, a block of them at a time: for the closing pass, most of whose edges do. An edge's far vertices stand with
-// other edges, anywhere in the row of half-edges, and in a large mesh each of them waits for memory. So those of a block are read first:
-// these reads do not wait for each other, as they do where a circle test comes between them. What is answered is `Unbroken` of
+// Edges that keep the circle rule, a block of them at a time: for the closing pass, most of whose edges do. An edge's far vertices stand
+// with other edges, anywhere in the row of half-edges, and in a large mesh each of them waits for memory. So those of a block are read
+// first: these reads do not wait for each other, as they do where a circle test comes between them. What is answered is `Unbroken` of
 // specs/Scan.antt.
 ghost use mathlib.Core.List.{List};
 ghost use mathlib.Core.Path.{_≡_};
-ghost use Prim.Native.Nat.{ℕ, _+_, _*_, _<_, _≤_, _^_};
+ghost use Prim.Native.Nat.{ℕ, _+_, _*_, _≤_};
 ghost use lib.ListN.{length};
 ghost use Rattle.circle_test.specs.GoodRows.{CircleReady};
-ghost use Rattle.dcel.specs.Rows.{halvesOf, rowOf, linksOf, positionOf};
+ghost use Rattle.dcel.specs.Rows.{halvesOf, linksOf, positionOf};
 ghost use Rattle.mesh.specs.Circle.{breaksCircle};
 ghost use Rattle.circle_scan.specs.Scan.{ScanReady, FarsReady, FarsRead, BlockReady, Unbroken};
 

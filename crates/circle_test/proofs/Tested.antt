@@ -2,17 +2,17 @@
 use mathlib.Core.Bool.{Bool, false}
 use mathlib.Core.List.{List}
 use mathlib.Core.Logic.{_≢_}
-use mathlib.Core.Path.{_≡_, refl, sym, _∙_, ap, subst⁻¹}
+use mathlib.Core.Path.{_≡_, refl, subst⁻¹}
 use Prim.Native.Nat.{ℕ, zero, suc, _+_, _*_}
 use native.Mathlib.Omega.{arith}
 use lib.IntN.{ℤ}
 use Rattle.math.specs.declared.Point.{Point}
 use Rattle.math.specs.Determinant.{containedInCircumference}
 use Rattle.mesh.specs.Circle.{breaksCircle}
-use Rattle.mesh.specs.CircleLaws.{outer-left, outer-right, both-inner}
 use Rattle.dcel.specs.declared.handles.Far.{Far}
 use Rattle.dcel.specs.Far.{farIn}
 use Rattle.dcel.specs.Rows.{halvesOf, linksOf, Placed}
+use Rattle.circle_test.specs.BreaksLaws.{outer-e, outer-t, inner}
 
 is-outer : {r : Far} (f v : ℕ) → r ≡ farIn f v → r ≡ Far.Outer → f ≡ 0
 unfolding farIn
@@ -30,23 +30,21 @@ is-vertex zero v e d = absurd (let z : _≡_ {A = ℕ} 0 1 = cc in omega arith)
 is-vertex (suc f) v e d = cc
 
 module _ (P : ℕ → Point) (h : List ℕ) (u : ℕ) where
-  pub outer-e : {r : Far} → r ≡ farIn (halvesOf h .face (2 * u)) (halvesOf h .origin (halvesOf h .prev (2 * u))) → r ≡ Far.Outer
+  pub far-outer-e : {r : Far} → r ≡ farIn (halvesOf h .face (2 * u)) (halvesOf h .origin (halvesOf h .prev (2 * u))) → r ≡ Far.Outer
       → (o a : List ℕ) → false ≡ breaksCircle (linksOf o h a) P u
-  unfolding linksOf
-  outer-e e d o a = sym (outer-left (linksOf o h a) P u (is-outer _ _ e d))
+  far-outer-e e d = outer-e P h u refl (is-outer _ _ e d)
 
-  pub outer-t : {r : Far} → r ≡ farIn (halvesOf h .face (2 * u + 1)) (halvesOf h .origin (halvesOf h .prev (2 * u + 1))) → r ≡ Far.Outer
-      → (o a : List ℕ) → false ≡ breaksCircle (linksOf o h a) P u
-  unfolding linksOf
-  outer-t e d o a = sym (outer-right (linksOf o h a) P u (is-outer _ _ e d))
+  pub far-outer-t : {r : Far} → r ≡ farIn (halvesOf h .face (2 * u + 1)) (halvesOf h .origin (halvesOf h .prev (2 * u + 1)))
+      → r ≡ Far.Outer → (o a : List ℕ) → false ≡ breaksCircle (linksOf o h a) P u
+  far-outer-t e d = outer-t P h u refl (is-outer _ _ e d)
 
-  pub inner : {r s : Far} {a b c d : ℕ} {x : Bool} → r ≡ farIn (halvesOf h .face (2 * u)) (halvesOf h .origin (halvesOf h .prev (2 * u))) → r ≡ Far.Vertex c
+  pub far-inner : {r s : Far} {a b c d : ℕ} {x : Bool}
+      → r ≡ farIn (halvesOf h .face (2 * u)) (halvesOf h .origin (halvesOf h .prev (2 * u))) → r ≡ Far.Vertex c
       → s ≡ farIn (halvesOf h .face (2 * u + 1)) (halvesOf h .origin (halvesOf h .prev (2 * u + 1))) → s ≡ Far.Vertex d
       → a ≡ halvesOf h .origin (2 * u) → b ≡ halvesOf h .origin (2 * u + 1) → x ≡ containedInCircumference (P a) (P b) (P c) (P d)
       → (l k : List ℕ) → x ≡ breaksCircle (linksOf l h k) P u
-  unfolding linksOf
-  inner r c s d a b x l k =
-      x ∙ rw (a, b, is-vertex _ _ r c, is-vertex _ _ s d) (sym (both-inner (linksOf l h k) P u (is-inner _ _ r c) (is-inner _ _ s d)))
+  far-inner r c s d a b x =
+      inner P h u refl (is-inner _ _ r c) refl (is-inner _ _ s d) a b (is-vertex _ _ r c) (is-vertex _ _ s d) x
 
 -- a far vertex has a position where the origin of prev has one
 pub far-placed : {q : List ℤ} {r : Far} {c : ℕ} (f v : ℕ) → r ≡ farIn f v → r ≡ Far.Vertex c → Placed q v → Placed q c

@@ -1,1 +1,2 @@
 pub mod GoodRows
+pub mod BreaksLaws

@@ -1,5 +1,6 @@
 -- The heights after a run that is answered with no refusal number, vertex by vertex, as a caller finds them in the answers: the vertices'
--- heights are carried through. They follow from the vertices' numbers, which demand 3 says, and from what the answers store. Assumes nothing.
+-- heights are carried through. They follow from the vertices' numbers, which demand 3 says, and from what the answers store. Assumes
+-- nothing.
 use mathlib.Core.Bool.{_||_}
 use mathlib.Core.Logic.{_≢_, _⊎_, inl, inr}
 use mathlib.Core.Path.{_≡_, refl, _∙_}

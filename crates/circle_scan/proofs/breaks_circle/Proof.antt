@@ -1,8 +1,8 @@
 -- `circle_scan::breaks_circle` meets its contract. Assumes nothing.
 use borrow.Author.Needs.{needs}
 use mathlib.Core.Path.{subst⁻¹}
+use Rattle.circle_test.specs.BreaksLaws.{outer-e, outer-t, inner}
 use Rattle.dcel.specs.Rows.{Placed}
-use Rattle.circle_scan.specs.ScanLaws.{outer-e, outer-t, inner}
 use Rattle.circle_scan.proofs.breaks_circle.Statement.{statement}
 use Rattle.circle_scan.proofs.breaks_circle.Tie as tie
 

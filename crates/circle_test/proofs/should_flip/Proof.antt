@@ -2,7 +2,7 @@
 use borrow.Author.Needs.{needs}
 use mathlib.Core.Path.{subst⁻¹}
 use Rattle.dcel.specs.Rows.{Placed}
-use Rattle.circle_test.proofs.Tested.{outer-e, outer-t, inner, far-placed}
+use Rattle.circle_test.proofs.Tested.{far-outer-e, far-outer-t, far-inner, far-placed}
 use Rattle.circle_test.proofs.should_flip.Statement.{statement}
 use Rattle.circle_test.proofs.should_flip.Tie as tie
 
@@ -22,7 +22,7 @@ enum-told : tie.Need-enum-told
 enum-told c = search needs
 
 returns : tie.Need-returns
-returns c = outer-e _ _ _ (c .before .before .far .ensures) (c .enum-told .given .1)
+returns c = far-outer-e _ _ _ (c .before .before .far .ensures) (c .enum-told .given .1)
 
 far-requires-2 : tie.Need-far-requires-2
 far-requires-2 c κs = search needs
@@ -34,7 +34,7 @@ enum-told-2 : tie.Need-enum-told-2
 enum-told-2 c = search needs
 
 returns-2 : tie.Need-returns-2
-returns-2 c = outer-t _ _ _ (c .before .before .far2 .ensures) (c .enum-told2 .given .1)
+returns-2 c = far-outer-t _ _ _ (c .before .before .far2 .ensures) (c .enum-told2 .given .1)
 
 origin-requires : tie.Need-origin-requires
 origin-requires c κs = search needs
@@ -57,7 +57,7 @@ returns-3 : tie.Need-returns-3
 returns-3 c =
     let d = c .before .before .before .before in
     let v = d .before .before .before .before in
-    inner _ _ _ (v .before .before .far .ensures) (v .c .given .1) (d .before .before .far2 .ensures) (d .d .given .1)
+    far-inner _ _ _ (v .before .before .far .ensures) (v .c .given .1) (d .before .before .far2 .ensures) (d .d .given .1)
     (c .before .before .origin .ensures) (c .before .origin2 .ensures) (c .is-inside .ensures)
 
 pub should-flip-spec : {M : Type 1} → statement M
