@@ -138,8 +138,9 @@ fn volume(m: &Mesh, level: i32) -> (i128, i64) {
         let heights: i64 = [u, v, w].iter().map(|&v| m.heights[v as usize] as i64).sum();
         sum += area as i128 * (heights - 3 * level as i64) as i128;
     }
-    let metres = (sum.abs() + 3_000_000_000) / 6_000_000_000;
-    (sum, (sum.signum() * metres) as i64)
+    let (whole, rest) = (sum.abs() / 6_000_000_000, sum.abs() % 6_000_000_000);
+    let up = rest > 3_000_000_000 || (rest == 3_000_000_000 && whole % 2 == 1);
+    (sum, (sum.signum() * (whole + i128::from(up))) as i64)
 }
 
 /// What a work makes, and its milliseconds kept where they are the least so far.
