@@ -11,6 +11,7 @@ use Rattle.conflicts.specs.FlipsWithin.{FlipsWithin}
 use Rattle.mesh.specs.declared.Counts.{Counts}
 use Rattle.dcel.specs.Rows.{positionOf}
 use Rattle.circle_test.specs.GoodRows.{good-again}
+use Rattle.pending.specs.declared.PendingList.{PendingList}
 use Rattle.pending.specs.Pending.{pendingOf}
 use Rattle.pending.specs.PendingLaws.{pending-last}
 use Rattle.sums.specs.Until.{Going, going-start, going-turn, going-less, going-end}
@@ -36,15 +37,17 @@ same-trans x y = record { outs = y .outs ∙ x .outs; halves = y .halves ∙ x .
 abbrev pub Loops : ℕ → Entry → Counts → List ℤ → Legalizing → Legalizing → Type 0
 Loops room k C q s₀ s = Going isDone (legalizeTurn room k (positionOf q)) (Ongoing room k C (positionOf q)) (measure C (positionOf q)) (measure C (positionOf q) s₀ + 1) s₀ s
 
-pub record LoopAt (k : Entry) (C : Counts) (q : List ℤ) (o₀ h₀ a₀ row₀ : List ℕ) (n₀ : ℕ) (c₀ : ℕ) (o h a row : List ℕ) (n : ℕ) (c : ℕ) : Type 0 where
-  pub ready : TurnReady k C q o h a row n c
-  pub going : Loops (length row₀) k C q (stateOf o₀ h₀ a₀ row₀ n₀ c₀) (stateOf o h a row n c)
+pub record LoopAt (k : Entry) (C : Counts) (q : List ℤ) (o₀ h₀ a₀ row₀ : List ℕ) (w₀ : PendingList) (c₀ : ℕ)
+    (o h a row : List ℕ) (w : PendingList) (c : ℕ) : Type 0 where
+  pub ready : TurnReady k C q o h a row w c
+  pub going : Loops (length row₀) k C q (stateOf o₀ h₀ a₀ row₀ (w₀ .length) c₀) (stateOf o h a row (w .length) c)
   pub lengths : SameLengths o₀ h₀ a₀ row₀ o h a row
 
-pub loop-starts : {k : Entry} {C : Counts} {q : List ℤ} {o h a row : List ℕ} {n : ℕ} {c : ℕ} → TurnReady k C q o h a row n c → LoopAt k C q o h a row n c o h a row n c
-loop-starts {k} {C} {q} {o} {h} {a} {row} {n} {c} R = record {
+pub loop-starts : {k : Entry} {C : Counts} {q : List ℤ} {o h a row : List ℕ} {w : PendingList} {c : ℕ}
+    → TurnReady k C q o h a row w c → LoopAt k C q o h a row w c o h a row w c
+loop-starts {k} {C} {q} {o} {h} {a} {row} {w} {c} R = record {
   ready = R;
-  going = going-start isDone (legalizeTurn (length row) k (positionOf q)) (falls (length row) k C (positionOf q)) _ (stateOf o h a row n c)
+  going = going-start isDone (legalizeTurn (length row) k (positionOf q)) (falls (length row) k C (positionOf q)) _ (stateOf o h a row (w .length) c)
       (legalize-start (R .mesh .rows .good) (R .entries)) (omega arith);
   lengths = same-refl;
 }
@@ -54,27 +57,27 @@ unfolding pendingOf
 no-entries row zero z = refl
 no-entries row (suc n) z = absurd (omega arith)
 
-module _ {k : Entry} {C : Counts} {q : List ℤ} {o₀ h₀ a₀ row₀ : List ℕ} {n₀ : ℕ} {c₀ : ℕ} {o h a row : List ℕ} {n : ℕ} {c : ℕ}
-    (I : LoopAt k C q o₀ h₀ a₀ row₀ n₀ c₀ o h a row n c) where
+module _ {k : Entry} {C : Counts} {q : List ℤ} {o₀ h₀ a₀ row₀ : List ℕ} {w₀ : PendingList} {c₀ : ℕ}
+    {o h a row : List ℕ} {w : PendingList} {c : ℕ} (I : LoopAt k C q o₀ h₀ a₀ row₀ w₀ c₀ o h a row w c) where
   abbrev room : ℕ
   room = length row₀
 
   abbrev s₀ : Legalizing
-  s₀ = stateOf o₀ h₀ a₀ row₀ n₀ c₀
+  s₀ = stateOf o₀ h₀ a₀ row₀ (w₀ .length) c₀
 
   abbrev s : Legalizing
-  s = stateOf o h a row n c
+  s = stateOf o h a row (w .length) c
 
   -- the list is empty
-  pub loop-ends : n ≤ 0 → Leaves o h a (record { flips = c; full = false }) (legalize room k C (positionOf q) s₀)
+  pub loop-ends : w .length ≤ 0 → Leaves o h a (record { flips = c; full = false }) (legalize room k C (positionOf q) s₀)
   unfolding legalize
   loop-ends z =
-      subst (Leaves o h a (record { flips = c; full = false })) (going-end isDone (legalizeTurn room k (positionOf q)) (falls room k C (positionOf q)) (I .going) (no-entries row n z))
+      subst (Leaves o h a (record { flips = c; full = false })) (going-end isDone (legalizeTurn room k (positionOf q)) (falls room k C (positionOf q)) (I .going) (no-entries row (w .length) z))
       (record { links = refl; flips = refl; full = refl })
 
-  module _ (z : 0 < n) where
+  module _ (z : 0 < w .length) where
     goes-on : isDone s ≡ false
-    goes-on = ap isEmpty (pending-last row n z)
+    goes-on = ap isEmpty (pending-last row (w .length) z)
 
     turned : Loops room k C q s₀ (legalizeTurn room k (positionOf q) s)
     turned = going-turn isDone (legalizeTurn room k (positionOf q)) (falls room k C (positionOf q)) (I .going) goes-on
@@ -97,17 +100,17 @@ module _ {k : Entry} {C : Counts} {q : List ℤ} {o₀ h₀ a₀ row₀ : List �
 
       -- the loop goes on
       module _ (e : r .full ≡ false) where
-        state : legalizeTurn room k (positionOf q) s ≡ stateOf o′ h′ a′ row′ (r .length) (r .flips)
+        state : legalizeTurn room k (positionOf q) s ≡ stateOf o′ h′ a′ row′ (r .list .length) (r .flips)
         state = λ i. record { links = sym (leaves .links) i; pending = sym (leaves .pending e) i; flips = sym (leaves .flips) i; full = (sym (leaves .full) ∙ e) i }
 
-        pub loop-less : measure C (positionOf q) (stateOf o′ h′ a′ row′ (r .length) (r .flips)) < measure C (positionOf q) s
+        pub loop-less : measure C (positionOf q) (stateOf o′ h′ a′ row′ (r .list .length) (r .flips)) < measure C (positionOf q) s
         loop-less = subst (λ (t : Legalizing). measure C (positionOf q) t < measure C (positionOf q) s) state
             (going-less isDone (legalizeTurn room k (positionOf q)) (falls room k C (positionOf q)) (I .going) goes-on)
 
-        on : Loops room k C q s₀ (stateOf o′ h′ a′ row′ (r .length) (r .flips))
+        on : Loops room k C q s₀ (stateOf o′ h′ a′ row′ (r .list .length) (r .flips))
         on = subst (Loops room k C q s₀) state turned
 
-        pub loop-on : LoopAt k C q o₀ h₀ a₀ row₀ n₀ c₀ o′ h′ a′ row′ (r .length) (r .flips)
+        pub loop-on : LoopAt k C q o₀ h₀ a₀ row₀ w₀ c₀ o′ h′ a′ row′ (r .list) (r .flips)
         loop-on =
             let M = I .ready .mesh in
             record {
@@ -120,6 +123,7 @@ module _ {k : Entry} {C : Counts} {q : List ℤ} {o₀ h₀ a₀ row₀ : List �
                   room = let m = M .room in let p = l .pending in omega arith;
                 };
                 fits = leaves .fits e;
+                set = leaves .set e;
                 entries = on .claim .entries;
               };
               going = on;

@@ -1,45 +1,49 @@
 -- One entry taken from the pending list, in the code's terms. Assumes nothing.
 use mathlib.Core.Bool.{Bool, true, false}
-use mathlib.Core.List.{List, _∷_}
+use mathlib.Core.List.{List, []}
 use mathlib.Core.Path.{_≡_, sym, _∙_, ap}
 use Prim.Native.Nat.{ℕ, _-_}
-use native.Mathlib.Omega.{arith}
 use lib.IntN.{ℤ}
-use lib.ListN.{length, getD}
+use lib.ListN.{getD}
 use Rattle.mesh.specs.Circle.{breaksCircle}
 use Rattle.dcel.specs.Rows.{linksOf, positionOf}
 use Rattle.circle_test.specs.GoodRows.{CircleReady}
+use Rattle.pending.specs.declared.PendingList.{PendingList}
 use Rattle.pending.specs.Pending.{pendingOf}
-use Rattle.pending.specs.PendingLaws.{pending-last, holds}
+use Rattle.pending.specs.PendingLaws.{pending-last}
+use Rattle.pending.specs.Set.{SetOf, LastTaken}
 use Rattle.legalize.specs.declared.Entry.{Entry}
 use Rattle.legalize.specs.Legalize.{entryEdge}
 use Rattle.legalize.specs.LegalizeRows.{PushReady, Pushes, PopReady, Pops}
 
-module _ (k : Entry) (q : List ℤ) (h row : List ℕ) (n x u : ℕ) (R : PopReady k q h row n) (e : pendingOf row n ≡ x ∷ pendingOf row (n - 1)) (v : u ≡ entryEdge k x) where
-  is-last : x ≡ getD row (n - 1) 0
-  is-last = let l = pending-last row n (R .some) in cc
+module _ (k : Entry) (q : List ℤ) (h row row₁ : List ℕ) (s : PendingList) (x : ℕ) (s₁ : PendingList) (u : ℕ)
+    (R : PopReady k q h row s) (P : LastTaken row s row₁ x s₁) (v : u ≡ entryEdge k x) where
+  is-last : x ≡ getD row (s .length - 1) 0
+  is-last = let l = pending-last row (s .length) (R .pending .some) in let e = P .entry in cc
 
   pub pop-circle : CircleReady q h u
   pop-circle = rw (v, is-last) (R .circle)
 
-  pub pop-pushes : PushReady k h x
-  pop-pushes = let c = R .circle in rw is-last (record { small = c .small; there = c .t .here })
+  pub pop-pushes : PushReady k h x × SetOf row₁ s₁
+  pop-pushes = let c = R .circle in (rw is-last (record { small = c .small; there = c .t .here }), P .set)
 
   module _ {b : Bool} (t : (o a : List ℕ) → b ≡ breaksCircle (linksOf o h a) (positionOf q) u) where
-    pub pop-flipped : b ≡ true → {row′ : List ℕ} {m : ℕ} → Pushes k h x row (n - 1) row′ m → Pops k q h row n row′ (record { edge = u; flip = true; length = m })
-    pop-flipped y P =
-        let f = R .fits in
-        record {
-          edge = v ∙ ap (entryEdge k) is-last;
-          flip = λ o a. sym y ∙ t o a ∙ ap (breaksCircle (linksOf o h a) (positionOf q)) (v ∙ ap (entryEdge k) is-last);
-          pending = λ o a. rw (← is-last) (P o a (pendingOf row (n - 1)) (holds row (n - 1) (omega arith)));
-        }
+    abbrev tested : (o a : List ℕ) {c : Bool} → b ≡ c → c ≡ breaksCircle (linksOf o h a) (positionOf q) (entryEdge k (getD row (s .length - 1) 0))
+    tested o a y = sym y ∙ t o a ∙ ap (breaksCircle (linksOf o h a) (positionOf q)) (v ∙ ap (entryEdge k) is-last)
 
-    pub pop-kept : b ≡ false → Pops k q h row n row (record { edge = u; flip = false; length = n - 1 })
-    pop-kept y =
-        let f = R .fits in
-        record {
-          edge = v ∙ ap (entryEdge k) is-last;
-          flip = λ o a. sym y ∙ t o a ∙ ap (breaksCircle (linksOf o h a) (positionOf q)) (v ∙ ap (entryEdge k) is-last);
-          pending = λ o a. holds row (n - 1) (omega arith);
-        }
+    pub pop-flipped : b ≡ true → {row′ : List ℕ} {s′ : PendingList} → Pushes k h x row₁ s₁ row′ s′
+        → Pops k q h row s row′ (record { edge = u; flip = true; list = s′ })
+    pop-flipped y B = record {
+      edge = v ∙ ap (entryEdge k) is-last;
+      flip = λ o a. tested o a y;
+      pending = λ o a. rw (← is-last) (B o a .list (pendingOf row (s .length - 1)) (P .rest));
+      set = B [] [] .set;
+    }
+
+    pub pop-kept : b ≡ false → Pops k q h row s row₁ (record { edge = u; flip = false; list = s₁ })
+    pop-kept y = record {
+      edge = v ∙ ap (entryEdge k) is-last;
+      flip = λ o a. tested o a y;
+      pending = λ o a. P .rest;
+      set = P .set;
+    }

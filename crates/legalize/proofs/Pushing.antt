@@ -5,32 +5,38 @@ use Prim.Native.Nat.{ℕ, _+_, _*_, _/_, _<_, _^_}
 use native.Mathlib.Omega.{arith}
 use Rattle.dcel.specs.declared.handles.HalfEdgeEntry.{HalfEdgeEntry}
 use Rattle.dcel.specs.Rows.{halvesOf, linksOf, There, EntryOf}
-use Rattle.pending.specs.Pending.{pushIfNotContained, Holds}
+use Rattle.pending.specs.declared.PendingList.{PendingList}
+use Rattle.pending.specs.Pending.{pushIfNotContained}
+use Rattle.pending.specs.Set.{Becomes}
 use Rattle.sums.specs.Half.{rev}
 use Rattle.legalize.specs.declared.Entry.{Entry}
 use Rattle.legalize.specs.declared.Entry.the-variants.{HalfEdge, Edge}
 use Rattle.legalize.specs.Legalize.{entryEdge, pushed}
 use Rattle.legalize.specs.LegalizeRows.{PushReady, Pushes}
 
--- what one push does
-abbrev pub Push : ℕ → List ℕ → ℕ → List ℕ → ℕ → Type 0
-Push x row n row′ n′ = (l : List ℕ) → Holds row n l → Holds row′ n′ (x ∷ l)
-
-abbrev pub PushIf : ℕ → List ℕ → ℕ → List ℕ → ℕ → Type 0
-PushIf x row n row′ n′ = (l : List ℕ) → Holds row n l → Holds row′ n′ (pushIfNotContained x l)
-
-pub half-edges-pushed : (h : List ℕ) (e t : ℕ) (w : HalfEdgeEntry) (row : List ℕ) (n : ℕ) (row₁ : List ℕ) (n₁ : ℕ) (row₂ : List ℕ) (n₂ : ℕ) → t ≡ rev e → EntryOf (halvesOf h) t w
-    → Push (w .next) row n row₁ n₁ → Push (w .prev) row₁ n₁ row₂ n₂ → Pushes HalfEdge h e row n row₂ n₂
+pub half-edges-pushed : (h : List ℕ) (e t : ℕ) (w : HalfEdgeEntry)
+    (row : List ℕ) (s : PendingList) (row₁ : List ℕ) (s₁ : PendingList) (row₂ : List ℕ) (s₂ : PendingList)
+    → t ≡ rev e → EntryOf (halvesOf h) t w
+    → Becomes row s row₁ s₁ (λ l. w .next ∷ l) → Becomes row₁ s₁ row₂ s₂ (λ l. w .prev ∷ l)
+    → Pushes HalfEdge h e row s row₂ s₂
 unfolding pushed linksOf
-half-edges-pushed h e t w row n row₁ n₁ row₂ n₂ q E a b = λ o f l H. rw (← q, ← E .next, ← E .prev) (b (w .next ∷ l) (a l H))
+half-edges-pushed h e t w row s row₁ s₁ row₂ s₂ q E a b = λ o f. record {
+  list = λ l H. rw (← q, ← E .next, ← E .prev) (b .list (w .next ∷ l) (a .list l H));
+  set = b .set;
+}
 
-pub edges-pushed : (h : List ℕ) (u : ℕ) (w v : HalfEdgeEntry) (row : List ℕ) (n : ℕ) (row₁ : List ℕ) (n₁ : ℕ) (row₂ : List ℕ) (n₂ : ℕ) (row₃ : List ℕ) (n₃ : ℕ) (row₄ : List ℕ) (n₄ : ℕ)
-    → EntryOf (halvesOf h) (2 * u) w → EntryOf (halvesOf h) (2 * u + 1) v
-    → PushIf (w .next / 2) row n row₁ n₁ → PushIf (w .prev / 2) row₁ n₁ row₂ n₂ → PushIf (v .next / 2) row₂ n₂ row₃ n₃ → PushIf (v .prev / 2) row₃ n₃ row₄ n₄
-    → Pushes Edge h u row n row₄ n₄
-unfolding pushed linksOf
-edges-pushed h u w v row n row₁ n₁ row₂ n₂ row₃ n₃ row₄ n₄ E F a b c d = λ o f l H.
-    rw (← E .next, ← E .prev, ← F .next, ← F .prev) (d _ (c _ (b _ (a l H))))
+module _ {row row₀ row₁ row₂ row₃ row₄ : List ℕ} {s s₀ s₁ s₂ s₃ s₄ : PendingList} where
+  pub edges-pushed : (h : List ℕ) (u : ℕ) (w v : HalfEdgeEntry)
+      → EntryOf (halvesOf h) (2 * u) w → EntryOf (halvesOf h) (2 * u + 1) v
+      → Becomes row s row₀ s₀ (λ l. l)
+      → Becomes row₀ s₀ row₁ s₁ (pushIfNotContained (w .next / 2)) → Becomes row₁ s₁ row₂ s₂ (pushIfNotContained (w .prev / 2))
+      → Becomes row₂ s₂ row₃ s₃ (pushIfNotContained (v .next / 2)) → Becomes row₃ s₃ row₄ s₄ (pushIfNotContained (v .prev / 2))
+      → Pushes Edge h u row s row₄ s₄
+  unfolding pushed linksOf
+  edges-pushed h u w v E F z a b c d = λ o f. record {
+    list = λ l H. rw (← E .next, ← E .prev, ← F .next, ← F .prev) (d .list _ (c .list _ (b .list _ (a .list _ (z .list l H)))));
+    set = d .set;
+  }
 
 -- what both ask of the row of half-edges
 module _ (k : Entry) (h : List ℕ) (x : ℕ) where
@@ -42,5 +48,6 @@ module _ (k : Entry) (h : List ℕ) (x : ℕ) where
   unfolding entryEdge
   edges-ready e R = let R′ = subst (λ (k : Entry). PushReady k h x) e R in (R′ .small, R′ .there)
 
-  pub pushes-of : {k′ : Entry} → k ≡ k′ → {row : List ℕ} {n : ℕ} {row′ : List ℕ} {n′ : ℕ} → Pushes k′ h x row n row′ n′ → Pushes k h x row n row′ n′
-  pushes-of e P = λ o a l H. rw e (P o a l H)
+  pub pushes-of : {k′ : Entry} → k ≡ k′ → {row : List ℕ} {s : PendingList} {row′ : List ℕ} {s′ : PendingList}
+      → Pushes k′ h x row s row′ s′ → Pushes k h x row s row′ s′
+  pushes-of e P = λ o a. rw e (P o a)

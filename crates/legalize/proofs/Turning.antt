@@ -15,6 +15,7 @@ use Rattle.dcel.specs.Rows.{linksOf, positionOf}
 use Rattle.dcel_operations.specs.Flip.{FlipReady}
 use Rattle.dcel_operations.specs.Ready.{flip-ready}
 use Rattle.circle_test.specs.GoodRows.{held, circle-ready}
+use Rattle.pending.specs.declared.PendingList.{PendingList}
 use Rattle.pending.specs.Pending.{pendingOf, Holds}
 use Rattle.pending.specs.PendingLaws.{pending-length, pending-last, holds-length, holds-fits}
 use Rattle.legalize.specs.declared.Entry.{Entry}
@@ -23,58 +24,62 @@ use Rattle.legalize.specs.Legalize.{Legalizing, entryEdge, pushed, legal
 use Rattle.legalize.specs.Turns.{EntriesIn, turn-kept, turn-flipped, turn-refused}
 use Rattle.legalize.specs.LegalizeRows.{PopReady, Pops, TurnReady, stateOf, TurnLeaves}
 
-module _ {k : Entry} {C : Counts} {q : List ℤ} {o h a row : List ℕ} {n : ℕ} {flips : ℕ} (R : TurnReady k C q o h a row n flips) (z : 0 < n) where
+module _ {k : Entry} {C : Counts} {q : List ℤ} {o h a row : List ℕ} {w : PendingList} {flips : ℕ}
+    (R : TurnReady k C q o h a row w flips) (z : 0 < w .length) where
   -- the last entry, and the rest
   abbrev x : ℕ
-  x = getD row (n - 1) 0
+  x = getD row (w .length - 1) 0
 
   abbrev l : List ℕ
-  l = pendingOf row (n - 1)
+  l = pendingOf row (w .length - 1)
 
   abbrev s : Legalizing
-  s = stateOf o h a row n flips
+  s = stateOf o h a row (w .length) flips
 
   last : s .pending ≡ x ∷ l
-  last = pending-last row n z
+  last = pending-last row (w .length) z
 
   in-use : entryEdge k x < C .edges
   in-use = subst (EntriesIn C k) last (R .entries) .0
 
-  pub pop-ready : PopReady k q h row n
-  pop-ready = record { some = z; fits = R .fits; circle = circle-ready (R .mesh .rows) in-use }
+  pub pop-ready : PopReady k q h row w
+  pop-ready = record {
+    pending = record { some = z; fits = R .fits; set = R .set };
+    circle = circle-ready (R .mesh .rows) in-use;
+  }
 
   pub count-fits : flips + 1 < 2 ^ 64
   count-fits = within-room (R .mesh .bound) (R .mesh .rows .good .wf) (R .mesh .few)
 
-  module _ {row′ : List ℕ} {r : Popped} (P : Pops k q h row n row′ r) (same : length row′ ≡ length row) where
+  module _ {row′ : List ℕ} {r : Popped} (P : Pops k q h row w row′ r) (same : length row′ ≡ length row) where
     tested : {b : Bool} → r .flip ≡ b → breaksCircle (s .links) (positionOf q) (entryEdge k x) ≡ b
     tested e = sym (P .flip o a) ∙ e
 
-    not-pushed : r .flip ≡ false → Holds row′ (r .length) l
-    not-pushed e = subst (λ (b : Bool). Holds row′ (r .length) (cond b (pushed k (s .links) x l) l)) e (P .pending o a)
+    not-pushed : r .flip ≡ false → Holds row′ (r .list .length) l
+    not-pushed e = subst (λ (b : Bool). Holds row′ (r .list .length) (cond b (pushed k (s .links) x l) l)) e (P .pending o a)
 
-    pushes : r .flip ≡ true → Holds row′ (r .length) (pushed k (s .links) x l)
-    pushes e = subst (λ (b : Bool). Holds row′ (r .length) (cond b (pushed k (s .links) x l) l)) e (P .pending o a)
+    pushes : r .flip ≡ true → Holds row′ (r .list .length) (pushed k (s .links) x l)
+    pushes e = subst (λ (b : Bool). Holds row′ (r .list .length) (cond b (pushed k (s .links) x l) l)) e (P .pending o a)
 
-    pub turn-keeps : r .flip ≡ false → TurnLeaves o h a row′ (record { length = r .length; flips = flips; full = false }) (legalizeTurn (length row) k (positionOf q) s)
+    pub turn-keeps : r .flip ≡ false → TurnLeaves o h a row′ (record { list = r .list; flips = flips; full = false }) (legalizeTurn (length row) k (positionOf q) s)
     turn-keeps e =
         let H = not-pushed e in
-        let m = pending-length row (n - 1) in
+        let m = pending-length row (w .length - 1) in
         let f = R .fits in
         rw (turn-kept (length row) k (positionOf q) s last (tested e))
-        (record { links = refl; flips = refl; full = refl; fits = λ _. holds-fits H (omega arith); pending = λ _. H .fits (holds-fits H (omega arith)) })
+        (record { links = refl; flips = refl; full = refl; fits = λ _. holds-fits H (omega arith); set = λ _. P .set; pending = λ _. H .fits (holds-fits H (omega arith)) })
 
-    pub turn-refuses : r .flip ≡ true → length row′ < r .length → TurnLeaves o h a row′ (record { length = r .length; flips = flips; full = true }) (legalizeTurn (length row) k (positionOf q) s)
+    pub turn-refuses : r .flip ≡ true → length row′ < r .list .length → TurnLeaves o h a row′ (record { list = r .list; flips = flips; full = true }) (legalizeTurn (length row) k (positionOf q) s)
     turn-refuses e f =
         let m = pushes e .over f in
         rw (turn-refused (length row) k (positionOf q) s last (tested e) (rw same at m))
-        (record { links = refl; flips = refl; full = refl; fits = λ t. absurd (false≢true (sym t)); pending = λ t. absurd (false≢true (sym t)) })
+        (record { links = refl; flips = refl; full = refl; fits = λ t. absurd (false≢true (sym t)); set = λ t. absurd (false≢true (sym t)); pending = λ t. absurd (false≢true (sym t)) })
 
     pub turn-flip-ready : r .flip ≡ true → FlipReady o h a (r .edge)
     turn-flip-ready e = rw (P .edge) (flip-ready (held (R .mesh .rows)) in-use)
 
-    pub turn-flips : r .flip ≡ true → r .length ≤ length row′ → {o′ h′ a′ : List ℕ} → linksOf o′ h′ a′ ≡ flipCw (linksOf o h a) (r .edge)
-        → TurnLeaves o′ h′ a′ row′ (record { length = r .length; flips = flips + 1; full = false }) (legalizeTurn (length row) k (positionOf q) s)
+    pub turn-flips : r .flip ≡ true → r .list .length ≤ length row′ → {o′ h′ a′ : List ℕ} → linksOf o′ h′ a′ ≡ flipCw (linksOf o h a) (r .edge)
+        → TurnLeaves o′ h′ a′ row′ (record { list = r .list; flips = flips + 1; full = false }) (legalizeTurn (length row) k (positionOf q) s)
     turn-flips e f links =
         let H = pushes e in
         let m = holds-length H f in
@@ -84,5 +89,6 @@ module _ {k : Entry} {C : Counts} {q : List ℤ} {o h a row : List ℕ} {n : ℕ
           flips = add-one flips;
           full = refl;
           fits = λ _. f;
+          set = λ _. P .set;
           pending = λ _. H .fits f;
         })

@@ -10,7 +10,9 @@ use Rattle.mesh.specs.declared.Counts.{Counts}
 use Rattle.mesh.specs.Circle.{breaksCircle}
 use Rattle.dcel.specs.Rows.{linksOf, positionOf, There}
 use Rattle.circle_test.specs.GoodRows.{GoodRows, CircleReady}
+use Rattle.pending.specs.declared.PendingList.{PendingList}
 use Rattle.pending.specs.Pending.{pendingOf, Holds}
+use Rattle.pending.specs.Set.{SetOf, Becomes, ToPop}
 use Rattle.legalize.specs.declared.Entry.{Entry}
 use Rattle.legalize.specs.declared.Popped.{Popped}
 use Rattle.legalize.specs.declared.Turned.{Turned}
@@ -25,22 +27,22 @@ pub record PushReady (k : Entry) (h : List ℕ) (x : ℕ) : Type 0 where
   pub there : There h (2 * entryEdge k x + 1)
 
 -- the pending row before and after the pushes of a flip, whatever the rows of out edges and faces, which the pushes do not read
-abbrev pub Pushes : Entry → List ℕ → ℕ → List ℕ → ℕ → List ℕ → ℕ → Type 0
-Pushes k h x row n row′ n′ = (o a l : List ℕ) → Holds row n l → Holds row′ n′ (pushed k (linksOf o h a) x l)
+abbrev pub Pushes : Entry → List ℕ → ℕ → List ℕ → PendingList → List ℕ → PendingList → Type 0
+Pushes k h x row s row′ s′ = (o a : List ℕ) → Becomes row s row′ s′ (pushed k (linksOf o h a) x)
 
 -- ---- one entry
-pub record PopReady (k : Entry) (q : List ℤ) (h row : List ℕ) (n : ℕ) : Type 0 where
-  pub some : 0 < n
-  pub fits : n ≤ length row
-  pub circle : CircleReady q h (entryEdge k (getD row (n - 1) 0))
+pub record PopReady (k : Entry) (q : List ℤ) (h row : List ℕ) (s : PendingList) : Type 0 where
+  pub pending : ToPop row s
+  pub circle : CircleReady q h (entryEdge k (getD row (s .length - 1) 0))
 
 -- the last entry is taken, its edge tested, and what its flip pushes is pushed
-pub record Pops (k : Entry) (q : List ℤ) (h row : List ℕ) (n : ℕ) (row′ : List ℕ) (r : Popped) : Type 0 where
-  pub edge : r .edge ≡ entryEdge k (getD row (n - 1) 0)
-  pub flip : (o a : List ℕ) → r .flip ≡ breaksCircle (linksOf o h a) (positionOf q) (entryEdge k (getD row (n - 1) 0))
+pub record Pops (k : Entry) (q : List ℤ) (h row : List ℕ) (s : PendingList) (row′ : List ℕ) (r : Popped) : Type 0 where
+  pub edge : r .edge ≡ entryEdge k (getD row (s .length - 1) 0)
+  pub flip : (o a : List ℕ) → r .flip ≡ breaksCircle (linksOf o h a) (positionOf q) (entryEdge k (getD row (s .length - 1) 0))
   pub pending : (o a : List ℕ)
-      → Holds row′ (r .length) (cond (r .flip)
-      (pushed k (linksOf o h a) (getD row (n - 1) 0) (pendingOf row (n - 1))) (pendingOf row (n - 1)))
+      → Holds row′ (r .list .length) (cond (r .flip)
+      (pushed k (linksOf o h a) (getD row (s .length - 1) 0) (pendingOf row (s .length - 1))) (pendingOf row (s .length - 1)))
+  pub set : SetOf row′ (r .list)
 
 -- ---- the loop
 -- a good mesh with a count of flips that can go on
@@ -52,10 +54,11 @@ pub record LegalizeReady (C : Counts) (q : List ℤ) (o h a row : List ℕ) (fli
   pub room : 8 ≤ length row
 
 -- and the entries that are pending
-pub record TurnReady (k : Entry) (C : Counts) (q : List ℤ) (o h a row : List ℕ) (n : ℕ) (flips : ℕ) : Type 0 where
+pub record TurnReady (k : Entry) (C : Counts) (q : List ℤ) (o h a row : List ℕ) (s : PendingList) (flips : ℕ) : Type 0 where
   pub mesh : LegalizeReady C q o h a row flips
-  pub fits : n ≤ length row
-  pub entries : EntriesIn C k (pendingOf row n)
+  pub fits : s .length ≤ length row
+  pub set : SetOf row s
+  pub entries : EntriesIn C k (pendingOf row (s .length))
 
 -- the state that the rows, the list's length and the count hold
 abbrev pub stateOf : List ℕ → List ℕ → List ℕ → List ℕ → ℕ → ℕ → Legalizing
@@ -66,8 +69,9 @@ pub record TurnLeaves (o h a row : List ℕ) (r : Turned) (s : Legalizing) : Typ
   pub links : linksOf o h a ≡ s .links
   pub flips : r .flips ≡ s .flips
   pub full : r .full ≡ s .full
-  pub fits : r .full ≡ false → r .length ≤ length row
-  pub pending : r .full ≡ false → pendingOf row (r .length) ≡ s .pending
+  pub fits : r .full ≡ false → r .list .length ≤ length row
+  pub set : r .full ≡ false → SetOf row (r .list)
+  pub pending : r .full ≡ false → pendingOf row (r .list .length) ≡ s .pending
 
 -- what a call leaves
 pub record Leaves (o h a : List ℕ) (r : Legalized) (s : Legalizing) : Type 0 where

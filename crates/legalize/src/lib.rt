@@ -1,18 +1,20 @@
 // `legalize_edge` and `legalize_edges_after_removal` of triangulation_ext.rs, with the pending list in a row that the
 // caller lends. Both are one loop, which differs in what an entry of the list is and in what a flip pushes. What they
 // leave is `legalizeEdge` and `legalizeEdgesAfterRemoval` of specs/Legalize.antt; that they end, and what that means
-// for the mesh, is in specs/LegalizeLaws.antt. `counts` says which mesh the rows hold: the contracts speak of it, the
-// code needs it not.
+// for the mesh, is in specs/LegalizeLaws.antt. `counts` says which mesh the rows hold; the code needs the number of its edges alone, for a
+// long list's set of them.
 ghost use mathlib.Core.Path.{_≡_};
 ghost use Prim.Native.Nat.{_+_, _*_, _^_, _<_};
 ghost use lib.ListN.{length};
 ghost use Rattle.mesh.specs.Mesh.{In};
 ghost use Rattle.dcel.specs.Rows.{linksOf, positionOf, There};
+ghost use Rattle.pending.specs.Set.{SetOf};
 ghost use Rattle.sums.specs.Half.{rev};
 ghost use Rattle.legalize.specs.Legalize.{entryEdge, legalizeTurn, legalize, legalizeEdge, legalizeEdgesAfterRemoval};
 ghost use Rattle.legalize.specs.LegalizeRows.{PushReady, Pushes, PopReady, Pops, LegalizeReady, TurnReady, stateOf, TurnLeaves, Leaves};
 ghost use Rattle.legalize.specs.declared.Entry.the-variants.{HalfEdge, Edge};
 use mesh::Counts;
+use pending::PendingList;
 
 // What an entry of the pending list is: a half-edge in `legalize_edge`, an edge in `legalize_edges_after_removal`.
 pub enum Entry {
@@ -26,16 +28,16 @@ pub struct Legalized {
     pub full: bool,
 }
 
-// An entry that was taken from the pending list: its edge, whether that is to be flipped, and the list's length after the pushes.
+// An entry that was taken from the pending list: its edge, whether that is to be flipped, and the list after the pushes.
 pub struct Popped {
     pub edge: u32,
     pub flip: bool,
-    pub length: usize,
+    pub list: PendingList,
 }
 
 // What a turn leaves of the pending list and of the count.
 pub struct Turned {
-    pub length: usize,
+    pub list: PendingList,
     pub flips: u64,
     pub full: bool,
 }
@@ -50,58 +52,81 @@ fn entry_edge(entry: Entry, x: u32) -> u32
 }
 
 // What `legalize_edge` pushes at the flip of the half-edge e.
-fn push_half_edges(halves: &[u32], pending: &mut [u32], n: usize, e: u32) -> usize
+fn push_half_edges(halves: &[u32], pending: &mut [u32], list: PendingList, e: u32) -> PendingList
     requires { ⌜ There (now halves) (rev e) ⌝ }
-    ensures { λ r. ⌜ Pushes HalfEdge (now (halves .entry)) e (now (pending .entry)) n (now (pending .exit)) r ⌝ }
+    ensures { λ r. ⌜ Pushes HalfEdge (now (halves .entry)) e (now (pending .entry)) list (now (pending .exit)) r ⌝ }
 {
     let t = dcel::rev(e);
     let rev = dcel::half_edge(halves, t);
-    let m = pending::push(pending, n, rev.next);
-    pending::push(pending, m, rev.prev)
+    let more = pending::push(pending, list, rev.next);
+    pending::push(pending, more, rev.prev)
 }
 
-// What `legalize_edges_after_removal` pushes at the flip of the edge u.
-fn push_edges(halves: &[u32], pending: &mut [u32], n: usize, u: u32) -> usize
-    requires { ⌜ (2 * u + 1 < 2 ^ 32) × There (now halves) (2 * u + 1) ⌝ }
-    ensures { λ r. ⌜ Pushes Edge (now (halves .entry)) u (now (pending .entry)) n (now (pending .exit)) r ⌝ }
+// What `legalize_edges_after_removal` pushes at the flip of the edge u. The mesh has so many edges.
+fn push_edges(
+    halves: &[u32],
+    pending: &mut [u32],
+    list: PendingList,
+    u: u32,
+    edges: u32,
+) -> PendingList
+    requires { ⌜ (2 * u + 1 < 2 ^ 32) × There (now halves) (2 * u + 1) × SetOf (now pending) list ⌝ }
+    ensures { λ r. ⌜ Pushes Edge (now (halves .entry)) u (now (pending .entry)) list (now (pending .exit)) r ⌝ }
 {
     let edge = dcel::half_edge(halves, 2 * u);
     let rev = dcel::half_edge(halves, 2 * u + 1);
-    let n1 = pending::push_if_not_contained(pending, n, edge.next / 2);
-    let n2 = pending::push_if_not_contained(pending, n1, edge.prev / 2);
-    let n3 = pending::push_if_not_contained(pending, n2, rev.next / 2);
-    pending::push_if_not_contained(pending, n3, rev.prev / 2)
+    let l0 = pending::prepare(pending, list, edges);
+    let l1 = pending::push_if_not_contained(pending, l0, edge.next / 2);
+    let l2 = pending::push_if_not_contained(pending, l1, edge.prev / 2);
+    let l3 = pending::push_if_not_contained(pending, l2, rev.next / 2);
+    pending::push_if_not_contained(pending, l3, rev.prev / 2)
 }
 
-fn push_neighbours(halves: &[u32], pending: &mut [u32], n: usize, x: u32, entry: Entry) -> usize
-    requires { ⌜ PushReady entry (now halves) x ⌝ }
-    ensures { λ r. ⌜ Pushes entry (now (halves .entry)) x (now (pending .entry)) n (now (pending .exit)) r ⌝ }
+fn push_neighbours(
+    halves: &[u32],
+    pending: &mut [u32],
+    list: PendingList,
+    x: u32,
+    entry: Entry,
+    edges: u32,
+) -> PendingList
+    requires { ⌜ PushReady entry (now halves) x × SetOf (now pending) list ⌝ }
+    ensures { λ r. ⌜ Pushes entry (now (halves .entry)) x (now (pending .entry)) list (now (pending .exit)) r ⌝ }
 {
     match entry {
-        Entry::HalfEdge => push_half_edges(halves, pending, n, x),
-        Entry::Edge => push_edges(halves, pending, n, x),
+        Entry::HalfEdge => push_half_edges(halves, pending, list, x),
+        Entry::Edge => push_edges(halves, pending, list, x, edges),
     }
 }
 
 // Takes the last entry and tests its edge. The pushes come before the flip, which changes the links that they read.
-fn pop(positions: &[i32], halves: &[u32], pending: &mut [u32], n: usize, entry: Entry) -> Popped
-    requires { ⌜ PopReady entry (now positions) (now halves) (now pending) n ⌝ }
-    ensures { λ r. ⌜ Pops entry (now (positions .entry)) (now (halves .entry)) (now (pending .entry)) n (now (pending .exit)) r ⌝ }
+fn pop(
+    positions: &[i32],
+    halves: &[u32],
+    pending: &mut [u32],
+    list: PendingList,
+    entry: Entry,
+    edges: u32,
+) -> Popped
+    requires { ⌜ PopReady entry (now positions) (now halves) (now pending) list ⌝ }
+    ensures { λ r. ⌜ Pops entry (now (positions .entry)) (now (halves .entry)) (now (pending .entry)) list (now (pending .exit)) r ⌝ }
 {
-    let x = pending::last(pending, n);
+    let taken = pending::pop(pending, list);
+    let x = taken.entry;
+    let rest = taken.list;
     let u = entry_edge(entry, x);
     if circle_test::should_flip(positions, halves, u) {
-        let m = push_neighbours(halves, pending, n - 1, x, entry);
+        let pushed = push_neighbours(halves, pending, rest, x, entry, edges);
         return Popped {
             edge: u,
             flip: true,
-            length: m,
+            list: pushed,
         };
     }
     Popped {
         edge: u,
         flip: false,
-        length: n - 1,
+        list: rest,
     }
 }
 
@@ -114,26 +139,28 @@ fn turn(
     faces: &mut [u32],
     pending: &mut [u32],
     counts: Counts,
-    n: usize,
+    list: PendingList,
     flips: u64,
     entry: Entry,
 ) -> Turned
-    requires { ⌜ TurnReady entry counts (now positions) (now outs) (now halves) (now faces) (now pending) n flips × (0 < n) ⌝ }
+    requires { ⌜ TurnReady entry counts (now positions) (now outs) (now halves) (now faces) (now pending) list flips
+        × (0 < list .length) ⌝ }
     ensures { λ r. ⌜ TurnLeaves (now (outs .exit)) (now (halves .exit)) (now (faces .exit)) (now (pending .exit)) r
         (legalizeTurn (length (now (pending .entry))) entry (positionOf (now (positions .entry)))
-        (stateOf (now (outs .entry)) (now (halves .entry)) (now (faces .entry)) (now (pending .entry)) n flips)) ⌝ }
+        (stateOf (now (outs .entry)) (now (halves .entry)) (now (faces .entry)) (now (pending .entry)) (list .length) flips)) ⌝ }
 {
-    let popped = pop(positions, halves, pending, n, entry);
+    let popped = pop(positions, halves, pending, list, entry, counts.edges);
+    let left = popped.list;
     if !popped.flip {
         return Turned {
-            length: popped.length,
+            list: left,
             flips: flips,
             full: false,
         };
     }
-    if popped.length > pending.len() {
+    if left.length > pending.len() {
         return Turned {
-            length: popped.length,
+            list: left,
             flips: flips,
             full: true,
         };
@@ -141,13 +168,13 @@ fn turn(
     dcel_operations::flip_cw(outs, halves, faces, popped.edge);
     let more = flips + 1;
     Turned {
-        length: popped.length,
+        list: left,
         flips: more,
         full: false,
     }
 }
 
-// Turn after turn, until the pending list of n entries is empty or a flip is refused.
+// Turn after turn, until the pending list is empty or a flip is refused.
 fn legalize_pending(
     positions: &[i32],
     outs: &mut [u32],
@@ -155,18 +182,18 @@ fn legalize_pending(
     faces: &mut [u32],
     pending: &mut [u32],
     counts: Counts,
-    n: usize,
+    list: PendingList,
     flips: u64,
     entry: Entry,
 ) -> Legalized
-    requires { ⌜ TurnReady entry counts (now positions) (now outs) (now halves) (now faces) (now pending) n flips ⌝ }
+    requires { ⌜ TurnReady entry counts (now positions) (now outs) (now halves) (now faces) (now pending) list flips ⌝ }
     ensures { λ r. ⌜ Leaves (now (outs .exit)) (now (halves .exit)) (now (faces .exit)) r
         (legalize (length (now (pending .entry))) entry counts (positionOf (now (positions .entry)))
-        (stateOf (now (outs .entry)) (now (halves .entry)) (now (faces .entry)) (now (pending .entry)) n flips)) ⌝ }
+        (stateOf (now (outs .entry)) (now (halves .entry)) (now (faces .entry)) (now (pending .entry)) (list .length) flips)) ⌝ }
 {
-    let mut left = n;
+    let mut left = list;
     let mut made = flips;
-    while left > 0 {
+    while left.length > 0 {
         let t = turn(
             positions,
             outs,
@@ -184,7 +211,8 @@ fn legalize_pending(
                 full: true,
             };
         }
-        left = t.length;
+        let next = t.list;
+        left = next;
         made = t.flips;
     }
     Legalized {
@@ -209,7 +237,9 @@ pub fn legalize_edge(
         (legalizeEdge (length (now (pending .entry))) counts (positionOf (now (positions .entry)))
         (linksOf (now (outs .entry)) (now (halves .entry)) (now (faces .entry))) flips e) ⌝ }
 {
-    let n = pending::push(pending, 0, e);
+    // half-edges are pushed whether they are there or not: no set is wanted
+    let none = pending::empty_list(0);
+    let list = pending::push(pending, none, e);
     legalize_pending(
         positions,
         outs,
@@ -217,7 +247,7 @@ pub fn legalize_edge(
         faces,
         pending,
         counts,
-        n,
+        list,
         flips,
         Entry::HalfEdge,
     )
@@ -242,8 +272,9 @@ pub fn legalize_edges_after_removal(
         (legalizeEdgesAfterRemoval (length (now (pending .entry))) counts (positionOf (now (positions .entry)))
         (linksOf (now (outs .entry)) (now (halves .entry)) (now (faces .entry))) flips first second) ⌝ }
 {
-    let n = pending::push(pending, 0, first);
-    let m = pending::push(pending, n, second);
+    let none = pending::empty_list(counts.edges);
+    let one = pending::push(pending, none, first);
+    let list = pending::push(pending, one, second);
     legalize_pending(
         positions,
         outs,
@@ -251,7 +282,7 @@ pub fn legalize_edges_after_removal(
         faces,
         pending,
         counts,
-        m,
+        list,
         flips,
         Entry::Edge,
     )

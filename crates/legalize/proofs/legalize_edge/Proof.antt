@@ -9,26 +9,28 @@ use borrow.Author.Needs.{needs}
 use Rattle.legalize.proofs.legalize_edge.Statement.{statement}
 use Rattle.legalize.proofs.legalize_edge.Tie as tie
 
+empty-list-requires : tie.Need-empty-list-requires
+empty-list-requires c κs = search needs
+
 push-requires : tie.Need-push-requires
 push-requires c κs = search needs
 
 legalize-pending-requires : tie.Need-legalize-pending-requires
 legalize-pending-requires c κs =
-    let s = c .before .before .before .before .before .before .before .before .before .before .before .before in
+    let s = c .before .before .before .before .before .before .before .before .before .before .before .before .before in
     let p = c .before .before .before .before .before .before .push in
-    start-ready HalfEdge (s .pre .0) (p .ensures [] (empty _)) (p .kept .0) (omega arith) (half-edge-in (s .args .counts) _ (s .pre .1))
+    let z = c .before .before .before .before .before .before .before .before .empty-list in
+    start-ready HalfEdge (s .pre .0) (p .result) (p .ensures .list [] (empty _ (z .ensures .0))) (p .ensures .set) (p .kept .0) (omega arith)
+    (half-edge-in (s .args .counts) _ (s .pre .1))
 
 same-length : tie.Need-same-length
-same-length c =
-    c .before .before .before .before .before .before .before .before .legalize-pending .kept .1 .0
+same-length c = c .before .before .before .before .before .before .before .before .legalize-pending .kept .1 .0
 
 same-length-2 : tie.Need-same-length-2
-same-length-2 c =
-    c .before .before .before .before .before .before .before .before .legalize-pending .kept .1 .1 .0
+same-length-2 c = c .before .before .before .before .before .before .before .before .legalize-pending .kept .1 .1 .0
 
 same-length-3 : tie.Need-same-length-3
-same-length-3 c =
-    c .before .before .before .before .before .before .before .before .legalize-pending .kept .1 .1 .1 .0
+same-length-3 c = c .before .before .before .before .before .before .before .before .legalize-pending .kept .1 .1 .1 .0
 
 same-length-4 : tie.Need-same-length-4
 same-length-4 c =
@@ -36,14 +38,17 @@ same-length-4 c =
 
 returns : tie.Need-returns
 returns c =
-    let s = c .before .before .before .before .before .before .before .before .before .before .before .before .before .before .before .before .before .before .before .before .before in
+    let s = c .before .before .before .before .before .before .before .before .before .before .before .before .before .before .before .before .before .before .before .before .before .before in
     let p = c .before .before .before .before .before .before .before .before .before .before .before .before .before .before .before .push in
-    start-leaves HalfEdge (s .pre .0) (p .ensures [] (empty _)) (p .kept .0) (omega arith) (half-edge-in (s .args .counts) _ (s .pre .1)) (c .before .before .before .before .before .before .before .before .legalize-pending .ensures)
+    let z = c .before .before .before .before .before .before .before .before .before .before .before .before .before .before .before .before .before .empty-list in
+    start-leaves HalfEdge (s .pre .0) (p .result) (p .ensures .list [] (empty _ (z .ensures .0))) (p .ensures .set) (p .kept .0) (omega arith)
+    (half-edge-in (s .args .counts) _ (s .pre .1)) (c .before .before .before .before .before .before .before .before .legalize-pending .ensures)
 
 pub legalize-edge-spec : {M : Type 1} → statement M
 legalize-edge-spec =
     tie.close
     (tie.spec
+    empty-list-requires
     push-requires
     legalize-pending-requires
     same-length

@@ -8,13 +8,15 @@ enum-told : tie.Need-enum-told
 enum-told c = search needs
 
 push-half-edges-requires : tie.Need-push-half-edges-requires
-push-half-edges-requires c κs = half-edges-ready _ _ _ (c .before .enum-told .given .1) (c .before .before .before .before .before .pre)
+push-half-edges-requires c κs = half-edges-ready _ _ _ (c .before .enum-told .given .1) (c .before .before .before .before .before .pre .0)
 
 enum-told-2 : tie.Need-enum-told-2
 enum-told-2 c = search needs
 
 push-edges-requires : tie.Need-push-edges-requires
-push-edges-requires c κs = edges-ready _ _ _ (c .before .enum-told2 .given .1) (c .before .before .before .before .before .pre)
+push-edges-requires c κs =
+    let s = c .before .before .before .before .before in
+    let r = edges-ready _ _ _ (c .before .enum-told2 .given .1) (s .pre .0) in (r .0, r .1, s .pre .1)
 
 same-length : tie.Need-same-length
 same-length c = search needs

@@ -1,4 +1,4 @@
--- `legalize::legalizeTurn` meets its contract: the edge keeps the rule, its flip is refused, or it is flipped. Assumes nothing.
+-- `legalize::turn` meets its contract: the edge keeps the rule, its flip is refused, or it is flipped. Assumes nothing.
 use Rattle.legalize.proofs.Turning.{pop-ready, count-fits, turn-keeps, turn-refuses, turn-flip-ready, turn-flips}
 use borrow.Author.Tests.{not-true, not-false}
 use borrow.Author.Needs.{needs}
@@ -6,7 +6,7 @@ use Rattle.legalize.proofs.turn.Statement.{statement}
 use Rattle.legalize.proofs.turn.Tie as tie
 
 pop-requires : tie.Need-pop-requires
-pop-requires c κs = pop-ready (c .before .before .before .before .before .before .pre .0) (c .before .before .before .before .before .before .pre .1)
+pop-requires c κs = let s = c .before .before .before .before .before .before in pop-ready (s .pre .0) (s .pre .1)
 
 same-length : tie.Need-same-length
 same-length c = search needs
@@ -16,8 +16,7 @@ same-length-2 c = search needs
 
 returns : tie.Need-returns
 returns c =
-    let s = c .before .before .before .before .before .before .before .before .before .before .before in
-    let p = c .before .before .before .before .pop in
+    let s = c .before .before .before .before .before .before .before .before .before .before .before .before in let p = c .before .before .before .before .before .pop in
     turn-keeps (s .pre .0) (s .pre .1) (p .ensures) (p .kept .1 .1 .0) (not-true _ (c .if1 .taken))
 
 same-length-3 : tie.Need-same-length-3
@@ -28,18 +27,17 @@ same-length-4 c = search needs
 
 returns-2 : tie.Need-returns-2
 returns-2 c =
-    let s = c .before .before .before .before .before .before .before .before .before .before .before .before .before in
-    let p = c .before .before .before .before .before .before .pop in
+    let s = c .before .before .before .before .before .before .before .before .before .before .before .before .before .before in let p = c .before .before .before .before .before .before .before .pop in
     turn-refuses (s .pre .0) (s .pre .1) (p .ensures) (p .kept .1 .1 .0) (not-false _ (c .before .before .if1 .left)) (c .if2 .taken)
 
 flip-cw-requires : tie.Need-flip-cw-requires
 flip-cw-requires c κs =
-    let s = c .before .before .before .before .before .before .before .before .before .before .before .before .before .before .before .before in
-    let p = c .before .before .before .before .before .before .before .before .before .pop in
+    let s = c .before .before .before .before .before .before .before .before .before .before .before .before .before .before .before .before .before in let p = c .before .before .before .before .before .before .before .before .before .before .pop in
     turn-flip-ready (s .pre .0) (s .pre .1) (p .ensures) (p .kept .1 .1 .0) (not-false _ (c .before .before .before .before .before .if1 .left))
 
 add-more : tie.Need-add-more
-add-more c = record { fits = let s = c .before .before .before .before .before .before .before .before .before .before .before .before .before .before .before .before .before .before .before .before .before .before .before in count-fits (s .pre .0) (s .pre .1) }
+add-more c =
+    let s = c .before .before .before .before .before .before .before .before .before .before .before .before .before .before .before .before .before .before .before .before .before .before .before .before in record { fits = count-fits (s .pre .0) (s .pre .1) }
 
 same-length-5 : tie.Need-same-length-5
 same-length-5 c = search needs
@@ -55,11 +53,8 @@ same-length-8 c = search needs
 
 returns-3 : tie.Need-returns-3
 returns-3 c =
-    let f = c .before .before .before .before .before .before in
-    let i = f .before .before .before .before in
-    let p = i .before .before .before .before .before .before .pop in
-    let s = i .before .before .before .before .before .before .before .before .before .before .before .before .before in
-    turn-flips (s .pre .0) (s .pre .1) (p .ensures) (p .kept .1 .1 .0) (not-false _ (i .before .before .if1 .left)) (i .if2 .left) (f .flip-cw .ensures)
+    let s = c .before .before .before .before .before .before .before .before .before .before .before .before .before .before .before .before .before .before .before .before .before .before .before .before in let p = c .before .before .before .before .before .before .before .before .before .before .before .before .before .before .before .before .before .pop in
+    turn-flips (s .pre .0) (s .pre .1) (p .ensures) (p .kept .1 .1 .0) (not-false _ (c .before .before .before .before .before .before .before .before .before .before .before .before .if1 .left)) (c .before .before .before .before .before .before .before .before .before .before .if2 .left) (c .before .before .before .before .before .before .flip-cw .ensures)
 
 pub turn-spec : {M : Type 1} → statement M
 turn-spec =

@@ -1,0 +1,416 @@
+-- The set of the pending list's entries: a bit put in or taken out, an entry pushed or taken with it, and how it is made. Assumes nothing.
+use mathlib.Core.Bool.{Bool, true, false, false≢true, _||_}
+use mathlib.Core.Logic.{_≢_}
+use mathlib.Core.List.{List, [], _∷_}
+use mathlib.Core.Path.{_≡_, refl, sym, _∙_, ap, subst}
+use Prim.Native.Nat.{ℕ, zero, suc, _+_, _-_, _*_, _/_, _%_, _^_, _≤_, _<_}
+use native.Mathlib.Decide.{ℕ-discrete}
+use native.Mathlib.Nat.{one-mul}
+use native.Mathlib.Numerals.{add-one}
+use native.Mathlib.Omega.{arith}
+use lib.Dec.{eqb}
+use lib.ListN.{length, getD, set, length-set}
+use lib.Pow.{shl-exact}
+use lib.Seq.{getD-set-same, getD-set-other}
+use borrow.Author.Tests.{eq-eqb, ne-eqb, eqb-true, eqb-false}
+use Rattle.pending.specs.declared.PendingList.{PendingList}
+use Rattle.pending.specs.Pending.{pendingOf, contains, pushIfNotContained, Holds}
+use Rattle.pending.specs.PendingLaws.{pending-last, pending-set, pending-push, holds, push-contained, push-missing, push-past, push-length}
+use Rattle.pending.specs.Set.{bitOf, wordAt, isMarked, Once, Marks, SetOf, Becomes, ToPop, LastTaken, Cleared, MarkedTo}
+use Rattle.pending.specs.BitLaws.{bit-two, set-same, set-other, set-fits, bit-least, clear-same, clear-other, no-bits}
+
+-- ---- membership, by whether it is the first
+pub contains-first : (x : ℕ) (l : List ℕ) → contains x (x ∷ l) ≡ true
+unfolding contains
+contains-first x l = rw (eq-eqb x x refl) refl
+
+pub contains-rest : {x y : ℕ} (l : List ℕ) → y ≢ x → contains y (x ∷ l) ≡ contains y l
+unfolding contains
+contains-rest {x} {y} l d = rw (ne-eqb y x d) refl
+
+-- ---- a bit of the set
+-- `1 << k` for a bit of a word
+pub one-shift : (x : ℕ) → 1 * 2 ^ (x % 32) % 2 ^ 32 ≡ 2 ^ (x % 32)
+one-shift x = shl-exact {a = 1} 1 (x % 32) 32 (omega arith) (omega arith) ∙ one-mul (2 ^ (x % 32))
+
+module _ (row : List ℕ) (x : ℕ) where
+  abbrev word : ℕ
+  word = getD row (wordAt row x) 0
+
+  pub bit-on : isMarked row x ≡ true → bitOf word (x % 32) ≡ 1
+  unfolding isMarked
+  bit-on e = eqb-true _ _ e
+
+  pub bit-off : isMarked row x ≡ false → bitOf word (x % 32) ≡ 0
+  unfolding isMarked
+  bit-off e = let d = eqb-false _ _ e in let t = bit-two word (x % 32) in least (bitOf word (x % 32)) t d
+    where
+      least : (b : ℕ) → b < 2 → (b ≡ 1 → ⊥) → b ≡ 0
+      least zero t d = refl
+      least (suc zero) t d = absurd (d refl)
+      least (suc (suc b)) t d = absurd (omega arith)
+
+  -- the word has room for a bit that it does not have, and is at least one that it has
+  pub mark-fits : word < 2 ^ 32 → isMarked row x ≡ false → word + 2 ^ (x % 32) < 2 ^ 32
+  mark-fits l e = set-fits word (x % 32) 32 (omega arith) l (bit-off e)
+
+  pub unmark-fits : isMarked row x ≡ true → 2 ^ (x % 32) ≤ word
+  unmark-fits e = bit-least word (x % 32) (bit-on e)
+
+-- ---- one word stored anew
+module _ (row : List ℕ) (x v : ℕ) (l : x / 32 < length row) where
+  abbrev stored : List ℕ
+  stored = set row (wordAt row x) v
+
+  word-same : (y : ℕ) → y / 32 ≡ x / 32 → isMarked stored y ≡ eqb (bitOf v (y % 32)) 1
+  unfolding isMarked
+  word-same y e =
+      let n = length-set row (wordAt row x) v in
+      let i : length stored - 1 - y / 32 ≡ wordAt row x = omega arith in
+      ap (λ (w : ℕ). eqb (bitOf w (y % 32)) 1) (ap (λ (j : ℕ). getD stored j 0) i ∙ getD-set-same row (wordAt row x) v 0 (omega arith))
+
+  word-other : (y : ℕ) → y / 32 ≢ x / 32 → y / 32 < length row → isMarked stored y ≡ isMarked row y
+  unfolding isMarked
+  word-other y d m =
+      let n = length-set row (wordAt row x) v in
+      let i : length stored - 1 - y / 32 ≡ wordAt row y = omega arith in
+      ap (λ (w : ℕ). eqb (bitOf w (y % 32)) 1)
+      (ap (λ (j : ℕ). getD stored j 0) i ∙ getD-set-other row (wordAt row x) (wordAt row y) v 0 (apart (length row) (x / 32) (y / 32) l m d))
+    where
+      apart : (n a b : ℕ) → a < n → b < n → b ≢ a → n - 1 - b ≢ n - 1 - a
+      apart n a b l m d z = d (omega arith)
+
+-- what stands past the set's words is no matter to it
+pub entry-other : (row : List ℕ) (n v y : ℕ) → n < wordAt row y → isMarked (set row n v) y ≡ isMarked row y
+unfolding isMarked
+entry-other row n v y l =
+    let m = length-set row n v in
+    let i : length (set row n v) - 1 - y / 32 ≡ wordAt row y = omega arith in
+    ap (λ (w : ℕ). eqb (bitOf w (y % 32)) 1)
+    (ap (λ (j : ℕ). getD (set row n v) j 0) i ∙ getD-set-other row n (wordAt row y) v 0 (omega arith))
+
+-- two numbers with one word have different bits
+same-word : (x y : ℕ) → y ≢ x → y / 32 ≡ x / 32 → y % 32 ≢ x % 32
+same-word x y d e z = d (omega arith)
+
+module _ (row : List ℕ) (x : ℕ) (l : x / 32 < length row) where
+  abbrev marked : List ℕ
+  marked = set row (wordAt row x) (word row x + 2 ^ (x % 32))
+
+  abbrev unmarked : List ℕ
+  unmarked = set row (wordAt row x) (word row x - 2 ^ (x % 32))
+
+  pub mark-same : isMarked row x ≡ false → isMarked marked x ≡ true
+  mark-same e = word-same row x _ l x refl ∙ eq-eqb _ _ (set-same (word row x) (x % 32) (bit-off row x e))
+
+  pub mark-other : (y : ℕ) → y ≢ x → y / 32 < length row → isMarked row x ≡ false → isMarked marked y ≡ isMarked row y
+  unfolding isMarked
+  mark-other y d m e = go (ℕ-discrete (y / 32) (x / 32))
+    where
+      go : Dec (y / 32 ≡ x / 32) → isMarked marked y ≡ isMarked row y
+      go (no z) = word-other row x _ l y z m
+      go (yes z) =
+          word-same row x _ l y z
+          ∙ ap (λ (b : ℕ). eqb b 1) (set-other (word row x) (x % 32) (y % 32) (same-word x y d z) (bit-off row x e))
+          ∙ ap (λ (i : ℕ). eqb (bitOf (getD row (length row - 1 - i) 0) (y % 32)) 1) (sym z)
+
+  pub unmark-same : isMarked row x ≡ true → isMarked unmarked x ≡ false
+  unmark-same e =
+      word-same row x _ l x refl
+      ∙ ap (λ (b : ℕ). eqb b 1) (clear-same (word row x) (x % 32) (bit-on row x e))
+
+  pub unmark-other : (y : ℕ) → y ≢ x → y / 32 < length row → isMarked row x ≡ true → isMarked unmarked y ≡ isMarked row y
+  unfolding isMarked
+  unmark-other y d m e = go (ℕ-discrete (y / 32) (x / 32))
+    where
+      go : Dec (y / 32 ≡ x / 32) → isMarked unmarked y ≡ isMarked row y
+      go (no z) = word-other row x _ l y z m
+      go (yes z) =
+          word-same row x _ l y z
+          ∙ ap (λ (b : ℕ). eqb b 1) (clear-other (word row x) (x % 32) (y % 32) (same-word x y d z) (bit-on row x e))
+          ∙ ap (λ (i : ℕ). eqb (bitOf (getD row (length row - 1 - i) 0) (y % 32)) 1) (sym z)
+
+-- ---- from entries to lists
+pub becomes : {row row′ : List ℕ} {s s′ : PendingList} {f : List ℕ → List ℕ} → s .length ≤ length row → s′ .length ≤ length row′
+    → pendingOf row′ (s′ .length) ≡ f (pendingOf row (s .length)) → SetOf row′ s′ → Becomes row s row′ s′ f
+becomes {row} {row′} {s} {s′} {f} m m′ e S = record {
+  list = λ l H. record { fits = λ _. e ∙ ap f (H .fits m); over = λ o. absurd (omega arith) };
+  set = S;
+}
+
+-- nothing has changed
+pub stays : {row : List ℕ} {s : PendingList} → SetOf row s → Becomes row s row s (λ l. l)
+stays S = record { list = λ l H. H; set = S }
+
+-- there is no set
+pub no-set : (row : List ℕ) (s : PendingList) → s .words ≡ 0 → SetOf row s
+no-set row s e = λ l. absurd (omega arith)
+
+-- ---- an entry, with its bit
+module _ {row : List ℕ} {n words : ℕ} (M : Marks row n words) where
+  -- it is not there, and there is room for it: the bit and the entry
+  module _ (x : ℕ) (l : x / 32 < words) (u : isMarked row x ≡ false) (r : n + 1 + words ≤ length row) where
+    small : x / 32 < length row
+    small = let m = M .room in omega arith
+
+    abbrev pushed : List ℕ
+    pushed = set (set row (wordAt row x) (getD row (wordAt row x) 0 + 2 ^ (x % 32))) n x
+
+    missing : contains x (pendingOf row n) ≡ false
+    missing = sym (M .each x l) ∙ u
+
+    length-is : length pushed ≡ length row
+    length-is = simp length-set
+
+    pub pushed-entries : pendingOf pushed (n + 1) ≡ x ∷ pendingOf row n
+    pushed-entries =
+        let m = length-set row (wordAt row x) (getD row (wordAt row x) 0 + 2 ^ (x % 32)) in
+        pending-push _ n x (omega arith)
+        ∙ ap (λ (k : List ℕ). x ∷ k) (pending-set row n (wordAt row x) _ (omega arith))
+
+    pub pushed-marks : Marks pushed (n + 1) words
+    unfolding Once
+    pushed-marks = record {
+      room = let m = length-is in omega arith;
+      once = subst Once (sym pushed-entries) (missing, M .once);
+      each = λ y m. outer y m ∙ at y m (ℕ-discrete y x) ∙ ap (contains y) (sym pushed-entries);
+    }
+      where
+        outer : (y : ℕ) → y / 32 < words → isMarked pushed y ≡ isMarked (marked row x small) y
+        outer y m = let k = length-set row (wordAt row x) (getD row (wordAt row x) 0 + 2 ^ (x % 32)) in entry-other _ n x y (omega arith)
+
+        at : (y : ℕ) → y / 32 < words → Dec (y ≡ x) → isMarked (marked row x small) y ≡ contains y (x ∷ pendingOf row n)
+        at y m (yes z) = rw z (mark-same row x small u ∙ sym (contains-first x (pendingOf row n)))
+        at y m (no z) =
+            mark-other row x small y z (let k = M .room in omega arith) u ∙ M .each y m ∙ sym (contains-rest (pendingOf row n) z)
+
+  -- the last entry goes, with its bit
+  module _ (z : 0 < n) where
+    abbrev last : ℕ
+    last = getD row (n - 1) 0
+
+    entries : pendingOf row n ≡ last ∷ pendingOf row (n - 1)
+    entries = pending-last row n z
+
+    rest-once : Once (pendingOf row (n - 1))
+    unfolding Once
+    rest-once = subst Once entries (M .once) .1
+
+    last-once : contains last (pendingOf row (n - 1)) ≡ false
+    unfolding Once
+    last-once = subst Once entries (M .once) .0
+
+    pub last-marked : last / 32 < words → isMarked row last ≡ true
+    last-marked l = M .each last l ∙ ap (contains last) entries ∙ contains-first last (pendingOf row (n - 1))
+
+    -- other numbers are in the rest where they were in the list
+    rest-each : (y : ℕ) → y ≢ last → contains y (pendingOf row n) ≡ contains y (pendingOf row (n - 1))
+    rest-each y d = ap (contains y) entries ∙ contains-rest (pendingOf row (n - 1)) d
+
+    -- it has no bit
+    pub popped-past : words ≤ last / 32 → Marks row (n - 1) words
+    popped-past l = record {
+      room = let m = M .room in omega arith;
+      once = rest-once;
+      each = λ y m. M .each y m ∙ rest-each y (λ e. let i : y / 32 ≡ last / 32 = ap (λ (k : ℕ). k / 32) e in omega arith);
+    }
+
+    module _ (l : last / 32 < words) where
+      pub low : last / 32 < length row
+      low = let m = M .room in omega arith
+
+      pub popped-entries : pendingOf (unmarked row last low) (n - 1) ≡ pendingOf row (n - 1)
+      popped-entries = let m = M .room in pending-set row (n - 1) (wordAt row last) _ (omega arith)
+
+      pub popped-marks : Marks (unmarked row last low) (n - 1) words
+      popped-marks = record {
+        room = let m = M .room in let k = length-set row (wordAt row last) (word row last - 2 ^ (last % 32)) in omega arith;
+        once = subst Once (sym popped-entries) rest-once;
+        each = λ y m. at y m (ℕ-discrete y last) ∙ ap (contains y) (sym popped-entries);
+      }
+        where
+          at : (y : ℕ) → y / 32 < words → Dec (y ≡ last) → isMarked (unmarked row last low) y ≡ contains y (pendingOf row (n - 1))
+          at y m (yes e) = rw e (unmark-same row last low (last-marked l) ∙ sym last-once)
+          at y m (no e) =
+              unmark-other row last low y e (let k = M .room in omega arith) (last-marked l) ∙ M .each y m ∙ rest-each y e
+
+-- ---- the last entry is taken
+module _ {row : List ℕ} {s : PendingList} (P : ToPop row s) where
+  abbrev taken : ℕ
+  taken = getD row (s .length - 1) 0
+
+  abbrev left : PendingList
+  left = record { length = s .length - 1; words = s .words; looks = s .looks }
+
+  -- it has no bit
+  pub pop-past : s .words ≤ taken / 32 → LastTaken row s row taken left
+  pop-past l = record {
+    entry = pending-last row (s .length) (P .some);
+    rest = let f = P .fits in holds row (s .length - 1) (omega arith);
+    set = λ w. popped-past (P .set w) (P .some) l;
+  }
+
+  module _ (l : taken / 32 < s .words) where
+    marks : Marks row (s .length) (s .words)
+    marks = P .set (omega arith)
+
+    pub pop-marked : (taken / 32 < length row) × (isMarked row taken ≡ true)
+    pop-marked = (low marks (P .some) l, last-marked marks (P .some) l)
+
+    pub pop-bit : {row′ : List ℕ} → row′ ≡ set row (wordAt row taken) (getD row (wordAt row taken) 0 - 2 ^ (taken % 32))
+        → LastTaken row s row′ taken left
+    pop-bit {row′} e =
+        let M = popped-marks marks (P .some) l in let r = M .room in
+        subst (λ (r : List ℕ). LastTaken row s r taken left) (sym e) (record {
+          entry = pending-last row (s .length) (P .some);
+          rest = subst (Holds (unmarked row taken (low marks (P .some) l)) (s .length - 1)) (popped-entries marks (P .some) l)
+              (holds (unmarked row taken (low marks (P .some) l)) (s .length - 1) (omega arith));
+          set = λ w. M;
+        })
+
+-- ---- an entry that may be there
+module _ {row : List ℕ} (s : PendingList) (S : SetOf row s) where
+  -- the list is too long already
+  pub push-too-long : (x : ℕ) → length row < s .length → Becomes row s row s (pushIfNotContained x)
+  push-too-long x o = record { list = λ l H. push-past H (push-length x l .0) o; set = S }
+
+  module _ (m : s .length ≤ length row) (x : ℕ) where
+    -- it is there
+    pub push-there : contains x (pendingOf row (s .length)) ≡ true → Becomes row s row s (pushIfNotContained x)
+    push-there e = becomes m m (sym (push-contained x (pendingOf row (s .length)) e)) S
+
+    -- it is not
+    pub push-new : contains x (pendingOf row (s .length)) ≡ false → {row′ : List ℕ} {s′ : PendingList}
+        → Becomes row s row′ s′ (λ l. x ∷ l) → Becomes row s row′ s′ (pushIfNotContained x)
+    push-new e {row′} {s′} B = record {
+      list = λ l H. subst (Holds row′ (s′ .length)) (sym (push-missing x l (ap (contains x) (sym (H .fits m)) ∙ e))) (B .list l H);
+      set = B .set;
+    }
+
+  -- by the set
+  module _ (x : ℕ) (l : x / 32 < s .words) where
+    marked-set : Marks row (s .length) (s .words)
+    marked-set = S (omega arith)
+
+    pub set-small : x / 32 < length row
+    set-small = let m = marked-set .room in omega arith
+
+    pub set-room : s .length ≤ length row
+    set-room = let m = marked-set .room in omega arith
+
+    pub set-says : isMarked row x ≡ contains x (pendingOf row (s .length))
+    set-says = marked-set .each x l
+
+    -- with its bit
+    pub push-bit : isMarked row x ≡ false → s .words < length row - s .length → {row′ : List ℕ}
+        → row′ ≡ set row (wordAt row x) (getD row (wordAt row x) 0 + 2 ^ (x % 32))
+        → Becomes row s (set row′ (s .length) x) (record { length = s .length + 1; words = s .words; looks = s .looks }) (pushIfNotContained x)
+    push-bit u r {row′} e =
+        let M = pushed-marks marked-set x l u (omega arith) in let k = M .room in
+        subst (λ (r : List ℕ). Becomes row s (set r (s .length) x) (record { length = s .length + 1; words = s .words; looks = s .looks }) (pushIfNotContained x))
+        (sym e)
+        (push-new set-room x (sym set-says ∙ u) (becomes set-room (omega arith) (pushed-entries marked-set x l u (omega arith)) (λ w. M)))
+
+-- ---- a set is made
+pub clear-starts : (row : List ℕ) (from : ℕ) → Cleared row row from from
+clear-starts row from = record { same = refl; before = λ i l. refl; zeros = λ i a b. absurd (omega arith) }
+
+pub clear-more : {row row′ : List ℕ} {from i : ℕ} → Cleared row row′ from i → from ≤ i → i < length row′ → Cleared row (set row′ i 0) from (i + 1)
+clear-more {row} {row′} {from} {i} K u l = record {
+  same = length-set row′ i 0 ∙ K .same;
+  before = λ j m. getD-set-other row′ i j 0 0 (omega arith) ∙ K .before j m;
+  zeros = λ j a b. at j a b (ℕ-discrete j i);
+}
+  where
+    at : (j : ℕ) → from ≤ j → j < i + 1 → Dec (j ≡ i) → getD (set row′ i 0) j 0 ≡ 0
+    at j a b (yes e) = rw e (getD-set-same row′ i 0 0 l)
+    at j a b (no e) = getD-set-other row′ i j 0 0 (omega arith) ∙ K .zeros j a (omega arith)
+
+pub clear-ends : {row row′ : List ℕ} {from i : ℕ} → Cleared row row′ from i → i ≤ length row → length row′ ≤ i
+    → Cleared row row′ from (length row)
+clear-ends {row} {row′} {from} {i} K u l = record { same = K .same; before = K .before; zeros = λ j a b. let e = K .same in K .zeros j a (omega arith) }
+
+-- rows with the same entries
+pub entries-same : (row row′ : List ℕ) (n : ℕ) → ((i : ℕ) → i < n → getD row′ i 0 ≡ getD row i 0) → pendingOf row′ n ≡ pendingOf row n
+unfolding pendingOf
+entries-same row row′ zero e = refl
+entries-same row row′ (suc n) e = rw (e n (omega arith), entries-same row row′ n (λ i l. e i (omega arith))) refl
+
+-- words of zeros are a set of no entries
+pub marks-start : {row row′ : List ℕ} {from n words : ℕ} → Cleared row row′ from (length row) → n ≤ from → from + words ≡ length row
+    → MarkedTo row′ row′ 0 n words × (pendingOf row′ n ≡ pendingOf row n)
+unfolding isMarked Once pendingOf contains
+marks-start {row} {row′} {from} {n} {words} K u e = (
+  record {
+    same = refl;
+    most = omega arith;
+    room = let m = K .same in omega arith;
+    kept = refl;
+    once = tt;
+    each = λ x l. let m = K .same in
+        ap (λ (w : ℕ). eqb (bitOf w (x % 32)) 1) (K .zeros (wordAt row′ x) (omega arith) (omega arith))
+        ∙ ap (λ (b : ℕ). eqb b 1) (no-bits (x % 32));
+  },
+  entries-same row row′ n (λ i l. K .before i (omega arith)),
+)
+
+module _ {row row′ : List ℕ} {i n words : ℕ} (K : MarkedTo row row′ i n words) where
+  -- the next entry
+  abbrev next : ℕ
+  next = getD row′ i 0
+
+  module _ (l : i < n) (m : next / 32 < words) (u : isMarked row′ next ≡ false) where
+    fits : next / 32 < length row′
+    fits = let r = K .room in let s = K .same in omega arith
+
+    abbrev row″ : List ℕ
+    row″ = set row′ (wordAt row′ next) (getD row′ (wordAt row′ next) 0 + 2 ^ (next % 32))
+
+    entries-kept : (k : ℕ) → k ≤ n → pendingOf row″ k ≡ pendingOf row′ k
+    entries-kept k v = let r = K .room in let s = K .same in pending-set row′ k (wordAt row′ next) _ (omega arith)
+
+    one-more : pendingOf row″ (i + 1) ≡ next ∷ pendingOf row′ i
+    unfolding pendingOf
+    one-more = entries-kept (i + 1) (omega arith) ∙ rw add-one refl
+
+    marks-more : MarkedTo row row″ (i + 1) n words
+    unfolding Once
+    marks-more = record {
+      same = length-set row′ (wordAt row′ next) _ ∙ K .same;
+      most = omega arith;
+      room = K .room;
+      kept = entries-kept n (omega arith) ∙ K .kept;
+      once = subst Once (sym one-more) (sym (K .each next m) ∙ u, K .once);
+      each = λ y v. at y v (ℕ-discrete y next) ∙ ap (contains y) (sym one-more);
+    }
+      where
+        at : (y : ℕ) → y / 32 < words → Dec (y ≡ next) → isMarked row″ y ≡ contains y (next ∷ pendingOf row′ i)
+        at y v (yes e) = rw e (mark-same row′ next fits u ∙ sym (contains-first next (pendingOf row′ i)))
+        at y v (no e) =
+            mark-other row′ next fits y e (let r = K .room in let s = K .same in omega arith) u
+            ∙ K .each y v ∙ sym (contains-rest (pendingOf row′ i) e)
+
+    pub marked-next : {row‴ : List ℕ} → row‴ ≡ row″ → MarkedTo row row‴ (i + 1) n words
+    marked-next e = rw e marks-more
+
+  -- all of them
+  pub marks-end : n ≤ i → Marks row′ n words
+  marks-end l = subst (λ (k : ℕ). Marks row′ k words) (let m = K .most in same-number m l) (record {
+    room = let m = K .most in let r = K .room in let s = K .same in omega arith;
+    once = K .once;
+    each = K .each;
+  })
+    where
+      same-number : {a b : ℕ} → a ≤ b → b ≤ a → a ≡ b
+      same-number l m = omega arith
+
+-- the entries are as they were: with a set of them, or without one
+pub set-made : {row row′ : List ℕ} {s : PendingList} {words looks : ℕ} → s .length ≤ length row
+    → pendingOf row′ (s .length) ≡ pendingOf row (s .length) → Marks row′ (s .length) words
+    → Becomes row s row′ (record { length = s .length; words = words; looks = looks }) (λ l. l)
+set-made m e M = let r = M .room in becomes m (omega arith) e (λ w. M)
+
+pub set-not-made : {row row′ : List ℕ} {s : PendingList} {looks : ℕ} → s .length ≤ length row → s .length ≤ length row′
+    → pendingOf row′ (s .length) ≡ pendingOf row (s .length)
+    → Becomes row s row′ (record { length = s .length; words = 0; looks = looks }) (λ l. l)
+set-not-made m m′ e = becomes m m′ e (λ w. absurd (omega arith))
