@@ -38,8 +38,10 @@ fn flat([x, y, _]: Point) -> [i32; 2] {
     [x, y]
 }
 
-/// Those that are sorted as `bulk_load` sorts them, and others.
-pub const SORTED: [&str; 4] = ["uniform", "clustered", "gridded", "along lines"];
+/// Those that are sorted as `bulk_load` sorts them, the first three spread over an area and the others along lines; and others.
+pub const SORTED: [&str; 7] =
+    ["uniform", "clustered", "gridded", ALONG, "one line", "one slanted line", "two parallel lines"];
+pub const ALONG: &str = "along lines";
 pub const OTHERS: [&str; 4] = ["spiral", "random order", LAST[0].0, LAST[1].0];
 
 /// Uniform points, sorted, of which so many tenths come last.
@@ -94,6 +96,24 @@ fn along_lines(random: &mut Random, count: usize) -> Vec<[i32; 2]> {
         .collect()
 }
 
+/// Points at even distances along a line through the origin, the last of them beside its middle: one point is enough for a triangle.
+fn one_line(count: usize, [dx, dy]: [i32; 2]) -> Vec<[i32; 2]> {
+    let last = count as i32 - 1;
+    let on_line = (0..last).map(|i| i - last / 2).map(|k| [k * dx, k * dy]);
+    on_line.chain([[dx / 2 - dy, dy / 2 + dx]]).collect()
+}
+
+/// The two kerbs of a road: every other point on each, ten apart.
+fn two_parallel_lines(count: usize, [dx, dy]: [i32; 2]) -> Vec<[i32; 2]> {
+    let pairs = count as i32 / 2;
+    (0..count as i32)
+        .map(|i| {
+            let (k, [x, y]) = (i / 2 - pairs / 2, [[0, 0], [-9, 4]][i as usize % 2]);
+            [x + k * dx, y + k * dy]
+        })
+        .collect()
+}
+
 /// Along Archimedes' spiral, at even distances.
 fn spiral(count: usize) -> Vec<[i32; 2]> {
     let turn = std::f64::consts::TAU;
@@ -117,7 +137,10 @@ fn positions(kind: &str, count: usize) -> Vec<[i32; 2]> {
     match kind {
         "clustered" => clustered(random, count),
         "gridded" => gridded(count),
-        "along lines" => along_lines(random, count),
+        ALONG => along_lines(random, count),
+        "one line" => one_line(count, [32, 0]),
+        "one slanted line" => one_line(count, [12, 28]),
+        "two parallel lines" => two_parallel_lines(count, [27, 63]),
         "spiral" => spiral(count),
         _ => (0..count).map(|_| [random.within(REACH), random.within(REACH)]).collect(),
     }

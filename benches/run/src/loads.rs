@@ -4,6 +4,8 @@
 //! are, for the Rust the other way round, as its sort leaves them: that finds nothing to do, and both insert the same points one after the
 //! other. With sorting, both get the points as they are made. In `random order` ours takes them so, without a sort, and the Rust sorts.
 //!
+//! Points along few lines are taken by ours alone where the Rust would take too long, as in a run.
+//!
 //! There are two tables: one of calls whose memory the process has had before, and one of a process's first call, whose memory is new. CGAL
 //! stands in the second, since each of its turns is a process.
 //!
@@ -21,10 +23,13 @@ use oracle::Point2;
 
 use crate::inputs::{bare, Bare, SORTED};
 use crate::{
-    alone, best, cgal, each, head, line, ms, of_rows, ratio, skipped_of, triangles_of, write_points, SIZES,
+    alone, best, cgal, each, head, is_along_lines, line, ms, now, of_rows, ratio, rust_largest, sizes,
+    skipped_of, triangles_of, write_points, LONG,
 };
 
-pub const KINDS: [&str; 5] = [SORTED[0], SORTED[1], SORTED[2], SORTED[3], "random order"];
+fn kinds() -> impl Iterator<Item = &'static str> {
+    SORTED.into_iter().chain(["random order"])
+}
 
 /// From the list to the finished mesh, memory and all.
 #[inline(never)]
@@ -61,15 +66,19 @@ fn placed_triangles(mesh: &Mesh) -> Vec<[[i32; 2]; 3]> {
     all
 }
 
-/// Both sides once, compared: how many vertices, and how many points were skipped or met again.
+/// Ours once, compared with the Rust's up to so many points: how many vertices, and how many points were skipped or met again.
 fn compared(kind: &str, input: &Bare) -> (usize, usize) {
     let (ours, run) = load_ours(input);
+    let told = (ours.vertex_count(), skipped_of(&run));
+    if input.points.len() > rust_largest(kind) {
+        return told;
+    }
     let theirs = of_rows(&rows(&load_rust(input)), &vec![0; ours.vertex_count()]);
     let mut finished = theirs.clone();
     let totals = finished.finish().expect("a good mesh");
     if kind == "random order" {
         assert!(placed_triangles(&ours) == placed_triangles(&finished), "the meshes differ");
-        return (ours.vertex_count(), skipped_of(&run));
+        return told;
     }
     assert!(ours.positions() == finished.positions(), "the vertices differ");
     let is_same = ours.halves() == finished.halves()
@@ -79,7 +88,7 @@ fn compared(kind: &str, input: &Bare) -> (usize, usize) {
         is_same || (totals.faces > 0 && triangles_of(&ours) == triangles_of(&finished)),
         "the meshes differ"
     );
-    (ours.vertex_count(), skipped_of(&run))
+    told
 }
 
 /// The sides, as `bench_run` knows them.
@@ -90,7 +99,7 @@ struct Row {
     count: usize,
     vertices: usize,
     skipped: usize,
-    /// By sides, where memory is kept and where the call is a process's first; NaN where the sorting is not taken.
+    /// By sides, where memory is kept and where the call is a process's first; NaN where a side is not taken.
     kept: [f64; 4],
     first: [f64; 4],
     cgal: f64,
@@ -101,19 +110,26 @@ fn measure(kind: &'static str, count: usize, turns: usize, beside: Option<&Path>
     let (vertices, skipped) = compared(kind, &input);
     let times = (100_000 / count).max(1);
     let file = Path::new("target/bench_points.bin");
-    let beside = beside.filter(|_| count >= 100_000);
+    let beside = beside.filter(|_| is_along_lines(kind) || count >= 100_000);
     if beside.is_some() {
         write_points(file, &input.made_flat);
     }
-    let sides = if kind == "random order" { 2 } else { 4 };
+    let is_taken = |side: &str| {
+        !(kind == "random order" && side.starts_with("sorted")
+            || count > rust_largest(kind) && side.ends_with("rust"))
+    };
     let [mut kept, mut first] = [const { [const { Vec::new() }; 4] }; 2];
     let mut c = Vec::new();
     for _ in 0..turns {
-        for i in 0..sides {
+        let start = now();
+        for i in (0..4).filter(|&i| is_taken(SIDES[i])) {
             kept[i].push(each(times, || once(SIDES[i], &input)));
             first[i].push(alone("first", SIDES[i], kind, count));
         }
-        c.extend(beside.and_then(|program| cgal(program, file)).map(|[time, _]| time));
+        c.extend(beside.and_then(|program| cgal(program, file, vertices)).map(|[time, _]| time));
+        if now() - start > LONG {
+            break;
+        }
     }
     let [kept, first] = [kept, first].map(|all| all.map(|times| best(&times)));
     Row { kind, count, vertices, skipped, kept, first, cgal: best(&c) }
@@ -130,16 +146,31 @@ pub fn once(side: &str, input: &Bare) -> Option<Run> {
     None
 }
 
-/// The cells of the sides' times.
+/// The cells of the sides' times, empty where a side is not taken.
 fn cells([a, b, s, t]: [f64; 4]) -> [String; 6] {
-    let sorted = |cell: String| if s.is_nan() { String::new() } else { cell };
-    [ms(a), ms(b), ratio(a, b), sorted(ms(s)), sorted(ms(t)), sorted(ratio(s, t))]
+    [time_cell(a), time_cell(b), ratio_cell(a, b), time_cell(s), time_cell(t), ratio_cell(s, t)]
+}
+
+fn time_cell(time: f64) -> String {
+    if time.is_nan() {
+        String::new()
+    } else {
+        ms(time)
+    }
+}
+
+fn ratio_cell(a: f64, b: f64) -> String {
+    if (a / b).is_nan() {
+        String::new()
+    } else {
+        ratio(a, b)
+    }
 }
 
 pub fn tables(turns: usize, largest: usize, beside: Option<&Path>) {
-    let cases = KINDS.iter().flat_map(|&kind| SIZES.map(|count| (kind, count)));
+    let cases = kinds().flat_map(|kind| sizes(kind).iter().map(move |&count| (kind, count)));
     let rows: Vec<Row> = cases
-        .filter(|&(kind, count)| count <= largest && (count <= 100_000 || SORTED[..3].contains(&kind)))
+        .filter(|&(_, count)| count <= largest)
         .map(|(kind, count)| {
             eprintln!("bare points: {kind} {count}");
             measure(kind, count, turns, beside)
@@ -158,9 +189,8 @@ pub fn tables(turns: usize, largest: usize, beside: Option<&Path>) {
     head(&["points", "number"].iter().chain(&sides).chain(&others).copied().collect::<Vec<_>>());
     for r in &rows {
         let named: [&dyn Display; 2] = [&r.kind, &r.count];
-        let beside = |cell: String| if r.cgal.is_nan() { String::new() } else { cell };
-        let sorted = if r.first[2].is_nan() { String::new() } else { beside(ratio(r.first[2], r.cgal)) };
-        let times = cells(r.first).into_iter().chain([beside(ms(r.cgal)), sorted]).collect::<Vec<_>>();
+        let beside = [time_cell(r.cgal), ratio_cell(r.first[2], r.cgal)];
+        let times = cells(r.first).into_iter().chain(beside).collect::<Vec<_>>();
         line(&named.into_iter().chain(times.iter().map(|c| c as &dyn Display)).collect::<Vec<_>>());
     }
 }

@@ -7,9 +7,11 @@
 //! In each turn all sides take the same input one after the other, and each side's best turn counts.
 //! Memory that a call gives back stays with the process, for both sides alike (`keep_memory`); what a first call costs, whose memory is all
 //! new, is taken in processes of its own.
+//! A turn of more than a few seconds is the only one. On points along few lines the Rust's time grows with the square of their number: from
+//! some size on (`rust_largest`) ours is taken alone, and the Rust's cells are empty.
 //! Before it is timed each input is compared: our finished mesh is what our finish makes of the mesh after the Rust's last insertion, link
 //! by link (triangle by triangle where points were skipped and a convexity pass after the first adds faces: those come after the Rust's
-//! insertions, before ours), and both skip as many points. Our points have heights, the Rust's and CGAL's have none.
+//! insertions, before ours), and both skip as many points. CGAL has as many vertices. Our points have heights, the Rust's and CGAL's have none.
 
 mod inputs;
 mod loads;
@@ -20,11 +22,34 @@ use std::path::Path;
 use std::process::Command;
 
 use fithmoul::{by_distance, Fate, Mesh, Point, Run};
-use inputs::{bare, make, unsorted, Input, OTHERS, SORTED};
+use inputs::{bare, make, unsorted, Input, ALONG, OTHERS, SORTED};
 use oracle::driver::Sweep;
 use oracle::mesh;
 
-const SIZES: [usize; 4] = [1_000, 10_000, 100_000, 1_000_000];
+/// The sizes of a kind. Where points are skipped, searches grow faster than their number.
+fn sizes(kind: &str) -> &'static [usize] {
+    match kind {
+        _ if is_along_lines(kind) => &[1_000, 10_000, 50_000, 100_000, 200_000, 1_000_000],
+        _ if SORTED.contains(&kind) || kind == "spiral" => &[1_000, 10_000, 100_000, 1_000_000],
+        _ => &[1_000, 10_000, 100_000],
+    }
+}
+
+fn is_along_lines(kind: &str) -> bool {
+    SORTED[3..].contains(&kind)
+}
+
+/// The most points that the Rust takes in a few seconds.
+fn rust_largest(kind: &str) -> usize {
+    match kind {
+        ALONG => 100_000,
+        _ if is_along_lines(kind) => 50_000,
+        _ => 1_000_000,
+    }
+}
+
+/// Seconds: a turn that takes more is the only one.
+const LONG: f64 = 3.0;
 
 /// From the seed to the finished mesh, memory and all.
 #[inline(never)]
@@ -137,10 +162,17 @@ struct Parts {
     rest: f64,
 }
 
-struct Checked {
+/// What our run says of an input.
+struct Told {
     vertices: usize,
     skipped: usize,
-    parts: Parts,
+    flips: u64,
+}
+
+fn told(mesh: &Mesh, run: &Run) -> Told {
+    let flips = run.answers.iter().map(|a| a.flips).sum::<u64>();
+    let finish = run.totals.convex_flips + run.totals.closing_flips;
+    Told { vertices: mesh.vertex_count(), skipped: skipped_of(run), flips: flips + finish }
 }
 
 /// The points that the steps skipped.
@@ -157,10 +189,9 @@ fn triangles_of(mesh: &Mesh) -> Vec<[u32; 3]> {
     all
 }
 
-/// Both sides once, compared; and the parts.
-fn compared(input: &Input, turns: usize) -> Checked {
-    let (finished, run) = ours(input);
-    let skipped = skipped_of(&run);
+/// What ours left and said, beside the Rust once; and the parts.
+fn compared(input: &Input, turns: usize, finished: &Mesh, run: &Run) -> Parts {
+    let skipped = skipped_of(run);
     let at_center = |p: &[i32; 2]| p.map(f64::from) == input.center;
     assert!(!input.flat.iter().any(at_center), "a point at the centre: the Rust would not return");
     let (mut sweep, others) = rust_stepped(input);
@@ -178,8 +209,8 @@ fn compared(input: &Input, turns: usize) -> Checked {
     let (_, mesh, totals) = timed(&inserted);
     // the Rust makes one pass before its insertions: where another adds a face, vertices have the same numbers, edges and faces others
     let is_same = |mesh: &Mesh| match timed(&passed).2.faces == 0 || skipped == 0 {
-        true => *mesh == finished,
-        false => mesh.positions() == finished.positions() && triangles_of(mesh) == triangles_of(&finished),
+        true => mesh == finished,
+        false => mesh.positions() == finished.positions() && triangles_of(mesh) == triangles_of(finished),
     };
     assert!(is_same(&mesh), "the finished meshes differ");
     assert_eq!(totals.closing_flips, run.totals.closing_flips);
@@ -188,8 +219,7 @@ fn compared(input: &Input, turns: usize) -> Checked {
     let take = |work: &dyn Fn() -> f64| (0..tries).map(|_| work()).fold(f64::MAX, f64::min);
     let check = take(&|| seconds(|| inserted.check().expect("a good mesh")).0);
     let [whole, after, last] = [&stepped, &passed, &inserted].map(|mesh| take(&|| timed(mesh).0));
-    let parts = Parts { check, first_pass: (whole - after).max(0.0), rest: (last - check).max(0.0) };
-    Checked { vertices: finished.vertex_count(), skipped, parts }
+    Parts { check, first_pass: (whole - after).max(0.0), rest: (last - check).max(0.0) }
 }
 
 /// What /proc has of this process, in kB.
@@ -221,12 +251,14 @@ fn peak(side: &str, kind: &str, count: usize) -> f64 {
     alone("memory", side, kind, count) / 1024.0
 }
 
-/// CGAL's seconds and MB on points that were written to a file; none where its program was not built.
-fn cgal(program: &Path, file: &Path) -> Option<[f64; 2]> {
+/// CGAL's seconds and MB on points that were written to a file; none where its program was not built. It has so many vertices.
+fn cgal(program: &Path, file: &Path, vertices: usize) -> Option<[f64; 2]> {
     let output = Command::new(program).arg(file).output().ok()?;
     let text = String::from_utf8(output.stdout).ok()?;
     let mut numbers = text.split_whitespace().map(|w| w.parse::<f64>());
-    Some([numbers.next()?.ok()?, numbers.next()?.ok()? / 1024.0])
+    let [time, memory, count] = [numbers.next()?.ok()?, numbers.next()?.ok()?, numbers.next()?.ok()?];
+    assert_eq!(count, vertices as f64, "CGAL's vertices");
+    Some([time, memory / 1024.0])
 }
 
 fn write_points(file: &Path, points: &[[i32; 2]]) {
@@ -237,40 +269,55 @@ fn write_points(file: &Path, points: &[[i32; 2]]) {
 struct Row {
     kind: &'static str,
     count: usize,
+    told: Told,
     ours: f64,
-    rust: f64,
-    pass: f64,
-    insertions: f64,
+    /// The Rust's run, its pass and its insertions, with the parts of ours; none where it would take too long.
+    rust: Option<([f64; 3], Parts)>,
     /// CGAL's time and memory, and the time that our sorting takes.
     cgal: Option<[f64; 3]>,
-    checked: Checked,
+}
+
+/// Whether CGAL takes so many points of a kind.
+fn is_beside_cgal(kind: &str, count: usize) -> bool {
+    is_along_lines(kind) || SORTED.contains(&kind) && count >= 100_000
 }
 
 fn measure(kind: &'static str, count: usize, turns: usize, beside: Option<&Path>) -> Row {
     let input = make(kind, count);
-    let checked = compared(&input, turns);
+    let (told, parts) = {
+        let (mesh, run) = ours(&input);
+        let is_compared = count <= rust_largest(kind);
+        (told(&mesh, &run), is_compared.then(|| compared(&input, turns, &mesh, &run)))
+    };
     let times = (100_000 / count).max(1);
     let file = Path::new("target/bench_points.bin");
-    let beside = beside.filter(|_| SORTED.contains(&kind) && count >= 100_000);
+    let beside = beside.filter(|_| is_beside_cgal(kind, count));
     if beside.is_some() {
         write_points(file, &[&input.flat_corners[..], &input.flat].concat());
     }
     let all = if beside.is_some() { unsorted(kind, count) } else { Vec::new() };
     let [mut a, mut b, mut p, mut i, mut c, mut m, mut o] = [const { Vec::new() }; 7];
     for _ in 0..turns {
+        let start = now();
         a.push(each(times, || ours(&input)));
-        let [whole, pass, insertions] = rust_times(&input, times);
-        b.push(whole);
-        p.push(pass);
-        i.push(insertions);
-        if let Some([time, memory]) = beside.and_then(|program| cgal(program, file)) {
+        if parts.is_some() {
+            let [whole, pass, insertions] = rust_times(&input, times);
+            b.push(whole);
+            p.push(pass);
+            i.push(insertions);
+        }
+        if let Some([time, memory]) = beside.and_then(|program| cgal(program, file, told.vertices)) {
             c.push(time);
             m.push(memory);
             o.push(seconds(|| by_distance(&all)).0);
         }
+        if now() - start > LONG {
+            break;
+        }
     }
+    let rust = parts.map(|parts| ([best(&b), best(&p), best(&i)], parts));
     let cgal = (!c.is_empty()).then(|| [best(&c), best(&m), best(&o)]);
-    Row { kind, count, ours: best(&a), rust: best(&b), pass: best(&p), insertions: best(&i), cgal, checked }
+    Row { kind, count, told, ours: best(&a), rust, cgal }
 }
 
 fn main() {
@@ -321,16 +368,11 @@ fn only(side: &str, kind: &str, count: usize) -> (f64, Option<Run>) {
     seconds(|| once(side, &input))
 }
 
-/// Whether 1,000,000 points are done in seconds: not where flips or searches grow faster than the number.
-fn is_quick(kind: &str) -> bool {
-    SORTED[..3].contains(&kind) || kind == "spiral"
-}
-
 fn tables(turns: usize, largest: usize, beside: Option<&Path>) {
     let kinds = SORTED.iter().chain(&OTHERS);
-    let cases = kinds.flat_map(|&kind| SIZES.map(|count| (kind, count)));
+    let cases = kinds.flat_map(|&kind| sizes(kind).iter().map(move |&count| (kind, count)));
     let rows: Vec<Row> = cases
-        .filter(|&(kind, count)| count <= largest && (count <= 100_000 || is_quick(kind)))
+        .filter(|&(_, count)| count <= largest)
         .map(|(kind, count)| {
             eprintln!("{kind} {count}");
             measure(kind, count, turns, beside)
@@ -338,6 +380,8 @@ fn tables(turns: usize, largest: usize, beside: Option<&Path>) {
         .collect();
     println!("Milliseconds:\n");
     table_of_runs(&rows);
+    println!("\nNanoseconds of a run for each of its flips:\n");
+    table_of_flips(&rows);
     println!("\nPeak memory, MB:\n");
     table_of_memory(&rows);
     println!("\nBeside CGAL, milliseconds:\n");
@@ -367,22 +411,36 @@ fn table_of_runs(rows: &[Row]) {
     let names = ["points", "number", "vertices"].iter().chain(&sides).chain(&work);
     head(&names.chain(&parts).copied().collect::<Vec<_>>());
     for r in rows {
-        let Parts { check, first_pass, rest } = r.checked.parts;
-        let [ours, rust] = [r.ours - first_pass - rest, r.rust - r.pass];
-        let Checked { vertices, skipped, .. } = r.checked;
-        let whole: [&dyn Display; 7] =
-            [&r.kind, &r.count, &vertices, &skipped, &ms(r.ours), &ms(r.rust), &ratio(r.ours, r.rust)];
-        let work: [&dyn Display; 4] = [&ms(ours), &ms(rust), &ratio(ours, rust), &ms(r.insertions)];
-        let finish: [&dyn Display; 4] = [&ms(first_pass), &ms(r.pass), &ms(rest), &ms(check)];
-        line(&[&whole[..], &work, &finish].concat());
+        let told: [&dyn Display; 5] = [&r.kind, &r.count, &r.told.vertices, &r.told.skipped, &ms(r.ours)];
+        let Some(([whole, pass, insertions], Parts { check, first_pass, rest })) = r.rust else {
+            line(&[&told[..], &[&"" as &dyn Display; 10]].concat());
+            continue;
+        };
+        let [ours, rust] = [r.ours - first_pass - rest, whole - pass];
+        let beside: [&dyn Display; 2] = [&ms(whole), &ratio(r.ours, whole)];
+        let work: [&dyn Display; 4] = [&ms(ours), &ms(rust), &ratio(ours, rust), &ms(insertions)];
+        let finish: [&dyn Display; 4] = [&ms(first_pass), &ms(pass), &ms(rest), &ms(check)];
+        line(&[&told[..], &beside, &work, &finish].concat());
+    }
+}
+
+/// Along thirty lines nearly all time goes into flips; a single line has none.
+fn table_of_flips(rows: &[Row]) {
+    head(&["points", "number", "flips", "flips a point", "ours", "Rust"]);
+    for r in rows.iter().filter(|r| r.kind == ALONG) {
+        let flips = r.told.flips as f64;
+        let of_each = |seconds: f64| format!("{:.1}", seconds * 1e9 / flips);
+        let rust = r.rust.as_ref().map(|([whole, ..], _)| of_each(*whole)).unwrap_or_default();
+        line(&[&r.kind, &r.count, &flips, &(flips / r.count as f64).round(), &of_each(r.ours), &rust]);
     }
 }
 
 fn table_of_memory(rows: &[Row]) {
     head(&["points", "number", "ours", "Rust"]);
     for r in rows.iter().filter(|r| r.count >= 100_000) {
-        let [a, b] = ["ours", "rust"].map(|side| peak(side, r.kind, r.count).round());
-        line(&[&r.kind, &r.count, &a, &b]);
+        let of = |side: &str| peak(side, r.kind, r.count).round().to_string();
+        let rust = if r.rust.is_some() { of("rust") } else { String::new() };
+        line(&[&r.kind, &r.count, &of("ours"), &rust]);
     }
 }
 
