@@ -82,9 +82,9 @@ module _ {k : Entry} {C : Counts} {q : List ℤ} {o₀ h₀ a₀ row₀ : List �
     turned : Loops room k C q s₀ (legalizeTurn room k (positionOf q) s)
     turned = going-turn isDone (legalizeTurn room k (positionOf q)) (falls room k C (positionOf q)) (I .going) goes-on
 
-    module _ {o′ h′ a′ row′ : List ℕ} {r : Turned} (T : TurnLeaves o′ h′ a′ row′ r (legalizeTurn (length row) k (positionOf q) s)) (l : SameLengths o h a row o′ h′ a′ row′) where
-      leaves : TurnLeaves o′ h′ a′ row′ r (legalizeTurn room k (positionOf q) s)
-      leaves = subst (λ (m : ℕ). TurnLeaves o′ h′ a′ row′ r (legalizeTurn m k (positionOf q) s)) (I .lengths .pending) T
+    module _ {o′ h′ a′ row′ : List ℕ} {r : Turned} (T : TurnLeaves (C .edges) o′ h′ a′ row′ r (legalizeTurn (length row) k (positionOf q) s)) (l : SameLengths o h a row o′ h′ a′ row′) where
+      leaves : TurnLeaves (C .edges) o′ h′ a′ row′ r (legalizeTurn room k (positionOf q) s)
+      leaves = subst (λ (m : ℕ). TurnLeaves (C .edges) o′ h′ a′ row′ r (legalizeTurn m k (positionOf q) s)) (I .lengths .pending) T
 
       -- a flip is refused
       pub loop-refused : r .full ≡ true → Leaves o′ h′ a′ (record { flips = r .flips; full = true }) (legalize room k C (positionOf q) s₀)

@@ -16,23 +16,23 @@ use Rattle.legalize.specs.declared.Entry.{Entry}
 use Rattle.legalize.specs.Legalize.{entryEdge}
 use Rattle.legalize.specs.LegalizeRows.{PushReady, Pushes, PopReady, Pops}
 
-module _ (k : Entry) (q : List ℤ) (h row row₁ : List ℕ) (s : PendingList) (x : ℕ) (s₁ : PendingList) (u : ℕ)
-    (R : PopReady k q h row s) (P : LastTaken row s row₁ x s₁) (v : u ≡ entryEdge k x) where
+module _ (k : Entry) (q : List ℤ) (h row row₁ : List ℕ) (s : PendingList) (x : ℕ) (s₁ : PendingList) (u edges : ℕ)
+    (R : PopReady k q h row s edges) (P : LastTaken row s row₁ x s₁ edges) (v : u ≡ entryEdge k x) where
   is-last : x ≡ getD row (s .length - 1) 0
   is-last = let l = pending-last row (s .length) (R .pending .some) in let e = P .entry in cc
 
   pub pop-circle : CircleReady q h u
   pop-circle = rw (v, is-last) (R .circle)
 
-  pub pop-pushes : PushReady k h x × SetOf row₁ s₁
+  pub pop-pushes : PushReady k h x × SetOf row₁ s₁ edges
   pop-pushes = let c = R .circle in (rw is-last (record { small = c .small; there = c .t .here }), P .set)
 
   module _ {b : Bool} (t : (o a : List ℕ) → b ≡ breaksCircle (linksOf o h a) (positionOf q) u) where
     abbrev tested : (o a : List ℕ) {c : Bool} → b ≡ c → c ≡ breaksCircle (linksOf o h a) (positionOf q) (entryEdge k (getD row (s .length - 1) 0))
     tested o a y = sym y ∙ t o a ∙ ap (breaksCircle (linksOf o h a) (positionOf q)) (v ∙ ap (entryEdge k) is-last)
 
-    pub pop-flipped : b ≡ true → {row′ : List ℕ} {s′ : PendingList} → Pushes k h x row₁ s₁ row′ s′
-        → Pops k q h row s row′ (record { edge = u; flip = true; list = s′ })
+    pub pop-flipped : b ≡ true → {row′ : List ℕ} {s′ : PendingList} → Pushes k h x row₁ s₁ row′ s′ edges
+        → Pops k q h row s row′ (record { edge = u; flip = true; list = s′ }) edges
     pop-flipped y B = record {
       edge = v ∙ ap (entryEdge k) is-last;
       flip = λ o a. tested o a y;
@@ -40,7 +40,7 @@ module _ (k : Entry) (q : List ℤ) (h row row₁ : List ℕ) (s : PendingList) 
       set = B [] [] .set;
     }
 
-    pub pop-kept : b ≡ false → Pops k q h row s row₁ (record { edge = u; flip = false; list = s₁ })
+    pub pop-kept : b ≡ false → Pops k q h row s row₁ (record { edge = u; flip = false; list = s₁ }) edges
     pop-kept y = record {
       edge = v ∙ ap (entryEdge k) is-last;
       flip = λ o a. tested o a y;

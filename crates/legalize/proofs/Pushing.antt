@@ -14,28 +14,25 @@ use Rattle.legalize.specs.declared.Entry.the-variants.{HalfEdge, Edge}
 use Rattle.legalize.specs.Legalize.{entryEdge, pushed}
 use Rattle.legalize.specs.LegalizeRows.{PushReady, Pushes}
 
-pub half-edges-pushed : (h : List ℕ) (e t : ℕ) (w : HalfEdgeEntry)
-    (row : List ℕ) (s : PendingList) (row₁ : List ℕ) (s₁ : PendingList) (row₂ : List ℕ) (s₂ : PendingList)
-    → t ≡ rev e → EntryOf (halvesOf h) t w
-    → Becomes row s row₁ s₁ (λ l. w .next ∷ l) → Becomes row₁ s₁ row₂ s₂ (λ l. w .prev ∷ l)
-    → Pushes HalfEdge h e row s row₂ s₂
-unfolding pushed linksOf
-half-edges-pushed h e t w row s row₁ s₁ row₂ s₂ q E a b = λ o f. record {
-  list = λ l H. rw (← q, ← E .next, ← E .prev) (b .list (w .next ∷ l) (a .list l H));
-  set = b .set;
-}
+module _ {row row₁ row₂ : List ℕ} {s s₁ s₂ : PendingList} {edges : ℕ} where
+  pub half-edges-pushed : (h : List ℕ) (e t : ℕ) (w : HalfEdgeEntry) → t ≡ rev e → EntryOf (halvesOf h) t w
+      → Becomes row s row₁ s₁ edges (λ l. w .next ∷ l) → Becomes row₁ s₁ row₂ s₂ edges (λ l. w .prev ∷ l)
+      → Pushes HalfEdge h e row s row₂ s₂ edges
+  unfolding pushed linksOf
+  half-edges-pushed h e t w q E a b = λ o f. record {
+    list = λ l H. rw (← q, ← E .next, ← E .prev) (b .list (w .next ∷ l) (a .list l H));
+    set = b .set;
+  }
 
-module _ {row row₀ row₁ row₂ row₃ row₄ : List ℕ} {s s₀ s₁ s₂ s₃ s₄ : PendingList} where
   pub edges-pushed : (h : List ℕ) (u : ℕ) (w v : HalfEdgeEntry)
       → EntryOf (halvesOf h) (2 * u) w → EntryOf (halvesOf h) (2 * u + 1) v
-      → Becomes row s row₀ s₀ (λ l. l)
-      → Becomes row₀ s₀ row₁ s₁ (pushIfNotContained (w .next / 2)) → Becomes row₁ s₁ row₂ s₂ (pushIfNotContained (w .prev / 2))
-      → Becomes row₂ s₂ row₃ s₃ (pushIfNotContained (v .next / 2)) → Becomes row₃ s₃ row₄ s₄ (pushIfNotContained (v .prev / 2))
-      → Pushes Edge h u row s row₄ s₄
+      → Becomes row s row₁ s₁ edges (λ l. pushIfNotContained (w .prev / 2) (pushIfNotContained (w .next / 2) l))
+      → Becomes row₁ s₁ row₂ s₂ edges (λ l. pushIfNotContained (v .prev / 2) (pushIfNotContained (v .next / 2) l))
+      → Pushes Edge h u row s row₂ s₂ edges
   unfolding pushed linksOf
-  edges-pushed h u w v E F z a b c d = λ o f. record {
-    list = λ l H. rw (← E .next, ← E .prev, ← F .next, ← F .prev) (d .list _ (c .list _ (b .list _ (a .list _ (z .list l H)))));
-    set = d .set;
+  edges-pushed h u w v E F a b = λ o f. record {
+    list = λ l H. rw (← E .next, ← E .prev, ← F .next, ← F .prev) (b .list _ (a .list l H));
+    set = b .set;
   }
 
 -- what both ask of the row of half-edges
@@ -48,6 +45,6 @@ module _ (k : Entry) (h : List ℕ) (x : ℕ) where
   unfolding entryEdge
   edges-ready e R = let R′ = subst (λ (k : Entry). PushReady k h x) e R in (R′ .small, R′ .there)
 
-  pub pushes-of : {k′ : Entry} → k ≡ k′ → {row : List ℕ} {s : PendingList} {row′ : List ℕ} {s′ : PendingList}
-      → Pushes k′ h x row s row′ s′ → Pushes k h x row s row′ s′
+  pub pushes-of : {k′ : Entry} → k ≡ k′ → {row : List ℕ} {s : PendingList} {row′ : List ℕ} {s′ : PendingList} {edges : ℕ}
+      → Pushes k′ h x row s row′ s′ edges → Pushes k h x row s row′ s′ edges
   pushes-of e P = λ o a. rw e (P o a)

@@ -23,7 +23,7 @@ unfolding pendingOf
 empty row e = rw e (holds row 0 (omega arith))
 
 module _ (k : Entry) {C : Counts} {q : List ℤ} {o h a row : List ℕ} {c : ℕ} (M : LegalizeReady C q o h a row c)
-    {row′ : List ℕ} (w : PendingList) {l : List ℕ} (H : Holds row′ (w .length) l) (S : SetOf row′ w) (same : length row′ ≡ length row) (few : length l ≤ 8) (E : EntriesIn C k l) where
+    {row′ : List ℕ} (w : PendingList) {l : List ℕ} (H : Holds row′ (w .length) l) (S : SetOf row′ w (C .edges)) (same : length row′ ≡ length row) (few : length l ≤ 8) (E : EntriesIn C k l) where
   fits : w .length ≤ length row′
   fits = let m = M .room in holds-fits H (omega arith)
 

@@ -42,7 +42,7 @@ module _ {k : Entry} {C : Counts} {q : List ℤ} {o h a row : List ℕ} {w : Pen
   in-use : entryEdge k x < C .edges
   in-use = subst (EntriesIn C k) last (R .entries) .0
 
-  pub pop-ready : PopReady k q h row w
+  pub pop-ready : PopReady k q h row w (C .edges)
   pop-ready = record {
     pending = record { some = z; fits = R .fits; set = R .set };
     circle = circle-ready (R .mesh .rows) in-use;
@@ -51,7 +51,7 @@ module _ {k : Entry} {C : Counts} {q : List ℤ} {o h a row : List ℕ} {w : Pen
   pub count-fits : flips + 1 < 2 ^ 64
   count-fits = within-room (R .mesh .bound) (R .mesh .rows .good .wf) (R .mesh .few)
 
-  module _ {row′ : List ℕ} {r : Popped} (P : Pops k q h row w row′ r) (same : length row′ ≡ length row) where
+  module _ {row′ : List ℕ} {r : Popped} (P : Pops k q h row w row′ r (C .edges)) (same : length row′ ≡ length row) where
     tested : {b : Bool} → r .flip ≡ b → breaksCircle (s .links) (positionOf q) (entryEdge k x) ≡ b
     tested e = sym (P .flip o a) ∙ e
 
@@ -61,7 +61,7 @@ module _ {k : Entry} {C : Counts} {q : List ℤ} {o h a row : List ℕ} {w : Pen
     pushes : r .flip ≡ true → Holds row′ (r .list .length) (pushed k (s .links) x l)
     pushes e = subst (λ (b : Bool). Holds row′ (r .list .length) (cond b (pushed k (s .links) x l) l)) e (P .pending o a)
 
-    pub turn-keeps : r .flip ≡ false → TurnLeaves o h a row′ (record { list = r .list; flips = flips; full = false }) (legalizeTurn (length row) k (positionOf q) s)
+    pub turn-keeps : r .flip ≡ false → TurnLeaves (C .edges) o h a row′ (record { list = r .list; flips = flips; full = false }) (legalizeTurn (length row) k (positionOf q) s)
     turn-keeps e =
         let H = not-pushed e in
         let m = pending-length row (w .length - 1) in
@@ -69,7 +69,7 @@ module _ {k : Entry} {C : Counts} {q : List ℤ} {o h a row : List ℕ} {w : Pen
         rw (turn-kept (length row) k (positionOf q) s last (tested e))
         (record { links = refl; flips = refl; full = refl; fits = λ _. holds-fits H (omega arith); set = λ _. P .set; pending = λ _. H .fits (holds-fits H (omega arith)) })
 
-    pub turn-refuses : r .flip ≡ true → length row′ < r .list .length → TurnLeaves o h a row′ (record { list = r .list; flips = flips; full = true }) (legalizeTurn (length row) k (positionOf q) s)
+    pub turn-refuses : r .flip ≡ true → length row′ < r .list .length → TurnLeaves (C .edges) o h a row′ (record { list = r .list; flips = flips; full = true }) (legalizeTurn (length row) k (positionOf q) s)
     turn-refuses e f =
         let m = pushes e .over f in
         rw (turn-refused (length row) k (positionOf q) s last (tested e) (rw same at m))
@@ -79,7 +79,7 @@ module _ {k : Entry} {C : Counts} {q : List ℤ} {o h a row : List ℕ} {w : Pen
     turn-flip-ready e = rw (P .edge) (flip-ready (held (R .mesh .rows)) in-use)
 
     pub turn-flips : r .flip ≡ true → r .list .length ≤ length row′ → {o′ h′ a′ : List ℕ} → linksOf o′ h′ a′ ≡ flipCw (linksOf o h a) (r .edge)
-        → TurnLeaves o′ h′ a′ row′ (record { list = r .list; flips = flips + 1; full = false }) (legalizeTurn (length row) k (positionOf q) s)
+        → TurnLeaves (C .edges) o′ h′ a′ row′ (record { list = r .list; flips = flips + 1; full = false }) (legalizeTurn (length row) k (positionOf q) s)
     turn-flips e f links =
         let H = pushes e in
         let m = holds-length H f in

@@ -27,22 +27,22 @@ pub record PushReady (k : Entry) (h : List ℕ) (x : ℕ) : Type 0 where
   pub there : There h (2 * entryEdge k x + 1)
 
 -- the pending row before and after the pushes of a flip, whatever the rows of out edges and faces, which the pushes do not read
-abbrev pub Pushes : Entry → List ℕ → ℕ → List ℕ → PendingList → List ℕ → PendingList → Type 0
-Pushes k h x row s row′ s′ = (o a : List ℕ) → Becomes row s row′ s′ (pushed k (linksOf o h a) x)
+abbrev pub Pushes : Entry → List ℕ → ℕ → List ℕ → PendingList → List ℕ → PendingList → ℕ → Type 0
+Pushes k h x row s row′ s′ edges = (o a : List ℕ) → Becomes row s row′ s′ edges (pushed k (linksOf o h a) x)
 
 -- ---- one entry
-pub record PopReady (k : Entry) (q : List ℤ) (h row : List ℕ) (s : PendingList) : Type 0 where
-  pub pending : ToPop row s
+pub record PopReady (k : Entry) (q : List ℤ) (h row : List ℕ) (s : PendingList) (edges : ℕ) : Type 0 where
+  pub pending : ToPop row s edges
   pub circle : CircleReady q h (entryEdge k (getD row (s .length - 1) 0))
 
 -- the last entry is taken, its edge tested, and what its flip pushes is pushed
-pub record Pops (k : Entry) (q : List ℤ) (h row : List ℕ) (s : PendingList) (row′ : List ℕ) (r : Popped) : Type 0 where
+pub record Pops (k : Entry) (q : List ℤ) (h row : List ℕ) (s : PendingList) (row′ : List ℕ) (r : Popped) (edges : ℕ) : Type 0 where
   pub edge : r .edge ≡ entryEdge k (getD row (s .length - 1) 0)
   pub flip : (o a : List ℕ) → r .flip ≡ breaksCircle (linksOf o h a) (positionOf q) (entryEdge k (getD row (s .length - 1) 0))
   pub pending : (o a : List ℕ)
       → Holds row′ (r .list .length) (cond (r .flip)
       (pushed k (linksOf o h a) (getD row (s .length - 1) 0) (pendingOf row (s .length - 1))) (pendingOf row (s .length - 1)))
-  pub set : SetOf row′ (r .list)
+  pub set : SetOf row′ (r .list) edges
 
 -- ---- the loop
 -- a good mesh with a count of flips that can go on
@@ -57,20 +57,20 @@ pub record LegalizeReady (C : Counts) (q : List ℤ) (o h a row : List ℕ) (fli
 pub record TurnReady (k : Entry) (C : Counts) (q : List ℤ) (o h a row : List ℕ) (s : PendingList) (flips : ℕ) : Type 0 where
   pub mesh : LegalizeReady C q o h a row flips
   pub fits : s .length ≤ length row
-  pub set : SetOf row s
+  pub set : SetOf row s (C .edges)
   pub entries : EntriesIn C k (pendingOf row (s .length))
 
 -- the state that the rows, the list's length and the count hold
 abbrev pub stateOf : List ℕ → List ℕ → List ℕ → List ℕ → ℕ → ℕ → Legalizing
 stateOf o h a row n flips = record { links = linksOf o h a; pending = pendingOf row n; flips = flips; full = false }
 
--- what a turn leaves; after a refusal the pending row is not read again
-pub record TurnLeaves (o h a row : List ℕ) (r : Turned) (s : Legalizing) : Type 0 where
+-- what a turn leaves, in a mesh of so many edges; after a refusal the pending row is not read again
+pub record TurnLeaves (edges : ℕ) (o h a row : List ℕ) (r : Turned) (s : Legalizing) : Type 0 where
   pub links : linksOf o h a ≡ s .links
   pub flips : r .flips ≡ s .flips
   pub full : r .full ≡ s .full
   pub fits : r .full ≡ false → r .list .length ≤ length row
-  pub set : r .full ≡ false → SetOf row (r .list)
+  pub set : r .full ≡ false → SetOf row (r .list) edges
   pub pending : r .full ≡ false → pendingOf row (r .list .length) ≡ s .pending
 
 -- what a call leaves

@@ -4,17 +4,18 @@
 // for the mesh, is in specs/LegalizeLaws.antt. `counts` says which mesh the rows hold; the code needs the number of its edges alone, for a
 // long list's set of them.
 ghost use mathlib.Core.Path.{_≡_};
-ghost use Prim.Native.Nat.{_+_, _*_, _^_, _<_};
+ghost use Prim.Native.Nat.{ℕ, _+_, _*_, _^_, _<_};
 ghost use lib.ListN.{length};
 ghost use Rattle.mesh.specs.Mesh.{In};
 ghost use Rattle.dcel.specs.Rows.{linksOf, positionOf, There};
-ghost use Rattle.pending.specs.Set.{SetOf};
+ghost use Rattle.pending.specs.Set.{SetOf, ToPop, LastTaken};
 ghost use Rattle.sums.specs.Half.{rev};
 ghost use Rattle.legalize.specs.Legalize.{entryEdge, legalizeTurn, legalize, legalizeEdge, legalizeEdgesAfterRemoval};
 ghost use Rattle.legalize.specs.LegalizeRows.{PushReady, Pushes, PopReady, Pops, LegalizeReady, TurnReady, stateOf, TurnLeaves, Leaves};
 ghost use Rattle.legalize.specs.declared.Entry.the-variants.{HalfEdge, Edge};
 use mesh::Counts;
 use pending::PendingList;
+use pending::Taken;
 
 // What an entry of the pending list is: a half-edge in `legalize_edge`, an edge in `legalize_edges_after_removal`.
 pub enum Entry {
@@ -54,7 +55,7 @@ fn entry_edge(entry: Entry, x: u32) -> u32
 // What `legalize_edge` pushes at the flip of the half-edge e.
 fn push_half_edges(halves: &[u32], pending: &mut [u32], list: PendingList, e: u32) -> PendingList
     requires { ⌜ There (now halves) (rev e) ⌝ }
-    ensures { λ r. ⌜ Pushes HalfEdge (now (halves .entry)) e (now (pending .entry)) list (now (pending .exit)) r ⌝ }
+    ensures { λ r. ⌜ ((edges : ℕ) → Pushes HalfEdge (now (halves .entry)) e (now (pending .entry)) list (now (pending .exit)) r edges) ⌝ }
 {
     let t = dcel::rev(e);
     let rev = dcel::half_edge(halves, t);
@@ -67,35 +68,43 @@ fn push_edges(
     halves: &[u32],
     pending: &mut [u32],
     list: PendingList,
-    u: u32,
     edges: u32,
+    u: u32,
 ) -> PendingList
-    requires { ⌜ (2 * u + 1 < 2 ^ 32) × There (now halves) (2 * u + 1) × SetOf (now pending) list ⌝ }
-    ensures { λ r. ⌜ Pushes Edge (now (halves .entry)) u (now (pending .entry)) list (now (pending .exit)) r ⌝ }
+    requires { ⌜ (2 * u + 1 < 2 ^ 32) × There (now halves) (2 * u + 1) × SetOf (now pending) list edges ⌝ }
+    ensures { λ r. ⌜ Pushes Edge (now (halves .entry)) u (now (pending .entry)) list (now (pending .exit)) r edges ⌝ }
 {
     let edge = dcel::half_edge(halves, 2 * u);
     let rev = dcel::half_edge(halves, 2 * u + 1);
-    let l0 = pending::prepare(pending, list, edges);
-    let l1 = pending::push_if_not_contained(pending, l0, edge.next / 2);
-    let l2 = pending::push_if_not_contained(pending, l1, edge.prev / 2);
-    let l3 = pending::push_if_not_contained(pending, l2, rev.next / 2);
-    pending::push_if_not_contained(pending, l3, rev.prev / 2)
+    let two = pending::push_two(pending, list, edges, edge.next / 2, edge.prev / 2);
+    pending::push_two(pending, two, edges, rev.next / 2, rev.prev / 2)
 }
 
 fn push_neighbours(
     halves: &[u32],
     pending: &mut [u32],
     list: PendingList,
+    edges: u32,
     x: u32,
     entry: Entry,
-    edges: u32,
 ) -> PendingList
-    requires { ⌜ PushReady entry (now halves) x × SetOf (now pending) list ⌝ }
-    ensures { λ r. ⌜ Pushes entry (now (halves .entry)) x (now (pending .entry)) list (now (pending .exit)) r ⌝ }
+    requires { ⌜ PushReady entry (now halves) x × SetOf (now pending) list edges ⌝ }
+    ensures { λ r. ⌜ Pushes entry (now (halves .entry)) x (now (pending .entry)) list (now (pending .exit)) r edges ⌝ }
 {
     match entry {
         Entry::HalfEdge => push_half_edges(halves, pending, list, x),
-        Entry::Edge => push_edges(halves, pending, list, x, edges),
+        Entry::Edge => push_edges(halves, pending, list, edges, x),
+    }
+}
+
+// The last entry, and the list without it. Half-edges have no set.
+fn take(pending: &mut [u32], list: PendingList, edges: u32, entry: Entry) -> Taken
+    requires { ⌜ ToPop (now pending) list edges ⌝ }
+    ensures { λ r. ⌜ LastTaken (now (pending .entry)) list (now (pending .exit)) (r .entry) (r .list) edges ⌝ }
+{
+    match entry {
+        Entry::HalfEdge => pending::last(pending, list),
+        Entry::Edge => pending::pop(pending, list, edges),
     }
 }
 
@@ -105,18 +114,18 @@ fn pop(
     halves: &[u32],
     pending: &mut [u32],
     list: PendingList,
-    entry: Entry,
     edges: u32,
+    entry: Entry,
 ) -> Popped
-    requires { ⌜ PopReady entry (now positions) (now halves) (now pending) list ⌝ }
-    ensures { λ r. ⌜ Pops entry (now (positions .entry)) (now (halves .entry)) (now (pending .entry)) list (now (pending .exit)) r ⌝ }
+    requires { ⌜ PopReady entry (now positions) (now halves) (now pending) list edges ⌝ }
+    ensures { λ r. ⌜ Pops entry (now (positions .entry)) (now (halves .entry)) (now (pending .entry)) list (now (pending .exit)) r edges ⌝ }
 {
-    let taken = pending::pop(pending, list);
+    let taken = take(pending, list, edges, entry);
     let x = taken.entry;
     let rest = taken.list;
     let u = entry_edge(entry, x);
     if circle_test::should_flip(positions, halves, u) {
-        let pushed = push_neighbours(halves, pending, rest, x, entry, edges);
+        let pushed = push_neighbours(halves, pending, rest, edges, x, entry);
         return Popped {
             edge: u,
             flip: true,
@@ -145,11 +154,11 @@ fn turn(
 ) -> Turned
     requires { ⌜ TurnReady entry counts (now positions) (now outs) (now halves) (now faces) (now pending) list flips
         × (0 < list .length) ⌝ }
-    ensures { λ r. ⌜ TurnLeaves (now (outs .exit)) (now (halves .exit)) (now (faces .exit)) (now (pending .exit)) r
+    ensures { λ r. ⌜ TurnLeaves (counts .edges) (now (outs .exit)) (now (halves .exit)) (now (faces .exit)) (now (pending .exit)) r
         (legalizeTurn (length (now (pending .entry))) entry (positionOf (now (positions .entry)))
         (stateOf (now (outs .entry)) (now (halves .entry)) (now (faces .entry)) (now (pending .entry)) (list .length) flips)) ⌝ }
 {
-    let popped = pop(positions, halves, pending, list, entry, counts.edges);
+    let popped = pop(positions, halves, pending, list, counts.edges, entry);
     let left = popped.list;
     if !popped.flip {
         return Turned {

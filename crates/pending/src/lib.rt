@@ -11,12 +11,11 @@ ghost use lib.ListN.{length, getD, set};
 ghost use Rattle.pending.specs.Pending.{pendingOf, contains, oneOf, pushIfNotContained};
 ghost use Rattle.pending.specs.Set.{wordAt, isMarked, Marks, SetOf, Becomes, ToPop, LastTaken, Cleared, MarkedTo};
 
-// The list's value: its length; how many words at the row's end are a set of its entries, 0 where there is none; and how many entries may
-// be looked through before one is made.
+// The list's value: its length; how many entries may be looked through before a set of them is made; and whether there is one.
 pub struct PendingList {
     pub length: usize,
-    pub words: usize,
-    pub looks: usize,
+    pub looks: u32,
+    pub set: bool,
 }
 
 // The entry that was taken from the list, and the list without it.
@@ -87,40 +86,39 @@ pub fn contains(pending: &[u32], n: usize, x: u32) -> bool
 
 // A list without entries, of the numbers below `edges`. A set is worth its making when an eighth of its words have been looked at.
 pub fn empty_list(edges: u32) -> PendingList
-    ensures { λ r. ⌜ (r .length ≡ 0) × (r .words ≡ 0) ⌝ }
+    ensures { λ r. ⌜ (r .length ≡ 0) × (r .set ≡ false) ⌝ }
 {
     PendingList {
         length: 0,
-        words: 0,
-        looks: (edges / 256) as usize,
+        looks: edges / 256,
+        set: false,
+    }
+}
+
+// The value of a list of so many entries that has no set.
+fn without_set(list: PendingList, length: usize) -> PendingList
+    ensures { λ r. ⌜ (r .length ≡ length) × (r .set ≡ false) ⌝ }
+{
+    PendingList {
+        length: length,
+        looks: list.looks,
+        set: false,
     }
 }
 
 // The list with x, whose length is past the row's end where it no longer fits the row. There is no set then.
 pub fn push(pending: &mut [u32], list: PendingList, x: u32) -> PendingList
-    ensures { λ r. ⌜ Becomes (now (pending .entry)) list (now (pending .exit)) r (λ l. x ∷ l) ⌝ }
+    ensures { λ r. ⌜ ((edges : ℕ) → Becomes (now (pending .entry)) list (now (pending .exit)) r edges (λ l. x ∷ l)) ⌝ }
 {
     let n = list.length;
     if n > pending.len() {
-        return PendingList {
-            length: n,
-            words: 0,
-            looks: list.looks,
-        };
+        return without_set(list, n);
     }
     if n == pending.len() {
-        return PendingList {
-            length: n + 1,
-            words: 0,
-            looks: list.looks,
-        };
+        return without_set(list, n + 1);
     }
     pending[n] = x;
-    PendingList {
-        length: n + 1,
-        words: 0,
-        looks: list.looks,
-    }
+    without_set(list, n + 1)
 }
 
 // Whether the set has x.
@@ -152,20 +150,33 @@ fn unmark(pending: &mut [u32], x: u32)
     pending[at] = pending[at] - (1 << (x % 32));
 }
 
-// The last entry is taken from the list, and from the set.
-pub fn pop(pending: &mut [u32], list: PendingList) -> Taken
-    requires { ⌜ ToPop (now pending) list ⌝ }
-    ensures { λ r. ⌜ LastTaken (now (pending .entry)) list (now (pending .exit)) (r .entry) (r .list) ⌝ }
+// The last entry is taken from the list, which has no set then.
+pub fn last(pending: &[u32], list: PendingList) -> Taken
+    requires { ⌜ (0 < list .length) × (list .length ≤ length (now pending)) ⌝ }
+    ensures { λ r. ⌜ ((edges : ℕ) → LastTaken (now (pending .entry)) list (now (pending .entry)) (r .entry) (r .list) edges) ⌝ }
+{
+    let n = list.length - 1;
+    let rest = without_set(list, n);
+    Taken {
+        entry: pending[n],
+        list: rest,
+    }
+}
+
+// The last entry is taken from the list, and from the set. The numbers are below `edges`.
+pub fn pop(pending: &mut [u32], list: PendingList, edges: u32) -> Taken
+    requires { ⌜ ToPop (now pending) list edges ⌝ }
+    ensures { λ r. ⌜ LastTaken (now (pending .entry)) list (now (pending .exit)) (r .entry) (r .list) edges ⌝ }
 {
     let n = list.length - 1;
     let x = pending[n];
-    if ((x / 32) as usize) < list.words {
+    if list.set {
         unmark(pending, x);
     }
     let rest = PendingList {
         length: n,
-        words: list.words,
         looks: list.looks,
+        set: list.set,
     };
     Taken {
         entry: x,
@@ -185,16 +196,16 @@ fn clear_words(pending: &mut [u32], from: usize)
     }
 }
 
-// Puts the first n entries into a set of so many words that are zeros, unless one stands twice or has no bit there.
-fn mark_entries(pending: &mut [u32], n: usize, words: usize) -> bool
-    requires { ⌜ MarkedTo (now pending) (now pending) 0 n words ⌝ }
+// Puts the first n entries into a set of the numbers below `edges`, whose words are zeros, unless one stands twice or is no such number.
+fn mark_entries(pending: &mut [u32], n: usize, edges: u32) -> bool
+    requires { ⌜ MarkedTo (now pending) (now pending) 0 n edges ⌝ }
     ensures { λ r. ⌜ (pendingOf (now (pending .exit)) n ≡ pendingOf (now (pending .entry)) n)
-        × (r ≡ true → Marks (now (pending .exit)) n words) ⌝ }
+        × (r ≡ true → Marks (now (pending .exit)) n edges) ⌝ }
 {
     let mut i = 0;
     while i < n {
         let x = pending[i];
-        if (x / 32) as usize >= words {
+        if x >= edges {
             return false;
         }
         if is_marked(pending, x) {
@@ -206,16 +217,17 @@ fn mark_entries(pending: &mut [u32], n: usize, words: usize) -> bool
     true
 }
 
-// A set of so many words, if the list leaves them free. If it does not, as many entries are looked through before the next try.
-fn make_set(pending: &mut [u32], list: PendingList, words: usize) -> PendingList
-    ensures { λ r. ⌜ Becomes (now (pending .entry)) list (now (pending .exit)) r (λ l. l) ⌝ }
+// A set of the list's entries, if it leaves the words free. If it does not, as many entries are looked through before the next try.
+fn make_set(pending: &mut [u32], list: PendingList, edges: u32) -> PendingList
+    ensures { λ r. ⌜ Becomes (now (pending .entry)) list (now (pending .exit)) r edges (λ l. l) ⌝ }
 {
     let n = list.length;
     let none = PendingList {
         length: n,
-        words: 0,
-        looks: words / 8,
+        looks: edges / 256,
+        set: false,
     };
+    let words = (edges / 32) as usize + 1;
     if words > pending.len() {
         return none;
     }
@@ -224,81 +236,94 @@ fn make_set(pending: &mut [u32], list: PendingList, words: usize) -> PendingList
         return none;
     }
     clear_words(pending, from);
-    if !mark_entries(pending, n, words) {
+    if !mark_entries(pending, n, edges) {
         return none;
     }
     PendingList {
         length: n,
-        words: words,
         looks: 0,
+        set: true,
     }
 }
 
-// What comes before a flip's pushes: a set of the numbers below `edges`, where the list is long and has been looked through often enough.
-pub fn prepare(pending: &mut [u32], list: PendingList, edges: u32) -> PendingList
-    requires { ⌜ SetOf (now pending) list ⌝ }
-    ensures { λ r. ⌜ Becomes (now (pending .entry)) list (now (pending .exit)) r (λ l. l) ⌝ }
+// A set, where the list is long and has been looked through often enough.
+fn prepare(pending: &mut [u32], list: PendingList, edges: u32) -> PendingList
+    requires { ⌜ SetOf (now pending) list edges ⌝ }
+    ensures { λ r. ⌜ Becomes (now (pending .entry)) list (now (pending .exit)) r edges (λ l. l) ⌝ }
 {
     let n = list.length;
     if n < FEW {
         return list;
     }
-    if list.words > 0 {
+    if list.set {
         return list;
     }
-    if n < list.looks {
+    if n < list.looks as usize {
         return PendingList {
             length: n,
-            words: 0,
-            looks: list.looks - n,
+            looks: list.looks - n as u32,
+            set: false,
         };
     }
-    make_set(pending, list, (edges / 32) as usize + 1)
+    make_set(pending, list, edges)
 }
 
 // `push` of an x that is not pushed where it is there already, by a look through the entries.
 fn push_looking(pending: &mut [u32], list: PendingList, x: u32) -> PendingList
-    requires { ⌜ SetOf (now pending) list ⌝ }
-    ensures { λ r. ⌜ Becomes (now (pending .entry)) list (now (pending .exit)) r (pushIfNotContained x) ⌝ }
+    ensures { λ r. ⌜ ((edges : ℕ) → Becomes (now (pending .entry)) list (now (pending .exit)) r edges (pushIfNotContained x)) ⌝ }
 {
     let n = list.length;
     if n > pending.len() {
-        return list;
+        return without_set(list, n);
     }
     if contains(pending, n, x) {
-        return list;
+        return without_set(list, n);
     }
     push(pending, list, x)
 }
 
 // The same by the set. Where the list needs its room, the set is given up.
-fn push_marking(pending: &mut [u32], list: PendingList, x: u32) -> PendingList
-    requires { ⌜ SetOf (now pending) list × (x / 32 < list .words) ⌝ }
-    ensures { λ r. ⌜ Becomes (now (pending .entry)) list (now (pending .exit)) r (pushIfNotContained x) ⌝ }
+fn push_marking(pending: &mut [u32], list: PendingList, edges: u32, x: u32) -> PendingList
+    requires { ⌜ Marks (now pending) (list .length) edges ⌝ }
+    ensures { λ r. ⌜ Becomes (now (pending .entry)) list (now (pending .exit)) r edges (pushIfNotContained x) ⌝ }
 {
+    if x >= edges {
+        return push_looking(pending, list, x);
+    }
     if is_marked(pending, x) {
         return list;
     }
     let n = list.length;
-    if pending.len() - n <= list.words {
+    if pending.len() - n <= (edges / 32) as usize + 1 {
         return push(pending, list, x);
     }
     mark(pending, x);
     pending[n] = x;
     PendingList {
         length: n + 1,
-        words: list.words,
         looks: list.looks,
+        set: list.set,
     }
 }
 
-// `push` of an x that is not pushed where it is there already.
-pub fn push_if_not_contained(pending: &mut [u32], list: PendingList, x: u32) -> PendingList
-    requires { ⌜ SetOf (now pending) list ⌝ }
-    ensures { λ r. ⌜ Becomes (now (pending .entry)) list (now (pending .exit)) r (pushIfNotContained x) ⌝ }
+fn push_if_not_contained(pending: &mut [u32], list: PendingList, edges: u32, x: u32) -> PendingList
+    requires { ⌜ SetOf (now pending) list edges ⌝ }
+    ensures { λ r. ⌜ Becomes (now (pending .entry)) list (now (pending .exit)) r edges (pushIfNotContained x) ⌝ }
 {
-    if ((x / 32) as usize) < list.words {
-        return push_marking(pending, list, x);
+    if list.set {
+        return push_marking(pending, list, edges, x);
     }
     push_looking(pending, list, x)
+}
+
+// a, then b, each if it is not there already, on a list of the numbers below `edges`. A flip pushes two such pairs: with two callers this stays
+// a function of its own, and the loop that flips, most of whose entries are half-edges, is kept free of sets.
+pub fn push_two(pending: &mut [u32], list: PendingList, edges: u32, a: u32, b: u32) -> PendingList
+    requires { ⌜ SetOf (now pending) list edges ⌝ }
+    ensures { λ r. ⌜ Becomes (now (pending .entry)) list (now (pending .exit)) r edges
+        (λ l. pushIfNotContained b (pushIfNotContained a l)) ⌝ }
+{
+    let l0 = prepare(pending, list, edges);
+    let l1 = push_if_not_contained(pending, l0, edges, a);
+    push_if_not_contained(pending, l1, edges, b)
 }

@@ -20,7 +20,7 @@ legalize-pending-requires c κs =
     let s = c .before .before .before .before .before .before .before .before .before .before .before .before .before in
     let p = c .before .before .before .before .before .before .push in
     let z = c .before .before .before .before .before .before .before .before .empty-list in
-    start-ready HalfEdge (s .pre .0) (p .result) (p .ensures .list [] (empty _ (z .ensures .0))) (p .ensures .set) (p .kept .0) (omega arith)
+    start-ready HalfEdge (s .pre .0) (p .result) (p .ensures (s .args .counts .edges) .list [] (empty _ (z .ensures .0))) (p .ensures (s .args .counts .edges) .set) (p .kept .0) (omega arith)
     (half-edge-in (s .args .counts) _ (s .pre .1))
 
 same-length : tie.Need-same-length
@@ -41,7 +41,7 @@ returns c =
     let s = c .before .before .before .before .before .before .before .before .before .before .before .before .before .before .before .before .before .before .before .before .before .before in
     let p = c .before .before .before .before .before .before .before .before .before .before .before .before .before .before .before .push in
     let z = c .before .before .before .before .before .before .before .before .before .before .before .before .before .before .before .before .before .empty-list in
-    start-leaves HalfEdge (s .pre .0) (p .result) (p .ensures .list [] (empty _ (z .ensures .0))) (p .ensures .set) (p .kept .0) (omega arith)
+    start-leaves HalfEdge (s .pre .0) (p .result) (p .ensures (s .args .counts .edges) .list [] (empty _ (z .ensures .0))) (p .ensures (s .args .counts .edges) .set) (p .kept .0) (omega arith)
     (half-edge-in (s .args .counts) _ (s .pre .1)) (c .before .before .before .before .before .before .before .before .legalize-pending .ensures)
 
 pub legalize-edge-spec : {M : Type 1} → statement M

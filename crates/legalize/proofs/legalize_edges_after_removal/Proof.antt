@@ -24,7 +24,7 @@ legalize-pending-requires c κs =
     let p₁ = c .before .before .before .before .before .before .before .before .before .before .push in
     let p₂ = c .before .before .before .before .before .before .push2 in
     let z = c .before .before .before .before .before .before .before .before .before .before .before .before .empty-list in
-    start-ready Edge (s .pre .0) (p₂ .result) (p₂ .ensures .list _ (p₁ .ensures .list [] (empty _ (z .ensures .0)))) (p₂ .ensures .set) (p₂ .kept .0 ∙ p₁ .kept .0) (omega arith)
+    start-ready Edge (s .pre .0) (p₂ .result) (p₂ .ensures (s .args .counts .edges) .list _ (p₁ .ensures (s .args .counts .edges) .list [] (empty _ (z .ensures .0)))) (p₂ .ensures (s .args .counts .edges) .set) (p₂ .kept .0 ∙ p₁ .kept .0) (omega arith)
     (edges-in (s .args .counts) _ _ (s .pre .1) (s .pre .2))
 
 same-length : tie.Need-same-length
@@ -46,7 +46,7 @@ returns c =
     let p₁ = c .before .before .before .before .before .before .before .before .before .before .before .before .before .before .before .before .before .before .before .push in
     let p₂ = c .before .before .before .before .before .before .before .before .before .before .before .before .before .before .before .push2 in
     let z = c .before .before .before .before .before .before .before .before .before .before .before .before .before .before .before .before .before .before .before .before .before .empty-list in
-    start-leaves Edge (s .pre .0) (p₂ .result) (p₂ .ensures .list _ (p₁ .ensures .list [] (empty _ (z .ensures .0)))) (p₂ .ensures .set) (p₂ .kept .0 ∙ p₁ .kept .0) (omega arith)
+    start-leaves Edge (s .pre .0) (p₂ .result) (p₂ .ensures (s .args .counts .edges) .list _ (p₁ .ensures (s .args .counts .edges) .list [] (empty _ (z .ensures .0)))) (p₂ .ensures (s .args .counts .edges) .set) (p₂ .kept .0 ∙ p₁ .kept .0) (omega arith)
     (edges-in (s .args .counts) _ _ (s .pre .1) (s .pre .2)) (c .before .before .before .before .before .before .before .before .legalize-pending .ensures)
 
 pub legalize-edges-after-removal-spec : {M : Type 1} → statement M

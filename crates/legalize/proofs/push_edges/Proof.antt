@@ -20,31 +20,20 @@ add-half-edge c = search needs
 half-edge-requires-2 : tie.Need-half-edge-requires-2
 half-edge-requires-2 c κs = search needs
 
-prepare-requires : tie.Need-prepare-requires
-prepare-requires c κs = c .before .before .before .before .before .pre .2
+push-two-requires : tie.Need-push-two-requires
+push-two-requires c κs = c .before .before .before .before .before .before .before .pre .2
 
-push-if-not-contained-requires : tie.Need-push-if-not-contained-requires
-push-if-not-contained-requires c κs = c .before .before .before .before .prepare .ensures .set
-
-push-if-not-contained-requires-2 : tie.Need-push-if-not-contained-requires-2
-push-if-not-contained-requires-2 c κs = c .before .before .before .before .push-if-not-contained .ensures .set
-
-push-if-not-contained-requires-3 : tie.Need-push-if-not-contained-requires-3
-push-if-not-contained-requires-3 c κs = c .before .before .before .before .push-if-not-contained2 .ensures .set
-
-push-if-not-contained-requires-4 : tie.Need-push-if-not-contained-requires-4
-push-if-not-contained-requires-4 c κs = c .before .before .before .before .push-if-not-contained3 .ensures .set
+push-two-requires-2 : tie.Need-push-two-requires-2
+push-two-requires-2 c κs = c .before .before .before .before .before .push-two .ensures .set
 
 same-length : tie.Need-same-length
 same-length c =
-    c .before .before .push-if-not-contained4 .kept .0 ∙ c .before .before .before .before .before .before .before .push-if-not-contained3 .kept .0 ∙ c .before .before .before .before .before .before .before .before .before .before .before .before .push-if-not-contained2 .kept .0 ∙ c .before .before .before .before .before .before .before .before .before .before .before .before .before .before .before .before .before .push-if-not-contained .kept .0
-    ∙ c .before .before .before .before .before .before .before .before .before .before .before .before .before .before .before .before .before .before .before .before .before .before .prepare .kept .0
+    c .before .before .push-two2 .kept .0 ∙ c .before .before .before .before .before .before .before .before .push-two .kept .0
 
 returns : tie.Need-returns
 returns c =
-    edges-pushed _ _ _ _ (c .before .before .before .before .before .before .before .before .before .before .before .before .before .before .before .before .before .before .before .before .before .before .before .before .before .half-edge .ensures) (c .before .before .before .before .before .before .before .before .before .before .before .before .before .before .before .before .before .before .before .before .before .before .before .before .half-edge2 .ensures) (c .before .before .before .before .before .before .before .before .before .before .before .before .before .before .before .before .before .before .before .before .before .before .prepare .ensures)
-    (c .before .before .before .before .before .before .before .before .before .before .before .before .before .before .before .before .before .push-if-not-contained .ensures) (c .before .before .before .before .before .before .before .before .before .before .before .before .push-if-not-contained2 .ensures)
-    (c .before .before .before .before .before .before .before .push-if-not-contained3 .ensures) (c .before .before .push-if-not-contained4 .ensures)
+    edges-pushed _ _ _ _ (c .before .before .before .before .before .before .before .before .before .before .before .before .before .half-edge .ensures) (c .before .before .before .before .before .before .before .before .before .before .before .before .half-edge2 .ensures)
+    (c .before .before .before .before .before .before .before .before .push-two .ensures) (c .before .before .push-two2 .ensures)
 
 pub push-edges-spec : {M : Type 1} → statement M
 push-edges-spec =
@@ -55,10 +44,7 @@ push-edges-spec =
     mul-half-edge-2
     add-half-edge
     half-edge-requires-2
-    prepare-requires
-    push-if-not-contained-requires
-    push-if-not-contained-requires-2
-    push-if-not-contained-requires-3
-    push-if-not-contained-requires-4
+    push-two-requires
+    push-two-requires-2
     same-length
     returns)

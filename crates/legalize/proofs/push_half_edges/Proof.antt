@@ -21,12 +21,16 @@ same-length c = search needs
 
 returns : tie.Need-returns
 returns c =
-    let d = c .before .before in
-    let e = d .before .before .before .before in
-    let r = e .before .before in
-    half-edges-pushed _ _ _ _ _ _ _ _ _ _ (r .before .rev .ensures) (r .half-edge .ensures) (e .push .ensures) (d .push2 .ensures)
+    λ edges. half-edges-pushed _ _ _ _ (c .before .before .before .before .before .before .before .before .before .rev .ensures) (c .before .before .before .before .before .before .before .before .half-edge .ensures)
+    (c .before .before .before .before .before .before .push .ensures edges) (c .before .before .push2 .ensures edges)
 
 pub push-half-edges-spec : {M : Type 1} → statement M
 push-half-edges-spec =
     tie.close
-    (tie.spec rev-requires half-edge-requires push-requires push-requires-2 same-length returns)
+    (tie.spec
+    rev-requires
+    half-edge-requires
+    push-requires
+    push-requires-2
+    same-length
+    returns)

@@ -22,7 +22,7 @@ same-length : tie.Need-same-length
 same-length c = search needs
 
 returns : tie.Need-returns
-returns c = pushes-of _ _ _ (c .before .before .before .before .enum-told .given .1) (c .before .before .push-half-edges .ensures)
+returns c = pushes-of _ _ _ (c .before .before .before .before .enum-told .given .1) (c .before .before .push-half-edges .ensures _)
 
 same-length-2 : tie.Need-same-length-2
 same-length-2 c = search needs

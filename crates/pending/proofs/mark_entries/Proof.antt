@@ -1,5 +1,5 @@
 -- `pending::mark_entries` meets its contract: entry after entry. The measure is how many are left. Assumes nothing.
-use Rattle.pending.specs.SetLaws.{marked-next, marks-end}
+use Rattle.pending.specs.SetLaws.{word-in, marked-next, marks-end}
 use Rattle.pending.specs.Set.{MarkedTo}
 use Prim.Native.Nat.{_-_}
 use mathlib.Core.Path.{sym, _∙_}
@@ -10,10 +10,10 @@ use Rattle.pending.proofs.mark_entries.Statement.{statement}
 use Rattle.pending.proofs.mark_entries.Tie as tie
 
 abbrev Inv-loop : tie.InvT-loop
-Inv-loop pending₀ n words i₀ pending i = MarkedTo pending₀ pending i n words
+Inv-loop pending₀ n edges i₀ pending i = MarkedTo pending₀ pending i n edges
 
 abbrev μ-loop : tie.MeasureT-loop
-μ-loop pending₀ n words i₀ pending i = n - i
+μ-loop pending₀ n edges i₀ pending i = n - i
 
 loop-holds : tie.Need-loop-holds Inv-loop μ-loop
 loop-holds c = c .before .pre
@@ -24,9 +24,6 @@ mul-x c = let k = c .before .loop .inv in let r = k .room in let s = k .same in 
 slice-read-x : tie.Need-slice-read-x Inv-loop μ-loop
 slice-read-x c = let k = c .before .before .loop .inv in let r = k .room in let s = k .same in omega arith
 
-cast-if1 : tie.Need-cast-if1 Inv-loop μ-loop
-cast-if1 c = record { fits = omega (arith, c .slice-known2 .given (c .before .before .loop .i)) }
-
 same-length : tie.Need-same-length Inv-loop μ-loop
 same-length c = c .before .before .before .loop .inv .same
 
@@ -34,7 +31,7 @@ returns : tie.Need-returns Inv-loop μ-loop
 returns c = (c .before .before .before .loop .inv .kept, λ t. absurd (false≢true t))
 
 is-marked-requires : tie.Need-is-marked-requires Inv-loop μ-loop
-is-marked-requires c κs = let k = c .before .before .before .before .loop .inv in let r = k .room in let s = k .same in let l = c .before .if1 .left in omega arith
+is-marked-requires c κs = word-in (c .before .before .before .before .loop .inv) (c .before .if1 .left)
 
 same-length-2 : tie.Need-same-length-2 Inv-loop μ-loop
 same-length-2 c = c .before .before .before .before .before .before .loop .inv .same
@@ -43,7 +40,7 @@ returns-2 : tie.Need-returns-2 Inv-loop μ-loop
 returns-2 c = (c .before .before .before .before .before .before .loop .inv .kept, λ t. absurd (false≢true t))
 
 mark-requires : tie.Need-mark-requires Inv-loop μ-loop
-mark-requires c κs = let k = c .before .before .before .before .before .before .before .loop .inv in let r = k .room in let s = k .same in let l = c .before .before .before .before .if1 .left in (omega arith, sym (c .before .before .is-marked .ensures) ∙ c .before .if2 .left)
+mark-requires c κs = (word-in (c .before .before .before .before .before .before .before .loop .inv) (c .before .before .before .before .if1 .left), sym (c .before .before .is-marked .ensures) ∙ c .before .if2 .left)
 
 add-i : tie.Need-add-i Inv-loop μ-loop
 add-i c = search needs
@@ -52,7 +49,7 @@ loop-less : tie.Need-loop-less Inv-loop μ-loop
 loop-less c = let l = c .before .before .before .before .before .before .before .before .before .loop-test .taken in omega arith
 
 loop-again : tie.Need-loop-again Inv-loop μ-loop
-loop-again c = let k = c .before .before .before .before .before .before .before .before .before .before .loop .inv in marked-next k (c .before .before .before .before .before .before .before .before .before .loop-test .taken) (c .before .before .before .before .before .before .before .if1 .left) (sym (c .before .before .before .before .before .is-marked .ensures) ∙ c .before .before .before .before .if2 .left) (c .before .before .mark .ensures)
+loop-again c = marked-next (c .before .before .before .before .before .before .before .before .before .before .loop .inv) (c .before .before .before .before .before .before .before .before .before .loop-test .taken) (c .before .before .before .before .before .before .before .if1 .left) (sym (c .before .before .before .before .before .is-marked .ensures) ∙ c .before .before .before .before .if2 .left) (c .before .before .mark .ensures)
 
 same-length-3 : tie.Need-same-length-3 Inv-loop μ-loop
 same-length-3 c = c .before .loop .inv .same
@@ -69,7 +66,6 @@ mark-entries-spec =
     loop-holds
     mul-x
     slice-read-x
-    cast-if1
     same-length
     returns
     is-marked-requires

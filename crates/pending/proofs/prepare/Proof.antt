@@ -1,27 +1,26 @@
 -- `pending::prepare` meets its contract. Assumes nothing.
-use Rattle.pending.specs.SetLaws.{stays}
-use native.Mathlib.Omega.{arith}
+use mathlib.Core.Bool.{false≢true}
 use borrow.Author.Needs.{needs}
 use Rattle.pending.proofs.prepare.Statement.{statement}
 use Rattle.pending.proofs.prepare.Tie as tie
 
 returns : tie.Need-returns
-returns c = stays (c .before .before .pre)
+returns c = search needs
 
 returns-2 : tie.Need-returns-2
-returns-2 c = stays (c .before .before .before .before .pre)
+returns-2 c = search needs
 
-sub-t6 : tie.Need-sub-t6
-sub-t6 c = search needs
+cast-if3 : tie.Need-cast-if3
+cast-if3 c = search needs
+
+cast-t7 : tie.Need-cast-t7
+cast-t7 c = search needs
+
+sub-t8 : tie.Need-sub-t8
+sub-t8 c = search needs
 
 returns-3 : tie.Need-returns-3
-returns-3 c = record { list = λ l H. H; set = λ w. absurd (omega arith) }
-
-cast-make-set : tie.Need-cast-make-set
-cast-make-set c = search needs
-
-add-make-set : tie.Need-add-make-set
-add-make-set c = search needs
+returns-3 c = record { list = λ l H. H; set = λ t. absurd (false≢true t) }
 
 make-set-requires : tie.Need-make-set-requires
 make-set-requires c κs = search needs
@@ -38,10 +37,10 @@ prepare-spec =
     (tie.spec
     returns
     returns-2
-    sub-t6
+    cast-if3
+    cast-t7
+    sub-t8
     returns-3
-    cast-make-set
-    add-make-set
     make-set-requires
     same-length
     returns-4)
