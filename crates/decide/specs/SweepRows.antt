@@ -31,12 +31,11 @@ pub record SweepRows (C : Counts) (q : List ℤ) (o h a : List ℕ) (nodes : Lis
   pub center : T (not (refusesCenter C (linksOf o h a) (positionOf q) cx cy))
   pub ring : Held C (linksOf o h a) (turnsAbout cx cy (positionOf q)) nodes freed buckets hull
 
--- what a decision asks: some such mesh, of which the rows of half-edges, nodes and buckets are read, and a point in range
-pub record ToDecide (C : Counts) (q : List ℤ) (h : List ℕ) (nodes : List Node) (buckets : List ℕ) (hull : Hull)
+-- what a decision asks: some such mesh, of which the rows of half-edges and of the ring are read, and a point in range
+pub record ToDecide (C : Counts) (q : List ℤ) (h : List ℕ) (nodes : List Node) (freed buckets : List ℕ) (hull : Hull)
     (cx cy : Float) (v : Point) : Type 0 where
   pub outs : List ℕ
   pub faces : List ℕ
-  pub freed : List ℕ
   pub sweep : SweepRows C q outs h faces nodes freed buckets hull cx cy
   pub range : InRange v
 

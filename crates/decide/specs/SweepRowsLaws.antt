@@ -9,8 +9,8 @@ use lib.Ieee.{Float}
 use lib.IntN.{ℤ}
 use Rattle.angle.specs.Angle.{IsAngle, angleAbout, atCenter, turns, validCenter}
 use Rattle.circle_test.specs.GoodRows.{held}
-use Rattle.dcel.specs.Rows.{linksOf, positionOf, rowOf}
-use Rattle.hull.specs.Find.{get-located, got-below, got-angles, got-ends}
+use Rattle.dcel.specs.Rows.{linksOf, positionOf}
+use Rattle.hull.specs.Find.{at-located, at-below, at-angles, at-ends}
 use Rattle.hull.specs.Ready.{angled-boundary}
 use Rattle.math.specs.declared.Point.{Point}
 use Rattle.math.specs.Determinant.{InRange}
@@ -21,12 +21,10 @@ use Rattle.ring.specs.Center.{turnsAbout}
 use Rattle.ring.specs.Boundary.{located<, located-outer, located-holds, edge-end}
 use Rattle.ring.specs.RingOf.{ring-from, ring-sound-ring}
 use Rattle.ring_rows.specs.declared.Node.{Node}
-use Rattle.ring_rows.specs.declared.Found.{Found}
 use Rattle.ring_rows.specs.declared.Hull.{Hull}
-use Rattle.ring_rows.specs.Laws.{floor-below}
-use Rattle.ring_rows.specs.Rows.{nodesOf, rightOf, sizeOf, Got}
+use Rattle.ring_rows.specs.Rows.{nodesOf, edgeOf, rightOf, sizeOf}
+use Rattle.ring_rows.specs.Find.{NodeAt}
 use Rattle.segment.specs.Arc.{holds}
-use Rattle.segment.specs.Bucket.{floorOf}
 use Rattle.decide.specs.declared.Fate.the-variants.{AtCenter}
 use Rattle.decide.specs.Decide.{decided, decidedAt, notAdded}
 use Rattle.decide.specs.SweepRows.{SweepRows}
@@ -53,58 +51,57 @@ module _ {C : Counts} {q : List ℤ} {o h a : List ℕ} {nodes : List Node} {fre
   pub sweep-sound : T (isSoundRing C (linksOf o h a) (turnsAbout cx cy (positionOf q)))
   sweep-sound = ring-sound-ring (S .mesh .good .wf) (S .ring .ring)
 
-  -- what the rows answer for the angle x: the located edge, a boundary edge that holds x
-  module _ {x : ℕ} {r : Found} (G : Got (nodesOf nodes) (sizeOf hull) (rowOf buckets (floorOf x (hull .buckets))) x r) where
-    pub found-located : r .edge ≡ located C (linksOf o h a) (turnsAbout cx cy (positionOf q)) x
-    found-located = get-located (S .ring) (S .mesh .good .wf) G
+  -- the node that the rows answer for the angle x: its edge is the located one, a boundary edge that holds x
+  module _ {x i : ℕ} (N : NodeAt nodes buckets hull x i) where
+    pub found-located : edgeOf (nodesOf nodes) i ≡ located C (linksOf o h a) (turnsAbout cx cy (positionOf q)) x
+    found-located = at-located (S .ring) N (S .mesh .good .wf)
 
-    pub found-in : In C (r .edge)
+    pub found-in : In C (edgeOf (nodesOf nodes) i)
     found-in = subst (In C) (sym found-located) (located< (S .mesh .good .wf) (turnsAbout cx cy (positionOf q)) sweep-sound x)
 
-    pub found-outer : linksOf o h a .face (r .edge) ≡ 0
+    pub found-outer : linksOf o h a .face (edgeOf (nodesOf nodes) i) ≡ 0
     found-outer =
         ap (linksOf o h a .face) found-located ∙ located-outer (S .mesh .good .wf) (turnsAbout cx cy (positionOf q)) sweep-sound x
 
-    pub found-holds : T (atEnds (holds x) (linksOf o h a .next) (edgeAngle (linksOf o h a) (turnsAbout cx cy (positionOf q))) (r .edge))
+    pub found-holds :
+        T (atEnds (holds x) (linksOf o h a .next) (edgeAngle (linksOf o h a) (turnsAbout cx cy (positionOf q))) (edgeOf (nodesOf nodes) i))
     found-holds =
         subst (λ (e : ℕ). T (atEnds (holds x) (linksOf o h a .next) (edgeAngle (linksOf o h a) (turnsAbout cx cy (positionOf q))) e))
         (sym found-located) (located-holds (S .mesh .good .wf) (turnsAbout cx cy (positionOf q)) sweep-sound x)
 
-  -- the node that was found, and the one to its right, have the angles of the edge's ends
-  module _ {x : ℕ} {r : Found} (G : Got (nodesOf nodes) (sizeOf hull) (rowOf buckets (floorOf x (hull .buckets))) x r) where
-    pub found-below : (r .node < hull .nodes) × (rightOf (nodesOf nodes) (r .node) < hull .nodes)
-    found-below = got-below (S .ring) (floor-below x (S .ring .counted)) G
+    -- that node, and the one to its right, have the angles of the edge's ends
+    pub found-below : (i < hull .nodes) × (rightOf (nodesOf nodes) i < hull .nodes)
+    found-below = at-below (S .ring) N
 
-    pub found-ends : {n m : Node} → n ≡ nodesOf nodes (r .node) → m ≡ nodesOf nodes (n .right) → EndAngles q h cx cy (r .edge) (n .angle) (m .angle)
+    pub found-ends : {n m : Node} → n ≡ nodesOf nodes i → m ≡ nodesOf nodes (n .right)
+        → EndAngles q h cx cy (n .edge) (n .angle) (m .angle)
     unfolding linksOf
     found-ends {n} {m} n-is m-is =
         let W = S .mesh .good .wf in
-        let l = floor-below x (S .ring .counted) in
-        let A = got-angles (S .ring) l G in
-        let E = got-ends (S .ring) l G W in
-        let m-at : m ≡ nodesOf nodes (rightOf (nodesOf nodes) (r .node)) = m-is ∙ ap (λ (i : Node). nodesOf nodes (i .right)) n-is in
-        record {
-          from-angle = record { is-angle = rw n-is (A .0); turns-are = ap (λ (i : Node). turns (i .angle)) n-is ∙ E .0 };
+        let A = at-angles (S .ring) N in
+        let E = at-ends (S .ring) N W in
+        let m-at : m ≡ nodesOf nodes (rightOf (nodesOf nodes) i) = m-is ∙ ap (λ (k : Node). nodesOf nodes (k .right)) n-is in
+        rw (n-is, m-at) (record {
+          from-angle = record { is-angle = A .0; turns-are = E .0 };
           to-angle = record {
-            is-angle = rw m-at (A .1);
-            turns-are = ap (λ (i : Node). turns (i .angle)) m-at ∙ E .1 ∙ edge-end W (turnsAbout cx cy (positionOf q)) (found-in G);
+            is-angle = A .1;
+            turns-are = E .1 ∙ edge-end W (turnsAbout cx cy (positionOf q)) found-in;
           };
-        }
+        })
 
-  -- so they are what a decision by that edge asks
-  pub located-rows : {v : Point} {g : Float} {r : Found} → InRange v → IsAngle g → g ≡ angleAbout (v .x) (v .y) cx cy
-      → Got (nodesOf nodes) (sizeOf hull) (rowOf buckets (floorOf (turns g) (hull .buckets))) (turns g) r
-      → LocatedRows C q o h a cx cy (r .edge) (sizeOf hull) (C .vertices) v g
-  located-rows R A z G = record {
-    mesh = S .mesh;
-    center = S .center;
-    sound = sweep-sound;
-    in-use = found-in G;
-    outer = found-outer G;
-    at = found-holds G;
-    count = ring-from (S .mesh .good .wf) (S .ring .ring) (found-in G) (found-outer G) .2;
-    vertex = refl;
-    range = R;
-    is-angle = A;
-    angle = ap turns z;
-  }
+    -- so they are what a decision by that edge asks
+    pub located-rows : {v : Point} {g : Float} {n : Node} → n ≡ nodesOf nodes i → InRange v → IsAngle g → g ≡ angleAbout (v .x) (v .y) cx cy
+        → x ≡ turns g → LocatedRows C q o h a cx cy (n .edge) (sizeOf hull) (C .vertices) v g
+    located-rows n-is R A z y = rw n-is (record {
+      mesh = S .mesh;
+      center = S .center;
+      sound = sweep-sound;
+      in-use = found-in;
+      outer = found-outer;
+      at = rw (← y) found-holds;
+      count = ring-from (S .mesh .good .wf) (S .ring .ring) found-in found-outer .2;
+      vertex = refl;
+      range = R;
+      is-angle = A;
+      angle = ap turns z;
+    })

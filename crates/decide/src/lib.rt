@@ -143,30 +143,31 @@ pub fn decide(
     positions: &[i32],
     halves: &[u32],
     nodes: &[Node],
+    freed: &[u32],
     buckets: &[u32],
     hull: Hull,
     counts: Counts,
     center: Point2,
     point: Point,
 ) -> Decision
-    requires { ⌜ ToDecide counts (now positions) (now halves) (now nodes) (now buckets) hull (center .x) (center .y) point ⌝ }
-    ensures { λ r. ⌜ ((o a f : List ℕ)
-        → SweepRows counts (now (positions .entry)) o (now (halves .entry)) a (now (nodes .entry)) f (now (buckets .entry)) hull
-        (center .x) (center .y)
+    requires { ⌜ ToDecide counts (now positions) (now halves) (now nodes) (now freed) (now buckets) hull (center .x) (center .y) point ⌝ }
+    ensures { λ r. ⌜ ((o a : List ℕ)
+        → SweepRows counts (now (positions .entry)) o (now (halves .entry)) a
+        (now (nodes .entry)) (now (freed .entry)) (now (buckets .entry)) hull (center .x) (center .y)
         → Decides counts (linksOf o (now (halves .entry)) a) (positionOf (now (positions .entry))) (center .x) (center .y) point
         (decided (center .x) (center .y) counts (linksOf o (now (halves .entry)) a) (positionOf (now (positions .entry))) point) r) ⌝ }
 {
     let VertexAngle::Angle(angle) = angle::vertex_angle(point.x, point.y, center) else {
         return leave(Fate::AtCenter);
     };
-    let found = ring_rows::get(nodes, buckets, hull, angle);
+    let found = ring_rows::find(nodes, freed, buckets, hull, angle);
     // The ring has the angles of the edge's ends.
-    let node = ring_rows::load(nodes, found.node);
+    let node = ring_rows::load(nodes, found);
     let right = ring_rows::load(nodes, node.right);
     decide_at(
         positions,
         halves,
-        found.edge,
+        node.edge,
         node.angle,
         right.angle,
         hull.nodes - hull.freed,

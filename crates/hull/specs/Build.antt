@@ -159,6 +159,7 @@ built-held o a {C} {p} {h} {cx} {cy} {size} {n} {b} {nodes} {freed} {buckets} {r
           (subst (λ (i : ℕ). Free (On (rightOf t) size (rowOf buckets 0)) (rowOf freed) i (r .nodes)) (sym (F .none-freed))
           (subst (Free (On (rightOf t) size (rowOf buckets 0)) (rowOf freed) 0) (sym (F .used))
           (free-from (numbered-nodes B (F .numbered) .sound .closed) (F .filled 0 (omega arith) .0) (free-built S A (rowOf freed)))));
+      retired = λ j l. absurd (let e = F .none-freed in omega arith);
       freed-most = let e = F .none-freed in omega arith;
       valid = subst (ValidNodes t) (sym (F .used)) (numbered-valid B (F .numbered));
       counted = subst Buckets (sym (F .eight)) eight-buckets;

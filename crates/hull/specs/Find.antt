@@ -1,4 +1,4 @@
--- What `get` finds in rows that hold the ring of the boundary: the located edge, and 01's count of nodes passed. Assumes nothing.
+-- What `find` and `get` find in rows that hold the ring of the boundary: the located edge, and 01's count of nodes passed. Assumes nothing.
 use Prim.Native.Nat.{ℕ, _<_, _≤_}
 use native.Mathlib.Omega.{arith}
 use mathlib.Core.Path.{_≡_, refl, sym, _∙_, ap, subst}
@@ -17,15 +17,17 @@ use Rattle.sums.specs.Tally.{First, walk, tally}
 use Rattle.dcel.specs.Rows.{rowOf}
 use Rattle.ring.specs.Ring.{fullTurn, proper, atEnds, edgeAngle, boundaryEdges, boundaryAngles, located, passedCount}
 use Rattle.ring.specs.Sound.{Sound}
-use Rattle.ring.specs.Insert.{On, ring-proper, ring-sound}
-use Rattle.ring.specs.Hull.{HullFrom, on-from}
+use Rattle.ring.specs.Free.{free-rest}
+use Rattle.ring.specs.Insert.{On, node-sole, ring-proper, ring-sound}
+use Rattle.ring.specs.Stores.{Linked}
+use Rattle.ring.specs.Hull.{HullFrom, linked-back, on-from}
 use Rattle.ring.specs.Located.{locate-passed}
 use Rattle.ring.specs.RingOf.{ring-located, ring-ends, ring-from}
 use Rattle.ring_rows.specs.declared.Node.{Node}
 use Rattle.ring_rows.specs.declared.Hull.{Hull}
 use Rattle.ring_rows.specs.declared.Found.{Found}
-use Rattle.ring_rows.specs.Rows.{nodesOf, tableOf, angleOf, rightOf, sizeOf, NodeRing, RingHeld, Got}
-use Rattle.ring_rows.specs.Laws.{floor-below}
+use Rattle.ring_rows.specs.Rows.{nodesOf, tableOf, angleOf, edgeOf, rightOf, sizeOf, NodeRing, RingHeld, Got}
+use Rattle.ring_rows.specs.Find.{NodeAt, ToFind}
 use Rattle.hull.specs.Held.{Held}
 
 module _ {C : Counts} {L : Links} {α : ℕ → ℕ} {nodes : List Node} {freed buckets : List ℕ} {h : Hull} (H : Held C L α nodes freed buckets h) where
@@ -56,36 +58,48 @@ module _ {C : Counts} {L : Links} {α : ℕ → ℕ} {nodes : List Node} {freed 
     bucket-room = H .bucket-room;
   }
 
-  module _ {x i : ℕ} (l : i < h .buckets) {r : Found} (G : Got (nodesOf nodes) (sizeOf h) (rowOf buckets i) x r) where
-    pub got-on : On (rightOf (nodesOf nodes)) (sizeOf h) (rowOf buckets 0) (r .node)
-    got-on =
-        let b = bucket-on i l in
-        on-from {right = rightOf (nodesOf nodes)} {m = sizeOf h} {s = rowOf buckets 0} (r .node) (held-ring .sound .closed) (b .0)
-        (r .passed, G .first .below, ap (iter (r .passed) (rightOf (nodesOf nodes))) (b .2) ∙ sym (G .node))
+  -- what `find` asks: as many nodes are in the ring as are not freed, so that those which are not freed are in it
+  pub held-find : ToFind nodes buckets h
+  held-find = record {
+    rows = held-rows;
+    back = linked-back (tableOf (nodesOf nodes)) (held-ring .sound .closed)
+        (subst (Linked (tableOf (nodesOf nodes)) (rowOf buckets 0)) (H .ring .count) (H .ring .hull .links));
+    in-use = λ i l d. free-rest
+        (λ j k u w z. node-sole (held-ring .sound) (held-ring .all-proper) j k u w (ap (angleOf (nodesOf nodes)) z))
+        (H .free) (let a = H .freed-most in omega arith) i l
+        (λ j u z. d (ap (edgeOf (nodesOf nodes)) (sym z) ∙ H .retired j u));
+  }
 
-    pub got-holds : T (atEnds (holds x) (rightOf (nodesOf nodes)) (angleOf (nodesOf nodes)) (r .node))
-    got-holds = subst (λ (y : ℕ). T (atEnds (holds x) (rightOf (nodesOf nodes)) (angleOf (nodesOf nodes)) y)) (sym (G .node)) (G .first .passes)
-
+  -- ---- a node that holds x
+  module _ {x i : ℕ} (N : NodeAt nodes buckets h x i) where
     -- THE EDGE
-    pub got-located : Wf C L → r .edge ≡ located C L α x
-    got-located W = G .edge ∙ ring-located W (H .ring) x (r .node) got-on got-holds
+    pub at-located : Wf C L → edgeOf (nodesOf nodes) i ≡ located C L α x
+    at-located W = ring-located W (H .ring) x i (N .on) (N .at)
 
     -- the node and the one to its right can be read, and have the angles of the edge's two ends
-    pub got-below : (r .node < h .nodes) × (rightOf (nodesOf nodes) (r .node) < h .nodes)
-    got-below = let l = H .free .live-below (r .node) got-on in (l, H .valid (r .node) l .right)
+    pub at-below : (i < h .nodes) × (rightOf (nodesOf nodes) i < h .nodes)
+    at-below = let l = H .free .live-below i (N .on) in (l, H .valid i l .right)
 
-    pub got-angles : IsAngle (nodesOf nodes (r .node) .angle) × IsAngle (nodesOf nodes (rightOf (nodesOf nodes) (r .node)) .angle)
-    got-angles = (H .valid (r .node) (got-below .0) .angle, H .valid (rightOf (nodesOf nodes) (r .node)) (got-below .1) .angle)
+    pub at-angles : IsAngle (nodesOf nodes i .angle) × IsAngle (nodesOf nodes (rightOf (nodesOf nodes) i) .angle)
+    at-angles = (H .valid i (at-below .0) .angle, H .valid (rightOf (nodesOf nodes) i) (at-below .1) .angle)
 
-    pub got-ends : Wf C L → (angleOf (nodesOf nodes) (r .node) ≡ edgeAngle L α (r .edge))
-        × (angleOf (nodesOf nodes) (rightOf (nodesOf nodes) (r .node)) ≡ edgeAngle L α (L .next (r .edge)))
-    got-ends W =
-        let n = ring-ends W (H .ring) (r .node) got-on in
-        (sym (n .0) ∙ ap (edgeAngle L α) (sym (G .edge)), sym (n .1) ∙ ap (λ (i : ℕ). edgeAngle L α (L .next i)) (sym (G .edge)))
+    pub at-ends : Wf C L → (angleOf (nodesOf nodes) i ≡ edgeAngle L α (edgeOf (nodesOf nodes) i))
+        × (angleOf (nodesOf nodes) (rightOf (nodesOf nodes) i) ≡ edgeAngle L α (L .next (edgeOf (nodesOf nodes) i)))
+    at-ends W = let n = ring-ends W (H .ring) i (N .on) in (sym (n .0), sym (n .1))
 
-  -- as `get` answers, from the bucket of x
-  pub get-located : {x : ℕ} {r : Found} → Wf C L → Got (nodesOf nodes) (sizeOf h) (rowOf buckets (floorOf x (h .buckets))) x r → r .edge ≡ located C L α x
-  get-located {x} W G = got-located (floor-below x (H .counted)) G W
+  -- ---- as `get` answers, from a bucket
+  module _ {x i : ℕ} (l : i < h .buckets) {r : Found} (G : Got (nodesOf nodes) (sizeOf h) (rowOf buckets i) x r) where
+    got-at : NodeAt nodes buckets h x (r .node)
+    got-at =
+        let b = bucket-on i l in
+        record {
+          on = on-from {right = rightOf (nodesOf nodes)} {m = sizeOf h} {s = rowOf buckets 0} (r .node) (held-ring .sound .closed) (b .0)
+              (r .passed, G .first .below, ap (iter (r .passed) (rightOf (nodesOf nodes))) (b .2) ∙ sym (G .node));
+          at = subst (λ (y : ℕ). T (atEnds (holds x) (rightOf (nodesOf nodes)) (angleOf (nodesOf nodes)) y)) (sym (G .node)) (G .first .passes);
+        }
+
+    pub got-located : Wf C L → r .edge ≡ located C L α x
+    got-located W = G .edge ∙ at-located got-at W
 
   -- THE COUNT, with 8 buckets
   pub got-passed : {x : ℕ} {r : Found} → Wf C L → h .buckets ≡ 8 → x ≤ fullTurn → Got (nodesOf nodes) (sizeOf h) (rowOf buckets (floorOf x (h .buckets))) x r → r .passed ≡ passedCount fullTurn x (boundaryAngles C L α)

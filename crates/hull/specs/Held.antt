@@ -15,13 +15,16 @@ use Rattle.ring.specs.Free.{Free}
 use Rattle.ring.specs.RingOf.{RingOf}
 use Rattle.ring_rows.specs.declared.Node.{Node}
 use Rattle.ring_rows.specs.declared.Hull.{Hull}
-use Rattle.ring_rows.specs.Rows.{nodesOf, tableOf, angleOf, rightOf, sizeOf, ValidNodes}
+use Rattle.ring_rows.specs.Rows.{nodesOf, tableOf, angleOf, edgeOf, rightOf, sizeOf, ValidNodes}
+use Rattle.ring_rows.specs.Find.{noEdge}
 use Rattle.hull.specs.Boundary.{NodesOfEdges}
 
 pub record Held (C : Counts) (L : Links) (α : ℕ → ℕ) (nodes : List Node) (freed buckets : List ℕ) (h : Hull) : Type 0 where
   pub ring : RingOf C L α (tableOf (nodesOf nodes)) (rowOf buckets) (h .buckets) (sizeOf h)
   -- of the nodes ever in use, those that are not in the ring are on the stack of freed ones
   pub free : Free (On (rightOf (nodesOf nodes)) (sizeOf h) (rowOf buckets 0)) (rowOf freed) (h .freed) (h .nodes)
+  -- and have no edge: by that `find` knows them
+  pub retired : (j : ℕ) → j < h .freed → edgeOf (nodesOf nodes) (rowOf freed j) ≡ noEdge
   pub freed-most : h .freed ≤ h .nodes
   pub valid : ValidNodes (nodesOf nodes) (h .nodes)
   pub counted : Buckets (h .buckets)

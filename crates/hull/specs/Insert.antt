@@ -28,19 +28,21 @@ use Rattle.ring.specs.Insert.{Ring, ring-sole, On, Bucketed, Insertion, left-an
 use Rattle.ring.specs.Insert.{right-first}
 use Rattle.ring.specs.Inserted.{Rebucketed}
 use Rattle.ring.specs.Stores.{stored}
-use Rattle.ring.specs.Free.{Free}
-use Rattle.ring.specs.WholeInsert.{Stack, InsertParts, rebucketed, insert-keeps-total, insert-keeps-len}
+use Rattle.ring.specs.Free.{Free, free-same}
+use Rattle.ring.specs.WholeInsert.{Stack, InsertParts, rebucketed, insert-keeps-edge, insert-keeps-total, insert-keeps-len}
 use Rattle.ring.specs.Hull.{HullFrom, on-to, on-from}
 use Rattle.ring.specs.Covered.{Covered}
-use Rattle.ring.specs.RingOf.{RingOf, ring-from, ring-size, ring-insert, ring-insert-freed, free-to, free-from, ring-of}
+use Rattle.ring.specs.RingOf.{RingOf, ring-from, ring-size, ring-insert, ring-insert-freed, ring-edges, free-to, free-from, ring-of}
 use Rattle.ring.specs.Resize.{adjustedBuckets, adjusted-buckets, adjusted-most, buckets-sized}
 use Rattle.ring_rows.specs.declared.Node.{Node}
 use Rattle.ring_rows.specs.declared.Hull.{Hull}
-use Rattle.ring_rows.specs.Rows.{nodesOf, tableOf, angleOf, rightOf, sizeOf, ValidNodes}
-use Rattle.ring_insert.specs.Insert.{insertionOf, ToInsert, InsertedRows, Adjusted, ReleasedTo}
+use Rattle.ring_rows.specs.Rows.{nodesOf, tableOf, edgeOf, rightOf, sizeOf, ValidNodes}
+use Rattle.ring_rows.specs.Find.{noEdge}
+use Rattle.ring_insert.specs.Insert.{insertionOf, placeNodes, ToInsert, InsertedRows, Adjusted, ReleasedTo}
 use Rattle.ring_insert.specs.PlaceLaws.{placed-stored}
+use Rattle.ring_insert.specs.RetireLaws.{retired-table, retired-stays}
 use Rattle.hull.specs.Held.{Held}
-use Rattle.hull.specs.Find.{held-ring, held-rows}
+use Rattle.hull.specs.Find.{held-ring, held-find}
 
 -- A step has covered m edges of the boundary from e on, one of which holds the new vertex's angle q; the edges l to it
 -- and p from it stand for them, and the boundary after has a sound ring
@@ -136,7 +138,7 @@ module _ {C : Counts} {L : Links} (W : Wf C L) {α : ℕ → ℕ} {nodes : List 
   to-insert N v-most len u w small ia iq ir ea er =
       let o = left-on in
       record {
-        rows = held-rows H;
+        to-find = held-find H;
         free = H .free;
         freed-most = H .freed-most;
         most = N;
@@ -168,7 +170,7 @@ module _ {C : Counts} {L : Links} (W : Wf C L) {α : ℕ → ℕ} {nodes : List 
     stack = record { entry = rowOf freed; count = h .freed; used = h .nodes }
 
     abbrev stack′ : Stack
-    stack′ = record { entry = rowOf freed′; count = I .choice .freed; used = I .choice .nodes }
+    stack′ = record { entry = rowOf (I .stack); count = I .choice .freed; used = I .choice .nodes }
 
     -- ---- the node that was found for the left angle is the left one
     left-is : left ≡ I .left
@@ -202,8 +204,12 @@ module _ {C : Counts} {L : Links} (W : Wf C L) {α : ℕ → ℕ} {nodes : List 
       names = I .chosen .names (edgeAngle L α e) q (ap₂ eqb ea eq);
     }
 
-    table-is : tableOf (nodesOf nodes′) ≡ stored τ x l p q
-    table-is = rw (← eq) (placed-stored (nodesOf nodes) (I .choice) l p qf (I .left) (I .placed))
+    -- the nodes before the freed ones lose their edges
+    abbrev placed : ℕ → Node
+    placed = placeNodes (nodesOf nodes) (I .choice) l p qf
+
+    table-is : tableOf (placeNodes (nodesOf nodes) (I .choice) l p qf) ≡ stored τ x l p q
+    table-is = rw (← eq) (placed-stored (nodesOf nodes) (I .choice) l p qf (I .left) refl)
 
     -- the code's buckets are those of the theory
     ranges :
@@ -232,22 +238,50 @@ module _ {C : Counts} {L : Links} (W : Wf C L) {α : ℕ → ℕ} {nodes : List 
         rw (I .used) (insert-keeps-len whole P (K .low) parts all-used
         (let a = size-is in let b = ring-size W (H .ring) in omega arith) u)
 
+    -- ---- the ring and the stack before that
+    placed-ring : Wf C′ L′ → RingOf C′ L′ α′ (tableOf placed) (rowOf buckets′) (h′ .buckets) (sizeOf h′)
+    placed-ring W′ = rw (table-is, I .same-buckets, ← size-now) (ring-insert W′ (K .covered) whole P (K .low) parts ranges)
+
+    placed-free : Wf C′ L′ → Free (On (rightOf placed) (sizeOf h′) (rowOf buckets′ 0)) (rowOf (I .stack)) (h′ .freed) (h′ .nodes)
+    placed-free W′ =
+        rw (← size-now, ap (λ (y : NodeTable). y .right) table-is, I .freed-now, I .used)
+        (ring-insert-freed W′ (K .covered) whole P (K .low) parts ranges)
+
+    -- ---- after it: a node of the ring keeps its edge, since none is on the stack, and each node there has lost its own
+    ring-keeps : Wf C′ L′ → (i : ℕ) → On (rightOf placed) (sizeOf h′) (rowOf buckets′ 0) i → edgeOf (nodesOf nodes′) i ≡ edgeOf placed i
+    ring-keeps W′ i o =
+        ap (λ (v : Node). v .edge) (I .placed .others i (λ k u w z.
+        placed-free W′ .dead k (let a = I .freed-now in omega arith) (subst (On (rightOf placed) (sizeOf h′) (rowOf buckets′ 0)) (sym z) o)))
+
+    all-retired : (j : ℕ) → j < I .choice .freed → edgeOf (nodesOf nodes′) (rowOf (I .stack) j) ≡ noEdge
+    all-retired j u = go (decLt j (h .freed - 1))
+      where
+        go : Dec (j < h .freed - 1) → edgeOf (nodesOf nodes′) (rowOf (I .stack) j) ≡ noEdge
+        go (yes w) = retired-stays (I .placed) (rowOf (I .stack) j)
+            (ap (λ (y : NodeTable). y .edge (rowOf (I .stack) j)) table-is ∙ insert-keeps-edge whole P (K .low) parts j w u
+            ∙ H .retired j (omega arith))
+        go (no w) = I .placed .gone j (omega arith) u
+
     -- ---- THE ROWS HOLD THE RING OF THE BOUNDARY AFTER
     pub insert-held : Wf C′ L′ → length nodes′ ≡ length nodes → length freed′ ≡ length freed → length buckets′ ≡ length buckets
         → h′ .nodes ≤ length freed → h′ .nodes < 2 ^ 32 → Held C′ L′ α′ nodes′ freed′ buckets′ h′
-    insert-held W′ nl fl bl room small = record {
-      ring = rw (table-is, I .same-buckets, ← size-now) (ring-insert W′ (K .covered) whole P (K .low) parts ranges);
-      free =
-          rw (← size-now, ap (λ (y : NodeTable). y .right) table-is, I .freed-now, I .used)
-          (ring-insert-freed W′ (K .covered) whole P (K .low) parts ranges);
-      freed-most = let a = total in let b = I .used in let c = I .freed-now in omega arith;
-      valid = I .valid;
-      counted = subst Buckets (sym (I .same-buckets)) (H .counted);
-      node-room = let a = I .room in omega arith;
-      freed-room = omega arith;
-      bucket-room = let a = I .same-buckets in let b = H .bucket-room in omega arith;
-      small = small;
-    }
+    insert-held W′ nl fl bl room small =
+        let T = retired-table (I .placed) in
+        record {
+          ring = rw T (ring-edges (edgeOf (nodesOf nodes′)) (ring-keeps W′) (placed-ring W′));
+          free =
+              rw (ap (λ (y : NodeTable). y .right) T)
+              (free-same (λ j u. I .same-stack j (let a = I .freed-now in omega arith)) (placed-free W′));
+          retired = λ j u. let w : j < I .choice .freed = let e = I .freed-now in omega arith in
+              ap (edgeOf (nodesOf nodes′)) (I .same-stack j w) ∙ all-retired j w;
+          freed-most = let a = total in let b = I .used in let c = I .freed-now in omega arith;
+          valid = I .valid;
+          counted = subst Buckets (sym (I .same-buckets)) (H .counted);
+          node-room = let a = I .room in omega arith;
+          freed-room = omega arith;
+          bucket-room = let a = I .same-buckets in let b = H .bucket-room in omega arith;
+          small = small;
+        }
 
 -- ---- ANOTHER NUMBER OF BUCKETS
 pub adjusted-held : {C : Counts} {L : Links} (W : Wf C L) {α : ℕ → ℕ} {nodes : List Node} {freed buckets buckets′ : List ℕ} {h r : Hull}
@@ -269,6 +303,7 @@ adjusted-held {C} {L} W {α} {nodes} {freed} {buckets} {buckets′} {h} {r} H mo
     record {
       ring = rw (z, ← H .ring .count) G;
       free = rw (z, A .used, A .freed) (free-from (held-ring H .sound .closed) o (H .free));
+      retired = λ j u. H .retired j (let c = A .freed in omega arith);
       freed-most = let a = A .used in let c = A .freed in let d = H .freed-most in omega arith;
       valid = subst (ValidNodes (nodesOf nodes)) (sym (A .used)) (H .valid);
       counted = b;

@@ -4,13 +4,19 @@
 -- Assumes nothing.
 use mathlib.Core.Path.{_≡_, refl, sym, _∙_, ap, subst}
 use mathlib.Core.Logic.{_≢_, _⊎_, inl, inr}
+use mathlib.Core.Bool.{Bool}
 use Prim.Native.Nat.{ℕ, zero, suc, _+_, _-_, _<_}
 use native.Mathlib.Decide.{ℕ-discrete, decLt}
 use native.Mathlib.Omega.{arith}
+use lib.Dec.{eqb, eqb→eq}
 use Rattle.ring.specs.Node.{NodeTable}
 use Rattle.ring.specs.Insert.{On, Insertion, Stay, restNode}
 use Rattle.ring.specs.Stores.{Before, stored, not-left, left-fresh, rest-same, right-new, start-right}
+use Rattle.sums.specs.Bit.{eq-test, sure}
+use Rattle.sums.specs.Bounded.{any-below, any-below→, none-below→}
 use Rattle.sums.specs.Iterate.{iter, iter-add}
+use Rattle.sums.specs.Listed.{listed-join, pigeonhole}
+use Rattle.sums.specs.Put.{put, put-same, put-other}
 
 -- ---- the stack of freed nodes, against a set of nodes that are in use: freed 0 .. freed (n - 1), of the numbers below len
 pub record Free (Live : ℕ → Type 0) (freed : ℕ → ℕ) (n len : ℕ) : Type 0 where
@@ -85,6 +91,27 @@ free-same {Live} {freed} {freed'} {n} {len} same A = record {
   dead = λ j l t. A .dead j l (subst Live (same j l) t);
   once = λ i j l m z. A .once i j l m (sym (same i l) ∙ z ∙ same j m);
 }
+
+-- ---- the m nodes of a ring and the freed ones are all numbers below len: one that is not freed is in the ring
+pub free-rest : {right freed : ℕ → ℕ} {m s n len : ℕ}
+    → ((i j : ℕ) → i < m → j < m → iter i right s ≡ iter j right s → i ≡ j)
+    → Free (On right m s) freed n len → m + n ≡ len
+    → (x : ℕ) → x < len → ((j : ℕ) → j < n → freed j ≢ x) → On right m s x
+free-rest {right} {freed} {m} {s} {n} {len} apart A total x l other =
+    let r = any-below→ m here (sure (any-below m here) (λ none. more (λ o. none-below→ m here none (o .0) (o .1) (eq-test (o .2))))) in
+    (r .0, r .1, eqb→eq (iter (r .0) right s) x (r .2))
+  where
+    here : ℕ → Bool
+    here k = eqb (iter k right s) x
+
+    -- else it could be freed too, and there were len + 1 of them
+    more : (On right m s x → ⊥) → ⊥
+    more off =
+        let B = free-push x l off other (λ j u. put-other freed n x j (λ z. omega arith)) (put-same freed n x) A in
+        let h = pigeonhole len (m + suc n) _
+        (listed-join (record { below = λ k u. A .live-below (iter k right s) (k, u, refl); once = apart })
+        (record { below = B .below; once = B .once }) (λ j k u v z. B .dead k v (j, u, z))) in
+        omega arith
 
 -- ---- the nodes strictly between s and t are pushed, in order
 pub record Pushed (right freed freed' : ℕ → ℕ) (s c n : ℕ) : Type 0 where

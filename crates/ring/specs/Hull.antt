@@ -116,6 +116,16 @@ linked-turn τ s m c K i l = go (decLt (suc i) m)
         let back : y ≡ s = ap (λ (j : ℕ). iter j (τ .right) s) z ∙ c in
         rw back (K 0 (omega arith))
 
+-- the links to the left lead along the same nodes
+pub linked-back : (τ : NodeTable) {s m : ℕ} → iter m (τ .right) s ≡ s → Linked τ s m
+    → (x : ℕ) → On (τ .right) m s x → On (τ .right) m s (τ .left x)
+linked-back τ {s} {m} c K x (zero, l, z) =
+    let d : suc (m - 1) ≡ m = omega arith in
+    let w : τ .right (iter (m - 1) (τ .right) s) ≡ x = sym (iter-last (m - 1) (τ .right) s) ∙ ap (λ (i : ℕ). iter i (τ .right) s) d ∙ c ∙ z in
+    (m - 1, omega arith, sym (K (m - 1) (omega arith)) ∙ ap (τ .left) w)
+linked-back τ {s} {m} c K x (suc k, l, z) =
+    (k, omega arith, sym (K k (omega arith)) ∙ ap (τ .left) (sym (iter-last k (τ .right) s) ∙ z))
+
 pub bucketed-turn : (right angle bucket : ℕ → ℕ) (B w s m : ℕ) → iter m right s ≡ s
     → Bucketed right angle bucket B w s m → Bucketed right angle bucket B w (right s) m
 bucketed-turn right angle bucket B w s m c O i l = let o = O i l in (on-turn (bucket i) c (o .0), o .1)

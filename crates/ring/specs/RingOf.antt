@@ -1,7 +1,7 @@
 -- THE INVARIANT: the nodes and buckets are the ring of the mesh's boundary. It names rows and numbers only, and starts
 -- at the node of bucket 0; from any boundary edge there is a node with which the theory's `Hull` holds, and the other
 -- way round. An insert carries it over a step. Assumes nothing.
-use mathlib.Core.Path.{_≡_, sym, _∙_, ap, subst}
+use mathlib.Core.Path.{_≡_, refl, sym, _∙_, ap, subst}
 use mathlib.Core.Bool.{Bool, _&&_}
 use Prim.Native.Nat.{ℕ, _+_, _%_, _<_, _≤_}
 use native.Mathlib.Omega.{arith}
@@ -22,7 +22,7 @@ use Rattle.ring.specs.Segments.{holds-first, proper→}
 use Rattle.ring.specs.Sound.{Sound, tile-sole}
 use Rattle.ring.specs.Splice.{FitSplice}
 use Rattle.ring.specs.Buckets.{ceiling, Sized}
-use Rattle.ring.specs.Node.{NodeTable, nodes}
+use Rattle.ring.specs.Node.{NodeTable, nodes, kept-match}
 use Rattle.ring.specs.Insert.{On, Bucketed, Insertion}
 use Rattle.ring.specs.Inserted.{Rebucketed}
 use Rattle.ring.specs.Build.{Built, built, built-at}
@@ -129,6 +129,43 @@ module _ {C : Counts} {L : Links} (W : Wf C L) {α : ℕ → ℕ} {τ : NodeTabl
     pub ring-ends : (y : ℕ) → On (τ .right) size (bucket 0) y
         → (edgeAngle L α (τ .edge y) ≡ τ .angle y) × (edgeAngle L α (L .next (τ .edge y)) ≡ τ .angle (τ .right y))
     ring-ends y m = node-ends (R .hull) y (subst (λ (i : ℕ). On (τ .right) i (bucket 0) y) (sym (R .count)) m)
+
+-- ---- a node that is not in the ring may have any edge
+pub ring-edges : {C : Counts} {L : Links} {α : ℕ → ℕ} {τ : NodeTable} {bucket : ℕ → ℕ} {B size : ℕ} (edge′ : ℕ → ℕ)
+    → ((x : ℕ) → On (τ .right) size (bucket 0) x → edge′ x ≡ τ .edge x)
+    → RingOf C L α τ bucket B size
+    → RingOf C L α (record { left = τ .left; right = τ .right; angle = τ .angle; edge = edge′ }) bucket B size
+ring-edges {C} {L} {α} {τ} {bucket} {B} {size} edge′ same R =
+    let X = R .hull in
+    let a = edgeAngle L α in let n = boundaryLength C L in let d = τ .edge (bucket 0) in
+    let τ′ : NodeTable = record { left = τ .left; right = τ .right; angle = τ .angle; edge = edge′ } in
+    let k : (j : ℕ) → j < nodes (L .next) a n d → edge′ (iter j (τ .right) (bucket 0)) ≡ τ .edge (iter j (τ .right) (bucket 0)) =
+    λ j u. same (iter j (τ .right) (bucket 0)) (j, (let c = R .count in omega arith), refl) in
+    let H : HullFrom fullTurn (L .next) a τ′ bucket d n (bucket 0) B (width B) = record {
+      ring = record {
+        sound = X .ring .sound;
+        match = kept-match (record {
+          from = λ j u. refl;
+          to = λ j u. refl;
+          step = λ j u. refl;
+          edge-same = k;
+          angle-same = λ j u. refl;
+          right-same = λ j u. refl;
+        }) (X .ring .match);
+        back = X .ring .back;
+      };
+      links = X .links;
+      low = X .low;
+      sized = X .sized;
+      buckets = X .buckets;
+    } in
+    let z : edge′ (bucket 0) ≡ d = k 0 (let t = X .ring .sound .three in omega arith) in
+    record {
+      hull = rw z H;
+      in-use = rw z (R .in-use);
+      outer = rw z (R .outer);
+      count = rw z (R .count);
+    }
 
 -- ---- a fresh build, nodes numbered from 0 along the boundary from e
 pub ring-built : {C : Counts} {L : Links} (W : Wf C L) {α : ℕ → ℕ} {τ : NodeTable} {bucket : ℕ → ℕ} {e m B : ℕ}

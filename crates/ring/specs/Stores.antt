@@ -140,7 +140,7 @@ module _ {τ : NodeTable} {x : Insertion} {c k al q : ℕ} (B : Before τ x c k 
           rw (edge-stays z)
           (put-other (put (τ .edge) (x .new) p) (x .left) l (x .new) (λ e. left-fresh B (sym e)) ∙ put-same (τ .edge) (x .new) p)
 
-  edge-else : (y : ℕ) → y ≢ x .left → y ≢ x .new → τ' .edge y ≡ τ .edge y
+  pub edge-else : (y : ℕ) → y ≢ x .left → y ≢ x .new → τ' .edge y ≡ τ .edge y
   edge-else y m n = go (ℕ-discrete al q)
     where
       go : Dec (al ≡ q) → τ' .edge y ≡ τ .edge y

@@ -12,7 +12,7 @@ use Rattle.ring.specs.Buckets.{ceiling, within}
 use Rattle.ring.specs.Node.{NodeTable, nodes}
 use Rattle.ring.specs.Insert.{ring-sole, On, Insertion, Named, Stay, size-old, left-some}
 use Rattle.ring.specs.Inserted.{Rebucketed, size-new, left-node, left-node-stays}
-use Rattle.ring.specs.Stores.{Before, stored}
+use Rattle.ring.specs.Stores.{Before, stored, edge-else, start-right}
 use Rattle.ring.specs.Free.{Free, free-same, Pushed, pushed, Taken, taken, taken-sum, taken-fresh, free-stays, free-goes}
 use Rattle.ring.specs.Hull.{HullFrom, hull-insert, before, tables}
 use Rattle.sums.specs.Bit.{bit}
@@ -118,6 +118,31 @@ module _ {N : ℕ} {next α next' α' : ℕ → ℕ} {τ : NodeTable} {bucket : 
           let b = left-node-stays (α e) q z in let c = count in
           of (suc (suc rest)) (omega arith) (I .left-over) (sym (I .names .same z))
           (free-same (I .names .stack) (free-stays known l p z free-taken))
+
+  -- what is on the stack as before has its edge as before
+  new-on : On (stored τ x l p q .right) (nodes next' α' (suc (suc n)) l) (x .start) (x .new)
+  new-on = go (ℕ-discrete (α e) q)
+    where
+      go : Dec (α e ≡ q) → On (stored τ x l p q .right) after (x .start) (x .new)
+      go (yes z) = (0, (let a = count in omega arith), I .names .named .start-goes z)
+      go (no z) = (1, (let a = count in let b = left-node-stays (α e) q z in omega arith), start-right known l p z)
+
+  entry-same : (j : ℕ) → j < S .count - 1 → S' .entry j ≡ S .entry j
+  entry-same j u = I .names .stack j (go (taken-sum (I .taken-new))) ∙ I .pushed-between .old j (omega arith)
+    where
+      go : ((S .count + (chain - 1) ≡ suc (I .left-over)) × (S' .used ≡ S .used)) ⊎
+          ((S .count + (chain - 1) ≡ 0) × (I .left-over ≡ 0) × (S' .used ≡ suc (S .used))) → j < I .left-over
+      go (inl y) = omega arith
+      go (inr y) = omega arith
+
+  pub insert-keeps-edge : (j : ℕ) → j < S .count - 1 → j < S' .count
+      → stored τ x l p q .edge (S' .entry j) ≡ τ .edge (S .entry j)
+  insert-keeps-edge j u w =
+      let y = S' .entry j in
+      edge-else known l p y
+      (λ z. I .free .dead j (omega arith) (0, (let a = size in let b = some in omega arith), sym z ∙ entry-same j u))
+      (λ z. insert-keeps-freed .dead j w (subst (On (stored τ x l p q .right) after (x .start)) (sym z) new-on))
+      ∙ ap (τ .edge) (entry-same j u)
 
   -- no number is lost
   pub insert-keeps-total : nodes next α (m + n) e + S .count ≡ S .used → nodes next' α' (suc (suc n)) l + S' .count ≡ S' .used

@@ -3,7 +3,7 @@ use Prim.Native.Nat.{ℕ, suc, _+_, _-_, _<_, _≤_, _^_}
 use native.Mathlib.Decide.{ℕ-discrete, decLt}
 use native.Mathlib.Omega.{arith}
 use mathlib.Core.Path.{_≡_, refl, sym, _∙_, ap, subst}
-use mathlib.Core.Logic.{_≢_}
+use mathlib.Core.Logic.{_≢_, _⊎_, inl, inr}
 use mathlib.Core.Bool.{Bool, true, false}
 use mathlib.Core.List.{List}
 use lib.Dec.{T, eqb}
@@ -17,17 +17,18 @@ use Rattle.ring.specs.Ring.{proper, atEnds}
 use Rattle.ring.specs.Segments.{holds-first, proper→}
 use Rattle.ring.specs.Sound.{tile-sole}
 use Rattle.ring.specs.Insert.{On, all-proper, Insertion}
-use Rattle.ring.specs.Free.{Taken}
-use Rattle.ring.specs.Hull.{on-from}
+use Rattle.ring.specs.Free.{Taken, taken-sum}
+use Rattle.ring.specs.WholeInsert.{Names}
 use Rattle.ring_rows.specs.declared.Node.{Node}
 use Rattle.ring_rows.specs.declared.Hull.{Hull}
-use Rattle.ring_rows.specs.declared.Found.{Found}
-use Rattle.ring_rows.specs.Rows.{nodesOf, tableOf, angleOf, rightOf, sizeOf, ValidNode, ValidNodes, Got}
+use Rattle.ring_rows.specs.Rows.{nodesOf, tableOf, angleOf, rightOf, sizeOf, ValidNode, ValidNodes}
+use Rattle.ring_rows.specs.Find.{nodeHolds, NodeAt}
 use Rattle.ring_rows.specs.Laws.{ring-from, walk-below}
 use Rattle.ring_insert.specs.declared.Choice.{Choice}
-use Rattle.ring_insert.specs.Insert.{ToRelease, ReleasedTo, ToChoose, Chosen, ToPlace, ToInsert, placeNodes}
+use Rattle.ring_insert.specs.Insert.{ToRelease, ReleasedTo, ToChoose, Chosen, ToPlace, ToInsert, insertionOf, placeNodes}
+use Rattle.ring_insert.specs.Retire.{ToRetire, Retired}
 use Rattle.ring_insert.specs.PlaceLaws.{valid-up, placed-valid}
-use Rattle.ring_insert.proofs.Freeing.{goes-names, stays-names}
+use Rattle.ring_insert.proofs.Freeing.{goes-names, stays-names, taken-le}
 
 -- ---- `choose`
 module _ {nodes : List Node} {old mid : List ℕ} {first right top₁ n : ℕ} {a : Float} (G : ToRelease nodes old n first a) (R : ReleasedTo (nodesOf nodes) old mid n first (turns a) right top₁) where
@@ -73,6 +74,11 @@ module _ {t : ℕ → Node} {old mid : List ℕ} {h : Hull} {left x right top₁
 pub chosen-as : {t : ℕ → Node} {old new : List ℕ} {h : Hull} {left x : ℕ} {g g′ : Bool} {c : Choice} → g ≡ g′ → Chosen t old new h left g x c → Chosen t old new h left g′ x c
 chosen-as {t} {old} {new} {h} {left} {x} {g} {g′} {c} e D = subst (λ (b : Bool). Chosen t old new h left b x c) e D
 
+-- ---- `retire`, after `place`
+pub placed-retired : {t t₁ t₂ : ℕ → Node} {freed : ℕ → ℕ} {from first to : ℕ} → t₁ ≡ t → first ≡ from
+    → Retired t₁ t₂ freed first to → Retired t t₂ freed from to
+placed-retired e z R = rw (← e, ← z) R
+
 -- ---- `insert`
 module _ {nodes : List Node} {freed buckets : List ℕ} {h : Hull} {al q ar : Float} (I : ToInsert nodes freed buckets h al q ar) where
   -- the node of the left angle holds it
@@ -81,38 +87,32 @@ module _ {nodes : List Node} {freed buckets : List ℕ} {h : Hull} {al q ar : Fl
       let t = nodesOf nodes in
       let s = iter (I .left) (rightOf t) (rowOf buckets 0) in
       subst (λ (x : ℕ). T (holds x (angleOf t s) (angleOf t (rightOf t s)))) (I .left-angle)
-      (holds-first (angleOf t s) (angleOf t (rightOf t s)) (proper→ (angleOf t s) (angleOf t (rightOf t s)) (all-proper (atEnds proper (rightOf t) (angleOf t)) (rightOf t) (sizeOf h) (rowOf buckets 0) (I .rows .ring .all-proper) (I .left) (I .left-in))))
+      (holds-first (angleOf t s) (angleOf t (rightOf t s)) (proper→ (angleOf t s) (angleOf t (rightOf t s)) (all-proper (atEnds proper (rightOf t) (angleOf t)) (rightOf t) (sizeOf h) (rowOf buckets 0) (I .to-find .rows .ring .all-proper) (I .left) (I .left-in))))
 
-  module _ {i : ℕ} (l : i < h .buckets) {r : Found} (G : Got (nodesOf nodes) (sizeOf h) (rowOf buckets i) (turns al) r) where
-    pub found-on : On (rightOf (nodesOf nodes)) (sizeOf h) (rowOf buckets 0) (r .node)
-    found-on =
-        let b = I .rows .filled i l .0 in
-        on-from {right = rightOf (nodesOf nodes)} {m = sizeOf h} {s = rowOf buckets 0} (r .node) (I .rows .ring .sound .closed) (b .0)
-        (r .passed, G .first .below, ap (iter (r .passed) (rightOf (nodesOf nodes))) (b .2) ∙ sym (G .node))
-
+  module _ {r : ℕ} (G : NodeAt nodes buckets h (turns al) r) where
     -- it is the one that is found
-    found-is : r .node ≡ iter (I .left) (rightOf (nodesOf nodes)) (rowOf buckets 0)
+    found-is : r ≡ iter (I .left) (rightOf (nodesOf nodes)) (rowOf buckets 0)
     found-is =
-        let o = found-on in
+        let o = G .on in
         let t = nodesOf nodes in
-        let w = subst (λ (y : ℕ). T (atEnds (holds (turns al)) (rightOf t) (angleOf t) y)) (sym (G .node) ∙ sym (o .2)) (G .first .passes) in
-        sym (o .2) ∙ ap (λ (k : ℕ). iter k (rightOf t) (rowOf buckets 0)) (tile-sole (I .rows .ring .sound) (turns al) (o .0) (I .left) (o .1) (I .left-in) w own)
+        let w = subst (λ (y : ℕ). T (nodeHolds t (turns al) y)) (sym (o .2)) (G .at) in
+        sym (o .2) ∙ ap (λ (k : ℕ). iter k (rightOf t) (rowOf buckets 0)) (tile-sole (I .to-find .rows .ring .sound) (turns al) (o .0) (I .left) (o .1) (I .left-in) w own)
 
-    pub found-angle : angleOf (nodesOf nodes) (r .node) ≡ turns al
+    pub found-angle : angleOf (nodesOf nodes) (r) ≡ turns al
     found-angle = ap (angleOf (nodesOf nodes)) found-is ∙ I .left-angle
 
-    pub to-choose : ToChoose nodes freed h (r .node) ar
+    pub to-choose : ToChoose nodes freed h (r) ar
     to-choose = record {
       release = record {
         len = h .nodes;
         size = sizeOf h;
         steps = I .steps;
-        ring = ring-from (I .rows .ring) (r .node) found-on;
+        ring = ring-from (I .to-find .rows .ring) (r) (G .on);
         some = I .some;
         less = I .less;
         there = ap (λ (y : ℕ). angleOf (nodesOf nodes) (iter (I .steps) (rightOf (nodesOf nodes)) y)) found-is ∙ I .right-angle;
         is-angle = I .ar-angle;
-        node-room = I .rows .node-room;
+        node-room = I .to-find .rows .node-room;
         freed-room = let a = I .freed-most in let b = I .len-most in let c = I .freed-room in omega arith;
         small = let a = I .freed-most in let b = I .len-most in let c = I .small in omega arith;
       };
@@ -120,11 +120,11 @@ module _ {nodes : List Node} {freed buckets : List ℕ} {h : Hull} {al q ar : Fl
     }
 
     -- the nodes that are chosen
-    module _ {new : List ℕ} {g : Bool} (e : g ≡ eqb (turns al) (turns q)) {c : Choice} (D : Chosen (nodesOf nodes) freed new h (r .node) g (turns ar) c) where
+    module _ {new : List ℕ} {g : Bool} (e : g ≡ eqb (turns al) (turns q)) {c : Choice} (D : Chosen (nodesOf nodes) freed new h (r) g (turns ar) c) where
       valid : (j : ℕ) → j < h .nodes → ValidNode (nodesOf nodes j) (h .nodes)
-      valid = I .rows .ring .valid
+      valid = I .to-find .rows .ring .valid
 
-      left-in : r .node < h .nodes
+      left-in : r < h .nodes
       unfolding to-choose
       left-in = to-choose .release .ring .first
 
@@ -159,7 +159,7 @@ module _ {nodes : List Node} {freed buckets : List ℕ} {h : Hull} {al q ar : Fl
       before-in = go (ℕ-discrete (turns al) (turns q))
         where
           go : Dec (turns al ≡ turns q) → c .before < h .nodes
-          go (yes z) = subst (λ (y : ℕ). y < h .nodes) (sym (D .names (turns al) (turns q) e .named .before-goes z)) (valid (r .node) left-in .left)
+          go (yes z) = subst (λ (y : ℕ). y < h .nodes) (sym (D .names (turns al) (turns q) e .named .before-goes z)) (valid (r) left-in .left)
           go (no z) = subst (λ (y : ℕ). y < h .nodes) (sym (D .names (turns al) (turns q) e .named .before-stays z)) left-in
 
       start-in : c .start < c .nodes
@@ -180,6 +180,53 @@ module _ {nodes : List Node} {freed buckets : List ℕ} {h : Hull} {al q ar : Fl
             before-in = let a = before-in in let b = grown .0 in omega arith;
             right-in = let a = right-in in let b = grown .0 in omega arith;
             start-in = let a = start-in in omega arith;
+          }
+
+      -- what is on the stack afterwards is in use too
+      stacked-after : (j : ℕ) → j < c .freed → rowOf new j < h .nodes
+      stacked-after j u = go (ℕ-discrete (turns al) (turns q)) (decLt j (D .top₂))
+        where
+          N : Names (tableOf (nodesOf nodes)) (insertionOf r c) (rowOf (D .mid)) (rowOf new) (turns al) (turns q) (D .top₂) (c .freed)
+          N = D .names (turns al) (turns q) e
+
+          below : j < D .top₂ → rowOf new j < h .nodes
+          below w = subst (λ (y : ℕ). y < h .nodes) (sym (N .stack j w)) (stacked j (let a = taken-le (D .taken) in omega arith))
+
+          go : Dec (turns al ≡ turns q) → Dec (j < D .top₂) → rowOf new j < h .nodes
+          go d (yes w) = below w
+          go (yes z) (no w) =
+              let m = N .more z in
+              let k : j ≡ D .top₂ = let a = m .0 in omega arith in
+              subst (λ (y : ℕ). y < h .nodes) (sym (ap (rowOf new) k ∙ m .1)) left-in
+          go (no z) (no w) = absurd (let a = N .same z in omega arith)
+
+      -- the stack has room, and holds at least what was on it but for its top
+      top-in : (D .top₂ < h .nodes) × (h .freed - 1 ≤ D .top₂)
+      unfolding to-choose
+      top-in =
+          let a = top-less (to-choose .release) (D .released) in let b = D .released .stack in let d = I .freed-most in
+          ((let e = taken-le (D .taken) in omega arith), go (taken-sum (D .taken)))
+        where
+          go : ((D .top₁ ≡ suc (D .top₂)) × (c .nodes ≡ h .nodes)) ⊎ ((D .top₁ ≡ 0) × (D .top₂ ≡ 0) × (c .nodes ≡ suc (h .nodes)))
+              → h .freed - 1 ≤ D .top₂
+          go (inl y) = let b = D .released .stack in omega arith
+          go (inr y) = let b = D .released .stack in omega arith
+
+      freed-in : (c .freed ≤ h .nodes) × (h .freed - 1 ≤ c .freed)
+      freed-in = let t = top-in in go (ℕ-discrete (turns al) (turns q)) (t .0) (t .1)
+        where
+          go : Dec (turns al ≡ turns q) → D .top₂ < h .nodes → h .freed - 1 ≤ D .top₂ → (c .freed ≤ h .nodes) × (h .freed - 1 ≤ c .freed)
+          go (yes z) u w = let a = D .names (turns al) (turns q) e .more z .0 in (omega arith, omega arith)
+          go (no z) u w = let a = D .names (turns al) (turns q) e .same z in (omega arith, omega arith)
+
+      pub to-retire : {nodes′ : List Node} {from : ℕ} → from ≡ h .freed - 1 → length nodes′ ≡ length nodes → length new ≡ length freed
+          → ToRetire nodes′ new from (c .freed)
+      to-retire z u w =
+          let f = freed-in in
+          record {
+            order = let a = f .1 in omega arith;
+            room = let a = f .0 in let b = I .len-most in let d = I .freed-room in omega arith;
+            there = λ k l m. (let a = stacked-after k m in let b = I .to-find .rows .node-room in omega arith);
           }
 
       pub new-valid : {t′ : ℕ → Node} {l p : ℕ} → l < 2 ^ 32 → p < 2 ^ 32 → t′ ≡ placeNodes (nodesOf nodes) c l p q → ValidNodes t′ (c .nodes)

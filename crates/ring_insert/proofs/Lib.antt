@@ -3,4 +3,5 @@ pub mod Freeing
 pub mod Placing
 pub mod Deciding
 pub mod Inserting
+pub mod Retiring
 pub mod Sig

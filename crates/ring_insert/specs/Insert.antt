@@ -20,7 +20,9 @@ use Rattle.ring.specs.Resize.{adjustedBuckets}
 use Rattle.ring_rows.specs.declared.Node.{Node}
 use Rattle.ring_rows.specs.declared.Hull.{Hull}
 use Rattle.ring_rows.specs.Rows.{nodesOf, angleOf, leftOf, rightOf, sizeOf, withEdge, withLeft, withRight, ValidNode, ValidNodes, NodeRing, RingHeld, Updated}
+use Rattle.ring_rows.specs.Find.{ToFind}
 use Rattle.ring_insert.specs.declared.Choice.{Choice}
+use Rattle.ring_insert.specs.Retire.{Retired}
 
 -- the node of the angle a stands `steps` to the right of `first`, and the stack of freed nodes has room
 pub record ToRelease (nodes : List Node) (freed : List ℕ) (top first : ℕ) (a : Float) : Type 0 where
@@ -92,10 +94,10 @@ pub record Rebuckets (old new : List ℕ) (count L Q R a v : ℕ) : Type 0 where
   pub left : Updated old mid count L Q a
   pub right : Updated mid new count Q R v
 
--- What an insert asks: a ring in the rows, of at most `most` nodes, with a node of the left angle and, further on, one of
--- the right angle; the rows have one node more
+-- What an insert asks: a ring in the rows, in which nodes can be found, of at most `most` nodes, with a node of the left angle and,
+-- further on, one of the right angle; the rows have one node more
 pub record ToInsert (nodes : List Node) (freed buckets : List ℕ) (h : Hull) (al q ar : Float) : Type 0 where
-  pub rows : RingHeld nodes buckets h
+  pub to-find : ToFind nodes buckets h
   pub free : Free (On (rightOf (nodesOf nodes)) (sizeOf h) (rowOf buckets 0)) (rowOf freed) (h .freed) (h .nodes)
   pub freed-most : h .freed ≤ h .nodes
   pub most : ℕ
@@ -116,7 +118,7 @@ pub record ToInsert (nodes : List Node) (freed buckets : List ℕ) (h : Hull) (a
   pub q-angle : IsAngle q
   pub ar-angle : IsAngle ar
 
--- What it leaves
+-- What it leaves. `stack` is the row of freed nodes before the finger is put down above them.
 pub record InsertedRows
     (nodes : List Node) (freed buckets : List ℕ)
     (nodes′ : List Node) (freed′ buckets′ : List ℕ)
@@ -125,8 +127,10 @@ pub record InsertedRows
   pub left-on : On (rightOf (nodesOf nodes)) (sizeOf h) (rowOf buckets 0) left
   pub left-angle : angleOf (nodesOf nodes) left ≡ turns al
   pub choice : Choice
-  pub chosen : Chosen (nodesOf nodes) freed freed′ h left (eqb (turns al) (turns q)) (turns ar) choice
-  pub placed : nodesOf nodes′ ≡ placeNodes (nodesOf nodes) choice l p q
+  pub stack : List ℕ
+  pub chosen : Chosen (nodesOf nodes) freed stack h left (eqb (turns al) (turns q)) (turns ar) choice
+  pub same-stack : (j : ℕ) → j < choice .freed → rowOf freed′ j ≡ rowOf stack j
+  pub placed : Retired (placeNodes (nodesOf nodes) choice l p q) (nodesOf nodes′) (rowOf stack) (h .freed - 1) (choice .freed)
   pub rebuckets :
       Rebuckets buckets buckets′ (h .buckets)
       (ceilOf (turns al) (h .buckets)) (ceilOf (turns q) (h .buckets)) (ceilOf (turns ar) (h .buckets))

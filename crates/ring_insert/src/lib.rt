@@ -13,7 +13,9 @@ ghost use Rattle.ring.specs.Resize.{adjustedBuckets};
 ghost use Rattle.ring.specs.Free.{Taken};
 ghost use Rattle.ring_rows.specs.Rows.{nodesOf};
 ghost use Rattle.ring_insert.specs.Insert.{ToRelease, ReleasedTo, ToChoose, Chosen, placeNodes, ToPlace, Rebuckets, ToInsert, InsertedRows, ToAdjust, Adjusted};
+ghost use Rattle.ring_insert.specs.Retire.{ToRetire, Retired};
 use ring_rows::Hull;
+use ring_rows::NO_EDGE;
 use ring_rows::Node;
 
 // The node of the right angle, and how many are freed now.
@@ -158,6 +160,29 @@ fn place(nodes: &mut [Node], choice: Choice, leftedge: u32, rightedge: u32, midd
     }
 }
 
+// The first place of the stack at which an insert may have pushed a node: the one below the old top, which `get_next_index` may have taken.
+fn first_pushed(top: u32) -> u32
+    ensures { λ r. ⌜ r ≡ top - 1 ⌝ }
+{
+    if top == 0 {
+        return 0;
+    }
+    top - 1
+}
+
+// The nodes on the stack from `from` up to `to` lose their edges, by which `find` knows that they are not in the ring.
+fn retire(nodes: &mut [Node], freed: &[u32], from: u32, to: u32)
+    requires { ⌜ ToRetire (now nodes) (now freed) from to ⌝ }
+    ensures { λ r. ⌜ Retired (nodesOf (now (nodes .entry))) (nodesOf (now (nodes .exit))) (rowOf (now (freed .entry))) from to ⌝ }
+{
+    let mut k = from;
+    while k < to {
+        let node = freed[k as usize];
+        ring_rows::set_edge(nodes, node, NO_EDGE);
+        k += 1;
+    }
+}
+
 // The buckets of the two nodes.
 fn update_buckets(
     buckets: &mut [u32],
@@ -232,9 +257,9 @@ pub fn insert(
     ensures { λ r. ⌜ InsertedRows (now (nodes .entry)) (now (freed .entry)) (now (buckets .entry))
         (now (nodes .exit)) (now (freed .exit)) (now (buckets .exit)) hull left middle right leftedge rightedge r ⌝ }
 {
-    let found = ring_rows::get(nodes, buckets, hull, left);
+    let found = ring_rows::find(nodes, freed, buckets, hull, left);
     let goes = angle::equal(left, middle);
-    let choice = choose(nodes, freed, hull, found.node, goes, right);
+    let choice = choose(nodes, freed, hull, found, goes, right);
     place(nodes, choice, leftedge, rightedge, middle);
     update_buckets(
         buckets,
@@ -245,6 +270,10 @@ pub fn insert(
         choice.start,
         choice.node,
     );
+    let from = first_pushed(hull.freed);
+    retire(nodes, freed, from, choice.freed);
+    let bucket = segment::floored_bucket(middle, hull.buckets as usize);
+    ring_rows::set_finger(freed, choice.freed, bucket, choice.node);
     Hull {
         buckets: hull.buckets,
         nodes: choice.nodes,

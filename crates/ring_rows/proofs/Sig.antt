@@ -1,6 +1,12 @@
 -- Made by tools/transplant.py: signatures with the row of nodes, and the readings of their contracts.
 pub mod Kinds_clear_nodes
 pub mod Reads_clear_nodes
+pub mod Kinds_contains_angle
+pub mod Reads_contains_angle
+pub mod Kinds_find
+pub mod Reads_find
+pub mod Kinds_finger
+pub mod Reads_finger
 pub mod Kinds_get
 pub mod Reads_get
 pub mod Kinds_initialize_buckets
@@ -19,3 +25,5 @@ pub mod Kinds_store_at
 pub mod Reads_store_at
 pub mod Kinds_update_node_buckets
 pub mod Reads_update_node_buckets
+pub mod Kinds_walk_both
+pub mod Reads_walk_both

@@ -2,7 +2,7 @@
 // its left and its right node, 24 bytes. `load`, `store`, `store_at` and the three relinks are all that touches the row;
 // everything else works with `Node` by value.
 ghost use mathlib.Core.Path.{_≡_};
-ghost use Prim.Native.Nat.{_<_, _≤_};
+ghost use Prim.Native.Nat.{ℕ, _+_, _%_, _<_, _≤_};
 ghost use lib.ListN.{length, set, replicate};
 ghost use lib.Dec.{T};
 ghost use Rattle.sums.specs.Put.{put};
@@ -11,6 +11,7 @@ ghost use Rattle.segment.specs.Bucket.{floorOf, width};
 ghost use Rattle.ring.specs.Insert.{Bucketed};
 ghost use Rattle.dcel.specs.Rows.{rowOf};
 ghost use Rattle.ring_rows.specs.Rows.{zeroNode, nodesOf, withEdge, withLeft, withRight, RingHeld, sizeOf, Got, Updated, FilledRun, rightOf, angleOf, NodeBuckets, NodeUpdated, ToFill};
+ghost use Rattle.ring_rows.specs.Find.{nodeHolds, ToTest, ToWalk, WalkedBoth, FingerOr, ToFind, NodeAt};
 use segment::Segment;
 
 #[repr(C)]
@@ -33,6 +34,21 @@ pub struct Found {
     pub node: u32,
     pub edge: u32,
     pub passed: u32,
+}
+
+// No half-edge has this number: it is the edge of each node that is freed.
+pub const NO_EDGE: u32 = 4294967295;
+
+// Two nodes to walk from: on to the right from the one, on to the left from the other.
+pub struct Handles {
+    pub right: u32,
+    pub left: u32,
+}
+
+// The node at which a walk ended, and whether its segment is the one that was looked for.
+pub struct Walked {
+    pub node: u32,
+    pub found: bool,
 }
 
 pub fn load(nodes: &[Node], i: u32) -> Node
@@ -104,6 +120,125 @@ pub fn get(nodes: &[Node], buckets: &[u32], hull: Hull, angle: f64) -> Found
         handle = node.right;
         passed += 1;
     }
+}
+
+// Whether the segment of node i holds an angle.
+fn contains_angle(nodes: &[Node], i: u32, angle: f64) -> bool
+    requires { ⌜ ToTest (now nodes) i angle ⌝ }
+    ensures { λ r. ⌜ r ≡ nodeHolds (nodesOf (now (nodes .entry))) (turns angle) i ⌝ }
+{
+    let node = load(nodes, i);
+    let next = load(nodes, node.right);
+    let segment = Segment::new(node.angle, next.angle);
+    segment.contains_angle(angle)
+}
+
+// To the node whose segment holds an angle, from two nodes in turn: the one goes on to the right, the other to the left. At most `limit`
+// turns.
+fn walk_both(nodes: &[Node], from: Handles, angle: f64, limit: u32) -> Walked
+    requires { ⌜ ToWalk (now nodes) (from .right) (from .left) angle ⌝ }
+    ensures { λ r. ⌜ WalkedBoth (nodesOf (now (nodes .entry))) (from .right) (turns angle) limit r ⌝ }
+{
+    let mut right = from.right;
+    let mut left = from.left;
+    let mut turn: u32 = 0;
+    while turn < limit {
+        if contains_angle(nodes, right, angle) {
+            return Walked {
+                node: right,
+                found: true,
+            };
+        }
+        if contains_angle(nodes, left, angle) {
+            return Walked {
+                node: left,
+                found: true,
+            };
+        }
+        let here = load(nodes, right);
+        let there = load(nodes, left);
+        right = here.right;
+        left = there.left;
+        turn += 1;
+    }
+    Walked {
+        node: right,
+        found: false,
+    }
+}
+
+// The node of the bucket after one of `count`; after the last comes the first.
+fn node_after(buckets: &[u32], count: usize, bucket: usize) -> u32
+    requires { ⌜ (count ≤ length (now buckets)) × (bucket < count) ⌝ }
+    ensures { λ r. ⌜ r ≡ rowOf (now (buckets .entry)) ((bucket + 1) % count) ⌝ }
+{
+    let next = bucket + 1;
+    if next < count {
+        return buckets[next];
+    }
+    buckets[0]
+}
+
+// The finger of a bucket, the node that was put into the ring last in it, for both handles; `ends` where it is not in the ring any more.
+// It stands at the far end of the row of freed nodes, behind their stack. That row is lent with any contents and the stack may grow over
+// a finger, so nothing is believed of what stands there: a node that has an edge is in the ring.
+fn finger(nodes: &[Node], freed: &[u32], hull: Hull, bucket: usize, ends: Handles) -> Handles
+    requires { ⌜ hull .nodes ≤ length (now nodes) ⌝ }
+    ensures { λ r. ⌜ FingerOr (nodesOf (now (nodes .entry))) (hull .nodes) ends r ⌝ }
+{
+    if freed.len() <= bucket {
+        return ends;
+    }
+    let node = freed[freed.len() - 1 - bucket];
+    if hull.nodes <= node {
+        return ends;
+    }
+    let kept = load(nodes, node);
+    if kept.edge == NO_EDGE {
+        return ends;
+    }
+    Handles {
+        right: node,
+        left: node,
+    }
+}
+
+// A bucket's finger is put down, unless the stack of `top` freed nodes needs its place.
+pub fn set_finger(freed: &mut [u32], top: u32, bucket: usize, node: u32)
+    ensures { λ r. ⌜ ((j : ℕ) → j < top → rowOf (now (freed .exit)) j ≡ rowOf (now (freed .entry)) j) ⌝ }
+{
+    if bucket < freed.len() {
+        let place = freed.len() - 1 - bucket;
+        if top as usize <= place {
+            freed[place] = node;
+        }
+    }
+}
+
+// The node whose segment holds an angle, as `get` finds it, without a count. Where angles crowd, one bucket has thousands of nodes: so it
+// walks from both ends of the bucket, and after a few turns from its finger.
+pub fn find(nodes: &[Node], freed: &[u32], buckets: &[u32], hull: Hull, angle: f64) -> u32
+    requires { ⌜ ToFind (now nodes) (now buckets) hull × T (validAngle angle) ⌝ }
+    ensures { λ r. ⌜ NodeAt (now (nodes .entry)) (now (buckets .entry)) hull (turns angle) r ⌝ }
+{
+    let bucket = segment::floored_bucket(angle, hull.buckets as usize);
+    let first = buckets[bucket];
+    if contains_angle(nodes, first, angle) {
+        return first;
+    }
+    let node = load(nodes, first);
+    let last = node_after(buckets, hull.buckets as usize, bucket);
+    let ends = Handles {
+        right: node.right,
+        left: last,
+    };
+    let near = walk_both(nodes, ends, angle, 8);
+    if near.found {
+        return near.node;
+    }
+    let from = finger(nodes, freed, hull, bucket, ends);
+    let far = walk_both(nodes, from, angle, hull.nodes - hull.freed);
+    far.node
 }
 
 // v to the places from `from` up to `to`.

@@ -67,17 +67,18 @@ module _ {C : Counts} {q : List ℤ} {o h a row : List ℕ} {nodes : List Node} 
   abbrev p : ℕ → Point
   p = positionOf q
 
-  pub to-decide : ToDecide C q h nodes buckets hull cx cy v
-  to-decide = record { outs = o; faces = a; freed = freed; sweep = R .sweep; range = R .range }
+  pub to-decide : ToDecide C q h nodes freed buckets hull cx cy v
+  to-decide = record { outs = o; faces = a; sweep = R .sweep; range = R .range }
 
   swept : Swept cx cy C L p
   swept = record { good = R .sweep .mesh .good; center = R .sweep .center; sound = sweep-sound (R .sweep) }
 
   -- the decision
   module _ {D : Decision}
-      (d : (o a f : List ℕ) → SweepRows C q o h a nodes f buckets hull cx cy → Decides C (linksOf o h a) (positionOf q) cx cy v (decided cx cy C (linksOf o h a) (positionOf q) v) D) where
+      (d : (o a : List ℕ) → SweepRows C q o h a nodes freed buckets hull cx cy
+      → Decides C (linksOf o h a) (positionOf q) cx cy v (decided cx cy C (linksOf o h a) (positionOf q) v) D) where
     Δ : Decides C L p cx cy v (decided cx cy C L p v) D
-    Δ = d o a freed (R .sweep)
+    Δ = d o a (R .sweep)
 
     fate-is : D .fate ≡ decided cx cy C L p v .fate
     fate-is = ap (λ (X : Decided). X .fate) (Δ .is)

@@ -115,6 +115,7 @@ pub fn single_bulk_insertion_step(
         positions,
         halves,
         nodes,
+        freed,
         buckets,
         hull,
         counts,

@@ -7,7 +7,8 @@ use Rattle.angle.specs.Angle.{turns}
 use Rattle.dcel.specs.Rows.{rowOf}
 use Rattle.ring_rows.specs.Rows.{NodeRing, nodesOf}
 use Rattle.ring_rows.specs.Laws.{bucket-ring}
-use Rattle.ring_rows.proofs.Walk.{Walking, begin, here, next-here, apart, found, again}
+use Rattle.ring_rows.proofs.Test.{to-test, asks-segment, tested}
+use Rattle.ring_rows.proofs.Walk.{Walking, begin, handle-on, found, again}
 use Rattle.ring_rows.proofs.get.Statement.{statement}
 use Rattle.ring_rows.proofs.get.Proof.Tie as tie
 mod Lts
@@ -37,20 +38,23 @@ loop-holds c = λ len size R. begin _ R
 load-requires : tie.Need-load-requires Inv-loop μ-loop
 unfolding rowOf
 load-requires c κs =
-    let d = c in let a = d .before .before in let P = a .before .before .before .pre .0 in let K = d .loop .inv _ _ (bucket-ring P (a .floored-bucket .result) (a .floored-bucket .ensures .1 .1)) in
-    let l = here K in let m = P .node-room in omega arith
+    let d = c in let a = d .before .before in let P = a .before .before .before .pre in
+    let K = d .loop .inv _ _ (bucket-ring (P .0) (a .floored-bucket .result) (a .floored-bucket .ensures .1 .1)) in
+    let A = to-test _ (K .ring) (P .0 .node-room) (handle-on K) (P .1) in A .here
 
 load-requires-2 : tie.Need-load-requires-2 Inv-loop μ-loop
 unfolding rowOf
 load-requires-2 c κs =
-    let d = c .before in let a = d .before .before in let P = a .before .before .before .pre .0 in let K = d .loop .inv _ _ (bucket-ring P (a .floored-bucket .result) (a .floored-bucket .ensures .1 .1)) in
-    let l = next-here K (c .load .ensures) in let m = P .node-room in omega arith
+    let d = c .before in let a = d .before .before in let P = a .before .before .before .pre in
+    let K = d .loop .inv _ _ (bucket-ring (P .0) (a .floored-bucket .result) (a .floored-bucket .ensures .1 .1)) in
+    let A = to-test _ (K .ring) (P .0 .node-room) (handle-on K) (P .1) in rw (c .load .ensures) (A .there)
 
 new-requires : tie.Need-new-requires Inv-loop μ-loop
 unfolding rowOf
 new-requires c κs =
-    let d = c .before .before in let a = d .before .before in let P = a .before .before .before .pre .0 in let K = d .loop .inv _ _ (bucket-ring P (a .floored-bucket .result) (a .floored-bucket .ensures .1 .1)) in
-    apart K (c .before .load .ensures) (c .load2 .ensures)
+    let d = c .before .before in let a = d .before .before in let P = a .before .before .before .pre in
+    let K = d .loop .inv _ _ (bucket-ring (P .0) (a .floored-bucket .result) (a .floored-bucket .ensures .1 .1)) in
+    let A = to-test _ (K .ring) (P .0 .node-room) (handle-on K) (P .1) in asks-segment _ _ (c .before .load .ensures) (c .load2 .ensures) A
 
 contains-angle-requires : tie.Need-contains-angle-requires Inv-loop μ-loop
 contains-angle-requires c κs =
@@ -59,26 +63,32 @@ contains-angle-requires c κs =
 returns : tie.Need-returns Inv-loop μ-loop
 unfolding rowOf
 returns c =
-    let d = c .before .before .before .before .before in let a = d .before .before in let P = a .before .before .before .pre .0 in let K = d .loop .inv _ _ (bucket-ring P (a .floored-bucket .result) (a .floored-bucket .ensures .1 .1)) in
-    let e = a .floored-bucket .ensures .1 .0 in
-    rw (← e) (found K (c .before .before .before .before .load .ensures) (c .before .before .before .load2 .ensures) (c .before .before .new .result) (c .before .before .new .ensures .1 .1) (c .before .contains-angle .ensures .1) (c .if1 .taken))
+    let n = c .before .before in let m = n .before in let l = m .before in let d = l .before in let a = d .before .before in
+    let P = a .before .before .before .pre in
+    let K = d .loop .inv _ _ (bucket-ring (P .0) (a .floored-bucket .result) (a .floored-bucket .ensures .1 .1)) in
+    rw (← a .floored-bucket .ensures .1 .0)
+    (found K (l .load .ensures) (tested _ _ (l .load .ensures) (m .load2 .ensures) (n .new .result) _ (n .new .ensures .1 .1) (c .before .contains-angle .ensures .1)) (c .if1 .taken))
 
 add-passed : tie.Need-add-passed Inv-loop μ-loop
 unfolding rowOf
 add-passed c =
-    let d = c .before .before .before .before .before in let a = d .before .before in let P = a .before .before .before .pre .0 in let K = d .loop .inv _ _ (bucket-ring P (a .floored-bucket .result) (a .floored-bucket .ensures .1 .1)) in
+    let d = c .before .before .before .before .before in let a = d .before .before in let P = a .before .before .before .pre in
+    let K = d .loop .inv _ _ (bucket-ring (P .0) (a .floored-bucket .result) (a .floored-bucket .ensures .1 .1)) in
     record { fits = let l = K .less in let m = K .ring .size-small in omega arith }
 
 loop-less : tie.Need-loop-less Inv-loop μ-loop
 unfolding rowOf
 loop-less c =
-    let d = c .before .before .before .before .before in let a = d .before .before in let P = a .before .before .before .pre .0 in let K = d .loop .inv _ _ (bucket-ring P (a .floored-bucket .result) (a .floored-bucket .ensures .1 .1)) in
-    let l = K .less in let m = P .node-room in omega arith
+    let d = c .before .before .before .before .before in let a = d .before .before in let P = a .before .before .before .pre in
+    let K = d .loop .inv _ _ (bucket-ring (P .0) (a .floored-bucket .result) (a .floored-bucket .ensures .1 .1)) in
+    let l = K .less in let m = P .0 .node-room in omega arith
 
 loop-again : tie.Need-loop-again Inv-loop μ-loop
 loop-again c =
-    λ len size R. again (c .before .before .before .before .before .loop .inv len size R) (c .before .before .before .before .load .ensures) (c .before .before .before .load2 .ensures) (c .before .before .new .result) (c .before .before .new .ensures .1 .1)
-    (c .before .contains-angle .ensures .1) (c .if1 .left)
+    λ len size R. let n = c .before .before in let m = n .before in let l = m .before in
+    again (l .before .loop .inv len size R) (l .load .ensures)
+    (tested _ _ (l .load .ensures) (m .load2 .ensures) (n .new .result) _ (n .new .ensures .1 .1) (c .before .contains-angle .ensures .1))
+    (c .if1 .left)
 
 pub get-spec : {M : Type 1} → statement M
 get-spec =

@@ -57,6 +57,9 @@ After-decide-arg3 = Lts.After-decide-arg3 (Reads.Asked, Reads.Learnt, Reads'3.As
 abbrev pub After-decide-arg4 : Type 0
 After-decide-arg4 = Lts.After-decide-arg4 (Reads.Asked, Reads.Learnt, Reads'3.Asked, Reads'3.Learnt, Reads'4.Asked, Reads'4.Learnt, Reads''.Asked, Reads''.Learnt, Reads'.Asked, Reads'.Learnt) Reads'5.Pre Reads'5.Post
 
+abbrev pub After-decide-arg5 : Type 0
+After-decide-arg5 = Lts.After-decide-arg5 (Reads.Asked, Reads.Learnt, Reads'3.Asked, Reads'3.Learnt, Reads'4.Asked, Reads'4.Learnt, Reads''.Asked, Reads''.Learnt, Reads'.Asked, Reads'.Learnt) Reads'5.Pre Reads'5.Post
+
 abbrev pub After-decide : Type 0
 After-decide = Lts.After-decide (Reads.Asked, Reads.Learnt, Reads'3.Asked, Reads'3.Learnt, Reads'4.Asked, Reads'4.Learnt, Reads''.Asked, Reads''.Learnt, Reads'.Asked, Reads'.Learnt) Reads'5.Pre Reads'5.Post
 
@@ -180,6 +183,9 @@ Need-same-length-3 = Lts.Need-same-length-3 (Reads.Asked, Reads.Learnt, Reads'3.
 abbrev pub Need-same-length-4 : Type 0
 Need-same-length-4 = Lts.Need-same-length-4 (Reads.Asked, Reads.Learnt, Reads'3.Asked, Reads'3.Learnt, Reads'4.Asked, Reads'4.Learnt, Reads''.Asked, Reads''.Learnt, Reads'.Asked, Reads'.Learnt) Reads'5.Pre Reads'5.Post
 
+abbrev pub Need-same-length-5 : Type 0
+Need-same-length-5 = Lts.Need-same-length-5 (Reads.Asked, Reads.Learnt, Reads'3.Asked, Reads'3.Learnt, Reads'4.Asked, Reads'4.Learnt, Reads''.Asked, Reads''.Learnt, Reads'.Asked, Reads'.Learnt) Reads'5.Pre Reads'5.Post
+
 abbrev pub Need-returns : Type 0
 Need-returns = Lts.Need-returns (Reads.Asked, Reads.Learnt, Reads'3.Asked, Reads'3.Learnt, Reads'4.Asked, Reads'4.Learnt, Reads''.Asked, Reads''.Learnt, Reads'.Asked, Reads'.Learnt) Reads'5.Pre Reads'5.Post
 
@@ -188,9 +194,6 @@ Need-add-point-requires = Lts.Need-add-point-requires (Reads.Asked, Reads.Learnt
 
 abbrev pub Need-progress-of-requires-2 : Type 0
 Need-progress-of-requires-2 = Lts.Need-progress-of-requires-2 (Reads.Asked, Reads.Learnt, Reads'3.Asked, Reads'3.Learnt, Reads'4.Asked, Reads'4.Learnt, Reads''.Asked, Reads''.Learnt, Reads'.Asked, Reads'.Learnt) Reads'5.Pre Reads'5.Post
-
-abbrev pub Need-same-length-5 : Type 0
-Need-same-length-5 = Lts.Need-same-length-5 (Reads.Asked, Reads.Learnt, Reads'3.Asked, Reads'3.Learnt, Reads'4.Asked, Reads'4.Learnt, Reads''.Asked, Reads''.Learnt, Reads'.Asked, Reads'.Learnt) Reads'5.Pre Reads'5.Post
 
 abbrev pub Need-same-length-6 : Type 0
 Need-same-length-6 = Lts.Need-same-length-6 (Reads.Asked, Reads.Learnt, Reads'3.Asked, Reads'3.Learnt, Reads'4.Asked, Reads'4.Learnt, Reads''.Asked, Reads''.Learnt, Reads'.Asked, Reads'.Learnt) Reads'5.Pre Reads'5.Post
@@ -210,6 +213,12 @@ Need-same-length-10 = Lts.Need-same-length-10 (Reads.Asked, Reads.Learnt, Reads'
 abbrev pub Need-same-length-11 : Type 0
 Need-same-length-11 = Lts.Need-same-length-11 (Reads.Asked, Reads.Learnt, Reads'3.Asked, Reads'3.Learnt, Reads'4.Asked, Reads'4.Learnt, Reads''.Asked, Reads''.Learnt, Reads'.Asked, Reads'.Learnt) Reads'5.Pre Reads'5.Post
 
+abbrev pub Need-same-length-12 : Type 0
+Need-same-length-12 = Lts.Need-same-length-12 (Reads.Asked, Reads.Learnt, Reads'3.Asked, Reads'3.Learnt, Reads'4.Asked, Reads'4.Learnt, Reads''.Asked, Reads''.Learnt, Reads'.Asked, Reads'.Learnt) Reads'5.Pre Reads'5.Post
+
+abbrev pub Need-same-length-13 : Type 0
+Need-same-length-13 = Lts.Need-same-length-13 (Reads.Asked, Reads.Learnt, Reads'3.Asked, Reads'3.Learnt, Reads'4.Asked, Reads'4.Learnt, Reads''.Asked, Reads''.Learnt, Reads'.Asked, Reads'.Learnt) Reads'5.Pre Reads'5.Post
+
 abbrev pub Need-returns-2 : Type 0
 Need-returns-2 = Lts.Need-returns-2 (Reads.Asked, Reads.Learnt, Reads'3.Asked, Reads'3.Learnt, Reads'4.Asked, Reads'4.Learnt, Reads''.Asked, Reads''.Learnt, Reads'.Asked, Reads'.Learnt) Reads'5.Pre Reads'5.Post
 
@@ -218,12 +227,6 @@ Need-insert-requires = Lts.Need-insert-requires (Reads.Asked, Reads.Learnt, Read
 
 abbrev pub Need-progress-of-requires-3 : Type 0
 Need-progress-of-requires-3 = Lts.Need-progress-of-requires-3 (Reads.Asked, Reads.Learnt, Reads'3.Asked, Reads'3.Learnt, Reads'4.Asked, Reads'4.Learnt, Reads''.Asked, Reads''.Learnt, Reads'.Asked, Reads'.Learnt) Reads'5.Pre Reads'5.Post
-
-abbrev pub Need-same-length-12 : Type 0
-Need-same-length-12 = Lts.Need-same-length-12 (Reads.Asked, Reads.Learnt, Reads'3.Asked, Reads'3.Learnt, Reads'4.Asked, Reads'4.Learnt, Reads''.Asked, Reads''.Learnt, Reads'.Asked, Reads'.Learnt) Reads'5.Pre Reads'5.Post
-
-abbrev pub Need-same-length-13 : Type 0
-Need-same-length-13 = Lts.Need-same-length-13 (Reads.Asked, Reads.Learnt, Reads'3.Asked, Reads'3.Learnt, Reads'4.Asked, Reads'4.Learnt, Reads''.Asked, Reads''.Learnt, Reads'.Asked, Reads'.Learnt) Reads'5.Pre Reads'5.Post
 
 abbrev pub Need-same-length-14 : Type 0
 Need-same-length-14 = Lts.Need-same-length-14 (Reads.Asked, Reads.Learnt, Reads'3.Asked, Reads'3.Learnt, Reads'4.Asked, Reads'4.Learnt, Reads''.Asked, Reads''.Learnt, Reads'.Asked, Reads'.Learnt) Reads'5.Pre Reads'5.Post
@@ -243,12 +246,18 @@ Need-same-length-18 = Lts.Need-same-length-18 (Reads.Asked, Reads.Learnt, Reads'
 abbrev pub Need-same-length-19 : Type 0
 Need-same-length-19 = Lts.Need-same-length-19 (Reads.Asked, Reads.Learnt, Reads'3.Asked, Reads'3.Learnt, Reads'4.Asked, Reads'4.Learnt, Reads''.Asked, Reads''.Learnt, Reads'.Asked, Reads'.Learnt) Reads'5.Pre Reads'5.Post
 
+abbrev pub Need-same-length-20 : Type 0
+Need-same-length-20 = Lts.Need-same-length-20 (Reads.Asked, Reads.Learnt, Reads'3.Asked, Reads'3.Learnt, Reads'4.Asked, Reads'4.Learnt, Reads''.Asked, Reads''.Learnt, Reads'.Asked, Reads'.Learnt) Reads'5.Pre Reads'5.Post
+
+abbrev pub Need-same-length-21 : Type 0
+Need-same-length-21 = Lts.Need-same-length-21 (Reads.Asked, Reads.Learnt, Reads'3.Asked, Reads'3.Learnt, Reads'4.Asked, Reads'4.Learnt, Reads''.Asked, Reads''.Learnt, Reads'.Asked, Reads'.Learnt) Reads'5.Pre Reads'5.Post
+
 abbrev pub Need-returns-3 : Type 0
 Need-returns-3 = Lts.Need-returns-3 (Reads.Asked, Reads.Learnt, Reads'3.Asked, Reads'3.Learnt, Reads'4.Asked, Reads'4.Learnt, Reads''.Asked, Reads''.Learnt, Reads'.Asked, Reads'.Learnt) Reads'5.Pre Reads'5.Post
 
 module _ {M : Type 1} where
-  pub spec : (answer : Need-decide-requires) → (answer : Need-is-added-requires) → (answer : Need-progress-of-requires) → (answer : Need-same-length) → (answer : Need-same-length-2) → (answer : Need-same-length-3) → (answer : Need-same-length-4) → (answer : Need-returns) → (answer : Need-add-point-requires) → (answer : Need-progress-of-requires-2) → (answer : Need-same-length-5) → (answer : Need-same-length-6) → (answer : Need-same-length-7) → (answer : Need-same-length-8) → (answer : Need-same-length-9) → (answer : Need-same-length-10) → (answer : Need-same-length-11) → (answer : Need-returns-2) → (answer : Need-insert-requires) → (answer : Need-progress-of-requires-3) → (answer : Need-same-length-12) → (answer : Need-same-length-13) → (answer : Need-same-length-14) → (answer : Need-same-length-15) → (answer : Need-same-length-16) → (answer : Need-same-length-17) → (answer : Need-same-length-18) → (answer : Need-same-length-19) → (answer : Need-returns-3) → Lts.Closed (Reads.Asked, Reads.Learnt, Reads'3.Asked, Reads'3.Learnt, Reads'4.Asked, Reads'4.Learnt, Reads''.Asked, Reads''.Learnt, Reads'.Asked, Reads'.Learnt) Reads'5.Pre Reads'5.Post M
-  spec = λ answer answer' answer'' answer'3 answer'4 answer'5 answer'6 answer'7 answer'8 answer'9 answer'10 answer'11 answer'12 answer'13 answer'14 answer'15 answer'16 answer'17 answer'18 answer'19 answer'20 answer'21 answer'22 answer'23 answer'24 answer'25 answer'26 answer'27 answer'28. Lts.spec (Reads.Asked, Reads.Learnt, Reads'3.Asked, Reads'3.Learnt, Reads'4.Asked, Reads'4.Learnt, Reads''.Asked, Reads''.Learnt, Reads'.Asked, Reads'.Learnt) Reads'5.Pre Reads'5.Post answer answer' answer'' answer'3 answer'4 answer'5 answer'6 answer'7 answer'8 answer'9 answer'10 answer'11 answer'12 answer'13 answer'14 answer'15 answer'16 answer'17 answer'18 answer'19 answer'20 answer'21 answer'22 answer'23 answer'24 answer'25 answer'26 answer'27 answer'28
+  pub spec : (answer : Need-decide-requires) → (answer : Need-is-added-requires) → (answer : Need-progress-of-requires) → (answer : Need-same-length) → (answer : Need-same-length-2) → (answer : Need-same-length-3) → (answer : Need-same-length-4) → (answer : Need-same-length-5) → (answer : Need-returns) → (answer : Need-add-point-requires) → (answer : Need-progress-of-requires-2) → (answer : Need-same-length-6) → (answer : Need-same-length-7) → (answer : Need-same-length-8) → (answer : Need-same-length-9) → (answer : Need-same-length-10) → (answer : Need-same-length-11) → (answer : Need-same-length-12) → (answer : Need-same-length-13) → (answer : Need-returns-2) → (answer : Need-insert-requires) → (answer : Need-progress-of-requires-3) → (answer : Need-same-length-14) → (answer : Need-same-length-15) → (answer : Need-same-length-16) → (answer : Need-same-length-17) → (answer : Need-same-length-18) → (answer : Need-same-length-19) → (answer : Need-same-length-20) → (answer : Need-same-length-21) → (answer : Need-returns-3) → Lts.Closed (Reads.Asked, Reads.Learnt, Reads'3.Asked, Reads'3.Learnt, Reads'4.Asked, Reads'4.Learnt, Reads''.Asked, Reads''.Learnt, Reads'.Asked, Reads'.Learnt) Reads'5.Pre Reads'5.Post M
+  spec = λ answer answer' answer'' answer'3 answer'4 answer'5 answer'6 answer'7 answer'8 answer'9 answer'10 answer'11 answer'12 answer'13 answer'14 answer'15 answer'16 answer'17 answer'18 answer'19 answer'20 answer'21 answer'22 answer'23 answer'24 answer'25 answer'26 answer'27 answer'28 answer'29 answer'30. Lts.spec (Reads.Asked, Reads.Learnt, Reads'3.Asked, Reads'3.Learnt, Reads'4.Asked, Reads'4.Learnt, Reads''.Asked, Reads''.Learnt, Reads'.Asked, Reads'.Learnt) Reads'5.Pre Reads'5.Post answer answer' answer'' answer'3 answer'4 answer'5 answer'6 answer'7 answer'8 answer'9 answer'10 answer'11 answer'12 answer'13 answer'14 answer'15 answer'16 answer'17 answer'18 answer'19 answer'20 answer'21 answer'22 answer'23 answer'24 answer'25 answer'26 answer'27 answer'28 answer'29 answer'30
 
   pub close : Lts.Closed (Reads.Asked, Reads.Learnt, Reads'3.Asked, Reads'3.Learnt, Reads'4.Asked, Reads'4.Learnt, Reads''.Asked, Reads''.Learnt, Reads'.Asked, Reads'.Learnt) Reads'5.Pre Reads'5.Post M → Statement.statement M
   unfolding Code.routine Running.tablesOf
