@@ -10,6 +10,7 @@ import random
 
 import check_cases
 import heights
+import line_cases
 import lists
 import meshes
 import selfcheck
@@ -109,6 +110,7 @@ def main():
             found += 1
             both_sides_of_full(out, "filling %d" % found, mesh)
     with_heights(out, random.Random(53))
+    assert line_cases.add_finishes(out, add, random.Random(54)) > 128
     out.print()
 
 

@@ -753,6 +753,9 @@ def run_list():
     skipped_cases.add_cases(out, add_run, random.Random(76))
     for name, case, number in run_changes():
         assert add_run(out, name, case)[0] == number, name
+    assert line_cases.add_long_runs(out, add_run, random.Random(77)) > 128
+    fullest, gone = line_cases.add_crowded(out, add_run, random.Random(78))
+    assert fullest > 200 and gone > 30
     return out
 
 
@@ -809,6 +812,7 @@ def step_list():
             wanted[fate] -= 1
             add_step(out, "fate %d" % fate, Case(mesh, centre, [point]))
     step_heights(out, random.Random(86))
+    assert line_cases.add_steps(out, add_step, random.Random(87)) > 128
     return out
 
 
@@ -842,5 +846,6 @@ def step_heights(out, rng):
 
 
 if __name__ == "__main__":
-    import skipped_cases  # which needs what stands above
+    import line_cases  # which need what stands above
+    import skipped_cases
     {"run": run_list, "step": step_list}[sys.argv[1]]().print()

@@ -4,7 +4,7 @@ the listing program's part has to be noticed by three cases of its list.
 
     python3 verify.py                    # the lists as they stand
     python3 verify.py mutants            # and the changes
-    python3 verify.py mutants skipped    # and some of the changes: base, heights, skipped, areas, quotes, bare, listing
+    python3 verify.py mutants skipped    # and some of the changes: base, heights, skipped, areas, quotes, bare, lines, listing
 """
 
 import math
@@ -1327,9 +1327,57 @@ def source():
         return f.read()
 
 
+def listed(*changes):
+    """The part of `legalize_edges_after_removal` that fills its pending list, and the same changed in several places."""
+    text = source()
+    start = text.index("    flips = 0\n    while pending:\n        u = pending.pop()\n")
+    part = text[start:text.index("            if len(pushed) > capacity:\n", start)]
+    other = part
+    for old, new in changes:
+        assert other.count(old) == 1, old
+        other = other.replace(old, new)
+    return part, other
+
+
+FOUND, WORDS = "if h // 2 not in pushed:", "(mesh.edges + 31) // 32"
+STARTS, POPS = "    flips = 0\n", "        u = pending.pop()\n"
+LONG_LISTS = [  # a pending list of 16 entries and more, where its edges stand in a set as well
+    ("an edge that was popped is found",
+     *listed((STARTS, "    flips, gone = 0, set()\n"),
+             (POPS, POPS + "        gone = gone | {u} if len(pending) >= 16 else set()\n"),
+             (FOUND, "if h // 2 not in pushed and (len(pushed) < 16 or h // 2 not in gone):"))),
+    ("an edge that was popped is found when the list is long again",
+     *listed((STARTS, "    flips, gone = 0, set()\n"),
+             (POPS, POPS + "        gone |= {u} if len(pending) >= 16 else set()\n"),
+             (FOUND, "if h // 2 not in pushed and h // 2 not in gone:"))),
+    ("an edge of the call before is found",
+     *listed((STARTS, '    flips, before, gone = 0, getattr(mesh, "gone", set()), set()\n    mesh.gone = gone\n'),
+             (POPS, POPS + "        gone |= {u} if len(pending) >= 16 else set()\n"),
+             (FOUND, "if h // 2 not in pushed and (len(pushed) < 16 or h // 2 not in before):"))),
+    ("an edge pushed long ago is not found", FOUND, "if h // 2 not in pushed[-16:]:"),
+    ("an edge past the last four is not found", FOUND,
+     "if h // 2 not in (pushed if len(pushed) < 16 else pushed[:len(pushed) // 4 * 4]):"),
+    ("edges 32 apart are one", FOUND,
+     "if h // 2 not in pushed and (len(pushed) < 16 or all(o % 32 != h // 2 % 32 for o in pushed)):"),
+    ("edges of the last word are not found", FOUND,
+     "if h // 2 not in pushed or len(pushed) >= 16 and h // 64 == (mesh.edges - 1) // 32:"),
+    ("edges of the first word are not found", FOUND, "if h // 2 not in pushed or len(pushed) >= 16 and h < 64:"),
+    ("a word's last bit is not found", FOUND,
+     "if h // 2 not in pushed or len(pushed) >= 16 and h // 2 % 32 == 31:"),
+    ("a word's first bit is not found", FOUND,
+     "if h // 2 not in pushed or len(pushed) >= 16 and h // 2 % 32 == 0:"),
+    ("nothing is found once the set is in the way", FOUND,
+     "if h // 2 not in pushed or len(pushed) >= 16 and len(pushed) + %s > capacity:" % WORDS),
+    ("all is found once the set is in the way", FOUND,
+     "if h // 2 not in pushed and (len(pushed) < 16 or len(pushed) + %s <= capacity):" % WORDS),
+    ("9 where the set is in the way", "len(pushed) > capacity",
+     "len(pushed) > capacity - (len(pushed) >= 16) * (%s)" % WORDS),
+]
+
+
 def changed_as(name):
-    """sweep.py changed as the list above names it."""
-    changes = MUTANTS + HEIGHTS + SKIPPING + AREAS + QUOTES + COUNTED + GROWING + LISTING
+    """sweep.py changed as the lists above name it."""
+    changes = MUTANTS + HEIGHTS + SKIPPING + AREAS + QUOTES + COUNTED + GROWING + LONG_LISTS + LISTING
     old, new = next(m[1:3] for m in changes if m[0] == name)
     return changed(source(), old, new)
 
@@ -1344,12 +1392,13 @@ def mutants(only):
                                  ("areas", AREAS, ("samples", "volume")),
                                  ("quotes", QUOTES, ("ask", "commit")),
                                  ("quotes", COUNTED, ("step", "finish", "run")),
-                                 ("bare", GROWING, ("bulk_load",))):
+                                 ("bare", GROWING, ("bulk_load",)),
+                                 ("lines", LONG_LISTS, ("finish", "step", "run"))):
         for name, old, new, *implied in changes if part in only else []:
             module = changed(text, old, new)
             noticed = [n for n in names if failures(module, n, first_only=True)[1]]
             silent += not noticed and not implied
-            print("%-50s %s" % (name, " ".join(noticed + implied) or "NOTICED BY NONE"), flush=True)
+            print("%-60s %s" % (name, " ".join(noticed + implied) or "NOTICED BY NONE"), flush=True)
     for name, old, new in LISTING if "listing" in only else []:
         noticed = failures(changed(text, old, new), "listing")[1]
         silent += noticed < FEWEST
@@ -1366,5 +1415,5 @@ if __name__ == "__main__":
         wrong += bad
         print("%-9s %5d cases, %d answered otherwise" % (name, total, bad))
     if len(sys.argv) > 1:
-        wrong += mutants(sys.argv[2:] or ("base", "heights", "skipped", "areas", "quotes", "bare", "listing"))
+        wrong += mutants(sys.argv[2:] or ("base", "heights", "skipped", "areas", "quotes", "bare", "lines", "listing"))
     sys.exit(1 if wrong else 0)

@@ -4,7 +4,7 @@
 // the samples, go through the exports of the crate `fithmoul`. A list that is not whole counts as one difference more.
 
 // No list is as long as this.
-const TEXT: usize = 1048576;
+const TEXT: usize = 2097152;
 
 // A list, by the call that it is about; `Answers` are those of the Rust.
 enum List {

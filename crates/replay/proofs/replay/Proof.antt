@@ -10,7 +10,7 @@ open-read-requires : tie.Need-open-read-requires
 open-read-requires c κs = search needs
 
 slice-aggregate-read-full : tie.Need-slice-aggregate-read-full
-slice-aggregate-read-full c = sym (length-replicate {A = ℕ} 1048576 0)
+slice-aggregate-read-full c = sym (length-replicate {A = ℕ} 2097152 0)
 
 read-full-requires : tie.Need-read-full-requires
 read-full-requires c κs = search needs
