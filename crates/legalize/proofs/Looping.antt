@@ -1,6 +1,6 @@
 -- The invariant of the loop, to go on from here is to go on from the start, and what each step of it needs. Over plain rows, so that the needs of the code are
 -- single applications. Assumes nothing.
-use mathlib.Core.Bool.{true, false}
+use mathlib.Core.Bool.{Bool, true, false}
 use mathlib.Core.List.{List}
 use mathlib.Core.Path.{_≡_, refl, sym, _∙_, ap, subst}
 use Prim.Native.Nat.{ℕ, zero, suc, _+_, _<_, _≤_}
@@ -16,7 +16,6 @@ use Rattle.pending.specs.Pending.{pendingOf}
 use Rattle.pending.specs.PendingLaws.{pending-last}
 use Rattle.sums.specs.Until.{Going, going-start, going-turn, going-less, going-end}
 use Rattle.legalize.specs.declared.Entry.{Entry}
-use Rattle.legalize.specs.declared.Turned.{Turned}
 use Rattle.legalize.specs.Legalize.{Legalizing, legalizeTurn, isDone, isEmpty, measure, legalize}
 use Rattle.legalize.specs.LegalizeLaws.{Ongoing, falls, turn-bound, legalize-start}
 use Rattle.legalize.specs.LegalizeRows.{TurnReady, stateOf, TurnLeaves, Leaves}
@@ -82,16 +81,17 @@ module _ {k : Entry} {C : Counts} {q : List ℤ} {o₀ h₀ a₀ row₀ : List �
     turned : Loops room k C q s₀ (legalizeTurn room k (positionOf q) s)
     turned = going-turn isDone (legalizeTurn room k (positionOf q)) (falls room k C (positionOf q)) (I .going) goes-on
 
-    module _ {o′ h′ a′ row′ : List ℕ} {r : Turned} (T : TurnLeaves (C .edges) o′ h′ a′ row′ r (legalizeTurn (length row) k (positionOf q) s)) (l : SameLengths o h a row o′ h′ a′ row′) where
-      leaves : TurnLeaves (C .edges) o′ h′ a′ row′ r (legalizeTurn room k (positionOf q) s)
-      leaves = subst (λ (m : ℕ). TurnLeaves (C .edges) o′ h′ a′ row′ r (legalizeTurn m k (positionOf q) s)) (I .lengths .pending) T
+    module _ {o′ h′ a′ row′ : List ℕ} {w′ : PendingList} {c′ : ℕ} {b : Bool}
+        (T : TurnLeaves (C .edges) o′ h′ a′ row′ w′ c′ b (legalizeTurn (length row) k (positionOf q) s)) (l : SameLengths o h a row o′ h′ a′ row′) where
+      leaves : TurnLeaves (C .edges) o′ h′ a′ row′ w′ c′ b (legalizeTurn room k (positionOf q) s)
+      leaves = subst (λ (m : ℕ). TurnLeaves (C .edges) o′ h′ a′ row′ w′ c′ b (legalizeTurn m k (positionOf q) s)) (I .lengths .pending) T
 
       -- a flip is refused
-      pub loop-refused : r .full ≡ true → Leaves o′ h′ a′ (record { flips = r .flips; full = true }) (legalize room k C (positionOf q) s₀)
+      pub loop-refused : b ≡ true → Leaves o′ h′ a′ (record { flips = c′; full = true }) (legalize room k C (positionOf q) s₀)
       unfolding legalize
       loop-refused e =
           let t = sym (leaves .full) ∙ e in
-          subst (Leaves o′ h′ a′ (record { flips = r .flips; full = true }))
+          subst (Leaves o′ h′ a′ (record { flips = c′; full = true }))
           (going-end isDone (legalizeTurn room k (positionOf q)) (falls room k C (positionOf q)) turned (ended (legalizeTurn room k (positionOf q) s) t))
           (record { links = leaves .links; flips = leaves .flips; full = sym t })
         where
@@ -99,18 +99,18 @@ module _ {k : Entry} {C : Counts} {q : List ℤ} {o₀ h₀ a₀ row₀ : List �
           ended t e = rw e refl
 
       -- the loop goes on
-      module _ (e : r .full ≡ false) where
-        state : legalizeTurn room k (positionOf q) s ≡ stateOf o′ h′ a′ row′ (r .list .length) (r .flips)
+      module _ (e : b ≡ false) where
+        state : legalizeTurn room k (positionOf q) s ≡ stateOf o′ h′ a′ row′ (w′ .length) c′
         state = λ i. record { links = sym (leaves .links) i; pending = sym (leaves .pending e) i; flips = sym (leaves .flips) i; full = (sym (leaves .full) ∙ e) i }
 
-        pub loop-less : measure C (positionOf q) (stateOf o′ h′ a′ row′ (r .list .length) (r .flips)) < measure C (positionOf q) s
+        pub loop-less : measure C (positionOf q) (stateOf o′ h′ a′ row′ (w′ .length) c′) < measure C (positionOf q) s
         loop-less = subst (λ (t : Legalizing). measure C (positionOf q) t < measure C (positionOf q) s) state
             (going-less isDone (legalizeTurn room k (positionOf q)) (falls room k C (positionOf q)) (I .going) goes-on)
 
-        on : Loops room k C q s₀ (stateOf o′ h′ a′ row′ (r .list .length) (r .flips))
+        on : Loops room k C q s₀ (stateOf o′ h′ a′ row′ (w′ .length) c′)
         on = subst (Loops room k C q s₀) state turned
 
-        pub loop-on : LoopAt k C q o₀ h₀ a₀ row₀ w₀ c₀ o′ h′ a′ row′ (r .list) (r .flips)
+        pub loop-on : LoopAt k C q o₀ h₀ a₀ row₀ w₀ c₀ o′ h′ a′ row′ w′ c′
         loop-on =
             let M = I .ready .mesh in
             record {

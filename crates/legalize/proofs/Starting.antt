@@ -1,7 +1,7 @@
 -- The first entries of the pending list, and the loop from there. Assumes nothing.
-use mathlib.Core.Bool.{false}
+use mathlib.Core.Bool.{false, false≢true}
 use mathlib.Core.List.{List, []}
-use mathlib.Core.Path.{_≡_, subst}
+use mathlib.Core.Path.{_≡_, sym, _∙_, subst}
 use Prim.Native.Nat.{ℕ, _≤_}
 use native.Mathlib.Omega.{arith}
 use lib.IntN.{ℤ}
@@ -18,9 +18,16 @@ use Rattle.legalize.specs.Legalize.{legalize}
 use Rattle.legalize.specs.Turns.{EntriesIn}
 use Rattle.legalize.specs.LegalizeRows.{LegalizeReady, TurnReady, stateOf, Leaves}
 
-pub empty : (row : List ℕ) {n : ℕ} → n ≡ 0 → Holds row n []
+pub empty : (row : List ℕ) → Holds row 0 []
 unfolding pendingOf
-empty row e = rw e (holds row 0 (omega arith))
+empty row = holds row 0 (omega arith)
+
+-- the value of a list without a set
+pub listed : {row : List ℕ} {n : ℕ} {l : List ℕ} (w : PendingList) → w .length ≡ n → Holds row n l → Holds row (w .length) l
+listed {row} {n} {l} w e H = subst (λ (m : ℕ). Holds row m l) (sym e) H
+
+pub unmarked : {row : List ℕ} (w : PendingList) {edges : ℕ} → w .set ≡ false → SetOf row w edges
+unmarked w e = λ t. absurd (false≢true (sym e ∙ t))
 
 module _ (k : Entry) {C : Counts} {q : List ℤ} {o h a row : List ℕ} {c : ℕ} (M : LegalizeReady C q o h a row c)
     {row′ : List ℕ} (w : PendingList) {l : List ℕ} (H : Holds row′ (w .length) l) (S : SetOf row′ w (C .edges)) (same : length row′ ≡ length row) (few : length l ≤ 8) (E : EntriesIn C k l) where

@@ -19,10 +19,9 @@ use Rattle.pending.specs.declared.PendingList.{PendingList}
 use Rattle.pending.specs.Pending.{pendingOf, Holds}
 use Rattle.pending.specs.PendingLaws.{pending-length, pending-last, holds-length, holds-fits}
 use Rattle.legalize.specs.declared.Entry.{Entry}
-use Rattle.legalize.specs.declared.Popped.{Popped}
 use Rattle.legalize.specs.Legalize.{Legalizing, entryEdge, pushed, legalizeTurn}
 use Rattle.legalize.specs.Turns.{EntriesIn, turn-kept, turn-flipped, turn-refused}
-use Rattle.legalize.specs.LegalizeRows.{PopReady, Pops, TurnReady, stateOf, TurnLeaves}
+use Rattle.legalize.specs.LegalizeRows.{PopReady, Popped, Pops, TurnReady, stateOf, TurnLeaves}
 
 module _ {k : Entry} {C : Counts} {q : List ℤ} {o h a row : List ℕ} {w : PendingList} {flips : ℕ}
     (R : TurnReady k C q o h a row w flips) (z : 0 < w .length) where
@@ -61,7 +60,7 @@ module _ {k : Entry} {C : Counts} {q : List ℤ} {o h a row : List ℕ} {w : Pen
     pushes : r .flip ≡ true → Holds row′ (r .list .length) (pushed k (s .links) x l)
     pushes e = subst (λ (b : Bool). Holds row′ (r .list .length) (cond b (pushed k (s .links) x l) l)) e (P .pending o a)
 
-    pub turn-keeps : r .flip ≡ false → TurnLeaves (C .edges) o h a row′ (record { list = r .list; flips = flips; full = false }) (legalizeTurn (length row) k (positionOf q) s)
+    pub turn-keeps : r .flip ≡ false → TurnLeaves (C .edges) o h a row′ (r .list) flips false (legalizeTurn (length row) k (positionOf q) s)
     turn-keeps e =
         let H = not-pushed e in
         let m = pending-length row (w .length - 1) in
@@ -69,7 +68,7 @@ module _ {k : Entry} {C : Counts} {q : List ℤ} {o h a row : List ℕ} {w : Pen
         rw (turn-kept (length row) k (positionOf q) s last (tested e))
         (record { links = refl; flips = refl; full = refl; fits = λ _. holds-fits H (omega arith); set = λ _. P .set; pending = λ _. H .fits (holds-fits H (omega arith)) })
 
-    pub turn-refuses : r .flip ≡ true → length row′ < r .list .length → TurnLeaves (C .edges) o h a row′ (record { list = r .list; flips = flips; full = true }) (legalizeTurn (length row) k (positionOf q) s)
+    pub turn-refuses : r .flip ≡ true → length row′ < r .list .length → TurnLeaves (C .edges) o h a row′ (r .list) flips true (legalizeTurn (length row) k (positionOf q) s)
     turn-refuses e f =
         let m = pushes e .over f in
         rw (turn-refused (length row) k (positionOf q) s last (tested e) (rw same at m))
@@ -79,7 +78,7 @@ module _ {k : Entry} {C : Counts} {q : List ℤ} {o h a row : List ℕ} {w : Pen
     turn-flip-ready e = rw (P .edge) (flip-ready (held (R .mesh .rows)) in-use)
 
     pub turn-flips : r .flip ≡ true → r .list .length ≤ length row′ → {o′ h′ a′ : List ℕ} → linksOf o′ h′ a′ ≡ flipCw (linksOf o h a) (r .edge)
-        → TurnLeaves (C .edges) o′ h′ a′ row′ (record { list = r .list; flips = flips + 1; full = false }) (legalizeTurn (length row) k (positionOf q) s)
+        → TurnLeaves (C .edges) o′ h′ a′ row′ (r .list) (flips + 1) false (legalizeTurn (length row) k (positionOf q) s)
     turn-flips e f links =
         let H = pushes e in
         let m = holds-length H f in

@@ -1,5 +1,5 @@
 -- What the functions ask of the rows that are lent, and what they ensure. Definitions only.
-use mathlib.Core.Bool.{false, cond}
+use mathlib.Core.Bool.{Bool, false, cond}
 use mathlib.Core.List.{List}
 use mathlib.Core.Path.{_≡_}
 use Prim.Native.Nat.{ℕ, _+_, _-_, _*_, _^_, _<_, _≤_}
@@ -14,11 +14,14 @@ use Rattle.pending.specs.declared.PendingList.{PendingList}
 use Rattle.pending.specs.Pending.{pendingOf, Holds}
 use Rattle.pending.specs.Set.{SetOf, Becomes, ToPop}
 use Rattle.legalize.specs.declared.Entry.{Entry}
-use Rattle.legalize.specs.declared.Popped.{Popped}
-use Rattle.legalize.specs.declared.Turned.{Turned}
 use Rattle.legalize.specs.declared.Legalized.{Legalized}
 use Rattle.legalize.specs.Legalize.{Legalizing, entryEdge, pushed}
 use Rattle.legalize.specs.Turns.{EntriesIn}
+
+-- ---- the list's value
+-- a list of n entries without a set
+abbrev pub plain : ℕ → PendingList
+plain n = record { length = n; looks = 0; set = false }
 
 -- ---- pushes
 -- both halves of an entry's edge are in the row of half-edges
@@ -34,6 +37,12 @@ Pushes k h x row s row′ s′ edges = (o a : List ℕ) → Becomes row s row′
 pub record PopReady (k : Entry) (q : List ℤ) (h row : List ℕ) (s : PendingList) (edges : ℕ) : Type 0 where
   pub pending : ToPop row s edges
   pub circle : CircleReady q h (entryEdge k (getD row (s .length - 1) 0))
+
+-- an entry that was taken from the pending list: its edge, whether that is to be flipped, and the list after the pushes
+pub record Popped : Type 0 where
+  pub edge : ℕ
+  pub flip : Bool
+  pub list : PendingList
 
 -- the last entry is taken, its edge tested, and what its flip pushes is pushed
 pub record Pops (k : Entry) (q : List ℤ) (h row : List ℕ) (s : PendingList) (row′ : List ℕ) (r : Popped) (edges : ℕ) : Type 0 where
@@ -65,13 +74,13 @@ abbrev pub stateOf : List ℕ → List ℕ → List ℕ → List ℕ → ℕ →
 stateOf o h a row n flips = record { links = linksOf o h a; pending = pendingOf row n; flips = flips; full = false }
 
 -- what a turn leaves, in a mesh of so many edges; after a refusal the pending row is not read again
-pub record TurnLeaves (edges : ℕ) (o h a row : List ℕ) (r : Turned) (s : Legalizing) : Type 0 where
+pub record TurnLeaves (edges : ℕ) (o h a row : List ℕ) (w : PendingList) (count : ℕ) (over : Bool) (s : Legalizing) : Type 0 where
   pub links : linksOf o h a ≡ s .links
-  pub flips : r .flips ≡ s .flips
-  pub full : r .full ≡ s .full
-  pub fits : r .full ≡ false → r .list .length ≤ length row
-  pub set : r .full ≡ false → SetOf row (r .list) edges
-  pub pending : r .full ≡ false → pendingOf row (r .list .length) ≡ s .pending
+  pub flips : count ≡ s .flips
+  pub full : over ≡ s .full
+  pub fits : over ≡ false → w .length ≤ length row
+  pub set : over ≡ false → SetOf row w edges
+  pub pending : over ≡ false → pendingOf row (w .length) ≡ s .pending
 
 -- what a call leaves
 pub record Leaves (o h a : List ℕ) (r : Legalized) (s : Legalizing) : Type 0 where

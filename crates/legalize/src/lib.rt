@@ -1,5 +1,6 @@
 // `legalize_edge` and `legalize_edges_after_removal` of triangulation_ext.rs, with the pending list in a row that the
-// caller lends. Both are one loop, which differs in what an entry of the list is and in what a flip pushes. What they
+// caller lends. Both are loops that take an entry and test its edge; they differ in what an entry of the list is and in what a flip pushes,
+// and have a function for each: nearly all flips are those of half-edges, whose list needs a length and nothing else. What they
 // leave is `legalizeEdge` and `legalizeEdgesAfterRemoval` of specs/Legalize.antt; that they end, and what that means
 // for the mesh, is in specs/LegalizeLaws.antt. `counts` says which mesh the rows hold; the code needs the number of its edges alone, for a
 // long list's set of them.
@@ -8,14 +9,13 @@ ghost use Prim.Native.Nat.{ℕ, _+_, _*_, _^_, _<_};
 ghost use lib.ListN.{length};
 ghost use Rattle.mesh.specs.Mesh.{In};
 ghost use Rattle.dcel.specs.Rows.{linksOf, positionOf, There};
-ghost use Rattle.pending.specs.Set.{SetOf, ToPop, LastTaken};
+ghost use Rattle.pending.specs.Set.{SetOf};
 ghost use Rattle.sums.specs.Half.{rev};
-ghost use Rattle.legalize.specs.Legalize.{entryEdge, legalizeTurn, legalize, legalizeEdge, legalizeEdgesAfterRemoval};
-ghost use Rattle.legalize.specs.LegalizeRows.{PushReady, Pushes, PopReady, Pops, LegalizeReady, TurnReady, stateOf, TurnLeaves, Leaves};
+ghost use Rattle.legalize.specs.Legalize.{legalizeTurn, legalize, legalizeEdge, legalizeEdgesAfterRemoval};
+ghost use Rattle.legalize.specs.LegalizeRows.{plain, Pushes, LegalizeReady, TurnReady, stateOf, TurnLeaves, Leaves};
 ghost use Rattle.legalize.specs.declared.Entry.the-variants.{HalfEdge, Edge};
 use mesh::Counts;
 use pending::PendingList;
-use pending::Taken;
 
 // What an entry of the pending list is: a half-edge in `legalize_edge`, an edge in `legalize_edges_after_removal`.
 pub enum Entry {
@@ -29,38 +29,30 @@ pub struct Legalized {
     pub full: bool,
 }
 
-// An entry that was taken from the pending list: its edge, whether that is to be flipped, and the list after the pushes.
-pub struct Popped {
-    pub edge: u32,
-    pub flip: bool,
-    pub list: PendingList,
+// What a turn leaves of the pending list of half-edges and of the count.
+pub struct HalfEdgeTurn {
+    pub length: usize,
+    pub flips: u64,
+    pub full: bool,
 }
 
-// What a turn leaves of the pending list and of the count.
-pub struct Turned {
+// The same of the pending list of edges.
+pub struct EdgeTurn {
     pub list: PendingList,
     pub flips: u64,
     pub full: bool,
 }
 
-fn entry_edge(entry: Entry, x: u32) -> u32
-    ensures { λ r. ⌜ r ≡ entryEdge entry x ⌝ }
-{
-    match entry {
-        Entry::HalfEdge => x / 2,
-        Entry::Edge => x,
-    }
-}
-
 // What `legalize_edge` pushes at the flip of the half-edge e.
-fn push_half_edges(halves: &[u32], pending: &mut [u32], list: PendingList, e: u32) -> PendingList
+fn push_half_edges(halves: &[u32], pending: &mut [u32], n: usize, e: u32) -> usize
     requires { ⌜ There (now halves) (rev e) ⌝ }
-    ensures { λ r. ⌜ ((edges : ℕ) → Pushes HalfEdge (now (halves .entry)) e (now (pending .entry)) list (now (pending .exit)) r edges) ⌝ }
+    ensures { λ r. ⌜ ((edges : ℕ)
+        → Pushes HalfEdge (now (halves .entry)) e (now (pending .entry)) (plain n) (now (pending .exit)) (plain r) edges) ⌝ }
 {
     let t = dcel::rev(e);
     let rev = dcel::half_edge(halves, t);
-    let more = pending::push(pending, list, rev.next);
-    pending::push(pending, more, rev.prev)
+    let m = pending::push(pending, n, rev.next);
+    pending::push(pending, m, rev.prev)
 }
 
 // What `legalize_edges_after_removal` pushes at the flip of the edge u. The mesh has so many edges.
@@ -80,111 +72,52 @@ fn push_edges(
     pending::push_two(pending, two, edges, rev.next / 2, rev.prev / 2)
 }
 
-fn push_neighbours(
-    halves: &[u32],
-    pending: &mut [u32],
-    list: PendingList,
-    edges: u32,
-    x: u32,
-    entry: Entry,
-) -> PendingList
-    requires { ⌜ PushReady entry (now halves) x × SetOf (now pending) list edges ⌝ }
-    ensures { λ r. ⌜ Pushes entry (now (halves .entry)) x (now (pending .entry)) list (now (pending .exit)) r edges ⌝ }
-{
-    match entry {
-        Entry::HalfEdge => push_half_edges(halves, pending, list, x),
-        Entry::Edge => push_edges(halves, pending, list, edges, x),
-    }
-}
-
-// The last entry, and the list without it. Half-edges have no set.
-fn take(pending: &mut [u32], list: PendingList, edges: u32, entry: Entry) -> Taken
-    requires { ⌜ ToPop (now pending) list edges ⌝ }
-    ensures { λ r. ⌜ LastTaken (now (pending .entry)) list (now (pending .exit)) (r .entry) (r .list) edges ⌝ }
-{
-    match entry {
-        Entry::HalfEdge => pending::last(pending, list),
-        Entry::Edge => pending::pop(pending, list, edges),
-    }
-}
-
-// Takes the last entry and tests its edge. The pushes come before the flip, which changes the links that they read.
-fn pop(
-    positions: &[i32],
-    halves: &[u32],
-    pending: &mut [u32],
-    list: PendingList,
-    edges: u32,
-    entry: Entry,
-) -> Popped
-    requires { ⌜ PopReady entry (now positions) (now halves) (now pending) list edges ⌝ }
-    ensures { λ r. ⌜ Pops entry (now (positions .entry)) (now (halves .entry)) (now (pending .entry)) list (now (pending .exit)) r edges ⌝ }
-{
-    let taken = take(pending, list, edges, entry);
-    let x = taken.entry;
-    let rest = taken.list;
-    let u = entry_edge(entry, x);
-    if circle_test::should_flip(positions, halves, u) {
-        let pushed = push_neighbours(halves, pending, rest, edges, x, entry);
-        return Popped {
-            edge: u,
-            flip: true,
-            list: pushed,
-        };
-    }
-    Popped {
-        edge: u,
-        flip: false,
-        list: rest,
-    }
-}
-
-// One turn of the loop: an entry is taken, and its edge flipped where it breaks the circle rule. A flip whose pushes
-// would overfill the pending list is not made.
-fn turn(
+// One turn of `legalize_edge`'s loop: a half-edge is taken, and its edge flipped where it breaks the circle rule. The pushes come before
+// the flip, which changes the links that they read. A flip whose pushes would overfill the pending list is not made.
+fn half_edge_turn(
     positions: &[i32],
     outs: &mut [u32],
     halves: &mut [u32],
     faces: &mut [u32],
     pending: &mut [u32],
     counts: Counts,
-    list: PendingList,
+    n: usize,
     flips: u64,
-    entry: Entry,
-) -> Turned
-    requires { ⌜ TurnReady entry counts (now positions) (now outs) (now halves) (now faces) (now pending) list flips
-        × (0 < list .length) ⌝ }
-    ensures { λ r. ⌜ TurnLeaves (counts .edges) (now (outs .exit)) (now (halves .exit)) (now (faces .exit)) (now (pending .exit)) r
-        (legalizeTurn (length (now (pending .entry))) entry (positionOf (now (positions .entry)))
-        (stateOf (now (outs .entry)) (now (halves .entry)) (now (faces .entry)) (now (pending .entry)) (list .length) flips)) ⌝ }
+) -> HalfEdgeTurn
+    requires { ⌜ TurnReady HalfEdge counts (now positions) (now outs) (now halves) (now faces) (now pending) (plain n) flips
+        × (0 < n) ⌝ }
+    ensures { λ r. ⌜ TurnLeaves (counts .edges) (now (outs .exit)) (now (halves .exit)) (now (faces .exit)) (now (pending .exit))
+        (plain (r .length)) (r .flips) (r .full)
+        (legalizeTurn (length (now (pending .entry))) HalfEdge (positionOf (now (positions .entry)))
+        (stateOf (now (outs .entry)) (now (halves .entry)) (now (faces .entry)) (now (pending .entry)) n flips)) ⌝ }
 {
-    let popped = pop(positions, halves, pending, list, counts.edges, entry);
-    let left = popped.list;
-    if !popped.flip {
-        return Turned {
-            list: left,
+    let e = pending::last(pending, n);
+    if !circle_test::should_flip(positions, halves, e / 2) {
+        return HalfEdgeTurn {
+            length: n - 1,
             flips: flips,
             full: false,
         };
     }
-    if left.length > pending.len() {
-        return Turned {
-            list: left,
+    let m = push_half_edges(halves, pending, n - 1, e);
+    if m > pending.len() {
+        return HalfEdgeTurn {
+            length: m,
             flips: flips,
             full: true,
         };
     }
-    dcel_operations::flip_cw(outs, halves, faces, popped.edge);
+    dcel_operations::flip_cw(outs, halves, faces, e / 2);
     let more = flips + 1;
-    Turned {
-        list: left,
+    HalfEdgeTurn {
+        length: m,
         flips: more,
         full: false,
     }
 }
 
-// Turn after turn, until the pending list is empty or a flip is refused.
-fn legalize_pending(
+// One turn of `legalize_edges_after_removal`'s loop: the same of an edge.
+fn edge_turn(
     positions: &[i32],
     outs: &mut [u32],
     halves: &mut [u32],
@@ -193,27 +126,96 @@ fn legalize_pending(
     counts: Counts,
     list: PendingList,
     flips: u64,
-    entry: Entry,
+) -> EdgeTurn
+    requires { ⌜ TurnReady Edge counts (now positions) (now outs) (now halves) (now faces) (now pending) list flips
+        × (0 < list .length) ⌝ }
+    ensures { λ r. ⌜ TurnLeaves (counts .edges) (now (outs .exit)) (now (halves .exit)) (now (faces .exit)) (now (pending .exit))
+        (r .list) (r .flips) (r .full)
+        (legalizeTurn (length (now (pending .entry))) Edge (positionOf (now (positions .entry)))
+        (stateOf (now (outs .entry)) (now (halves .entry)) (now (faces .entry)) (now (pending .entry)) (list .length) flips)) ⌝ }
+{
+    let taken = pending::pop(pending, list, counts.edges);
+    let u = taken.entry;
+    let rest = taken.list;
+    if !circle_test::should_flip(positions, halves, u) {
+        return EdgeTurn {
+            list: rest,
+            flips: flips,
+            full: false,
+        };
+    }
+    let pushed = push_edges(halves, pending, rest, counts.edges, u);
+    if pushed.length > pending.len() {
+        return EdgeTurn {
+            list: pushed,
+            flips: flips,
+            full: true,
+        };
+    }
+    dcel_operations::flip_cw(outs, halves, faces, u);
+    let more = flips + 1;
+    EdgeTurn {
+        list: pushed,
+        flips: more,
+        full: false,
+    }
+}
+
+// Turn after turn, until the pending list of n half-edges is empty or a flip is refused.
+fn legalize_half_edges(
+    positions: &[i32],
+    outs: &mut [u32],
+    halves: &mut [u32],
+    faces: &mut [u32],
+    pending: &mut [u32],
+    counts: Counts,
+    n: usize,
+    flips: u64,
 ) -> Legalized
-    requires { ⌜ TurnReady entry counts (now positions) (now outs) (now halves) (now faces) (now pending) list flips ⌝ }
+    requires { ⌜ TurnReady HalfEdge counts (now positions) (now outs) (now halves) (now faces) (now pending) (plain n) flips ⌝ }
     ensures { λ r. ⌜ Leaves (now (outs .exit)) (now (halves .exit)) (now (faces .exit)) r
-        (legalize (length (now (pending .entry))) entry counts (positionOf (now (positions .entry)))
+        (legalize (length (now (pending .entry))) HalfEdge counts (positionOf (now (positions .entry)))
+        (stateOf (now (outs .entry)) (now (halves .entry)) (now (faces .entry)) (now (pending .entry)) n flips)) ⌝ }
+{
+    let mut left = n;
+    let mut made = flips;
+    while left > 0 {
+        let t = half_edge_turn(positions, outs, halves, faces, pending, counts, left, made);
+        if t.full {
+            return Legalized {
+                flips: t.flips,
+                full: true,
+            };
+        }
+        left = t.length;
+        made = t.flips;
+    }
+    Legalized {
+        flips: made,
+        full: false,
+    }
+}
+
+// The same of a list of edges.
+fn legalize_edges(
+    positions: &[i32],
+    outs: &mut [u32],
+    halves: &mut [u32],
+    faces: &mut [u32],
+    pending: &mut [u32],
+    counts: Counts,
+    list: PendingList,
+    flips: u64,
+) -> Legalized
+    requires { ⌜ TurnReady Edge counts (now positions) (now outs) (now halves) (now faces) (now pending) list flips ⌝ }
+    ensures { λ r. ⌜ Leaves (now (outs .exit)) (now (halves .exit)) (now (faces .exit)) r
+        (legalize (length (now (pending .entry))) Edge counts (positionOf (now (positions .entry)))
         (stateOf (now (outs .entry)) (now (halves .entry)) (now (faces .entry)) (now (pending .entry)) (list .length) flips)) ⌝ }
 {
     let mut left = list;
     let mut made = flips;
     while left.length > 0 {
-        let t = turn(
-            positions,
-            outs,
-            halves,
-            faces,
-            pending,
-            counts,
-            left,
-            made,
-            entry,
-        );
+        let t = edge_turn(positions, outs, halves, faces, pending, counts, left, made);
         if t.full {
             return Legalized {
                 flips: t.flips,
@@ -246,20 +248,8 @@ pub fn legalize_edge(
         (legalizeEdge (length (now (pending .entry))) counts (positionOf (now (positions .entry)))
         (linksOf (now (outs .entry)) (now (halves .entry)) (now (faces .entry))) flips e) ⌝ }
 {
-    // half-edges are pushed whether they are there or not: no set is wanted
-    let none = pending::empty_list(0);
-    let list = pending::push(pending, none, e);
-    legalize_pending(
-        positions,
-        outs,
-        halves,
-        faces,
-        pending,
-        counts,
-        list,
-        flips,
-        Entry::HalfEdge,
-    )
+    let n = pending::push(pending, 0, e);
+    legalize_half_edges(positions, outs, halves, faces, pending, counts, n, flips)
 }
 
 // `legalize_edges_after_removal` of two edges, pushed in this order.
@@ -281,18 +271,8 @@ pub fn legalize_edges_after_removal(
         (legalizeEdgesAfterRemoval (length (now (pending .entry))) counts (positionOf (now (positions .entry)))
         (linksOf (now (outs .entry)) (now (halves .entry)) (now (faces .entry))) flips first second) ⌝ }
 {
-    let none = pending::empty_list(counts.edges);
-    let one = pending::push(pending, none, first);
-    let list = pending::push(pending, one, second);
-    legalize_pending(
-        positions,
-        outs,
-        halves,
-        faces,
-        pending,
-        counts,
-        list,
-        flips,
-        Entry::Edge,
-    )
+    let n = pending::push(pending, 0, first);
+    let m = pending::push(pending, n, second);
+    let list = pending::list_of(m, counts.edges);
+    legalize_edges(positions, outs, halves, faces, pending, counts, list, flips)
 }

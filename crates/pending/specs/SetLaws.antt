@@ -15,7 +15,7 @@ use lib.Seq.{getD-set-same, getD-set-other}
 use borrow.Author.Tests.{eq-eqb, ne-eqb, eqb-true, eqb-false}
 use Rattle.pending.specs.declared.PendingList.{PendingList}
 use Rattle.pending.specs.Pending.{pendingOf, contains, pushIfNotContained, Holds}
-use Rattle.pending.specs.PendingLaws.{pending-last, pending-set, pending-push, holds, push-contained, push-missing, push-past, push-length}
+use Rattle.pending.specs.PendingLaws.{pending-last, pending-set, pending-push, holds, push-contained, push-missing}
 use Rattle.pending.specs.Set.{bitOf, setWords, wordAt, isMarked, Once, Marks, SetOf, Becomes, ToPop, LastTaken, Cleared, MarkedTo}
 use Rattle.pending.specs.BitLaws.{bit-two, set-same, set-other, set-fits, bit-least, clear-same, clear-other, no-bits}
 
@@ -150,6 +150,11 @@ pushed-by {row′ = row′} {f = f} h e z = record {
   set = λ t. absurd (false≢true (sym z ∙ t));
 }
 
+-- a list whose entries stand as they stood
+pub holds-kept : {row row′ : List ℕ} {n : ℕ} → n ≤ length row → n ≤ length row′ → pendingOf row′ n ≡ pendingOf row n
+    → (l : List ℕ) → Holds row n l → Holds row′ n l
+holds-kept m m′ e l H = record { fits = λ _. e ∙ H .fits m; over = λ o. absurd (omega arith) }
+
 -- a number in a set has its word in the row
 pub bit-in : {row : List ℕ} {n edges x : ℕ} → Marks row n edges → x < edges → x / 32 < length row
 bit-in {x = x} M l = let m = M .room in omega arith
@@ -244,15 +249,6 @@ module _ {row : List ℕ} {n edges : ℕ} (M : Marks row n edges) where
         at y m (no e) = unmark-other row last last-bit y e (bit-in M m) last-marked ∙ M .each y m ∙ rest-each y e
 
 -- ---- the last entry is taken
--- and there is no set then
-pub last-taken : {row : List ℕ} {s s′ : PendingList} → 0 < s .length → s .length ≤ length row → s′ .length ≡ s .length - 1 → s′ .set ≡ false
-    → (edges : ℕ) → LastTaken row s row (getD row (s .length - 1) 0) s′ edges
-last-taken {row} {s} {s′} z f e n edges = record {
-  entry = pending-last row (s .length) z;
-  rest = subst (λ (k : ℕ). Holds row k (pendingOf row (s .length - 1))) (sym e) (holds row (s .length - 1) (omega arith));
-  set = λ t. absurd (false≢true (sym n ∙ t));
-}
-
 module _ {row : List ℕ} {s : PendingList} {edges : ℕ} (P : ToPop row s edges) where
   abbrev taken : ℕ
   taken = getD row (s .length - 1) 0
@@ -262,7 +258,11 @@ module _ {row : List ℕ} {s : PendingList} {edges : ℕ} (P : ToPop row s edges
 
   -- there was none
   pub pop-plain : s .set ≡ false → LastTaken row s row taken left edges
-  pop-plain e = last-taken (P .some) (P .fits) refl e edges
+  pop-plain e = record {
+    entry = pending-last row (s .length) (P .some);
+    rest = let f = P .fits in holds row (s .length - 1) (omega arith);
+    set = λ t. absurd (false≢true (sym e ∙ t));
+  }
 
   module _ (t : s .set ≡ true) where
     pub pop-marked : (taken / 32 < length row) × (isMarked row taken ≡ true)
@@ -280,23 +280,8 @@ module _ {row : List ℕ} {s : PendingList} {edges : ℕ} (P : ToPop row s edges
         })
 
 -- ---- an entry that may be there
--- the list is too long already
-pub push-too-long : {row : List ℕ} {s s′ : PendingList} (x : ℕ) → length row < s .length → s′ .length ≡ s .length → s′ .set ≡ false
-    → (edges : ℕ) → Becomes row s row s′ edges (pushIfNotContained x)
-push-too-long {row} x o e z edges = record {
-  list = λ l H. subst (λ (n : ℕ). Holds row n (pushIfNotContained x l)) (sym e) (push-past H (push-length x l .0) o);
-  set = λ t. absurd (false≢true (sym z ∙ t));
-}
-
 module _ {row : List ℕ} {s : PendingList} (m : s .length ≤ length row) (x : ℕ) where
-  -- it is there
-  pub push-there : contains x (pendingOf row (s .length)) ≡ true → {s′ : PendingList} {edges : ℕ} → s′ .length ≡ s .length
-      → SetOf row s′ edges → Becomes row s row s′ edges (pushIfNotContained x)
-  push-there e {s′} {edges} q S =
-      becomes m (omega arith) (ap (pendingOf row) q ∙ sym (push-contained x (pendingOf row (s .length)) e)) S
-
-  -- it is not
-  pub push-new : contains x (pendingOf row (s .length)) ≡ false → {row′ : List ℕ} {s′ : PendingList} {edges : ℕ}
+  push-new : contains x (pendingOf row (s .length)) ≡ false → {row′ : List ℕ} {s′ : PendingList} {edges : ℕ}
       → Becomes row s row′ s′ edges (λ l. x ∷ l) → Becomes row s row′ s′ edges (pushIfNotContained x)
   push-new e {row′} {s′} B = record {
     list = λ l H. subst (Holds row′ (s′ .length)) (sym (push-missing x l (ap (contains x) (sym (H .fits m)) ∙ e))) (B .list l H);
@@ -310,7 +295,7 @@ module _ {row : List ℕ} (s : PendingList) {edges : ℕ} (M : Marks row (s .len
 
   -- it is there
   pub set-there : (x : ℕ) → x < edges → isMarked row x ≡ true → Becomes row s row s edges (pushIfNotContained x)
-  set-there x l u = push-there set-room x (sym (M .each x l) ∙ u) refl (λ _. M)
+  set-there x l u = becomes set-room set-room (sym (push-contained x (pendingOf row (s .length)) (sym (M .each x l) ∙ u))) (λ _. M)
 
   -- it is not, and the set is given up
   pub set-given-up : (x : ℕ) → x < edges → isMarked row x ≡ false → {row′ : List ℕ} {s′ : PendingList}
@@ -426,13 +411,8 @@ module _ {row row′ : List ℕ} {i n edges : ℕ} (K : MarkedTo row row′ i n 
       same-number : {a b : ℕ} → a ≤ b → b ≤ a → a ≡ b
       same-number l m = omega arith
 
--- the entries are as they were: with a set of them, or without one
+-- the entries are as they were, with a set of them
 pub set-made : {row row′ : List ℕ} {s : PendingList} {edges looks : ℕ} → s .length ≤ length row
     → pendingOf row′ (s .length) ≡ pendingOf row (s .length) → Marks row′ (s .length) edges
     → Becomes row s row′ (record { length = s .length; looks = looks; set = true }) edges (λ l. l)
 set-made m e M = let r = M .room in becomes m (omega arith) e (λ _. M)
-
-pub set-not-made : {row row′ : List ℕ} {s : PendingList} {edges looks : ℕ} → s .length ≤ length row → s .length ≤ length row′
-    → pendingOf row′ (s .length) ≡ pendingOf row (s .length)
-    → Becomes row s row′ (record { length = s .length; looks = looks; set = false }) edges (λ l. l)
-set-not-made m m′ e = becomes m m′ e (λ t. absurd (false≢true t))

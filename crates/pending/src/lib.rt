@@ -8,13 +8,13 @@ ghost use mathlib.Core.List.{List, _∷_};
 ghost use Prim.Native.Nat.{ℕ, _+_, _-_, _/_, _%_, _^_, _<_, _≤_};
 ghost use lib.Dec.{ltb};
 ghost use lib.ListN.{length, getD, set};
-ghost use Rattle.pending.specs.Pending.{pendingOf, contains, oneOf, pushIfNotContained};
+ghost use Rattle.pending.specs.Pending.{pendingOf, contains, oneOf, pushIfNotContained, Holds};
 ghost use Rattle.pending.specs.Set.{wordAt, isMarked, Marks, SetOf, Becomes, ToPop, LastTaken, Cleared, MarkedTo};
 
 // The list's value: its length; how many entries may be looked through before a set of them is made; and whether there is one.
 pub struct PendingList {
     pub length: usize,
-    pub looks: u32,
+    pub looks: usize,
     pub set: bool,
 }
 
@@ -32,6 +32,14 @@ pub fn is_short(length: usize) -> bool
     ensures { λ r. ⌜ r ≡ ltb length 8 ⌝ }
 {
     length < 8
+}
+
+// The last of n entries.
+pub fn last(pending: &[u32], n: usize) -> u32
+    requires { ⌜ (0 < n) × (n ≤ length (now pending)) ⌝ }
+    ensures { λ r. ⌜ pendingOf (now (pending .entry)) n ≡ r ∷ pendingOf (now (pending .entry)) (n - 1) ⌝ }
+{
+    pending[n - 1]
 }
 
 // Whether x is one of four.
@@ -84,41 +92,30 @@ pub fn contains(pending: &[u32], n: usize, x: u32) -> bool
     contains_few(pending, i, x)
 }
 
-// A list without entries, of the numbers below `edges`. A set is worth its making when an eighth of its words have been looked at.
-pub fn empty_list(edges: u32) -> PendingList
-    ensures { λ r. ⌜ (r .length ≡ 0) × (r .set ≡ false) ⌝ }
+// The new length, which is past the row's end where the list with x no longer fits it.
+pub fn push(pending: &mut [u32], n: usize, x: u32) -> usize
+    ensures { λ r. ⌜ ((l : List ℕ) → Holds (now (pending .entry)) n l → Holds (now (pending .exit)) r (x ∷ l)) ⌝ }
 {
-    PendingList {
-        length: 0,
-        looks: edges / 256,
-        set: false,
-    }
-}
-
-// The value of a list of so many entries that has no set.
-fn without_set(list: PendingList, length: usize) -> PendingList
-    ensures { λ r. ⌜ (r .length ≡ length) × (r .set ≡ false) ⌝ }
-{
-    PendingList {
-        length: length,
-        looks: list.looks,
-        set: false,
-    }
-}
-
-// The list with x, whose length is past the row's end where it no longer fits the row. There is no set then.
-pub fn push(pending: &mut [u32], list: PendingList, x: u32) -> PendingList
-    ensures { λ r. ⌜ ((edges : ℕ) → Becomes (now (pending .entry)) list (now (pending .exit)) r edges (λ l. x ∷ l)) ⌝ }
-{
-    let n = list.length;
     if n > pending.len() {
-        return without_set(list, n);
+        return n;
     }
     if n == pending.len() {
-        return without_set(list, n + 1);
+        return n + 1;
     }
     pending[n] = x;
-    without_set(list, n + 1)
+    n + 1
+}
+
+// The value of a list of n entries, numbers below `edges`, without a set. One is worth its making when an eighth of its words have been
+// looked at.
+pub fn list_of(n: usize, edges: u32) -> PendingList
+    ensures { λ r. ⌜ (r .length ≡ n) × (r .set ≡ false) ⌝ }
+{
+    PendingList {
+        length: n,
+        looks: (edges / 256) as usize,
+        set: false,
+    }
 }
 
 // Whether the set has x.
@@ -150,19 +147,6 @@ fn unmark(pending: &mut [u32], x: u32)
     pending[at] = pending[at] - (1 << (x % 32));
 }
 
-// The last entry is taken from the list, which has no set then.
-pub fn last(pending: &[u32], list: PendingList) -> Taken
-    requires { ⌜ (0 < list .length) × (list .length ≤ length (now pending)) ⌝ }
-    ensures { λ r. ⌜ ((edges : ℕ) → LastTaken (now (pending .entry)) list (now (pending .entry)) (r .entry) (r .list) edges) ⌝ }
-{
-    let n = list.length - 1;
-    let rest = without_set(list, n);
-    Taken {
-        entry: pending[n],
-        list: rest,
-    }
-}
-
 // The last entry is taken from the list, and from the set. The numbers are below `edges`.
 pub fn pop(pending: &mut [u32], list: PendingList, edges: u32) -> Taken
     requires { ⌜ ToPop (now pending) list edges ⌝ }
@@ -170,13 +154,14 @@ pub fn pop(pending: &mut [u32], list: PendingList, edges: u32) -> Taken
 {
     let n = list.length - 1;
     let x = pending[n];
-    if list.set {
+    let set = list.set;
+    if set {
         unmark(pending, x);
     }
     let rest = PendingList {
         length: n,
         looks: list.looks,
-        set: list.set,
+        set: set,
     };
     Taken {
         entry: x,
@@ -222,11 +207,7 @@ fn make_set(pending: &mut [u32], list: PendingList, edges: u32) -> PendingList
     ensures { λ r. ⌜ Becomes (now (pending .entry)) list (now (pending .exit)) r edges (λ l. l) ⌝ }
 {
     let n = list.length;
-    let none = PendingList {
-        length: n,
-        looks: edges / 256,
-        set: false,
-    };
+    let none = list_of(n, edges);
     let words = (edges / 32) as usize + 1;
     if words > pending.len() {
         return none;
@@ -258,31 +239,42 @@ fn prepare(pending: &mut [u32], list: PendingList, edges: u32) -> PendingList
     if list.set {
         return list;
     }
-    if n < list.looks as usize {
+    if n < list.looks {
         return PendingList {
             length: n,
-            looks: list.looks - n as u32,
+            looks: list.looks - n,
             set: false,
         };
     }
     make_set(pending, list, edges)
 }
 
-// `push` of an x that is not pushed where it is there already, by a look through the entries.
+// `push` of an x that is not pushed where it is there already.
+fn push_missing(pending: &mut [u32], n: usize, x: u32) -> usize
+    ensures { λ r. ⌜ ((l : List ℕ) → Holds (now (pending .entry)) n l → Holds (now (pending .exit)) r (pushIfNotContained x l)) ⌝ }
+{
+    if n > pending.len() {
+        return n;
+    }
+    if contains(pending, n, x) {
+        return n;
+    }
+    push(pending, n, x)
+}
+
+// The same on a list, which has no set then.
 fn push_looking(pending: &mut [u32], list: PendingList, x: u32) -> PendingList
     ensures { λ r. ⌜ ((edges : ℕ) → Becomes (now (pending .entry)) list (now (pending .exit)) r edges (pushIfNotContained x)) ⌝ }
 {
-    let n = list.length;
-    if n > pending.len() {
-        return without_set(list, n);
+    let m = push_missing(pending, list.length, x);
+    PendingList {
+        length: m,
+        looks: list.looks,
+        set: false,
     }
-    if contains(pending, n, x) {
-        return without_set(list, n);
-    }
-    push(pending, list, x)
 }
 
-// The same by the set. Where the list needs its room, the set is given up.
+// The same by its set. Where the list needs the set's room, the set is given up.
 fn push_marking(pending: &mut [u32], list: PendingList, edges: u32, x: u32) -> PendingList
     requires { ⌜ Marks (now pending) (list .length) edges ⌝ }
     ensures { λ r. ⌜ Becomes (now (pending .entry)) list (now (pending .exit)) r edges (pushIfNotContained x) ⌝ }
@@ -295,7 +287,8 @@ fn push_marking(pending: &mut [u32], list: PendingList, edges: u32, x: u32) -> P
     }
     let n = list.length;
     if pending.len() - n <= (edges / 32) as usize + 1 {
-        return push(pending, list, x);
+        let m = push(pending, n, x);
+        return list_of(m, edges);
     }
     mark(pending, x);
     pending[n] = x;

@@ -21,8 +21,7 @@ same-length c = search needs
 
 returns : tie.Need-returns
 returns c =
-    λ edges. half-edges-pushed _ _ _ _ (c .before .before .before .before .before .before .before .before .before .rev .ensures) (c .before .before .before .before .before .before .before .before .half-edge .ensures)
-    (c .before .before .before .before .before .before .push .ensures edges) (c .before .before .push2 .ensures edges)
+    half-edges-pushed _ _ _ _ (c .before .before .before .before .before .before .before .before .before .rev .ensures) (c .before .before .before .before .before .before .before .before .half-edge .ensures) (c .before .before .before .before .before .before .push .ensures) (c .before .before .push2 .ensures)
 
 pub push-half-edges-spec : {M : Type 1} → statement M
 push-half-edges-spec =

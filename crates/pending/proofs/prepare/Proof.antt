@@ -10,14 +10,8 @@ returns c = search needs
 returns-2 : tie.Need-returns-2
 returns-2 c = search needs
 
-cast-if3 : tie.Need-cast-if3
-cast-if3 c = search needs
-
-cast-t7 : tie.Need-cast-t7
-cast-t7 c = search needs
-
-sub-t8 : tie.Need-sub-t8
-sub-t8 c = search needs
+sub-t6 : tie.Need-sub-t6
+sub-t6 c = search needs
 
 returns-3 : tie.Need-returns-3
 returns-3 c = record { list = λ l H. H; set = λ t. absurd (false≢true t) }
@@ -33,14 +27,4 @@ returns-4 c = search needs
 
 pub prepare-spec : {M : Type 1} → statement M
 prepare-spec =
-    tie.close
-    (tie.spec
-    returns
-    returns-2
-    cast-if3
-    cast-t7
-    sub-t8
-    returns-3
-    make-set-requires
-    same-length
-    returns-4)
+    tie.close (tie.spec returns returns-2 sub-t6 returns-3 make-set-requires same-length returns-4)

@@ -1,5 +1,5 @@
 -- `pending::push_marking` meets its contract. Assumes nothing.
-use Rattle.pending.specs.SetLaws.{bit-in, set-room, set-there, set-given-up, push-bit}
+use Rattle.pending.specs.SetLaws.{bit-in, pushed-by, set-room, set-there, set-given-up, push-bit}
 use mathlib.Core.Path.{sym, _∙_}
 use borrow.Author.Needs.{needs}
 use Rattle.pending.proofs.push_marking.Statement.{statement}
@@ -35,11 +35,15 @@ add-if3 c = search needs
 push-requires : tie.Need-push-requires
 push-requires c κs = search needs
 
+list-of-requires : tie.Need-list-of-requires
+list-of-requires c κs = search needs
+
 same-length-3 : tie.Need-same-length-3
 same-length-3 c = search needs
 
 returns-3 : tie.Need-returns-3
-returns-3 c = let s = c .before .before .before .before .before .before .before .before .before .before in set-given-up (s .args .list) (s .pre) _ (c .before .before .before .before .before .before .before .before .if1 .left) (sym (c .before .before .before .before .before .before .is-marked .ensures) ∙ c .before .before .before .before .before .if2 .left) (c .before .before .push .ensures _)
+returns-3 c = let s = c .before .before .before .before .before .before .before .before .before .before .before in set-given-up (s .args .list) (s .pre) _ (c .before .before .before .before .before .before .before .before .before .if1 .left) (sym (c .before .before .before .before .before .before .before .is-marked .ensures) ∙ c .before .before .before .before .before .before .if2 .left)
+    (pushed-by (c .before .before .before .push .ensures) (c .list-of .ensures .0) (c .list-of .ensures .1))
 
 mark-requires : tie.Need-mark-requires
 mark-requires c κs = let s = c .before .before .before .before .before .before .before in (bit-in (s .pre) (c .before .before .before .before .before .if1 .left), (sym (c .before .before .before .is-marked .ensures) ∙ c .before .before .if2 .left))
@@ -50,8 +54,8 @@ mul-pending c = search needs
 slice-write-pending : tie.Need-slice-write-pending
 slice-write-pending c = search needs
 
-add-t13 : tie.Need-add-t13
-add-t13 c = search needs
+add-t14 : tie.Need-add-t14
+add-t14 c = search needs
 
 same-length-4 : tie.Need-same-length-4
 same-length-4 c = search needs
@@ -73,11 +77,12 @@ push-marking-spec =
     cast-if3
     add-if3
     push-requires
+    list-of-requires
     same-length-3
     returns-3
     mark-requires
     mul-pending
     slice-write-pending
-    add-t13
+    add-t14
     same-length-4
     returns-4)

@@ -1,58 +1,59 @@
--- `legalize::legalize_pending` meets its contract. The loop's invariant: to go on from here is to go on from the start. The measure is 4 · height sum and the
+-- `legalize::legalize_edges` meets its contract. The loop's invariant: to go on from here is to go on from the start. The measure is 4 · height sum and the
 -- entries left. Assumes nothing.
 use mathlib.Core.Path.{_∙_}
 use Rattle.dcel.specs.Rows.{positionOf}
+use Rattle.legalize.specs.declared.Entry.the-variants.{Edge}
 use Rattle.legalize.specs.Legalize.{measure}
 use Rattle.legalize.specs.LegalizeRows.{stateOf}
 use Rattle.legalize.proofs.Looping as at
 use Rattle.legalize.proofs.Looping.{LoopAt}
-use Rattle.legalize.proofs.legalize_pending.Statement.{statement}
-use Rattle.legalize.proofs.legalize_pending.Tie as tie
+use Rattle.legalize.proofs.legalize_edges.Statement.{statement}
+use Rattle.legalize.proofs.legalize_edges.Tie as tie
 
 abbrev Inv-loop : tie.InvT-loop
-Inv-loop positions outs₀ halves₀ faces₀ pending₀ counts flips entry left₀ made₀ outs halves faces pending left made =
-    LoopAt entry counts positions outs₀ halves₀ faces₀ pending₀ left₀ made₀ outs halves faces pending left made
+Inv-loop positions outs₀ halves₀ faces₀ pending₀ counts flips left₀ made₀ outs halves faces pending left made =
+    LoopAt Edge counts positions outs₀ halves₀ faces₀ pending₀ left₀ made₀ outs halves faces pending left made
 
 abbrev μ-loop : tie.MeasureT-loop
-μ-loop positions outs₀ halves₀ faces₀ pending₀ counts flips entry left₀ made₀ outs halves faces pending left made =
+μ-loop positions outs₀ halves₀ faces₀ pending₀ counts flips left₀ made₀ outs halves faces pending left made =
     measure counts (positionOf positions) (stateOf outs halves faces pending (left .length) made)
 
 loop-holds : tie.Need-loop-holds Inv-loop μ-loop
 loop-holds c = at.loop-starts (c .before .before .before .before .pre)
 
-turn-requires : tie.Need-turn-requires Inv-loop μ-loop
-turn-requires c κs =
+edge-turn-requires : tie.Need-edge-turn-requires Inv-loop μ-loop
+edge-turn-requires c κs =
     (c .before .before .before .before .before .before .loop .inv .ready, c .before .before .before .before .if1 .taken)
 
 same-length : tie.Need-same-length Inv-loop μ-loop
 same-length c =
-    c .before .before .before .before .before .before .before .before .before .turn .kept .1 .0 ∙ c .before .before .before .before .before .before .before .before .before .before .before .before .before .before .before .before .loop .inv .lengths .outs
+    c .before .before .before .before .before .before .before .before .before .edge-turn .kept .1 .0 ∙ c .before .before .before .before .before .before .before .before .before .before .before .before .before .before .before .before .loop .inv .lengths .outs
 
 same-length-2 : tie.Need-same-length-2 Inv-loop μ-loop
 same-length-2 c =
-    c .before .before .before .before .before .before .before .before .before .turn .kept .1 .1 .0 ∙ c .before .before .before .before .before .before .before .before .before .before .before .before .before .before .before .before .loop .inv .lengths .halves
+    c .before .before .before .before .before .before .before .before .before .edge-turn .kept .1 .1 .0 ∙ c .before .before .before .before .before .before .before .before .before .before .before .before .before .before .before .before .loop .inv .lengths .halves
 
 same-length-3 : tie.Need-same-length-3 Inv-loop μ-loop
 same-length-3 c =
-    c .before .before .before .before .before .before .before .before .before .turn .kept .1 .1 .1 .0 ∙ c .before .before .before .before .before .before .before .before .before .before .before .before .before .before .before .before .loop .inv .lengths .faces
+    c .before .before .before .before .before .before .before .before .before .edge-turn .kept .1 .1 .1 .0 ∙ c .before .before .before .before .before .before .before .before .before .before .before .before .before .before .before .before .loop .inv .lengths .faces
 
 same-length-4 : tie.Need-same-length-4 Inv-loop μ-loop
 same-length-4 c =
-    c .before .before .before .before .before .before .before .before .before .turn .kept .1 .1 .1 .1 .0 ∙ c .before .before .before .before .before .before .before .before .before .before .before .before .before .before .before .before .loop .inv .lengths .pending
+    c .before .before .before .before .before .before .before .before .before .edge-turn .kept .1 .1 .1 .1 .0 ∙ c .before .before .before .before .before .before .before .before .before .before .before .before .before .before .before .before .loop .inv .lengths .pending
 
 returns : tie.Need-returns Inv-loop μ-loop
 returns c =
-    let t = c .before .before .before .before .before .before .before .before .before .turn in let i = c .before .before .before .before .before .before .before .before .before .before .before .before .before .before .before .before .loop .inv in
+    let t = c .before .before .before .before .before .before .before .before .before .edge-turn in let i = c .before .before .before .before .before .before .before .before .before .before .before .before .before .before .before .before .loop .inv in
     at.loop-refused i (c .before .before .before .before .before .before .before .before .before .before .before .before .before .before .if1 .taken) (t .ensures) (record { outs = t .kept .1 .0; halves = t .kept .1 .1 .0; faces = t .kept .1 .1 .1 .0; pending = t .kept .1 .1 .1 .1 .0 }) (c .if2 .taken)
 
 loop-less : tie.Need-loop-less Inv-loop μ-loop
 loop-less c =
-    let t = c .before .before .before .before .before .before .before .before .before .before .turn in let i = c .before .before .before .before .before .before .before .before .before .before .before .before .before .before .before .before .before .loop .inv in
+    let t = c .before .before .before .before .before .before .before .before .before .before .edge-turn in let i = c .before .before .before .before .before .before .before .before .before .before .before .before .before .before .before .before .before .loop .inv in
     at.loop-less i (c .before .before .before .before .before .before .before .before .before .before .before .before .before .before .before .if1 .taken) (t .ensures) (record { outs = t .kept .1 .0; halves = t .kept .1 .1 .0; faces = t .kept .1 .1 .1 .0; pending = t .kept .1 .1 .1 .1 .0 }) (c .before .if2 .left)
 
 loop-again : tie.Need-loop-again Inv-loop μ-loop
 loop-again c =
-    let t = c .before .before .before .before .before .before .before .before .before .before .turn in let i = c .before .before .before .before .before .before .before .before .before .before .before .before .before .before .before .before .before .loop .inv in
+    let t = c .before .before .before .before .before .before .before .before .before .before .edge-turn in let i = c .before .before .before .before .before .before .before .before .before .before .before .before .before .before .before .before .before .loop .inv in
     at.loop-on i (c .before .before .before .before .before .before .before .before .before .before .before .before .before .before .before .if1 .taken) (t .ensures) (record { outs = t .kept .1 .0; halves = t .kept .1 .1 .0; faces = t .kept .1 .1 .1 .0; pending = t .kept .1 .1 .1 .1 .0 }) (c .before .if2 .left)
 
 same-length-5 : tie.Need-same-length-5 Inv-loop μ-loop
@@ -70,14 +71,14 @@ same-length-8 c = c .before .before .loop .inv .lengths .pending
 returns-2 : tie.Need-returns-2 Inv-loop μ-loop
 returns-2 c = at.loop-ends (c .before .before .loop .inv) (c .if1 .left)
 
-pub legalize-pending-spec : {M : Type 1} → statement M
-legalize-pending-spec =
+pub legalize-edges-spec : {M : Type 1} → statement M
+legalize-edges-spec =
     tie.close
     (tie.spec
     Inv-loop
     μ-loop
     loop-holds
-    turn-requires
+    edge-turn-requires
     same-length
     same-length-2
     same-length-3
