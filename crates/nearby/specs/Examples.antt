@@ -1,5 +1,5 @@
--- Point location from anywhere, by computation: a square of side 4 with its centre, a mesh to walk on; and a fan that
--- winds twice, which the test refuses, and on which the answer does depend on the start. Assumes nothing.
+-- The test by computation: it passes on a square of side 4 with its centre; and it fails on a fan that winds twice, on which the answer of
+-- a search does depend on its start. Assumes nothing.
 use mathlib.Core.Bool.{false, true}
 use mathlib.Core.Path.{_≡_, refl}
 use mathlib.Core.List.{[], _∷_}
@@ -11,8 +11,8 @@ use Rattle.sums.specs.Half.{rev}
 use Rattle.sums.specs.Iterate.{reaches, period-below}
 use Rattle.sums.specs.Until.{until, when}
 use Rattle.math.specs.declared.Point.{Point}
-use Rattle.math.specs.Determinant.{orient2d, bySign, length2, isPosition, isCoordinate}
-use Rattle.math.specs.Vector.{difference, dotOf}
+use Rattle.math.specs.Determinant.{orient2d, bySign, isPosition, isCoordinate}
+use Rattle.math.specs.Vector.{difference, crossOf, dotOf}
 use Rattle.mesh.specs.declared.Counts.{Counts}
 use Rattle.mesh.specs.Mesh.{Links}
 use Rattle.mesh.specs.Wf.{Wf}
@@ -21,11 +21,10 @@ use Rattle.mesh.specs.RulesWf.{rules-wf}
 use Rattle.mesh.specs.Area.{boundaryLength}
 use Rattle.outline.specs.Outline.{upper, countBoundary, direction, fallsNext}
 use Rattle.walkable.specs.Walkable.{Walkable}
-use Rattle.location.specs.declared.PositionInTriangulation.the-variants.{OnFace, OnEdge}
+use Rattle.location.specs.declared.PositionInTriangulation.the-variants.{OnFace}
 use Rattle.location.specs.declared.SearchState.the-variants.{Found}
-use Rattle.location.specs.Search.{firstCloser, isNearest, nearer, nearest, beyond, acrossEdge, rotateCcw, rotateCw, onLine, bySide, searchTurn, ended, advance, searchFrom}
-use Rattle.location.specs.Scan.{holdsAt, placeAt, firstHolding, firstLeft, scan, answer, locatePoint}
-use Rattle.nearby.specs.Nearby.{searchWithin, faceOr, insideOr, locateFrom, locateBy, turnsRight, isWalkable}
+use Rattle.location.specs.Search.{beyond, acrossEdge, rotateCcw, rotateCw, onLine, bySide, searchTurn, ended, advance, searchFrom}
+use Rattle.nearby.specs.Test.{isRightTurn, isWalkable}
 use Rattle.nearby.specs.TestLaws.{tested-walkable}
 
 abbrev at : ℤ → ℤ → Point
@@ -54,29 +53,11 @@ unfolding wheel rules halfEdgeInUse linksInUse halfEdgeLinked innerFaceRule oute
 wheel-wf = rules-wf wheelCounts wheel tt
 
 wheel-passes : isWalkable wheelCounts wheel corners ≡ true
-unfolding wheel corners orient2d dotOf difference rev all-below boundaryLength period-below first-below countBoundary count fallsNext direction upper turnsRight isWalkable
+unfolding wheel corners crossOf dotOf difference rev all-below boundaryLength period-below first-below countBoundary count fallsNext direction upper isRightTurn isWalkable
 wheel-passes = refl
 
 wheel-walkable : Walkable wheelCounts wheel corners
 wheel-walkable = tested-walkable wheel-wf corners (rw wheel-passes tt)
-
--- (2, 1) from the opposite triangle's boundary edge, the search alone; and with no turn at all, by point location
-from-there : locateFrom 5 4 wheelCounts wheel corners (at (pos 2) (pos 1)) ≡ OnFace 1
-unfolding wheel corners orient2d bySign rev isCoordinate until when isPosition beyond acrossEdge rotateCcw rotateCw onLine bySide searchTurn ended advance searchWithin faceOr insideOr locateFrom
-from-there = refl
-
-no-turn : locateFrom 0 4 wheelCounts wheel corners (at (pos 2) (pos 1)) ≡ OnFace 1
-unfolding wheel corners orient2d bySign length2 rev isCoordinate boundaryLength period-below first-below until when isPosition firstCloser isNearest nearer nearest beyond acrossEdge rotateCcw rotateCw onLine bySide searchTurn ended advance searchFrom holdsAt placeAt firstHolding firstLeft scan answer locatePoint searchWithin faceOr insideOr locateFrom
-no-turn = refl
-
--- on a spoke the search from elsewhere names the other half; point location answers there
-other-half : searchWithin 9 wheel corners (at (pos 1) (pos 1)) 2 ≡ Found (OnEdge 9)
-unfolding wheel corners orient2d bySign rev isCoordinate until when isPosition beyond acrossEdge rotateCcw rotateCw onLine bySide searchTurn ended advance searchWithin
-other-half = refl
-
-on-spoke : locateFrom 9 2 wheelCounts wheel corners (at (pos 1) (pos 1)) ≡ OnEdge 8
-unfolding wheel corners orient2d bySign length2 rev isCoordinate boundaryLength period-below first-below until when isPosition firstCloser isNearest nearer nearest beyond acrossEdge rotateCcw rotateCw onLine bySide searchTurn ended advance searchFrom holdsAt placeAt firstHolding firstLeft scan answer locatePoint searchWithin faceOr insideOr locateFrom
-on-spoke = refl
 
 -- ---- a fan of five triangles about vertex 5, which winds twice about it
 abbrev fanCounts : Counts
@@ -96,20 +77,14 @@ unfoldable star : ℕ → Point
 star i = getD (at (pos 20) (pos 10) ∷ at (negsuc 19) (pos 0) ∷ at (pos 20) (negsuc 9) ∷ at (negsuc 19) (pos 20) ∷ at (negsuc 19) (negsuc 19) ∷ at (pos 0) (pos 0) ∷ []) i (at (pos 0) (pos 0))
 
 fan-fails : isWalkable fanCounts fan star ≡ false
-unfolding fan star orient2d dotOf difference rev all-below boundaryLength period-below first-below countBoundary count fallsNext direction upper turnsRight isWalkable
+unfolding fan star crossOf dotOf difference rev all-below boundaryLength period-below first-below countBoundary count fallsNext direction upper isRightTurn isWalkable
 fan-fails = refl
 
 -- (-10, -1) is strictly inside triangles 2 and 4: each is the answer from its own edge
-fan-two : locateFrom 20 2 fanCounts fan star (at (negsuc 9) (negsuc 0)) ≡ OnFace 2
-unfolding fan star orient2d bySign rev isCoordinate until when isPosition beyond acrossEdge rotateCcw rotateCw onLine bySide searchTurn ended advance searchWithin faceOr insideOr locateFrom
+fan-two : searchFrom fanCounts fan star (at (negsuc 9) (negsuc 0)) 2 ≡ Found (OnFace 2)
+unfolding fan star orient2d bySign rev isCoordinate until when isPosition beyond acrossEdge rotateCcw rotateCw onLine bySide searchTurn ended advance searchFrom
 fan-two = refl
 
-fan-four : locateFrom 20 6 fanCounts fan star (at (negsuc 9) (negsuc 0)) ≡ OnFace 4
-unfolding fan star orient2d bySign rev isCoordinate until when isPosition beyond acrossEdge rotateCcw rotateCw onLine bySide searchTurn ended advance searchWithin faceOr insideOr locateFrom
+fan-four : searchFrom fanCounts fan star (at (negsuc 9) (negsuc 0)) 6 ≡ Found (OnFace 4)
+unfolding fan star orient2d bySign rev isCoordinate until when isPosition beyond acrossEdge rotateCcw rotateCw onLine bySide searchTurn ended advance searchFrom
 fan-four = refl
-
--- and where the test fails, point location itself
-fan-by : locateBy (isWalkable fanCounts fan star) 20 6 fanCounts fan star (at (negsuc 9) (negsuc 0))
-    ≡ locatePoint fanCounts fan star (at (negsuc 9) (negsuc 0))
-unfolding locateBy
-fan-by = rw fan-fails refl

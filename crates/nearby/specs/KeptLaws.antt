@@ -37,7 +37,7 @@ use Rattle.outline.specs.Outline.{upper, countBoundary, direction, fallsNext, f
 use Rattle.outline.specs.HalfPlane.{SameWay, RightTurn, same-way-sym, same-way-trans}
 use Rattle.outline.specs.MeshHull.{count-from}
 use Rattle.walkable.specs.Walkable.{Walkable}
-use Rattle.nearby.specs.Nearby.{RightTurns}
+use Rattle.nearby.specs.Test.{RightTurns}
 use Rattle.nearby.specs.Leaves.{leavesNext, leavesAlong}
 use Rattle.nearby.specs.TestLaws.{walkable-turns, turns-walkable}
 use Rattle.nearby.specs.WayLaws.{turn-into, turn-from, same-upper, first-part, second-part}

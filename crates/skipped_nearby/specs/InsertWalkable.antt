@@ -18,7 +18,7 @@ use Rattle.math.specs.Determinant.{InRange}
 use Rattle.mesh.specs.declared.Counts.{Counts}
 use Rattle.mesh.specs.Mesh.{Links}
 use Rattle.mesh.specs.Good.{Good}
-use Rattle.nearby.specs.Nearby.{isWalkable}
+use Rattle.nearby.specs.Test.{isWalkable}
 use Rattle.nearby.specs.TestLaws.{tested-walkable}
 use Rattle.nearby.specs.KeptLaws.{flips-walkable, insert-into-triangle-walkable, on-edge-walkable}
 use Rattle.skipped.specs.Fill.{Filling, insertOn, filledBy, passedBy, fillPoint, fillAfter}

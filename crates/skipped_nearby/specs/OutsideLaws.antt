@@ -28,7 +28,7 @@ use Rattle.outline.specs.Outline.{direction}
 use Rattle.outline.specs.HalfPlane.{RightTurn, left, right-turn-not-0}
 use Rattle.outline.specs.VectorLaws.{three-signs}
 use Rattle.outline.specs.Edges.{edge-not-0}
-use Rattle.nearby.specs.Nearby.{RightTurns}
+use Rattle.nearby.specs.Test.{RightTurns}
 use Rattle.nearby.specs.TestLaws.{corner-cross, walkable-turns, turns-walkable}
 use Rattle.nearby.specs.KeptLaws.{placed-walkable, leaves-same}
 use Rattle.nearby.specs.Leaves.{leavesAlong, leaves-circles, new-face-leaves}
