@@ -15,9 +15,9 @@ use Rattle.mesh.specs.Area.{boundaryLength, hullEdge}
 use Rattle.outline.specs.Outline.{direction, fullCircles}
 use Rattle.outline.specs.HalfPlane.{RightTurn}
 
--- direction v follows direction u with a right turn, or straight on
+-- direction v follows direction u with a right turn, so that u is on its left, or straight on
 unfoldable pub isRightTurn : Vector → Vector → Bool
-isRightTurn u v = ltZ (crossOf u v) (pos 0) || (leZ (crossOf u v) (pos 0) && ltZ (pos 0) (dotOf u v))
+isRightTurn u v = ltZ (pos 0) (crossOf v u) || (leZ (pos 0) (crossOf v u) && ltZ (pos 0) (dotOf u v))
 
 -- the corner from e to the next
 abbrev pub turnsRight : Links → (ℕ → Point) → ℕ → Bool
