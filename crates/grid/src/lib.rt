@@ -106,6 +106,18 @@ fn write(grid: &mut [u32], at: usize, v: u32) {
     grid[at] = v;
 }
 
+// No grid: one cell, and nothing is said of what it holds.
+pub fn none() -> Grid {
+    Grid {
+        levels: 0,
+        shift_x: 0,
+        shift_y: 0,
+        x: 0,
+        y: 0,
+        placed: 0,
+    }
+}
+
 // One cell over the range, and in it vertex 0.
 pub fn over(grid: &mut [u32], range: Range) -> Grid {
     write(grid, 0, 0);

@@ -318,7 +318,16 @@ pub fn insert_near(
         ≡ insertPoint (length (now (pending .entry))) counts
         (linksOf (now (outs .entry)) (now (halves .entry)) (now (faces .entry))) (positionOf (now (positions .entry))) point ⌝ }
 {
-    let position = search_near::locate_near(positions, outs, halves, faces, counts, point, known, v);
+    let position = search_near::locate_near(
+        positions,
+        outs,
+        halves,
+        faces,
+        counts,
+        point,
+        known,
+        v,
+    );
     let added = insert_at(
         positions,
         outs,
