@@ -21,6 +21,7 @@ use Rattle.mesh.specs.Mesh.{Links}
 use Rattle.skipped.specs.Fill.{Filling, fillPoint, fillAfter, insertOn, insertedAt, insertWord}
 use Rattle.sums.specs.Bounded.{count}
 use Rattle.sweep.specs.Run.{Sweeping, answerWords, completeAfter, completedAnswers}
+use Rattle.walkable.specs.Walkable.{Walkable}
 use Rattle.complete.specs.declared.FillEnd.{FillEnd}
 use Rattle.complete.specs.declared.Completed.{Completed}
 
@@ -45,6 +46,11 @@ pub record PointRows (C : Counts) (q : List ℤ) (o h a row w : List ℕ) (point
   pub answers-room : answerWords * i + answerWords ≤ length w
   pub small : i + 1 < 4294967296
 
+-- and where that is known the mesh is one to walk on
+pub record PointNear (C : Counts) (q : List ℤ) (o h a row w : List ℕ) (points : List ℤ) (i : ℕ) (known : Bool) : Type 0 where
+  pub rows : PointRows C q o h a row w points i
+  pub walkable : T known → Walkable C (linksOf o h a) (positionOf q)
+
 -- its answer is stored, where it was skipped and no flip was refused
 unfoldable pub withInserted : (ℕ → ℕ) → ℕ → Bool → (ℕ → ℕ) → ℕ → ℕ
 withInserted row i full word = cond (skippedIn row i && not full) (withWords row i word) row
@@ -68,6 +74,17 @@ pub record FillReady (C : Counts) (q : List ℤ) (o h a row w : List ℕ) (point
   pub pairs : 2 * n ≤ length points
   pub answers-room : answerWords * n ≤ length w
   pub small : n < 4294967296
+
+-- and where that is known the mesh is one to walk on
+pub record FillNear (C : Counts) (q : List ℤ) (o h a row w : List ℕ) (points : List ℤ) (n : ℕ) (known : Bool) : Type 0 where
+  pub fill : FillReady C q o h a row w points n
+  pub walkable : T known → Walkable C (linksOf o h a) (positionOf q)
+
+-- what the preparation reads
+pub record ToPrepare (C : Counts) (q : List ℤ) (o h a w : List ℕ) (points : List ℤ) (n : ℕ) : Type 0 where
+  pub rows : GoodRows C q o h a
+  pub pairs : 2 * n ≤ length points
+  pub answers-room : answerWords * n ≤ length w
 
 -- the answers of the skipped points among the first `done`
 unfoldable pub filledAnswers : (ℕ → ℕ → ℕ) → (ℕ → Bool) → ℕ → (ℕ → ℕ) → ℕ → ℕ

@@ -1,15 +1,22 @@
 // The finish of a run: convexity passes, the points that its steps skipped in list order, and the closing pass, on lent rows. What it leaves
 // is `completeAfter` of the crate `sweep`, specs/Run.antt, whose second convexity stage changes nothing (`second-idle` of `skipped`), so
-// there is none here.
+// there is none here. Where the mesh is one to walk on, each point is searched for from a vertex near by, which a grid in a lent row answers;
+// that changes no answer (`insert_near`), and no contract says what the row then holds.
 ghost use mathlib.Core.Path.{_≡_};
+ghost use Prim.Native.Nat.{_+_, _*_, _<_, _≤_};
+ghost use lib.Dec.{T};
 ghost use lib.ListN.{length};
 ghost use Rattle.finish.specs.FinishRows.{finishingOf};
 ghost use Rattle.skipped.specs.Insert.{positionFate, positionVertex};
-ghost use Rattle.complete.specs.CompleteRows.{fillingOf, PointRows, PointLeaves, FillReady, FillLeaves};
+ghost use Rattle.sweep.specs.Run.{answerWords};
+ghost use Rattle.walkable.specs.Walkable.{Walkable};
+ghost use Rattle.dcel.specs.Rows.{linksOf, positionOf};
+ghost use Rattle.complete.specs.CompleteRows.{fillingOf, PointNear, PointLeaves, ToPrepare, FillNear, FillLeaves};
 ghost use Rattle.complete.specs.CompleteRows.{stoppedAt, closeFill, CloseReady, CompleteReady, CompleteLeaves};
 use corner::Extension;
 use finish::Ended;
 use finish::Totals;
+use grid::Grid;
 use location::PositionInTriangulation;
 use mesh::Counts;
 
@@ -19,6 +26,12 @@ pub struct FillEnd {
     pub counts: Counts,
     pub answered: u32,
     pub full: bool,
+}
+
+// Whether the mesh is known to be one to walk on, and the grid of its vertices in the lent row.
+pub struct Nearby {
+    pub known: bool,
+    pub grid: Grid,
 }
 
 // What is left of a run, and what a refusal 9 names.
@@ -51,6 +64,110 @@ fn position_vertex(counts: Counts, position: PositionInTriangulation) -> u64
     }
 }
 
+// 1 for a test that passes.
+fn bit(t: bool) -> u32
+    ensures { λ r. ⌜ r ≤ 1 ⌝ }
+{
+    if t { 1 } else { 0 }
+}
+
+// How many points were skipped.
+fn count_skipped(answers: &[u64], count: u32) -> u32
+    requires { ⌜ answerWords * count ≤ length (now answers) ⌝ }
+{
+    let mut skipped: u32 = 0;
+    let mut i: u32 = 0;
+    while i < count {
+        skipped += bit(answers::is_skipped(answers, i));
+        i += 1;
+    }
+    skipped
+}
+
+// One vertex of so many goes into the grid, where there are many and few points come.
+fn stride(vertices: u32, skipped: u32) -> u32
+    ensures { λ r. ⌜ 0 < r ⌝ }
+{
+    if skipped == 0 {
+        return 1;
+    }
+    let many = vertices / skipped / 4;
+    if many == 0 {
+        return 1;
+    }
+    many
+}
+
+// The grid over the mesh and the points.
+fn vertices_grid(
+    positions: &[i32],
+    grid: &mut [u32],
+    vertices: u32,
+    points: &[i32],
+    count: u32,
+    skipped: u32,
+) -> Grid
+    requires { ⌜ (0 < vertices) × (2 * vertices ≤ length (now positions)) × (2 * count ≤ length (now points)) ⌝ }
+{
+    let first = dcel::position(positions, 0);
+    let at = grid::range_at(first);
+    let mesh = grid::range_with(at, positions, vertices);
+    let all = grid::range_with(mesh, points, count);
+    let empty = grid::over(grid, all);
+    grid::put_vertices(grid, empty, positions, vertices, stride(vertices, skipped))
+}
+
+// What the search from near by needs, where any point was skipped.
+fn prepare(
+    positions: &[i32],
+    outs: &[u32],
+    halves: &[u32],
+    faces: &[u32],
+    answers: &[u64],
+    grid: &mut [u32],
+    counts: Counts,
+    points: &[i32],
+    count: u32,
+) -> Nearby
+    requires { ⌜ ToPrepare counts (now positions) (now outs) (now halves) (now faces) (now answers) (now points) count ⌝ }
+    ensures { λ r. ⌜ (T (r .known) → Walkable counts
+        (linksOf (now (outs .entry)) (now (halves .entry)) (now (faces .entry))) (positionOf (now (positions .entry)))) ⌝ }
+{
+    let skipped = count_skipped(answers, count);
+    if skipped == 0 {
+        return Nearby {
+            known: false,
+            grid: grid::none(),
+        };
+    }
+    if !search_near::is_walkable(positions, outs, halves, faces, counts) {
+        return Nearby {
+            known: false,
+            grid: grid::none(),
+        };
+    }
+    Nearby {
+        known: true,
+        grid: vertices_grid(positions, grid, counts.vertices, points, count, skipped),
+    }
+}
+
+// The vertex of point i, where it became one, goes into the grid.
+fn place(grid: &mut [u32], near: Nearby, points: &[i32], i: u32, before: u32, after: u32) -> Nearby
+    requires { ⌜ 2 * i + 1 < length (now points) ⌝ }
+    ensures { λ r. ⌜ r .known ≡ near .known ⌝ }
+{
+    if after <= before {
+        return near;
+    }
+    let point = dcel::position(points, i);
+    let g = near.grid;
+    Nearby {
+        known: near.known,
+        grid: grid::put(grid, g, point, before),
+    }
+}
+
 // Point i, if it was skipped: it is put in, and its answer stored, unless a flip is refused.
 fn fill_point(
     positions: &mut [i32],
@@ -62,8 +179,11 @@ fn fill_point(
     counts: Counts,
     points: &[i32],
     i: u32,
+    grid: &[u32],
+    near: Nearby,
 ) -> FillEnd
-    requires { ⌜ PointRows counts (now positions) (now outs) (now halves) (now faces) (now pending) (now answers) (now points) i ⌝ }
+    requires { ⌜ PointNear counts (now positions) (now outs) (now halves) (now faces) (now pending) (now answers) (now points) i
+        (near .known) ⌝ }
     ensures { λ r. ⌜ PointLeaves counts (now (positions .entry)) (now (outs .entry)) (now (halves .entry)) (now (faces .entry))
         (length (now (pending .entry))) (now (answers .entry)) (now (points .entry)) i
         (now (positions .exit)) (now (outs .exit)) (now (halves .exit)) (now (faces .exit)) (now (answers .exit)) r ⌝ }
@@ -76,7 +196,19 @@ fn fill_point(
         };
     }
     let point = dcel::position(points, i);
-    let done = insert::insert_point(positions, outs, halves, faces, pending, counts, point);
+    let g = near.grid;
+    let v = grid::near(grid, g, counts.vertices, point);
+    let done = insert::insert_near(
+        positions,
+        outs,
+        halves,
+        faces,
+        pending,
+        counts,
+        point,
+        near.known,
+        v,
+    );
     let added = done.added;
     let after = added.counts;
     if added.full {
@@ -105,16 +237,20 @@ fn fill(
     faces: &mut [u32],
     pending: &mut [u32],
     answers: &mut [u64],
+    grid: &mut [u32],
     counts: Counts,
     points: &[i32],
     count: u32,
+    near: Nearby,
 ) -> FillEnd
-    requires { ⌜ FillReady counts (now positions) (now outs) (now halves) (now faces) (now pending) (now answers) (now points) count ⌝ }
+    requires { ⌜ FillNear counts (now positions) (now outs) (now halves) (now faces) (now pending) (now answers) (now points) count
+        (near .known) ⌝ }
     ensures { λ r. ⌜ FillLeaves counts (now (positions .entry)) (now (outs .entry)) (now (halves .entry)) (now (faces .entry))
         (length (now (pending .entry))) (now (answers .entry)) (now (points .entry)) count
         (now (positions .exit)) (now (outs .exit)) (now (halves .exit)) (now (faces .exit)) (now (answers .exit)) r ⌝ }
 {
     let mut now = counts;
+    let mut all = near;
     let mut i: u32 = 0;
     while i < count {
         let done = fill_point(
@@ -127,6 +263,8 @@ fn fill(
             now,
             points,
             i,
+            grid,
+            all,
         );
         let after = done.counts;
         if done.full {
@@ -136,6 +274,7 @@ fn fill(
                 full: true,
             };
         }
+        all = place(grid, all, points, i, now.vertices, after.vertices);
         now = after;
         i += 1;
     }
@@ -207,6 +346,7 @@ pub fn complete_after(
     faces: &mut [u32],
     pending: &mut [u32],
     answers: &mut [u64],
+    grid: &mut [u32],
     counts: Counts,
     answered: u32,
     full: bool,
@@ -230,6 +370,17 @@ pub fn complete_after(
         answers::zero_skipped(answers, 0, count);
         return stopped(after, passed.faces, passed.flips, count);
     }
+    let near = prepare(
+        positions,
+        outs,
+        halves,
+        faces,
+        answers,
+        grid,
+        after,
+        points,
+        count,
+    );
     let filled = fill(
         positions,
         outs,
@@ -237,9 +388,11 @@ pub fn complete_after(
         faces,
         pending,
         answers,
+        grid,
         after,
         points,
         count,
+        near,
     );
     answers::zero_skipped(answers, filled.answered, count);
     close(positions, outs, halves, faces, passed, filled)

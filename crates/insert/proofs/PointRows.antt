@@ -1,4 +1,5 @@
 -- A point that is located goes in at the place that was found, whose certificate is what the insertion asks. Assumes nothing.
+use mathlib.Core.Bool.{Bool}
 use mathlib.Core.List.{List}
 use mathlib.Core.Path.{_≡_, refl, sym, subst}
 use Prim.Native.Nat.{ℕ}
@@ -14,8 +15,9 @@ use Rattle.location.specs.Scan.{locatePoint}
 use Rattle.math.specs.declared.Point.{Point}
 use Rattle.mesh.specs.declared.Counts.{Counts}
 use Rattle.search.specs.SearchRows.{SearchReady}
+use Rattle.search_near.specs.NearRows.{NearReady}
 use Rattle.skipped.specs.Insert.{insertPoint}
-use Rattle.insert.specs.InsertRows.{InsertReady, InsertLeaves, PointReady, insertingOf}
+use Rattle.insert.specs.InsertRows.{InsertReady, InsertLeaves, PointReady, NearPointReady, insertingOf}
 
 module _ {C : Counts} {q : List ℤ} {o h a row : List ℕ} {v : Point} (R : PointReady C q o h a row v) where
   pub point-located : SearchReady C q o h a v
@@ -36,3 +38,8 @@ module _ {C : Counts} {q : List ℤ} {o h a row : List ℕ} {v : Point} (R : Poi
         → insertingOf q′ o′ h′ a′ (record { position = x; added = r }) ≡ insertPoint (length row) C (linksOf o h a) (positionOf q) v
     unfolding insertPoint
     point-inserted q′ o′ h′ a′ X = rw (X .mesh, X .places, e) refl
+
+-- from a vertex near by
+pub point-near : {C : Counts} {q : List ℤ} {o h a row : List ℕ} {v : Point} {known : Bool} {w : ℕ} → NearPointReady C q o h a row v known w
+    → NearReady C q o h a v known w
+point-near R = record { start = record { ready = point-located (R .ready); used = R .used }; walkable = R .walkable }

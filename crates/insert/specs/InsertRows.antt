@@ -1,7 +1,9 @@
 -- What each function asks of the rows that are lent. Definitions only.
+use mathlib.Core.Bool.{Bool}
 use mathlib.Core.List.{List}
 use mathlib.Core.Path.{_≡_}
 use Prim.Native.Nat.{ℕ, _+_, _*_, _<_, _≤_}
+use lib.Dec.{T}
 use lib.IntN.{ℤ}
 use lib.ListN.{length}
 use Rattle.circle_test.specs.GoodRows.{GoodRows}
@@ -22,6 +24,7 @@ use Rattle.mesh.specs.Good.{Good}
 use Rattle.mesh.specs.Wf.{Wf}
 use Rattle.skipped.specs.Insert.{Inserting, placesAt, meshAt}
 use Rattle.sums.specs.Half.{rev}
+use Rattle.walkable.specs.Walkable.{Walkable}
 use Rattle.insert.specs.declared.Inserted.{Inserted}
 
 -- ---- `legalize_edge` of a half-edge in use
@@ -101,6 +104,12 @@ pub record PointReady (C : Counts) (q : List ℤ) (o h a row : List ℕ) (v : Po
   pub outs : C .vertices + 1 ≤ length o
   pub positions : 2 * (C .vertices + 1) ≤ length q
   pub sized : MeshRoom (C .vertices + 1) h a row
+
+-- and v is a vertex in use; where that is known, the mesh is one to walk on
+pub record NearPointReady (C : Counts) (q : List ℤ) (o h a row : List ℕ) (point : Point) (known : Bool) (v : ℕ) : Type 0 where
+  pub ready : PointReady C q o h a row point
+  pub used : v < C .vertices
+  pub walkable : T known → Walkable C (linksOf o h a) (positionOf q)
 
 -- what has become of it
 abbrev pub insertingOf : List ℤ → List ℕ → List ℕ → List ℕ → Inserted → Inserting

@@ -13,7 +13,7 @@ ghost use Rattle.insertion.specs.Operations.{splitEdge, splitHalfEdge, withInne
 ghost use Rattle.mesh.specs.Operations.{withVertex};
 ghost use Rattle.skipped.specs.Insert.{legalizeEach, legalizeVertex, unflipped, insertIntoFace, insertInEdge, insertPoint};
 ghost use Rattle.insert.specs.InsertRows.{OneReady, TwoReady, InnerEdgeReady, BoundaryEdgeReady, FaceReady, OnEdgeReady, InsertReady, InsertLeaves};
-ghost use Rattle.insert.specs.InsertRows.{PointReady, insertingOf};
+ghost use Rattle.insert.specs.InsertRows.{PointReady, NearPointReady, insertingOf};
 use corner::Extension;
 use location::PositionInTriangulation;
 use math::Point;
@@ -285,6 +285,49 @@ pub fn insert_point(
         (linksOf (now (outs .entry)) (now (halves .entry)) (now (faces .entry))) (positionOf (now (positions .entry))) point ⌝ }
 {
     let position = search::locate_point(positions, outs, halves, faces, counts, point);
+    let added = insert_at(
+        positions,
+        outs,
+        halves,
+        faces,
+        pending,
+        counts,
+        point,
+        position,
+    );
+    Inserted {
+        position: position,
+        added: added,
+    }
+}
+
+// The same, searched for from vertex v where the mesh is known to be one to walk on.
+pub fn insert_near(
+    positions: &mut [i32],
+    outs: &mut [u32],
+    halves: &mut [u32],
+    faces: &mut [u32],
+    pending: &mut [u32],
+    counts: Counts,
+    point: Point,
+    known: bool,
+    v: u32,
+) -> Inserted
+    requires { ⌜ NearPointReady counts (now positions) (now outs) (now halves) (now faces) (now pending) point known v ⌝ }
+    ensures { λ r. ⌜ insertingOf (now (positions .exit)) (now (outs .exit)) (now (halves .exit)) (now (faces .exit)) r
+        ≡ insertPoint (length (now (pending .entry))) counts
+        (linksOf (now (outs .entry)) (now (halves .entry)) (now (faces .entry))) (positionOf (now (positions .entry))) point ⌝ }
+{
+    let position = search_near::locate_near(
+        positions,
+        outs,
+        halves,
+        faces,
+        counts,
+        point,
+        known,
+        v,
+    );
     let added = insert_at(
         positions,
         outs,

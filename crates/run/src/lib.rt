@@ -66,6 +66,7 @@ pub fn run_accepted(
         faces,
         pending,
         answers,
+        buckets,
         after,
         answered,
         end.full,

@@ -1,16 +1,16 @@
 -- `complete::fill_point` meets its contract. Assumes nothing.
-use borrow.Author.Tests.{not-true, not-false}
-use Rattle.complete.specs.PointLaws.{not-skipped, point-refused, point-in, point-ready}
-use native.Mathlib.Omega.{arith}
 use borrow.Author.Needs.{needs}
+use borrow.Author.Tests.{not-true, not-false}
+use Rattle.complete.specs.NearLaws.{point-vertices, point-near}
+use Rattle.complete.specs.PointLaws.{not-skipped, point-refused, point-in}
 use Rattle.complete.proofs.fill_point.Statement.{statement}
 use Rattle.complete.proofs.fill_point.Tie as tie
 
 is-skipped-requires : tie.Need-is-skipped-requires
 is-skipped-requires c κs = search needs
 
-add-t21 : tie.Need-add-t21
-add-t21 c = record { fits = c .before .before .before .before .before .before .before .before .pre .small }
+add-t25 : tie.Need-add-t25
+add-t25 c = record { fits = c .before .before .before .before .before .before .before .before .before .pre .rows .small }
 
 same-length : tie.Need-same-length
 same-length c = search needs
@@ -21,8 +21,11 @@ returns c = not-skipped _ _ _ _ _ _ _ _ _ (c .before .is-skipped .ensures) (not-
 position-requires : tie.Need-position-requires
 position-requires c κs = search needs
 
-insert-point-requires : tie.Need-insert-point-requires
-insert-point-requires c κs = point-ready (c .before .before .before .before .before .before .before .before .before .before .before .before .before .before .pre) (c .before .before .before .before .before .before .before .is-skipped .ensures) (not-false _ (c .before .before .before .before .before .before .if1 .left)) (c .before .before .before .before .before .position .ensures)
+near-requires : tie.Need-near-requires
+near-requires c κs = point-vertices (c .before .before .before .before .before .before .before .before .before .before .before .pre) (c .before .before .before .is-skipped .ensures) (not-false _ (c .before .before .if1 .left))
+
+insert-near-requires : tie.Need-insert-near-requires
+insert-near-requires c κs = point-near (c .before .before .before .before .before .before .before .before .before .before .before .before .before .before .before .before .before .pre) (c .before .before .before .before .before .before .before .before .before .is-skipped .ensures) (not-false _ (c .before .before .before .before .before .before .before .before .if1 .left)) (c .before .before .before .before .before .before .before .position .ensures) (c .before .before .before .before .before .near .ensures)
 
 same-length-2 : tie.Need-same-length-2
 same-length-2 c = search needs
@@ -43,7 +46,7 @@ same-length-7 : tie.Need-same-length-7
 same-length-7 c = search needs
 
 returns-2 : tie.Need-returns-2
-returns-2 c = point-refused _ _ _ _ _ _ _ _ _ (c .before .before .before .before .before .before .before .before .before .before .before .before .before .before .before .before .before .before .before .before .is-skipped .ensures) (not-false _ (c .before .before .before .before .before .before .before .before .before .before .before .before .before .before .before .before .before .before .before .if1 .left)) (c .before .before .before .before .before .before .before .before .before .before .before .before .before .before .before .before .before .before .position .ensures) _ _ _ _ _ (c .before .before .before .before .before .before .before .before .before .before .before .before .insert-point .ensures) (c .if2 .taken)
+returns-2 c = point-refused _ _ _ _ _ _ _ _ _ (c .before .before .before .before .before .before .before .before .before .before .before .before .before .before .before .before .before .before .before .before .before .before .is-skipped .ensures) (not-false _ (c .before .before .before .before .before .before .before .before .before .before .before .before .before .before .before .before .before .before .before .before .before .if1 .left)) (c .before .before .before .before .before .before .before .before .before .before .before .before .before .before .before .before .before .before .before .before .position .ensures) _ _ _ _ _ (c .before .before .before .before .before .before .before .before .before .before .before .before .insert-near .ensures) (c .if2 .taken)
 
 position-fate-requires : tie.Need-position-fate-requires
 position-fate-requires c κs = search needs
@@ -55,10 +58,10 @@ cast-store-words : tie.Need-cast-store-words
 cast-store-words c = search needs
 
 store-words-requires : tie.Need-store-words-requires
-store-words-requires c κs = c .before .before .before .before .before .before .before .before .before .before .before .before .before .before .before .before .before .before .before .before .before .before .before .before .before .before .before .before .before .before .before .pre .answers-room
+store-words-requires c κs = c .before .before .before .before .before .before .before .before .before .before .before .before .before .before .before .before .before .before .before .before .before .before .before .before .before .before .before .before .before .before .before .before .before .before .pre .rows .answers-room
 
-add-t36 : tie.Need-add-t36
-add-t36 c = record { fits = c .before .before .before .before .before .before .before .before .before .before .before .before .before .before .before .before .before .before .before .before .before .before .before .before .before .before .before .before .before .before .before .before .before .before .pre .small }
+add-t40 : tie.Need-add-t40
+add-t40 c = record { fits = c .before .before .before .before .before .before .before .before .before .before .before .before .before .before .before .before .before .before .before .before .before .before .before .before .before .before .before .before .before .before .before .before .before .before .before .before .before .pre .rows .small }
 
 same-length-8 : tie.Need-same-length-8
 same-length-8 c = search needs
@@ -79,18 +82,19 @@ same-length-13 : tie.Need-same-length-13
 same-length-13 c = search needs
 
 returns-3 : tie.Need-returns-3
-returns-3 c = point-in _ _ _ _ _ _ _ _ _ (c .before .before .before .before .before .before .before .before .before .before .before .before .before .before .before .before .before .before .before .before .before .before .before .before .before .before .before .is-skipped .ensures) (not-false _ (c .before .before .before .before .before .before .before .before .before .before .before .before .before .before .before .before .before .before .before .before .before .before .before .before .before .before .if1 .left)) (c .before .before .before .before .before .before .before .before .before .before .before .before .before .before .before .before .before .before .before .before .before .before .before .before .before .position .ensures) _ _ _ _ _ (c .before .before .before .before .before .before .before .before .before .before .before .before .before .before .before .before .before .before .before .insert-point .ensures) (c .before .before .before .before .before .before .before .if2 .left) (c .before .before .before .before .before .before .position-fate .ensures) (c .before .before .before .before .before .position-vertex .ensures) (c .before .before .store-words .ensures)
+returns-3 c = point-in _ _ _ _ _ _ _ _ _ (c .before .before .before .before .before .before .before .before .before .before .before .before .before .before .before .before .before .before .before .before .before .before .before .before .before .before .before .before .before .is-skipped .ensures) (not-false _ (c .before .before .before .before .before .before .before .before .before .before .before .before .before .before .before .before .before .before .before .before .before .before .before .before .before .before .before .before .if1 .left)) (c .before .before .before .before .before .before .before .before .before .before .before .before .before .before .before .before .before .before .before .before .before .before .before .before .before .before .before .position .ensures) _ _ _ _ _ (c .before .before .before .before .before .before .before .before .before .before .before .before .before .before .before .before .before .before .before .insert-near .ensures) (c .before .before .before .before .before .before .before .if2 .left) (c .before .before .before .before .before .before .position-fate .ensures) (c .before .before .before .before .before .position-vertex .ensures) (c .before .before .store-words .ensures)
 
 pub fill-point-spec : {M : Type 1} → statement M
 fill-point-spec =
     tie.close
     (tie.spec
     is-skipped-requires
-    add-t21
+    add-t25
     same-length
     returns
     position-requires
-    insert-point-requires
+    near-requires
+    insert-near-requires
     same-length-2
     same-length-3
     same-length-4
@@ -102,7 +106,7 @@ fill-point-spec =
     position-vertex-requires
     cast-store-words
     store-words-requires
-    add-t36
+    add-t40
     same-length-8
     same-length-9
     same-length-10

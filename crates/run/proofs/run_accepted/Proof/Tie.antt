@@ -195,6 +195,9 @@ After-complete-after-arg5 = Lts.After-complete-after-arg5 (Reads'3.Asked, Reads'
 abbrev pub After-complete-after-arg6 : Type 0
 After-complete-after-arg6 = Lts.After-complete-after-arg6 (Reads'3.Asked, Reads'3.Learnt, Reads'6.Asked, Reads'6.Learnt, Reads'7.Asked, Reads'7.Learnt, Reads.Asked, Reads.Learnt, Reads'.Asked, Reads'.Learnt, Reads'5.Asked, Reads'5.Learnt, Reads''.Asked, Reads''.Learnt) Reads'4.Pre Reads'4.Post
 
+abbrev pub After-complete-after-arg7 : Type 0
+After-complete-after-arg7 = Lts.After-complete-after-arg7 (Reads'3.Asked, Reads'3.Learnt, Reads'6.Asked, Reads'6.Learnt, Reads'7.Asked, Reads'7.Learnt, Reads.Asked, Reads.Learnt, Reads'.Asked, Reads'.Learnt, Reads'5.Asked, Reads'5.Learnt, Reads''.Asked, Reads''.Learnt) Reads'4.Pre Reads'4.Post
+
 abbrev pub After-complete-after : Type 0
 After-complete-after = Lts.After-complete-after (Reads'3.Asked, Reads'3.Learnt, Reads'6.Asked, Reads'6.Learnt, Reads'7.Asked, Reads'7.Learnt, Reads.Asked, Reads.Learnt, Reads'.Asked, Reads'.Learnt, Reads'5.Asked, Reads'5.Learnt, Reads''.Asked, Reads''.Learnt) Reads'4.Pre Reads'4.Post
 
@@ -231,6 +234,12 @@ After-answers3 = Lts.After-answers3 (Reads'3.Asked, Reads'3.Learnt, Reads'6.Aske
 abbrev pub After-slice-known21 : Type 0
 After-slice-known21 = Lts.After-slice-known21 (Reads'3.Asked, Reads'3.Learnt, Reads'6.Asked, Reads'6.Learnt, Reads'7.Asked, Reads'7.Learnt, Reads.Asked, Reads.Learnt, Reads'.Asked, Reads'.Learnt, Reads'5.Asked, Reads'5.Learnt, Reads''.Asked, Reads''.Learnt) Reads'4.Pre Reads'4.Post
 
+abbrev pub After-buckets3 : Type 0
+After-buckets3 = Lts.After-buckets3 (Reads'3.Asked, Reads'3.Learnt, Reads'6.Asked, Reads'6.Learnt, Reads'7.Asked, Reads'7.Learnt, Reads.Asked, Reads.Learnt, Reads'.Asked, Reads'.Learnt, Reads'5.Asked, Reads'5.Learnt, Reads''.Asked, Reads''.Learnt) Reads'4.Pre Reads'4.Post
+
+abbrev pub After-slice-known22 : Type 0
+After-slice-known22 = Lts.After-slice-known22 (Reads'3.Asked, Reads'3.Learnt, Reads'6.Asked, Reads'6.Learnt, Reads'7.Asked, Reads'7.Learnt, Reads.Asked, Reads.Learnt, Reads'.Asked, Reads'.Learnt, Reads'5.Asked, Reads'5.Learnt, Reads''.Asked, Reads''.Learnt) Reads'4.Pre Reads'4.Post
+
 abbrev pub After-clear-rows-arg : Type 0
 After-clear-rows-arg = Lts.After-clear-rows-arg (Reads'3.Asked, Reads'3.Learnt, Reads'6.Asked, Reads'6.Learnt, Reads'7.Asked, Reads'7.Learnt, Reads.Asked, Reads.Learnt, Reads'.Asked, Reads'.Learnt, Reads'5.Asked, Reads'5.Learnt, Reads''.Asked, Reads''.Learnt) Reads'4.Pre Reads'4.Post
 
@@ -252,20 +261,20 @@ After-nodes3 = Lts.After-nodes3 (Reads'3.Asked, Reads'3.Learnt, Reads'6.Asked, R
 abbrev pub After-freed2 : Type 0
 After-freed2 = Lts.After-freed2 (Reads'3.Asked, Reads'3.Learnt, Reads'6.Asked, Reads'6.Learnt, Reads'7.Asked, Reads'7.Learnt, Reads.Asked, Reads.Learnt, Reads'.Asked, Reads'.Learnt, Reads'5.Asked, Reads'5.Learnt, Reads''.Asked, Reads''.Learnt) Reads'4.Pre Reads'4.Post
 
-abbrev pub After-slice-known22 : Type 0
-After-slice-known22 = Lts.After-slice-known22 (Reads'3.Asked, Reads'3.Learnt, Reads'6.Asked, Reads'6.Learnt, Reads'7.Asked, Reads'7.Learnt, Reads.Asked, Reads.Learnt, Reads'.Asked, Reads'.Learnt, Reads'5.Asked, Reads'5.Learnt, Reads''.Asked, Reads''.Learnt) Reads'4.Pre Reads'4.Post
-
-abbrev pub After-buckets3 : Type 0
-After-buckets3 = Lts.After-buckets3 (Reads'3.Asked, Reads'3.Learnt, Reads'6.Asked, Reads'6.Learnt, Reads'7.Asked, Reads'7.Learnt, Reads.Asked, Reads.Learnt, Reads'.Asked, Reads'.Learnt, Reads'5.Asked, Reads'5.Learnt, Reads''.Asked, Reads''.Learnt) Reads'4.Pre Reads'4.Post
-
 abbrev pub After-slice-known23 : Type 0
 After-slice-known23 = Lts.After-slice-known23 (Reads'3.Asked, Reads'3.Learnt, Reads'6.Asked, Reads'6.Learnt, Reads'7.Asked, Reads'7.Learnt, Reads.Asked, Reads.Learnt, Reads'.Asked, Reads'.Learnt, Reads'5.Asked, Reads'5.Learnt, Reads''.Asked, Reads''.Learnt) Reads'4.Pre Reads'4.Post
+
+abbrev pub After-buckets4 : Type 0
+After-buckets4 = Lts.After-buckets4 (Reads'3.Asked, Reads'3.Learnt, Reads'6.Asked, Reads'6.Learnt, Reads'7.Asked, Reads'7.Learnt, Reads.Asked, Reads.Learnt, Reads'.Asked, Reads'.Learnt, Reads'5.Asked, Reads'5.Learnt, Reads''.Asked, Reads''.Learnt) Reads'4.Pre Reads'4.Post
+
+abbrev pub After-slice-known24 : Type 0
+After-slice-known24 = Lts.After-slice-known24 (Reads'3.Asked, Reads'3.Learnt, Reads'6.Asked, Reads'6.Learnt, Reads'7.Asked, Reads'7.Learnt, Reads.Asked, Reads.Learnt, Reads'.Asked, Reads'.Learnt, Reads'5.Asked, Reads'5.Learnt, Reads''.Asked, Reads''.Learnt) Reads'4.Pre Reads'4.Post
 
 abbrev pub After-pending3 : Type 0
 After-pending3 = Lts.After-pending3 (Reads'3.Asked, Reads'3.Learnt, Reads'6.Asked, Reads'6.Learnt, Reads'7.Asked, Reads'7.Learnt, Reads.Asked, Reads.Learnt, Reads'.Asked, Reads'.Learnt, Reads'5.Asked, Reads'5.Learnt, Reads''.Asked, Reads''.Learnt) Reads'4.Pre Reads'4.Post
 
-abbrev pub After-slice-known24 : Type 0
-After-slice-known24 = Lts.After-slice-known24 (Reads'3.Asked, Reads'3.Learnt, Reads'6.Asked, Reads'6.Learnt, Reads'7.Asked, Reads'7.Learnt, Reads.Asked, Reads.Learnt, Reads'.Asked, Reads'.Learnt, Reads'5.Asked, Reads'5.Learnt, Reads''.Asked, Reads''.Learnt) Reads'4.Pre Reads'4.Post
+abbrev pub After-slice-known25 : Type 0
+After-slice-known25 = Lts.After-slice-known25 (Reads'3.Asked, Reads'3.Learnt, Reads'6.Asked, Reads'6.Learnt, Reads'7.Asked, Reads'7.Learnt, Reads.Asked, Reads.Learnt, Reads'.Asked, Reads'.Learnt, Reads'5.Asked, Reads'5.Learnt, Reads''.Asked, Reads''.Learnt) Reads'4.Pre Reads'4.Post
 
 abbrev pub After-ended : Type 0
 After-ended = Lts.After-ended (Reads'3.Asked, Reads'3.Learnt, Reads'6.Asked, Reads'6.Learnt, Reads'7.Asked, Reads'7.Learnt, Reads.Asked, Reads.Learnt, Reads'.Asked, Reads'.Learnt, Reads'5.Asked, Reads'5.Learnt, Reads''.Asked, Reads''.Learnt) Reads'4.Pre Reads'4.Post

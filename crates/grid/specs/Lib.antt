@@ -1,0 +1,1 @@
+-- The grid has no definitions: its contracts say that it is read and written within its row.
