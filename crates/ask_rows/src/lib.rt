@@ -97,6 +97,7 @@ fn decide_now(
         from,
         to,
         size,
+        0,
         counts.vertices,
         point,
         angle,

@@ -64,8 +64,8 @@ module _ (C : Counts) (q : List ℤ) (o h f : List ℕ) (α : ℕ → ℕ) (v : 
       (rightChain C (linksOf o h f) (positionOf q) α v a e)
 
 -- the answer about one that is
-abbrev pub addedWith : ℕ → ℕ → ℕ → ℕ → Float → Float → Float → Decision
-addedWith n e i j a s t = record { fate = Added n; edge = e; left = i; right = j; angle = a; startangle = s; endangle = t }
+abbrev pub addedWith : ℕ → ℕ → ℕ → ℕ → Float → Float → Float → ℕ → Decision
+addedWith n e i j a s t k = record { fate = Added n; edge = e; left = i; right = j; angle = a; startangle = s; endangle = t; node = k }
 
 -- the positions of e's ends
 pub record EndsAt (q : List ℤ) (h : List ℕ) (e : ℕ) (from to : Point) : Type 0 where
@@ -261,15 +261,15 @@ module _ {C : Counts} {q : List ℤ} {o h f : List ℕ} {cx cy : Float} {e size 
             ∙ (λ i. record { fate = Added (K .vertex i); edge = e; left = left-is i; right = right-is i })
 
         -- an added point, with the angles of the chain's ends
-        pub added : not t ≡ false
+        pub added : {node : ℕ} → not t ≡ false
             → DecidesAt C q o h f cx cy e v a
-            (addedWith next e (left .count) (right .count) a (left .vertex .angle) (right .vertex .angle))
+            (addedWith next e (left .count) (right .count) a (left .vertex .angle) (right .vertex .angle) node)
         unfolding linksOf start
-        added k = record {
+        added {node} k = record {
           is = sym (added-is k);
           angles = λ m z. subst
               (λ (D : Decided). ChainAngles C (linksOf o h f) (positionOf q) cx cy v D
-              (addedWith next e (left .count) (right .count) a (left .vertex .angle) (right .vertex .angle)))
+              (addedWith next e (left .count) (right .count) a (left .vertex .angle) (right .vertex .angle) node))
               (sym (added-is k)) (record {
                 is-angle = K .is-angle;
                 angle = K .angle;

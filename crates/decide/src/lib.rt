@@ -54,7 +54,8 @@ pub fn fate_vertex(fate: Fate) -> u64
 }
 
 // A fate, and for an added point the located edge, how many edges the walks cover before and after it, and the angles
-// of the point and of the covered chain's two ends.
+// of the point and of the covered chain's two ends. `node` is the node of the located edge, where an insert starts to
+// look; nothing depends on it.
 pub struct Decision {
     pub fate: Fate,
     pub edge: u32,
@@ -63,6 +64,7 @@ pub struct Decision {
     pub angle: f64,
     pub startangle: f64,
     pub endangle: f64,
+    pub node: u32,
 }
 
 // A point that is not added.
@@ -77,11 +79,12 @@ pub fn leave(fate: Fate) -> Decision
         angle: 0.0,
         startangle: 0.0,
         endangle: 0.0,
+        node: 0,
     }
 }
 
 // Fates 2, 3, 4 and 1 of a point with an angle, of which e is the located edge; `fromangle` and `toangle` are the angles of its ends.
-// `size` is the number of the ring's nodes, `next` the next vertex.
+// `size` is the number of the ring's nodes, `node` the edge's own where it is known, `next` the next vertex.
 pub fn decide_at(
     positions: &[i32],
     halves: &[u32],
@@ -89,6 +92,7 @@ pub fn decide_at(
     fromangle: f64,
     toangle: f64,
     size: u32,
+    node: u32,
     next: u32,
     point: Point,
     angle: f64,
@@ -135,6 +139,7 @@ pub fn decide_at(
         angle: angle,
         startangle: start.angle,
         endangle: end.angle,
+        node: node,
     }
 }
 
@@ -171,6 +176,7 @@ pub fn decide(
         node.angle,
         right.angle,
         hull.nodes - hull.freed,
+        found,
         counts.vertices,
         point,
         angle,

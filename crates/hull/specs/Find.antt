@@ -3,7 +3,6 @@ use Prim.Native.Nat.{ℕ, _<_, _≤_}
 use native.Mathlib.Omega.{arith}
 use mathlib.Core.Path.{_≡_, refl, sym, _∙_, ap, subst}
 use mathlib.Core.List.{List}
-use lib.Dec.{T}
 use Rattle.angle.specs.Angle.{IsAngle}
 use Rattle.mesh.specs.declared.Counts.{Counts}
 use Rattle.mesh.specs.Mesh.{Links}
@@ -12,7 +11,6 @@ use Rattle.mesh.specs.Area.{boundaryLength}
 use Rattle.mesh.specs.BoundaryLaws.{first<, first-outer}
 use Rattle.segment.specs.Arc.{holds}
 use Rattle.segment.specs.Bucket.{width, floorOf}
-use Rattle.sums.specs.Iterate.{iter}
 use Rattle.sums.specs.Tally.{First, walk, tally}
 use Rattle.dcel.specs.Rows.{rowOf}
 use Rattle.ring.specs.Ring.{fullTurn, proper, atEnds, edgeAngle, boundaryEdges, boundaryAngles, located, passedCount}
@@ -20,7 +18,7 @@ use Rattle.ring.specs.Sound.{Sound}
 use Rattle.ring.specs.Free.{free-rest}
 use Rattle.ring.specs.Insert.{On, node-sole, ring-proper, ring-sound}
 use Rattle.ring.specs.Stores.{Linked}
-use Rattle.ring.specs.Hull.{HullFrom, linked-back, on-from}
+use Rattle.ring.specs.Hull.{HullFrom, linked-back}
 use Rattle.ring.specs.Located.{locate-passed}
 use Rattle.ring.specs.RingOf.{ring-located, ring-ends, ring-from}
 use Rattle.ring_rows.specs.declared.Node.{Node}
@@ -28,6 +26,7 @@ use Rattle.ring_rows.specs.declared.Hull.{Hull}
 use Rattle.ring_rows.specs.declared.Found.{Found}
 use Rattle.ring_rows.specs.Rows.{nodesOf, tableOf, angleOf, edgeOf, rightOf, sizeOf, NodeRing, RingHeld, Got}
 use Rattle.ring_rows.specs.Find.{NodeAt, ToFind}
+use Rattle.ring_rows.specs.Laws.{got-at}
 use Rattle.hull.specs.Held.{Held}
 
 module _ {C : Counts} {L : Links} {α : ℕ → ℕ} {nodes : List Node} {freed buckets : List ℕ} {h : Hull} (H : Held C L α nodes freed buckets h) where
@@ -89,17 +88,8 @@ module _ {C : Counts} {L : Links} {α : ℕ → ℕ} {nodes : List Node} {freed 
 
   -- ---- as `get` answers, from a bucket
   module _ {x i : ℕ} (l : i < h .buckets) {r : Found} (G : Got (nodesOf nodes) (sizeOf h) (rowOf buckets i) x r) where
-    got-at : NodeAt nodes buckets h x (r .node)
-    got-at =
-        let b = bucket-on i l in
-        record {
-          on = on-from {right = rightOf (nodesOf nodes)} {m = sizeOf h} {s = rowOf buckets 0} (r .node) (held-ring .sound .closed) (b .0)
-              (r .passed, G .first .below, ap (iter (r .passed) (rightOf (nodesOf nodes))) (b .2) ∙ sym (G .node));
-          at = subst (λ (y : ℕ). T (atEnds (holds x) (rightOf (nodesOf nodes)) (angleOf (nodesOf nodes)) y)) (sym (G .node)) (G .first .passes);
-        }
-
     pub got-located : Wf C L → r .edge ≡ located C L α x
-    got-located W = G .edge ∙ at-located got-at W
+    got-located W = G .edge ∙ at-located (got-at held-rows l G) W
 
   -- THE COUNT, with 8 buckets
   pub got-passed : {x : ℕ} {r : Found} → Wf C L → h .buckets ≡ 8 → x ≤ fullTurn → Got (nodesOf nodes) (sizeOf h) (rowOf buckets (floorOf x (h .buckets))) x r → r .passed ≡ passedCount fullTurn x (boundaryAngles C L α)

@@ -11,8 +11,8 @@ pub mod Kinds_release
 pub mod Reads_release
 pub mod Kinds_retire
 pub mod Reads_retire
-pub mod Kinds_ring_rows_find
-pub mod Reads_ring_rows_find
+pub mod Kinds_ring_rows_find_left
+pub mod Reads_ring_rows_find_left
 pub mod Kinds_ring_rows_initialize_buckets
 pub mod Reads_ring_rows_initialize_buckets
 pub mod Kinds_ring_rows_load

@@ -241,12 +241,13 @@ pub fn adjust_bucket_size_if_necessary(nodes: &[Node], buckets: &mut [u32], hull
 }
 
 // `insert`: a vertex at the angle `middle` has entered the boundary between those of the angles `left` and `right`,
-// with the edges `leftedge` to it and `rightedge` from it.
+// with the edges `leftedge` to it and `rightedge` from it. The left node is looked for from `near` on; any number will do.
 pub fn insert(
     nodes: &mut [Node],
     freed: &mut [u32],
     buckets: &mut [u32],
     hull: Hull,
+    near: u32,
     left: f64,
     middle: f64,
     right: f64,
@@ -257,7 +258,7 @@ pub fn insert(
     ensures { λ r. ⌜ InsertedRows (now (nodes .entry)) (now (freed .entry)) (now (buckets .entry))
         (now (nodes .exit)) (now (freed .exit)) (now (buckets .exit)) hull left middle right leftedge rightedge r ⌝ }
 {
-    let found = ring_rows::find(nodes, freed, buckets, hull, left);
+    let found = ring_rows::find_left(nodes, buckets, hull, near, left);
     let goes = angle::equal(left, middle);
     let choice = choose(nodes, freed, hull, found, goes, right);
     place(nodes, choice, leftedge, rightedge, middle);

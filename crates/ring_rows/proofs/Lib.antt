@@ -4,6 +4,7 @@ pub mod Test
 pub mod Walk
 pub mod WalkBoth
 pub mod Finding
+pub mod WalkLeft
 pub mod Range
 pub mod Filling
 pub mod Sig

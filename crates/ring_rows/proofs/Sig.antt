@@ -5,6 +5,8 @@ pub mod Kinds_contains_angle
 pub mod Reads_contains_angle
 pub mod Kinds_find
 pub mod Reads_find
+pub mod Kinds_find_left
+pub mod Reads_find_left
 pub mod Kinds_finger
 pub mod Reads_finger
 pub mod Kinds_get
@@ -27,3 +29,5 @@ pub mod Kinds_update_node_buckets
 pub mod Reads_update_node_buckets
 pub mod Kinds_walk_both
 pub mod Reads_walk_both
+pub mod Kinds_walk_left
+pub mod Reads_walk_left

@@ -1,4 +1,4 @@
--- Finding the node of an angle without a count: what `find` and its parts ask, and what they answer. Definitions only.
+-- Finding the node of an angle without a count: what `find`, `find_left` and their parts ask, and what they answer. Definitions only.
 use Prim.Native.Nat.{ℕ, _<_, _≤_}
 use mathlib.Core.Path.{_≡_}
 use mathlib.Core.Logic.{_≢_, _⊎_}
@@ -31,12 +31,12 @@ OnRing nodes buckets h i = On (rightOf (nodesOf nodes)) (sizeOf h) (rowOf bucket
 abbrev pub nodeHolds : (ℕ → Node) → ℕ → ℕ → Bool
 nodeHolds t x i = atEnds (holds x) (rightOf t) (angleOf t) i
 
--- What `find` answers: the node of the ring whose segment holds x. A sound ring has exactly one.
+-- What `find` and `find_left` answer: the node of the ring whose segment holds x. A sound ring has exactly one.
 pub record NodeAt (nodes : List Node) (buckets : List ℕ) (h : Hull) (x i : ℕ) : Type 0 where
   pub on : OnRing nodes buckets h i
   pub at : T (nodeHolds (nodesOf nodes) x i)
 
--- What it asks: the rows hold a ring, its links to the left lead along it, and of the nodes ever in use those that have an edge are in it
+-- What they ask: the rows hold a ring, its links to the left lead along it, and of the nodes ever in use those that have an edge are in it
 pub record ToFind (nodes : List Node) (buckets : List ℕ) (h : Hull) : Type 0 where
   pub rows : RingHeld nodes buckets h
   pub back : (i : ℕ) → OnRing nodes buckets h i → OnRing nodes buckets h (leftOf (nodesOf nodes) i)
@@ -70,3 +70,13 @@ pub record WalkedBoth (t : ℕ → Node) (right x limit : ℕ) (r : Walked) : Ty
 -- one node twice, which was in use and has an edge, or else the two that were given
 abbrev pub FingerOr : (ℕ → Node) → ℕ → Handles → Handles → Type 0
 FingerOr t len ends r = (r ≡ ends) ⊎ ((r .left ≡ r .right) × (r .right < len) × (edgeOf t (r .right) ≢ noEdge))
+
+-- some buckets go with the nodes
+pub record ToWalkLeft (nodes : List Node) (h : Hull) (a : Float) : Type 0 where
+  pub buckets : List ℕ
+  pub to-find : ToFind nodes buckets h
+  pub is-angle : IsAngle a
+
+-- a node that is found is the node of x, whatever buckets go with the nodes
+abbrev pub WalkedLeft : List Node → Hull → ℕ → Walked → Type 0
+WalkedLeft nodes h x r = (buckets : List ℕ) → ToFind nodes buckets h → r .found ≡ true → NodeAt nodes buckets h x (r .node)

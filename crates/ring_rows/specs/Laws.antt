@@ -5,6 +5,7 @@ use native.Mathlib.Decide.{ℕ-discrete}
 use native.Mathlib.Omega.{arith}
 use mathlib.Core.Path.{_≡_, refl, sym, _∙_, ap, subst, fun-ext}
 use mathlib.Core.List.{List}
+use lib.Dec.{T}
 use lib.ListN.{length, replicate}
 use Rattle.segment.specs.Bucket.{Buckets, floorOf, width}
 use Rattle.segment.specs.Laws.{bucket-pos}
@@ -15,10 +16,13 @@ use Rattle.dcel.specs.Rows.{rowOf}
 use Rattle.ring.specs.Ring.{proper, atEnds}
 use Rattle.ring.specs.Sound.{sound-at}
 use Rattle.ring.specs.Insert.{On}
+use Rattle.ring.specs.Hull.{on-from}
 use Rattle.ring_rows.specs.declared.Node.{Node}
 use Rattle.ring_rows.specs.declared.Hull.{Hull}
+use Rattle.ring_rows.specs.declared.Found.{Found}
 use Rattle.ring_rows.specs.RingRows.{RingRows, ringRows, ringZeros}
-use Rattle.ring_rows.specs.Rows.{zeroNode, ValidNodes, NodeRing, RingHeld, nodesOf, angleOf, rightOf, sizeOf}
+use Rattle.ring_rows.specs.Rows.{zeroNode, ValidNodes, NodeRing, RingHeld, Got, nodesOf, angleOf, rightOf, sizeOf}
+use Rattle.ring_rows.specs.Find.{nodeHolds, NodeAt}
 
 -- a walk to the right stays among the nodes in use
 pub walk-below : {t : ℕ → Node} {len s : ℕ} → ValidNodes t len → s < len → (k : ℕ) → iter k (rightOf t) s < len
@@ -42,6 +46,17 @@ bucket-ring {nodes} {buckets} {h} R i l = ring-from (R .ring) (rowOf buckets i) 
 -- the bucket of an angle is one of its buckets
 pub floor-below : (k : ℕ) {n : ℕ} → Buckets n → floorOf k n < n
 floor-below k {n} B = mod-lt (k / width n) (bucket-pos n B)
+
+-- the node that `get` finds, from a bucket's node on
+pub got-at : {nodes : List Node} {buckets : List ℕ} {h : Hull} {i x : ℕ} {r : Found} → RingHeld nodes buckets h → i < h .buckets
+    → Got (nodesOf nodes) (sizeOf h) (rowOf buckets i) x r → NodeAt nodes buckets h x (r .node)
+got-at {nodes} {buckets} {h} {i} {x} {r} R l G =
+    let b = R .filled i l .0 in
+    record {
+      on = on-from {right = rightOf (nodesOf nodes)} {m = sizeOf h} {s = rowOf buckets 0} (r .node) (R .ring .sound .closed) (b .0)
+          (r .passed, G .first .below, ap (iter (r .passed) (rightOf (nodesOf nodes))) (b .2) ∙ sym (G .node));
+      at = subst (λ (y : ℕ). T (nodeHolds (nodesOf nodes) x y)) (sym (G .node)) (G .first .passes);
+    }
 
 -- a field of a row with one node changed
 pub put-map : {A B : Type 0} (g : A → B) (f : ℕ → A) (a : ℕ) (v : A) → (λ x. g (put f a v x)) ≡ put (λ x. g (f x)) a (g v)

@@ -6,12 +6,12 @@ ghost use Prim.Native.Nat.{ℕ, _+_, _%_, _<_, _≤_};
 ghost use lib.ListN.{length, set, replicate};
 ghost use lib.Dec.{T};
 ghost use Rattle.sums.specs.Put.{put};
-ghost use Rattle.angle.specs.Angle.{validAngle, turns};
+ghost use Rattle.angle.specs.Angle.{IsAngle, validAngle, turns};
 ghost use Rattle.segment.specs.Bucket.{floorOf, width};
 ghost use Rattle.ring.specs.Insert.{Bucketed};
 ghost use Rattle.dcel.specs.Rows.{rowOf};
 ghost use Rattle.ring_rows.specs.Rows.{zeroNode, nodesOf, withEdge, withLeft, withRight, RingHeld, sizeOf, Got, Updated, FilledRun, rightOf, angleOf, NodeBuckets, NodeUpdated, ToFill};
-ghost use Rattle.ring_rows.specs.Find.{nodeHolds, ToTest, ToWalk, WalkedBoth, FingerOr, ToFind, NodeAt};
+ghost use Rattle.ring_rows.specs.Find.{nodeHolds, ToTest, ToWalk, WalkedBoth, FingerOr, ToFind, NodeAt, ToWalkLeft, WalkedLeft};
 use segment::Segment;
 
 #[repr(C)]
@@ -239,6 +239,59 @@ pub fn find(nodes: &[Node], freed: &[u32], buckets: &[u32], hull: Hull, angle: f
     let from = finger(nodes, freed, hull, bucket, ends);
     let far = walk_both(nodes, from, angle, hull.nodes - hull.freed);
     far.node
+}
+
+// To the node of an angle, from the node `near` on to the left, as many turns as the ring has nodes. Nothing is found where `near` is not
+// in the ring.
+fn walk_left(nodes: &[Node], hull: Hull, near: u32, angle: f64) -> Walked
+    requires { ⌜ ToWalkLeft (now nodes) hull angle ⌝ }
+    ensures { λ r. ⌜ WalkedLeft (now (nodes .entry)) hull (turns angle) r ⌝ }
+{
+    if hull.nodes <= near {
+        return Walked {
+            node: near,
+            found: false,
+        };
+    }
+    let first = load(nodes, near);
+    if first.edge == NO_EDGE {
+        return Walked {
+            node: near,
+            found: false,
+        };
+    }
+    let size = hull.nodes - hull.freed;
+    let mut i = near;
+    let mut turn: u32 = 0;
+    while turn < size {
+        let node = load(nodes, i);
+        if angle::equal(node.angle, angle) {
+            return Walked {
+                node: i,
+                found: true,
+            };
+        }
+        i = node.left;
+        turn += 1;
+    }
+    Walked {
+        node: i,
+        found: false,
+    }
+}
+
+// The node whose segment holds an angle, where a node of this very angle is thought to stand at `near` or a few nodes to its left. Nothing
+// is believed of `near`: where the walk does not meet such a node, `get` finds the answer.
+pub fn find_left(nodes: &[Node], buckets: &[u32], hull: Hull, near: u32, angle: f64) -> u32
+    requires { ⌜ ToFind (now nodes) (now buckets) hull × IsAngle angle ⌝ }
+    ensures { λ r. ⌜ NodeAt (now (nodes .entry)) (now (buckets .entry)) hull (turns angle) r ⌝ }
+{
+    let walked = walk_left(nodes, hull, near, angle);
+    if walked.found {
+        return walked.node;
+    }
+    let found = get(nodes, buckets, hull, angle);
+    found.node
 }
 
 // v to the places from `from` up to `to`.

@@ -151,6 +151,7 @@ pub fn single_bulk_insertion_step(
         freed,
         buckets,
         hull,
+        decision.node,
         decision.startangle,
         decision.angle,
         decision.endangle,

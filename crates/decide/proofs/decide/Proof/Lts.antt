@@ -115,7 +115,7 @@ abbrev ty·13 : Syntax.Ty
 ty·13 = Syntax.tyStruct (List._∷_ 114 (List._∷_ 105 (List._∷_ 110 (List._∷_ 103 (List._∷_ 95 (List._∷_ 114 (List._∷_ 111 (List._∷_ 119 (List._∷_ 115 (List._∷_ 58 (List._∷_ 58 (List._∷_ 78 (List._∷_ 111 (List._∷_ 100 (List._∷_ 101 List.[]))))))))))))))) (Syntax.tcons ty·1 (Syntax.tcons ty·0 (Syntax.tcons ty·0 (Syntax.tcons ty·0 Syntax.tnil))))
 
 abbrev ty·14 : Syntax.Ty
-ty·14 = Syntax.tyStruct (List._∷_ 100 (List._∷_ 101 (List._∷_ 99 (List._∷_ 105 (List._∷_ 100 (List._∷_ 101 (List._∷_ 58 (List._∷_ 58 (List._∷_ 68 (List._∷_ 101 (List._∷_ 99 (List._∷_ 105 (List._∷_ 115 (List._∷_ 105 (List._∷_ 111 (List._∷_ 110 List.[])))))))))))))))) (Syntax.tcons ty·11 (Syntax.tcons ty·0 (Syntax.tcons ty·0 (Syntax.tcons ty·0 (Syntax.tcons ty·1 (Syntax.tcons ty·1 (Syntax.tcons ty·1 Syntax.tnil)))))))
+ty·14 = Syntax.tyStruct (List._∷_ 100 (List._∷_ 101 (List._∷_ 99 (List._∷_ 105 (List._∷_ 100 (List._∷_ 101 (List._∷_ 58 (List._∷_ 58 (List._∷_ 68 (List._∷_ 101 (List._∷_ 99 (List._∷_ 105 (List._∷_ 115 (List._∷_ 105 (List._∷_ 111 (List._∷_ 110 List.[])))))))))))))))) (Syntax.tcons ty·11 (Syntax.tcons ty·0 (Syntax.tcons ty·0 (Syntax.tcons ty·0 (Syntax.tcons ty·1 (Syntax.tcons ty·1 (Syntax.tcons ty·1 (Syntax.tcons ty·0 Syntax.tnil))))))))
 
 abbrev pub ps : List.List (Kinds.PK 5)
 ps = List._∷_ (ShrSlice.pShrS (Signed'.SInt Syntax.w32) 0 tt) (List._∷_ (ShrSlice.pShrS (Referent.rtF (Referent.fInt Syntax.w32)) 1 tt) (List._∷_ (ShrSlice.pShrS Node.the-row 2 tt) (List._∷_ (ShrSlice.pShrS (Referent.rtF (Referent.fInt Syntax.w32)) 3 tt) (List._∷_ (ShrSlice.pShrS (Referent.rtF (Referent.fInt Syntax.w32)) 4 tt) (List._∷_ (Value.pVal record { ty = Declared'.row Hull.the-type; one = Path'.refl; val = Laws'9.val Hull.the-type Laws'6.the-laws; tells = Laws'9.tells Hull.the-type Laws'6.the-laws; still = Laws'9.still Hull.the-type Laws'6.the-copy Exit.yes; row = Rows.whole (Declared'.row Hull.the-type); rd = λ x. x; mk = λ x. x } λ M 𝓤 H A W. record { copies = Laws'9.copy Hull.the-type Laws'6.the-copy 𝓤 H A W; lawful = Laws'9.lawful Hull.the-type Laws'6.the-laws 𝓤 H A W; makes = Laws'9.makes Hull.the-type Laws'6.the-plain 𝓤 H A; in-mem = Local.mem-whole 𝓤 H A W (Declared'.row Hull.the-type); of-mem = Local.whole-mem 𝓤 H A W (Declared'.row Hull.the-type) }) (List._∷_ (Value.pVal record { ty = Declared'.row Counts.the-type; one = Path'.refl; val = Laws'9.val Counts.the-type Laws'5.the-laws; tells = Laws'9.tells Counts.the-type Laws'5.the-laws; still = Laws'9.still Counts.the-type Laws'5.the-copy Exit.yes; row = Rows.whole (Declared'.row Counts.the-type); rd = λ x. x; mk = λ x. x } λ M 𝓤 H A W. record { copies = Laws'9.copy Counts.the-type Laws'5.the-copy 𝓤 H A W; lawful = Laws'9.lawful Counts.the-type Laws'5.the-laws 𝓤 H A W; makes = Laws'9.makes Counts.the-type Laws'5.the-plain 𝓤 H A; in-mem = Local.mem-whole 𝓤 H A W (Declared'.row Counts.the-type); of-mem = Local.whole-mem 𝓤 H A W (Declared'.row Counts.the-type) }) (List._∷_ (Value.pVal record { ty = Declared'.row Point2.the-type; one = Path'.refl; val = Laws'9.val Point2.the-type Laws.the-laws; tells = Laws'9.tells Point2.the-type Laws.the-laws; still = Laws'9.still Point2.the-type Laws.the-copy Exit.yes; row = Rows.whole (Declared'.row Point2.the-type); rd = λ x. x; mk = λ x. x } λ M 𝓤 H A W. record { copies = Laws'9.copy Point2.the-type Laws.the-copy 𝓤 H A W; lawful = Laws'9.lawful Point2.the-type Laws.the-laws 𝓤 H A W; makes = Laws'9.makes Point2.the-type Laws.the-plain 𝓤 H A; in-mem = Local.mem-whole 𝓤 H A W (Declared'.row Point2.the-type); of-mem = Local.whole-mem 𝓤 H A W (Declared'.row Point2.the-type) }) (List._∷_ (Value.pVal record { ty = Declared'.row Point.the-type; one = Path'.refl; val = Laws'9.val Point.the-type Laws'4.the-laws; tells = Laws'9.tells Point.the-type Laws'4.the-laws; still = Laws'9.still Point.the-type Laws'4.the-copy Exit.yes; row = Rows.whole (Declared'.row Point.the-type); rd = λ x. x; mk = λ x. x } λ M 𝓤 H A W. record { copies = Laws'9.copy Point.the-type Laws'4.the-copy 𝓤 H A W; lawful = Laws'9.lawful Point.the-type Laws'4.the-laws 𝓤 H A W; makes = Laws'9.makes Point.the-type Laws'4.the-plain 𝓤 H A; in-mem = Local.mem-whole 𝓤 H A W (Declared'.row Point.the-type); of-mem = Local.whole-mem 𝓤 H A W (Declared'.row Point.the-type) }) List.[]))))))))
@@ -154,7 +154,7 @@ abbrev pub r·3 : Kinds.RK 1
 r·3 = Value.rVal record { ty = Declared'.row Node.the-type; one = Path'.refl; val = Laws'9.val Node.the-type Laws'7.the-laws; tells = Laws'9.tells Node.the-type Laws'7.the-laws; still = Laws'9.still Node.the-type Laws'7.the-copy Exit.yes; row = Rows.whole (Declared'.row Node.the-type); rd = λ x. x; mk = λ x. x } λ M 𝓤 H A W. record { copies = Laws'9.copy Node.the-type Laws'7.the-copy 𝓤 H A W; lawful = Laws'9.lawful Node.the-type Laws'7.the-laws 𝓤 H A W; makes = Laws'9.makes Node.the-type Laws'7.the-plain 𝓤 H A; in-mem = Local.mem-whole 𝓤 H A W (Declared'.row Node.the-type); of-mem = Local.whole-mem 𝓤 H A W (Declared'.row Node.the-type) }
 
 abbrev pub ps·4 : List.List (Kinds.PK 2)
-ps·4 = List._∷_ (ShrSlice.pShrS (Signed'.SInt Syntax.w32) 0 tt) (List._∷_ (ShrSlice.pShrS (Referent.rtF (Referent.fInt Syntax.w32)) 1 tt) (List._∷_ (Num.pNum Syntax.w32) (List._∷_ (Float.pFloat Ieee.binary64) (List._∷_ (Float.pFloat Ieee.binary64) (List._∷_ (Num.pNum Syntax.w32) (List._∷_ (Num.pNum Syntax.w32) (List._∷_ (Value.pVal record { ty = Declared'.row Point.the-type; one = Path'.refl; val = Laws'9.val Point.the-type Laws'4.the-laws; tells = Laws'9.tells Point.the-type Laws'4.the-laws; still = Laws'9.still Point.the-type Laws'4.the-copy Exit.yes; row = Rows.whole (Declared'.row Point.the-type); rd = λ x. x; mk = λ x. x } λ M 𝓤 H A W. record { copies = Laws'9.copy Point.the-type Laws'4.the-copy 𝓤 H A W; lawful = Laws'9.lawful Point.the-type Laws'4.the-laws 𝓤 H A W; makes = Laws'9.makes Point.the-type Laws'4.the-plain 𝓤 H A; in-mem = Local.mem-whole 𝓤 H A W (Declared'.row Point.the-type); of-mem = Local.whole-mem 𝓤 H A W (Declared'.row Point.the-type) }) (List._∷_ (Float.pFloat Ieee.binary64) (List._∷_ (Value.pVal record { ty = Declared'.row Point2.the-type; one = Path'.refl; val = Laws'9.val Point2.the-type Laws.the-laws; tells = Laws'9.tells Point2.the-type Laws.the-laws; still = Laws'9.still Point2.the-type Laws.the-copy Exit.yes; row = Rows.whole (Declared'.row Point2.the-type); rd = λ x. x; mk = λ x. x } λ M 𝓤 H A W. record { copies = Laws'9.copy Point2.the-type Laws.the-copy 𝓤 H A W; lawful = Laws'9.lawful Point2.the-type Laws.the-laws 𝓤 H A W; makes = Laws'9.makes Point2.the-type Laws.the-plain 𝓤 H A; in-mem = Local.mem-whole 𝓤 H A W (Declared'.row Point2.the-type); of-mem = Local.whole-mem 𝓤 H A W (Declared'.row Point2.the-type) }) List.[])))))))))
+ps·4 = List._∷_ (ShrSlice.pShrS (Signed'.SInt Syntax.w32) 0 tt) (List._∷_ (ShrSlice.pShrS (Referent.rtF (Referent.fInt Syntax.w32)) 1 tt) (List._∷_ (Num.pNum Syntax.w32) (List._∷_ (Float.pFloat Ieee.binary64) (List._∷_ (Float.pFloat Ieee.binary64) (List._∷_ (Num.pNum Syntax.w32) (List._∷_ (Num.pNum Syntax.w32) (List._∷_ (Num.pNum Syntax.w32) (List._∷_ (Value.pVal record { ty = Declared'.row Point.the-type; one = Path'.refl; val = Laws'9.val Point.the-type Laws'4.the-laws; tells = Laws'9.tells Point.the-type Laws'4.the-laws; still = Laws'9.still Point.the-type Laws'4.the-copy Exit.yes; row = Rows.whole (Declared'.row Point.the-type); rd = λ x. x; mk = λ x. x } λ M 𝓤 H A W. record { copies = Laws'9.copy Point.the-type Laws'4.the-copy 𝓤 H A W; lawful = Laws'9.lawful Point.the-type Laws'4.the-laws 𝓤 H A W; makes = Laws'9.makes Point.the-type Laws'4.the-plain 𝓤 H A; in-mem = Local.mem-whole 𝓤 H A W (Declared'.row Point.the-type); of-mem = Local.whole-mem 𝓤 H A W (Declared'.row Point.the-type) }) (List._∷_ (Float.pFloat Ieee.binary64) (List._∷_ (Value.pVal record { ty = Declared'.row Point2.the-type; one = Path'.refl; val = Laws'9.val Point2.the-type Laws.the-laws; tells = Laws'9.tells Point2.the-type Laws.the-laws; still = Laws'9.still Point2.the-type Laws.the-copy Exit.yes; row = Rows.whole (Declared'.row Point2.the-type); rd = λ x. x; mk = λ x. x } λ M 𝓤 H A W. record { copies = Laws'9.copy Point2.the-type Laws.the-copy 𝓤 H A W; lawful = Laws'9.lawful Point2.the-type Laws.the-laws 𝓤 H A W; makes = Laws'9.makes Point2.the-type Laws.the-plain 𝓤 H A; in-mem = Local.mem-whole 𝓤 H A W (Declared'.row Point2.the-type); of-mem = Local.whole-mem 𝓤 H A W (Declared'.row Point2.the-type) }) List.[]))))))))))
 
 abbrev pub r·4 : Kinds.RK 2
 r·4 = Value.rVal record { ty = Declared'.row Decision.the-type; one = Path'.refl; val = Laws'9.val Decision.the-type Laws''.the-laws; tells = Laws'9.tells Decision.the-type Laws''.the-laws; still = Laws'9.still Decision.the-type Laws''.the-copy Exit.yes; row = Rows.whole (Declared'.row Decision.the-type); rd = λ x. x; mk = λ x. x } λ M 𝓤 H A W. record { copies = Laws'9.copy Decision.the-type Laws''.the-copy 𝓤 H A W; lawful = Laws'9.lawful Decision.the-type Laws''.the-laws 𝓤 H A W; makes = Laws'9.makes Decision.the-type Laws''.the-plain 𝓤 H A; in-mem = Local.mem-whole 𝓤 H A W (Declared'.row Decision.the-type); of-mem = Local.whole-mem 𝓤 H A W (Declared'.row Decision.the-type) }
@@ -199,7 +199,7 @@ abbrev b11 : Syntax.Body
 b11 = Syntax.assign (Syntax.place 16 List.[]) (Syntax.op2 (Syntax.sub Syntax.unsigned) (Syntax.copy (Syntax.place 6 (List._∷_ (Syntax.field 1) List.[]))) (Syntax.copy (Syntax.place 6 (List._∷_ (Syntax.field 2) List.[]))))
 
 abbrev b12 : Syntax.Body
-b12 = Syntax.call "decide::decide_at" (List._∷_ (Syntax.copy (Syntax.place 1 List.[])) (List._∷_ (Syntax.copy (Syntax.place 2 List.[])) (List._∷_ (Syntax.copy (Syntax.place 12 (List._∷_ (Syntax.field 1) List.[]))) (List._∷_ (Syntax.copy (Syntax.place 12 (List._∷_ (Syntax.field 0) List.[]))) (List._∷_ (Syntax.copy (Syntax.place 13 (List._∷_ (Syntax.field 0) List.[]))) (List._∷_ (Syntax.copy (Syntax.place 16 List.[])) (List._∷_ (Syntax.copy (Syntax.place 7 (List._∷_ (Syntax.field 0) List.[]))) (List._∷_ (Syntax.copy (Syntax.place 9 List.[])) (List._∷_ (Syntax.copy (Syntax.place 10 List.[])) (List._∷_ (Syntax.copy (Syntax.place 8 List.[])) List.[])))))))))) (Syntax.place 0 List.[])
+b12 = Syntax.call "decide::decide_at" (List._∷_ (Syntax.copy (Syntax.place 1 List.[])) (List._∷_ (Syntax.copy (Syntax.place 2 List.[])) (List._∷_ (Syntax.copy (Syntax.place 12 (List._∷_ (Syntax.field 1) List.[]))) (List._∷_ (Syntax.copy (Syntax.place 12 (List._∷_ (Syntax.field 0) List.[]))) (List._∷_ (Syntax.copy (Syntax.place 13 (List._∷_ (Syntax.field 0) List.[]))) (List._∷_ (Syntax.copy (Syntax.place 16 List.[])) (List._∷_ (Syntax.copy (Syntax.place 11 List.[])) (List._∷_ (Syntax.copy (Syntax.place 7 (List._∷_ (Syntax.field 0) List.[]))) (List._∷_ (Syntax.copy (Syntax.place 9 List.[])) (List._∷_ (Syntax.copy (Syntax.place 10 List.[])) (List._∷_ (Syntax.copy (Syntax.place 8 List.[])) List.[]))))))))))) (Syntax.place 0 List.[])
 
 abbrev b13 : Syntax.Body
 b13 = Syntax.return
@@ -503,7 +503,7 @@ module _ (claims· : Claims) where
   s24 = Scalar.n-room T26 6 ty·10
 
   abbrev s25 : Typed.Both T27 T28
-  s25 = Call.callB ps·4 r·4 (claims· .8) (claims· .9) T27 (record { pos = 1; ty = Syntax.tyRef (Syntax.named 0) Syntax.imm ty·0; ref = λ x. x }, (record { pos = 2; ty = Syntax.tyRef (Syntax.named 1) Syntax.imm ty·0; ref = λ x. x }, (Num.vFld 12 (List._∷_ (Syntax.field 1) List.[]) 8 λ x. Node.struct .as-values x .1 .0, (Float.fFld 12 (List._∷_ (Syntax.field 0) List.[]) 0 λ x. Node.struct .as-values x .0, (Float.fFld 13 (List._∷_ (Syntax.field 0) List.[]) 0 λ x. Node.struct .as-values x .0, (Num.vAt 16 λ x. x, (Num.vFld 7 (List._∷_ (Syntax.field 0) List.[]) 0 λ x. Counts.struct .as-values x .0, (record { pos = 9; st = List.[]; d = 0; at = λ x. x }, (Float.fAt 10 λ x. x, (record { pos = 8; st = List.[]; d = 0; at = λ x. x }, tt)))))))))) 0 (List._∷_ 0 (List._∷_ 1 List.[])) ty·14
+  s25 = Call.callB ps·4 r·4 (claims· .8) (claims· .9) T27 (record { pos = 1; ty = Syntax.tyRef (Syntax.named 0) Syntax.imm ty·0; ref = λ x. x }, (record { pos = 2; ty = Syntax.tyRef (Syntax.named 1) Syntax.imm ty·0; ref = λ x. x }, (Num.vFld 12 (List._∷_ (Syntax.field 1) List.[]) 8 λ x. Node.struct .as-values x .1 .0, (Float.fFld 12 (List._∷_ (Syntax.field 0) List.[]) 0 λ x. Node.struct .as-values x .0, (Float.fFld 13 (List._∷_ (Syntax.field 0) List.[]) 0 λ x. Node.struct .as-values x .0, (Num.vAt 16 λ x. x, (Num.vAt 11 λ x. x, (Num.vFld 7 (List._∷_ (Syntax.field 0) List.[]) 0 λ x. Counts.struct .as-values x .0, (record { pos = 9; st = List.[]; d = 0; at = λ x. x }, (Float.fAt 10 λ x. x, (record { pos = 8; st = List.[]; d = 0; at = λ x. x }, tt))))))))))) 0 (List._∷_ 0 (List._∷_ 1 List.[])) ty·14
 
   abbrev s26 : Typed.Mo T28 → Typed.Mo T29
   s26 = Scalar.n-room T28 7 ty·9
@@ -845,7 +845,7 @@ module _ (claims· : Claims) where
           d22 = Typed.g-pre 𝓤 H A W 𝓣 E G28 G29 b13 Δ0 (Typed.pass T28 T29 s26) at21 (Scalar.g-room 𝓤 H A W E G28 7 ty·9 (Local.room-whole 𝓤 H A W (Declared'.row Counts.the-type) ty·9 Path'.refl)) d21
 
           d23 : Typed.Typed 𝓤 H A 𝓣 E G27 b14 Δ0 at23
-          d23 = Typed.s-seq 𝓤 H A W 𝓣 E G27 G28 b12 b13 Δ0 (Typed.both s25) at22 (Plain.t-call-plain 𝓤 H A W 𝓣 2 ps·4 r·4 (claims· .8) (claims· .9) "decide::decide_at" (known .4) E (λ pos β. β) G27 (record { pos = 1; ty = Syntax.tyRef (Syntax.named 0) Syntax.imm ty·0; ref = λ x. x }, (record { pos = 2; ty = Syntax.tyRef (Syntax.named 1) Syntax.imm ty·0; ref = λ x. x }, (Num.vFld 12 (List._∷_ (Syntax.field 1) List.[]) 8 λ x. Node.struct .as-values x .1 .0, (Float.fFld 12 (List._∷_ (Syntax.field 0) List.[]) 0 λ x. Node.struct .as-values x .0, (Float.fFld 13 (List._∷_ (Syntax.field 0) List.[]) 0 λ x. Node.struct .as-values x .0, (Num.vAt 16 λ x. x, (Num.vFld 7 (List._∷_ (Syntax.field 0) List.[]) 0 λ x. Counts.struct .as-values x .0, (record { pos = 9; st = List.[]; d = 0; at = λ x. x }, (Float.fAt 10 λ x. x, (record { pos = 8; st = List.[]; d = 0; at = λ x. x }, tt)))))))))) 0 (List._∷_ 0 (List._∷_ 1 List.[])) (Call.sub-id 𝓤 H A W (G27 .slots)) (ShrSlice.spares-sslice 𝓤 H A W (Signed'.SInt Syntax.w32) ty·2 0, Shared.reads-sslice 𝓤 H A W (Signed'.SInt Syntax.w32) ty·2 0, Path'.refl, (ShrSlice.spares-sslice 𝓤 H A W (Referent.rtF (Referent.fInt Syntax.w32)) ty·3 1, Shared.reads-sslice 𝓤 H A W (Referent.rtF (Referent.fInt Syntax.w32)) ty·3 1, Path'.refl, ((Reads.reads-field 𝓤 H A W Node.the-type Laws'7.the-laws 1 ty·0 8 Path'.refl, Path'.refl), ((Reads.reads-field 𝓤 H A W Node.the-type Laws'7.the-laws 0 ty·1 0 Path'.refl, Path'.refl), ((Reads.reads-field 𝓤 H A W Node.the-type Laws'7.the-laws 0 ty·1 0 Path'.refl, Path'.refl), ((Scalar.reads-sc 𝓤 H A W (Row.sInt Syntax.w32), Path'.refl), ((Reads.reads-field 𝓤 H A W Counts.the-type Laws'5.the-laws 0 ty·0 0 Path'.refl, Path'.refl), ((Yields.yields-copy 𝓤 H A W (λ ρ. Unit) (Declared'.row Point.the-type) Path'.refl (Copies.cStruct Point.the-type Laws'4.the-laws Laws'4.the-copy .copy 𝓤 H A W) (Rows.whole (Declared'.row Point.the-type)) (λ x. x) (λ x. x) (λ ρ told. Local.mem-whole 𝓤 H A W (Declared'.row Point.the-type) ρ) λ ρ told. Local.whole-mem 𝓤 H A W (Declared'.row Point.the-type) ρ, Path'.refl), ((Scalar.reads-sc 𝓤 H A W (Row.sFloat Ieee.binary64), Path'.refl), ((Yields.yields-copy 𝓤 H A W (λ ρ. Unit) (Declared'.row Point2.the-type) Path'.refl (Copies.cStruct Point2.the-type Laws.the-laws Laws.the-copy .copy 𝓤 H A W) (Rows.whole (Declared'.row Point2.the-type)) (λ x. x) (λ x. x) (λ ρ told. Local.mem-whole 𝓤 H A W (Declared'.row Point2.the-type) ρ) λ ρ told. Local.whole-mem 𝓤 H A W (Declared'.row Point2.the-type) ρ, Path'.refl), tt)))))))))) (Reads'.room-gone 𝓤 H A ty·14) (tt, (tt, tt)) Path'.refl) d22
+          d23 = Typed.s-seq 𝓤 H A W 𝓣 E G27 G28 b12 b13 Δ0 (Typed.both s25) at22 (Plain.t-call-plain 𝓤 H A W 𝓣 2 ps·4 r·4 (claims· .8) (claims· .9) "decide::decide_at" (known .4) E (λ pos β. β) G27 (record { pos = 1; ty = Syntax.tyRef (Syntax.named 0) Syntax.imm ty·0; ref = λ x. x }, (record { pos = 2; ty = Syntax.tyRef (Syntax.named 1) Syntax.imm ty·0; ref = λ x. x }, (Num.vFld 12 (List._∷_ (Syntax.field 1) List.[]) 8 λ x. Node.struct .as-values x .1 .0, (Float.fFld 12 (List._∷_ (Syntax.field 0) List.[]) 0 λ x. Node.struct .as-values x .0, (Float.fFld 13 (List._∷_ (Syntax.field 0) List.[]) 0 λ x. Node.struct .as-values x .0, (Num.vAt 16 λ x. x, (Num.vAt 11 λ x. x, (Num.vFld 7 (List._∷_ (Syntax.field 0) List.[]) 0 λ x. Counts.struct .as-values x .0, (record { pos = 9; st = List.[]; d = 0; at = λ x. x }, (Float.fAt 10 λ x. x, (record { pos = 8; st = List.[]; d = 0; at = λ x. x }, tt))))))))))) 0 (List._∷_ 0 (List._∷_ 1 List.[])) (Call.sub-id 𝓤 H A W (G27 .slots)) (ShrSlice.spares-sslice 𝓤 H A W (Signed'.SInt Syntax.w32) ty·2 0, Shared.reads-sslice 𝓤 H A W (Signed'.SInt Syntax.w32) ty·2 0, Path'.refl, (ShrSlice.spares-sslice 𝓤 H A W (Referent.rtF (Referent.fInt Syntax.w32)) ty·3 1, Shared.reads-sslice 𝓤 H A W (Referent.rtF (Referent.fInt Syntax.w32)) ty·3 1, Path'.refl, ((Reads.reads-field 𝓤 H A W Node.the-type Laws'7.the-laws 1 ty·0 8 Path'.refl, Path'.refl), ((Reads.reads-field 𝓤 H A W Node.the-type Laws'7.the-laws 0 ty·1 0 Path'.refl, Path'.refl), ((Reads.reads-field 𝓤 H A W Node.the-type Laws'7.the-laws 0 ty·1 0 Path'.refl, Path'.refl), ((Scalar.reads-sc 𝓤 H A W (Row.sInt Syntax.w32), Path'.refl), ((Scalar.reads-sc 𝓤 H A W (Row.sInt Syntax.w32), Path'.refl), ((Reads.reads-field 𝓤 H A W Counts.the-type Laws'5.the-laws 0 ty·0 0 Path'.refl, Path'.refl), ((Yields.yields-copy 𝓤 H A W (λ ρ. Unit) (Declared'.row Point.the-type) Path'.refl (Copies.cStruct Point.the-type Laws'4.the-laws Laws'4.the-copy .copy 𝓤 H A W) (Rows.whole (Declared'.row Point.the-type)) (λ x. x) (λ x. x) (λ ρ told. Local.mem-whole 𝓤 H A W (Declared'.row Point.the-type) ρ) λ ρ told. Local.whole-mem 𝓤 H A W (Declared'.row Point.the-type) ρ, Path'.refl), ((Scalar.reads-sc 𝓤 H A W (Row.sFloat Ieee.binary64), Path'.refl), ((Yields.yields-copy 𝓤 H A W (λ ρ. Unit) (Declared'.row Point2.the-type) Path'.refl (Copies.cStruct Point2.the-type Laws.the-laws Laws.the-copy .copy 𝓤 H A W) (Rows.whole (Declared'.row Point2.the-type)) (λ x. x) (λ x. x) (λ ρ told. Local.mem-whole 𝓤 H A W (Declared'.row Point2.the-type) ρ) λ ρ told. Local.whole-mem 𝓤 H A W (Declared'.row Point2.the-type) ρ, Path'.refl), tt))))))))))) (Reads'.room-gone 𝓤 H A ty·14) (tt, (tt, tt)) Path'.refl) d22
 
           d24 : Typed.Typed 𝓤 H A 𝓣 E G26 b14 Δ0 at24
           d24 = Typed.g-pre 𝓤 H A W 𝓣 E G26 G27 b14 Δ0 (Typed.pass T26 T27 s24) at23 (Scalar.g-room 𝓤 H A W E G26 6 ty·10 (Local.room-whole 𝓤 H A W (Declared'.row Hull.the-type) ty·10 Path'.refl)) d23
@@ -1172,14 +1172,14 @@ module _ (claims· : Claims) where
 
       module _ (before· : After-struct-known) where
         abbrev pub After-decide-at·own : Type 0
-        After-decide-at·own = Called.Called ps·4 r·4 (claims· .9) T27 (record { pos = 1; ty = Syntax.tyRef (Syntax.named 0) Syntax.imm ty·0; ref = λ x. x }, (record { pos = 2; ty = Syntax.tyRef (Syntax.named 1) Syntax.imm ty·0; ref = λ x. x }, (Num.vFld 12 (List._∷_ (Syntax.field 1) List.[]) 8 λ x. Node.struct .as-values x .1 .0, (Float.fFld 12 (List._∷_ (Syntax.field 0) List.[]) 0 λ x. Node.struct .as-values x .0, (Float.fFld 13 (List._∷_ (Syntax.field 0) List.[]) 0 λ x. Node.struct .as-values x .0, (Num.vAt 16 λ x. x, (Num.vFld 7 (List._∷_ (Syntax.field 0) List.[]) 0 λ x. Counts.struct .as-values x .0, (record { pos = 9; st = List.[]; d = 0; at = λ x. x }, (Float.fAt 10 λ x. x, (record { pos = 8; st = List.[]; d = 0; at = λ x. x }, tt)))))))))) (m25 (before· .before) (before· .struct-known .given))
+        After-decide-at·own = Called.Called ps·4 r·4 (claims· .9) T27 (record { pos = 1; ty = Syntax.tyRef (Syntax.named 0) Syntax.imm ty·0; ref = λ x. x }, (record { pos = 2; ty = Syntax.tyRef (Syntax.named 1) Syntax.imm ty·0; ref = λ x. x }, (Num.vFld 12 (List._∷_ (Syntax.field 1) List.[]) 8 λ x. Node.struct .as-values x .1 .0, (Float.fFld 12 (List._∷_ (Syntax.field 0) List.[]) 0 λ x. Node.struct .as-values x .0, (Float.fFld 13 (List._∷_ (Syntax.field 0) List.[]) 0 λ x. Node.struct .as-values x .0, (Num.vAt 16 λ x. x, (Num.vAt 11 λ x. x, (Num.vFld 7 (List._∷_ (Syntax.field 0) List.[]) 0 λ x. Counts.struct .as-values x .0, (record { pos = 9; st = List.[]; d = 0; at = λ x. x }, (Float.fAt 10 λ x. x, (record { pos = 8; st = List.[]; d = 0; at = λ x. x }, tt))))))))))) (m25 (before· .before) (before· .struct-known .given))
 
       pub record After-decide-at : Type 0 where
         pub before : After-struct-known
         pub decide-at : After-decide-at·own before
 
       abbrev pub After-decide-at·gave : (c : After-decide-at) → s25 .gives (m25 (c .before .before) (c .before .struct-known .given))
-      After-decide-at·gave = λ c. Called.given ps·4 r·4 (claims· .9) T27 (record { pos = 1; ty = Syntax.tyRef (Syntax.named 0) Syntax.imm ty·0; ref = λ x. x }, (record { pos = 2; ty = Syntax.tyRef (Syntax.named 1) Syntax.imm ty·0; ref = λ x. x }, (Num.vFld 12 (List._∷_ (Syntax.field 1) List.[]) 8 λ x. Node.struct .as-values x .1 .0, (Float.fFld 12 (List._∷_ (Syntax.field 0) List.[]) 0 λ x. Node.struct .as-values x .0, (Float.fFld 13 (List._∷_ (Syntax.field 0) List.[]) 0 λ x. Node.struct .as-values x .0, (Num.vAt 16 λ x. x, (Num.vFld 7 (List._∷_ (Syntax.field 0) List.[]) 0 λ x. Counts.struct .as-values x .0, (record { pos = 9; st = List.[]; d = 0; at = λ x. x }, (Float.fAt 10 λ x. x, (record { pos = 8; st = List.[]; d = 0; at = λ x. x }, tt)))))))))) (m25 (c .before .before) (c .before .struct-known .given)) (c .decide-at)
+      After-decide-at·gave = λ c. Called.given ps·4 r·4 (claims· .9) T27 (record { pos = 1; ty = Syntax.tyRef (Syntax.named 0) Syntax.imm ty·0; ref = λ x. x }, (record { pos = 2; ty = Syntax.tyRef (Syntax.named 1) Syntax.imm ty·0; ref = λ x. x }, (Num.vFld 12 (List._∷_ (Syntax.field 1) List.[]) 8 λ x. Node.struct .as-values x .1 .0, (Float.fFld 12 (List._∷_ (Syntax.field 0) List.[]) 0 λ x. Node.struct .as-values x .0, (Float.fFld 13 (List._∷_ (Syntax.field 0) List.[]) 0 λ x. Node.struct .as-values x .0, (Num.vAt 16 λ x. x, (Num.vAt 11 λ x. x, (Num.vFld 7 (List._∷_ (Syntax.field 0) List.[]) 0 λ x. Counts.struct .as-values x .0, (record { pos = 9; st = List.[]; d = 0; at = λ x. x }, (Float.fAt 10 λ x. x, (record { pos = 8; st = List.[]; d = 0; at = λ x. x }, tt))))))))))) (m25 (c .before .before) (c .before .struct-known .given)) (c .decide-at)
 
       abbrev pub m27 : (before : After-struct-known) → (given : s25 .gives (m25 (before .before) (before .struct-known .given))) → Typed.Mo T29
       m27 = λ before given. s26 (m26 before given)
@@ -1213,7 +1213,7 @@ module _ (claims· : Claims) where
         lay7 = λ c. ((Path'.refl, (Path'.refl, (Path'.refl, (Path'.refl, (Path'.refl, (tt, (tt, (tt, (tt, tt))))))))), returns-2 record { before = c .before; decide-at = c .decide-at })
 
         lay6 : (c : After-load2) → at26 (W0 (c .before .before .before .before .before .before .before .before .before .before .before .before .κs) (c .before .before .before .before .before .before .before .before .before .before .before .before .args)) (m22 (c .before) (After-load2·gave c))
-        lay6 = λ c. λ g. (sub-decide-at record { before = record { before = c .before; load2 = c .load2 }; struct-known = record { given = g } }, (decide-at-requires record { before = record { before = c .before; load2 = c .load2 }; struct-known = record { given = g } }, λ g'. lay7 record { before = record { before = record { before = c .before; load2 = c .load2 }; struct-known = record { given = g } }; decide-at = Called.called ps·4 r·4 (claims· .9) T27 (record { pos = 1; ty = Syntax.tyRef (Syntax.named 0) Syntax.imm ty·0; ref = λ x. x }, (record { pos = 2; ty = Syntax.tyRef (Syntax.named 1) Syntax.imm ty·0; ref = λ x. x }, (Num.vFld 12 (List._∷_ (Syntax.field 1) List.[]) 8 λ x. Node.struct .as-values x .1 .0, (Float.fFld 12 (List._∷_ (Syntax.field 0) List.[]) 0 λ x. Node.struct .as-values x .0, (Float.fFld 13 (List._∷_ (Syntax.field 0) List.[]) 0 λ x. Node.struct .as-values x .0, (Num.vAt 16 λ x. x, (Num.vFld 7 (List._∷_ (Syntax.field 0) List.[]) 0 λ x. Counts.struct .as-values x .0, (record { pos = 9; st = List.[]; d = 0; at = λ x. x }, (Float.fAt 10 λ x. x, (record { pos = 8; st = List.[]; d = 0; at = λ x. x }, tt)))))))))) (m25 record { before = c .before; load2 = c .load2 } g) g' }))
+        lay6 = λ c. λ g. (sub-decide-at record { before = record { before = c .before; load2 = c .load2 }; struct-known = record { given = g } }, (decide-at-requires record { before = record { before = c .before; load2 = c .load2 }; struct-known = record { given = g } }, λ g'. lay7 record { before = record { before = record { before = c .before; load2 = c .load2 }; struct-known = record { given = g } }; decide-at = Called.called ps·4 r·4 (claims· .9) T27 (record { pos = 1; ty = Syntax.tyRef (Syntax.named 0) Syntax.imm ty·0; ref = λ x. x }, (record { pos = 2; ty = Syntax.tyRef (Syntax.named 1) Syntax.imm ty·0; ref = λ x. x }, (Num.vFld 12 (List._∷_ (Syntax.field 1) List.[]) 8 λ x. Node.struct .as-values x .1 .0, (Float.fFld 12 (List._∷_ (Syntax.field 0) List.[]) 0 λ x. Node.struct .as-values x .0, (Float.fFld 13 (List._∷_ (Syntax.field 0) List.[]) 0 λ x. Node.struct .as-values x .0, (Num.vAt 16 λ x. x, (Num.vAt 11 λ x. x, (Num.vFld 7 (List._∷_ (Syntax.field 0) List.[]) 0 λ x. Counts.struct .as-values x .0, (record { pos = 9; st = List.[]; d = 0; at = λ x. x }, (Float.fAt 10 λ x. x, (record { pos = 8; st = List.[]; d = 0; at = λ x. x }, tt))))))))))) (m25 record { before = c .before; load2 = c .load2 } g) g' }))
 
         lay5 : (c : After-load) → at27 (W0 (c .before .before .before .before .before .before .before .before .before .before .before .κs) (c .before .before .before .before .before .before .before .before .before .before .before .args)) (m21 (c .before) (After-load·gave c))
         lay5 = λ c. (load-requires-2 record { before = c .before; load = c .load }, λ g. lay6 record { before = record { before = c .before; load = c .load }; load2 = Called.called ps·3 r·3 (claims· .7) T23 (record { pos = 3; ty = Syntax.tyRef (Syntax.named 2) Syntax.imm (ELEMMEM.pointee (Node.the-row .written)); ref = λ x. x }, (Num.vFld 12 (List._∷_ (Syntax.field 3) List.[]) 16 λ x. Node.struct .as-values x .1 .1 .1 .0, tt)) (m21 (c .before) (After-load·gave c)) g })

@@ -91,7 +91,7 @@ abbrev ty·12 : Syntax.Ty
 ty·12 = Syntax.tyStruct (List._∷_ 114 (List._∷_ 105 (List._∷_ 110 (List._∷_ 103 (List._∷_ 95 (List._∷_ 114 (List._∷_ 111 (List._∷_ 119 (List._∷_ 115 (List._∷_ 58 (List._∷_ 58 (List._∷_ 72 (List._∷_ 117 (List._∷_ 108 (List._∷_ 108 List.[]))))))))))))))) (Syntax.tcons ty·0 (Syntax.tcons ty·0 (Syntax.tcons ty·0 Syntax.tnil)))
 
 abbrev pub ps : List.List (Kinds.PK 3)
-ps = List._∷_ (MutSlice.pMutS ELEM.the-row 0 tt) (List._∷_ (MutSlice.pMutS (Referent.rtF (Referent.fInt Syntax.w32)) 1 tt) (List._∷_ (MutSlice.pMutS (Referent.rtF (Referent.fInt Syntax.w32)) 2 tt) (List._∷_ (Value.pVal record { ty = Declared.row Hull.the-type; one = Path'.refl; val = Laws'.val Hull.the-type Laws.the-laws; tells = Laws'.tells Hull.the-type Laws.the-laws; still = Laws'.still Hull.the-type Laws.the-copy Exit.yes; row = Rows.whole (Declared.row Hull.the-type); rd = λ x. x; mk = λ x. x } λ M 𝓤 H A W. record { copies = Laws'.copy Hull.the-type Laws.the-copy 𝓤 H A W; lawful = Laws'.lawful Hull.the-type Laws.the-laws 𝓤 H A W; makes = Laws'.makes Hull.the-type Laws.the-plain 𝓤 H A; in-mem = Local.mem-whole 𝓤 H A W (Declared.row Hull.the-type); of-mem = Local.whole-mem 𝓤 H A W (Declared.row Hull.the-type) }) (List._∷_ (Float.pFloat Ieee.binary64) (List._∷_ (Float.pFloat Ieee.binary64) (List._∷_ (Float.pFloat Ieee.binary64) (List._∷_ (Num.pNum Syntax.w32) (List._∷_ (Num.pNum Syntax.w32) List.[]))))))))
+ps = List._∷_ (MutSlice.pMutS ELEM.the-row 0 tt) (List._∷_ (MutSlice.pMutS (Referent.rtF (Referent.fInt Syntax.w32)) 1 tt) (List._∷_ (MutSlice.pMutS (Referent.rtF (Referent.fInt Syntax.w32)) 2 tt) (List._∷_ (Value.pVal record { ty = Declared.row Hull.the-type; one = Path'.refl; val = Laws'.val Hull.the-type Laws.the-laws; tells = Laws'.tells Hull.the-type Laws.the-laws; still = Laws'.still Hull.the-type Laws.the-copy Exit.yes; row = Rows.whole (Declared.row Hull.the-type); rd = λ x. x; mk = λ x. x } λ M 𝓤 H A W. record { copies = Laws'.copy Hull.the-type Laws.the-copy 𝓤 H A W; lawful = Laws'.lawful Hull.the-type Laws.the-laws 𝓤 H A W; makes = Laws'.makes Hull.the-type Laws.the-plain 𝓤 H A; in-mem = Local.mem-whole 𝓤 H A W (Declared.row Hull.the-type); of-mem = Local.whole-mem 𝓤 H A W (Declared.row Hull.the-type) }) (List._∷_ (Num.pNum Syntax.w32) (List._∷_ (Float.pFloat Ieee.binary64) (List._∷_ (Float.pFloat Ieee.binary64) (List._∷_ (Float.pFloat Ieee.binary64) (List._∷_ (Num.pNum Syntax.w32) (List._∷_ (Num.pNum Syntax.w32) List.[])))))))))
 
 abbrev pub r : Kinds.RK 3
 r = Value.rVal record { ty = Declared.row Hull.the-type; one = Path'.refl; val = Laws'.val Hull.the-type Laws.the-laws; tells = Laws'.tells Hull.the-type Laws.the-laws; still = Laws'.still Hull.the-type Laws.the-copy Exit.yes; row = Rows.whole (Declared.row Hull.the-type); rd = λ x. x; mk = λ x. x } λ M 𝓤 H A W. record { copies = Laws'.copy Hull.the-type Laws.the-copy 𝓤 H A W; lawful = Laws'.lawful Hull.the-type Laws.the-laws 𝓤 H A W; makes = Laws'.makes Hull.the-type Laws.the-plain 𝓤 H A; in-mem = Local.mem-whole 𝓤 H A W (Declared.row Hull.the-type); of-mem = Local.whole-mem 𝓤 H A W (Declared.row Hull.the-type) }
@@ -103,7 +103,7 @@ abbrev pub m : Nat.ℕ
 m = 5
 
 abbrev pub ps·0 : List.List (Kinds.PK 3)
-ps·0 = List._∷_ (MutSlice.pMutS ELEM.the-row 0 tt) (List._∷_ (MutSlice.pMutS (Referent.rtF (Referent.fInt Syntax.w32)) 1 tt) (List._∷_ (MutSlice.pMutS (Referent.rtF (Referent.fInt Syntax.w32)) 2 tt) (List._∷_ (Value.pVal record { ty = Declared.row Hull.the-type; one = Path'.refl; val = Laws'.val Hull.the-type Laws.the-laws; tells = Laws'.tells Hull.the-type Laws.the-laws; still = Laws'.still Hull.the-type Laws.the-copy Exit.yes; row = Rows.whole (Declared.row Hull.the-type); rd = λ x. x; mk = λ x. x } λ M 𝓤 H A W. record { copies = Laws'.copy Hull.the-type Laws.the-copy 𝓤 H A W; lawful = Laws'.lawful Hull.the-type Laws.the-laws 𝓤 H A W; makes = Laws'.makes Hull.the-type Laws.the-plain 𝓤 H A; in-mem = Local.mem-whole 𝓤 H A W (Declared.row Hull.the-type); of-mem = Local.whole-mem 𝓤 H A W (Declared.row Hull.the-type) }) (List._∷_ (Float.pFloat Ieee.binary64) (List._∷_ (Float.pFloat Ieee.binary64) (List._∷_ (Float.pFloat Ieee.binary64) (List._∷_ (Num.pNum Syntax.w32) (List._∷_ (Num.pNum Syntax.w32) List.[]))))))))
+ps·0 = List._∷_ (MutSlice.pMutS ELEM.the-row 0 tt) (List._∷_ (MutSlice.pMutS (Referent.rtF (Referent.fInt Syntax.w32)) 1 tt) (List._∷_ (MutSlice.pMutS (Referent.rtF (Referent.fInt Syntax.w32)) 2 tt) (List._∷_ (Value.pVal record { ty = Declared.row Hull.the-type; one = Path'.refl; val = Laws'.val Hull.the-type Laws.the-laws; tells = Laws'.tells Hull.the-type Laws.the-laws; still = Laws'.still Hull.the-type Laws.the-copy Exit.yes; row = Rows.whole (Declared.row Hull.the-type); rd = λ x. x; mk = λ x. x } λ M 𝓤 H A W. record { copies = Laws'.copy Hull.the-type Laws.the-copy 𝓤 H A W; lawful = Laws'.lawful Hull.the-type Laws.the-laws 𝓤 H A W; makes = Laws'.makes Hull.the-type Laws.the-plain 𝓤 H A; in-mem = Local.mem-whole 𝓤 H A W (Declared.row Hull.the-type); of-mem = Local.whole-mem 𝓤 H A W (Declared.row Hull.the-type) }) (List._∷_ (Num.pNum Syntax.w32) (List._∷_ (Float.pFloat Ieee.binary64) (List._∷_ (Float.pFloat Ieee.binary64) (List._∷_ (Float.pFloat Ieee.binary64) (List._∷_ (Num.pNum Syntax.w32) (List._∷_ (Num.pNum Syntax.w32) List.[])))))))))
 
 abbrev pub r·0 : Kinds.RK 3
 r·0 = Value.rVal record { ty = Declared.row Hull.the-type; one = Path'.refl; val = Laws'.val Hull.the-type Laws.the-laws; tells = Laws'.tells Hull.the-type Laws.the-laws; still = Laws'.still Hull.the-type Laws.the-copy Exit.yes; row = Rows.whole (Declared.row Hull.the-type); rd = λ x. x; mk = λ x. x } λ M 𝓤 H A W. record { copies = Laws'.copy Hull.the-type Laws.the-copy 𝓤 H A W; lawful = Laws'.lawful Hull.the-type Laws.the-laws 𝓤 H A W; makes = Laws'.makes Hull.the-type Laws.the-plain 𝓤 H A; in-mem = Local.mem-whole 𝓤 H A W (Declared.row Hull.the-type); of-mem = Local.whole-mem 𝓤 H A W (Declared.row Hull.the-type) }
@@ -115,43 +115,43 @@ abbrev pub r·1 : Kinds.RK 2
 r·1 = Value.rVal record { ty = Declared.row Hull.the-type; one = Path'.refl; val = Laws'.val Hull.the-type Laws.the-laws; tells = Laws'.tells Hull.the-type Laws.the-laws; still = Laws'.still Hull.the-type Laws.the-copy Exit.yes; row = Rows.whole (Declared.row Hull.the-type); rd = λ x. x; mk = λ x. x } λ M 𝓤 H A W. record { copies = Laws'.copy Hull.the-type Laws.the-copy 𝓤 H A W; lawful = Laws'.lawful Hull.the-type Laws.the-laws 𝓤 H A W; makes = Laws'.makes Hull.the-type Laws.the-plain 𝓤 H A; in-mem = Local.mem-whole 𝓤 H A W (Declared.row Hull.the-type); of-mem = Local.whole-mem 𝓤 H A W (Declared.row Hull.the-type) }
 
 abbrev pub hs : List.List Syntax.Home
-hs = List._∷_ Syntax.valueLocal (List._∷_ Syntax.valueLocal (List._∷_ Syntax.valueLocal (List._∷_ Syntax.valueLocal (List._∷_ Syntax.valueLocal (List._∷_ Syntax.valueLocal (List._∷_ Syntax.valueLocal (List._∷_ Syntax.valueLocal (List._∷_ Syntax.valueLocal (List._∷_ Syntax.valueLocal (List._∷_ Syntax.valueLocal (List._∷_ Syntax.valueLocal (List._∷_ Syntax.valueLocal (List._∷_ Syntax.valueLocal (List._∷_ Syntax.valueLocal (List._∷_ Syntax.valueLocal (List._∷_ Syntax.valueLocal (List._∷_ Syntax.valueLocal (List._∷_ Syntax.valueLocal (List._∷_ Syntax.valueLocal (List._∷_ Syntax.valueLocal List.[]))))))))))))))))))))
+hs = List._∷_ Syntax.valueLocal (List._∷_ Syntax.valueLocal (List._∷_ Syntax.valueLocal (List._∷_ Syntax.valueLocal (List._∷_ Syntax.valueLocal (List._∷_ Syntax.valueLocal (List._∷_ Syntax.valueLocal (List._∷_ Syntax.valueLocal (List._∷_ Syntax.valueLocal (List._∷_ Syntax.valueLocal (List._∷_ Syntax.valueLocal (List._∷_ Syntax.valueLocal (List._∷_ Syntax.valueLocal (List._∷_ Syntax.valueLocal (List._∷_ Syntax.valueLocal (List._∷_ Syntax.valueLocal (List._∷_ Syntax.valueLocal (List._∷_ Syntax.valueLocal (List._∷_ Syntax.valueLocal (List._∷_ Syntax.valueLocal (List._∷_ Syntax.valueLocal (List._∷_ Syntax.valueLocal List.[])))))))))))))))))))))
 
 abbrev b0 : Syntax.Body
-b0 = Syntax.assign (Syntax.place 11 List.[]) (Syntax.addrOf (Syntax.place 1 (List._∷_ (Syntax.field 0) (List._∷_ (Syntax.deref (ELEMMEM.lone (ELEM.the-row .mir))) List.[]))))
+b0 = Syntax.assign (Syntax.place 12 List.[]) (Syntax.addrOf (Syntax.place 1 (List._∷_ (Syntax.field 0) (List._∷_ (Syntax.deref (ELEMMEM.lone (ELEM.the-row .mir))) List.[]))))
 
 abbrev b1 : Syntax.Body
-b1 = Syntax.assign (Syntax.place 12 List.[]) (Syntax.aggregate (List._∷_ (Syntax.copy (Syntax.place 11 List.[])) (List._∷_ (Syntax.copy (Syntax.place 1 (List._∷_ (Syntax.field 1) List.[]))) List.[])))
+b1 = Syntax.assign (Syntax.place 13 List.[]) (Syntax.aggregate (List._∷_ (Syntax.copy (Syntax.place 12 List.[])) (List._∷_ (Syntax.copy (Syntax.place 1 (List._∷_ (Syntax.field 1) List.[]))) List.[])))
 
 abbrev b2 : Syntax.Body
-b2 = Syntax.assign (Syntax.place 13 List.[]) (Syntax.addrOf (Syntax.place 2 (List._∷_ (Syntax.field 0) (List._∷_ (Syntax.deref ty·0) List.[]))))
+b2 = Syntax.assign (Syntax.place 14 List.[]) (Syntax.addrOf (Syntax.place 2 (List._∷_ (Syntax.field 0) (List._∷_ (Syntax.deref ty·0) List.[]))))
 
 abbrev b3 : Syntax.Body
-b3 = Syntax.assign (Syntax.place 14 List.[]) (Syntax.aggregate (List._∷_ (Syntax.copy (Syntax.place 13 List.[])) (List._∷_ (Syntax.copy (Syntax.place 2 (List._∷_ (Syntax.field 1) List.[]))) List.[])))
+b3 = Syntax.assign (Syntax.place 15 List.[]) (Syntax.aggregate (List._∷_ (Syntax.copy (Syntax.place 14 List.[])) (List._∷_ (Syntax.copy (Syntax.place 2 (List._∷_ (Syntax.field 1) List.[]))) List.[])))
 
 abbrev b4 : Syntax.Body
-b4 = Syntax.assign (Syntax.place 15 List.[]) (Syntax.addrOf (Syntax.place 3 (List._∷_ (Syntax.field 0) (List._∷_ (Syntax.deref ty·0) List.[]))))
+b4 = Syntax.assign (Syntax.place 16 List.[]) (Syntax.addrOf (Syntax.place 3 (List._∷_ (Syntax.field 0) (List._∷_ (Syntax.deref ty·0) List.[]))))
 
 abbrev b5 : Syntax.Body
-b5 = Syntax.assign (Syntax.place 16 List.[]) (Syntax.aggregate (List._∷_ (Syntax.copy (Syntax.place 15 List.[])) (List._∷_ (Syntax.copy (Syntax.place 3 (List._∷_ (Syntax.field 1) List.[]))) List.[])))
+b5 = Syntax.assign (Syntax.place 17 List.[]) (Syntax.aggregate (List._∷_ (Syntax.copy (Syntax.place 16 List.[])) (List._∷_ (Syntax.copy (Syntax.place 3 (List._∷_ (Syntax.field 1) List.[]))) List.[])))
 
 abbrev b6 : Syntax.Body
-b6 = Syntax.call "ring_insert::insert" (List._∷_ (Syntax.copy (Syntax.place 12 List.[])) (List._∷_ (Syntax.copy (Syntax.place 14 List.[])) (List._∷_ (Syntax.copy (Syntax.place 16 List.[])) (List._∷_ (Syntax.copy (Syntax.place 4 List.[])) (List._∷_ (Syntax.copy (Syntax.place 5 List.[])) (List._∷_ (Syntax.copy (Syntax.place 6 List.[])) (List._∷_ (Syntax.copy (Syntax.place 7 List.[])) (List._∷_ (Syntax.copy (Syntax.place 8 List.[])) (List._∷_ (Syntax.copy (Syntax.place 9 List.[])) List.[]))))))))) (Syntax.place 10 List.[])
+b6 = Syntax.call "ring_insert::insert" (List._∷_ (Syntax.copy (Syntax.place 13 List.[])) (List._∷_ (Syntax.copy (Syntax.place 15 List.[])) (List._∷_ (Syntax.copy (Syntax.place 17 List.[])) (List._∷_ (Syntax.copy (Syntax.place 4 List.[])) (List._∷_ (Syntax.copy (Syntax.place 5 List.[])) (List._∷_ (Syntax.copy (Syntax.place 6 List.[])) (List._∷_ (Syntax.copy (Syntax.place 7 List.[])) (List._∷_ (Syntax.copy (Syntax.place 8 List.[])) (List._∷_ (Syntax.copy (Syntax.place 9 List.[])) (List._∷_ (Syntax.copy (Syntax.place 10 List.[])) List.[])))))))))) (Syntax.place 11 List.[])
 
 abbrev b7 : Syntax.Body
-b7 = Syntax.assign (Syntax.place 17 List.[]) (Syntax.addrOf (Syntax.place 1 (List._∷_ (Syntax.field 0) (List._∷_ (Syntax.deref (ELEMMEM.lone (ELEM.the-row .mir))) List.[]))))
+b7 = Syntax.assign (Syntax.place 18 List.[]) (Syntax.addrOf (Syntax.place 1 (List._∷_ (Syntax.field 0) (List._∷_ (Syntax.deref (ELEMMEM.lone (ELEM.the-row .mir))) List.[]))))
 
 abbrev b8 : Syntax.Body
-b8 = Syntax.assign (Syntax.place 18 List.[]) (Syntax.aggregate (List._∷_ (Syntax.copy (Syntax.place 17 List.[])) (List._∷_ (Syntax.copy (Syntax.place 1 (List._∷_ (Syntax.field 1) List.[]))) List.[])))
+b8 = Syntax.assign (Syntax.place 19 List.[]) (Syntax.aggregate (List._∷_ (Syntax.copy (Syntax.place 18 List.[])) (List._∷_ (Syntax.copy (Syntax.place 1 (List._∷_ (Syntax.field 1) List.[]))) List.[])))
 
 abbrev b9 : Syntax.Body
-b9 = Syntax.assign (Syntax.place 19 List.[]) (Syntax.addrOf (Syntax.place 3 (List._∷_ (Syntax.field 0) (List._∷_ (Syntax.deref ty·0) List.[]))))
+b9 = Syntax.assign (Syntax.place 20 List.[]) (Syntax.addrOf (Syntax.place 3 (List._∷_ (Syntax.field 0) (List._∷_ (Syntax.deref ty·0) List.[]))))
 
 abbrev b10 : Syntax.Body
-b10 = Syntax.assign (Syntax.place 20 List.[]) (Syntax.aggregate (List._∷_ (Syntax.copy (Syntax.place 19 List.[])) (List._∷_ (Syntax.copy (Syntax.place 3 (List._∷_ (Syntax.field 1) List.[]))) List.[])))
+b10 = Syntax.assign (Syntax.place 21 List.[]) (Syntax.aggregate (List._∷_ (Syntax.copy (Syntax.place 20 List.[])) (List._∷_ (Syntax.copy (Syntax.place 3 (List._∷_ (Syntax.field 1) List.[]))) List.[])))
 
 abbrev b11 : Syntax.Body
-b11 = Syntax.call "ring_insert::adjust_bucket_size_if_necessary" (List._∷_ (Syntax.copy (Syntax.place 18 List.[])) (List._∷_ (Syntax.copy (Syntax.place 20 List.[])) (List._∷_ (Syntax.copy (Syntax.place 10 List.[])) List.[]))) (Syntax.place 0 List.[])
+b11 = Syntax.call "ring_insert::adjust_bucket_size_if_necessary" (List._∷_ (Syntax.copy (Syntax.place 19 List.[])) (List._∷_ (Syntax.copy (Syntax.place 21 List.[])) (List._∷_ (Syntax.copy (Syntax.place 11 List.[])) List.[]))) (Syntax.place 0 List.[])
 
 abbrev b12 : Syntax.Body
 b12 = Syntax.return
@@ -199,100 +199,103 @@ abbrev pub Claims : Type 1
 Claims = Kinds.In 3 ps·0 × Kinds.Out 3 ps·0 r·0 × Kinds.In 2 ps·1 × Kinds.Out 2 ps·1 r·1
 
 abbrev pub t0 : List.List Row.Entry
-t0 = List._∷_ (0, Rows.any-gone ty·12) (List._∷_ (1, Mut.mslice ELEM.the-row ty·8 0) (List._∷_ (2, Mut.mslice (Referent.rtF (Referent.fInt Syntax.w32)) ty·4 1) (List._∷_ (3, Mut.mslice (Referent.rtF (Referent.fInt Syntax.w32)) ty·5 2) (List._∷_ (4, Rows.whole (Declared.row Hull.the-type)) (List._∷_ (5, Rows.sc-here (Row.sFloat Ieee.binary64)) (List._∷_ (6, Rows.sc-here (Row.sFloat Ieee.binary64)) (List._∷_ (7, Rows.sc-here (Row.sFloat Ieee.binary64)) (List._∷_ (8, Rows.sc-here (Row.sInt Syntax.w32)) (List._∷_ (9, Rows.sc-here (Row.sInt Syntax.w32)) (List._∷_ (10, Rows.any-gone ty·12) (List._∷_ (11, Rows.any-gone ty·7) (List._∷_ (12, Rows.any-gone ty·11) (List._∷_ (13, Rows.any-gone ty·3) (List._∷_ (14, Rows.any-gone ty·9) (List._∷_ (15, Rows.any-gone ty·3) List.[])))))))))))))))
+t0 = List._∷_ (0, Rows.any-gone ty·12) (List._∷_ (1, Mut.mslice ELEM.the-row ty·8 0) (List._∷_ (2, Mut.mslice (Referent.rtF (Referent.fInt Syntax.w32)) ty·4 1) (List._∷_ (3, Mut.mslice (Referent.rtF (Referent.fInt Syntax.w32)) ty·5 2) (List._∷_ (4, Rows.whole (Declared.row Hull.the-type)) (List._∷_ (5, Rows.sc-here (Row.sInt Syntax.w32)) (List._∷_ (6, Rows.sc-here (Row.sFloat Ieee.binary64)) (List._∷_ (7, Rows.sc-here (Row.sFloat Ieee.binary64)) (List._∷_ (8, Rows.sc-here (Row.sFloat Ieee.binary64)) (List._∷_ (9, Rows.sc-here (Row.sInt Syntax.w32)) (List._∷_ (10, Rows.sc-here (Row.sInt Syntax.w32)) (List._∷_ (11, Rows.any-gone ty·12) (List._∷_ (12, Rows.any-gone ty·7) (List._∷_ (13, Rows.any-gone ty·11) (List._∷_ (14, Rows.any-gone ty·3) (List._∷_ (15, Rows.any-gone ty·9) List.[])))))))))))))))
 
 abbrev pub t1 : List.List Row.Entry
-t1 = List._∷_ (16, Rows.any-gone ty·9) (List._∷_ (17, Rows.any-gone ty·6) (List._∷_ (18, Rows.any-gone ty·10) (List._∷_ (19, Rows.any-gone ty·3) (List._∷_ (20, Rows.any-gone ty·9) List.[]))))
+t1 = List._∷_ (16, Rows.any-gone ty·3) (List._∷_ (17, Rows.any-gone ty·9) (List._∷_ (18, Rows.any-gone ty·6) (List._∷_ (19, Rows.any-gone ty·10) (List._∷_ (20, Rows.any-gone ty·3) (List._∷_ (21, Rows.any-gone ty·9) List.[])))))
 
 abbrev pub t2 : List.List Row.Entry
-t2 = List._∷_ (0, Rows.whole (Declared.row Hull.the-type)) (List._∷_ (1, Mut.mslice ELEM.the-row ty·8 0) (List._∷_ (2, Mut.mslice (Referent.rtF (Referent.fInt Syntax.w32)) ty·4 1) (List._∷_ (3, Mut.mslice (Referent.rtF (Referent.fInt Syntax.w32)) ty·5 2) (List._∷_ (4, Rows.any-gone ty·12) (List._∷_ (5, Rows.any-gone ty·2) (List._∷_ (6, Rows.any-gone ty·2) (List._∷_ (7, Rows.any-gone ty·2) (List._∷_ (8, Rows.any-gone ty·0) (List._∷_ (9, Rows.any-gone ty·0) (List._∷_ (10, Rows.any-gone ty·12) (List._∷_ (11, Rows.any-gone ty·7) (List._∷_ (12, Rows.any-gone ty·11) (List._∷_ (13, Rows.any-gone ty·3) (List._∷_ (14, Rows.any-gone ty·9) (List._∷_ (15, Rows.any-gone ty·3) List.[])))))))))))))))
+t2 = List._∷_ (0, Rows.whole (Declared.row Hull.the-type)) (List._∷_ (1, Mut.mslice ELEM.the-row ty·8 0) (List._∷_ (2, Mut.mslice (Referent.rtF (Referent.fInt Syntax.w32)) ty·4 1) (List._∷_ (3, Mut.mslice (Referent.rtF (Referent.fInt Syntax.w32)) ty·5 2) (List._∷_ (4, Rows.any-gone ty·12) (List._∷_ (5, Rows.any-gone ty·0) (List._∷_ (6, Rows.any-gone ty·2) (List._∷_ (7, Rows.any-gone ty·2) (List._∷_ (8, Rows.any-gone ty·2) (List._∷_ (9, Rows.any-gone ty·0) (List._∷_ (10, Rows.any-gone ty·0) (List._∷_ (11, Rows.any-gone ty·12) (List._∷_ (12, Rows.any-gone ty·7) (List._∷_ (13, Rows.any-gone ty·11) (List._∷_ (14, Rows.any-gone ty·3) (List._∷_ (15, Rows.any-gone ty·9) List.[])))))))))))))))
 
 abbrev pub t3 : List.List Row.Entry
-t3 = List._∷_ (0, Rows.any-gone ty·12) (List._∷_ (1, Relend.mslice-owed ELEM.the-row ty·8 0 3 Row.off) (List._∷_ (2, Mut.mslice (Referent.rtF (Referent.fInt Syntax.w32)) ty·4 1) (List._∷_ (3, Mut.mslice (Referent.rtF (Referent.fInt Syntax.w32)) ty·5 2) (List._∷_ (4, Rows.whole (Declared.row Hull.the-type)) (List._∷_ (5, Rows.sc-here (Row.sFloat Ieee.binary64)) (List._∷_ (6, Rows.sc-here (Row.sFloat Ieee.binary64)) (List._∷_ (7, Rows.sc-here (Row.sFloat Ieee.binary64)) (List._∷_ (8, Rows.sc-here (Row.sInt Syntax.w32)) (List._∷_ (9, Rows.sc-here (Row.sInt Syntax.w32)) (List._∷_ (10, Rows.any-gone ty·12) (List._∷_ (11, Relend.msptr ELEM.the-row ty·7 3) (List._∷_ (12, Rows.any-gone ty·11) (List._∷_ (13, Rows.any-gone ty·3) (List._∷_ (14, Rows.any-gone ty·9) (List._∷_ (15, Rows.any-gone ty·3) List.[])))))))))))))))
+t3 = List._∷_ (0, Rows.any-gone ty·12) (List._∷_ (1, Relend.mslice-owed ELEM.the-row ty·8 0 3 Row.off) (List._∷_ (2, Mut.mslice (Referent.rtF (Referent.fInt Syntax.w32)) ty·4 1) (List._∷_ (3, Mut.mslice (Referent.rtF (Referent.fInt Syntax.w32)) ty·5 2) (List._∷_ (4, Rows.whole (Declared.row Hull.the-type)) (List._∷_ (5, Rows.sc-here (Row.sInt Syntax.w32)) (List._∷_ (6, Rows.sc-here (Row.sFloat Ieee.binary64)) (List._∷_ (7, Rows.sc-here (Row.sFloat Ieee.binary64)) (List._∷_ (8, Rows.sc-here (Row.sFloat Ieee.binary64)) (List._∷_ (9, Rows.sc-here (Row.sInt Syntax.w32)) (List._∷_ (10, Rows.sc-here (Row.sInt Syntax.w32)) (List._∷_ (11, Rows.any-gone ty·12) (List._∷_ (12, Relend.msptr ELEM.the-row ty·7 3) (List._∷_ (13, Rows.any-gone ty·11) (List._∷_ (14, Rows.any-gone ty·3) (List._∷_ (15, Rows.any-gone ty·9) List.[])))))))))))))))
 
 abbrev pub t4 : List.List Row.Entry
-t4 = List._∷_ (0, Rows.any-gone ty·12) (List._∷_ (1, Relend.mslice-owed ELEM.the-row ty·8 0 3 Row.off) (List._∷_ (2, Mut.mslice (Referent.rtF (Referent.fInt Syntax.w32)) ty·4 1) (List._∷_ (3, Mut.mslice (Referent.rtF (Referent.fInt Syntax.w32)) ty·5 2) (List._∷_ (4, Rows.whole (Declared.row Hull.the-type)) (List._∷_ (5, Rows.sc-here (Row.sFloat Ieee.binary64)) (List._∷_ (6, Rows.sc-here (Row.sFloat Ieee.binary64)) (List._∷_ (7, Rows.sc-here (Row.sFloat Ieee.binary64)) (List._∷_ (8, Rows.sc-here (Row.sInt Syntax.w32)) (List._∷_ (9, Rows.sc-here (Row.sInt Syntax.w32)) (List._∷_ (10, Rows.any-gone ty·12) (List._∷_ (11, Rows.any-gone ty·7) (List._∷_ (12, Mut.mslice ELEM.the-row ty·7 3) (List._∷_ (13, Rows.any-gone ty·3) (List._∷_ (14, Rows.any-gone ty·9) (List._∷_ (15, Rows.any-gone ty·3) List.[])))))))))))))))
+t4 = List._∷_ (0, Rows.any-gone ty·12) (List._∷_ (1, Relend.mslice-owed ELEM.the-row ty·8 0 3 Row.off) (List._∷_ (2, Mut.mslice (Referent.rtF (Referent.fInt Syntax.w32)) ty·4 1) (List._∷_ (3, Mut.mslice (Referent.rtF (Referent.fInt Syntax.w32)) ty·5 2) (List._∷_ (4, Rows.whole (Declared.row Hull.the-type)) (List._∷_ (5, Rows.sc-here (Row.sInt Syntax.w32)) (List._∷_ (6, Rows.sc-here (Row.sFloat Ieee.binary64)) (List._∷_ (7, Rows.sc-here (Row.sFloat Ieee.binary64)) (List._∷_ (8, Rows.sc-here (Row.sFloat Ieee.binary64)) (List._∷_ (9, Rows.sc-here (Row.sInt Syntax.w32)) (List._∷_ (10, Rows.sc-here (Row.sInt Syntax.w32)) (List._∷_ (11, Rows.any-gone ty·12) (List._∷_ (12, Rows.any-gone ty·7) (List._∷_ (13, Mut.mslice ELEM.the-row ty·7 3) (List._∷_ (14, Rows.any-gone ty·3) (List._∷_ (15, Rows.any-gone ty·9) List.[])))))))))))))))
 
 abbrev pub t5 : List.List Row.Entry
-t5 = List._∷_ (0, Rows.any-gone ty·12) (List._∷_ (1, Relend.mslice-owed ELEM.the-row ty·8 0 3 Row.off) (List._∷_ (2, Relend.mslice-owed (Referent.rtF (Referent.fInt Syntax.w32)) ty·4 1 4 Row.off) (List._∷_ (3, Mut.mslice (Referent.rtF (Referent.fInt Syntax.w32)) ty·5 2) (List._∷_ (4, Rows.whole (Declared.row Hull.the-type)) (List._∷_ (5, Rows.sc-here (Row.sFloat Ieee.binary64)) (List._∷_ (6, Rows.sc-here (Row.sFloat Ieee.binary64)) (List._∷_ (7, Rows.sc-here (Row.sFloat Ieee.binary64)) (List._∷_ (8, Rows.sc-here (Row.sInt Syntax.w32)) (List._∷_ (9, Rows.sc-here (Row.sInt Syntax.w32)) (List._∷_ (10, Rows.any-gone ty·12) (List._∷_ (11, Rows.any-gone ty·7) (List._∷_ (12, Mut.mslice ELEM.the-row ty·7 3) (List._∷_ (13, Relend.msptr (Referent.rtF (Referent.fInt Syntax.w32)) ty·3 4) (List._∷_ (14, Rows.any-gone ty·9) (List._∷_ (15, Rows.any-gone ty·3) List.[])))))))))))))))
+t5 = List._∷_ (0, Rows.any-gone ty·12) (List._∷_ (1, Relend.mslice-owed ELEM.the-row ty·8 0 3 Row.off) (List._∷_ (2, Relend.mslice-owed (Referent.rtF (Referent.fInt Syntax.w32)) ty·4 1 4 Row.off) (List._∷_ (3, Mut.mslice (Referent.rtF (Referent.fInt Syntax.w32)) ty·5 2) (List._∷_ (4, Rows.whole (Declared.row Hull.the-type)) (List._∷_ (5, Rows.sc-here (Row.sInt Syntax.w32)) (List._∷_ (6, Rows.sc-here (Row.sFloat Ieee.binary64)) (List._∷_ (7, Rows.sc-here (Row.sFloat Ieee.binary64)) (List._∷_ (8, Rows.sc-here (Row.sFloat Ieee.binary64)) (List._∷_ (9, Rows.sc-here (Row.sInt Syntax.w32)) (List._∷_ (10, Rows.sc-here (Row.sInt Syntax.w32)) (List._∷_ (11, Rows.any-gone ty·12) (List._∷_ (12, Rows.any-gone ty·7) (List._∷_ (13, Mut.mslice ELEM.the-row ty·7 3) (List._∷_ (14, Relend.msptr (Referent.rtF (Referent.fInt Syntax.w32)) ty·3 4) (List._∷_ (15, Rows.any-gone ty·9) List.[])))))))))))))))
 
 abbrev pub t6 : List.List Row.Entry
-t6 = List._∷_ (0, Rows.any-gone ty·12) (List._∷_ (1, Relend.mslice-owed ELEM.the-row ty·8 0 3 Row.off) (List._∷_ (2, Relend.mslice-owed (Referent.rtF (Referent.fInt Syntax.w32)) ty·4 1 4 Row.off) (List._∷_ (3, Mut.mslice (Referent.rtF (Referent.fInt Syntax.w32)) ty·5 2) (List._∷_ (4, Rows.whole (Declared.row Hull.the-type)) (List._∷_ (5, Rows.sc-here (Row.sFloat Ieee.binary64)) (List._∷_ (6, Rows.sc-here (Row.sFloat Ieee.binary64)) (List._∷_ (7, Rows.sc-here (Row.sFloat Ieee.binary64)) (List._∷_ (8, Rows.sc-here (Row.sInt Syntax.w32)) (List._∷_ (9, Rows.sc-here (Row.sInt Syntax.w32)) (List._∷_ (10, Rows.any-gone ty·12) (List._∷_ (11, Rows.any-gone ty·7) (List._∷_ (12, Mut.mslice ELEM.the-row ty·7 3) (List._∷_ (13, Rows.any-gone ty·3) (List._∷_ (14, Mut.mslice (Referent.rtF (Referent.fInt Syntax.w32)) ty·3 4) (List._∷_ (15, Rows.any-gone ty·3) List.[])))))))))))))))
+t6 = List._∷_ (0, Rows.any-gone ty·12) (List._∷_ (1, Relend.mslice-owed ELEM.the-row ty·8 0 3 Row.off) (List._∷_ (2, Relend.mslice-owed (Referent.rtF (Referent.fInt Syntax.w32)) ty·4 1 4 Row.off) (List._∷_ (3, Mut.mslice (Referent.rtF (Referent.fInt Syntax.w32)) ty·5 2) (List._∷_ (4, Rows.whole (Declared.row Hull.the-type)) (List._∷_ (5, Rows.sc-here (Row.sInt Syntax.w32)) (List._∷_ (6, Rows.sc-here (Row.sFloat Ieee.binary64)) (List._∷_ (7, Rows.sc-here (Row.sFloat Ieee.binary64)) (List._∷_ (8, Rows.sc-here (Row.sFloat Ieee.binary64)) (List._∷_ (9, Rows.sc-here (Row.sInt Syntax.w32)) (List._∷_ (10, Rows.sc-here (Row.sInt Syntax.w32)) (List._∷_ (11, Rows.any-gone ty·12) (List._∷_ (12, Rows.any-gone ty·7) (List._∷_ (13, Mut.mslice ELEM.the-row ty·7 3) (List._∷_ (14, Rows.any-gone ty·3) (List._∷_ (15, Mut.mslice (Referent.rtF (Referent.fInt Syntax.w32)) ty·3 4) List.[])))))))))))))))
 
 abbrev pub t7 : List.List Row.Entry
-t7 = List._∷_ (0, Rows.any-gone ty·12) (List._∷_ (1, Relend.mslice-owed ELEM.the-row ty·8 0 3 Row.off) (List._∷_ (2, Relend.mslice-owed (Referent.rtF (Referent.fInt Syntax.w32)) ty·4 1 4 Row.off) (List._∷_ (3, Relend.mslice-owed (Referent.rtF (Referent.fInt Syntax.w32)) ty·5 2 5 Row.off) (List._∷_ (4, Rows.whole (Declared.row Hull.the-type)) (List._∷_ (5, Rows.sc-here (Row.sFloat Ieee.binary64)) (List._∷_ (6, Rows.sc-here (Row.sFloat Ieee.binary64)) (List._∷_ (7, Rows.sc-here (Row.sFloat Ieee.binary64)) (List._∷_ (8, Rows.sc-here (Row.sInt Syntax.w32)) (List._∷_ (9, Rows.sc-here (Row.sInt Syntax.w32)) (List._∷_ (10, Rows.any-gone ty·12) (List._∷_ (11, Rows.any-gone ty·7) (List._∷_ (12, Mut.mslice ELEM.the-row ty·7 3) (List._∷_ (13, Rows.any-gone ty·3) (List._∷_ (14, Mut.mslice (Referent.rtF (Referent.fInt Syntax.w32)) ty·3 4) (List._∷_ (15, Relend.msptr (Referent.rtF (Referent.fInt Syntax.w32)) ty·3 5) List.[])))))))))))))))
+t7 = List._∷_ (0, Rows.any-gone ty·12) (List._∷_ (1, Relend.mslice-owed ELEM.the-row ty·8 0 3 Row.off) (List._∷_ (2, Relend.mslice-owed (Referent.rtF (Referent.fInt Syntax.w32)) ty·4 1 4 Row.off) (List._∷_ (3, Relend.mslice-owed (Referent.rtF (Referent.fInt Syntax.w32)) ty·5 2 5 Row.off) (List._∷_ (4, Rows.whole (Declared.row Hull.the-type)) (List._∷_ (5, Rows.sc-here (Row.sInt Syntax.w32)) (List._∷_ (6, Rows.sc-here (Row.sFloat Ieee.binary64)) (List._∷_ (7, Rows.sc-here (Row.sFloat Ieee.binary64)) (List._∷_ (8, Rows.sc-here (Row.sFloat Ieee.binary64)) (List._∷_ (9, Rows.sc-here (Row.sInt Syntax.w32)) (List._∷_ (10, Rows.sc-here (Row.sInt Syntax.w32)) (List._∷_ (11, Rows.any-gone ty·12) (List._∷_ (12, Rows.any-gone ty·7) (List._∷_ (13, Mut.mslice ELEM.the-row ty·7 3) (List._∷_ (14, Rows.any-gone ty·3) (List._∷_ (15, Mut.mslice (Referent.rtF (Referent.fInt Syntax.w32)) ty·3 4) List.[])))))))))))))))
 
 abbrev pub t8 : List.List Row.Entry
-t8 = List._∷_ (0, Rows.any-gone ty·12) (List._∷_ (1, Relend.mslice-owed ELEM.the-row ty·8 0 3 Row.off) (List._∷_ (2, Relend.mslice-owed (Referent.rtF (Referent.fInt Syntax.w32)) ty·4 1 4 Row.off) (List._∷_ (3, Relend.mslice-owed (Referent.rtF (Referent.fInt Syntax.w32)) ty·5 2 5 Row.off) (List._∷_ (4, Rows.whole (Declared.row Hull.the-type)) (List._∷_ (5, Rows.sc-here (Row.sFloat Ieee.binary64)) (List._∷_ (6, Rows.sc-here (Row.sFloat Ieee.binary64)) (List._∷_ (7, Rows.sc-here (Row.sFloat Ieee.binary64)) (List._∷_ (8, Rows.sc-here (Row.sInt Syntax.w32)) (List._∷_ (9, Rows.sc-here (Row.sInt Syntax.w32)) (List._∷_ (10, Rows.any-gone ty·12) (List._∷_ (11, Rows.any-gone ty·7) (List._∷_ (12, Mut.mslice ELEM.the-row ty·7 3) (List._∷_ (13, Rows.any-gone ty·3) (List._∷_ (14, Mut.mslice (Referent.rtF (Referent.fInt Syntax.w32)) ty·3 4) (List._∷_ (15, Rows.any-gone ty·3) List.[])))))))))))))))
+t8 = List._∷_ (16, Relend.msptr (Referent.rtF (Referent.fInt Syntax.w32)) ty·3 5) (List._∷_ (17, Rows.any-gone ty·9) (List._∷_ (18, Rows.any-gone ty·6) (List._∷_ (19, Rows.any-gone ty·10) (List._∷_ (20, Rows.any-gone ty·3) (List._∷_ (21, Rows.any-gone ty·9) List.[])))))
 
 abbrev pub t9 : List.List Row.Entry
-t9 = List._∷_ (16, Mut.mslice (Referent.rtF (Referent.fInt Syntax.w32)) ty·3 5) (List._∷_ (17, Rows.any-gone ty·6) (List._∷_ (18, Rows.any-gone ty·10) (List._∷_ (19, Rows.any-gone ty·3) (List._∷_ (20, Rows.any-gone ty·9) List.[]))))
+t9 = List._∷_ (16, Rows.any-gone ty·3) (List._∷_ (17, Mut.mslice (Referent.rtF (Referent.fInt Syntax.w32)) ty·3 5) (List._∷_ (18, Rows.any-gone ty·6) (List._∷_ (19, Rows.any-gone ty·10) (List._∷_ (20, Rows.any-gone ty·3) (List._∷_ (21, Rows.any-gone ty·9) List.[])))))
 
 abbrev pub t10 : List.List Row.Entry
-t10 = List._∷_ (0, Rows.any-gone ty·12) (List._∷_ (1, Relend.mslice-owed ELEM.the-row ty·8 0 3 Row.off) (List._∷_ (2, Relend.mslice-owed (Referent.rtF (Referent.fInt Syntax.w32)) ty·4 1 4 Row.off) (List._∷_ (3, Relend.mslice-owed (Referent.rtF (Referent.fInt Syntax.w32)) ty·5 2 5 Row.off) (List._∷_ (4, Rows.whole (Declared.row Hull.the-type)) (List._∷_ (5, Rows.sc-here (Row.sFloat Ieee.binary64)) (List._∷_ (6, Rows.sc-here (Row.sFloat Ieee.binary64)) (List._∷_ (7, Rows.sc-here (Row.sFloat Ieee.binary64)) (List._∷_ (8, Rows.sc-here (Row.sInt Syntax.w32)) (List._∷_ (9, Rows.sc-here (Row.sInt Syntax.w32)) (List._∷_ (10, Rows.whole (Declared.row Hull.the-type)) (List._∷_ (11, Rows.any-gone ty·7) (List._∷_ (12, Mut.msleft ELEM.the-row ty·7) (List._∷_ (13, Rows.any-gone ty·3) (List._∷_ (14, Mut.msleft (Referent.rtF (Referent.fInt Syntax.w32)) ty·3) (List._∷_ (15, Rows.any-gone ty·3) List.[])))))))))))))))
+t10 = List._∷_ (0, Rows.any-gone ty·12) (List._∷_ (1, Relend.mslice-owed ELEM.the-row ty·8 0 3 Row.off) (List._∷_ (2, Relend.mslice-owed (Referent.rtF (Referent.fInt Syntax.w32)) ty·4 1 4 Row.off) (List._∷_ (3, Relend.mslice-owed (Referent.rtF (Referent.fInt Syntax.w32)) ty·5 2 5 Row.off) (List._∷_ (4, Rows.whole (Declared.row Hull.the-type)) (List._∷_ (5, Rows.sc-here (Row.sInt Syntax.w32)) (List._∷_ (6, Rows.sc-here (Row.sFloat Ieee.binary64)) (List._∷_ (7, Rows.sc-here (Row.sFloat Ieee.binary64)) (List._∷_ (8, Rows.sc-here (Row.sFloat Ieee.binary64)) (List._∷_ (9, Rows.sc-here (Row.sInt Syntax.w32)) (List._∷_ (10, Rows.sc-here (Row.sInt Syntax.w32)) (List._∷_ (11, Rows.whole (Declared.row Hull.the-type)) (List._∷_ (12, Rows.any-gone ty·7) (List._∷_ (13, Mut.msleft ELEM.the-row ty·7) (List._∷_ (14, Rows.any-gone ty·3) (List._∷_ (15, Mut.msleft (Referent.rtF (Referent.fInt Syntax.w32)) ty·3) List.[])))))))))))))))
 
 abbrev pub t11 : List.List Row.Entry
-t11 = List._∷_ (16, Mut.msleft (Referent.rtF (Referent.fInt Syntax.w32)) ty·3) (List._∷_ (17, Rows.any-gone ty·6) (List._∷_ (18, Rows.any-gone ty·10) (List._∷_ (19, Rows.any-gone ty·3) (List._∷_ (20, Rows.any-gone ty·9) List.[]))))
+t11 = List._∷_ (16, Rows.any-gone ty·3) (List._∷_ (17, Mut.msleft (Referent.rtF (Referent.fInt Syntax.w32)) ty·3) (List._∷_ (18, Rows.any-gone ty·6) (List._∷_ (19, Rows.any-gone ty·10) (List._∷_ (20, Rows.any-gone ty·3) (List._∷_ (21, Rows.any-gone ty·9) List.[])))))
 
 abbrev pub t12 : List.List Row.Entry
-t12 = List._∷_ (0, Rows.any-gone ty·12) (List._∷_ (1, Relend.mslice-owed ELEM.the-row ty·8 0 3 Row.off) (List._∷_ (2, Relend.mslice-owed (Referent.rtF (Referent.fInt Syntax.w32)) ty·4 1 4 Row.off) (List._∷_ (3, Relend.mslice-owed (Referent.rtF (Referent.fInt Syntax.w32)) ty·5 2 5 Row.off) (List._∷_ (4, Rows.any-gone ty·12) (List._∷_ (5, Rows.sc-here (Row.sFloat Ieee.binary64)) (List._∷_ (6, Rows.sc-here (Row.sFloat Ieee.binary64)) (List._∷_ (7, Rows.sc-here (Row.sFloat Ieee.binary64)) (List._∷_ (8, Rows.sc-here (Row.sInt Syntax.w32)) (List._∷_ (9, Rows.sc-here (Row.sInt Syntax.w32)) (List._∷_ (10, Rows.whole (Declared.row Hull.the-type)) (List._∷_ (11, Rows.any-gone ty·7) (List._∷_ (12, Mut.msleft ELEM.the-row ty·7) (List._∷_ (13, Rows.any-gone ty·3) (List._∷_ (14, Mut.msleft (Referent.rtF (Referent.fInt Syntax.w32)) ty·3) (List._∷_ (15, Rows.any-gone ty·3) List.[])))))))))))))))
+t12 = List._∷_ (0, Rows.any-gone ty·12) (List._∷_ (1, Relend.mslice-owed ELEM.the-row ty·8 0 3 Row.off) (List._∷_ (2, Relend.mslice-owed (Referent.rtF (Referent.fInt Syntax.w32)) ty·4 1 4 Row.off) (List._∷_ (3, Relend.mslice-owed (Referent.rtF (Referent.fInt Syntax.w32)) ty·5 2 5 Row.off) (List._∷_ (4, Rows.any-gone ty·12) (List._∷_ (5, Rows.sc-here (Row.sInt Syntax.w32)) (List._∷_ (6, Rows.sc-here (Row.sFloat Ieee.binary64)) (List._∷_ (7, Rows.sc-here (Row.sFloat Ieee.binary64)) (List._∷_ (8, Rows.sc-here (Row.sFloat Ieee.binary64)) (List._∷_ (9, Rows.sc-here (Row.sInt Syntax.w32)) (List._∷_ (10, Rows.sc-here (Row.sInt Syntax.w32)) (List._∷_ (11, Rows.whole (Declared.row Hull.the-type)) (List._∷_ (12, Rows.any-gone ty·7) (List._∷_ (13, Mut.msleft ELEM.the-row ty·7) (List._∷_ (14, Rows.any-gone ty·3) (List._∷_ (15, Mut.msleft (Referent.rtF (Referent.fInt Syntax.w32)) ty·3) List.[])))))))))))))))
 
 abbrev pub t13 : List.List Row.Entry
-t13 = List._∷_ (0, Rows.any-gone ty·12) (List._∷_ (1, Mut.mslice ELEM.the-row ty·8 0) (List._∷_ (2, Relend.mslice-owed (Referent.rtF (Referent.fInt Syntax.w32)) ty·4 1 4 Row.off) (List._∷_ (3, Relend.mslice-owed (Referent.rtF (Referent.fInt Syntax.w32)) ty·5 2 5 Row.off) (List._∷_ (4, Rows.any-gone ty·12) (List._∷_ (5, Rows.sc-here (Row.sFloat Ieee.binary64)) (List._∷_ (6, Rows.sc-here (Row.sFloat Ieee.binary64)) (List._∷_ (7, Rows.sc-here (Row.sFloat Ieee.binary64)) (List._∷_ (8, Rows.sc-here (Row.sInt Syntax.w32)) (List._∷_ (9, Rows.sc-here (Row.sInt Syntax.w32)) (List._∷_ (10, Rows.whole (Declared.row Hull.the-type)) (List._∷_ (11, Rows.any-gone ty·7) (List._∷_ (12, Rows.any-gone ty·11) (List._∷_ (13, Rows.any-gone ty·3) (List._∷_ (14, Mut.msleft (Referent.rtF (Referent.fInt Syntax.w32)) ty·3) (List._∷_ (15, Rows.any-gone ty·3) List.[])))))))))))))))
+t13 = List._∷_ (0, Rows.any-gone ty·12) (List._∷_ (1, Mut.mslice ELEM.the-row ty·8 0) (List._∷_ (2, Relend.mslice-owed (Referent.rtF (Referent.fInt Syntax.w32)) ty·4 1 4 Row.off) (List._∷_ (3, Relend.mslice-owed (Referent.rtF (Referent.fInt Syntax.w32)) ty·5 2 5 Row.off) (List._∷_ (4, Rows.any-gone ty·12) (List._∷_ (5, Rows.sc-here (Row.sInt Syntax.w32)) (List._∷_ (6, Rows.sc-here (Row.sFloat Ieee.binary64)) (List._∷_ (7, Rows.sc-here (Row.sFloat Ieee.binary64)) (List._∷_ (8, Rows.sc-here (Row.sFloat Ieee.binary64)) (List._∷_ (9, Rows.sc-here (Row.sInt Syntax.w32)) (List._∷_ (10, Rows.sc-here (Row.sInt Syntax.w32)) (List._∷_ (11, Rows.whole (Declared.row Hull.the-type)) (List._∷_ (12, Rows.any-gone ty·7) (List._∷_ (13, Rows.any-gone ty·11) (List._∷_ (14, Rows.any-gone ty·3) (List._∷_ (15, Mut.msleft (Referent.rtF (Referent.fInt Syntax.w32)) ty·3) List.[])))))))))))))))
 
 abbrev pub t14 : List.List Row.Entry
-t14 = List._∷_ (0, Rows.any-gone ty·12) (List._∷_ (1, Mut.mslice ELEM.the-row ty·8 0) (List._∷_ (2, Mut.mslice (Referent.rtF (Referent.fInt Syntax.w32)) ty·4 1) (List._∷_ (3, Relend.mslice-owed (Referent.rtF (Referent.fInt Syntax.w32)) ty·5 2 5 Row.off) (List._∷_ (4, Rows.any-gone ty·12) (List._∷_ (5, Rows.sc-here (Row.sFloat Ieee.binary64)) (List._∷_ (6, Rows.sc-here (Row.sFloat Ieee.binary64)) (List._∷_ (7, Rows.sc-here (Row.sFloat Ieee.binary64)) (List._∷_ (8, Rows.sc-here (Row.sInt Syntax.w32)) (List._∷_ (9, Rows.sc-here (Row.sInt Syntax.w32)) (List._∷_ (10, Rows.whole (Declared.row Hull.the-type)) (List._∷_ (11, Rows.any-gone ty·7) (List._∷_ (12, Rows.any-gone ty·11) (List._∷_ (13, Rows.any-gone ty·3) (List._∷_ (14, Rows.any-gone ty·9) (List._∷_ (15, Rows.any-gone ty·3) List.[])))))))))))))))
+t14 = List._∷_ (0, Rows.any-gone ty·12) (List._∷_ (1, Mut.mslice ELEM.the-row ty·8 0) (List._∷_ (2, Mut.mslice (Referent.rtF (Referent.fInt Syntax.w32)) ty·4 1) (List._∷_ (3, Relend.mslice-owed (Referent.rtF (Referent.fInt Syntax.w32)) ty·5 2 5 Row.off) (List._∷_ (4, Rows.any-gone ty·12) (List._∷_ (5, Rows.sc-here (Row.sInt Syntax.w32)) (List._∷_ (6, Rows.sc-here (Row.sFloat Ieee.binary64)) (List._∷_ (7, Rows.sc-here (Row.sFloat Ieee.binary64)) (List._∷_ (8, Rows.sc-here (Row.sFloat Ieee.binary64)) (List._∷_ (9, Rows.sc-here (Row.sInt Syntax.w32)) (List._∷_ (10, Rows.sc-here (Row.sInt Syntax.w32)) (List._∷_ (11, Rows.whole (Declared.row Hull.the-type)) (List._∷_ (12, Rows.any-gone ty·7) (List._∷_ (13, Rows.any-gone ty·11) (List._∷_ (14, Rows.any-gone ty·3) (List._∷_ (15, Rows.any-gone ty·9) List.[])))))))))))))))
 
 abbrev pub t15 : List.List Row.Entry
-t15 = List._∷_ (0, Rows.any-gone ty·12) (List._∷_ (1, Mut.mslice ELEM.the-row ty·8 0) (List._∷_ (2, Mut.mslice (Referent.rtF (Referent.fInt Syntax.w32)) ty·4 1) (List._∷_ (3, Mut.mslice (Referent.rtF (Referent.fInt Syntax.w32)) ty·5 2) (List._∷_ (4, Rows.any-gone ty·12) (List._∷_ (5, Rows.sc-here (Row.sFloat Ieee.binary64)) (List._∷_ (6, Rows.sc-here (Row.sFloat Ieee.binary64)) (List._∷_ (7, Rows.sc-here (Row.sFloat Ieee.binary64)) (List._∷_ (8, Rows.sc-here (Row.sInt Syntax.w32)) (List._∷_ (9, Rows.sc-here (Row.sInt Syntax.w32)) (List._∷_ (10, Rows.whole (Declared.row Hull.the-type)) (List._∷_ (11, Rows.any-gone ty·7) (List._∷_ (12, Rows.any-gone ty·11) (List._∷_ (13, Rows.any-gone ty·3) (List._∷_ (14, Rows.any-gone ty·9) (List._∷_ (15, Rows.any-gone ty·3) List.[])))))))))))))))
+t15 = List._∷_ (0, Rows.any-gone ty·12) (List._∷_ (1, Mut.mslice ELEM.the-row ty·8 0) (List._∷_ (2, Mut.mslice (Referent.rtF (Referent.fInt Syntax.w32)) ty·4 1) (List._∷_ (3, Mut.mslice (Referent.rtF (Referent.fInt Syntax.w32)) ty·5 2) (List._∷_ (4, Rows.any-gone ty·12) (List._∷_ (5, Rows.sc-here (Row.sInt Syntax.w32)) (List._∷_ (6, Rows.sc-here (Row.sFloat Ieee.binary64)) (List._∷_ (7, Rows.sc-here (Row.sFloat Ieee.binary64)) (List._∷_ (8, Rows.sc-here (Row.sFloat Ieee.binary64)) (List._∷_ (9, Rows.sc-here (Row.sInt Syntax.w32)) (List._∷_ (10, Rows.sc-here (Row.sInt Syntax.w32)) (List._∷_ (11, Rows.whole (Declared.row Hull.the-type)) (List._∷_ (12, Rows.any-gone ty·7) (List._∷_ (13, Rows.any-gone ty·11) (List._∷_ (14, Rows.any-gone ty·3) (List._∷_ (15, Rows.any-gone ty·9) List.[])))))))))))))))
 
 abbrev pub t16 : List.List Row.Entry
-t16 = List._∷_ (0, Rows.any-gone ty·12) (List._∷_ (1, Reshare.mslice-owedS ELEM.the-row ty·8 0 6 Row.off) (List._∷_ (2, Mut.mslice (Referent.rtF (Referent.fInt Syntax.w32)) ty·4 1) (List._∷_ (3, Mut.mslice (Referent.rtF (Referent.fInt Syntax.w32)) ty·5 2) (List._∷_ (4, Rows.any-gone ty·12) (List._∷_ (5, Rows.sc-here (Row.sFloat Ieee.binary64)) (List._∷_ (6, Rows.sc-here (Row.sFloat Ieee.binary64)) (List._∷_ (7, Rows.sc-here (Row.sFloat Ieee.binary64)) (List._∷_ (8, Rows.sc-here (Row.sInt Syntax.w32)) (List._∷_ (9, Rows.sc-here (Row.sInt Syntax.w32)) (List._∷_ (10, Rows.whole (Declared.row Hull.the-type)) (List._∷_ (11, Rows.any-gone ty·7) (List._∷_ (12, Rows.any-gone ty·11) (List._∷_ (13, Rows.any-gone ty·3) (List._∷_ (14, Rows.any-gone ty·9) (List._∷_ (15, Rows.any-gone ty·3) List.[])))))))))))))))
+t16 = List._∷_ (0, Rows.any-gone ty·12) (List._∷_ (1, Reshare.mslice-owedS ELEM.the-row ty·8 0 6 Row.off) (List._∷_ (2, Mut.mslice (Referent.rtF (Referent.fInt Syntax.w32)) ty·4 1) (List._∷_ (3, Mut.mslice (Referent.rtF (Referent.fInt Syntax.w32)) ty·5 2) (List._∷_ (4, Rows.any-gone ty·12) (List._∷_ (5, Rows.sc-here (Row.sInt Syntax.w32)) (List._∷_ (6, Rows.sc-here (Row.sFloat Ieee.binary64)) (List._∷_ (7, Rows.sc-here (Row.sFloat Ieee.binary64)) (List._∷_ (8, Rows.sc-here (Row.sFloat Ieee.binary64)) (List._∷_ (9, Rows.sc-here (Row.sInt Syntax.w32)) (List._∷_ (10, Rows.sc-here (Row.sInt Syntax.w32)) (List._∷_ (11, Rows.whole (Declared.row Hull.the-type)) (List._∷_ (12, Rows.any-gone ty·7) (List._∷_ (13, Rows.any-gone ty·11) (List._∷_ (14, Rows.any-gone ty·3) (List._∷_ (15, Rows.any-gone ty·9) List.[])))))))))))))))
 
 abbrev pub t17 : List.List Row.Entry
-t17 = List._∷_ (16, Rows.any-gone ty·9) (List._∷_ (17, Relend.ssptr ELEM.the-row ty·6 6) (List._∷_ (18, Rows.any-gone ty·10) (List._∷_ (19, Rows.any-gone ty·3) (List._∷_ (20, Rows.any-gone ty·9) List.[]))))
+t17 = List._∷_ (16, Rows.any-gone ty·3) (List._∷_ (17, Rows.any-gone ty·9) (List._∷_ (18, Relend.ssptr ELEM.the-row ty·6 6) (List._∷_ (19, Rows.any-gone ty·10) (List._∷_ (20, Rows.any-gone ty·3) (List._∷_ (21, Rows.any-gone ty·9) List.[])))))
 
 abbrev pub t18 : List.List Row.Entry
-t18 = List._∷_ (16, Rows.any-gone ty·9) (List._∷_ (17, Rows.any-gone ty·6) (List._∷_ (18, Rows.sslice ELEM.the-row ty·6 6) (List._∷_ (19, Rows.any-gone ty·3) (List._∷_ (20, Rows.any-gone ty·9) List.[]))))
+t18 = List._∷_ (16, Rows.any-gone ty·3) (List._∷_ (17, Rows.any-gone ty·9) (List._∷_ (18, Rows.any-gone ty·6) (List._∷_ (19, Rows.sslice ELEM.the-row ty·6 6) (List._∷_ (20, Rows.any-gone ty·3) (List._∷_ (21, Rows.any-gone ty·9) List.[])))))
 
 abbrev pub t19 : List.List Row.Entry
-t19 = List._∷_ (0, Rows.any-gone ty·12) (List._∷_ (1, Reshare.mslice-owedS ELEM.the-row ty·8 0 6 Row.off) (List._∷_ (2, Mut.mslice (Referent.rtF (Referent.fInt Syntax.w32)) ty·4 1) (List._∷_ (3, Relend.mslice-owed (Referent.rtF (Referent.fInt Syntax.w32)) ty·5 2 7 Row.off) (List._∷_ (4, Rows.any-gone ty·12) (List._∷_ (5, Rows.sc-here (Row.sFloat Ieee.binary64)) (List._∷_ (6, Rows.sc-here (Row.sFloat Ieee.binary64)) (List._∷_ (7, Rows.sc-here (Row.sFloat Ieee.binary64)) (List._∷_ (8, Rows.sc-here (Row.sInt Syntax.w32)) (List._∷_ (9, Rows.sc-here (Row.sInt Syntax.w32)) (List._∷_ (10, Rows.whole (Declared.row Hull.the-type)) (List._∷_ (11, Rows.any-gone ty·7) (List._∷_ (12, Rows.any-gone ty·11) (List._∷_ (13, Rows.any-gone ty·3) (List._∷_ (14, Rows.any-gone ty·9) (List._∷_ (15, Rows.any-gone ty·3) List.[])))))))))))))))
+t19 = List._∷_ (0, Rows.any-gone ty·12) (List._∷_ (1, Reshare.mslice-owedS ELEM.the-row ty·8 0 6 Row.off) (List._∷_ (2, Mut.mslice (Referent.rtF (Referent.fInt Syntax.w32)) ty·4 1) (List._∷_ (3, Relend.mslice-owed (Referent.rtF (Referent.fInt Syntax.w32)) ty·5 2 7 Row.off) (List._∷_ (4, Rows.any-gone ty·12) (List._∷_ (5, Rows.sc-here (Row.sInt Syntax.w32)) (List._∷_ (6, Rows.sc-here (Row.sFloat Ieee.binary64)) (List._∷_ (7, Rows.sc-here (Row.sFloat Ieee.binary64)) (List._∷_ (8, Rows.sc-here (Row.sFloat Ieee.binary64)) (List._∷_ (9, Rows.sc-here (Row.sInt Syntax.w32)) (List._∷_ (10, Rows.sc-here (Row.sInt Syntax.w32)) (List._∷_ (11, Rows.whole (Declared.row Hull.the-type)) (List._∷_ (12, Rows.any-gone ty·7) (List._∷_ (13, Rows.any-gone ty·11) (List._∷_ (14, Rows.any-gone ty·3) (List._∷_ (15, Rows.any-gone ty·9) List.[])))))))))))))))
 
 abbrev pub t20 : List.List Row.Entry
-t20 = List._∷_ (16, Rows.any-gone ty·9) (List._∷_ (17, Rows.any-gone ty·6) (List._∷_ (18, Rows.sslice ELEM.the-row ty·6 6) (List._∷_ (19, Relend.msptr (Referent.rtF (Referent.fInt Syntax.w32)) ty·3 7) (List._∷_ (20, Rows.any-gone ty·9) List.[]))))
+t20 = List._∷_ (16, Rows.any-gone ty·3) (List._∷_ (17, Rows.any-gone ty·9) (List._∷_ (18, Rows.any-gone ty·6) (List._∷_ (19, Rows.sslice ELEM.the-row ty·6 6) (List._∷_ (20, Relend.msptr (Referent.rtF (Referent.fInt Syntax.w32)) ty·3 7) (List._∷_ (21, Rows.any-gone ty·9) List.[])))))
 
 abbrev pub t21 : List.List Row.Entry
-t21 = List._∷_ (16, Rows.any-gone ty·9) (List._∷_ (17, Rows.any-gone ty·6) (List._∷_ (18, Rows.sslice ELEM.the-row ty·6 6) (List._∷_ (19, Rows.any-gone ty·3) (List._∷_ (20, Mut.mslice (Referent.rtF (Referent.fInt Syntax.w32)) ty·3 7) List.[]))))
+t21 = List._∷_ (16, Rows.any-gone ty·3) (List._∷_ (17, Rows.any-gone ty·9) (List._∷_ (18, Rows.any-gone ty·6) (List._∷_ (19, Rows.sslice ELEM.the-row ty·6 6) (List._∷_ (20, Rows.any-gone ty·3) (List._∷_ (21, Mut.mslice (Referent.rtF (Referent.fInt Syntax.w32)) ty·3 7) List.[])))))
 
 abbrev pub t22 : List.List Row.Entry
-t22 = List._∷_ (0, Rows.whole (Declared.row Hull.the-type)) (List._∷_ (1, Reshare.mslice-owedS ELEM.the-row ty·8 0 6 Row.off) (List._∷_ (2, Mut.mslice (Referent.rtF (Referent.fInt Syntax.w32)) ty·4 1) (List._∷_ (3, Relend.mslice-owed (Referent.rtF (Referent.fInt Syntax.w32)) ty·5 2 7 Row.off) (List._∷_ (4, Rows.any-gone ty·12) (List._∷_ (5, Rows.sc-here (Row.sFloat Ieee.binary64)) (List._∷_ (6, Rows.sc-here (Row.sFloat Ieee.binary64)) (List._∷_ (7, Rows.sc-here (Row.sFloat Ieee.binary64)) (List._∷_ (8, Rows.sc-here (Row.sInt Syntax.w32)) (List._∷_ (9, Rows.sc-here (Row.sInt Syntax.w32)) (List._∷_ (10, Rows.whole (Declared.row Hull.the-type)) (List._∷_ (11, Rows.any-gone ty·7) (List._∷_ (12, Rows.any-gone ty·11) (List._∷_ (13, Rows.any-gone ty·3) (List._∷_ (14, Rows.any-gone ty·9) (List._∷_ (15, Rows.any-gone ty·3) List.[])))))))))))))))
+t22 = List._∷_ (0, Rows.whole (Declared.row Hull.the-type)) (List._∷_ (1, Reshare.mslice-owedS ELEM.the-row ty·8 0 6 Row.off) (List._∷_ (2, Mut.mslice (Referent.rtF (Referent.fInt Syntax.w32)) ty·4 1) (List._∷_ (3, Relend.mslice-owed (Referent.rtF (Referent.fInt Syntax.w32)) ty·5 2 7 Row.off) (List._∷_ (4, Rows.any-gone ty·12) (List._∷_ (5, Rows.sc-here (Row.sInt Syntax.w32)) (List._∷_ (6, Rows.sc-here (Row.sFloat Ieee.binary64)) (List._∷_ (7, Rows.sc-here (Row.sFloat Ieee.binary64)) (List._∷_ (8, Rows.sc-here (Row.sFloat Ieee.binary64)) (List._∷_ (9, Rows.sc-here (Row.sInt Syntax.w32)) (List._∷_ (10, Rows.sc-here (Row.sInt Syntax.w32)) (List._∷_ (11, Rows.whole (Declared.row Hull.the-type)) (List._∷_ (12, Rows.any-gone ty·7) (List._∷_ (13, Rows.any-gone ty·11) (List._∷_ (14, Rows.any-gone ty·3) (List._∷_ (15, Rows.any-gone ty·9) List.[])))))))))))))))
 
 abbrev pub t23 : List.List Row.Entry
-t23 = List._∷_ (16, Rows.any-gone ty·9) (List._∷_ (17, Rows.any-gone ty·6) (List._∷_ (18, Rows.sslice ELEM.the-row ty·6 6) (List._∷_ (19, Rows.any-gone ty·3) (List._∷_ (20, Mut.msleft (Referent.rtF (Referent.fInt Syntax.w32)) ty·3) List.[]))))
+t23 = List._∷_ (16, Rows.any-gone ty·3) (List._∷_ (17, Rows.any-gone ty·9) (List._∷_ (18, Rows.any-gone ty·6) (List._∷_ (19, Rows.sslice ELEM.the-row ty·6 6) (List._∷_ (20, Rows.any-gone ty·3) (List._∷_ (21, Mut.msleft (Referent.rtF (Referent.fInt Syntax.w32)) ty·3) List.[])))))
 
 abbrev pub t24 : List.List Row.Entry
-t24 = List._∷_ (16, Rows.any-gone ty·9) (List._∷_ (17, Rows.any-gone ty·6) (List._∷_ (18, Rows.any-gone ty·10) (List._∷_ (19, Rows.any-gone ty·3) (List._∷_ (20, Mut.msleft (Referent.rtF (Referent.fInt Syntax.w32)) ty·3) List.[]))))
+t24 = List._∷_ (16, Rows.any-gone ty·3) (List._∷_ (17, Rows.any-gone ty·9) (List._∷_ (18, Rows.any-gone ty·6) (List._∷_ (19, Rows.any-gone ty·10) (List._∷_ (20, Rows.any-gone ty·3) (List._∷_ (21, Mut.msleft (Referent.rtF (Referent.fInt Syntax.w32)) ty·3) List.[])))))
 
 abbrev pub t25 : List.List Row.Entry
-t25 = List._∷_ (0, Rows.whole (Declared.row Hull.the-type)) (List._∷_ (1, Reshare.mslice-owedS ELEM.the-row ty·8 0 6 Row.off) (List._∷_ (2, Mut.mslice (Referent.rtF (Referent.fInt Syntax.w32)) ty·4 1) (List._∷_ (3, Relend.mslice-owed (Referent.rtF (Referent.fInt Syntax.w32)) ty·5 2 7 Row.off) (List._∷_ (4, Rows.any-gone ty·12) (List._∷_ (5, Rows.sc-here (Row.sFloat Ieee.binary64)) (List._∷_ (6, Rows.sc-here (Row.sFloat Ieee.binary64)) (List._∷_ (7, Rows.sc-here (Row.sFloat Ieee.binary64)) (List._∷_ (8, Rows.sc-here (Row.sInt Syntax.w32)) (List._∷_ (9, Rows.sc-here (Row.sInt Syntax.w32)) (List._∷_ (10, Rows.any-gone ty·12) (List._∷_ (11, Rows.any-gone ty·7) (List._∷_ (12, Rows.any-gone ty·11) (List._∷_ (13, Rows.any-gone ty·3) (List._∷_ (14, Rows.any-gone ty·9) (List._∷_ (15, Rows.any-gone ty·3) List.[])))))))))))))))
+t25 = List._∷_ (0, Rows.whole (Declared.row Hull.the-type)) (List._∷_ (1, Reshare.mslice-owedS ELEM.the-row ty·8 0 6 Row.off) (List._∷_ (2, Mut.mslice (Referent.rtF (Referent.fInt Syntax.w32)) ty·4 1) (List._∷_ (3, Relend.mslice-owed (Referent.rtF (Referent.fInt Syntax.w32)) ty·5 2 7 Row.off) (List._∷_ (4, Rows.any-gone ty·12) (List._∷_ (5, Rows.sc-here (Row.sInt Syntax.w32)) (List._∷_ (6, Rows.sc-here (Row.sFloat Ieee.binary64)) (List._∷_ (7, Rows.sc-here (Row.sFloat Ieee.binary64)) (List._∷_ (8, Rows.sc-here (Row.sFloat Ieee.binary64)) (List._∷_ (9, Rows.sc-here (Row.sInt Syntax.w32)) (List._∷_ (10, Rows.sc-here (Row.sInt Syntax.w32)) (List._∷_ (11, Rows.any-gone ty·12) (List._∷_ (12, Rows.any-gone ty·7) (List._∷_ (13, Rows.any-gone ty·11) (List._∷_ (14, Rows.any-gone ty·3) (List._∷_ (15, Rows.any-gone ty·9) List.[])))))))))))))))
 
 abbrev pub t26 : List.List Row.Entry
-t26 = List._∷_ (0, Rows.whole (Declared.row Hull.the-type)) (List._∷_ (1, Mut.mslice ELEM.the-row ty·8 0) (List._∷_ (2, Mut.mslice (Referent.rtF (Referent.fInt Syntax.w32)) ty·4 1) (List._∷_ (3, Relend.mslice-owed (Referent.rtF (Referent.fInt Syntax.w32)) ty·5 2 7 Row.off) (List._∷_ (4, Rows.any-gone ty·12) (List._∷_ (5, Rows.sc-here (Row.sFloat Ieee.binary64)) (List._∷_ (6, Rows.sc-here (Row.sFloat Ieee.binary64)) (List._∷_ (7, Rows.sc-here (Row.sFloat Ieee.binary64)) (List._∷_ (8, Rows.sc-here (Row.sInt Syntax.w32)) (List._∷_ (9, Rows.sc-here (Row.sInt Syntax.w32)) (List._∷_ (10, Rows.any-gone ty·12) (List._∷_ (11, Rows.any-gone ty·7) (List._∷_ (12, Rows.any-gone ty·11) (List._∷_ (13, Rows.any-gone ty·3) (List._∷_ (14, Rows.any-gone ty·9) (List._∷_ (15, Rows.any-gone ty·3) List.[])))))))))))))))
+t26 = List._∷_ (0, Rows.whole (Declared.row Hull.the-type)) (List._∷_ (1, Mut.mslice ELEM.the-row ty·8 0) (List._∷_ (2, Mut.mslice (Referent.rtF (Referent.fInt Syntax.w32)) ty·4 1) (List._∷_ (3, Relend.mslice-owed (Referent.rtF (Referent.fInt Syntax.w32)) ty·5 2 7 Row.off) (List._∷_ (4, Rows.any-gone ty·12) (List._∷_ (5, Rows.sc-here (Row.sInt Syntax.w32)) (List._∷_ (6, Rows.sc-here (Row.sFloat Ieee.binary64)) (List._∷_ (7, Rows.sc-here (Row.sFloat Ieee.binary64)) (List._∷_ (8, Rows.sc-here (Row.sFloat Ieee.binary64)) (List._∷_ (9, Rows.sc-here (Row.sInt Syntax.w32)) (List._∷_ (10, Rows.sc-here (Row.sInt Syntax.w32)) (List._∷_ (11, Rows.any-gone ty·12) (List._∷_ (12, Rows.any-gone ty·7) (List._∷_ (13, Rows.any-gone ty·11) (List._∷_ (14, Rows.any-gone ty·3) (List._∷_ (15, Rows.any-gone ty·9) List.[])))))))))))))))
 
 abbrev pub t27 : List.List Row.Entry
-t27 = List._∷_ (0, Rows.whole (Declared.row Hull.the-type)) (List._∷_ (1, Mut.mslice ELEM.the-row ty·8 0) (List._∷_ (2, Mut.mslice (Referent.rtF (Referent.fInt Syntax.w32)) ty·4 1) (List._∷_ (3, Mut.mslice (Referent.rtF (Referent.fInt Syntax.w32)) ty·5 2) (List._∷_ (4, Rows.any-gone ty·12) (List._∷_ (5, Rows.sc-here (Row.sFloat Ieee.binary64)) (List._∷_ (6, Rows.sc-here (Row.sFloat Ieee.binary64)) (List._∷_ (7, Rows.sc-here (Row.sFloat Ieee.binary64)) (List._∷_ (8, Rows.sc-here (Row.sInt Syntax.w32)) (List._∷_ (9, Rows.sc-here (Row.sInt Syntax.w32)) (List._∷_ (10, Rows.any-gone ty·12) (List._∷_ (11, Rows.any-gone ty·7) (List._∷_ (12, Rows.any-gone ty·11) (List._∷_ (13, Rows.any-gone ty·3) (List._∷_ (14, Rows.any-gone ty·9) (List._∷_ (15, Rows.any-gone ty·3) List.[])))))))))))))))
+t27 = List._∷_ (0, Rows.whole (Declared.row Hull.the-type)) (List._∷_ (1, Mut.mslice ELEM.the-row ty·8 0) (List._∷_ (2, Mut.mslice (Referent.rtF (Referent.fInt Syntax.w32)) ty·4 1) (List._∷_ (3, Mut.mslice (Referent.rtF (Referent.fInt Syntax.w32)) ty·5 2) (List._∷_ (4, Rows.any-gone ty·12) (List._∷_ (5, Rows.sc-here (Row.sInt Syntax.w32)) (List._∷_ (6, Rows.sc-here (Row.sFloat Ieee.binary64)) (List._∷_ (7, Rows.sc-here (Row.sFloat Ieee.binary64)) (List._∷_ (8, Rows.sc-here (Row.sFloat Ieee.binary64)) (List._∷_ (9, Rows.sc-here (Row.sInt Syntax.w32)) (List._∷_ (10, Rows.sc-here (Row.sInt Syntax.w32)) (List._∷_ (11, Rows.any-gone ty·12) (List._∷_ (12, Rows.any-gone ty·7) (List._∷_ (13, Rows.any-gone ty·11) (List._∷_ (14, Rows.any-gone ty·3) (List._∷_ (15, Rows.any-gone ty·9) List.[])))))))))))))))
 
 abbrev pub t28 : List.List Row.Entry
-t28 = List._∷_ (0, Rows.whole (Declared.row Hull.the-type)) (List._∷_ (1, Mut.mslice ELEM.the-row ty·8 0) (List._∷_ (2, Mut.mslice (Referent.rtF (Referent.fInt Syntax.w32)) ty·4 1) (List._∷_ (3, Mut.mslice (Referent.rtF (Referent.fInt Syntax.w32)) ty·5 2) (List._∷_ (4, Rows.any-gone ty·12) (List._∷_ (5, Rows.any-gone ty·2) (List._∷_ (6, Rows.sc-here (Row.sFloat Ieee.binary64)) (List._∷_ (7, Rows.sc-here (Row.sFloat Ieee.binary64)) (List._∷_ (8, Rows.sc-here (Row.sInt Syntax.w32)) (List._∷_ (9, Rows.sc-here (Row.sInt Syntax.w32)) (List._∷_ (10, Rows.any-gone ty·12) (List._∷_ (11, Rows.any-gone ty·7) (List._∷_ (12, Rows.any-gone ty·11) (List._∷_ (13, Rows.any-gone ty·3) (List._∷_ (14, Rows.any-gone ty·9) (List._∷_ (15, Rows.any-gone ty·3) List.[])))))))))))))))
+t28 = List._∷_ (0, Rows.whole (Declared.row Hull.the-type)) (List._∷_ (1, Mut.mslice ELEM.the-row ty·8 0) (List._∷_ (2, Mut.mslice (Referent.rtF (Referent.fInt Syntax.w32)) ty·4 1) (List._∷_ (3, Mut.mslice (Referent.rtF (Referent.fInt Syntax.w32)) ty·5 2) (List._∷_ (4, Rows.any-gone ty·12) (List._∷_ (5, Rows.any-gone ty·0) (List._∷_ (6, Rows.sc-here (Row.sFloat Ieee.binary64)) (List._∷_ (7, Rows.sc-here (Row.sFloat Ieee.binary64)) (List._∷_ (8, Rows.sc-here (Row.sFloat Ieee.binary64)) (List._∷_ (9, Rows.sc-here (Row.sInt Syntax.w32)) (List._∷_ (10, Rows.sc-here (Row.sInt Syntax.w32)) (List._∷_ (11, Rows.any-gone ty·12) (List._∷_ (12, Rows.any-gone ty·7) (List._∷_ (13, Rows.any-gone ty·11) (List._∷_ (14, Rows.any-gone ty·3) (List._∷_ (15, Rows.any-gone ty·9) List.[])))))))))))))))
 
 abbrev pub t29 : List.List Row.Entry
-t29 = List._∷_ (0, Rows.whole (Declared.row Hull.the-type)) (List._∷_ (1, Mut.mslice ELEM.the-row ty·8 0) (List._∷_ (2, Mut.mslice (Referent.rtF (Referent.fInt Syntax.w32)) ty·4 1) (List._∷_ (3, Mut.mslice (Referent.rtF (Referent.fInt Syntax.w32)) ty·5 2) (List._∷_ (4, Rows.any-gone ty·12) (List._∷_ (5, Rows.any-gone ty·2) (List._∷_ (6, Rows.any-gone ty·2) (List._∷_ (7, Rows.sc-here (Row.sFloat Ieee.binary64)) (List._∷_ (8, Rows.sc-here (Row.sInt Syntax.w32)) (List._∷_ (9, Rows.sc-here (Row.sInt Syntax.w32)) (List._∷_ (10, Rows.any-gone ty·12) (List._∷_ (11, Rows.any-gone ty·7) (List._∷_ (12, Rows.any-gone ty·11) (List._∷_ (13, Rows.any-gone ty·3) (List._∷_ (14, Rows.any-gone ty·9) (List._∷_ (15, Rows.any-gone ty·3) List.[])))))))))))))))
+t29 = List._∷_ (0, Rows.whole (Declared.row Hull.the-type)) (List._∷_ (1, Mut.mslice ELEM.the-row ty·8 0) (List._∷_ (2, Mut.mslice (Referent.rtF (Referent.fInt Syntax.w32)) ty·4 1) (List._∷_ (3, Mut.mslice (Referent.rtF (Referent.fInt Syntax.w32)) ty·5 2) (List._∷_ (4, Rows.any-gone ty·12) (List._∷_ (5, Rows.any-gone ty·0) (List._∷_ (6, Rows.any-gone ty·2) (List._∷_ (7, Rows.sc-here (Row.sFloat Ieee.binary64)) (List._∷_ (8, Rows.sc-here (Row.sFloat Ieee.binary64)) (List._∷_ (9, Rows.sc-here (Row.sInt Syntax.w32)) (List._∷_ (10, Rows.sc-here (Row.sInt Syntax.w32)) (List._∷_ (11, Rows.any-gone ty·12) (List._∷_ (12, Rows.any-gone ty·7) (List._∷_ (13, Rows.any-gone ty·11) (List._∷_ (14, Rows.any-gone ty·3) (List._∷_ (15, Rows.any-gone ty·9) List.[])))))))))))))))
 
 abbrev pub t30 : List.List Row.Entry
-t30 = List._∷_ (0, Rows.whole (Declared.row Hull.the-type)) (List._∷_ (1, Mut.mslice ELEM.the-row ty·8 0) (List._∷_ (2, Mut.mslice (Referent.rtF (Referent.fInt Syntax.w32)) ty·4 1) (List._∷_ (3, Mut.mslice (Referent.rtF (Referent.fInt Syntax.w32)) ty·5 2) (List._∷_ (4, Rows.any-gone ty·12) (List._∷_ (5, Rows.any-gone ty·2) (List._∷_ (6, Rows.any-gone ty·2) (List._∷_ (7, Rows.any-gone ty·2) (List._∷_ (8, Rows.sc-here (Row.sInt Syntax.w32)) (List._∷_ (9, Rows.sc-here (Row.sInt Syntax.w32)) (List._∷_ (10, Rows.any-gone ty·12) (List._∷_ (11, Rows.any-gone ty·7) (List._∷_ (12, Rows.any-gone ty·11) (List._∷_ (13, Rows.any-gone ty·3) (List._∷_ (14, Rows.any-gone ty·9) (List._∷_ (15, Rows.any-gone ty·3) List.[])))))))))))))))
+t30 = List._∷_ (0, Rows.whole (Declared.row Hull.the-type)) (List._∷_ (1, Mut.mslice ELEM.the-row ty·8 0) (List._∷_ (2, Mut.mslice (Referent.rtF (Referent.fInt Syntax.w32)) ty·4 1) (List._∷_ (3, Mut.mslice (Referent.rtF (Referent.fInt Syntax.w32)) ty·5 2) (List._∷_ (4, Rows.any-gone ty·12) (List._∷_ (5, Rows.any-gone ty·0) (List._∷_ (6, Rows.any-gone ty·2) (List._∷_ (7, Rows.any-gone ty·2) (List._∷_ (8, Rows.sc-here (Row.sFloat Ieee.binary64)) (List._∷_ (9, Rows.sc-here (Row.sInt Syntax.w32)) (List._∷_ (10, Rows.sc-here (Row.sInt Syntax.w32)) (List._∷_ (11, Rows.any-gone ty·12) (List._∷_ (12, Rows.any-gone ty·7) (List._∷_ (13, Rows.any-gone ty·11) (List._∷_ (14, Rows.any-gone ty·3) (List._∷_ (15, Rows.any-gone ty·9) List.[])))))))))))))))
 
 abbrev pub t31 : List.List Row.Entry
-t31 = List._∷_ (0, Rows.whole (Declared.row Hull.the-type)) (List._∷_ (1, Mut.mslice ELEM.the-row ty·8 0) (List._∷_ (2, Mut.mslice (Referent.rtF (Referent.fInt Syntax.w32)) ty·4 1) (List._∷_ (3, Mut.mslice (Referent.rtF (Referent.fInt Syntax.w32)) ty·5 2) (List._∷_ (4, Rows.any-gone ty·12) (List._∷_ (5, Rows.any-gone ty·2) (List._∷_ (6, Rows.any-gone ty·2) (List._∷_ (7, Rows.any-gone ty·2) (List._∷_ (8, Rows.any-gone ty·0) (List._∷_ (9, Rows.sc-here (Row.sInt Syntax.w32)) (List._∷_ (10, Rows.any-gone ty·12) (List._∷_ (11, Rows.any-gone ty·7) (List._∷_ (12, Rows.any-gone ty·11) (List._∷_ (13, Rows.any-gone ty·3) (List._∷_ (14, Rows.any-gone ty·9) (List._∷_ (15, Rows.any-gone ty·3) List.[])))))))))))))))
+t31 = List._∷_ (0, Rows.whole (Declared.row Hull.the-type)) (List._∷_ (1, Mut.mslice ELEM.the-row ty·8 0) (List._∷_ (2, Mut.mslice (Referent.rtF (Referent.fInt Syntax.w32)) ty·4 1) (List._∷_ (3, Mut.mslice (Referent.rtF (Referent.fInt Syntax.w32)) ty·5 2) (List._∷_ (4, Rows.any-gone ty·12) (List._∷_ (5, Rows.any-gone ty·0) (List._∷_ (6, Rows.any-gone ty·2) (List._∷_ (7, Rows.any-gone ty·2) (List._∷_ (8, Rows.any-gone ty·2) (List._∷_ (9, Rows.sc-here (Row.sInt Syntax.w32)) (List._∷_ (10, Rows.sc-here (Row.sInt Syntax.w32)) (List._∷_ (11, Rows.any-gone ty·12) (List._∷_ (12, Rows.any-gone ty·7) (List._∷_ (13, Rows.any-gone ty·11) (List._∷_ (14, Rows.any-gone ty·3) (List._∷_ (15, Rows.any-gone ty·9) List.[])))))))))))))))
+
+abbrev pub t32 : List.List Row.Entry
+t32 = List._∷_ (0, Rows.whole (Declared.row Hull.the-type)) (List._∷_ (1, Mut.mslice ELEM.the-row ty·8 0) (List._∷_ (2, Mut.mslice (Referent.rtF (Referent.fInt Syntax.w32)) ty·4 1) (List._∷_ (3, Mut.mslice (Referent.rtF (Referent.fInt Syntax.w32)) ty·5 2) (List._∷_ (4, Rows.any-gone ty·12) (List._∷_ (5, Rows.any-gone ty·0) (List._∷_ (6, Rows.any-gone ty·2) (List._∷_ (7, Rows.any-gone ty·2) (List._∷_ (8, Rows.any-gone ty·2) (List._∷_ (9, Rows.any-gone ty·0) (List._∷_ (10, Rows.sc-here (Row.sInt Syntax.w32)) (List._∷_ (11, Rows.any-gone ty·12) (List._∷_ (12, Rows.any-gone ty·7) (List._∷_ (13, Rows.any-gone ty·11) (List._∷_ (14, Rows.any-gone ty·3) (List._∷_ (15, Rows.any-gone ty·9) List.[])))))))))))))))
 
 abbrev pub T0 : Row.Cx
 T0 = record { locals = List._++_ t0 t1; slots = List.[] }
@@ -319,10 +322,10 @@ abbrev pub T9 : Row.Cx
 T9 = record { locals = List._++_ t6 t1; slots = List.[] }
 
 abbrev pub T11 : Row.Cx
-T11 = record { locals = List._++_ t7 t1; slots = List.[] }
+T11 = record { locals = List._++_ t7 t8; slots = List.[] }
 
 abbrev pub T12 : Row.Cx
-T12 = record { locals = List._++_ t8 t9; slots = List.[] }
+T12 = record { locals = List._++_ t7 t9; slots = List.[] }
 
 abbrev pub T13 : Row.Cx
 T13 = record { locals = List._++_ t10 t11; slots = List.[] }
@@ -388,7 +391,10 @@ abbrev pub T45 : Row.Cx
 T45 = record { locals = List._++_ t31 t1; slots = List.[] }
 
 abbrev pub T46 : Row.Cx
-T46 = record { locals = List._++_ t2 t1; slots = List.[] }
+T46 = record { locals = List._++_ t32 t1; slots = List.[] }
+
+abbrev pub T47 : Row.Cx
+T47 = record { locals = List._++_ t2 t1; slots = List.[] }
 
 abbrev pub O0 : Typed.Outs
 O0 = record { next = Option.none; exits = List.[]; returns = Option.some T1 }
@@ -401,76 +407,76 @@ module _ (claims· : Claims) where
   s1 = Know.k-sl-known (Referent.fInt Syntax.w32) T2 3 2 ty·5 Row.off 0 λ x. x
 
   abbrev s3 : Typed.Gives T3 T5
-  s3 = Relend.k-sl-relend ELEM.the-row T3 1 11 0 3 ty·8 ty·7 Row.off λ x. x
+  s3 = Relend.k-sl-relend ELEM.the-row T3 1 12 0 3 ty·8 ty·7 Row.off λ x. x
 
   abbrev s4 : Typed.Asks T5 T6
-  s4 = Relend.k-sl-aggregate ELEM.the-row (Relend.asMut ELEM.the-row) T5 11 12 3 ty·7 ty·7 (λ x. x) (Scalar.oFld 1 (List._∷_ (Syntax.field 1) List.[]) ty·1 8 λ v. Shared.lenV (v .0))
+  s4 = Relend.k-sl-aggregate ELEM.the-row (Relend.asMut ELEM.the-row) T5 12 13 3 ty·7 ty·7 (λ x. x) (Scalar.oFld 1 (List._∷_ (Syntax.field 1) List.[]) ty·1 8 λ v. Shared.lenV (v .0))
 
   abbrev s6 : Typed.Gives T6 T8
-  s6 = Relend.k-sl-relend (Referent.rtF (Referent.fInt Syntax.w32)) T6 2 13 1 4 ty·4 ty·3 Row.off λ x. x
+  s6 = Relend.k-sl-relend (Referent.rtF (Referent.fInt Syntax.w32)) T6 2 14 1 4 ty·4 ty·3 Row.off λ x. x
 
   abbrev s7 : Typed.Asks T8 T9
-  s7 = Relend.k-sl-aggregate (Referent.rtF (Referent.fInt Syntax.w32)) (Relend.asMut (Referent.rtF (Referent.fInt Syntax.w32))) T8 13 14 4 ty·3 ty·3 (λ x. x) (Scalar.oFld 2 (List._∷_ (Syntax.field 1) List.[]) ty·1 8 λ v. Shared.lenV (v .0))
+  s7 = Relend.k-sl-aggregate (Referent.rtF (Referent.fInt Syntax.w32)) (Relend.asMut (Referent.rtF (Referent.fInt Syntax.w32))) T8 14 15 4 ty·3 ty·3 (λ x. x) (Scalar.oFld 2 (List._∷_ (Syntax.field 1) List.[]) ty·1 8 λ v. Shared.lenV (v .0))
 
   abbrev s9 : Typed.Gives T9 T11
-  s9 = Relend.k-sl-relend (Referent.rtF (Referent.fInt Syntax.w32)) T9 3 15 2 5 ty·5 ty·3 Row.off λ x. x
+  s9 = Relend.k-sl-relend (Referent.rtF (Referent.fInt Syntax.w32)) T9 3 16 2 5 ty·5 ty·3 Row.off λ x. x
 
   abbrev s10 : Typed.Asks T11 T12
-  s10 = Relend.k-sl-aggregate (Referent.rtF (Referent.fInt Syntax.w32)) (Relend.asMut (Referent.rtF (Referent.fInt Syntax.w32))) T11 15 16 5 ty·3 ty·3 (λ x. x) (Scalar.oFld 3 (List._∷_ (Syntax.field 1) List.[]) ty·1 8 λ v. Shared.lenV (v .0))
+  s10 = Relend.k-sl-aggregate (Referent.rtF (Referent.fInt Syntax.w32)) (Relend.asMut (Referent.rtF (Referent.fInt Syntax.w32))) T11 16 17 5 ty·3 ty·3 (λ x. x) (Scalar.oFld 3 (List._∷_ (Syntax.field 1) List.[]) ty·1 8 λ v. Shared.lenV (v .0))
 
   abbrev s11 : Typed.Both T12 T13
-  s11 = Call.callB ps·0 r·0 (claims· .0) (claims· .1) T12 (record { pos = 12; ty = Syntax.tyRef Syntax.erased Syntax.mut (ELEMMEM.pointee (ELEM.the-row .written)); ref = λ x. x }, (record { pos = 14; ty = Syntax.tyRef Syntax.erased Syntax.mut ty·0; ref = λ x. x }, (record { pos = 16; ty = Syntax.tyRef Syntax.erased Syntax.mut ty·0; ref = λ x. x }, (record { pos = 4; st = List.[]; d = 0; at = λ x. x }, (Float.fAt 5 λ x. x, (Float.fAt 6 λ x. x, (Float.fAt 7 λ x. x, (Num.vAt 8 λ x. x, (Num.vAt 9 λ x. x, tt))))))))) 10 (List._∷_ 3 (List._∷_ 4 (List._∷_ 5 List.[]))) ty·12
+  s11 = Call.callB ps·0 r·0 (claims· .0) (claims· .1) T12 (record { pos = 13; ty = Syntax.tyRef Syntax.erased Syntax.mut (ELEMMEM.pointee (ELEM.the-row .written)); ref = λ x. x }, (record { pos = 15; ty = Syntax.tyRef Syntax.erased Syntax.mut ty·0; ref = λ x. x }, (record { pos = 17; ty = Syntax.tyRef Syntax.erased Syntax.mut ty·0; ref = λ x. x }, (record { pos = 4; st = List.[]; d = 0; at = λ x. x }, (Num.vAt 5 λ x. x, (Float.fAt 6 λ x. x, (Float.fAt 7 λ x. x, (Float.fAt 8 λ x. x, (Num.vAt 9 λ x. x, (Num.vAt 10 λ x. x, tt)))))))))) 11 (List._∷_ 3 (List._∷_ 4 (List._∷_ 5 List.[]))) ty·12
 
   abbrev s12 : Typed.Mo T13 → Typed.Mo T14
   s12 = Scalar.n-room T13 4 ty·12
 
   abbrev s14 : Typed.Both T14 T16
-  s14 = Relend.k-back-sl ELEM.the-row T14 12 1 0 3 ty·8 ty·7 Row.off (λ x. x) λ x. x
+  s14 = Relend.k-back-sl ELEM.the-row T14 13 1 0 3 ty·8 ty·7 Row.off (λ x. x) λ x. x
 
   abbrev s17 : Typed.Both T16 T19
-  s17 = Relend.k-back-sl (Referent.rtF (Referent.fInt Syntax.w32)) T16 14 2 1 4 ty·4 ty·3 Row.off (λ x. x) λ x. x
+  s17 = Relend.k-back-sl (Referent.rtF (Referent.fInt Syntax.w32)) T16 15 2 1 4 ty·4 ty·3 Row.off (λ x. x) λ x. x
 
   abbrev s18 : Typed.Gives T19 T20
   s18 = Know.k-sl-known (Referent.fInt Syntax.w32) T19 2 1 ty·4 Row.off 0 λ x. x
 
   abbrev s21 : Typed.Both T20 T23
-  s21 = Relend.k-back-sl (Referent.rtF (Referent.fInt Syntax.w32)) T20 16 3 2 5 ty·5 ty·3 Row.off (λ x. x) λ x. x
+  s21 = Relend.k-back-sl (Referent.rtF (Referent.fInt Syntax.w32)) T20 17 3 2 5 ty·5 ty·3 Row.off (λ x. x) λ x. x
 
   abbrev s22 : Typed.Gives T23 T24
   s22 = Know.k-sl-known (Referent.fInt Syntax.w32) T23 3 2 ty·5 Row.off 0 λ x. x
 
   abbrev s25 : Typed.Gives T24 T27
-  s25 = Reshare.k-sl-reshare ELEM.the-row T24 1 17 0 6 ty·8 ty·6 Row.off λ x. x
+  s25 = Reshare.k-sl-reshare ELEM.the-row T24 1 18 0 6 ty·8 ty·6 Row.off λ x. x
 
   abbrev s26 : Typed.Asks T27 T28
-  s26 = Relend.k-sl-aggregate ELEM.the-row (Relend.asShr ELEM.the-row) T27 17 18 6 ty·6 ty·6 (λ x. x) (Scalar.oFld 1 (List._∷_ (Syntax.field 1) List.[]) ty·1 8 λ v. Shared.lenV (v .0))
+  s26 = Relend.k-sl-aggregate ELEM.the-row (Relend.asShr ELEM.the-row) T27 18 19 6 ty·6 ty·6 (λ x. x) (Scalar.oFld 1 (List._∷_ (Syntax.field 1) List.[]) ty·1 8 λ v. Shared.lenV (v .0))
 
   abbrev s28 : Typed.Gives T28 T30
-  s28 = Relend.k-sl-relend (Referent.rtF (Referent.fInt Syntax.w32)) T28 3 19 2 7 ty·5 ty·3 Row.off λ x. x
+  s28 = Relend.k-sl-relend (Referent.rtF (Referent.fInt Syntax.w32)) T28 3 20 2 7 ty·5 ty·3 Row.off λ x. x
 
   abbrev s29 : Typed.Asks T30 T31
-  s29 = Relend.k-sl-aggregate (Referent.rtF (Referent.fInt Syntax.w32)) (Relend.asMut (Referent.rtF (Referent.fInt Syntax.w32))) T30 19 20 7 ty·3 ty·3 (λ x. x) (Scalar.oFld 3 (List._∷_ (Syntax.field 1) List.[]) ty·1 8 λ v. Shared.lenV (v .0))
+  s29 = Relend.k-sl-aggregate (Referent.rtF (Referent.fInt Syntax.w32)) (Relend.asMut (Referent.rtF (Referent.fInt Syntax.w32))) T30 20 21 7 ty·3 ty·3 (λ x. x) (Scalar.oFld 3 (List._∷_ (Syntax.field 1) List.[]) ty·1 8 λ v. Shared.lenV (v .0))
 
   abbrev s30 : Typed.Both T31 T32
-  s30 = Call.callB ps·1 r·1 (claims· .2) (claims· .3) T31 (record { pos = 18; ty = Syntax.tyRef Syntax.erased Syntax.imm (ELEMMEM.pointee (ELEM.the-row .written)); ref = λ x. x }, (record { pos = 20; ty = Syntax.tyRef Syntax.erased Syntax.mut ty·0; ref = λ x. x }, (record { pos = 10; st = List.[]; d = 0; at = λ x. x }, tt))) 0 (List._∷_ 6 (List._∷_ 7 List.[])) ty·12
+  s30 = Call.callB ps·1 r·1 (claims· .2) (claims· .3) T31 (record { pos = 19; ty = Syntax.tyRef Syntax.erased Syntax.imm (ELEMMEM.pointee (ELEM.the-row .written)); ref = λ x. x }, (record { pos = 21; ty = Syntax.tyRef Syntax.erased Syntax.mut ty·0; ref = λ x. x }, (record { pos = 11; st = List.[]; d = 0; at = λ x. x }, tt))) 0 (List._∷_ 6 (List._∷_ 7 List.[])) ty·12
 
   abbrev s31 : Typed.Mo T32 → Typed.Mo T33
-  s31 = Scalar.n-room T32 18 ty·10
+  s31 = Scalar.n-room T32 19 ty·10
 
   abbrev s32 : Typed.Mo T33 → Typed.Mo T34
-  s32 = Scalar.n-room T33 10 ty·12
+  s32 = Scalar.n-room T33 11 ty·12
 
   abbrev s34 : Typed.Mo T34 → Typed.Mo T36
   s34 = Reshare.n-back-sl-shr ELEM.the-row T34 1 0 6 ty·8 Row.off λ x. x
 
   abbrev s37 : Typed.Both T36 T39
-  s37 = Relend.k-back-sl (Referent.rtF (Referent.fInt Syntax.w32)) T36 20 3 2 7 ty·5 ty·3 Row.off (λ x. x) λ x. x
+  s37 = Relend.k-back-sl (Referent.rtF (Referent.fInt Syntax.w32)) T36 21 3 2 7 ty·5 ty·3 Row.off (λ x. x) λ x. x
 
   abbrev s38 : Typed.Gives T39 T40
   s38 = Know.k-sl-known (Referent.fInt Syntax.w32) T39 3 2 ty·5 Row.off 0 λ x. x
 
   abbrev s40 : Typed.Mo T40 → Typed.Mo T42
-  s40 = Scalar.n-room T40 5 ty·2
+  s40 = Scalar.n-room T40 5 ty·0
 
   abbrev s41 : Typed.Mo T42 → Typed.Mo T43
   s41 = Scalar.n-room T42 6 ty·2
@@ -479,10 +485,13 @@ module _ (claims· : Claims) where
   s42 = Scalar.n-room T43 7 ty·2
 
   abbrev s43 : Typed.Mo T44 → Typed.Mo T45
-  s43 = Scalar.n-room T44 8 ty·0
+  s43 = Scalar.n-room T44 8 ty·2
 
   abbrev s44 : Typed.Mo T45 → Typed.Mo T46
   s44 = Scalar.n-room T45 9 ty·0
+
+  abbrev s45 : Typed.Mo T46 → Typed.Mo T47
+  s45 = Scalar.n-room T46 10 ty·0
 
   module _ (Pre· : (κs : Lifetimes.Lfts 3) → Kinds.Dens κs ps → Type 0) (Post· : (κs : Lifetimes.Lfts 3) → (a : Kinds.Dens κs ps) → Kinds.Plain 3 ps r κs) where
     module _ (M : Type 1) where
@@ -490,146 +499,149 @@ module _ (claims· : Claims) where
       Closed = (𝓤 : URA.URA M) (H : Wp.Heap 𝓤) (A : Atoms.Atoms 𝓤) (W : Kit.Given 𝓤 H A) (𝓣 : Wp.Tables 𝓤 H) (known0 : Plain.Known 𝓤 H A W 𝓣 3 ps·0 r·0 (claims· .0) (claims· .1) "ring_insert::insert") (known1 : Plain.Known 𝓤 H A W 𝓣 2 ps·1 r·1 (claims· .2) (claims· .3) "ring_insert::adjust_bucket_size_if_necessary") → Statement.Triple 𝓤 (Wp.WpFn 𝓤 H (𝓣 .C) (𝓣 .Λ) (Function.fnOf 3 ps r xs m hs body)) (Function.plainOf 𝓤 H A 3 ps r Pre· Post·)
 
     module _ where
-      abbrev at0 : Typed.TF T46 O0
+      abbrev at0 : Typed.TF T47 O0
       at0 = Typed.atRet O0
 
-      abbrev at1 : Typed.TF T45 O0
-      at1 = λ Ψ. Typed.pass T45 T46 s44 (at0 Ψ)
+      abbrev at1 : Typed.TF T46 O0
+      at1 = λ Ψ. Typed.pass T46 T47 s45 (at0 Ψ)
 
-      abbrev at2 : Typed.TF T44 O0
-      at2 = λ Ψ. Typed.pass T44 T45 s43 (at1 Ψ)
+      abbrev at2 : Typed.TF T45 O0
+      at2 = λ Ψ. Typed.pass T45 T46 s44 (at1 Ψ)
 
-      abbrev at3 : Typed.TF T43 O0
-      at3 = λ Ψ. Typed.pass T43 T44 s42 (at2 Ψ)
+      abbrev at3 : Typed.TF T44 O0
+      at3 = λ Ψ. Typed.pass T44 T45 s43 (at2 Ψ)
 
-      abbrev at4 : Typed.TF T42 O0
-      at4 = λ Ψ. Typed.pass T42 T43 s41 (at3 Ψ)
+      abbrev at4 : Typed.TF T43 O0
+      at4 = λ Ψ. Typed.pass T43 T44 s42 (at3 Ψ)
 
-      abbrev at5 : Typed.TF T40 O0
-      at5 = λ Ψ. Typed.pass T40 T42 s40 (at4 Ψ)
+      abbrev at5 : Typed.TF T42 O0
+      at5 = λ Ψ. Typed.pass T42 T43 s41 (at4 Ψ)
 
       abbrev at6 : Typed.TF T40 O0
-      at6 = λ Ψ. at5 Ψ
+      at6 = λ Ψ. Typed.pass T40 T42 s40 (at5 Ψ)
 
-      abbrev at7 : Typed.TF T39 O0
-      at7 = λ Ψ. Typed.give s38 (at6 Ψ)
+      abbrev at7 : Typed.TF T40 O0
+      at7 = λ Ψ. at6 Ψ
 
-      abbrev at8 : Typed.TF T36 O0
-      at8 = λ Ψ. Typed.both s37 (at7 Ψ)
+      abbrev at8 : Typed.TF T39 O0
+      at8 = λ Ψ. Typed.give s38 (at7 Ψ)
 
       abbrev at9 : Typed.TF T36 O0
-      at9 = λ Ψ. at8 Ψ
+      at9 = λ Ψ. Typed.both s37 (at8 Ψ)
 
       abbrev at10 : Typed.TF T36 O0
       at10 = λ Ψ. at9 Ψ
 
-      abbrev at11 : Typed.TF T34 O0
-      at11 = λ Ψ. Typed.pass T34 T36 s34 (at10 Ψ)
+      abbrev at11 : Typed.TF T36 O0
+      at11 = λ Ψ. at10 Ψ
 
       abbrev at12 : Typed.TF T34 O0
-      at12 = λ Ψ. at11 Ψ
+      at12 = λ Ψ. Typed.pass T34 T36 s34 (at11 Ψ)
 
-      abbrev at13 : Typed.TF T33 O0
-      at13 = λ Ψ. Typed.pass T33 T34 s32 (at12 Ψ)
+      abbrev at13 : Typed.TF T34 O0
+      at13 = λ Ψ. at12 Ψ
 
-      abbrev at14 : Typed.TF T32 O0
-      at14 = λ Ψ. Typed.pass T32 T33 s31 (at13 Ψ)
+      abbrev at14 : Typed.TF T33 O0
+      at14 = λ Ψ. Typed.pass T33 T34 s32 (at13 Ψ)
 
-      abbrev at15 : Typed.TF T31 O0
-      at15 = λ Ψ. Typed.both s30 (at14 Ψ)
+      abbrev at15 : Typed.TF T32 O0
+      at15 = λ Ψ. Typed.pass T32 T33 s31 (at14 Ψ)
 
-      abbrev at16 : Typed.TF T30 O0
-      at16 = λ Ψ. Typed.ask s29 (at15 Ψ)
+      abbrev at16 : Typed.TF T31 O0
+      at16 = λ Ψ. Typed.both s30 (at15 Ψ)
 
-      abbrev at17 : Typed.TF T28 O0
-      at17 = λ Ψ. Typed.give s28 (at16 Ψ)
+      abbrev at17 : Typed.TF T30 O0
+      at17 = λ Ψ. Typed.ask s29 (at16 Ψ)
 
       abbrev at18 : Typed.TF T28 O0
-      at18 = λ Ψ. at17 Ψ
+      at18 = λ Ψ. Typed.give s28 (at17 Ψ)
 
-      abbrev at19 : Typed.TF T27 O0
-      at19 = λ Ψ. Typed.ask s26 (at18 Ψ)
+      abbrev at19 : Typed.TF T28 O0
+      at19 = λ Ψ. at18 Ψ
 
-      abbrev at20 : Typed.TF T24 O0
-      at20 = λ Ψ. Typed.give s25 (at19 Ψ)
+      abbrev at20 : Typed.TF T27 O0
+      at20 = λ Ψ. Typed.ask s26 (at19 Ψ)
 
       abbrev at21 : Typed.TF T24 O0
-      at21 = λ Ψ. at20 Ψ
+      at21 = λ Ψ. Typed.give s25 (at20 Ψ)
 
       abbrev at22 : Typed.TF T24 O0
       at22 = λ Ψ. at21 Ψ
 
-      abbrev at23 : Typed.TF T23 O0
-      at23 = λ Ψ. Typed.give s22 (at22 Ψ)
+      abbrev at23 : Typed.TF T24 O0
+      at23 = λ Ψ. at22 Ψ
 
-      abbrev at24 : Typed.TF T20 O0
-      at24 = λ Ψ. Typed.both s21 (at23 Ψ)
+      abbrev at24 : Typed.TF T23 O0
+      at24 = λ Ψ. Typed.give s22 (at23 Ψ)
 
       abbrev at25 : Typed.TF T20 O0
-      at25 = λ Ψ. at24 Ψ
+      at25 = λ Ψ. Typed.both s21 (at24 Ψ)
 
       abbrev at26 : Typed.TF T20 O0
       at26 = λ Ψ. at25 Ψ
 
-      abbrev at27 : Typed.TF T19 O0
-      at27 = λ Ψ. Typed.give s18 (at26 Ψ)
+      abbrev at27 : Typed.TF T20 O0
+      at27 = λ Ψ. at26 Ψ
 
-      abbrev at28 : Typed.TF T16 O0
-      at28 = λ Ψ. Typed.both s17 (at27 Ψ)
+      abbrev at28 : Typed.TF T19 O0
+      at28 = λ Ψ. Typed.give s18 (at27 Ψ)
 
       abbrev at29 : Typed.TF T16 O0
-      at29 = λ Ψ. at28 Ψ
+      at29 = λ Ψ. Typed.both s17 (at28 Ψ)
 
       abbrev at30 : Typed.TF T16 O0
       at30 = λ Ψ. at29 Ψ
 
-      abbrev at31 : Typed.TF T14 O0
-      at31 = λ Ψ. Typed.both s14 (at30 Ψ)
+      abbrev at31 : Typed.TF T16 O0
+      at31 = λ Ψ. at30 Ψ
 
       abbrev at32 : Typed.TF T14 O0
-      at32 = λ Ψ. at31 Ψ
+      at32 = λ Ψ. Typed.both s14 (at31 Ψ)
 
-      abbrev at33 : Typed.TF T13 O0
-      at33 = λ Ψ. Typed.pass T13 T14 s12 (at32 Ψ)
+      abbrev at33 : Typed.TF T14 O0
+      at33 = λ Ψ. at32 Ψ
 
-      abbrev at34 : Typed.TF T12 O0
-      at34 = λ Ψ. Typed.both s11 (at33 Ψ)
+      abbrev at34 : Typed.TF T13 O0
+      at34 = λ Ψ. Typed.pass T13 T14 s12 (at33 Ψ)
 
-      abbrev at35 : Typed.TF T11 O0
-      at35 = λ Ψ. Typed.ask s10 (at34 Ψ)
+      abbrev at35 : Typed.TF T12 O0
+      at35 = λ Ψ. Typed.both s11 (at34 Ψ)
 
-      abbrev at36 : Typed.TF T9 O0
-      at36 = λ Ψ. Typed.give s9 (at35 Ψ)
+      abbrev at36 : Typed.TF T11 O0
+      at36 = λ Ψ. Typed.ask s10 (at35 Ψ)
 
       abbrev at37 : Typed.TF T9 O0
-      at37 = λ Ψ. at36 Ψ
+      at37 = λ Ψ. Typed.give s9 (at36 Ψ)
 
-      abbrev at38 : Typed.TF T8 O0
-      at38 = λ Ψ. Typed.ask s7 (at37 Ψ)
+      abbrev at38 : Typed.TF T9 O0
+      at38 = λ Ψ. at37 Ψ
 
-      abbrev at39 : Typed.TF T6 O0
-      at39 = λ Ψ. Typed.give s6 (at38 Ψ)
+      abbrev at39 : Typed.TF T8 O0
+      at39 = λ Ψ. Typed.ask s7 (at38 Ψ)
 
       abbrev at40 : Typed.TF T6 O0
-      at40 = λ Ψ. at39 Ψ
+      at40 = λ Ψ. Typed.give s6 (at39 Ψ)
 
-      abbrev at41 : Typed.TF T5 O0
-      at41 = λ Ψ. Typed.ask s4 (at40 Ψ)
+      abbrev at41 : Typed.TF T6 O0
+      at41 = λ Ψ. at40 Ψ
 
-      abbrev at42 : Typed.TF T3 O0
-      at42 = λ Ψ. Typed.give s3 (at41 Ψ)
+      abbrev at42 : Typed.TF T5 O0
+      at42 = λ Ψ. Typed.ask s4 (at41 Ψ)
 
       abbrev at43 : Typed.TF T3 O0
-      at43 = λ Ψ. at42 Ψ
+      at43 = λ Ψ. Typed.give s3 (at42 Ψ)
 
-      abbrev at44 : Typed.TF T2 O0
-      at44 = λ Ψ. Typed.give s1 (at43 Ψ)
+      abbrev at44 : Typed.TF T3 O0
+      at44 = λ Ψ. at43 Ψ
 
-      abbrev at45 : Typed.TF T0 O0
-      at45 = λ Ψ. Typed.give s0 (at44 Ψ)
+      abbrev at45 : Typed.TF T2 O0
+      at45 = λ Ψ. Typed.give s1 (at44 Ψ)
+
+      abbrev at46 : Typed.TF T0 O0
+      at46 = λ Ψ. Typed.give s0 (at45 Ψ)
 
       abbrev pub Φ : Typed.TF T0 O0
-      Φ = at45
+      Φ = at46
 
       module _ {M : Type 1} (𝓤 : URA.URA M) (H : Wp.Heap 𝓤) (A : Atoms.Atoms 𝓤) (W : Kit.Given 𝓤 H A) (𝓣 : Wp.Tables 𝓤 H) where
         abbrev Knowns : Type 1
@@ -637,49 +649,46 @@ module _ (claims· : Claims) where
 
       module _ (κs : Lifetimes.Lfts 3) (qs : Lifetimes.Shares 3) where
         abbrev g3 : List.List Row.Entry
-        g3 = List._∷_ (0, Rows.any-gone ty·12) (List._∷_ (1, Relend.mslice-owed ELEM.the-row ty·8 0 3 (Row.lease (κs .0) (qs .0))) (List._∷_ (2, Mut.mslice (Referent.rtF (Referent.fInt Syntax.w32)) ty·4 1) (List._∷_ (3, Mut.mslice (Referent.rtF (Referent.fInt Syntax.w32)) ty·5 2) (List._∷_ (4, Rows.whole (Declared.row Hull.the-type)) (List._∷_ (5, Rows.sc-here (Row.sFloat Ieee.binary64)) (List._∷_ (6, Rows.sc-here (Row.sFloat Ieee.binary64)) (List._∷_ (7, Rows.sc-here (Row.sFloat Ieee.binary64)) (List._∷_ (8, Rows.sc-here (Row.sInt Syntax.w32)) (List._∷_ (9, Rows.sc-here (Row.sInt Syntax.w32)) (List._∷_ (10, Rows.any-gone ty·12) (List._∷_ (11, Relend.msptr ELEM.the-row ty·7 3) (List._∷_ (12, Rows.any-gone ty·11) (List._∷_ (13, Rows.any-gone ty·3) (List._∷_ (14, Rows.any-gone ty·9) (List._∷_ (15, Rows.any-gone ty·3) List.[])))))))))))))))
+        g3 = List._∷_ (0, Rows.any-gone ty·12) (List._∷_ (1, Relend.mslice-owed ELEM.the-row ty·8 0 3 (Row.lease (κs .0) (qs .0))) (List._∷_ (2, Mut.mslice (Referent.rtF (Referent.fInt Syntax.w32)) ty·4 1) (List._∷_ (3, Mut.mslice (Referent.rtF (Referent.fInt Syntax.w32)) ty·5 2) (List._∷_ (4, Rows.whole (Declared.row Hull.the-type)) (List._∷_ (5, Rows.sc-here (Row.sInt Syntax.w32)) (List._∷_ (6, Rows.sc-here (Row.sFloat Ieee.binary64)) (List._∷_ (7, Rows.sc-here (Row.sFloat Ieee.binary64)) (List._∷_ (8, Rows.sc-here (Row.sFloat Ieee.binary64)) (List._∷_ (9, Rows.sc-here (Row.sInt Syntax.w32)) (List._∷_ (10, Rows.sc-here (Row.sInt Syntax.w32)) (List._∷_ (11, Rows.any-gone ty·12) (List._∷_ (12, Relend.msptr ELEM.the-row ty·7 3) (List._∷_ (13, Rows.any-gone ty·11) (List._∷_ (14, Rows.any-gone ty·3) (List._∷_ (15, Rows.any-gone ty·9) List.[])))))))))))))))
 
         abbrev g4 : List.List Row.Entry
-        g4 = List._∷_ (0, Rows.any-gone ty·12) (List._∷_ (1, Relend.mslice-owed ELEM.the-row ty·8 0 3 (Row.lease (κs .0) (qs .0))) (List._∷_ (2, Mut.mslice (Referent.rtF (Referent.fInt Syntax.w32)) ty·4 1) (List._∷_ (3, Mut.mslice (Referent.rtF (Referent.fInt Syntax.w32)) ty·5 2) (List._∷_ (4, Rows.whole (Declared.row Hull.the-type)) (List._∷_ (5, Rows.sc-here (Row.sFloat Ieee.binary64)) (List._∷_ (6, Rows.sc-here (Row.sFloat Ieee.binary64)) (List._∷_ (7, Rows.sc-here (Row.sFloat Ieee.binary64)) (List._∷_ (8, Rows.sc-here (Row.sInt Syntax.w32)) (List._∷_ (9, Rows.sc-here (Row.sInt Syntax.w32)) (List._∷_ (10, Rows.any-gone ty·12) (List._∷_ (11, Rows.any-gone ty·7) (List._∷_ (12, Mut.mslice ELEM.the-row ty·7 3) (List._∷_ (13, Rows.any-gone ty·3) (List._∷_ (14, Rows.any-gone ty·9) (List._∷_ (15, Rows.any-gone ty·3) List.[])))))))))))))))
+        g4 = List._∷_ (0, Rows.any-gone ty·12) (List._∷_ (1, Relend.mslice-owed ELEM.the-row ty·8 0 3 (Row.lease (κs .0) (qs .0))) (List._∷_ (2, Mut.mslice (Referent.rtF (Referent.fInt Syntax.w32)) ty·4 1) (List._∷_ (3, Mut.mslice (Referent.rtF (Referent.fInt Syntax.w32)) ty·5 2) (List._∷_ (4, Rows.whole (Declared.row Hull.the-type)) (List._∷_ (5, Rows.sc-here (Row.sInt Syntax.w32)) (List._∷_ (6, Rows.sc-here (Row.sFloat Ieee.binary64)) (List._∷_ (7, Rows.sc-here (Row.sFloat Ieee.binary64)) (List._∷_ (8, Rows.sc-here (Row.sFloat Ieee.binary64)) (List._∷_ (9, Rows.sc-here (Row.sInt Syntax.w32)) (List._∷_ (10, Rows.sc-here (Row.sInt Syntax.w32)) (List._∷_ (11, Rows.any-gone ty·12) (List._∷_ (12, Rows.any-gone ty·7) (List._∷_ (13, Mut.mslice ELEM.the-row ty·7 3) (List._∷_ (14, Rows.any-gone ty·3) (List._∷_ (15, Rows.any-gone ty·9) List.[])))))))))))))))
 
         abbrev g5 : List.List Row.Entry
-        g5 = List._∷_ (0, Rows.any-gone ty·12) (List._∷_ (1, Relend.mslice-owed ELEM.the-row ty·8 0 3 (Row.lease (κs .0) (qs .0))) (List._∷_ (2, Relend.mslice-owed (Referent.rtF (Referent.fInt Syntax.w32)) ty·4 1 4 (Row.lease (κs .1 .0) (qs .1 .0))) (List._∷_ (3, Mut.mslice (Referent.rtF (Referent.fInt Syntax.w32)) ty·5 2) (List._∷_ (4, Rows.whole (Declared.row Hull.the-type)) (List._∷_ (5, Rows.sc-here (Row.sFloat Ieee.binary64)) (List._∷_ (6, Rows.sc-here (Row.sFloat Ieee.binary64)) (List._∷_ (7, Rows.sc-here (Row.sFloat Ieee.binary64)) (List._∷_ (8, Rows.sc-here (Row.sInt Syntax.w32)) (List._∷_ (9, Rows.sc-here (Row.sInt Syntax.w32)) (List._∷_ (10, Rows.any-gone ty·12) (List._∷_ (11, Rows.any-gone ty·7) (List._∷_ (12, Mut.mslice ELEM.the-row ty·7 3) (List._∷_ (13, Relend.msptr (Referent.rtF (Referent.fInt Syntax.w32)) ty·3 4) (List._∷_ (14, Rows.any-gone ty·9) (List._∷_ (15, Rows.any-gone ty·3) List.[])))))))))))))))
+        g5 = List._∷_ (0, Rows.any-gone ty·12) (List._∷_ (1, Relend.mslice-owed ELEM.the-row ty·8 0 3 (Row.lease (κs .0) (qs .0))) (List._∷_ (2, Relend.mslice-owed (Referent.rtF (Referent.fInt Syntax.w32)) ty·4 1 4 (Row.lease (κs .1 .0) (qs .1 .0))) (List._∷_ (3, Mut.mslice (Referent.rtF (Referent.fInt Syntax.w32)) ty·5 2) (List._∷_ (4, Rows.whole (Declared.row Hull.the-type)) (List._∷_ (5, Rows.sc-here (Row.sInt Syntax.w32)) (List._∷_ (6, Rows.sc-here (Row.sFloat Ieee.binary64)) (List._∷_ (7, Rows.sc-here (Row.sFloat Ieee.binary64)) (List._∷_ (8, Rows.sc-here (Row.sFloat Ieee.binary64)) (List._∷_ (9, Rows.sc-here (Row.sInt Syntax.w32)) (List._∷_ (10, Rows.sc-here (Row.sInt Syntax.w32)) (List._∷_ (11, Rows.any-gone ty·12) (List._∷_ (12, Rows.any-gone ty·7) (List._∷_ (13, Mut.mslice ELEM.the-row ty·7 3) (List._∷_ (14, Relend.msptr (Referent.rtF (Referent.fInt Syntax.w32)) ty·3 4) (List._∷_ (15, Rows.any-gone ty·9) List.[])))))))))))))))
 
         abbrev g6 : List.List Row.Entry
-        g6 = List._∷_ (0, Rows.any-gone ty·12) (List._∷_ (1, Relend.mslice-owed ELEM.the-row ty·8 0 3 (Row.lease (κs .0) (qs .0))) (List._∷_ (2, Relend.mslice-owed (Referent.rtF (Referent.fInt Syntax.w32)) ty·4 1 4 (Row.lease (κs .1 .0) (qs .1 .0))) (List._∷_ (3, Mut.mslice (Referent.rtF (Referent.fInt Syntax.w32)) ty·5 2) (List._∷_ (4, Rows.whole (Declared.row Hull.the-type)) (List._∷_ (5, Rows.sc-here (Row.sFloat Ieee.binary64)) (List._∷_ (6, Rows.sc-here (Row.sFloat Ieee.binary64)) (List._∷_ (7, Rows.sc-here (Row.sFloat Ieee.binary64)) (List._∷_ (8, Rows.sc-here (Row.sInt Syntax.w32)) (List._∷_ (9, Rows.sc-here (Row.sInt Syntax.w32)) (List._∷_ (10, Rows.any-gone ty·12) (List._∷_ (11, Rows.any-gone ty·7) (List._∷_ (12, Mut.mslice ELEM.the-row ty·7 3) (List._∷_ (13, Rows.any-gone ty·3) (List._∷_ (14, Mut.mslice (Referent.rtF (Referent.fInt Syntax.w32)) ty·3 4) (List._∷_ (15, Rows.any-gone ty·3) List.[])))))))))))))))
+        g6 = List._∷_ (0, Rows.any-gone ty·12) (List._∷_ (1, Relend.mslice-owed ELEM.the-row ty·8 0 3 (Row.lease (κs .0) (qs .0))) (List._∷_ (2, Relend.mslice-owed (Referent.rtF (Referent.fInt Syntax.w32)) ty·4 1 4 (Row.lease (κs .1 .0) (qs .1 .0))) (List._∷_ (3, Mut.mslice (Referent.rtF (Referent.fInt Syntax.w32)) ty·5 2) (List._∷_ (4, Rows.whole (Declared.row Hull.the-type)) (List._∷_ (5, Rows.sc-here (Row.sInt Syntax.w32)) (List._∷_ (6, Rows.sc-here (Row.sFloat Ieee.binary64)) (List._∷_ (7, Rows.sc-here (Row.sFloat Ieee.binary64)) (List._∷_ (8, Rows.sc-here (Row.sFloat Ieee.binary64)) (List._∷_ (9, Rows.sc-here (Row.sInt Syntax.w32)) (List._∷_ (10, Rows.sc-here (Row.sInt Syntax.w32)) (List._∷_ (11, Rows.any-gone ty·12) (List._∷_ (12, Rows.any-gone ty·7) (List._∷_ (13, Mut.mslice ELEM.the-row ty·7 3) (List._∷_ (14, Rows.any-gone ty·3) (List._∷_ (15, Mut.mslice (Referent.rtF (Referent.fInt Syntax.w32)) ty·3 4) List.[])))))))))))))))
 
         abbrev g7 : List.List Row.Entry
-        g7 = List._∷_ (0, Rows.any-gone ty·12) (List._∷_ (1, Relend.mslice-owed ELEM.the-row ty·8 0 3 (Row.lease (κs .0) (qs .0))) (List._∷_ (2, Relend.mslice-owed (Referent.rtF (Referent.fInt Syntax.w32)) ty·4 1 4 (Row.lease (κs .1 .0) (qs .1 .0))) (List._∷_ (3, Relend.mslice-owed (Referent.rtF (Referent.fInt Syntax.w32)) ty·5 2 5 (Row.lease (κs .1 .1 .0) (qs .1 .1 .0))) (List._∷_ (4, Rows.whole (Declared.row Hull.the-type)) (List._∷_ (5, Rows.sc-here (Row.sFloat Ieee.binary64)) (List._∷_ (6, Rows.sc-here (Row.sFloat Ieee.binary64)) (List._∷_ (7, Rows.sc-here (Row.sFloat Ieee.binary64)) (List._∷_ (8, Rows.sc-here (Row.sInt Syntax.w32)) (List._∷_ (9, Rows.sc-here (Row.sInt Syntax.w32)) (List._∷_ (10, Rows.any-gone ty·12) (List._∷_ (11, Rows.any-gone ty·7) (List._∷_ (12, Mut.mslice ELEM.the-row ty·7 3) (List._∷_ (13, Rows.any-gone ty·3) (List._∷_ (14, Mut.mslice (Referent.rtF (Referent.fInt Syntax.w32)) ty·3 4) (List._∷_ (15, Relend.msptr (Referent.rtF (Referent.fInt Syntax.w32)) ty·3 5) List.[])))))))))))))))
-
-        abbrev g8 : List.List Row.Entry
-        g8 = List._∷_ (0, Rows.any-gone ty·12) (List._∷_ (1, Relend.mslice-owed ELEM.the-row ty·8 0 3 (Row.lease (κs .0) (qs .0))) (List._∷_ (2, Relend.mslice-owed (Referent.rtF (Referent.fInt Syntax.w32)) ty·4 1 4 (Row.lease (κs .1 .0) (qs .1 .0))) (List._∷_ (3, Relend.mslice-owed (Referent.rtF (Referent.fInt Syntax.w32)) ty·5 2 5 (Row.lease (κs .1 .1 .0) (qs .1 .1 .0))) (List._∷_ (4, Rows.whole (Declared.row Hull.the-type)) (List._∷_ (5, Rows.sc-here (Row.sFloat Ieee.binary64)) (List._∷_ (6, Rows.sc-here (Row.sFloat Ieee.binary64)) (List._∷_ (7, Rows.sc-here (Row.sFloat Ieee.binary64)) (List._∷_ (8, Rows.sc-here (Row.sInt Syntax.w32)) (List._∷_ (9, Rows.sc-here (Row.sInt Syntax.w32)) (List._∷_ (10, Rows.any-gone ty·12) (List._∷_ (11, Rows.any-gone ty·7) (List._∷_ (12, Mut.mslice ELEM.the-row ty·7 3) (List._∷_ (13, Rows.any-gone ty·3) (List._∷_ (14, Mut.mslice (Referent.rtF (Referent.fInt Syntax.w32)) ty·3 4) (List._∷_ (15, Rows.any-gone ty·3) List.[])))))))))))))))
+        g7 = List._∷_ (0, Rows.any-gone ty·12) (List._∷_ (1, Relend.mslice-owed ELEM.the-row ty·8 0 3 (Row.lease (κs .0) (qs .0))) (List._∷_ (2, Relend.mslice-owed (Referent.rtF (Referent.fInt Syntax.w32)) ty·4 1 4 (Row.lease (κs .1 .0) (qs .1 .0))) (List._∷_ (3, Relend.mslice-owed (Referent.rtF (Referent.fInt Syntax.w32)) ty·5 2 5 (Row.lease (κs .1 .1 .0) (qs .1 .1 .0))) (List._∷_ (4, Rows.whole (Declared.row Hull.the-type)) (List._∷_ (5, Rows.sc-here (Row.sInt Syntax.w32)) (List._∷_ (6, Rows.sc-here (Row.sFloat Ieee.binary64)) (List._∷_ (7, Rows.sc-here (Row.sFloat Ieee.binary64)) (List._∷_ (8, Rows.sc-here (Row.sFloat Ieee.binary64)) (List._∷_ (9, Rows.sc-here (Row.sInt Syntax.w32)) (List._∷_ (10, Rows.sc-here (Row.sInt Syntax.w32)) (List._∷_ (11, Rows.any-gone ty·12) (List._∷_ (12, Rows.any-gone ty·7) (List._∷_ (13, Mut.mslice ELEM.the-row ty·7 3) (List._∷_ (14, Rows.any-gone ty·3) (List._∷_ (15, Mut.mslice (Referent.rtF (Referent.fInt Syntax.w32)) ty·3 4) List.[])))))))))))))))
 
         abbrev g10 : List.List Row.Entry
-        g10 = List._∷_ (0, Rows.any-gone ty·12) (List._∷_ (1, Relend.mslice-owed ELEM.the-row ty·8 0 3 (Row.lease (κs .0) (qs .0))) (List._∷_ (2, Relend.mslice-owed (Referent.rtF (Referent.fInt Syntax.w32)) ty·4 1 4 (Row.lease (κs .1 .0) (qs .1 .0))) (List._∷_ (3, Relend.mslice-owed (Referent.rtF (Referent.fInt Syntax.w32)) ty·5 2 5 (Row.lease (κs .1 .1 .0) (qs .1 .1 .0))) (List._∷_ (4, Rows.whole (Declared.row Hull.the-type)) (List._∷_ (5, Rows.sc-here (Row.sFloat Ieee.binary64)) (List._∷_ (6, Rows.sc-here (Row.sFloat Ieee.binary64)) (List._∷_ (7, Rows.sc-here (Row.sFloat Ieee.binary64)) (List._∷_ (8, Rows.sc-here (Row.sInt Syntax.w32)) (List._∷_ (9, Rows.sc-here (Row.sInt Syntax.w32)) (List._∷_ (10, Rows.whole (Declared.row Hull.the-type)) (List._∷_ (11, Rows.any-gone ty·7) (List._∷_ (12, Mut.msleft ELEM.the-row ty·7) (List._∷_ (13, Rows.any-gone ty·3) (List._∷_ (14, Mut.msleft (Referent.rtF (Referent.fInt Syntax.w32)) ty·3) (List._∷_ (15, Rows.any-gone ty·3) List.[])))))))))))))))
+        g10 = List._∷_ (0, Rows.any-gone ty·12) (List._∷_ (1, Relend.mslice-owed ELEM.the-row ty·8 0 3 (Row.lease (κs .0) (qs .0))) (List._∷_ (2, Relend.mslice-owed (Referent.rtF (Referent.fInt Syntax.w32)) ty·4 1 4 (Row.lease (κs .1 .0) (qs .1 .0))) (List._∷_ (3, Relend.mslice-owed (Referent.rtF (Referent.fInt Syntax.w32)) ty·5 2 5 (Row.lease (κs .1 .1 .0) (qs .1 .1 .0))) (List._∷_ (4, Rows.whole (Declared.row Hull.the-type)) (List._∷_ (5, Rows.sc-here (Row.sInt Syntax.w32)) (List._∷_ (6, Rows.sc-here (Row.sFloat Ieee.binary64)) (List._∷_ (7, Rows.sc-here (Row.sFloat Ieee.binary64)) (List._∷_ (8, Rows.sc-here (Row.sFloat Ieee.binary64)) (List._∷_ (9, Rows.sc-here (Row.sInt Syntax.w32)) (List._∷_ (10, Rows.sc-here (Row.sInt Syntax.w32)) (List._∷_ (11, Rows.whole (Declared.row Hull.the-type)) (List._∷_ (12, Rows.any-gone ty·7) (List._∷_ (13, Mut.msleft ELEM.the-row ty·7) (List._∷_ (14, Rows.any-gone ty·3) (List._∷_ (15, Mut.msleft (Referent.rtF (Referent.fInt Syntax.w32)) ty·3) List.[])))))))))))))))
 
         abbrev g12 : List.List Row.Entry
-        g12 = List._∷_ (0, Rows.any-gone ty·12) (List._∷_ (1, Relend.mslice-owed ELEM.the-row ty·8 0 3 (Row.lease (κs .0) (qs .0))) (List._∷_ (2, Relend.mslice-owed (Referent.rtF (Referent.fInt Syntax.w32)) ty·4 1 4 (Row.lease (κs .1 .0) (qs .1 .0))) (List._∷_ (3, Relend.mslice-owed (Referent.rtF (Referent.fInt Syntax.w32)) ty·5 2 5 (Row.lease (κs .1 .1 .0) (qs .1 .1 .0))) (List._∷_ (4, Rows.any-gone ty·12) (List._∷_ (5, Rows.sc-here (Row.sFloat Ieee.binary64)) (List._∷_ (6, Rows.sc-here (Row.sFloat Ieee.binary64)) (List._∷_ (7, Rows.sc-here (Row.sFloat Ieee.binary64)) (List._∷_ (8, Rows.sc-here (Row.sInt Syntax.w32)) (List._∷_ (9, Rows.sc-here (Row.sInt Syntax.w32)) (List._∷_ (10, Rows.whole (Declared.row Hull.the-type)) (List._∷_ (11, Rows.any-gone ty·7) (List._∷_ (12, Mut.msleft ELEM.the-row ty·7) (List._∷_ (13, Rows.any-gone ty·3) (List._∷_ (14, Mut.msleft (Referent.rtF (Referent.fInt Syntax.w32)) ty·3) (List._∷_ (15, Rows.any-gone ty·3) List.[])))))))))))))))
+        g12 = List._∷_ (0, Rows.any-gone ty·12) (List._∷_ (1, Relend.mslice-owed ELEM.the-row ty·8 0 3 (Row.lease (κs .0) (qs .0))) (List._∷_ (2, Relend.mslice-owed (Referent.rtF (Referent.fInt Syntax.w32)) ty·4 1 4 (Row.lease (κs .1 .0) (qs .1 .0))) (List._∷_ (3, Relend.mslice-owed (Referent.rtF (Referent.fInt Syntax.w32)) ty·5 2 5 (Row.lease (κs .1 .1 .0) (qs .1 .1 .0))) (List._∷_ (4, Rows.any-gone ty·12) (List._∷_ (5, Rows.sc-here (Row.sInt Syntax.w32)) (List._∷_ (6, Rows.sc-here (Row.sFloat Ieee.binary64)) (List._∷_ (7, Rows.sc-here (Row.sFloat Ieee.binary64)) (List._∷_ (8, Rows.sc-here (Row.sFloat Ieee.binary64)) (List._∷_ (9, Rows.sc-here (Row.sInt Syntax.w32)) (List._∷_ (10, Rows.sc-here (Row.sInt Syntax.w32)) (List._∷_ (11, Rows.whole (Declared.row Hull.the-type)) (List._∷_ (12, Rows.any-gone ty·7) (List._∷_ (13, Mut.msleft ELEM.the-row ty·7) (List._∷_ (14, Rows.any-gone ty·3) (List._∷_ (15, Mut.msleft (Referent.rtF (Referent.fInt Syntax.w32)) ty·3) List.[])))))))))))))))
 
         abbrev g13 : List.List Row.Entry
-        g13 = List._∷_ (0, Rows.any-gone ty·12) (List._∷_ (1, Mut.mslice ELEM.the-row ty·8 0) (List._∷_ (2, Relend.mslice-owed (Referent.rtF (Referent.fInt Syntax.w32)) ty·4 1 4 (Row.lease (κs .1 .0) (qs .1 .0))) (List._∷_ (3, Relend.mslice-owed (Referent.rtF (Referent.fInt Syntax.w32)) ty·5 2 5 (Row.lease (κs .1 .1 .0) (qs .1 .1 .0))) (List._∷_ (4, Rows.any-gone ty·12) (List._∷_ (5, Rows.sc-here (Row.sFloat Ieee.binary64)) (List._∷_ (6, Rows.sc-here (Row.sFloat Ieee.binary64)) (List._∷_ (7, Rows.sc-here (Row.sFloat Ieee.binary64)) (List._∷_ (8, Rows.sc-here (Row.sInt Syntax.w32)) (List._∷_ (9, Rows.sc-here (Row.sInt Syntax.w32)) (List._∷_ (10, Rows.whole (Declared.row Hull.the-type)) (List._∷_ (11, Rows.any-gone ty·7) (List._∷_ (12, Rows.any-gone ty·11) (List._∷_ (13, Rows.any-gone ty·3) (List._∷_ (14, Mut.msleft (Referent.rtF (Referent.fInt Syntax.w32)) ty·3) (List._∷_ (15, Rows.any-gone ty·3) List.[])))))))))))))))
+        g13 = List._∷_ (0, Rows.any-gone ty·12) (List._∷_ (1, Mut.mslice ELEM.the-row ty·8 0) (List._∷_ (2, Relend.mslice-owed (Referent.rtF (Referent.fInt Syntax.w32)) ty·4 1 4 (Row.lease (κs .1 .0) (qs .1 .0))) (List._∷_ (3, Relend.mslice-owed (Referent.rtF (Referent.fInt Syntax.w32)) ty·5 2 5 (Row.lease (κs .1 .1 .0) (qs .1 .1 .0))) (List._∷_ (4, Rows.any-gone ty·12) (List._∷_ (5, Rows.sc-here (Row.sInt Syntax.w32)) (List._∷_ (6, Rows.sc-here (Row.sFloat Ieee.binary64)) (List._∷_ (7, Rows.sc-here (Row.sFloat Ieee.binary64)) (List._∷_ (8, Rows.sc-here (Row.sFloat Ieee.binary64)) (List._∷_ (9, Rows.sc-here (Row.sInt Syntax.w32)) (List._∷_ (10, Rows.sc-here (Row.sInt Syntax.w32)) (List._∷_ (11, Rows.whole (Declared.row Hull.the-type)) (List._∷_ (12, Rows.any-gone ty·7) (List._∷_ (13, Rows.any-gone ty·11) (List._∷_ (14, Rows.any-gone ty·3) (List._∷_ (15, Mut.msleft (Referent.rtF (Referent.fInt Syntax.w32)) ty·3) List.[])))))))))))))))
 
         abbrev g14 : List.List Row.Entry
-        g14 = List._∷_ (0, Rows.any-gone ty·12) (List._∷_ (1, Mut.mslice ELEM.the-row ty·8 0) (List._∷_ (2, Mut.mslice (Referent.rtF (Referent.fInt Syntax.w32)) ty·4 1) (List._∷_ (3, Relend.mslice-owed (Referent.rtF (Referent.fInt Syntax.w32)) ty·5 2 5 (Row.lease (κs .1 .1 .0) (qs .1 .1 .0))) (List._∷_ (4, Rows.any-gone ty·12) (List._∷_ (5, Rows.sc-here (Row.sFloat Ieee.binary64)) (List._∷_ (6, Rows.sc-here (Row.sFloat Ieee.binary64)) (List._∷_ (7, Rows.sc-here (Row.sFloat Ieee.binary64)) (List._∷_ (8, Rows.sc-here (Row.sInt Syntax.w32)) (List._∷_ (9, Rows.sc-here (Row.sInt Syntax.w32)) (List._∷_ (10, Rows.whole (Declared.row Hull.the-type)) (List._∷_ (11, Rows.any-gone ty·7) (List._∷_ (12, Rows.any-gone ty·11) (List._∷_ (13, Rows.any-gone ty·3) (List._∷_ (14, Rows.any-gone ty·9) (List._∷_ (15, Rows.any-gone ty·3) List.[])))))))))))))))
+        g14 = List._∷_ (0, Rows.any-gone ty·12) (List._∷_ (1, Mut.mslice ELEM.the-row ty·8 0) (List._∷_ (2, Mut.mslice (Referent.rtF (Referent.fInt Syntax.w32)) ty·4 1) (List._∷_ (3, Relend.mslice-owed (Referent.rtF (Referent.fInt Syntax.w32)) ty·5 2 5 (Row.lease (κs .1 .1 .0) (qs .1 .1 .0))) (List._∷_ (4, Rows.any-gone ty·12) (List._∷_ (5, Rows.sc-here (Row.sInt Syntax.w32)) (List._∷_ (6, Rows.sc-here (Row.sFloat Ieee.binary64)) (List._∷_ (7, Rows.sc-here (Row.sFloat Ieee.binary64)) (List._∷_ (8, Rows.sc-here (Row.sFloat Ieee.binary64)) (List._∷_ (9, Rows.sc-here (Row.sInt Syntax.w32)) (List._∷_ (10, Rows.sc-here (Row.sInt Syntax.w32)) (List._∷_ (11, Rows.whole (Declared.row Hull.the-type)) (List._∷_ (12, Rows.any-gone ty·7) (List._∷_ (13, Rows.any-gone ty·11) (List._∷_ (14, Rows.any-gone ty·3) (List._∷_ (15, Rows.any-gone ty·9) List.[])))))))))))))))
 
         abbrev g16 : List.List Row.Entry
-        g16 = List._∷_ (0, Rows.any-gone ty·12) (List._∷_ (1, Reshare.mslice-owedS ELEM.the-row ty·8 0 6 (Row.lease (κs .0) (qs .0))) (List._∷_ (2, Mut.mslice (Referent.rtF (Referent.fInt Syntax.w32)) ty·4 1) (List._∷_ (3, Mut.mslice (Referent.rtF (Referent.fInt Syntax.w32)) ty·5 2) (List._∷_ (4, Rows.any-gone ty·12) (List._∷_ (5, Rows.sc-here (Row.sFloat Ieee.binary64)) (List._∷_ (6, Rows.sc-here (Row.sFloat Ieee.binary64)) (List._∷_ (7, Rows.sc-here (Row.sFloat Ieee.binary64)) (List._∷_ (8, Rows.sc-here (Row.sInt Syntax.w32)) (List._∷_ (9, Rows.sc-here (Row.sInt Syntax.w32)) (List._∷_ (10, Rows.whole (Declared.row Hull.the-type)) (List._∷_ (11, Rows.any-gone ty·7) (List._∷_ (12, Rows.any-gone ty·11) (List._∷_ (13, Rows.any-gone ty·3) (List._∷_ (14, Rows.any-gone ty·9) (List._∷_ (15, Rows.any-gone ty·3) List.[])))))))))))))))
+        g16 = List._∷_ (0, Rows.any-gone ty·12) (List._∷_ (1, Reshare.mslice-owedS ELEM.the-row ty·8 0 6 (Row.lease (κs .0) (qs .0))) (List._∷_ (2, Mut.mslice (Referent.rtF (Referent.fInt Syntax.w32)) ty·4 1) (List._∷_ (3, Mut.mslice (Referent.rtF (Referent.fInt Syntax.w32)) ty·5 2) (List._∷_ (4, Rows.any-gone ty·12) (List._∷_ (5, Rows.sc-here (Row.sInt Syntax.w32)) (List._∷_ (6, Rows.sc-here (Row.sFloat Ieee.binary64)) (List._∷_ (7, Rows.sc-here (Row.sFloat Ieee.binary64)) (List._∷_ (8, Rows.sc-here (Row.sFloat Ieee.binary64)) (List._∷_ (9, Rows.sc-here (Row.sInt Syntax.w32)) (List._∷_ (10, Rows.sc-here (Row.sInt Syntax.w32)) (List._∷_ (11, Rows.whole (Declared.row Hull.the-type)) (List._∷_ (12, Rows.any-gone ty·7) (List._∷_ (13, Rows.any-gone ty·11) (List._∷_ (14, Rows.any-gone ty·3) (List._∷_ (15, Rows.any-gone ty·9) List.[])))))))))))))))
 
         abbrev g19 : List.List Row.Entry
-        g19 = List._∷_ (0, Rows.any-gone ty·12) (List._∷_ (1, Reshare.mslice-owedS ELEM.the-row ty·8 0 6 (Row.lease (κs .0) (qs .0))) (List._∷_ (2, Mut.mslice (Referent.rtF (Referent.fInt Syntax.w32)) ty·4 1) (List._∷_ (3, Relend.mslice-owed (Referent.rtF (Referent.fInt Syntax.w32)) ty·5 2 7 (Row.lease (κs .1 .1 .0) (qs .1 .1 .0))) (List._∷_ (4, Rows.any-gone ty·12) (List._∷_ (5, Rows.sc-here (Row.sFloat Ieee.binary64)) (List._∷_ (6, Rows.sc-here (Row.sFloat Ieee.binary64)) (List._∷_ (7, Rows.sc-here (Row.sFloat Ieee.binary64)) (List._∷_ (8, Rows.sc-here (Row.sInt Syntax.w32)) (List._∷_ (9, Rows.sc-here (Row.sInt Syntax.w32)) (List._∷_ (10, Rows.whole (Declared.row Hull.the-type)) (List._∷_ (11, Rows.any-gone ty·7) (List._∷_ (12, Rows.any-gone ty·11) (List._∷_ (13, Rows.any-gone ty·3) (List._∷_ (14, Rows.any-gone ty·9) (List._∷_ (15, Rows.any-gone ty·3) List.[])))))))))))))))
+        g19 = List._∷_ (0, Rows.any-gone ty·12) (List._∷_ (1, Reshare.mslice-owedS ELEM.the-row ty·8 0 6 (Row.lease (κs .0) (qs .0))) (List._∷_ (2, Mut.mslice (Referent.rtF (Referent.fInt Syntax.w32)) ty·4 1) (List._∷_ (3, Relend.mslice-owed (Referent.rtF (Referent.fInt Syntax.w32)) ty·5 2 7 (Row.lease (κs .1 .1 .0) (qs .1 .1 .0))) (List._∷_ (4, Rows.any-gone ty·12) (List._∷_ (5, Rows.sc-here (Row.sInt Syntax.w32)) (List._∷_ (6, Rows.sc-here (Row.sFloat Ieee.binary64)) (List._∷_ (7, Rows.sc-here (Row.sFloat Ieee.binary64)) (List._∷_ (8, Rows.sc-here (Row.sFloat Ieee.binary64)) (List._∷_ (9, Rows.sc-here (Row.sInt Syntax.w32)) (List._∷_ (10, Rows.sc-here (Row.sInt Syntax.w32)) (List._∷_ (11, Rows.whole (Declared.row Hull.the-type)) (List._∷_ (12, Rows.any-gone ty·7) (List._∷_ (13, Rows.any-gone ty·11) (List._∷_ (14, Rows.any-gone ty·3) (List._∷_ (15, Rows.any-gone ty·9) List.[])))))))))))))))
 
         abbrev g22 : List.List Row.Entry
-        g22 = List._∷_ (0, Rows.whole (Declared.row Hull.the-type)) (List._∷_ (1, Reshare.mslice-owedS ELEM.the-row ty·8 0 6 (Row.lease (κs .0) (qs .0))) (List._∷_ (2, Mut.mslice (Referent.rtF (Referent.fInt Syntax.w32)) ty·4 1) (List._∷_ (3, Relend.mslice-owed (Referent.rtF (Referent.fInt Syntax.w32)) ty·5 2 7 (Row.lease (κs .1 .1 .0) (qs .1 .1 .0))) (List._∷_ (4, Rows.any-gone ty·12) (List._∷_ (5, Rows.sc-here (Row.sFloat Ieee.binary64)) (List._∷_ (6, Rows.sc-here (Row.sFloat Ieee.binary64)) (List._∷_ (7, Rows.sc-here (Row.sFloat Ieee.binary64)) (List._∷_ (8, Rows.sc-here (Row.sInt Syntax.w32)) (List._∷_ (9, Rows.sc-here (Row.sInt Syntax.w32)) (List._∷_ (10, Rows.whole (Declared.row Hull.the-type)) (List._∷_ (11, Rows.any-gone ty·7) (List._∷_ (12, Rows.any-gone ty·11) (List._∷_ (13, Rows.any-gone ty·3) (List._∷_ (14, Rows.any-gone ty·9) (List._∷_ (15, Rows.any-gone ty·3) List.[])))))))))))))))
+        g22 = List._∷_ (0, Rows.whole (Declared.row Hull.the-type)) (List._∷_ (1, Reshare.mslice-owedS ELEM.the-row ty·8 0 6 (Row.lease (κs .0) (qs .0))) (List._∷_ (2, Mut.mslice (Referent.rtF (Referent.fInt Syntax.w32)) ty·4 1) (List._∷_ (3, Relend.mslice-owed (Referent.rtF (Referent.fInt Syntax.w32)) ty·5 2 7 (Row.lease (κs .1 .1 .0) (qs .1 .1 .0))) (List._∷_ (4, Rows.any-gone ty·12) (List._∷_ (5, Rows.sc-here (Row.sInt Syntax.w32)) (List._∷_ (6, Rows.sc-here (Row.sFloat Ieee.binary64)) (List._∷_ (7, Rows.sc-here (Row.sFloat Ieee.binary64)) (List._∷_ (8, Rows.sc-here (Row.sFloat Ieee.binary64)) (List._∷_ (9, Rows.sc-here (Row.sInt Syntax.w32)) (List._∷_ (10, Rows.sc-here (Row.sInt Syntax.w32)) (List._∷_ (11, Rows.whole (Declared.row Hull.the-type)) (List._∷_ (12, Rows.any-gone ty·7) (List._∷_ (13, Rows.any-gone ty·11) (List._∷_ (14, Rows.any-gone ty·3) (List._∷_ (15, Rows.any-gone ty·9) List.[])))))))))))))))
 
         abbrev g25 : List.List Row.Entry
-        g25 = List._∷_ (0, Rows.whole (Declared.row Hull.the-type)) (List._∷_ (1, Reshare.mslice-owedS ELEM.the-row ty·8 0 6 (Row.lease (κs .0) (qs .0))) (List._∷_ (2, Mut.mslice (Referent.rtF (Referent.fInt Syntax.w32)) ty·4 1) (List._∷_ (3, Relend.mslice-owed (Referent.rtF (Referent.fInt Syntax.w32)) ty·5 2 7 (Row.lease (κs .1 .1 .0) (qs .1 .1 .0))) (List._∷_ (4, Rows.any-gone ty·12) (List._∷_ (5, Rows.sc-here (Row.sFloat Ieee.binary64)) (List._∷_ (6, Rows.sc-here (Row.sFloat Ieee.binary64)) (List._∷_ (7, Rows.sc-here (Row.sFloat Ieee.binary64)) (List._∷_ (8, Rows.sc-here (Row.sInt Syntax.w32)) (List._∷_ (9, Rows.sc-here (Row.sInt Syntax.w32)) (List._∷_ (10, Rows.any-gone ty·12) (List._∷_ (11, Rows.any-gone ty·7) (List._∷_ (12, Rows.any-gone ty·11) (List._∷_ (13, Rows.any-gone ty·3) (List._∷_ (14, Rows.any-gone ty·9) (List._∷_ (15, Rows.any-gone ty·3) List.[])))))))))))))))
+        g25 = List._∷_ (0, Rows.whole (Declared.row Hull.the-type)) (List._∷_ (1, Reshare.mslice-owedS ELEM.the-row ty·8 0 6 (Row.lease (κs .0) (qs .0))) (List._∷_ (2, Mut.mslice (Referent.rtF (Referent.fInt Syntax.w32)) ty·4 1) (List._∷_ (3, Relend.mslice-owed (Referent.rtF (Referent.fInt Syntax.w32)) ty·5 2 7 (Row.lease (κs .1 .1 .0) (qs .1 .1 .0))) (List._∷_ (4, Rows.any-gone ty·12) (List._∷_ (5, Rows.sc-here (Row.sInt Syntax.w32)) (List._∷_ (6, Rows.sc-here (Row.sFloat Ieee.binary64)) (List._∷_ (7, Rows.sc-here (Row.sFloat Ieee.binary64)) (List._∷_ (8, Rows.sc-here (Row.sFloat Ieee.binary64)) (List._∷_ (9, Rows.sc-here (Row.sInt Syntax.w32)) (List._∷_ (10, Rows.sc-here (Row.sInt Syntax.w32)) (List._∷_ (11, Rows.any-gone ty·12) (List._∷_ (12, Rows.any-gone ty·7) (List._∷_ (13, Rows.any-gone ty·11) (List._∷_ (14, Rows.any-gone ty·3) (List._∷_ (15, Rows.any-gone ty·9) List.[])))))))))))))))
 
         abbrev g26 : List.List Row.Entry
-        g26 = List._∷_ (0, Rows.whole (Declared.row Hull.the-type)) (List._∷_ (1, Mut.mslice ELEM.the-row ty·8 0) (List._∷_ (2, Mut.mslice (Referent.rtF (Referent.fInt Syntax.w32)) ty·4 1) (List._∷_ (3, Relend.mslice-owed (Referent.rtF (Referent.fInt Syntax.w32)) ty·5 2 7 (Row.lease (κs .1 .1 .0) (qs .1 .1 .0))) (List._∷_ (4, Rows.any-gone ty·12) (List._∷_ (5, Rows.sc-here (Row.sFloat Ieee.binary64)) (List._∷_ (6, Rows.sc-here (Row.sFloat Ieee.binary64)) (List._∷_ (7, Rows.sc-here (Row.sFloat Ieee.binary64)) (List._∷_ (8, Rows.sc-here (Row.sInt Syntax.w32)) (List._∷_ (9, Rows.sc-here (Row.sInt Syntax.w32)) (List._∷_ (10, Rows.any-gone ty·12) (List._∷_ (11, Rows.any-gone ty·7) (List._∷_ (12, Rows.any-gone ty·11) (List._∷_ (13, Rows.any-gone ty·3) (List._∷_ (14, Rows.any-gone ty·9) (List._∷_ (15, Rows.any-gone ty·3) List.[])))))))))))))))
+        g26 = List._∷_ (0, Rows.whole (Declared.row Hull.the-type)) (List._∷_ (1, Mut.mslice ELEM.the-row ty·8 0) (List._∷_ (2, Mut.mslice (Referent.rtF (Referent.fInt Syntax.w32)) ty·4 1) (List._∷_ (3, Relend.mslice-owed (Referent.rtF (Referent.fInt Syntax.w32)) ty·5 2 7 (Row.lease (κs .1 .1 .0) (qs .1 .1 .0))) (List._∷_ (4, Rows.any-gone ty·12) (List._∷_ (5, Rows.sc-here (Row.sInt Syntax.w32)) (List._∷_ (6, Rows.sc-here (Row.sFloat Ieee.binary64)) (List._∷_ (7, Rows.sc-here (Row.sFloat Ieee.binary64)) (List._∷_ (8, Rows.sc-here (Row.sFloat Ieee.binary64)) (List._∷_ (9, Rows.sc-here (Row.sInt Syntax.w32)) (List._∷_ (10, Rows.sc-here (Row.sInt Syntax.w32)) (List._∷_ (11, Rows.any-gone ty·12) (List._∷_ (12, Rows.any-gone ty·7) (List._∷_ (13, Rows.any-gone ty·11) (List._∷_ (14, Rows.any-gone ty·3) (List._∷_ (15, Rows.any-gone ty·9) List.[])))))))))))))))
 
         abbrev G0 : Row.Cx
         G0 = record { locals = List._++_ t0 t1; slots = List._∷_ (Row.lease (κs .0) (qs .0)) (List._∷_ (Row.lease (κs .1 .0) (qs .1 .0)) (List._∷_ (Row.lease (κs .1 .1 .0) (qs .1 .1 .0)) (List._∷_ Row.off (List._∷_ Row.off (List._∷_ Row.off (List._∷_ Row.off (List._∷_ Row.off List.[]))))))) }
@@ -715,10 +724,10 @@ module _ (claims· : Claims) where
         G10 = record { locals = List._++_ g6 t1; slots = List._∷_ Row.off (List._∷_ Row.off (List._∷_ (Row.lease (κs .1 .1 .0) (qs .1 .1 .0)) (List._∷_ Row.alive (List._∷_ Row.alive (List._∷_ Row.alive (List._∷_ Row.off (List._∷_ Row.off List.[]))))))) }
 
         abbrev G11 : Row.Cx
-        G11 = record { locals = List._++_ g7 t1; slots = List._∷_ Row.off (List._∷_ Row.off (List._∷_ Row.off (List._∷_ Row.alive (List._∷_ Row.alive (List._∷_ Row.alive (List._∷_ Row.off (List._∷_ Row.off List.[]))))))) }
+        G11 = record { locals = List._++_ g7 t8; slots = List._∷_ Row.off (List._∷_ Row.off (List._∷_ Row.off (List._∷_ Row.alive (List._∷_ Row.alive (List._∷_ Row.alive (List._∷_ Row.off (List._∷_ Row.off List.[]))))))) }
 
         abbrev G12 : Row.Cx
-        G12 = record { locals = List._++_ g8 t9; slots = List._∷_ Row.off (List._∷_ Row.off (List._∷_ Row.off (List._∷_ Row.alive (List._∷_ Row.alive (List._∷_ Row.alive (List._∷_ Row.off (List._∷_ Row.off List.[]))))))) }
+        G12 = record { locals = List._++_ g7 t9; slots = List._∷_ Row.off (List._∷_ Row.off (List._∷_ Row.off (List._∷_ Row.alive (List._∷_ Row.alive (List._∷_ Row.alive (List._∷_ Row.off (List._∷_ Row.off List.[]))))))) }
 
         abbrev G13 : Row.Cx
         G13 = record { locals = List._++_ g10 t11; slots = List._∷_ Row.off (List._∷_ Row.off (List._∷_ Row.off (List._∷_ Row.alive (List._∷_ Row.alive (List._∷_ Row.alive (List._∷_ Row.off (List._∷_ Row.off List.[]))))))) }
@@ -820,7 +829,10 @@ module _ (claims· : Claims) where
         G45 = record { locals = List._++_ t31 t1; slots = List._∷_ (Row.lease (κs .0) (qs .0)) (List._∷_ (Row.lease (κs .1 .0) (qs .1 .0)) (List._∷_ (Row.lease (κs .1 .1 .0) (qs .1 .1 .0)) (List._∷_ Row.off (List._∷_ Row.off (List._∷_ Row.off (List._∷_ Row.off (List._∷_ Row.off List.[]))))))) }
 
         abbrev G46 : Row.Cx
-        G46 = record { locals = List._++_ t2 t1; slots = List._∷_ (Row.lease (κs .0) (qs .0)) (List._∷_ (Row.lease (κs .1 .0) (qs .1 .0)) (List._∷_ (Row.lease (κs .1 .1 .0) (qs .1 .1 .0)) (List._∷_ Row.off (List._∷_ Row.off (List._∷_ Row.off (List._∷_ Row.off (List._∷_ Row.off List.[]))))))) }
+        G46 = record { locals = List._++_ t32 t1; slots = List._∷_ (Row.lease (κs .0) (qs .0)) (List._∷_ (Row.lease (κs .1 .0) (qs .1 .0)) (List._∷_ (Row.lease (κs .1 .1 .0) (qs .1 .1 .0)) (List._∷_ Row.off (List._∷_ Row.off (List._∷_ Row.off (List._∷_ Row.off (List._∷_ Row.off List.[]))))))) }
+
+        abbrev G47 : Row.Cx
+        G47 = record { locals = List._++_ t2 t1; slots = List._∷_ (Row.lease (κs .0) (qs .0)) (List._∷_ (Row.lease (κs .1 .0) (qs .1 .0)) (List._∷_ (Row.lease (κs .1 .1 .0) (qs .1 .1 .0)) (List._∷_ Row.off (List._∷_ Row.off (List._∷_ Row.off (List._∷_ Row.off (List._∷_ Row.off List.[]))))))) }
 
         abbrev Δ0 : Typed.Outs
         Δ0 = record { next = Option.none; exits = List.[]; returns = Option.some G1 }
@@ -829,146 +841,149 @@ module _ (claims· : Claims) where
           abbrev E : Wp.Env 𝓤 H
           E = Frame.EnvOf 𝓤 H (List._∷_ (Kinds.tyR r) (Enter.tysP ps xs)) bs
 
-          d0 : Typed.Typed 𝓤 H A 𝓣 E G46 b12 Δ0 at0
+          d0 : Typed.Typed 𝓤 H A 𝓣 E G47 b12 Δ0 at0
           d0 = Typed.t-return 𝓤 H A W 𝓣 E Δ0 tt
 
-          d1 : Typed.Typed 𝓤 H A 𝓣 E G45 b12 Δ0 at1
-          d1 = Typed.g-pre 𝓤 H A W 𝓣 E G45 G46 b12 Δ0 (Typed.pass T45 T46 s44) at0 (Scalar.g-room 𝓤 H A W E G45 9 ty·0 (Scalar.room-sc 𝓤 H A W (Row.sInt Syntax.w32))) d0
+          d1 : Typed.Typed 𝓤 H A 𝓣 E G46 b12 Δ0 at1
+          d1 = Typed.g-pre 𝓤 H A W 𝓣 E G46 G47 b12 Δ0 (Typed.pass T46 T47 s45) at0 (Scalar.g-room 𝓤 H A W E G46 10 ty·0 (Scalar.room-sc 𝓤 H A W (Row.sInt Syntax.w32))) d0
 
-          d2 : Typed.Typed 𝓤 H A 𝓣 E G44 b12 Δ0 at2
-          d2 = Typed.g-pre 𝓤 H A W 𝓣 E G44 G45 b12 Δ0 (Typed.pass T44 T45 s43) at1 (Scalar.g-room 𝓤 H A W E G44 8 ty·0 (Scalar.room-sc 𝓤 H A W (Row.sInt Syntax.w32))) d1
+          d2 : Typed.Typed 𝓤 H A 𝓣 E G45 b12 Δ0 at2
+          d2 = Typed.g-pre 𝓤 H A W 𝓣 E G45 G46 b12 Δ0 (Typed.pass T45 T46 s44) at1 (Scalar.g-room 𝓤 H A W E G45 9 ty·0 (Scalar.room-sc 𝓤 H A W (Row.sInt Syntax.w32))) d1
 
-          d3 : Typed.Typed 𝓤 H A 𝓣 E G43 b12 Δ0 at3
-          d3 = Typed.g-pre 𝓤 H A W 𝓣 E G43 G44 b12 Δ0 (Typed.pass T43 T44 s42) at2 (Scalar.g-room 𝓤 H A W E G43 7 ty·2 (Scalar.room-sc 𝓤 H A W (Row.sFloat Ieee.binary64))) d2
+          d3 : Typed.Typed 𝓤 H A 𝓣 E G44 b12 Δ0 at3
+          d3 = Typed.g-pre 𝓤 H A W 𝓣 E G44 G45 b12 Δ0 (Typed.pass T44 T45 s43) at2 (Scalar.g-room 𝓤 H A W E G44 8 ty·2 (Scalar.room-sc 𝓤 H A W (Row.sFloat Ieee.binary64))) d2
 
-          d4 : Typed.Typed 𝓤 H A 𝓣 E G42 b12 Δ0 at4
-          d4 = Typed.g-pre 𝓤 H A W 𝓣 E G42 G43 b12 Δ0 (Typed.pass T42 T43 s41) at3 (Scalar.g-room 𝓤 H A W E G42 6 ty·2 (Scalar.room-sc 𝓤 H A W (Row.sFloat Ieee.binary64))) d3
+          d4 : Typed.Typed 𝓤 H A 𝓣 E G43 b12 Δ0 at4
+          d4 = Typed.g-pre 𝓤 H A W 𝓣 E G43 G44 b12 Δ0 (Typed.pass T43 T44 s42) at3 (Scalar.g-room 𝓤 H A W E G43 7 ty·2 (Scalar.room-sc 𝓤 H A W (Row.sFloat Ieee.binary64))) d3
 
-          d5 : Typed.Typed 𝓤 H A 𝓣 E G41 b12 Δ0 at5
-          d5 = Typed.g-pre 𝓤 H A W 𝓣 E G41 G42 b12 Δ0 (Typed.pass T40 T42 s40) at4 (Scalar.g-room 𝓤 H A W E G41 5 ty·2 (Scalar.room-sc 𝓤 H A W (Row.sFloat Ieee.binary64))) d4
+          d5 : Typed.Typed 𝓤 H A 𝓣 E G42 b12 Δ0 at5
+          d5 = Typed.g-pre 𝓤 H A W 𝓣 E G42 G43 b12 Δ0 (Typed.pass T42 T43 s41) at4 (Scalar.g-room 𝓤 H A W E G42 6 ty·2 (Scalar.room-sc 𝓤 H A W (Row.sFloat Ieee.binary64))) d4
 
-          d6 : Typed.Typed 𝓤 H A 𝓣 E G40 b12 Δ0 at6
-          d6 = Typed.g-pre 𝓤 H A W 𝓣 E G40 G41 b12 Δ0 (λ Ψ. Ψ) at5 (Lifetime.g-forget 𝓤 H A W E G40 7 Row.dead Path'.refl) d5
+          d6 : Typed.Typed 𝓤 H A 𝓣 E G41 b12 Δ0 at6
+          d6 = Typed.g-pre 𝓤 H A W 𝓣 E G41 G42 b12 Δ0 (Typed.pass T40 T42 s40) at5 (Scalar.g-room 𝓤 H A W E G41 5 ty·0 (Scalar.room-sc 𝓤 H A W (Row.sInt Syntax.w32))) d5
 
-          d7 : Typed.Typed 𝓤 H A 𝓣 E G39 b12 Δ0 at7
-          d7 = Typed.g-pre 𝓤 H A W 𝓣 E G39 G40 b12 Δ0 (Typed.give s38) at6 (Know.g-sl-known 𝓤 H A W (Referent.fInt Syntax.w32) E G39 3 2 ty·5 (Row.lease (κs .1 .1 .0) (qs .1 .1 .0)) 0 (λ x. x) record { fits = Dec'.lit< tt } (Reads.as-is 𝓤 H A (Mut.mslice (Referent.rtF (Referent.fInt Syntax.w32)) ty·5 2)) Path'.refl tt) d6
+          d7 : Typed.Typed 𝓤 H A 𝓣 E G40 b12 Δ0 at7
+          d7 = Typed.g-pre 𝓤 H A W 𝓣 E G40 G41 b12 Δ0 (λ Ψ. Ψ) at6 (Lifetime.g-forget 𝓤 H A W E G40 7 Row.dead Path'.refl) d6
 
-          d8 : Typed.Typed 𝓤 H A 𝓣 E G38 b12 Δ0 at8
-          d8 = Typed.g-pre 𝓤 H A W 𝓣 E G38 G39 b12 Δ0 (Typed.both s37) at7 (Relend.g-back-sl 𝓤 H A W E (Referent.rtF (Referent.fInt Syntax.w32)) G38 20 3 2 7 ty·5 ty·3 (Row.lease (κs .1 .1 .0) (qs .1 .1 .0)) (λ x. x) (λ x. x) (Reads.as-is 𝓤 H A (Mut.msleft (Referent.rtF (Referent.fInt Syntax.w32)) ty·3)) (Reads.as-is 𝓤 H A (Relend.mslice-owed (Referent.rtF (Referent.fInt Syntax.w32)) ty·5 2 7 (Row.lease (κs .1 .1 .0) (qs .1 .1 .0)))) Path'.refl Path'.refl) d7
+          d8 : Typed.Typed 𝓤 H A 𝓣 E G39 b12 Δ0 at8
+          d8 = Typed.g-pre 𝓤 H A W 𝓣 E G39 G40 b12 Δ0 (Typed.give s38) at7 (Know.g-sl-known 𝓤 H A W (Referent.fInt Syntax.w32) E G39 3 2 ty·5 (Row.lease (κs .1 .1 .0) (qs .1 .1 .0)) 0 (λ x. x) record { fits = Dec'.lit< tt } (Reads.as-is 𝓤 H A (Mut.mslice (Referent.rtF (Referent.fInt Syntax.w32)) ty·5 2)) Path'.refl tt) d7
 
-          d9 : Typed.Typed 𝓤 H A 𝓣 E G37 b12 Δ0 at9
-          d9 = Typed.g-pre 𝓤 H A W 𝓣 E G37 G38 b12 Δ0 (λ Ψ. Ψ) at8 (Lifetime.g-end 𝓤 H A W E G37 7 Path'.refl) d8
+          d9 : Typed.Typed 𝓤 H A 𝓣 E G38 b12 Δ0 at9
+          d9 = Typed.g-pre 𝓤 H A W 𝓣 E G38 G39 b12 Δ0 (Typed.both s37) at8 (Relend.g-back-sl 𝓤 H A W E (Referent.rtF (Referent.fInt Syntax.w32)) G38 21 3 2 7 ty·5 ty·3 (Row.lease (κs .1 .1 .0) (qs .1 .1 .0)) (λ x. x) (λ x. x) (Reads.as-is 𝓤 H A (Mut.msleft (Referent.rtF (Referent.fInt Syntax.w32)) ty·3)) (Reads.as-is 𝓤 H A (Relend.mslice-owed (Referent.rtF (Referent.fInt Syntax.w32)) ty·5 2 7 (Row.lease (κs .1 .1 .0) (qs .1 .1 .0)))) Path'.refl Path'.refl) d8
 
-          d10 : Typed.Typed 𝓤 H A 𝓣 E G36 b12 Δ0 at10
-          d10 = Typed.g-pre 𝓤 H A W 𝓣 E G36 G37 b12 Δ0 (λ Ψ. Ψ) at9 (Lifetime.g-forget 𝓤 H A W E G36 6 Row.dead Path'.refl) d9
+          d10 : Typed.Typed 𝓤 H A 𝓣 E G37 b12 Δ0 at10
+          d10 = Typed.g-pre 𝓤 H A W 𝓣 E G37 G38 b12 Δ0 (λ Ψ. Ψ) at9 (Lifetime.g-end 𝓤 H A W E G37 7 Path'.refl) d9
 
-          d11 : Typed.Typed 𝓤 H A 𝓣 E G35 b12 Δ0 at11
-          d11 = Typed.g-pre 𝓤 H A W 𝓣 E G35 G36 b12 Δ0 (Typed.pass T34 T36 s34) at10 (Reshare.g-back-sl-shr 𝓤 H A W E ELEM.the-row G35 1 0 6 ty·8 (Row.lease (κs .0) (qs .0)) (λ x. x) (Reads.as-is 𝓤 H A (Reshare.mslice-owedS ELEM.the-row ty·8 0 6 (Row.lease (κs .0) (qs .0)))) Path'.refl Path'.refl) d10
+          d11 : Typed.Typed 𝓤 H A 𝓣 E G36 b12 Δ0 at11
+          d11 = Typed.g-pre 𝓤 H A W 𝓣 E G36 G37 b12 Δ0 (λ Ψ. Ψ) at10 (Lifetime.g-forget 𝓤 H A W E G36 6 Row.dead Path'.refl) d10
 
-          d12 : Typed.Typed 𝓤 H A 𝓣 E G34 b12 Δ0 at12
-          d12 = Typed.g-pre 𝓤 H A W 𝓣 E G34 G35 b12 Δ0 (λ Ψ. Ψ) at11 (Lifetime.g-end 𝓤 H A W E G34 6 Path'.refl) d11
+          d12 : Typed.Typed 𝓤 H A 𝓣 E G35 b12 Δ0 at12
+          d12 = Typed.g-pre 𝓤 H A W 𝓣 E G35 G36 b12 Δ0 (Typed.pass T34 T36 s34) at11 (Reshare.g-back-sl-shr 𝓤 H A W E ELEM.the-row G35 1 0 6 ty·8 (Row.lease (κs .0) (qs .0)) (λ x. x) (Reads.as-is 𝓤 H A (Reshare.mslice-owedS ELEM.the-row ty·8 0 6 (Row.lease (κs .0) (qs .0)))) Path'.refl Path'.refl) d11
 
-          d13 : Typed.Typed 𝓤 H A 𝓣 E G33 b12 Δ0 at13
-          d13 = Typed.g-pre 𝓤 H A W 𝓣 E G33 G34 b12 Δ0 (Typed.pass T33 T34 s32) at12 (Scalar.g-room 𝓤 H A W E G33 10 ty·12 (Local.room-whole 𝓤 H A W (Declared.row Hull.the-type) ty·12 Path'.refl)) d12
+          d13 : Typed.Typed 𝓤 H A 𝓣 E G34 b12 Δ0 at13
+          d13 = Typed.g-pre 𝓤 H A W 𝓣 E G34 G35 b12 Δ0 (λ Ψ. Ψ) at12 (Lifetime.g-end 𝓤 H A W E G34 6 Path'.refl) d12
 
-          d14 : Typed.Typed 𝓤 H A 𝓣 E G32 b12 Δ0 at14
-          d14 = Typed.g-pre 𝓤 H A W 𝓣 E G32 G33 b12 Δ0 (Typed.pass T32 T33 s31) at13 (Scalar.g-room 𝓤 H A W E G32 18 ty·10 (Shared.room-sslice 𝓤 H A W ELEM.the-row ty·6 6)) d13
+          d14 : Typed.Typed 𝓤 H A 𝓣 E G33 b12 Δ0 at14
+          d14 = Typed.g-pre 𝓤 H A W 𝓣 E G33 G34 b12 Δ0 (Typed.pass T33 T34 s32) at13 (Scalar.g-room 𝓤 H A W E G33 11 ty·12 (Local.room-whole 𝓤 H A W (Declared.row Hull.the-type) ty·12 Path'.refl)) d13
 
-          d15 : Typed.Typed 𝓤 H A 𝓣 E G31 b13 Δ0 at15
-          d15 = Typed.s-seq 𝓤 H A W 𝓣 E G31 G32 b11 b12 Δ0 (Typed.both s30) at14 (Plain.t-call-plain 𝓤 H A W 𝓣 2 ps·1 r·1 (claims· .2) (claims· .3) "ring_insert::adjust_bucket_size_if_necessary" (known .1) E (λ pos β. β) G31 (record { pos = 18; ty = Syntax.tyRef Syntax.erased Syntax.imm (ELEMMEM.pointee (ELEM.the-row .written)); ref = λ x. x }, (record { pos = 20; ty = Syntax.tyRef Syntax.erased Syntax.mut ty·0; ref = λ x. x }, (record { pos = 10; st = List.[]; d = 0; at = λ x. x }, tt))) 0 (List._∷_ 6 (List._∷_ 7 List.[])) (Call.sub-id 𝓤 H A W (G31 .slots)) (ShrSlice.spares-sslice 𝓤 H A W ELEM.the-row ty·6 6, Shared.reads-sslice 𝓤 H A W ELEM.the-row ty·6 6, Path'.refl, (Reads.as-is 𝓤 H A (Mut.mslice (Referent.rtF (Referent.fInt Syntax.w32)) ty·3 7), Mut.reads-mslice 𝓤 H A W (Referent.rtF (Referent.fInt Syntax.w32)) ty·3 7, Path'.refl, ((Yields.yields-copy 𝓤 H A W (λ ρ. Unit) (Declared.row Hull.the-type) Path'.refl (Copies.cStruct Hull.the-type Laws.the-laws Laws.the-copy .copy 𝓤 H A W) (Rows.whole (Declared.row Hull.the-type)) (λ x. x) (λ x. x) (λ ρ told. Local.mem-whole 𝓤 H A W (Declared.row Hull.the-type) ρ) λ ρ told. Local.whole-mem 𝓤 H A W (Declared.row Hull.the-type) ρ, Path'.refl), tt))) (Reads.room-gone 𝓤 H A ty·12) (tt, (tt, tt)) Path'.refl) d14
+          d15 : Typed.Typed 𝓤 H A 𝓣 E G32 b12 Δ0 at15
+          d15 = Typed.g-pre 𝓤 H A W 𝓣 E G32 G33 b12 Δ0 (Typed.pass T32 T33 s31) at14 (Scalar.g-room 𝓤 H A W E G32 19 ty·10 (Shared.room-sslice 𝓤 H A W ELEM.the-row ty·6 6)) d14
 
-          d16 : Typed.Typed 𝓤 H A 𝓣 E G30 b14 Δ0 at16
-          d16 = Typed.s-seq 𝓤 H A W 𝓣 E G30 G31 b10 b13 Δ0 (Typed.ask s29) at15 (Relend.t-sl-aggregate 𝓤 H A W E (Referent.rtF (Referent.fInt Syntax.w32)) 𝓣 (Relend.asMut (Referent.rtF (Referent.fInt Syntax.w32))) G30 19 20 7 ty·3 ty·3 (λ x. x) (Scalar.oFld 3 (List._∷_ (Syntax.field 1) List.[]) ty·1 8 λ v. Shared.lenV (v .0)) (Reads.as-is 𝓤 H A (Relend.msptr (Referent.rtF (Referent.fInt Syntax.w32)) ty·3 7)) (Reads.room-gone 𝓤 H A ty·9) (Relend.reads-owed-len 𝓤 H A W (Referent.rtF (Referent.fInt Syntax.w32)) ty·5 2 7 (Row.lease (κs .1 .1 .0) (qs .1 .1 .0)) 8 Path'.refl, Path'.refl) Path'.refl Path'.refl λ b o k. tt) d15
+          d16 : Typed.Typed 𝓤 H A 𝓣 E G31 b13 Δ0 at16
+          d16 = Typed.s-seq 𝓤 H A W 𝓣 E G31 G32 b11 b12 Δ0 (Typed.both s30) at15 (Plain.t-call-plain 𝓤 H A W 𝓣 2 ps·1 r·1 (claims· .2) (claims· .3) "ring_insert::adjust_bucket_size_if_necessary" (known .1) E (λ pos β. β) G31 (record { pos = 19; ty = Syntax.tyRef Syntax.erased Syntax.imm (ELEMMEM.pointee (ELEM.the-row .written)); ref = λ x. x }, (record { pos = 21; ty = Syntax.tyRef Syntax.erased Syntax.mut ty·0; ref = λ x. x }, (record { pos = 11; st = List.[]; d = 0; at = λ x. x }, tt))) 0 (List._∷_ 6 (List._∷_ 7 List.[])) (Call.sub-id 𝓤 H A W (G31 .slots)) (ShrSlice.spares-sslice 𝓤 H A W ELEM.the-row ty·6 6, Shared.reads-sslice 𝓤 H A W ELEM.the-row ty·6 6, Path'.refl, (Reads.as-is 𝓤 H A (Mut.mslice (Referent.rtF (Referent.fInt Syntax.w32)) ty·3 7), Mut.reads-mslice 𝓤 H A W (Referent.rtF (Referent.fInt Syntax.w32)) ty·3 7, Path'.refl, ((Yields.yields-copy 𝓤 H A W (λ ρ. Unit) (Declared.row Hull.the-type) Path'.refl (Copies.cStruct Hull.the-type Laws.the-laws Laws.the-copy .copy 𝓤 H A W) (Rows.whole (Declared.row Hull.the-type)) (λ x. x) (λ x. x) (λ ρ told. Local.mem-whole 𝓤 H A W (Declared.row Hull.the-type) ρ) λ ρ told. Local.whole-mem 𝓤 H A W (Declared.row Hull.the-type) ρ, Path'.refl), tt))) (Reads.room-gone 𝓤 H A ty·12) (tt, (tt, tt)) Path'.refl) d15
 
-          d17 : Typed.Typed 𝓤 H A 𝓣 E G29 b15 Δ0 at17
-          d17 = Typed.s-seq 𝓤 H A W 𝓣 E G29 G30 b9 b14 Δ0 (Typed.give s28) at16 (Relend.t-sl-relend 𝓤 H A W E (Referent.rtF (Referent.fInt Syntax.w32)) 𝓣 G29 3 19 2 7 ty·5 ty·3 (Row.lease (κs .1 .1 .0) (qs .1 .1 .0)) 0 (λ x. x) (Reads.as-is 𝓤 H A (Mut.mslice (Referent.rtF (Referent.fInt Syntax.w32)) ty·5 2)) (Reads.room-gone 𝓤 H A ty·3) Path'.refl tt Path'.refl Path'.refl Path'.refl λ b o. tt) d16
+          d17 : Typed.Typed 𝓤 H A 𝓣 E G30 b14 Δ0 at17
+          d17 = Typed.s-seq 𝓤 H A W 𝓣 E G30 G31 b10 b13 Δ0 (Typed.ask s29) at16 (Relend.t-sl-aggregate 𝓤 H A W E (Referent.rtF (Referent.fInt Syntax.w32)) 𝓣 (Relend.asMut (Referent.rtF (Referent.fInt Syntax.w32))) G30 20 21 7 ty·3 ty·3 (λ x. x) (Scalar.oFld 3 (List._∷_ (Syntax.field 1) List.[]) ty·1 8 λ v. Shared.lenV (v .0)) (Reads.as-is 𝓤 H A (Relend.msptr (Referent.rtF (Referent.fInt Syntax.w32)) ty·3 7)) (Reads.room-gone 𝓤 H A ty·9) (Relend.reads-owed-len 𝓤 H A W (Referent.rtF (Referent.fInt Syntax.w32)) ty·5 2 7 (Row.lease (κs .1 .1 .0) (qs .1 .1 .0)) 8 Path'.refl, Path'.refl) Path'.refl Path'.refl λ b o k. tt) d16
 
-          d18 : Typed.Typed 𝓤 H A 𝓣 E G28 b15 Δ0 at18
-          d18 = Typed.g-pre 𝓤 H A W 𝓣 E G28 G29 b15 Δ0 (λ Ψ. Ψ) at17 (Lifetime.g-begin 𝓤 H A W E G28 7 (tt, ((tt, tt), (tt, (tt, (tt, (tt, (tt, (tt, (tt, (tt, (tt, (tt, (tt, (tt, (tt, (tt, (tt, (tt, (tt, (tt, (tt, tt)))))))))))))))))))))) d17
+          d18 : Typed.Typed 𝓤 H A 𝓣 E G29 b15 Δ0 at18
+          d18 = Typed.s-seq 𝓤 H A W 𝓣 E G29 G30 b9 b14 Δ0 (Typed.give s28) at17 (Relend.t-sl-relend 𝓤 H A W E (Referent.rtF (Referent.fInt Syntax.w32)) 𝓣 G29 3 20 2 7 ty·5 ty·3 (Row.lease (κs .1 .1 .0) (qs .1 .1 .0)) 0 (λ x. x) (Reads.as-is 𝓤 H A (Mut.mslice (Referent.rtF (Referent.fInt Syntax.w32)) ty·5 2)) (Reads.room-gone 𝓤 H A ty·3) Path'.refl tt Path'.refl Path'.refl Path'.refl λ b o. tt) d17
 
-          d19 : Typed.Typed 𝓤 H A 𝓣 E G27 b16 Δ0 at19
-          d19 = Typed.s-seq 𝓤 H A W 𝓣 E G27 G28 b8 b15 Δ0 (Typed.ask s26) at18 (Relend.t-sl-aggregate 𝓤 H A W E ELEM.the-row 𝓣 (Relend.asShr ELEM.the-row) G27 17 18 6 ty·6 ty·6 (λ x. x) (Scalar.oFld 1 (List._∷_ (Syntax.field 1) List.[]) ty·1 8 λ v. Shared.lenV (v .0)) (Reads.as-is 𝓤 H A (Relend.ssptr ELEM.the-row ty·6 6)) (Reads.room-gone 𝓤 H A ty·10) (Reshare.reads-owedS-len 𝓤 H A W ELEM.the-row ty·8 0 6 (Row.lease (κs .0) (qs .0)) 8 Path'.refl, Path'.refl) Path'.refl Path'.refl λ b o k. tt) d18
+          d19 : Typed.Typed 𝓤 H A 𝓣 E G28 b15 Δ0 at19
+          d19 = Typed.g-pre 𝓤 H A W 𝓣 E G28 G29 b15 Δ0 (λ Ψ. Ψ) at18 (Lifetime.g-begin 𝓤 H A W E G28 7 (tt, ((tt, tt), (tt, (tt, (tt, (tt, (tt, (tt, (tt, (tt, (tt, (tt, (tt, (tt, (tt, (tt, (tt, (tt, (tt, (tt, (tt, (tt, tt))))))))))))))))))))))) d18
 
-          d20 : Typed.Typed 𝓤 H A 𝓣 E G26 b17 Δ0 at20
-          d20 = Typed.s-seq 𝓤 H A W 𝓣 E G26 G27 b7 b16 Δ0 (Typed.give s25) at19 (Reshare.t-sl-reshare 𝓤 H A W E ELEM.the-row 𝓣 G26 1 17 0 6 ty·8 ty·6 (Row.lease (κs .0) (qs .0)) 0 (λ x. x) (Reads.as-is 𝓤 H A (Mut.mslice ELEM.the-row ty·8 0)) (Reads.room-gone 𝓤 H A ty·6) Path'.refl tt Path'.refl Path'.refl Path'.refl λ b o. tt) d19
+          d20 : Typed.Typed 𝓤 H A 𝓣 E G27 b16 Δ0 at20
+          d20 = Typed.s-seq 𝓤 H A W 𝓣 E G27 G28 b8 b15 Δ0 (Typed.ask s26) at19 (Relend.t-sl-aggregate 𝓤 H A W E ELEM.the-row 𝓣 (Relend.asShr ELEM.the-row) G27 18 19 6 ty·6 ty·6 (λ x. x) (Scalar.oFld 1 (List._∷_ (Syntax.field 1) List.[]) ty·1 8 λ v. Shared.lenV (v .0)) (Reads.as-is 𝓤 H A (Relend.ssptr ELEM.the-row ty·6 6)) (Reads.room-gone 𝓤 H A ty·10) (Reshare.reads-owedS-len 𝓤 H A W ELEM.the-row ty·8 0 6 (Row.lease (κs .0) (qs .0)) 8 Path'.refl, Path'.refl) Path'.refl Path'.refl λ b o k. tt) d19
 
-          d21 : Typed.Typed 𝓤 H A 𝓣 E G25 b17 Δ0 at21
-          d21 = Typed.g-pre 𝓤 H A W 𝓣 E G25 G26 b17 Δ0 (λ Ψ. Ψ) at20 (Lifetime.g-begin 𝓤 H A W E G25 6 (tt, (tt, (tt, (tt, (tt, (tt, (tt, (tt, (tt, (tt, (tt, (tt, (tt, (tt, (tt, (tt, (tt, (tt, (tt, (tt, (tt, tt)))))))))))))))))))))) d20
+          d21 : Typed.Typed 𝓤 H A 𝓣 E G26 b17 Δ0 at21
+          d21 = Typed.s-seq 𝓤 H A W 𝓣 E G26 G27 b7 b16 Δ0 (Typed.give s25) at20 (Reshare.t-sl-reshare 𝓤 H A W E ELEM.the-row 𝓣 G26 1 18 0 6 ty·8 ty·6 (Row.lease (κs .0) (qs .0)) 0 (λ x. x) (Reads.as-is 𝓤 H A (Mut.mslice ELEM.the-row ty·8 0)) (Reads.room-gone 𝓤 H A ty·6) Path'.refl tt Path'.refl Path'.refl Path'.refl λ b o. tt) d20
 
-          d22 : Typed.Typed 𝓤 H A 𝓣 E G24 b17 Δ0 at22
-          d22 = Typed.g-pre 𝓤 H A W 𝓣 E G24 G25 b17 Δ0 (λ Ψ. Ψ) at21 (Lifetime.g-forget 𝓤 H A W E G24 5 Row.dead Path'.refl) d21
+          d22 : Typed.Typed 𝓤 H A 𝓣 E G25 b17 Δ0 at22
+          d22 = Typed.g-pre 𝓤 H A W 𝓣 E G25 G26 b17 Δ0 (λ Ψ. Ψ) at21 (Lifetime.g-begin 𝓤 H A W E G25 6 (tt, (tt, (tt, (tt, (tt, (tt, (tt, (tt, (tt, (tt, (tt, (tt, (tt, (tt, (tt, (tt, (tt, (tt, (tt, (tt, (tt, (tt, tt))))))))))))))))))))))) d21
 
-          d23 : Typed.Typed 𝓤 H A 𝓣 E G23 b17 Δ0 at23
-          d23 = Typed.g-pre 𝓤 H A W 𝓣 E G23 G24 b17 Δ0 (Typed.give s22) at22 (Know.g-sl-known 𝓤 H A W (Referent.fInt Syntax.w32) E G23 3 2 ty·5 (Row.lease (κs .1 .1 .0) (qs .1 .1 .0)) 0 (λ x. x) record { fits = Dec'.lit< tt } (Reads.as-is 𝓤 H A (Mut.mslice (Referent.rtF (Referent.fInt Syntax.w32)) ty·5 2)) Path'.refl tt) d22
+          d23 : Typed.Typed 𝓤 H A 𝓣 E G24 b17 Δ0 at23
+          d23 = Typed.g-pre 𝓤 H A W 𝓣 E G24 G25 b17 Δ0 (λ Ψ. Ψ) at22 (Lifetime.g-forget 𝓤 H A W E G24 5 Row.dead Path'.refl) d22
 
-          d24 : Typed.Typed 𝓤 H A 𝓣 E G22 b17 Δ0 at24
-          d24 = Typed.g-pre 𝓤 H A W 𝓣 E G22 G23 b17 Δ0 (Typed.both s21) at23 (Relend.g-back-sl 𝓤 H A W E (Referent.rtF (Referent.fInt Syntax.w32)) G22 16 3 2 5 ty·5 ty·3 (Row.lease (κs .1 .1 .0) (qs .1 .1 .0)) (λ x. x) (λ x. x) (Reads.as-is 𝓤 H A (Mut.msleft (Referent.rtF (Referent.fInt Syntax.w32)) ty·3)) (Reads.as-is 𝓤 H A (Relend.mslice-owed (Referent.rtF (Referent.fInt Syntax.w32)) ty·5 2 5 (Row.lease (κs .1 .1 .0) (qs .1 .1 .0)))) Path'.refl Path'.refl) d23
+          d24 : Typed.Typed 𝓤 H A 𝓣 E G23 b17 Δ0 at24
+          d24 = Typed.g-pre 𝓤 H A W 𝓣 E G23 G24 b17 Δ0 (Typed.give s22) at23 (Know.g-sl-known 𝓤 H A W (Referent.fInt Syntax.w32) E G23 3 2 ty·5 (Row.lease (κs .1 .1 .0) (qs .1 .1 .0)) 0 (λ x. x) record { fits = Dec'.lit< tt } (Reads.as-is 𝓤 H A (Mut.mslice (Referent.rtF (Referent.fInt Syntax.w32)) ty·5 2)) Path'.refl tt) d23
 
-          d25 : Typed.Typed 𝓤 H A 𝓣 E G21 b17 Δ0 at25
-          d25 = Typed.g-pre 𝓤 H A W 𝓣 E G21 G22 b17 Δ0 (λ Ψ. Ψ) at24 (Lifetime.g-end 𝓤 H A W E G21 5 Path'.refl) d24
+          d25 : Typed.Typed 𝓤 H A 𝓣 E G22 b17 Δ0 at25
+          d25 = Typed.g-pre 𝓤 H A W 𝓣 E G22 G23 b17 Δ0 (Typed.both s21) at24 (Relend.g-back-sl 𝓤 H A W E (Referent.rtF (Referent.fInt Syntax.w32)) G22 17 3 2 5 ty·5 ty·3 (Row.lease (κs .1 .1 .0) (qs .1 .1 .0)) (λ x. x) (λ x. x) (Reads.as-is 𝓤 H A (Mut.msleft (Referent.rtF (Referent.fInt Syntax.w32)) ty·3)) (Reads.as-is 𝓤 H A (Relend.mslice-owed (Referent.rtF (Referent.fInt Syntax.w32)) ty·5 2 5 (Row.lease (κs .1 .1 .0) (qs .1 .1 .0)))) Path'.refl Path'.refl) d24
 
-          d26 : Typed.Typed 𝓤 H A 𝓣 E G20 b17 Δ0 at26
-          d26 = Typed.g-pre 𝓤 H A W 𝓣 E G20 G21 b17 Δ0 (λ Ψ. Ψ) at25 (Lifetime.g-forget 𝓤 H A W E G20 4 Row.dead Path'.refl) d25
+          d26 : Typed.Typed 𝓤 H A 𝓣 E G21 b17 Δ0 at26
+          d26 = Typed.g-pre 𝓤 H A W 𝓣 E G21 G22 b17 Δ0 (λ Ψ. Ψ) at25 (Lifetime.g-end 𝓤 H A W E G21 5 Path'.refl) d25
 
-          d27 : Typed.Typed 𝓤 H A 𝓣 E G19 b17 Δ0 at27
-          d27 = Typed.g-pre 𝓤 H A W 𝓣 E G19 G20 b17 Δ0 (Typed.give s18) at26 (Know.g-sl-known 𝓤 H A W (Referent.fInt Syntax.w32) E G19 2 1 ty·4 (Row.lease (κs .1 .0) (qs .1 .0)) 0 (λ x. x) record { fits = Dec'.lit< tt } (Reads.as-is 𝓤 H A (Mut.mslice (Referent.rtF (Referent.fInt Syntax.w32)) ty·4 1)) Path'.refl tt) d26
+          d27 : Typed.Typed 𝓤 H A 𝓣 E G20 b17 Δ0 at27
+          d27 = Typed.g-pre 𝓤 H A W 𝓣 E G20 G21 b17 Δ0 (λ Ψ. Ψ) at26 (Lifetime.g-forget 𝓤 H A W E G20 4 Row.dead Path'.refl) d26
 
-          d28 : Typed.Typed 𝓤 H A 𝓣 E G18 b17 Δ0 at28
-          d28 = Typed.g-pre 𝓤 H A W 𝓣 E G18 G19 b17 Δ0 (Typed.both s17) at27 (Relend.g-back-sl 𝓤 H A W E (Referent.rtF (Referent.fInt Syntax.w32)) G18 14 2 1 4 ty·4 ty·3 (Row.lease (κs .1 .0) (qs .1 .0)) (λ x. x) (λ x. x) (Reads.as-is 𝓤 H A (Mut.msleft (Referent.rtF (Referent.fInt Syntax.w32)) ty·3)) (Reads.as-is 𝓤 H A (Relend.mslice-owed (Referent.rtF (Referent.fInt Syntax.w32)) ty·4 1 4 (Row.lease (κs .1 .0) (qs .1 .0)))) Path'.refl Path'.refl) d27
+          d28 : Typed.Typed 𝓤 H A 𝓣 E G19 b17 Δ0 at28
+          d28 = Typed.g-pre 𝓤 H A W 𝓣 E G19 G20 b17 Δ0 (Typed.give s18) at27 (Know.g-sl-known 𝓤 H A W (Referent.fInt Syntax.w32) E G19 2 1 ty·4 (Row.lease (κs .1 .0) (qs .1 .0)) 0 (λ x. x) record { fits = Dec'.lit< tt } (Reads.as-is 𝓤 H A (Mut.mslice (Referent.rtF (Referent.fInt Syntax.w32)) ty·4 1)) Path'.refl tt) d27
 
-          d29 : Typed.Typed 𝓤 H A 𝓣 E G17 b17 Δ0 at29
-          d29 = Typed.g-pre 𝓤 H A W 𝓣 E G17 G18 b17 Δ0 (λ Ψ. Ψ) at28 (Lifetime.g-end 𝓤 H A W E G17 4 Path'.refl) d28
+          d29 : Typed.Typed 𝓤 H A 𝓣 E G18 b17 Δ0 at29
+          d29 = Typed.g-pre 𝓤 H A W 𝓣 E G18 G19 b17 Δ0 (Typed.both s17) at28 (Relend.g-back-sl 𝓤 H A W E (Referent.rtF (Referent.fInt Syntax.w32)) G18 15 2 1 4 ty·4 ty·3 (Row.lease (κs .1 .0) (qs .1 .0)) (λ x. x) (λ x. x) (Reads.as-is 𝓤 H A (Mut.msleft (Referent.rtF (Referent.fInt Syntax.w32)) ty·3)) (Reads.as-is 𝓤 H A (Relend.mslice-owed (Referent.rtF (Referent.fInt Syntax.w32)) ty·4 1 4 (Row.lease (κs .1 .0) (qs .1 .0)))) Path'.refl Path'.refl) d28
 
-          d30 : Typed.Typed 𝓤 H A 𝓣 E G16 b17 Δ0 at30
-          d30 = Typed.g-pre 𝓤 H A W 𝓣 E G16 G17 b17 Δ0 (λ Ψ. Ψ) at29 (Lifetime.g-forget 𝓤 H A W E G16 3 Row.dead Path'.refl) d29
+          d30 : Typed.Typed 𝓤 H A 𝓣 E G17 b17 Δ0 at30
+          d30 = Typed.g-pre 𝓤 H A W 𝓣 E G17 G18 b17 Δ0 (λ Ψ. Ψ) at29 (Lifetime.g-end 𝓤 H A W E G17 4 Path'.refl) d29
 
-          d31 : Typed.Typed 𝓤 H A 𝓣 E G15 b17 Δ0 at31
-          d31 = Typed.g-pre 𝓤 H A W 𝓣 E G15 G16 b17 Δ0 (Typed.both s14) at30 (Relend.g-back-sl 𝓤 H A W E ELEM.the-row G15 12 1 0 3 ty·8 ty·7 (Row.lease (κs .0) (qs .0)) (λ x. x) (λ x. x) (Reads.as-is 𝓤 H A (Mut.msleft ELEM.the-row ty·7)) (Reads.as-is 𝓤 H A (Relend.mslice-owed ELEM.the-row ty·8 0 3 (Row.lease (κs .0) (qs .0)))) Path'.refl Path'.refl) d30
+          d31 : Typed.Typed 𝓤 H A 𝓣 E G16 b17 Δ0 at31
+          d31 = Typed.g-pre 𝓤 H A W 𝓣 E G16 G17 b17 Δ0 (λ Ψ. Ψ) at30 (Lifetime.g-forget 𝓤 H A W E G16 3 Row.dead Path'.refl) d30
 
-          d32 : Typed.Typed 𝓤 H A 𝓣 E G14 b17 Δ0 at32
-          d32 = Typed.g-pre 𝓤 H A W 𝓣 E G14 G15 b17 Δ0 (λ Ψ. Ψ) at31 (Lifetime.g-end 𝓤 H A W E G14 3 Path'.refl) d31
+          d32 : Typed.Typed 𝓤 H A 𝓣 E G15 b17 Δ0 at32
+          d32 = Typed.g-pre 𝓤 H A W 𝓣 E G15 G16 b17 Δ0 (Typed.both s14) at31 (Relend.g-back-sl 𝓤 H A W E ELEM.the-row G15 13 1 0 3 ty·8 ty·7 (Row.lease (κs .0) (qs .0)) (λ x. x) (λ x. x) (Reads.as-is 𝓤 H A (Mut.msleft ELEM.the-row ty·7)) (Reads.as-is 𝓤 H A (Relend.mslice-owed ELEM.the-row ty·8 0 3 (Row.lease (κs .0) (qs .0)))) Path'.refl Path'.refl) d31
 
-          d33 : Typed.Typed 𝓤 H A 𝓣 E G13 b17 Δ0 at33
-          d33 = Typed.g-pre 𝓤 H A W 𝓣 E G13 G14 b17 Δ0 (Typed.pass T13 T14 s12) at32 (Scalar.g-room 𝓤 H A W E G13 4 ty·12 (Local.room-whole 𝓤 H A W (Declared.row Hull.the-type) ty·12 Path'.refl)) d32
+          d33 : Typed.Typed 𝓤 H A 𝓣 E G14 b17 Δ0 at33
+          d33 = Typed.g-pre 𝓤 H A W 𝓣 E G14 G15 b17 Δ0 (λ Ψ. Ψ) at32 (Lifetime.g-end 𝓤 H A W E G14 3 Path'.refl) d32
 
-          d34 : Typed.Typed 𝓤 H A 𝓣 E G12 b18 Δ0 at34
-          d34 = Typed.s-seq 𝓤 H A W 𝓣 E G12 G13 b6 b17 Δ0 (Typed.both s11) at33 (Plain.t-call-plain 𝓤 H A W 𝓣 3 ps·0 r·0 (claims· .0) (claims· .1) "ring_insert::insert" (known .0) E (λ pos β. β) G12 (record { pos = 12; ty = Syntax.tyRef Syntax.erased Syntax.mut (ELEMMEM.pointee (ELEM.the-row .written)); ref = λ x. x }, (record { pos = 14; ty = Syntax.tyRef Syntax.erased Syntax.mut ty·0; ref = λ x. x }, (record { pos = 16; ty = Syntax.tyRef Syntax.erased Syntax.mut ty·0; ref = λ x. x }, (record { pos = 4; st = List.[]; d = 0; at = λ x. x }, (Float.fAt 5 λ x. x, (Float.fAt 6 λ x. x, (Float.fAt 7 λ x. x, (Num.vAt 8 λ x. x, (Num.vAt 9 λ x. x, tt))))))))) 10 (List._∷_ 3 (List._∷_ 4 (List._∷_ 5 List.[]))) (Call.sub-id 𝓤 H A W (G12 .slots)) (Reads.as-is 𝓤 H A (Mut.mslice ELEM.the-row ty·7 3), Mut.reads-mslice 𝓤 H A W ELEM.the-row ty·7 3, Path'.refl, (Reads.as-is 𝓤 H A (Mut.mslice (Referent.rtF (Referent.fInt Syntax.w32)) ty·3 4), Mut.reads-mslice 𝓤 H A W (Referent.rtF (Referent.fInt Syntax.w32)) ty·3 4, Path'.refl, (Reads.as-is 𝓤 H A (Mut.mslice (Referent.rtF (Referent.fInt Syntax.w32)) ty·3 5), Mut.reads-mslice 𝓤 H A W (Referent.rtF (Referent.fInt Syntax.w32)) ty·3 5, Path'.refl, ((Yields.yields-copy 𝓤 H A W (λ ρ. Unit) (Declared.row Hull.the-type) Path'.refl (Copies.cStruct Hull.the-type Laws.the-laws Laws.the-copy .copy 𝓤 H A W) (Rows.whole (Declared.row Hull.the-type)) (λ x. x) (λ x. x) (λ ρ told. Local.mem-whole 𝓤 H A W (Declared.row Hull.the-type) ρ) λ ρ told. Local.whole-mem 𝓤 H A W (Declared.row Hull.the-type) ρ, Path'.refl), ((Scalar.reads-sc 𝓤 H A W (Row.sFloat Ieee.binary64), Path'.refl), ((Scalar.reads-sc 𝓤 H A W (Row.sFloat Ieee.binary64), Path'.refl), ((Scalar.reads-sc 𝓤 H A W (Row.sFloat Ieee.binary64), Path'.refl), ((Scalar.reads-sc 𝓤 H A W (Row.sInt Syntax.w32), Path'.refl), ((Scalar.reads-sc 𝓤 H A W (Row.sInt Syntax.w32), Path'.refl), tt))))))))) (Reads.room-gone 𝓤 H A ty·12) (tt, (tt, (tt, tt))) Path'.refl) d33
+          d34 : Typed.Typed 𝓤 H A 𝓣 E G13 b17 Δ0 at34
+          d34 = Typed.g-pre 𝓤 H A W 𝓣 E G13 G14 b17 Δ0 (Typed.pass T13 T14 s12) at33 (Scalar.g-room 𝓤 H A W E G13 4 ty·12 (Local.room-whole 𝓤 H A W (Declared.row Hull.the-type) ty·12 Path'.refl)) d33
 
-          d35 : Typed.Typed 𝓤 H A 𝓣 E G11 b19 Δ0 at35
-          d35 = Typed.s-seq 𝓤 H A W 𝓣 E G11 G12 b5 b18 Δ0 (Typed.ask s10) at34 (Relend.t-sl-aggregate 𝓤 H A W E (Referent.rtF (Referent.fInt Syntax.w32)) 𝓣 (Relend.asMut (Referent.rtF (Referent.fInt Syntax.w32))) G11 15 16 5 ty·3 ty·3 (λ x. x) (Scalar.oFld 3 (List._∷_ (Syntax.field 1) List.[]) ty·1 8 λ v. Shared.lenV (v .0)) (Reads.as-is 𝓤 H A (Relend.msptr (Referent.rtF (Referent.fInt Syntax.w32)) ty·3 5)) (Reads.room-gone 𝓤 H A ty·9) (Relend.reads-owed-len 𝓤 H A W (Referent.rtF (Referent.fInt Syntax.w32)) ty·5 2 5 (Row.lease (κs .1 .1 .0) (qs .1 .1 .0)) 8 Path'.refl, Path'.refl) Path'.refl Path'.refl λ b o k. tt) d34
+          d35 : Typed.Typed 𝓤 H A 𝓣 E G12 b18 Δ0 at35
+          d35 = Typed.s-seq 𝓤 H A W 𝓣 E G12 G13 b6 b17 Δ0 (Typed.both s11) at34 (Plain.t-call-plain 𝓤 H A W 𝓣 3 ps·0 r·0 (claims· .0) (claims· .1) "ring_insert::insert" (known .0) E (λ pos β. β) G12 (record { pos = 13; ty = Syntax.tyRef Syntax.erased Syntax.mut (ELEMMEM.pointee (ELEM.the-row .written)); ref = λ x. x }, (record { pos = 15; ty = Syntax.tyRef Syntax.erased Syntax.mut ty·0; ref = λ x. x }, (record { pos = 17; ty = Syntax.tyRef Syntax.erased Syntax.mut ty·0; ref = λ x. x }, (record { pos = 4; st = List.[]; d = 0; at = λ x. x }, (Num.vAt 5 λ x. x, (Float.fAt 6 λ x. x, (Float.fAt 7 λ x. x, (Float.fAt 8 λ x. x, (Num.vAt 9 λ x. x, (Num.vAt 10 λ x. x, tt)))))))))) 11 (List._∷_ 3 (List._∷_ 4 (List._∷_ 5 List.[]))) (Call.sub-id 𝓤 H A W (G12 .slots)) (Reads.as-is 𝓤 H A (Mut.mslice ELEM.the-row ty·7 3), Mut.reads-mslice 𝓤 H A W ELEM.the-row ty·7 3, Path'.refl, (Reads.as-is 𝓤 H A (Mut.mslice (Referent.rtF (Referent.fInt Syntax.w32)) ty·3 4), Mut.reads-mslice 𝓤 H A W (Referent.rtF (Referent.fInt Syntax.w32)) ty·3 4, Path'.refl, (Reads.as-is 𝓤 H A (Mut.mslice (Referent.rtF (Referent.fInt Syntax.w32)) ty·3 5), Mut.reads-mslice 𝓤 H A W (Referent.rtF (Referent.fInt Syntax.w32)) ty·3 5, Path'.refl, ((Yields.yields-copy 𝓤 H A W (λ ρ. Unit) (Declared.row Hull.the-type) Path'.refl (Copies.cStruct Hull.the-type Laws.the-laws Laws.the-copy .copy 𝓤 H A W) (Rows.whole (Declared.row Hull.the-type)) (λ x. x) (λ x. x) (λ ρ told. Local.mem-whole 𝓤 H A W (Declared.row Hull.the-type) ρ) λ ρ told. Local.whole-mem 𝓤 H A W (Declared.row Hull.the-type) ρ, Path'.refl), ((Scalar.reads-sc 𝓤 H A W (Row.sInt Syntax.w32), Path'.refl), ((Scalar.reads-sc 𝓤 H A W (Row.sFloat Ieee.binary64), Path'.refl), ((Scalar.reads-sc 𝓤 H A W (Row.sFloat Ieee.binary64), Path'.refl), ((Scalar.reads-sc 𝓤 H A W (Row.sFloat Ieee.binary64), Path'.refl), ((Scalar.reads-sc 𝓤 H A W (Row.sInt Syntax.w32), Path'.refl), ((Scalar.reads-sc 𝓤 H A W (Row.sInt Syntax.w32), Path'.refl), tt)))))))))) (Reads.room-gone 𝓤 H A ty·12) (tt, (tt, (tt, tt))) Path'.refl) d34
 
-          d36 : Typed.Typed 𝓤 H A 𝓣 E G10 b20 Δ0 at36
-          d36 = Typed.s-seq 𝓤 H A W 𝓣 E G10 G11 b4 b19 Δ0 (Typed.give s9) at35 (Relend.t-sl-relend 𝓤 H A W E (Referent.rtF (Referent.fInt Syntax.w32)) 𝓣 G10 3 15 2 5 ty·5 ty·3 (Row.lease (κs .1 .1 .0) (qs .1 .1 .0)) 0 (λ x. x) (Reads.as-is 𝓤 H A (Mut.mslice (Referent.rtF (Referent.fInt Syntax.w32)) ty·5 2)) (Reads.room-gone 𝓤 H A ty·3) Path'.refl tt Path'.refl Path'.refl Path'.refl λ b o. tt) d35
+          d36 : Typed.Typed 𝓤 H A 𝓣 E G11 b19 Δ0 at36
+          d36 = Typed.s-seq 𝓤 H A W 𝓣 E G11 G12 b5 b18 Δ0 (Typed.ask s10) at35 (Relend.t-sl-aggregate 𝓤 H A W E (Referent.rtF (Referent.fInt Syntax.w32)) 𝓣 (Relend.asMut (Referent.rtF (Referent.fInt Syntax.w32))) G11 16 17 5 ty·3 ty·3 (λ x. x) (Scalar.oFld 3 (List._∷_ (Syntax.field 1) List.[]) ty·1 8 λ v. Shared.lenV (v .0)) (Reads.as-is 𝓤 H A (Relend.msptr (Referent.rtF (Referent.fInt Syntax.w32)) ty·3 5)) (Reads.room-gone 𝓤 H A ty·9) (Relend.reads-owed-len 𝓤 H A W (Referent.rtF (Referent.fInt Syntax.w32)) ty·5 2 5 (Row.lease (κs .1 .1 .0) (qs .1 .1 .0)) 8 Path'.refl, Path'.refl) Path'.refl Path'.refl λ b o k. tt) d35
 
-          d37 : Typed.Typed 𝓤 H A 𝓣 E G9 b20 Δ0 at37
-          d37 = Typed.g-pre 𝓤 H A W 𝓣 E G9 G10 b20 Δ0 (λ Ψ. Ψ) at36 (Lifetime.g-begin 𝓤 H A W E G9 5 (tt, ((tt, tt), ((tt, tt), (tt, (tt, (tt, (tt, (tt, (tt, (tt, (tt, (tt, (tt, (tt, (tt, (tt, (tt, (tt, (tt, (tt, (tt, tt)))))))))))))))))))))) d36
+          d37 : Typed.Typed 𝓤 H A 𝓣 E G10 b20 Δ0 at37
+          d37 = Typed.s-seq 𝓤 H A W 𝓣 E G10 G11 b4 b19 Δ0 (Typed.give s9) at36 (Relend.t-sl-relend 𝓤 H A W E (Referent.rtF (Referent.fInt Syntax.w32)) 𝓣 G10 3 16 2 5 ty·5 ty·3 (Row.lease (κs .1 .1 .0) (qs .1 .1 .0)) 0 (λ x. x) (Reads.as-is 𝓤 H A (Mut.mslice (Referent.rtF (Referent.fInt Syntax.w32)) ty·5 2)) (Reads.room-gone 𝓤 H A ty·3) Path'.refl tt Path'.refl Path'.refl Path'.refl λ b o. tt) d36
 
-          d38 : Typed.Typed 𝓤 H A 𝓣 E G8 b21 Δ0 at38
-          d38 = Typed.s-seq 𝓤 H A W 𝓣 E G8 G9 b3 b20 Δ0 (Typed.ask s7) at37 (Relend.t-sl-aggregate 𝓤 H A W E (Referent.rtF (Referent.fInt Syntax.w32)) 𝓣 (Relend.asMut (Referent.rtF (Referent.fInt Syntax.w32))) G8 13 14 4 ty·3 ty·3 (λ x. x) (Scalar.oFld 2 (List._∷_ (Syntax.field 1) List.[]) ty·1 8 λ v. Shared.lenV (v .0)) (Reads.as-is 𝓤 H A (Relend.msptr (Referent.rtF (Referent.fInt Syntax.w32)) ty·3 4)) (Reads.room-gone 𝓤 H A ty·9) (Relend.reads-owed-len 𝓤 H A W (Referent.rtF (Referent.fInt Syntax.w32)) ty·4 1 4 (Row.lease (κs .1 .0) (qs .1 .0)) 8 Path'.refl, Path'.refl) Path'.refl Path'.refl λ b o k. tt) d37
+          d38 : Typed.Typed 𝓤 H A 𝓣 E G9 b20 Δ0 at38
+          d38 = Typed.g-pre 𝓤 H A W 𝓣 E G9 G10 b20 Δ0 (λ Ψ. Ψ) at37 (Lifetime.g-begin 𝓤 H A W E G9 5 (tt, ((tt, tt), ((tt, tt), (tt, (tt, (tt, (tt, (tt, (tt, (tt, (tt, (tt, (tt, (tt, (tt, (tt, (tt, (tt, (tt, (tt, (tt, (tt, tt))))))))))))))))))))))) d37
 
-          d39 : Typed.Typed 𝓤 H A 𝓣 E G7 b22 Δ0 at39
-          d39 = Typed.s-seq 𝓤 H A W 𝓣 E G7 G8 b2 b21 Δ0 (Typed.give s6) at38 (Relend.t-sl-relend 𝓤 H A W E (Referent.rtF (Referent.fInt Syntax.w32)) 𝓣 G7 2 13 1 4 ty·4 ty·3 (Row.lease (κs .1 .0) (qs .1 .0)) 0 (λ x. x) (Reads.as-is 𝓤 H A (Mut.mslice (Referent.rtF (Referent.fInt Syntax.w32)) ty·4 1)) (Reads.room-gone 𝓤 H A ty·3) Path'.refl tt Path'.refl Path'.refl Path'.refl λ b o. tt) d38
+          d39 : Typed.Typed 𝓤 H A 𝓣 E G8 b21 Δ0 at39
+          d39 = Typed.s-seq 𝓤 H A W 𝓣 E G8 G9 b3 b20 Δ0 (Typed.ask s7) at38 (Relend.t-sl-aggregate 𝓤 H A W E (Referent.rtF (Referent.fInt Syntax.w32)) 𝓣 (Relend.asMut (Referent.rtF (Referent.fInt Syntax.w32))) G8 14 15 4 ty·3 ty·3 (λ x. x) (Scalar.oFld 2 (List._∷_ (Syntax.field 1) List.[]) ty·1 8 λ v. Shared.lenV (v .0)) (Reads.as-is 𝓤 H A (Relend.msptr (Referent.rtF (Referent.fInt Syntax.w32)) ty·3 4)) (Reads.room-gone 𝓤 H A ty·9) (Relend.reads-owed-len 𝓤 H A W (Referent.rtF (Referent.fInt Syntax.w32)) ty·4 1 4 (Row.lease (κs .1 .0) (qs .1 .0)) 8 Path'.refl, Path'.refl) Path'.refl Path'.refl λ b o k. tt) d38
 
-          d40 : Typed.Typed 𝓤 H A 𝓣 E G6 b22 Δ0 at40
-          d40 = Typed.g-pre 𝓤 H A W 𝓣 E G6 G7 b22 Δ0 (λ Ψ. Ψ) at39 (Lifetime.g-begin 𝓤 H A W E G6 4 (tt, ((tt, tt), (tt, (tt, (tt, (tt, (tt, (tt, (tt, (tt, (tt, (tt, (tt, (tt, (tt, (tt, (tt, (tt, (tt, (tt, (tt, tt)))))))))))))))))))))) d39
+          d40 : Typed.Typed 𝓤 H A 𝓣 E G7 b22 Δ0 at40
+          d40 = Typed.s-seq 𝓤 H A W 𝓣 E G7 G8 b2 b21 Δ0 (Typed.give s6) at39 (Relend.t-sl-relend 𝓤 H A W E (Referent.rtF (Referent.fInt Syntax.w32)) 𝓣 G7 2 14 1 4 ty·4 ty·3 (Row.lease (κs .1 .0) (qs .1 .0)) 0 (λ x. x) (Reads.as-is 𝓤 H A (Mut.mslice (Referent.rtF (Referent.fInt Syntax.w32)) ty·4 1)) (Reads.room-gone 𝓤 H A ty·3) Path'.refl tt Path'.refl Path'.refl Path'.refl λ b o. tt) d39
 
-          d41 : Typed.Typed 𝓤 H A 𝓣 E G5 b23 Δ0 at41
-          d41 = Typed.s-seq 𝓤 H A W 𝓣 E G5 G6 b1 b22 Δ0 (Typed.ask s4) at40 (Relend.t-sl-aggregate 𝓤 H A W E ELEM.the-row 𝓣 (Relend.asMut ELEM.the-row) G5 11 12 3 ty·7 ty·7 (λ x. x) (Scalar.oFld 1 (List._∷_ (Syntax.field 1) List.[]) ty·1 8 λ v. Shared.lenV (v .0)) (Reads.as-is 𝓤 H A (Relend.msptr ELEM.the-row ty·7 3)) (Reads.room-gone 𝓤 H A ty·11) (Relend.reads-owed-len 𝓤 H A W ELEM.the-row ty·8 0 3 (Row.lease (κs .0) (qs .0)) 8 Path'.refl, Path'.refl) Path'.refl Path'.refl λ b o k. tt) d40
+          d41 : Typed.Typed 𝓤 H A 𝓣 E G6 b22 Δ0 at41
+          d41 = Typed.g-pre 𝓤 H A W 𝓣 E G6 G7 b22 Δ0 (λ Ψ. Ψ) at40 (Lifetime.g-begin 𝓤 H A W E G6 4 (tt, ((tt, tt), (tt, (tt, (tt, (tt, (tt, (tt, (tt, (tt, (tt, (tt, (tt, (tt, (tt, (tt, (tt, (tt, (tt, (tt, (tt, (tt, tt))))))))))))))))))))))) d40
 
-          d42 : Typed.Typed 𝓤 H A 𝓣 E G4 b24 Δ0 at42
-          d42 = Typed.s-seq 𝓤 H A W 𝓣 E G4 G5 b0 b23 Δ0 (Typed.give s3) at41 (Relend.t-sl-relend 𝓤 H A W E ELEM.the-row 𝓣 G4 1 11 0 3 ty·8 ty·7 (Row.lease (κs .0) (qs .0)) 0 (λ x. x) (Reads.as-is 𝓤 H A (Mut.mslice ELEM.the-row ty·8 0)) (Reads.room-gone 𝓤 H A ty·7) Path'.refl tt Path'.refl Path'.refl Path'.refl λ b o. tt) d41
+          d42 : Typed.Typed 𝓤 H A 𝓣 E G5 b23 Δ0 at42
+          d42 = Typed.s-seq 𝓤 H A W 𝓣 E G5 G6 b1 b22 Δ0 (Typed.ask s4) at41 (Relend.t-sl-aggregate 𝓤 H A W E ELEM.the-row 𝓣 (Relend.asMut ELEM.the-row) G5 12 13 3 ty·7 ty·7 (λ x. x) (Scalar.oFld 1 (List._∷_ (Syntax.field 1) List.[]) ty·1 8 λ v. Shared.lenV (v .0)) (Reads.as-is 𝓤 H A (Relend.msptr ELEM.the-row ty·7 3)) (Reads.room-gone 𝓤 H A ty·11) (Relend.reads-owed-len 𝓤 H A W ELEM.the-row ty·8 0 3 (Row.lease (κs .0) (qs .0)) 8 Path'.refl, Path'.refl) Path'.refl Path'.refl λ b o k. tt) d41
 
-          d43 : Typed.Typed 𝓤 H A 𝓣 E G3 b24 Δ0 at43
-          d43 = Typed.g-pre 𝓤 H A W 𝓣 E G3 G4 b24 Δ0 (λ Ψ. Ψ) at42 (Lifetime.g-begin 𝓤 H A W E G3 3 (tt, (tt, (tt, (tt, (tt, (tt, (tt, (tt, (tt, (tt, (tt, (tt, (tt, (tt, (tt, (tt, (tt, (tt, (tt, (tt, (tt, tt)))))))))))))))))))))) d42
+          d43 : Typed.Typed 𝓤 H A 𝓣 E G4 b24 Δ0 at43
+          d43 = Typed.s-seq 𝓤 H A W 𝓣 E G4 G5 b0 b23 Δ0 (Typed.give s3) at42 (Relend.t-sl-relend 𝓤 H A W E ELEM.the-row 𝓣 G4 1 12 0 3 ty·8 ty·7 (Row.lease (κs .0) (qs .0)) 0 (λ x. x) (Reads.as-is 𝓤 H A (Mut.mslice ELEM.the-row ty·8 0)) (Reads.room-gone 𝓤 H A ty·7) Path'.refl tt Path'.refl Path'.refl Path'.refl λ b o. tt) d42
 
-          d44 : Typed.Typed 𝓤 H A 𝓣 E G2 b24 Δ0 at44
-          d44 = Typed.g-pre 𝓤 H A W 𝓣 E G2 G3 b24 Δ0 (Typed.give s1) at43 (Know.g-sl-known 𝓤 H A W (Referent.fInt Syntax.w32) E G2 3 2 ty·5 (Row.lease (κs .1 .1 .0) (qs .1 .1 .0)) 0 (λ x. x) record { fits = Dec'.lit< tt } (Reads.as-is 𝓤 H A (Mut.mslice (Referent.rtF (Referent.fInt Syntax.w32)) ty·5 2)) Path'.refl tt) d43
+          d44 : Typed.Typed 𝓤 H A 𝓣 E G3 b24 Δ0 at44
+          d44 = Typed.g-pre 𝓤 H A W 𝓣 E G3 G4 b24 Δ0 (λ Ψ. Ψ) at43 (Lifetime.g-begin 𝓤 H A W E G3 3 (tt, (tt, (tt, (tt, (tt, (tt, (tt, (tt, (tt, (tt, (tt, (tt, (tt, (tt, (tt, (tt, (tt, (tt, (tt, (tt, (tt, (tt, tt))))))))))))))))))))))) d43
 
-          d45 : Typed.Typed 𝓤 H A 𝓣 E G0 b24 Δ0 at45
-          d45 = Typed.g-pre 𝓤 H A W 𝓣 E G0 G2 b24 Δ0 (Typed.give s0) at44 (Know.g-sl-known 𝓤 H A W (Referent.fInt Syntax.w32) E G0 2 1 ty·4 (Row.lease (κs .1 .0) (qs .1 .0)) 0 (λ x. x) record { fits = Dec'.lit< tt } (Reads.as-is 𝓤 H A (Mut.mslice (Referent.rtF (Referent.fInt Syntax.w32)) ty·4 1)) Path'.refl tt) d44
+          d45 : Typed.Typed 𝓤 H A 𝓣 E G2 b24 Δ0 at45
+          d45 = Typed.g-pre 𝓤 H A W 𝓣 E G2 G3 b24 Δ0 (Typed.give s1) at44 (Know.g-sl-known 𝓤 H A W (Referent.fInt Syntax.w32) E G2 3 2 ty·5 (Row.lease (κs .1 .1 .0) (qs .1 .1 .0)) 0 (λ x. x) record { fits = Dec'.lit< tt } (Reads.as-is 𝓤 H A (Mut.mslice (Referent.rtF (Referent.fInt Syntax.w32)) ty·5 2)) Path'.refl tt) d44
+
+          d46 : Typed.Typed 𝓤 H A 𝓣 E G0 b24 Δ0 at46
+          d46 = Typed.g-pre 𝓤 H A W 𝓣 E G0 G2 b24 Δ0 (Typed.give s0) at45 (Know.g-sl-known 𝓤 H A W (Referent.fInt Syntax.w32) E G0 2 1 ty·4 (Row.lease (κs .1 .0) (qs .1 .0)) 0 (λ x. x) record { fits = Dec'.lit< tt } (Reads.as-is 𝓤 H A (Mut.mslice (Referent.rtF (Referent.fInt Syntax.w32)) ty·4 1)) Path'.refl tt) d45
 
           pub typed : Typed.Typed 𝓤 H A 𝓣 E (Function.Γin 3 ps r xs m κs qs) b24 (Function.Δret 3 ps r xs m κs qs) Φ
-          typed = d45
+          typed = d46
 
       module _ (κs : Lifetimes.Lfts 3) where
         pub record Args : Type 0 where
@@ -976,6 +991,7 @@ module _ (claims· : Claims) where
           pub freed : Kinds.Den {n = 3} κs (MutSlice.pMutS (Referent.rtF (Referent.fInt Syntax.w32)) 1 tt)
           pub buckets : Kinds.Den {n = 3} κs (MutSlice.pMutS (Referent.rtF (Referent.fInt Syntax.w32)) 2 tt)
           pub hull : Kinds.Den {n = 3} κs (Value.pVal record { ty = Declared.row Hull.the-type; one = Path'.refl; val = Laws'.val Hull.the-type Laws.the-laws; tells = Laws'.tells Hull.the-type Laws.the-laws; still = Laws'.still Hull.the-type Laws.the-copy Exit.yes; row = Rows.whole (Declared.row Hull.the-type); rd = λ x. x; mk = λ x. x } λ M 𝓤 H A W. record { copies = Laws'.copy Hull.the-type Laws.the-copy 𝓤 H A W; lawful = Laws'.lawful Hull.the-type Laws.the-laws 𝓤 H A W; makes = Laws'.makes Hull.the-type Laws.the-plain 𝓤 H A; in-mem = Local.mem-whole 𝓤 H A W (Declared.row Hull.the-type); of-mem = Local.whole-mem 𝓤 H A W (Declared.row Hull.the-type) })
+          pub near : Kinds.Den {n = 3} κs (Num.pNum Syntax.w32)
           pub left : Kinds.Den {n = 3} κs (Float.pFloat Ieee.binary64)
           pub middle : Kinds.Den {n = 3} κs (Float.pFloat Ieee.binary64)
           pub right : Kinds.Den {n = 3} κs (Float.pFloat Ieee.binary64)
@@ -983,10 +999,11 @@ module _ (claims· : Claims) where
           pub rightedge : Kinds.Den {n = 3} κs (Num.pNum Syntax.w32)
 
         abbrev pub dens : (a : Args) → Kinds.Dens κs ps
-        dens = λ a. (a .nodes, (a .freed, (a .buckets, (a .hull, (a .left, (a .middle, (a .right, (a .leftedge, (a .rightedge, tt)))))))))
+        dens = λ a. (a .nodes, (a .freed, (a .buckets, (a .hull, (a .near, (a .left, (a .middle, (a .right, (a .leftedge, (a .rightedge, tt))))))))))
 
         module _ (args· : Args) where
           pub record Ranges : Type 0 where
+            pub near : Val.Fits Syntax.w32 (args· .near)
             pub leftedge : Val.Fits Syntax.w32 (args· .leftedge)
             pub rightedge : Val.Fits Syntax.w32 (args· .rightedge)
 
@@ -1075,14 +1092,14 @@ module _ (claims· : Claims) where
 
       module _ (before· : After-insert-arg3) where
         abbrev pub After-insert·own : Type 0
-        After-insert·own = Called.Called ps·0 r·0 (claims· .1) T12 (record { pos = 12; ty = Syntax.tyRef Syntax.erased Syntax.mut (ELEMMEM.pointee (ELEM.the-row .written)); ref = λ x. x }, (record { pos = 14; ty = Syntax.tyRef Syntax.erased Syntax.mut ty·0; ref = λ x. x }, (record { pos = 16; ty = Syntax.tyRef Syntax.erased Syntax.mut ty·0; ref = λ x. x }, (record { pos = 4; st = List.[]; d = 0; at = λ x. x }, (Float.fAt 5 λ x. x, (Float.fAt 6 λ x. x, (Float.fAt 7 λ x. x, (Num.vAt 8 λ x. x, (Num.vAt 9 λ x. x, tt))))))))) (m8 (before· .before) (before· .insert-arg3 .given))
+        After-insert·own = Called.Called ps·0 r·0 (claims· .1) T12 (record { pos = 13; ty = Syntax.tyRef Syntax.erased Syntax.mut (ELEMMEM.pointee (ELEM.the-row .written)); ref = λ x. x }, (record { pos = 15; ty = Syntax.tyRef Syntax.erased Syntax.mut ty·0; ref = λ x. x }, (record { pos = 17; ty = Syntax.tyRef Syntax.erased Syntax.mut ty·0; ref = λ x. x }, (record { pos = 4; st = List.[]; d = 0; at = λ x. x }, (Num.vAt 5 λ x. x, (Float.fAt 6 λ x. x, (Float.fAt 7 λ x. x, (Float.fAt 8 λ x. x, (Num.vAt 9 λ x. x, (Num.vAt 10 λ x. x, tt)))))))))) (m8 (before· .before) (before· .insert-arg3 .given))
 
       pub record After-insert : Type 0 where
         pub before : After-insert-arg3
         pub insert : After-insert·own before
 
       abbrev pub After-insert·gave : (c : After-insert) → s11 .gives (m8 (c .before .before) (c .before .insert-arg3 .given))
-      After-insert·gave = λ c. Called.given ps·0 r·0 (claims· .1) T12 (record { pos = 12; ty = Syntax.tyRef Syntax.erased Syntax.mut (ELEMMEM.pointee (ELEM.the-row .written)); ref = λ x. x }, (record { pos = 14; ty = Syntax.tyRef Syntax.erased Syntax.mut ty·0; ref = λ x. x }, (record { pos = 16; ty = Syntax.tyRef Syntax.erased Syntax.mut ty·0; ref = λ x. x }, (record { pos = 4; st = List.[]; d = 0; at = λ x. x }, (Float.fAt 5 λ x. x, (Float.fAt 6 λ x. x, (Float.fAt 7 λ x. x, (Num.vAt 8 λ x. x, (Num.vAt 9 λ x. x, tt))))))))) (m8 (c .before .before) (c .before .insert-arg3 .given)) (c .insert)
+      After-insert·gave = λ c. Called.given ps·0 r·0 (claims· .1) T12 (record { pos = 13; ty = Syntax.tyRef Syntax.erased Syntax.mut (ELEMMEM.pointee (ELEM.the-row .written)); ref = λ x. x }, (record { pos = 15; ty = Syntax.tyRef Syntax.erased Syntax.mut ty·0; ref = λ x. x }, (record { pos = 17; ty = Syntax.tyRef Syntax.erased Syntax.mut ty·0; ref = λ x. x }, (record { pos = 4; st = List.[]; d = 0; at = λ x. x }, (Num.vAt 5 λ x. x, (Float.fAt 6 λ x. x, (Float.fAt 7 λ x. x, (Float.fAt 8 λ x. x, (Num.vAt 9 λ x. x, (Num.vAt 10 λ x. x, tt)))))))))) (m8 (c .before .before) (c .before .insert-arg3 .given)) (c .insert)
 
       abbrev pub m10 : (before : After-insert-arg3) → (given : s11 .gives (m8 (before .before) (before .insert-arg3 .given))) → Typed.Mo T14
       m10 = λ before given. s12 (m9 before given)
@@ -1178,14 +1195,14 @@ module _ (claims· : Claims) where
 
       module _ (before· : After-adjust-bucket-size-if-necessary-arg2) where
         abbrev pub After-adjust-bucket-size-if-necessary·own : Type 0
-        After-adjust-bucket-size-if-necessary·own = Called.Called ps·1 r·1 (claims· .3) T31 (record { pos = 18; ty = Syntax.tyRef Syntax.erased Syntax.imm (ELEMMEM.pointee (ELEM.the-row .written)); ref = λ x. x }, (record { pos = 20; ty = Syntax.tyRef Syntax.erased Syntax.mut ty·0; ref = λ x. x }, (record { pos = 10; st = List.[]; d = 0; at = λ x. x }, tt))) (m19 (before· .before) (before· .adjust-bucket-size-if-necessary-arg2 .given))
+        After-adjust-bucket-size-if-necessary·own = Called.Called ps·1 r·1 (claims· .3) T31 (record { pos = 19; ty = Syntax.tyRef Syntax.erased Syntax.imm (ELEMMEM.pointee (ELEM.the-row .written)); ref = λ x. x }, (record { pos = 21; ty = Syntax.tyRef Syntax.erased Syntax.mut ty·0; ref = λ x. x }, (record { pos = 11; st = List.[]; d = 0; at = λ x. x }, tt))) (m19 (before· .before) (before· .adjust-bucket-size-if-necessary-arg2 .given))
 
       pub record After-adjust-bucket-size-if-necessary : Type 0 where
         pub before : After-adjust-bucket-size-if-necessary-arg2
         pub adjust-bucket-size-if-necessary : After-adjust-bucket-size-if-necessary·own before
 
       abbrev pub After-adjust-bucket-size-if-necessary·gave : (c : After-adjust-bucket-size-if-necessary) → s30 .gives (m19 (c .before .before) (c .before .adjust-bucket-size-if-necessary-arg2 .given))
-      After-adjust-bucket-size-if-necessary·gave = λ c. Called.given ps·1 r·1 (claims· .3) T31 (record { pos = 18; ty = Syntax.tyRef Syntax.erased Syntax.imm (ELEMMEM.pointee (ELEM.the-row .written)); ref = λ x. x }, (record { pos = 20; ty = Syntax.tyRef Syntax.erased Syntax.mut ty·0; ref = λ x. x }, (record { pos = 10; st = List.[]; d = 0; at = λ x. x }, tt))) (m19 (c .before .before) (c .before .adjust-bucket-size-if-necessary-arg2 .given)) (c .adjust-bucket-size-if-necessary)
+      After-adjust-bucket-size-if-necessary·gave = λ c. Called.given ps·1 r·1 (claims· .3) T31 (record { pos = 19; ty = Syntax.tyRef Syntax.erased Syntax.imm (ELEMMEM.pointee (ELEM.the-row .written)); ref = λ x. x }, (record { pos = 21; ty = Syntax.tyRef Syntax.erased Syntax.mut ty·0; ref = λ x. x }, (record { pos = 11; st = List.[]; d = 0; at = λ x. x }, tt))) (m19 (c .before .before) (c .before .adjust-bucket-size-if-necessary-arg2 .given)) (c .adjust-bucket-size-if-necessary)
 
       abbrev pub m21 : (before : After-adjust-bucket-size-if-necessary-arg2) → (given : s30 .gives (m19 (before .before) (before .adjust-bucket-size-if-necessary-arg2 .given))) → Typed.Mo T33
       m21 = λ before given. s31 (m20 before given)
@@ -1225,6 +1242,9 @@ module _ (claims· : Claims) where
       abbrev pub m30 : (before : After-buckets2) → (given : s38 .gives (m24 (before .before) (before .buckets2 .given))) → Typed.Mo T46
       m30 = λ before given. s44 (m29 before given)
 
+      abbrev pub m31 : (before : After-buckets2) → (given : s38 .gives (m24 (before .before) (before .buckets2 .given))) → Typed.Mo T47
+      m31 = λ before given. s45 (m30 before given)
+
       module _ (before· : After-buckets2) where
         pub record After-slice-known5·own : Type 0 where
           pub given : s38 .gives (m24 (before· .before) (before· .buckets2 .given))
@@ -1234,30 +1254,30 @@ module _ (claims· : Claims) where
         pub slice-known5 : After-slice-known5·own before
 
       abbrev pub Need-same-length : Type 0
-      Need-same-length = (c : After-slice-known5) → MutSlice.SameLen (Row.get 1 (T46 .locals) (m30 (c .before) (c .slice-known5 .given))) (dens (c .before .before .before .before .before .before .before .before .before .before .before .before .before .before .before .before .κs) (c .before .before .before .before .before .before .before .before .before .before .before .before .before .before .before .before .args) .0)
+      Need-same-length = (c : After-slice-known5) → MutSlice.SameLen (Row.get 1 (T47 .locals) (m31 (c .before) (c .slice-known5 .given))) (dens (c .before .before .before .before .before .before .before .before .before .before .before .before .before .before .before .before .κs) (c .before .before .before .before .before .before .before .before .before .before .before .before .before .before .before .before .args) .0)
 
       abbrev pub Need-same-length-2 : Type 0
-      Need-same-length-2 = (c : After-slice-known5) → MutSlice.SameLen (Row.get 2 (T46 .locals) (m30 (c .before) (c .slice-known5 .given))) (dens (c .before .before .before .before .before .before .before .before .before .before .before .before .before .before .before .before .κs) (c .before .before .before .before .before .before .before .before .before .before .before .before .before .before .before .before .args) .1 .0)
+      Need-same-length-2 = (c : After-slice-known5) → MutSlice.SameLen (Row.get 2 (T47 .locals) (m31 (c .before) (c .slice-known5 .given))) (dens (c .before .before .before .before .before .before .before .before .before .before .before .before .before .before .before .before .κs) (c .before .before .before .before .before .before .before .before .before .before .before .before .before .before .before .before .args) .1 .0)
 
       abbrev pub Need-same-length-3 : Type 0
-      Need-same-length-3 = (c : After-slice-known5) → MutSlice.SameLen (Row.get 3 (T46 .locals) (m30 (c .before) (c .slice-known5 .given))) (dens (c .before .before .before .before .before .before .before .before .before .before .before .before .before .before .before .before .κs) (c .before .before .before .before .before .before .before .before .before .before .before .before .before .before .before .before .args) .1 .1 .0)
+      Need-same-length-3 = (c : After-slice-known5) → MutSlice.SameLen (Row.get 3 (T47 .locals) (m31 (c .before) (c .slice-known5 .given))) (dens (c .before .before .before .before .before .before .before .before .before .before .before .before .before .before .before .before .κs) (c .before .before .before .before .before .before .before .before .before .before .before .before .before .before .before .before .args) .1 .1 .0)
 
       abbrev pub Need-returns : Type 0
-      Need-returns = (c : After-slice-known5) → Post· (c .before .before .before .before .before .before .before .before .before .before .before .before .before .before .before .before .κs) (dens (c .before .before .before .before .before .before .before .before .before .before .before .before .before .before .before .before .κs) (c .before .before .before .before .before .before .before .before .before .before .before .before .before .before .before .before .args)) (Function.resV r (c .before .before .before .before .before .before .before .before .before .before .before .before .before .before .before .before .κs) (m30 (c .before) (c .slice-known5 .given) .0)) (Clauses.atExit (Kinds.endedOf 3 ps r) (c .before .before .before .before .before .before .before .before .before .before .before .before .before .before .before .before .κs) (dens (c .before .before .before .before .before .before .before .before .before .before .before .before .before .before .before .before .κs) (c .before .before .before .before .before .before .before .before .before .before .before .before .before .before .before .before .args)) (Enter.lastsP (c .before .before .before .before .before .before .before .before .before .before .before .before .before .before .before .before .κs) 1 ps xs (dens (c .before .before .before .before .before .before .before .before .before .before .before .before .before .before .before .before .κs) (c .before .before .before .before .before .before .before .before .before .before .before .before .before .before .before .before .args)) (m30 (c .before) (c .slice-known5 .given) .1)))
+      Need-returns = (c : After-slice-known5) → Post· (c .before .before .before .before .before .before .before .before .before .before .before .before .before .before .before .before .κs) (dens (c .before .before .before .before .before .before .before .before .before .before .before .before .before .before .before .before .κs) (c .before .before .before .before .before .before .before .before .before .before .before .before .before .before .before .before .args)) (Function.resV r (c .before .before .before .before .before .before .before .before .before .before .before .before .before .before .before .before .κs) (m31 (c .before) (c .slice-known5 .given) .0)) (Clauses.atExit (Kinds.endedOf 3 ps r) (c .before .before .before .before .before .before .before .before .before .before .before .before .before .before .before .before .κs) (dens (c .before .before .before .before .before .before .before .before .before .before .before .before .before .before .before .before .κs) (c .before .before .before .before .before .before .before .before .before .before .before .before .before .before .before .before .args)) (Enter.lastsP (c .before .before .before .before .before .before .before .before .before .before .before .before .before .before .before .before .κs) 1 ps xs (dens (c .before .before .before .before .before .before .before .before .before .before .before .before .before .before .before .before .κs) (c .before .before .before .before .before .before .before .before .before .before .before .before .before .before .before .before .args)) (m31 (c .before) (c .slice-known5 .given) .1)))
 
       module _ (insert-requires : Need-insert-requires) (adjust-bucket-size-if-necessary-requires : Need-adjust-bucket-size-if-necessary-requires) (same-length : Need-same-length) (same-length-2 : Need-same-length-2) (same-length-3 : Need-same-length-3) (returns : Need-returns) where
-        lay2 : (c : After-adjust-bucket-size-if-necessary) → at14 (W0 (c .before .before .before .before .before .before .before .before .before .before .before .before .before .before .κs) (c .before .before .before .before .before .before .before .before .before .before .before .before .before .before .args)) (m20 (c .before) (After-adjust-bucket-size-if-necessary·gave c))
-        lay2 = λ c. (Path'.refl, λ g. λ g'. ((MutSlice.fix-len (Row.get 1 (T46 .locals) (m30 record { before = record { before = c .before; adjust-bucket-size-if-necessary = c .adjust-bucket-size-if-necessary }; buckets2 = record { given = g } } g') .ptr) (Row.get 1 (T46 .locals) (m30 record { before = record { before = c .before; adjust-bucket-size-if-necessary = c .adjust-bucket-size-if-necessary }; buckets2 = record { given = g } } g') .name) (Row.get 1 (T46 .locals) (m30 record { before = record { before = c .before; adjust-bucket-size-if-necessary = c .adjust-bucket-size-if-necessary }; buckets2 = record { given = g } } g') .now) (dens (c .before .before .before .before .before .before .before .before .before .before .before .before .before .before .κs) (c .before .before .before .before .before .before .before .before .before .before .before .before .before .before .args) .0 .now) (same-length record { before = record { before = record { before = c .before; adjust-bucket-size-if-necessary = c .adjust-bucket-size-if-necessary }; buckets2 = record { given = g } }; slice-known5 = record { given = g' } }), (MutSlice.fix-len (Row.get 2 (T46 .locals) (m30 record { before = record { before = c .before; adjust-bucket-size-if-necessary = c .adjust-bucket-size-if-necessary }; buckets2 = record { given = g } } g') .ptr) (Row.get 2 (T46 .locals) (m30 record { before = record { before = c .before; adjust-bucket-size-if-necessary = c .adjust-bucket-size-if-necessary }; buckets2 = record { given = g } } g') .name) (Row.get 2 (T46 .locals) (m30 record { before = record { before = c .before; adjust-bucket-size-if-necessary = c .adjust-bucket-size-if-necessary }; buckets2 = record { given = g } } g') .now) (dens (c .before .before .before .before .before .before .before .before .before .before .before .before .before .before .κs) (c .before .before .before .before .before .before .before .before .before .before .before .before .before .before .args) .1 .0 .now) (same-length-2 record { before = record { before = record { before = c .before; adjust-bucket-size-if-necessary = c .adjust-bucket-size-if-necessary }; buckets2 = record { given = g } }; slice-known5 = record { given = g' } }), (MutSlice.fix-len (Row.get 3 (T46 .locals) (m30 record { before = record { before = c .before; adjust-bucket-size-if-necessary = c .adjust-bucket-size-if-necessary }; buckets2 = record { given = g } } g') .ptr) (Row.get 3 (T46 .locals) (m30 record { before = record { before = c .before; adjust-bucket-size-if-necessary = c .adjust-bucket-size-if-necessary }; buckets2 = record { given = g } } g') .name) (Row.get 3 (T46 .locals) (m30 record { before = record { before = c .before; adjust-bucket-size-if-necessary = c .adjust-bucket-size-if-necessary }; buckets2 = record { given = g } } g') .now) (dens (c .before .before .before .before .before .before .before .before .before .before .before .before .before .before .κs) (c .before .before .before .before .before .before .before .before .before .before .before .before .before .before .args) .1 .1 .0 .now) (same-length-3 record { before = record { before = record { before = c .before; adjust-bucket-size-if-necessary = c .adjust-bucket-size-if-necessary }; buckets2 = record { given = g } }; slice-known5 = record { given = g' } }), (tt, (tt, (tt, (tt, (tt, (tt, tt))))))))), returns record { before = record { before = record { before = c .before; adjust-bucket-size-if-necessary = c .adjust-bucket-size-if-necessary }; buckets2 = record { given = g } }; slice-known5 = record { given = g' } }))
+        lay2 : (c : After-adjust-bucket-size-if-necessary) → at15 (W0 (c .before .before .before .before .before .before .before .before .before .before .before .before .before .before .κs) (c .before .before .before .before .before .before .before .before .before .before .before .before .before .before .args)) (m20 (c .before) (After-adjust-bucket-size-if-necessary·gave c))
+        lay2 = λ c. (Path'.refl, λ g. λ g'. ((MutSlice.fix-len (Row.get 1 (T47 .locals) (m31 record { before = record { before = c .before; adjust-bucket-size-if-necessary = c .adjust-bucket-size-if-necessary }; buckets2 = record { given = g } } g') .ptr) (Row.get 1 (T47 .locals) (m31 record { before = record { before = c .before; adjust-bucket-size-if-necessary = c .adjust-bucket-size-if-necessary }; buckets2 = record { given = g } } g') .name) (Row.get 1 (T47 .locals) (m31 record { before = record { before = c .before; adjust-bucket-size-if-necessary = c .adjust-bucket-size-if-necessary }; buckets2 = record { given = g } } g') .now) (dens (c .before .before .before .before .before .before .before .before .before .before .before .before .before .before .κs) (c .before .before .before .before .before .before .before .before .before .before .before .before .before .before .args) .0 .now) (same-length record { before = record { before = record { before = c .before; adjust-bucket-size-if-necessary = c .adjust-bucket-size-if-necessary }; buckets2 = record { given = g } }; slice-known5 = record { given = g' } }), (MutSlice.fix-len (Row.get 2 (T47 .locals) (m31 record { before = record { before = c .before; adjust-bucket-size-if-necessary = c .adjust-bucket-size-if-necessary }; buckets2 = record { given = g } } g') .ptr) (Row.get 2 (T47 .locals) (m31 record { before = record { before = c .before; adjust-bucket-size-if-necessary = c .adjust-bucket-size-if-necessary }; buckets2 = record { given = g } } g') .name) (Row.get 2 (T47 .locals) (m31 record { before = record { before = c .before; adjust-bucket-size-if-necessary = c .adjust-bucket-size-if-necessary }; buckets2 = record { given = g } } g') .now) (dens (c .before .before .before .before .before .before .before .before .before .before .before .before .before .before .κs) (c .before .before .before .before .before .before .before .before .before .before .before .before .before .before .args) .1 .0 .now) (same-length-2 record { before = record { before = record { before = c .before; adjust-bucket-size-if-necessary = c .adjust-bucket-size-if-necessary }; buckets2 = record { given = g } }; slice-known5 = record { given = g' } }), (MutSlice.fix-len (Row.get 3 (T47 .locals) (m31 record { before = record { before = c .before; adjust-bucket-size-if-necessary = c .adjust-bucket-size-if-necessary }; buckets2 = record { given = g } } g') .ptr) (Row.get 3 (T47 .locals) (m31 record { before = record { before = c .before; adjust-bucket-size-if-necessary = c .adjust-bucket-size-if-necessary }; buckets2 = record { given = g } } g') .name) (Row.get 3 (T47 .locals) (m31 record { before = record { before = c .before; adjust-bucket-size-if-necessary = c .adjust-bucket-size-if-necessary }; buckets2 = record { given = g } } g') .now) (dens (c .before .before .before .before .before .before .before .before .before .before .before .before .before .before .κs) (c .before .before .before .before .before .before .before .before .before .before .before .before .before .before .args) .1 .1 .0 .now) (same-length-3 record { before = record { before = record { before = c .before; adjust-bucket-size-if-necessary = c .adjust-bucket-size-if-necessary }; buckets2 = record { given = g } }; slice-known5 = record { given = g' } }), (tt, (tt, (tt, (tt, (tt, (tt, (tt, tt)))))))))), returns record { before = record { before = record { before = c .before; adjust-bucket-size-if-necessary = c .adjust-bucket-size-if-necessary }; buckets2 = record { given = g } }; slice-known5 = record { given = g' } }))
 
-        lay1 : (c : After-insert) → at33 (W0 (c .before .before .before .before .before .before .κs) (c .before .before .before .before .before .before .args)) (m9 (c .before) (After-insert·gave c))
-        lay1 = λ c. (Path'.refl, λ g. (Path'.refl, λ g'. λ g''. (Path'.refl, λ g'3. λ g'4. λ g'5. (Path'.refl, λ g'6. (Path'.refl, (adjust-bucket-size-if-necessary-requires record { before = record { before = record { before = record { before = record { before = record { before = record { before = record { before = c .before; insert = c .insert }; nodes = record { given = g } }; freed = record { given = g' } }; slice-known3 = record { given = g'' } }; buckets = record { given = g'3 } }; slice-known4 = record { given = g'4 } }; adjust-bucket-size-if-necessary-arg = record { given = g'5 } }; adjust-bucket-size-if-necessary-arg2 = record { given = g'6 } }, λ g'7. lay2 record { before = record { before = record { before = record { before = record { before = record { before = record { before = record { before = record { before = c .before; insert = c .insert }; nodes = record { given = g } }; freed = record { given = g' } }; slice-known3 = record { given = g'' } }; buckets = record { given = g'3 } }; slice-known4 = record { given = g'4 } }; adjust-bucket-size-if-necessary-arg = record { given = g'5 } }; adjust-bucket-size-if-necessary-arg2 = record { given = g'6 } }; adjust-bucket-size-if-necessary = Called.called ps·1 r·1 (claims· .3) T31 (record { pos = 18; ty = Syntax.tyRef Syntax.erased Syntax.imm (ELEMMEM.pointee (ELEM.the-row .written)); ref = λ x. x }, (record { pos = 20; ty = Syntax.tyRef Syntax.erased Syntax.mut ty·0; ref = λ x. x }, (record { pos = 10; st = List.[]; d = 0; at = λ x. x }, tt))) (m19 record { before = record { before = record { before = record { before = record { before = record { before = record { before = c .before; insert = c .insert }; nodes = record { given = g } }; freed = record { given = g' } }; slice-known3 = record { given = g'' } }; buckets = record { given = g'3 } }; slice-known4 = record { given = g'4 } }; adjust-bucket-size-if-necessary-arg = record { given = g'5 } } g'6) g'7 }))))))
+        lay1 : (c : After-insert) → at34 (W0 (c .before .before .before .before .before .before .κs) (c .before .before .before .before .before .before .args)) (m9 (c .before) (After-insert·gave c))
+        lay1 = λ c. (Path'.refl, λ g. (Path'.refl, λ g'. λ g''. (Path'.refl, λ g'3. λ g'4. λ g'5. (Path'.refl, λ g'6. (Path'.refl, (adjust-bucket-size-if-necessary-requires record { before = record { before = record { before = record { before = record { before = record { before = record { before = record { before = c .before; insert = c .insert }; nodes = record { given = g } }; freed = record { given = g' } }; slice-known3 = record { given = g'' } }; buckets = record { given = g'3 } }; slice-known4 = record { given = g'4 } }; adjust-bucket-size-if-necessary-arg = record { given = g'5 } }; adjust-bucket-size-if-necessary-arg2 = record { given = g'6 } }, λ g'7. lay2 record { before = record { before = record { before = record { before = record { before = record { before = record { before = record { before = record { before = c .before; insert = c .insert }; nodes = record { given = g } }; freed = record { given = g' } }; slice-known3 = record { given = g'' } }; buckets = record { given = g'3 } }; slice-known4 = record { given = g'4 } }; adjust-bucket-size-if-necessary-arg = record { given = g'5 } }; adjust-bucket-size-if-necessary-arg2 = record { given = g'6 } }; adjust-bucket-size-if-necessary = Called.called ps·1 r·1 (claims· .3) T31 (record { pos = 19; ty = Syntax.tyRef Syntax.erased Syntax.imm (ELEMMEM.pointee (ELEM.the-row .written)); ref = λ x. x }, (record { pos = 21; ty = Syntax.tyRef Syntax.erased Syntax.mut ty·0; ref = λ x. x }, (record { pos = 11; st = List.[]; d = 0; at = λ x. x }, tt))) (m19 record { before = record { before = record { before = record { before = record { before = record { before = record { before = c .before; insert = c .insert }; nodes = record { given = g } }; freed = record { given = g' } }; slice-known3 = record { given = g'' } }; buckets = record { given = g'3 } }; slice-known4 = record { given = g'4 } }; adjust-bucket-size-if-necessary-arg = record { given = g'5 } } g'6) g'7 }))))))
 
-        pub laid : (c : Start) → at45 (W0 (c .κs) (c .args)) (m0 (c .κs) (c .args))
-        laid = λ c. λ g. λ g'. λ g''. (Path'.refl, λ g'3. (Path'.refl, λ g'4. (Path'.refl, (insert-requires record { before = record { before = record { before = record { before = record { before = c; slice-known = record { given = g } }; slice-known2 = record { given = g' } }; insert-arg = record { given = g'' } }; insert-arg2 = record { given = g'3 } }; insert-arg3 = record { given = g'4 } }, λ g'5. lay1 record { before = record { before = record { before = record { before = record { before = record { before = c; slice-known = record { given = g } }; slice-known2 = record { given = g' } }; insert-arg = record { given = g'' } }; insert-arg2 = record { given = g'3 } }; insert-arg3 = record { given = g'4 } }; insert = Called.called ps·0 r·0 (claims· .1) T12 (record { pos = 12; ty = Syntax.tyRef Syntax.erased Syntax.mut (ELEMMEM.pointee (ELEM.the-row .written)); ref = λ x. x }, (record { pos = 14; ty = Syntax.tyRef Syntax.erased Syntax.mut ty·0; ref = λ x. x }, (record { pos = 16; ty = Syntax.tyRef Syntax.erased Syntax.mut ty·0; ref = λ x. x }, (record { pos = 4; st = List.[]; d = 0; at = λ x. x }, (Float.fAt 5 λ x. x, (Float.fAt 6 λ x. x, (Float.fAt 7 λ x. x, (Num.vAt 8 λ x. x, (Num.vAt 9 λ x. x, tt))))))))) (m8 record { before = record { before = record { before = record { before = c; slice-known = record { given = g } }; slice-known2 = record { given = g' } }; insert-arg = record { given = g'' } }; insert-arg2 = record { given = g'3 } } g'4) g'5 }))))
+        pub laid : (c : Start) → at46 (W0 (c .κs) (c .args)) (m0 (c .κs) (c .args))
+        laid = λ c. λ g. λ g'. λ g''. (Path'.refl, λ g'3. (Path'.refl, λ g'4. (Path'.refl, (insert-requires record { before = record { before = record { before = record { before = record { before = c; slice-known = record { given = g } }; slice-known2 = record { given = g' } }; insert-arg = record { given = g'' } }; insert-arg2 = record { given = g'3 } }; insert-arg3 = record { given = g'4 } }, λ g'5. lay1 record { before = record { before = record { before = record { before = record { before = record { before = c; slice-known = record { given = g } }; slice-known2 = record { given = g' } }; insert-arg = record { given = g'' } }; insert-arg2 = record { given = g'3 } }; insert-arg3 = record { given = g'4 } }; insert = Called.called ps·0 r·0 (claims· .1) T12 (record { pos = 13; ty = Syntax.tyRef Syntax.erased Syntax.mut (ELEMMEM.pointee (ELEM.the-row .written)); ref = λ x. x }, (record { pos = 15; ty = Syntax.tyRef Syntax.erased Syntax.mut ty·0; ref = λ x. x }, (record { pos = 17; ty = Syntax.tyRef Syntax.erased Syntax.mut ty·0; ref = λ x. x }, (record { pos = 4; st = List.[]; d = 0; at = λ x. x }, (Num.vAt 5 λ x. x, (Float.fAt 6 λ x. x, (Float.fAt 7 λ x. x, (Float.fAt 8 λ x. x, (Num.vAt 9 λ x. x, (Num.vAt 10 λ x. x, tt)))))))))) (m8 record { before = record { before = record { before = record { before = c; slice-known = record { given = g } }; slice-known2 = record { given = g' } }; insert-arg = record { given = g'' } }; insert-arg2 = record { given = g'3 } } g'4) g'5 }))))
 
         module _ (κs : Lifetimes.Lfts 3) (qs : Lifetimes.Shares 3) where
           pub asked : (a : Kinds.Dens κs ps) → (good : Kinds.GoodsP κs ps a) → (pre : Pre· κs a) → (bs : List.List Nat.ℕ) → Φ (Any.wantQ 3 ps r xs m κs qs a (Post· κs a)) (Function.init 3 ps r xs m κs qs a)
-          asked = λ a good pre bs. laid record { κs = κs; args = record { nodes = a .0; freed = a .1 .0; buckets = a .1 .1 .0; hull = a .1 .1 .1 .0; left = a .1 .1 .1 .1 .0; middle = a .1 .1 .1 .1 .1 .0; right = a .1 .1 .1 .1 .1 .1 .0; leftedge = a .1 .1 .1 .1 .1 .1 .1 .0; rightedge = a .1 .1 .1 .1 .1 .1 .1 .1 .0 }; good = good; fits = record { leftedge = record { fits = good .1 .1 .1 .1 .1 .1 .1 .0 .1 }; rightedge = record { fits = good .1 .1 .1 .1 .1 .1 .1 .1 .0 .1 } }; pre = pre }
+          asked = λ a good pre bs. laid record { κs = κs; args = record { nodes = a .0; freed = a .1 .0; buckets = a .1 .1 .0; hull = a .1 .1 .1 .0; near = a .1 .1 .1 .1 .0; left = a .1 .1 .1 .1 .1 .0; middle = a .1 .1 .1 .1 .1 .1 .0; right = a .1 .1 .1 .1 .1 .1 .1 .0; leftedge = a .1 .1 .1 .1 .1 .1 .1 .1 .0; rightedge = a .1 .1 .1 .1 .1 .1 .1 .1 .1 .0 }; good = good; fits = record { near = record { fits = good .1 .1 .1 .1 .0 .1 }; leftedge = record { fits = good .1 .1 .1 .1 .1 .1 .1 .1 .0 .1 }; rightedge = record { fits = good .1 .1 .1 .1 .1 .1 .1 .1 .1 .0 .1 } }; pre = pre }
 
         module _ {M : Type 1} (𝓤 : URA.URA M) (H : Wp.Heap 𝓤) (A : Atoms.Atoms 𝓤) (W : Kit.Given 𝓤 H A) (𝓣 : Wp.Tables 𝓤 H) (known0 : Plain.Known 𝓤 H A W 𝓣 3 ps·0 r·0 (claims· .0) (claims· .1) "ring_insert::insert") (known1 : Plain.Known 𝓤 H A W 𝓣 2 ps·1 r·1 (claims· .2) (claims· .3) "ring_insert::adjust_bucket_size_if_necessary") where
           pub spec : Statement.Triple 𝓤 (Wp.WpFn 𝓤 H (𝓣 .C) (𝓣 .Λ) (Function.fnOf 3 ps r xs m hs body)) (Function.plainOf 𝓤 H A 3 ps r Pre· Post·)

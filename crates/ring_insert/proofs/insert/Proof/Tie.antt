@@ -23,9 +23,9 @@ use Rattle.ring_insert.proofs.retire.Symbol as Symbol'4
 use Rattle.ring_insert.proofs.update_buckets.Met as Met'5
 use Rattle.ring_insert.proofs.update_buckets.Reads as Reads'6
 use Rattle.ring_insert.proofs.update_buckets.Symbol as Symbol'5
-use Rattle.ring_rows.proofs.find.Met as Met'6
-use Rattle.ring_insert.proofs.Sig.Reads_ring_rows_find as Reads'7
-use Rattle.ring_rows.proofs.find.Symbol as Symbol'6
+use Rattle.ring_rows.proofs.find_left.Met as Met'6
+use Rattle.ring_insert.proofs.Sig.Reads_ring_rows_find_left as Reads'7
+use Rattle.ring_rows.proofs.find_left.Symbol as Symbol'6
 use Rattle.ring_rows.proofs.set_finger.Met as Met'7
 use Rattle.ring_rows.proofs.set_finger.Reads as Reads'8
 use Rattle.ring_rows.proofs.set_finger.Symbol as Symbol'7
@@ -45,17 +45,14 @@ After-slice-known = Lts.After-slice-known (Reads'7.Asked, Reads'7.Learnt, Reads.
 abbrev pub After-slice-known2 : Type 0
 After-slice-known2 = Lts.After-slice-known2 (Reads'7.Asked, Reads'7.Learnt, Reads.Asked, Reads.Learnt, Reads'.Asked, Reads'.Learnt, Reads'4.Asked, Reads'4.Learnt, Reads'6.Asked, Reads'6.Learnt, Reads''.Asked, Reads''.Learnt, Reads'5.Asked, Reads'5.Learnt, Reads'9.Asked, Reads'9.Learnt, Reads'8.Asked, Reads'8.Learnt) Reads'3.Pre Reads'3.Post
 
-abbrev pub After-find-arg : Type 0
-After-find-arg = Lts.After-find-arg (Reads'7.Asked, Reads'7.Learnt, Reads.Asked, Reads.Learnt, Reads'.Asked, Reads'.Learnt, Reads'4.Asked, Reads'4.Learnt, Reads'6.Asked, Reads'6.Learnt, Reads''.Asked, Reads''.Learnt, Reads'5.Asked, Reads'5.Learnt, Reads'9.Asked, Reads'9.Learnt, Reads'8.Asked, Reads'8.Learnt) Reads'3.Pre Reads'3.Post
+abbrev pub After-find-left-arg : Type 0
+After-find-left-arg = Lts.After-find-left-arg (Reads'7.Asked, Reads'7.Learnt, Reads.Asked, Reads.Learnt, Reads'.Asked, Reads'.Learnt, Reads'4.Asked, Reads'4.Learnt, Reads'6.Asked, Reads'6.Learnt, Reads''.Asked, Reads''.Learnt, Reads'5.Asked, Reads'5.Learnt, Reads'9.Asked, Reads'9.Learnt, Reads'8.Asked, Reads'8.Learnt) Reads'3.Pre Reads'3.Post
 
-abbrev pub After-find-arg2 : Type 0
-After-find-arg2 = Lts.After-find-arg2 (Reads'7.Asked, Reads'7.Learnt, Reads.Asked, Reads.Learnt, Reads'.Asked, Reads'.Learnt, Reads'4.Asked, Reads'4.Learnt, Reads'6.Asked, Reads'6.Learnt, Reads''.Asked, Reads''.Learnt, Reads'5.Asked, Reads'5.Learnt, Reads'9.Asked, Reads'9.Learnt, Reads'8.Asked, Reads'8.Learnt) Reads'3.Pre Reads'3.Post
+abbrev pub After-find-left-arg2 : Type 0
+After-find-left-arg2 = Lts.After-find-left-arg2 (Reads'7.Asked, Reads'7.Learnt, Reads.Asked, Reads.Learnt, Reads'.Asked, Reads'.Learnt, Reads'4.Asked, Reads'4.Learnt, Reads'6.Asked, Reads'6.Learnt, Reads''.Asked, Reads''.Learnt, Reads'5.Asked, Reads'5.Learnt, Reads'9.Asked, Reads'9.Learnt, Reads'8.Asked, Reads'8.Learnt) Reads'3.Pre Reads'3.Post
 
-abbrev pub After-find-arg3 : Type 0
-After-find-arg3 = Lts.After-find-arg3 (Reads'7.Asked, Reads'7.Learnt, Reads.Asked, Reads.Learnt, Reads'.Asked, Reads'.Learnt, Reads'4.Asked, Reads'4.Learnt, Reads'6.Asked, Reads'6.Learnt, Reads''.Asked, Reads''.Learnt, Reads'5.Asked, Reads'5.Learnt, Reads'9.Asked, Reads'9.Learnt, Reads'8.Asked, Reads'8.Learnt) Reads'3.Pre Reads'3.Post
-
-abbrev pub After-find : Type 0
-After-find = Lts.After-find (Reads'7.Asked, Reads'7.Learnt, Reads.Asked, Reads.Learnt, Reads'.Asked, Reads'.Learnt, Reads'4.Asked, Reads'4.Learnt, Reads'6.Asked, Reads'6.Learnt, Reads''.Asked, Reads''.Learnt, Reads'5.Asked, Reads'5.Learnt, Reads'9.Asked, Reads'9.Learnt, Reads'8.Asked, Reads'8.Learnt) Reads'3.Pre Reads'3.Post
+abbrev pub After-find-left : Type 0
+After-find-left = Lts.After-find-left (Reads'7.Asked, Reads'7.Learnt, Reads.Asked, Reads.Learnt, Reads'.Asked, Reads'.Learnt, Reads'4.Asked, Reads'4.Learnt, Reads'6.Asked, Reads'6.Learnt, Reads''.Asked, Reads''.Learnt, Reads'5.Asked, Reads'5.Learnt, Reads'9.Asked, Reads'9.Learnt, Reads'8.Asked, Reads'8.Learnt) Reads'3.Pre Reads'3.Post
 
 abbrev pub After-equal : Type 0
 After-equal = Lts.After-equal (Reads'7.Asked, Reads'7.Learnt, Reads.Asked, Reads.Learnt, Reads'.Asked, Reads'.Learnt, Reads'4.Asked, Reads'4.Learnt, Reads'6.Asked, Reads'6.Learnt, Reads''.Asked, Reads''.Learnt, Reads'5.Asked, Reads'5.Learnt, Reads'9.Asked, Reads'9.Learnt, Reads'8.Asked, Reads'8.Learnt) Reads'3.Pre Reads'3.Post
@@ -132,8 +129,8 @@ After-freed2 = Lts.After-freed2 (Reads'7.Asked, Reads'7.Learnt, Reads.Asked, Rea
 abbrev pub After-slice-known5 : Type 0
 After-slice-known5 = Lts.After-slice-known5 (Reads'7.Asked, Reads'7.Learnt, Reads.Asked, Reads.Learnt, Reads'.Asked, Reads'.Learnt, Reads'4.Asked, Reads'4.Learnt, Reads'6.Asked, Reads'6.Learnt, Reads''.Asked, Reads''.Learnt, Reads'5.Asked, Reads'5.Learnt, Reads'9.Asked, Reads'9.Learnt, Reads'8.Asked, Reads'8.Learnt) Reads'3.Pre Reads'3.Post
 
-abbrev pub Need-find-requires : Type 0
-Need-find-requires = Lts.Need-find-requires (Reads'7.Asked, Reads'7.Learnt, Reads.Asked, Reads.Learnt, Reads'.Asked, Reads'.Learnt, Reads'4.Asked, Reads'4.Learnt, Reads'6.Asked, Reads'6.Learnt, Reads''.Asked, Reads''.Learnt, Reads'5.Asked, Reads'5.Learnt, Reads'9.Asked, Reads'9.Learnt, Reads'8.Asked, Reads'8.Learnt) Reads'3.Pre Reads'3.Post
+abbrev pub Need-find-left-requires : Type 0
+Need-find-left-requires = Lts.Need-find-left-requires (Reads'7.Asked, Reads'7.Learnt, Reads.Asked, Reads.Learnt, Reads'.Asked, Reads'.Learnt, Reads'4.Asked, Reads'4.Learnt, Reads'6.Asked, Reads'6.Learnt, Reads''.Asked, Reads''.Learnt, Reads'5.Asked, Reads'5.Learnt, Reads'9.Asked, Reads'9.Learnt, Reads'8.Asked, Reads'8.Learnt) Reads'3.Pre Reads'3.Post
 
 abbrev pub Need-equal-requires : Type 0
 Need-equal-requires = Lts.Need-equal-requires (Reads'7.Asked, Reads'7.Learnt, Reads.Asked, Reads.Learnt, Reads'.Asked, Reads'.Learnt, Reads'4.Asked, Reads'4.Learnt, Reads'6.Asked, Reads'6.Learnt, Reads''.Asked, Reads''.Learnt, Reads'5.Asked, Reads'5.Learnt, Reads'9.Asked, Reads'9.Learnt, Reads'8.Asked, Reads'8.Learnt) Reads'3.Pre Reads'3.Post
@@ -178,9 +175,9 @@ abbrev pub Need-returns : Type 0
 Need-returns = Lts.Need-returns (Reads'7.Asked, Reads'7.Learnt, Reads.Asked, Reads.Learnt, Reads'.Asked, Reads'.Learnt, Reads'4.Asked, Reads'4.Learnt, Reads'6.Asked, Reads'6.Learnt, Reads''.Asked, Reads''.Learnt, Reads'5.Asked, Reads'5.Learnt, Reads'9.Asked, Reads'9.Learnt, Reads'8.Asked, Reads'8.Learnt) Reads'3.Pre Reads'3.Post
 
 module _ {M : Type 1} where
-  pub spec : (answer : Need-find-requires) → (answer : Need-equal-requires) → (answer : Need-choose-requires) → (answer : Need-place-requires) → (answer : Need-cast-update-buckets) → (answer : Need-update-buckets-requires) → (answer : Need-first-pushed-requires) → (answer : Need-retire-requires) → (answer : Need-cast-floored-bucket) → (answer : Need-floored-bucket-requires) → (answer : Need-set-finger-requires) → (answer : Need-same-length) → (answer : Need-same-length-2) → (answer : Need-same-length-3) → (answer : Need-returns) → Lts.Closed (Reads'7.Asked, Reads'7.Learnt, Reads.Asked, Reads.Learnt, Reads'.Asked, Reads'.Learnt, Reads'4.Asked, Reads'4.Learnt, Reads'6.Asked, Reads'6.Learnt, Reads''.Asked, Reads''.Learnt, Reads'5.Asked, Reads'5.Learnt, Reads'9.Asked, Reads'9.Learnt, Reads'8.Asked, Reads'8.Learnt) Reads'3.Pre Reads'3.Post M
+  pub spec : (answer : Need-find-left-requires) → (answer : Need-equal-requires) → (answer : Need-choose-requires) → (answer : Need-place-requires) → (answer : Need-cast-update-buckets) → (answer : Need-update-buckets-requires) → (answer : Need-first-pushed-requires) → (answer : Need-retire-requires) → (answer : Need-cast-floored-bucket) → (answer : Need-floored-bucket-requires) → (answer : Need-set-finger-requires) → (answer : Need-same-length) → (answer : Need-same-length-2) → (answer : Need-same-length-3) → (answer : Need-returns) → Lts.Closed (Reads'7.Asked, Reads'7.Learnt, Reads.Asked, Reads.Learnt, Reads'.Asked, Reads'.Learnt, Reads'4.Asked, Reads'4.Learnt, Reads'6.Asked, Reads'6.Learnt, Reads''.Asked, Reads''.Learnt, Reads'5.Asked, Reads'5.Learnt, Reads'9.Asked, Reads'9.Learnt, Reads'8.Asked, Reads'8.Learnt) Reads'3.Pre Reads'3.Post M
   spec = λ answer answer' answer'' answer'3 answer'4 answer'5 answer'6 answer'7 answer'8 answer'9 answer'10 answer'11 answer'12 answer'13 answer'14. Lts.spec (Reads'7.Asked, Reads'7.Learnt, Reads.Asked, Reads.Learnt, Reads'.Asked, Reads'.Learnt, Reads'4.Asked, Reads'4.Learnt, Reads'6.Asked, Reads'6.Learnt, Reads''.Asked, Reads''.Learnt, Reads'5.Asked, Reads'5.Learnt, Reads'9.Asked, Reads'9.Learnt, Reads'8.Asked, Reads'8.Learnt) Reads'3.Pre Reads'3.Post answer answer' answer'' answer'3 answer'4 answer'5 answer'6 answer'7 answer'8 answer'9 answer'10 answer'11 answer'12 answer'13 answer'14
 
   pub close : Lts.Closed (Reads'7.Asked, Reads'7.Learnt, Reads.Asked, Reads.Learnt, Reads'.Asked, Reads'.Learnt, Reads'4.Asked, Reads'4.Learnt, Reads'6.Asked, Reads'6.Learnt, Reads''.Asked, Reads''.Learnt, Reads'5.Asked, Reads'5.Learnt, Reads'9.Asked, Reads'9.Learnt, Reads'8.Asked, Reads'8.Learnt) Reads'3.Pre Reads'3.Post M → Statement.statement M
   unfolding Code.routine Running.tablesOf
-  close = λ closed 𝓤 H 𝓜 𝓖 𝓡. Written.close 3 Kinds.ps Kinds.r Reads'3.Ghost Reads'3.requires Reads'3.ensures Reads'3.pre-read Reads'3.Pinned Reads'3.Owned Reads'3.post-read record { M = M; 𝓤 = 𝓤; H = H; 𝓜 = 𝓜; 𝓖 = 𝓖; 𝓡 = 𝓡 } Code.env Key.name Code.function (Code.unfolded 𝓤 H 𝓜 𝓡) (λ κs a g. tt) (λ κs. Reads'3.owns κs record { M = M; 𝓤 = 𝓤; H = H; 𝓜 = 𝓜; 𝓖 = 𝓖; 𝓡 = 𝓡 }) (Reads'3.passes record { M = M; 𝓤 = 𝓤; H = H; 𝓜 = 𝓜; 𝓖 = 𝓖; 𝓡 = 𝓡 }) λ g. closed 𝓤 H (𝓖 .A) (Running.givenOf 𝓤 H 𝓜 𝓖) (Run.Over 𝓤 H 𝓜 𝓖 𝓡 Code.env) (Reads'7.known record { M = M; 𝓤 = 𝓤; H = H; 𝓜 = 𝓜; 𝓖 = 𝓖; 𝓡 = 𝓡 } Code.env Symbol'6.name Symbol'6.routine Code.calls-ring-rows·find (Met'6.met 𝓤 H 𝓜 𝓖 𝓡)) (Reads.known record { M = M; 𝓤 = 𝓤; H = H; 𝓜 = 𝓜; 𝓖 = 𝓖; 𝓡 = 𝓡 } Code.env Symbol.name Symbol.routine Code.calls-angle·equal (Met.met 𝓤 H 𝓜 𝓖 𝓡)) (Reads'.known record { M = M; 𝓤 = 𝓤; H = H; 𝓜 = 𝓜; 𝓖 = 𝓖; 𝓡 = 𝓡 } Code.env Symbol'.name Symbol'.routine Code.calls-ring-insert·choose (Met'.met 𝓤 H 𝓜 𝓖 𝓡)) (Reads'4.known record { M = M; 𝓤 = 𝓤; H = H; 𝓜 = 𝓜; 𝓖 = 𝓖; 𝓡 = 𝓡 } Code.env Symbol'3.name Symbol'3.routine Code.calls-ring-insert·place (Met'3.met 𝓤 H 𝓜 𝓖 𝓡)) (Reads'6.known record { M = M; 𝓤 = 𝓤; H = H; 𝓜 = 𝓜; 𝓖 = 𝓖; 𝓡 = 𝓡 } Code.env Symbol'5.name Symbol'5.routine Code.calls-ring-insert·update-buckets (Met'5.met 𝓤 H 𝓜 𝓖 𝓡)) (Reads''.known record { M = M; 𝓤 = 𝓤; H = H; 𝓜 = 𝓜; 𝓖 = 𝓖; 𝓡 = 𝓡 } Code.env Symbol''.name Symbol''.routine Code.calls-ring-insert·first-pushed (Met''.met 𝓤 H 𝓜 𝓖 𝓡)) (Reads'5.known record { M = M; 𝓤 = 𝓤; H = H; 𝓜 = 𝓜; 𝓖 = 𝓖; 𝓡 = 𝓡 } Code.env Symbol'4.name Symbol'4.routine Code.calls-ring-insert·retire (Met'4.met 𝓤 H 𝓜 𝓖 𝓡)) (Reads'9.known record { M = M; 𝓤 = 𝓤; H = H; 𝓜 = 𝓜; 𝓖 = 𝓖; 𝓡 = 𝓡 } Code.env Symbol'8.name Symbol'8.routine Code.calls-segment·floored-bucket (Met'8.met 𝓤 H 𝓜 𝓖 𝓡)) (Reads'8.known record { M = M; 𝓤 = 𝓤; H = H; 𝓜 = 𝓜; 𝓖 = 𝓖; 𝓡 = 𝓡 } Code.env Symbol'7.name Symbol'7.routine Code.calls-ring-rows·set-finger (Met'7.met 𝓤 H 𝓜 𝓖 𝓡))
+  close = λ closed 𝓤 H 𝓜 𝓖 𝓡. Written.close 3 Kinds.ps Kinds.r Reads'3.Ghost Reads'3.requires Reads'3.ensures Reads'3.pre-read Reads'3.Pinned Reads'3.Owned Reads'3.post-read record { M = M; 𝓤 = 𝓤; H = H; 𝓜 = 𝓜; 𝓖 = 𝓖; 𝓡 = 𝓡 } Code.env Key.name Code.function (Code.unfolded 𝓤 H 𝓜 𝓡) (λ κs a g. tt) (λ κs. Reads'3.owns κs record { M = M; 𝓤 = 𝓤; H = H; 𝓜 = 𝓜; 𝓖 = 𝓖; 𝓡 = 𝓡 }) (Reads'3.passes record { M = M; 𝓤 = 𝓤; H = H; 𝓜 = 𝓜; 𝓖 = 𝓖; 𝓡 = 𝓡 }) λ g. closed 𝓤 H (𝓖 .A) (Running.givenOf 𝓤 H 𝓜 𝓖) (Run.Over 𝓤 H 𝓜 𝓖 𝓡 Code.env) (Reads'7.known record { M = M; 𝓤 = 𝓤; H = H; 𝓜 = 𝓜; 𝓖 = 𝓖; 𝓡 = 𝓡 } Code.env Symbol'6.name Symbol'6.routine Code.calls-ring-rows·find-left (Met'6.met 𝓤 H 𝓜 𝓖 𝓡)) (Reads.known record { M = M; 𝓤 = 𝓤; H = H; 𝓜 = 𝓜; 𝓖 = 𝓖; 𝓡 = 𝓡 } Code.env Symbol.name Symbol.routine Code.calls-angle·equal (Met.met 𝓤 H 𝓜 𝓖 𝓡)) (Reads'.known record { M = M; 𝓤 = 𝓤; H = H; 𝓜 = 𝓜; 𝓖 = 𝓖; 𝓡 = 𝓡 } Code.env Symbol'.name Symbol'.routine Code.calls-ring-insert·choose (Met'.met 𝓤 H 𝓜 𝓖 𝓡)) (Reads'4.known record { M = M; 𝓤 = 𝓤; H = H; 𝓜 = 𝓜; 𝓖 = 𝓖; 𝓡 = 𝓡 } Code.env Symbol'3.name Symbol'3.routine Code.calls-ring-insert·place (Met'3.met 𝓤 H 𝓜 𝓖 𝓡)) (Reads'6.known record { M = M; 𝓤 = 𝓤; H = H; 𝓜 = 𝓜; 𝓖 = 𝓖; 𝓡 = 𝓡 } Code.env Symbol'5.name Symbol'5.routine Code.calls-ring-insert·update-buckets (Met'5.met 𝓤 H 𝓜 𝓖 𝓡)) (Reads''.known record { M = M; 𝓤 = 𝓤; H = H; 𝓜 = 𝓜; 𝓖 = 𝓖; 𝓡 = 𝓡 } Code.env Symbol''.name Symbol''.routine Code.calls-ring-insert·first-pushed (Met''.met 𝓤 H 𝓜 𝓖 𝓡)) (Reads'5.known record { M = M; 𝓤 = 𝓤; H = H; 𝓜 = 𝓜; 𝓖 = 𝓖; 𝓡 = 𝓡 } Code.env Symbol'4.name Symbol'4.routine Code.calls-ring-insert·retire (Met'4.met 𝓤 H 𝓜 𝓖 𝓡)) (Reads'9.known record { M = M; 𝓤 = 𝓤; H = H; 𝓜 = 𝓜; 𝓖 = 𝓖; 𝓡 = 𝓡 } Code.env Symbol'8.name Symbol'8.routine Code.calls-segment·floored-bucket (Met'8.met 𝓤 H 𝓜 𝓖 𝓡)) (Reads'8.known record { M = M; 𝓤 = 𝓤; H = H; 𝓜 = 𝓜; 𝓖 = 𝓖; 𝓡 = 𝓡 } Code.env Symbol'7.name Symbol'7.routine Code.calls-ring-rows·set-finger (Met'7.met 𝓤 H 𝓜 𝓖 𝓡))

@@ -164,7 +164,7 @@ abbrev ty·25 : Syntax.Ty
 ty·25 = Syntax.tyStruct (List._∷_ 99 (List._∷_ 111 (List._∷_ 114 (List._∷_ 110 (List._∷_ 101 (List._∷_ 114 (List._∷_ 58 (List._∷_ 58 (List._∷_ 69 (List._∷_ 120 (List._∷_ 116 (List._∷_ 101 (List._∷_ 110 (List._∷_ 115 (List._∷_ 105 (List._∷_ 111 (List._∷_ 110 List.[]))))))))))))))))) (Syntax.tcons ty·21 (Syntax.tcons ty·0 (Syntax.tcons ty·1 (Syntax.tcons Syntax.tyBool Syntax.tnil))))
 
 abbrev ty·26 : Syntax.Ty
-ty·26 = Syntax.tyStruct (List._∷_ 100 (List._∷_ 101 (List._∷_ 99 (List._∷_ 105 (List._∷_ 100 (List._∷_ 101 (List._∷_ 58 (List._∷_ 58 (List._∷_ 68 (List._∷_ 101 (List._∷_ 99 (List._∷_ 105 (List._∷_ 115 (List._∷_ 105 (List._∷_ 111 (List._∷_ 110 List.[])))))))))))))))) (Syntax.tcons ty·23 (Syntax.tcons ty·0 (Syntax.tcons ty·0 (Syntax.tcons ty·0 (Syntax.tcons ty·2 (Syntax.tcons ty·2 (Syntax.tcons ty·2 Syntax.tnil)))))))
+ty·26 = Syntax.tyStruct (List._∷_ 100 (List._∷_ 101 (List._∷_ 99 (List._∷_ 105 (List._∷_ 100 (List._∷_ 101 (List._∷_ 58 (List._∷_ 58 (List._∷_ 68 (List._∷_ 101 (List._∷_ 99 (List._∷_ 105 (List._∷_ 115 (List._∷_ 105 (List._∷_ 111 (List._∷_ 110 List.[])))))))))))))))) (Syntax.tcons ty·23 (Syntax.tcons ty·0 (Syntax.tcons ty·0 (Syntax.tcons ty·0 (Syntax.tcons ty·2 (Syntax.tcons ty·2 (Syntax.tcons ty·2 (Syntax.tcons ty·0 Syntax.tnil))))))))
 
 abbrev ty·27 : Syntax.Ty
 ty·27 = Syntax.tyStruct (List._∷_ 97 (List._∷_ 112 (List._∷_ 112 (List._∷_ 108 (List._∷_ 121 (List._∷_ 58 (List._∷_ 58 (List._∷_ 69 (List._∷_ 110 (List._∷_ 116 (List._∷_ 101 (List._∷_ 114 (List._∷_ 101 (List._∷_ 100 List.[])))))))))))))) (Syntax.tcons ty·25 (Syntax.tcons ty·0 (Syntax.tcons ty·0 Syntax.tnil)))
@@ -209,7 +209,7 @@ abbrev pub r·3 : Kinds.RK 5
 r·3 = Value.rVal record { ty = Declared'.row Entered.the-type; one = Path'.refl; val = Laws'11.val Entered.the-type Laws'.the-laws; tells = Laws'11.tells Entered.the-type Laws'.the-laws; still = Laws'11.still Entered.the-type Laws'.the-copy Exit.yes; row = Rows.whole (Declared'.row Entered.the-type); rd = λ x. x; mk = λ x. x } λ M 𝓤 H A W. record { copies = Laws'11.copy Entered.the-type Laws'.the-copy 𝓤 H A W; lawful = Laws'11.lawful Entered.the-type Laws'.the-laws 𝓤 H A W; makes = Laws'11.makes Entered.the-type Laws'.the-plain 𝓤 H A; in-mem = Local.mem-whole 𝓤 H A W (Declared'.row Entered.the-type); of-mem = Local.whole-mem 𝓤 H A W (Declared'.row Entered.the-type) }
 
 abbrev pub ps·4 : List.List (Kinds.PK 3)
-ps·4 = List._∷_ (MutSlice.pMutS ELEM.the-row 0 tt) (List._∷_ (MutSlice.pMutS (Referent.rtF (Referent.fInt Syntax.w32)) 1 tt) (List._∷_ (MutSlice.pMutS (Referent.rtF (Referent.fInt Syntax.w32)) 2 tt) (List._∷_ (Value.pVal record { ty = Declared'.row Hull.the-type; one = Path'.refl; val = Laws'11.val Hull.the-type Laws'7.the-laws; tells = Laws'11.tells Hull.the-type Laws'7.the-laws; still = Laws'11.still Hull.the-type Laws'7.the-copy Exit.yes; row = Rows.whole (Declared'.row Hull.the-type); rd = λ x. x; mk = λ x. x } λ M 𝓤 H A W. record { copies = Laws'11.copy Hull.the-type Laws'7.the-copy 𝓤 H A W; lawful = Laws'11.lawful Hull.the-type Laws'7.the-laws 𝓤 H A W; makes = Laws'11.makes Hull.the-type Laws'7.the-plain 𝓤 H A; in-mem = Local.mem-whole 𝓤 H A W (Declared'.row Hull.the-type); of-mem = Local.whole-mem 𝓤 H A W (Declared'.row Hull.the-type) }) (List._∷_ (Float.pFloat Ieee.binary64) (List._∷_ (Float.pFloat Ieee.binary64) (List._∷_ (Float.pFloat Ieee.binary64) (List._∷_ (Num.pNum Syntax.w32) (List._∷_ (Num.pNum Syntax.w32) List.[]))))))))
+ps·4 = List._∷_ (MutSlice.pMutS ELEM.the-row 0 tt) (List._∷_ (MutSlice.pMutS (Referent.rtF (Referent.fInt Syntax.w32)) 1 tt) (List._∷_ (MutSlice.pMutS (Referent.rtF (Referent.fInt Syntax.w32)) 2 tt) (List._∷_ (Value.pVal record { ty = Declared'.row Hull.the-type; one = Path'.refl; val = Laws'11.val Hull.the-type Laws'7.the-laws; tells = Laws'11.tells Hull.the-type Laws'7.the-laws; still = Laws'11.still Hull.the-type Laws'7.the-copy Exit.yes; row = Rows.whole (Declared'.row Hull.the-type); rd = λ x. x; mk = λ x. x } λ M 𝓤 H A W. record { copies = Laws'11.copy Hull.the-type Laws'7.the-copy 𝓤 H A W; lawful = Laws'11.lawful Hull.the-type Laws'7.the-laws 𝓤 H A W; makes = Laws'11.makes Hull.the-type Laws'7.the-plain 𝓤 H A; in-mem = Local.mem-whole 𝓤 H A W (Declared'.row Hull.the-type); of-mem = Local.whole-mem 𝓤 H A W (Declared'.row Hull.the-type) }) (List._∷_ (Num.pNum Syntax.w32) (List._∷_ (Float.pFloat Ieee.binary64) (List._∷_ (Float.pFloat Ieee.binary64) (List._∷_ (Float.pFloat Ieee.binary64) (List._∷_ (Num.pNum Syntax.w32) (List._∷_ (Num.pNum Syntax.w32) List.[])))))))))
 
 abbrev pub r·4 : Kinds.RK 3
 r·4 = Value.rVal record { ty = Declared'.row Hull.the-type; one = Path'.refl; val = Laws'11.val Hull.the-type Laws'7.the-laws; tells = Laws'11.tells Hull.the-type Laws'7.the-laws; still = Laws'11.still Hull.the-type Laws'7.the-copy Exit.yes; row = Rows.whole (Declared'.row Hull.the-type); rd = λ x. x; mk = λ x. x } λ M 𝓤 H A W. record { copies = Laws'11.copy Hull.the-type Laws'7.the-copy 𝓤 H A W; lawful = Laws'11.lawful Hull.the-type Laws'7.the-laws 𝓤 H A W; makes = Laws'11.makes Hull.the-type Laws'7.the-plain 𝓤 H A; in-mem = Local.mem-whole 𝓤 H A W (Declared'.row Hull.the-type); of-mem = Local.whole-mem 𝓤 H A W (Declared'.row Hull.the-type) }
@@ -353,7 +353,7 @@ abbrev b44 : Syntax.Body
 b44 = Syntax.assign (Syntax.place 46 List.[]) (Syntax.aggregate (List._∷_ (Syntax.copy (Syntax.place 45 List.[])) (List._∷_ (Syntax.copy (Syntax.place 8 (List._∷_ (Syntax.field 1) List.[]))) List.[])))
 
 abbrev b45 : Syntax.Body
-b45 = Syntax.call "hull::insert" (List._∷_ (Syntax.copy (Syntax.place 42 List.[])) (List._∷_ (Syntax.copy (Syntax.place 44 List.[])) (List._∷_ (Syntax.copy (Syntax.place 46 List.[])) (List._∷_ (Syntax.copy (Syntax.place 10 List.[])) (List._∷_ (Syntax.copy (Syntax.place 13 (List._∷_ (Syntax.field 5) List.[]))) (List._∷_ (Syntax.copy (Syntax.place 13 (List._∷_ (Syntax.field 4) List.[]))) (List._∷_ (Syntax.copy (Syntax.place 13 (List._∷_ (Syntax.field 6) List.[]))) (List._∷_ (Syntax.copy (Syntax.place 16 (List._∷_ (Syntax.field 1) List.[]))) (List._∷_ (Syntax.copy (Syntax.place 16 (List._∷_ (Syntax.field 2) List.[]))) List.[]))))))))) (Syntax.place 18 List.[])
+b45 = Syntax.call "hull::insert" (List._∷_ (Syntax.copy (Syntax.place 42 List.[])) (List._∷_ (Syntax.copy (Syntax.place 44 List.[])) (List._∷_ (Syntax.copy (Syntax.place 46 List.[])) (List._∷_ (Syntax.copy (Syntax.place 10 List.[])) (List._∷_ (Syntax.copy (Syntax.place 13 (List._∷_ (Syntax.field 7) List.[]))) (List._∷_ (Syntax.copy (Syntax.place 13 (List._∷_ (Syntax.field 5) List.[]))) (List._∷_ (Syntax.copy (Syntax.place 13 (List._∷_ (Syntax.field 4) List.[]))) (List._∷_ (Syntax.copy (Syntax.place 13 (List._∷_ (Syntax.field 6) List.[]))) (List._∷_ (Syntax.copy (Syntax.place 16 (List._∷_ (Syntax.field 1) List.[]))) (List._∷_ (Syntax.copy (Syntax.place 16 (List._∷_ (Syntax.field 2) List.[]))) List.[])))))))))) (Syntax.place 18 List.[])
 
 abbrev b46 : Syntax.Body
 b46 = Syntax.call "step::progress_of" (List._∷_ (Syntax.copy (Syntax.place 17 List.[])) (List._∷_ (Syntax.copy (Syntax.place 18 List.[])) (List._∷_ (Syntax.copy (Syntax.place 14 List.[])) List.[]))) (Syntax.place 0 List.[])
@@ -1317,7 +1317,7 @@ module _ (claims· : Claims) where
   s113 = λ bs. Relend.k-sl-aggregate (Referent.rtF (Referent.fInt Syntax.w32)) (Relend.asMut (Referent.rtF (Referent.fInt Syntax.w32))) T116 45 46 20 ty·4 ty·4 (λ x. x) (Scalar.oFld 8 (List._∷_ (Syntax.field 1) List.[]) ty·1 8 λ v. Shared.lenV (v .0))
 
   abbrev s114 : (bs : List.List Nat.ℕ) → Typed.Both T117 T118
-  s114 = λ bs. Call.callB ps·4 r·4 (claims· .8) (claims· .9) T117 (record { pos = 42; ty = Syntax.tyRef Syntax.erased Syntax.mut (ELEMMEM.pointee (ELEM.the-row .written)); ref = λ x. x }, (record { pos = 44; ty = Syntax.tyRef Syntax.erased Syntax.mut ty·0; ref = λ x. x }, (record { pos = 46; ty = Syntax.tyRef Syntax.erased Syntax.mut ty·0; ref = λ x. x }, (record { pos = 10; st = List.[]; d = 0; at = λ x. x }, (Float.fFld 13 (List._∷_ (Syntax.field 5) List.[]) 32 λ x. Decision.struct .as-values x .1 .1 .1 .1 .1 .0, (Float.fFld 13 (List._∷_ (Syntax.field 4) List.[]) 24 λ x. Decision.struct .as-values x .1 .1 .1 .1 .0, (Float.fFld 13 (List._∷_ (Syntax.field 6) List.[]) 40 λ x. Decision.struct .as-values x .1 .1 .1 .1 .1 .1 .0, (Num.vFld 16 (List._∷_ (Syntax.field 1) List.[]) 32 λ x. Entered.struct .as-values x .1 .0, (Num.vFld 16 (List._∷_ (Syntax.field 2) List.[]) 36 λ x. Entered.struct .as-values x .1 .1 .0, tt))))))))) 18 (List._∷_ 18 (List._∷_ 19 (List._∷_ 20 List.[]))) ty·22
+  s114 = λ bs. Call.callB ps·4 r·4 (claims· .8) (claims· .9) T117 (record { pos = 42; ty = Syntax.tyRef Syntax.erased Syntax.mut (ELEMMEM.pointee (ELEM.the-row .written)); ref = λ x. x }, (record { pos = 44; ty = Syntax.tyRef Syntax.erased Syntax.mut ty·0; ref = λ x. x }, (record { pos = 46; ty = Syntax.tyRef Syntax.erased Syntax.mut ty·0; ref = λ x. x }, (record { pos = 10; st = List.[]; d = 0; at = λ x. x }, (Num.vFld 13 (List._∷_ (Syntax.field 7) List.[]) 48 λ x. Decision.struct .as-values x .1 .1 .1 .1 .1 .1 .1 .0, (Float.fFld 13 (List._∷_ (Syntax.field 5) List.[]) 32 λ x. Decision.struct .as-values x .1 .1 .1 .1 .1 .0, (Float.fFld 13 (List._∷_ (Syntax.field 4) List.[]) 24 λ x. Decision.struct .as-values x .1 .1 .1 .1 .0, (Float.fFld 13 (List._∷_ (Syntax.field 6) List.[]) 40 λ x. Decision.struct .as-values x .1 .1 .1 .1 .1 .1 .0, (Num.vFld 16 (List._∷_ (Syntax.field 1) List.[]) 32 λ x. Entered.struct .as-values x .1 .0, (Num.vFld 16 (List._∷_ (Syntax.field 2) List.[]) 36 λ x. Entered.struct .as-values x .1 .1 .0, tt)))))))))) 18 (List._∷_ 18 (List._∷_ 19 (List._∷_ 20 List.[]))) ty·22
 
   abbrev s115 : (bs : List.List Nat.ℕ) → Typed.Mo T118 → Typed.Mo T119
   s115 = λ bs. Scalar.n-room T118 10 ty·22
@@ -2442,7 +2442,7 @@ module _ (claims· : Claims) where
           d44 = Typed.g-pre 𝓤 H A W 𝓣 E G118 G119 b48 Δ0 (Typed.pass T118 T119 (s115 bs)) (at43 bs) (Scalar.g-room 𝓤 H A W E G118 10 ty·22 (Local.room-whole 𝓤 H A W (Declared'.row Hull.the-type) ty·22 Path'.refl)) d43
 
           d45 : Typed.Typed 𝓤 H A 𝓣 E G117 b49 Δ0 (at45 bs)
-          d45 = Typed.s-seq 𝓤 H A W 𝓣 E G117 G118 b45 b48 Δ0 (Typed.both (s114 bs)) (at44 bs) (Plain.t-call-plain 𝓤 H A W 𝓣 3 ps·4 r·4 (claims· .8) (claims· .9) "hull::insert" (known .4) E (λ pos β. β) G117 (record { pos = 42; ty = Syntax.tyRef Syntax.erased Syntax.mut (ELEMMEM.pointee (ELEM.the-row .written)); ref = λ x. x }, (record { pos = 44; ty = Syntax.tyRef Syntax.erased Syntax.mut ty·0; ref = λ x. x }, (record { pos = 46; ty = Syntax.tyRef Syntax.erased Syntax.mut ty·0; ref = λ x. x }, (record { pos = 10; st = List.[]; d = 0; at = λ x. x }, (Float.fFld 13 (List._∷_ (Syntax.field 5) List.[]) 32 λ x. Decision.struct .as-values x .1 .1 .1 .1 .1 .0, (Float.fFld 13 (List._∷_ (Syntax.field 4) List.[]) 24 λ x. Decision.struct .as-values x .1 .1 .1 .1 .0, (Float.fFld 13 (List._∷_ (Syntax.field 6) List.[]) 40 λ x. Decision.struct .as-values x .1 .1 .1 .1 .1 .1 .0, (Num.vFld 16 (List._∷_ (Syntax.field 1) List.[]) 32 λ x. Entered.struct .as-values x .1 .0, (Num.vFld 16 (List._∷_ (Syntax.field 2) List.[]) 36 λ x. Entered.struct .as-values x .1 .1 .0, tt))))))))) 18 (List._∷_ 18 (List._∷_ 19 (List._∷_ 20 List.[]))) (Call.sub-id 𝓤 H A W (G117 .slots)) (Reads'.as-is 𝓤 H A (Mut.mslice ELEM.the-row ty·13 18), Mut.reads-mslice 𝓤 H A W ELEM.the-row ty·13 18, Path'.refl, (Reads'.as-is 𝓤 H A (Mut.mslice (Referent.rtF (Referent.fInt Syntax.w32)) ty·4 19), Mut.reads-mslice 𝓤 H A W (Referent.rtF (Referent.fInt Syntax.w32)) ty·4 19, Path'.refl, (Reads'.as-is 𝓤 H A (Mut.mslice (Referent.rtF (Referent.fInt Syntax.w32)) ty·4 20), Mut.reads-mslice 𝓤 H A W (Referent.rtF (Referent.fInt Syntax.w32)) ty·4 20, Path'.refl, ((Yields.yields-copy 𝓤 H A W (λ ρ. Unit) (Declared'.row Hull.the-type) Path'.refl (Copies.cStruct Hull.the-type Laws'7.the-laws Laws'7.the-copy .copy 𝓤 H A W) (Rows.whole (Declared'.row Hull.the-type)) (λ x. x) (λ x. x) (λ ρ told. Local.mem-whole 𝓤 H A W (Declared'.row Hull.the-type) ρ) λ ρ told. Local.whole-mem 𝓤 H A W (Declared'.row Hull.the-type) ρ, Path'.refl), ((Reads.reads-field 𝓤 H A W Decision.the-type Laws'3.the-laws 5 ty·2 32 Path'.refl, Path'.refl), ((Reads.reads-field 𝓤 H A W Decision.the-type Laws'3.the-laws 4 ty·2 24 Path'.refl, Path'.refl), ((Reads.reads-field 𝓤 H A W Decision.the-type Laws'3.the-laws 6 ty·2 40 Path'.refl, Path'.refl), ((Reads.reads-field 𝓤 H A W Entered.the-type Laws'.the-laws 1 ty·0 32 Path'.refl, Path'.refl), ((Reads.reads-field 𝓤 H A W Entered.the-type Laws'.the-laws 2 ty·0 36 Path'.refl, Path'.refl), tt))))))))) (Reads'.room-gone 𝓤 H A ty·22) (tt, (tt, (tt, tt))) Path'.refl) d44
+          d45 = Typed.s-seq 𝓤 H A W 𝓣 E G117 G118 b45 b48 Δ0 (Typed.both (s114 bs)) (at44 bs) (Plain.t-call-plain 𝓤 H A W 𝓣 3 ps·4 r·4 (claims· .8) (claims· .9) "hull::insert" (known .4) E (λ pos β. β) G117 (record { pos = 42; ty = Syntax.tyRef Syntax.erased Syntax.mut (ELEMMEM.pointee (ELEM.the-row .written)); ref = λ x. x }, (record { pos = 44; ty = Syntax.tyRef Syntax.erased Syntax.mut ty·0; ref = λ x. x }, (record { pos = 46; ty = Syntax.tyRef Syntax.erased Syntax.mut ty·0; ref = λ x. x }, (record { pos = 10; st = List.[]; d = 0; at = λ x. x }, (Num.vFld 13 (List._∷_ (Syntax.field 7) List.[]) 48 λ x. Decision.struct .as-values x .1 .1 .1 .1 .1 .1 .1 .0, (Float.fFld 13 (List._∷_ (Syntax.field 5) List.[]) 32 λ x. Decision.struct .as-values x .1 .1 .1 .1 .1 .0, (Float.fFld 13 (List._∷_ (Syntax.field 4) List.[]) 24 λ x. Decision.struct .as-values x .1 .1 .1 .1 .0, (Float.fFld 13 (List._∷_ (Syntax.field 6) List.[]) 40 λ x. Decision.struct .as-values x .1 .1 .1 .1 .1 .1 .0, (Num.vFld 16 (List._∷_ (Syntax.field 1) List.[]) 32 λ x. Entered.struct .as-values x .1 .0, (Num.vFld 16 (List._∷_ (Syntax.field 2) List.[]) 36 λ x. Entered.struct .as-values x .1 .1 .0, tt)))))))))) 18 (List._∷_ 18 (List._∷_ 19 (List._∷_ 20 List.[]))) (Call.sub-id 𝓤 H A W (G117 .slots)) (Reads'.as-is 𝓤 H A (Mut.mslice ELEM.the-row ty·13 18), Mut.reads-mslice 𝓤 H A W ELEM.the-row ty·13 18, Path'.refl, (Reads'.as-is 𝓤 H A (Mut.mslice (Referent.rtF (Referent.fInt Syntax.w32)) ty·4 19), Mut.reads-mslice 𝓤 H A W (Referent.rtF (Referent.fInt Syntax.w32)) ty·4 19, Path'.refl, (Reads'.as-is 𝓤 H A (Mut.mslice (Referent.rtF (Referent.fInt Syntax.w32)) ty·4 20), Mut.reads-mslice 𝓤 H A W (Referent.rtF (Referent.fInt Syntax.w32)) ty·4 20, Path'.refl, ((Yields.yields-copy 𝓤 H A W (λ ρ. Unit) (Declared'.row Hull.the-type) Path'.refl (Copies.cStruct Hull.the-type Laws'7.the-laws Laws'7.the-copy .copy 𝓤 H A W) (Rows.whole (Declared'.row Hull.the-type)) (λ x. x) (λ x. x) (λ ρ told. Local.mem-whole 𝓤 H A W (Declared'.row Hull.the-type) ρ) λ ρ told. Local.whole-mem 𝓤 H A W (Declared'.row Hull.the-type) ρ, Path'.refl), ((Reads.reads-field 𝓤 H A W Decision.the-type Laws'3.the-laws 7 ty·0 48 Path'.refl, Path'.refl), ((Reads.reads-field 𝓤 H A W Decision.the-type Laws'3.the-laws 5 ty·2 32 Path'.refl, Path'.refl), ((Reads.reads-field 𝓤 H A W Decision.the-type Laws'3.the-laws 4 ty·2 24 Path'.refl, Path'.refl), ((Reads.reads-field 𝓤 H A W Decision.the-type Laws'3.the-laws 6 ty·2 40 Path'.refl, Path'.refl), ((Reads.reads-field 𝓤 H A W Entered.the-type Laws'.the-laws 1 ty·0 32 Path'.refl, Path'.refl), ((Reads.reads-field 𝓤 H A W Entered.the-type Laws'.the-laws 2 ty·0 36 Path'.refl, Path'.refl), tt)))))))))) (Reads'.room-gone 𝓤 H A ty·22) (tt, (tt, (tt, tt))) Path'.refl) d44
 
           d46 : Typed.Typed 𝓤 H A 𝓣 E G116 b50 Δ0 (at46 bs)
           d46 = Typed.s-seq 𝓤 H A W 𝓣 E G116 G117 b44 b49 Δ0 (Typed.ask (s113 bs)) (at45 bs) (Relend.t-sl-aggregate 𝓤 H A W E (Referent.rtF (Referent.fInt Syntax.w32)) 𝓣 (Relend.asMut (Referent.rtF (Referent.fInt Syntax.w32))) G116 45 46 20 ty·4 ty·4 (λ x. x) (Scalar.oFld 8 (List._∷_ (Syntax.field 1) List.[]) ty·1 8 λ v. Shared.lenV (v .0)) (Reads'.as-is 𝓤 H A (Relend.msptr (Referent.rtF (Referent.fInt Syntax.w32)) ty·4 20)) (Reads'.room-gone 𝓤 H A ty·16) (Relend.reads-owed-len 𝓤 H A W (Referent.rtF (Referent.fInt Syntax.w32)) ty·11 7 20 (Row.lease (κs .1 .1 .1 .1 .1 .1 .1 .0) (qs .1 .1 .1 .1 .1 .1 .1 .0)) 8 Path'.refl, Path'.refl) Path'.refl Path'.refl λ b o k. tt) d45
@@ -3402,14 +3402,14 @@ module _ (claims· : Claims) where
 
       module _ (before· : After-insert-arg3) where
         abbrev pub After-insert·own : Type 0
-        After-insert·own = Called.Called ps·4 r·4 (claims· .9) T117 (record { pos = 42; ty = Syntax.tyRef Syntax.erased Syntax.mut (ELEMMEM.pointee (ELEM.the-row .written)); ref = λ x. x }, (record { pos = 44; ty = Syntax.tyRef Syntax.erased Syntax.mut ty·0; ref = λ x. x }, (record { pos = 46; ty = Syntax.tyRef Syntax.erased Syntax.mut ty·0; ref = λ x. x }, (record { pos = 10; st = List.[]; d = 0; at = λ x. x }, (Float.fFld 13 (List._∷_ (Syntax.field 5) List.[]) 32 λ x. Decision.struct .as-values x .1 .1 .1 .1 .1 .0, (Float.fFld 13 (List._∷_ (Syntax.field 4) List.[]) 24 λ x. Decision.struct .as-values x .1 .1 .1 .1 .0, (Float.fFld 13 (List._∷_ (Syntax.field 6) List.[]) 40 λ x. Decision.struct .as-values x .1 .1 .1 .1 .1 .1 .0, (Num.vFld 16 (List._∷_ (Syntax.field 1) List.[]) 32 λ x. Entered.struct .as-values x .1 .0, (Num.vFld 16 (List._∷_ (Syntax.field 2) List.[]) 36 λ x. Entered.struct .as-values x .1 .1 .0, tt))))))))) (m81 (before· .before) (before· .insert-arg3 .given))
+        After-insert·own = Called.Called ps·4 r·4 (claims· .9) T117 (record { pos = 42; ty = Syntax.tyRef Syntax.erased Syntax.mut (ELEMMEM.pointee (ELEM.the-row .written)); ref = λ x. x }, (record { pos = 44; ty = Syntax.tyRef Syntax.erased Syntax.mut ty·0; ref = λ x. x }, (record { pos = 46; ty = Syntax.tyRef Syntax.erased Syntax.mut ty·0; ref = λ x. x }, (record { pos = 10; st = List.[]; d = 0; at = λ x. x }, (Num.vFld 13 (List._∷_ (Syntax.field 7) List.[]) 48 λ x. Decision.struct .as-values x .1 .1 .1 .1 .1 .1 .1 .0, (Float.fFld 13 (List._∷_ (Syntax.field 5) List.[]) 32 λ x. Decision.struct .as-values x .1 .1 .1 .1 .1 .0, (Float.fFld 13 (List._∷_ (Syntax.field 4) List.[]) 24 λ x. Decision.struct .as-values x .1 .1 .1 .1 .0, (Float.fFld 13 (List._∷_ (Syntax.field 6) List.[]) 40 λ x. Decision.struct .as-values x .1 .1 .1 .1 .1 .1 .0, (Num.vFld 16 (List._∷_ (Syntax.field 1) List.[]) 32 λ x. Entered.struct .as-values x .1 .0, (Num.vFld 16 (List._∷_ (Syntax.field 2) List.[]) 36 λ x. Entered.struct .as-values x .1 .1 .0, tt)))))))))) (m81 (before· .before) (before· .insert-arg3 .given))
 
       pub record After-insert : Type 0 where
         pub before : After-insert-arg3
         pub insert : After-insert·own before
 
       abbrev pub After-insert·gave : (c : After-insert) → s114 (c .before .before .before .before .before .before .before .before .before .before .before .before .before .before .before .before .before .before .before .before .before .before .before .before .before .before .before .before .before .before .before .before .before .before .before .blocks) .gives (m81 (c .before .before) (c .before .insert-arg3 .given))
-      After-insert·gave = λ c. Called.given ps·4 r·4 (claims· .9) T117 (record { pos = 42; ty = Syntax.tyRef Syntax.erased Syntax.mut (ELEMMEM.pointee (ELEM.the-row .written)); ref = λ x. x }, (record { pos = 44; ty = Syntax.tyRef Syntax.erased Syntax.mut ty·0; ref = λ x. x }, (record { pos = 46; ty = Syntax.tyRef Syntax.erased Syntax.mut ty·0; ref = λ x. x }, (record { pos = 10; st = List.[]; d = 0; at = λ x. x }, (Float.fFld 13 (List._∷_ (Syntax.field 5) List.[]) 32 λ x. Decision.struct .as-values x .1 .1 .1 .1 .1 .0, (Float.fFld 13 (List._∷_ (Syntax.field 4) List.[]) 24 λ x. Decision.struct .as-values x .1 .1 .1 .1 .0, (Float.fFld 13 (List._∷_ (Syntax.field 6) List.[]) 40 λ x. Decision.struct .as-values x .1 .1 .1 .1 .1 .1 .0, (Num.vFld 16 (List._∷_ (Syntax.field 1) List.[]) 32 λ x. Entered.struct .as-values x .1 .0, (Num.vFld 16 (List._∷_ (Syntax.field 2) List.[]) 36 λ x. Entered.struct .as-values x .1 .1 .0, tt))))))))) (m81 (c .before .before) (c .before .insert-arg3 .given)) (c .insert)
+      After-insert·gave = λ c. Called.given ps·4 r·4 (claims· .9) T117 (record { pos = 42; ty = Syntax.tyRef Syntax.erased Syntax.mut (ELEMMEM.pointee (ELEM.the-row .written)); ref = λ x. x }, (record { pos = 44; ty = Syntax.tyRef Syntax.erased Syntax.mut ty·0; ref = λ x. x }, (record { pos = 46; ty = Syntax.tyRef Syntax.erased Syntax.mut ty·0; ref = λ x. x }, (record { pos = 10; st = List.[]; d = 0; at = λ x. x }, (Num.vFld 13 (List._∷_ (Syntax.field 7) List.[]) 48 λ x. Decision.struct .as-values x .1 .1 .1 .1 .1 .1 .1 .0, (Float.fFld 13 (List._∷_ (Syntax.field 5) List.[]) 32 λ x. Decision.struct .as-values x .1 .1 .1 .1 .1 .0, (Float.fFld 13 (List._∷_ (Syntax.field 4) List.[]) 24 λ x. Decision.struct .as-values x .1 .1 .1 .1 .0, (Float.fFld 13 (List._∷_ (Syntax.field 6) List.[]) 40 λ x. Decision.struct .as-values x .1 .1 .1 .1 .1 .1 .0, (Num.vFld 16 (List._∷_ (Syntax.field 1) List.[]) 32 λ x. Entered.struct .as-values x .1 .0, (Num.vFld 16 (List._∷_ (Syntax.field 2) List.[]) 36 λ x. Entered.struct .as-values x .1 .1 .0, tt)))))))))) (m81 (c .before .before) (c .before .insert-arg3 .given)) (c .insert)
 
       abbrev pub m83 : (before : After-insert-arg3) → (given : s114 (before .before .before .before .before .before .before .before .before .before .before .before .before .before .before .before .before .before .before .before .before .before .before .before .before .before .before .before .before .before .before .before .before .before .before .blocks) .gives (m81 (before .before) (before .insert-arg3 .given))) → Typed.Mo T119
       m83 = λ before given. s115 (before .before .before .before .before .before .before .before .before .before .before .before .before .before .before .before .before .before .before .before .before .before .before .before .before .before .before .before .before .before .before .before .before .before .before .blocks) (m82 before given)
@@ -3536,7 +3536,7 @@ module _ (claims· : Claims) where
         lay8 = λ c. (Path'.refl, λ g. (Path'.refl, λ g'. λ g''. (Path'.refl, λ g'3. λ g'4. (progress-of-requires-3 record { before = record { before = record { before = record { before = record { before = record { before = c .before; insert = c .insert }; nodes = record { given = g } }; freed = record { given = g' } }; slice-known11 = record { given = g'' } }; buckets = record { given = g'3 } }; slice-known12 = record { given = g'4 } }, λ g'5. lay9 record { before = record { before = record { before = record { before = record { before = record { before = record { before = c .before; insert = c .insert }; nodes = record { given = g } }; freed = record { given = g' } }; slice-known11 = record { given = g'' } }; buckets = record { given = g'3 } }; slice-known12 = record { given = g'4 } }; progress-of3 = Called.called ps·2 r·2 (claims· .5) T131 (record { pos = 17; st = List.[]; d = 0; at = λ x. x }, (record { pos = 18; st = List.[]; d = 0; at = λ x. x }, (record { pos = 14; st = List.[]; d = 0; at = λ x. x }, tt))) (m90 record { before = record { before = record { before = record { before = record { before = c .before; insert = c .insert }; nodes = record { given = g } }; freed = record { given = g' } }; slice-known11 = record { given = g'' } }; buckets = record { given = g'3 } } g'4) g'5 }))))
 
         lay7 : (c : Else2) → at54 (c .before .before .before .before .before .before .before .before .before .before .before .before .before .before .before .before .before .before .before .before .before .before .before .before .before .before .before .before .before .before .before .blocks) (W0 (c .before .before .before .before .before .before .before .before .before .before .before .before .before .before .before .before .before .before .before .before .before .before .before .before .before .before .before .before .before .before .before .κs) (c .before .before .before .before .before .before .before .before .before .before .before .before .before .before .before .before .before .before .before .before .before .before .before .before .before .before .before .before .before .before .before .args) (c .before .before .before .before .before .before .before .before .before .before .before .before .before .before .before .before .before .before .before .before .before .before .before .before .before .before .before .before .before .before .before .blocks)) (m75 (c .before))
-        lay7 = λ c. λ g. (Path'.refl, λ g'. (Path'.refl, λ g''. (Path'.refl, (insert-requires record { before = record { before = record { before = record { before = c .before; if2 = c .if2 }; insert-arg = record { given = g } }; insert-arg2 = record { given = g' } }; insert-arg3 = record { given = g'' } }, λ g'3. lay8 record { before = record { before = record { before = record { before = record { before = c .before; if2 = c .if2 }; insert-arg = record { given = g } }; insert-arg2 = record { given = g' } }; insert-arg3 = record { given = g'' } }; insert = Called.called ps·4 r·4 (claims· .9) T117 (record { pos = 42; ty = Syntax.tyRef Syntax.erased Syntax.mut (ELEMMEM.pointee (ELEM.the-row .written)); ref = λ x. x }, (record { pos = 44; ty = Syntax.tyRef Syntax.erased Syntax.mut ty·0; ref = λ x. x }, (record { pos = 46; ty = Syntax.tyRef Syntax.erased Syntax.mut ty·0; ref = λ x. x }, (record { pos = 10; st = List.[]; d = 0; at = λ x. x }, (Float.fFld 13 (List._∷_ (Syntax.field 5) List.[]) 32 λ x. Decision.struct .as-values x .1 .1 .1 .1 .1 .0, (Float.fFld 13 (List._∷_ (Syntax.field 4) List.[]) 24 λ x. Decision.struct .as-values x .1 .1 .1 .1 .0, (Float.fFld 13 (List._∷_ (Syntax.field 6) List.[]) 40 λ x. Decision.struct .as-values x .1 .1 .1 .1 .1 .1 .0, (Num.vFld 16 (List._∷_ (Syntax.field 1) List.[]) 32 λ x. Entered.struct .as-values x .1 .0, (Num.vFld 16 (List._∷_ (Syntax.field 2) List.[]) 36 λ x. Entered.struct .as-values x .1 .1 .0, tt))))))))) (m81 record { before = record { before = record { before = c .before; if2 = c .if2 }; insert-arg = record { given = g } }; insert-arg2 = record { given = g' } } g'') g'3 }))))
+        lay7 = λ c. λ g. (Path'.refl, λ g'. (Path'.refl, λ g''. (Path'.refl, (insert-requires record { before = record { before = record { before = record { before = c .before; if2 = c .if2 }; insert-arg = record { given = g } }; insert-arg2 = record { given = g' } }; insert-arg3 = record { given = g'' } }, λ g'3. lay8 record { before = record { before = record { before = record { before = record { before = c .before; if2 = c .if2 }; insert-arg = record { given = g } }; insert-arg2 = record { given = g' } }; insert-arg3 = record { given = g'' } }; insert = Called.called ps·4 r·4 (claims· .9) T117 (record { pos = 42; ty = Syntax.tyRef Syntax.erased Syntax.mut (ELEMMEM.pointee (ELEM.the-row .written)); ref = λ x. x }, (record { pos = 44; ty = Syntax.tyRef Syntax.erased Syntax.mut ty·0; ref = λ x. x }, (record { pos = 46; ty = Syntax.tyRef Syntax.erased Syntax.mut ty·0; ref = λ x. x }, (record { pos = 10; st = List.[]; d = 0; at = λ x. x }, (Num.vFld 13 (List._∷_ (Syntax.field 7) List.[]) 48 λ x. Decision.struct .as-values x .1 .1 .1 .1 .1 .1 .1 .0, (Float.fFld 13 (List._∷_ (Syntax.field 5) List.[]) 32 λ x. Decision.struct .as-values x .1 .1 .1 .1 .1 .0, (Float.fFld 13 (List._∷_ (Syntax.field 4) List.[]) 24 λ x. Decision.struct .as-values x .1 .1 .1 .1 .0, (Float.fFld 13 (List._∷_ (Syntax.field 6) List.[]) 40 λ x. Decision.struct .as-values x .1 .1 .1 .1 .1 .1 .0, (Num.vFld 16 (List._∷_ (Syntax.field 1) List.[]) 32 λ x. Entered.struct .as-values x .1 .0, (Num.vFld 16 (List._∷_ (Syntax.field 2) List.[]) 36 λ x. Entered.struct .as-values x .1 .1 .0, tt)))))))))) (m81 record { before = record { before = record { before = c .before; if2 = c .if2 }; insert-arg = record { given = g } }; insert-arg2 = record { given = g' } } g'') g'3 }))))
 
         lay6 : (c : After-progress-of2) → at18 (c .before .before .before .before .before .before .before .before .before .before .before .before .before .before .before .before .before .before .before .before .before .before .before .before .before .before .before .before .before .before .before .before .blocks) (W2 (c .before .before .before) (c .before .before .added .given)) (m71 (c .before) (After-progress-of2·gave c))
         lay6 = λ c. ((MutSlice.fix-len (Row.get 1 (T107 .locals) (m74 (c .before) (After-progress-of2·gave c)) .ptr) (Row.get 1 (T107 .locals) (m74 (c .before) (After-progress-of2·gave c)) .name) (Row.get 1 (T107 .locals) (m74 (c .before) (After-progress-of2·gave c)) .now) (dens (c .before .before .before .before .before .before .before .before .before .before .before .before .before .before .before .before .before .before .before .before .before .before .before .before .before .before .before .before .before .before .before .before .κs) (c .before .before .before .before .before .before .before .before .before .before .before .before .before .before .before .before .before .before .before .before .before .before .before .before .before .before .before .before .before .before .before .before .args) .0 .now) (same-length-6 record { before = c .before; progress-of2 = c .progress-of2 }), (MutSlice.fix-len (Row.get 2 (T107 .locals) (m74 (c .before) (After-progress-of2·gave c)) .ptr) (Row.get 2 (T107 .locals) (m74 (c .before) (After-progress-of2·gave c)) .name) (Row.get 2 (T107 .locals) (m74 (c .before) (After-progress-of2·gave c)) .now) (dens (c .before .before .before .before .before .before .before .before .before .before .before .before .before .before .before .before .before .before .before .before .before .before .before .before .before .before .before .before .before .before .before .before .κs) (c .before .before .before .before .before .before .before .before .before .before .before .before .before .before .before .before .before .before .before .before .before .before .before .before .before .before .before .before .before .before .before .before .args) .1 .0 .now) (same-length-7 record { before = c .before; progress-of2 = c .progress-of2 }), (MutSlice.fix-len (Row.get 3 (T107 .locals) (m74 (c .before) (After-progress-of2·gave c)) .ptr) (Row.get 3 (T107 .locals) (m74 (c .before) (After-progress-of2·gave c)) .name) (Row.get 3 (T107 .locals) (m74 (c .before) (After-progress-of2·gave c)) .now) (dens (c .before .before .before .before .before .before .before .before .before .before .before .before .before .before .before .before .before .before .before .before .before .before .before .before .before .before .before .before .before .before .before .before .κs) (c .before .before .before .before .before .before .before .before .before .before .before .before .before .before .before .before .before .before .before .before .before .before .before .before .before .before .before .before .before .before .before .before .args) .1 .1 .0 .now) (same-length-8 record { before = c .before; progress-of2 = c .progress-of2 }), (MutSlice.fix-len (Row.get 4 (T107 .locals) (m74 (c .before) (After-progress-of2·gave c)) .ptr) (Row.get 4 (T107 .locals) (m74 (c .before) (After-progress-of2·gave c)) .name) (Row.get 4 (T107 .locals) (m74 (c .before) (After-progress-of2·gave c)) .now) (dens (c .before .before .before .before .before .before .before .before .before .before .before .before .before .before .before .before .before .before .before .before .before .before .before .before .before .before .before .before .before .before .before .before .κs) (c .before .before .before .before .before .before .before .before .before .before .before .before .before .before .before .before .before .before .before .before .before .before .before .before .before .before .before .before .before .before .before .before .args) .1 .1 .1 .0 .now) (same-length-9 record { before = c .before; progress-of2 = c .progress-of2 }), (MutSlice.fix-len (Row.get 5 (T107 .locals) (m74 (c .before) (After-progress-of2·gave c)) .ptr) (Row.get 5 (T107 .locals) (m74 (c .before) (After-progress-of2·gave c)) .name) (Row.get 5 (T107 .locals) (m74 (c .before) (After-progress-of2·gave c)) .now) (dens (c .before .before .before .before .before .before .before .before .before .before .before .before .before .before .before .before .before .before .before .before .before .before .before .before .before .before .before .before .before .before .before .before .κs) (c .before .before .before .before .before .before .before .before .before .before .before .before .before .before .before .before .before .before .before .before .before .before .before .before .before .before .before .before .before .before .before .before .args) .1 .1 .1 .1 .0 .now) (same-length-10 record { before = c .before; progress-of2 = c .progress-of2 }), (MutSlice.fix-len (Row.get 6 (T107 .locals) (m74 (c .before) (After-progress-of2·gave c)) .ptr) (Row.get 6 (T107 .locals) (m74 (c .before) (After-progress-of2·gave c)) .name) (Row.get 6 (T107 .locals) (m74 (c .before) (After-progress-of2·gave c)) .now) (dens (c .before .before .before .before .before .before .before .before .before .before .before .before .before .before .before .before .before .before .before .before .before .before .before .before .before .before .before .before .before .before .before .before .κs) (c .before .before .before .before .before .before .before .before .before .before .before .before .before .before .before .before .before .before .before .before .before .before .before .before .before .before .before .before .before .before .before .before .args) .1 .1 .1 .1 .1 .0 .now) (same-length-11 record { before = c .before; progress-of2 = c .progress-of2 }), (MutSlice.fix-len (Row.get 7 (T107 .locals) (m74 (c .before) (After-progress-of2·gave c)) .ptr) (Row.get 7 (T107 .locals) (m74 (c .before) (After-progress-of2·gave c)) .name) (Row.get 7 (T107 .locals) (m74 (c .before) (After-progress-of2·gave c)) .now) (dens (c .before .before .before .before .before .before .before .before .before .before .before .before .before .before .before .before .before .before .before .before .before .before .before .before .before .before .before .before .before .before .before .before .κs) (c .before .before .before .before .before .before .before .before .before .before .before .before .before .before .before .before .before .before .before .before .before .before .before .before .before .before .before .before .before .before .before .before .args) .1 .1 .1 .1 .1 .1 .0 .now) (same-length-12 record { before = c .before; progress-of2 = c .progress-of2 }), (MutSlice.fix-len (Row.get 8 (T107 .locals) (m74 (c .before) (After-progress-of2·gave c)) .ptr) (Row.get 8 (T107 .locals) (m74 (c .before) (After-progress-of2·gave c)) .name) (Row.get 8 (T107 .locals) (m74 (c .before) (After-progress-of2·gave c)) .now) (dens (c .before .before .before .before .before .before .before .before .before .before .before .before .before .before .before .before .before .before .before .before .before .before .before .before .before .before .before .before .before .before .before .before .κs) (c .before .before .before .before .before .before .before .before .before .before .before .before .before .before .before .before .before .before .before .before .before .before .before .before .before .before .before .before .before .before .before .before .args) .1 .1 .1 .1 .1 .1 .1 .0 .now) (same-length-13 record { before = c .before; progress-of2 = c .progress-of2 }), (tt, (tt, (tt, (tt, tt)))))))))))), returns-2 record { before = c .before; progress-of2 = c .progress-of2 })
