@@ -49,7 +49,7 @@ module _ {nodes : List Node} {buckets : List ℕ} {h : Hull} (F : ToFind nodes b
       pub met : {t : Bool} → t ≡ eqb (turns (node .angle)) (turns a) → t ≡ true → NodeAt nodes buckets h (turns a) i
       met q y =
           let same : angleOf (nodesOf nodes) i ≡ turns a =
-              sym (ap (λ (n : Node). turns (n .angle)) e) ∙ eqb→eq (turns (node .angle)) (turns a) (subst T (sym y ∙ q) tt) in
+          sym (ap (λ (n : Node). turns (n .angle)) e) ∙ eqb→eq (turns (node .angle)) (turns a) (subst T (sym y ∙ q) tt) in
           record {
             on = o;
             at = subst (λ (x : ℕ). T (nodeHolds (nodesOf nodes) x i)) same (holds-first _ _ (tests .apart));
