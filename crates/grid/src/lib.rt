@@ -175,7 +175,7 @@ fn split_cells(grid: &mut [u32], levels: u32, cells: usize) {
     }
 }
 
-// Whether there are two vertices to a cell, and the row and the range have room for four times the cells.
+// Whether there are four vertices to a cell, and the row and the range have room for four times the cells.
 fn is_crowded(g: Grid, length: usize) -> bool {
     if g.levels >= 12 {
         return false;
@@ -187,7 +187,7 @@ fn is_crowded(g: Grid, length: usize) -> bool {
         return false;
     }
     let cells: usize = 1 << (2 * g.levels);
-    if (g.placed as usize) / 2 < cells {
+    if (g.placed as usize) / 4 < cells {
         return false;
     }
     cells <= length / 4
