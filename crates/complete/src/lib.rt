@@ -98,7 +98,18 @@ fn stride(vertices: u32, skipped: u32) -> u32
     many
 }
 
-// The grid over the mesh and the points.
+fn coarser(stride: u32) -> u32
+    requires { ⌜ 0 < stride ⌝ }
+    ensures { λ r. ⌜ 0 < r ⌝ }
+{
+    if stride < 100000000 {
+        return stride * 8;
+    }
+    stride
+}
+
+// The grid over the mesh and the points. A sweep numbers its vertices from the centre out; so few from all over go in first, then more, and
+// no cell is left with a vertex from far away.
 fn vertices_grid(
     positions: &[i32],
     grid: &mut [u32],
@@ -114,7 +125,11 @@ fn vertices_grid(
     let mesh = grid::range_with(at, positions, vertices);
     let all = grid::range_with(mesh, points, count);
     let empty = grid::over(grid, all);
-    grid::put_vertices(grid, empty, positions, vertices, stride(vertices, skipped))
+    let step = stride(vertices, skipped);
+    let middle = coarser(step);
+    let few = grid::put_vertices(grid, empty, positions, vertices, coarser(middle));
+    let more = grid::put_vertices(grid, few, positions, vertices, middle);
+    grid::put_vertices(grid, more, positions, vertices, step)
 }
 
 // What the search from near by needs, where any point was skipped.

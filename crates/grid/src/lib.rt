@@ -175,7 +175,7 @@ fn split_cells(grid: &mut [u32], levels: u32, cells: usize) {
     }
 }
 
-// Whether there are more than four vertices to a cell, and the row and the range have room for four times the cells.
+// Whether there are four vertices to a cell, and the row and the range have room for four times the cells.
 fn is_crowded(g: Grid, length: usize) -> bool {
     if g.levels >= 12 {
         return false;

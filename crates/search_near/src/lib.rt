@@ -18,7 +18,7 @@ use math::Vector;
 use mesh::Counts;
 
 // The turns that the walk is given, at most.
-pub const WALK_TURNS: u32 = 4096;
+pub const WALK_TURNS: u32 = 1024;
 
 // A half-edge with the positions of its ends; `left` where the point is strictly left of it.
 pub struct Facing {
