@@ -756,6 +756,7 @@ def run_list():
     assert line_cases.add_long_runs(out, add_run, random.Random(77)) > 128
     fullest, gone = line_cases.add_crowded(out, add_run, random.Random(78))
     assert fullest > 200 and gone > 30
+    assert sum(near_cases.add_cases(out, add_run, random.Random(79)).values()) == 60
     return out
 
 
@@ -847,5 +848,6 @@ def step_heights(out, rng):
 
 if __name__ == "__main__":
     import line_cases  # which need what stands above
+    import near_cases
     import skipped_cases
     {"run": run_list, "step": step_list}[sys.argv[1]]().print()
