@@ -3,4 +3,5 @@ pub mod Pending
 pub mod PendingLaws
 pub mod Set
 pub mod BitLaws
+pub mod MarkLaws
 pub mod SetLaws

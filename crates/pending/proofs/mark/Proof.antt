@@ -1,6 +1,6 @@
 -- `pending::mark` meets its contract. Assumes nothing.
 use mathlib.Core.Path.{refl}
-use Rattle.pending.specs.SetLaws.{one-shift, mark-fits}
+use Rattle.pending.specs.MarkLaws.{one-shift, mark-fits}
 use borrow.Author.Needs.{needs}
 use Rattle.pending.proofs.mark.Statement.{statement}
 use Rattle.pending.proofs.mark.Tie as tie

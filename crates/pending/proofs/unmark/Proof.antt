@@ -1,6 +1,6 @@
 -- `pending::unmark` meets its contract. Assumes nothing.
 use mathlib.Core.Path.{refl}
-use Rattle.pending.specs.SetLaws.{one-shift, unmark-fits}
+use Rattle.pending.specs.MarkLaws.{one-shift, unmark-fits}
 use borrow.Author.Needs.{needs}
 use Rattle.pending.proofs.unmark.Statement.{statement}
 use Rattle.pending.proofs.unmark.Tie as tie
