@@ -167,10 +167,10 @@ fn ratio_cell(a: f64, b: f64) -> String {
     }
 }
 
-pub fn tables(turns: usize, largest: usize, beside: Option<&Path>) {
+pub fn tables(turns: usize, largest: usize, is_named: &dyn Fn(&str) -> bool, beside: Option<&Path>) {
     let cases = kinds().flat_map(|kind| sizes(kind).iter().map(move |&count| (kind, count)));
     let rows: Vec<Row> = cases
-        .filter(|&(_, count)| count <= largest)
+        .filter(|&(kind, count)| count <= largest && is_named(kind))
         .map(|(kind, count)| {
             eprintln!("bare points: {kind} {count}");
             measure(kind, count, turns, beside)

@@ -1,14 +1,16 @@
 //! Processor seconds and memory of a run: this library's, through its exports, beside the Rust's sweep from the same seed and centre, and beside CGAL.
 //! And those of a bulk load from bare points: see `loads`.
 //!
-//! `bench_run [runs | loads] [TURNS [LARGEST]]` prints the tables, or those of the one kind alone; `bench_run once SIDE KIND COUNT` makes
-//! one run, for a profiler, and prints how many points ours skipped; `bench_run memory SIDE KIND COUNT` prints the peak of one run's
-//! memory, `bench_run first SIDE KIND COUNT` its seconds. SIDE is `ours`, `rust`, `load_ours`, `load_rust`, `sorted_ours` or `sorted_rust`.
+//! `bench_run [runs | loads] [TURNS [LARGEST [KIND..]]]` prints the tables, or those of runs or of loads alone, of all kinds of points or of
+//! those that are named; `bench_run once SIDE KIND COUNT` makes one run, for a profiler, and prints how many points ours skipped;
+//! `bench_run memory SIDE KIND COUNT` prints the peak of one run's memory, `bench_run first SIDE KIND COUNT` its seconds. SIDE is `ours`,
+//! `rust`, `load_ours`, `load_rust`, `sorted_ours` or `sorted_rust`.
 //! In each turn all sides take the same input one after the other, and each side's best turn counts.
 //! Memory that a call gives back stays with the process, for both sides alike (`keep_memory`); what a first call costs, whose memory is all
 //! new, is taken in processes of its own.
-//! A turn of more than a few seconds is the only one. On points along few lines the Rust's time grows with the square of their number: from
-//! some size on (`rust_largest`) ours is taken alone, and the Rust's cells are empty.
+//! A turn of more than a few seconds is the only one. On points along few lines the Rust's time grows with the square of their number,
+//! and nearly so where a run skips points: from some size on (`rust_largest`, `rust_run_largest`) ours is taken alone, and the Rust's cells
+//! are empty.
 //! Before it is timed each input is compared: our finished mesh is what our finish makes of the mesh after the Rust's last insertion, link
 //! by link (triangle by triangle where points were skipped and a convexity pass after the first adds faces: those come after the Rust's
 //! insertions, before ours), and both skip as many points. CGAL has as many vertices. Our points have heights, the Rust's and CGAL's have none.
@@ -26,17 +28,20 @@ use inputs::{bare, make, unsorted, Input, ALONG, OTHERS, SORTED};
 use oracle::driver::Sweep;
 use oracle::mesh;
 
-/// The sizes of a kind. Where points are skipped, searches grow faster than their number.
 fn sizes(kind: &str) -> &'static [usize] {
     match kind {
         _ if is_along_lines(kind) => &[1_000, 10_000, 50_000, 100_000, 200_000, 1_000_000],
-        _ if SORTED.contains(&kind) || kind == "spiral" => &[1_000, 10_000, 100_000, 1_000_000],
-        _ => &[1_000, 10_000, 100_000],
+        _ => &[1_000, 10_000, 100_000, 1_000_000],
     }
 }
 
 fn is_along_lines(kind: &str) -> bool {
     SORTED[3..].contains(&kind)
+}
+
+/// Whether points of a kind are skipped, in a run.
+fn is_skipped(kind: &str) -> bool {
+    OTHERS[1..].contains(&kind)
 }
 
 /// The most points that the Rust takes in a few seconds.
@@ -45,6 +50,15 @@ fn rust_largest(kind: &str) -> usize {
         ALONG => 100_000,
         _ if is_along_lines(kind) => 50_000,
         _ => 1_000_000,
+    }
+}
+
+/// The same of a run, in which it searches for each skipped point from vertex 0.
+fn rust_run_largest(kind: &str) -> usize {
+    if is_skipped(kind) {
+        100_000
+    } else {
+        rust_largest(kind)
     }
 }
 
@@ -273,20 +287,20 @@ struct Row {
     ours: f64,
     /// The Rust's run, its pass and its insertions, with the parts of ours; none where it would take too long.
     rust: Option<([f64; 3], Parts)>,
-    /// CGAL's time and memory, and the time that our sorting takes.
+    /// CGAL's time and memory, and the time that our sorting takes, 0 where ours takes the points as they are.
     cgal: Option<[f64; 3]>,
 }
 
 /// Whether CGAL takes so many points of a kind.
 fn is_beside_cgal(kind: &str, count: usize) -> bool {
-    is_along_lines(kind) || SORTED.contains(&kind) && count >= 100_000
+    is_along_lines(kind) || (SORTED.contains(&kind) || is_skipped(kind)) && count >= 100_000
 }
 
 fn measure(kind: &'static str, count: usize, turns: usize, beside: Option<&Path>) -> Row {
     let input = make(kind, count);
     let (told, parts) = {
         let (mesh, run) = ours(&input);
-        let is_compared = count <= rust_largest(kind);
+        let is_compared = count <= rust_run_largest(kind);
         (told(&mesh, &run), is_compared.then(|| compared(&input, turns, &mesh, &run)))
     };
     let times = (100_000 / count).max(1);
@@ -295,7 +309,8 @@ fn measure(kind: &'static str, count: usize, turns: usize, beside: Option<&Path>
     if beside.is_some() {
         write_points(file, &[&input.flat_corners[..], &input.flat].concat());
     }
-    let all = if beside.is_some() { unsorted(kind, count) } else { Vec::new() };
+    let is_sorted = beside.is_some() && SORTED.contains(&kind);
+    let all = if is_sorted { unsorted(kind, count) } else { Vec::new() };
     let [mut a, mut b, mut p, mut i, mut c, mut m, mut o] = [const { Vec::new() }; 7];
     for _ in 0..turns {
         let start = now();
@@ -309,7 +324,7 @@ fn measure(kind: &'static str, count: usize, turns: usize, beside: Option<&Path>
         if let Some([time, memory]) = beside.and_then(|program| cgal(program, file, told.vertices)) {
             c.push(time);
             m.push(memory);
-            o.push(seconds(|| by_distance(&all)).0);
+            o.push(if is_sorted { seconds(|| by_distance(&all)).0 } else { 0.0 });
         }
         if now() - start > LONG {
             break;
@@ -322,7 +337,8 @@ fn measure(kind: &'static str, count: usize, turns: usize, beside: Option<&Path>
 
 fn main() {
     let words: Vec<String> = std::env::args().skip(1).collect();
-    if let [mode, side, kind, count] = &words[..] {
+    let modes = ["once", "memory", "first"];
+    if let Some([mode, side, kind, count]) = words.first_chunk().filter(|w| modes.contains(&w[0].as_str())) {
         let (took, run) = only(side, kind, count.parse().expect("a number of points"));
         match (mode.as_str(), run) {
             ("memory", _) => println!("{}", status("VmHWM:")),
@@ -337,13 +353,15 @@ fn main() {
     let rest = &words[usize::from(kinds.is_some())..];
     let number = |i: usize, other: usize| rest.get(i).and_then(|w| w.parse().ok()).unwrap_or(other);
     let (turns, largest) = (number(0, 5), number(1, 100_000));
+    let named = rest.get(2..).unwrap_or_default();
+    let is_named = |kind: &str| named.is_empty() || named.iter().any(|n| n == kind);
     let program = Path::new("target/bench_cgal");
     let beside = program.exists().then_some(program);
     if kinds.is_none_or(|w| w == "runs") {
-        tables(turns, largest, beside);
+        tables(turns, largest, &is_named, beside);
     }
     if kinds.is_none_or(|w| w == "loads") {
-        loads::tables(turns, largest, beside);
+        loads::tables(turns, largest, &is_named, beside);
     }
 }
 
@@ -368,11 +386,11 @@ fn only(side: &str, kind: &str, count: usize) -> (f64, Option<Run>) {
     seconds(|| once(side, &input))
 }
 
-fn tables(turns: usize, largest: usize, beside: Option<&Path>) {
+fn tables(turns: usize, largest: usize, is_named: &dyn Fn(&str) -> bool, beside: Option<&Path>) {
     let kinds = SORTED.iter().chain(&OTHERS);
     let cases = kinds.flat_map(|&kind| sizes(kind).iter().map(move |&count| (kind, count)));
     let rows: Vec<Row> = cases
-        .filter(|&(_, count)| count <= largest)
+        .filter(|&(kind, count)| count <= largest && is_named(kind))
         .map(|(kind, count)| {
             eprintln!("{kind} {count}");
             measure(kind, count, turns, beside)

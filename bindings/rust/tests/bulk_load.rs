@@ -393,10 +393,13 @@ fn of_hardly_any_width() {
     }
 }
 
+/// So many that what a block of insertions needs is read before the first of them (65,536 vertices), every sixteenth point twice.
 #[test]
 fn many_points() {
     let random = &mut Random(0x9e37_79b9_7f4a_7c15);
-    let points = drawn(random, 3, 20_000);
+    let mut points = drawn(random, 3, 90_000);
+    let again: Vec<Point> = points.iter().copied().step_by(16).collect();
+    points.extend(again);
     let loaded = Mesh::bulk_load(&points).expect("accepted");
     let mesh = loaded.shape.into_mesh().expect("a mesh");
     finished(&points, &mesh, &loaded.run);

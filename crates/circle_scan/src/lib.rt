@@ -1,7 +1,7 @@
 // Edges that keep the circle rule, a block of them at a time: for the closing pass, most of whose edges do. An edge's far vertices stand
 // with other edges, anywhere in the row of half-edges, and in a large mesh each of them waits for memory. So those of a block are read
-// first: these reads do not wait for each other, as they do where a circle test comes between them. What is answered is `Unbroken` of
-// specs/Scan.antt.
+// first: these reads do not wait for each other, as they do where a circle test comes between them. In a large mesh so are the positions of
+// the block's vertices. What is answered is `Unbroken` of specs/Scan.antt.
 ghost use mathlib.Core.List.{List};
 ghost use mathlib.Core.Path.{_≡_};
 ghost use Prim.Native.Nat.{ℕ, _+_, _*_, _≤_};
@@ -17,6 +17,9 @@ const BLOCK: u32 = 64;
 // Their far vertices, one for each half-edge.
 const FARS: usize = 128;
 
+// From so many edges on a mesh is large: its positions are past what a processor's second cache holds.
+const LARGE: u32 = 196608;
+
 // The origin of prev for n half-edges from e on.
 fn read_fars(halves: &[u32], fars: &mut [u32], e: u32, n: u32)
     requires { ⌜ FarsReady (now halves) e n × (n ≤ length (now fars)) ⌝ }
@@ -28,6 +31,40 @@ fn read_fars(halves: &[u32], fars: &mut [u32], e: u32, n: u32)
         fars[k as usize] = dcel::origin(halves, p);
         k += 1;
     }
+}
+
+// The first coordinate of vertex v; 0 past the row's end.
+fn coordinate(positions: &[i32], v: u32) -> i32 {
+    let i = 2 * (v as usize);
+    if positions.len() <= i {
+        return 0;
+    }
+    positions[i]
+}
+
+// The positions of n far vertices, and of the origins of as many half-edges from e on, are read: nothing is said of them.
+fn read_positions(positions: &[i32], halves: &[u32], fars: &[u32], e: u32, n: u32) -> i32
+    requires { ⌜ FarsReady (now halves) e n × (n ≤ length (now fars)) ⌝ }
+{
+    let mut seen: i32 = 0;
+    let mut k: u32 = 0;
+    while k < n {
+        seen = seen ^ coordinate(positions, fars[k as usize]);
+        seen = seen ^ coordinate(positions, dcel::origin(halves, e + k));
+        k += 1;
+    }
+    seen
+}
+
+// The same in a large mesh. The answer is always true, since coordinates in range do not come to that number.
+// A compiler does not know this, and so leaves nothing unread; nothing depends on it.
+fn are_read(positions: &[i32], halves: &[u32], fars: &[u32], e: u32, n: u32, edges: u32) -> bool
+    requires { ⌜ FarsReady (now halves) e n × (n ≤ length (now fars)) ⌝ }
+{
+    if edges < LARGE {
+        return true;
+    }
+    read_positions(positions, halves, fars, e, n) != -2147483648
 }
 
 // `should_flip` of edge u, for whose halves the origins of prev are c and d.
@@ -88,5 +125,8 @@ pub fn unbroken(positions: &[i32], halves: &[u32], u: u32, edges: u32) -> u32
     let end = block_end(u, edges);
     let mut fars = [0u32; FARS];
     read_fars(halves, &mut fars, 2 * u, 2 * (end - u));
+    if !are_read(positions, halves, &fars, 2 * u, 2 * (end - u), edges) {
+        return u;
+    }
     unbroken_in_block(positions, halves, &fars, u, end)
 }

@@ -12,6 +12,7 @@ use Rattle.dcel.specs.Rows.{linksOf, positionOf, rowOf}
 use Rattle.insert.specs.InsertRows.{NearPointReady}
 use Rattle.math.specs.declared.Point.{Point}
 use Rattle.mesh.specs.declared.Counts.{Counts}
+use Rattle.mesh.specs.BoundaryLaws.{first<}
 use Rattle.mesh.specs.CountsLaws.{vertices-least}
 use Rattle.nearby.specs.Test.{isWalkable}
 use Rattle.nearby.specs.TestLaws.{tested-walkable}
@@ -26,10 +27,10 @@ use Rattle.complete.specs.PointLaws.{point-ready}
 -- ---- one point
 module _ {C : Counts} {q : List ℤ} {o h a row w : List ℕ} {points : List ℤ} {i : ℕ} {known : Bool}
     (N : PointNear C q o h a row w points i known) {b : Bool} (e : b ≡ skippedIn (rowOf w) i) (t : b ≡ true) where
-  pub point-vertices : 0 < C .vertices
-  point-vertices = let k = vertices-least (N .rows .ready (from-true (sym e ∙ t)) .rows .good .wf) in omega arith
+  pub point-edges : 0 < C .edges
+  point-edges = let k = first< (N .rows .ready (from-true (sym e ∙ t)) .rows .good .wf) in omega arith
 
-  pub point-near : {v : Point} → v ≡ positionOf points i → {u : ℕ} → u < C .vertices → NearPointReady C q o h a row v known u
+  pub point-near : {v : Point} → v ≡ positionOf points i → {u : ℕ} → u < C .edges → NearPointReady C q o h a row v known u
   point-near v-is l = record { ready = point-ready (N .rows) e t v-is; used = l; walkable = N .walkable }
 
 -- ---- what is prepared: the test says that the mesh is one to walk on

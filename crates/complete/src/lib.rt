@@ -1,7 +1,8 @@
 // The finish of a run: convexity passes, the points that its steps skipped in list order, and the closing pass, on lent rows. What it leaves
 // is `completeAfter` of the crate `sweep`, specs/Run.antt, whose second convexity stage changes nothing (`second-idle` of `skipped`), so
-// there is none here. Where the mesh is one to walk on, each point is searched for from a vertex near by, which a grid in a lent row answers;
-// that changes no answer (`insert_near`), and no contract says what the row then holds.
+// there is none here. Where the mesh is one to walk on, each point is searched for from an edge near by, which a grid in a lent row answers;
+// that changes no answer (`insert_near`), and no contract says what the row then holds. In a large mesh what a block of points needs is read
+// before the first of them goes in (`prefetch`).
 ghost use mathlib.Core.Path.{_≡_};
 ghost use Prim.Native.Nat.{_+_, _*_, _<_, _≤_};
 ghost use lib.Dec.{T};
@@ -19,6 +20,9 @@ use finish::Totals;
 use grid::Grid;
 use location::PositionInTriangulation;
 use mesh::Counts;
+
+// From so many vertices on a mesh is large: past what a processor's second cache holds.
+const LARGE: u32 = 65536;
 
 // Where the skipped points have come to: the mesh's counts, how many points have been looked at, and whether a flip's pushes would have
 // overfilled the pending list.
@@ -109,9 +113,10 @@ fn coarser(stride: u32) -> u32
 }
 
 // The grid over the mesh and the points. A sweep numbers its vertices from the centre out; so few from all over go in first, then more, and
-// no cell is left with a vertex from far away.
+// no cell is left with an edge from far away.
 fn vertices_grid(
     positions: &[i32],
+    outs: &[u32],
     grid: &mut [u32],
     vertices: u32,
     points: &[i32],
@@ -127,9 +132,9 @@ fn vertices_grid(
     let empty = grid::over(grid, all);
     let step = stride(vertices, skipped);
     let middle = coarser(step);
-    let few = grid::put_vertices(grid, empty, positions, vertices, coarser(middle));
-    let more = grid::put_vertices(grid, few, positions, vertices, middle);
-    grid::put_vertices(grid, more, positions, vertices, step)
+    let few = grid::put_vertices(grid, empty, positions, outs, vertices, coarser(middle));
+    let more = grid::put_vertices(grid, few, positions, outs, vertices, middle);
+    grid::put_vertices(grid, more, positions, outs, vertices, step)
 }
 
 // What the search from near by needs, where any point was skipped.
@@ -163,23 +168,38 @@ fn prepare(
     }
     Nearby {
         known: true,
-        grid: vertices_grid(positions, grid, counts.vertices, points, count, skipped),
+        grid: vertices_grid(
+            positions,
+            outs,
+            grid,
+            counts.vertices,
+            points,
+            count,
+            skipped,
+        ),
     }
 }
 
-// The vertex of point i, where it became one, goes into the grid.
-fn place(grid: &mut [u32], near: Nearby, points: &[i32], i: u32, before: u32, after: u32) -> Nearby
+// Point i, where it became a vertex, has an edge put into the grid: the first new one.
+fn place(
+    grid: &mut [u32],
+    near: Nearby,
+    points: &[i32],
+    i: u32,
+    before: Counts,
+    after: Counts,
+) -> Nearby
     requires { ⌜ 2 * i + 1 < length (now points) ⌝ }
     ensures { λ r. ⌜ r .known ≡ near .known ⌝ }
 {
-    if after <= before {
+    if after.vertices <= before.vertices {
         return near;
     }
     let point = dcel::position(points, i);
     let g = near.grid;
     Nearby {
         known: near.known,
-        grid: grid::put(grid, g, point, before),
+        grid: grid::put(grid, g, point, before.edges),
     }
 }
 
@@ -212,7 +232,7 @@ fn fill_point(
     }
     let point = dcel::position(points, i);
     let g = near.grid;
-    let v = grid::near(grid, g, counts.vertices, point);
+    let u = grid::near(grid, g, counts.edges, point);
     let done = insert::insert_near(
         positions,
         outs,
@@ -222,7 +242,7 @@ fn fill_point(
         counts,
         point,
         near.known,
-        v,
+        u,
     );
     let added = done.added;
     let after = added.counts;
@@ -242,6 +262,66 @@ fn fill_point(
         answered: i + 1,
         full: false,
     }
+}
+
+// How many points the block has that starts with point i.
+fn block_size(i: u32, count: u32) -> u32
+    requires { ⌜ i ≤ count ⌝ }
+    ensures { λ r. ⌜ (r ≤ 32) × (i + r ≤ count) ⌝ }
+{
+    if count - i < 32 {
+        return count - i;
+    }
+    32
+}
+
+// The points that were skipped among those of the block that starts with point i and has so many, by their numbers.
+fn list_skipped(answers: &[u64], i: u32, size: u32, list: &mut [u32]) -> usize
+    requires { ⌜ (answerWords * (i + size) ≤ length (now answers)) × (size ≤ 32) × (i + size < 4294967296)
+        × (32 ≤ length (now list)) ⌝ }
+    ensures { λ r. ⌜ r ≤ 32 ⌝ }
+{
+    let mut n: usize = 0;
+    let mut k: u32 = 0;
+    while k < size {
+        list[n] = i + k;
+        let skipped = answers::is_skipped(answers, i + k);
+        n += bit(skipped) as usize;
+        k += 1;
+    }
+    n
+}
+
+// Where point i is the first of a block, what the block's insertions will need is read. In a small mesh nothing waits for memory.
+fn prefetch_block(
+    positions: &[i32],
+    outs: &[u32],
+    halves: &[u32],
+    faces: &[u32],
+    answers: &[u64],
+    grid: &mut [u32],
+    counts: Counts,
+    points: &[i32],
+    i: u32,
+    count: u32,
+    near: Nearby,
+)
+    requires { ⌜ (answerWords * count ≤ length (now answers)) × (i ≤ count) ⌝ }
+{
+    if counts.vertices < LARGE {
+        return;
+    }
+    if !near.known {
+        return;
+    }
+    if i % 32 != 0 {
+        return;
+    }
+    let mut list = [0u32; prefetch::BLOCK];
+    let size = block_size(i, count);
+    let n = list_skipped(answers, i, size, &mut list);
+    let g = near.grid;
+    prefetch::prefetch(positions, outs, halves, faces, grid, g, points, &list, n);
 }
 
 // All skipped points, in list order, until a flip is refused.
@@ -268,6 +348,19 @@ fn fill(
     let mut all = near;
     let mut i: u32 = 0;
     while i < count {
+        prefetch_block(
+            positions,
+            outs,
+            halves,
+            faces,
+            answers,
+            grid,
+            now,
+            points,
+            i,
+            count,
+            all,
+        );
         let done = fill_point(
             positions,
             outs,
@@ -289,7 +382,7 @@ fn fill(
                 full: true,
             };
         }
-        all = place(grid, all, points, i, now.vertices, after.vertices);
+        all = place(grid, all, points, i, now, after);
         now = after;
         i += 1;
     }

@@ -1,12 +1,13 @@
-// A grid over a range of positions: for each cell a vertex that was put there. It is asked for a vertex that is likely
+// A grid over a range of positions: for each cell an edge that was put there. It is asked for an edge that is likely
 // close to a point, from which a search may start; nothing depends on what it holds, so no contract says that.
-// The row has any contents and length: what is not in it is not stored, and a number past the vertices in use is not answered.
+// An edge that was put in for a vertex may be flipped since: it stays near, since a flip moves an edge within its two triangles.
+// The row has any contents and length: what is not in it is not stored, and a number past the edges in use is not answered.
 ghost use Prim.Native.Nat.{_*_, _<_, _≤_};
 ghost use lib.ListN.{length};
 use math::Point;
 
 // 2^levels columns and rows of cells. A column is 2^shift_x wide, from x on, and a row 2^shift_y high, from y on; so many
-// vertices have been put in.
+// vertices have had an edge put in.
 pub struct Grid {
     pub levels: u32,
     pub shift_x: u32,
@@ -90,20 +91,20 @@ fn digits(n: u64) -> u32 {
     k
 }
 
-// What the row holds at `at`; 0 past its end.
-fn read(grid: &[u32], at: usize) -> u32 {
-    if grid.len() <= at {
+// What a row holds at `at`; 0 past its end.
+pub fn read(row: &[u32], at: usize) -> u32 {
+    if row.len() <= at {
         return 0;
     }
-    grid[at]
+    row[at]
 }
 
 // Nothing past its end.
-fn write(grid: &mut [u32], at: usize, v: u32) {
-    if grid.len() <= at {
+pub fn write(row: &mut [u32], at: usize, v: u32) {
+    if row.len() <= at {
         return;
     }
-    grid[at] = v;
+    row[at] = v;
 }
 
 // No grid: one cell, and nothing is said of what it holds.
@@ -118,7 +119,7 @@ pub fn none() -> Grid {
     }
 }
 
-// One cell over the range, and in it vertex 0.
+// One cell over the range, and in it edge 0.
 pub fn over(grid: &mut [u32], range: Range) -> Grid {
     write(grid, 0, 0);
     let least = range.least;
@@ -145,14 +146,24 @@ fn cell(g: Grid, p: Point) -> usize {
     index(g.levels, column, row)
 }
 
-// A vertex in use that is likely close to the point.
-pub fn near(grid: &[u32], g: Grid, vertices: u32, p: Point) -> u32
-    requires { ⌜ 0 < vertices ⌝ }
-    ensures { λ r. ⌜ r < vertices ⌝ }
+// What the cell of a position holds.
+pub fn at(grid: &[u32], g: Grid, p: Point) -> u32 {
+    read(grid, cell(g, p))
+}
+
+// The cell of a position takes an edge.
+pub fn set(grid: &mut [u32], g: Grid, p: Point, u: u32) {
+    write(grid, cell(g, p), u);
+}
+
+// Of so many edges in use one that is likely close to the point.
+pub fn near(grid: &[u32], g: Grid, edges: u32, p: Point) -> u32
+    requires { ⌜ 0 < edges ⌝ }
+    ensures { λ r. ⌜ r < edges ⌝ }
 {
-    let v = read(grid, cell(g, p));
-    if v < vertices {
-        return v;
+    let u = at(grid, g, p);
+    if u < edges {
+        return u;
     }
     0
 }
@@ -224,9 +235,9 @@ fn one_more(n: u32) -> u32 {
     n
 }
 
-// Vertex v, at p, is put into its cell, and the grid is refined where that is due.
-pub fn put(grid: &mut [u32], g: Grid, p: Point, v: u32) -> Grid {
-    write(grid, cell(g, p), v);
+// An edge of the vertex at p is put into its cell, and the grid is refined where that is due.
+pub fn put(grid: &mut [u32], g: Grid, p: Point, u: u32) -> Grid {
+    set(grid, g, p, u);
     let more = Grid {
         levels: g.levels,
         shift_x: g.shift_x,
@@ -238,11 +249,12 @@ pub fn put(grid: &mut [u32], g: Grid, p: Point, v: u32) -> Grid {
     refined(grid, more)
 }
 
-// Vertices of a mesh are put in, one of so many.
+// The out edges of a mesh's vertices are put in, one of so many.
 pub fn put_vertices(
     grid: &mut [u32],
     g: Grid,
     positions: &[i32],
+    outs: &[u32],
     vertices: u32,
     stride: u32,
 ) -> Grid
@@ -252,7 +264,7 @@ pub fn put_vertices(
     let mut v: u32 = 0;
     while v < vertices {
         let p = dcel::position(positions, v);
-        all = put(grid, all, p, v);
+        all = put(grid, all, p, read(outs, v as usize) / 2);
         if vertices - v <= stride {
             return all;
         }

@@ -39,7 +39,7 @@ module _ {C : Counts} {q : List ℤ} {o h a row : List ℕ} {v : Point} (R : Poi
     unfolding insertPoint
     point-inserted q′ o′ h′ a′ X = rw (X .mesh, X .places, e) refl
 
--- from a vertex near by
-pub point-near : {C : Counts} {q : List ℤ} {o h a row : List ℕ} {v : Point} {known : Bool} {w : ℕ} → NearPointReady C q o h a row v known w
-    → NearReady C q o h a v known w
+-- from an edge near by
+pub point-near : {C : Counts} {q : List ℤ} {o h a row : List ℕ} {v : Point} {known : Bool} {u : ℕ} → NearPointReady C q o h a row v known u
+    → NearReady C q o h a v known u
 point-near R = record { start = record { ready = point-located (R .ready); used = R .used }; walkable = R .walkable }

@@ -105,10 +105,10 @@ pub record PointReady (C : Counts) (q : List ℤ) (o h a row : List ℕ) (v : Po
   pub positions : 2 * (C .vertices + 1) ≤ length q
   pub sized : MeshRoom (C .vertices + 1) h a row
 
--- and v is a vertex in use; where that is known, the mesh is one to walk on
-pub record NearPointReady (C : Counts) (q : List ℤ) (o h a row : List ℕ) (point : Point) (known : Bool) (v : ℕ) : Type 0 where
+-- and u is an edge in use; where that is known, the mesh is one to walk on
+pub record NearPointReady (C : Counts) (q : List ℤ) (o h a row : List ℕ) (point : Point) (known : Bool) (u : ℕ) : Type 0 where
   pub ready : PointReady C q o h a row point
-  pub used : v < C .vertices
+  pub used : u < C .edges
   pub walkable : T known → Walkable C (linksOf o h a) (positionOf q)
 
 -- what has become of it

@@ -301,7 +301,7 @@ pub fn insert_point(
     }
 }
 
-// The same, searched for from vertex v where the mesh is known to be one to walk on.
+// The same, searched for from edge u where the mesh is known to be one to walk on.
 pub fn insert_near(
     positions: &mut [i32],
     outs: &mut [u32],
@@ -311,9 +311,9 @@ pub fn insert_near(
     counts: Counts,
     point: Point,
     known: bool,
-    v: u32,
+    u: u32,
 ) -> Inserted
-    requires { ⌜ NearPointReady counts (now positions) (now outs) (now halves) (now faces) (now pending) point known v ⌝ }
+    requires { ⌜ NearPointReady counts (now positions) (now outs) (now halves) (now faces) (now pending) point known u ⌝ }
     ensures { λ r. ⌜ insertingOf (now (positions .exit)) (now (outs .exit)) (now (halves .exit)) (now (faces .exit)) r
         ≡ insertPoint (length (now (pending .entry))) counts
         (linksOf (now (outs .entry)) (now (halves .entry)) (now (faces .entry))) (positionOf (now (positions .entry))) point ⌝ }
@@ -326,7 +326,7 @@ pub fn insert_near(
         counts,
         point,
         known,
-        v,
+        u,
     );
     let added = insert_at(
         positions,

@@ -12,8 +12,8 @@ use lib.ListN.{length}
 use lib.Signed.{ltZ, _<ℤ_, ltZ-yes}
 use Rattle.algebra.specs.Test.{le-not-lt}
 use Rattle.dcel.specs.declared.handles.HalfEdgeEntry.{HalfEdgeEntry}
-use Rattle.dcel.specs.Rows.{halvesOf, linksOf, positionOf, rowOf, There, EntryOf}
-use Rattle.dcel.specs.MeshHeld.{there, there-rev, there-out, next-in, prev-in, origin-in, to-in, out-in}
+use Rattle.dcel.specs.Rows.{halvesOf, linksOf, positionOf, There, EntryOf}
+use Rattle.dcel.specs.MeshHeld.{there, there-rev, next-in, prev-in, origin-in, to-in}
 use Rattle.location.specs.declared.PositionInTriangulation.{PositionInTriangulation}
 use Rattle.location.specs.declared.PositionInTriangulation.the-variants.{OnFace}
 use Rattle.location.specs.Place.{areaAt, LeftOf, InFace}
@@ -33,64 +33,64 @@ use Rattle.search_near.specs.declared.Facing.{Facing}
 use Rattle.search_near.specs.NearRows.{StartReady, FacingReady, NearReady, isPositive}
 
 -- ---- the start
-module _ {C : Counts} {q : List ℤ} {o h a : List ℕ} {point : Point} {v : ℕ} (S : StartReady C q o h a point v) where
-  pub start-there : v < length o
-  start-there = there-out (ready-held (S .ready)) (S .used)
-
-  pub start-placed : 2 * v + 1 < length q
-  start-placed = ready-placed (S .ready) (S .used) .there
-
-  module _ {e : ℕ} (x : e ≡ rowOf o v) where
+module _ {C : Counts} {q : List ℤ} {o h a : List ℕ} {point : Point} {u : ℕ} (S : StartReady C q o h a point u) where
+  module _ {e : ℕ} (x : e ≡ 2 * u) where
     start-in : In C e
-    start-in = rw x (out-in (ready-held (S .ready)) (S .used))
+    start-in = let k = S .used in omega arith
 
-    start-origin : halvesOf h .origin e ≡ v
-    unfolding linksOf
-    start-origin = ap (halvesOf h .origin) x ∙ S .ready .rows .good .wf .about .based (S .used)
+    pub start-there : There h e
+    start-there = there (ready-held (S .ready)) start-in
 
     pub start-back : There h (rev e)
     start-back = there-rev (ready-held (S .ready)) start-in
 
-    module _ {w : ℕ} (y : w ≡ halvesOf h .origin (rev e)) where
-      end-used : w < C .vertices
-      end-used = rw y (to-in (ready-held (S .ready)) start-in)
+    module _ {v : ℕ} (z : v ≡ halvesOf h .origin e) where
+      first-used : v < C .vertices
+      first-used = rw z (origin-in (ready-held (S .ready)) start-in)
 
-      pub end-placed : 2 * w + 1 < length q
-      end-placed = ready-placed (S .ready) end-used .there
+      pub start-placed : 2 * v + 1 < length q
+      start-placed = ready-placed (S .ready) first-used .there
 
-      module _ {from to : Point} (f : from ≡ positionOf q v) (t : to ≡ positionOf q w) where
-        pub ends-range : InRange from × InRange to × InRange point
-        ends-range = (rw f (ready-placed (S .ready) (S .used) .range), rw t (ready-placed (S .ready) end-used .range), S .ready .range)
+      module _ {w : ℕ} (y : w ≡ halvesOf h .origin (rev e)) where
+        end-used : w < C .vertices
+        end-used = rw y (to-in (ready-held (S .ready)) start-in)
 
-        from-is : from ≡ positionOf q (halvesOf h .origin e)
-        from-is = f ∙ ap (positionOf q) (sym start-origin)
+        pub end-placed : 2 * w + 1 < length q
+        end-placed = ready-placed (S .ready) end-used .there
 
-        to-is : to ≡ positionOf q (halvesOf h .origin (rev e))
-        to-is = t ∙ ap (positionOf q) y
+        module _ {from to : Point} (f : from ≡ positionOf q v) (t : to ≡ positionOf q w) where
+          pub ends-range : InRange from × InRange to × InRange point
+          ends-range = (rw f (ready-placed (S .ready) first-used .range), rw t (ready-placed (S .ready) end-used .range), S .ready .range)
 
-        module _ {area : ℤ} (z : area ≡ orient2d from to point) where
-          area-is : area ≡ areaAt (linksOf o h a) (positionOf q) point e
-          unfolding linksOf
-          area-is = z ∙ ap₂ (λ (u v : Point). orient2d u v point) from-is to-is
+          from-is : from ≡ positionOf q (halvesOf h .origin e)
+          from-is = f ∙ ap (positionOf q) z
 
-          pub faces-back : ltZ area (pos 0) ≡ true → {t : ℕ} → t ≡ rev e
-              → FacingReady C q o h a point (record { e = t; from = to; to = from; left = true })
-          faces-back i k = record {
-            ready = S .ready;
-            used = rw k (rev-in C start-in);
-            from = to-is ∙ ap (λ (d : ℕ). positionOf q (halvesOf h .origin d)) (sym k);
-            to = from-is ∙ ap (λ (d : ℕ). positionOf q (halvesOf h .origin d)) (sym (ap rev k ∙ rev-rev e));
-            strict = λ s. rw k (left-rev (linksOf o h a) (positionOf q) point e (subst (λ (s : ℤ). s <ℤ pos 0) area-is (ltZ-yes (from-true i))));
-          }
+          to-is : to ≡ positionOf q (halvesOf h .origin (rev e))
+          to-is = t ∙ ap (positionOf q) y
 
-          pub faces-on : {b : Bool} → b ≡ ltZ (pos 0) area → FacingReady C q o h a point (record { e = e; from = from; to = to; left = b })
-          faces-on k = record {
-            ready = S .ready;
-            used = start-in;
-            from = from-is;
-            to = to-is;
-            strict = λ s. subst (λ (s : ℤ). pos 0 <ℤ s) area-is (ltZ-yes (subst T k s));
-          }
+          module _ {area : ℤ} (d : area ≡ orient2d from to point) where
+            area-is : area ≡ areaAt (linksOf o h a) (positionOf q) point e
+            unfolding linksOf
+            area-is = d ∙ ap₂ (λ (u v : Point). orient2d u v point) from-is to-is
+
+            pub faces-back : ltZ area (pos 0) ≡ true → {t : ℕ} → t ≡ rev e
+                → FacingReady C q o h a point (record { e = t; from = to; to = from; left = true })
+            faces-back i k = record {
+              ready = S .ready;
+              used = rw k (rev-in C start-in);
+              from = to-is ∙ ap (λ (d : ℕ). positionOf q (halvesOf h .origin d)) (sym k);
+              to = from-is ∙ ap (λ (d : ℕ). positionOf q (halvesOf h .origin d)) (sym (ap rev k ∙ rev-rev e));
+              strict = λ s. rw k (left-rev (linksOf o h a) (positionOf q) point e (subst (λ (s : ℤ). s <ℤ pos 0) area-is (ltZ-yes (from-true i))));
+            }
+
+            pub faces-on : {b : Bool} → b ≡ ltZ (pos 0) area → FacingReady C q o h a point (record { e = e; from = from; to = to; left = b })
+            faces-on k = record {
+              ready = S .ready;
+              used = start-in;
+              from = from-is;
+              to = to-is;
+              strict = λ s. subst (λ (s : ℤ). pos 0 <ℤ s) area-is (ltZ-yes (subst T k s));
+            }
 
 -- ---- one turn
 module _ {C : Counts} {q : List ℤ} {o h a : List ℕ} {point : Point} {at : Facing} (F : FacingReady C q o h a point at) where

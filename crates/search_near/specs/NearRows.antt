@@ -23,10 +23,10 @@ use Rattle.search_near.specs.declared.Turned.{Turned}
 use Rattle.search_near.specs.declared.Turned.the-variants.{Inside, Onward, Nowhere}
 
 -- ---- the walk
--- the rows hold a good mesh with a vertex v, and the point is in range
-pub record StartReady (C : Counts) (q : List ℤ) (o h a : List ℕ) (point : Point) (v : ℕ) : Type 0 where
+-- the rows hold a good mesh with an edge u, and the point is in range
+pub record StartReady (C : Counts) (q : List ℤ) (o h a : List ℕ) (point : Point) (u : ℕ) : Type 0 where
   pub ready : SearchReady C q o h a point
-  pub used : v < C .vertices
+  pub used : u < C .edges
 
 -- with a half-edge e, and the point is strictly left of it where `left` says so
 pub record FacingReady (C : Counts) (q : List ℤ) (o h a : List ℕ) (point : Point) (at : Facing) : Type 0 where
@@ -43,8 +43,8 @@ TurnedIs C q o h a point (Onward at) = FacingReady C q o h a point at
 TurnedIs C q o h a point Nowhere = Unit
 
 -- ---- the whole: the mesh is one to walk on where that is known
-pub record NearReady (C : Counts) (q : List ℤ) (o h a : List ℕ) (point : Point) (known : Bool) (v : ℕ) : Type 0 where
-  pub start : StartReady C q o h a point v
+pub record NearReady (C : Counts) (q : List ℤ) (o h a : List ℕ) (point : Point) (known : Bool) (u : ℕ) : Type 0 where
+  pub start : StartReady C q o h a point u
   pub walkable : T known → Walkable C (linksOf o h a) (positionOf q)
 
 -- ---- the test

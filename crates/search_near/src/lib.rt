@@ -1,4 +1,4 @@
-// Point location from a vertex near by: a walk over the triangles towards the point, whose answer is taken where it ends
+// Point location from an edge near by: a walk over the triangles towards the point, whose answer is taken where it ends
 // strictly inside one; elsewhere the search from vertex 0 decides. On a mesh to walk on the answer is `locatePoint` of crate
 // location in either case, by `locate-inside` of crate nearby. And the test of such a mesh. Nothing is written.
 // A row that a function is lent and does not read stands for the contract alone.
@@ -35,20 +35,21 @@ pub enum Turned {
     Nowhere,
 }
 
-// The out edge of vertex v, or its reverse where the point is strictly right of it.
+// The first half of edge u, or the second where the point is strictly right of the first.
 fn first_edge(
     positions: &[i32],
     outs: &[u32],
     halves: &[u32],
     faces: &[u32],
     counts: Counts,
-    v: u32,
+    u: u32,
     point: Point,
 ) -> Facing
-    requires { ⌜ StartReady counts (now positions) (now outs) (now halves) (now faces) point v ⌝ }
+    requires { ⌜ StartReady counts (now positions) (now outs) (now halves) (now faces) point u ⌝ }
     ensures { λ r. ⌜ FacingReady counts (now (positions .entry)) (now (outs .entry)) (now (halves .entry)) (now (faces .entry)) point r ⌝ }
 {
-    let e = dcel::out(outs, v);
+    let e = 2 * u;
+    let v = dcel::origin(halves, e);
     let w = dcel::to(halves, e);
     let from = dcel::position(positions, v);
     let to = dcel::position(positions, w);
@@ -151,7 +152,7 @@ fn walk(
     0
 }
 
-// Where the point lies: by the walk from vertex v, where the mesh is known to be one to walk on and the walk ends strictly
+// Where the point lies: by the walk from edge u, where the mesh is known to be one to walk on and the walk ends strictly
 // inside a face.
 pub fn locate_near(
     positions: &[i32],
@@ -161,14 +162,14 @@ pub fn locate_near(
     counts: Counts,
     point: Point,
     known: bool,
-    v: u32,
+    u: u32,
 ) -> PositionInTriangulation
-    requires { ⌜ NearReady counts (now positions) (now outs) (now halves) (now faces) point known v ⌝ }
+    requires { ⌜ NearReady counts (now positions) (now outs) (now halves) (now faces) point known u ⌝ }
     ensures { λ r. ⌜ r ≡ locatePoint counts
         (linksOf (now (outs .entry)) (now (halves .entry)) (now (faces .entry))) (positionOf (now (positions .entry))) point ⌝ }
 {
     if known {
-        let start = first_edge(positions, outs, halves, faces, counts, v, point);
+        let start = first_edge(positions, outs, halves, faces, counts, u, point);
         let f = walk(positions, outs, halves, faces, counts, start, point);
         if 0 < f {
             return PositionInTriangulation::OnFace(f);

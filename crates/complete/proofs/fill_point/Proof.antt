@@ -1,7 +1,7 @@
 -- `complete::fill_point` meets its contract. Assumes nothing.
 use borrow.Author.Needs.{needs}
 use borrow.Author.Tests.{not-true, not-false}
-use Rattle.complete.specs.NearLaws.{point-vertices, point-near}
+use Rattle.complete.specs.NearLaws.{point-edges, point-near}
 use Rattle.complete.specs.PointLaws.{not-skipped, point-refused, point-in}
 use Rattle.complete.proofs.fill_point.Statement.{statement}
 use Rattle.complete.proofs.fill_point.Tie as tie
@@ -22,7 +22,7 @@ position-requires : tie.Need-position-requires
 position-requires c κs = search needs
 
 near-requires : tie.Need-near-requires
-near-requires c κs = point-vertices (c .before .before .before .before .before .before .before .before .before .before .before .pre) (c .before .before .before .is-skipped .ensures) (not-false _ (c .before .before .if1 .left))
+near-requires c κs = point-edges (c .before .before .before .before .before .before .before .before .before .before .before .pre) (c .before .before .before .is-skipped .ensures) (not-false _ (c .before .before .if1 .left))
 
 insert-near-requires : tie.Need-insert-near-requires
 insert-near-requires c κs = point-near (c .before .before .before .before .before .before .before .before .before .before .before .before .before .before .before .before .before .pre) (c .before .before .before .before .before .before .before .before .before .is-skipped .ensures) (not-false _ (c .before .before .before .before .before .before .before .before .if1 .left)) (c .before .before .before .before .before .before .before .position .ensures) (c .before .before .before .before .before .near .ensures)

@@ -32,10 +32,10 @@ put-vertices-requires : tie.Need-put-vertices-requires
 put-vertices-requires c κs = search needs
 
 put-vertices-requires-2 : tie.Need-put-vertices-requires-2
-put-vertices-requires-2 c κs = (c .before .before .before .before .before .before .before .before .before .before .before .before .before .before .before .before .before .pre .1, c .before .before .before .before .before .before .coarser .ensures)
+put-vertices-requires-2 c κs = (c .before .before .before .before .before .before .before .before .before .before .before .before .before .before .before .before .before .before .pre .1, c .before .before .before .before .before .before .coarser .ensures)
 
 put-vertices-requires-3 : tie.Need-put-vertices-requires-3
-put-vertices-requires-3 c κs = (c .before .before .before .before .before .before .before .before .before .before .before .before .before .before .before .before .before .before .before .before .before .pre .1, c .before .before .before .before .before .before .before .before .before .before .before .stride .ensures)
+put-vertices-requires-3 c κs = (c .before .before .before .before .before .before .before .before .before .before .before .before .before .before .before .before .before .before .before .before .before .before .pre .1, c .before .before .before .before .before .before .before .before .before .before .before .stride .ensures)
 
 same-length : tie.Need-same-length
 same-length c = c .before .before .put-vertices3 .kept .0 ∙ c .before .before .before .before .before .before .put-vertices2 .kept .0 ∙ c .before .before .before .before .before .before .before .before .before .before .put-vertices .kept .0 ∙ c .before .before .before .before .before .before .before .before .before .before .before .before .before .before .before .before .before .over .kept .0

@@ -8,16 +8,22 @@ use Rattle.grid.proofs.put_vertices.Statement.{statement}
 use Rattle.grid.proofs.put_vertices.Tie as tie
 
 abbrev Inv-loop : tie.InvT-loop
-Inv-loop grid₀ positions vertices stride all₀ v₀ grid all v = length grid ≡ length grid₀
+Inv-loop grid₀ positions outs vertices stride all₀ v₀ grid all v = length grid ≡ length grid₀
 
 abbrev μ-loop : tie.MeasureT-loop
-μ-loop grid₀ positions vertices stride all₀ v₀ grid all v = vertices - v
+μ-loop grid₀ positions outs vertices stride all₀ v₀ grid all v = vertices - v
 
 loop-holds : tie.Need-loop-holds Inv-loop μ-loop
 loop-holds c = search needs
 
 position-requires : tie.Need-position-requires Inv-loop μ-loop
 position-requires c κs = search needs
+
+cast-read : tie.Need-cast-read Inv-loop μ-loop
+cast-read c = search needs
+
+read-requires : tie.Need-read-requires Inv-loop μ-loop
+read-requires c κs = search needs
 
 put-requires : tie.Need-put-requires Inv-loop μ-loop
 put-requires c κs = search needs
@@ -54,6 +60,8 @@ put-vertices-spec =
     μ-loop
     loop-holds
     position-requires
+    cast-read
+    read-requires
     put-requires
     sub-if1
     same-length

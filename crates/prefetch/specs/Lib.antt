@@ -1,0 +1,1 @@
+-- Nothing is defined here: what is read ahead is promised by no contract.
