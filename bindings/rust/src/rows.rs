@@ -2,7 +2,6 @@
 
 use std::alloc::{self, Layout};
 
-use crate::halves::Halves;
 use crate::refusal::Refusal;
 use crate::sys::{self, AreaTotalResult, AskResult, BulkLoadResult, CheckResult, CommitResult, FinishResult};
 use crate::sys::{LocateResult, Node, RunResult, SideQueryResult, StepResult, VolumeResult};
@@ -25,7 +24,7 @@ pub struct Rows {
     positions: Vec<[i32; 2]>,
     heights: Vec<i32>,
     outs: Vec<u32>,
-    halves: Halves,
+    halves: Vec<[u32; 4]>,
     adjacent: Vec<u32>,
 }
 
@@ -109,7 +108,7 @@ impl Rows {
             positions,
             heights,
             outs: outs.to_vec(),
-            halves: Halves::from(halves),
+            halves: halves.to_vec(),
             adjacent: adjacent.to_vec(),
         };
         rows.grow(n + 1);
@@ -127,7 +126,7 @@ impl Rows {
         grown(&mut self.positions, vertices, |n| vec![[0; 2]; n]);
         grown(&mut self.heights, vertices, |n| vec![0; n]);
         grown(&mut self.outs, vertices, |n| vec![0; n]);
-        self.halves.grow(6 * vertices);
+        grown(&mut self.halves, 6 * vertices, |n| vec![[0; 4]; n]);
         grown(&mut self.adjacent, 2 * vertices, |n| vec![0; n]);
     }
 

@@ -1,8 +1,8 @@
 // The finish of a run: convexity passes, the points that its steps skipped in list order, and the closing pass, on lent rows. What it leaves
 // is `completeAfter` of the crate `sweep`, specs/Run.antt, whose second convexity stage changes nothing (`second-idle` of `skipped`), so
-// there is none here. Where the mesh is one to walk on, each point is searched for from an edge near by, which a grid in a lent row answers;
-// that changes no answer (`insert_near`), and no contract says what the row then holds. In a large mesh what a block of points needs is read
-// before the first of them goes in (`prefetch`).
+// there is none here. Where the mesh is one to walk on, each point is searched for from an edge near by, which a grid in a lent row
+// answers; that changes no answer (`insert_near`), and no contract says what the row then holds. In a large mesh what a block of points
+// needs is read before the first of them goes in (`prefetch`).
 ghost use mathlib.Core.Path.{_≡_};
 ghost use Prim.Native.Nat.{_+_, _*_, _<_, _≤_};
 ghost use lib.Dec.{T};

@@ -1,10 +1,10 @@
-// What a block of insertions will read and write, read before the first of them. In a mesh larger than the processor's caches an insertion waits
-// for memory over and over: for each triangle on the way to its point, and for each one whose circle has the point strictly inside,
-// since its flips change those. The points of a block have nothing to do with each other; so here all of them are walked to side by side, and
-// the triangles around each are read a ring at a time: such reads do not wait for each other. The half-edge where a walk has come to
-// goes into the point's cell of the grid, from which the point's search starts. (Group prefetching, by plain reads.)
+// What a block of insertions will read and write, read before the first of them. In a mesh larger than the processor's caches an
+// insertion waits for memory over and over: for each triangle on the way to its point, and for each one whose circle has the point
+// strictly inside, since its flips change those. The points of a block have nothing to do with each other; so here all of them are walked
+// to side by side, and the triangles around each are read a ring at a time: such reads do not wait for each other. The edge that a walk
+// has come to goes into the point's cell of the grid, from which the point's search starts. (Group prefetching, by plain reads.)
 // Nothing is believed of any row, and no contract says what is found: an index past a row's end is not read, the tests are in f64 and may
-// be out by their rounding, and a search may start from any half-edge.
+// be out by their rounding, and a search may start from any edge.
 ghost use Prim.Native.Nat.{_*_, _≤_};
 ghost use lib.ListN.{length};
 use angle::Point2;
@@ -117,7 +117,8 @@ fn find(
     edge: &mut [u32],
     slot: &mut [u32],
 )
-    requires { ⌜ (n ≤ 32) × (n ≤ length (now list)) × (2 * n ≤ length (now block)) × (n ≤ length (now edge)) × (n ≤ length (now slot)) ⌝ }
+    requires { ⌜ (n ≤ 32) × (n ≤ length (now list)) × (2 * n ≤ length (now block))
+        × (n ≤ length (now edge)) × (n ≤ length (now slot)) ⌝ }
 {
     let mut j: usize = 0;
     while j < n {
@@ -269,7 +270,8 @@ fn walk(
     start: &mut [u32],
     n: usize,
 )
-    requires { ⌜ (n ≤ 192) × (n ≤ length (now edge)) × (n ≤ length (now slot)) × (n ≤ length (now far)) × (2 * n ≤ length (now corner)) ⌝ }
+    requires { ⌜ (n ≤ 192) × (n ≤ length (now edge)) × (n ≤ length (now slot))
+        × (n ≤ length (now far)) × (2 * n ≤ length (now corner)) ⌝ }
 {
     let mut live = n;
     let mut turns: u32 = 0;
@@ -432,7 +434,8 @@ fn rings(
     corner: &mut [i32],
     n: usize,
 ) -> u32
-    requires { ⌜ (n ≤ 192) × (192 ≤ length (now edge)) × (192 ≤ length (now slot)) × (192 ≤ length (now far)) × (384 ≤ length (now corner)) ⌝ }
+    requires { ⌜ (n ≤ 192) × (192 ≤ length (now edge)) × (192 ≤ length (now slot))
+        × (192 ≤ length (now far)) × (384 ≤ length (now corner)) ⌝ }
 {
     let mut seen: u32 = 0;
     let mut left = n;
