@@ -80,6 +80,15 @@ pub record FillNear (C : Counts) (q : List ℤ) (o h a row w : List ℕ) (points
   pub fill : FillReady C q o h a row w points n
   pub walkable : T known → Walkable C (linksOf o h a) (positionOf q)
 
+-- none of the first n points was skipped
+abbrev pub NoneSkipped : List ℕ → ℕ → Type 0
+NoneSkipped w n = (i : ℕ) → i < n → skippedIn (rowOf w) i ≡ false
+
+-- and where that is known no point was skipped
+pub record FillAny (C : Counts) (q : List ℤ) (o h a row w : List ℕ) (points : List ℤ) (n : ℕ) (none known : Bool) : Type 0 where
+  pub near : FillNear C q o h a row w points n known
+  pub unskipped : T none → NoneSkipped w n
+
 -- what the preparation reads
 pub record ToPrepare (C : Counts) (q : List ℤ) (o h a w : List ℕ) (points : List ℤ) (n : ℕ) : Type 0 where
   pub rows : GoodRows C q o h a

@@ -3,6 +3,7 @@ pub mod OneStage
 pub mod AnswersLaws
 pub mod PointLaws
 pub mod FillLoop
+pub mod NoneLaws
 pub mod NearLaws
 pub mod CloseLaws
 pub mod CompleteLaws

@@ -3,6 +3,7 @@
 // there is none here. Where the mesh is one to walk on, each point is searched for from an edge near by, which a grid in a lent row
 // answers; that changes no answer (`insert_near`), and no contract says what the row then holds. In a large mesh what a block of points
 // needs is read before the first of them goes in (`prefetch`).
+ghost use mathlib.Core.Bool.{false};
 ghost use mathlib.Core.Path.{_≡_};
 ghost use Prim.Native.Nat.{_+_, _*_, _<_, _≤_};
 ghost use lib.Dec.{T};
@@ -12,7 +13,7 @@ ghost use Rattle.skipped.specs.Insert.{positionFate, positionVertex};
 ghost use Rattle.sweep.specs.Run.{answerWords};
 ghost use Rattle.walkable.specs.Walkable.{Walkable};
 ghost use Rattle.dcel.specs.Rows.{linksOf, positionOf};
-ghost use Rattle.complete.specs.CompleteRows.{fillingOf, PointNear, PointLeaves, ToPrepare, FillNear, FillLeaves};
+ghost use Rattle.complete.specs.CompleteRows.{fillingOf, PointNear, PointLeaves, ToPrepare, NoneSkipped, FillNear, FillAny, FillLeaves};
 ghost use Rattle.complete.specs.CompleteRows.{stoppedAt, closeFill, CloseReady, CompleteReady, CompleteLeaves};
 use corner::Extension;
 use finish::Ended;
@@ -32,8 +33,9 @@ pub struct FillEnd {
     pub full: bool,
 }
 
-// Whether the mesh is known to be one to walk on, and the grid of its vertices in the lent row.
+// Whether it is known that no point was skipped, and that the mesh is one to walk on; the grid of its edges in the lent row.
 pub struct Nearby {
+    pub none: bool,
     pub known: bool,
     pub grid: Grid,
 }
@@ -70,14 +72,18 @@ fn position_vertex(counts: Counts, position: PositionInTriangulation) -> u64
 
 // 1 for a test that passes.
 fn bit(t: bool) -> u32
-    ensures { λ r. ⌜ r ≤ 1 ⌝ }
+    ensures { λ r. ⌜ (r ≤ 1) × (r ≡ 0 → t ≡ false) ⌝ }
 {
-    if t { 1 } else { 0 }
+    if t {
+        return 1;
+    }
+    0
 }
 
 // How many points were skipped.
 fn count_skipped(answers: &[u64], count: u32) -> u32
     requires { ⌜ answerWords * count ≤ length (now answers) ⌝ }
+    ensures { λ r. ⌜ (r ≡ 0 → NoneSkipped (now (answers .entry)) count) ⌝ }
 {
     let mut skipped: u32 = 0;
     let mut i: u32 = 0;
@@ -150,23 +156,27 @@ fn prepare(
     count: u32,
 ) -> Nearby
     requires { ⌜ ToPrepare counts (now positions) (now outs) (now halves) (now faces) (now answers) (now points) count ⌝ }
-    ensures { λ r. ⌜ (T (r .known) → Walkable counts
+    ensures { λ r. ⌜ (T (r .none) → NoneSkipped (now (answers .entry)) count)
+        × (T (r .known) → Walkable counts
         (linksOf (now (outs .entry)) (now (halves .entry)) (now (faces .entry))) (positionOf (now (positions .entry)))) ⌝ }
 {
     let skipped = count_skipped(answers, count);
     if skipped == 0 {
         return Nearby {
+            none: true,
             known: false,
             grid: grid::none(),
         };
     }
     if !search_near::is_walkable(positions, outs, halves, faces, counts) {
         return Nearby {
+            none: false,
             known: false,
             grid: grid::none(),
         };
     }
     Nearby {
+        none: false,
         known: true,
         grid: vertices_grid(
             positions,
@@ -198,6 +208,7 @@ fn place(
     let point = dcel::position(points, i);
     let g = near.grid;
     Nearby {
+        none: near.none,
         known: near.known,
         grid: grid::put(grid, g, point, before.edges),
     }
@@ -325,7 +336,7 @@ fn prefetch_block(
 }
 
 // All skipped points, in list order, until a flip is refused.
-fn fill(
+fn fill_each(
     positions: &mut [i32],
     outs: &mut [u32],
     halves: &mut [u32],
@@ -391,6 +402,48 @@ fn fill(
         answered: i,
         full: false,
     }
+}
+
+// The same, where there are any.
+fn fill(
+    positions: &mut [i32],
+    outs: &mut [u32],
+    halves: &mut [u32],
+    faces: &mut [u32],
+    pending: &mut [u32],
+    answers: &mut [u64],
+    grid: &mut [u32],
+    counts: Counts,
+    points: &[i32],
+    count: u32,
+    near: Nearby,
+) -> FillEnd
+    requires { ⌜ FillAny counts (now positions) (now outs) (now halves) (now faces) (now pending) (now answers) (now points) count
+        (near .none) (near .known) ⌝ }
+    ensures { λ r. ⌜ FillLeaves counts (now (positions .entry)) (now (outs .entry)) (now (halves .entry)) (now (faces .entry))
+        (length (now (pending .entry))) (now (answers .entry)) (now (points .entry)) count
+        (now (positions .exit)) (now (outs .exit)) (now (halves .exit)) (now (faces .exit)) (now (answers .exit)) r ⌝ }
+{
+    if near.none {
+        return FillEnd {
+            counts: counts,
+            answered: count,
+            full: false,
+        };
+    }
+    fill_each(
+        positions,
+        outs,
+        halves,
+        faces,
+        pending,
+        answers,
+        grid,
+        counts,
+        points,
+        count,
+        near,
+    )
 }
 
 // After a refused flip: the mesh as it stands, with what the first convexity passes did.
