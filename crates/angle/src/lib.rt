@@ -6,14 +6,14 @@ ghost use Rattle.std.specs.Float.{binary64};
 ghost use Rattle.angle.specs.Angle.{absolute_of, pseudo_angle, angle_about, bounded, valid_center, at_center, Apart, IsAngle, turns, valid_angle};
 ghost use Rattle.angle.specs.Answer.{vertex_angle, CarriesAngle};
 
-#[derive(Drop)]
+#[derive(Clone, Copy)]
 pub struct Point2 {
     pub x: f64,
     pub y: f64,
 }
 
 // A vertex's angle: a vertex at the centre has none.
-#[derive(Drop)]
+#[derive(Clone, Copy)]
 pub enum VertexAngle {
     AtCenter,
     Angle(f64),

@@ -3,14 +3,14 @@
 use corner::Extension;
 
 // A loop under way: what has become of the mesh, and the current edge.
-#[derive(Drop)]
+#[derive(Clone, Copy)]
 pub struct Walked {
     pub added: Extension,
     pub edge: u32,
 }
 
 // What has become of the mesh, and the boundary edges to the new vertex and from it.
-#[derive(Drop)]
+#[derive(Clone, Copy)]
 pub struct Entered {
     pub added: Extension,
     pub leftedge: u32,

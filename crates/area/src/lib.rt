@@ -15,13 +15,13 @@ use math::Point;
 use mesh::Counts;
 use mesh_check::{Checked, Refusal};
 
-#[derive(Drop)]
+#[derive(Clone, Copy)]
 pub enum Totalled {
     Accepted(Int128),
     Refused(Refusal),
 }
 
-#[derive(Drop)]
+#[derive(Clone, Copy)]
 pub enum Sided {
     Accepted(i64),
     Refused(Refusal),

@@ -3,7 +3,7 @@
 use mesh_check::Refusal;
 use quote::Quote;
 
-#[derive(Drop)]
+#[derive(Clone, Copy)]
 pub enum Asked {
     Quoted(Quote),
     Refused(Refusal),

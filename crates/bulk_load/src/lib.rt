@@ -3,7 +3,7 @@
 use finish::FinishAnswer;
 
 // The answer of a bulk load: counts and totals as a run's, and whether the points came to no triangle: a line of points, one, or none.
-#[derive(Drop)]
+#[derive(Clone, Copy)]
 pub struct BulkLoadAnswer {
     pub finish: FinishAnswer,
     pub line: bool,

@@ -34,7 +34,7 @@ const LARGE_AT_END: u32 = 262144;
 
 // Where the skipped points have come to: the mesh's counts, how many points have been looked at, and whether a flip's pushes would have
 // overfilled the pending list.
-#[derive(Drop)]
+#[derive(Clone, Copy)]
 pub struct FillEnd {
     pub counts: Counts,
     pub answered: u32,
@@ -42,7 +42,7 @@ pub struct FillEnd {
 }
 
 // The same, and whether it is known that no edge breaks the circle rule.
-#[derive(Drop)]
+#[derive(Clone, Copy)]
 pub struct Filled {
     pub end: FillEnd,
     pub settled: bool,
@@ -50,7 +50,7 @@ pub struct Filled {
 
 // Whether it is known that no point was skipped, that the mesh is one to walk on, and that no edge breaks the circle rule; the grid of its
 // edges in the lent row.
-#[derive(Drop)]
+#[derive(Clone, Copy)]
 pub struct Nearby {
     pub none: bool,
     pub known: bool,
@@ -59,7 +59,7 @@ pub struct Nearby {
 }
 
 // What is left of a run, and what a refusal 9 names.
-#[derive(Drop)]
+#[derive(Clone, Copy)]
 pub struct Completed {
     pub ended: Ended,
     pub place: u32,

@@ -13,7 +13,7 @@ use corner::Extension;
 use mesh::Counts;
 
 // What has become of a mesh, and how many half-edges of the walk are behind the current one: `convex_edges.len()`.
-#[derive(Drop)]
+#[derive(Clone, Copy)]
 pub struct Walked {
     pub added: Extension,
     pub depth: u32,

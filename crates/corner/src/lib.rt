@@ -9,7 +9,7 @@ ghost use Rattle.corner.specs.CornerRows.{extended_of, CloseReady};
 use mesh::Counts;
 
 // What has become of a mesh: its counts, the faces added, the flips, and whether a flip's pushes would have overfilled the pending list.
-#[derive(Drop)]
+#[derive(Clone, Copy)]
 pub struct Extension {
     pub counts: Counts,
     pub faces: u32,

@@ -1,6 +1,6 @@
 // What the rows hold of a half-edge, as values. A module of its own, since `Far` and the function `far` may not stand in one.
 
-#[derive(Drop)]
+#[derive(Clone, Copy)]
 pub struct HalfEdgeEntry {
     pub next: u32,
     pub prev: u32,
@@ -9,7 +9,7 @@ pub struct HalfEdgeEntry {
 }
 
 // The vertex across the triangle from a half-edge; a half-edge of the outer face has none.
-#[derive(Drop)]
+#[derive(Clone, Copy)]
 pub enum Far {
     Vertex(u32),
     Outer,

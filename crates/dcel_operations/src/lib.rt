@@ -11,7 +11,7 @@ use dcel::handles::HalfEdgeEntry;
 use mesh::Counts;
 
 // The counts after an operation, and the half-edge of the outer face that it added.
-#[derive(Drop)]
+#[derive(Clone, Copy)]
 pub struct NewEdge {
     pub counts: Counts,
     pub edge: u32,

@@ -16,7 +16,7 @@ use walks::BoundaryVertex;
 
 // 01's fates: 1 added, with the new vertex; 2 dropped; 3 skipped, not left of the located edge; 4 skipped, no sound
 // ring; 5 skipped, at the centre.
-#[derive(Drop)]
+#[derive(Clone, Copy)]
 pub enum Fate {
     Added(u32),
     Dropped,
@@ -54,7 +54,7 @@ pub fn fate_vertex(fate: Fate) -> u64
 // A fate, and for an added point the located edge, how many edges the walks cover before and after it, and the angles
 // of the point and of the covered chain's two ends. `node` is the node of the located edge, where an insert starts to
 // look; nothing depends on it.
-#[derive(Drop)]
+#[derive(Clone, Copy)]
 pub struct Decision {
     pub fate: Fate,
     pub edge: u32,

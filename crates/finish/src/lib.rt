@@ -12,28 +12,28 @@ use mesh::Counts;
 use mesh_check::{Checked, Refusal};
 
 // The faces added by all convexity passes, their flips, and those of the closing pass.
-#[derive(Drop)]
+#[derive(Clone, Copy)]
 pub struct Totals {
     pub faces: u32,
     pub convexflips: u64,
     pub closingflips: u64,
 }
 
-#[derive(Drop)]
+#[derive(Clone, Copy)]
 pub enum Finished {
     Accepted(Totals),
     Refused(Refusal),
 }
 
 // The mesh's counts after the call, and what it has done.
-#[derive(Drop)]
+#[derive(Clone, Copy)]
 pub struct FinishAnswer {
     pub counts: Counts,
     pub finished: Finished,
 }
 
 // What was made of a mesh, and whether a flip's pushes would have overfilled the pending list.
-#[derive(Drop)]
+#[derive(Clone, Copy)]
 pub struct Ended {
     pub counts: Counts,
     pub totals: Totals,

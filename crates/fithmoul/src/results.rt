@@ -26,7 +26,7 @@ use sweep::{Answer, StepAnswer, Stepped};
 use volume::Measured;
 
 #[repr(C)]
-#[derive(Drop)]
+#[derive(Clone, Copy)]
 pub struct CheckResult {
     pub refusal: u32,
     pub place: u32,
@@ -34,7 +34,7 @@ pub struct CheckResult {
 
 // A boundary edge, and how many nodes of the ring were passed after the first on the way to it.
 #[repr(C)]
-#[derive(Drop)]
+#[derive(Clone, Copy)]
 pub struct LocateResult {
     pub refusal: u32,
     pub place: u32,
@@ -45,7 +45,7 @@ pub struct LocateResult {
 // A point's answer, word by word as in a run's answers row: 01's number of its fate, its vertex where it was added, the faces added, the
 // flips.
 #[repr(C)]
-#[derive(Drop)]
+#[derive(Clone, Copy)]
 pub struct PointAnswer {
     pub fate: u64,
     pub vertex: u64,
@@ -55,7 +55,7 @@ pub struct PointAnswer {
 
 // The mesh's counts after the call, and the point's answer.
 #[repr(C)]
-#[derive(Drop)]
+#[derive(Clone, Copy)]
 pub struct StepResult {
     pub refusal: u32,
     pub place: u32,
@@ -67,7 +67,7 @@ pub struct StepResult {
 
 // A quote: zeros where refused.
 #[repr(C)]
-#[derive(Drop)]
+#[derive(Clone, Copy)]
 pub struct AskResult {
     pub refusal: u32,
     pub place: u32,
@@ -76,7 +76,7 @@ pub struct AskResult {
 
 // A step's result, with the change count after the call.
 #[repr(C)]
-#[derive(Drop)]
+#[derive(Clone, Copy)]
 pub struct CommitResult {
     pub refusal: u32,
     pub place: u32,
@@ -89,7 +89,7 @@ pub struct CommitResult {
 
 // The mesh's counts after the call, the faces added by the convexity passes, their flips and those of the closing pass.
 #[repr(C)]
-#[derive(Drop)]
+#[derive(Clone, Copy)]
 pub struct FinishResult {
     pub refusal: u32,
     pub place: u32,
@@ -103,7 +103,7 @@ pub struct FinishResult {
 
 // A finish's result, with the change count after the call.
 #[repr(C)]
-#[derive(Drop)]
+#[derive(Clone, Copy)]
 pub struct RunResult {
     pub refusal: u32,
     pub place: u32,
@@ -118,7 +118,7 @@ pub struct RunResult {
 
 // A run's result, and whether the points came to no triangle: 1 for a line of points, one point, or none.
 #[repr(C)]
-#[derive(Drop)]
+#[derive(Clone, Copy)]
 pub struct BulkLoadResult {
     pub refusal: u32,
     pub place: u32,
@@ -134,7 +134,7 @@ pub struct BulkLoadResult {
 
 // Six times the signed volume in cubic millimetres, two's complement in a high and a low half, and the volume in cubic metres.
 #[repr(C)]
-#[derive(Drop)]
+#[derive(Clone, Copy)]
 pub struct VolumeResult {
     pub refusal: u32,
     pub place: u32,
@@ -145,7 +145,7 @@ pub struct VolumeResult {
 
 // The doubled areas of a mesh's triangles, in total, in two halves.
 #[repr(C)]
-#[derive(Drop)]
+#[derive(Clone, Copy)]
 pub struct AreaTotalResult {
     pub refusal: u32,
     pub place: u32,
@@ -155,7 +155,7 @@ pub struct AreaTotalResult {
 
 // A triangle's doubled area.
 #[repr(C)]
-#[derive(Drop)]
+#[derive(Clone, Copy)]
 pub struct SideQueryResult {
     pub refusal: u32,
     pub place: u32,

@@ -8,7 +8,7 @@ use math::Point;
 
 // 2^levels columns and rows of cells. A column is 2^shift_x wide, from x on, and a row 2^shift_y high, from y on; so many
 // vertices have had an edge put in.
-#[derive(Drop)]
+#[derive(Clone, Copy)]
 pub struct Grid {
     pub levels: u32,
     pub shift_x: u32,
@@ -19,7 +19,7 @@ pub struct Grid {
 }
 
 // The least and the greatest coordinates of some positions.
-#[derive(Drop)]
+#[derive(Clone, Copy)]
 pub struct Range {
     pub least: Point,
     pub greatest: Point,

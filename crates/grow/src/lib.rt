@@ -18,7 +18,7 @@ use math::Point;
 use mesh::Counts;
 
 // What has become of a point, its fate and its vertex, and of the mesh: the faces and flips are this insertion's.
-#[derive(Drop)]
+#[derive(Clone, Copy)]
 pub struct Grown {
     pub fate: u32,
     pub vertex: u32,

@@ -2,7 +2,7 @@
 // and the centre that it then turns about: definitions and laws, in specs/. The code is in `hull_center_rows`.
 
 // The positions of some vertices, added up.
-#[derive(Drop)]
+#[derive(Clone, Copy)]
 pub struct PositionSum {
     pub x: i64,
     pub y: i64,

@@ -18,7 +18,7 @@ use math::{Point, Vector};
 use mesh::Counts;
 
 // The corners of a triangle.
-#[derive(Drop)]
+#[derive(Clone, Copy)]
 pub struct Corners {
     pub p: Point,
     pub q: Point,

@@ -19,7 +19,7 @@ use math::Point;
 use mesh::Counts;
 
 // Where a point was put in, and what has become of the mesh: the faces and flips are this insertion's.
-#[derive(Drop)]
+#[derive(Clone, Copy)]
 pub struct Inserted {
     pub position: PositionInTriangulation,
     pub added: Extension,

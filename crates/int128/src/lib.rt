@@ -3,7 +3,7 @@ ghost use Rattle.std.specs.Prelude.{◌≡◌, ◌+◌, ◌*◌, ◌/◌, ◌^�
 ghost use Rattle.int128.specs.Int128.{int128_of, Fits128, with_sign};
 ghost use Rattle.int128.specs.CubicMetres.{cubic_metres_of};
 
-#[derive(Drop)]
+#[derive(Clone, Copy)]
 pub struct Int128 {
     pub high: u64,
     pub low: u64,
@@ -48,7 +48,7 @@ fn product(a: u64, b: u64) -> Int128
 }
 
 // A number of half cubic metres, and what is left over of six times a volume.
-#[derive(Drop)]
+#[derive(Clone, Copy)]
 struct HalfMetres {
     count: u64,
     rest: u64,

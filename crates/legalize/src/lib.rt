@@ -17,21 +17,21 @@ use mesh::Counts;
 use pending::PendingList;
 
 // What an entry of the pending list is: a half-edge in `legalize_edge`, an edge in `legalize_edges_after_removal`.
-#[derive(Drop)]
+#[derive(Clone, Copy)]
 pub enum Entry {
     HalfEdge,
     Edge,
 }
 
 // The flips so far, those before the call among them, and whether the pushes of a flip would have overfilled the pending list.
-#[derive(Drop)]
+#[derive(Clone, Copy)]
 pub struct Legalized {
     pub flips: u64,
     pub full: bool,
 }
 
 // What a turn leaves of the pending list of half-edges and of the count.
-#[derive(Drop)]
+#[derive(Clone, Copy)]
 pub struct HalfEdgeTurn {
     pub length: usize,
     pub flips: u64,
@@ -39,7 +39,7 @@ pub struct HalfEdgeTurn {
 }
 
 // The same of the pending list of edges.
-#[derive(Drop)]
+#[derive(Clone, Copy)]
 pub struct EdgeTurn {
     pub list: PendingList,
     pub flips: u64,

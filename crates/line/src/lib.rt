@@ -3,7 +3,7 @@
 
 // Where a point lies while all vertices are on one line (triangulation_ext.rs): on an edge, on a vertex, off the line and
 // strictly left of a half-edge, or beyond the vertex at an end.
-#[derive(Drop)]
+#[derive(Clone, Copy)]
 pub enum PositionWhenAllVerticesOnLine {
     OnEdge(u32),
     OnVertex(u32),

@@ -15,7 +15,7 @@ use mesh::Counts;
 
 // The vertex at a point; or, where there is none, the last vertex before the point and the first after it, in this order,
 // with the number of vertices for one that there is not.
-#[derive(Drop)]
+#[derive(Clone, Copy)]
 pub enum Neighbors {
     Vertex(u32),
     Between(u32, u32),

@@ -7,21 +7,21 @@ ghost use Rattle.listing_text.specs.Reading.{read_of, input_of, numbers_row};
 ghost use Rattle.listing_text.specs.ReadingParts.{up_to, fields_behind, unsigned_of, signed_of, Stored, StoredAll};
 
 // The first wrong line, or how many numbers there are.
-#[derive(Drop)]
+#[derive(Clone, Copy)]
 pub enum Input {
     Malformed(u32),
     Numbers(usize),
 }
 
 // What digits say. A value stops at 3,000,000,000: too large for 32 signed bits, and it never overflows, however many digits there are.
-#[derive(Drop)]
+#[derive(Clone, Copy)]
 enum Unsigned {
     Value(u32),
     Malformed,
 }
 
 // What a field says.
-#[derive(Drop)]
+#[derive(Clone, Copy)]
 enum Signed {
     Value(i32),
     Malformed,

@@ -5,7 +5,7 @@ ghost use Rattle.listing_text.specs.Decimal.{decimal, signed_decimal, Appended};
 ghost use Rattle.listing_text.specs.Listing.{field, point_line, totals_line, refusal_line};
 
 // What became of a point.
-#[derive(Drop)]
+#[derive(Clone, Copy)]
 pub struct PointLine {
     pub index: u64,
     pub fate: u64,
@@ -15,7 +15,7 @@ pub struct PointLine {
 }
 
 // What a run ends with.
-#[derive(Drop)]
+#[derive(Clone, Copy)]
 pub struct TotalsLine {
     pub vertices: u64,
     pub edges: u64,

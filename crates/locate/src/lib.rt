@@ -14,13 +14,13 @@ use mesh_check::{Checked, Refusal};
 use ring_rows::Node;
 
 // A boundary edge, and how many nodes of the ring were passed after the first on the way to it.
-#[derive(Drop)]
+#[derive(Clone, Copy)]
 pub struct Place {
     pub edge: u32,
     pub passed: u32,
 }
 
-#[derive(Drop)]
+#[derive(Clone, Copy)]
 pub enum Located {
     Found(Place),
     Refused(Refusal),

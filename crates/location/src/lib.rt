@@ -3,7 +3,7 @@
 
 // Where a point lies, and the condition of the operation that puts it there: `PositionInTriangulation` of the Rust,
 // without its case of a mesh that has no triangle.
-#[derive(Drop)]
+#[derive(Clone, Copy)]
 pub enum PositionInTriangulation {
     // at the vertex
     OnVertex(u32),
@@ -16,7 +16,7 @@ pub enum PositionInTriangulation {
 }
 
 // Where a turn of the search has come to: the answer, which ends it, or the half-edge from which it goes on.
-#[derive(Drop)]
+#[derive(Clone, Copy)]
 pub enum SearchState {
     Found(PositionInTriangulation),
     Onward(u32),

@@ -8,21 +8,21 @@ ghost use Rattle.math.specs.Vector.{Short, difference, dot_of, cross_of};
 mod wide;
 
 // A point with whole coordinates.
-#[derive(Drop)]
+#[derive(Clone, Copy)]
 pub struct Point {
     pub x: i32,
     pub y: i32,
 }
 
 // A difference of two points.
-#[derive(Drop)]
+#[derive(Clone, Copy)]
 pub struct Vector {
     pub x: i64,
     pub y: i64,
 }
 
 // Where the projection of a point on the line from p1 to p2 falls: at `factor` / `length_2` of the way. `length_2` is the squared length.
-#[derive(Drop)]
+#[derive(Clone, Copy)]
 pub struct PointProjection {
     pub factor: i64,
     pub length_2: i64,

@@ -3,7 +3,7 @@ ghost use Rattle.std.specs.Prelude.{◌≡◌, ◌≤◌, pos, nat_abs, ◌+ℤ�
 ghost use Rattle.math.specs.Wide.{SplitOf, TwoDigits, sgn, high_of, middle_of, low_of, total_of, AtMost51, wide_of};
 
 // hi * 2^26 + lo, where lo is below 2^26 in absolute value.
-#[derive(Drop)]
+#[derive(Clone, Copy)]
 pub struct Digits {
     pub hi: i64,
     pub lo: i64,

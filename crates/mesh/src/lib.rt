@@ -1,5 +1,5 @@
 // The half-edge mesh: its counts, which every call takes and gives back by value. The links, the rules and their laws are in specs/.
-#[derive(Drop)]
+#[derive(Clone, Copy)]
 pub struct Counts {
     pub vertices: u32,
     pub edges: u32,

@@ -7,13 +7,13 @@ ghost use Rattle.mesh_check.specs.Check.{point_count, vertex_count};
 use mesh::Counts;
 
 // A row of 01's table, and its place, 0 where it names none.
-#[derive(Drop)]
+#[derive(Clone, Copy)]
 pub struct Refusal {
     pub number: u32,
     pub place: u32,
 }
 
-#[derive(Drop)]
+#[derive(Clone, Copy)]
 pub enum Checked {
     Accepted,
     Refused(Refusal),

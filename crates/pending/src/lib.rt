@@ -7,7 +7,7 @@ ghost use Rattle.pending.specs.Pending.{pending_of, contains, one_of, push_if_no
 ghost use Rattle.pending.specs.Set.{word_at, is_marked, Marks, SetOf, Becomes, ToPop, LastTaken, Cleared, MarkedTo};
 
 // The list's value: its length; how many entries may be looked through before a set of them is made; and whether there is one.
-#[derive(Drop)]
+#[derive(Clone, Copy)]
 pub struct PendingList {
     pub length: usize,
     pub looks: usize,
@@ -15,7 +15,7 @@ pub struct PendingList {
 }
 
 // The entry that was taken from the list, and the list without it.
-#[derive(Drop)]
+#[derive(Clone, Copy)]
 pub struct Taken {
     pub entry: u32,
     pub list: PendingList,

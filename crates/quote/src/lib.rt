@@ -8,7 +8,7 @@ use mesh_check::{Checked, Refusal};
 
 // The change count, the point with its height, and of a step's answer the fate's number and the faces.
 #[repr(C)]
-#[derive(Drop)]
+#[derive(Clone, Copy)]
 pub struct Quote {
     pub changes: u32,
     pub x: i32,

@@ -7,7 +7,7 @@
 const TEXT: usize = 2097152;
 
 // A list, by the call that it is about; `Answers` are those of the Rust.
-#[derive(Drop)]
+#[derive(Clone, Copy)]
 enum List {
     Samples,
     Check,
@@ -23,7 +23,7 @@ enum List {
 }
 
 // How many cases agree and differ, where the first difference is, the last line `m`, and the place of the next line.
-#[derive(Drop)]
+#[derive(Clone, Copy)]
 struct Tally {
     agree: u32,
     differ: u32,

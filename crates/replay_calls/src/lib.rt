@@ -17,14 +17,14 @@ pub mod step_cases;
 pub mod volume_cases;
 
 // What a locate has answered; whether the ring's rows hold what they must.
-#[derive(Drop)]
+#[derive(Clone, Copy)]
 pub struct LocateLeft {
     pub result: LocateResult,
     pub cleared: bool,
 }
 
 // What a step has answered and left; whether the ring's rows and pending hold what they must.
-#[derive(Drop)]
+#[derive(Clone, Copy)]
 pub struct StepLeft {
     pub result: StepResult,
     pub mesh: Mesh,

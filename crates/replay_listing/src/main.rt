@@ -10,7 +10,7 @@ const LIST: usize = 1048576;
 const ROW: usize = 65536;
 
 // Where a text of the list begins and ends. One that is not whole has no bytes.
-#[derive(Drop)]
+#[derive(Clone, Copy)]
 struct Text {
     start: usize,
     stop: usize,
@@ -18,7 +18,7 @@ struct Text {
 }
 
 // How many cases agree and differ, where the first difference is, the place of the next line, and whether the last line was met.
-#[derive(Drop)]
+#[derive(Clone, Copy)]
 struct Tally {
     agree: u32,
     differ: u32,

@@ -11,7 +11,7 @@ use test_mesh::{Coordinates, LONGS, Longs, Mesh, Ring, WORDS};
 pub mod bulk_load_cases;
 
 // What a bulk load has answered and left; whether the ring's rows and pending hold what they must.
-#[derive(Drop)]
+#[derive(Clone, Copy)]
 pub struct LoadLeft {
     pub result: BulkLoadResult,
     pub mesh: Mesh,

@@ -15,14 +15,14 @@ pub mod ask_cases;
 pub mod commit_cases;
 
 // What an ask has answered; whether the ring's rows hold what they must.
-#[derive(Drop)]
+#[derive(Clone, Copy)]
 pub struct AskLeft {
     pub result: AskResult,
     pub cleared: bool,
 }
 
 // What a commit has answered and left; whether the ring's rows and pending hold what they must.
-#[derive(Drop)]
+#[derive(Clone, Copy)]
 pub struct CommitLeft {
     pub result: CommitResult,
     pub mesh: Mesh,

@@ -14,7 +14,7 @@ use test_mesh::{
 };
 
 // The line `g faces flips`, of the first pass.
-#[derive(Drop)]
+#[derive(Clone, Copy)]
 struct PassLine {
     faces: u64,
     flips: u64,

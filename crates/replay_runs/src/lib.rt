@@ -15,7 +15,7 @@ pub mod finish_cases;
 pub mod run_cases;
 
 // What a finish has answered and left; whether pending holds what it must.
-#[derive(Drop)]
+#[derive(Clone, Copy)]
 pub struct FinishLeft {
     pub result: FinishResult,
     pub mesh: Mesh,
@@ -23,7 +23,7 @@ pub struct FinishLeft {
 }
 
 // What a run has answered and left; whether the ring's rows and pending hold what they must.
-#[derive(Drop)]
+#[derive(Clone, Copy)]
 pub struct RunLeft {
     pub result: RunResult,
     pub mesh: Mesh,
@@ -32,14 +32,14 @@ pub struct RunLeft {
 }
 
 // The mesh after the last step, and the points' answers.
-#[derive(Drop)]
+#[derive(Clone, Copy)]
 pub struct Stepped {
     pub mesh: Mesh,
     pub answers: Longs,
 }
 
 // The mesh after a pass, the faces that it added, and its flips.
-#[derive(Drop)]
+#[derive(Clone, Copy)]
 pub struct Passed {
     pub mesh: Mesh,
     pub faces: u64,

@@ -16,14 +16,14 @@ ghost use Rattle.ring_insert.specs.Retire.{ToRetire, Retired};
 use ring_rows::{Hull, NO_EDGE, Node};
 
 // The node of the right angle, and how many are freed now.
-#[derive(Drop)]
+#[derive(Clone, Copy)]
 pub struct Released {
     pub right: u32,
     pub freed: u32,
 }
 
 // A node that is not in use, how many are freed then, and how many were ever in use.
-#[derive(Drop)]
+#[derive(Clone, Copy)]
 pub struct Vacant {
     pub node: u32,
     pub freed: u32,
@@ -31,7 +31,7 @@ pub struct Vacant {
 }
 
 // The nodes that an insert names: the right one, the new one, the one before it, and the first of the two that stand for the new edges.
-#[derive(Drop)]
+#[derive(Clone, Copy)]
 pub struct Choice {
     pub right: u32,
     pub node: u32,

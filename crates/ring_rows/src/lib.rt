@@ -13,7 +13,7 @@ ghost use Rattle.ring_rows.specs.Find.{node_holds, ToTest, ToWalk, WalkedBoth, F
 use segment::Segment;
 
 #[repr(C)]
-#[derive(Drop)]
+#[derive(Clone, Copy)]
 pub struct Node {
     pub angle: f64,
     pub edge: u32,
@@ -22,7 +22,7 @@ pub struct Node {
 }
 
 // What a ring is beside its rows: how many buckets there are, how many nodes were ever in use, and how many of those are freed.
-#[derive(Drop)]
+#[derive(Clone, Copy)]
 pub struct Hull {
     pub buckets: u32,
     pub nodes: u32,
@@ -30,7 +30,7 @@ pub struct Hull {
 }
 
 // A node, its edge, and how many nodes were passed after the first on the way to it.
-#[derive(Drop)]
+#[derive(Clone, Copy)]
 pub struct Found {
     pub node: u32,
     pub edge: u32,
@@ -41,14 +41,14 @@ pub struct Found {
 pub const NO_EDGE: u32 = 4294967295;
 
 // Two nodes to walk from: on to the right from the one, on to the left from the other.
-#[derive(Drop)]
+#[derive(Clone, Copy)]
 pub struct Handles {
     pub right: u32,
     pub left: u32,
 }
 
 // The node at which a walk ended, and whether its segment is the one that was looked for.
-#[derive(Drop)]
+#[derive(Clone, Copy)]
 pub struct Walked {
     pub node: u32,
     pub found: bool,

@@ -19,14 +19,14 @@ use math::Point;
 use mesh::Counts;
 
 // The end of an out edge that is closer to the point than the vertex, with its squared distance.
-#[derive(Drop)]
+#[derive(Clone, Copy)]
 pub enum Closer {
     Vertex(u32, i64),
     Nothing,
 }
 
 // The half-edges after half-edge a in its triangle, the corners from a's origin on, and their positions.
-#[derive(Drop)]
+#[derive(Clone, Copy)]
 pub struct Corners {
     pub b: u32,
     pub c: u32,

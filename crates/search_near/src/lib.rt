@@ -20,7 +20,7 @@ use mesh::Counts;
 pub const WALK_TURNS: u32 = 1024;
 
 // A half-edge with the positions of its ends; `left` where the point is strictly left of it.
-#[derive(Drop)]
+#[derive(Clone, Copy)]
 pub struct Facing {
     pub e: u32,
     pub from: Point,
@@ -29,7 +29,7 @@ pub struct Facing {
 }
 
 // What a turn of the walk comes to: the face that has the point strictly inside, the half-edge from which to go on, or neither.
-#[derive(Drop)]
+#[derive(Clone, Copy)]
 pub enum Turned {
     Inside(u32),
     Onward(Facing),

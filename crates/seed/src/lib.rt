@@ -7,7 +7,7 @@ use mesh::Counts;
 
 // Where the seed has come to: the mesh's counts, how many points have been answered, whether the sweep may start, and whether a flip's
 // pushes would have overfilled the pending list.
-#[derive(Drop)]
+#[derive(Clone, Copy)]
 pub struct SeedEnd {
     pub counts: Counts,
     pub answered: u32,

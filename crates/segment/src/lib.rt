@@ -8,7 +8,7 @@ ghost use Rattle.segment.specs.Segment.{segment_of, EndsAreAngles, contains_angl
 ghost use Rattle.segment.specs.Bucket.{Buckets, BucketShift, floored_bucket, ceiled_bucket, floor_of, ceil_of};
 
 // From the first angle up to the second, without it; a wrapping one goes on past 1.0 at 0.0.
-#[derive(Drop)]
+#[derive(Clone, Copy)]
 pub enum Segment {
     Plain(f64, f64),
     Wrapping(f64, f64),

@@ -17,7 +17,7 @@ use mesh::Counts;
 const MOST_SPOKES: u32 = 64;
 
 // A spoke with the position of its end and the face of its reverse; where that is an inner face, `before` is where the spoke before ends.
-#[derive(Drop)]
+#[derive(Clone, Copy)]
 pub struct Spoke {
     pub e: u32,
     pub here: Point,

@@ -21,7 +21,7 @@ use ring_rows::{Hull, Node};
 use sweep::{Answer, StepAnswer, Stepped};
 
 // The mesh's counts and its ring after a step, the point's answer, and whether a flip's pushes would have overfilled the pending list.
-#[derive(Drop)]
+#[derive(Clone, Copy)]
 pub struct Progress {
     pub counts: Counts,
     pub hull: Hull,

@@ -13,7 +13,7 @@ use sweep::Answer;
 
 // Where the steps have come to: the mesh's counts, how many points have been answered, and whether a flip's pushes
 // would have overfilled the pending list.
-#[derive(Drop)]
+#[derive(Clone, Copy)]
 pub struct SweepEnd {
     pub counts: Counts,
     pub answered: u32,

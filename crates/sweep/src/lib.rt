@@ -4,7 +4,7 @@ use mesh::Counts;
 use mesh_check::Refusal;
 
 // A point's fate, the faces and the flips of its step.
-#[derive(Drop)]
+#[derive(Clone, Copy)]
 pub struct Answer {
     pub fate: Fate,
     pub faces: u32,
@@ -14,14 +14,14 @@ pub struct Answer {
 // The words of an answer in the answers row: the fate's number, its vertex, the faces, the flips.
 pub const ANSWER_WORDS: usize = 4;
 
-#[derive(Drop)]
+#[derive(Clone, Copy)]
 pub enum Stepped {
     Accepted(Answer),
     Refused(Refusal),
 }
 
 // The mesh's counts after the call, and what it has done.
-#[derive(Drop)]
+#[derive(Clone, Copy)]
 pub struct StepAnswer {
     pub counts: Counts,
     pub stepped: Stepped,

@@ -26,39 +26,39 @@ pub const LONGS: usize = 1280;
 pub const NODES: usize = 256;
 
 // Whether something is as the list has it, and where the next line begins.
-#[derive(Drop)]
+#[derive(Clone, Copy)]
 pub struct Agreed {
     pub agrees: bool,
     pub at: usize,
 }
 
-#[derive(Drop)]
+#[derive(Clone, Copy)]
 pub struct CountsLine {
     pub counts: Counts,
     pub at: usize,
     pub is_whole: bool,
 }
 
-#[derive(Drop)]
+#[derive(Clone, Copy)]
 pub struct Coordinates {
     pub row: [i32; COORDINATES],
     pub length: usize,
 }
 
-#[derive(Drop)]
+#[derive(Clone, Copy)]
 pub struct Words {
     pub row: [u32; WORDS],
     pub length: usize,
 }
 
-#[derive(Drop)]
+#[derive(Clone, Copy)]
 pub struct Longs {
     pub row: [u64; LONGS],
     pub length: usize,
 }
 
 // `heights` has a number for each vertex.
-#[derive(Drop)]
+#[derive(Clone, Copy)]
 pub struct Mesh {
     pub counts: Counts,
     pub positions: Coordinates,
@@ -69,41 +69,41 @@ pub struct Mesh {
 }
 
 // The lengths of the ring's rows.
-#[derive(Drop)]
+#[derive(Clone, Copy)]
 pub struct Ring {
     pub nodes: usize,
     pub freed: usize,
     pub buckets: usize,
 }
 
-#[derive(Drop)]
+#[derive(Clone, Copy)]
 pub struct CoordinatesLine {
     pub coordinates: Coordinates,
     pub at: usize,
     pub is_whole: bool,
 }
 
-#[derive(Drop)]
+#[derive(Clone, Copy)]
 struct WordsLine {
     words: Words,
     at: usize,
     is_whole: bool,
 }
 
-#[derive(Drop)]
+#[derive(Clone, Copy)]
 pub struct MeshLines {
     pub mesh: Mesh,
     pub at: usize,
     pub is_whole: bool,
 }
 
-#[derive(Drop)]
+#[derive(Clone, Copy)]
 pub struct PointAt {
     pub p: Point,
     pub at: usize,
 }
 
-#[derive(Drop)]
+#[derive(Clone, Copy)]
 pub struct CenterAt {
     pub p: Point2,
     pub at: usize,
@@ -111,7 +111,7 @@ pub struct CenterAt {
 
 // The start of a line of a row: whether it has its tag, how many entries the row has, what fills it, and where its written entries begin
 // (`past.at`).
-#[derive(Drop)]
+#[derive(Clone, Copy)]
 pub struct RowStart {
     pub is_right: bool,
     pub length: u64,

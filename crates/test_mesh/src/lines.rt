@@ -8,7 +8,7 @@ use math::Point;
 use quote::Quote;
 use test_text::Number;
 
-#[derive(Drop)]
+#[derive(Clone, Copy)]
 pub struct RingLine {
     pub ring: Ring,
     pub at: usize,
@@ -16,21 +16,21 @@ pub struct RingLine {
 }
 
 // So many entries of a row are lent.
-#[derive(Drop)]
+#[derive(Clone, Copy)]
 pub struct SevensLine {
     pub length: usize,
     pub at: usize,
     pub is_whole: bool,
 }
 
-#[derive(Drop)]
+#[derive(Clone, Copy)]
 pub struct CenterLine {
     pub center: Point2,
     pub at: usize,
     pub is_whole: bool,
 }
 
-#[derive(Drop)]
+#[derive(Clone, Copy)]
 pub struct PointLine {
     pub point: Point,
     pub at: usize,
@@ -38,21 +38,21 @@ pub struct PointLine {
 }
 
 // A single height: a point's, or a level.
-#[derive(Drop)]
+#[derive(Clone, Copy)]
 pub struct HeightLine {
     pub height: i32,
     pub at: usize,
     pub is_whole: bool,
 }
 
-#[derive(Drop)]
+#[derive(Clone, Copy)]
 pub struct ChangesLine {
     pub changes: u32,
     pub at: usize,
     pub is_whole: bool,
 }
 
-#[derive(Drop)]
+#[derive(Clone, Copy)]
 pub struct QuoteLine {
     pub quote: Quote,
     pub at: usize,

@@ -1,6 +1,6 @@
 // Lines of a tag and decimal numbers in a text of bytes, for the program that runs lists of cases. A cursor is a place in the text; past
 // its end there is nothing to read. What is no number, or too large for where it stands, leads there.
-#[derive(Drop)]
+#[derive(Clone, Copy)]
 pub struct Number {
     pub negative: bool,
     pub magnitude: u64,
@@ -8,14 +8,14 @@ pub struct Number {
 }
 
 // 32 signed bits.
-#[derive(Drop)]
+#[derive(Clone, Copy)]
 pub struct Coordinate {
     pub value: i32,
     pub at: usize,
 }
 
 // 32 bits.
-#[derive(Drop)]
+#[derive(Clone, Copy)]
 pub struct Word {
     pub value: u32,
     pub at: usize,

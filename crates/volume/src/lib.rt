@@ -16,13 +16,13 @@ use mesh::Counts;
 use mesh_check::{Checked, Refusal};
 
 // Six times the volume in cubic millimetres, and the volume in cubic metres.
-#[derive(Drop)]
+#[derive(Clone, Copy)]
 pub struct Volumes {
     pub six_volumes: Int128,
     pub cubic_metres: i64,
 }
 
-#[derive(Drop)]
+#[derive(Clone, Copy)]
 pub enum Measured {
     Accepted(Volumes),
     Refused(Refusal),
@@ -30,7 +30,7 @@ pub enum Measured {
 
 // Over triangles: the heights above the level times each of the three digits, base 2 ^ 17, of the doubled area. No sum of
 // two million such products passes 64 bits.
-#[derive(Drop)]
+#[derive(Clone, Copy)]
 pub struct DigitSums {
     pub low: i64,
     pub middle: i64,

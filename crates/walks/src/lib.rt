@@ -11,14 +11,14 @@ use angle::Point2;
 use math::Point;
 
 // A boundary vertex as it was read: its position, and its angle about the centre.
-#[derive(Drop)]
+#[derive(Clone, Copy)]
 pub struct BoundaryVertex {
     pub position: Point,
     pub angle: f64,
 }
 
 // How many edges a walk covers, how many nodes of the ring stand for them, and the boundary vertex where it ends.
-#[derive(Drop)]
+#[derive(Clone, Copy)]
 pub struct WalkEnd {
     pub count: u32,
     pub nodes: u32,
