@@ -1,5 +1,7 @@
 // Pseudo-angles (bulk_load.rs, `pseudo_angle`): the angle of a vertex about a centre, a whole number of 2 ^ -53 from
 // 0.0 to 1.0, and that whole number, which everything above goes by.
+#![tactic(auto)]
+
 ghost use Rattle.std.specs.Prelude.{◌≡◌, ◌≤◌, ◌^◌, Bool, not, ℤ, T, ltb, leb, eqb};
 ghost use Rattle.std.specs.Float.Ieee.{of_int, of_bits, to_bits};
 ghost use Rattle.std.specs.Float.{binary64};

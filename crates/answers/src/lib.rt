@@ -1,4 +1,6 @@
 // The row of answers of a run, four words a point: stores into it, zeros over a part of it, and the points that it says were skipped.
+#![tactic(auto)]
+
 ghost use Rattle.std.specs.Prelude.{◌≡◌, ◌+◌, ◌*◌, ◌<◌, ◌≤◌, ltb, length};
 ghost use Rattle.dcel.specs.Rows.{row_of};
 ghost use Rattle.mesh_check.specs.Check.{point_count};

@@ -1,5 +1,7 @@
 // An added point goes into the mesh (bulk_load.rs, `single_bulk_insertion_step` from its first change on): what that is,
 // `add_vertex` of specs/Apply.antt, and its laws. The code is the crate `apply_rows`; here are the types of its answers.
+#![tactic(auto)]
+
 use corner::Extension;
 
 // A loop under way: what has become of the mesh, and the current edge.

@@ -2,6 +2,8 @@
 // vertex and its first face, `legalize_edge`, and as many faces to the left and to the right as were decided. What is
 // left is `add_turns` of the crate `apply`; `add-turns` in its ApplyLaws says that this is `add_vertex`, whose loops test
 // the mesh as it then stands.
+#![tactic(auto)]
+
 ghost use Rattle.std.specs.Prelude.{◌≡◌, length};
 ghost use Rattle.corner.specs.CornerRows.{extended_of};
 ghost use Rattle.dcel.specs.Rows.{links_of, halves_of, position_of, There};

@@ -1,5 +1,7 @@
 // The calls that read areas (02, Change 3): `area_total`, the doubled areas of a mesh's triangles in total, and `side_query`, the doubled
 // area of one triangle, whose sign says on which side of a line a point lies. Both are exact, and write nothing.
+#![tactic(auto)]
+
 ghost use Rattle.std.specs.Prelude.{◌≡◌, List, ℕ, ◌+ℤ◌};
 ghost use Rattle.dcel.specs.MeshRows.{mesh_rows};
 ghost use Rattle.dcel.specs.Rows.{links_of, position_of};

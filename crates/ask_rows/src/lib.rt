@@ -1,6 +1,8 @@
 // What a point would do, before it counts (02, Change 5): the decision part of a step, as a quote, on a mesh that is only read. The edge at
 // the point's angle is found by one look round the boundary and not in a ring, so no row is written before all checks are made: a commit
 // that is refused for its quote leaves the ring's rows as they were lent. What is answered is `ask_of` of the crate `ask`.
+#![tactic(auto)]
+
 ghost use Rattle.std.specs.Prelude.{List, ◌≡◌, ℕ};
 ghost use Rattle.angle.specs.Angle.{IsAngle, turns};
 ghost use Rattle.dcel.specs.MeshRows.{mesh_rows, links_in, places_in};

@@ -1,6 +1,8 @@
 // Refusals 1, 2, 3 and 10 of a bulk load: how many points there are, whether every row is long enough for them, and whether each point and
 // each height is in range. Nothing is written. The rows that are not looked into are given by their lengths. What each function answers is
 // an equation with a definition of the crate `bulk_load` or of `specs/Lent.antt`.
+#![tactic(auto)]
+
 ghost use Rattle.std.specs.Prelude.{◌≡◌, ◌*◌, ◌≤◌, length};
 ghost use Rattle.bulk_load.specs.BulkLoad.{BulkLoadLent, bulk_load_checked};
 ghost use Rattle.mesh_check.specs.Check.{refused};

@@ -1,6 +1,8 @@
 // From bare points to a finished mesh or a line of points, on lent rows. The seed grows from the front of the list; then a run takes the
 // points that are left, or the mesh so far is finished, or the points stay a line. What is left is `bulk_load_of` of the crate `bulk_load`,
 // specs/BulkLoad.antt, for every list that the checks let pass.
+#![tactic(auto)]
+
 ghost use Rattle.std.specs.Prelude.{◌≡◌, List, ◌^◌, length};
 ghost use Rattle.dcel.specs.MeshRows.{mesh_rows};
 ghost use Rattle.ring_rows.specs.RingRows.{ring_rows};

@@ -2,6 +2,8 @@
 // with other edges, anywhere in the row of half-edges, and in a large mesh each of them waits for memory. So those of a block are read
 // first: these reads do not wait for each other, as they do where a circle test comes between them. In a large mesh so are the positions of
 // the block's vertices. What is answered is `Unbroken` of specs/Scan.antt.
+#![tactic(auto)]
+
 ghost use Rattle.std.specs.Prelude.{List, ◌≡◌, ℕ, ◌+◌, ◌*◌, ◌≤◌, length};
 ghost use Rattle.circle_test.specs.GoodRows.{CircleReady};
 ghost use Rattle.dcel.specs.Rows.{halves_of, links_of, position_of};

@@ -1,4 +1,6 @@
 // Whether an edge breaks the circle rule. `should_flip` is the test of the closing pass and of legalizing.
+#![tactic(auto)]
+
 ghost use Rattle.std.specs.Prelude.{List, ◌≡◌, ℕ};
 ghost use Rattle.math.specs.Determinant.{contained_in_circumference};
 ghost use Rattle.mesh.specs.Circle.{breaks_circle};

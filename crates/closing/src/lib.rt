@@ -1,6 +1,8 @@
 // The closing pass: the edges by rising number, turn after turn, until a turn flips nothing. It is fed the mesh alone,
 // with no pending list.
 // What it leaves is `closing_pass` of specs/Closing.antt; that it ends, and what it leaves, is in specs/ClosingLaws.antt.
+#![tactic(auto)]
+
 ghost use Rattle.std.specs.Prelude.{◌≡◌, ◌+◌, ◌<◌, ◌≤◌, ◌^◌};
 ghost use Rattle.circle_test.specs.GoodRows.{GoodRows, CircleReady};
 ghost use Rattle.dcel.specs.Rows.{links_of, position_of};

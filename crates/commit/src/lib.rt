@@ -1,5 +1,7 @@
 // Committing a quote (02, Change 5): the checks of a step, then 11 and 12; and the change count after a commit and after a run. What a
 // commit answers and leaves is `commit_of` of specs/Commit.antt: between the checks and the count it is the step.
+#![tactic(auto)]
+
 ghost use Rattle.std.specs.Prelude.{◌≡◌, ◌<◌};
 ghost use Rattle.dcel.specs.MeshRows.{mesh_rows};
 ghost use Rattle.heights.specs.Heights.{surface_rows};

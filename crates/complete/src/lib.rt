@@ -4,6 +4,8 @@
 // answers; that changes no answer (`insert_near`), and no contract says what the row then holds. In a large mesh what a block of points
 // needs is read before the first of them goes in (`prefetch`). And a mesh that will be large is tested before the first point: where no edge
 // breaks the circle rule, and none at any new vertex does, there is nothing for the closing pass to flip (`skipped_settled`), so it is left out.
+#![tactic(auto)]
+
 ghost use Rattle.std.specs.Prelude.{false, ◌≡◌, ◌+◌, ◌*◌, ◌^◌, ◌<◌, ◌≤◌, T, length};
 ghost use Rattle.closing.specs.Closing.{closing_pass};
 ghost use Rattle.closing.specs.ClosingRows.{closing_of};

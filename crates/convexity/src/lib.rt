@@ -1,6 +1,8 @@
 // `fix_convexity` of bulk_load.rs, and its passes in a finish. The Rust keeps the half-edges that it has walked over in
 // `convex_edges`; they are the chain behind the current half-edge, so their number is enough (specs/StackLaws.antt).
 // What is left is `convexity` of specs/Convexity.antt; its laws are in specs/ConvexityLaws.antt.
+#![tactic(auto)]
+
 ghost use Rattle.std.specs.Prelude.{not, ◌||◌, List, ◌≡◌, ℕ, ◌+◌, eqb, length};
 ghost use Rattle.corner.specs.CornerRows.{extended_of};
 ghost use Rattle.dcel.specs.Rows.{links_of, position_of};

@@ -1,6 +1,8 @@
 // A corner of the boundary that turns left is closed: one face more (`create_single_face_between_edge_and_next`), and
 // two edges legalized after it. This is what the walks of a step and the passes of `fix_convexity` do again and again
 // (bulk_load.rs). What is left is `close_corner` of specs/Corner.antt; its laws are in specs/CornerLaws.antt.
+#![tactic(auto)]
+
 ghost use Rattle.std.specs.Prelude.{◌||◌, ◌≡◌, eqb, length};
 ghost use Rattle.dcel.specs.Rows.{position_of};
 ghost use Rattle.corner.specs.Corner.{close_corner};

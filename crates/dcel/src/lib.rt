@@ -1,5 +1,7 @@
 // The rows of a half-edge mesh, which the caller lends: what stands there, and stores. A contract says what becomes of
 // the rows seen as functions (specs/Rows.antt).
+#![tactic(auto)]
+
 ghost use Rattle.std.specs.Prelude.{◌≡◌, ℕ, ◌+◌, ◌*◌, ◌<◌, ◌≤◌, ◌^◌, List, length, replicate};
 ghost use Rattle.sums.specs.Half.{rev};
 ghost use Rattle.sums.specs.Put.{put};

@@ -1,6 +1,8 @@
 // The operations that change links, each link as dcel_operations.rs stores it, on rows that the caller lends. Each
 // requires only that what it touches is in the rows and that the numbers fit; `Ready` in specs/ gives that for a mesh
 // that keeps the rules.
+#![tactic(auto)]
+
 ghost use Rattle.std.specs.Prelude.{◌≡◌, ℕ, ◌+◌, ◌*◌, ◌<◌, ◌≤◌, ◌^◌, List};
 ghost use Rattle.dcel.specs.Rows.{halves_of, links_of, There};
 ghost use Rattle.dcel_operations.specs.Flip.{flip_links, flip_marks, FlipReady};

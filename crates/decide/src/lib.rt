@@ -1,6 +1,8 @@
 // What a step decides about a point before it changes anything (bulk_load.rs, `single_bulk_insertion_step` up to its
 // first change, and the tests of its two loops): the located edge, the fate, and how many boundary edges the two walks
 // of crate `walks` cover. Nothing is written. What is decided is `decided` of specs/Decide.antt.
+#![tactic(auto)]
+
 ghost use Rattle.std.specs.Prelude.{List, ◌≡◌, ℕ};
 ghost use Rattle.dcel.specs.Rows.{links_of, position_of};
 ghost use Rattle.mesh.specs.declared.Counts.{Counts};

@@ -1,6 +1,8 @@
 // The call `finish`: convexity passes until one adds no face, then the closing pass, on a lent mesh. What it answers
 // and leaves is `finish_of` of specs/Finish.antt for every input; what that means for the mesh is in
 // specs/FinishLaws.antt.
+#![tactic(auto)]
+
 ghost use Rattle.std.specs.Prelude.{◌≡◌, List, ℕ, length};
 ghost use Rattle.convexity.specs.ConvexityRows.{MeshReady};
 ghost use Rattle.dcel.specs.MeshRows.{mesh_rows};

@@ -6,6 +6,8 @@
 // `area`). A slice is a pointer and a length for C. Nothing is asked of the caller but that each row is there, as long as is said, that no
 // row that is written overlaps another, and that doubles are rounded to nearest and subnormal ones kept (docs/DECISIONS.md, "Who answers
 // for what C cannot check?").
+#![tactic(auto)]
+
 ghost use Rattle.std.specs.Prelude.{false, ◌≡◌};
 ghost use Rattle.area.specs.AreaTotal.{area_total_of};
 ghost use Rattle.area.specs.SideQuery.{side_query_of};

@@ -2,6 +2,8 @@
 // close to a point, from which a search may start; nothing depends on what it holds, so no contract says that.
 // An edge that was put in for a vertex may be flipped since: it stays near, since a flip moves an edge within its two triangles.
 // The row has any contents and length: what is not in it is not stored, and a number past the edges in use is not answered.
+#![tactic(auto)]
+
 ghost use Rattle.std.specs.Prelude.{◌*◌, ◌<◌, ◌≤◌, length};
 
 use math::Point;

@@ -3,6 +3,8 @@
 // definitions; its laws are in specs/GrowLaws.antt there.
 // Until there is a triangle no edge is flipped. So what is done then takes no pending entries, and its contracts hold
 // whatever their number, `room`.
+#![tactic(auto)]
+
 ghost use Rattle.std.specs.Prelude.{List, ◌≡◌, ℕ, ◌<◌, length};
 ghost use Rattle.dcel.specs.Rows.{links_of, position_of};
 ghost use Rattle.insert.specs.InsertRows.{PointReady};

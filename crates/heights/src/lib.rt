@@ -1,6 +1,8 @@
 // Heights on the vertices, in a row of their own beside the mesh's: a height read and stored, the range of heights, and refusal 10, which
 // comes straight after 3. The call `check` of a mesh with heights. What each function answers is an equation with a definition of
 // `specs/Heights.antt`.
+#![tactic(auto)]
+
 ghost use Rattle.std.specs.Prelude.{Bool, ◌≡◌, ◌<◌, ◌≤◌, length};
 ghost use Rattle.dcel.specs.MeshRows.{mesh_rows};
 ghost use Rattle.mesh_check.specs.Check.{point_count, vertex_count};

@@ -1,6 +1,8 @@
 // The ring of a mesh's boundary about a centre (bulk_load.rs, `Hull`): the tests before it is built, building it, and a
 // new vertex's way into it. The boundary is the `size` half-edges from `start` on, by next.
 // The rows of the ring itself are those of crate `ring_rows`.
+#![tactic(auto)]
+
 ghost use Rattle.std.specs.Prelude.{◌≡◌, ◌&&◌, ◌+◌, ◌-◌, ◌*◌, ◌<◌, ◌≤◌, ◌^◌, leb, eqb, length};
 ghost use Rattle.sums.specs.Bit.{bit};
 ghost use Rattle.sums.specs.Bounded.{any_below};

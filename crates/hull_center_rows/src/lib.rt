@@ -2,6 +2,8 @@
 // turns about: `try_get_hull_center` and `Hull::from_triangulation` of bulk_load.rs. Nothing is written. What is answered
 // is `is_ready` and `hull_center` of crate hull_center.
 // A function that is not lent a row says what it says whatever that row holds: o are the out edges and s the faces.
+#![tactic(auto)]
+
 ghost use Rattle.std.specs.Prelude.{List, ◌≡◌, ℕ, ◌≤◌, pos, nat_abs, ◌+ℤ◌, ◌*ℤ◌};
 ghost use Rattle.std.specs.Int.Signed.{lt_z};
 ghost use Rattle.dcel.specs.Rows.{links_of, position_of};

@@ -4,6 +4,8 @@
 // specs/InsertLaws.antt there.
 // `legalize_vertex` of the Rust collects the edges in a list. Here they are read off the triangles before the operation
 // changes the links: `Stars` in `skipped` has it that they are the same, in the same order.
+#![tactic(auto)]
+
 ghost use Rattle.std.specs.Prelude.{[], ◌∷◌, ◌≡◌, length};
 ghost use Rattle.corner.specs.CornerRows.{extended_of};
 ghost use Rattle.dcel.specs.Rows.{links_of, position_of};

@@ -2,6 +2,8 @@
 // boundary edge that it sees, and then to the left and to the right a face over each further edge that it sees, each
 // followed by `legalize_edge` of the covered edge. What is left is `insert_outside` of skipped's specs/Insert.antt; its
 // laws are in skipped's specs/Outside.antt.
+#![tactic(auto)]
+
 ghost use Rattle.std.specs.Prelude.{not, List, ◌≡◌, ℕ, length};
 ghost use Rattle.apply.specs.ApplyRows.{walking_of};
 ghost use Rattle.corner.specs.CornerRows.{extended_of};

@@ -1,4 +1,6 @@
 // Whole numbers of 128 bits, two's complement, in a high and a low half of 64 bits. By value, and every result exact.
+#![tactic(auto)]
+
 ghost use Rattle.std.specs.Prelude.{◌≡◌, ◌+◌, ◌*◌, ◌/◌, ◌^◌, ◌<◌, ◌≤◌, pos, ◌+ℤ◌, ◌-ℤ◌, ◌*ℤ◌, neg_ℤ, int_lt, unsigned_abs};
 ghost use Rattle.int128.specs.Int128.{int128_of, Fits128, with_sign};
 ghost use Rattle.int128.specs.CubicMetres.{cubic_metres_of};

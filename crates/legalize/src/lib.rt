@@ -4,6 +4,8 @@
 // leave is `legalize_edge` and `legalize_edges_after_removal` of specs/Legalize.antt; that they end, and what that means
 // for the mesh, is in specs/LegalizeLaws.antt. `counts` says which mesh the rows hold; the code needs the number of its edges alone, for a
 // long list's set of them.
+#![tactic(auto)]
+
 ghost use Rattle.std.specs.Prelude.{◌≡◌, ℕ, ◌+◌, ◌*◌, ◌^◌, ◌<◌, length};
 ghost use Rattle.mesh.specs.Mesh.{In};
 ghost use Rattle.dcel.specs.Rows.{links_of, position_of, There};

@@ -1,6 +1,8 @@
 // The first point off a line of points: `insert_outside_of_convex_hull` of triangulation_ext.rs where the mesh has no
 // inner face yet. What is left is `insert_outside` of skipped's specs/Insert.antt, however many pending entries it is given:
 // an edge of a line has no inner face behind it, so `legalize_edge` flips nothing there (`Still` in line), and is left out.
+#![tactic(auto)]
+
 ghost use Rattle.std.specs.Prelude.{List, ◌≡◌, ℕ};
 ghost use Rattle.apply.specs.ApplyRows.{walking_of};
 ghost use Rattle.corner.specs.CornerRows.{extended_of};

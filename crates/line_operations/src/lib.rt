@@ -1,6 +1,8 @@
 // The three operations on a mesh whose vertices all lie on one line, each link as dcel_operations.rs stores it, on rows
 // that the caller lends. Each requires only that what it touches is in the rows and that the numbers fit; `Ready` in
 // specs/ gives that for a line of points.
+#![tactic(auto)]
+
 ghost use Rattle.std.specs.Prelude.{◌≡◌, ◌+◌, ◌<◌, ◌^◌, eqb};
 ghost use Rattle.dcel.specs.Rows.{halves_of, links_of, There};
 ghost use Rattle.line.specs.Operations.{setup_initial_two_vertices};

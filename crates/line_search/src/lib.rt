@@ -3,6 +3,8 @@
 // `locate_when_all_vertices_on_line` of crate line, which has the definitions and what an answer claims.
 // The Rust sorts the vertices and makes a binary search; here one pass over them finds the two neighbours of the point.
 // The row of faces is not read: a contract says what it says whatever that row, a, holds.
+#![tactic(auto)]
+
 ghost use Rattle.std.specs.Prelude.{◌&&◌, List, ◌≡◌, ℕ};
 ghost use Rattle.dcel.specs.Rows.{links_of, position_of};
 ghost use Rattle.line.specs.Order.{comes_before};

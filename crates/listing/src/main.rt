@@ -4,6 +4,8 @@
 // text one byte more is read and becomes a zero, which stands in no line that is right: so the line that was cut is answered as
 // malformed, unless an earlier one is, and no such text is ever listed as if it were whole.
 // A listing always fits: `list` says that it has at most 42,949 bytes.
+#![tactic(auto)]
+
 const ROOM: usize = 65536;
 
 const ROOM_AND_ONE: usize = 65537;

@@ -1,4 +1,6 @@
 // The listing of a text: bytes to bytes, for any bytes whatever. What is listed is `listing_of` of specs/ListingRun.antt.
+#![tactic(auto)]
+
 ghost use Rattle.std.specs.Prelude.{◌≡◌, List, ◌++◌, ℕ, ◌+◌, ◌*◌, ◌≤◌, ◌<◌, length, take, replicate};
 ghost use Rattle.std.proofs.lemmas.List.Edits.{sets};
 ghost use Rattle.dcel.specs.MeshRows.{mesh_rows};

@@ -1,6 +1,8 @@
 // The call `locate` (01): the boundary edge at an angle about a centre. `check_start` has the refusals 1 to 7, which
 // every call that is given a centre tests first; they read the mesh alone.
 // Then the ring is built in the lent rows, asked once, and its rows are cleared.
+#![tactic(auto)]
+
 ghost use Rattle.std.specs.Prelude.{◌≡◌, List, [], length};
 ghost use Rattle.mesh_check.specs.Check.{refused, and_then};
 ghost use Rattle.dcel.specs.MeshRows.{mesh_rows};

@@ -1,5 +1,6 @@
 // Point location as `locate_with_hint_fixed_core` of triangulation_ext.rs makes it, and a scan where that would never end:
 // definitions and laws, in specs/. The code is in `search`.
+#![tactic(auto)]
 
 // Where a point lies, and the condition of the operation that puts it there: `PositionInTriangulation` of the Rust,
 // without its case of a mesh that has no triangle.

@@ -1,6 +1,8 @@
 // Exact tests on points whose coordinates are within ±16,777,216, in 64-bit whole numbers: math.rs and
 // point.rs of spade 2.15.1.
 // What each function answers is an equation with a definition of `specs/Determinant.antt`.
+#![tactic(auto)]
+
 ghost use Rattle.std.specs.Prelude.{◌≡◌, not, ◌&&◌};
 ghost use Rattle.math.specs.Determinant.{InRange, orient2d, contained_in_circumference, is_ordered_ccw, projection_of, is_before, is_behind, is_behind_edge, is_valid_coordinate, is_valid_vertex, length2, is_position};
 ghost use Rattle.math.specs.Vector.{Short, difference, dot_of, cross_of};

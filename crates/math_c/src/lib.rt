@@ -1,4 +1,6 @@
 // The circle test of `math` for its benchmark, on plain numbers. The side test is exported by `fithmoul`.
+#![tactic(auto)]
+
 ghost use Rattle.std.specs.Prelude.{◌≡◌};
 ghost use Rattle.math_c.specs.Answer.{at, circle_answer};
 

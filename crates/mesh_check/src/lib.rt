@@ -1,6 +1,8 @@
 // Refusals 1 to 5 of 01's table, which every public call tests first: what they are, in `specs/Check.antt`, and what an accepted mesh has.
 // The code that tests them is the crate `mesh_check_rows`; here are the types of its answer, and the count of vertices that rows 1 and 2
 // go by.
+#![tactic(auto)]
+
 ghost use Rattle.std.specs.Prelude.{◌≡◌};
 ghost use Rattle.mesh_check.specs.Check.{point_count, vertex_count};
 

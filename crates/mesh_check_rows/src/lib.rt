@@ -2,6 +2,8 @@
 // call `check`, which tests nothing else.
 // Nothing is written, and nothing is remembered but counts. What each function answers is an equation with a definition
 // of the crate `mesh_check`.
+#![tactic(auto)]
+
 ghost use Rattle.std.specs.Prelude.{◌≡◌, List, ℕ, ◌+◌, ◌*◌, ◌<◌, ◌≤◌, length};
 ghost use Rattle.dcel.specs.MeshRows.{mesh_rows};
 ghost use Rattle.dcel.specs.Rows.{links_of, position_of};

@@ -2,6 +2,8 @@
 // sweep looks at every half-edge, face or vertex once. What each function answers is an equation with a definition of
 // `specs/Holds.antt`, and `mesh_rules` with `rules` of the crate mesh.
 // A function that is lent the row of half-edges alone says so whatever the other rows hold: o are the out edges and a the faces.
+#![tactic(auto)]
+
 ghost use Rattle.std.specs.Prelude.{◌≡◌, true, List, ℕ, ◌+◌, ◌*◌, ◌<◌, ◌≤◌, ◌^◌, length};
 ghost use Rattle.dcel.specs.Rows.{There, row_of, links_of};
 ghost use Rattle.mesh.specs.Mesh.{turn};

@@ -2,6 +2,8 @@
 // that a push would have overfilled the row.
 // Where the list is long, a set of its entries answers whether an edge is in it: bits in the words at the row's end, counted from there,
 // while the list leaves them free. Where it does not, or no longer, the entries are looked through.
+#![tactic(auto)]
+
 ghost use Rattle.std.specs.Prelude.{◌≡◌, true, false, List, ◌∷◌, ℕ, ◌+◌, ◌-◌, ◌/◌, ◌%◌, ◌^◌, ◌<◌, ◌≤◌, ltb, length, get_or, set};
 ghost use Rattle.pending.specs.Pending.{pending_of, contains, one_of, push_if_not_contained, Holds};
 ghost use Rattle.pending.specs.Set.{word_at, is_marked, Marks, SetOf, Becomes, ToPop, LastTaken, Cleared, MarkedTo};

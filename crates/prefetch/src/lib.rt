@@ -5,6 +5,8 @@
 // has come to goes into the point's cell of the grid, from which the point's search starts. (Group prefetching, by plain reads.)
 // Nothing is believed of any row, and no contract says what is found: an index past a row's end is not read, the tests are in f64 and may
 // be out by their rounding, and a search may start from any edge.
+#![tactic(auto)]
+
 ghost use Rattle.std.specs.Prelude.{◌*◌, ◌≤◌, length};
 
 use angle::Point2;

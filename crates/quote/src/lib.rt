@@ -1,5 +1,7 @@
 // A quote: what a point would do, told before it counts, with the change count of the mesh that was asked (02, Change 5); and the two
 // refusals that only quotes know, 11 and 12. Nothing here knows a mesh.
+#![tactic(auto)]
+
 ghost use Rattle.std.specs.Prelude.{◌≡◌};
 ghost use Rattle.mesh_check.specs.Check.{refused, and_then};
 ghost use Rattle.quote.specs.Quote.{same_quote, check_quote, check_changes};

@@ -2,6 +2,7 @@
 // copies of those that tests/reference makes from an independent reading of the specification, and of oracle/answers.txt, the answers of
 // the Rust itself (their formats are in tests/reference/README.md and oracle/FORMAT.md). The lists of the calls, and the side queries among
 // the samples, go through the exports of the crate `fithmoul`. A list that is not whole counts as one difference more.
+#![tactic(auto)]
 
 // No list is as long as this.
 const TEXT: usize = 2097152;

@@ -1,6 +1,8 @@
 // The cases of the exported calls but ask, commit, finish and run: a file for each list, whose `agrees` says whether a case does. The
 // calls are made on rows that are owned here: each function lends the rows of a case, of which so many entries are the call's, and hands
 // back what was answered and left. The ring's rows and pending are lent with 7 in every entry. No function above these has a row of nodes.
+#![tactic(auto)]
+
 ghost use Rattle.std.specs.Prelude.{◌≤◌};
 ghost use Rattle.test_mesh.specs.Lent.{MeshLent, RingLent};
 

@@ -1,6 +1,8 @@
 // Lists every text of a list of cases and prints how many listings agree with those that must come, in length and in every byte. The list
 // is in data/, a copy of the one that tests/reference makes from an independent reading of the specification (its format is in
 // tests/reference/README.md). A list that is not whole counts as one difference more.
+#![tactic(auto)]
+
 ghost use Rattle.std.specs.Prelude.{◌≤◌, length};
 
 // No list is as long as this.

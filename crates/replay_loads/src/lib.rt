@@ -1,6 +1,8 @@
 // The cases of loading bare points: a file for the list, whose `agrees` says whether a case does. The call is made on rows that are owned
 // here: so many entries of each are lent, with what a case has in them, and what the call has answered and left is handed back. The
 // ring's rows, pending and the answers are lent with 7 in every entry. No function above this one has a row of nodes.
+#![tactic(auto)]
+
 ghost use Rattle.std.specs.Prelude.{◌≤◌};
 ghost use Rattle.test_mesh.specs.Lent.{CoordinatesLent, MeshLent, RingLent};
 

@@ -2,6 +2,8 @@
 // here: the exported finish and run, of whose rows so many entries are lent; and the two meshes that a case of the Rust's answers has,
 // after the last step of a run and after one pass of `fix_convexity`, for which all rows are lent whole. The ring's rows, pending and the
 // answers are lent with 7 in every entry. No function above these has a row of nodes.
+#![tactic(auto)]
+
 ghost use Rattle.std.specs.Prelude.{◌≤◌};
 ghost use Rattle.test_mesh.specs.Lent.{CoordinatesLent, MeshLent, RingLent};
 

@@ -1,4 +1,6 @@
 // Samples of the exact tests but the side query, of angles, segments and buckets: each line is one.
+#![tactic(auto)]
+
 mod angles;
 mod tests;
 

@@ -1,6 +1,8 @@
 // A new vertex enters the ring (bulk_load.rs, `Hull::insert`): the nodes that its two edges cover go, one is made for
 // it, the buckets follow; and the number of buckets (`adjust_bucket_size_if_necessary`). Over the rows of the ring
 // alone; what it does to the ring of a mesh is in crate `hull`.
+#![tactic(auto)]
+
 ghost use Rattle.std.specs.Prelude.{◌≡◌, ◌+◌, ◌-◌, ◌<◌, ◌≤◌, ◌^◌, length};
 ghost use Rattle.angle.specs.Angle.{IsAngle, turns};
 ghost use Rattle.segment.specs.Bucket.{Buckets, ceil_of};

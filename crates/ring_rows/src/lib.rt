@@ -1,6 +1,8 @@
 // The ring in the rows that the caller lends (bulk_load.rs, `Hull`, `Node`): a row of node records, each its angle, its edge,
 // its left and its right node, 24 bytes. `load`, `store`, `store_at` and the three relinks are all that touches the row;
 // everything else works with `Node` by value.
+#![tactic(auto)]
+
 ghost use Rattle.std.specs.Prelude.{◌≡◌, ℕ, ◌+◌, ◌%◌, ◌<◌, ◌≤◌, length, set, replicate, T};
 ghost use Rattle.sums.specs.Put.{put};
 ghost use Rattle.angle.specs.Angle.{IsAngle, valid_angle, turns};

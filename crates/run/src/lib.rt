@@ -1,6 +1,8 @@
 // The call `run`: the seed's ring, all steps in list order, the finish with the skipped points, on lent rows. What it answers and leaves is
 // `run_of` of the crate `sweep`, specs/Run.antt, for every input; what that means for the mesh is demand 3, specs/Demand3.antt there. The
 // call's contract, `Ran`, has both.
+#![tactic(auto)]
+
 ghost use Rattle.std.specs.Prelude.{◌≡◌};
 ghost use Rattle.dcel.specs.MeshRows.{mesh_rows};
 ghost use Rattle.mesh_check.specs.declared.Checked.TheVariants.{Accepted};

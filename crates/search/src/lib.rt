@@ -3,6 +3,8 @@
 // written. What is answered is `locate_point` of crate location, which has the definitions and what an answer claims.
 // Two edges of a triangle share a corner, so a turn reads three positions. A function that is not lent a row says what it
 // says whatever that row holds: o are the out edges and a or s the faces; and `counts` may stand for the contract alone.
+#![tactic(auto)]
+
 ghost use Rattle.std.specs.Prelude.{List, ◌≡◌, ℕ, ◌+◌, ◌<◌, ◌^◌};
 ghost use Rattle.dcel.specs.Rows.{halves_of, links_of, position_of, There};
 ghost use Rattle.location.specs.Search.{beyond, across_edge, rotate_ccw, rotate_cw, on_line_of, by_side, search_turn, search_from, nearest};

@@ -2,6 +2,8 @@
 // strictly inside one; elsewhere the search from vertex 0 decides. On a mesh to walk on the answer is `locate_point` of crate
 // location in either case, by `locate-inside` of crate nearby. And the test of such a mesh. Nothing is written.
 // A row that a function is lent and does not read stands for the contract alone.
+#![tactic(auto)]
+
 ghost use Rattle.std.specs.Prelude.{◌≡◌, ◌<◌};
 ghost use Rattle.circle_test.specs.GoodRows.{GoodRows};
 ghost use Rattle.dcel.specs.Rows.{links_of, position_of};

@@ -1,5 +1,7 @@
 // The seed grows from the front of a list of bare points, on lent rows: each point goes in, its answer is stored, and then whether the sweep
 // may start is tested. What is left is `seed_after` of the crate `bulk_load`, specs/Seed.antt.
+#![tactic(auto)]
+
 ghost use Rattle.std.specs.Prelude.{length};
 ghost use Rattle.seed.specs.SeedLeaves.{PointReady, PointLeaves, SeedReady, SeedLeaves};
 

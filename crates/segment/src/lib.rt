@@ -1,6 +1,8 @@
 // Segments of the circle of angles and its buckets (bulk_load.rs, `Segment`, `Hull::floored_bucket`,
 // `Hull::ceiled_bucket`). An angle that is looked up may be any float from 0.0 to 1.0; every answer goes by its whole
 // number of 2 ^ -53, rounded down.
+#![tactic(auto)]
+
 ghost use Rattle.std.specs.Prelude.{◌≡◌, ◌≢◌, ℕ, ◌^◌, ◌<◌, ◌≤◌, T};
 ghost use Rattle.angle.specs.Angle.{IsAngle, turns, valid_angle};
 ghost use Rattle.segment.specs.Arc.{holds, gap, wide};

@@ -2,6 +2,8 @@
 // spokes: once about it, from its out edge, the edge of each is tested, and what the test of one has read is carried on to the next. What
 // is answered is `Settled` of the crate mesh and `UnbrokenAt` of specs/Star.antt.
 // A row that a function is lent and does not read stands for the contract alone.
+#![tactic(auto)]
+
 ghost use Rattle.std.specs.Prelude.{◌≡◌, ◌<◌, T};
 ghost use Rattle.circle_test.specs.GoodRows.{GoodRows};
 ghost use Rattle.dcel.specs.Rows.{links_of, position_of};

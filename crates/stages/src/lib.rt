@@ -1,6 +1,8 @@
 // A run stopped after its last step, and one pass of `fix_convexity` by itself: the two meshes that the Rust is compared by. For the
 // comparison alone; no call needs them. Both take anything that is lent, as the calls do: what the checks of a run, or of a finish, refuse
 // is left as it was.
+#![tactic(auto)]
+
 ghost use Rattle.std.specs.Prelude.{◌≡◌};
 ghost use Rattle.corner.specs.CornerRows.{extended_of};
 ghost use Rattle.dcel.specs.MeshRows.{mesh_rows};

@@ -1,5 +1,7 @@
 // What a step and a run do before their first point and after their last: refusals 1 to 7 for a lent mesh, the points and the other rows;
 // the ring of the mesh's boundary, built in the lent rows; and zeros in the rows that end so.
+#![tactic(auto)]
+
 ghost use Rattle.std.specs.Prelude.{◌≡◌, length};
 ghost use Rattle.dcel.specs.MeshRows.{mesh_rows};
 ghost use Rattle.ring_rows.specs.RingRows.{ring_rows};

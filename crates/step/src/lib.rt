@@ -1,6 +1,8 @@
 // One step of the sweep (bulk_load.rs, `single_bulk_insertion_step`): what is decided about a point, and then done; the mesh and its ring
 // go from step to step in the lent rows. And the call `step`, which makes one step on a lent mesh, whose ring it builds first. What they
 // answer and leave is `step_mesh` and `step_of` of the crate `sweep`, specs/Step.antt and specs/StepCall.antt.
+#![tactic(auto)]
+
 ghost use Rattle.std.specs.Prelude.{◌≡◌, false, length};
 ghost use Rattle.dcel.specs.MeshRows.{MeshRows, mesh_rows};
 ghost use Rattle.ring_rows.specs.RingRows.{ring_rows};

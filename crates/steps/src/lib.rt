@@ -1,5 +1,7 @@
 // All steps of a run, in list order: a step for each point, and its answer stored, until a flip is refused. The mesh that they leave is
 // `sweep_after` of the crate `sweep`, specs/Run.antt. The rows must do for the seed and all points; the checks of a run see to that.
+#![tactic(auto)]
+
 ghost use Rattle.std.specs.Prelude.{◌≡◌, ◌+◌, ◌*◌, ◌≤◌, length};
 ghost use Rattle.answers.specs.AnswerRows.{with_words};
 ghost use Rattle.dcel.specs.Rows.{row_of};

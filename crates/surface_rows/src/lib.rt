@@ -2,6 +2,8 @@
 // After: the heights of the vertices that a step or a run has added, and those that skipped points have given to vertices; the counts and
 // the answers say which is whose. What each function answers or leaves is an equation with a definition of the crate
 // `surface` or of `heights`.
+#![tactic(auto)]
+
 ghost use Rattle.std.specs.Prelude.{false, cond, [], ◌∷◌, ◌≡◌, ◌+◌, ◌*◌, ◌<◌, ltb, length};
 ghost use Rattle.dcel.specs.MeshRows.{mesh_rows};
 ghost use Rattle.heights.specs.Heights.{surface_rows, height_of, heights_lent, heights_tested};

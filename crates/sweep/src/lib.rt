@@ -1,4 +1,6 @@
 // A step and a run as definitions, with their laws, demand 3 among them, in specs/; here the answer of a step, which they give.
+#![tactic(auto)]
+
 use decide::Fate;
 use mesh::Counts;
 use mesh_check::Refusal;

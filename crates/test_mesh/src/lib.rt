@@ -5,6 +5,8 @@
 //
 // A row is an array with the number of its entries that are lent, passed and answered by value: only the function that makes a public
 // call lends the rows. Those of the ring are lent with 7 in every entry.
+#![tactic(auto)]
+
 ghost use Rattle.std.specs.Prelude.{◌≡◌, ◌≤◌, length};
 ghost use Rattle.test_mesh.specs.Lent.{CoordinatesLent, WordsLent, MeshLent};
 

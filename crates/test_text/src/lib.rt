@@ -1,5 +1,7 @@
 // Lines of a tag and decimal numbers in a text of bytes, for the program that runs lists of cases. A cursor is a place in the text; past
 // its end there is nothing to read. What is no number, or too large for where it stands, leads there.
+#![tactic(auto)]
+
 #[derive(Clone, Copy)]
 pub struct Number {
     pub negative: bool,

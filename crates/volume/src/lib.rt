@@ -1,5 +1,7 @@
 // The call `volume` (02, Change 1): six times the signed volume between a mesh with heights and a level, exactly, and that
 // volume in whole cubic metres. It reads the mesh's rows and the heights, and writes nothing.
+#![tactic(auto)]
+
 ghost use Rattle.std.specs.Prelude.{◌≡◌, List, ℕ, ◌-◌, pos, ◌+ℤ◌, ◌-ℤ◌, ◌*ℤ◌};
 ghost use Rattle.dcel.specs.MeshRows.{mesh_rows};
 ghost use Rattle.dcel.specs.Rows.{links_of, position_of};

@@ -2,6 +2,8 @@
 // before the located edge and after it. The point's position and angle are handed in, and what a walk finds is stated for any of either; a
 // boundary vertex that a walk comes to is read once, and its angle is worked out once. Nothing is written. What is found is `WalkedTo` of
 // specs/Walks.antt.
+#![tactic(auto)]
+
 ghost use Rattle.std.specs.Prelude.{◌≡◌};
 ghost use Rattle.ring.specs.declared.Side.TheVariants.{Left, Right};
 ghost use Rattle.walks.specs.Walks.{origin_position, OriginIn, ToRead, ReadAt, ToCover, cover_test};

@@ -1,0 +1,6 @@
+-- `angle::equal` meets its contract, by the law `angle-eq` of `specs/Laws.antt`. Assumes nothing.
+use Rattle.angle.specs.Laws.{angle-eq}
+use Rattle.angle.proofs.equal.Goals as goal
+
+pub returns : goal.returns
+returns c = angle-eq c.args.a c.args.b c.requires.0 c.requires.1

@@ -1,0 +1,6 @@
+-- `angle::less` meets its contract, by the law `angle-lt` of `specs/Laws.antt`. Assumes nothing.
+use Rattle.angle.specs.Laws.{angle-lt}
+use Rattle.angle.proofs.less.Goals as goal
+
+pub returns : goal.returns
+returns c = angle-lt c.args.a c.args.b c.requires.0 c.requires.1

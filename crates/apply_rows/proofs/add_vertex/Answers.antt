@@ -1,0 +1,55 @@
+-- `apply_rows::add_vertex` meets its contract. Assumes nothing.
+use mathlib.Core.Path.{◌∙◌}
+use native.Mathlib.Omega.{arith}
+use Rattle.corner.specs.RowsLaws.{SameLengths}
+use Rattle.apply_rows.proofs.AddRows.{numbers_fit, first-ready, left-ready, right-ready, added-rows}
+use Rattle.apply_rows.proofs.add_vertex.Goals as goal
+
+pub overflow_mul-to : goal.overflow_mul-to
+overflow_mul-to c = record { fits = omega (arith, numbers_fit c.requires) }
+
+pub overflow_add-to : goal.overflow_add-to
+overflow_add-to c = record { fits = omega (arith, numbers_fit c.requires) }
+
+pub overflow_add-to-2 : goal.overflow_add-to-2
+overflow_add-to-2 c = record { fits = omega (arith, numbers_fit c.requires) }
+
+pub overflow_mul-from : goal.overflow_mul-from
+overflow_mul-from c = record { fits = omega (arith, numbers_fit c.requires) }
+
+pub overflow_add-from : goal.overflow_add-from
+overflow_add-from c = record { fits = omega (arith, numbers_fit c.requires) }
+
+pub first_face-first-requires : goal.first_face-first-requires
+first_face-first-requires c = first-ready c.requires
+
+pub walk-before-requires : goal.walk-before-requires
+walk-before-requires c =
+    let f = c.first_face-first in
+    left-ready c.requires {row₁ = f.new.1.1.1.1.0} _ f.ensures (record { outs = f.auto.1.0; halves = f.auto.1.1.0; faces = f.auto.1.1.1.0; pending = f.auto.1.1.1.1.0 })
+
+pub walk-after-requires : goal.walk-after-requires
+walk-after-requires c =
+    let f = c.first_face-first in
+    let w = c.walk-before in
+    right-ready c.requires {row₁ = f.new.1.1.1.1.0} _ f.ensures (record { outs = f.auto.1.0; halves = f.auto.1.1.0; faces = f.auto.1.1.1.0; pending = f.auto.1.1.1.1.0 })
+    {row₂ = w.new.1.1.1.1.0} _ w.ensures (record { outs = w.auto.1.0; halves = w.auto.1.1.0; faces = w.auto.1.1.1.0; pending = w.auto.1.1.1.1.0 })
+
+pub shape_of-outs : goal.shape_of-outs
+shape_of-outs c = c.walk-after.auto.1.0 ∙ c.walk-before.auto.1.0 ∙ c.first_face-first.auto.1.0
+
+pub shape_of-halves : goal.shape_of-halves
+shape_of-halves c = c.walk-after.auto.1.1.0 ∙ c.walk-before.auto.1.1.0 ∙ c.first_face-first.auto.1.1.0
+
+pub shape_of-faces : goal.shape_of-faces
+shape_of-faces c = c.walk-after.auto.1.1.1.0 ∙ c.walk-before.auto.1.1.1.0 ∙ c.first_face-first.auto.1.1.1.0
+
+pub shape_of-pending : goal.shape_of-pending
+shape_of-pending c = c.walk-after.auto.1.1.1.1.0 ∙ c.walk-before.auto.1.1.1.1.0 ∙ c.first_face-first.auto.1.1.1.1.0
+
+pub returns : goal.returns
+returns c =
+    let f = c.first_face-first in
+    let w = c.walk-before in
+    added-rows c.requires {row₁ = f.new.1.1.1.1.0} _ f.ensures (record { outs = f.auto.1.0; halves = f.auto.1.1.0; faces = f.auto.1.1.1.0; pending = f.auto.1.1.1.1.0 })
+    {row₂ = w.new.1.1.1.1.0} _ w.ensures (record { outs = w.auto.1.0; halves = w.auto.1.1.0; faces = w.auto.1.1.1.0; pending = w.auto.1.1.1.1.0 }) _ _ _ _ c.walk-after.ensures

@@ -1,0 +1,13 @@
+-- `apply_rows::beside` meets its contract. Assumes nothing.
+use borrow.Author.Rules.{rules}
+use mathlib.Core.Path.{◌∙◌}
+use Rattle.apply.specs.ApplyRows.{beside_in}
+use Rattle.apply_rows.proofs.beside.Goals as goal
+
+pub returns-in-Left : goal.returns-in-Left
+unfolding beside_in
+returns-in-Left c = rw c.enum_told-1.given.1 c.prev.ensures
+
+pub returns-in-Right : goal.returns-in-Right
+unfolding beside_in
+returns-in-Right c = rw c.enum_told-in-Right-1.given.1 c.next.ensures

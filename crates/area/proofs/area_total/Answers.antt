@@ -1,0 +1,15 @@
+-- `area::area_total` meets its contract. Assumes nothing.
+use mathlib.Core.Path.{sym, ◌∙◌}
+use borrow.Author.Rules.{rules}
+use Rattle.area.specs.AreaTotalLaws.{checked-summable, refused-area, accepted-area}
+use Rattle.area.proofs.area_total.Goals as goal
+
+pub sum_areas-requires : goal.sum_areas-requires
+sum_areas-requires c = checked-summable _ _ (sym c.check_surface.ensures ∙ c.enum_told-1.given.1)
+
+pub returns-in-Refused : goal.returns-in-Refused
+returns-in-Refused c = refused-area _ _ (sym c.check_surface.ensures ∙ c.r-1.given.1)
+
+pub returns-in-Accepted : goal.returns-in-Accepted
+returns-in-Accepted c =
+    accepted-area _ _ (sym c.check_surface.ensures ∙ c.enum_told-1.given.1) (c.sum_areas.ensures _)

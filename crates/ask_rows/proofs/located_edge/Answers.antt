@@ -1,0 +1,49 @@
+-- `ask_rows::located_edge` meets its contract. Assumes nothing.
+use borrow.Author.Rules.{rules}
+use mathlib.Core.Path.{refl}
+use Prim.Native.Nat.{◌-◌}
+use native.Mathlib.Omega.{arith}
+use Rattle.angle.specs.Angle.{turns}
+use Rattle.hull.specs.Along.{angled}
+use Rattle.ask_rows.proofs.Look.{Looking, there, next-angled, found, looking, not_found}
+use Rattle.ask_rows.proofs.located_edge.Goals as goal
+
+pub angle_at-from-requires : goal.angle_at-from-requires
+angle_at-from-requires c = angled 0 c.requires.0 refl
+
+pub loop-k-init : goal.loop-k-init
+loop-k-init c = record {
+  boundary = c.requires.0;
+  at = refl;
+  most = omega arith;
+  angle = c.angle_at-from.ensures;
+  none = λ j u t. omega arith;
+}
+
+pub next-next-requires : goal.next-next-requires
+next-next-requires c = there c.loop-k.invariant
+
+pub angle_at-to-requires : goal.angle_at-to-requires
+angle_at-to-requires c = next-angled c.loop-k.invariant c.next-next.ensures
+
+pub holds-requires : goal.holds-requires
+holds-requires c =
+    (c.loop-k.invariant.angle.is-angle, c.angle_at-to.ensures.is-angle, c.requires.1)
+
+pub returns-then-holds : goal.returns-then-holds
+returns-then-holds c =
+    found c.loop-k.invariant c.next-next.ensures c.angle_at-to.ensures c.holds.ensures c.loop-k-test.true c.if-holds.true
+
+pub overflow_add-k : goal.overflow_add-k
+overflow_add-k c =
+    record { fits = let a = c.loop-k-test.true in let b = c.ranges.size in omega arith }
+
+pub loop-k-smaller : goal.loop-k-smaller
+loop-k-smaller c = let a = c.loop-k-test.true in omega arith
+
+pub loop-k-preserved : goal.loop-k-preserved
+loop-k-preserved c =
+    looking c.loop-k.invariant c.next-next.ensures c.angle_at-to.ensures c.holds.ensures c.loop-k-test.true c.if-holds.false
+
+pub returns : goal.returns
+returns c = not_found c.loop-k.invariant c.loop-k-test.false

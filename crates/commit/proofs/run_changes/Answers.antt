@@ -1,0 +1,13 @@
+-- `commit::run_changes` meets its contract. Assumes nothing.
+use mathlib.Core.Path.{refl, sym, ◌∙◌}
+use Rattle.commit.specs.Commit.{run_changes}
+use borrow.Author.Rules.{rules}
+use Rattle.commit.proofs.run_changes.Goals as goal
+
+pub returns-then-is_made : goal.returns-then-is_made
+unfolding run_changes
+returns-then-is_made c = rw (sym c.is_made.ensures ∙ c.if-is_made.true) refl
+
+pub returns : goal.returns
+unfolding run_changes
+returns c = rw (sym c.is_made.ensures ∙ c.if-is_made.false) refl

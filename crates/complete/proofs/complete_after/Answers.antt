@@ -1,0 +1,47 @@
+-- `complete::complete_after` meets its contract. Assumes nothing.
+use borrow.Author.Rules.{rules}
+use mathlib.Core.Path.{◌∙◌}
+use native.Mathlib.Omega.{arith}
+use Rattle.complete.specs.CompleteLaws.{refused-before, passes-ready, refused-in, fill-ready, zeros-ready, closed_after}
+use Rattle.complete.specs.FillLoop.{filled-rows}
+use Rattle.complete.specs.NearLaws.{to-prepare}
+use Rattle.complete.proofs.complete_after.Goals as goal
+
+pub returns-then-full : goal.returns-then-full
+returns-then-full c = refused-before _ _ _ _ _ _ _ _ _ _ c.if-full.true c.zero_skipped.ensures c.stopped.ensures
+
+pub convexity-passed-requires : goal.convexity-passed-requires
+convexity-passed-requires c = passes-ready (c.requires.fill c.if-full.false)
+
+pub returns-then-passed : goal.returns-then-passed
+returns-then-passed c = refused-in _ _ (c.requires.fill c.if-full.false) c.if-full.false _ _ _ _ c.convexity-passed.ensures c.if-passed.true c.zero_skipped-then-passed.ensures c.stopped-then-passed.ensures
+
+pub prepare-near-requires : goal.prepare-near-requires
+prepare-near-requires c = to-prepare {row = c.convexity-passed.new.1.1.1.1.0} (fill-ready _ 0 (c.requires.fill c.if-full.false) c.if-full.false _ _ _ _ c.convexity-passed.ensures c.convexity-passed.auto.1.0 c.convexity-passed.auto.1.1.0 c.convexity-passed.auto.1.1.1.0 c.convexity-passed.auto.1.1.1.1.0)
+
+pub fill-filled-requires : goal.fill-filled-requires
+fill-filled-requires c = record { near = record { fill = fill-ready _ 0 (c.requires.fill c.if-full.false) c.if-full.false _ _ _ _ c.convexity-passed.ensures c.convexity-passed.auto.1.0 c.convexity-passed.auto.1.1.0 c.convexity-passed.auto.1.1.1.0 c.convexity-passed.auto.1.1.1.1.0; walkable = c.prepare-near.ensures.1; circles = c.prepare-near.ensures.2 }; unskipped = c.prepare-near.ensures.0 }
+
+pub zero_skipped-requires-2 : goal.zero_skipped-requires-2
+zero_skipped-requires-2 c = zeros-ready _ 0 (c.requires.fill c.if-full.false) c.if-full.false _ _ _ _ c.convexity-passed.ensures c.if-passed.false c.convexity-passed.auto.1.1.1.1.0 c.fill-filled.ensures.0 (let r = c.requires.answers-room in let k = c.fill-filled.auto.1.1.1.1.1.0 in omega arith)
+
+pub close-requires : goal.close-requires
+close-requires c = record { rows = λ f. filled-rows {row = c.convexity-passed.new.1.1.1.1.0} (fill-ready _ 0 (c.requires.fill c.if-full.false) c.if-full.false _ _ _ _ c.convexity-passed.ensures c.convexity-passed.auto.1.0 c.convexity-passed.auto.1.1.0 c.convexity-passed.auto.1.1.1.0 c.convexity-passed.auto.1.1.1.1.0) c.fill-filled.ensures.0 c.fill-filled.auto.0 c.fill-filled.auto.1.0 c.fill-filled.auto.1.1.0 c.fill-filled.auto.1.1.1.0; circles = c.fill-filled.ensures.1 }
+
+pub shape_of-outs : goal.shape_of-outs
+shape_of-outs c = c.close.auto.1.0 ∙ c.fill-filled.auto.1.0 ∙ c.convexity-passed.auto.1.0
+
+pub shape_of-halves : goal.shape_of-halves
+shape_of-halves c = c.close.auto.1.1.0 ∙ c.fill-filled.auto.1.1.0 ∙ c.convexity-passed.auto.1.1.0
+
+pub shape_of-faces : goal.shape_of-faces
+shape_of-faces c = c.close.auto.1.1.1.0 ∙ c.fill-filled.auto.1.1.1.0 ∙ c.convexity-passed.auto.1.1.1.0
+
+pub shape_of-pending : goal.shape_of-pending
+shape_of-pending c = c.fill-filled.auto.1.1.1.1.0 ∙ c.convexity-passed.auto.1.1.1.1.0
+
+pub shape_of-grid : goal.shape_of-grid
+shape_of-grid c = c.fill-filled.auto.1.1.1.1.1.1.0 ∙ c.prepare-near.auto.1.1.1.1.1.0
+
+pub returns : goal.returns
+returns c = closed_after _ _ (c.requires.fill c.if-full.false) c.if-full.false _ _ _ _ c.convexity-passed.ensures c.if-passed.false c.convexity-passed.auto.1.1.1.1.0 c.fill-filled.ensures.0 c.zero_skipped-2.ensures _ _ _ c.close.ensures

@@ -1,0 +1,8 @@
+-- `complete::fill` meets its contract. Assumes nothing.
+use borrow.Author.Rules.{rules}
+use Rattle.sums.specs.Bit.{from-true}
+use Rattle.complete.specs.NoneLaws.{none_filled}
+use Rattle.complete.proofs.fill.Goals as goal
+
+pub returns-then-near : goal.returns-then-near
+returns-then-near c = let p = c.requires in (none_filled p.near.fill (p.unskipped (from-true c.if-near.true)), λ t. absurd t)

@@ -1,0 +1,20 @@
+-- `complete::position_fate` meets its contract. Assumes nothing.
+use Rattle.skipped.specs.Insert.{position_fate}
+use borrow.Author.Rules.{rules}
+use Rattle.complete.proofs.position_fate.Goals as goal
+
+pub returns-in-OnVertex : goal.returns-in-OnVertex
+unfolding position_fate
+returns-in-OnVertex c = rw c.enum_told-1.given.1
+
+pub returns-in-OnEdge : goal.returns-in-OnEdge
+unfolding position_fate
+returns-in-OnEdge c = rw c.enum_told-in-OnEdge-1.given.1
+
+pub returns-in-OnFace : goal.returns-in-OnFace
+unfolding position_fate
+returns-in-OnFace c = rw c.enum_told-in-OnFace-1.given.1
+
+pub returns-in-OutsideOfConvexHull : goal.returns-in-OutsideOfConvexHull
+unfolding position_fate
+returns-in-OutsideOfConvexHull c = rw c.enum_told-in-OutsideOfConvexHull-1.given.1

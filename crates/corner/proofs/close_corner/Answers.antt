@@ -1,0 +1,15 @@
+-- `corner::close_corner` meets its contract. Assumes nothing.
+use borrow.Author.Rules.{rules}
+use Rattle.corner.proofs.Rows.{single-ready, legalize-ready, faces-fit-32, closed-row}
+use Rattle.corner.proofs.close_corner.Goals as goal
+
+pub legalize_edges_after_removal-done-requires : goal.legalize_edges_after_removal-done-requires
+legalize_edges_after_removal-done-requires c =
+    let f = c.create_single_face_between_edge_and_next-new in
+    legalize-ready c.requires f.ensures f.auto.0 f.auto.1.0
+
+pub overflow_add-result : goal.overflow_add-result
+overflow_add-result c = record { fits = faces-fit-32 c.requires }
+
+pub returns : goal.returns
+returns c = closed-row c.requires c.create_single_face_between_edge_and_next-new.ensures _ _ _ _ _ c.legalize_edges_after_removal-done.ensures

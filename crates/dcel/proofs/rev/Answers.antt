@@ -1,0 +1,6 @@
+-- `dcel::rev` meets its contract. Assumes nothing.
+use Rattle.sums.specs.Half.{rev-xor}
+use Rattle.dcel.proofs.rev.Goals as goal
+
+pub returns : goal.returns
+returns c = rev-xor _

@@ -1,0 +1,7 @@
+-- `dcel::set_next` meets its contract. Assumes nothing.
+use borrow.Author.Rules.{rules}
+use Rattle.dcel.proofs.Rows.{store-next}
+use Rattle.dcel.proofs.set_next.Goals as goal
+
+pub returns : goal.returns
+returns c = search store-next

@@ -1,0 +1,93 @@
+-- `decide::decide_at` meets its contract: each answer is the fate that its tests mean. Assumes nothing.
+use mathlib.Core.List.{List}
+use mathlib.Core.Path.{◌∙◌}
+use Prim.Native.Nat.{ℕ}
+use native.Mathlib.Omega.{arith}
+use borrow.Author.Rules.{rules, sfits_of}
+use mir.Facts.{to_z-of_z}
+use Rattle.mesh.specs.declared.Counts.{Counts}
+use Rattle.decide.specs.Located.{LocatedRows}
+use Rattle.decide.proofs.Deciding.{here-about, ends_at, asks-side, at_from, at-to, not_left, Passes, passes}
+use Rattle.decide.proofs.Deciding.{asks-left, asks-right, asks-fit, unsound, added}
+use Rattle.decide.proofs.decide_at.Goals as goal
+
+-- past the test of the side
+abbrev to_read : tie.Else3 → tie.After-origin-position2
+to_read l = l.before.before.before.before.before.before
+
+abbrev start : tie.Else3 → tie.Start
+start l = (to_read l).before.before.before.before
+
+passed : (l : tie.Else3) {C : Counts} {o a : List ℕ}
+    → LocatedRows C (start l).args.positions.now o (start l).args.halves.now a (start l).args.center.x (start l).args.center.y
+    (start l).args.e (start l).args.size (start l).args.next (start l).args.point (start l).args.angle
+    → Passes (start l).args.positions.now o (start l).args.halves.now a (start l).args.point (start l).args.e
+passed l K =
+    let s = l.before in let j = s.before in let y = j.before in let i = y.before in
+    let x = i.before in let t = x.before in let r = t.before in
+    passes K (ends_at K r.before.origin-position.ensures r.rev.ensures t.origin-position2.ensures)
+    x.is-position.ensures i.if1.false y.is-position2.ensures j.if2.false
+    (to_z-of_z (sfits_of s.side-query.type-inv) ∙ s.side-query.ensures) l.if3.false
+
+pub origin_position-from-requires : goal.origin_position-from-requires
+origin_position-from-requires c = (here-about c.requires.located).from
+
+pub origin_position-to-requires : goal.origin_position-to-requires
+origin_position-to-requires c = rw c.rev.ensures (here-about c.requires.located).to
+
+pub returns-then-is_position : goal.returns-then-is_position
+returns-then-is_position c C o a K =
+    at_from K (ends_at K c.origin_position-from.ensures c.rev.ensures c.origin_position-to.ensures)
+    c.is_position.ensures c.if-is_position.true c.leave.ensures
+
+pub returns-then-is_position-2 : goal.returns-then-is_position-2
+returns-then-is_position-2 c C o a K =
+    at-to K (ends_at K c.origin_position-from.ensures c.rev.ensures c.origin_position-to.ensures)
+    c.is_position.ensures c.if-is_position.false c.is_position-2.ensures c.if-is_position-2.true c.leave-then-is_position-2.ensures
+
+pub side_query-requires : goal.side_query-requires
+side_query-requires c =
+    let K = c.requires.located in
+    asks-side K (ends_at K c.origin_position-from.ensures c.rev.ensures c.origin_position-to.ensures)
+
+pub returns-then-side_query-le0 : goal.returns-then-side_query-le0
+returns-then-side_query-le0 c C o a K =
+    not_left K (ends_at K c.origin_position-from.ensures c.rev.ensures c.origin_position-to.ensures)
+    c.is_position.ensures c.if-is_position.false c.is_position-2.ensures c.if-is_position-2.false
+    (c.side_query.ensures) c.if-side_query-le0.true c.leave-then-side_query-le0.ensures
+
+pub walk_left-left-requires : goal.walk_left-left-requires
+walk_left-left-requires c =
+    let t = to_read c in let r = t.before in let P = (start c).requires in let K = P.located in
+    asks-left K (ends_at K r.before.origin-position.ensures r.rev.ensures t.origin-position2.ensures) P.ends
+
+pub walk_right-right-requires : goal.walk_right-right-requires
+walk_right-right-requires c =
+    let t = to_read c in let r = t.before in let P = (start c).requires in let K = P.located in
+    asks-right K (ends_at K r.before.origin-position.ensures r.rev.ensures t.origin-position2.ensures) P.ends
+
+pub overflow_add-nodes : goal.overflow_add-nodes
+overflow_add-nodes c =
+    let K = (start c).requires.located in
+    let m = (asks-fit K (passed c K) c.walk_left-left.ensures c.walk_right-right.ensures).3 in
+    record { fits = omega arith }
+
+pub overflow_add-nodes-2 : goal.overflow_add-nodes-2
+overflow_add-nodes-2 c =
+    let K = (start c).requires.located in
+    let m = (asks-fit K (passed c K) c.walk_left-left.ensures c.walk_right-right.ensures).3 in
+    record { fits = omega arith }
+
+pub is_fit-requires : goal.is_fit-requires
+is_fit-requires c =
+    let K = (start c).requires.located in
+    asks-fit K (passed c K) c.walk_left-left.ensures c.walk_right-right.ensures
+
+pub returns-then-not-is_fit : goal.returns-then-not-is_fit
+returns-then-not-is_fit c C o a K =
+    unsound K (passed c K) c.walk_left-left.ensures c.walk_right-right.ensures c.is_fit.ensures c.if-not-is_fit.true-raw
+    c.leave-then-not-is_fit.ensures
+
+pub returns : goal.returns
+returns c C o a K =
+    added K (passed c K) c.walk_left-left.ensures c.walk_right-right.ensures c.is_fit.ensures c.if-not-is_fit.false-raw

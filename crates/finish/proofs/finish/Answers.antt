@@ -1,0 +1,53 @@
+-- `finish::finish` meets its contract. Assumes nothing.
+use borrow.Author.Rules.{rules}
+use mathlib.Core.Path.{refl, sym, ◌∙◌, ap}
+use Prim.Native.Nat.{ℕ}
+use lib.ListN.{replicate}
+use Rattle.finish.specs.FinishRows.{accepted-ready}
+use Rattle.finish.proofs.Laws.{refused-outcome, accepted-outcome}
+use Rattle.finish.proofs.finish.Goals as goal
+
+pub check_seed-requires : goal.check_seed-requires
+check_seed-requires c = tt
+
+pub shape_of-outs-in-Refused : goal.shape_of-outs-in-Refused
+shape_of-outs-in-Refused c = refl
+
+pub shape_of-halves-in-Refused : goal.shape_of-halves-in-Refused
+shape_of-halves-in-Refused c = refl
+
+pub shape_of-faces-in-Refused : goal.shape_of-faces-in-Refused
+shape_of-faces-in-Refused c = refl
+
+pub shape_of-pending-in-Refused : goal.shape_of-pending-in-Refused
+shape_of-pending-in-Refused c = refl
+
+pub returns-in-Refused : goal.returns-in-Refused
+returns-in-Refused c = refused-outcome _ _ _ _ (sym c.refusal-1.given.1 ∙ c.check_seed.ensures)
+
+pub finish_mesh-ended-requires : goal.finish_mesh-ended-requires
+finish_mesh-ended-requires c = accepted-ready _ _ _ (sym c.enum_told-1.given.1 ∙ c.check_seed.ensures)
+
+pub clear-requires : goal.clear-requires
+clear-requires c = tt
+
+pub answer_of-requires : goal.answer_of-requires
+answer_of-requires c = tt
+
+pub shape_of-outs : goal.shape_of-outs
+shape_of-outs c = c.finish_mesh-ended.auto.1.0
+
+pub shape_of-halves : goal.shape_of-halves
+shape_of-halves c = c.finish_mesh-ended.auto.1.1.0
+
+pub shape_of-faces : goal.shape_of-faces
+shape_of-faces c = c.finish_mesh-ended.auto.1.1.1.0
+
+pub shape_of-pending : goal.shape_of-pending
+shape_of-pending c = c.clear.auto.0 ∙ c.finish_mesh-ended.auto.1.1.1.1.0
+
+pub returns : goal.returns
+returns c =
+    let m = c.finish_mesh-ended in
+    accepted-outcome _ _ _ (sym c.enum_told-1.given.1 ∙ c.check_seed.ensures) _ _ _ _ _ _
+    m.ensures m.auto.1.0 m.auto.1.1.0 m.auto.1.1.1.0 (c.clear.ensures ∙ ap (λ (n : ℕ). replicate {A = ℕ} n 0) m.auto.1.1.1.1.0) (c.answer_of.ensures _ _ _)

@@ -1,0 +1,15 @@
+-- `fithmoul::fithmoul_finish` meets its contract. Assumes nothing.
+use mathlib.Core.Path.{sym, ◌∙◌}
+use Rattle.surface.specs.SurfaceLaws.{finish-refused, finish-own}
+use Rattle.fithmoul.specs.Exported.{finish-exported}
+use borrow.Author.Rules.{rules}
+use Rattle.fithmoul.proofs.fithmoul_finish.Goals as goal
+
+pub returns-in-Refused : goal.returns-in-Refused
+returns-in-Refused c =
+    finish-exported (sym (finish-refused _ _ _ (sym c.check_finish-checked.ensures ∙ c.checked-1.given.1))) c.finish_refused.ensures
+
+pub returns : goal.returns
+returns c =
+    finish-exported (c.finish-answer.ensures ∙ sym (finish-own _ _ _ (sym c.check_finish-checked.ensures ∙ c.enum_told-1.given.1)))
+    c.finish_result.ensures

@@ -1,0 +1,11 @@
+-- `fithmoul::results::ask_result` meets its contract. Assumes nothing.
+use mathlib.Core.Path.{sym, ap}
+use Rattle.fithmoul.specs.Results.{ask_result}
+use borrow.Author.Rules.{rules}
+use Rattle.fithmoul.proofs.results.ask_result.Goals as goal
+
+pub returns-in-Quoted : goal.returns-in-Quoted
+returns-in-Quoted c = sym (ap ask_result c.asked-1.given.1)
+
+pub returns-in-Refused : goal.returns-in-Refused
+returns-in-Refused c = sym (ap ask_result c.asked-in-Refused-1.given.1)

@@ -1,0 +1,13 @@
+-- `fithmoul::results::side_query_result` meets its contract. Assumes nothing.
+use mathlib.Core.Path.{sym, ap}
+use mir.Facts.{to_z-of_z}
+use Rattle.fithmoul.specs.Results.{side_query_result}
+use borrow.Author.Rules.{rules, sfits_of}
+use Rattle.fithmoul.proofs.results.side_query_result.Goals as goal
+
+pub returns-in-Accepted : goal.returns-in-Accepted
+returns-in-Accepted c =
+    rw (to_z-of_z (sfits_of c.known_told-1.given.0.1)) (sym (ap side_query_result c.sided-1.given.1))
+
+pub returns-in-Refused : goal.returns-in-Refused
+returns-in-Refused c = sym (ap side_query_result c.sided-in-Refused-1.given.1)

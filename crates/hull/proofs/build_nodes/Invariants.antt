@@ -1,0 +1,11 @@
+-- The loop of `hull::build_nodes`.
+use Prim.Native.Nat.{◌-◌}
+use native.Mathlib.Omega.{arith}
+use Rattle.hull.proofs.Numbered.{Building, building, building-angled, built-more, built-all}
+use Rattle.hull.proofs.build_nodes.Given as goal
+
+abbrev pub invariant-loop-k : goal.invariant-loop-k
+invariant-loop-k l = Building l.positions l.halves l.center.x l.center.y l.start l.size l.initial.nodes l.nodes l.e l.left l.k
+
+abbrev pub decreases-loop-k : goal.decreases-loop-k
+decreases-loop-k l = l.size - l.k

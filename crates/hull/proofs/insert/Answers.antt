@@ -1,0 +1,16 @@
+-- `hull::insert` meets its contract. Assumes nothing.
+use borrow.Author.Rules.{rules}
+use Rattle.hull.proofs.Entering.{entering-insert, entering-adjust, entering-held}
+use Rattle.hull.proofs.insert.Goals as goal
+
+pub insert-entered-requires : goal.insert-entered-requires
+insert-entered-requires c = entering-insert c.requires.enters
+
+pub adjust_bucket_size_if_necessary-requires : goal.adjust_bucket_size_if_necessary-requires
+adjust_bucket_size_if_necessary-requires c =
+    entering-adjust c.requires.enters c.insert-entered.ensures c.insert-entered.auto.0 c.insert-entered.auto.1.0 c.insert-entered.auto.1.1.0
+
+pub returns : goal.returns
+returns c C L α C' L' α'' e m n q r N E =
+    entering-held E c.insert-entered.ensures c.insert-entered.auto.0 c.insert-entered.auto.1.0 c.insert-entered.auto.1.1.0
+    c.adjust_bucket_size_if_necessary.ensures c.adjust_bucket_size_if_necessary.auto.1.0

@@ -1,0 +1,14 @@
+-- The loop of `hull::is_strict`.
+use Prim.Native.Nat.{◌-◌}
+use native.Mathlib.Omega.{arith}
+use mathlib.Core.Path.{refl}
+use Rattle.sums.specs.Bit.{bit_le}
+use Rattle.hull.specs.Along.{angled}
+use Rattle.hull.proofs.Around.{Counting, counting, here-angled, next-angled, small-counts, counted, strict-end}
+use Rattle.hull.proofs.is_strict.Given as goal
+
+abbrev pub invariant-loop-k : goal.invariant-loop-k
+invariant-loop-k l = Counting l.positions l.halves l.center.x l.center.y l.start l.size l.e l.from l.wraps l.wides l.equals l.k
+
+abbrev pub decreases-loop-k : goal.decreases-loop-k
+decreases-loop-k l = l.size - l.k

@@ -1,0 +1,34 @@
+-- `hull_center_rows::has_strict_ring` meets its contract. Assumes nothing.
+use borrow.Author.Rules.{rules}
+use borrow.Author.Tests.{not-true, not-false}
+use Rattle.hull_center_rows.specs.Ready.{first-there, hull-size, boundary-in, not_valid, met-center, angled, by-strict}
+use Rattle.hull_center_rows.proofs.has_strict_ring.Goals as goal
+
+pub returns-then-not-validate_center : goal.returns-then-not-validate_center
+returns-then-not-validate_center c =
+    not_valid c.requires _ _ c.validate_center.ensures (not-true _ c.if-not-validate_center.true-raw)
+
+pub adjacent-start-requires : goal.adjacent-start-requires
+adjacent-start-requires c = first-there c.requires
+
+pub convex_hull_size-size-requires : goal.convex_hull_size-size-requires
+convex_hull_size-size-requires c = hull-size c.requires
+
+pub meets_center-requires : goal.meets_center-requires
+meets_center-requires c =
+    boundary-in c.requires c.args.center.x c.args.center.y c.adjacent-start.ensures c.convex_hull_size-size.ensures
+
+pub returns-then-meets_center : goal.returns-then-meets_center
+returns-then-meets_center c =
+    met-center c.requires _ _ c.adjacent-start.ensures c.convex_hull_size-size.ensures c.meets_center.ensures c.if-meets_center.true
+
+pub is_strict-requires : goal.is_strict-requires
+is_strict-requires c =
+    angled c.requires _ _ c.adjacent-start.ensures c.convex_hull_size-size.ensures
+    c.validate_center.ensures c.meets_center.ensures (not-false _ c.if-not-validate_center.false-raw) c.if-meets_center.false
+
+pub returns : goal.returns
+returns c =
+    by-strict c.requires _ _ c.adjacent-start.ensures c.convex_hull_size-size.ensures
+    c.validate_center.ensures c.meets_center.ensures (not-false _ c.if-not-validate_center.false-raw) c.if-meets_center.false
+    c.is_strict.ensures

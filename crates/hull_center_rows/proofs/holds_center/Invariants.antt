@@ -1,0 +1,11 @@
+-- The loop of `hull_center_rows::holds_center`.
+use Prim.Native.Nat.{◌-◌}
+use borrow.Author.Rules.{rules}
+use Rattle.hull_center_rows.specs.Holding.{Passed, passed_start, face-there, face-ready, passed_on, passed-hit, passed-end}
+use Rattle.hull_center_rows.proofs.holds_center.Given as goal
+
+abbrev pub invariant-loop-f : goal.invariant-loop-f
+invariant-loop-f l = Passed l.positions l.halves l.faces l.sum l.count l.f
+
+abbrev pub decreases-loop-f : goal.decreases-loop-f
+decreases-loop-f l = l.count - l.f

@@ -1,0 +1,13 @@
+-- `insert_outside::sees_beside` meets its contract. Assumes nothing.
+use borrow.Author.Rules.{rules}
+use Rattle.insert_outside.proofs.Sight.{sight-refused, sight-told}
+use Rattle.insert_outside.proofs.sees_beside.Goals as goal
+
+pub returns-then-added : goal.returns-then-added
+returns-then-added c = sight-refused _ _ _ _ _ c.if-added.true
+
+pub sees_edge-requires : goal.sees_edge-requires
+sees_edge-requires c = rw c.beside-d.ensures c.requires.sight
+
+pub returns : goal.returns
+returns c = sight-told _ _ _ _ _ c.if-added.false c.beside-d.ensures c.sees_edge.ensures

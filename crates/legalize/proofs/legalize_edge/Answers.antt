@@ -1,0 +1,36 @@
+-- `legalize::legalize_edge` meets its contract: the loop from one entry. Assumes nothing.
+use mathlib.Core.Bool.{false≢true}
+use mathlib.Core.List.{[]}
+use mathlib.Core.Path.{◌∙◌}
+use native.Mathlib.Omega.{arith}
+use Rattle.legalize.specs.declared.Entry.TheVariants.{HalfEdge}
+use Rattle.legalize.specs.LegalizeRows.{plain}
+use Rattle.legalize.specs.Turns.{half-edge-in}
+use Rattle.legalize.proofs.Starting.{empty, start-ready, start-leaves}
+use borrow.Author.Rules.{rules}
+use Rattle.legalize.proofs.legalize_edge.Goals as goal
+
+pub legalize_half_edges-requires : goal.legalize_half_edges-requires
+legalize_half_edges-requires c =
+    let p = c.push-n in
+    start-ready HalfEdge c.requires.0 (plain p.result) (p.ensures [] (empty _)) (λ t. absurd (false≢true t)) p.auto.0 (omega arith)
+    (half-edge-in c.args.counts _ c.requires.1)
+
+pub shape_of-outs : goal.shape_of-outs
+shape_of-outs c = c.legalize_half_edges.auto.1.0
+
+pub shape_of-halves : goal.shape_of-halves
+shape_of-halves c = c.legalize_half_edges.auto.1.1.0
+
+pub shape_of-faces : goal.shape_of-faces
+shape_of-faces c = c.legalize_half_edges.auto.1.1.1.0
+
+pub shape_of-pending : goal.shape_of-pending
+shape_of-pending c =
+    c.legalize_half_edges.auto.1.1.1.1.0 ∙ c.push-n.auto.0
+
+pub returns : goal.returns
+returns c =
+    let p = c.push-n in
+    start-leaves HalfEdge c.requires.0 (plain p.result) (p.ensures [] (empty _)) (λ t. absurd (false≢true t)) p.auto.0 (omega arith)
+    (half-edge-in c.args.counts _ c.requires.1) c.legalize_half_edges.ensures

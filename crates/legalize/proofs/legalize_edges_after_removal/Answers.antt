@@ -1,0 +1,39 @@
+-- `legalize::legalize_edges_after_removal` meets its contract: the loop from two entries. Assumes nothing.
+use mathlib.Core.List.{[]}
+use mathlib.Core.Path.{◌∙◌}
+use native.Mathlib.Omega.{arith}
+use Rattle.legalize.specs.declared.Entry.TheVariants.{Edge}
+use Rattle.legalize.specs.Turns.{edges-in}
+use Rattle.legalize.proofs.Starting.{empty, listed, unmarked, start-ready, start-leaves}
+use borrow.Author.Rules.{rules}
+use Rattle.legalize.proofs.legalize_edges_after_removal.Goals as goal
+
+pub legalize_edges-requires : goal.legalize_edges-requires
+legalize_edges-requires c =
+    let p₁ = c.push-n in
+    let p₂ = c.push-m in
+    let z = c.list_of-list in
+    start-ready Edge c.requires.0 z.result (listed z.result z.ensures.0 (p₂.ensures _ (p₁.ensures [] (empty _)))) (unmarked z.result z.ensures.1)
+    (p₂.auto.0 ∙ p₁.auto.0) (omega arith) (edges-in c.args.counts _ _ c.requires.1 c.requires.2)
+
+pub shape_of-outs : goal.shape_of-outs
+shape_of-outs c = c.legalize_edges.auto.1.0
+
+pub shape_of-halves : goal.shape_of-halves
+shape_of-halves c = c.legalize_edges.auto.1.1.0
+
+pub shape_of-faces : goal.shape_of-faces
+shape_of-faces c = c.legalize_edges.auto.1.1.1.0
+
+pub shape_of-pending : goal.shape_of-pending
+shape_of-pending c =
+    c.legalize_edges.auto.1.1.1.1.0 ∙ c.push-m.auto.0 ∙ c.push-n.auto.0
+
+pub returns : goal.returns
+returns c =
+    let p₁ = c.push-n in
+    let p₂ = c.push-m in
+    let z = c.list_of-list in
+    start-leaves Edge c.requires.0 z.result (listed z.result z.ensures.0 (p₂.ensures _ (p₁.ensures [] (empty _)))) (unmarked z.result z.ensures.1)
+    (p₂.auto.0 ∙ p₁.auto.0) (omega arith) (edges-in c.args.counts _ _ c.requires.1 c.requires.2)
+    c.legalize_edges.ensures

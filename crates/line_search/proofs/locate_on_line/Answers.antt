@@ -1,0 +1,20 @@
+-- `line_search::locate_on_line` meets its contract. Assumes nothing.
+use borrow.Author.Rules.{rules}
+use Rattle.line_search.specs.OnLine.{vertices-ready, neighbors-ready, place-vertex, place-between}
+use Rattle.line_search.proofs.locate_on_line.Goals as goal
+
+pub neighbors_of-found-requires : goal.neighbors_of-found-requires
+neighbors_of-found-requires c = vertices-ready c.requires
+
+pub at_neighbors-requires : goal.at_neighbors-requires
+at_neighbors-requires c =
+    neighbors-ready c.requires c.neighbors_of-found.ensures c.found-in-Between-1.given.1
+
+pub returns-in-Vertex : goal.returns-in-Vertex
+returns-in-Vertex c =
+    place-vertex c.requires c.neighbors_of-found.ensures c.found-1.given.1
+
+pub returns-in-Between : goal.returns-in-Between
+returns-in-Between c =
+    place-between c.requires c.neighbors_of-found.ensures c.found-in-Between-1.given.1
+    c.at_neighbors.ensures

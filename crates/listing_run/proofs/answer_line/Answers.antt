@@ -1,0 +1,16 @@
+-- `listing_run::answer_line` meets its contract. Assumes nothing.
+use borrow.Author.Rules.{rules}
+use Rattle.dcel.specs.Rows.{row_of}
+use Prim.Native.Nat.{◌+◌, ◌*◌}
+use native.Mathlib.Omega.{arith}
+use Rattle.sweep.specs.Run.{answer_words}
+use Rattle.listing_text.specs.ListingLaws.{point-length}
+use Rattle.listing_run.proofs.Rows.{answer-is}
+use Rattle.listing_run.proofs.answer_line.Goals as goal
+
+pub returns : goal.returns
+unfolding row_of
+returns c =
+    let a = answer_words * c.args.i in
+    let g = c.shared_slice_known-4-1.given in
+    (answer-is _ _, point-length _ (omega (arith, c.ranges.i)) (omega (arith, g a)) (omega (arith, g (a + 1))) (omega (arith, g (a + 2))) (omega (arith, g (a + 3))))

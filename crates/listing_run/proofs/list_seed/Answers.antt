@@ -1,0 +1,36 @@
+-- `listing_run::list_seed` meets its contract. Assumes nothing.
+use borrow.Author.Rules.{rules}
+use mathlib.Core.Path.{◌∙◌, ap}
+use Rattle.listing_run.specs.ListingRun.{lent_listing}
+use Rattle.listing_run.proofs.Lengths.{short-at}
+use Rattle.listing_run.proofs.Rows.{appended-as}
+use Rattle.listing_run.proofs.Seed.{points-few, seed-lent}
+use Rattle.listing_run.proofs.list_seed.Goals as goal
+
+-- UNMATCHED slice-bounds-list-lent-start
+-- part-list-lent-start : tie.Need-slice-bounds-list-lent-start
+-- part-list-lent-start c = search rules
+
+-- UNMATCHED slice-bounds-list-lent-end
+-- part-list-lent-end : tie.Need-slice-bounds-list-lent-end
+-- part-list-lent-end c = search rules
+
+pub list_lent-requires : goal.list_lent-requires
+list_lent-requires c = points-few c.args.numbers.now c.requires.0.0 c.requires.0.1
+
+pub shape_of-positions : goal.shape_of-positions
+shape_of-positions c = c.list_lent.auto.1.0 ∙ c.store_seed.auto.1.0
+
+pub shape_of-outs : goal.shape_of-outs
+shape_of-outs c = c.list_lent.auto.1.1.0 ∙ c.store_seed.auto.1.1.0
+
+pub shape_of-halves : goal.shape_of-halves
+shape_of-halves c = c.list_lent.auto.1.1.1.0 ∙ c.store_seed.auto.1.1.1.0
+
+pub shape_of-faces : goal.shape_of-faces
+shape_of-faces c = c.list_lent.auto.1.1.1.1.0 ∙ c.store_seed.auto.1.1.1.1.0
+
+pub returns : goal.returns
+returns c =
+    let e = ap lent_listing (seed-lent c.args.numbers.now _ _ _ _ _ c.store_seed.ensures.0 c.store_seed.ensures.1 c.store_seed.ensures.2 c.store_seed.ensures.3 (record { sfits = c.to_f64-arg-1.given }) (record { sfits = c.to_f64-arg-2-1.given }) c.to_f64-center.ensures.0 c.to_f64-center.ensures.1) in
+    (appended-as e c.list_lent.ensures.0, short-at e c.list_lent.ensures.1)

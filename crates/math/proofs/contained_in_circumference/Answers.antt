@@ -1,0 +1,70 @@
+-- `math::contained_in_circumference` meets its contract: the two products add up to the determinant, of which the answer has the sign.
+-- Assumes nothing.
+use mathlib.Core.Path.{◌≡◌, sym, ◌∙◌, ap, ap₂, subst}
+use Prim.Native.Nat.{◌≤◌}
+use lib.IntN.{ℤ, pos, nat_abs, ◌+ℤ◌, ◌*ℤ◌}
+use lib.Signed.{lt_z}
+use mir.Syntax.{w64}
+use mir.Facts.{to_z-of_z}
+use borrow.Author.Rules.{rules, sfits_of}
+use Rattle.math.specs.declared.Vector.{Vector}
+use Rattle.math.specs.Determinant.{incircle}
+use Rattle.math.specs.Vector.{Short, dot_of, cross_of, short, dot-small, cross-small, incircle-by}
+use Rattle.math.specs.Wide.{AtMost51, sgn, sgn-test}
+use Rattle.math.proofs.contained_in_circumference.Goals as goal
+
+-- ---- the four differences
+module _ (c : tie.After-sub4) where
+  abbrev u : Vector
+  u = c.before.before.before.sub.result
+
+  abbrev v : Vector
+  v = c.before.before.sub2.result
+
+  abbrev s : Vector
+  s = c.before.sub3.result
+
+  abbrev t : Vector
+  t = c.sub4.result
+
+  shorts : Short u × Short v × Short s × Short t
+  shorts =
+      let p = c.before.before.before.before.requires in
+      (short c.before.before.before.sub.ensures p.0 p.2, short c.before.before.sub2.ensures p.1 p.2, short c.before.sub3.ensures p.0 p.3, short c.sub4.ensures p.1 p.3)
+
+  whole : let a = c.before.before.before.before.args in cross_of v u *ℤ dot_of s t +ℤ dot_of u v *ℤ cross_of s t ≡ incircle a.v1 a.v2 a.v3 a.p
+  whole =
+      let a = c.before.before.before.before.args in
+      incircle-by a.v1 a.v2 a.v3 a.p c.before.before.before.sub.ensures c.before.before.sub2.ensures c.before.sub3.ensures c.sub4.ensures
+
+small : {r z : ℤ} → r ≡ z → nat_abs z ≤ 2251799813685248 → AtMost51 r
+small e h = record { abs = subst (λ (z : ℤ). nat_abs z ≤ 2251799813685248) (sym e) h }
+
+pub cross-requires : goal.cross-requires
+cross-requires c = let h = shorts c in (h.1, h.0)
+
+pub dot-requires : goal.dot-requires
+dot-requires c = let h = shorts c in (h.2, h.3)
+
+pub dot-requires-2 : goal.dot-requires-2
+dot-requires-2 c = let h = shorts c in (h.0, h.1)
+
+pub cross-requires-2 : goal.cross-requires-2
+cross-requires-2 c = let h = shorts c in (h.2, h.3)
+
+pub sum_sign-requires : goal.sum_sign-requires
+sum_sign-requires c =
+    let h = shorts c in (
+      small (c.cross.ensures) (cross-small h.1 h.0),
+      small (c.dot.ensures) (dot-small h.2 h.3),
+      small (c.dot-2.ensures) (dot-small h.0 h.1),
+      small (c.cross-2.ensures) (cross-small h.2 h.3),
+    )
+
+pub returns : goal.returns
+returns c =
+    let a = c.args in
+    ap (lt_z (pos 0)) {y = c.sum_sign.result} (to_z-of_z {w = w64} (sfits_of c.sum_sign.type_inv))
+    ∙ sgn-test c.sum_sign.result (incircle a.v1 a.v2 a.v3 a.p)
+    (c.sum_sign.ensures
+    ∙ ap sgn (ap₂ ◌+ℤ◌ (ap₂ ◌*ℤ◌ (c.cross.ensures) (c.dot.ensures)) (ap₂ ◌*ℤ◌ (c.dot-2.ensures) (c.cross-2.ensures)) ∙ whole c))

@@ -1,0 +1,42 @@
+-- `math::wide::split` meets its contract: the shift rounds down, and what is left is below 2 ^ 26.
+-- Assumes nothing.
+use mathlib.Core.Path.{◌≡◌, sym, ◌∙◌, ap, subst}
+use mathlib.Core.List.{[], ◌∷◌}
+use Prim.Native.Nat.{◌≤◌}
+use native.Mathlib.Omega.{arith}
+use lib.IntN.{ℤ, pos, nat_abs, ◌-ℤ◌, ◌*ℤ◌}
+use lib.Signed.{shr_z}
+use mir.Syntax.{w64}
+use mir.Val.{to_z, of_z}
+use mir.Facts.{to_z-of_z}
+use Rattle.algebra.specs.Ring.{E, num, v0, v1, ◌⊖◌, ◌⊗◌}
+use Rattle.algebra.specs.Bound.{Env, []ᵉ, ◌∷ᵉ◌, fits64, reads64}
+use Rattle.math.specs.Wide.{shr-abs, split-of}
+use Rattle.math.proofs.wide.split.Goals as goal
+
+-- the shift of what the machine reads of x
+abbrev hi : tie.Start → ℤ
+hi c = shr_z (to_z w64 (of_z w64 c.args.x)) 67108864
+
+hi-is : (c : tie.Start) → hi c ≡ shr_z c.args.x 67108864
+hi-is c = ap (λ (z : ℤ). shr_z z 67108864) (to_z-of_z c.ranges.x)
+
+hi_small : (c : tie.Start) → nat_abs (hi c) ≤ 536870913
+hi_small c = subst (λ (z : ℤ). nat_abs z ≤ 536870913) (sym (hi-is c)) (omega (arith, shr-abs c.args.x, c.requires))
+
+env : (c : tie.Start) → Env (c.args.x ∷ hi c ∷ []) (36028797018963968 ∷ 536870913 ∷ [])
+env c = c.requires ∷ᵉ hi_small c ∷ᵉ []ᵉ
+
+abbrev K : E
+K = num (pos 67108864)
+
+pub overflow_mul-lo : goal.overflow_mul-lo
+overflow_mul-lo c = fits64 (env c) (v1 ⊗ K) tt
+
+pub overflow_sub-lo : goal.overflow_sub-lo
+overflow_sub-lo c = fits64 (env c) (v0 ⊖ v1 ⊗ K) tt
+
+pub returns : goal.returns
+returns c =
+    let h = reads64 (env c) v1 tt in
+    split-of c.args.x _ _ (h ∙ hi-is c) (reads64 (env c) (v0 ⊖ v1 ⊗ K) tt ∙ ap (λ (z : ℤ). c.args.x -ℤ z *ℤ pos 67108864) (sym h))

@@ -1,0 +1,7 @@
+-- `pending::last` meets its contract. Assumes nothing.
+use Rattle.pending.specs.PendingLaws.{pending-last}
+use borrow.Author.Rules.{rules}
+use Rattle.pending.proofs.last.Goals as goal
+
+pub returns : goal.returns
+returns c = pending-last _ _ c.requires.0

@@ -1,0 +1,12 @@
+-- The loop of `ring_rows::walk_both`.
+use borrow.Author.Rules.{rules}
+use Prim.Native.Nat.{◌-◌}
+use native.Mathlib.Omega.{arith}
+use Rattle.ring_rows.proofs.WalkBoth.{Walking, begin, right-test, left-test, right_there, left_there, found_right, found_left, not_found, again}
+use Rattle.ring_rows.proofs.walk_both.Given as goal
+
+abbrev pub invariant-loop-turn : goal.invariant-loop-turn
+invariant-loop-turn l = Walking l.nodes l.angle l.initial.right l.initial.left l.right l.left l.turn
+
+abbrev pub decreases-loop-turn : goal.decreases-loop-turn
+decreases-loop-turn l = l.limit - l.turn

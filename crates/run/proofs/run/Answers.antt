@@ -1,0 +1,16 @@
+-- `run::run` meets its contract. Assumes nothing.
+use borrow.Author.Rules.{rules}
+use mathlib.Core.Path.{sym, ◌∙◌}
+use Rattle.sweep.specs.RunLaws.{run_ran}
+use Rattle.steps.specs.StepsReady.{run-checks}
+use Rattle.run.proofs.RunDone.{refused-run}
+use Rattle.run.proofs.run.Goals as goal
+
+pub run_accepted-requires : goal.run_accepted-requires
+run_accepted-requires c = sym (run-checks _ c.answers_short-short.ensures c.check_sweep.ensures) ∙ c.enum_told-1.given.1
+
+pub returns-in-Refused : goal.returns-in-Refused
+returns-in-Refused c = run_ran _ _ (refused-run _ _ (sym c.refusal-1.given.1 ∙ run-checks _ c.answers_short-short.ensures c.check_sweep.ensures))
+
+pub returns-in-Accepted : goal.returns-in-Accepted
+returns-in-Accepted c = run_ran _ _ c.run_accepted.ensures

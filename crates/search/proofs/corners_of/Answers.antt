@@ -1,0 +1,29 @@
+-- `search::corners_of` meets its contract. Assumes nothing.
+use borrow.Author.Rules.{rules}
+use Rattle.search.specs.Triangles.{second-there, second-placed, third-there, third-placed, corners-are}
+use Rattle.search.proofs.corners_of.Goals as goal
+
+pub next-c-requires : goal.next-c-requires
+next-c-requires c = second-there c.requires c.next-b.ensures
+
+pub origin-v-requires : goal.origin-v-requires
+origin-v-requires c =
+    second-there c.requires c.next-b.ensures
+
+pub origin-w-requires : goal.origin-w-requires
+origin-w-requires c =
+    third-there c.requires c.next-b.ensures c.next-c.ensures
+
+pub position-requires-2 : goal.position-requires-2
+position-requires-2 c =
+    second-placed c.requires c.next-b.ensures c.origin-v.ensures
+
+pub position-requires-3 : goal.position-requires-3
+position-requires-3 c =
+    third-placed c.requires c.next-b.ensures c.next-c.ensures c.origin-w.ensures
+
+pub returns : goal.returns
+returns c =
+    corners-are c.requires c.next-b.ensures c.next-c.ensures c.origin-u.ensures c.origin-v.ensures
+    c.origin-w.ensures
+    c.position.ensures c.position-2.ensures c.position-3.ensures

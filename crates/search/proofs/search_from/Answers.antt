@@ -1,0 +1,28 @@
+-- `search::search_from` meets its contract. The invariant: to go on from here with the turns that are left is to go on from the
+-- start. The measure is their number. Assumes nothing.
+use native.Mathlib.Omega.{arith}
+use mathlib.Core.Path.{refl}
+use borrow.Author.Rules.{rules}
+use Rattle.search.specs.Searching.{Searching, searching-start, searching-found, searching-on, searching-end}
+use Rattle.search.proofs.search_from.Goals as goal
+
+pub overflow_mul-left : goal.overflow_mul-left
+overflow_mul-left c = let s = c.requires.1 in record { fits = omega arith }
+
+pub loop-left-init : goal.loop-left-init
+loop-left-init c = searching-start c.requires.0
+
+pub search_turn-state-requires : goal.search_turn-state-requires
+search_turn-state-requires c = c.loop-left.invariant.ready
+
+pub returns-in-Found : goal.returns-in-Found
+returns-in-Found c =
+    searching-found c.loop-left.invariant c.loop-left-test.true c.search_turn-state.ensures c.state-1.given.1
+    _ refl
+
+pub loop-left-preserved : goal.loop-left-preserved
+loop-left-preserved c =
+    searching-on c.loop-left.invariant c.loop-left-test.true c.search_turn-state.ensures c.state-in-Onward-1.given.1
+
+pub returns : goal.returns
+returns c = searching-end c.loop-left.invariant (let l = c.loop-left-test.false in omega arith) _ refl

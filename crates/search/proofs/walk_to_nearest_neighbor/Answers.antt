@@ -1,0 +1,37 @@
+-- `search::walk_to_nearest_neighbor` meets its contract. The invariant: to go on from here is to go on from vertex 0. The
+-- measure is the number of vertices that are closer. Assumes nothing.
+use mathlib.Core.Path.{◌∙◌}
+use mir.Facts.{to_z-of_z}
+use mir.Syntax.{w64}
+use mir.Val.{to_z}
+use borrow.Author.Rules.{rules, sfits_of}
+use Rattle.dcel.specs.Rows.{position_of}
+use Rattle.location.specs.Search.{closer_count}
+use Rattle.search.specs.Nearing.{Nearing, first-there, first_range, nearing-start, nearing-spokes, nearing-on, nearing-less, nearing-end}
+use Rattle.search.proofs.walk_to_nearest_neighbor.Goals as goal
+
+pub position-start-requires : goal.position-start-requires
+position-start-requires c = first-there c.requires
+
+pub distance_2-distance-requires : goal.distance_2-distance-requires
+distance_2-distance-requires c =
+    first_range c.requires c.position-start.ensures
+
+pub loop-w-init : goal.loop-w-init
+loop-w-init c =
+    nearing-start c.requires c.position-start.ensures (c.distance_2-distance.ensures)
+
+pub first_closer-closer-requires : goal.first_closer-closer-requires
+first_closer-closer-requires c = nearing-spokes c.loop-w.invariant
+
+pub loop-w-smaller : goal.loop-w-smaller
+loop-w-smaller c =
+    nearing-less c.loop-w.invariant c.first_closer-closer.ensures c.closer-1.given.1
+
+pub loop-w-preserved : goal.loop-w-preserved
+loop-w-preserved c =
+    nearing-on c.loop-w.invariant c.first_closer-closer.ensures c.closer-1.given.1 (to_z-of_z (sfits_of c.known_told-1.given.1.0.1))
+
+pub returns-in-Nothing : goal.returns-in-Nothing
+returns-in-Nothing c =
+    nearing-end c.loop-w.invariant c.first_closer-closer.ensures c.enum_told-1.given.1

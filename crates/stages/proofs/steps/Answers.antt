@@ -1,0 +1,15 @@
+-- `stages::steps` meets its contract. Assumes nothing.
+use borrow.Author.Rules.{rules}
+use mathlib.Core.Path.{sym, ◌∙◌}
+use Rattle.steps.specs.StepsReady.{run-checks}
+use Rattle.stages.proofs.StagesRows.{stepped-refused, stepped-accepted}
+use Rattle.stages.proofs.steps.Goals as goal
+
+pub steps_accepted-requires : goal.steps_accepted-requires
+steps_accepted-requires c = sym (run-checks _ c.answers_short-short.ensures c.check_sweep.ensures) ∙ c.enum_told-1.given.1
+
+pub returns-in-Refused : goal.returns-in-Refused
+returns-in-Refused c = stepped-refused _ _ (sym c.refusal-1.given.1 ∙ run-checks _ c.answers_short-short.ensures c.check_sweep.ensures)
+
+pub returns-in-Accepted : goal.returns-in-Accepted
+returns-in-Accepted c = c.steps_accepted.ensures ∙ stepped-accepted _ (sym (run-checks _ c.answers_short-short.ensures c.check_sweep.ensures) ∙ c.enum_told-1.given.1)
