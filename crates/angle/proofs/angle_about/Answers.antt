@@ -25,9 +25,6 @@ returns c =
     let y = c.args.y in
     let o = c.args.center in
     let px = c.to_f64.ensures.0 ∙ ap (of_int binary64) (to_z-of_z w32 x c.ranges.x) in
-    let py = c.to_f64.ensures.1 ∙ ap (of_int binary64) (to_z-of_z w32 y c.ranges.y) in (
-      c.pseudo_angle.ensures.0
+    let py = c.to_f64.ensures.1 ∙ ap (of_int binary64) (to_z-of_z w32 y c.ranges.y) in record { is = c.pseudo_angle.ensures.is
           ∙ ap (λ (a : Float). pseudo_angle a c.to_f64.result.y o.x o.y) px
-          ∙ ap (λ (b : Float). pseudo_angle (of_int binary64 x) b o.x o.y) py,
-      c.pseudo_angle.ensures.1,
-    )
+          ∙ ap (λ (b : Float). pseudo_angle (of_int binary64 x) b o.x o.y) py; angle = c.pseudo_angle.ensures.angle }

@@ -45,4 +45,4 @@ returns c =
     let fa = c.struct_known-1.given in
     let fo = c.struct_known-2-1.given in
     let is = ⊎_elim (λ w. as-up x y u v c.if-y.q p q w.0.taken w.1) (λ w. as-down x y u v c.if-y.q p q w.0.left w.1) c.if-y.branch in
-    (is, subst IsAngle (sym is) (pseudo-is-angle a.x a.y o.x o.y fa.0 fa.1.0 fo.0 fo.1.0 c.requires))
+    record { is = is; angle = subst IsAngle (sym is) (pseudo-is-angle a.x a.y o.x o.y fa.0 fa.1.0 fo.0 fo.1.0 c.requires) }

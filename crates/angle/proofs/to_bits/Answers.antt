@@ -7,4 +7,4 @@ pub float_to_bits-result : goal.float_to_bits-result
 float_to_bits-result c = angle-no-nan c.args.a c.requires
 
 pub returns : goal.returns
-returns c = (refl, angle-bits c.args.a c.requires)
+returns c = record { is = refl; back = angle-bits c.args.a c.requires }

@@ -34,7 +34,7 @@ pub float_to_bits-bits : goal.float_to_bits-bits
 float_to_bits-bits c = valid-no-nan c.args.a c.requires
 
 pub returns-then-exponent-lt970 : goal.returns-then-exponent-lt970
-returns-then-exponent-lt970 c = let a = c.args.a in (low (to_bits binary64 a) (turns a) (valid-read a c.requires) c.if-exponent-lt970.true, zero-le)
+returns-then-exponent-lt970 c = let a = c.args.a in record { is = low (to_bits binary64 a) (turns a) (valid-read a c.requires) c.if-exponent-lt970.true; small = zero-le }
 
 pub overflow_add-mantissa : goal.overflow_add-mantissa
 overflow_add-mantissa c = omega (arith, digits (to_bits binary64 c.args.a))
@@ -49,4 +49,4 @@ pub returns : goal.returns
 returns c =
     let a = c.args.a in
     let is = (high (to_bits binary64 a) (turns a) (valid-read a c.requires) c.if-exponent-lt970.false).1 in
-    (is, le_trans (le_of_eq is) (valid-small a c.requires))
+    record { is = is; small = le_trans (le_of_eq is) (valid-small a c.requires) }

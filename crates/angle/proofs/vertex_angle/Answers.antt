@@ -30,7 +30,7 @@ returns-then-is_at_center c =
     let x = c.args.x in
     let y = c.args.y in
     let o = c.args.center in
-    (none x y o.x o.y (sym (c.is_at_center.ensures ∙ same_test x y _ _ o.x o.y (to_z-of_z w32 x c.ranges.x) (to_z-of_z w32 y c.ranges.y)) ∙ c.if-is_at_center.true), tt)
+    record { is = none x y o.x o.y (sym (c.is_at_center.ensures ∙ same_test x y _ _ o.x o.y (to_z-of_z w32 x c.ranges.x) (to_z-of_z w32 y c.ranges.y)) ∙ c.if-is_at_center.true); angle = tt }
 
 pub angle_about-requires : goal.angle_about-requires
 angle_about-requires c =
@@ -42,8 +42,5 @@ returns c =
     let y = c.args.y in
     let o = c.args.center in
     let p = to_z-of_z w32 x c.ranges.x in
-    let q = to_z-of_z w32 y c.ranges.y in (
-      one x y o.x o.y c.angle_about.result (sym (c.is_at_center.ensures ∙ same_test x y _ _ o.x o.y p q) ∙ c.if-is_at_center.false)
-          (c.angle_about.ensures.0 ∙ same-angle x y _ _ o.x o.y p q),
-      c.angle_about.ensures.1,
-    )
+    let q = to_z-of_z w32 y c.ranges.y in record { is = one x y o.x o.y c.angle_about.result (sym (c.is_at_center.ensures ∙ same_test x y _ _ o.x o.y p q) ∙ c.if-is_at_center.false)
+          (c.angle_about.ensures.is ∙ same-angle x y _ _ o.x o.y p q); angle = c.angle_about.ensures.angle }

@@ -16,7 +16,7 @@ new-segment-requires c =
     (p.0, p.1, λ e. false≢true (sym c.if-equal.false ∙ c.equal.ensures ∙ eq-eqb _ _ e))
 
 pub contains_angle-requires : goal.contains_angle-requires
-contains_angle-requires c = (c.new-segment.ensures.1.0, angle-valid _ c.requires.2)
+contains_angle-requires c = (c.new-segment.ensures.angles.0, angle-valid _ c.requires.2)
 
 pub returns : goal.returns
-returns c = c.contains_angle.ensures.1 ∙ c.new-segment.ensures.1.1 _
+returns c = c.contains_angle.ensures.whole ∙ c.new-segment.ensures.angles.1 _

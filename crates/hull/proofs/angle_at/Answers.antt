@@ -15,4 +15,4 @@ angle_about-requires c =
 
 pub returns : goal.returns
 returns c =
-    angle-is _ _ _ c.origin-v.ensures c.position-p.ensures (to_z-of_z (sfits_of c.struct_told-1.given.0.1)) (to_z-of_z (sfits_of c.struct_told-2-1.given.1.0.1)) c.angle_about.ensures.0 c.angle_about.ensures.1
+    angle-is _ _ _ c.origin-v.ensures c.position-p.ensures (to_z-of_z (sfits_of c.struct_told-1.given.0.1)) (to_z-of_z (sfits_of c.struct_told-2-1.given.1.0.1)) c.angle_about.ensures.is c.angle_about.ensures.angle

@@ -13,4 +13,4 @@ unfolding row_of
 returns c =
     let a = answer_words * c.args.i in
     let g = c.shared_slice_known-4-1.given in
-    (answer-is _ _, point-length _ (omega (arith, c.ranges.i)) (omega (arith, g a)) (omega (arith, g (a + 1))) (omega (arith, g (a + 2))) (omega (arith, g (a + 3))))
+    record { is = answer-is _ _; short = point-length _ (omega (arith, c.ranges.i)) (omega (arith, g a)) (omega (arith, g (a + 1))) (omega (arith, g (a + 2))) (omega (arith, g (a + 3))) }

@@ -6,4 +6,4 @@ use Rattle.listing_run.proofs.Rows.{totals-next}
 use Rattle.listing_run.proofs.list_accepted.Goals as goal
 
 pub returns : goal.returns
-returns c = (λ o. totals-next _ _ c.put_points-place.ensures.0 (sfits_of c.doubled_area-area.type_inv) (c.doubled_area-area.ensures o) c.totals_line-line.ensures.0 c.put_totals.ensures, λ o. totals-next-short (point_lines c.args.answers.now c.args.count) _ _ c.args.count (sfits_of c.doubled_area-area.type_inv) (c.doubled_area-area.ensures o) c.totals_line-line.ensures.0 c.put_points-place.ensures.1 c.totals_line-line.ensures.1)
+returns c = record { is = λ o. totals-next _ _ c.put_points-place.ensures.is (sfits_of c.doubled_area-area.type_inv) (c.doubled_area-area.ensures o) c.totals_line-line.ensures.is c.put_totals.ensures; short = λ o. totals-next-short (point_lines c.args.answers.now c.args.count) _ _ c.args.count (sfits_of c.doubled_area-area.type_inv) (c.doubled_area-area.ensures o) c.totals_line-line.ensures.is c.put_points-place.ensures.short c.totals_line-line.ensures.short }

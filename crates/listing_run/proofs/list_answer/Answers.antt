@@ -10,7 +10,7 @@ pub list_accepted-requires : goal.list_accepted-requires
 list_accepted-requires c = c.requires _ c.finished-in-Accepted-1.given.1
 
 pub returns-in-Refused : goal.returns-in-Refused
-returns-in-Refused c = (λ o g p. appended-as (listing-refused _ _ c.finished-1.given.1) c.put_refusal.ensures, λ o g p. short-at (listing-refused _ _ c.finished-1.given.1) (refusal-short _ _ (omega arith) (omega arith) (omega arith)))
+returns-in-Refused c = record { is = λ o g p. appended-as (listing-refused _ _ c.finished-1.given.1) c.put_refusal.ensures; short = λ o g p. short-at (listing-refused _ _ c.finished-1.given.1) (refusal-short _ _ (omega arith) (omega arith) (omega arith)) }
 
 pub returns-in-Accepted : goal.returns-in-Accepted
-returns-in-Accepted c = (λ o g p. appended-as (listing-accepted _ _ c.finished-in-Accepted-1.given.1) (c.list_accepted.ensures.0 o), λ o g p. short-at (listing-accepted _ _ c.finished-in-Accepted-1.given.1) (c.list_accepted.ensures.1 o))
+returns-in-Accepted c = record { is = λ o g p. appended-as (listing-accepted _ _ c.finished-in-Accepted-1.given.1) (c.list_accepted.ensures.is o); short = λ o g p. short-at (listing-accepted _ _ c.finished-in-Accepted-1.given.1) (c.list_accepted.ensures.short o) }

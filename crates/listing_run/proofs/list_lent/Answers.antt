@@ -9,4 +9,4 @@ pub list_answer-requires : goal.list_answer-requires
 list_answer-requires c = outcome-listable _ c.requires c.run_lent-answer.ensures.is c.point_count-count.ensures
 
 pub returns : goal.returns
-returns c = (appended-as (listing-run _ c.run_lent-answer.ensures.is c.point_count-count.ensures) (c.list_answer.ensures.0 _ _ _), short-as (listing-run _ c.run_lent-answer.ensures.is c.point_count-count.ensures) (c.list_answer.ensures.1 _ _ _) (few-lines c.args.counts.vertices c.point_count-count.ensures c.requires))
+returns c = record { is = appended-as (listing-run _ c.run_lent-answer.ensures.is c.point_count-count.ensures) (c.list_answer.ensures.is _ _ _); short = short-as (listing-run _ c.run_lent-answer.ensures.is c.point_count-count.ensures) (c.list_answer.ensures.short _ _ _) (few-lines c.args.counts.vertices c.point_count-count.ensures c.requires) }

@@ -5,4 +5,4 @@ use Rattle.listing_run.proofs.list_numbers.Goals as goal
 
 pub returns : goal.returns
 unfolding lent_of
-returns c = c.list_seed.ensures
+returns c = let whole_answer = (c.list_seed.ensures) in record { is = whole_answer.0; short = whole_answer.1 }

@@ -16,7 +16,7 @@ use Rattle.listing_run.proofs.list_seed.Goals as goal
 -- part-list-lent-end c = search rules
 
 pub list_lent-requires : goal.list_lent-requires
-list_lent-requires c = points-few c.args.numbers.now c.requires.0.0 c.requires.0.1
+list_lent-requires c = points-few c.args.numbers.now c.requires.in_bounds.0 c.requires.in_bounds.1
 
 pub shape_of-positions : goal.shape_of-positions
 shape_of-positions c = c.list_lent.auto.1.0 ∙ c.store_seed.auto.1.0
@@ -33,4 +33,4 @@ shape_of-faces c = c.list_lent.auto.1.1.1.1.0 ∙ c.store_seed.auto.1.1.1.1.0
 pub returns : goal.returns
 returns c =
     let e = ap lent_listing (seed-lent c.args.numbers.now _ _ _ _ _ c.store_seed.ensures.0 c.store_seed.ensures.1 c.store_seed.ensures.2 c.store_seed.ensures.3 (record { sfits = c.to_f64-arg-1.given }) (record { sfits = c.to_f64-arg-2-1.given }) c.to_f64-center.ensures.0 c.to_f64-center.ensures.1) in
-    (appended-as e c.list_lent.ensures.0, short-at e c.list_lent.ensures.1)
+    record { is = appended-as e c.list_lent.ensures.is; short = short-at e c.list_lent.ensures.short }

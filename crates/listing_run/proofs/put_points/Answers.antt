@@ -20,10 +20,10 @@ pub overflow_add-i : goal.overflow_add-i
 overflow_add-i c = record { fits = omega (arith, c.loop-i-test.true, c.ranges.count) }
 
 pub loop-i-preserved : goal.loop-i-preserved
-loop-i-preserved c = (omega arith, points-next _ _ c.loop-i.invariant.1 c.answer_line-line.ensures.0 c.put_point-place.ensures, points-short _ _ c.loop-i.invariant.2 c.answer_line-line.ensures.0 c.answer_line-line.ensures.1)
+loop-i-preserved c = (omega arith, points-next _ _ c.loop-i.invariant.1 c.answer_line-line.ensures.is c.put_point-place.ensures, points-short _ _ c.loop-i.invariant.2 c.answer_line-line.ensures.is c.answer_line-line.ensures.short)
 
 pub shape_of-row : goal.shape_of-row
 shape_of-row c = appended-length c.loop-i.invariant.1
 
 pub returns : goal.returns
-returns c = (points-all _ c.loop-i.invariant.0 c.loop-i-test.false c.loop-i.invariant.1, points-all-short _ c.loop-i.invariant.0 c.loop-i-test.false c.loop-i.invariant.2)
+returns c = record { is = points-all _ c.loop-i.invariant.0 c.loop-i-test.false c.loop-i.invariant.1; short = points-all-short _ c.loop-i.invariant.0 c.loop-i-test.false c.loop-i.invariant.2 }

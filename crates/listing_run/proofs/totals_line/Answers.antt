@@ -7,4 +7,4 @@ use Rattle.listing_run.proofs.totals_line.Goals as goal
 
 pub returns : goal.returns
 unfolding totals_of
-returns c = (search rules, totals-short _ _ _ _ _ _ _ (omega arith) (omega arith) (omega arith) c.ranges.area (omega arith) (omega arith) (omega arith))
+returns c = record { is = search rules; short = totals-short _ _ _ _ _ _ _ (omega arith) (omega arith) (omega arith) c.ranges.area (omega arith) (omega arith) (omega arith) }

@@ -6,49 +6,49 @@ use borrow.Author.Rules.{rules}
 use Rattle.replay_calls.proofs.locate_on.Goals as goal
 
 pub slice_bounds-positions-end : goal.slice_bounds-positions-end
-slice_bounds-positions-end c = c.requires.0.positions.within
+slice_bounds-positions-end c = c.requires.mesh_lent.positions.within
 
 pub slice_bounds-fithmoul_locate-end : goal.slice_bounds-fithmoul_locate-end
-slice_bounds-fithmoul_locate-end c = of-coordinates c.args.mesh.positions c.requires.0.positions
+slice_bounds-fithmoul_locate-end c = of-coordinates c.args.mesh.positions c.requires.mesh_lent.positions
 
 pub slice_bounds-heights-end : goal.slice_bounds-heights-end
-slice_bounds-heights-end c = c.requires.0.heights.within
+slice_bounds-heights-end c = c.requires.mesh_lent.heights.within
 
 pub slice_bounds-fithmoul_locate-end-2 : goal.slice_bounds-fithmoul_locate-end-2
-slice_bounds-fithmoul_locate-end-2 c = of-coordinates c.args.mesh.heights c.requires.0.heights
+slice_bounds-fithmoul_locate-end-2 c = of-coordinates c.args.mesh.heights c.requires.mesh_lent.heights
 
 pub slice_bounds-outs-end : goal.slice_bounds-outs-end
-slice_bounds-outs-end c = c.requires.0.outs.within
+slice_bounds-outs-end c = c.requires.mesh_lent.outs.within
 
 pub slice_bounds-fithmoul_locate-end-3 : goal.slice_bounds-fithmoul_locate-end-3
-slice_bounds-fithmoul_locate-end-3 c = of_words c.args.mesh.outs c.requires.0.outs
+slice_bounds-fithmoul_locate-end-3 c = of_words c.args.mesh.outs c.requires.mesh_lent.outs
 
 pub slice_bounds-halves-end : goal.slice_bounds-halves-end
-slice_bounds-halves-end c = c.requires.0.halves.within
+slice_bounds-halves-end c = c.requires.mesh_lent.halves.within
 
 pub slice_bounds-fithmoul_locate-end-4 : goal.slice_bounds-fithmoul_locate-end-4
-slice_bounds-fithmoul_locate-end-4 c = of_words c.args.mesh.halves c.requires.0.halves
+slice_bounds-fithmoul_locate-end-4 c = of_words c.args.mesh.halves c.requires.mesh_lent.halves
 
 pub slice_bounds-faces-end : goal.slice_bounds-faces-end
-slice_bounds-faces-end c = c.requires.0.faces.within
+slice_bounds-faces-end c = c.requires.mesh_lent.faces.within
 
 pub slice_bounds-fithmoul_locate-end-5 : goal.slice_bounds-fithmoul_locate-end-5
-slice_bounds-fithmoul_locate-end-5 c = of_words c.args.mesh.faces c.requires.0.faces
+slice_bounds-fithmoul_locate-end-5 c = of_words c.args.mesh.faces c.requires.mesh_lent.faces
 
 pub slice_bounds-nodes-end : goal.slice_bounds-nodes-end
-slice_bounds-nodes-end c = within c.seven_nodes-nodes.ensures c.requires.1.nodes
+slice_bounds-nodes-end c = within c.seven_nodes-nodes.ensures c.requires.ring_lent.nodes
 
 pub slice_bounds-fithmoul_locate-end-6 : goal.slice_bounds-fithmoul_locate-end-6
-slice_bounds-fithmoul_locate-end-6 c = part _ 256 _ c.seven_nodes-nodes.ensures c.requires.1.nodes
+slice_bounds-fithmoul_locate-end-6 c = part _ 256 _ c.seven_nodes-nodes.ensures c.requires.ring_lent.nodes
 
 pub slice_bounds-freed-end : goal.slice_bounds-freed-end
-slice_bounds-freed-end c = c.requires.1.freed
+slice_bounds-freed-end c = c.requires.ring_lent.freed
 
 pub slice_bounds-fithmoul_locate-end-7 : goal.slice_bounds-fithmoul_locate-end-7
-slice_bounds-fithmoul_locate-end-7 c = part _ 6144 (replicate 6144 7) refl c.requires.1.freed
+slice_bounds-fithmoul_locate-end-7 c = part _ 6144 (replicate 6144 7) refl c.requires.ring_lent.freed
 
 pub slice_bounds-buckets-end : goal.slice_bounds-buckets-end
-slice_bounds-buckets-end c = c.requires.1.buckets
+slice_bounds-buckets-end c = c.requires.ring_lent.buckets
 
 pub slice_bounds-fithmoul_locate-end-8 : goal.slice_bounds-fithmoul_locate-end-8
-slice_bounds-fithmoul_locate-end-8 c = part _ 6144 (replicate 6144 7) refl c.requires.1.buckets
+slice_bounds-fithmoul_locate-end-8 c = part _ 6144 (replicate 6144 7) refl c.requires.ring_lent.buckets

@@ -5,4 +5,4 @@ use Rattle.ring_insert.proofs.update_buckets.Goals as goal
 
 pub returns : goal.returns
 returns c =
-    rebuckets c.ceiled_bucket-first.ensures.1.0 c.ceiled_bucket-second.ensures.1.0 c.ceiled_bucket-third.ensures.1.0 c.update_bucket_segment.ensures c.update_bucket_segment-2.ensures
+    rebuckets c.ceiled_bucket-first.ensures.whole.0 c.ceiled_bucket-second.ensures.whole.0 c.ceiled_bucket-third.ensures.whole.0 c.update_bucket_segment.ensures c.update_bucket_segment-2.ensures

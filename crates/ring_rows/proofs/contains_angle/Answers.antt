@@ -13,8 +13,8 @@ pub new-segment-requires : goal.new-segment-requires
 new-segment-requires c = asks-segment _ _ c.load-node.ensures c.load-next.ensures c.requires
 
 pub contains_angle-requires : goal.contains_angle-requires
-contains_angle-requires c = (c.new-segment.ensures.1.0, c.requires.valid)
+contains_angle-requires c = (c.new-segment.ensures.angles.0, c.requires.valid)
 
 pub returns : goal.returns
 returns c =
-    tested _ _ c.load-node.ensures c.load-next.ensures c.new-segment.result _ c.new-segment.ensures.1.1 c.contains_angle.ensures.1
+    tested _ _ c.load-node.ensures c.load-next.ensures c.new-segment.result _ c.new-segment.ensures.angles.1 c.contains_angle.ensures.whole

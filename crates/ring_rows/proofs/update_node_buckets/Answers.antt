@@ -14,4 +14,4 @@ ceiled_bucket-last-requires c = (to-angle c.requires c.load-from.ensures c.load-
 
 pub returns : goal.returns
 returns c =
-    node-updated c.requires c.load-from.ensures c.load-to.ensures c.ceiled_bucket-first.ensures.1.0 c.ceiled_bucket-last.ensures.1.0 c.update_bucket_segment.ensures
+    node-updated c.requires c.load-from.ensures c.load-to.ensures c.ceiled_bucket-first.ensures.whole.0 c.ceiled_bucket-last.ensures.whole.0 c.update_bucket_segment.ensures

@@ -20,14 +20,13 @@ pub overflow_add-result : goal.overflow_add-result
 overflow_add-result c =
     let s = c.bucket_shift-shift.result in
     let b = c.bucket_shift-shift.ensures in
-    omega (arith, one_shift s _ b, shift-most s _ b, c.turns_of-k.ensures.1)
+    omega (arith, one_shift s _ b, shift-most s _ b, c.turns_of-k.ensures.small)
 
 pub overflow_sub-result-2 : goal.overflow_sub-result-2
 overflow_sub-result-2 c = bucket-pos c.args.count c.requires.1
 
 pub returns : goal.returns
-returns c =
-    let n = c.args.count in
+returns c = let whole_answer = (let n = c.args.count in
     let h = c.requires.1 in
-    let whole = ceil-is c.turns_of-k.result c.bucket_shift-shift.result n h c.bucket_shift-shift.ensures ∙ ap (λ (k : ℕ). ceil_of k n) c.turns_of-k.ensures.0 in
-    (whole ∙ sym (ceiled-whole n c.args.a h c.requires.0), (whole, subst (λ (x : ℕ). x < n) (sym whole) (below _ n h)))
+    let whole = ceil-is c.turns_of-k.result c.bucket_shift-shift.result n h c.bucket_shift-shift.ensures ∙ ap (λ (k : ℕ). ceil_of k n) c.turns_of-k.ensures.is in
+    (whole ∙ sym (ceiled-whole n c.args.a h c.requires.0), (whole, subst (λ (x : ℕ). x < n) (sym whole) (below _ n h)))) in record { is = whole_answer.0; whole = whole_answer.1; below = whole_answer.2 }

@@ -11,8 +11,7 @@ pub overflow_sub-result : goal.overflow_sub-result
 overflow_sub-result c = bucket-pos c.args.count c.requires.1
 
 pub returns : goal.returns
-returns c =
-    let n = c.args.count in
+returns c = let whole_answer = (let n = c.args.count in
     let h = c.requires.1 in
-    let whole = floor-is c.turns_of-k.result c.bucket_shift.result n h c.bucket_shift.ensures ∙ ap (λ (k : ℕ). floor_of k n) c.turns_of-k.ensures.0 in
-    (whole ∙ sym (floored-whole n c.args.a h), (whole, subst (λ (x : ℕ). x < n) (sym whole) (below _ n h)))
+    let whole = floor-is c.turns_of-k.result c.bucket_shift.result n h c.bucket_shift.ensures ∙ ap (λ (k : ℕ). floor_of k n) c.turns_of-k.ensures.is in
+    (whole ∙ sym (floored-whole n c.args.a h), (whole, subst (λ (x : ℕ). x < n) (sym whole) (below _ n h)))) in record { is = whole_answer.0; whole = whole_answer.1; below = whole_answer.2 }

@@ -26,8 +26,8 @@ turns_of-b-requires c = angle-valid c.args.to c.requires.1
 
 pub returns-then-b-a : goal.returns-then-b-a
 returns-then-b-a c =
-    (wraps (2 ^ 53) c.turns_of-a.result c.turns_of-b.result _ _ c.turns_of-a.ensures.0 c.turns_of-b.ensures.0 c.if-b-a.true, omega arith)
+    record { is = wraps (2 ^ 53) c.turns_of-a.result c.turns_of-b.result _ _ c.turns_of-a.ensures.is c.turns_of-b.ensures.is c.if-b-a.true; small = omega arith }
 
 pub returns : goal.returns
 returns c =
-    (stays (2 ^ 53) c.turns_of-a.result c.turns_of-b.result _ _ c.turns_of-a.ensures.0 c.turns_of-b.ensures.0 c.if-b-a.false, omega arith)
+    record { is = stays (2 ^ 53) c.turns_of-a.result c.turns_of-b.result _ _ c.turns_of-a.ensures.is c.turns_of-b.ensures.is c.if-b-a.false; small = omega arith }

@@ -8,4 +8,4 @@ use Rattle.segment.proofs.is_wide.Goals as goal
 
 pub returns : goal.returns
 unfolding wide
-returns c = ap (λ (g : ℕ). ltb (3 * 2 ^ 53) (4 * g)) c.gap_of.ensures.0
+returns c = ap (λ (g : ℕ). ltb (3 * 2 ^ 53) (4 * g)) c.gap_of.ensures.is

@@ -14,4 +14,4 @@ angle_about-requires c =
 pub returns : goal.returns
 returns c =
     let px = to_z-of_z (sfits_of c.struct_told-1.given.0.1) in let py = to_z-of_z (sfits_of c.struct_told-2-1.given.1.0.1) in
-    record { position = refl; is-angle = c.angle_about.ensures.1; turns-are = angle-read _ _ _ px py c.angle_about.ensures.0 }
+    record { position = refl; is-angle = c.angle_about.ensures.angle; turns-are = angle-read _ _ _ px py c.angle_about.ensures.is }

@@ -18,13 +18,11 @@ clauses : (s e : Float) (r : Segment) → IsAngle s → IsAngle e → turns s �
 clauses s e r h k n is = (is, (subst EndsAreAngles (sym is) (segment-good s e h k), λ x. ap (λ (q : Segment). contains_turns q x) is ∙ segment-holds s e n x))
 
 pub returns-then-less : goal.returns-then-less
-returns-then-less c =
-    let s = c.args.from in
+returns-then-less c = let whole_answer = (let s = c.args.from in
     let e = c.args.to in
-    clauses s e (Plain s e) c.requires.0 c.requires.1 c.requires.2 (ap (λ (t : Bool). pick t (Plain s e) (Wrapping s e)) (sym c.if-less.true ∙ c.less.ensures))
+    clauses s e (Plain s e) c.requires.0 c.requires.1 c.requires.2 (ap (λ (t : Bool). pick t (Plain s e) (Wrapping s e)) (sym c.if-less.true ∙ c.less.ensures))) in record { is = whole_answer.0; angles = whole_answer.1; arc = whole_answer.2 }
 
 pub returns-else-less : goal.returns-else-less
-returns-else-less c =
-    let s = c.args.from in
+returns-else-less c = let whole_answer = (let s = c.args.from in
     let e = c.args.to in
-    clauses s e (Wrapping s e) c.requires.0 c.requires.1 c.requires.2 (ap (λ (t : Bool). pick t (Plain s e) (Wrapping s e)) (sym c.if-less.false ∙ c.less.ensures))
+    clauses s e (Wrapping s e) c.requires.0 c.requires.1 c.requires.2 (ap (λ (t : Bool). pick t (Plain s e) (Wrapping s e)) (sym c.if-less.false ∙ c.less.ensures))) in record { is = whole_answer.0; angles = whole_answer.1; arc = whole_answer.2 }
