@@ -27,7 +27,7 @@ passed l K =
     let x = i.before in let t = x.before in let r = t.before in
     passes K (ends_at K r.before.origin-position.ensures r.rev.ensures t.origin-position2.ensures)
     x.is-position.ensures i.if1.false y.is-position2.ensures j.if2.false
-    (to_z-of_z (sfits_of s.side-query.type-inv) ∙ s.side-query.ensures) l.if3.false
+    (s.side-query.ensures) l.if3.false
 
 pub origin_position-from-requires : goal.origin_position-from-requires
 origin_position-from-requires c = (here-about c.requires.located).from

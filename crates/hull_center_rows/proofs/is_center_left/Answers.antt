@@ -14,7 +14,7 @@ use Rattle.hull_center_rows.proofs.is_center_left.Goals as goal
 
 low-is : (c : tie.After-cross2) → to_z w64 (of_z w64 c.cross2.result)
     ≡ cross_sum c.before.before.before.sub.result c.before.before.before.before.args.sum
-low-is c = to_z-of_z (sfits_of c.cross2.type-inv) ∙ c.cross2.ensures
+low-is c = c.cross2.ensures
 
 pub cross-high-requires : goal.cross-high-requires
 cross-high-requires c =

@@ -40,9 +40,6 @@ module _ (c : tie.After-sub4) where
 small : {r z : ℤ} → r ≡ z → nat_abs z ≤ 2251799813685248 → AtMost51 r
 small e h = record { abs = subst (λ (z : ℤ). nat_abs z ≤ 2251799813685248) (sym e) h }
 
-pub cross-requires : goal.cross-requires
-cross-requires c = let h = shorts c in (h.1, h.0)
-
 pub dot-requires : goal.dot-requires
 dot-requires c = let h = shorts c in (h.2, h.3)
 
@@ -60,11 +57,3 @@ sum_sign-requires c =
       small (c.dot-2.ensures) (dot-small h.0 h.1),
       small (c.cross-2.ensures) (cross-small h.2 h.3),
     )
-
-pub returns : goal.returns
-returns c =
-    let a = c.args in
-    ap (lt_z (pos 0)) {y = c.sum_sign.result} (to_z-of_z {w = w64} (sfits_of c.sum_sign.type_inv))
-    ∙ sgn-test c.sum_sign.result (incircle a.v1 a.v2 a.v3 a.p)
-    (c.sum_sign.ensures
-    ∙ ap sgn (ap₂ ◌+ℤ◌ (ap₂ ◌*ℤ◌ (c.cross.ensures) (c.dot.ensures)) (ap₂ ◌*ℤ◌ (c.dot-2.ensures) (c.cross-2.ensures)) ∙ whole c))

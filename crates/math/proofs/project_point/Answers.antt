@@ -14,10 +14,3 @@ pub dot-requires-2 : goal.dot-requires-2
 dot-requires-2 c =
     let p = c.requires in
     (short c.sub-dir.ensures p.1 p.0, short c.sub-dir.ensures p.1 p.0)
-
-pub returns : goal.returns
-returns c =
-    let a = c.args in
-    ap₂ (λ (f l : ℤ). record { factor = f; length_2 = l })
-    (c.dot.ensures ∙ ap₂ dot_of c.sub-to.ensures c.sub-dir.ensures ∙ factor-vectors a.p1 a.p2 a.q)
-    (c.dot-2.ensures ∙ ap₂ dot_of c.sub-dir.ensures c.sub-dir.ensures ∙ length2-vectors a.p1 a.p2)

@@ -10,8 +10,3 @@ pub cross-requires : goal.cross-requires
 cross-requires c =
     let p = c.requires in
     (short c.sub-u.ensures p.1 p.0, short c.sub-v.ensures p.2 p.0)
-
-pub returns : goal.returns
-returns c =
-    let a = c.args in
-    c.cross.ensures ∙ ap₂ cross_of c.sub-u.ensures c.sub-v.ensures ∙ orient2d-vectors a.p1 a.p2 a.q

@@ -30,7 +30,7 @@ loop-w-smaller c =
 
 pub loop-w-preserved : goal.loop-w-preserved
 loop-w-preserved c =
-    nearing-on c.loop-w.invariant c.first_closer-closer.ensures c.closer-1.given.1 (to_z-of_z (sfits_of c.known_told-1.given.1.0.1))
+    nearing-on c.loop-w.invariant c.first_closer-closer.ensures c.closer-1.given.1 refl
 
 pub returns-in-Nothing : goal.returns-in-Nothing
 returns-in-Nothing c =

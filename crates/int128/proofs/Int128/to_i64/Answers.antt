@@ -16,10 +16,3 @@ pub sign_on-requires : goal.sign_on-requires
 sign_on-requires c =
     let e = low-alone c.abs-n.result.high c.abs-n.result.low c.abs-n.ensures c.requires in
     rw e c.requires
-
-pub returns : goal.returns
-returns c =
-    let n = c.abs-n in
-    let z = int128_of c.args.self in
-    let e = low-alone n.result.high n.result.low n.ensures c.requires in
-    c.sign_on.ensures ∙ ap (λ (l : ℕ). with_sign z (pos l)) e ∙ sign-abs z

@@ -9,8 +9,3 @@ pub dot-requires : goal.dot-requires
 dot-requires c =
     let p = c.requires in let s = short c.sub-dir.ensures p.1 p.0 in
     (s, s)
-
-pub returns : goal.returns
-returns c =
-    let a = c.args in
-    c.dot.ensures ∙ ap₂ dot_of c.sub-dir.ensures c.sub-dir.ensures ∙ length2-vectors a.self a.other
