@@ -25,6 +25,22 @@ none x y cx cy t = simp t
 one : (x y : ℤ) (cx cy r : Float) → at_center x y cx cy ≡ false → r ≡ angle_about x y cx cy → Angle r ≡ vertex_angle x y cx cy
 one x y cx cy r t e = simp (t, e)
 
+pub returns-then-is_at_center : goal.returns-then-is_at_center
+returns-then-is_at_center c =
+    let x = c.args.x in
+    let y = c.args.y in
+    let o = c.args.center in
+    record { is = none x y o.x o.y (sym (c.is_at_center.ensures ∙ same_test x y _ _ o.x o.y (to_z-of_z w32 x c.ranges.x) (to_z-of_z w32 y c.ranges.y)) ∙ c.if-is_at_center.true); angle = tt }
+
 pub angle_about-requires : goal.angle_about-requires
 angle_about-requires c =
     (c.requires, subst (λ (b : Bool). T (not b)) (sym (sym c.is_at_center.ensures ∙ c.if-is_at_center.false)) tt)
+
+pub returns : goal.returns
+returns c =
+    let x = c.args.x in
+    let y = c.args.y in
+    let o = c.args.center in
+    let p = to_z-of_z w32 x c.ranges.x in
+    let q = to_z-of_z w32 y c.ranges.y in record { is = one x y o.x o.y c.angle_about.result (sym (c.is_at_center.ensures ∙ same_test x y _ _ o.x o.y p q) ∙ c.if-is_at_center.false)
+          (c.angle_about.ensures.is ∙ same-angle x y _ _ o.x o.y p q); angle = c.angle_about.ensures.angle }

@@ -6,6 +6,7 @@ use mir.Facts.{to_z-of_z}
 use Rattle.mesh_check.specs.Check.{is_outside}
 use Rattle.area.specs.declared.Sided.{Sided}
 use Rattle.area.specs.SideQueryLaws.{inside, first-outside, second-outside, third-outside, none-outside}
+use mir.Syntax.{w64}
 use Rattle.area.proofs.side_query.Goals as goal
 
 -- where a test is passed
@@ -39,5 +40,5 @@ side_query-requires c =
 
 pub returns : goal.returns
 returns c =
-    ap Sided.Accepted (c.side_query.ensures)
+    ap Sided.Accepted (to_z-of_z {w = w64} (sfits_of c.side_query.type_inv) ∙ c.side_query.ensures)
     ∙ none-outside _ _ _ (p1-inside c) (p2-inside c) (q-inside c)

@@ -7,11 +7,11 @@ use Rattle.ask_rows.proofs.check_point.Goals as goal
 pub returns-in-Refused : goal.returns-in-Refused
 returns-in-Refused c =
     let w = c.struct_told-1.given in
-    tested-refused refl refl (to_z-of_z c.ranges.z) _ _ _ _ c.check_heights.ensures
+    tested-refused (to_z-of_z (sfits_of w.0.1)) (to_z-of_z (sfits_of w.1.0.1)) (to_z-of_z c.ranges.z) _ _ _ _ c.check_heights.ensures
     c.r-1.given.1
 
 pub returns-in-Accepted : goal.returns-in-Accepted
 returns-in-Accepted c =
     let w = c.struct_told-1.given in
-    tested-start refl refl (to_z-of_z c.ranges.z) _ _ _ _ c.check_heights.ensures
+    tested-start (to_z-of_z (sfits_of w.0.1)) (to_z-of_z (sfits_of w.1.0.1)) (to_z-of_z c.ranges.z) _ _ _ _ c.check_heights.ensures
     c.enum_told-1.given.1 c.check_start.ensures

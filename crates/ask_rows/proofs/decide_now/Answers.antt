@@ -12,7 +12,7 @@ vertex_angle-requires c = quote-center c.requires.start
 
 pub returns-in_default : goal.returns-in_default
 returns-in_default c o A =
-    let px = refl in let py = refl in
+    let px = to_z-of_z (sfits_of c.struct_told-1.given.0.1) in let py = to_z-of_z (sfits_of c.struct_told-2-1.given.1.0.1) in
     at-center _ _ _ c.vertex_angle.ensures.is px py c.enum_told-1.given.1 c.leave.ensures
 
 pub adjacent-start-requires : goal.adjacent-start-requires
@@ -43,13 +43,13 @@ angle_at-to-requires c =
 
 pub decide_at-requires : goal.decide_at-requires
 decide_at-requires c =
-    let px = refl in let py = refl in
+    let px = to_z-of_z (sfits_of c.struct_told-1.given.0.1) in let py = to_z-of_z (sfits_of c.struct_told-2-1.given.1.0.1) in
     asks_at _ _ c.vertex_angle.ensures.is px py c.angle-1.given.1 (carried c.vertex_angle.ensures.angle c.angle-1.given.1)
     c.adjacent-start.ensures c.convex_hull_size-size.ensures c.located_edge-e.ensures
     c.next.ensures c.angle_at-from.ensures c.angle_at-to.ensures c.requires
 
 pub returns : goal.returns
 returns c =
-    let px = refl in let py = refl in
+    let px = to_z-of_z (sfits_of c.struct_told-1.given.0.1) in let py = to_z-of_z (sfits_of c.struct_told-2-1.given.1.0.1) in
     at-located _ _ c.vertex_angle.ensures.is px py c.angle-1.given.1 (carried c.vertex_angle.ensures.angle c.angle-1.given.1)
     c.adjacent-start.ensures c.convex_hull_size-size.ensures c.located_edge-e.ensures c.decide_at.ensures

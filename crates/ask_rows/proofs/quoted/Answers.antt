@@ -9,4 +9,4 @@ pub returns : goal.returns
 unfolding quote_from
 returns c =
     let s = c.struct_told-1.given in
-    rw (refl, refl, to_z-of_z c.ranges.z, c.fate_number.ensures, c.faces_of.ensures) refl
+    rw (to_z-of_z (sfits_of s.0.1), to_z-of_z (sfits_of s.1.0.1), to_z-of_z c.ranges.z, c.fate_number.ensures, c.faces_of.ensures) refl

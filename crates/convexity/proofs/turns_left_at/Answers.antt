@@ -3,6 +3,7 @@ use mathlib.Core.Path.{◌∙◌}
 use borrow.Author.Rules.{rules, sfits_of}
 use mir.Facts.{to_z-of_z}
 use Rattle.convexity.proofs.Corners.{in-range, side_left}
+use mir.Syntax.{w64}
 use Rattle.convexity.proofs.turns_left_at.Goals as goal
 
 pub side_query-requires : goal.side_query-requires
@@ -16,4 +17,4 @@ side_query-requires c =
 pub returns : goal.returns
 returns c =
     side_left _ _ _ _ c.origin-a.ensures c.to-b.ensures c.to-c.ensures
-    c.position-p1.ensures c.position-p2.ensures c.position-target.ensures (c.side_query.ensures)
+    c.position-p1.ensures c.position-p2.ensures c.position-target.ensures (to_z-of_z {w = w64} (sfits_of c.side_query.type_inv) ∙ c.side_query.ensures)

@@ -15,7 +15,7 @@ vertex_angle-requires c =
 
 pub returns-in_default : goal.returns-in_default
 returns-in_default c o a S =
-    let px = refl in let py = refl in
+    let px = to_z-of_z (sfits_of c.struct_told-1.given.0.1) in let py = to_z-of_z (sfits_of c.struct_told-2-1.given.1.0.1) in
     at-center _ _ _ c.vertex_angle.ensures.is px py c.enum_told-1.given.1 c.leave.ensures
 
 pub find-found-requires : goal.find-found-requires
@@ -35,12 +35,12 @@ load-right-requires c =
 
 pub decide_at-requires : goal.decide_at-requires
 decide_at-requires c =
-    let px = refl in let py = refl in
+    let px = to_z-of_z (sfits_of c.struct_told-1.given.0.1) in let py = to_z-of_z (sfits_of c.struct_told-2-1.given.1.0.1) in
     asks_at _ _ _ c.vertex_angle.ensures.is px py c.angle-1.given.1 (carried c.vertex_angle.ensures.angle c.angle-1.given.1)
     c.find-found.ensures c.load-node.ensures c.load-right.ensures c.requires
 
 pub returns : goal.returns
 returns c =
-    let px = refl in let py = refl in
+    let px = to_z-of_z (sfits_of c.struct_told-1.given.0.1) in let py = to_z-of_z (sfits_of c.struct_told-2-1.given.1.0.1) in
     at-located _ _ _ c.vertex_angle.ensures.is px py c.angle-1.given.1 (carried c.vertex_angle.ensures.angle c.angle-1.given.1)
     c.find-found.ensures c.load-node.ensures c.requires.range c.decide_at.ensures

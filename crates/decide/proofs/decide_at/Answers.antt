@@ -9,6 +9,7 @@ use Rattle.mesh.specs.declared.Counts.{Counts}
 use Rattle.decide.specs.Located.{LocatedRows}
 use Rattle.decide.proofs.Deciding.{here-about, ends_at, asks-side, at_from, at-to, not_left, Passes, passes}
 use Rattle.decide.proofs.Deciding.{asks-left, asks-right, asks-fit, unsound, added}
+use mir.Syntax.{w64}
 use Rattle.decide.proofs.decide_at.Goals as goal
 
 -- past the test of the side
@@ -27,7 +28,7 @@ passed l K =
     let x = i.before in let t = x.before in let r = t.before in
     passes K (ends_at K r.before.origin-position.ensures r.rev.ensures t.origin-position2.ensures)
     x.is-position.ensures i.if1.false y.is-position2.ensures j.if2.false
-    (s.side-query.ensures) l.if3.false
+    (to_z-of_z (sfits_of s.side-query.type-inv) ∙ s.side-query.ensures) l.if3.false
 
 pub origin_position-from-requires : goal.origin_position-from-requires
 origin_position-from-requires c = (here-about c.requires.located).from
@@ -54,7 +55,7 @@ pub returns-then-side_query-le0 : goal.returns-then-side_query-le0
 returns-then-side_query-le0 c C o a K =
     not_left K (ends_at K c.origin_position-from.ensures c.rev.ensures c.origin_position-to.ensures)
     c.is_position.ensures c.if-is_position.false c.is_position-2.ensures c.if-is_position-2.false
-    (c.side_query.ensures) c.if-side_query-le0.true c.leave-then-side_query-le0.ensures
+    (to_z-of_z {w = w64} (sfits_of c.side_query.type_inv) ∙ c.side_query.ensures) c.if-side_query-le0.true c.leave-then-side_query-le0.ensures
 
 pub walk_left-left-requires : goal.walk_left-left-requires
 walk_left-left-requires c =

@@ -14,7 +14,7 @@ use Rattle.hull_center_rows.proofs.is_center_left.Goals as goal
 
 low-is : (c : tie.After-cross2) → to_z w64 (of_z w64 c.cross2.result)
     ≡ cross_sum c.before.before.before.sub.result c.before.before.before.before.args.sum
-low-is c = c.cross2.ensures
+low-is c = to_z-of_z (sfits_of c.cross2.type-inv) ∙ c.cross2.ensures
 
 pub cross-high-requires : goal.cross-high-requires
 cross-high-requires c =
@@ -36,6 +36,6 @@ returns c =
     let a = c.args in
     c.is_positive.ensures
     ∙ ap₂ (λ (x y : ℤ). lt_z (pos 0) (x *ℤ pos 33554432 +ℤ y))
-    (c.cross-high.ensures ∙ ap₂ cross_sum c.sub-d.ensures c.less_three.ensures)
+    (to_z-of_z {w = w64} (sfits_of c.cross-high.type_inv) ∙ c.cross-high.ensures ∙ ap₂ cross_sum c.sub-d.ensures c.less_three.ensures)
     (low-is c ∙ ap (λ v. cross_sum v a.sum) c.sub-d.ensures)
     ∙ center-side a.a a.b a.sum

@@ -6,6 +6,7 @@ use mir.Facts.{to_z-of_z}
 use Rattle.hull_center.specs.HullCenter.{last_three}
 use Rattle.math.specs.declared.Point.{Point}
 use Rattle.hull_center_rows.proofs.Numbers.{sums}
+use mir.Syntax.{w64}
 use Rattle.hull_center_rows.proofs.last_three.Goals as goal
 
 abbrev x_of : Point → ℤ
@@ -18,11 +19,11 @@ pub returns : goal.returns
 unfolding last_three
 returns c =
     ap₂ (λ (x y : ℤ). record { x = x; y = y })
-    (c.add_three.ensures
-    ∙ sums (ap x_of c.position-a.ensures)
-    (ap x_of c.position-b.ensures)
-    (ap x_of c.position-c.ensures))
-    (c.add_three-2.ensures
-    ∙ sums (ap y_of c.position-a.ensures)
-    (ap y_of c.position-b.ensures)
-    (ap y_of c.position-c.ensures))
+    (to_z-of_z {w = w64} (sfits_of c.add_three.type_inv) ∙ c.add_three.ensures
+    ∙ sums (to_z-of_z (sfits_of c.struct_told-1.given.0.1) ∙ ap x_of c.position-a.ensures)
+    (to_z-of_z (sfits_of c.struct_told-2-1.given.0.1) ∙ ap x_of c.position-b.ensures)
+    (to_z-of_z (sfits_of c.struct_told-3-1.given.0.1) ∙ ap x_of c.position-c.ensures))
+    (to_z-of_z {w = w64} (sfits_of c.add_three-2.type_inv) ∙ c.add_three-2.ensures
+    ∙ sums (to_z-of_z (sfits_of c.struct_told-4-1.given.1.0.1) ∙ ap y_of c.position-a.ensures)
+    (to_z-of_z (sfits_of c.struct_told-5-1.given.1.0.1) ∙ ap y_of c.position-b.ensures)
+    (to_z-of_z (sfits_of c.struct_told-6-1.given.1.0.1) ∙ ap y_of c.position-c.ensures))

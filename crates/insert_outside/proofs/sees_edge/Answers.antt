@@ -3,6 +3,7 @@ use mathlib.Core.Path.{◌∙◌}
 use borrow.Author.Rules.{rules, sfits_of}
 use mir.Facts.{to_z-of_z}
 use Rattle.insert_outside.proofs.Sight.{in-range, side-seen}
+use mir.Syntax.{w64}
 use Rattle.insert_outside.proofs.sees_edge.Goals as goal
 
 pub side_query-requires : goal.side_query-requires
@@ -16,4 +17,4 @@ side_query-requires c =
 pub returns : goal.returns
 returns c =
     side-seen _ _ _ _ c.origin-u.ensures c.to-w.ensures
-    c.position-from.ensures c.position-to.ensures (c.side_query.ensures)
+    c.position-from.ensures c.position-to.ensures (to_z-of_z {w = w64} (sfits_of c.side_query.type_inv) ∙ c.side_query.ensures)

@@ -8,6 +8,7 @@ use lib.Dec.{lit<}
 use mir.Facts.{to_z-of_z}
 use borrow.Author.Rules.{sfits_of}
 use Rattle.area.specs.SummableLaws.{total-most, total-meant}
+use mir.Syntax.{w64}
 use Rattle.listing_run.proofs.doubled_area.Goals as goal
 
 pub sum_areas-total-requires : goal.sum_areas-total-requires
@@ -22,5 +23,5 @@ to_i64-requires c =
 pub returns : goal.returns
 returns c = λ o.
     let S = c.requires in
-    c.to_i64.ensures
+    to_z-of_z {w = w64} (sfits_of c.to_i64.type_inv) ∙ c.to_i64.ensures
     ∙ total-meant (record { readable = S.readable; few = omega arith }) o (c.sum_areas-total.ensures o)

@@ -40,6 +40,9 @@ module _ (c : tie.After-sub4) where
 small : {r z : ℤ} → r ≡ z → nat_abs z ≤ 2251799813685248 → AtMost51 r
 small e h = record { abs = subst (λ (z : ℤ). nat_abs z ≤ 2251799813685248) (sym e) h }
 
+pub cross-requires : goal.cross-requires
+cross-requires c = let h = shorts c in (h.1, h.0)
+
 pub dot-requires : goal.dot-requires
 dot-requires c = let h = shorts c in (h.2, h.3)
 
@@ -52,8 +55,16 @@ cross-requires-2 c = let h = shorts c in (h.2, h.3)
 pub sum_sign-requires : goal.sum_sign-requires
 sum_sign-requires c =
     let h = shorts c in (
-      small (c.cross.ensures) (cross-small h.1 h.0),
-      small (c.dot.ensures) (dot-small h.2 h.3),
-      small (c.dot-2.ensures) (dot-small h.0 h.1),
-      small (c.cross-2.ensures) (cross-small h.2 h.3),
+      small (to_z-of_z {w = w64} (sfits_of c.cross.type_inv) ∙ c.cross.ensures) (cross-small h.1 h.0),
+      small (to_z-of_z {w = w64} (sfits_of c.dot.type_inv) ∙ c.dot.ensures) (dot-small h.2 h.3),
+      small (to_z-of_z {w = w64} (sfits_of c.dot-2.type_inv) ∙ c.dot-2.ensures) (dot-small h.0 h.1),
+      small (to_z-of_z {w = w64} (sfits_of c.cross-2.type_inv) ∙ c.cross-2.ensures) (cross-small h.2 h.3),
     )
+
+pub returns : goal.returns
+returns c =
+    let a = c.args in
+    ap (lt_z (pos 0)) {y = c.sum_sign.result} (to_z-of_z {w = w64} (sfits_of c.sum_sign.type_inv))
+    ∙ sgn-test c.sum_sign.result (incircle a.v1 a.v2 a.v3 a.p)
+    (c.sum_sign.ensures
+    ∙ ap sgn (ap₂ ◌+ℤ◌ (ap₂ ◌*ℤ◌ (to_z-of_z {w = w64} (sfits_of c.cross.type_inv) ∙ c.cross.ensures) (to_z-of_z {w = w64} (sfits_of c.dot.type_inv) ∙ c.dot.ensures)) (ap₂ ◌*ℤ◌ (to_z-of_z {w = w64} (sfits_of c.dot-2.type_inv) ∙ c.dot-2.ensures) (to_z-of_z {w = w64} (sfits_of c.cross-2.type_inv) ∙ c.cross-2.ensures)) ∙ whole c))

@@ -3,6 +3,7 @@ use mir.Facts.{to_z-of_z}
 use borrow.Author.Rules.{rules, sfits_of}
 use Rattle.mesh_check_rows.proofs.Faces.{second-there, third-there, placed_one, placed-two, placed-three, placed-range, area-is}
 use mathlib.Core.Path.{◌∙◌}
+use mir.Syntax.{w64}
 use Rattle.mesh_check_rows.proofs.doubled_area_at.Goals as goal
 
 pub next-b-requires : goal.next-b-requires
@@ -38,5 +39,5 @@ side_query-requires c = (
 
 pub returns : goal.returns
 returns c = λ o s.
-    c.side_query.ensures ∙
+    to_z-of_z {w = w64} (sfits_of c.side_query.type_inv) ∙ c.side_query.ensures ∙
     area-is o _ s _ _ c.next-b.ensures c.next-c.ensures c.origin-u.ensures c.origin-v.ensures c.origin-w.ensures c.position-p.ensures c.position-q.ensures c.position-r.ensures

@@ -10,7 +10,7 @@ use Rattle.search.proofs.by_side.Goals as goal
 
 -- what the machine reads of the area
 area : (c : tie.After-side-query) → let a = c.before.before.args in to_z w64 (of_z w64 c.side-query.result) ≡ orient2d a.from a.to a.point
-area c = c.side-query.ensures
+area c = to_z-of_z (sfits_of c.side-query.type-inv) ∙ c.side-query.ensures
 
 pub side_query-area-requires : goal.side_query-area-requires
 side_query-area-requires c = ends-range c.requires

@@ -36,7 +36,7 @@ pub returns-then-new_distance-distance : goal.returns-then-new_distance-distance
 returns-then-new_distance-distance c =
     spoke-hit c.requires (to_z-of_z c.ranges.distance) c.out-start.ensures c.rev-first.ensures c.loop-point.invariant c.origin-w.ensures
     c.position-p.ensures
-    (c.distance_2-new_distance.ensures) c.if-new_distance-distance.true
+    (to_z-of_z {w = w64} (sfits_of c.distance_2-new_distance.type_inv) ∙ c.distance_2-new_distance.ensures) c.if-new_distance-distance.true
 
 pub rev-e-requires : goal.rev-e-requires
 rev-e-requires c = tt
@@ -49,19 +49,19 @@ pub returns-then-back-first : goal.returns-then-back-first
 returns-then-back-first c =
     spoke-none c.requires (to_z-of_z c.ranges.distance) c.out-start.ensures c.rev-first.ensures c.loop-point.invariant c.origin-w.ensures
     c.position-p.ensures
-    (c.distance_2-new_distance.ensures) c.if-new_distance-distance.false
+    (to_z-of_z {w = w64} (sfits_of c.distance_2-new_distance.type_inv) ∙ c.distance_2-new_distance.ensures) c.if-new_distance-distance.false
     c.rev-e.ensures c.prev-back.ensures c.if-back-first.true
 
 pub loop-point-smaller : goal.loop-point-smaller
 loop-point-smaller c =
     spoke-less c.requires (to_z-of_z c.ranges.distance) c.out-start.ensures c.rev-first.ensures c.loop-point.invariant c.origin-w.ensures
     c.position-p.ensures
-    (c.distance_2-new_distance.ensures) c.if-new_distance-distance.false
+    (to_z-of_z {w = w64} (sfits_of c.distance_2-new_distance.type_inv) ∙ c.distance_2-new_distance.ensures) c.if-new_distance-distance.false
     c.rev-e.ensures c.prev-back.ensures c.if-back-first.false
 
 pub loop-point-preserved : goal.loop-point-preserved
 loop-point-preserved c =
     spoke-on c.requires (to_z-of_z c.ranges.distance) c.out-start.ensures c.rev-first.ensures c.loop-point.invariant c.origin-w.ensures
     c.position-p.ensures
-    (c.distance_2-new_distance.ensures) c.if-new_distance-distance.false
+    (to_z-of_z {w = w64} (sfits_of c.distance_2-new_distance.type_inv) ∙ c.distance_2-new_distance.ensures) c.if-new_distance-distance.false
     c.rev-e.ensures c.prev-back.ensures c.if-back-first.false

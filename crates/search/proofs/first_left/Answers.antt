@@ -4,6 +4,7 @@ use mathlib.Core.Path.{◌∙◌}
 use borrow.Author.Rules.{sfits_of}
 use mir.Facts.{to_z-of_z}
 use Rattle.search.specs.Scanning.{Along, boundary_left, outer-there, start-there, along-placed, along-start, along-there, along-next, along-next-placed, along-range, along-hit, along-on, along-less}
+use mir.Syntax.{w64}
 use Rattle.search.proofs.first_left.Goals as goal
 
 pub adjacent-e-requires : goal.adjacent-e-requires
@@ -40,14 +41,14 @@ side_query-requires c =
 pub returns-then-side_query-gt0 : goal.returns-then-side_query-gt0
 returns-then-side_query-gt0 c =
     along-hit c.requires c.adjacent-e.ensures c.loop-point.invariant c.next-next.ensures c.origin-v.ensures c.position-to.ensures
-    (c.side_query.ensures) c.if-side_query-gt0.true
+    (to_z-of_z {w = w64} (sfits_of c.side_query.type_inv) ∙ c.side_query.ensures) c.if-side_query-gt0.true
 
 pub loop-point-smaller : goal.loop-point-smaller
 loop-point-smaller c =
     along-less c.requires c.adjacent-e.ensures c.loop-point.invariant c.next-next.ensures c.origin-v.ensures c.position-to.ensures
-    (c.side_query.ensures) c.if-side_query-gt0.false
+    (to_z-of_z {w = w64} (sfits_of c.side_query.type_inv) ∙ c.side_query.ensures) c.if-side_query-gt0.false
 
 pub loop-point-preserved : goal.loop-point-preserved
 loop-point-preserved c =
     along-on c.requires c.adjacent-e.ensures c.loop-point.invariant c.next-next.ensures c.origin-v.ensures c.position-to.ensures
-    (c.side_query.ensures) c.if-side_query-gt0.false
+    (to_z-of_z {w = w64} (sfits_of c.side_query.type_inv) ∙ c.side_query.ensures) c.if-side_query-gt0.false

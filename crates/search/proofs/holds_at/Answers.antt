@@ -3,6 +3,7 @@ use mathlib.Core.Path.{◌∙◌}
 use borrow.Author.Rules.{sfits_of}
 use mir.Facts.{to_z-of_z}
 use Rattle.search.specs.Triangles.{corners-in, p-range, q-range, r-range, holds-not-a, holds-not-b, holds-c}
+use mir.Syntax.{w64}
 use Rattle.search.proofs.holds_at.Goals as goal
 
 pub corners_of-k-requires : goal.corners_of-k-requires
@@ -14,7 +15,7 @@ side_query-requires c =
 
 pub returns-then-side_query-lt0 : goal.returns-then-side_query-lt0
 returns-then-side_query-lt0 c =
-    holds-not-a c.requires c.corners_of-k.ensures (c.side_query.ensures) c.if-side_query-lt0.true
+    holds-not-a c.requires c.corners_of-k.ensures (to_z-of_z {w = w64} (sfits_of c.side_query.type_inv) ∙ c.side_query.ensures) c.if-side_query-lt0.true
 
 pub side_query-requires-2 : goal.side_query-requires-2
 side_query-requires-2 c =
@@ -22,8 +23,8 @@ side_query-requires-2 c =
 
 pub returns-then-side_query-lt0-2 : goal.returns-then-side_query-lt0-2
 returns-then-side_query-lt0-2 c =
-    holds-not-b c.requires c.corners_of-k.ensures (c.side_query.ensures)
-    (c.side_query-2.ensures) c.if-side_query-lt0.false c.if-side_query-lt0-2.true
+    holds-not-b c.requires c.corners_of-k.ensures (to_z-of_z {w = w64} (sfits_of c.side_query.type_inv) ∙ c.side_query.ensures)
+    (to_z-of_z {w = w64} (sfits_of c.side_query-2.type_inv) ∙ c.side_query-2.ensures) c.if-side_query-lt0.false c.if-side_query-lt0-2.true
 
 pub side_query-requires-3 : goal.side_query-requires-3
 side_query-requires-3 c =
@@ -31,6 +32,6 @@ side_query-requires-3 c =
 
 pub returns : goal.returns
 returns c =
-    holds-c c.requires c.corners_of-k.ensures (c.side_query.ensures)
-    (c.side_query-2.ensures) c.if-side_query-lt0.false
-    (c.side_query-3.ensures) c.if-side_query-lt0-2.false
+    holds-c c.requires c.corners_of-k.ensures (to_z-of_z {w = w64} (sfits_of c.side_query.type_inv) ∙ c.side_query.ensures)
+    (to_z-of_z {w = w64} (sfits_of c.side_query-2.type_inv) ∙ c.side_query-2.ensures) c.if-side_query-lt0.false
+    (to_z-of_z {w = w64} (sfits_of c.side_query-3.type_inv) ∙ c.side_query-3.ensures) c.if-side_query-lt0-2.false

@@ -3,6 +3,7 @@ use mathlib.Core.Path.{◌∙◌}
 use borrow.Author.Rules.{sfits_of}
 use mir.Facts.{to_z-of_z}
 use Rattle.search.specs.Turns.{here-there, prev-there, far-there, far-range, next-back-there, ends-range, ccw-outer, ccw-on, ccw-across}
+use mir.Syntax.{w64}
 use Rattle.search.proofs.rotate_ccw.Goals as goal
 
 pub face-face-requires : goal.face-face-requires
@@ -39,7 +40,7 @@ rev-requires c = tt
 pub returns-then-side_query-ge0 : goal.returns-then-side_query-ge0
 returns-then-side_query-ge0 c =
     ccw-on c.requires c.face-face.ensures c.if-face-eq0.false c.prev-prev.ensures c.origin-v.ensures
-    c.position-far.ensures (c.side_query.ensures)
+    c.position-far.ensures (to_z-of_z {w = w64} (sfits_of c.side_query.type_inv) ∙ c.side_query.ensures)
     c.if-side_query-ge0.true c.rev.ensures
 
 pub next-e2-requires : goal.next-e2-requires
@@ -62,5 +63,5 @@ across_edge-requires c =
 pub returns : goal.returns
 returns c =
     ccw-across c.requires c.face-face.ensures c.if-face-eq0.false c.prev-prev.ensures c.origin-v.ensures
-    c.position-far.ensures (c.side_query.ensures)
-    c.if-side_query-ge0.false c.next-e2.ensures (c.side_query-area.ensures) c.across_edge.ensures
+    c.position-far.ensures (to_z-of_z {w = w64} (sfits_of c.side_query.type_inv) ∙ c.side_query.ensures)
+    c.if-side_query-ge0.false c.next-e2.ensures (to_z-of_z {w = w64} (sfits_of c.side_query-area.type_inv) ∙ c.side_query-area.ensures) c.across_edge.ensures

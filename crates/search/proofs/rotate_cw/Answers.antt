@@ -3,6 +3,7 @@ use mathlib.Core.Path.{◌∙◌}
 use borrow.Author.Rules.{sfits_of}
 use mir.Facts.{to_z-of_z}
 use Rattle.search.specs.Turns.{here-there, back-ready, prev-there, far-there, far-range, prev-back-there, ends-range, cw-outer, cw-on, cw-across}
+use mir.Syntax.{w64}
 use Rattle.search.proofs.rotate_cw.Goals as goal
 
 pub rev-e1-requires : goal.rev-e1-requires
@@ -44,7 +45,7 @@ next-requires c =
 pub returns-then-side_query-le0 : goal.returns-then-side_query-le0
 returns-then-side_query-le0 c =
     cw-on c.requires c.rev-e1.ensures c.face-face.ensures c.if-face-eq0.false c.prev-e2.ensures
-    c.origin-v.ensures c.position-far.ensures (c.side_query.ensures)
+    c.origin-v.ensures c.position-far.ensures (to_z-of_z {w = w64} (sfits_of c.side_query.type_inv) ∙ c.side_query.ensures)
     c.if-side_query-le0.true c.next.ensures
 
 pub side_query-area-requires : goal.side_query-area-requires
@@ -62,5 +63,5 @@ across_edge-requires c =
 pub returns : goal.returns
 returns c =
     cw-across c.requires c.rev-e1.ensures c.face-face.ensures c.if-face-eq0.false c.prev-e2.ensures c.origin-v.ensures
-    c.position-far.ensures (c.side_query.ensures)
-    c.if-side_query-le0.false (c.side_query-area.ensures) c.across_edge.ensures
+    c.position-far.ensures (to_z-of_z {w = w64} (sfits_of c.side_query.type_inv) ∙ c.side_query.ensures)
+    c.if-side_query-le0.false (to_z-of_z {w = w64} (sfits_of c.side_query-area.type_inv) ∙ c.side_query-area.ensures) c.across_edge.ensures

@@ -19,7 +19,7 @@ distance_2-distance-requires c =
 
 pub loop-w-init : goal.loop-w-init
 loop-w-init c =
-    nearing-start c.requires c.position-start.ensures (c.distance_2-distance.ensures)
+    nearing-start c.requires c.position-start.ensures (to_z-of_z {w = w64} (sfits_of c.distance_2-distance.type_inv) ∙ c.distance_2-distance.ensures)
 
 pub first_closer-closer-requires : goal.first_closer-closer-requires
 first_closer-closer-requires c = nearing-spokes c.loop-w.invariant
@@ -30,7 +30,7 @@ loop-w-smaller c =
 
 pub loop-w-preserved : goal.loop-w-preserved
 loop-w-preserved c =
-    nearing-on c.loop-w.invariant c.first_closer-closer.ensures c.closer-1.given.1 refl
+    nearing-on c.loop-w.invariant c.first_closer-closer.ensures c.closer-1.given.1 (to_z-of_z (sfits_of c.known_told-1.given.1.0.1))
 
 pub returns-in-Nothing : goal.returns-in-Nothing
 returns-in-Nothing c =

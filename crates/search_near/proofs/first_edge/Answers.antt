@@ -3,6 +3,7 @@ use borrow.Author.Rules.{rules, sfits_of}
 use mir.Facts.{to_z-of_z}
 use mathlib.Core.Path.{refl, ◌∙◌}
 use Rattle.search_near.specs.NearLaws.{start-there, start_back, start-placed, end-placed, ends-range, faces-back, faces-on}
+use mir.Syntax.{w64}
 use Rattle.search_near.proofs.first_edge.Goals as goal
 
 pub origin-v-requires : goal.origin-v-requires
@@ -21,7 +22,7 @@ pub side_query-area-requires : goal.side_query-area-requires
 side_query-area-requires c = ends-range c.requires refl c.origin-v.ensures c.to-w.ensures c.position-from.ensures c.position-to.ensures
 
 pub returns-then-area-lt0 : goal.returns-then-area-lt0
-returns-then-area-lt0 c = faces-back c.requires refl c.origin-v.ensures c.to-w.ensures c.position-from.ensures c.position-to.ensures (c.side_query-area.ensures) c.if-area-lt0.true c.rev.ensures
+returns-then-area-lt0 c = faces-back c.requires refl c.origin-v.ensures c.to-w.ensures c.position-from.ensures c.position-to.ensures (to_z-of_z {w = w64} (sfits_of c.side_query-area.type_inv) ∙ c.side_query-area.ensures) c.if-area-lt0.true c.rev.ensures
 
 pub returns : goal.returns
-returns c = faces-on c.requires refl c.origin-v.ensures c.to-w.ensures c.position-from.ensures c.position-to.ensures (c.side_query-area.ensures) refl
+returns c = faces-on c.requires refl c.origin-v.ensures c.to-w.ensures c.position-from.ensures c.position-to.ensures (to_z-of_z {w = w64} (sfits_of c.side_query-area.type_inv) ∙ c.side_query-area.ensures) refl

@@ -3,6 +3,7 @@ use mathlib.Core.Path.{◌∙◌}
 use borrow.Author.Rules.{rules, sfits_of}
 use mir.Facts.{to_z-of_z}
 use Rattle.volume.proofs.Corners.{second-there, third-there, height-one, height-two, height-three, above-is}
+use mir.Syntax.{w64}
 use Rattle.volume.proofs.above_level.Goals as goal
 
 pub next-b-requires : goal.next-b-requires
@@ -35,7 +36,7 @@ height-z-requires c =
 
 pub returns : goal.returns
 returns c = λ o s.
-    c.less_level.ensures
+    to_z-of_z {w = w64} (sfits_of c.less_level.type_inv) ∙ c.less_level.ensures
     ∙ above-is o _ s _ _ c.next-b.ensures c.next-c.ensures
     c.origin-u.ensures c.origin-v.ensures c.origin-w.ensures
     (sfits_of c.height-x.type_inv) (sfits_of c.height-y.type_inv) (sfits_of c.height-z.type_inv)

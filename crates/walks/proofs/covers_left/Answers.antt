@@ -4,6 +4,7 @@ use borrow.Author.Rules.{sfits_of}
 use mir.Facts.{to_z-of_z}
 use Rattle.ring.specs.declared.Side.TheVariants.{Left}
 use Rattle.walks.proofs.Tests.{test-unseen, test-ahead, test-level}
+use mir.Syntax.{w64}
 use Rattle.walks.proofs.covers_left.Goals as goal
 
 pub side_query-requires : goal.side_query-requires
@@ -11,14 +12,14 @@ side_query-requires c = let P = c.requires in (P.far-range, P.near-range, P.rang
 
 pub returns-then-side_query-le0 : goal.returns-then-side_query-le0
 returns-then-side_query-le0 c =
-    test-unseen Left _ _ _ _ (c.side_query.ensures) c.if-side_query-le0.true
+    test-unseen Left _ _ _ _ (to_z-of_z {w = w64} (sfits_of c.side_query.type_inv) ∙ c.side_query.ensures) c.if-side_query-le0.true
 
 pub is_behind_edge-requires : goal.is_behind_edge-requires
 is_behind_edge-requires c = let P = c.requires in (P.range, P.near-range, P.far-range)
 
 pub returns-then-not-is_behind_edge : goal.returns-then-not-is_behind_edge
 returns-then-not-is_behind_edge c =
-    test-ahead Left _ _ _ _ (c.side_query.ensures) c.if-side_query-le0.false c.is_behind_edge.ensures
+    test-ahead Left _ _ _ _ (to_z-of_z {w = w64} (sfits_of c.side_query.type_inv) ∙ c.side_query.ensures) c.if-side_query-le0.false c.is_behind_edge.ensures
     c.if-not-is_behind_edge.true-raw
 
 pub equal-requires : goal.equal-requires
@@ -26,5 +27,5 @@ equal-requires c = let P = c.requires in (P.is-angle, P.near-angle)
 
 pub returns : goal.returns
 returns c =
-    test-level Left _ _ _ _ (c.side_query.ensures) c.if-side_query-le0.false c.is_behind_edge.ensures
+    test-level Left _ _ _ _ (to_z-of_z {w = w64} (sfits_of c.side_query.type_inv) ∙ c.side_query.ensures) c.if-side_query-le0.false c.is_behind_edge.ensures
     c.if-not-is_behind_edge.false-raw c.equal.ensures

@@ -32,3 +32,13 @@ sign_on-requires c =
     let r = c.half_metres-halves.result in
     let e = sym c.abs-n.ensures ∙ c.half_metres-halves.ensures.0 in
     rounded-less r.count r.rest e c.half_metres-halves.ensures.1 c.requires
+
+pub returns : goal.returns
+unfolding cubic_metres_of
+returns c =
+    let z = int128_of c.args.self in
+    let r = c.half_metres-halves.result in
+    let e = sym c.abs-n.ensures ∙ c.half_metres-halves.ensures.0 in
+    to_z-of_z (record { sfits = c.sign_on.type_inv })
+    ∙ c.sign_on.ensures
+    ∙ ap (λ (n : ℕ). with_sign z (pos n)) (halves-rounded r.count r.rest e c.half_metres-halves.ensures.1)

@@ -10,6 +10,15 @@ product-requires c =
     let f = c.ranges in
     (magnitude-max f.x c.magnitude.ensures, magnitude-max f.y c.magnitude-2.ensures)
 
+pub signed-requires : goal.signed-requires
+signed-requires c =
+    let most = product-requires c κs in
+    let p = c.product in
+    whole-fits p.result.high p.result.low p.ensures.0 p.ensures.1 (mul-le-mul most.0 most.1)
+
+pub signed-requires-2 : goal.signed-requires-2
+signed-requires-2 c = rw (c.signed.ensures, nat_abs-sign) (signed-requires c c.signed.lifetimes)
+
 pub returns : goal.returns
 returns c =
     let s = c.ranges in

@@ -3,6 +3,7 @@ use Rattle.std.proofs.Common.{◌≡◌, ℕ, ◌+◌, ◌*◌, ◌^◌, ◌<◌
 use borrow.Author.Rules.{sfits_of}
 use Rattle.int128.specs.Int128.{int128_of, with_sign}
 use Rattle.int128.specs.Int128Laws.{sign-abs}
+use mir.Syntax.{w64}
 use Rattle.int128.proofs.Int128.to_i64.Goals as goal
 
 -- a number below 2 ^ 63 is its low half
@@ -16,3 +17,10 @@ pub sign_on-requires : goal.sign_on-requires
 sign_on-requires c =
     let e = low-alone c.abs-n.result.high c.abs-n.result.low c.abs-n.ensures c.requires in
     rw e c.requires
+
+pub returns : goal.returns
+returns c =
+    let n = c.abs-n in
+    let z = int128_of c.args.self in
+    let e = low-alone n.result.high n.result.low n.ensures c.requires in
+    to_z-of_z {w = w64} (sfits_of c.sign_on.type_inv) ∙ c.sign_on.ensures ∙ ap (λ (l : ℕ). with_sign z (pos l)) e ∙ sign-abs z

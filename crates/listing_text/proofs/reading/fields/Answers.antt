@@ -22,5 +22,16 @@ returns-then-place-line c = filled_none c.loop-k.invariant c.loop-k-test.true c.
 --     let t = c.before in
 --     stop-most t.before.before.loop.invariant t.before.loop-test.true t.if1.false c.end.ensures
 
+pub returns-in_default : goal.returns-in_default
+returns-in_default c =
+    filled-malformed c.loop-k.invariant c.loop-k-test.true c.if-place-line.false c.end-stop.ensures
+    c.number.ensures c.enum_told-1.given.1
+
+pub loop-k-preserved : goal.loop-k-preserved
+loop-k-preserved c =
+    filled_next c.loop-k.invariant c.loop-k-test.true c.if-place-line.false c.end-stop.ensures
+    c.number.ensures c.v-1.given.1
+    (to_z-of_z (sfits_of c.known_told-1.given.0.1))
+
 pub returns : goal.returns
 returns c = filled-end c.loop-k.invariant c.loop-k-test.false

@@ -33,9 +33,25 @@ start3 c = c.before.before.before.before.before.before
 start4 : tie.After-struct-told4 → tie.Start
 start4 c = c.before.before.before.before.before.before.before.before
 
+pub overflow_cast-result : goal.overflow_cast-result
+unfolding start1
+overflow_cast-result c = fits64 (env (start1 c)) v0 tt
+
+pub overflow_cast-result-2 : goal.overflow_cast-result-2
+unfolding start2
+overflow_cast-result-2 c = fits64 (env (start2 c)) v1 tt
+
 pub overflow_sub-result : goal.overflow_sub-result
 unfolding start2
 overflow_sub-result c = fits64 (env (start2 c)) (v0 ⊖ v1) tt
+
+pub overflow_cast-result-3 : goal.overflow_cast-result-3
+unfolding start3
+overflow_cast-result-3 c = fits64 (env (start3 c)) v2 tt
+
+pub overflow_cast-result-4 : goal.overflow_cast-result-4
+unfolding start4
+overflow_cast-result-4 c = fits64 (env (start4 c)) v3 tt
 
 pub overflow_sub-result-2 : goal.overflow_sub-result-2
 unfolding start4

@@ -16,6 +16,14 @@ start2 c = c.before.before.before.before
 start4 : tie.After-struct-told4 → tie.Start
 start4 c = c.before.before.before.before.before.before.before.before
 
+pub overflow_mul-result : goal.overflow_mul-result
+unfolding start2
+overflow_mul-result c = fits64 (env (start2 c)) (v0 ⊗ v3) tt
+
+pub overflow_mul-result-2 : goal.overflow_mul-result-2
+unfolding start4
+overflow_mul-result-2 c = fits64 (env (start4 c)) (v1 ⊗ v2) tt
+
 pub overflow_sub-result : goal.overflow_sub-result
 unfolding start4
 overflow_sub-result c = fits64 (env (start4 c)) (v0 ⊗ v3 ⊖ v1 ⊗ v2) tt

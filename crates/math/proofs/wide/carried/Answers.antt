@@ -40,8 +40,17 @@ env-r c = (split2 c).lo ∷ᵉ (split1 c.before.before.before).lo ∷ᵉ []ᵉ
 pub split-l-requires : goal.split-l-requires
 split-l-requires c = rw (to_z-of_z c.ranges.lo) (omega (arith, c.requires.2))
 
+pub overflow_add-mid : goal.overflow_add-mid
+overflow_add-mid c = fits64 (env-m c) (v0 ⊕ v1) tt
+
 pub split-m-requires : goal.split-m-requires
 split-m-requires c = let e = env-m c in rw (reads64 e (v0 ⊕ v1) tt) (omega (arith, within e (v0 ⊕ v1)))
+
+pub overflow_add-h : goal.overflow_add-h
+overflow_add-h c = fits64 (env-h c) (v0 ⊕ v1) tt
+
+pub overflow_mul-result : goal.overflow_mul-result
+overflow_mul-result c = fits64 (env-r c) (v0 ⊗ num (pos 67108864)) tt
 
 pub overflow_add-result : goal.overflow_add-result
 overflow_add-result c = fits64 (env-r c) (v0 ⊗ num (pos 67108864) ⊕ v1) tt

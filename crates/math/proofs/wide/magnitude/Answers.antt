@@ -20,6 +20,9 @@ below : (z : ℤ) → T (lt_z z (pos 0)) → pos 0 -ℤ z ≡ pos (nat_abs z)
 below (pos n) t = absurd (not-suc-le-zero (ltb→lt n 0 t))
 below (negsuc n) t = ring (pos (suc n) ∷ []) (# 0 ⊖ ⊝ v0) v0 refl
 
+pub overflow_sub-result : goal.overflow_sub-result
+overflow_sub-result c = fits64 (env c) (# 0 ⊖ v0) tt
+
 pub returns-then-x-lt0 : goal.returns-then-x-lt0
 returns-then-x-lt0 c =
     reads64 (env c) (# 0 ⊖ v0) tt ∙ below c.args.x (lt-taken (to_z-of_z c.ranges.x) refl c.if-x-lt0.true).lt

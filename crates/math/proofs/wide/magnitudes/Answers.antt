@@ -49,6 +49,12 @@ env4 c =
 abbrev all : E
 all = v0 ⊕ v1 ⊕ (v2 ⊕ v3)
 
+pub overflow_add-result : goal.overflow_add-result
+overflow_add-result c = fits64 (env2 c) (v0 ⊕ v1) tt
+
+pub overflow_add-result-2 : goal.overflow_add-result-2
+overflow_add-result-2 c = fits64 (env4 c) (v2 ⊕ v3) tt
+
 pub overflow_add-result-3 : goal.overflow_add-result-3
 overflow_add-result-3 c = fits64 (env4 c) all tt
 

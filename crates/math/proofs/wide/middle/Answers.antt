@@ -21,9 +21,25 @@ start6 c = c.before.before.before.before.before.before.before.before.before.befo
 start8 : tie.After-struct-told8 → tie.Start
 start8 c = c.before.before.before.before.before.before.before.before.before.before.before.before.before.before.before.before
 
+pub overflow_mul-result : goal.overflow_mul-result
+unfolding start2
+overflow_mul-result c = fits64 (env (start2 c)) (v0 ⊗ v3) tt
+
+pub overflow_mul-result-2 : goal.overflow_mul-result-2
+unfolding start4
+overflow_mul-result-2 c = fits64 (env (start4 c)) (v1 ⊗ v2) tt
+
 pub overflow_add-result : goal.overflow_add-result
 unfolding start4
 overflow_add-result c = fits64 (env (start4 c)) (v0 ⊗ v3 ⊕ v1 ⊗ v2) tt
+
+pub overflow_mul-result-3 : goal.overflow_mul-result-3
+unfolding start6
+overflow_mul-result-3 c = fits64 (env (start6 c)) (v4 ⊗ v7) tt
+
+pub overflow_mul-result-4 : goal.overflow_mul-result-4
+unfolding start8
+overflow_mul-result-4 c = fits64 (env (start8 c)) (v5 ⊗ v6) tt
 
 pub overflow_add-result-2 : goal.overflow_add-result-2
 unfolding start8

@@ -30,6 +30,9 @@ env c = c.requires ∷ᵉ hi_small c ∷ᵉ []ᵉ
 abbrev K : E
 K = num (pos 67108864)
 
+pub overflow_mul-lo : goal.overflow_mul-lo
+overflow_mul-lo c = fits64 (env c) (v1 ⊗ K) tt
+
 pub overflow_sub-lo : goal.overflow_sub-lo
 overflow_sub-lo c = fits64 (env c) (v0 ⊖ v1 ⊗ K) tt
 

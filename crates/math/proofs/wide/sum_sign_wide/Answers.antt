@@ -61,10 +61,10 @@ module _ (c : tie.After-split4) where
 
 -- ---- what the test compares: the high digit's magnitude, and the total's
 high_is : (c : tie.After-high) → to_z w64 (of_z w64 c.high.result) ≡ c.high.result
-high_is c = refl
+high_is c = to_z-of_z (sfits_of c.high.type-inv)
 
 magnitude-is : (c : tie.After-magnitude) → to_z w64 (of_z w64 c.magnitude.result) ≡ pos (nat_abs c.before.high.result)
-magnitude-is c = c.magnitude.ensures ∙ ap (λ (z : ℤ). pos (nat_abs z)) {y = c.before.high.result} (high_is c.before)
+magnitude-is c = to_z-of_z (sfits_of c.magnitude.type-inv) ∙ c.magnitude.ensures ∙ ap (λ (z : ℤ). pos (nat_abs z)) {y = c.before.high.result} (high_is c.before)
 
 -- the total's high digit
 abbrev shifted : tie.Start → ℤ
@@ -94,10 +94,17 @@ split-c-requires c = rw (to_z-of_z c.ranges.z) (omega (arith, c.requires.2.abs))
 pub split-d-requires : goal.split-d-requires
 split-d-requires c = rw (to_z-of_z c.ranges.w) (omega (arith, c.requires.3.abs))
 
+pub high-hi-requires : goal.high-hi-requires
+high-hi-requires c = two c
+
 pub magnitude-requires : goal.magnitude-requires
 magnitude-requires c =
     let t = two c in
     subst (λ (z : ℤ). nat_abs z ≤ 36028797018963968) (sym (high_is c ∙ c.high-hi.ensures)) (high-abs t.0 t.1 t.2 t.3)
+
+pub overflow_add-total : goal.overflow_add-total
+unfolding start
+overflow_add-total c = fits64 (env (start c)) (v0 ⊕ # 6) tt
 
 pub returns-then-magnitude-total : goal.returns-then-magnitude-total
 unfolding start
@@ -115,8 +122,14 @@ low-requires c = two c
 pub carried-requires : goal.carried-requires
 carried-requires c =
     let t = two c in
-    rw (high_is c, refl, refl) (
+    rw (high_is c, to_z-of_z {w = w64} (sfits_of c.middle.type_inv), to_z-of_z {w = w64} (sfits_of c.low.type_inv)) (
       subst (λ (z : ℤ). nat_abs z ≤ 36028797018963968) (sym c.high-hi.ensures) (high-abs t.0 t.1 t.2 t.3),
       subst (λ (z : ℤ). nat_abs z ≤ 18014398509481984) (sym c.middle.ensures) (middle-abs t.0 t.1 t.2 t.3),
       subst (λ (z : ℤ). nat_abs z ≤ 18014398509481984) (sym c.low.ensures) (low-abs t.0 t.1 t.2 t.3),
     )
+
+pub returns : goal.returns
+returns c =
+    ap sgn (to_z-of_z {w = w64} (sfits_of c.carried.type_inv))
+    ∙ rw (high_is c, to_z-of_z {w = w64} (sfits_of c.middle.type_inv), to_z-of_z {w = w64} (sfits_of c.low.type_inv), c.high-hi.ensures, c.middle.ensures, c.low.ensures) at c.carried.ensures
+    ∙ ap sgn (whole c)
