@@ -12,13 +12,6 @@ use Rattle.decide.proofs.Deciding.{asks-left, asks-right, asks-fit, unsound, add
 use mir.Syntax.{w64}
 use Rattle.decide.proofs.decide_at.Goals as goal
 
--- past the test of the side
-abbrev to_read : tie.Else3 → tie.After-origin-position2
-to_read l = l.before.before.before.before.before.before
-
-abbrev start : tie.Else3 → tie.Start
-start l = (to_read l).before.before.before.before
-
 passed : (l : tie.Else3) {C : Counts} {o a : List ℕ}
     → LocatedRows C (start l).args.positions.now o (start l).args.halves.now a (start l).args.center.x (start l).args.center.y
     (start l).args.e (start l).args.size (start l).args.next (start l).args.point (start l).args.angle
@@ -59,29 +52,29 @@ returns-then-side_query-le0 c C o a K =
 
 pub walk_left-left-requires : goal.walk_left-left-requires
 walk_left-left-requires c =
-    let t = to_read c in let r = t.before in let P = (start c).requires in let K = P.located in
+    let t = c in let r = t.before in let P = c.requires in let K = P.located in
     asks-left K (ends_at K r.before.origin-position.ensures r.rev.ensures t.origin-position2.ensures) P.ends
 
 pub walk_right-right-requires : goal.walk_right-right-requires
 walk_right-right-requires c =
-    let t = to_read c in let r = t.before in let P = (start c).requires in let K = P.located in
+    let t = c in let r = t.before in let P = c.requires in let K = P.located in
     asks-right K (ends_at K r.before.origin-position.ensures r.rev.ensures t.origin-position2.ensures) P.ends
 
 pub overflow_add-nodes : goal.overflow_add-nodes
 overflow_add-nodes c =
-    let K = (start c).requires.located in
+    let K = c.requires.located in
     let m = (asks-fit K (passed c K) c.walk_left-left.ensures c.walk_right-right.ensures).3 in
     record { fits = omega arith }
 
 pub overflow_add-nodes-2 : goal.overflow_add-nodes-2
 overflow_add-nodes-2 c =
-    let K = (start c).requires.located in
+    let K = c.requires.located in
     let m = (asks-fit K (passed c K) c.walk_left-left.ensures c.walk_right-right.ensures).3 in
     record { fits = omega arith }
 
 pub is_fit-requires : goal.is_fit-requires
 is_fit-requires c =
-    let K = (start c).requires.located in
+    let K = c.requires.located in
     asks-fit K (passed c K) c.walk_left-left.ensures c.walk_right-right.ensures
 
 pub returns-then-not-is_fit : goal.returns-then-not-is_fit

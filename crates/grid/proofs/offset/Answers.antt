@@ -13,14 +13,17 @@ use Rattle.grid.proofs.offset.Goals as goal
 abbrev rd : ℤ → ℤ
 rd z = to_z w32 (of_z w32 z)
 
-env : (c : tie.Start) → let a = c.args in Env (rd a.coordinate ∷ rd a.least ∷ []) (2147483648 ∷ 2147483648 ∷ [])
-env c = let a = c.args in let f = c.ranges in read-abs a.coordinate f.coordinate ∷ᵉ read-abs a.least f.least ∷ᵉ []ᵉ
-
 pub overflow_cast-coordinate : goal.overflow_cast-coordinate
-overflow_cast-coordinate c = fits64 (env c) v0 tt
+overflow_cast-coordinate c =
+    let env : let a = c.args in Env (rd a.coordinate ∷ rd a.least ∷ []) (2147483648 ∷ 2147483648 ∷ []) = let a = c.args in let f = c.ranges in read-abs a.coordinate f.coordinate ∷ᵉ read-abs a.least f.least ∷ᵉ []ᵉ in
+    fits64 (env) v0 tt
 
 pub overflow_cast-least : goal.overflow_cast-least
-overflow_cast-least c = fits64 (env c) v1 tt
+overflow_cast-least c =
+    let env : let a = c.args in Env (rd a.coordinate ∷ rd a.least ∷ []) (2147483648 ∷ 2147483648 ∷ []) = let a = c.args in let f = c.ranges in read-abs a.coordinate f.coordinate ∷ᵉ read-abs a.least f.least ∷ᵉ []ᵉ in
+    fits64 (env) v1 tt
 
 pub overflow_sub-coordinate : goal.overflow_sub-coordinate
-overflow_sub-coordinate c = fits64 (env c) (v0 ⊖ v1) tt
+overflow_sub-coordinate c =
+    let env : let a = c.args in Env (rd a.coordinate ∷ rd a.least ∷ []) (2147483648 ∷ 2147483648 ∷ []) = let a = c.args in let f = c.ranges in read-abs a.coordinate f.coordinate ∷ᵉ read-abs a.least f.least ∷ᵉ []ᵉ in
+    fits64 (env) (v0 ⊖ v1) tt

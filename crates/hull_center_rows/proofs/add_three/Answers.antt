@@ -14,25 +14,32 @@ use Rattle.hull_center_rows.proofs.add_three.Goals as goal
 abbrev rd : ℤ → ℤ
 rd z = to_z w32 (of_z w32 z)
 
-env : (c : tie.Start) → let a = c.args in Env (rd a.a ∷ rd a.b ∷ rd a.c ∷ []) (2147483648 ∷ 2147483648 ∷ 2147483648 ∷ [])
-env c =
-    let a = c.args in let f = c.ranges in
-    read-abs a.a f.a ∷ᵉ read-abs a.b f.b ∷ᵉ read-abs a.c f.c ∷ᵉ []ᵉ
-
 pub overflow_cast-result : goal.overflow_cast-result
-overflow_cast-result c = fits64 (env c) v0 tt
+overflow_cast-result c =
+    let env : let a = c.args in Env (rd a.a ∷ rd a.b ∷ rd a.c ∷ []) (2147483648 ∷ 2147483648 ∷ 2147483648 ∷ []) = let a = c.args in let f = c.ranges in read-abs a.a f.a ∷ᵉ read-abs a.b f.b ∷ᵉ read-abs a.c f.c ∷ᵉ []ᵉ in
+    fits64 (env) v0 tt
 
 pub overflow_cast-result-2 : goal.overflow_cast-result-2
-overflow_cast-result-2 c = fits64 (env c) v1 tt
+overflow_cast-result-2 c =
+    let env : let a = c.args in Env (rd a.a ∷ rd a.b ∷ rd a.c ∷ []) (2147483648 ∷ 2147483648 ∷ 2147483648 ∷ []) = let a = c.args in let f = c.ranges in read-abs a.a f.a ∷ᵉ read-abs a.b f.b ∷ᵉ read-abs a.c f.c ∷ᵉ []ᵉ in
+    fits64 (env) v1 tt
 
 pub overflow_add-result : goal.overflow_add-result
-overflow_add-result c = fits64 (env c) (v0 ⊕ v1) tt
+overflow_add-result c =
+    let env : let a = c.args in Env (rd a.a ∷ rd a.b ∷ rd a.c ∷ []) (2147483648 ∷ 2147483648 ∷ 2147483648 ∷ []) = let a = c.args in let f = c.ranges in read-abs a.a f.a ∷ᵉ read-abs a.b f.b ∷ᵉ read-abs a.c f.c ∷ᵉ []ᵉ in
+    fits64 (env) (v0 ⊕ v1) tt
 
 pub overflow_cast-result-3 : goal.overflow_cast-result-3
-overflow_cast-result-3 c = fits64 (env c) v2 tt
+overflow_cast-result-3 c =
+    let env : let a = c.args in Env (rd a.a ∷ rd a.b ∷ rd a.c ∷ []) (2147483648 ∷ 2147483648 ∷ 2147483648 ∷ []) = let a = c.args in let f = c.ranges in read-abs a.a f.a ∷ᵉ read-abs a.b f.b ∷ᵉ read-abs a.c f.c ∷ᵉ []ᵉ in
+    fits64 (env) v2 tt
 
 pub overflow_add-result-2 : goal.overflow_add-result-2
-overflow_add-result-2 c = fits64 (env c) (v0 ⊕ v1 ⊕ v2) tt
+overflow_add-result-2 c =
+    let env : let a = c.args in Env (rd a.a ∷ rd a.b ∷ rd a.c ∷ []) (2147483648 ∷ 2147483648 ∷ 2147483648 ∷ []) = let a = c.args in let f = c.ranges in read-abs a.a f.a ∷ᵉ read-abs a.b f.b ∷ᵉ read-abs a.c f.c ∷ᵉ []ᵉ in
+    fits64 (env) (v0 ⊕ v1 ⊕ v2) tt
 
 pub returns : goal.returns
-returns c = let f = c.ranges in reads64 (env c) (v0 ⊕ v1 ⊕ v2) tt ∙ sums (to_z-of_z f.a) (to_z-of_z f.b) (to_z-of_z f.c)
+returns c =
+    let env : let a = c.args in Env (rd a.a ∷ rd a.b ∷ rd a.c ∷ []) (2147483648 ∷ 2147483648 ∷ 2147483648 ∷ []) = let a = c.args in let f = c.ranges in read-abs a.a f.a ∷ᵉ read-abs a.b f.b ∷ᵉ read-abs a.c f.c ∷ᵉ []ᵉ in
+    let f = c.ranges in reads64 (env) (v0 ⊕ v1 ⊕ v2) tt ∙ sums (to_z-of_z f.a) (to_z-of_z f.b) (to_z-of_z f.c)

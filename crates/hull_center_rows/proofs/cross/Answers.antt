@@ -5,29 +5,23 @@ use Rattle.algebra.specs.Bound.{Env, []ᵉ, ◌∷ᵉ◌, fits64, reads64}
 use Rattle.hull_center_rows.specs.Side.{cross_sum}
 use Rattle.hull_center_rows.proofs.cross.Goals as goal
 
-env : (c : tie.Start) → let a = c.args in
-    Env (a.d.x ∷ a.d.y ∷ a.s.x ∷ a.s.y ∷ []) (33554432 ∷ 33554432 ∷ 100663296 ∷ 100663296 ∷ [])
-env c = let p = c.requires.0 in let q = c.requires.1 in p.x ∷ᵉ p.y ∷ᵉ q.x ∷ᵉ q.y ∷ᵉ []ᵉ
-
--- where two fields have been read, and all four
-start2 : tie.After-struct-told2 → tie.Start
-start2 c = c.before.before.before.before
-
-start4 : tie.After-struct-told4 → tie.Start
-start4 c = c.before.before.before.before.before.before.before.before
-
 pub overflow_mul-result : goal.overflow_mul-result
-unfolding start2
-overflow_mul-result c = fits64 (env (start2 c)) (v0 ⊗ v3) tt
+overflow_mul-result c =
+    let env : let a = c.args in Env (a.d.x ∷ a.d.y ∷ a.s.x ∷ a.s.y ∷ []) (33554432 ∷ 33554432 ∷ 100663296 ∷ 100663296 ∷ []) = let p = c.requires.0 in let q = c.requires.1 in p.x ∷ᵉ p.y ∷ᵉ q.x ∷ᵉ q.y ∷ᵉ []ᵉ in
+    fits64 (env) (v0 ⊗ v3) tt
 
 pub overflow_mul-result-2 : goal.overflow_mul-result-2
-unfolding start4
-overflow_mul-result-2 c = fits64 (env (start4 c)) (v1 ⊗ v2) tt
+overflow_mul-result-2 c =
+    let env : let a = c.args in Env (a.d.x ∷ a.d.y ∷ a.s.x ∷ a.s.y ∷ []) (33554432 ∷ 33554432 ∷ 100663296 ∷ 100663296 ∷ []) = let p = c.requires.0 in let q = c.requires.1 in p.x ∷ᵉ p.y ∷ᵉ q.x ∷ᵉ q.y ∷ᵉ []ᵉ in
+    fits64 (env) (v1 ⊗ v2) tt
 
 pub overflow_sub-result : goal.overflow_sub-result
-unfolding start4
-overflow_sub-result c = fits64 (env (start4 c)) (v0 ⊗ v3 ⊖ v1 ⊗ v2) tt
+overflow_sub-result c =
+    let env : let a = c.args in Env (a.d.x ∷ a.d.y ∷ a.s.x ∷ a.s.y ∷ []) (33554432 ∷ 33554432 ∷ 100663296 ∷ 100663296 ∷ []) = let p = c.requires.0 in let q = c.requires.1 in p.x ∷ᵉ p.y ∷ᵉ q.x ∷ᵉ q.y ∷ᵉ []ᵉ in
+    fits64 (env) (v0 ⊗ v3 ⊖ v1 ⊗ v2) tt
 
 pub returns : goal.returns
-unfolding start4 cross_sum
-returns c = reads64 (env (start4 c)) (v0 ⊗ v3 ⊖ v1 ⊗ v2) tt
+unfolding cross_sum
+returns c =
+    let env : let a = c.args in Env (a.d.x ∷ a.d.y ∷ a.s.x ∷ a.s.y ∷ []) (33554432 ∷ 33554432 ∷ 100663296 ∷ 100663296 ∷ []) = let p = c.requires.0 in let q = c.requires.1 in p.x ∷ᵉ p.y ∷ᵉ q.x ∷ᵉ q.y ∷ᵉ []ᵉ in
+    reads64 (env) (v0 ⊗ v3 ⊖ v1 ⊗ v2) tt

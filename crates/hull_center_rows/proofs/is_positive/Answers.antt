@@ -10,12 +10,6 @@ use Rattle.algebra.specs.Test.{lt-taken, lt-left}
 use Rattle.hull_center_rows.specs.Side.{high-positive, high-negative}
 use Rattle.hull_center_rows.proofs.is_positive.Goals as goal
 
-env : (c : tie.Else2) → let a = c.before.before.args in Env (a.high ∷ a.low ∷ []) (134217728 ∷ 3377699720527872 ∷ [])
-env c =
-    let s = c.before.before in
-    let h = to_z-of_z s.ranges.high in
-    abs-by {z = s.args.high} (lt-left h refl c.if2.false) (lt-left refl h c.before.if1.false) ∷ᵉ s.requires ∷ᵉ []ᵉ
-
 pub returns-then-high-gt134217728 : goal.returns-then-high-gt134217728
 returns-then-high-gt134217728 c =
     high-positive c.args.high c.args.low c.requires (lt-taken refl (to_z-of_z c.ranges.high) c.if-high-gt134217728.true)
@@ -25,10 +19,16 @@ returns-then-high-ltminus134217728 c =
     high-negative c.args.high c.args.low c.requires (lt-taken (to_z-of_z c.ranges.high) refl c.if-high-ltminus134217728.true)
 
 pub overflow_mul-result : goal.overflow_mul-result
-overflow_mul-result c = fits64 (env c) (v0 ⊗ # 33554432) tt
+overflow_mul-result c =
+    let env : let a = c.args in Env (a.high ∷ a.low ∷ []) (134217728 ∷ 3377699720527872 ∷ []) = let h = to_z-of_z c.ranges.high in abs-by {z = c.args.high} (lt-left h refl c.if-high-ltminus134217728.false) (lt-left refl h c.if-high-gt134217728.false) ∷ᵉ c.requires ∷ᵉ []ᵉ in
+    fits64 (env) (v0 ⊗ # 33554432) tt
 
 pub overflow_add-result : goal.overflow_add-result
-overflow_add-result c = fits64 (env c) (v0 ⊗ # 33554432 ⊕ v1) tt
+overflow_add-result c =
+    let env : let a = c.args in Env (a.high ∷ a.low ∷ []) (134217728 ∷ 3377699720527872 ∷ []) = let h = to_z-of_z c.ranges.high in abs-by {z = c.args.high} (lt-left h refl c.if-high-ltminus134217728.false) (lt-left refl h c.if-high-gt134217728.false) ∷ᵉ c.requires ∷ᵉ []ᵉ in
+    fits64 (env) (v0 ⊗ # 33554432 ⊕ v1) tt
 
 pub returns : goal.returns
-returns c = ap (lt_z (pos 0)) (reads64 (env c) (v0 ⊗ # 33554432 ⊕ v1) tt)
+returns c =
+    let env : let a = c.args in Env (a.high ∷ a.low ∷ []) (134217728 ∷ 3377699720527872 ∷ []) = let h = to_z-of_z c.ranges.high in abs-by {z = c.args.high} (lt-left h refl c.if-high-ltminus134217728.false) (lt-left refl h c.if-high-gt134217728.false) ∷ᵉ c.requires ∷ᵉ []ᵉ in
+    ap (lt_z (pos 0)) (reads64 (env) (v0 ⊗ # 33554432 ⊕ v1) tt)

@@ -14,53 +14,40 @@ use Rattle.hull_center_rows.proofs.less_three.Goals as goal
 abbrev rd : ℤ → ℤ
 rd z = to_z w32 (of_z w32 z)
 
-env : (c : tie.Start) → let a = c.args in
-    Env (a.sum.x ∷ rd a.a.x ∷ a.sum.y ∷ rd a.a.y ∷ []) (50331648 ∷ 16777216 ∷ 50331648 ∷ 16777216 ∷ [])
-env c =
-    let a = c.args in let p = c.requires.0 in let q = c.requires.1 in
-    p.x ∷ᵉ small-read w32 a.a.x q.x tt ∷ᵉ p.y ∷ᵉ small-read w32 a.a.y q.y tt ∷ᵉ []ᵉ
-
--- the places by the number of fields that have been read
-start1 : tie.After-struct-told → tie.Start
-start1 c = c.before.before
-
-start2 : tie.After-struct-told2 → tie.Start
-start2 c = c.before.before.before.before
-
-start3 : tie.After-struct-told3 → tie.Start
-start3 c = c.before.before.before.before.before.before
-
-start4 : tie.After-struct-told4 → tie.Start
-start4 c = c.before.before.before.before.before.before.before.before
-
 pub overflow_cast-result : goal.overflow_cast-result
-unfolding start1
-overflow_cast-result c = fits64 (env (start1 c)) v1 tt
+overflow_cast-result c =
+    let env : let a = c.args in Env (a.sum.x ∷ rd a.a.x ∷ a.sum.y ∷ rd a.a.y ∷ []) (50331648 ∷ 16777216 ∷ 50331648 ∷ 16777216 ∷ []) = let a = c.args in let p = c.requires.0 in let q = c.requires.1 in p.x ∷ᵉ small-read w32 a.a.x q.x tt ∷ᵉ p.y ∷ᵉ small-read w32 a.a.y q.y tt ∷ᵉ []ᵉ in
+    fits64 (env) v1 tt
 
 pub overflow_mul-result : goal.overflow_mul-result
-unfolding start1
-overflow_mul-result c = fits64 (env (start1 c)) (# 3 ⊗ v1) tt
+overflow_mul-result c =
+    let env : let a = c.args in Env (a.sum.x ∷ rd a.a.x ∷ a.sum.y ∷ rd a.a.y ∷ []) (50331648 ∷ 16777216 ∷ 50331648 ∷ 16777216 ∷ []) = let a = c.args in let p = c.requires.0 in let q = c.requires.1 in p.x ∷ᵉ small-read w32 a.a.x q.x tt ∷ᵉ p.y ∷ᵉ small-read w32 a.a.y q.y tt ∷ᵉ []ᵉ in
+    fits64 (env) (# 3 ⊗ v1) tt
 
 pub overflow_sub-result : goal.overflow_sub-result
-unfolding start2
-overflow_sub-result c = fits64 (env (start2 c)) (v0 ⊖ # 3 ⊗ v1) tt
+overflow_sub-result c =
+    let env : let a = c.args in Env (a.sum.x ∷ rd a.a.x ∷ a.sum.y ∷ rd a.a.y ∷ []) (50331648 ∷ 16777216 ∷ 50331648 ∷ 16777216 ∷ []) = let a = c.args in let p = c.requires.0 in let q = c.requires.1 in p.x ∷ᵉ small-read w32 a.a.x q.x tt ∷ᵉ p.y ∷ᵉ small-read w32 a.a.y q.y tt ∷ᵉ []ᵉ in
+    fits64 (env) (v0 ⊖ # 3 ⊗ v1) tt
 
 pub overflow_cast-result-2 : goal.overflow_cast-result-2
-unfolding start3
-overflow_cast-result-2 c = fits64 (env (start3 c)) v3 tt
+overflow_cast-result-2 c =
+    let env : let a = c.args in Env (a.sum.x ∷ rd a.a.x ∷ a.sum.y ∷ rd a.a.y ∷ []) (50331648 ∷ 16777216 ∷ 50331648 ∷ 16777216 ∷ []) = let a = c.args in let p = c.requires.0 in let q = c.requires.1 in p.x ∷ᵉ small-read w32 a.a.x q.x tt ∷ᵉ p.y ∷ᵉ small-read w32 a.a.y q.y tt ∷ᵉ []ᵉ in
+    fits64 (env) v3 tt
 
 pub overflow_mul-result-2 : goal.overflow_mul-result-2
-unfolding start3
-overflow_mul-result-2 c = fits64 (env (start3 c)) (# 3 ⊗ v3) tt
+overflow_mul-result-2 c =
+    let env : let a = c.args in Env (a.sum.x ∷ rd a.a.x ∷ a.sum.y ∷ rd a.a.y ∷ []) (50331648 ∷ 16777216 ∷ 50331648 ∷ 16777216 ∷ []) = let a = c.args in let p = c.requires.0 in let q = c.requires.1 in p.x ∷ᵉ small-read w32 a.a.x q.x tt ∷ᵉ p.y ∷ᵉ small-read w32 a.a.y q.y tt ∷ᵉ []ᵉ in
+    fits64 (env) (# 3 ⊗ v3) tt
 
 pub overflow_sub-result-2 : goal.overflow_sub-result-2
-unfolding start4
-overflow_sub-result-2 c = fits64 (env (start4 c)) (v2 ⊖ # 3 ⊗ v3) tt
+overflow_sub-result-2 c =
+    let env : let a = c.args in Env (a.sum.x ∷ rd a.a.x ∷ a.sum.y ∷ rd a.a.y ∷ []) (50331648 ∷ 16777216 ∷ 50331648 ∷ 16777216 ∷ []) = let a = c.args in let p = c.requires.0 in let q = c.requires.1 in p.x ∷ᵉ small-read w32 a.a.x q.x tt ∷ᵉ p.y ∷ᵉ small-read w32 a.a.y q.y tt ∷ᵉ []ᵉ in
+    fits64 (env) (v2 ⊖ # 3 ⊗ v3) tt
 
 pub returns : goal.returns
-unfolding start4 less_three
+unfolding less_three
 returns c =
-    let s = start4 c in let a = s.args in let q = s.pre.1 in
+    let s = c in let a = s.args in let q = s.pre.1 in
     ap₂ (λ (x y : ℤ). record { x = x; y = y })
     (reads64 (env s) (v0 ⊖ # 3 ⊗ v1) tt ∙ ap (λ (z : ℤ). a.sum.x -ℤ pos 3 *ℤ z) (to_z-of_z (small-fits w32 {z = a.a.x} q.x tt)))
     (reads64 (env s) (v2 ⊖ # 3 ⊗ v3) tt ∙ ap (λ (z : ℤ). a.sum.y -ℤ pos 3 *ℤ z) (to_z-of_z (small-fits w32 {z = a.a.y} q.y tt)))

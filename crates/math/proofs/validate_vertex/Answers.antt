@@ -14,18 +14,15 @@ use Rattle.math.proofs.validate_vertex.Goals as goal
 kept : (z : ℤ) → SFits w32 z → is_valid_coordinate (to_z w32 (of_z w32 z)) ≡ is_valid_coordinate z
 kept z f = ap is_valid_coordinate {y = z} (to_z-of_z f)
 
-x-is : (c : tie.After-validate-coordinate) → c.validate-coordinate.result ≡ is_valid_coordinate c.before.before.args.p.x
-x-is c = c.validate-coordinate.ensures ∙ kept c.before.before.args.p.x (sfits_of c.before.struct_told.given.0.1)
-
-y-is : (c : tie.After-validate-coordinate2) → c.validate-coordinate2.result ≡ is_valid_coordinate c.before.before.before.before.before.args.p.y
-y-is c = c.validate-coordinate2.ensures ∙ kept c.before.before.before.before.before.args.p.y (sfits_of c.before.struct-told2.given.1.0.1)
-
 pub returns-then-validate_coordinate : goal.returns-then-validate_coordinate
 returns-then-validate_coordinate c =
+    let x-is : c.validate_coordinate.result ≡ is_valid_coordinate c.args.p.x = c.validate_coordinate.ensures ∙ kept c.args.p.x (sfits_of c.struct_told-1.given.0.1) in
+    let y-is : c.validate_coordinate-then-validate_coordinate.result ≡ is_valid_coordinate c.args.p.y = c.validate_coordinate-then-validate_coordinate.ensures ∙ kept c.args.p.y (sfits_of c.struct_told-then-validate_coordinate-1.given.1.0.1) in
     let p = c.args.p in
-    y-is c ∙ ap (λ (b : Bool). b && is_valid_coordinate p.y) (sym c.if-validate_coordinate.true ∙ x-is c)
+    y-is ∙ ap (λ (b : Bool). b && is_valid_coordinate p.y) (sym c.if-validate_coordinate.true ∙ x-is)
 
 pub returns-else-validate_coordinate : goal.returns-else-validate_coordinate
 returns-else-validate_coordinate c =
+    let x-is : c.validate_coordinate.result ≡ is_valid_coordinate c.args.p.x = c.validate_coordinate.ensures ∙ kept c.args.p.x (sfits_of c.struct_told-1.given.0.1) in
     let p = c.args.p in
-    ap (λ (b : Bool). b && is_valid_coordinate p.y) (sym c.if-validate_coordinate.false ∙ x-is c)
+    ap (λ (b : Bool). b && is_valid_coordinate p.y) (sym c.if-validate_coordinate.false ∙ x-is)

@@ -23,49 +23,52 @@ by v1 v2 v3 p {a} {b} {c} {d} e f g h k =
     ∙ ap (λ (x : Bool). answer a b c x (contained_in_circumference v1 v2 v3 p)) h
     ∙ ap (λ (x : Bool). answer a b c d x) k)
 
--- ---- what the tests that were passed say
-valid1 : (c : tie.Then1) → is_valid_vertex c.before.before.args.v1 ≡ true
-valid1 c = sym c.before.validate-vertex.ensures ∙ c.if1.true
-
-valid2 : (c : tie.Then2) → is_valid_vertex c.before.before.before.before.args.v2 ≡ true
-valid2 c = sym c.before.validate-vertex2.ensures ∙ c.if2.true
-
-valid3 : (c : tie.Then3) → is_valid_vertex c.before.before.before.before.before.before.args.v3 ≡ true
-valid3 c = sym c.before.validate-vertex3.ensures ∙ c.if3.true
-
-valid4 : (c : tie.Then4) → is_valid_vertex c.before.before.before.before.before.before.before.before.args.p ≡ true
-valid4 c = sym c.before.validate-vertex4.ensures ∙ c.if4.true
-
--- where all four are valid
-inside : (c : tie.Then4) → let a = c.before.before.before.before.before.before.before.before.args in (t : Bool) → contained_in_circumference a.v1 a.v2 a.v3 a.p ≡ t → inside_number t ≡ circle_answer a.v1 a.v2 a.v3 a.p
-inside c t e =
-    let d = c.before.before in let g = d.before.before in let f = g.before.before in let a = f.before.before.args in
-    by a.v1 a.v2 a.v3 a.p (valid1 f) (valid2 g) (valid3 d) (valid4 c) e
-
 pub contained_in_circumference-requires : goal.contained_in_circumference-requires
 contained_in_circumference-requires c =
-    (in-range (valid1 c), in-range (valid2 c), in-range (valid3 c), in-range (valid4 c))
+    let valid1 : is_valid_vertex c.args.v1 ≡ true = sym c.validate_vertex.ensures ∙ c.if-validate_vertex.true in
+    let valid2 : is_valid_vertex c.args.v2 ≡ true = sym c.validate_vertex-then-validate_vertex.ensures ∙ c.if-validate_vertex-2.true in
+    let valid3 : is_valid_vertex c.args.v3 ≡ true = sym c.validate_vertex-then-validate_vertex-2.ensures ∙ c.if-validate_vertex-3.true in
+    let valid4 : is_valid_vertex c.args.p ≡ true = sym c.validate_vertex-then-validate_vertex-3.ensures ∙ c.if-validate_vertex-4.true in
+    (in-range (valid1), in-range (valid2), in-range (valid3), in-range (valid4))
 
 pub returns-then-contained_in_circumference : goal.returns-then-contained_in_circumference
-returns-then-contained_in_circumference c = inside c true (sym c.contained_in_circumference.ensures ∙ c.if-contained_in_circumference.true)
+returns-then-contained_in_circumference c =
+    let valid1 : is_valid_vertex c.args.v1 ≡ true = sym c.validate_vertex.ensures ∙ c.if-validate_vertex.true in
+    let valid2 : is_valid_vertex c.args.v2 ≡ true = sym c.validate_vertex-then-validate_vertex.ensures ∙ c.if-validate_vertex-2.true in
+    let valid3 : is_valid_vertex c.args.v3 ≡ true = sym c.validate_vertex-then-validate_vertex-2.ensures ∙ c.if-validate_vertex-3.true in
+    let valid4 : is_valid_vertex c.args.p ≡ true = sym c.validate_vertex-then-validate_vertex-3.ensures ∙ c.if-validate_vertex-4.true in
+    let inside : let a = c.args in (t : Bool) → contained_in_circumference a.v1 a.v2 a.v3 a.p ≡ t → inside_number t ≡ circle_answer a.v1 a.v2 a.v3 a.p = λ t e. let a = c.args in by a.v1 a.v2 a.v3 a.p (valid1) (valid2) (valid3) (valid4) e in
+    inside true (sym c.contained_in_circumference.ensures ∙ c.if-contained_in_circumference.true)
 
 pub returns-then-validate_vertex-4 : goal.returns-then-validate_vertex-4
-returns-then-validate_vertex-4 c = inside c false (sym c.contained_in_circumference.ensures ∙ c.if-contained_in_circumference.false)
+returns-then-validate_vertex-4 c =
+    let valid1 : is_valid_vertex c.args.v1 ≡ true = sym c.validate_vertex.ensures ∙ c.if-validate_vertex.true in
+    let valid2 : is_valid_vertex c.args.v2 ≡ true = sym c.validate_vertex-then-validate_vertex.ensures ∙ c.if-validate_vertex-2.true in
+    let valid3 : is_valid_vertex c.args.v3 ≡ true = sym c.validate_vertex-then-validate_vertex-2.ensures ∙ c.if-validate_vertex-3.true in
+    let valid4 : is_valid_vertex c.args.p ≡ true = sym c.validate_vertex-then-validate_vertex-3.ensures ∙ c.if-validate_vertex-4.true in
+    let inside : let a = c.args in (t : Bool) → contained_in_circumference a.v1 a.v2 a.v3 a.p ≡ t → inside_number t ≡ circle_answer a.v1 a.v2 a.v3 a.p = λ t e. let a = c.args in by a.v1 a.v2 a.v3 a.p (valid1) (valid2) (valid3) (valid4) e in
+    inside false (sym c.contained_in_circumference.ensures ∙ c.if-contained_in_circumference.false)
 
 pub returns-else-validate_vertex-4 : goal.returns-else-validate_vertex-4
 returns-else-validate_vertex-4 c =
+    let valid1 : is_valid_vertex c.args.v1 ≡ true = sym c.validate_vertex.ensures ∙ c.if-validate_vertex.true in
+    let valid2 : is_valid_vertex c.args.v2 ≡ true = sym c.validate_vertex-then-validate_vertex.ensures ∙ c.if-validate_vertex-2.true in
+    let valid3 : is_valid_vertex c.args.v3 ≡ true = sym c.validate_vertex-then-validate_vertex-2.ensures ∙ c.if-validate_vertex-3.true in
     let a = c.args in
-    by a.v1 a.v2 a.v3 a.p (valid1 c) (valid2 c) (valid3 c) (sym c.validate_vertex-then-validate_vertex-3.ensures ∙ c.if-validate_vertex-4.false) refl
+    by a.v1 a.v2 a.v3 a.p (valid1) (valid2) (valid3) (sym c.validate_vertex-then-validate_vertex-3.ensures ∙ c.if-validate_vertex-4.false) refl
 
 pub returns-else-validate_vertex-3 : goal.returns-else-validate_vertex-3
 returns-else-validate_vertex-3 c =
+    let valid1 : is_valid_vertex c.args.v1 ≡ true = sym c.validate_vertex.ensures ∙ c.if-validate_vertex.true in
+    let valid2 : is_valid_vertex c.args.v2 ≡ true = sym c.validate_vertex-then-validate_vertex.ensures ∙ c.if-validate_vertex-2.true in
     let a = c.args in
-    by a.v1 a.v2 a.v3 a.p (valid1 c) (valid2 c) (sym c.validate_vertex-then-validate_vertex-2.ensures ∙ c.if-validate_vertex-3.false) refl refl
+    by a.v1 a.v2 a.v3 a.p (valid1) (valid2) (sym c.validate_vertex-then-validate_vertex-2.ensures ∙ c.if-validate_vertex-3.false) refl refl
 
 pub returns-else-validate_vertex-2 : goal.returns-else-validate_vertex-2
 returns-else-validate_vertex-2 c =
+    let valid1 : is_valid_vertex c.args.v1 ≡ true = sym c.validate_vertex.ensures ∙ c.if-validate_vertex.true in
     let a = c.args in
-    by a.v1 a.v2 a.v3 a.p (valid1 c) (sym c.validate_vertex-then-validate_vertex.ensures ∙ c.if-validate_vertex-2.false) refl refl refl
+    by a.v1 a.v2 a.v3 a.p (valid1) (sym c.validate_vertex-then-validate_vertex.ensures ∙ c.if-validate_vertex-2.false) refl refl refl
 
 pub returns-else-validate_vertex : goal.returns-else-validate_vertex
 returns-else-validate_vertex c =

@@ -12,19 +12,9 @@ use Rattle.sums.specs.Bounded.{all_below}
 use Rattle.mesh_rules.proofs.Tests.{fails-counts, fails-halves, fails-outer, fails-whole, fails-inner, at-vertices, halves-there, faces-there, some-face, face-there, outer-in}
 use Rattle.mesh_rules.proofs.mesh_rules.Goals as goal
 
--- ---- what each sweep that passed says, at the place after it
-counts : (c : tie.Else1) → counts_hold c.before.before.before.before.before.args.counts ≡ true
-counts c = sym c.before.counts-hold.ensures ∙ not-false _ c.if1.false
-
-abbrev start : tie.Else1 → tie.Start
-start c = c.before.before.before.before.before
-
 halves : (c : tie.Else2) (o a : List ℕ)
     → all_below (2 * (start c.before.before).args.counts.edges) (half_edge_holds (start c.before.before).args.counts (links_of o (start c.before.before).args.halves.now a)) ≡ true
 halves c o a = sym (c.before.half-edges-hold.ensures o a) ∙ not-false _ c.if2.false
-
-swept : (c : tie.Else2) → HalvesHold (start c.before.before).args.counts (start c.before.before).args.halves.now
-swept c = record { there = halves-there (start c.before.before).requires (counts c.before.before); holds = λ o a. from-true (halves c o a) }
 
 outer : (c : tie.Else3) (o : List ℕ)
     → outer_holds (start c.before.before.before.before).args.counts (links_of o (start c.before.before.before.before).args.halves.now (start c.before.before.before.before).args.faces.now) ≡ true
@@ -34,41 +24,58 @@ pub returns-then-not-counts_hold : goal.returns-then-not-counts_hold
 returns-then-not-counts_hold c = fails-counts _ _ (sym c.counts_hold.ensures ∙ not-true _ c.if-not-counts_hold.true-raw)
 
 pub half_edges_hold-requires : goal.half_edges_hold-requires
-half_edges_hold-requires c = halves-there (start c).requires (counts c)
+half_edges_hold-requires c =
+    let counts : counts_hold c.args.counts ≡ true = sym c.counts_hold.ensures ∙ not-false _ c.if-not-counts_hold.false-raw in
+    halves-there c.requires (counts)
 
 pub returns-then-not-half_edges_hold : goal.returns-then-not-half_edges_hold
-returns-then-not-half_edges_hold c = fails-halves _ _ (counts c) (sym (c.half_edges_hold.ensures _ _) ∙ not-true _ c.if-not-half_edges_hold.true-raw)
+returns-then-not-half_edges_hold c =
+    let counts : counts_hold c.args.counts ≡ true = sym c.counts_hold.ensures ∙ not-false _ c.if-not-counts_hold.false-raw in
+    fails-halves _ _ (counts) (sym (c.half_edges_hold.ensures _ _) ∙ not-true _ c.if-not-half_edges_hold.true-raw)
 
 pub outer_holds-requires : goal.outer_holds-requires
-outer_holds-requires c = (swept c, face-there (start c).requires (counts c))
+outer_holds-requires c =
+    let counts : counts_hold c.args.counts ≡ true = sym c.counts_hold.ensures ∙ not-false _ c.if-not-counts_hold.false-raw in
+    let swept : HalvesHold c.args.counts c.args.halves.now = record { there = halves-there c.requires (counts); holds = λ o a. from-true (halves c o a) } in
+    (swept, face-there c.requires (counts))
 
 pub returns-then-not-outer_holds : goal.returns-then-not-outer_holds
 returns-then-not-outer_holds c =
-    fails-outer _ _ (counts c) (halves c _ _) (sym (c.outer_holds.ensures _) ∙ not-true _ c.if-not-outer_holds.true-raw)
+    let counts : counts_hold c.args.counts ≡ true = sym c.counts_hold.ensures ∙ not-false _ c.if-not-counts_hold.false-raw in
+    fails-outer _ _ (counts) (halves c _ _) (sym (c.outer_holds.ensures _) ∙ not-true _ c.if-not-outer_holds.true-raw)
 
 pub faces_whole-requires : goal.faces_whole-requires
 faces_whole-requires c =
-    (swept c, (face-there (start c).requires (counts c), outer-in _ _ _ _ (outer c (start c).args.outs.now)))
+    let counts : counts_hold c.args.counts ≡ true = sym c.counts_hold.ensures ∙ not-false _ c.if-not-counts_hold.false-raw in
+    let swept : HalvesHold c.args.counts c.args.halves.now = record { there = halves-there c.requires (counts); holds = λ o a. from-true (halves c o a) } in
+    (swept, (face-there c.requires (counts), outer-in _ _ _ _ (outer c c.args.outs.now)))
 
 pub returns-then-not-faces_whole : goal.returns-then-not-faces_whole
 returns-then-not-faces_whole c =
-    fails-whole _ _ (counts c) (halves c _ _) (outer c _) (sym (c.faces_whole.ensures _) ∙ not-true _ c.if-not-faces_whole.true-raw)
+    let counts : counts_hold c.args.counts ≡ true = sym c.counts_hold.ensures ∙ not-false _ c.if-not-counts_hold.false-raw in
+    fails-whole _ _ (counts) (halves c _ _) (outer c _) (sym (c.faces_whole.ensures _) ∙ not-true _ c.if-not-faces_whole.true-raw)
 
 pub inner_faces_hold-requires : goal.inner_faces_hold-requires
 inner_faces_hold-requires c =
-    (swept c, (some-face (start c).requires (counts c), faces-there (start c).requires (counts c)))
+    let counts : counts_hold c.args.counts ≡ true = sym c.counts_hold.ensures ∙ not-false _ c.if-not-counts_hold.false-raw in
+    let swept : HalvesHold c.args.counts c.args.halves.now = record { there = halves-there c.requires (counts); holds = λ o a. from-true (halves c o a) } in
+    (swept, (some-face c.requires (counts), faces-there c.requires (counts)))
 
 pub returns-then-not-inner_faces_hold : goal.returns-then-not-inner_faces_hold
 returns-then-not-inner_faces_hold c =
-    fails-inner _ _ (counts c) (halves c _ _) (outer c _) (sym (c.faces_whole.ensures _) ∙ not-false _ c.if-not-faces_whole.false-raw)
+    let counts : counts_hold c.args.counts ≡ true = sym c.counts_hold.ensures ∙ not-false _ c.if-not-counts_hold.false-raw in
+    fails-inner _ _ (counts) (halves c _ _) (outer c _) (sym (c.faces_whole.ensures _) ∙ not-false _ c.if-not-faces_whole.false-raw)
     (sym (c.inner_faces_hold.ensures _) ∙ not-true _ c.if-not-inner_faces_hold.true-raw)
 
 pub vertices_hold-requires : goal.vertices_hold-requires
 vertices_hold-requires c =
-    (swept c, (start c).requires.outs)
+    let counts : counts_hold c.args.counts ≡ true = sym c.counts_hold.ensures ∙ not-false _ c.if-not-counts_hold.false-raw in
+    let swept : HalvesHold c.args.counts c.args.halves.now = record { there = halves-there c.requires (counts); holds = λ o a. from-true (halves c o a) } in
+    (swept, c.requires.outs)
 
 pub returns : goal.returns
 returns c =
+    let counts : counts_hold c.args.counts ≡ true = sym c.counts_hold.ensures ∙ not-false _ c.if-not-counts_hold.false-raw in
     c.vertices_hold.ensures _
-    ∙ at-vertices _ _ (counts c) (halves c _ _) (outer c _) (sym (c.faces_whole.ensures _) ∙ not-false _ c.if-not-faces_whole.false-raw)
+    ∙ at-vertices _ _ (counts) (halves c _ _) (outer c _) (sym (c.faces_whole.ensures _) ∙ not-false _ c.if-not-faces_whole.false-raw)
     (sym (c.inner_faces_hold.ensures _) ∙ not-false _ c.if-not-inner_faces_hold.false-raw)

@@ -8,20 +8,18 @@ use Rattle.math.specs.Determinant.{orient2d}
 use Rattle.search.specs.Turns.{line-ready, ends-range, side_left, side_right, side-line}
 use Rattle.search.proofs.by_side.Goals as goal
 
--- what the machine reads of the area
-area : (c : tie.After-side-query) → let a = c.before.before.args in to_z w64 (of_z w64 c.side-query.result) ≡ orient2d a.from a.to a.point
-area c = to_z-of_z (sfits_of c.side-query.type-inv) ∙ c.side-query.ensures
-
 pub side_query-area-requires : goal.side_query-area-requires
 side_query-area-requires c = ends-range c.requires
 
 pub returns-then-area-gt0 : goal.returns-then-area-gt0
 returns-then-area-gt0 c o a =
-    side_left c.requires (area c) c.if-area-gt0.true o a (c.rotate_ccw.ensures o a)
+    let area : let a = c.args in to_z w64 (of_z w64 c.side_query-area.result) ≡ orient2d a.from a.to a.point = to_z-of_z {w = w64} (sfits_of c.side_query-area.type_inv) ∙ c.side_query-area.ensures in
+    side_left c.requires (area) c.if-area-gt0.true o a (c.rotate_ccw.ensures o a)
 
 pub returns-then-area-lt0 : goal.returns-then-area-lt0
 returns-then-area-lt0 c o a =
-    side_right c.requires (area c) c.if-area-gt0.false c.if-area-lt0.true o a (c.rotate_cw.ensures o a)
+    let area : let a = c.args in to_z w64 (of_z w64 c.side_query-area.result) ≡ orient2d a.from a.to a.point = to_z-of_z {w = w64} (sfits_of c.side_query-area.type_inv) ∙ c.side_query-area.ensures in
+    side_right c.requires (area) c.if-area-gt0.false c.if-area-lt0.true o a (c.rotate_cw.ensures o a)
 
 pub on_line-requires : goal.on_line-requires
 on_line-requires c =
@@ -29,4 +27,5 @@ on_line-requires c =
 
 pub returns : goal.returns
 returns c o a =
-    side-line c.requires (area c) c.if-area-gt0.false c.if-area-lt0.false o a (c.on_line.ensures o a)
+    let area : let a = c.args in to_z w64 (of_z w64 c.side_query-area.result) ≡ orient2d a.from a.to a.point = to_z-of_z {w = w64} (sfits_of c.side_query-area.type_inv) ∙ c.side_query-area.ensures in
+    side-line c.requires (area) c.if-area-gt0.false c.if-area-lt0.false o a (c.on_line.ensures o a)

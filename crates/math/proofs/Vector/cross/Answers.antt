@@ -6,28 +6,23 @@ use Rattle.algebra.specs.Bound.{Env, []ᵉ, ◌∷ᵉ◌, fits64, reads64}
 use Rattle.math.specs.Vector.{cross_of}
 use Rattle.math.proofs.Vector.cross.Goals as goal
 
-env : (c : tie.Start) → let a = c.args in Env (a.self.x ∷ a.self.y ∷ a.other.x ∷ a.other.y ∷ []) (33554432 ∷ 33554432 ∷ 33554432 ∷ 33554432 ∷ [])
-env c = let p = c.requires.0 in let q = c.requires.1 in p.x ∷ᵉ p.y ∷ᵉ q.x ∷ᵉ q.y ∷ᵉ []ᵉ
-
--- where two fields have been read, and all four
-start2 : tie.After-struct-told2 → tie.Start
-start2 c = c.before.before.before.before
-
-start4 : tie.After-struct-told4 → tie.Start
-start4 c = c.before.before.before.before.before.before.before.before
-
 pub overflow_mul-result : goal.overflow_mul-result
-unfolding start2
-overflow_mul-result c = fits64 (env (start2 c)) (v0 ⊗ v3) tt
+overflow_mul-result c =
+    let env : let a = c.args in Env (a.self.x ∷ a.self.y ∷ a.other.x ∷ a.other.y ∷ []) (33554432 ∷ 33554432 ∷ 33554432 ∷ 33554432 ∷ []) = let p = c.requires.0 in let q = c.requires.1 in p.x ∷ᵉ p.y ∷ᵉ q.x ∷ᵉ q.y ∷ᵉ []ᵉ in
+    fits64 (env) (v0 ⊗ v3) tt
 
 pub overflow_mul-result-2 : goal.overflow_mul-result-2
-unfolding start4
-overflow_mul-result-2 c = fits64 (env (start4 c)) (v1 ⊗ v2) tt
+overflow_mul-result-2 c =
+    let env : let a = c.args in Env (a.self.x ∷ a.self.y ∷ a.other.x ∷ a.other.y ∷ []) (33554432 ∷ 33554432 ∷ 33554432 ∷ 33554432 ∷ []) = let p = c.requires.0 in let q = c.requires.1 in p.x ∷ᵉ p.y ∷ᵉ q.x ∷ᵉ q.y ∷ᵉ []ᵉ in
+    fits64 (env) (v1 ⊗ v2) tt
 
 pub overflow_sub-result : goal.overflow_sub-result
-unfolding start4
-overflow_sub-result c = fits64 (env (start4 c)) (v0 ⊗ v3 ⊖ v1 ⊗ v2) tt
+overflow_sub-result c =
+    let env : let a = c.args in Env (a.self.x ∷ a.self.y ∷ a.other.x ∷ a.other.y ∷ []) (33554432 ∷ 33554432 ∷ 33554432 ∷ 33554432 ∷ []) = let p = c.requires.0 in let q = c.requires.1 in p.x ∷ᵉ p.y ∷ᵉ q.x ∷ᵉ q.y ∷ᵉ []ᵉ in
+    fits64 (env) (v0 ⊗ v3 ⊖ v1 ⊗ v2) tt
 
 pub returns : goal.returns
-unfolding start4 cross_of
-returns c = reads64 (env (start4 c)) (v0 ⊗ v3 ⊖ v1 ⊗ v2) tt
+unfolding cross_of
+returns c =
+    let env : let a = c.args in Env (a.self.x ∷ a.self.y ∷ a.other.x ∷ a.other.y ∷ []) (33554432 ∷ 33554432 ∷ 33554432 ∷ 33554432 ∷ []) = let p = c.requires.0 in let q = c.requires.1 in p.x ∷ᵉ p.y ∷ᵉ q.x ∷ᵉ q.y ∷ᵉ []ᵉ in
+    reads64 (env) (v0 ⊗ v3 ⊖ v1 ⊗ v2) tt

@@ -13,19 +13,19 @@ use Rattle.algebra.specs.Bound.{Env, []ᵉ, ◌∷ᵉ◌, fits64, reads64}
 use Rattle.algebra.specs.Test.{lt-taken, lt-left}
 use Rattle.math.proofs.wide.magnitude.Goals as goal
 
-env : (c : tie.Start) → Env (c.args.x ∷ []) (36028797018963968 ∷ [])
-env c = c.requires ∷ᵉ []ᵉ
-
 below : (z : ℤ) → T (lt_z z (pos 0)) → pos 0 -ℤ z ≡ pos (nat_abs z)
 below (pos n) t = absurd (not-suc-le-zero (ltb→lt n 0 t))
 below (negsuc n) t = ring (pos (suc n) ∷ []) (# 0 ⊖ ⊝ v0) v0 refl
 
 pub overflow_sub-result : goal.overflow_sub-result
-overflow_sub-result c = fits64 (env c) (# 0 ⊖ v0) tt
+overflow_sub-result c =
+    let env : Env (c.args.x ∷ []) (36028797018963968 ∷ []) = c.requires ∷ᵉ []ᵉ in
+    fits64 (env) (# 0 ⊖ v0) tt
 
 pub returns-then-x-lt0 : goal.returns-then-x-lt0
 returns-then-x-lt0 c =
-    reads64 (env c) (# 0 ⊖ v0) tt ∙ below c.args.x (lt-taken (to_z-of_z c.ranges.x) refl c.if-x-lt0.true).lt
+    let env : Env (c.args.x ∷ []) (36028797018963968 ∷ []) = c.requires ∷ᵉ []ᵉ in
+    reads64 (env) (# 0 ⊖ v0) tt ∙ below c.args.x (lt-taken (to_z-of_z c.ranges.x) refl c.if-x-lt0.true).lt
 
 pub returns : goal.returns
 returns c =

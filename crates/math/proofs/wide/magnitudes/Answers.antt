@@ -21,44 +21,40 @@ kept z r f e = e ∙ ap (λ (k : ℤ). pos (nat_abs k)) {y = z} (to_z-of_z f)
 small : (z r : ℤ) → AtMost51 z → r ≡ pos (nat_abs z) → nat_abs r ≤ 2251799813685248
 small z r h e = subst (λ (k : ℤ). nat_abs k ≤ 2251799813685248) (sym e) h.abs
 
-mag1 : (c : tie.After-magnitude) → c.magnitude.result ≡ pos (nat_abs c.before.args.x)
-mag1 c = kept c.before.args.x c.magnitude.result c.before.ranges.x c.magnitude.ensures
-
-mag2 : (c : tie.After-magnitude2) → c.magnitude2.result ≡ pos (nat_abs c.before.before.args.y)
-mag2 c = let s = c.before.before in kept s.args.y c.magnitude2.result s.ranges.y c.magnitude2.ensures
-
-mag3 : (c : tie.After-magnitude3) → c.magnitude3.result ≡ pos (nat_abs c.before.before.before.args.z)
-mag3 c = let s = c.before.before.before in kept s.args.z c.magnitude3.result s.ranges.z c.magnitude3.ensures
-
-mag4 : (c : tie.After-magnitude4) → c.magnitude4.result ≡ pos (nat_abs c.before.before.before.before.args.w)
-mag4 c = let s = c.before.before.before.before in kept s.args.w c.magnitude4.result s.ranges.w c.magnitude4.ensures
-
-env2 : (c : tie.After-magnitude2) → Env (c.before.magnitude.result ∷ c.magnitude2.result ∷ []) (2251799813685248 ∷ 2251799813685248 ∷ [])
-env2 c =
-    let b = c.before in let s = b.before in
-    small s.args.x b.magnitude.result s.requires.0 (mag1 b) ∷ᵉ small s.args.y c.magnitude2.result s.requires.1 (mag2 c) ∷ᵉ []ᵉ
-
-env4 : (c : tie.After-magnitude4) → let d = c.before in let b = d.before in Env (b.before.magnitude.result ∷ b.magnitude2.result ∷ d.magnitude3.result ∷ c.magnitude4.result ∷ []) (2251799813685248 ∷ 2251799813685248 ∷ 2251799813685248 ∷ 2251799813685248 ∷ [])
-env4 c =
-    let d = c.before in let b = d.before in let a = b.before in let s = a.before in
-    small s.args.x a.magnitude.result s.requires.0 (mag1 a)
-    ∷ᵉ small s.args.y b.magnitude2.result s.requires.1 (mag2 b)
-    ∷ᵉ small s.args.z d.magnitude3.result s.requires.2 (mag3 d)
-    ∷ᵉ small s.args.w c.magnitude4.result s.requires.3 (mag4 c) ∷ᵉ []ᵉ
-
 abbrev all : E
 all = v0 ⊕ v1 ⊕ (v2 ⊕ v3)
 
 pub overflow_add-result : goal.overflow_add-result
-overflow_add-result c = fits64 (env2 c) (v0 ⊕ v1) tt
+overflow_add-result c =
+    let mag1 : c.magnitude.result ≡ pos (nat_abs c.args.x) = kept c.args.x c.magnitude.result c.ranges.x c.magnitude.ensures in
+    let mag2 : c.magnitude-2.result ≡ pos (nat_abs c.args.y) = kept c.args.y c.magnitude-2.result c.ranges.y c.magnitude-2.ensures in
+    let env2 : Env (c.magnitude.result ∷ c.magnitude-2.result ∷ []) (2251799813685248 ∷ 2251799813685248 ∷ []) = small c.args.x c.magnitude.result c.requires.0 (mag1) ∷ᵉ small c.args.y c.magnitude-2.result c.requires.1 (mag2) ∷ᵉ []ᵉ in
+    fits64 (env2) (v0 ⊕ v1) tt
 
 pub overflow_add-result-2 : goal.overflow_add-result-2
-overflow_add-result-2 c = fits64 (env4 c) (v2 ⊕ v3) tt
+overflow_add-result-2 c =
+    let mag1 : c.magnitude.result ≡ pos (nat_abs c.args.x) = kept c.args.x c.magnitude.result c.ranges.x c.magnitude.ensures in
+    let mag2 : c.magnitude-2.result ≡ pos (nat_abs c.args.y) = kept c.args.y c.magnitude-2.result c.ranges.y c.magnitude-2.ensures in
+    let mag3 : c.magnitude-3.result ≡ pos (nat_abs c.args.z) = kept c.args.z c.magnitude-3.result c.ranges.z c.magnitude-3.ensures in
+    let mag4 : c.magnitude-4.result ≡ pos (nat_abs c.args.w) = kept c.args.w c.magnitude-4.result c.ranges.w c.magnitude-4.ensures in
+    let env4 : Env (c.magnitude.result ∷ c.magnitude-2.result ∷ c.magnitude-3.result ∷ c.magnitude-4.result ∷ []) (2251799813685248 ∷ 2251799813685248 ∷ 2251799813685248 ∷ 2251799813685248 ∷ []) = let c = c in let c = c in small c.args.x c.magnitude.result c.requires.0 (mag1) ∷ᵉ small c.args.y c.magnitude-2.result c.requires.1 (mag2) ∷ᵉ small c.args.z c.magnitude-3.result c.requires.2 (mag3) ∷ᵉ small c.args.w c.magnitude-4.result c.requires.3 (mag4) ∷ᵉ []ᵉ in
+    fits64 (env4) (v2 ⊕ v3) tt
 
 pub overflow_add-result-3 : goal.overflow_add-result-3
-overflow_add-result-3 c = fits64 (env4 c) all tt
+overflow_add-result-3 c =
+    let mag1 : c.magnitude.result ≡ pos (nat_abs c.args.x) = kept c.args.x c.magnitude.result c.ranges.x c.magnitude.ensures in
+    let mag2 : c.magnitude-2.result ≡ pos (nat_abs c.args.y) = kept c.args.y c.magnitude-2.result c.ranges.y c.magnitude-2.ensures in
+    let mag3 : c.magnitude-3.result ≡ pos (nat_abs c.args.z) = kept c.args.z c.magnitude-3.result c.ranges.z c.magnitude-3.ensures in
+    let mag4 : c.magnitude-4.result ≡ pos (nat_abs c.args.w) = kept c.args.w c.magnitude-4.result c.ranges.w c.magnitude-4.ensures in
+    let env4 : Env (c.magnitude.result ∷ c.magnitude-2.result ∷ c.magnitude-3.result ∷ c.magnitude-4.result ∷ []) (2251799813685248 ∷ 2251799813685248 ∷ 2251799813685248 ∷ 2251799813685248 ∷ []) = let c = c in let c = c in small c.args.x c.magnitude.result c.requires.0 (mag1) ∷ᵉ small c.args.y c.magnitude-2.result c.requires.1 (mag2) ∷ᵉ small c.args.z c.magnitude-3.result c.requires.2 (mag3) ∷ᵉ small c.args.w c.magnitude-4.result c.requires.3 (mag4) ∷ᵉ []ᵉ in
+    fits64 (env4) all tt
 
 pub returns : goal.returns
 unfolding total_of
 returns c =
-    reads64 (env4 c) all tt ∙ ap₂ ◌+ℤ◌ (ap₂ ◌+ℤ◌ (mag1 c) (mag2 c)) (ap₂ ◌+ℤ◌ (mag3 c) (mag4 c))
+    let mag1 : c.magnitude.result ≡ pos (nat_abs c.args.x) = kept c.args.x c.magnitude.result c.ranges.x c.magnitude.ensures in
+    let mag2 : c.magnitude-2.result ≡ pos (nat_abs c.args.y) = kept c.args.y c.magnitude-2.result c.ranges.y c.magnitude-2.ensures in
+    let mag3 : c.magnitude-3.result ≡ pos (nat_abs c.args.z) = kept c.args.z c.magnitude-3.result c.ranges.z c.magnitude-3.ensures in
+    let mag4 : c.magnitude-4.result ≡ pos (nat_abs c.args.w) = kept c.args.w c.magnitude-4.result c.ranges.w c.magnitude-4.ensures in
+    let env4 : Env (c.magnitude.result ∷ c.magnitude-2.result ∷ c.magnitude-3.result ∷ c.magnitude-4.result ∷ []) (2251799813685248 ∷ 2251799813685248 ∷ 2251799813685248 ∷ 2251799813685248 ∷ []) = let c = c in let c = c in small c.args.x c.magnitude.result c.requires.0 (mag1) ∷ᵉ small c.args.y c.magnitude-2.result c.requires.1 (mag2) ∷ᵉ small c.args.z c.magnitude-3.result c.requires.2 (mag3) ∷ᵉ small c.args.w c.magnitude-4.result c.requires.3 (mag4) ∷ᵉ []ᵉ in
+    reads64 (env4) all tt ∙ ap₂ ◌+ℤ◌ (ap₂ ◌+ℤ◌ (mag1) (mag2)) (ap₂ ◌+ℤ◌ (mag3) (mag4))

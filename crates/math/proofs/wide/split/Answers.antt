@@ -14,29 +14,30 @@ use Rattle.algebra.specs.Bound.{Env, []ᵉ, ◌∷ᵉ◌, fits64, reads64}
 use Rattle.math.specs.Wide.{shr-abs, split-of}
 use Rattle.math.proofs.wide.split.Goals as goal
 
--- the shift of what the machine reads of x
-abbrev hi : tie.Start → ℤ
-hi c = shr_z (to_z w64 (of_z w64 c.args.x)) 67108864
-
-hi-is : (c : tie.Start) → hi c ≡ shr_z c.args.x 67108864
-hi-is c = ap (λ (z : ℤ). shr_z z 67108864) (to_z-of_z c.ranges.x)
-
-hi_small : (c : tie.Start) → nat_abs (hi c) ≤ 536870913
-hi_small c = subst (λ (z : ℤ). nat_abs z ≤ 536870913) (sym (hi-is c)) (omega (arith, shr-abs c.args.x, c.requires))
-
-env : (c : tie.Start) → Env (c.args.x ∷ hi c ∷ []) (36028797018963968 ∷ 536870913 ∷ [])
-env c = c.requires ∷ᵉ hi_small c ∷ᵉ []ᵉ
-
 abbrev K : E
 K = num (pos 67108864)
 
 pub overflow_mul-lo : goal.overflow_mul-lo
-overflow_mul-lo c = fits64 (env c) (v1 ⊗ K) tt
+overflow_mul-lo c =
+    let hi : ℤ = shr_z (to_z w64 (of_z w64 c.args.x)) 67108864 in
+    let hi-is : hi ≡ shr_z c.args.x 67108864 = ap (λ (z : ℤ). shr_z z 67108864) (to_z-of_z c.ranges.x) in
+    let hi_small : nat_abs (hi) ≤ 536870913 = subst (λ (z : ℤ). nat_abs z ≤ 536870913) (sym (hi-is)) (omega (arith, shr-abs c.args.x, c.requires)) in
+    let env : Env (c.args.x ∷ hi ∷ []) (36028797018963968 ∷ 536870913 ∷ []) = c.requires ∷ᵉ hi_small ∷ᵉ []ᵉ in
+    fits64 (env) (v1 ⊗ K) tt
 
 pub overflow_sub-lo : goal.overflow_sub-lo
-overflow_sub-lo c = fits64 (env c) (v0 ⊖ v1 ⊗ K) tt
+overflow_sub-lo c =
+    let hi : ℤ = shr_z (to_z w64 (of_z w64 c.args.x)) 67108864 in
+    let hi-is : hi ≡ shr_z c.args.x 67108864 = ap (λ (z : ℤ). shr_z z 67108864) (to_z-of_z c.ranges.x) in
+    let hi_small : nat_abs (hi) ≤ 536870913 = subst (λ (z : ℤ). nat_abs z ≤ 536870913) (sym (hi-is)) (omega (arith, shr-abs c.args.x, c.requires)) in
+    let env : Env (c.args.x ∷ hi ∷ []) (36028797018963968 ∷ 536870913 ∷ []) = c.requires ∷ᵉ hi_small ∷ᵉ []ᵉ in
+    fits64 (env) (v0 ⊖ v1 ⊗ K) tt
 
 pub returns : goal.returns
 returns c =
-    let h = reads64 (env c) v1 tt in
-    split-of c.args.x _ _ (h ∙ hi-is c) (reads64 (env c) (v0 ⊖ v1 ⊗ K) tt ∙ ap (λ (z : ℤ). c.args.x -ℤ z *ℤ pos 67108864) (sym h))
+    let hi : ℤ = shr_z (to_z w64 (of_z w64 c.args.x)) 67108864 in
+    let hi-is : hi ≡ shr_z c.args.x 67108864 = ap (λ (z : ℤ). shr_z z 67108864) (to_z-of_z c.ranges.x) in
+    let hi_small : nat_abs (hi) ≤ 536870913 = subst (λ (z : ℤ). nat_abs z ≤ 536870913) (sym (hi-is)) (omega (arith, shr-abs c.args.x, c.requires)) in
+    let env : Env (c.args.x ∷ hi ∷ []) (36028797018963968 ∷ 536870913 ∷ []) = c.requires ∷ᵉ hi_small ∷ᵉ []ᵉ in
+    let h = reads64 (env) v1 tt in
+    split-of c.args.x _ _ (h ∙ hi-is) (reads64 (env) (v0 ⊖ v1 ⊗ K) tt ∙ ap (λ (z : ℤ). c.args.x -ℤ z *ℤ pos 67108864) (sym h))
