@@ -1,5 +1,4 @@
 -- `int128::half_metres` meets its contract. Assumes nothing.
-use Rattle.std.proofs.Common.{rules}
 use Rattle.int128.proofs.Digits.{divided}
 use Rattle.int128.proofs.half_metres.Goals as goal
 

@@ -1,5 +1,4 @@
 -- `int128::magnitude` meets its contract. Assumes nothing.
-use Rattle.std.proofs.Common.{rules}
 use Rattle.int128.proofs.Signs.{complement-fits, complement-casts, complement-more, negative-magnitude, positive-casts}
 use Rattle.int128.proofs.magnitude.Goals as goal
 

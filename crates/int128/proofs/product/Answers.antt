@@ -1,5 +1,5 @@
 -- `int128::product` meets its contract. Assumes nothing.
-use Rattle.std.proofs.Common.{refl, lt_of_lt_of_le, arith, lit≤, rules}
+use Rattle.std.proofs.Common.{refl, lt_of_lt_of_le, arith, lit≤}
 use Rattle.int128.proofs.Digits.{bounds, multiplied, high-less}
 use Rattle.int128.proofs.product.Goals as goal
 

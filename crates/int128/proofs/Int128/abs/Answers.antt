@@ -1,5 +1,5 @@
 -- `int128::Int128::abs` meets its contract. Assumes nothing.
-use Rattle.std.proofs.Common.{sym, ◌∙◌, arith, rules}
+use Rattle.std.proofs.Common.{sym, ◌∙◌, arith}
 use Rattle.int128.specs.Int128.{int128_of}
 use Rattle.int128.specs.Int128Laws.{fits_neg, unsigned}
 use Rattle.int128.proofs.Signs.{below-abs, not-below}

@@ -1,5 +1,4 @@
 -- `int128::Int128::add` meets its contract. Assumes nothing.
-use Rattle.std.proofs.Common.{rules}
 use Rattle.int128.specs.Int128Laws.{added}
 use Rattle.int128.proofs.Int128.add.Goals as goal
 
@@ -8,4 +7,4 @@ returns c =
     let x = c.args.self in
     let y = c.args.other in
     added x.high x.low y.high y.low _ _ _ _ c.carry-carried.ensures
-    c.wrapping_add_u64-high.ensures c.wrapping_add_u64.ensures c.wrapping_add_u64-2.ensures c.requires
+    c.wrapping_add_u64-high.ensures.value c.wrapping_add_u64.ensures.value c.wrapping_add_u64-2.ensures.value c.requires

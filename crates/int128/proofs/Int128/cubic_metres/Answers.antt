@@ -1,5 +1,6 @@
 -- `int128::Int128::cubic_metres` meets its contract. Assumes nothing.
-use Rattle.std.proofs.Common.{ℕ, pos, nat_abs, sym, ap, ◌∙◌, lt_of_lt_of_le, lit≤, to_z-of_z}
+use Rattle.std.proofs.Common.{ℕ, pos, sym, ap, ◌∙◌, lt_of_lt_of_le, lit≤, to_z-of_z, w64}
+use borrow.Author.Rules.{sfits_of}
 use Rattle.int128.specs.CubicMetres.{cubic_metres_of}
 use Rattle.int128.specs.Int128.{int128_of, with_sign}
 use Rattle.int128.proofs.Digits.{small-high, rest-fits, odd-fits, one_more, halves-rounded, rounded-less}
@@ -39,6 +40,6 @@ returns c =
     let z = int128_of c.args.self in
     let r = c.half_metres-halves.result in
     let e = sym c.abs-n.ensures ∙ c.half_metres-halves.ensures.0 in
-    to_z-of_z (record { sfits = c.sign_on.type_inv })
+    to_z-of_z {w = w64} (sfits_of c.sign_on.type_inv)
     ∙ c.sign_on.ensures
     ∙ ap (λ (n : ℕ). with_sign z (pos n)) (halves-rounded r.count r.rest e c.half_metres-halves.ensures.1)

@@ -1,5 +1,5 @@
 -- `int128::Int128::mul` meets its contract. Assumes nothing.
-use Rattle.std.proofs.Common.{ap, ◌∙◌, mul-le-mul, rules}
+use Rattle.std.proofs.Common.{ap, ◌∙◌, mul-le-mul}
 use Rattle.int128.specs.Int128.{with_sign}
 use Rattle.int128.specs.Int128Laws.{whole-fits, nat_abs-sign}
 use Rattle.int128.proofs.Signs.{magnitude-max, product_is}
@@ -10,15 +10,6 @@ product-requires c =
     let f = c.ranges in
     (magnitude-max f.x c.magnitude.ensures, magnitude-max f.y c.magnitude-2.ensures)
 
-pub signed-requires : goal.signed-requires
-signed-requires c =
-    let most = product-requires c κs in
-    let p = c.product in
-    whole-fits p.result.high p.result.low p.ensures.0 p.ensures.1 (mul-le-mul most.0 most.1)
-
-pub signed-requires-2 : goal.signed-requires-2
-signed-requires-2 c = rw (c.signed.ensures, nat_abs-sign) (signed-requires c c.signed.lifetimes)
-
 pub returns : goal.returns
 returns c =
     let s = c.ranges in
@@ -27,3 +18,17 @@ returns c =
     ∙ ap (with_sign _) c.signed.ensures
     ∙ product_is s.x s.y p.result.high p.result.low _ _ c.magnitude.ensures
     c.magnitude-2.ensures p.ensures.0 p.ensures.1
+
+pub signed-requires : goal.signed-requires
+signed-requires c =
+    let f = c.ranges in
+    let p = c.product in
+    let most = mul-le-mul (magnitude-max f.x c.magnitude.ensures) (magnitude-max f.y c.magnitude-2.ensures) in
+    whole-fits p.result.high p.result.low p.ensures.0 p.ensures.1 most
+
+pub signed-requires-2 : goal.signed-requires-2
+signed-requires-2 c =
+    let f = c.ranges in
+    let p = c.product in
+    let most = mul-le-mul (magnitude-max f.x c.magnitude.ensures) (magnitude-max f.y c.magnitude-2.ensures) in
+    rw (c.signed.ensures, nat_abs-sign) (whole-fits p.result.high p.result.low p.ensures.0 p.ensures.1 most)

@@ -1,5 +1,5 @@
 -- `int128::Int128::neg` meets its contract. Assumes nothing.
-use Rattle.std.proofs.Common.{ℤ, ◌-ℤ◌, neg_ℤ, ap, ◌∙◌, rules}
+use Rattle.std.proofs.Common.{ℤ, ◌-ℤ◌, neg_ℤ, ap, ◌∙◌}
 use lib.IntN.{+ℤ_idl}
 use Rattle.int128.specs.Int128.{int128_of}
 use Rattle.int128.proofs.Int128.neg.Goals as goal

@@ -1,5 +1,5 @@
 -- `int128::Int128::sign_on` meets its contract. Assumes nothing.
-use Rattle.std.proofs.Common.{pos, sym, ◌∙◌, rules}
+use Rattle.std.proofs.Common.{pos, sym, ◌∙◌}
 use Rattle.int128.specs.Int128.{int128_of}
 use Rattle.int128.proofs.Signs.{read_pos, minus-fits, minus-read, sign_below, sign-not}
 use Rattle.int128.proofs.Int128.sign_on.Goals as goal

@@ -1,9 +1,8 @@
 -- `int128::Int128::to_i64` meets its contract. Assumes nothing.
-use Rattle.std.proofs.Common.{◌≡◌, ℕ, ◌+◌, ◌*◌, ◌^◌, ◌<◌, pos, ap, ◌∙◌, lt_of_lt_of_le, arith, lit≤, to_z-of_z}
+use Rattle.std.proofs.Common.{◌≡◌, ℕ, ◌+◌, ◌*◌, ◌^◌, ◌<◌, pos, ap, ◌∙◌, lt_of_lt_of_le, arith, lit≤, to_z-of_z, w64}
 use borrow.Author.Rules.{sfits_of}
 use Rattle.int128.specs.Int128.{int128_of, with_sign}
 use Rattle.int128.specs.Int128Laws.{sign-abs}
-use mir.Syntax.{w64}
 use Rattle.int128.proofs.Int128.to_i64.Goals as goal
 
 -- a number below 2 ^ 63 is its low half
