@@ -1,5 +1,4 @@
 -- `angle::from_bits` meets its contract: an angle's pattern is no NaN's. Assumes nothing.
-use borrow.Author.Rules.{rules}
 use Rattle.angle.specs.Bits.{bits-no-nan}
 use Rattle.angle.proofs.from_bits.Goals as goal
 

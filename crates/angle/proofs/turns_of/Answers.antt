@@ -1,5 +1,4 @@
 -- `angle::turns_of` meets its contract, by what a valid angle's pattern is (`valid-read`); a mask is a remainder (`and_mask`). Assumes nothing.
-use borrow.Author.Rules.{rules}
 use mathlib.Core.Path.{◌≡◌, sym, ap, ◌∙◌, subst}
 use Prim.Native.Nat.{ℕ, ◌+◌, ◌-◌, ◌*◌, ◌/◌, ◌%◌, ◌^◌, ◌<◌, ◌≤◌, zero-le}
 use native.Mathlib.Nat.{le_trans, le_of_eq}

@@ -1,5 +1,4 @@
 -- `angle::validate_center` meets its contract, by what its two calls ensure. Assumes nothing.
-use borrow.Author.Rules.{rules}
 use mathlib.Core.Path.{refl, sym, ◌∙◌}
 use Rattle.angle.specs.Angle.{bounded, valid_center}
 use Rattle.angle.proofs.Tests.{and_right, and_left}
