@@ -1,10 +1,7 @@
 -- `listing_text::reading::digits` meets its contract. The invariant: the bytes passed are digits, with the capped value. Assumes nothing.
 use mathlib.Core.Path.{ap, sym}
-use Prim.Native.Nat.{◌-◌}
-use lib.ListN.{length}
-use borrow.Author.Rules.{rules}
 use Rattle.listing_text.specs.ReadingParts.{unsigned_of}
-use Rattle.listing_text.proofs.Numbers.{Counted, no-digits, counted_start, counted-below, counted-above, counted_next, counted-end}
+use Rattle.listing_text.proofs.Numbers.{no-digits, counted_start, counted-below, counted-above, counted_next, counted-end}
 use Rattle.listing_text.proofs.reading.digits.Goals as goal
 
 pub returns-then-from-field : goal.returns-then-from-field

@@ -1,9 +1,6 @@
 -- `listing_text::reading::end` meets its contract. The invariant: the first mark from here on is the first one from the start on.
 -- Assumes nothing.
-use Prim.Native.Nat.{◌-◌}
-use lib.ListN.{length}
-use borrow.Author.Rules.{rules}
-use Rattle.listing_text.proofs.Pieces.{Sought, sought-start, sought-end, sought-here, sought-next}
+use Rattle.listing_text.proofs.Pieces.{sought-start, sought-end, sought-here, sought-next}
 use Rattle.listing_text.proofs.reading.end.Goals as goal
 
 pub loop-i-init : goal.loop-i-init

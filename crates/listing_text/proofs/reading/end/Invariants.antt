@@ -1,8 +1,7 @@
 -- The loop of `listing_text::reading::end`.
 use Prim.Native.Nat.{◌-◌}
 use lib.ListN.{length}
-use borrow.Author.Rules.{rules}
-use Rattle.listing_text.proofs.Pieces.{Sought, sought-start, sought-end, sought-here, sought-next}
+use Rattle.listing_text.proofs.Pieces.{Sought}
 use Rattle.listing_text.proofs.reading.end.Given as goal
 
 abbrev pub invariant-loop-i : goal.invariant-loop-i

@@ -1,8 +1,6 @@
 -- The loop of `listing_text::reading::fields`.
 use Prim.Native.Nat.{◌-◌}
-use mir.Facts.{to_z-of_z}
-use borrow.Author.Rules.{rules, sfits_of}
-use Rattle.listing_text.proofs.Fields.{Filled, filled-start, filled_none, filled-end, stop-most, filled-malformed, filled_next}
+use Rattle.listing_text.proofs.Fields.{Filled}
 use Rattle.listing_text.proofs.reading.fields.Given as goal
 
 abbrev pub invariant-loop-k : goal.invariant-loop-k

@@ -1,5 +1,4 @@
 -- `listing_text::reading::line` meets its contract: the first field is the letter, and the others are the numbers. Assumes nothing.
-use borrow.Author.Rules.{rules}
 use Rattle.listing_text.proofs.Fields.{stored-none, letter-in, line-length, line_other, line-stored}
 use Rattle.listing_text.proofs.reading.line.Goals as goal
 

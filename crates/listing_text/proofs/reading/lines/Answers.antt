@@ -1,11 +1,7 @@
 -- `listing_text::reading::lines` meets its contract. The invariant: the lines passed are right, and their numbers are stored.
 -- Assumes nothing.
-use Prim.Native.Nat.{◌-◌}
 use native.Mathlib.Omega.{arith}
-use lib.ListN.{length}
-use borrow.Author.Tests.{not-true, not-false}
-use borrow.Author.Rules.{rules}
-use Rattle.listing_text.proofs.Lines.{Taken, taken_start, taken-over, taken-few, taken-all, taken-room, taken-wrong, taken_next, line-most}
+use Rattle.listing_text.proofs.Lines.{taken_start, taken-over, taken-few, taken-all, taken-room, taken-wrong, taken_next, line-most}
 use Rattle.listing_text.proofs.reading.lines.Goals as goal
 
 pub loop-place-init : goal.loop-place-init
@@ -14,13 +10,8 @@ loop-place-init c = taken_start
 pub returns-then-number-ge400 : goal.returns-then-number-ge400
 returns-then-number-ge400 c = taken-over c.loop-place.invariant c.loop-place-test.true c.if-number-ge400.true
 
--- UNMATCHED slice-bounds-line-start
--- part-line-start : tie.Need-slice-bounds-line-start invariant-loop decreases-loop
--- part-line-start c = search rules
-
--- UNMATCHED slice-bounds-line-end
--- part-line-end : tie.Need-slice-bounds-line-end invariant-loop decreases-loop
--- part-line-end c = line-most _ c.before.before.before.loop-test.true c.before.end.ensures
+pub slice_bounds-line-end : goal.slice_bounds-line-end
+slice_bounds-line-end c = line-most _ c.loop-place-test.true c.end-stop.ensures
 
 pub line-requires : goal.line-requires
 line-requires c =
@@ -30,7 +21,7 @@ pub returns-then-not-line : goal.returns-then-not-line
 returns-then-not-line c =
     taken-wrong c.loop-place.invariant c.loop-place-test.true c.end-stop.ensures c.if-number-ge400.false
     c.letter.ensures c.count-n.ensures c.line.ensures
-    (not-true _ c.if-not-line.true-raw)
+    c.if-not-line.true
 
 pub overflow_add-stored : goal.overflow_add-stored
 overflow_add-stored c =
@@ -44,7 +35,7 @@ pub loop-place-preserved : goal.loop-place-preserved
 loop-place-preserved c =
     taken_next c.loop-place.invariant c.loop-place-test.true c.end-stop.ensures c.if-number-ge400.false
     c.letter.ensures c.count-n.ensures c.line.ensures
-    (not-false _ c.if-not-line.false-raw)
+    c.if-not-line.false
 
 pub returns-then-number-lt3 : goal.returns-then-number-lt3
 returns-then-number-lt3 c = taken-few c.loop-place.invariant c.loop-place-test.false c.if-number-lt3.true

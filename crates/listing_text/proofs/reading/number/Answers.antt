@@ -1,5 +1,4 @@
 -- `listing_text::reading::number` meets its contract, by the first byte. Assumes nothing.
-use borrow.Author.Rules.{rules}
 use Rattle.listing_text.proofs.Numbers.{no_byte, minus-first, other-first}
 use Rattle.listing_text.proofs.reading.number.Goals as goal
 

@@ -1,6 +1,5 @@
 -- `listing_text::writing::magnitude` meets its contract. The least number of 64 signed bits has none of the other sign: so one is added after
 -- the sign is gone. Assumes nothing.
-use borrow.Author.Rules.{rules}
 use Rattle.listing_text.proofs.Signs.{complement-fits, complement-casts, complement-more, negative-magnitude, positive-casts}
 use Rattle.listing_text.proofs.writing.magnitude.Goals as goal
 

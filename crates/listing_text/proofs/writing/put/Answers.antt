@@ -1,6 +1,5 @@
 -- `listing_text::writing::put` meets its contract: with room, at the row's end, and past it. Assumes nothing.
 use native.Mathlib.Omega.{arith}
-use borrow.Author.Rules.{rules}
 use Rattle.listing_text.specs.RowLaws.{appended-end, appended-past}
 use Rattle.listing_text.proofs.writing.put.Goals as goal
 

@@ -1,8 +1,5 @@
 -- `listing_text::writing::put_bytes` meets its contract. The invariant: the bytes passed are appended. Assumes nothing.
-use Prim.Native.Nat.{◌-◌, ◌≤◌}
-use lib.ListN.{length, take}
 use borrow.Author.Rules.{rules}
-use Rattle.listing_text.specs.Decimal.{Appended}
 use Rattle.listing_text.specs.RowLaws.{appended-none, appended-length, appended-next, appended-all}
 use Rattle.listing_text.proofs.writing.put_bytes.Goals as goal
 

@@ -1,9 +1,7 @@
 -- The loop of `listing_text::writing::put_bytes`.
 use Prim.Native.Nat.{◌-◌, ◌≤◌}
 use lib.ListN.{length, take}
-use borrow.Author.Rules.{rules}
 use Rattle.listing_text.specs.Decimal.{Appended}
-use Rattle.listing_text.specs.RowLaws.{appended-none, appended-length, appended-next, appended-all}
 use Rattle.listing_text.proofs.writing.put_bytes.Given as goal
 
 abbrev pub invariant-loop-i : goal.invariant-loop-i

@@ -1,5 +1,4 @@
 -- `listing_text::writing::put_field` meets its contract. Assumes nothing.
-use borrow.Author.Rules.{rules}
 use Rattle.listing_text.specs.RowLaws.{appended_then}
 use Rattle.listing_text.proofs.writing.put_field.Goals as goal
 

@@ -1,5 +1,4 @@
 -- `listing_text::writing::put_point` meets its contract. Assumes nothing.
-use borrow.Author.Rules.{rules}
 use Rattle.listing_text.specs.Listing.{point_line}
 use Rattle.listing_text.specs.RowLaws.{appended_then}
 use Rattle.listing_text.proofs.writing.put_point.Goals as goal

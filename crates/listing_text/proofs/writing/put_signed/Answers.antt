@@ -1,5 +1,4 @@
 -- `listing_text::writing::put_signed` meets its contract. Assumes nothing.
-use borrow.Author.Rules.{rules}
 use Rattle.listing_text.proofs.Signs.{negative-digits, positive-digits}
 use Rattle.listing_text.proofs.writing.put_signed.Goals as goal
 

@@ -1,12 +1,9 @@
 -- `listing_text::writing::put_totals` meets its contract. Assumes nothing.
-use borrow.Author.Rules.{rules, sfits_of}
+use borrow.Author.Rules.{rules}
 use Rattle.listing_text.specs.Listing.{totals_line}
-use Rattle.listing_text.specs.RowLaws.{appended_then, appended-length}
+use Rattle.listing_text.specs.RowLaws.{appended_then}
 use Rattle.listing_text.proofs.Signs.{handed}
 use Rattle.listing_text.proofs.writing.put_totals.Goals as goal
-
-pub shape_of-row : goal.shape_of-row
-shape_of-row c = appended-length (returns c)
 
 pub returns : goal.returns
 unfolding totals_line
@@ -17,7 +14,7 @@ returns c =
     c.put_field-place-2.ensures)
     c.put_field-place-3.ensures)
     c.put-place-2.ensures)
-    (handed {c = c.args.line.doubled_area} (sfits_of c.struct_told-1.given.1.1.1.0.1)
+    (handed {z = c.args.line.doubled_area} (search rules)
     c.put_signed-place.ensures))
     c.put_field-place-4.ensures)
     c.put_field-place-5.ensures)
