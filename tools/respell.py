@@ -19,7 +19,7 @@ FIELD = re.compile(r"^\s+(?:pub )?([^\s:(){}]+) : ")
 # definitions with a dash that are no lemmas
 DASHED = {"all-below", "any-below", "first-below", "period-below", "to-f64", "to-read", "put-number-at", "put-number-below", "x-of", "y-of"}
 # what the kit calls get_or was getD
-GIVEN = {"getD-from": "get_or-from", "getD-put": "get_or-put"}
+GIVEN = {"rightOf": "right_node_of", "getD-from": "get_or-from", "getD-put": "get_or-put"}
 
 
 def read(path):

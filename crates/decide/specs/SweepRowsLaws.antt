@@ -18,7 +18,7 @@ use Rattle.ring.specs.Boundary.{located<, located-outer, located-holds, edge-end
 use Rattle.ring.specs.RingOf.{ring-from, ring-sound-ring}
 use Rattle.ring_rows.specs.declared.Node.{Node}
 use Rattle.ring_rows.specs.declared.Hull.{Hull}
-use Rattle.ring_rows.specs.Rows.{nodes_of, edge_of, right_of_of, size_of}
+use Rattle.ring_rows.specs.Rows.{nodes_of, edge_of, right_node_of, size_of}
 use Rattle.ring_rows.specs.Find.{NodeAt}
 use Rattle.segment.specs.Arc.{holds}
 use Rattle.decide.specs.declared.Fate.TheVariants.{AtCenter}
@@ -66,7 +66,7 @@ module _ {C : Counts} {q : List ℤ} {o h a : List ℕ} {nodes : List Node} {fre
         (sym found-located) (located-holds S.mesh.good.wf (turns_about cx cy (position_of q)) sweep_sound x)
 
     -- that node, and the one to its right, have the angles of the edge's ends
-    pub found_below : (i < hull.nodes) × (right_of_of (nodes_of nodes) i < hull.nodes)
+    pub found_below : (i < hull.nodes) × (right_node_of (nodes_of nodes) i < hull.nodes)
     found_below = at-below S.ring N
 
     pub found-ends : {n m : Node} → n ≡ nodes_of nodes i → m ≡ nodes_of nodes n.right
@@ -76,7 +76,7 @@ module _ {C : Counts} {q : List ℤ} {o h a : List ℕ} {nodes : List Node} {fre
         let W = S.mesh.good.wf in
         let A = at-angles S.ring N in
         let E = at-ends S.ring N W in
-        let m-at : m ≡ nodes_of nodes (right_of_of (nodes_of nodes) i) = m-is ∙ ap (λ (k : Node). nodes_of nodes k.right) n-is in
+        let m-at : m ≡ nodes_of nodes (right_node_of (nodes_of nodes) i) = m-is ∙ ap (λ (k : Node). nodes_of nodes k.right) n-is in
         rw (n-is, m-at) (record {
           from-angle = record { is-angle = A.0; turns-are = E.0 };
           to-angle = record {

@@ -26,7 +26,7 @@ use Rattle.ring.specs.RingOf.{RingOf, ring-built, free-built, free-from}
 use Rattle.ring.specs.Resize.{eight-buckets, buckets-sized}
 use Rattle.ring_rows.specs.declared.Node.{Node}
 use Rattle.ring_rows.specs.declared.Hull.{Hull}
-use Rattle.ring_rows.specs.Rows.{nodes_of, table_of, angle_of, edge_of, left_of, right_of_of, ValidNodes, NodeRing, ToFill}
+use Rattle.ring_rows.specs.Rows.{nodes_of, table_of, angle_of, edge_of, left_of, right_node_of, ValidNodes, NodeRing, ToFill}
 use Rattle.hull.specs.Boundary.{edge_at, origin_turns, angles_of, NodesOfEdges, ToBuild}
 use Rattle.hull.specs.Held.{Held, FromBoundary}
 
@@ -52,13 +52,13 @@ module _ {p : List ℤ} {h : List ℕ} {cx cy : Float} {start size nodes buckets
   size-three = let a = boundary-sound.three in let b = whole in omega arith
 
   module _ {t : ℕ → Node} (D : NodesOfEdges p h cx cy start size t) where
-    right-more : (i : ℕ) → suc i < size → right_of_of t i ≡ suc i
+    right-more : (i : ℕ) → suc i < size → right_node_of t i ≡ suc i
     right-more i l = (D i (omega arith)).right ∙ mod-eq_of_lt (omega arith) ∙ one i
       where
         one : (i : ℕ) → i + 1 ≡ suc i
         one i = omega arith
 
-    right-last : (i : ℕ) → suc i ≡ size → right_of_of t i ≡ 0
+    right-last : (i : ℕ) → suc i ≡ size → right_node_of t i ≡ 0
     right-last i z = (D i (omega arith)).right ∙ ap (λ (x : ℕ). x % size) (one i ∙ z) ∙ mod_self size
       where
         one : (i : ℕ) → i + 1 ≡ suc i
@@ -89,9 +89,9 @@ module _ {p : List ℤ} {h : List ℕ} {cx cy : Float} {start size nodes buckets
 
     pub numbered-nodes : NodeRing t size size 0
     numbered-nodes = record {
-      sound = subst (Sound full_turn (right_of_of t) (angle_of t) 0) whole (ring-sound numbered-ring);
+      sound = subst (Sound full_turn (right_node_of t) (angle_of t) 0) whole (ring-sound numbered-ring);
       all-proper =
-          subst (λ (m : ℕ). tally (at_ends proper (right_of_of t) (angle_of t)) (walk m (right_of_of t) 0) ≡ m) whole (ring-proper numbered-ring);
+          subst (λ (m : ℕ). tally (at_ends proper (right_node_of t) (angle_of t)) (walk m (right_node_of t) 0) ≡ m) whole (ring-proper numbered-ring);
       valid = numbered-valid;
       first = let a = size-three in omega arith;
       size_small = B.small;
@@ -100,9 +100,9 @@ module _ {p : List ℤ} {h : List ℕ} {cx cy : Float} {start size nodes buckets
 
     numbered-links : Linked (table_of t) 0 size
     numbered-links i l =
-        subst (λ (x : ℕ). left_of t (right_of_of t x) ≡ x) (sym (built-at boundary-sound numbered-built i l)) (go (dec_lt (suc i) size))
+        subst (λ (x : ℕ). left_of t (right_node_of t x) ≡ x) (sym (built-at boundary-sound numbered-built i l)) (go (dec_lt (suc i) size))
       where
-        go : Dec (suc i < size) → left_of t (right_of_of t i) ≡ i
+        go : Dec (suc i < size) → left_of t (right_node_of t i) ≡ i
         go (yes u) = ap (left_of t) (right-more i u) ∙ (D (suc i) u).left-more (omega arith) ∙ less i
           where
             less : (i : ℕ) → suc i - 1 ≡ i
@@ -149,9 +149,9 @@ built-held o a {C} {p} {h} {cx} {cy} {size} {n} {b} {nodes} {freed} {buckets} {r
       ring =
           subst (λ (i : ℕ). RingOf C (links_of o h a) (turns_about cx cy (position_of p)) (table_of t) (row_of buckets) r.buckets i) (sym N)
           (subst (λ (i : ℕ). RingOf C (links_of o h a) (turns_about cx cy (position_of p)) (table_of t) (row_of buckets) i size) (sym F.eight) R);
-      free = subst (λ (m : ℕ). Free (On (right_of_of t) m (row_of buckets 0)) (row_of freed) r.freed r.nodes) (sym N)
-          (subst (λ (i : ℕ). Free (On (right_of_of t) size (row_of buckets 0)) (row_of freed) i r.nodes) (sym F.none-freed)
-          (subst (Free (On (right_of_of t) size (row_of buckets 0)) (row_of freed) 0) (sym F.used)
+      free = subst (λ (m : ℕ). Free (On (right_node_of t) m (row_of buckets 0)) (row_of freed) r.freed r.nodes) (sym N)
+          (subst (λ (i : ℕ). Free (On (right_node_of t) size (row_of buckets 0)) (row_of freed) i r.nodes) (sym F.none-freed)
+          (subst (Free (On (right_node_of t) size (row_of buckets 0)) (row_of freed) 0) (sym F.used)
           (free-from (numbered-nodes B F.numbered).sound.closed (F.filled 0 (omega arith)).0 (free-built S A (row_of freed)))));
       retired = λ j l. absurd (let e = F.none-freed in omega arith);
       freed-most = let e = F.none-freed in omega arith;

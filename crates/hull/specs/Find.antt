@@ -23,23 +23,23 @@ use Rattle.ring.specs.RingOf.{ring-located, ring-ends, ring-from}
 use Rattle.ring_rows.specs.declared.Node.{Node}
 use Rattle.ring_rows.specs.declared.Hull.{Hull}
 use Rattle.ring_rows.specs.declared.Found.{Found}
-use Rattle.ring_rows.specs.Rows.{nodes_of, table_of, angle_of, edge_of, right_of_of, size_of, NodeRing, RingHeld, Got}
+use Rattle.ring_rows.specs.Rows.{nodes_of, table_of, angle_of, edge_of, right_node_of, size_of, NodeRing, RingHeld, Got}
 use Rattle.ring_rows.specs.Find.{NodeAt, ToFind}
 use Rattle.ring_rows.specs.Laws.{got-at}
 use Rattle.hull.specs.Held.{Held}
 
 module _ {C : Counts} {L : Links} {α : ℕ → ℕ} {nodes : List Node} {freed buckets : List ℕ} {h : Hull} (H : Held C L α nodes freed buckets h) where
   -- each bucket's node is in the ring
-  pub bucket-on : (i : ℕ) → i < h.buckets → On (right_of_of (nodes_of nodes)) (size_of h) (row_of buckets 0) (row_of buckets i)
-  bucket-on i l = subst (λ (m : ℕ). On (right_of_of (nodes_of nodes)) m (row_of buckets 0) (row_of buckets i)) H.ring.count (H.ring.hull.buckets i l).0
+  pub bucket-on : (i : ℕ) → i < h.buckets → On (right_node_of (nodes_of nodes)) (size_of h) (row_of buckets 0) (row_of buckets i)
+  bucket-on i l = subst (λ (m : ℕ). On (right_node_of (nodes_of nodes)) m (row_of buckets 0) (row_of buckets i)) H.ring.count (H.ring.hull.buckets i l).0
 
   pub size-some : 3 ≤ size_of h
   size-some = let a = H.ring.hull.ring.sound.three in let b = H.ring.count in omega arith
 
   pub held-ring : NodeRing (nodes_of nodes) h.nodes (size_of h) (row_of buckets 0)
   held-ring = record {
-    sound = subst (Sound full_turn (right_of_of (nodes_of nodes)) (angle_of (nodes_of nodes)) (row_of buckets 0)) H.ring.count (ring-sound H.ring.hull.ring);
-    all-proper = subst (λ (m : ℕ). tally (at_ends proper (right_of_of (nodes_of nodes)) (angle_of (nodes_of nodes))) (walk m (right_of_of (nodes_of nodes)) (row_of buckets 0)) ≡ m) H.ring.count (ring-proper H.ring.hull.ring);
+    sound = subst (Sound full_turn (right_node_of (nodes_of nodes)) (angle_of (nodes_of nodes)) (row_of buckets 0)) H.ring.count (ring-sound H.ring.hull.ring);
+    all-proper = subst (λ (m : ℕ). tally (at_ends proper (right_node_of (nodes_of nodes)) (angle_of (nodes_of nodes))) (walk m (right_node_of (nodes_of nodes)) (row_of buckets 0)) ≡ m) H.ring.count (ring-proper H.ring.hull.ring);
     valid = H.valid;
     first = H.free.live_below (row_of buckets 0) (0, (let a = size-some in omega arith), refl);
     size_small = let a = H.small in omega arith;
@@ -75,14 +75,14 @@ module _ {C : Counts} {L : Links} {α : ℕ → ℕ} {nodes : List Node} {freed 
     at-located W = ring-located W H.ring x i N.on N.at
 
     -- the node and the one to its right can be read, and have the angles of the edge's two ends
-    pub at-below : (i < h.nodes) × (right_of_of (nodes_of nodes) i < h.nodes)
+    pub at-below : (i < h.nodes) × (right_node_of (nodes_of nodes) i < h.nodes)
     at-below = let l = H.free.live_below i N.on in (l, (H.valid i l).right)
 
-    pub at-angles : IsAngle (nodes_of nodes i).angle × IsAngle (nodes_of nodes (right_of_of (nodes_of nodes) i)).angle
-    at-angles = ((H.valid i at-below.0).angle, (H.valid (right_of_of (nodes_of nodes) i) at-below.1).angle)
+    pub at-angles : IsAngle (nodes_of nodes i).angle × IsAngle (nodes_of nodes (right_node_of (nodes_of nodes) i)).angle
+    at-angles = ((H.valid i at-below.0).angle, (H.valid (right_node_of (nodes_of nodes) i) at-below.1).angle)
 
     pub at-ends : Wf C L → (angle_of (nodes_of nodes) i ≡ edge_angle L α (edge_of (nodes_of nodes) i))
-        × (angle_of (nodes_of nodes) (right_of_of (nodes_of nodes) i) ≡ edge_angle L α (L.next (edge_of (nodes_of nodes) i)))
+        × (angle_of (nodes_of nodes) (right_node_of (nodes_of nodes) i) ≡ edge_angle L α (L.next (edge_of (nodes_of nodes) i)))
     at-ends W = let n = ring-ends W H.ring i N.on in (sym n.0, sym n.1)
 
   -- ---- as `get` answers, from a bucket
@@ -98,5 +98,5 @@ module _ {C : Counts} {L : Links} {α : ℕ → ℕ} {nodes : List Node} {freed 
       sym (locate-passed
       (subst (λ (b : ℕ). HullFrom full_turn L.next (edge_angle L α) (table_of (nodes_of nodes)) (row_of buckets) (L.adjacent 0) (boundary_length C L) R.0 b (width b)) e R.1)
       x r.passed l
-      (subst (λ (m : ℕ). First (at_ends (holds x) (right_of_of (nodes_of nodes)) (angle_of (nodes_of nodes))) (right_of_of (nodes_of nodes)) m (row_of buckets (floor_of x 8)) r.passed) (sym R.2)
-      (subst (λ (b : ℕ). First (at_ends (holds x) (right_of_of (nodes_of nodes)) (angle_of (nodes_of nodes))) (right_of_of (nodes_of nodes)) (size_of h) (row_of buckets (floor_of x b)) r.passed) e G.first)))
+      (subst (λ (m : ℕ). First (at_ends (holds x) (right_node_of (nodes_of nodes)) (angle_of (nodes_of nodes))) (right_node_of (nodes_of nodes)) m (row_of buckets (floor_of x 8)) r.passed) (sym R.2)
+      (subst (λ (b : ℕ). First (at_ends (holds x) (right_node_of (nodes_of nodes)) (angle_of (nodes_of nodes))) (right_node_of (nodes_of nodes)) (size_of h) (row_of buckets (floor_of x b)) r.passed) e G.first)))

@@ -10,14 +10,14 @@ use Rattle.ring.specs.Free.{Free}
 use Rattle.ring.specs.RingOf.{RingOf}
 use Rattle.ring_rows.specs.declared.Node.{Node}
 use Rattle.ring_rows.specs.declared.Hull.{Hull}
-use Rattle.ring_rows.specs.Rows.{nodes_of, table_of, angle_of, edge_of, right_of_of, size_of, ValidNodes}
+use Rattle.ring_rows.specs.Rows.{nodes_of, table_of, angle_of, edge_of, right_node_of, size_of, ValidNodes}
 use Rattle.ring_rows.specs.Find.{no_edge}
 use Rattle.hull.specs.Boundary.{NodesOfEdges}
 
 pub record Held (C : Counts) (L : Links) (α : ℕ → ℕ) (nodes : List Node) (freed buckets : List ℕ) (h : Hull) : Type 0 where
   pub ring : RingOf C L α (table_of (nodes_of nodes)) (row_of buckets) h.buckets (size_of h)
   -- of the nodes ever in use, those that are not in the ring are on the stack of freed ones
-  pub free : Free (On (right_of_of (nodes_of nodes)) (size_of h) (row_of buckets 0)) (row_of freed) h.freed h.nodes
+  pub free : Free (On (right_node_of (nodes_of nodes)) (size_of h) (row_of buckets 0)) (row_of freed) h.freed h.nodes
   -- and have no edge: by that `find` knows them
   pub retired : (j : ℕ) → j < h.freed → edge_of (nodes_of nodes) (row_of freed j) ≡ no_edge
   pub freed-most : h.freed ≤ h.nodes
@@ -33,7 +33,7 @@ pub record FromBoundary
     (p : List ℤ) (halves : List ℕ) (cx cy : Float) (start size : ℕ)
     (nodes : List Node) (buckets : List ℕ) (h : Hull) : Type 0 where
   pub numbered : NodesOfEdges p halves cx cy start size (nodes_of nodes)
-  pub filled : Bucketed (right_of_of (nodes_of nodes)) (angle_of (nodes_of nodes)) (row_of buckets) 8 (width 8) 0 size
+  pub filled : Bucketed (right_node_of (nodes_of nodes)) (angle_of (nodes_of nodes)) (row_of buckets) 8 (width 8) 0 size
   pub eight : h.buckets ≡ 8
   pub used : h.nodes ≡ size
   pub none-freed : h.freed ≡ 0

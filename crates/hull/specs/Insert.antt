@@ -29,7 +29,7 @@ use Rattle.ring.specs.RingOf.{RingOf, ring-from, ring-size, ring-insert, ring-in
 use Rattle.ring.specs.Resize.{adjusted_buckets, adjusted-buckets, adjusted-most, buckets-sized}
 use Rattle.ring_rows.specs.declared.Node.{Node}
 use Rattle.ring_rows.specs.declared.Hull.{Hull}
-use Rattle.ring_rows.specs.Rows.{nodes_of, table_of, edge_of, right_of_of, size_of, ValidNodes}
+use Rattle.ring_rows.specs.Rows.{nodes_of, table_of, edge_of, right_node_of, size_of, ValidNodes}
 use Rattle.ring_rows.specs.Find.{no_edge}
 use Rattle.ring_insert.specs.Insert.{insertion_of, place_nodes, ToInsert, InsertedRows, Adjusted, ReleasedTo}
 use Rattle.ring_insert.specs.PlaceLaws.{placed-stored}
@@ -235,16 +235,16 @@ module _ {C : Counts} {L : Links} (W : Wf C L) {α : ℕ → ℕ} {nodes : List 
     placed-ring : Wf C' L' → RingOf C' L' α'' (table_of placed) (row_of buckets') h'.buckets (size_of h')
     placed-ring W' = rw (table_is, I.same-buckets, ← size-now) (ring-insert W' K.covered whole P K.low parts ranges)
 
-    placed-free : Wf C' L' → Free (On (right_of_of placed) (size_of h') (row_of buckets' 0)) (row_of I.stack) h'.freed h'.nodes
+    placed-free : Wf C' L' → Free (On (right_node_of placed) (size_of h') (row_of buckets' 0)) (row_of I.stack) h'.freed h'.nodes
     placed-free W' =
         rw (← size-now, ap (λ (y : NodeTable). y.right) table_is, I.freed-now, I.used)
         (ring-insert-freed W' K.covered whole P K.low parts ranges)
 
     -- ---- after it: a node of the ring keeps its edge, since none is on the stack, and each node there has lost its own
-    ring-keeps : Wf C' L' → (i : ℕ) → On (right_of_of placed) (size_of h') (row_of buckets' 0) i → edge_of (nodes_of nodes') i ≡ edge_of placed i
+    ring-keeps : Wf C' L' → (i : ℕ) → On (right_node_of placed) (size_of h') (row_of buckets' 0) i → edge_of (nodes_of nodes') i ≡ edge_of placed i
     ring-keeps W' i o =
         ap (λ (v : Node). v.edge) (I.placed.others i (λ k u w z.
-        (placed-free W').dead k (let a = I.freed-now in omega arith) (subst (On (right_of_of placed) (size_of h') (row_of buckets' 0)) (sym z) o)))
+        (placed-free W').dead k (let a = I.freed-now in omega arith) (subst (On (right_node_of placed) (size_of h') (row_of buckets' 0)) (sym z) o)))
 
     all-retired : (j : ℕ) → j < I.choice.freed → edge_of (nodes_of nodes') (row_of I.stack j) ≡ no_edge
     all-retired j u = go (dec_lt j (h.freed - 1))

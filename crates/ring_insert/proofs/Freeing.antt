@@ -22,7 +22,7 @@ use Rattle.ring.specs.Resize.{adjusted_buckets, adjusted-buckets}
 use Rattle.ring.specs.WholeInsert.{Names}
 use Rattle.ring_rows.specs.declared.Node.{Node}
 use Rattle.ring_rows.specs.declared.Hull.{Hull}
-use Rattle.ring_rows.specs.Rows.{nodes_of, angle_of, right_of_of, size_of, Updated, ToFill}
+use Rattle.ring_rows.specs.Rows.{nodes_of, angle_of, right_node_of, size_of, Updated, ToFill}
 use Rattle.ring_rows.specs.Laws.{walk-below}
 use Rattle.ring_insert.specs.Insert.{ToRelease, ReleasedTo, Rebuckets, ToAdjust, Adjusted}
 
@@ -31,10 +31,10 @@ pub record Pushing (nodes : List Node) (old new : List ℕ) (top first : ℕ) (a
   pub passed : ℕ
   pub some : 0 < passed
   pub most : passed ≤ given.steps
-  pub at : i ≡ iter passed (right_of_of (nodes_of nodes)) first
+  pub at : i ≡ iter passed (right_node_of (nodes_of nodes)) first
   pub count : n + 1 ≡ top + passed
-  pub least : (j : ℕ) → 0 < j → j < passed → angle_of (nodes_of nodes) (iter j (right_of_of (nodes_of nodes)) first) ≢ turns a
-  pub done : Pushed (right_of_of (nodes_of nodes)) (row_of old) (row_of new) first passed top
+  pub least : (j : ℕ) → 0 < j → j < passed → angle_of (nodes_of nodes) (iter j (right_node_of (nodes_of nodes)) first) ≢ turns a
+  pub done : Pushed (right_node_of (nodes_of nodes)) (row_of old) (row_of new) first passed top
   pub same : length new ≡ length old
 
 pub first-there : {nodes : List Node} {old : List ℕ} {top first : ℕ} {a : Float} → ToRelease nodes old top first a → first < length nodes
@@ -95,7 +95,7 @@ module _ {nodes : List Node} {old new : List ℕ} {top first : ℕ} {a : Float} 
       more y = go (ℕ_discrete K.passed K.given.steps)
         where
           go : Dec (K.passed ≡ K.given.steps) → K.passed < K.given.steps
-          go (yes z) = absurd (off y (ap (angle_of (nodes_of nodes)) (K.at ∙ ap (λ (j : ℕ). iter j (right_of_of (nodes_of nodes)) first) z) ∙ K.given.there))
+          go (yes z) = absurd (off y (ap (angle_of (nodes_of nodes)) (K.at ∙ ap (λ (j : ℕ). iter j (right_node_of (nodes_of nodes)) first) z) ∙ K.given.there))
           go (no z) = let m = K.most in omega arith
 
       pub again : h ≡ false → Pushing nodes old (set new n i) top first a node.right (n + 1)
@@ -105,23 +105,23 @@ module _ {nodes : List Node} {old new : List ℕ} {top first : ℕ} {a : Float} 
         passed = suc K.passed;
         some = omega arith;
         most = more y;
-        at = ap (λ (x : Node). x.right) e ∙ ap (right_of_of (nodes_of nodes)) K.at ∙ sym (iter-last K.passed (right_of_of (nodes_of nodes)) first);
+        at = ap (λ (x : Node). x.right) e ∙ ap (right_node_of (nodes_of nodes)) K.at ∙ sym (iter-last K.passed (right_node_of (nodes_of nodes)) first);
         count = let g = K.count in omega arith;
         least = λ j l m. missed j l m (ℕ_discrete j K.passed);
         done = record { old = kept; new = λ j l. push j l (ℕ_discrete (suc j) K.passed) };
         same = length-set new n i ∙ K.same;
       }
         where
-          missed : (j : ℕ) → 0 < j → j < suc K.passed → Dec (j ≡ K.passed) → angle_of (nodes_of nodes) (iter j (right_of_of (nodes_of nodes)) first) ≢ turns a
-          missed j l m (yes z) w = off y (ap (angle_of (nodes_of nodes)) (K.at ∙ ap (λ (k : ℕ). iter k (right_of_of (nodes_of nodes)) first) (sym z)) ∙ w)
+          missed : (j : ℕ) → 0 < j → j < suc K.passed → Dec (j ≡ K.passed) → angle_of (nodes_of nodes) (iter j (right_node_of (nodes_of nodes)) first) ≢ turns a
+          missed j l m (yes z) w = off y (ap (angle_of (nodes_of nodes)) (K.at ∙ ap (λ (k : ℕ). iter k (right_node_of (nodes_of nodes)) first) (sym z)) ∙ w)
           missed j l m (no z) w = K.least j l (omega arith) w
 
           kept : (j : ℕ) → j < top → get_or (set new n i) j 0 ≡ get_or old j 0
           kept j l = get_or-set_other new n j i 0 (λ z. let g = K.count in let s = K.some in omega arith) ∙ K.done.old j l
 
-          push : (j : ℕ) → suc j < suc K.passed → Dec (suc j ≡ K.passed) → get_or (set new n i) (top + j) 0 ≡ iter (suc j) (right_of_of (nodes_of nodes)) first
+          push : (j : ℕ) → suc j < suc K.passed → Dec (suc j ≡ K.passed) → get_or (set new n i) (top + j) 0 ≡ iter (suc j) (right_node_of (nodes_of nodes)) first
           push j l (yes z) =
-              ap (λ (k : ℕ). get_or (set new n i) k 0) (let g = K.count in the top j n K.passed g z) ∙ get_or-set_same new n i 0 room ∙ K.at ∙ ap (λ (k : ℕ). iter k (right_of_of (nodes_of nodes)) first) (sym z)
+              ap (λ (k : ℕ). get_or (set new n i) k 0) (let g = K.count in the top j n K.passed g z) ∙ get_or-set_same new n i 0 room ∙ K.at ∙ ap (λ (k : ℕ). iter k (right_node_of (nodes_of nodes)) first) (sym z)
             where
               the : (a b d e : ℕ) → d + 1 ≡ a + e → suc b ≡ e → a + b ≡ d
               the a b d e f g = omega arith
@@ -203,5 +203,5 @@ to-refill {nodes} {buckets} {h} {count} A e = record {
 }
 
 pub adjusted : {nodes : List Node} {old new : List ℕ} {h : Hull} {count : ℕ} → count ≡ adjusted_buckets h.buckets (size_of h)
-    → Bucketed (right_of_of (nodes_of nodes)) (angle_of (nodes_of nodes)) (row_of new) count (width count) (row_of old 0) (size_of h) → Adjusted nodes old new h (record { buckets = count; nodes = h.nodes; freed = h.freed })
+    → Bucketed (right_node_of (nodes_of nodes)) (angle_of (nodes_of nodes)) (row_of new) count (width count) (row_of old 0) (size_of h) → Adjusted nodes old new h (record { buckets = count; nodes = h.nodes; freed = h.freed })
 adjusted e F = record { count = e; used = refl; freed = refl; filled = F }

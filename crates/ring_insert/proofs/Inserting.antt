@@ -21,7 +21,7 @@ use Rattle.ring.specs.Free.{Taken, taken-sum}
 use Rattle.ring.specs.WholeInsert.{Names}
 use Rattle.ring_rows.specs.declared.Node.{Node}
 use Rattle.ring_rows.specs.declared.Hull.{Hull}
-use Rattle.ring_rows.specs.Rows.{nodes_of, table_of, angle_of, right_of_of, size_of, ValidNode, ValidNodes}
+use Rattle.ring_rows.specs.Rows.{nodes_of, table_of, angle_of, right_node_of, size_of, ValidNode, ValidNodes}
 use Rattle.ring_rows.specs.Find.{node_holds, NodeAt}
 use Rattle.ring_rows.specs.Laws.{ring-from, walk-below}
 use Rattle.ring_insert.specs.declared.Choice.{Choice}
@@ -82,21 +82,21 @@ placed-retired e z R = rw (← e, ← z) R
 -- ---- `insert`
 module _ {nodes : List Node} {freed buckets : List ℕ} {h : Hull} {al q ar : Float} (I : ToInsert nodes freed buckets h al q ar) where
   -- the node of the left angle holds it
-  own : T (at_ends (holds (turns al)) (right_of_of (nodes_of nodes)) (angle_of (nodes_of nodes)) (iter I.left (right_of_of (nodes_of nodes)) (row_of buckets 0)))
+  own : T (at_ends (holds (turns al)) (right_node_of (nodes_of nodes)) (angle_of (nodes_of nodes)) (iter I.left (right_node_of (nodes_of nodes)) (row_of buckets 0)))
   own =
       let t = nodes_of nodes in
-      let s = iter I.left (right_of_of t) (row_of buckets 0) in
-      subst (λ (x : ℕ). T (holds x (angle_of t s) (angle_of t (right_of_of t s)))) I.left-angle
-      (holds-first (angle_of t s) (angle_of t (right_of_of t s)) (proper→ (angle_of t s) (angle_of t (right_of_of t s)) (all-proper (at_ends proper (right_of_of t) (angle_of t)) (right_of_of t) (size_of h) (row_of buckets 0) I.to-find.rows.ring.all-proper I.left I.left_in)))
+      let s = iter I.left (right_node_of t) (row_of buckets 0) in
+      subst (λ (x : ℕ). T (holds x (angle_of t s) (angle_of t (right_node_of t s)))) I.left-angle
+      (holds-first (angle_of t s) (angle_of t (right_node_of t s)) (proper→ (angle_of t s) (angle_of t (right_node_of t s)) (all-proper (at_ends proper (right_node_of t) (angle_of t)) (right_node_of t) (size_of h) (row_of buckets 0) I.to-find.rows.ring.all-proper I.left I.left_in)))
 
   module _ {r : ℕ} (G : NodeAt nodes buckets h (turns al) r) where
     -- it is the one that is found
-    found-is : r ≡ iter I.left (right_of_of (nodes_of nodes)) (row_of buckets 0)
+    found-is : r ≡ iter I.left (right_node_of (nodes_of nodes)) (row_of buckets 0)
     found-is =
         let o = G.on in
         let t = nodes_of nodes in
         let w = subst (λ (y : ℕ). T (node_holds t (turns al) y)) (sym o.2) G.at in
-        sym o.2 ∙ ap (λ (k : ℕ). iter k (right_of_of t) (row_of buckets 0)) (tile-sole I.to-find.rows.ring.sound (turns al) o.0 I.left o.1 I.left_in w own)
+        sym o.2 ∙ ap (λ (k : ℕ). iter k (right_node_of t) (row_of buckets 0)) (tile-sole I.to-find.rows.ring.sound (turns al) o.0 I.left o.1 I.left_in w own)
 
     pub found-angle : angle_of (nodes_of nodes) (r) ≡ turns al
     found-angle = ap (angle_of (nodes_of nodes)) found-is ∙ I.left-angle
@@ -110,7 +110,7 @@ module _ {nodes : List Node} {freed buckets : List ℕ} {h : Hull} {al q ar : Fl
         ring = ring-from I.to-find.rows.ring (r) G.on;
         some = I.some;
         less = I.less;
-        there = ap (λ (y : ℕ). angle_of (nodes_of nodes) (iter I.steps (right_of_of (nodes_of nodes)) y)) found-is ∙ I.right-angle;
+        there = ap (λ (y : ℕ). angle_of (nodes_of nodes) (iter I.steps (right_node_of (nodes_of nodes)) y)) found-is ∙ I.right-angle;
         is-angle = I.ar-angle;
         node-room = I.to-find.rows.node-room;
         freed-room = let a = I.freed-most in let b = I.len-most in let c = I.freed-room in omega arith;

@@ -12,7 +12,7 @@ use Rattle.ring.specs.WholeInsert.{Names}
 use Rattle.ring.specs.Resize.{adjusted_buckets}
 use Rattle.ring_rows.specs.declared.Node.{Node}
 use Rattle.ring_rows.specs.declared.Hull.{Hull}
-use Rattle.ring_rows.specs.Rows.{nodes_of, angle_of, left_of, right_of_of, size_of, with_edge, with_left, with_right, ValidNode, ValidNodes, NodeRing, RingHeld, Updated}
+use Rattle.ring_rows.specs.Rows.{nodes_of, angle_of, left_of, right_node_of, size_of, with_edge, with_left, with_right, ValidNode, ValidNodes, NodeRing, RingHeld, Updated}
 use Rattle.ring_rows.specs.Find.{ToFind}
 use Rattle.ring_insert.specs.declared.Choice.{Choice}
 use Rattle.ring_insert.specs.Retire.{Retired}
@@ -25,7 +25,7 @@ pub record ToRelease (nodes : List Node) (freed : List ℕ) (top first : ℕ) (a
   pub ring : NodeRing (nodes_of nodes) len size first
   pub some : 0 < steps
   pub less : steps < size
-  pub there : angle_of (nodes_of nodes) (iter steps (right_of_of (nodes_of nodes)) first) ≡ turns a
+  pub there : angle_of (nodes_of nodes) (iter steps (right_node_of (nodes_of nodes)) first) ≡ turns a
   pub is-angle : IsAngle a
   pub node-room : len ≤ length nodes
   pub freed-room : top + size ≤ length freed
@@ -35,11 +35,11 @@ pub record ToRelease (nodes : List Node) (freed : List ℕ) (top first : ℕ) (a
 pub record ReleasedTo (t : ℕ → Node) (old new : List ℕ) (top first x right top' : ℕ) : Type 0 where
   pub passed : ℕ
   pub some : 0 < passed
-  pub least : (j : ℕ) → 0 < j → j < passed → angle_of t (iter j (right_of_of t) first) ≢ x
-  pub there : right ≡ iter passed (right_of_of t) first
+  pub least : (j : ℕ) → 0 < j → j < passed → angle_of t (iter j (right_node_of t) first) ≢ x
+  pub there : right ≡ iter passed (right_node_of t) first
   pub angle : angle_of t right ≡ x
   pub stack : top' ≡ top + (passed - 1)
-  pub pushed : Pushed (right_of_of t) (row_of old) (row_of new) first passed top
+  pub pushed : Pushed (right_node_of t) (row_of old) (row_of new) first passed top
 
 pub record ToChoose (nodes : List Node) (freed : List ℕ) (h : Hull) (left : ℕ) (a : Float) : Type 0 where
   pub release : ToRelease nodes freed h.freed left a
@@ -91,7 +91,7 @@ pub record Rebuckets (old new : List ℕ) (count L Q R a v : ℕ) : Type 0 where
 -- further on, one of the right angle; the rows have one node more
 pub record ToInsert (nodes : List Node) (freed buckets : List ℕ) (h : Hull) (al q ar : Float) : Type 0 where
   pub to-find : ToFind nodes buckets h
-  pub free : Free (On (right_of_of (nodes_of nodes)) (size_of h) (row_of buckets 0)) (row_of freed) h.freed h.nodes
+  pub free : Free (On (right_node_of (nodes_of nodes)) (size_of h) (row_of buckets 0)) (row_of freed) h.freed h.nodes
   pub freed-most : h.freed ≤ h.nodes
   pub most : ℕ
   pub size-most : size_of h ≤ most
@@ -101,12 +101,12 @@ pub record ToInsert (nodes : List Node) (freed buckets : List ℕ) (h : Hull) (a
   pub small : suc most + 1 < 2 ^ 32
   pub left : ℕ
   pub left_in : left < size_of h
-  pub left-angle : angle_of (nodes_of nodes) (iter left (right_of_of (nodes_of nodes)) (row_of buckets 0)) ≡ turns al
+  pub left-angle : angle_of (nodes_of nodes) (iter left (right_node_of (nodes_of nodes)) (row_of buckets 0)) ≡ turns al
   pub steps : ℕ
   pub some : 0 < steps
   pub less : steps < size_of h
   pub right-angle :
-      angle_of (nodes_of nodes) (iter steps (right_of_of (nodes_of nodes)) (iter left (right_of_of (nodes_of nodes)) (row_of buckets 0))) ≡ turns ar
+      angle_of (nodes_of nodes) (iter steps (right_node_of (nodes_of nodes)) (iter left (right_node_of (nodes_of nodes)) (row_of buckets 0))) ≡ turns ar
   pub al-angle : IsAngle al
   pub q-angle : IsAngle q
   pub ar-angle : IsAngle ar
@@ -117,7 +117,7 @@ pub record InsertedRows
     (nodes' : List Node) (freed' buckets' : List ℕ)
     (h : Hull) (al q ar : Float) (l p : ℕ) (r : Hull) : Type 0 where
   pub left : ℕ
-  pub left-on : On (right_of_of (nodes_of nodes)) (size_of h) (row_of buckets 0) left
+  pub left-on : On (right_node_of (nodes_of nodes)) (size_of h) (row_of buckets 0) left
   pub left-angle : angle_of (nodes_of nodes) left ≡ turns al
   pub choice : Choice
   pub stack : List ℕ
@@ -145,4 +145,4 @@ pub record Adjusted (nodes : List Node) (old new : List ℕ) (h r : Hull) : Type
   pub used : r.nodes ≡ h.nodes
   pub freed : r.freed ≡ h.freed
   pub filled :
-      Bucketed (right_of_of (nodes_of nodes)) (angle_of (nodes_of nodes)) (row_of new) r.buckets (width r.buckets) (row_of old 0) (size_of h)
+      Bucketed (right_node_of (nodes_of nodes)) (angle_of (nodes_of nodes)) (row_of new) r.buckets (width r.buckets) (row_of old 0) (size_of h)

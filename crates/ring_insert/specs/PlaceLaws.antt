@@ -11,7 +11,7 @@ use Rattle.sums.specs.Put.{put, put_same, put_other, put_id}
 use Rattle.ring.specs.Node.{NodeTable}
 use Rattle.ring.specs.Stores.{stored}
 use Rattle.ring_rows.specs.declared.Node.{Node}
-use Rattle.ring_rows.specs.Rows.{table_of, angle_of, edge_of, left_of, right_of_of, with_edge, with_left, with_right, ValidNode, ValidNodes}
+use Rattle.ring_rows.specs.Rows.{table_of, angle_of, edge_of, left_of, right_node_of, with_edge, with_left, with_right, ValidNode, ValidNodes}
 use Rattle.ring_rows.specs.Laws.{put_map}
 use Rattle.ring_insert.specs.declared.Choice.{Choice}
 use Rattle.ring_insert.specs.Insert.{insertion_of, new_node, link_right, link_left, left_edge, place_nodes}
@@ -107,7 +107,7 @@ module _ (t : ℕ → Node) (c : Choice) (l p : ℕ) (q : Float) where
         go true = refl
         go false = keeps g t₃ c.start (with_edge (t₃ c.start) l) (e (t₃ c.start) l)
 
-  right_is : right_of_of (place_nodes t c l p q) ≡ put (put (right_of_of t) c.node c.right) c.before c.node
+  right_is : right_node_of (place_nodes t c l p q) ≡ put (put (right_node_of t) c.node c.right) c.before c.node
   unfolding link_right
   right_is =
       edge-keeps (λ n. n.right) (λ n v. refl) ∙ left-keeps (λ n. n.right) (λ n v. refl)

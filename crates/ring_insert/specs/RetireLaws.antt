@@ -8,7 +8,7 @@ use Rattle.angle.specs.Angle.{turns}
 use Rattle.sums.specs.Put.{put, put_same, put_other}
 use Rattle.ring.specs.Node.{NodeTable}
 use Rattle.ring_rows.specs.declared.Node.{Node}
-use Rattle.ring_rows.specs.Rows.{table_of, angle_of, edge_of, left_of, right_of_of, with_edge, ValidNode, ValidNodes}
+use Rattle.ring_rows.specs.Rows.{table_of, angle_of, edge_of, left_of, right_node_of, with_edge, ValidNode, ValidNodes}
 use Rattle.ring_rows.specs.Find.{no_edge}
 use Rattle.ring_insert.specs.Retire.{Retired}
 
@@ -48,10 +48,10 @@ module _ {t t' : ℕ → Node} {freed : ℕ → ℕ} {from to : ℕ} (R : Retire
   same : {A : Type 0} (g : Node → A) → ((n : Node) → g (with_edge n no_edge) ≡ g n) → (i : ℕ) → g (t' i) ≡ g (t i)
   same g e i = ⊎_elim (λ w. ap g w) (λ w. ap g w ∙ e (t i)) (R.each i)
 
-  pub retired-table : table_of t' ≡ record { left = left_of t; right = right_of_of t; angle = angle_of t; edge = edge_of t' }
+  pub retired-table : table_of t' ≡ record { left = left_of t; right = right_node_of t; angle = angle_of t; edge = edge_of t' }
   retired-table =
       let l : left_of t' ≡ left_of t = fun_ext (same (λ n. n.left) (λ n. refl)) in
-      let r : right_of_of t' ≡ right_of_of t = fun_ext (same (λ n. n.right) (λ n. refl)) in
+      let r : right_node_of t' ≡ right_node_of t = fun_ext (same (λ n. n.right) (λ n. refl)) in
       let a : angle_of t' ≡ angle_of t = fun_ext (same (λ n. turns n.angle) (λ n. refl)) in
       λ i. record { left = l i; right = r i; angle = a i; edge = edge_of t' }
 

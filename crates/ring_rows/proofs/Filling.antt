@@ -15,18 +15,18 @@ use Rattle.ring.specs.Insert.{Bucketed}
 use Rattle.ring.specs.Resize.{buckets-sized}
 use Rattle.ring.specs.Build.{Filling, filling-start, filling_step, filling-done}
 use Rattle.ring_rows.specs.declared.Node.{Node}
-use Rattle.ring_rows.specs.Rows.{nodes_of, angle_of, right_of_of, Updated, NodeUpdated, NodeBuckets, NodeRing, ToFill}
+use Rattle.ring_rows.specs.Rows.{nodes_of, angle_of, right_node_of, Updated, NodeUpdated, NodeBuckets, NodeRing, ToFill}
 use Rattle.ring_rows.specs.Laws.{walk-below}
 
 pub record Going (nodes : List Node) (old new : List ℕ) (count start size i k : ℕ) : Type 0 where
   pub given : ToFill nodes old count start size
-  pub at : i ≡ iter k (right_of_of (nodes_of nodes)) start
+  pub at : i ≡ iter k (right_node_of (nodes_of nodes)) start
   pub most : k ≤ size
-  pub filled : Filling (right_of_of (nodes_of nodes)) (angle_of (nodes_of nodes)) (row_of new) count (width count) start k
+  pub filled : Filling (right_node_of (nodes_of nodes)) (angle_of (nodes_of nodes)) (row_of new) count (width count) start k
   pub same : length new ≡ length old
 
-angles-low : {t : ℕ → Node} {len size start : ℕ} → NodeRing t len size start → (k : ℕ) → k < size → angle_of t (iter k (right_of_of t) start) ≤ full_turn
-angles-low {t} {len} {size} {start} R k l = (R.valid (iter k (right_of_of t) start) (walk-below R.valid R.first k)).angle.small
+angles-low : {t : ℕ → Node} {len size start : ℕ} → NodeRing t len size start → (k : ℕ) → k < size → angle_of t (iter k (right_node_of t) start) ≤ full_turn
+angles-low {t} {len} {size} {start} R k l = (R.valid (iter k (right_node_of t) start) (walk-below R.valid R.first k)).angle.small
 
 pub begin : {nodes : List Node} {old : List ℕ} {count start size : ℕ} → ToFill nodes old count start size → Going nodes old old count start size start 0
 begin {nodes} {old} {count} {start} {size} G = record {
@@ -58,20 +58,20 @@ module _ {nodes : List Node} {old new : List ℕ} {count start size i k : ℕ} (
   unfolding ceiling
   more {new'} {r} l U q = subst (Going nodes old new' count start size r) (one k) (record {
     given = K.given;
-    at = U.right ∙ ap (right_of_of (nodes_of nodes)) K.at ∙ sym (iter-last k (right_of_of (nodes_of nodes)) start);
+    at = U.right ∙ ap (right_node_of (nodes_of nodes)) K.at ∙ sym (iter-last k (right_node_of (nodes_of nodes)) start);
     most = l;
     filled = filling_step K.given.ring.sound K.given.ring.all-proper (angles-low K.given.ring) (buckets-sized K.given.counted) (row_of new) (row_of new') k l
-        (subst (λ (x : ℕ). (j : ℕ) → j < count → row_of new' j ≡ cond (within j (ceil_of (angle_of (nodes_of nodes) x) count) (ceil_of (angle_of (nodes_of nodes) (right_of_of (nodes_of nodes) x)) count)) x (row_of new j)) K.at U.updated.each) K.filled;
+        (subst (λ (x : ℕ). (j : ℕ) → j < count → row_of new' j ≡ cond (within j (ceil_of (angle_of (nodes_of nodes) x) count) (ceil_of (angle_of (nodes_of nodes) (right_node_of (nodes_of nodes) x)) count)) x (row_of new j)) K.at U.updated.each) K.filled;
     same = q ∙ K.same;
   })
     where
       one : (k : ℕ) → suc k ≡ k + 1
       one k = omega arith
 
-  pub end : size ≤ k → Bucketed (right_of_of (nodes_of nodes)) (angle_of (nodes_of nodes)) (row_of new) count (width count) start size
+  pub end : size ≤ k → Bucketed (right_node_of (nodes_of nodes)) (angle_of (nodes_of nodes)) (row_of new) count (width count) start size
   end l =
       filling-done K.given.ring.sound K.given.ring.all-proper (angles-low K.given.ring) (buckets-sized K.given.counted) (row_of new)
-      (subst (Filling (right_of_of (nodes_of nodes)) (angle_of (nodes_of nodes)) (row_of new) count (width count) start) (let m = K.most in the k size m l) K.filled)
+      (subst (Filling (right_node_of (nodes_of nodes)) (angle_of (nodes_of nodes)) (row_of new) count (width count) start) (let m = K.most in the k size m l) K.filled)
     where
       the : (k size : ℕ) → k ≤ size → size ≤ k → k ≡ size
       the k size a b = omega arith
@@ -90,7 +90,7 @@ module _ {nodes : List Node} {buckets : List ℕ} {count i : ℕ} (G : NodeBucke
 
     pub node-updated : {new : List ℕ} {first last : ℕ} → first ≡ ceil_of (turns from.angle) count → last ≡ ceil_of (turns to.angle) count → Updated buckets new count first last i → NodeUpdated (nodes_of nodes) buckets new count i from.right
     node-updated {new} {first} {last} f l U = record {
-      updated = subst (λ (x : ℕ). Updated buckets new count x (ceil_of (angle_of (nodes_of nodes) (right_of_of (nodes_of nodes) i)) count) i) (f ∙ ap (λ (n : Node). ceil_of (turns n.angle) count) e)
+      updated = subst (λ (x : ℕ). Updated buckets new count x (ceil_of (angle_of (nodes_of nodes) (right_node_of (nodes_of nodes) i)) count) i) (f ∙ ap (λ (n : Node). ceil_of (turns n.angle) count) e)
           (subst (λ (x : ℕ). Updated buckets new count first x i) (l ∙ ap (λ (n : Node). ceil_of (turns n.angle) count) (e₂ ∙ ap (λ (n : Node). nodes_of nodes n.right) e)) U);
       right = ap (λ (n : Node). n.right) e;
     }

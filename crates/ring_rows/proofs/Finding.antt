@@ -23,7 +23,7 @@ use Rattle.ring_rows.specs.declared.Node.{Node}
 use Rattle.ring_rows.specs.declared.Hull.{Hull}
 use Rattle.ring_rows.specs.declared.Handles.{Handles}
 use Rattle.ring_rows.specs.declared.Walked.{Walked}
-use Rattle.ring_rows.specs.Rows.{nodes_of, angle_of, left_of, right_of_of, size_of}
+use Rattle.ring_rows.specs.Rows.{nodes_of, angle_of, left_of, right_node_of, size_of}
 use Rattle.ring_rows.specs.Find.{OnRing, node_holds, NodeAt, ToFind, ToTest, ToWalk, WalkedBoth, FingerOr}
 use Rattle.ring_rows.specs.Laws.{ring-from}
 use Rattle.ring_rows.proofs.Test.{to-test}
@@ -44,13 +44,13 @@ stack-kept l v {top} {i} u j w = get_or-set_other l i j v 0 (λ z. omega arith)
 
 -- ---- the ring
 module _ {nodes : List Node} {buckets : List ℕ} {h : Hull} (F : ToFind nodes buckets h) where
-  closed : iter (size_of h) (right_of_of (nodes_of nodes)) (row_of buckets 0) ≡ row_of buckets 0
+  closed : iter (size_of h) (right_node_of (nodes_of nodes)) (row_of buckets 0) ≡ row_of buckets 0
   closed = F.rows.ring.sound.closed
 
   pub size-some : 3 ≤ size_of h
   size-some =
       let t = nodes_of nodes in
-      let a = tally-most (at_ends proper (right_of_of t) (angle_of t)) (right_of_of t) (size_of h) (row_of buckets 0) in
+      let a = tally-most (at_ends proper (right_node_of t) (angle_of t)) (right_node_of t) (size_of h) (row_of buckets 0) in
       let b = F.rows.ring.sound.three in omega arith
 
   pub bucket-on : (b : ℕ) → b < h.buckets → OnRing nodes buckets h (row_of buckets b)
@@ -61,9 +61,9 @@ module _ {nodes : List Node} {buckets : List ℕ} {h : Hull} (F : ToFind nodes b
   after_on b e = rw e (bucket-on ((b + 1) % h.buckets) (mod-lt (b + 1) (bucket-pos h.buckets F.rows.counted)))
 
   -- wherever a walk to the right comes is in the ring
-  pub reach-on : {i j : ℕ} → OnRing nodes buckets h i → Reach (right_of_of (nodes_of nodes)) i j → OnRing nodes buckets h j
+  pub reach-on : {i j : ℕ} → OnRing nodes buckets h i → Reach (right_node_of (nodes_of nodes)) i j → OnRing nodes buckets h j
   reach-on {i} {j} o (k, z) =
-      let f = right_of_of (nodes_of nodes) in
+      let f = right_node_of (nodes_of nodes) in
       subst (OnRing nodes buckets h) (iter-add o.0 k f (row_of buckets 0) ∙ ap (iter k f) o.2 ∙ z)
       (on-any {right = f} {m = size_of h} {s = row_of buckets 0} closed (let s = size-some in omega arith) (o.0 + k))
 
@@ -79,12 +79,12 @@ module _ {nodes : List Node} {buckets : List ℕ} {h : Hull} (F : ToFind nodes b
   -- ---- a walk from two nodes of the ring
   module _ {right left : ℕ} (o : OnRing nodes buckets h right) (p : OnRing nodes buckets h left) where
     -- the same nodes from the first of them on
-    from-right : (i : ℕ) → OnRing nodes buckets h i → On (right_of_of (nodes_of nodes)) (size_of h) right i
+    from-right : (i : ℕ) → OnRing nodes buckets h i → On (right_node_of (nodes_of nodes)) (size_of h) right i
     from-right i q =
-        subst (λ (s : ℕ). On (right_of_of (nodes_of nodes)) (size_of h) s i) o.2
-        (on-to {right = right_of_of (nodes_of nodes)} {m = size_of h} {s = row_of buckets 0} i closed o.0 q)
+        subst (λ (s : ℕ). On (right_node_of (nodes_of nodes)) (size_of h) s i) o.2
+        (on-to {right = right_node_of (nodes_of nodes)} {m = size_of h} {s = row_of buckets 0} i closed o.0 q)
 
-    to-right : (i : ℕ) → On (right_of_of (nodes_of nodes)) (size_of h) right i → OnRing nodes buckets h i
+    to-right : (i : ℕ) → On (right_node_of (nodes_of nodes)) (size_of h) right i → OnRing nodes buckets h i
     to-right i q = reach-on o (q.0, q.2)
 
     pub asks-walk : {a : Float} → T (valid_angle a) → ToWalk nodes right left a

@@ -16,12 +16,12 @@ use Rattle.ring.specs.Ring.{at_ends, proper}
 use Rattle.ring.specs.Segments.{proper→}
 use Rattle.ring.specs.Insert.{On, all-proper}
 use Rattle.ring_rows.specs.declared.Node.{Node}
-use Rattle.ring_rows.specs.Rows.{NodeRing, nodes_of, angle_of, right_of_of}
+use Rattle.ring_rows.specs.Rows.{NodeRing, nodes_of, angle_of, right_node_of}
 use Rattle.ring_rows.specs.Find.{node_holds, ToTest}
 use Rattle.ring_rows.specs.Laws.{walk-below}
 
 pub to-test : (nodes : List Node) {len size s i : ℕ} {a : Float} → NodeRing (nodes_of nodes) len size s → len ≤ length nodes
-    → On (right_of_of (nodes_of nodes)) size s i → T (valid_angle a) → ToTest nodes i a
+    → On (right_node_of (nodes_of nodes)) size s i → T (valid_angle a) → ToTest nodes i a
 to-test nodes {len} {size} {s} {i} R room o v =
     let t = nodes_of nodes in
     let k : i < len = subst (λ (x : ℕ). x < len) o.2 (walk-below R.valid R.first o.0) in
@@ -30,22 +30,22 @@ to-test nodes {len} {size} {s} {i} R room o v =
       here = omega arith;
       there = omega arith;
       from = (R.valid i k).angle;
-      to = (R.valid (right_of_of t i) l).angle;
-      apart = proper→ (angle_of t i) (angle_of t (right_of_of t i))
-          (subst (λ (x : ℕ). T (at_ends proper (right_of_of t) (angle_of t) x)) o.2
-          (all-proper (at_ends proper (right_of_of t) (angle_of t)) (right_of_of t) size s R.all-proper o.0 o.1));
+      to = (R.valid (right_node_of t i) l).angle;
+      apart = proper→ (angle_of t i) (angle_of t (right_node_of t i))
+          (subst (λ (x : ℕ). T (at_ends proper (right_node_of t) (angle_of t) x)) o.2
+          (all-proper (at_ends proper (right_node_of t) (angle_of t)) (right_node_of t) size s R.all-proper o.0 o.1));
       valid = v;
     }
 
 -- the node, the one to its right, and the segment between their angles
 module _ (nodes : List Node) (i : ℕ) {node next : Node} (e₁ : node ≡ nodes_of nodes i) (e₂ : next ≡ nodes_of nodes node.right) where
-  next-is : next ≡ nodes_of nodes (right_of_of (nodes_of nodes) i)
+  next-is : next ≡ nodes_of nodes (right_node_of (nodes_of nodes) i)
   next-is = e₂ ∙ ap (λ (n : Node). nodes_of nodes n.right) e₁
 
   from_is : turns node.angle ≡ angle_of (nodes_of nodes) i
   from_is = ap (λ (n : Node). turns n.angle) e₁
 
-  to_is : turns next.angle ≡ angle_of (nodes_of nodes) (right_of_of (nodes_of nodes) i)
+  to_is : turns next.angle ≡ angle_of (nodes_of nodes) (right_node_of (nodes_of nodes) i)
   to_is = ap (λ (n : Node). turns n.angle) next-is
 
   pub asks-segment : {a : Float} → ToTest nodes i a

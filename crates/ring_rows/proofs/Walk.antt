@@ -11,13 +11,13 @@ use Rattle.ring.specs.Ring.{at_ends, proper}
 use Rattle.ring.specs.Sound.{tile}
 use Rattle.ring.specs.Insert.{On}
 use Rattle.ring_rows.specs.declared.Node.{Node}
-use Rattle.ring_rows.specs.Rows.{NodeRing, Got, angle_of, right_of_of}
+use Rattle.ring_rows.specs.Rows.{NodeRing, Got, angle_of, right_node_of}
 use Rattle.ring_rows.specs.Find.{node_holds}
 
 pub record Walking (t : ℕ → Node) (len size start x handle passed : ℕ) : Type 0 where
   pub ring : NodeRing t len size start
-  pub at : handle ≡ iter passed (right_of_of t) start
-  pub missed : (j : ℕ) → j < passed → T (node_holds t x (iter j (right_of_of t) start)) → ⊥
+  pub at : handle ≡ iter passed (right_node_of t) start
+  pub missed : (j : ℕ) → j < passed → T (node_holds t x (iter j (right_node_of t) start)) → ⊥
   pub less : passed < size
 
 pub begin : {t : ℕ → Node} {len size start : ℕ} (x : ℕ) → NodeRing t len size start → Walking t len size start x start 0
@@ -25,15 +25,15 @@ begin {t} {len} {size} {start} x R = record {
   ring = R;
   at = refl;
   missed = λ j l u. omega arith;
-  less = let a = tally-most (at_ends proper (right_of_of t) (angle_of t)) (right_of_of t) size start in let b = R.sound.three in omega arith;
+  less = let a = tally-most (at_ends proper (right_node_of t) (angle_of t)) (right_node_of t) size start in let b = R.sound.three in omega arith;
 }
 
 module _ {t : ℕ → Node} {len size start x handle passed : ℕ} (K : Walking t len size start x handle passed) where
-  pub handle-on : On (right_of_of t) size start handle
+  pub handle-on : On (right_node_of t) size start handle
   handle-on = (passed, K.less, sym K.at)
 
   module _ {node : Node} (e : node ≡ t handle) {h : Bool} (tested : h ≡ node_holds t x handle) where
-    passes : h ≡ node_holds t x (iter passed (right_of_of t) start)
+    passes : h ≡ node_holds t x (iter passed (right_node_of t) start)
     passes = tested ∙ ap (node_holds t x) K.at
 
     pub found : h ≡ true → Got t size start x (record { node = handle; edge = node.edge; passed = passed })
@@ -43,17 +43,17 @@ module _ {t : ℕ → Node} {len size start x handle passed : ℕ} (K : Walking 
       edge = ap (λ (n : Node). n.edge) e;
     }
 
-    missed-now : h ≡ false → (j : ℕ) → j < suc passed → T (node_holds t x (iter j (right_of_of t) start)) → ⊥
+    missed-now : h ≡ false → (j : ℕ) → j < suc passed → T (node_holds t x (iter j (right_node_of t) start)) → ⊥
     missed-now y j l u = go (ℕ_discrete j passed)
       where
         go : Dec (j ≡ passed) → ⊥
-        go (yes z) = subst T (sym passes ∙ y) (subst (λ (i : ℕ). T (node_holds t x (iter i (right_of_of t) start))) z u)
+        go (yes z) = subst T (sym passes ∙ y) (subst (λ (i : ℕ). T (node_holds t x (iter i (right_node_of t) start))) z u)
         go (no z) = K.missed j (omega arith) u
 
     pub again : h ≡ false → Walking t len size start x node.right (passed + 1)
     again y = subst (Walking t len size start x node.right) (one passed) (record {
       ring = K.ring;
-      at = ap (λ (n : Node). n.right) e ∙ ap (right_of_of t) K.at ∙ sym (iter-last passed (right_of_of t) start);
+      at = ap (λ (n : Node). n.right) e ∙ ap (right_node_of t) K.at ∙ sym (iter-last passed (right_node_of t) start);
       missed = missed-now y;
       less = more;
     })
@@ -65,6 +65,6 @@ module _ {t : ℕ → Node} {len size start x handle passed : ℕ} (K : Walking 
         more : suc passed < size
         more = let m = tile K.ring.sound x in go m.0 m.1.below m.1.passes (dec_lt passed m.0)
           where
-            go : (k : ℕ) → k < size → T (node_holds t x (iter k (right_of_of t) start)) → Dec (passed < k) → suc passed < size
+            go : (k : ℕ) → k < size → T (node_holds t x (iter k (right_node_of t) start)) → Dec (passed < k) → suc passed < size
             go k l u (yes z) = omega arith
             go k l u (no z) = absurd (missed-now y k (omega arith) u)

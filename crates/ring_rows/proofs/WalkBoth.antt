@@ -15,16 +15,16 @@ use Rattle.ring.specs.Insert.{On}
 use Rattle.ring.specs.Hull.{on-any}
 use Rattle.ring_rows.specs.declared.Node.{Node}
 use Rattle.ring_rows.specs.declared.Walked.{Walked}
-use Rattle.ring_rows.specs.Rows.{nodes_of, right_of_of}
+use Rattle.ring_rows.specs.Rows.{nodes_of, right_node_of}
 use Rattle.ring_rows.specs.Find.{node_holds, ToTest, ToWalk, WalkedBoth}
 use Rattle.ring_rows.proofs.Test.{to-test}
 
 -- ---- after some turns
 pub record Walking (nodes : List Node) (a : Float) (right₀ left₀ right left turn : ℕ) : Type 0 where
   pub given : ToWalk nodes right₀ left₀ a
-  pub at : right ≡ iter turn (right_of_of (nodes_of nodes)) right₀
-  pub left-on : On (right_of_of (nodes_of nodes)) given.size right₀ left
-  pub missed : (k : ℕ) → k < turn → T (node_holds (nodes_of nodes) (turns a) (iter k (right_of_of (nodes_of nodes)) right₀)) → ⊥
+  pub at : right ≡ iter turn (right_node_of (nodes_of nodes)) right₀
+  pub left-on : On (right_node_of (nodes_of nodes)) given.size right₀ left
+  pub missed : (k : ℕ) → k < turn → T (node_holds (nodes_of nodes) (turns a) (iter k (right_node_of (nodes_of nodes)) right₀)) → ⊥
 
 pub begin : {nodes : List Node} {a : Float} {right₀ left₀ : ℕ} → ToWalk nodes right₀ left₀ a → Walking nodes a right₀ left₀ right₀ left₀ 0
 begin G = record {
@@ -35,10 +35,10 @@ begin G = record {
 }
 
 module _ {nodes : List Node} {a : Float} {right₀ left₀ right left turn : ℕ} (K : Walking nodes a right₀ left₀ right left turn) where
-  right-on : On (right_of_of (nodes_of nodes)) K.given.size right₀ right
+  right-on : On (right_node_of (nodes_of nodes)) K.given.size right₀ right
   right-on =
-      subst (On (right_of_of (nodes_of nodes)) K.given.size right₀) (sym K.at)
-      (on-any {right = right_of_of (nodes_of nodes)} {m = K.given.size} {s = right₀} K.given.ring.sound.closed
+      subst (On (right_node_of (nodes_of nodes)) K.given.size right₀) (sym K.at)
+      (on-any {right = right_node_of (nodes_of nodes)} {m = K.given.size} {s = right₀} K.given.ring.sound.closed
       (let l = K.left-on.1 in omega arith) turn)
 
   pub right-test : ToTest nodes right a
@@ -84,15 +84,15 @@ module _ {nodes : List Node} {a : Float} {right₀ left₀ right left turn : ℕ
   again {h} e y {here} {there} u v = rw (add-one turn) (record {
     given = K.given;
     at = next;
-    left-on = subst (On (right_of_of (nodes_of nodes)) K.given.size right₀) (sym (ap (λ (n : Node). n.left) v)) (K.given.back left K.left-on);
+    left-on = subst (On (right_node_of (nodes_of nodes)) K.given.size right₀) (sym (ap (λ (n : Node). n.left) v)) (K.given.back left K.left-on);
     missed = λ k l w. go k l w (ℕ_discrete k turn);
   })
     where
-      next : here.right ≡ iter (suc turn) (right_of_of (nodes_of nodes)) right₀
-      next = ap (λ (n : Node). n.right) u ∙ ap (right_of_of (nodes_of nodes)) K.at ∙ sym (iter-last turn (right_of_of (nodes_of nodes)) right₀)
+      next : here.right ≡ iter (suc turn) (right_node_of (nodes_of nodes)) right₀
+      next = ap (λ (n : Node). n.right) u ∙ ap (right_node_of (nodes_of nodes)) K.at ∙ sym (iter-last turn (right_node_of (nodes_of nodes)) right₀)
 
-      go : (k : ℕ) → k < suc turn → T (node_holds (nodes_of nodes) (turns a) (iter k (right_of_of (nodes_of nodes)) right₀)) → Dec (k ≡ turn) → ⊥
+      go : (k : ℕ) → k < suc turn → T (node_holds (nodes_of nodes) (turns a) (iter k (right_node_of (nodes_of nodes)) right₀)) → Dec (k ≡ turn) → ⊥
       go k l w (yes z) =
           subst T (sym e ∙ y)
-          (subst (λ (i : ℕ). T (node_holds (nodes_of nodes) (turns a) i)) (ap (λ (j : ℕ). iter j (right_of_of (nodes_of nodes)) right₀) z ∙ sym K.at) w)
+          (subst (λ (i : ℕ). T (node_holds (nodes_of nodes) (turns a) i)) (ap (λ (j : ℕ). iter j (right_node_of (nodes_of nodes)) right₀) z ∙ sym K.at) w)
       go k l w (no z) = K.missed k (omega arith) w

@@ -10,7 +10,7 @@ use Rattle.ring_rows.specs.declared.Node.{Node}
 use Rattle.ring_rows.specs.declared.Hull.{Hull}
 use Rattle.ring_rows.specs.declared.Handles.{Handles}
 use Rattle.ring_rows.specs.declared.Walked.{Walked}
-use Rattle.ring_rows.specs.Rows.{nodes_of, angle_of, edge_of, left_of, right_of_of, size_of, NodeRing, RingHeld}
+use Rattle.ring_rows.specs.Rows.{nodes_of, angle_of, edge_of, left_of, right_node_of, size_of, NodeRing, RingHeld}
 
 -- the edge of a freed node: no half-edge has this number
 abbrev pub no_edge : ℕ
@@ -18,11 +18,11 @@ no_edge = 4294967295
 
 -- node i is in the ring that the rows hold
 abbrev pub OnRing : List Node → List ℕ → Hull → ℕ → Type 0
-OnRing nodes buckets h i = On (right_of_of (nodes_of nodes)) (size_of h) (row_of buckets 0) i
+OnRing nodes buckets h i = On (right_node_of (nodes_of nodes)) (size_of h) (row_of buckets 0) i
 
 -- whether the segment of node i holds x
 abbrev pub node_holds : (ℕ → Node) → ℕ → ℕ → Bool
-node_holds t x i = at_ends (holds x) (right_of_of t) (angle_of t) i
+node_holds t x i = at_ends (holds x) (right_node_of t) (angle_of t) i
 
 -- What `find` and `find_left` answer: the node of the ring whose segment holds x. A sound ring has exactly one.
 pub record NodeAt (nodes : List Node) (buckets : List ℕ) (h : Hull) (x i : ℕ) : Type 0 where
@@ -38,10 +38,10 @@ pub record ToFind (nodes : List Node) (buckets : List ℕ) (h : Hull) : Type 0 w
 -- node i and its right one can be read, and their angles differ
 pub record ToTest (nodes : List Node) (i : ℕ) (a : Float) : Type 0 where
   pub here : i < length nodes
-  pub there : right_of_of (nodes_of nodes) i < length nodes
+  pub there : right_node_of (nodes_of nodes) i < length nodes
   pub from : IsAngle (nodes_of nodes i).angle
-  pub to : IsAngle (nodes_of nodes (right_of_of (nodes_of nodes) i)).angle
-  pub apart : angle_of (nodes_of nodes) i ≢ angle_of (nodes_of nodes) (right_of_of (nodes_of nodes) i)
+  pub to : IsAngle (nodes_of nodes (right_node_of (nodes_of nodes) i)).angle
+  pub apart : angle_of (nodes_of nodes) i ≢ angle_of (nodes_of nodes) (right_node_of (nodes_of nodes) i)
   pub valid : T (valid_angle a)
 
 -- a ring from the node `right` on, which has the node `left`; its links to the left lead along it
@@ -49,16 +49,16 @@ pub record ToWalk (nodes : List Node) (right left : ℕ) (a : Float) : Type 0 wh
   pub len : ℕ
   pub size : ℕ
   pub ring : NodeRing (nodes_of nodes) len size right
-  pub left-on : On (right_of_of (nodes_of nodes)) size right left
-  pub back : (i : ℕ) → On (right_of_of (nodes_of nodes)) size right i → On (right_of_of (nodes_of nodes)) size right (left_of (nodes_of nodes) i)
+  pub left-on : On (right_node_of (nodes_of nodes)) size right left
+  pub back : (i : ℕ) → On (right_node_of (nodes_of nodes)) size right i → On (right_node_of (nodes_of nodes)) size right (left_of (nodes_of nodes) i)
   pub node-room : len ≤ length nodes
   pub valid : T (valid_angle a)
 
 -- A node of the ring of `right`. Where it is found its segment holds x; else none of `limit` nodes from `right` on does.
 pub record WalkedBoth (t : ℕ → Node) (right x limit : ℕ) (r : Walked) : Type 0 where
-  pub reached : Reach (right_of_of t) right r.node
+  pub reached : Reach (right_node_of t) right r.node
   pub at : r.found ≡ true → T (node_holds t x r.node)
-  pub missed : r.found ≡ false → (k : ℕ) → k < limit → T (node_holds t x (iter k (right_of_of t) right)) → ⊥
+  pub missed : r.found ≡ false → (k : ℕ) → k < limit → T (node_holds t x (iter k (right_node_of t) right)) → ⊥
 
 -- one node twice, which was in use and has an edge, or else the two that were given
 abbrev pub FingerOr : (ℕ → Node) → ℕ → Handles → Handles → Type 0

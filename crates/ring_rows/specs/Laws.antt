@@ -17,18 +17,18 @@ use Rattle.ring_rows.specs.declared.Node.{Node}
 use Rattle.ring_rows.specs.declared.Hull.{Hull}
 use Rattle.ring_rows.specs.declared.Found.{Found}
 use Rattle.ring_rows.specs.RingRows.{RingRows, ring_rows, ring_zeros}
-use Rattle.ring_rows.specs.Rows.{zero_node, ValidNodes, NodeRing, RingHeld, Got, nodes_of, angle_of, right_of_of, size_of}
+use Rattle.ring_rows.specs.Rows.{zero_node, ValidNodes, NodeRing, RingHeld, Got, nodes_of, angle_of, right_node_of, size_of}
 use Rattle.ring_rows.specs.Find.{node_holds, NodeAt}
 
 -- a walk to the right stays among the nodes in use
-pub walk-below : {t : ℕ → Node} {len s : ℕ} → ValidNodes t len → s < len → (k : ℕ) → iter k (right_of_of t) s < len
+pub walk-below : {t : ℕ → Node} {len s : ℕ} → ValidNodes t len → s < len → (k : ℕ) → iter k (right_node_of t) s < len
 walk-below {t} {len} v l k = iter-keeps (λ x. x < len) (λ x m. (v x m).right) k l
 
 -- the ring from any of its nodes
-pub ring-from : {t : ℕ → Node} {len size start : ℕ} → NodeRing t len size start → (x : ℕ) → On (right_of_of t) size start x → NodeRing t len size x
+pub ring-from : {t : ℕ → Node} {len size start : ℕ} → NodeRing t len size start → (x : ℕ) → On (right_node_of t) size start x → NodeRing t len size x
 ring-from {t} {len} {size} {start} R x (k, l, z) = subst (NodeRing t len size) z (record {
   sound = sound-at R.sound k;
-  all-proper = tally-at (at_ends proper (right_of_of t) (angle_of t)) (right_of_of t) size start R.sound.closed k ∙ R.all-proper;
+  all-proper = tally-at (at_ends proper (right_node_of t) (angle_of t)) (right_node_of t) size start R.sound.closed k ∙ R.all-proper;
   valid = R.valid;
   first = walk-below R.valid R.first k;
   size_small = R.size_small;
@@ -49,8 +49,8 @@ pub got-at : {nodes : List Node} {buckets : List ℕ} {h : Hull} {i x : ℕ} {r 
 got-at {nodes} {buckets} {h} {i} {x} {r} R l G =
     let b = (R.filled i l).0 in
     record {
-      on = on-from {right = right_of_of (nodes_of nodes)} {m = size_of h} {s = row_of buckets 0} r.node R.ring.sound.closed b.0
-          (r.passed, G.first.below, ap (iter r.passed (right_of_of (nodes_of nodes))) b.2 ∙ sym G.node);
+      on = on-from {right = right_node_of (nodes_of nodes)} {m = size_of h} {s = row_of buckets 0} r.node R.ring.sound.closed b.0
+          (r.passed, G.first.below, ap (iter r.passed (right_node_of (nodes_of nodes))) b.2 ∙ sym G.node);
       at = subst (λ (y : ℕ). T (node_holds (nodes_of nodes) x y)) (sym G.node) G.first.passes;
     }
 

@@ -45,12 +45,12 @@ edge_of t i = (t i).edge
 abbrev pub left_of : (ℕ → Node) → ℕ → ℕ
 left_of t i = (t i).left
 
-abbrev pub right_of_of : (ℕ → Node) → ℕ → ℕ
-right_of_of t i = (t i).right
+abbrev pub right_node_of : (ℕ → Node) → ℕ → ℕ
+right_node_of t i = (t i).right
 
 -- as the ring's theory has them
 abbrev pub table_of : (ℕ → Node) → NodeTable
-table_of t = record { left = left_of t; right = right_of_of t; angle = angle_of t; edge = edge_of t }
+table_of t = record { left = left_of t; right = right_node_of t; angle = angle_of t; edge = edge_of t }
 
 -- a node in a row of which len are in use: its links stay there
 pub record ValidNode (n : Node) (len : ℕ) : Type 0 where
@@ -64,8 +64,8 @@ ValidNodes t len = (i : ℕ) → i < len → ValidNode (t i) len
 
 -- `size` nodes from `start` on, each linked to its right one, are a sound ring
 pub record NodeRing (t : ℕ → Node) (len size start : ℕ) : Type 0 where
-  pub sound : Sound full_turn (right_of_of t) (angle_of t) start size
-  pub all-proper : tally (at_ends proper (right_of_of t) (angle_of t)) (walk size (right_of_of t) start) ≡ size
+  pub sound : Sound full_turn (right_node_of t) (angle_of t) start size
+  pub all-proper : tally (at_ends proper (right_node_of t) (angle_of t)) (walk size (right_node_of t) start) ≡ size
   pub valid : ValidNodes t len
   pub first : start < len
   pub size_small : size < 2 ^ 32
@@ -78,15 +78,15 @@ size_of h = h.nodes - h.freed
 -- The rows hold the ring of a hull, from the node of bucket 0 on. 01: "Bucket i holds the node whose segment holds i/n."
 pub record RingHeld (nodes : List Node) (buckets : List ℕ) (h : Hull) : Type 0 where
   pub ring : NodeRing (nodes_of nodes) h.nodes (size_of h) (row_of buckets 0)
-  pub filled : Bucketed (right_of_of (nodes_of nodes)) (angle_of (nodes_of nodes)) (row_of buckets) h.buckets (width h.buckets) (row_of buckets 0) (size_of h)
+  pub filled : Bucketed (right_node_of (nodes_of nodes)) (angle_of (nodes_of nodes)) (row_of buckets) h.buckets (width h.buckets) (row_of buckets 0) (size_of h)
   pub counted : Buckets h.buckets
   pub node-room : h.nodes ≤ length nodes
   pub bucket-room : h.buckets ≤ length buckets
 
 -- What `get` answers: the first node from `start` on whose segment holds x, its edge, and how many were passed after the first.
 pub record Got (t : ℕ → Node) (size start x : ℕ) (r : Found) : Type 0 where
-  pub first : First (at_ends (holds x) (right_of_of t) (angle_of t)) (right_of_of t) size start r.passed
-  pub node : r.node ≡ iter r.passed (right_of_of t) start
+  pub first : First (at_ends (holds x) (right_node_of t) (angle_of t)) (right_node_of t) size start r.passed
+  pub node : r.node ≡ iter r.passed (right_node_of t) start
   pub edge : r.edge ≡ edge_of t r.node
 
 -- the buckets from L up to R, or from L on and up to R, have the value v
@@ -110,8 +110,8 @@ pub record NodeBuckets (nodes : List Node) (buckets : List ℕ) (count i : ℕ) 
   pub room : count ≤ length buckets
 
 pub record NodeUpdated (t : ℕ → Node) (old new : List ℕ) (count i r : ℕ) : Type 0 where
-  pub updated : Updated old new count (ceil_of (angle_of t i) count) (ceil_of (angle_of t (right_of_of t i)) count) i
-  pub right : r ≡ right_of_of t i
+  pub updated : Updated old new count (ceil_of (angle_of t i) count) (ceil_of (angle_of t (right_node_of t i)) count) i
+  pub right : r ≡ right_node_of t i
 
 -- a ring of nodes, and room for its buckets
 pub record ToFill (nodes : List Node) (buckets : List ℕ) (count start size : ℕ) : Type 0 where

@@ -9,7 +9,7 @@ ghost use Rattle.angle.specs.Angle.{IsAngle, valid_angle, turns};
 ghost use Rattle.segment.specs.Bucket.{floor_of, width};
 ghost use Rattle.ring.specs.Insert.{Bucketed};
 ghost use Rattle.dcel.specs.Rows.{row_of};
-ghost use Rattle.ring_rows.specs.Rows.{zero_node, nodes_of, with_edge, with_left, with_right, RingHeld, size_of, Got, Updated, FilledRun, right_of_of, angle_of, NodeBuckets, NodeUpdated, ToFill};
+ghost use Rattle.ring_rows.specs.Rows.{zero_node, nodes_of, with_edge, with_left, with_right, RingHeld, size_of, Got, Updated, FilledRun, right_node_of, angle_of, NodeBuckets, NodeUpdated, ToFill};
 ghost use Rattle.ring_rows.specs.Find.{node_holds, ToTest, ToWalk, WalkedBoth, FingerOr, ToFind, NodeAt, ToWalkLeft, WalkedLeft};
 
 use segment::Segment;
@@ -340,7 +340,7 @@ fn update_node_buckets(nodes: &[Node], buckets: &mut [u32], count: usize, i: u32
 // Every bucket's node, from the ring's own nodes, of which there are `size` from `start` on.
 pub fn initialize_buckets(nodes: &[Node], buckets: &mut [u32], count: usize, start: u32, size: u32)
     requires { ToFill nodes.now buckets.old count start size }
-    ensures { Bucketed (right_of_of (nodes_of nodes.now)) (angle_of (nodes_of nodes.now))
+    ensures { Bucketed (right_node_of (nodes_of nodes.now)) (angle_of (nodes_of nodes.now))
         (row_of buckets.new) count (width count) start size }
 {
     let mut i = start;
