@@ -1,5 +1,4 @@
 -- `segment::ceiled_bucket` meets its contract, as `floored_bucket` does. Assumes nothing.
-use borrow.Author.Rules.{rules}
 use mathlib.Core.Path.{sym, ap, ◌∙◌, subst}
 use Prim.Native.Nat.{ℕ, ◌<◌}
 use native.Mathlib.Omega.{arith}
@@ -26,7 +25,8 @@ pub overflow_sub-result-2 : goal.overflow_sub-result-2
 overflow_sub-result-2 c = bucket-pos c.args.count c.requires.1
 
 pub returns : goal.returns
-returns c = let whole_answer = (let n = c.args.count in
+returns c =
+    let n = c.args.count in
     let h = c.requires.1 in
     let whole = ceil-is c.turns_of-k.result c.bucket_shift-shift.result n h c.bucket_shift-shift.ensures ∙ ap (λ (k : ℕ). ceil_of k n) c.turns_of-k.ensures.is in
-    (whole ∙ sym (ceiled-whole n c.args.a h c.requires.0), (whole, subst (λ (x : ℕ). x < n) (sym whole) (below _ n h)))) in record { is = whole_answer.0; whole = whole_answer.1; below = whole_answer.2 }
+    record { is = whole ∙ sym (ceiled-whole n c.args.a h c.requires.0); whole = whole; below = subst (λ (x : ℕ). x < n) (sym whole) (below _ n h) }

@@ -1,5 +1,4 @@
 -- `segment::floored_bucket` meets its contract: a shift by a bucket's width and a mask by the count. Assumes nothing.
-use borrow.Author.Rules.{rules}
 use mathlib.Core.Path.{sym, ap, ◌∙◌, subst}
 use Prim.Native.Nat.{ℕ, ◌<◌}
 use Rattle.segment.specs.Bucket.{floor_of}
@@ -11,7 +10,8 @@ pub overflow_sub-result : goal.overflow_sub-result
 overflow_sub-result c = bucket-pos c.args.count c.requires.1
 
 pub returns : goal.returns
-returns c = let whole_answer = (let n = c.args.count in
+returns c =
+    let n = c.args.count in
     let h = c.requires.1 in
     let whole = floor-is c.turns_of-k.result c.bucket_shift.result n h c.bucket_shift.ensures ∙ ap (λ (k : ℕ). floor_of k n) c.turns_of-k.ensures.is in
-    (whole ∙ sym (floored-whole n c.args.a h), (whole, subst (λ (x : ℕ). x < n) (sym whole) (below _ n h)))) in record { is = whole_answer.0; whole = whole_answer.1; below = whole_answer.2 }
+    record { is = whole ∙ sym (floored-whole n c.args.a h); whole = whole; below = subst (λ (x : ℕ). x < n) (sym whole) (below _ n h) }

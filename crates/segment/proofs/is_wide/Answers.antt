@@ -1,5 +1,4 @@
 -- `segment::is_wide` meets its contract, by what `gap_of` ensures. Assumes nothing.
-use borrow.Author.Rules.{rules}
 use mathlib.Core.Path.{ap}
 use Prim.Native.Nat.{ℕ, ◌*◌, ◌^◌}
 use lib.Dec.{ltb}
