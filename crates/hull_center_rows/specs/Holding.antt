@@ -131,7 +131,7 @@ module _ {C : Counts} {q : List ℤ} {h a : List ℕ} {sum : PositionSum} (R : H
   passed_start = record { low = omega arith; high = M.rules.some; none = λ o j l t. omega arith }
 
   pub small-sum : SmallSum sum
-  small-sum = rw R.sum_is_lem (sum-small R.mesh.rows.good)
+  small-sum = rw R.sum_is (sum-small R.mesh.rows.good)
 
   -- face f, whose stored edge is e
   module _ {f : ℕ} (l : f < C.faces) where
@@ -172,7 +172,7 @@ module _ {C : Counts} {q : List ℤ} {h a : List ℕ} {sum : PositionSum} (R : H
       passed-hit n o =
           let i = K.low in
           let z : f ≡ suc (f - 1) = omega arith in
-          sym (rw (sym R.sum_is_lem) (is_true _
+          sym (rw (sym R.sum_is) (is_true _
           (any-below← (C.faces - 1) (λ j. holds_center_at (links_of o h a) (position_of q) sum (row_of a (suc j))) (f - 1) (omega arith)
           (subst (λ (g : ℕ). T (holds_center_at (links_of o h a) (position_of q) sum (row_of a g))) z (from-true (sym (tested o) ∙ n))))))
 
@@ -180,6 +180,6 @@ module _ {C : Counts} {q : List ℤ} {h a : List ℕ} {sum : PositionSum} (R : H
     unfolding holds_center links_of
     passed-end n o =
         let m = K.high in
-        sym (rw (sym R.sum_is_lem) (is_false _ (λ t. (
+        sym (rw (sym R.sum_is) (is_false _ (λ t. (
         let r = any-below→ (C.faces - 1) (λ j. holds_center_at (links_of o h a) (position_of q) sum (row_of a (suc j))) t in
         let l = r.1 in K.none o r.0 (omega arith) r.2))))

@@ -27,7 +27,7 @@ unfolding walk tally
 ring-turns R zero = R
 ring-turns {N} {next} {α} {τ} {e} {h} {s} R (suc j) =
     subst (λ (x : ℕ). Ring N next α τ (iter (suc j) next e) h x)
-    (sym (iter-add (bit (at_ends proper next α e)) (nodes next α j (next e)) τ.right s)) (ring-turns (ring-turn R) j)
+    (sym (iter-add (bit (at_ends proper next α e)) (nodes next α j (next e)) τ.right s)) (ring-turns {e = next e} (ring-turn R) j)
 
 -- where the k-th that passes stands
 pub kth : (b : ℕ → Bool) (f : ℕ → ℕ) (n s k : ℕ) → k < tally b (walk n f s)
@@ -170,7 +170,7 @@ unfolding walk tally
 hull-turns H zero = H
 hull-turns {N} {next} {α} {τ} {bucket} {e} {h} {s} {B} {w} H (suc j) =
     subst (λ (x : ℕ). HullFrom N next α τ bucket (iter (suc j) next e) h x B w)
-    (sym (iter-add (bit (at_ends proper next α e)) (nodes next α j (next e)) τ.right s)) (hull-turns (hull-turn H) j)
+    (sym (iter-add (bit (at_ends proper next α e)) (nodes next α j (next e)) τ.right s)) (hull-turns {e = next e} (hull-turn H) j)
 
 -- the hull from any of its nodes, and in particular from the node of bucket 0, so that an invariant need name neither
 -- an edge nor a node to start from

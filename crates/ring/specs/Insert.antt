@@ -163,7 +163,7 @@ module _ {N : ℕ} {next α next' α' : ℕ → ℕ} {τ : NodeTable} {e m n s l
   pub left-some : 0 < nodes next α m e
   left-some =
       let d = iter P.place next e in
-      counts (at_ends proper next α) next m e P.place P.IsPlace-in (holds-proper q (α d) (α (next d)) P.place-holds)
+      counts (at_ends proper next α) next m e P.place P.place_in (holds-proper q (α d) (α (next d)) P.place-holds)
 
   pub rest_some : 0 < nodes next α n r
   rest_some =

@@ -6,7 +6,6 @@ use mir.Facts.{to_z-of_z}
 use Rattle.math.specs.declared.Point.{Point}
 use Rattle.dcel.specs.Rows.{position_of}
 use mir.Syntax.{w32}
-use .{w32}
 use Rattle.dcel.proofs.position.Goals as goal
 
 pub returns : goal.returns

@@ -3,7 +3,6 @@ use borrow.Author.Rules.{rules}
 use mir.Facts.{to_z-of_z}
 use Rattle.dcel.proofs.Rows.{store-position}
 use mir.Syntax.{w32}
-use .{w32}
 use Rattle.dcel.proofs.set_position.Goals as goal
 
 pub returns : goal.returns
