@@ -1,4 +1,4 @@
--- The product and the division by digits of 32 bits, and the rounding of a number of half cubic metres. Assumes nothing.
+-- The product by digits of 32 bits, and the rounding of a number of half cubic metres. Assumes nothing.
 use Rattle.std.proofs.Common.{◌≡◌, ℕ, ◌+◌, ◌*◌, ◌/◌, ◌%◌, ◌^◌, ◌<◌, ◌≤◌, ap, ◌∙◌, ap₂, mul-le-mul, div-add-mod', arith}
 use Rattle.int128.specs.CubicMetres.{half_to_even}
 use Rattle.int128.specs.CubicMetresLaws.{next-even, rounded-only}
@@ -32,44 +32,10 @@ multiplied a b m e = go (a / B) (a % B) (b / B) (b % B) e ∙ ap₂ ◌*◌ (div
 pub high-less : (x m : ℕ) → x ≤ 2147483648 * 2147483648 → m < 2 ^ 64 → x + m / B < 2 ^ 63
 high-less x m h l = omega arith
 
--- ---- the division
-steps : (h l c d e f g r : ℕ) → l ≡ B * c + d → h * B + c ≡ 3000000000 * e + f → f * B + d ≡ 3000000000 * g + r
-    → h * 2 ^ 64 + l ≡ 3000000000 * (e * B + g) + r
-steps h l c d e f g r p q s = omega arith
-
-split : (n : ℕ) → (n ≡ 3000000000 * (n / 3000000000) + n % 3000000000) × (n % 3000000000 < 3000000000)
-split n = (omega arith, omega arith)
-
-split32 : (n : ℕ) → n ≡ B * (n / B) + n % B
-split32 n = omega arith
-
-module _ (h l : ℕ) where
-  abbrev middle : ℕ
-  middle = h * B + l / B
-
-  abbrev last : ℕ
-  last = middle % 3000000000 * B + l % B
-
-  pub divided : (h * 2 ^ 64 + l ≡ 3000000000 * (middle / 3000000000 * B + last / 3000000000) + last % 3000000000)
-      × (last % 3000000000 < 3000000000)
-  divided =
-      let m = split middle in
-      let n = split last in
-      (steps h l _ _ _ _ _ _ (split32 l) m.0 n.0, n.1)
-
-pub small-high : (h l : ℕ) {n : ℕ} → h * 2 ^ 64 + l ≡ n → n < 2 ^ 94 → h < 2 ^ 30
-small-high h l e m = omega arith
-
 -- ---- the rounding: of h half cubic metres and a rest
 -- one more, where there is a rest or the whole ones are odd
 abbrev more : ℕ → ℕ → ℕ
 more h r = (r + 2999999999 + h / 2 % 2) / 3000000000
-
-pub rest-fits : (r : ℕ) → r < 3000000000 → r + 2999999999 < 2 ^ 64
-rest-fits r l = omega arith
-
-pub odd-fits : (h r : ℕ) → r < 3000000000 → r + 2999999999 + h / 2 % 2 < 2 ^ 64
-odd-fits h r l = omega arith
 
 module _ (h r : ℕ) {n : ℕ} (e : n ≡ 3000000000 * h + r) (l : r < 3000000000) where
   pub halves-rounded : (h + more h r) / 2 ≡ half_to_even n
@@ -85,10 +51,3 @@ module _ (h r : ℕ) {n : ℕ} (e : n ≡ 3000000000 * h + r) (l : r < 300000000
         where
           up : (b : ℕ) → b < 2 → (h + (r + 2999999999 + b) / 3000000000) / 2 ≡ w + b
           up b l = omega arith
-
-  -- one more of them still fits 64 bits, and half of that 63
-  pub one_more : n < 2 ^ 94 → h + more h r < 2 ^ 64
-  one_more m = omega arith
-
-  pub rounded-less : n < 2 ^ 94 → (h + more h r) / 2 < 2 ^ 63
-  rounded-less m = omega arith

@@ -1,5 +1,5 @@
 -- The sign of a number as a test has it, and the magnitude of a number of 64 signed bits. Assumes nothing.
-use Rattle.std.proofs.Common.{◌≡◌, ℕ, zero, suc, ◌+◌, ◌-◌, ◌*◌, ◌^◌, ◌<◌, ◌≤◌, true, false, T, ℤ, pos, negsuc, ◌-ℤ◌, ◌*ℤ◌, neg_ℤ, nat_abs, sym, refl, ap, ◌∙◌, subst, ap₂, le_trans, le_of_eq, add-one, arith, lit<, to_z-of_z, w64, Fits, SFits, to_z, of_z, ltb-true, le-ltb}
+use Rattle.std.proofs.Common.{◌≡◌, ℕ, zero, suc, ◌+◌, ◌-◌, ◌*◌, ◌^◌, ◌<◌, ◌≤◌, true, false, T, ℤ, pos, negsuc, ◌-ℤ◌, ◌*ℤ◌, neg_ℤ, nat_abs, sym, refl, ap, ◌∙◌, subst, ap₂, le_trans, le_of_eq, arith, lit<, to_z-of_z, w64, Fits, SFits, to_z, of_z, ltb-true, le-ltb}
 use lib.IntN.{+ℤ_idl}
 use lib.Signed.{mag, lt_z, non_neg, nat_abs-le}
 use Rattle.int128.specs.Int128.{of_halves, with_sign}
@@ -79,9 +79,6 @@ module _ {z : ℤ} (f : SFits w64 z) where
 
     pub complement-more : Fits w64 (nat_abs (to_z w64 (of_z w64 (negsuc 0 -ℤ machine))) + 1)
     complement-more = rw complement-read (record { fits = let h = small in omega arith })
-
-    pub negative-magnitude : nat_abs (to_z w64 (of_z w64 (negsuc 0 -ℤ machine))) + 1 ≡ nat_abs z
-    negative-magnitude = ap (λ (y : ℤ). nat_abs y + 1) complement-read ∙ add-one less_one ∙ sym (ap nat_abs is_negative)
 
   pub positive-casts : lt_z machine (pos 0) ≡ false → T (non_neg machine) × Fits w64 (nat_abs machine)
   positive-casts t =

@@ -24,10 +24,6 @@ abbrev pub ahead : List ℤ → Option (List ℤ) → Option (List ℤ)
 ahead zs none = none
 ahead zs (some ws) = some (zs ++ ws)
 
-ahead-nil : (o : Option (List ℤ)) → o ≡ ahead [] o
-ahead-nil none = refl
-ahead-nil (some ws) = refl
-
 ahead-next : (zs : List ℤ) (z : ℤ) (o : Option (List ℤ)) → ahead zs (followed (some z) o) ≡ ahead (zs ++ (z ∷ [])) o
 ahead-next zs z none = refl
 ahead-next zs z (some ws) = ap some (sym (append_assoc zs (z ∷ []) ws))
@@ -38,18 +34,6 @@ pub record Filled (line : List ℕ) (from count : ℕ) (row₀ : List ℤ) (at :
   pub at_most : k ≤ count
   pub stored : row ≡ sets row₀ at done
   pub same : numbers_of count (fields_behind (drop from line)) ≡ ahead done (numbers_of (count - k) (fields_behind (drop place line)))
-
-pub filled-start : {line : List ℕ} {from count : ℕ} {row : List ℤ} {at : ℕ} → Filled line from count row at row from 0
-filled-start {line} {from} {count} = record {
-  done = [];
-  size = refl;
-  at_most = omega arith;
-  stored = refl;
-  same = rw (zero-less count) (ahead-nil _);
-}
-  where
-    zero-less : (n : ℕ) → n - 0 ≡ n
-    zero-less n = omega arith
 
 -- numbers, or none
 pub stored-none : {row row' : List ℤ} {at : ℕ} {o : Option (List ℤ)} → o ≡ none → Stored row at o row' false

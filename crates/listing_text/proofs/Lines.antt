@@ -11,11 +11,10 @@ use borrow.Author.Tests.{lt-ltb, le-ltb}
 use lib.IntN.{ℤ}
 use lib.ListN.{length, get_or, take, drop, length-append, drop_of_length-le, length-drop}
 use lib.Seq.{sets, drop-cons, drop-drop}
-use Rattle.listing_text.specs.declared.reading.Input.{Input}
 use Rattle.listing_text.specs.declared.reading.Input.TheVariants.{Malformed, Numbers}
-use Rattle.listing_text.specs.Reading.{cut, lines_of, line_of, letter_of, count_of, Reading, malformed, numbers, before, line_then, read_from, read_of, input_of, numbers_row}
+use Rattle.listing_text.specs.Reading.{cut, lines_of, line_of, letter_of, count_of, Reading, malformed, numbers, before, line_then, read_from, read_of, input_of}
 use Rattle.listing_text.specs.ReadingParts.{up_to, is_there, Stored, StoredAll}
-use Rattle.listing_text.specs.ReadingLaws.{line-length, start_of, start-next, start-room}
+use Rattle.listing_text.specs.ReadingLaws.{line-length, start_of, start-next}
 use Rattle.listing_text.proofs.Pieces.{lines_behind, lines-first, up-to-le}
 use Rattle.listing_text.specs.RowLaws.{sets-append}
 
@@ -120,9 +119,6 @@ module _ {text : List ℕ} {row₀ row : List ℤ} {place number stored : ℕ} (
       let q : read_from number (lines_of (drop place text)) ≡ numbers [] = rw (drop_of_length-le text l, le-ltb number 3 m) refl in
       all_right (g.same ∙ ap (before g.done) q ∙ ap numbers (append-nil g.done)) g.size g.rows
 
-  pub taken-room : {n : ℕ} → number < 400 → n ≡ count_of number → stored + n ≤ 802
-  taken-room m e = let h = start-room number g.first m in let q = g.start in omega arith
-
   -- a line
   module _ {stop : ℕ} (l : place < length text) (s : stop ≡ place + up_to 10 (drop place text)) (m : number < 400) where
     line-here : List ℕ
@@ -166,20 +162,3 @@ module _ {text : List ℕ} {row₀ row : List ℤ} {place number stored : ℕ} (
 
       pub taken_next : r ≡ true → Taken text row₀ row' (stop + 1) (number + 1) (stored + n)
       taken_next t = let o = there-some (line_of (letter_of number) (count_of number) line-here) (found ∙ t) in with-numbers o.0 o.1
-
--- ---- the caller's row
-module _ {row row' : List ℤ} {o : Reading} {r : Input} (s : StoredAll row o row' r) where
-  by_answer : (o : Reading) → r ≡ input_of o → ((zs : List ℤ) → o ≡ numbers zs → row' ≡ sets row 0 zs) → {n : ℕ} → r ≡ Numbers n
-      → row' ≡ numbers_row o row
-  by_answer (malformed n) e f q = absurd (let z : ◌≡◌ {A = ℕ} 0 1 = cc in omega arith)
-  by_answer (numbers zs) e f q = f zs refl
-
-  pub row-right : {n : ℕ} → r ≡ Numbers n → row' ≡ numbers_row o row
-  row-right q = by_answer o s.answer s.numbers q
-
-  as_before : (o : Reading) → r ≡ input_of o → {n : ℕ} → r ≡ Malformed n → row ≡ numbers_row o row
-  as_before (malformed n) e q = refl
-  as_before (numbers zs) e q = absurd (let z : ◌≡◌ {A = ℕ} 0 1 = cc in omega arith)
-
-  pub row-wrong : {n : ℕ} → r ≡ Malformed n → row ≡ numbers_row o row
-  row-wrong q = as_before o s.answer q

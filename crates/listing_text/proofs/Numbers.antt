@@ -1,19 +1,14 @@
--- Reading one number: digit by digit, with a value that stops before it overflows, and by its sign. Assumes nothing.
+-- Reading one number: digit by digit, with a value that stops before it overflows, and by its first byte. Assumes nothing.
 use mathlib.Core.Bool.{true, false, cond}
 use mathlib.Core.List.{List, [], ◌∷◌}
 use mathlib.Core.Option.{Option, none, some}
 use mathlib.Core.Path.{◌≡◌, refl, sym, ◌∙◌, ap}
-use Prim.Native.Nat.{ℕ, zero, suc, ◌+◌, ◌-◌, ◌*◌, ◌≤◌, ◌<◌, ◌^◌, min}
+use Prim.Native.Nat.{ℕ, ◌+◌, ◌-◌, ◌*◌, ◌≤◌, ◌<◌, min}
 use native.Mathlib.Numerals.{add-one}
 use native.Mathlib.Omega.{arith}
-use borrow.Author.Tests.{eq-eqb, ne_eqb, le-leb, lt-leb, lt-ltb, le-ltb}
-use lib.IntN.{ℤ, pos, neg_ℤ, ◌-ℤ◌, +ℤ_idl}
-use lib.Signed.{mag}
+use borrow.Author.Tests.{eq-eqb, ne_eqb, le-leb, lt-leb}
 use lib.ListN.{length, get_or, drop, drop_of_length-le}
 use lib.Seq.{drop-cons}
-use mir.Syntax.{w32, w64}
-use mir.Val.{SFits, to_z, of_z}
-use mir.Facts.{to_z_pos, to_z-of_z}
 use Rattle.listing_text.specs.declared.reading.Unsigned.{Unsigned}
 use Rattle.listing_text.specs.declared.reading.Unsigned.TheVariants as unsigned
 use Rattle.listing_text.specs.declared.reading.Signed.{Signed}
@@ -73,65 +68,6 @@ module _ (s : List ℕ) (i : ℕ) where
     counted-end l =
         let z : digits_on c.before (drop i s) ≡ some c.before = rw (drop_of_length-le s l) refl in
         ap unsigned.Value c.capped ∙ ap unsigned_of (sym (c.same ∙ z))
-
--- ---- by the sign. `d` is what was read of the digits
-value_of : {d : Unsigned} {v : ℕ} (n : ℕ) → d ≡ unsigned.Value v → d ≡ unsigned_of (some n) → v ≡ min n 3000000000
-value_of n p e = cc
-
-never : {d : Unsigned} {v : ℕ} → d ≡ unsigned.Value v → d ≡ unsigned.Malformed → ⊥
-never p e = let z : ◌≡◌ {A = ℕ} 0 1 = cc in omega arith
-
-module _ {d : Unsigned} (p : d ≡ unsigned.Malformed) where
-  pub positive-none : (o : Option ℕ) → d ≡ unsigned_of o → signed.Malformed ≡ signed_of (positive o)
-  positive-none none e = refl
-  positive-none (some n) e = absurd (never e p)
-
-  pub negative-none : (o : Option ℕ) → d ≡ unsigned_of o → signed.Malformed ≡ signed_of (negative o)
-  negative-none none e = refl
-  negative-none (some n) e = absurd (never e p)
-
-module _ {d : Unsigned} {v : ℕ} (p : d ≡ unsigned.Value v) where
-  pub positive-large : 2147483647 < v → (o : Option ℕ) → d ≡ unsigned_of o → signed.Malformed ≡ signed_of (positive o)
-  positive-large l none e = absurd (never p e)
-  positive-large l (some n) e = let z = value_of n p e in rw (le-ltb n (2 ^ 31) (omega arith)) refl
-
-  pub positive-value : v ≤ 2147483647 → {z : ℤ} → z ≡ pos v → (o : Option ℕ) → d ≡ unsigned_of o → signed.Value z ≡ signed_of (positive o)
-  positive-value l q none e = absurd (never p e)
-  positive-value l q (some n) e =
-      let y = value_of n p e in let same : v ≡ n = omega arith in
-      rw (lt-ltb n (2 ^ 31) (omega arith)) (ap signed.Value (q ∙ ap pos same))
-
-  pub negative-large : 2147483648 < v → (o : Option ℕ) → d ≡ unsigned_of o → signed.Malformed ≡ signed_of (negative o)
-  negative-large l none e = absurd (never p e)
-  negative-large l (some n) e = let z = value_of n p e in rw (lt-leb n (2 ^ 31) (omega arith)) refl
-
-  pub negative-value : v ≤ 2147483648 → {z : ℤ} → z ≡ neg_ℤ (pos v) → (o : Option ℕ) → d ≡ unsigned_of o
-      → signed.Value z ≡ signed_of (negative o)
-  negative-value l q none e = absurd (never p e)
-  negative-value l q (some n) e =
-      let y = value_of n p e in let same : v ≡ n = omega arith in
-      rw (le-leb n (2 ^ 31) (omega arith)) (ap signed.Value (q ∙ ap (λ (n : ℕ). neg_ℤ (pos n)) same))
-
--- ---- the negation of a number in 64 bits, which then goes into 32
-neg_small : (v : ℕ) → v ≤ 2147483648 → mag (neg_ℤ (pos v)) < 2147483648
-neg_small zero l = omega arith
-neg_small (suc n) l = omega arith
-
-module _ (v : ℕ) (l : v ≤ 2147483648) where
-  minus : pos 0 -ℤ to_z w64 v ≡ neg_ℤ (pos v)
-  minus = rw (to_z_pos w64 {n = v} (omega arith)) (+ℤ_idl (neg_ℤ (pos v)))
-
-  pub minus-fits : SFits w64 (pos 0 -ℤ to_z w64 v)
-  minus-fits = rw minus (record { sfits = let h = neg_small v l in omega arith })
-
-  minus-read : to_z w64 (of_z w64 (pos 0 -ℤ to_z w64 v)) ≡ neg_ℤ (pos v)
-  minus-read = to_z-of_z minus-fits ∙ minus
-
-  pub minus-narrow : SFits w32 (to_z w64 (of_z w64 (pos 0 -ℤ to_z w64 v)))
-  minus-narrow = rw minus-read (record { sfits = neg_small v l })
-
-  pub minus_is : to_z w32 (of_z w32 (to_z w64 (of_z w64 (pos 0 -ℤ to_z w64 v)))) ≡ neg_ℤ (pos v)
-  minus_is = to_z-of_z minus-narrow ∙ minus-read
 
 -- ---- the first byte
 pub no_byte : (s : List ℕ) → length s ≡ 0 → signed.Malformed ≡ signed_of (number_of s)

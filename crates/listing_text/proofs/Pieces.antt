@@ -16,9 +16,6 @@ use Rattle.listing_text.specs.ReadingParts.{up_to, fields_behind}
 pub record Sought (mark : ℕ) (s : List ℕ) (from i : ℕ) : Type 0 where
   pub same : i + up_to mark (drop i s) ≡ from + up_to mark (drop from s)
 
-pub sought-start : {mark : ℕ} {s : List ℕ} (from : ℕ) → Sought mark s from from
-sought-start from = record { same = refl }
-
 module _ {mark : ℕ} {s : List ℕ} {from i : ℕ} (g : Sought mark s from i) where
   pub sought-end : length s ≤ i → i ≡ from + up_to mark (drop from s)
   unfolding up_to

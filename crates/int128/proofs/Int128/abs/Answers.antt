@@ -1,12 +1,9 @@
 -- `int128::Int128::abs` meets its contract. Assumes nothing.
 use Rattle.std.proofs.Common.{sym, ◌∙◌, arith}
 use Rattle.int128.specs.Int128.{int128_of}
-use Rattle.int128.specs.Int128Laws.{fits_neg, unsigned}
+use Rattle.int128.specs.Int128Laws.{unsigned}
 use Rattle.int128.proofs.Signs.{below-abs, not-below}
 use Rattle.int128.proofs.Int128.abs.Goals as goal
-
-pub neg-requires : goal.neg-requires
-neg-requires c = fits_neg (int128_of c.args.self) c.requires
 
 pub returns-then-is_negative : goal.returns-then-is_negative
 returns-then-is_negative c =

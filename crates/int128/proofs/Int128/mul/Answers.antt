@@ -5,11 +5,6 @@ use Rattle.int128.specs.Int128Laws.{whole-fits, nat_abs-sign}
 use Rattle.int128.proofs.Signs.{magnitude-max, product_is}
 use Rattle.int128.proofs.Int128.mul.Goals as goal
 
-pub product-requires : goal.product-requires
-product-requires c =
-    let f = c.ranges in
-    (magnitude-max f.x c.magnitude.ensures, magnitude-max f.y c.magnitude-2.ensures)
-
 pub returns : goal.returns
 returns c =
     let s = c.ranges in

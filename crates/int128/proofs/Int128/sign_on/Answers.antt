@@ -1,11 +1,8 @@
 -- `int128::Int128::sign_on` meets its contract. Assumes nothing.
 use Rattle.std.proofs.Common.{pos, sym, ◌∙◌}
 use Rattle.int128.specs.Int128.{int128_of}
-use Rattle.int128.proofs.Signs.{read_pos, minus-fits, minus-read, sign_below, sign-not}
+use Rattle.int128.proofs.Signs.{read_pos, minus-read, sign_below, sign-not}
 use Rattle.int128.proofs.Int128.sign_on.Goals as goal
-
-pub overflow_sub-result : goal.overflow_sub-result
-overflow_sub-result c = minus-fits c.args.n c.requires
 
 pub returns-then-is_negative : goal.returns-then-is_negative
 returns-then-is_negative c =

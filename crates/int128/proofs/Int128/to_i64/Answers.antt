@@ -1,5 +1,5 @@
 -- `int128::Int128::to_i64` meets its contract. Assumes nothing.
-use Rattle.std.proofs.Common.{◌≡◌, ℕ, ◌+◌, ◌*◌, ◌^◌, ◌<◌, pos, ap, ◌∙◌, lt_of_lt_of_le, arith, lit≤, to_z-of_z, w64}
+use Rattle.std.proofs.Common.{◌≡◌, ℕ, ◌+◌, ◌*◌, ◌^◌, ◌<◌, pos, ap, ◌∙◌, arith, to_z-of_z, w64}
 use borrow.Author.Rules.{sfits_of}
 use Rattle.int128.specs.Int128.{int128_of, with_sign}
 use Rattle.int128.specs.Int128Laws.{sign-abs}
@@ -8,14 +8,6 @@ use Rattle.int128.proofs.Int128.to_i64.Goals as goal
 -- a number below 2 ^ 63 is its low half
 low-alone : (h l : ℕ) {n : ℕ} → h * 2 ^ 64 + l ≡ n → n < 2 ^ 63 → l ≡ n
 low-alone h l e b = omega arith
-
-pub abs-n-requires : goal.abs-n-requires
-abs-n-requires c = lt_of_lt_of_le c.requires (lit≤ tt)
-
-pub sign_on-requires : goal.sign_on-requires
-sign_on-requires c =
-    let e = low-alone c.abs-n.result.high c.abs-n.result.low c.abs-n.ensures c.requires in
-    rw e c.requires
 
 pub returns : goal.returns
 returns c =

@@ -1,10 +1,7 @@
 -- `listing_text::reading::end` meets its contract. The invariant: the first mark from here on is the first one from the start on.
 -- Assumes nothing.
-use Rattle.listing_text.proofs.Pieces.{sought-start, sought-end, sought-here, sought-next}
+use Rattle.listing_text.proofs.Pieces.{sought-end, sought-here, sought-next}
 use Rattle.listing_text.proofs.reading.end.Goals as goal
-
-pub loop-i-init : goal.loop-i-init
-loop-i-init c = sought-start _
 
 pub returns-then-text-i : goal.returns-then-text-i
 returns-then-text-i c = sought-here c.loop-i.invariant c.loop-i-test.true c.if-text-i.true

@@ -3,11 +3,8 @@
 use mir.Syntax.{w32}
 use mir.Facts.{to_z-of_z}
 use borrow.Author.Rules.{rules}
-use Rattle.listing_text.proofs.Fields.{filled-start, filled_none, filled-end, stop-most, filled-malformed, filled_next}
+use Rattle.listing_text.proofs.Fields.{filled_none, filled-end, stop-most, filled-malformed, filled_next}
 use Rattle.listing_text.proofs.reading.fields.Goals as goal
-
-pub loop-k-init : goal.loop-k-init
-loop-k-init c = filled-start
 
 pub returns-then-place-line : goal.returns-then-place-line
 returns-then-place-line c = filled_none c.loop-k.invariant c.loop-k-test.true c.if-place-line.true

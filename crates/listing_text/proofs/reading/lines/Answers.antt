@@ -1,7 +1,6 @@
 -- `listing_text::reading::lines` meets its contract. The invariant: the lines passed are right, and their numbers are stored.
 -- Assumes nothing.
-use native.Mathlib.Omega.{arith}
-use Rattle.listing_text.proofs.Lines.{taken_start, taken-over, taken-few, taken-all, taken-room, taken-wrong, taken_next, line-most}
+use Rattle.listing_text.proofs.Lines.{taken_start, taken-over, taken-few, taken-all, taken-wrong, taken_next, line-most}
 use Rattle.listing_text.proofs.reading.lines.Goals as goal
 
 pub loop-place-init : goal.loop-place-init
@@ -13,23 +12,11 @@ returns-then-number-ge400 c = taken-over c.loop-place.invariant c.loop-place-tes
 pub slice_bounds-line-end : goal.slice_bounds-line-end
 slice_bounds-line-end c = line-most _ c.loop-place-test.true c.end-stop.ensures
 
-pub line-requires : goal.line-requires
-line-requires c =
-    taken-room c.loop-place.invariant c.if-number-ge400.false c.count-n.ensures
-
 pub returns-then-not-line : goal.returns-then-not-line
 returns-then-not-line c =
     taken-wrong c.loop-place.invariant c.loop-place-test.true c.end-stop.ensures c.if-number-ge400.false
     c.letter.ensures c.count-n.ensures c.line.ensures
     c.if-not-line.true
-
-pub overflow_add-stored : goal.overflow_add-stored
-overflow_add-stored c =
-    let h = taken-room c.loop-place.invariant c.if-number-ge400.false c.count-n.ensures in record { fits = omega arith }
-
-pub overflow_add-place : goal.overflow_add-place
-overflow_add-place c =
-    let h = line-most _ c.loop-place-test.true c.end-stop.ensures in record { fits = omega arith }
 
 pub loop-place-preserved : goal.loop-place-preserved
 loop-place-preserved c =
