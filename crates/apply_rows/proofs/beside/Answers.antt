@@ -6,8 +6,8 @@ use Rattle.apply_rows.proofs.beside.Goals as goal
 
 pub returns-in-Left : goal.returns-in-Left
 unfolding beside_in
-returns-in-Left c = rw c.enum_told-1.given.1 c.prev.ensures
+returns-in-Left c = rw c.in-Left.is c.prev.ensures
 
 pub returns-in-Right : goal.returns-in-Right
 unfolding beside_in
-returns-in-Right c = rw c.enum_told-in-Right-1.given.1 c.next.ensures
+returns-in-Right c = rw c.in-Right.is c.next.ensures

@@ -9,11 +9,11 @@ pub returns-in-Refused : goal.returns-in-Refused
 returns-in-Refused c =
     let z = to_z-of_z c.ranges.z in
     sym (ask-refused _ _ _ _ _ _ _ _ _ c.ring_rows_short-short.ensures
-    (sym (rw z at c.check_point.ensures) ∙ c.r-1.given.1))
+    (sym (rw z at c.check_point.ensures) ∙ c.in-Refused.is))
 
 pub returns-in-Accepted : goal.returns-in-Accepted
 returns-in-Accepted c =
     let z = to_z-of_z c.ranges.z in
     c.check_changes.ensures
     ∙ sym (ask-changes _ _ _ _ _ _ _ _ _ c.ring_rows_short-short.ensures
-    (sym (rw z at c.check_point.ensures) ∙ c.enum_told-1.given.1))
+    (sym (rw z at c.check_point.ensures) ∙ c.in-Accepted.is))

@@ -8,10 +8,10 @@ pub returns-in-Refused : goal.returns-in-Refused
 returns-in-Refused c =
     let w = c.struct_told-1.given in
     tested-refused (to_z-of_z (sfits_of w.0.1)) (to_z-of_z (sfits_of w.1.0.1)) (to_z-of_z c.ranges.z) _ _ _ _ c.check_heights.ensures
-    c.r-1.given.1
+    c.in-Refused.is
 
 pub returns-in-Accepted : goal.returns-in-Accepted
 returns-in-Accepted c =
     let w = c.struct_told-1.given in
     tested-start (to_z-of_z (sfits_of w.0.1)) (to_z-of_z (sfits_of w.1.0.1)) (to_z-of_z c.ranges.z) _ _ _ _ c.check_heights.ensures
-    c.enum_told-1.given.1 c.check_start.ensures
+    c.in-Accepted.is c.check_start.ensures

@@ -12,8 +12,8 @@ vertex_angle-requires c = quote-center c.requires.start
 
 pub returns-in_default : goal.returns-in_default
 returns-in_default c o A =
-    let px = to_z-of_z (sfits_of c.struct_told-1.given.0.1) in let py = to_z-of_z (sfits_of c.struct_told-2-1.given.1.0.1) in
-    at-center _ _ _ c.vertex_angle.ensures.is px py c.enum_told-1.given.1 c.leave.ensures
+    let px = to_z-of_z (sfits_of c.type_inv.point.0.1) in let py = to_z-of_z (sfits_of c.type_inv.point.1.0.1) in
+    at-center _ _ _ c.vertex_angle.ensures.is px py c.in_default.is c.leave.ensures
 
 pub adjacent-start-requires : goal.adjacent-start-requires
 adjacent-start-requires c = started-face c.requires.start
@@ -25,7 +25,7 @@ pub located_edge-e-requires : goal.located_edge-e-requires
 located_edge-e-requires c =
     (
       quote-boundary c.requires.start c.adjacent-start.ensures,
-      carried c.vertex_angle.ensures.angle c.angle-1.given.1,
+      carried c.vertex_angle.ensures.angle c.in-Angle.is,
     )
 
 pub angle_at-from-requires : goal.angle_at-from-requires
@@ -43,13 +43,13 @@ angle_at-to-requires c =
 
 pub decide_at-requires : goal.decide_at-requires
 decide_at-requires c =
-    let px = to_z-of_z (sfits_of c.struct_told-1.given.0.1) in let py = to_z-of_z (sfits_of c.struct_told-2-1.given.1.0.1) in
-    asks_at _ _ c.vertex_angle.ensures.is px py c.angle-1.given.1 (carried c.vertex_angle.ensures.angle c.angle-1.given.1)
+    let px = to_z-of_z (sfits_of c.type_inv.point.0.1) in let py = to_z-of_z (sfits_of c.type_inv.point.1.0.1) in
+    asks_at _ _ c.vertex_angle.ensures.is px py c.in-Angle.is (carried c.vertex_angle.ensures.angle c.in-Angle.is)
     c.adjacent-start.ensures c.convex_hull_size-size.ensures c.located_edge-e.ensures
     c.next.ensures c.angle_at-from.ensures c.angle_at-to.ensures c.requires
 
 pub returns : goal.returns
 returns c =
-    let px = to_z-of_z (sfits_of c.struct_told-1.given.0.1) in let py = to_z-of_z (sfits_of c.struct_told-2-1.given.1.0.1) in
-    at-located _ _ c.vertex_angle.ensures.is px py c.angle-1.given.1 (carried c.vertex_angle.ensures.angle c.angle-1.given.1)
+    let px = to_z-of_z (sfits_of c.type_inv.point.0.1) in let py = to_z-of_z (sfits_of c.type_inv.point.1.0.1) in
+    at-located _ _ c.vertex_angle.ensures.is px py c.in-Angle.is (carried c.vertex_angle.ensures.angle c.in-Angle.is)
     c.adjacent-start.ensures c.convex_hull_size-size.ensures c.located_edge-e.ensures c.decide_at.ensures

@@ -6,10 +6,10 @@ use Rattle.bulk_load_rows.proofs.placed_after.Lts as lts
 use Rattle.bulk_load_rows.proofs.placed_after.Goals as goal
 
 pub overflow_add-result : goal.overflow_add-result
-overflow_add-result c = record { fits = c.requires _ c.finished-in-Refused-1.given.1 }
+overflow_add-result c = record { fits = c.requires _ c.in-Refused.is }
 
 pub returns-in-Accepted : goal.returns-in-Accepted
-returns-in-Accepted c = placed-accepted _ _ _ c.finished-1.given.1
+returns-in-Accepted c = placed-accepted _ _ _ c.in-Accepted.is
 
 pub returns-in-Refused : goal.returns-in-Refused
-returns-in-Refused c = placed-refused _ _ _ c.finished-in-Refused-1.given.1
+returns-in-Refused c = placed-refused _ _ _ c.in-Refused.is

@@ -6,22 +6,6 @@ use Rattle.bulk_load_rows.proofs.sweep_rest.Goals as goal
 pub center-center-requires : goal.center-center-requires
 center-center-requires c = c.requires.center
 
--- UNMATCHED slice-bounds-run-accepted-start
--- part-run-accepted-start : tie.Need-slice-bounds-run-accepted-start
--- part-run-accepted-start c = search rules
-
--- UNMATCHED slice-bounds-run-accepted-end
--- part-run-accepted-end : tie.Need-slice-bounds-run-accepted-end
--- part-run-accepted-end c = search rules
-
--- UNMATCHED slice-bounds-run-accepted-start-2
--- part-run-accepted-start-2 : tie.Need-slice-bounds-run-accepted-start-2
--- part-run-accepted-start-2 c = search rules
-
--- UNMATCHED slice-bounds-run-accepted-end-2
--- part-run-accepted-end-2 : tie.Need-slice-bounds-run-accepted-end-2
--- part-run-accepted-end-2 c = search rules
-
 pub run_accepted-done-requires : goal.run_accepted-done-requires
 run_accepted-done-requires c = rest-requires c.requires c.center-center.ensures
 

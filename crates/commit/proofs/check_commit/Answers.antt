@@ -9,17 +9,17 @@ use Rattle.commit.proofs.check_commit.Goals as goal
 pub quote_now-present-requires : goal.quote_now-present-requires
 quote_now-present-requires c =
     let z = to_z-of_z c.ranges.z in
-    record { outs = _; start = (point-accepts _ _ _ _ _ _ (sym (rw z at c.check_point.ensures) ∙ c.enum_told-1.given.1)).1 }
+    record { outs = _; start = (point-accepts _ _ _ _ _ _ (sym (rw z at c.check_point.ensures) ∙ c.in-Accepted.is)).1 }
 
 pub returns-in-Refused : goal.returns-in-Refused
 returns-in-Refused c =
     let z = to_z-of_z c.ranges.z in
     sym (commit-point-refused _ _ _ _ _ _ _ _ _ _ _ c.sweep_rows_short-short.ensures
-    (sym (rw z at c.check_point.ensures) ∙ c.r-1.given.1))
+    (sym (rw z at c.check_point.ensures) ∙ c.in-Refused.is))
 
 pub returns-in-Accepted : goal.returns-in-Accepted
 returns-in-Accepted c =
     let z = to_z-of_z c.ranges.z in
-    let k = sym (rw z at c.check_point.ensures) ∙ c.enum_told-1.given.1 in
+    let k = sym (rw z at c.check_point.ensures) ∙ c.in-Accepted.is in
     let present = rw z at (c.quote_now-present.ensures _ (point-accepts _ _ _ _ _ _ k).1) in
     c.check_quote.ensures ∙ sym (commit-point-accepted _ _ _ _ _ _ _ _ _ _ _ c.sweep_rows_short-short.ensures k present)

@@ -10,8 +10,8 @@ use Rattle.commit.proofs.is_counted.Goals as goal
 pub returns-in-Accepted : goal.returns-in-Accepted
 unfolding is_counted
 returns-in-Accepted c =
-    ap (λ (n : ℕ). eqb n 1) c.fate_number.ensures ∙ number-added _ ∙ ap is_counted (sym c.stepped-1.given.1)
+    ap (λ (n : ℕ). eqb n 1) c.fate_number.ensures ∙ number-added _ ∙ ap is_counted (sym c.in-Accepted.is)
 
 pub returns-in-Refused : goal.returns-in-Refused
 unfolding is_counted
-returns-in-Refused c = ap is_counted (sym c.stepped-in-Refused-1.given.1)
+returns-in-Refused c = ap is_counted (sym c.in-Refused.is)

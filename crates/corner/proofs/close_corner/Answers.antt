@@ -3,6 +3,9 @@ use borrow.Author.Rules.{rules}
 use Rattle.corner.proofs.Rows.{single-ready, legalize-ready, faces-fit-32, closed-row}
 use Rattle.corner.proofs.close_corner.Goals as goal
 
+pub create_single_face_between_edge_and_next-new-requires : goal.create_single_face_between_edge_and_next-new-requires
+create_single_face_between_edge_and_next-new-requires c = single-ready c.requires
+
 pub legalize_edges_after_removal-done-requires : goal.legalize_edges_after_removal-done-requires
 legalize_edges_after_removal-done-requires c =
     let f = c.create_single_face_between_edge_and_next-new in

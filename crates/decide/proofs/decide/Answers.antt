@@ -15,12 +15,12 @@ vertex_angle-requires c =
 
 pub returns-in_default : goal.returns-in_default
 returns-in_default c o a S =
-    let px = to_z-of_z (sfits_of c.struct_told-1.given.0.1) in let py = to_z-of_z (sfits_of c.struct_told-2-1.given.1.0.1) in
-    at-center _ _ _ c.vertex_angle.ensures.is px py c.enum_told-1.given.1 c.leave.ensures
+    let px = to_z-of_z (sfits_of c.type_inv.point.0.1) in let py = to_z-of_z (sfits_of c.type_inv.point.1.0.1) in
+    at-center _ _ _ c.vertex_angle.ensures.is px py c.in_default.is c.leave.ensures
 
 pub find-found-requires : goal.find-found-requires
 find-found-requires c =
-    (held-find c.requires.sweep.ring, angle-valid _ (carried c.vertex_angle.ensures.angle c.angle-1.given.1))
+    (held-find c.requires.sweep.ring, angle-valid _ (carried c.vertex_angle.ensures.angle c.in-Angle.is))
 
 pub load-node-requires : goal.load-node-requires
 load-node-requires c =
@@ -35,12 +35,12 @@ load-right-requires c =
 
 pub decide_at-requires : goal.decide_at-requires
 decide_at-requires c =
-    let px = to_z-of_z (sfits_of c.struct_told-1.given.0.1) in let py = to_z-of_z (sfits_of c.struct_told-2-1.given.1.0.1) in
-    asks_at _ _ _ c.vertex_angle.ensures.is px py c.angle-1.given.1 (carried c.vertex_angle.ensures.angle c.angle-1.given.1)
+    let px = to_z-of_z (sfits_of c.type_inv.point.0.1) in let py = to_z-of_z (sfits_of c.type_inv.point.1.0.1) in
+    asks_at _ _ _ c.vertex_angle.ensures.is px py c.in-Angle.is (carried c.vertex_angle.ensures.angle c.in-Angle.is)
     c.find-found.ensures c.load-node.ensures c.load-right.ensures c.requires
 
 pub returns : goal.returns
 returns c =
-    let px = to_z-of_z (sfits_of c.struct_told-1.given.0.1) in let py = to_z-of_z (sfits_of c.struct_told-2-1.given.1.0.1) in
-    at-located _ _ _ c.vertex_angle.ensures.is px py c.angle-1.given.1 (carried c.vertex_angle.ensures.angle c.angle-1.given.1)
+    let px = to_z-of_z (sfits_of c.type_inv.point.0.1) in let py = to_z-of_z (sfits_of c.type_inv.point.1.0.1) in
+    at-located _ _ _ c.vertex_angle.ensures.is px py c.in-Angle.is (carried c.vertex_angle.ensures.angle c.in-Angle.is)
     c.find-found.ensures c.load-node.ensures c.requires.range c.decide_at.ensures

@@ -12,17 +12,6 @@ use Rattle.decide.proofs.Deciding.{asks-left, asks-right, asks-fit, unsound, add
 use mir.Syntax.{w64}
 use Rattle.decide.proofs.decide_at.Goals as goal
 
-passed : (l : tie.Else3) {C : Counts} {o a : List ℕ}
-    → LocatedRows C (start l).args.positions.now o (start l).args.halves.now a (start l).args.center.x (start l).args.center.y
-    (start l).args.e (start l).args.size (start l).args.next (start l).args.point (start l).args.angle
-    → Passes (start l).args.positions.now o (start l).args.halves.now a (start l).args.point (start l).args.e
-passed l K =
-    let s = l.before in let j = s.before in let y = j.before in let i = y.before in
-    let x = i.before in let t = x.before in let r = t.before in
-    passes K (ends_at K r.before.origin-position.ensures r.rev.ensures t.origin-position2.ensures)
-    x.is-position.ensures i.if1.false y.is-position2.ensures j.if2.false
-    (to_z-of_z (sfits_of s.side-query.type-inv) ∙ s.side-query.ensures) l.if3.false
-
 pub origin_position-from-requires : goal.origin_position-from-requires
 origin_position-from-requires c = (here-about c.requires.located).from
 
@@ -62,26 +51,31 @@ walk_right-right-requires c =
 
 pub overflow_add-nodes : goal.overflow_add-nodes
 overflow_add-nodes c =
+    let passed : {C : Counts} {o a : List ℕ} → LocatedRows C c.args.positions.now o c.args.halves.now a c.args.center.x c.args.center.y c.args.e c.args.size c.args.next c.args.point c.args.angle → Passes c.args.positions.now o c.args.halves.now a c.args.point c.args.e = λ K. passes K (ends_at K c.origin_position-from.ensures c.rev.ensures c.origin_position-to.ensures) c.is_position.ensures c.if-is_position.false c.is_position-2.ensures c.if-is_position-2.false (to_z-of_z {w = w64} (sfits_of c.side_query.type_inv) ∙ c.side_query.ensures) c.if-side_query-le0.false in
     let K = c.requires.located in
-    let m = (asks-fit K (passed c K) c.walk_left-left.ensures c.walk_right-right.ensures).3 in
+    let m = (asks-fit K (passed K) c.walk_left-left.ensures c.walk_right-right.ensures).3 in
     record { fits = omega arith }
 
 pub overflow_add-nodes-2 : goal.overflow_add-nodes-2
 overflow_add-nodes-2 c =
+    let passed : {C : Counts} {o a : List ℕ} → LocatedRows C c.args.positions.now o c.args.halves.now a c.args.center.x c.args.center.y c.args.e c.args.size c.args.next c.args.point c.args.angle → Passes c.args.positions.now o c.args.halves.now a c.args.point c.args.e = λ K. passes K (ends_at K c.origin_position-from.ensures c.rev.ensures c.origin_position-to.ensures) c.is_position.ensures c.if-is_position.false c.is_position-2.ensures c.if-is_position-2.false (to_z-of_z {w = w64} (sfits_of c.side_query.type_inv) ∙ c.side_query.ensures) c.if-side_query-le0.false in
     let K = c.requires.located in
-    let m = (asks-fit K (passed c K) c.walk_left-left.ensures c.walk_right-right.ensures).3 in
+    let m = (asks-fit K (passed K) c.walk_left-left.ensures c.walk_right-right.ensures).3 in
     record { fits = omega arith }
 
 pub is_fit-requires : goal.is_fit-requires
 is_fit-requires c =
+    let passed : {C : Counts} {o a : List ℕ} → LocatedRows C c.args.positions.now o c.args.halves.now a c.args.center.x c.args.center.y c.args.e c.args.size c.args.next c.args.point c.args.angle → Passes c.args.positions.now o c.args.halves.now a c.args.point c.args.e = λ K. passes K (ends_at K c.origin_position-from.ensures c.rev.ensures c.origin_position-to.ensures) c.is_position.ensures c.if-is_position.false c.is_position-2.ensures c.if-is_position-2.false (to_z-of_z {w = w64} (sfits_of c.side_query.type_inv) ∙ c.side_query.ensures) c.if-side_query-le0.false in
     let K = c.requires.located in
-    asks-fit K (passed c K) c.walk_left-left.ensures c.walk_right-right.ensures
+    asks-fit K (passed K) c.walk_left-left.ensures c.walk_right-right.ensures
 
 pub returns-then-not-is_fit : goal.returns-then-not-is_fit
 returns-then-not-is_fit c C o a K =
-    unsound K (passed c K) c.walk_left-left.ensures c.walk_right-right.ensures c.is_fit.ensures c.if-not-is_fit.true-raw
+    let passed : {C : Counts} {o a : List ℕ} → LocatedRows C c.args.positions.now o c.args.halves.now a c.args.center.x c.args.center.y c.args.e c.args.size c.args.next c.args.point c.args.angle → Passes c.args.positions.now o c.args.halves.now a c.args.point c.args.e = λ K. passes K (ends_at K c.origin_position-from.ensures c.rev.ensures c.origin_position-to.ensures) c.is_position.ensures c.if-is_position.false c.is_position-2.ensures c.if-is_position-2.false (to_z-of_z {w = w64} (sfits_of c.side_query.type_inv) ∙ c.side_query.ensures) c.if-side_query-le0.false in
+    unsound K (passed K) c.walk_left-left.ensures c.walk_right-right.ensures c.is_fit.ensures c.if-not-is_fit.true-raw
     c.leave-then-not-is_fit.ensures
 
 pub returns : goal.returns
 returns c C o a K =
-    added K (passed c K) c.walk_left-left.ensures c.walk_right-right.ensures c.is_fit.ensures c.if-not-is_fit.false-raw
+    let passed : {C : Counts} {o a : List ℕ} → LocatedRows C c.args.positions.now o c.args.halves.now a c.args.center.x c.args.center.y c.args.e c.args.size c.args.next c.args.point c.args.angle → Passes c.args.positions.now o c.args.halves.now a c.args.point c.args.e = λ K. passes K (ends_at K c.origin_position-from.ensures c.rev.ensures c.origin_position-to.ensures) c.is_position.ensures c.if-is_position.false c.is_position-2.ensures c.if-is_position-2.false (to_z-of_z {w = w64} (sfits_of c.side_query.type_inv) ∙ c.side_query.ensures) c.if-side_query-le0.false in
+    added K (passed K) c.walk_left-left.ensures c.walk_right-right.ensures c.is_fit.ensures c.if-not-is_fit.false-raw

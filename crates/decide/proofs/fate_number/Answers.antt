@@ -5,20 +5,20 @@ use Rattle.decide.proofs.fate_number.Goals as goal
 
 pub returns-in-Added : goal.returns-in-Added
 unfolding fate_number
-returns-in-Added c = rw c.enum_told-1.given.1
+returns-in-Added c = rw c.in-Added.is
 
 pub returns-in-Dropped : goal.returns-in-Dropped
 unfolding fate_number
-returns-in-Dropped c = rw c.enum_told-in-Dropped-1.given.1
+returns-in-Dropped c = rw c.in-Dropped.is
 
 pub returns-in-NotLeft : goal.returns-in-NotLeft
 unfolding fate_number
-returns-in-NotLeft c = rw c.enum_told-in-NotLeft-1.given.1
+returns-in-NotLeft c = rw c.in-NotLeft.is
 
 pub returns-in-Unsound : goal.returns-in-Unsound
 unfolding fate_number
-returns-in-Unsound c = rw c.enum_told-in-Unsound-1.given.1
+returns-in-Unsound c = rw c.in-Unsound.is
 
 pub returns-in-AtCenter : goal.returns-in-AtCenter
 unfolding fate_number
-returns-in-AtCenter c = rw c.enum_told-in-AtCenter-1.given.1
+returns-in-AtCenter c = rw c.in-AtCenter.is

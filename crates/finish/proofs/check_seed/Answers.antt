@@ -3,14 +3,6 @@ use borrow.Author.Rules.{rules}
 use Rattle.finish.specs.Finish.{seed_checked}
 use Rattle.finish.proofs.check_seed.Goals as goal
 
--- UNMATCHED slice-bounds-none-start
--- part-none-start : tie.Need-slice-bounds-none-start
--- part-none-start c = search rules
-
--- UNMATCHED slice-bounds-none-end
--- part-none-end : tie.Need-slice-bounds-none-end
--- part-none-end c = search rules
-
 pub returns : goal.returns
 unfolding seed_checked
 returns c = rw (← c.is_short.ensures) c.check_with.ensures

@@ -23,10 +23,10 @@ pub shape_of-pending-in-Refused : goal.shape_of-pending-in-Refused
 shape_of-pending-in-Refused c = refl
 
 pub returns-in-Refused : goal.returns-in-Refused
-returns-in-Refused c = refused-outcome _ _ _ _ (sym c.refusal-1.given.1 ∙ c.check_seed.ensures)
+returns-in-Refused c = refused-outcome _ _ _ _ (sym c.in-Refused.is ∙ c.check_seed.ensures)
 
 pub finish_mesh-ended-requires : goal.finish_mesh-ended-requires
-finish_mesh-ended-requires c = accepted-ready _ _ _ (sym c.enum_told-1.given.1 ∙ c.check_seed.ensures)
+finish_mesh-ended-requires c = accepted-ready _ _ _ (sym c.in-Accepted.is ∙ c.check_seed.ensures)
 
 pub clear-requires : goal.clear-requires
 clear-requires c = tt
@@ -49,5 +49,5 @@ shape_of-pending c = c.clear.auto.0 ∙ c.finish_mesh-ended.auto.1.1.1.1.0
 pub returns : goal.returns
 returns c =
     let m = c.finish_mesh-ended in
-    accepted-outcome _ _ _ (sym c.enum_told-1.given.1 ∙ c.check_seed.ensures) _ _ _ _ _ _
+    accepted-outcome _ _ _ (sym c.in-Accepted.is ∙ c.check_seed.ensures) _ _ _ _ _ _
     m.ensures m.auto.1.0 m.auto.1.1.0 m.auto.1.1.1.0 (c.clear.ensures ∙ ap (λ (n : ℕ). replicate {A = ℕ} n 0) m.auto.1.1.1.1.0) (c.answer_of.ensures _ _ _)

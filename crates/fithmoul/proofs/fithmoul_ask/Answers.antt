@@ -10,10 +10,10 @@ pub returns-in-Refused : goal.returns-in-Refused
 returns-in-Refused c =
     let f = c.ranges in
     let e = rw (to_z-of_z f.x, to_z-of_z f.y, to_z-of_z f.z) at c.ask-asked.ensures in
-    ask-exported (ask-none _ _ _ _ _ _ _ e c.asked-1.given.1) c.ask_result.ensures
+    ask-exported (ask-none _ _ _ _ _ _ _ e c.in-Refused.is) c.ask_result.ensures
 
 pub returns : goal.returns
 returns c =
     let f = c.ranges in
     let e = rw (to_z-of_z f.x, to_z-of_z f.y, to_z-of_z f.z) at c.ask-asked.ensures in
-    ask-exported (ask-made _ _ _ _ _ _ _ e c.enum_told-1.given.1 c.clear_ring.ensures) c.ask_result-2.ensures
+    ask-exported (ask-made _ _ _ _ _ _ _ e c.in_default.is c.clear_ring.ensures) c.ask_result-2.ensures

@@ -9,12 +9,12 @@ use Rattle.fithmoul.proofs.fithmoul_bulk_load.Goals as goal
 
 pub returns-in-Refused : goal.returns-in-Refused
 returns-in-Refused c =
-    let e = sym (c.check_bulk_load-checked.ensures _ (lent-self _)) ∙ c.checked-1.given.1 in
+    let e = sym (c.check_bulk_load-checked.ensures _ (lent-self _)) ∙ c.in-Refused.is in
     let x = load-exported (refused-is _ e) c.bulk_load_refused.ensures in
     (x.0, x.1, (λ z y. accepted-load _ _ x.0 z y), λ y. lined-load _ _ x.0 y)
 
 pub load-answer-requires : goal.load-answer-requires
-load-answer-requires c = sym (c.check_bulk_load-checked.ensures _ (lent-self _)) ∙ c.enum_told-1.given.1
+load-answer-requires c = sym (c.check_bulk_load-checked.ensures _ (lent-self _)) ∙ c.in_default.is
 
 pub returns : goal.returns
 returns c =

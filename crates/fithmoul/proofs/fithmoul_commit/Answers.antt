@@ -12,31 +12,31 @@ pub returns-in-Refused : goal.returns-in-Refused
 returns-in-Refused c =
     let f = c.ranges in
     let e = rw (to_z-of_z f.x, to_z-of_z f.y, to_z-of_z f.z) at c.check_commit-checked.ensures in
-    commit-exported (sym (commit-none _ _ _ _ _ _ _ _ _ (sym e ∙ c.checked-1.given.1))) c.commit_refused.ensures
+    commit-exported (sym (commit-none _ _ _ _ _ _ _ _ _ (sym e ∙ c.in-Refused.is))) c.commit_refused.ensures
 
 pub sweep_once-progress-requires : goal.sweep_once-progress-requires
 sweep_once-progress-requires c =
     let f = c.ranges in
     let e = rw (to_z-of_z f.x, to_z-of_z f.y, to_z-of_z f.z) at c.check_commit-checked.ensures in
-    rw (to_z-of_z f.x, to_z-of_z f.y) (commit-sweep _ _ _ _ _ _ _ _ _ _ _ (sym e ∙ c.enum_told-1.given.1))
+    rw (to_z-of_z f.x, to_z-of_z f.y) (commit-sweep _ _ _ _ _ _ _ _ _ _ _ (sym e ∙ c.in_default.is))
 
 pub store_height-requires : goal.store_height-requires
 store_height-requires c =
     let f = c.ranges in
     let e = rw (to_z-of_z f.x, to_z-of_z f.y, to_z-of_z f.z) at c.check_commit-checked.ensures in
-    commit-room _ _ _ _ _ _ _ _ _ _ _ (sym e ∙ c.enum_told-1.given.1)
+    commit-room _ _ _ _ _ _ _ _ _ _ _ (sym e ∙ c.in_default.is)
 
 pub commit_result-requires : goal.commit_result-requires
 commit_result-requires c =
     let f = c.ranges in
     let e = rw (to_z-of_z f.x, to_z-of_z f.y, to_z-of_z f.z) at c.check_commit-checked.ensures in
-    commit-below _ _ _ _ _ _ _ _ _ _ _ (sym e ∙ c.enum_told-1.given.1) (let a = f.changes in omega arith)
+    commit-below _ _ _ _ _ _ _ _ _ _ _ (sym e ∙ c.in_default.is) (let a = f.changes in omega arith)
 
 pub returns : goal.returns
 returns c =
     let f = c.ranges in
     let e = rw (to_z-of_z f.x, to_z-of_z f.y, to_z-of_z f.z) at c.check_commit-checked.ensures in
-    let E = sym e ∙ c.enum_told-1.given.1 in
+    let E = sym e ∙ c.in_default.is in
     let w = c.sweep_once-progress in
     let b = swept-outcome _ _ _ _ _ _ (commit-own _ _ _ _ _ _ _ _ _ _ _ E) (rw (to_z-of_z f.x, to_z-of_z f.y) at w.ensures)
     (record { positions = w.auto.0; outs = w.auto.1.0; halves = w.auto.1.1.0; faces = w.auto.1.1.1.0 })

@@ -7,9 +7,9 @@ use Rattle.fithmoul.proofs.fithmoul_finish.Goals as goal
 
 pub returns-in-Refused : goal.returns-in-Refused
 returns-in-Refused c =
-    finish-exported (sym (finish-refused _ _ _ (sym c.check_finish-checked.ensures ∙ c.checked-1.given.1))) c.finish_refused.ensures
+    finish-exported (sym (finish-refused _ _ _ (sym c.check_finish-checked.ensures ∙ c.in-Refused.is))) c.finish_refused.ensures
 
 pub returns : goal.returns
 returns c =
-    finish-exported (c.finish-answer.ensures ∙ sym (finish-own _ _ _ (sym c.check_finish-checked.ensures ∙ c.enum_told-1.given.1)))
+    finish-exported (c.finish-answer.ensures ∙ sym (finish-own _ _ _ (sym c.check_finish-checked.ensures ∙ c.in_default.is)))
     c.finish_result.ensures

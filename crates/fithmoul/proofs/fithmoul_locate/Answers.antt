@@ -7,9 +7,9 @@ use Rattle.fithmoul.proofs.fithmoul_locate.Goals as goal
 
 pub returns-in-Refused : goal.returns-in-Refused
 returns-in-Refused c =
-    locate-exported (sym (locate-refused _ _ _ _ _ (sym c.check_locate-checked.ensures ∙ c.checked-1.given.1))) c.locate_refused.ensures
+    locate-exported (sym (locate-refused _ _ _ _ _ (sym c.check_locate-checked.ensures ∙ c.in-Refused.is))) c.locate_refused.ensures
 
 pub returns : goal.returns
 returns c =
-    locate-exported (c.locate-located.ensures ∙ sym (locate-own _ _ _ _ _ (sym c.check_locate-checked.ensures ∙ c.enum_told-1.given.1)))
+    locate-exported (c.locate-located.ensures ∙ sym (locate-own _ _ _ _ _ (sym c.check_locate-checked.ensures ∙ c.in_default.is)))
     c.locate_result.ensures

@@ -15,7 +15,7 @@ use Rattle.fithmoul.proofs.fithmoul_run.Goals as goal
 pub returns-in-Refused : goal.returns-in-Refused
 returns-in-Refused c =
     let e = rw c.answers_short-few.ensures at c.check_run-checked.ensures in
-    let x = run-exported _ (sym (run-refused _ (sym e ∙ c.checked-1.given.1))) c.run_refused.ensures in
+    let x = run-exported _ (sym (run-refused _ (sym e ∙ c.in-Refused.is))) c.run_refused.ensures in
     (x.0, x.1, λ z. accepted-run _ _ _ x.0 z)
 
 pub store_run-requires : goal.store_run-requires
@@ -25,12 +25,12 @@ store_run-requires c =
     let a = c.args in
     subst⁻¹ (λ (w : RunOutcome).
     StoreReady (point_count a.points.now) (length a.heights.now) (length a.point-heights.now) w.answers w.answer)
-    b (store-ready _ (sym e ∙ c.enum_told-1.given.1))
+    b (store-ready _ (sym e ∙ c.in_default.is))
 
 pub returns : goal.returns
 returns c =
     let e = rw c.answers_short-few.ensures at c.check_run-checked.ensures in
-    let E = sym e ∙ c.enum_told-1.given.1 in
+    let E = sym e ∙ c.in_default.is in
     let b = c.run-answer.ensures.is in
     let a = c.args in
     let h =

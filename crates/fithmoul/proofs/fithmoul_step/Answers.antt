@@ -11,19 +11,19 @@ pub returns-in-Refused : goal.returns-in-Refused
 returns-in-Refused c =
     let f = c.ranges in
     let e = rw (to_z-of_z f.x, to_z-of_z f.y, to_z-of_z f.z) at c.check_step-checked.ensures in
-    step-exported (sym (step-refused _ _ _ _ _ _ _ (sym e ∙ c.checked-1.given.1))) c.step_refused.ensures
+    step-exported (sym (step-refused _ _ _ _ _ _ _ (sym e ∙ c.in-Refused.is))) c.step_refused.ensures
 
 pub store_height-requires : goal.store_height-requires
 store_height-requires c =
     let f = c.ranges in
     let e = rw (to_z-of_z f.x, to_z-of_z f.y, to_z-of_z f.z) at c.check_step-checked.ensures in
-    step_room _ _ _ _ _ (sym e ∙ c.enum_told-1.given.1)
+    step_room _ _ _ _ _ (sym e ∙ c.in_default.is)
 
 pub returns : goal.returns
 returns c =
     let f = c.ranges in
     let e = rw (to_z-of_z f.x, to_z-of_z f.y, to_z-of_z f.z) at c.check_step-checked.ensures in
-    let E = sym e ∙ c.enum_told-1.given.1 in
+    let E = sym e ∙ c.in_default.is in
     let b = rw (to_z-of_z f.x, to_z-of_z f.y) at c.step-answer.ensures in
     let h = rw (to_z-of_z f.z) at c.store_height.ensures in
     step-exported

@@ -9,11 +9,11 @@ insert_when_all_vertices_on_line-requires c =
 
 pub returns-in-0 : goal.returns-in-0
 returns-in-0 c =
-    none-grown _ _ _ _ c.in-0.keys1 (c.insert_first_vertex.ensures _)
+    none-grown _ _ _ _ c.in-0.is (c.insert_first_vertex.ensures _)
 
 pub returns-in-1 : goal.returns-in-1
 returns-in-1 c =
-    one-grown _ _ _ _ c.in-1.keys2 c.insert_second_vertex.ensures
+    one-grown _ _ _ _ c.in-1.is c.insert_second_vertex.ensures
 
 pub returns-in_default : goal.returns-in_default
 returns-in_default c =

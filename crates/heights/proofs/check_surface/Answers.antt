@@ -4,16 +4,8 @@ use mathlib.Core.Path.{sym, ◌∙◌}
 use Rattle.heights.specs.HeightsLaws.{surface-refused, surface-next}
 use Rattle.heights.proofs.check_surface.Goals as goal
 
--- UNMATCHED slice-bounds-none-start
--- part-none-start : tie.Need-slice-bounds-none-start
--- part-none-start c = search rules
-
--- UNMATCHED slice-bounds-none-end
--- part-none-end : tie.Need-slice-bounds-none-end
--- part-none-end c = search rules
-
 pub returns-in-Refused : goal.returns-in-Refused
-returns-in-Refused c = surface-refused _ _ _ (sym c.check_heights.ensures ∙ c.r-1.given.1)
+returns-in-Refused c = surface-refused _ _ _ (sym c.check_heights.ensures ∙ c.in-Refused.is)
 
 pub returns-in-Accepted : goal.returns-in-Accepted
-returns-in-Accepted c = c.check.ensures ∙ surface-next _ _ _ (sym c.check_heights.ensures ∙ c.enum_told-1.given.1)
+returns-in-Accepted c = c.check.ensures ∙ surface-next _ _ _ (sym c.check_heights.ensures ∙ c.in-Accepted.is)

@@ -11,8 +11,8 @@ use Rattle.hull.proofs.angle_at.Goals as goal
 pub angle_about-requires : goal.angle_about-requires
 angle_about-requires c =
     let P = c.requires in
-    (P.valid, subst (λ (t : Bool). T (not t)) (sym (center-at _ _ _ c.origin-v.ensures c.position-p.ensures (to_z-of_z (sfits_of c.struct_told-1.given.0.1)) (to_z-of_z (sfits_of c.struct_told-2-1.given.1.0.1)) _ _)) P.apart)
+    (P.valid, subst (λ (t : Bool). T (not t)) (sym (center-at _ _ _ c.origin-v.ensures c.position-p.ensures (to_z-of_z (sfits_of c.type_inv.p.0.1)) (to_z-of_z (sfits_of c.type_inv.p.1.0.1)) _ _)) P.apart)
 
 pub returns : goal.returns
 returns c =
-    angle-is _ _ _ c.origin-v.ensures c.position-p.ensures (to_z-of_z (sfits_of c.struct_told-1.given.0.1)) (to_z-of_z (sfits_of c.struct_told-2-1.given.1.0.1)) c.angle_about.ensures.is c.angle_about.ensures.angle
+    angle-is _ _ _ c.origin-v.ensures c.position-p.ensures (to_z-of_z (sfits_of c.type_inv.p.0.1)) (to_z-of_z (sfits_of c.type_inv.p.1.0.1)) c.angle_about.ensures.is c.angle_about.ensures.angle

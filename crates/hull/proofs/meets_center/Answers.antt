@@ -21,7 +21,7 @@ is_at_center-requires c = tt
 
 pub returns-then-is_at_center : goal.returns-then-is_at_center
 returns-then-is_at_center c =
-    met c.loop-k.invariant (c.is_at_center.ensures ∙ center-at _ _ _ c.origin-v.ensures c.position-p.ensures (to_z-of_z (sfits_of c.struct_told-1.given.0.1)) (to_z-of_z (sfits_of c.struct_told-in-loop-k-1.given.1.0.1)) _ _) c.loop-k-test.true c.if-is_at_center.true
+    met c.loop-k.invariant (c.is_at_center.ensures ∙ center-at _ _ _ c.origin-v.ensures c.position-p.ensures (to_z-of_z (sfits_of c.type_inv.p.0.1)) (to_z-of_z (sfits_of c.type_inv.p.1.0.1)) _ _) c.loop-k-test.true c.if-is_at_center.true
 
 pub next-e-requires : goal.next-e-requires
 next-e-requires c = there c.loop-k.invariant
@@ -34,7 +34,7 @@ loop-k-smaller c = let a = c.loop-k-test.true in omega arith
 
 pub loop-k-preserved : goal.loop-k-preserved
 loop-k-preserved c =
-    meeting c.loop-k.invariant (c.is_at_center.ensures ∙ center-at _ _ _ c.origin-v.ensures c.position-p.ensures (to_z-of_z (sfits_of c.struct_told-1.given.0.1)) (to_z-of_z (sfits_of c.struct_told-in-loop-k-1.given.1.0.1)) _ _) c.loop-k-test.true c.if-is_at_center.false c.next-e.ensures
+    meeting c.loop-k.invariant (c.is_at_center.ensures ∙ center-at _ _ _ c.origin-v.ensures c.position-p.ensures (to_z-of_z (sfits_of c.type_inv.p.0.1)) (to_z-of_z (sfits_of c.type_inv.p.1.0.1)) _ _) c.loop-k-test.true c.if-is_at_center.false c.next-e.ensures
 
 pub returns : goal.returns
 returns c = unmet c.loop-k.invariant c.loop-k-test.false

@@ -10,5 +10,5 @@ pub returns : goal.returns
 unfolding center_of
 returns c =
     ap₂ (λ (x y : Float). record { x = x; y = y })
-    (c.center_coordinate.ensures ∙ ap center_coordinate (to_z-of_z (sfits_of c.struct_told-1.given.0.1)))
-    (c.center_coordinate-2.ensures ∙ ap center_coordinate (to_z-of_z (sfits_of c.struct_told-2-1.given.1.0.1)))
+    (c.center_coordinate.ensures ∙ ap center_coordinate (to_z-of_z (sfits_of c.type_inv.sum.0.1)))
+    (c.center_coordinate-2.ensures ∙ ap center_coordinate (to_z-of_z (sfits_of c.type_inv.sum.1.0.1)))

@@ -20,10 +20,10 @@ unfolding last_three
 returns c =
     ap₂ (λ (x y : ℤ). record { x = x; y = y })
     (to_z-of_z {w = w64} (sfits_of c.add_three.type_inv) ∙ c.add_three.ensures
-    ∙ sums (to_z-of_z (sfits_of c.struct_told-1.given.0.1) ∙ ap x_of c.position-a.ensures)
-    (to_z-of_z (sfits_of c.struct_told-2-1.given.0.1) ∙ ap x_of c.position-b.ensures)
-    (to_z-of_z (sfits_of c.struct_told-3-1.given.0.1) ∙ ap x_of c.position-c.ensures))
+    ∙ sums (to_z-of_z (sfits_of c.type_inv.a.0.1) ∙ ap x_of c.position-a.ensures)
+    (to_z-of_z (sfits_of c.type_inv.b.0.1) ∙ ap x_of c.position-b.ensures)
+    (to_z-of_z (sfits_of c.type_inv.c.0.1) ∙ ap x_of c.position-c.ensures))
     (to_z-of_z {w = w64} (sfits_of c.add_three-2.type_inv) ∙ c.add_three-2.ensures
-    ∙ sums (to_z-of_z (sfits_of c.struct_told-4-1.given.1.0.1) ∙ ap y_of c.position-a.ensures)
-    (to_z-of_z (sfits_of c.struct_told-5-1.given.1.0.1) ∙ ap y_of c.position-b.ensures)
-    (to_z-of_z (sfits_of c.struct_told-6-1.given.1.0.1) ∙ ap y_of c.position-c.ensures))
+    ∙ sums (to_z-of_z (sfits_of c.type_inv.a.1.0.1) ∙ ap y_of c.position-a.ensures)
+    (to_z-of_z (sfits_of c.type_inv.b.1.0.1) ∙ ap y_of c.position-b.ensures)
+    (to_z-of_z (sfits_of c.type_inv.c.1.0.1) ∙ ap y_of c.position-c.ensures))

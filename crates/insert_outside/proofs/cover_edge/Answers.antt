@@ -3,6 +3,9 @@ use borrow.Author.Rules.{rules}
 use Rattle.insert_outside.proofs.CoverRows.{single-ready, legalize-ready, faces-fit-32, covered-row}
 use Rattle.insert_outside.proofs.cover_edge.Goals as goal
 
+pub create_single_face_between_edge_and_next-new-requires : goal.create_single_face_between_edge_and_next-new-requires
+create_single_face_between_edge_and_next-new-requires c = single-ready c.requires
+
 pub legalize_edge-done-requires : goal.legalize_edge-done-requires
 legalize_edge-done-requires c =
     let x = c.create_single_face_between_edge_and_next-new in

@@ -26,16 +26,16 @@ module _ (a b : Point) {u v : ℤ} (p : u ≡ a.x) (q : v ≡ b.x) where
 
 pub returns-then-a-b : goal.returns-then-a-b
 returns-then-a-b c =
-    let A = c.struct_told-1.given in let B = c.struct_told-2-1.given in
+    let A = c.type_inv.a in let B = c.type_inv.b in
     by-x _ _ (to_z-of_z (sfits_of A.0.1)) (to_z-of_z (sfits_of B.0.1)) c.if-a-b.true
 
 pub returns-then-a-b-2 : goal.returns-then-a-b-2
 returns-then-a-b-2 c =
-    let A = c.struct_told-1.given in let B = c.struct_told-2-1.given in
+    let A = c.type_inv.a in let B = c.type_inv.b in
     by-y _ _ (to_z-of_z (sfits_of A.0.1)) (to_z-of_z (sfits_of B.0.1)) c.if-a-b.false c.if-a-b-2.true
     (to_z-of_z (sfits_of A.1.0.1)) (to_z-of_z (sfits_of B.1.0.1))
 
 pub returns-else-a-b-2 : goal.returns-else-a-b-2
 returns-else-a-b-2 c =
-    let A = c.struct_told-1.given in let B = c.struct_told-2-1.given in
+    let A = c.type_inv.a in let B = c.type_inv.b in
     by-neither _ _ (to_z-of_z (sfits_of A.0.1)) (to_z-of_z (sfits_of B.0.1)) c.if-a-b.false c.if-a-b-2.false

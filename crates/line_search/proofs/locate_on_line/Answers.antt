@@ -8,13 +8,13 @@ neighbors_of-found-requires c = vertices-ready c.requires
 
 pub at_neighbors-requires : goal.at_neighbors-requires
 at_neighbors-requires c =
-    neighbors-ready c.requires c.neighbors_of-found.ensures c.found-in-Between-1.given.1
+    neighbors-ready c.requires c.neighbors_of-found.ensures c.in-Between.is
 
 pub returns-in-Vertex : goal.returns-in-Vertex
 returns-in-Vertex c =
-    place-vertex c.requires c.neighbors_of-found.ensures c.found-1.given.1
+    place-vertex c.requires c.neighbors_of-found.ensures c.in-Vertex.is
 
 pub returns-in-Between : goal.returns-in-Between
 returns-in-Between c =
-    place-between c.requires c.neighbors_of-found.ensures c.found-in-Between-1.given.1
+    place-between c.requires c.neighbors_of-found.ensures c.in-Between.is
     c.at_neighbors.ensures

@@ -12,5 +12,5 @@ pub returns : goal.returns
 unfolding row_of
 returns c =
     let a = answer_words * c.args.i in
-    let g = c.shared_slice_known-4-1.given in
+    let g = c.type_inv.answers in
     record { is = answer-is _ _; short = point-length _ (omega (arith, c.ranges.i)) (omega (arith, g a)) (omega (arith, g (a + 1))) (omega (arith, g (a + 2))) (omega (arith, g (a + 3))) }

@@ -7,10 +7,10 @@ use Rattle.listing_run.proofs.Runs.{listing-refused, listing-accepted}
 use Rattle.listing_run.proofs.list_answer.Goals as goal
 
 pub list_accepted-requires : goal.list_accepted-requires
-list_accepted-requires c = c.requires _ c.finished-in-Accepted-1.given.1
+list_accepted-requires c = c.requires _ c.in-Accepted.is
 
 pub returns-in-Refused : goal.returns-in-Refused
-returns-in-Refused c = record { is = λ o g p. appended-as (listing-refused _ _ c.finished-1.given.1) c.put_refusal.ensures; short = λ o g p. short-at (listing-refused _ _ c.finished-1.given.1) (refusal-short _ _ (omega arith) (omega arith) (omega arith)) }
+returns-in-Refused c = record { is = λ o g p. appended-as (listing-refused _ _ c.in-Refused.is) c.put_refusal.ensures; short = λ o g p. short-at (listing-refused _ _ c.in-Refused.is) (refusal-short _ _ (omega arith) (omega arith) (omega arith)) }
 
 pub returns-in-Accepted : goal.returns-in-Accepted
-returns-in-Accepted c = record { is = λ o g p. appended-as (listing-accepted _ _ c.finished-in-Accepted-1.given.1) (c.list_accepted.ensures.is o); short = λ o g p. short-at (listing-accepted _ _ c.finished-in-Accepted-1.given.1) (c.list_accepted.ensures.short o) }
+returns-in-Accepted c = record { is = λ o g p. appended-as (listing-accepted _ _ c.in-Accepted.is) (c.list_accepted.ensures.is o); short = λ o g p. short-at (listing-accepted _ _ c.in-Accepted.is) (c.list_accepted.ensures.short o) }

@@ -7,14 +7,6 @@ use Rattle.listing_run.proofs.Rows.{appended-as}
 use Rattle.listing_run.proofs.Seed.{points-few, seed-lent}
 use Rattle.listing_run.proofs.list_seed.Goals as goal
 
--- UNMATCHED slice-bounds-list-lent-start
--- part-list-lent-start : tie.Need-slice-bounds-list-lent-start
--- part-list-lent-start c = search rules
-
--- UNMATCHED slice-bounds-list-lent-end
--- part-list-lent-end : tie.Need-slice-bounds-list-lent-end
--- part-list-lent-end c = search rules
-
 pub list_lent-requires : goal.list_lent-requires
 list_lent-requires c = points-few c.args.numbers.now c.requires.in_bounds.0 c.requires.in_bounds.1
 

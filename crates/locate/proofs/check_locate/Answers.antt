@@ -4,16 +4,8 @@ use mathlib.Core.Path.{sym, ◌∙◌}
 use Rattle.mesh_check.specs.CheckLaws.{then_next, then-refused}
 use Rattle.locate.proofs.check_locate.Goals as goal
 
--- UNMATCHED slice-bounds-none-start
--- part-none-start : tie.Need-slice-bounds-none-start
--- part-none-start c = search rules
-
--- UNMATCHED slice-bounds-none-end
--- part-none-end : tie.Need-slice-bounds-none-end
--- part-none-end c = search rules
-
 pub returns-in-Refused : goal.returns-in-Refused
-returns-in-Refused c = sym (then-refused _ (sym c.check_start.ensures ∙ c.r-1.given.1))
+returns-in-Refused c = sym (then-refused _ (sym c.check_start.ensures ∙ c.in-Refused.is))
 
 pub returns-in-Accepted : goal.returns-in-Accepted
-returns-in-Accepted c = c.check_angle.ensures ∙ sym (then_next _ (sym c.check_start.ensures ∙ c.enum_told-1.given.1))
+returns-in-Accepted c = c.check_angle.ensures ∙ sym (then_next _ (sym c.check_start.ensures ∙ c.in-Accepted.is))

@@ -16,3 +16,56 @@ floored_bucket-bucket-requires c = (c.requires.1, c.requires.0.counted)
 
 pub loop-node-init : goal.loop-node-init
 loop-node-init c = λ len size R. begin _ R
+
+pub load-node-requires : goal.load-node-requires
+unfolding row_of
+load-node-requires c =
+    let P = c.requires in
+    let K = c.loop-node.invariant _ _ (bucket-ring P.0 c.floored_bucket-bucket.result c.floored_bucket-bucket.ensures.whole.1) in
+    let A = to-test _ K.ring P.0.node-room (handle-on K) P.1 in A.here
+
+pub load-next-requires : goal.load-next-requires
+unfolding row_of
+load-next-requires c =
+    let P = c.requires in
+    let K = c.loop-node.invariant _ _ (bucket-ring P.0 c.floored_bucket-bucket.result c.floored_bucket-bucket.ensures.whole.1) in
+    let A = to-test _ K.ring P.0.node-room (handle-on K) P.1 in rw c.load-node.ensures A.there
+
+pub new-segment-requires : goal.new-segment-requires
+unfolding row_of
+new-segment-requires c =
+    let P = c.requires in
+    let K = c.loop-node.invariant _ _ (bucket-ring P.0 c.floored_bucket-bucket.result c.floored_bucket-bucket.ensures.whole.1) in
+    let A = to-test _ K.ring P.0.node-room (handle-on K) P.1 in asks-segment _ _ c.load-node.ensures c.load-next.ensures A
+
+pub contains_angle-requires : goal.contains_angle-requires
+contains_angle-requires c =
+    (c.new-segment.ensures.angles.0, c.requires.1)
+
+pub returns-then-contains_angle : goal.returns-then-contains_angle
+unfolding row_of
+returns-then-contains_angle c =
+    let P = c.requires in
+    let K = c.loop-node.invariant _ _ (bucket-ring P.0 c.floored_bucket-bucket.result c.floored_bucket-bucket.ensures.whole.1) in
+    rw (← c.floored_bucket-bucket.ensures.whole.0)
+    (found K c.load-node.ensures (tested _ _ c.load-node.ensures c.load-next.ensures c.new-segment.result _ c.new-segment.ensures.angles.1 c.contains_angle.ensures.whole) c.if-contains_angle.true)
+
+pub overflow_add-passed : goal.overflow_add-passed
+unfolding row_of
+overflow_add-passed c =
+    let P = c.requires in
+    let K = c.loop-node.invariant _ _ (bucket-ring P.0 c.floored_bucket-bucket.result c.floored_bucket-bucket.ensures.whole.1) in
+    record { fits = let l = K.less in let m = K.ring.size_small in omega arith }
+
+pub loop-node-smaller : goal.loop-node-smaller
+unfolding row_of
+loop-node-smaller c =
+    let P = c.requires in
+    let K = c.loop-node.invariant _ _ (bucket-ring P.0 c.floored_bucket-bucket.result c.floored_bucket-bucket.ensures.whole.1) in
+    let l = K.less in let m = P.0.node-room in omega arith
+
+pub loop-node-preserved : goal.loop-node-preserved
+loop-node-preserved c =
+    λ len size R. again (c.loop-node.invariant len size R) c.load-node.ensures
+    (tested _ _ c.load-node.ensures c.load-next.ensures c.new-segment.result _ c.new-segment.ensures.angles.1 c.contains_angle.ensures.whole)
+    c.if-contains_angle.false

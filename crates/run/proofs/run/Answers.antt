@@ -7,10 +7,10 @@ use Rattle.run.proofs.RunDone.{refused-run}
 use Rattle.run.proofs.run.Goals as goal
 
 pub run_accepted-requires : goal.run_accepted-requires
-run_accepted-requires c = sym (run-checks _ c.answers_short-short.ensures c.check_sweep.ensures) ∙ c.enum_told-1.given.1
+run_accepted-requires c = sym (run-checks _ c.answers_short-short.ensures c.check_sweep.ensures) ∙ c.in-Accepted.is
 
 pub returns-in-Refused : goal.returns-in-Refused
-returns-in-Refused c = run_ran _ _ (refused-run _ _ (sym c.refusal-1.given.1 ∙ run-checks _ c.answers_short-short.ensures c.check_sweep.ensures))
+returns-in-Refused c = run_ran _ _ (refused-run _ _ (sym c.in-Refused.is ∙ run-checks _ c.answers_short-short.ensures c.check_sweep.ensures))
 
 pub returns-in-Accepted : goal.returns-in-Accepted
 returns-in-Accepted c = run_ran _ _ c.run_accepted.ensures

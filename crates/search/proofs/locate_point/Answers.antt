@@ -22,9 +22,9 @@ scan-requires c =
 pub returns-in-Found : goal.returns-in-Found
 returns-in-Found c =
     located-found c.requires c.walk_to_nearest_neighbor-v.ensures c.out-e.ensures c.search_from-state.ensures
-    c.state-1.given.1
+    c.in-Found.is
 
 pub returns-in-Onward : goal.returns-in-Onward
 returns-in-Onward c =
     located-scanned c.requires c.walk_to_nearest_neighbor-v.ensures c.out-e.ensures c.search_from-state.ensures
-    c.enum_told-1.given.1 c.scan.ensures
+    c.in-Onward.is c.scan.ensures

@@ -17,12 +17,12 @@ search_turn-state-requires c = c.loop-left.invariant.ready
 
 pub returns-in-Found : goal.returns-in-Found
 returns-in-Found c =
-    searching-found c.loop-left.invariant c.loop-left-test.true c.search_turn-state.ensures c.state-1.given.1
+    searching-found c.loop-left.invariant c.loop-left-test.true c.search_turn-state.ensures c.in-Found.is
     _ refl
 
 pub loop-left-preserved : goal.loop-left-preserved
 loop-left-preserved c =
-    searching-on c.loop-left.invariant c.loop-left-test.true c.search_turn-state.ensures c.state-in-Onward-1.given.1
+    searching-on c.loop-left.invariant c.loop-left-test.true c.search_turn-state.ensures c.in-Onward.is
 
 pub returns : goal.returns
 returns c = searching-end c.loop-left.invariant (let l = c.loop-left-test.false in omega arith) _ refl

@@ -26,12 +26,12 @@ first_closer-closer-requires c = nearing-spokes c.loop-w.invariant
 
 pub loop-w-smaller : goal.loop-w-smaller
 loop-w-smaller c =
-    nearing-less c.loop-w.invariant c.first_closer-closer.ensures c.closer-1.given.1
+    nearing-less c.loop-w.invariant c.first_closer-closer.ensures c.in-Vertex.is
 
 pub loop-w-preserved : goal.loop-w-preserved
 loop-w-preserved c =
-    nearing-on c.loop-w.invariant c.first_closer-closer.ensures c.closer-1.given.1 (to_z-of_z (sfits_of c.known_told-1.given.1.0.1))
+    nearing-on c.loop-w.invariant c.first_closer-closer.ensures c.in-Vertex.is (to_z-of_z (sfits_of c.known_told-1.given.1.0.1))
 
 pub returns-in-Nothing : goal.returns-in-Nothing
 returns-in-Nothing c =
-    nearing-end c.loop-w.invariant c.first_closer-closer.ensures c.enum_told-1.given.1
+    nearing-end c.loop-w.invariant c.first_closer-closer.ensures c.in-Nothing.is

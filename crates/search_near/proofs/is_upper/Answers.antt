@@ -9,4 +9,4 @@ use Rattle.search_near.proofs.is_upper.Goals as goal
 
 pub returns : goal.returns
 unfolding upper is_positive_of
-returns c = c.is_positive.ensures ∙ ap₂ is_positive_of (to_z-of_z {w = w64} {z = c.args.v.y} (sfits_of c.struct_told-1.given.1.0.1)) (to_z-of_z {w = w64} {z = c.args.v.x} (sfits_of c.struct_told-2-1.given.0.1))
+returns c = c.is_positive.ensures ∙ ap₂ is_positive_of (to_z-of_z {w = w64} {z = c.args.v.y} (sfits_of c.type_inv.v.1.0.1)) (to_z-of_z {w = w64} {z = c.args.v.x} (sfits_of c.type_inv.v.0.1))

@@ -12,13 +12,13 @@ pub walk_turn-turned-requires : goal.walk_turn-turned-requires
 walk_turn-turned-requires c = c.loop-left.invariant
 
 pub returns-in-Inside : goal.returns-in-Inside
-returns-in-Inside c = λ l. subst (TurnedIs _ _ _ _ _ _) c.turned-1.given.1 c.walk_turn-turned.ensures
+returns-in-Inside c = λ l. subst (TurnedIs _ _ _ _ _ _) c.in-Inside.is c.walk_turn-turned.ensures
 
 pub returns-in-Nowhere : goal.returns-in-Nowhere
 returns-in-Nowhere c = λ l. absurd (omega arith)
 
 pub loop-left-preserved : goal.loop-left-preserved
-loop-left-preserved c = subst (TurnedIs _ _ _ _ _ _) c.turned-in-Onward-1.given.1 c.walk_turn-turned.ensures
+loop-left-preserved c = subst (TurnedIs _ _ _ _ _ _) c.in-Onward.is c.walk_turn-turned.ensures
 
 pub returns : goal.returns
 returns c = λ l. absurd (omega arith)

@@ -6,10 +6,10 @@ use Rattle.stages.proofs.StagesRows.{stepped-refused, stepped-accepted}
 use Rattle.stages.proofs.steps.Goals as goal
 
 pub steps_accepted-requires : goal.steps_accepted-requires
-steps_accepted-requires c = sym (run-checks _ c.answers_short-short.ensures c.check_sweep.ensures) ∙ c.enum_told-1.given.1
+steps_accepted-requires c = sym (run-checks _ c.answers_short-short.ensures c.check_sweep.ensures) ∙ c.in-Accepted.is
 
 pub returns-in-Refused : goal.returns-in-Refused
-returns-in-Refused c = stepped-refused _ _ (sym c.refusal-1.given.1 ∙ run-checks _ c.answers_short-short.ensures c.check_sweep.ensures)
+returns-in-Refused c = stepped-refused _ _ (sym c.in-Refused.is ∙ run-checks _ c.answers_short-short.ensures c.check_sweep.ensures)
 
 pub returns-in-Accepted : goal.returns-in-Accepted
-returns-in-Accepted c = c.steps_accepted.ensures ∙ stepped-accepted _ (sym (run-checks _ c.answers_short-short.ensures c.check_sweep.ensures) ∙ c.enum_told-1.given.1)
+returns-in-Accepted c = c.steps_accepted.ensures ∙ stepped-accepted _ (sym (run-checks _ c.answers_short-short.ensures c.check_sweep.ensures) ∙ c.in-Accepted.is)

@@ -6,8 +6,8 @@ use Rattle.surface_rows.proofs.is_made.Goals as goal
 
 pub returns-in-Accepted : goal.returns-in-Accepted
 unfolding is_made
-returns-in-Accepted c = sym (ap is_made c.finished-1.given.1)
+returns-in-Accepted c = sym (ap is_made c.in-Accepted.is)
 
 pub returns-in-Refused : goal.returns-in-Refused
 unfolding is_made
-returns-in-Refused c = sym (ap is_made c.finished-in-Refused-1.given.1)
+returns-in-Refused c = sym (ap is_made c.in-Refused.is)

@@ -6,8 +6,8 @@ use Rattle.surface_rows.proofs.place_of.Goals as goal
 
 pub returns-in-Accepted : goal.returns-in-Accepted
 unfolding place_of
-returns-in-Accepted c = sym (ap (place_of _) c.finished-1.given.1)
+returns-in-Accepted c = sym (ap (place_of _) c.in-Accepted.is)
 
 pub returns-in-Refused : goal.returns-in-Refused
 unfolding place_of
-returns-in-Refused c = sym (ap (place_of c.args.n) c.finished-in-Refused-1.given.1)
+returns-in-Refused c = sym (ap (place_of c.args.n) c.in-Refused.is)

@@ -11,15 +11,15 @@ use Rattle.volume.proofs.volume.Goals as goal
 pub measure-requires : goal.measure-requires
 measure-requires c =
     let v = c.validate_height-outside.ensures ∙ ap is_valid_height (to_z-of_z c.ranges.level) in
-    rw (to_z-of_z c.ranges.level) (measurable _ _ _ _ v (sym c.check_surface.ensures ∙ c.enum_told-1.given.1))
+    rw (to_z-of_z c.ranges.level) (measurable _ _ _ _ v (sym c.check_surface.ensures ∙ c.in-Accepted.is))
 
 pub returns-in-Refused : goal.returns-in-Refused
 returns-in-Refused c =
     let v = c.validate_height-outside.ensures ∙ ap is_valid_height (to_z-of_z c.ranges.level) in
-    refused-volume _ _ _ _ v (sym c.check_surface.ensures ∙ c.r-1.given.1)
+    refused-volume _ _ _ _ v (sym c.check_surface.ensures ∙ c.in-Refused.is)
 
 pub returns-in-Accepted : goal.returns-in-Accepted
 returns-in-Accepted c =
     let v = c.validate_height-outside.ensures ∙ ap is_valid_height (to_z-of_z c.ranges.level) in
     let w = rw (to_z-of_z c.ranges.level) at (c.measure.ensures c.args.outs.now) in
-    accepted-volume _ _ _ _ v (sym c.check_surface.ensures ∙ c.enum_told-1.given.1) w
+    accepted-volume _ _ _ _ v (sym c.check_surface.ensures ∙ c.in-Accepted.is) w

@@ -5,7 +5,7 @@ use borrow.Author.Rules.{rules}
 use Rattle.fithmoul.proofs.results.area_total_result.Goals as goal
 
 pub returns-in-Accepted : goal.returns-in-Accepted
-returns-in-Accepted c = sym (ap area_total_result c.totalled-1.given.1)
+returns-in-Accepted c = sym (ap area_total_result c.in-Accepted.is)
 
 pub returns-in-Refused : goal.returns-in-Refused
-returns-in-Refused c = sym (ap area_total_result c.totalled-in-Refused-1.given.1)
+returns-in-Refused c = sym (ap area_total_result c.in-Refused.is)

@@ -5,7 +5,7 @@ use borrow.Author.Rules.{rules}
 use Rattle.fithmoul.proofs.results.ask_result.Goals as goal
 
 pub returns-in-Quoted : goal.returns-in-Quoted
-returns-in-Quoted c = sym (ap ask_result c.asked-1.given.1)
+returns-in-Quoted c = sym (ap ask_result c.in-Quoted.is)
 
 pub returns-in-Refused : goal.returns-in-Refused
-returns-in-Refused c = sym (ap ask_result c.asked-in-Refused-1.given.1)
+returns-in-Refused c = sym (ap ask_result c.in-Refused.is)

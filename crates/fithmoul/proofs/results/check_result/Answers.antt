@@ -5,7 +5,7 @@ use borrow.Author.Rules.{rules}
 use Rattle.fithmoul.proofs.results.check_result.Goals as goal
 
 pub returns-in-Accepted : goal.returns-in-Accepted
-returns-in-Accepted c = sym (ap check_result c.enum_told-1.given.1)
+returns-in-Accepted c = sym (ap check_result c.in-Accepted.is)
 
 pub returns-in-Refused : goal.returns-in-Refused
-returns-in-Refused c = sym (ap check_result c.checked-1.given.1)
+returns-in-Refused c = sym (ap check_result c.in-Refused.is)

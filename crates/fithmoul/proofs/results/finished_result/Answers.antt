@@ -5,7 +5,7 @@ use borrow.Author.Rules.{rules}
 use Rattle.fithmoul.proofs.results.finished_result.Goals as goal
 
 pub returns-in-Accepted : goal.returns-in-Accepted
-returns-in-Accepted c = sym (ap (finished_result c.args.counts) c.finished-1.given.1)
+returns-in-Accepted c = sym (ap (finished_result c.args.counts) c.in-Accepted.is)
 
 pub returns-in-Refused : goal.returns-in-Refused
-returns-in-Refused c = sym (ap (finished_result c.args.counts) c.finished-in-Refused-1.given.1)
+returns-in-Refused c = sym (ap (finished_result c.args.counts) c.in-Refused.is)

@@ -5,7 +5,7 @@ use borrow.Author.Rules.{rules}
 use Rattle.fithmoul.proofs.results.locate_result.Goals as goal
 
 pub returns-in-Found : goal.returns-in-Found
-returns-in-Found c = sym (ap locate_result c.located-1.given.1)
+returns-in-Found c = sym (ap locate_result c.in-Found.is)
 
 pub returns-in-Refused : goal.returns-in-Refused
-returns-in-Refused c = sym (ap locate_result c.located-in-Refused-1.given.1)
+returns-in-Refused c = sym (ap locate_result c.in-Refused.is)

@@ -13,7 +13,7 @@ accepted C a = record { refusal = 0; place = 0; vertices = C.vertices; edges = C
 pub returns-in-Accepted : goal.returns-in-Accepted
 returns-in-Accepted c =
     let C = c.args.counts in
-    ap (accepted C) c.point_answer-words.ensures ∙ sym (ap (stepped_result C) c.stepped-1.given.1)
+    ap (accepted C) c.point_answer-words.ensures ∙ sym (ap (stepped_result C) c.in-Accepted.is)
 
 pub returns-in-Refused : goal.returns-in-Refused
-returns-in-Refused c = sym (ap (stepped_result c.args.counts) c.stepped-in-Refused-1.given.1)
+returns-in-Refused c = sym (ap (stepped_result c.args.counts) c.in-Refused.is)

@@ -10,4 +10,4 @@ returns-in-Accepted c =
     rw (to_z-of_z (record { sfits = c.struct_told-1.given.1.0.1 })) (sym (ap volume_result c.decreases.given.1))
 
 pub returns-in-Refused : goal.returns-in-Refused
-returns-in-Refused c = sym (ap volume_result c.measured-in-Refused-1.given.1)
+returns-in-Refused c = sym (ap volume_result c.in-Refused.is)

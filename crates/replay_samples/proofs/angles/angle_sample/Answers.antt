@@ -10,4 +10,4 @@ pub vertex_angle-requires : goal.vertex_angle-requires
 vertex_angle-requires c = from-true (sym c.validate_center.ensures ∙ not-false _ c.if-not-validate_center.false-raw)
 
 pub angle_agrees-requires : goal.angle_agrees-requires
-angle_agrees-requires c = subst CarriesAngle c.a-1.given.1 c.vertex_angle.ensures.angle
+angle_agrees-requires c = subst CarriesAngle c.in-Angle.is c.vertex_angle.ensures.angle

@@ -13,4 +13,4 @@ pub vertex_angle-requires-2 : goal.vertex_angle-requires-2
 vertex_angle-requires-2 c = from-true (sym c.validate_center.ensures ∙ not-false _ c.if-not-validate_center.false-raw)
 
 pub segment_agrees-requires : goal.segment_agrees-requires
-segment_agrees-requires c = (subst CarriesAngle c.from-1.given.1 c.vertex_angle.ensures.angle, subst CarriesAngle c.to-1.given.1 c.vertex_angle-2.ensures.angle)
+segment_agrees-requires c = (subst CarriesAngle c.in-Angle.is c.vertex_angle.ensures.angle, subst CarriesAngle c.in-Angle-vertex_angle.is c.vertex_angle-2.ensures.angle)
