@@ -15,7 +15,7 @@ pub overflow_add-i : goal.overflow_add-i
 overflow_add-i c = record { fits = omega arith }
 
 pub loop-i-preserved : goal.loop-i-preserved
-loop-i-preserved c = skipped-on c.loop-i.invariant c.loop-i-test.true _ c.zero_if_skipped.ensures c.zero_if_skipped.auto.0
+loop-i-preserved c = skipped-on c.loop-i.invariant c.loop-i-test.true _ c.zero_if_skipped.ensures c.zero_if_skipped.auto.answers
 
 pub shape_of-answers : goal.shape_of-answers
 shape_of-answers c = c.loop-i.invariant.same

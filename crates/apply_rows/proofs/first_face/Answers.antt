@@ -8,8 +8,7 @@ create_new_face_adjacent_to_edge-after-requires c = new-ready c.requires
 
 pub legalize_edge-done-requires : goal.legalize_edge-done-requires
 legalize_edge-done-requires c =
-    let n = c.create_new_face_adjacent_to_edge-after in
-    legalize-first c.requires n.ensures n.auto.0 n.auto.1.0 n.auto.1.1.0
+    legalize-first c.requires c.create_new_face_adjacent_to_edge-after.ensures c.create_new_face_adjacent_to_edge-after.auto.outs c.create_new_face_adjacent_to_edge-after.auto.halves c.create_new_face_adjacent_to_edge-after.auto.faces
 
 pub returns : goal.returns
 returns c = first-row c.requires c.create_new_face_adjacent_to_edge-after.ensures _ _ _ _ _ c.legalize_edge-done.ensures

@@ -19,9 +19,9 @@ sweep_rest-finish-requires c =
     (record {
       all = c.point_count-count.ensures;
       leaves = c.seed-end.ensures;
-      lengths = record { positions = c.seed-end.auto.0; outs = c.seed-end.auto.1.0; halves = c.seed-end.auto.1.1.0; faces = c.seed-end.auto.1.1.1.0 };
-      pending = c.seed-end.auto.1.1.1.1.0;
-      answers = c.seed-end.auto.1.1.1.1.1.0;
+      lengths = record { positions = c.seed-end.auto.positions; outs = c.seed-end.auto.outs; halves = c.seed-end.auto.halves; faces = c.seed-end.auto.faces };
+      pending = c.seed-end.auto.pending;
+      answers = c.seed-end.auto.answers;
     }) c.if-end.true
 
 pub store_run-requires : goal.store_run-requires
@@ -30,29 +30,29 @@ store_run-requires c =
     (record {
       all = c.point_count-count.ensures;
       leaves = c.seed-end.ensures;
-      lengths = record { positions = c.seed-end.auto.0; outs = c.seed-end.auto.1.0; halves = c.seed-end.auto.1.1.0; faces = c.seed-end.auto.1.1.1.0 };
-      pending = c.seed-end.auto.1.1.1.1.0;
-      answers = c.seed-end.auto.1.1.1.1.1.0;
+      lengths = record { positions = c.seed-end.auto.positions; outs = c.seed-end.auto.outs; halves = c.seed-end.auto.halves; faces = c.seed-end.auto.faces };
+      pending = c.seed-end.auto.pending;
+      answers = c.seed-end.auto.answers;
     }) c.if-end.true
     _ _ _ _ _ c.sweep_rest-finish.ensures
 
 pub shape_of-positions-then-end : goal.shape_of-positions-then-end
-shape_of-positions-then-end c = c.sweep_rest-finish.auto.0 ∙ c.seed-end.auto.0
+shape_of-positions-then-end c = c.sweep_rest-finish.auto.positions ∙ c.seed-end.auto.positions
 
 pub shape_of-outs-then-end : goal.shape_of-outs-then-end
-shape_of-outs-then-end c = c.sweep_rest-finish.auto.1.0 ∙ c.seed-end.auto.1.0
+shape_of-outs-then-end c = c.sweep_rest-finish.auto.outs ∙ c.seed-end.auto.outs
 
 pub shape_of-halves-then-end : goal.shape_of-halves-then-end
-shape_of-halves-then-end c = c.sweep_rest-finish.auto.1.1.0 ∙ c.seed-end.auto.1.1.0
+shape_of-halves-then-end c = c.sweep_rest-finish.auto.halves ∙ c.seed-end.auto.halves
 
 pub shape_of-faces-then-end : goal.shape_of-faces-then-end
-shape_of-faces-then-end c = c.sweep_rest-finish.auto.1.1.1.0 ∙ c.seed-end.auto.1.1.1.0
+shape_of-faces-then-end c = c.sweep_rest-finish.auto.faces ∙ c.seed-end.auto.faces
 
 pub shape_of-pending-then-end : goal.shape_of-pending-then-end
-shape_of-pending-then-end c = c.sweep_rest-finish.auto.1.1.1.1.1.1.1.0 ∙ c.seed-end.auto.1.1.1.1.0
+shape_of-pending-then-end c = c.sweep_rest-finish.auto.pending ∙ c.seed-end.auto.pending
 
 pub shape_of-answers-then-end : goal.shape_of-answers-then-end
-shape_of-answers-then-end c = c.sweep_rest-finish.auto.1.1.1.1.1.1.1.1.0 ∙ c.seed-end.auto.1.1.1.1.1.0
+shape_of-answers-then-end c = c.sweep_rest-finish.auto.answers ∙ c.seed-end.auto.answers
 
 pub returns-then-end : goal.returns-then-end
 returns-then-end c =
@@ -60,11 +60,11 @@ returns-then-end c =
     (record {
       all = c.point_count-count.ensures;
       leaves = c.seed-end.ensures;
-      lengths = record { positions = c.seed-end.auto.0; outs = c.seed-end.auto.1.0; halves = c.seed-end.auto.1.1.0; faces = c.seed-end.auto.1.1.1.0 };
-      pending = c.seed-end.auto.1.1.1.1.0;
-      answers = c.seed-end.auto.1.1.1.1.1.0;
+      lengths = record { positions = c.seed-end.auto.positions; outs = c.seed-end.auto.outs; halves = c.seed-end.auto.halves; faces = c.seed-end.auto.faces };
+      pending = c.seed-end.auto.pending;
+      answers = c.seed-end.auto.answers;
     }) c.if-end.true
-    _ _ _ _ _ c.sweep_rest-finish.ensures _ c.store_run.auto.0 c.store_run.ensures
+    _ _ _ _ _ c.sweep_rest-finish.ensures _ c.store_run.auto.heights c.store_run.ensures
 
 pub end_load-answer-requires : goal.end_load-answer-requires
 end_load-answer-requires c =
@@ -72,9 +72,9 @@ end_load-answer-requires c =
     (record {
       all = c.point_count-count.ensures;
       leaves = c.seed-end.ensures;
-      lengths = record { positions = c.seed-end.auto.0; outs = c.seed-end.auto.1.0; halves = c.seed-end.auto.1.1.0; faces = c.seed-end.auto.1.1.1.0 };
-      pending = c.seed-end.auto.1.1.1.1.0;
-      answers = c.seed-end.auto.1.1.1.1.1.0;
+      lengths = record { positions = c.seed-end.auto.positions; outs = c.seed-end.auto.outs; halves = c.seed-end.auto.halves; faces = c.seed-end.auto.faces };
+      pending = c.seed-end.auto.pending;
+      answers = c.seed-end.auto.answers;
     }) c.if-end.false
 
 pub store_run-requires-2 : goal.store_run-requires-2
@@ -83,30 +83,30 @@ store_run-requires-2 c =
     (record {
       all = c.point_count-count.ensures;
       leaves = c.seed-end.ensures;
-      lengths = record { positions = c.seed-end.auto.0; outs = c.seed-end.auto.1.0; halves = c.seed-end.auto.1.1.0; faces = c.seed-end.auto.1.1.1.0 };
-      pending = c.seed-end.auto.1.1.1.1.0;
-      answers = c.seed-end.auto.1.1.1.1.1.0;
+      lengths = record { positions = c.seed-end.auto.positions; outs = c.seed-end.auto.outs; halves = c.seed-end.auto.halves; faces = c.seed-end.auto.faces };
+      pending = c.seed-end.auto.pending;
+      answers = c.seed-end.auto.answers;
     }) c.if-end.false
     _ _ _ _ _ c.end_load-answer.ensures
-    (record { positions = refl; outs = c.end_load-answer.auto.1.0; halves = c.end_load-answer.auto.1.1.0; faces = c.end_load-answer.auto.1.1.1.0 }) c.end_load-answer.auto.1.1.1.1.1.0
+    (record { positions = refl; outs = c.end_load-answer.auto.halves; halves = c.end_load-answer.auto.faces; faces = c.end_load-answer.auto.pending }) c.end_load-answer.auto.1.1.1.1.1.0
 
 pub shape_of-positions : goal.shape_of-positions
-shape_of-positions c = c.seed-end.auto.0
+shape_of-positions c = c.seed-end.auto.positions
 
 pub shape_of-outs : goal.shape_of-outs
-shape_of-outs c = c.end_load-answer.auto.1.0 ∙ c.seed-end.auto.1.0
+shape_of-outs c = c.end_load-answer.auto.halves ∙ c.seed-end.auto.outs
 
 pub shape_of-halves : goal.shape_of-halves
-shape_of-halves c = c.end_load-answer.auto.1.1.0 ∙ c.seed-end.auto.1.1.0
+shape_of-halves c = c.end_load-answer.auto.faces ∙ c.seed-end.auto.halves
 
 pub shape_of-faces : goal.shape_of-faces
-shape_of-faces c = c.end_load-answer.auto.1.1.1.0 ∙ c.seed-end.auto.1.1.1.0
+shape_of-faces c = c.end_load-answer.auto.pending ∙ c.seed-end.auto.faces
 
 pub shape_of-pending : goal.shape_of-pending
-shape_of-pending c = c.clear_rows.auto.1.1.1.0 ∙ c.end_load-answer.auto.1.1.1.1.0 ∙ c.seed-end.auto.1.1.1.1.0
+shape_of-pending c = c.clear_rows.auto.pending ∙ c.end_load-answer.auto.answers ∙ c.seed-end.auto.pending
 
 pub shape_of-answers : goal.shape_of-answers
-shape_of-answers c = c.end_load-answer.auto.1.1.1.1.1.0 ∙ c.seed-end.auto.1.1.1.1.1.0
+shape_of-answers c = c.end_load-answer.auto.1.1.1.1.1.0 ∙ c.seed-end.auto.answers
 
 pub returns : goal.returns
 returns c =
@@ -114,9 +114,9 @@ returns c =
     (record {
       all = c.point_count-count.ensures;
       leaves = c.seed-end.ensures;
-      lengths = record { positions = c.seed-end.auto.0; outs = c.seed-end.auto.1.0; halves = c.seed-end.auto.1.1.0; faces = c.seed-end.auto.1.1.1.0 };
-      pending = c.seed-end.auto.1.1.1.1.0;
-      answers = c.seed-end.auto.1.1.1.1.1.0;
+      lengths = record { positions = c.seed-end.auto.positions; outs = c.seed-end.auto.outs; halves = c.seed-end.auto.halves; faces = c.seed-end.auto.faces };
+      pending = c.seed-end.auto.pending;
+      answers = c.seed-end.auto.answers;
     }) c.if-end.false
     _ _ _ _ _ c.end_load-answer.ensures
-    (record { positions = refl; outs = c.end_load-answer.auto.1.0; halves = c.end_load-answer.auto.1.1.0; faces = c.end_load-answer.auto.1.1.1.0 }) c.end_load-answer.auto.1.1.1.1.1.0 _ _ _ c.end_load-answer.auto.1.1.1.1.0 c.clear_rows.ensures _ c.store_run-2.auto.0 c.store_run-2.ensures
+    (record { positions = refl; outs = c.end_load-answer.auto.halves; halves = c.end_load-answer.auto.faces; faces = c.end_load-answer.auto.pending }) c.end_load-answer.auto.1.1.1.1.1.0 _ _ _ c.end_load-answer.auto.answers c.clear_rows.ensures _ c.store_run-2.auto.heights c.store_run-2.ensures

@@ -29,8 +29,7 @@ loop-u-smaller c =
 
 pub loop-u-preserved : goal.loop-u-preserved
 loop-u-preserved c =
-    let e = c.close_edge-made in
-    turn_on c.loop-u.invariant c.loop-u-test.true e.ensures (record { outs = e.auto.1.0; halves = e.auto.1.1.0; faces = e.auto.1.1.1.0 })
+    turn_on c.loop-u.invariant c.loop-u-test.true c.close_edge-made.ensures (record { outs = c.close_edge-made.auto.halves; halves = c.close_edge-made.auto.faces; faces = c.close_edge-made.auto.1.1.1.0 })
 
 pub shape_of-outs : goal.shape_of-outs
 shape_of-outs c = c.loop-u.invariant.lengths.outs

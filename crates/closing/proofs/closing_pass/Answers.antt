@@ -18,9 +18,8 @@ loop-still-smaller c =
 
 pub loop-still-preserved : goal.loop-still-preserved
 loop-still-preserved c =
-    let e = c.close_turn-flips in
-    pass_on c.loop-still.invariant _ _ _ _ c.loop-still-test.true-raw e.ensures refl
-    (record { outs = e.auto.1.0; halves = e.auto.1.1.0; faces = e.auto.1.1.1.0 })
+    pass_on c.loop-still.invariant _ _ _ _ c.loop-still-test.true-raw c.close_turn-flips.ensures refl
+    (record { outs = c.close_turn-flips.auto.halves; halves = c.close_turn-flips.auto.faces; faces = c.close_turn-flips.auto.1.1.1.0 })
 
 pub shape_of-outs : goal.shape_of-outs
 shape_of-outs c = c.loop-still.invariant.lengths.outs

@@ -23,22 +23,22 @@ pub fill_point-done-requires : goal.fill_point-done-requires
 fill_point-done-requires c = filling-near c.requires c.loop-i.invariant.0 c.loop-i-test.true c.loop-i.invariant.2
 
 pub shape_of-positions-then-done : goal.shape_of-positions-then-done
-shape_of-positions-then-done c = c.fill_point-done.auto.0 ∙ c.loop-i.invariant.0.lengths.positions
+shape_of-positions-then-done c = c.fill_point-done.auto.positions ∙ c.loop-i.invariant.0.lengths.positions
 
 pub shape_of-outs-then-done : goal.shape_of-outs-then-done
-shape_of-outs-then-done c = c.fill_point-done.auto.1.0 ∙ c.loop-i.invariant.0.lengths.outs
+shape_of-outs-then-done c = c.fill_point-done.auto.outs ∙ c.loop-i.invariant.0.lengths.outs
 
 pub shape_of-halves-then-done : goal.shape_of-halves-then-done
-shape_of-halves-then-done c = c.fill_point-done.auto.1.1.0 ∙ c.loop-i.invariant.0.lengths.halves
+shape_of-halves-then-done c = c.fill_point-done.auto.halves ∙ c.loop-i.invariant.0.lengths.halves
 
 pub shape_of-faces-then-done : goal.shape_of-faces-then-done
-shape_of-faces-then-done c = c.fill_point-done.auto.1.1.1.0 ∙ c.loop-i.invariant.0.lengths.faces
+shape_of-faces-then-done c = c.fill_point-done.auto.faces ∙ c.loop-i.invariant.0.lengths.faces
 
 pub shape_of-pending-then-done : goal.shape_of-pending-then-done
-shape_of-pending-then-done c = c.fill_point-done.auto.1.1.1.1.0 ∙ c.loop-i.invariant.0.lengths.pending
+shape_of-pending-then-done c = c.fill_point-done.auto.pending ∙ c.loop-i.invariant.0.lengths.pending
 
 pub shape_of-answers-then-done : goal.shape_of-answers-then-done
-shape_of-answers-then-done c = c.fill_point-done.auto.1.1.1.1.1.0 ∙ c.loop-i.invariant.0.lengths.answers
+shape_of-answers-then-done c = c.fill_point-done.auto.answers ∙ c.loop-i.invariant.0.lengths.answers
 
 pub shape_of-grid-then-done : goal.shape_of-grid-then-done
 shape_of-grid-then-done c = c.prefetch_block.auto.1.1.1.1.1.0 ∙ c.loop-i.invariant.1
@@ -75,7 +75,7 @@ loop-i-preserved c =
     let n = c.if-done.false in (
       filling-on I l X n
           (record { positions = f.0; outs = f.1.0; halves = f.1.1.0; faces = f.1.1.1.0; pending = f.1.1.1.1.0; answers = f.1.1.1.1.1.0 }),
-      c.place-all.auto.0 ∙ c.prefetch_block.auto.1.1.1.1.1.0 ∙ c.loop-i.invariant.1,
+      c.place-all.auto.grid ∙ c.prefetch_block.auto.1.1.1.1.1.0 ∙ c.loop-i.invariant.1,
       c.place-all.ensures ∙ c.loop-i.invariant.2,
       filling-settled I l X n c.loop-i.settled c.is_still_settled-settled.result c.loop-i.invariant.3 c.is_still_settled-settled.ensures,
     )

@@ -10,4 +10,4 @@ pub put_vertices-requires : goal.put_vertices-requires
 put_vertices-requires c = (c.requires.1, c.stride-step.ensures)
 
 pub shape_of-grid : goal.shape_of-grid
-shape_of-grid c = c.put_vertices.auto.0 ∙ c.put_vertices-more.auto.0 ∙ c.put_vertices-few.auto.0 ∙ c.over-empty.auto.0
+shape_of-grid c = c.put_vertices.auto.grid ∙ c.put_vertices-more.auto.grid ∙ c.put_vertices-few.auto.grid ∙ c.over-empty.auto.grid

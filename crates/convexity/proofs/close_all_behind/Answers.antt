@@ -26,9 +26,8 @@ loop-outs-smaller c =
 pub loop-outs-preserved : goal.loop-outs-preserved
 loop-outs-preserved c =
     let i = c.loop-outs.invariant in
-    let e = c.close_behind-now in
-    closing-on i c.left_behind.ensures c.loop-outs-test.true e.ensures
-    (record { outs = e.auto.1.0; halves = e.auto.1.1.0; faces = e.auto.1.1.1.0; pending = e.auto.1.1.1.1.0 })
+    closing-on i c.left_behind.ensures c.loop-outs-test.true c.close_behind-now.ensures
+    (record { outs = c.close_behind-now.auto.halves; halves = c.close_behind-now.auto.faces; faces = c.close_behind-now.auto.pending; pending = c.close_behind-now.auto.1.1.1.1.0 })
 
 pub shape_of-outs : goal.shape_of-outs
 shape_of-outs c = c.loop-outs.invariant.lengths.outs

@@ -9,7 +9,7 @@ pub store-requires-2 : goal.store-requires-2
 store-requires-2 c = omega (arith, c.requires)
 
 pub store-requires-3 : goal.store-requires-3
-store-requires-3 c = omega (arith, c.store-2.auto.0, c.half_edge-entry.ensures, c.requires)
+store-requires-3 c = omega (arith, c.store-2.auto.row, c.half_edge-entry.ensures, c.requires)
 
 pub returns : goal.returns
 returns c =

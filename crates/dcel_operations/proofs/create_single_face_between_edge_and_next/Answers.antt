@@ -14,10 +14,10 @@ to-io-requires c =
 
 pub single_links-requires : goal.single_links-requires
 single_links-requires c =
-    omega (arith, c.single_marks.auto.0, c.half_edge-entry.ensures, c.requires, after-there c.requires c.half_edge-entry.ensures c.next-q.ensures)
+    omega (arith, c.single_marks.auto.halves, c.half_edge-entry.ensures, c.requires, after-there c.requires c.half_edge-entry.ensures c.next-q.ensures)
 
 pub store-requires-2 : goal.store-requires-2
-store-requires-2 c = omega (arith, c.store.auto.0, c.requires)
+store-requires-2 c = omega (arith, c.store.auto.row, c.requires)
 
 pub returns : goal.returns
 returns c =

@@ -6,7 +6,7 @@ use Rattle.dcel_operations.proofs.flip_cw.Goals as goal
 
 pub store-requires-2 : goal.store-requires-2
 store-requires-2 c =
-    omega (arith, c.store.auto.0, c.half_edge-te.ensures, c.requires.t)
+    omega (arith, c.store.auto.row, c.half_edge-te.ensures, c.requires.t)
 
 pub store-requires-3 : goal.store-requires-3
 store-requires-3 c =
@@ -14,7 +14,7 @@ store-requires-3 c =
 
 pub store-requires-4 : goal.store-requires-4
 store-requires-4 c =
-    omega (arith, c.store-3.auto.0, c.half_edge-te.ensures, c.requires.t)
+    omega (arith, c.store-3.auto.row, c.half_edge-te.ensures, c.requires.t)
 
 pub returns : goal.returns
 returns c =

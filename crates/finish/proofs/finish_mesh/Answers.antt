@@ -7,13 +7,13 @@ pub convexity-added-requires : goal.convexity-added-requires
 convexity-added-requires c = c.requires
 
 pub shape_of-outs-then-added : goal.shape_of-outs-then-added
-shape_of-outs-then-added c = c.convexity-added.auto.1.0
+shape_of-outs-then-added c = c.convexity-added.auto.halves
 
 pub shape_of-halves-then-added : goal.shape_of-halves-then-added
-shape_of-halves-then-added c = c.convexity-added.auto.1.1.0
+shape_of-halves-then-added c = c.convexity-added.auto.faces
 
 pub shape_of-faces-then-added : goal.shape_of-faces-then-added
-shape_of-faces-then-added c = c.convexity-added.auto.1.1.1.0
+shape_of-faces-then-added c = c.convexity-added.auto.pending
 
 pub shape_of-pending-then-added : goal.shape_of-pending-then-added
 shape_of-pending-then-added c = c.convexity-added.auto.1.1.1.1.0
@@ -23,17 +23,16 @@ returns-then-added c = passes-full c.requires _ _ _ _ c.convexity-added.ensures 
 
 pub closing_pass-closing-requires : goal.closing_pass-closing-requires
 closing_pass-closing-requires c =
-    let v = c.convexity-added in
-    passes-rows c.requires _ _ _ _ v.ensures v.auto.1.0 v.auto.1.1.0 v.auto.1.1.1.0
+    passes-rows c.requires _ _ _ _ c.convexity-added.ensures c.convexity-added.auto.halves c.convexity-added.auto.faces c.convexity-added.auto.pending
 
 pub shape_of-outs : goal.shape_of-outs
-shape_of-outs c = c.closing_pass-closing.auto.1.0 ∙ c.convexity-added.auto.1.0
+shape_of-outs c = c.closing_pass-closing.auto.halves ∙ c.convexity-added.auto.halves
 
 pub shape_of-halves : goal.shape_of-halves
-shape_of-halves c = c.closing_pass-closing.auto.1.1.0 ∙ c.convexity-added.auto.1.1.0
+shape_of-halves c = c.closing_pass-closing.auto.faces ∙ c.convexity-added.auto.faces
 
 pub shape_of-faces : goal.shape_of-faces
-shape_of-faces c = c.closing_pass-closing.auto.1.1.1.0 ∙ c.convexity-added.auto.1.1.1.0
+shape_of-faces c = c.closing_pass-closing.auto.1.1.1.0 ∙ c.convexity-added.auto.pending
 
 pub shape_of-pending : goal.shape_of-pending
 shape_of-pending c = c.convexity-added.auto.1.1.1.1.0

@@ -37,10 +37,9 @@ returns c =
     let f = c.ranges in
     let e = rw (to_z-of_z f.x, to_z-of_z f.y, to_z-of_z f.z) at c.check_commit-checked.ensures in
     let E = sym e ∙ c.in_default.is in
-    let w = c.sweep_once-progress in
-    let b = swept-outcome _ _ _ _ _ _ (commit-own _ _ _ _ _ _ _ _ _ _ _ E) (rw (to_z-of_z f.x, to_z-of_z f.y) at w.ensures)
-    (record { positions = w.auto.0; outs = w.auto.1.0; halves = w.auto.1.1.0; faces = w.auto.1.1.1.0 })
+    let b = swept-outcome _ _ _ _ _ _ (commit-own _ _ _ _ _ _ _ _ _ _ _ E) (rw (to_z-of_z f.x, to_z-of_z f.y) at c.sweep_once-progress.ensures)
+    (record { positions = c.sweep_once-progress.auto.positions; outs = c.sweep_once-progress.auto.outs; halves = c.sweep_once-progress.auto.halves; faces = c.sweep_once-progress.auto.faces })
     (c.answer_of-answer.ensures _) in
     commit-exported
-    (commit-made _ _ _ _ _ _ _ _ _ E b _ c.store_height.auto.0 (rw (to_z-of_z f.z) at c.store_height.ensures))
+    (commit-made _ _ _ _ _ _ _ _ _ E b _ c.store_height.auto.heights (rw (to_z-of_z f.z) at c.store_height.ensures))
     c.commit_result.ensures

@@ -38,5 +38,5 @@ returns c =
     ∙ ap (λ (w : RunOutcome).
     finished_heights w.answer w.answers (height_of a.point-heights.now) (height_of a.heights.now)
     (point_count a.points.now)) b in
-    let x = run-exported _ (run-whole (run-own _ E) b (run-heights _ E _ c.store_run.auto.0 h)) c.run_result.ensures in
+    let x = run-exported _ (run-whole (run-own _ E) b (run-heights _ E _ c.store_run.auto.heights h)) c.run_result.ensures in
     (x.0, x.1, λ z. accepted-run _ _ _ x.0 z)

@@ -28,5 +28,5 @@ returns c =
     let h = rw (to_z-of_z f.z) at c.store_height.ensures in
     step-exported
     (step-whole (step-own _ _ _ _ _ _ _ E) b
-    (step-heights _ _ _ _ _ _ _ E _ (ap (λ (w : StepOutcome). w.answer) (sym b)) _ c.store_height.auto.0 h))
+    (step-heights _ _ _ _ _ _ _ E _ (ap (λ (w : StepOutcome). w.answer) (sym b)) _ c.store_height.auto.heights h))
     c.step_result.ensures

@@ -13,7 +13,7 @@ extend_line-after-requires c =
 
 pub insert_off_line-added-requires : goal.insert_off_line-added-requires
 insert_off_line-added-requires c =
-    at_off c.requires c.in-NotOnLine.is _ c.set_position-in-NotOnLine.ensures c.set_position-in-NotOnLine.auto.0
+    at_off c.requires c.in-NotOnLine.is _ c.set_position-in-NotOnLine.ensures c.set_position-in-NotOnLine.auto.positions
 
 pub returns-in-OnVertex : goal.returns-in-OnVertex
 returns-in-OnVertex c =

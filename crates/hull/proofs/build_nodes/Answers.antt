@@ -33,7 +33,7 @@ loop-k-smaller c = let a = c.loop-k-test.true in omega arith
 
 pub loop-k-preserved : goal.loop-k-preserved
 loop-k-preserved c =
-    built-more c.loop-k.invariant c.loop-k-test.true c.angle_at-angle.ensures c.store.ensures c.store.auto.0 c.next-e.ensures
+    built-more c.loop-k.invariant c.loop-k-test.true c.angle_at-angle.ensures c.store.ensures c.store.auto.nodes c.next-e.ensures
 
 pub shape_of-nodes : goal.shape_of-nodes
 shape_of-nodes c = c.loop-k.invariant.same

@@ -18,26 +18,21 @@ insert_into_triangle-after-requires c = face-operation c.requires
 
 pub legalize_two-two-requires : goal.legalize_two-two-requires
 legalize_two-two-requires c =
-    let n = c.insert_into_triangle-after in
-    face-two c.requires c.adjacent-e0.ensures c.next-e1.ensures c.next-e2.ensures (record { outs = n.auto.0; halves = n.auto.1.0; faces = n.auto.1.1.0; pending = refl }) n.ensures
+    face-two c.requires c.adjacent-e0.ensures c.next-e1.ensures c.next-e2.ensures (record { outs = c.insert_into_triangle-after.auto.outs; halves = c.insert_into_triangle-after.auto.halves; faces = c.insert_into_triangle-after.auto.faces; pending = refl }) c.insert_into_triangle-after.ensures
 
 pub legalize_one-requires : goal.legalize_one-requires
 legalize_one-requires c =
-    let n = c.insert_into_triangle-after in
-    let t = c.legalize_two-two in
-    face-one c.requires c.adjacent-e0.ensures c.next-e1.ensures c.next-e2.ensures (record { outs = n.auto.0; halves = n.auto.1.0; faces = n.auto.1.1.0; pending = refl }) n.ensures _ (record { outs = t.auto.1.0; halves = t.auto.1.1.0; faces = t.auto.1.1.1.0; pending = t.auto.1.1.1.1.0 }) t.ensures
+    face-one c.requires c.adjacent-e0.ensures c.next-e1.ensures c.next-e2.ensures (record { outs = c.insert_into_triangle-after.auto.outs; halves = c.insert_into_triangle-after.auto.halves; faces = c.insert_into_triangle-after.auto.faces; pending = refl }) c.insert_into_triangle-after.ensures _ (record { outs = c.legalize_two-two.auto.halves; halves = c.legalize_two-two.auto.faces; faces = c.legalize_two-two.auto.pending; pending = c.legalize_two-two.auto.1.1.1.1.0 }) c.legalize_two-two.ensures
 
 pub shape_of-outs : goal.shape_of-outs
-shape_of-outs c = c.legalize_one.auto.1.0 ∙ c.legalize_two-two.auto.1.0 ∙ c.insert_into_triangle-after.auto.0
+shape_of-outs c = c.legalize_one.auto.halves ∙ c.legalize_two-two.auto.halves ∙ c.insert_into_triangle-after.auto.outs
 
 pub shape_of-halves : goal.shape_of-halves
-shape_of-halves c = c.legalize_one.auto.1.1.0 ∙ c.legalize_two-two.auto.1.1.0 ∙ c.insert_into_triangle-after.auto.1.0
+shape_of-halves c = c.legalize_one.auto.faces ∙ c.legalize_two-two.auto.faces ∙ c.insert_into_triangle-after.auto.halves
 
 pub shape_of-faces : goal.shape_of-faces
-shape_of-faces c = c.legalize_one.auto.1.1.1.0 ∙ c.legalize_two-two.auto.1.1.1.0 ∙ c.insert_into_triangle-after.auto.1.1.0
+shape_of-faces c = c.legalize_one.auto.pending ∙ c.legalize_two-two.auto.pending ∙ c.insert_into_triangle-after.auto.faces
 
 pub returns : goal.returns
 returns c =
-    let n = c.insert_into_triangle-after in
-    let t = c.legalize_two-two in
-    face-row c.requires c.adjacent-e0.ensures c.next-e1.ensures c.next-e2.ensures (record { outs = n.auto.0; halves = n.auto.1.0; faces = n.auto.1.1.0; pending = refl }) n.ensures _ {row₂ = t.new.1.1.1.1.0} (record { outs = t.auto.1.0; halves = t.auto.1.1.0; faces = t.auto.1.1.1.0; pending = t.auto.1.1.1.1.0 }) t.ensures _ _ _ _ c.legalize_one.ensures
+    face-row c.requires c.adjacent-e0.ensures c.next-e1.ensures c.next-e2.ensures (record { outs = c.insert_into_triangle-after.auto.outs; halves = c.insert_into_triangle-after.auto.halves; faces = c.insert_into_triangle-after.auto.faces; pending = refl }) c.insert_into_triangle-after.ensures _ {row₂ = c.legalize_two-two.new.1.1.1.1.0} (record { outs = c.legalize_two-two.auto.halves; halves = c.legalize_two-two.auto.faces; faces = c.legalize_two-two.auto.pending; pending = c.legalize_two-two.auto.1.1.1.1.0 }) c.legalize_two-two.ensures _ _ _ _ c.legalize_one.ensures

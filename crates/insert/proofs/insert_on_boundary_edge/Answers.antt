@@ -12,11 +12,8 @@ split_half_edge-after-requires c = boundary-operation c.requires
 
 pub legalize_two-requires : goal.legalize_two-requires
 legalize_two-requires c =
-    let n = c.split_half_edge-after in
-    boundary-two c.requires c.half_edge-left.ensures (record { outs = n.auto.0; halves = n.auto.1.0; faces = n.auto.1.1.0; pending = refl }) n.ensures
+    boundary-two c.requires c.half_edge-left.ensures (record { outs = c.split_half_edge-after.auto.outs; halves = c.split_half_edge-after.auto.halves; faces = c.split_half_edge-after.auto.faces; pending = refl }) c.split_half_edge-after.ensures
 
 pub returns : goal.returns
 returns c =
-    let n = c.split_half_edge-after in
-    let t = c.legalize_two in
-    boundary-row c.requires c.half_edge-left.ensures (record { outs = n.auto.0; halves = n.auto.1.0; faces = n.auto.1.1.0; pending = refl }) n.ensures _ {row₂ = t.new.1.1.1.1.0} (record { outs = t.auto.1.0; halves = t.auto.1.1.0; faces = t.auto.1.1.1.0; pending = t.auto.1.1.1.1.0 }) t.ensures
+    boundary-row c.requires c.half_edge-left.ensures (record { outs = c.split_half_edge-after.auto.outs; halves = c.split_half_edge-after.auto.halves; faces = c.split_half_edge-after.auto.faces; pending = refl }) c.split_half_edge-after.ensures _ {row₂ = c.legalize_two.new.1.1.1.1.0} (record { outs = c.legalize_two.auto.halves; halves = c.legalize_two.auto.faces; faces = c.legalize_two.auto.pending; pending = c.legalize_two.auto.1.1.1.1.0 }) c.legalize_two.ensures

@@ -5,10 +5,8 @@ use Rattle.insert.proofs.legalize_two.Goals as goal
 
 pub legalize_one-requires : goal.legalize_one-requires
 legalize_one-requires c =
-    let f = c.legalize_one-one in
-    second-ready c.requires (record { outs = f.auto.1.0; halves = f.auto.1.1.0; faces = f.auto.1.1.1.0; pending = f.auto.1.1.1.1.0 }) _ f.ensures
+    second-ready c.requires (record { outs = c.legalize_one-one.auto.halves; halves = c.legalize_one-one.auto.faces; faces = c.legalize_one-one.auto.pending; pending = c.legalize_one-one.auto.1.1.1.1.0 }) _ c.legalize_one-one.ensures
 
 pub returns : goal.returns
 returns c =
-    let f = c.legalize_one-one in
-    two-row c.requires {row' = f.new.1.1.1.1.0} (record { outs = f.auto.1.0; halves = f.auto.1.1.0; faces = f.auto.1.1.1.0; pending = f.auto.1.1.1.1.0 }) _ f.ensures _ _ _ _ c.legalize_one.ensures
+    two-row c.requires {row' = c.legalize_one-one.new.1.1.1.1.0} (record { outs = c.legalize_one-one.auto.halves; halves = c.legalize_one-one.auto.faces; faces = c.legalize_one-one.auto.pending; pending = c.legalize_one-one.auto.1.1.1.1.0 }) _ c.legalize_one-one.ensures _ _ _ _ c.legalize_one.ensures

@@ -8,8 +8,7 @@ create_single_face_between_edge_and_next-new-requires c = single-ready c.require
 
 pub legalize_edge-done-requires : goal.legalize_edge-done-requires
 legalize_edge-done-requires c =
-    let x = c.create_single_face_between_edge_and_next-new in
-    legalize-ready c.requires x.ensures x.auto.0 x.auto.1.0
+    legalize-ready c.requires c.create_single_face_between_edge_and_next-new.ensures c.create_single_face_between_edge_and_next-new.auto.halves c.create_single_face_between_edge_and_next-new.auto.faces
 
 pub overflow_add-result : goal.overflow_add-result
 overflow_add-result c = record { fits = faces-fit-32 c.requires }

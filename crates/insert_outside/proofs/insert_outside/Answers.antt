@@ -24,30 +24,27 @@ first_face-first-requires c = first-ready c.requires
 
 pub outside_walk-left-requires : goal.outside_walk-left-requires
 outside_walk-left-requires c =
-    let x = c.first_face-first in
-    left-ready c.requires {row₁ = x.new.1.1.1.1.0} _ x.ensures
-    (record { outs = x.auto.1.0; halves = x.auto.1.1.0; faces = x.auto.1.1.1.0; pending = x.auto.1.1.1.1.0 })
+    left-ready c.requires {row₁ = c.first_face-first.new.1.1.1.1.0} _ c.first_face-first.ensures
+    (record { outs = c.first_face-first.auto.halves; halves = c.first_face-first.auto.faces; faces = c.first_face-first.auto.pending; pending = c.first_face-first.auto.1.1.1.1.0 })
 
 pub outside_walk-right-requires : goal.outside_walk-right-requires
 outside_walk-right-requires c =
-    let x = c.first_face-first in
-    let y = c.outside_walk-left in
-    right-ready c.requires {row₁ = x.new.1.1.1.1.0} _ x.ensures
-    (record { outs = x.auto.1.0; halves = x.auto.1.1.0; faces = x.auto.1.1.1.0; pending = x.auto.1.1.1.1.0 })
-    {row₂ = y.new.1.1.1.1.0} _ y.ensures
-    (record { outs = y.auto.1.0; halves = y.auto.1.1.0; faces = y.auto.1.1.1.0; pending = y.auto.1.1.1.1.0 })
+    right-ready c.requires {row₁ = c.first_face-first.new.1.1.1.1.0} _ c.first_face-first.ensures
+    (record { outs = c.first_face-first.auto.halves; halves = c.first_face-first.auto.faces; faces = c.first_face-first.auto.pending; pending = c.first_face-first.auto.1.1.1.1.0 })
+    {row₂ = c.outside_walk-left.new.1.1.1.1.0} _ c.outside_walk-left.ensures
+    (record { outs = c.outside_walk-left.auto.halves; halves = c.outside_walk-left.auto.faces; faces = c.outside_walk-left.auto.pending; pending = c.outside_walk-left.auto.1.1.1.1.0 })
 
 pub shape_of-outs : goal.shape_of-outs
 shape_of-outs c =
-    c.outside_walk-right.auto.1.0 ∙ c.outside_walk-left.auto.1.0 ∙ c.first_face-first.auto.1.0
+    c.outside_walk-right.auto.halves ∙ c.outside_walk-left.auto.halves ∙ c.first_face-first.auto.halves
 
 pub shape_of-halves : goal.shape_of-halves
 shape_of-halves c =
-    c.outside_walk-right.auto.1.1.0 ∙ c.outside_walk-left.auto.1.1.0 ∙ c.first_face-first.auto.1.1.0
+    c.outside_walk-right.auto.faces ∙ c.outside_walk-left.auto.faces ∙ c.first_face-first.auto.faces
 
 pub shape_of-faces : goal.shape_of-faces
 shape_of-faces c =
-    c.outside_walk-right.auto.1.1.1.0 ∙ c.outside_walk-left.auto.1.1.1.0 ∙ c.first_face-first.auto.1.1.1.0
+    c.outside_walk-right.auto.pending ∙ c.outside_walk-left.auto.pending ∙ c.first_face-first.auto.pending
 
 pub shape_of-pending : goal.shape_of-pending
 shape_of-pending c =
@@ -55,10 +52,8 @@ shape_of-pending c =
 
 pub returns : goal.returns
 returns c =
-    let x = c.first_face-first in
-    let y = c.outside_walk-left in
-    inserted-rows c.requires {row₁ = x.new.1.1.1.1.0} _ x.ensures
-    (record { outs = x.auto.1.0; halves = x.auto.1.1.0; faces = x.auto.1.1.1.0; pending = x.auto.1.1.1.1.0 })
-    {row₂ = y.new.1.1.1.1.0} _ y.ensures
-    (record { outs = y.auto.1.0; halves = y.auto.1.1.0; faces = y.auto.1.1.1.0; pending = y.auto.1.1.1.1.0 })
+    inserted-rows c.requires {row₁ = c.first_face-first.new.1.1.1.1.0} _ c.first_face-first.ensures
+    (record { outs = c.first_face-first.auto.halves; halves = c.first_face-first.auto.faces; faces = c.first_face-first.auto.pending; pending = c.first_face-first.auto.1.1.1.1.0 })
+    {row₂ = c.outside_walk-left.new.1.1.1.1.0} _ c.outside_walk-left.ensures
+    (record { outs = c.outside_walk-left.auto.halves; halves = c.outside_walk-left.auto.faces; faces = c.outside_walk-left.auto.pending; pending = c.outside_walk-left.auto.1.1.1.1.0 })
     _ _ _ _ c.outside_walk-right.ensures

@@ -19,8 +19,7 @@ should_flip-requires c =
 pub returns-then-not-should_flip : goal.returns-then-not-should_flip
 returns-then-not-should_flip c =
     let R = pop-ready c.requires.0 c.requires.1 in
-    let t = c.pop-taken in
-    turn-keeps c.requires.0 c.requires.1 (pop_kept R t.ensures (edge-is _) c.should_flip.ensures (not-true _ c.if-not-should_flip.true-raw)) t.auto.0 refl
+    turn-keeps c.requires.0 c.requires.1 (pop_kept R c.pop-taken.ensures (edge-is _) c.should_flip.ensures (not-true _ c.if-not-should_flip.true-raw)) c.pop-taken.auto.pending refl
 
 pub push_edges-pushed-requires : goal.push_edges-pushed-requires
 push_edges-pushed-requires c =
@@ -31,16 +30,12 @@ push_edges-pushed-requires c =
 pub returns-then-pushed-pending : goal.returns-then-pushed-pending
 returns-then-pushed-pending c =
     let R = pop-ready c.requires.0 c.requires.1 in
-    let t = c.pop-taken in
-    let p = c.push_edges-pushed in
-    turn-refuses c.requires.0 c.requires.1 (pop-flipped R t.ensures (edge-is _) c.should_flip.ensures (not-false _ c.if-not-should_flip.false-raw) p.ensures) (p.auto.1.0 ∙ t.auto.0) refl c.if-pushed-pending.true
+    turn-refuses c.requires.0 c.requires.1 (pop-flipped R c.pop-taken.ensures (edge-is _) c.should_flip.ensures (not-false _ c.if-not-should_flip.false-raw) c.push_edges-pushed.ensures) (c.push_edges-pushed.auto.1.0 ∙ c.pop-taken.auto.pending) refl c.if-pushed-pending.true
 
 pub flip_cw-requires : goal.flip_cw-requires
 flip_cw-requires c =
     let R = pop-ready c.requires.0 c.requires.1 in
-    let t = c.pop-taken in
-    let p = c.push_edges-pushed in
-    turn-flip-ready c.requires.0 c.requires.1 (pop-flipped R t.ensures (edge-is _) c.should_flip.ensures (not-false _ c.if-not-should_flip.false-raw) p.ensures) (p.auto.1.0 ∙ t.auto.0) refl
+    turn-flip-ready c.requires.0 c.requires.1 (pop-flipped R c.pop-taken.ensures (edge-is _) c.should_flip.ensures (not-false _ c.if-not-should_flip.false-raw) c.push_edges-pushed.ensures) (c.push_edges-pushed.auto.1.0 ∙ c.pop-taken.auto.pending) refl
 
 pub overflow_add-more : goal.overflow_add-more
 overflow_add-more c =
@@ -49,6 +44,4 @@ overflow_add-more c =
 pub returns : goal.returns
 returns c =
     let R = pop-ready c.requires.0 c.requires.1 in
-    let t = c.pop-taken in
-    let p = c.push_edges-pushed in
-    turn-flips c.requires.0 c.requires.1 (pop-flipped R t.ensures (edge-is _) c.should_flip.ensures (not-false _ c.if-not-should_flip.false-raw) p.ensures) (p.auto.1.0 ∙ t.auto.0) refl c.if-pushed-pending.false c.flip_cw.ensures
+    turn-flips c.requires.0 c.requires.1 (pop-flipped R c.pop-taken.ensures (edge-is _) c.should_flip.ensures (not-false _ c.if-not-should_flip.false-raw) c.push_edges-pushed.ensures) (c.push_edges-pushed.auto.1.0 ∙ c.pop-taken.auto.pending) refl c.if-pushed-pending.false c.flip_cw.ensures

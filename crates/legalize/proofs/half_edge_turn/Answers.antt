@@ -32,15 +32,13 @@ pub returns-then-m-pending : goal.returns-then-m-pending
 returns-then-m-pending c =
     let R = pop-ready c.requires.0 c.requires.1 in
     let P = plain-taken c.requires.0.fits c.last-e.ensures in
-    let p = c.push_half_edges-m in
-    turn-refuses c.requires.0 c.requires.1 (pop-flipped R P (half-edge-is _) c.should_flip.ensures (not-false _ c.if-not-should_flip.false-raw) (p.ensures _)) p.auto.1.0 refl c.if-m-pending.true
+    turn-refuses c.requires.0 c.requires.1 (pop-flipped R P (half-edge-is _) c.should_flip.ensures (not-false _ c.if-not-should_flip.false-raw) (c.push_half_edges-m.ensures _)) c.push_half_edges-m.auto.1.0 refl c.if-m-pending.true
 
 pub flip_cw-requires : goal.flip_cw-requires
 flip_cw-requires c =
     let R = pop-ready c.requires.0 c.requires.1 in
     let P = plain-taken c.requires.0.fits c.last-e.ensures in
-    let p = c.push_half_edges-m in
-    turn-flip-ready c.requires.0 c.requires.1 (pop-flipped R P (half-edge-is _) c.should_flip.ensures (not-false _ c.if-not-should_flip.false-raw) (p.ensures _)) p.auto.1.0 refl
+    turn-flip-ready c.requires.0 c.requires.1 (pop-flipped R P (half-edge-is _) c.should_flip.ensures (not-false _ c.if-not-should_flip.false-raw) (c.push_half_edges-m.ensures _)) c.push_half_edges-m.auto.1.0 refl
 
 pub overflow_add-more : goal.overflow_add-more
 overflow_add-more c =
@@ -50,5 +48,4 @@ pub returns : goal.returns
 returns c =
     let R = pop-ready c.requires.0 c.requires.1 in
     let P = plain-taken c.requires.0.fits c.last-e.ensures in
-    let p = c.push_half_edges-m in
-    turn-flips c.requires.0 c.requires.1 (pop-flipped R P (half-edge-is _) c.should_flip.ensures (not-false _ c.if-not-should_flip.false-raw) (p.ensures _)) p.auto.1.0 refl c.if-m-pending.false c.flip_cw.ensures
+    turn-flips c.requires.0 c.requires.1 (pop-flipped R P (half-edge-is _) c.should_flip.ensures (not-false _ c.if-not-should_flip.false-raw) (c.push_half_edges-m.ensures _)) c.push_half_edges-m.auto.1.0 refl c.if-m-pending.false c.flip_cw.ensures

@@ -10,30 +10,26 @@ use Rattle.legalize.proofs.legalize_edges_after_removal.Goals as goal
 
 pub legalize_edges-requires : goal.legalize_edges-requires
 legalize_edges-requires c =
-    let p₁ = c.push-n in
-    let p₂ = c.push-m in
     let z = c.list_of-list in
-    start-ready Edge c.requires.0 z.result (listed z.result z.ensures.0 (p₂.ensures _ (p₁.ensures [] (empty _)))) (unmarked z.result z.ensures.1)
-    (p₂.auto.0 ∙ p₁.auto.0) (omega arith) (edges-in c.args.counts _ _ c.requires.1 c.requires.2)
+    start-ready Edge c.requires.0 z.result (listed z.result z.ensures.0 (c.push-m.ensures _ (c.push-n.ensures [] (empty _)))) (unmarked z.result z.ensures.1)
+    (c.push-m.auto.pending ∙ c.push-n.auto.pending) (omega arith) (edges-in c.args.counts _ _ c.requires.1 c.requires.2)
 
 pub shape_of-outs : goal.shape_of-outs
-shape_of-outs c = c.legalize_edges.auto.1.0
+shape_of-outs c = c.legalize_edges.auto.halves
 
 pub shape_of-halves : goal.shape_of-halves
-shape_of-halves c = c.legalize_edges.auto.1.1.0
+shape_of-halves c = c.legalize_edges.auto.faces
 
 pub shape_of-faces : goal.shape_of-faces
-shape_of-faces c = c.legalize_edges.auto.1.1.1.0
+shape_of-faces c = c.legalize_edges.auto.pending
 
 pub shape_of-pending : goal.shape_of-pending
 shape_of-pending c =
-    c.legalize_edges.auto.1.1.1.1.0 ∙ c.push-m.auto.0 ∙ c.push-n.auto.0
+    c.legalize_edges.auto.1.1.1.1.0 ∙ c.push-m.auto.pending ∙ c.push-n.auto.pending
 
 pub returns : goal.returns
 returns c =
-    let p₁ = c.push-n in
-    let p₂ = c.push-m in
     let z = c.list_of-list in
-    start-leaves Edge c.requires.0 z.result (listed z.result z.ensures.0 (p₂.ensures _ (p₁.ensures [] (empty _)))) (unmarked z.result z.ensures.1)
-    (p₂.auto.0 ∙ p₁.auto.0) (omega arith) (edges-in c.args.counts _ _ c.requires.1 c.requires.2)
+    start-leaves Edge c.requires.0 z.result (listed z.result z.ensures.0 (c.push-m.ensures _ (c.push-n.ensures [] (empty _)))) (unmarked z.result z.ensures.1)
+    (c.push-m.auto.pending ∙ c.push-n.auto.pending) (omega arith) (edges-in c.args.counts _ _ c.requires.1 c.requires.2)
     c.legalize_edges.ensures

@@ -12,7 +12,7 @@ push_two-requires c = c.push_two-two.ensures.set
 
 pub shape_of-pending : goal.shape_of-pending
 shape_of-pending c =
-    c.push_two.auto.0 ∙ c.push_two-two.auto.0
+    c.push_two.auto.pending ∙ c.push_two-two.auto.pending
 
 pub returns : goal.returns
 returns c =

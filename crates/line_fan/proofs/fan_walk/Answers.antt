@@ -22,7 +22,7 @@ loop-side-smaller c =
 pub loop-side-preserved : goal.loop-side-preserved
 loop-side-preserved c =
     walk-on c.loop-side.invariant c.sees_beside.ensures c.loop-side-test.true _ _ _ c.fan_turn-now.ensures
-    c.fan_turn-now.auto.0 c.fan_turn-now.auto.1.0
+    c.fan_turn-now.auto.halves c.fan_turn-now.auto.faces
 
 pub shape_of-halves : goal.shape_of-halves
 shape_of-halves c = c.loop-side.invariant.halves

@@ -9,14 +9,11 @@ create_new_face_adjacent_to_edge-after-requires c = new-ready c.requires
 
 pub fan_walk-left-requires : goal.fan_walk-left-requires
 fan_walk-left-requires c =
-    let x = c.create_new_face_adjacent_to_edge-after in
-    left-ready c.requires x.ensures x.auto.1.0 x.auto.1.1.0
+    left-ready c.requires c.create_new_face_adjacent_to_edge-after.ensures c.create_new_face_adjacent_to_edge-after.auto.halves c.create_new_face_adjacent_to_edge-after.auto.faces
 
 pub fan_walk-right-requires : goal.fan_walk-right-requires
 fan_walk-right-requires c =
-    let x = c.create_new_face_adjacent_to_edge-after in
-    let y = c.fan_walk-left in
-    right-ready c.requires x.ensures _ _ _ y.ensures (y.auto.1.0 ∙ x.auto.1.0) (y.auto.1.1.0 ∙ x.auto.1.1.0)
+    right-ready c.requires c.create_new_face_adjacent_to_edge-after.ensures _ _ _ c.fan_walk-left.ensures (c.fan_walk-left.auto.faces ∙ c.create_new_face_adjacent_to_edge-after.auto.halves) (c.fan_walk-left.auto.1.1.0 ∙ c.create_new_face_adjacent_to_edge-after.auto.faces)
 
 pub returns : goal.returns
 returns c =

@@ -8,7 +8,7 @@ use Rattle.line_operations.proofs.extend_line.Goals as goal
 pub set_next-requires : goal.set_next-requires
 set_next-requires c =
     let R = c.requires in
-    omega (arith, c.set_prev.auto.0, in-edge-there R c.out-o.ensures c.rev-i.ensures)
+    omega (arith, c.set_prev.auto.halves, in-edge-there R c.out-o.ensures c.rev-i.ensures)
 
 pub returns : goal.returns
 returns c =

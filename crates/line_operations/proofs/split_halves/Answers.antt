@@ -7,9 +7,9 @@ use Rattle.line_operations.proofs.split_halves.Goals as goal
 pub new_edge-requires : goal.new_edge-requires
 new_edge-requires c =
     let R = c.requires in
-    let k₁ = c.set_next.auto.0 in
-    let k₂ = c.set_prev.auto.0 in
-    let k₃ = c.set_origin.auto.0 in
+    let k₁ = c.set_next.auto.halves in
+    let k₂ = c.set_prev.auto.halves in
+    let k₃ = c.set_origin.auto.halves in
     let a = next-there R c.half_edge-x.ensures in
     let b = prev-there R c.rev-t.ensures c.half_edge-y.ensures in
     (R.edges, omega (arith, R.added, k₁, k₂, k₃), omega (arith, a, k₁, k₂, k₃), omega (arith, b, k₁, k₂, k₃))

@@ -26,7 +26,7 @@ update_buckets-requires c =
 pub retire-requires : goal.retire-requires
 retire-requires c =
     let I = c.requires in
-    to-retire I c.find_left-found.ensures c.equal-goes.ensures c.choose-choice.ensures c.first_pushed-from.ensures c.place.auto.0 c.choose-choice.auto.1.0
+    to-retire I c.find_left-found.ensures c.equal-goes.ensures c.choose-choice.ensures c.first_pushed-from.ensures c.place.auto.nodes c.choose-choice.auto.1.0
 
 pub floored_bucket-bucket-requires : goal.floored_bucket-bucket-requires
 floored_bucket-bucket-requires c =

@@ -16,7 +16,7 @@ set_edge-requires c = node-there c.loop-k.invariant c.loop-k-test.true
 
 pub loop-k-preserved : goal.loop-k-preserved
 loop-k-preserved c =
-    again c.loop-k.invariant c.loop-k-test.true c.set_edge.ensures c.set_edge.auto.0
+    again c.loop-k.invariant c.loop-k-test.true c.set_edge.ensures c.set_edge.auto.nodes
 
 pub shape_of-nodes : goal.shape_of-nodes
 shape_of-nodes c = c.loop-k.invariant.same

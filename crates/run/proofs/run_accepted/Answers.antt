@@ -16,39 +16,39 @@ pub sweep-end-requires : goal.sweep-end-requires
 sweep-end-requires c = to-sweep _ c.requires _ _ _ c.start_ring-hull.ensures c.start_ring-hull.auto.1.1.1.0 c.start_ring-hull.auto.1.1.1.1.0 _ c.point_count-count.ensures
 
 pub zero_answers-requires : goal.zero_answers-requires
-zero_answers-requires c = to-zero _ c.requires _ c.point_count-count.ensures _ _ _ _ _ _ c.sweep-end.ensures c.sweep-end.auto.1.1.1.1.1.1.1.1.0
+zero_answers-requires c = to-zero _ c.requires _ c.point_count-count.ensures _ _ _ _ _ _ c.sweep-end.ensures c.sweep-end.auto.answers
 
 pub complete_after-done-requires : goal.complete_after-done-requires
 complete_after-done-requires c =
     let k = c.sweep-end.auto in
-    to-complete _ c.requires _ c.point_count-count.ensures _ _ _ _ _ _ c.sweep-end.ensures _ c.zero_answers.ensures _ k.0 k.1.0 k.1.1.0 k.1.1.1.0 k.1.1.1.1.0 (c.zero_answers.auto.0 ∙ k.1.1.1.1.1.1.1.1.0)
+    to-complete _ c.requires _ c.point_count-count.ensures _ _ _ _ _ _ c.sweep-end.ensures _ c.zero_answers.ensures _ k.0 k.1.0 k.1.1.0 k.1.1.1.0 k.1.1.1.1.0 (c.zero_answers.auto.answers ∙ k.1.1.1.1.1.1.1.1.0)
 
 pub shape_of-positions : goal.shape_of-positions
-shape_of-positions c = c.complete_after-done.auto.0 ∙ c.sweep-end.auto.0
+shape_of-positions c = c.complete_after-done.auto.positions ∙ c.sweep-end.auto.positions
 
 pub shape_of-outs : goal.shape_of-outs
-shape_of-outs c = c.complete_after-done.auto.1.0 ∙ c.sweep-end.auto.1.0
+shape_of-outs c = c.complete_after-done.auto.outs ∙ c.sweep-end.auto.outs
 
 pub shape_of-halves : goal.shape_of-halves
-shape_of-halves c = c.complete_after-done.auto.1.1.0 ∙ c.sweep-end.auto.1.1.0
+shape_of-halves c = c.complete_after-done.auto.halves ∙ c.sweep-end.auto.halves
 
 pub shape_of-faces : goal.shape_of-faces
-shape_of-faces c = c.complete_after-done.auto.1.1.1.0 ∙ c.sweep-end.auto.1.1.1.0
+shape_of-faces c = c.complete_after-done.auto.faces ∙ c.sweep-end.auto.faces
 
 pub shape_of-nodes : goal.shape_of-nodes
-shape_of-nodes c = c.clear_rows.auto.0 ∙ c.sweep-end.auto.1.1.1.1.1.0 ∙ c.start_ring-hull.auto.1.1.1.0
+shape_of-nodes c = c.clear_rows.auto.nodes ∙ c.sweep-end.auto.nodes ∙ c.start_ring-hull.auto.1.1.1.0
 
 pub shape_of-freed : goal.shape_of-freed
-shape_of-freed c = c.clear_rows.auto.1.0 ∙ c.sweep-end.auto.1.1.1.1.1.1.0
+shape_of-freed c = c.clear_rows.auto.freed ∙ c.sweep-end.auto.freed
 
 pub shape_of-buckets : goal.shape_of-buckets
-shape_of-buckets c = c.clear_rows.auto.1.1.0 ∙ c.complete_after-done.auto.1.1.1.1.1.1.0 ∙ c.sweep-end.auto.1.1.1.1.1.1.1.0 ∙ c.start_ring-hull.auto.1.1.1.1.0
+shape_of-buckets c = c.clear_rows.auto.buckets ∙ c.complete_after-done.auto.grid ∙ c.sweep-end.auto.buckets ∙ c.start_ring-hull.auto.1.1.1.1.0
 
 pub shape_of-pending : goal.shape_of-pending
-shape_of-pending c = c.clear_rows.auto.1.1.1.0 ∙ c.complete_after-done.auto.1.1.1.1.0 ∙ c.sweep-end.auto.1.1.1.1.0
+shape_of-pending c = c.clear_rows.auto.pending ∙ c.complete_after-done.auto.pending ∙ c.sweep-end.auto.pending
 
 pub shape_of-answers : goal.shape_of-answers
-shape_of-answers c = c.complete_after-done.auto.1.1.1.1.1.0 ∙ c.zero_answers.auto.0 ∙ c.sweep-end.auto.1.1.1.1.1.1.1.1.0
+shape_of-answers c = c.complete_after-done.auto.answers ∙ c.zero_answers.auto.answers ∙ c.sweep-end.auto.answers
 
 pub returns : goal.returns
 returns c =
@@ -58,4 +58,4 @@ returns c =
     run-done _ c.requires _ c.point_count-count.ensures _ _ _ _ _ _ c.sweep-end.ensures _ c.zero_answers.ensures _ _ _ _ _ _ _ k.1.1.1.1.0 c.complete_after-done.ensures _ _ _ _ _
     (record { positions = f.0 ∙ k.0; outs = f.1.0 ∙ k.1.0; halves = f.1.1.0 ∙ k.1.1.0; faces = f.1.1.1.0 ∙ k.1.1.1.0 })
     (k.1.1.1.1.1.0 ∙ g.1.1.1.0) k.1.1.1.1.1.1.0 (f.1.1.1.1.1.1.0 ∙ k.1.1.1.1.1.1.1.0 ∙ g.1.1.1.1.0) (f.1.1.1.1.0 ∙ k.1.1.1.1.0)
-    (f.1.1.1.1.1.0 ∙ c.zero_answers.auto.0 ∙ k.1.1.1.1.1.1.1.1.0) c.clear_rows.ensures (c.answer_of.ensures _ _ _)
+    (f.1.1.1.1.1.0 ∙ c.zero_answers.auto.answers ∙ k.1.1.1.1.1.1.1.1.0) c.clear_rows.ensures (c.answer_of.ensures _ _ _)

@@ -16,31 +16,31 @@ pub sweep-requires : goal.sweep-requires
 sweep-requires c = to-sweep _ c.requires _ _ _ c.start_ring-hull.ensures c.start_ring-hull.auto.1.1.1.0 c.start_ring-hull.auto.1.1.1.1.0 _ c.point_count-count.ensures
 
 pub shape_of-positions : goal.shape_of-positions
-shape_of-positions c = c.sweep.auto.0
+shape_of-positions c = c.sweep.auto.positions
 
 pub shape_of-outs : goal.shape_of-outs
-shape_of-outs c = c.sweep.auto.1.0
+shape_of-outs c = c.sweep.auto.outs
 
 pub shape_of-halves : goal.shape_of-halves
-shape_of-halves c = c.sweep.auto.1.1.0
+shape_of-halves c = c.sweep.auto.halves
 
 pub shape_of-faces : goal.shape_of-faces
-shape_of-faces c = c.sweep.auto.1.1.1.0
+shape_of-faces c = c.sweep.auto.faces
 
 pub shape_of-nodes : goal.shape_of-nodes
-shape_of-nodes c = c.sweep.auto.1.1.1.1.1.0 ∙ c.start_ring-hull.auto.1.1.1.0
+shape_of-nodes c = c.sweep.auto.nodes ∙ c.start_ring-hull.auto.1.1.1.0
 
 pub shape_of-freed : goal.shape_of-freed
-shape_of-freed c = c.sweep.auto.1.1.1.1.1.1.0
+shape_of-freed c = c.sweep.auto.freed
 
 pub shape_of-buckets : goal.shape_of-buckets
-shape_of-buckets c = c.sweep.auto.1.1.1.1.1.1.1.0 ∙ c.start_ring-hull.auto.1.1.1.1.0
+shape_of-buckets c = c.sweep.auto.buckets ∙ c.start_ring-hull.auto.1.1.1.1.0
 
 pub shape_of-pending : goal.shape_of-pending
-shape_of-pending c = c.sweep.auto.1.1.1.1.0
+shape_of-pending c = c.sweep.auto.pending
 
 pub shape_of-answers : goal.shape_of-answers
-shape_of-answers c = c.sweep.auto.1.1.1.1.1.1.1.1.0
+shape_of-answers c = c.sweep.auto.answers
 
 pub returns : goal.returns
 returns c = c.sweep.ensures.is ∙ ap (sweep_after _ _ _ _ _ _ _) c.point_count-count.ensures

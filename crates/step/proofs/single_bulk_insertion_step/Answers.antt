@@ -20,16 +20,15 @@ pub insert-ring-requires : goal.insert-ring-requires
 insert-ring-requires c = to-enter c.requires c.decide-decision.ensures c.is_added.ensures c.if-not-is_added.false-raw c.add_point-entered.ensures c.if-added.false
 
 pub shape_of-positions : goal.shape_of-positions
-shape_of-positions c = c.add_point-entered.auto.0
+shape_of-positions c = c.add_point-entered.auto.positions
 
 pub shape_of-outs : goal.shape_of-outs
-shape_of-outs c = c.add_point-entered.auto.1.0
+shape_of-outs c = c.add_point-entered.auto.outs
 
 pub shape_of-halves : goal.shape_of-halves
-shape_of-halves c = c.add_point-entered.auto.1.1.0
+shape_of-halves c = c.add_point-entered.auto.halves
 
 pub returns : goal.returns
 returns c =
-    let p = c.add_point-entered in
-    added-done c.requires c.decide-decision.ensures c.is_added.ensures c.if-not-is_added.false-raw p.ensures c.if-added.false
-    p.auto.0 p.auto.1.0 p.auto.1.1.0 p.auto.1.1.1.0 c.insert-ring.ensures c.progress_of-2.ensures
+    added-done c.requires c.decide-decision.ensures c.is_added.ensures c.if-not-is_added.false-raw c.add_point-entered.ensures c.if-added.false
+    c.add_point-entered.auto.positions c.add_point-entered.auto.outs c.add_point-entered.auto.halves c.add_point-entered.auto.faces c.insert-ring.ensures c.progress_of-2.ensures

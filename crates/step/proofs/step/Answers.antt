@@ -11,6 +11,5 @@ sweep_once-progress-requires c = once-accepted c.in-Accepted.is c.check_step.ens
 
 pub returns : goal.returns
 returns c =
-    let p = c.sweep_once-progress in
     accepted-outcome _ _ _ _ _ _ c.in-Accepted.is c.check_step.ensures
-    p.ensures (record { positions = p.auto.0; outs = p.auto.1.0; halves = p.auto.1.1.0; faces = p.auto.1.1.1.0 }) (c.answer_of.ensures _)
+    c.sweep_once-progress.ensures (record { positions = c.sweep_once-progress.auto.positions; outs = c.sweep_once-progress.auto.outs; halves = c.sweep_once-progress.auto.halves; faces = c.sweep_once-progress.auto.faces }) (c.answer_of.ensures _)

@@ -16,28 +16,28 @@ pub single_bulk_insertion_step-done-requires : goal.single_bulk_insertion_step-d
 single_bulk_insertion_step-done-requires c = sweeping-ready c.loop-i.invariant (omega (arith, c.loop-i-test.true)) c.position-point.ensures
 
 pub shape_of-positions-then-done : goal.shape_of-positions-then-done
-shape_of-positions-then-done c = c.single_bulk_insertion_step-done.auto.0 ∙ c.loop-i.invariant.lengths.positions
+shape_of-positions-then-done c = c.single_bulk_insertion_step-done.auto.positions ∙ c.loop-i.invariant.lengths.positions
 
 pub shape_of-outs-then-done : goal.shape_of-outs-then-done
-shape_of-outs-then-done c = c.single_bulk_insertion_step-done.auto.1.0 ∙ c.loop-i.invariant.lengths.outs
+shape_of-outs-then-done c = c.single_bulk_insertion_step-done.auto.outs ∙ c.loop-i.invariant.lengths.outs
 
 pub shape_of-halves-then-done : goal.shape_of-halves-then-done
-shape_of-halves-then-done c = c.single_bulk_insertion_step-done.auto.1.1.0 ∙ c.loop-i.invariant.lengths.halves
+shape_of-halves-then-done c = c.single_bulk_insertion_step-done.auto.halves ∙ c.loop-i.invariant.lengths.halves
 
 pub shape_of-faces-then-done : goal.shape_of-faces-then-done
-shape_of-faces-then-done c = c.single_bulk_insertion_step-done.auto.1.1.1.0 ∙ c.loop-i.invariant.lengths.faces
+shape_of-faces-then-done c = c.single_bulk_insertion_step-done.auto.faces ∙ c.loop-i.invariant.lengths.faces
 
 pub shape_of-pending-then-done : goal.shape_of-pending-then-done
-shape_of-pending-then-done c = c.single_bulk_insertion_step-done.auto.1.1.1.1.0 ∙ c.loop-i.invariant.lengths.pending
+shape_of-pending-then-done c = c.single_bulk_insertion_step-done.auto.pending ∙ c.loop-i.invariant.lengths.pending
 
 pub shape_of-nodes-then-done : goal.shape_of-nodes-then-done
-shape_of-nodes-then-done c = c.single_bulk_insertion_step-done.auto.1.1.1.1.1.0 ∙ c.loop-i.invariant.lengths.nodes
+shape_of-nodes-then-done c = c.single_bulk_insertion_step-done.auto.nodes ∙ c.loop-i.invariant.lengths.nodes
 
 pub shape_of-freed-then-done : goal.shape_of-freed-then-done
-shape_of-freed-then-done c = c.single_bulk_insertion_step-done.auto.1.1.1.1.1.1.0 ∙ c.loop-i.invariant.lengths.freed
+shape_of-freed-then-done c = c.single_bulk_insertion_step-done.auto.freed ∙ c.loop-i.invariant.lengths.freed
 
 pub shape_of-buckets-then-done : goal.shape_of-buckets-then-done
-shape_of-buckets-then-done c = c.single_bulk_insertion_step-done.auto.1.1.1.1.1.1.1.0 ∙ c.loop-i.invariant.lengths.buckets
+shape_of-buckets-then-done c = c.single_bulk_insertion_step-done.auto.buckets ∙ c.loop-i.invariant.lengths.buckets
 
 pub shape_of-answers-then-done : goal.shape_of-answers-then-done
 shape_of-answers-then-done c = c.loop-i.invariant.lengths.answers
@@ -58,9 +58,8 @@ pub loop-i-preserved : goal.loop-i-preserved
 loop-i-preserved c =
     let s = c.single_bulk_insertion_step-done in
     let k = s.auto in
-    let w = c.store_answer in
     sweeping-on c.loop-i.invariant (omega (arith, c.loop-i-test.true)) c.position-point.ensures s.ensures c.if-done.false
-    k.0 k.1.0 k.1.1.0 k.1.1.1.0 k.1.1.1.1.0 k.1.1.1.1.1.0 k.1.1.1.1.1.1.0 k.1.1.1.1.1.1.1.0 _ w.ensures w.auto.0
+    k.0 k.1.0 k.1.1.0 k.1.1.1.0 k.1.1.1.1.0 k.1.1.1.1.1.0 k.1.1.1.1.1.1.0 k.1.1.1.1.1.1.1.0 _ c.store_answer.ensures c.store_answer.auto.answers
 
 pub shape_of-positions : goal.shape_of-positions
 shape_of-positions c = c.loop-i.invariant.lengths.positions

@@ -18,7 +18,7 @@ store_fate-requires c =
 pub loop-i-preserved : goal.loop-i-preserved
 loop-i-preserved c =
     let I = c.loop-i.invariant in
-    (omega arith, c.store_fate.auto.0 ∙ I.1, stored_more _ _ _ _ _ _ I.2 c.store_fate.ensures)
+    (omega arith, c.store_fate.auto.heights ∙ I.1, stored_more _ _ _ _ _ _ I.2 c.store_fate.ensures)
 
 pub shape_of-heights : goal.shape_of-heights
 shape_of-heights c = c.loop-i.invariant.1

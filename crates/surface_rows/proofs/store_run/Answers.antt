@@ -23,7 +23,7 @@ store_fates-requires c =
 
 pub store_fates-requires-2 : goal.store_fates-requires-2
 store_fates-requires-2 c =
-    rooms-at (c.requires.inserted (sym c.is_made.ensures ∙ not-false _ c.if-not-is_made.false-raw)) c.store_fates.auto.0 c.point_count-n.ensures
+    rooms-at (c.requires.inserted (sym c.is_made.ensures ∙ not-false _ c.if-not-is_made.false-raw)) c.store_fates.auto.heights c.point_count-n.ensures
 
 pub height-z-requires : goal.height-z-requires
 height-z-requires c =
@@ -37,7 +37,7 @@ pub set_height-requires : goal.set_height-requires
 set_height-requires c =
     let r = last-room c.requires (sym c.is_made.ensures ∙ not-false _ c.if-not-is_made.false-raw) c.point_count-n.ensures c.place_of-place.ensures c.if-place-n.true in
     let a = r.1 in let b = r.2 in
-    let k = c.store_fates.auto.0 in let m = c.store_fates-2.auto.0 in
+    let k = c.store_fates.auto.heights in let m = c.store_fates-2.auto.heights in
     omega arith
 
 pub returns-then-place-n : goal.returns-then-place-n
