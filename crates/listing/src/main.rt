@@ -6,15 +6,27 @@
 // A listing always fits: `list` says that it has at most 42,949 bytes.
 #![tactic(auto)]
 
+use std::alloc::Global;
+use std::io;
+use std::io::{Read, Write};
+
 const ROOM: usize = 65536;
 
-const ROOM_AND_ONE: usize = 65537;
+const ROOM_AND_ONE: u64 = 65537;
 
-fn main() {
-    let mut text = [0u8; ROOM_AND_ONE];
+// The text, or as much of it as there is room for and a zero.
+fn read_text(rt: &impl Input, alloc: Global) -> io::Result<Vec<u8>> {
+    let mut text = Vec::new(alloc);
+    rt.reader().take(ROOM_AND_ONE).read_to_end(&mut text)?;
+    if text.len() > ROOM {
+        text[ROOM] = 0;
+    }
+    Ok(text)
+}
+
+fn main(rt: HostRuntime) -> io::Result<()> {
+    let text = read_text(&rt, rt.alloc())?;
     let mut row = [0u8; ROOM];
-    let n = io::read_full(0, &mut text);
-    text[ROOM] = 0;
-    let end = listing_run::list(&text[..n], &mut row);
-    io::write_all(1, &row[..end]);
+    let end = listing_run::list(&text, &mut row);
+    io::writer(&rt).write_all(&row[..end])
 }

@@ -4,6 +4,12 @@
 // the samples, go through the exports of the crate `fithmoul`. A list that is not whole counts as one difference more.
 #![tactic(auto)]
 
+use std::alloc::Global;
+use std::fs::File;
+use std::io;
+use std::io::Read;
+use std::rt::Files;
+
 // No list is as long as this.
 const TEXT: usize = 2097152;
 
@@ -159,38 +165,46 @@ fn result(text: &[u8], list: List) -> Tally {
 }
 
 // One line: the list's name, the totals, and where the first difference is.
-fn print(name: &[u8], t: Tally) {
-    io::write_all(1, name);
-    io::write_all(1, b" agree ");
-    io::print_decimal(1, t.agree as u64);
-    io::write_all(1, b" differ ");
-    io::print_decimal(1, t.differ as u64);
-    if t.differ != 0 {
-        io::write_all(1, b" first at byte ");
-        io::print_decimal(1, t.first as u64);
+fn print(rt: &impl Print, name: &str, t: Tally) -> io::Result<()> {
+    let agree = t.agree;
+    let differ = t.differ;
+    let first = t.first;
+    if differ == 0 {
+        return println!(rt; "{name} agree {agree} differ {differ}");
     }
-    io::write_all(1, b"\n");
+    println!(rt; "{name} agree {agree} differ {differ} first at byte {first}")
+}
+
+// The text of a file, as far as there is room for it.
+fn read(rt: &impl Files, alloc: Global, path: &str) -> io::Result<Vec<u8>> {
+    let mut text = Vec::new(alloc);
+    File::open(rt, path)?
+        .take(TEXT as u64)
+        .read_to_end(&mut text)?;
+    Ok(text)
 }
 
 // The list of a file.
-fn replay(name: &[u8], path: &[u8], list: List) {
-    let mut buffer = [0u8; TEXT];
-    let file = os::open_read(path);
-    let n = io::read_full(file, &mut buffer);
-    libc::close(file);
-    print(name, result(&buffer[..n], list));
+fn replay(
+    rt: &(impl Files + AllocGlobal + Print),
+    name: &str,
+    path: &str,
+    list: List,
+) -> io::Result<()> {
+    let text = read(rt, rt.alloc(), path)?;
+    print(rt, name, result(&text, list))
 }
 
-fn main() {
-    replay(b"samples", b"samples.txt", List::Samples);
-    replay(b"check", b"check.txt", List::Check);
-    replay(b"finish", b"finish.txt", List::Finish);
-    replay(b"locate", b"locate.txt", List::Locate);
-    replay(b"step", b"step.txt", List::Step);
-    replay(b"run", b"run.txt", List::Run);
-    replay(b"volume", b"volume.txt", List::Volume);
-    replay(b"ask", b"ask.txt", List::Ask);
-    replay(b"commit", b"commit.txt", List::Commit);
-    replay(b"bulk_load", b"bulk_load.txt", List::BulkLoad);
-    replay(b"answers", b"answers.txt", List::Answers);
+fn main(rt: HostRuntime) -> io::Result<()> {
+    replay(&rt, "samples", "samples.txt", List::Samples)?;
+    replay(&rt, "check", "check.txt", List::Check)?;
+    replay(&rt, "finish", "finish.txt", List::Finish)?;
+    replay(&rt, "locate", "locate.txt", List::Locate)?;
+    replay(&rt, "step", "step.txt", List::Step)?;
+    replay(&rt, "run", "run.txt", List::Run)?;
+    replay(&rt, "volume", "volume.txt", List::Volume)?;
+    replay(&rt, "ask", "ask.txt", List::Ask)?;
+    replay(&rt, "commit", "commit.txt", List::Commit)?;
+    replay(&rt, "bulk_load", "bulk_load.txt", List::BulkLoad)?;
+    replay(&rt, "answers", "answers.txt", List::Answers)
 }

@@ -5,6 +5,12 @@
 
 ghost use Rattle.std.specs.Prelude.{◌≤◌, length};
 
+use std::alloc::Global;
+use std::fs::File;
+use std::io;
+use std::io::Read;
+use std::rt::Files;
+
 // No list is as long as this.
 const LIST: usize = 1048576;
 
@@ -104,7 +110,7 @@ fn read_text(list: &[u8], at: usize, tag: u8) -> Text
 fn agrees(text: &[u8], told: &[u8]) -> bool {
     let mut row = [0u8; ROW];
     let end = listing_run::list(text, &mut row);
-    check::same(&row[..end], told)
+    &row[..end] == told
 }
 
 // The case whose line `b` stands at a place. Behind one that is not whole nothing is read.
@@ -170,22 +176,26 @@ fn result(list: &[u8]) -> Tally {
 }
 
 // One line: the totals, and where the first difference is.
-fn print(t: Tally) {
-    io::write_all(1, b"listing agree ");
-    io::print_decimal(1, t.agree as u64);
-    io::write_all(1, b" differ ");
-    io::print_decimal(1, t.differ as u64);
-    if t.differ != 0 {
-        io::write_all(1, b" first at byte ");
-        io::print_decimal(1, t.first as u64);
+fn print(rt: &impl Print, t: Tally) -> io::Result<()> {
+    let agree = t.agree;
+    let differ = t.differ;
+    let first = t.first;
+    if differ == 0 {
+        return println!(rt; "listing agree {agree} differ {differ}");
     }
-    io::write_all(1, b"\n");
+    println!(rt; "listing agree {agree} differ {differ} first at byte {first}")
 }
 
-fn main() {
-    let mut buffer = [0u8; LIST];
-    let file = os::open_read(b"listing.txt");
-    let n = io::read_full(file, &mut buffer);
-    libc::close(file);
-    print(result(&buffer[..n]));
+// The list, as far as there is room for it.
+fn read_list(rt: &impl Files, alloc: Global) -> io::Result<Vec<u8>> {
+    let mut list = Vec::new(alloc);
+    File::open(rt, "listing.txt")?
+        .take(LIST as u64)
+        .read_to_end(&mut list)?;
+    Ok(list)
+}
+
+fn main(rt: HostRuntime) -> io::Result<()> {
+    let list = read_list(&rt, rt.alloc())?;
+    print(&rt, result(&list))
 }

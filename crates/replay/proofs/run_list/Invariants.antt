@@ -1,7 +1,6 @@
 -- The loop of `replay::run_list`.
 use Prim.Native.Nat.{◌≤◌, ◌-◌}
 use lib.ListN.{length}
-use borrow.Author.Rules.{rules}
 use Rattle.replay.proofs.run_list.Given as goal
 
 abbrev pub invariant-loop-turns : goal.invariant-loop-turns
