@@ -5,9 +5,6 @@ use mathlib.Core.Path.{refl}
 use Rattle.dcel_operations.proofs.Stored.{after-there, single-face}
 use Rattle.dcel_operations.proofs.create_single_face_between_edge_and_next.Goals as goal
 
-  statement,
-}
-
 pub to-io-requires : goal.to-io-requires
 to-io-requires c =
     rw c.half_edge-entry.ensures.next c.requires.back

@@ -11,10 +11,3 @@ load-next-requires c = rw c.load-node.ensures c.requires.there
 
 pub new-segment-requires : goal.new-segment-requires
 new-segment-requires c = asks-segment _ _ c.load-node.ensures c.load-next.ensures c.requires
-
-pub contains_angle-requires : goal.contains_angle-requires
-contains_angle-requires c = (c.new-segment.ensures.angles.0, c.requires.valid)
-
-pub returns : goal.returns
-returns c =
-    tested _ _ c.load-node.ensures c.load-next.ensures c.new-segment.result _ c.new-segment.ensures.angles.1 c.contains_angle.ensures.whole

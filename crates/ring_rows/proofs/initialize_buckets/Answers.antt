@@ -16,9 +16,6 @@ overflow_add-k c = record { fits = let l = c.loop-k-test.true in let m = c.loop-
 pub loop-k-smaller : goal.loop-k-smaller
 loop-k-smaller c = let l = c.loop-k-test.true in omega arith
 
-pub loop-k-preserved : goal.loop-k-preserved
-loop-k-preserved c = more c.loop-k.invariant c.loop-k-test.true c.update_node_buckets-i.ensures c.update_node_buckets-i.auto.1.0
-
 pub shape_of-buckets : goal.shape_of-buckets
 shape_of-buckets c = c.loop-k.invariant.same
 

@@ -11,7 +11,3 @@ ceiled_bucket-first-requires c = (from-angle c.requires c.load-from.ensures, c.r
 
 pub ceiled_bucket-last-requires : goal.ceiled_bucket-last-requires
 ceiled_bucket-last-requires c = (to-angle c.requires c.load-from.ensures c.load-to.ensures, c.requires.counted)
-
-pub returns : goal.returns
-returns c =
-    node-updated c.requires c.load-from.ensures c.load-to.ensures c.ceiled_bucket-first.ensures.whole.0 c.ceiled_bucket-last.ensures.whole.0 c.update_bucket_segment.ensures
