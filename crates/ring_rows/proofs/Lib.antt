@@ -1,5 +1,5 @@
 -- What the functions' proofs cite beside the laws of specs/.
-pub mod NodeWalk
+pub mod Row
 pub mod Test
 pub mod Walk
 pub mod WalkBoth

@@ -14,7 +14,6 @@ use Rattle.sums.specs.Iterate.{iter, iter-last}
 use Rattle.ring.specs.Insert.{On}
 use Rattle.ring.specs.Hull.{on-any}
 use Rattle.ring_rows.specs.declared.Node.{Node}
-use Rattle.ring_rows.specs.declared.Walked.{Walked}
 use Rattle.ring_rows.specs.Rows.{nodes_of, right_node_of}
 use Rattle.ring_rows.specs.Find.{node_holds, ToTest, ToWalk, WalkedBoth}
 use Rattle.ring_rows.proofs.Test.{to-test}

@@ -1,6 +1,6 @@
 -- Laws of rings in rows, for the functions of this crate and of those above it. Assumes nothing.
-use Rattle.std.specs.Prelude.{ℕ, ◌-◌, ◌<◌, ◌^◌, ◌/◌, ◌≡◌, refl, List, T, length, replicate}
-use Rattle.std.proofs.Common.{mod-lt, arith, sym, ◌∙◌, ap, subst}
+use Rattle.std.specs.Prelude.{ℕ, ◌<◌, ◌/◌, ◌≡◌, refl, List, T, length, replicate}
+use Rattle.std.proofs.Common.{mod-lt, sym, ◌∙◌, ap, subst}
 use Rattle.std.proofs.Math.Decide.{ℕ_discrete}
 use Rattle.std.proofs.Math.Path.{fun_ext}
 use Rattle.segment.specs.Bucket.{Buckets, floor_of, width}

@@ -13,23 +13,5 @@ read_fars-requires c =
     let b = c.block_end-end in
     (fars-ready c.requires.0 c.args.u (b.result - c.args.u) (omega (arith, b.ensures.0, b.ensures.1)), omega (arith, b.ensures.2))
 
-pub are_read-requires : goal.are_read-requires
-are_read-requires c =
-    let b = c.block_end-end in
-    (
-      fars-ready c.requires.0 c.args.u (b.result - c.args.u) (omega (arith, b.ensures.0, b.ensures.1)),
-      omega (arith, b.ensures.2, c.read_fars.auto.1),
-    )
-
 pub returns-then-not-are_read : goal.returns-then-not-are_read
 returns-then-not-are_read c = unbroken-none c.requires.1
-
-pub unbroken_in_block-requires : goal.unbroken_in_block-requires
-unbroken_in_block-requires c =
-    let b = c.block_end-end in
-    record {
-      order = b.ensures.0;
-      room = omega (arith, b.ensures.2, c.read_fars.auto.1);
-      ready = scan-part c.requires.0 b.ensures.1;
-      read = c.read_fars.ensures;
-    }

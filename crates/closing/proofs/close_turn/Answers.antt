@@ -27,10 +27,6 @@ pub loop-u-smaller : goal.loop-u-smaller
 loop-u-smaller c =
     omega (arith, c.loop-u-test.true)
 
-pub loop-u-preserved : goal.loop-u-preserved
-loop-u-preserved c =
-    turn_on c.loop-u.invariant c.loop-u-test.true c.close_edge-made.ensures (record { outs = c.close_edge-made.auto.halves; halves = c.close_edge-made.auto.faces; faces = c.close_edge-made.auto.1.1.1.0 })
-
 pub shape_of-outs : goal.shape_of-outs
 shape_of-outs c = c.loop-u.invariant.lengths.outs
 

@@ -1,7 +1,6 @@
 -- `ring_rows::fill` meets its contract. Assumes nothing.
 use borrow.Author.Rules.{rules}
-use Prim.Native.Nat.{◌-◌}
-use Rattle.ring_rows.proofs.Range.{Doing, begin, more, end}
+use Rattle.ring_rows.proofs.Range.{begin, more, end}
 use Rattle.ring_rows.proofs.fill.Goals as goal
 
 pub loop-i-init : goal.loop-i-init

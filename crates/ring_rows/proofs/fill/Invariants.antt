@@ -1,7 +1,6 @@
 -- The loop of `ring_rows::fill`.
-use borrow.Author.Rules.{rules}
 use Prim.Native.Nat.{◌-◌}
-use Rattle.ring_rows.proofs.Range.{Doing, begin, more, end}
+use Rattle.ring_rows.proofs.Range.{Doing}
 use Rattle.ring_rows.proofs.fill.Given as goal
 
 abbrev pub invariant-loop-i : goal.invariant-loop-i

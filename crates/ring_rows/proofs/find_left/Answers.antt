@@ -1,5 +1,4 @@
 -- `ring_rows::find_left` meets its contract. Assumes nothing.
-use borrow.Author.Rules.{rules}
 use Rattle.angle.specs.Bits.{angle-valid}
 use Rattle.ring_rows.specs.Laws.{floor-below, got-at}
 use Rattle.ring_rows.proofs.find_left.Goals as goal

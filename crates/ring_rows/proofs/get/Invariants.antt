@@ -1,14 +1,9 @@
 -- The loop of `ring_rows::get`.
-use borrow.Author.Rules.{rules}
 use Prim.Native.Nat.{ℕ, ◌-◌}
-use native.Mathlib.Omega.{arith}
 use lib.ListN.{length}
 use Rattle.angle.specs.Angle.{turns}
-use Rattle.dcel.specs.Rows.{row_of}
 use Rattle.ring_rows.specs.Rows.{NodeRing, nodes_of}
-use Rattle.ring_rows.specs.Laws.{bucket-ring}
-use Rattle.ring_rows.proofs.Test.{to-test, asks-segment, tested}
-use Rattle.ring_rows.proofs.Walk.{Walking, begin, handle-on, found, again}
+use Rattle.ring_rows.proofs.Walk.{Walking}
 use Rattle.ring_rows.proofs.get.Given as goal
 
 abbrev pub invariant-loop-node : goal.invariant-loop-node

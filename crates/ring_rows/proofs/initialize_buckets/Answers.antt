@@ -1,7 +1,6 @@
 -- `ring_rows::initialize_buckets` meets its contract. Assumes nothing.
-use Prim.Native.Nat.{◌-◌}
 use native.Mathlib.Omega.{arith}
-use Rattle.ring_rows.proofs.Filling.{Going, begin, node-buckets, more, end}
+use Rattle.ring_rows.proofs.Filling.{begin, node-buckets, more, end}
 use Rattle.ring_rows.proofs.initialize_buckets.Goals as goal
 
 pub loop-k-init : goal.loop-k-init
@@ -21,3 +20,6 @@ shape_of-buckets c = c.loop-k.invariant.same
 
 pub returns : goal.returns
 returns c = end c.loop-k.invariant c.loop-k-test.false
+
+pub loop-k-preserved : goal.loop-k-preserved
+loop-k-preserved c = more c.loop-k.invariant c.loop-k-test.true c.update_node_buckets-i.ensures c.update_node_buckets-i.auto.buckets

@@ -1,7 +1,6 @@
 -- The loop of `ring_rows::initialize_buckets`.
 use Prim.Native.Nat.{◌-◌}
-use native.Mathlib.Omega.{arith}
-use Rattle.ring_rows.proofs.Filling.{Going, begin, node-buckets, more, end}
+use Rattle.ring_rows.proofs.Filling.{Going}
 use Rattle.ring_rows.proofs.initialize_buckets.Given as goal
 
 abbrev pub invariant-loop-k : goal.invariant-loop-k

@@ -1,5 +1,4 @@
 -- `ring_rows::node_after` meets its contract. Assumes nothing.
-use borrow.Author.Rules.{rules}
 use native.Mathlib.Omega.{arith}
 use Rattle.ring_rows.proofs.Finding.{after-inside, after_last}
 use Rattle.ring_rows.proofs.node_after.Goals as goal

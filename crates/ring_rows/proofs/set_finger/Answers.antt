@@ -1,5 +1,4 @@
 -- `ring_rows::set_finger` meets its contract. Assumes nothing.
-use borrow.Author.Rules.{rules}
 use native.Mathlib.Omega.{arith}
 use Rattle.ring_rows.proofs.Finding.{stack-kept}
 use Rattle.ring_rows.proofs.set_finger.Goals as goal

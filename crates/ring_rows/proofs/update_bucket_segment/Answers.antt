@@ -1,6 +1,5 @@
 -- `ring_rows::update_bucket_segment` meets its contract. Assumes nothing.
 use Rattle.ring_rows.proofs.Range.{updated-one, updated-two}
-use borrow.Author.Rules.{rules}
 use Rattle.ring_rows.proofs.update_bucket_segment.Goals as goal
 
 pub returns-then-from-to : goal.returns-then-from-to

@@ -1,8 +1,6 @@
 -- `ring_rows::walk_both` meets its contract. Assumes nothing.
-use borrow.Author.Rules.{rules}
-use Prim.Native.Nat.{◌-◌}
 use native.Mathlib.Omega.{arith}
-use Rattle.ring_rows.proofs.WalkBoth.{Walking, begin, right-test, left-test, right_there, left_there, found_right, found_left, not_found, again}
+use Rattle.ring_rows.proofs.WalkBoth.{begin, right-test, left-test, right_there, left_there, found_right, found_left, not_found, again}
 use Rattle.ring_rows.proofs.walk_both.Goals as goal
 
 pub loop-turn-init : goal.loop-turn-init

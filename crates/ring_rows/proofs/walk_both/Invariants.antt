@@ -1,8 +1,6 @@
 -- The loop of `ring_rows::walk_both`.
-use borrow.Author.Rules.{rules}
 use Prim.Native.Nat.{◌-◌}
-use native.Mathlib.Omega.{arith}
-use Rattle.ring_rows.proofs.WalkBoth.{Walking, begin, right-test, left-test, right_there, left_there, found_right, found_left, not_found, again}
+use Rattle.ring_rows.proofs.WalkBoth.{Walking}
 use Rattle.ring_rows.proofs.walk_both.Given as goal
 
 abbrev pub invariant-loop-turn : goal.invariant-loop-turn

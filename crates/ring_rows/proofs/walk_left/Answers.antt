@@ -1,11 +1,10 @@
 -- `ring_rows::walk_left` meets its contract. Assumes nothing.
 use borrow.Author.Rules.{rules}
-use Prim.Native.Nat.{◌-◌}
 use native.Mathlib.Omega.{arith}
 use mathlib.Core.Path.{sym}
 use mathlib.Core.Bool.{true≢false}
 use Rattle.ring_rows.proofs.Finding.{size-some}
-use Rattle.ring_rows.proofs.WalkLeft.{Walking, begin, again, first_on, there, asks-equal, met}
+use Rattle.ring_rows.proofs.WalkLeft.{begin, again, first_on, there, asks-equal, met}
 use Rattle.ring_rows.proofs.walk_left.Goals as goal
 
 pub returns-then-hull-near : goal.returns-then-hull-near
