@@ -25,26 +25,26 @@ first_face-first-requires c = first-ready c.requires
 
 pub walk-before-requires : goal.walk-before-requires
 walk-before-requires c =
-    left-ready c.requires {row₁ = c.first_face-first.new.1.1.1.1.0} _ c.first_face-first.ensures (record { outs = c.first_face-first.auto.halves; halves = c.first_face-first.auto.faces; faces = c.first_face-first.auto.pending; pending = c.first_face-first.auto.1.1.1.1.0 })
+    left-ready c.requires {row₁ = c.first_face-first.new.1.1.1.1.0} _ c.first_face-first.ensures (record { outs = c.first_face-first.auto.outs; halves = c.first_face-first.auto.halves; faces = c.first_face-first.auto.faces; pending = c.first_face-first.auto.pending })
 
 pub walk-after-requires : goal.walk-after-requires
 walk-after-requires c =
-    right-ready c.requires {row₁ = c.first_face-first.new.1.1.1.1.0} _ c.first_face-first.ensures (record { outs = c.first_face-first.auto.halves; halves = c.first_face-first.auto.faces; faces = c.first_face-first.auto.pending; pending = c.first_face-first.auto.1.1.1.1.0 })
-    {row₂ = c.walk-before.new.1.1.1.1.0} _ c.walk-before.ensures (record { outs = c.walk-before.auto.halves; halves = c.walk-before.auto.faces; faces = c.walk-before.auto.pending; pending = c.walk-before.auto.1.1.1.1.0 })
+    right-ready c.requires {row₁ = c.first_face-first.new.1.1.1.1.0} _ c.first_face-first.ensures (record { outs = c.first_face-first.auto.outs; halves = c.first_face-first.auto.halves; faces = c.first_face-first.auto.faces; pending = c.first_face-first.auto.pending })
+    {row₂ = c.walk-before.new.1.1.1.1.0} _ c.walk-before.ensures (record { outs = c.walk-before.auto.outs; halves = c.walk-before.auto.halves; faces = c.walk-before.auto.faces; pending = c.walk-before.auto.pending })
 
 pub shape_of-outs : goal.shape_of-outs
-shape_of-outs c = c.walk-after.auto.halves ∙ c.walk-before.auto.halves ∙ c.first_face-first.auto.halves
+shape_of-outs c = c.walk-after.auto.outs ∙ c.walk-before.auto.outs ∙ c.first_face-first.auto.outs
 
 pub shape_of-halves : goal.shape_of-halves
-shape_of-halves c = c.walk-after.auto.faces ∙ c.walk-before.auto.faces ∙ c.first_face-first.auto.faces
+shape_of-halves c = c.walk-after.auto.halves ∙ c.walk-before.auto.halves ∙ c.first_face-first.auto.halves
 
 pub shape_of-faces : goal.shape_of-faces
-shape_of-faces c = c.walk-after.auto.pending ∙ c.walk-before.auto.pending ∙ c.first_face-first.auto.pending
+shape_of-faces c = c.walk-after.auto.faces ∙ c.walk-before.auto.faces ∙ c.first_face-first.auto.faces
 
 pub shape_of-pending : goal.shape_of-pending
-shape_of-pending c = c.walk-after.auto.1.1.1.1.0 ∙ c.walk-before.auto.1.1.1.1.0 ∙ c.first_face-first.auto.1.1.1.1.0
+shape_of-pending c = c.walk-after.auto.pending ∙ c.walk-before.auto.pending ∙ c.first_face-first.auto.pending
 
 pub returns : goal.returns
 returns c =
-    added-rows c.requires {row₁ = c.first_face-first.new.1.1.1.1.0} _ c.first_face-first.ensures (record { outs = c.first_face-first.auto.halves; halves = c.first_face-first.auto.faces; faces = c.first_face-first.auto.pending; pending = c.first_face-first.auto.1.1.1.1.0 })
-    {row₂ = c.walk-before.new.1.1.1.1.0} _ c.walk-before.ensures (record { outs = c.walk-before.auto.halves; halves = c.walk-before.auto.faces; faces = c.walk-before.auto.pending; pending = c.walk-before.auto.1.1.1.1.0 }) _ _ _ _ c.walk-after.ensures
+    added-rows c.requires {row₁ = c.first_face-first.new.1.1.1.1.0} _ c.first_face-first.ensures (record { outs = c.first_face-first.auto.outs; halves = c.first_face-first.auto.halves; faces = c.first_face-first.auto.faces; pending = c.first_face-first.auto.pending })
+    {row₂ = c.walk-before.new.1.1.1.1.0} _ c.walk-before.ensures (record { outs = c.walk-before.auto.outs; halves = c.walk-before.auto.halves; faces = c.walk-before.auto.faces; pending = c.walk-before.auto.pending }) _ _ _ _ c.walk-after.ensures

@@ -22,7 +22,7 @@ loop-side-smaller c = omega (arith, turning-some c.loop-side.invariant c.walk_en
 pub loop-side-preserved : goal.loop-side-preserved
 loop-side-preserved c =
     turning-on c.loop-side.invariant c.walk_ends.ensures c.loop-side-test.true-raw c.turn-now.ensures
-    (record { outs = c.turn-now.auto.halves; halves = c.turn-now.auto.faces; faces = c.turn-now.auto.pending; pending = c.turn-now.auto.1.1.1.1.0 })
+    (record { outs = c.turn-now.auto.outs; halves = c.turn-now.auto.halves; faces = c.turn-now.auto.faces; pending = c.turn-now.auto.pending })
 
 pub shape_of-outs : goal.shape_of-outs
 shape_of-outs c = c.loop-side.invariant.lengths.outs

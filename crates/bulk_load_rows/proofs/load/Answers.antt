@@ -88,25 +88,25 @@ store_run-requires-2 c =
       answers = c.seed-end.auto.answers;
     }) c.if-end.false
     _ _ _ _ _ c.end_load-answer.ensures
-    (record { positions = refl; outs = c.end_load-answer.auto.halves; halves = c.end_load-answer.auto.faces; faces = c.end_load-answer.auto.pending }) c.end_load-answer.auto.1.1.1.1.1.0
+    (record { positions = refl; outs = c.end_load-answer.auto.outs; halves = c.end_load-answer.auto.halves; faces = c.end_load-answer.auto.faces }) c.end_load-answer.auto.answers
 
 pub shape_of-positions : goal.shape_of-positions
 shape_of-positions c = c.seed-end.auto.positions
 
 pub shape_of-outs : goal.shape_of-outs
-shape_of-outs c = c.end_load-answer.auto.halves ∙ c.seed-end.auto.outs
+shape_of-outs c = c.end_load-answer.auto.outs ∙ c.seed-end.auto.outs
 
 pub shape_of-halves : goal.shape_of-halves
-shape_of-halves c = c.end_load-answer.auto.faces ∙ c.seed-end.auto.halves
+shape_of-halves c = c.end_load-answer.auto.halves ∙ c.seed-end.auto.halves
 
 pub shape_of-faces : goal.shape_of-faces
-shape_of-faces c = c.end_load-answer.auto.pending ∙ c.seed-end.auto.faces
+shape_of-faces c = c.end_load-answer.auto.faces ∙ c.seed-end.auto.faces
 
 pub shape_of-pending : goal.shape_of-pending
-shape_of-pending c = c.clear_rows.auto.pending ∙ c.end_load-answer.auto.answers ∙ c.seed-end.auto.pending
+shape_of-pending c = c.clear_rows.auto.pending ∙ c.end_load-answer.auto.pending ∙ c.seed-end.auto.pending
 
 pub shape_of-answers : goal.shape_of-answers
-shape_of-answers c = c.end_load-answer.auto.1.1.1.1.1.0 ∙ c.seed-end.auto.answers
+shape_of-answers c = c.end_load-answer.auto.answers ∙ c.seed-end.auto.answers
 
 pub returns : goal.returns
 returns c =
@@ -119,4 +119,4 @@ returns c =
       answers = c.seed-end.auto.answers;
     }) c.if-end.false
     _ _ _ _ _ c.end_load-answer.ensures
-    (record { positions = refl; outs = c.end_load-answer.auto.halves; halves = c.end_load-answer.auto.faces; faces = c.end_load-answer.auto.pending }) c.end_load-answer.auto.1.1.1.1.1.0 _ _ _ c.end_load-answer.auto.answers c.clear_rows.ensures _ c.store_run-2.auto.heights c.store_run-2.ensures
+    (record { positions = refl; outs = c.end_load-answer.auto.outs; halves = c.end_load-answer.auto.halves; faces = c.end_load-answer.auto.faces }) c.end_load-answer.auto.answers _ _ _ c.end_load-answer.auto.pending c.clear_rows.ensures _ c.store_run-2.auto.heights c.store_run-2.ensures

@@ -27,6 +27,10 @@ pub loop-u-smaller : goal.loop-u-smaller
 loop-u-smaller c =
     omega (arith, c.loop-u-test.true)
 
+pub loop-u-preserved : goal.loop-u-preserved
+loop-u-preserved c =
+    turn_on c.loop-u.invariant c.loop-u-test.true c.close_edge-made.ensures (record { outs = c.close_edge-made.auto.outs; halves = c.close_edge-made.auto.halves; faces = c.close_edge-made.auto.faces })
+
 pub shape_of-outs : goal.shape_of-outs
 shape_of-outs c = c.loop-u.invariant.lengths.outs
 

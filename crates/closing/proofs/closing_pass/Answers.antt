@@ -16,6 +16,11 @@ pub loop-still-smaller : goal.loop-still-smaller
 loop-still-smaller c =
     pass-less c.loop-still.invariant _ _ _ _ c.loop-still-test.true-raw c.close_turn-flips.ensures refl
 
+pub loop-still-preserved : goal.loop-still-preserved
+loop-still-preserved c =
+    pass_on c.loop-still.invariant _ _ _ _ c.loop-still-test.true-raw c.close_turn-flips.ensures refl
+    (record { outs = c.close_turn-flips.auto.outs; halves = c.close_turn-flips.auto.halves; faces = c.close_turn-flips.auto.faces })
+
 pub shape_of-outs : goal.shape_of-outs
 shape_of-outs c = c.loop-still.invariant.lengths.outs
 

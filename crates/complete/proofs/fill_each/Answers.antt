@@ -41,7 +41,7 @@ pub shape_of-answers-then-done : goal.shape_of-answers-then-done
 shape_of-answers-then-done c = c.fill_point-done.auto.answers ∙ c.loop-i.invariant.0.lengths.answers
 
 pub shape_of-grid-then-done : goal.shape_of-grid-then-done
-shape_of-grid-then-done c = c.prefetch_block.auto.1.1.1.1.1.0 ∙ c.loop-i.invariant.1
+shape_of-grid-then-done c = c.prefetch_block.auto.grid ∙ c.loop-i.invariant.1
 
 pub returns-then-done : goal.returns-then-done
 returns-then-done c = (
@@ -75,7 +75,7 @@ loop-i-preserved c =
     let n = c.if-done.false in (
       filling-on I l X n
           (record { positions = f.0; outs = f.1.0; halves = f.1.1.0; faces = f.1.1.1.0; pending = f.1.1.1.1.0; answers = f.1.1.1.1.1.0 }),
-      c.place-all.auto.grid ∙ c.prefetch_block.auto.1.1.1.1.1.0 ∙ c.loop-i.invariant.1,
+      c.place-all.auto.grid ∙ c.prefetch_block.auto.grid ∙ c.loop-i.invariant.1,
       c.place-all.ensures ∙ c.loop-i.invariant.2,
       filling-settled I l X n c.loop-i.settled c.is_still_settled-settled.result c.loop-i.invariant.3 c.is_still_settled-settled.ensures,
     )

@@ -27,7 +27,7 @@ pub loop-outs-preserved : goal.loop-outs-preserved
 loop-outs-preserved c =
     let i = c.loop-outs.invariant in
     closing-on i c.left_behind.ensures c.loop-outs-test.true c.close_behind-now.ensures
-    (record { outs = c.close_behind-now.auto.halves; halves = c.close_behind-now.auto.faces; faces = c.close_behind-now.auto.pending; pending = c.close_behind-now.auto.1.1.1.1.0 })
+    (record { outs = c.close_behind-now.auto.outs; halves = c.close_behind-now.auto.halves; faces = c.close_behind-now.auto.faces; pending = c.close_behind-now.auto.pending })
 
 pub shape_of-outs : goal.shape_of-outs
 shape_of-outs c = c.loop-outs.invariant.lengths.outs

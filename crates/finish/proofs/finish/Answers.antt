@@ -35,18 +35,18 @@ pub answer_of-requires : goal.answer_of-requires
 answer_of-requires c = tt
 
 pub shape_of-outs : goal.shape_of-outs
-shape_of-outs c = c.finish_mesh-ended.auto.halves
+shape_of-outs c = c.finish_mesh-ended.auto.outs
 
 pub shape_of-halves : goal.shape_of-halves
-shape_of-halves c = c.finish_mesh-ended.auto.faces
+shape_of-halves c = c.finish_mesh-ended.auto.halves
 
 pub shape_of-faces : goal.shape_of-faces
-shape_of-faces c = c.finish_mesh-ended.auto.pending
+shape_of-faces c = c.finish_mesh-ended.auto.faces
 
 pub shape_of-pending : goal.shape_of-pending
-shape_of-pending c = c.clear.auto.row ∙ c.finish_mesh-ended.auto.1.1.1.1.0
+shape_of-pending c = c.clear.auto.row ∙ c.finish_mesh-ended.auto.pending
 
 pub returns : goal.returns
 returns c =
     accepted-outcome _ _ _ (sym c.in-Accepted.is ∙ c.check_seed.ensures) _ _ _ _ _ _
-    c.finish_mesh-ended.ensures c.finish_mesh-ended.auto.halves c.finish_mesh-ended.auto.faces c.finish_mesh-ended.auto.pending (c.clear.ensures ∙ ap (λ (n : ℕ). replicate {A = ℕ} n 0) c.finish_mesh-ended.auto.1.1.1.1.0) (c.answer_of.ensures _ _ _)
+    c.finish_mesh-ended.ensures c.finish_mesh-ended.auto.outs c.finish_mesh-ended.auto.halves c.finish_mesh-ended.auto.faces (c.clear.ensures ∙ ap (λ (n : ℕ). replicate {A = ℕ} n 0) c.finish_mesh-ended.auto.pending) (c.answer_of.ensures _ _ _)

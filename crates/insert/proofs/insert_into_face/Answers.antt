@@ -22,17 +22,17 @@ legalize_two-two-requires c =
 
 pub legalize_one-requires : goal.legalize_one-requires
 legalize_one-requires c =
-    face-one c.requires c.adjacent-e0.ensures c.next-e1.ensures c.next-e2.ensures (record { outs = c.insert_into_triangle-after.auto.outs; halves = c.insert_into_triangle-after.auto.halves; faces = c.insert_into_triangle-after.auto.faces; pending = refl }) c.insert_into_triangle-after.ensures _ (record { outs = c.legalize_two-two.auto.halves; halves = c.legalize_two-two.auto.faces; faces = c.legalize_two-two.auto.pending; pending = c.legalize_two-two.auto.1.1.1.1.0 }) c.legalize_two-two.ensures
+    face-one c.requires c.adjacent-e0.ensures c.next-e1.ensures c.next-e2.ensures (record { outs = c.insert_into_triangle-after.auto.outs; halves = c.insert_into_triangle-after.auto.halves; faces = c.insert_into_triangle-after.auto.faces; pending = refl }) c.insert_into_triangle-after.ensures _ (record { outs = c.legalize_two-two.auto.outs; halves = c.legalize_two-two.auto.halves; faces = c.legalize_two-two.auto.faces; pending = c.legalize_two-two.auto.pending }) c.legalize_two-two.ensures
 
 pub shape_of-outs : goal.shape_of-outs
-shape_of-outs c = c.legalize_one.auto.halves ∙ c.legalize_two-two.auto.halves ∙ c.insert_into_triangle-after.auto.outs
+shape_of-outs c = c.legalize_one.auto.outs ∙ c.legalize_two-two.auto.outs ∙ c.insert_into_triangle-after.auto.outs
 
 pub shape_of-halves : goal.shape_of-halves
-shape_of-halves c = c.legalize_one.auto.faces ∙ c.legalize_two-two.auto.faces ∙ c.insert_into_triangle-after.auto.halves
+shape_of-halves c = c.legalize_one.auto.halves ∙ c.legalize_two-two.auto.halves ∙ c.insert_into_triangle-after.auto.halves
 
 pub shape_of-faces : goal.shape_of-faces
-shape_of-faces c = c.legalize_one.auto.pending ∙ c.legalize_two-two.auto.pending ∙ c.insert_into_triangle-after.auto.faces
+shape_of-faces c = c.legalize_one.auto.faces ∙ c.legalize_two-two.auto.faces ∙ c.insert_into_triangle-after.auto.faces
 
 pub returns : goal.returns
 returns c =
-    face-row c.requires c.adjacent-e0.ensures c.next-e1.ensures c.next-e2.ensures (record { outs = c.insert_into_triangle-after.auto.outs; halves = c.insert_into_triangle-after.auto.halves; faces = c.insert_into_triangle-after.auto.faces; pending = refl }) c.insert_into_triangle-after.ensures _ {row₂ = c.legalize_two-two.new.1.1.1.1.0} (record { outs = c.legalize_two-two.auto.halves; halves = c.legalize_two-two.auto.faces; faces = c.legalize_two-two.auto.pending; pending = c.legalize_two-two.auto.1.1.1.1.0 }) c.legalize_two-two.ensures _ _ _ _ c.legalize_one.ensures
+    face-row c.requires c.adjacent-e0.ensures c.next-e1.ensures c.next-e2.ensures (record { outs = c.insert_into_triangle-after.auto.outs; halves = c.insert_into_triangle-after.auto.halves; faces = c.insert_into_triangle-after.auto.faces; pending = refl }) c.insert_into_triangle-after.ensures _ {row₂ = c.legalize_two-two.new.1.1.1.1.0} (record { outs = c.legalize_two-two.auto.outs; halves = c.legalize_two-two.auto.halves; faces = c.legalize_two-two.auto.faces; pending = c.legalize_two-two.auto.pending }) c.legalize_two-two.ensures _ _ _ _ c.legalize_one.ensures

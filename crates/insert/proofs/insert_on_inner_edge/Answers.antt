@@ -19,17 +19,17 @@ legalize_two-two-requires c =
 
 pub legalize_two-requires : goal.legalize_two-requires
 legalize_two-requires c =
-    inner-rest c.requires c.rev-t.ensures c.half_edge-left.ensures c.half_edge-right.ensures (record { outs = c.split_edge-after.auto.outs; halves = c.split_edge-after.auto.halves; faces = c.split_edge-after.auto.faces; pending = refl }) c.split_edge-after.ensures _ (record { outs = c.legalize_two-two.auto.halves; halves = c.legalize_two-two.auto.faces; faces = c.legalize_two-two.auto.pending; pending = c.legalize_two-two.auto.1.1.1.1.0 }) c.legalize_two-two.ensures
+    inner-rest c.requires c.rev-t.ensures c.half_edge-left.ensures c.half_edge-right.ensures (record { outs = c.split_edge-after.auto.outs; halves = c.split_edge-after.auto.halves; faces = c.split_edge-after.auto.faces; pending = refl }) c.split_edge-after.ensures _ (record { outs = c.legalize_two-two.auto.outs; halves = c.legalize_two-two.auto.halves; faces = c.legalize_two-two.auto.faces; pending = c.legalize_two-two.auto.pending }) c.legalize_two-two.ensures
 
 pub shape_of-outs : goal.shape_of-outs
-shape_of-outs c = c.legalize_two.auto.halves ∙ c.legalize_two-two.auto.halves ∙ c.split_edge-after.auto.outs
+shape_of-outs c = c.legalize_two.auto.outs ∙ c.legalize_two-two.auto.outs ∙ c.split_edge-after.auto.outs
 
 pub shape_of-halves : goal.shape_of-halves
-shape_of-halves c = c.legalize_two.auto.faces ∙ c.legalize_two-two.auto.faces ∙ c.split_edge-after.auto.halves
+shape_of-halves c = c.legalize_two.auto.halves ∙ c.legalize_two-two.auto.halves ∙ c.split_edge-after.auto.halves
 
 pub shape_of-faces : goal.shape_of-faces
-shape_of-faces c = c.legalize_two.auto.pending ∙ c.legalize_two-two.auto.pending ∙ c.split_edge-after.auto.faces
+shape_of-faces c = c.legalize_two.auto.faces ∙ c.legalize_two-two.auto.faces ∙ c.split_edge-after.auto.faces
 
 pub returns : goal.returns
 returns c =
-    inner-row c.requires c.rev-t.ensures c.half_edge-left.ensures c.half_edge-right.ensures (record { outs = c.split_edge-after.auto.outs; halves = c.split_edge-after.auto.halves; faces = c.split_edge-after.auto.faces; pending = refl }) c.split_edge-after.ensures _ {row₂ = c.legalize_two-two.new.1.1.1.1.0} (record { outs = c.legalize_two-two.auto.halves; halves = c.legalize_two-two.auto.faces; faces = c.legalize_two-two.auto.pending; pending = c.legalize_two-two.auto.1.1.1.1.0 }) c.legalize_two-two.ensures _ _ _ _ c.legalize_two.ensures
+    inner-row c.requires c.rev-t.ensures c.half_edge-left.ensures c.half_edge-right.ensures (record { outs = c.split_edge-after.auto.outs; halves = c.split_edge-after.auto.halves; faces = c.split_edge-after.auto.faces; pending = refl }) c.split_edge-after.ensures _ {row₂ = c.legalize_two-two.new.1.1.1.1.0} (record { outs = c.legalize_two-two.auto.outs; halves = c.legalize_two-two.auto.halves; faces = c.legalize_two-two.auto.faces; pending = c.legalize_two-two.auto.pending }) c.legalize_two-two.ensures _ _ _ _ c.legalize_two.ensures

@@ -27,6 +27,21 @@ push_edges-pushed-requires c =
     let t = c.pop-taken in
     let r = pop-pushes R t.ensures (edge-is _) in let e = edges-ready r.0 in (e.0, e.1, r.1)
 
+pub returns-then-pushed-pending : goal.returns-then-pushed-pending
+returns-then-pushed-pending c =
+    let R = pop-ready c.requires.0 c.requires.1 in
+    turn-refuses c.requires.0 c.requires.1 (pop-flipped R c.pop-taken.ensures (edge-is _) c.should_flip.ensures (not-false _ c.if-not-should_flip.false-raw) c.push_edges-pushed.ensures) (c.push_edges-pushed.auto.pending ∙ c.pop-taken.auto.pending) refl c.if-pushed-pending.true
+
+pub flip_cw-requires : goal.flip_cw-requires
+flip_cw-requires c =
+    let R = pop-ready c.requires.0 c.requires.1 in
+    turn-flip-ready c.requires.0 c.requires.1 (pop-flipped R c.pop-taken.ensures (edge-is _) c.should_flip.ensures (not-false _ c.if-not-should_flip.false-raw) c.push_edges-pushed.ensures) (c.push_edges-pushed.auto.pending ∙ c.pop-taken.auto.pending) refl
+
 pub overflow_add-more : goal.overflow_add-more
 overflow_add-more c =
     record { fits = count_fits c.requires.0 c.requires.1 }
+
+pub returns : goal.returns
+returns c =
+    let R = pop-ready c.requires.0 c.requires.1 in
+    turn-flips c.requires.0 c.requires.1 (pop-flipped R c.pop-taken.ensures (edge-is _) c.should_flip.ensures (not-false _ c.if-not-should_flip.false-raw) c.push_edges-pushed.ensures) (c.push_edges-pushed.auto.pending ∙ c.pop-taken.auto.pending) refl c.if-pushed-pending.false c.flip_cw.ensures

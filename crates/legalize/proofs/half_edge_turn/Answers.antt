@@ -28,6 +28,24 @@ push_half_edges-m-requires c =
     let P = plain-taken c.requires.0.fits c.last-e.ensures in
     half-edges-ready (pop-pushes R P (half-edge-is _)).0
 
+pub returns-then-m-pending : goal.returns-then-m-pending
+returns-then-m-pending c =
+    let R = pop-ready c.requires.0 c.requires.1 in
+    let P = plain-taken c.requires.0.fits c.last-e.ensures in
+    turn-refuses c.requires.0 c.requires.1 (pop-flipped R P (half-edge-is _) c.should_flip.ensures (not-false _ c.if-not-should_flip.false-raw) (c.push_half_edges-m.ensures _)) c.push_half_edges-m.auto.pending refl c.if-m-pending.true
+
+pub flip_cw-requires : goal.flip_cw-requires
+flip_cw-requires c =
+    let R = pop-ready c.requires.0 c.requires.1 in
+    let P = plain-taken c.requires.0.fits c.last-e.ensures in
+    turn-flip-ready c.requires.0 c.requires.1 (pop-flipped R P (half-edge-is _) c.should_flip.ensures (not-false _ c.if-not-should_flip.false-raw) (c.push_half_edges-m.ensures _)) c.push_half_edges-m.auto.pending refl
+
 pub overflow_add-more : goal.overflow_add-more
 overflow_add-more c =
     record { fits = count_fits c.requires.0 c.requires.1 }
+
+pub returns : goal.returns
+returns c =
+    let R = pop-ready c.requires.0 c.requires.1 in
+    let P = plain-taken c.requires.0.fits c.last-e.ensures in
+    turn-flips c.requires.0 c.requires.1 (pop-flipped R P (half-edge-is _) c.should_flip.ensures (not-false _ c.if-not-should_flip.false-raw) (c.push_half_edges-m.ensures _)) c.push_half_edges-m.auto.pending refl c.if-m-pending.false c.flip_cw.ensures

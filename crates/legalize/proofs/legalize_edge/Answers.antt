@@ -15,6 +15,19 @@ legalize_half_edges-requires c =
     start-ready HalfEdge c.requires.0 (plain c.push-n.result) (c.push-n.ensures [] (empty _)) (λ t. absurd (false≢true t)) c.push-n.auto.pending (omega arith)
     (half-edge-in c.args.counts _ c.requires.1)
 
+pub shape_of-outs : goal.shape_of-outs
+shape_of-outs c = c.legalize_half_edges.auto.outs
+
+pub shape_of-halves : goal.shape_of-halves
+shape_of-halves c = c.legalize_half_edges.auto.halves
+
+pub shape_of-faces : goal.shape_of-faces
+shape_of-faces c = c.legalize_half_edges.auto.faces
+
+pub shape_of-pending : goal.shape_of-pending
+shape_of-pending c =
+    c.legalize_half_edges.auto.pending ∙ c.push-n.auto.pending
+
 pub returns : goal.returns
 returns c =
     start-leaves HalfEdge c.requires.0 (plain c.push-n.result) (c.push-n.ensures [] (empty _)) (λ t. absurd (false≢true t)) c.push-n.auto.pending (omega arith)

@@ -16,6 +16,37 @@ pub edge_turn-t-requires : goal.edge_turn-t-requires
 edge_turn-t-requires c =
     (c.loop-left.invariant.ready, c.loop-left-test.true)
 
+pub shape_of-outs-then-t : goal.shape_of-outs-then-t
+shape_of-outs-then-t c =
+    c.edge_turn-t.auto.outs ∙ c.loop-left.invariant.lengths.outs
+
+pub shape_of-halves-then-t : goal.shape_of-halves-then-t
+shape_of-halves-then-t c =
+    c.edge_turn-t.auto.halves ∙ c.loop-left.invariant.lengths.halves
+
+pub shape_of-faces-then-t : goal.shape_of-faces-then-t
+shape_of-faces-then-t c =
+    c.edge_turn-t.auto.faces ∙ c.loop-left.invariant.lengths.faces
+
+pub shape_of-pending-then-t : goal.shape_of-pending-then-t
+shape_of-pending-then-t c =
+    c.edge_turn-t.auto.pending ∙ c.loop-left.invariant.lengths.pending
+
+pub returns-then-t : goal.returns-then-t
+returns-then-t c =
+    let i = c.loop-left.invariant in
+    at.loop-refused i c.loop-left-test.true c.edge_turn-t.ensures (record { outs = c.edge_turn-t.auto.outs; halves = c.edge_turn-t.auto.halves; faces = c.edge_turn-t.auto.faces; pending = c.edge_turn-t.auto.pending }) c.if-t.true
+
+pub loop-left-smaller : goal.loop-left-smaller
+loop-left-smaller c =
+    let i = c.loop-left.invariant in
+    at.loop-smaller i c.loop-left-test.true c.edge_turn-t.ensures (record { outs = c.edge_turn-t.auto.outs; halves = c.edge_turn-t.auto.halves; faces = c.edge_turn-t.auto.faces; pending = c.edge_turn-t.auto.pending }) c.if-t.false
+
+pub loop-left-preserved : goal.loop-left-preserved
+loop-left-preserved c =
+    let i = c.loop-left.invariant in
+    at.loop-on i c.loop-left-test.true c.edge_turn-t.ensures (record { outs = c.edge_turn-t.auto.outs; halves = c.edge_turn-t.auto.halves; faces = c.edge_turn-t.auto.faces; pending = c.edge_turn-t.auto.pending }) c.if-t.false
+
 pub shape_of-outs : goal.shape_of-outs
 shape_of-outs c = c.loop-left.invariant.lengths.outs
 

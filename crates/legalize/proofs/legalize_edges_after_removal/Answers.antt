@@ -14,6 +14,19 @@ legalize_edges-requires c =
     start-ready Edge c.requires.0 z.result (listed z.result z.ensures.0 (c.push-m.ensures _ (c.push-n.ensures [] (empty _)))) (unmarked z.result z.ensures.1)
     (c.push-m.auto.pending ∙ c.push-n.auto.pending) (omega arith) (edges-in c.args.counts _ _ c.requires.1 c.requires.2)
 
+pub shape_of-outs : goal.shape_of-outs
+shape_of-outs c = c.legalize_edges.auto.outs
+
+pub shape_of-halves : goal.shape_of-halves
+shape_of-halves c = c.legalize_edges.auto.halves
+
+pub shape_of-faces : goal.shape_of-faces
+shape_of-faces c = c.legalize_edges.auto.faces
+
+pub shape_of-pending : goal.shape_of-pending
+shape_of-pending c =
+    c.legalize_edges.auto.pending ∙ c.push-m.auto.pending ∙ c.push-n.auto.pending
+
 pub returns : goal.returns
 returns c =
     let z = c.list_of-list in

@@ -13,7 +13,7 @@ fan_walk-left-requires c =
 
 pub fan_walk-right-requires : goal.fan_walk-right-requires
 fan_walk-right-requires c =
-    right-ready c.requires c.create_new_face_adjacent_to_edge-after.ensures _ _ _ c.fan_walk-left.ensures (c.fan_walk-left.auto.faces ∙ c.create_new_face_adjacent_to_edge-after.auto.halves) (c.fan_walk-left.auto.1.1.0 ∙ c.create_new_face_adjacent_to_edge-after.auto.faces)
+    right-ready c.requires c.create_new_face_adjacent_to_edge-after.ensures _ _ _ c.fan_walk-left.ensures (c.fan_walk-left.auto.halves ∙ c.create_new_face_adjacent_to_edge-after.auto.halves) (c.fan_walk-left.auto.faces ∙ c.create_new_face_adjacent_to_edge-after.auto.faces)
 
 pub returns : goal.returns
 returns c =

@@ -11,16 +11,16 @@ pub list_lent-requires : goal.list_lent-requires
 list_lent-requires c = points-few c.args.numbers.now c.requires.in_bounds.0 c.requires.in_bounds.1
 
 pub shape_of-positions : goal.shape_of-positions
-shape_of-positions c = c.list_lent.auto.outs ∙ c.store_seed.auto.outs
+shape_of-positions c = c.list_lent.auto.outs ∙ c.store_seed.auto.positions
 
 pub shape_of-outs : goal.shape_of-outs
-shape_of-outs c = c.list_lent.auto.halves ∙ c.store_seed.auto.halves
+shape_of-outs c = c.list_lent.auto.halves ∙ c.store_seed.auto.outs
 
 pub shape_of-halves : goal.shape_of-halves
-shape_of-halves c = c.list_lent.auto.faces ∙ c.store_seed.auto.faces
+shape_of-halves c = c.list_lent.auto.faces ∙ c.store_seed.auto.halves
 
 pub shape_of-faces : goal.shape_of-faces
-shape_of-faces c = c.list_lent.auto.freed ∙ c.store_seed.auto.1.1.1.1.0
+shape_of-faces c = c.list_lent.auto.freed ∙ c.store_seed.auto.faces
 
 pub returns : goal.returns
 returns c =

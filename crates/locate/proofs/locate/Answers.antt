@@ -20,4 +20,4 @@ returns-in-Refused c = locate-refused _ _ _ _ _ c.ring_rows_short-short.ensures 
 pub returns-in-Accepted : goal.returns-in-Accepted
 returns-in-Accepted c =
     locate-found _ _ _ _ _ c.ring_rows_short-short.ensures (sym c.check_locate.ensures ∙ c.in-Accepted.is) c.adjacent-start.ensures c.convex_hull_size-size.ensures c.place_at-place.ensures
-    (c.clear_ring.ensures ∙ zeros-same _ _ c.place_at-place.auto.1.1.0 refl c.place_at-place.auto.1.1.1.0)
+    (c.clear_ring.ensures ∙ zeros-same _ _ c.place_at-place.auto.nodes refl c.place_at-place.auto.buckets)

@@ -8,9 +8,9 @@ from_triangulation-ring-requires c = c.requires.build
 
 pub get-found-requires : goal.get-found-requires
 get-found-requires c =
-    asked-rows c.requires c.from_triangulation-ring.ensures c.from_triangulation-ring.auto.1.1.0 c.from_triangulation-ring.auto.1.1.1.0
+    asked-rows c.requires c.from_triangulation-ring.ensures c.from_triangulation-ring.auto.nodes c.from_triangulation-ring.auto.buckets
 
 pub returns : goal.returns
 returns c =
     let P = c.requires in
-    asked-place P.build c.from_triangulation-ring.ensures c.from_triangulation-ring.auto.1.1.0 c.from_triangulation-ring.auto.1.1.1.0 _ P.angle c.get-found.ensures
+    asked-place P.build c.from_triangulation-ring.ensures c.from_triangulation-ring.auto.nodes c.from_triangulation-ring.auto.buckets _ P.angle c.get-found.ensures

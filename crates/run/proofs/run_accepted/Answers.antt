@@ -13,7 +13,7 @@ pub start_ring-hull-requires : goal.start_ring-hull-requires
 start_ring-hull-requires c = to_start _ c.requires
 
 pub sweep-end-requires : goal.sweep-end-requires
-sweep-end-requires c = to-sweep _ c.requires _ _ _ c.start_ring-hull.ensures c.start_ring-hull.auto.1.1.1.0 c.start_ring-hull.auto.1.1.1.1.0 _ c.point_count-count.ensures
+sweep-end-requires c = to-sweep _ c.requires _ _ _ c.start_ring-hull.ensures c.start_ring-hull.auto.nodes c.start_ring-hull.auto.buckets _ c.point_count-count.ensures
 
 pub zero_answers-requires : goal.zero_answers-requires
 zero_answers-requires c = to-zero _ c.requires _ c.point_count-count.ensures _ _ _ _ _ _ c.sweep-end.ensures c.sweep-end.auto.answers
@@ -36,13 +36,13 @@ pub shape_of-faces : goal.shape_of-faces
 shape_of-faces c = c.complete_after-done.auto.faces ∙ c.sweep-end.auto.faces
 
 pub shape_of-nodes : goal.shape_of-nodes
-shape_of-nodes c = c.clear_rows.auto.nodes ∙ c.sweep-end.auto.nodes ∙ c.start_ring-hull.auto.1.1.1.0
+shape_of-nodes c = c.clear_rows.auto.nodes ∙ c.sweep-end.auto.nodes ∙ c.start_ring-hull.auto.nodes
 
 pub shape_of-freed : goal.shape_of-freed
 shape_of-freed c = c.clear_rows.auto.freed ∙ c.sweep-end.auto.freed
 
 pub shape_of-buckets : goal.shape_of-buckets
-shape_of-buckets c = c.clear_rows.auto.buckets ∙ c.complete_after-done.auto.grid ∙ c.sweep-end.auto.buckets ∙ c.start_ring-hull.auto.1.1.1.1.0
+shape_of-buckets c = c.clear_rows.auto.buckets ∙ c.complete_after-done.auto.grid ∙ c.sweep-end.auto.buckets ∙ c.start_ring-hull.auto.buckets
 
 pub shape_of-pending : goal.shape_of-pending
 shape_of-pending c = c.clear_rows.auto.pending ∙ c.complete_after-done.auto.pending ∙ c.sweep-end.auto.pending

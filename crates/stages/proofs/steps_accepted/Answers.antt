@@ -13,7 +13,7 @@ pub start_ring-hull-requires : goal.start_ring-hull-requires
 start_ring-hull-requires c = to_start _ c.requires
 
 pub sweep-requires : goal.sweep-requires
-sweep-requires c = to-sweep _ c.requires _ _ _ c.start_ring-hull.ensures c.start_ring-hull.auto.1.1.1.0 c.start_ring-hull.auto.1.1.1.1.0 _ c.point_count-count.ensures
+sweep-requires c = to-sweep _ c.requires _ _ _ c.start_ring-hull.ensures c.start_ring-hull.auto.nodes c.start_ring-hull.auto.buckets _ c.point_count-count.ensures
 
 pub shape_of-positions : goal.shape_of-positions
 shape_of-positions c = c.sweep.auto.positions
@@ -28,13 +28,13 @@ pub shape_of-faces : goal.shape_of-faces
 shape_of-faces c = c.sweep.auto.faces
 
 pub shape_of-nodes : goal.shape_of-nodes
-shape_of-nodes c = c.sweep.auto.nodes ∙ c.start_ring-hull.auto.1.1.1.0
+shape_of-nodes c = c.sweep.auto.nodes ∙ c.start_ring-hull.auto.nodes
 
 pub shape_of-freed : goal.shape_of-freed
 shape_of-freed c = c.sweep.auto.freed
 
 pub shape_of-buckets : goal.shape_of-buckets
-shape_of-buckets c = c.sweep.auto.buckets ∙ c.start_ring-hull.auto.1.1.1.1.0
+shape_of-buckets c = c.sweep.auto.buckets ∙ c.start_ring-hull.auto.buckets
 
 pub shape_of-pending : goal.shape_of-pending
 shape_of-pending c = c.sweep.auto.pending

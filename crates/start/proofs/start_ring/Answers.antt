@@ -14,4 +14,4 @@ from_triangulation-requires c = started-build c.requires c.adjacent-start.ensure
 
 pub returns : goal.returns
 returns c =
-    ring-started c.requires c.adjacent-start.ensures c.convex_hull_size-size.ensures c.from_triangulation.ensures c.from_triangulation.auto.1.1.0 c.from_triangulation.auto.1.1.1.0
+    ring-started c.requires c.adjacent-start.ensures c.convex_hull_size-size.ensures c.from_triangulation.ensures c.from_triangulation.auto.nodes c.from_triangulation.auto.buckets

@@ -9,15 +9,15 @@ start_ring-hull-requires c = to_start c.requires
 
 pub single_bulk_insertion_step-progress-requires : goal.single_bulk_insertion_step-progress-requires
 single_bulk_insertion_step-progress-requires c =
-    to_step c.requires c.start_ring-hull.ensures c.start_ring-hull.auto.1.1.1.0 c.start_ring-hull.auto.1.1.1.1.0 refl refl
+    to_step c.requires c.start_ring-hull.ensures c.start_ring-hull.auto.nodes c.start_ring-hull.auto.buckets refl refl
 
 pub shape_of-nodes : goal.shape_of-nodes
-shape_of-nodes c = c.clear_rows.auto.nodes ∙ c.single_bulk_insertion_step-progress.auto.nodes ∙ c.start_ring-hull.auto.1.1.1.0
+shape_of-nodes c = c.clear_rows.auto.nodes ∙ c.single_bulk_insertion_step-progress.auto.nodes ∙ c.start_ring-hull.auto.nodes
 
 pub shape_of-buckets : goal.shape_of-buckets
-shape_of-buckets c = c.clear_rows.auto.buckets ∙ c.single_bulk_insertion_step-progress.auto.buckets ∙ c.start_ring-hull.auto.1.1.1.1.0
+shape_of-buckets c = c.clear_rows.auto.buckets ∙ c.single_bulk_insertion_step-progress.auto.buckets ∙ c.start_ring-hull.auto.buckets
 
 pub returns : goal.returns
 returns c =
-    swept_once c.single_bulk_insertion_step-progress.ensures c.single_bulk_insertion_step-progress.auto.nodes c.start_ring-hull.auto.1.1.1.0 c.single_bulk_insertion_step-progress.auto.freed
-    c.single_bulk_insertion_step-progress.auto.buckets c.start_ring-hull.auto.1.1.1.1.0 c.single_bulk_insertion_step-progress.auto.pending c.clear_rows.ensures
+    swept_once c.single_bulk_insertion_step-progress.ensures c.single_bulk_insertion_step-progress.auto.nodes c.start_ring-hull.auto.nodes c.single_bulk_insertion_step-progress.auto.freed
+    c.single_bulk_insertion_step-progress.auto.buckets c.start_ring-hull.auto.buckets c.single_bulk_insertion_step-progress.auto.pending c.clear_rows.ensures
