@@ -23,11 +23,6 @@ update_buckets-requires c =
     let I = c.requires in
     (I.al-angle, I.q-angle, I.ar-angle, I.to-find.rows.counted, I.to-find.rows.bucket-room)
 
-pub retire-requires : goal.retire-requires
-retire-requires c =
-    let I = c.requires in
-    to-retire I c.find_left-found.ensures c.equal-goes.ensures c.choose-choice.ensures c.first_pushed-from.ensures c.place.auto.nodes c.choose-choice.auto.1.0
-
 pub floored_bucket-bucket-requires : goal.floored_bucket-bucket-requires
 floored_bucket-bucket-requires c =
     let I = c.requires in (angle-valid _ I.q-angle, I.to-find.rows.counted)
