@@ -1,5 +1,4 @@
 -- `heights::any_heights_outside` meets its contract. Assumes nothing.
-use borrow.Author.Rules.{rules}
 use mathlib.Core.Path.{refl}
 use Rattle.heights.specs.Heights.{any_heights_outside}
 use Rattle.heights.specs.HeightsLaws.{seed-there}

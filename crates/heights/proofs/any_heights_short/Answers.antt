@@ -2,7 +2,6 @@
 use mathlib.Core.Path.{refl}
 use borrow.Author.Tests.{lt-ltb, le-ltb}
 use Rattle.heights.specs.Heights.{any_heights_short}
-use borrow.Author.Rules.{rules}
 use Rattle.heights.proofs.any_heights_short.Goals as goal
 
 pub returns-then-heights-vertex_count : goal.returns-then-heights-vertex_count

@@ -1,5 +1,4 @@
 -- `heights::check_surface` meets its contract. Assumes nothing.
-use borrow.Author.Rules.{rules}
 use mathlib.Core.Path.{sym, ◌∙◌}
 use Rattle.heights.specs.HeightsLaws.{surface-refused, surface-next}
 use Rattle.heights.proofs.check_surface.Goals as goal

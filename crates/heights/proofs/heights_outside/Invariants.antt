@@ -1,12 +1,7 @@
 -- The loop of `heights::heights_outside`.
-use borrow.Author.Rules.{rules}
-use native.Mathlib.Omega.{arith}
-use mathlib.Core.Logic.{⊎_elim}
-use mathlib.Core.Path.{◌≡◌, sym, ◌∙◌, ap}
-use Prim.Native.Nat.{ℕ, ◌-◌, ◌≤◌}
-use mir.Facts.{to_z-of_z}
-use Rattle.heights.specs.Heights.{is_valid_height, heights_outside}
-use Rattle.heights.proofs.Rows.{outside-none, outside-seen, outside-not}
+use mathlib.Core.Path.{◌≡◌}
+use Prim.Native.Nat.{◌-◌, ◌≤◌}
+use Rattle.heights.specs.Heights.{heights_outside}
 use Rattle.heights.proofs.heights_outside.Given as goal
 
 abbrev pub invariant-loop-v : goal.invariant-loop-v

@@ -1,7 +1,6 @@
 -- `heights::set_height` meets its contract. Assumes nothing.
 use mir.Facts.{to_z-of_z}
 use Rattle.heights.proofs.Rows.{store-height}
-use borrow.Author.Rules.{rules}
 use Rattle.heights.proofs.set_height.Goals as goal
 
 pub returns : goal.returns

@@ -1,5 +1,4 @@
 -- `search::across_edge` meets its contract. Assumes nothing.
-use borrow.Author.Rules.{rules}
 use mir.Facts.{to_z-of_z}
 use Rattle.search.specs.Turns.{across-left, across-right, across-line}
 use Rattle.search.proofs.across_edge.Goals as goal

@@ -1,5 +1,4 @@
 -- `search::beyond` meets its contract. Assumes nothing.
-use borrow.Author.Rules.{rules}
 use Rattle.search.specs.Turns.{beyond-outer, beyond-inner}
 use Rattle.search.proofs.beyond.Goals as goal
 

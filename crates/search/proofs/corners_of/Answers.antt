@@ -1,5 +1,4 @@
 -- `search::corners_of` meets its contract. Assumes nothing.
-use borrow.Author.Rules.{rules}
 use Rattle.search.specs.Triangles.{second-there, second-placed, third-there, third-placed, corners-are}
 use Rattle.search.proofs.corners_of.Goals as goal
 

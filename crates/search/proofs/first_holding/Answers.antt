@@ -1,8 +1,6 @@
 -- `search::first_holding` meets its contract. The invariant: no face before f holds the point. The measure is how many faces
 -- are left. Assumes nothing.
-use Prim.Native.Nat.{◌-◌}
-use borrow.Author.Rules.{rules}
-use Rattle.search.specs.Scanning.{Holding, holding-start, face-there, face-ready, holding-on, holding-hit, holding-end}
+use Rattle.search.specs.Scanning.{holding-start, face-there, face-ready, holding-on, holding-hit, holding-end}
 use Rattle.search.proofs.first_holding.Goals as goal
 
 pub loop-f-init : goal.loop-f-init

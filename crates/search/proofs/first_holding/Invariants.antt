@@ -1,7 +1,6 @@
 -- The loop of `search::first_holding`.
 use Prim.Native.Nat.{◌-◌}
-use borrow.Author.Rules.{rules}
-use Rattle.search.specs.Scanning.{Holding, holding-start, face-there, face-ready, holding-on, holding-hit, holding-end}
+use Rattle.search.specs.Scanning.{Holding}
 use Rattle.search.proofs.first_holding.Given as goal
 
 abbrev pub invariant-loop-f : goal.invariant-loop-f

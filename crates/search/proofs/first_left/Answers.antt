@@ -3,7 +3,7 @@
 use mathlib.Core.Path.{◌∙◌}
 use borrow.Author.Rules.{sfits_of}
 use mir.Facts.{to_z-of_z}
-use Rattle.search.specs.Scanning.{Along, boundary_left, outer-there, start-there, along-placed, along-start, along-there, along-next, along-next-placed, along-range, along-hit, along-on, along-less}
+use Rattle.search.specs.Scanning.{outer-there, start-there, along-placed, along-start, along-there, along-next, along-next-placed, along-range, along-hit, along-on, along-less}
 use mir.Syntax.{w64}
 use Rattle.search.proofs.first_left.Goals as goal
 

@@ -1,8 +1,5 @@
 -- The loop of `search::first_left`.
-use mathlib.Core.Path.{◌∙◌}
-use borrow.Author.Rules.{sfits_of}
-use mir.Facts.{to_z-of_z}
-use Rattle.search.specs.Scanning.{Along, boundary_left, outer-there, start-there, along-placed, along-start, along-there, along-next, along-next-placed, along-range, along-hit, along-on, along-less}
+use Rattle.search.specs.Scanning.{Along, boundary_left}
 use Rattle.search.proofs.first_left.Given as goal
 
 abbrev pub invariant-loop-point : goal.invariant-loop-point

@@ -1,5 +1,4 @@
 -- `search::locate_point` meets its contract. Assumes nothing.
-use borrow.Author.Rules.{rules}
 use Rattle.search.specs.Located.{near-ready, scan-ready, nearest-there, from-ready, located-found, located-scanned}
 use Rattle.search.proofs.locate_point.Goals as goal
 

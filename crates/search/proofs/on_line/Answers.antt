@@ -1,5 +1,4 @@
 -- `search::on_line` meets its contract. Assumes nothing.
-use borrow.Author.Rules.{rules}
 use Rattle.search.specs.Turns.{line-outer, line-inner}
 use Rattle.search.proofs.on_line.Goals as goal
 

@@ -26,13 +26,12 @@ position-far-requires c =
     far-there c.requires.turn c.face-face.ensures c.if-face-eq0.false c.prev-prev.ensures c.origin-v.ensures
 
 pub side_query-requires : goal.side_query-requires
-side_query-requires c =
-    (
-      (ends-range c.requires).0,
-      far-range c.requires.turn c.face-face.ensures c.if-face-eq0.false c.prev-prev.ensures c.origin-v.ensures
-          c.position-far.ensures,
-      (ends-range c.requires).2,
-    )
+side_query-requires c = (
+  (ends-range c.requires).0,
+  far-range c.requires.turn c.face-face.ensures c.if-face-eq0.false c.prev-prev.ensures c.origin-v.ensures
+      c.position-far.ensures,
+  (ends-range c.requires).2,
+)
 
 pub rev-requires : goal.rev-requires
 rev-requires c = tt
@@ -48,13 +47,12 @@ next-e2-requires c =
     here-there c.requires.turn
 
 pub side_query-area-requires : goal.side_query-area-requires
-side_query-area-requires c =
-    (
-      (ends-range c.requires).1,
-      far-range c.requires.turn c.face-face.ensures c.if-face-eq0.false c.prev-prev.ensures c.origin-v.ensures
-          c.position-far.ensures,
-      (ends-range c.requires).2,
-    )
+side_query-area-requires c = (
+  (ends-range c.requires).1,
+  far-range c.requires.turn c.face-face.ensures c.if-face-eq0.false c.prev-prev.ensures c.origin-v.ensures
+      c.position-far.ensures,
+  (ends-range c.requires).2,
+)
 
 pub across_edge-requires : goal.across_edge-requires
 across_edge-requires c =

@@ -30,13 +30,12 @@ position-far-requires c =
     c.origin-v.ensures
 
 pub side_query-requires : goal.side_query-requires
-side_query-requires c =
-    (
-      (ends-range c.requires).0,
-      far-range (back-ready c.requires.turn c.rev-e1.ensures) c.face-face.ensures c.if-face-eq0.false
-          c.prev-e2.ensures c.origin-v.ensures c.position-far.ensures,
-      (ends-range c.requires).2,
-    )
+side_query-requires c = (
+  (ends-range c.requires).0,
+  far-range (back-ready c.requires.turn c.rev-e1.ensures) c.face-face.ensures c.if-face-eq0.false
+      c.prev-e2.ensures c.origin-v.ensures c.position-far.ensures,
+  (ends-range c.requires).2,
+)
 
 pub next-requires : goal.next-requires
 next-requires c =
@@ -49,12 +48,11 @@ returns-then-side_query-le0 c =
     c.if-side_query-le0.true c.next.ensures
 
 pub side_query-area-requires : goal.side_query-area-requires
-side_query-area-requires c =
-    (
-      far-range (back-ready c.requires.turn c.rev-e1.ensures) c.face-face.ensures c.if-face-eq0.false c.prev-e2.ensures c.origin-v.ensures c.position-far.ensures,
-      (ends-range c.requires).1,
-      (ends-range c.requires).2,
-    )
+side_query-area-requires c = (
+  far-range (back-ready c.requires.turn c.rev-e1.ensures) c.face-face.ensures c.if-face-eq0.false c.prev-e2.ensures c.origin-v.ensures c.position-far.ensures,
+  (ends-range c.requires).1,
+  (ends-range c.requires).2,
+)
 
 pub across_edge-requires : goal.across_edge-requires
 across_edge-requires c =

@@ -2,8 +2,7 @@
 -- start. The measure is their number. Assumes nothing.
 use native.Mathlib.Omega.{arith}
 use mathlib.Core.Path.{refl}
-use borrow.Author.Rules.{rules}
-use Rattle.search.specs.Searching.{Searching, searching-start, searching-found, searching-on, searching-end}
+use Rattle.search.specs.Searching.{searching-start, searching-found, searching-on, searching-end}
 use Rattle.search.proofs.search_from.Goals as goal
 
 pub overflow_mul-left : goal.overflow_mul-left

@@ -1,8 +1,5 @@
 -- The loop of `search::search_from`.
-use native.Mathlib.Omega.{arith}
-use mathlib.Core.Path.{refl}
-use borrow.Author.Rules.{rules}
-use Rattle.search.specs.Searching.{Searching, searching-start, searching-found, searching-on, searching-end}
+use Rattle.search.specs.Searching.{Searching}
 use Rattle.search.proofs.search_from.Given as goal
 
 abbrev pub invariant-loop-left : goal.invariant-loop-left
