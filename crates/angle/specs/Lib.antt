@@ -2,12 +2,3 @@
 -- proofs of this crate and of those above it.
 pub mod Angle
 pub mod Answer
-pub mod Powers
-mod Grid
-mod Values
-mod PseudoAngle
-pub mod Laws
-pub mod Center
-pub mod Bits
-pub mod Valid
-pub mod Product

@@ -9,7 +9,8 @@ use native.Mathlib.Omega.{arith}
 use borrow.Author.Tests.{eq-eqb, ne_eqb, lt-ltb, le-ltb, le-leb, lt-leb}
 use Rattle.std.proofs.Math.Dec.{ltb}
 use Rattle.dcel.specs.Rows.{row_of}
-use Rattle.sums.specs.Put.{put, put_same, put_other}
+use Rattle.sums.specs.Put.{put}
+use Rattle.sums.proofs.PutLaws.{put_same, put_other}
 use Rattle.decide.specs.Decide.{fate_number, fate_vertex}
 use Rattle.sweep.specs.declared.Answer.{Answer}
 use Rattle.sweep.specs.Run.{answer_words, answer_word}

@@ -2,7 +2,5 @@
 pub mod Apply
 pub mod Walks
 pub mod Turns
-pub mod FirstFace
-pub mod ApplyLaws
 pub mod Origins
 pub mod ApplyRows

@@ -10,25 +10,28 @@ use Rattle.corner.specs.Corner.{Extended, close_corner}
 use Rattle.corner.specs.CornerLaws.{LeftCorner, CornerClosed, closes-corner, closed-good, closed-boundary, closed-length, Closings, none, then}
 use Rattle.math.specs.declared.Point.{Point}
 use Rattle.math.specs.Determinant.{InRange, orient2d}
-use Rattle.math.specs.Plane.{orient2d-next}
+use Rattle.math.proofs.Plane.{orient2d-next}
 use Rattle.mesh.specs.declared.Counts.{Counts}
 use Rattle.mesh.specs.Mesh.{Links, In, to}
 use Rattle.mesh.specs.Operations.{create_single_face_between_edge_and_next, with_face}
 use Rattle.mesh.specs.Area.{boundary_length}
-use Rattle.mesh.specs.CountsLaws.{count-halves}
+use Rattle.mesh.proofs.CountsLaws.{count-halves}
 use Rattle.mesh.specs.Frame.{SameBoundary}
 use Rattle.mesh.specs.Good.{Good}
-use Rattle.mesh.specs.GoodLaws.{single-face-good}
-use Rattle.mesh.specs.SingleFace.{single-face-frame}
+use Rattle.mesh.proofs.GoodLaws.{single-face-good}
+use Rattle.mesh.proofs.SingleFaceLaws.{single-face-frame}
 use Rattle.mesh.specs.Wf.{Wf}
 use Rattle.ring.specs.Ring.{edge_angle}
-use Rattle.ring.specs.Boundary.{outer-walk}
+use Rattle.ring.proofs.Boundary.{outer-walk}
 use Rattle.ring.specs.Chain.{sees_edge, covers_left, covers_right, left_chain, right_chain, chain_length}
-use Rattle.ring.specs.ChainMesh.{left-covered, right-covered, left-stops, right-stops, left-sees, right-sees, before-walk, chain-short}
-use Rattle.ring.specs.Covered.{Covered, cover-left, cover-right, cover-same, right-four, left-four, p-in, p-outer, prev-in, prev-outer, covered-in}
-use Rattle.ring.specs.CoveredEnds.{RestEnds, SameEnds, ends-left, ends-right, ends_same, left-test, right-test, left-next}
-use Rattle.sums.specs.Bit.{from-true, is_true, is_false}
-use Rattle.sums.specs.Iterate.{iter, iter-last}
+use Rattle.ring.proofs.ChainMesh.{left-covered, right-covered, left-stops, right-stops, left-sees, right-sees, before-walk, chain-short}
+use Rattle.ring.specs.Covered.{Covered}
+use Rattle.ring.proofs.CoveredLaws.{cover-left, cover-right, cover-same, right-four, left-four, p-in, p-outer, prev-in, prev-outer, covered-in}
+use Rattle.ring.specs.CoveredEnds.{RestEnds, SameEnds}
+use Rattle.ring.proofs.CoveredEndsLaws.{ends-left, ends-right, ends_same, left-test, right-test, left-next}
+use Rattle.sums.proofs.BitLaws.{from-true, is_true, is_false}
+use Rattle.sums.specs.Iterate.{iter}
+use Rattle.sums.proofs.IterateLaws.{iter-last}
 use Rattle.ring.specs.declared.Side.{Side}
 use Rattle.ring.specs.declared.Side.TheVariants.{Left, Right}
 use Rattle.ring.specs.Chain.{beside, covers}

@@ -16,16 +16,16 @@ use Rattle.dcel.specs.Rows.{links_of, position_of}
 use Rattle.math.specs.declared.Point.{Point}
 use Rattle.mesh.specs.Mesh.{Links}
 use Rattle.mesh.specs.Operations.{with_vertex}
-use Rattle.mesh.specs.CountsLaws.{halves-fit}
+use Rattle.mesh.proofs.CountsLaws.{halves-fit}
 use Rattle.mesh.specs.Good.{Good}
 use Rattle.ring.specs.Chain.{left_chain}
 use Rattle.ring.specs.declared.Side.TheVariants.{Left, Right}
 use Rattle.apply.specs.declared.Walked.{Walked}
 use Rattle.mesh.specs.declared.Counts.{Counts}
 use Rattle.apply.specs.Apply.{Walking, first_face, walk_turns, add_turns}
-use Rattle.apply.specs.ApplyLaws.{first_on, first-turned, second-on}
+use Rattle.apply.proofs.ApplyLaws.{first_on, first-turned, second-on}
 use Rattle.apply.specs.ApplyRows.{FirstReady, TurnsReady, AddReady, walking_of, applied_of}
-use Rattle.apply.specs.FirstFace.{new-good, first_good, first-bound}
+use Rattle.apply.proofs.FirstFace.{new-good, first_good, first-bound}
 use Rattle.apply.specs.Turns.{AlongOn}
 
 module _ {C : Counts} {q : List ℤ} {o h a row : List ℕ} {e left right : ℕ} (R : AddReady C q o h a row e left right) where

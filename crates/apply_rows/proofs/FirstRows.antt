@@ -20,7 +20,7 @@ use Rattle.legalize.specs.LegalizeRows.{LegalizeReady, Leaves}
 use Rattle.mesh.specs.declared.Counts.{Counts}
 use Rattle.mesh.specs.Mesh.{In}
 use Rattle.mesh.specs.Operations.{with_vertex}
-use Rattle.mesh.specs.CountsLaws.{faces-fit}
+use Rattle.mesh.proofs.CountsLaws.{faces-fit}
 use Rattle.apply.specs.Apply.{first_face}
 use Rattle.apply.specs.ApplyRows.{FirstReady}
 

@@ -13,14 +13,15 @@ use Rattle.corner.specs.RowsLaws.{SameLengths, same_refl, same-trans, ready-agai
 use Rattle.dcel.specs.Rows.{position_of}
 use Rattle.math.specs.declared.Point.{Point}
 use Rattle.mesh.specs.Mesh.{In}
-use Rattle.ring.specs.Covered.{p-in}
-use Rattle.sums.specs.Bit.{from-true, ne_test}
+use Rattle.ring.proofs.CoveredLaws.{p-in}
+use Rattle.sums.proofs.BitLaws.{from-true, ne_test}
 use Rattle.ring.specs.declared.Side.{Side}
 use Rattle.ring.specs.declared.Side.TheVariants.{Left, Right}
 use Rattle.apply.specs.declared.Walked.{Walked}
 use Rattle.apply.specs.Apply.{Walking, walk_turn_of, walk_turns}
 use Rattle.apply.specs.ApplyRows.{walking_of, TurnReady, TurnsReady}
-use Rattle.apply.specs.Turns.{AlongOn, chain_on, turn_on, turn-closes, turns-full}
+use Rattle.apply.specs.Turns.{AlongOn, chain_on, turn_on, turn-closes}
+use Rattle.apply.proofs.TurnsLaws.{turns-full}
 use Rattle.apply.specs.Walks.{Before}
 
 -- one turn of several

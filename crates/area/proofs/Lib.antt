@@ -1,1 +1,4 @@
 pub mod Loop
+pub mod AreaTotalLaws
+pub mod SideQueryLaws
+pub mod SummableLaws

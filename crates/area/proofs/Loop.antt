@@ -12,13 +12,13 @@ use mir.Facts.{to_z-of_z}
 use Rattle.dcel.specs.Rows.{row_of, links_of, position_of}
 use Rattle.int128.specs.declared.Int128.{Int128}
 use Rattle.int128.specs.Int128.{int128_of, in_halves, Fits128}
-use Rattle.int128.specs.Int128Laws.{fits-abs, halves-mean}
+use Rattle.int128.proofs.Int128LawsFacts.{fits-abs, halves-mean}
 use Rattle.math.specs.Determinant.{orient2d}
 use Rattle.mesh.specs.declared.Counts.{Counts}
 use Rattle.mesh.specs.Area.{at_corners, over_faces, area_total}
 use Rattle.sums.specs.Sum.{sum}
 use Rattle.area.specs.Summable.{Summable, areas_to}
-use Rattle.area.specs.SummableLaws.{areas-less}
+use Rattle.area.proofs.SummableLaws.{areas-less}
 
 pub no-area : (p : List ℤ) (o h a : List ℕ) → record { high = 0; low = 0 } ≡ in_halves (areas_to 0 p o h a)
 unfolding areas_to sum in_halves

@@ -12,7 +12,7 @@ use Rattle.mesh_check.specs.declared.Checked.{Checked}
 use Rattle.mesh_check.specs.declared.Checked.TheVariants.{Accepted, Refused}
 use Rattle.mesh_check.specs.declared.Refusal.{Refusal}
 use Rattle.ask.specs.Ask.{point_checked}
-use Rattle.ask.specs.AskLaws.{point-refused, point-start}
+use Rattle.ask.proofs.AskLaws.{point-refused, point-start}
 
 module _ {x y z z' : ℤ} {v : Point} (x-is : x ≡ v.x) (y-is : y ≡ v.y) (z-is : z' ≡ z)
     (short : Bool) (C : Counts) (s : SurfaceRows) (center : Point2) {k : Checked}

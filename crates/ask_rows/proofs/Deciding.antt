@@ -15,14 +15,14 @@ use Rattle.decide.specs.declared.Decision.{Decision}
 use Rattle.decide.specs.Decide.{decided}
 use Rattle.decide.specs.Located.{DecidesAt, LocatedRows, ToDecideAt}
 use Rattle.decide.specs.SweepRows.{Decides}
-use Rattle.decide.specs.VertexAngles.{angle-is, decided-located}
+use Rattle.decide.proofs.VertexAngles.{angle-is, decided-located}
 use Rattle.hull.specs.Boundary.{AngleAt}
 use Rattle.locate.specs.Start.{AcceptedStart}
 use Rattle.math.specs.declared.Point.{Point}
 use Rattle.mesh.specs.declared.Counts.{Counts}
 use Rattle.start.specs.Start.{point_row}
 use Rattle.ask.specs.AskRows.{edge_holding, ToQuote}
-use Rattle.ask.specs.AskRowsLaws.{held-located, quote-located, quote-ends}
+use Rattle.ask.proofs.AskRowsLaws.{held-located, quote-located, quote-ends}
 
 module _ (v : Point) (center : Point2) {r : VertexAngle} {x y : ℤ} (is : r ≡ vertex_angle x y center.x center.y)
     (x-is : x ≡ v.x) (y-is : y ≡ v.y) {g : Float} (z : r ≡ Angle g) (A : IsAngle g) {C : Counts} {q : List ℤ} {h a : List ℕ}

@@ -10,13 +10,13 @@ use lib.Ieee.{Float}
 use lib.IntN.{ℤ}
 use Rattle.angle.specs.Angle.{turns}
 use Rattle.dcel.specs.Rows.{halves_of, There}
-use Rattle.hull.specs.Along.{next-at, angled}
+use Rattle.hull.proofs.Along.{next-at, angled}
 use Rattle.hull.specs.Boundary.{AngledBoundary, Angled, AngleAt, edge_at, origin_turns}
 use Rattle.ring.specs.Ring.{proper}
-use Rattle.ring.specs.Segments.{holds-proper}
+use Rattle.ring.proofs.SegmentsLaws.{holds-proper}
 use Rattle.segment.specs.Arc.{holds}
-use Rattle.sums.specs.Bit.{is_false}
-use Rattle.sums.specs.Bounded.{first-below-is}
+use Rattle.sums.proofs.BitLaws.{is_false}
+use Rattle.sums.proofs.BoundedLaws.{first-below-is}
 use Rattle.ask.specs.AskRows.{edge_holds, edge_holding}
 
 -- equal angles have no segment

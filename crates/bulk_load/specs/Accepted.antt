@@ -5,12 +5,14 @@ use Rattle.std.proofs.Math.Dec.{ltb}
 use Rattle.dcel.specs.Rows.{position_of}
 use Rattle.heights.specs.Heights.{heights_short, heights_outside}
 use Rattle.locate.specs.Locate.{ring_rows_short}
-use Rattle.locate.specs.Start.{RingRoom, ring-room}
+use Rattle.locate.specs.Start.{RingRoom}
+use Rattle.locate.proofs.StartLaws.{ring-room}
 use Rattle.math.specs.Determinant.{InRange}
 use Rattle.mesh_check.specs.declared.Checked.{Checked}
-use Rattle.mesh_check.specs.Accepted.{MeshSizes, not-short-rows, or-false}
+use Rattle.mesh_check.specs.Accepted.{MeshSizes}
+use Rattle.mesh_check.proofs.AcceptedLaws.{not-short-rows, or-false}
 use Rattle.mesh_check.specs.Check.{first_outside, point_count, mesh_short, rows_short}
-use Rattle.mesh_check.specs.CheckLaws.{inside-range, not-refused}
+use Rattle.mesh_check.proofs.CheckLawsFacts.{inside-range, not-refused}
 use Rattle.start.specs.Start.{sweep_rows_short}
 use Rattle.sweep.specs.Run.{answer_words}
 use Rattle.bulk_load.specs.BulkLoad.{BulkLoadLent, count, bulk_load_short, bulk_load_checked}

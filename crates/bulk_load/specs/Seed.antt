@@ -7,7 +7,8 @@
 -- rows hold before the call.
 use Rattle.std.specs.Prelude.{Bool, true, false, not, cond, ◌&&◌, ◌||◌, ℕ, zero, suc}
 use Rattle.hull_center.specs.HullCenter.{is_ready}
-use Rattle.line.specs.Grow.{Growing, grow_on, nothing}
+use Rattle.line.specs.Grow.{Growing, grow_on}
+use Rattle.line.proofs.GrowFacts.{nothing}
 use Rattle.math.specs.declared.Point.{Point}
 use Rattle.mesh.specs.Mesh.{Links}
 

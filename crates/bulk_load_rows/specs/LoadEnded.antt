@@ -10,9 +10,9 @@ use Rattle.std.proofs.Math.Dec.{ltb}
 use Rattle.bulk_load.specs.declared.BulkLoadAnswer.{BulkLoadAnswer}
 use Rattle.bulk_load.specs.Accepted.{BulkLoadAccepted, load-accepts}
 use Rattle.bulk_load.specs.BulkLoad.{BulkLoadLent, BulkLoadOutcome, Loading, bulk_load_checked, bulk_load_of, count, counts, links, positions, seeded, seeded_word, seed_answers, ended, lined, stopped, loading_of, loaded_with, loaded_by}
-use Rattle.bulk_load.specs.LoadLaws as load
-use Rattle.bulk_load.specs.Rest as rest
-use Rattle.bulk_load.specs.StoreLaws.{load_store}
+use Rattle.bulk_load.proofs.LoadLaws as load
+use Rattle.bulk_load.proofs.RestFacts as rest
+use Rattle.bulk_load.proofs.StoreLaws.{load_store}
 use Rattle.convexity.specs.ConvexityRows.{MeshReady}
 use Rattle.dcel.specs.MeshRows.{mesh_rows, SameLengths}
 use Rattle.dcel.specs.Rows.{links_of, position_of, row_of, row_from_of}
@@ -20,7 +20,7 @@ use Rattle.dcel.specs.Views.{from_entries, mesh-rows-from}
 use Rattle.finish.specs.declared.FinishAnswer.{FinishAnswer}
 use Rattle.heights.specs.Heights.{height_of}
 use Rattle.mesh.specs.declared.Counts.{Counts}
-use Rattle.mesh.specs.CountsLaws.{count-edges, count-faces}
+use Rattle.mesh.proofs.CountsLaws.{count-edges, count-faces}
 use Rattle.mesh.specs.Good.{Good}
 use Rattle.mesh_check.specs.declared.Checked.{Checked}
 use Rattle.mesh_check.specs.Check.{point_count}

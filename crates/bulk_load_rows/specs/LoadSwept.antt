@@ -12,11 +12,11 @@ use Rattle.std.proofs.Math.Seq.{ext_get_or}
 use Rattle.bulk_load.specs.declared.BulkLoadAnswer.{BulkLoadAnswer}
 use Rattle.bulk_load.specs.Accepted.{BulkLoadAccepted, load-accepts}
 use Rattle.bulk_load.specs.BulkLoad.{BulkLoadLent, BulkLoadOutcome, bulk_load_checked, bulk_load_of, count, counts, links, positions, seeded, seeded_word, rest_of, swept_answers, swept, loading_of, loaded_with, loaded_by}
-use Rattle.bulk_load.specs.LoadAnswers.{rows-again}
-use Rattle.bulk_load.specs.LoadLaws as load
-use Rattle.bulk_load.specs.Past.{seed-rows}
-use Rattle.bulk_load.specs.Rest as rest
-use Rattle.bulk_load.specs.StoreLaws.{load_store}
+use Rattle.bulk_load.proofs.LoadAnswers.{rows-again}
+use Rattle.bulk_load.proofs.LoadLaws as load
+use Rattle.bulk_load.proofs.PastLaws.{seed-rows}
+use Rattle.bulk_load.proofs.RestFacts as rest
+use Rattle.bulk_load.proofs.StoreLaws.{load_store}
 use Rattle.dcel.specs.MeshRows.{MeshRows, mesh_rows, mesh_rows_from}
 use Rattle.dcel.specs.Rows.{links_of, position_of, row_of, row_from_of}
 use Rattle.dcel.specs.Views.{length_from, get_or-from}
@@ -28,7 +28,7 @@ use Rattle.hull_center.specs.HullCenter.{hull_center}
 use Rattle.hull_center_rows.specs.CenterRows.{LastThreeIn, last-three-in}
 use Rattle.math.specs.declared.Point.{Point}
 use Rattle.mesh.specs.declared.Counts.{Counts}
-use Rattle.mesh.specs.CountsLaws.{count-edges, count-faces}
+use Rattle.mesh.proofs.CountsLaws.{count-edges, count-faces}
 use Rattle.mesh.specs.Good.{Good}
 use Rattle.mesh_check.specs.declared.Checked.{Checked}
 use Rattle.mesh_check.specs.Check.{point_count}
@@ -37,8 +37,8 @@ use Rattle.seed.specs.declared.SeedEnd.{SeedEnd}
 use Rattle.surface.specs.StoredHeights.{finished_heights}
 use Rattle.surface.specs.StoreReady.{StoreReady}
 use Rattle.sweep.specs.Run.{RunLent, RunOutcome, run_lent, ran_with, answer_words, run_checked, run_completes, run_answers, run_of}
-use Rattle.sweep.specs.RunAnswers.{answer_at}
-use Rattle.sweep.specs.RunLaws.{run_is}
+use Rattle.sweep.proofs.RunAnswers.{answer_at}
+use Rattle.sweep.proofs.RunLaws.{run_is}
 use Rattle.bulk_load_rows.specs.LoadRows.{answer_after, rest_lent, RestReady, RestLeaves}
 use Rattle.bulk_load_rows.specs.RestRows.{run-pending, ran-pending, placed-from, drop-same, joined_length, joined-first, joined-last}
 use Rattle.bulk_load_rows.specs.LoadSeeded.{outcome-is, heights-from, Seeded, counts-are, answered-is, ready-is, links-are, places-are, mesh-is, seed-answer, seed-old}

@@ -28,7 +28,7 @@ use Rattle.skipped.specs.Fill.{Filling, fill_after, insert_on, insert_word, Comp
 use Rattle.sweep.specs.Demand3.{Full}
 use Rattle.sweep.specs.Run.{Sweeping, is_skipped, complete_after, answers_after, completed_answers, RunLent, RunOutcome, run_lent, ran_with, answer_words, run_checked, sweep_of, steps_of, skipped_of, run_completes, passed_of, fill_of, inserted_word, run_answers, run_outcome, run_of}
 use Rattle.sweep.specs.Step.{Stepping}
-use Rattle.sweep.specs.RunLaws.{run-refused}
+use Rattle.sweep.proofs.RunLaws.{run-refused}
 use Rattle.bulk_load_rows.specs.LoadRows.{placed_after, answer_after, PlaceFits, rest_lent, RestReady, RestLeaves}
 
 -- ---- a run knows the length of its pending row alone

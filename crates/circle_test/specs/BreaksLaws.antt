@@ -6,7 +6,7 @@ use Rattle.dcel.specs.Rows.{halves_of, links_of}
 use Rattle.math.specs.declared.Point.{Point}
 use Rattle.math.specs.Determinant.{contained_in_circumference}
 use Rattle.mesh.specs.Circle.{breaks_circle}
-use Rattle.mesh.specs.CircleLaws.{outer-left, outer-right, both-inner}
+use Rattle.mesh.proofs.CircleLawsFacts.{outer-left, outer-right, both-inner}
 
 module _ (P : ℕ → Point) (h : List ℕ) (u : ℕ) where
   pub outer-e : {f : ℕ} → f ≡ (halves_of h).face (2 * u) → f ≡ 0 → (o a : List ℕ) → false ≡ breaks_circle (links_of o h a) P u

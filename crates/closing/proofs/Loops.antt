@@ -21,8 +21,8 @@ use Rattle.mesh.specs.Mesh.{Links}
 use Rattle.mesh.specs.Area.{height_sum}
 use Rattle.mesh.specs.Operations.{flip_cw}
 use Rattle.mesh.specs.Circle.{breaks_circle}
-use Rattle.mesh.specs.FlipRun.{run-good}
-use Rattle.sums.specs.Until.{Going, going_start, going-turn, going_less, going_end}
+use Rattle.mesh.proofs.FlipRunLaws.{run-good}
+use Rattle.sums.proofs.UntilLaws.{Going, going_start, going-turn, going_less, going_end}
 use Rattle.closing.specs.Closing.{Closing, close_edge, close_below, Turned, close_turn, unturned, closing_pass}
 use Rattle.closing.specs.ClosingLaws.{edge-flips, edge_stays, Flipping, flipping-edge, flipping-below, below-over, Turning, height_left, turns-fall, begins, enough}
 use Rattle.closing.specs.ClosingRows.{closing_of, Closable}

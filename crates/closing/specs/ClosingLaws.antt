@@ -18,12 +18,14 @@ use Rattle.mesh.specs.Operations.{flip_cw}
 use Rattle.mesh.specs.Frame.{SameBoundary}
 use Rattle.mesh.specs.Circle.{breaks_circle, Settled}
 use Rattle.mesh.specs.Area.{height_sum, area_total, boundary_length, circle_at}
-use Rattle.mesh.specs.CircleLaws.{settled-half}
-use Rattle.mesh.specs.FlipRun.{FlipRun, none, then, run_join, run-good, run-boundary, run_length, run-area, run-heights, run-falls, determinants}
+use Rattle.mesh.proofs.CircleLawsFacts.{settled-half}
+use Rattle.mesh.specs.FlipRun.{FlipRun, none, then, determinants}
+use Rattle.mesh.proofs.FlipRunLaws.{run_join, run-good, run-boundary, run_length, run-area, run-heights, run-falls}
 use Rattle.mesh.specs.Good.{Good}
 use Rattle.sums.specs.Half.{rev}
-use Rattle.sums.specs.Bounded.{up_to}
-use Rattle.sums.specs.Until.{until, until-ends, until-fuel, until-ind, Falls}
+use Rattle.sums.proofs.BoundedLaws.{up_to}
+use Rattle.sums.specs.Until.{until}
+use Rattle.sums.proofs.UntilLaws.{until-ends, until-fuel, until-ind, Falls}
 use Rattle.closing.specs.Closing.{Closing, close_edge, close_below, Turned, close_turn, unturned, closing_pass}
 
 -- ---- one edge

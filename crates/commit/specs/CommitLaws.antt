@@ -8,7 +8,7 @@ use Rattle.std.proofs.Common.{sym, ◌∙◌, ap, arith, ne_eqb}
 use Rattle.angle.specs.declared.Point2.{Point2}
 use Rattle.ask.specs.declared.Asked.{Asked}
 use Rattle.ask.specs.Ask.{quote_from, quote_of, ask_of}
-use Rattle.ask.specs.AskLaws.{ask-quoted}
+use Rattle.ask.proofs.AskLaws.{ask-quoted}
 use Rattle.dcel.specs.MeshRows.{links_in, places_in}
 use Rattle.decide.specs.Decide.{fate_number}
 use Rattle.heights.specs.Heights.{SurfaceRows}
@@ -28,8 +28,8 @@ use Rattle.sweep.specs.declared.StepAnswer.{StepAnswer}
 use Rattle.sweep.specs.declared.Stepped.{Stepped}
 use Rattle.sweep.specs.Step.{Stepping, answer_of, is_added}
 use Rattle.sweep.specs.StepCall.{answer_from, step_checked}
-use Rattle.sweep.specs.StepCallLaws.{step-fate, full-added, step_range, step-swept}
-use Rattle.sweep.specs.SweepLaws.{step_count}
+use Rattle.sweep.proofs.StepCallLawsFacts.{step-fate, full-added, step_range, step-swept}
+use Rattle.sweep.proofs.SweepLawsFacts.{step_count}
 use Rattle.commit.specs.Commit.{is_counted, commit_changes, CommitOutcome, committed_with, nothing_done}
 use Rattle.commit.specs.Commit.{commit_of}
 use Rattle.commit.specs.CommitParts.{checks, commit-step, commit-quote, commit-none, commit-is, commit-table, stale-table, end-table, plus_none, counts_of}

@@ -5,14 +5,14 @@ use Rattle.std.proofs.Common.{sym, ◌∙◌, ap, arith}
 use Rattle.angle.specs.declared.Point2.{Point2}
 use Rattle.ask.specs.Ask.{quote_from, quote_of, point_checked}
 use Rattle.heights.specs.Heights.{SurfaceRows, height_of, heights_in, heights_lent, heights_checked, heights_tested}
-use Rattle.heights.specs.HeightsLaws.{checked-tested}
+use Rattle.heights.proofs.HeightsLaws.{checked-tested}
 use Rattle.math.specs.declared.Point.{Point}
 use Rattle.mesh.specs.declared.Counts.{Counts}
 use Rattle.mesh_check.specs.declared.Checked.{Checked}
 use Rattle.mesh_check.specs.declared.Checked.TheVariants.{Accepted, Refused}
 use Rattle.mesh_check.specs.declared.Refusal.{Refusal}
 use Rattle.mesh_check.specs.Check.{refused, and_then, point_count, vertex_count}
-use Rattle.mesh_check.specs.CheckLaws.{then_next, then-refused, then-accepts}
+use Rattle.mesh_check.proofs.CheckLawsFacts.{then_next, then-refused, then-accepts}
 use Rattle.quote.specs.declared.Quote.{Quote}
 use Rattle.quote.specs.Quote.{check_quote, check_changes, last_change}
 use Rattle.quote.specs.QuoteLaws.{quote-fresh, quote-stale, quote-accepted, changes-at-end, changes-accepted}
@@ -21,7 +21,7 @@ use Rattle.start.specs.Start.{point_row, sweep_rows_short, sweep_checked}
 use Rattle.start.specs.StartLaws.{AcceptedSweep, sweep-accepts}
 use Rattle.surface.specs.StoredHeights.{height_stored}
 use Rattle.surface.specs.Surface.{SurfaceStepped, surface_stepped, surface_step_checked, surface_step}
-use Rattle.surface.specs.SurfaceLaws.{step_room, step-own, step-heights}
+use Rattle.surface.proofs.SurfaceLawsFacts.{step_room, step-own, step-heights}
 use Rattle.sweep.specs.declared.Stepped.{Stepped}
 use Rattle.sweep.specs.Step.{Stepping}
 use Rattle.sweep.specs.StepCall.{StepOutcome, answer_from, step_checked, step_of}

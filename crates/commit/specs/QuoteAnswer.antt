@@ -10,14 +10,15 @@ use Rattle.decide.specs.declared.Fate.{Fate}
 use Rattle.decide.specs.declared.Fate.TheVariants.{Added, Dropped, NotLeft, Unsound, AtCenter}
 use Rattle.decide.specs.Decide.{Decided, decided, fate_number, if_added}
 use Rattle.heights.specs.Heights.{SurfaceRows, heights_lent, check_ten, any_heights_outside, heights_checked}
-use Rattle.locate.specs.Start.{start-numbered}
+use Rattle.locate.proofs.StartLaws.{start-numbered}
 use Rattle.math.specs.declared.Point.{Point}
 use Rattle.mesh.specs.declared.Counts.{Counts}
 use Rattle.mesh_check.specs.declared.Checked.{Checked}
 use Rattle.mesh_check.specs.declared.Checked.TheVariants.{Accepted, Refused}
 use Rattle.mesh_check.specs.declared.Refusal.{Refusal}
 use Rattle.mesh_check.specs.Check.{refused, and_then, range_with}
-use Rattle.mesh_check.specs.CheckLaws.{NumberedTo, numbered-at, range-numbered, then-accepts}
+use Rattle.mesh_check.specs.CheckLaws.{NumberedTo}
+use Rattle.mesh_check.proofs.CheckLawsFacts.{numbered-at, range-numbered, then-accepts}
 use Rattle.ring_rows.specs.RingRows.{RingRows}
 use Rattle.start.specs.Start.{point_row}
 use Rattle.surface.specs.Surface.{SurfaceStepped, surface_stepped, surface_step_checked, surface_step, heights_after}
@@ -26,8 +27,9 @@ use Rattle.sweep.specs.declared.StepAnswer.{StepAnswer}
 use Rattle.sweep.specs.declared.Stepped.{Stepped}
 use Rattle.sweep.specs.Step.{Stepping, answer_of, is_added, step_mesh}
 use Rattle.sweep.specs.StepCall.{StepOutcome, answer_from, step_checked, stepped_with, step_outcome, step_of}
-use Rattle.sweep.specs.StepCallLaws.{StepAccepted, step-accepted, full-added}
-use Rattle.sweep.specs.StepMesh.{added_of}
+use Rattle.sweep.specs.StepCallLaws.{StepAccepted}
+use Rattle.sweep.proofs.StepCallLawsFacts.{step-accepted, full-added}
+use Rattle.sweep.proofs.StepMeshLaws.{added_of}
 use Rattle.commit.specs.CommitParts.{step-point}
 
 -- ---- no check refuses 9: that comes out of the work alone

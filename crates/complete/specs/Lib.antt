@@ -1,11 +1,2 @@
 pub mod CompleteRows
-pub mod OneStage
-pub mod AnswersLaws
-pub mod PointLaws
 pub mod FillLoop
-pub mod NoneLaws
-pub mod NearLaws
-pub mod SettledLaws
-pub mod CloseLaws
-pub mod CompleteLaws
-pub mod SameSkipped

@@ -14,16 +14,19 @@ use Rattle.algebra.specs.Ring.{ring, num, ◌⊕◌, ◌⊖◌, v0, v1, v2, v3, 
 use Rattle.algebra.specs.Sign.{eq-in, eq-by}
 use Rattle.math.specs.declared.Point.{Point}
 use Rattle.math.specs.Determinant.{Incircle, incircle}
-use Rattle.math.specs.Plane.{E·, A, B, C, env3, contained-next, incircle-other, flip-left, flip-right}
-use Rattle.sums.specs.Bit.{bit, bit-yes}
-use Rattle.sums.specs.Bounded.{count, count-ext, count-le, count-more, count-two, count-two-less}
-use Rattle.sums.specs.Sum.{sum-natural, sum-small, sum_more}
+use Rattle.math.proofs.Plane.{E·, A, B, C, env3, contained-next, incircle-other, flip-left, flip-right}
+use Rattle.sums.specs.Bit.{bit}
+use Rattle.sums.proofs.BitLaws.{bit-yes}
+use Rattle.sums.specs.Bounded.{count}
+use Rattle.sums.proofs.BoundedLaws.{count-ext, count-le, count-more, count-two, count-two-less}
+use Rattle.sums.proofs.SumLaws.{sum-natural, sum-small, sum_more}
 use Rattle.mesh.specs.declared.Counts.{Counts}
 use Rattle.mesh.specs.Mesh.{Links}
 use Rattle.mesh.specs.Operations.{flip_cw}
 use Rattle.mesh.specs.Flip.{Flippable}
 use Rattle.mesh.specs.Area.{over_faces, circle_at}
-use Rattle.mesh.specs.HeightLaws.{FaceAdded, added-over, flip-over, circle-even, left_here, left_there}
+use Rattle.mesh.specs.HeightLaws.{FaceAdded}
+use Rattle.mesh.proofs.HeightLawsFacts.{added-over, flip-over, circle-even, left_here, left_there}
 use Rattle.mesh.specs.Good.{Good}
 use Rattle.mesh.specs.Wf.{Wf}
 use Rattle.conflicts.specs.Conflicts.{inside_count, conflicts}

@@ -8,9 +8,10 @@ use Rattle.algebra.specs.Order.{lt-le}
 use Rattle.math.specs.declared.Point.{Point}
 use Rattle.mesh.specs.declared.Counts.{Counts}
 use Rattle.mesh.specs.Mesh.{Links}
-use Rattle.mesh.specs.CircleLaws.{breaks, breaks-flippable}
-use Rattle.mesh.specs.CountsLaws.{faces-fit, vertices-few}
-use Rattle.mesh.specs.FlipRun.{FlipRun, none, then, run-good}
+use Rattle.mesh.proofs.CircleLawsFacts.{breaks, breaks-flippable}
+use Rattle.mesh.proofs.CountsLaws.{faces-fit, vertices-few}
+use Rattle.mesh.specs.FlipRun.{FlipRun, none, then}
+use Rattle.mesh.proofs.FlipRunLaws.{run-good}
 use Rattle.mesh.specs.HeightLaws.{FaceAdded}
 use Rattle.mesh.specs.Good.{Good}
 use Rattle.mesh.specs.Wf.{Wf}

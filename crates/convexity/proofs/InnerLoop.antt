@@ -13,10 +13,11 @@ use Rattle.corner.specs.CornerRows.{extended_of, Ready}
 use Rattle.corner.specs.RowsLaws.{SameLengths, same_refl, same-trans, ready-again}
 use Rattle.dcel.specs.Rows.{links_of, position_of}
 use Rattle.mesh.specs.Area.{boundary_length}
-use Rattle.sums.specs.Until.{Going, going_start, going-turn, going_end}
-use Rattle.convexity.specs.BehindLaws.{closes}
+use Rattle.sums.proofs.UntilLaws.{Going, going_start, going-turn, going_end}
+use Rattle.convexity.proofs.BehindLawsFacts.{closes}
 use Rattle.convexity.specs.Walk.{Walk, left_behind, stops, closed_behind, close_behind, close_all_behind}
-use Rattle.convexity.specs.WalkLaws.{Walking, turns-here, closes-fall}
+use Rattle.convexity.specs.WalkLaws.{Walking}
+use Rattle.convexity.proofs.WalkLawsFacts.{turns-here, closes-fall}
 use Rattle.convexity.specs.ConvexityRows.{walk_of, BehindReady, OnBoundary, CloseBehindReady, WalkReady}
 use Rattle.convexity.proofs.Rows.{behind-ready, holds_not, fails-not}
 

@@ -3,3 +3,9 @@ pub mod Rows
 pub mod InnerLoop
 pub mod OuterLoop
 pub mod PassesLoop
+pub mod BehindLawsFacts
+pub mod CloseCornersLaws
+pub mod ConvexityLawsFacts
+pub mod RowsLaws
+pub mod StackLawsFacts
+pub mod WalkLawsFacts

@@ -15,13 +15,14 @@ use Rattle.circle_test.specs.GoodRows.{held}
 use Rattle.dcel.specs.Rows.{halves_of, row_of, links_of, position_of, There}
 use Rattle.dcel.specs.MeshHeld.{there}
 use Rattle.mesh.specs.Area.{boundary_length}
-use Rattle.mesh.specs.CountsLaws.{count-edges, count-faces, faces-fit}
+use Rattle.mesh.proofs.CountsLaws.{count-edges, count-faces, faces-fit}
 use Rattle.mesh.specs.Good.{Good}
-use Rattle.sums.specs.Until.{Going, going_start, going-turn, going_end}
+use Rattle.sums.proofs.UntilLaws.{Going, going_start, going-turn, going_end}
 use Rattle.convexity.specs.Convexity.{fix_convexity}
 use Rattle.convexity.specs.Walk.{Walk, close_all_behind, onward, walk_turn_of, walk_ends_of, walk_start_of, walk_pass}
-use Rattle.convexity.specs.WalkLaws.{Walking, onward-keeps, left_over, turned, walk-falls, walk-starts}
-use Rattle.convexity.specs.StackLaws.{fix-walks}
+use Rattle.convexity.specs.WalkLaws.{Walking}
+use Rattle.convexity.proofs.WalkLawsFacts.{onward-keeps, left_over, turned, walk-falls, walk-starts}
+use Rattle.convexity.proofs.StackLawsFacts.{fix-walks}
 use Rattle.convexity.specs.ConvexityRows.{walk_of, OnBoundary, WalkReady, StartReady}
 use Rattle.convexity.proofs.Rows.{holds_not, fails-not}
 

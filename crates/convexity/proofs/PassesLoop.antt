@@ -14,9 +14,10 @@ use Rattle.corner.specs.CornerRows.{extended_of, Ready}
 use Rattle.corner.specs.RowsLaws.{SameLengths, same_refl, same-trans, ready-again}
 use Rattle.dcel.specs.Rows.{links_of, position_of}
 use Rattle.mesh.specs.declared.Counts.{Counts}
-use Rattle.sums.specs.Until.{Going, going_start, going-turn, going_less, going_end}
+use Rattle.sums.proofs.UntilLaws.{Going, going_start, going-turn, going_less, going_end}
 use Rattle.convexity.specs.Convexity.{fix_convexity, Passes, pass_again, unpassed, convexity}
-use Rattle.convexity.specs.ConvexityLaws.{Passing, passes_left, passes-fall, passes-start, passes-enough, again-closings}
+use Rattle.convexity.specs.ConvexityLaws.{Passing, passes_left}
+use Rattle.convexity.proofs.ConvexityLawsFacts.{passes-fall, passes-start, passes-enough, again-closings}
 use Rattle.convexity.specs.ConvexityRows.{StartReady, MeshReady}
 use Rattle.convexity.proofs.Rows.{holds_not, fails-not}
 

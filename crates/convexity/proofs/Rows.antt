@@ -14,7 +14,7 @@ use Rattle.dcel.specs.MeshHeld.{there, there-rev, prev-in, origin-in, to_in}
 use Rattle.mesh.specs.declared.Counts.{Counts}
 use Rattle.mesh.specs.Mesh.{Links, In}
 use Rattle.mesh.specs.Good.{Good}
-use Rattle.convexity.specs.BehindLaws.{corner-in, corner-left, behind-in}
+use Rattle.convexity.proofs.BehindLawsFacts.{corner-in, corner-left, behind-in}
 use Rattle.convexity.specs.Walk.{closed_behind}
 use Rattle.convexity.specs.ConvexityRows.{BehindReady, CloseBehindReady}
 

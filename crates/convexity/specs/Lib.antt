@@ -4,6 +4,4 @@ pub mod ConvexityRows
 pub mod BehindLaws
 pub mod WalkLaws
 pub mod StackLaws
-pub mod CloseCornersLaws
 pub mod ConvexityLaws
-pub mod RowsLaws

@@ -17,9 +17,9 @@ use Rattle.legalize.specs.Legalize.{legalize_edges_after_removal}
 use Rattle.legalize.specs.LegalizeRows.{LegalizeReady, Leaves}
 use Rattle.mesh.specs.Mesh.{Links}
 use Rattle.mesh.specs.Operations.{create_single_face_between_edge_and_next, with_face}
-use Rattle.mesh.specs.CountsLaws.{faces-fit}
+use Rattle.mesh.proofs.CountsLaws.{faces-fit}
 use Rattle.mesh.specs.Good.{Good}
-use Rattle.mesh.specs.GoodLaws.{single-face-good}
+use Rattle.mesh.proofs.GoodLaws.{single-face-good}
 use Rattle.corner.specs.declared.Extension.{Extension}
 use Rattle.corner.specs.Corner.{Extended, close_corner}
 use Rattle.corner.specs.CornerLaws.{face-bound}

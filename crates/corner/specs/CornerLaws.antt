@@ -16,8 +16,9 @@ use Rattle.mesh.specs.Operations.{create_single_face_between_edge_and_next, with
 use Rattle.mesh.specs.Area.{boundary_length}
 use Rattle.mesh.specs.Frame.{SameBoundary}
 use Rattle.mesh.specs.Good.{Good}
-use Rattle.mesh.specs.GoodLaws.{single-face-good, single-face-length, single-face-added}
-use Rattle.mesh.specs.FlipRun.{FlipRun, run-good, run-boundary, run_length}
+use Rattle.mesh.proofs.GoodLaws.{single-face-good, single-face-length, single-face-added}
+use Rattle.mesh.specs.FlipRun.{FlipRun}
+use Rattle.mesh.proofs.FlipRunLaws.{run-good, run-boundary, run_length}
 use Rattle.corner.specs.Corner.{Extended, close_corner}
 
 -- the corner at the end of the half-edge e turns strictly left

@@ -9,7 +9,7 @@ use Rattle.dcel.specs.MeshHeld.{Room}
 use Rattle.math.specs.declared.Point.{Point}
 use Rattle.mesh.specs.declared.Counts.{Counts}
 use Rattle.mesh.specs.Mesh.{Links}
-use Rattle.mesh.specs.CountsLaws.{halves-fit, faces-fit}
+use Rattle.mesh.proofs.CountsLaws.{halves-fit, faces-fit}
 use Rattle.mesh.specs.Good.{Good}
 use Rattle.corner.specs.declared.Extension.{Extension}
 use Rattle.corner.specs.Corner.{Extended}

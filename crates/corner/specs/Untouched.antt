@@ -15,12 +15,14 @@ use Rattle.math.specs.declared.Point.{Point}
 use Rattle.mesh.specs.declared.Counts.{Counts}
 use Rattle.mesh.specs.Mesh.{Links, In}
 use Rattle.mesh.specs.Operations.{flip_between, flip_cw, face_between, create_single_face_between_edge_and_next, with_face, face_adjacent, create_new_face_adjacent_to_edge, with_vertex}
-use Rattle.mesh.specs.FlipRun as runs
-use Rattle.mesh.specs.FlipRun.{FlipRun, run-good}
+use Rattle.mesh.proofs.FlipRunLaws as runs
+use Rattle.mesh.specs.FlipRun.{FlipRun}
+use Rattle.mesh.proofs.FlipRunLaws.{run-good}
 use Rattle.mesh.specs.Good.{Good}
-use Rattle.mesh.specs.GoodLaws.{single-face-good}
+use Rattle.mesh.proofs.GoodLaws.{single-face-good}
 use Rattle.mesh.specs.Wf.{Ranges}
-use Rattle.sums.specs.Put.{put, put_other}
+use Rattle.sums.specs.Put.{put}
+use Rattle.sums.proofs.PutLaws.{put_other}
 
 pub record Untouched (C : Counts) (L L' : Links) : Type 0 where
   pub next : (e : ℕ) → 2 * C.edges ≤ e → L'.next e ≡ L.next e

@@ -3,8 +3,9 @@ use Rattle.std.specs.Prelude.{◌≡◌, refl, [], ◌∷◌, Bool, true, false,
 use Rattle.std.proofs.Common.{sym, ◌∙◌, ap, true≢false}
 use Rattle.std.specs.Int.Signed.{lt_z, lt_z_yes, lt_z_no}
 use Rattle.algebra.specs.Ring.{◌⊕◌, ◌⊖◌, ⊝◌, v0, v1, v2, ring}
-use Rattle.sums.specs.Bit.{bit, from-true, from_false}
-use Rattle.sums.specs.Half.{rev-rev}
+use Rattle.sums.specs.Bit.{bit}
+use Rattle.sums.proofs.BitLaws.{from-true, from_false}
+use Rattle.sums.proofs.HalfLaws.{rev-rev}
 use Rattle.math.specs.declared.Point.{Point}
 use Rattle.math.specs.Determinant.{orient2d}
 use Rattle.mesh.specs.declared.Counts.{Counts}

@@ -6,8 +6,8 @@ use Rattle.algebra.specs.Ring.{◌⊖◌, ⊝◌, #◌}
 use Rattle.algebra.specs.Sign.{Zero, Pos, ◌*⁺◌, ◌+⁺◌, pos-in, cases, le-by, refute, eq-in, ◌*⁰◌, ◌+⁰◌, zero°}
 use Rattle.math.specs.declared.Point.{Point}
 use Rattle.math.specs.Determinant.{Orient2d, orient2d}
-use Rattle.math.specs.Plane.{E·, A, B, C, D, env}
-use Rattle.math.specs.Position.{point-ext}
+use Rattle.math.proofs.Plane.{E·, A, B, C, D, env}
+use Rattle.math.proofs.Position.{point-ext}
 
 -- on two edges: at the corner between them
 pub at-corner : (z a b c : Point) → pos 0 <ℤ orient2d a b c → orient2d a b z ≡ pos 0 → orient2d c a z ≡ pos 0 → z ≡ a

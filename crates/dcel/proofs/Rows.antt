@@ -9,7 +9,8 @@ use lib.ListN.{length, get_or, set}
 use lib.IntN.{ℤ, pos}
 use lib.Seq.{get_or-set_same, get_or-set_other, lt-length-set}
 use Rattle.math.specs.declared.Point.{Point}
-use Rattle.sums.specs.Put.{put, put_same, put_other}
+use Rattle.sums.specs.Put.{put}
+use Rattle.sums.proofs.PutLaws.{put_same, put_other}
 use Rattle.dcel.specs.Rows.{Halves, halves_of, row_of, position_of, There, set_next, set_prev, set_face, set_origin}
 
 -- a store at the place i a, of places that differ where their numbers do

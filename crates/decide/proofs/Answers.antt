@@ -19,9 +19,9 @@ use Rattle.ring_rows.specs.Find.{NodeAt}
 use Rattle.decide.specs.declared.Decision.{Decision}
 use Rattle.decide.specs.Decide.{decided}
 use Rattle.decide.specs.SweepRows.{Decides, SweepRows, ToDecide}
-use Rattle.decide.specs.SweepRowsLaws.{found-located, found-ends, located-rows}
+use Rattle.decide.proofs.SweepRowsLaws.{found-located, found-ends, located-rows}
 use Rattle.decide.specs.Located.{DecidesAt, LocatedRows, ToDecideAt}
-use Rattle.decide.specs.VertexAngles.{angle-is, decided-located}
+use Rattle.decide.proofs.VertexAngles.{angle-is, decided-located}
 
 module _ (v : Point) (cx cy : Float) {r : VertexAngle} {x y : ℤ} (is : r ≡ vertex_angle x y cx cy) (x-is : x ≡ v.x) (y-is : y ≡ v.y)
     {g : Float} (z : r ≡ Angle g) (A : IsAngle g) {C : Counts} {q : List ℤ} {h : List ℕ} {nodes : List Node} {freed buckets : List ℕ}

@@ -19,31 +19,33 @@ use Rattle.math.specs.Determinant.{InRange, orient2d, is_position}
 use Rattle.mesh.specs.declared.Counts.{Counts}
 use Rattle.mesh.specs.Mesh.{In}
 use Rattle.mesh.specs.Area.{boundary_length}
-use Rattle.mesh.specs.BoundaryLaws.{next-inverse}
-use Rattle.mesh.specs.CountsLaws.{count-halves, faces-least}
+use Rattle.mesh.proofs.BoundaryLaws.{next-inverse}
+use Rattle.mesh.proofs.CountsLaws.{count-halves, faces-least}
 use Rattle.ring.specs.declared.Side.TheVariants.{Left, Right}
 use Rattle.ring.specs.Ring.{full_turn, at_ends, proper}
 use Rattle.ring.specs.Center.{turns_about}
-use Rattle.ring.specs.Boundary.{outer-round}
+use Rattle.ring.proofs.Boundary.{outer-round}
 use Rattle.ring.specs.Chain.{sees_edge, left_chain, right_chain, chain_start, chain_length, sound_after, is_fit}
-use Rattle.ring.specs.ChainMesh.{before-walk, chain-short, chain-sound}
+use Rattle.ring.proofs.ChainMesh.{before-walk, chain-short, chain-sound}
 use Rattle.ring.specs.Node.{nodes as node_count}
-use Rattle.ring.specs.RingOf.{nodes-most}
-use Rattle.ring.specs.Segments.{holds-proper}
-use Rattle.sums.specs.Bit.{bit, bit-yes, from-true}
+use Rattle.ring.proofs.RingOfLaws.{nodes-most}
+use Rattle.ring.proofs.SegmentsLaws.{holds-proper}
+use Rattle.sums.specs.Bit.{bit}
+use Rattle.sums.proofs.BitLaws.{bit-yes, from-true}
 use Rattle.sums.specs.Half.{rev}
-use Rattle.sums.specs.Iterate.{iter, iter-add, iter-back, inverse-sym}
-use Rattle.sums.specs.Tally.{tally-at, tally-most}
+use Rattle.sums.specs.Iterate.{iter}
+use Rattle.sums.proofs.IterateLaws.{iter-add, iter-back, inverse-sym}
+use Rattle.sums.proofs.TallyLaws.{tally-at, tally-most}
 use Rattle.decide.specs.declared.Decision.{Decision}
 use Rattle.decide.specs.declared.Fate.{Fate}
 use Rattle.decide.specs.declared.Fate.TheVariants.{Added, Dropped, NotLeft, Unsound}
 use Rattle.decide.specs.Decide.{Decided, at_end, decided_at, fate_at, if_added}
 use Rattle.decide.specs.SweepRows.{ChainAngles}
 use Rattle.decide.specs.Located.{LocatedRows, EndAngles, DecidesAt, LeavesOut}
-use Rattle.decide.specs.VertexAngles.{left_out}
+use Rattle.decide.proofs.VertexAngles.{left_out}
 use Rattle.walks.specs.declared.WalkEnd.{WalkEnd}
 use Rattle.walks.specs.Walks.{origin_position, EdgeAbout, ToWalk, WalkedTo}
-use Rattle.walks.specs.WalkLaws.{edge-about, stands_at, to-walk, walked-chain, chain-nodes}
+use Rattle.walks.proofs.WalkLaws.{edge-about, stands_at, to-walk, walked-chain, chain-nodes}
 
 -- ---- the decision by four tests: is the point at the first end, at the second, is it strictly left, is the ring sound after the step
 abbrev fate_of : ℕ → Bool → Bool → Bool → Bool → Fate

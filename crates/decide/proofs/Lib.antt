@@ -1,2 +1,4 @@
 pub mod Deciding
 pub mod Answers
+pub mod SweepRowsLaws
+pub mod VertexAngles

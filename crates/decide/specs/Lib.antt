@@ -2,5 +2,3 @@
 pub mod Decide
 pub mod SweepRows
 pub mod Located
-pub mod SweepRowsLaws
-pub mod VertexAngles

@@ -13,13 +13,13 @@ use Rattle.circle_test.specs.GoodRows.{GoodRows}
 use Rattle.closing.specs.Closing.{closing_pass}
 use Rattle.closing.specs.ClosingRows.{closing_of}
 use Rattle.convexity.specs.Convexity.{convexity}
-use Rattle.convexity.specs.ConvexityLaws.{convexity-good, convexity-counts}
+use Rattle.convexity.proofs.ConvexityLawsFacts.{convexity-good, convexity-counts}
 use Rattle.convexity.specs.ConvexityRows.{MeshReady}
 use Rattle.dcel.specs.MeshRows.{MeshRows, mesh_rows, links_in, places_in}
 use Rattle.dcel.specs.Rows.{links_of, position_of}
 use Rattle.dcel.specs.Views.{mesh-rows-from}
 use Rattle.mesh.specs.declared.Counts.{Counts}
-use Rattle.mesh.specs.CountsLaws.{count-edges, count-faces}
+use Rattle.mesh.proofs.CountsLaws.{count-edges, count-faces}
 use Rattle.mesh.specs.Good.{Good}
 use Rattle.mesh_check.specs.declared.Checked.{Checked}
 use Rattle.mesh_check.specs.declared.Refusal.{Refusal}

@@ -10,8 +10,8 @@ use Rattle.dcel.specs.Views.{lengths-from}
 use Rattle.math.specs.declared.Point.{Point}
 use Rattle.mesh.specs.declared.Counts.{Counts}
 use Rattle.mesh.specs.Mesh.{Links}
-use Rattle.mesh.specs.AreaLaws.{area-theorem}
-use Rattle.mesh.specs.CountsLaws.{count-edges, count-faces}
+use Rattle.mesh.proofs.AreaLaws.{area-theorem}
+use Rattle.mesh.proofs.CountsLaws.{count-edges, count-faces}
 use Rattle.mesh.specs.Good.{Good}
 use Rattle.mesh_check.specs.Accepted.{MeshSizes}
 use Rattle.finish.specs.CallLeaves.{CallLeaves}

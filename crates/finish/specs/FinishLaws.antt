@@ -9,7 +9,7 @@ use Rattle.corner.specs.Corner.{Extended}
 use Rattle.corner.specs.CornerLaws.{Closings}
 use Rattle.closing.specs.Closing.{Closing, closing_pass}
 use Rattle.convexity.specs.Convexity.{convexity, unpassed, NoLeftCorner}
-use Rattle.convexity.specs.ConvexityLaws.{convexity-closings}
+use Rattle.convexity.proofs.ConvexityLawsFacts.{convexity-closings}
 use Rattle.dcel.specs.MeshRows.{MeshRows, links_in, places_in, mesh_rows_from}
 use Rattle.dcel.specs.Views.{positions-from}
 use Rattle.math.specs.declared.Point.{Point}
@@ -17,14 +17,15 @@ use Rattle.mesh.specs.declared.Counts.{Counts}
 use Rattle.mesh.specs.Mesh.{Links}
 use Rattle.mesh.specs.Area.{height_sum}
 use Rattle.mesh.specs.Circle.{LocallyDelaunay, Settled}
-use Rattle.mesh.specs.CircleLaws.{settled-far}
+use Rattle.mesh.proofs.CircleLawsFacts.{settled-far}
 use Rattle.mesh.specs.FlipRun.{FlipRun}
 use Rattle.mesh.specs.Good.{Good}
 use Rattle.mesh_check.specs.declared.Checked.{Checked}
 use Rattle.mesh_check.specs.declared.Refusal.{Refusal}
 use Rattle.mesh_check.specs.Accepted.{MeshSizes}
 use Rattle.mesh_check.specs.Check.{check_with}
-use Rattle.mesh_check.specs.CheckLaws.{NumberedTo, check-numbered}
+use Rattle.mesh_check.specs.CheckLaws.{NumberedTo}
+use Rattle.mesh_check.proofs.CheckLawsFacts.{check-numbered}
 use Rattle.finish.specs.declared.Finished.{Finished}
 use Rattle.finish.specs.declared.Totals.{Totals}
 use Rattle.finish.specs.CallLeaves.{CallLeaves}

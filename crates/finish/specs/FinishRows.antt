@@ -5,9 +5,10 @@ use Rattle.convexity.specs.ConvexityRows.{MeshReady}
 use Rattle.dcel.specs.MeshRows.{MeshRows}
 use Rattle.dcel.specs.Rows.{links_of}
 use Rattle.mesh.specs.declared.Counts.{Counts}
-use Rattle.mesh.specs.CountsLaws.{count-edges, count-faces}
+use Rattle.mesh.proofs.CountsLaws.{count-edges, count-faces}
 use Rattle.mesh_check.specs.declared.Checked.{Checked}
-use Rattle.mesh_check.specs.Accepted.{MeshSizes, with-accepts, with_none}
+use Rattle.mesh_check.specs.Accepted.{MeshSizes}
+use Rattle.mesh_check.proofs.AcceptedLaws.{with-accepts, with_none}
 use Rattle.mesh_check.specs.Check.{check_of, vertex_count, point_count}
 use Rattle.finish.specs.declared.Ended.{Ended}
 use Rattle.finish.specs.Finish.{Finishing, seed_checked}

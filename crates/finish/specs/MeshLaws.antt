@@ -14,16 +14,17 @@ use Rattle.corner.specs.Untouched.{Untouched, run-untouched, closings-untouched,
 use Rattle.closing.specs.Closing.{Closing, closing_pass}
 use Rattle.closing.specs.ClosingLaws.{closing-closes}
 use Rattle.convexity.specs.Convexity.{convexity, NoLeftCorner}
-use Rattle.convexity.specs.ConvexityLaws.{convexity-closings, convexity-good, convexity-counts, convexity-convex, run-corners}
+use Rattle.convexity.proofs.ConvexityLawsFacts.{convexity-closings, convexity-good, convexity-counts, convexity-convex, run-corners}
 use Rattle.math.specs.declared.Point.{Point}
 use Rattle.mesh.specs.declared.Counts.{Counts}
 use Rattle.mesh.specs.Mesh.{Links}
 use Rattle.mesh.specs.Area.{area_total, boundary_area, height_sum}
-use Rattle.mesh.specs.AreaLaws.{area-theorem}
+use Rattle.mesh.proofs.AreaLaws.{area-theorem}
 use Rattle.mesh.specs.Circle.{Settled}
-use Rattle.mesh.specs.FlipRun.{FlipRun, none, run-good, run-falls, run-heights, determinants}
+use Rattle.mesh.specs.FlipRun.{FlipRun, none, determinants}
+use Rattle.mesh.proofs.FlipRunLaws.{run-good, run-falls, run-heights}
 use Rattle.mesh.specs.Good.{Good}
-use Rattle.mesh.specs.HeightLaws.{heights-nonneg}
+use Rattle.mesh.proofs.HeightLawsFacts.{heights-nonneg}
 use Rattle.finish.specs.Finish.{Finishing, close_after, finish_mesh}
 
 -- ---- a fall in whole numbers

@@ -7,29 +7,30 @@ use Rattle.angle.specs.Angle.{valid_angle}
 use Rattle.area.specs.declared.Sided.{Sided}
 use Rattle.area.specs.declared.Totalled.{Totalled}
 use Rattle.area.specs.AreaTotal.{area_total_of}
-use Rattle.area.specs.AreaTotalLaws.{area-refused}
+use Rattle.area.proofs.AreaTotalLaws.{area-refused}
 use Rattle.area.specs.SideQuery.{side_query_of}
-use Rattle.area.specs.SideQueryLaws.{side-refused}
+use Rattle.area.proofs.SideQueryLaws.{side-refused}
 use Rattle.ask.specs.declared.Asked.{Asked}
 use Rattle.ask.specs.Ask.{quote_of, ask_checked, ask_outcome, ask_of}
-use Rattle.ask.specs.AskLaws.{point-numbered}
+use Rattle.ask.proofs.AskLaws.{point-numbered}
 use Rattle.commit.specs.Commit.{commit_checked, commit_outcome, commit_of}
 use Rattle.commit.specs.CommitParts.{step-point}
 use Rattle.finish.specs.declared.Finished.{Finished}
 use Rattle.finish.specs.declared.Totals.{Totals}
 use Rattle.finish.specs.Finish.{Finishing, totals_from, finished_from, seed_checked, finish_outcome}
 use Rattle.heights.specs.Heights.{SurfaceRows, surface_checked}
-use Rattle.heights.specs.HeightsLaws.{heights-numbered, surface-numbered}
+use Rattle.heights.proofs.HeightsLaws.{heights-numbered, surface-numbered}
 use Rattle.locate.specs.declared.Located.{Located}
 use Rattle.locate.specs.declared.Place.{Place}
 use Rattle.locate.specs.Locate.{check_angle, locate_outcome}
-use Rattle.locate.specs.Start.{start-numbered}
+use Rattle.locate.proofs.StartLaws.{start-numbered}
 use Rattle.math.specs.declared.Point.{Point}
 use Rattle.mesh.specs.declared.Counts.{Counts}
 use Rattle.mesh_check.specs.declared.Checked.{Checked}
 use Rattle.mesh_check.specs.declared.Refusal.{Refusal}
 use Rattle.mesh_check.specs.Check.{refused, check_with}
-use Rattle.mesh_check.specs.CheckLaws.{NumberedTo, accepts, refuses, numbered-at, numbered_more, check-numbered, then-numbered}
+use Rattle.mesh_check.specs.CheckLaws.{NumberedTo, accepts, refuses}
+use Rattle.mesh_check.proofs.CheckLawsFacts.{numbered-at, numbered_more, check-numbered, then-numbered}
 use Rattle.quote.specs.declared.Quote.{Quote}
 use Rattle.quote.specs.QuoteLaws.{changes-numbered, quote-numbered}
 use Rattle.ring_rows.specs.RingRows.{RingRows}
@@ -37,7 +38,7 @@ use Rattle.start.specs.StartLaws.{sweep-numbered}
 use Rattle.surface.specs.Surface.{surface_locate, surface_finish, surface_step_checked, surface_step}
 use Rattle.surface.specs.Surface.{SurfaceRunLent, surface_run_checked, surface_run}
 use Rattle.surface.specs.CarriedHeights.{CarriedHeights}
-use Rattle.surface.specs.SurfaceRunLaws.{surface-demand-3, carried-heights}
+use Rattle.surface.proofs.SurfaceRunLaws.{surface-demand-3, carried-heights}
 use Rattle.sweep.specs.Demand3.{Demand3}
 use Rattle.sweep.specs.Run.{run_checked, run_outcome}
 use Rattle.sweep.specs.declared.Stepped.{Stepped}

@@ -5,8 +5,8 @@ use Rattle.std.proofs.Math.Path.{subst⁻¹}
 use Rattle.bulk_load.specs.declared.BulkLoadAnswer.{BulkLoadAnswer}
 use Rattle.bulk_load.specs.BulkLoad.{BulkLoadLent, BulkLoadOutcome, loaded_with, bulk_load_of}
 use Rattle.bulk_load.specs.Demand3.{LineLoaded, LoadFinished}
-use Rattle.bulk_load.specs.LoadLaws.{bulk-loaded}
-use Rattle.bulk_load.specs.Named.{load-named}
+use Rattle.bulk_load.proofs.LoadLaws.{bulk-loaded}
+use Rattle.bulk_load.proofs.Named.{load-named}
 use Rattle.dcel.specs.MeshRows.{MeshRows}
 use Rattle.finish.specs.declared.Finished.{Finished}
 use Rattle.finish.specs.declared.Totals.{Totals}

@@ -8,12 +8,13 @@ use Rattle.dcel.specs.Rows.{links_of, position_of, row_of}
 use Rattle.line.specs.Grow.{one_vertex, insert_first_vertex, insert_second_vertex}
 use Rattle.line.specs.Operations.{two_vertices, setup_initial_two_vertices}
 use Rattle.line.specs.Order.{comes_before, is_same_of}
-use Rattle.line.specs.OrderLaws.{is_same}
+use Rattle.line.proofs.OrderLaws.{is_same}
 use Rattle.line_search.specs.Before.{precedes-irrefl}
 use Rattle.math.specs.declared.Point.{Point}
 use Rattle.math.specs.Determinant.{is_position}
-use Rattle.math.specs.Position.{same-position, position-same}
-use Rattle.sums.specs.Bit.{and_both, test-ext}
+use Rattle.math.proofs.Position.{same-position, position-same}
+use Rattle.sums.specs.Bit.{test-ext}
+use Rattle.sums.proofs.BitLaws.{and_both}
 use Rattle.sums.specs.Put.{put}
 use Rattle.grow.specs.declared.Grown.{Grown}
 use Rattle.grow.specs.GrowRows.{growing_of, unflipped_by}

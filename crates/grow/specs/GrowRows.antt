@@ -7,7 +7,7 @@ use Rattle.line.specs.declared.PositionWhenAllVerticesOnLine.{PositionWhenAllVer
 use Rattle.line.specs.Grow.{Growing}
 use Rattle.line.specs.GrowLaws.{Phase}
 use Rattle.line.specs.Line.{Line}
-use Rattle.line.specs.Locate.{LineCertified}
+use Rattle.line.proofs.LocateFacts.{LineCertified}
 use Rattle.line_fan.specs.FanRows.{FanRoom}
 use Rattle.location.specs.declared.PositionInTriangulation.{PositionInTriangulation}
 use Rattle.math.specs.declared.Point.{Point}

@@ -9,8 +9,9 @@ use Rattle.dcel.specs.Rows.{links_of, position_of}
 use Rattle.line.specs.declared.PositionWhenAllVerticesOnLine.{PositionWhenAllVerticesOnLine}
 use Rattle.line.specs.declared.PositionWhenAllVerticesOnLine.TheVariants.{OnEdge, OnVertex, NotOnLine, ExtendingLine}
 use Rattle.line.specs.Grow.{insert_at_line_place, insert_when_all_vertices_on_line}
-use Rattle.line.specs.Locate.{locate_when_all_vertices_on_line, InEdge, LineCertified}
-use Rattle.line.specs.LocateLaws.{locate-certified}
+use Rattle.line.specs.Locate.{locate_when_all_vertices_on_line}
+use Rattle.line.proofs.LocateFacts.{InEdge, LineCertified}
+use Rattle.line.proofs.LocateLaws.{locate-certified}
 use Rattle.line.specs.Operations.{with_line_vertex}
 use Rattle.line_fan.specs.FanRows.{OffLineReady}
 use Rattle.line_fan.specs.RowsLaws.{off-line-ready}
@@ -21,7 +22,7 @@ use Rattle.math.specs.declared.Point.{Point}
 use Rattle.mesh.specs.declared.Counts.{Counts}
 use Rattle.mesh.specs.Mesh.{Links}
 use Rattle.skipped.specs.Insert.{insert_outside}
-use Rattle.sums.specs.Half.{rev-below}
+use Rattle.sums.proofs.HalfLaws.{rev-below}
 use Rattle.sums.specs.Put.{put}
 use Rattle.grow.specs.declared.Grown.{Grown}
 use Rattle.grow.specs.GrowRows.{growing_of, grown_by, unflipped_by, OnLineReady, PlaceReady}

@@ -8,7 +8,7 @@ use lib.IntN.{ℤ, pos}
 use lib.ListN.{length, set}
 use Rattle.sums.specs.Bounded.{any_below}
 use Rattle.sums.specs.Put.{put}
-use Rattle.sums.specs.Store.{get_or-put}
+use Rattle.sums.proofs.Store.{get_or-put}
 use Rattle.heights.specs.Heights.{height_of, is_valid_height, heights_outside}
 
 pub store-height : (row : List ℤ) (v : ℕ) {w z : ℤ} → v < length row → w ≡ z → height_of (set row v w) ≡ put (height_of row) v z

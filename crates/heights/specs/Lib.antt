@@ -1,2 +1,1 @@
 pub mod Heights
-pub mod HeightsLaws

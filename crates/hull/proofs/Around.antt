@@ -10,9 +10,12 @@ use lib.Dec.{T, ltb, leb, eqb}
 use lib.IntN.{ℤ}
 use lib.Ieee.{Float}
 use lib.ListN.{length}
-use Rattle.sums.specs.Bit.{bit, is_true, is_false}
-use Rattle.sums.specs.Bounded.{any_below, any-below→, any-below←}
-use Rattle.sums.specs.Tally.{walk, tally, tally-last, tally-most}
+use Rattle.sums.specs.Bit.{bit}
+use Rattle.sums.proofs.BitLaws.{is_true, is_false}
+use Rattle.sums.specs.Bounded.{any_below}
+use Rattle.sums.proofs.BoundedLaws.{any-below→, any-below←}
+use Rattle.sums.specs.Tally.{walk, tally}
+use Rattle.sums.proofs.TallyLaws.{tally-last, tally-most}
 use Rattle.angle.specs.Angle.{IsAngle, turns, at_center, angle_about}
 use Rattle.segment.specs.Arc.{wide}
 use Rattle.math.specs.declared.Point.{Point}
@@ -20,8 +23,8 @@ use Rattle.dcel.specs.Rows.{halves_of, position_of, There}
 use Rattle.ring.specs.Ring.{full_turn, at_ends, wraps, is_strict}
 use Rattle.ring.specs.Center.{turns_about}
 use Rattle.hull.specs.Boundary.{BoundaryRows, AngledBoundary, Angled, AngleAt, edge_at, origin_turns, origin_at_center, angles_of, vertex_at_center}
-use Rattle.hull.specs.Along.{next-at, angled}
-use Rattle.hull.specs.Strict.{strict-counts}
+use Rattle.hull.proofs.Along.{next-at, angled}
+use Rattle.hull.proofs.Strict.{strict-counts}
 
 -- ---- the point at the origin of e, as it is read
 module _ (p : List ℤ) (h : List ℕ) (e : ℕ) {v : ℕ} {P : Point} {x y : ℤ} (q : v ≡ (halves_of h).origin e) (r : P ≡ position_of p v) (x-is : x ≡ P.x) (y-is : y ≡ P.y) where

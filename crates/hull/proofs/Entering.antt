@@ -8,14 +8,14 @@ use lib.ListN.{length}
 use Rattle.mesh.specs.declared.Counts.{Counts}
 use Rattle.mesh.specs.Mesh.{Links}
 use Rattle.ring.specs.Resize.{adjusted_buckets}
-use Rattle.ring.specs.RingOf.{ring-size}
+use Rattle.ring.proofs.RingOfLaws.{ring-size}
 use Rattle.ring_rows.specs.declared.Node.{Node}
 use Rattle.ring_rows.specs.declared.Hull.{Hull}
 use Rattle.ring_rows.specs.Rows.{size_of}
 use Rattle.ring_insert.specs.Insert.{ToInsert, InsertedRows, ToAdjust, Adjusted}
 use Rattle.hull.specs.Held.{Held}
-use Rattle.hull.specs.Find.{held_rows}
-use Rattle.hull.specs.Insert.{to-insert, insert-len, insert-held, adjusted-held, buckets-fit}
+use Rattle.hull.proofs.Find.{held_rows}
+use Rattle.hull.proofs.InsertLaws.{to-insert, insert-len, insert-held, adjusted-held, buckets-fit}
 use Rattle.hull.specs.EntersRing.{EntersRing}
 
 module _ {C : Counts} {L : Links} {α : ℕ → ℕ} {C' : Counts} {L' : Links} {α'' : ℕ → ℕ} {e m n q r N : ℕ}

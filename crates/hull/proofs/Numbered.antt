@@ -7,12 +7,13 @@ use mathlib.Core.List.{List}
 use lib.IntN.{ℤ}
 use lib.Ieee.{Float}
 use lib.ListN.{length}
-use Rattle.sums.specs.Put.{put, put_same, put_other}
+use Rattle.sums.specs.Put.{put}
+use Rattle.sums.proofs.PutLaws.{put_same, put_other}
 use Rattle.dcel.specs.Rows.{halves_of}
 use Rattle.ring_rows.specs.declared.Node.{Node}
 use Rattle.ring_rows.specs.Rows.{nodes_of}
 use Rattle.hull.specs.Boundary.{AngledBoundary, Angled, AngleAt, edge_at, NodeOfEdge, NodesOfEdges}
-use Rattle.hull.specs.Along.{next-at, angled}
+use Rattle.hull.proofs.Along.{next-at, angled}
 
 pub record Building (p : List ℤ) (h : List ℕ) (cx cy : Float) (start size : ℕ) (old new : List Node) (e left k : ℕ) : Type 0 where
   pub boundary : AngledBoundary p h cx cy start

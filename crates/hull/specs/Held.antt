@@ -10,7 +10,8 @@ use Rattle.ring.specs.Free.{Free}
 use Rattle.ring.specs.RingOf.{RingOf}
 use Rattle.ring_rows.specs.declared.Node.{Node}
 use Rattle.ring_rows.specs.declared.Hull.{Hull}
-use Rattle.ring_rows.specs.Rows.{nodes_of, table_of, angle_of, edge_of, right_node_of, size_of, ValidNodes}
+use Rattle.ring_rows.specs.Rows.{nodes_of, angle_of, edge_of, right_node_of, size_of, ValidNodes}
+use Rattle.ring_rows.proofs.RowsLaws.{table_of}
 use Rattle.ring_rows.specs.Find.{no_edge}
 use Rattle.hull.specs.Boundary.{NodesOfEdges}
 

@@ -5,10 +5,10 @@ use Rattle.circle_test.specs.GoodRows.{GoodRows, held}
 use Rattle.dcel.specs.MeshHeld.{MeshHeld}
 use Rattle.dcel.specs.Rows.{halves_of, position_of, There, Placed}
 use Rattle.hull_center.specs.declared.PositionSum.{PositionSum}
-use Rattle.hull_center.specs.Exact.{sum-small}
+use Rattle.hull_center.proofs.ExactLaws.{sum-small}
 use Rattle.hull_center.specs.HullCenter.{last_three, SmallSum}
 use Rattle.mesh.specs.declared.Counts.{Counts}
-use Rattle.mesh.specs.CountsLaws.{vertices-least}
+use Rattle.mesh.proofs.CountsLaws.{vertices-least}
 use Rattle.mesh.specs.Mesh.{In}
 use Rattle.hull_center_rows.specs.declared.Corners.{Corners}
 

@@ -11,15 +11,15 @@ use Rattle.circle_test.specs.GoodRows.{held}
 use Rattle.dcel.specs.Rows.{halves_of, row_of, links_of, position_of, There, Placed}
 use Rattle.dcel.specs.MeshHeld.{MeshHeld, there, there-adjacent, next-in, origin-in, adjacent-in}
 use Rattle.hull_center.specs.declared.PositionSum.{PositionSum}
-use Rattle.hull_center.specs.Exact.{sum-small}
+use Rattle.hull_center.proofs.ExactLaws.{sum-small}
 use Rattle.hull_center.specs.HullCenter.{SmallSum, is_center_left, is_center_left_of, holds_center_at, holds_center}
 use Rattle.math.specs.declared.Point.{Point}
 use Rattle.math.specs.Determinant.{InRange}
 use Rattle.mesh.specs.declared.Counts.{Counts}
 use Rattle.mesh.specs.Mesh.{In}
 use Rattle.mesh.specs.Triangle.{Triangle, triangle}
-use Rattle.sums.specs.Bit.{from-true, is_true, is_false}
-use Rattle.sums.specs.Bounded.{any-below→, any-below←}
+use Rattle.sums.proofs.BitLaws.{from-true, is_true, is_false}
+use Rattle.sums.proofs.BoundedLaws.{any-below→, any-below←}
 use Rattle.hull_center_rows.specs.declared.Corners.{Corners}
 use Rattle.hull_center_rows.specs.CenterRows.{HoldReady, CornersIn, CornersOf, TriangleIn, mesh-held, placed-in}
 

@@ -8,14 +8,14 @@ use Rattle.angle.specs.Angle.{valid_center}
 use Rattle.dcel.specs.MeshHeld.{MeshHeld}
 use Rattle.dcel.specs.Rows.{row_of, links_of, position_of}
 use Rattle.hull.specs.Boundary.{BoundaryRows, AngledBoundary, edge_at, angles_of, origin_at_center}
-use Rattle.hull.specs.Ready.{boundary-rows, boundary-closed, center-test, strict-test, angled-boundary, size_is, size-asks}
+use Rattle.hull.proofs.Ready.{boundary-rows, boundary-closed, center-test, strict-test, angled-boundary, size_is, size-asks}
 use Rattle.hull_center.specs.declared.PositionSum.{PositionSum}
 use Rattle.hull_center.specs.HullCenter.{last_three, center_of, hull_center, holds_center, accepts_center, is_ready}
 use Rattle.mesh.specs.declared.Counts.{Counts}
 use Rattle.mesh.specs.Area.{boundary_length}
 use Rattle.ring.specs.Center.{refuses_center, refuses_ring}
 use Rattle.ring.specs.Ring.{full_turn, is_strict, is_strict_ring, boundary_angles, boundary_edges}
-use Rattle.sums.specs.Bit.{from_false}
+use Rattle.sums.proofs.BitLaws.{from_false}
 use Rattle.sums.specs.Bounded.{any_below}
 use Rattle.hull_center_rows.specs.CenterRows.{MeshIn, mesh-held}
 

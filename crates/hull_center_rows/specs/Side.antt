@@ -8,13 +8,14 @@ use Rattle.std.specs.Int.Signed.{lt_z, lt_z_yes, le_z_yes}
 use Rattle.algebra.specs.Bound.{[]ᵉ, ◌∷ᵉ◌, within, abs-le, abs-ge}
 use Rattle.algebra.specs.Ring.{E, num, ◌⊕◌, ◌⊖◌, ◌⊗◌, ⊝◌, v0, v1, v2, v3, v4, v5}
 use Rattle.algebra.specs.Sign.{Pos, NN, ◌*⁺◌, ◌*°◌, ◌+⁺◌, weak, pos-in, nn-in, lt_in, le_in, lt_by, cases, refute}
-use Rattle.sums.specs.Bit.{is_true, is_false, test-ext}
+use Rattle.sums.specs.Bit.{test-ext}
+use Rattle.sums.proofs.BitLaws.{is_true, is_false}
 use Rattle.hull_center.specs.declared.PositionSum.{PositionSum}
 use Rattle.hull_center.specs.HullCenter.{SmallSum, scaled, fine_center, is_center_left}
 use Rattle.math.specs.declared.Point.{Point}
 use Rattle.math.specs.declared.Vector.{Vector}
 use Rattle.math.specs.Determinant.{Orient2d, InRange, orient2d}
-use Rattle.math.specs.Plane.{E·}
+use Rattle.math.proofs.Plane.{E·}
 use Rattle.math.specs.Vector.{Short, difference}
 
 -- ---- what the code computes

@@ -14,13 +14,15 @@ use Rattle.insert_outside.specs.OutsideRows.{OutsideReady}
 use Rattle.insertion.specs.Plane.{Between}
 use Rattle.location.specs.declared.PositionInTriangulation.{PositionInTriangulation}
 use Rattle.location.specs.declared.PositionInTriangulation.TheVariants.{OnVertex, OnFace, OnEdge, OutsideOfConvexHull}
-use Rattle.location.specs.Place.{InFace, InEdge, Certified}
-use Rattle.location.specs.PlaceLaws.{in-edge-at}
+use Rattle.location.specs.Place.{InFace, InEdge}
+use Rattle.location.proofs.PlaceFacts.{Certified}
+use Rattle.location.proofs.PlaceLaws.{in-edge-at}
 use Rattle.math.specs.declared.Point.{Point}
 use Rattle.mesh.specs.declared.Counts.{Counts}
 use Rattle.mesh.specs.Mesh.{Links, to}
 use Rattle.skipped.specs.Insert.{insert_into_face, insert_in_edge, insert_outside, is_new, places_at, mesh_at}
-use Rattle.sums.specs.Put.{put, put_same, put_other}
+use Rattle.sums.specs.Put.{put}
+use Rattle.sums.proofs.PutLaws.{put_same, put_other}
 use Rattle.insert.specs.InsertRows.{VertexReady, FaceReady, OnEdgeReady, InsertReady, InsertLeaves}
 
 module _ {C : Counts} {q : List ℤ} {o h a row : List ℕ} {v : Point} {x : PositionInTriangulation} (R : InsertReady C q o h a row v x) where

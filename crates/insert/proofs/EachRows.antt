@@ -18,11 +18,11 @@ use Rattle.legalize.specs.Legalize.{legalize_edge}
 use Rattle.legalize.specs.LegalizeRows.{LegalizeReady, Leaves}
 use Rattle.mesh.specs.declared.Counts.{Counts}
 use Rattle.mesh.specs.Mesh.{In}
-use Rattle.mesh.specs.CountsLaws.{faces-fit}
+use Rattle.mesh.proofs.CountsLaws.{faces-fit}
 use Rattle.mesh.specs.Good.{Good}
 use Rattle.skipped.specs.Insert.{legalize_one, legalize_each}
-use Rattle.skipped.specs.LegalizeVertex as vertex
-use Rattle.sums.specs.Cases.{All}
+use Rattle.skipped.proofs.LegalizeVertexLaws as vertex
+use Rattle.sums.proofs.Cases.{All}
 use Rattle.insert.specs.Each.{each-full, each-one, each_append}
 use Rattle.insert.specs.InsertRows.{OneReady, TwoReady}
 

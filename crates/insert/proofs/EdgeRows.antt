@@ -20,7 +20,7 @@ use Rattle.mesh.specs.declared.Counts.{Counts}
 use Rattle.mesh.specs.Mesh.{Links}
 use Rattle.mesh.specs.Operations.{with_vertex}
 use Rattle.skipped.specs.Insert.{legalize_each, star_edges, legalize_vertex, unflipped}
-use Rattle.skipped.specs.Stars.{edge-star, half-edge-star}
+use Rattle.skipped.proofs.Stars.{edge-star, half-edge-star}
 use Rattle.sums.specs.Half.{rev}
 use Rattle.insert.specs.Each.{each_none}
 use Rattle.insert.proofs.GrowRows.{grow-held, grow-room, Grown, two_ready, rest-ready, rest-used, all-legalized}

@@ -16,13 +16,13 @@ use Rattle.insertion.specs.Operations.{insert_into_triangle, with_inner_vertex}
 use Rattle.insertion.specs.Plane.{Inside}
 use Rattle.insertion_operations.specs.Insert.{TriangleReady, IntoTriangle}
 use Rattle.insertion_operations.specs.Ready.{triangle-ready}
-use Rattle.location.specs.PlaceLaws.{in-face-at}
+use Rattle.location.proofs.PlaceLaws.{in-face-at}
 use Rattle.math.specs.declared.Point.{Point}
 use Rattle.mesh.specs.declared.Counts.{Counts}
 use Rattle.mesh.specs.Mesh.{Links, In}
 use Rattle.mesh.specs.Triangle.{triangle}
 use Rattle.skipped.specs.Insert.{legalize_each, star_edges, insert_into_face}
-use Rattle.skipped.specs.Stars.{triangle-star}
+use Rattle.skipped.proofs.Stars.{triangle-star}
 use Rattle.insert.proofs.GrowRows.{vertex-held, grow-by, grow-room, Grown, two_ready, rest-ready, rest-used, all-legalized}
 use Rattle.insert.specs.InsertRows.{OneReady, TwoReady, GrowReady, FaceReady}
 

@@ -18,11 +18,11 @@ use Rattle.dcel.specs.MeshHeld.{Room, MeshHeld}
 use Rattle.insertion_laws.specs.OnEdge.{Inserted}
 use Rattle.mesh.specs.declared.Counts.{Counts}
 use Rattle.mesh.specs.Mesh.{Links, In}
-use Rattle.mesh.specs.CountsLaws.{halves-fit, faces-fit}
+use Rattle.mesh.proofs.CountsLaws.{halves-fit, faces-fit}
 use Rattle.mesh.specs.Wf.{Wf}
 use Rattle.skipped.specs.Insert.{legalize_each, star_edges, legalize_vertex, unflipped}
-use Rattle.skipped.specs.LegalizeVertex.{star-in}
-use Rattle.sums.specs.Cases.{All}
+use Rattle.skipped.proofs.LegalizeVertexLaws.{star-in}
+use Rattle.sums.proofs.Cases.{All}
 use Rattle.insert.specs.InsertRows.{TwoReady, GrowReady, VertexReady}
 use Rattle.insert.proofs.EachRows.{each_counts, each-ready, each_more}
 

@@ -14,14 +14,16 @@ use Rattle.dcel.specs.MeshHeld.{there, there-rev}
 use Rattle.insertion_laws.specs.EdgeSplitLaws.{splittable}
 use Rattle.insertion_laws.specs.OnEdge.{inserted-split-edge, inserted-split-half-edge}
 use Rattle.insertion.specs.Operations.{split_edge, split_half_edge, insert_on_edge, with_inner_vertex, with_edge_vertex}
-use Rattle.insertion.specs.Plane.{Between, between-rev}
+use Rattle.insertion.specs.Plane.{Between}
+use Rattle.insertion.proofs.PlaneLaws.{between-rev}
 use Rattle.math.specs.declared.Point.{Point}
 use Rattle.mesh.specs.declared.Counts.{Counts}
 use Rattle.mesh.specs.Mesh.{Links, to}
 use Rattle.mesh.specs.Operations.{with_vertex}
 use Rattle.mesh.specs.Triangle.{rev-in}
 use Rattle.skipped.specs.Insert.{legalize_vertex, unflipped, insert_in_edge}
-use Rattle.sums.specs.Half.{rev, rev-rev}
+use Rattle.sums.specs.Half.{rev}
+use Rattle.sums.proofs.HalfLaws.{rev-rev}
 use Rattle.insert.proofs.GrowRows.{vertex-held, grow-by}
 use Rattle.insert.specs.InsertRows.{InnerEdgeReady, BoundaryEdgeReady, OnEdgeReady}
 

@@ -9,8 +9,8 @@ use Rattle.corner.specs.declared.Extension.{Extension}
 use Rattle.corner.specs.CornerRows.{extended_of}
 use Rattle.dcel.specs.Rows.{links_of, position_of}
 use Rattle.location.specs.declared.PositionInTriangulation.{PositionInTriangulation}
-use Rattle.location.specs.LocateLaws.{locate-good}
-use Rattle.location.specs.Place.{Certified}
+use Rattle.location.proofs.LocateLaws.{locate-good}
+use Rattle.location.proofs.PlaceFacts.{Certified}
 use Rattle.location.specs.Scan.{locate_point}
 use Rattle.math.specs.declared.Point.{Point}
 use Rattle.mesh.specs.declared.Counts.{Counts}

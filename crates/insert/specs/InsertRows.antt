@@ -8,7 +8,8 @@ use Rattle.insertion.specs.Operations.{split_edge, split_half_edge, with_inner_v
 use Rattle.insertion.specs.Plane.{Between}
 use Rattle.insertion_laws.specs.SplitEdge.{Splittable}
 use Rattle.location.specs.declared.PositionInTriangulation.{PositionInTriangulation}
-use Rattle.location.specs.Place.{InFace, Certified}
+use Rattle.location.specs.Place.{InFace}
+use Rattle.location.proofs.PlaceFacts.{Certified}
 use Rattle.math.specs.declared.Point.{Point}
 use Rattle.math.specs.Determinant.{InRange}
 use Rattle.mesh.specs.declared.Counts.{Counts}

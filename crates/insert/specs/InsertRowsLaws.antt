@@ -7,7 +7,8 @@ use Rattle.dcel.specs.Rows.{links_of, position_of}
 use Rattle.location.specs.declared.PositionInTriangulation.{PositionInTriangulation}
 use Rattle.math.specs.declared.Point.{Point}
 use Rattle.mesh.specs.declared.Counts.{Counts}
-use Rattle.skipped.specs.InsertLaws.{PointIn, insert-certified}
+use Rattle.skipped.specs.InsertLaws.{PointIn}
+use Rattle.skipped.proofs.InsertLawsFacts.{insert-certified}
 use Rattle.insert.specs.InsertRows.{InsertReady, InsertLeaves}
 
 pub leaves-point : {C : Counts} {q : List ℤ} {o h a row : List ℕ} {v : Point} {x : PositionInTriangulation} → InsertReady C q o h a row v x

@@ -23,9 +23,9 @@ use Rattle.legalize.specs.Legalize.{legalize_edge}
 use Rattle.legalize.specs.LegalizeRows.{LegalizeReady, Leaves}
 use Rattle.mesh.specs.Mesh.{Links, In}
 use Rattle.mesh.specs.Operations.{create_single_face_between_edge_and_next, with_face}
-use Rattle.mesh.specs.CountsLaws.{faces-fit}
+use Rattle.mesh.proofs.CountsLaws.{faces-fit}
 use Rattle.mesh.specs.Good.{Good}
-use Rattle.mesh.specs.GoodLaws.{single-face-good}
+use Rattle.mesh.proofs.GoodLaws.{single-face-good}
 use Rattle.skipped.specs.Insert.{legalize_one, cover_edge}
 use Rattle.insert_outside.specs.OutsideRows.{CoverReady}
 

@@ -18,10 +18,10 @@ use Rattle.dcel.specs.Rows.{links_of, position_of}
 use Rattle.math.specs.declared.Point.{Point}
 use Rattle.mesh.specs.declared.Counts.{Counts}
 use Rattle.mesh.specs.Mesh.{Links}
-use Rattle.mesh.specs.CountsLaws.{halves-fit}
+use Rattle.mesh.proofs.CountsLaws.{halves-fit}
 use Rattle.ring.specs.declared.Side.TheVariants.{Left, Right}
 use Rattle.skipped.specs.Insert.{outside_walk, insert_outside}
-use Rattle.skipped.specs.Outside.{Standing, new-good, left-start, right-start, outside-closings}
+use Rattle.skipped.proofs.OutsideLaws.{Standing, new-good, left-start, right-start, outside-closings}
 use Rattle.insert_outside.specs.OutsideRows.{WalkReady, OutsideReady}
 use Rattle.insert_outside.specs.RowsLaws.{ready-after}
 

@@ -18,13 +18,13 @@ use Rattle.math.specs.declared.Point.{Point}
 use Rattle.math.specs.Determinant.{InRange}
 use Rattle.mesh.specs.Mesh.{In}
 use Rattle.mesh.specs.Area.{boundary_length}
-use Rattle.mesh.specs.BoundaryLaws.{boundary-most}
+use Rattle.mesh.proofs.BoundaryLaws.{boundary-most}
 use Rattle.ring.specs.declared.Side.{Side}
 use Rattle.ring.specs.declared.Side.TheVariants.{Left, Right}
 use Rattle.ring.specs.Chain.{beside}
 use Rattle.skipped.specs.Insert.{outside_ends, outside_turn, outside_walk}
-use Rattle.skipped.specs.Outside.{Standing, TipOn, turn-closes, outside-falls}
-use Rattle.sums.specs.Until.{Going, going_start, going-turn, going_less, going_end}
+use Rattle.skipped.proofs.OutsideLaws.{Standing, TipOn, turn-closes, outside-falls}
+use Rattle.sums.proofs.UntilLaws.{Going, going_start, going-turn, going_less, going_end}
 use Rattle.insert_outside.specs.OutsideRows.{BesideReady, TurnReady, WalkReady}
 use Rattle.insert_outside.specs.TurnLaws.{beside-is}
 use Rattle.insert_outside.proofs.Sight.{beside-in, beside-ready}

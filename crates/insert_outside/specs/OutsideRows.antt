@@ -15,7 +15,7 @@ use Rattle.mesh.specs.Mesh.{In}
 use Rattle.mesh.specs.Good.{Good}
 use Rattle.ring.specs.declared.Side.{Side}
 use Rattle.ring.specs.Chain.{beside}
-use Rattle.skipped.specs.Outside.{Standing}
+use Rattle.skipped.proofs.OutsideLaws.{Standing}
 use Rattle.sums.specs.Half.{rev}
 
 -- the corner at the end of the boundary edge e turns left, and d is in use

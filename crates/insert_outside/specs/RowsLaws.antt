@@ -18,9 +18,10 @@ use Rattle.math.specs.Determinant.{InRange}
 use Rattle.mesh.specs.declared.Counts.{Counts}
 use Rattle.mesh.specs.Mesh.{Links}
 use Rattle.skipped.specs.Insert.{insert_outside}
-use Rattle.skipped.specs.LegalizeVertex.{legalized-good, legalized-bound}
-use Rattle.skipped.specs.Outside.{new-good, first-legalized, outside-covers}
-use Rattle.sums.specs.Put.{put, put_same, put_other}
+use Rattle.skipped.proofs.LegalizeVertexLaws.{legalized-good, legalized-bound}
+use Rattle.skipped.proofs.OutsideLaws.{new-good, first-legalized, outside-covers}
+use Rattle.sums.specs.Put.{put}
+use Rattle.sums.proofs.PutLaws.{put_same, put_other}
 use Rattle.insert_outside.specs.OutsideRows.{OutsideReady}
 
 -- ---- before: the point's position is stored after those of a good mesh

@@ -7,7 +7,7 @@ use Rattle.algebra.specs.Ring.{E, num, ◌⊕◌, ◌⊖◌, ◌⊗◌, ⊝◌}
 use Rattle.algebra.specs.Sign.{Pos, NN, ◌*⁺◌, ◌*°◌, ◌+⁺◌, ◌+°◌, weak, sq, pos-in, cases, refute, eq-in, zero°, ◌*⁰◌}
 use Rattle.math.specs.declared.Point.{Point}
 use Rattle.math.specs.Determinant.{Pt, Orient2d, Incircle, Factor, orient2d, incircle, factor}
-use Rattle.math.specs.Plane.{E·, A, B, C, D, env}
+use Rattle.math.proofs.Plane.{E·, A, B, C, D, env}
 use Rattle.insertion.specs.Plane.{Inside, Between}
 
 module _ (a b c v : Point) (h : pos 0 <ℤ orient2d a b c) where

@@ -9,23 +9,25 @@ use borrow.Author.Tests.{eq-eqb, ne_eqb}
 use Rattle.algebra.specs.Order.{abs-falls, add-0<, lt-le}
 use Rattle.math.specs.declared.Point.{Point}
 use Rattle.math.specs.Determinant.{orient2d, incircle, InRange}
-use Rattle.math.specs.Plane.{orient2d-next}
+use Rattle.math.proofs.Plane.{orient2d-next}
 use Rattle.mesh.specs.declared.Counts.{Counts}
 use Rattle.mesh.specs.Mesh.{Links, In}
 use Rattle.mesh.specs.Operations.{with_vertex}
 use Rattle.mesh.specs.Triangle.{rev-in}
 use Rattle.mesh.specs.Area.{area_total, boundary_area, height_sum}
-use Rattle.mesh.specs.AreaLaws.{area-theorem}
-use Rattle.mesh.specs.LeftLaws.{left_at}
-use Rattle.mesh.specs.HeightLaws.{heights-nonneg}
+use Rattle.mesh.proofs.AreaLaws.{area-theorem}
+use Rattle.mesh.proofs.LeftLaws.{left_at}
+use Rattle.mesh.proofs.HeightLawsFacts.{heights-nonneg}
 use Rattle.mesh.specs.Good.{Good}
 use Rattle.insertion.specs.Operations.{insert_into_triangle, split_edge, split_half_edge, insert_on_edge, with_inner_vertex, with_edge_vertex}
-use Rattle.insertion.specs.Plane.{Inside, Between, between-rev, between_first, between-second}
+use Rattle.insertion.specs.Plane.{Inside, Between}
+use Rattle.insertion.proofs.PlaneLaws.{between-rev, between_first, between-second}
 use Rattle.insertion_laws.specs.InTriangle.{inside-circle, between-circle}
 use Rattle.insertion_laws.specs.IntoTriangleLaws.{insert-into-triangle-areas, insert-into-triangle-heights, insert-into-triangle-good}
 use Rattle.insertion_laws.specs.EdgeSplitLaws.{splittable, split-edge-areas, split-edge-heights, split-edge-good}
 use Rattle.insertion_laws.specs.HalfEdgeSplitLaws.{split-half-edge-areas, split-half-edge-heights, split-half-edge-good}
-use Rattle.sums.specs.Half.{rev, rev-rev}
+use Rattle.sums.specs.Half.{rev}
+use Rattle.sums.proofs.HalfLaws.{rev-rev}
 
 -- strictly between the ends of a side of a triangle that turns left, a position is strictly inside the triangle's circle
 pub side-circle : (a b c v : Point) → pos 0 <ℤ orient2d a b c → Between a b v → pos 0 <ℤ incircle a b c v

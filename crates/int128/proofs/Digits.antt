@@ -1,7 +1,7 @@
 -- The product by digits of 32 bits, and the rounding of a number of half cubic metres. Assumes nothing.
 use Rattle.std.proofs.Common.{◌≡◌, ℕ, ◌+◌, ◌*◌, ◌/◌, ◌%◌, ◌^◌, ◌<◌, ◌≤◌, ap, ◌∙◌, ap₂, mul-le-mul, div-add-mod', arith}
 use Rattle.int128.specs.CubicMetres.{half_to_even}
-use Rattle.int128.specs.CubicMetresLaws.{next-even, rounded-only}
+use Rattle.int128.proofs.CubicMetresLawsFacts.{next-even, rounded-only}
 
 -- ---- the product
 abbrev B : ℕ

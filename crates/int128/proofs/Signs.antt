@@ -3,7 +3,7 @@ use Rattle.std.proofs.Common.{◌≡◌, ℕ, zero, suc, ◌+◌, ◌-◌, ◌*�
 use lib.IntN.{+ℤ_idl}
 use lib.Signed.{mag, lt_z, non_neg, nat_abs-le}
 use Rattle.int128.specs.Int128.{of_halves, with_sign}
-use Rattle.int128.specs.Int128Laws.{sign-abs, sign-mul, whole_is}
+use Rattle.int128.proofs.Int128LawsFacts.{sign-abs, sign-mul, whole_is}
 
 below-zero : (z : ℤ) → lt_z z (pos 0) ≡ true → (n : ℕ) × (z ≡ negsuc n)
 below-zero (pos n) t = absurd (omega (arith, ltb-true n 0 t))

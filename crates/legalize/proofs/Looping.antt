@@ -13,8 +13,8 @@ use Rattle.dcel.specs.Rows.{position_of}
 use Rattle.circle_test.specs.GoodRows.{good-again}
 use Rattle.pending.specs.declared.PendingList.{PendingList}
 use Rattle.pending.specs.Pending.{pending_of}
-use Rattle.pending.specs.PendingLaws.{pending-last}
-use Rattle.sums.specs.Until.{Going, going_start, going-turn, going_less, going_end}
+use Rattle.pending.proofs.PendingLaws.{pending-last}
+use Rattle.sums.proofs.UntilLaws.{Going, going_start, going-turn, going_less, going_end}
 use Rattle.legalize.specs.declared.Entry.{Entry}
 use Rattle.legalize.specs.Legalize.{Legalizing, legalize_turn, is_done, is_empty, measure, legalize}
 use Rattle.legalize.specs.LegalizeLaws.{Ongoing, falls, turn-bound, legalize-start}

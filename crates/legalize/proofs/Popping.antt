@@ -11,7 +11,7 @@ use Rattle.dcel.specs.Rows.{links_of, position_of}
 use Rattle.circle_test.specs.GoodRows.{CircleReady}
 use Rattle.pending.specs.declared.PendingList.{PendingList}
 use Rattle.pending.specs.Pending.{pending_of}
-use Rattle.pending.specs.PendingLaws.{pending-last, holds}
+use Rattle.pending.proofs.PendingLaws.{pending-last, holds}
 use Rattle.pending.specs.Set.{SetOf, LastTaken}
 use Rattle.legalize.specs.declared.Entry.{Entry}
 use Rattle.legalize.specs.declared.Entry.TheVariants.{HalfEdge, Edge}

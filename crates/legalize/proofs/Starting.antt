@@ -11,7 +11,7 @@ use Rattle.dcel.specs.Rows.{links_of, position_of}
 use Rattle.pending.specs.declared.PendingList.{PendingList}
 use Rattle.pending.specs.Pending.{pending_of, Holds}
 use Rattle.pending.specs.Set.{SetOf}
-use Rattle.pending.specs.PendingLaws.{holds, holds_fits}
+use Rattle.pending.proofs.PendingLaws.{holds, holds_fits}
 use Rattle.legalize.specs.declared.Entry.{Entry}
 use Rattle.legalize.specs.declared.Legalized.{Legalized}
 use Rattle.legalize.specs.Legalize.{legalize}

@@ -17,7 +17,7 @@ use Rattle.dcel_operations.specs.Ready.{flip-ready}
 use Rattle.circle_test.specs.GoodRows.{held, circle-ready}
 use Rattle.pending.specs.declared.PendingList.{PendingList}
 use Rattle.pending.specs.Pending.{pending_of, Holds}
-use Rattle.pending.specs.PendingLaws.{pending-length, pending-last, holds-length, holds_fits}
+use Rattle.pending.proofs.PendingLaws.{pending-length, pending-last, holds-length, holds_fits}
 use Rattle.legalize.specs.declared.Entry.{Entry}
 use Rattle.legalize.specs.Legalize.{Legalizing, entry_edge, pushed, legalize_turn}
 use Rattle.legalize.specs.Turns.{EntriesIn, turn-kept, turn-flipped, turn-refused}

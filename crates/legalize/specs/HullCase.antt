@@ -14,17 +14,18 @@ use Rattle.dcel.specs.declared.handles.Far.{Far}
 use Rattle.dcel.specs.Far.{far_in, far_of}
 use Rattle.math.specs.declared.Point.{Point}
 use Rattle.math.specs.Determinant.{orient2d, incircle, is_ordered_ccw, contained_in_circumference}
-use Rattle.math.specs.Plane.{contained-next, hull-legal}
+use Rattle.math.proofs.Plane.{contained-next, hull-legal}
 use Rattle.mesh.specs.declared.Counts.{Counts}
 use Rattle.mesh.specs.Mesh.{Links, In, to}
 use Rattle.mesh.specs.Area.{circle_at}
-use Rattle.mesh.specs.HeightLaws.{even-half, circle-half, circle-rev}
-use Rattle.mesh.specs.LeftLaws.{left_at}
+use Rattle.mesh.proofs.HeightLawsFacts.{even-half, circle-half, circle-rev}
+use Rattle.mesh.proofs.LeftLaws.{left_at}
 use Rattle.mesh.specs.Good.{Good}
 use Rattle.mesh.specs.Circle.{breaks_circle}
-use Rattle.mesh.specs.CircleLaws.{breaks}
-use Rattle.sums.specs.Bit.{is_true, is_false}
-use Rattle.sums.specs.Half.{rev, rev-rev, rev-even, rev-below}
+use Rattle.mesh.proofs.CircleLawsFacts.{breaks}
+use Rattle.sums.proofs.BitLaws.{is_true, is_false}
+use Rattle.sums.specs.Half.{rev}
+use Rattle.sums.proofs.HalfLaws.{rev-rev, rev-even, rev-below}
 
 -- `should_flip` of `legalize_edges_after_removal`, of the far vertices left and right of an edge. With neither the Rust panics
 unfoldable pub removal_test : (ℕ → Point) → Point → Point → Far → Far → Bool

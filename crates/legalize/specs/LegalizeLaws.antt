@@ -13,10 +13,12 @@ use Rattle.mesh.specs.Mesh.{Links}
 use Rattle.mesh.specs.Frame.{SameBoundary}
 use Rattle.mesh.specs.Area.{area_total, height_sum}
 use Rattle.mesh.specs.Circle.{breaks_circle}
-use Rattle.mesh.specs.CircleLaws.{breaks, breaks-good, breaks-falls}
-use Rattle.mesh.specs.FlipRun.{FlipRun, none, run-one, run_join, run-good, run-boundary, run-area, run-falls}
+use Rattle.mesh.proofs.CircleLawsFacts.{breaks, breaks-good, breaks-falls}
+use Rattle.mesh.specs.FlipRun.{FlipRun, none}
+use Rattle.mesh.proofs.FlipRunLaws.{run-one, run_join, run-good, run-boundary, run-area, run-falls}
 use Rattle.mesh.specs.Good.{Good}
-use Rattle.sums.specs.Until.{until, Falls, until-ends, until-keeps, until-ind, until-fuel}
+use Rattle.sums.specs.Until.{until}
+use Rattle.sums.proofs.UntilLaws.{Falls, until-ends, until-keeps, until-ind, until-fuel}
 use Rattle.legalize.specs.declared.Entry.{Entry}
 use Rattle.legalize.specs.Legalize.{Legalizing, entry_edge, pushed, legalize_turn, is_done, measure, legalize}
 use Rattle.legalize.specs.Turns.{turn-cases, going_on, ended, EntriesIn, pushed-in, pushed-few}

@@ -13,9 +13,10 @@ use Rattle.mesh.specs.Wf.{Wf}
 use Rattle.mesh.specs.Operations.{flip_cw}
 use Rattle.mesh.specs.Circle.{breaks_circle}
 use Rattle.pending.specs.Pending.{contains, push_if_not_contained}
-use Rattle.pending.specs.PendingLaws.{push-length, push-contained, push-missing}
-use Rattle.sums.specs.Cases.{All}
-use Rattle.sums.specs.Half.{rev, rev-below}
+use Rattle.pending.proofs.PendingLaws.{push-length, push-contained, push-missing}
+use Rattle.sums.proofs.Cases.{All}
+use Rattle.sums.specs.Half.{rev}
+use Rattle.sums.proofs.HalfLaws.{rev-below}
 use Rattle.legalize.specs.declared.Entry.{Entry}
 use Rattle.legalize.specs.declared.Entry.TheVariants.{HalfEdge, Edge}
 use Rattle.legalize.specs.Legalize.{Legalizing, entry_edge, pushed, flipped, popped, legalize_turn, is_done, is_empty}

@@ -94,7 +94,3 @@ grow_on room g q =
     let a = grow_in_mesh room g q in
     let b = grow_point room g q in
     cond (ltb 1 g.mesh.counts.faces) a b
-
--- nothing yet. C6.4: "None: 0, 0, 0"
-abbrev pub nothing : Links → (ℕ → Point) → Growing
-nothing L p = record { fate = 0; vertex = 0; positions = p; mesh = unflipped (record { vertices = 0; edges = 0; faces = 0 }) L 0 }

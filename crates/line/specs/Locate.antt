@@ -56,25 +56,3 @@ pub record Off (C : Counts) (L : Links) (p : ℕ → Point) (q : Point) (e : ℕ
 pub record AtVertex (C : Counts) (p : ℕ → Point) (q : Point) (v : ℕ) : Type 0 where
   pub used : v < C.vertices
   pub here : p v ≡ q
-
-module _ {C : Counts} {L : Links} {p : ℕ → Point} (X : Line C L p) (q : Point) where
-  -- extend_line: an end of the line, with the point beyond it
-  pub record AtEnd (v : ℕ) : Type 0 where
-    pub on : orient2d (p (L.origin 0)) (p (to L 0)) q ≡ pos 0
-    pub end : ((v ≡ X.at 0) × T (comes_before q (p (X.at 0)))) ⊎ ((v ≡ X.at C.edges) × T (comes_before (p (X.at C.edges)) q))
-
-  -- split_edge_when_all_vertices_on_line: from the neighbour after the point to the one before it
-  pub record InEdge (e : ℕ) : Type 0 where
-    pub on : orient2d (p (L.origin 0)) (p (to L 0)) q ≡ pos 0
-    pub place : ℕ
-    pub below : place < C.edges
-    pub edge : e ≡ rev (X.r (suc place))
-    pub after : T (comes_before (p (X.at place)) q)
-    pub before : T (comes_before q (p (X.at (suc place))))
-
-  -- THE CERTIFICATE of an answer
-  abbrev pub LineCertified : PositionWhenAllVerticesOnLine → Type 0
-  LineCertified (OnEdge e) = InEdge e
-  LineCertified (OnVertex v) = AtVertex C p q v
-  LineCertified (NotOnLine e) = Off C L p q e
-  LineCertified (ExtendingLine v) = AtEnd v

@@ -24,7 +24,8 @@ use Rattle.mesh.specs.Operations.{face_between, create_single_face_between_edge_
 use Rattle.ring.specs.declared.Side.{Side}
 use Rattle.ring.specs.declared.Side.TheVariants.{Left, Right}
 use Rattle.skipped.specs.Insert.{legalize_one, cover_edge, outside_ends, outside_turn}
-use Rattle.sums.specs.Half.{rev, rev-below}
+use Rattle.sums.specs.Half.{rev}
+use Rattle.sums.proofs.HalfLaws.{rev-below}
 use Rattle.line_fan.specs.FanRows.{TurnReady, to_new, from_new, FanReady}
 use Rattle.line_fan.proofs.Turns.{Turn, turn-goes}
 

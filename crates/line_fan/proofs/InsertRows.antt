@@ -15,11 +15,12 @@ use Rattle.corner.specs.Corner.{Extended}
 use Rattle.corner.specs.CornerRows.{extended_of}
 use Rattle.dcel.specs.Rows.{links_of, position_of}
 use Rattle.dcel_operations.specs.Face.{NewReady, NewFace}
-use Rattle.line.specs.Fan.{fan-first}
+use Rattle.line.proofs.FanLaws.{fan-first}
 use Rattle.line.specs.LineLaws.{Facing}
-use Rattle.line.specs.ChainRules.{chain-rules}
-use Rattle.line.specs.OffLine.{Stand, first-stand, left-walk}
-use Rattle.line.specs.Still.{first-still}
+use Rattle.line.proofs.ChainRules.{chain-rules}
+use Rattle.line.specs.OffLine.{Stand}
+use Rattle.line.proofs.OffLineLaws.{first-stand, left-walk}
+use Rattle.line.proofs.Still.{first-still}
 use Rattle.math.specs.declared.Point.{Point}
 use Rattle.math.specs.Determinant.{InRange}
 use Rattle.mesh.specs.declared.Counts.{Counts}
@@ -28,7 +29,8 @@ use Rattle.mesh.specs.Operations.{create_new_face_adjacent_to_edge}
 use Rattle.ring.specs.declared.Side.{Side}
 use Rattle.ring.specs.declared.Side.TheVariants.{Left, Right}
 use Rattle.skipped.specs.Insert.{outside_walk, insert_outside}
-use Rattle.sums.specs.Half.{rev, rev-below}
+use Rattle.sums.specs.Half.{rev}
+use Rattle.sums.proofs.HalfLaws.{rev-below}
 use Rattle.line_fan.specs.FanRows.{to_new, from_new, FanReady, OffLineReady}
 use Rattle.line_fan.specs.RowsLaws.{facing}
 

@@ -12,7 +12,7 @@ use Rattle.dcel.specs.Rows.{halves_of, links_of}
 use Rattle.dcel_operations.specs.declared.NewEdge.{NewEdge}
 use Rattle.dcel_operations.specs.Face.{SingleReady, SingleFace}
 use Rattle.insert_outside.specs.TurnLaws.{beside-is}
-use Rattle.line.specs.Still.{cover-still}
+use Rattle.line.proofs.Still.{cover-still}
 use Rattle.math.specs.declared.Point.{Point}
 use Rattle.ring.specs.declared.Side.{Side}
 use Rattle.ring.specs.Chain.{beside}

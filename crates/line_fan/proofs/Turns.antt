@@ -7,10 +7,11 @@ use native.Mathlib.Decide.{dec_lt}
 use native.Mathlib.Omega.{arith}
 use Rattle.apply.specs.Apply.{Walking, face_edge}
 use Rattle.line.specs.Chain.{Chain}
-use Rattle.line.specs.ChainLaws.{in-r}
+use Rattle.line.proofs.ChainLaws.{in-r}
 use Rattle.line.specs.Fan.{Seen}
-use Rattle.line.specs.FanGrows.{fan-left, fan-right}
-use Rattle.line.specs.OffLine.{Stand, sees-low, sees-high, left-turn, right-turn}
+use Rattle.line.proofs.FanGrows.{fan-left, fan-right}
+use Rattle.line.specs.OffLine.{Stand}
+use Rattle.line.proofs.OffLineLaws.{sees-low, sees-high, left-turn, right-turn}
 use Rattle.math.specs.declared.Point.{Point}
 use Rattle.mesh.specs.declared.Counts.{Counts}
 use Rattle.mesh.specs.Mesh.{Links, In}

@@ -16,7 +16,8 @@ use Rattle.math.specs.declared.Point.{Point}
 use Rattle.mesh.specs.Operations.{with_face}
 use Rattle.ring.specs.declared.Side.{Side}
 use Rattle.skipped.specs.Insert.{outside_ends, outside_turn, outside_walk}
-use Rattle.sums.specs.Until.{until, until-done, until-next}
+use Rattle.sums.specs.Until.{until}
+use Rattle.sums.proofs.UntilLaws.{until-done, until-next}
 use Rattle.line_fan.specs.FanRows.{TurnReady, FanReady}
 use Rattle.line_fan.proofs.FanHeld.{vertices-are, edges-least, edges-fewer, turn-ready, counts-after, ready-after}
 

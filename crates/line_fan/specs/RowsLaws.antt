@@ -8,17 +8,19 @@ use Rattle.corner.specs.declared.Extension.{Extension}
 use Rattle.corner.specs.CornerRows.{extended_of}
 use Rattle.dcel.specs.Rows.{links_of, position_of}
 use Rattle.line.specs.Line.{Line}
-use Rattle.line.specs.LineLaws.{Facing, line-facing, line-off}
+use Rattle.line.specs.LineLaws.{Facing}
+use Rattle.line.proofs.LineLawsFacts.{line-facing, line-off}
 use Rattle.line.specs.Locate.{Off}
-use Rattle.line.specs.ChainRules.{chain-rules}
+use Rattle.line.proofs.ChainRules.{chain-rules}
 use Rattle.line.specs.OffLine.{OffLine}
 use Rattle.math.specs.declared.Point.{Point}
 use Rattle.math.specs.Determinant.{orient2d, InRange}
 use Rattle.mesh.specs.declared.Counts.{Counts}
 use Rattle.mesh.specs.Mesh.{Links, to}
 use Rattle.skipped.specs.Insert.{insert_outside}
-use Rattle.sums.specs.Half.{rev-below}
-use Rattle.sums.specs.Put.{put, put_same, put_other, put_id}
+use Rattle.sums.proofs.HalfLaws.{rev-below}
+use Rattle.sums.specs.Put.{put}
+use Rattle.sums.proofs.PutLaws.{put_same, put_other, put_id}
 use Rattle.line_fan.specs.FanRows.{FanRoom, OffLineReady}
 
 -- ---- before: the point's position is stored after those of a line

@@ -6,9 +6,9 @@ use Rattle.math.specs.declared.Point.{Point}
 use Rattle.mesh.specs.declared.Counts.{Counts}
 use Rattle.mesh.specs.Mesh.{In}
 use Rattle.mesh.specs.Wf.{Ranges}
-use Rattle.sums.specs.Half.{rev-below}
+use Rattle.sums.proofs.HalfLaws.{rev-below}
 use Rattle.line.specs.Line.{Line}
-use Rattle.line.specs.ChainRules.{chain-rules}
+use Rattle.line.proofs.ChainRules.{chain-rules}
 use Rattle.line.specs.Operations.{with_line_vertex, two_vertices}
 use Rattle.dcel.specs.Rows.{links_of}
 use Rattle.dcel.specs.MeshHeld.{Room}

@@ -15,8 +15,8 @@ use Rattle.line.specs.Order.{comes_before}
 use Rattle.math.specs.declared.Point.{Point}
 use Rattle.math.specs.Determinant.{InRange}
 use Rattle.mesh.specs.declared.Counts.{Counts}
-use Rattle.sums.specs.Bit.{or_cases, or_left, or_right, and_left, and_right, and_both}
-use Rattle.sums.specs.Bounded.{all-below→, all-below←}
+use Rattle.sums.proofs.BitLaws.{or_cases, or_left, or_right, and_left, and_right, and_both}
+use Rattle.sums.proofs.BoundedLaws.{all-below→, all-below←}
 
 -- the test passes
 pub record Precedes (a b : Point) : Type 0 where

@@ -10,11 +10,12 @@ use Rattle.std.proofs.Math.Dec.{T}
 use Rattle.dcel.specs.Rows.{position_of}
 use Rattle.line.specs.Locate.{none_between, vertex_on, last_before, first_after}
 use Rattle.line.specs.Order.{comes_before, is_same_of}
-use Rattle.line.specs.OrderLaws.{is_same, three_ways}
+use Rattle.line.proofs.OrderLaws.{is_same, three_ways}
 use Rattle.math.specs.declared.Point.{Point}
 use Rattle.mesh.specs.declared.Counts.{Counts}
-use Rattle.sums.specs.Bit.{from-true, from_false, and_left, and_right, and_both}
-use Rattle.sums.specs.Bounded.{first_below, first-below-is, first-below-none}
+use Rattle.sums.proofs.BitLaws.{from-true, from_false, and_left, and_right, and_both}
+use Rattle.sums.specs.Bounded.{first_below}
+use Rattle.sums.proofs.BoundedLaws.{first-below-is, first-below-none}
 use Rattle.line_search.specs.declared.Neighbors.TheVariants.{Vertex, Between}
 use Rattle.line_search.specs.Before.{Precedes, precedes-trans, precedes-irrefl, both-pass, one-fails, none-between→, none-between←}
 use Rattle.line_search.specs.Before.{lowest, highest, lowest-precedes, precedes-highest}

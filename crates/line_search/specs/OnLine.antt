@@ -7,16 +7,17 @@ use Rattle.std.specs.Int.Signed.{lt_z}
 use Rattle.dcel.specs.Rows.{halves_of, row_of, links_of, position_of, There, Placed}
 use Rattle.line.specs.declared.PositionWhenAllVerticesOnLine.{PositionWhenAllVerticesOnLine}
 use Rattle.line.specs.declared.PositionWhenAllVerticesOnLine.TheVariants.{OnEdge, OnVertex, NotOnLine, ExtendingLine}
-use Rattle.line.specs.GrowLaws.{line-distinct}
+use Rattle.line.proofs.GrowLawsFacts.{line-distinct}
 use Rattle.line.specs.Locate.{vertex_on, last_before, first_after, edge_from_neighbors, locate_on_line, locate_when_all_vertices_on_line}
-use Rattle.line.specs.ChainRules.{chain-rules}
+use Rattle.line.proofs.ChainRules.{chain-rules}
 use Rattle.math.specs.declared.Point.{Point}
 use Rattle.math.specs.Determinant.{InRange, orient2d}
-use Rattle.math.specs.Side.{by_left, by_right, by-line}
+use Rattle.math.proofs.Side.{by_left, by_right, by-line}
 use Rattle.mesh.specs.declared.Counts.{Counts}
 use Rattle.mesh.specs.Mesh.{Links, In}
-use Rattle.sums.specs.Bounded.{first-below-le}
-use Rattle.sums.specs.Half.{rev, rev-below}
+use Rattle.sums.proofs.BoundedLaws.{first-below-le}
+use Rattle.sums.specs.Half.{rev}
+use Rattle.sums.proofs.HalfLaws.{rev-below}
 use Rattle.line_search.specs.declared.Neighbors.{Neighbors}
 use Rattle.line_search.specs.declared.Neighbors.TheVariants.{Vertex, Between}
 use Rattle.line_search.specs.LineRows.{LineReady, VerticesReady, OutReady, NeighborsReady, neighbors_of, at_neighbors}

@@ -17,17 +17,17 @@ use Rattle.finish.specs.declared.Totals.{Totals}
 use Rattle.listing_text.specs.Listing.{totals_line, refusal_line}
 use Rattle.mesh.specs.declared.Counts.{Counts}
 use Rattle.mesh.specs.Area.{area_total}
-use Rattle.mesh.specs.CountsLaws.{faces-fit}
+use Rattle.mesh.proofs.CountsLaws.{faces-fit}
 use Rattle.mesh.specs.Good.{Good}
 use Rattle.mesh_check.specs.declared.Refusal.{Refusal}
 use Rattle.mesh_check.specs.Check.{point_count, vertex_count}
 use Rattle.mesh_check.specs.Readable.{Readable}
-use Rattle.mesh_check.specs.ReadableLaws.{readable-rows}
+use Rattle.mesh_check.proofs.ReadableLaws.{readable-rows}
 use Rattle.ring_rows.specs.declared.Node.{Node}
 use Rattle.ring_rows.specs.Rows.{zero_node}
 use Rattle.ring_rows.specs.RingRows.{ring_rows}
 use Rattle.sweep.specs.Run.{RunLent, RunOutcome, run_lent, ran_with, answer_words, run_of}
-use Rattle.sweep.specs.RunLaws.{run-accepts, run-start, run-accepted, run-finishes}
+use Rattle.sweep.proofs.RunLaws.{run-accepts, run-start, run-accepted, run-finishes}
 use Rattle.listing_run.specs.ListingRun.{finished_listing, outcome_listing, lent_listing, point_lines, totals_of}
 use Rattle.listing_run.specs.ListingRunRows.{RanWithOwnNodes, Summable, Listable}
 

@@ -11,8 +11,9 @@ use Rattle.hull.specs.Boundary.{AngledBoundary, edge_at, angles_of, origin_at_ce
 use Rattle.mesh_check.specs.declared.Checked.TheVariants.{Accepted}
 use Rattle.mesh_check.specs.Check.{refused}
 use Rattle.ring.specs.Ring.{full_turn, is_strict}
-use Rattle.sums.specs.Bit.{from-true, from_false}
-use Rattle.sums.specs.Bounded.{any_below, none-below→}
+use Rattle.sums.proofs.BitLaws.{from-true, from_false}
+use Rattle.sums.specs.Bounded.{any_below}
+use Rattle.sums.proofs.BoundedLaws.{none-below→}
 use Rattle.locate.specs.Rows.{ClosedBoundary, ring_checked}
 
 module _ (p : List ℤ) (h : List ℕ) (cx cy : Float) (start size : ℕ) where

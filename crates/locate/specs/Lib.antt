@@ -2,6 +2,4 @@
 pub mod Locate
 pub mod Rows
 pub mod Start
-pub mod Place
-pub mod Call
 pub mod Laws

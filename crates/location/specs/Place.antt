@@ -52,15 +52,3 @@ pub record Beyond (C : Counts) (L : Links) (p : ℕ → Point) (q : Point) (e : 
   pub used : In C e
   pub outer : L.face e ≡ 0
   pub left : LeftOf L p q e
-
--- THE CERTIFICATE of an answer
-abbrev pub Certified : Counts → Links → (ℕ → Point) → Point → PositionInTriangulation → Type 0
-Certified C L p q (OnVertex v) = AtVertex C p q v
-Certified C L p q (OnFace f) = InFace C L p q f
-Certified C L p q (OnEdge e) = InEdge C L p q e
-Certified C L p q (OutsideOfConvexHull e) = Beyond C L p q e
-
--- of a turn: the answer's, or the half-edge is in use
-abbrev pub Sound : Counts → Links → (ℕ → Point) → Point → SearchState → Type 0
-Sound C L p q (Found x) = Certified C L p q x
-Sound C L p q (Onward e) = In C e

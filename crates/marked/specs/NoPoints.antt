@@ -13,12 +13,13 @@ use Rattle.math.specs.declared.Point.{Point}
 use Rattle.mesh.specs.declared.Counts.{Counts}
 use Rattle.mesh.specs.Mesh.{Links}
 use Rattle.mesh_check.specs.declared.Checked.{Checked}
-use Rattle.mesh_check.specs.Accepted.{AcceptedWith, accepts-with}
+use Rattle.mesh_check.specs.Accepted.{AcceptedWith}
+use Rattle.mesh_check.proofs.AcceptedLaws.{accepts-with}
 use Rattle.mesh_check.specs.Check.{point_count}
 use Rattle.skipped.specs.Fill.{Filling, fill_start, fill_after, fill_from, complete_mesh}
-use Rattle.skipped.specs.StillLaws.{complete-none}
+use Rattle.skipped.proofs.StillLaws.{complete-none}
 use Rattle.sweep.specs.Run.{RunLent, sweep_after, complete_after, skipped_of, run_checked, run_outcome, run_of}
-use Rattle.sweep.specs.RunLaws.{run-accepts, run-start}
+use Rattle.sweep.proofs.RunLaws.{run-accepts, run-start}
 use Rattle.marked.specs.Marked.{FinishOfSeed}
 
 none : {points : List ℤ} → points ≡ [] → point_count points ≡ 0

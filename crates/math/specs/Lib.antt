@@ -1,11 +1,6 @@
 pub mod Determinant
-pub mod Plane
 pub mod Vector
 pub mod Wide
-pub mod Range
-pub mod AreaBound
-pub mod Side
 pub mod Circle
 pub mod Whole
 pub mod Projection
-pub mod Position

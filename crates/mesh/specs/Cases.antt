@@ -1,7 +1,7 @@
 -- What proofs by cases on half-edges need beside `Cases` of sums. Assumes nothing.
 use Rattle.std.specs.Prelude.{ℕ, ◌<◌, ◌≡◌, ◌≢◌, List, [], ◌∷◌}
 use Rattle.std.proofs.Common.{sym}
-use Rattle.sums.specs.Cases.{All, None, each}
+use Rattle.sums.proofs.Cases.{All, None, each}
 
 -- a premise that a statement at each of the list leaves unused
 pub given : (P Q : ℕ → Type 0) (l : List ℕ) → All P l → All (λ x. Q x → P x) l
@@ -12,9 +12,6 @@ given P Q (x ∷ l) a = (λ _. a.0, given P Q l a.1)
 pub record Differ (a b : ℕ) : Type 0 where
   pub ab : a ≢ b
   pub ba : b ≢ a
-
-pub differ : {a b : ℕ} → a ≢ b → Differ a b
-differ n = record { ab = n; ba = λ p. n (sym p) }
 
 -- a statement about every number below n': at the numbers of `new`, at some below n, and at the others below n
 pub over : (P : ℕ → Type 0) (n n' : ℕ) (new l : List ℕ) → ((x : ℕ) → x < n' → None x new → x < n) → All P new → All P l

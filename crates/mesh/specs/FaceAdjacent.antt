@@ -7,11 +7,11 @@ use Rattle.mesh.specs.declared.Counts.{Counts}
 use Rattle.mesh.specs.Mesh.{Links, In, to}
 use Rattle.mesh.specs.Operations.{face_adjacent, with_vertex}
 use Rattle.mesh.specs.LinkRules.{LinkRules}
-use Rattle.mesh.specs.Cases.{Differ, differ}
+use Rattle.mesh.specs.Cases.{Differ}
 use Rattle.mesh.specs.Triangle.{Outer, link-p-e, link-e-n}
-use Rattle.sums.specs.Cases.{None}
+use Rattle.sums.proofs.Cases.{None}
 use Rattle.sums.specs.Half.{rev}
-use Rattle.sums.specs.Put.{put_same, stores}
+use Rattle.sums.proofs.PutLaws.{put_same, stores}
 
 -- L' is L with the new face of e, a and b, whose third corner is the new vertex; the reverses b' and a' take the place of e on the boundary
 pub record FaceAdjacent (C C' : Counts) (L L' : Links) (p e n a a' b b' : ℕ) : Type 0 where
@@ -58,101 +58,24 @@ pub record FaceAdjacent (C C' : Counts) (L L' : Links) (p e n a a' b b' : ℕ) :
   pub adjacent-rest : {f : ℕ} → f ≢ 0 → f ≢ C.faces → L'.adjacent f ≡ L.adjacent f
 
 -- the numbers at which the operation stores
-record Apart (p e n a a' b b' : ℕ) : Type 0 where
-  pe : Differ p e
-  en : Differ e n
-  ap' : Differ a p
-  ae : Differ a e
-  an : Differ a n
-  a'p : Differ a' p
-  a'e : Differ a' e
-  a'n : Differ a' n
-  bp : Differ b p
-  be : Differ b e
-  bn : Differ b n
-  b'p : Differ b' p
-  b'e : Differ b' e
-  b'n : Differ b' n
-  aa' : Differ a a'
-  ab : Differ a b
-  ab' : Differ a b'
-  a'b : Differ a' b
-  a'b' : Differ a' b'
-  bb' : Differ b b'
-
-module _ {C : Counts} {L : Links} {p e n q : ℕ} (W : LinkRules C L) (A : Outer C L p e n q) where
-  abbrev a : ℕ
-  a = 2 * C.edges
-
-  abbrev b : ℕ
-  b = 2 * C.edges + 2
-
-  apart : Apart p e n a (a + 1) b (b + 1)
-  apart = record {
-    pe = differ (link-p-e W A);
-    en = differ (link-e-n W A);
-    ap' = differ (omega arith);
-    ae = differ (omega arith);
-    an = differ (omega arith);
-    a'p = differ (omega arith);
-    a'e = differ (omega arith);
-    a'n = differ (omega arith);
-    bp = differ (omega arith);
-    be = differ (omega arith);
-    bn = differ (omega arith);
-    b'p = differ (omega arith);
-    b'e = differ (omega arith);
-    b'n = differ (omega arith);
-    aa' = differ (omega arith);
-    ab = differ (omega arith);
-    ab' = differ (omega arith);
-    a'b = differ (omega arith);
-    a'b' = differ (omega arith);
-    bb' = differ (omega arith);
-  }
-
-  pub face-adjacent : FaceAdjacent C (with_vertex C) L (face_adjacent L C p e n) p e n a (a + 1) b (b + 1)
-  unfolding face_adjacent rev
-  face-adjacent = let s = apart in let z = A.face-e in let w : Differ (L.face e) C.faces = differ (omega (arith, W.some)) in record {
-    a-is = refl;
-    a'-is = refl;
-    b-is = refl;
-    b'-is = omega arith;
-    rev-a = omega arith;
-    rev-a' = omega arith;
-    rev-b = omega arith;
-    rev-b' = omega arith;
-    edges = refl;
-    faces = refl;
-    vertices = refl;
-    next-e = search stores;
-    next-a = search stores;
-    next-b = search stores;
-    next-p = search stores;
-    next-b' = search stores;
-    next-a' = search stores;
-    prev-e = search stores;
-    prev-a = search stores;
-    prev-b = search stores;
-    prev-b' = search stores;
-    prev-a' = search stores;
-    prev-n = search stores;
-    face-e = search stores;
-    face-a = search stores;
-    face-b = search stores;
-    face-a' = search (stores, z);
-    face-b' = search (stores, z);
-    origin-a = search stores;
-    origin-a' = search stores;
-    origin-b = search stores;
-    origin-b' = search stores;
-    out-new = search stores;
-    adjacent-outer = ap (face_adjacent L C p e n).adjacent (sym z) ∙ put_same _ (L.face e) _;
-    adjacent-new = search stores;
-    next-rest = λ {x} k. search stores;
-    prev-rest = λ {x} k. search stores;
-    face-rest = λ {x} k. search stores;
-    origin-rest = λ {x} k. search stores;
-    out-rest = λ {v} k. search stores;
-    adjacent-rest = λ {f} k l. let m : f ≢ L.face e = λ r. k (cc) in search stores;
-  }
+pub record Apart (p e n a a' b b' : ℕ) : Type 0 where
+  pub pe : Differ p e
+  pub en : Differ e n
+  pub ap' : Differ a p
+  pub ae : Differ a e
+  pub an : Differ a n
+  pub a'p : Differ a' p
+  pub a'e : Differ a' e
+  pub a'n : Differ a' n
+  pub bp : Differ b p
+  pub be : Differ b e
+  pub bn : Differ b n
+  pub b'p : Differ b' p
+  pub b'e : Differ b' e
+  pub b'n : Differ b' n
+  pub aa' : Differ a a'
+  pub ab : Differ a b
+  pub ab' : Differ a b'
+  pub a'b : Differ a' b
+  pub a'b' : Differ a' b'
+  pub bb' : Differ b b'

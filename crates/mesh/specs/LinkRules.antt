@@ -5,7 +5,7 @@ use Rattle.mesh.specs.declared.Counts.{Counts}
 use Rattle.mesh.specs.Mesh.{Links, In}
 use Rattle.mesh.specs.Wf.{Ranges, Linked, Vertices}
 use Rattle.sums.specs.Half.{rev}
-use Rattle.sums.specs.Iterate.{Reach}
+use Rattle.sums.proofs.IterateLaws.{Reach}
 
 -- 01: "An inner face is a cycle of three through its stored edge. Face 0 is one cycle". Here that is one of at least two
 pub record FaceCycles (C : Counts) (L : Links) : Type 0 where

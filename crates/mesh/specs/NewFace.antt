@@ -8,15 +8,17 @@ use Rattle.mesh.specs.Mesh.{Links, In, to, turn}
 use Rattle.mesh.specs.Operations.{create_new_face_adjacent_to_edge, with_vertex}
 use Rattle.mesh.specs.Wf.{Wf, Ranges, Linked, Vertices}
 use Rattle.mesh.specs.LinkRules.{LinkRules, FaceCycles, Wide, Sided}
-use Rattle.mesh.specs.LinkRulesWf.{link-rules, wide_of, sided-of, wf-of-links}
+use Rattle.mesh.specs.LinkRulesWf.{link-rules, wide_of, sided-of}
 use Rattle.mesh.specs.Cases.{over}
 use Rattle.mesh.specs.Frame.{Keeps, SameFace, Corners, kept-face, link-still-round}
-use Rattle.mesh.specs.Triangle.{Outer, link-outer, link-p-e, link-e-n, rev-in}
-use Rattle.mesh.specs.FaceAdjacent.{FaceAdjacent, face-adjacent}
-use Rattle.sums.specs.Cases.{All, None, each}
-use Rattle.sums.specs.Half.{rev, rev-rev}
-use Rattle.sums.specs.Put.{put, put_same, put_other}
-use Rattle.sums.specs.Iterate.{Reach, reach-at, reach-one, reach-two, reach-trans, reach-by}
+use Rattle.mesh.specs.Triangle.{Outer, link-p-e, link-e-n, rev-in}
+use Rattle.mesh.specs.FaceAdjacent.{FaceAdjacent}
+use Rattle.sums.proofs.Cases.{All, None, each}
+use Rattle.sums.specs.Half.{rev}
+use Rattle.sums.proofs.HalfLaws.{rev-rev}
+use Rattle.sums.specs.Put.{put}
+use Rattle.sums.proofs.PutLaws.{put_same, put_other}
+use Rattle.sums.proofs.IterateLaws.{Reach, reach-at, reach-one, reach-two, reach-trans, reach-by}
 
 -- What the operation leaves, the corners of the new face, and the boundary: p, b', a', n in place of p, e, n, and the rest as it was.
 pub record NewFaceFrame (C C' : Counts) (L L' : Links) (p e n a a' b b' : ℕ) : Type 0 where
@@ -44,7 +46,7 @@ pub record NewFaceFrame (C C' : Counts) (L L' : Links) (p e n a a' b b' : ℕ) :
   pub was : {x : ℕ} → In C' x → L'.face x ≡ 0 → (x ≡ b') ⊎ (x ≡ a') ⊎ (In C x × (L.face x ≡ 0) × (x ≢ e))
 
 -- what is below m + 4 and none of the four from m on is below m
-below : {x m a a' b b' : ℕ} → a ≡ m → a' ≡ m + 1 → b ≡ m + 2 → b' ≡ m + 3 → x < m + 4 → x ≢ a → x ≢ a' → x ≢ b → x ≢ b' → x < m
+pub below : {x m a a' b b' : ℕ} → a ≡ m → a' ≡ m + 1 → b ≡ m + 2 → b' ≡ m + 3 → x < m + 4 → x ≢ a → x ≢ a' → x ≢ b → x ≢ b' → x < m
 below p q r s h i j k l = omega arith
 
 module _ {C C' : Counts} {L L' : Links} {p e n q a a' b b' : ℕ} (W : LinkRules C L) (A : Outer C L p e n q)
@@ -270,18 +272,3 @@ module _ {C C' : Counts} {L L' : Links} {p e n q a a' b b' : ℕ} (W : LinkRules
         (λ z. absurd (omega (arith, W.some)), (λ z. inr (inl refl), (λ z. absurd (omega (arith, W.some)), (λ z. inl refl, tt)))) tt
         (λ x h k z. let w = outer-was h z in inr (inr (h, w.0, w.1))) h z;
   }
-
-module _ {C : Counts} {L : Links} (W : LinkRules C L) {e : ℕ} (h : In C e) (z : L.face e ≡ 0) where
-  pub new-face-is : FaceAdjacent C (with_vertex C) L (create_new_face_adjacent_to_edge L C e) (L.prev e) e (L.next e)
-      (2 * C.edges) (2 * C.edges + 1) (2 * C.edges + 2) (2 * C.edges + 2 + 1)
-  unfolding create_new_face_adjacent_to_edge
-  new-face-is = face-adjacent W (link-outer W h z)
-
-module _ {C : Counts} {L : Links} (W : Wf C L) {e : ℕ} (h : In C e) (z : L.face e ≡ 0) where
-  pub new-face-keeps : Wf (with_vertex C) (create_new_face_adjacent_to_edge L C e)
-  new-face-keeps = let R = link-rules W in let A = link-outer R h z in let F = new-face-is R h z in
-      wf-of-links (adjacent-keeps R A F) (adjacent-wide R A F (wide_of W)) (adjacent-sided R A F (sided-of W))
-
-  pub new-face-frame : NewFaceFrame C (with_vertex C) L (create_new_face_adjacent_to_edge L C e) (L.prev e) e (L.next e)
-      (2 * C.edges) (2 * C.edges + 1) (2 * C.edges + 2) (2 * C.edges + 2 + 1)
-  new-face-frame = let R = link-rules W in adjacent-frame R (link-outer R h z) (new-face-is R h z)

@@ -24,11 +24,6 @@ torus = record {
   adjacent = λ x. get_or (41 ∷ 0 ∷ 5 ∷ 10 ∷ 15 ∷ 7 ∷ 21 ∷ 17 ∷ 27 ∷ 23 ∷ 33 ∷ 29 ∷ 39 ∷ 35 ∷ []) x 0;
 }
 
-pub torus-fails : rule_tests (record { vertices = 7; edges = 21; faces = 14 }) torus
-    ≡ true ∷ false ∷ true ∷ true ∷ true ∷ true ∷ true ∷ true ∷ []
-unfolding torus half_edge_in_use links_in_use half_edge_linked inner_face_rule outer_face_rule side_rule vertex_rule euler_rule all_below reaches rev
-torus-fails = refl
-
 -- a link that names nothing in use: the triangle of `seed`, with half-edge 6 of 6 as out edge of vertex 0, linked as if it were there
 unfoldable pub past_end : Links
 past_end = record {
@@ -98,17 +93,6 @@ dangling = record {
   adjacent = λ x. get_or (5 ∷ 0 ∷ []) x 0;
 }
 
-pub dangling-fails : rule_tests (record { vertices = 4; edges = 4; faces = 2 }) dangling
-    ≡ true ∷ true ∷ true ∷ true ∷ false ∷ true ∷ true ∷ true ∷ []
-unfolding dangling half_edge_in_use links_in_use half_edge_linked inner_face_rule outer_face_rule side_rule vertex_rule euler_rule all_below reaches rev
-dangling-fails = refl
-
--- "Face 0 is one cycle of at least three": a face between two edges of the boundary of three leaves two
-pub two-fails : rule_tests (with_face seed_counts) (create_single_face_between_edge_and_next seed seed_counts 1)
-    ≡ true ∷ true ∷ true ∷ true ∷ true ∷ false ∷ true ∷ true ∷ []
-unfolding seed create_single_face_between_edge_and_next face_between put half_edge_in_use links_in_use half_edge_linked inner_face_rule outer_face_rule side_rule vertex_rule euler_rule all_below reaches rev
-two-fails = refl
-
 -- "An inner face is a cycle of three through its stored edge": one face of four edges
 unfoldable pub four : Links
 four = record {
@@ -120,11 +104,6 @@ four = record {
   adjacent = λ x. get_or (5 ∷ 0 ∷ []) x 0;
 }
 
-pub four-fails : rule_tests (record { vertices = 4; edges = 4; faces = 2 }) four
-    ≡ true ∷ true ∷ true ∷ true ∷ true ∷ true ∷ false ∷ true ∷ []
-unfolding four half_edge_in_use links_in_use half_edge_linked inner_face_rule outer_face_rule side_rule vertex_rule euler_rule all_below reaches rev
-four-fails = refl
-
 -- "Every vertex has an out edge": the triangle of `seed`, with an out edge of vertex 0 that starts at vertex 1
 unfoldable pub elsewhere : Links
 elsewhere = record {
@@ -135,8 +114,3 @@ elsewhere = record {
   out = λ x. get_or (2 ∷ 2 ∷ 4 ∷ []) x 0;
   adjacent = λ x. get_or (1 ∷ 0 ∷ []) x 0;
 }
-
-pub elsewhere-fails : rule_tests (record { vertices = 3; edges = 3; faces = 2 }) elsewhere
-    ≡ true ∷ true ∷ true ∷ true ∷ true ∷ true ∷ true ∷ false ∷ []
-unfolding elsewhere half_edge_in_use links_in_use half_edge_linked inner_face_rule outer_face_rule side_rule vertex_rule euler_rule all_below reaches rev
-elsewhere-fails = refl

@@ -9,15 +9,17 @@ use Rattle.mesh.specs.Mesh.{Links, In, to, turn}
 use Rattle.mesh.specs.Operations.{create_single_face_between_edge_and_next, with_face}
 use Rattle.mesh.specs.Wf.{Wf, Ranges, Linked, Vertices}
 use Rattle.mesh.specs.LinkRules.{LinkRules, FaceCycles, Wide, Sided}
-use Rattle.mesh.specs.LinkRulesWf.{link-rules, wide_of, sided-of, wf-of-links}
+use Rattle.mesh.specs.LinkRulesWf.{link-rules, wide_of, sided-of}
 use Rattle.mesh.specs.Cases.{over}
 use Rattle.mesh.specs.Frame.{Keeps, SameFace, Corners, kept-face, link-still-round}
-use Rattle.mesh.specs.Triangle.{Outer, link-outer, link-p-e, link-e-n, link-n-q, p-n, e-q, rev-in}
-use Rattle.mesh.specs.FaceBetween.{FaceBetween, face-between}
-use Rattle.sums.specs.Cases.{All, None, each}
-use Rattle.sums.specs.Half.{rev, rev-rev}
-use Rattle.sums.specs.Put.{put, put_same, put_other}
-use Rattle.sums.specs.Iterate.{Reach, reach-at, reach-one, reach-two, reach-trans, reach-by}
+use Rattle.mesh.specs.Triangle.{Outer, link-p-e, link-e-n, link-n-q, rev-in}
+use Rattle.mesh.specs.FaceBetween.{FaceBetween}
+use Rattle.sums.proofs.Cases.{All, None, each}
+use Rattle.sums.specs.Half.{rev}
+use Rattle.sums.proofs.HalfLaws.{rev-rev}
+use Rattle.sums.specs.Put.{put}
+use Rattle.sums.proofs.PutLaws.{put_same, put_other}
+use Rattle.sums.proofs.IterateLaws.{Reach, reach-at, reach-one, reach-two, reach-trans, reach-by}
 
 -- What the operation leaves, the corners of the new face, and the boundary: p, o, q in place of p, e, n, q, and the rest as it was.
 pub record SingleFaceFrame (C C' : Counts) (L L' : Links) (p e n q i o : ℕ) : Type 0 where
@@ -40,7 +42,7 @@ pub record SingleFaceFrame (C C' : Counts) (L L' : Links) (p e n q i o : ℕ) : 
   pub was : {x : ℕ} → In C' x → L'.face x ≡ 0 → (x ≡ o) ⊎ (In C x × (L.face x ≡ 0) × (x ≢ e) × (x ≢ n))
 
 -- what is below m + 2 and none of the two from m on is below m
-below : {x m i o : ℕ} → i ≡ m → o ≡ m + 1 → x < m + 2 → x ≢ i → x ≢ o → x < m
+pub below : {x m i o : ℕ} → i ≡ m → o ≡ m + 1 → x < m + 2 → x ≢ i → x ≢ o → x < m
 below p q h j k = omega arith
 
 module _ {C C' : Counts} {L L' : Links} {p e n q i o : ℕ} (W : LinkRules C L) (A : Outer C L p e n q)
@@ -233,23 +235,3 @@ module _ {C C' : Counts} {L L' : Links} {p e n q i o : ℕ} (W : LinkRules C L) 
     was = λ {x} h z. every (λ x. L'.face x ≡ 0 → (x ≡ o) ⊎ (In C x × (L.face x ≡ 0) × (x ≢ e) × (x ≢ n))) []
         (λ z. absurd (omega (arith, W.some))) (λ z. inl refl) tt (λ x h k z. let w = outer-was h z in inr (h, w.0, w.1.0, w.1.1.0)) h z;
   }
-
-module _ {C : Counts} {L : Links} (W : LinkRules C L) {e : ℕ} (h : In C e) (z : L.face e ≡ 0) (pn : L.prev e ≢ L.next e)
-    (eq : e ≢ L.next (L.next e)) (four : L.prev e ≢ L.next (L.next e)) where
-  pub single-face-is : FaceBetween C (with_face C) L (create_single_face_between_edge_and_next L C e) (L.prev e) e
-      (L.next e) (L.next (L.next e)) (2 * C.edges) (2 * C.edges + 1)
-  unfolding create_single_face_between_edge_and_next
-  single-face-is = face-between W (link-outer W h z) pn eq four
-
-module _ {C : Counts} {L : Links} (W : Wf C L) {e : ℕ} (h : In C e) (z : L.face e ≡ 0) (four : L.prev e ≢ L.next (L.next e)) where
-  pub single-face-keeps : Wf (with_face C) (create_single_face_between_edge_and_next L C e)
-  single-face-keeps =
-      let R = link-rules W in let A = link-outer R h z in let pn = p-n W A in let eq = e-q W A in
-      let F = single-face-is R h z pn eq four in
-      wf-of-links (between-keeps R A F pn eq four) (between-wide R A F pn eq four (wide_of W)) (between-sided R A F pn eq four (sided-of W))
-
-  pub single-face-frame : SingleFaceFrame C (with_face C) L (create_single_face_between_edge_and_next L C e) (L.prev e) e
-      (L.next e) (L.next (L.next e)) (2 * C.edges) (2 * C.edges + 1)
-  single-face-frame =
-      let R = link-rules W in let A = link-outer R h z in let pn = p-n W A in let eq = e-q W A in
-      between-frame R A (single-face-is R h z pn eq four) pn eq four

@@ -4,7 +4,7 @@ use Rattle.std.specs.Prelude.{ℕ, ◌+◌, ◌*◌, ◌<◌, ◌≡◌, ◌≢�
 use Rattle.mesh.specs.declared.Counts.{Counts}
 use Rattle.mesh.specs.Mesh.{Links, In, turn}
 use Rattle.sums.specs.Half.{rev}
-use Rattle.sums.specs.Iterate.{Reach}
+use Rattle.sums.proofs.IterateLaws.{Reach}
 
 -- every link names something in use
 pub record Ranges (C : Counts) (L : Links) : Type 0 where

@@ -13,15 +13,16 @@ use Rattle.dcel.specs.MeshRows.{MeshRows, links_in}
 use Rattle.dcel.specs.Rows.{Placed}
 use Rattle.mesh.specs.declared.Counts.{Counts}
 use Rattle.mesh.specs.Rules.{rules}
-use Rattle.mesh.specs.RulesWf.{rules-wf}
+use Rattle.mesh.proofs.RulesWf.{rules-wf}
 use Rattle.mesh_check.specs.declared.Checked.TheVariants.{Accepted}
-use Rattle.mesh_check.specs.Accepted.{or-false, MeshSizes, not-short-rows, RowsInLimits}
+use Rattle.mesh_check.specs.Accepted.{MeshSizes, RowsInLimits}
+use Rattle.mesh_check.proofs.AcceptedLaws.{or-false, not-short-rows}
 use Rattle.mesh_check.specs.Check.{refused, count_refused, mesh_short, first_outside, places_with, point_count, vertex_count, rows_short, range_with}
-use Rattle.mesh_check.specs.CheckLaws.{range-count, range-short, range-outside, range-accepted, count-within}
+use Rattle.mesh_check.proofs.CheckLawsFacts.{range-count, range-short, range-outside, range-accepted, count-within}
 use Rattle.mesh_check.specs.Readable.{Readable}
-use Rattle.mesh_check.specs.ReadableLaws.{readable-rows}
+use Rattle.mesh_check.proofs.ReadableLaws.{readable-rows}
 use Rattle.mesh_rules.specs.Holds.{RowsThere}
-use Rattle.sums.specs.Bit.{from-true}
+use Rattle.sums.proofs.BitLaws.{from-true}
 
 -- the sizes, where neither 1 nor 2 was answered. n: seed plus points
 pub record SizesAccepted (points : List ℤ) (C : Counts) (m : MeshRows) (n : ℕ) : Type 0 where

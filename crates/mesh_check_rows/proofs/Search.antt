@@ -12,9 +12,10 @@ use lib.IntN.{ℤ}
 use lib.ListN.{length}
 use Rattle.math.specs.declared.Point.{Point}
 use Rattle.mesh_check.specs.Check.{is_outside, first_outside, vertex_or_point, point_count}
-use Rattle.mesh_check.specs.Accepted.{vertex-is, point-is}
-use Rattle.sums.specs.Bit.{from-true}
-use Rattle.sums.specs.Bounded.{first_below, first-below-is, first-below-le, first-below-passes, first-below-before}
+use Rattle.mesh_check.proofs.AcceptedLaws.{vertex-is, point-is}
+use Rattle.sums.proofs.BitLaws.{from-true}
+use Rattle.sums.specs.Bounded.{first_below}
+use Rattle.sums.proofs.BoundedLaws.{first-below-is, first-below-le, first-below-passes, first-below-before}
 
 -- nothing below k passes
 pub record Missed (t : ℕ → Bool) (k : ℕ) : Type 0 where

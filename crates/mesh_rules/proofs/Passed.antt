@@ -10,10 +10,13 @@ use Rattle.dcel.specs.Rows.{halves_of, links_of}
 use Rattle.mesh.specs.declared.Counts.{Counts}
 use Rattle.mesh_rules.specs.Holds.{half_edge_holds, HalvesHold}
 use Rattle.mesh_rules.specs.HoldsRules.{Half, half_of}
-use Rattle.sums.specs.Bit.{is_true, is_false}
-use Rattle.sums.specs.Bounded.{all_below, all-below→, all-below←, up_to}
-use Rattle.sums.specs.Half.{rev, rev-inverse}
-use Rattle.sums.specs.Iterate.{Inverse, inverse-sym, inverse-then}
+use Rattle.sums.proofs.BitLaws.{is_true, is_false}
+use Rattle.sums.specs.Bounded.{all_below}
+use Rattle.sums.proofs.BoundedLaws.{all-below→, all-below←, up_to}
+use Rattle.sums.specs.Half.{rev}
+use Rattle.sums.proofs.HalfLaws.{rev-inverse}
+use Rattle.sums.specs.Iterate.{Inverse}
+use Rattle.sums.proofs.IterateLaws.{inverse-sym, inverse-then}
 
 -- ---- all below n, number by number
 pub passed_none : (p : ℕ → Bool) → T (all_below 0 p)

@@ -15,14 +15,15 @@ use Rattle.mesh.specs.declared.Counts.{Counts}
 use Rattle.mesh.specs.Mesh.{Links, turn}
 use Rattle.mesh.specs.Rules.{rules, every, half_edge_in_use, half_edge_linked}
 use Rattle.mesh.specs.Mesh.{Links, turn}
-use Rattle.mesh.specs.RulesWf.{each_of}
+use Rattle.mesh.proofs.RulesWf.{each_of}
 use Rattle.mesh_rules.specs.Holds.{use_tests, link_tests, has_side, half_edge_holds, vertex_holds, face_holds, inner_face_holds, outer_holds, faces_whole, vertices_whole, vertices_hold, counts_hold, all_hold, RowsThere, HalvesThere}
 use Rattle.mesh_rules.specs.HoldsRules.{based-of, wide_of, all-hold-rules}
-use Rattle.sums.specs.Bit.{is_true, from-true, and_left, and_right}
+use Rattle.sums.proofs.BitLaws.{is_true, from-true, and_left, and_right}
 use Rattle.sums.specs.Bounded.{all_below}
 use Rattle.sums.specs.Half.{rev}
 use Rattle.sums.specs.Iterate.{period_below}
-use Rattle.sums.specs.Orbits.{orbit_total, orbit-total-suc}
+use Rattle.sums.specs.Orbits.{orbit_total}
+use Rattle.sums.proofs.OrbitsLaws.{orbit-total-suc}
 
 -- ---- a half-edge
 module _ (C : Counts) (w : HalfEdgeEntry) (u : every (use_tests C w) ≡ true) where

@@ -7,9 +7,10 @@ use native.Mathlib.Decide.{dec_lt}
 use native.Mathlib.Numerals.{add-one}
 use native.Mathlib.Omega.{arith}
 use lib.Dec.{eqb}
-use Rattle.sums.specs.Bit.{eq_test}
-use Rattle.sums.specs.Bounded.{first-below-is, first-below-before}
-use Rattle.sums.specs.Iterate.{iter, iter-last, iter-below, Inverse, Period, period_below, period-is, period-le}
+use Rattle.sums.proofs.BitLaws.{eq_test}
+use Rattle.sums.proofs.BoundedLaws.{first-below-is, first-below-before}
+use Rattle.sums.specs.Iterate.{iter, Inverse, Period, period_below}
+use Rattle.sums.proofs.IterateLaws.{iter-last, iter-below, period-is, period-le}
 
 -- e is k steps from a, and the walk has not come back before
 pub record Walked (m : ℕ) (f : ℕ → ℕ) (a e k : ℕ) : Type 0 where

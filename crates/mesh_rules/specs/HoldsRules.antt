@@ -9,18 +9,23 @@ use native.Mathlib.Omega.{arith}
 use Rattle.std.proofs.Math.Dec.{T, ltb, leb, eqb, ltb→lt, eqb→eq, T_not}
 use Rattle.mesh.specs.declared.Counts.{Counts}
 use Rattle.mesh.specs.Mesh.{Links, In, turn}
-use Rattle.mesh.specs.CountsLaws.{halves-fit, faces-fit}
+use Rattle.mesh.proofs.CountsLaws.{halves-fit, faces-fit}
 use Rattle.mesh.specs.Rules.{every, half_edge_in_use, half_edge_linked, rules}
-use Rattle.mesh.specs.RulesWf.{Each, each_of, every_of, rules-wf, wf-rules}
+use Rattle.mesh.proofs.RulesWf.{Each, each_of, every_of, rules-wf, wf-rules}
 use Rattle.mesh.specs.Wf.{Ranges, Linked, Wf}
-use Rattle.mesh.specs.WfParts.{InnerFace, OuterFace, AboutVertex, next-inverse, turn-inverse, wf_of, inner-is, outer-is, about-is}
+use Rattle.mesh.specs.WfParts.{InnerFace, OuterFace, AboutVertex}
+use Rattle.mesh.proofs.WfPartsLaws.{next-inverse, turn-inverse, wf_of, inner-is, outer-is, about-is}
 use Rattle.mesh_rules.specs.Holds.{half_edge_holds, vertex_holds, face_holds, inner_face_holds, outer_holds, faces_whole, vertices_whole, vertices_hold, counts_hold, all_hold}
-use Rattle.sums.specs.Bit.{test-ext, and_left, and_right, and_both, or_cases, or_left, or_right, implies→, implies←, eq_test, ne_test}
-use Rattle.sums.specs.Bounded.{all_below, all-below→, all-below←}
+use Rattle.sums.specs.Bit.{test-ext}
+use Rattle.sums.proofs.BitLaws.{and_left, and_right, and_both, or_cases, or_left, or_right, implies→, implies←, eq_test, ne_test}
+use Rattle.sums.specs.Bounded.{all_below}
+use Rattle.sums.proofs.BoundedLaws.{all-below→, all-below←}
 use Rattle.sums.specs.Half.{rev}
-use Rattle.sums.specs.Listed.{On}
-use Rattle.sums.specs.Iterate.{iter, Reach, reach-at, reach-one, reach-two, Period, period_below, period-is, period-three, period-unique, reach-on}
-use Rattle.sums.specs.Orbits.{orbit_total, orbit-total-zero, orbit-total-suc, Classes, orbits-all, orbits-whole}
+use Rattle.sums.proofs.ListedLaws.{On}
+use Rattle.sums.specs.Iterate.{iter, Period, period_below}
+use Rattle.sums.proofs.IterateLaws.{Reach, reach-at, reach-one, reach-two, period-is, period-three, period-unique, reach-on}
+use Rattle.sums.specs.Orbits.{orbit_total, Classes}
+use Rattle.sums.proofs.OrbitsLaws.{orbit-total-zero, orbit-total-suc, orbits-all, orbits-whole}
 
 module _ (C : Counts) (L : Links) where
   abbrev E : ℕ

@@ -5,14 +5,15 @@ use Rattle.std.proofs.Common.{sym, ◌∙◌, subst}
 use Rattle.std.proofs.Math.Path.{ap}
 use Rattle.math.specs.declared.Point.{Point}
 use Rattle.math.specs.Determinant.{orient2d}
-use Rattle.math.specs.Plane.{orient2d-swap}
+use Rattle.math.proofs.Plane.{orient2d-swap}
 use Rattle.math.specs.Vector.{difference, cross_of, dot_of}
-use Rattle.sums.specs.Half.{rev, rev-rev, rev-below}
+use Rattle.sums.specs.Half.{rev}
+use Rattle.sums.proofs.HalfLaws.{rev-rev, rev-below}
 use Rattle.mesh.specs.declared.Counts.{Counts}
 use Rattle.mesh.specs.Mesh.{Links, In, to}
 use Rattle.mesh.specs.Wf.{Wf}
 use Rattle.mesh.specs.Area.{LeftTurning, at_corners}
-use Rattle.mesh.specs.LeftLaws.{left_at}
+use Rattle.mesh.proofs.LeftLaws.{left_at}
 use Rattle.outline.specs.Outline.{direction}
 use Rattle.outline.specs.VectorLaws.{cross-end, cross-along, cross-not-0}
 

@@ -4,8 +4,10 @@
 use Rattle.std.specs.Prelude.{◌≡◌, refl, ◌⊎◌, Bool, not, ◌&&◌, ℕ, zero, suc, ◌+◌, ◌<◌, ◌≤◌, T}
 use Rattle.std.proofs.Common.{subst, inl, inr, arith, T_not}
 use Rattle.std.proofs.Math.Decide.{ℕ_discrete}
-use Rattle.sums.specs.Bit.{bit, test, and_both}
-use Rattle.sums.specs.Bounded.{count, count-sole}
+use Rattle.sums.specs.Bit.{bit}
+use Rattle.sums.proofs.BitLaws.{test, and_both}
+use Rattle.sums.specs.Bounded.{count}
+use Rattle.sums.proofs.BoundedLaws.{count-sole}
 use Rattle.outline.specs.Outline.{falls}
 
 -- a test that passes at a and fails at b, later, falls in between

@@ -10,9 +10,9 @@ use Rattle.algebra.specs.Order.{lt-le}
 use Rattle.algebra.specs.Sign.{Pos, NN, ◌*⁺◌, ◌*°◌, ◌+⁺◌, ◌+°◌, weak, sq, pos-in, nn-in, lt_in, le-by, lt_by, cases, refute, eq-in, eq-by, zero°, ◌*⁰◌}
 use Rattle.math.specs.declared.Vector.{Vector}
 use Rattle.math.specs.Determinant.{Dot}
-use Rattle.math.specs.Plane.{E·, A, B, C}
+use Rattle.math.proofs.Plane.{E·, A, B, C}
 use Rattle.math.specs.Vector.{cross_of, dot_of}
-use Rattle.sums.specs.Bit.{or_cases, or_left, or_right, and_left, and_right, and_both}
+use Rattle.sums.proofs.BitLaws.{or_cases, or_left, or_right, and_left, and_right, and_both}
 use Rattle.outline.specs.Outline.{upper}
 use Rattle.outline.specs.VectorLaws.{Cross, vectors, three-signs}
 

@@ -13,14 +13,16 @@ use Rattle.math.specs.declared.Vector.{Vector}
 use Rattle.math.specs.Determinant.{orient2d}
 use Rattle.math.specs.Vector.{difference, cross_of, dot_of}
 use Rattle.sums.specs.Bit.{bit}
-use Rattle.sums.specs.Bounded.{count, count-ext}
-use Rattle.sums.specs.Iterate.{iter, iter-last, iter-keeps, sum-round, reach-on}
-use Rattle.sums.specs.Sum.{count-sum}
+use Rattle.sums.specs.Bounded.{count}
+use Rattle.sums.proofs.BoundedLaws.{count-ext}
+use Rattle.sums.specs.Iterate.{iter}
+use Rattle.sums.proofs.IterateLaws.{iter-last, iter-keeps, sum-round, reach-on}
+use Rattle.sums.proofs.SumLaws.{count-sum}
 use Rattle.mesh.specs.declared.Counts.{Counts}
 use Rattle.mesh.specs.Mesh.{Links, In, to}
 use Rattle.mesh.specs.Wf.{Wf}
 use Rattle.mesh.specs.Area.{boundary_length, hull_edge, at_corners}
-use Rattle.mesh.specs.BoundaryLaws.{next-inverse, first<, first-outer, boundary-period, outer-period}
+use Rattle.mesh.proofs.BoundaryLaws.{next-inverse, first<, first-outer, boundary-period, outer-period}
 use Rattle.convexity.specs.Convexity.{NoLeftCorner}
 use Rattle.outline.specs.Outline.{upper, falls, count_boundary, direction, falls_next, full_circles, NoneStraightBack, BoundaryHull}
 use Rattle.outline.specs.VectorLaws.{cross-along, three-signs}

@@ -6,9 +6,10 @@ use Rattle.std.proofs.Common.{sym, ◌∙◌, ap, inl, inr}
 use Rattle.algebra.specs.Ring.{◌⊕◌, ◌⊖◌, ◌⊗◌, ⊝◌, #◌, v0, v1, v2, v3}
 use Rattle.algebra.specs.Sign.{Pos, ◌*⁺◌, ◌*°◌, ◌+⁺◌, pos-in, nn-in, lt_in, le_in, lt_by, refute, eq-in, zero°, ◌*⁰◌}
 use Rattle.math.specs.declared.Vector.{Vector}
-use Rattle.math.specs.Plane.{A, B, C, D}
+use Rattle.math.proofs.Plane.{A, B, C, D}
 use Rattle.math.specs.Vector.{cross_of, dot_of}
-use Rattle.sums.specs.Bit.{bit, Tells, test-ext}
+use Rattle.sums.specs.Bit.{bit, test-ext}
+use Rattle.sums.proofs.BitLaws.{Tells}
 use Rattle.sums.specs.Bounded.{count}
 use Rattle.outline.specs.Outline.{upper, falls}
 use Rattle.outline.specs.Falls.{falls-same}

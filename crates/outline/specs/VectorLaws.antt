@@ -9,7 +9,7 @@ use Rattle.algebra.specs.Sign.{◌*⁺◌, ◌*°◌, ◌+⁺◌, ◌+°◌, sq,
 use Rattle.math.specs.declared.Point.{Point}
 use Rattle.math.specs.declared.Vector.{Vector}
 use Rattle.math.specs.Determinant.{Pt, Minus, Dot, Orient2d, orient2d}
-use Rattle.math.specs.Plane.{E·, A, B, C, D, env3}
+use Rattle.math.proofs.Plane.{E·, A, B, C, D, env3}
 use Rattle.math.specs.Vector.{difference, cross_of, dot_of}
 
 -- ---- four vectors as the solver has them

@@ -7,7 +7,7 @@ use lib.IntN.{ℤ}
 use mir.Syntax.{w32}
 use mir.Val.{SFits, of_z}
 use Rattle.math.specs.Determinant.{is_coordinate}
-use Rattle.math.specs.Position.{coordinate-bits}
+use Rattle.math.proofs.Position.{coordinate-bits}
 use Rattle.quote.specs.declared.Quote.{Quote}
 use Rattle.quote.specs.Quote.{same_quote}
 

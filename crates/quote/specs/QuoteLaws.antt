@@ -4,12 +4,13 @@ use Rattle.std.proofs.Math.Path.{refl}
 use Rattle.std.proofs.Common.{sym, ◌∙◌, subst, arith, eq-eqb, ne_eqb}
 use Rattle.std.proofs.Math.Dec.{eqb→eq, eqb_refl}
 use Rattle.math.specs.Determinant.{is_coordinate}
-use Rattle.math.specs.Position.{same-coordinate, coordinate-same}
+use Rattle.math.proofs.Position.{same-coordinate, coordinate-same}
 use Rattle.mesh_check.specs.declared.Checked.{Checked}
 use Rattle.mesh_check.specs.declared.Checked.TheVariants.{Accepted}
 use Rattle.mesh_check.specs.Check.{refused, and_then}
-use Rattle.mesh_check.specs.CheckLaws.{NumberedTo, accepts, refuses, numbered-cond}
-use Rattle.sums.specs.Bit.{is_true, and_left, and_right, and_both}
+use Rattle.mesh_check.specs.CheckLaws.{NumberedTo, accepts, refuses}
+use Rattle.mesh_check.proofs.CheckLawsFacts.{numbered-cond}
+use Rattle.sums.proofs.BitLaws.{is_true, and_left, and_right, and_both}
 use Rattle.quote.specs.declared.Quote.{Quote}
 use Rattle.quote.specs.Quote.{same_quote, check_quote, check_changes, last_change}
 

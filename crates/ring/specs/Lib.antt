@@ -7,7 +7,6 @@ pub mod Buckets
 pub mod Node
 pub mod Insert
 pub mod Inserted
-pub mod Merged
 pub mod Locate
 pub mod Build
 pub mod Stores
@@ -15,15 +14,9 @@ pub mod Free
 pub mod Grow
 pub mod Hull
 pub mod WholeInsert
-pub mod Boundary
 pub mod Center
 pub mod Covered
 pub mod Chain
 pub mod CoveredEnds
-pub mod ChainLaws
-pub mod ChainMesh
-pub mod Located
 pub mod RingOf
 pub mod Resize
-pub mod HullExample
-pub mod Examples

@@ -10,20 +10,23 @@ use lib.Dec.{T, eqb, eqb→eq}
 use lib.Ieee.{Float}
 use lib.ListN.{length, get_or, set, length-set}
 use lib.Seq.{get_or-set_same, get_or-set_other}
-use Rattle.sums.specs.Bit.{eq_test}
-use Rattle.sums.specs.Iterate.{iter, iter-last}
+use Rattle.sums.proofs.BitLaws.{eq_test}
+use Rattle.sums.specs.Iterate.{iter}
+use Rattle.sums.proofs.IterateLaws.{iter-last}
 use Rattle.angle.specs.Angle.{IsAngle, turns}
 use Rattle.segment.specs.Bucket.{width}
 use Rattle.dcel.specs.Rows.{row_of}
-use Rattle.ring.specs.Free.{Pushed, Taken, top, next_one, taken-sum}
+use Rattle.ring.specs.Free.{Pushed, Taken, top, next_one}
+use Rattle.ring.proofs.FreeLaws.{taken-sum}
 use Rattle.ring.specs.Node.{NodeTable}
 use Rattle.ring.specs.Insert.{Bucketed, Insertion}
-use Rattle.ring.specs.Resize.{adjusted_buckets, adjusted-buckets}
+use Rattle.ring.specs.Resize.{adjusted_buckets}
+use Rattle.ring.proofs.ResizeLaws.{adjusted-buckets}
 use Rattle.ring.specs.WholeInsert.{Names}
 use Rattle.ring_rows.specs.declared.Node.{Node}
 use Rattle.ring_rows.specs.declared.Hull.{Hull}
 use Rattle.ring_rows.specs.Rows.{nodes_of, angle_of, right_node_of, size_of, Updated, ToFill}
-use Rattle.ring_rows.specs.Laws.{walk-below}
+use Rattle.ring_rows.proofs.Laws.{walk-below}
 use Rattle.ring_insert.specs.Insert.{ToRelease, ReleasedTo, Rebuckets, ToAdjust, Adjusted}
 
 pub record Pushing (nodes : List Node) (old new : List ℕ) (top first : ℕ) (a : Float) (i n : ℕ) : Type 0 where

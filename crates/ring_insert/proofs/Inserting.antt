@@ -14,20 +14,23 @@ use Rattle.angle.specs.Angle.{turns}
 use Rattle.segment.specs.Arc.{holds}
 use Rattle.dcel.specs.Rows.{row_of}
 use Rattle.ring.specs.Ring.{proper, at_ends}
-use Rattle.ring.specs.Segments.{holds-first, proper→}
-use Rattle.ring.specs.Sound.{tile-sole}
-use Rattle.ring.specs.Insert.{On, all-proper, Insertion}
-use Rattle.ring.specs.Free.{Taken, taken-sum}
+use Rattle.ring.proofs.SegmentsLaws.{holds-first, proper→}
+use Rattle.ring.proofs.SoundLaws.{tile-sole}
+use Rattle.ring.specs.Insert.{On, Insertion}
+use Rattle.ring.proofs.InsertLaws.{all-proper}
+use Rattle.ring.specs.Free.{Taken}
+use Rattle.ring.proofs.FreeLaws.{taken-sum}
 use Rattle.ring.specs.WholeInsert.{Names}
 use Rattle.ring_rows.specs.declared.Node.{Node}
 use Rattle.ring_rows.specs.declared.Hull.{Hull}
-use Rattle.ring_rows.specs.Rows.{nodes_of, table_of, angle_of, right_node_of, size_of, ValidNode, ValidNodes}
+use Rattle.ring_rows.specs.Rows.{nodes_of, angle_of, right_node_of, size_of, ValidNode, ValidNodes}
+use Rattle.ring_rows.proofs.RowsLaws.{table_of}
 use Rattle.ring_rows.specs.Find.{node_holds, NodeAt}
-use Rattle.ring_rows.specs.Laws.{ring-from, walk-below}
+use Rattle.ring_rows.proofs.Laws.{ring-from, walk-below}
 use Rattle.ring_insert.specs.declared.Choice.{Choice}
 use Rattle.ring_insert.specs.Insert.{ToRelease, ReleasedTo, ToChoose, Chosen, ToPlace, ToInsert, insertion_of, place_nodes}
 use Rattle.ring_insert.specs.Retire.{ToRetire, Retired}
-use Rattle.ring_insert.specs.PlaceLaws.{valid-up, placed-valid}
+use Rattle.ring_insert.proofs.PlaceLaws.{valid-up, placed-valid}
 use Rattle.ring_insert.proofs.Freeing.{goes-names, stays-names, taken-le}
 
 -- ---- `choose`

@@ -4,3 +4,5 @@ pub mod Placing
 pub mod Deciding
 pub mod Inserting
 pub mod Retiring
+pub mod PlaceLaws
+pub mod RetireLaws

@@ -12,7 +12,7 @@ use Rattle.ring_rows.specs.declared.Node.{Node}
 use Rattle.ring_rows.specs.Rows.{nodes_of, with_edge}
 use Rattle.ring_rows.specs.Find.{no_edge}
 use Rattle.ring_insert.specs.Retire.{ToRetire, Retired}
-use Rattle.ring_insert.specs.RetireLaws.{retired-none, retired-more}
+use Rattle.ring_insert.proofs.RetireLaws.{retired-none, retired-more}
 
 pub record Retiring (old new : List Node) (freed : List ℕ) (from to k : ℕ) : Type 0 where
   pub given : ToRetire old freed from to

@@ -5,7 +5,7 @@ use Rattle.sums.specs.Put.{put}
 use Rattle.angle.specs.Angle.{IsAngle, turns}
 use Rattle.segment.specs.Bucket.{width, ceil_of}
 use Rattle.dcel.specs.Rows.{row_of}
-use Rattle.ring_rows.specs.Rows.{table_of}
+use Rattle.ring_rows.proofs.RowsLaws.{table_of}
 use Rattle.ring.specs.Insert.{On, Bucketed, Insertion}
 use Rattle.ring.specs.Free.{Free, Pushed, Taken}
 use Rattle.ring.specs.WholeInsert.{Names}

@@ -7,16 +7,18 @@ use mathlib.Core.List.{List}
 use lib.ListN.{length}
 use Rattle.angle.specs.Angle.{IsAngle, turns}
 use Rattle.segment.specs.Bucket.{width, ceil_of}
-use Rattle.sums.specs.Iterate.{iter, iter-last}
+use Rattle.sums.specs.Iterate.{iter}
+use Rattle.sums.proofs.IterateLaws.{iter-last}
 use Rattle.dcel.specs.Rows.{row_of}
 use Rattle.ring.specs.Ring.{full_turn}
 use Rattle.ring.specs.Buckets.{ceiling, within}
 use Rattle.ring.specs.Insert.{Bucketed}
-use Rattle.ring.specs.Resize.{buckets-sized}
-use Rattle.ring.specs.Build.{Filling, filling-start, filling_step, filling-done}
+use Rattle.ring.proofs.ResizeLaws.{buckets-sized}
+use Rattle.ring.specs.Build.{Filling}
+use Rattle.ring.proofs.BuildLaws.{filling-start, filling_step, filling-done}
 use Rattle.ring_rows.specs.declared.Node.{Node}
 use Rattle.ring_rows.specs.Rows.{nodes_of, angle_of, right_node_of, Updated, NodeUpdated, NodeBuckets, NodeRing, ToFill}
-use Rattle.ring_rows.specs.Laws.{walk-below}
+use Rattle.ring_rows.proofs.Laws.{walk-below}
 
 pub record Going (nodes : List Node) (old new : List ℕ) (count start size i k : ℕ) : Type 0 where
   pub given : ToFill nodes old count start size

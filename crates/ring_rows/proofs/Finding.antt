@@ -11,21 +11,22 @@ use lib.Ieee.{Float}
 use lib.ListN.{get_or, set}
 use lib.Seq.{get_or-set_other}
 use Rattle.angle.specs.Angle.{valid_angle}
-use Rattle.segment.specs.Laws.{bucket-pos}
-use Rattle.sums.specs.Iterate.{iter, iter-add, Reach}
-use Rattle.sums.specs.Tally.{tally-most}
+use Rattle.segment.proofs.Laws.{bucket-pos}
+use Rattle.sums.specs.Iterate.{iter}
+use Rattle.sums.proofs.IterateLaws.{iter-add, Reach}
+use Rattle.sums.proofs.TallyLaws.{tally-most}
 use Rattle.dcel.specs.Rows.{row_of}
 use Rattle.ring.specs.Ring.{at_ends, proper}
-use Rattle.ring.specs.Sound.{tile}
+use Rattle.ring.proofs.SoundLaws.{tile}
 use Rattle.ring.specs.Insert.{On}
-use Rattle.ring.specs.Hull.{on-to, on-any}
+use Rattle.ring.proofs.HullLaws.{on-to, on-any}
 use Rattle.ring_rows.specs.declared.Node.{Node}
 use Rattle.ring_rows.specs.declared.Hull.{Hull}
 use Rattle.ring_rows.specs.declared.Handles.{Handles}
 use Rattle.ring_rows.specs.declared.Walked.{Walked}
 use Rattle.ring_rows.specs.Rows.{nodes_of, angle_of, left_of, right_node_of, size_of}
 use Rattle.ring_rows.specs.Find.{OnRing, node_holds, NodeAt, ToFind, ToTest, ToWalk, WalkedBoth, FingerOr}
-use Rattle.ring_rows.specs.Laws.{ring-from}
+use Rattle.ring_rows.proofs.Laws.{ring-from}
 use Rattle.ring_rows.proofs.Test.{to-test}
 
 -- ---- the node of the next bucket

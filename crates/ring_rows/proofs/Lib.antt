@@ -7,3 +7,5 @@ pub mod Finding
 pub mod WalkLeft
 pub mod Range
 pub mod Filling
+pub mod Laws
+pub mod RowsLaws

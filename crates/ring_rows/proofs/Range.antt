@@ -8,7 +8,7 @@ use mathlib.Core.List.{List}
 use lib.Dec.{leb, ltb}
 use lib.ListN.{length, get_or, set, length-set}
 use lib.Seq.{get_or-set_same, get_or-set_other}
-use Rattle.sums.specs.Bit.{Tells, lt?, le?}
+use Rattle.sums.proofs.BitLaws.{Tells, lt?, le?}
 use Rattle.dcel.specs.Rows.{row_of}
 use Rattle.ring.specs.Buckets.{within}
 use Rattle.ring_rows.specs.Rows.{FilledRun, Updated}

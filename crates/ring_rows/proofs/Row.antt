@@ -4,7 +4,8 @@ use Rattle.std.proofs.Math.Decide.{ℕ_discrete}
 use Rattle.std.proofs.Math.Path.{fun_ext}
 use Rattle.std.proofs.Math.Seq.{get_or-set_same, get_or-set_other}
 use Rattle.std.proofs.lemmas.List.{get_or_default}
-use Rattle.sums.specs.Put.{put, put_same, put_other}
+use Rattle.sums.specs.Put.{put}
+use Rattle.sums.proofs.PutLaws.{put_same, put_other}
 use Rattle.ring_rows.specs.declared.Node.{Node}
 use Rattle.ring_rows.specs.Rows.{zero_node, nodes_of}
 

@@ -13,12 +13,13 @@ use Rattle.segment.specs.Arc.{holds}
 use Rattle.segment.specs.Segment.{contains_turns}
 use Rattle.segment.specs.declared.Segment.{Segment}
 use Rattle.ring.specs.Ring.{at_ends, proper}
-use Rattle.ring.specs.Segments.{proper→}
-use Rattle.ring.specs.Insert.{On, all-proper}
+use Rattle.ring.proofs.SegmentsLaws.{proper→}
+use Rattle.ring.specs.Insert.{On}
+use Rattle.ring.proofs.InsertLaws.{all-proper}
 use Rattle.ring_rows.specs.declared.Node.{Node}
 use Rattle.ring_rows.specs.Rows.{NodeRing, nodes_of, angle_of, right_node_of}
 use Rattle.ring_rows.specs.Find.{node_holds, ToTest}
-use Rattle.ring_rows.specs.Laws.{walk-below}
+use Rattle.ring_rows.proofs.Laws.{walk-below}
 
 pub to-test : (nodes : List Node) {len size s i : ℕ} {a : Float} → NodeRing (nodes_of nodes) len size s → len ≤ length nodes
     → On (right_node_of (nodes_of nodes)) size s i → T (valid_angle a) → ToTest nodes i a

@@ -5,10 +5,11 @@ use native.Mathlib.Omega.{arith}
 use mathlib.Core.Path.{◌≡◌, refl, sym, ◌∙◌, ap, subst}
 use mathlib.Core.Bool.{Bool, true, false}
 use lib.Dec.{T}
-use Rattle.sums.specs.Iterate.{iter, iter-last}
-use Rattle.sums.specs.Tally.{tally-most}
+use Rattle.sums.specs.Iterate.{iter}
+use Rattle.sums.proofs.IterateLaws.{iter-last}
+use Rattle.sums.proofs.TallyLaws.{tally-most}
 use Rattle.ring.specs.Ring.{at_ends, proper}
-use Rattle.ring.specs.Sound.{tile}
+use Rattle.ring.proofs.SoundLaws.{tile}
 use Rattle.ring.specs.Insert.{On}
 use Rattle.ring_rows.specs.declared.Node.{Node}
 use Rattle.ring_rows.specs.Rows.{NodeRing, Got, angle_of, right_node_of}

@@ -10,9 +10,10 @@ use lib.Dec.{T}
 use lib.Ieee.{Float}
 use lib.ListN.{length}
 use Rattle.angle.specs.Angle.{turns}
-use Rattle.sums.specs.Iterate.{iter, iter-last}
+use Rattle.sums.specs.Iterate.{iter}
+use Rattle.sums.proofs.IterateLaws.{iter-last}
 use Rattle.ring.specs.Insert.{On}
-use Rattle.ring.specs.Hull.{on-any}
+use Rattle.ring.proofs.HullLaws.{on-any}
 use Rattle.ring_rows.specs.declared.Node.{Node}
 use Rattle.ring_rows.specs.Rows.{nodes_of, right_node_of}
 use Rattle.ring_rows.specs.Find.{node_holds, ToTest, ToWalk, WalkedBoth}

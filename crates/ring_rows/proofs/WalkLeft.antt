@@ -8,8 +8,8 @@ use lib.Dec.{T, eqb, eqb→eq}
 use lib.Ieee.{Float}
 use lib.ListN.{length}
 use Rattle.angle.specs.Angle.{IsAngle, turns}
-use Rattle.angle.specs.Bits.{angle-valid}
-use Rattle.ring.specs.Segments.{holds-first}
+use Rattle.angle.proofs.Bits.{angle-valid}
+use Rattle.ring.proofs.SegmentsLaws.{holds-first}
 use Rattle.ring_rows.specs.declared.Node.{Node}
 use Rattle.ring_rows.specs.declared.Hull.{Hull}
 use Rattle.ring_rows.specs.Rows.{nodes_of, angle_of}

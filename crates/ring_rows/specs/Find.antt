@@ -1,6 +1,7 @@
 -- Finding the node of an angle without a count: what `find`, `find_left` and their parts ask, and what they answer. Definitions only.
 use Rattle.std.specs.Prelude.{ℕ, ◌<◌, ◌≤◌, ◌≡◌, ◌≢◌, ◌⊎◌, Bool, true, false, List, T, Float, length}
-use Rattle.sums.specs.Iterate.{iter, Reach}
+use Rattle.sums.specs.Iterate.{iter}
+use Rattle.sums.proofs.IterateLaws.{Reach}
 use Rattle.angle.specs.Angle.{IsAngle, valid_angle}
 use Rattle.segment.specs.Arc.{holds}
 use Rattle.dcel.specs.Rows.{row_of}

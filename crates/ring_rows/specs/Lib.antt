@@ -3,4 +3,3 @@
 pub mod Rows
 pub mod RingRows
 pub mod Find
-pub mod Laws

@@ -48,10 +48,6 @@ left_of t i = (t i).left
 abbrev pub right_node_of : (ℕ → Node) → ℕ → ℕ
 right_node_of t i = (t i).right
 
--- as the ring's theory has them
-abbrev pub table_of : (ℕ → Node) → NodeTable
-table_of t = record { left = left_of t; right = right_node_of t; angle = angle_of t; edge = edge_of t }
-
 -- a node in a row of which len are in use: its links stay there
 pub record ValidNode (n : Node) (len : ℕ) : Type 0 where
   pub angle : IsAngle n.angle

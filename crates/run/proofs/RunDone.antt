@@ -17,18 +17,18 @@ use Rattle.finish.specs.declared.Finished.{Finished}
 use Rattle.finish.specs.Finish.{Finishing, finished_from}
 use Rattle.finish.specs.FinishRows.{finishing_of}
 use Rattle.mesh.specs.declared.Counts.{Counts}
-use Rattle.mesh.specs.CountsLaws.{count-edges, count-faces}
+use Rattle.mesh.proofs.CountsLaws.{count-edges, count-faces}
 use Rattle.mesh.specs.Good.{Good}
 use Rattle.mesh_check.specs.declared.Checked.{Checked}
 use Rattle.mesh_check.specs.declared.Refusal.{Refusal}
 use Rattle.mesh_check.specs.Check.{point_count, vertex_count}
-use Rattle.ring_rows.specs.Laws.{zeros-same}
+use Rattle.ring_rows.proofs.Laws.{zeros-same}
 use Rattle.ring_rows.specs.RingRows.{RingRows}
 use Rattle.start.specs.StartRows.{RowsCleared}
 use Rattle.sweep.specs.Step.{Stepping, answer_of}
 use Rattle.steps.specs.declared.SweepEnd.{SweepEnd}
 use Rattle.sweep.specs.Run.{Sweeping, complete_after, completed_answers, answer_words, answer_word, answers_after, RunLent, ran_with, run_checked, sweep_of, steps_of, run_completes, run_answers, run_outcome, run_of}
-use Rattle.sweep.specs.RunLaws.{run-accepts, run-start, run-keeps}
+use Rattle.sweep.proofs.RunLaws.{run-accepts, run-start, run-keeps}
 use Rattle.steps.specs.StepsRows.{answers_below, sweeping_of, SweepLeaves}
 use Rattle.run.specs.RunWords.{vertices-most, completes-same, answers-same}
 use Rattle.answers.specs.AnswerRows.{skipped_in, Zeroed}
@@ -36,7 +36,7 @@ use Rattle.complete.specs.declared.Completed.{Completed}
 use Rattle.complete.specs.CompleteRows.{fill_word, swept_to, CompleteReady, CompleteLeaves}
 use Rattle.convexity.specs.Convexity.{convexity}
 use Rattle.skipped.specs.Fill.{Completing}
-use Rattle.sums.specs.Bounded as Bounded
+use Rattle.sums.proofs.BoundedLaws as Bounded
 
 -- ---- an outcome by its parts
 outcome-is : {r r' : FinishAnswer} {m m' : MeshRows} {g g' : RingRows} {p p' w w' : List ℕ} → r ≡ r' → m ≡ m' → g ≡ g' → p ≡ p' → w ≡ w'

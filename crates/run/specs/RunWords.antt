@@ -7,7 +7,7 @@ use native.Mathlib.Omega.{arith}
 use borrow.Author.Tests.{lt-ltb, le-ltb}
 use Rattle.answers.specs.AnswerRows.{skipped_number, skipped_in}
 use Rattle.complete.specs.CompleteRows.{fill_word}
-use Rattle.complete.specs.SameSkipped.{word_same, complete-same}
+use Rattle.complete.proofs.SameSkipped.{word_same, complete-same}
 use Rattle.dcel.specs.Rows.{position_of, row_of}
 use Rattle.decide.specs.declared.Fate.{Fate}
 use Rattle.decide.specs.declared.Fate.TheVariants.{Added, Dropped, NotLeft, Unsound, AtCenter}
@@ -16,9 +16,10 @@ use Rattle.mesh_check.specs.declared.Checked.{Checked}
 use Rattle.mesh_check.specs.Check.{point_count}
 use Rattle.skipped.specs.Fill.{Completing}
 use Rattle.sums.specs.Bit.{bit}
-use Rattle.sums.specs.Bounded.{count, count-apart, count-ext}
+use Rattle.sums.specs.Bounded.{count}
+use Rattle.sums.proofs.BoundedLaws.{count-apart, count-ext}
 use Rattle.sweep.specs.Run.{Sweeping, is_skipped, complete_after, answer_words, answer_word, answers_after, completed_answers, RunLent, run_checked, sweep_of, steps_of, skipped_of, run_completes, passed_of, run_answers}
-use Rattle.sweep.specs.RunLaws.{run-keeps, refused-is}
+use Rattle.sweep.proofs.RunLaws.{run-keeps, refused-is}
 use Rattle.sweep.specs.Step.{is_added}
 
 -- fates 3, 4 and 5 are those of skipped points

@@ -8,12 +8,12 @@ use Rattle.dcel.specs.Rows.{row_of, links_of, position_of}
 use Rattle.dcel.specs.MeshHeld.{there_out, out-in}
 use Rattle.location.specs.declared.PositionInTriangulation.{PositionInTriangulation}
 use Rattle.location.specs.declared.PositionInTriangulation.TheVariants.{OutsideOfConvexHull}
-use Rattle.location.specs.NearestLaws.{locate-search}
+use Rattle.location.proofs.NearestLaws.{locate-search}
 use Rattle.location.specs.declared.SearchState.{SearchState}
 use Rattle.location.specs.declared.SearchState.TheVariants.{Found, Onward}
 use Rattle.location.specs.Scan.{place_at_of, first_holding, first_left, scan, answer, locate_point}
 use Rattle.location.specs.Search.{nearest, search_from}
-use Rattle.location.specs.SearchLaws.{nearest-used}
+use Rattle.location.proofs.SearchLaws.{nearest-used}
 use Rattle.math.specs.declared.Point.{Point}
 use Rattle.mesh.specs.declared.Counts.{Counts}
 use Rattle.mesh.specs.Area.{hull_edge}

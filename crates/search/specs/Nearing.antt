@@ -3,16 +3,16 @@ use Rattle.std.specs.Prelude.{Bool, List, ◌≡◌, ℕ, ◌+◌, ◌*◌, ◌<
 use Rattle.std.proofs.Common.{◌∙◌, subst, arith}
 use Rattle.std.proofs.Math.Path.{ap}
 use Rattle.dcel.specs.Rows.{links_of, position_of}
-use Rattle.location.specs.HeldLaws.{some-inner}
-use Rattle.location.specs.NearestLaws.{nearest-falls}
+use Rattle.location.proofs.HeldLaws.{some-inner}
+use Rattle.location.proofs.NearestLaws.{nearest-falls}
 use Rattle.location.specs.Search.{closer, closer_count, first_closer, is_nearest, nearer, nearest}
 use Rattle.math.specs.declared.Point.{Point}
 use Rattle.math.specs.Determinant.{InRange, length2}
 use Rattle.mesh.specs.declared.Counts.{Counts}
 use Rattle.mesh.specs.Wf.{Wf}
-use Rattle.mesh.specs.BoundaryLaws.{first<}
-use Rattle.sums.specs.Bounded.{count-le}
-use Rattle.sums.specs.Until.{Falls, Going, going_start, going-turn, going_less, going_end}
+use Rattle.mesh.proofs.BoundaryLaws.{first<}
+use Rattle.sums.proofs.BoundedLaws.{count-le}
+use Rattle.sums.proofs.UntilLaws.{Falls, Going, going_start, going-turn, going_less, going_end}
 use Rattle.search.specs.declared.Closer.{Closer}
 use Rattle.search.specs.declared.Closer.TheVariants.{Vertex, Nothing}
 use Rattle.search.specs.SearchRows.{NearReady, SpokesReady, CloserIs, ready-placed}

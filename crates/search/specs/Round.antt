@@ -7,9 +7,11 @@ use Prim.Native.Nat.{ℕ, suc, ◌+◌, ◌-◌, ◌<◌, ◌≤◌}
 use Rattle.std.proofs.Math.Decide.{ℕ_discrete, dec_lt}
 use native.Mathlib.Omega.{arith}
 use Rattle.std.proofs.Math.Dec.{eqb}
-use Rattle.sums.specs.Bit.{eq_test, from-true}
-use Rattle.sums.specs.Bounded.{up_to, first_below, first-below-is, first-below-before}
-use Rattle.sums.specs.Iterate.{iter, iter-last, iter-add, iter-below, Inverse, Period, period_below, period-is, period-le, period-listed}
+use Rattle.sums.proofs.BitLaws.{eq_test, from-true}
+use Rattle.sums.specs.Bounded.{first_below}
+use Rattle.sums.proofs.BoundedLaws.{up_to, first-below-is, first-below-before}
+use Rattle.sums.specs.Iterate.{iter, Inverse, Period, period_below}
+use Rattle.sums.proofs.IterateLaws.{iter-last, iter-add, iter-below, period-is, period-le, period-listed}
 
 -- how many steps lead from a to e
 unfoldable pub steps_to : ℕ → (ℕ → ℕ) → ℕ → ℕ → ℕ

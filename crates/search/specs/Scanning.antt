@@ -10,15 +10,15 @@ use Rattle.std.specs.Int.Signed.{lt_z}
 use Rattle.dcel.specs.Rows.{halves_of, row_of, links_of, position_of, There, Placed}
 use Rattle.dcel.specs.MeshHeld.{MeshHeld, there, there-adjacent, next-in, origin-in, adjacent-in}
 use Rattle.location.specs.Scan.{holds_at, first_holding, first_left}
-use Rattle.location.specs.ScanLaws.{left-found}
+use Rattle.location.proofs.ScanLaws.{left-found}
 use Rattle.math.specs.declared.Point.{Point}
 use Rattle.math.specs.Determinant.{InRange, orient2d}
 use Rattle.mesh.specs.declared.Counts.{Counts}
 use Rattle.mesh.specs.Mesh.{In}
 use Rattle.mesh.specs.Area.{boundary_length, hull_edge}
-use Rattle.mesh.specs.BoundaryLaws.{next-inverse}
-use Rattle.sums.specs.Bit.{from-true}
-use Rattle.sums.specs.Bounded.{first-below-is}
+use Rattle.mesh.proofs.BoundaryLaws.{next-inverse}
+use Rattle.sums.proofs.BitLaws.{from-true}
+use Rattle.sums.proofs.BoundedLaws.{first-below-is}
 use Rattle.sums.specs.Half.{rev}
 use Rattle.sums.specs.Iterate.{Inverse, iter, period_below}
 use Rattle.search.specs.Round.{steps_to, Passing, first_passing, passing-start, passing-below, passing-on, passing-less, passing-hit, passing-none}

@@ -8,12 +8,13 @@ use Rattle.dcel.specs.Rows.{links_of, position_of}
 use Rattle.location.specs.declared.PositionInTriangulation.{PositionInTriangulation}
 use Rattle.location.specs.declared.SearchState.{SearchState}
 use Rattle.location.specs.declared.SearchState.TheVariants.{Found, Onward}
-use Rattle.location.specs.Place.{Sound}
+use Rattle.location.proofs.PlaceFacts.{Sound}
 use Rattle.location.specs.Search.{search_turn, ended, advance, search_from}
-use Rattle.location.specs.SearchLaws.{turn-sound}
+use Rattle.location.proofs.SearchLaws.{turn-sound}
 use Rattle.math.specs.declared.Point.{Point}
 use Rattle.mesh.specs.declared.Counts.{Counts}
-use Rattle.sums.specs.Until.{until, until-done, until-next}
+use Rattle.sums.specs.Until.{until}
+use Rattle.sums.proofs.UntilLaws.{until-done, until-next}
 use Rattle.search.specs.SearchRows.{TurnReady}
 
 -- n turns are left at e, of m from d

@@ -11,8 +11,9 @@ use Rattle.math.specs.declared.Point.{Point}
 use Rattle.math.specs.Determinant.{InRange, length2}
 use Rattle.mesh.specs.declared.Counts.{Counts}
 use Rattle.mesh.specs.Mesh.{In}
-use Rattle.mesh.specs.WfParts.{turn-inverse}
-use Rattle.sums.specs.Half.{rev, rev-rev}
+use Rattle.mesh.proofs.WfPartsLaws.{turn-inverse}
+use Rattle.sums.specs.Half.{rev}
+use Rattle.sums.proofs.HalfLaws.{rev-rev}
 use Rattle.sums.specs.Iterate.{iter, Inverse, period_below}
 use Rattle.search.specs.declared.Closer.TheVariants.{Vertex, Nothing}
 use Rattle.search.specs.Round.{steps_to, Passing, first_passing, passing-start, passing-below, passing-on, passing-less, passing-hit, passing-hit-below, passing-none}

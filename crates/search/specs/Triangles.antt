@@ -13,7 +13,7 @@ use Rattle.location.specs.Place.{area_at}
 use Rattle.location.specs.Scan.{holds_at, place_at_of}
 use Rattle.math.specs.declared.Point.{Point}
 use Rattle.math.specs.Determinant.{InRange, orient2d, is_coordinate, is_position}
-use Rattle.math.specs.Position.{coordinate-bits}
+use Rattle.math.proofs.Position.{coordinate-bits}
 use Rattle.mesh.specs.Mesh.{In}
 use Rattle.mesh.specs.Triangle.{Triangle, triangle}
 use Rattle.search.specs.declared.Corners.{Corners}

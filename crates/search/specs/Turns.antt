@@ -12,15 +12,16 @@ use Rattle.location.specs.declared.PositionInTriangulation.TheVariants.{OnVertex
 use Rattle.location.specs.declared.SearchState.{SearchState}
 use Rattle.location.specs.declared.SearchState.TheVariants.{Found, Onward}
 use Rattle.location.specs.Place.{area_at}
-use Rattle.location.specs.PlaceLaws.{area-next, area-prev}
+use Rattle.location.proofs.PlaceLaws.{area-next, area-prev}
 use Rattle.location.specs.Search.{beyond, across_edge, rotate_ccw, rotate_cw, on_line_of, by_side, search_turn}
 use Rattle.math.specs.declared.Point.{Point}
 use Rattle.math.specs.Determinant.{InRange, orient2d, is_position}
-use Rattle.math.specs.Side.{by_left, by_right, by-line}
+use Rattle.math.proofs.Side.{by_left, by_right, by-line}
 use Rattle.mesh.specs.declared.Counts.{Counts}
 use Rattle.mesh.specs.Mesh.{Links}
 use Rattle.mesh.specs.Triangle.{Triangle, triangle, rev-in}
-use Rattle.sums.specs.Half.{rev, rev-rev}
+use Rattle.sums.specs.Half.{rev}
+use Rattle.sums.proofs.HalfLaws.{rev-rev}
 use Rattle.search.specs.SearchRows.{TurnReady, EndsReady, LineReady, ready_held, ready-placed}
 
 -- ---- the line of e

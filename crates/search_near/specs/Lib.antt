@@ -1,4 +1,3 @@
 -- What the walk from near by and the test of the boundary ask and leave, and that they do.
 pub mod NearRows
-pub mod NearLaws
 pub mod BoundaryLoop

@@ -17,11 +17,12 @@ use Rattle.grow.specs.GrowRows.{growing_at, growing_of, GrowReady}
 use Rattle.hull_center.specs.HullCenter.{is_ready}
 use Rattle.hull_center_rows.specs.CenterRows.{CenterReady}
 use Rattle.line.specs.Grow.{Growing, grow_in_mesh, grow_on}
-use Rattle.line.specs.GrowLaws.{Phase, none, one, line, mesh, PointAt, grow-at, grow-keeps}
+use Rattle.line.specs.GrowLaws.{Phase, none, one, line, mesh, PointAt}
+use Rattle.line.proofs.GrowLawsFacts.{grow-at, grow-keeps}
 use Rattle.math.specs.declared.Point.{Point}
 use Rattle.mesh.specs.declared.Counts.{Counts}
 use Rattle.mesh.specs.Mesh.{Links}
-use Rattle.mesh.specs.CountsLaws.{count-edges, count-faces}
+use Rattle.mesh.proofs.CountsLaws.{count-edges, count-faces}
 use Rattle.mesh.specs.Good.{Good}
 use Rattle.sweep.specs.Run.{answer_words}
 use Rattle.seed.specs.declared.SeedEnd.{SeedEnd}

@@ -7,7 +7,7 @@ use Rattle.std.proofs.Math.Decide.{ℕ_discrete, dec_lt}
 use borrow.Author.Tests.{lt-ltb, le-ltb, eq-eqb, ne_eqb}
 use Rattle.answers.specs.AnswerRows.{with_words}
 use Rattle.bulk_load.specs.Seed.{Seeding, seed_start, seeded_by, seed_point, seed_after, grow_at, grow_word}
-use Rattle.bulk_load.specs.SeedLaws.{SeedKeeps, seed-keeps, grown-most}
+use Rattle.bulk_load.proofs.SeedLaws.{SeedKeeps, seed-keeps, grown-most}
 use Rattle.corner.specs.CornerRows.{MeshRoom}
 use Rattle.dcel.specs.MeshRows.{mesh_rows, SameLengths}
 use Rattle.dcel.specs.Rows.{links_of, position_of, row_of}

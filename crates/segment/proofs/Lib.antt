@@ -1,2 +1,3 @@
 -- What the functions' proofs cite beside the laws of specs/.
-mod Shift
+pub mod Shift
+pub mod Laws

@@ -7,7 +7,7 @@ use lib.Pow.{pow_mono, pow-lt}
 use lib.Bits.{bit_and, and_mask}
 use lib.Count.{count_leading_zeros, leading_unique}
 use Rattle.segment.specs.Bucket.{Buckets, BucketShift, width, floor_of, ceil_of}
-use Rattle.segment.specs.Laws.{bucket-digits, bucket-pos}
+use Rattle.segment.proofs.Laws.{bucket-digits, bucket-pos}
 
 -- ---- the leading zeros
 leading-pow : (i : ℕ) → i ≤ 20 → count_leading_zeros 64 (2 ^ i) ≡ 63 - i

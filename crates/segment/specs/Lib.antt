@@ -3,4 +3,3 @@
 pub mod Arc
 pub mod Segment
 pub mod Bucket
-pub mod Laws

@@ -15,12 +15,14 @@ use Rattle.math.specs.declared.Point.{Point}
 use Rattle.math.specs.Determinant.{InRange, contained_in_circumference}
 use Rattle.mesh.specs.declared.Counts.{Counts}
 use Rattle.mesh.specs.Area.{circle_at}
-use Rattle.mesh.specs.CircleLaws.{Breaks, breaks}
-use Rattle.mesh.specs.HeightLaws.{even-half, circle-half}
+use Rattle.mesh.specs.CircleLaws.{Breaks}
+use Rattle.mesh.proofs.CircleLawsFacts.{breaks}
+use Rattle.mesh.proofs.HeightLawsFacts.{even-half, circle-half}
 use Rattle.mesh.specs.Mesh.{Links, In}
 use Rattle.mesh.specs.Triangle.{triangle, rev-in}
-use Rattle.sums.specs.Bit.{is_true, is_false}
-use Rattle.sums.specs.Half.{rev, rev-rev, rev-even}
+use Rattle.sums.proofs.BitLaws.{is_true, is_false}
+use Rattle.sums.specs.Half.{rev}
+use Rattle.sums.proofs.HalfLaws.{rev-rev, rev-even}
 use Rattle.settled_test.specs.declared.Spoke.{Spoke}
 use Rattle.settled_test.specs.Spoke.{SpokeOf, FirstSpoke, broken_at}
 use Rattle.settled_test.specs.StarLaws.{Keeps}

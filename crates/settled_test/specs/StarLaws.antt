@@ -9,10 +9,11 @@ use Rattle.dcel.specs.MeshHeld.{there, out-in}
 use Rattle.mesh.specs.declared.Counts.{Counts}
 use Rattle.mesh.specs.Circle.{breaks_circle}
 use Rattle.mesh.specs.Mesh.{In, turn}
-use Rattle.mesh.specs.WfParts.{turn-inverse}
+use Rattle.mesh.proofs.WfPartsLaws.{turn-inverse}
 use Rattle.sums.specs.Half.{rev}
-use Rattle.sums.specs.Iterate.{Inverse, Period, iter, iter-last, iter-below, period-is, reach-on}
-use Rattle.sums.specs.Listed.{On}
+use Rattle.sums.specs.Iterate.{Inverse, Period, iter}
+use Rattle.sums.proofs.IterateLaws.{iter-last, iter-below, period-is, reach-on}
+use Rattle.sums.proofs.ListedLaws.{On}
 use Rattle.settled_test.specs.Star.{UnbrokenAt}
 
 -- a walk that is back after k + 1 steps has no longer period

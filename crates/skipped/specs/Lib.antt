@@ -2,14 +2,8 @@
 pub mod Insert
 pub mod LegalizeVertex
 pub mod Outside
-pub mod InsertUntouched
 pub mod InsertLaws
-pub mod Stars
 pub mod Rise
 pub mod Corners
-pub mod OutsideCorners
 pub mod Fill
 pub mod FillLaws
-pub mod CompleteLaws
-pub mod StillLaws
-pub mod InsertCorners

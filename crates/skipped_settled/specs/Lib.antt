@@ -2,5 +2,3 @@
 -- the others the laws: `TurnLaws` of one turn of legalizing, `LegalizeLaws` of `legalize_vertex`, `InsertSettled` of a point.
 pub mod SettledBut
 pub mod TurnLaws
-pub mod LegalizeLaws
-pub mod InsertSettled

@@ -8,7 +8,7 @@ use Rattle.mesh.specs.declared.Counts.{Counts}
 use Rattle.mesh.specs.Mesh.{Links, In, to}
 use Rattle.mesh.specs.Area.{circle_at}
 use Rattle.mesh.specs.Good.{Good}
-use Rattle.sums.specs.Cases.{All, None, Distinct}
+use Rattle.sums.proofs.Cases.{All, None, Distinct}
 use Rattle.sums.specs.Half.{rev}
 
 -- the half-edge e keeps the rule: a neighbour's far vertex, where both sides have one, is not strictly inside the circle of e's triangle

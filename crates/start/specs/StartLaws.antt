@@ -8,16 +8,18 @@ use Rattle.dcel.specs.MeshRows.{MeshRows, mesh_rows, links_in}
 use Rattle.dcel.specs.Rows.{row_of}
 use Rattle.decide.specs.SweepRows.{SweepRows}
 use Rattle.hull.specs.Boundary.{ToBuild}
-use Rattle.hull.specs.Build.{built-held}
+use Rattle.hull.proofs.Build.{built-held}
 use Rattle.hull.specs.Held.{FromBoundary}
-use Rattle.hull.specs.Ready.{size_is, size-asks, strict-size}
-use Rattle.locate.specs.Call.{accepted-build}
+use Rattle.hull.proofs.Ready.{size_is, size-asks, strict-size}
+use Rattle.locate.proofs.Call.{accepted-build}
 use Rattle.locate.specs.Locate.{ring_rows_short}
-use Rattle.locate.specs.Start.{RingRoom, ring-room, AcceptedStart, start-accepts, accepted-held, accepted-placed, start-numbered}
+use Rattle.locate.specs.Start.{RingRoom, AcceptedStart}
+use Rattle.locate.proofs.StartLaws.{ring-room, start-accepts, accepted-held, accepted-placed, start-numbered}
 use Rattle.mesh.specs.declared.Counts.{Counts}
 use Rattle.mesh.specs.Area.{boundary_length}
 use Rattle.mesh_check.specs.declared.Checked.TheVariants.{Accepted}
-use Rattle.mesh_check.specs.Accepted.{AcceptedWith, or-false}
+use Rattle.mesh_check.specs.Accepted.{AcceptedWith}
+use Rattle.mesh_check.proofs.AcceptedLaws.{or-false}
 use Rattle.mesh_check.specs.Check.{vertex_count}
 use Rattle.mesh_check.specs.CheckLaws.{NumberedTo}
 use Rattle.ring_rows.specs.declared.Node.{Node}

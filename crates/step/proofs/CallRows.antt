@@ -17,7 +17,7 @@ use Rattle.mesh_check.specs.declared.Refusal.{Refusal}
 use Rattle.mesh_check.specs.Check.{vertex_count, point_count}
 use Rattle.ring_rows.specs.declared.Node.{Node}
 use Rattle.ring_rows.specs.declared.Hull.{Hull}
-use Rattle.ring_rows.specs.Laws.{zeros-same}
+use Rattle.ring_rows.proofs.Laws.{zeros-same}
 use Rattle.ring_rows.specs.RingRows.{RingRows, ring_rows}
 use Rattle.start.specs.Start.{point_row, sweep_checked}
 use Rattle.start.specs.StartLaws.{AcceptedSweep, sweep-accepts}

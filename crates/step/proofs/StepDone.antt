@@ -11,7 +11,7 @@ use lib.IntN.{ℤ}
 use lib.ListN.{length}
 use Rattle.angle.specs.Angle.{angle_about, turns}
 use Rattle.apply.specs.Apply.{Applied, add_turns}
-use Rattle.apply.specs.ApplyLaws.{add-good, add-counts}
+use Rattle.apply.proofs.ApplyLaws.{add-good, add-counts}
 use Rattle.apply.specs.ApplyRows.{AddReady, applied_of}
 use Rattle.apply.specs.Walks.{Before}
 use Rattle.apply.specs.declared.Entered.{Entered}
@@ -27,7 +27,7 @@ use Rattle.decide.specs.declared.Fate.{Fate}
 use Rattle.decide.specs.declared.Fate.TheVariants.{Added as AddedFate}
 use Rattle.decide.specs.Decide.{Decided, decided}
 use Rattle.decide.specs.SweepRows.{SweepRows, ToDecide, ChainAngles, Decides}
-use Rattle.decide.specs.SweepRowsLaws.{sweep_sound}
+use Rattle.decide.proofs.SweepRowsLaws.{sweep_sound}
 use Rattle.hull.specs.EntersRing.{EntersRing, ToEnterRing, EnteredRing}
 use Rattle.hull.specs.Held.{Held}
 use Rattle.math.specs.declared.Point.{Point}
@@ -40,16 +40,18 @@ use Rattle.hull.specs.Insert.{Change}
 use Rattle.ring.specs.Ring.{edge_angle, located}
 use Rattle.ring.specs.Center.{turns_about}
 use Rattle.ring.specs.Chain.{left_chain, right_chain, chain_start, chain_length}
-use Rattle.ring.specs.ChainMesh.{start-walk}
+use Rattle.ring.proofs.ChainMesh.{start-walk}
 use Rattle.ring_rows.specs.declared.Node.{Node}
 use Rattle.ring_rows.specs.declared.Hull.{Hull}
 use Rattle.ring_rows.specs.RingRows.{ring_rows}
-use Rattle.sums.specs.Iterate.{iter, iter-add}
+use Rattle.sums.specs.Iterate.{iter}
+use Rattle.sums.proofs.IterateLaws.{iter-add}
 use Rattle.sums.specs.Put.{put}
 use Rattle.step.specs.declared.Progress.{Progress}
-use Rattle.sweep.specs.Fates.{IsAdded, is-added}
+use Rattle.sweep.proofs.Fates.{IsAdded, is-added}
 use Rattle.sweep.specs.Step.{Stepping, is_added, left_alone_of, step_mesh}
-use Rattle.sweep.specs.StepMesh.{Swept, step-before, step_added, step-alone, added_of, added-swept}
+use Rattle.sweep.specs.StepMesh.{Swept}
+use Rattle.sweep.proofs.StepMeshLaws.{step-before, step_added, step-alone, added_of, added-swept}
 use Rattle.step.specs.StepRing.{chain-end, step-change}
 use Rattle.step.specs.StepRows.{progress_of, stepping_of, StepRoom, StepReady, StepLeaves, PointReady, PointAdded}
 

@@ -4,7 +4,7 @@ use Rattle.std.specs.Prelude.{false, ◌≡◌, refl, ℕ, suc, ◌+◌, ◌-◌
 use Rattle.std.proofs.Common.{sym, ◌∙◌, ap, subst, arith}
 use Rattle.angle.specs.Angle.{angle_about, turns}
 use Rattle.apply.specs.Apply.{Applied, add_turns}
-use Rattle.apply.specs.ApplyLaws.{add-good, add-covered}
+use Rattle.apply.proofs.ApplyLaws.{add-good, add-covered}
 use Rattle.decide.specs.declared.Fate.TheVariants.{Added}
 use Rattle.decide.specs.Decide.{decided}
 use Rattle.hull.specs.Insert.{Change}
@@ -15,15 +15,17 @@ use Rattle.mesh.specs.Mesh.{Links}
 use Rattle.mesh.specs.Area.{boundary_length}
 use Rattle.ring.specs.Ring.{full_turn, at_ends, edge_angle, located}
 use Rattle.ring.specs.Sound.{Sound}
-use Rattle.ring.specs.Splice.{sound-fit}
-use Rattle.ring.specs.Boundary.{located-holds, sound-outer}
+use Rattle.ring.proofs.SpliceLaws.{sound-fit}
+use Rattle.ring.proofs.Boundary.{located-holds, sound-outer}
 use Rattle.ring.specs.Center.{turns_about}
 use Rattle.ring.specs.Chain.{left_chain, right_chain, chain_start, chain_length}
-use Rattle.ring.specs.ChainMesh.{before-walk, start-walk, chain-short}
+use Rattle.ring.proofs.ChainMesh.{before-walk, start-walk, chain-short}
 use Rattle.segment.specs.Arc.{holds}
-use Rattle.sums.specs.Iterate.{iter, iter-add}
+use Rattle.sums.specs.Iterate.{iter}
+use Rattle.sums.proofs.IterateLaws.{iter-add}
 use Rattle.sums.specs.Put.{put}
-use Rattle.sweep.specs.StepMesh.{Swept, step-before, added-swept}
+use Rattle.sweep.specs.StepMesh.{Swept}
+use Rattle.sweep.proofs.StepMeshLaws.{step-before, added-swept}
 
 module _ {cx cy : Float} {C : Counts} {L : Links} {p : ℕ
     → Point} (S : Swept cx cy C L p) {v : Point} (i : InRange v) {n : ℕ} (f : (decided cx cy C L p v).fate ≡ Added n) (room : ℕ) where

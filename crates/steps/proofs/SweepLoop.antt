@@ -16,7 +16,7 @@ use lib.ListN.{length}
 use Rattle.dcel.specs.MeshRows.{mesh_rows}
 use Rattle.dcel.specs.Rows.{links_of, position_of, row_of}
 use Rattle.decide.specs.SweepRows.{SweepRows}
-use Rattle.decide.specs.SweepRowsLaws.{sweep_sound}
+use Rattle.decide.proofs.SweepRowsLaws.{sweep_sound}
 use Rattle.math.specs.declared.Point.{Point}
 use Rattle.mesh.specs.declared.Counts.{Counts}
 use Rattle.mesh.specs.Mesh.{Links}
@@ -28,7 +28,7 @@ use Rattle.sweep.specs.Step.{Stepping, answer_of, step_mesh}
 use Rattle.sweep.specs.StepMesh.{Swept}
 use Rattle.step.specs.StepRows.{stepping_of, StepRoom, StepReady, StepLeaves}
 use Rattle.sweep.specs.Run.{Sweeping, sweep_after, step_at, answer_words, answer_word}
-use Rattle.sweep.specs.SweepLaws.{sweep-point, sweep-stays, sweep-keeps}
+use Rattle.sweep.proofs.SweepLawsFacts.{sweep-point, sweep-stays, sweep-keeps}
 use Rattle.answers.specs.AnswerRows.{with_words}
 use Rattle.steps.specs.StepsRows.{answers_below, sweeping_of, SweepReady, SweepLeaves}
 

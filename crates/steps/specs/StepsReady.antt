@@ -11,7 +11,7 @@ use Rattle.ring_rows.specs.declared.Hull.{Hull}
 use Rattle.start.specs.Start.{sweep_checked}
 use Rattle.start.specs.StartRows.{ToStart, Started}
 use Rattle.sweep.specs.Run.{answer_words, RunLent, run_checked}
-use Rattle.sweep.specs.RunLaws.{run-accepts, run-start}
+use Rattle.sweep.proofs.RunLaws.{run-accepts, run-start}
 use Rattle.steps.specs.StepsRows.{SweepReady}
 
 -- the checks, with the test of the answers row

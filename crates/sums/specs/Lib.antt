@@ -1,15 +1,11 @@
 pub mod Bit
 pub mod Put
-pub mod Cases
 pub mod Bounded
 pub mod Listed
 pub mod Sum
-pub mod SumSign
 pub mod Iterate
 pub mod Half
-pub mod Store
 pub mod Tally
 pub mod Until
 pub mod Usage
 pub mod Orbits
-pub mod Round

@@ -1,15 +1,6 @@
 pub mod PutEach
-pub mod Stages
 pub mod Surface
 pub mod StoredHeights
-pub mod StoredLaws
 pub mod StoreReady
 pub mod SurfaceLaws
-pub mod PointHeights
-pub mod FinishCases
-pub mod RunAnswers
-pub mod RunRefused
-pub mod RunHeights
-pub mod RunVertices
 pub mod CarriedHeights
-pub mod SurfaceRunLaws

@@ -17,7 +17,7 @@ use Rattle.mesh.specs.declared.Counts.{Counts}
 use Rattle.mesh_check.specs.declared.Checked.{Checked}
 use Rattle.mesh_check.specs.Check.{vertex_count}
 use Rattle.start.specs.Start.{point_row, sweep_rows_short}
-use Rattle.sums.specs.Bit.{from-true}
+use Rattle.sums.proofs.BitLaws.{from-true}
 use Rattle.sums.specs.Put.{put}
 use Rattle.surface.specs.PutEach.{put_each}
 use Rattle.surface.specs.StoreReady.{FateRoom, FatesRoom, StoreReady}

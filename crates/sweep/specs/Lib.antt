@@ -3,7 +3,6 @@
 -- `StepCallLaws` what a call of `step` comes to, `SweepLaws` what all steps keep, `RunAnswers` the words of a run's answers, `RunLaws` demand 3 for every seed, centre and list of points.
 pub mod Step
 pub mod StepCall
-pub mod Fates
 pub mod StepMesh
 pub mod SoundRing
 pub mod StepCallLaws
@@ -11,6 +10,3 @@ pub mod Run
 pub mod SeedTriangle
 pub mod SweepLaws
 pub mod Demand3
-pub mod RunFates
-pub mod RunAnswers
-pub mod RunLaws

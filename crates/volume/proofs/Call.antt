@@ -14,7 +14,7 @@ use Rattle.heights.specs.Heights.{surface_rows, height_of, is_valid_height, surf
 use Rattle.int128.specs.declared.Int128.{Int128}
 use Rattle.int128.specs.CubicMetres.{cubic_metres_of}
 use Rattle.int128.specs.Int128.{int128_of}
-use Rattle.int128.specs.Int128Laws.{halves_are}
+use Rattle.int128.proofs.Int128LawsFacts.{halves_are}
 use Rattle.mesh.specs.declared.Counts.{Counts}
 use Rattle.mesh_check.specs.declared.Checked.{Checked}
 use Rattle.mesh_check.specs.declared.Refusal.{Refusal}
@@ -23,7 +23,7 @@ use Rattle.volume.specs.declared.Measured.{Measured}
 use Rattle.volume.specs.declared.Volumes.{Volumes}
 use Rattle.volume.specs.DigitSums.{whole_of, SmallSums}
 use Rattle.volume.specs.Measurable.{Measurable, face_sums}
-use Rattle.volume.specs.MeasurableLaws.{faces-small, faces-whole, checked-measurable}
+use Rattle.volume.proofs.MeasurableLaws.{faces-small, faces-whole, checked-measurable}
 use Rattle.volume.specs.Volume.{six_volumes_of, volumes_of, measured_of, volume_of}
 
 -- ---- the sums r over all faces, and the number n that they make up

@@ -14,7 +14,7 @@ use Rattle.algebra.specs.Bound.{Env, []ᵉ, ◌∷ᵉ◌, within, small-fits, sm
 use Rattle.int128.specs.Int128.{Fits128}
 use Rattle.volume.specs.declared.DigitSums.{DigitSums}
 use Rattle.volume.specs.DigitSums.{plus_triangle, whole_of, SmallProduct, SmallTriangle, SmallSums}
-use Rattle.volume.specs.DigitSumsLaws.{digits-small}
+use Rattle.volume.proofs.DigitSumsLaws.{digits-small}
 
 -- a number as the machine reads it
 abbrev pub rd : ℤ → ℤ

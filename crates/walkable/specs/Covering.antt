@@ -10,7 +10,3 @@ use Rattle.covering.specs.Crossing.{edge_crossing}
 -- how the boundary does, along next
 abbrev pub boundary_crossings : Counts → Links → (ℕ → Point) → Point → ℤ
 boundary_crossings C L p q = boundary_circulation C L (edge_crossing L p q)
-
--- q is strictly inside the triangle of e
-abbrev pub InsideAt : Links → (ℕ → Point) → Point → ℕ → Type 0
-InsideAt L p q e = Inside (p (L.origin e)) (p (to L e)) (p (L.origin (L.prev e))) q

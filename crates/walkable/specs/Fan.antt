@@ -6,9 +6,6 @@ use Rattle.math.specs.Vector.{difference}
 use Rattle.mesh.specs.declared.Counts.{Counts}
 use Rattle.mesh.specs.Mesh.{Links, In, to}
 
-abbrev pub spoke : Links → (ℕ → Point) → ℕ → Vector
-spoke L p e = difference (p (to L e)) (p (L.origin e))
-
 -- no out half-edge of v is on the boundary
 pub record Inner (C : Counts) (L : Links) (v : ℕ) : Type 0 where
   pub inner : {e : ℕ} → In C e → L.origin e ≡ v → 0 < L.face e

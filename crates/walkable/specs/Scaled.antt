@@ -22,10 +22,6 @@ inward z a b c = record { x = pos 2 *ℤ a.x +ℤ b.x +ℤ c.x -ℤ pos 4 *ℤ z
 abbrev pub inward_at : Links → (ℕ → Point) → Point → ℕ → Vector
 inward_at L p z x = inward z (p (L.origin x)) (p (to L x)) (p (L.origin (L.prev x)))
 
--- how much to enlarge, beside numbers up to n
-abbrev pub large : ℕ → ℤ
-large n = pos n +ℤ pos 4
-
 -- the boundary, however enlarged, goes round no point twice: the ray to the east crosses it from above at most once more than from below
 pub record WindsOnce (C : Counts) (L : Links) (p : ℕ → Point) : Type 0 where
   pub once : (K : ℤ) → pos 0 <ℤ K → (q : Point) → negsuc 0 ≤ℤ boundary_crossings C L (λ v. scale K (p v)) q

@@ -20,16 +20,18 @@ use Rattle.ring.specs.declared.Side.TheVariants.{Left, Right}
 use Rattle.ring.specs.Ring.{proper}
 use Rattle.ring.specs.Center.{turns_about}
 use Rattle.ring.specs.Chain.{behind, covered_if}
-use Rattle.ring.specs.Segments.{proper→, proper←}
-use Rattle.sums.specs.Bit.{bit, from-true, from_false}
-use Rattle.sums.specs.Bounded.{up_to}
+use Rattle.ring.proofs.SegmentsLaws.{proper→, proper←}
+use Rattle.sums.specs.Bit.{bit}
+use Rattle.sums.proofs.BitLaws.{from-true, from_false}
+use Rattle.sums.proofs.BoundedLaws.{up_to}
 use Rattle.sums.specs.Half.{rev}
-use Rattle.sums.specs.Iterate.{iter-last}
-use Rattle.sums.specs.Tally.{tally, tally-last, tally-most, walk}
+use Rattle.sums.proofs.IterateLaws.{iter-last}
+use Rattle.sums.specs.Tally.{tally, walk}
+use Rattle.sums.proofs.TallyLaws.{tally-last, tally-most}
 use Rattle.walks.specs.declared.BoundaryVertex.{BoundaryVertex}
 use Rattle.walks.specs.declared.WalkEnd.{WalkEnd}
 use Rattle.walks.specs.Walks.{origin_position, OriginIn, EdgeAbout, VertexAt, ToCover, cover_test, ToExtend, Extended}
-use Rattle.walks.specs.WalkLaws.{to_read, read_at}
+use Rattle.walks.proofs.WalkLaws.{to_read, read_at}
 use Rattle.walks.specs.Walks.{walk_test, walk_step, walk_edge, near_half, far_half, has_node, ToWalk, WalkedTo}
 
 one : (k : ℕ) → suc k ≡ k + 1

@@ -1,3 +1,2 @@
 -- `Walks` has what the contracts ask and give, `WalkLaws` the laws.
 pub mod Walks
-pub mod WalkLaws

@@ -1,7 +1,7 @@
 -- A vertex that is not at a valid centre is what `pseudo_angle` asks for (`about-apart`).
 use Rattle.std.proofs.Common.{to_z-of_z}
 use Rattle.angle.specs.Angle.{angle_about}
-use Rattle.angle.specs.Center.{about-apart}
+use Rattle.angle.proofs.Center.{about-apart}
 use Rattle.angle.proofs.angle_about.Goals as goal
 
 pub pseudo_angle-requires : goal.pseudo_angle-requires

@@ -1,5 +1,5 @@
 -- `angle::at_most` meets its contract, by the law `angle-le` of `specs/Laws.antt`. Assumes nothing.
-use Rattle.angle.specs.Laws.{angle-le}
+use Rattle.angle.proofs.Laws.{angle-le}
 use Rattle.angle.proofs.at_most.Goals as goal
 
 pub returns : goal.returns

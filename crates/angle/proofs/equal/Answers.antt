@@ -1,5 +1,5 @@
 -- `angle::equal` meets its contract, by the law `angle-eq` of `specs/Laws.antt`. Assumes nothing.
-use Rattle.angle.specs.Laws.{angle-eq}
+use Rattle.angle.proofs.Laws.{angle-eq}
 use Rattle.angle.proofs.equal.Goals as goal
 
 pub returns : goal.returns

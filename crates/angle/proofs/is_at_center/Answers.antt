@@ -1,6 +1,6 @@
 -- `==` on the floats says whether the numbers are equal (`center-is`).
 use Rattle.std.proofs.Common.{to_z-of_z}
-use Rattle.angle.specs.Center.{center-is}
+use Rattle.angle.proofs.Center.{center-is}
 use Rattle.angle.proofs.Tests.{and_right, and_left}
 use Rattle.angle.proofs.is_at_center.Goals as goal
 

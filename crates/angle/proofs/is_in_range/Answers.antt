@@ -1,6 +1,6 @@
 -- `angle::is_in_range` meets its contract, by the law `bounded-is`. Assumes nothing.
 use lib.Ieee.{of_bits, neg, le}
-use Rattle.angle.specs.Center.{bounded-is, least, most}
+use Rattle.angle.proofs.Center.{bounded-is, least, most}
 use Rattle.angle.proofs.Tests.{and_right, and_left}
 use Rattle.angle.proofs.is_in_range.Goals as goal
 

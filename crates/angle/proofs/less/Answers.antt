@@ -1,5 +1,5 @@
 -- `angle::less` meets its contract, by the law `angle-lt` of `specs/Laws.antt`. Assumes nothing.
-use Rattle.angle.specs.Laws.{angle-lt}
+use Rattle.angle.proofs.Laws.{angle-lt}
 use Rattle.angle.proofs.less.Goals as goal
 
 pub returns : goal.returns

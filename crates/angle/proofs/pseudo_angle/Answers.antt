@@ -3,7 +3,7 @@ use Rattle.std.proofs.Common.{sym, subst}
 use Rattle.std.proofs.lemmas.Float.{T_from_true}
 use Rattle.std.specs.Float.Ieee.{of_bits}
 use Rattle.angle.specs.Angle.{pseudo_angle, of_diff, slope, IsAngle}
-use Rattle.angle.specs.Laws.{pseudo-is-angle}
+use Rattle.angle.proofs.Laws.{pseudo-is-angle}
 use Rattle.angle.proofs.pseudo_angle.Goals as goal
 use Rattle.angle.proofs.pseudo_angle.Goals.{then-y, else-y}
 

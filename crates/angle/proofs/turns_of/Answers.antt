@@ -6,7 +6,7 @@ use native.Mathlib.Omega.{arith}
 use lib.Bits.{bit_and, and_mask}
 use lib.Ieee.{binary64, to_bits}
 use Rattle.angle.specs.Angle.{turns}
-use Rattle.angle.specs.Bits.{Read, valid-read, valid-no-nan, valid-small}
+use Rattle.angle.proofs.Bits.{Read, valid-read, valid-no-nan, valid-small}
 use Rattle.angle.proofs.turns_of.Goals as goal
 
 field : (n : ℕ) → bit_and (n / 4503599627370496) 2047 ≡ n / 4503599627370496 % 2048

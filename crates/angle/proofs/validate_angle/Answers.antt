@@ -1,7 +1,7 @@
 -- `angle::validate_angle` meets its contract, by the law `valid-is`. Assumes nothing.
 use lib.Ieee.{of_bits, le}
 use Rattle.angle.specs.Angle.{zero64, one64}
-use Rattle.angle.specs.Valid.{valid-is}
+use Rattle.angle.proofs.Valid.{valid-is}
 use Rattle.angle.proofs.Tests.{and_right, and_left}
 use Rattle.angle.proofs.validate_angle.Goals as goal
 

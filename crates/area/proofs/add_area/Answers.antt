@@ -5,7 +5,7 @@ use borrow.Author.Rules.{rules}
 use lib.IntN.{ℤ, ◌+ℤ◌}
 use mir.Facts.{to_z-of_z}
 use Rattle.int128.specs.Int128.{int128_of}
-use Rattle.int128.specs.Int128Laws.{halves_are}
+use Rattle.int128.proofs.Int128LawsFacts.{halves_are}
 use Rattle.area.proofs.add_area.Goals as goal
 
 pub add-requires : goal.add-requires

@@ -1,7 +1,7 @@
 -- `area::area_total` meets its contract. Assumes nothing.
 use mathlib.Core.Path.{sym, ◌∙◌}
 use borrow.Author.Rules.{rules}
-use Rattle.area.specs.AreaTotalLaws.{checked-summable, refused-area, accepted-area}
+use Rattle.area.proofs.AreaTotalLaws.{checked-summable, refused-area, accepted-area}
 use Rattle.area.proofs.area_total.Goals as goal
 
 pub sum_areas-requires : goal.sum_areas-requires

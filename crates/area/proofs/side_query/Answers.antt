@@ -5,7 +5,7 @@ use borrow.Author.Rules.{rules, sfits_of}
 use mir.Facts.{to_z-of_z}
 use Rattle.mesh_check.specs.Check.{is_outside}
 use Rattle.area.specs.declared.Sided.{Sided}
-use Rattle.area.specs.SideQueryLaws.{inside, first-outside, second-outside, third-outside, none-outside}
+use Rattle.area.proofs.SideQueryLaws.{inside, first-outside, second-outside, third-outside, none-outside}
 use mir.Syntax.{w64}
 use Rattle.area.proofs.side_query.Goals as goal
 

@@ -6,7 +6,7 @@ use native.Mathlib.Nat.{lt_of_lt_of_le}
 use native.Mathlib.Omega.{arith}
 use borrow.Author.Rules.{sfits_of}
 use Rattle.int128.specs.Int128.{in_halves}
-use Rattle.mesh_check.specs.ReadableLaws.{corners-of}
+use Rattle.mesh_check.proofs.ReadableLaws.{corners-of}
 use Rattle.area.specs.Summable.{areas_to}
 use Rattle.area.proofs.Loop.{no-area, more-fits, next-area, all-areas}
 use Rattle.area.proofs.sum_areas.Given as goal

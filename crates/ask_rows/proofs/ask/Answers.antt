@@ -1,7 +1,7 @@
 -- `ask_rows::ask` meets its contract. Assumes nothing.
 use mathlib.Core.Path.{sym, ◌∙◌}
 use mir.Facts.{to_z-of_z}
-use Rattle.ask.specs.AskLaws.{ask-start, asked-refused, asked-quoted}
+use Rattle.ask.proofs.AskLaws.{ask-start, asked-refused, asked-quoted}
 use borrow.Author.Rules.{rules}
 use Rattle.ask_rows.proofs.ask.Goals as goal
 

@@ -1,7 +1,7 @@
 -- `ask_rows::check_ask` meets its contract. Assumes nothing.
 use mathlib.Core.Path.{sym, ◌∙◌}
 use mir.Facts.{to_z-of_z}
-use Rattle.ask.specs.AskLaws.{ask-refused, ask-changes}
+use Rattle.ask.proofs.AskLaws.{ask-refused, ask-changes}
 use borrow.Author.Rules.{rules}
 use Rattle.ask_rows.proofs.check_ask.Goals as goal
 

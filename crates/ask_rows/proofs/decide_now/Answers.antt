@@ -1,9 +1,9 @@
 -- `ask_rows::decide_now` meets its contract. Assumes nothing.
 use borrow.Author.Rules.{rules, sfits_of}
 use mir.Facts.{to_z-of_z}
-use Rattle.decide.specs.VertexAngles.{carried, at-center}
+use Rattle.decide.proofs.VertexAngles.{carried, at-center}
 use Rattle.start.specs.StartLaws.{started-face, started-size}
-use Rattle.ask.specs.AskRowsLaws.{quote-center, quote-boundary, found-angled, next-angled}
+use Rattle.ask.proofs.AskRowsLaws.{quote-center, quote-boundary, found-angled, next-angled}
 use Rattle.ask_rows.proofs.Deciding.{asks_at, at-located}
 use Rattle.ask_rows.proofs.decide_now.Goals as goal
 

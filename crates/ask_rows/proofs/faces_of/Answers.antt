@@ -1,7 +1,7 @@
 -- `ask_rows::faces_of` meets its contract. Assumes nothing.
 use mathlib.Core.Path.{sym, ◌∙◌}
 use Rattle.ask.specs.Ask.{faces_of}
-use Rattle.ask.specs.AskLaws.{added-number, other-number}
+use Rattle.ask.proofs.AskLaws.{added-number, other-number}
 use borrow.Author.Rules.{rules}
 use Rattle.ask_rows.proofs.faces_of.Goals as goal
 

@@ -3,7 +3,7 @@ use borrow.Author.Rules.{rules}
 use borrow.Author.Tests.{eq-eqb}
 use mathlib.Core.Bool.{false≢true}
 use mathlib.Core.Path.{sym, ◌∙◌}
-use Rattle.angle.specs.Bits.{angle-valid}
+use Rattle.angle.proofs.Bits.{angle-valid}
 use Rattle.ask_rows.proofs.Look.{equal-none}
 use Rattle.ask_rows.proofs.holds.Goals as goal
 

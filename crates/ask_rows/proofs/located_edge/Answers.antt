@@ -4,7 +4,7 @@ use mathlib.Core.Path.{refl}
 use Prim.Native.Nat.{◌-◌}
 use native.Mathlib.Omega.{arith}
 use Rattle.angle.specs.Angle.{turns}
-use Rattle.hull.specs.Along.{angled}
+use Rattle.hull.proofs.Along.{angled}
 use Rattle.ask_rows.proofs.Look.{Looking, there, next-angled, found, looking, not_found}
 use Rattle.ask_rows.proofs.located_edge.Goals as goal
 

@@ -1,7 +1,7 @@
 -- `commit::check_commit` meets its contract. Assumes nothing.
 use mathlib.Core.Path.{sym, ◌∙◌}
 use mir.Facts.{to_z-of_z}
-use Rattle.ask.specs.AskLaws.{point-accepts}
+use Rattle.ask.proofs.AskLaws.{point-accepts}
 use Rattle.commit.specs.CommitParts.{commit-point-refused, commit-point-accepted}
 use borrow.Author.Rules.{rules}
 use Rattle.commit.proofs.check_commit.Goals as goal

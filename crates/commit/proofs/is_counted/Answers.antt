@@ -2,7 +2,7 @@
 use mathlib.Core.Path.{sym, ◌∙◌, ap}
 use Prim.Native.Nat.{ℕ}
 use lib.Dec.{eqb}
-use Rattle.sweep.specs.Fates.{number-added}
+use Rattle.sweep.proofs.Fates.{number-added}
 use Rattle.commit.specs.Commit.{is_counted}
 use borrow.Author.Rules.{rules}
 use Rattle.commit.proofs.is_counted.Goals as goal

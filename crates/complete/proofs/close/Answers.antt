@@ -1,6 +1,6 @@
 -- `complete::close` meets its contract. Assumes nothing.
 use mathlib.Core.Path.{refl}
-use Rattle.complete.specs.CloseLaws.{close-refused, close-made}
+use Rattle.complete.proofs.CloseLaws.{close-refused, close-made}
 use borrow.Author.Rules.{rules}
 use Rattle.complete.proofs.close.Goals as goal
 

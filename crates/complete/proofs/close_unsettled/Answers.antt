@@ -1,7 +1,7 @@
 -- `complete::close_unsettled` meets its contract. Assumes nothing.
 use borrow.Author.Rules.{rules}
-use Rattle.sums.specs.Bit.{from-true}
-use Rattle.complete.specs.SettledLaws.{closing-left-out}
+use Rattle.sums.proofs.BitLaws.{from-true}
+use Rattle.complete.proofs.SettledLaws.{closing-left-out}
 use Rattle.complete.proofs.close_unsettled.Goals as goal
 
 pub returns-then-settled : goal.returns-then-settled

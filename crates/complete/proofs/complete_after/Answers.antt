@@ -2,9 +2,9 @@
 use borrow.Author.Rules.{rules}
 use mathlib.Core.Path.{◌∙◌}
 use native.Mathlib.Omega.{arith}
-use Rattle.complete.specs.CompleteLaws.{refused-before, passes-ready, refused-in, fill-ready, zeros-ready, closed_after}
-use Rattle.complete.specs.FillLoop.{filled-rows}
-use Rattle.complete.specs.NearLaws.{to-prepare}
+use Rattle.complete.proofs.CompleteLaws.{refused-before, passes-ready, refused-in, fill-ready, zeros-ready, closed_after}
+use Rattle.complete.proofs.FillLoopLaws.{filled-rows}
+use Rattle.complete.proofs.NearLaws.{to-prepare}
 use Rattle.complete.proofs.complete_after.Goals as goal
 
 pub returns-then-full : goal.returns-then-full

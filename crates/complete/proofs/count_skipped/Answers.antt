@@ -4,7 +4,7 @@ use Prim.Native.Nat.{◌-◌, ◌≤◌}
 use native.Mathlib.Omega.{arith}
 use borrow.Author.Rules.{rules}
 use Rattle.complete.specs.CompleteRows.{NoneSkipped}
-use Rattle.complete.specs.NoneLaws.{none_more}
+use Rattle.complete.proofs.NoneLaws.{none_more}
 use Rattle.complete.proofs.count_skipped.Goals as goal
 
 pub loop-i-init : goal.loop-i-init

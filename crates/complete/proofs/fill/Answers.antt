@@ -1,7 +1,7 @@
 -- `complete::fill` meets its contract. Assumes nothing.
 use borrow.Author.Rules.{rules}
-use Rattle.sums.specs.Bit.{from-true}
-use Rattle.complete.specs.NoneLaws.{none_filled}
+use Rattle.sums.proofs.BitLaws.{from-true}
+use Rattle.complete.proofs.NoneLaws.{none_filled}
 use Rattle.complete.proofs.fill.Goals as goal
 
 pub returns-then-near : goal.returns-then-near

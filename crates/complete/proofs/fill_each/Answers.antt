@@ -6,9 +6,10 @@ use lib.Dec.{T}
 use lib.ListN.{length}
 use Rattle.dcel.specs.Rows.{links_of, position_of}
 use Rattle.mesh.specs.Circle.{Settled}
-use Rattle.complete.specs.FillLoop.{FillingOn, filling-starts, filling-point, filling-rows, filling-full, filling-on, filling-end}
-use Rattle.complete.specs.NearLaws.{filling-near}
-use Rattle.complete.specs.SettledLaws.{filling-settled}
+use Rattle.complete.specs.FillLoop.{FillingOn}
+use Rattle.complete.proofs.FillLoopLaws.{filling-starts, filling-point, filling-rows, filling-full, filling-on, filling-end}
+use Rattle.complete.proofs.NearLaws.{filling-near}
+use Rattle.complete.proofs.SettledLaws.{filling-settled}
 use Rattle.complete.proofs.fill_each.Goals as goal
 
 pub loop-i-init : goal.loop-i-init

@@ -1,8 +1,8 @@
 -- `complete::fill_point` meets its contract. Assumes nothing.
 use borrow.Author.Rules.{rules}
 use borrow.Author.Tests.{not-true, not-false}
-use Rattle.complete.specs.NearLaws.{point-edges, point-near}
-use Rattle.complete.specs.PointLaws.{not-skipped, point-refused, point-in}
+use Rattle.complete.proofs.NearLaws.{point-edges, point-near}
+use Rattle.complete.proofs.PointLaws.{not-skipped, point-refused, point-in}
 use Rattle.complete.proofs.fill_point.Goals as goal
 
 pub overflow_add-result : goal.overflow_add-result

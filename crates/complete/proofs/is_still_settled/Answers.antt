@@ -3,7 +3,7 @@ use mathlib.Core.Logic.{inl, inr}
 use mathlib.Core.Path.{sym, ◌∙◌}
 use borrow.Author.Rules.{rules}
 use borrow.Author.Tests.{not-false}
-use Rattle.sums.specs.Bit.{from-true}
+use Rattle.sums.proofs.BitLaws.{from-true}
 use Rattle.complete.specs.CompleteRows.{StillSettled}
 use Rattle.complete.proofs.is_still_settled.Goals as goal
 

@@ -1,7 +1,7 @@
 -- `complete::prepare` meets its contract. Assumes nothing.
 use borrow.Author.Rules.{rules}
 use borrow.Author.Tests.{not-false}
-use Rattle.complete.specs.NearLaws.{grid-ready, prepared}
+use Rattle.complete.proofs.NearLaws.{grid-ready, prepared}
 use Rattle.complete.proofs.prepare.Goals as goal
 
 pub count_skipped-skipped-requires : goal.count_skipped-skipped-requires

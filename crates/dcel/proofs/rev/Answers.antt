@@ -1,5 +1,5 @@
 -- `dcel::rev` meets its contract. Assumes nothing.
-use Rattle.sums.specs.Half.{rev-xor}
+use Rattle.sums.proofs.HalfLaws.{rev-xor}
 use Rattle.dcel.proofs.rev.Goals as goal
 
 pub returns : goal.returns

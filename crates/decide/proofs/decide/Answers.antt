@@ -2,10 +2,10 @@
 use borrow.Author.Rules.{rules, sfits_of}
 use mir.Facts.{to_z-of_z}
 use native.Mathlib.Omega.{arith}
-use Rattle.angle.specs.Bits.{angle-valid}
-use Rattle.hull.specs.Find.{held-find}
-use Rattle.decide.specs.SweepRowsLaws.{sweep-center, found_below}
-use Rattle.decide.specs.VertexAngles.{carried, at-center}
+use Rattle.angle.proofs.Bits.{angle-valid}
+use Rattle.hull.proofs.Find.{held-find}
+use Rattle.decide.proofs.SweepRowsLaws.{sweep-center, found_below}
+use Rattle.decide.proofs.VertexAngles.{carried, at-center}
 use Rattle.decide.proofs.Answers.{asks_at, at-located}
 use Rattle.decide.proofs.decide.Goals as goal
 

@@ -1,7 +1,7 @@
 -- `fithmoul::fithmoul_ask` meets its contract. Assumes nothing.
 use mathlib.Core.Path.{◌∙◌}
 use mir.Facts.{to_z-of_z}
-use Rattle.ask.specs.AskLaws.{ask-none, ask-made}
+use Rattle.ask.proofs.AskLaws.{ask-none, ask-made}
 use Rattle.fithmoul.specs.Exported.{ask-exported}
 use borrow.Author.Rules.{rules}
 use Rattle.fithmoul.proofs.fithmoul_ask.Goals as goal

@@ -1,7 +1,7 @@
 -- `fithmoul::fithmoul_bulk_load` meets its contract. Assumes nothing.
 use borrow.Author.Rules.{rules}
 use mathlib.Core.Path.{sym, ◌∙◌}
-use Rattle.bulk_load.specs.LoadLaws.{refused-is}
+use Rattle.bulk_load.proofs.LoadLaws.{refused-is}
 use Rattle.bulk_load_check.specs.LentLaws.{lent-self}
 use Rattle.fithmoul.specs.Exported.{load-exported}
 use Rattle.fithmoul.specs.LoadLaws.{accepted-load, lined-load}

@@ -1,6 +1,6 @@
 -- `fithmoul::fithmoul_finish` meets its contract. Assumes nothing.
 use mathlib.Core.Path.{sym, ◌∙◌}
-use Rattle.surface.specs.SurfaceLaws.{finish-refused, finish-own}
+use Rattle.surface.proofs.SurfaceLawsFacts.{finish-refused, finish-own}
 use Rattle.fithmoul.specs.Exported.{finish-exported}
 use borrow.Author.Rules.{rules}
 use Rattle.fithmoul.proofs.fithmoul_finish.Goals as goal

@@ -1,6 +1,6 @@
 -- `fithmoul::fithmoul_locate` meets its contract. Assumes nothing.
 use mathlib.Core.Path.{sym, ◌∙◌}
-use Rattle.surface.specs.SurfaceLaws.{locate-refused, locate-own}
+use Rattle.surface.proofs.SurfaceLawsFacts.{locate-refused, locate-own}
 use Rattle.fithmoul.specs.Exported.{locate-exported}
 use borrow.Author.Rules.{rules}
 use Rattle.fithmoul.proofs.fithmoul_locate.Goals as goal

@@ -5,7 +5,7 @@ use Rattle.heights.specs.Heights.{height_of}
 use Rattle.mesh_check.specs.Check.{point_count}
 use Rattle.surface.specs.StoreReady.{StoreReady}
 use Rattle.surface.specs.StoredHeights.{finished_heights}
-use Rattle.surface.specs.SurfaceRunLaws.{run-refused, run-own, run-heights, store-ready}
+use Rattle.surface.proofs.SurfaceRunLaws.{run-refused, run-own, run-heights, store-ready}
 use Rattle.sweep.specs.Run.{RunOutcome}
 use Rattle.fithmoul.specs.Exported.{run-exported, run-whole}
 use Rattle.fithmoul.specs.Laws.{accepted-run}

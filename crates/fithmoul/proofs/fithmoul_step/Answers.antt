@@ -1,7 +1,7 @@
 -- `fithmoul::fithmoul_step` meets its contract. Assumes nothing.
 use mathlib.Core.Path.{sym, ◌∙◌, ap}
 use mir.Facts.{to_z-of_z}
-use Rattle.surface.specs.SurfaceLaws.{step-refused, step-own, step-heights, step_room}
+use Rattle.surface.proofs.SurfaceLawsFacts.{step-refused, step-own, step-heights, step_room}
 use Rattle.sweep.specs.StepCall.{StepOutcome}
 use Rattle.fithmoul.specs.Exported.{step-exported, step-whole}
 use borrow.Author.Rules.{rules}

@@ -1,7 +1,7 @@
 -- `heights::any_heights_outside` meets its contract. Assumes nothing.
 use mathlib.Core.Path.{refl}
 use Rattle.heights.specs.Heights.{any_heights_outside}
-use Rattle.heights.specs.HeightsLaws.{seed-there}
+use Rattle.heights.proofs.HeightsLaws.{seed-there}
 use Rattle.heights.proofs.any_heights_outside.Goals as goal
 
 pub returns-then-outside : goal.returns-then-outside

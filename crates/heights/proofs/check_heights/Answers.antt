@@ -4,7 +4,7 @@ use mathlib.Core.List.{[]}
 use mathlib.Core.Path.{sym, ◌∙◌}
 use Rattle.dcel.specs.MeshRows.{mesh_rows}
 use Rattle.heights.specs.Heights.{surface_rows, heights_lent}
-use Rattle.heights.specs.HeightsLaws.{long-enough, short-tested, outside-tested, fine-tested}
+use Rattle.heights.proofs.HeightsLaws.{long-enough, short-tested, outside-tested, fine-tested}
 use Rattle.heights.proofs.check_heights.Goals as goal
 
 pub returns-then-any_heights_short : goal.returns-then-any_heights_short

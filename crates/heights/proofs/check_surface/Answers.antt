@@ -1,6 +1,6 @@
 -- `heights::check_surface` meets its contract. Assumes nothing.
 use mathlib.Core.Path.{sym, ◌∙◌}
-use Rattle.heights.specs.HeightsLaws.{surface-refused, surface-next}
+use Rattle.heights.proofs.HeightsLaws.{surface-refused, surface-next}
 use Rattle.heights.proofs.check_surface.Goals as goal
 
 pub returns-in-Refused : goal.returns-in-Refused

@@ -1,6 +1,6 @@
 -- `heights::check_ten` meets its contract. Assumes nothing.
 use mathlib.Core.Path.{sym, ◌∙◌}
-use Rattle.heights.specs.HeightsLaws.{ten-refused, ten-outside, ten-accepted}
+use Rattle.heights.proofs.HeightsLaws.{ten-refused, ten-outside, ten-accepted}
 use Rattle.heights.proofs.check_ten.Goals as goal
 
 pub returns-then-outside : goal.returns-then-outside

@@ -3,7 +3,7 @@ use mathlib.Core.Path.{refl, sym}
 use mir.Facts.{to_z-of_z}
 use Rattle.heights.specs.Heights.{is_valid_height}
 use Rattle.algebra.specs.Test.{lt-taken, lt-left}
-use Rattle.math.specs.Range.{test-within, test-above, test_below}
+use Rattle.math.proofs.Range.{test-within, test-above, test_below}
 use Rattle.heights.proofs.validate_height.Goals as goal
 
 pub returns-then-z-gt1048576 : goal.returns-then-z-gt1048576

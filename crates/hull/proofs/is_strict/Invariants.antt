@@ -2,8 +2,8 @@
 use Prim.Native.Nat.{◌-◌}
 use native.Mathlib.Omega.{arith}
 use mathlib.Core.Path.{refl}
-use Rattle.sums.specs.Bit.{bit_le}
-use Rattle.hull.specs.Along.{angled}
+use Rattle.sums.proofs.BitLaws.{bit_le}
+use Rattle.hull.proofs.Along.{angled}
 use Rattle.hull.proofs.Around.{Counting, counting, here-angled, next-angled, small-counts, counted, strict-end}
 use Rattle.hull.proofs.is_strict.Given as goal
 

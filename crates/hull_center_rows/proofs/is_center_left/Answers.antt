@@ -8,7 +8,7 @@ use lib.Signed.{lt_z}
 use mir.Facts.{to_z-of_z}
 use mir.Syntax.{w64}
 use mir.Val.{to_z, of_z}
-use Rattle.math.specs.Vector.{short}
+use Rattle.math.proofs.VectorLaws.{short}
 use Rattle.hull_center_rows.specs.Side.{WideSum, cross_sum, small-wide, less-three-wide, cross-small, center-side}
 use Rattle.hull_center_rows.proofs.is_center_left.Goals as goal
 

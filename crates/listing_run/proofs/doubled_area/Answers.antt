@@ -7,7 +7,7 @@ use native.Mathlib.Omega.{arith}
 use lib.Dec.{lit<}
 use mir.Facts.{to_z-of_z}
 use borrow.Author.Rules.{sfits_of}
-use Rattle.area.specs.SummableLaws.{total-most, total-meant}
+use Rattle.area.proofs.SummableLaws.{total-most, total-meant}
 use mir.Syntax.{w64}
 use Rattle.listing_run.proofs.doubled_area.Goals as goal
 

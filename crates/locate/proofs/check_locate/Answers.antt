@@ -1,7 +1,7 @@
 -- `locate::check_locate` meets its contract. No points are given. Assumes nothing.
 use borrow.Author.Rules.{rules}
 use mathlib.Core.Path.{sym, ◌∙◌}
-use Rattle.mesh_check.specs.CheckLaws.{then_next, then-refused}
+use Rattle.mesh_check.proofs.CheckLawsFacts.{then_next, then-refused}
 use Rattle.locate.proofs.check_locate.Goals as goal
 
 pub returns-in-Refused : goal.returns-in-Refused

@@ -1,7 +1,7 @@
 -- `locate::check_start` meets its contract. Assumes nothing.
 use borrow.Author.Rules.{rules}
 use mathlib.Core.Path.{sym, ◌∙◌}
-use Rattle.locate.specs.Start.{start-refused, start-face, start-size, start-boundary, start-goes-on}
+use Rattle.locate.proofs.StartLaws.{start-refused, start-face, start-size, start-boundary, start-goes-on}
 use Rattle.locate.proofs.check_start.Goals as goal
 
 pub adjacent-start-requires : goal.adjacent-start-requires

@@ -1,8 +1,8 @@
 -- `locate::locate` meets its contract: a refusal leaves every row as it was, and an accepted call builds the ring, asks it once and clears its rows. Assumes nothing.
 use borrow.Author.Rules.{rules}
 use mathlib.Core.Path.{refl, sym, ◌∙◌}
-use Rattle.ring_rows.specs.Laws.{zeros-same}
-use Rattle.locate.specs.Call.{locate-face, locate-size, locate-asks, locate-refused, locate-found}
+use Rattle.ring_rows.proofs.Laws.{zeros-same}
+use Rattle.locate.proofs.Call.{locate-face, locate-size, locate-asks, locate-refused, locate-found}
 use Rattle.locate.proofs.locate.Goals as goal
 
 pub adjacent-start-requires : goal.adjacent-start-requires

@@ -1,6 +1,6 @@
 -- `locate::place_at` meets its contract. Assumes nothing.
 use borrow.Author.Rules.{rules}
-use Rattle.locate.specs.Place.{asked-rows, asked-place}
+use Rattle.locate.proofs.PlaceLaws.{asked-rows, asked-place}
 use Rattle.locate.proofs.place_at.Goals as goal
 
 pub from_triangulation-ring-requires : goal.from_triangulation-ring-requires

@@ -9,8 +9,10 @@ use mir.Facts.{to_z-of_z}
 use borrow.Author.Rules.{rules, sfits_of}
 use Rattle.math.specs.declared.Vector.{Vector}
 use Rattle.math.specs.Determinant.{incircle}
-use Rattle.math.specs.Vector.{Short, dot_of, cross_of, short, dot-small, cross-small, incircle-by}
-use Rattle.math.specs.Wide.{AtMost51, sgn, sgn-test}
+use Rattle.math.specs.Vector.{Short, dot_of, cross_of}
+use Rattle.math.proofs.VectorLaws.{short, dot-small, cross-small, incircle-by}
+use Rattle.math.specs.Wide.{AtMost51, sgn}
+use Rattle.math.proofs.WideLaws.{sgn-test}
 use Rattle.math.proofs.contained_in_circumference.Goals as goal
 
 small : {r z : ℤ} → r ≡ z → nat_abs z ≤ 2251799813685248 → AtMost51 r

@@ -8,7 +8,7 @@ use mir.Syntax.{w32}
 use mir.Val.{SFits, of_z}
 use Rattle.math.specs.declared.Point.{Point}
 use Rattle.math.specs.Determinant.{is_coordinate, is_position}
-use Rattle.math.specs.Position.{coordinate-bits}
+use Rattle.math.proofs.Position.{coordinate-bits}
 use Rattle.math.proofs.is_position.Goals as goal
 
 module _ (a b : Point) (f : SFits w32 a.x) (g : SFits w32 b.x) where

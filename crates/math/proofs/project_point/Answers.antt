@@ -4,7 +4,8 @@ use mathlib.Core.Path.{◌∙◌, ap₂}
 use lib.IntN.{ℤ}
 use mir.Facts.{to_z-of_z}
 use borrow.Author.Rules.{rules, sfits_of}
-use Rattle.math.specs.Vector.{dot_of, short, factor-vectors, length2-vectors}
+use Rattle.math.specs.Vector.{dot_of}
+use Rattle.math.proofs.VectorLaws.{short, factor-vectors, length2-vectors}
 use mir.Syntax.{w64}
 use Rattle.math.proofs.project_point.Goals as goal
 

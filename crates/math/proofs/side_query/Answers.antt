@@ -3,7 +3,8 @@
 use mathlib.Core.Path.{◌∙◌, ap₂}
 use mir.Facts.{to_z-of_z}
 use borrow.Author.Rules.{rules, sfits_of}
-use Rattle.math.specs.Vector.{cross_of, short, orient2d-vectors}
+use Rattle.math.specs.Vector.{cross_of}
+use Rattle.math.proofs.VectorLaws.{short, orient2d-vectors}
 use mir.Syntax.{w64}
 use Rattle.math.proofs.side_query.Goals as goal
 

@@ -3,7 +3,7 @@
 use mathlib.Core.Path.{refl, sym}
 use mir.Facts.{to_z-of_z}
 use Rattle.algebra.specs.Test.{lt-taken, lt-left}
-use Rattle.math.specs.Range.{test-within, test-above, test_below}
+use Rattle.math.proofs.Range.{test-within, test-above, test_below}
 use Rattle.math.proofs.validate_coordinate.Goals as goal
 
 pub returns-then-value-gt16777216 : goal.returns-then-value-gt16777216

@@ -6,7 +6,7 @@ use Prim.Native.Nat.{ℕ}
 use borrow.Author.Rules.{rules}
 use Rattle.math.specs.declared.Point.{Point}
 use Rattle.math.specs.Determinant.{is_valid_vertex, contained_in_circumference}
-use Rattle.math.specs.Range.{in-range}
+use Rattle.math.proofs.Range.{in-range}
 use Rattle.math_c.specs.Answer.{in_range_or, inside_number, circle_answer}
 use Rattle.math_c.proofs.circle.Goals as goal
 

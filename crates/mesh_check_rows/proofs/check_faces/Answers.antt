@@ -2,7 +2,7 @@
 use borrow.Author.Rules.{rules}
 use borrow.Author.Tests.{not-true, not-false}
 use mathlib.Core.Path.{sym, ◌∙◌}
-use Rattle.mesh_check.specs.CheckLaws.{faces-rules, faces-turn, faces-accepted}
+use Rattle.mesh_check.proofs.CheckLawsFacts.{faces-rules, faces-turn, faces-accepted}
 use Rattle.mesh_check_rows.proofs.Call.{mesh-there, readable}
 use Rattle.mesh_check_rows.proofs.check_faces.Goals as goal
 

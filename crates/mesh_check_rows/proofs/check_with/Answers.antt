@@ -1,7 +1,7 @@
 -- `mesh_check_rows::check_with` meets its contract. Assumes nothing.
 use borrow.Author.Rules.{rules}
 use mathlib.Core.Path.{sym, ◌∙◌}
-use Rattle.mesh_check.specs.Accepted.{range-rows, with-refused, with-next}
+use Rattle.mesh_check.proofs.AcceptedLaws.{range-rows, with-refused, with-next}
 use Rattle.mesh_check_rows.proofs.check_with.Goals as goal
 
 pub check_faces-requires : goal.check_faces-requires

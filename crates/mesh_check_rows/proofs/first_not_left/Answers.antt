@@ -8,7 +8,7 @@ use lib.Dec.{ltb}
 use borrow.Author.Tests.{not-true, not-false}
 use Rattle.dcel.specs.Rows.{position_of, links_of}
 use Rattle.mesh_check.specs.Check.{turns_left, first_not_left}
-use Rattle.mesh_check.specs.ReadableLaws.{corners-of}
+use Rattle.mesh_check.proofs.ReadableLaws.{corners-of}
 use Rattle.mesh_check_rows.proofs.Search.{Missed, missed-none, missed_more, found, found_none}
 use Rattle.mesh_check_rows.proofs.Faces.{face-left, face-not-left}
 use Rattle.mesh_check_rows.proofs.first_not_left.Goals as goal

@@ -2,7 +2,8 @@
 use borrow.Author.Rules.{rules}
 use native.Mathlib.Omega.{arith}
 use mathlib.Core.Path.{sym, ◌∙◌}
-use Rattle.sums.specs.Half.{rev, rev-below}
+use Rattle.sums.specs.Half.{rev}
+use Rattle.sums.proofs.HalfLaws.{rev-below}
 use borrow.Author.Tests.{not-true, not-false}
 use Rattle.mesh_rules.proofs.Tests.{next-used, prev-used, half-unused, half-unlinked, half-linked}
 use Rattle.mesh_rules.proofs.half_edge_holds.Goals as goal

@@ -8,7 +8,7 @@ use lib.Dec.{T}
 use Rattle.dcel.specs.Rows.{links_of}
 use Rattle.mesh_rules.specs.Holds.{half_edge_holds}
 use Rattle.sums.specs.Bounded.{all_below}
-use Rattle.sums.specs.Bit.{from-true}
+use Rattle.sums.proofs.BitLaws.{from-true}
 use borrow.Author.Tests.{not-true, not-false}
 use Rattle.mesh_rules.proofs.Passed.{passed_none, passed-more, passed-all, stopped}
 use Rattle.mesh_rules.proofs.half_edges_hold.Goals as goal

@@ -7,7 +7,7 @@ use borrow.Author.Rules.{rules}
 use borrow.Author.Tests.{not-true, not-false}
 use Rattle.dcel.specs.Rows.{links_of}
 use Rattle.mesh_rules.specs.Holds.{HalvesHold, half_edge_holds, outer_holds, counts_hold}
-use Rattle.sums.specs.Bit.{from-true}
+use Rattle.sums.proofs.BitLaws.{from-true}
 use Rattle.sums.specs.Bounded.{all_below}
 use Rattle.mesh_rules.proofs.Tests.{fails-counts, fails-halves, fails-outer, fails-whole, fails-inner, at-vertices, halves-there, faces-there, some-face, face-there, outer-in}
 use Rattle.mesh_rules.proofs.mesh_rules.Goals as goal

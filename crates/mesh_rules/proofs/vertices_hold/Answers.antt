@@ -9,8 +9,9 @@ use Rattle.dcel.specs.Rows.{links_of}
 use Rattle.mesh.specs.Mesh.{turn}
 use Rattle.mesh_rules.specs.Holds.{vertex_holds}
 use Rattle.sums.specs.Bounded.{all_below}
-use Rattle.sums.specs.Bit.{from-true}
-use Rattle.sums.specs.Orbits.{orbit_total, orbit-total-zero}
+use Rattle.sums.proofs.BitLaws.{from-true}
+use Rattle.sums.specs.Orbits.{orbit_total}
+use Rattle.sums.proofs.OrbitsLaws.{orbit-total-zero}
 use borrow.Author.Tests.{not-true, not-false}
 use Rattle.mesh_rules.proofs.Passed.{passed_none, passed-more, stopped}
 use Rattle.mesh_rules.proofs.Tests.{vertex-in, orbit-more, vertices-fail, vertices-all}

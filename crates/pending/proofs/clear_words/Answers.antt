@@ -1,5 +1,5 @@
 -- `pending::clear_words` meets its contract: the row is filled from `from` on. The measure is what is left of it. Assumes nothing.
-use Rattle.pending.specs.SetLaws.{clear-starts, clear-more, clear-ends}
+use Rattle.pending.proofs.SetLaws.{clear-starts, clear-more, clear-ends}
 use Rattle.pending.specs.Set.{Cleared}
 use lib.ListN.{length}
 use Prim.Native.Nat.{◌-◌, ◌≤◌}

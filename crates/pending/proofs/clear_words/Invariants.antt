@@ -1,5 +1,5 @@
 -- The loop of `pending::clear_words`.
-use Rattle.pending.specs.SetLaws.{clear-starts, clear-more, clear-ends}
+use Rattle.pending.proofs.SetLaws.{clear-starts, clear-more, clear-ends}
 use Rattle.pending.specs.Set.{Cleared}
 use lib.ListN.{length}
 use Prim.Native.Nat.{◌-◌, ◌≤◌}

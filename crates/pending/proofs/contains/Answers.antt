@@ -6,7 +6,7 @@ use borrow.Author.Rules.{rules}
 use lib.ListN.{length}
 use Rattle.pending.specs.Pending.{pending_of}
 use Rattle.pending.specs.Pending as list
-use Rattle.pending.specs.PendingLaws.{four-found, four-not-found}
+use Rattle.pending.proofs.PendingLaws.{four-found, four-not-found}
 use Rattle.pending.proofs.contains.Goals as goal
 
 pub loop-i-init : goal.loop-i-init

@@ -5,7 +5,7 @@ use borrow.Author.Rules.{rules}
 use lib.ListN.{length}
 use Rattle.pending.specs.Pending.{pending_of}
 use Rattle.pending.specs.Pending as list
-use Rattle.pending.specs.PendingLaws.{contains-none, contains-here, contains-not-here}
+use Rattle.pending.proofs.PendingLaws.{contains-none, contains-here, contains-not-here}
 use Rattle.pending.proofs.contains_few.Given as goal
 
 abbrev pub invariant-loop-i : goal.invariant-loop-i

@@ -1,5 +1,5 @@
 -- `pending::is_one_of` meets its contract. Assumes nothing.
-use Rattle.pending.specs.PendingLaws.{one-first, one-second, one-third, one-fourth}
+use Rattle.pending.proofs.PendingLaws.{one-first, one-second, one-third, one-fourth}
 use Rattle.pending.proofs.is_one_of.Goals as goal
 
 pub returns-then-x-a : goal.returns-then-x-a

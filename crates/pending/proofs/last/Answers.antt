@@ -1,5 +1,5 @@
 -- `pending::last` meets its contract. Assumes nothing.
-use Rattle.pending.specs.PendingLaws.{pending-last}
+use Rattle.pending.proofs.PendingLaws.{pending-last}
 use borrow.Author.Rules.{rules}
 use Rattle.pending.proofs.last.Goals as goal
 

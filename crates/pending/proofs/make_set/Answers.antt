@@ -1,5 +1,5 @@
 -- `pending::make_set` meets its contract. Assumes nothing.
-use Rattle.pending.specs.SetLaws.{marks-start, pushed-by, holds_kept, set-made}
+use Rattle.pending.proofs.SetLaws.{marks-start, pushed-by, holds_kept, set-made}
 use borrow.Author.Tests.{not-false}
 use mathlib.Core.Path.{◌∙◌}
 use native.Mathlib.Omega.{arith}

@@ -1,6 +1,6 @@
 -- `pending::mark` meets its contract. Assumes nothing.
 use mathlib.Core.Path.{refl}
-use Rattle.pending.specs.MarkLaws.{one_shift, mark-fits}
+use Rattle.pending.proofs.MarkLaws.{one_shift, mark-fits}
 use borrow.Author.Rules.{rules}
 use Rattle.pending.proofs.mark.Goals as goal
 

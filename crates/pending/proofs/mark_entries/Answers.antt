@@ -1,5 +1,5 @@
 -- `pending::mark_entries` meets its contract: entry after entry. The measure is how many are left. Assumes nothing.
-use Rattle.pending.specs.SetLaws.{word_in, marked_next, marks-end}
+use Rattle.pending.proofs.SetLaws.{word_in, marked_next, marks-end}
 use Rattle.pending.specs.Set.{MarkedTo}
 use Prim.Native.Nat.{◌-◌}
 use mathlib.Core.Path.{sym, ◌∙◌}

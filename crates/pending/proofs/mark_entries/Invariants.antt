@@ -1,5 +1,5 @@
 -- The loop of `pending::mark_entries`.
-use Rattle.pending.specs.SetLaws.{word_in, marked_next, marks-end}
+use Rattle.pending.proofs.SetLaws.{word_in, marked_next, marks-end}
 use Rattle.pending.specs.Set.{MarkedTo}
 use Prim.Native.Nat.{◌-◌}
 use mathlib.Core.Path.{sym, ◌∙◌}

@@ -1,5 +1,5 @@
 -- `pending::pop` meets its contract. Assumes nothing.
-use Rattle.pending.specs.SetLaws.{pop-marked, pop-bit, pop-plain}
+use Rattle.pending.proofs.SetLaws.{pop-marked, pop-bit, pop-plain}
 use borrow.Author.Rules.{rules}
 use Rattle.pending.proofs.pop.Goals as goal
 

@@ -1,5 +1,5 @@
 -- `pending::push_looking` meets its contract. Assumes nothing.
-use Rattle.pending.specs.SetLaws.{pushed-by}
+use Rattle.pending.proofs.SetLaws.{pushed-by}
 use mathlib.Core.Path.{refl}
 use borrow.Author.Rules.{rules}
 use Rattle.pending.proofs.push_looking.Goals as goal

@@ -1,5 +1,5 @@
 -- `pending::push_marking` meets its contract. Assumes nothing.
-use Rattle.pending.specs.SetLaws.{bit_in, pushed-by, set_room, set_there, set-given-up, push-bit}
+use Rattle.pending.proofs.SetLaws.{bit_in, pushed-by, set_room, set_there, set-given-up, push-bit}
 use mathlib.Core.Path.{sym, ◌∙◌}
 use borrow.Author.Rules.{rules}
 use Rattle.pending.proofs.push_marking.Goals as goal

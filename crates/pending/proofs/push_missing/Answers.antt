@@ -1,6 +1,6 @@
 -- `pending::push_missing` meets its contract. Assumes nothing.
 use native.Mathlib.Omega.{arith}
-use Rattle.pending.specs.PendingLaws.{push-past, push-length, pushed-contained, pushed-missing}
+use Rattle.pending.proofs.PendingLaws.{push-past, push-length, pushed-contained, pushed-missing}
 use mathlib.Core.Path.{sym, ◌∙◌}
 use borrow.Author.Rules.{rules}
 use Rattle.pending.proofs.push_missing.Goals as goal

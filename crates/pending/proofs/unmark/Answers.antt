@@ -1,6 +1,6 @@
 -- `pending::unmark` meets its contract. Assumes nothing.
 use mathlib.Core.Path.{refl}
-use Rattle.pending.specs.MarkLaws.{one_shift, unmark-fits}
+use Rattle.pending.proofs.MarkLaws.{one_shift, unmark-fits}
 use borrow.Author.Rules.{rules}
 use Rattle.pending.proofs.unmark.Goals as goal
 

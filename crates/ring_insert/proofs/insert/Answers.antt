@@ -1,8 +1,8 @@
 -- `ring_insert::insert` meets its contract. Assumes nothing.
 use mathlib.Core.Path.{refl}
-use Rattle.angle.specs.Bits.{angle-valid}
+use Rattle.angle.proofs.Bits.{angle-valid}
 use Rattle.ring_insert.proofs.Inserting.{chosen-as, found-angle, to-choose, to-place, to-retire, placed-retired, new-valid, new-room}
-use Rattle.ring_insert.specs.RetireLaws.{retired-valid}
+use Rattle.ring_insert.proofs.RetireLaws.{retired-valid}
 use borrow.Author.Rules.{rules}
 use Rattle.ring_insert.proofs.insert.Goals as goal
 

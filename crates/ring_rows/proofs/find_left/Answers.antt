@@ -1,6 +1,6 @@
 -- `ring_rows::find_left` meets its contract. Assumes nothing.
-use Rattle.angle.specs.Bits.{angle-valid}
-use Rattle.ring_rows.specs.Laws.{floor-below, got-at}
+use Rattle.angle.proofs.Bits.{angle-valid}
+use Rattle.ring_rows.proofs.Laws.{floor-below, got-at}
 use Rattle.ring_rows.proofs.find_left.Goals as goal
 
 pub walk_left-walked-requires : goal.walk_left-walked-requires

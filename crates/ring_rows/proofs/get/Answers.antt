@@ -1,7 +1,7 @@
 -- `ring_rows::get` meets its contract: the walk of `Walk`, from the bucket of the angle. Assumes nothing.
 use native.Mathlib.Omega.{arith}
 use Rattle.dcel.specs.Rows.{row_of}
-use Rattle.ring_rows.specs.Laws.{bucket-ring}
+use Rattle.ring_rows.proofs.Laws.{bucket-ring}
 use Rattle.ring_rows.proofs.Test.{to-test, asks-segment, tested}
 use Rattle.ring_rows.proofs.Walk.{begin, handle-on, found, again}
 use Rattle.ring_rows.proofs.get.Goals as goal

@@ -1,7 +1,7 @@
 -- `run::run` meets its contract. Assumes nothing.
 use borrow.Author.Rules.{rules}
 use mathlib.Core.Path.{sym, ◌∙◌}
-use Rattle.sweep.specs.RunLaws.{run_ran}
+use Rattle.sweep.proofs.RunLaws.{run_ran}
 use Rattle.steps.specs.StepsReady.{run-checks}
 use Rattle.run.proofs.RunDone.{refused-run}
 use Rattle.run.proofs.run.Goals as goal

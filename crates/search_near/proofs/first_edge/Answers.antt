@@ -2,7 +2,7 @@
 use borrow.Author.Rules.{rules, sfits_of}
 use mir.Facts.{to_z-of_z}
 use mathlib.Core.Path.{refl, ◌∙◌}
-use Rattle.search_near.specs.NearLaws.{start-there, start_back, start-placed, end-placed, ends-range, faces-back, faces-on}
+use Rattle.search_near.proofs.NearLaws.{start-there, start_back, start-placed, end-placed, ends-range, faces-back, faces-on}
 use mir.Syntax.{w64}
 use Rattle.search_near.proofs.first_edge.Goals as goal
 

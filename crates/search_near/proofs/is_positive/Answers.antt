@@ -1,6 +1,6 @@
 -- `search_near::is_positive` meets its contract. Assumes nothing.
 use mir.Facts.{to_z-of_z}
-use Rattle.search_near.specs.NearLaws.{positive-first, positive-not, positive-second}
+use Rattle.search_near.proofs.NearLaws.{positive-first, positive-not, positive-second}
 use Rattle.search_near.proofs.is_positive.Goals as goal
 
 pub returns-then-a-gt0 : goal.returns-then-a-gt0

@@ -5,9 +5,10 @@ use native.Mathlib.Omega.{arith}
 use borrow.Author.Rules.{rules}
 use borrow.Author.Tests.{not-true, not-false}
 use Rattle.circle_test.specs.GoodRows.{held}
-use Rattle.hull.specs.Ready.{size-asks, size_is, size_small}
-use Rattle.search_near.specs.BoundaryLoop.{first-there, first-ready, Along, along-start, along-there, along-ready}
-use Rattle.search_near.specs.BoundaryLoop.{turn-short, along-fails, along-next, along-few, along-end}
+use Rattle.hull.proofs.Ready.{size-asks, size_is, size_small}
+use Rattle.search_near.specs.BoundaryLoop.{Along}
+use Rattle.search_near.proofs.BoundaryLoopLaws.{first-there, first-ready, along-start, along-there, along-ready}
+use Rattle.search_near.proofs.BoundaryLoopLaws.{turn-short, along-fails, along-next, along-few, along-end}
 use Rattle.search_near.proofs.is_walkable.Goals as goal
 
 pub convex_hull_size-size-requires : goal.convex_hull_size-size-requires

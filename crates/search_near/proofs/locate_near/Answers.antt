@@ -1,6 +1,6 @@
 -- `search_near::locate_near` meets its contract. Assumes nothing.
 use borrow.Author.Rules.{rules}
-use Rattle.search_near.specs.NearLaws.{near-inside}
+use Rattle.search_near.proofs.NearLaws.{near-inside}
 use Rattle.search_near.proofs.locate_near.Goals as goal
 
 pub first_edge-start-requires : goal.first_edge-start-requires

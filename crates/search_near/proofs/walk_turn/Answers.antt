@@ -2,7 +2,7 @@
 use mathlib.Core.Path.{◌∙◌}
 use borrow.Author.Rules.{rules, sfits_of}
 use mir.Facts.{to_z-of_z}
-use Rattle.search_near.specs.NearLaws.{turn-there, prev-there, far-placed, before-range, after-range, over-prev, over-next, turn_inside}
+use Rattle.search_near.proofs.NearLaws.{turn-there, prev-there, far-placed, before-range, after-range, over-prev, over-next, turn_inside}
 use mir.Syntax.{w64}
 use Rattle.search_near.proofs.walk_turn.Goals as goal
 

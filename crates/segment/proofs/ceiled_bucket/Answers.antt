@@ -3,9 +3,9 @@ use mathlib.Core.Path.{sym, ap, ◌∙◌, subst}
 use Prim.Native.Nat.{ℕ, ◌<◌}
 use native.Mathlib.Omega.{arith}
 use lib.Pow.{pow_pos}
-use Rattle.angle.specs.Bits.{angle-valid}
+use Rattle.angle.proofs.Bits.{angle-valid}
 use Rattle.segment.specs.Bucket.{ceil_of}
-use Rattle.segment.specs.Laws.{bucket-pos, ceiled-whole}
+use Rattle.segment.proofs.Laws.{bucket-pos, ceiled-whole}
 use Rattle.segment.proofs.Shift.{ceil-is, one_shift, shift-most, below}
 use Rattle.segment.proofs.ceiled_bucket.Goals as goal
 

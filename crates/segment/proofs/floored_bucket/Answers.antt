@@ -2,7 +2,7 @@
 use mathlib.Core.Path.{sym, ap, ◌∙◌, subst}
 use Prim.Native.Nat.{ℕ, ◌<◌}
 use Rattle.segment.specs.Bucket.{floor_of}
-use Rattle.segment.specs.Laws.{bucket-pos, floored-whole}
+use Rattle.segment.proofs.Laws.{bucket-pos, floored-whole}
 use Rattle.segment.proofs.Shift.{floor-is, below}
 use Rattle.segment.proofs.floored_bucket.Goals as goal
 

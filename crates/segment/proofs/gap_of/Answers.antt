@@ -5,7 +5,7 @@ use mathlib.Core.Bool.{Bool, cond}
 use Prim.Native.Nat.{ℕ, ◌+◌, ◌-◌, ◌^◌, ◌<◌, ◌≤◌}
 use native.Mathlib.Omega.{arith}
 use lib.Dec.{ltb}
-use Rattle.angle.specs.Bits.{angle-valid}
+use Rattle.angle.proofs.Bits.{angle-valid}
 use Rattle.segment.specs.Arc.{gap}
 use Rattle.segment.proofs.gap_of.Goals as goal
 

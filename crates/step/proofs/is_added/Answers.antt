@@ -3,7 +3,7 @@ use mathlib.Core.Path.{◌∙◌, ap}
 use Prim.Native.Nat.{ℕ}
 use borrow.Author.Rules.{rules}
 use lib.Dec.{eqb}
-use Rattle.sweep.specs.Fates.{number-added}
+use Rattle.sweep.proofs.Fates.{number-added}
 use Rattle.step.proofs.is_added.Goals as goal
 
 pub returns : goal.returns

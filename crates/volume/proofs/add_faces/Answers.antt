@@ -10,7 +10,7 @@ use mir.Facts.{to_z-of_z}
 use Rattle.dcel.specs.Rows.{position_of, links_of}
 use Rattle.heights.specs.Heights.{height_of}
 use Rattle.volume.specs.Measurable.{face_sums}
-use Rattle.volume.specs.MeasurableLaws.{no-face, next-face, triangle-of, faces-small}
+use Rattle.volume.proofs.MeasurableLaws.{no-face, next-face, triangle-of, faces-small}
 use Rattle.volume.proofs.add_faces.Goals as goal
 
 pub loop-f-init : goal.loop-f-init

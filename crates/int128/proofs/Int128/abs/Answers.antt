@@ -1,7 +1,7 @@
 -- `int128::Int128::abs` meets its contract. Assumes nothing.
 use Rattle.std.proofs.Common.{sym, ◌∙◌, arith}
 use Rattle.int128.specs.Int128.{int128_of}
-use Rattle.int128.specs.Int128Laws.{unsigned}
+use Rattle.int128.proofs.Int128LawsFacts.{unsigned}
 use Rattle.int128.proofs.Signs.{below-abs, not-below}
 use Rattle.int128.proofs.Int128.abs.Goals as goal
 

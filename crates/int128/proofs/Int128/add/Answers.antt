@@ -1,5 +1,5 @@
 -- `int128::Int128::add` meets its contract. Assumes nothing.
-use Rattle.int128.specs.Int128Laws.{added}
+use Rattle.int128.proofs.Int128LawsFacts.{added}
 use Rattle.int128.proofs.Int128.add.Goals as goal
 
 pub returns : goal.returns

@@ -1,6 +1,6 @@
 -- `int128::Int128::from_i64` meets its contract. Assumes nothing.
 use Rattle.std.proofs.Common.{◌∙◌, le_trans, arith, lit<, lit≤}
-use Rattle.int128.specs.Int128Laws.{whole-fits}
+use Rattle.int128.proofs.Int128LawsFacts.{whole-fits}
 use Rattle.int128.proofs.Signs.{magnitude-max, from_is}
 use Rattle.int128.proofs.Int128.from_i64.Goals as goal
 

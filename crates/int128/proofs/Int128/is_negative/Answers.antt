@@ -1,6 +1,6 @@
 -- `int128::Int128::is_negative` meets its contract. Assumes nothing.
 use Rattle.std.proofs.Common.{arith}
-use Rattle.int128.specs.Int128Laws.{negative-is}
+use Rattle.int128.proofs.Int128LawsFacts.{negative-is}
 use Rattle.int128.proofs.Int128.is_negative.Goals as goal
 
 pub returns : goal.returns

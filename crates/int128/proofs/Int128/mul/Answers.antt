@@ -1,7 +1,8 @@
 -- `int128::Int128::mul` meets its contract. Assumes nothing.
 use Rattle.std.proofs.Common.{ap, ◌∙◌, mul-le-mul}
 use Rattle.int128.specs.Int128.{with_sign}
-use Rattle.int128.specs.Int128Laws.{whole-fits, nat_abs-sign}
+use Rattle.int128.specs.Int128Laws.{nat_abs-sign}
+use Rattle.int128.proofs.Int128LawsFacts.{whole-fits}
 use Rattle.int128.proofs.Signs.{magnitude-max, product_is}
 use Rattle.int128.proofs.Int128.mul.Goals as goal
 

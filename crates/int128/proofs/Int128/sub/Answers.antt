@@ -1,6 +1,6 @@
 -- `int128::Int128::sub` meets its contract. Assumes nothing.
 use Rattle.std.proofs.Common.{arith}
-use Rattle.int128.specs.Int128Laws.{subtracted}
+use Rattle.int128.proofs.Int128LawsFacts.{subtracted}
 use Rattle.int128.proofs.Int128.sub.Goals as goal
 
 pub returns : goal.returns

@@ -2,7 +2,7 @@
 use Rattle.std.proofs.Common.{◌≡◌, ℕ, ◌+◌, ◌*◌, ◌^◌, ◌<◌, pos, ap, ◌∙◌, arith, to_z-of_z, w64}
 use borrow.Author.Rules.{sfits_of}
 use Rattle.int128.specs.Int128.{int128_of, with_sign}
-use Rattle.int128.specs.Int128Laws.{sign-abs}
+use Rattle.int128.proofs.Int128LawsFacts.{sign-abs}
 use Rattle.int128.proofs.Int128.to_i64.Goals as goal
 
 -- a number below 2 ^ 63 is its low half

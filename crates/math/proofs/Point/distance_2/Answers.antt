@@ -2,7 +2,8 @@
 use mathlib.Core.Path.{◌∙◌, ap₂}
 use mir.Facts.{to_z-of_z}
 use borrow.Author.Rules.{rules, sfits_of}
-use Rattle.math.specs.Vector.{dot_of, short, length2-vectors}
+use Rattle.math.specs.Vector.{dot_of}
+use Rattle.math.proofs.VectorLaws.{short, length2-vectors}
 use mir.Syntax.{w64}
 use Rattle.math.proofs.Point.distance_2.Goals as goal
 

@@ -2,7 +2,8 @@
 -- Assumes nothing.
 use Rattle.algebra.specs.Ring.{v0, v2, v4, v6, ◌⊕◌, ◌⊗◌}
 use Rattle.algebra.specs.Bound.{Env, fits64, reads64}
-use Rattle.math.specs.Wide.{high_of, digits, limits, factors}
+use Rattle.math.specs.Wide.{high_of}
+use Rattle.math.proofs.WideLaws.{digits, limits, factors}
 use Rattle.math.proofs.wide.high.Goals as goal
 
 pub overflow_mul-result : goal.overflow_mul-result

@@ -2,7 +2,8 @@
 -- Assumes nothing.
 use Rattle.algebra.specs.Ring.{v1, v3, v5, v7, ◌⊕◌, ◌⊗◌}
 use Rattle.algebra.specs.Bound.{Env, fits64, reads64}
-use Rattle.math.specs.Wide.{low_of, digits, limits, factors}
+use Rattle.math.specs.Wide.{low_of}
+use Rattle.math.proofs.WideLaws.{digits, limits, factors}
 use Rattle.math.proofs.wide.low.Goals as goal
 
 pub overflow_mul-result : goal.overflow_mul-result

@@ -2,7 +2,8 @@
 -- Assumes nothing.
 use Rattle.algebra.specs.Ring.{v0, v1, v2, v3, v4, v5, v6, v7, ◌⊕◌, ◌⊗◌}
 use Rattle.algebra.specs.Bound.{Env, fits64, reads64}
-use Rattle.math.specs.Wide.{middle_of, digits, limits, factors}
+use Rattle.math.specs.Wide.{middle_of}
+use Rattle.math.proofs.WideLaws.{digits, limits, factors}
 use Rattle.math.proofs.wide.middle.Goals as goal
 
 pub overflow_mul-result : goal.overflow_mul-result

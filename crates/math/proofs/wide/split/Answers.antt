@@ -11,7 +11,7 @@ use mir.Val.{to_z, of_z}
 use mir.Facts.{to_z-of_z}
 use Rattle.algebra.specs.Ring.{E, num, v0, v1, ◌⊖◌, ◌⊗◌}
 use Rattle.algebra.specs.Bound.{Env, []ᵉ, ◌∷ᵉ◌, fits64, reads64}
-use Rattle.math.specs.Wide.{shr-abs, split-of}
+use Rattle.math.proofs.WideLaws.{shr-abs, split-of}
 use Rattle.math.proofs.wide.split.Goals as goal
 
 abbrev K : E

@@ -14,8 +14,9 @@ use Rattle.algebra.specs.Ring.{#◌, v0, ◌⊕◌}
 use Rattle.algebra.specs.Bound.{Env, []ᵉ, ◌∷ᵉ◌, fits64, reads64}
 use Rattle.algebra.specs.Test.{lt-taken}
 use Rattle.math.specs.declared.wide.Digits.{Digits}
-use Rattle.math.specs.Range.{abs-above}
-use Rattle.math.specs.Wide.{SplitOf, TwoDigits, two_digits, sgn, wide_of, high_of, middle_of, low_of, high-abs, middle-abs, low-abs, products, total_of, total-small, outweighs}
+use Rattle.math.proofs.Range.{abs-above}
+use Rattle.math.specs.Wide.{SplitOf, TwoDigits, sgn, wide_of, high_of, middle_of, low_of, total_of}
+use Rattle.math.proofs.WideLaws.{two_digits, high-abs, middle-abs, low-abs, products, total-small, outweighs}
 use Rattle.math.proofs.wide.sum_sign_wide.Goals as goal
 
 pub split-a-requires : goal.split-a-requires

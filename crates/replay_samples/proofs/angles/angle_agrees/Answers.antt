@@ -1,7 +1,7 @@
 -- `replay_samples::angles::angle_agrees` meets its contract. Assumes nothing.
 use lib.Dec.{lit≤}
 use mathlib.Core.Path.{refl}
-use Rattle.angle.specs.Bits.{angle-valid}
+use Rattle.angle.proofs.Bits.{angle-valid}
 use borrow.Author.Rules.{rules}
 use Rattle.replay_samples.proofs.angles.angle_agrees.Goals as goal
 

@@ -2,7 +2,7 @@
 use Rattle.angle.specs.Answer.{CarriesAngle}
 use borrow.Author.Tests.{not-false}
 use mathlib.Core.Path.{sym, ◌∙◌, subst}
-use Rattle.sums.specs.Bit.{from-true}
+use Rattle.sums.proofs.BitLaws.{from-true}
 use borrow.Author.Rules.{rules}
 use Rattle.replay_samples.proofs.angles.angle_sample.Goals as goal
 

@@ -1,5 +1,5 @@
 -- `replay_samples::angles::buckets_agree` meets its contract. Assumes nothing.
-use Rattle.angle.specs.Bits.{angle-valid}
+use Rattle.angle.proofs.Bits.{angle-valid}
 use borrow.Author.Rules.{rules}
 use Rattle.replay_samples.proofs.angles.buckets_agree.Goals as goal
 

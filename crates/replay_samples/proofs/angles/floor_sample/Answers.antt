@@ -3,7 +3,7 @@ use borrow.Author.Tests.{not-false}
 use lib.Dec.{T}
 use mathlib.Core.Bool.{Bool, true}
 use mathlib.Core.Path.{◌≡◌, sym, ◌∙◌, subst}
-use Rattle.sums.specs.Bit.{from-true}
+use Rattle.sums.proofs.BitLaws.{from-true}
 use borrow.Author.Rules.{rules}
 use Rattle.replay_samples.proofs.angles.floor_sample.Goals as goal
 

@@ -4,7 +4,7 @@ use borrow.Author.Tests.{eqb-false}
 use lib.Dec.{T}
 use mathlib.Core.Bool.{Bool, true}
 use mathlib.Core.Path.{◌≡◌, sym, ◌∙◌, subst}
-use Rattle.sums.specs.Bit.{from-true}
+use Rattle.sums.proofs.BitLaws.{from-true}
 use borrow.Author.Rules.{rules}
 use Rattle.replay_samples.proofs.angles.segment_agrees.Goals as goal
 

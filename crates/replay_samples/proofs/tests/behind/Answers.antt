@@ -1,5 +1,5 @@
 -- `replay_samples::tests::behind` meets its contract. Assumes nothing.
-use Rattle.math.specs.Range.{in-range}
+use Rattle.math.proofs.Range.{in-range}
 use mathlib.Core.Path.{sym, ◌∙◌}
 use borrow.Author.Rules.{rules}
 use Rattle.replay_samples.proofs.tests.behind.Goals as goal

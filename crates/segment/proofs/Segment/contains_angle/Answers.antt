@@ -4,7 +4,7 @@ use Rattle.std.proofs.Common.{◌∙◌}
 use Rattle.angle.specs.Angle.{turns, valid_angle}
 use Rattle.segment.specs.declared.Segment.{Segment}
 use Rattle.segment.specs.Segment.{EndsAreAngles, contains_angle, contains_turns}
-use Rattle.segment.specs.Laws.{contains-turns}
+use Rattle.segment.proofs.Laws.{contains-turns}
 use Rattle.segment.proofs.Segment.contains_angle.Goals as goal
 
 whole : (s : Segment) (a : Float) (r : Bool) → EndsAreAngles s × T (valid_angle a) → r ≡ contains_angle s a → r ≡ contains_turns s (turns a)

@@ -6,7 +6,7 @@ use Rattle.segment.specs.declared.Segment.{Segment}
 use Rattle.segment.specs.declared.Segment.TheVariants.{Plain, Wrapping}
 use Rattle.segment.specs.Arc.{holds}
 use Rattle.segment.specs.Segment.{segment_of, contains_turns}
-use Rattle.segment.specs.Laws.{segment-holds}
+use Rattle.segment.proofs.Laws.{segment-holds}
 use Rattle.segment.proofs.Segment.new.Goals as goal
 
 arc : (s e : Float) (r : Segment) → turns s ≢ turns e → r ≡ segment_of s e → (k : ℕ) → contains_turns r k ≡ holds k (turns s) (turns e)

@@ -1,0 +1,4 @@
+pub mod ApplyLaws
+pub mod FirstFace
+pub mod OriginsLaws
+pub mod TurnsLaws

@@ -1,0 +1,13 @@
+pub mod BulkLoadLaws
+pub mod EndedLaws
+pub mod LoadAnswers
+pub mod LoadLaws
+pub mod Named
+pub mod Numbered
+pub mod OneVertexLaws
+pub mod PastLaws
+pub mod RestFacts
+pub mod RestLaws
+pub mod SeedLaws
+pub mod StoreLaws
+pub mod SweptLaws

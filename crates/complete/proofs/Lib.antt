@@ -1,0 +1,10 @@
+pub mod AnswersLaws
+pub mod CloseLaws
+pub mod CompleteLaws
+pub mod FillLoopLaws
+pub mod NearLaws
+pub mod NoneLaws
+pub mod OneStage
+pub mod PointLaws
+pub mod SameSkipped
+pub mod SettledLaws

@@ -1,0 +1,4 @@
+pub mod EdgeSplitLaws
+pub mod HalfEdgeSplitLaws
+pub mod IntoTriangleLaws
+pub mod PlaneLaws

@@ -1,0 +1,11 @@
+pub mod Crossed
+pub mod ExamplesLaws
+pub mod HeldLaws
+pub mod LimitLaws
+pub mod LocateLaws
+pub mod NearestLaws
+pub mod PlaceFacts
+pub mod PlaceLaws
+pub mod ScanLaws
+pub mod SearchLaws
+pub mod SpunLaws

@@ -1,0 +1,10 @@
+pub mod AreaBound
+pub mod CircleLaws
+pub mod Plane
+pub mod Position
+pub mod ProjectionLaws
+pub mod Range
+pub mod Side
+pub mod VectorLaws
+pub mod WholeLaws
+pub mod WideLaws

@@ -1,0 +1,4 @@
+pub mod BitLaws
+pub mod MarkLaws
+pub mod PendingLaws
+pub mod SetLaws

@@ -1,0 +1,2 @@
+pub mod BoundaryLoopLaws
+pub mod NearLaws

@@ -1,0 +1,12 @@
+pub mod CompleteLaws
+pub mod CornersLaws
+pub mod FillLawsFacts
+pub mod InsertCorners
+pub mod InsertLawsFacts
+pub mod InsertUntouched
+pub mod LegalizeVertexLaws
+pub mod OutsideLaws
+pub mod OutsideCorners
+pub mod RiseLaws
+pub mod Stars
+pub mod StillLaws

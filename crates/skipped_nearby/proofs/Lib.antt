@@ -1,0 +1,4 @@
+pub mod AwayLaws
+pub mod FacingLaws
+pub mod InsertWalkable
+pub mod OutsideLaws

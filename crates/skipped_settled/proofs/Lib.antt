@@ -1,0 +1,3 @@
+pub mod InsertSettled
+pub mod LegalizeLaws
+pub mod TurnLawsFacts

@@ -1,0 +1,15 @@
+pub mod BitLaws
+pub mod BoundedLaws
+pub mod Cases
+pub mod HalfLaws
+pub mod IterateLaws
+pub mod ListedLaws
+pub mod OrbitsLaws
+pub mod PutLaws
+pub mod Round
+pub mod Store
+pub mod SumLaws
+pub mod SumSign
+pub mod TallyLaws
+pub mod UntilLaws
+pub mod UsageLaws

@@ -1,0 +1,12 @@
+pub mod CarriedHeightsLaws
+pub mod FinishCases
+pub mod PointHeights
+pub mod PutEachLaws
+pub mod RunAnswers
+pub mod RunHeights
+pub mod RunRefused
+pub mod RunVertices
+pub mod Stages
+pub mod StoredLaws
+pub mod SurfaceLawsFacts
+pub mod SurfaceRunLaws

@@ -1,0 +1,14 @@
+pub mod CoveringFacts
+pub mod CoveringLaws
+pub mod CrossingInside
+pub mod CrossingTotal
+pub mod FanFacts
+pub mod FanLaws
+pub mod HullLaws
+pub mod InwardLaws
+pub mod Locality
+pub mod ScaledFacts
+pub mod ScaledLaws
+pub mod Surround
+pub mod WalkableLaws
+pub mod WindingLaws
