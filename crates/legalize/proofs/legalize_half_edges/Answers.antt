@@ -40,7 +40,7 @@ returns-then-t c =
 pub loop-left-smaller : goal.loop-left-smaller
 loop-left-smaller c =
     let i = c.loop-left.invariant in
-    at.loop-smaller i c.loop-left-test.true c.half_edge_turn-t.ensures (record { outs = c.half_edge_turn-t.auto.outs; halves = c.half_edge_turn-t.auto.halves; faces = c.half_edge_turn-t.auto.faces; pending = c.half_edge_turn-t.auto.pending }) c.if-t.false
+    at.loop-less i c.loop-left-test.true c.half_edge_turn-t.ensures (record { outs = c.half_edge_turn-t.auto.outs; halves = c.half_edge_turn-t.auto.halves; faces = c.half_edge_turn-t.auto.faces; pending = c.half_edge_turn-t.auto.pending }) c.if-t.false
 
 pub loop-left-preserved : goal.loop-left-preserved
 loop-left-preserved c =
