@@ -1,6 +1,6 @@
 -- AN INSERT AFTER A STEP: what it asks of rows that hold the ring of the boundary before, and that the rows then hold the
 -- ring of the boundary after. Assumes nothing.
-use Rattle.std.specs.Prelude.{ℕ, suc, ◌+◌, ◌-◌, ◌%◌, ◌<◌, ◌≤◌, ◌^◌, ◌≡◌, refl, ◌≢◌, cond, List, T, eqb, Float, length}
+use Rattle.std.specs.Prelude.{ℕ, suc, ◌+◌, ◌-◌, ◌%◌, ◌<◌, ◌≤◌, ◌^◌, ◌≡◌, refl, ◌≢◌, List, T, eqb, Float, length}
 use Rattle.std.proofs.Math.Decide.{dec_lt}
 use Rattle.std.proofs.Common.{arith, sym, ◌∙◌, ap, ap₂, subst}
 use Rattle.mesh.specs.declared.Counts.{Counts}
@@ -10,16 +10,15 @@ use Rattle.mesh.specs.Area.{boundary_length}
 use Rattle.sums.specs.Iterate.{iter}
 use Rattle.angle.specs.Angle.{IsAngle, turns}
 use Rattle.segment.specs.Arc.{holds}
-use Rattle.segment.specs.Bucket.{Buckets, width, ceil_of}
-use Rattle.segment.proofs.Laws.{bucket-pos}
+use Rattle.segment.specs.Bucket.{Buckets, width}
+use Rattle.segment.specs.Laws.{bucket-pos}
 use Rattle.dcel.specs.Rows.{row_of}
 use Rattle.ring.specs.Ring.{full_turn, at_ends, edge_angle}
 use Rattle.ring.specs.Splice.{Fit, FitSplice}
-use Rattle.ring.specs.Buckets.{ceiling, within}
+use Rattle.ring.specs.Buckets.{ceiling}
 use Rattle.ring.specs.Node.{NodeTable, nodes as node_count}
-use Rattle.ring.specs.Insert.{Ring, On, Bucketed, Insertion}
-use Rattle.ring.proofs.InsertLaws.{ring-sole, left-angle, right-angle, left-some, rest_some, size-old}
-use Rattle.ring.proofs.InsertLaws.{right-first}
+use Rattle.ring.specs.Insert.{Ring, ring-sole, On, Insertion, left-angle, right-angle, left-some, rest_some, size-old}
+use Rattle.ring.specs.Insert.{right-first}
 use Rattle.ring.specs.Inserted.{Rebucketed}
 use Rattle.ring.proofs.StoresLaws.{stored}
 use Rattle.ring.specs.Free.{Free, free-same}

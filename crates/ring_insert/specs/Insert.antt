@@ -12,7 +12,7 @@ use Rattle.ring.specs.WholeInsert.{Names}
 use Rattle.ring.specs.Resize.{adjusted_buckets}
 use Rattle.ring_rows.specs.declared.Node.{Node}
 use Rattle.ring_rows.specs.declared.Hull.{Hull}
-use Rattle.ring_rows.specs.Rows.{nodes_of, angle_of, left_of, right_node_of, size_of, with_edge, with_left, with_right, ValidNode, ValidNodes, NodeRing, RingHeld, Updated}
+use Rattle.ring_rows.specs.Rows.{nodes_of, angle_of, right_node_of, size_of, with_edge, with_left, with_right, ValidNodes, NodeRing, RingHeld, Updated}
 use Rattle.ring_rows.specs.Find.{ToFind}
 use Rattle.ring_insert.specs.declared.Choice.{Choice}
 use Rattle.ring_insert.specs.Retire.{Retired}

@@ -5,7 +5,7 @@ use mathlib.Core.Path.{◌≡◌, refl, sym, ◌∙◌, ap, subst}
 use mathlib.Core.Bool.{cond}
 use mathlib.Core.List.{List}
 use lib.ListN.{length}
-use Rattle.angle.specs.Angle.{IsAngle, turns}
+use Rattle.angle.specs.Angle.{IsAngle}
 use Rattle.segment.specs.Bucket.{width, ceil_of}
 use Rattle.sums.specs.Iterate.{iter}
 use Rattle.sums.proofs.IterateLaws.{iter-last}
@@ -17,8 +17,8 @@ use Rattle.ring.proofs.ResizeLaws.{buckets-sized}
 use Rattle.ring.specs.Build.{Filling}
 use Rattle.ring.proofs.BuildLaws.{filling-start, filling_step, filling-done}
 use Rattle.ring_rows.specs.declared.Node.{Node}
-use Rattle.ring_rows.specs.Rows.{nodes_of, angle_of, right_node_of, Updated, NodeUpdated, NodeBuckets, NodeRing, ToFill}
-use Rattle.ring_rows.proofs.Laws.{walk-below}
+use Rattle.ring_rows.specs.Rows.{nodes_of, angle_of, right_node_of, NodeUpdated, NodeBuckets, NodeRing, ToFill}
+use Rattle.ring_rows.specs.Laws.{walk-below}
 
 pub record Going (nodes : List Node) (old new : List ℕ) (count start size i k : ℕ) : Type 0 where
   pub given : ToFill nodes old count start size
@@ -89,10 +89,3 @@ module _ {nodes : List Node} {buckets : List ℕ} {count i : ℕ} (G : NodeBucke
   module _ {to : Node} (e₂ : to ≡ nodes_of nodes from.right) where
     pub to-angle : IsAngle to.angle
     to-angle = rw (e₂, e) G.to
-
-    pub node-updated : {new : List ℕ} {first last : ℕ} → first ≡ ceil_of (turns from.angle) count → last ≡ ceil_of (turns to.angle) count → Updated buckets new count first last i → NodeUpdated (nodes_of nodes) buckets new count i from.right
-    node-updated {new} {first} {last} f l U = record {
-      updated = subst (λ (x : ℕ). Updated buckets new count x (ceil_of (angle_of (nodes_of nodes) (right_node_of (nodes_of nodes) i)) count) i) (f ∙ ap (λ (n : Node). ceil_of (turns n.angle) count) e)
-          (subst (λ (x : ℕ). Updated buckets new count first x i) (l ∙ ap (λ (n : Node). ceil_of (turns n.angle) count) (e₂ ∙ ap (λ (n : Node). nodes_of nodes n.right) e)) U);
-      right = ap (λ (n : Node). n.right) e;
-    }

@@ -53,22 +53,6 @@ module _ {nodes : List Node} {a : Float} {right₀ left₀ right left turn : ℕ
   pub left_there : left < length nodes
   left_there = left-test.here
 
-  pub found_right : (limit : ℕ) {h : Bool} → h ≡ node_holds (nodes_of nodes) (turns a) right → h ≡ true
-      → WalkedBoth (nodes_of nodes) right₀ (turns a) limit (record { node = right; found = true })
-  found_right limit e y = record {
-    reached = (turn, sym K.at);
-    at = λ z. subst T (sym y ∙ e) tt;
-    missed = λ z. absurd (true≢false z);
-  }
-
-  pub found_left : (limit : ℕ) {h : Bool} → h ≡ node_holds (nodes_of nodes) (turns a) left → h ≡ true
-      → WalkedBoth (nodes_of nodes) right₀ (turns a) limit (record { node = left; found = true })
-  found_left limit e y = record {
-    reached = (K.left-on.0, K.left-on.2);
-    at = λ z. subst T (sym y ∙ e) tt;
-    missed = λ z. absurd (true≢false z);
-  }
-
   pub not_found : {limit : ℕ} → limit ≤ turn
       → WalkedBoth (nodes_of nodes) right₀ (turns a) limit (record { node = right; found = false })
   not_found l = record {

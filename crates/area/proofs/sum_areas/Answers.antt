@@ -21,22 +21,5 @@ pub doubled_area_at-area-requires : goal.doubled_area_at-area-requires
 doubled_area_at-area-requires c =
     corners-of c.requires.readable c.loop-f-test.true c.adjacent-a.ensures
 
-pub add_area-total-requires : goal.add_area-total-requires
-add_area-total-requires c =
-    let i = c.loop-f.invariant in
-    let r = c.doubled_area_at-area in
-    more-fits c.requires [] i.0 c.loop-f-test.true (i.2 [])
-    c.adjacent-a.ensures (sfits_of r.type-inv) (r.ensures [] _)
-
-pub loop-f-preserved : goal.loop-f-preserved
-loop-f-preserved c =
-    let i = c.loop-f.invariant in
-    let r = c.doubled_area_at-area in (
-      omega arith,
-      omega arith,
-      λ o. next-area c.requires o i.0 c.loop-f-test.true (i.2 o)
-          c.adjacent-a.ensures (sfits_of r.type-inv) (r.ensures o _) c.add_area-total.ensures,
-    )
-
 pub returns : goal.returns
 returns c = λ o. all-areas _ _ o _ _ (omega arith) (c.loop-f.invariant.2 o)

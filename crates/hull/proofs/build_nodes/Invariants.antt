@@ -1,7 +1,6 @@
 -- The loop of `hull::build_nodes`.
 use Prim.Native.Nat.{◌-◌}
-use native.Mathlib.Omega.{arith}
-use Rattle.hull.proofs.Numbered.{Building, building, building-angled, built-more, built-all}
+use Rattle.hull.proofs.Numbered.{Building}
 use Rattle.hull.proofs.build_nodes.Given as goal
 
 abbrev pub invariant-loop-k : goal.invariant-loop-k

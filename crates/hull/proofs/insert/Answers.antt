@@ -1,5 +1,4 @@
 -- `hull::insert` meets its contract. Assumes nothing.
-use borrow.Author.Rules.{rules}
 use Rattle.hull.proofs.Entering.{entering-insert, entering-adjust, entering-held}
 use Rattle.hull.proofs.insert.Goals as goal
 
@@ -13,4 +12,4 @@ adjust_bucket_size_if_necessary-requires c =
 pub returns : goal.returns
 returns c C L α C' L' α'' e m n q r N E =
     entering-held E c.insert-entered.ensures c.insert-entered.auto.nodes c.insert-entered.auto.freed c.insert-entered.auto.buckets
-    c.adjust_bucket_size_if_necessary.ensures c.adjust_bucket_size_if_necessary.auto.1.0
+    c.adjust_bucket_size_if_necessary.ensures c.adjust_bucket_size_if_necessary.auto.buckets

@@ -1,10 +1,6 @@
 -- The loop of `hull::is_strict`.
 use Prim.Native.Nat.{◌-◌}
-use native.Mathlib.Omega.{arith}
-use mathlib.Core.Path.{refl}
-use Rattle.sums.proofs.BitLaws.{bit_le}
-use Rattle.hull.proofs.Along.{angled}
-use Rattle.hull.proofs.Around.{Counting, counting, here-angled, next-angled, small-counts, counted, strict-end}
+use Rattle.hull.proofs.Around.{Counting}
 use Rattle.hull.proofs.is_strict.Given as goal
 
 abbrev pub invariant-loop-k : goal.invariant-loop-k

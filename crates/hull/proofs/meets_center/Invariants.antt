@@ -1,10 +1,6 @@
 -- The loop of `hull::meets_center`.
 use Prim.Native.Nat.{◌-◌}
-use native.Mathlib.Omega.{arith}
-use mathlib.Core.Path.{refl, ◌∙◌}
-use mir.Facts.{to_z-of_z}
-use borrow.Author.Rules.{sfits_of}
-use Rattle.hull.proofs.Around.{Meeting, there, placed, met, meeting, unmet, center-at}
+use Rattle.hull.proofs.Around.{Meeting}
 use Rattle.hull.proofs.meets_center.Given as goal
 
 abbrev pub invariant-loop-k : goal.invariant-loop-k

@@ -1,7 +1,6 @@
 -- `ring_insert::adjust_bucket_size_if_necessary` meets its contract. Assumes nothing.
 use Rattle.dcel.specs.Rows.{row_of}
 use Rattle.ring_insert.proofs.Freeing.{to-refill, adjusted}
-use borrow.Author.Rules.{rules}
 use Rattle.ring_insert.proofs.adjust_bucket_size_if_necessary.Goals as goal
 
 pub initialize_buckets-requires : goal.initialize_buckets-requires

@@ -1,7 +1,6 @@
 -- `ring_insert::adjusted_buckets` meets its contract. Assumes nothing.
 use borrow.Author.Tests.{lt-ltb, le-ltb, le-leb, lt-leb}
 use Rattle.ring.specs.Resize.{adjusted_buckets}
-use borrow.Author.Rules.{rules}
 use Rattle.ring_insert.proofs.adjusted_buckets.Goals as goal
 
 pub returns-then-count-size : goal.returns-then-count-size

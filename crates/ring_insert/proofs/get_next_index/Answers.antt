@@ -1,6 +1,5 @@
 -- `ring_insert::get_next_index` meets its contract. Assumes nothing.
 use Rattle.ring_insert.proofs.Freeing.{take_next, take-top}
-use borrow.Author.Rules.{rules}
 use Rattle.ring_insert.proofs.get_next_index.Goals as goal
 
 pub returns-then-top-eq0 : goal.returns-then-top-eq0

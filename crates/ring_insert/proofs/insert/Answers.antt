@@ -2,12 +2,8 @@
 use mathlib.Core.Path.{refl}
 use Rattle.angle.proofs.Bits.{angle-valid}
 use Rattle.ring_insert.proofs.Inserting.{chosen-as, found-angle, to-choose, to-place, to-retire, placed-retired, new-valid, new-room}
-use Rattle.ring_insert.proofs.RetireLaws.{retired-valid}
-use borrow.Author.Rules.{rules}
+use Rattle.ring_insert.specs.RetireLaws.{retired-valid}
 use Rattle.ring_insert.proofs.insert.Goals as goal
-
-pub find_left-found-requires : goal.find_left-found-requires
-find_left-found-requires c = (c.requires.to-find, c.requires.al-angle)
 
 pub choose-choice-requires : goal.choose-choice-requires
 choose-choice-requires c =
@@ -18,10 +14,10 @@ place-requires c =
     let I = c.requires in
     to-place I c.find_left-found.ensures c.equal-goes.ensures c.choose-choice.ensures
 
-pub update_buckets-requires : goal.update_buckets-requires
-update_buckets-requires c =
+pub retire-requires : goal.retire-requires
+retire-requires c =
     let I = c.requires in
-    (I.al-angle, I.q-angle, I.ar-angle, I.to-find.rows.counted, I.to-find.rows.bucket-room)
+    to-retire I c.find_left-found.ensures c.equal-goes.ensures c.choose-choice.ensures c.first_pushed-from.ensures c.place.auto.nodes c.choose-choice.auto.freed
 
 pub floored_bucket-bucket-requires : goal.floored_bucket-bucket-requires
 floored_bucket-bucket-requires c =

@@ -1,6 +1,5 @@
 -- `ring_insert::is_fit` meets its contract. Assumes nothing.
 use Rattle.ring_insert.proofs.Deciding.{same-right, wide-left, wide-right, same_left, off-left}
-use borrow.Author.Rules.{rules}
 use Rattle.ring_insert.proofs.is_fit.Goals as goal
 
 pub returns-then-equal : goal.returns-then-equal

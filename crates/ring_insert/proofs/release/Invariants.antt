@@ -1,8 +1,7 @@
 -- The loop of `ring_insert::release`.
-use borrow.Author.Rules.{rules}
 use Prim.Native.Nat.{◌-◌}
 use lib.ListN.{length}
-use Rattle.ring_insert.proofs.Freeing.{Pushing, first-there, begin, node-there, angles, room, small, fall, end, again}
+use Rattle.ring_insert.proofs.Freeing.{Pushing}
 use Rattle.ring_insert.proofs.release.Given as goal
 
 abbrev pub invariant-loop-node : goal.invariant-loop-node

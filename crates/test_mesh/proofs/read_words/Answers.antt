@@ -8,8 +8,3 @@ use Rattle.test_mesh.proofs.read_words.Goals as goal
 
 pub slice_bounds-fill_words-end : goal.slice_bounds-fill_words-end
 slice_bounds-fill_words-end c = part _ 6144 (replicate 6144 _) refl (search rules)
-
-pub returns : goal.returns
-returns c =
-    let n = c.within-count in
-    record { within = whole {A = ℕ} n.result (take n.result (replicate 6144 _)) c.fill_words-end.new.1.1.0 (drop n.result (replicate 6144 _)) (part _ 6144 (replicate 6144 _) refl n.ensures) c.fill_words-end.auto.1.1.0 }
