@@ -1,9 +1,9 @@
 -- Lengths of a row whose first n entries are lent. Assumes nothing.
 use mathlib.Core.Path.{◌≡◌, refl, sym}
-use mathlib.Core.List.{List, ◌++◌}
+use mathlib.Core.List.{List}
 use Prim.Native.Nat.{ℕ, ◌≤◌}
 use native.Mathlib.Omega.{arith}
-use lib.ListN.{length, length-append, take}
+use lib.ListN.{length, take}
 use lib.Seq.{length-take-le}
 use Rattle.test_mesh.specs.declared.Coordinates.{Coordinates}
 use Rattle.test_mesh.specs.declared.Words.{Words}
@@ -20,7 +20,3 @@ of-coordinates r l = part r.length (length r.row) r.row refl l.within
 
 pub of_words : (r : Words) → WordsLent r → r.length ≡ length (take r.length r.row)
 of_words r l = part r.length (length r.row) r.row refl l.within
-
--- The lent entries, as a call has left them, with those behind them.
-pub whole : {A : Type 0} (n : ℕ) (l l' r : List A) → n ≡ length l → length l' ≡ length l → n ≤ length (l' ++ r)
-whole n l l' r e k = simp length-append (omega arith)

@@ -1,6 +1,5 @@
 -- `area::area_total` meets its contract. Assumes nothing.
 use mathlib.Core.Path.{sym, ◌∙◌}
-use borrow.Author.Rules.{rules}
 use Rattle.area.proofs.AreaTotalLaws.{checked-summable, refused-area, accepted-area}
 use Rattle.area.proofs.area_total.Goals as goal
 

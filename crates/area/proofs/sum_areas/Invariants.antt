@@ -1,14 +1,9 @@
 -- The loop of `area::sum_areas`.
-use mathlib.Core.List.{List, []}
+use mathlib.Core.List.{List}
 use mathlib.Core.Path.{◌≡◌}
 use Prim.Native.Nat.{ℕ, ◌-◌, ◌<◌, ◌≤◌}
-use native.Mathlib.Nat.{lt_of_lt_of_le}
-use native.Mathlib.Omega.{arith}
-use borrow.Author.Rules.{sfits_of}
 use Rattle.int128.specs.Int128.{in_halves}
-use Rattle.mesh_check.proofs.ReadableLaws.{corners-of}
 use Rattle.area.specs.Summable.{areas_to}
-use Rattle.area.proofs.Loop.{no-area, more-fits, next-area, all-areas}
 use Rattle.area.proofs.sum_areas.Given as goal
 
 abbrev pub invariant-loop-f : goal.invariant-loop-f

@@ -1,6 +1,5 @@
 -- The loop of `test_mesh::compare_longs`.
 use Prim.Native.Nat.{◌≤◌, ◌-◌}
-use borrow.Author.Rules.{rules}
 use Rattle.test_mesh.proofs.compare_longs.Given as goal
 
 abbrev pub invariant-loop-i : goal.invariant-loop-i

@@ -1,6 +1,5 @@
 -- The loop of `test_mesh::holds`.
 use Prim.Native.Nat.{◌≤◌, ◌-◌}
-use borrow.Author.Rules.{rules}
 use Rattle.test_mesh.proofs.holds.Given as goal
 
 abbrev pub invariant-loop-i : goal.invariant-loop-i

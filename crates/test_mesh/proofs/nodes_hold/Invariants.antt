@@ -1,6 +1,5 @@
 -- The loop of `test_mesh::nodes_hold`.
 use Prim.Native.Nat.{◌≤◌, ◌-◌}
-use borrow.Author.Rules.{rules}
 use Rattle.test_mesh.proofs.nodes_hold.Given as goal
 
 abbrev pub invariant-loop-i : goal.invariant-loop-i

@@ -1,9 +1,6 @@
 -- The loop of `test_mesh::numbers_from`.
 use Prim.Native.Nat.{◌≤◌, ◌-◌}
 use lib.ListN.{length}
-use native.Mathlib.Omega.{arith}
-use mathlib.Core.Logic.{⊎_elim}
-use borrow.Author.Rules.{rules}
 use Rattle.test_mesh.proofs.numbers_from.Given as goal
 
 abbrev pub invariant-loop-i : goal.invariant-loop-i

@@ -1,6 +1,6 @@
 -- `volume::above_level` meets its contract. Assumes nothing.
 use mathlib.Core.Path.{◌∙◌}
-use borrow.Author.Rules.{rules, sfits_of}
+use borrow.Author.Rules.{sfits_of}
 use mir.Facts.{to_z-of_z}
 use Rattle.volume.proofs.Corners.{second-there, third-there, height-one, height-two, height-three, above-is}
 use mir.Syntax.{w64}

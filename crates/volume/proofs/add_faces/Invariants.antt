@@ -1,22 +1,16 @@
 -- The loop of `volume::add_faces`.
-use mathlib.Core.List.{List, []}
+use mathlib.Core.List.{List}
 use mathlib.Core.Path.{◌≡◌}
 use Prim.Native.Nat.{ℕ, ◌-◌, ◌<◌, ◌≤◌}
-use native.Mathlib.Nat.{lt_of_lt_of_le}
-use native.Mathlib.Omega.{arith}
-use mir.Syntax.{w32}
-use mir.Val.{to_z}
-use mir.Facts.{to_z-of_z}
 use Rattle.dcel.specs.Rows.{position_of, links_of}
 use Rattle.heights.specs.Heights.{height_of}
 use Rattle.volume.specs.Measurable.{face_sums}
-use Rattle.volume.proofs.MeasurableLaws.{no-face, next-face, triangle-of, faces-small}
 use Rattle.volume.proofs.add_faces.Given as goal
 
 abbrev pub invariant-loop-f : goal.invariant-loop-f
 invariant-loop-f l =
     (0 < l.f) × (l.f ≤ l.count) × ((o : List ℕ)
-    → l.sums ≡ face_sums (l.f - 1) (links_of o l.halves l.faces) (position_of l.positions) (height_of l.heights) (to_z w32 l.level))
+    → l.sums ≡ face_sums (l.f - 1) (links_of o l.halves l.faces) (position_of l.positions) (height_of l.heights) l.level)
 
 abbrev pub decreases-loop-f : goal.decreases-loop-f
 decreases-loop-f l = l.count - l.f

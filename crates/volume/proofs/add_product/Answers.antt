@@ -1,7 +1,6 @@
 -- `volume::add_product` meets its contract: nothing overflows. Assumes nothing.
 use mathlib.Core.List.{[], ◌∷◌}
 use Prim.Native.Nat.{◌^◌}
-use borrow.Author.Rules.{rules}
 use lib.IntN.{pos}
 use Rattle.algebra.specs.Ring.{v0, v1, v2, ◌⊕◌, ◌⊗◌}
 use Rattle.algebra.specs.Bound.{Env, []ᵉ, ◌∷ᵉ◌, fits64, reads64}

@@ -13,3 +13,12 @@ add_product-requires-2 c = let p = c.requires in middle-asked p.1 p.0
 
 pub add_product-requires-3 : goal.add_product-requires-3
 add_product-requires-3 c = let p = c.requires in high-asked p.1 p.0
+
+pub returns : goal.returns
+returns c =
+    let p = c.requires in
+    let x = c.add_product in
+    let y = c.add_product-2 in
+    let z = c.add_product-3 in
+    one-added p.1 p.0 (record { sfits = x.type_inv }) (record { sfits = y.type_inv }) (record { sfits = z.type_inv })
+    x.ensures y.ensures z.ensures

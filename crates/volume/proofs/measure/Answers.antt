@@ -1,7 +1,7 @@
 -- `volume::measure` meets its contract. Assumes nothing.
 use mathlib.Core.List.{[]}
 use native.Mathlib.Omega.{arith}
-use borrow.Author.Rules.{rules, sfits_of}
+use borrow.Author.Rules.{sfits_of}
 use mir.Facts.{to_z-of_z}
 use Rattle.volume.proofs.Call.{sums-small, six-less, volumes-found}
 use Rattle.volume.proofs.measure.Goals as goal

@@ -1,11 +1,8 @@
 -- `volume::volume` meets its contract. Assumes nothing.
 use mathlib.Core.Path.{sym, ◌∙◌, ap}
-use borrow.Author.Rules.{rules}
 use mir.Facts.{to_z-of_z}
 use Rattle.heights.specs.Heights.{is_valid_height}
 use Rattle.volume.proofs.Call.{refused-volume, measurable, accepted-volume}
-use Rattle.volume.proofs.volume.Reads as reads
-use Rattle.volume.proofs.volume.Lts as lts
 use Rattle.volume.proofs.volume.Goals as goal
 
 pub measure-requires : goal.measure-requires

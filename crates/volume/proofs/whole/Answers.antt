@@ -1,6 +1,5 @@
 -- `volume::whole` meets its contract. Assumes nothing.
 use mathlib.Core.Path.{◌∙◌}
-use borrow.Author.Rules.{rules}
 use Rattle.volume.proofs.Sums.{first_fits, whole-fits, whole-made}
 use Rattle.volume.proofs.whole.Goals as goal
 
