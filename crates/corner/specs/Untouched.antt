@@ -15,7 +15,7 @@ use Rattle.math.specs.declared.Point.{Point}
 use Rattle.mesh.specs.declared.Counts.{Counts}
 use Rattle.mesh.specs.Mesh.{Links, In}
 use Rattle.mesh.specs.Operations.{flip_between, flip_cw, face_between, create_single_face_between_edge_and_next, with_face, face_adjacent, create_new_face_adjacent_to_edge, with_vertex}
-use Rattle.mesh.proofs.FlipRunLaws as runs
+use Rattle.mesh.specs.FlipRun as runs
 use Rattle.mesh.specs.FlipRun.{FlipRun}
 use Rattle.mesh.proofs.FlipRunLaws.{run-good}
 use Rattle.mesh.specs.Good.{Good}

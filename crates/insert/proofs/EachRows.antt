@@ -22,6 +22,7 @@ use Rattle.mesh.proofs.CountsLaws.{faces-fit}
 use Rattle.mesh.specs.Good.{Good}
 use Rattle.skipped.specs.Insert.{legalize_one, legalize_each}
 use Rattle.skipped.proofs.LegalizeVertexLaws as vertex
+use Rattle.skipped.specs.LegalizeVertex as vertex_defs
 use Rattle.sums.proofs.Cases.{All}
 use Rattle.insert.specs.Each.{each-full, each-one, each_append}
 use Rattle.insert.specs.InsertRows.{OneReady, TwoReady}
@@ -55,10 +56,10 @@ module _ {q : List ℤ} {o h a row : List ℕ} {g : Extension} {e : ℕ} (R : On
 module _ {q : List ℤ} {o h a row : List ℕ} {g : Extension} (R : Ready q o h a row g) (l : List ℕ) (A : All (In g.counts) l)
     {o' h' a' row' : List ℕ} (s : SameLengths o h a row o' h' a' row') (g' : Extension)
     (x : extended_of o' h' a' g' ≡ legalize_each (length row) (position_of q) (extended_of o h a g) l) where
-  flipped : vertex.Legalized (position_of q) (extended_of o h a g) (extended_of o' h' a' g')
+  flipped : vertex_defs.Legalized (position_of q) (extended_of o h a g) (extended_of o' h' a' g')
   unfolding extended_of
   flipped =
-      subst⁻¹ (vertex.Legalized (position_of q) (extended_of o h a g)) x
+      subst⁻¹ (vertex_defs.Legalized (position_of q) (extended_of o h a g)) x
       (vertex.legalize-each (length row) (position_of q) l (extended_of o h a g) R.rows.good A)
 
   pub each_counts : g'.counts ≡ g.counts

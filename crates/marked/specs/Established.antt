@@ -48,8 +48,8 @@ use Rattle.sums.specs.Iterate.{reaches, period_below}
 use Rattle.sums.specs.Put.{put}
 use Rattle.sums.specs.Until.{when, until}
 use Rattle.angle.specs.Angle as angle
-use Rattle.sums.proofs.SumLaws as sums
-use Rattle.sums.proofs.TallyLaws as tallies
+use Rattle.sums.specs.Sum as sums
+use Rattle.sums.specs.Tally as tallies
 use Rattle.marked.specs.Marked.{Marked}
 use Rattle.marked.specs.NoPoints.{no-points}
 

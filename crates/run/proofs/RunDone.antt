@@ -36,7 +36,7 @@ use Rattle.complete.specs.declared.Completed.{Completed}
 use Rattle.complete.specs.CompleteRows.{fill_word, swept_to, CompleteReady, CompleteLeaves}
 use Rattle.convexity.specs.Convexity.{convexity}
 use Rattle.skipped.specs.Fill.{Completing}
-use Rattle.sums.proofs.BoundedLaws as Bounded
+use Rattle.sums.specs.Bounded as Bounded
 
 -- ---- an outcome by its parts
 outcome-is : {r r' : FinishAnswer} {m m' : MeshRows} {g g' : RingRows} {p p' w w' : List ℕ} → r ≡ r' → m ≡ m' → g ≡ g' → p ≡ p' → w ≡ w'
