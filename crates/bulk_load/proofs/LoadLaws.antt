@@ -18,7 +18,7 @@ use Rattle.finish.specs.declared.Totals.{Totals}
 use Rattle.finish.specs.Finish.{Finishing, finish_mesh, totals_from, finished_from}
 use Rattle.line.specs.GrowUntouched.{Fits}
 use Rattle.heights.specs.Heights.{height_of}
-use Rattle.line.specs.GrowLaws as phase
+use Rattle.line.proofs.GrowLawsFacts as phase
 use Rattle.line.specs.GrowLaws.{Phase}
 use Rattle.math.specs.declared.Point.{Point}
 use Rattle.mesh.specs.declared.Counts.{Counts}
@@ -43,7 +43,7 @@ use Rattle.bulk_load.proofs.LoadAnswers.{rows-again, seed-word, swept-word, rest
 use Rattle.bulk_load.proofs.PastLaws.{seed-rows}
 use Rattle.bulk_load.proofs.RestFacts as rest
 use Rattle.bulk_load.specs.Rest.{SeedRows}
-use Rattle.bulk_load.specs.SweptLaws.{RestAnswers}
+use Rattle.bulk_load.proofs.SweptLaws.{RestAnswers}
 use Rattle.bulk_load.proofs.SweptLaws.{grown, SeedAnswers, seed-fate, seed-not-entered, seed-added, seed-vertices, seed-vertex, seed-used, seed-here, swept-demand-3}
 
 counts-are : (C : Counts) {a b d : ℕ} → C.vertices ≡ a → C.edges ≡ b → C.faces ≡ d → C ≡ record { vertices = a; edges = b; faces = d }

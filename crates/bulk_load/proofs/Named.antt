@@ -11,7 +11,7 @@ use Rattle.mesh_check.specs.CheckLaws.{NumberedTo}
 use Rattle.mesh_check.proofs.CheckLawsFacts.{numbered-at}
 use Rattle.sweep.specs.Run.{run_completes}
 use Rattle.bulk_load.specs.BulkLoad.{BulkLoadLent, BulkLoadOutcome, bulk_load_checked, bulk_load_of, rest_of, swept, ended, lined, stopped, loaded_by}
-use Rattle.bulk_load.specs.LoadLaws.{at-flip, at-start, at-mesh, at-line}
+use Rattle.bulk_load.proofs.LoadLaws.{at-flip, at-start, at-mesh, at-line}
 use Rattle.bulk_load.proofs.LoadLaws.{End, end_of, load_is, refused-not}
 use Rattle.bulk_load.proofs.Numbered.{load-numbered}
 

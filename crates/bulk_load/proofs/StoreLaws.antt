@@ -24,12 +24,12 @@ use Rattle.bulk_load.specs.Demand3.{as_run}
 use Rattle.bulk_load.proofs.EndedLaws.{all-taken, grown-most}
 use Rattle.bulk_load.proofs.LoadAnswers.{zero_word}
 use Rattle.bulk_load.proofs.LoadLaws as load
-use Rattle.bulk_load.specs.LoadLaws.{at-flip, at-start, at-mesh, at-line}
+use Rattle.bulk_load.proofs.LoadLaws.{at-flip, at-start, at-mesh, at-line}
 use Rattle.bulk_load.proofs.LoadLaws.{End, end_of, load_is}
 use Rattle.bulk_load.proofs.PastLaws.{seed-rows}
 use Rattle.bulk_load.proofs.RestFacts as rest
 use Rattle.bulk_load.proofs.SweptLaws as swept-laws
-use Rattle.bulk_load.specs.SweptLaws.{RestAnswers}
+use Rattle.bulk_load.proofs.SweptLaws.{RestAnswers}
 use Rattle.bulk_load.proofs.SweptLaws.{SeedAnswers}
 
 -- 0 is no fate

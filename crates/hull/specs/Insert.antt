@@ -11,14 +11,15 @@ use Rattle.sums.specs.Iterate.{iter}
 use Rattle.angle.specs.Angle.{IsAngle, turns}
 use Rattle.segment.specs.Arc.{holds}
 use Rattle.segment.specs.Bucket.{Buckets, width}
-use Rattle.segment.specs.Laws.{bucket-pos}
+use Rattle.segment.proofs.Laws.{bucket-pos}
 use Rattle.dcel.specs.Rows.{row_of}
 use Rattle.ring.specs.Ring.{full_turn, at_ends, edge_angle}
 use Rattle.ring.specs.Splice.{Fit, FitSplice}
 use Rattle.ring.specs.Buckets.{ceiling}
 use Rattle.ring.specs.Node.{NodeTable, nodes as node_count}
-use Rattle.ring.specs.Insert.{Ring, ring-sole, On, Insertion, left-angle, right-angle, left-some, rest_some, size-old}
-use Rattle.ring.specs.Insert.{right-first}
+use Rattle.ring.specs.Insert.{Ring, On, Insertion}
+use Rattle.ring.proofs.InsertLaws.{ring-sole, left-angle, right-angle, left-some, rest_some, size-old}
+use Rattle.ring.proofs.InsertLaws.{right-first}
 use Rattle.ring.specs.Inserted.{Rebucketed}
 use Rattle.ring.proofs.StoresLaws.{stored}
 use Rattle.ring.specs.Free.{Free, free-same}

@@ -14,10 +14,12 @@ use Rattle.angle.specs.Angle.{turns}
 use Rattle.segment.specs.Arc.{holds}
 use Rattle.dcel.specs.Rows.{row_of}
 use Rattle.ring.specs.Ring.{proper, at_ends}
-use Rattle.ring.specs.Segments.{holds-first, proper→}
-use Rattle.ring.specs.Sound.{tile-sole}
-use Rattle.ring.specs.Insert.{all-proper, Insertion}
-use Rattle.ring.specs.Free.{Taken, taken-sum}
+use Rattle.ring.proofs.SegmentsLaws.{holds-first, proper→}
+use Rattle.ring.proofs.SoundLaws.{tile-sole}
+use Rattle.ring.specs.Insert.{Insertion}
+use Rattle.ring.proofs.InsertLaws.{all-proper}
+use Rattle.ring.specs.Free.{Taken}
+use Rattle.ring.proofs.FreeLaws.{taken-sum}
 use Rattle.ring.specs.WholeInsert.{Names}
 use Rattle.ring_rows.specs.declared.Node.{Node}
 use Rattle.ring_rows.specs.declared.Hull.{Hull}

@@ -7,8 +7,9 @@ use Rattle.std.specs.Prelude.{◌≡◌, ◌≢◌, Bool, cond, eqb, Float}
 use Rattle.std.proofs.Math.Path.{refl, ap}
 use Rattle.std.proofs.Math.Bool.{true, false}
 use Rattle.angle.specs.Angle.{IsAngle, turns}
-use Rattle.sums.specs.Put.{put, put_same, put_other, put_id}
-use Rattle.ring.specs.Stores.{stored}
+use Rattle.sums.specs.Put.{put}
+use Rattle.sums.proofs.PutLaws.{put_same, put_other, put_id}
+use Rattle.ring.proofs.StoresLaws.{stored}
 use Rattle.ring_rows.specs.declared.Node.{Node}
 use Rattle.ring_rows.specs.Rows.{angle_of, edge_of, left_of, right_node_of, with_edge, with_left, with_right, ValidNode, ValidNodes}
 use Rattle.ring_rows.proofs.RowsLaws.{table_of}

@@ -18,7 +18,7 @@ use Rattle.ring.specs.Build.{Filling}
 use Rattle.ring.proofs.BuildLaws.{filling-start, filling_step, filling-done}
 use Rattle.ring_rows.specs.declared.Node.{Node}
 use Rattle.ring_rows.specs.Rows.{nodes_of, angle_of, right_node_of, NodeUpdated, NodeBuckets, NodeRing, ToFill}
-use Rattle.ring_rows.specs.Laws.{walk-below}
+use Rattle.ring_rows.proofs.Laws.{walk-below}
 
 pub record Going (nodes : List Node) (old new : List ℕ) (count start size i k : ℕ) : Type 0 where
   pub given : ToFill nodes old count start size

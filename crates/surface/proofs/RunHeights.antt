@@ -13,7 +13,7 @@ use Rattle.sweep.specs.Run.{Sweeping, RunLent, run_checked, sweep_of, run_comple
 use Rattle.surface.specs.StoredHeights.{stored_from, answered_heights, finished_heights}
 use Rattle.surface.specs.Surface.{sweep_heights, fill_heights, run_heights}
 use Rattle.surface.proofs.RunAnswers.{step_vertex, insert_vertex, steps-whole, steps-stopped, points_none, points-whole, points-stopped}
-use Rattle.surface.specs.RunRefused.{at-step, at-passes, at-point, at-end}
+use Rattle.surface.proofs.RunRefused.{at-step, at-passes, at-point, at-end}
 use Rattle.surface.proofs.RunRefused.{PointRefused, step-refused, point-refused, Ended, ended, made-is, place_end, place_at, vertices-are}
 use Rattle.surface.proofs.StoredLaws.{heights-end, heights-at}
 

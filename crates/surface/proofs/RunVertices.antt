@@ -16,7 +16,7 @@ use Rattle.sweep.proofs.RunLaws.{run-keeps, swept-good, points-range, one_each}
 use Rattle.surface.proofs.Stages.{whole_to}
 use Rattle.surface.specs.StoredHeights.{fate_word, vertex_word, is_from, place_of}
 use Rattle.surface.proofs.RunAnswers.{adds, fill_on, added-test, added-vertex, inserted-test, inserted-vertex}
-use Rattle.surface.specs.RunRefused.{at-step, at-passes, at-point, at-end}
+use Rattle.surface.proofs.RunRefused.{at-step, at-passes, at-point, at-end}
 use Rattle.surface.proofs.RunRefused.{keeps, step-next, step-refused, passed-good, fill-count, point-refused, Ended, ended, vertices-are, place_end}
 
 module _ (l : RunLent) (e : run_checked l ≡ Checked.Accepted) where

@@ -1,7 +1,7 @@
 -- `hull::from_triangulation` meets its contract. Assumes nothing.
 use native.Mathlib.Omega.{arith}
 use mathlib.Core.Path.{refl}
-use Rattle.hull.specs.Build.{size-three, to_fill}
+use Rattle.hull.proofs.Build.{size-three, to_fill}
 use Rattle.hull.proofs.from_triangulation.Goals as goal
 
 pub build_nodes-requires : goal.build_nodes-requires

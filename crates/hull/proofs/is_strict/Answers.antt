@@ -1,6 +1,6 @@
 -- `hull::is_strict` meets its contract. Assumes nothing.
 use native.Mathlib.Omega.{arith}
-use Rattle.sums.specs.Bit.{bit_le}
+use Rattle.sums.proofs.BitLaws.{bit_le}
 use Rattle.hull.proofs.Around.{counting, next-angled, small-counts, counted, strict-end}
 use Rattle.hull.proofs.is_strict.Goals as goal
 

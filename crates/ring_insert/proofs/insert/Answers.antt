@@ -2,7 +2,7 @@
 use mathlib.Core.Path.{refl}
 use Rattle.angle.proofs.Bits.{angle-valid}
 use Rattle.ring_insert.proofs.Inserting.{chosen-as, found-angle, to-choose, to-place, to-retire, placed-retired, new-valid, new-room}
-use Rattle.ring_insert.specs.RetireLaws.{retired-valid}
+use Rattle.ring_insert.proofs.RetireLaws.{retired-valid}
 use Rattle.ring_insert.proofs.insert.Goals as goal
 
 pub choose-choice-requires : goal.choose-choice-requires
