@@ -55,7 +55,7 @@ is_still_settled-settled-requires c =
     let f = c.fill_point-done.auto in
     let l = c.loop-i-test.true in
     let I = filling-on c.loop-i.invariant.0 l c.fill_point-done.ensures c.if-done.false {row' = c.fill_point-done.new.1.1.1.1.0}
-    (record { positions = f.0; outs = f.1.0; halves = f.1.1.0; faces = f.1.1.1.0; pending = f.1.1.1.1.0; answers = f.1.1.1.1.1.0 }) in
+    (record { positions = f.positions; outs = f.outs; halves = f.halves; faces = f.faces; pending = f.pending; answers = f.answers }) in
     (filling-rows I, (let r = I.ready.answers-room in let k = I.lengths.answers in omega arith))
 
 pub place-all-requires : goal.place-all-requires
@@ -75,7 +75,7 @@ loop-i-preserved c =
     let X = c.fill_point-done.ensures in
     let n = c.if-done.false in (
       filling-on I l X n
-          (record { positions = f.0; outs = f.1.0; halves = f.1.1.0; faces = f.1.1.1.0; pending = f.1.1.1.1.0; answers = f.1.1.1.1.1.0 }),
+          (record { positions = f.positions; outs = f.outs; halves = f.halves; faces = f.faces; pending = f.pending; answers = f.answers }),
       c.place-all.auto.grid ∙ c.prefetch_block.auto.grid ∙ c.loop-i.invariant.1,
       c.place-all.ensures ∙ c.loop-i.invariant.2,
       filling-settled I l X n c.loop-i.settled c.is_still_settled-settled.result c.loop-i.invariant.3 c.is_still_settled-settled.ensures,

@@ -22,7 +22,7 @@ pub loop-still-preserved : goal.loop-still-preserved
 loop-still-preserved c =
     let k = c.fix_convexity-now.auto in
     passes_on c.loop-still.invariant c.loop-still-test.true-raw _ _ _ _ c.fix_convexity-now.ensures c.is_still-still.ensures
-    (record { outs = k.1.0; halves = k.1.1.0; faces = k.1.1.1.0; pending = k.1.1.1.1.0 })
+    (record { outs = k.outs; halves = k.halves; faces = k.faces; pending = k.pending })
 
 pub shape_of-outs : goal.shape_of-outs
 shape_of-outs c = c.loop-still.invariant.lengths.outs

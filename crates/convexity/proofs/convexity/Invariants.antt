@@ -10,4 +10,4 @@ invariant-loop-still l =
 
 abbrev pub decreases-loop-still : goal.decreases-loop-still
 decreases-loop-still l =
-    passes_left (record { mesh = extended_of l.outs l.halves l.faces l.now; l.still = l.still })
+    passes_left (record { mesh = extended_of l.outs l.halves l.faces l.now; still = l.still })

@@ -43,7 +43,7 @@ pub loop-halves-preserved : goal.loop-halves-preserved
 loop-halves-preserved c =
     let k = c.close_all_behind-walked.auto in
     pass_on c.loop-halves.invariant c.walk_ends.ensures c.loop-halves-test.true-raw c.next-current.ensures _ _ _ _ _ c.close_all_behind-walked.ensures
-    (record { outs = k.1.0; halves = k.1.1.0; faces = k.1.1.1.0; pending = k.1.1.1.1.0 })
+    (record { outs = k.outs; halves = k.halves; faces = k.faces; pending = k.pending })
 
 pub shape_of-outs : goal.shape_of-outs
 shape_of-outs c = c.loop-halves.invariant.lengths.outs

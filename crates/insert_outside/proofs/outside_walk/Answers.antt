@@ -23,7 +23,7 @@ pub loop-side-preserved : goal.loop-side-preserved
 loop-side-preserved c =
     let k = c.outside_turn-now.auto in
     walk-on c.loop-side.invariant c.sees_beside.ensures c.loop-side-test.true _ _ _ _ c.outside_turn-now.ensures
-    (record { outs = k.1.0; halves = k.1.1.0; faces = k.1.1.1.0; pending = k.1.1.1.1.0 })
+    (record { outs = k.outs; halves = k.halves; faces = k.faces; pending = k.pending })
 
 pub shape_of-outs : goal.shape_of-outs
 shape_of-outs c = c.loop-side.invariant.lengths.outs

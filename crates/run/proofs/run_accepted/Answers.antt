@@ -21,7 +21,7 @@ zero_answers-requires c = to-zero _ c.requires _ c.point_count-count.ensures _ _
 pub complete_after-done-requires : goal.complete_after-done-requires
 complete_after-done-requires c =
     let k = c.sweep-end.auto in
-    to-complete _ c.requires _ c.point_count-count.ensures _ _ _ _ _ _ c.sweep-end.ensures _ c.zero_answers.ensures _ k.0 k.1.0 k.1.1.0 k.1.1.1.0 k.1.1.1.1.0 (c.zero_answers.auto.answers ∙ k.1.1.1.1.1.1.1.1.0)
+    to-complete _ c.requires _ c.point_count-count.ensures _ _ _ _ _ _ c.sweep-end.ensures _ c.zero_answers.ensures _ k.positions k.outs k.halves k.faces k.pending (c.zero_answers.auto.answers ∙ k.answers)
 
 pub shape_of-positions : goal.shape_of-positions
 shape_of-positions c = c.complete_after-done.auto.positions ∙ c.sweep-end.auto.positions
@@ -55,7 +55,7 @@ returns c =
     let g = c.start_ring-hull.auto in
     let k = c.sweep-end.auto in
     let f = c.complete_after-done.auto in
-    run-done _ c.requires _ c.point_count-count.ensures _ _ _ _ _ _ c.sweep-end.ensures _ c.zero_answers.ensures _ _ _ _ _ _ _ k.1.1.1.1.0 c.complete_after-done.ensures _ _ _ _ _
-    (record { positions = f.0 ∙ k.0; outs = f.1.0 ∙ k.1.0; halves = f.1.1.0 ∙ k.1.1.0; faces = f.1.1.1.0 ∙ k.1.1.1.0 })
-    (k.1.1.1.1.1.0 ∙ g.1.1.1.0) k.1.1.1.1.1.1.0 (f.1.1.1.1.1.1.0 ∙ k.1.1.1.1.1.1.1.0 ∙ g.1.1.1.1.0) (f.1.1.1.1.0 ∙ k.1.1.1.1.0)
-    (f.1.1.1.1.1.0 ∙ c.zero_answers.auto.answers ∙ k.1.1.1.1.1.1.1.1.0) c.clear_rows.ensures (c.answer_of.ensures _ _ _)
+    run-done _ c.requires _ c.point_count-count.ensures _ _ _ _ _ _ c.sweep-end.ensures _ c.zero_answers.ensures _ _ _ _ _ _ _ k.pending c.complete_after-done.ensures _ _ _ _ _
+    (record { positions = f.positions ∙ k.positions; outs = f.outs ∙ k.outs; halves = f.halves ∙ k.halves; faces = f.faces ∙ k.faces })
+    (k.nodes ∙ g.nodes) k.freed (f.grid ∙ k.buckets ∙ g.buckets) (f.pending ∙ k.pending)
+    (f.answers ∙ c.zero_answers.auto.answers ∙ k.answers) c.clear_rows.ensures (c.answer_of.ensures _ _ _)

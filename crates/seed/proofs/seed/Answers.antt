@@ -60,7 +60,7 @@ pub loop-i-preserved : goal.loop-i-preserved
 loop-i-preserved c =
     let k = c.seed_point-done.auto in
     seeding-on c.loop-i.invariant c.seed_point-done.ensures c.loop-i-test.true c.if-done.false c.if-done-2.false
-    (record { positions = k.0; outs = k.1.0; halves = k.1.1.0; faces = k.1.1.1.0 }) k.1.1.1.1.0 k.1.1.1.1.1.0
+    (record { positions = k.positions; outs = k.outs; halves = k.halves; faces = k.faces }) k.pending k.answers
 
 pub shape_of-positions : goal.shape_of-positions
 shape_of-positions c = c.loop-i.invariant.lengths.positions

@@ -16,7 +16,7 @@ store_words-requires c = c.requires.answers-room
 pub is_ready-ready-requires : goal.is_ready-ready-requires
 is_ready-ready-requires c =
     let k = c.grow_on-done.auto in
-    center-ready c.requires c.position-point.ensures _ _ _ _ _ c.grow_on-done.ensures k.0 k.1.0 k.1.1.0 k.1.1.1.0
+    center-ready c.requires c.position-point.ensures _ _ _ _ _ c.grow_on-done.ensures k.positions k.outs k.halves k.faces
 
 pub overflow_add-result : goal.overflow_add-result
 overflow_add-result c = record { fits = c.requires.small }

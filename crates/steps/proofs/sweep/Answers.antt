@@ -59,7 +59,7 @@ loop-i-preserved c =
     let s = c.single_bulk_insertion_step-done in
     let k = s.auto in
     sweeping-on c.loop-i.invariant (omega (arith, c.loop-i-test.true)) c.position-point.ensures s.ensures c.if-done.false
-    k.0 k.1.0 k.1.1.0 k.1.1.1.0 k.1.1.1.1.0 k.1.1.1.1.1.0 k.1.1.1.1.1.1.0 k.1.1.1.1.1.1.1.0 _ c.store_answer.ensures c.store_answer.auto.answers
+    k.positions k.outs k.halves k.faces k.pending k.nodes k.freed k.buckets _ c.store_answer.ensures c.store_answer.auto.answers
 
 pub shape_of-positions : goal.shape_of-positions
 shape_of-positions c = c.loop-i.invariant.lengths.positions
