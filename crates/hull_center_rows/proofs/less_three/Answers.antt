@@ -43,11 +43,3 @@ pub overflow_sub-result-2 : goal.overflow_sub-result-2
 overflow_sub-result-2 c =
     let env : let a = c.args in Env (a.sum.x ∷ rd a.a.x ∷ a.sum.y ∷ rd a.a.y ∷ []) (50331648 ∷ 16777216 ∷ 50331648 ∷ 16777216 ∷ []) = let a = c.args in let p = c.requires.0 in let q = c.requires.1 in p.x ∷ᵉ small-read w32 a.a.x q.x tt ∷ᵉ p.y ∷ᵉ small-read w32 a.a.y q.y tt ∷ᵉ []ᵉ in
     fits64 (env) (v2 ⊖ # 3 ⊗ v3) tt
-
-pub returns : goal.returns
-unfolding less_three
-returns c =
-    let s = c in let a = s.args in let q = s.pre.1 in
-    ap₂ (λ (x y : ℤ). record { x = x; y = y })
-    (reads64 (env s) (v0 ⊖ # 3 ⊗ v1) tt ∙ ap (λ (z : ℤ). a.sum.x -ℤ pos 3 *ℤ z) (to_z-of_z (small-fits w32 {z = a.a.x} q.x tt)))
-    (reads64 (env s) (v2 ⊖ # 3 ⊗ v3) tt ∙ ap (λ (z : ℤ). a.sum.y -ℤ pos 3 *ℤ z) (to_z-of_z (small-fits w32 {z = a.a.y} q.y tt)))

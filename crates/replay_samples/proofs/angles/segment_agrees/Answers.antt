@@ -10,6 +10,3 @@ use Rattle.replay_samples.proofs.angles.segment_agrees.Goals as goal
 
 pub new-requires : goal.new-requires
 new-requires c = (c.requires.0, c.requires.1, eqb-false _ _ (sym c.equal.ensures ∙ c.if-equal.false))
-
-pub contains_angle-requires : goal.contains_angle-requires
-contains_angle-requires c = (c.new.ensures.angles.0, from-true (sym c.validate_angle.ensures ∙ not-false _ c.if-not-validate_angle.false-raw))
