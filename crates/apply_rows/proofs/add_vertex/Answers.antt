@@ -25,12 +25,12 @@ first_face-first-requires c = first-ready c.requires
 
 pub walk-before-requires : goal.walk-before-requires
 walk-before-requires c =
-    left-ready c.requires {row₁ = c.first_face-first.new.1.1.1.1.0} _ c.first_face-first.ensures (record { outs = c.first_face-first.auto.outs; halves = c.first_face-first.auto.halves; faces = c.first_face-first.auto.faces; pending = c.first_face-first.auto.pending })
+    left-ready c.requires {row₁ = c.first_face-first.new.pending} _ c.first_face-first.ensures (record { outs = c.first_face-first.auto.outs; halves = c.first_face-first.auto.halves; faces = c.first_face-first.auto.faces; pending = c.first_face-first.auto.pending })
 
 pub walk-after-requires : goal.walk-after-requires
 walk-after-requires c =
-    right-ready c.requires {row₁ = c.first_face-first.new.1.1.1.1.0} _ c.first_face-first.ensures (record { outs = c.first_face-first.auto.outs; halves = c.first_face-first.auto.halves; faces = c.first_face-first.auto.faces; pending = c.first_face-first.auto.pending })
-    {row₂ = c.walk-before.new.1.1.1.1.0} _ c.walk-before.ensures (record { outs = c.walk-before.auto.outs; halves = c.walk-before.auto.halves; faces = c.walk-before.auto.faces; pending = c.walk-before.auto.pending })
+    right-ready c.requires {row₁ = c.first_face-first.new.pending} _ c.first_face-first.ensures (record { outs = c.first_face-first.auto.outs; halves = c.first_face-first.auto.halves; faces = c.first_face-first.auto.faces; pending = c.first_face-first.auto.pending })
+    {row₂ = c.walk-before.new.pending} _ c.walk-before.ensures (record { outs = c.walk-before.auto.outs; halves = c.walk-before.auto.halves; faces = c.walk-before.auto.faces; pending = c.walk-before.auto.pending })
 
 pub shape_of-outs : goal.shape_of-outs
 shape_of-outs c = c.walk-after.auto.outs ∙ c.walk-before.auto.outs ∙ c.first_face-first.auto.outs
@@ -46,5 +46,5 @@ shape_of-pending c = c.walk-after.auto.pending ∙ c.walk-before.auto.pending �
 
 pub returns : goal.returns
 returns c =
-    added-rows c.requires {row₁ = c.first_face-first.new.1.1.1.1.0} _ c.first_face-first.ensures (record { outs = c.first_face-first.auto.outs; halves = c.first_face-first.auto.halves; faces = c.first_face-first.auto.faces; pending = c.first_face-first.auto.pending })
-    {row₂ = c.walk-before.new.1.1.1.1.0} _ c.walk-before.ensures (record { outs = c.walk-before.auto.outs; halves = c.walk-before.auto.halves; faces = c.walk-before.auto.faces; pending = c.walk-before.auto.pending }) _ _ _ _ c.walk-after.ensures
+    added-rows c.requires {row₁ = c.first_face-first.new.pending} _ c.first_face-first.ensures (record { outs = c.first_face-first.auto.outs; halves = c.first_face-first.auto.halves; faces = c.first_face-first.auto.faces; pending = c.first_face-first.auto.pending })
+    {row₂ = c.walk-before.new.pending} _ c.walk-before.ensures (record { outs = c.walk-before.auto.outs; halves = c.walk-before.auto.halves; faces = c.walk-before.auto.faces; pending = c.walk-before.auto.pending }) _ _ _ _ c.walk-after.ensures

@@ -4,7 +4,7 @@ use mathlib.Core.Path.{◌∙◌}
 use lib.IntN.{ℤ}
 use mir.Facts.{to_z-of_z}
 use mir.Syntax.{w32}
-use mir.Val.{to_z, of_z}
+use mir.Val.{SFits, to_z, of_z}
 use Rattle.algebra.specs.Ring.{v0, v1, v2, ◌⊕◌}
 use Rattle.algebra.specs.Bound.{Env, []ᵉ, ◌∷ᵉ◌, fits64, reads64}
 use Rattle.hull_center_rows.proofs.Numbers.{read-abs, sums}
@@ -14,32 +14,30 @@ use Rattle.hull_center_rows.proofs.add_three.Goals as goal
 abbrev rd : ℤ → ℤ
 rd z = to_z w32 (of_z w32 z)
 
+env : {a b c : ℤ} → SFits w32 a → SFits w32 b → SFits w32 c
+    → Env (rd a ∷ rd b ∷ rd c ∷ []) (2147483648 ∷ 2147483648 ∷ 2147483648 ∷ [])
+env {a} {b} {c} f g h = read-abs a f ∷ᵉ read-abs b g ∷ᵉ read-abs c h ∷ᵉ []ᵉ
+
 pub overflow_cast-result : goal.overflow_cast-result
 overflow_cast-result c =
-    let env : let a = c.args in Env (rd a.a ∷ rd a.b ∷ rd a.c ∷ []) (2147483648 ∷ 2147483648 ∷ 2147483648 ∷ []) = let a = c.args in let f = c.ranges in read-abs a.a f.a ∷ᵉ read-abs a.b f.b ∷ᵉ read-abs a.c f.c ∷ᵉ []ᵉ in
-    fits64 (env) v0 tt
+    fits64 (env c.ranges.a c.ranges.b c.ranges.c) v0 tt
 
 pub overflow_cast-result-2 : goal.overflow_cast-result-2
 overflow_cast-result-2 c =
-    let env : let a = c.args in Env (rd a.a ∷ rd a.b ∷ rd a.c ∷ []) (2147483648 ∷ 2147483648 ∷ 2147483648 ∷ []) = let a = c.args in let f = c.ranges in read-abs a.a f.a ∷ᵉ read-abs a.b f.b ∷ᵉ read-abs a.c f.c ∷ᵉ []ᵉ in
-    fits64 (env) v1 tt
+    fits64 (env c.ranges.a c.ranges.b c.ranges.c) v1 tt
 
 pub overflow_add-result : goal.overflow_add-result
 overflow_add-result c =
-    let env : let a = c.args in Env (rd a.a ∷ rd a.b ∷ rd a.c ∷ []) (2147483648 ∷ 2147483648 ∷ 2147483648 ∷ []) = let a = c.args in let f = c.ranges in read-abs a.a f.a ∷ᵉ read-abs a.b f.b ∷ᵉ read-abs a.c f.c ∷ᵉ []ᵉ in
-    fits64 (env) (v0 ⊕ v1) tt
+    fits64 (env c.ranges.a c.ranges.b c.ranges.c) (v0 ⊕ v1) tt
 
 pub overflow_cast-result-3 : goal.overflow_cast-result-3
 overflow_cast-result-3 c =
-    let env : let a = c.args in Env (rd a.a ∷ rd a.b ∷ rd a.c ∷ []) (2147483648 ∷ 2147483648 ∷ 2147483648 ∷ []) = let a = c.args in let f = c.ranges in read-abs a.a f.a ∷ᵉ read-abs a.b f.b ∷ᵉ read-abs a.c f.c ∷ᵉ []ᵉ in
-    fits64 (env) v2 tt
+    fits64 (env c.ranges.a c.ranges.b c.ranges.c) v2 tt
 
 pub overflow_add-result-2 : goal.overflow_add-result-2
 overflow_add-result-2 c =
-    let env : let a = c.args in Env (rd a.a ∷ rd a.b ∷ rd a.c ∷ []) (2147483648 ∷ 2147483648 ∷ 2147483648 ∷ []) = let a = c.args in let f = c.ranges in read-abs a.a f.a ∷ᵉ read-abs a.b f.b ∷ᵉ read-abs a.c f.c ∷ᵉ []ᵉ in
-    fits64 (env) (v0 ⊕ v1 ⊕ v2) tt
+    fits64 (env c.ranges.a c.ranges.b c.ranges.c) (v0 ⊕ v1 ⊕ v2) tt
 
 pub returns : goal.returns
 returns c =
-    let env : let a = c.args in Env (rd a.a ∷ rd a.b ∷ rd a.c ∷ []) (2147483648 ∷ 2147483648 ∷ 2147483648 ∷ []) = let a = c.args in let f = c.ranges in read-abs a.a f.a ∷ᵉ read-abs a.b f.b ∷ᵉ read-abs a.c f.c ∷ᵉ []ᵉ in
-    let f = c.ranges in reads64 (env) (v0 ⊕ v1 ⊕ v2) tt ∙ sums (to_z-of_z f.a) (to_z-of_z f.b) (to_z-of_z f.c)
+    let f = c.ranges in reads64 (env c.ranges.a c.ranges.b c.ranges.c) (v0 ⊕ v1 ⊕ v2) tt ∙ sums (to_z-of_z f.a) (to_z-of_z f.b) (to_z-of_z f.c)

@@ -1,6 +1,5 @@
 -- `hull_center_rows::center` meets its contract. Assumes nothing.
 use mathlib.Core.Path.{◌∙◌, ap}
-use borrow.Author.Rules.{rules}
 use Rattle.hull_center.specs.HullCenter.{center_of, hull_center}
 use Rattle.hull_center_rows.proofs.center.Goals as goal
 

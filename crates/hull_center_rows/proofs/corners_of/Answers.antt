@@ -1,5 +1,4 @@
 -- `hull_center_rows::corners_of` meets its contract. Assumes nothing.
-use borrow.Author.Rules.{rules}
 use Rattle.hull_center_rows.specs.Holding.{second-there, second-placed, third-there, third-placed, corners-are}
 use Rattle.hull_center_rows.proofs.corners_of.Goals as goal
 

@@ -1,12 +1,10 @@
 -- `hull_center_rows::has_strict_ring` meets its contract. Assumes nothing.
-use borrow.Author.Rules.{rules}
-use borrow.Author.Tests.{not-true, not-false}
 use Rattle.hull_center_rows.specs.Ready.{first-there, hull-size, boundary-in, not_valid, met-center, angled, by-strict}
 use Rattle.hull_center_rows.proofs.has_strict_ring.Goals as goal
 
 pub returns-then-not-validate_center : goal.returns-then-not-validate_center
 returns-then-not-validate_center c =
-    not_valid c.requires _ _ c.validate_center.ensures (not-true _ c.if-not-validate_center.true-raw)
+    not_valid c.requires _ _ c.validate_center.ensures c.if-not-validate_center.true
 
 pub adjacent-start-requires : goal.adjacent-start-requires
 adjacent-start-requires c = first-there c.requires
@@ -25,10 +23,10 @@ returns-then-meets_center c =
 pub is_strict-requires : goal.is_strict-requires
 is_strict-requires c =
     angled c.requires _ _ c.adjacent-start.ensures c.convex_hull_size-size.ensures
-    c.validate_center.ensures c.meets_center.ensures (not-false _ c.if-not-validate_center.false-raw) c.if-meets_center.false
+    c.validate_center.ensures c.meets_center.ensures c.if-not-validate_center.false c.if-meets_center.false
 
 pub returns : goal.returns
 returns c =
     by-strict c.requires _ _ c.adjacent-start.ensures c.convex_hull_size-size.ensures
-    c.validate_center.ensures c.meets_center.ensures (not-false _ c.if-not-validate_center.false-raw) c.if-meets_center.false
+    c.validate_center.ensures c.meets_center.ensures c.if-not-validate_center.false c.if-meets_center.false
     c.is_strict.ensures

@@ -1,8 +1,6 @@
 -- `hull_center_rows::holds_center` meets its contract. The invariant: no face before f holds the centre. The measure is
 -- how many faces are left. Assumes nothing.
-use Prim.Native.Nat.{◌-◌}
-use borrow.Author.Rules.{rules}
-use Rattle.hull_center_rows.specs.Holding.{Passed, passed_start, face-there, face-ready, passed_on, passed-hit, passed-end}
+use Rattle.hull_center_rows.specs.Holding.{passed_start, face-there, face-ready, passed_on, passed-hit, passed-end}
 use Rattle.hull_center_rows.proofs.holds_center.Goals as goal
 
 pub loop-f-init : goal.loop-f-init

@@ -1,7 +1,6 @@
 -- The loop of `hull_center_rows::holds_center`.
 use Prim.Native.Nat.{◌-◌}
-use borrow.Author.Rules.{rules}
-use Rattle.hull_center_rows.specs.Holding.{Passed, passed_start, face-there, face-ready, passed_on, passed-hit, passed-end}
+use Rattle.hull_center_rows.specs.Holding.{Passed}
 use Rattle.hull_center_rows.proofs.holds_center.Given as goal
 
 abbrev pub invariant-loop-f : goal.invariant-loop-f

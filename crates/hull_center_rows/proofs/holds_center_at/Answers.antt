@@ -1,5 +1,4 @@
 -- `hull_center_rows::holds_center_at` meets its contract. Assumes nothing.
-use borrow.Author.Tests.{not-true, not-false}
 use Rattle.hull_center_rows.specs.Holding.{corners-in, p-range, q-range, r-range, holds-not-a, holds-not-b, holds-c}
 use Rattle.hull_center_rows.proofs.holds_center_at.Goals as goal
 
@@ -12,7 +11,7 @@ is_center_left-requires c =
 
 pub returns-then-not-is_center_left : goal.returns-then-not-is_center_left
 returns-then-not-is_center_left c =
-    holds-not-a c.requires.0 c.corners_of-k.ensures _ c.is_center_left.ensures (not-true _ c.if-not-is_center_left.true-raw)
+    holds-not-a c.requires.0 c.corners_of-k.ensures _ c.is_center_left.ensures c.if-not-is_center_left.true
 
 pub is_center_left-requires-2 : goal.is_center_left-requires-2
 is_center_left-requires-2 c =
@@ -20,8 +19,8 @@ is_center_left-requires-2 c =
 
 pub returns-then-not-is_center_left-2 : goal.returns-then-not-is_center_left-2
 returns-then-not-is_center_left-2 c =
-    holds-not-b c.requires.0 c.corners_of-k.ensures _ c.is_center_left.ensures (not-false _ c.if-not-is_center_left.false-raw)
-    c.is_center_left-2.ensures (not-true _ c.if-not-is_center_left-2.true-raw)
+    holds-not-b c.requires.0 c.corners_of-k.ensures _ c.is_center_left.ensures c.if-not-is_center_left.false
+    c.is_center_left-2.ensures c.if-not-is_center_left-2.true
 
 pub is_center_left-requires-3 : goal.is_center_left-requires-3
 is_center_left-requires-3 c =
@@ -29,5 +28,5 @@ is_center_left-requires-3 c =
 
 pub returns : goal.returns
 returns c =
-    holds-c c.requires.0 c.corners_of-k.ensures _ c.is_center_left.ensures (not-false _ c.if-not-is_center_left.false-raw)
-    c.is_center_left-2.ensures (not-false _ c.if-not-is_center_left-2.false-raw) c.is_center_left-3.ensures
+    holds-c c.requires.0 c.corners_of-k.ensures _ c.is_center_left.ensures c.if-not-is_center_left.false
+    c.is_center_left-2.ensures c.if-not-is_center_left-2.false c.is_center_left-3.ensures

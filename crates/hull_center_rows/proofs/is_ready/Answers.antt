@@ -1,5 +1,4 @@
 -- `hull_center_rows::is_ready` meets its contract. Assumes nothing.
-use borrow.Author.Tests.{not-true, not-false}
 use Rattle.hull_center_rows.specs.CenterRows.{last-three-in}
 use Rattle.hull_center_rows.specs.Ready.{no-triangle, not-accepted, by-faces}
 use Rattle.hull_center_rows.proofs.is_ready.Goals as goal
@@ -21,7 +20,7 @@ has_strict_ring-requires c =
 pub returns-then-not-has_strict_ring : goal.returns-then-not-has_strict_ring
 returns-then-not-has_strict_ring c =
     not-accepted _ _ _ _ c.if-counts-lt2.false c.last_three-sum.ensures c.center_of-center.ensures c.has_strict_ring.ensures
-    (not-true _ c.if-not-has_strict_ring.true-raw)
+    c.if-not-has_strict_ring.true
 
 pub holds_center-requires : goal.holds_center-requires
 holds_center-requires c =
@@ -30,4 +29,4 @@ holds_center-requires c =
 pub returns : goal.returns
 returns c =
     by-faces _ _ _ _ c.if-counts-lt2.false c.last_three-sum.ensures c.center_of-center.ensures c.has_strict_ring.ensures
-    (not-false _ c.if-not-has_strict_ring.false-raw) c.holds_center.ensures
+    c.if-not-has_strict_ring.false c.holds_center.ensures

@@ -7,6 +7,10 @@ use mir.Val.{to_z, of_z}
 use mir.Facts.{to_z-of_z}
 use Rattle.algebra.specs.Ring.{#◌, v0, v1, v2, v3, ◌⊖◌, ◌⊗◌}
 use Rattle.algebra.specs.Bound.{Env, []ᵉ, ◌∷ᵉ◌, fits64, reads64, small-fits, small-read}
+use Rattle.hull_center.specs.declared.PositionSum.{PositionSum}
+use Rattle.hull_center.specs.HullCenter.{SmallSum}
+use Rattle.math.specs.declared.Point.{Point}
+use Rattle.math.specs.Determinant.{InRange}
 use Rattle.hull_center_rows.specs.Side.{less_three}
 use Rattle.hull_center_rows.proofs.less_three.Goals as goal
 
@@ -14,32 +18,38 @@ use Rattle.hull_center_rows.proofs.less_three.Goals as goal
 abbrev rd : ℤ → ℤ
 rd z = to_z w32 (of_z w32 z)
 
+env : {s : PositionSum} {a : Point} → SmallSum s → InRange a
+    → Env (s.x ∷ rd a.x ∷ s.y ∷ rd a.y ∷ []) (50331648 ∷ 16777216 ∷ 50331648 ∷ 16777216 ∷ [])
+env {s} {a} p q = p.x ∷ᵉ small-read w32 a.x q.x tt ∷ᵉ p.y ∷ᵉ small-read w32 a.y q.y tt ∷ᵉ []ᵉ
+
 pub overflow_cast-result : goal.overflow_cast-result
 overflow_cast-result c =
-    let env : let a = c.args in Env (a.sum.x ∷ rd a.a.x ∷ a.sum.y ∷ rd a.a.y ∷ []) (50331648 ∷ 16777216 ∷ 50331648 ∷ 16777216 ∷ []) = let a = c.args in let p = c.requires.0 in let q = c.requires.1 in p.x ∷ᵉ small-read w32 a.a.x q.x tt ∷ᵉ p.y ∷ᵉ small-read w32 a.a.y q.y tt ∷ᵉ []ᵉ in
-    fits64 (env) v1 tt
+    fits64 (env c.requires.0 c.requires.1) v1 tt
 
 pub overflow_mul-result : goal.overflow_mul-result
 overflow_mul-result c =
-    let env : let a = c.args in Env (a.sum.x ∷ rd a.a.x ∷ a.sum.y ∷ rd a.a.y ∷ []) (50331648 ∷ 16777216 ∷ 50331648 ∷ 16777216 ∷ []) = let a = c.args in let p = c.requires.0 in let q = c.requires.1 in p.x ∷ᵉ small-read w32 a.a.x q.x tt ∷ᵉ p.y ∷ᵉ small-read w32 a.a.y q.y tt ∷ᵉ []ᵉ in
-    fits64 (env) (# 3 ⊗ v1) tt
+    fits64 (env c.requires.0 c.requires.1) (# 3 ⊗ v1) tt
 
 pub overflow_sub-result : goal.overflow_sub-result
 overflow_sub-result c =
-    let env : let a = c.args in Env (a.sum.x ∷ rd a.a.x ∷ a.sum.y ∷ rd a.a.y ∷ []) (50331648 ∷ 16777216 ∷ 50331648 ∷ 16777216 ∷ []) = let a = c.args in let p = c.requires.0 in let q = c.requires.1 in p.x ∷ᵉ small-read w32 a.a.x q.x tt ∷ᵉ p.y ∷ᵉ small-read w32 a.a.y q.y tt ∷ᵉ []ᵉ in
-    fits64 (env) (v0 ⊖ # 3 ⊗ v1) tt
+    fits64 (env c.requires.0 c.requires.1) (v0 ⊖ # 3 ⊗ v1) tt
 
 pub overflow_cast-result-2 : goal.overflow_cast-result-2
 overflow_cast-result-2 c =
-    let env : let a = c.args in Env (a.sum.x ∷ rd a.a.x ∷ a.sum.y ∷ rd a.a.y ∷ []) (50331648 ∷ 16777216 ∷ 50331648 ∷ 16777216 ∷ []) = let a = c.args in let p = c.requires.0 in let q = c.requires.1 in p.x ∷ᵉ small-read w32 a.a.x q.x tt ∷ᵉ p.y ∷ᵉ small-read w32 a.a.y q.y tt ∷ᵉ []ᵉ in
-    fits64 (env) v3 tt
+    fits64 (env c.requires.0 c.requires.1) v3 tt
 
 pub overflow_mul-result-2 : goal.overflow_mul-result-2
 overflow_mul-result-2 c =
-    let env : let a = c.args in Env (a.sum.x ∷ rd a.a.x ∷ a.sum.y ∷ rd a.a.y ∷ []) (50331648 ∷ 16777216 ∷ 50331648 ∷ 16777216 ∷ []) = let a = c.args in let p = c.requires.0 in let q = c.requires.1 in p.x ∷ᵉ small-read w32 a.a.x q.x tt ∷ᵉ p.y ∷ᵉ small-read w32 a.a.y q.y tt ∷ᵉ []ᵉ in
-    fits64 (env) (# 3 ⊗ v3) tt
+    fits64 (env c.requires.0 c.requires.1) (# 3 ⊗ v3) tt
 
 pub overflow_sub-result-2 : goal.overflow_sub-result-2
 overflow_sub-result-2 c =
-    let env : let a = c.args in Env (a.sum.x ∷ rd a.a.x ∷ a.sum.y ∷ rd a.a.y ∷ []) (50331648 ∷ 16777216 ∷ 50331648 ∷ 16777216 ∷ []) = let a = c.args in let p = c.requires.0 in let q = c.requires.1 in p.x ∷ᵉ small-read w32 a.a.x q.x tt ∷ᵉ p.y ∷ᵉ small-read w32 a.a.y q.y tt ∷ᵉ []ᵉ in
-    fits64 (env) (v2 ⊖ # 3 ⊗ v3) tt
+    fits64 (env c.requires.0 c.requires.1) (v2 ⊖ # 3 ⊗ v3) tt
+
+pub returns : goal.returns
+unfolding less_three
+returns c =
+    let a = c.args in let q = c.requires.1 in
+    ap₂ (λ (x y : ℤ). record { x = x; y = y })
+    (reads64 (env c.requires.0 c.requires.1) (v0 ⊖ # 3 ⊗ v1) tt ∙ ap (λ (z : ℤ). a.sum.x -ℤ pos 3 *ℤ z) (to_z-of_z (small-fits w32 {z = a.a.x} q.x tt)))
+    (reads64 (env c.requires.0 c.requires.1) (v2 ⊖ # 3 ⊗ v3) tt ∙ ap (λ (z : ℤ). a.sum.y -ℤ pos 3 *ℤ z) (to_z-of_z (small-fits w32 {z = a.a.y} q.y tt)))
