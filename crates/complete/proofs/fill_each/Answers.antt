@@ -54,7 +54,7 @@ pub is_still_settled-settled-requires : goal.is_still_settled-settled-requires
 is_still_settled-settled-requires c =
     let f = c.fill_point-done.auto in
     let l = c.loop-i-test.true in
-    let I = filling-on c.loop-i.invariant.0 l c.fill_point-done.ensures c.if-done.false {row' = c.fill_point-done.new.1.1.1.1.0}
+    let I = filling-on c.loop-i.invariant.0 l c.fill_point-done.ensures c.if-done.false {row' = c.fill_point-done.new.pending}
     (record { positions = f.positions; outs = f.outs; halves = f.halves; faces = f.faces; pending = f.pending; answers = f.answers }) in
     (filling-rows I, (let r = I.ready.answers-room in let k = I.lengths.answers in omega arith))
 

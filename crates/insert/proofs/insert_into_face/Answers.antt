@@ -35,4 +35,4 @@ shape_of-faces c = c.legalize_one.auto.faces ∙ c.legalize_two-two.auto.faces �
 
 pub returns : goal.returns
 returns c =
-    face-row c.requires c.adjacent-e0.ensures c.next-e1.ensures c.next-e2.ensures (record { outs = c.insert_into_triangle-after.auto.outs; halves = c.insert_into_triangle-after.auto.halves; faces = c.insert_into_triangle-after.auto.faces; pending = refl }) c.insert_into_triangle-after.ensures _ {row₂ = c.legalize_two-two.new.1.1.1.1.0} (record { outs = c.legalize_two-two.auto.outs; halves = c.legalize_two-two.auto.halves; faces = c.legalize_two-two.auto.faces; pending = c.legalize_two-two.auto.pending }) c.legalize_two-two.ensures _ _ _ _ c.legalize_one.ensures
+    face-row c.requires c.adjacent-e0.ensures c.next-e1.ensures c.next-e2.ensures (record { outs = c.insert_into_triangle-after.auto.outs; halves = c.insert_into_triangle-after.auto.halves; faces = c.insert_into_triangle-after.auto.faces; pending = refl }) c.insert_into_triangle-after.ensures _ {row₂ = c.legalize_two-two.new.pending} (record { outs = c.legalize_two-two.auto.outs; halves = c.legalize_two-two.auto.halves; faces = c.legalize_two-two.auto.faces; pending = c.legalize_two-two.auto.pending }) c.legalize_two-two.ensures _ _ _ _ c.legalize_one.ensures

@@ -16,4 +16,4 @@ legalize_two-requires c =
 
 pub returns : goal.returns
 returns c =
-    boundary-row c.requires c.half_edge-left.ensures (record { outs = c.split_half_edge-after.auto.outs; halves = c.split_half_edge-after.auto.halves; faces = c.split_half_edge-after.auto.faces; pending = refl }) c.split_half_edge-after.ensures _ {row₂ = c.legalize_two.new.1.1.1.1.0} (record { outs = c.legalize_two.auto.outs; halves = c.legalize_two.auto.halves; faces = c.legalize_two.auto.faces; pending = c.legalize_two.auto.pending }) c.legalize_two.ensures
+    boundary-row c.requires c.half_edge-left.ensures (record { outs = c.split_half_edge-after.auto.outs; halves = c.split_half_edge-after.auto.halves; faces = c.split_half_edge-after.auto.faces; pending = refl }) c.split_half_edge-after.ensures _ {row₂ = c.legalize_two.new.pending} (record { outs = c.legalize_two.auto.outs; halves = c.legalize_two.auto.halves; faces = c.legalize_two.auto.faces; pending = c.legalize_two.auto.pending }) c.legalize_two.ensures

@@ -32,4 +32,4 @@ shape_of-faces c = c.legalize_two.auto.faces ∙ c.legalize_two-two.auto.faces �
 
 pub returns : goal.returns
 returns c =
-    inner-row c.requires c.rev-t.ensures c.half_edge-left.ensures c.half_edge-right.ensures (record { outs = c.split_edge-after.auto.outs; halves = c.split_edge-after.auto.halves; faces = c.split_edge-after.auto.faces; pending = refl }) c.split_edge-after.ensures _ {row₂ = c.legalize_two-two.new.1.1.1.1.0} (record { outs = c.legalize_two-two.auto.outs; halves = c.legalize_two-two.auto.halves; faces = c.legalize_two-two.auto.faces; pending = c.legalize_two-two.auto.pending }) c.legalize_two-two.ensures _ _ _ _ c.legalize_two.ensures
+    inner-row c.requires c.rev-t.ensures c.half_edge-left.ensures c.half_edge-right.ensures (record { outs = c.split_edge-after.auto.outs; halves = c.split_edge-after.auto.halves; faces = c.split_edge-after.auto.faces; pending = refl }) c.split_edge-after.ensures _ {row₂ = c.legalize_two-two.new.pending} (record { outs = c.legalize_two-two.auto.outs; halves = c.legalize_two-two.auto.halves; faces = c.legalize_two-two.auto.faces; pending = c.legalize_two-two.auto.pending }) c.legalize_two-two.ensures _ _ _ _ c.legalize_two.ensures

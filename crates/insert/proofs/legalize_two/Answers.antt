@@ -9,4 +9,4 @@ legalize_one-requires c =
 
 pub returns : goal.returns
 returns c =
-    two-row c.requires {row' = c.legalize_one-one.new.1.1.1.1.0} (record { outs = c.legalize_one-one.auto.outs; halves = c.legalize_one-one.auto.halves; faces = c.legalize_one-one.auto.faces; pending = c.legalize_one-one.auto.pending }) _ c.legalize_one-one.ensures _ _ _ _ c.legalize_one.ensures
+    two-row c.requires {row' = c.legalize_one-one.new.pending} (record { outs = c.legalize_one-one.auto.outs; halves = c.legalize_one-one.auto.halves; faces = c.legalize_one-one.auto.faces; pending = c.legalize_one-one.auto.pending }) _ c.legalize_one-one.ensures _ _ _ _ c.legalize_one.ensures

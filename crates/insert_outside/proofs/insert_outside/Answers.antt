@@ -24,14 +24,14 @@ first_face-first-requires c = first-ready c.requires
 
 pub outside_walk-left-requires : goal.outside_walk-left-requires
 outside_walk-left-requires c =
-    left-ready c.requires {row₁ = c.first_face-first.new.1.1.1.1.0} _ c.first_face-first.ensures
+    left-ready c.requires {row₁ = c.first_face-first.new.pending} _ c.first_face-first.ensures
     (record { outs = c.first_face-first.auto.outs; halves = c.first_face-first.auto.halves; faces = c.first_face-first.auto.faces; pending = c.first_face-first.auto.pending })
 
 pub outside_walk-right-requires : goal.outside_walk-right-requires
 outside_walk-right-requires c =
-    right-ready c.requires {row₁ = c.first_face-first.new.1.1.1.1.0} _ c.first_face-first.ensures
+    right-ready c.requires {row₁ = c.first_face-first.new.pending} _ c.first_face-first.ensures
     (record { outs = c.first_face-first.auto.outs; halves = c.first_face-first.auto.halves; faces = c.first_face-first.auto.faces; pending = c.first_face-first.auto.pending })
-    {row₂ = c.outside_walk-left.new.1.1.1.1.0} _ c.outside_walk-left.ensures
+    {row₂ = c.outside_walk-left.new.pending} _ c.outside_walk-left.ensures
     (record { outs = c.outside_walk-left.auto.outs; halves = c.outside_walk-left.auto.halves; faces = c.outside_walk-left.auto.faces; pending = c.outside_walk-left.auto.pending })
 
 pub shape_of-outs : goal.shape_of-outs
@@ -52,8 +52,8 @@ shape_of-pending c =
 
 pub returns : goal.returns
 returns c =
-    inserted-rows c.requires {row₁ = c.first_face-first.new.1.1.1.1.0} _ c.first_face-first.ensures
+    inserted-rows c.requires {row₁ = c.first_face-first.new.pending} _ c.first_face-first.ensures
     (record { outs = c.first_face-first.auto.outs; halves = c.first_face-first.auto.halves; faces = c.first_face-first.auto.faces; pending = c.first_face-first.auto.pending })
-    {row₂ = c.outside_walk-left.new.1.1.1.1.0} _ c.outside_walk-left.ensures
+    {row₂ = c.outside_walk-left.new.pending} _ c.outside_walk-left.ensures
     (record { outs = c.outside_walk-left.auto.outs; halves = c.outside_walk-left.auto.halves; faces = c.outside_walk-left.auto.faces; pending = c.outside_walk-left.auto.pending })
     _ _ _ _ c.outside_walk-right.ensures
