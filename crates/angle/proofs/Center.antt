@@ -13,7 +13,7 @@ use Rattle.std.specs.Float.Ieee.Exact.{HasValue}
 use Rattle.std.specs.Float.Ieee.Back.{round_whole}
 use Rattle.angle.specs.Angle.{bounded, valid_center, is_number, at_center, Apart, IsAngle, angle_about}
 use Rattle.angle.proofs.Laws.{pseudo-is-angle}
-use Rattle.algebra.specs.Test.{test-ext}
+use Rattle.algebra.proofs.Test.{test-ext}
 use Rattle.angle.proofs.Values.{le-at, eq-at}
 
 -- 2 ^ 24, and -2 ^ 24

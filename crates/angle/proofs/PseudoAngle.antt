@@ -16,7 +16,7 @@ use Rattle.std.specs.Float.Ieee.Scale.{grid}
 use Rattle.angle.proofs.Powers.{pow_le_back}
 use Rattle.angle.specs.Angle.{absolute_of, quarter, one64, three64, bounded}
 use Rattle.angle.proofs.Grid.{grid-le, grid-exact, grid-pow, grid-again, grid-multiple}
-use Rattle.algebra.specs.Fractions.{sum_like}
+use Rattle.algebra.proofs.Fractions.{sum_like}
 use Rattle.angle.proofs.Values.{Val, add_at, sub_at, sum_less, difference, eq-at, div-at, quarter-at, absolute-at, round-at, under}
 
 -- ---- the sign and the size, in units, of a value that the format holds

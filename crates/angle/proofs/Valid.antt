@@ -10,7 +10,7 @@ use lib.Ieee.Bits.{is_true}
 use Rattle.std.specs.Float.Ieee.Fits.{up_pos, down_pos, eq→eqb}
 use Rattle.std.specs.Float.Ieee.Exact.{HasValue}
 use Rattle.angle.specs.Angle.{zero64, one64, IsAngle, turns, valid_angle}
-use Rattle.algebra.specs.Test.{test-ext}
+use Rattle.algebra.proofs.Test.{test-ext}
 use Rattle.angle.proofs.Values.{lt_at, le-at, eq-at}
 use Rattle.angle.proofs.Center.{or_l, yes_and, and_yes}
 

@@ -5,7 +5,8 @@ use Rattle.std.proofs.Common.{sym, ◌∙◌, arith}
 use Rattle.std.proofs.Math.Path.{subst}
 use Rattle.std.proofs.Math.Nat.{zero-add}
 use Rattle.std.specs.Int.Signed.{lt_z_yes}
-use Rattle.conflicts.specs.FlipsWithin.{FlipsWithin, within_none}
+use Rattle.conflicts.specs.FlipsWithin.{FlipsWithin}
+use Rattle.conflicts.proofs.FlipsWithinLaws.{within_none}
 use Rattle.legalize.specs.declared.Entry.TheVariants.{HalfEdge}
 use Rattle.legalize.specs.Legalize.{entry_edge, legalize_edge}
 use Rattle.legalize.specs.LegalizeLaws.{Outcome, legalize-outcome, legalize-start, outcome-good, outcome-boundary, outcome-bound}

@@ -11,7 +11,8 @@ use lib.ListN.{length}
 use Rattle.circle_scan.specs.Scan.{ScanReady, Unbroken}
 use Rattle.circle_scan.specs.ScanLaws.{scan-ready}
 use Rattle.circle_test.specs.GoodRows.{GoodRows, CircleReady, held, circle-ready, good-again}
-use Rattle.conflicts.specs.FlipsWithin.{FlipsWithin, within_none, within-run, within-room}
+use Rattle.conflicts.specs.FlipsWithin.{FlipsWithin}
+use Rattle.conflicts.proofs.FlipsWithinLaws.{within_none, within-run, within-room}
 use Rattle.dcel.specs.Rows.{links_of, position_of}
 use Rattle.dcel_operations.specs.Flip.{FlipReady}
 use Rattle.dcel_operations.specs.Ready.{flip-ready}

@@ -3,5 +3,4 @@
 -- count of flips.
 pub mod Conflicts
 pub mod InsideLaws
-pub mod ConflictLaws
 pub mod FlipsWithin

@@ -6,7 +6,8 @@ use Rattle.std.proofs.Math.Path.{refl, ap}
 use Rattle.std.proofs.Common.{sym, ◌∙◌, ap₂, subst, eqb-true}
 use native.Mathlib.Omega.{arith}
 use Rattle.std.specs.Int.Signed.{lt_z_no}
-use Rattle.conflicts.specs.FlipsWithin.{FlipsWithin, within_none}
+use Rattle.conflicts.specs.FlipsWithin.{FlipsWithin}
+use Rattle.conflicts.proofs.FlipsWithinLaws.{within_none}
 use Rattle.corner.specs.Corner.{Extended}
 use Rattle.corner.specs.CornerLaws.{Closings, none, closings-join, closings-good, closings-bound, closings-count, closings-none}
 use Rattle.math.specs.declared.Point.{Point}

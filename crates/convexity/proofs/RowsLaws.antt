@@ -3,7 +3,7 @@
 use Rattle.std.specs.Prelude.{List, ◌≡◌, ℕ, ℤ, length}
 use Rattle.std.proofs.Math.Path.{subst⁻¹}
 use Rattle.std.proofs.Common.{arith}
-use Rattle.conflicts.specs.FlipsWithin.{within_none}
+use Rattle.conflicts.proofs.FlipsWithinLaws.{within_none}
 use Rattle.corner.specs.declared.Extension.{Extension}
 use Rattle.corner.specs.CornerLaws.{Closings}
 use Rattle.corner.specs.CornerRows.{extended_of, Ready}

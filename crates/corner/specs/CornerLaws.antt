@@ -4,7 +4,8 @@
 use Rattle.std.proofs.Math.Bool.{false}
 use Rattle.std.specs.Prelude.{[], ◌∷◌, ◌≡◌, refl, ℕ, suc, ◌+◌, ◌≤◌, ◌<◌, pos, ◌<ℤ◌}
 use Rattle.std.proofs.Common.{sym, ◌∙◌, ap, subst, arith}
-use Rattle.conflicts.specs.FlipsWithin.{FlipsWithin, within-face, within-run}
+use Rattle.conflicts.specs.FlipsWithin.{FlipsWithin}
+use Rattle.conflicts.proofs.FlipsWithinLaws.{within-face, within-run}
 use Rattle.legalize.specs.declared.Entry.TheVariants.{Edge}
 use Rattle.legalize.specs.Legalize.{entry_edge, legalize_edges_after_removal}
 use Rattle.legalize.specs.LegalizeLaws.{Outcome, legalize-outcome, legalize-start}

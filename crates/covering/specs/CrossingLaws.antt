@@ -2,7 +2,8 @@
 use Rattle.std.specs.Prelude.{◌≡◌, refl, [], ◌∷◌, Bool, true, false, not, ◌&&◌, ℕ, pos, neg_ℤ, ◌-ℤ◌, ◌<ℤ◌, ◌≤ℤ◌}
 use Rattle.std.proofs.Common.{sym, ◌∙◌, ap, true≢false}
 use Rattle.std.specs.Int.Signed.{lt_z, lt_z_yes, lt_z_no}
-use Rattle.algebra.specs.Ring.{◌⊕◌, ◌⊖◌, ⊝◌, v0, v1, v2, ring}
+use Rattle.algebra.specs.Ring.{◌⊕◌, ◌⊖◌, ⊝◌}
+use Rattle.algebra.proofs.RingLaws.{v0, v1, v2, ring}
 use Rattle.sums.specs.Bit.{bit}
 use Rattle.sums.proofs.BitLaws.{from-true, from_false}
 use Rattle.sums.proofs.HalfLaws.{rev-rev}

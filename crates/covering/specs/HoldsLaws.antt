@@ -1,9 +1,10 @@
 -- On two edges of a left-turning triangle: at the corner between them. Assumes nothing.
 use Rattle.std.specs.Prelude.{◌≡◌, refl, List, ℤ, pos, ◌<ℤ◌}
 use Rattle.std.proofs.Common.{⊎_elim}
-use Rattle.algebra.specs.Order.{le_antisymm}
-use Rattle.algebra.specs.Ring.{◌⊖◌, ⊝◌, #◌}
-use Rattle.algebra.specs.Sign.{Zero, Pos, ◌*⁺◌, ◌+⁺◌, pos-in, cases, le-by, refute, eq-in, ◌*⁰◌, ◌+⁰◌, zero°}
+use Rattle.algebra.proofs.Order.{le_antisymm}
+use Rattle.algebra.specs.Ring.{◌⊖◌, ⊝◌}
+use Rattle.algebra.proofs.RingLaws.{#◌}
+use Rattle.algebra.proofs.Sign.{Zero, Pos, ◌*⁺◌, ◌+⁺◌, pos-in, cases, le-by, refute, eq-in, ◌*⁰◌, ◌+⁰◌, zero°}
 use Rattle.math.specs.declared.Point.{Point}
 use Rattle.math.specs.Determinant.{Orient2d, orient2d}
 use Rattle.math.proofs.Plane.{E·, A, B, C, D, env}

@@ -8,7 +8,7 @@ use Rattle.std.proofs.Common.{sym, ◌∙◌, ap₂, arith, le→leb}
 use Rattle.std.proofs.Math.Path.{ap, subst, subst⁻¹}
 use Rattle.std.proofs.Math.IntN.{+ℤ-neg_ℤ_cancel}
 use Rattle.std.specs.Int.Signed.{le_z_yes}
-use Rattle.algebra.specs.Order.{abs-0≤}
+use Rattle.algebra.proofs.Order.{abs-0≤}
 use Rattle.corner.specs.Corner.{Extended}
 use Rattle.corner.specs.Untouched.{Untouched, run-untouched, closings-untouched, untouched-flips}
 use Rattle.closing.specs.Closing.{Closing, closing_pass}

@@ -9,9 +9,10 @@ use Rattle.std.specs.Float.Ieee.Fits.{down_pos, mul-fits}
 use Rattle.std.specs.Float.Ieee.Scale.{round_same}
 use Rattle.std.proofs.Math.IntN.{+ℤ_idl}
 use Rattle.std.specs.Int.Signed.{non_neg}
-use Rattle.algebra.specs.Bound.{[]ᵉ, ◌∷ᵉ◌, within}
-use Rattle.algebra.specs.Fractions.{add-fractions}
-use Rattle.algebra.specs.Ring.{v0, v1, v2, ◌⊕◌}
+use Rattle.algebra.proofs.Bound.{[]ᵉ, ◌∷ᵉ◌, within}
+use Rattle.algebra.proofs.Fractions.{add-fractions}
+use Rattle.algebra.specs.Ring.{◌⊕◌}
+use Rattle.algebra.proofs.RingLaws.{v0, v1, v2}
 use Rattle.angle.specs.Angle.{zero64, one64, three64}
 use Rattle.math.specs.declared.Point.{Point}
 use Rattle.mesh.specs.declared.Counts.{Counts}

@@ -5,9 +5,10 @@ use Rattle.std.specs.Prelude.{true, false, List, [], ◌∷◌, ◌≡◌, refl,
 use Rattle.std.proofs.Math.Logic.{⊎_elim}
 use Rattle.std.proofs.Common.{sym, le_trans, lit≤}
 use Rattle.std.specs.Int.Signed.{lt_z, lt_z_yes, le_z_yes}
-use Rattle.algebra.specs.Bound.{[]ᵉ, ◌∷ᵉ◌, within, abs-le, abs-ge}
-use Rattle.algebra.specs.Ring.{E, num, ◌⊕◌, ◌⊖◌, ◌⊗◌, ⊝◌, v0, v1, v2, v3, v4, v5}
-use Rattle.algebra.specs.Sign.{Pos, NN, ◌*⁺◌, ◌*°◌, ◌+⁺◌, weak, pos-in, nn-in, lt_in, le_in, lt_by, cases, refute}
+use Rattle.algebra.proofs.Bound.{[]ᵉ, ◌∷ᵉ◌, within, abs-le, abs-ge}
+use Rattle.algebra.specs.Ring.{E, num, ◌⊕◌, ◌⊖◌, ◌⊗◌, ⊝◌}
+use Rattle.algebra.proofs.RingLaws.{v0, v1, v2, v3, v4, v5}
+use Rattle.algebra.proofs.Sign.{Pos, NN, ◌*⁺◌, ◌*°◌, ◌+⁺◌, weak, pos-in, nn-in, lt_in, le_in, lt_by, cases, refute}
 use Rattle.sums.specs.Bit.{test-ext}
 use Rattle.sums.proofs.BitLaws.{is_true, is_false}
 use Rattle.hull_center.specs.declared.PositionSum.{PositionSum}

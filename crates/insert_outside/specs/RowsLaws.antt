@@ -5,7 +5,7 @@ use Rattle.std.proofs.Common.{◌∙◌, ap, arith}
 use Rattle.std.proofs.Math.Path.{subst⁻¹}
 use Rattle.apply.specs.Apply.{first_face}
 use Rattle.circle_test.specs.GoodRows.{GoodRows}
-use Rattle.conflicts.specs.FlipsWithin.{within_none}
+use Rattle.conflicts.proofs.FlipsWithinLaws.{within_none}
 use Rattle.corner.specs.declared.Extension.{Extension}
 use Rattle.corner.specs.Corner.{Extended}
 use Rattle.corner.specs.CornerLaws.{Closings}

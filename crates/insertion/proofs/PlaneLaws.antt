@@ -5,8 +5,9 @@ use Rattle.std.proofs.Common.{sym, ◌∙◌, ap}
 use mathlib.Core.List.{List, [], ◌∷◌}
 use Rattle.std.proofs.Math.Logic.{⊎_elim}
 use Rattle.std.proofs.Math.IntN.{ℤ}
-use Rattle.algebra.specs.Ring.{var, num, ◌⊕◌, ◌⊖◌, ⊝◌, ring, v0, v1, v2, v3, v4, v5, v6, v7}
-use Rattle.algebra.specs.Sign.{NN, ◌*⁺◌, ◌*°◌, ◌+⁺◌, ◌+°◌, sq, pos-in, cases, refute, eq-in, eq-by, zero°, ◌*⁰◌, ◌+⁰◌}
+use Rattle.algebra.specs.Ring.{var, num, ◌⊕◌, ◌⊖◌, ⊝◌}
+use Rattle.algebra.proofs.RingLaws.{ring, v0, v1, v2, v3, v4, v5, v6, v7}
+use Rattle.algebra.proofs.Sign.{NN, ◌*⁺◌, ◌*°◌, ◌+⁺◌, ◌+°◌, sq, pos-in, cases, refute, eq-in, eq-by, zero°, ◌*⁰◌, ◌+⁰◌}
 use Rattle.math.specs.declared.Point.{Point}
 use Rattle.math.specs.Determinant.{Lift, Orient2d, Incircle, Height, Factor, orient2d, incircle, height, factor}
 use Rattle.math.proofs.Plane.{E·, A, B, C, D, env, orient2d-next, orient2d-swap, height-swap}

@@ -4,7 +4,7 @@
 use Rattle.std.specs.Prelude.{◌≡◌, List, ℤ, pos, ◌<ℤ◌}
 use Rattle.std.proofs.Math.Logic.{⊎_elim}
 use Rattle.algebra.specs.Ring.{E, num, ◌⊕◌, ◌⊖◌, ◌⊗◌, ⊝◌}
-use Rattle.algebra.specs.Sign.{Pos, NN, ◌*⁺◌, ◌*°◌, ◌+⁺◌, ◌+°◌, weak, sq, pos-in, cases, refute, eq-in, zero°, ◌*⁰◌}
+use Rattle.algebra.proofs.Sign.{Pos, NN, ◌*⁺◌, ◌*°◌, ◌+⁺◌, ◌+°◌, weak, sq, pos-in, cases, refute, eq-in, zero°, ◌*⁰◌}
 use Rattle.math.specs.declared.Point.{Point}
 use Rattle.math.specs.Determinant.{Pt, Orient2d, Incircle, Factor, orient2d, incircle, factor}
 use Rattle.math.proofs.Plane.{E·, A, B, C, D, env}

@@ -7,9 +7,10 @@ use Rattle.std.proofs.Math.IntN.{neg_ℤ-neg_ℤ}
 use Rattle.std.specs.Int.Signed.{mag}
 use Rattle.std.specs.Int.{w128}
 use Rattle.std.proofs.Math.Facts.{Fits-cat, sfits_to_z, Fits-of_z, of_z-to_z}
-use Rattle.algebra.specs.Ring.{E, num, ◌⊕◌, ◌⊖◌, ◌⊗◌, ⊝◌, v0, v1, v2, v3, v4, v5, v6, v7, var, ring}
-use Rattle.algebra.specs.Sign.{eq-in, eq-by, ◌*⁰◌, ◌+⁰◌}
-use Rattle.algebra.specs.Bound.{nat_abs-neg, nat_abs-+}
+use Rattle.algebra.specs.Ring.{E, num, ◌⊕◌, ◌⊖◌, ◌⊗◌, ⊝◌, var}
+use Rattle.algebra.proofs.RingLaws.{v0, v1, v2, v3, v4, v5, v6, v7, ring}
+use Rattle.algebra.proofs.Sign.{eq-in, eq-by, ◌*⁰◌, ◌+⁰◌}
+use Rattle.algebra.proofs.Bound.{nat_abs-neg, nat_abs-+}
 use Rattle.int128.specs.declared.Int128.{Int128}
 use Rattle.int128.specs.Int128.{of_halves, int128_of, in_halves, Fits128, with_sign}
 

@@ -7,7 +7,7 @@ use native.Mathlib.Numerals.{add-one}
 use native.Mathlib.Omega.{arith}
 use lib.IntN.{ℤ}
 use lib.ListN.{length, get_or}
-use Rattle.conflicts.specs.FlipsWithin.{within-room}
+use Rattle.conflicts.proofs.FlipsWithinLaws.{within-room}
 use Rattle.mesh.specs.declared.Counts.{Counts}
 use Rattle.mesh.specs.Circle.{breaks_circle}
 use Rattle.mesh.specs.Operations.{flip_cw}

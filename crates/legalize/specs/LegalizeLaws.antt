@@ -7,7 +7,8 @@ use Rattle.std.proofs.lemmas.Bool.{false≢true}
 use Rattle.std.proofs.Common.{◌∙◌, ap, subst, add-one}
 use native.Mathlib.Omega.{arith}
 use Rattle.math.specs.declared.Point.{Point}
-use Rattle.conflicts.specs.FlipsWithin.{FlipsWithin, within-run}
+use Rattle.conflicts.specs.FlipsWithin.{FlipsWithin}
+use Rattle.conflicts.proofs.FlipsWithinLaws.{within-run}
 use Rattle.mesh.specs.declared.Counts.{Counts}
 use Rattle.mesh.specs.Mesh.{Links}
 use Rattle.mesh.specs.Frame.{SameBoundary}

@@ -4,7 +4,7 @@ use Rattle.std.specs.Prelude.{◌≡◌, refl, ◌≢◌, ◌⊎◌, [], ◌∷�
 use Rattle.std.proofs.Common.{sym, ◌∙◌, ap, subst, inl, inr, arith}
 use Prim.Native.Nat.{ℕ, zero, suc, ◌+◌, ◌*◌, ◌<◌, ◌≤◌}
 use Rattle.std.specs.Int.Signed.{≤ℤ_refl}
-use Rattle.algebra.specs.Order.{lt-le, neg-<0}
+use Rattle.algebra.proofs.Order.{lt-le, neg-<0}
 use Rattle.convexity.specs.Convexity.{NoLeftCorner}
 use Rattle.math.specs.declared.Point.{Point}
 use Rattle.math.specs.Determinant.{orient2d}

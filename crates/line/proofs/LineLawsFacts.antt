@@ -3,7 +3,7 @@ use Rattle.std.specs.Prelude.{◌≡◌, refl, ◌≢◌, ◌⊎◌, ℕ, zero, 
 use Rattle.std.proofs.Common.{sym, ◌∙◌, ap, subst, ⊎_elim, inl, inr, arith}
 use Rattle.std.proofs.Math.Decide.{ℕ_discrete, dec_lt}
 use Rattle.std.specs.Int.Signed.{<ℤ-≤ℤ_trans}
-use Rattle.algebra.specs.Order.{lt-le}
+use Rattle.algebra.proofs.Order.{lt-le}
 use Rattle.math.specs.declared.Point.{Point}
 use Rattle.math.specs.Determinant.{orient2d, InRange}
 use Rattle.math.proofs.Plane.{orient2d-swap, orient2d-aba, orient2d-abb}

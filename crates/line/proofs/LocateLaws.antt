@@ -8,7 +8,7 @@ use Rattle.std.proofs.Math.Decide.{ℕ_discrete, dec_lt}
 use Rattle.std.proofs.Math.Dec.{T}
 use Rattle.std.proofs.Math.IntN.{ℤ}
 use Rattle.std.specs.Int.Signed.{clash_ℤ, <ℤ-≤ℤ_trans, ≤ℤ_refl}
-use Rattle.algebra.specs.Order.{lt-le, neg-0<}
+use Rattle.algebra.proofs.Order.{lt-le, neg-0<}
 use Rattle.math.specs.declared.Point.{Point}
 use Rattle.math.specs.Determinant.{orient2d, InRange}
 use Rattle.math.proofs.Side.{by-sign}

@@ -5,10 +5,11 @@ use Rattle.std.proofs.Common.{sym, ◌∙◌, ap, subst, ⊎_elim, inl, inr}
 use Rattle.std.proofs.Math.Dec.{T}
 use Rattle.std.proofs.Math.IntN.{pos}
 use lib.Signed.{lt_z, le_z, ◌<ℤ◌, ◌≤ℤ◌, lt_z_yes, le_z_yes, lt_z_no, clash_ℤ}
-use Rattle.algebra.specs.Bound.{abs-le, abs-ge}
-use Rattle.algebra.specs.Order.{le_antisymm}
-use Rattle.algebra.specs.Ring.{E, var, num, ◌⊕◌, ◌⊖◌, ◌⊗◌, ⊝◌, v0, v1, v2, v3, #◌, ring}
-use Rattle.algebra.specs.Sign.{Pos, NN, Zero, ◌*⁺◌, ◌*°◌, ◌+⁺◌, ◌+°◌, ◌+⁰◌, ◌*⁰◌, weak, less1, pos-in, nn-in, lt_in, le_in, cases, pos-by, lt_by, le-by, eq-in, eq-by, zero°, refute}
+use Rattle.algebra.proofs.Bound.{abs-le, abs-ge}
+use Rattle.algebra.proofs.Order.{le_antisymm}
+use Rattle.algebra.specs.Ring.{E, var, num, ◌⊕◌, ◌⊖◌, ◌⊗◌, ⊝◌}
+use Rattle.algebra.proofs.RingLaws.{v0, v1, v2, v3, #◌, ring}
+use Rattle.algebra.proofs.Sign.{Pos, NN, Zero, ◌*⁺◌, ◌*°◌, ◌+⁺◌, ◌+°◌, ◌+⁰◌, ◌*⁰◌, weak, less1, pos-in, nn-in, lt_in, le_in, cases, pos-by, lt_by, le-by, eq-in, eq-by, zero°, refute}
 use Rattle.math.specs.declared.Point.{Point}
 use Rattle.math.specs.Determinant.{Pt, Orient2d, orient2d, InRange}
 use Rattle.math.proofs.Plane.{E·}

@@ -1,8 +1,9 @@
 -- Laws of specs/Straight.antt.
 use Rattle.std.specs.Prelude.{◌≡◌, refl, List, [], ◌∷◌, ℕ, suc, ◌<◌, ℤ, pos, ◌<ℤ◌, ◌≤ℤ◌}
 use Rattle.std.proofs.Common.{⊎_elim}
-use Rattle.algebra.specs.Ring.{E, var, num, ◌⊕◌, ◌⊖◌, ◌⊗◌, ⊝◌, #◌}
-use Rattle.algebra.specs.Sign.{Pos, NN, ◌*⁺◌, ◌*°◌, ◌+⁺◌, ◌+°◌, ◌*⁰◌, weak, sq, pos-in, nn-in, lt_in, cases, nn-by, le-by, eq-in, zero°, refute}
+use Rattle.algebra.specs.Ring.{E, var, num, ◌⊕◌, ◌⊖◌, ◌⊗◌, ⊝◌}
+use Rattle.algebra.proofs.RingLaws.{#◌}
+use Rattle.algebra.proofs.Sign.{Pos, NN, ◌*⁺◌, ◌*°◌, ◌+⁺◌, ◌+°◌, ◌*⁰◌, weak, sq, pos-in, nn-in, lt_in, cases, nn-by, le-by, eq-in, zero°, refute}
 use Rattle.math.specs.declared.Point.{Point}
 use Rattle.math.specs.Determinant.{Pt, Orient2d, Incircle, Minus, Dot, Factor, orient2d, incircle, factor}
 use Rattle.math.proofs.Plane.{E·, A, B, C, D, env, env3}

@@ -6,10 +6,10 @@ use Rattle.std.proofs.Math.Logic.{inl, inr, ⊎_elim}
 use Rattle.std.proofs.Common.{T_not}
 use Rattle.std.proofs.Math.Dec.{not_T}
 use Rattle.std.specs.Int.Signed.{lt_z, le_z, lt_z_yes, le_z_yes, <ℤ-≤ℤ_trans, <ℤ_irrefl}
-use Rattle.algebra.specs.Bound.{abs-le, abs-ge}
-use Rattle.algebra.specs.Order.{lt-le}
-use Rattle.algebra.specs.Ring.{v0, v1, v2}
-use Rattle.algebra.specs.Sign.{◌+⁺◌, ◌+°◌, lt_in, le_in, lt_by, le-by}
+use Rattle.algebra.proofs.Bound.{abs-le, abs-ge}
+use Rattle.algebra.proofs.Order.{lt-le}
+use Rattle.algebra.proofs.RingLaws.{v0, v1, v2}
+use Rattle.algebra.proofs.Sign.{◌+⁺◌, ◌+°◌, lt_in, le_in, lt_by, le-by}
 use Rattle.line.specs.Locate.{none_between}
 use Rattle.line.specs.Order.{comes_before}
 use Rattle.math.specs.declared.Point.{Point}

@@ -5,9 +5,10 @@ use Rattle.std.proofs.Math.Path.{refl}
 use Rattle.std.proofs.Common.{sym, ◌∙◌, subst}
 use Rattle.std.proofs.Math.Logic.{⊎_elim}
 use Rattle.std.specs.Int.Signed.{lt_z, lt_z_yes, le_z_yes, lt_z_no}
-use Rattle.algebra.specs.Order.{lt-le}
-use Rattle.algebra.specs.Ring.{⊝◌, #◌}
-use Rattle.algebra.specs.Sign.{◌*⁺◌, ◌*°◌, ◌+⁺◌, weak, pos-in, lt_in, le_in, cases, le-by, nn-by, refute}
+use Rattle.algebra.proofs.Order.{lt-le}
+use Rattle.algebra.specs.Ring.{⊝◌}
+use Rattle.algebra.proofs.RingLaws.{#◌}
+use Rattle.algebra.proofs.Sign.{◌*⁺◌, ◌*°◌, ◌+⁺◌, weak, pos-in, lt_in, le_in, cases, le-by, nn-by, refute}
 use Rattle.sums.specs.Bit.{bit}
 use Rattle.sums.proofs.BitLaws.{from-true, from_false, is_true, is_false}
 use Rattle.math.specs.declared.Point.{Point}

@@ -10,8 +10,9 @@ use mathlib.Core.List.{[], ◌∷◌}
 use Prim.Native.Nat.{ℕ, suc, ◌-◌, ◌<◌}
 use Rattle.std.proofs.Math.IntN.{pos}
 use Rattle.std.specs.Int.Signed.{lt_z_yes}
-use Rattle.algebra.specs.Ring.{◌⊕◌, ⊝◌, #◌, v0, v1, ring}
-use Rattle.algebra.specs.Sign.{◌+⁺◌, pos-in, lt_in, lt_by, eq-in, zero°}
+use Rattle.algebra.specs.Ring.{◌⊕◌, ⊝◌}
+use Rattle.algebra.proofs.RingLaws.{#◌, v0, v1, ring}
+use Rattle.algebra.proofs.Sign.{◌+⁺◌, pos-in, lt_in, lt_by, eq-in, zero°}
 use Rattle.sums.specs.Half.{rev}
 use Rattle.sums.proofs.SumLaws.{sum-positive}
 use Rattle.math.specs.declared.Point.{Point}

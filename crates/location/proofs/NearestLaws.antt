@@ -7,8 +7,8 @@ use Rattle.std.proofs.Math.Bool.{true, false, not, cond}
 use native.Mathlib.Omega.{arith}
 use Rattle.std.proofs.Math.Dec.{T}
 use Rattle.std.specs.Int.Signed.{lt_z_yes, <ℤ_irrefl}
-use Rattle.algebra.specs.Ring.{v0, v1, v2}
-use Rattle.algebra.specs.Sign.{◌+⁺◌, weak, lt_in, lt_by}
+use Rattle.algebra.proofs.RingLaws.{v0, v1, v2}
+use Rattle.algebra.proofs.Sign.{◌+⁺◌, weak, lt_in, lt_by}
 use Rattle.sums.proofs.BitLaws.{from-true}
 use Rattle.sums.proofs.BoundedLaws.{count-le, first-below-passes, count_less}
 use Rattle.sums.proofs.IterateLaws.{iter-keeps}

@@ -9,9 +9,9 @@ use native.Mathlib.Omega.{arith}
 use Rattle.std.proofs.Math.Dec.{T, not_T, ltb, ltb→lt}
 use Rattle.std.proofs.Math.IntN.{pos}
 use Rattle.std.specs.Int.Signed.{lt_z, lt_z_yes, lt_z_no}
-use Rattle.algebra.specs.Order.{le_antisymm}
-use Rattle.algebra.specs.Ring.{#◌, v0}
-use Rattle.algebra.specs.Sign.{◌+⁺◌, nn-in, lt_in, le-by, cases, refute}
+use Rattle.algebra.proofs.Order.{le_antisymm}
+use Rattle.algebra.proofs.RingLaws.{#◌, v0}
+use Rattle.algebra.proofs.Sign.{◌+⁺◌, nn-in, lt_in, le-by, cases, refute}
 use Rattle.sums.proofs.BitLaws.{from-true, from_false, and_left, and_right, and_both, lt?}
 use Rattle.sums.specs.Bounded.{first_below}
 use Rattle.sums.proofs.BoundedLaws.{first-below-le, first-below-passes, first-below-at-most, first-below-any}

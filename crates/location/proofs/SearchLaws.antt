@@ -6,7 +6,7 @@ use Rattle.std.proofs.Common.{sym, ◌∙◌, ap, inl, inr, arith}
 use Rattle.std.proofs.Math.Bool.{true, false}
 use Rattle.std.proofs.Math.Dec.{eqb→eq}
 use Rattle.std.specs.Int.Signed.{lt_z_yes}
-use Rattle.algebra.specs.Order.{neg-0<}
+use Rattle.algebra.proofs.Order.{neg-0<}
 use Rattle.sums.proofs.BitLaws.{from-true, from_false, eq?}
 use Rattle.sums.specs.Half.{rev}
 use Rattle.sums.proofs.HalfLaws.{rev-rev}

@@ -2,8 +2,9 @@
 -- way from r is low. Assumes nothing.
 use Rattle.std.specs.Prelude.{◌≡◌, refl, List, [], ◌∷◌, ℕ, ℤ, pos, ◌*ℤ◌, ◌<ℤ◌, ◌≤ℤ◌}
 use Rattle.std.proofs.Common.{sym, subst, ⊎_elim}
-use Rattle.algebra.specs.Ring.{E, var, ◌⊕◌, ◌⊖◌, ◌⊗◌, ⊝◌, #◌, v0, v1, ring}
-use Rattle.algebra.specs.Sign.{◌*⁺◌, ◌*°◌, ◌+⁺◌, ◌+°◌, weak, sq, pos-in, nn-in, lt_in, cases, nn-by, lt_by, le-by, refute}
+use Rattle.algebra.specs.Ring.{E, var, ◌⊕◌, ◌⊖◌, ◌⊗◌, ⊝◌}
+use Rattle.algebra.proofs.RingLaws.{#◌, v0, v1, ring}
+use Rattle.algebra.proofs.Sign.{◌*⁺◌, ◌*°◌, ◌+⁺◌, ◌+°◌, weak, sq, pos-in, nn-in, lt_in, cases, nn-by, lt_by, le-by, refute}
 use Rattle.math.specs.declared.Point.{Point}
 use Rattle.math.specs.Determinant.{Pt, Orient2d, orient2d}
 use Rattle.math.proofs.Plane.{E·, A, B, C, D, env}

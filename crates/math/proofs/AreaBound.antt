@@ -2,8 +2,9 @@
 use Rattle.std.specs.Prelude.{◌≡◌, refl, [], ◌∷◌, ℕ, suc, ◌+◌, ◌*◌, ◌-◌, ◌^◌, ◌≤◌, ◌<◌, ℤ, pos, negsuc, nat_abs, ◌+ℤ◌, ◌-ℤ◌, ◌*ℤ◌}
 use Rattle.std.proofs.Common.{◌∙◌, ap, ap₂, le_refl, arith}
 use Rattle.std.proofs.Math.Decide.{dec_lt}
-use Rattle.algebra.specs.Ring.{◌⊕◌, ◌⊖◌, ◌⊗◌, ⊝◌, v0, v1, v2, v3, v4, v5, ring}
-use Rattle.algebra.specs.Bound.{[]ᵉ, ◌∷ᵉ◌, within, nat_abs-neg}
+use Rattle.algebra.specs.Ring.{◌⊕◌, ◌⊖◌, ◌⊗◌, ⊝◌}
+use Rattle.algebra.proofs.RingLaws.{v0, v1, v2, v3, v4, v5, ring}
+use Rattle.algebra.proofs.Bound.{[]ᵉ, ◌∷ᵉ◌, within, nat_abs-neg}
 use Rattle.math.specs.declared.Point.{Point}
 use Rattle.math.specs.Determinant.{Orient2d, InRange, orient2d}
 use Rattle.math.proofs.Plane.{E·, A, B, C, env3}

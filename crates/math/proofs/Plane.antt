@@ -8,8 +8,9 @@ use mathlib.Core.List.{List, [], ◌∷◌}
 use Rattle.std.proofs.Math.Logic.{⊎_elim}
 use Rattle.std.proofs.Math.IntN.{ℤ}
 use Rattle.std.specs.Int.Signed.{lt_z, le_z, <ℤ_irrefl}
-use Rattle.algebra.specs.Ring.{E, var, num, ◌⊕◌, ◌⊖◌, ◌⊗◌, ⊝◌, ring}
-use Rattle.algebra.specs.Sign.{Pos, NN, ◌*⁺◌, ◌*°◌, ◌+⁺◌, ◌+°◌, weak, sq, pos-in, nn-in, lt_by, cases, refute, eq-in, zero°}
+use Rattle.algebra.specs.Ring.{E, var, num, ◌⊕◌, ◌⊖◌, ◌⊗◌, ⊝◌}
+use Rattle.algebra.proofs.RingLaws.{ring}
+use Rattle.algebra.proofs.Sign.{Pos, NN, ◌*⁺◌, ◌*°◌, ◌+⁺◌, ◌+°◌, weak, sq, pos-in, nn-in, lt_by, cases, refute, eq-in, zero°}
 use Rattle.math.specs.declared.Point.{Point}
 use Rattle.math.specs.Determinant.{Ops, Pt, det2, det3, Lift, Dot, Orient2d, Incircle, Height, Minus, ℤ·, pt, orient2d, incircle, height, is_ordered_ccw, contained_in_circumference}
 

@@ -13,11 +13,12 @@ use Rattle.std.specs.Float.Ieee.Exact.{HasValue, round_exact}
 use Rattle.std.specs.Float.Ieee.Back.{round_whole}
 use Rattle.std.specs.Float.Ieee.Order.{round_mono}
 use Rattle.std.specs.Float.Ieee.Positive.{num, den, positive, den_pos, own_value, positive_of_value, values_of_le, between}
-use Rattle.algebra.specs.Ring.{◌⊕◌, ◌⊖◌, ◌⊗◌, v0, v1, v2, v3}
-use Rattle.algebra.specs.Order.{add-0≤, sq-0≤}
-use Rattle.algebra.specs.Bound.{Env, []ᵉ, ◌∷ᵉ◌, within}
-use Rattle.algebra.specs.Test.{test-ext}
-use Rattle.algebra.specs.Fractions.{add-fractions, sum_like, ltb-scale, left-scale, right-scale}
+use Rattle.algebra.specs.Ring.{◌⊕◌, ◌⊖◌, ◌⊗◌}
+use Rattle.algebra.proofs.RingLaws.{v0, v1, v2, v3}
+use Rattle.algebra.proofs.Order.{add-0≤, sq-0≤}
+use Rattle.algebra.proofs.Bound.{Env, []ᵉ, ◌∷ᵉ◌, within}
+use Rattle.algebra.proofs.Test.{test-ext}
+use Rattle.algebra.proofs.Fractions.{add-fractions, sum_like, ltb-scale, left-scale, right-scale}
 use Rattle.math.specs.declared.Point.{Point}
 use Rattle.math.specs.Determinant.{Ops, Pt, Factor, Length2, InRange, factor, length2, is_behind_edge}
 use Rattle.math.specs.Whole.{Whole, signed}

@@ -4,7 +4,7 @@ use Rattle.std.specs.Prelude.{◌≡◌, refl, Bool, true, false, ◌&&◌, ℕ,
 use Rattle.std.proofs.Common.{ap₂, suc-le-suc, zero-le, not-suc-le-zero, le-leb, leb-true, ltb→lt}
 use Rattle.std.proofs.lemmas.Bool.{false≢true, lt-leb}
 use Rattle.std.specs.Int.Signed.{lt_z}
-use Rattle.algebra.specs.Bound.{abs-by}
+use Rattle.algebra.proofs.Bound.{abs-by}
 use Rattle.math.specs.declared.Point.{Point}
 use Rattle.math.specs.Determinant.{InRange, is_valid_coordinate, is_valid_vertex}
 

@@ -4,8 +4,8 @@ use Rattle.std.specs.Prelude.{Bool, true, false, cond, ◌≡◌, T, ℤ, pos, �
 use Rattle.std.proofs.Math.Path.{refl}
 use Rattle.std.proofs.Common.{sym, subst}
 use Rattle.std.specs.Int.Signed.{lt_z, lt_z_yes}
-use Rattle.algebra.specs.Order.{le_antisymm}
-use Rattle.algebra.specs.Test.{lt-left}
+use Rattle.algebra.proofs.Order.{le_antisymm}
+use Rattle.algebra.proofs.Test.{lt-left}
 use Rattle.math.specs.Determinant.{by_sign}
 
 module _ {A : Type 0} (area : ℤ) (left right line : A) where

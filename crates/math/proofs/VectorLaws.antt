@@ -1,8 +1,9 @@
 -- Laws of specs/Vector.antt.
 use Rattle.std.specs.Prelude.{◌≡◌, refl, [], ◌∷◌, ◌≤◌, ℤ, nat_abs, ◌+ℤ◌, ◌-ℤ◌, ◌*ℤ◌}
 use Rattle.std.proofs.Common.{sym, ◌∙◌, ap₂, subst}
-use Rattle.algebra.specs.Ring.{var, ◌⊕◌, ◌⊖◌, ◌⊗◌, ring}
-use Rattle.algebra.specs.Bound.{Env, []ᵉ, ◌∷ᵉ◌, within}
+use Rattle.algebra.specs.Ring.{var, ◌⊕◌, ◌⊖◌, ◌⊗◌}
+use Rattle.algebra.proofs.RingLaws.{ring}
+use Rattle.algebra.proofs.Bound.{Env, []ᵉ, ◌∷ᵉ◌, within}
 use Rattle.math.specs.declared.Point.{Point}
 use Rattle.math.specs.declared.Vector.{Vector}
 use Rattle.math.specs.Determinant.{InRange, Dot, det2, Minus, Orient2d, Incircle, orient2d, incircle, factor, length2}

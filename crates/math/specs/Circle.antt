@@ -6,8 +6,9 @@ use Rattle.std.proofs.Math.Path.{refl, ap, ap₂}
 use Rattle.std.proofs.Common.{sym, ◌∙◌, ⊎_elim}
 use Rattle.std.proofs.Math.IntN.{ℤ}
 use Rattle.std.specs.Int.Signed.{lt_z_yes}
-use Rattle.algebra.specs.Ring.{E, var, num, ◌⊖◌, ◌⊗◌, ⊝◌, v0, v1, v2, v3, ring}
-use Rattle.algebra.specs.Sign.{◌*⁺◌, ◌*°◌, ◌+⁺◌, weak, pos-in, lt_in, lt_by, cases, refute, eq-in, eq-by, zero°, ◌*⁰◌, ◌+⁰◌}
+use Rattle.algebra.specs.Ring.{E, var, num, ◌⊖◌, ◌⊗◌, ⊝◌}
+use Rattle.algebra.proofs.RingLaws.{v0, v1, v2, v3, ring}
+use Rattle.algebra.proofs.Sign.{◌*⁺◌, ◌*°◌, ◌+⁺◌, weak, pos-in, lt_in, lt_by, cases, refute, eq-in, eq-by, zero°, ◌*⁰◌, ◌+⁰◌}
 use Rattle.math.specs.declared.Point.{Point}
 use Rattle.math.specs.Determinant.{Ops, Pt, Lift, Orient2d, Incircle, ℤ·, pt, orient2d, incircle}
 

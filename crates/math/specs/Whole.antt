@@ -9,9 +9,10 @@ use Rattle.std.specs.Float.Ieee.Fits.{down_pos}
 use Rattle.std.specs.Float.Ieee.Exact.{HasValue}
 use Rattle.std.specs.Float.Ieee.Back.{round_whole}
 use Rattle.std.specs.Float.Ieee.Scale.{round_same}
-use Rattle.algebra.specs.Ring.{◌⊕◌, ◌⊖◌, ◌⊗◌, ⊝◌, v0, v1, ring}
-use Rattle.algebra.specs.Bound.{nat_abs-neg}
-use Rattle.algebra.specs.Fractions.{add-fractions, neg-fraction, sub_is, sum_like}
+use Rattle.algebra.specs.Ring.{◌⊕◌, ◌⊖◌, ◌⊗◌, ⊝◌}
+use Rattle.algebra.proofs.RingLaws.{v0, v1, ring}
+use Rattle.algebra.proofs.Bound.{nat_abs-neg}
+use Rattle.algebra.proofs.Fractions.{add-fractions, neg-fraction, sub_is, sum_like}
 
 abbrev pub signed : Bool → ℕ → ℤ
 signed false n = pos n

@@ -8,9 +8,10 @@ use Rattle.std.proofs.Math.Nat.{le_refl}
 use native.Mathlib.Omega.{arith}
 use Rattle.std.proofs.Math.IntN.{pos}
 use Rattle.std.specs.Int.Signed.{lt_z, shr_z, lt_z_yes}
-use Rattle.algebra.specs.Ring.{E, num, ◌⊕◌, ◌⊖◌, ◌⊗◌, ⊝◌, v0, v1, v2, v3, v4, v5, v6, v7, ring}
-use Rattle.algebra.specs.Sign.{◌+⁺◌, lt_in, le_in, lt_by, eq-in, eq-by, ◌*⁰◌, ◌+⁰◌}
-use Rattle.algebra.specs.Bound.{Env, []ᵉ, ◌∷ᵉ◌, within, abs-le, abs-ge}
+use Rattle.algebra.specs.Ring.{E, num, ◌⊕◌, ◌⊖◌, ◌⊗◌, ⊝◌}
+use Rattle.algebra.proofs.RingLaws.{v0, v1, v2, v3, v4, v5, v6, v7, ring}
+use Rattle.algebra.proofs.Sign.{◌+⁺◌, lt_in, le_in, lt_by, eq-in, eq-by, ◌*⁰◌, ◌+⁰◌}
+use Rattle.algebra.proofs.Bound.{Env, []ᵉ, ◌∷ᵉ◌, within, abs-le, abs-ge}
 use Rattle.math.specs.declared.wide.Digits.{Digits}
 
 -- ---- the sign, as 1, 0 or -1

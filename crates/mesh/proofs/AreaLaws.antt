@@ -6,7 +6,8 @@ use Rattle.std.proofs.Common.{◌∙◌, ap₂}
 use Prim.Native.Nat.{ℕ, suc, ◌-◌, ◌*◌, ◌<◌}
 use native.Mathlib.Omega.{arith}
 use Rattle.std.proofs.Math.IntN.{neg_ℤ, +ℤ_idl, neg_ℤ-neg_ℤ}
-use Rattle.algebra.specs.Ring.{◌⊖◌, ◌⊗◌, ⊝◌, v0, v1, v2, v3, ring}
+use Rattle.algebra.specs.Ring.{◌⊖◌, ◌⊗◌, ⊝◌}
+use Rattle.algebra.proofs.RingLaws.{v0, v1, v2, v3, ring}
 use Rattle.math.specs.declared.Point.{Point}
 use Rattle.math.specs.Determinant.{orient2d}
 use Rattle.math.proofs.Plane.{orient2d-cross}

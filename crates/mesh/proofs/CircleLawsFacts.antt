@@ -6,7 +6,7 @@ use Rattle.std.proofs.Math.Path.{transport}
 use borrow.Author.Tests.{lt-ltb}
 use Rattle.std.proofs.Math.Dec.{ltb→lt, not_T}
 use Rattle.std.specs.Int.Signed.{lt_z, lt_z_yes, lt_z_no, clash_ℤ}
-use Rattle.algebra.specs.Order.{lt-le}
+use Rattle.algebra.proofs.Order.{lt-le}
 use Rattle.math.specs.declared.Point.{Point}
 use Rattle.math.specs.Determinant.{incircle, contained_in_circumference}
 use Rattle.math.specs.Circle.{from_centre}

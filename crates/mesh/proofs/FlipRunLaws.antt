@@ -3,8 +3,9 @@ use Rattle.std.specs.Prelude.{true, ◌≡◌, ℕ, zero, suc, ◌+◌, ◌*◌,
 use Rattle.std.proofs.Math.Path.{refl}
 use Rattle.std.proofs.Common.{sym, ◌∙◌, ap, subst, add-suc, add-zero, arith}
 use mathlib.Core.List.{[], ◌∷◌}
-use Rattle.algebra.specs.Ring.{◌⊕◌, v0, v1, v2, v3, v4, #◌}
-use Rattle.algebra.specs.Sign.{eq-in, eq-by, ◌+⁰◌}
+use Rattle.algebra.specs.Ring.{◌⊕◌}
+use Rattle.algebra.proofs.RingLaws.{v0, v1, v2, v3, v4, #◌}
+use Rattle.algebra.proofs.Sign.{eq-in, eq-by, ◌+⁰◌}
 use Rattle.math.specs.declared.Point.{Point}
 use Rattle.mesh.specs.declared.Counts.{Counts}
 use Rattle.mesh.specs.Mesh.{Links}

@@ -5,9 +5,10 @@ use Rattle.std.proofs.Math.Path.{ap, ap₂}
 use Prim.Native.Nat.{ℕ, suc, ◌+◌, ◌-◌, ◌*◌, ◌/◌, ◌<◌}
 use Rattle.std.proofs.Math.Decide.{ℕ_discrete}
 use native.Mathlib.Omega.{arith}
-use Rattle.algebra.specs.Order.{abs-falls}
-use Rattle.algebra.specs.Ring.{◌⊕◌, ◌⊖◌, v0, v1, v2, v3, v4, v5, v6}
-use Rattle.algebra.specs.Sign.{eq-in, eq-by, ◌+⁰◌}
+use Rattle.algebra.proofs.Order.{abs-falls}
+use Rattle.algebra.specs.Ring.{◌⊕◌, ◌⊖◌}
+use Rattle.algebra.proofs.RingLaws.{v0, v1, v2, v3, v4, v5, v6}
+use Rattle.algebra.proofs.Sign.{eq-in, eq-by, ◌+⁰◌}
 use Rattle.math.specs.declared.Point.{Point}
 use Rattle.math.specs.Determinant.{orient2d, incircle, height}
 use Rattle.math.proofs.Plane.{orient2d-next, incircle-other, height-next, height-not-negative, flip-area, flip-height, flip-left, flip-right}

@@ -3,9 +3,10 @@
 -- nothing.
 use Rattle.std.specs.Prelude.{◌≡◌, ◌≢◌, [], ◌∷◌, ℕ, suc, ◌-◌, ◌<◌, ◌≤◌, ℤ, pos, neg_ℤ, ◌<ℤ◌}
 use Rattle.std.proofs.Common.{sym, ◌∙◌, ap, subst, arith}
-use Rattle.algebra.specs.Order.{neg-<0}
-use Rattle.algebra.specs.Ring.{⊝◌, v0}
-use Rattle.algebra.specs.Sign.{pos-in, weak, ◌+⁺◌, refute}
+use Rattle.algebra.proofs.Order.{neg-<0}
+use Rattle.algebra.specs.Ring.{⊝◌}
+use Rattle.algebra.proofs.RingLaws.{v0}
+use Rattle.algebra.proofs.Sign.{pos-in, weak, ◌+⁺◌, refute}
 use Rattle.math.specs.declared.Point.{Point}
 use Rattle.math.specs.Determinant.{orient2d}
 use Rattle.math.proofs.Plane.{orient2d-next, orient2d-swap, orient2d-aab}

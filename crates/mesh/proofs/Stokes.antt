@@ -3,8 +3,9 @@
 use Rattle.std.specs.Prelude.{◌≡◌, refl, [], ◌∷◌, ℕ, ◌+◌, ◌*◌, ◌<◌, ℤ, pos, neg_ℤ, ◌+ℤ◌}
 use Rattle.std.proofs.Common.{sym, ◌∙◌, ap, arith}
 use Rattle.std.proofs.Math.IntN.{+ℤ_invr}
-use Rattle.algebra.specs.Ring.{num, ◌⊕◌, ⊝◌, v0, v1}
-use Rattle.algebra.specs.Sign.{eq-in, eq-by}
+use Rattle.algebra.specs.Ring.{num, ◌⊕◌, ⊝◌}
+use Rattle.algebra.proofs.RingLaws.{v0, v1}
+use Rattle.algebra.proofs.Sign.{eq-in, eq-by}
 use Rattle.sums.proofs.HalfLaws.{rev-even}
 use Rattle.sums.specs.Sum.{sum}
 use Rattle.sums.proofs.SumLaws.{sum-none, sum-pairs}

@@ -38,8 +38,9 @@ use Rattle.insertion_laws.specs.SplitHalfEdge.{HalfEdgeSplitFrame, split-half-ed
 use Rattle.insertion_laws.specs.HalfEdgeSplitLaws.{split-half-edge-length, split-half-edge-from, split-half-edge-last}
 use Rattle.insertion.specs.Plane.{Between}
 use Rattle.outline.specs.Outline.{upper, count_boundary, direction, falls_next, full_circles}
-use Rattle.outline.specs.HalfPlane.{SameWay, RightTurn, same-way-sym, same-way-trans}
-use Rattle.outline.specs.MeshHull.{count-from}
+use Rattle.outline.specs.HalfPlane.{SameWay}
+use Rattle.outline.proofs.HalfPlaneLaws.{RightTurn, same-way-sym, same-way-trans}
+use Rattle.outline.proofs.MeshHull.{count-from}
 use Rattle.walkable.specs.Walkable.{Walkable}
 use Rattle.nearby.specs.Test.{RightTurns}
 use Rattle.nearby.specs.Leaves.{leaves_next, leaves_along}

@@ -25,10 +25,12 @@ use Rattle.mesh.specs.SingleFace.{SingleFaceFrame}
 use Rattle.mesh.proofs.SingleFaceLaws.{single-face-frame}
 use Rattle.mesh.specs.NewFace.{NewFaceFrame}
 use Rattle.mesh.proofs.NewFaceLaws.{new-face-frame, new-face-keeps}
-use Rattle.outline.specs.Outline.{upper, falls, count_boundary, direction, falls_next, full_circles}
-use Rattle.outline.specs.HalfPlane.{RightTurn, left}
-use Rattle.outline.specs.MeshHull.{count-from}
-use Rattle.outline.specs.Rounds.{leaves-left}
+use Rattle.outline.specs.Outline.{upper, count_boundary, direction, falls_next, full_circles}
+use Rattle.outline.proofs.OutlineLaws.{falls}
+use Rattle.outline.specs.HalfPlane.{left}
+use Rattle.outline.proofs.HalfPlaneLaws.{RightTurn}
+use Rattle.outline.proofs.MeshHull.{count-from}
+use Rattle.outline.proofs.Rounds.{leaves-left}
 use Rattle.nearby.specs.Test.{RightTurns}
 use Rattle.nearby.specs.Leaves.{leaves_next, leaves_along}
 

@@ -4,7 +4,7 @@ use Rattle.std.proofs.Common.{inl, inr, sym, ◌∙◌, ap, subst, eqb→eq}
 use Rattle.std.proofs.Math.Path.{ap₂}
 use Rattle.std.proofs.Math.Bool.{Bool}
 use Rattle.std.specs.Int.Signed.{lt_z, le_z, lt_z_yes, le_z_yes, ≤ℤ_refl, clash_ℤ}
-use Rattle.algebra.specs.Order.{lt-le, neg-0<, neg-<0}
+use Rattle.algebra.proofs.Order.{lt-le, neg-0<, neg-<0}
 use Rattle.sums.proofs.BitLaws.{eq_test, and_left, and_right, and_both, or_cases, or_left, or_right}
 use Rattle.sums.specs.Bounded.{all_below}
 use Rattle.sums.proofs.BoundedLaws.{all-below→, all-below←}
@@ -19,8 +19,8 @@ use Rattle.mesh.specs.Area.{at_corners, boundary_length, hull_edge}
 use Rattle.mesh.proofs.BoundaryLaws.{boundary-below, boundary-outer, boundary-all}
 use Rattle.convexity.specs.Convexity.{NoLeftCorner}
 use Rattle.outline.specs.Outline.{direction, full_circles, NoneStraightBack}
-use Rattle.outline.specs.VectorLaws.{cross-along, three-signs}
-use Rattle.outline.specs.HalfPlane.{RightTurn}
+use Rattle.outline.proofs.VectorLaws.{cross-along, three-signs}
+use Rattle.outline.proofs.HalfPlaneLaws.{RightTurn}
 use Rattle.walkable.proofs.Surround.{cross-back}
 use Rattle.walkable.specs.Walkable.{Walkable}
 use Rattle.nearby.specs.Test.{is_right_turn, turns_right, is_walkable, RightTurns}

@@ -2,8 +2,9 @@
 -- parts of an edge point where the edge does. Assumes nothing.
 use Rattle.std.proofs.Common.{inl, inr, ⊎_elim}
 use Rattle.std.specs.Prelude.{◌≡◌, refl}
-use Rattle.algebra.specs.Ring.{⊝◌, #◌}
-use Rattle.algebra.specs.Sign.{◌*⁺◌, ◌*°◌, ◌+⁺◌, ◌+°◌, sq, pos-in, lt_in, lt_by, cases, refute, eq-in, eq-by, zero°, ◌*⁰◌}
+use Rattle.algebra.specs.Ring.{⊝◌}
+use Rattle.algebra.proofs.RingLaws.{#◌}
+use Rattle.algebra.proofs.Sign.{◌*⁺◌, ◌*°◌, ◌+⁺◌, ◌+°◌, sq, pos-in, lt_in, lt_by, cases, refute, eq-in, eq-by, zero°, ◌*⁰◌}
 use Rattle.sums.specs.Bit.{test-ext}
 use Rattle.math.specs.declared.Point.{Point}
 use Rattle.math.specs.declared.Vector.{Vector}
@@ -12,8 +13,9 @@ use Rattle.math.proofs.Plane.{E·, A, B, C, env3}
 use Rattle.math.specs.Vector.{difference, cross_of, dot_of}
 use Rattle.insertion.specs.Plane.{Between}
 use Rattle.outline.specs.Outline.{upper}
-use Rattle.outline.specs.VectorLaws.{Cross, vectors}
-use Rattle.outline.specs.HalfPlane.{SameWay, RightTurn, same-way-sym, same-way-trans, upper-half}
+use Rattle.outline.proofs.VectorLaws.{Cross, vectors}
+use Rattle.outline.specs.HalfPlane.{SameWay}
+use Rattle.outline.proofs.HalfPlaneLaws.{RightTurn, same-way-sym, same-way-trans, upper-half}
 
 -- (d × u)(u · w) + (d · u)(u × w) = (d × w) |u|²
 pub turn-into : (d u w : Vector) → SameWay u w → RightTurn d u → RightTurn d w

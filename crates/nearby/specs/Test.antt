@@ -9,7 +9,7 @@ use Rattle.mesh.specs.declared.Counts.{Counts}
 use Rattle.mesh.specs.Mesh.{Links, In}
 use Rattle.mesh.specs.Area.{boundary_length, hull_edge}
 use Rattle.outline.specs.Outline.{direction, full_circles}
-use Rattle.outline.specs.HalfPlane.{RightTurn}
+use Rattle.outline.proofs.HalfPlaneLaws.{RightTurn}
 
 -- direction v follows direction u with a right turn, so that u is on its left, or straight on
 unfoldable pub is_right_turn : Vector → Vector → Bool

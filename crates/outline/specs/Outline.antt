@@ -15,10 +15,6 @@ use Rattle.sums.specs.Bounded.{count}
 unfoldable pub upper : Vector → Bool
 upper v = lt_z (pos 0) v.y || (le_z (pos 0) v.y && lt_z (pos 0) v.x)
 
--- the test passes at k and fails at the number that follows
-abbrev pub falls : (ℕ → Bool) → ℕ → Bool
-falls t k = t k && not (t (suc k))
-
 -- how many half-edges of the boundary pass a test
 unfoldable pub count_boundary : Counts → Links → (ℕ → Bool) → ℕ
 count_boundary C L t = count (boundary_length C L) (λ k. t (hull_edge L k))

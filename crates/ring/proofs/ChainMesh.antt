@@ -10,8 +10,9 @@ use native.Mathlib.Omega.{arith}
 use Rattle.std.proofs.Math.Dec.{T, not_T}
 use Rattle.std.proofs.Math.IntN.{ℤ, pos, neg_ℤ}
 use Rattle.std.specs.Int.Signed.{lt_z_yes}
-use Rattle.algebra.specs.Ring.{num, ◌⊕◌, ◌⊖◌, ⊝◌, v0, v1, v2, ring}
-use Rattle.algebra.specs.Sign.{pos-in, weak, ◌+⁺◌, refute}
+use Rattle.algebra.specs.Ring.{num, ◌⊕◌, ◌⊖◌, ⊝◌}
+use Rattle.algebra.proofs.RingLaws.{v0, v1, v2, ring}
+use Rattle.algebra.proofs.Sign.{pos-in, weak, ◌+⁺◌, refute}
 use Rattle.math.specs.declared.Point.{Point}
 use Rattle.math.specs.Determinant.{orient2d, is_behind_edge}
 use Rattle.math.proofs.Plane.{orient2d-swap}

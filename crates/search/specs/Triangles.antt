@@ -4,8 +4,8 @@ use Rattle.std.proofs.Math.Path.{refl, ap, ap₂}
 use Rattle.std.proofs.Common.{sym, ◌∙◌, zero-le, eq-eqb, ne_eqb, SFits, of_z}
 use Rattle.std.specs.Int.Signed.{lt_z, le_z}
 use Rattle.std.specs.Int.{w64}
-use Rattle.algebra.specs.Bound.{small-fits}
-use Rattle.algebra.specs.Test.{le_not_lt}
+use Rattle.algebra.proofs.Bound.{small-fits}
+use Rattle.algebra.proofs.Test.{le_not_lt}
 use Rattle.dcel.specs.Rows.{halves_of, links_of, position_of, There, Placed}
 use Rattle.dcel.specs.MeshHeld.{MeshHeld, there, next-in, origin-in}
 use Rattle.location.specs.declared.PositionInTriangulation.TheVariants.{OnVertex, OnFace, OnEdge}

@@ -5,7 +5,7 @@ use Rattle.std.proofs.Math.Path.{refl, sym, ap, ap₂}
 use Rattle.std.proofs.Common.{◌∙◌, arith}
 use borrow.Author.Tests.{eq-eqb, ne_eqb}
 use Rattle.std.specs.Int.Signed.{lt_z, le_z}
-use Rattle.algebra.specs.Test.{le_read}
+use Rattle.algebra.proofs.Test.{le_read}
 use Rattle.dcel.specs.Rows.{halves_of, links_of, position_of, There, Placed}
 use Rattle.dcel.specs.MeshHeld.{MeshHeld, there, there-rev, next-in, prev-in, origin-in, to_in}
 use Rattle.location.specs.declared.PositionInTriangulation.TheVariants.{OnVertex, OnFace, OnEdge, OutsideOfConvexHull}

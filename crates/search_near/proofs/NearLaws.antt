@@ -5,7 +5,7 @@ use Rattle.std.proofs.Math.Path.{refl, sym, ap, ap₂}
 use Rattle.std.proofs.Common.{◌∙◌, subst, arith}
 use Rattle.std.proofs.Math.IntN.{pos}
 use Rattle.std.specs.Int.Signed.{lt_z, lt_z_yes}
-use Rattle.algebra.specs.Test.{le_not_lt}
+use Rattle.algebra.proofs.Test.{le_not_lt}
 use Rattle.dcel.specs.declared.handles.HalfEdgeEntry.{HalfEdgeEntry}
 use Rattle.dcel.specs.Rows.{halves_of, links_of, position_of, There, EntryOf}
 use Rattle.dcel.specs.MeshHeld.{there, there-rev, next-in, prev-in, origin-in, to_in}

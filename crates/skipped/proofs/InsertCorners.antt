@@ -10,8 +10,8 @@ use Rattle.std.proofs.Math.Decide.{ℕ_discrete}
 use Rattle.std.proofs.Math.Nat.{add-zero}
 use native.Mathlib.Omega.{arith}
 use Rattle.std.specs.Int.Signed.{≤ℤ_refl}
-use Rattle.algebra.specs.Ring.{#◌}
-use Rattle.algebra.specs.Sign.{Pos, ◌*⁺◌, ◌*°◌, ◌+⁺◌, weak, pos-in, le_in, le-by, cases, refute, eq-in, zero°, ◌*⁰◌}
+use Rattle.algebra.proofs.RingLaws.{#◌}
+use Rattle.algebra.proofs.Sign.{Pos, ◌*⁺◌, ◌*°◌, ◌+⁺◌, weak, pos-in, le_in, le-by, cases, refute, eq-in, zero°, ◌*⁰◌}
 use Rattle.convexity.specs.Convexity.{convexity, NoLeftCorner}
 use Rattle.convexity.proofs.ConvexityLawsFacts.{convexity-good, convexity-convex, convexity-bound, run-corners}
 use Rattle.corner.specs.Corner.{Extended}
@@ -36,7 +36,7 @@ use Rattle.mesh.specs.Operations.{with_vertex}
 use Rattle.mesh.specs.Area.{at_corners}
 use Rattle.mesh.specs.Frame.{SameBoundary}
 use Rattle.mesh.specs.Good.{Good}
-use Rattle.conflicts.specs.FlipsWithin.{within-room}
+use Rattle.conflicts.proofs.FlipsWithinLaws.{within-room}
 use Rattle.mesh.specs.Triangle.{Outer, rev-in}
 use Rattle.mesh.proofs.TriangleLaws.{outer, p-e, e-n}
 use Rattle.mesh.specs.Wf.{Wf}

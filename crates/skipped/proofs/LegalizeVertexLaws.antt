@@ -17,7 +17,8 @@ use Rattle.mesh.specs.FlipRun.{FlipRun, none}
 use Rattle.mesh.proofs.FlipRunLaws.{run_join, run-good, run-boundary, run-area}
 use Rattle.mesh.specs.Frame.{SameBoundary}
 use Rattle.mesh.specs.Good.{Good}
-use Rattle.conflicts.specs.FlipsWithin.{FlipsWithin, within-run}
+use Rattle.conflicts.specs.FlipsWithin.{FlipsWithin}
+use Rattle.conflicts.proofs.FlipsWithinLaws.{within-run}
 use Rattle.mesh.specs.Triangle.{rev-in}
 use Rattle.mesh.specs.Wf.{Wf}
 use Rattle.sums.proofs.Cases.{All}

@@ -8,8 +8,8 @@ use Rattle.std.proofs.Common.{inl, inr, sym, ◌∙◌, ap₂, subst, arith}
 use Rattle.std.proofs.Math.Path.{refl, ap}
 use Rattle.std.proofs.Math.Decide.{ℕ_discrete}
 use Rattle.std.specs.Int.Signed.{lt_z_no}
-use Rattle.algebra.specs.Sign.{pos-in, weak, le-by}
-use Rattle.algebra.specs.Ring.{#◌}
+use Rattle.algebra.proofs.Sign.{pos-in, weak, le-by}
+use Rattle.algebra.proofs.RingLaws.{#◌}
 use Rattle.ring.specs.declared.Side.{Side}
 use Rattle.ring.specs.declared.Side.TheVariants.{Left, Right}
 use Rattle.apply.specs.Apply.{Walking, first_face, face_edge}

@@ -1,8 +1,9 @@
 -- Laws of specs/Rise.antt.
 use Rattle.std.specs.Prelude.{List, [], ◌∷◌, ◌≡◌, refl, ℤ, pos, ◌+ℤ◌, ◌-ℤ◌, ◌<ℤ◌, ◌≤ℤ◌}
 use Rattle.std.proofs.Common.{⊎_elim, sym, subst}
-use Rattle.algebra.specs.Ring.{E, ◌⊕◌, ◌⊖◌, ◌⊗◌, ⊝◌, #◌, ring}
-use Rattle.algebra.specs.Sign.{NN, zero°, eq-in, ◌*⁺◌, ◌*°◌, ◌+⁺◌, weak, pos-in, le_in, lt_by, le-by, cases, refute}
+use Rattle.algebra.specs.Ring.{E, ◌⊕◌, ◌⊖◌, ◌⊗◌, ⊝◌}
+use Rattle.algebra.proofs.RingLaws.{#◌, ring}
+use Rattle.algebra.proofs.Sign.{NN, zero°, eq-in, ◌*⁺◌, ◌*°◌, ◌+⁺◌, weak, pos-in, le_in, lt_by, le-by, cases, refute}
 use Rattle.math.specs.declared.Point.{Point}
 use Rattle.math.specs.declared.Vector.{Vector}
 use Rattle.math.specs.Determinant.{Pt, Minus, Orient2d, orient2d}

@@ -25,7 +25,8 @@ use Rattle.mesh.specs.Operations.{with_vertex, create_new_face_adjacent_to_edge}
 use Rattle.mesh.specs.Area.{area_total, boundary_area}
 use Rattle.mesh.proofs.AreaLaws.{area-theorem}
 use Rattle.mesh.specs.Good.{Good}
-use Rattle.conflicts.specs.FlipsWithin.{FlipsWithin, within_none}
+use Rattle.conflicts.specs.FlipsWithin.{FlipsWithin}
+use Rattle.conflicts.proofs.FlipsWithinLaws.{within_none}
 use Rattle.mesh.specs.Triangle.{triangle}
 use Rattle.sums.specs.Bit.{bit}
 use Rattle.sums.specs.Half.{rev}

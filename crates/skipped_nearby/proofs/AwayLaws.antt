@@ -3,14 +3,15 @@
 use Rattle.std.specs.Prelude.{List, [], ◌∷◌, ◌≡◌, ℤ, pos, ◌<ℤ◌, ◌≤ℤ◌}
 use Rattle.std.proofs.Math.Logic.{⊎_elim}
 use Rattle.std.proofs.Math.Path.{refl}
-use Rattle.algebra.specs.Ring.{E, var, ◌⊕◌, ◌⊖◌, ⊝◌, #◌}
-use Rattle.algebra.specs.Sign.{◌*⁺◌, ◌*°◌, ◌+⁺◌, ◌+°◌, weak, pos-in, nn-in, lt_in, le_in, lt_by, le-by, cases, refute, eq-in, zero°, ◌*⁰◌}
+use Rattle.algebra.specs.Ring.{E, var, ◌⊕◌, ◌⊖◌, ⊝◌}
+use Rattle.algebra.proofs.RingLaws.{#◌}
+use Rattle.algebra.proofs.Sign.{◌*⁺◌, ◌*°◌, ◌+⁺◌, ◌+°◌, weak, pos-in, nn-in, lt_in, le_in, lt_by, le-by, cases, refute, eq-in, zero°, ◌*⁰◌}
 use Rattle.math.specs.declared.Point.{Point}
 use Rattle.math.specs.declared.Vector.{Vector}
 use Rattle.math.specs.Determinant.{Pt, Dot, Minus, Orient2d, orient2d}
 use Rattle.math.proofs.Plane.{E·, A, B, C, D}
 use Rattle.math.specs.Vector.{difference, cross_of, dot_of}
-use Rattle.outline.specs.VectorLaws.{Cross, vectors}
+use Rattle.outline.proofs.VectorLaws.{Cross, vectors}
 use Rattle.skipped_nearby.specs.Away.{away}
 
 abbrev Y : Pt E

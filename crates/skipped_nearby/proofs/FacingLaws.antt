@@ -5,9 +5,10 @@ use Rattle.std.proofs.Common.{inl, inr, ◌∙◌, ap, subst, arith}
 use Rattle.std.proofs.Math.Path.{sym, ap₂, subst₂}
 use Rattle.std.proofs.Math.IntN.{pos}
 use Rattle.std.specs.Int.Signed.{lt_z_yes, clash_ℤ}
-use Rattle.algebra.specs.Order.{lt-le}
-use Rattle.algebra.specs.Ring.{◌⊕◌, #◌, v0, v1}
-use Rattle.algebra.specs.Sign.{◌+⁺◌, weak, lt_in, lt_by}
+use Rattle.algebra.proofs.Order.{lt-le}
+use Rattle.algebra.specs.Ring.{◌⊕◌}
+use Rattle.algebra.proofs.RingLaws.{#◌, v0, v1}
+use Rattle.algebra.proofs.Sign.{◌+⁺◌, weak, lt_in, lt_by}
 use Rattle.corner.specs.Corner.{Extended}
 use Rattle.corner.specs.CornerLaws.{CornerClosed, closed-good, closed-boundary}
 use Rattle.math.specs.declared.Point.{Point}
@@ -27,8 +28,9 @@ use Rattle.mesh.specs.Triangle.{Outer}
 use Rattle.mesh.proofs.TriangleLaws.{outer, p-e, p-n, e-n, e-q, n-q}
 use Rattle.mesh.specs.Wf.{Wf}
 use Rattle.outline.specs.Outline.{direction}
-use Rattle.outline.specs.HalfPlane.{RightTurn, left, left→}
-use Rattle.outline.specs.VectorLaws.{cross-step}
+use Rattle.outline.specs.HalfPlane.{left}
+use Rattle.outline.proofs.HalfPlaneLaws.{RightTurn, left→}
+use Rattle.outline.proofs.VectorLaws.{cross-step}
 use Rattle.ring.specs.Chain.{sees_edge}
 use Rattle.nearby.proofs.KeptLaws.{direction-same, next-same, leaves-same}
 use Rattle.nearby.specs.Leaves.{leaves_along}

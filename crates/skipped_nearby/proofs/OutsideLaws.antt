@@ -5,7 +5,7 @@ use Rattle.std.proofs.Math.Path.{sym, ap, ap₂, subst₂}
 use Rattle.std.proofs.Math.Decide.{ℕ_discrete}
 use Rattle.std.proofs.Math.IntN.{pos}
 use Rattle.std.specs.Int.Signed.{≤ℤ_refl, clash_ℤ}
-use Rattle.algebra.specs.Order.{lt-le}
+use Rattle.algebra.proofs.Order.{lt-le}
 use Rattle.ring.specs.declared.Side.TheVariants.{Left, Right}
 use Rattle.apply.specs.Apply.{Walking, first_face, face_edge}
 use Rattle.convexity.specs.Convexity.{NoLeftCorner}
@@ -25,9 +25,10 @@ use Rattle.mesh.specs.Triangle.{Outer, rev-in}
 use Rattle.mesh.proofs.TriangleLaws.{outer, p-e, p-n, e-n}
 use Rattle.mesh.specs.Wf.{Wf}
 use Rattle.outline.specs.Outline.{direction}
-use Rattle.outline.specs.HalfPlane.{RightTurn, left, right-turn-not-0}
-use Rattle.outline.specs.VectorLaws.{three-signs}
-use Rattle.outline.specs.Edges.{edge-not-0}
+use Rattle.outline.specs.HalfPlane.{left}
+use Rattle.outline.proofs.HalfPlaneLaws.{RightTurn, right-turn-not-0}
+use Rattle.outline.proofs.VectorLaws.{three-signs}
+use Rattle.outline.proofs.Edges.{edge-not-0}
 use Rattle.nearby.specs.Test.{RightTurns}
 use Rattle.nearby.proofs.TestLaws.{corner-cross, walkable-turns, turns-walkable}
 use Rattle.nearby.proofs.KeptLaws.{placed-walkable, leaves-same}

@@ -8,7 +8,7 @@ use lib.IntN.{ℤ}
 use lib.ListN.{length}
 use Rattle.convexity.specs.Convexity.{fix_convexity}
 use Rattle.convexity.specs.ConvexityRows.{MeshReady, StartReady}
-use Rattle.conflicts.specs.FlipsWithin.{within_none}
+use Rattle.conflicts.proofs.FlipsWithinLaws.{within_none}
 use Rattle.corner.specs.declared.Extension.{Extension}
 use Rattle.corner.specs.CornerRows.{extended_of}
 use Rattle.dcel.specs.MeshRows.{MeshRows, links_in, places_in}

@@ -3,7 +3,7 @@ use Rattle.std.specs.Prelude.{◌≡◌, refl, ◌≢◌, ◌⊎◌, Bool, true,
 use Rattle.std.proofs.Common.{sym, subst, inl, inr, arith, ltb→lt, nltb→le, leb→le, eqb→eq, T_not}
 use Rattle.std.proofs.Math.Dec.{nleb→lt, eqb_refl, not_T}
 -- two tests that pass alike are equal
-pub use Rattle.algebra.specs.Test.{test-ext}
+pub use Rattle.algebra.proofs.Test.{test-ext}
 use Rattle.sums.specs.Bit.{bit, implies}
 
 -- ---- what a test tells

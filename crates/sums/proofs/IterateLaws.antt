@@ -5,8 +5,9 @@ use Rattle.std.proofs.Math.Bool.{Bool}
 use Prim.Native.Nat.{ℕ, zero, suc, ◌+◌, ◌-◌, ◌<◌, ◌≤◌}
 use Rattle.std.proofs.Math.Decide.{ℕ_discrete, dec_lt}
 use Rattle.std.proofs.Math.Dec.{eqb}
-use Rattle.algebra.specs.Ring.{◌⊕◌, v0, v1, v2}
-use Rattle.algebra.specs.Sign.{eq-in, eq-by}
+use Rattle.algebra.specs.Ring.{◌⊕◌}
+use Rattle.algebra.proofs.RingLaws.{v0, v1, v2}
+use Rattle.algebra.proofs.Sign.{eq-in, eq-by}
 use Rattle.sums.specs.Bit.{implies}
 use Rattle.sums.proofs.BitLaws.{eq_test, or_cases, or_left, or_right, implies→, implies←}
 use Rattle.sums.specs.Bounded.{all_below, first_below}

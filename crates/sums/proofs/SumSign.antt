@@ -4,8 +4,9 @@ use Rattle.std.proofs.Common.{sym, subst, le_refl, arith}
 use Rattle.std.proofs.Math.Decide.{ℕ_discrete}
 use Rattle.std.proofs.Math.Dec.{not_T}
 use Rattle.std.specs.Int.Signed.{lt_z, lt_z_yes, lt_z_no}
-use Rattle.algebra.specs.Ring.{◌⊕◌, ⊝◌, #◌, v0, v1}
-use Rattle.algebra.specs.Sign.{◌+⁺◌, pos-in, nn-in, lt_in, le_in, lt_by, refute}
+use Rattle.algebra.specs.Ring.{◌⊕◌, ⊝◌}
+use Rattle.algebra.proofs.RingLaws.{#◌, v0, v1}
+use Rattle.algebra.proofs.Sign.{◌+⁺◌, pos-in, nn-in, lt_in, le_in, lt_by, refute}
 use Rattle.sums.proofs.BitLaws.{sure}
 use Rattle.sums.specs.Bounded.{any_below}
 use Rattle.sums.proofs.BoundedLaws.{any-below→, none-below→}

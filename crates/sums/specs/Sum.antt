@@ -6,10 +6,11 @@ use Rattle.std.proofs.Common.{sym, ◌∙◌, ap, ap₂, subst, inl, inr, zero-l
 use Rattle.std.proofs.Math.Decide.{ℕ_discrete}
 use Rattle.std.proofs.Math.IntN.{+ℤ_idl, +ℤ_idr, +ℤ_assoc, +ℤ_comm, +ℤ_invr, neg_ℤ-+ℤ, *ℤ-zero}
 use Rattle.std.specs.Int.Signed.{≤ℤ_refl, le_z_yes}
-use Rattle.algebra.specs.Bound.{nat_abs-+}
-use Rattle.algebra.specs.Laws.{swap4, *ℤ-+ℤ}
-use Rattle.algebra.specs.Ring.{ring, ◌⊕◌, ◌⊖◌, v0, v1, v2}
-use Rattle.algebra.specs.Order.{abs-0≤, add-0<, add-0≤, lt-le}
+use Rattle.algebra.proofs.Bound.{nat_abs-+}
+use Rattle.algebra.proofs.Laws.{swap4, *ℤ-+ℤ}
+use Rattle.algebra.specs.Ring.{◌⊕◌, ◌⊖◌}
+use Rattle.algebra.proofs.RingLaws.{ring, v0, v1, v2}
+use Rattle.algebra.proofs.Order.{abs-0≤, add-0<, add-0≤, lt-le}
 use Rattle.sums.specs.Bit.{bit}
 use Rattle.sums.specs.Put.{put}
 use Rattle.sums.specs.Bounded.{count}

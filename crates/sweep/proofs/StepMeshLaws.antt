@@ -11,7 +11,8 @@ use Rattle.apply.proofs.FirstFace.{first_run}
 use Rattle.apply.specs.Origins.{OldVertex}
 use Rattle.apply.proofs.OriginsLaws.{along-origin}
 use Rattle.apply.specs.Walks.{Before}
-use Rattle.conflicts.specs.FlipsWithin.{FlipsWithin, within_none}
+use Rattle.conflicts.specs.FlipsWithin.{FlipsWithin}
+use Rattle.conflicts.proofs.FlipsWithinLaws.{within_none}
 use Rattle.corner.specs.CornerLaws.{Closings}
 use Rattle.corner.specs.Untouched.{Untouched, Grown, untouched-none}
 use Rattle.decide.specs.declared.Fate.{Fate}

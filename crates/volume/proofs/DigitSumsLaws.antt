@@ -5,9 +5,10 @@ use Rattle.std.proofs.Common.{◌∙◌, mul-le-mul_right, arith, lit≤}
 use Prim.Native.Nat.{ℕ, suc, ◌+◌, ◌*◌, ◌/◌, ◌%◌, ◌^◌, ◌<◌, ◌≤◌}
 use Rattle.std.proofs.Math.Nat.{le_trans}
 use Rattle.std.proofs.Math.IntN.{pos, nat_abs}
-use Rattle.algebra.specs.Ring.{◌⊕◌, ◌⊗◌, #◌, v0, v1, v2, v3, ring}
-use Rattle.algebra.specs.Bound.{[]ᵉ, ◌∷ᵉ◌, within}
-use Rattle.algebra.specs.Order.{abs-0≤}
+use Rattle.algebra.specs.Ring.{◌⊕◌, ◌⊗◌}
+use Rattle.algebra.proofs.RingLaws.{#◌, v0, v1, v2, v3, ring}
+use Rattle.algebra.proofs.Bound.{[]ᵉ, ◌∷ᵉ◌, within}
+use Rattle.algebra.proofs.Order.{abs-0≤}
 use Rattle.sums.specs.Sum.{sum}
 use Rattle.sums.proofs.SumLaws.{sum-ext, sum-add, sum-scale, sum-small}
 use Rattle.volume.specs.DigitSums.{low_digit, middle_digit, high_digit, digit_sums, plus_triangle, whole_of, SmallTriangle, SmallSums}

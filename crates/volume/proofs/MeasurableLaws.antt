@@ -5,7 +5,7 @@ use Rattle.std.proofs.Math.Path.{ap, ap₂}
 use Prim.Native.Nat.{ℕ, suc, ◌+◌, ◌-◌, ◌*◌, ◌<◌, ◌≤◌}
 use native.Mathlib.Omega.{arith}
 use Rattle.std.proofs.lemmas.Bool.{not-false}
-use Rattle.algebra.specs.Order.{lt-le}
+use Rattle.algebra.proofs.Order.{lt-le}
 use Rattle.dcel.specs.MeshRows.{MeshRows, places_in}
 use Rattle.dcel.specs.Rows.{There, Placed, row_of, links_of, position_of}
 use Rattle.heights.specs.Heights.{surface_rows, height_of, is_valid_height, mesh_lent, surface_checked}

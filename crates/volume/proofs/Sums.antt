@@ -9,8 +9,9 @@ use lib.Signed.{non_neg, yes_non_neg}
 use mir.Syntax.{w64, w128}
 use mir.Val.{Fits, SFits, to_z, of_z}
 use mir.Facts.{to_z-of_z}
-use Rattle.algebra.specs.Ring.{v0, v1, v2, #◌, ◌⊕◌, ◌⊗◌}
-use Rattle.algebra.specs.Bound.{Env, []ᵉ, ◌∷ᵉ◌, within, small-fits, small-read}
+use Rattle.algebra.specs.Ring.{◌⊕◌, ◌⊗◌}
+use Rattle.algebra.proofs.RingLaws.{v0, v1, v2, #◌}
+use Rattle.algebra.proofs.Bound.{Env, []ᵉ, ◌∷ᵉ◌, within, small-fits, small-read}
 use Rattle.int128.specs.Int128.{Fits128}
 use Rattle.volume.specs.declared.DigitSums.{DigitSums}
 use Rattle.volume.specs.DigitSums.{plus_triangle, whole_of, SmallProduct, SmallTriangle, SmallSums}

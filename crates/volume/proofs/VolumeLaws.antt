@@ -6,9 +6,10 @@ use Prim.Native.Nat.{ℕ, suc, ◌-◌, ◌*◌, ◌^◌, ◌<◌, ◌≤◌}
 use Rattle.std.proofs.Math.Nat.{le_trans}
 use native.Mathlib.Omega.{arith}
 use Rattle.std.proofs.Math.IntN.{pos}
-use Rattle.algebra.specs.Ring.{◌⊕◌, ◌⊖◌, ◌⊗◌, ⊝◌, #◌, v0, v1, v2, v3, v4, ring}
-use Rattle.algebra.specs.Sign.{eq-in, eq-by, ◌*⁰◌, ◌+⁰◌}
-use Rattle.algebra.specs.Bound.{[]ᵉ, ◌∷ᵉ◌, within}
+use Rattle.algebra.specs.Ring.{◌⊕◌, ◌⊖◌, ◌⊗◌, ⊝◌}
+use Rattle.algebra.proofs.RingLaws.{#◌, v0, v1, v2, v3, v4, ring}
+use Rattle.algebra.proofs.Sign.{eq-in, eq-by, ◌*⁰◌, ◌+⁰◌}
+use Rattle.algebra.proofs.Bound.{[]ᵉ, ◌∷ᵉ◌, within}
 use Rattle.int128.specs.CubicMetres.{half_to_even, cubic_metres_of}
 use Rattle.int128.specs.CubicMetresLaws.{Rounded}
 use Rattle.int128.proofs.CubicMetresLawsFacts.{rounded}

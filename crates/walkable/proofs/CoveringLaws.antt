@@ -5,8 +5,9 @@ use Rattle.std.proofs.Common.{sym, ◌∙◌, ap}
 use Rattle.std.proofs.Math.Decide.{ℕ_discrete}
 use native.Mathlib.Omega.{arith}
 use Rattle.std.specs.Int.Signed.{≤ℤ_refl, lt_z_yes}
-use Rattle.algebra.specs.Ring.{num, ◌⊕◌, ◌⊖◌, ⊝◌, #◌, v0, v1, v2}
-use Rattle.algebra.specs.Sign.{◌+⁺◌, ◌+°◌, pos-in, nn-in, le_in, le-by, refute, eq-in, zero°}
+use Rattle.algebra.specs.Ring.{num, ◌⊕◌, ◌⊖◌, ⊝◌}
+use Rattle.algebra.proofs.RingLaws.{#◌, v0, v1, v2}
+use Rattle.algebra.proofs.Sign.{◌+⁺◌, ◌+°◌, pos-in, nn-in, le_in, le-by, refute, eq-in, zero°}
 use Rattle.sums.specs.Put.{put}
 use Rattle.sums.proofs.PutLaws.{put_same, put_other}
 use Rattle.sums.specs.Half.{rev}

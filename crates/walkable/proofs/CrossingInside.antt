@@ -3,9 +3,10 @@ use Rattle.std.specs.Prelude.{◌≡◌, refl, ◌⊎◌, [], ◌∷◌, Bool, t
 use Rattle.std.proofs.Common.{sym, ◌∙◌, ap, subst}
 use Rattle.std.proofs.Math.Logic.{⊎_elim}
 use Rattle.std.specs.Int.Signed.{lt_z, lt_z_yes}
-use Rattle.algebra.specs.Order.{lt-le, le_antisymm}
-use Rattle.algebra.specs.Ring.{◌⊖◌, ⊝◌, v0}
-use Rattle.algebra.specs.Sign.{◌*⁺◌, ◌*°◌, ◌+⁺◌, less1, pos-in, nn-in, lt_in, le_in, cases, refute, le-by, eq-in, ◌*⁰◌, ◌+⁰◌, zero°}
+use Rattle.algebra.proofs.Order.{lt-le, le_antisymm}
+use Rattle.algebra.specs.Ring.{◌⊖◌, ⊝◌}
+use Rattle.algebra.proofs.RingLaws.{v0}
+use Rattle.algebra.proofs.Sign.{◌*⁺◌, ◌*°◌, ◌+⁺◌, less1, pos-in, nn-in, lt_in, le_in, cases, refute, le-by, eq-in, ◌*⁰◌, ◌+⁰◌, zero°}
 use Rattle.sums.specs.Bit.{bit}
 use Rattle.sums.proofs.BitLaws.{is_true, is_false}
 use Rattle.math.specs.declared.Point.{Point}

@@ -3,7 +3,7 @@ use Rattle.std.specs.Prelude.{◌≡◌, refl, Bool, true, false, T, pos, neg_�
 use Rattle.std.proofs.Common.{sym, ◌∙◌}
 use Rattle.std.proofs.Math.Logic.{⊎_elim}
 use Rattle.std.specs.Int.Signed.{lt_z, lt_z_yes, le_z_yes}
-use Rattle.algebra.specs.Sign.{◌*⁺◌, ◌*°◌, ◌+⁺◌, weak, pos-in, lt_in, le_in, cases, refute}
+use Rattle.algebra.proofs.Sign.{◌*⁺◌, ◌*°◌, ◌+⁺◌, weak, pos-in, lt_in, le_in, cases, refute}
 use Rattle.sums.specs.Bit.{bit}
 use Rattle.math.specs.declared.Point.{Point}
 use Rattle.math.specs.Determinant.{Orient2d, orient2d}

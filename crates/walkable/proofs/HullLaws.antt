@@ -3,8 +3,9 @@
 use Rattle.std.specs.Prelude.{◌≡◌, refl, [], ◌∷◌, ℕ, zero, suc, ◌<◌, ℤ, pos, ◌+ℤ◌, ◌<ℤ◌, ◌≤ℤ◌}
 use Rattle.std.proofs.Common.{sym, subst, ⊎_elim, arith}
 use Rattle.std.specs.Int.Signed.{≤ℤ_refl}
-use Rattle.algebra.specs.Ring.{E, var, ◌⊕◌, ◌⊖◌, ⊝◌, #◌, v0, v1, v2, ring}
-use Rattle.algebra.specs.Sign.{◌*⁺◌, ◌*°◌, ◌+⁺◌, ◌+°◌, weak, pos-in, nn-in, le_in, cases, le-by, refute, eq-in, zero°}
+use Rattle.algebra.specs.Ring.{E, var, ◌⊕◌, ◌⊖◌, ⊝◌}
+use Rattle.algebra.proofs.RingLaws.{#◌, v0, v1, v2, ring}
+use Rattle.algebra.proofs.Sign.{◌*⁺◌, ◌*°◌, ◌+⁺◌, ◌+°◌, weak, pos-in, nn-in, le_in, cases, le-by, refute, eq-in, zero°}
 use Rattle.sums.proofs.BoundedLaws.{up_to}
 use Rattle.sums.specs.Half.{rev}
 use Rattle.sums.proofs.HalfLaws.{rev-rev, rev-below}

@@ -3,9 +3,10 @@ use Rattle.std.specs.Prelude.{◌≡◌, [], ◌∷◌, ◌<◌, ℤ, pos, ◌+�
 use Rattle.std.proofs.Math.Path.{refl}
 use Rattle.std.proofs.Common.{◌∙◌}
 use Rattle.std.specs.Int.Signed.{lt_z_yes}
-use Rattle.algebra.specs.Order.{lt-le}
-use Rattle.algebra.specs.Ring.{E, ◌⊕◌, ◌⊖◌, ◌⊗◌, #◌, v0, v1, v2, v3, v4, ring}
-use Rattle.algebra.specs.Sign.{◌*⁺◌, ◌*°◌, ◌+⁺◌, pos-in, nn-in, le_in, pos-by, eq-in, zero°}
+use Rattle.algebra.proofs.Order.{lt-le}
+use Rattle.algebra.specs.Ring.{E, ◌⊕◌, ◌⊖◌, ◌⊗◌}
+use Rattle.algebra.proofs.RingLaws.{#◌, v0, v1, v2, v3, v4, ring}
+use Rattle.algebra.proofs.Sign.{◌*⁺◌, ◌*°◌, ◌+⁺◌, pos-in, nn-in, le_in, pos-by, eq-in, zero°}
 use Rattle.math.specs.declared.Point.{Point}
 use Rattle.math.specs.Determinant.{Pt, Orient2d, orient2d, det2, Minus}
 use Rattle.math.proofs.Plane.{E·, A, B, C, D, env}

@@ -4,9 +4,10 @@
 use Rattle.std.specs.Prelude.{◌≡◌, refl, List, [], ◌∷◌, ℕ, ◌+◌, ◌<◌, ◌≤◌, ℤ, pos, nat_abs, ◌+ℤ◌, ◌<ℤ◌, ◌≤ℤ◌}
 use Rattle.std.proofs.Common.{arith, le→leb}
 use Rattle.std.specs.Int.Signed.{lt_z_yes, le_z_yes}
-use Rattle.algebra.specs.Bound.{abs-ge}
-use Rattle.algebra.specs.Ring.{◌⊕◌, ⊝◌, #◌, v0, v1}
-use Rattle.algebra.specs.Sign.{◌+⁺◌, pos-in, nn-in, le_in, lt_by, le-by}
+use Rattle.algebra.proofs.Bound.{abs-ge}
+use Rattle.algebra.specs.Ring.{◌⊕◌, ⊝◌}
+use Rattle.algebra.proofs.RingLaws.{#◌, v0, v1}
+use Rattle.algebra.proofs.Sign.{◌+⁺◌, pos-in, nn-in, le_in, lt_by, le-by}
 use Rattle.math.specs.declared.Point.{Point}
 use Rattle.math.specs.Vector.{difference, cross_of}
 use Rattle.mesh.specs.declared.Counts.{Counts}

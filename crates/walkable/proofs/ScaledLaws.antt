@@ -1,8 +1,9 @@
 -- Enlarging keeps a mesh left-turning and its boundary convex; where a moved point lies. Assumes nothing.
 use Rattle.std.specs.Prelude.{◌≡◌, refl, List, [], ◌∷◌, ℕ, ℤ, pos, ◌+ℤ◌, ◌*ℤ◌, ◌<ℤ◌}
 use Rattle.std.proofs.Common.{sym, subst}
-use Rattle.algebra.specs.Ring.{E, var, ◌⊕◌, ◌⊗◌, v0, v1, v2, ring}
-use Rattle.algebra.specs.Sign.{◌*⁺◌, ◌*°◌, ◌+⁺◌, weak, less1, pos-in, pos-by}
+use Rattle.algebra.specs.Ring.{E, var, ◌⊕◌, ◌⊗◌}
+use Rattle.algebra.proofs.RingLaws.{v0, v1, v2, ring}
+use Rattle.algebra.proofs.Sign.{◌*⁺◌, ◌*°◌, ◌+⁺◌, weak, less1, pos-in, pos-by}
 use Rattle.math.specs.declared.Point.{Point}
 use Rattle.math.specs.declared.Vector.{Vector}
 use Rattle.math.specs.Determinant.{Pt, Orient2d, orient2d, det2, Minus}

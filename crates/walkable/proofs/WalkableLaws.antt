@@ -3,7 +3,7 @@ use Rattle.std.specs.Prelude.{◌≡◌, Bool, not, ◌&&◌, ◌||◌, ℕ, ◌
 use Rattle.std.proofs.Common.{sym, ap₂, arith}
 use Rattle.std.proofs.Math.Dec.{not_T}
 use Rattle.std.specs.Int.Signed.{lt_z, le_z, lt_z_yes, le_z_yes, lt_z_no, clash_ℤ}
-use Rattle.algebra.specs.Order.{lt-sub, sub-lt, le-sub, sub-le}
+use Rattle.algebra.proofs.Order.{lt-sub, sub-lt, le-sub, sub-le}
 use Rattle.sums.specs.Bit.{test-ext}
 use Rattle.sums.proofs.BoundedLaws.{count-ext}
 use Rattle.math.specs.declared.Point.{Point}
@@ -14,7 +14,7 @@ use Rattle.mesh.specs.Mesh.{Links, In, to}
 use Rattle.mesh.specs.Area.{boundary_length, hull_edge}
 use Rattle.mesh.specs.Good.{Good}
 use Rattle.outline.specs.Outline.{upper, direction, falls_next, full_circles, count_boundary, BoundaryHull}
-use Rattle.outline.specs.MeshHull.{one-full-circle-hull}
+use Rattle.outline.proofs.MeshHull.{one-full-circle-hull}
 use Rattle.covering.specs.Holds.{HoldsAt}
 use Rattle.walkable.specs.Hull.{Convex}
 use Rattle.walkable.proofs.HullLaws.{outside}

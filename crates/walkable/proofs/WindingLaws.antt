@@ -6,8 +6,9 @@ use mathlib.Core.List.{[], ◌∷◌}
 use Rattle.std.proofs.Math.Decide.{ℕ_discrete, dec_lt}
 use Rattle.std.proofs.Math.Dec.{T, T_not, not_T}
 use Rattle.std.specs.Int.Signed.{lt_z, lt_z_yes, le_z_yes, ≤ℤ_refl}
-use Rattle.algebra.specs.Ring.{num, ◌⊕◌, ◌⊖◌, ◌⊗◌, #◌, v0, v1, v2, v3}
-use Rattle.algebra.specs.Sign.{◌*°◌, ◌+⁺◌, ◌+°◌, weak, pos-in, nn-in, lt_in, le_in, cases, lt_by, le-by, refute, eq-in, zero°}
+use Rattle.algebra.specs.Ring.{num, ◌⊕◌, ◌⊖◌, ◌⊗◌}
+use Rattle.algebra.proofs.RingLaws.{#◌, v0, v1, v2, v3}
+use Rattle.algebra.proofs.Sign.{◌*°◌, ◌+⁺◌, ◌+°◌, weak, pos-in, nn-in, lt_in, le_in, cases, lt_by, le-by, refute, eq-in, zero°}
 use Rattle.sums.specs.Bit.{bit}
 use Rattle.sums.proofs.BitLaws.{is_true, is_false, test, or_left, and_left, and_right, and_both, or_cases}
 use Rattle.sums.specs.Bounded.{any_below}

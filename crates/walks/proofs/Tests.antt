@@ -9,7 +9,7 @@ use lib.Dec.{T, eqb}
 use lib.Ieee.{Float}
 use lib.IntN.{ℤ, pos}
 use lib.Signed.{lt_z, le_z}
-use Rattle.algebra.specs.Test.{le_read}
+use Rattle.algebra.proofs.Test.{le_read}
 use Rattle.angle.specs.Angle.{angle_about, at_center, turns}
 use Rattle.math.specs.declared.Point.{Point}
 use Rattle.math.specs.Determinant.{orient2d}

@@ -9,7 +9,7 @@ use lib.Dec.{T, T_not}
 use lib.Ieee.{Float}
 use lib.IntN.{ℤ, pos}
 use lib.Signed.{lt_z}
-use Rattle.algebra.specs.Test.{test-ext}
+use Rattle.algebra.proofs.Test.{test-ext}
 use Rattle.angle.specs.Angle.{turns}
 use Rattle.dcel.specs.Rows.{halves_of, links_of, position_of}
 use Rattle.hull.specs.Boundary.{origin_turns, origin_at_center}

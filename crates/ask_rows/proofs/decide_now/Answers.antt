@@ -22,11 +22,10 @@ pub convex_hull_size-size-requires : goal.convex_hull_size-size-requires
 convex_hull_size-size-requires c = started-size c.requires.start
 
 pub located_edge-e-requires : goal.located_edge-e-requires
-located_edge-e-requires c =
-    (
-      quote-boundary c.requires.start c.adjacent-start.ensures,
-      carried c.vertex_angle.ensures.angle c.in-Angle.is,
-    )
+located_edge-e-requires c = (
+  quote-boundary c.requires.start c.adjacent-start.ensures,
+  carried c.vertex_angle.ensures.angle c.in-Angle.is,
+)
 
 pub angle_at-from-requires : goal.angle_at-from-requires
 angle_at-from-requires c =

@@ -5,13 +5,12 @@ use Rattle.math.specs.Determinant.{InRange}
 use Rattle.circle_test.proofs.is_inside.Goals as goal
 
 pub contained_in_circumference-requires : goal.contained_in_circumference-requires
-contained_in_circumference-requires c =
-    (
-      subst⁻¹ InRange c.position-v1.ensures c.requires.0.range,
-      subst⁻¹ InRange c.position-v2.ensures c.requires.1.range,
-      subst⁻¹ InRange c.position-v3.ensures c.requires.2.range,
-      subst⁻¹ InRange c.position-p.ensures c.requires.3.range,
-    )
+contained_in_circumference-requires c = (
+  subst⁻¹ InRange c.position-v1.ensures c.requires.0.range,
+  subst⁻¹ InRange c.position-v2.ensures c.requires.1.range,
+  subst⁻¹ InRange c.position-v3.ensures c.requires.2.range,
+  subst⁻¹ InRange c.position-p.ensures c.requires.3.range,
+)
 
 pub returns : goal.returns
 returns c =

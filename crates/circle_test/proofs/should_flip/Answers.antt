@@ -12,13 +12,12 @@ pub returns-in_default-far : goal.returns-in_default-far
 returns-in_default-far c = far-outer-t _ _ _ c.far-2.ensures c.in_default-far.is
 
 pub is_inside-requires : goal.is_inside-requires
-is_inside-requires c =
-    (
-      subst⁻¹ (Placed _) c.origin-a.ensures c.requires.e.origin,
-      subst⁻¹ (Placed _) c.origin-b.ensures c.requires.t.origin,
-      far-placed _ _ c.far.ensures c.in-Vertex.is c.requires.e.far,
-      far-placed _ _ c.far-2.ensures c.in-Vertex-far.is c.requires.t.far,
-    )
+is_inside-requires c = (
+  subst⁻¹ (Placed _) c.origin-a.ensures c.requires.e.origin,
+  subst⁻¹ (Placed _) c.origin-b.ensures c.requires.t.origin,
+  far-placed _ _ c.far.ensures c.in-Vertex.is c.requires.e.far,
+  far-placed _ _ c.far-2.ensures c.in-Vertex-far.is c.requires.t.far,
+)
 
 pub returns : goal.returns
 returns c =

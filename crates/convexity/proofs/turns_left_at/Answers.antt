@@ -7,12 +7,11 @@ use mir.Syntax.{w64}
 use Rattle.convexity.proofs.turns_left_at.Goals as goal
 
 pub side_query-requires : goal.side_query-requires
-side_query-requires c =
-    (
-      in-range _ c.position-p1.ensures c.origin-a.ensures c.requires.origin,
-      in-range _ c.position-p2.ensures c.to-b.ensures c.requires.to,
-      in-range _ c.position-target.ensures c.to-c.ensures c.requires.target,
-    )
+side_query-requires c = (
+  in-range _ c.position-p1.ensures c.origin-a.ensures c.requires.origin,
+  in-range _ c.position-p2.ensures c.to-b.ensures c.requires.to,
+  in-range _ c.position-target.ensures c.to-c.ensures c.requires.target,
+)
 
 pub returns : goal.returns
 returns c =

@@ -4,8 +4,9 @@ use lib.IntN.{ℤ}
 use mir.Syntax.{w32}
 use mir.Val.{to_z, of_z}
 use borrow.Author.Rules.{rules}
-use Rattle.algebra.specs.Ring.{v0, v1, ◌⊖◌}
-use Rattle.algebra.specs.Bound.{Env, []ᵉ, ◌∷ᵉ◌, fits64}
+use Rattle.algebra.specs.Ring.{◌⊖◌}
+use Rattle.algebra.proofs.RingLaws.{v0, v1}
+use Rattle.algebra.proofs.Bound.{Env, []ᵉ, ◌∷ᵉ◌, fits64}
 use Rattle.grid.proofs.Numbers.{read-abs}
 use Rattle.grid.proofs.offset.Goals as goal
 

@@ -2,7 +2,7 @@
 use mathlib.Core.Path.{refl, sym}
 use mir.Facts.{to_z-of_z}
 use Rattle.heights.specs.Heights.{is_valid_height}
-use Rattle.algebra.specs.Test.{lt-taken, lt-left}
+use Rattle.algebra.proofs.Test.{lt-taken, lt-left}
 use Rattle.math.proofs.Range.{test-within, test-above, test_below}
 use Rattle.heights.proofs.validate_height.Goals as goal
 

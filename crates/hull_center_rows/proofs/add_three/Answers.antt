@@ -5,8 +5,9 @@ use lib.IntN.{ℤ}
 use mir.Facts.{to_z-of_z}
 use mir.Syntax.{w32}
 use mir.Val.{SFits, to_z, of_z}
-use Rattle.algebra.specs.Ring.{v0, v1, v2, ◌⊕◌}
-use Rattle.algebra.specs.Bound.{Env, []ᵉ, ◌∷ᵉ◌, fits64, reads64}
+use Rattle.algebra.specs.Ring.{◌⊕◌}
+use Rattle.algebra.proofs.RingLaws.{v0, v1, v2}
+use Rattle.algebra.proofs.Bound.{Env, []ᵉ, ◌∷ᵉ◌, fits64, reads64}
 use Rattle.hull_center_rows.proofs.Numbers.{read-abs, sums}
 use Rattle.hull_center_rows.proofs.add_three.Goals as goal
 

@@ -1,7 +1,8 @@
 -- `hull_center_rows::cross` meets its contract: no operation overflows. Assumes nothing.
 use mathlib.Core.List.{[], ◌∷◌}
-use Rattle.algebra.specs.Ring.{v0, v1, v2, v3, ◌⊖◌, ◌⊗◌}
-use Rattle.algebra.specs.Bound.{Env, []ᵉ, ◌∷ᵉ◌, fits64, reads64}
+use Rattle.algebra.specs.Ring.{◌⊖◌, ◌⊗◌}
+use Rattle.algebra.proofs.RingLaws.{v0, v1, v2, v3}
+use Rattle.algebra.proofs.Bound.{Env, []ᵉ, ◌∷ᵉ◌, fits64, reads64}
 use Rattle.hull_center.specs.declared.PositionSum.{PositionSum}
 use Rattle.math.specs.declared.Vector.{Vector}
 use Rattle.math.specs.Vector.{Short}

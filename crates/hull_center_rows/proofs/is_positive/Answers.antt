@@ -5,9 +5,10 @@ use lib.IntN.{ℤ, pos, neg_ℤ, nat_abs}
 use Prim.Native.Nat.{◌≤◌}
 use lib.Signed.{lt_z, ◌≤ℤ◌}
 use mir.Facts.{to_z-of_z}
-use Rattle.algebra.specs.Ring.{#◌, v0, v1, ◌⊕◌, ◌⊗◌}
-use Rattle.algebra.specs.Bound.{Env, []ᵉ, ◌∷ᵉ◌, fits64, reads64, abs-by}
-use Rattle.algebra.specs.Test.{lt-taken, lt-left}
+use Rattle.algebra.specs.Ring.{◌⊕◌, ◌⊗◌}
+use Rattle.algebra.proofs.RingLaws.{#◌, v0, v1}
+use Rattle.algebra.proofs.Bound.{Env, []ᵉ, ◌∷ᵉ◌, fits64, reads64, abs-by}
+use Rattle.algebra.proofs.Test.{lt-taken, lt-left}
 use Rattle.hull_center_rows.specs.Side.{high-positive, high-negative}
 use Rattle.hull_center_rows.proofs.is_positive.Goals as goal
 

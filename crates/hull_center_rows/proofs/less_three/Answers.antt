@@ -5,8 +5,9 @@ use lib.IntN.{ℤ, pos, ◌-ℤ◌, ◌*ℤ◌}
 use mir.Syntax.{w32}
 use mir.Val.{to_z, of_z}
 use mir.Facts.{to_z-of_z}
-use Rattle.algebra.specs.Ring.{#◌, v0, v1, v2, v3, ◌⊖◌, ◌⊗◌}
-use Rattle.algebra.specs.Bound.{Env, []ᵉ, ◌∷ᵉ◌, fits64, reads64, small-fits, small-read}
+use Rattle.algebra.specs.Ring.{◌⊖◌, ◌⊗◌}
+use Rattle.algebra.proofs.RingLaws.{#◌, v0, v1, v2, v3}
+use Rattle.algebra.proofs.Bound.{Env, []ᵉ, ◌∷ᵉ◌, fits64, reads64, small-fits, small-read}
 use Rattle.hull_center.specs.declared.PositionSum.{PositionSum}
 use Rattle.hull_center.specs.HullCenter.{SmallSum}
 use Rattle.math.specs.declared.Point.{Point}

@@ -2,7 +2,7 @@
 -- Assumes nothing.
 use mathlib.Core.Path.{refl, sym}
 use mir.Facts.{to_z-of_z}
-use Rattle.algebra.specs.Test.{lt-taken, lt-left}
+use Rattle.algebra.proofs.Test.{lt-taken, lt-left}
 use Rattle.math.proofs.Range.{test-within, test-above, test_below}
 use Rattle.math.proofs.validate_coordinate.Goals as goal
 

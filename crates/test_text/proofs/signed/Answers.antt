@@ -6,7 +6,7 @@ use lib.IntN.{ℤ, pos, neg_ℤ, nat_abs, ◌-ℤ◌}
 use mir.Syntax.{w32}
 use mir.Val.{SFits}
 use mir.Facts.{to_z_pos}
-use Rattle.algebra.specs.Bound.{nat_abs-+, nat_abs-neg, small-fits}
+use Rattle.algebra.proofs.Bound.{nat_abs-+, nat_abs-neg, small-fits}
 use borrow.Author.Rules.{rules}
 use Rattle.test_text.proofs.signed.Goals as goal
 

@@ -7,8 +7,9 @@ use lib.Signed.{nat_abs-le}
 use mir.Syntax.{w32}
 use mir.Val.{SFits, to_z, of_z}
 use mir.Facts.{to_z-of_z}
-use Rattle.algebra.specs.Ring.{v0, v1, v2, v3, #◌, ◌⊕◌, ◌⊖◌, ◌⊗◌}
-use Rattle.algebra.specs.Bound.{Env, []ᵉ, ◌∷ᵉ◌, fits64, reads64}
+use Rattle.algebra.specs.Ring.{◌⊕◌, ◌⊖◌, ◌⊗◌}
+use Rattle.algebra.proofs.RingLaws.{v0, v1, v2, v3, #◌}
+use Rattle.algebra.proofs.Bound.{Env, []ᵉ, ◌∷ᵉ◌, fits64, reads64}
 use Rattle.volume.proofs.less_level.Goals as goal
 
 -- a number as the machine reads it

@@ -1,8 +1,9 @@
 -- `math::Vector::dot` meets its contract: no operation overflows.
 -- Assumes nothing.
 use mathlib.Core.List.{[], ◌∷◌}
-use Rattle.algebra.specs.Ring.{v0, v1, v2, v3, ◌⊕◌, ◌⊗◌}
-use Rattle.algebra.specs.Bound.{Env, []ᵉ, ◌∷ᵉ◌, fits64, reads64}
+use Rattle.algebra.specs.Ring.{◌⊕◌, ◌⊗◌}
+use Rattle.algebra.proofs.RingLaws.{v0, v1, v2, v3}
+use Rattle.algebra.proofs.Bound.{Env, []ᵉ, ◌∷ᵉ◌, fits64, reads64}
 use Rattle.math.specs.Vector.{dot_of}
 use Rattle.math.proofs.Vector.dot.Goals as goal
 

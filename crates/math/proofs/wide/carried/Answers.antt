@@ -8,8 +8,9 @@ use lib.IntN.{pos, nat_abs, ◌+ℤ◌}
 use mir.Syntax.{w64}
 use mir.Val.{to_z, of_z}
 use mir.Facts.{to_z-of_z}
-use Rattle.algebra.specs.Ring.{num, v0, v1, ◌⊕◌, ◌⊗◌}
-use Rattle.algebra.specs.Bound.{Env, []ᵉ, ◌∷ᵉ◌, fits64, reads64, raws64, within}
+use Rattle.algebra.specs.Ring.{num, ◌⊕◌, ◌⊗◌}
+use Rattle.algebra.proofs.RingLaws.{v0, v1}
+use Rattle.algebra.proofs.Bound.{Env, []ᵉ, ◌∷ᵉ◌, fits64, reads64, raws64, within}
 use Rattle.math.specs.Wide.{SplitOf, sgn}
 use Rattle.math.proofs.WideLaws.{carry-lead, carry-rest}
 use Rattle.math.proofs.wide.carried.Goals as goal

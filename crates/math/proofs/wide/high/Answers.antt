@@ -1,7 +1,8 @@
 -- `math::wide::high` meets its contract: no operation overflows.
 -- Assumes nothing.
-use Rattle.algebra.specs.Ring.{v0, v2, v4, v6, ◌⊕◌, ◌⊗◌}
-use Rattle.algebra.specs.Bound.{Env, fits64, reads64}
+use Rattle.algebra.specs.Ring.{◌⊕◌, ◌⊗◌}
+use Rattle.algebra.proofs.RingLaws.{v0, v2, v4, v6}
+use Rattle.algebra.proofs.Bound.{Env, fits64, reads64}
 use Rattle.math.specs.Wide.{high_of}
 use Rattle.math.proofs.WideLaws.{digits, limits, factors}
 use Rattle.math.proofs.wide.high.Goals as goal

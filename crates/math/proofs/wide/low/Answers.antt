@@ -1,7 +1,8 @@
 -- `math::wide::low` meets its contract: no operation overflows.
 -- Assumes nothing.
-use Rattle.algebra.specs.Ring.{v1, v3, v5, v7, ◌⊕◌, ◌⊗◌}
-use Rattle.algebra.specs.Bound.{Env, fits64, reads64}
+use Rattle.algebra.specs.Ring.{◌⊕◌, ◌⊗◌}
+use Rattle.algebra.proofs.RingLaws.{v1, v3, v5, v7}
+use Rattle.algebra.proofs.Bound.{Env, fits64, reads64}
 use Rattle.math.specs.Wide.{low_of}
 use Rattle.math.proofs.WideLaws.{digits, limits, factors}
 use Rattle.math.proofs.wide.low.Goals as goal

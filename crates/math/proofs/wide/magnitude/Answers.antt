@@ -8,9 +8,10 @@ use lib.IntN.{ℤ, pos, negsuc, nat_abs, ◌-ℤ◌}
 use lib.Signed.{lt_z, yes_non_neg, pos-nat_abs}
 use native.Mathlib.Nat.{not-suc-le-zero}
 use mir.Facts.{to_z-of_z}
-use Rattle.algebra.specs.Ring.{#◌, v0, ⊝◌, ◌⊖◌, ring}
-use Rattle.algebra.specs.Bound.{Env, []ᵉ, ◌∷ᵉ◌, fits64, reads64}
-use Rattle.algebra.specs.Test.{lt-taken, lt-left}
+use Rattle.algebra.specs.Ring.{⊝◌, ◌⊖◌}
+use Rattle.algebra.proofs.RingLaws.{#◌, v0, ring}
+use Rattle.algebra.proofs.Bound.{Env, []ᵉ, ◌∷ᵉ◌, fits64, reads64}
+use Rattle.algebra.proofs.Test.{lt-taken, lt-left}
 use Rattle.math.proofs.wide.magnitude.Goals as goal
 
 below : (z : ℤ) → T (lt_z z (pos 0)) → pos 0 -ℤ z ≡ pos (nat_abs z)

@@ -9,8 +9,9 @@ use lib.IntN.{ℤ, pos, nat_abs, ◌+ℤ◌}
 use mir.Syntax.{w64}
 use mir.Val.{SFits, to_z, of_z}
 use mir.Facts.{to_z-of_z}
-use Rattle.algebra.specs.Ring.{E, v0, v1, v2, v3, ◌⊕◌}
-use Rattle.algebra.specs.Bound.{Env, []ᵉ, ◌∷ᵉ◌, fits64, reads64, small-read}
+use Rattle.algebra.specs.Ring.{E, ◌⊕◌}
+use Rattle.algebra.proofs.RingLaws.{v0, v1, v2, v3}
+use Rattle.algebra.proofs.Bound.{Env, []ᵉ, ◌∷ᵉ◌, fits64, reads64, small-read}
 use Rattle.math.specs.Wide.{AtMost51, total_of}
 use Rattle.math.proofs.wide.magnitudes.Goals as goal
 

@@ -1,7 +1,8 @@
 -- `math::wide::middle` meets its contract: no operation overflows.
 -- Assumes nothing.
-use Rattle.algebra.specs.Ring.{v0, v1, v2, v3, v4, v5, v6, v7, ◌⊕◌, ◌⊗◌}
-use Rattle.algebra.specs.Bound.{Env, fits64, reads64}
+use Rattle.algebra.specs.Ring.{◌⊕◌, ◌⊗◌}
+use Rattle.algebra.proofs.RingLaws.{v0, v1, v2, v3, v4, v5, v6, v7}
+use Rattle.algebra.proofs.Bound.{Env, fits64, reads64}
 use Rattle.math.specs.Wide.{middle_of}
 use Rattle.math.proofs.WideLaws.{digits, limits, factors}
 use Rattle.math.proofs.wide.middle.Goals as goal

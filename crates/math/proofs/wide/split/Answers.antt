@@ -9,8 +9,9 @@ use lib.Signed.{shr_z}
 use mir.Syntax.{w64}
 use mir.Val.{to_z, of_z}
 use mir.Facts.{to_z-of_z}
-use Rattle.algebra.specs.Ring.{E, num, v0, v1, ◌⊖◌, ◌⊗◌}
-use Rattle.algebra.specs.Bound.{Env, []ᵉ, ◌∷ᵉ◌, fits64, reads64}
+use Rattle.algebra.specs.Ring.{E, num, ◌⊖◌, ◌⊗◌}
+use Rattle.algebra.proofs.RingLaws.{v0, v1}
+use Rattle.algebra.proofs.Bound.{Env, []ᵉ, ◌∷ᵉ◌, fits64, reads64}
 use Rattle.math.proofs.WideLaws.{shr-abs, split-of}
 use Rattle.math.proofs.wide.split.Goals as goal
 

@@ -10,9 +10,10 @@ use lib.IntN.{pos, nat_abs}
 use mir.Syntax.{w64}
 use mir.Val.{to_z, of_z}
 use mir.Facts.{to_z-of_z}
-use Rattle.algebra.specs.Ring.{v0, v1, v2, v3, ◌⊕◌, ◌⊗◌}
-use Rattle.algebra.specs.Bound.{Env, []ᵉ, ◌∷ᵉ◌, fits64, reads64}
-use Rattle.algebra.specs.Test.{lt-left}
+use Rattle.algebra.specs.Ring.{◌⊕◌, ◌⊗◌}
+use Rattle.algebra.proofs.RingLaws.{v0, v1, v2, v3}
+use Rattle.algebra.proofs.Bound.{Env, []ᵉ, ◌∷ᵉ◌, fits64, reads64}
+use Rattle.algebra.proofs.Test.{lt-left}
 use Rattle.math.specs.Wide.{sgn, total_of}
 use Rattle.math.proofs.wide.sum_sign.Goals as goal
 

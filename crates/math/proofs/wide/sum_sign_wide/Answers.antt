@@ -10,9 +10,10 @@ use lib.IntN.{ℤ, pos, nat_abs, ◌+ℤ◌, ◌*ℤ◌}
 use mir.Syntax.{w64}
 use mir.Val.{to_z, of_z}
 use mir.Facts.{to_z-of_z}
-use Rattle.algebra.specs.Ring.{#◌, v0, ◌⊕◌}
-use Rattle.algebra.specs.Bound.{Env, []ᵉ, ◌∷ᵉ◌, fits64, reads64}
-use Rattle.algebra.specs.Test.{lt-taken}
+use Rattle.algebra.specs.Ring.{◌⊕◌}
+use Rattle.algebra.proofs.RingLaws.{#◌, v0}
+use Rattle.algebra.proofs.Bound.{Env, []ᵉ, ◌∷ᵉ◌, fits64, reads64}
+use Rattle.algebra.proofs.Test.{lt-taken}
 use Rattle.math.specs.declared.wide.Digits.{Digits}
 use Rattle.math.proofs.Range.{abs-above}
 use Rattle.math.specs.Wide.{SplitOf, TwoDigits, sgn, wide_of, high_of, middle_of, low_of, total_of}

@@ -8,8 +8,9 @@ use Rattle.std.specs.Prelude.{◌≡◌, refl, List, [], ◌∷◌, ℕ, zero, s
 use Rattle.std.proofs.Common.{sym, ◌∙◌, ap, ap₂, subst, subst₂, suc-le-suc, add-zero, le_antisymm, arith, ltb→lt, lt→ltb, leb→le, le→leb}
 use Rattle.std.proofs.Math.IntN.{+ℤ_idl}
 use Rattle.std.specs.Int.Signed.{lt_z_yes, le_z_yes, ≤ℤ_refl}
-use Rattle.algebra.specs.Ring.{E, var, num, ◌⊕◌, ◌⊖◌, ◌⊗◌, ⊝◌, ⟦◌⟧, nth, norm, ring}
-use Rattle.algebra.specs.Order.{lt-sub, sub-lt, le-sub, sub-le}
+use Rattle.algebra.specs.Ring.{E, var, num, ◌⊕◌, ◌⊖◌, ◌⊗◌, ⊝◌, nth, norm}
+use Rattle.algebra.proofs.RingLaws.{⟦◌⟧, ring}
+use Rattle.algebra.proofs.Order.{lt-sub, sub-lt, le-sub, sub-le}
 
 pub up : ℤ → ℕ
 up (pos n) = n

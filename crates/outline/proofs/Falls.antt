@@ -8,7 +8,7 @@ use Rattle.sums.specs.Bit.{bit}
 use Rattle.sums.proofs.BitLaws.{test, and_both}
 use Rattle.sums.specs.Bounded.{count}
 use Rattle.sums.proofs.BoundedLaws.{count-sole}
-use Rattle.outline.specs.Outline.{falls}
+use Rattle.outline.proofs.OutlineLaws.{falls}
 
 -- a test that passes at a and fails at b, later, falls in between
 pub fall-between : (t : ℕ → Bool) (a b : ℕ) → a ≤ b → T (t a) → T (not (t b)) → (k : ℕ) × (a ≤ k) × (k < b) × T (falls t k)

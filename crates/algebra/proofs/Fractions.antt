@@ -9,7 +9,7 @@ use lib.Ieee.{Float, nan, inf, fin, Format, up, down, round, neg, sum, add, sub}
 use Rattle.std.specs.Float.Ieee.Fits.{down_pos, eq→eqb}
 use Rattle.std.specs.Float.Ieee.Exact.{HasValue}
 use Rattle.std.specs.Float.Ieee.Scale.{round_same}
-use Rattle.algebra.specs.Test.{test-ext}
+use Rattle.algebra.proofs.Test.{test-ext}
 
 -- ---- A / C and a / U are one number, and so are B / C and b / U
 lt-scale : (A B C a b U : ℕ) → 0 < U → A * U ≡ a * C → B * U ≡ b * C → A < B → a < b

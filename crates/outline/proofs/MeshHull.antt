@@ -24,10 +24,11 @@ use Rattle.mesh.specs.Wf.{Wf}
 use Rattle.mesh.specs.Area.{boundary_length, hull_edge, at_corners}
 use Rattle.mesh.proofs.BoundaryLaws.{next-inverse, first<, first-outer, boundary-period, outer-period}
 use Rattle.convexity.specs.Convexity.{NoLeftCorner}
-use Rattle.outline.specs.Outline.{upper, falls, count_boundary, direction, falls_next, full_circles, NoneStraightBack, BoundaryHull}
-use Rattle.outline.specs.VectorLaws.{cross-along, three-signs}
-use Rattle.outline.specs.HalfPlane.{RightTurn}
-use Rattle.outline.specs.CircleHull.{turned_right}
+use Rattle.outline.specs.Outline.{upper, count_boundary, direction, falls_next, full_circles, NoneStraightBack, BoundaryHull}
+use Rattle.outline.proofs.OutlineLaws.{falls}
+use Rattle.outline.proofs.VectorLaws.{cross-along, three-signs}
+use Rattle.outline.proofs.HalfPlaneLaws.{RightTurn}
+use Rattle.outline.proofs.CircleHull.{turned_right}
 
 module _ {C : Counts} {L : Links} (W : Wf C L) where
   -- a count around the boundary is the same from each of its half-edges

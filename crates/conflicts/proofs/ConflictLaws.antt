@@ -9,9 +9,10 @@ use Rattle.std.proofs.Math.Nat.{le_trans}
 use native.Mathlib.Omega.{arith}
 use Rattle.std.proofs.Math.IntN.{pos, nat_abs}
 use Rattle.std.specs.Int.Signed.{lt_z}
-use Rattle.algebra.specs.Bound.{nat_abs-+}
-use Rattle.algebra.specs.Ring.{ring, num, ◌⊕◌, ◌⊖◌, v0, v1, v2, v3, v4, v5}
-use Rattle.algebra.specs.Sign.{eq-in, eq-by}
+use Rattle.algebra.proofs.Bound.{nat_abs-+}
+use Rattle.algebra.specs.Ring.{num, ◌⊕◌, ◌⊖◌}
+use Rattle.algebra.proofs.RingLaws.{ring, v0, v1, v2, v3, v4, v5}
+use Rattle.algebra.proofs.Sign.{eq-in, eq-by}
 use Rattle.math.specs.declared.Point.{Point}
 use Rattle.math.specs.Determinant.{Incircle, incircle}
 use Rattle.math.proofs.Plane.{E·, A, B, C, env3, contained-next, incircle-other, flip-left, flip-right}
@@ -30,7 +31,8 @@ use Rattle.mesh.proofs.HeightLawsFacts.{added-over, flip-over, circle-even, left
 use Rattle.mesh.specs.Good.{Good}
 use Rattle.mesh.specs.Wf.{Wf}
 use Rattle.conflicts.specs.Conflicts.{inside_count, conflicts}
-use Rattle.conflicts.specs.InsideLaws.{Quad, inside, fewer-inside}
+use Rattle.conflicts.specs.InsideLaws.{Quad}
+use Rattle.conflicts.proofs.InsideLawsFacts.{inside, fewer-inside}
 
 -- ---- a corner is not inside
 corner-first : (a b c : Point) → incircle a b c a ≡ pos 0

@@ -7,8 +7,9 @@ use Rattle.std.specs.Prelude.{◌≡◌, refl, ◌⊎◌, List, [], ◌∷◌, B
 use Rattle.std.proofs.Common.{sym, ◌∙◌, ap, ap₂, subst, inl, inr, ⊎_elim}
 use Rattle.std.proofs.Math.IntN.{*ℤ-zero, +ℤ_invr, +ℤ_idl, -ℤ-+ℤ_cancel}
 use Rattle.std.specs.Int.Signed.{lt_z, clash_ℤ, le_z_yes}
-use Rattle.algebra.specs.Ring.{P, con, hor, ev, E, var, num, ◌⊕◌, ◌⊖◌, ◌⊗◌, ⊝◌, ⟦◌⟧, norm, sound, ring}
-use Rattle.algebra.specs.Order.{lt-sub, sub-lt, le-sub, sub-le, lt-le, mul-0<, mul-0≤, sq-0≤, add-0<, add-0≤, sign, pred-0≤}
+use Rattle.algebra.specs.Ring.{P, con, hor, E, var, num, ◌⊕◌, ◌⊖◌, ◌⊗◌, ⊝◌, norm}
+use Rattle.algebra.proofs.RingLaws.{ev, ⟦◌⟧, sound, ring}
+use Rattle.algebra.proofs.Order.{lt-sub, sub-lt, le-sub, sub-le, lt-le, mul-0<, mul-0≤, sq-0≤, add-0<, add-0≤, sign, pred-0≤}
 
 pub record Pos (ρ : List ℤ) (e : E) : Type 0 where
   pub is : pos 0 <ℤ ⟦ e ⟧ ρ

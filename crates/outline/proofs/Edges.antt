@@ -15,7 +15,7 @@ use Rattle.mesh.specs.Wf.{Wf}
 use Rattle.mesh.specs.Area.{LeftTurning, at_corners}
 use Rattle.mesh.proofs.LeftLaws.{left_at}
 use Rattle.outline.specs.Outline.{direction}
-use Rattle.outline.specs.VectorLaws.{cross-end, cross-along, cross-not-0}
+use Rattle.outline.proofs.VectorLaws.{cross-end, cross-along, cross-not-0}
 
 module _ {C : Counts} {L : Links} (W : Wf C L) {p : ℕ → Point} (turning : LeftTurning C L p) where
   pub edge-not-0 : {e : ℕ} → In C e → L.face e ≡ 0 → let u = difference (p (to L e)) (p (L.origin e)) in pos 0 <ℤ dot_of u u

@@ -16,7 +16,8 @@ use Rattle.std.proofs.Math.IntN.{sub_ℕ}
 use Rattle.std.specs.Int.Signed.{mag, le_z, le_z_yes}
 use Rattle.std.specs.Int.{Width, w64}
 use mir.Val.{SFits, hbits, to_z, of_z}
-use Rattle.algebra.specs.Ring.{E, var, num, ◌⊕◌, ◌⊖◌, ◌⊗◌, ⊝◌, ⟦◌⟧, nth}
+use Rattle.algebra.specs.Ring.{E, var, num, ◌⊕◌, ◌⊖◌, ◌⊗◌, ⊝◌, nth}
+use Rattle.algebra.proofs.RingLaws.{⟦◌⟧}
 
 pub nat_abs-neg : (x : ℤ) → nat_abs (neg_ℤ x) ≡ nat_abs x
 nat_abs-neg (pos zero) = refl

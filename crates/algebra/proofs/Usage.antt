@@ -3,9 +3,10 @@
 -- Assumes nothing.
 use Rattle.std.specs.Prelude.{◌≡◌, refl, [], ◌∷◌, ℤ, pos, negsuc, ◌+ℤ◌, ◌-ℤ◌, ◌*ℤ◌, ◌<ℤ◌, ◌≤ℤ◌}
 use Rattle.std.proofs.Common.{⊎_elim, arith}
-use Rattle.algebra.specs.Ring.{◌⊕◌, ◌⊖◌, ◌⊗◌, ⊝◌, #◌, v0, v1, v2, ring}
-use Rattle.algebra.specs.Sign.{◌+⁺◌, ◌*°◌, weak, less1, sq, pos-in, lt_in, cases, le-by, refute, eq-in, eq-by, ◌+⁰◌}
-use Rattle.algebra.specs.Linear.{lt→, le→, le←, lt←}
+use Rattle.algebra.specs.Ring.{◌⊕◌, ◌⊖◌, ◌⊗◌, ⊝◌}
+use Rattle.algebra.proofs.RingLaws.{#◌, v0, v1, v2, ring}
+use Rattle.algebra.proofs.Sign.{◌+⁺◌, ◌*°◌, weak, less1, sq, pos-in, lt_in, cases, le-by, refute, eq-in, eq-by, ◌+⁰◌}
+use Rattle.algebra.proofs.Linear.{lt→, le→, le←, lt←}
 
 -- an identity: the goal, and its two sides again as expressions
 square : (x y : ℤ) → (x +ℤ y) *ℤ (x +ℤ y) ≡ x *ℤ x +ℤ pos 2 *ℤ x *ℤ y +ℤ y *ℤ y

@@ -6,7 +6,7 @@
 use Rattle.std.specs.Prelude.{◌≡◌, refl, Bool, true, false, not, T, ℤ, ◌<ℤ◌, ◌≤ℤ◌}
 use Rattle.std.proofs.Common.{sym, ◌∙◌, ap, subst, subst₂, le→leb}
 use Rattle.std.specs.Int.Signed.{lt_z, le_z, lt_z_yes, lt_z_no, le_z_yes, clash_ℤ}
-use Rattle.algebra.specs.Order.{le_z-no}
+use Rattle.algebra.proofs.Order.{le_z-no}
 
 module _ {u v a b : ℤ} (p : u ≡ a) (q : v ≡ b) where
   pub lt-taken : lt_z u v ≡ true → a <ℤ b

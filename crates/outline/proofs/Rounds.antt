@@ -3,18 +3,21 @@
 -- So where it goes round once, the vectors of any half-plane are one run of the sequence. Assumes nothing.
 use Rattle.std.specs.Prelude.{◌≡◌, refl, ◌⊎◌, List, [], ◌∷◌, Bool, true, false, not, ◌&&◌, ℕ, suc, ◌+◌, ◌≤◌, ℤ, pos, ◌-ℤ◌, ◌*ℤ◌, ◌<ℤ◌, ◌≤ℤ◌}
 use Rattle.std.proofs.Common.{sym, ◌∙◌, ap, inl, inr}
-use Rattle.algebra.specs.Ring.{◌⊕◌, ◌⊖◌, ◌⊗◌, ⊝◌, #◌, v0, v1, v2, v3}
-use Rattle.algebra.specs.Sign.{Pos, ◌*⁺◌, ◌*°◌, ◌+⁺◌, pos-in, nn-in, lt_in, le_in, lt_by, refute, eq-in, zero°, ◌*⁰◌}
+use Rattle.algebra.specs.Ring.{◌⊕◌, ◌⊖◌, ◌⊗◌, ⊝◌}
+use Rattle.algebra.proofs.RingLaws.{#◌, v0, v1, v2, v3}
+use Rattle.algebra.proofs.Sign.{Pos, ◌*⁺◌, ◌*°◌, ◌+⁺◌, pos-in, nn-in, lt_in, le_in, lt_by, refute, eq-in, zero°, ◌*⁰◌}
 use Rattle.math.specs.declared.Vector.{Vector}
 use Rattle.math.proofs.Plane.{A, B, C, D}
 use Rattle.math.specs.Vector.{cross_of, dot_of}
 use Rattle.sums.specs.Bit.{bit, test-ext}
 use Rattle.sums.proofs.BitLaws.{Tells}
 use Rattle.sums.specs.Bounded.{count}
-use Rattle.outline.specs.Outline.{upper, falls}
-use Rattle.outline.specs.Falls.{falls-same}
-use Rattle.outline.specs.VectorLaws.{Cross, vectors, three-signs}
-use Rattle.outline.specs.HalfPlane.{SameWay, same-way-sym, RightTurn, HalfPlane, left, left-half, east, upper-half}
+use Rattle.outline.specs.Outline.{upper}
+use Rattle.outline.proofs.OutlineLaws.{falls}
+use Rattle.outline.proofs.Falls.{falls-same}
+use Rattle.outline.proofs.VectorLaws.{Cross, vectors, three-signs}
+use Rattle.outline.specs.HalfPlane.{SameWay, HalfPlane, left, east}
+use Rattle.outline.proofs.HalfPlaneLaws.{same-way-sym, RightTurn, left-half, upper-half}
 
 -- what a half-plane's test tells of the cross product z
 abbrev Side : Bool → ℤ → Type 0

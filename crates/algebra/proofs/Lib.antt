@@ -1,0 +1,9 @@
+pub mod Bound
+pub mod Fractions
+pub mod Laws
+pub mod Linear
+pub mod Order
+pub mod RingLaws
+pub mod Sign
+pub mod Test
+pub mod Usage

@@ -1,0 +1,3 @@
+pub mod ConflictLaws
+pub mod FlipsWithinLaws
+pub mod InsideLawsFacts
