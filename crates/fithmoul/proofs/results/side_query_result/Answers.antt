@@ -7,7 +7,7 @@ use Rattle.fithmoul.proofs.results.side_query_result.Goals as goal
 
 pub returns-in-Accepted : goal.returns-in-Accepted
 returns-in-Accepted c =
-    rw (to_z-of_z (sfits_of c.known_told-1.given.0.1)) (sym (ap side_query_result c.in-Accepted.is))
+    rw (to_z-of_z {w = w64} (search rules)) (sym (ap side_query_result c.in-Accepted.is))
 
 pub returns-in-Refused : goal.returns-in-Refused
 returns-in-Refused c = sym (ap side_query_result c.in-Refused.is)

@@ -7,7 +7,7 @@ use Rattle.fithmoul.proofs.results.volume_result.Goals as goal
 
 pub returns-in-Accepted : goal.returns-in-Accepted
 returns-in-Accepted c =
-    rw (to_z-of_z (record { sfits = c.struct_told-1.given.1.0.1 })) (sym (ap volume_result c.decreases.given.1))
+    rw (to_z-of_z (search rules)) (sym (ap volume_result c.in-Accepted.is))
 
 pub returns-in-Refused : goal.returns-in-Refused
 returns-in-Refused c = sym (ap volume_result c.in-Refused.is)
