@@ -3,13 +3,12 @@ use mathlib.Core.Bool.{Bool, true, false, not, cond, ◌||◌}
 use mathlib.Core.List.{List}
 use mathlib.Core.Path.{◌≡◌, refl, sym, ◌∙◌, ap, ap₂, subst}
 use Prim.Native.Nat.{ℕ, suc, ◌+◌, ◌<◌, ◌^◌}
-use borrow.Author.Tests.{not-true, not-false}
 use native.Mathlib.Omega.{arith}
 use lib.Ieee.{Float}
 use lib.IntN.{ℤ, pos}
 use lib.Signed.{lt_z, le_z}
 use Rattle.angle.specs.Angle.{IsAngle, turns}
-use Rattle.algebra.proofs.Test.{le_read}
+use Rattle.algebra.specs.Test.{le_read}
 use Rattle.circle_test.specs.GoodRows.{held}
 use Rattle.dcel.specs.Rows.{halves_of, links_of, position_of}
 use Rattle.dcel.specs.MeshHeld.{counts-fit}
@@ -249,21 +248,21 @@ module _ {C : Counts} {q : List ℤ} {o h f : List ℕ} {cx cy : Float} {e size 
             ∙ (λ i. is_fit full_turn (x i) (turns a) (y i) (nodes-are i) (size_is i))
             ∙ sym t-is
 
-        pub unsound : not t ≡ true → {d : Decision} → LeavesOut Unsound d → DecidesAt C q o h f cx cy e v a d
+        pub unsound : t ≡ false → {d : Decision} → LeavesOut Unsound d → DecidesAt C q o h f cx cy e v a d
         unfolding if_added
         unsound k w = left_out Unsound refl w
-            (decided-by C q o h f (turns_about cx cy (position_of q)) v (turns a) e S.from S.to S.side (sound-is ∙ not-true t k))
+            (decided-by C q o h f (turns_about cx cy (position_of q)) v (turns a) e S.from S.to S.side (sound-is ∙ k))
 
-        added_is : not t ≡ false
+        added_is : t ≡ true
             → decided_at C (links_of o h f) (position_of q) (turns_about cx cy (position_of q)) v (turns a) e
             ≡ record { fate = Added next; edge = e; left = left.count; right = right.count }
         unfolding if_added
         added_is k =
-            decided-by C q o h f (turns_about cx cy (position_of q)) v (turns a) e S.from S.to S.side (sound-is ∙ not-false t k)
+            decided-by C q o h f (turns_about cx cy (position_of q)) v (turns a) e S.from S.to S.side (sound-is ∙ k)
             ∙ (λ i. record { fate = Added (K.vertex i); edge = e; left = left_is i; right = right_is i })
 
         -- an added point, with the angles of the chain's ends
-        pub added : {node : ℕ} → not t ≡ false
+        pub added : {node : ℕ} → t ≡ true
             → DecidesAt C q o h f cx cy e v a
             (added_with next e left.count right.count a left.vertex.angle right.vertex.angle node)
         unfolding links_of start

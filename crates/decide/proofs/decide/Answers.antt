@@ -1,5 +1,6 @@
 -- `decide::decide` meets its contract. Assumes nothing.
-use borrow.Author.Rules.{rules, sfits_of}
+use borrow.Author.Rules.{rules}
+use mir.Syntax.{w32}
 use mir.Facts.{to_z-of_z}
 use native.Mathlib.Omega.{arith}
 use Rattle.angle.proofs.Bits.{angle-valid}
@@ -15,7 +16,8 @@ vertex_angle-requires c =
 
 pub returns-in_default : goal.returns-in_default
 returns-in_default c o a S =
-    let px = to_z-of_z (sfits_of c.type_inv.point.0.1) in let py = to_z-of_z (sfits_of c.type_inv.point.1.0.1) in
+    let px = to_z-of_z {w = w32} {z = c.args.point.x} (search rules) in
+    let py = to_z-of_z {w = w32} {z = c.args.point.y} (search rules) in
     at-center _ _ _ c.vertex_angle.ensures.is px py c.in_default.is c.leave.ensures
 
 pub find-found-requires : goal.find-found-requires
@@ -35,12 +37,14 @@ load-right-requires c =
 
 pub decide_at-requires : goal.decide_at-requires
 decide_at-requires c =
-    let px = to_z-of_z (sfits_of c.type_inv.point.0.1) in let py = to_z-of_z (sfits_of c.type_inv.point.1.0.1) in
+    let px = to_z-of_z {w = w32} {z = c.args.point.x} (search rules) in
+    let py = to_z-of_z {w = w32} {z = c.args.point.y} (search rules) in
     asks_at _ _ _ c.vertex_angle.ensures.is px py c.in-Angle.is (carried c.vertex_angle.ensures.angle c.in-Angle.is)
     c.find-found.ensures c.load-node.ensures c.load-right.ensures c.requires
 
 pub returns : goal.returns
 returns c =
-    let px = to_z-of_z (sfits_of c.type_inv.point.0.1) in let py = to_z-of_z (sfits_of c.type_inv.point.1.0.1) in
+    let px = to_z-of_z {w = w32} {z = c.args.point.x} (search rules) in
+    let py = to_z-of_z {w = w32} {z = c.args.point.y} (search rules) in
     at-located _ _ _ c.vertex_angle.ensures.is px py c.in-Angle.is (carried c.vertex_angle.ensures.angle c.in-Angle.is)
     c.find-found.ensures c.load-node.ensures c.requires.range c.decide_at.ensures

@@ -1,6 +1,5 @@
 -- `decide::fate_number` meets its contract. Assumes nothing.
 use Rattle.decide.specs.Decide.{fate_number}
-use borrow.Author.Rules.{rules}
 use Rattle.decide.proofs.fate_number.Goals as goal
 
 pub returns-in-Added : goal.returns-in-Added

@@ -1,6 +1,5 @@
 -- `decide::fate_vertex` meets its contract. Assumes nothing.
 use Rattle.decide.specs.Decide.{fate_vertex}
-use borrow.Author.Rules.{rules}
 use Rattle.decide.proofs.fate_vertex.Goals as goal
 
 pub returns-in-Added : goal.returns-in-Added
