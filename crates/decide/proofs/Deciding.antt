@@ -8,7 +8,7 @@ use lib.Ieee.{Float}
 use lib.IntN.{ℤ, pos}
 use lib.Signed.{lt_z, le_z}
 use Rattle.angle.specs.Angle.{IsAngle, turns}
-use Rattle.algebra.specs.Test.{le_read}
+use Rattle.algebra.proofs.Test.{le_read}
 use Rattle.circle_test.specs.GoodRows.{held}
 use Rattle.dcel.specs.Rows.{halves_of, links_of, position_of}
 use Rattle.dcel.specs.MeshHeld.{counts-fit}
