@@ -2,7 +2,6 @@
 use mathlib.Core.Path.{sym, ◌∙◌}
 use mir.Facts.{to_z-of_z}
 use Rattle.ask.proofs.AskLaws.{ask-start, asked-refused, asked-quoted}
-use borrow.Author.Rules.{rules}
 use Rattle.ask_rows.proofs.ask.Goals as goal
 
 pub quote_now-requires : goal.quote_now-requires

@@ -2,7 +2,6 @@
 use mathlib.Core.Path.{sym, ◌∙◌}
 use mir.Facts.{to_z-of_z}
 use Rattle.ask.proofs.AskLaws.{ask-refused, ask-changes}
-use borrow.Author.Rules.{rules}
 use Rattle.ask_rows.proofs.check_ask.Goals as goal
 
 pub returns-in-Refused : goal.returns-in-Refused

@@ -1,5 +1,6 @@
 -- `ask_rows::decide_now` meets its contract. Assumes nothing.
-use borrow.Author.Rules.{rules, sfits_of}
+use borrow.Author.Rules.{rules}
+use mir.Syntax.{w32}
 use mir.Facts.{to_z-of_z}
 use Rattle.decide.proofs.VertexAngles.{carried, at-center}
 use Rattle.start.specs.StartLaws.{started-face, started-size}
@@ -12,7 +13,8 @@ vertex_angle-requires c = quote-center c.requires.start
 
 pub returns-in_default : goal.returns-in_default
 returns-in_default c o A =
-    let px = to_z-of_z (sfits_of c.type_inv.point.0.1) in let py = to_z-of_z (sfits_of c.type_inv.point.1.0.1) in
+    let px = to_z-of_z {w = w32} {z = c.args.point.x} (search rules) in
+    let py = to_z-of_z {w = w32} {z = c.args.point.y} (search rules) in
     at-center _ _ _ c.vertex_angle.ensures.is px py c.in_default.is c.leave.ensures
 
 pub adjacent-start-requires : goal.adjacent-start-requires
@@ -42,13 +44,15 @@ angle_at-to-requires c =
 
 pub decide_at-requires : goal.decide_at-requires
 decide_at-requires c =
-    let px = to_z-of_z (sfits_of c.type_inv.point.0.1) in let py = to_z-of_z (sfits_of c.type_inv.point.1.0.1) in
+    let px = to_z-of_z {w = w32} {z = c.args.point.x} (search rules) in
+    let py = to_z-of_z {w = w32} {z = c.args.point.y} (search rules) in
     asks_at _ _ c.vertex_angle.ensures.is px py c.in-Angle.is (carried c.vertex_angle.ensures.angle c.in-Angle.is)
     c.adjacent-start.ensures c.convex_hull_size-size.ensures c.located_edge-e.ensures
     c.next.ensures c.angle_at-from.ensures c.angle_at-to.ensures c.requires
 
 pub returns : goal.returns
 returns c =
-    let px = to_z-of_z (sfits_of c.type_inv.point.0.1) in let py = to_z-of_z (sfits_of c.type_inv.point.1.0.1) in
+    let px = to_z-of_z {w = w32} {z = c.args.point.x} (search rules) in
+    let py = to_z-of_z {w = w32} {z = c.args.point.y} (search rules) in
     at-located _ _ c.vertex_angle.ensures.is px py c.in-Angle.is (carried c.vertex_angle.ensures.angle c.in-Angle.is)
     c.adjacent-start.ensures c.convex_hull_size-size.ensures c.located_edge-e.ensures c.decide_at.ensures

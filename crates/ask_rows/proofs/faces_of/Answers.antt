@@ -2,7 +2,6 @@
 use mathlib.Core.Path.{sym, ◌∙◌}
 use Rattle.ask.specs.Ask.{faces_of}
 use Rattle.ask.proofs.AskLaws.{added-number, other-number}
-use borrow.Author.Rules.{rules}
 use Rattle.ask_rows.proofs.faces_of.Goals as goal
 
 pub returns-then-fate_number-ne1 : goal.returns-then-fate_number-ne1

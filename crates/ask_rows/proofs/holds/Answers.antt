@@ -1,5 +1,4 @@
 -- `ask_rows::holds` meets its contract. Assumes nothing.
-use borrow.Author.Rules.{rules}
 use borrow.Author.Tests.{eq-eqb}
 use mathlib.Core.Bool.{false≢true}
 use mathlib.Core.Path.{sym, ◌∙◌}
@@ -16,7 +15,7 @@ new-segment-requires c =
     (p.0, p.1, λ e. false≢true (sym c.if-equal.false ∙ c.equal.ensures ∙ eq-eqb _ _ e))
 
 pub contains_angle-requires : goal.contains_angle-requires
-contains_angle-requires c = (c.new-segment.ensures.angles.0, angle-valid _ c.requires.2)
+contains_angle-requires c = (c.new-segment.ensures.angles, angle-valid _ c.requires.2)
 
 pub returns : goal.returns
-returns c = c.contains_angle.ensures.whole ∙ c.new-segment.ensures.angles.1 _
+returns c = c.contains_angle.ensures.whole ∙ c.new-segment.ensures.arc _

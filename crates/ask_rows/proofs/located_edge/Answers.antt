@@ -1,11 +1,8 @@
 -- `ask_rows::located_edge` meets its contract. Assumes nothing.
-use borrow.Author.Rules.{rules}
 use mathlib.Core.Path.{refl}
-use Prim.Native.Nat.{◌-◌}
 use native.Mathlib.Omega.{arith}
-use Rattle.angle.specs.Angle.{turns}
 use Rattle.hull.proofs.Along.{angled}
-use Rattle.ask_rows.proofs.Look.{Looking, there, next-angled, found, looking, not_found}
+use Rattle.ask_rows.proofs.Look.{there, next-angled, found, looking, not_found}
 use Rattle.ask_rows.proofs.located_edge.Goals as goal
 
 pub angle_at-from-requires : goal.angle_at-from-requires

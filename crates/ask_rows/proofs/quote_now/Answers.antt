@@ -2,7 +2,6 @@
 use mathlib.Core.Path.{◌∙◌, ap}
 use mir.Facts.{to_z-of_z}
 use Rattle.ask.specs.Ask.{quote_from, quote_of}
-use borrow.Author.Rules.{rules}
 use Rattle.ask_rows.proofs.quote_now.Goals as goal
 
 pub returns : goal.returns

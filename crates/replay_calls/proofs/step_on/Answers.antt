@@ -36,25 +36,25 @@ pub slice_bounds-fithmoul_step-end-5 : goal.slice_bounds-fithmoul_step-end-5
 slice_bounds-fithmoul_step-end-5 c = of_words c.args.mesh.faces c.requires.mesh_lent.faces
 
 pub slice_bounds-nodes-end : goal.slice_bounds-nodes-end
-slice_bounds-nodes-end c = within c.seven_nodes-nodes.ensures c.requires.ring_lent.0.nodes
+slice_bounds-nodes-end c = within c.seven_nodes-nodes.ensures c.requires.ring_lent.nodes
 
 pub slice_bounds-fithmoul_step-end-6 : goal.slice_bounds-fithmoul_step-end-6
-slice_bounds-fithmoul_step-end-6 c = part _ 256 _ c.seven_nodes-nodes.ensures c.requires.ring_lent.0.nodes
+slice_bounds-fithmoul_step-end-6 c = part _ 256 _ c.seven_nodes-nodes.ensures c.requires.ring_lent.nodes
 
 pub slice_bounds-freed-end : goal.slice_bounds-freed-end
-slice_bounds-freed-end c = c.requires.ring_lent.0.freed
+slice_bounds-freed-end c = c.requires.ring_lent.freed
 
 pub slice_bounds-fithmoul_step-end-7 : goal.slice_bounds-fithmoul_step-end-7
-slice_bounds-fithmoul_step-end-7 c = part _ 6144 (replicate 6144 7) refl c.requires.ring_lent.0.freed
+slice_bounds-fithmoul_step-end-7 c = part _ 6144 (replicate 6144 7) refl c.requires.ring_lent.freed
 
 pub slice_bounds-buckets-end : goal.slice_bounds-buckets-end
-slice_bounds-buckets-end c = c.requires.ring_lent.0.buckets
+slice_bounds-buckets-end c = c.requires.ring_lent.buckets
 
 pub slice_bounds-fithmoul_step-end-8 : goal.slice_bounds-fithmoul_step-end-8
-slice_bounds-fithmoul_step-end-8 c = part _ 6144 (replicate 6144 7) refl c.requires.ring_lent.0.buckets
+slice_bounds-fithmoul_step-end-8 c = part _ 6144 (replicate 6144 7) refl c.requires.ring_lent.buckets
 
 pub slice_bounds-pending-end : goal.slice_bounds-pending-end
-slice_bounds-pending-end c = c.requires.ring_lent.1
+slice_bounds-pending-end c = c.requires.pending_length_bound
 
 pub slice_bounds-fithmoul_step-end-9 : goal.slice_bounds-fithmoul_step-end-9
-slice_bounds-fithmoul_step-end-9 c = part _ 6144 (replicate 6144 7) refl c.requires.ring_lent.1
+slice_bounds-fithmoul_step-end-9 c = part _ 6144 (replicate 6144 7) refl c.requires.pending_length_bound
