@@ -103,14 +103,14 @@ module _ {C : Counts} {L : Links} {p p' : ℕ → Point} (G : Good C L p) (same 
   pub insert-into-triangle-walkable : {f : ℕ} → 0 < f → f < C.faces → Walkable (with_inner_vertex C) (insert_into_triangle L C f) p'
   insert-into-triangle-walkable i l =
       let F = insert-into-triangle-frame G.wf i l in
-      same-walkable G.wf (insert-into-triangle-keeps G.wf i l) F.boundary (λ x h z. F.outer-old h z) same K
+      same-walkable G.wf (insert-into-triangle-keeps G.wf i l) F.boundary (λ x h z. F.outer_old h z) same K
 
   -- BY ONE ON AN INNER EDGE
   pub split-edge-walkable : {e : ℕ} → In C e → 0 < L.face e → 0 < L.face (rev e) → Walkable (with_inner_vertex C) (split_edge L C e) p'
   split-edge-walkable h i j =
       let S = splittable G h i j in
       let F = split-edge-frame G.wf S in
-      same-walkable G.wf (split-edge-keeps G.wf S) F.boundary (λ x h z. F.outer-old h z) same K
+      same-walkable G.wf (split-edge-keeps G.wf S) F.boundary (λ x h z. F.outer_old h z) same K
 
 -- ---- one on the boundary edge of e
 module _ {C : Counts} {L : Links} (W : Wf C L) (p : ℕ → Point) {e : ℕ} (h : In C e) (i : 0 < L.face e) (z : L.face (rev e) ≡ 0)

@@ -202,7 +202,7 @@ module _ (room : ℕ) {C : Counts} {L : Links} {p : ℕ → Point} (G : Good C L
       let M = face-inserted room G v range I in
       let F = insert-into-triangle-frame G.wf I.inner I.below in
       legal-corners M.good (legalize-vertex room p' (unflipped (with_inner_vertex C) (insert_into_triangle L C f) 2) M.good (omega arith))
-      (inner-corners G.wf F.boundary (λ x i z. F.outer-old i z) N')
+      (inner-corners G.wf F.boundary (λ x i z. F.outer_old i z) N')
 
   module _ {e : ℕ} (I : InEdge C L p v e) where
     Q : Between (p' (L.origin e)) (p' (L.origin (rev e))) (p' C.vertices)
@@ -218,7 +218,7 @@ module _ (room : ℕ) {C : Counts} {L : Links} {p : ℕ → Point} (G : Good C L
         go : Dec (L.face (rev e) ≡ 0) → NoLeftCorner (with_edge_vertex L C e) (insert_on_edge L C e) p'
         go (yes z) = rw (ne_eqb _ 0 inner, eq-eqb _ 0 z) (half-edge-corners G.wf I.used I.inner z Q N')
         go (no n) = let F = split-edge-frame G.wf (splittable G I.used I.inner (omega arith)) in
-            rw (ne_eqb _ 0 inner, ne_eqb _ 0 n) (inner-corners G.wf F.boundary (λ x i z. F.outer-old i z) N')
+            rw (ne_eqb _ 0 inner, ne_eqb _ 0 n) (inner-corners G.wf F.boundary (λ x i z. F.outer_old i z) N')
 
     edge-corners : NoLeftCorner (insert_in_edge room p' C L e).counts (insert_in_edge room p' C L e).links p'
     edge-corners = legal-corners (edge-inserted room G v range I).good (edge-legalized room G v range I) split-corners
