@@ -312,7 +312,7 @@ module _ {C : Counts} {L : Links} {p : ℕ → Point} (X : Line C L p) (q : Poin
 
       right : z <ℤ pos 0 → Off C L p q (rev 0)
       right r = record {
-        used = Rattle.sums.specs.Half.rev-below C.edges in-0;
+        used = Rattle.sums.proofs.HalfLaws.rev-below C.edges in-0;
         left = subst (λ (x : ℕ). pos 0 <ℤ orient2d (p (L.origin (rev 0))) (p (L.origin x)) q) (sym (rev-rev 0))
             (subst (λ (x : ℤ). pos 0 <ℤ x) (sym (orient2d-swap (p (L.origin 0)) (p (to L 0)) q)) (neg-0< r));
       }
