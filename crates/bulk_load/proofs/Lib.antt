@@ -1,4 +1,3 @@
-pub mod BulkLoadLaws
 pub mod EndedLaws
 pub mod LoadAnswers
 pub mod LoadLaws

@@ -95,6 +95,12 @@ pub record Loading : Type 0 where
 abbrev pub counts : BulkLoadLent → Counts
 counts l = (seeded l).growing.mesh.counts
 
+abbrev pub links : BulkLoadLent → Links
+links l = (seeded l).growing.mesh.links
+
+abbrev pub positions : BulkLoadLent → ℕ → Point
+positions l = (seeded l).growing.positions
+
 -- the sweep: a run with the seed that has grown, the centre of its last three vertices, and the points that are left
 unfoldable pub rest_of : BulkLoadLent → RunLent
 rest_of l =

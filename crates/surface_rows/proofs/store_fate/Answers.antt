@@ -8,6 +8,7 @@ use Rattle.heights.specs.Heights.{height_of}
 use Rattle.sums.specs.Put.{put}
 use Rattle.surface_rows.proofs.Stored.{vertex-room, not-stored, is-stored}
 use borrow.Author.Rules.{rules}
+use mir.Syntax.{w32}
 use Rattle.surface_rows.proofs.store_fate.Goals as goal
 
 pub returns-then-not-has_fate : goal.returns-then-not-has_fate
@@ -26,5 +27,5 @@ pub returns : goal.returns
 unfolding row_of
 returns c =
     let f = sym c.has_fate.ensures ∙ not-false _ c.if-not-has_fate.false-raw in
-    let z = to_z-of_z (record { sfits = c.height-z.type_inv }) ∙ c.height-z.ensures in
+    let z = to_z-of_z {w = w32} (record { sfits = c.height-z.type_inv }) ∙ c.height-z.ensures in
     is-stored _ _ _ _ f (c.set_height.ensures ∙ ap (put (height_of _) _) z)

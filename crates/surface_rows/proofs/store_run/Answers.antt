@@ -7,6 +7,7 @@ use Rattle.heights.specs.Heights.{height_of}
 use Rattle.sums.specs.Put.{put}
 use Rattle.surface_rows.proofs.Stored.{rooms-at, not_made, made-end, made-last, last-room}
 use borrow.Author.Rules.{rules}
+use mir.Syntax.{w32}
 use Rattle.surface_rows.proofs.store_run.Goals as goal
 
 pub returns-then-not-is_made : goal.returns-then-not-is_made
@@ -42,7 +43,7 @@ set_height-requires c =
 
 pub returns-then-place-n : goal.returns-then-place-n
 returns-then-place-n c =
-    let z = to_z-of_z (record { sfits = c.height-z.type_inv }) ∙ c.height-z.ensures in
+    let z = to_z-of_z {w = w32} (record { sfits = c.height-z.type_inv }) ∙ c.height-z.ensures in
     made-last _ _ _ _ _ (sym c.is_made.ensures ∙ not-false _ c.if-not-is_made.false-raw) c.point_count-n.ensures c.store_fates.ensures
     c.store_fates-2.ensures c.place_of-place.ensures c.if-place-n.true (c.set_height.ensures ∙ ap (put (height_of _) _) z)
 
