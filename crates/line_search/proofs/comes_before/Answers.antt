@@ -2,10 +2,11 @@
 -- Assumes nothing.
 use mathlib.Core.Bool.{true, false}
 use mathlib.Core.Path.{◌≡◌, refl}
-use borrow.Author.Rules.{sfits_of}
+use borrow.Author.Rules.{rules}
 use lib.IntN.{ℤ}
 use lib.Signed.{lt_z, le_z}
 use mir.Facts.{to_z-of_z}
+use mir.Syntax.{w32}
 use Rattle.line.specs.Order.{comes_before}
 use Rattle.math.specs.declared.Point.{Point}
 use Rattle.line_search.proofs.comes_before.Goals as goal
@@ -26,16 +27,16 @@ module _ (a b : Point) {u v : ℤ} (p : u ≡ a.x) (q : v ≡ b.x) where
 
 pub returns-then-a-b : goal.returns-then-a-b
 returns-then-a-b c =
-    let A = c.type_inv.a in let B = c.type_inv.b in
-    by-x _ _ (to_z-of_z (sfits_of A.0.1)) (to_z-of_z (sfits_of B.0.1)) c.if-a-b.true
+    let a = c.args.a in let b = c.args.b in
+    by-x _ _ (to_z-of_z {w = w32} {z = a.x} (search rules)) (to_z-of_z {w = w32} {z = b.x} (search rules)) c.if-a-b.true
 
 pub returns-then-a-b-2 : goal.returns-then-a-b-2
 returns-then-a-b-2 c =
-    let A = c.type_inv.a in let B = c.type_inv.b in
-    by-y _ _ (to_z-of_z (sfits_of A.0.1)) (to_z-of_z (sfits_of B.0.1)) c.if-a-b.false c.if-a-b-2.true
-    (to_z-of_z (sfits_of A.1.0.1)) (to_z-of_z (sfits_of B.1.0.1))
+    let a = c.args.a in let b = c.args.b in
+    by-y _ _ (to_z-of_z {w = w32} {z = a.x} (search rules)) (to_z-of_z {w = w32} {z = b.x} (search rules)) c.if-a-b.false c.if-a-b-2.true
+    (to_z-of_z {w = w32} {z = a.y} (search rules)) (to_z-of_z {w = w32} {z = b.y} (search rules))
 
 pub returns-else-a-b-2 : goal.returns-else-a-b-2
 returns-else-a-b-2 c =
-    let A = c.type_inv.a in let B = c.type_inv.b in
-    by-neither _ _ (to_z-of_z (sfits_of A.0.1)) (to_z-of_z (sfits_of B.0.1)) c.if-a-b.false c.if-a-b-2.false
+    let a = c.args.a in let b = c.args.b in
+    by-neither _ _ (to_z-of_z {w = w32} {z = a.x} (search rules)) (to_z-of_z {w = w32} {z = b.x} (search rules)) c.if-a-b.false c.if-a-b-2.false

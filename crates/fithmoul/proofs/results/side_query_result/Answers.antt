@@ -1,6 +1,7 @@
 -- `fithmoul::results::side_query_result` meets its contract. Assumes nothing.
 use mathlib.Core.Path.{sym, ap}
 use mir.Facts.{to_z-of_z}
+use mir.Syntax.{w64}
 use Rattle.fithmoul.specs.Results.{side_query_result}
 use borrow.Author.Rules.{rules, sfits_of}
 use Rattle.fithmoul.proofs.results.side_query_result.Goals as goal

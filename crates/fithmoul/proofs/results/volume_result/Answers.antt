@@ -1,6 +1,7 @@
 -- `fithmoul::results::volume_result` meets its contract. Assumes nothing.
 use mathlib.Core.Path.{sym, ap}
 use mir.Facts.{to_z-of_z}
+use mir.Syntax.{w64}
 use Rattle.fithmoul.specs.Results.{volume_result}
 use borrow.Author.Rules.{rules}
 use Rattle.fithmoul.proofs.results.volume_result.Goals as goal
