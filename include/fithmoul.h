@@ -2,8 +2,8 @@
  * run a list of points from a mesh, ask what a point would do, commit a point by its quote, the volume between a mesh
  * and a level, the area total of a mesh, and the side query, the area of one triangle.
  *
- * Link with libfithmoul.a, which `rt staticlib fithmoul` writes to target/staticlib/ (Linux, x86-64). Nothing else is
- * needed. crates/fithmoul/src/lib.rt has the same calls with their contracts, which are proved; docs/SPECIFICATION.md
+ * Link with libfithmoul.a, which `tools/archive fithmoul` writes to target/staticlib/ (Linux, x86-64). Nothing else is
+ * needed. crates/fithmoul_c/src/lib.rt has the same calls with their contracts, which are proved; docs/SPECIFICATION.md
  * says what they mean.
  *
  * A CALL TAKES ANYTHING. Whatever the counts, rows, centre, angle, points, quote and level are, it returns, reads and

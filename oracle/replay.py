@@ -6,11 +6,12 @@ link, through the program `replay`.
     python3 oracle/replay.py load COUNT SEED [MOST_POINTS]
 
 `oracle generate` makes the inputs and `oracle answer` has the Rust answer them; those inside the domain go to
-target/bin/replay, as many at a time as it has room for: all of them, as the oracle writes them, as its list answers.txt,
+crates/replay/out/replay, as many at a time as it has room for: all of them, as the oracle writes them, as its list answers.txt,
 and those whose insertions are inside the domain too as its list run.txt. A run must give the Rust's answers, report the
 faces and flips of the Rust's pass, and leave what the closing pass makes of the Rust's mesh after the insertions; that
-pass is the one of tests/reference. Needs `cargo build --release` in oracle/ and `rt check replay`. An input that takes
-more vertices than replay's rows have is counted apart.
+pass is the one of tests/reference. Needs `cargo build --release` in oracle/, and the program: `rt run` in crates/replay
+proves and builds it, and then runs it where its lists are not, so that it ends with an error. An input that takes more
+vertices than replay's rows have is counted apart.
 
 With `bare`, lists of bare points go to the program as its list bulk_load.txt, as far as they are inside the domain: it
 must give the Rust's answers in list order, report the faces and flips of the Rust's pass, and leave what the closing pass
@@ -32,7 +33,7 @@ import meshes
 import sweep
 
 ORACLE = os.environ.get("ORACLE", "oracle/target/release/oracle")
-PROGRAM = os.path.abspath(os.environ.get("REPLAY", "target/bin/replay"))
+PROGRAM = os.path.abspath(os.environ.get("REPLAY", "crates/replay/out/replay"))
 DATA = "crates/replay/data"
 TEXT, VERTICES, PENDING = 500000, 250, 6144
 

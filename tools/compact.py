@@ -1,3 +1,4 @@
+# Served the older kit, for transplant.py.
 """Shorter text for what the borrow checker prints: one line for each declaration, and a name for each type that stands in it more than once."""
 import collections
 import re

@@ -1,4 +1,5 @@
 #!/usr/bin/env python3
+# Served the older kit: today's proofs name a step's facts, and count no `.before`.
 """Paths into what a proof of a function knows at each need, from an Lts.antt: a transplanted one, or one of `rt goals`.
 
     paths.py LTS [NEED..]            for each need, how many `.before` lead from its `c` to each place, with the place's fields

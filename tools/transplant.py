@@ -1,4 +1,5 @@
 #!/usr/bin/env python3
+# Served the older kit, whose borrow checker did not cover a lent row of structs: today there is no made text, and nothing runs this.
 """The part of a proof that follows the code, for functions over a lent row of structs, which the borrow checker does not cover.
 
     python3 tools/transplant.py [CRATE..]              remakes the made text of every crate that has any, or of those named

@@ -1,4 +1,4 @@
-//! Tells the linker where libfithmoul.a stands: FITHMOUL_LIB, or target/staticlib/ of the repository, where `rt staticlib fithmoul` writes it.
+//! Tells the linker where libfithmoul.a stands: FITHMOUL_LIB, or target/staticlib/ of the repository, where `tools/archive fithmoul` writes it.
 
 use std::path::PathBuf;
 
@@ -10,7 +10,7 @@ fn main() {
     let archive = folder.join("libfithmoul.a");
     assert!(
         archive.is_file(),
-        "no libfithmoul.a in {}: run `rt staticlib fithmoul`, or set FITHMOUL_LIB",
+        "no libfithmoul.a in {}: run `tools/archive fithmoul`, or set FITHMOUL_LIB",
         folder.display()
     );
     println!("cargo:rerun-if-changed={}", archive.display());

@@ -1,7 +1,7 @@
 // The public calls, for C, C++, Rust and Rattle: load bare points, check a mesh, locate an angle, step one point, ask what a point
 // would do, commit the quote, finish a mesh, run a list of points, the volume between a mesh and a level, the area total of a mesh, and the
 // side query, the area of one triangle. A mesh has a height on each vertex and a change count beside its counts. For a C compiler this page
-// is include/fithmoul.h. A call takes its arguments as numbers, and a quote as it was given, and answers a struct of numbers: what it
+// is include/fithmoul.h; a library exports nothing to C, so `fithmoul_c` exports these again. A call takes its arguments as numbers, and a quote as it was given, and answers a struct of numbers: what it
 // answers and leaves is what a definition gives, for every input (crates `bulk_load`, `heights`, `surface`, `ask`, `commit`, `volume`,
 // `area`). A slice is a pointer and a length for C. Nothing is asked of the caller but that each row is there, as long as is said, that no
 // row that is written overlaps another, and that doubles are rounded to nearest and subnormal ones kept (docs/DECISIONS.md, "Who answers
