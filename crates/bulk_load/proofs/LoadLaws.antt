@@ -18,7 +18,7 @@ use Rattle.finish.specs.declared.Totals.{Totals}
 use Rattle.finish.specs.Finish.{Finishing, finish_mesh, totals_from, finished_from}
 use Rattle.line.specs.GrowUntouched.{Fits}
 use Rattle.heights.specs.Heights.{height_of}
-use Rattle.line.proofs.GrowLawsFacts as phase
+use Rattle.line.specs.GrowLaws as phase
 use Rattle.line.specs.GrowLaws.{Phase}
 use Rattle.math.specs.declared.Point.{Point}
 use Rattle.mesh.specs.declared.Counts.{Counts}

@@ -17,7 +17,7 @@ use Rattle.mesh_check.specs.declared.Checked.{Checked}
 use Rattle.mesh_check.specs.Check.{point_count}
 use Rattle.sums.specs.Bit.{bit}
 use Rattle.sums.proofs.BitLaws.{or_cases}
-use Rattle.sums.proofs.BoundedLaws as bounded
+use Rattle.sums.specs.Bounded as bounded
 use Rattle.sums.proofs.BoundedLaws.{count-ext, count_add, count_none}
 use Rattle.sweep.specs.Demand3.{fate_of, vertex_of, is_entered, is_vertex, is_run_fate, added_before, entered_before, before_closing, Demand3, Demand3From}
 use Rattle.sweep.specs.Run.{RunLent, RunOutcome, answer_words, answer_in, run_of}
