@@ -393,33 +393,43 @@ fn of_hardly_any_width() {
     }
 }
 
-/// So many that what a block of insertions needs is read before the first of them (65,536 vertices), and that the closing pass is left out where
-/// no edge at any new vertex breaks the circle rule (262,144 skipped points); every sixteenth point twice.
-fn many(random: &mut Random) -> Vec<Point> {
-    let mut points = drawn(random, 3, 270_000);
+/// Drawn anywhere; every sixteenth point twice.
+fn many(random: &mut Random, count: usize) -> Vec<Point> {
+    let mut points = drawn(random, 3, count);
     let again: Vec<Point> = points.iter().copied().step_by(16).collect();
     points.extend(again);
     points
 }
 
+/// In both orders a finished mesh, and the same triangles: no four of the points are on one circle.
+fn in_any_order(points: &[Point]) {
+    let loaded = Mesh::bulk_load(points).expect("accepted");
+    let mesh = loaded.shape.into_mesh().expect("a mesh");
+    finished(points, &mesh, &loaded.run);
+    let (shape, run) = in_order(points);
+    let other = shape.into_mesh().expect("a mesh");
+    finished(points, &other, &run);
+    assert_eq!(triangles_of(&mesh), triangles_of(&other));
+}
+
+/// So many that what a block of insertions needs is read before the first of them (65,536 vertices).
 #[test]
 fn many_points() {
-    let points = many(&mut Random(0x9e37_79b9_7f4a_7c15));
-    let loaded = Mesh::bulk_load(&points).expect("accepted");
-    let mesh = loaded.shape.into_mesh().expect("a mesh");
-    finished(&points, &mesh, &loaded.run);
-    let (shape, run) = in_order(&points);
-    let other = shape.into_mesh().expect("a mesh");
-    finished(&points, &other, &run);
-    // the same triangles, whatever the order: no four of these points are on one circle
-    assert_eq!(triangles_of(&mesh), triangles_of(&other));
+    in_any_order(&many(&mut Random(0x9e37_79b9_7f4a_7c15), 90_000));
+}
+
+/// So many that the closing pass is left out where no edge at any new vertex breaks the circle rule (262,144 skipped points).
+#[test]
+fn more_points() {
+    in_any_order(&many(&mut Random(0x9e37_79b9_7f4a_7c15), 270_000));
 }
 
 /// The same on a grid: some are on an edge, and many four on one circle.
 #[test]
-fn many_points_on_a_grid() {
+fn more_points_on_a_grid() {
     let on_grid = |[x, y, z]: Point| [x / 4096 * 4096, y / 4096 * 4096, z];
-    let points: Vec<Point> = many(&mut Random(0x2545_f491_4f6c_dd1d)).into_iter().map(on_grid).collect();
+    let points: Vec<Point> =
+        many(&mut Random(0x2545_f491_4f6c_dd1d), 270_000).into_iter().map(on_grid).collect();
     let (shape, run) = in_order(&points);
     finished(&points, &shape.into_mesh().expect("a mesh"), &run);
     let of_fate = |number: u64| run.answers.iter().filter(|a| words(a)[0] == number).count();

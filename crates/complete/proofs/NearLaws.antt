@@ -42,8 +42,8 @@ pub to-prepare : {C : Counts} {q : List ℤ} {o h a row w : List ℕ} {points : 
 to-prepare R = record { rows = R.rows; pairs = R.pairs; answers-room = R.answers-room }
 
 -- ---- the list: the mesh before point i is still one to walk on
-pub filling-near : {C₀ : Counts} {q₀ : List ℤ} {o₀ h₀ a₀ row₀ w₀ : List ℕ} {points : List ℤ} {n : ℕ} {known settled : Bool}
-    → FillNear C₀ q₀ o₀ h₀ a₀ row₀ w₀ points n known settled → {C : Counts} {q : List ℤ} {o h a row w : List ℕ} {i : ℕ}
+pub filling-near : {C₀ : Counts} {q₀ : List ℤ} {o₀ h₀ a₀ row₀ w₀ : List ℕ} {points : List ℤ} {n : ℕ} {known : Bool}
+    → FillNear C₀ q₀ o₀ h₀ a₀ row₀ w₀ points n known → {C : Counts} {q : List ℤ} {o h a row w : List ℕ} {i : ℕ}
     → FillingOn C₀ q₀ o₀ h₀ a₀ row₀ w₀ points n C q o h a row w i → i < n → {b : Bool} → b ≡ known → PointNear C q o h a row w points i b
 filling-near {row₀ = row₀} {w₀ = w₀} {points = points} R {i = i} I l k = record {
   rows = filling-point I l;

@@ -11,7 +11,6 @@ use Rattle.insert.specs.InsertRows.{PointReady}
 use Rattle.math.specs.declared.Point.{Point}
 use Rattle.math.specs.Determinant.{InRange}
 use Rattle.mesh.specs.declared.Counts.{Counts}
-use Rattle.mesh.specs.Circle.{Settled}
 use Rattle.mesh.specs.Mesh.{Links}
 use Rattle.settled_test.specs.Star.{UnbrokenAt}
 use Rattle.skipped.specs.Fill.{Filling, fill_point, fill_after, insert_on, inserted_at, insert_word}
@@ -71,11 +70,10 @@ pub record FillReady (C : Counts) (q : List ℤ) (o h a row w : List ℕ) (point
   pub answers-room : answer_words * n ≤ length w
   pub small : n < 4294967296
 
--- and where that is known the mesh is one to walk on, and no edge breaks the circle rule
-pub record FillNear (C : Counts) (q : List ℤ) (o h a row w : List ℕ) (points : List ℤ) (n : ℕ) (known settled : Bool) : Type 0 where
+-- and where that is known the mesh is one to walk on
+pub record FillNear (C : Counts) (q : List ℤ) (o h a row w : List ℕ) (points : List ℤ) (n : ℕ) (known : Bool) : Type 0 where
   pub fill : FillReady C q o h a row w points n
   pub walkable : T known → Walkable C (links_of o h a) (position_of q)
-  pub circles : T settled → Settled C (links_of o h a) (position_of q)
 
 -- 02, Change 2: "into a triangle (fate 6), on an edge (7)"
 unfoldable pub inside_number : ℕ → Bool
@@ -94,8 +92,8 @@ abbrev pub NoneSkipped : List ℕ → ℕ → Type 0
 NoneSkipped w n = (i : ℕ) → i < n → skipped_in (row_of w) i ≡ false
 
 -- and where that is known no point was skipped
-pub record FillAny (C : Counts) (q : List ℤ) (o h a row w : List ℕ) (points : List ℤ) (n : ℕ) (none known settled : Bool) : Type 0 where
-  pub near : FillNear C q o h a row w points n known settled
+pub record FillAny (C : Counts) (q : List ℤ) (o h a row w : List ℕ) (points : List ℤ) (n : ℕ) (none known : Bool) : Type 0 where
+  pub near : FillNear C q o h a row w points n known
   pub unskipped : T none → NoneSkipped w n
 
 -- what the preparation reads
@@ -142,9 +140,8 @@ close_fill faces flips s =
       full = s.full;
     }
 
-pub record CloseReady (q : List ℤ) (o h a : List ℕ) (s : FillEnd) (settled : Bool) : Type 0 where
+pub record CloseReady (q : List ℤ) (o h a : List ℕ) (s : FillEnd) : Type 0 where
   pub rows : s.full ≡ false → GoodRows s.counts q o h a × (s.counts.faces ≤ 2 ^ 25)
-  pub circles : T settled → Settled s.counts (links_of o h a) (position_of q)
 
 -- ---- the whole
 abbrev pub swept_to : Counts → ℕ → Bool → List ℤ → List ℕ → List ℕ → List ℕ → Sweeping

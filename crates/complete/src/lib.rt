@@ -426,8 +426,8 @@ fn fill_each(
     count: u32,
     near: Nearby,
 ) -> Filled
-    requires { FillNear counts positions.old outs.old halves.old faces.old pending.old answers.old points.now count
-        near.known near.settled }
+    requires { FillNear counts positions.old outs.old halves.old faces.old pending.old answers.old points.now count near.known
+        × (T near.settled → Settled counts (links_of outs.old halves.old faces.old) (position_of positions.old)) }
     ensures { FillLeaves counts positions.old outs.old halves.old faces.old
         (length pending.old) answers.old points.now count
         positions.new outs.new halves.new faces.new answers.new result.end
@@ -487,8 +487,9 @@ fn fill(
     count: u32,
     near: Nearby,
 ) -> Filled
-    requires { FillAny counts positions.old outs.old halves.old faces.old pending.old answers.old points.now count
-        near.none near.known near.settled }
+    requires { FillAny counts positions.old outs.old halves.old faces.old pending.old answers.old points.now count near.none
+        near.known
+        × (T near.settled → Settled counts (links_of outs.old halves.old faces.old) (position_of positions.old)) }
     ensures { FillLeaves counts positions.old outs.old halves.old faces.old
         (length pending.old) answers.old points.now count
         positions.new outs.new halves.new faces.new answers.new result.end
@@ -559,7 +560,8 @@ fn close(
     filled: FillEnd,
     settled: bool,
 ) -> Completed
-    requires { CloseReady positions.now outs.old halves.old faces.old filled settled }
+    requires { CloseReady positions.now outs.old halves.old faces.old filled
+        × (T settled → Settled filled.counts (links_of outs.old halves.old faces.old) (position_of positions.now)) }
     ensures { (finishing_of outs.new halves.new faces.new result.ended
         ≡ close_fill passed.faces passed.flips
         (filling_of positions.now outs.old halves.old faces.old filled))

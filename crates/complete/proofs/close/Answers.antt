@@ -10,8 +10,8 @@ returns-then-filled c = close-refused _ _ _ _ _ _ _ c.if-filled.true c.stopped.e
 pub close_unsettled-flips-requires : goal.close_unsettled-flips-requires
 close_unsettled-flips-requires c =
     let p = c.requires in
-    let r = p.rows c.if-filled.false in
-    (r.0, r.1, p.circles)
+    let r = p.0.rows c.if-filled.false in
+    (r.0, r.1, p.1)
 
 pub returns : goal.returns
 returns c = (close-made _ _ _ _ _ _ _ c.if-filled.false _ _ _ _ c.close_unsettled-flips.ensures, refl)

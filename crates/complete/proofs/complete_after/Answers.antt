@@ -20,13 +20,13 @@ pub prepare-near-requires : goal.prepare-near-requires
 prepare-near-requires c = to-prepare {row = c.convexity-passed.new.pending} (fill-ready _ 0 (c.requires.fill c.if-full.false) c.if-full.false _ _ _ _ c.convexity-passed.ensures c.convexity-passed.auto.outs c.convexity-passed.auto.halves c.convexity-passed.auto.faces c.convexity-passed.auto.pending)
 
 pub fill-filled-requires : goal.fill-filled-requires
-fill-filled-requires c = record { near = record { fill = fill-ready _ 0 (c.requires.fill c.if-full.false) c.if-full.false _ _ _ _ c.convexity-passed.ensures c.convexity-passed.auto.outs c.convexity-passed.auto.halves c.convexity-passed.auto.faces c.convexity-passed.auto.pending; walkable = c.prepare-near.ensures.1; circles = c.prepare-near.ensures.2 }; unskipped = c.prepare-near.ensures.0 }
+fill-filled-requires c = (record { near = record { fill = fill-ready _ 0 (c.requires.fill c.if-full.false) c.if-full.false _ _ _ _ c.convexity-passed.ensures c.convexity-passed.auto.outs c.convexity-passed.auto.halves c.convexity-passed.auto.faces c.convexity-passed.auto.pending; walkable = c.prepare-near.ensures.1 }; unskipped = c.prepare-near.ensures.0 }, c.prepare-near.ensures.2)
 
 pub zero_skipped-requires-2 : goal.zero_skipped-requires-2
 zero_skipped-requires-2 c = zeros-ready _ 0 (c.requires.fill c.if-full.false) c.if-full.false _ _ _ _ c.convexity-passed.ensures c.if-passed.false c.convexity-passed.auto.pending c.fill-filled.ensures.0 (let r = c.requires.answers-room in let k = c.fill-filled.auto.answers in omega arith)
 
 pub close-requires : goal.close-requires
-close-requires c = record { rows = λ f. filled-rows {row = c.convexity-passed.new.pending} (fill-ready _ 0 (c.requires.fill c.if-full.false) c.if-full.false _ _ _ _ c.convexity-passed.ensures c.convexity-passed.auto.outs c.convexity-passed.auto.halves c.convexity-passed.auto.faces c.convexity-passed.auto.pending) c.fill-filled.ensures.0 c.fill-filled.auto.positions c.fill-filled.auto.outs c.fill-filled.auto.halves c.fill-filled.auto.faces; circles = c.fill-filled.ensures.1 }
+close-requires c = (record { rows = λ f. filled-rows {row = c.convexity-passed.new.pending} (fill-ready _ 0 (c.requires.fill c.if-full.false) c.if-full.false _ _ _ _ c.convexity-passed.ensures c.convexity-passed.auto.outs c.convexity-passed.auto.halves c.convexity-passed.auto.faces c.convexity-passed.auto.pending) c.fill-filled.ensures.0 c.fill-filled.auto.positions c.fill-filled.auto.outs c.fill-filled.auto.halves c.fill-filled.auto.faces }, c.fill-filled.ensures.1)
 
 pub shape_of-outs : goal.shape_of-outs
 shape_of-outs c = c.close.auto.outs ∙ c.fill-filled.auto.outs ∙ c.convexity-passed.auto.outs

@@ -13,15 +13,15 @@ use Rattle.complete.proofs.SettledLaws.{filling-settled}
 use Rattle.complete.proofs.fill_each.Goals as goal
 
 pub loop-i-init : goal.loop-i-init
-loop-i-init c = let p = c.requires in (filling-starts p.fill, refl, refl, p.circles)
+loop-i-init c = let p = c.requires in (filling-starts p.0.fill, refl, refl, p.1)
 
 pub prefetch_block-requires : goal.prefetch_block-requires
 prefetch_block-requires c =
-    let r = c.requires.fill.answers-room in let l = c.loop-i.invariant.0.lengths.answers in let t = c.loop-i-test.true in
+    let r = c.requires.0.fill.answers-room in let l = c.loop-i.invariant.0.lengths.answers in let t = c.loop-i-test.true in
     (omega arith, omega arith)
 
 pub fill_point-done-requires : goal.fill_point-done-requires
-fill_point-done-requires c = filling-near c.requires c.loop-i.invariant.0 c.loop-i-test.true c.loop-i.invariant.2
+fill_point-done-requires c = filling-near c.requires.0 c.loop-i.invariant.0 c.loop-i-test.true c.loop-i.invariant.2
 
 pub shape_of-positions-then-done : goal.shape_of-positions-then-done
 shape_of-positions-then-done c = c.fill_point-done.auto.positions ∙ c.loop-i.invariant.0.lengths.positions
@@ -62,7 +62,7 @@ pub place-all-requires : goal.place-all-requires
 place-all-requires c = (filling-point c.loop-i.invariant.0 c.loop-i-test.true).pair
 
 pub overflow_add-i : goal.overflow_add-i
-overflow_add-i c = let t = c.loop-i-test.true in let k = c.requires.fill.small in record { fits = omega arith }
+overflow_add-i c = let t = c.loop-i-test.true in let k = c.requires.0.fill.small in record { fits = omega arith }
 
 pub loop-i-smaller : goal.loop-i-smaller
 loop-i-smaller c = let t = c.loop-i-test.true in omega arith

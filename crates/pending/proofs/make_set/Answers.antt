@@ -13,13 +13,13 @@ pub returns-then-n-from : goal.returns-then-n-from
 returns-then-n-from c = let z = c.list_of-none in pushed-by (λ l H. H) z.ensures.0 z.ensures.1
 
 pub mark_entries-requires : goal.mark_entries-requires
-mark_entries-requires c = (marks-start {edges = c.args.edges} c.clear_words.ensures c.if-n-from.false (omega arith)).0
+mark_entries-requires c = (marks-start {edges = c.args.edges} c.clear_words.ensures (search rules) (omega arith)).0
 
 pub returns-then-not-mark_entries : goal.returns-then-not-mark_entries
-returns-then-not-mark_entries c = let k = marks-start {edges = c.args.edges} c.clear_words.ensures c.if-n-from.false (omega arith) in
+returns-then-not-mark_entries c = let k = marks-start {edges = c.args.edges} c.clear_words.ensures (search rules) (omega arith) in
     let z = c.list_of-none in
     pushed-by (holds_kept (omega arith) (omega arith) (c.mark_entries.ensures.0 ∙ k.1)) z.ensures.0 z.ensures.1
 
 pub returns : goal.returns
-returns c = let k = marks-start {edges = c.args.edges} c.clear_words.ensures c.if-n-from.false (omega arith) in
+returns c = let k = marks-start {edges = c.args.edges} c.clear_words.ensures (search rules) (omega arith) in
     set-made (omega arith) (c.mark_entries.ensures.0 ∙ k.1) (c.mark_entries.ensures.1 (not-false _ c.if-not-mark_entries.false-raw))
