@@ -1,5 +1,5 @@
 -- `search_near::is_upper` meets its contract. Assumes nothing.
-use borrow.Author.Rules.{rules, sfits_of}
+use borrow.Author.Rules.{rules}
 use mathlib.Core.Path.{◌∙◌, ap₂}
 use mir.Facts.{to_z-of_z}
 use mir.Syntax.{w64}
@@ -9,4 +9,4 @@ use Rattle.search_near.proofs.is_upper.Goals as goal
 
 pub returns : goal.returns
 unfolding upper is_positive_of
-returns c = c.is_positive.ensures ∙ ap₂ is_positive_of (to_z-of_z {w = w64} {z = c.args.v.y} (sfits_of c.type_inv.v.1.0.1)) (to_z-of_z {w = w64} {z = c.args.v.x} (sfits_of c.type_inv.v.0.1))
+returns c = c.is_positive.ensures ∙ ap₂ is_positive_of (to_z-of_z {w = w64} {z = c.args.v.y} (search rules)) (to_z-of_z {w = w64} {z = c.args.v.x} (search rules))
