@@ -5,7 +5,7 @@ use Rattle.grow.proofs.grow_point.Goals as goal
 
 pub insert_when_all_vertices_on_line-requires : goal.insert_when_all_vertices_on_line-requires
 insert_when_all_vertices_on_line-requires c =
-    on-line-ready c.requires c.in_default.rest.0.1 c.in_default.rest.1
+    on-line-ready c.requires c.in_default.in_default-own.rest.0.1 c.in_default.in_default-own.rest.1
 
 pub returns-in-0 : goal.returns-in-0
 returns-in-0 c =
@@ -17,5 +17,5 @@ returns-in-1 c =
 
 pub returns-in_default : goal.returns-in_default
 returns-in_default c =
-    let m = c.in_default.rest in
+    let m = c.in_default.in_default-own.rest in
     more-grown _ _ _ _ m.0.1 m.1 c.insert_when_all_vertices_on_line.ensures

@@ -10,18 +10,6 @@ use Rattle.listing_run.proofs.list_seed.Goals as goal
 pub list_lent-requires : goal.list_lent-requires
 list_lent-requires c = points-few c.args.numbers.now c.requires.in_bounds.0 c.requires.in_bounds.1
 
-pub shape_of-positions : goal.shape_of-positions
-shape_of-positions c = c.list_lent.auto.outs ∙ c.store_seed.auto.positions
-
-pub shape_of-outs : goal.shape_of-outs
-shape_of-outs c = c.list_lent.auto.halves ∙ c.store_seed.auto.outs
-
-pub shape_of-halves : goal.shape_of-halves
-shape_of-halves c = c.list_lent.auto.faces ∙ c.store_seed.auto.halves
-
-pub shape_of-faces : goal.shape_of-faces
-shape_of-faces c = c.list_lent.auto.freed ∙ c.store_seed.auto.faces
-
 pub returns : goal.returns
 returns c =
     let e = ap lent_listing (seed-lent c.args.numbers.now _ _ _ _ _ c.store_seed.ensures.0 c.store_seed.ensures.1 c.store_seed.ensures.2 c.store_seed.ensures.3 (record { sfits = c.to_f64-arg-1.given }) (record { sfits = c.to_f64-arg-2-1.given }) c.to_f64-center.ensures.0 c.to_f64-center.ensures.1) in
