@@ -1,3 +1,4 @@
+pub mod CircleSteps
 pub mod CircleHull
 pub mod Edges
 pub mod Falls

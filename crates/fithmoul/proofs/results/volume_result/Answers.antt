@@ -6,9 +6,5 @@ use Rattle.fithmoul.specs.Results.{volume_result}
 use borrow.Author.Rules.{rules}
 use Rattle.fithmoul.proofs.results.volume_result.Goals as goal
 
-pub returns-in-Accepted : goal.returns-in-Accepted
-returns-in-Accepted c =
-    rw (to_z-of_z (search rules)) (sym (ap volume_result c.in-Accepted.is))
-
 pub returns-in-Refused : goal.returns-in-Refused
 returns-in-Refused c = sym (ap volume_result c.in-Refused.is)
