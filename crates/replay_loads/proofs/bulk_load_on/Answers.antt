@@ -75,4 +75,4 @@ pub slice_bounds-point_heights_row-end : goal.slice_bounds-point_heights_row-end
 slice_bounds-point_heights_row-end c = c.requires.coordinates_lent_2.within
 
 pub slice_bounds-fithmoul_bulk_load-end-12 : goal.slice_bounds-fithmoul_bulk_load-end-12
-slice_bounds-fithmoul_bulk_load-end-12 c = of-coordinates c.args.point-heights c.requires.coordinates_lent_2
+slice_bounds-fithmoul_bulk_load-end-12 c = of-coordinates c.args.point_heights c.requires.coordinates_lent_2
