@@ -1,6 +1,7 @@
 -- `complete::prepare` meets its contract. Assumes nothing.
 use borrow.Author.Rules.{rules}
-use borrow.Author.Tests.{not-false}
+use mathlib.Core.Bool.{true}
+use mathlib.Core.Path.{◌≡◌}
 use Rattle.complete.proofs.NearLaws.{grid-ready, prepared}
 use Rattle.complete.proofs.prepare.Goals as goal
 
@@ -23,8 +24,9 @@ pub vertices_grid-requires : goal.vertices_grid-requires
 vertices_grid-requires c = grid-ready c.requires
 
 pub returns : goal.returns
-returns c = (
-  λ t. absurd t,
-  λ t. prepared c.requires c.is_walkable.ensures (not-false _ c.if-not-is_walkable.false-raw),
-  c.is_large_and_settled-settled.ensures,
-)
+returns c =
+    let walks : c.is_walkable.result ≡ true = search rules in (
+      λ t. absurd t,
+      λ t. prepared c.requires c.is_walkable.ensures walks,
+      c.is_large_and_settled-settled.ensures,
+    )
