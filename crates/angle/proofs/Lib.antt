@@ -1,6 +1,4 @@
 -- What the functions' proofs cite beside the laws of specs/.
-pub mod Size
-pub mod Tests
 pub mod Bits
 pub mod Center
 pub mod Grid

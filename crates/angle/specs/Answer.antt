@@ -1,18 +1,11 @@
 -- The angle of a vertex, where it has one. Definitions only.
-use Rattle.std.specs.Prelude.{Bool, true, false, ℤ, Float}
-use Rattle.angle.specs.declared.VertexAngle.{VertexAngle}
-use Rattle.angle.specs.declared.VertexAngle.TheVariants.{AtCenter, Angle}
+use Rattle.std.specs.Prelude.{ℤ, Float, Option, None, Some, IfSome, if◌then◌else◌}
 use Rattle.angle.specs.Angle.{IsAngle, angle_about, at_center}
 
-abbrev pub pick : Bool → VertexAngle → VertexAngle → VertexAngle
-pick true a b = a
-pick false a b = b
-
 -- 01: "A point at the centre has no angle."
-abbrev pub vertex_angle : ℤ → ℤ → Float → Float → VertexAngle
-vertex_angle x y cx cy = pick (at_center x y cx cy) AtCenter (Angle (angle_about x y cx cy))
+abbrev pub vertex_angle : ℤ → ℤ → Float → Float → Option Float
+vertex_angle x y cx cy = if at_center x y cx cy then None else Some (angle_about x y cx cy)
 
 -- the angle that it carries is one
-abbrev pub CarriesAngle : VertexAngle → Type 0
-CarriesAngle AtCenter = Unit
-CarriesAngle (Angle a) = IsAngle a
+abbrev pub CarriesAngle : Option Float → Type 0
+CarriesAngle a = IfSome a IsAngle

@@ -5,33 +5,13 @@
 ghost use Rattle.std.specs.Prelude.{◌≡◌, ◌≤◌, ◌^◌, Bool, not, ℤ, T, ltb, leb, eqb};
 ghost use Rattle.std.specs.Float.Ieee.{of_int, of_bits, to_bits};
 ghost use Rattle.std.specs.Float.{binary64};
-ghost use Rattle.angle.specs.Angle.{absolute_of, pseudo_angle, angle_about, bounded, valid_center, at_center, Apart, IsAngle, turns, valid_angle};
+ghost use Rattle.angle.specs.Angle.{pseudo_angle, angle_about, bounded, valid_center, at_center, Apart, IsAngle, turns, valid_angle};
 ghost use Rattle.angle.specs.Answer.{vertex_angle, CarriesAngle};
 
-#[derive(Clone, Copy)]
+#[derive(Clone, Copy, PartialEq)]
 pub struct Point2 {
     pub x: f64,
     pub y: f64,
-}
-
-// A vertex's angle: a vertex at the centre has none.
-#[derive(Clone, Copy)]
-pub enum VertexAngle {
-    AtCenter,
-    Angle(f64),
-}
-
-// |x|, written by hand: a number has no methods here.
-fn absolute(x: f64) -> f64
-    ensures { result ≡ absolute_of x }
-{
-    if x < 0.0 {
-        return -x;
-    }
-    if x == 0.0 {
-        return 0.0;
-    }
-    x
 }
 
 pub fn pseudo_angle(a: Point2, center: Point2) -> f64
@@ -41,7 +21,7 @@ pub fn pseudo_angle(a: Point2, center: Point2) -> f64
 {
     let x = a.x - center.x;
     let y = a.y - center.y;
-    let p = x / (absolute(x) + absolute(y));
+    let p = x / (x.abs() + y.abs());
     let q = if y > 0.0 { 3.0 - p } else { 1.0 + p };
     1.0 - q * 0.25
 }
@@ -51,8 +31,8 @@ pub fn to_f64(x: i32, y: i32) -> Point2
     ensures { (result.x ≡ of_int binary64 x) × (result.y ≡ of_int binary64 y) }
 {
     Point2 {
-        x: x as f64,
-        y: y as f64,
+        x: f64::from(x),
+        y: f64::from(y),
     }
 }
 
@@ -64,6 +44,7 @@ pub fn is_in_range(x: f64) -> bool
 }
 
 // Whether the centre is finite and in range: the first two parts of refusal 6.
+#[tactic(auto, unfolding(crate::specs::Angle::valid_center))]
 pub fn validate_center(center: Point2) -> bool
     ensures { result ≡ valid_center center.x center.y }
 {
@@ -74,7 +55,7 @@ pub fn validate_center(center: Point2) -> bool
 pub fn is_at_center(x: i32, y: i32, center: Point2) -> bool
     ensures { result ≡ at_center x y center.x center.y }
 {
-    x as f64 == center.x && y as f64 == center.y
+    to_f64(x, y) == center
 }
 
 // The angle of a vertex that is not at the centre.
@@ -86,16 +67,16 @@ pub fn angle_about(x: i32, y: i32, center: Point2) -> f64
     pseudo_angle(to_f64(x, y), center)
 }
 
-// The angle of any vertex.
-pub fn vertex_angle(x: i32, y: i32, center: Point2) -> VertexAngle
+// The angle of any vertex: none for one at the centre.
+pub fn vertex_angle(x: i32, y: i32, center: Point2) -> Option<f64>
     requires { T (valid_center center.x center.y) }
     ensures is { result ≡ vertex_angle x y center.x center.y }
     ensures angle { CarriesAngle result }
 {
     if is_at_center(x, y, center) {
-        return VertexAngle::AtCenter;
+        return None;
     }
-    VertexAngle::Angle(angle_about(x, y, center))
+    Some(angle_about(x, y, center))
 }
 
 // Whether a given angle is one to locate: what refusal 8 lets pass.

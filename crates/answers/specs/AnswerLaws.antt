@@ -1,16 +1,16 @@
 -- Stores into the row of answers, and zeros over a part of it. Assumes nothing.
-use Rattle.std.specs.Prelude.{Bool, ◌&&◌, List, ◌≢◌, ◌≡◌, eqb, leb, length, get_or, set}
+use Rattle.std.specs.Prelude.{Bool, ◌&&◌, List, [], ◌∷◌, ◌++◌, ◌≢◌, ◌≡◌, eqb, leb, length, get_or, take, drop, replicate}
 use Rattle.std.proofs.Math.Bool.{true, false, cond}
 use Rattle.std.proofs.Math.Path.{refl, sym, ap, fun_ext}
-use Rattle.std.proofs.Common.{◌∙◌, add-zero, length-set, get_or-set_same, get_or-set_other}
-use Prim.Native.Nat.{ℕ, zero, suc, ◌+◌, ◌*◌, ◌/◌, ◌%◌, ◌<◌, ◌≤◌}
+use Rattle.std.proofs.Common.{◌∙◌}
+use Rattle.std.proofs.lemmas.List.{length-take-le, length-replicate, get_or-replicate, get_or_append_left, get_or-append_right, get_or-take, get_or-drop, get_or_past}
+use borrow.Rule.Slice.PartMut.{put_mid}
+use Prim.Native.Nat.{ℕ, zero, suc, ◌+◌, ◌-◌, ◌*◌, ◌/◌, ◌%◌, ◌<◌, ◌≤◌}
 use Rattle.std.proofs.Math.Decide.{ℕ_discrete, dec_lt}
 use native.Mathlib.Omega.{arith}
 use borrow.Author.Tests.{eq-eqb, ne_eqb, lt-ltb, le-ltb, le-leb, lt-leb}
 use Rattle.std.proofs.Math.Dec.{ltb}
 use Rattle.dcel.specs.Rows.{row_of}
-use Rattle.sums.specs.Put.{put}
-use Rattle.sums.proofs.PutLaws.{put_same, put_other}
 use Rattle.decide.specs.Decide.{fate_number, fate_vertex}
 use Rattle.sweep.specs.declared.Answer.{Answer}
 use Rattle.sweep.specs.Run.{answer_words, answer_word}
@@ -19,13 +19,30 @@ use Rattle.skipped.specs.Insert.{Inserting, position_fate, position_vertex}
 use Rattle.skipped.specs.Fill.{insert_word}
 use Rattle.answers.specs.AnswerRows.{words_of, with_words, skipped_number, skipped_in, skipped_zero, zeroed_at, Zeroed, SkippedZeroed}
 
-pub store-row : (l : List ℕ) (a v : ℕ) → a < length l → row_of (set l a v) ≡ put (row_of l) a v
-unfolding row_of
-store-row l a v h = fun_ext (λ x. go x (ℕ_discrete x a))
+-- ---- a write to a part of a row
+pub in-part : (l : List ℕ) (a k : ℕ) (ys : List ℕ) → length ys ≡ k → a + k ≤ length l → (x : ℕ)
+    → get_or (put_mid a k l ys) x 0 ≡ cond (leb a x && ltb x (a + k)) (get_or ys (x - a) 0) (get_or l x 0)
+in-part l a k ys n m x = go (dec_lt x a) (dec_lt x (a + k))
   where
-    go : (x : ℕ) → Dec (x ≡ a) → get_or (set l a v) x 0 ≡ put (λ (y : ℕ). get_or l y 0) a v x
-    go x (yes e) = rw e (get_or-set_same l a v 0 h ∙ sym (put_same (λ (y : ℕ). get_or l y 0) a v))
-    go x (no n) = get_or-set_other l a x v 0 n ∙ sym (put_other (λ (y : ℕ). get_or l y 0) a v x n)
+    post : List ℕ
+    post = drop k (drop a l)
+
+    past : a ≤ x → get_or (put_mid a k l ys) x 0 ≡ get_or (ys ++ post) (x - a) 0
+    past p = get_or-append_right (take a l) (ys ++ post) a x 0 (length-take-le a l (omega arith)) p
+
+    go : Dec (x < a) → Dec (x < a + k) → get_or (put_mid a k l ys) x 0 ≡ cond (leb a x && ltb x (a + k)) (get_or ys (x - a) 0) (get_or l x 0)
+    go (yes p) d =
+        let t : length (take a l) ≡ a = length-take-le a l (omega arith) in
+        get_or_append_left (take a l) (ys ++ post) 0 x (omega arith) ∙ get_or-take a l x 0 p ∙ sym (rw (lt-leb a x p) refl)
+    go (no p) (yes q) =
+        let z : a ≤ x = omega arith in
+        past z ∙ get_or_append_left ys post 0 (x - a) (omega arith) ∙ sym (rw (le-leb a x z, lt-ltb x (a + k) q) refl)
+    go (no p) (no q) =
+        let z : a ≤ x = omega arith in
+        let e : a + (k + (x - a - k)) ≡ x = omega arith in
+        past z ∙ get_or-append_right ys post k (x - a) 0 n (omega arith)
+        ∙ get_or-drop k (drop a l) (x - a - k) 0 ∙ get_or-drop a l (k + (x - a - k)) 0 ∙ ap (λ (j : ℕ). get_or l j 0) e
+        ∙ sym (rw (le-leb a x z, le-ltb x (a + k) (omega arith)) refl)
 
 pub short-test : (n k : ℕ) → ltb (n / answer_words) k ≡ ltb n (answer_words * k)
 short-test n k = go (dec_lt n (answer_words * k))
@@ -35,54 +52,38 @@ short-test n k = go (dec_lt n (answer_words * k))
     go (no b) = le-ltb (n / answer_words) k (omega arith) ∙ sym (le-ltb n (answer_words * k) (omega arith))
 
 -- the words of an answer, one after another
-module _ (f : ℕ → ℕ) (i fate vertex faces flips : ℕ) where
-  abbrev puts : ℕ → ℕ
-  puts =
-      put (put (put (put f (answer_words * i) fate) (answer_words * i + 1) vertex) (answer_words * i + 2) faces)
-      (answer_words * i + 3) flips
+word-in : (fate vertex faces flips k : ℕ) → k < answer_words
+    → get_or (fate ∷ vertex ∷ faces ∷ flips ∷ []) k 0 ≡ words_of fate vertex faces flips k
+unfolding words_of
+word-in fate vertex faces flips zero l = refl
+word-in fate vertex faces flips (suc zero) l = refl
+word-in fate vertex faces flips (suc (suc zero)) l = refl
+word-in fate vertex faces flips (suc (suc (suc zero))) l = refl
+word-in fate vertex faces flips (suc (suc (suc (suc k)))) l = absurd (omega arith)
 
-  word_at : (k : ℕ) → k < answer_words → puts (answer_words * i + k) ≡ words_of fate vertex faces flips k
-  unfolding words_of
-  word_at zero l =
-      put_other _ _ flips _ (λ z. omega arith) ∙ put_other _ _ faces _ (λ z. omega arith)
-      ∙ put_other _ _ vertex _ (λ z. omega arith)
-      ∙ ap (put f (answer_words * i) fate) (add-zero (answer_words * i)) ∙ put_same f _ fate
-  word_at (suc zero) l =
-      put_other _ _ flips _ (λ z. omega arith) ∙ put_other _ _ faces _ (λ z. omega arith) ∙ put_same _ _ vertex
-  word_at (suc (suc zero)) l = put_other _ _ flips _ (λ z. omega arith) ∙ put_same _ _ faces
-  word_at (suc (suc (suc zero))) l = put_same _ _ flips
-  word_at (suc (suc (suc (suc k)))) l = absurd (omega arith)
+pub stored-part : (l zs : List ℕ) (i k fate vertex faces flips : ℕ) → answer_words * i + answer_words ≤ length l → k ≡ answer_words
+    → zs ≡ fate ∷ vertex ∷ faces ∷ flips ∷ []
+    → row_of (put_mid (answer_words * i) k l zs) ≡ with_words (row_of l) i (words_of fate vertex faces flips)
+unfolding row_of with_words
+stored-part l zs i k fate vertex faces flips h m d =
+    rw (m, d) (fun_ext (λ x. in-part l (answer_words * i) answer_words ys refl h x ∙ go x (ℕ_discrete (x / answer_words) i)))
+  where
+    ys : List ℕ
+    ys = fate ∷ vertex ∷ faces ∷ flips ∷ []
 
-  words-at : (x : ℕ) → puts x ≡ with_words f i (words_of fate vertex faces flips) x
-  unfolding with_words
-  words-at x = go (ℕ_discrete (x / answer_words) i)
-    where
-      go : Dec (x / answer_words ≡ i)
-          → puts x ≡ cond (eqb (x / answer_words) i) (words_of fate vertex faces flips (x % answer_words)) (f x)
-      go (yes e) =
-          let k : x ≡ answer_words * i + x % answer_words = omega arith in
-          ap puts k ∙ word_at (x % answer_words) (omega arith) ∙ sym (rw (eq-eqb (x / answer_words) i e) refl)
-      go (no n) =
-          put_other _ _ flips x (λ z. n (omega arith)) ∙ put_other _ _ faces x (λ z. n (omega arith))
-          ∙ put_other _ _ vertex x (λ z. n (omega arith)) ∙ put_other f _ fate x (λ z. n (omega arith))
-          ∙ sym (rw (ne_eqb (x / answer_words) i n) refl)
-
-pub stored : (l : List ℕ) (i fate vertex faces flips : ℕ) → answer_words * i + answer_words ≤ length l
-    → row_of (set (set (set (set l (answer_words * i) fate) (answer_words * i + 1) vertex) (answer_words * i + 2) faces)
-    (answer_words * i + 3) flips)
-    ≡ with_words (row_of l) i (words_of fate vertex faces flips)
-stored l i fate vertex faces flips h =
-    let l₁ = set l (answer_words * i) fate in
-    let l₂ = set l₁ (answer_words * i + 1) vertex in
-    let l₃ = set l₂ (answer_words * i + 2) faces in
-    let n₁ : length l₁ ≡ length l = length-set l (answer_words * i) fate in
-    let n₂ : length l₂ ≡ length l₁ = length-set l₁ (answer_words * i + 1) vertex in
-    let n₃ : length l₃ ≡ length l₂ = length-set l₂ (answer_words * i + 2) faces in
-    store-row l₃ (answer_words * i + 3) flips (omega arith)
-    ∙ ap (λ (f : ℕ → ℕ). put f (answer_words * i + 3) flips) (store-row l₂ (answer_words * i + 2) faces (omega arith)
-    ∙ ap (λ (f : ℕ → ℕ). put f (answer_words * i + 2) faces) (store-row l₁ (answer_words * i + 1) vertex (omega arith)
-    ∙ ap (λ (f : ℕ → ℕ). put f (answer_words * i + 1) vertex) (store-row l (answer_words * i) fate (omega arith))))
-    ∙ fun_ext (words-at (row_of l) i fate vertex faces flips)
+    go : (x : ℕ) → Dec (x / answer_words ≡ i)
+        → cond (leb (answer_words * i) x && ltb x (answer_words * i + answer_words)) (get_or ys (x - answer_words * i) 0) (get_or l x 0)
+        ≡ cond (eqb (x / answer_words) i) (words_of fate vertex faces flips (x % answer_words)) (get_or l x 0)
+    go x (yes e) =
+        let k : x - answer_words * i ≡ x % answer_words = omega arith in
+        rw (le-leb (answer_words * i) x (omega arith), lt-ltb x (answer_words * i + answer_words) (omega arith), eq-eqb (x / answer_words) i e)
+        (ap (λ (j : ℕ). get_or ys j 0) k ∙ word-in fate vertex faces flips (x % answer_words) (omega arith))
+    go x (no n) = rw (ne_eqb (x / answer_words) i n) (out (dec_lt x (answer_words * i)))
+      where
+        out : Dec (x < answer_words * i)
+            → cond (leb (answer_words * i) x && ltb x (answer_words * i + answer_words)) (get_or ys (x - answer_words * i) 0) (get_or l x 0) ≡ get_or l x 0
+        out (yes b) = rw (lt-leb (answer_words * i) x b) refl
+        out (no b) = rw (le-leb (answer_words * i) x (omega arith), le-ltb x (answer_words * i + answer_words) (omega arith)) refl
 
 -- the four words of a step's answer, and of an insertion's
 pub answer-words : (r : Answer) (k : ℕ) → answer_word r k ≡ words_of (fate_number r.fate) (fate_vertex r.fate) r.faces r.flips k
@@ -105,12 +106,24 @@ unfolding with_words
 with_words-ext row i f g e x = rw (e (x % answer_words)) refl
 
 -- ---- zeros
-pub record Zeroing (row row' : List ℕ) (from to x : ℕ) : Type 0 where
-  pub each : (y : ℕ) → row_of row' y ≡ cond (leb from y && ltb y x) 0 (row_of row y)
-  pub low : from ≤ x
-  pub high : x ≤ to
-  pub room : to ≤ length row
-  pub same : length row' ≡ length row
+zero-at : (n k : ℕ) → get_or (replicate n zero) k zero ≡ zero
+zero-at n k = go (dec_lt k n)
+  where
+    go : Dec (k < n) → get_or (replicate n zero) k zero ≡ zero
+    go (yes b) = get_or-replicate n k zero zero b
+    go (no b) = let e = length-replicate n zero in get_or_past (replicate n zero) k zero (omega arith)
+
+pub zeroed : (l zs : List ℕ) (from to : ℕ) → from ≤ to → to ≤ length l → zs ≡ replicate (to - from) zero
+    → Zeroed l (put_mid from (to - from) l zs) from to
+unfolding row_of
+zeroed l zs from to p q e = record {
+  each = λ x.
+      in-part l from (to - from) zs (ap length e ∙ length-replicate (to - from) zero) (omega arith) x
+      ∙ rw (e, zero-at (to - from) (x - from), end) refl;
+}
+  where
+    end : from + (to - from) ≡ to
+    end = omega arith
 
 none : (from y : ℕ) → (leb from y && ltb y from) ≡ false
 none from y = go (dec_lt y from)
@@ -118,33 +131,6 @@ none from y = go (dec_lt y from)
     go : Dec (y < from) → (leb from y && ltb y from) ≡ false
     go (yes b) = rw (lt-leb from y b) refl
     go (no b) = let z : from ≤ y = omega arith in rw (le-leb from y z, le-ltb y from z) refl
-
-pub zeroing-starts : (row : List ℕ) {from to : ℕ} → from ≤ to → to ≤ length row → Zeroing row row from to from
-zeroing-starts row {from} l m = record { each = λ y. rw (none from y) refl; low = omega arith; high = l; room = m; same = refl }
-
-module _ {row row' : List ℕ} {from to x : ℕ} (Z : Zeroing row row' from to x) where
-  pub zeroing-on : x < to → Zeroing row (set row' x 0) from to (x + 1)
-  zeroing-on l = record {
-    each = λ y. ap (λ (f : ℕ → ℕ). f y) (store-row row' x 0 (let a = Z.room in let b = Z.same in omega arith)) ∙ at y (ℕ_discrete y x);
-    low = let a = Z.low in omega arith;
-    high = omega arith;
-    room = Z.room;
-    same = length-set row' x 0 ∙ Z.same;
-  }
-    where
-      later : (y : ℕ) → y ≢ x → ltb y (x + 1) ≡ ltb y x
-      later y d = go (dec_lt y x)
-        where
-          go : Dec (y < x) → ltb y (x + 1) ≡ ltb y x
-          go (yes b) = lt-ltb y (x + 1) (omega arith) ∙ sym (lt-ltb y x b)
-          go (no b) = le-ltb y (x + 1) (omega arith) ∙ sym (le-ltb y x (omega arith))
-
-      at : (y : ℕ) → Dec (y ≡ x) → put (row_of row') x 0 y ≡ cond (leb from y && ltb y (x + 1)) 0 (row_of row y)
-      at y (yes e) = rw e (put_same (row_of row') x 0 ∙ sym (rw (le-leb from x Z.low, lt-ltb x (x + 1) (omega arith)) refl))
-      at y (no d) = put_other (row_of row') x 0 y d ∙ Z.each y ∙ rw (later y d) refl
-
-  pub zeroing-end : to ≤ x → Zeroed row row' from to
-  zeroing-end l = let z : x ≡ to = (let h = Z.high in omega arith) in record { each = λ y. Z.each y ∙ rw z refl }
 
 -- ---- zeros for skipped points
 zero-words : (k : ℕ) → words_of 0 0 0 0 k ≡ 0

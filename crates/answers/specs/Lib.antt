@@ -1,2 +1,3 @@
 pub mod AnswerRows
 pub mod AnswerLaws
+pub mod StoreLaws

@@ -22,10 +22,7 @@ pub fn store_words(answers: &mut [u64], i: u32, fate: u64, vertex: u64, faces: u
     ensures { row_of answers.new ≡ with_words (row_of answers.old) i (words_of fate vertex faces flips) }
 {
     let at = ANSWER_WORDS * (i as usize);
-    answers[at] = fate;
-    answers[at + 1] = vertex;
-    answers[at + 2] = faces;
-    answers[at + 3] = flips;
+    answers[at..at + ANSWER_WORDS].copy_from_slice(&[fate, vertex, faces, flips]);
 }
 
 // Zeros for the points from `from` up to `to`.
@@ -33,12 +30,9 @@ pub fn zero_answers(answers: &mut [u64], from: u32, to: u32)
     requires { (from ≤ to) × (answer_words * to ≤ length answers.old) }
     ensures { Zeroed answers.old answers.new (answer_words * from) (answer_words * to) }
 {
+    let start = ANSWER_WORDS * (from as usize);
     let end = ANSWER_WORDS * (to as usize);
-    let mut x = ANSWER_WORDS * (from as usize);
-    while x < end {
-        answers[x] = 0;
-        x += 1;
-    }
+    answers[start..end].fill(0);
 }
 
 // Whether point i was skipped: its fate is 3, 4 or 5.
@@ -55,10 +49,9 @@ fn zero_if_skipped(answers: &mut [u64], i: u32)
     requires { answer_words * i + answer_words ≤ length answers.old }
     ensures { row_of answers.new ≡ zeroed_at (row_of answers.old) i }
 {
-    if !is_skipped(answers, i) {
-        return;
+    if is_skipped(answers, i) {
+        store_words(answers, i, 0, 0, 0, 0);
     }
-    store_words(answers, i, 0, 0, 0, 0);
 }
 
 // Zeros for those of the points from `from` up to `to` that were skipped.
@@ -66,9 +59,7 @@ pub fn zero_skipped(answers: &mut [u64], from: u32, to: u32)
     requires { (from ≤ to) × (answer_words * to ≤ length answers.old) }
     ensures { SkippedZeroed answers.old answers.new from to }
 {
-    let mut i = from;
-    while i < to {
+    for i in from..to {
         zero_if_skipped(answers, i);
-        i += 1;
     }
 }

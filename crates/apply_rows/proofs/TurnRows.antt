@@ -1,13 +1,13 @@
 -- What a turn needs of the rows, and what it leaves. Assumes nothing.
 use mathlib.Core.List.{List}
-use mathlib.Core.Path.{◌≡◌, refl, sym, ◌∙◌, ap}
-use Prim.Native.Nat.{ℕ, ◌+◌, ◌*◌, ◌/◌, ◌^◌, ◌<◌, ◌≤◌}
+use mathlib.Core.Path.{◌≡◌, refl, ◌∙◌, ap}
+use Prim.Native.Nat.{ℕ, ◌+◌, ◌*◌, ◌/◌, ◌^◌, ◌<◌}
 use native.Mathlib.Omega.{arith}
 use lib.IntN.{ℤ}
 use lib.ListN.{length}
 use Rattle.circle_test.specs.GoodRows.{held}
 use Rattle.corner.specs.declared.Extension.{Extension}
-use Rattle.corner.specs.Corner.{Extended, close_corner}
+use Rattle.corner.specs.Corner.{close_corner}
 use Rattle.corner.specs.CornerRows.{extended_of, CloseReady}
 use Rattle.dcel.specs.Rows.{halves_of, links_of, position_of, There}
 use Rattle.dcel.specs.MeshHeld.{there, prev-in, next-in}

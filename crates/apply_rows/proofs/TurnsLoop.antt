@@ -1,10 +1,9 @@
 -- The loop of so many turns: to go on from here is to go on from the start. Assumes nothing.
-use mathlib.Core.Bool.{Bool, true, false, not, cond, ◌||◌}
+use mathlib.Core.Bool.{true, false}
 use mathlib.Core.List.{List}
 use mathlib.Core.Path.{◌≡◌, refl, sym, ◌∙◌, ap, subst⁻¹}
-use Prim.Native.Nat.{ℕ, zero, suc, ◌+◌, ◌-◌, ◌<◌, ◌≤◌}
+use Prim.Native.Nat.{ℕ, zero, suc, ◌-◌, ◌<◌}
 use native.Mathlib.Omega.{arith}
-use lib.Dec.{eqb, eqb→eq}
 use lib.IntN.{ℤ}
 use lib.ListN.{length}
 use Rattle.corner.specs.CornerLaws.{none, then}
@@ -14,7 +13,6 @@ use Rattle.dcel.specs.Rows.{position_of}
 use Rattle.math.specs.declared.Point.{Point}
 use Rattle.mesh.specs.Mesh.{In}
 use Rattle.ring.proofs.CoveredLaws.{p-in}
-use Rattle.sums.proofs.BitLaws.{from-true, ne_test}
 use Rattle.ring.specs.declared.Side.{Side}
 use Rattle.ring.specs.declared.Side.TheVariants.{Left, Right}
 use Rattle.apply.specs.declared.Walked.{Walked}
@@ -22,7 +20,6 @@ use Rattle.apply.specs.Apply.{Walking, walk_turn_of, walk_turns}
 use Rattle.apply.specs.ApplyRows.{walking_of, TurnReady, TurnsReady}
 use Rattle.apply.specs.Turns.{AlongOn, chain_on, turn_on, turn-closes}
 use Rattle.apply.proofs.TurnsLaws.{turns-full}
-use Rattle.apply.specs.Walks.{Before}
 
 -- one turn of several
 turns_next : (side : Side) (room : ℕ) (p : ℕ → Point) (n : ℕ) (s : Walking) → 0 < n → s.mesh.full ≡ false → walk_turns side room p n s ≡ walk_turns side room p (n - 1) (walk_turn_of side room p s)
@@ -42,18 +39,6 @@ pub record TurningAt (side : Side) (q : List ℤ) (o₀ h₀ a₀ row₀ : List 
 pub turning-starts : {side : Side} {q : List ℤ} {o h a row : List ℕ} {w : Walked} {count : ℕ} → TurnsReady side q o h a row w count → TurningAt side q o h a row w count o h a row w count
 turning-starts R = record { ready = R; lengths = same_refl; same = refl }
 
--- the test that the loop makes
-ended : (full : Bool) (left : ℕ) {r : Bool} → r ≡ (full || eqb left 0) → not r ≡ false → (full ≡ false → left ≡ 0)
-ended full left {r = true} e n f = eqb→eq left 0 (from-true {t = eqb left 0} (sym (e ∙ ap (λ (b : Bool). b || eqb left 0) f)))
-ended full left {r = false} e n f = absurd (let z : ◌≡◌ {A = ℕ} 0 1 = cc in omega arith)
-
-going : (full : Bool) (left : ℕ) {r : Bool} → r ≡ (full || eqb left 0) → not r ≡ true → (full ≡ false) × (0 < left)
-going true left {r = true} e n = absurd (let z : ◌≡◌ {A = ℕ} 0 1 = cc in omega arith)
-going true left {r = false} e n = absurd (let z : ◌≡◌ {A = ℕ} 0 1 = cc in omega arith)
-going false zero {r = true} e n = absurd (let z : ◌≡◌ {A = ℕ} 0 1 = cc in omega arith)
-going false zero {r = false} e n = absurd (let z : ◌≡◌ {A = ℕ} 0 1 = cc in omega arith)
-going false (suc k) e n = (refl, omega arith)
-
 -- the current edge is in use
 current-in : {side : Side} {q : List ℤ} {o h a row : List ℕ} {w : Walked} {left : ℕ} → TurnsReady side q o h a row w left → In w.added.counts w.edge
 unfolding extended_of
@@ -63,12 +48,8 @@ current-in {side} {q} {o} {h} {a} {row} {w} R = go side R.on
     go Left A = A.along.covered.in_use
     go Right A = p-in A.along.good.wf A.along.covered
 
-module _ {side : Side} {q : List ℤ} {o₀ h₀ a₀ row₀ : List ℕ} {w₀ : Walked} {count : ℕ} {o h a row : List ℕ} {w : Walked} {left : ℕ} (I : TurningAt side q o₀ h₀ a₀ row₀ w₀ count o h a row w left)
-    {r : Bool} (t : r ≡ (w.added.full || eqb left 0)) where
-  module _ (g : not r ≡ true) where
-    pub turning-some : 0 < left
-    turning-some = (going w.added.full left t g).1
-
+module _ {side : Side} {q : List ℤ} {o₀ h₀ a₀ row₀ : List ℕ} {w₀ : Walked} {count : ℕ} {o h a row : List ℕ} {w : Walked} {left : ℕ} (I : TurningAt side q o₀ h₀ a₀ row₀ w₀ count o h a row w left) where
+  module _ (f : w.added.full ≡ false) (turning-some : 0 < left) where
     more : I.ready.made < chain_on I.ready.before side
     more = let l = I.ready.left in let s = turning-some in omega arith
 
@@ -102,13 +83,13 @@ module _ {side : Side} {q : List ℤ} {o₀ h₀ a₀ row₀ : List ℕ} {w₀ :
           lengths = same-trans I.lengths l;
           same =
               ap (walk_turns side (length row₀) (position_of q) (left - 1)) (x ∙ ap (λ (n : ℕ). walk_turn_of side n (position_of q) (walking_of o h a w)) I.lengths.pending)
-              ∙ sym (turns_next side (length row₀) (position_of q) left (walking_of o h a w) turning-some (going w.added.full left t g).0) ∙ I.same;
+              ∙ sym (turns_next side (length row₀) (position_of q) left (walking_of o h a w) turning-some f) ∙ I.same;
         }
 
-  pub turning-end : not r ≡ false → walking_of o h a w ≡ walk_turns side (length row₀) (position_of q) count (walking_of o₀ h₀ a₀ w₀)
+  -- a flip was refused, or no turn is left
+  pub turning-full : w.added.full ≡ true → walking_of o h a w ≡ walk_turns side (length row₀) (position_of q) count (walking_of o₀ h₀ a₀ w₀)
   unfolding extended_of
-  turning-end g = go w.added.full refl
-    where
-      go : (b : Bool) → w.added.full ≡ b → walking_of o h a w ≡ walk_turns side (length row₀) (position_of q) count (walking_of o₀ h₀ a₀ w₀)
-      go true f = sym (turns-full side (length row₀) (position_of q) left (walking_of o h a w) f) ∙ I.same
-      go false f = sym (turns-none side (length row₀) (position_of q) left (walking_of o h a w) (ended w.added.full left t g f)) ∙ I.same
+  turning-full f = sym (turns-full side (length row₀) (position_of q) left (walking_of o h a w) f) ∙ I.same
+
+  pub turning-end : left ≡ 0 → walking_of o h a w ≡ walk_turns side (length row₀) (position_of q) count (walking_of o₀ h₀ a₀ w₀)
+  turning-end e = sym (turns-none side (length row₀) (position_of q) left (walking_of o h a w) e) ∙ I.same

@@ -7,7 +7,7 @@
 ghost use Rattle.std.specs.Prelude.{◌≡◌, length};
 ghost use Rattle.corner.specs.CornerRows.{extended_of};
 ghost use Rattle.dcel.specs.Rows.{links_of, halves_of, position_of, There};
-ghost use Rattle.apply.specs.Apply.{first_face, walk_turn_of, walk_turns, add_turns};
+ghost use Rattle.apply.specs.Apply.{face_edge, first_face, walk_turn_of, walk_turns, add_turns};
 ghost use Rattle.apply.specs.ApplyRows.{FirstReady, beside_in, TurnReady, TurnsReady, AddReady, walking_of, applied_of};
 
 use apply::{Entered, Walked};
@@ -51,6 +51,16 @@ pub fn beside(halves: &[u32], e: u32, side: Side) -> u32
     }
 }
 
+// The one of the current edge e and the edge d beside it that comes first along the boundary: a face between them is made there.
+pub fn face_edge(side: Side, e: u32, d: u32) -> u32
+    ensures { result ≡ face_edge side e d }
+{
+    match side {
+        Side::Left => d,
+        Side::Right => e,
+    }
+}
+
 // One turn of a loop: the face between the current edge and the one beside it, and both legalized.
 fn turn(
     positions: &[i32],
@@ -69,10 +79,7 @@ fn turn(
     let added = walked.added;
     let e = walked.edge;
     let d = beside(halves, e, side);
-    let at = match side {
-        Side::Left => d,
-        Side::Right => e,
-    };
+    let at = face_edge(side, e, d);
     let new = 2 * added.counts.edges + 1;
     let after = corner::close_corner(
         positions,
@@ -108,10 +115,11 @@ fn walk(
         (walking_of outs.old halves.old faces.old walked) }
 {
     let mut now = walked;
-    let mut left = count;
-    while !corner::walk_ends(now.added.full, left) {
+    for _i in 0..count {
+        if now.added.full {
+            return now;
+        }
         now = turn(positions, outs, halves, faces, pending, side, now);
-        left -= 1;
     }
     now
 }
@@ -149,7 +157,6 @@ pub fn add_vertex(
         },
         left,
     );
-    let between = before.added;
     let after = walk(
         positions,
         outs,
@@ -158,14 +165,13 @@ pub fn add_vertex(
         pending,
         Side::Right,
         Walked {
-            added: between,
+            added: before.added,
             edge: from,
         },
         right,
     );
-    let last = after.added;
     Entered {
-        added: last,
+        added: after.added,
         leftedge: before.edge,
         rightedge: after.edge,
     }

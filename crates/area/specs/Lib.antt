@@ -1,3 +1,5 @@
+pub mod Sided
+pub mod Totalled
 pub mod AreaTotal
 pub mod SideQuery
 pub mod Summable

@@ -15,19 +15,7 @@ ghost use Rattle.area.specs.Summable.{Summable};
 use int128::Int128;
 use math::Point;
 use mesh::Counts;
-use mesh_check::{Checked, Refusal};
-
-#[derive(Clone, Copy)]
-pub enum Totalled {
-    Accepted(Int128),
-    Refused(Refusal),
-}
-
-#[derive(Clone, Copy)]
-pub enum Sided {
-    Accepted(i64),
-    Refused(Refusal),
-}
+use mesh_check::Refusal;
 
 // One doubled area more.
 fn add_area(total: Int128, area: i64) -> Int128
@@ -43,14 +31,11 @@ pub fn sum_areas(positions: &[i32], halves: &[u32], faces: &[u32], counts: Count
     ensures { (o : List ℕ) → result ≡ in_halves
         (area_total counts (links_of o halves.now faces.now) (position_of positions.now)) }
 {
-    let count = counts.faces;
     let mut total = Int128 { high: 0, low: 0 };
-    let mut f: u32 = 1;
-    while f < count {
+    for f in 1..counts.faces {
         let a = dcel::adjacent(faces, f);
         let area = mesh_check_rows::doubled_area_at(positions, halves, a);
         total = add_area(total, area);
-        f += 1;
     }
     total
 }
@@ -63,29 +48,24 @@ pub fn area_total(
     outs: &[u32],
     halves: &[u32],
     faces: &[u32],
-) -> Totalled
+) -> Result<Int128, Refusal>
     ensures { result ≡ area_total_of counts
         (surface_rows (mesh_rows positions.now outs.now halves.now faces.now)
         heights.now) }
 {
-    match heights::check_surface(false, counts, positions, heights, outs, halves, faces) {
-        Checked::Refused(r) => Totalled::Refused(r),
-        Checked::Accepted => Totalled::Accepted(sum_areas(positions, halves, faces, counts)),
-    }
+    heights::check_surface(false, counts, positions, heights, outs, halves, faces)?;
+    Ok(sum_areas(positions, halves, faces, counts))
 }
 
 // Refusal 3, of the point at this place.
-fn outside(place: u32) -> Sided
+fn outside(place: u32) -> Result<i64, Refusal>
     ensures { result ≡ side_refused place }
 {
-    Sided::Refused(Refusal {
-        number: 3,
-        place: place,
-    })
+    Err(Refusal::at(3, place))
 }
 
 // The public call: twice the signed area of the triangle p1 p2 q, positive where q lies left of the line from p1 to p2.
-pub fn side_query(p1: Point, p2: Point, q: Point) -> Sided
+pub fn side_query(p1: Point, p2: Point, q: Point) -> Result<i64, Refusal>
     ensures { result ≡ side_query_of p1 p2 q }
 {
     if !math::validate_vertex(p1) {
@@ -97,5 +77,5 @@ pub fn side_query(p1: Point, p2: Point, q: Point) -> Sided
     if !math::validate_vertex(q) {
         return outside(2);
     }
-    Sided::Accepted(math::side_query(p1, p2, q))
+    Ok(math::side_query(p1, p2, q))
 }

@@ -1,6 +1,6 @@
 -- What asking comes to: the table as its parts meet it, what is accepted, and that the mesh is left alone. That a quote's fate and faces are
 -- those of the step is `CommitLaws` of the crate `commit`. Assumes nothing.
-use Rattle.std.specs.Prelude.{Bool, false, [], ◌∷◌, ℕ, ◌+◌, ℤ, length}
+use Rattle.std.specs.Prelude.{Bool, false, [], ◌∷◌, ℕ, ◌+◌, ℤ, length, Ok, Err}
 use Rattle.std.proofs.Math.Path.{◌≡◌, refl, sym}
 use Rattle.std.proofs.Common.{◌∙◌, arith}
 use Rattle.angle.specs.declared.Point2.{Point2}
@@ -15,8 +15,7 @@ use Rattle.locate.specs.Start.{AcceptedStart}
 use Rattle.locate.proofs.StartLaws.{start-accepts, start-numbered}
 use Rattle.math.specs.declared.Point.{Point}
 use Rattle.mesh.specs.declared.Counts.{Counts}
-use Rattle.mesh_check.specs.declared.Checked.{Checked}
-use Rattle.mesh_check.specs.declared.Checked.TheVariants.{Accepted, Refused}
+use Rattle.mesh_check.specs.Checked.{Checked}
 use Rattle.mesh_check.specs.declared.Refusal.{Refusal}
 use Rattle.mesh_check.specs.Check.{point_count, vertex_count}
 use Rattle.mesh_check.specs.CheckLaws.{NumberedTo}
@@ -26,7 +25,7 @@ use Rattle.quote.specs.Quote.{check_changes, last_change}
 use Rattle.quote.specs.QuoteLaws.{changes-at-end}
 use Rattle.ring_rows.specs.RingRows.{RingRows, ring_zeros}
 use Rattle.start.specs.Start.{point_row}
-use Rattle.ask.specs.declared.Asked.{Asked}
+use Rattle.ask.specs.Asked.{Asked}
 use Rattle.ask.specs.Ask.{quote_of, point_checked, ask_checked, asked_by, asked_with, ask_outcome, ask_of}
 
 -- ---- a number for an added point alone
@@ -51,19 +50,19 @@ module _ (short : Bool) (C : Counts) (s : SurfaceRows) (center : Point2) (v : Po
   abbrev ring : Checked
   ring = check_ring C (links_in s.mesh) (places_in s.mesh) center.x center.y
 
-  pub point-refused : {r : Refusal} → heights_tested (heights_lent (point_row v) (z ∷ []) short false) C s ≡ Refused r
-      → point_checked short C s center v z ≡ Refused r
+  pub point-refused : {r : Refusal} → heights_tested (heights_lent (point_row v) (z ∷ []) short false) C s ≡ Err r
+      → point_checked short C s center v z ≡ Err r
   unfolding point_checked check_start
   point-refused e = own-refused (heights_lent (point_row v) (z ∷ []) short false) C s ring refl e
 
-  pub point-start : heights_tested (heights_lent (point_row v) (z ∷ []) short false) C s ≡ Accepted
+  pub point-start : heights_tested (heights_lent (point_row v) (z ∷ []) short false) C s ≡ Ok tt
       → point_checked short C s center v z ≡ check_start (point_row v) short C s.mesh center
   unfolding point_checked check_start
   point-start e = own-table (heights_lent (point_row v) (z ∷ []) short false) C s ring refl e
 
   -- what is accepted has its heights, a good mesh and a strict ring about the centre
-  pub point-accepts : point_checked short C s center v z ≡ Accepted
-      → (heights_checked (heights_lent (point_row v) (z ∷ []) short false) C s ≡ Accepted) × AcceptedStart (point_row v) C s.mesh center
+  pub point-accepts : point_checked short C s center v z ≡ Ok tt
+      → (heights_checked (heights_lent (point_row v) (z ∷ []) short false) C s ≡ Ok tt) × AcceptedStart (point_row v) C s.mesh center
   unfolding point_checked
   point-accepts e =
       let t = then-accepts (heights_checked (heights_lent (point_row v) (z ∷ []) short false) C s)
@@ -80,25 +79,25 @@ module _ (short : Bool) (C : Counts) (s : SurfaceRows) (center : Point2) (v : Po
 module _ (changes : ℕ) (C : Counts) (s : SurfaceRows) (nodes freed buckets : ℕ) (center : Point2) (v : Point) (z : ℤ) where
   -- with the lengths for one vertex more
   pub ask-refused : {short : Bool} {r : Refusal} → short ≡ ring_rows_short (C.vertices + 1) nodes freed buckets
-      → point_checked short C s center v z ≡ Refused r → ask_checked changes C s nodes freed buckets center v z ≡ Refused r
+      → point_checked short C s center v z ≡ Err r → ask_checked changes C s nodes freed buckets center v z ≡ Err r
   unfolding ask_checked vertex_count point_count
   ask-refused e k = then-refused (check_changes changes) (rw e at k)
 
   pub ask-changes : {short : Bool} → short ≡ ring_rows_short (C.vertices + 1) nodes freed buckets
-      → point_checked short C s center v z ≡ Accepted → ask_checked changes C s nodes freed buckets center v z ≡ check_changes changes
+      → point_checked short C s center v z ≡ Ok tt → ask_checked changes C s nodes freed buckets center v z ≡ check_changes changes
   unfolding ask_checked vertex_count point_count
   ask-changes e k = then_next (check_changes changes) (rw e at k)
 
-  pub ask-start : ask_checked changes C s nodes freed buckets center v z ≡ Accepted → AcceptedStart (point_row v) C s.mesh center
+  pub ask-start : ask_checked changes C s nodes freed buckets center v z ≡ Ok tt → AcceptedStart (point_row v) C s.mesh center
   unfolding ask_checked
   ask-start e = (point-accepts _ C s center v z (then-accepts _ (check_changes changes) e).0).1
 
 -- ---- the answer
-pub asked-refused : {c : Checked} {r : Refusal} (q : Quote) → c ≡ Refused r → Asked.Refused r ≡ asked_by c q
+pub asked-refused : {c : Checked} {r : Refusal} (q : Quote) → c ≡ Err r → Err r ≡ asked_by c q
 unfolding asked_by
 asked-refused q e = rw e refl
 
-pub asked-quoted : {c : Checked} {q q' : Quote} → c ≡ Accepted → q ≡ q' → Asked.Quoted q ≡ asked_by c q'
+pub asked-quoted : {c : Checked} {q q' : Quote} → c ≡ Ok tt → q ≡ q' → Ok q ≡ asked_by c q'
 unfolding asked_by
 asked-quoted e k = rw (e, k) refl
 
@@ -110,8 +109,8 @@ unfolding ask_of ask_outcome
 ask-alone changes C s ring center v z = go (ask_checked changes C s _ _ _ center v z) (quote_of changes C s.mesh center v z)
   where
     go : (c : Checked) (q : Quote) → (ask_outcome c q s ring).surface ≡ s
-    go Accepted q = refl
-    go (Refused r) q = refl
+    go (Ok tt) q = refl
+    go (Err r) q = refl
 
 -- by what its parts answer
 module _ (changes : ℕ) (C : Counts) (s : SurfaceRows) (ring : RingRows) (center : Point2) (v : Point) (z : ℤ) {y : Asked}
@@ -120,47 +119,47 @@ module _ (changes : ℕ) (C : Counts) (s : SurfaceRows) (ring : RingRows) (cente
   abbrev checks : Checked
   checks = ask_checked changes C s (length ring.nodes) (length ring.freed) (length ring.buckets) center v z
 
-  pub ask-none : {r : Refusal} → y ≡ Asked.Refused r → asked_with (Asked.Refused r) s ring ≡ ask_of changes C s ring center v z
+  pub ask-none : {r : Refusal} → y ≡ Err r → asked_with (Err r) s ring ≡ ask_of changes C s ring center v z
   unfolding ask_of ask_outcome asked_by
   ask-none {r} e = go checks refl
     where
-      go : (c : Checked) → checks ≡ c → asked_with (Asked.Refused r) s ring ≡ ask_of changes C s ring center v z
-      go Accepted k =
-          let w : Asked.Refused r ≡ Asked.Quoted (quote_of changes C s.mesh center v z) = sym e ∙ is ∙ rw k refl in
+      go : (c : Checked) → checks ≡ c → asked_with (Err r) s ring ≡ ask_of changes C s ring center v z
+      go (Ok tt) k =
+          let w : Err r ≡ Ok (quote_of changes C s.mesh center v z) = sym e ∙ is ∙ rw k refl in
           absurd (let n : ◌≡◌ {A = ℕ} 0 1 = cc in omega arith)
-      go (Refused x) k =
-          let w : Asked.Refused r ≡ Asked.Refused x = sym e ∙ is ∙ rw k refl in
+      go (Err x) k =
+          let w : Err r ≡ Err x = sym e ∙ is ∙ rw k refl in
           rw (k, w) refl
 
-  pub ask-made : {q : Quote} → y ≡ Asked.Quoted q → {ring' : RingRows} → ring' ≡ ring_zeros ring
+  pub ask-made : {q : Quote} → y ≡ Ok q → {ring' : RingRows} → ring' ≡ ring_zeros ring
       → asked_with y s ring' ≡ ask_of changes C s ring center v z
   unfolding ask_of ask_outcome asked_by
   ask-made {q} e {ring'} zeros = go checks refl
     where
       go : (c : Checked) → checks ≡ c → asked_with y s ring' ≡ ask_of changes C s ring center v z
-      go Accepted k = rw (is, k, zeros) refl
-      go (Refused x) k =
-          let w : Asked.Refused x ≡ Asked.Quoted q = sym (is ∙ rw k refl) ∙ e in
+      go (Ok tt) k = rw (is, k, zeros) refl
+      go (Err x) k =
+          let w : Err x ≡ Ok q = sym (is ∙ rw k refl) ∙ e in
           absurd (let n : ◌≡◌ {A = ℕ} 0 1 = cc in omega arith)
 
 -- ---- the quote that is given
 module _ (changes : ℕ) (C : Counts) (s : SurfaceRows) (ring : RingRows) (center : Point2) (v : Point) (z : ℤ) where
   -- it is the one of the mesh, and the count is not at its end
-  pub ask-quoted : (q : Quote) → (ask_of changes C s ring center v z).answer ≡ Asked.Quoted q
-      → (check_changes changes ≡ Accepted) × (q ≡ quote_of changes C s.mesh center v z)
+  pub ask-quoted : (q : Quote) → (ask_of changes C s ring center v z).answer ≡ Ok q
+      → (check_changes changes ≡ Ok tt) × (q ≡ quote_of changes C s.mesh center v z)
   unfolding ask_of ask_outcome ask_checked
   ask-quoted q e = go (ask_checked changes C s (length ring.nodes) (length ring.freed) (length ring.buckets) center v z) refl e
     where
       go : (c : Checked) → ask_checked changes C s (length ring.nodes) (length ring.freed) (length ring.buckets) center v z ≡ c
-          → (ask_outcome c (quote_of changes C s.mesh center v z) s ring).answer ≡ Asked.Quoted q
-          → (check_changes changes ≡ Accepted) × (q ≡ quote_of changes C s.mesh center v z)
-      go Accepted k w = ((then-accepts _ (check_changes changes) k).1, cc)
-      go (Refused x) k w = absurd (let n : ◌≡◌ {A = ℕ} 0 1 = cc in omega arith)
+          → (ask_outcome c (quote_of changes C s.mesh center v z) s ring).answer ≡ Ok q
+          → (check_changes changes ≡ Ok tt) × (q ≡ quote_of changes C s.mesh center v z)
+      go (Ok tt) k w = ((then-accepts _ (check_changes changes) k).1, cc)
+      go (Err x) k w = absurd (let n : ◌≡◌ {A = ℕ} 0 1 = cc in omega arith)
 
   -- 02: "no quote is given there"
   pub ask-end : changes ≡ last_change
       → point_checked (ring_rows_short (C.vertices + 1) (length ring.nodes) (length ring.freed) (length ring.buckets)) C s center v z
-      ≡ Accepted
-      → ask_of changes C s ring center v z ≡ asked_with (Asked.Refused (record { number = 12; place = 0 })) s ring
+      ≡ Ok tt
+      → ask_of changes C s ring center v z ≡ asked_with (Err (record { number = 12; place = 0 })) s ring
   unfolding ask_of ask_outcome ask_checked vertex_count point_count
   ask-end e k = rw (then_next (check_changes changes) k, changes-at-end e) refl

@@ -1,7 +1,7 @@
 -- The call `ask` of 02, Change 5: its refusals, in the order of the table, its answer, and what it leaves in the lent rows. Definitions
 -- only, and each computes; `AskLaws` says what they come to. 02: "Asking gives the fate number and faces of a step's answer and leaves the
 -- mesh alone, on a locate's rows."
-use Rattle.std.specs.Prelude.{Bool, false, [], ◌∷◌, ℕ, ◌+◌, ℤ, length}
+use Rattle.std.specs.Prelude.{Bool, false, [], ◌∷◌, ℕ, ◌+◌, ℤ, length, Ok, Err}
 use Rattle.angle.specs.declared.Point2.{Point2}
 use Rattle.dcel.specs.MeshRows.{MeshRows, links_in, places_in}
 use Rattle.decide.specs.Decide.{Decided, decided, fate_number, if_added}
@@ -9,13 +9,13 @@ use Rattle.heights.specs.Heights.{SurfaceRows, heights_lent, heights_checked}
 use Rattle.locate.specs.Locate.{ring_rows_short, check_start}
 use Rattle.math.specs.declared.Point.{Point}
 use Rattle.mesh.specs.declared.Counts.{Counts}
-use Rattle.mesh_check.specs.declared.Checked.{Checked}
+use Rattle.mesh_check.specs.Checked.{Checked}
 use Rattle.mesh_check.specs.Check.{and_then, vertex_count}
 use Rattle.quote.specs.declared.Quote.{Quote}
 use Rattle.quote.specs.Quote.{check_changes}
 use Rattle.ring_rows.specs.RingRows.{RingRows, ring_zeros}
 use Rattle.start.specs.Start.{point_row}
-use Rattle.ask.specs.declared.Asked.{Asked}
+use Rattle.ask.specs.Asked.{Asked}
 
 -- ---- the quote
 -- the faces of a step's answer: one over the located edge and one over each edge that a walk covers, where the point is added
@@ -43,8 +43,8 @@ ask_checked changes C s nodes freed buckets center v z =
 
 -- ---- the call
 unfoldable pub asked_by : Checked → Quote → Asked
-asked_by (Checked.Refused r) q = Asked.Refused r
-asked_by Checked.Accepted q = Asked.Quoted q
+asked_by (Err r) q = Err r
+asked_by (Ok _) q = Ok q
 
 -- the answer, and what the lent rows hold afterwards
 pub record AskOutcome : Type 0 where
@@ -58,8 +58,8 @@ asked_with r s ring = record { answer = r; surface = s; ring = ring }
 -- "leaves the mesh alone". 01: "All but 9 change nothing lent"; "after every accepted call the ring, freed, bucket and pending rows hold
 -- zeros"
 unfoldable pub ask_outcome : Checked → Quote → SurfaceRows → RingRows → AskOutcome
-ask_outcome (Checked.Refused r) q s ring = asked_with (Asked.Refused r) s ring
-ask_outcome Checked.Accepted q s ring = asked_with (Asked.Quoted q) s (ring_zeros ring)
+ask_outcome (Err r) q s ring = asked_with (Err r) s ring
+ask_outcome (Ok _) q s ring = asked_with (Ok q) s (ring_zeros ring)
 
 unfoldable pub ask_of : ℕ → Counts → SurfaceRows → RingRows → Point2 → Point → ℤ → AskOutcome
 ask_of changes C s ring center v z =

@@ -5,8 +5,7 @@ use Prim.Native.Nat.{ℕ, ◌-◌, ◌*◌}
 use lib.IntN.{ℤ}
 use lib.Ieee.{Float}
 use Rattle.angle.specs.declared.Point2.{Point2}
-use Rattle.angle.specs.declared.VertexAngle.{VertexAngle}
-use Rattle.angle.specs.declared.VertexAngle.TheVariants.{Angle}
+use Rattle.std.specs.Prelude.{Option, Some}
 use Rattle.angle.specs.Angle.{IsAngle, turns}
 use Rattle.angle.specs.Answer.{vertex_angle}
 use Rattle.dcel.specs.MeshRows.{mesh_rows, links_in, places_in}
@@ -24,8 +23,8 @@ use Rattle.start.specs.Start.{point_row}
 use Rattle.ask.specs.AskRows.{edge_holding, ToQuote}
 use Rattle.ask.proofs.AskRowsLaws.{held-located, quote-located, quote-ends}
 
-module _ (v : Point) (center : Point2) {r : VertexAngle} {x y : ℤ} (is : r ≡ vertex_angle x y center.x center.y)
-    (x-is : x ≡ v.x) (y-is : y ≡ v.y) {g : Float} (z : r ≡ Angle g) (A : IsAngle g) {C : Counts} {q : List ℤ} {h a : List ℕ}
+module _ (v : Point) (center : Point2) {r : Option Float} {x y : ℤ} (is : r ≡ vertex_angle x y center.x center.y)
+    (x-is : x ≡ v.x) (y-is : y ≡ v.y) {g : Float} (z : r ≡ Some g) (A : IsAngle g) {C : Counts} {q : List ℤ} {h a : List ℕ}
     {start size e : ℕ} (s : start ≡ row_of a 0) (n : size ≡ 2 * C.edges - 3 * (C.faces - 1))
     (found : e ≡ edge_holding q h center.x center.y start size (turns g)) where
   located : {o : List ℕ} → AcceptedStart (point_row v) C (mesh_rows q o h a) center

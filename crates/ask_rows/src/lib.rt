@@ -16,12 +16,11 @@ ghost use Rattle.start.specs.Start.{point_row};
 ghost use Rattle.ask.specs.Ask.{faces_of, quote_from, quote_of, point_checked, ask_checked, asked_by};
 ghost use Rattle.ask.specs.AskRows.{edge_holding, decided_of, ToQuote};
 
-use angle::{Point2, VertexAngle};
-use ask::Asked;
+use angle::Point2;
 use decide::{Decision, Fate};
 use math::Point;
 use mesh::Counts;
-use mesh_check::Checked;
+use mesh_check::Refusal;
 use quote::Quote;
 use segment::Segment;
 
@@ -30,11 +29,7 @@ fn holds(from: f64, to: f64, angle: f64) -> bool
     requires { IsAngle from × IsAngle to × IsAngle angle }
     ensures { result ≡ holds (turns angle) (turns from) (turns to) }
 {
-    if angle::equal(from, to) {
-        return false;
-    }
-    let segment = Segment::new(from, to);
-    segment.contains_angle(angle)
+    !angle::equal(from, to) && Segment::new(from, to).contains_angle(angle)
 }
 
 // The first edge whose segment holds an angle, of the boundary of `size` half-edges from `start` on.
@@ -51,8 +46,7 @@ fn located_edge(
 {
     let mut e = start;
     let mut from = hull::angle_at(positions, halves, start, center);
-    let mut k: u32 = 0;
-    while k < size {
+    for _ in 0..size {
         let next = dcel::next(halves, e);
         let to = hull::angle_at(positions, halves, next, center);
         if holds(from, to, angle) {
@@ -60,7 +54,6 @@ fn located_edge(
         }
         e = next;
         from = to;
-        k += 1;
     }
     e
 }
@@ -81,7 +74,7 @@ fn decide_now(
         Decides counts (links_in m) (places_in m) center.x center.y point
         (decided center.x center.y counts (links_in m) (places_in m) point) result) }
 {
-    let VertexAngle::Angle(angle) = angle::vertex_angle(point.x, point.y, center) else {
+    let Some(angle) = angle::vertex_angle(point.x, point.y, center) else {
         return decide::leave(Fate::AtCenter);
     };
     let start = dcel::adjacent(faces, 0);
@@ -105,27 +98,26 @@ fn decide_now(
 }
 
 // The faces of a step's answer.
+#[tactic(auto, unfolding(ask::specs::Ask::faces_of, decide::specs::Decide::if_added))]
 fn faces_of(decision: Decision) -> u64
     ensures { result ≡ faces_of (decided_of decision) }
 {
-    let fate = decision.fate;
-    if decide::fate_number(fate) != 1 {
-        return 0;
+    match decision.fate {
+        Fate::Added(_) => u64::from(decision.left) + 1 + u64::from(decision.right),
+        _ => 0,
     }
-    (decision.left as u64) + 1 + (decision.right as u64)
 }
 
 // A decision as a quote.
 fn quoted(changes: u32, point: Point, z: i32, decision: Decision) -> Quote
     ensures { result ≡ quote_from changes point z (decided_of decision) }
 {
-    let fate = decision.fate;
     Quote {
-        changes: changes,
+        changes,
         x: point.x,
         y: point.y,
-        z: z,
-        fate: decide::fate_number(fate),
+        z,
+        fate: decide::fate_number(decision.fate),
         faces: faces_of(decision),
     }
 }
@@ -162,21 +154,17 @@ pub fn check_point(
     center: Point2,
     point: Point,
     z: i32,
-) -> Checked
+) -> Result<(), Refusal>
     ensures { result ≡ point_checked short counts (surface_rows
         (mesh_rows positions.now outs.now halves.now faces.now) heights.now)
         center point z }
 {
     let row = [point.x, point.y];
     let height = [z];
-    match heights::check_heights(
+    heights::check_heights(
         &row, &height, short, false, counts, positions, heights, outs, halves, faces,
-    ) {
-        Checked::Refused(r) => Checked::Refused(r),
-        Checked::Accepted => locate::check_start(
-            &row, short, counts, positions, outs, halves, faces, center,
-        ),
-    }
+    )?;
+    locate::check_start(&row, short, counts, positions, outs, halves, faces, center)
 }
 
 // All rows of the table for asking. The rows of the ring are given by their lengths, which are those for one vertex more.
@@ -194,18 +182,16 @@ fn check_ask(
     center: Point2,
     point: Point,
     z: i32,
-) -> Checked
+) -> Result<(), Refusal>
     ensures { result ≡ ask_checked changes counts (surface_rows
         (mesh_rows positions.now outs.now halves.now faces.now) heights.now)
         nodes freed buckets center point z }
 {
     let short = locate::ring_rows_short((counts.vertices as usize) + 1, nodes, freed, buckets);
-    match check_point(
+    check_point(
         short, counts, positions, heights, outs, halves, faces, center, point, z,
-    ) {
-        Checked::Refused(r) => Checked::Refused(r),
-        Checked::Accepted => quote::check_changes(changes),
-    }
+    )?;
+    quote::check_changes(changes)
 }
 
 // The call but for the ring's rows, which are given by their lengths: the caller clears them where a quote is given.
@@ -223,18 +209,14 @@ pub fn ask(
     center: Point2,
     point: Point,
     z: i32,
-) -> Asked
+) -> Result<Quote, Refusal>
     ensures { let s = surface_rows
         (mesh_rows positions.now outs.now halves.now faces.now) heights.now in
         result ≡ asked_by (ask_checked changes counts s nodes freed buckets center point z) (quote_of changes counts s.mesh center point z) }
 {
-    match check_ask(
+    check_ask(
         changes, counts, positions, heights, outs, halves, faces, nodes, freed, buckets, center,
         point, z,
-    ) {
-        Checked::Refused(r) => Asked::Refused(r),
-        Checked::Accepted => Asked::Quoted(quote_now(
-            changes, counts, positions, halves, faces, center, point, z,
-        )),
-    }
+    )?;
+    Ok(quote_now(changes, counts, positions, halves, faces, center, point, z))
 }

@@ -1,6 +1,6 @@
 -- The list ends while the seed grows and there is a triangle: the finish meets demand 3 with an empty seed. Stated of any outcome B whose
 -- answers are the seed's and whose mesh is the finish's. Assumes nothing but `SeedRows`.
-use Rattle.std.specs.Prelude.{Bool, true, false, ◌⊎◌, refl, ℕ, ◌+◌, ◌<◌, ◌≤◌, ◌-ℤ◌, length, ◌≤ℤ◌}
+use Rattle.std.specs.Prelude.{Bool, true, false, ◌⊎◌, refl, ℕ, ◌+◌, ◌<◌, ◌≤◌, ◌-ℤ◌, length, ◌≤ℤ◌, Ok}
 use Rattle.std.proofs.Common.{inl, inr, sym, ◌∙◌, subst, arith}
 use Rattle.std.proofs.Math.Path.{◌≡◌, ap, subst⁻¹}
 use Rattle.std.proofs.Math.Dec.{T}
@@ -23,7 +23,7 @@ use Rattle.mesh.specs.Circle.{Settled}
 use Rattle.mesh.proofs.CircleLawsFacts.{settled-far}
 use Rattle.mesh.specs.FlipRun.{FlipRun}
 use Rattle.mesh.specs.Good.{Good}
-use Rattle.mesh_check.specs.declared.Checked.{Checked}
+use Rattle.mesh_check.specs.Checked.{Checked}
 use Rattle.sums.specs.Bit.{bit}
 use Rattle.sweep.specs.Demand3.{fate_of, vertex_of, is_entered, Demand3From}
 use Rattle.sweep.specs.Run.{RunOutcome}
@@ -34,7 +34,7 @@ use Rattle.bulk_load.specs.Rest.{SeedRows}
 use Rattle.bulk_load.proofs.SweptLaws as swept
 use Rattle.bulk_load.proofs.SweptLaws.{SeedAnswers}
 
-module _ (l : BulkLoadLent) (e : bulk_load_checked l ≡ Checked.Accepted) (S : SeedRows l) (r : (seeded l).ready ≡ false)
+module _ (l : BulkLoadLent) (e : bulk_load_checked l ≡ Ok tt) (S : SeedRows l) (r : (seeded l).ready ≡ false)
     (f : (seeded l).growing.mesh.full ≡ false) where
   -- every point was taken
   pub all-taken : (seeded l).answered ≡ count l

@@ -1,5 +1,5 @@
 -- The answers of a bulk load by the words of its points: those of the seed, and then the run's. Assumes nothing but `SeedRows`.
-use Rattle.std.specs.Prelude.{Bool, true, false, List, ◌≡◌, length, drop}
+use Rattle.std.specs.Prelude.{Bool, true, false, List, ◌≡◌, length, drop, Ok}
 use Rattle.std.proofs.Math.Path.{refl, ap}
 use Rattle.std.proofs.Common.{sym, ◌∙◌}
 use Prim.Native.Nat.{ℕ, ◌+◌, ◌-◌, ◌*◌, ◌/◌, ◌%◌, ◌<◌, ◌≤◌}
@@ -12,7 +12,7 @@ use Rattle.dcel.specs.Views.{length_from, lengths-from}
 use Rattle.line.specs.Grow.{Growing}
 use Rattle.math.specs.declared.Point.{Point}
 use Rattle.mesh.specs.Mesh.{Links}
-use Rattle.mesh_check.specs.declared.Checked.{Checked}
+use Rattle.mesh_check.specs.Checked.{Checked}
 use Rattle.sweep.specs.Run.{RunOutcome, answer_words, answer_in, run_answers, run_of}
 use Rattle.sweep.proofs.RunAnswers.{answer_at}
 use Rattle.sweep.proofs.RunLaws.{run_is}
@@ -28,7 +28,7 @@ rows-again m L L' p p' =
     let s = lengths-from m L p in
     rw (s.positions, s.outs, s.halves, s.faces) refl
 
-module _ (l : BulkLoadLent) (e : bulk_load_checked l ≡ Checked.Accepted) where
+module _ (l : BulkLoadLent) (e : bulk_load_checked l ≡ Ok tt) where
   abbrev k : ℕ
   k = (seeded l).answered
 

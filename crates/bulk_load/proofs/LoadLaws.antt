@@ -1,6 +1,6 @@
 -- THE THEOREM of a bulk load, for every list of points: a finished mesh meets demand 3 with an empty seed and carries the points' heights,
 -- and a line of points has its vertices in order. Assumes nothing.
-use Rattle.std.specs.Prelude.{Bool, cond, List, ◌⊎◌, ℕ, ◌+◌, ◌-◌, ◌*◌, ◌<◌, ◌≤◌, T, ltb, eqb, length}
+use Rattle.std.specs.Prelude.{Bool, cond, List, ◌⊎◌, ℕ, ◌+◌, ◌-◌, ◌*◌, ◌<◌, ◌≤◌, T, ltb, eqb, length, Ok, Err}
 use Rattle.std.proofs.Math.Bool.{true, false}
 use Rattle.std.proofs.lemmas.Bool.{false≢true}
 use Rattle.std.proofs.Common.{inl, inr, ◌∙◌, subst}
@@ -13,7 +13,7 @@ use Rattle.corner.specs.Untouched.{rows_back, positions-back}
 use Rattle.dcel.specs.MeshRows.{links_in, places_in, mesh_rows_from}
 use Rattle.dcel.specs.Rows.{position_of, row_from_of}
 use Rattle.finish.specs.declared.FinishAnswer.{FinishAnswer}
-use Rattle.finish.specs.declared.Finished.{Finished}
+use Rattle.finish.specs.Finished.{Finished}
 use Rattle.finish.specs.declared.Totals.{Totals}
 use Rattle.finish.specs.Finish.{Finishing, finish_mesh, totals_from, finished_from}
 use Rattle.line.specs.GrowUntouched.{Fits}
@@ -23,7 +23,7 @@ use Rattle.line.specs.GrowLaws.{Phase}
 use Rattle.math.specs.declared.Point.{Point}
 use Rattle.mesh.specs.declared.Counts.{Counts}
 use Rattle.mesh.specs.Mesh.{Links}
-use Rattle.mesh_check.specs.declared.Checked.{Checked}
+use Rattle.mesh_check.specs.Checked.{Checked}
 use Rattle.mesh_check.specs.declared.Refusal.{Refusal}
 use Rattle.mesh_check.specs.Check.{point_count}
 use Rattle.sums.specs.Bit.{bit}
@@ -50,23 +50,23 @@ counts-are : (C : Counts) {a b d : ℕ} → C.vertices ≡ a → C.edges ≡ b �
 counts-are C x y z = rw (← x, ← y, ← z) refl
 
 -- an answer with no refusal number: no flip was refused
-pub finished-totals : (place : ℕ) (z : Finishing) (t : Totals) → finished_from place z ≡ Finished.Accepted t
+pub finished-totals : (place : ℕ) (z : Finishing) (t : Totals) → finished_from place z ≡ Ok t
     → (z.full ≡ false) × (t ≡ totals_from z)
 unfolding finished_from
 finished-totals place z t e = go z.full refl
   where
     go : (b : Bool) → z.full ≡ b → (z.full ≡ false) × (t ≡ totals_from z)
     go true f =
-        let x : Finished.Refused (record { number = 9; place = place }) ≡ Finished.Accepted t = sym (rw f refl) ∙ e in
+        let x : Err (record { number = 9; place = place }) ≡ Ok t = sym (rw f refl) ∙ e in
         absurd (let w : ◌≡◌ {A = ℕ} 0 1 = cc in omega arith)
-    go false f = let x : Finished.Accepted (totals_from z) ≡ Finished.Accepted t = sym (rw f refl) ∙ e in (f, cc)
+    go false f = let x : Ok (totals_from z) ≡ Ok t = sym (rw f refl) ∙ e in (f, cc)
 
-pub finished_as : (place place' : ℕ) (z : Finishing) (t : Totals) → finished_from place z ≡ Finished.Accepted t
-    → finished_from place' z ≡ Finished.Accepted t
+pub finished_as : (place place' : ℕ) (z : Finishing) (t : Totals) → finished_from place z ≡ Ok t
+    → finished_from place' z ≡ Ok t
 unfolding finished_from totals_from
-finished_as place place' z t e = let x = finished-totals place z t e in rw x.0 (ap Finished.Accepted (sym x.1))
+finished_as place place' z t e = let x = finished-totals place z t e in rw x.0 (ap Ok (sym x.1))
 
-module _ (l : BulkLoadLent) (e : bulk_load_checked l ≡ Checked.Accepted) where
+module _ (l : BulkLoadLent) (e : bulk_load_checked l ≡ Ok tt) where
   abbrev S : SeedRows l
   S = seed-rows l e
 
@@ -128,18 +128,18 @@ module _ (l : BulkLoadLent) (e : bulk_load_checked l ≡ Checked.Accepted) where
   lined-answers = record { word = λ i w a b. seed-word l e i w a b }
 
   -- ---- demand 3
-  swept-finished : (r : (seeded l).ready ≡ true) (t : Totals) → (loaded_by l (swept l)).answer.finish.finished ≡ Finished.Accepted t
+  swept-finished : (r : (seeded l).ready ≡ true) (t : Totals) → (loaded_by l (swept l)).answer.finish.finished ≡ Ok t
       → Demand3From (empty_seed l) (before_load_closes l) (as_run (loaded_by l (swept l))) t
   unfolding before_load_closes loaded_by swept
   swept-finished r t z =
       let q = run_is (rest_of l) (rest.rest-accepted l e S r) in
       let c = run_completes (rest_of l) in
-      let f : (run_of (rest_of l)).answer.finished ≡ Finished.Accepted t = ap (λ (R : RunOutcome). R.answer.finished) q
+      let f : (run_of (rest_of l)).answer.finished ≡ Ok t = ap (λ (R : RunOutcome). R.answer.finished) q
       ∙ finished_as ((seeded l).answered + c.place) c.place c.mesh t z in
       rw r (swept-demand-3 l e S r (as_run (loaded_by l (swept l))) swept-answers (rest-answers r) t (run-accepted (rest_of l) t f).0)
 
   ended-finished : (seeded l).ready ≡ false → (seeded l).growing.mesh.full ≡ false → 1 < (counts l).faces
-      → (t : Totals) → (loaded_by l (ended l)).answer.finish.finished ≡ Finished.Accepted t
+      → (t : Totals) → (loaded_by l (ended l)).answer.finish.finished ≡ Ok t
       → Demand3From (empty_seed l) (before_load_closes l) (as_run (loaded_by l (ended l))) t
   unfolding before_load_closes loaded_by ended totals_from
   ended-finished r f m t z =
@@ -147,7 +147,7 @@ module _ (l : BulkLoadLent) (e : bulk_load_checked l ≡ Checked.Accepted) where
       rw r (ended-demand-3 l e S r f m (as_run (loaded_by l (ended l))) ended-answers refl refl x.0 t (ap (λ (u : Totals). u.closingflips) x.1))
 
   -- ---- the heights: those that the answers store
-  module _ (w : Loading) (t : Totals) (q : (loaded_by l w).answer.finish.finished ≡ Finished.Accepted t)
+  module _ (w : Loading) (t : Totals) (q : (loaded_by l w).answer.finish.finished ≡ Ok t)
       (D : Numbered (empty_seed l) (as_run (loaded_by l w))) where
     heights-are : (loaded_by l w).heights
         ≡ row_from_of (length l.heights) (answered_heights (loaded_by l w).answers (height_of l.point_heights_of) (height_of l.heights) (count l))
@@ -227,7 +227,7 @@ module _ (l : BulkLoadLent) (e : bulk_load_checked l ≡ Checked.Accepted) where
           met = λ i a x. line-used i a;
         }
 
-    line-accepted : B.answer.finish.finished ≡ Finished.Accepted (record { faces = 0; convexflips = 0; closingflips = 0 })
+    line-accepted : B.answer.finish.finished ≡ Ok (record { faces = 0; convexflips = 0; closingflips = 0 })
     unfolding loaded_by lined
     line-accepted = refl
 
@@ -249,21 +249,21 @@ module _ (l : BulkLoadLent) (e : bulk_load_checked l ≡ Checked.Accepted) where
         }
 
 -- ---- THE THEOREM
-pub refused-not : (l : BulkLoadLent) {x : Refusal} → bulk_load_checked l ≡ Checked.Refused x
-    → ((bulk_load_of l).answer.finish.finished ≡ Finished.Refused x) × ((bulk_load_of l).answer.line ≡ false)
+pub refused-not : (l : BulkLoadLent) {x : Refusal} → bulk_load_checked l ≡ Err x
+    → ((bulk_load_of l).answer.finish.finished ≡ Err x) × ((bulk_load_of l).answer.line ≡ false)
 unfolding bulk_load_of bulk_load_outcome
 refused-not l e = rw e (refl, refl)
 
 -- refused before anything is done
-pub refused-is : (l : BulkLoadLent) {x : Refusal} → bulk_load_checked l ≡ Checked.Refused x
-    → loaded_with (record { finish = record { counts = no_counts; finished = Finished.Refused x }; line = false })
+pub refused-is : (l : BulkLoadLent) {x : Refusal} → bulk_load_checked l ≡ Err x
+    → loaded_with (record { finish = record { counts = no_counts; finished = Err x }; line = false })
     l.mesh l.heights l.ring l.pending l.answers ≡ bulk_load_of l
 unfolding bulk_load_of bulk_load_outcome
 refused-is l e = rw e refl
 
 -- the marks of the four ends
 module _ (l : BulkLoadLent) where
-  stopped-not : (t : Totals) → (loaded_by l (stopped l)).answer.finish.finished ≡ Finished.Accepted t → ⊥
+  stopped-not : (t : Totals) → (loaded_by l (stopped l)).answer.finish.finished ≡ Ok t → ⊥
   unfolding loaded_by stopped
   stopped-not t x = let w : ◌≡◌ {A = ℕ} 0 1 = cc in omega arith
 
@@ -285,10 +285,10 @@ module _ (l : BulkLoadLent) where
 
   -- what is to be shown of each end
   abbrev Means : BulkLoadOutcome → Type 0
-  Means r = ((t : Totals) → r.answer.finish.finished ≡ Finished.Accepted t → r.answer.line ≡ false → LoadFinished l r t)
+  Means r = ((t : Totals) → r.answer.finish.finished ≡ Ok t → r.answer.line ≡ false → LoadFinished l r t)
       × (r.answer.line ≡ true → LineLoaded l r)
 
-  means-by : (e : bulk_load_checked l ≡ Checked.Accepted) → End l e → Means (bulk_load_of l)
+  means-by : (e : bulk_load_checked l ≡ Ok tt) → End l e → Means (bulk_load_of l)
   means-by e (at-flip f q) = subst⁻¹ Means (load_is l e q)
       ((λ t x n. absurd (stopped-not t x)), λ y. absurd (false≢true (sym stopped-mark ∙ y)))
   means-by e (at-start r q) = subst⁻¹ Means (load_is l e q)
@@ -302,10 +302,10 @@ module _ (l : BulkLoadLent) where
   means = go (bulk_load_checked l) refl
     where
       go : (c : Checked) → bulk_load_checked l ≡ c → Means (bulk_load_of l)
-      go Checked.Accepted e = means-by e (end_of l e)
-      go (Checked.Refused x) e =
+      go (Ok tt) e = means-by e (end_of l e)
+      go (Err x) e =
           let R = refused-not l e in (
-            (λ t y n. absurd (let z : Finished.Refused x ≡ Finished.Accepted t = sym R.0 ∙ y in let w : ◌≡◌ {A = ℕ} 0 1 = cc in omega arith)),
+            (λ t y n. absurd (let z : Err x ≡ Ok t = sym R.0 ∙ y in let w : ◌≡◌ {A = ℕ} 0 1 = cc in omega arith)),
             λ y. absurd (false≢true (sym R.1 ∙ y)),
           )
 

@@ -1,11 +1,11 @@
 -- No refusal of a bulk load has the number 0. Assumes nothing.
-use Rattle.std.specs.Prelude.{Bool, true, false, cond, refl, ℕ, ◌<◌}
+use Rattle.std.specs.Prelude.{Bool, true, false, cond, refl, ℕ, ◌<◌, Ok, Err}
 use Rattle.std.proofs.Math.Path.{◌≡◌}
 use Rattle.std.proofs.Common.{sym, ◌∙◌, ap, subst}
 use native.Mathlib.Omega.{arith}
-use Rattle.finish.specs.declared.Finished.{Finished}
+use Rattle.finish.specs.Finished.{Finished}
 use Rattle.finish.specs.Finish.{Finishing, finish_mesh, totals_from, finished_from}
-use Rattle.mesh_check.specs.declared.Checked.{Checked}
+use Rattle.mesh_check.specs.Checked.{Checked}
 use Rattle.mesh_check.specs.declared.Refusal.{Refusal}
 use Rattle.mesh_check.specs.CheckLaws.{NumberedTo}
 use Rattle.mesh_check.proofs.CheckLawsFacts.{numbered-at}
@@ -16,17 +16,17 @@ use Rattle.bulk_load.proofs.LoadLaws.{End, end_of, load_is, refused-not}
 use Rattle.bulk_load.proofs.Numbered.{load-numbered}
 
 -- a finish is refused 9
-nine : (place : ℕ) (z : Finishing) (x : Refusal) → finished_from place z ≡ Finished.Refused x → 0 < x.number
+nine : (place : ℕ) (z : Finishing) (x : Refusal) → finished_from place z ≡ Err x → 0 < x.number
 unfolding finished_from
 nine place z x = go z.full
   where
-    go : (b : Bool) → cond b (Finished.Refused (record { number = 9; place = place })) (Finished.Accepted (totals_from z)) ≡ Finished.Refused x → 0 < x.number
+    go : (b : Bool) → cond b (Err (record { number = 9; place = place })) (Ok (totals_from z)) ≡ Err x → 0 < x.number
     go true e = let w : record { number = 9; place = place } ≡ x = cc in let k = ap (λ (r : Refusal). r.number) w in omega arith
     go false e = absurd (let w : ◌≡◌ {A = ℕ} 0 1 = cc in omega arith)
 
 module _ (l : BulkLoadLent) (x : Refusal) where
   abbrev Named : BulkLoadOutcome → Type 0
-  Named r = r.answer.finish.finished ≡ Finished.Refused x → 0 < x.number
+  Named r = r.answer.finish.finished ≡ Err x → 0 < x.number
 
   stopped_named : Named (loaded_by l (stopped l))
   unfolding loaded_by stopped
@@ -44,18 +44,18 @@ module _ (l : BulkLoadLent) (x : Refusal) where
   unfolding loaded_by lined
   lined-named e = absurd (let w : ◌≡◌ {A = ℕ} 0 1 = cc in omega arith)
 
-  by_end : (e : bulk_load_checked l ≡ Checked.Accepted) → End l e → Named (bulk_load_of l)
+  by_end : (e : bulk_load_checked l ≡ Ok tt) → End l e → Named (bulk_load_of l)
   by_end e (at-flip f q) = subst Named (sym (load_is l e q)) stopped_named
   by_end e (at-start r q) = subst Named (sym (load_is l e q)) swept-named
   by_end e (at-mesh r f m q) = subst Named (sym (load_is l e q)) ended_named
   by_end e (at-line r f m q) = subst Named (sym (load_is l e q)) lined-named
 
-  pub load-named : (bulk_load_of l).answer.finish.finished ≡ Finished.Refused x → 0 < x.number
+  pub load-named : (bulk_load_of l).answer.finish.finished ≡ Err x → 0 < x.number
   load-named = go (bulk_load_checked l) refl (load-numbered l)
     where
       go : (c : Checked) → bulk_load_checked l ≡ c → NumberedTo 10 c → Named (bulk_load_of l)
-      go Checked.Accepted e k = by_end e (end_of l e)
-      go (Checked.Refused y) e k = λ z.
-          let w : Finished.Refused y ≡ Finished.Refused x = sym (refused-not l e).0 ∙ z in
+      go (Ok tt) e k = by_end e (end_of l e)
+      go (Err y) e k = λ z.
+          let w : Err y ≡ Err x = sym (refused-not l e).0 ∙ z in
           let v : y ≡ x = cc in
           subst (λ (r : Refusal). 0 < r.number) v (numbered-at k).0

@@ -1,5 +1,5 @@
 -- Laws of specs/Past.antt.
-use Rattle.std.specs.Prelude.{Bool, cond, ◌||◌, ◌≡◌, length}
+use Rattle.std.specs.Prelude.{Bool, cond, ◌||◌, ◌≡◌, length, Ok}
 use Rattle.std.proofs.Math.Bool.{true, false}
 use Rattle.std.proofs.lemmas.Bool.{false≢true}
 use Rattle.std.proofs.Math.Path.{refl, ap}
@@ -14,7 +14,7 @@ use Rattle.math.specs.declared.Point.{Point}
 use Rattle.math.specs.Determinant.{InRange}
 use Rattle.mesh.specs.declared.Counts.{Counts}
 use Rattle.mesh.specs.Mesh.{Links}
-use Rattle.mesh_check.specs.declared.Checked.{Checked}
+use Rattle.mesh_check.specs.Checked.{Checked}
 use Rattle.bulk_load.specs.OneVertex.{OneZero}
 use Rattle.bulk_load.proofs.OneVertexLaws.{grow-one}
 use Rattle.bulk_load.specs.Seed.{Seeding, seed_start, seeded_by, seed_point, seed_after, grow_at}
@@ -51,7 +51,7 @@ module _ (room : ℕ) (L : Links) (p point : ℕ → Point) where
       go false true r f P = rw (r, f) P
       go false false r f P = rw (r, f) (past_next n (seed-keeps room L p point m range n (omega arith)) (range n (omega arith)) f P)
 
-pub seed-rows : (l : BulkLoadLent) → bulk_load_checked l ≡ Checked.Accepted → SeedRows l
+pub seed-rows : (l : BulkLoadLent) → bulk_load_checked l ≡ Ok tt → SeedRows l
 seed-rows l e =
     let P = past_all (length l.pending) (links_in l.mesh) (places_in l.mesh) (position_of l.points) (count l)
     (accepted l e).range (count l) (omega arith) in

@@ -1,5 +1,5 @@
 -- Laws of specs/Rest.antt.
-use Rattle.std.specs.Prelude.{Bool, true, false, not, ◌&&◌, ◌||◌, ◌≡◌, ℕ, ◌+◌, ◌-◌, ◌*◌, ◌<◌, ◌≤◌, T, ltb, length, drop}
+use Rattle.std.specs.Prelude.{Bool, true, false, not, ◌&&◌, ◌||◌, ◌≡◌, ℕ, ◌+◌, ◌-◌, ◌*◌, ◌<◌, ◌≤◌, T, ltb, length, drop, Ok}
 use Rattle.std.proofs.Math.Path.{refl, subst}
 use Rattle.std.proofs.Common.{sym, ◌∙◌, ap, arith}
 use borrow.Author.Tests.{le-ltb}
@@ -22,7 +22,7 @@ use Rattle.mesh.specs.declared.Counts.{Counts}
 use Rattle.mesh.specs.Mesh.{Links}
 use Rattle.mesh.proofs.CountsLaws.{vertices-least}
 use Rattle.mesh.specs.Good.{Good}
-use Rattle.mesh_check.specs.declared.Checked.{Checked}
+use Rattle.mesh_check.specs.Checked.{Checked}
 use Rattle.mesh_check.specs.Accepted.{MeshSizes, AcceptedWith}
 use Rattle.mesh_check.proofs.AcceptedLaws.{accepts-with}
 use Rattle.mesh_check.specs.Check.{point_count, vertex_count}
@@ -39,7 +39,7 @@ use Rattle.bulk_load.specs.Accepted.{BulkLoadAccepted, load-accepts}
 use Rattle.bulk_load.proofs.RestLaws.{position-rest, count-rest}
 use Rattle.bulk_load.specs.Rest.{SeedRows}
 
-module _ (l : BulkLoadLent) (e : bulk_load_checked l ≡ Checked.Accepted) where
+module _ (l : BulkLoadLent) (e : bulk_load_checked l ≡ Ok tt) where
   pub accepted : BulkLoadAccepted l
   accepted = load-accepts l e
 
@@ -124,7 +124,7 @@ module _ (l : BulkLoadLent) (e : bulk_load_checked l ≡ Checked.Accepted) where
         }
 
     rest-ring : check_ring (rest_of l).counts (links_in (rest_of l).mesh) (places_in (rest_of l).mesh) (rest_of l).center.x (rest_of l).center.y
-        ≡ Checked.Accepted
+        ≡ Ok tt
     unfolding rest_of
     rest-ring = rw (rest-links, rest-places) start.ring
 
@@ -150,6 +150,6 @@ module _ (l : BulkLoadLent) (e : bulk_load_checked l ≡ Checked.Accepted) where
         ) refl
 
     -- THE SWEEP IS A RUN THAT IS ACCEPTED
-    pub rest-accepted : run_checked (rest_of l) ≡ Checked.Accepted
+    pub rest-accepted : run_checked (rest_of l) ≡ Ok tt
     unfolding run_checked sweep_checked check_start
     rest-accepted = then_next _ (accepts-with rest-rows rest-with) ∙ rest-ring

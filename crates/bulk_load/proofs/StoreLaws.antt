@@ -1,5 +1,5 @@
 -- Heights can be stored from the answers of a bulk load: the vertices that they name are in the rows. Assumes nothing.
-use Rattle.std.specs.Prelude.{Bool, true, false, cond, List, ◌⊎◌, ◌≡◌, refl, ℕ, ◌+◌, ◌-◌, ◌*◌, ◌/◌, ◌%◌, ◌<◌, ◌≤◌, T, length}
+use Rattle.std.specs.Prelude.{Bool, true, false, cond, List, ◌⊎◌, ◌≡◌, refl, ℕ, ◌+◌, ◌-◌, ◌*◌, ◌/◌, ◌%◌, ◌<◌, ◌≤◌, T, length, Ok, Err}
 use Rattle.std.proofs.Common.{inl, inr, sym, ◌∙◌, subst, lt-ltb, le-ltb}
 use Rattle.std.proofs.Math.Path.{ap}
 use Rattle.std.proofs.Math.Decide.{dec_lt}
@@ -7,10 +7,10 @@ use native.Mathlib.Omega.{arith}
 use Rattle.dcel.specs.Rows.{row_from_of}
 use Rattle.dcel.specs.Views.{length_from}
 use Rattle.finish.specs.declared.FinishAnswer.{FinishAnswer}
-use Rattle.finish.specs.declared.Finished.{Finished}
+use Rattle.finish.specs.Finished.{Finished}
 use Rattle.finish.specs.Finish.{Finishing, finish_mesh, totals_from, finished_from}
 use Rattle.mesh.specs.declared.Counts.{Counts}
-use Rattle.mesh_check.specs.declared.Checked.{Checked}
+use Rattle.mesh_check.specs.Checked.{Checked}
 use Rattle.mesh_check.specs.Check.{point_count}
 use Rattle.sums.specs.Bit.{bit}
 use Rattle.surface.proofs.RunVertices.{added-used, inserted-used, last-used}
@@ -42,8 +42,8 @@ place-shift : (k n m place : ℕ) (z : Finishing) → k + m ≡ n → place_of n
 unfolding place_of finished_from
 place-shift k n m place z q = go z.full
   where
-    go : (b : Bool) → place_of n (cond b (Finished.Refused (record { number = 9; place = k + place })) (Finished.Accepted (totals_from z))) < n
-        → place_of m (cond b (Finished.Refused (record { number = 9; place = place })) (Finished.Accepted (totals_from z))) < m
+    go : (b : Bool) → place_of n (cond b (Err (record { number = 9; place = k + place })) (Ok (totals_from z))) < n
+        → place_of m (cond b (Err (record { number = 9; place = place })) (Ok (totals_from z))) < m
     go true a = omega arith
     go false a = absurd (omega arith)
 
@@ -51,11 +51,11 @@ place_end : (n : ℕ) (z : Finishing) → place_of n (finished_from n z) < n →
 unfolding place_of finished_from
 place_end n z = go z.full
   where
-    go : (b : Bool) → place_of n (cond b (Finished.Refused (record { number = 9; place = n })) (Finished.Accepted (totals_from z))) < n → ⊥
+    go : (b : Bool) → place_of n (cond b (Err (record { number = 9; place = n })) (Ok (totals_from z))) < n → ⊥
     go true a = omega arith
     go false a = omega arith
 
-module _ (l : BulkLoadLent) (e : bulk_load_checked l ≡ Checked.Accepted) where
+module _ (l : BulkLoadLent) (e : bulk_load_checked l ≡ Ok tt) where
   -- the vertices that the answers name are in use, so below the number of points
   record Named (r : BulkLoadOutcome) : Type 0 where
     added : (i : ℕ) → i < count l → T (is_from 1 1 (fate_word r.answers i)) → vertex_word r.answers i < count l
@@ -143,7 +143,7 @@ module _ (l : BulkLoadLent) (e : bulk_load_checked l ≡ Checked.Accepted) where
             let y = ap (λ (y : ℕ). vertex_word (loaded_by l (swept l)).answers y) w in
             omega arith
 
-    accepted : run_checked (rest_of l) ≡ Checked.Accepted
+    accepted : run_checked (rest_of l) ≡ Ok tt
     accepted = rest.rest-accepted l e (seed-rows l e) q
 
     swept-last : place_of (count l) (loaded_by l (swept l)).answer.finish.finished < count l

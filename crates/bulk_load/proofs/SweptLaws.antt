@@ -1,7 +1,7 @@
 -- The sweep after the seed meets demand 3 with an empty seed: the points that the seed took are numbered in list order, and the run's demand
 -- 3 has the rest. Stated of any outcome B whose answers are those of the seed and then the run's, and whose mesh is the run's.
 -- Assumes nothing but `SeedRows`.
-use Rattle.std.specs.Prelude.{Bool, true, false, ◌||◌, ◌⊎◌, ◌≡◌, refl, T, eqb, length}
+use Rattle.std.specs.Prelude.{Bool, true, false, ◌||◌, ◌⊎◌, ◌≡◌, refl, T, eqb, length, Ok}
 use Rattle.std.proofs.Common.{inl, inr, sym, ◌∙◌, subst, arith}
 use Rattle.std.proofs.Math.Path.{ap, subst⁻¹}
 use Prim.Native.Nat.{ℕ, ◌+◌, ◌-◌, ◌*◌, ◌<◌, ◌≤◌}
@@ -13,7 +13,7 @@ use Rattle.line.specs.Grow.{Growing}
 use Rattle.math.specs.declared.Point.{Point}
 use Rattle.mesh.specs.declared.Counts.{Counts}
 use Rattle.mesh.specs.Mesh.{Links}
-use Rattle.mesh_check.specs.declared.Checked.{Checked}
+use Rattle.mesh_check.specs.Checked.{Checked}
 use Rattle.mesh_check.specs.Check.{point_count}
 use Rattle.sums.specs.Bit.{bit}
 use Rattle.sums.proofs.BitLaws.{or_cases}
@@ -35,7 +35,7 @@ unfolding is_run_fate is_vertex is_entered
 grown-fate (inl e) = rw e (tt, refl, refl)
 grown-fate (inr e) = rw e (tt, refl, refl)
 
-module _ (l : BulkLoadLent) (e : bulk_load_checked l ≡ Checked.Accepted) where
+module _ (l : BulkLoadLent) (e : bulk_load_checked l ≡ Ok tt) where
   abbrev at : ℕ → Growing
   at i = grow_at (length l.pending) (links_in l.mesh) (places_in l.mesh) (position_of l.points) i
 

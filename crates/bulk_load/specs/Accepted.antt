@@ -1,5 +1,5 @@
 -- What the checks of a bulk load accept: so many points, rows that do for them, every point and height in range. Assumes nothing.
-use Rattle.std.specs.Prelude.{Bool, false, ◌||◌, ◌≡◌, ℕ, ◌*◌, ◌<◌, ◌≤◌, length}
+use Rattle.std.specs.Prelude.{Bool, false, ◌||◌, ◌≡◌, ℕ, ◌*◌, ◌<◌, ◌≤◌, length, Ok}
 use borrow.Author.Tests.{ltb-false}
 use Rattle.std.proofs.Math.Dec.{ltb}
 use Rattle.dcel.specs.Rows.{position_of}
@@ -8,7 +8,7 @@ use Rattle.locate.specs.Locate.{ring_rows_short}
 use Rattle.locate.specs.Start.{RingRoom}
 use Rattle.locate.proofs.StartLaws.{ring-room}
 use Rattle.math.specs.Determinant.{InRange}
-use Rattle.mesh_check.specs.declared.Checked.{Checked}
+use Rattle.mesh_check.specs.Checked.{Checked}
 use Rattle.mesh_check.specs.Accepted.{MeshSizes}
 use Rattle.mesh_check.proofs.AcceptedLaws.{not-short-rows, or-false}
 use Rattle.mesh_check.specs.Check.{first_outside, point_count, mesh_short, rows_short}
@@ -69,7 +69,7 @@ module _ (l : BulkLoadLent) where
         range = range;
       }
 
-  pub load-accepts : bulk_load_checked l ≡ Checked.Accepted → BulkLoadAccepted l
+  pub load-accepts : bulk_load_checked l ≡ Ok tt → BulkLoadAccepted l
   unfolding bulk_load_checked
   load-accepts e =
       let a = not-refused (ltb 1000000 n) _ _ e in

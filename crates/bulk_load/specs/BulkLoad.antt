@@ -3,19 +3,19 @@
 -- 02, Change 6: "If the list ends first, the answer is the mesh so far, finished if it has a triangle, else marked as a line of points.";
 -- "the 1,000,000 limit counts all points, and fewer than 3 is no refusal in this call. It needs a run's rows and starts the change count
 -- at 0".
-use Rattle.std.specs.Prelude.{Bool, true, false, cond, ◌||◌, List, ℕ, ◌+◌, ◌-◌, ◌*◌, ◌/◌, ◌%◌, ltb, ℤ, length, replicate, drop}
+use Rattle.std.specs.Prelude.{Bool, true, false, cond, ◌||◌, List, ℕ, ◌+◌, ◌-◌, ◌*◌, ◌/◌, ◌%◌, ltb, ℤ, length, replicate, drop, Ok, Err}
 use Rattle.convexity.specs.Convexity.{convexity}
 use Rattle.dcel.specs.MeshRows.{MeshRows, links_in, places_in, mesh_rows_from}
 use Rattle.dcel.specs.Rows.{position_of, row_of, row_from_of}
 use Rattle.finish.specs.declared.FinishAnswer.{FinishAnswer}
-use Rattle.finish.specs.declared.Finished.{Finished}
+use Rattle.finish.specs.Finished.{Finished}
 use Rattle.finish.specs.Finish.{finish_mesh, finished_from}
 use Rattle.heights.specs.Heights.{height_of, heights_short, heights_outside}
 use Rattle.hull_center.specs.HullCenter.{hull_center}
 use Rattle.math.specs.declared.Point.{Point}
 use Rattle.mesh.specs.declared.Counts.{Counts}
 use Rattle.mesh.specs.Mesh.{Links}
-use Rattle.mesh_check.specs.declared.Checked.{Checked}
+use Rattle.mesh_check.specs.Checked.{Checked}
 use Rattle.mesh_check.specs.Check.{refused, first_outside, point_count, rows_short}
 use Rattle.ring_rows.specs.RingRows.{RingRows, ring_zeros}
 use Rattle.start.specs.Start.{sweep_rows_short}
@@ -64,7 +64,7 @@ bulk_load_checked l =
     (cond (bulk_load_short l) (refused 2 0)
     (cond (ltb (first_outside (count l) (position_of l.points)) (count l)) (refused 3 (first_outside (count l) (position_of l.points)))
     (cond (heights_outside (count l) l.point_heights_of) (refused 10 0)
-    Checked.Accepted)))
+    (Ok tt))))
 
 -- ---- the seed
 -- after the first n points, and point i as it goes in
@@ -143,7 +143,7 @@ ended l =
 unfoldable pub lined : BulkLoadLent → Loading
 lined l = record {
   answer = record {
-    finish = record { counts = counts l; finished = Finished.Accepted (record { faces = 0; convexflips = 0; closingflips = 0 }) };
+    finish = record { counts = counts l; finished = Ok (record { faces = 0; convexflips = 0; closingflips = 0 }) };
     line = true;
   };
   links = links l;
@@ -155,7 +155,7 @@ lined l = record {
 unfoldable pub stopped : BulkLoadLent → Loading
 stopped l = record {
   answer = record {
-    finish = record { counts = counts l; finished = Finished.Refused (record { number = 9; place = (seeded l).answered }) };
+    finish = record { counts = counts l; finished = Err (record { number = 9; place = (seeded l).answered }) };
     line = false;
   };
   links = links l;
@@ -206,10 +206,10 @@ loaded_by l w =
 
 -- 01: "All but 9 change nothing lent"
 unfoldable pub bulk_load_outcome : BulkLoadLent → Checked → BulkLoadOutcome
-bulk_load_outcome l (Checked.Refused r) =
-    loaded_with (record { finish = record { counts = no_counts; finished = Finished.Refused r }; line = false })
+bulk_load_outcome l (Err r) =
+    loaded_with (record { finish = record { counts = no_counts; finished = Err r }; line = false })
     l.mesh l.heights l.ring l.pending l.answers
-bulk_load_outcome l Checked.Accepted = loaded_by l (loading_of l)
+bulk_load_outcome l (Ok _) = loaded_by l (loading_of l)
 
 -- THE BULK LOAD, for whatever is lent
 unfoldable pub bulk_load_of : BulkLoadLent → BulkLoadOutcome

@@ -1,12 +1,12 @@
 -- What a bulk load leaves, for a caller who has the rows and the answer alone: demand 3 with an empty seed for a finished mesh, and for
 -- a line of points the order of its vertices, where each point is, and the heights. Definitions only; `SweptLaws`, `EndedLaws` and
 -- `LoadLaws` prove it for every list of points.
-use Rattle.std.specs.Prelude.{true, false, cond, ◌⊎◌, ◌≡◌, ℕ, ◌<◌, ◌≤◌, length}
+use Rattle.std.specs.Prelude.{true, false, cond, ◌⊎◌, ◌≡◌, ℕ, ◌<◌, ◌≤◌, length, Ok}
 use Rattle.convexity.specs.Convexity.{convexity}
 use Rattle.corner.specs.Untouched.{Untouched}
 use Rattle.dcel.specs.MeshRows.{links_in, places_in}
 use Rattle.dcel.specs.Rows.{position_of}
-use Rattle.finish.specs.declared.Finished.{Finished}
+use Rattle.finish.specs.Finished.{Finished}
 use Rattle.finish.specs.declared.Totals.{Totals}
 use Rattle.hull_center.specs.HullCenter.{hull_center}
 use Rattle.line.specs.Grow.{one_vertex}
@@ -69,5 +69,5 @@ LoadFinished l r t =
 -- ---- THE CONTRACT of the call: what is defined, and what that means where it is answered with no refusal number
 pub record BulkLoaded (l : BulkLoadLent) (r : BulkLoadOutcome) : Type 0 where
   pub is : r ≡ bulk_load_of l
-  pub finished : (t : Totals) → r.answer.finish.finished ≡ Finished.Accepted t → r.answer.line ≡ false → LoadFinished l r t
+  pub finished : (t : Totals) → r.answer.finish.finished ≡ Ok t → r.answer.line ≡ false → LoadFinished l r t
   pub lined : r.answer.line ≡ true → LineLoaded l r

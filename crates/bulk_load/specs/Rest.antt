@@ -24,7 +24,7 @@ use Rattle.mesh.specs.declared.Counts.{Counts}
 use Rattle.mesh.specs.Mesh.{Links}
 use Rattle.mesh.proofs.CountsLaws.{vertices-least}
 use Rattle.mesh.specs.Good.{Good}
-use Rattle.mesh_check.specs.declared.Checked.{Checked}
+use Rattle.mesh_check.specs.Checked.{Checked}
 use Rattle.mesh_check.specs.Accepted.{MeshSizes, AcceptedWith}
 use Rattle.mesh_check.proofs.AcceptedLaws.{accepts-with}
 use Rattle.mesh_check.specs.Check.{point_count, vertex_count}

@@ -1,10 +1,10 @@
 -- The checks of a bulk load by what they are given: the points, their heights, and the lengths of the other rows. Definitions only;
 -- `LentLaws` says that together they are `bulk_load_checked`.
-use Rattle.std.specs.Prelude.{Bool, cond, ◌||◌, List, ◌≡◌, ℕ, ◌*◌, ltb, ℤ, length}
+use Rattle.std.specs.Prelude.{Bool, cond, ◌||◌, List, ◌≡◌, ℕ, ◌*◌, ltb, ℤ, length, Ok}
 use Rattle.bulk_load.specs.BulkLoad.{BulkLoadLent}
 use Rattle.dcel.specs.Rows.{position_of}
 use Rattle.heights.specs.Heights.{heights_outside}
-use Rattle.mesh_check.specs.declared.Checked.{Checked}
+use Rattle.mesh_check.specs.Checked.{Checked}
 use Rattle.mesh_check.specs.Check.{refused, first_outside, mesh_rows_short}
 use Rattle.start.specs.Start.{sweep_rows_short}
 use Rattle.sweep.specs.Run.{answer_words}
@@ -40,4 +40,4 @@ unfoldable pub points_checked : ℕ → List ℤ → List ℤ → Checked
 points_checked n points point_heights_of =
     cond (ltb (first_outside n (position_of points)) n) (refused 3 (first_outside n (position_of points)))
     (cond (heights_outside n point_heights_of) (refused 10 0)
-    Checked.Accepted)
+    (Ok tt))

@@ -7,7 +7,7 @@ use Rattle.std.proofs.Common.{sym, ◌∙◌, ap}
 use borrow.Author.Tests.{lt-ltb, le-ltb, ltb-false}
 use Rattle.std.proofs.Math.Dec.{ltb}
 use Rattle.bulk_load.specs.BulkLoad.{BulkLoadLent, count, bulk_load_short, bulk_load_checked}
-use Rattle.mesh_check.specs.declared.Checked.{Checked}
+use Rattle.mesh_check.specs.Checked.{Checked}
 use Rattle.mesh_check.proofs.AcceptedLaws.{or-false}
 use Rattle.mesh_check.specs.Check.{refused, point_count, mesh_rows_short, rows_short}
 use Rattle.start.specs.Start.{sweep_rows_short}

@@ -8,17 +8,8 @@ ghost use Rattle.bulk_load.specs.BulkLoad.{BulkLoadLent, bulk_load_checked};
 ghost use Rattle.mesh_check.specs.Check.{refused};
 ghost use Rattle.bulk_load_check.specs.Lent.{LentBy, surface_short, load_short, points_checked};
 
-use mesh_check::{Checked, Refusal};
+use mesh_check::Refusal;
 use sweep::ANSWER_WORDS;
-
-fn refuse(number: u32, place: u32) -> Checked
-    ensures { result ≡ refused number place }
-{
-    Checked::Refused(Refusal {
-        number: number,
-        place: place,
-    })
-}
 
 // The row of n points, one of the mesh's, or one of the heights is too short.
 fn surface_short(
@@ -82,18 +73,18 @@ fn load_short(
 }
 
 // Rows 3 and 10 of the table, for n points and their heights.
-fn check_points(points: &[i32], point_heights: &[i32], n: u32) -> Checked
+fn check_points(points: &[i32], point_heights: &[i32], n: u32) -> Result<(), Refusal>
     requires { (2 * n ≤ length points.now) × (n ≤ length point_heights.now) }
     ensures { result ≡ points_checked n points.now point_heights.now }
 {
     let i = mesh_check_rows::first_outside(points, n);
     if i < n {
-        return refuse(3, i);
+        return Err(Refusal::at(3, i));
     }
     if heights::heights_outside(point_heights, n as usize) {
-        return refuse(10, 0);
+        return Err(Refusal::of_call(10));
     }
-    Checked::Accepted
+    Ok(())
 }
 
 // What the checks answer a bulk load of these points. The number of points is tested before any product of it is formed.
@@ -110,7 +101,7 @@ pub fn check_bulk_load(
     buckets: usize,
     pending: usize,
     answers: usize,
-) -> Checked
+) -> Result<(), Refusal>
     ensures { (l : BulkLoadLent)
         → LentBy l points.now point_heights.now
         positions heights outs halves faces nodes freed buckets pending answers
@@ -118,7 +109,7 @@ pub fn check_bulk_load(
 {
     let n = mesh_check::point_count(points);
     if n > 1000000 {
-        return refuse(1, 0);
+        return Err(Refusal::of_call(1));
     }
     if load_short(
         n,
@@ -135,7 +126,7 @@ pub fn check_bulk_load(
         pending,
         answers,
     ) {
-        return refuse(2, 0);
+        return Err(Refusal::of_call(2));
     }
     check_points(points, point_heights, n as u32)
 }

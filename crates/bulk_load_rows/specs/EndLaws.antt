@@ -1,5 +1,5 @@
 -- The seed's end where the sweep does not start, on the rows. Assumes nothing.
-use Rattle.std.specs.Prelude.{Bool, true, cond, ◌&&◌, List, ◌≡◌, ℕ, ◌*◌, ◌<◌, ◌≤◌, ltb, leb, ℤ, length}
+use Rattle.std.specs.Prelude.{Bool, true, cond, ◌&&◌, List, ◌≡◌, ℕ, ◌*◌, ◌<◌, ◌≤◌, ltb, leb, ℤ, length, Ok, Err}
 use Rattle.std.proofs.Math.Bool.{false}
 use Rattle.std.proofs.Math.Path.{refl, ap}
 use Rattle.std.proofs.Common.{sym, ◌∙◌, arith}
@@ -9,7 +9,7 @@ use Rattle.bulk_load.specs.declared.BulkLoadAnswer.{BulkLoadAnswer}
 use Rattle.dcel.specs.Rows.{links_of, position_of, row_of}
 use Rattle.finish.specs.declared.Ended.{Ended}
 use Rattle.finish.specs.declared.FinishAnswer.{FinishAnswer}
-use Rattle.finish.specs.declared.Finished.{Finished}
+use Rattle.finish.specs.Finished.{Finished}
 use Rattle.finish.specs.Finish.{Finishing, finish_mesh, finished_from}
 use Rattle.finish.specs.FinishRows.{finishing_of}
 use Rattle.seed.specs.declared.SeedEnd.{SeedEnd}
@@ -24,7 +24,7 @@ module _ (q : List ℤ) (o h a row w : List ℕ) (s : SeedEnd) (n : ℕ) where
   -- a flip was refused
   pub end-full : {w' : List ℕ} → s.full ≡ true → Zeroed w w' (answer_words * s.answered) (answer_words * n)
       → EndLeaves q o h a row w s n o h a w' (record {
-        finish = record { counts = s.counts; finished = Finished.Refused (record { number = 9; place = s.answered }) };
+        finish = record { counts = s.counts; finished = Err (record { number = 9; place = s.answered }) };
         line = false;
       })
   unfolding end_of zero_from
@@ -33,7 +33,7 @@ module _ (q : List ℤ) (o h a row w : List ℕ) (s : SeedEnd) (n : ℕ) where
   -- a line
   pub end_line : s.full ≡ false → s.counts.faces < 2
       → EndLeaves q o h a row w s n o h a w (record {
-        finish = record { counts = s.counts; finished = Finished.Accepted (record { faces = 0; convexflips = 0; closingflips = 0 }) };
+        finish = record { counts = s.counts; finished = Ok (record { faces = 0; convexflips = 0; closingflips = 0 }) };
         line = true;
       })
   unfolding end_of

@@ -1,6 +1,6 @@
 -- A bulk load whose sweep does not start, from its seed to its answer: what each call is given, and the calls' contracts one after another
 -- as the definition has them. Assumes nothing.
-use Rattle.std.specs.Prelude.{Bool, ◌&&◌, List, ◌≡◌, ℕ, ◌*◌, ◌/◌, ◌%◌, ◌<◌, ◌≤◌, leb, ℤ, length, replicate}
+use Rattle.std.specs.Prelude.{Bool, ◌&&◌, List, ◌≡◌, ℕ, ◌*◌, ◌/◌, ◌%◌, ◌<◌, ◌≤◌, leb, ℤ, length, replicate, Ok}
 use Rattle.std.proofs.Math.Bool.{true, false, cond}
 use Rattle.std.proofs.Math.Path.{refl, sym, ap}
 use Rattle.std.proofs.Common.{◌∙◌, subst, arith}
@@ -22,7 +22,7 @@ use Rattle.heights.specs.Heights.{height_of}
 use Rattle.mesh.specs.declared.Counts.{Counts}
 use Rattle.mesh.proofs.CountsLaws.{count-edges, count-faces}
 use Rattle.mesh.specs.Good.{Good}
-use Rattle.mesh_check.specs.declared.Checked.{Checked}
+use Rattle.mesh_check.specs.Checked.{Checked}
 use Rattle.mesh_check.specs.Check.{point_count}
 use Rattle.ring_rows.specs.RingRows.{RingRows}
 use Rattle.seed.specs.declared.SeedEnd.{SeedEnd}
@@ -34,7 +34,7 @@ use Rattle.sweep.specs.Run.{answer_words}
 use Rattle.bulk_load_rows.specs.LoadRows.{Ending, end_of, EndReady, zero_from, EndLeaves}
 use Rattle.bulk_load_rows.specs.LoadSeeded.{outcome-is, heights-from, Seeded, counts-are, answered-is, ready-is, full_is, links-are, places-are, seed-answer, seed-old}
 
-module _ (l : BulkLoadLent) (e : bulk_load_checked l ≡ Checked.Accepted) {c : ℕ} {q₁ : List ℤ} {o₁ h₁ a₁ row₁ w₁ : List ℕ} {s : SeedEnd}
+module _ (l : BulkLoadLent) (e : bulk_load_checked l ≡ Ok tt) {c : ℕ} {q₁ : List ℤ} {o₁ h₁ a₁ row₁ w₁ : List ℕ} {s : SeedEnd}
     (B : Seeded l c q₁ o₁ h₁ a₁ row₁ w₁ s) (r : s.ready ≡ false) where
   abbrev A : BulkLoadAccepted l
   A = load-accepts l e

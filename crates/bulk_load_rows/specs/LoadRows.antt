@@ -1,19 +1,18 @@
 -- Rows as a bulk load is given them after its seed, and what each function leaves. Definitions only.
-use Rattle.std.specs.Prelude.{Bool, true, false, cond, ◌&&◌, List, ◌++◌, ◌≡◌, ℕ, ◌+◌, ◌*◌, ◌^◌, ◌<◌, ◌≤◌, ltb, leb, ℤ, length, take, drop}
+use Rattle.std.specs.Prelude.{Bool, true, false, cond, ◌&&◌, List, ◌++◌, ◌≡◌, ℕ, ◌+◌, ◌*◌, ◌^◌, ◌<◌, ◌≤◌, ltb, leb, ℤ, length, take, drop, Ok, Err}
 use Rattle.angle.specs.declared.Point2.{Point2}
 use Rattle.bulk_load.specs.declared.BulkLoadAnswer.{BulkLoadAnswer}
 use Rattle.convexity.specs.ConvexityRows.{MeshReady}
 use Rattle.dcel.specs.MeshRows.{MeshRows, places_in}
 use Rattle.dcel.specs.Rows.{links_of, position_of, row_of}
 use Rattle.finish.specs.declared.FinishAnswer.{FinishAnswer}
-use Rattle.finish.specs.declared.Finished.{Finished}
+use Rattle.finish.specs.Finished.{Finished}
 use Rattle.finish.specs.Finish.{finish_mesh, finished_from}
 use Rattle.hull_center.specs.HullCenter.{hull_center}
 use Rattle.hull_center_rows.specs.CenterRows.{LastThreeIn}
 use Rattle.math.specs.declared.Point.{Point}
 use Rattle.mesh.specs.declared.Counts.{Counts}
 use Rattle.mesh.specs.Mesh.{Links}
-use Rattle.mesh_check.specs.declared.Checked.TheVariants.{Accepted}
 use Rattle.mesh_check.specs.declared.Refusal.{Refusal}
 use Rattle.mesh_check.specs.Check.{point_count}
 use Rattle.ring_rows.specs.RingRows.{RingRows}
@@ -32,7 +31,7 @@ end_of room C L p full answered n =
     cond full
     (record {
       answer = record {
-        finish = record { counts = C; finished = Finished.Refused (record { number = 9; place = answered }) };
+        finish = record { counts = C; finished = Err (record { number = 9; place = answered }) };
         line = false;
       };
       links = L;
@@ -44,7 +43,7 @@ end_of room C L p full answered n =
     })
     (record {
       answer = record {
-        finish = record { counts = C; finished = Finished.Accepted (record { faces = 0; convexflips = 0; closingflips = 0 }) };
+        finish = record { counts = C; finished = Ok (record { faces = 0; convexflips = 0; closingflips = 0 }) };
         line = true;
       };
       links = L;
@@ -68,15 +67,15 @@ pub record EndLeaves (q : List ℤ) (o h a row w : List ℕ) (s : SeedEnd) (n : 
 -- ---- the sweep of the points that are left
 -- a refusal's place, counted from the k points that the seed took
 unfoldable pub placed_after : ℕ → Finished → Finished
-placed_after k (Finished.Accepted t) = Finished.Accepted t
-placed_after k (Finished.Refused x) = Finished.Refused (record { number = x.number; place = k + x.place })
+placed_after k (Ok t) = Ok t
+placed_after k (Err x) = Err (record { number = x.number; place = k + x.place })
 
 abbrev pub answer_after : ℕ → FinishAnswer → FinishAnswer
 answer_after k r = record { counts = r.counts; finished = placed_after k r.finished }
 
 -- what is placed fits
 abbrev pub PlaceFits : ℕ → FinishAnswer → Type 0
-PlaceFits k r = (x : Refusal) → r.finished ≡ Finished.Refused x → k + x.place < 2 ^ 32
+PlaceFits k r = (x : Refusal) → r.finished ≡ Err x → k + x.place < 2 ^ 32
 
 -- the run of the rest
 abbrev pub rest_lent : Counts → MeshRows → RingRows → List ℕ → List ℕ → List ℤ → ℕ → RunLent
@@ -84,7 +83,7 @@ rest_lent C m ring pending answers points k =
     run_lent C m ring pending (drop (answer_words * k) answers) (hull_center C (places_in m)) (drop (2 * k) points)
 
 pub record RestReady (C : Counts) (m : MeshRows) (ring : RingRows) (pending answers : List ℕ) (points : List ℤ) (k : ℕ) : Type 0 where
-  pub checked : run_checked (rest_lent C m ring pending answers points k) ≡ Accepted
+  pub checked : run_checked (rest_lent C m ring pending answers points k) ≡ Ok tt
   pub center : LastThreeIn C m.positions
   pub answers-room : answer_words * k ≤ length answers
   pub points-room : 2 * k ≤ length points

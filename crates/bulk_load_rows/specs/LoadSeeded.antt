@@ -1,6 +1,6 @@
 -- A bulk load up to the end of its seed: what the seed is given, and what the definition says of the rows that it leaves. How it goes on
 -- is in `LoadSwept`, where the sweep starts, and in `LoadEnded`, where it does not. Assumes nothing.
-use Rattle.std.specs.Prelude.{List, ◌≡◌, ℕ, ◌*◌, ◌/◌, ◌%◌, ◌<◌, ◌≤◌, ◌^◌, ℤ, pos, length}
+use Rattle.std.specs.Prelude.{List, ◌≡◌, ℕ, ◌*◌, ◌/◌, ◌%◌, ◌<◌, ◌≤◌, ◌^◌, ℤ, pos, length, Ok}
 use Rattle.std.proofs.Math.Path.{refl}
 use Rattle.std.proofs.Common.{◌∙◌, ap, arith}
 use borrow.Author.Tests.{lt-ltb, le-ltb}
@@ -12,7 +12,7 @@ use Rattle.dcel.specs.Rows.{links_of, position_of, row_of, row_from_of}
 use Rattle.dcel.specs.Views.{from_entries, mesh-rows-from}
 use Rattle.finish.specs.declared.FinishAnswer.{FinishAnswer}
 use Rattle.heights.specs.Heights.{height_of}
-use Rattle.mesh_check.specs.declared.Checked.{Checked}
+use Rattle.mesh_check.specs.Checked.{Checked}
 use Rattle.mesh_check.specs.Check.{point_count}
 use Rattle.ring_rows.specs.RingRows.{RingRows}
 use Rattle.seed.specs.declared.SeedEnd.{SeedEnd}
@@ -37,7 +37,7 @@ heights-from l w hs a {x} {v} b p q =
     ∙ ap (λ (u : List ℕ). row_from_of (length l.heights) (finished_heights (loaded_by l w).answer.finish u (height_of l.point_heights_of) (height_of l.heights)
     (point_count l.points))) q
 
-module _ (l : BulkLoadLent) (e : bulk_load_checked l ≡ Checked.Accepted) where
+module _ (l : BulkLoadLent) (e : bulk_load_checked l ≡ Ok tt) where
   abbrev A : BulkLoadAccepted l
   A = load-accepts l e
 

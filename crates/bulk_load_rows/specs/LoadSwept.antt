@@ -1,6 +1,6 @@
 -- A bulk load whose sweep starts, from its seed to its answer: what each call is given, and the calls' contracts one after another as the
 -- definition has them. Assumes nothing.
-use Rattle.std.specs.Prelude.{Bool, true, false, cond, ◌≡◌, ltb, ℤ, length, replicate, drop}
+use Rattle.std.specs.Prelude.{Bool, true, false, cond, ◌≡◌, ltb, ℤ, length, replicate, drop, Ok}
 use mathlib.Core.List.{List, ◌++◌}
 use Rattle.std.proofs.Math.Path.{refl, sym, ap}
 use Rattle.std.proofs.Common.{◌∙◌, subst, lt-ltb, le-ltb}
@@ -21,7 +21,7 @@ use Rattle.dcel.specs.MeshRows.{MeshRows, mesh_rows, mesh_rows_from}
 use Rattle.dcel.specs.Rows.{links_of, position_of, row_of, row_from_of}
 use Rattle.dcel.specs.Views.{length_from, get_or-from}
 use Rattle.finish.specs.declared.FinishAnswer.{FinishAnswer}
-use Rattle.finish.specs.declared.Finished.{Finished}
+use Rattle.finish.specs.Finished.{Finished}
 use Rattle.finish.specs.Finish.{finished_from}
 use Rattle.heights.specs.Heights.{height_of}
 use Rattle.hull_center.specs.HullCenter.{hull_center}
@@ -30,7 +30,7 @@ use Rattle.math.specs.declared.Point.{Point}
 use Rattle.mesh.specs.declared.Counts.{Counts}
 use Rattle.mesh.proofs.CountsLaws.{count-edges, count-faces}
 use Rattle.mesh.specs.Good.{Good}
-use Rattle.mesh_check.specs.declared.Checked.{Checked}
+use Rattle.mesh_check.specs.Checked.{Checked}
 use Rattle.mesh_check.specs.Check.{point_count}
 use Rattle.ring_rows.specs.RingRows.{RingRows, ring_zeros}
 use Rattle.seed.specs.declared.SeedEnd.{SeedEnd}
@@ -43,7 +43,7 @@ use Rattle.bulk_load_rows.specs.LoadRows.{answer_after, rest_lent, RestReady, Re
 use Rattle.bulk_load_rows.specs.RestRows.{run-pending, ran-pending, placed-from, drop-same, joined_length, joined-first, joined-last}
 use Rattle.bulk_load_rows.specs.LoadSeeded.{outcome-is, heights-from, Seeded, counts-are, answered-is, ready-is, links-are, places-are, mesh-is, seed-answer, seed-old}
 
-module _ (l : BulkLoadLent) (e : bulk_load_checked l ≡ Checked.Accepted) {c : ℕ} {q₁ : List ℤ} {o₁ h₁ a₁ row₁ w₁ : List ℕ} {s : SeedEnd}
+module _ (l : BulkLoadLent) (e : bulk_load_checked l ≡ Ok tt) {c : ℕ} {q₁ : List ℤ} {o₁ h₁ a₁ row₁ w₁ : List ℕ} {s : SeedEnd}
     (B : Seeded l c q₁ o₁ h₁ a₁ row₁ w₁ s) (r : s.ready ≡ true) where
   abbrev A : BulkLoadAccepted l
   A = load-accepts l e
@@ -86,14 +86,14 @@ module _ (l : BulkLoadLent) (e : bulk_load_checked l ≡ Checked.Accepted) {c : 
       ∙ ap (λ (v : List ℕ). run_lent (counts l) (mesh_rows_from l.mesh (links l) (positions l)) ring row₁ v (hull_center (counts l) (positions l))
       (drop (2 * k) l.points)) answers-left
 
-  second-checked : run_checked Z₂ ≡ Checked.Accepted
+  second-checked : run_checked Z₂ ≡ Ok tt
   unfolding rest_of
   second-checked =
       run-pending (counts l) (mesh_rows_from l.mesh (links l) (positions l)) ring row₁ l.pending (drop (answer_words * k) l.answers)
       (hull_center (counts l) (positions l)) (drop (2 * k) l.points) B.pending
       ∙ rest.rest-accepted l e (seed-rows l e) ready
 
-  rest-checked : run_checked Z₁ ≡ Checked.Accepted
+  rest-checked : run_checked Z₁ ≡ Ok tt
   rest-checked = ap run_checked first-same ∙ second-checked
 
   -- it is the definition's

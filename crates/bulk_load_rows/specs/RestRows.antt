@@ -1,6 +1,6 @@
 -- The sweep of the points that are left, on the rows as the seed left them: it is the run of the definition, whatever the pending row held.
 -- Assumes nothing.
-use Rattle.std.specs.Prelude.{Bool, true, false, cond, ◌⊎◌, ◌≡◌, ℤ, length, replicate, take, drop}
+use Rattle.std.specs.Prelude.{Bool, true, false, cond, ◌⊎◌, ◌≡◌, ℤ, length, replicate, take, drop, Ok, Err}
 use mathlib.Core.List.{List, [], ◌++◌, append-nil}
 use Rattle.std.proofs.Common.{inl, inr, ◌∙◌, subst, arith, length-drop, length-append, drop_of_length-le, take_all, get_or-drop, ext_get_or}
 use Rattle.std.proofs.Math.Path.{refl, sym, ap, fun_ext}
@@ -15,11 +15,11 @@ use Rattle.dcel.specs.MeshRows.{MeshRows, places_in, mesh_rows_from}
 use Rattle.hull_center.specs.HullCenter.{hull_center}
 use Rattle.dcel.specs.Rows.{position_of, row_of, row_from_of}
 use Rattle.finish.specs.declared.FinishAnswer.{FinishAnswer}
-use Rattle.finish.specs.declared.Finished.{Finished}
+use Rattle.finish.specs.Finished.{Finished}
 use Rattle.finish.specs.declared.Totals.{Totals}
 use Rattle.finish.specs.Finish.{Finishing, totals_from, finished_from}
 use Rattle.mesh.specs.declared.Counts.{Counts}
-use Rattle.mesh_check.specs.declared.Checked.{Checked}
+use Rattle.mesh_check.specs.Checked.{Checked}
 use Rattle.mesh_check.specs.declared.Refusal.{Refusal}
 use Rattle.mesh_check.specs.Check.{point_count}
 use Rattle.mesh_check.specs.CheckLaws.{NumberedTo}
@@ -90,36 +90,36 @@ module _ (C : Counts) (m : MeshRows) (ring : RingRows) (row row' : List ℕ) (w 
       ran_with (record { counts = z.mesh.counts; finished = finished_from z.place z.mesh })
       (mesh_rows_from m z.mesh.links z.positions) (ring_zeros ring) (replicate k 0) (row_from_of (length w) f)
 
-  outcome-pending : run_outcome l Checked.Accepted ≡ run_outcome l' Checked.Accepted
+  outcome-pending : run_outcome l (Ok tt) ≡ run_outcome l' (Ok tt)
   unfolding run_outcome
   outcome-pending =
       ap (λ (z : Completing). made z (run_answers l) (length row)) completes-same
       ∙ ap (λ (f : ℕ → ℕ). made (run_completes l') f (length row)) answers-same
       ∙ ap (made (run_completes l') (run_answers l')) same
 
-  pub ran-pending : run_checked (run_lent C m ring row w c points) ≡ Checked.Accepted
+  pub ran-pending : run_checked (run_lent C m ring row w c points) ≡ Ok tt
       → run_of (run_lent C m ring row w c points) ≡ run_of (run_lent C m ring row' w c points)
   unfolding run_of
   ran-pending e = rw (sym run-pending ∙ e, e) outcome-pending
 
 -- ---- the place of a refusal
-pub place-fits : (k : ℕ) (l : RunLent) → run_checked l ≡ Checked.Accepted → k + point_count l.points ≤ 1000000 → PlaceFits k (run_of l).answer
+pub place-fits : (k : ℕ) (l : RunLent) → run_checked l ≡ Ok tt → k + point_count l.points ≤ 1000000 → PlaceFits k (run_of l).answer
 place-fits k l e m x z = go (run-refused l x z)
   where
-    go : (NumberedTo 7 (Checked.Refused x) × (run_checked l ≡ Checked.Refused x) × (run_of l
-        ≡ ran_with (record { counts = l.counts; finished = Finished.Refused x }) l.mesh l.ring l.pending l.answers))
+    go : (NumberedTo 7 (Err x) × (run_checked l ≡ Err x) × (run_of l
+        ≡ ran_with (record { counts = l.counts; finished = Err x }) l.mesh l.ring l.pending l.answers))
         ⊎ ((x.number ≡ 9) × Full l (run_of l) x.place) → k + x.place < 2 ^ 32
-    go (inl (a, b, c)) = absurd (let y : Checked.Accepted ≡ Checked.Refused x = sym e ∙ b in let w : ◌≡◌ {A = ℕ} 0 1 = cc in omega arith)
+    go (inl (a, b, c)) = absurd (let y : (Ok tt) ≡ Err x = sym e ∙ b in let w : ◌≡◌ {A = ℕ} 0 1 = cc in omega arith)
     go (inr (a, F)) = let w = F.within in omega arith
 
 -- by its cases
-pub placed-accepted : (k : ℕ) (r : FinishAnswer) (t : Totals) → r.finished ≡ Finished.Accepted t
-    → ◌≡◌ {A = FinishAnswer} (record { counts = r.counts; finished = Finished.Accepted t }) (answer_after k r)
+pub placed-accepted : (k : ℕ) (r : FinishAnswer) (t : Totals) → r.finished ≡ Ok t
+    → ◌≡◌ {A = FinishAnswer} (record { counts = r.counts; finished = Ok t }) (answer_after k r)
 unfolding placed_after
 placed-accepted k r t e = ap (λ (f : Finished). record { counts = r.counts; finished = f }) (sym (ap (placed_after k) e))
 
-pub placed-refused : (k : ℕ) (r : FinishAnswer) (x : Refusal) → r.finished ≡ Finished.Refused x
-    → ◌≡◌ {A = FinishAnswer} (record { counts = r.counts; finished = Finished.Refused (record { number = x.number; place = k + x.place }) }) (answer_after k r)
+pub placed-refused : (k : ℕ) (r : FinishAnswer) (x : Refusal) → r.finished ≡ Err x
+    → ◌≡◌ {A = FinishAnswer} (record { counts = r.counts; finished = Err (record { number = x.number; place = k + x.place }) }) (answer_after k r)
 unfolding placed_after
 placed-refused k r x e = ap (λ (f : Finished). record { counts = r.counts; finished = f }) (sym (ap (placed_after k) e))
 
@@ -128,8 +128,8 @@ unfolding placed_after finished_from
 placed-from k place z = go z.full
   where
     go : (b : Bool)
-        → placed_after k (cond b (Finished.Refused (record { number = 9; place = place })) (Finished.Accepted (totals_from z)))
-        ≡ cond b (Finished.Refused (record { number = 9; place = k + place })) (Finished.Accepted (totals_from z))
+        → placed_after k (cond b (Err (record { number = 9; place = place })) (Ok (totals_from z)))
+        ≡ cond b (Err (record { number = 9; place = k + place })) (Ok (totals_from z))
     go true = refl
     go false = refl
 
@@ -182,7 +182,7 @@ module _ {C : Counts} {m : MeshRows} {ring : RingRows} {row w : List ℕ} {point
   called_is : called ≡ rest_lent C m ring row w points k
   called_is = rw (part-is (answer_words * k) w, part-is (2 * k) points, q) refl
 
-  pub rest-requires : run_checked called ≡ Checked.Accepted
+  pub rest-requires : run_checked called ≡ Ok tt
   rest-requires = ap run_checked called_is ∙ R.checked
 
   module _ {m' : MeshRows} {ring' : RingRows} {row' ys : List ℕ} {x : FinishAnswer} (E : ran_with x m' ring' row' ys ≡ run_of called) where

@@ -6,13 +6,12 @@
 ghost use Rattle.std.specs.Prelude.{◌≡◌, List, ◌^◌, length};
 ghost use Rattle.dcel.specs.MeshRows.{mesh_rows};
 ghost use Rattle.ring_rows.specs.RingRows.{ring_rows};
-ghost use Rattle.mesh_check.specs.declared.Checked.TheVariants.{Accepted};
 ghost use Rattle.bulk_load.specs.BulkLoad.{bulk_load_lent, bulk_load_checked, loaded_with, bulk_load_of};
 ghost use Rattle.bulk_load_rows.specs.LoadRows.{EndReady, EndLeaves, PlaceFits, answer_after, rest_lent, RestReady, RestLeaves};
 ghost use Rattle.sweep.specs.Run.{run_of};
 
 use bulk_load::BulkLoadAnswer;
-use finish::{FinishAnswer, Finished, Totals};
+use finish::{FinishAnswer, Totals};
 use mesh::Counts;
 use mesh_check::Refusal;
 use ring_rows::Node;
@@ -41,8 +40,8 @@ fn end_load(
         answers::zero_answers(answers, answered, count);
         return BulkLoadAnswer {
             finish: FinishAnswer {
-                counts: counts,
-                finished: Finished::Refused(Refusal {
+                counts,
+                finished: Err(Refusal {
                     number: 9,
                     place: answered,
                 }),
@@ -53,8 +52,8 @@ fn end_load(
     if counts.faces < 2 {
         return BulkLoadAnswer {
             finish: FinishAnswer {
-                counts: counts,
-                finished: Finished::Accepted(Totals {
+                counts,
+                finished: Ok(Totals {
                     faces: 0,
                     convexflips: 0,
                     closingflips: 0,
@@ -66,7 +65,7 @@ fn end_load(
     let ended = finish::finish_mesh(positions, outs, halves, faces, pending, counts);
     let finish = finish::answer_of(ended, count);
     BulkLoadAnswer {
-        finish: finish,
+        finish,
         line: false,
     }
 }
@@ -76,19 +75,14 @@ fn placed_after(answer: FinishAnswer, answered: u32) -> FinishAnswer
     requires { PlaceFits answered answer }
     ensures { result ≡ answer_after answered answer }
 {
-    let counts = answer.counts;
-    let finished = answer.finished;
-    match finished {
-        Finished::Accepted(totals) => FinishAnswer {
-            counts: counts,
-            finished: Finished::Accepted(totals),
-        },
-        Finished::Refused(refusal) => FinishAnswer {
-            counts: counts,
-            finished: Finished::Refused(Refusal {
-                number: refusal.number,
+    match answer.finished {
+        Ok(_) => answer,
+        Err(refusal) => FinishAnswer {
+            finished: Err(Refusal {
                 place: answered + refusal.place,
+                ..refusal
             }),
+            ..answer
         },
     }
 }
@@ -153,7 +147,7 @@ pub fn load(
     point_heights: &[i32],
 ) -> BulkLoadAnswer
     requires { bulk_load_checked (bulk_load_lent (mesh_rows positions.old outs.old halves.old faces.old) heights.old
-        (ring_rows nodes.old freed.old buckets.old) pending.old answers.old points.now point_heights.now) ≡ Accepted }
+        (ring_rows nodes.old freed.old buckets.old) pending.old answers.old points.now point_heights.now) ≡ Ok tt }
     ensures { loaded_with result
         (mesh_rows positions.new outs.new halves.new faces.new) heights.new
         (ring_rows nodes.new freed.new buckets.new) pending.new answers.new
@@ -184,7 +178,7 @@ pub fn load(
         );
         surface_rows::store_run(heights, answers, point_heights, points, finish);
         return BulkLoadAnswer {
-            finish: finish,
+            finish,
             line: false,
         };
     }

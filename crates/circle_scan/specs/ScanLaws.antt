@@ -83,6 +83,10 @@ unbroken-on {q} {h} {u} {n} {v} U l tests f = record {
     at w a b o z (yes p) = rw p (sym (tests o z) ∙ f)
     at w a b o z (no d) = U.keeps a (omega arith) o z
 
+-- all of a block are passed
+pub unbroken-all : {q : List ℤ} {h : List ℕ} {u n v : ℕ} → u ≤ n → Unbroken q h u n v → n ≤ v → Unbroken q h u n n
+unbroken-all o U l = record { low = o; high = omega arith; keeps = λ a b. U.keeps a (omega arith) }
+
 -- of a block that ends at m
 pub unbroken-to : {q : List ℤ} {h : List ℕ} {u m n r : ℕ} → Unbroken q h u m r → m ≤ n → Unbroken q h u n r
 unbroken-to U l = record { low = U.low; high = let k = U.high in omega arith; keeps = U.keeps }

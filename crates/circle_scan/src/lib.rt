@@ -24,21 +24,15 @@ fn read_fars(halves: &[u32], fars: &mut [u32], e: u32, n: u32)
     requires { FarsReady halves.now e n × (n ≤ length fars.old) }
     ensures { FarsRead halves.now e n fars.new }
 {
-    let mut k: u32 = 0;
-    while k < n {
+    for k in 0..n {
         let p = dcel::prev(halves, e + k);
         fars[k as usize] = dcel::origin(halves, p);
-        k += 1;
     }
 }
 
 // The first coordinate of vertex v; 0 past the row's end.
 fn coordinate(positions: &[i32], v: u32) -> i32 {
-    let i = 2 * (v as usize);
-    if positions.len() <= i {
-        return 0;
-    }
-    positions[i]
+    positions.get(2 * v as usize).copied().unwrap_or(0)
 }
 
 // The positions of n far vertices, and of the origins of as many half-edges from e on, are read: nothing is said of them.
@@ -46,11 +40,9 @@ fn read_positions(positions: &[i32], halves: &[u32], fars: &[u32], e: u32, n: u3
     requires { FarsReady halves.now e n × (n ≤ length fars.now) }
 {
     let mut seen: i32 = 0;
-    let mut k: u32 = 0;
-    while k < n {
-        seen = seen ^ coordinate(positions, fars[k as usize]);
-        seen = seen ^ coordinate(positions, dcel::origin(halves, e + k));
-        k += 1;
+    for k in 0..n {
+        seen ^= coordinate(positions, fars[k as usize]);
+        seen ^= coordinate(positions, dcel::origin(halves, e + k));
     }
     seen
 }
@@ -60,10 +52,7 @@ fn read_positions(positions: &[i32], halves: &[u32], fars: &[u32], e: u32, n: u3
 fn are_read(positions: &[i32], halves: &[u32], fars: &[u32], e: u32, n: u32, edges: u32) -> bool
     requires { FarsReady halves.now e n × (n ≤ length fars.now) }
 {
-    if edges < LARGE {
-        return true;
-    }
-    read_positions(positions, halves, fars, e, n) != -2147483648
+    edges < LARGE || read_positions(positions, halves, fars, e, n) != i32::MIN
 }
 
 // `should_flip` of edge u, for whose halves the origins of prev are c and d.
@@ -75,10 +64,7 @@ fn breaks_circle(positions: &[i32], halves: &[u32], u: u32, c: u32, d: u32) -> b
 {
     let e = 2 * u;
     let t = e + 1;
-    if dcel::face(halves, e) == 0 {
-        return false;
-    }
-    if dcel::face(halves, t) == 0 {
+    if dcel::face(halves, e) == 0 || dcel::face(halves, t) == 0 {
         return false;
     }
     let a = dcel::origin(halves, e);
@@ -91,15 +77,13 @@ fn unbroken_in_block(positions: &[i32], halves: &[u32], fars: &[u32], u: u32, en
     requires { BlockReady positions.now halves.now fars.now u end }
     ensures { Unbroken positions.now halves.now u end result }
 {
-    let mut v = u;
-    while v < end {
-        let k = 2 * ((v - u) as usize);
+    for v in u..end {
+        let k = 2 * (v - u) as usize;
         if breaks_circle(positions, halves, v, fars[k], fars[k + 1]) {
             return v;
         }
-        v += 1;
     }
-    v
+    end
 }
 
 // Where the block that starts with edge u ends.
@@ -107,10 +91,7 @@ fn block_end(u: u32, edges: u32) -> u32
     requires { u ≤ edges }
     ensures { (u ≤ result) × (result ≤ edges) × (result ≤ u + 64) }
 {
-    if edges - u > BLOCK {
-        return u + BLOCK;
-    }
-    edges
+    u + BLOCK.min(edges - u)
 }
 
 // Edge u is the first of a block, or nothing is looked at: the edges of the block, as far as none breaks the rule.

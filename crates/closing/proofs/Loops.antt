@@ -1,5 +1,7 @@
 -- The invariants of the two loops, and what each step of a loop needs: over plain rows, so that the needs of the code are single applications. Assumes nothing.
-use mathlib.Core.Bool.{Bool, true, false, not}
+use mathlib.Core.Bool.{Bool, true, false}
+use mathlib.Core.Logic.{◌≢◌}
+use borrow.Author.Tests.{eq-eqb, ne_eqb}
 use mathlib.Core.List.{List}
 use mathlib.Core.Path.{◌≡◌, refl, sym, ◌∙◌, ap, ap₂, subst⁻¹}
 use Prim.Native.Nat.{ℕ, ◌+◌, ◌<◌, ◌≤◌, ◌^◌}
@@ -114,13 +116,13 @@ module _ {C : Counts} {q : List ℤ} {o₀ h₀ a₀ : List ℕ} {c₀ : ℕ} {o
 abbrev pub passed : List ℕ → List ℕ → List ℕ → ℕ → Bool → Turned
 passed o h a c s = record { state = closing_of o h a c; still = s }
 
-pub record PassAt (C : Counts) (q : List ℤ) (o₀ h₀ a₀ o h a : List ℕ) (c : ℕ) (s : Bool) : Type 0 where
+pub record PassAt (C : Counts) (q : List ℤ) (o₀ h₀ a₀ o h a : List ℕ) (c : ℕ) : Type 0 where
   pub ready : Closable C q o h a c
   pub going : Going (λ t. t.still) (close_turn C (position_of q)) (Turning C (position_of q)) (height_left C (position_of q)) (nat_abs (height_sum C (links_of o₀ h₀ a₀) (position_of q)) + 2)
-      (unturned (links_of o₀ h₀ a₀)) (passed o h a c s)
+      (unturned (links_of o₀ h₀ a₀)) (passed o h a c false)
   pub lengths : SameLengths o₀ h₀ a₀ o h a
 
-pub pass-starts : {C : Counts} {q : List ℤ} {o h a : List ℕ} → GoodRows C q o h a → C.faces ≤ 2 ^ 25 → PassAt C q o h a o h a 0 false
+pub pass-starts : {C : Counts} {q : List ℤ} {o h a : List ℕ} → GoodRows C q o h a → C.faces ≤ 2 ^ 25 → PassAt C q o h a o h a 0
 unfolding closing_of
 pass-starts {C} {q} {o} {h} {a} R l = record {
   ready = record { rows = R; few = l; bound = within_none };
@@ -129,34 +131,31 @@ pass-starts {C} {q} {o} {h} {a} R l = record {
   lengths = same_refl;
 }
 
--- the loop's test is `!still`
-goes : (s : Bool) → not s ≡ true → s ≡ false
-goes true e = sym e
-goes false e = refl
-
-ends : (s : Bool) → not s ≡ false → s ≡ true
-ends true e = refl
-ends false e = sym e
-
-module _ {C : Counts} {q : List ℤ} {o₀ h₀ a₀ o h a : List ℕ} {c : ℕ} {s : Bool} (I : PassAt C q o₀ h₀ a₀ o h a c s) where
-  module _ (o' h' a' : List ℕ) (c' : ℕ) {s' : Bool} (n : not s ≡ true) (e : closing_of o' h' a' c' ≡ close_below (position_of q) C.edges (closing_of o h a c))
-      (b : s' ≡ eqb c' c) where
-    next : passed o' h' a' c' s' ≡ close_turn C (position_of q) (passed o h a c s)
+module _ {C : Counts} {q : List ℤ} {o₀ h₀ a₀ o h a : List ℕ} {c : ℕ} (I : PassAt C q o₀ h₀ a₀ o h a c) where
+  module _ (o' h' a' : List ℕ) (c' : ℕ) (e : closing_of o' h' a' c' ≡ close_below (position_of q) C.edges (closing_of o h a c)) where
+    next : (s : Bool) → eqb c' c ≡ s → passed o' h' a' c' s ≡ close_turn C (position_of q) (passed o h a c false)
     unfolding close_turn closing_of
-    next =
-        ap (λ (x : Bool). record { state = closing_of o' h' a' c'; still = x }) b
+    next s b =
+        ap (λ (x : Bool). record { state = closing_of o' h' a' c'; still = x }) (sym b)
         ∙ ap (λ (t : Closing). record { state = t; still = eqb t.flips c }) e
 
-    pub pass_on : SameLengths o h a o' h' a' → PassAt C q o₀ h₀ a₀ o' h' a' c' s'
-    pass_on k = record {
-      ready = closable-on I.ready (flipping-below C (position_of q) C.edges (omega arith) (closing_of o h a c)) e k;
-      going = subst⁻¹ (Going _ _ _ _ _ _) next (going-turn _ _ (turns-fall C (position_of q)) I.going (goes s n));
-      lengths = same-trans I.lengths k;
-    }
+    -- the turn has flipped an edge: on to another
+    module _ (n : c' ≢ c) where
+      moved : passed o' h' a' c' false ≡ close_turn C (position_of q) (passed o h a c false)
+      moved = next false (ne_eqb c' c n)
 
-    pub pass-less : height_left C (position_of q) (passed o' h' a' c' s') < height_left C (position_of q) (passed o h a c s)
-    pass-less = subst⁻¹ (λ (t : Turned). height_left C (position_of q) t < height_left C (position_of q) (passed o h a c s)) next (going_less _ _ (turns-fall C (position_of q)) I.going (goes s n))
+      pub pass_on : SameLengths o h a o' h' a' → PassAt C q o₀ h₀ a₀ o' h' a' c'
+      pass_on k = record {
+        ready = closable-on I.ready (flipping-below C (position_of q) C.edges (omega arith) (closing_of o h a c)) e k;
+        going = subst⁻¹ (Going _ _ _ _ _ _) moved (going-turn _ _ (turns-fall C (position_of q)) I.going refl);
+        lengths = same-trans I.lengths k;
+      }
 
-  pub pass-ends : not s ≡ false → closing_of o h a c ≡ closing_pass C (position_of q) (links_of o₀ h₀ a₀)
-  unfolding closing_pass
-  pass-ends d = ap (λ (t : Turned). t.state) (going_end _ _ (turns-fall C (position_of q)) I.going (ends s d))
+      pub pass-less : height_left C (position_of q) (passed o' h' a' c' false) < height_left C (position_of q) (passed o h a c false)
+      pass-less = subst⁻¹ (λ (t : Turned). height_left C (position_of q) t < height_left C (position_of q) (passed o h a c false)) moved (going_less _ _ (turns-fall C (position_of q)) I.going refl)
+
+    -- the turn has flipped nothing
+    pub pass-ends : c' ≡ c → closing_of o' h' a' c' ≡ closing_pass C (position_of q) (links_of o₀ h₀ a₀)
+    unfolding closing_pass
+    pass-ends k = ap (λ (t : Turned). t.state) (going_end _ _ (turns-fall C (position_of q))
+        (subst⁻¹ (Going _ _ _ _ _ _) (next true (eq-eqb c' c k)) (going-turn _ _ (turns-fall C (position_of q)) I.going refl)) refl)

@@ -51,6 +51,7 @@ fn close_turn(
 {
     let mut made = flips;
     let mut u = 0;
+    // no `for`: u goes on by a block
     while u < counts.edges {
         // edges that are not flipped are mostly passed over together
         let v = circle_scan::unbroken(positions, halves, u, counts.edges);
@@ -78,11 +79,11 @@ pub fn closing_pass(
         (links_of outs.old halves.old faces.old) }
 {
     let mut flips = 0;
-    let mut still = false;
-    while !still {
+    loop {
         let before = flips;
         flips = close_turn(positions, outs, halves, faces, counts, before);
-        still = flips == before;
+        if flips == before {
+            return flips;
+        }
     }
-    flips
 }

@@ -1,14 +1,14 @@
 -- The call `commit` of 02, Change 5: its refusals, in the order of the table, its answer, what it leaves in the lent rows, and the change
 -- count. Definitions only, and each computes; `CommitLaws` says what they come to. 02: "Committing takes the quote and the point, and gives
 -- the mesh and answer that a step gives, on a step's rows."
-use Rattle.std.specs.Prelude.{Bool, cond, List, ℕ, ◌+◌, eqb, ℤ, length}
+use Rattle.std.specs.Prelude.{Bool, cond, List, ℕ, ◌+◌, eqb, ℤ, length, Ok, Err}
 use Rattle.angle.specs.declared.Point2.{Point2}
 use Rattle.ask.specs.Ask.{quote_of}
-use Rattle.finish.specs.declared.Finished.{Finished}
+use Rattle.finish.specs.Finished.{Finished}
 use Rattle.heights.specs.Heights.{SurfaceRows}
 use Rattle.math.specs.declared.Point.{Point}
 use Rattle.mesh.specs.declared.Counts.{Counts}
-use Rattle.mesh_check.specs.declared.Checked.{Checked}
+use Rattle.mesh_check.specs.Checked.{Checked}
 use Rattle.mesh_check.specs.Check.{and_then}
 use Rattle.quote.specs.declared.Quote.{Quote}
 use Rattle.quote.specs.Quote.{check_quote, check_changes}
@@ -16,7 +16,7 @@ use Rattle.ring_rows.specs.RingRows.{RingRows}
 use Rattle.sums.specs.Bit.{bit}
 use Rattle.surface.specs.StoredHeights.{is_made}
 use Rattle.surface.specs.Surface.{SurfaceStepped, surface_stepped, surface_step_checked, surface_step}
-use Rattle.sweep.specs.declared.Stepped.{Stepped}
+use Rattle.sweep.specs.Stepped.{Stepped}
 use Rattle.sweep.specs.Step.{is_added}
 use Rattle.sweep.specs.StepCall.{stepped_with}
 
@@ -30,8 +30,8 @@ commit_checked changes C s nodes freed buckets pending center v z q =
 -- ---- the change count
 -- "which rises by one with each commit that adds a vertex or is refused 9"
 unfoldable pub is_counted : Stepped → Bool
-is_counted (Stepped.Accepted a) = is_added a.fate
-is_counted (Stepped.Refused r) = eqb r.number 9
+is_counted (Ok a) = is_added a.fate
+is_counted (Err r) = eqb r.number 9
 
 unfoldable pub commit_changes : ℕ → Stepped → ℕ
 commit_changes changes stepped = changes + bit (is_counted stepped)
@@ -56,8 +56,8 @@ nothing_done changes C s ring pending stepped =
 
 -- what is accepted is the step w
 unfoldable pub commit_outcome : ℕ → Counts → SurfaceRows → RingRows → List ℕ → Checked → SurfaceStepped → CommitOutcome
-commit_outcome changes C s ring pending (Checked.Refused r) w = nothing_done changes C s ring pending (Stepped.Refused r)
-commit_outcome changes C s ring pending Checked.Accepted w = committed_with w (commit_changes changes w.call.answer.stepped)
+commit_outcome changes C s ring pending (Err r) w = nothing_done changes C s ring pending (Err r)
+commit_outcome changes C s ring pending (Ok _) w = committed_with w (commit_changes changes w.call.answer.stepped)
 
 unfoldable pub commit_of : ℕ → Counts → SurfaceRows → RingRows → List ℕ → Point2 → Point → ℤ → Quote → CommitOutcome
 commit_of changes C s ring pending center v z q =

@@ -1,6 +1,6 @@
 -- A quote beside the step: its fate and faces are those of the step's answer, for every pending row with which the step is accepted
 -- (`quote-answer`), and where it is refused 9 they are what it has decided (`quote-nine`). No check refuses 9. Assumes nothing.
-use Rattle.std.specs.Prelude.{Bool, true, false, cond, List, [], ◌∷◌, ◌≢◌, ◌≡◌, ℕ, ◌+◌, ◌<◌, ℤ, length}
+use Rattle.std.specs.Prelude.{Bool, true, false, cond, List, [], ◌∷◌, ◌≢◌, ◌≡◌, ℕ, ◌+◌, ◌<◌, ℤ, length, Ok, Err}
 use Rattle.std.proofs.Math.Path.{refl}
 use Rattle.std.proofs.Common.{sym, ◌∙◌, ap, subst, arith}
 use Rattle.angle.specs.declared.Point2.{Point2}
@@ -13,8 +13,7 @@ use Rattle.heights.specs.Heights.{SurfaceRows, heights_lent, check_ten, any_heig
 use Rattle.locate.proofs.StartLaws.{start-numbered}
 use Rattle.math.specs.declared.Point.{Point}
 use Rattle.mesh.specs.declared.Counts.{Counts}
-use Rattle.mesh_check.specs.declared.Checked.{Checked}
-use Rattle.mesh_check.specs.declared.Checked.TheVariants.{Accepted, Refused}
+use Rattle.mesh_check.specs.Checked.{Checked}
 use Rattle.mesh_check.specs.declared.Refusal.{Refusal}
 use Rattle.mesh_check.specs.Check.{refused, and_then, range_with}
 use Rattle.mesh_check.specs.CheckLaws.{NumberedTo}
@@ -24,7 +23,7 @@ use Rattle.start.specs.Start.{point_row}
 use Rattle.surface.specs.Surface.{SurfaceStepped, surface_stepped, surface_step_checked, surface_step, heights_after}
 use Rattle.sweep.specs.declared.Answer.{Answer}
 use Rattle.sweep.specs.declared.StepAnswer.{StepAnswer}
-use Rattle.sweep.specs.declared.Stepped.{Stepped}
+use Rattle.sweep.specs.Stepped.{Stepped}
 use Rattle.sweep.specs.Step.{Stepping, answer_of, is_added, step_mesh}
 use Rattle.sweep.specs.StepCall.{StepOutcome, answer_from, step_checked, stepped_with, step_outcome, step_of}
 use Rattle.sweep.specs.StepCallLaws.{StepAccepted}
@@ -34,12 +33,12 @@ use Rattle.commit.specs.CommitParts.{step-point}
 
 -- ---- no check refuses 9: that comes out of the work alone
 abbrev Never : Checked → Type 0
-Never c = (r : Refusal) → c ≡ Refused r → r.number ≢ 9
+Never c = (r : Refusal) → c ≡ Err r → r.number ≢ 9
 
 then_never : (a : Checked) {b : Checked} → Never a → Never b → Never (and_then a b)
 unfolding and_then
-then_never Accepted f g = g
-then_never (Refused x) f g = f
+then_never (Ok _) f g = g
+then_never (Err x) f g = f
 
 numbered-never : {n : ℕ} {c : Checked} → n < 9 → NumberedTo n c → Never c
 numbered-never {n} l N r e k = let z = (numbered-at (subst (NumberedTo n) e N)).1 in absurd (omega arith)
@@ -53,7 +52,7 @@ cond-never : (t : Bool) {a b : Checked} → Never a → Never b → Never (cond 
 cond-never true f g = f
 cond-never false f g = g
 
-accepted-never : Never Accepted
+accepted-never : Never (Ok tt)
 accepted-never r e k = absurd (let z : ◌≡◌ {A = ℕ} 0 1 = cc in omega arith)
 
 point-never : (short : Bool) (C : Counts) (s : SurfaceRows) (center : Point2) (v : Point) (z : ℤ) → Never (point_checked short C s center v z)
@@ -77,18 +76,18 @@ module _ (C : Counts) (s : SurfaceRows) (ring : RingRows) (pending : List ℕ) (
   abbrev pub told : Decided
   told = decided center.x center.y C (links_in s.mesh) (places_in s.mesh) v
 
-  pub step-never : (r : Refusal) → step_checks ≡ Refused r → r.number ≢ 9
+  pub step-never : (r : Refusal) → step_checks ≡ Err r → r.number ≢ 9
   step-never = subst Never (sym (step-point C s _ _ _ _ center v z)) (point-never _ C s center v z)
 
-  pub step-none : {r : Refusal} → step_checks ≡ Refused r
+  pub step-none : {r : Refusal} → step_checks ≡ Err r
       → surface_step C s ring pending center v z
-      ≡ surface_stepped (stepped_with (record { counts = C; stepped = Stepped.Refused r }) s.mesh ring pending) s.heights
+      ≡ surface_stepped (stepped_with (record { counts = C; stepped = Err r }) s.mesh ring pending) s.heights
   unfolding surface_step step_outcome heights_after
   step-none e = rw e refl
 
-  module _ (e : step_checks ≡ Accepted) where
+  module _ (e : step_checks ≡ Ok tt) where
     pub mesh-accepts : step_checked C s.mesh (length ring.nodes) (length ring.freed) (length ring.buckets) (length pending) center v
-        ≡ Accepted
+        ≡ Ok tt
     unfolding surface_step_checked
     mesh-accepts = (then-accepts _ _ e).1
 
@@ -101,34 +100,34 @@ module _ (C : Counts) (s : SurfaceRows) (ring : RingRows) (pending : List ℕ) (
     answer-is = rw e refl
 
   -- what is accepted is accepted by the checks, and so is 9
-  step-passed : {x : Answer} → (surface_step C s ring pending center v z).call.answer.stepped ≡ Stepped.Accepted x → step_checks ≡ Accepted
+  step-passed : {x : Answer} → (surface_step C s ring pending center v z).call.answer.stepped ≡ Ok x → step_checks ≡ Ok tt
   step-passed {x} e = go step_checks refl
     where
-      go : (c : Checked) → step_checks ≡ c → step_checks ≡ Accepted
-      go Accepted k = k
-      go (Refused r) k =
-          let w : Stepped.Refused r ≡ Stepped.Accepted x = ap (λ (y : SurfaceStepped). y.call.answer.stepped) (sym (step-none k)) ∙ e in
+      go : (c : Checked) → step_checks ≡ c → step_checks ≡ Ok tt
+      go (Ok tt) k = k
+      go (Err r) k =
+          let w : Err r ≡ Ok x = ap (λ (y : SurfaceStepped). y.call.answer.stepped) (sym (step-none k)) ∙ e in
           absurd (let n : ◌≡◌ {A = ℕ} 0 1 = cc in omega arith)
 
-  step-nine : {r : Refusal} → (surface_step C s ring pending center v z).call.answer.stepped ≡ Stepped.Refused r → r.number ≡ 9
-      → step_checks ≡ Accepted
+  step-nine : {r : Refusal} → (surface_step C s ring pending center v z).call.answer.stepped ≡ Err r → r.number ≡ 9
+      → step_checks ≡ Ok tt
   step-nine {r} e n = go step_checks refl
     where
-      go : (c : Checked) → step_checks ≡ c → step_checks ≡ Accepted
-      go Accepted k = k
-      go (Refused x) k =
-          let w : Stepped.Refused x ≡ Stepped.Refused r = ap (λ (y : SurfaceStepped). y.call.answer.stepped) (sym (step-none k)) ∙ e in
+      go : (c : Checked) → step_checks ≡ c → step_checks ≡ Ok tt
+      go (Ok tt) k = k
+      go (Err x) k =
+          let w : Err x ≡ Err r = ap (λ (y : SurfaceStepped). y.call.answer.stepped) (sym (step-none k)) ∙ e in
           let i : ◌≡◌ {A = ℕ} x.number r.number = cc in
           absurd (step-never x k (i ∙ n))
 
   -- by whether a flip was refused
   pub answered : (b : Bool) → made.mesh.full ≡ b → (answer_from 0 made).stepped
-      ≡ cond b (Stepped.Refused (record { number = 9; place = 0 })) (Stepped.Accepted (answer_of made))
+      ≡ cond b (Err (record { number = 9; place = 0 })) (Ok (answer_of made))
   unfolding answer_from
   answered b k = rw k refl
 
   -- A QUOTE TELLS THE STEP'S ANSWER: its fate and faces, whatever the flips, for every row of pending entries with which it is accepted
-  pub quote-answer : (changes : ℕ) (x : Answer) → (surface_step C s ring pending center v z).call.answer.stepped ≡ Stepped.Accepted x
+  pub quote-answer : (changes : ℕ) (x : Answer) → (surface_step C s ring pending center v z).call.answer.stepped ≡ Ok x
       → ((quote_of changes C s.mesh center v z).fate ≡ fate_number x.fate) × ((quote_of changes C s.mesh center v z).faces ≡ x.faces)
   unfolding quote_of quote_from faces_of if_added is_added
   quote-answer changes x e = (ap fate_number (sym A.fate), go x.fate refl)
@@ -146,7 +145,7 @@ module _ (C : Counts) (s : SurfaceRows) (ring : RingRows) (pending : List ℕ) (
       go AtCenter k = rw (sym A.fate ∙ k) (sym (A.alone (ap is_added k)).2)
 
   -- and where the step is refused 9, it has the same decision: added, with a face for the located edge and for each edge that its walks cover
-  pub quote-nine : (changes : ℕ) (r : Refusal) → (surface_step C s ring pending center v z).call.answer.stepped ≡ Stepped.Refused r
+  pub quote-nine : (changes : ℕ) (r : Refusal) → (surface_step C s ring pending center v z).call.answer.stepped ≡ Err r
       → r.number ≡ 9
       → ((quote_of changes C s.mesh center v z).fate ≡ 1)
       × ((quote_of changes C s.mesh center v z).faces
@@ -154,7 +153,7 @@ module _ (C : Counts) (s : SurfaceRows) (ring : RingRows) (pending : List ℕ) (
   unfolding quote_of quote_from faces_of if_added fate_number
   quote-nine changes r e n = go made.mesh.full refl
     where
-      k : step_checks ≡ Accepted
+      k : step_checks ≡ Ok tt
       k = step-nine e n
 
       go : (b : Bool) → made.mesh.full ≡ b
@@ -163,5 +162,5 @@ module _ (C : Counts) (s : SurfaceRows) (ring : RingRows) (pending : List ℕ) (
           let a = added_of told.fate (full-added (length pending) center.x center.y C (links_in s.mesh) (places_in s.mesh) v f) in
           (rw a.1 refl, rw a.1 refl)
       go false f =
-          let w : Stepped.Accepted (answer_of made) ≡ Stepped.Refused r = sym (answered false f) ∙ sym (ap (λ (y : StepAnswer). y.stepped) (answer-is k)) ∙ e in
+          let w : Ok (answer_of made) ≡ Err r = sym (answered false f) ∙ sym (ap (λ (y : StepAnswer). y.stepped) (answer-is k)) ∙ e in
           absurd (let i : ◌≡◌ {A = ℕ} 0 1 = cc in omega arith)

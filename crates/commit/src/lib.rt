@@ -9,12 +9,12 @@ ghost use Rattle.quote.specs.Quote.{last_change};
 ghost use Rattle.commit.specs.Commit.{commit_checked, is_counted, commit_changes, run_changes};
 
 use angle::Point2;
-use finish::Finished;
+use finish::Totals;
 use math::Point;
 use mesh::Counts;
-use mesh_check::Checked;
+use mesh_check::Refusal;
 use quote::Quote;
-use sweep::Stepped;
+use sweep::Answer;
 
 // Rows 1, 2, 3, 10, 4, 5, 6, 7, 11 and 12. The rows that are not the mesh's are given by their lengths. Nothing is written: asking makes no
 // ring.
@@ -34,56 +34,49 @@ pub fn check_commit(
     point: Point,
     z: i32,
     quote: Quote,
-) -> Checked
+) -> Result<(), Refusal>
     ensures { result ≡ commit_checked changes counts (surface_rows
         (mesh_rows positions.now outs.now halves.now faces.now) heights.now)
         nodes freed buckets pending center point z quote }
 {
     let n = (counts.vertices as usize) + 1;
     let short = start::sweep_rows_short(false, n, nodes, freed, buckets, pending);
-    match ask_rows::check_point(
+    ask_rows::check_point(
         short, counts, positions, heights, outs, halves, faces, center, point, z,
-    ) {
-        Checked::Refused(r) => Checked::Refused(r),
-        Checked::Accepted => {
-            let present = ask_rows::quote_now(
-                changes, counts, positions, halves, faces, center, point, z,
-            );
-            quote::check_quote(quote, present)
-        }
-    }
+    )?;
+    let present = ask_rows::quote_now(changes, counts, positions, halves, faces, center, point, z);
+    quote::check_quote(quote, present)
 }
 
 // Whether a commit adds a vertex or is refused 9.
-fn is_counted(stepped: Stepped) -> bool
+fn is_counted(stepped: Result<Answer, Refusal>) -> bool
     ensures { result ≡ is_counted stepped }
 {
     match stepped {
-        Stepped::Accepted(answer) => {
-            let fate = answer.fate;
-            decide::fate_number(fate) == 1
-        }
-        Stepped::Refused(refusal) => refusal.number == 9,
+        Ok(answer) => decide::fate_number(answer.fate) == 1,
+        Err(refusal) => refusal.number == 9,
     }
 }
 
 // The change count after a commit that the checks accept.
-pub fn commit_changes(changes: u32, stepped: Stepped) -> u32
+pub fn commit_changes(changes: u32, stepped: Result<Answer, Refusal>) -> u32
     requires { changes < last_change }
     ensures { result ≡ commit_changes changes stepped }
 {
     if is_counted(stepped) {
-        return changes + 1;
+        changes + 1
+    } else {
+        changes
     }
-    changes
 }
 
 // The change count after a run.
-pub fn run_changes(changes: u32, finished: Finished) -> u32
+pub fn run_changes(changes: u32, finished: Result<Totals, Refusal>) -> u32
     ensures { result ≡ run_changes changes finished }
 {
     if surface_rows::is_made(finished) {
-        return 0;
+        0
+    } else {
+        changes
     }
-    changes
 }

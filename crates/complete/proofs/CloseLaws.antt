@@ -4,7 +4,6 @@ use Rattle.std.proofs.Math.Path.{refl}
 use Rattle.closing.specs.Closing.{closing_pass}
 use Rattle.closing.specs.ClosingRows.{closing_of}
 use Rattle.dcel.specs.Rows.{links_of, position_of}
-use Rattle.finish.specs.declared.Ended.{Ended}
 use Rattle.finish.specs.Finish.{close_after}
 use Rattle.finish.specs.FinishRows.{finishing_of}
 use Rattle.complete.specs.declared.FillEnd.{FillEnd}

@@ -169,16 +169,16 @@ module _ {C₀ : Counts} {q₀ : List ℤ} {o₀ h₀ a₀ row₀ w₀ : List �
           ∙ ap (λ (s : Filling). insert_word s.counts (insert_on (length row₀) s (point i)) k) (sym I.at)
 
       -- a flip was refused
-      pub filling-full : r.full ≡ true
-          → FillLeaves C₀ q₀ o₀ h₀ a₀ (length row₀) w₀ points n q' o' h' a' w' (record { counts = r.counts; answered = i; full = true })
+      pub filling-full : r.full ≡ true → FillLeaves C₀ q₀ o₀ h₀ a₀ (length row₀) w₀ points n q' o' h' a' w' r
       unfolding with_inserted
       filling-full f =
           let k : suc i + (n - suc i) ≡ n = omega arith in
-          let z : list (suc i) ≡ filling_of q' o' h' a' (record { counts = r.counts; answered = i; full = true }) =
-          next-is ∙ rw (answered-is, f) refl in
+          let e : i ≡ r.answered = sym (answered-is ∙ rw f refl) in
           record {
-            is = sym (ap list (sym k) ∙ frozen (length row₀) C₀ L₀ p₀ sk point (suc i) (n - suc i) (ap (λ (s : Filling). s.full) z) ∙ z);
-            answers-are = λ x. ap (λ (g : ℕ → ℕ). g x) X.answers-are ∙ same (skipped_in (row_of w) i) x ∙ I.answers-are x;
+            is = sym (ap list (sym k) ∙ frozen (length row₀) C₀ L₀ p₀ sk point (suc i) (n - suc i) (ap (λ (s : Filling). s.full) next-is ∙ f) ∙ next-is);
+            answers-are = λ x.
+                ap (λ (g : ℕ → ℕ). g x) X.answers-are ∙ same (skipped_in (row_of w) i) x ∙ I.answers-are x
+                ∙ ap (λ (m : ℕ). filled_answers (fill_word (length row₀) C₀ L₀ p₀ sk point) sk m (row_of w₀) x) e;
           }
         where
           same : (b : Bool) (x : ℕ)
@@ -208,10 +208,14 @@ module _ {C₀ : Counts} {q₀ : List ℤ} {o₀ h₀ a₀ row₀ w₀ : List �
           }
 
   pub filling-end : n ≤ i
-      → FillLeaves C₀ q₀ o₀ h₀ a₀ (length row₀) w₀ points n q o h a w (record { counts = C; answered = i; full = false })
+      → FillLeaves C₀ q₀ o₀ h₀ a₀ (length row₀) w₀ points n q o h a w (record { counts = C; answered = n; full = false })
   filling-end l =
       let z : i ≡ n = (let m = I.most in omega arith) in
-      record { is = sym (ap list (sym z) ∙ I.at); answers-are = I.answers-are }
+      record {
+        is = sym (ap list (sym z) ∙ I.at ∙ ap (filling_at C q o h a) z);
+        answers-are = λ x.
+            I.answers-are x ∙ ap (λ (m : ℕ). filled_answers (fill_word (length row₀) C₀ L₀ p₀ sk point) sk m (row_of w₀) x) z;
+      }
 
 -- what a list leaves is a good mesh in the rows
 module _ {C : Counts} {q : List ℤ} {o h a row w : List ℕ} {points : List ℤ} {n : ℕ} (R : FillReady C q o h a row w points n)

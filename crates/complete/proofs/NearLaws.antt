@@ -1,7 +1,8 @@
 -- What the search from near by asks, for one point and for the list: a mesh to walk on stays one while points go in. Assumes nothing.
-use Rattle.std.specs.Prelude.{Bool, true, List, ◌≡◌, ℕ, ◌*◌, ◌<◌, ◌≤◌, T, ℤ, length}
+use Rattle.std.specs.Prelude.{Bool, true, List, ◌≡◌, ℕ, ◌<◌, T, ℤ, length}
 use Rattle.std.proofs.Common.{sym, ◌∙◌, ap, subst, arith}
 use Rattle.answers.specs.AnswerRows.{skipped_in}
+use Rattle.circle_test.specs.GoodRows.{GoodRows}
 use Rattle.dcel.specs.Rows.{links_of, position_of, row_of}
 use Rattle.insert.specs.InsertRows.{NearPointReady}
 use Rattle.math.specs.declared.Point.{Point}
@@ -14,7 +15,7 @@ use Rattle.skipped.specs.Fill.{Filling}
 use Rattle.skipped_nearby.proofs.InsertWalkable.{fill-walkable}
 use Rattle.sums.proofs.BitLaws.{from-true}
 use Rattle.walkable.specs.Walkable.{Walkable}
-use Rattle.complete.specs.CompleteRows.{PointNear, FillReady, FillNear, ToPrepare}
+use Rattle.complete.specs.CompleteRows.{PointNear, FillNear}
 use Rattle.complete.specs.FillLoop.{FillingOn}
 use Rattle.complete.proofs.FillLoopLaws.{filling-point}
 use Rattle.complete.proofs.PointLaws.{point-ready}
@@ -29,17 +30,12 @@ module _ {C : Counts} {q : List ℤ} {o h a row w : List ℕ} {points : List ℤ
   point-near v-is l = record { ready = point-ready N.rows e t v-is; used = l; walkable = N.walkable }
 
 -- ---- what is prepared: the test says that the mesh is one to walk on
-module _ {C : Counts} {q : List ℤ} {o h a w : List ℕ} {points : List ℤ} {n : ℕ} (R : ToPrepare C q o h a w points n) where
-  pub grid-ready : (0 < C.vertices) × (2 * C.vertices ≤ length q) × (2 * n ≤ length points)
-  grid-ready = (let k = vertices-least R.rows.good.wf in omega arith, R.rows.positions, R.pairs)
+module _ {C : Counts} {q : List ℤ} {o h a : List ℕ} (R : GoodRows C q o h a) where
+  pub vertices-some : 0 < C.vertices
+  vertices-some = let k = vertices-least R.good.wf in omega arith
 
   pub prepared : {b : Bool} → b ≡ is_walkable C (links_of o h a) (position_of q) → b ≡ true → Walkable C (links_of o h a) (position_of q)
-  prepared e t = tested-walkable R.rows.good.wf (position_of q) (from-true (sym e ∙ t))
-
--- a list that is ready is so for the preparation
-pub to-prepare : {C : Counts} {q : List ℤ} {o h a row w : List ℕ} {points : List ℤ} {n : ℕ} → FillReady C q o h a row w points n
-    → ToPrepare C q o h a w points n
-to-prepare R = record { rows = R.rows; pairs = R.pairs; answers-room = R.answers-room }
+  prepared e t = tested-walkable R.good.wf (position_of q) (from-true (sym e ∙ t))
 
 -- ---- the list: the mesh before point i is still one to walk on
 pub filling-near : {C₀ : Counts} {q₀ : List ℤ} {o₀ h₀ a₀ row₀ w₀ : List ℕ} {points : List ℤ} {n : ℕ} {known : Bool}

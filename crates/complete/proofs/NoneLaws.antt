@@ -1,5 +1,6 @@
 -- Where no point was skipped none goes in: how that is found out, and what is left then. Assumes nothing.
-use Rattle.std.specs.Prelude.{Bool, false, List, ◌≡◌, refl, ℕ, zero, suc, ◌+◌, ◌<◌, ◌≤◌, ℤ, length}
+use mir.Val.{bool_byte}
+use Rattle.std.specs.Prelude.{Bool, true, false, List, ◌≡◌, refl, ℕ, zero, suc, ◌+◌, ◌≤◌, ℤ, length}
 use Rattle.std.proofs.Common.{sym, ◌∙◌, subst, le_refl, add-one, arith}
 use Rattle.std.proofs.Math.Decide.{ℕ_discrete}
 use Rattle.answers.specs.AnswerRows.{skipped_in}
@@ -9,6 +10,15 @@ use Rattle.complete.specs.CompleteRows.{NoneSkipped, FillReady, FillLeaves}
 use Rattle.complete.specs.FillLoop.{FillingOn}
 use Rattle.complete.proofs.FillLoopLaws.{filling-starts, filling-on, filling-end}
 use Rattle.complete.proofs.PointLaws.{not-skipped}
+
+-- a test that adds nothing to a count fails, and none adds more than 1
+pub not-counted : (b : Bool) → bool_byte b ≡ zero → b ≡ false
+not-counted true e = absurd (omega arith)
+not-counted false e = refl
+
+pub counted-most : (b : Bool) → bool_byte b ≤ 1
+counted-most true = omega arith
+counted-most false = omega arith
 
 -- the next was not skipped either
 pub none_more : (w : List ℕ) (i : ℕ) → NoneSkipped w i → {b : Bool} → b ≡ skipped_in (row_of w) i → b ≡ false → NoneSkipped w (i + 1)

@@ -1,10 +1,10 @@
 -- A settled mesh stays one while points go in, as far as that is tested, and the closing pass of a settled mesh flips nothing. Assumes nothing.
-use Rattle.std.specs.Prelude.{Bool, true, false, cond, List, ◌⊎◌, ◌≡◌, ℕ, zero, suc, ◌+◌, ◌*◌, ◌/◌, ◌%◌, ◌<◌, ◌≤◌, T, eqb, ℤ, nat_abs, length}
+use Rattle.std.specs.Prelude.{Bool, true, false, List, ◌⊎◌, ◌≡◌, ℕ, suc, ◌+◌, ◌*◌, ◌/◌, ◌%◌, ◌<◌, ◌≤◌, T, eqb, ℤ, nat_abs, length}
 use Rattle.std.proofs.Common.{inl, inr, sym, ◌∙◌, ap, subst, arith, eq-eqb}
 use Rattle.std.proofs.Math.Logic.{⊎_elim}
 use Rattle.std.proofs.Math.Path.{refl, subst⁻¹}
 use Rattle.answers.specs.AnswerRows.{with_words, skipped_in}
-use Rattle.closing.specs.Closing.{Closing, close_below, Turned, close_turn, unturned, closing_pass}
+use Rattle.closing.specs.Closing.{Closing, Turned, close_turn, unturned, closing_pass}
 use Rattle.closing.specs.ClosingLaws.{settled-below}
 use Rattle.closing.specs.ClosingRows.{closing_of}
 use Rattle.dcel.specs.Rows.{links_of, position_of, row_of}
@@ -30,7 +30,7 @@ use Rattle.sums.specs.Until.{until}
 use Rattle.sums.proofs.UntilLaws.{until-next, until-done}
 use Rattle.sweep.specs.Run.{answer_words}
 use Rattle.complete.specs.declared.FillEnd.{FillEnd}
-use Rattle.complete.specs.CompleteRows.{filling_at, PointLeaves, FillReady, with_inserted, inside_number, StillSettled}
+use Rattle.complete.specs.CompleteRows.{filling_at, PointLeaves, with_inserted, inside_number, StillSettled}
 use Rattle.complete.specs.FillLoop.{FillingOn}
 use Rattle.complete.proofs.FillLoopLaws.{filling-rows}
 

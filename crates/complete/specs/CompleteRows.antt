@@ -91,17 +91,6 @@ StillSettled C C' q o h a w i =
 abbrev pub NoneSkipped : List ℕ → ℕ → Type 0
 NoneSkipped w n = (i : ℕ) → i < n → skipped_in (row_of w) i ≡ false
 
--- and where that is known no point was skipped
-pub record FillAny (C : Counts) (q : List ℤ) (o h a row w : List ℕ) (points : List ℤ) (n : ℕ) (none known : Bool) : Type 0 where
-  pub near : FillNear C q o h a row w points n known
-  pub unskipped : T none → NoneSkipped w n
-
--- what the preparation reads
-pub record ToPrepare (C : Counts) (q : List ℤ) (o h a w : List ℕ) (points : List ℤ) (n : ℕ) : Type 0 where
-  pub rows : GoodRows C q o h a
-  pub pairs : 2 * n ≤ length points
-  pub answers-room : answer_words * n ≤ length w
-
 -- the answers of the skipped points among the first `done`
 unfoldable pub filled_answers : (ℕ → ℕ → ℕ) → (ℕ → Bool) → ℕ → (ℕ → ℕ) → ℕ → ℕ
 filled_answers answer skipped done row x =

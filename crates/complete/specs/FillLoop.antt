@@ -1,28 +1,12 @@
 -- The loop over the skipped points: after i points of the list the rows hold the mesh of the definition's list, and the answers of those
 -- among them that were skipped. Assumes nothing.
-use Rattle.std.specs.Prelude.{Bool, ◌&&◌, List, ◌≡◌, T, ℤ, length}
-use Rattle.std.proofs.Math.Bool.{true, false, cond, not}
-use Rattle.std.proofs.Math.Path.{refl, sym, ap, subst⁻¹}
-use Rattle.std.proofs.Common.{◌∙◌, ap₂, subst, add-suc, add-zero, le_refl, add-one}
-use Prim.Native.Nat.{ℕ, zero, suc, ◌+◌, ◌-◌, ◌*◌, ◌^◌, ◌<◌, ◌≤◌}
-use native.Mathlib.Omega.{arith}
-use Rattle.answers.specs.AnswerRows.{skipped_number, skipped_in, with_words}
-use Rattle.circle_test.specs.GoodRows.{GoodRows}
+use Rattle.std.specs.Prelude.{List, ◌≡◌, ℤ, length}
+use Prim.Native.Nat.{ℕ, ◌≤◌}
+use Rattle.answers.specs.AnswerRows.{skipped_in}
 use Rattle.dcel.specs.Rows.{links_of, position_of, row_of}
-use Rattle.math.specs.declared.Point.{Point}
 use Rattle.mesh.specs.declared.Counts.{Counts}
-use Rattle.mesh.specs.Mesh.{Links}
-use Rattle.mesh.proofs.CountsLaws.{count-edges, count-faces}
-use Rattle.mesh.specs.Good.{Good}
-use Rattle.skipped.specs.Insert.{is_new}
-use Rattle.skipped.specs.Fill.{Filling, fill_point, fill_after, filled_by, passed_by, insert_on, inserted_at, insert_word, enters}
-use Rattle.skipped.proofs.FillLawsFacts.{fill-good, fill-vertices}
-use Rattle.sums.proofs.BitLaws.{and_left, and_right}
-use Rattle.sums.specs.Bounded.{count}
-use Rattle.sums.proofs.BoundedLaws.{count-imp, count-before, count-mono}
-use Rattle.sweep.specs.Run.{answer_words}
-use Rattle.complete.specs.declared.FillEnd.{FillEnd}
-use Rattle.complete.specs.CompleteRows.{filling_of, filling_at, PointRows, PointLeaves, with_inserted, FillReady, FillLeaves, filled_answers, fill_word}
+use Rattle.skipped.specs.Fill.{fill_after}
+use Rattle.complete.specs.CompleteRows.{filling_at, FillReady, filled_answers, fill_word}
 
 -- ---- the rows keep their lengths
 pub record SameRows (q : List ℤ) (o h a row w : List ℕ) (q' : List ℤ) (o' h' a' row' w' : List ℕ) : Type 0 where

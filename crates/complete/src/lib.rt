@@ -6,7 +6,7 @@
 // breaks the circle rule, and none at any new vertex does, there is nothing for the closing pass to flip (`skipped_settled`), so it is left out.
 #![tactic(auto)]
 
-ghost use Rattle.std.specs.Prelude.{false, ◌≡◌, ◌+◌, ◌*◌, ◌^◌, ◌<◌, ◌≤◌, T, length};
+ghost use Rattle.std.specs.Prelude.{false, ◌≡◌, ◌+◌, ◌*◌, ◌^◌, ◌<◌, ◌≤◌, T, is_some, length};
 ghost use Rattle.closing.specs.Closing.{closing_pass};
 ghost use Rattle.closing.specs.ClosingRows.{closing_of};
 ghost use Rattle.finish.specs.FinishRows.{finishing_of};
@@ -15,7 +15,7 @@ ghost use Rattle.sweep.specs.Run.{answer_words};
 ghost use Rattle.walkable.specs.Walkable.{Walkable};
 ghost use Rattle.dcel.specs.Rows.{links_of, position_of};
 ghost use Rattle.circle_test.specs.GoodRows.{GoodRows};
-ghost use Rattle.complete.specs.CompleteRows.{filling_of, PointNear, PointLeaves, ToPrepare, NoneSkipped, FillNear, FillAny, FillLeaves};
+ghost use Rattle.complete.specs.CompleteRows.{filling_of, PointNear, PointLeaves, NoneSkipped, FillReady, FillNear, FillLeaves};
 ghost use Rattle.complete.specs.CompleteRows.{inside_in, StillSettled};
 ghost use Rattle.dcel.specs.Rows.{row_of};
 ghost use Rattle.mesh.specs.Circle.{Settled};
@@ -23,8 +23,9 @@ ghost use Rattle.complete.specs.CompleteRows.{stopped_at, close_fill, CloseReady
 
 use corner::Extension;
 use finish::{Ended, Totals};
-use grid::Grid;
+use grid::{Grid, Range};
 use location::PositionInTriangulation;
+use math::Point;
 use mesh::Counts;
 use sweep::ANSWER_WORDS;
 
@@ -34,8 +35,11 @@ const LARGE: u32 = 65536;
 // From so many vertices on, at its end, a closing pass waits for memory longer than the tests take that make it needless.
 const LARGE_AT_END: u32 = 262144;
 
+// The points of a block.
+const BLOCK: u32 = prefetch::BLOCK as u32;
+
 // Where the skipped points have come to: the mesh's counts, how many points have been looked at, and whether a flip's pushes would have
-// overfilled the pending list.
+// overfilled the pending list. (`full` stays a flag: `filling_of` of specs/CompleteRows.antt has it, as the finish of a run is defined.)
 #[derive(Clone, Copy)]
 pub struct FillEnd {
     pub counts: Counts,
@@ -50,14 +54,11 @@ pub struct Filled {
     pub settled: bool,
 }
 
-// Whether it is known that no point was skipped, that the mesh is one to walk on, and that no edge breaks the circle rule; the grid of its
-// edges in the lent row.
+// The grid of the mesh's edges in the lent row, where the mesh is one to walk on; and whether it is known that no edge breaks the circle rule.
 #[derive(Clone, Copy)]
 pub struct Nearby {
-    pub none: bool,
-    pub known: bool,
+    pub grid: Option<Grid>,
     pub settled: bool,
-    pub grid: Grid,
 }
 
 // What is left of a run, and what a refusal 9 names.
@@ -67,7 +68,7 @@ pub struct Completed {
     pub place: u32,
 }
 
-// The number of the fate of a point that was put in at a position.
+// The number of the fate of a point that was put in at a position. (A number, since the row of answers is C's.)
 fn position_fate(position: PositionInTriangulation) -> u64
     ensures { result ≡ position_fate position }
 {
@@ -91,52 +92,31 @@ fn position_vertex(counts: Counts, position: PositionInTriangulation) -> u64
     }
 }
 
-// 1 for a test that passes.
-fn bit(t: bool) -> u32
-    ensures { (result ≤ 1) × (result ≡ 0 → t ≡ false) }
-{
-    if t {
-        return 1;
-    }
-    0
-}
-
 // How many points were skipped.
 fn count_skipped(answers: &[u64], count: u32) -> u32
     requires { answer_words * count ≤ length answers.now }
     ensures { result ≡ 0 → NoneSkipped answers.now count }
 {
     let mut skipped: u32 = 0;
-    let mut i: u32 = 0;
-    while i < count {
-        skipped += bit(answers::is_skipped(answers, i));
-        i += 1;
+    for i in 0..count {
+        skipped += u32::from(answers::is_skipped(answers, i));
     }
     skipped
 }
 
 // One vertex of so many goes into the grid, where there are many and few points come.
 fn stride(vertices: u32, skipped: u32) -> u32
+    requires { 0 < skipped }
     ensures { 0 < result }
 {
-    if skipped == 0 {
-        return 1;
-    }
-    let many = vertices / skipped / 4;
-    if many == 0 {
-        return 1;
-    }
-    many
+    (vertices / skipped / 4).max(1)
 }
 
 fn coarser(stride: u32) -> u32
     requires { 0 < stride }
     ensures { 0 < result }
 {
-    if stride < 100000000 {
-        return stride * 8;
-    }
-    stride
+    stride.saturating_mul(8)
 }
 
 // The grid over the mesh and the points. A sweep numbers its vertices from the centre out; so few from all over go in first, then more, and
@@ -144,24 +124,24 @@ fn coarser(stride: u32) -> u32
 fn vertices_grid(
     positions: &[i32],
     outs: &[u32],
-    grid: &mut [u32],
+    cells: &mut [u32],
     vertices: u32,
     points: &[i32],
     count: u32,
     skipped: u32,
 ) -> Grid
-    requires { (0 < vertices) × (2 * vertices ≤ length positions.now) × (2 * count ≤ length points.now) }
+    requires { (0 < vertices) × (2 * vertices ≤ length positions.now) × (2 * count ≤ length points.now) × (0 < skipped) }
 {
     let first = dcel::position(positions, 0);
-    let at = grid::range_at(first);
-    let mesh = grid::range_with(at, positions, vertices);
-    let all = grid::range_with(mesh, points, count);
-    let empty = grid::over(grid, all);
-    let step = stride(vertices, skipped);
-    let middle = coarser(step);
-    let few = grid::put_vertices(grid, empty, positions, outs, vertices, coarser(middle));
-    let more = grid::put_vertices(grid, few, positions, outs, vertices, middle);
-    grid::put_vertices(grid, more, positions, outs, vertices, step)
+    let range = Range::at(first)
+        .with(positions, vertices)
+        .with(points, count);
+    let fine = stride(vertices, skipped);
+    let middle = coarser(fine);
+    let empty = Grid::over(cells, range);
+    let few = empty.put_vertices(cells, positions, outs, vertices, coarser(middle));
+    let more = few.put_vertices(cells, positions, outs, vertices, middle);
+    more.put_vertices(cells, positions, outs, vertices, fine)
 }
 
 // Whether the mesh will be a large one, and no edge breaks the circle rule.
@@ -177,87 +157,77 @@ fn is_large_and_settled(
     ensures { T result → Settled counts
         (links_of outs.now halves.now faces.now) (position_of positions.now) }
 {
-    if counts.vertices < LARGE_AT_END && skipped < LARGE_AT_END {
-        return false;
-    }
-    settled_test::is_settled(positions, outs, halves, faces, counts)
+    (counts.vertices >= LARGE_AT_END || skipped >= LARGE_AT_END)
+        && settled_test::is_settled(positions, outs, halves, faces, counts)
 }
 
-// What the search from near by needs, where any point was skipped, and whether the closing pass may be left out.
+// What the search from near by needs, and whether the closing pass may be left out, where so many points were skipped.
 fn prepare(
     positions: &[i32],
     outs: &[u32],
     halves: &[u32],
     faces: &[u32],
-    answers: &[u64],
-    grid: &mut [u32],
+    cells: &mut [u32],
     counts: Counts,
     points: &[i32],
     count: u32,
+    skipped: u32,
 ) -> Nearby
-    requires { ToPrepare counts positions.now outs.now halves.now faces.now answers.now points.now count }
-    ensures { (T result.none → NoneSkipped answers.now count)
-        × (T result.known → Walkable counts
+    requires { GoodRows counts positions.now outs.now halves.now faces.now × (2 * count ≤ length points.now) × (0 < skipped) }
+    ensures { (T (is_some result.grid) → Walkable counts
         (links_of outs.now halves.now faces.now) (position_of positions.now))
         × (T result.settled → Settled counts
         (links_of outs.now halves.now faces.now) (position_of positions.now)) }
 {
-    let skipped = count_skipped(answers, count);
-    if skipped == 0 {
-        return Nearby {
-            none: true,
-            known: false,
-            settled: false,
-            grid: grid::none(),
-        };
-    }
     if !search_near::is_walkable(positions, outs, halves, faces, counts) {
         return Nearby {
-            none: false,
-            known: false,
+            grid: None,
             settled: false,
-            grid: grid::none(),
         };
     }
     let settled = is_large_and_settled(positions, outs, halves, faces, counts, skipped);
+    let grid = vertices_grid(
+        positions,
+        outs,
+        cells,
+        counts.vertices,
+        points,
+        count,
+        skipped,
+    );
     Nearby {
-        none: false,
-        known: true,
-        settled: settled,
-        grid: vertices_grid(
-            positions,
-            outs,
-            grid,
-            counts.vertices,
-            points,
-            count,
-            skipped,
-        ),
+        grid: Some(grid),
+        settled,
     }
 }
 
 // Point i, where it became a vertex, has an edge put into the grid: the first new one.
 fn place(
-    grid: &mut [u32],
-    near: Nearby,
+    cells: &mut [u32],
+    grid: Option<Grid>,
     points: &[i32],
     i: u32,
     before: Counts,
     after: Counts,
-) -> Nearby
+) -> Option<Grid>
     requires { 2 * i + 1 < length points.now }
-    ensures { result.known ≡ near.known }
+    ensures { is_some result ≡ is_some grid }
 {
     if after.vertices <= before.vertices {
-        return near;
+        return grid;
     }
     let point = dcel::position(points, i);
-    let g = near.grid;
-    Nearby {
-        none: near.none,
-        known: near.known,
-        settled: near.settled,
-        grid: grid::put(grid, g, point, before.edges),
+    Some(grid?.put(cells, point, before.edges))
+}
+
+// Of so many edges one that is likely close to the point, from the grid.
+fn near(cells: &[u32], grid: Option<Grid>, edges: u32, point: Point) -> u32
+    requires { 0 < edges }
+    ensures { result < edges }
+{
+    match grid {
+        Some(grid) => grid.near(cells, edges, point),
+        None => 0,
     }
 }
 
@@ -272,43 +242,41 @@ fn fill_point(
     counts: Counts,
     points: &[i32],
     i: u32,
-    grid: &[u32],
-    near: Nearby,
+    cells: &[u32],
+    grid: Option<Grid>,
 ) -> FillEnd
     requires { PointNear counts positions.old outs.old halves.old faces.old pending.old answers.old points.now i
-        near.known }
+        (is_some grid) }
     ensures { PointLeaves counts positions.old outs.old halves.old faces.old
         (length pending.old) answers.old points.now i
         positions.new outs.new halves.new faces.new answers.new result }
 {
     if !answers::is_skipped(answers, i) {
         return FillEnd {
-            counts: counts,
+            counts,
             answered: i + 1,
             full: false,
         };
     }
     let point = dcel::position(points, i);
-    let g = near.grid;
-    let u = grid::near(grid, g, counts.edges, point);
+    let u = near(cells, grid, counts.edges, point);
+    let known = grid.is_some();
     let done = insert::insert_near(
-        positions, outs, halves, faces, pending, counts, point, near.known, u,
+        positions, outs, halves, faces, pending, counts, point, known, u,
     );
     let added = done.added;
-    let after = added.counts;
     if added.full {
         return FillEnd {
-            counts: after,
+            counts: added.counts,
             answered: i,
             full: true,
         };
     }
-    let position = done.position;
-    let fate = position_fate(position);
-    let vertex = position_vertex(counts, position);
+    let fate = position_fate(done.position);
+    let vertex = position_vertex(counts, done.position);
     answers::store_words(answers, i, fate, vertex, added.faces as u64, added.flips);
     FillEnd {
-        counts: after,
+        counts: added.counts,
         answered: i + 1,
         full: false,
     }
@@ -340,42 +308,22 @@ fn is_still_settled(
     ensures { T result → T settled × StillSettled before after positions.now outs.now halves.now
         faces.now answers.now i }
 {
-    if !settled {
-        return false;
-    }
-    if after.vertices <= before.vertices {
-        return true;
-    }
-    if !is_inside(answers, i) {
-        return false;
-    }
-    settled_test::is_unbroken_at(positions, outs, halves, faces, after, before.vertices)
+    let vertex = before.vertices;
+    settled
+        && (after.vertices <= vertex
+            || is_inside(answers, i)
+                && settled_test::is_unbroken_at(positions, outs, halves, faces, after, vertex))
 }
 
-// How many points the block has that starts with point i.
-fn block_size(i: u32, count: u32) -> u32
-    requires { i ≤ count }
-    ensures { (result ≤ 32) × (i + result ≤ count) }
-{
-    if count - i < 32 {
-        return count - i;
-    }
-    32
-}
-
-// The points that were skipped among those of the block that starts with point i and has so many, by their numbers.
-fn list_skipped(answers: &[u64], i: u32, size: u32, list: &mut [u32]) -> usize
-    requires { (answer_words * (i + size) ≤ length answers.now) × (size ≤ 32) × (i + size < 4294967296)
-        × (32 ≤ length list.old) }
+// The numbers of those of the points from `from` up to `to` that were skipped stand first in the list then: how many there are.
+fn list_skipped(answers: &[u64], from: u32, to: u32, list: &mut [u32]) -> usize
+    requires { (from ≤ to) × (to ≤ from + 32) × (answer_words * to ≤ length answers.now) × (32 ≤ length list.old) }
     ensures { result ≤ 32 }
 {
     let mut n: usize = 0;
-    let mut k: u32 = 0;
-    while k < size {
-        list[n] = i + k;
-        let skipped = answers::is_skipped(answers, i + k);
-        n += bit(skipped) as usize;
-        k += 1;
+    for i in from..to {
+        list[n] = i;
+        n += usize::from(answers::is_skipped(answers, i));
     }
     n
 }
@@ -387,29 +335,33 @@ fn prefetch_block(
     halves: &[u32],
     faces: &[u32],
     answers: &[u64],
-    grid: &mut [u32],
+    cells: &mut [u32],
+    grid: Option<Grid>,
     counts: Counts,
     points: &[i32],
     i: u32,
     count: u32,
-    near: Nearby,
 )
     requires { (answer_words * count ≤ length answers.now) × (i ≤ count) }
 {
-    if counts.vertices < LARGE {
+    if counts.vertices < LARGE || i % BLOCK != 0 {
         return;
     }
-    if !near.known {
-        return;
+    if let Some(grid) = grid {
+        let mut list = [0u32; prefetch::BLOCK];
+        let end = i + (count - i).min(BLOCK);
+        let n = list_skipped(answers, i, end, &mut list);
+        prefetch::prefetch(
+            positions,
+            outs,
+            halves,
+            faces,
+            cells,
+            grid,
+            points,
+            &list[..n],
+        );
     }
-    if i % 32 != 0 {
-        return;
-    }
-    let mut list = [0u32; prefetch::BLOCK];
-    let size = block_size(i, count);
-    let n = list_skipped(answers, i, size, &mut list);
-    let g = near.grid;
-    prefetch::prefetch(positions, outs, halves, faces, grid, g, points, &list, n);
 }
 
 // All skipped points, in list order, until a flip is refused.
@@ -420,13 +372,14 @@ fn fill_each(
     faces: &mut [u32],
     pending: &mut [u32],
     answers: &mut [u64],
-    grid: &mut [u32],
+    cells: &mut [u32],
     counts: Counts,
     points: &[i32],
     count: u32,
     near: Nearby,
 ) -> Filled
-    requires { FillNear counts positions.old outs.old halves.old faces.old pending.old answers.old points.now count near.known
+    requires { FillNear counts positions.old outs.old halves.old faces.old pending.old answers.old points.now count
+        (is_some near.grid)
         × (T near.settled → Settled counts (links_of outs.old halves.old faces.old) (position_of positions.old)) }
     ensures { FillLeaves counts positions.old outs.old halves.old faces.old
         (length pending.old) answers.old points.now count
@@ -435,41 +388,35 @@ fn fill_each(
         (links_of outs.new halves.new faces.new) (position_of positions.new)) }
 {
     let mut now = counts;
-    let mut all = near;
+    let mut grid = near.grid;
     let mut settled = near.settled;
-    let mut i: u32 = 0;
-    while i < count {
+    for i in 0..count {
         prefetch_block(
-            positions, outs, halves, faces, answers, grid, now, points, i, count, all,
+            positions, outs, halves, faces, answers, cells, grid, now, points, i, count,
         );
         let done = fill_point(
-            positions, outs, halves, faces, pending, answers, now, points, i, grid, all,
+            positions, outs, halves, faces, pending, answers, now, points, i, cells, grid,
         );
-        let after = done.counts;
         if done.full {
             return Filled {
-                end: FillEnd {
-                    counts: after,
-                    answered: i,
-                    full: true,
-                },
+                end: done,
                 settled: false,
             };
         }
+        let after = done.counts;
         settled = is_still_settled(
             positions, outs, halves, faces, answers, now, after, i, settled,
         );
-        all = place(grid, all, points, i, now, after);
+        grid = place(cells, grid, points, i, now, after);
         now = after;
-        i += 1;
     }
     Filled {
         end: FillEnd {
             counts: now,
-            answered: i,
+            answered: count,
             full: false,
         },
-        settled: settled,
+        settled,
     }
 }
 
@@ -481,33 +428,34 @@ fn fill(
     faces: &mut [u32],
     pending: &mut [u32],
     answers: &mut [u64],
-    grid: &mut [u32],
+    cells: &mut [u32],
     counts: Counts,
     points: &[i32],
     count: u32,
-    near: Nearby,
 ) -> Filled
-    requires { FillAny counts positions.old outs.old halves.old faces.old pending.old answers.old points.now count near.none
-        near.known
-        × (T near.settled → Settled counts (links_of outs.old halves.old faces.old) (position_of positions.old)) }
+    requires { FillReady counts positions.old outs.old halves.old faces.old pending.old answers.old points.now count }
     ensures { FillLeaves counts positions.old outs.old halves.old faces.old
         (length pending.old) answers.old points.now count
         positions.new outs.new halves.new faces.new answers.new result.end
         × (T result.settled → Settled result.end.counts
         (links_of outs.new halves.new faces.new) (position_of positions.new)) }
 {
-    if near.none {
+    let skipped = count_skipped(answers, count);
+    if skipped == 0 {
         return Filled {
             end: FillEnd {
-                counts: counts,
+                counts,
                 answered: count,
                 full: false,
             },
             settled: false,
         };
     }
+    let near = prepare(
+        positions, outs, halves, faces, cells, counts, points, count, skipped,
+    );
     fill_each(
-        positions, outs, halves, faces, pending, answers, grid, counts, points, count, near,
+        positions, outs, halves, faces, pending, answers, cells, counts, points, count, near,
     )
 }
 
@@ -517,15 +465,15 @@ fn stopped(counts: Counts, faces: u32, flips: u64, place: u32) -> Completed
 {
     Completed {
         ended: Ended {
-            counts: counts,
+            counts,
             totals: Totals {
-                faces: faces,
+                faces,
                 convexflips: flips,
                 closingflips: 0,
             },
             full: true,
         },
-        place: place,
+        place,
     }
 }
 
@@ -575,7 +523,7 @@ fn close(
     let flips = close_unsettled(positions, outs, halves, faces, counts, settled);
     Completed {
         ended: Ended {
-            counts: counts,
+            counts,
             totals: Totals {
                 faces: passed.faces,
                 convexflips: passed.flips,
@@ -583,7 +531,7 @@ fn close(
             },
             full: false,
         },
-        place: place,
+        place,
     }
 }
 
@@ -619,11 +567,8 @@ pub fn complete_after(
         answers::zero_skipped(answers, 0, count);
         return stopped(after, passed.faces, passed.flips, count);
     }
-    let near = prepare(
-        positions, outs, halves, faces, answers, grid, after, points, count,
-    );
     let filled = fill(
-        positions, outs, halves, faces, pending, answers, grid, after, points, count, near,
+        positions, outs, halves, faces, pending, answers, grid, after, points, count,
     );
     let end = filled.end;
     answers::zero_skipped(answers, end.answered, count);

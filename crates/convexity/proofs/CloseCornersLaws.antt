@@ -3,11 +3,11 @@ use Rattle.std.specs.Prelude.{Bool, not, ◌||◌, ◌≡◌, ℕ, ◌<◌}
 use Rattle.std.proofs.Math.Bool.{true, false}
 use Rattle.std.proofs.lemmas.Bool.{false≢true}
 use mathlib.Core.List.{List, [], ◌∷◌}
-use Rattle.std.proofs.Common.{sym, ◌∙◌}
+use Rattle.std.proofs.Common.{sym}
 use native.Mathlib.Omega.{arith}
 use Rattle.std.proofs.Math.ListN.{length}
 use Rattle.math.specs.declared.Point.{Point}
-use Rattle.sums.proofs.UntilLaws.{Falls, until-ends}
+use Rattle.sums.proofs.UntilLaws.{until-ends}
 use Rattle.convexity.specs.Convexity.{Pass, last_turns_left, close_last, close_corners}
 
 module _ (room : ℕ) (p : ℕ → Point) where

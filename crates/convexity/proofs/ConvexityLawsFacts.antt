@@ -1,5 +1,5 @@
 -- Laws of specs/ConvexityLaws.antt.
-use Rattle.std.specs.Prelude.{Bool, ◌||◌, cond, ◌≡◌, ◌≢◌, ℕ, zero, suc, ◌+◌, ◌-◌, ◌*◌, ◌<◌, ◌≤◌, eqb, pos, ◌≤ℤ◌}
+use Rattle.std.specs.Prelude.{Bool, ◌||◌, cond, ◌≡◌, ◌≢◌, ℕ, zero, suc, ◌+◌, ◌*◌, ◌<◌, eqb, pos, ◌≤ℤ◌}
 use Rattle.std.proofs.Math.Bool.{true, false}
 use Rattle.std.proofs.lemmas.Bool.{false≢true, eqb-false}
 use Rattle.std.proofs.Math.Path.{refl, ap}

@@ -33,6 +33,10 @@ pub record PassAt (q : List ℤ) (o₀ h₀ a₀ row₀ : List ℕ) (g₀ : Exte
   pub going : Going walk_ends_of (walk_turn_of (length row₀) (position_of q)) (Walking (position_of q)) (λ w. w.left) ((walk_start_of (extended_of o₀ h₀ a₀ g₀)).left + 1)
       (walk_start_of (extended_of o₀ h₀ a₀ g₀)) (walk_of o h a g c d n)
 
+pub pass-at : {q : List ℤ} {o₀ h₀ a₀ row₀ : List ℕ} {g₀ : Extension} {o h a row : List ℕ} {g : Extension} {c d n m : ℕ} → n ≡ m
+    → PassAt q o₀ h₀ a₀ row₀ g₀ o h a row g c d n → PassAt q o₀ h₀ a₀ row₀ g₀ o h a row g c d m
+pass-at {q} {o₀} {h₀} {a₀} {row₀} {g₀} {o} {h} {a} {row} {g} {c} {d} e I = subst (PassAt q o₀ h₀ a₀ row₀ g₀ o h a row g c d) e I
+
 module _ {q : List ℤ} {o h a row : List ℕ} {g : Extension} (R : StartReady q o h a row g) where
   -- the turns, by the counts
   pub turns_fit : (3 * g.counts.vertices < 2 ^ 32) × (2 ≤ 3 * g.counts.vertices) × (g.counts.edges ≤ 3 * g.counts.vertices - 2)

@@ -1,13 +1,11 @@
 -- Laws of specs/WalkLaws.antt.
-use Rattle.std.specs.Prelude.{Bool, true, false, not, ◌&&◌, ◌||◌, ◌≡◌, refl, ◌≢◌, ℕ, ◌+◌, ◌-◌, ◌<◌, ltb, eqb}
+use Rattle.std.specs.Prelude.{Bool, true, false, not, ◌&&◌, ◌||◌, ◌≡◌, refl, ◌≢◌, ℕ, ◌+◌, ◌<◌, ltb, eqb}
 use Rattle.std.proofs.lemmas.Bool.{false≢true, eqb-false}
 use Rattle.std.proofs.Common.{sym, ◌∙◌, ltb-true, lt-ltb}
 use native.Mathlib.Omega.{arith}
 use Rattle.corner.specs.Corner.{Extended}
 use Rattle.corner.specs.CornerLaws.{Closings, none, then, closings-join, closed-good, closed-length}
 use Rattle.math.specs.declared.Point.{Point}
-use Rattle.mesh.specs.Mesh.{In}
-use Rattle.mesh.specs.Area.{boundary_length}
 use Rattle.mesh.proofs.BoundaryLaws.{first<, first-outer}
 use Rattle.mesh.specs.Good.{Good}
 use Rattle.sums.proofs.UntilLaws.{Falls, until-ind}

@@ -1,7 +1,7 @@
 -- `fix_convexity` of bulk_load.rs, one pass with its stack `convex_edges`, and the passes of a finish. Definitions
 -- only; the laws are in `ConvexityLaws`.
 -- 01: "Finish makes the first pass of `fix_convexity`, then repeats passes until one adds no face."
-use Rattle.std.specs.Prelude.{Bool, false, not, ◌||◌, List, [], ◌∷◌, ◌≡◌, ℕ, suc, ◌+◌, ◌*◌, ◌/◌, eqb, pos, length, ◌≤ℤ◌}
+use Rattle.std.specs.Prelude.{Bool, false, not, ◌||◌, List, [], ◌∷◌, ◌≡◌, ℕ, ◌+◌, ◌*◌, ◌/◌, eqb, pos, length, ◌≤ℤ◌}
 use Rattle.std.specs.Int.Signed.{lt_z}
 use Rattle.corner.specs.Corner.{Extended, close_corner}
 use Rattle.math.specs.declared.Point.{Point}

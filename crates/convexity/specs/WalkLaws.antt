@@ -1,18 +1,12 @@
 -- A pass with O(1) state: each of its loops ends, and what it does is a sequence of corners closed. Assumes nothing.
-use Rattle.std.specs.Prelude.{Bool, true, false, not, ◌&&◌, ◌||◌, ◌≡◌, refl, ◌≢◌, ℕ, ◌+◌, ◌-◌, ◌<◌, ltb, eqb}
-use Rattle.std.proofs.lemmas.Bool.{false≢true, eqb-false}
-use Rattle.std.proofs.Common.{sym, ◌∙◌, ltb-true, lt-ltb}
-use native.Mathlib.Omega.{arith}
-use Rattle.corner.specs.Corner.{Extended}
-use Rattle.corner.specs.CornerLaws.{Closings, none, then, closings-join, closed-good, closed-length}
+use Rattle.std.specs.Prelude.{true, false, ◌≡◌, ℕ, ◌+◌, ◌<◌}
+use Rattle.corner.specs.CornerLaws.{Closings}
 use Rattle.math.specs.declared.Point.{Point}
 use Rattle.mesh.specs.Mesh.{In}
 use Rattle.mesh.specs.Area.{boundary_length}
-use Rattle.mesh.proofs.BoundaryLaws.{first<, first-outer}
 use Rattle.mesh.specs.Good.{Good}
-use Rattle.sums.proofs.UntilLaws.{Falls, until-ind}
 use Rattle.convexity.specs.Convexity.{turns_left_at}
-use Rattle.convexity.specs.Walk.{Walk, edge1, edge2, left_behind, stops, close_behind, close_all_behind, onward, walk_turn_of, walk_ends_of, walk_start_of, walk_pass}
+use Rattle.convexity.specs.Walk.{Walk, edge1, edge2, stops}
 
 -- the current half-edge is on the boundary of a good mesh, and each turn left is for one of the half-edges that are not
 -- behind it, or the last

@@ -132,9 +132,11 @@ pub fn fix_convexity(
     let mut now = added;
     let mut current = dcel::adjacent(faces, 0);
     let mut depth = 0;
-    let counts = added.counts;
-    let mut left = 3 * counts.vertices - 2 - counts.edges;
-    while !corner::walk_ends(now.full, left) {
+    let turns = 3 * added.counts.vertices - 2 - added.counts.edges;
+    for turn in 0..turns {
+        if now.full {
+            return now;
+        }
         current = dcel::next(halves, current);
         let walked = close_all_behind(
             positions,
@@ -146,21 +148,10 @@ pub fn fix_convexity(
             current,
             depth + 1,
         );
-        let after = walked.added;
-        now = after;
+        now = walked.added;
         depth = walked.depth;
-        left -= 1;
     }
     now
-}
-
-fn is_still(full: bool, faces: u32, before: u32) -> bool
-    ensures { result ≡ (full || eqb faces before) }
-{
-    if full {
-        return true;
-    }
-    faces == before
 }
 
 // Passes until one adds no face, or a flip is refused.
@@ -178,16 +169,16 @@ pub fn convexity(
         (links_of outs.old halves.old faces.old) }
 {
     let mut now = Extension {
-        counts: counts,
+        counts,
         faces: 0,
         flips: 0,
         full: false,
     };
-    let mut still = false;
-    while !still {
+    loop {
         let before = now.faces;
         now = fix_convexity(positions, outs, halves, faces, pending, now);
-        still = is_still(now.full, now.faces, before);
+        if now.full || now.faces == before {
+            return now;
+        }
     }
-    now
 }

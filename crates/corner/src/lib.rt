@@ -36,22 +36,25 @@ pub fn close_corner(
         ≡ close_corner (length pending.old) (position_of positions.now)
         (extended_of outs.old halves.old faces.old added) e first second }
 {
-    let counts = added.counts;
-    let new = dcel_operations::create_single_face_between_edge_and_next(halves, faces, counts, e);
-    let after = new.counts;
+    let new = dcel_operations::create_single_face_between_edge_and_next(
+        halves,
+        faces,
+        added.counts,
+        e,
+    );
     let done = legalize::legalize_edges_after_removal(
         positions,
         outs,
         halves,
         faces,
         pending,
-        after,
+        new.counts,
         first,
         second,
         added.flips,
     );
     Extension {
-        counts: after,
+        counts: new.counts,
         faces: added.faces + 1,
         flips: done.flips,
         full: done.full,
@@ -62,8 +65,5 @@ pub fn close_corner(
 pub fn walk_ends(full: bool, left: u32) -> bool
     ensures { result ≡ (full || eqb left 0) }
 {
-    if full {
-        return true;
-    }
-    left == 0
+    full || left == 0
 }

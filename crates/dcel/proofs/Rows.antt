@@ -1,8 +1,8 @@
 -- What a store to a row does to the functions that the row is seen as. Assumes nothing.
-use Prim.Native.Nat.{ℕ, ◌+◌, ◌*◌, ◌<◌, ◌≤◌}
+use Prim.Native.Nat.{ℕ, ◌+◌, ◌*◌, ◌<◌}
 use native.Mathlib.Omega.{arith}
 use native.Mathlib.Decide.{ℕ_discrete}
-use mathlib.Core.Path.{◌≡◌, refl, sym, ◌∙◌, ap, ap₂, fun_ext}
+use mathlib.Core.Path.{◌≡◌, ◌∙◌, ap₂, fun_ext}
 use mathlib.Core.Logic.{◌≢◌}
 use mathlib.Core.List.{List}
 use lib.ListN.{length, get_or, set}
@@ -11,7 +11,7 @@ use lib.Seq.{get_or-set_same, get_or-set_other, lt-length-set}
 use Rattle.math.specs.declared.Point.{Point}
 use Rattle.sums.specs.Put.{put}
 use Rattle.sums.proofs.PutLaws.{put_same, put_other}
-use Rattle.dcel.specs.Rows.{Halves, halves_of, row_of, position_of, There, set_next, set_prev, set_face, set_origin}
+use Rattle.dcel.specs.Rows.{halves_of, row_of, position_of, There, set_next, set_prev, set_face, set_origin}
 
 -- a store at the place i a, of places that differ where their numbers do
 stored : (i : ℕ → ℕ) (h : List ℕ) (a v : ℕ) → ((x : ℕ) → x ≢ a → i x ≢ i a) → i a < length h

@@ -8,7 +8,8 @@ pub struct HalfEdgeEntry {
     pub origin: u32,
 }
 
-// The vertex across the triangle from a half-edge; a half-edge of the outer face has none.
+// The vertex across the triangle from a half-edge; a half-edge of the outer face has none. An enum of its own, since an
+// `Option` is no plainer: `Outer` says which half-edge has none, and callers only match.
 #[derive(Clone, Copy)]
 pub enum Far {
     Vertex(u32),

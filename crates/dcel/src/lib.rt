@@ -1,6 +1,6 @@
 // The rows of a half-edge mesh, which the caller lends: what stands there, and stores. A contract says what becomes of
 // the rows seen as functions (specs/Rows.antt).
-#![tactic(auto)]
+#![tactic(auto, unfolding(crate::specs::Rows::halves_of, crate::specs::Rows::row_of))]
 
 ghost use Rattle.std.specs.Prelude.{◌≡◌, ℕ, ◌+◌, ◌*◌, ◌<◌, ◌≤◌, ◌^◌, List, length, replicate};
 ghost use Rattle.sums.specs.Half.{rev};
@@ -24,39 +24,35 @@ pub fn next(halves: &[u32], e: u32) -> u32
     requires { There halves.now e }
     ensures { result ≡ (halves_of halves.now).next e }
 {
-    let i = 4 * (e as usize);
-    halves[i]
+    halves[4 * e as usize]
 }
 
 pub fn prev(halves: &[u32], e: u32) -> u32
     requires { There halves.now e }
     ensures { result ≡ (halves_of halves.now).prev e }
 {
-    let i = 4 * (e as usize) + 1;
-    halves[i]
+    halves[4 * e as usize + 1]
 }
 
 pub fn face(halves: &[u32], e: u32) -> u32
     requires { There halves.now e }
     ensures { result ≡ (halves_of halves.now).face e }
 {
-    let i = 4 * (e as usize) + 2;
-    halves[i]
+    halves[4 * e as usize + 2]
 }
 
 pub fn origin(halves: &[u32], e: u32) -> u32
     requires { There halves.now e }
     ensures { result ≡ (halves_of halves.now).origin e }
 {
-    let i = 4 * (e as usize) + 3;
-    halves[i]
+    halves[4 * e as usize + 3]
 }
 
 pub fn half_edge(halves: &[u32], e: u32) -> HalfEdgeEntry
     requires { There halves.now e }
     ensures { EntryOf (halves_of halves.now) e result }
 {
-    let i = 4 * (e as usize);
+    let i = 4 * e as usize;
     HalfEdgeEntry {
         next: halves[i],
         prev: halves[i + 1],
@@ -70,8 +66,7 @@ pub fn to(halves: &[u32], e: u32) -> u32
     requires { There halves.now (rev e) }
     ensures { result ≡ (halves_of halves.now).origin (rev e) }
 {
-    let t = rev(e);
-    origin(halves, t)
+    origin(halves, rev(e))
 }
 
 // A vertex's stored out edge.
@@ -94,11 +89,11 @@ pub fn position(positions: &[i32], v: u32) -> Point
     requires { 2 * v + 1 < length positions.now }
     ensures { result ≡ position_of positions.now v }
 {
-    let i = 2 * (v as usize);
-    let j = i + 1;
-    let x = positions[i];
-    let y = positions[j];
-    Point { x: x, y: y }
+    let i = 2 * v as usize;
+    Point {
+        x: positions[i],
+        y: positions[i + 1],
+    }
 }
 
 // The far vertex over a half-edge.
@@ -107,45 +102,39 @@ pub fn far(halves: &[u32], e: u32) -> Far
     ensures { result ≡ far_in ((halves_of halves.now).face e)
         ((halves_of halves.now).origin ((halves_of halves.now).prev e)) }
 {
-    let f = face(halves, e);
-    if f == 0 {
-        return Far::Outer;
+    if face(halves, e) == 0 {
+        Far::Outer
+    } else {
+        Far::Vertex(origin(halves, prev(halves, e)))
     }
-    let p = prev(halves, e);
-    let v = origin(halves, p);
-    Far::Vertex(v)
 }
 
 pub fn set_next(halves: &mut [u32], e: u32, v: u32)
     requires { There halves.old e }
     ensures { halves_of halves.new ≡ set_next (halves_of halves.old) e v }
 {
-    let i = 4 * (e as usize);
-    halves[i] = v;
+    halves[4 * e as usize] = v;
 }
 
 pub fn set_prev(halves: &mut [u32], e: u32, v: u32)
     requires { There halves.old e }
     ensures { halves_of halves.new ≡ set_prev (halves_of halves.old) e v }
 {
-    let i = 4 * (e as usize) + 1;
-    halves[i] = v;
+    halves[4 * e as usize + 1] = v;
 }
 
 pub fn set_face(halves: &mut [u32], e: u32, v: u32)
     requires { There halves.old e }
     ensures { halves_of halves.new ≡ set_face (halves_of halves.old) e v }
 {
-    let i = 4 * (e as usize) + 2;
-    halves[i] = v;
+    halves[4 * e as usize + 2] = v;
 }
 
 pub fn set_origin(halves: &mut [u32], e: u32, v: u32)
     requires { There halves.old e }
     ensures { halves_of halves.new ≡ set_origin (halves_of halves.old) e v }
 {
-    let i = 4 * (e as usize) + 3;
-    halves[i] = v;
+    halves[4 * e as usize + 3] = v;
 }
 
 pub fn set_half_edge(halves: &mut [u32], e: u32, entry: HalfEdgeEntry)
@@ -170,11 +159,7 @@ pub fn store(row: &mut [u32], at: u32, v: u32)
 pub fn clear(row: &mut [u32])
     ensures { row.new ≡ replicate (length row.old) 0 }
 {
-    let mut i = 0;
-    while i < row.len() {
-        row[i] = 0;
-        i += 1;
-    }
+    row.fill(0);
 }
 
 // The position of a vertex, a new one's above all: `append_unconnected_vertex` of the Rust.
@@ -182,12 +167,9 @@ pub fn set_position(positions: &mut [i32], v: u32, point: Point)
     requires { 2 * v + 1 < length positions.old }
     ensures { position_of positions.new ≡ put (position_of positions.old) v point }
 {
-    let i = 2 * (v as usize);
-    let j = i + 1;
-    let x = point.x;
-    let y = point.y;
-    positions[i] = x;
-    positions[j] = y;
+    let i = 2 * v as usize;
+    positions[i] = point.x;
+    positions[i + 1] = point.y;
 }
 
 // The half-edge b follows a.

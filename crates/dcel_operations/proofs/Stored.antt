@@ -1,5 +1,5 @@
 -- The stores of each operation make the links of its definition: what its calls ensure, over plain lists, joined in one step. Assumes nothing.
-use Prim.Native.Nat.{ℕ, ◌+◌, ◌*◌, ◌<◌}
+use Prim.Native.Nat.{ℕ, ◌+◌, ◌*◌}
 use mathlib.Core.Path.{◌≡◌}
 use mathlib.Core.List.{List}
 use Rattle.sums.specs.Put.{put}
@@ -7,7 +7,7 @@ use Rattle.mesh.specs.declared.Counts.{Counts}
 use Rattle.mesh.specs.Operations.{flip_between, flip_cw, face_between, create_single_face_between_edge_and_next, face_adjacent, create_new_face_adjacent_to_edge}
 use Rattle.sums.specs.Half.{rev}
 use Rattle.dcel.specs.declared.handles.HalfEdgeEntry.{HalfEdgeEntry}
-use Rattle.dcel.specs.Rows.{Halves, halves_of, row_of, links_of, There, EntryOf, set_next, set_prev, set_face, set_origin}
+use Rattle.dcel.specs.Rows.{halves_of, row_of, links_of, There, EntryOf, set_next, set_prev, set_face, set_origin}
 use Rattle.dcel_operations.specs.Flip.{flip_links, flip_marks}
 use Rattle.dcel_operations.specs.Face.{single_links, single_marks, SingleReady, new_edges, new_links}
 

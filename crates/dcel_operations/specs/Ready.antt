@@ -1,10 +1,9 @@
 -- Rows that hold a mesh meet what each operation requires, for an edge in use and where there is room for what it adds. Assumes nothing.
-use Rattle.std.specs.Prelude.{ℕ, ◌+◌, ◌*◌, ◌<◌, ◌≤◌, ◌^◌, List, length}
+use Rattle.std.specs.Prelude.{ℕ, ◌<◌, List}
 use Rattle.std.proofs.Common.{arith}
 use Rattle.mesh.specs.declared.Counts.{Counts}
 use Rattle.mesh.specs.Mesh.{In}
 use Rattle.mesh.specs.Operations.{with_face, with_vertex}
-use Rattle.dcel.specs.Rows.{halves_of, There}
 use Rattle.dcel.specs.MeshHeld.{Room, MeshHeld, there, there-rev, next-in, prev-in, face-in, origin-in, counts-fit}
 use Rattle.dcel_operations.specs.Flip.{Names, FlipReady}
 use Rattle.dcel_operations.specs.Face.{SingleReady, NewReady}

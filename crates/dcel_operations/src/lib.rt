@@ -20,6 +20,7 @@ pub struct NewEdge {
 }
 
 // The links of the flip: the triangles e, en, ep and t, tn, tp become e, tp, en and t, ep, tn.
+#[tactic(auto, unfolding(crate::specs::Flip::flip_links))]
 fn flip_links(halves: &mut [u32], e: u32, en: u32, ep: u32, t: u32, tn: u32, tp: u32)
     requires { There halves.old e × There halves.old en × There halves.old ep
         × There halves.old t × There halves.old tn × There halves.old tp }
@@ -30,6 +31,7 @@ fn flip_links(halves: &mut [u32], e: u32, en: u32, ep: u32, t: u32, tn: u32, tp:
 }
 
 // The origins of the edge's two halves, and the faces of the two half-edges that change sides.
+#[tactic(auto, unfolding(crate::specs::Flip::flip_marks))]
 fn flip_marks(halves: &mut [u32], e: u32, ep: u32, t: u32, tp: u32, ef: u32, tf: u32)
     requires { There halves.old e × There halves.old ep × There halves.old t × There halves.old tp }
     ensures { halves_of halves.new ≡ flip_marks (halves_of halves.old) e ep t tp ef tf }
@@ -61,6 +63,7 @@ pub fn flip_cw(outs: &mut [u32], halves: &mut [u32], faces: &mut [u32], u: u32)
 }
 
 // The links of the new triangle e, n, i and of the boundary p, o, q.
+#[tactic(auto, unfolding(crate::specs::Face::single_links))]
 fn single_links(halves: &mut [u32], p: u32, e: u32, n: u32, q: u32, i: u32, o: u32)
     requires { There halves.old p × There halves.old e × There halves.old n
         × There halves.old q × There halves.old i × There halves.old o }
@@ -73,6 +76,7 @@ fn single_links(halves: &mut [u32], p: u32, e: u32, n: u32, q: u32, i: u32, o: u
 }
 
 // The faces of the new triangle and of o, and the origins of the new half-edges.
+#[tactic(auto, unfolding(crate::specs::Face::single_marks))]
 fn single_marks(halves: &mut [u32], e: u32, n: u32, i: u32, o: u32, g: u32, io: u32, oo: u32)
     requires { There halves.old e × There halves.old n × There halves.old i × There halves.old o }
     ensures { halves_of halves.new ≡ single_marks (halves_of halves.old) e n i o g io oo }
@@ -97,11 +101,6 @@ pub fn create_single_face_between_edge_and_next(
 {
     let i = 2 * counts.edges;
     let o = i + 1;
-    let after = Counts {
-        vertices: counts.vertices,
-        edges: counts.edges + 1,
-        faces: counts.faces + 1,
-    };
     let entry = dcel::half_edge(halves, e);
     let q = dcel::next(halves, entry.next);
     let io = dcel::to(halves, entry.next);
@@ -110,12 +109,17 @@ pub fn create_single_face_between_edge_and_next(
     dcel::store(faces, 0, o);
     dcel::store(faces, counts.faces, i);
     NewEdge {
-        counts: after,
+        counts: Counts {
+            edges: counts.edges + 1,
+            faces: counts.faces + 1,
+            ..counts
+        },
         edge: o,
     }
 }
 
 // The new half-edges new_next = a and new_prev = a + 2 with their reverses; `entry` is what stands at e.
+#[tactic(auto, unfolding(crate::specs::Face::new_edges))]
 fn new_edges(halves: &mut [u32], a: u32, e: u32, g: u32, v: u32, to: u32, entry: HalfEdgeEntry)
     requires { (a + 3 < 2 ^ 32) × There halves.old (a + 3) }
     ensures { halves_of halves.new ≡ new_edges (halves_of halves.old) a e g v to entry }
@@ -135,10 +139,9 @@ fn new_edges(halves: &mut [u32], a: u32, e: u32, g: u32, v: u32, to: u32, entry:
         halves,
         a + 1,
         HalfEdgeEntry {
-            next: entry.next,
             prev: b + 1,
-            face: entry.face,
             origin: v,
+            ..entry
         },
     );
     dcel::set_half_edge(
@@ -156,14 +159,13 @@ fn new_edges(halves: &mut [u32], a: u32, e: u32, g: u32, v: u32, to: u32, entry:
         b + 1,
         HalfEdgeEntry {
             next: a + 1,
-            prev: entry.prev,
-            face: entry.face,
-            origin: entry.origin,
+            ..entry
         },
     );
 }
 
 // e comes to the new face g, and p and n lead to the new half-edges of the outer face.
+#[tactic(auto, unfolding(crate::specs::Face::new_links))]
 fn new_links(halves: &mut [u32], a: u32, p: u32, e: u32, n: u32, g: u32)
     requires { (a + 3 < 2 ^ 32) × There halves.old p × There halves.old e × There halves.old n }
     ensures { halves_of halves.new ≡ new_links (halves_of halves.old) a p e n g }
@@ -190,18 +192,16 @@ pub fn create_new_face_adjacent_to_edge(
 {
     let a = 2 * counts.edges;
     let b = a + 2;
-    let o = b + 1;
-    let after = Counts {
-        vertices: counts.vertices + 1,
-        edges: counts.edges + 2,
-        faces: counts.faces + 1,
-    };
     let entry = dcel::half_edge(halves, e);
     let to = dcel::to(halves, e);
     new_edges(halves, a, e, counts.faces, counts.vertices, to, entry);
     new_links(halves, a, entry.prev, e, entry.next, counts.faces);
     dcel::store(outs, counts.vertices, b);
     dcel::store(faces, counts.faces, e);
-    dcel::store(faces, entry.face, o);
-    after
+    dcel::store(faces, entry.face, b + 1);
+    Counts {
+        vertices: counts.vertices + 1,
+        edges: counts.edges + 2,
+        faces: counts.faces + 1,
+    }
 }

@@ -4,8 +4,7 @@ use mathlib.Core.Path.{◌≡◌, refl, ◌∙◌, ap}
 use lib.Ieee.{Float}
 use lib.IntN.{ℤ}
 use Prim.Native.Nat.{ℕ}
-use Rattle.angle.specs.declared.VertexAngle.{VertexAngle}
-use Rattle.angle.specs.declared.VertexAngle.TheVariants.{Angle}
+use Rattle.std.specs.Prelude.{Option, Some}
 use Rattle.angle.specs.Angle.{IsAngle, turns}
 use Rattle.angle.specs.Answer.{vertex_angle}
 use Rattle.dcel.specs.Rows.{links_of, position_of}
@@ -23,8 +22,8 @@ use Rattle.decide.proofs.SweepRowsLaws.{found-located, found-ends, located-rows}
 use Rattle.decide.specs.Located.{DecidesAt, LocatedRows, ToDecideAt}
 use Rattle.decide.proofs.VertexAngles.{angle-is, decided-located}
 
-module _ (v : Point) (cx cy : Float) {r : VertexAngle} {x y : ℤ} (is : r ≡ vertex_angle x y cx cy) (x-is : x ≡ v.x) (y-is : y ≡ v.y)
-    {g : Float} (z : r ≡ Angle g) (A : IsAngle g) {C : Counts} {q : List ℤ} {h : List ℕ} {nodes : List Node} {freed buckets : List ℕ}
+module _ (v : Point) (cx cy : Float) {r : Option Float} {x y : ℤ} (is : r ≡ vertex_angle x y cx cy) (x-is : x ≡ v.x) (y-is : y ≡ v.y)
+    {g : Float} (z : r ≡ Some g) (A : IsAngle g) {C : Counts} {q : List ℤ} {h : List ℕ} {nodes : List Node} {freed buckets : List ℕ}
     {hull : Hull} {found : ℕ} (N : NodeAt nodes buckets hull (turns g) found) {n : Node} (n-is : n ≡ nodes_of nodes found) where
   pub asks_at : {m : Node} → m ≡ nodes_of nodes n.right → ToDecide C q h nodes freed buckets hull cx cy v
       → ToDecideAt q h cx cy n.edge n.angle m.angle (size_of hull) C.vertices v g

@@ -10,9 +10,10 @@ ghost use Rattle.decide.specs.Decide.{fate_number, fate_vertex, decided};
 ghost use Rattle.decide.specs.SweepRows.{SweepRows, ToDecide, Decides};
 ghost use Rattle.decide.specs.Located.{LocatedRows, ToDecideAt, DecidesAt, LeavesOut};
 
-use angle::{Point2, VertexAngle};
+use angle::Point2;
 use math::Point;
 use mesh::Counts;
+use ring::Side;
 use ring_rows::{Hull, Node};
 use walks::BoundaryVertex;
 
@@ -28,28 +29,36 @@ pub enum Fate {
 }
 
 // 01's number of a fate.
-pub fn fate_number(fate: Fate) -> u64
-    ensures { result ≡ fate_number fate }
-{
-    match fate {
-        Fate::Added(_) => 1,
-        Fate::Dropped => 2,
-        Fate::NotLeft => 3,
-        Fate::Unsound => 4,
-        Fate::AtCenter => 5,
+impl From<Fate> for u64 {
+    ghost from_gives = { λ fate n. n ≡ fate_number fate };
+
+    #[tactic(auto, unfolding(crate::specs::Decide::fate_number))]
+    fn from(fate: Fate) -> u64 {
+        match fate {
+            Fate::Added(_) => 1,
+            Fate::Dropped => 2,
+            Fate::NotLeft => 3,
+            Fate::Unsound => 4,
+            Fate::AtCenter => 5,
+        }
     }
 }
 
+// The same as a function: its clause is what the crates above cite.
+pub fn fate_number(fate: Fate) -> u64
+    ensures { result ≡ fate_number fate }
+{
+    u64::from(fate)
+}
+
 // The new vertex; 0 unless the fate is 1.
+#[tactic(auto, unfolding(crate::specs::Decide::fate_vertex))]
 pub fn fate_vertex(fate: Fate) -> u64
     ensures { result ≡ fate_vertex fate }
 {
     match fate {
-        Fate::Added(v) => v as u64,
-        Fate::Dropped => 0,
-        Fate::NotLeft => 0,
-        Fate::Unsound => 0,
-        Fate::AtCenter => 0,
+        Fate::Added(v) => u64::from(v),
+        _ => 0,
     }
 }
 
@@ -68,12 +77,12 @@ pub struct Decision {
     pub node: u32,
 }
 
-// A point that is not added.
+// A point that is not added. The fields are written out here and nowhere else: a constant to copy them from would list them as well.
 pub fn leave(fate: Fate) -> Decision
     ensures { LeavesOut fate result }
 {
     Decision {
-        fate: fate,
+        fate,
         edge: 0,
         left: 0,
         right: 0,
@@ -106,10 +115,7 @@ pub fn decide_at(
 {
     let from = walks::origin_position(positions, halves, e);
     let to = walks::origin_position(positions, halves, dcel::rev(e));
-    if math::is_position(point, from) {
-        return leave(Fate::Dropped);
-    }
-    if math::is_position(point, to) {
+    if math::is_position(point, from) || math::is_position(point, to) {
         return leave(Fate::Dropped);
     }
     if math::side_query(from, to, point) <= 0 {
@@ -123,8 +129,26 @@ pub fn decide_at(
         position: to,
         angle: toangle,
     };
-    let left = walks::walk_left(positions, halves, e, first, point, angle, center);
-    let right = walks::walk_right(positions, halves, e, last, point, angle, center);
+    let left = walks::walk(
+        Side::Left,
+        positions,
+        halves,
+        e,
+        first,
+        point,
+        angle,
+        center,
+    );
+    let right = walks::walk(
+        Side::Right,
+        positions,
+        halves,
+        e,
+        last,
+        point,
+        angle,
+        center,
+    );
     let start = left.vertex;
     let end = right.vertex;
     // The located edge has a node: it holds the angle.
@@ -137,10 +161,10 @@ pub fn decide_at(
         edge: e,
         left: left.count,
         right: right.count,
-        angle: angle,
+        angle,
         startangle: start.angle,
         endangle: end.angle,
-        node: node,
+        node,
     }
 }
 
@@ -163,7 +187,7 @@ pub fn decide(
         → Decides counts (links_of o halves.now a) (position_of positions.now) center.x center.y point
         (decided center.x center.y counts (links_of o halves.now a) (position_of positions.now) point) result }
 {
-    let VertexAngle::Angle(angle) = angle::vertex_angle(point.x, point.y, center) else {
+    let Some(angle) = angle::vertex_angle(point.x, point.y, center) else {
         return leave(Fate::AtCenter);
     };
     let found = ring_rows::find(nodes, freed, buckets, hull, angle);

@@ -1,4 +1,5 @@
 -- What the calls ensure, one after another, as the definitions of a finish have it. Assumes nothing.
+use Rattle.std.specs.Prelude.{Ok, Err}
 use mathlib.Core.Bool.{true, false}
 use mathlib.Core.List.{List}
 use mathlib.Core.Path.{◌≡◌, refl, sym, ◌∙◌, ap, subst}
@@ -21,22 +22,22 @@ use Rattle.dcel.specs.Views.{mesh-rows-from}
 use Rattle.mesh.specs.declared.Counts.{Counts}
 use Rattle.mesh.proofs.CountsLaws.{count-edges, count-faces}
 use Rattle.mesh.specs.Good.{Good}
-use Rattle.mesh_check.specs.declared.Checked.{Checked}
+use Rattle.mesh_check.specs.Checked.{Checked}
 use Rattle.mesh_check.specs.declared.Refusal.{Refusal}
 use Rattle.finish.specs.declared.FinishAnswer.{FinishAnswer}
 use Rattle.finish.specs.declared.Ended.{Ended}
-use Rattle.finish.specs.declared.Finished.{Finished}
+use Rattle.finish.specs.Finished.{Finished}
 use Rattle.finish.specs.Finish.{close_after, finish_mesh, totals_from, finished_from, finished_with, finish_outcome, seed_checked, finish_of}
 use Rattle.finish.specs.FinishRows.{finishing_of}
 
 -- ---- the answer
 module _ (r : Ended) (place : ℕ) (o h a : List ℕ) where
-  pub answer-full : r.full ≡ true → ◌≡◌ {A = FinishAnswer} (record { counts = r.counts; finished = Finished.Refused (record { number = 9; place = place }) }) (record { counts = r.counts; finished = finished_from place (finishing_of o h a r) })
+  pub answer-full : r.full ≡ true → ◌≡◌ {A = FinishAnswer} (record { counts = r.counts; finished = Err (record { number = 9; place = place }) }) (record { counts = r.counts; finished = finished_from place (finishing_of o h a r) })
   unfolding finished_from finishing_of
   answer-full e = rw e
 
   pub answer-done : r.full ≡ false
-      → ◌≡◌ {A = FinishAnswer} (record { counts = r.counts; finished = Finished.Accepted r.totals }) (record { counts = r.counts; finished = finished_from place (finishing_of o h a r) })
+      → ◌≡◌ {A = FinishAnswer} (record { counts = r.counts; finished = Ok r.totals }) (record { counts = r.counts; finished = finished_from place (finishing_of o h a r) })
   unfolding finished_from totals_from finishing_of
   answer-done e = rw e refl
 
@@ -68,8 +69,8 @@ module _ {q : List ℤ} {o h a row : List ℕ} {C : Counts} (R : MeshReady q o h
 
 -- ---- the call
 module _ (C : Counts) (m : MeshRows) (pending : List ℕ) where
-  pub refused-outcome : (x : Refusal) → Checked.Refused x ≡ seed_checked C m pending
-      → finished_with (record { counts = C; finished = Finished.Refused x }) m pending ≡ finish_of C m pending
+  pub refused-outcome : (x : Refusal) → Err x ≡ seed_checked C m pending
+      → finished_with (record { counts = C; finished = Err x }) m pending ≡ finish_of C m pending
   unfolding finish_of finish_outcome
   refused-outcome x e = rw (← e) refl
 
@@ -77,7 +78,7 @@ module _ (C : Counts) (m : MeshRows) (pending : List ℕ) where
       → finished_with x m₁ p₁ ≡ finished_with x' m₂ p₂
   outcome-is a b c = rw (a, b, c) refl
 
-  pub accepted-outcome : Checked.Accepted ≡ seed_checked C m pending → (o h a pending' : List ℕ) (r : Ended) (x : FinishAnswer)
+  pub accepted-outcome : (Ok tt) ≡ seed_checked C m pending → (o h a pending' : List ℕ) (r : Ended) (x : FinishAnswer)
       → finishing_of o h a r ≡ finish_mesh (length pending) C (places_in m) (links_in m)
       → length o ≡ length m.outs → length h ≡ length m.halves → length a ≡ length m.faces → pending' ≡ replicate (length pending) 0
       → x ≡ record { counts = r.counts; finished = finished_from 0 (finishing_of o h a r) }

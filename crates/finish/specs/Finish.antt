@@ -2,7 +2,7 @@
 -- laws are in `MeshLaws` and `FinishLaws`.
 -- 01: "Finish makes the first pass of `fix_convexity`, then repeats passes until one adds no face. Last comes the
 -- closing pass (added), fed the mesh alone."
-use Rattle.std.specs.Prelude.{Bool, cond, List, [], ℕ, ltb, length, replicate}
+use Rattle.std.specs.Prelude.{Bool, cond, List, [], ℕ, ltb, length, replicate, Ok, Err}
 use Rattle.corner.specs.Corner.{Extended}
 use Rattle.closing.specs.Closing.{Closing, closing_pass}
 use Rattle.convexity.specs.Convexity.{convexity}
@@ -10,10 +10,10 @@ use Rattle.dcel.specs.MeshRows.{MeshRows, links_in, places_in, mesh_rows_from}
 use Rattle.math.specs.declared.Point.{Point}
 use Rattle.mesh.specs.declared.Counts.{Counts}
 use Rattle.mesh.specs.Mesh.{Links}
-use Rattle.mesh_check.specs.declared.Checked.{Checked}
+use Rattle.mesh_check.specs.Checked.{Checked}
 use Rattle.mesh_check.specs.Check.{check_with}
 use Rattle.finish.specs.declared.FinishAnswer.{FinishAnswer}
-use Rattle.finish.specs.declared.Finished.{Finished}
+use Rattle.finish.specs.Finished.{Finished}
 use Rattle.finish.specs.declared.Totals.{Totals}
 
 -- ---- of a mesh
@@ -44,7 +44,7 @@ totals_from f = record { faces = f.faces; convexflips = f.convexflips; closingfl
 -- 01, refusal 9: it answers "the point count in a finish within a run, 0 in a finish alone": the place
 unfoldable pub finished_from : ℕ → Finishing → Finished
 finished_from place f =
-    cond f.full (Finished.Refused (record { number = 9; place = place })) (Finished.Accepted (totals_from f))
+    cond f.full (Err (record { number = 9; place = place })) (Ok (totals_from f))
 
 -- ---- of the lent rows
 -- what a call comes to: its answer, and what the rows hold afterwards
@@ -60,8 +60,8 @@ finished_with r m pending = record { answer = r; mesh = m; pending = pending }
 -- every accepted call the ring, freed, bucket and pending rows hold zeros, and mesh and answer entries past the counts
 -- in use are untouched": the links' functions have every entry of their rows
 unfoldable pub finish_outcome : Counts → MeshRows → List ℕ → Checked → Finishing → FinishOutcome
-finish_outcome C m pending (Checked.Refused r) f = finished_with (record { counts = C; finished = Finished.Refused r }) m pending
-finish_outcome C m pending Checked.Accepted f =
+finish_outcome C m pending (Err r) f = finished_with (record { counts = C; finished = Err r }) m pending
+finish_outcome C m pending (Ok _) f =
     finished_with (record { counts = f.counts; finished = finished_from 0 f })
     (mesh_rows_from m f.links (places_in m)) (replicate (length pending) 0)
 

@@ -1,6 +1,6 @@
 -- The call `finish` on the lent rows: what an accepted call leaves (`finish-accepted`), and what a refused one leaves (`finish-refused`):
 -- 9 the mesh that stood before the flip, every other refusal, which is one of the checks', all as it was. Assumes nothing.
-use Rattle.std.specs.Prelude.{Bool, List, ◌⊎◌, ℕ, ◌+◌, ◌≤◌, ◌-ℤ◌, length, replicate, ◌≤ℤ◌}
+use Rattle.std.specs.Prelude.{Bool, List, ◌⊎◌, ℕ, ◌+◌, ◌≤◌, ◌-ℤ◌, length, replicate, ◌≤ℤ◌, Ok, Err}
 use Rattle.std.proofs.Math.Bool.{true, false}
 use Rattle.std.proofs.Common.{inl, inr, ◌∙◌, ap, arith}
 use Rattle.std.proofs.Math.Path.{◌≡◌, refl, sym, subst, subst⁻¹}
@@ -20,13 +20,13 @@ use Rattle.mesh.specs.Circle.{LocallyDelaunay, Settled}
 use Rattle.mesh.proofs.CircleLawsFacts.{settled-far}
 use Rattle.mesh.specs.FlipRun.{FlipRun}
 use Rattle.mesh.specs.Good.{Good}
-use Rattle.mesh_check.specs.declared.Checked.{Checked}
+use Rattle.mesh_check.specs.Checked.{Checked}
 use Rattle.mesh_check.specs.declared.Refusal.{Refusal}
 use Rattle.mesh_check.specs.Accepted.{MeshSizes}
 use Rattle.mesh_check.specs.Check.{check_with}
 use Rattle.mesh_check.specs.CheckLaws.{NumberedTo}
 use Rattle.mesh_check.proofs.CheckLawsFacts.{check-numbered}
-use Rattle.finish.specs.declared.Finished.{Finished}
+use Rattle.finish.specs.Finished.{Finished}
 use Rattle.finish.specs.declared.Totals.{Totals}
 use Rattle.finish.specs.CallLeaves.{CallLeaves}
 use Rattle.finish.specs.CallLeavesLaws.{in_rows, call-leaves}
@@ -84,7 +84,7 @@ module _ (C : Counts) (m : MeshRows) (pending : List ℕ) where
   f = finish_mesh (length pending) C p L
 
   -- ---- the checks accept
-  module _ (e : seed_checked C m pending ≡ Checked.Accepted) where
+  module _ (e : seed_checked C m pending ≡ Ok tt) where
     abbrev R : FinishOutcome
     R =
         finished_with (record { counts = f.counts; finished = finished_from 0 f })
@@ -136,42 +136,42 @@ module _ (C : Counts) (m : MeshRows) (pending : List ℕ) where
 
   -- ---- by what is answered
   -- accepted: the mesh is good, no boundary corner turns left, and it is settled
-  pub finish-accepted : (t : Totals) → (finish_of C m pending).answer.finished ≡ Finished.Accepted t
+  pub finish-accepted : (t : Totals) → (finish_of C m pending).answer.finished ≡ Ok t
       → FinishAccepted C m pending (finish_of C m pending) t
   unfolding finished_from finish_of finish_outcome
   finish-accepted t e = by (seed_checked C m pending) refl
     where
-      at : (k : seed_checked C m pending ≡ Checked.Accepted) → (b : Bool) → f.full ≡ b → FinishAccepted C m pending (finish_of C m pending) t
+      at : (k : seed_checked C m pending ≡ Ok tt) → (b : Bool) → f.full ≡ b → FinishAccepted C m pending (finish_of C m pending) t
       at k true z =
-          let x : Finished.Refused (record { number = 9; place = 0 }) ≡ Finished.Accepted t = sym (rw (is-accepted k, z) refl) ∙ e in
+          let x : Err (record { number = 9; place = 0 }) ≡ Ok t = sym (rw (is-accepted k, z) refl) ∙ e in
           absurd (let z : ◌≡◌ {A = ℕ} 0 1 = cc in omega arith)
       at k false z =
-          let x : Finished.Accepted (totals_from f) ≡ Finished.Accepted t = sym (rw (is-accepted k, z) refl) ∙ e in
+          let x : Ok (totals_from f) ≡ Ok t = sym (rw (is-accepted k, z) refl) ∙ e in
           let y : totals_from f ≡ t = cc in
           subst (FinishAccepted C m pending (finish_of C m pending)) y
           (subst⁻¹ (λ (r : FinishOutcome). FinishAccepted C m pending r (totals_from f)) (is-accepted k) (accepted k z))
 
       by : (c : Checked) → seed_checked C m pending ≡ c → FinishAccepted C m pending (finish_of C m pending) t
-      by Checked.Accepted k = at k f.full refl
-      by (Checked.Refused x) k =
-          let y : Finished.Refused x ≡ Finished.Accepted t = rw k at e in
+      by (Ok tt) k = at k f.full refl
+      by (Err x) k =
+          let y : Err x ≡ Ok t = rw k at e in
           absurd (let z : ◌≡◌ {A = ℕ} 0 1 = cc in omega arith)
 
   -- refused: by the checks, and 01: "All but 9 change nothing lent"; or before a flip whose pushes would overfill the pending list
-  pub finish-refused : (x : Refusal) → (finish_of C m pending).answer.finished ≡ Finished.Refused x
-      → (NumberedTo 5 (Checked.Refused x) × (finish_of C m pending ≡ finished_with (record { counts = C; finished = Finished.Refused x }) m pending))
+  pub finish-refused : (x : Refusal) → (finish_of C m pending).answer.finished ≡ Err x
+      → (NumberedTo 5 (Err x) × (finish_of C m pending ≡ finished_with (record { counts = C; finished = Err x }) m pending))
       ⊎ ((x.number ≡ 9) × (x.place ≡ 0) × FinishLeaves C m pending (finish_of C m pending) f.faces)
   unfolding finished_from finish_of finish_outcome
   finish-refused x e = by (seed_checked C m pending) refl seed-numbered
     where
       Wanted : Type 0
       Wanted =
-          (NumberedTo 5 (Checked.Refused x) × (finish_of C m pending ≡ finished_with (record { counts = C; finished = Finished.Refused x }) m pending))
+          (NumberedTo 5 (Err x) × (finish_of C m pending ≡ finished_with (record { counts = C; finished = Err x }) m pending))
           ⊎ ((x.number ≡ 9) × (x.place ≡ 0) × FinishLeaves C m pending (finish_of C m pending) f.faces)
 
-      at : (k : seed_checked C m pending ≡ Checked.Accepted) → (b : Bool) → f.full ≡ b → Wanted
+      at : (k : seed_checked C m pending ≡ Ok tt) → (b : Bool) → f.full ≡ b → Wanted
       at k true z =
-          let y : Finished.Refused (record { number = 9; place = 0 }) ≡ Finished.Refused x = sym (rw (is-accepted k, z) refl) ∙ e in
+          let y : Err (record { number = 9; place = 0 }) ≡ Err x = sym (rw (is-accepted k, z) refl) ∙ e in
           let w : record { number = 9; place = 0 } ≡ x = cc in
           inr (
             ap (λ (r : Refusal). r.number) (sym w),
@@ -179,12 +179,12 @@ module _ (C : Counts) (m : MeshRows) (pending : List ℕ) where
             subst⁻¹ (λ (r : FinishOutcome). FinishLeaves C m pending r f.faces) (is-accepted k) (leaves k),
           )
       at k false z =
-          let y : Finished.Accepted (totals_from f) ≡ Finished.Refused x = sym (rw (is-accepted k, z) refl) ∙ e in
+          let y : Ok (totals_from f) ≡ Err x = sym (rw (is-accepted k, z) refl) ∙ e in
           absurd (let z : ◌≡◌ {A = ℕ} 0 1 = cc in omega arith)
 
       by : (c : Checked) → seed_checked C m pending ≡ c → NumberedTo 5 c → Wanted
-      by Checked.Accepted k l = at k f.full refl
-      by (Checked.Refused y) k l =
-          let z : Finished.Refused y ≡ Finished.Refused x = rw k at e in
+      by (Ok tt) k l = at k f.full refl
+      by (Err y) k l =
+          let z : Err y ≡ Err x = rw k at e in
           let w : y ≡ x = cc in
-          inl (subst (λ (r : Refusal). NumberedTo 5 (Checked.Refused r)) w l, rw (k, w) refl)
+          inl (subst (λ (r : Refusal). NumberedTo 5 (Err r)) w l, rw (k, w) refl)

@@ -1,12 +1,12 @@
 -- The lent rows and what a finish answers, as the definitions have them, and what the checks give the passes. Assumes nothing.
-use Rattle.std.specs.Prelude.{List, ◌≡◌, ℕ, ◌≤◌, length}
+use Rattle.std.specs.Prelude.{List, ◌≡◌, ℕ, ◌≤◌, length, Ok}
 use Rattle.std.proofs.Common.{sym, arith, ltb-false, le-ltb}
 use Rattle.convexity.specs.ConvexityRows.{MeshReady}
 use Rattle.dcel.specs.MeshRows.{MeshRows}
 use Rattle.dcel.specs.Rows.{links_of}
 use Rattle.mesh.specs.declared.Counts.{Counts}
 use Rattle.mesh.proofs.CountsLaws.{count-edges, count-faces}
-use Rattle.mesh_check.specs.declared.Checked.{Checked}
+use Rattle.mesh_check.specs.Checked.{Checked}
 use Rattle.mesh_check.specs.Accepted.{MeshSizes}
 use Rattle.mesh_check.proofs.AcceptedLaws.{with-accepts, with_none}
 use Rattle.mesh_check.specs.Check.{check_of, vertex_count, point_count}
@@ -25,7 +25,7 @@ finishing_of o h a r = record {
 }
 
 -- rows that the checks accept hold a good mesh that passes can be made on
-pub accepted-ready : (C : Counts) (m : MeshRows) (row : List ℕ) → Checked.Accepted ≡ seed_checked C m row
+pub accepted-ready : (C : Counts) (m : MeshRows) (row : List ℕ) → (Ok tt) ≡ seed_checked C m row
     → MeshReady m.positions m.outs m.halves m.faces row C
 unfolding seed_checked vertex_count point_count
 accepted-ready C m row e =
@@ -40,7 +40,7 @@ accepted-ready C m row e =
       sized = record { halves = omega arith; faces = omega arith; pending = s; small = omega arith };
     }
 
-pub accepted-sizes : (C : Counts) (m : MeshRows) (row : List ℕ) → Checked.Accepted ≡ seed_checked C m row → MeshSizes C.vertices m
+pub accepted-sizes : (C : Counts) (m : MeshRows) (row : List ℕ) → (Ok tt) ≡ seed_checked C m row → MeshSizes C.vertices m
 unfolding seed_checked vertex_count point_count
 accepted-sizes C m row e =
     let n = (with-accepts (sym e)).0.rows in

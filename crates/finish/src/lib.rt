@@ -11,7 +11,7 @@ ghost use Rattle.finish.specs.Finish.{finish_mesh, finished_from, finished_with,
 ghost use Rattle.finish.specs.FinishRows.{finishing_of};
 
 use mesh::Counts;
-use mesh_check::{Checked, Refusal};
+use mesh_check::Refusal;
 
 // The faces added by all convexity passes, their flips, and those of the closing pass.
 #[derive(Clone, Copy)]
@@ -21,17 +21,11 @@ pub struct Totals {
     pub closingflips: u64,
 }
 
-#[derive(Clone, Copy)]
-pub enum Finished {
-    Accepted(Totals),
-    Refused(Refusal),
-}
-
 // The mesh's counts after the call, and what it has done.
 #[derive(Clone, Copy)]
 pub struct FinishAnswer {
     pub counts: Counts,
-    pub finished: Finished,
+    pub finished: Result<Totals, Refusal>,
 }
 
 // What was made of a mesh, and whether a flip's pushes would have overfilled the pending list.
@@ -50,7 +44,7 @@ pub fn check_seed(
     halves: &[u32],
     faces: &[u32],
     pending: &[u32],
-) -> Checked
+) -> Result<(), Refusal>
     ensures { result ≡ seed_checked counts
         (mesh_rows positions.now outs.now halves.now faces.now) pending.now }
 {
@@ -110,20 +104,15 @@ pub fn answer_of(ended: Ended, place: u32) -> FinishAnswer
     ensures { (o h a : List ℕ)
         → result ≡ record { counts = ended.counts; finished = finished_from place (finishing_of o h a ended) } }
 {
-    let counts = ended.counts;
-    let totals = ended.totals;
     if ended.full {
         return FinishAnswer {
-            counts: counts,
-            finished: Finished::Refused(Refusal {
-                number: 9,
-                place: place,
-            }),
+            counts: ended.counts,
+            finished: Err(Refusal { number: 9, place }),
         };
     }
     FinishAnswer {
-        counts: counts,
-        finished: Finished::Accepted(totals),
+        counts: ended.counts,
+        finished: Ok(ended.totals),
     }
 }
 
@@ -141,14 +130,11 @@ pub fn finish(
         ≡ finish_of counts
         (mesh_rows positions.now outs.old halves.old faces.old) pending.old }
 {
-    match check_seed(counts, positions, outs, halves, faces, pending) {
-        Checked::Accepted => {}
-        Checked::Refused(refusal) => {
-            return FinishAnswer {
-                counts: counts,
-                finished: Finished::Refused(refusal),
-            };
-        }
+    if let Err(refusal) = check_seed(counts, positions, outs, halves, faces, pending) {
+        return FinishAnswer {
+            counts,
+            finished: Err(refusal),
+        };
     }
     let ended = finish_mesh(positions, outs, halves, faces, pending, counts);
     dcel::clear(pending);

@@ -4,7 +4,7 @@
 -- and the rows are those of `w`. Assumes nothing.
 use Rattle.std.specs.Prelude.{List, ◌≡◌, refl, ℕ, ℤ}
 use Rattle.std.proofs.Common.{sym, ◌∙◌, ap, ap₂}
-use Rattle.ask.specs.declared.Asked.{Asked}
+use Rattle.ask.specs.Asked.{Asked}
 use Rattle.ask.specs.Ask.{AskOutcome, asked_with}
 use Rattle.bulk_load.specs.declared.BulkLoadAnswer.{BulkLoadAnswer}
 use Rattle.bulk_load.specs.BulkLoad.{BulkLoadOutcome, loaded_with}
@@ -13,7 +13,7 @@ use Rattle.dcel.specs.MeshRows.{MeshRows}
 use Rattle.finish.specs.declared.FinishAnswer.{FinishAnswer}
 use Rattle.finish.specs.Finish.{FinishOutcome, finished_with}
 use Rattle.heights.specs.Heights.{SurfaceRows}
-use Rattle.locate.specs.declared.Located.{Located}
+use Rattle.locate.specs.Located.{Located}
 use Rattle.locate.specs.Locate.{LocateOutcome, located_with}
 use Rattle.ring_rows.specs.RingRows.{RingRows}
 use Rattle.surface.specs.Surface.{SurfaceStepped, surface_stepped, SurfaceRan, surface_ran}

@@ -1,5 +1,5 @@
 -- What a bulk load's result means for a caller who has its numbers: demand 3 with an empty seed and the heights, or a line. Assumes nothing.
-use Rattle.std.specs.Prelude.{Bool, true, false, ◌≡◌, refl, ℕ, ◌<◌}
+use Rattle.std.specs.Prelude.{Bool, true, false, ◌≡◌, refl, ℕ, ◌<◌, Ok, Err}
 use Rattle.std.proofs.Common.{sym, ◌∙◌, ap, subst, arith}
 use Rattle.std.proofs.Math.Path.{subst⁻¹}
 use Rattle.bulk_load.specs.declared.BulkLoadAnswer.{BulkLoadAnswer}
@@ -8,7 +8,7 @@ use Rattle.bulk_load.specs.Demand3.{LineLoaded, LoadFinished}
 use Rattle.bulk_load.proofs.LoadLaws.{bulk-loaded}
 use Rattle.bulk_load.proofs.Named.{load-named}
 use Rattle.dcel.specs.MeshRows.{MeshRows}
-use Rattle.finish.specs.declared.Finished.{Finished}
+use Rattle.finish.specs.Finished.{Finished}
 use Rattle.finish.specs.declared.Totals.{Totals}
 use Rattle.mesh_check.specs.declared.Refusal.{Refusal}
 use Rattle.sums.specs.Bit.{bit}
@@ -60,10 +60,10 @@ module _ (l : BulkLoadLent) (r : BulkLoadResult) (e : r ≡ bulk_load_result (bu
       told f = loaded_result w.answer.line (finished_result w.answer.finish.counts f)
 
       by : (f : Finished) → w.answer.finish.finished ≡ f → LoadFinished l (bulk_load_of l) (load_reported r)
-      by (Finished.Accepted t) k =
+      by (Ok t) k =
           let same : load_reported r ≡ t = ap load_reported e ∙ ap (λ (f : Finished). load_reported (told f)) k in
           subst (λ (u : Totals). LoadFinished l (bulk_load_of l) u) (sym same) ((bulk-loaded l (bulk_load_of l) refl).finished t k (not_line y))
-      by (Finished.Refused x) k =
+      by (Err x) k =
           let same = ap (λ (f : Finished). (told f).refusal) k in
           let n : x.number ≡ 0 = sym (ap (λ (u : BulkLoadResult). u.refusal) e ∙ same) ∙ z in
           let m : 0 < x.number = load-named l x k in

@@ -1,23 +1,23 @@
 -- The calls' answers as flat records of numbers, for C: `refusal` is 0 where the call is accepted, else a row of 01's table, with its
 -- place. What a refused call has no answer for is 0. Definitions only. `Laws`: no refusal has the number 0.
-use Rattle.std.specs.Prelude.{Bool, ℕ, Float, ℤ, pos}
+use Rattle.std.specs.Prelude.{Bool, ℕ, Float, ℤ, pos, Ok, Err}
 use Rattle.angle.specs.declared.Point2.{Point2}
-use Rattle.area.specs.declared.Sided.{Sided}
-use Rattle.area.specs.declared.Totalled.{Totalled}
-use Rattle.ask.specs.declared.Asked.{Asked}
+use Rattle.area.specs.Sided.{Sided}
+use Rattle.area.specs.Totalled.{Totalled}
+use Rattle.ask.specs.Asked.{Asked}
 use Rattle.bulk_load.specs.declared.BulkLoadAnswer.{BulkLoadAnswer}
 use Rattle.finish.specs.declared.FinishAnswer.{FinishAnswer}
-use Rattle.finish.specs.declared.Finished.{Finished}
+use Rattle.finish.specs.Finished.{Finished}
 use Rattle.finish.specs.declared.Totals.{Totals}
-use Rattle.locate.specs.declared.Located.{Located}
+use Rattle.locate.specs.Located.{Located}
 use Rattle.math.specs.declared.Point.{Point}
 use Rattle.mesh.specs.declared.Counts.{Counts}
-use Rattle.mesh_check.specs.declared.Checked.{Checked}
+use Rattle.mesh_check.specs.Checked.{Checked}
 use Rattle.quote.specs.declared.Quote.{Quote}
 use Rattle.sums.specs.Bit.{bit}
 use Rattle.sweep.specs.declared.Answer.{Answer}
 use Rattle.sweep.specs.declared.StepAnswer.{StepAnswer}
-use Rattle.sweep.specs.declared.Stepped.{Stepped}
+use Rattle.sweep.specs.Stepped.{Stepped}
 use Rattle.sweep.specs.Run.{answer_word}
 use Rattle.fithmoul.specs.declared.results.AreaTotalResult.{AreaTotalResult}
 use Rattle.fithmoul.specs.declared.results.AskResult.{AskResult}
@@ -28,7 +28,7 @@ use Rattle.fithmoul.specs.declared.results.LocateResult.{LocateResult}
 use Rattle.fithmoul.specs.declared.results.PointAnswer.{PointAnswer}
 use Rattle.fithmoul.specs.declared.results.SideQueryResult.{SideQueryResult}
 use Rattle.fithmoul.specs.declared.results.StepResult.{StepResult}
-use Rattle.volume.specs.declared.Measured.{Measured}
+use Rattle.volume.specs.Measured.{Measured}
 use Rattle.fithmoul.specs.declared.results.FinishResult.{FinishResult}
 use Rattle.fithmoul.specs.declared.results.RunResult.{RunResult}
 use Rattle.fithmoul.specs.declared.results.VolumeResult.{VolumeResult}
@@ -45,12 +45,12 @@ point_at_of x y = record { x = x; y = y }
 
 -- ---- what comes out as numbers
 abbrev pub check_result : Checked → CheckResult
-check_result Checked.Accepted = record { refusal = 0; place = 0 }
-check_result (Checked.Refused x) = record { refusal = x.number; place = x.place }
+check_result (Ok _) = record { refusal = 0; place = 0 }
+check_result (Err x) = record { refusal = x.number; place = x.place }
 
 abbrev pub locate_result : Located → LocateResult
-locate_result (Located.Found p) = record { refusal = 0; place = 0; edge = p.edge; passed = p.passed }
-locate_result (Located.Refused x) = record { refusal = x.number; place = x.place; edge = 0; passed = 0 }
+locate_result (Ok p) = record { refusal = 0; place = 0; edge = p.edge; passed = p.passed }
+locate_result (Err x) = record { refusal = x.number; place = x.place; edge = 0; passed = 0 }
 
 -- its words, as in a run's answers row
 abbrev pub point_answer : Answer → PointAnswer
@@ -61,7 +61,7 @@ no_answer_of = record { fate = 0; vertex = 0; faces = 0; flips = 0 }
 
 -- the counts are those after the call, refused or not
 abbrev pub stepped_result : Counts → Stepped → StepResult
-stepped_result C (Stepped.Accepted a) = record {
+stepped_result C (Ok a) = record {
   refusal = 0;
   place = 0;
   vertices = C.vertices;
@@ -69,7 +69,7 @@ stepped_result C (Stepped.Accepted a) = record {
   faces = C.faces;
   answer = point_answer a;
 }
-stepped_result C (Stepped.Refused x) = record {
+stepped_result C (Err x) = record {
   refusal = x.number;
   place = x.place;
   vertices = C.vertices;
@@ -101,11 +101,11 @@ abbrev pub no_quote : Quote
 no_quote = record { changes = 0; x = pos 0; y = pos 0; z = pos 0; fate = 0; faces = 0 }
 
 abbrev pub ask_result : Asked → AskResult
-ask_result (Asked.Quoted q) = record { refusal = 0; place = 0; quote = q }
-ask_result (Asked.Refused x) = record { refusal = x.number; place = x.place; quote = no_quote }
+ask_result (Ok q) = record { refusal = 0; place = 0; quote = q }
+ask_result (Err x) = record { refusal = x.number; place = x.place; quote = no_quote }
 
 abbrev pub finished_result : Counts → Finished → FinishResult
-finished_result C (Finished.Accepted t) = record {
+finished_result C (Ok t) = record {
   refusal = 0;
   place = 0;
   vertices = C.vertices;
@@ -115,7 +115,7 @@ finished_result C (Finished.Accepted t) = record {
   convex_flips = t.convexflips;
   closing_flips = t.closingflips;
 }
-finished_result C (Finished.Refused x) = record {
+finished_result C (Err x) = record {
   refusal = x.number;
   place = x.place;
   vertices = C.vertices;
@@ -173,14 +173,14 @@ load_reported r = record { faces = r.faces_added; convexflips = r.convex_flips; 
 
 -- what is measured
 abbrev pub volume_result : Measured → VolumeResult
-volume_result (Measured.Accepted v) = record {
+volume_result (Ok v) = record {
   refusal = 0;
   place = 0;
   six_volumes_high = v.six_volumes.high;
   six_volumes_low = v.six_volumes.low;
   cubic_metres = v.cubic_metres;
 }
-volume_result (Measured.Refused x) = record {
+volume_result (Err x) = record {
   refusal = x.number;
   place = x.place;
   six_volumes_high = 0;
@@ -190,11 +190,11 @@ volume_result (Measured.Refused x) = record {
 
 -- areas
 abbrev pub area_total_result : Totalled → AreaTotalResult
-area_total_result (Totalled.Accepted n) =
+area_total_result (Ok n) =
     record { refusal = 0; place = 0; area_total_high = n.high; area_total_low = n.low }
-area_total_result (Totalled.Refused x) =
+area_total_result (Err x) =
     record { refusal = x.number; place = x.place; area_total_high = 0; area_total_low = 0 }
 
 abbrev pub side_query_result : Sided → SideQueryResult
-side_query_result (Sided.Accepted area) = record { refusal = 0; place = 0; doubled_area = area }
-side_query_result (Sided.Refused x) = record { refusal = x.number; place = x.place; doubled_area = pos 0 }
+side_query_result (Ok area) = record { refusal = 0; place = 0; doubled_area = area }
+side_query_result (Err x) = record { refusal = x.number; place = x.place; doubled_area = pos 0 }

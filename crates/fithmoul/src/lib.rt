@@ -33,12 +33,13 @@ ghost use Rattle.fithmoul.specs.Results.{bulk_load_result, load_reported};
 ghost use Rattle.volume.specs.Volume.{volume_of};
 
 use angle::Point2;
-use ask::Asked;
+use bulk_load::BulkLoadAnswer;
+use finish::FinishAnswer;
 use math::Point;
 use mesh::Counts;
-use mesh_check::Checked;
 use quote::Quote;
 use ring_rows::Node;
+use sweep::StepAnswer;
 
 pub mod results;
 
@@ -63,11 +64,11 @@ pub extern "C" fn fithmoul_check(
         (mesh_rows positions.now outs.now halves.now adjacent.now) heights.now)) }
 {
     let counts = Counts {
-        vertices: vertices,
-        edges: edges,
-        faces: faces,
+        vertices,
+        edges,
+        faces,
     };
-    results::check_result(heights::check_surface(
+    CheckResult::from(heights::check_surface(
         false, counts, positions, heights, outs, halves, adjacent,
     ))
 }
@@ -97,9 +98,9 @@ pub extern "C" fn fithmoul_locate(
         × (located_with w.answer (ring_rows nodes.new freed.new buckets.new) ≡ w) }
 {
     let counts = Counts {
-        vertices: vertices,
-        edges: edges,
-        faces: faces,
+        vertices,
+        edges,
+        faces,
     };
     let center = Point2 {
         x: center_x,
@@ -116,13 +117,13 @@ pub extern "C" fn fithmoul_locate(
         freed.len(),
         buckets.len(),
     );
-    if let Checked::Refused(refusal) = checked {
-        return results::locate_refused(refusal);
+    if let Err(refusal) = checked {
+        return LocateResult::from(Err(refusal));
     }
     let located = locate::locate(
         counts, positions, outs, halves, adjacent, nodes, freed, buckets, center, angle,
     );
-    results::locate_result(located)
+    LocateResult::from(located)
 }
 
 // One point of the sweep about a centre, on a mesh, with its height. Refusals 1 to 7, 9 and 10.
@@ -156,15 +157,15 @@ pub extern "C" fn fithmoul_step(
         (ring_rows nodes.new freed.new buckets.new) pending.new) heights.new ≡ w) }
 {
     let counts = Counts {
-        vertices: vertices,
-        edges: edges,
-        faces: faces,
+        vertices,
+        edges,
+        faces,
     };
     let center = Point2 {
         x: center_x,
         y: center_y,
     };
-    let point = Point { x: x, y: y };
+    let point = Point { x, y };
     let checked = surface_rows::check_step(
         counts,
         positions,
@@ -179,14 +180,17 @@ pub extern "C" fn fithmoul_step(
         point,
         z,
     );
-    if let Checked::Refused(refusal) = checked {
-        return results::step_refused(counts, refusal);
+    if let Err(refusal) = checked {
+        return StepResult::from(StepAnswer {
+            counts,
+            stepped: Err(refusal),
+        });
     }
     let answer = step::step(
         counts, positions, outs, halves, adjacent, nodes, freed, buckets, pending, center, point,
     );
     surface_rows::store_height(heights, vertices, answer.counts.vertices, z);
-    results::step_result(answer)
+    StepResult::from(answer)
 }
 
 // What a point would do: the fate and the faces of the step's answer, with the change count and the point, for a commit. The mesh is left
@@ -219,15 +223,15 @@ pub extern "C" fn fithmoul_ask(
         × (asked_with w.answer s (ring_rows nodes.new freed.new buckets.new) ≡ w) }
 {
     let counts = Counts {
-        vertices: vertices,
-        edges: edges,
-        faces: faces,
+        vertices,
+        edges,
+        faces,
     };
     let center = Point2 {
         x: center_x,
         y: center_y,
     };
-    let point = Point { x: x, y: y };
+    let point = Point { x, y };
     let asked = ask_rows::ask(
         changes,
         counts,
@@ -243,11 +247,11 @@ pub extern "C" fn fithmoul_ask(
         point,
         z,
     );
-    if let Asked::Refused(refusal) = asked {
-        return results::ask_result(Asked::Refused(refusal));
+    if let Err(refusal) = asked {
+        return AskResult::from(Err(refusal));
     }
     locate::clear_ring(nodes, freed, buckets);
-    results::ask_result(asked)
+    AskResult::from(asked)
 }
 
 // The step that a quote told of, if it still would be that. The change count rises where a vertex is added or a flip is refused. Refusals 1
@@ -285,15 +289,15 @@ pub extern "C" fn fithmoul_commit(
         w.changes ≡ w) }
 {
     let counts = Counts {
-        vertices: vertices,
-        edges: edges,
-        faces: faces,
+        vertices,
+        edges,
+        faces,
     };
     let center = Point2 {
         x: center_x,
         y: center_y,
     };
-    let point = Point { x: x, y: y };
+    let point = Point { x, y };
     let checked = commit::check_commit(
         changes,
         counts,
@@ -311,7 +315,7 @@ pub extern "C" fn fithmoul_commit(
         z,
         quote,
     );
-    if let Checked::Refused(refusal) = checked {
+    if let Err(refusal) = checked {
         return results::commit_refused(changes, counts, refusal);
     }
     let progress = step::sweep_once(
@@ -343,9 +347,9 @@ pub extern "C" fn fithmoul_finish(
         pending.new ≡ w) }
 {
     let counts = Counts {
-        vertices: vertices,
-        edges: edges,
-        faces: faces,
+        vertices,
+        edges,
+        faces,
     };
     let checked = surface_rows::check_finish(
         counts,
@@ -356,11 +360,14 @@ pub extern "C" fn fithmoul_finish(
         adjacent,
         pending.len(),
     );
-    if let Checked::Refused(refusal) = checked {
-        return results::finish_refused(counts, refusal);
+    if let Err(refusal) = checked {
+        return FinishResult::from(FinishAnswer {
+            counts,
+            finished: Err(refusal),
+        });
     }
     let answer = finish::finish(counts, positions, outs, halves, adjacent, pending);
-    results::finish_result(answer)
+    FinishResult::from(answer)
 }
 
 // A seed mesh, a centre and a list of points with their heights, to a finished mesh: all steps in list order, then the finish. It starts the
@@ -399,9 +406,9 @@ pub extern "C" fn fithmoul_run(
         × (result.refusal ≡ 0 → Demand3 l w.call (reported result) × CarriedHeights g w) }
 {
     let counts = Counts {
-        vertices: vertices,
-        edges: edges,
-        faces: faces,
+        vertices,
+        edges,
+        faces,
     };
     let center = Point2 {
         x: center_x,
@@ -423,7 +430,7 @@ pub extern "C" fn fithmoul_run(
         pending.len(),
         few,
     );
-    if let Checked::Refused(refusal) = checked {
+    if let Err(refusal) = checked {
         return results::run_refused(changes, counts, refusal);
     }
     let answer = run::run(
@@ -476,8 +483,18 @@ pub extern "C" fn fithmoul_bulk_load(
         pending.len(),
         answers.len(),
     );
-    if let Checked::Refused(refusal) = checked {
-        return results::bulk_load_refused(refusal);
+    if let Err(refusal) = checked {
+        return BulkLoadResult::from(BulkLoadAnswer {
+            finish: FinishAnswer {
+                counts: Counts {
+                    vertices: 0,
+                    edges: 0,
+                    faces: 0,
+                },
+                finished: Err(refusal),
+            },
+            line: false,
+        });
     }
     let answer = bulk_load_rows::load(
         positions,
@@ -493,7 +510,7 @@ pub extern "C" fn fithmoul_bulk_load(
         points,
         point_heights,
     );
-    results::bulk_load_result(answer)
+    BulkLoadResult::from(answer)
 }
 
 // The volume between a mesh and a level: six times it, exactly, and in whole cubic metres, positive where the mesh is above. Refusals 1
@@ -515,13 +532,11 @@ pub extern "C" fn fithmoul_volume(
         heights.now) level) }
 {
     let counts = Counts {
-        vertices: vertices,
-        edges: edges,
-        faces: faces,
+        vertices,
+        edges,
+        faces,
     };
-    results::volume_result(volume::volume(
-        counts, positions, heights, outs, halves, adjacent, level,
-    ))
+    VolumeResult::from(volume::volume(counts, positions, heights, outs, halves, adjacent, level))
 }
 
 // The doubled areas of all triangles of a mesh, in total, exactly. Refusals 1 to 5, and 10.
@@ -540,11 +555,11 @@ pub extern "C" fn fithmoul_area_total(
         (mesh_rows positions.now outs.now halves.now adjacent.now) heights.now)) }
 {
     let counts = Counts {
-        vertices: vertices,
-        edges: edges,
-        faces: faces,
+        vertices,
+        edges,
+        faces,
     };
-    results::area_total_result(area::area_total(counts, positions, heights, outs, halves, adjacent))
+    AreaTotalResult::from(area::area_total(counts, positions, heights, outs, halves, adjacent))
 }
 
 // Twice the signed area of the triangle p1 p2 q, exactly: positive where q lies left of the line from p1 to p2. Refusal 3.
@@ -562,5 +577,5 @@ pub extern "C" fn fithmoul_side_query(
     let p1 = Point { x: p1x, y: p1y };
     let p2 = Point { x: p2x, y: p2y };
     let q = Point { x: qx, y: qy };
-    results::side_query_result(area::side_query(p1, p2, q))
+    SideQueryResult::from(area::side_query(p1, p2, q))
 }

@@ -1,29 +1,23 @@
 // What the calls answer, as structs of numbers that C can read, and how they are made of the library's answers. `refusal` is 0 where the
 // call is accepted, else a row of 01's table with its place; what a refused call has no answer for is 0.
-ghost use Rattle.std.specs.Prelude.{◌≡◌, false, ◌<◌};
-ghost use Rattle.bulk_load.specs.BulkLoad.{no_counts};
+ghost use Rattle.std.specs.Prelude.{◌≡◌, ◌<◌};
 ghost use Rattle.commit.specs.Commit.{commit_changes, run_changes};
-ghost use Rattle.finish.specs.declared.Finished.{Finished};
-ghost use Rattle.locate.specs.declared.Located.{Located};
 ghost use Rattle.quote.specs.Quote.{last_change};
-ghost use Rattle.sweep.specs.declared.Stepped.{Stepped};
 ghost use Rattle.fithmoul.specs.Results.{check_result, locate_result, point_answer, ask_result};
 ghost use Rattle.fithmoul.specs.Results.{with_changes, commit_result, ran_with_changes, run_result};
 ghost use Rattle.fithmoul.specs.Results.{stepped_result, step_result, finished_result, finish_result, volume_result};
 ghost use Rattle.fithmoul.specs.Results.{area_total_result, side_query_result};
 ghost use Rattle.fithmoul.specs.Results.{loaded_result, bulk_load_result};
-ghost use Rattle.sums.specs.Bit.{bit};
 
-use area::{Sided, Totalled};
-use ask::Asked;
 use bulk_load::BulkLoadAnswer;
-use finish::{FinishAnswer, Finished};
-use locate::Located;
+use finish::{FinishAnswer, Totals};
+use int128::Int128;
+use locate::Place;
 use mesh::Counts;
-use mesh_check::{Checked, Refusal};
+use mesh_check::Refusal;
 use quote::Quote;
-use sweep::{Answer, StepAnswer, Stepped};
-use volume::Measured;
+use sweep::{Answer, StepAnswer};
+use volume::Volumes;
 
 #[repr(C)]
 #[derive(Clone, Copy)]
@@ -162,87 +156,70 @@ pub struct SideQueryResult {
     pub doubled_area: i64,
 }
 
-pub fn check_result(checked: Checked) -> CheckResult
-    ensures { result ≡ check_result checked }
-{
-    match checked {
-        Checked::Accepted => CheckResult {
-            refusal: 0,
-            place: 0,
-        },
-        Checked::Refused(x) => CheckResult {
-            refusal: x.number,
-            place: x.place,
-        },
+impl From<Result<(), Refusal>> for CheckResult {
+    ghost from_gives = { λ checked res. res ≡ check_result checked };
+
+    fn from(checked: Result<(), Refusal>) -> CheckResult {
+        match checked {
+            Ok(()) => CheckResult {
+                refusal: 0,
+                place: 0,
+            },
+            Err(x) => CheckResult {
+                refusal: x.number,
+                place: x.place,
+            },
+        }
     }
 }
 
-// The answer of a call that is refused before anything is done: nothing has changed, the counts are those that were given.
-pub fn locate_refused(refusal: Refusal) -> LocateResult
-    ensures { result ≡ locate_result (Located.Refused refusal) }
-{
-    locate_result(Located::Refused(refusal))
-}
+impl From<Result<Place, Refusal>> for LocateResult {
+    ghost from_gives = { λ located res. res ≡ locate_result located };
 
-pub fn step_refused(counts: Counts, refusal: Refusal) -> StepResult
-    ensures { result ≡ stepped_result counts (Stepped.Refused refusal) }
-{
-    stepped_result(counts, Stepped::Refused(refusal))
-}
-
-pub fn finish_refused(counts: Counts, refusal: Refusal) -> FinishResult
-    ensures { result ≡ finished_result counts (Finished.Refused refusal) }
-{
-    finished_result(counts, Finished::Refused(refusal))
-}
-
-pub fn locate_result(located: Located) -> LocateResult
-    ensures { result ≡ locate_result located }
-{
-    match located {
-        Located::Found(p) => LocateResult {
-            refusal: 0,
-            place: 0,
-            edge: p.edge,
-            passed: p.passed,
-        },
-        Located::Refused(x) => LocateResult {
-            refusal: x.number,
-            place: x.place,
-            edge: 0,
-            passed: 0,
-        },
+    fn from(located: Result<Place, Refusal>) -> LocateResult {
+        match located {
+            Ok(p) => LocateResult {
+                refusal: 0,
+                place: 0,
+                edge: p.edge,
+                passed: p.passed,
+            },
+            Err(x) => LocateResult {
+                refusal: x.number,
+                place: x.place,
+                edge: 0,
+                passed: 0,
+            },
+        }
     }
 }
 
-fn point_answer(answer: Answer) -> PointAnswer
-    ensures { result ≡ point_answer answer }
-{
-    let fate = answer.fate;
-    PointAnswer {
-        fate: decide::fate_number(fate),
-        vertex: decide::fate_vertex(fate),
-        faces: answer.faces as u64,
-        flips: answer.flips,
+impl From<Answer> for PointAnswer {
+    ghost from_gives = { λ answer res. res ≡ point_answer answer };
+
+    fn from(answer: Answer) -> PointAnswer {
+        PointAnswer {
+            fate: decide::fate_number(answer.fate),
+            vertex: decide::fate_vertex(answer.fate),
+            faces: answer.faces as u64,
+            flips: answer.flips,
+        }
     }
 }
 
-fn stepped_result(counts: Counts, stepped: Stepped) -> StepResult
+fn stepped_result(counts: Counts, stepped: Result<Answer, Refusal>) -> StepResult
     ensures { result ≡ stepped_result counts stepped }
 {
     match stepped {
-        Stepped::Accepted(answer) => {
-            let words = point_answer(answer);
-            StepResult {
-                refusal: 0,
-                place: 0,
-                vertices: counts.vertices,
-                edges: counts.edges,
-                faces: counts.faces,
-                answer: words,
-            }
-        }
-        Stepped::Refused(x) => StepResult {
+        Ok(answer) => StepResult {
+            refusal: 0,
+            place: 0,
+            vertices: counts.vertices,
+            edges: counts.edges,
+            faces: counts.faces,
+            answer: PointAnswer::from(answer),
+        },
+        Err(x) => StepResult {
             refusal: x.number,
             place: x.place,
             vertices: counts.vertices,
@@ -258,19 +235,19 @@ fn stepped_result(counts: Counts, stepped: Stepped) -> StepResult
     }
 }
 
-pub fn step_result(answer: StepAnswer) -> StepResult
-    ensures { result ≡ step_result answer }
-{
-    let counts = answer.counts;
-    let stepped = answer.stepped;
-    stepped_result(counts, stepped)
+impl From<StepAnswer> for StepResult {
+    ghost from_gives = { λ answer res. res ≡ step_result answer };
+
+    fn from(answer: StepAnswer) -> StepResult {
+        stepped_result(answer.counts, answer.stepped)
+    }
 }
 
-fn finished_result(counts: Counts, finished: Finished) -> FinishResult
+fn finished_result(counts: Counts, finished: Result<Totals, Refusal>) -> FinishResult
     ensures { result ≡ finished_result counts finished }
 {
     match finished {
-        Finished::Accepted(totals) => FinishResult {
+        Ok(totals) => FinishResult {
             refusal: 0,
             place: 0,
             vertices: counts.vertices,
@@ -280,7 +257,7 @@ fn finished_result(counts: Counts, finished: Finished) -> FinishResult
             convex_flips: totals.convexflips,
             closing_flips: totals.closingflips,
         },
-        Finished::Refused(x) => FinishResult {
+        Err(x) => FinishResult {
             refusal: x.number,
             place: x.place,
             vertices: counts.vertices,
@@ -293,119 +270,126 @@ fn finished_result(counts: Counts, finished: Finished) -> FinishResult
     }
 }
 
-pub fn finish_result(answer: FinishAnswer) -> FinishResult
-    ensures { result ≡ finish_result answer }
-{
-    let counts = answer.counts;
-    let finished = answer.finished;
-    finished_result(counts, finished)
+impl From<FinishAnswer> for FinishResult {
+    ghost from_gives = { λ answer res. res ≡ finish_result answer };
+
+    fn from(answer: FinishAnswer) -> FinishResult {
+        finished_result(answer.counts, answer.finished)
+    }
 }
 
-pub fn volume_result(measured: Measured) -> VolumeResult
-    ensures { result ≡ volume_result measured }
-{
-    match measured {
-        Measured::Accepted(volumes) => {
-            let six = volumes.six_volumes;
-            VolumeResult {
+impl From<Result<Volumes, Refusal>> for VolumeResult {
+    ghost from_gives = { λ measured res. res ≡ volume_result measured };
+
+    fn from(measured: Result<Volumes, Refusal>) -> VolumeResult {
+        match measured {
+            Ok(volumes) => VolumeResult {
                 refusal: 0,
                 place: 0,
-                six_volumes_high: six.high,
-                six_volumes_low: six.low,
+                six_volumes_high: volumes.six_volumes.high,
+                six_volumes_low: volumes.six_volumes.low,
                 cubic_metres: volumes.cubic_metres,
-            }
-        }
-        Measured::Refused(x) => VolumeResult {
-            refusal: x.number,
-            place: x.place,
-            six_volumes_high: 0,
-            six_volumes_low: 0,
-            cubic_metres: 0,
-        },
-    }
-}
-
-pub fn area_total_result(totalled: Totalled) -> AreaTotalResult
-    ensures { result ≡ area_total_result totalled }
-{
-    match totalled {
-        Totalled::Accepted(total) => AreaTotalResult {
-            refusal: 0,
-            place: 0,
-            area_total_high: total.high,
-            area_total_low: total.low,
-        },
-        Totalled::Refused(x) => AreaTotalResult {
-            refusal: x.number,
-            place: x.place,
-            area_total_high: 0,
-            area_total_low: 0,
-        },
-    }
-}
-
-pub fn side_query_result(sided: Sided) -> SideQueryResult
-    ensures { result ≡ side_query_result sided }
-{
-    match sided {
-        Sided::Accepted(area) => SideQueryResult {
-            refusal: 0,
-            place: 0,
-            doubled_area: area,
-        },
-        Sided::Refused(x) => SideQueryResult {
-            refusal: x.number,
-            place: x.place,
-            doubled_area: 0,
-        },
-    }
-}
-
-pub fn ask_result(asked: Asked) -> AskResult
-    ensures { result ≡ ask_result asked }
-{
-    match asked {
-        Asked::Quoted(quote) => AskResult {
-            refusal: 0,
-            place: 0,
-            quote: quote,
-        },
-        Asked::Refused(x) => AskResult {
-            refusal: x.number,
-            place: x.place,
-            quote: Quote {
-                changes: 0,
-                x: 0,
-                y: 0,
-                z: 0,
-                fate: 0,
-                faces: 0,
             },
-        },
+            Err(x) => VolumeResult {
+                refusal: x.number,
+                place: x.place,
+                six_volumes_high: 0,
+                six_volumes_low: 0,
+                cubic_metres: 0,
+            },
+        }
+    }
+}
+
+impl From<Result<Int128, Refusal>> for AreaTotalResult {
+    ghost from_gives = { λ totalled res. res ≡ area_total_result totalled };
+
+    fn from(totalled: Result<Int128, Refusal>) -> AreaTotalResult {
+        match totalled {
+            Ok(total) => AreaTotalResult {
+                refusal: 0,
+                place: 0,
+                area_total_high: total.high,
+                area_total_low: total.low,
+            },
+            Err(x) => AreaTotalResult {
+                refusal: x.number,
+                place: x.place,
+                area_total_high: 0,
+                area_total_low: 0,
+            },
+        }
+    }
+}
+
+impl From<Result<i64, Refusal>> for SideQueryResult {
+    ghost from_gives = { λ sided res. res ≡ side_query_result sided };
+
+    fn from(sided: Result<i64, Refusal>) -> SideQueryResult {
+        match sided {
+            Ok(area) => SideQueryResult {
+                refusal: 0,
+                place: 0,
+                doubled_area: area,
+            },
+            Err(x) => SideQueryResult {
+                refusal: x.number,
+                place: x.place,
+                doubled_area: 0,
+            },
+        }
+    }
+}
+
+impl From<Result<Quote, Refusal>> for AskResult {
+    ghost from_gives = { λ asked res. res ≡ ask_result asked };
+
+    fn from(asked: Result<Quote, Refusal>) -> AskResult {
+        match asked {
+            Ok(quote) => AskResult {
+                refusal: 0,
+                place: 0,
+                quote,
+            },
+            Err(x) => AskResult {
+                refusal: x.number,
+                place: x.place,
+                quote: Quote {
+                    changes: 0,
+                    x: 0,
+                    y: 0,
+                    z: 0,
+                    fate: 0,
+                    faces: 0,
+                },
+            },
+        }
     }
 }
 
 fn with_changes(changes: u32, res: StepResult) -> CommitResult
     ensures { result ≡ with_changes changes res }
 {
-    let answer = res.answer;
     CommitResult {
         refusal: res.refusal,
         place: res.place,
         vertices: res.vertices,
         edges: res.edges,
         faces: res.faces,
-        changes: changes,
-        answer: answer,
+        changes,
+        answer: res.answer,
     }
 }
 
 // Nothing has changed, the count neither.
 pub fn commit_refused(changes: u32, counts: Counts, refusal: Refusal) -> CommitResult
-    ensures { result ≡ commit_result changes (record { counts = counts; stepped = Stepped.Refused refusal }) }
+    ensures { result ≡ commit_result changes (record { counts = counts; stepped = Err refusal }) }
 {
-    let result = step_refused(counts, refusal);
-    with_changes(changes, result)
+    let refused = StepAnswer {
+        counts,
+        stepped: Err(refusal),
+    };
+    with_changes(changes, StepResult::from(refused))
 }
 
 // A commit that the checks accept, from the count before it.
@@ -413,10 +397,8 @@ pub fn commit_result(changes: u32, answer: StepAnswer) -> CommitResult
     requires { changes < last_change }
     ensures { result ≡ commit_result (commit_changes changes answer.stepped) answer }
 {
-    let stepped = answer.stepped;
-    let after = commit::commit_changes(changes, stepped);
-    let result = step_result(answer);
-    with_changes(after, result)
+    let after = commit::commit_changes(changes, answer.stepped);
+    with_changes(after, StepResult::from(answer))
 }
 
 fn ran_with_changes(changes: u32, res: FinishResult) -> RunResult
@@ -428,7 +410,7 @@ fn ran_with_changes(changes: u32, res: FinishResult) -> RunResult
         vertices: res.vertices,
         edges: res.edges,
         faces: res.faces,
-        changes: changes,
+        changes,
         faces_added: res.faces_added,
         convex_flips: res.convex_flips,
         closing_flips: res.closing_flips,
@@ -439,34 +421,22 @@ fn ran_with_changes(changes: u32, res: FinishResult) -> RunResult
 pub fn run_result(changes: u32, answer: FinishAnswer) -> RunResult
     ensures { result ≡ run_result (run_changes changes answer.finished) answer }
 {
-    let finished = answer.finished;
-    let after = commit::run_changes(changes, finished);
-    let result = finish_result(answer);
-    ran_with_changes(after, result)
+    let after = commit::run_changes(changes, answer.finished);
+    ran_with_changes(after, FinishResult::from(answer))
 }
 
 // Refused before anything is done.
 pub fn run_refused(changes: u32, counts: Counts, refusal: Refusal) -> RunResult
-    ensures { result ≡ run_result (run_changes changes (Finished.Refused refusal))
-        (record { counts = counts; finished = Finished.Refused refusal }) }
+    ensures { result ≡ run_result (run_changes changes (Err refusal))
+        (record { counts = counts; finished = Err refusal }) }
 {
     run_result(
         changes,
         FinishAnswer {
-            counts: counts,
-            finished: Finished::Refused(refusal),
+            counts,
+            finished: Err(refusal),
         },
     )
-}
-
-// 1 for a line of points.
-fn line_mark(line: bool) -> u32
-    ensures { result ≡ bit line }
-{
-    if line {
-        return 1;
-    }
-    0
 }
 
 // With the mark of a line. The change count starts at 0.
@@ -480,7 +450,7 @@ fn loaded_result(line: bool, res: FinishResult) -> BulkLoadResult
         edges: res.edges,
         faces: res.faces,
         changes: 0,
-        line: line_mark(line),
+        line: u32::from(line),
         faces_added: res.faces_added,
         convex_flips: res.convex_flips,
         closing_flips: res.closing_flips,
@@ -488,28 +458,10 @@ fn loaded_result(line: bool, res: FinishResult) -> BulkLoadResult
 }
 
 // A bulk load.
-pub fn bulk_load_result(answer: BulkLoadAnswer) -> BulkLoadResult
-    ensures { result ≡ bulk_load_result answer }
-{
-    let finish = answer.finish;
-    let result = finish_result(finish);
-    loaded_result(answer.line, result)
-}
+impl From<BulkLoadAnswer> for BulkLoadResult {
+    ghost from_gives = { λ answer res. res ≡ bulk_load_result answer };
 
-// Refused before anything is done: no mesh was given.
-pub fn bulk_load_refused(refusal: Refusal) -> BulkLoadResult
-    ensures { result ≡ bulk_load_result
-        (record { finish = record { counts = no_counts; finished = Finished.Refused refusal }; line = false }) }
-{
-    bulk_load_result(BulkLoadAnswer {
-        finish: FinishAnswer {
-            counts: Counts {
-                vertices: 0,
-                edges: 0,
-                faces: 0,
-            },
-            finished: Finished::Refused(refusal),
-        },
-        line: false,
-    })
+    fn from(answer: BulkLoadAnswer) -> BulkLoadResult {
+        loaded_result(answer.line, FinishResult::from(answer.finish))
+    }
 }

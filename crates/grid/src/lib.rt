@@ -1,7 +1,7 @@
 // A grid over a range of positions: for each cell an edge that was put there. It is asked for an edge that is likely
 // close to a point, from which a search may start; nothing depends on what it holds, so no contract says that.
 // An edge that was put in for a vertex may be flipped since: it stays near, since a flip moves an edge within its two triangles.
-// The row has any contents and length: what is not in it is not stored, and a number past the edges in use is not answered.
+// The row of cells has any contents and length: what is not in it is not stored, and a number past the edges in use is not answered.
 #![tactic(auto)]
 
 ghost use Rattle.std.specs.Prelude.{◌*◌, ◌<◌, ◌≤◌, length};
@@ -27,114 +27,58 @@ pub struct Range {
     pub greatest: Point,
 }
 
-fn smaller(a: i32, b: i32) -> i32 {
-    if a < b { a } else { b }
-}
+impl Range {
+    pub fn at(p: Point) -> Range {
+        Range {
+            least: p,
+            greatest: p,
+        }
+    }
 
-fn larger(a: i32, b: i32) -> i32 {
-    if a < b { b } else { a }
-}
+    fn including(self, p: Point) -> Range {
+        Range {
+            least: Point {
+                x: self.least.x.min(p.x),
+                y: self.least.y.min(p.y),
+            },
+            greatest: Point {
+                x: self.greatest.x.max(p.x),
+                y: self.greatest.y.max(p.y),
+            },
+        }
+    }
 
-pub fn range_at(p: Point) -> Range {
-    Range {
-        least: p,
-        greatest: p,
+    // With the first positions of a row, so many of them.
+    pub fn with(self, positions: &[i32], count: u32) -> Range
+        requires { 2 * count ≤ length positions.now }
+    {
+        let mut all = self;
+        for i in 0..count {
+            all = all.including(dcel::position(positions, i));
+        }
+        all
     }
 }
 
-fn range_and(range: Range, p: Point) -> Range {
-    let least = range.least;
-    let greatest = range.greatest;
-    Range {
-        least: Point {
-            x: smaller(least.x, p.x),
-            y: smaller(least.y, p.y),
-        },
-        greatest: Point {
-            x: larger(greatest.x, p.x),
-            y: larger(greatest.y, p.y),
-        },
-    }
+// How far a coordinate is past the least; 0 where it is below.
+fn offset(least: i32, coordinate: i32) -> u32 {
+    coordinate.max(least).abs_diff(least)
 }
 
-// With the first positions of a row, so many of them.
-pub fn range_with(range: Range, positions: &[i32], count: u32) -> Range
-    requires { 2 * count ≤ length positions.now }
-{
-    let mut all = range;
-    let mut i: u32 = 0;
-    while i < count {
-        let p = dcel::position(positions, i);
-        all = range_and(all, p);
-        i += 1;
-    }
-    all
-}
-
-// A number, or 0 where it is below.
-fn not_below(x: i64) -> u64 {
-    if x < 0 {
-        return 0;
-    }
-    x as u64
-}
-
-// How far a coordinate is past the least.
-fn offset(least: i32, coordinate: i32) -> u64 {
-    not_below(coordinate as i64 - least as i64)
-}
-
-// How many binary digits a number has, of 32 at most.
-fn digits(n: u64) -> u32 {
-    let mut rest = n;
-    let mut k: u32 = 0;
-    while k < 32 && 0 < rest {
-        rest = rest / 2;
-        k += 1;
-    }
-    k
+// How many binary digits a number has.
+fn digits(n: u32) -> u32 {
+    u32::BITS - n.leading_zeros()
 }
 
 // What a row holds at `at`; 0 past its end.
 pub fn read(row: &[u32], at: usize) -> u32 {
-    if row.len() <= at {
-        return 0;
-    }
-    row[at]
+    row.get(at).copied().unwrap_or(0)
 }
 
 // Nothing past its end.
 pub fn write(row: &mut [u32], at: usize, v: u32) {
-    if row.len() <= at {
-        return;
-    }
-    row[at] = v;
-}
-
-// No grid: one cell, and nothing is said of what it holds.
-pub fn none() -> Grid {
-    Grid {
-        levels: 0,
-        shift_x: 0,
-        shift_y: 0,
-        x: 0,
-        y: 0,
-        placed: 0,
-    }
-}
-
-// One cell over the range, and in it edge 0.
-pub fn over(grid: &mut [u32], range: Range) -> Grid {
-    write(grid, 0, 0);
-    let least = range.least;
-    let greatest = range.greatest;
-    Grid {
-        levels: 0,
-        shift_x: digits(offset(least.x, greatest.x)),
-        shift_y: digits(offset(least.y, greatest.y)),
-        x: least.x,
-        y: least.y,
-        placed: 0,
+    if let Some(entry) = row.get_mut(at) {
+        *entry = v;
     }
 }
 
@@ -144,135 +88,113 @@ fn index(levels: u32, column: u64, row: u64) -> usize {
     ((up | column) % 4294967296) as usize
 }
 
-fn cell(g: Grid, p: Point) -> usize {
-    let column = offset(g.x, p.x) >> (g.shift_x % 64);
-    let row = offset(g.y, p.y) >> (g.shift_y % 64);
-    index(g.levels, column, row)
-}
-
-// What the cell of a position holds.
-pub fn at(grid: &[u32], g: Grid, p: Point) -> u32 {
-    read(grid, cell(g, p))
-}
-
-// The cell of a position takes an edge.
-pub fn set(grid: &mut [u32], g: Grid, p: Point, u: u32) {
-    write(grid, cell(g, p), u);
-}
-
-// Of so many edges in use one that is likely close to the point.
-pub fn near(grid: &[u32], g: Grid, edges: u32, p: Point) -> u32
-    requires { 0 < edges }
-    ensures { result < edges }
-{
-    let u = at(grid, g, p);
-    if u < edges {
-        return u;
-    }
-    0
-}
-
 // Cell `at` of a grid with twice the columns and rows takes what the cell had that it is a quarter of, which is not behind it.
-fn split_cell(grid: &mut [u32], levels: u32, at: usize) {
+fn split_cell(cells: &mut [u32], levels: u32, at: usize) {
     let row = at >> (levels % 16 + 1);
     let column = at ^ (row << (levels % 16 + 1));
     let from = index(levels, column as u64 / 2, row as u64 / 2);
-    let v = read(grid, from);
-    write(grid, at, v);
+    let v = read(cells, from);
+    write(cells, at, v);
 }
 
-// Each cell becomes four, from the last one down.
-fn split_cells(grid: &mut [u32], levels: u32, cells: usize) {
-    let mut at = cells;
-    while 0 < at {
-        at -= 1;
-        split_cell(grid, levels, at);
-    }
-}
-
-// Whether there are four vertices to a cell, and the row and the range have room for four times the cells.
-fn is_crowded(g: Grid, length: usize) -> bool {
-    if g.levels >= 12 {
-        return false;
-    }
-    if g.shift_x == 0 {
-        return false;
-    }
-    if g.shift_y == 0 {
-        return false;
-    }
-    let cells: usize = 1 << (2 * g.levels);
-    if (g.placed as usize) / 4 < cells {
-        return false;
-    }
-    cells <= length / 4
-}
-
-fn one_less(n: u32) -> u32 {
-    if n == 0 {
-        return 0;
-    }
-    n - 1
-}
-
-// Four times the cells, where that is due.
-fn refined(grid: &mut [u32], g: Grid) -> Grid {
-    if !is_crowded(g, grid.len()) {
-        return g;
-    }
-    let levels = g.levels % 16;
-    split_cells(grid, levels, 4 << (2 * levels));
-    Grid {
-        levels: levels + 1,
-        shift_x: one_less(g.shift_x),
-        shift_y: one_less(g.shift_y),
-        x: g.x,
-        y: g.y,
-        placed: g.placed,
+// Each cell becomes four, so many of them, from the last one down.
+fn split_cells(cells: &mut [u32], levels: u32, count: usize) {
+    for at in (0..count).rev() {
+        split_cell(cells, levels, at);
     }
 }
 
-fn one_more(n: u32) -> u32 {
-    if n < 4294967295 {
-        return n + 1;
-    }
-    n
-}
-
-// An edge of the vertex at p is put into its cell, and the grid is refined where that is due.
-pub fn put(grid: &mut [u32], g: Grid, p: Point, u: u32) -> Grid {
-    set(grid, g, p, u);
-    let more = Grid {
-        levels: g.levels,
-        shift_x: g.shift_x,
-        shift_y: g.shift_y,
-        x: g.x,
-        y: g.y,
-        placed: one_more(g.placed),
-    };
-    refined(grid, more)
-}
-
-// The out edges of a mesh's vertices are put in, one of so many.
-pub fn put_vertices(
-    grid: &mut [u32],
-    g: Grid,
-    positions: &[i32],
-    outs: &[u32],
-    vertices: u32,
-    stride: u32,
-) -> Grid
-    requires { (2 * vertices ≤ length positions.now) × (0 < stride) }
-{
-    let mut all = g;
-    let mut v: u32 = 0;
-    while v < vertices {
-        let p = dcel::position(positions, v);
-        all = put(grid, all, p, read(outs, v as usize) / 2);
-        if vertices - v <= stride {
-            return all;
+impl Grid {
+    // One cell over the range, and in it edge 0.
+    pub fn over(cells: &mut [u32], range: Range) -> Grid {
+        write(cells, 0, 0);
+        let least = range.least;
+        let greatest = range.greatest;
+        Grid {
+            levels: 0,
+            shift_x: digits(offset(least.x, greatest.x)),
+            shift_y: digits(offset(least.y, greatest.y)),
+            x: least.x,
+            y: least.y,
+            placed: 0,
         }
-        v += stride;
     }
-    all
+
+    fn cell(self, p: Point) -> usize {
+        let column = offset(self.x, p.x) as u64 >> (self.shift_x % 64);
+        let row = offset(self.y, p.y) as u64 >> (self.shift_y % 64);
+        index(self.levels, column, row)
+    }
+
+    // What the cell of a position holds.
+    pub fn at(self, cells: &[u32], p: Point) -> u32 {
+        read(cells, self.cell(p))
+    }
+
+    // The cell of a position takes an edge.
+    pub fn set(self, cells: &mut [u32], p: Point, u: u32) {
+        write(cells, self.cell(p), u);
+    }
+
+    // Of so many edges in use one that is likely close to the point.
+    pub fn near(self, cells: &[u32], edges: u32, p: Point) -> u32
+        requires { 0 < edges }
+        ensures { result < edges }
+    {
+        let u = self.at(cells, p);
+        if u < edges { u } else { 0 }
+    }
+
+    // Whether there are four vertices to a cell, and the row and the range have room for four times the cells.
+    fn is_crowded(self, length: usize) -> bool {
+        if self.levels >= 12 || self.shift_x == 0 || self.shift_y == 0 {
+            return false;
+        }
+        let cells: usize = 1 << (2 * self.levels);
+        cells <= (self.placed as usize) / 4 && cells <= length / 4
+    }
+
+    // Four times the cells, where that is due.
+    fn refined(self, cells: &mut [u32]) -> Grid {
+        if !self.is_crowded(cells.len()) {
+            return self;
+        }
+        let levels = self.levels % 16;
+        split_cells(cells, levels, 4 << (2 * levels));
+        Grid {
+            levels: levels + 1,
+            shift_x: self.shift_x.saturating_sub(1),
+            shift_y: self.shift_y.saturating_sub(1),
+            ..self
+        }
+    }
+
+    // An edge of the vertex at p is put into its cell, and the grid is refined where that is due.
+    pub fn put(self, cells: &mut [u32], p: Point, u: u32) -> Grid {
+        self.set(cells, p, u);
+        let more = Grid {
+            placed: self.placed.saturating_add(1),
+            ..self
+        };
+        more.refined(cells)
+    }
+
+    // The out edges of a mesh's vertices are put in, one of so many.
+    pub fn put_vertices(
+        self,
+        cells: &mut [u32],
+        positions: &[i32],
+        outs: &[u32],
+        vertices: u32,
+        stride: u32,
+    ) -> Grid
+        requires { (2 * vertices ≤ length positions.now) × (0 < stride) }
+    {
+        let mut all = self;
+        for v in (0..vertices).step_by(stride as usize) {
+            let p = dcel::position(positions, v);
+            all = all.put(cells, p, read(outs, v as usize) / 2);
+        }
+        all
+    }
 }

@@ -20,6 +20,7 @@ use math::Point;
 use mesh::Counts;
 
 // What has become of a point, its fate and its vertex, and of the mesh: the faces and flips are this insertion's.
+// A fate is the number that a row of answers has for it, as `grown_by` of specs/GrowRows.antt and crate line's specs/Grow.antt say it.
 #[derive(Clone, Copy)]
 pub struct Grown {
     pub fate: u32,
@@ -31,9 +32,9 @@ fn grown_by(fate: u32, vertex: u32, added: Extension) -> Grown
     ensures { result ≡ grown_by fate vertex added }
 {
     Grown {
-        fate: fate,
-        vertex: vertex,
-        added: added,
+        fate,
+        vertex,
+        added,
     }
 }
 
@@ -45,7 +46,7 @@ fn unflipped_by(fate: u32, vertex: u32, counts: Counts) -> Grown
         fate,
         vertex,
         Extension {
-            counts: counts,
+            counts,
             faces: 0,
             flips: 0,
             full: false,
@@ -192,8 +193,7 @@ fn grow_point(
         ≡ grow_point room (growing_at counts (links_of outs.old halves.old faces.old)
         (position_of positions.old)) point }
 {
-    let n = counts.vertices;
-    match n {
+    match counts.vertices {
         0 => insert_first_vertex(positions, outs, faces, point),
         1 => insert_second_vertex(positions, outs, halves, faces, point),
         _ => insert_when_all_vertices_on_line(positions, outs, halves, faces, counts, point),
@@ -204,12 +204,11 @@ fn grow_point(
 fn inserted_by(counts: Counts, position: PositionInTriangulation, added: Extension) -> Grown
     ensures { result ≡ inserted_by counts position added }
 {
-    let v = counts.vertices;
     match position {
         PositionInTriangulation::OnVertex(w) => grown_by(9, w, added),
-        PositionInTriangulation::OnEdge(_) => grown_by(1, v, added),
-        PositionInTriangulation::OnFace(_) => grown_by(1, v, added),
-        PositionInTriangulation::OutsideOfConvexHull(_) => grown_by(1, v, added),
+        PositionInTriangulation::OnEdge(_)
+        | PositionInTriangulation::OnFace(_)
+        | PositionInTriangulation::OutsideOfConvexHull(_) => { grown_by(1, counts.vertices, added) }
     }
 }
 
@@ -230,9 +229,7 @@ fn grow_in_mesh(
         (position_of positions.old)) point }
 {
     let done = insert::insert_point(positions, outs, halves, faces, pending, counts, point);
-    let position = done.position;
-    let added = done.added;
-    inserted_by(counts, position, added)
+    inserted_by(counts, done.position, done.added)
 }
 
 // The next point goes in, wherever it lies and however far the seed has grown.

@@ -1,7 +1,7 @@
 -- What the checks with heights come to: where no row of heights is too short and no height outside, heights refuse nothing, and a call's
 -- own table decides (`tested-then`, `own-table`); otherwise the answer is one of 1, 2, 3 and 10 (`heights-numbered`). What is accepted has its
 -- heights, all of them in range (`heights-accept`). Assumes nothing.
-use Rattle.std.specs.Prelude.{Bool, not, ◌||◌, ℕ, ◌<◌, ◌≤◌, ℤ, nat_abs, length}
+use Rattle.std.specs.Prelude.{Bool, not, ◌||◌, ℕ, ◌<◌, ◌≤◌, ℤ, nat_abs, length, Ok, Err}
 use Rattle.std.proofs.Math.Bool.{true, false, cond}
 use mathlib.Core.List.{List, []}
 use Rattle.std.proofs.Math.Path.{◌≡◌, refl, sym, ap}
@@ -9,8 +9,7 @@ use Rattle.std.proofs.Common.{◌∙◌, arith}
 use borrow.Author.Tests.{ltb-false, leb-true}
 use Rattle.dcel.specs.MeshRows.{MeshRows}
 use Rattle.mesh.specs.declared.Counts.{Counts}
-use Rattle.mesh_check.specs.declared.Checked.{Checked}
-use Rattle.mesh_check.specs.declared.Checked.TheVariants.{Accepted, Refused}
+use Rattle.mesh_check.specs.Checked.{Checked}
 use Rattle.mesh_check.specs.declared.Refusal.{Refusal}
 use Rattle.mesh_check.specs.Accepted.{AcceptedMesh}
 use Rattle.mesh_check.proofs.AcceptedLaws.{or-false, check-accepts, range-long, short-refused, with-refused, with_none}
@@ -50,19 +49,19 @@ or-all false = refl
 
 -- 1, 2, 3, and then 10
 module _ (points : List ℤ) (short : Bool) (C : Counts) (m : MeshRows) where
-  pub ten-refused : (outside : Bool) {r : Refusal} → range_with points short C m ≡ Refused r
-      → Refused r ≡ check_ten points short outside C m
+  pub ten-refused : (outside : Bool) {r : Refusal} → range_with points short C m ≡ Err r
+      → Err r ≡ check_ten points short outside C m
   unfolding check_ten
   ten-refused outside e = sym (then-refused _ e)
 
-  module _ (e : range_with points short C m ≡ Accepted) {outside : Bool} where
+  module _ (e : range_with points short C m ≡ Ok tt) {outside : Bool} where
     pub ten-outside : outside ≡ true → refused 10 0 ≡ check_ten points short outside C m
     unfolding check_ten
-    ten-outside o = sym (then_next _ e ∙ ap (λ (b : Bool). cond b (refused 10 0) Accepted) o)
+    ten-outside o = sym (then_next _ e ∙ ap (λ (b : Bool). cond b (refused 10 0) (Ok tt)) o)
 
-    pub ten-accepted : outside ≡ false → Accepted ≡ check_ten points short outside C m
+    pub ten-accepted : outside ≡ false → (Ok tt) ≡ check_ten points short outside C m
     unfolding check_ten
-    ten-accepted o = sym (then_next _ e ∙ ap (λ (b : Bool). cond b (refused 10 0) Accepted) o)
+    ten-accepted o = sym (then_next _ e ∙ ap (λ (b : Bool). cond b (refused 10 0) (Ok tt)) o)
 
 module _ (g : HeightsLent) (C : Counts) (s : SurfaceRows) where
   -- what is accepted: a height for each vertex and point, those of the vertices in use and of the points inside, and a level too
@@ -96,15 +95,15 @@ module _ (g : HeightsLent) (C : Counts) (s : SurfaceRows) where
         inside = a.0;
       }
 
-  pub heights-accept : heights_checked g C s ≡ Accepted → HeightsAccepted
+  pub heights-accept : heights_checked g C s ≡ Ok tt → HeightsAccepted
   unfolding heights_checked check_ten
   heights-accept e =
       let t = then-accepts (range_with g.points (g.short || any_heights_short g C s.heights) C s.mesh)
-      (cond (any_heights_outside g C s.heights) (refused 10 0) Accepted) e in
+      (cond (any_heights_outside g C s.heights) (refused 10 0) (Ok tt)) e in
       let l = range-long g.points (g.short || any_heights_short g C s.heights) C s.mesh t.0 in
       all-inside (or-false g.short (any_heights_short g C s.heights) l).1 (not-ten (any_heights_outside g C s.heights) t.1)
     where
-      not-ten : (b : Bool) → cond b (refused 10 0) Accepted ≡ Accepted → b ≡ false
+      not-ten : (b : Bool) → cond b (refused 10 0) (Ok tt) ≡ Ok tt → b ≡ false
       not-ten true e = absurd (let z : ◌≡◌ {A = ℕ} 0 1 = cc in omega arith)
       not-ten false e = refl
 
@@ -119,11 +118,11 @@ module _ (g : HeightsLent) (C : Counts) (s : SurfaceRows) where
       after = and_then (check_with g.points g.short C s.mesh) next
 
       go : (c : Checked) → range_with g.points g.short C s.mesh ≡ c
-          → and_then (and_then (range_with g.points g.short C s.mesh) Accepted) (and_then (check_with g.points g.short C s.mesh) next)
+          → and_then (and_then (range_with g.points g.short C s.mesh) (Ok tt)) (and_then (check_with g.points g.short C s.mesh) next)
           ≡ and_then (check_with g.points g.short C s.mesh) next
-      go Accepted k = then_next _ (then_next Accepted k)
-      go (Refused r) k =
-          then-refused _ (then-refused Accepted k)
+      go (Ok tt) k = then_next _ (then_next (Ok tt) k)
+      go (Err r) k =
+          then-refused _ (then-refused (Ok tt) k)
           ∙ sym (then-refused next (sym (with-refused g.points g.short C s.mesh k)))
 
   -- ---- as the code asks: first whether a height refuses at all
@@ -140,59 +139,59 @@ module _ (g : HeightsLent) (C : Counts) (s : SurfaceRows) where
   unfolding heights_tested heights_checked
   outside-tested e f = rw (e, f, or-none g.short) refl
 
-  pub fine-tested : any_heights_short g C s.heights ≡ false → any_heights_outside g C s.heights ≡ false → Accepted ≡ heights_tested g C s
+  pub fine-tested : any_heights_short g C s.heights ≡ false → any_heights_outside g C s.heights ≡ false → (Ok tt) ≡ heights_tested g C s
   unfolding heights_tested
   fine-tested e f = rw (e, f) refl
 
-  pub given-tested : HeightsGiven g C s → heights_tested g C s ≡ Accepted
+  pub given-tested : HeightsGiven g C s → heights_tested g C s ≡ Ok tt
   given-tested G = sym (fine-tested G.long G.inside)
 
-  pub tested-refused : {r : Refusal} → heights_tested g C s ≡ Refused r → heights_checked g C s ≡ Refused r
+  pub tested-refused : {r : Refusal} → heights_tested g C s ≡ Err r → heights_checked g C s ≡ Err r
   unfolding heights_tested
   tested-refused {r} e = go (any_heights_short g C s.heights || any_heights_outside g C s.heights) e
     where
-      go : (b : Bool) → cond b (heights_checked g C s) Accepted ≡ Refused r → heights_checked g C s ≡ Refused r
+      go : (b : Bool) → cond b (heights_checked g C s) (Ok tt) ≡ Err r → heights_checked g C s ≡ Err r
       go true k = k
       go false k = absurd (let z : ◌≡◌ {A = ℕ} 0 1 = cc in omega arith)
 
-  pub tested-accept : heights_tested g C s ≡ Accepted → HeightsAccepted
+  pub tested-accept : heights_tested g C s ≡ Ok tt → HeightsAccepted
   unfolding heights_tested
   tested-accept e = go (any_heights_short g C s.heights || any_heights_outside g C s.heights) refl e
     where
       go : (b : Bool) → (any_heights_short g C s.heights || any_heights_outside g C s.heights) ≡ b
-          → cond b (heights_checked g C s) Accepted ≡ Accepted → HeightsAccepted
+          → cond b (heights_checked g C s) (Ok tt) ≡ Ok tt → HeightsAccepted
       go true p k = heights-accept k
       go false p k = let u = or-false (any_heights_short g C s.heights) (any_heights_outside g C s.heights) p in all-inside u.0 u.1
 
-  pub tested-then : heights_tested g C s ≡ Accepted → (next : Checked)
+  pub tested-then : heights_tested g C s ≡ Ok tt → (next : Checked)
       → and_then (heights_checked g C s) (and_then (check_with g.points g.short C s.mesh) next)
       ≡ and_then (check_with g.points g.short C s.mesh) next
   unfolding heights_tested
   tested-then e next = go (any_heights_short g C s.heights || any_heights_outside g C s.heights) refl e
     where
       go : (b : Bool) → (any_heights_short g C s.heights || any_heights_outside g C s.heights) ≡ b
-          → cond b (heights_checked g C s) Accepted ≡ Accepted
+          → cond b (heights_checked g C s) (Ok tt) ≡ Ok tt
           → and_then (heights_checked g C s) (and_then (check_with g.points g.short C s.mesh) next)
           ≡ and_then (check_with g.points g.short C s.mesh) next
       go true p k = then_next _ k
       go false p k = let u = or-false (any_heights_short g C s.heights) (any_heights_outside g C s.heights) p in fine-then u.0 u.1 next
 
   -- what the rows up to 10 accept, the quick test accepts
-  pub checked-tested : heights_checked g C s ≡ Accepted → heights_tested g C s ≡ Accepted
+  pub checked-tested : heights_checked g C s ≡ Ok tt → heights_tested g C s ≡ Ok tt
   unfolding heights_tested
   checked-tested e = go (any_heights_short g C s.heights || any_heights_outside g C s.heights)
     where
-      go : (b : Bool) → cond b (heights_checked g C s) Accepted ≡ Accepted
+      go : (b : Bool) → cond b (heights_checked g C s) (Ok tt) ≡ Ok tt
       go true = e
       go false = refl
 
 -- ---- a call's own table, which begins with the rows of its mesh
 module _ (g : HeightsLent) (C : Counts) (s : SurfaceRows) {own : Checked} (next : Checked)
     (begins : own ≡ and_then (check_with g.points g.short C s.mesh) next) where
-  pub own-table : heights_tested g C s ≡ Accepted → and_then (heights_checked g C s) own ≡ own
+  pub own-table : heights_tested g C s ≡ Ok tt → and_then (heights_checked g C s) own ≡ own
   own-table e = rw begins (tested-then g C s e next)
 
-  pub own-refused : {r : Refusal} → heights_tested g C s ≡ Refused r → and_then (heights_checked g C s) own ≡ Refused r
+  pub own-refused : {r : Refusal} → heights_tested g C s ≡ Err r → and_then (heights_checked g C s) own ≡ Err r
   own-refused e = then-refused own (tested-refused g C s e)
 
 -- ---- a refusal has one of the numbers 1, 2, 3 and 10, and in `check` and `volume` 4 and 5 too
@@ -209,22 +208,22 @@ surface-numbered outside C s =
 
 -- ---- the call `check`, and the checks of `volume`
 module _ (outside : Bool) (C : Counts) (s : SurfaceRows) where
-  pub surface-refused : {r : Refusal} → heights_tested (mesh_lent outside) C s ≡ Refused r → Refused r ≡ surface_checked outside C s
+  pub surface-refused : {r : Refusal} → heights_tested (mesh_lent outside) C s ≡ Err r → Err r ≡ surface_checked outside C s
   unfolding surface_checked
   surface-refused e = sym (then-refused (check_of C s.mesh) (tested-refused (mesh_lent outside) C s e))
 
-  pub surface-next : heights_tested (mesh_lent outside) C s ≡ Accepted → check_of C s.mesh ≡ surface_checked outside C s
+  pub surface-next : heights_tested (mesh_lent outside) C s ≡ Ok tt → check_of C s.mesh ≡ surface_checked outside C s
   unfolding surface_checked and_then
   surface-next e =
       let same = with_none C s.mesh in
-      sym (rw (alone (check_with [] false C s.mesh), same) at (tested-then (mesh_lent outside) C s e Accepted))
+      sym (rw (alone (check_with [] false C s.mesh), same) at (tested-then (mesh_lent outside) C s e (Ok tt)))
     where
-      alone : (c : Checked) → and_then c Accepted ≡ c
-      alone Accepted = refl
-      alone (Refused r) = refl
+      alone : (c : Checked) → and_then c (Ok tt) ≡ c
+      alone (Ok tt) = refl
+      alone (Err r) = refl
 
   -- the mesh is good, every vertex in use has a height in range, and a level is
-  pub surface-accepts : surface_checked outside C s ≡ Accepted → AcceptedMesh C s.mesh × HeightsAccepted (mesh_lent outside) C s
+  pub surface-accepts : surface_checked outside C s ≡ Ok tt → AcceptedMesh C s.mesh × HeightsAccepted (mesh_lent outside) C s
   unfolding surface_checked
   surface-accepts e =
       let t = then-accepts (heights_checked (mesh_lent outside) C s) (check_of C s.mesh) e in

@@ -1,11 +1,10 @@
 -- Heights on the vertices: the row that holds them, and refusal 10. Definitions only; `HeightsLaws` says what they come to.
 -- 02, Change 1: "each vertex gains a height z in whole millimetres. Every call that carries a vertex carries it through." "Links and fates
 -- keep ignoring z." So the heights stand in a row of their own: no definition of a link or a fate is given that row.
-use Rattle.std.specs.Prelude.{Bool, false, not, cond, ◌||◌, List, [], ◌≡◌, ℕ, leb, ltb, ℤ, pos, nat_abs, length, get_or}
+use Rattle.std.specs.Prelude.{Bool, false, not, cond, ◌||◌, List, [], ◌≡◌, ℕ, leb, ltb, ℤ, pos, nat_abs, length, get_or, Ok}
 use Rattle.dcel.specs.MeshRows.{MeshRows}
 use Rattle.mesh.specs.declared.Counts.{Counts}
-use Rattle.mesh_check.specs.declared.Checked.{Checked}
-use Rattle.mesh_check.specs.declared.Checked.TheVariants.{Accepted}
+use Rattle.mesh_check.specs.Checked.{Checked}
 use Rattle.mesh_check.specs.Check.{refused, and_then, point_count, vertex_count, range_with, check_of}
 use Rattle.sums.specs.Bounded.{any_below}
 
@@ -61,7 +60,7 @@ any_heights_outside g C heights =
 
 -- "10 .. checked straight after 3": rows 1, 2 and 3 of the table, and then 10, which names no place
 unfoldable pub check_ten : List ℤ → Bool → Bool → Counts → MeshRows → Checked
-check_ten points short outside C m = and_then (range_with points short C m) (cond outside (refused 10 0) Accepted)
+check_ten points short outside C m = and_then (range_with points short C m) (cond outside (refused 10 0) (Ok tt))
 
 -- the rest of a call's table comes after
 unfoldable pub heights_checked : HeightsLent → Counts → SurfaceRows → Checked
@@ -76,7 +75,7 @@ pub record HeightsGiven (g : HeightsLent) (C : Counts) (s : SurfaceRows) : Type 
 -- the same as it is asked quickly: where every row of heights is long enough and none is outside, heights refuse nothing, and a call's own
 -- table has its rows 1 to 3 (`tested-then`)
 unfoldable pub heights_tested : HeightsLent → Counts → SurfaceRows → Checked
-heights_tested g C s = cond (any_heights_short g C s.heights || any_heights_outside g C s.heights) (heights_checked g C s) Accepted
+heights_tested g C s = cond (any_heights_short g C s.heights || any_heights_outside g C s.heights) (heights_checked g C s) (Ok tt)
 
 -- ---- the call `check`, and the checks of `volume`: 1, 2, 3, 10, 4, 5
 -- no points; outside: a level is

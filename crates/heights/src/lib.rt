@@ -11,7 +11,7 @@ ghost use Rattle.heights.specs.Heights.{surface_rows, height_of, is_valid_height
 ghost use Rattle.heights.specs.Heights.{heights_lent, any_heights_short, any_heights_outside, check_ten, heights_tested, surface_checked};
 
 use mesh::Counts;
-use mesh_check::{Checked, Refusal};
+use mesh_check::Refusal;
 
 fn height_at(row: &[i32], v: usize) -> i32
     requires { v < length row.now }
@@ -53,13 +53,10 @@ pub fn heights_outside(row: &[i32], count: usize) -> bool
     ensures { result ≡ heights_outside count row.now }
 {
     let mut outside = false;
-    let mut v: usize = 0;
-    while v < count {
-        let z = height_at(row, v);
-        if !validate_height(z) {
+    for v in 0..count {
+        if !validate_height(height_at(row, v)) {
             outside = true;
         }
-        v += 1;
     }
     outside
 }
@@ -106,22 +103,15 @@ fn check_ten(
     outs: &[u32],
     halves: &[u32],
     faces: &[u32],
-) -> Checked
+) -> Result<(), Refusal>
     ensures { result ≡ check_ten points.now short outside counts
         (mesh_rows positions.now outs.now halves.now faces.now) }
 {
-    match mesh_check_rows::check_range(points, short, counts, positions, outs, halves, faces) {
-        Checked::Refused(r) => Checked::Refused(r),
-        Checked::Accepted => {
-            if outside {
-                return Checked::Refused(Refusal {
-                    number: 10,
-                    place: 0,
-                });
-            }
-            Checked::Accepted
-        }
+    mesh_check_rows::check_range(points, short, counts, positions, outs, halves, faces)?;
+    if outside {
+        return Err(Refusal::of_call(10));
     }
+    Ok(())
 }
 
 // What rows 1, 2, 3 and 10 answer a call that has heights: its points and theirs, none or more; `short`, another of its rows is too short;
@@ -138,7 +128,7 @@ pub fn check_heights(
     outs: &[u32],
     halves: &[u32],
     faces: &[u32],
-) -> Checked
+) -> Result<(), Refusal>
     ensures { result ≡ heights_tested (heights_lent points.now point_heights.now short outside) counts
         (surface_rows (mesh_rows positions.now outs.now halves.now faces.now)
         heights.now) }
@@ -151,7 +141,7 @@ pub fn check_heights(
     if any_heights_outside(points, point_heights, outside, counts, heights) {
         return check_ten(points, short, true, counts, positions, outs, halves, faces);
     }
-    Checked::Accepted
+    Ok(())
 }
 
 // The public call `check`, of a mesh with heights: rows 1, 2, 3, 10, 4 and 5. `outside`: a level that the call has is outside.
@@ -163,16 +153,14 @@ pub fn check_surface(
     outs: &[u32],
     halves: &[u32],
     faces: &[u32],
-) -> Checked
+) -> Result<(), Refusal>
     ensures { result ≡ surface_checked outside counts
         (surface_rows (mesh_rows positions.now outs.now halves.now faces.now)
         heights.now) }
 {
     let none = &positions[0..0];
-    match check_heights(
+    check_heights(
         none, none, false, outside, counts, positions, heights, outs, halves, faces,
-    ) {
-        Checked::Refused(r) => Checked::Refused(r),
-        Checked::Accepted => mesh_check_rows::check(counts, positions, outs, halves, faces),
-    }
+    )?;
+    mesh_check_rows::check(counts, positions, outs, halves, faces)
 }

@@ -1,22 +1,21 @@
 -- Laws of specs/Insert.antt.
-use Rattle.std.specs.Prelude.{ℕ, suc, ◌+◌, ◌-◌, ◌%◌, ◌<◌, ◌≤◌, ◌^◌, ◌≡◌, refl, ◌≢◌, cond, List, T, eqb, Float, length}
+use Rattle.std.specs.Prelude.{ℕ, suc, ◌+◌, ◌-◌, ◌%◌, ◌<◌, ◌≤◌, ◌^◌, ◌≡◌, refl, ◌≢◌, List, eqb, Float, length}
 use Rattle.std.proofs.Math.Decide.{dec_lt}
 use Rattle.std.proofs.Common.{arith, sym, ◌∙◌, ap, ap₂, subst}
 use Rattle.mesh.specs.declared.Counts.{Counts}
-use Rattle.mesh.specs.Mesh.{Links, In}
+use Rattle.mesh.specs.Mesh.{Links}
 use Rattle.mesh.specs.Wf.{Wf}
 use Rattle.mesh.specs.Area.{boundary_length}
 use Rattle.sums.specs.Iterate.{iter}
 use Rattle.angle.specs.Angle.{IsAngle, turns}
-use Rattle.segment.specs.Arc.{holds}
-use Rattle.segment.specs.Bucket.{Buckets, width, ceil_of}
+use Rattle.segment.specs.Bucket.{Buckets, width}
 use Rattle.segment.proofs.Laws.{bucket-pos}
 use Rattle.dcel.specs.Rows.{row_of}
-use Rattle.ring.specs.Ring.{full_turn, at_ends, edge_angle}
-use Rattle.ring.specs.Splice.{Fit, FitSplice}
-use Rattle.ring.specs.Buckets.{ceiling, within}
+use Rattle.ring.specs.Ring.{full_turn, edge_angle}
+use Rattle.ring.specs.Splice.{FitSplice}
+use Rattle.ring.specs.Buckets.{ceiling}
 use Rattle.ring.specs.Node.{NodeTable, nodes as node_count}
-use Rattle.ring.specs.Insert.{Ring, On, Bucketed, Insertion}
+use Rattle.ring.specs.Insert.{Ring, On, Insertion}
 use Rattle.ring.proofs.InsertLaws.{ring-sole, left-angle, right-angle, left-some, rest_some, size-old}
 use Rattle.ring.proofs.InsertLaws.{right-first}
 use Rattle.ring.specs.Inserted.{Rebucketed}
@@ -26,7 +25,6 @@ use Rattle.ring.specs.WholeInsert.{Stack, InsertParts}
 use Rattle.ring.proofs.WholeInsertLaws.{rebucketed, insert-keeps-edge, insert-keeps-total, insert-keeps-len}
 use Rattle.ring.specs.Hull.{HullFrom}
 use Rattle.ring.proofs.HullLaws.{on-to, on-from}
-use Rattle.ring.specs.Covered.{Covered}
 use Rattle.ring.specs.RingOf.{RingOf}
 use Rattle.ring.proofs.RingOfLaws.{ring-from, ring-size, ring-insert, ring-insert-freed, ring-edges, free-to, free-from, ring_of}
 use Rattle.ring.specs.Resize.{adjusted_buckets}

@@ -4,7 +4,6 @@
 #![tactic(auto)]
 
 ghost use Rattle.std.specs.Prelude.{◌≡◌, ◌&&◌, ◌+◌, ◌-◌, ◌*◌, ◌<◌, ◌≤◌, ◌^◌, leb, eqb, length};
-ghost use Rattle.sums.specs.Bit.{bit};
 ghost use Rattle.sums.specs.Bounded.{any_below};
 ghost use Rattle.ring.specs.Ring.{full_turn, is_strict};
 ghost use Rattle.ring_rows.specs.Rows.{nodes_of};
@@ -37,15 +36,12 @@ pub fn meets_center(
         center.x center.y (edge_at halves.now start k)) }
 {
     let mut e = start;
-    let mut k: u32 = 0;
-    while k < size {
-        let v = dcel::origin(halves, e);
-        let p = dcel::position(positions, v);
+    for _ in 0..size {
+        let p = dcel::position(positions, dcel::origin(halves, e));
         if angle::is_at_center(p.x, p.y, center) {
             return true;
         }
         e = dcel::next(halves, e);
-        k += 1;
     }
     false
 }
@@ -55,32 +51,15 @@ pub fn angle_at(positions: &[i32], halves: &[u32], e: u32, center: Point2) -> f6
     requires { Angled positions.now halves.now center.x center.y e }
     ensures { AngleAt positions.now halves.now center.x center.y e result }
 {
-    let v = dcel::origin(halves, e);
-    let p = dcel::position(positions, v);
+    let p = dcel::position(positions, dcel::origin(halves, e));
     angle::angle_about(p.x, p.y, center)
-}
-
-// 1 for a test that passes.
-fn bit(t: bool) -> u32
-    ensures { result ≡ bit t }
-{
-    if t { 1 } else { 0 }
 }
 
 // At least three angles, exactly one followed by a smaller one, no gap over 3/4, no equal neighbours.
 fn decide(size: u32, wraps: u32, wides: u32, equals: u32) -> bool
     ensures { result ≡ (leb 3 size && eqb wraps 1 && eqb wides 0 && eqb equals 0) }
 {
-    if size < 3 {
-        return false;
-    }
-    if wraps != 1 {
-        return false;
-    }
-    if wides != 0 {
-        return false;
-    }
-    equals == 0
+    size >= 3 && wraps == 1 && wides == 0 && equals == 0
 }
 
 // Whether the ring is strict: refusal 7. Once around, with nothing kept but three counts.
@@ -93,15 +72,13 @@ pub fn is_strict(positions: &[i32], halves: &[u32], start: u32, size: u32, cente
     let mut wraps: u32 = 0;
     let mut wides: u32 = 0;
     let mut equals: u32 = 0;
-    let mut k: u32 = 0;
-    while k < size {
+    for _ in 0..size {
         e = dcel::next(halves, e);
         let to = angle_at(positions, halves, e, center);
-        wraps += bit(angle::less(to, from));
-        wides += bit(segment::is_wide(from, to));
-        equals += bit(angle::equal(from, to));
+        wraps += u32::from(angle::less(to, from));
+        wides += u32::from(segment::is_wide(from, to));
+        equals += u32::from(angle::equal(from, to));
         from = to;
-        k += 1;
     }
     decide(size, wraps, wides, equals)
 }
@@ -121,23 +98,16 @@ fn build_nodes(
 {
     let mut e = start;
     let mut left = size - 1;
-    let mut k: u32 = 0;
-    while k < size {
-        let angle = angle_at(positions, halves, e, center);
-        let right = (k + 1) % size;
-        ring_rows::store(
-            nodes,
-            k,
-            Node {
-                angle: angle,
-                edge: e,
-                left: left,
-                right: right,
-            },
-        );
+    for k in 0..size {
+        let node = Node {
+            angle: angle_at(positions, halves, e, center),
+            edge: e,
+            left,
+            right: (k + 1) % size,
+        };
+        ring_rows::store(nodes, k, node);
         e = dcel::next(halves, e);
         left = k;
-        k += 1;
     }
 }
 

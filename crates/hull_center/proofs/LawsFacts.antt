@@ -1,5 +1,5 @@
 -- Laws of specs/Laws.antt.
-use Rattle.std.specs.Prelude.{◌≡◌, ◌&&◌, Float}
+use Rattle.std.specs.Prelude.{◌≡◌, ◌&&◌, Float, Ok}
 use Rattle.std.proofs.Math.Path.{refl}
 use Rattle.std.proofs.Math.Bool.{Bool, true, false, not, cond}
 use Prim.Native.Nat.{ℕ, suc, ◌-◌, ◌<◌}
@@ -8,7 +8,6 @@ use Rattle.std.proofs.Math.Dec.{T, ltb, ltb→lt}
 use Rattle.math.specs.declared.Point.{Point}
 use Rattle.mesh.specs.declared.Counts.{Counts}
 use Rattle.mesh.specs.Mesh.{Links}
-use Rattle.mesh_check.specs.declared.Checked.TheVariants.{Accepted}
 use Rattle.mesh_check.specs.Check.{refused}
 use Rattle.locate.specs.Locate.{check_ring}
 use Rattle.ring.specs.Center.{refuses_center, refuses_ring}
@@ -36,11 +35,11 @@ module _ (C : Counts) (L : Links) (p : ℕ → Point) where
         },
       )
 
-  accepting : (cx cy : Float) → T (accepts_center C L p cx cy) → check_ring C L p cx cy ≡ Accepted
+  accepting : (cx cy : Float) → T (accepts_center C L p cx cy) → check_ring C L p cx cy ≡ Ok tt
   unfolding accepts_center check_ring
   accepting cx cy = go (refuses_center C L p cx cy) (refuses_ring C L p cx cy)
     where
-      go : (t u : Bool) → T (not t && not u) → cond t (refused 6 0) (cond u (refused 7 0) Accepted) ≡ Accepted
+      go : (t u : Bool) → T (not t && not u) → cond t (refused 6 0) (cond u (refused 7 0) (Ok tt)) ≡ Ok tt
       go true u x = absurd x
       go false true x = absurd x
       go false false x = refl

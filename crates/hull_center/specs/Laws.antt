@@ -1,5 +1,5 @@
 -- What a mesh that is ready gives to the sweep. Assumes nothing.
-use Rattle.std.specs.Prelude.{◌≡◌, ◌&&◌, Float}
+use Rattle.std.specs.Prelude.{◌≡◌, ◌&&◌, Float, Ok}
 use Rattle.std.proofs.Math.Path.{refl}
 use Rattle.std.proofs.Math.Bool.{Bool, true, false, not, cond}
 use Prim.Native.Nat.{ℕ, suc, ◌-◌, ◌<◌}
@@ -8,7 +8,6 @@ use Rattle.std.proofs.Math.Dec.{T, ltb, ltb→lt}
 use Rattle.math.specs.declared.Point.{Point}
 use Rattle.mesh.specs.declared.Counts.{Counts}
 use Rattle.mesh.specs.Mesh.{Links}
-use Rattle.mesh_check.specs.declared.Checked.TheVariants.{Accepted}
 use Rattle.mesh_check.specs.Check.{refused}
 use Rattle.locate.specs.Locate.{check_ring}
 use Rattle.ring.specs.Center.{refuses_center, refuses_ring}
@@ -27,6 +26,6 @@ pub record FaceHolds (C : Counts) (L : Links) (p : ℕ → Point) (f : ℕ) : Ty
 pub record ReadyStart (C : Counts) (L : Links) (p : ℕ → Point) : Type 0 where
   pub faces : 1 < C.faces
   -- rows 6 and 7 of the table
-  pub ring : check_ring C L p (hull_center C p).x (hull_center C p).y ≡ Accepted
+  pub ring : check_ring C L p (hull_center C p).x (hull_center C p).y ≡ Ok tt
   pub face : ℕ
   pub holds : FaceHolds C L p face

@@ -1,5 +1,5 @@
 -- What the machine's numbers hold. Assumes nothing.
-use mathlib.Core.Path.{◌≡◌, sym, ap₂, subst}
+use mathlib.Core.Path.{◌≡◌, sym, ◌∙◌, ap₂, subst}
 use Prim.Native.Nat.{◌≤◌, ◌^◌}
 use native.Mathlib.Omega.{arith}
 use lib.Dec.{T, le→leb, lt→ltb}
@@ -14,8 +14,8 @@ fits-abs (pos n) f = omega (arith, f.sfits)
 fits-abs (negsuc n) f = omega (arith, f.sfits)
 
 -- an i32, as it is read
-pub read-abs : (z : ℤ) → SFits w32 z → nat_abs (to_z w32 (of_z w32 z)) ≤ 2147483648
-read-abs z f = subst (λ (v : ℤ). nat_abs v ≤ 2147483648) {x = z} (sym (to_z-of_z f)) (fits-abs z f)
+pub read-abs : {r z : ℤ} → r ≡ to_z w32 (of_z w32 z) → SFits w32 z → nat_abs r ≤ 2147483648
+read-abs {r} {z} e f = subst (λ (v : ℤ). nat_abs v ≤ 2147483648) {x = z} (sym (e ∙ to_z-of_z f)) (fits-abs z f)
 
 -- a small number goes into an f64 as it is
 pub in-float : (z : ℤ) → nat_abs z ≤ 50331648 → T (in_float binary64 z)

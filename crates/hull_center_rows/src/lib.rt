@@ -30,7 +30,7 @@ pub struct Corners {
 fn add_three(a: i32, b: i32, c: i32) -> i64
     ensures { result ≡ a +ℤ b +ℤ c }
 {
-    a as i64 + b as i64 + c as i64
+    i64::from(a) + i64::from(b) + i64::from(c)
 }
 
 // The positions of the three vertices that were added last, added up.
@@ -80,8 +80,8 @@ fn less_three(sum: PositionSum, a: Point) -> PositionSum
     ensures { result ≡ less_three sum a }
 {
     PositionSum {
-        x: sum.x - 3 * (a.x as i64),
-        y: sum.y - 3 * (a.y as i64),
+        x: sum.x - 3 * i64::from(a.x),
+        y: sum.y - 3 * i64::from(a.y),
     }
 }
 
@@ -125,13 +125,10 @@ fn corners_of(positions: &[i32], halves: &[u32], a: u32) -> Corners
 {
     let b = dcel::next(halves, a);
     let c = dcel::next(halves, b);
-    let u = dcel::origin(halves, a);
-    let v = dcel::origin(halves, b);
-    let w = dcel::origin(halves, c);
     Corners {
-        p: dcel::position(positions, u),
-        q: dcel::position(positions, v),
-        r: dcel::position(positions, w),
+        p: dcel::position(positions, dcel::origin(halves, a)),
+        q: dcel::position(positions, dcel::origin(halves, b)),
+        r: dcel::position(positions, dcel::origin(halves, c)),
     }
 }
 
@@ -142,16 +139,7 @@ fn holds_center_at(positions: &[i32], halves: &[u32], a: u32, sum: PositionSum) 
         → result ≡ holds_center_at (links_of o halves.now s) (position_of positions.now) sum a }
 {
     let k = corners_of(positions, halves, a);
-    let p = k.p;
-    let q = k.q;
-    let r = k.r;
-    if !is_center_left(p, q, sum) {
-        return false;
-    }
-    if !is_center_left(q, r, sum) {
-        return false;
-    }
-    is_center_left(r, p, sum)
+    is_center_left(k.p, k.q, sum) && is_center_left(k.q, k.r, sum) && is_center_left(k.r, k.p, sum)
 }
 
 // Whether an inner face holds the centre.
@@ -166,14 +154,11 @@ fn holds_center(
     ensures { (o : List ℕ)
         → result ≡ holds_center counts (links_of o halves.now faces.now) (position_of positions.now) }
 {
-    let count = counts.faces;
-    let mut f: u32 = 1;
-    while f < count {
+    for f in 1..counts.faces {
         let a = dcel::adjacent(faces, f);
         if holds_center_at(positions, halves, a, sum) {
             return true;
         }
-        f += 1;
     }
     false
 }
@@ -196,10 +181,8 @@ fn has_strict_ring(
     }
     let start = dcel::adjacent(faces, 0);
     let size = hull::convex_hull_size(counts);
-    if hull::meets_center(positions, halves, start, size, center) {
-        return false;
-    }
-    hull::is_strict(positions, halves, start, size, center)
+    !hull::meets_center(positions, halves, start, size, center)
+        && hull::is_strict(positions, halves, start, size, center)
 }
 
 // Whether the sweep may start. The ring comes first, since that looks at the boundary alone.
@@ -213,8 +196,6 @@ pub fn is_ready(positions: &[i32], halves: &[u32], faces: &[u32], counts: Counts
     }
     let sum = last_three(positions, counts);
     let center = center_of(sum);
-    if !has_strict_ring(positions, halves, faces, counts, center) {
-        return false;
-    }
-    holds_center(positions, halves, faces, counts, sum)
+    has_strict_ring(positions, halves, faces, counts, center)
+        && holds_center(positions, halves, faces, counts, sum)
 }

@@ -10,6 +10,7 @@ ghost use Rattle.std.specs.Prelude.{[], ◌∷◌, ◌≡◌, length};
 ghost use Rattle.corner.specs.CornerRows.{extended_of};
 ghost use Rattle.dcel.specs.Rows.{links_of, position_of};
 ghost use Rattle.insertion.specs.Operations.{split_edge, split_half_edge, with_inner_vertex};
+ghost use Rattle.location.specs.Scan.{locate_point};
 ghost use Rattle.mesh.specs.Operations.{with_vertex};
 ghost use Rattle.skipped.specs.Insert.{legalize_each, legalize_vertex, unflipped, insert_into_face, insert_in_edge, insert_point};
 ghost use Rattle.insert.specs.InsertRows.{OneReady, TwoReady, InnerEdgeReady, BoundaryEdgeReady, FaceReady, OnEdgeReady, InsertReady, InsertLeaves};
@@ -45,22 +46,20 @@ fn legalize_one(
     if added.full {
         return added;
     }
-    let counts = added.counts;
     let done = legalize::legalize_edge(
         positions,
         outs,
         halves,
         faces,
         pending,
-        counts,
+        added.counts,
         e,
         added.flips,
     );
     Extension {
-        counts: counts,
-        faces: added.faces,
         flips: done.flips,
         full: done.full,
+        ..added
     }
 }
 
@@ -221,7 +220,7 @@ pub fn insert_at(
 {
     match position {
         PositionInTriangulation::OnVertex(_) => Extension {
-            counts: counts,
+            counts,
             faces: 0,
             flips: 0,
             full: false,
@@ -243,6 +242,29 @@ pub fn insert_at(
     }
 }
 
+// A point goes in at the place where it was found.
+fn insert_located(
+    positions: &mut [i32],
+    outs: &mut [u32],
+    halves: &mut [u32],
+    faces: &mut [u32],
+    pending: &mut [u32],
+    counts: Counts,
+    point: Point,
+    position: PositionInTriangulation,
+) -> Inserted
+    requires { PointReady counts positions.old outs.old halves.old faces.old pending.old point
+        × (position ≡ locate_point counts (links_of outs.old halves.old faces.old) (position_of positions.old) point) }
+    ensures { inserting_of positions.new outs.new halves.new faces.new result
+        ≡ insert_point (length pending.old) counts
+        (links_of outs.old halves.old faces.old) (position_of positions.old) point }
+{
+    let added = insert_at(
+        positions, outs, halves, faces, pending, counts, point, position,
+    );
+    Inserted { position, added }
+}
+
 // A point goes in wherever it lies: `insert_with_hint_option_impl` with the hint at vertex 0.
 pub fn insert_point(
     positions: &mut [i32],
@@ -259,13 +281,9 @@ pub fn insert_point(
         (links_of outs.old halves.old faces.old) (position_of positions.old) point }
 {
     let position = search::locate_point(positions, outs, halves, faces, counts, point);
-    let added = insert_at(
+    insert_located(
         positions, outs, halves, faces, pending, counts, point, position,
-    );
-    Inserted {
-        position: position,
-        added: added,
-    }
+    )
 }
 
 // The same, searched for from edge u where the mesh is known to be one to walk on.
@@ -288,11 +306,7 @@ pub fn insert_near(
     let position = search_near::locate_near(
         positions, outs, halves, faces, counts, point, known, u,
     );
-    let added = insert_at(
+    insert_located(
         positions, outs, halves, faces, pending, counts, point, position,
-    );
-    Inserted {
-        position: position,
-        added: added,
-    }
+    )
 }

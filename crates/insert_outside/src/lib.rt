@@ -34,8 +34,12 @@ fn cover_edge(
         ≡ cover_edge (length pending.old) (position_of positions.now)
         (extended_of outs.old halves.old faces.old added) e d }
 {
-    let counts = added.counts;
-    let new = dcel_operations::create_single_face_between_edge_and_next(halves, faces, counts, e);
+    let new = dcel_operations::create_single_face_between_edge_and_next(
+        halves,
+        faces,
+        added.counts,
+        e,
+    );
     let after = new.counts;
     let done = legalize::legalize_edge(
         positions,
@@ -81,8 +85,7 @@ pub fn sees_beside(
         → result ≡ not (outside_ends side (position_of positions.now) point
         (walking_of o halves.now a walked)) }
 {
-    let added = walked.added;
-    if added.full {
+    if walked.added.full {
         return false;
     }
     let d = apply_rows::beside(halves, walked.edge, side);
@@ -107,10 +110,7 @@ fn outside_turn(
     let added = walked.added;
     let e = walked.edge;
     let d = apply_rows::beside(halves, e, side);
-    let at = match side {
-        Side::Left => d,
-        Side::Right => e,
-    };
+    let at = apply_rows::face_edge(side, e, d);
     let new = 2 * added.counts.edges + 1;
     let after = cover_edge(positions, outs, halves, faces, pending, added, at, d);
     Walked {
@@ -174,7 +174,6 @@ pub fn insert_outside(
         },
         point,
     );
-    let between = left.added;
     let right = outside_walk(
         positions,
         outs,
@@ -183,7 +182,7 @@ pub fn insert_outside(
         pending,
         Side::Right,
         Walked {
-            added: between,
+            added: left.added,
             edge: from,
         },
         point,

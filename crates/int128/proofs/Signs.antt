@@ -1,9 +1,8 @@
--- The sign of a number as a test has it, and the magnitude of a number of 64 signed bits. Assumes nothing.
-use Rattle.std.proofs.Common.{◌≡◌, ℕ, zero, suc, ◌+◌, ◌-◌, ◌*◌, ◌^◌, ◌<◌, ◌≤◌, true, false, T, ℤ, pos, negsuc, ◌-ℤ◌, ◌*ℤ◌, neg_ℤ, nat_abs, sym, refl, ap, ◌∙◌, subst, ap₂, le_trans, le_of_eq, arith, lit<, to_z-of_z, w64, Fits, SFits, to_z, of_z, ltb-true, le-ltb}
+-- The sign of a number as a test has it, and a number of 64 signed bits without its sign. Assumes nothing.
+use Rattle.std.proofs.Common.{◌≡◌, ℕ, zero, suc, ◌+◌, ◌-◌, ◌^◌, ◌<◌, ◌≤◌, true, false, T, ℤ, pos, negsuc, ◌-ℤ◌, neg_ℤ, nat_abs, sym, refl, ap, ◌∙◌, subst, arith, to_z-of_z, w64, Fits, SFits, to_z, of_z, ltb-true, le-ltb}
 use lib.IntN.{+ℤ_idl}
 use lib.Signed.{mag, lt_z, non_neg, nat_abs-le}
-use Rattle.int128.specs.Int128.{of_halves, with_sign}
-use Rattle.int128.proofs.Int128LawsFacts.{sign-abs, sign-mul, whole_is}
+use Rattle.int128.specs.Int128.{with_sign}
 
 below-zero : (z : ℤ) → lt_z z (pos 0) ≡ true → (n : ℕ) × (z ≡ negsuc n)
 below-zero (pos n) t = absurd (omega (arith, ltb-true n 0 t))
@@ -12,9 +11,6 @@ below-zero (negsuc n) t = (n, refl)
 pub not-below : (z : ℤ) → lt_z z (pos 0) ≡ false → z ≡ pos (nat_abs z)
 not-below (pos n) t = refl
 not-below (negsuc n) t = absurd (let z : ◌≡◌ {A = ℕ} 0 1 = cc in omega arith)
-
-pub below-abs : (z : ℤ) → lt_z z (pos 0) ≡ true → neg_ℤ z ≡ pos (nat_abs z)
-below-abs z t = let n = below-zero z t in rw n.1 refl
 
 pub sign_below : (z w : ℤ) → lt_z z (pos 0) ≡ true → neg_ℤ w ≡ with_sign z w
 unfolding with_sign
@@ -42,7 +38,7 @@ module _ (n : ℕ) (b : n < 2 ^ 63) where
   pub minus-read : to_z w64 (of_z w64 (pos 0 -ℤ to_z w64 n)) ≡ neg_ℤ (pos n)
   minus-read = to_z-of_z minus-fits ∙ minus
 
--- ---- the magnitude; the least number of 64 signed bits has none of the other sign, so one is added after the sign is gone
+-- ---- without its sign: the least number of 64 signed bits has none of the other sign, so one is added after the sign is gone
 minus_one : (n : ℕ) → negsuc 0 -ℤ negsuc n ≡ pos n
 minus_one n = let e : suc n - 1 ≡ n = omega arith in rw (le-ltb (suc n) 1 (omega arith), e) refl
 
@@ -84,22 +80,3 @@ module _ {z : ℤ} (f : SFits w64 z) where
   positive-casts t =
       let h = abs-max in
       subst (λ (y : ℤ). T (non_neg y) × Fits w64 (nat_abs y)) (sym (not-below machine t)) (tt, record { fits = omega arith })
-
-  pub signed_below : (w : ℤ) → lt_z machine (pos 0) ≡ true → neg_ℤ w ≡ with_sign z w
-  signed_below w t = sign_below z w (ap (λ (y : ℤ). lt_z y (pos 0)) (sym (to_z-of_z f)) ∙ t)
-
-  pub signed-not : (w : ℤ) → lt_z machine (pos 0) ≡ false → w ≡ with_sign z w
-  signed-not w t = sign-not z w (ap (λ (y : ℤ). lt_z y (pos 0)) (sym (to_z-of_z f)) ∙ t)
-
-  pub magnitude-max : {m : ℕ} → m ≡ nat_abs machine → m ≤ 2 ^ 63
-  magnitude-max e = le_trans (le_of_eq e) abs-max
-
-  pub from_is : {m : ℕ} → m ≡ nat_abs machine → with_sign machine (of_halves 0 m) ≡ z
-  from_is {m} e = ap (with_sign machine) (whole_is 0 m {n = m} (omega arith) (lit< tt) ∙ ap pos e) ∙ sign-abs machine ∙ to_z-of_z f
-
-pub product_is : {x y : ℤ} (f : SFits w64 x) (g : SFits w64 y) (h l a b : ℕ) → a ≡ nat_abs (machine f) → b ≡ nat_abs (machine g)
-    → h * 2 ^ 64 + l ≡ a * b → h < 2 ^ 63
-    → with_sign (machine g) (with_sign (machine f) (of_halves h l)) ≡ x *ℤ y
-product_is f g h l a b p q e k =
-    ap (λ (z : ℤ). with_sign (machine g) (with_sign (machine f) z)) (whole_is h l e k ∙ ap₂ (λ (m n : ℕ). pos (m * n)) p q)
-    ∙ sign-mul (machine f) (machine g) ∙ ap₂ ◌*ℤ◌ (to_z-of_z f) (to_z-of_z g)

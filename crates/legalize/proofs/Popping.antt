@@ -1,22 +1,21 @@
 -- One entry taken from the pending list, in the code's terms. Assumes nothing.
-use mathlib.Core.Bool.{Bool, true, false, false≢true}
-use mathlib.Core.List.{List, [], ◌∷◌}
+use mathlib.Core.Bool.{Bool, true, false}
+use mathlib.Core.List.{List, []}
 use mathlib.Core.Path.{◌≡◌, refl, sym, ◌∙◌, ap}
-use Prim.Native.Nat.{ℕ, ◌-◌, ◌/◌, ◌≤◌}
-use native.Mathlib.Omega.{arith}
+use Prim.Native.Nat.{ℕ, ◌-◌, ◌/◌}
 use lib.IntN.{ℤ}
-use lib.ListN.{length, get_or}
+use lib.ListN.{get_or}
 use Rattle.mesh.specs.Circle.{breaks_circle}
 use Rattle.dcel.specs.Rows.{links_of, position_of}
 use Rattle.circle_test.specs.GoodRows.{CircleReady}
 use Rattle.pending.specs.declared.PendingList.{PendingList}
 use Rattle.pending.specs.Pending.{pending_of}
-use Rattle.pending.proofs.PendingLaws.{pending-last, holds}
+use Rattle.pending.proofs.PendingLaws.{pending-last}
 use Rattle.pending.specs.Set.{SetOf, LastTaken}
 use Rattle.legalize.specs.declared.Entry.{Entry}
 use Rattle.legalize.specs.declared.Entry.TheVariants.{HalfEdge, Edge}
 use Rattle.legalize.specs.Legalize.{entry_edge}
-use Rattle.legalize.specs.LegalizeRows.{plain, PushReady, Pushes, PopReady, Popped, Pops}
+use Rattle.legalize.specs.LegalizeRows.{PushReady, Pushes, PopReady, Pops}
 
 -- an entry's edge, as the code has it
 pub half-edge-is : (e : ℕ) → e / 2 ≡ entry_edge HalfEdge e
@@ -26,11 +25,6 @@ half-edge-is e = refl
 pub edge-is : (u : ℕ) → u ≡ entry_edge Edge u
 unfolding entry_edge
 edge-is u = refl
-
--- the last of n entries, where there is no set
-pub plain-taken : {row : List ℕ} {n x edges : ℕ} → n ≤ length row → pending_of row n ≡ x ∷ pending_of row (n - 1)
-    → LastTaken row (plain n) row x (plain (n - 1)) edges
-plain-taken {row} {n} f e = record { entry = e; rest = holds row (n - 1) (omega arith); set = λ t. absurd (false≢true t) }
 
 module _ {k : Entry} {q : List ℤ} {h row row₁ : List ℕ} {s : PendingList} {x : ℕ} {s₁ : PendingList} {u edges : ℕ}
     (R : PopReady k q h row s edges) (P : LastTaken row s row₁ x s₁ edges) (v : u ≡ entry_edge k x) where

@@ -68,7 +68,7 @@ module _ {k : Entry} {C : Counts} {q : List ℤ} {o h a row : List ℕ} {w : Pen
         rw (turn-kept (length row) k (position_of q) s last (tested e))
         (record { links = refl; flips = refl; full = refl; fits = λ _. holds_fits H (omega arith); set = λ _. P.set; pending = λ _. H.fits (holds_fits H (omega arith)) })
 
-    pub turn-refuses : r.flip ≡ true → length row' < r.list.length → TurnLeaves C.edges o h a row' r.list flips true (legalize_turn (length row) k (position_of q) s)
+    pub turn-refuses : {w' : PendingList} → r.flip ≡ true → length row' < r.list.length → TurnLeaves C.edges o h a row' w' flips true (legalize_turn (length row) k (position_of q) s)
     turn-refuses e f =
         let m = (pushes e).over f in
         rw (turn-refused (length row) k (position_of q) s last (tested e) (rw same at m))

@@ -2,7 +2,7 @@
 -- `legalize_edges_after_removal` never flips for any other reason: its special case for edges next to the convex hull
 -- does not arise, and no flip is left out. Assumes nothing.
 -- 01: "If it flips for any reason but the circle test, that flip is left out and recorded."
-use Rattle.std.specs.Prelude.{Bool, false, ◌≢◌, ◌≡◌, ℤ, ◌<ℤ◌}
+use Rattle.std.specs.Prelude.{Bool, false, ◌≢◌, ◌≡◌, ◌<ℤ◌}
 use Rattle.std.proofs.Math.Path.{refl, sym, ap}
 use Rattle.std.proofs.Common.{◌∙◌, subst, arith}
 use Prim.Native.Nat.{ℕ, zero, suc, ◌+◌, ◌*◌, ◌/◌, ◌<◌}

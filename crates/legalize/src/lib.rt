@@ -1,18 +1,19 @@
 // `legalize_edge` and `legalize_edges_after_removal` of triangulation_ext.rs, with the pending list in a row that the
-// caller lends. Both are loops that take an entry and test its edge; they differ in what an entry of the list is and in what a flip pushes,
-// and have a function for each: nearly all flips are those of half-edges, whose list needs a length and nothing else. What they
+// caller lends. Both are one loop that takes an entry and tests its edge; they differ in what an entry of the list is and in what a flip
+// pushes, which is what `Entries` asks for: nearly all flips are those of half-edges, whose list needs a length and nothing else. What they
 // leave is `legalize_edge` and `legalize_edges_after_removal` of specs/Legalize.antt; that they end, and what that means
 // for the mesh, is in specs/LegalizeLaws.antt. `counts` says which mesh the rows hold; the code needs the number of its edges alone, for a
 // long list's set of them.
 #![tactic(auto)]
 
-ghost use Rattle.std.specs.Prelude.{◌≡◌, ℕ, ◌+◌, ◌*◌, ◌^◌, ◌<◌, length};
+ghost use Rattle.std.specs.Prelude.{MatchOption, true, false, ◌≡◌, ◌<◌, eqb, ltb, length};
 ghost use Rattle.mesh.specs.Mesh.{In};
-ghost use Rattle.dcel.specs.Rows.{links_of, position_of, There};
-ghost use Rattle.pending.specs.Set.{SetOf};
-ghost use Rattle.sums.specs.Half.{rev};
-ghost use Rattle.legalize.specs.Legalize.{legalize_turn, legalize, legalize_edge, legalize_edges_after_removal};
-ghost use Rattle.legalize.specs.LegalizeRows.{plain, Pushes, LegalizeReady, TurnReady, state_of, TurnLeaves, Leaves};
+ghost use Rattle.dcel.specs.Rows.{links_of, position_of};
+ghost use Rattle.pending.specs.declared.PendingList.{PendingList};
+ghost use Rattle.pending.specs.Set.{SetOf, ToPop, LastTaken};
+ghost use Rattle.legalize.specs.Legalize.{entry_edge, legalize_turn, legalize, legalize_edge, legalize_edges_after_removal};
+ghost use Rattle.legalize.specs.LegalizeRows.{plain, PushReady, Pushes, LegalizeReady, TurnReady, state_of, TurnLeaves, Leaves};
+ghost use Rattle.legalize.specs.declared.Entry.{Entry};
 ghost use Rattle.legalize.specs.declared.Entry.TheVariants.{HalfEdge, Edge};
 
 use mesh::Counts;
@@ -32,204 +33,163 @@ pub struct Legalized {
     pub full: bool,
 }
 
-// What a turn leaves of the pending list of half-edges and of the count.
+// The value of a pending list, by the kind of its entries: what the loop does with it.
+trait Entries: Copy {
+    ghost kind: { Entry };
+
+    // The value as one that may have a set.
+    ghost value: { Self → PendingList };
+
+    fn is_empty(self) -> bool
+        ensures { result ≡ eqb (value self).length 0 };
+
+    // Whether a push would have overfilled the row.
+    fn is_over(self, pending: &[u32]) -> bool
+        ensures { result ≡ ltb (length pending.now) (value self).length };
+
+    // The last entry, and the list without it. The mesh has so many edges.
+    fn pop(self, pending: &mut [u32], edges: u32) -> (u32, Self)
+        requires { ToPop pending.old (value self) edges }
+        ensures { LastTaken pending.old (value self) pending.new result.0 (value result.1) edges };
+
+    // The edge that an entry has tested.
+    fn edge(entry: u32) -> u32
+        ensures { result ≡ entry_edge kind entry };
+
+    // What the flip of an entry's edge pushes.
+    fn push(self, halves: &[u32], pending: &mut [u32], edges: u32, entry: u32) -> Self
+        requires { PushReady kind halves.now entry × SetOf pending.old (value self) edges }
+        ensures { Pushes kind halves.now entry pending.old (value self) pending.new (value result) edges };
+}
+
+// The list of `legalize_edge`: a length.
 #[derive(Clone, Copy)]
-pub struct HalfEdgeTurn {
-    pub length: usize,
-    pub flips: u64,
-    pub full: bool,
+struct HalfEdges(usize);
+
+impl Entries for HalfEdges {
+    ghost kind = { HalfEdge };
+
+    ghost value = { λ s. plain s.0 };
+
+    fn is_empty(self) -> bool {
+        self.0 == 0
+    }
+
+    fn is_over(self, pending: &[u32]) -> bool {
+        self.0 > pending.len()
+    }
+
+    fn pop(self, pending: &mut [u32], _edges: u32) -> (u32, HalfEdges) {
+        (pending::last(pending, self.0), HalfEdges(self.0 - 1))
+    }
+
+    fn edge(entry: u32) -> u32 {
+        entry / 2
+    }
+
+    fn push(self, halves: &[u32], pending: &mut [u32], _edges: u32, entry: u32) -> HalfEdges {
+        let rev = dcel::half_edge(halves, dcel::rev(entry));
+        let n = pending::push(pending, self.0, rev.next);
+        HalfEdges(pending::push(pending, n, rev.prev))
+    }
 }
 
-// The same of the pending list of edges.
+// The list of `legalize_edges_after_removal`, which may have a set.
 #[derive(Clone, Copy)]
-pub struct EdgeTurn {
-    pub list: PendingList,
-    pub flips: u64,
-    pub full: bool,
+struct Edges(PendingList);
+
+impl Entries for Edges {
+    ghost kind = { Edge };
+
+    ghost value = { λ s. s.0 };
+
+    fn is_empty(self) -> bool {
+        self.0.length == 0
+    }
+
+    fn is_over(self, pending: &[u32]) -> bool {
+        self.0.length > pending.len()
+    }
+
+    fn pop(self, pending: &mut [u32], edges: u32) -> (u32, Edges) {
+        let taken = pending::pop(pending, self.0, edges);
+        (taken.entry, Edges(taken.list))
+    }
+
+    fn edge(entry: u32) -> u32 {
+        entry
+    }
+
+    fn push(self, halves: &[u32], pending: &mut [u32], edges: u32, entry: u32) -> Edges {
+        let edge = dcel::half_edge(halves, 2 * entry);
+        let rev = dcel::half_edge(halves, 2 * entry + 1);
+        let two = pending::push_two(pending, self.0, edges, edge.next / 2, edge.prev / 2);
+        Edges(pending::push_two(pending, two, edges, rev.next / 2, rev.prev / 2))
+    }
 }
 
-// What `legalize_edge` pushes at the flip of the half-edge e.
-fn push_half_edges(halves: &[u32], pending: &mut [u32], n: usize, e: u32) -> usize
-    requires { There halves.now (rev e) }
-    ensures { (edges : ℕ)
-        → Pushes HalfEdge halves.now e pending.old (plain n) pending.new (plain result) edges }
-{
-    let t = dcel::rev(e);
-    let rev = dcel::half_edge(halves, t);
-    let m = pending::push(pending, n, rev.next);
-    pending::push(pending, m, rev.prev)
-}
-
-// What `legalize_edges_after_removal` pushes at the flip of the edge u. The mesh has so many edges.
-fn push_edges(
-    halves: &[u32],
-    pending: &mut [u32],
-    list: PendingList,
-    edges: u32,
-    u: u32,
-) -> PendingList
-    requires { (2 * u + 1 < 2 ^ 32) × There halves.now (2 * u + 1) × SetOf pending.old list edges }
-    ensures { Pushes Edge halves.now u pending.old list pending.new result edges }
-{
-    let edge = dcel::half_edge(halves, 2 * u);
-    let rev = dcel::half_edge(halves, 2 * u + 1);
-    let two = pending::push_two(pending, list, edges, edge.next / 2, edge.prev / 2);
-    pending::push_two(pending, two, edges, rev.next / 2, rev.prev / 2)
-}
-
-// One turn of `legalize_edge`'s loop: a half-edge is taken, and its edge flipped where it breaks the circle rule. The pushes come before
-// the flip, which changes the links that they read. A flip whose pushes would overfill the pending list is not made.
-fn half_edge_turn(
+// One turn of the loop: an entry is taken, and its edge flipped where it breaks the circle rule. The pushes come before the flip, which
+// changes the links that they read. What is left of the list, and the count of flips; none where the pushes of a flip would overfill the
+// list: that flip is not made.
+fn turn<L: Entries>(
     positions: &[i32],
     outs: &mut [u32],
     halves: &mut [u32],
     faces: &mut [u32],
     pending: &mut [u32],
     counts: Counts,
-    n: usize,
+    list: L,
     flips: u64,
-) -> HalfEdgeTurn
-    requires { TurnReady HalfEdge counts positions.now outs.old halves.old faces.old pending.old (plain n) flips
-        × (0 < n) }
-    ensures { TurnLeaves counts.edges outs.new halves.new faces.new pending.new
-        (plain result.length) result.flips result.full
-        (legalize_turn (length pending.old) HalfEdge (position_of positions.now)
-        (state_of outs.old halves.old faces.old pending.old n flips)) }
+) -> Option<(L, u64)>
+    requires { TurnReady L.kind counts positions.now outs.old halves.old faces.old pending.old (L.value list) flips
+        × (0 < (L.value list).length) }
+    ensures { let after = legalize_turn (length pending.old) L.kind (position_of positions.now)
+        (state_of outs.old halves.old faces.old pending.old (L.value list).length flips) in
+        MatchOption result
+        (TurnLeaves counts.edges outs.new halves.new faces.new pending.new (L.value list) flips true after)
+        (λ t. TurnLeaves counts.edges outs.new halves.new faces.new pending.new (L.value t.0) t.1 false after) }
 {
-    let e = pending::last(pending, n);
-    if !circle_test::should_flip(positions, halves, e / 2) {
-        return HalfEdgeTurn {
-            length: n - 1,
-            flips: flips,
-            full: false,
-        };
+    let (entry, rest) = list.pop(pending, counts.edges);
+    let edge = L::edge(entry);
+    if !circle_test::should_flip(positions, halves, edge) {
+        return Some((rest, flips));
     }
-    let m = push_half_edges(halves, pending, n - 1, e);
-    if m > pending.len() {
-        return HalfEdgeTurn {
-            length: m,
-            flips: flips,
-            full: true,
-        };
+    let pushed = rest.push(halves, pending, counts.edges, entry);
+    if pushed.is_over(pending) {
+        return None;
     }
-    dcel_operations::flip_cw(outs, halves, faces, e / 2);
-    let more = flips + 1;
-    HalfEdgeTurn {
-        length: m,
-        flips: more,
-        full: false,
-    }
+    dcel_operations::flip_cw(outs, halves, faces, edge);
+    Some((pushed, flips + 1))
 }
 
-// One turn of `legalize_edges_after_removal`'s loop: the same of an edge.
-fn edge_turn(
+// Turn after turn, until the list is empty or a flip is refused.
+fn legalize_entries<L: Entries>(
     positions: &[i32],
     outs: &mut [u32],
     halves: &mut [u32],
     faces: &mut [u32],
     pending: &mut [u32],
     counts: Counts,
-    list: PendingList,
-    flips: u64,
-) -> EdgeTurn
-    requires { TurnReady Edge counts positions.now outs.old halves.old faces.old pending.old list flips
-        × (0 < list.length) }
-    ensures { TurnLeaves counts.edges outs.new halves.new faces.new pending.new
-        result.list result.flips result.full
-        (legalize_turn (length pending.old) Edge (position_of positions.now)
-        (state_of outs.old halves.old faces.old pending.old list.length flips)) }
-{
-    let taken = pending::pop(pending, list, counts.edges);
-    let u = taken.entry;
-    let rest = taken.list;
-    if !circle_test::should_flip(positions, halves, u) {
-        return EdgeTurn {
-            list: rest,
-            flips: flips,
-            full: false,
-        };
-    }
-    let pushed = push_edges(halves, pending, rest, counts.edges, u);
-    if pushed.length > pending.len() {
-        return EdgeTurn {
-            list: pushed,
-            flips: flips,
-            full: true,
-        };
-    }
-    dcel_operations::flip_cw(outs, halves, faces, u);
-    let more = flips + 1;
-    EdgeTurn {
-        list: pushed,
-        flips: more,
-        full: false,
-    }
-}
-
-// Turn after turn, until the pending list of n half-edges is empty or a flip is refused.
-fn legalize_half_edges(
-    positions: &[i32],
-    outs: &mut [u32],
-    halves: &mut [u32],
-    faces: &mut [u32],
-    pending: &mut [u32],
-    counts: Counts,
-    n: usize,
+    list: L,
     flips: u64,
 ) -> Legalized
-    requires { TurnReady HalfEdge counts positions.now outs.old halves.old faces.old pending.old (plain n) flips }
+    requires { TurnReady L.kind counts positions.now outs.old halves.old faces.old pending.old (L.value list) flips }
     ensures { Leaves outs.new halves.new faces.new result
-        (legalize (length pending.old) HalfEdge counts (position_of positions.now)
-        (state_of outs.old halves.old faces.old pending.old n flips)) }
-{
-    let mut left = n;
-    let mut made = flips;
-    while left > 0 {
-        let t = half_edge_turn(positions, outs, halves, faces, pending, counts, left, made);
-        if t.full {
-            return Legalized {
-                flips: t.flips,
-                full: true,
-            };
-        }
-        left = t.length;
-        made = t.flips;
-    }
-    Legalized {
-        flips: made,
-        full: false,
-    }
-}
-
-// The same of a list of edges.
-fn legalize_edges(
-    positions: &[i32],
-    outs: &mut [u32],
-    halves: &mut [u32],
-    faces: &mut [u32],
-    pending: &mut [u32],
-    counts: Counts,
-    list: PendingList,
-    flips: u64,
-) -> Legalized
-    requires { TurnReady Edge counts positions.now outs.old halves.old faces.old pending.old list flips }
-    ensures { Leaves outs.new halves.new faces.new result
-        (legalize (length pending.old) Edge counts (position_of positions.now)
-        (state_of outs.old halves.old faces.old pending.old list.length flips)) }
+        (legalize (length pending.old) L.kind counts (position_of positions.now)
+        (state_of outs.old halves.old faces.old pending.old (L.value list).length flips)) }
 {
     let mut left = list;
     let mut made = flips;
-    while left.length > 0 {
-        let t = edge_turn(positions, outs, halves, faces, pending, counts, left, made);
-        if t.full {
+    while !left.is_empty() {
+        let Some((rest, more)) = turn(positions, outs, halves, faces, pending, counts, left, made)
+        else {
             return Legalized {
-                flips: t.flips,
+                flips: made,
                 full: true,
             };
-        }
-        let next = t.list;
-        left = next;
-        made = t.flips;
+        };
+        left = rest;
+        made = more;
     }
     Legalized {
         flips: made,
@@ -254,7 +214,16 @@ pub fn legalize_edge(
         (links_of outs.old halves.old faces.old) flips e) }
 {
     let n = pending::push(pending, 0, e);
-    legalize_half_edges(positions, outs, halves, faces, pending, counts, n, flips)
+    legalize_entries(
+        positions,
+        outs,
+        halves,
+        faces,
+        pending,
+        counts,
+        HalfEdges(n),
+        flips,
+    )
 }
 
 // `legalize_edges_after_removal` of two edges, pushed in this order.
@@ -279,5 +248,14 @@ pub fn legalize_edges_after_removal(
     let n = pending::push(pending, 0, first);
     let m = pending::push(pending, n, second);
     let list = pending::list_of(m, counts.edges);
-    legalize_edges(positions, outs, halves, faces, pending, counts, list, flips)
+    legalize_entries(
+        positions,
+        outs,
+        halves,
+        faces,
+        pending,
+        counts,
+        Edges(list),
+        flips,
+    )
 }

@@ -24,21 +24,21 @@ fn fan_turn(halves: &mut [u32], faces: &mut [u32], side: Side, walked: Walked) -
         ≡ outside_turn side room p (walking_of o halves.old faces.old walked) }
 {
     let added = walked.added;
-    let counts = added.counts;
     let e = walked.edge;
     let d = apply_rows::beside(halves, e, side);
-    let at = match side {
-        Side::Left => d,
-        Side::Right => e,
-    };
-    let new = dcel_operations::create_single_face_between_edge_and_next(halves, faces, counts, at);
-    let after = new.counts;
+    let at = apply_rows::face_edge(side, e, d);
+    let new = dcel_operations::create_single_face_between_edge_and_next(
+        halves,
+        faces,
+        added.counts,
+        at,
+    );
     Walked {
         added: Extension {
-            counts: after,
+            counts: new.counts,
             faces: added.faces + 1,
-            flips: added.flips,
             full: false,
+            ..added
         },
         edge: new.edge,
     }
@@ -102,14 +102,13 @@ pub fn insert_off_line(
         },
         point,
     );
-    let between = left.added;
     let right = fan_walk(
         positions,
         halves,
         faces,
         Side::Right,
         Walked {
-            added: between,
+            added: left.added,
             edge: from,
         },
         point,

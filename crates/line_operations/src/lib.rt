@@ -1,7 +1,7 @@
 // The three operations on a mesh whose vertices all lie on one line, each link as dcel_operations.rs stores it, on rows
 // that the caller lends. Each requires only that what it touches is in the rows and that the numbers fit; `Ready` in
 // specs/ gives that for a line of points.
-#![tactic(auto)]
+#![tactic(auto, unfolding(crate::specs::OnLine::set_edge, crate::specs::OnLine::new_edge))]
 
 ghost use Rattle.std.specs.Prelude.{◌≡◌, ◌+◌, ◌<◌, ◌^◌, eqb};
 ghost use Rattle.dcel.specs.Rows.{halves_of, links_of, There};
@@ -64,21 +64,19 @@ pub fn extend_line(outs: &mut [u32], halves: &mut [u32], counts: Counts, end: u3
         outs.new halves.new counts end result }
 {
     let n = 2 * counts.edges;
-    let m = n + 1;
     let v = counts.vertices;
-    let after = Counts {
-        vertices: v + 1,
-        edges: counts.edges + 1,
-        faces: counts.faces,
-    };
     let o = dcel::out(outs, end);
     let i = dcel::rev(o);
     let f = dcel::face(halves, o);
     dcel::set_prev(halves, o, n);
-    dcel::set_next(halves, i, m);
-    set_edge(halves, n, f, v, o, m, end, n, i);
+    dcel::set_next(halves, i, n + 1);
+    set_edge(halves, n, f, v, o, n + 1, end, n, i);
     dcel::store(outs, v, n);
-    after
+    Counts {
+        vertices: v + 1,
+        edges: counts.edges + 1,
+        ..counts
+    }
 }
 
 // The new edge from v to `to`, where e led: en is the next of e, t the reverse of e and tp the prev of t. If en is t, e led to an
@@ -88,14 +86,13 @@ fn new_edge(halves: &mut [u32], n: u32, f: u32, v: u32, to: u32, e: u32, t: u32,
     ensures { halves_of halves.new
         ≡ new_edge (eqb en t) (halves_of halves.old) n f v to e t en tp }
 {
-    let m = n + 1;
     if en == t {
-        set_edge(halves, n, f, v, m, e, to, t, n);
-        return;
+        set_edge(halves, n, f, v, n + 1, e, to, t, n);
+    } else {
+        dcel::set_prev(halves, en, n);
+        dcel::set_next(halves, tp, n + 1);
+        set_edge(halves, n, f, v, en, e, to, t, tp);
     }
-    dcel::set_prev(halves, en, n);
-    dcel::set_next(halves, tp, m);
-    set_edge(halves, n, f, v, en, e, to, t, tp);
 }
 
 // The half-edge e leads to the new vertex v, and the new edge from there to where e led, which is the answer.
@@ -125,15 +122,13 @@ pub fn split_edge_when_all_vertices_on_line(
         outs.new halves.new counts e result }
 {
     let n = 2 * counts.edges;
-    let m = n + 1;
     let v = counts.vertices;
-    let after = Counts {
+    let to = split_halves(halves, n, v, e);
+    dcel::store(outs, to, n + 1);
+    dcel::store(outs, v, n);
+    Counts {
         vertices: v + 1,
         edges: counts.edges + 1,
-        faces: counts.faces,
-    };
-    let to = split_halves(halves, n, v, e);
-    dcel::store(outs, to, m);
-    dcel::store(outs, v, n);
-    after
+        ..counts
+    }
 }

@@ -9,25 +9,24 @@ ghost use Rattle.std.specs.Prelude.{◌&&◌, List, ◌≡◌, ℕ};
 ghost use Rattle.dcel.specs.Rows.{links_of, position_of};
 ghost use Rattle.line.specs.Order.{comes_before};
 ghost use Rattle.line.specs.Locate.{edge_from_neighbors, locate_on_line, locate_when_all_vertices_on_line};
-ghost use Rattle.line_search.specs.LineRows.{LineReady, VerticesReady, OutReady, neighbors_of, NeighborsReady, at_neighbors};
+ghost use Rattle.line_search.specs.LineRows.{LineReady, VerticesReady, OutReady, neighbors_of, FoundIs, NeighborsReady, number_of, at_neighbors};
 
 use line::PositionWhenAllVerticesOnLine;
 use math::Point;
 use mesh::Counts;
 
-// The vertex at a point; or, where there is none, the last vertex before the point and the first after it, in this order,
-// with the number of vertices for one that there is not.
+// The vertex at a point; or, where there is none, the last vertex before the point and the first after it, in this order.
 #[derive(Clone, Copy)]
 pub enum Neighbors {
     Vertex(u32),
-    Between(u32, u32),
+    Between(Option<u32>, Option<u32>),
 }
 
 // The order of positions: by x, then y.
 fn comes_before(a: Point, b: Point) -> bool
     ensures { result ≡ comes_before a b }
 {
-    a.x < b.x || (a.x <= b.x && a.y < b.y)
+    (a.x, a.y) < (b.x, b.y)
 }
 
 fn is_between(low: Point, p: Point, high: Point) -> bool
@@ -40,31 +39,25 @@ fn is_between(low: Point, p: Point, high: Point) -> bool
 // are out of range, so that every vertex is between them. Later most vertices are not, and one test is enough for those.
 fn neighbors_of(positions: &[i32], counts: Counts, point: Point) -> Neighbors
     requires { VerticesReady counts positions.now point }
-    ensures { result ≡ neighbors_of counts (position_of positions.now) point }
+    ensures { (result ≡ neighbors_of counts (position_of positions.now) point) × FoundIs counts result }
 {
-    let count = counts.vertices;
-    let mut before = count;
-    let mut after = count;
+    let mut before = None;
+    let mut after = None;
     let mut low = Point { x: -16777217, y: 0 };
     let mut high = Point { x: 16777217, y: 0 };
-    let mut v: u32 = 0;
-    while v < count {
+    for v in 0..counts.vertices {
         let p = dcel::position(positions, v);
-        let next = v + 1;
         if is_between(low, p, high) {
             if comes_before(p, point) {
-                before = v;
+                before = Some(v);
                 low = p;
+            } else if comes_before(point, p) {
+                after = Some(v);
+                high = p;
             } else {
-                if comes_before(point, p) {
-                    after = v;
-                    high = p;
-                } else {
-                    return Neighbors::Vertex(v);
-                }
+                return Neighbors::Vertex(v);
             }
         }
-        v = next;
     }
     Neighbors::Between(before, after)
 }
@@ -75,34 +68,31 @@ fn edge_from_neighbors(outs: &[u32], halves: &[u32], v: u32, u: u32) -> u32
     ensures { (a : List ℕ) → result ≡ edge_from_neighbors (links_of outs.now halves.now a) v u }
 {
     let e = dcel::out(outs, v);
-    let w = dcel::to(halves, e);
-    if w == u {
+    if dcel::to(halves, e) == u {
         return e;
     }
-    let d = dcel::prev(halves, e);
-    dcel::rev(d)
+    dcel::rev(dcel::prev(halves, e))
 }
 
-// No vertex is at the point: its place by its two neighbours.
+// No vertex is at the point: its place by its two neighbours, of which there is one at least.
 fn at_neighbors(
     outs: &[u32],
     halves: &[u32],
     counts: Counts,
-    before: u32,
-    after: u32,
+    before: Option<u32>,
+    after: Option<u32>,
 ) -> PositionWhenAllVerticesOnLine
-    requires { NeighborsReady counts outs.now halves.now after }
+    requires { NeighborsReady counts outs.now halves.now before after }
     ensures { (a : List ℕ)
-        → result ≡ at_neighbors counts (links_of outs.now halves.now a) before after }
+        → result ≡ at_neighbors counts (links_of outs.now halves.now a) (number_of counts before) (number_of counts after) }
 {
-    let count = counts.vertices;
-    if before == count {
-        return PositionWhenAllVerticesOnLine::ExtendingLine(after);
-    }
-    if after == count {
-        return PositionWhenAllVerticesOnLine::ExtendingLine(before);
-    }
-    PositionWhenAllVerticesOnLine::OnEdge(edge_from_neighbors(outs, halves, after, before))
+    let Some(u) = before else {
+        return PositionWhenAllVerticesOnLine::ExtendingLine(after.unwrap());
+    };
+    let Some(v) = after else {
+        return PositionWhenAllVerticesOnLine::ExtendingLine(u);
+    };
+    PositionWhenAllVerticesOnLine::OnEdge(edge_from_neighbors(outs, halves, v, u))
 }
 
 // The point is on the line.
@@ -117,8 +107,7 @@ fn locate_on_line(
     ensures { (a : List ℕ)
         → result ≡ locate_on_line counts (links_of outs.now halves.now a) (position_of positions.now) point }
 {
-    let found = neighbors_of(positions, counts, point);
-    match found {
+    match neighbors_of(positions, counts, point) {
         Neighbors::Vertex(v) => PositionWhenAllVerticesOnLine::OnVertex(v),
         Neighbors::Between(before, after) => at_neighbors(outs, halves, counts, before, after),
     }

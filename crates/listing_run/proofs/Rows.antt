@@ -1,48 +1,24 @@
--- Rows that are filled from their start, and the lines of the points one after the other. Assumes nothing.
+-- The lines of the points one after the other, and the totals behind them. Assumes nothing.
 use mathlib.Core.List.{List, ◌++◌}
-use mathlib.Core.Path.{◌≡◌, refl, sym, ◌∙◌, ap, subst}
-use Prim.Native.Nat.{ℕ, zero, suc, ◌+◌, ◌*◌, ◌<◌, ◌≤◌}
+use mathlib.Core.Path.{◌≡◌, refl, ◌∙◌, ap, subst}
+use Prim.Native.Nat.{ℕ, ◌+◌, ◌*◌, ◌≤◌}
 use native.Mathlib.Nat.{add-zero}
 use native.Mathlib.Numerals.{add-one}
 use native.Mathlib.Omega.{arith}
-use lib.IntN.{ℤ, pos}
-use mir.Syntax.{w32, w64}
+use lib.IntN.{ℤ}
+use mir.Syntax.{w64}
 use mir.Val.{SFits, to_z, of_z}
 use mir.Facts.{to_z-of_z}
-use lib.ListN.{length, get_or, set, take}
-use lib.Seq.{sets, take-suc, take_all, length-take-le, length-sets}
 use Rattle.listing_text.specs.declared.writing.PointLine.{PointLine}
 use Rattle.listing_text.specs.Decimal.{Appended}
 use Rattle.listing_text.specs.Listing.{point_line, totals_line}
-use Rattle.listing_text.specs.RowLaws.{sets-snoc, appended-none, appended_then}
+use Rattle.listing_text.specs.RowLaws.{appended-none, appended_then}
 use Rattle.dcel.specs.Rows.{row_of}
 use Rattle.finish.specs.declared.Totals.{Totals}
 use Rattle.listing_text.specs.declared.writing.TotalsLine.{TotalsLine}
 use Rattle.mesh.specs.declared.Counts.{Counts}
 use Rattle.sweep.specs.Run.{answer_words}
 use Rattle.listing_run.specs.ListingRun.{answer_line, point_lines, totals_of}
-
-module _ {A : Type 0} (d : A) (row xs : List A) where
-  -- the first i values are stored
-  pub sets-next : {row' : List A} (i : ℕ) → i < length xs → row' ≡ sets row 0 (take i xs) → set row' i (get_or xs i d) ≡ sets row 0 (take (i + 1) xs)
-  sets-next i l e =
-      let z : 0 + length (take i xs) ≡ i = let t = length-take-le i xs (omega arith) in omega arith in
-      rw (e, add-one, take-suc xs i d l)
-      (sym (sets-snoc row 0 (take i xs) (get_or xs i d) ∙ ap (λ (k : ℕ). set (sets row 0 (take i xs)) k (get_or xs i d)) z))
-
-  pub sets-all : {row' : List A} (i : ℕ) → length xs ≤ i → row' ≡ sets row 0 (take i xs) → row' ≡ sets row 0 xs
-  sets-all i l e = rw (take_all i xs l) at e
-
-pub stored-within : {A : Type 0} (row : List A) {row' : List A} (xs : List A) (i : ℕ) → i < length xs → length xs ≤ length row → row' ≡ sets row 0 (take i xs) → i < length row'
-stored-within row xs i l m e = let z = ap length e ∙ length-sets row 0 (take i xs) in omega arith
-
-pub stored-length : {A : Type 0} (row : List A) {row' : List A} (xs : List A) (i : ℕ) → row' ≡ sets row 0 (take i xs) → length row' ≡ length row
-stored-length row xs i e = ap length e ∙ length-sets row 0 (take i xs)
-
--- a coordinate is stored as the machine reads it
-pub read_next : (row : List ℤ) {row' : List ℤ} (xs : List ℤ) (i : ℕ) → i < length xs → row' ≡ sets row 0 (take i xs) → SFits w32 (get_or xs i (pos 0))
-    → set row' i (to_z w32 (of_z w32 (get_or xs i (pos 0)))) ≡ sets row 0 (take (i + 1) xs)
-read_next row xs i l e f = rw (to_z-of_z f) (sets-next (pos 0) row xs i l e)
 
 -- ---- the points' lines
 module _ (answers : List ℕ) where
@@ -79,6 +55,3 @@ totals-next {lines} {row} {row'} {row''} {at'} {at''} C t {area} {total} {line} 
 
 pub appended-as : {row row' xs ys : List ℕ} {at at' : ℕ} → xs ≡ ys → Appended row at xs row' at' → Appended row at ys row' at'
 appended-as {row} {row'} {at = at} {at' = at'} e f = subst (λ (zs : List ℕ). Appended row at zs row' at') e f
-
-pub front_fits : {A : Type 0} (n : ℕ) (xs : List A) {m : ℕ} → n ≤ length xs → n ≤ m → length (take n xs) ≤ m
-front_fits n xs l k = let z = length-take-le n xs l in omega arith

@@ -1,18 +1,18 @@
 -- What a run on lent rows leaves can be listed, and its listing by what it answered. Assumes nothing.
+use Rattle.std.specs.Prelude.{Ok, Err}
 use mathlib.Core.List.{List, ◌++◌}
-use mathlib.Core.Path.{◌≡◌, refl, sym, ◌∙◌, ap, subst}
-use Prim.Native.Nat.{ℕ, ◌+◌, ◌*◌, ◌/◌, ◌<◌, ◌≤◌}
+use mathlib.Core.Path.{◌≡◌, refl}
+use Prim.Native.Nat.{ℕ, ◌+◌, ◌*◌, ◌≤◌}
 use native.Mathlib.Nat.{le_refl}
 use native.Mathlib.Omega.{arith}
 use borrow.Author.Tests.{ltb-false}
-use lib.Dec.{ltb}
 use lib.IntN.{ℤ}
-use lib.ListN.{length, replicate, drop, length-drop}
+use lib.ListN.{length, replicate}
 use Rattle.angle.specs.declared.Point2.{Point2}
 use Rattle.dcel.specs.MeshRows.{MeshRows, links_in, places_in}
 use Rattle.dcel.specs.Rows.{links_of, position_of}
 use Rattle.finish.specs.declared.FinishAnswer.{FinishAnswer}
-use Rattle.finish.specs.declared.Finished.{Finished}
+use Rattle.finish.specs.Finished.{Finished}
 use Rattle.finish.specs.declared.Totals.{Totals}
 use Rattle.listing_text.specs.Listing.{totals_line, refusal_line}
 use Rattle.mesh.specs.declared.Counts.{Counts}
@@ -29,7 +29,7 @@ use Rattle.ring_rows.specs.RingRows.{ring_rows}
 use Rattle.sweep.specs.Run.{RunLent, RunOutcome, run_lent, ran_with, answer_words, run_of}
 use Rattle.sweep.proofs.RunLaws.{run-accepts, run-start, run-accepted, run-finishes}
 use Rattle.listing_run.specs.ListingRun.{finished_listing, outcome_listing, lent_listing, point_lines, totals_of}
-use Rattle.listing_run.specs.ListingRunRows.{RanWithOwnNodes, Summable, Listable}
+use Rattle.listing_run.specs.ListingRunRows.{RanWithOwnNodes, Listable}
 
 -- the corners of a good mesh can be read in rows that are long enough
 readable : {C : Counts} (o h a : List ℕ) (P : List ℤ) → Good C (links_of o h a) (position_of P) → 2 * C.vertices ≤ length P
@@ -42,7 +42,7 @@ module _ (l : RunLent) (few : l.counts.vertices + point_count l.points ≤ 400) 
   abbrev R : RunOutcome
   R = run_of l
 
-  run-listable : (t : Totals) → R.answer.finished ≡ Finished.Accepted t
+  run-listable : (t : Totals) → R.answer.finished ≡ Ok t
       → Listable R.answer.counts R.mesh.positions R.mesh.halves R.mesh.faces R.answers (point_count l.points)
   unfolding vertex_count
   run-listable t z =
@@ -61,16 +61,16 @@ module _ (l : RunLent) (few : l.counts.vertices + point_count l.points ≤ 400) 
       }
 
   -- the rows as they were found
-  pub outcome-listable : {r : RunOutcome} {count : ℕ} → r ≡ run_of l → count ≡ point_count l.points → (t : Totals) → r.answer.finished ≡ Finished.Accepted t
+  pub outcome-listable : {r : RunOutcome} {count : ℕ} → r ≡ run_of l → count ≡ point_count l.points → (t : Totals) → r.answer.finished ≡ Ok t
       → Listable r.answer.counts r.mesh.positions r.mesh.halves r.mesh.faces r.answers count
   outcome-listable {r} {count} e n t z = rw (n, e) (run-listable t (rw e at z))
 
 -- ---- what is printed
-pub listing-refused : (count : ℕ) (r : RunOutcome) {x : Refusal} → r.answer.finished ≡ Finished.Refused x → refusal_line x.number x.place ≡ outcome_listing count r
+pub listing-refused : (count : ℕ) (r : RunOutcome) {x : Refusal} → r.answer.finished ≡ Err x → refusal_line x.number x.place ≡ outcome_listing count r
 unfolding finished_listing
 listing-refused count r e = rw e refl
 
-pub listing-accepted : (count : ℕ) (r : RunOutcome) {t : Totals} → r.answer.finished ≡ Finished.Accepted t
+pub listing-accepted : (count : ℕ) (r : RunOutcome) {t : Totals} → r.answer.finished ≡ Ok t
     → point_lines r.answers count
     ++ totals_line (totals_of r.answer.counts (area_total r.answer.counts (links_in r.mesh) (places_in r.mesh)) t) ≡ outcome_listing count r
 unfolding finished_listing

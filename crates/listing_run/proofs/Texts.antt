@@ -1,31 +1,32 @@
 -- What `read` answers, by cases: the numbers stand at the row's start. Assumes nothing.
 use mathlib.Core.List.{List, ◌++◌}
 use mathlib.Core.Path.{◌≡◌, refl, sym, ◌∙◌, ap}
-use Prim.Native.Nat.{ℕ, suc, ◌+◌, ◌*◌, ◌≤◌}
+use Prim.Native.Nat.{ℕ, ◌≤◌}
 use native.Mathlib.Omega.{arith}
 use lib.IntN.{ℤ}
 use lib.ListN.{length, take, drop, length-append}
 use lib.Seq.{take_at, length-take-le}
-use Rattle.listing_text.specs.declared.reading.Input.{Input}
-use Rattle.listing_text.specs.declared.reading.Input.TheVariants.{Malformed, Numbers}
+use Rattle.std.specs.Prelude.{Result, Ok, Err}
+use Rattle.listing_text.specs.declared.reading.MalformedLine.{MalformedLine}
 use Rattle.listing_text.specs.Listing.{refusal_line}
 use Rattle.listing_text.specs.Reading.{Reading, malformed, numbers, read_of, input_of, numbers_row}
 use Rattle.listing_text.specs.ReadingLaws.{numbers-length, row-numbers}
 use Rattle.listing_run.specs.ListingRun.{numbers_listing, reading_listing, listing_of}
 
-module _ (text : List ℕ) {input : Input} (a : input ≡ input_of (read_of text)) where
-  pub listing-malformed : {line : ℕ} → input ≡ Malformed line → refusal_line 0 line ≡ listing_of text
+module _ (text : List ℕ) {input : Result ℕ MalformedLine} (a : input ≡ input_of (read_of text)) where
+  pub listing-malformed : {line : MalformedLine} → input ≡ Err line → refusal_line 0 line.number ≡ listing_of text
   unfolding listing_of reading_listing
   listing-malformed {line} k = go (read_of text) refl
     where
-      go : (r : Reading) → read_of text ≡ r → refusal_line 0 line ≡ reading_listing (read_of text)
+      go : (r : Reading) → read_of text ≡ r → refusal_line 0 line.number ≡ reading_listing (read_of text)
       go (malformed n) e =
-          let z : Malformed n ≡ Malformed line = sym (a ∙ ap input_of e) ∙ k in
-          let y : n ≡ line = cc in
+          let z : input_of (malformed n) ≡ Err line = sym (a ∙ ap input_of e) ∙ k in
+          let whole : record { number = n } ≡ line = cc in
+          let y : n ≡ line.number = ap (λ (m : MalformedLine). m.number) whole in
           rw (e, y) refl
       go (numbers zs) e =
-          let z : Numbers (length zs) ≡ Malformed line = sym (a ∙ ap input_of e) ∙ k in
-          absurd (let w : ◌≡◌ {A = ℕ} 0 1 = cc in omega arith)
+          let z : input_of (numbers zs) ≡ Err line = sym (a ∙ ap input_of e) ∙ k in
+          absurd (cc)
 
   -- the numbers, and the row that begins with them
   pub record Numbered (row : List ℤ) (count : ℕ) : Type 0 where
@@ -37,17 +38,17 @@ module _ (text : List ℕ) {input : Input} (a : input ≡ input_of (read_of text
   pub numbered-sized : {row : List ℤ} {count : ℕ} → Numbered row count → (8 ≤ length (take count row)) × (length (take count row) ≤ 802)
   numbered-sized {row} {count} n = let z = length-take-le count row n.room in let l = n.least in let m = n.most in (omega arith, omega arith)
 
-  module _ {row : List ℤ} (zeros : List ℤ) (b : row ≡ numbers_row (read_of text) zeros) (z : length zeros ≡ 802) {count : ℕ} (k : input ≡ Numbers count) where
+  module _ {row : List ℤ} (zeros : List ℤ) (b : row ≡ numbers_row (read_of text) zeros) (z : length zeros ≡ 802) {count : ℕ} (k : input ≡ Ok count) where
     pub numbered : Numbered row count
     unfolding listing_of reading_listing
     numbered = go (read_of text) refl
       where
         go : (r : Reading) → read_of text ≡ r → Numbered row count
         go (malformed n) e =
-            let z : Malformed n ≡ Numbers count = sym (a ∙ ap input_of e) ∙ k in
-            absurd (let w : ◌≡◌ {A = ℕ} 0 1 = cc in omega arith)
+            let z : input_of (malformed n) ≡ Ok count = sym (a ∙ ap input_of e) ∙ k in
+            absurd (cc)
         go (numbers zs) e =
-            let y : Numbers (length zs) ≡ Numbers count = sym (a ∙ ap input_of e) ∙ k in
+            let y : input_of (numbers zs) ≡ Ok count = sym (a ∙ ap input_of e) ∙ k in
             let n : length zs ≡ count = cc in
             let w = numbers-length text e in
             let u = w.1 in let v = w.2 in

@@ -1,14 +1,14 @@
 -- The listing of a text: 01, "Runs to reproduce", from bytes to bytes. Definitions only.
 -- `listing_of text` is what the listing program prints for any bytes whatever; what a text says is `read_of` of
 -- listing_text, what a run comes to is `run_of` of sweep.
-use Rattle.std.specs.Prelude.{List, [], ◌∷◌, ◌++◌, ℕ, zero, suc, ◌+◌, ◌-◌, ℤ, pos, get_or, take, drop, replicate}
+use Rattle.std.specs.Prelude.{List, [], ◌∷◌, ◌++◌, ℕ, zero, suc, ◌+◌, ◌-◌, ℤ, pos, get_or, take, drop, replicate, Ok, Err}
 use Rattle.std.specs.Float.Ieee.{of_int}
 use Rattle.std.specs.Float.{binary64}
 use Rattle.std.proofs.lemmas.List.Edits.{sets}
 use Rattle.ring_rows.specs.Rows.{zero_node}
 use Rattle.ring_rows.specs.RingRows.{ring_rows}
 use Rattle.dcel.specs.MeshRows.{MeshRows, mesh_rows, links_in, places_in}
-use Rattle.finish.specs.declared.Finished.{Finished}
+use Rattle.finish.specs.Finished.{Finished}
 use Rattle.finish.specs.declared.Totals.{Totals}
 use Rattle.listing_text.specs.declared.writing.PointLine.{PointLine}
 use Rattle.listing_text.specs.declared.writing.TotalsLine.{TotalsLine}
@@ -67,8 +67,8 @@ totals_of C area t = record {
 -- the doubled area is the inner faces', in total; by demand 3 it is the boundary's too
 unfoldable pub finished_listing : ℕ → RunOutcome → Finished → List ℕ
 -- 01: "A refusal prints `r number place` alone"
-finished_listing count r (Finished.Refused x) = refusal_line x.number x.place
-finished_listing count r (Finished.Accepted t) =
+finished_listing count r (Err x) = refusal_line x.number x.place
+finished_listing count r (Ok t) =
     point_lines r.answers count
     ++ totals_line (totals_of r.answer.counts
     (area_total r.answer.counts (links_in r.mesh) (places_in r.mesh)) t)

@@ -5,7 +5,6 @@ ghost use Rattle.std.specs.Prelude.{◌≡◌, List, ◌++◌, ℕ, ◌+◌, ◌
 ghost use Rattle.std.proofs.lemmas.List.Edits.{sets};
 ghost use Rattle.dcel.specs.MeshRows.{mesh_rows};
 ghost use Rattle.dcel.specs.Rows.{links_of, position_of};
-ghost use Rattle.finish.specs.declared.Finished.{Finished};
 ghost use Rattle.finish.specs.declared.Totals.{Totals};
 ghost use Rattle.listing_text.specs.Decimal.{Appended};
 ghost use Rattle.listing_text.specs.Listing.{point_line, totals_line};
@@ -20,36 +19,11 @@ ghost use Rattle.listing_run.specs.ListingRun.{answer_line, point_lines, totals_
 ghost use Rattle.listing_run.specs.ListingRunRows.{RanWithOwnNodes, Summable, Listable};
 
 use angle::Point2;
-use finish::{FinishAnswer, Finished, Totals};
-use listing_text::reading::Input;
+use finish::{FinishAnswer, Totals};
 use listing_text::writing::{PointLine, TotalsLine};
 use mesh::Counts;
 use ring_rows::Node;
 use sweep::ANSWER_WORDS;
-
-// The values over the first entries of a row.
-fn store(row: &mut [u32], values: &[u32])
-    requires { length values.now ≤ length row.old }
-    ensures { row.new ≡ sets row.old 0 values.now }
-{
-    let mut i = 0;
-    while i < values.len() {
-        row[i] = values[i];
-        i += 1;
-    }
-}
-
-// The same of coordinates.
-fn store_coordinates(row: &mut [i32], values: &[i32])
-    requires { length values.now ≤ length row.old }
-    ensures { row.new ≡ sets row.old 0 values.now }
-{
-    let mut i = 0;
-    while i < values.len() {
-        row[i] = values[i];
-        i += 1;
-    }
-}
 
 // The inner faces' doubled areas, in total.
 fn doubled_area(positions: &[i32], halves: &[u32], faces: &[u32], counts: Counts) -> i64
@@ -57,8 +31,7 @@ fn doubled_area(positions: &[i32], halves: &[u32], faces: &[u32], counts: Counts
     ensures { (o : List ℕ) → result
         ≡ area_total counts (links_of o halves.now faces.now) (position_of positions.now) }
 {
-    let total = area::sum_areas(positions, halves, faces, counts);
-    total.to_i64()
+    area::sum_areas(positions, halves, faces, counts).to_i64()
 }
 
 // The answer of point i.
@@ -84,11 +57,8 @@ fn put_points(answers: &[u64], count: usize, row: &mut [u8]) -> usize
     ensures short { length (point_lines answers.now count) ≤ 107 * count }
 {
     let mut place = 0;
-    let mut i = 0;
-    while i < count {
-        let line = answer_line(answers, i);
-        place = listing_text::writing::put_point(row, place, line);
-        i += 1;
+    for i in 0..count {
+        place = listing_text::writing::put_point(row, place, answer_line(answers, i));
     }
     place
 }
@@ -148,7 +118,7 @@ fn list_answer(
     count: usize,
     row: &mut [u8],
 ) -> usize
-    requires { (t : Totals) → answer.finished ≡ Finished.Accepted t
+    requires { (t : Totals) → answer.finished ≡ Ok t
         → Listable answer.counts positions.now halves.now faces.now answers.now count }
     ensures is { (o : List ℕ) (ring : RingRows) (pending : List ℕ) → Appended row.old 0
         (outcome_listing count (ran_with answer (mesh_rows positions.now o halves.now faces.now)
@@ -159,15 +129,14 @@ fn list_answer(
         ring pending answers.now)) ≤ 107 * count + 149 }
 {
     let counts = answer.counts;
-    let finished = answer.finished;
-    match finished {
-        Finished::Refused(refusal) => listing_text::writing::put_refusal(
+    match answer.finished {
+        Err(refusal) => listing_text::writing::put_refusal(
             row,
             0,
             refusal.number as u64,
             refusal.place as u64,
         ),
-        Finished::Accepted(totals) => {
+        Ok(totals) => {
             list_accepted(
                 counts, totals, positions, halves, faces, answers, count, row,
             )
@@ -266,15 +235,12 @@ fn store_seed(
         × (halves.new ≡ sets halves.old 0 seed_halves_of)
         × (faces.new ≡ sets faces.old 0 seed_faces_of) }
 {
-    let seed_outs = [0u32, 2, 4];
-    let seed_halves = [
-        2u32, 4, 1, 0, 5, 3, 0, 1, 4, 0, 1, 1, 1, 5, 0, 2, 0, 2, 1, 2, 3, 1, 0, 0,
-    ];
-    let seed_faces = [1u32, 0];
-    store_coordinates(positions, &numbers[..6]);
-    store(outs, &seed_outs);
-    store(halves, &seed_halves);
-    store(faces, &seed_faces);
+    positions[..6].copy_from_slice(&numbers[..6]);
+    outs[..3].copy_from_slice(&[0, 2, 4]);
+    halves[..24].copy_from_slice(&[
+        2, 4, 1, 0, 5, 3, 0, 1, 4, 0, 1, 1, 1, 5, 0, 2, 0, 2, 1, 2, 3, 1, 0, 0,
+    ]);
+    faces[..2].copy_from_slice(&[1, 0]);
 }
 
 // The seed into lent rows, and the run on them.
@@ -359,9 +325,8 @@ pub fn list(text: &[u8], row: &mut [u8]) -> usize
     ensures short { length (listing_of text.now) ≤ 42949 }
 {
     let mut numbers = [0i32; 802];
-    let input = listing_text::reading::read(text, &mut numbers);
-    match input {
-        Input::Malformed(line) => listing_text::writing::put_refusal(row, 0, 0, line as u64),
-        Input::Numbers(count) => list_numbers(&numbers[..count], row),
+    match listing_text::reading::read(text, &mut numbers) {
+        Ok(count) => list_numbers(&numbers[..count], row),
+        Err(line) => listing_text::writing::put_refusal(row, 0, 0, u64::from(line.number)),
     }
 }

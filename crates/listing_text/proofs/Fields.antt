@@ -1,127 +1,95 @@
 -- Reading a line, field by field: the numbers go into a row, and those read so far stand before those that are left. Assumes nothing.
-use mathlib.Core.Bool.{Bool, true, false, cond}
-use mathlib.Core.List.{List, [], ◌∷◌, ◌++◌, append_assoc, append-nil}
-use mathlib.Core.Option.{Option, none, some, none-ne-some, some-injective}
-use mathlib.Core.Path.{◌≡◌, refl, sym, ◌∙◌, ap, subst}
-use Prim.Native.Nat.{ℕ, zero, suc, ◌+◌, ◌-◌, ◌≤◌, ◌<◌}
-use native.Mathlib.Decide.{dec_lt}
-use native.Mathlib.Numerals.{add-one}
-use native.Mathlib.Omega.{arith}
-use borrow.Author.Tests.{eq-eqb, ne_eqb, le-leb, lt-leb}
-use lib.Dec.{eqb, leb}
-use lib.IntN.{ℤ}
-use lib.ListN.{length, get_or, set, take, drop, length-append, drop_of_length-le, length-drop}
-use lib.Seq.{sets, drop-cons, drop-drop}
-use Rattle.listing_text.specs.declared.reading.Signed.{Signed}
-use Rattle.listing_text.specs.declared.reading.Signed.TheVariants as signed
+use Rattle.std.specs.Prelude.{◌≡◌, Bool, true, false, cond, List, [], ◌∷◌, ◌++◌, ℕ, zero, suc, ◌+◌, ◌-◌, ◌≤◌, ◌<◌, eqb, ℤ, length, get_or, set, take, drop, Option, Some, None}
+use Rattle.std.proofs.Common.{refl, sym, ◌∙◌, ap, subst, add-one, arith, eq-eqb, ne_eqb, append_assoc, append-nil, take_all, length-set}
+use Rattle.std.specs.List.{between}
+use Rattle.std.proofs.lemmas.Slice.{between_to_end}
+use Rattle.std.proofs.Math.Seq.{take-suc-set}
 use Rattle.listing_text.specs.Reading.{number_of, followed, numbers_of, is_letter, line_of}
-use Rattle.listing_text.specs.ReadingParts.{up_to, fields_behind, signed_of, is_there, Stored}
+use Rattle.listing_text.specs.ReadingParts.{up_to, fields_behind, is_there, Stored}
 use Rattle.listing_text.proofs.Pieces.{fields-first, up-to-le}
-use Rattle.listing_text.specs.RowLaws.{sets-snoc}
 
 -- numbers before what is left
 abbrev pub ahead : List ℤ → Option (List ℤ) → Option (List ℤ)
-ahead zs none = none
-ahead zs (some ws) = some (zs ++ ws)
+ahead zs None = None
+ahead zs (Some ws) = Some (zs ++ ws)
 
-ahead-next : (zs : List ℤ) (z : ℤ) (o : Option (List ℤ)) → ahead zs (followed (some z) o) ≡ ahead (zs ++ (z ∷ [])) o
-ahead-next zs z none = refl
-ahead-next zs z (some ws) = ap some (sym (append_assoc zs (z ∷ []) ws))
+ahead-next : (zs : List ℤ) (z : ℤ) (o : Option (List ℤ)) → ahead zs (followed (Some z) o) ≡ ahead (zs ++ (z ∷ [])) o
+ahead-next zs z None = refl
+ahead-next zs z (Some ws) = ap Some (sym (append_assoc zs (z ∷ []) ws))
 
-pub record Filled (line : List ℕ) (from count : ℕ) (row₀ : List ℤ) (at : ℕ) (row : List ℤ) (place k : ℕ) : Type 0 where
-  pub done : List ℤ
-  pub size : length done ≡ k
-  pub at_most : k ≤ count
-  pub stored : row ≡ sets row₀ at done
-  pub same : numbers_of count (fields_behind (drop from line)) ≡ ahead done (numbers_of (count - k) (fields_behind (drop place line)))
+ahead-nil : (o : Option (List ℤ)) → o ≡ ahead [] o
+ahead-nil None = refl
+ahead-nil (Some ws) = refl
 
--- numbers, or none
-pub stored-none : {row row' : List ℤ} {at : ℕ} {o : Option (List ℤ)} → o ≡ none → Stored row at o row' false
-stored-none e = record { answer = ap is_there (sym e); numbers = λ zs q. absurd (none-ne-some zs (sym e ∙ q)) }
+-- k of n numbers are read and stored, and `rest` is what is left of the line
+pub record Filled (line : List ℕ) (n : ℕ) (row : List ℤ) (k : ℕ) (rest : List ℕ) : Type 0 where
+  pub size : length row ≡ n
+  pub same : numbers_of n (fields_behind line) ≡ ahead (take k row) (numbers_of (n - k) (fields_behind rest))
 
-stored_some : {row row' : List ℤ} {at : ℕ} {o : Option (List ℤ)} {zs : List ℤ} → o ≡ some zs → row' ≡ sets row at zs
-    → Stored row at o row' true
-stored_some {row} {at = at} {zs = zs} e s = record {
-  answer = ap is_there (sym e);
-  numbers = λ ws q. s ∙ ap (sets row at) (some-injective zs ws (sym e ∙ q));
+pub filled_start : (line : List ℕ) (row : List ℤ) → Filled line (length row) row 0 line
+filled_start line row = record {
+  size = refl;
+  same = let all : length row - 0 ≡ length row = omega arith in rw all (ahead-nil (numbers_of (length row) (fields_behind line)));
 }
 
--- what the code answers for a field
-signed-none : {z : Signed} (o : Option ℤ) → z ≡ signed_of o → z ≡ signed.Malformed → o ≡ none
-signed-none none e p = refl
-signed-none (some v) e p = absurd (let z : ◌≡◌ {A = ℕ} 0 1 = cc in omega arith)
+-- numbers, or none
+stored-none : {row : List ℤ} {o : Option (List ℤ)} → o ≡ None → Stored o row false
+stored-none e = record { answer = ap is_there (sym e); numbers = λ zs q. absurd (cc) }
 
-signed-some : {z : Signed} {v : ℤ} (o : Option ℤ) → z ≡ signed_of o → z ≡ signed.Value v → o ≡ some v
-signed-some none e p = absurd (let z : ◌≡◌ {A = ℕ} 0 1 = cc in omega arith)
-signed-some {z} {v} (some w) e p = ap some same
-  where
-    same : w ≡ v
-    same = cc
+stored_some : {row : List ℤ} {o : Option (List ℤ)} → o ≡ Some row → Stored o row true
+stored_some e = record { answer = ap is_there (sym e); numbers = λ ws q. cc }
 
-module _ {line : List ℕ} {from count : ℕ} {row₀ : List ℤ} {at : ℕ} {row : List ℤ} {place k : ℕ}
-    (g : Filled line from count row₀ at row place k) where
-  pub filled_none : k < count → length line ≤ place → Stored row₀ at (numbers_of count (fields_behind (drop from line))) row false
+module _ {line : List ℕ} {n : ℕ} {row : List ℤ} {k : ℕ} {rest : List ℕ} (g : Filled line n row k rest) where
+  -- the end of the line, with numbers to come
+  pub filled_none : k < n → length rest ≡ 0 → {row' : List ℤ} → Stored (numbers_of n (fields_behind line)) row' false
   unfolding numbers_of
-  filled_none l m =
-      let e : count - k ≡ suc (count - (k + 1)) = omega arith in
-      let none_left : numbers_of (count - k) (fields_behind (drop place line)) ≡ none = rw (e, drop_of_length-le line m) refl in
-      stored-none (g.same ∙ ap (ahead g.done) none_left)
-
-  -- the end: nothing is left of the line
-  pub filled-end : count ≤ k → Stored row₀ at (numbers_of count (fields_behind (drop from line))) row (leb (length line) place)
-  unfolding numbers_of
-  filled-end l = go (dec_lt place (length line))
+  filled_none l e {row'} = go rest e refl
     where
-      e : count - k ≡ 0
-      e = let h = l in omega arith
+      go : (s : List ℕ) → length s ≡ 0 → rest ≡ s → Stored (numbers_of n (fields_behind line)) row' false
+      go [] m q =
+          let more : n - k ≡ suc (n - (k + 1)) = omega arith in
+          let left : numbers_of (n - k) (fields_behind rest) ≡ None = rw (q, more) refl in
+          stored-none (g.same ∙ ap (ahead (take k row)) left)
+      go (b ∷ s) m q = absurd (omega arith)
 
-      go : Dec (place < length line) → Stored row₀ at (numbers_of count (fields_behind (drop from line))) row (leb (length line) place)
-      go (yes m) =
-          let left : numbers_of (count - k) (fields_behind (drop place line)) ≡ none = rw (e, drop-cons line place 0 m, fields-first) refl in
-          rw (lt-leb (length line) place m) (stored-none (g.same ∙ ap (ahead g.done) left))
-      go (no m) =
-          let past : length line ≤ place = omega arith in
-          let left : numbers_of (count - k) (fields_behind (drop place line)) ≡ some [] = rw (e, drop_of_length-le line past) refl in
-          rw (le-leb (length line) place past)
-          (stored_some (g.same ∙ ap (ahead g.done) left ∙ ap some (append-nil g.done)) g.stored)
+  -- all numbers are there: what is left of the line is too much
+  pub filled-end : n ≤ k → Stored (numbers_of n (fields_behind line)) row (eqb (length rest) 0)
+  unfolding numbers_of
+  filled-end l = go rest refl
+    where
+      none : n - k ≡ 0
+      none = omega arith
 
-  module _ {stop : ℕ} (l : k < count) (m : place < length line) (s : stop ≡ place + 1 + up_to 32 (drop (place + 1) line)) where
-    first : List ℕ
-    first = take (stop - (place + 1)) (drop (place + 1) line)
+      all : take k row ≡ row
+      all = take_all k row (let h = g.size in omega arith)
 
-    turn : numbers_of count (fields_behind (drop from line))
-        ≡ ahead g.done (followed (number_of first) (numbers_of (count - (k + 1)) (fields_behind (drop stop line))))
-    unfolding numbers_of first
+      go : (s : List ℕ) → rest ≡ s → Stored (numbers_of n (fields_behind line)) row (eqb (length rest) 0)
+      go [] q =
+          let left : numbers_of (n - k) (fields_behind rest) ≡ Some [] = rw (q, none) refl in
+          rw q (stored_some (g.same ∙ ap (ahead (take k row)) left ∙ ap Some (append-nil (take k row) ∙ all)))
+      go (b ∷ s) q =
+          let left : numbers_of (n - k) (fields_behind rest) ≡ None = rw (q, none, fields-first s) refl in
+          rw (q, ne_eqb (length (b ∷ s)) 0 (λ e. omega arith)) (stored-none (g.same ∙ ap (ahead (take k row)) left))
+
+  -- one field more, with the blank before it
+  module _ {b : ℕ} {behind field after : List ℕ} (l : k < n) (m : rest ≡ b ∷ behind) (f : field ≡ take (up_to 32 behind) behind)
+      (a : after ≡ drop (up_to 32 behind) behind) where
+    turn : numbers_of n (fields_behind line) ≡ ahead (take k row) (followed (number_of field) (numbers_of (n - (k + 1)) (fields_behind after)))
+    unfolding numbers_of
     turn =
-        let e : count - k ≡ suc (count - (k + 1)) = omega arith in
-        let u = up_to 32 (drop (place + 1) line) in
-        let less : stop - (place + 1) ≡ up_to 32 (drop (place + 1) line) = omega arith in
-        let far : drop stop line ≡ drop (up_to 32 (drop (place + 1) line)) (drop (place + 1) line) =
-        rw s (sym (drop-drop u (place + 1) line))
-        in
-        let here : drop place line ≡ get_or line place 0 ∷ drop (place + 1) line = rw add-one (drop-cons line place 0 m) in
-        g.same ∙ rw (e, here, fields-first (drop (place + 1) line), less, far) refl
+        let more : n - k ≡ suc (n - (k + 1)) = omega arith in
+        g.same ∙ rw (m, more, fields-first behind, f, a) refl
 
-    pub stop-most : stop ≤ length line
-    stop-most = let h = up-to-le 32 (drop (place + 1) line) in let d = length-drop (place + 1) line in omega arith
+    pub filled-malformed : number_of field ≡ None → {row' : List ℤ} → Stored (numbers_of n (fields_behind line)) row' false
+    filled-malformed e = stored-none (turn ∙ rw e refl)
 
-    pub filled-malformed : {z : Signed} → z ≡ signed_of (number_of (take (stop - (place + 1)) (drop (place + 1) line)))
-        → z ≡ signed.Malformed
-        → Stored row₀ at (numbers_of count (fields_behind (drop from line))) row false
-    unfolding first
-    filled-malformed e p = stored-none (turn ∙ rw (signed-none (number_of first) e p) refl)
-
-    pub filled_next : {z : Signed} {v : ℤ} → z ≡ signed_of (number_of (take (stop - (place + 1)) (drop (place + 1) line)))
-        → z ≡ signed.Value v
-        → {w : ℤ} → w ≡ v → Filled line from count row₀ at (set row (at + k) w) stop (k + 1)
-    unfolding first
-    filled_next {z} {v} e p q = record {
-      done = g.done ++ (v ∷ []);
-      size = length-append g.done (v ∷ []) ∙ (let h = g.size in omega arith);
-      at_most = omega arith;
-      stored = rw (sets-snoc row₀ at g.done v, g.size, g.stored, q) refl;
+    pub filled_next : {v : ℤ} → number_of field ≡ Some v → {w : ℤ} → w ≡ v → Filled line n (set row k w) (k + 1) after
+    filled_next {v} e {w} q = record {
+      size = length-set row k w ∙ g.size;
       same =
-          turn ∙ rw (signed-some (number_of first) e p) (ahead-next g.done v (numbers_of (count - (k + 1)) (fields_behind (drop stop line))));
+          let room : k < length row = let h = g.size in omega arith in
+          let one_more : take (k + 1) (set row k w) ≡ take k row ++ (v ∷ []) = rw (add-one, take-suc-set row k w room, q) refl in
+          turn ∙ rw (e, one_more) (ahead-next (take k row) v (numbers_of (n - (k + 1)) (fields_behind after)));
     }
 
 -- ---- the first field of a line is its letter
@@ -136,30 +104,32 @@ one_byte : (letter : ℕ) (s : List ℕ) → 1 ≤ length s → is_letter letter
 one_byte letter [] l = absurd (omega arith)
 one_byte letter (b ∷ s) l = refl
 
-module _ (line : List ℕ) {stop : ℕ} (s : stop ≡ 0 + up_to 32 (drop 0 line)) where
-  stop_is : up_to 32 line ≡ stop
-  stop_is = omega arith
-
+module _ (line : List ℕ) {stop : ℕ} (s : stop ≡ up_to 32 line) where
   by-letter : (letter count : ℕ)
-      → line_of letter count line ≡ cond (is_letter letter (take stop line)) (numbers_of count (fields_behind (drop stop line))) none
+      → line_of letter count line ≡ cond (is_letter letter (take stop line)) (numbers_of count (fields_behind (drop stop line))) None
   unfolding line_of
-  by-letter letter count = rw (fields-first line, stop_is) refl
+  by-letter letter count = rw (fields-first line, s) refl
 
   stop-in : stop ≤ length line
-  stop-in = let h = up-to-le 32 line in let e = stop_is in omega arith
+  stop-in = let h = up-to-le 32 line in omega arith
 
   pub letter-in : stop ≡ 1 → 0 < length line
   letter-in e = let h = stop-in in omega arith
 
-  pub line-length : (letter count : ℕ) → (stop ≡ 1 → ⊥) → line_of letter count line ≡ none
-  line-length letter count d = by-letter letter count ∙ rw (other_length letter line stop stop-in d) refl
+  pub line-length : (letter count : ℕ) → (stop ≡ 1 → ⊥) → {row : List ℤ} → Stored (line_of letter count line) row false
+  line-length letter count d = stored-none (by-letter letter count ∙ rw (other_length letter line stop stop-in d) refl)
 
   module _ (letter count : ℕ) (e : stop ≡ 1) where
-    pub line_other : (get_or line 0 0 ≡ letter → ⊥) → line_of letter count line ≡ none
-    line_other d = by-letter letter count ∙ rw (e, one_byte letter line (letter-in e), ne_eqb (get_or line 0 0) letter d) refl
+    pub line_other : (get_or line 0 0 ≡ letter → ⊥) → {row : List ℤ} → Stored (line_of letter count line) row false
+    line_other d =
+        stored-none (by-letter letter count ∙ rw (e, one_byte letter line (letter-in e), ne_eqb (get_or line 0 0) letter d) refl)
 
-    pub line-stored : get_or line 0 0 ≡ letter → {row row' : List ℤ} {at : ℕ} {r : Bool}
-        → Stored row at (numbers_of count (fields_behind (drop 1 line))) row' r → Stored row at (line_of letter count line) row' r
-    line-stored q {row} {row'} {at} {r} h =
-        subst (λ (o : Option (List ℤ)). Stored row at o row' r)
-        (sym (by-letter letter count ∙ rw (e, one_byte letter line (letter-in e), eq-eqb (get_or line 0 0) letter q) refl)) h
+    pub line-stored : get_or line 0 0 ≡ letter → {row : List ℤ} {r : Bool}
+        → Stored (numbers_of count (fields_behind (between 1 (length line) line))) row r → Stored (line_of letter count line) row r
+    line-stored q {row} {r} h =
+        let behind : fields_behind (between 1 (length line) line) ≡ fields_behind (drop 1 line) =
+        ap fields_behind (between_to_end line 1 (length line) (omega arith))
+        in
+        subst (λ (o : Option (List ℤ)). Stored o row r)
+        (ap (numbers_of count) behind
+        ∙ sym (by-letter letter count ∙ rw (e, one_byte letter line (letter-in e), eq-eqb (get_or line 0 0) letter q) refl)) h

@@ -6,7 +6,7 @@
 -- Assumes nothing.
 use Rattle.std.specs.Prelude.{Bool, true, false, ◌&&◌, List, [], ◌∷◌, ◌++◌, ◌≡◌, refl, ℕ, zero, suc, ◌+◌, ◌-◌, ◌*◌, ◌/◌, ◌%◌, ◌^◌, ◌≤◌, ◌<◌, length, get_or}
 use Rattle.std.proofs.lemmas.Bool.{false≢true}
-use Rattle.std.proofs.Math.Option.{some}
+use Rattle.std.specs.Prelude.{Some}
 use Rattle.std.proofs.Common.{sym, ◌∙◌, ap, subst, pow-suc, arith, lt-ltb, le-ltb, le-leb, length-append}
 use Rattle.std.proofs.Math.Decide.{dec_lt}
 use Rattle.std.proofs.Math.ListN.{get_or-append}
@@ -97,11 +97,11 @@ written = by_digits Written small large
       leading = λ p q. w.leading (omega arith) (sym (get_or-append xs ((48 + n % 10) ∷ []) 0 0 w.some-digit) ∙ q);
     }
 
-pub decimal-reads : (n : ℕ) → natural_of (decimal n) ≡ some n
+pub decimal-reads : (n : ℕ) → natural_of (decimal n) ≡ Some n
 unfolding natural_of
 decimal-reads n = go (decimal n) (written n)
   where
-    go : (xs : List ℕ) → Written n xs → natural_of xs ≡ some n
+    go : (xs : List ℕ) → Written n xs → natural_of xs ≡ Some n
     go [] w = absurd (omega (arith, w.some-digit))
     go (b ∷ s) w = rw (w.digits, w.value) refl
 

@@ -1,11 +1,9 @@
 -- What the input of the listing program says: 01, "Runs to reproduce", as docs/DECISIONS.md reads it ("Listing").
 -- Definitions only; laws in `ReadingLaws`.
 -- A text is a list of bytes. `read_of text` is the first line that is wrong, or all numbers of the text in their order.
-use Rattle.std.specs.Prelude.{Bool, true, false, ◌&&◌, cond, List, [], ◌∷◌, ◌++◌, ℕ, zero, suc, ◌+◌, ◌-◌, ◌*◌, ◌^◌, eqb, ltb, leb, ℤ, pos, neg_ℤ, length}
-use Rattle.std.proofs.Math.Option.{Option, none, some}
+use Rattle.std.specs.Prelude.{Bool, true, false, ◌&&◌, cond, List, [], ◌∷◌, ◌++◌, ℕ, zero, suc, ◌+◌, ◌-◌, ◌*◌, ◌^◌, eqb, ltb, leb, ℤ, pos, neg_ℤ, length, Option, Some, None, Result, Ok, Err}
 use Rattle.std.proofs.lemmas.List.Edits.{sets}
-use Rattle.listing_text.specs.declared.reading.Input.{Input}
-use Rattle.listing_text.specs.declared.reading.Input.TheVariants.{Malformed, Numbers}
+use Rattle.listing_text.specs.declared.reading.MalformedLine.{MalformedLine}
 
 -- ---- pieces of a text: it is cut at each mark, and the marks are left out
 -- a byte in front of pieces: a mark begins a new one, and any other byte belongs to the first
@@ -43,32 +41,32 @@ value_from v [] = v
 value_from v (b ∷ s) = value_from (v * 10 + (b - 48)) s
 
 unfoldable pub natural_of : List ℕ → Option ℕ
-natural_of [] = none
-natural_of (b ∷ s) = cond (all_digits (b ∷ s)) (some (value_from 0 (b ∷ s))) none
+natural_of [] = None
+natural_of (b ∷ s) = cond (all_digits (b ∷ s)) (Some (value_from 0 (b ∷ s))) None
 
 abbrev pub positive : Option ℕ → Option ℤ
-positive none = none
-positive (some n) = cond (ltb n (2 ^ 31)) (some (pos n)) none
+positive None = None
+positive (Some n) = cond (ltb n (2 ^ 31)) (Some (pos n)) None
 
 abbrev pub negative : Option ℕ → Option ℤ
-negative none = none
-negative (some n) = cond (leb n (2 ^ 31)) (some (neg_ℤ (pos n))) none
+negative None = None
+negative (Some n) = cond (leb n (2 ^ 31)) (Some (neg_ℤ (pos n))) None
 
 unfoldable pub number_of : List ℕ → Option ℤ
-number_of [] = none
+number_of [] = None
 number_of (b ∷ s) = cond (eqb b 45) (negative (natural_of s)) (positive (natural_of (b ∷ s)))
 
 -- ---- a line: a letter and so many numbers, or malformed
 abbrev pub followed : Option ℤ → Option (List ℤ) → Option (List ℤ)
-followed none rest = none
-followed (some z) none = none
-followed (some z) (some zs) = some (z ∷ zs)
+followed None rest = None
+followed (Some z) None = None
+followed (Some z) (Some zs) = Some (z ∷ zs)
 
 -- exactly so many fields, each a number
 unfoldable pub numbers_of : ℕ → List (List ℕ) → Option (List ℤ)
-numbers_of zero [] = some []
-numbers_of zero (f ∷ fs) = none
-numbers_of (suc k) [] = none
+numbers_of zero [] = Some []
+numbers_of zero (f ∷ fs) = None
+numbers_of (suc k) [] = None
 numbers_of (suc k) (f ∷ fs) = followed (number_of f) (numbers_of k fs)
 
 abbrev pub is_letter : ℕ → List ℕ → Bool
@@ -77,8 +75,8 @@ is_letter letter (b ∷ []) = eqb b letter
 is_letter letter (b ∷ c ∷ s) = false
 
 abbrev pub labelled : ℕ → ℕ → List (List ℕ) → Option (List ℤ)
-labelled letter count [] = none
-labelled letter count (f ∷ fs) = cond (is_letter letter f) (numbers_of count fs) none
+labelled letter count [] = None
+labelled letter count (f ∷ fs) = cond (is_letter letter f) (numbers_of count fs) None
 
 unfoldable pub line_of : ℕ → ℕ → List ℕ → Option (List ℤ)
 line_of letter count line = labelled letter count (fields_of line)
@@ -101,8 +99,8 @@ before zs (malformed n) = malformed n
 before zs (numbers ws) = numbers (zs ++ ws)
 
 abbrev pub line_then : ℕ → Option (List ℤ) → Reading → Reading
-line_then n none rest = malformed n
-line_then n (some zs) rest = before zs rest
+line_then n None rest = malformed n
+line_then n (Some zs) rest = before zs rest
 
 -- lines from number n on. Lines 1 and 2 have to be there. Line 400 would bring the 401st vertex
 unfoldable pub read_from : ℕ → List (List ℕ) → Reading
@@ -114,9 +112,9 @@ read_of text = read_from 1 (lines_of text)
 
 -- ---- what `read` answers, and the row of numbers afterwards:
 -- as it was, or with the numbers from its start on and the rest as it was (`row-numbers`)
-abbrev pub input_of : Reading → Input
-input_of (malformed n) = Malformed n
-input_of (numbers zs) = Numbers (length zs)
+abbrev pub input_of : Reading → Result ℕ MalformedLine
+input_of (malformed n) = Err (record { number = n })
+input_of (numbers zs) = Ok (length zs)
 
 abbrev pub numbers_row : Reading → List ℤ → List ℤ
 numbers_row (malformed n) row = row

@@ -4,8 +4,7 @@
 --     numbers-length   there are 8 numbers and two for each point, of which there are at most 397
 --     row-numbers      a row of 802 entries then begins with the numbers, and goes on as before
 -- Assumes nothing.
-use Rattle.std.specs.Prelude.{Bool, true, false, cond, List, [], ◌∷◌, ◌++◌, ◌≡◌, refl, ℕ, zero, suc, ◌+◌, ◌-◌, ◌*◌, ◌≤◌, ◌<◌, eqb, ltb, ℤ, length, drop}
-use Rattle.std.proofs.Math.Option.{Option, none, some}
+use Rattle.std.specs.Prelude.{Bool, true, false, cond, List, [], ◌∷◌, ◌++◌, ◌≡◌, refl, ℕ, zero, suc, ◌+◌, ◌-◌, ◌*◌, ◌≤◌, ◌<◌, eqb, ltb, ℤ, length, drop, Option, Some, None}
 use Rattle.std.proofs.Common.{◌∙◌, ap, subst, arith, ne_eqb, lt-ltb, le-ltb, length-append}
 use Rattle.std.proofs.Math.Decide.{dec_lt, ℕ_discrete}
 use Rattle.std.proofs.lemmas.List.Edits.{sets-eq}
@@ -14,13 +13,13 @@ use Rattle.listing_text.specs.Reading.{letter_of, count_of, Reading, malformed, 
 
 -- ---- a line
 abbrev OfLength : ℕ → Option (List ℤ) → Type 0
-OfLength k none = Unit {0}
-OfLength k (some zs) = length zs ≡ k
+OfLength k None = Unit {0}
+OfLength k (Some zs) = length zs ≡ k
 
 followed-sized : (k : ℕ) (a : Option ℤ) (o : Option (List ℤ)) → OfLength k o → OfLength (suc k) (followed a o)
-followed-sized k none o h = tt
-followed-sized k (some z) none h = tt
-followed-sized k (some z) (some zs) h = ap suc h
+followed-sized k None o h = tt
+followed-sized k (Some z) None h = tt
+followed-sized k (Some z) (Some zs) h = ap suc h
 
 numbers-sized : (k : ℕ) (fs : List (List ℕ)) → OfLength k (numbers_of k fs)
 unfolding numbers_of
@@ -33,7 +32,7 @@ labelled-sized : (letter k : ℕ) (fs : List (List ℕ)) → OfLength k (labelle
 labelled-sized letter k [] = tt
 labelled-sized letter k (f ∷ fs) = go (is_letter letter f)
   where
-    go : (t : Bool) → OfLength k (cond t (numbers_of k fs) none)
+    go : (t : Bool) → OfLength k (cond t (numbers_of k fs) None)
     go true = numbers-sized k fs
     go false = tt
 
@@ -41,7 +40,7 @@ line-sized : (letter k : ℕ) (line : List ℕ) → OfLength k (line_of letter k
 unfolding line_of
 line-sized letter k line = labelled-sized letter k (fields_of line)
 
-pub line-length : (letter k : ℕ) (line : List ℕ) {zs : List ℤ} → line_of letter k line ≡ some zs → length zs ≡ k
+pub line-length : (letter k : ℕ) (line : List ℕ) {zs : List ℤ} → line_of letter k line ≡ Some zs → length zs ≡ k
 line-length letter k line e = subst (OfLength k) e (line-sized letter k line)
 
 -- ---- how many numbers stand before line n
@@ -77,9 +76,9 @@ within_none n l m = go (dec_lt n 3)
 
 within-line : (n : ℕ) → 1 ≤ n → n < 400 → (o : Option (List ℤ)) → OfLength (count_of n) o → (r : Reading) → Within (n + 1) r
     → Within n (line_then n o r)
-within-line n l m none s r w = (omega arith, omega arith)
-within-line n l m (some zs) s (malformed k) w = (omega (arith, w.0), w.1)
-within-line n l m (some zs) s (numbers ws) w = (
+within-line n l m None s r w = (omega arith, omega arith)
+within-line n l m (Some zs) s (malformed k) w = (omega (arith, w.0), w.1)
+within-line n l m (Some zs) s (numbers ws) w = (
   w.0,
   omega (arith, w.1),
   w.2,

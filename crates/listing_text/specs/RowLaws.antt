@@ -1,10 +1,13 @@
 -- Rows that are written from a place on, one run of entries after the other.
 --     sets-append      two runs are one
+--     put_mid-sets     a part of a row that is written over is a run
 --     appended-none, appended-byte, appended_then      how a text is appended: nothing, one byte, and one text behind another
 --     appended-fits    with room for all, the place is behind the bytes, and the row is the bytes between what stood before and behind them
 -- Assumes nothing.
 use Rattle.std.specs.Prelude.{List, [], ◌∷◌, ◌++◌, ◌≡◌, refl, ℕ, suc, ◌+◌, ◌≤◌, ◌<◌, length, get_or, set, take, drop}
 use Rattle.std.proofs.Common.{sym, ◌∙◌, ap, ap₂, add-zero, add-suc, suc-add, arith, add-one, length-append, take-suc, take_all}
+use Rattle.std.proofs.lemmas.Slice.{put_mid-paste}
+use borrow.Rule.Slice.PartMut.{put_mid}
 use Rattle.std.proofs.Math.Decide.{dec_lt}
 use Rattle.std.proofs.lemmas.List.Edits.{sets, sets-eq}
 use Rattle.std.proofs.Math.Seq.{set_out, length-sets}
@@ -22,6 +25,12 @@ module _ {A : Type 0} where
   pub sets-out : (row : List A) (at : ℕ) (xs : List A) → length row ≤ at → sets row at xs ≡ row
   sets-out row at [] l = refl
   sets-out row at (x ∷ xs) l = rw (set_out row at x l) (sets-out row (suc at) xs (omega arith))
+
+  -- k entries from `at` on are a slice that the code has lent and filled
+  pub put_mid-sets : (at k : ℕ) (row xs : List A) → length xs ≡ k → at + k ≤ length row → put_mid at k row xs ≡ sets row at xs
+  put_mid-sets at k row xs l m =
+      put_mid-paste at k row xs xs (length xs) refl l refl
+      ∙ rw (take_all (length xs) xs (omega arith)) (sym (sets-eq xs row at (omega arith)))
 
 -- ---- texts in a row of bytes
 pub appended-none : (row : List ℕ) (at : ℕ) → Appended row at [] row at

@@ -1,6 +1,7 @@
 // The lines of a listing, appended to a row of bytes that the caller lends. A place is where the next byte goes.
 // Bytes that do not fit are left out, and a place past the row's end says so.
-ghost use Rattle.std.specs.Prelude.{[], ◌∷◌, ◌≡◌, nat_abs};
+// Row and place are two parameters: of a struct that held the `&mut`, each contract would speak by its ghost name, and be no plainer.
+ghost use Rattle.std.specs.Prelude.{[], ◌∷◌, ◌≡◌};
 ghost use Rattle.listing_text.specs.Decimal.{decimal, signed_decimal, Appended};
 ghost use Rattle.listing_text.specs.Listing.{field, point_line, totals_line, refusal_line};
 
@@ -45,10 +46,8 @@ pub fn put_bytes(row: &mut [u8], at: usize, bytes: &[u8]) -> usize
     ensures { Appended row.old at bytes.now row.new result }
 {
     let mut place = at;
-    let mut i = 0;
-    while i < bytes.len() {
-        place = put(row, place, bytes[i]);
-        i += 1;
+    for byte in bytes {
+        place = put(row, place, *byte);
     }
     place
 }
@@ -65,24 +64,14 @@ pub fn put_number(row: &mut [u8], at: usize, n: u64) -> usize
     put(row, place, digit)
 }
 
-// It fits for every n, the least too.
-fn magnitude(n: i64) -> u64
-    ensures { result ≡ nat_abs n }
-{
-    if n < 0 {
-        return (-1 - n) as u64 + 1;
-    }
-    n as u64
-}
-
 pub fn put_signed(row: &mut [u8], at: usize, n: i64) -> usize
     ensures { Appended row.old at (signed_decimal n) row.new result }
 {
     if n < 0 {
         let place = put(row, at, b'-');
-        return put_number(row, place, magnitude(n));
+        return put_number(row, place, n.unsigned_abs());
     }
-    put_number(row, at, magnitude(n))
+    put_number(row, at, n.unsigned_abs())
 }
 
 // A blank and a number.

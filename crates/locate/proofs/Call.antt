@@ -1,5 +1,5 @@
 -- The call `locate` row by row, as it is met: a refusal leaves everything as it was, and an accepted call's ring is asked. Assumes nothing.
-use Rattle.std.specs.Prelude.{◌≡◌, refl, Bool, true, false, cond, ℕ, ◌-◌, ◌*◌, ◌<◌, ◌≤◌, ◌^◌, T, Float, ℤ, length}
+use Rattle.std.specs.Prelude.{◌≡◌, refl, Bool, true, false, cond, ℕ, ◌-◌, ◌*◌, ◌<◌, ◌≤◌, ◌^◌, T, Float, ℤ, length, Ok, Err}
 use Rattle.std.proofs.Common.{sym, ◌∙◌, subst, arith}
 use Rattle.std.proofs.Math.Path.{ap, ap₂}
 use mathlib.Core.List.{List, []}
@@ -11,26 +11,24 @@ use Rattle.dcel.specs.Rows.{row_of}
 use Rattle.hull.specs.Boundary.{ToBuild}
 use Rattle.hull.proofs.Ready.{angled-boundary, to-build, size_is, size-asks}
 use Rattle.mesh.specs.declared.Counts.{Counts}
-use Rattle.mesh_check.specs.declared.Checked.{Checked}
-use Rattle.mesh_check.specs.declared.Checked.TheVariants.{Accepted, Refused}
+use Rattle.mesh_check.specs.Checked.{Checked}
 use Rattle.mesh_check.specs.declared.Refusal.{Refusal}
 use Rattle.mesh_check.specs.Check.{refused, and_then}
 use Rattle.mesh_check.proofs.CheckLawsFacts.{then-accepts}
 use Rattle.ring.specs.Center.{turns_about}
 use Rattle.sums.proofs.BitLaws.{from-true}
-use Rattle.locate.specs.declared.Located.{Located}
-use Rattle.locate.specs.declared.Located.TheVariants.{Found}
+use Rattle.locate.specs.Located.{Located}
 use Rattle.locate.specs.declared.Place.{Place}
 use Rattle.locate.specs.Locate.{ring_rows_short, ring_short, check_start, check_angle, place_at_of, located_with, locate_outcome, locate_of}
 use Rattle.locate.specs.Rows.{BoundaryOf, ToAsk, PlaceOnBoundary}
 use Rattle.locate.specs.Start.{RingRoom, AcceptedStart}
 use Rattle.locate.proofs.StartLaws.{ring-room, accepted-held, accepted-placed, start-accepts}
 
-pub angle-accepts : (x : Float) → check_angle x ≡ Accepted → T (valid_angle x)
+pub angle-accepts : (x : Float) → check_angle x ≡ Ok tt → T (valid_angle x)
 unfolding check_angle
 angle-accepts x e = from-true (go (valid_angle x) e)
   where
-    go : (t : Bool) → cond t Accepted (refused 8 0) ≡ Accepted → t ≡ true
+    go : (t : Bool) → cond t (Ok tt) (refused 8 0) ≡ Ok tt → t ≡ true
     go true e = refl
     go false e = absurd (let z : ◌≡◌ {A = ℕ} 0 1 = cc in omega arith)
 
@@ -52,7 +50,7 @@ module _ {points : List ℤ} {C : Counts} {m : MeshRows} {center : Point2} (A : 
 -- rows 1 to 8 let pass; the ring's rows have these lengths
 module _ (C : Counts) (m : MeshRows) (nodes freed buckets : ℕ) (center : Point2) (x : Float)
     {short : Bool} (s : short ≡ ring_rows_short C.vertices nodes freed buckets)
-    (e : and_then (check_start [] short C m center) (check_angle x) ≡ Accepted) where
+    (e : and_then (check_start [] short C m center) (check_angle x) ≡ Ok tt) where
   accepted : AcceptedStart [] C m center × (short ≡ false)
   accepted = start-accepts [] short C m center (then-accepts (check_start [] short C m center) (check_angle x) e).0
 
@@ -96,18 +94,18 @@ module _ (C : Counts) (m : MeshRows) (ring : RingRows) (center : Point2) (x : Fl
       ap (λ (c : Checked). locate_outcome c place ring)
       (sym e ∙ ap (λ (t : Bool). and_then (check_start [] t C m center) (check_angle x)) s)
 
-  pub locate-refused : {r : Refusal} → and_then (check_start [] short C m center) (check_angle x) ≡ Refused r
-      → located_with (Located.Refused r) ring ≡ locate_of C m ring center x
+  pub locate-refused : {r : Refusal} → and_then (check_start [] short C m center) (check_angle x) ≡ Err r
+      → located_with (Err r) ring ≡ locate_of C m ring center x
   unfolding locate_outcome
   locate-refused e = outcome-is e
 
   -- the rows are cleared as they were left
-  pub locate-found : and_then (check_start [] short C m center) (check_angle x) ≡ Accepted
+  pub locate-found : and_then (check_start [] short C m center) (check_angle x) ≡ Ok tt
       → {start size : ℕ} → start ≡ row_of m.faces 0 → size ≡ 2 * C.edges - 3 * (C.faces - 1)
       → {r : Place} → PlaceOnBoundary m.positions m.halves center.x center.y start size x r
-      → {ring' : RingRows} → ring' ≡ ring_zeros ring → located_with (Found r) ring' ≡ locate_of C m ring center x
+      → {ring' : RingRows} → ring' ≡ ring_zeros ring → located_with (Ok r) ring' ≡ locate_of C m ring center x
   unfolding locate_outcome
   locate-found e t z P k =
-      ap₂ (λ (p : Place) (w : RingRows). located_with (Found p) w)
+      ap₂ (λ (p : Place) (w : RingRows). located_with (Ok p) w)
       (P C m.outs m.faces (accepted-boundary (locate-start C m _ _ _ center x s e) t z)) k
       ∙ outcome-is e

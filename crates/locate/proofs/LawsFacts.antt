@@ -1,5 +1,5 @@
 -- Laws of specs/Laws.antt.
-use Rattle.std.specs.Prelude.{◌≡◌, refl, ◌≢◌, List, [], ℕ, ◌<◌, T, Float, ℤ}
+use Rattle.std.specs.Prelude.{◌≡◌, refl, ◌≢◌, List, [], ℕ, ◌<◌, T, Float, ℤ, Ok, Err}
 use Rattle.std.proofs.Common.{sym, ◌∙◌, ap, arith}
 use Rattle.std.proofs.Math.Path.{subst}
 use Rattle.std.specs.Float.{binary64}
@@ -15,8 +15,7 @@ use Rattle.mesh.specs.Area.{boundary_length}
 use Rattle.mesh.proofs.BoundaryLaws.{first<, first-outer}
 use Rattle.mesh.specs.Wf.{Wf}
 use Rattle.mesh_check.specs.Check.{and_then}
-use Rattle.mesh_check.specs.declared.Checked.{Checked}
-use Rattle.mesh_check.specs.declared.Checked.TheVariants.{Accepted, Refused}
+use Rattle.mesh_check.specs.Checked.{Checked}
 use Rattle.ring.specs.Ring.{proper, at_ends, edge_angle, boundary_edges, is_strict_ring, located}
 use Rattle.ring.proofs.Boundary.{outer-on, edge-end, strict-ring, strict-nodes, located<, located-outer, located-ends, located-sole}
 use Rattle.ring.specs.Center.{turns_about}
@@ -27,7 +26,6 @@ use Rattle.segment.specs.declared.Segment.{Segment}
 use Rattle.segment.specs.Arc.{holds}
 use Rattle.segment.specs.Segment.{segment_of, contains_angle}
 use Rattle.segment.proofs.Laws.{contains-turns, segment-good, segment-holds}
-use Rattle.locate.specs.declared.Located.TheVariants.{Found}
 use Rattle.locate.specs.declared.Place.{Place}
 use Rattle.locate.specs.Locate.{ring_short, check_start, check_angle, place_at_of, locate_outcome, locate_of}
 use Rattle.locate.specs.Start.{AcceptedStart}
@@ -87,7 +85,7 @@ module _ {points : List ℤ} {C : Counts} {m : MeshRows} {center : Point2} (A : 
 
 -- AN ACCEPTED CALL
 pub located-edge : (C : Counts) (m : MeshRows) (ring : RingRows) (center : Point2) (x : Float) → Fits center
-    → {r : Place} → (locate_of C m ring center x).answer ≡ Found r
+    → {r : Place} → (locate_of C m ring center x).answer ≡ Ok r
     → EdgeAtAngle C (links_in m) (places_in m) center.x center.y x r.edge
 unfolding locate_of locate_outcome place_at_of
 located-edge C m ring center x fit {r} e =
@@ -98,6 +96,6 @@ located-edge C m ring center x fit {r} e =
     let v = locate-angle C m _ _ _ center x refl g.0 in
     subst (EdgeAtAngle C (links_in m) (places_in m) center.x center.y x) (ap (λ (s : Place). s.edge) g.1) (edge-at-angle A fit x v)
   where
-    go : (c : Checked) (s : Place) → (locate_outcome c s ring).answer ≡ Found r → (c ≡ Accepted) × (s ≡ r)
-    go Accepted s e = (refl, cc)
-    go (Refused w) s e = absurd (let z : ◌≡◌ {A = ℕ} 0 1 = cc in omega arith)
+    go : (c : Checked) (s : Place) → (locate_outcome c s ring).answer ≡ Ok r → (c ≡ Ok tt) × (s ≡ r)
+    go (Ok tt) s e = (refl, cc)
+    go (Err w) s e = absurd (let z : ◌≡◌ {A = ℕ} 0 1 = cc in omega arith)

@@ -1,4 +1,5 @@
 -- Rows 6 and 7 as `check_ring` meets them. Assumes nothing.
+use Rattle.std.specs.Prelude.{Ok}
 use mathlib.Core.Path.{◌≡◌, refl, sym, subst}
 use mathlib.Core.Bool.{Bool, true, false, not, cond, ◌||◌}
 use mathlib.Core.List.{List}
@@ -8,7 +9,6 @@ use lib.Ieee.{Float}
 use lib.IntN.{ℤ}
 use Rattle.angle.specs.Angle.{valid_center}
 use Rattle.hull.specs.Boundary.{AngledBoundary, edge_at, angles_of, origin_at_center}
-use Rattle.mesh_check.specs.declared.Checked.TheVariants.{Accepted}
 use Rattle.mesh_check.specs.Check.{refused}
 use Rattle.ring.specs.Ring.{full_turn, is_strict}
 use Rattle.sums.proofs.BitLaws.{from-true, from_false}
@@ -28,7 +28,7 @@ module _ (p : List ℤ) (h : List ℕ) (cx cy : Float) (start size : ℕ) where
   unfolding ring_checked
   met-center e = go (not (valid_center cx cy)) meets e
     where
-      go : (a b : Bool) → b ≡ true → refused 6 0 ≡ cond (a || b) (refused 6 0) (cond (not (is_strict full_turn (angles_of p h cx cy start size))) (refused 7 0) Accepted)
+      go : (a b : Bool) → b ≡ true → refused 6 0 ≡ cond (a || b) (refused 6 0) (cond (not (is_strict full_turn (angles_of p h cx cy start size))) (refused 7 0) (Ok tt))
       go true b e = refl
       go false b e = rw e
 
@@ -36,7 +36,7 @@ module _ (p : List ℤ) (h : List ℕ) (cx cy : Float) (start size : ℕ) where
   unfolding ring_checked
   not-strict e f g = rw (e, f, g)
 
-  pub strict : valid_center cx cy ≡ true → meets ≡ false → is_strict full_turn (angles_of p h cx cy start size) ≡ true → Accepted ≡ ring_checked p h cx cy start size
+  pub strict : valid_center cx cy ≡ true → meets ≡ false → is_strict full_turn (angles_of p h cx cy start size) ≡ true → (Ok tt) ≡ ring_checked p h cx cy start size
   unfolding ring_checked
   strict e f g = rw (e, f, g)
 

@@ -1,6 +1,6 @@
 -- Laws of specs/Start.antt.
 use Rattle.std.proofs.Math.Path.{◌≡◌, sym, ap, ap₂, subst}
-use Rattle.std.specs.Prelude.{refl, Bool, not, ◌||◌, List, ℕ, ◌+◌, ◌-◌, ◌*◌, ◌<◌, ◌≤◌, ◌^◌, T, ltb, Float, ℤ, length}
+use Rattle.std.specs.Prelude.{refl, Bool, not, ◌||◌, List, ℕ, ◌+◌, ◌-◌, ◌*◌, ◌<◌, ◌≤◌, ◌^◌, T, ltb, Float, ℤ, length, Ok, Err}
 use Rattle.std.proofs.Common.{◌∙◌, arith, T_not, ltb-false}
 use Rattle.std.proofs.Math.Bool.{true, false, cond}
 use Rattle.angle.specs.declared.Point2.{Point2}
@@ -15,8 +15,7 @@ use Rattle.mesh.specs.Mesh.{Links}
 use Rattle.mesh.specs.Area.{boundary_length}
 use Rattle.mesh.proofs.BoundaryLaws.{next-inverse, first<, boundary-period}
 use Rattle.mesh.proofs.CountsLaws.{count-edges, faces-fit, halves-fit}
-use Rattle.mesh_check.specs.declared.Checked.{Checked}
-use Rattle.mesh_check.specs.declared.Checked.TheVariants.{Accepted, Refused}
+use Rattle.mesh_check.specs.Checked.{Checked}
 use Rattle.mesh_check.specs.declared.Refusal.{Refusal}
 use Rattle.mesh_check.specs.Accepted.{AcceptedWith}
 use Rattle.mesh_check.proofs.AcceptedLaws.{with-accepts, or-false}
@@ -71,15 +70,15 @@ module _ {C : Counts} (p : List ℤ) {o h a : List ℕ} (M : MeshHeld C o h a) (
   unfolding ring_checked check_ring refuses_ring
   ring-checked cx cy =
       ap (λ (x : ℕ). ring_checked p h cx cy x size) s
-      ∙ ap₂ (λ (t u : Bool). cond t (refused 6 0) (cond (not u) (refused 7 0) Accepted)) (center-test M p placed cx cy z) (strict-test M p placed cx cy z)
+      ∙ ap₂ (λ (t u : Bool). cond t (refused 6 0) (cond (not u) (refused 7 0) (Ok tt))) (center-test M p placed cx cy z) (strict-test M p placed cx cy z)
 
 -- ---- what is met
 module _ (C : Counts) (L : Links) (p : ℕ → Point) (cx cy : Float) where
-  pub ring-accepts : check_ring C L p cx cy ≡ Accepted → (refuses_center C L p cx cy ≡ false) × (refuses_ring C L p cx cy ≡ false)
+  pub ring-accepts : check_ring C L p cx cy ≡ Ok tt → (refuses_center C L p cx cy ≡ false) × (refuses_ring C L p cx cy ≡ false)
   unfolding check_ring
   ring-accepts e = go (refuses_center C L p cx cy) (refuses_ring C L p cx cy) e
     where
-      go : (t u : Bool) → cond t (refused 6 0) (cond u (refused 7 0) Accepted) ≡ Accepted → (t ≡ false) × (u ≡ false)
+      go : (t u : Bool) → cond t (refused 6 0) (cond u (refused 7 0) (Ok tt)) ≡ Ok tt → (t ≡ false) × (u ≡ false)
       go true u e = absurd (let z : ◌≡◌ {A = ℕ} 0 1 = cc in omega arith)
       go false true e = absurd (let z : ◌≡◌ {A = ℕ} 0 1 = cc in omega arith)
       go false false e = (refl, refl)
@@ -88,7 +87,7 @@ module _ (points : List ℤ) (short : Bool) (C : Counts) (m : MeshRows) (center 
   abbrev ring : Checked
   ring = check_ring C (links_in m) (places_in m) center.x center.y
 
-  pub start-accepts : check_start points short C m center ≡ Accepted → AcceptedStart points C m center × (short ≡ false)
+  pub start-accepts : check_start points short C m center ≡ Ok tt → AcceptedStart points C m center × (short ≡ false)
   unfolding check_start refuses_ring
   start-accepts e =
       let t = then-accepts (check_with points short C m) ring e in
@@ -106,11 +105,11 @@ module _ (points : List ℤ) (short : Bool) (C : Counts) (m : MeshRows) (center 
       (numbered-cond (refuses_ring C (links_in m) (places_in m) center.x center.y) 7 0 (omega arith) (omega arith) accepts))
 
   -- the table goes on where rows 1 to 5 let pass, and stops where they do not
-  pub start-refused : {r : Refusal} → check_with points short C m ≡ Refused r → Refused r ≡ check_start points short C m center
+  pub start-refused : {r : Refusal} → check_with points short C m ≡ Err r → Err r ≡ check_start points short C m center
   unfolding check_start
   start-refused e = sym (then-refused ring e)
 
-module _ (points : List ℤ) (short : Bool) (C : Counts) (m : MeshRows) (e : check_with points short C m ≡ Accepted) where
+module _ (points : List ℤ) (short : Bool) (C : Counts) (m : MeshRows) (e : check_with points short C m ≡ Ok tt) where
   pub start-mesh : AcceptedWith points C m
   start-mesh = (with-accepts {points = points} {short = short} {C = C} {m = m} e).0
 

@@ -16,8 +16,7 @@ use Rattle.mesh.specs.Area.{boundary_length}
 use Rattle.mesh.proofs.BoundaryLaws.{first<, first-outer}
 use Rattle.mesh.specs.Wf.{Wf}
 use Rattle.mesh_check.specs.Check.{and_then}
-use Rattle.mesh_check.specs.declared.Checked.{Checked}
-use Rattle.mesh_check.specs.declared.Checked.TheVariants.{Accepted, Refused}
+use Rattle.mesh_check.specs.Checked.{Checked}
 use Rattle.ring.specs.Ring.{proper, at_ends, edge_angle, boundary_edges, is_strict_ring, located}
 use Rattle.ring.proofs.Boundary.{outer-on, edge-end, strict-ring, strict-nodes, located<, located-outer, located-ends, located-sole}
 use Rattle.ring.specs.Center.{turns_about}
@@ -28,7 +27,6 @@ use Rattle.segment.specs.declared.Segment.{Segment}
 use Rattle.segment.specs.Arc.{holds}
 use Rattle.segment.specs.Segment.{segment_of, contains_angle}
 use Rattle.segment.proofs.Laws.{contains-turns, segment-good, segment-holds}
-use Rattle.locate.specs.declared.Located.TheVariants.{Found}
 use Rattle.locate.specs.declared.Place.{Place}
 use Rattle.locate.specs.Locate.{ring_short, check_start, check_angle, place_at_of, locate_outcome, locate_of}
 use Rattle.locate.specs.Start.{AcceptedStart}

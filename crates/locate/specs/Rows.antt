@@ -1,14 +1,13 @@
 -- The boundary in the rows, as the checks walk it: what they ask, and rows 6 and 7 of the table over it; and what building the ring and asking it takes and gives. Definitions only; `Start`
 -- and `Place` say that these are the mesh's.
-use Rattle.std.specs.Prelude.{◌≡◌, not, cond, ◌||◌, List, ℕ, ◌<◌, Float, ℤ, T}
+use Rattle.std.specs.Prelude.{◌≡◌, not, cond, ◌||◌, List, ℕ, ◌<◌, Float, ℤ, T, Ok}
 use Rattle.angle.specs.Angle.{valid_center, valid_angle, turns}
 use Rattle.dcel.specs.Rows.{row_of, links_of, position_of}
 use Rattle.hull.specs.Boundary.{BoundaryRows, ToBuild, edge_at, angles_of, origin_at_center}
 use Rattle.mesh.specs.declared.Counts.{Counts}
 use Rattle.mesh.specs.Area.{boundary_length}
 use Rattle.mesh.specs.Wf.{Wf}
-use Rattle.mesh_check.specs.declared.Checked.{Checked}
-use Rattle.mesh_check.specs.declared.Checked.TheVariants.{Accepted}
+use Rattle.mesh_check.specs.Checked.{Checked}
 use Rattle.mesh_check.specs.Check.{refused}
 use Rattle.ring.specs.Ring.{full_turn, is_strict}
 use Rattle.ring.specs.Center.{turns_about}
@@ -27,7 +26,7 @@ pub record ClosedBoundary (p : List ℤ) (h : List ℕ) (start size : ℕ) : Typ
 unfoldable pub ring_checked : List ℤ → List ℕ → Float → Float → ℕ → ℕ → Checked
 ring_checked p h cx cy start size =
     cond (not (valid_center cx cy) || any_below size (λ k. origin_at_center p h cx cy (edge_at h start k))) (refused 6 0)
-    (cond (not (is_strict full_turn (angles_of p h cx cy start size))) (refused 7 0) Accepted)
+    (cond (not (is_strict full_turn (angles_of p h cx cy start size))) (refused 7 0) (Ok tt))
 
 -- ---- the ring
 -- the round is the boundary of a mesh that keeps the rules, which has these half-edges

@@ -16,8 +16,7 @@ use Rattle.mesh.specs.Mesh.{Links}
 use Rattle.mesh.specs.Area.{boundary_length}
 use Rattle.mesh.proofs.BoundaryLaws.{next-inverse, first<, boundary-period}
 use Rattle.mesh.proofs.CountsLaws.{count-edges, faces-fit, halves-fit}
-use Rattle.mesh_check.specs.declared.Checked.{Checked}
-use Rattle.mesh_check.specs.declared.Checked.TheVariants.{Accepted, Refused}
+use Rattle.mesh_check.specs.Checked.{Checked}
 use Rattle.mesh_check.specs.declared.Refusal.{Refusal}
 use Rattle.mesh_check.specs.Accepted.{AcceptedWith}
 use Rattle.mesh_check.proofs.AcceptedLaws.{with-accepts, or-false}

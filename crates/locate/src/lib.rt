@@ -4,7 +4,7 @@
 #![tactic(auto)]
 
 ghost use Rattle.std.specs.Prelude.{◌≡◌, List, [], length};
-ghost use Rattle.mesh_check.specs.Check.{refused, and_then};
+ghost use Rattle.mesh_check.specs.Check.{and_then};
 ghost use Rattle.dcel.specs.MeshRows.{mesh_rows};
 ghost use Rattle.ring_rows.specs.RingRows.{ring_rows, ring_zeros};
 ghost use Rattle.locate.specs.Locate.{ring_rows_short, check_start, check_angle, located_with, locate_of};
@@ -12,7 +12,7 @@ ghost use Rattle.locate.specs.Rows.{ClosedBoundary, ring_checked, ToAsk, PlaceOn
 
 use angle::Point2;
 use mesh::Counts;
-use mesh_check::{Checked, Refusal};
+use mesh_check::Refusal;
 use ring_rows::Node;
 
 // A boundary edge, and how many nodes of the ring were passed after the first on the way to it.
@@ -20,12 +20,6 @@ use ring_rows::Node;
 pub struct Place {
     pub edge: u32,
     pub passed: u32,
-}
-
-#[derive(Clone, Copy)]
-pub enum Located {
-    Found(Place),
-    Refused(Refusal),
 }
 
 // One of the ring's rows, given by their lengths, is too short for n vertices.
@@ -44,31 +38,27 @@ pub fn ring_rows_short(n: usize, nodes: usize, freed: usize, buckets: usize) -> 
     buckets < n
 }
 
-// A row of the table that names no place.
-fn refuse(number: u32) -> Checked
-    ensures { result ≡ refused number 0 }
-{
-    Checked::Refused(Refusal {
-        number: number,
-        place: 0,
-    })
-}
-
 // Rows 6 and 7, of a boundary of `size` half-edges from `start` on.
-fn check_ring(positions: &[i32], halves: &[u32], start: u32, size: u32, center: Point2) -> Checked
+fn check_ring(
+    positions: &[i32],
+    halves: &[u32],
+    start: u32,
+    size: u32,
+    center: Point2,
+) -> Result<(), Refusal>
     requires { ClosedBoundary positions.now halves.now start size }
     ensures { result ≡ ring_checked positions.now halves.now center.x center.y start size }
 {
     if !angle::validate_center(center) {
-        return refuse(6);
+        return Err(Refusal::of_call(6));
     }
     if hull::meets_center(positions, halves, start, size, center) {
-        return refuse(6);
+        return Err(Refusal::of_call(6));
     }
     if !hull::is_strict(positions, halves, start, size, center) {
-        return refuse(7);
+        return Err(Refusal::of_call(7));
     }
-    Checked::Accepted
+    Ok(())
 }
 
 // Rows 1 to 7, for a call that is also given points, none or more. `short`: a row that is not the mesh's, nor that of
@@ -82,28 +72,25 @@ pub fn check_start(
     halves: &[u32],
     faces: &[u32],
     center: Point2,
-) -> Checked
+) -> Result<(), Refusal>
     ensures { result ≡ check_start points.now short counts
         (mesh_rows positions.now outs.now halves.now faces.now) center }
 {
-    match mesh_check_rows::check_with(points, short, counts, positions, outs, halves, faces) {
-        Checked::Refused(r) => Checked::Refused(r),
-        Checked::Accepted => {
-            let start = dcel::adjacent(faces, 0);
-            let size = hull::convex_hull_size(counts);
-            check_ring(positions, halves, start, size, center)
-        }
-    }
+    mesh_check_rows::check_with(points, short, counts, positions, outs, halves, faces)?;
+    let start = dcel::adjacent(faces, 0);
+    let size = hull::convex_hull_size(counts);
+    check_ring(positions, halves, start, size, center)
 }
 
 // Row 8.
-fn check_angle(a: f64) -> Checked
+fn check_angle(a: f64) -> Result<(), Refusal>
     ensures { result ≡ check_angle a }
 {
     if angle::validate_angle(a) {
-        return Checked::Accepted;
+        Ok(())
+    } else {
+        Err(Refusal::of_call(8))
     }
-    refuse(8)
 }
 
 // Rows 1 to 8. `short`: one of the ring's rows is too short.
@@ -116,16 +103,14 @@ fn check_locate(
     faces: &[u32],
     center: Point2,
     a: f64,
-) -> Checked
+) -> Result<(), Refusal>
     ensures { result ≡ and_then (check_start [] short counts
         (mesh_rows positions.now outs.now halves.now faces.now) center)
         (check_angle a) }
 {
     let none = &positions[0..0];
-    match check_start(none, short, counts, positions, outs, halves, faces, center) {
-        Checked::Refused(r) => Checked::Refused(r),
-        Checked::Accepted => check_angle(a),
-    }
+    check_start(none, short, counts, positions, outs, halves, faces, center)?;
+    check_angle(a)
 }
 
 // The ring of a strict boundary, built in the lent rows and asked once.
@@ -172,7 +157,7 @@ pub fn locate(
     buckets: &mut [u32],
     center: Point2,
     angle: f64,
-) -> Located
+) -> Result<Place, Refusal>
     ensures { located_with result (ring_rows nodes.new freed.new buckets.new)
         ≡ locate_of counts (mesh_rows positions.now outs.now halves.now faces.now)
         (ring_rows nodes.old freed.old buckets.old) center angle }
@@ -183,16 +168,12 @@ pub fn locate(
         freed.len(),
         buckets.len(),
     );
-    match check_locate(short, counts, positions, outs, halves, faces, center, angle) {
-        Checked::Refused(r) => Located::Refused(r),
-        Checked::Accepted => {
-            let start = dcel::adjacent(faces, 0);
-            let size = hull::convex_hull_size(counts);
-            let place = place_at(
-                positions, halves, nodes, buckets, start, size, center, angle,
-            );
-            clear_ring(nodes, freed, buckets);
-            Located::Found(place)
-        }
-    }
+    check_locate(short, counts, positions, outs, halves, faces, center, angle)?;
+    let start = dcel::adjacent(faces, 0);
+    let size = hull::convex_hull_size(counts);
+    let place = place_at(
+        positions, halves, nodes, buckets, start, size, center, angle,
+    );
+    clear_ring(nodes, freed, buckets);
+    Ok(place)
 }

@@ -1,18 +1,18 @@
 -- The marked examples of 01, M1 to M10, each as a statement about the definitions that the calls' contracts cite, and all of them in one
 -- list, `Marked`. `Established` has the theorem. Statements only: what is imported is what they say.
-use Rattle.std.specs.Prelude.{true, false, List, [], ◌∷◌, ◌++◌, ◌≡◌, ℕ, ◌+◌, ◌*◌, ◌^◌, ℤ, pos, negsuc, Float, replicate, take}
+use Rattle.std.specs.Prelude.{true, false, List, [], ◌∷◌, ◌++◌, ◌≡◌, ℕ, ◌+◌, ◌*◌, ◌^◌, ℤ, pos, negsuc, Float, replicate, take, Ok, Err}
 use Rattle.std.specs.Float.{nan, fin}
 use Rattle.angle.specs.declared.Point2.{Point2}
 use Rattle.angle.specs.Angle.{angle_about, zero64, quarter, one64}
 use Rattle.dcel.specs.MeshRows.{mesh_rows, links_in, places_in}
-use Rattle.finish.specs.declared.Finished.{Finished}
+use Rattle.finish.specs.Finished.{Finished}
 use Rattle.finish.specs.Finish.{finished_with, finish_of}
-use Rattle.locate.specs.declared.Located.{Located}
+use Rattle.locate.specs.Located.{Located}
 use Rattle.locate.specs.Locate.{locate_of}
 use Rattle.mesh.specs.Mesh.{Links}
 use Rattle.mesh.specs.Area.{area_total, height_sum, circle_at}
 use Rattle.mesh.specs.Operations.{with_vertex, create_new_face_adjacent_to_edge}
-use Rattle.mesh_check.specs.declared.Checked.{Checked}
+use Rattle.mesh_check.specs.Checked.{Checked}
 use Rattle.ring.specs.Center.{turns_about}
 use Rattle.ring.specs.Ring.{boundary_angles}
 use Rattle.ring_rows.specs.declared.Node.{Node}
@@ -85,7 +85,7 @@ M4 =
     ≡ 1 ∷ 3 ∷ 1 ∷ 0 ∷ 7 ∷ 4 ∷ 2 ∷ 0 ∷ 2 ∷ 0 ∷ 0 ∷ 0 ∷ 7 ∷ 5 ∷ 2 ∷ 0 ∷ [])
     × ((run_of sample).answer.counts ≡ record { vertices = 6; edges = 11; faces = 7 })
     × (area_after (run_of sample) ≡ pos 32)
-    × ((run_of sample).answer.finished ≡ Finished.Accepted (record { faces = 0; convexflips = 0; closingflips = 0 }))
+    × ((run_of sample).answer.finished ≡ Ok (record { faces = 0; convexflips = 0; closingflips = 0 }))
 
 -- "M5 seed (0,0) (4,0) (2,1), centre (2, 0.5), point (2,-1):
 abbrev kite : RunLent
@@ -109,12 +109,12 @@ M5 =
 -- "M6 coordinate 16777216 accepted, 16777217 refused 3."
 abbrev pub M6 : Type 0
 M6 =
-    (run_checked (about 1 (pos 16777216 ∷ negsuc 16777215 ∷ [])) ≡ Checked.Accepted)
-    × ((run_of (about 1 (pos 16777217 ∷ pos 0 ∷ []))).answer.finished ≡ Finished.Refused (record { number = 3; place = 3 }))
+    (run_checked (about 1 (pos 16777216 ∷ negsuc 16777215 ∷ [])) ≡ Ok tt)
+    × ((run_of (about 1 (pos 16777217 ∷ pos 0 ∷ []))).answer.finished ≡ Err (record { number = 3; place = 3 }))
 
 -- "M7 two vertices: 1."
 abbrev pub M7 : Type 0
-M7 = (run_of (seeded 2 0 seed (at one64 one64) [])).answer.finished ≡ Finished.Refused (record { number = 1; place = 0 })
+M7 = (run_of (seeded 2 0 seed (at one64 one64) [])).answer.finished ≡ Err (record { number = 1; place = 0 })
 
 -- "M8 angle 1.0 accepted, NaN refused 8."
 abbrev locate_at : Float → Located
@@ -124,14 +124,14 @@ locate_at a =
 
 abbrev pub M8 : Type 0
 M8 =
-    (locate_at one64 ≡ Located.Found (record { edge = 5; passed = 0 }))
-    × (locate_at nan ≡ Located.Refused (record { number = 8; place = 0 }))
+    (locate_at one64 ≡ Ok (record { edge = 5; passed = 0 }))
+    × (locate_at nan ≡ Err (record { number = 8; place = 0 }))
 
 -- "M9 that seed with centre (9,9): 7."
 abbrev pub M9 : Type 0
 M9 =
     (run_of (seeded 3 0 seed (at (fin false 9 (pos 0)) (fin false 9 (pos 0))) [])).answer.finished
-    ≡ Finished.Refused (record { number = 7; place = 0 })
+    ≡ Err (record { number = 7; place = 0 })
 
 -- "M10 no points: an accepted run is the finish of the seed.": its answer, the mesh's rows and the pending list are those of `finish`,
 -- called with the seed
@@ -139,7 +139,7 @@ abbrev pub FinishOfSeed : RunLent → RunOutcome → Type 0
 FinishOfSeed l r = finished_with r.answer r.mesh r.pending ≡ finish_of l.counts l.mesh l.pending
 
 abbrev pub M10 : Type 0
-M10 = (l : RunLent) → l.points ≡ [] → run_checked l ≡ Checked.Accepted → FinishOfSeed l (run_of l)
+M10 = (l : RunLent) → l.points ≡ [] → run_checked l ≡ Ok tt → FinishOfSeed l (run_of l)
 
 -- 01: "M1 to M10 are gathered in a list"
 abbrev pub Marked : Type 0

@@ -1,5 +1,5 @@
 -- M10: a run of no points is the finish of the seed, for every mesh, centre and rows that the checks accept. Assumes nothing.
-use Rattle.std.specs.Prelude.{Bool, ◌≡◌, ℕ, ℤ}
+use Rattle.std.specs.Prelude.{Bool, ◌≡◌, ℕ, ℤ, Ok}
 use Rattle.std.proofs.Math.Bool.{true, false, cond}
 use mathlib.Core.List.{List, []}
 use Rattle.std.proofs.Math.Path.{refl}
@@ -12,7 +12,7 @@ use Rattle.finish.specs.Finish.{finish_outcome, seed_checked, finish_of}
 use Rattle.math.specs.declared.Point.{Point}
 use Rattle.mesh.specs.declared.Counts.{Counts}
 use Rattle.mesh.specs.Mesh.{Links}
-use Rattle.mesh_check.specs.declared.Checked.{Checked}
+use Rattle.mesh_check.specs.Checked.{Checked}
 use Rattle.mesh_check.specs.Accepted.{AcceptedWith}
 use Rattle.mesh_check.proofs.AcceptedLaws.{accepts-with}
 use Rattle.mesh_check.specs.Check.{point_count}
@@ -44,8 +44,8 @@ module _ (room : ℕ) (C : Counts) (L : Links) (p : ℕ → Point) (skipped : �
       go true = refl
       go false = refl
 
-module _ (l : RunLent) (z : l.points ≡ []) (e : run_checked l ≡ Checked.Accepted) where
-  seed-accepted : seed_checked l.counts l.mesh l.pending ≡ Checked.Accepted
+module _ (l : RunLent) (z : l.points ≡ []) (e : run_checked l ≡ Ok tt) where
+  seed-accepted : seed_checked l.counts l.mesh l.pending ≡ Ok tt
   unfolding seed_checked
   seed-accepted =
       accepts-with {points = []} (le-ltb (length l.pending) 8 (run-accepts l e).pending-rows)

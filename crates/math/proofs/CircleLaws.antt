@@ -8,7 +8,7 @@ use Rattle.algebra.specs.Ring.{E, var, num, ◌⊖◌, ◌⊗◌, ⊝◌}
 use Rattle.algebra.proofs.RingLaws.{v0, v1, v2, v3, ring}
 use Rattle.algebra.proofs.Sign.{◌*⁺◌, ◌*°◌, ◌+⁺◌, weak, pos-in, lt_in, lt_by, cases, refute, eq-in, eq-by, zero°, ◌*⁰◌, ◌+⁰◌}
 use Rattle.math.specs.declared.Point.{Point}
-use Rattle.math.specs.Determinant.{Ops, Pt, Lift, Orient2d, Incircle, ℤ·, pt, orient2d, incircle}
+use Rattle.math.specs.Determinant.{Pt, Orient2d, Incircle, ℤ·, pt, orient2d, incircle}
 use Rattle.math.proofs.Plane.{E·, A, B, C, D, env3, orient2d-next}
 use Rattle.math.specs.Circle.{CentreX, CentreY, Distance2, scale, from_centre}
 

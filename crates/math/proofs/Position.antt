@@ -1,5 +1,5 @@
 -- The test of equal positions says what it means, both ways. Assumes nothing.
-use Rattle.std.specs.Prelude.{◌&&◌, ◌≡◌, refl, T, eqb, ℤ, pos, negsuc}
+use Rattle.std.specs.Prelude.{◌≡◌, refl, T, eqb, ℤ, pos, negsuc}
 use Rattle.std.proofs.Common.{sym, ◌∙◌, ap, subst, eqb→eq, to_z-of_z, SFits, of_z, to_z}
 use Rattle.std.proofs.Math.Dec.{eqb_refl}
 use Rattle.std.specs.Int.{Width}

@@ -1,5 +1,5 @@
 -- Laws of specs/Projection.antt.
-use Rattle.std.specs.Prelude.{◌≡◌, Bool, true, false, [], ◌∷◌, ℕ, zero, suc, ◌+◌, ◌-◌, ◌*◌, ◌^◌, ◌≤◌, ◌<◌, T, ltb, ℤ, pos, negsuc, nat_abs, ◌+ℤ◌, ◌-ℤ◌, ◌*ℤ◌, Float}
+use Rattle.std.specs.Prelude.{◌≡◌, Bool, true, false, [], ◌∷◌, ℕ, zero, suc, ◌+◌, ◌-◌, ◌*◌, ◌^◌, ◌≤◌, ◌<◌, T, ltb, ℤ, pos, nat_abs, ◌+ℤ◌, ◌-ℤ◌, ◌*ℤ◌, Float}
 use Rattle.std.proofs.Math.Path.{refl}
 use Rattle.std.proofs.Common.{sym, ap, ap₂, ◌∙◌, subst, zero-le, le_trans, le_of_eq, lt_of_le_of_lt, lt_of_lt_of_le, mul-one, one-mul, mul_assoc, mul_right_comm, mul-pos, lt_of_mul-lt-mul_right, zero-mul, mul-le-mul_right, arith, le-ltb, ltb→lt, lt→ltb, lit<, lit≤, pow-add, pow_pos, pow_mono, shl_lt}
 use Rattle.std.proofs.lemmas.Bool.{false≢true}
@@ -20,7 +20,7 @@ use Rattle.algebra.proofs.Bound.{Env, []ᵉ, ◌∷ᵉ◌, within}
 use Rattle.algebra.proofs.Test.{test-ext}
 use Rattle.algebra.proofs.Fractions.{add-fractions, sum_like, ltb-scale, left-scale, right-scale}
 use Rattle.math.specs.declared.Point.{Point}
-use Rattle.math.specs.Determinant.{Ops, Pt, Factor, Length2, InRange, factor, length2, is_behind_edge}
+use Rattle.math.specs.Determinant.{Factor, Length2, InRange, factor, length2, is_behind_edge}
 use Rattle.math.specs.Whole.{Whole, signed}
 use Rattle.math.proofs.WholeLaws.{whole-int, whole-add, whole_sub, whole-mul}
 use Rattle.math.specs.Projection.{f64·, to_f64, epsilon, rust_is_behind_edge, Side}

@@ -1,6 +1,6 @@
 -- A bound on an absolute value, as the code tests it: from above and from below. And what the range of coordinates says of a point.
 -- Assumes nothing.
-use Rattle.std.specs.Prelude.{◌≡◌, refl, Bool, true, false, ◌&&◌, ℕ, zero, suc, ◌<◌, ◌≤◌, T, leb, ℤ, pos, negsuc, neg_ℤ, nat_abs, ◌<ℤ◌, ◌≤ℤ◌}
+use Rattle.std.specs.Prelude.{◌≡◌, refl, Bool, true, false, ◌&&◌, ℕ, zero, suc, ◌<◌, T, leb, ℤ, pos, negsuc, neg_ℤ, nat_abs, ◌<ℤ◌, ◌≤ℤ◌}
 use Rattle.std.proofs.Common.{ap₂, suc-le-suc, zero-le, not-suc-le-zero, le-leb, leb-true, ltb→lt}
 use Rattle.std.proofs.lemmas.Bool.{false≢true, lt-leb}
 use Rattle.std.specs.Int.Signed.{lt_z}

@@ -1,16 +1,10 @@
 -- What `incircle` says of the circle of a, b and c. Its centre is the point (centreX / k, centreY / k), where k is four
 -- times the signed area of a b c; all is said of k times the coordinates, so that every number is whole.
 -- Assumes nothing.
-use Rattle.std.specs.Prelude.{◌≡◌, List, [], ◌∷◌, pos, ◌-ℤ◌, ◌*ℤ◌, negsuc, ◌<ℤ◌}
-use Rattle.std.proofs.Math.Path.{refl, ap, ap₂}
-use Rattle.std.proofs.Common.{sym, ◌∙◌, ⊎_elim}
+use Rattle.std.specs.Prelude.{pos, ◌*ℤ◌}
 use Rattle.std.proofs.Math.IntN.{ℤ}
-use Rattle.std.specs.Int.Signed.{lt_z_yes}
-use Rattle.algebra.specs.Ring.{E, var, num, ◌⊖◌, ◌⊗◌, ⊝◌}
-use Rattle.algebra.proofs.RingLaws.{v0, v1, v2, v3, ring}
-use Rattle.algebra.proofs.Sign.{◌*⁺◌, ◌*°◌, ◌+⁺◌, weak, pos-in, lt_in, lt_by, cases, refute, eq-in, eq-by, zero°, ◌*⁰◌, ◌+⁰◌}
 use Rattle.math.specs.declared.Point.{Point}
-use Rattle.math.specs.Determinant.{Ops, Pt, Lift, Orient2d, Incircle, ℤ·, pt, orient2d, incircle}
+use Rattle.math.specs.Determinant.{Ops, Pt, Lift, ℤ·, pt, orient2d}
 
 -- ---- the circle through a, b and c
 module _ {R : Type 0} (o : Ops R) where

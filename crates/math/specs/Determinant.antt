@@ -5,7 +5,7 @@
 -- 01: "`robust::orient2d` and `robust::incircle` mean the exact sign of Shewchuk's determinants", "Left is strictly positive."
 -- A formula is written once, over any numbers R with a sum ⊞, a difference ⊟, a product ⊠ and a one: at ℤ it is what a
 -- contract says, and at the expressions `E` what the ring solver computes with.
-use Rattle.std.specs.Prelude.{Bool, true, false, cond, ◌&&◌, ◌≤◌, eqb, leb, ℤ, pos, negsuc, nat_abs, ◌+ℤ◌, ◌-ℤ◌, ◌*ℤ◌}
+use Rattle.std.specs.Prelude.{Bool, false, cond, ◌&&◌, ◌≤◌, eqb, leb, ℤ, pos, negsuc, nat_abs, ◌+ℤ◌, ◌-ℤ◌, ◌*ℤ◌}
 use Rattle.std.specs.Int.Signed.{lt_z, le_z}
 use Rattle.math.specs.declared.Point.{Point}
 use Rattle.math.specs.declared.PointProjection.{PointProjection}

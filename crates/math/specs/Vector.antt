@@ -1,13 +1,8 @@
 -- Differences of points, as the code computes with them: their sizes, and the determinants by their products.
 -- Assumes nothing.
-use Rattle.std.specs.Prelude.{◌≡◌, refl, [], ◌∷◌, ◌≤◌, ℤ, nat_abs, ◌+ℤ◌, ◌-ℤ◌, ◌*ℤ◌}
-use Rattle.std.proofs.Common.{sym, ◌∙◌, ap₂, subst}
-use Rattle.algebra.specs.Ring.{var, ◌⊕◌, ◌⊖◌, ◌⊗◌}
-use Rattle.algebra.proofs.RingLaws.{ring}
-use Rattle.algebra.proofs.Bound.{Env, []ᵉ, ◌∷ᵉ◌, within}
+use Rattle.std.specs.Prelude.{◌≤◌, ℤ, nat_abs, ◌+ℤ◌, ◌-ℤ◌, ◌*ℤ◌}
 use Rattle.math.specs.declared.Point.{Point}
 use Rattle.math.specs.declared.Vector.{Vector}
-use Rattle.math.specs.Determinant.{InRange, Dot, det2, Minus, Orient2d, Incircle, orient2d, incircle, factor, length2}
 
 unfoldable pub difference : Point → Point → Vector
 difference p q = record { x = p.x -ℤ q.x; y = p.y -ℤ q.y }

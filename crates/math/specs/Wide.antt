@@ -1,17 +1,7 @@
 -- Numbers by three digits base 2 ^ 26, and their sign. A digit but the first is below 2 ^ 26 in absolute value, and may have either sign.
 -- Assumes nothing.
-use Rattle.std.specs.Prelude.{◌≡◌, ℕ, zero, suc, ◌+◌, ◌*◌, ◌-◌, ◌/◌, ◌%◌, ◌<◌, ◌≤◌, T, ℤ, negsuc, neg_ℤ, nat_abs, ◌+ℤ◌, ◌-ℤ◌, ◌*ℤ◌}
-use Rattle.std.proofs.Math.Path.{refl}
-use Rattle.std.proofs.Common.{sym, ◌∙◌, ap, ap₂, zero-le, suc-le-suc, div-add-mod', le_trans, le_of_eq, not-suc-le-zero, lt_of_le_of_lt, lt-ltb, lt→ltb, ltb→lt}
-use mathlib.Core.List.{List, [], ◌∷◌}
-use Rattle.std.proofs.Math.Nat.{le_refl}
-use native.Mathlib.Omega.{arith}
+use Rattle.std.specs.Prelude.{◌≡◌, ℕ, zero, suc, ◌+◌, ◌/◌, ◌≤◌, ℤ, negsuc, nat_abs, ◌+ℤ◌, ◌*ℤ◌}
 use Rattle.std.proofs.Math.IntN.{pos}
-use Rattle.std.specs.Int.Signed.{lt_z, shr_z, lt_z_yes}
-use Rattle.algebra.specs.Ring.{E, num, ◌⊕◌, ◌⊖◌, ◌⊗◌, ⊝◌}
-use Rattle.algebra.proofs.RingLaws.{v0, v1, v2, v3, v4, v5, v6, v7, ring}
-use Rattle.algebra.proofs.Sign.{◌+⁺◌, lt_in, le_in, lt_by, eq-in, eq-by, ◌*⁰◌, ◌+⁰◌}
-use Rattle.algebra.proofs.Bound.{Env, []ᵉ, ◌∷ᵉ◌, within, abs-le, abs-ge}
 use Rattle.math.specs.declared.wide.Digits.{Digits}
 
 -- ---- the sign, as 1, 0 or -1

@@ -10,7 +10,7 @@ ghost use Rattle.math.specs.Vector.{Short, difference, dot_of, cross_of};
 mod wide;
 
 // A point with whole coordinates.
-#[derive(Clone, Copy)]
+#[derive(Clone, Copy, PartialEq, Eq)]
 pub struct Point {
     pub x: i32,
     pub y: i32,
@@ -142,29 +142,19 @@ pub fn is_behind_edge(e1: Point, e2: Point, q: Point) -> bool
 pub fn is_position(a: Point, b: Point) -> bool
     ensures { result ≡ is_position a b }
 {
-    a.x == b.x && a.y == b.y
+    a == b
 }
 
 // Whether a coordinate is within ±16,777,216.
 pub fn validate_coordinate(value: i32) -> bool
     ensures { result ≡ is_valid_coordinate value }
 {
-    if value > 16777216 {
-        return false;
-    }
-    if value < -16777216 {
-        return false;
-    }
-    true
+    value.unsigned_abs() <= 16777216
 }
 
 // Whether both coordinates are.
 pub fn validate_vertex(p: Point) -> bool
     ensures { result ≡ is_valid_vertex p }
 {
-    if validate_coordinate(p.x) {
-        validate_coordinate(p.y)
-    } else {
-        false
-    }
+    validate_coordinate(p.x) && validate_coordinate(p.y)
 }

@@ -1,5 +1,5 @@
 // The sign of x * y + z * w, which can pass 2^98, in 64-bit numbers: by digits base 2^26.
-ghost use Rattle.std.specs.Prelude.{◌≡◌, ◌≤◌, pos, nat_abs, ◌+ℤ◌, ◌*ℤ◌};
+ghost use Rattle.std.specs.Prelude.{◌≡◌, ◌≤◌, nat_abs, ◌+ℤ◌, ◌*ℤ◌};
 ghost use Rattle.math.specs.Wide.{SplitOf, TwoDigits, sgn, high_of, middle_of, low_of, total_of, AtMost51, wide_of};
 
 // hi * 2^26 + lo, where lo is below 2^26 in absolute value.
@@ -16,7 +16,7 @@ pub fn split(x: i64) -> Digits
 {
     let hi = x >> 26;
     let lo = x - hi * 67108864;
-    Digits { hi: hi, lo: lo }
+    Digits { hi, lo }
 }
 
 // The digits of x * y + z * w, before any carry: the high one,
@@ -55,27 +55,19 @@ pub fn carried(hi: i64, mid: i64, lo: i64) -> i64
     if h != 0 { h } else { m.lo * 67108864 + l.lo }
 }
 
-pub fn magnitude(x: i64) -> i64
-    requires { nat_abs x ≤ 36028797018963968 }
-    ensures { result ≡ pos (nat_abs x) }
-{
-    if x < 0 {
-        return 0 - x;
-    }
-    x
-}
-
-pub fn magnitudes(x: i64, y: i64, z: i64, w: i64) -> i64
+// The sum of the magnitudes.
+#[tactic(auto, unfolding(crate::specs::Wide::total_of))]
+pub fn magnitudes(x: i64, y: i64, z: i64, w: i64) -> u64
     requires { AtMost51 x × AtMost51 y × AtMost51 z × AtMost51 w }
-    ensures { result ≡ pos (total_of x y z w) }
+    ensures { result ≡ total_of x y z w }
 {
-    magnitude(x) + magnitude(y) + (magnitude(z) + magnitude(w))
+    x.unsigned_abs() + y.unsigned_abs() + (z.unsigned_abs() + w.unsigned_abs())
 }
 
 // A number with the sign of x * y + z * w, where total is the sum of their magnitudes. The middle and the low digits
 // add less than total / 2^26 + 6 to the high one, so mostly they are left out.
-pub fn sum_sign_wide(x: i64, y: i64, z: i64, w: i64, total: i64) -> i64
-    requires { AtMost51 x × AtMost51 y × AtMost51 z × AtMost51 w × (total ≡ pos (total_of x y z w)) }
+pub fn sum_sign_wide(x: i64, y: i64, z: i64, w: i64, total: u64) -> i64
+    requires { AtMost51 x × AtMost51 y × AtMost51 z × AtMost51 w × (total ≡ total_of x y z w) }
     ensures { sgn result ≡ sgn (x *ℤ y +ℤ z *ℤ w) }
 {
     let a = split(x);
@@ -83,7 +75,7 @@ pub fn sum_sign_wide(x: i64, y: i64, z: i64, w: i64, total: i64) -> i64
     let c = split(z);
     let d = split(w);
     let hi = high(a, b, c, d);
-    if magnitude(hi) > (total >> 26) + 6 {
+    if hi.unsigned_abs() > (total >> 26) + 6 {
         return hi;
     }
     carried(hi, middle(a, b, c, d), low(a, b, c, d))

@@ -1,5 +1,5 @@
 -- Laws of specs/Accepted.antt.
-use Rattle.std.specs.Prelude.{◌≡◌, refl, Bool, true, false, cond, ◌||◌, List, [], ℕ, ◌+◌, ◌-◌, ◌*◌, ◌<◌, ◌≤◌, ℤ, length}
+use Rattle.std.specs.Prelude.{◌≡◌, refl, Bool, true, false, cond, ◌||◌, List, [], ℕ, ◌+◌, ◌-◌, ◌*◌, ◌<◌, ℤ, length, Ok, Err}
 use Rattle.std.proofs.Math.Path.{sym, subst}
 use Rattle.std.proofs.Common.{◌∙◌, ap, le_refl}
 use Rattle.std.proofs.Math.Decide.{dec_lt}
@@ -13,10 +13,8 @@ use Rattle.math.specs.Determinant.{InRange}
 use Rattle.mesh.specs.declared.Counts.{Counts}
 use Rattle.mesh.specs.Mesh.{Links}
 use Rattle.mesh.specs.Area.{LeftTurning}
-use Rattle.mesh.specs.Good.{Good}
 use Rattle.mesh.specs.Wf.{Wf}
-use Rattle.mesh_check.specs.declared.Checked.{Checked}
-use Rattle.mesh_check.specs.declared.Checked.TheVariants.{Accepted, Refused}
+use Rattle.mesh_check.specs.Checked.{Checked}
 use Rattle.mesh_check.specs.declared.Refusal.{Refusal}
 use Rattle.mesh_check.specs.Check.{refused, count_refused, first_outside, places_with, mesh_rows_short, mesh_short, vertex_or_point, check_range, check_faces, check_mesh, check_of, point_count, vertex_count, rows_short, range_with, check_with}
 use Rattle.mesh_check.proofs.CheckLawsFacts.{passes-good, accepted-limits, accepted-passes, passes-accepted, faces-agree, check-agree, then_next, then-refused}
@@ -53,13 +51,13 @@ module _ {n : ℕ} {m : MeshRows} where
       )
 
 module _ {C : Counts} {m : MeshRows} where
-  pub check-accepts : check_of C m ≡ Accepted → AcceptedMesh C m
+  pub check-accepts : check_of C m ≡ Ok tt → AcceptedMesh C m
   unfolding check_of
   check-accepts e =
       let P = accepted-passes e in
       record { least = P.least; most = P.most; rows = not-short-rows P.long; good = passes-good (le_refl C.vertices) P }
 
-  pub accepts-check : AcceptedMesh C m → check_of C m ≡ Accepted
+  pub accepts-check : AcceptedMesh C m → check_of C m ≡ Ok tt
   unfolding check_of
   accepts-check A = passes-accepted (record {
     least = A.least;
@@ -97,19 +95,19 @@ turning-agree {C} {L} {q} {r} W same H = record {
     at {e} l = same (L.origin e) (W.ranges.origin< l)
 
 -- a row that is too short: 1 or 2
-pub short-refused : (points : List ℤ) (C : Counts) (m : MeshRows) → (r : Refusal) × (range_with points true C m ≡ Refused r)
+pub short-refused : (points : List ℤ) (C : Counts) (m : MeshRows) → (r : Refusal) × (range_with points true C m ≡ Err r)
 unfolding range_with check_range
 short-refused points C m =
     let n = vertex_count C points in
     let i = first_outside n (places_with points C m) in
-    go (count_refused n) (cond (ltb i n) (refused 3 i) Accepted)
+    go (count_refused n) (cond (ltb i n) (refused 3 i) (Ok tt))
   where
-    go : (b : Bool) (x : Checked) → (r : Refusal) × (cond b (refused 1 0) (cond true (refused 2 0) x) ≡ Refused r)
+    go : (b : Bool) (x : Checked) → (r : Refusal) × (cond b (refused 1 0) (cond true (refused 2 0) x) ≡ Err r)
     go true x = (_, refl)
     go false x = (_, refl)
 
 module _ (points : List ℤ) (short : Bool) (C : Counts) (m : MeshRows) where
-  pub range-rows : range_with points short C m ≡ Accepted → RowsInLimits C m
+  pub range-rows : range_with points short C m ≡ Ok tt → RowsInLimits C m
   unfolding range_with rows_short vertex_count
   range-rows e =
       let A = accepted-limits e in
@@ -123,23 +121,23 @@ module _ (points : List ℤ) (short : Bool) (C : Counts) (m : MeshRows) where
         range = λ {v} l. subst InRange (vertex-is C.vertices (places_in m) (position_of points) v l) (A.range (omega arith));
       }
 
-  pub range-long : range_with points short C m ≡ Accepted → short ≡ false
+  pub range-long : range_with points short C m ≡ Ok tt → short ≡ false
   unfolding range_with
   range-long e = (or-false short (rows_short (vertex_count C points) points m) (accepted-limits e).long).0
 
   -- a call's five rows are these three, and then the two of its mesh
-  pub with-refused : {r : Refusal} → range_with points short C m ≡ Refused r → Refused r ≡ check_with points short C m
+  pub with-refused : {r : Refusal} → range_with points short C m ≡ Err r → Err r ≡ check_with points short C m
   unfolding range_with check_with check_mesh
   with-refused e = sym (then-refused _ e)
 
-  pub with-next : range_with points short C m ≡ Accepted → check_faces C (links_in m) (places_in m) ≡ check_with points short C m
+  pub with-next : range_with points short C m ≡ Ok tt → check_faces C (links_in m) (places_in m) ≡ check_with points short C m
   unfolding range_with check_with check_mesh
   with-next e =
       sym (then_next _ e
       ∙ faces-agree (vertex-is C.vertices (places_in m) (position_of points)) C (links_in m) (le_refl C.vertices))
 
 module _ {points : List ℤ} {short : Bool} {C : Counts} {m : MeshRows} where
-  pub with-accepts : check_with points short C m ≡ Accepted → AcceptedWith points C m × (short ≡ false)
+  pub with-accepts : check_with points short C m ≡ Ok tt → AcceptedWith points C m × (short ≡ false)
   unfolding check_with rows_short vertex_count
   with-accepts e =
       let P = accepted-passes e in
@@ -163,7 +161,7 @@ module _ {points : List ℤ} {short : Bool} {C : Counts} {m : MeshRows} where
         u.0,
       )
 
-  pub accepts-with : short ≡ false → AcceptedWith points C m → check_with points short C m ≡ Accepted
+  pub accepts-with : short ≡ false → AcceptedWith points C m → check_with points short C m ≡ Ok tt
   unfolding check_with rows_short vertex_count
   accepts-with e A =
       let same = vertex-is C.vertices (places_in m) (position_of points) in

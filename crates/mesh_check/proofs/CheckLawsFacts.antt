@@ -1,6 +1,6 @@
 -- Laws of specs/CheckLaws.antt.
 use Rattle.std.proofs.Math.Path.{◌≡◌, refl, sym, ap}
-use Rattle.std.proofs.Common.{◌∙◌, subst, ltb→lt, lt→ltb}
+use Rattle.std.proofs.Common.{◌∙◌, subst, ltb→lt, lt→ltb, Ok, Err}
 use Rattle.std.specs.Prelude.{Bool, ◌&&◌, ◌||◌, cond, ℕ, ◌*◌, ◌<◌, ◌≤◌, T}
 use Rattle.std.proofs.Math.Bool.{true, false, not}
 use native.Mathlib.Omega.{arith}
@@ -18,8 +18,7 @@ use Rattle.mesh.specs.Rules.{rules}
 use Rattle.mesh.proofs.RulesWf.{rules-wf, wf-rules}
 use Rattle.mesh.specs.Wf.{Wf}
 use Rattle.mesh_check.specs.declared.Refusal.{Refusal}
-use Rattle.mesh_check.specs.declared.Checked.{Checked}
-use Rattle.mesh_check.specs.declared.Checked.TheVariants.{Accepted, Refused}
+use Rattle.mesh_check.specs.Checked.{Checked}
 use Rattle.mesh_check.specs.Check.{refused, count_refused, is_outside, first_outside, turns_left, first_not_left}
 use Rattle.mesh_check.specs.Check.{and_then, check_range, check_faces, check_mesh}
 use Rattle.sums.proofs.BitLaws.{is_true, is_false, from-true, from_false, sure, and_left, and_right, and_both, or_left, or_right}
@@ -28,19 +27,19 @@ use Rattle.sums.proofs.BoundedLaws.{first-below-is, first-below-le, first-below-
 use Rattle.mesh_check.specs.CheckLaws.{NumberedTo, accepts, refuses, Passes, InLimits}
 
 -- ---- one row after the other
-pub then_next : {first : Checked} (next : Checked) → first ≡ Accepted → and_then first next ≡ next
+pub then_next : {first : Checked} (next : Checked) → first ≡ Ok tt → and_then first next ≡ next
 unfolding and_then
 then_next next e = ap (λ (c : Checked). and_then c next) e
 
-pub then-refused : {first : Checked} {r : Refusal} (next : Checked) → first ≡ Refused r → and_then first next ≡ Refused r
+pub then-refused : {first : Checked} {r : Refusal} (next : Checked) → first ≡ Err r → and_then first next ≡ Err r
 unfolding and_then
 then-refused next e = ap (λ (c : Checked). and_then c next) e
 
 -- both let pass
-pub then-accepts : (first next : Checked) → and_then first next ≡ Accepted → (first ≡ Accepted) × (next ≡ Accepted)
+pub then-accepts : (first next : Checked) → and_then first next ≡ Ok tt → (first ≡ Ok tt) × (next ≡ Ok tt)
 unfolding and_then
-then-accepts Accepted next e = (refl, e)
-then-accepts (Refused r) next e = absurd (let z : ◌≡◌ {A = ℕ} 0 1 = cc in omega arith)
+then-accepts (Ok _) next e = (refl, e)
+then-accepts (Err r) next e = absurd (let z : ◌≡◌ {A = ℕ} 0 1 = cc in omega arith)
 
 -- ---- the table, row by row
 module _ (n : ℕ) (short : Bool) (p : ℕ → Point) where
@@ -58,7 +57,7 @@ module _ (n : ℕ) (short : Bool) (p : ℕ → Point) where
       unfolding check_range
       range-outside l = rw (a, b, ← q, lt-ltb i n l)
 
-      pub range-accepted : n ≤ i → Accepted ≡ check_range n short p
+      pub range-accepted : n ≤ i → (Ok tt) ≡ check_range n short p
       unfolding check_range
       range-accepted l = rw (a, b, ← q, le-ltb i n l)
 
@@ -72,11 +71,11 @@ module _ (C : Counts) (L : Links) (p : ℕ → Point) where
     unfolding check_faces
     faces-turn l = rw (d, ← r, lt-ltb f C.faces l)
 
-    pub faces-accepted : C.faces ≤ f → Accepted ≡ check_faces C L p
+    pub faces-accepted : C.faces ≤ f → (Ok tt) ≡ check_faces C L p
     unfolding check_faces
     faces-accepted l = rw (d, ← r, le-ltb f C.faces l)
 
-pub numbered-at : {n : ℕ} {r : Refusal} → NumberedTo n (Refused r) → (1 ≤ r.number) × (r.number ≤ n)
+pub numbered-at : {n : ℕ} {r : Refusal} → NumberedTo n (Err r) → (1 ≤ r.number) × (r.number ≤ n)
 numbered-at (refuses k l) = (k, l)
 
 pub numbered_more : {m n : ℕ} {c : Checked} → m ≤ n → NumberedTo m c → NumberedTo n c
@@ -132,9 +131,9 @@ module _ {n : ℕ} {p q : ℕ → Point} (same : (v : ℕ) → v < n → p v ≡
     where
       go : (t : Bool) → rules C L ≡ t →
           ◌≡◌ {A = Checked} (cond (not (rules C L)) (refused 4 0)
-          (cond (ltb (first_not_left C L p) C.faces) (refused 5 (first_not_left C L p)) Accepted))
+          (cond (ltb (first_not_left C L p) C.faces) (refused 5 (first_not_left C L p)) (Ok tt)))
           (cond (not (rules C L)) (refused 4 0)
-          (cond (ltb (first_not_left C L q) C.faces) (refused 5 (first_not_left C L q)) Accepted))
+          (cond (ltb (first_not_left C L q) C.faces) (refused 5 (first_not_left C L q)) (Ok tt)))
       go true e = rw (not-left-agree (rules-wf C L (from-true e)) k)
       go false e = rw e
 
@@ -188,12 +187,12 @@ unfolding count_refused
 within_count {n} l m = rw (le-ltb n 3 l, le-ltb 1000000 n m)
 
 -- a test that would have refused did not
-pub not-refused : (t : Bool) (r : Refusal) (x : Checked) → cond t (Refused r) x ≡ Accepted → (t ≡ false) × (x ≡ Accepted)
+pub not-refused : (t : Bool) (r : Refusal) (x : Checked) → cond t (Err r) x ≡ Ok tt → (t ≡ false) × (x ≡ Ok tt)
 not-refused true r x e = absurd (let z : ◌≡◌ {A = ℕ} 0 1 = cc in omega arith)
 not-refused false r x e = (refl, e)
 
 module _ {n : ℕ} {short : Bool} {p : ℕ → Point} where
-  pub accepted-limits : check_range n short p ≡ Accepted → InLimits n short p
+  pub accepted-limits : check_range n short p ≡ Ok tt → InLimits n short p
   unfolding check_range
   accepted-limits e =
       let a = not-refused (count_refused n) _ _ e in
@@ -207,7 +206,7 @@ module _ {n : ℕ} {short : Bool} {p : ℕ → Point} where
       }
 
 module _ {n : ℕ} {short : Bool} {C : Counts} {L : Links} {p : ℕ → Point} where
-  pub accepted-passes : check_mesh n short C L p ≡ Accepted → Passes n short C L p
+  pub accepted-passes : check_mesh n short C L p ≡ Ok tt → Passes n short C L p
   unfolding check_mesh check_faces
   accepted-passes e =
       let t = then-accepts (check_range n short p) (check_faces C L p) e in
@@ -223,7 +222,7 @@ module _ {n : ℕ} {short : Bool} {C : Counts} {L : Links} {p : ℕ → Point} w
         turning = all_left C L p (ltb-false (first_not_left C L p) C.faces f.0);
       }
 
-  pub passes-accepted : Passes n short C L p → check_mesh n short C L p ≡ Accepted
+  pub passes-accepted : Passes n short C L p → check_mesh n short C L p ≡ Ok tt
   unfolding check_mesh
   passes-accepted P =
       then_next (check_faces C L p)

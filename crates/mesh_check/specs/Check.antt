@@ -2,7 +2,7 @@
 -- first row that applies is answered."
 -- Definitions only; what they say is in `CheckLaws`. All five calls share them: a call has the seed's mesh and the
 -- points that it is given, which for check, locate and finish are none.
-use Rattle.std.specs.Prelude.{Bool, not, ◌&&◌, ◌||◌, cond, List, ℕ, ◌+◌, ◌-◌, ◌*◌, ◌/◌, ltb, ℤ, pos, length}
+use Rattle.std.specs.Prelude.{Bool, not, ◌&&◌, ◌||◌, cond, List, ℕ, ◌+◌, ◌-◌, ◌*◌, ◌/◌, ltb, ℤ, pos, length, Ok, Err}
 use Rattle.std.specs.Int.Signed.{lt_z}
 use Rattle.dcel.specs.MeshRows.{MeshRows, links_in, places_in}
 use Rattle.dcel.specs.Rows.{position_of}
@@ -12,13 +12,16 @@ use Rattle.mesh.specs.declared.Counts.{Counts}
 use Rattle.mesh.specs.Mesh.{Links}
 use Rattle.mesh.specs.Area.{at_corners}
 use Rattle.mesh.specs.Rules.{rules}
-use Rattle.mesh_check.specs.declared.Checked.{Checked}
-use Rattle.mesh_check.specs.declared.Checked.TheVariants.{Accepted, Refused}
+use Rattle.mesh_check.specs.Checked.{Checked}
+use Rattle.mesh_check.specs.declared.Refusal.{Refusal}
 use Rattle.sums.specs.Bounded.{first_below}
 
 -- 01: "All but 9 .. answer the number and a place (0 where none is named)."
+abbrev pub refusal_at : ℕ → ℕ → Refusal
+refusal_at number place = record { number = number; place = place }
+
 abbrev pub refused : ℕ → ℕ → Checked
-refused number place = Refused (record { number = number; place = place })
+refused number place = Err (refusal_at number place)
 
 -- 1: "fewer than 3 or more than 1,000,000 vertices, seed plus points"
 unfoldable pub count_refused : ℕ → Bool
@@ -50,8 +53,8 @@ first_not_left C L p = first_below C.faces (λ f. ltb 0 f && not (turns_left L p
 
 -- 01: "the first row that applies is answered": the rows of `next` come after those of `first`
 unfoldable pub and_then : Checked → Checked → Checked
-and_then Accepted next = next
-and_then (Refused r) next = Refused r
+and_then (Ok _) next = next
+and_then (Err r) next = Err r
 
 -- the table's first three rows. n: "seed plus points"; short: a row of the call is shorter than its size for n; p: the vertices' positions,
 -- the points' after them
@@ -60,14 +63,14 @@ check_range n short p =
     cond (count_refused n) (refused 1 0)
     (cond short (refused 2 0)
     (cond (ltb (first_outside n p) n) (refused 3 (first_outside n p))
-    Accepted))
+    (Ok tt)))
 
 -- the next two. A link outside the counts, or counts that the rows could not hold, break a mesh rule: 4
 unfoldable pub check_faces : Counts → Links → (ℕ → Point) → Checked
 check_faces C L p =
     cond (not (rules C L)) (refused 4 0)
     (cond (ltb (first_not_left C L p) C.faces) (refused 5 (first_not_left C L p))
-    Accepted)
+    (Ok tt))
 
 unfoldable pub check_mesh : ℕ → Bool → Counts → Links → (ℕ → Point) → Checked
 check_mesh n short C L p = and_then (check_range n short p) (check_faces C L p)

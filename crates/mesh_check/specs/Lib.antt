@@ -1,3 +1,4 @@
+pub mod Checked
 pub mod Check
 pub mod Readable
 pub mod CheckLaws

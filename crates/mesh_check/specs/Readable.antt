@@ -1,6 +1,6 @@
 -- What the sweep over the inner faces asks of the rows: an accepted mesh's corners can be read. Definitions only;
 -- laws in `ReadableLaws`.
-use Rattle.std.specs.Prelude.{ℕ, ◌+◌, ◌*◌, ◌<◌, ◌≤◌, List, ℤ, length}
+use Rattle.std.specs.Prelude.{ℕ, ◌<◌, ◌≤◌, List, ℤ, length}
 use Rattle.dcel.specs.Rows.{There, Placed, halves_of, row_of}
 use Rattle.mesh.specs.declared.Counts.{Counts}
 

@@ -1,5 +1,6 @@
 -- The rows of the table as `check_range` and `check_faces` meet them: what each answer says, and what the next function may read. Assumes
 -- nothing.
+use Rattle.std.specs.Prelude.{Ok}
 use mathlib.Core.Path.{◌≡◌}
 use mathlib.Core.Bool.{Bool, true, false, ◌||◌}
 use mathlib.Core.List.{List}
@@ -14,7 +15,6 @@ use Rattle.dcel.specs.Rows.{Placed}
 use Rattle.mesh.specs.declared.Counts.{Counts}
 use Rattle.mesh.specs.Rules.{rules}
 use Rattle.mesh.proofs.RulesWf.{rules-wf}
-use Rattle.mesh_check.specs.declared.Checked.TheVariants.{Accepted}
 use Rattle.mesh_check.specs.Accepted.{MeshSizes, RowsInLimits}
 use Rattle.mesh_check.proofs.AcceptedLaws.{or-false, not-short-rows}
 use Rattle.mesh_check.specs.Check.{refused, count_refused, mesh_short, first_outside, places_with, point_count, vertex_count, rows_short, range_with}
@@ -75,7 +75,7 @@ module _ (points : List ℤ) (short : Bool) (C : Counts) (m : MeshRows) {n : ℕ
           unfolding range_with
           with-outside l = range-outside (vertex_count C points) shorts (places_with points C m) e' b' q' (rw ns at l)
 
-          pub with-range : n ≤ i → Accepted ≡ range_with points short C m
+          pub with-range : n ≤ i → (Ok tt) ≡ range_with points short C m
           unfolding range_with
           with-range l = range-accepted (vertex_count C points) shorts (places_with points C m) e' b' q' (rw ns at l)
 

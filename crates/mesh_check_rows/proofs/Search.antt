@@ -34,8 +34,8 @@ missed_more t k M e = record { before = λ j l u. go j l u (ℕ_discrete j k) }
 pub found : (t : ℕ → Bool) (k n : ℕ) → k < n → Missed t k → t k ≡ true → k ≡ first_below n t
 found t k n l M e = sym (first-below-is n t (omega arith) (λ _. from-true e) M.before)
 
-pub found_none : (t : ℕ → Bool) (k n : ℕ) → k ≡ n → Missed t k → k ≡ first_below n t
-found_none t k n e M = e ∙ sym (first-below-is n t (le_refl n) (λ l. absurd (omega arith)) (λ j l. M.before j (omega arith)))
+pub found_none : (t : ℕ → Bool) (k n : ℕ) → k ≡ n → Missed t k → n ≡ first_below n t
+found_none t k n e M = sym (first-below-is n t (le_refl n) (λ l. absurd (omega arith)) (λ j l. M.before j (omega arith)))
 
 -- ---- a row of points, by whether its last number stands alone
 module _ (points : List ℤ) where

@@ -10,20 +10,17 @@ ghost use Rattle.dcel.specs.Rows.{links_of, position_of};
 ghost use Rattle.math.specs.Determinant.{orient2d};
 ghost use Rattle.mesh.specs.Area.{at_corners};
 ghost use Rattle.mesh_check.specs.Accepted.{RowsInLimits};
-ghost use Rattle.mesh_check.specs.Check.{count_refused, mesh_rows_short, first_outside, vertex_or_point, turns_left, first_not_left, refused};
+ghost use Rattle.mesh_check.specs.Check.{count_refused, mesh_rows_short, first_outside, vertex_or_point, turns_left, first_not_left};
 ghost use Rattle.mesh_check.specs.Check.{rows_short, check_faces, check_of, range_with, check_with};
 ghost use Rattle.mesh_check.specs.Readable.{Corners, Readable};
 
 use mesh::Counts;
-use mesh_check::{Checked, Refusal};
+use mesh_check::Refusal;
 
 fn count_refused(n: usize) -> bool
     ensures { result ≡ count_refused n }
 {
-    if n < 3 {
-        return true;
-    }
-    n > 1000000
+    n < 3 || n > 1000000
 }
 
 // One of the mesh's rows, given by their lengths, is too short for n vertices.
@@ -66,15 +63,12 @@ pub fn first_outside(row: &[i32], count: u32) -> u32
     requires { 2 * count ≤ length row.now }
     ensures { result ≡ first_outside count (position_of row.now) }
 {
-    let mut v: u32 = 0;
-    while v < count {
-        let p = dcel::position(row, v);
-        if !math::validate_vertex(p) {
+    for v in 0..count {
+        if !math::validate_vertex(dcel::position(row, v)) {
             return v;
         }
-        v += 1;
     }
-    v
+    count
 }
 
 // The same over the seed's s vertices and the m points after them.
@@ -121,25 +115,12 @@ fn first_not_left(positions: &[i32], halves: &[u32], faces: &[u32], counts: Coun
         → result ≡ first_not_left counts (links_of o halves.now faces.now)
         (position_of positions.now) }
 {
-    let count = counts.faces;
-    let mut f: u32 = 1;
-    while f < count {
-        let a = dcel::adjacent(faces, f);
-        if !turns_left(positions, halves, a) {
+    for f in 1..counts.faces {
+        if !turns_left(positions, halves, dcel::adjacent(faces, f)) {
             return f;
         }
-        f += 1;
     }
-    f
-}
-
-fn refuse(number: u32, place: u32) -> Checked
-    ensures { result ≡ refused number place }
-{
-    Checked::Refused(Refusal {
-        number: number,
-        place: place,
-    })
+    counts.faces
 }
 
 // Rows 1 to 3 of the table, for a call that is also given points, none or more. `short`: another row of the call is too short.
@@ -151,26 +132,26 @@ pub fn check_range(
     outs: &[u32],
     halves: &[u32],
     faces: &[u32],
-) -> Checked
+) -> Result<(), Refusal>
     ensures { result ≡ range_with points.now short counts
         (mesh_rows positions.now outs.now halves.now faces.now) }
 {
     let n = mesh_check::vertex_count(counts, points);
     if count_refused(n) {
-        return refuse(1, 0);
+        return Err(Refusal::of_call(1));
     }
     if short {
-        return refuse(2, 0);
+        return Err(Refusal::of_call(2));
     }
     if rows_short(n, points, positions, outs, halves, faces) {
-        return refuse(2, 0);
+        return Err(Refusal::of_call(2));
     }
     let m = mesh_check::point_count(points) as u32;
     let i = first_outside_with(positions, counts.vertices, points, m);
     if (i as usize) < n {
-        return refuse(3, i);
+        return Err(Refusal::at(3, i));
     }
-    Checked::Accepted
+    Ok(())
 }
 
 // Rows 4 and 5, of rows that are long enough for positions in range.
@@ -180,19 +161,19 @@ fn check_faces(
     outs: &[u32],
     halves: &[u32],
     faces: &[u32],
-) -> Checked
+) -> Result<(), Refusal>
     requires { RowsInLimits counts (mesh_rows positions.now outs.now halves.now faces.now) }
     ensures { result ≡ check_faces counts (links_of outs.now halves.now faces.now)
         (position_of positions.now) }
 {
     if !mesh_rules::mesh_rules(outs, halves, faces, counts) {
-        return refuse(4, 0);
+        return Err(Refusal::of_call(4));
     }
     let f = first_not_left(positions, halves, faces, counts);
     if f < counts.faces {
-        return refuse(5, f);
+        return Err(Refusal::at(5, f));
     }
-    Checked::Accepted
+    Ok(())
 }
 
 // Rows 1 to 5, for a call that is also given points.
@@ -204,14 +185,12 @@ pub fn check_with(
     outs: &[u32],
     halves: &[u32],
     faces: &[u32],
-) -> Checked
+) -> Result<(), Refusal>
     ensures { result ≡ check_with points.now short counts
         (mesh_rows positions.now outs.now halves.now faces.now) }
 {
-    match check_range(points, short, counts, positions, outs, halves, faces) {
-        Checked::Refused(r) => Checked::Refused(r),
-        Checked::Accepted => check_faces(counts, positions, outs, halves, faces),
-    }
+    check_range(points, short, counts, positions, outs, halves, faces)?;
+    check_faces(counts, positions, outs, halves, faces)
 }
 
 // The public call: does a lent mesh keep the rules, turn left everywhere and stay in range?
@@ -221,7 +200,7 @@ pub fn check(
     outs: &[u32],
     halves: &[u32],
     faces: &[u32],
-) -> Checked
+) -> Result<(), Refusal>
     ensures { result ≡ check_of counts
         (mesh_rows positions.now outs.now halves.now faces.now) }
 {

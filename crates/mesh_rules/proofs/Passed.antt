@@ -1,7 +1,7 @@
 -- A loop that tests number by number: what it has passed, where it stops, and what it says at its end. And what a sweep over the half-edges leaves behind.
 -- Assumes nothing.
 use mathlib.Core.Path.{◌≡◌, sym, subst}
-use mathlib.Core.Bool.{Bool, true, false}
+use mathlib.Core.Bool.{Bool, false}
 use mathlib.Core.List.{List, []}
 use Prim.Native.Nat.{ℕ, suc, ◌+◌, ◌*◌, ◌<◌}
 use native.Mathlib.Numerals.{add-one}
@@ -10,7 +10,7 @@ use Rattle.dcel.specs.Rows.{halves_of, links_of}
 use Rattle.mesh.specs.declared.Counts.{Counts}
 use Rattle.mesh_rules.specs.Holds.{half_edge_holds, HalvesHold}
 use Rattle.mesh_rules.specs.HoldsRules.{Half, half_of}
-use Rattle.sums.proofs.BitLaws.{is_true, is_false}
+use Rattle.sums.proofs.BitLaws.{is_false}
 use Rattle.sums.specs.Bounded.{all_below}
 use Rattle.sums.proofs.BoundedLaws.{all-below→, all-below←, up_to}
 use Rattle.sums.specs.Half.{rev}
@@ -28,9 +28,6 @@ passed-more n p h t = rw add-one (all-below← (suc n) p (up_to {P = λ i. T (p 
 
 pub stopped : (k n : ℕ) (p : ℕ → Bool) → k < n → false ≡ p k → false ≡ all_below n p
 stopped k n p l e = sym (is_false (all_below n p) (λ t. subst T (sym e) (all-below→ n p t k l)))
-
-pub passed-all : (n m : ℕ) (p : ℕ → Bool) → n ≡ m → T (all_below n p) → true ≡ all_below m p
-passed-all n m p e h = sym (is_true (all_below m p) (rw e at h))
 
 -- ---- after the sweep over the half-edges
 module _ {C : Counts} {h : List ℕ} (S : HalvesHold C h) where

@@ -1,12 +1,11 @@
 -- What the tests of a half-edge, of a face and of a vertex come to, by what was read. Assumes nothing.
 use mathlib.Core.Path.{◌≡◌, ◌∙◌, subst}
-use mathlib.Core.Logic.{◌≢◌}
 use mathlib.Core.Bool.{true, false, ◌&&◌}
 use mathlib.Core.List.{List}
 use Prim.Native.Nat.{ℕ, ◌+◌, ◌*◌, ◌<◌, ◌≤◌}
 use native.Mathlib.Numerals.{add-one}
 use native.Mathlib.Omega.{arith}
-use borrow.Author.Tests.{lt-ltb, le-ltb, eq-eqb, ne_eqb}
+use borrow.Author.Tests.{lt-ltb}
 use lib.ListN.{length}
 use lib.Dec.{T, ltb, leb, eqb, ltb→lt, leb→le, eqb→eq}
 use Rattle.dcel.specs.declared.handles.HalfEdgeEntry.{HalfEdgeEntry}
@@ -14,8 +13,6 @@ use Rattle.dcel.specs.Rows.{halves_of, row_of, links_of, EntryOf}
 use Rattle.mesh.specs.declared.Counts.{Counts}
 use Rattle.mesh.specs.Mesh.{Links, turn}
 use Rattle.mesh.specs.Rules.{rules, every, half_edge_in_use, half_edge_linked}
-use Rattle.mesh.specs.Mesh.{Links, turn}
-use Rattle.mesh.proofs.RulesWf.{each_of}
 use Rattle.mesh_rules.specs.Holds.{use_tests, link_tests, has_side, half_edge_holds, vertex_holds, face_holds, inner_face_holds, outer_holds, faces_whole, vertices_whole, vertices_hold, counts_hold, all_hold, RowsThere, HalvesThere}
 use Rattle.mesh_rules.specs.HoldsRules.{based-of, wide_of, all-hold-rules}
 use Rattle.sums.proofs.BitLaws.{is_true, from-true, and_left, and_right}
@@ -26,13 +23,6 @@ use Rattle.sums.specs.Orbits.{orbit_total}
 use Rattle.sums.proofs.OrbitsLaws.{orbit-total-suc}
 
 -- ---- a half-edge
-module _ (C : Counts) (w : HalfEdgeEntry) (u : every (use_tests C w) ≡ true) where
-  pub next-used : w.next < 2 * C.edges
-  next-used = ltb→lt w.next (2 * C.edges) (each_of (use_tests C w) (from-true u)).0
-
-  pub prev-used : w.prev < 2 * C.edges
-  prev-used = ltb→lt w.prev (2 * C.edges) (each_of (use_tests C w) (from-true u)).1.0
-
 module _ (C : Counts) (o h a : List ℕ) {e : ℕ} {w : HalfEdgeEntry} (E : EntryOf (halves_of h) e w) where
   use-is : half_edge_in_use C (links_of o h a) e ≡ every (use_tests C w)
   unfolding half_edge_in_use links_of
@@ -56,31 +46,7 @@ module _ (C : Counts) (o h a : List ℕ) {e : ℕ} {w : HalfEdgeEntry} (E : Entr
     unfolding half_edge_holds links_of
     half-linked k = rw (use-is, u, link-is, k, ← r, E.face, O.face)
 
--- ---- a face, whose stored edge is a
-module _ (C : Counts) (o h s : List ℕ) (f : ℕ) {a : ℕ} (p : a ≡ row_of s f) where
-  pub face-far : 2 * C.edges ≤ a → false ≡ face_holds C (links_of o h s) f
-  unfolding face_holds links_of
-  face-far l = rw (← p, le-ltb a (2 * C.edges) l)
-
-  module _ (l : a < 2 * C.edges) {w : HalfEdgeEntry} (E : EntryOf (halves_of h) a w) where
-    pub face-other : w.face ≢ f → false ≡ face_holds C (links_of o h s) f
-    unfolding face_holds links_of
-    face-other n = rw (← p, lt-ltb a (2 * C.edges) l, ← E.face, ne_eqb w.face f n)
-
-    module _ (q : w.face ≡ f) where
-      pub face-loop : w.next ≡ a → false ≡ face_holds C (links_of o h s) f
-      unfolding face_holds links_of
-      face-loop r = rw (← p, lt-ltb a (2 * C.edges) l, ← E.face, eq-eqb w.face f q, ← E.next, eq-eqb w.next a r)
-
-      module _ (r : w.next ≢ a) {c d : ℕ} (cs : c ≡ (halves_of h).next w.next) (ds : d ≡ (halves_of h).next c) where
-        pub face-long : d ≢ a → false ≡ face_holds C (links_of o h s) f
-        unfolding face_holds links_of
-        face-long n = rw (← p, lt-ltb a (2 * C.edges) l, ← E.face, eq-eqb w.face f q, ← E.next, ne_eqb w.next a r, ← cs, ← ds, ne_eqb d a n)
-
-        pub face-three : d ≡ a → true ≡ face_holds C (links_of o h s) f
-        unfolding face_holds links_of
-        face-three n = rw (← p, lt-ltb a (2 * C.edges) l, ← E.face, eq-eqb w.face f q, ← E.next, ne_eqb w.next a r, ← cs, ← ds, eq-eqb d a n)
-
+-- ---- a face
 -- the test of an inner face says nothing of face 0
 pub first-face : (C : Counts) (L : Links) → T (inner_face_holds C L 0)
 unfolding inner_face_holds
@@ -90,31 +56,8 @@ pub inner-face : (C : Counts) (L : Links) (f : ℕ) → 0 < f → face_holds C L
 unfolding inner_face_holds
 inner-face C L f l = rw (lt-ltb 0 f l)
 
--- ---- the outer face
+-- ---- the outer face, whose stored edge is a
 module _ (C : Counts) (o h s : List ℕ) {a : ℕ} (p : a ≡ row_of s 0) where
-  pub outer-far : 2 * C.edges ≤ a → false ≡ outer_holds C (links_of o h s)
-  unfolding outer_holds links_of
-  outer-far l = rw (← p, le-ltb a (2 * C.edges) l)
-
-  module _ (l : a < 2 * C.edges) {w : HalfEdgeEntry} (E : EntryOf (halves_of h) a w) where
-    pub outer-other : w.face ≢ 0 → false ≡ outer_holds C (links_of o h s)
-    unfolding outer_holds links_of
-    outer-other n = rw (← p, lt-ltb a (2 * C.edges) l, ← E.face, ne_eqb w.face 0 n)
-
-    module _ (q : w.face ≡ 0) where
-      pub outer-loop : w.next ≡ a → false ≡ outer_holds C (links_of o h s)
-      unfolding outer_holds links_of
-      outer-loop r = rw (← p, lt-ltb a (2 * C.edges) l, ← E.face, eq-eqb w.face 0 q, ← E.next, eq-eqb w.next a r)
-
-      module _ (r : w.next ≢ a) {c : ℕ} (cs : c ≡ (halves_of h).next w.next) where
-        pub outer-two : c ≡ a → false ≡ outer_holds C (links_of o h s)
-        unfolding outer_holds links_of
-        outer-two n = rw (← p, lt-ltb a (2 * C.edges) l, ← E.face, eq-eqb w.face 0 q, ← E.next, ne_eqb w.next a r, ← cs, eq-eqb c a n)
-
-        pub outer-wide : c ≢ a → true ≡ outer_holds C (links_of o h s)
-        unfolding outer_holds links_of
-        outer-wide n = rw (← p, lt-ltb a (2 * C.edges) l, ← E.face, eq-eqb w.face 0 q, ← E.next, ne_eqb w.next a r, ← cs, ne_eqb c a n)
-
   -- no half-edge is left over
   pub whole_is : {k : ℕ} → k ≡ period_below (2 * C.edges) (links_of o h s).next a → eqb (k + 3 * C.faces) (2 * C.edges + 3) ≡ faces_whole C (links_of o h s)
   unfolding faces_whole links_of
@@ -122,14 +65,6 @@ module _ (C : Counts) (o h s : List ℕ) {a : ℕ} (p : a ≡ row_of s 0) where
 
 -- ---- a vertex, whose out edge is e
 module _ (C : Counts) (o h a : List ℕ) (v : ℕ) {e : ℕ} (p : e ≡ row_of o v) where
-  pub vertex-far : 2 * C.edges ≤ e → false ≡ vertex_holds C (links_of o h a) v
-  unfolding vertex_holds links_of
-  vertex-far l = rw (← p, le-ltb e (2 * C.edges) l)
-
-  pub vertex-based : e < 2 * C.edges → {w : ℕ} → w ≡ (halves_of h).origin e → eqb w v ≡ vertex_holds C (links_of o h a) v
-  unfolding vertex_holds links_of
-  vertex-based l q = rw (← p, lt-ltb e (2 * C.edges) l, ← q)
-
   pub vertex-in : T (vertex_holds C (links_of o h a) v) → e < 2 * C.edges
   unfolding links_of
   vertex-in t = let b = (based-of C (links_of o h a) v t).here in let q = p in omega arith

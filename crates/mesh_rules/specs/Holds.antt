@@ -1,6 +1,6 @@
 -- What the sweeps of this crate answer, in the order in which they look: each is a test that needs no memory of what
 -- was met, and together they are `rules` (`SweepRules`). Definitions only.
-use Rattle.std.specs.Prelude.{Bool, not, ◌&&◌, ◌||◌, List, [], ◌∷◌, ℕ, ◌+◌, ◌*◌, ◌<◌, ◌≤◌, ◌^◌, T, ltb, leb, eqb, length}
+use Rattle.std.specs.Prelude.{◌≡◌, Bool, not, ◌&&◌, ◌||◌, List, [], ◌∷◌, ℕ, ◌+◌, ◌*◌, ◌<◌, ◌≤◌, ◌^◌, T, ltb, leb, eqb, length}
 use Rattle.dcel.specs.declared.handles.HalfEdgeEntry.{HalfEdgeEntry}
 use Rattle.dcel.specs.Rows.{links_of}
 use Rattle.mesh.specs.declared.Counts.{Counts}
@@ -89,3 +89,7 @@ pub record RowsThere (C : Counts) (o h a : List ℕ) : Type 0 where
   pub halves : 24 * C.vertices ≤ length h
   pub faces : 2 * C.vertices ≤ length a
   pub small : C.vertices ≤ 1000000
+
+-- what a step from a number below n leads to is f of it: `post` says what the step may answer
+abbrev pub Computes : (ℕ → ℕ → Type 0) → ℕ → (ℕ → ℕ) → Type 0
+Computes post n f = (e r : ℕ) → e < n → post e r → r ≡ f e

@@ -1,6 +1,6 @@
 -- The bits of a word: a power of two that is added to a word without it, or taken from a word with it, changes that bit alone. Assumes nothing.
 use Rattle.std.specs.Prelude.{◌≢◌, ◌≡◌, refl, ℕ, zero, suc, ◌+◌, ◌-◌, ◌*◌, ◌/◌, ◌%◌, ◌^◌, ◌≤◌, ◌<◌}
-use Rattle.std.proofs.Common.{sym, ◌∙◌, ap, subst, pow-suc, mul_comm, arith}
+use Rattle.std.proofs.Common.{sym, ◌∙◌, ap, pow-suc, mul_comm, arith}
 use Rattle.std.proofs.Math.Nat.{div-div-eq-div-mul}
 use Rattle.pending.specs.Set.{bit_of}
 

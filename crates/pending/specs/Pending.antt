@@ -12,10 +12,6 @@ unfoldable pub contains : ℕ → List ℕ → Bool
 contains u [] = false
 contains u (v ∷ l) = eqb u v || contains u l
 
--- u is one of four
-unfoldable pub one_of : ℕ → ℕ → ℕ → ℕ → ℕ → Bool
-one_of u a b c d = eqb u a || (eqb u b || (eqb u c || eqb u d))
-
 -- `push_if_not_contained`
 unfoldable pub push_if_not_contained : ℕ → List ℕ → List ℕ
 push_if_not_contained u l = cond (contains u l) l (u ∷ l)

@@ -5,10 +5,11 @@
 #![tactic(auto)]
 
 ghost use Rattle.std.specs.Prelude.{◌≡◌, true, false, List, ◌∷◌, ℕ, ◌+◌, ◌-◌, ◌/◌, ◌%◌, ◌^◌, ◌<◌, ◌≤◌, ltb, length, get_or, set};
-ghost use Rattle.pending.specs.Pending.{pending_of, contains, one_of, push_if_not_contained, Holds};
-ghost use Rattle.pending.specs.Set.{word_at, is_marked, Marks, SetOf, Becomes, ToPop, LastTaken, Cleared, MarkedTo};
+ghost use Rattle.pending.specs.Pending.{pending_of, contains, push_if_not_contained, Holds};
+ghost use Rattle.pending.specs.Set.{set_words, word_at, is_marked, Marks, SetOf, Becomes, ToPop, LastTaken, Cleared, MarkedTo};
 
 // The list's value: its length; how many entries may be looked through before a set of them is made; and whether there is one.
+// `looks` and `set` stand side by side, as `SetOf` of specs/Set.antt and `plain` of the crate legalize have them.
 #[derive(Clone, Copy)]
 pub struct PendingList {
     pub length: usize,
@@ -41,57 +42,15 @@ pub fn last(pending: &[u32], n: usize) -> u32
     pending[n - 1]
 }
 
-// Whether x is one of four.
-fn is_one_of(x: u32, a: u32, b: u32, c: u32, d: u32) -> bool
-    ensures { result ≡ one_of x a b c d }
-{
-    if x == a {
-        return true;
-    }
-    if x == b {
-        return true;
-    }
-    if x == c {
-        return true;
-    }
-    x == d
-}
-
-// Whether x is among n entries, one by one.
-fn contains_few(pending: &[u32], n: usize, x: u32) -> bool
-    requires { n ≤ length pending.now }
-    ensures { result ≡ contains x (pending_of pending.now n) }
-{
-    let mut i = n;
-    while i > 0 {
-        if x == pending[i - 1] {
-            return true;
-        }
-        i -= 1;
-    }
-    false
-}
-
-// Whether x is among n entries: four at a time, so that one branch does for four.
+// Whether x is among n entries.
 pub fn contains(pending: &[u32], n: usize, x: u32) -> bool
     requires { n ≤ length pending.now }
     ensures { result ≡ contains x (pending_of pending.now n) }
 {
-    let mut i = n;
-    while i >= 4 {
-        let a = pending[i - 1];
-        let b = pending[i - 2];
-        let c = pending[i - 3];
-        let d = pending[i - 4];
-        if is_one_of(x, a, b, c, d) {
-            return true;
-        }
-        i -= 4;
-    }
-    contains_few(pending, i, x)
+    pending[..n].contains(&x)
 }
 
-// The new length, which is past the row's end where the list with x no longer fits it.
+// The new length, which is past the row's end where the list with x no longer fits it: `Holds` of specs/Pending.antt says so of a number.
 pub fn push(pending: &mut [u32], n: usize, x: u32) -> usize
     ensures { (l : List ℕ) → Holds pending.old n l → Holds pending.new result (x ∷ l) }
 {
@@ -117,12 +76,27 @@ pub fn list_of(n: usize, edges: u32) -> PendingList
     }
 }
 
+// How many words a set of the numbers below `edges` takes.
+fn set_words(edges: u32) -> usize
+    ensures { result ≡ set_words edges }
+{
+    (edges / 32) as usize + 1
+}
+
+// The place of the word that has the bit of x.
+fn word_at(pending: &[u32], x: u32) -> usize
+    requires { x / 32 < length pending.now }
+    ensures { result ≡ word_at pending.now x }
+{
+    pending.len() - 1 - (x / 32) as usize
+}
+
 // Whether the set has x.
 fn is_marked(pending: &[u32], x: u32) -> bool
     requires { x / 32 < length pending.now }
     ensures { result ≡ is_marked pending.now x }
 {
-    let word = pending[pending.len() - 1 - (x / 32) as usize];
+    let word = pending[word_at(pending, x)];
     (word >> (x % 32)) % 2 == 1
 }
 
@@ -132,8 +106,8 @@ fn mark(pending: &mut [u32], x: u32)
     ensures { pending.new ≡ set pending.old (word_at pending.old x)
         (get_or pending.old (word_at pending.old x) 0 + 2 ^ (x % 32)) }
 {
-    let at = pending.len() - 1 - (x / 32) as usize;
-    pending[at] = pending[at] + (1 << (x % 32));
+    let at = word_at(pending, x);
+    pending[at] += 1 << (x % 32);
 }
 
 // Takes x out of the set, which has it.
@@ -142,8 +116,8 @@ fn unmark(pending: &mut [u32], x: u32)
     ensures { pending.new ≡ set pending.old (word_at pending.old x)
         (get_or pending.old (word_at pending.old x) 0 - 2 ^ (x % 32)) }
 {
-    let at = pending.len() - 1 - (x / 32) as usize;
-    pending[at] = pending[at] - (1 << (x % 32));
+    let at = word_at(pending, x);
+    pending[at] -= 1 << (x % 32);
 }
 
 // The last entry is taken from the list, and from the set. The numbers are below `edges`.
@@ -151,20 +125,17 @@ pub fn pop(pending: &mut [u32], list: PendingList, edges: u32) -> Taken
     requires { ToPop pending.old list edges }
     ensures { LastTaken pending.old list pending.new result.entry result.list edges }
 {
-    let n = list.length - 1;
-    let x = pending[n];
-    let set = list.set;
+    let PendingList { length, set, .. } = list;
+    let entry = pending[length - 1];
     if set {
-        unmark(pending, x);
+        unmark(pending, entry);
     }
-    let rest = PendingList {
-        length: n,
-        looks: list.looks,
-        set: set,
-    };
     Taken {
-        entry: x,
-        list: rest,
+        entry,
+        list: PendingList {
+            length: length - 1,
+            ..list
+        },
     }
 }
 
@@ -173,11 +144,7 @@ fn clear_words(pending: &mut [u32], from: usize)
     requires { from ≤ length pending.old }
     ensures { Cleared pending.old pending.new from (length pending.old) }
 {
-    let mut i = from;
-    while i < pending.len() {
-        pending[i] = 0;
-        i += 1;
-    }
+    pending[from..].fill(0);
 }
 
 // Puts the first n entries into a set of the numbers below `edges`, whose words are zeros, unless one stands twice or is no such number.
@@ -186,17 +153,12 @@ fn mark_entries(pending: &mut [u32], n: usize, edges: u32) -> bool
     ensures { (pending_of pending.new n ≡ pending_of pending.old n)
         × (result ≡ true → Marks pending.new n edges) }
 {
-    let mut i = 0;
-    while i < n {
+    for i in 0..n {
         let x = pending[i];
-        if x >= edges {
-            return false;
-        }
-        if is_marked(pending, x) {
+        if x >= edges || is_marked(pending, x) {
             return false;
         }
         mark(pending, x);
-        i += 1;
     }
     true
 }
@@ -207,7 +169,7 @@ fn make_set(pending: &mut [u32], list: PendingList, edges: u32) -> PendingList
 {
     let n = list.length;
     let none = list_of(n, edges);
-    let words = (edges / 32) as usize + 1;
+    let words = set_words(edges);
     if words > pending.len() {
         return none;
     }
@@ -232,17 +194,13 @@ fn prepare(pending: &mut [u32], list: PendingList, edges: u32) -> PendingList
     ensures { Becomes pending.old list pending.new result edges (λ l. l) }
 {
     let n = list.length;
-    if n < FEW {
-        return list;
-    }
-    if list.set {
+    if n < FEW || list.set {
         return list;
     }
     if n < list.looks {
         return PendingList {
-            length: n,
             looks: list.looks - n,
-            set: false,
+            ..list
         };
     }
     make_set(pending, list, edges)
@@ -265,11 +223,10 @@ fn push_missing(pending: &mut [u32], n: usize, x: u32) -> usize
 fn push_looking(pending: &mut [u32], list: PendingList, x: u32) -> PendingList
     ensures { (edges : ℕ) → Becomes pending.old list pending.new result edges (push_if_not_contained x) }
 {
-    let m = push_missing(pending, list.length, x);
     PendingList {
-        length: m,
-        looks: list.looks,
+        length: push_missing(pending, list.length, x),
         set: false,
+        ..list
     }
 }
 
@@ -285,16 +242,14 @@ fn push_marking(pending: &mut [u32], list: PendingList, edges: u32, x: u32) -> P
         return list;
     }
     let n = list.length;
-    if pending.len() - n <= (edges / 32) as usize + 1 {
-        let m = push(pending, n, x);
-        return list_of(m, edges);
+    if pending.len() - n <= set_words(edges) {
+        return list_of(push(pending, n, x), edges);
     }
     mark(pending, x);
     pending[n] = x;
     PendingList {
         length: n + 1,
-        looks: list.looks,
-        set: list.set,
+        ..list
     }
 }
 

@@ -14,20 +14,42 @@ use dcel::handles::HalfEdgeEntry;
 use grid::Grid;
 use math::Point;
 
-// The points of a block, and their coordinates.
+// The points of a block.
 pub const BLOCK: usize = 32;
 
-const BLOCK_COORDINATES: usize = 64;
-
-// The half-edges that are looked at together, six for each point, and the coordinates of as many positions.
+// The half-edges that are looked at together, six for each point.
 const RING: usize = 192;
-
-const RING_COORDINATES: usize = 384;
 
 // The turns of the walks, and the rings of triangles around the points.
 const TURNS: u32 = 8;
 
 const RINGS: u32 = 4;
+
+const ORIGIN: Point = Point { x: 0, y: 0 };
+
+// A half-edge that is looked at for point `slot` of the block, and the far vertex of its triangle with its position, once they are read.
+#[derive(Clone, Copy)]
+struct Probe {
+    slot: u32,
+    edge: u32,
+    far: u32,
+    corner: Point,
+}
+
+const NO_PROBE: Probe = Probe {
+    slot: 0,
+    edge: 0,
+    far: 0,
+    corner: ORIGIN,
+};
+
+impl Probe {
+    // What is read of the half-edge follows.
+    fn look_at(&mut self, slot: u32, edge: u32) {
+        self.slot = slot;
+        self.edge = edge;
+    }
+}
 
 // Half-edge e; zeros past the row's end.
 fn half_edge(halves: &[u32], e: u32) -> HalfEdgeEntry {
@@ -60,7 +82,7 @@ fn origin(halves: &[u32], e: u32) -> u32 {
 fn position(positions: &[i32], v: u32) -> Point {
     let i = 2 * (v as usize);
     if positions.len() <= i + 1 {
-        return Point { x: 0, y: 0 };
+        return ORIGIN;
     }
     Point {
         x: positions[i],
@@ -68,9 +90,17 @@ fn position(positions: &[i32], v: u32) -> Point {
     }
 }
 
-fn point(positions: &[i32], v: u32) -> Point2 {
-    let p = position(positions, v);
+fn to_f64(p: Point) -> Point2 {
     angle::to_f64(p.x, p.y)
+}
+
+fn point(positions: &[i32], v: u32) -> Point2 {
+    to_f64(position(positions, v))
+}
+
+// Point `slot` of the block; the origin past its end.
+fn block_point(block: &[Point], slot: u32) -> Point2 {
+    to_f64(block.get(slot as usize).copied().unwrap_or(ORIGIN))
 }
 
 fn minus(a: Point2, b: Point2) -> Point2 {
@@ -105,42 +135,60 @@ fn is_inside(a: Point2, b: Point2, c: Point2, p: Point2) -> bool {
 
 // The first half of edge u; of some edge, where there is no such number.
 fn first_half(u: u32) -> u32 {
-    std::num::wrapping_add_u32(u, u)
+    u.wrapping_mul(2)
 }
 
-// The points of the list, so many of them, with a half-edge for each that is likely close.
+// The points of the list, with a half-edge for each that is likely close.
 fn find(
-    grid: &[u32],
-    g: Grid,
+    cells: &[u32],
+    grid: Grid,
     points: &[i32],
     list: &[u32],
-    n: usize,
-    block: &mut [i32],
-    edge: &mut [u32],
-    slot: &mut [u32],
+    block: &mut [Point],
+    probes: &mut [Probe],
 )
-    requires { (n ≤ 32) × (n ≤ length list.now) × (2 * n ≤ length block.old)
-        × (n ≤ length edge.old) × (n ≤ length slot.old) }
+    requires { (length list.now ≤ 32) × (length list.now ≤ length block.old)
+        × (length list.now ≤ length probes.old) }
 {
-    let mut j: usize = 0;
-    while j < n {
+    for j in 0..list.len() {
         let p = position(points, list[j]);
-        dcel::set_position(block, j as u32, p);
-        edge[j] = first_half(grid::at(grid, g, p));
-        slot[j] = j as u32;
-        j += 1;
+        block[j] = p;
+        let e = first_half(grid.at(cells, p));
+        probes[j].look_at(j as u32, e);
     }
 }
 
-// The vertices at both ends of n half-edges.
-fn read_ends(halves: &[u32], edge: &[u32], from: &mut [u32], to: &mut [u32], n: usize)
-    requires { (n ≤ length edge.now) × (n ≤ length from.old) × (n ≤ length to.old) }
-{
-    let mut j: usize = 0;
-    while j < n {
-        from[j] = origin(halves, edge[j]);
-        to[j] = origin(halves, dcel::rev(edge[j]));
-        j += 1;
+fn read_prevs(halves: &[u32], probes: &mut [Probe]) {
+    for probe in probes {
+        probe.far = prev(halves, probe.edge);
+    }
+}
+
+// The far vertices, where `far` has the half-edges that they are the origins of.
+fn read_origins(halves: &[u32], probes: &mut [Probe]) {
+    for probe in probes {
+        probe.far = origin(halves, probe.far);
+    }
+}
+
+fn read_positions(positions: &[i32], probes: &mut [Probe]) {
+    for probe in probes {
+        probe.corner = position(positions, probe.far);
+    }
+}
+
+// The far vertices and their positions, each kind of read for all half-edges before the next.
+fn read_corners(positions: &[i32], halves: &[u32], probes: &mut [Probe]) {
+    read_prevs(halves, probes);
+    read_origins(halves, probes);
+    read_positions(positions, probes);
+}
+
+// The vertices at both ends of each half-edge, in place of the far one: the one that it comes from, and in `ends` the other.
+fn read_ends(halves: &[u32], probes: &mut [Probe], ends: &mut [Probe]) {
+    for (probe, end) in probes.iter_mut().zip(ends) {
+        probe.far = origin(halves, probe.edge);
+        end.far = origin(halves, dcel::rev(probe.edge));
     }
 }
 
@@ -153,71 +201,34 @@ fn facing(e: u32, from: Point2, to: Point2, p: Point2) -> u32 {
     }
 }
 
-// Of n half-edges, with the positions of their ends, those that face the block's points.
-fn face_points(block: &[i32], from: &[i32], to: &[i32], edge: &mut [u32], n: usize)
-    requires { (n ≤ 32) × (n ≤ length edge.old) }
-{
-    let mut j: usize = 0;
-    while j < n {
-        edge[j] = facing(
-            edge[j],
-            point(from, j as u32),
-            point(to, j as u32),
-            point(block, j as u32),
+// Of the half-edges, with the positions of their ends, those that face the block's points.
+fn face_points(block: &[Point], ends: &[Probe], probes: &mut [Probe]) {
+    for ((probe, end), p) in probes.iter_mut().zip(ends).zip(block) {
+        probe.edge = facing(
+            probe.edge,
+            to_f64(probe.corner),
+            to_f64(end.corner),
+            to_f64(*p),
         );
-        j += 1;
     }
 }
 
-fn read_prevs(halves: &[u32], edge: &[u32], far: &mut [u32], n: usize)
-    requires { (n ≤ length edge.now) × (n ≤ length far.old) }
+// The half-edges from which the walks start, each kind of read for all of them before the next.
+fn face_block(positions: &[i32], halves: &[u32], block: &[Point], probes: &mut [Probe])
+    requires { length probes.old ≤ 32 }
 {
-    let mut j: usize = 0;
-    while j < n {
-        far[j] = prev(halves, edge[j]);
-        j += 1;
-    }
+    let mut all = [NO_PROBE; BLOCK];
+    let ends = &mut all[..probes.len()];
+    read_ends(halves, probes, ends);
+    read_positions(positions, probes);
+    read_positions(positions, ends);
+    face_points(block, ends, probes);
 }
 
-fn read_origins(halves: &[u32], far: &mut [u32], n: usize)
-    requires { n ≤ length far.old }
-{
-    let mut j: usize = 0;
-    while j < n {
-        far[j] = origin(halves, far[j]);
-        j += 1;
-    }
-}
-
-fn read_positions(positions: &[i32], far: &[u32], corner: &mut [i32], n: usize)
-    requires { (n ≤ 192) × (n ≤ length far.now) × (2 * n ≤ length corner.old) }
-{
-    let mut j: usize = 0;
-    while j < n {
-        let p = position(positions, far[j]);
-        dcel::set_position(corner, j as u32, p);
-        j += 1;
-    }
-}
-
-// The positions of the far vertices of n half-edges, each kind of read for all of them before the next.
-fn read_corners(
-    positions: &[i32],
-    halves: &[u32],
-    edge: &[u32],
-    far: &mut [u32],
-    corner: &mut [i32],
-    n: usize,
-)
-    requires { (n ≤ 192) × (n ≤ length edge.now) × (n ≤ length far.old) × (2 * n ≤ length corner.old) }
-{
-    read_prevs(halves, edge, far, n);
-    read_origins(halves, far, n);
-    read_positions(positions, far, corner, n);
-}
-
-// The next half-edge of a walk, or the same where the triangle holds the point or is the outer face.
-fn onward(positions: &[i32], halves: &[u32], e: u32, far: Point2, p: Point2) -> u32 {
+// The next half-edge of a walk to p, or the same where the triangle holds the point or is the outer face.
+fn onward(positions: &[i32], halves: &[u32], probe: Probe, p: Point2) -> u32 {
+    let e = probe.edge;
+    let far = to_f64(probe.corner);
     let half = half_edge(halves, e);
     let over_prev = dcel::rev(half.prev);
     let over_next = dcel::rev(half.next);
@@ -233,268 +244,144 @@ fn onward(positions: &[i32], halves: &[u32], e: u32, far: Point2, p: Point2) -> 
     }
 }
 
-// 1 for a test that passes.
-fn bit(t: bool) -> usize
-    ensures { result ≤ 1 }
-{
-    if t { 1 } else { 0 }
-}
-
-// Where the walk of slot k has come to.
-fn set_start(start: &mut [u32], k: u32, e: u32) {
-    grid::write(start, k as usize, e);
-}
-
-// A turn of n walks: where each has come to, and those that go on, which stand first then.
+// A turn of the walks: where each has come to, and how many go on, which stand first then.
 fn turn(
     positions: &[i32],
     halves: &[u32],
-    block: &[i32],
-    corner: &[i32],
-    edge: &mut [u32],
-    slot: &mut [u32],
+    block: &[Point],
+    probes: &mut [Probe],
     start: &mut [u32],
-    n: usize,
 ) -> usize
-    requires { (n ≤ 192) × (n ≤ length edge.old) × (n ≤ length slot.old) }
-    ensures { result ≤ n }
+    ensures { result ≤ length probes.old }
 {
-    let mut m: usize = 0;
-    let mut j: usize = 0;
-    while j < n {
-        let e = edge[j];
-        let k = slot[j];
-        let on = onward(
-            positions,
-            halves,
-            e,
-            point(corner, j as u32),
-            point(block, k),
-        );
-        set_start(start, k, on);
-        edge[m] = on;
-        slot[m] = k;
-        m += bit(on != e);
-        j += 1;
+    let mut live: usize = 0;
+    for j in 0..probes.len() {
+        let probe = probes[j];
+        let p = block_point(block, probe.slot);
+        let edge = onward(positions, halves, probe, p);
+        grid::write(start, probe.slot as usize, edge);
+        probes[live].look_at(probe.slot, edge);
+        live += usize::from(edge != probe.edge);
     }
-    m
+    live
 }
 
 fn walk(
     positions: &[i32],
     halves: &[u32],
-    block: &[i32],
-    edge: &mut [u32],
-    slot: &mut [u32],
-    far: &mut [u32],
-    corner: &mut [i32],
+    block: &[Point],
+    probes: &mut [Probe],
     start: &mut [u32],
-    n: usize,
-)
-    requires { (n ≤ 192) × (n ≤ length edge.old) × (n ≤ length slot.old)
-        × (n ≤ length far.old) × (2 * n ≤ length corner.old) }
-{
-    let mut live = n;
-    let mut turns: u32 = 0;
-    while turns < TURNS {
-        read_corners(positions, halves, edge, far, corner, live);
-        live = turn(positions, halves, block, corner, edge, slot, start, live);
-        turns += 1;
+) {
+    let mut live = probes.len();
+    for _ in 0..TURNS {
+        read_corners(positions, halves, &mut probes[..live]);
+        live = turn(positions, halves, block, &mut probes[..live], start);
     }
-}
-
-// The half-edges from which the walks start, each kind of read for all of them before the next.
-fn face_block(
-    positions: &[i32],
-    halves: &[u32],
-    block: &[i32],
-    edge: &mut [u32],
-    far: &mut [u32],
-    corner: &mut [i32],
-    n: usize,
-)
-    requires { (n ≤ 32) × (n ≤ length edge.old) × (n ≤ length far.old) × (2 * n ≤ length corner.old) }
-{
-    let mut ends = [0u32; BLOCK];
-    let mut end_corner = [0i32; BLOCK_COORDINATES];
-    read_ends(halves, edge, far, &mut ends, n);
-    read_positions(positions, far, corner, n);
-    read_positions(positions, &ends, &mut end_corner, n);
-    face_points(block, corner, &end_corner, edge, n);
 }
 
 // All walks: the points go into the block, and where their walks come to into `start`.
 fn walk_block(
     positions: &[i32],
     halves: &[u32],
-    grid: &[u32],
-    g: Grid,
+    cells: &[u32],
+    grid: Grid,
     points: &[i32],
     list: &[u32],
-    n: usize,
-    block: &mut [i32],
+    block: &mut [Point],
     start: &mut [u32],
 )
-    requires { (n ≤ 32) × (n ≤ length list.now) × (2 * n ≤ length block.old) }
+    requires { (length list.now ≤ 32) × (length list.now ≤ length block.old) }
 {
-    let mut edge = [0u32; BLOCK];
-    let mut slot = [0u32; BLOCK];
-    let mut far = [0u32; BLOCK];
-    let mut corner = [0i32; BLOCK_COORDINATES];
-    find(grid, g, points, list, n, block, &mut edge, &mut slot);
-    face_block(
-        positions,
-        halves,
-        block,
-        &mut edge,
-        &mut far,
-        &mut corner,
-        n,
-    );
-    walk(
-        positions,
-        halves,
-        block,
-        &mut edge,
-        &mut slot,
-        &mut far,
-        &mut corner,
-        start,
-        n,
-    );
+    let mut all = [NO_PROBE; BLOCK];
+    let probes = &mut all[..list.len()];
+    find(cells, grid, points, list, block, probes);
+    face_block(positions, halves, block, probes);
+    walk(positions, halves, block, probes, start);
 }
 
 // ---- the triangles around
 
 // Over the three edges of each point's triangle, and what the faces row holds of it.
-fn first_ring(
-    halves: &[u32],
-    faces: &[u32],
-    start: &[u32],
-    edge: &mut [u32],
-    slot: &mut [u32],
-    n: usize,
-) -> u32
-    requires { (n ≤ 32) × (n ≤ length start.now) × (3 * n ≤ length edge.old) × (3 * n ≤ length slot.old) }
+fn first_ring(halves: &[u32], faces: &[u32], start: &[u32], probes: &mut [Probe]) -> u32
+    requires { (length start.now ≤ 32) × (3 * length start.now ≤ length probes.old) }
 {
     let mut seen: u32 = 0;
-    let mut j: usize = 0;
-    while j < n {
+    for j in 0..start.len() {
         let e = start[j];
         let half = half_edge(halves, e);
-        edge[3 * j] = dcel::rev(e);
-        edge[3 * j + 1] = dcel::rev(half.next);
-        edge[3 * j + 2] = dcel::rev(half.prev);
-        slot[3 * j] = j as u32;
-        slot[3 * j + 1] = j as u32;
-        slot[3 * j + 2] = j as u32;
-        seen = seen ^ grid::read(faces, half.face as usize);
-        j += 1;
+        let slot = j as u32;
+        probes[3 * j].look_at(slot, dcel::rev(e));
+        probes[3 * j + 1].look_at(slot, dcel::rev(half.next));
+        probes[3 * j + 2].look_at(slot, dcel::rev(half.prev));
+        seen ^= grid::read(faces, half.face as usize);
     }
     seen
 }
 
-// Whether the circle of the triangle of e, whose far vertex is at `far`, has the point inside.
-fn breaks(positions: &[i32], halves: &[u32], e: u32, far: Point2, p: Point2) -> bool {
+// Whether the circle of the probe's triangle has the point inside.
+fn breaks(positions: &[i32], halves: &[u32], probe: Probe, p: Point2) -> bool {
+    let e = probe.edge;
     let half = half_edge(halves, e);
     let from = point(positions, half.origin);
     let to = point(positions, origin(halves, dcel::rev(e)));
-    is_inside(from, to, far, p) & (half.face != 0)
+    is_inside(from, to, to_f64(probe.corner), p) & (half.face != 0)
 }
 
-// Of n half-edges those whose triangle will be changed, which stand first then.
-fn changed(
-    positions: &[i32],
-    halves: &[u32],
-    block: &[i32],
-    corner: &[i32],
-    edge: &mut [u32],
-    slot: &mut [u32],
-    n: usize,
-) -> usize
-    requires { (n ≤ 192) × (n ≤ length edge.old) × (n ≤ length slot.old) }
-    ensures { result ≤ n }
+// How many of the half-edges have a triangle that will be changed; they stand first then.
+fn changed(positions: &[i32], halves: &[u32], block: &[Point], probes: &mut [Probe]) -> usize
+    ensures { result ≤ length probes.old }
 {
-    let mut m: usize = 0;
-    let mut j: usize = 0;
-    while j < n {
-        let e = edge[j];
-        let k = slot[j];
-        edge[m] = e;
-        slot[m] = k;
-        let t = breaks(
-            positions,
-            halves,
-            e,
-            point(corner, j as u32),
-            point(block, k),
-        );
-        m += bit(t);
-        j += 1;
+    let mut count: usize = 0;
+    for j in 0..probes.len() {
+        let probe = probes[j];
+        let p = block_point(block, probe.slot);
+        probes[count].look_at(probe.slot, probe.edge);
+        count += usize::from(breaks(positions, halves, probe, p));
     }
-    m
+    count
 }
 
-// Over the two other edges of each changed triangle, from the last down, and what the rows of faces and out edges hold of it.
-fn next_ring(
-    outs: &[u32],
-    halves: &[u32],
-    faces: &[u32],
-    edge: &mut [u32],
-    slot: &mut [u32],
-    n: usize,
-) -> u32
-    requires { (2 * n ≤ length edge.old) × (2 * n ≤ length slot.old) }
+// Over the two other edges of each of the first changed triangles, so many, from the last down, and what the rows of faces and out edges
+// hold of it.
+fn next_ring(outs: &[u32], halves: &[u32], faces: &[u32], probes: &mut [Probe], count: usize) -> u32
+    requires { 2 * count ≤ length probes.old }
 {
     let mut seen: u32 = 0;
-    let mut j = n;
-    while 0 < j {
-        j -= 1;
-        let e = edge[j];
-        let k = slot[j];
-        let half = half_edge(halves, e);
-        edge[2 * j] = dcel::rev(half.next);
-        edge[2 * j + 1] = dcel::rev(half.prev);
-        slot[2 * j] = k;
-        slot[2 * j + 1] = k;
-        seen = seen ^ grid::read(faces, half.face as usize);
-        seen = seen ^ grid::read(outs, half.origin as usize);
-        seen = seen ^ grid::read(outs, origin(halves, dcel::rev(e)) as usize);
+    for j in (0..count).rev() {
+        let probe = probes[j];
+        let half = half_edge(halves, probe.edge);
+        probes[2 * j].look_at(probe.slot, dcel::rev(half.next));
+        probes[2 * j + 1].look_at(probe.slot, dcel::rev(half.prev));
+        seen ^= grid::read(faces, half.face as usize);
+        seen ^= grid::read(outs, half.origin as usize);
+        seen ^= grid::read(outs, origin(halves, dcel::rev(probe.edge)) as usize);
     }
     seen
 }
 
-// As many as have room when they are doubled.
-fn at_most_half(n: usize) -> usize
-    ensures { result ≤ 96 }
-{
-    if n > RING / 2 { RING / 2 } else { n }
-}
-
+// All rings but the first, whose half-edges are the first of the probes, so many.
 fn rings(
     positions: &[i32],
     outs: &[u32],
     halves: &[u32],
     faces: &[u32],
-    block: &[i32],
-    edge: &mut [u32],
-    slot: &mut [u32],
-    far: &mut [u32],
-    corner: &mut [i32],
-    n: usize,
+    block: &[Point],
+    probes: &mut [Probe],
+    count: usize,
 ) -> u32
-    requires { (n ≤ 192) × (192 ≤ length edge.old) × (192 ≤ length slot.old)
-        × (192 ≤ length far.old) × (384 ≤ length corner.old) }
+    requires { (count ≤ 192) × (192 ≤ length probes.old) }
 {
     let mut seen: u32 = 0;
-    let mut left = n;
-    let mut ring: u32 = 0;
-    while ring < RINGS {
-        read_corners(positions, halves, edge, far, corner, left);
-        let m = at_most_half(changed(positions, halves, block, corner, edge, slot, left));
-        seen = seen ^ next_ring(outs, halves, faces, edge, slot, m);
-        left = 2 * m;
-        ring += 1;
+    let mut left = count;
+    for _ in 0..RINGS {
+        let ring = &mut probes[..left];
+        read_corners(positions, halves, ring);
+        let broken = changed(positions, halves, block, ring);
+        // as many as have room when they are doubled
+        let kept = broken.min(RING / 2);
+        seen ^= next_ring(outs, halves, faces, probes, kept);
+        left = 2 * kept;
     }
     seen
 }
@@ -505,28 +392,21 @@ fn read_around(
     outs: &[u32],
     halves: &[u32],
     faces: &[u32],
-    block: &[i32],
+    block: &[Point],
     start: &[u32],
-    n: usize,
 ) -> u32
-    requires { (n ≤ 32) × (n ≤ length start.now) }
+    requires { length start.now ≤ 32 }
 {
-    let mut edge = [0u32; RING];
-    let mut slot = [0u32; RING];
-    let mut far = [0u32; RING];
-    let mut corner = [0i32; RING_COORDINATES];
-    let first = first_ring(halves, faces, start, &mut edge, &mut slot, n);
+    let mut probes = [NO_PROBE; RING];
+    let first = first_ring(halves, faces, start, &mut probes);
     let rest = rings(
         positions,
         outs,
         halves,
         faces,
         block,
-        &mut edge,
-        &mut slot,
-        &mut far,
-        &mut corner,
-        3 * n,
+        &mut probes,
+        3 * start.len(),
     );
     first ^ rest
 }
@@ -534,39 +414,35 @@ fn read_around(
 // ---- the whole
 
 // Where the walks have come to.
-fn store(grid: &mut [u32], g: Grid, block: &[i32], start: &[u32], n: usize)
-    requires { (n ≤ 32) × (n ≤ length start.now) }
-{
-    let mut j: usize = 0;
-    while j < n {
-        grid::set(grid, g, position(block, j as u32), start[j] / 2);
-        j += 1;
+fn store(cells: &mut [u32], grid: Grid, block: &[Point], start: &[u32]) {
+    for (p, e) in block.iter().zip(start) {
+        grid.set(cells, *p, *e / 2);
     }
 }
 
-// For the points whose numbers are the first n of the list, of a block at most.
+// For the points whose numbers the list has, of a block at most.
 pub fn prefetch(
     positions: &[i32],
     outs: &[u32],
     halves: &[u32],
     faces: &[u32],
-    grid: &mut [u32],
-    g: Grid,
+    cells: &mut [u32],
+    grid: Grid,
     points: &[i32],
     list: &[u32],
-    n: usize,
 )
-    requires { (n ≤ 32) × (n ≤ length list.now) }
+    requires { length list.now ≤ 32 }
 {
-    let mut block = [0i32; BLOCK_COORDINATES];
-    let mut start = [0u32; BLOCK];
+    let mut block = [ORIGIN; BLOCK];
+    let mut all = [0u32; BLOCK];
+    let start = &mut all[..list.len()];
     walk_block(
-        positions, halves, grid, g, points, list, n, &mut block, &mut start,
+        positions, halves, cells, grid, points, list, &mut block, start,
     );
-    let seen = read_around(positions, outs, halves, faces, &block, &start, n);
+    let seen = read_around(positions, outs, halves, faces, &block, start);
     // no row holds that number; a compiler does not know this, and so leaves nothing unread
-    if seen == 4294967295 {
+    if seen == u32::MAX {
         return;
     }
-    store(grid, g, &block, &start, n);
+    store(cells, grid, &block, start);
 }

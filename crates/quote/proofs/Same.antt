@@ -1,48 +1,30 @@
--- What each test of two quotes' numbers says of `same_quote`: signed numbers are compared by their bits. Assumes nothing.
-use mathlib.Core.Bool.{true, false}
-use mathlib.Core.Path.{◌≡◌, refl, sym, ◌∙◌}
-use borrow.Author.Tests.{eq-eqb, ne_eqb}
-use lib.Dec.{eqb}
-use lib.IntN.{ℤ}
-use mir.Syntax.{w32}
-use mir.Val.{SFits, of_z}
+-- The derived equality of two quotes is `same_quote`. Assumes nothing.
+use Rattle.std.specs.Prelude.{◌≡◌, refl, Bool, true, false, ◌&&◌, ℤ, eqb}
+use Rattle.std.proofs.Common.{◌∙◌}
+use Rattle.std.specs.Bool.{Decides, one_answer, passes}
+use Rattle.std.specs.Cmp.{signed_Decides}
+use Rattle.std.specs.Ordering.{int_eq}
 use Rattle.math.specs.Determinant.{is_coordinate}
-use Rattle.math.proofs.Position.{coordinate-bits}
+use Rattle.math.proofs.Position.{same-coordinate, coordinate-same}
 use Rattle.quote.specs.declared.Quote.{Quote}
+use Rattle.sums.proofs.BitLaws.{is_true}
 use Rattle.quote.specs.Quote.{same_quote}
 
-module _ {a b : ℤ} (f : SFits w32 a) (g : SFits w32 b) where
-  pub same_number : of_z w32 a ≡ of_z w32 b → is_coordinate a b ≡ true
-  same_number e = sym (coordinate-bits f g) ∙ eq-eqb (of_z w32 a) (of_z w32 b) e
+-- both tests decide whether the numbers are equal
+is-decided : (a b : ℤ) → Decides (is_coordinate a b) (a ≡ b)
+is-decided a b = (λ t. same-coordinate a b (passes _ t), λ e. is_true _ (coordinate-same a b e))
 
-  pub other-number : (of_z w32 a ≡ of_z w32 b → ⊥) → is_coordinate a b ≡ false
-  other-number n = sym (coordinate-bits f g) ∙ ne_eqb (of_z w32 a) (of_z w32 b) n
+coordinate-eq : (a b : ℤ) → int_eq a b ≡ is_coordinate a b
+coordinate-eq a b = one_answer {P = a ≡ b} (int_eq a b) (is_coordinate a b) (signed_Decides a b) (is-decided a b)
 
-module _ (q p : Quote) where
-  pub other-changes : (q.changes ≡ p.changes → ⊥) → false ≡ same_quote q p
-  unfolding same_quote
-  other-changes n = rw (ne_eqb q.changes p.changes n) refl
+regrouped : (a x y z b c : Bool) → (a && (x && (y && (z && (b && c))))) ≡ (a && ((x && (y && z)) && (b && c)))
+regrouped false x y z b c = refl
+regrouped true false y z b c = refl
+regrouped true true false z b c = refl
+regrouped true true true z b c = refl
 
-  module _ (c : q.changes ≡ p.changes) where
-    pub other-x : is_coordinate q.x p.x ≡ false → false ≡ same_quote q p
-    unfolding same_quote
-    other-x n = rw (eq-eqb q.changes p.changes c, n) refl
-
-    module _ (x : is_coordinate q.x p.x ≡ true) where
-      pub other-y : is_coordinate q.y p.y ≡ false → false ≡ same_quote q p
-      unfolding same_quote
-      other-y n = rw (eq-eqb q.changes p.changes c, x, n) refl
-
-      module _ (y : is_coordinate q.y p.y ≡ true) where
-        pub other-z : is_coordinate q.z p.z ≡ false → false ≡ same_quote q p
-        unfolding same_quote
-        other-z n = rw (eq-eqb q.changes p.changes c, x, y, n) refl
-
-        module _ (z : is_coordinate q.z p.z ≡ true) where
-          pub other-fate : (q.fate ≡ p.fate → ⊥) → false ≡ same_quote q p
-          unfolding same_quote
-          other-fate n = rw (eq-eqb q.changes p.changes c, x, y, z, ne_eqb q.fate p.fate n) refl
-
-          pub faces-decide : q.fate ≡ p.fate → eqb q.faces p.faces ≡ same_quote q p
-          unfolding same_quote
-          faces-decide e = rw (eq-eqb q.changes p.changes c, x, y, z, eq-eqb q.fate p.fate e) refl
+pub same-eq : (q p : Quote) → {r : Bool} →
+    r ≡ (eqb q.changes p.changes && (int_eq q.x p.x && (int_eq q.y p.y && (int_eq q.z p.z && (eqb q.fate p.fate && eqb q.faces p.faces)))))
+    → r ≡ same_quote q p
+unfolding same_quote
+same-eq q p e = e ∙ rw (coordinate-eq q.x p.x, coordinate-eq q.y p.y, coordinate-eq q.z p.z) (regrouped (eqb q.changes p.changes) (is_coordinate q.x p.x) (is_coordinate q.y p.y) (is_coordinate q.z p.z) (eqb q.fate p.fate) (eqb q.faces p.faces))

@@ -1,12 +1,11 @@
 -- Row 11 lets pass just the quote that asking gives now, and row 12 every count before its end. Assumes nothing.
-use Rattle.std.specs.Prelude.{Bool, true, false, cond, ◌&&◌, ◌≢◌, ◌≡◌, ℕ, T, eqb}
+use Rattle.std.specs.Prelude.{Bool, true, false, cond, ◌&&◌, ◌≢◌, ◌≡◌, ℕ, T, eqb, Ok}
 use Rattle.std.proofs.Math.Path.{refl}
 use Rattle.std.proofs.Common.{sym, ◌∙◌, subst, arith, eq-eqb, ne_eqb}
 use Rattle.std.proofs.Math.Dec.{eqb→eq, eqb_refl}
 use Rattle.math.specs.Determinant.{is_coordinate}
 use Rattle.math.proofs.Position.{same-coordinate, coordinate-same}
-use Rattle.mesh_check.specs.declared.Checked.{Checked}
-use Rattle.mesh_check.specs.declared.Checked.TheVariants.{Accepted}
+use Rattle.mesh_check.specs.Checked.{Checked}
 use Rattle.mesh_check.specs.Check.{refused, and_then}
 use Rattle.mesh_check.specs.CheckLaws.{NumberedTo, accepts, refuses}
 use Rattle.mesh_check.proofs.CheckLawsFacts.{numbered-cond}
@@ -48,7 +47,7 @@ quote-itself q =
     (and_both (is_coordinate q.y q.y) _ (coordinate-same q.y q.y refl) (coordinate-same q.z q.z refl)))
     (and_both (eqb q.fate q.fate) _ (eqb_refl q.fate) (eqb_refl q.faces)))
 
-pub quote-fresh : (q : Quote) → check_quote q q ≡ Accepted
+pub quote-fresh : (q : Quote) → check_quote q q ≡ Ok tt
 unfolding check_quote
 quote-fresh q = rw (is_true (same_quote q q) (quote-itself q)) refl
 
@@ -56,15 +55,15 @@ pub quote-stale : {q p : Quote} → q ≢ p → check_quote q p ≡ refused 11 0
 unfolding check_quote
 quote-stale {q} {p} d = go (same_quote q p) refl
   where
-    go : (t : Bool) → same_quote q p ≡ t → cond t Accepted (refused 11 0) ≡ refused 11 0
+    go : (t : Bool) → same_quote q p ≡ t → cond t (Ok tt) (refused 11 0) ≡ refused 11 0
     go true e = absurd (d (same-quote q p (subst T (sym e) tt)))
     go false e = refl
 
-pub quote-accepted : {q p : Quote} → check_quote q p ≡ Accepted → q ≡ p
+pub quote-accepted : {q p : Quote} → check_quote q p ≡ Ok tt → q ≡ p
 unfolding check_quote
 quote-accepted {q} {p} e = go (same_quote q p) refl e
   where
-    go : (t : Bool) → same_quote q p ≡ t → cond t Accepted (refused 11 0) ≡ Accepted → q ≡ p
+    go : (t : Bool) → same_quote q p ≡ t → cond t (Ok tt) (refused 11 0) ≡ Ok tt → q ≡ p
     go true f z = same-quote q p (subst T (sym f) tt)
     go false f z = absurd (let k : ◌≡◌ {A = ℕ} 0 1 = cc in omega arith)
 
@@ -73,13 +72,13 @@ pub changes-at-end : {n : ℕ} → n ≡ last_change → check_changes n ≡ ref
 unfolding check_changes
 changes-at-end {n} e = rw (eq-eqb n last_change e) refl
 
-pub changes-not-at-end : {n : ℕ} → n ≢ last_change → check_changes n ≡ Accepted
+pub changes-not-at-end : {n : ℕ} → n ≢ last_change → check_changes n ≡ Ok tt
 unfolding check_changes
 changes-not-at-end {n} d = rw (ne_eqb n last_change d) refl
 
-pub changes-accepted : {n : ℕ} → check_changes n ≡ Accepted → n ≢ last_change
+pub changes-accepted : {n : ℕ} → check_changes n ≡ Ok tt → n ≢ last_change
 changes-accepted e f =
-    let z : Accepted ≡ refused 12 0 = sym e ∙ changes-at-end f in
+    let z : (Ok tt) ≡ refused 12 0 = sym e ∙ changes-at-end f in
     absurd (let k : ◌≡◌ {A = ℕ} 0 1 = cc in omega arith)
 
 -- ---- 11, and then 12
@@ -101,6 +100,6 @@ pub quote-numbered : (q p : Quote) → NumberedTo 12 (check_quote q p)
 unfolding check_quote
 quote-numbered q p = go (same_quote q p)
   where
-    go : (t : Bool) → NumberedTo 12 (cond t Accepted (refused 11 0))
+    go : (t : Bool) → NumberedTo 12 (cond t (Ok tt) (refused 11 0))
     go true = accepts
     go false = refuses {r = record { number = 11; place = 0 }} (omega arith) (omega arith)

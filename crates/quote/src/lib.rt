@@ -3,14 +3,14 @@
 #![tactic(auto)]
 
 ghost use Rattle.std.specs.Prelude.{◌≡◌};
-ghost use Rattle.mesh_check.specs.Check.{refused, and_then};
+ghost use Rattle.mesh_check.specs.Check.{and_then};
 ghost use Rattle.quote.specs.Quote.{same_quote, check_quote, check_changes};
 
-use mesh_check::{Checked, Refusal};
+use mesh_check::Refusal;
 
 // The change count, the point with its height, and of a step's answer the fate's number and the faces.
 #[repr(C)]
-#[derive(Clone, Copy)]
+#[derive(Clone, Copy, PartialEq, Eq)]
 pub struct Quote {
     pub changes: u32,
     pub x: i32,
@@ -20,54 +20,29 @@ pub struct Quote {
     pub faces: u64,
 }
 
-// A row of the table that names no place.
-fn refuse(number: u32) -> Checked
-    ensures { result ≡ refused number 0 }
-{
-    Checked::Refused(Refusal {
-        number: number,
-        place: 0,
-    })
-}
-
 // Whether two quotes are the same, number by number.
 pub fn is_same(quote: Quote, present: Quote) -> bool
     ensures { result ≡ same_quote quote present }
 {
-    if quote.changes != present.changes {
-        return false;
-    }
-    if quote.x != present.x {
-        return false;
-    }
-    if quote.y != present.y {
-        return false;
-    }
-    if quote.z != present.z {
-        return false;
-    }
-    if quote.fate != present.fate {
-        return false;
-    }
-    quote.faces == present.faces
+    quote == present
 }
 
 // Row 12: the count is at its end, 4,294,967,295.
-pub fn check_changes(changes: u32) -> Checked
+pub fn check_changes(changes: u32) -> Result<(), Refusal>
     ensures { result ≡ check_changes changes }
 {
-    if changes == 0xFFFF_FFFF {
-        return refuse(12);
+    if changes == u32::MAX {
+        return Err(Refusal::of_call(12));
     }
-    Checked::Accepted
+    Ok(())
 }
 
 // Row 11, of a quote that is handed in beside the one that asking gives now, and then row 12.
-pub fn check_quote(quote: Quote, present: Quote) -> Checked
+pub fn check_quote(quote: Quote, present: Quote) -> Result<(), Refusal>
     ensures { result ≡ and_then (check_quote quote present) (check_changes present.changes) }
 {
     if !is_same(quote, present) {
-        return refuse(11);
+        return Err(Refusal::of_call(11));
     }
     check_changes(present.changes)
 }

@@ -2,24 +2,55 @@
 // neighbours, eighths, 0.0, -0.0, 1.0, subnormal angles, NaN and infinities; centres outside, on a vertex, dead west and nearly so; gaps
 // of 3/4; rows one entry short. The ring's rows are lent full of sevens: a refused call must leave them, an accepted one must leave
 // zeros.
-use test_mesh::lines;
+use angle::Point2;
+use fithmoul::results::LocateResult;
+use std::alloc::Global;
+use test_mesh::{LENT, Mesh, Ring, lines};
+use test_text::{Failure, Reader, demand};
 
-// The line `l` at a place, of the mesh whose line `m` stands at another.
-pub fn agrees(text: &[u8], mesh: usize, at: usize) -> bool {
-    let m = test_mesh::read_mesh(text, mesh, test_mesh::LENT, false);
-    let n = lines::read_ring(text, m.at);
-    let x = lines::read_center(text, n.at, b'x');
-    let angle = test_text::read_number(text, test_text::behind(text, at));
-    let given = test_text::double(angle.magnitude);
-    let left = super::locate_on(m.mesh, n.ring, x.center, given);
-    let r = left.result;
-    let numbers = [
-        angle.magnitude,
-        r.refusal as u64,
-        r.place as u64,
-        r.edge as u64,
-        r.passed as u64,
-    ];
-    let line = test_text::is_line_of(text, at, b'l', &numbers);
-    line & left.cleared & m.is_whole & n.is_whole & x.is_whole
+fn locate_on(mesh: &Mesh, ring: &mut Ring, center: Point2, angle: f64) -> LocateResult {
+    let counts = mesh.counts;
+    let rows = &mesh.rows;
+    fithmoul::fithmoul_locate(
+        counts.vertices,
+        counts.edges,
+        counts.faces,
+        &rows.positions,
+        &rows.heights,
+        &rows.outs,
+        &rows.halves,
+        &rows.faces,
+        &mut ring.nodes,
+        &mut ring.freed,
+        &mut ring.buckets,
+        center.x,
+        center.y,
+        angle,
+    )
+}
+
+// The bits of the angle that a line `l` gives.
+fn read_angle(mut line: Reader) -> Result<u64, Failure> {
+    line.take(b'l')?;
+    line.entry()
+}
+
+// A line `l`, of the mesh whose line `m` stands where another reader is.
+pub fn agrees(alloc: Global, mut text: Reader, mut line: Reader) -> Result<(), Failure> {
+    let mesh = LENT.read(alloc, &mut text)?;
+    let mut ring = Ring::read(alloc, &mut text)?;
+    let center = lines::read_center(&mut text, b'x')?;
+    let angle = read_angle(line)?;
+    let r = locate_on(&mesh, &mut ring, center, test_text::double(angle));
+    demand(ring.holds(lines::cleared_by(r.refusal)))?;
+    line.line_of(
+        b'l',
+        &[
+            angle,
+            u64::from(r.refusal),
+            u64::from(r.place),
+            u64::from(r.edge),
+            u64::from(r.passed),
+        ],
+    )
 }

@@ -2,49 +2,72 @@
 // short, points at and beside an edge's ends and line and at the limit of the coordinates, pending lists that fill, long walks, unsettled
 // seeds. A case agrees where the answer, the counts and every row over its whole length do: the ring's rows and pending are lent full of
 // sevens.
-use super::StepLeft;
+use angle::Point2;
 use fithmoul::results::StepResult;
-use test_mesh::{WORDS, lines};
+use math::Point;
+use mesh::Counts;
+use std::alloc::Global;
+use test_mesh::{LENT, Mesh, Ring, WORDS, lines};
+use test_text::{Failure, Reader, demand};
 
-// Refusal, place, fate, vertex, faces and flips.
-fn numbers_of(r: StepResult) -> [u64; 6] {
-    let answer = r.answer;
-    [
-        r.refusal as u64,
-        r.place as u64,
-        answer.fate,
-        answer.vertex,
-        answer.faces,
-        answer.flips,
-    ]
-}
-
-// Whether a step has left what the lines from a place on have; the place of the mesh that was lent.
-fn step_agrees(text: &[u8], mesh: usize, at: usize, left: StepLeft) -> bool {
-    let result = left.result;
-    let m = lines::compare_mesh(text, mesh, at, left.mesh);
-    let numbers = numbers_of(result);
-    let line = test_text::is_line_of(text, m.at, b'r', &numbers);
-    m.agrees & left.cleared & line
-}
-
-// The case whose line `m` stands at a place.
-pub fn agrees(text: &[u8], at: usize) -> bool {
-    let m = test_mesh::read_mesh(text, at, test_mesh::LENT, false);
-    let n = lines::read_ring(text, m.at);
-    let q = lines::read_sevens(text, n.at, b'q', WORDS);
-    let x = lines::read_center(text, q.at, b'x');
-    let v = lines::read_point(text, x.at);
-    let y = lines::read_point_height(text, v.at);
-    let cleared = lines::cleared(text, y.at);
-    let left = super::step_on(
-        m.mesh, n.ring, q.length, x.center, v.point, y.height, cleared,
+fn step_on(
+    mesh: &mut Mesh,
+    ring: &mut Ring,
+    pending: &mut [u32],
+    center: Point2,
+    point: Point,
+    z: i32,
+) -> StepResult {
+    let counts = mesh.counts;
+    let r = fithmoul::fithmoul_step(
+        counts.vertices,
+        counts.edges,
+        counts.faces,
+        &mut mesh.rows.positions,
+        &mut mesh.rows.heights,
+        &mut mesh.rows.outs,
+        &mut mesh.rows.halves,
+        &mut mesh.rows.faces,
+        &mut ring.nodes,
+        &mut ring.freed,
+        &mut ring.buckets,
+        pending,
+        center.x,
+        center.y,
+        point.x,
+        point.y,
+        z,
     );
-    step_agrees(text, at, y.at, left)
-        & m.is_whole
-        & n.is_whole
-        & q.is_whole
-        & x.is_whole
-        & v.is_whole
-        & y.is_whole
+    mesh.counts = Counts {
+        vertices: r.vertices,
+        edges: r.edges,
+        faces: r.faces,
+    };
+    r
+}
+
+pub fn agrees(alloc: Global, mut text: Reader) -> Result<(), Failure> {
+    let lent = LENT.read(alloc, &mut text)?;
+    let mut ring = Ring::read(alloc, &mut text)?;
+    let mut pending: Vec<u32> = lines::read_sevens(alloc, &mut text, b'q', WORDS)?;
+    let center = lines::read_center(&mut text, b'x')?;
+    let point = lines::read_point(&mut text)?;
+    let z = lines::read_point_height(&mut text)?;
+    let mut mesh = lent.clone()?;
+    let r = step_on(&mut mesh, &mut ring, &mut pending, center, point, z);
+    let cleared = lines::cleared(&text);
+    demand(ring.holds(cleared) && test_mesh::holds(&pending, cleared))?;
+    lines::demand_mesh(alloc, &mut text, &lent, &mesh)?;
+    // Refusal, place, fate, vertex, faces and flips.
+    text.line_of(
+        b'r',
+        &[
+            u64::from(r.refusal),
+            u64::from(r.place),
+            r.answer.fate,
+            r.answer.vertex,
+            r.answer.faces,
+            r.answer.flips,
+        ],
+    )
 }

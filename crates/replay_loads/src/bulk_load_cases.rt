@@ -2,66 +2,87 @@
 // point off them, seeds that grow until the sweep may start, pending lists that fill while the seed grows and after it, sweeps of many
 // kinds. A case agrees where the answer, the counts and every row over its whole length do: the mesh's rows are lent with anything in
 // them, the ring's rows, pending and the answers full of sevens.
-use super::LoadLeft;
 use fithmoul::results::BulkLoadResult;
-use test_mesh::{LONGS, WORDS, lines};
+use mesh::Counts;
+use std::alloc::Global;
+use test_mesh::{LENT, LONGS, Mesh, Ring, WORDS, lines};
+use test_text::{Failure, Reader, demand};
 
-// All of them, in order.
-fn numbers_of(r: BulkLoadResult) -> [u64; 10] {
-    [
-        r.refusal as u64,
-        r.place as u64,
-        r.vertices as u64,
-        r.edges as u64,
-        r.faces as u64,
-        r.changes as u64,
-        r.line as u64,
-        r.faces_added as u64,
-        r.convex_flips,
-        r.closing_flips,
-    ]
-}
-
-// Whether a bulk load has left what the lines from a place on have; the places of the mesh and of the answers that were lent.
-fn load_agrees(text: &[u8], mesh: usize, answers: usize, at: usize, left: LoadLeft) -> bool {
-    let result = left.result;
-    let m = lines::compare_mesh(text, mesh, at, left.mesh);
-    let a = lines::compare_answers(text, answers, m.at, left.answers);
-    let numbers = numbers_of(result);
-    let line = test_text::is_line_of(text, a.at, b'r', &numbers);
-    m.agrees & a.agrees & left.cleared & line
-}
-
-// Whether a case begins without a mesh.
-fn begins_bare(text: &[u8], at: usize) -> bool {
-    let none = [0u64; 3];
-    test_text::is_line_of(text, at, b'm', &none)
-}
-
-// The case whose line `m` stands at a place.
-pub fn agrees(text: &[u8], at: usize) -> bool {
-    let m = test_mesh::read_mesh(text, at, test_mesh::LENT, false);
-    let n = lines::read_ring(text, m.at);
-    let q = lines::read_sevens(text, n.at, b'q', WORDS);
-    let w = lines::read_sevens(text, q.at, b'w', LONGS);
-    let v = lines::read_counted_points(text, w.at);
-    let y = test_mesh::read_heights(text, v.at, b'y');
-    let cleared = lines::cleared(text, y.at);
-    let left = super::bulk_load_on(
-        m.mesh,
-        n.ring,
-        q.length,
-        w.length,
-        v.coordinates,
-        y.coordinates,
-        cleared,
+// Of the mesh only the rows are lent: the call is given no counts.
+fn bulk_load_on(
+    mesh: &mut Mesh,
+    ring: &mut Ring,
+    pending: &mut [u32],
+    answers: &mut [u64],
+    points: &[i32],
+    point_heights: &[i32],
+) -> BulkLoadResult {
+    let r = fithmoul::fithmoul_bulk_load(
+        &mut mesh.rows.positions,
+        &mut mesh.rows.heights,
+        &mut mesh.rows.outs,
+        &mut mesh.rows.halves,
+        &mut mesh.rows.faces,
+        &mut ring.nodes,
+        &mut ring.freed,
+        &mut ring.buckets,
+        pending,
+        answers,
+        points,
+        point_heights,
     );
-    load_agrees(text, at, q.at, y.at, left)
-        & begins_bare(text, at)
-        & m.is_whole
-        & n.is_whole
-        & q.is_whole
-        & w.is_whole
-        & v.is_whole
-        & y.is_whole
+    mesh.counts = Counts {
+        vertices: r.vertices,
+        edges: r.edges,
+        faces: r.faces,
+    };
+    r
+}
+
+// All numbers of the answer must stand in the line `r`, in order.
+fn demand_result(text: &mut Reader, r: BulkLoadResult) -> Result<(), Failure> {
+    text.line_of(
+        b'r',
+        &[
+            u64::from(r.refusal),
+            u64::from(r.place),
+            u64::from(r.vertices),
+            u64::from(r.edges),
+            u64::from(r.faces),
+            u64::from(r.changes),
+            u64::from(r.line),
+            u64::from(r.faces_added),
+            r.convex_flips,
+            r.closing_flips,
+        ],
+    )
+}
+
+// A case begins without a mesh.
+fn demand_bare(mut text: Reader) -> Result<(), Failure> {
+    text.line_of(b'm', &[0u32; 3])
+}
+
+pub fn agrees(alloc: Global, mut text: Reader) -> Result<(), Failure> {
+    demand_bare(text)?;
+    let lent = LENT.read(alloc, &mut text)?;
+    let mut ring = Ring::read(alloc, &mut text)?;
+    let mut pending: Vec<u32> = lines::read_sevens(alloc, &mut text, b'q', WORDS)?;
+    let mut answers: Vec<u64> = lines::read_sevens(alloc, &mut text, b'w', LONGS)?;
+    let points = lines::read_counted_points(alloc, &mut text)?;
+    let point_heights = test_mesh::read_heights(alloc, &mut text, b'y')?;
+    let mut mesh = lent.clone()?;
+    let r = bulk_load_on(
+        &mut mesh,
+        &mut ring,
+        &mut pending,
+        &mut answers,
+        &points,
+        &point_heights,
+    );
+    let cleared = lines::cleared(&text);
+    demand(ring.holds(cleared) && test_mesh::holds(&pending, cleared))?;
+    lines::demand_mesh(alloc, &mut text, &lent, &mesh)?;
+    lines::demand_answers(alloc, &mut text, &answers)?;
+    demand_result(&mut text, r)
 }

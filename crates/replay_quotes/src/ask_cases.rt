@@ -1,44 +1,64 @@
 // Quotes by `fithmoul_ask` (tests/reference/quote_cases.py ask): every refusal and fate, change counts up to their end, rows exactly long
 // enough and one entry short, and asks between steps, commits, finishes and runs. The mesh cannot be changed: its rows are lent to be
 // read. The ring's rows are lent full of sevens: a refused call must leave them, an accepted one must leave zeros.
-use super::AskLeft;
+use angle::Point2;
+use fithmoul::results::AskResult;
+use math::Point;
 use quote::Quote;
-use test_mesh::lines;
+use std::alloc::Global;
+use test_mesh::{LENT, Mesh, Ring, lines};
+use test_text::{Failure, Reader, demand};
 
 // Number by number: the library's own comparison is under test in the commits.
-fn same_quote(a: Quote, b: Quote) -> bool {
-    (a.changes == b.changes)
-        & (a.x == b.x)
-        & (a.y == b.y)
-        & (a.z == b.z)
-        & (a.fate == b.fate)
-        & (a.faces == b.faces)
+fn is_same_quote(a: Quote, b: Quote) -> bool {
+    a.changes == b.changes
+        && a.x == b.x
+        && a.y == b.y
+        && a.z == b.z
+        && a.fate == b.fate
+        && a.faces == b.faces
 }
 
-// Whether an ask has answered as the lines `G` and `r` from a place on have it.
-fn ask_agrees(text: &[u8], at: usize, left: AskLeft) -> bool {
-    let due = lines::read_quote(text, at, b'G');
-    let r = left.result;
-    let quote = r.quote;
-    let numbers = [r.refusal as u64, r.place as u64];
-    let line = test_text::is_line_of(text, due.at, b'r', &numbers);
-    due.is_whole & same_quote(due.quote, quote) & left.cleared & line
+fn ask_on(
+    mesh: &Mesh,
+    changes: u32,
+    ring: &mut Ring,
+    center: Point2,
+    point: Point,
+    z: i32,
+) -> AskResult {
+    let counts = mesh.counts;
+    let rows = &mesh.rows;
+    fithmoul::fithmoul_ask(
+        counts.vertices,
+        counts.edges,
+        counts.faces,
+        changes,
+        &rows.positions,
+        &rows.heights,
+        &rows.outs,
+        &rows.halves,
+        &rows.faces,
+        &mut ring.nodes,
+        &mut ring.freed,
+        &mut ring.buckets,
+        center.x,
+        center.y,
+        point.x,
+        point.y,
+        z,
+    )
 }
 
-// The case whose line `m` stands at a place.
-pub fn agrees(text: &[u8], at: usize) -> bool {
-    let m = test_mesh::read_mesh(text, at, test_mesh::LENT, false);
-    let c = lines::read_changes(text, m.at);
-    let n = lines::read_ring(text, c.at);
-    let x = lines::read_center(text, n.at, b'x');
-    let v = lines::read_point(text, x.at);
-    let y = lines::read_point_height(text, v.at);
-    let left = super::ask_on(m.mesh, c.changes, n.ring, x.center, v.point, y.height);
-    ask_agrees(text, y.at, left)
-        & m.is_whole
-        & c.is_whole
-        & n.is_whole
-        & x.is_whole
-        & v.is_whole
-        & y.is_whole
+pub fn agrees(alloc: Global, mut text: Reader) -> Result<(), Failure> {
+    let mesh = LENT.read(alloc, &mut text)?;
+    let changes = lines::read_changes(&mut text)?;
+    let mut ring = Ring::read(alloc, &mut text)?;
+    let center = lines::read_center(&mut text, b'x')?;
+    let point = lines::read_point(&mut text)?;
+    let z = lines::read_point_height(&mut text)?;
+    let r = ask_on(&mesh, changes, &mut ring, center, point, z);
+    demand(ring.holds(lines::cleared_by(r.refusal)))?;
+    demand(is_same_quote(r.quote, lines::read_quote(&mut text, b'G')?))?;
+    text.line_of(b'r', &[r.refusal, r.place])
 }

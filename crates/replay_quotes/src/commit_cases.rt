@@ -2,54 +2,89 @@
 // quotes that are stale in each number, quotes asked before a step, a commit, a finish or a run, and pending lists that fill. A case agrees
 // where the answer, the counts, the change count and every row over its whole length do: the ring's rows and pending are lent full of
 // sevens.
-use super::CommitLeft;
+use angle::Point2;
 use fithmoul::results::CommitResult;
-use test_mesh::{WORDS, lines};
+use math::Point;
+use mesh::Counts;
+use quote::Quote;
+use std::alloc::Global;
+use test_mesh::{LENT, Mesh, Ring, WORDS, lines};
+use test_text::{Failure, Reader, demand};
 
-// Refusal, place, fate, vertex, faces, flips and the change count.
-fn numbers_of(r: CommitResult) -> [u64; 7] {
-    let answer = r.answer;
-    [
-        r.refusal as u64,
-        r.place as u64,
-        answer.fate,
-        answer.vertex,
-        answer.faces,
-        answer.flips,
-        r.changes as u64,
-    ]
-}
-
-// Whether a commit has left what the lines from a place on have; the place of the mesh that was lent.
-fn commit_agrees(text: &[u8], mesh: usize, at: usize, left: CommitLeft) -> bool {
-    let result = left.result;
-    let m = lines::compare_mesh(text, mesh, at, left.mesh);
-    let numbers = numbers_of(result);
-    let line = test_text::is_line_of(text, m.at, b'r', &numbers);
-    m.agrees & left.cleared & line
-}
-
-// The case whose line `m` stands at a place.
-pub fn agrees(text: &[u8], at: usize) -> bool {
-    let m = test_mesh::read_mesh(text, at, test_mesh::LENT, false);
-    let c = lines::read_changes(text, m.at);
-    let n = lines::read_ring(text, c.at);
-    let q = lines::read_sevens(text, n.at, b'q', WORDS);
-    let x = lines::read_center(text, q.at, b'x');
-    let v = lines::read_point(text, x.at);
-    let y = lines::read_point_height(text, v.at);
-    let g = lines::read_quote(text, y.at, b'g');
-    let cleared = lines::cleared(text, g.at);
-    let left = super::commit_on(
-        m.mesh, c.changes, n.ring, q.length, x.center, v.point, y.height, g.quote, cleared,
+fn commit_on(
+    mesh: &mut Mesh,
+    changes: u32,
+    ring: &mut Ring,
+    pending: &mut [u32],
+    center: Point2,
+    point: Point,
+    z: i32,
+    quote: Quote,
+) -> CommitResult {
+    let counts = mesh.counts;
+    let r = fithmoul::fithmoul_commit(
+        counts.vertices,
+        counts.edges,
+        counts.faces,
+        changes,
+        &mut mesh.rows.positions,
+        &mut mesh.rows.heights,
+        &mut mesh.rows.outs,
+        &mut mesh.rows.halves,
+        &mut mesh.rows.faces,
+        &mut ring.nodes,
+        &mut ring.freed,
+        &mut ring.buckets,
+        pending,
+        center.x,
+        center.y,
+        point.x,
+        point.y,
+        z,
+        quote,
     );
-    commit_agrees(text, at, g.at, left)
-        & m.is_whole
-        & c.is_whole
-        & n.is_whole
-        & q.is_whole
-        & x.is_whole
-        & v.is_whole
-        & y.is_whole
-        & g.is_whole
+    mesh.counts = Counts {
+        vertices: r.vertices,
+        edges: r.edges,
+        faces: r.faces,
+    };
+    r
+}
+
+pub fn agrees(alloc: Global, mut text: Reader) -> Result<(), Failure> {
+    let lent = LENT.read(alloc, &mut text)?;
+    let changes = lines::read_changes(&mut text)?;
+    let mut ring = Ring::read(alloc, &mut text)?;
+    let mut pending: Vec<u32> = lines::read_sevens(alloc, &mut text, b'q', WORDS)?;
+    let center = lines::read_center(&mut text, b'x')?;
+    let point = lines::read_point(&mut text)?;
+    let z = lines::read_point_height(&mut text)?;
+    let quote = lines::read_quote(&mut text, b'g')?;
+    let mut mesh = lent.clone()?;
+    let r = commit_on(
+        &mut mesh,
+        changes,
+        &mut ring,
+        &mut pending,
+        center,
+        point,
+        z,
+        quote,
+    );
+    let cleared = lines::cleared(&text);
+    demand(ring.holds(cleared) && test_mesh::holds(&pending, cleared))?;
+    lines::demand_mesh(alloc, &mut text, &lent, &mesh)?;
+    // Refusal, place, fate, vertex, faces, flips and the change count.
+    text.line_of(
+        b'r',
+        &[
+            u64::from(r.refusal),
+            u64::from(r.place),
+            r.answer.fate,
+            r.answer.vertex,
+            r.answer.faces,
+            r.answer.flips,
+            u64::from(r.changes),
+        ],
+    )
 }

@@ -4,175 +4,182 @@
 // entry of the rows. A run makes the same steps and goes on with all passes, the skipped points and the closing pass. Its answers must be
 // the Rust's too, and it must leave what a finish makes of the Rust's last mesh, with the faces and flips of the first pass and of that
 // finish added up. Where the Rust's search goes on for ever, or a later pass adds a face, there is no such mesh: then the run is accepted.
-ghost use Rattle.test_mesh.specs.Lent.{CoordinatesLent, MeshLent};
-
-use super::{Passed, RunLeft, Stepped};
 use angle::Point2;
 use fithmoul::results::{FinishResult, RunResult};
-use test_mesh::{
-    Agreed, Coordinates, CoordinatesLine, LONGS, Longs, Mesh, NODES, Ring, WORDS, lines,
-};
+use std::alloc::Global;
+use test_mesh::{LONGS, Mesh, NODES, PLAIN, Ring, WORDS, lines};
+use test_text::{Failure, Number, Reader, demand};
 
-// The line `g faces flips`, of the first pass.
-#[derive(Clone, Copy)]
-struct PassLine {
+// What a pass of `fix_convexity` adds and flips.
+#[derive(Clone, Copy, PartialEq)]
+struct Pass {
     faces: u64,
     flips: u64,
-    at: usize,
-    is_whole: bool,
 }
 
 // The line `i`, with the case's number.
-fn read_number_line(text: &[u8], at: usize) -> Agreed {
-    let n = test_text::read_natural(text, test_text::behind(text, at));
-    let end = n.at;
-    Agreed {
-        agrees: test_mesh::is_line(text, at, b'i', end),
-        at: test_text::behind(text, end),
-    }
+fn read_number_line(text: &mut Reader) -> Result<(), Failure> {
+    text.take(b'i')?;
+    text.entry::<u64>()?;
+    text.take(b'\n')
 }
 
-fn read_pass(text: &[u8], at: usize) -> PassLine {
-    let faces = test_text::read_natural(text, test_text::behind(text, at));
-    let flips = test_text::read_natural(text, faces.at);
-    let end = flips.at;
-    PassLine {
-        faces: faces.magnitude,
-        flips: flips.magnitude,
-        at: test_text::behind(text, end),
-        is_whole: test_mesh::is_line(text, at, b'g', end),
-    }
+// The line `q`, with the points.
+fn read_points(alloc: Global, text: &mut Reader) -> Result<Vec<i32>, Failure> {
+    text.take(b'q')?;
+    lines::read_points(alloc, text)
 }
 
-// The line `q`.
-fn read_points(text: &[u8], at: usize) -> CoordinatesLine
-    ensures { CoordinatesLent result.coordinates }
-{
-    let q = test_mesh::read_points(text, test_text::behind(text, at));
-    let points = q.coordinates;
-    CoordinatesLine {
-        coordinates: points,
-        at: q.at,
-        is_whole: q.is_whole & (test_text::byte(text, at) == b'q'),
-    }
+// The line `g faces flips`, of the first pass.
+fn read_pass(text: &mut Reader) -> Result<Pass, Failure> {
+    text.take(b'g')?;
+    let faces = text.entry()?;
+    let flips = text.entry()?;
+    text.take(b'\n')?;
+    Ok(Pass { faces, flips })
 }
 
-// Whether a mesh is the one that stands at a place, and the place behind it. Behind the entries that are written both have zeros.
-fn compare_mesh(text: &[u8], at: usize, mesh: Mesh) -> Agreed {
-    let m = test_mesh::read_mesh(text, at, test_mesh::LENT, true);
-    Agreed {
-        agrees: m.is_whole & test_mesh::same_mesh(m.mesh, mesh),
-        at: m.at,
-    }
+// The mesh must be the one that stands here. Behind the entries that are written both have zeros.
+fn demand_mesh(alloc: Global, text: &mut Reader, mesh: &Mesh) -> Result<(), Failure> {
+    demand(mesh.is(&PLAIN.read(alloc, text)?))
 }
 
-// Whether answers are those of the line at a place, which has a tag, and the place behind it.
-fn compare_answers(text: &[u8], at: usize, tag: u8, answers: Longs) -> Agreed {
-    let start = test_mesh::plain_start(text, at, tag, LONGS, 7);
-    test_mesh::compare_longs(text, start, answers)
+// The answers must be those of the line that stands here, which has a tag, and untouched behind them.
+fn demand_answers(
+    alloc: Global,
+    text: &mut Reader,
+    tag: u8,
+    answers: &[u64],
+) -> Result<(), Failure> {
+    let due = test_mesh::read_plain_row(alloc, text, tag, LONGS, Number::from(7u32))?;
+    demand(test_mesh::are_due(answers, &due))
 }
 
-// Whether the steps have left what the lines from `a` on have; the place of the line `g`.
-fn steps_agree(text: &[u8], at: usize, after: Stepped) -> Agreed {
-    let a = compare_answers(text, at, b'a', after.answers);
-    let m = compare_mesh(text, a.at, after.mesh);
-    Agreed {
-        agrees: a.agrees & m.agrees,
-        at: m.at,
-    }
+// A run that stops before its finish; its answers.
+fn steps_on(
+    alloc: Global,
+    mesh: &mut Mesh,
+    center: Point2,
+    points: &[i32],
+) -> Result<Vec<u64>, Failure> {
+    let mut ring = Ring::sevens(alloc, NODES, WORDS, WORDS)?;
+    let mut pending = vec![in alloc; 7; WORDS]?;
+    let mut answers = vec![in alloc; 7; LONGS]?;
+    let end = stages::steps(
+        mesh.counts,
+        &mut mesh.rows.positions,
+        &mut mesh.rows.outs,
+        &mut mesh.rows.halves,
+        &mut mesh.rows.faces,
+        &mut ring.nodes,
+        &mut ring.freed,
+        &mut ring.buckets,
+        &mut pending,
+        &mut answers,
+        center,
+        points,
+    );
+    mesh.counts = end.counts;
+    Ok(answers)
 }
 
-// Whether the first pass has left what the lines from `g` on have; the place behind them.
-fn pass_agrees(text: &[u8], at: usize, after: Passed) -> Agreed {
-    let g = read_pass(text, at);
-    let m = compare_mesh(text, g.at, after.mesh);
-    Agreed {
-        agrees: g.is_whole & m.agrees & (after.faces == g.faces) & (after.flips == g.flips),
-        at: m.at,
-    }
+// One pass of `fix_convexity`.
+fn pass_on(alloc: Global, mesh: &mut Mesh) -> Result<Pass, Failure> {
+    let mut pending = vec![in alloc; 7; WORDS]?;
+    let added = stages::pass(
+        mesh.counts,
+        &mesh.rows.positions,
+        &mut mesh.rows.outs,
+        &mut mesh.rows.halves,
+        &mut mesh.rows.faces,
+        &mut pending,
+    );
+    mesh.counts = added.counts;
+    Ok(Pass {
+        faces: u64::from(added.faces),
+        flips: added.flips,
+    })
+}
+
+// A finish that must leave zeros in pending.
+fn finish_on(alloc: Global, mesh: &mut Mesh) -> Result<FinishResult, Failure> {
+    let mut pending = vec![in alloc; 7; WORDS]?;
+    let r = super::finish_on(mesh, &mut pending);
+    demand(test_mesh::holds(&pending, 0))?;
+    Ok(r)
+}
+
+// A run on a mesh whose change count is 7, which must start the count at 0, and leave zeros in the ring's rows and pending.
+fn run_on(
+    alloc: Global,
+    mesh: &mut Mesh,
+    answers: &mut [u64],
+    center: Point2,
+    points: &[i32],
+) -> Result<RunResult, Failure> {
+    let mut ring = Ring::sevens(alloc, NODES, WORDS, WORDS)?;
+    let mut pending = vec![in alloc; 7; WORDS]?;
+    let point_heights = test_mesh::zero_heights(alloc)?;
+    let r = super::run_on(
+        mesh,
+        7,
+        &mut ring,
+        &mut pending,
+        answers,
+        center,
+        points,
+        &point_heights,
+    );
+    demand(ring.holds(0) && test_mesh::holds(&pending, 0) && r.changes == 0)?;
+    Ok(r)
 }
 
 // Whether the numbers of a run are those of a pass and of the finish after it together.
-fn add_up(run: RunResult, pass: PassLine, rest: FinishResult) -> bool {
-    let faces = run.faces_added as u64;
-    let flips = run.convex_flips;
-    if faces < pass.faces {
-        return false;
+fn add_up(run: RunResult, pass: Pass, rest: FinishResult) -> bool {
+    run.refusal == 0
+        && rest.refusal == 0
+        && pass.faces.checked_add(u64::from(rest.faces_added)) == Some(u64::from(run.faces_added))
+        && pass.flips.checked_add(rest.convex_flips) == Some(run.convex_flips)
+        && run.closing_flips == rest.closing_flips
+}
+
+// Whether a line has a tag alone and is the last of its case but for the line `e`.
+fn is_last(mut text: Reader, tag: u8) -> bool {
+    text.line_of::<u64>(tag, &[]).is_ok() && text.line_of::<u64>(b'e', &[]).is_ok()
+}
+
+// The run must agree with the lines behind the first pass.
+fn demand_run(
+    alloc: Global,
+    mut text: Reader,
+    mut mesh: Mesh,
+    center: Point2,
+    points: &[i32],
+    pass: Pass,
+) -> Result<(), Failure> {
+    let mut answers = vec![in alloc; 7; LONGS]?;
+    let r = run_on(alloc, &mut mesh, &mut answers, center, points)?;
+    if is_last(text, b'l') || is_last(text, b'b') {
+        return demand(r.refusal == 0);
     }
-    if flips < pass.flips {
-        return false;
-    }
-    (run.refusal == 0)
-        & (rest.refusal == 0)
-        & (faces - pass.faces == rest.faces_added as u64)
-        & (flips - pass.flips == rest.convex_flips)
-        & (run.closing_flips == rest.closing_flips)
+    demand_answers(alloc, &mut text, b'b', &answers)?;
+    let mut due = PLAIN.read(alloc, &mut text)?;
+    let rest = finish_on(alloc, &mut due)?;
+    demand(mesh.is(&due) && add_up(r, pass, rest))?;
+    text.line_of::<u64>(b'e', &[])
 }
 
-// Whether a line has a tag alone and is the last of its case.
-fn is_last(text: &[u8], at: usize, tag: u8) -> bool {
-    test_text::is_line_of(text, at, tag, &[])
-        & test_text::is_line_of(text, test_text::next_line(text, at), b'e', &[])
-}
-
-// Whether a run has answered as the line `b` has it, and has left what a finish makes of the mesh behind that line; g is the first pass's.
-fn completed_agrees(text: &[u8], at: usize, g: PassLine, ran: RunLeft) -> bool {
-    let b = compare_answers(text, at, b'b', ran.answers);
-    let m = test_mesh::read_mesh(text, b.at, test_mesh::LENT, true);
-    let ended = super::finish_on(m.mesh, WORDS, 0);
-    b.agrees
-        & m.is_whole
-        & ended.cleared
-        & test_mesh::same_mesh(ran.mesh, ended.mesh)
-        & add_up(ran.result, g, ended.result)
-        & test_text::is_line_of(text, m.at, b'e', &[])
-}
-
-// Whether a run agrees with the lines behind the first pass, whose line `g` stands at `pass`. The Rust has no change count; a run starts
-// it at 0.
-fn run_agrees(text: &[u8], pass: usize, at: usize, ran: RunLeft) -> bool {
-    let cleared = ran.cleared & (ran.result.changes == 0);
-    if is_last(text, at, b'l') | is_last(text, at, b'b') {
-        return cleared & (ran.result.refusal == 0);
-    }
-    completed_agrees(text, at, read_pass(text, pass), ran) & cleared
-}
-
-// Whether all agree with the lines from `a` on.
-fn case_agrees(text: &[u8], at: usize, mesh: Mesh, center: Point2, points: Coordinates) -> bool
-    requires mesh_lent { MeshLent mesh }
-    requires coordinates_lent { CoordinatesLent points }
-{
-    let ring = Ring {
-        nodes: NODES,
-        freed: WORDS,
-        buckets: WORDS,
-    };
-    let point_heights = test_mesh::zero_heights();
-    let ran = super::run_on(
-        mesh,
-        7,
-        ring,
-        WORDS,
-        LONGS,
-        center,
-        points,
-        point_heights,
-        0,
-    );
-    let stepped = super::steps_on(mesh, center, points);
-    let last = stepped.mesh;
-    let s = steps_agree(text, at, stepped);
-    let p = pass_agrees(text, s.at, super::pass_on(last));
-    s.agrees & p.agrees & run_agrees(text, s.at, p.at, ran)
-}
-
-// The case whose line `i` stands at a place.
-pub fn agrees(text: &[u8], at: usize) -> bool {
-    let i = read_number_line(text, at);
-    let m = test_mesh::read_mesh(text, i.at, test_mesh::LENT, true);
-    let c = lines::read_center(text, m.at, b'c');
-    let q = read_points(text, c.at);
-    let same = case_agrees(text, q.at, m.mesh, c.center, q.coordinates);
-    same & i.agrees & m.is_whole & c.is_whole & q.is_whole
+pub fn agrees(alloc: Global, mut text: Reader) -> Result<(), Failure> {
+    read_number_line(&mut text)?;
+    let seed = PLAIN.read(alloc, &mut text)?;
+    let center = lines::read_center(&mut text, b'c')?;
+    let points = read_points(alloc, &mut text)?;
+    let mut mesh = seed.clone()?;
+    let answers = steps_on(alloc, &mut mesh, center, &points)?;
+    demand_answers(alloc, &mut text, b'a', &answers)?;
+    demand_mesh(alloc, &mut text, &mesh)?;
+    let pass = pass_on(alloc, &mut mesh)?;
+    demand(read_pass(&mut text)? == pass)?;
+    demand_mesh(alloc, &mut text, &mesh)?;
+    demand_run(alloc, text, seed, center, &points, pass)
 }

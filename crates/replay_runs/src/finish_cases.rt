@@ -1,16 +1,26 @@
 // Meshes and what `fithmoul_finish` makes of them (tests/reference/finish_cases.py): unsettled fans, zigzag arms that need many passes,
 // overlapping and pinched meshes, pending lists that fill, and every refusal. A case agrees where the answer, the counts and every row
 // over its whole length do.
-use test_mesh::{WORDS, lines};
+use std::alloc::Global;
+use test_mesh::{LENT, WORDS, lines};
+use test_text::{Failure, Reader, demand};
 
-// The case whose line `m` stands at a place.
-pub fn agrees(text: &[u8], at: usize) -> bool {
-    let m = test_mesh::read_mesh(text, at, test_mesh::LENT, false);
-    let q = lines::read_sevens(text, m.at, b'q', WORDS);
-    let left = super::finish_on(m.mesh, q.length, lines::cleared(text, q.at));
-    let result = left.result;
-    let mesh = lines::compare_mesh(text, at, q.at, left.mesh);
-    let numbers = super::numbers_of(result);
-    let line = test_text::is_line_of(text, mesh.at, b'r', &numbers);
-    m.is_whole & q.is_whole & mesh.agrees & left.cleared & line
+pub fn agrees(alloc: Global, mut text: Reader) -> Result<(), Failure> {
+    let lent = LENT.read(alloc, &mut text)?;
+    let mut pending: Vec<u32> = lines::read_sevens(alloc, &mut text, b'q', WORDS)?;
+    let mut mesh = lent.clone()?;
+    let r = super::finish_on(&mut mesh, &mut pending);
+    demand(test_mesh::holds(&pending, lines::cleared(&text)))?;
+    lines::demand_mesh(alloc, &mut text, &lent, &mesh)?;
+    // Refusal, place, faces, flips of the convexity passes and of the closing pass.
+    text.line_of(
+        b'r',
+        &[
+            u64::from(r.refusal),
+            u64::from(r.place),
+            u64::from(r.faces_added),
+            r.convex_flips,
+            r.closing_flips,
+        ],
+    )
 }

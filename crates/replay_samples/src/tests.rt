@@ -1,41 +1,38 @@
 // The samples of the circle test and of `is_behind_edge`.
-use math::Point;
+use test_mesh::lines;
+use test_text::{Failure, Reader, demand};
 
-fn behind(a: Point, b: Point, c: Point, expected: test_text::Number) -> bool {
-    if math::validate_vertex(a) {
-        if math::validate_vertex(b) {
-            if math::validate_vertex(c) {
-                return math::is_behind_edge(a, b, c) == (expected.magnitude == 1);
-            }
-        }
+// The answer is the sign of a determinant.
+pub fn circle_sample(mut text: Reader) -> Result<(), Failure> {
+    text.take(b'i')?;
+    let a = lines::read_coordinates(&mut text)?;
+    let b = lines::read_coordinates(&mut text)?;
+    let c = lines::read_coordinates(&mut text)?;
+    let d = lines::read_coordinates(&mut text)?;
+    let sign: i32 = text.entry()?;
+    text.take(b'\n')?;
+    demand(-1 <= sign && sign <= 1)?;
+    if math::validate_vertex(a)
+        && math::validate_vertex(b)
+        && math::validate_vertex(c)
+        && math::validate_vertex(d)
+    {
+        return demand(math::contained_in_circumference(a, b, c, d) == (sign == 1));
     }
-    false
+    Err(Failure::Differs)
 }
 
-fn circle(a: Point, b: Point, c: Point, d: Point, expected: test_text::Number) -> bool {
-    if math::validate_vertex(a) {
-        if math::validate_vertex(b) {
-            if math::validate_vertex(c) {
-                if math::validate_vertex(d) {
-                    let inside = (expected.magnitude == 1) & !expected.negative;
-                    return math::contained_in_circumference(a, b, c, d) == inside;
-                }
-            }
-        }
-    }
-    false
-}
-
-// The sample whose numbers begin at a place. An answer is 0 or 1, or the sign of a determinant.
-pub fn holds(text: &[u8], at: usize, tag: u8) -> bool {
-    let a = test_mesh::read_point(text, at);
-    let b = test_mesh::read_point(text, a.at);
-    let c = test_mesh::read_point(text, b.at);
-    if tag == b'i' {
-        let d = test_mesh::read_point(text, c.at);
-        let n = test_text::read_number(text, d.at);
-        return circle(a.p, b.p, c.p, d.p, n) & (n.magnitude < 2);
-    }
-    let n = test_text::read_number(text, c.at);
-    behind(a.p, b.p, c.p, n) & (n.magnitude < 2)
+pub fn behind_sample(mut text: Reader) -> Result<(), Failure> {
+    text.take(b'b')?;
+    let a = lines::read_coordinates(&mut text)?;
+    let b = lines::read_coordinates(&mut text)?;
+    let c = lines::read_coordinates(&mut text)?;
+    let answer = super::read_answer(&mut text)?;
+    text.take(b'\n')?;
+    demand(
+        math::validate_vertex(a)
+            && math::validate_vertex(b)
+            && math::validate_vertex(c)
+            && math::is_behind_edge(a, b, c) == answer,
+    )
 }

@@ -137,12 +137,12 @@ take_next {f} {n} {len} e = subst (Taken f n len len 0) (one len) (next_one e)
     one : (k : ℕ) → suc k ≡ k + 1
     one k = omega arith
 
-pub take-top : (l : List ℕ) {n len : ℕ} → n ≢ 0 → Taken (row_of l) n len (get_or l (n - 1) 0) (n - 1) len
+pub take-top : (l : List ℕ) {n len i : ℕ} → (1 ≤ n) × (i ≡ n - 1) → Taken (row_of l) n len (get_or l i 0) i len
 unfolding row_of
-take-top l {n} {len} h = top (back n h)
+take-top l {n} {len} {i} h = top (back n i h.0 h.1)
   where
-    back : (n : ℕ) → n ≢ 0 → n ≡ suc (n - 1)
-    back n h = omega arith
+    back : (n i : ℕ) → 1 ≤ n → i ≡ n - 1 → n ≡ suc i
+    back n i h e = omega arith
 
 pub taken-le : {f : ℕ → ℕ} {n len v n' len' : ℕ} → Taken f n len v n' len' → n' ≤ n
 taken-le {f} {n} {len} {v} {n'} {len'} X = go (taken-sum X)
@@ -196,15 +196,20 @@ pub rebuckets : {old mid new : List ℕ} {count a b c L Q R s v : ℕ} → a ≡
 rebuckets {old} {mid} {new} {count} {a} {b} {c} {L} {Q} {R} {s} {v} e f g P U = record { mid = mid; left = rw (← e, ← f) P; right = rw (← f, ← g) U }
 
 -- ---- another number of buckets
-pub to-refill : {nodes : List Node} {buckets : List ℕ} {h : Hull} {count : ℕ} → ToAdjust nodes buckets h → count ≡ adjusted_buckets h.buckets (size_of h) → ToFill nodes buckets count (row_of buckets 0) (size_of h)
-to-refill {nodes} {buckets} {h} {count} A e = record {
-  len = h.nodes;
-  ring = A.rows.ring;
-  node-room = A.rows.node-room;
-  counted = rw e (adjusted-buckets (size_of h) A.size-most A.rows.counted);
-  bucket-room = rw e A.room;
-}
+module _ (h : Hull) {count size : ℕ} (sized : size ≡ size_of h) (counted : count ≡ adjusted_buckets h.buckets size) where
+  count-is : count ≡ adjusted_buckets h.buckets (size_of h)
+  count-is = counted ∙ ap (adjusted_buckets h.buckets) sized
 
-pub adjusted : {nodes : List Node} {old new : List ℕ} {h : Hull} {count : ℕ} → count ≡ adjusted_buckets h.buckets (size_of h)
-    → Bucketed (right_node_of (nodes_of nodes)) (angle_of (nodes_of nodes)) (row_of new) count (width count) (row_of old 0) (size_of h) → Adjusted nodes old new h (record { buckets = count; nodes = h.nodes; freed = h.freed })
-adjusted e F = record { count = e; used = refl; freed = refl; filled = F }
+  pub to-refill : {nodes : List Node} {buckets : List ℕ} → ToAdjust nodes buckets h → ToFill nodes buckets count (row_of buckets 0) size
+  to-refill {nodes} {buckets} A = record {
+    len = h.nodes;
+    ring = rw sized A.rows.ring;
+    node-room = A.rows.node-room;
+    counted = rw count-is (adjusted-buckets (size_of h) A.size-most A.rows.counted);
+    bucket-room = rw count-is A.room;
+  }
+
+  pub adjusted : {nodes : List Node} {old new : List ℕ}
+      → Bucketed (right_node_of (nodes_of nodes)) (angle_of (nodes_of nodes)) (row_of new) count (width count) (row_of old 0) size
+      → Adjusted nodes old new h (record { buckets = count; nodes = h.nodes; freed = h.freed })
+  adjusted F = record { count = count-is; used = refl; freed = refl; filled = rw (← sized) F }

@@ -48,19 +48,10 @@ pub fn is_fit(left: f64, middle: f64, right: f64, chain: u32, size: u32) -> bool
     requires { IsAngle left × IsAngle middle × IsAngle right × (3 + chain < 2 ^ 32) × (size + 2 < 2 ^ 32) }
     ensures { result ≡ is_fit full_turn (turns left) (turns middle) (turns right) chain size }
 {
-    if angle::equal(middle, right) {
-        return false;
-    }
-    if segment::is_wide(left, middle) {
-        return false;
-    }
-    if segment::is_wide(middle, right) {
-        return false;
-    }
-    if angle::equal(left, middle) {
-        return 3 + chain <= size + 1;
-    }
-    3 + chain <= size + 1 + 1
+    !angle::equal(middle, right)
+        && !segment::is_wide(left, middle)
+        && !segment::is_wide(middle, right)
+        && 3 + chain <= size + u32::from(!angle::equal(left, middle)) + 1
 }
 
 // The nodes strictly between `first` and the node of an angle, going right, are freed.
@@ -69,18 +60,16 @@ fn release(nodes: &[Node], freed: &mut [u32], top: u32, first: u32, angle: f64) 
     ensures { ReleasedTo (nodes_of nodes.now) freed.old freed.new top first
         (turns angle) result.right result.freed }
 {
-    let from = ring_rows::load(nodes, first);
-    let mut i = from.right;
+    let mut right = ring_rows::load(nodes, first).right;
+    let mut node = ring_rows::load(nodes, right);
     let mut n = top;
-    loop {
-        let node = ring_rows::load(nodes, i);
-        if angle::equal(node.angle, angle) {
-            return Released { right: i, freed: n };
-        }
-        freed[n as usize] = i;
+    while !angle::equal(node.angle, angle) {
+        freed[n as usize] = right;
         n += 1;
-        i = node.right;
+        right = node.right;
+        node = ring_rows::load(nodes, right);
     }
+    Released { right, freed: n }
 }
 
 // `get_next_index`: the last one freed, or else the next number.
@@ -88,19 +77,17 @@ fn get_next_index(freed: &[u32], top: u32, nodes: u32) -> Vacant
     requires { (top ≤ length freed.now) × (nodes + 1 < 2 ^ 32) }
     ensures { Taken (row_of freed.now) top nodes result.node result.freed result.nodes }
 {
-    if top == 0 {
-        return Vacant {
+    match top.checked_sub(1) {
+        Some(i) => Vacant {
+            node: freed[i as usize],
+            freed: i,
+            nodes,
+        },
+        None => Vacant {
             node: nodes,
             freed: 0,
             nodes: nodes + 1,
-        };
-    }
-    let i = top - 1;
-    let node = freed[i as usize];
-    Vacant {
-        node: node,
-        freed: i,
-        nodes: nodes,
+        },
     }
 }
 
@@ -118,25 +105,23 @@ fn choose(
 {
     let gone = release(nodes, freed, hull.freed, left, angle);
     let vacant = get_next_index(freed, gone.freed, hull.nodes);
-    if goes {
-        freed[vacant.freed as usize] = left;
-        let node = ring_rows::load(nodes, left);
-        return Choice {
-            right: gone.right,
-            node: vacant.node,
-            before: node.left,
-            start: vacant.node,
-            freed: vacant.freed + 1,
-            nodes: vacant.nodes,
-        };
-    }
-    Choice {
+    let stays = Choice {
         right: gone.right,
         node: vacant.node,
         before: left,
         start: left,
         freed: vacant.freed,
         nodes: vacant.nodes,
+    };
+    if !goes {
+        return stays;
+    }
+    freed[vacant.freed as usize] = left;
+    Choice {
+        before: ring_rows::load(nodes, left).left,
+        start: vacant.node,
+        freed: vacant.freed + 1,
+        ..stays
     }
 }
 
@@ -162,26 +147,14 @@ fn place(nodes: &mut [Node], choice: Choice, leftedge: u32, rightedge: u32, midd
     }
 }
 
-// The first place of the stack at which an insert may have pushed a node: the one below the old top, which `get_next_index` may have taken.
-fn first_pushed(top: u32) -> u32
-    ensures { result ≡ top - 1 }
-{
-    if top == 0 {
-        return 0;
-    }
-    top - 1
-}
-
 // The nodes on the stack from `from` up to `to` lose their edges, by which `find` knows that they are not in the ring.
 fn retire(nodes: &mut [Node], freed: &[u32], from: u32, to: u32)
     requires { ToRetire nodes.old freed.now from to }
     ensures { Retired (nodes_of nodes.old) (nodes_of nodes.new) (row_of freed.now) from to }
 {
-    let mut k = from;
-    while k < to {
-        let node = freed[k as usize];
-        ring_rows::set_edge(nodes, node, NO_EDGE);
-        k += 1;
+    let gone = &freed[from as usize..to as usize];
+    for node in gone {
+        ring_rows::set_edge(nodes, *node, NO_EDGE);
     }
 }
 
@@ -207,28 +180,25 @@ fn update_buckets(
 }
 
 // The number of buckets for a ring of `size` nodes.
+#[tactic(auto, unfolding(ring::specs::Resize::adjusted_buckets))]
 fn adjusted_buckets(count: u32, size: u32) -> u32
     requires { (count ≤ 2 ^ 20) × (size ≤ 2 ^ 20) }
     ensures { result ≡ adjusted_buckets count size }
 {
     if count * 2 < size {
-        return count * 2;
+        count * 2
+    } else if size * 4 < count && 16 < count && 16 <= count / 4 {
+        count / 4
+    } else {
+        count
     }
-    if size * 4 < count {
-        if 16 < count {
-            if 16 <= count / 4 {
-                return count / 4;
-            }
-        }
-    }
-    count
 }
 
 pub fn adjust_bucket_size_if_necessary(nodes: &[Node], buckets: &mut [u32], hull: Hull) -> Hull
     requires { ToAdjust nodes.now buckets.old hull }
     ensures { Adjusted nodes.now buckets.old buckets.new hull result }
 {
-    let size = hull.nodes - hull.freed;
+    let size = hull.size();
     let count = adjusted_buckets(hull.buckets, size);
     if count == hull.buckets {
         return hull;
@@ -237,8 +207,7 @@ pub fn adjust_bucket_size_if_necessary(nodes: &[Node], buckets: &mut [u32], hull
     ring_rows::initialize_buckets(nodes, buckets, count as usize, start, size);
     Hull {
         buckets: count,
-        nodes: hull.nodes,
-        freed: hull.freed,
+        ..hull
     }
 }
 
@@ -273,13 +242,14 @@ pub fn insert(
         choice.start,
         choice.node,
     );
-    let from = first_pushed(hull.freed);
+    // The first node that was pushed may stand one below the old top, which `get_next_index` may have taken.
+    let from = hull.freed.saturating_sub(1);
     retire(nodes, freed, from, choice.freed);
     let bucket = segment::floored_bucket(middle, hull.buckets as usize);
     ring_rows::set_finger(freed, choice.freed, bucket, choice.node);
     Hull {
-        buckets: hull.buckets,
         nodes: choice.nodes,
         freed: choice.freed,
+        ..hull
     }
 }

@@ -1,17 +1,20 @@
 -- What `find` asks of the walks and of the finger, and that it ends at the node of the angle. Assumes nothing.
-use Prim.Native.Nat.{ℕ, ◌+◌, ◌%◌, ◌<◌, ◌≤◌}
-use native.Mathlib.Nat.{mod-eq_of_lt, mod_self, mod-lt}
+use Prim.Native.Nat.{ℕ, ◌+◌, ◌-◌, ◌%◌, ◌<◌, ◌≤◌}
+use native.Mathlib.Nat.{mod-lt}
 use native.Mathlib.Omega.{arith}
 use mathlib.Core.Path.{◌≡◌, refl, sym, ◌∙◌, ap, subst}
-use mathlib.Core.Logic.{inl, inr}
-use mathlib.Core.Bool.{Bool, true, false}
+use mathlib.Core.Bool.{Bool, true}
 use mathlib.Core.List.{List}
 use lib.Dec.{T}
+use lib.Bits.{bit_and}
 use lib.Ieee.{Float}
+use Rattle.std.specs.Prelude.{Option, Some, None, IsSome, IfSome, MatchOption}
 use lib.ListN.{get_or, set}
 use lib.Seq.{get_or-set_other}
 use Rattle.angle.specs.Angle.{valid_angle}
+use Rattle.segment.specs.Bucket.{Buckets}
 use Rattle.segment.proofs.Laws.{bucket-pos}
+use Rattle.segment.proofs.Shift.{mask}
 use Rattle.sums.specs.Iterate.{iter}
 use Rattle.sums.proofs.IterateLaws.{iter-add, Reach}
 use Rattle.sums.proofs.TallyLaws.{tally-most}
@@ -23,20 +26,15 @@ use Rattle.ring.proofs.HullLaws.{on-to, on-any}
 use Rattle.ring_rows.specs.declared.Node.{Node}
 use Rattle.ring_rows.specs.declared.Hull.{Hull}
 use Rattle.ring_rows.specs.declared.Handles.{Handles}
-use Rattle.ring_rows.specs.declared.Walked.{Walked}
 use Rattle.ring_rows.specs.Rows.{nodes_of, angle_of, left_of, right_node_of, size_of}
-use Rattle.ring_rows.specs.Find.{OnRing, node_holds, NodeAt, ToFind, ToTest, ToWalk, WalkedBoth, FingerOr}
+use Rattle.ring_rows.specs.Find.{OnRing, node_holds, NodeAt, ToFind, ToTest, ToWalk, WalkedBoth, InUse}
 use Rattle.ring_rows.proofs.Laws.{ring-from}
 use Rattle.ring_rows.proofs.Test.{to-test}
 
 -- ---- the node of the next bucket
-pub after-inside : (l : List ℕ) {i count : ℕ} → i < count → get_or l i 0 ≡ row_of l (i % count)
+pub after_masked : (l : List ℕ) (i count : ℕ) → Buckets count → get_or l (bit_and i (count - 1)) 0 ≡ row_of l (i % count)
 unfolding row_of
-after-inside l u = ap (λ (i : ℕ). get_or l i 0) (sym (mod-eq_of_lt u))
-
-pub after_last : (l : List ℕ) {i count : ℕ} → i ≡ count → get_or l 0 0 ≡ row_of l (i % count)
-unfolding row_of
-after_last l {i} {count} e = ap (λ (i : ℕ). get_or l i 0) (sym (ap (λ (i : ℕ). i % count) e ∙ mod_self count))
+after_masked l i count B = ap (λ (k : ℕ). get_or l k 0) (mask count i B)
 
 -- ---- a store above the stack
 pub stack-kept : (l : List ℕ) (v : ℕ) {top i : ℕ} → top ≤ i → (j : ℕ) → j < top → row_of (set l i v) j ≡ row_of l j
@@ -99,22 +97,27 @@ module _ {nodes : List Node} {buckets : List ℕ} {h : Hull} (F : ToFind nodes b
       valid = v;
     }
 
-    module _ {x limit : ℕ} {r : Walked} (W : WalkedBoth (nodes_of nodes) right x limit r) where
-      pub walked_at : r.found ≡ true → NodeAt nodes buckets h x r.node
-      walked_at z = record { on = reach-on o W.reached; at = W.at z }
+    module _ {x limit : ℕ} {r : Option ℕ} (W : WalkedBoth (nodes_of nodes) right x limit r) where
+      pub walked_at : {i : ℕ} → r ≡ Some i → NodeAt nodes buckets h x i
+      walked_at {i} z = record { on = reach-on o (W.reached i z); at = W.at i z }
 
       -- as many turns as there are nodes find it
-      pub walked-round : limit ≡ size_of h → NodeAt nodes buckets h x r.node
-      walked-round e = go r.found refl
+      pub walked-round : limit ≡ size_of h → IsSome r
+      walked-round e = go r refl
         where
-          go : (b : Bool) → r.found ≡ b → NodeAt nodes buckets h x r.node
-          go true z = walked_at z
-          go false z =
+          go : (q : Option ℕ) → r ≡ q → IsSome q
+          go (Some i) z = refl
+          go None z =
               let m = tile (ring-from F.rows.ring right o).sound x in
               absurd (W.missed z m.0 (let l = m.1.below in omega arith) m.1.passes)
 
   -- ---- the finger
-  pub finger-on : {ends r : Handles} → OnRing nodes buckets h ends.right → OnRing nodes buckets h ends.left
-      → FingerOr (nodes_of nodes) h.nodes ends r → OnRing nodes buckets h r.right × OnRing nodes buckets h r.left
-  finger-on o p (inl e) = (rw e o, rw e p)
-  finger-on o p (inr (same, l, d)) = let q = F.in_use _ l d in (q, rw same q)
+  pub in-use-on : {i : ℕ} → InUse (nodes_of nodes) h.nodes i → OnRing nodes buckets h i
+  in-use-on {i} (l, d) = F.in_use i l d
+
+  -- a walk starts there, or else at the ends
+  pub started : (q : Option ℕ) {ends r : Handles} {P : ℕ → Type 0} → OnRing nodes buckets h ends.right → OnRing nodes buckets h ends.left
+      → IfSome q (InUse (nodes_of nodes) h.nodes) → MatchOption q (r ≡ ends) P → ((i : ℕ) → P i → r ≡ record { right = i; left = i })
+      → OnRing nodes buckets h r.right × OnRing nodes buckets h r.left
+  started None o p u e g = rw e (o, p)
+  started (Some i) o p u e g = let k = in-use-on u in rw (g i e) (k, k)

@@ -1,53 +1,74 @@
--- What holds on the way of the stores to a range. Assumes nothing.
-use Prim.Native.Nat.{ℕ, ◌+◌, ◌<◌, ◌≤◌}
-use native.Mathlib.Decide.{ℕ_discrete}
+-- What a `fill` of a part of the row leaves, and of two parts. Assumes nothing.
+use Prim.Native.Nat.{ℕ, ◌+◌, ◌-◌, ◌<◌, ◌≤◌}
+use Rattle.std.proofs.Common.{zero-le}
 use native.Mathlib.Omega.{arith}
-use mathlib.Core.Path.{◌≡◌, refl, ◌∙◌, ap, subst}
+use mathlib.Core.Path.{◌≡◌, ◌∙◌, ap}
 use mathlib.Core.Bool.{Bool, true, false, cond, ◌&&◌, ◌||◌}
-use mathlib.Core.List.{List}
+use mathlib.Core.List.{List, ◌++◌}
 use lib.Dec.{leb, ltb}
-use lib.ListN.{length, get_or, set, length-set}
-use lib.Seq.{get_or-set_same, get_or-set_other}
+use lib.ListN.{length, get_or, take, drop, replicate}
+use Rattle.std.proofs.lemmas.List.{length-take-le, length-replicate, length-drop, length-append, get_or-replicate, get_or_append_left, get_or-append-add, get_or-take, get_or-drop}
+use borrow.Rule.Slice.PartMut.{put_mid}
 use Rattle.sums.proofs.BitLaws.{Tells, lt?, le?}
 use Rattle.dcel.specs.Rows.{row_of}
 use Rattle.ring.specs.Buckets.{within}
-use Rattle.ring_rows.specs.Rows.{FilledRun, Updated}
+use Rattle.ring_rows.specs.Rows.{Updated}
 
--- up to i is done
-pub record Doing (old new : List ℕ) (from to v i : ℕ) : Type 0 where
-  pub done : FilledRun old new from i v
-  pub low : from ≤ i
-  pub high : i ≤ to
-  pub room : to ≤ length old
-  pub same : length new ≡ length old
+-- v stands from `from` up to `to`, and elsewhere what stood there
+pub record FilledRun (old new : List ℕ) (from to v : ℕ) : Type 0 where
+  pub inside : (i : ℕ) → from ≤ i → i < to → row_of new i ≡ v
+  pub before : (i : ℕ) → i < from → row_of new i ≡ row_of old i
+  pub past : (i : ℕ) → to ≤ i → row_of new i ≡ row_of old i
 
-pub begin : {old : List ℕ} {from to : ℕ} (v : ℕ) → from ≤ to → to ≤ length old → Doing old old from to v from
-begin v h g = record { done = record { inside = λ i a b. absurd (omega arith); before = λ i a. refl; past = λ i a. refl }; low = omega arith; high = h; room = g; same = refl }
+further : (xs ys : List ℕ) (n i : ℕ) → length xs ≡ n → n ≤ i → get_or (xs ++ ys) i 0 ≡ get_or ys (i - n) 0
+further xs ys n i e l = ap (λ (k : ℕ). get_or (xs ++ ys) k 0) (at (length xs) e) ∙ get_or-append-add xs ys (i - n) 0
+  where
+    at : (m : ℕ) → m ≡ n → i ≡ m + (i - n)
+    at m e = omega arith
 
-module _ {old new : List ℕ} {from to v i : ℕ} (D : Doing old new from to v i) where
-  pub more : i < to → Doing old (set new i v) from to v (i + 1)
-  unfolding row_of
-  more l = record {
-    done = record {
-      inside = λ j a b. at j a b (ℕ_discrete j i);
-      before = λ j a. get_or-set_other new i j v 0 (λ z. let c = D.low in omega arith) ∙ D.done.before j a;
-      past = λ j a. get_or-set_other new i j v 0 (λ z. omega arith) ∙ D.done.past j (omega arith);
-    };
-    low = let a = D.low in omega arith;
-    high = omega arith;
-    room = D.room;
-    same = length-set new i v ∙ D.same;
-  }
-    where
-      at : (j : ℕ) → from ≤ j → j < i + 1 → Dec (j ≡ i) → get_or (set new i v) j 0 ≡ v
-      at j a b (yes z) = ap (λ (k : ℕ). get_or (set new i v) k 0) z ∙ get_or-set_same new i v 0 (let c = D.room in let d = D.same in omega arith)
-      at j a b (no z) = get_or-set_other new i j v 0 z ∙ D.done.inside j a (omega arith)
+there : (i n : ℕ) → n ≤ i → n + (i - n) ≡ i
+there i n l = omega arith
 
-  pub end : to ≤ i → FilledRun old new from to v
-  end l = subst (λ (k : ℕ). FilledRun old new from k v) (let h = D.high in the i to h l) D.done
-    where
-      the : (i to : ℕ) → i ≤ to → to ≤ i → i ≡ to
-      the i to a b = omega arith
+-- what a `fill` of the first places leaves, or of those from `from` on
+pub filled-front : (old part : List ℕ) (to v : ℕ) → to ≤ length old → part ≡ replicate (length (take to old)) v
+    → FilledRun old (part ++ drop to old) 0 to v
+unfolding row_of
+filled-front old part to v room e =
+    let some : length (take to old) ≡ to = length-take-le to old room in
+    let size : length part ≡ to = ap length e ∙ length-replicate (length (take to old)) v ∙ some in
+    record {
+      inside = λ i a b. get_or_append_left part (drop to old) 0 i (omega arith)
+          ∙ ap (λ (l : List ℕ). get_or l i 0) e ∙ get_or-replicate (length (take to old)) i v 0 (omega arith);
+      before = λ i a. absurd (omega arith);
+      past = λ i a. further part (drop to old) to i size a ∙ get_or-drop to old (i - to) 0 ∙ ap (λ (k : ℕ). get_or old k 0) (there i to a);
+    }
+
+pub filled : (old part : List ℕ) (from to v : ℕ) → from ≤ to → to ≤ length old
+    → part ≡ replicate (length (take (to - from) (drop from old))) v → FilledRun old (put_mid from (to - from) old part) from to v
+unfolding row_of
+filled old part from to v h room e =
+    let start : length (take from old) ≡ from = length-take-le from old (omega arith) in
+    let left = length-drop from old in
+    let F = filled-front (drop from old) part (to - from) v (omega arith) e in
+    let rest = drop (to - from) (drop from old) in
+    record {
+      inside = λ i a b. further (take from old) (part ++ rest) from i start a ∙ F.inside (i - from) zero-le (omega arith);
+      before = λ i a. get_or_append_left (take from old) (part ++ rest) 0 i (omega arith) ∙ get_or-take from old i 0 a;
+      past = λ i a. further (take from old) (part ++ rest) from i start (omega arith) ∙ F.past (i - from) (omega arith)
+          ∙ get_or-drop from old (i - from) 0 ∙ ap (λ (k : ℕ). get_or old k 0) (there i from (omega arith));
+    }
+
+pub length-filled : (old part : List ℕ) (from to v : ℕ) → from ≤ to → to ≤ length old
+    → part ≡ replicate (length (take (to - from) (drop from old))) v → length (put_mid from (to - from) old part) ≡ length old
+length-filled old part from to v h room e =
+    let rest = drop (to - from) (drop from old) in
+    let start : length (take from old) ≡ from = length-take-le from old (omega arith) in
+    let left = length-drop from old in
+    let some : length (take (to - from) (drop from old)) ≡ to - from = length-take-le (to - from) (drop from old) (omega arith) in
+    let size : length part ≡ to - from = ap length e ∙ length-replicate (length (take (to - from) (drop from old))) v ∙ some in
+    let all = length-append (take from old) (part ++ rest) in
+    let end = length-append part rest in
+    let last = length-drop (to - from) (drop from old) in omega arith
 
 -- one range, or two
 pub updated-one : {old new : List ℕ} {count from to v : ℕ} → from ≤ to → to ≤ count → FilledRun old new from to v → Updated old new count from to v

@@ -4,14 +4,16 @@ use native.Mathlib.Decide.{ℕ_discrete}
 use native.Mathlib.Numerals.{add-one}
 use native.Mathlib.Omega.{arith}
 use mathlib.Core.Path.{◌≡◌, refl, sym, ◌∙◌, ap, subst}
-use mathlib.Core.Bool.{Bool, true, false, true≢false}
+use mathlib.Core.Bool.{Bool, true, false}
 use mathlib.Core.List.{List}
 use lib.Dec.{T}
 use lib.Ieee.{Float}
+use Rattle.std.specs.Prelude.{Some, None}
+use Rattle.std.proofs.lemmas.Option.{none-some, same_Some}
 use lib.ListN.{length}
 use Rattle.angle.specs.Angle.{turns}
 use Rattle.sums.specs.Iterate.{iter}
-use Rattle.sums.proofs.IterateLaws.{iter-last}
+use Rattle.sums.proofs.IterateLaws.{iter-last, Reach}
 use Rattle.ring.specs.Insert.{On}
 use Rattle.ring.proofs.HullLaws.{on-any}
 use Rattle.ring_rows.specs.declared.Node.{Node}
@@ -34,6 +36,13 @@ begin G = record {
   missed = λ k l u. omega arith;
 }
 
+found-at : {t : ℕ → Node} {right x limit i : ℕ} → Reach (right_node_of t) right i → T (node_holds t x i) → WalkedBoth t right x limit (Some i)
+found-at {t} {right} {x} {limit} {i} c h = record {
+  reached = λ j z. subst (Reach (right_node_of t) right) (same_Some i j z) c;
+  at = λ j z. subst (λ (k : ℕ). T (node_holds t x k)) (same_Some i j z) h;
+  missed = λ z. absurd (none-some i (sym z));
+}
+
 module _ {nodes : List Node} {a : Float} {right₀ left₀ right left turn : ℕ} (K : Walking nodes a right₀ left₀ right left turn) where
   right-on : On (right_node_of (nodes_of nodes)) K.given.size right₀ right
   right-on =
@@ -53,11 +62,19 @@ module _ {nodes : List Node} {a : Float} {right₀ left₀ right left turn : ℕ
   pub left_there : left < length nodes
   left_there = left-test.here
 
-  pub not_found : {limit : ℕ} → limit ≤ turn
-      → WalkedBoth (nodes_of nodes) right₀ (turns a) limit (record { node = right; found = false })
+  -- where a walk ends
+  pub right_found : {limit : ℕ} {b : Bool} → b ≡ node_holds (nodes_of nodes) (turns a) right → b ≡ true
+      → WalkedBoth (nodes_of nodes) right₀ (turns a) limit (Some right)
+  right_found e y = found-at (turn, sym K.at) (subst T (sym y ∙ e) tt)
+
+  pub left_found : {limit : ℕ} {b : Bool} → b ≡ node_holds (nodes_of nodes) (turns a) left → b ≡ true
+      → WalkedBoth (nodes_of nodes) right₀ (turns a) limit (Some left)
+  left_found e y = found-at (K.left-on.0, K.left-on.2) (subst T (sym y ∙ e) tt)
+
+  pub not_found : {limit : ℕ} → limit ≤ turn → WalkedBoth (nodes_of nodes) right₀ (turns a) limit None
   not_found l = record {
-    reached = (turn, sym K.at);
-    at = λ z. absurd (true≢false (sym z));
+    reached = λ i z. absurd (none-some i z);
+    at = λ i z. absurd (none-some i z);
     missed = λ z k m. K.missed k (omega arith);
   }
 

@@ -1,7 +1,6 @@
 -- What holds on the walk to the left. Assumes nothing.
 use Prim.Native.Nat.{ℕ, ◌<◌}
 use mathlib.Core.Path.{◌≡◌, sym, ◌∙◌, ap, subst}
-use mathlib.Core.Logic.{◌≢◌}
 use mathlib.Core.Bool.{Bool, true}
 use mathlib.Core.List.{List}
 use lib.Dec.{T, eqb, eqb→eq}
@@ -13,7 +12,7 @@ use Rattle.ring.proofs.SegmentsLaws.{holds-first}
 use Rattle.ring_rows.specs.declared.Node.{Node}
 use Rattle.ring_rows.specs.declared.Hull.{Hull}
 use Rattle.ring_rows.specs.Rows.{nodes_of, angle_of}
-use Rattle.ring_rows.specs.Find.{no_edge, OnRing, node_holds, NodeAt, ToFind, ToTest}
+use Rattle.ring_rows.specs.Find.{OnRing, node_holds, NodeAt, ToFind, ToTest}
 use Rattle.ring_rows.proofs.Finding.{asks-test}
 
 -- after some turns: a ring that has the first node has this one
@@ -29,10 +28,6 @@ pub again : {nodes : List Node} {first i : ℕ} → Walking nodes first i → {n
 again {nodes} {first} {i} K {node} e b h F o = subst (OnRing nodes b h) (sym (ap (λ (n : Node). n.left) e)) (F.back i (K b h F o))
 
 module _ {nodes : List Node} {buckets : List ℕ} {h : Hull} (F : ToFind nodes buckets h) where
-  -- a node with an edge is in the ring
-  pub first_on : {i : ℕ} → i < h.nodes → {node : Node} → node ≡ nodes_of nodes i → node.edge ≢ no_edge → OnRing nodes buckets h i
-  first_on {i} l e d = F.in_use i l (λ z. d (ap (λ (n : Node). n.edge) e ∙ z))
-
   -- ---- at a node of the ring
   module _ {i : ℕ} (o : OnRing nodes buckets h i) {a : Float} (A : IsAngle a) where
     tests : ToTest nodes i a

@@ -1,5 +1,5 @@
 -- Finding the node of an angle without a count: what `find`, `find_left` and their parts ask, and what they answer. Definitions only.
-use Rattle.std.specs.Prelude.{ℕ, ◌<◌, ◌≤◌, ◌≡◌, ◌≢◌, ◌⊎◌, Bool, true, false, List, T, Float, length}
+use Rattle.std.specs.Prelude.{ℕ, ◌<◌, ◌≤◌, ◌≡◌, ◌≢◌, Bool, List, Option, Some, None, T, Float, length}
 use Rattle.sums.specs.Iterate.{iter}
 use Rattle.sums.proofs.IterateLaws.{Reach}
 use Rattle.angle.specs.Angle.{IsAngle, valid_angle}
@@ -9,8 +9,6 @@ use Rattle.ring.specs.Ring.{at_ends}
 use Rattle.ring.specs.Insert.{On}
 use Rattle.ring_rows.specs.declared.Node.{Node}
 use Rattle.ring_rows.specs.declared.Hull.{Hull}
-use Rattle.ring_rows.specs.declared.Handles.{Handles}
-use Rattle.ring_rows.specs.declared.Walked.{Walked}
 use Rattle.ring_rows.specs.Rows.{nodes_of, angle_of, edge_of, left_of, right_node_of, size_of, NodeRing, RingHeld}
 
 -- the edge of a freed node: no half-edge has this number
@@ -55,15 +53,15 @@ pub record ToWalk (nodes : List Node) (right left : ℕ) (a : Float) : Type 0 wh
   pub node-room : len ≤ length nodes
   pub valid : T (valid_angle a)
 
--- A node of the ring of `right`. Where it is found its segment holds x; else none of `limit` nodes from `right` on does.
-pub record WalkedBoth (t : ℕ → Node) (right x limit : ℕ) (r : Walked) : Type 0 where
-  pub reached : Reach (right_node_of t) right r.node
-  pub at : r.found ≡ true → T (node_holds t x r.node)
-  pub missed : r.found ≡ false → (k : ℕ) → k < limit → T (node_holds t x (iter k (right_node_of t) right)) → ⊥
+-- A node of the ring of `right` whose segment holds x; where there is none, none of `limit` nodes from `right` on is one.
+pub record WalkedBoth (t : ℕ → Node) (right x limit : ℕ) (r : Option ℕ) : Type 0 where
+  pub reached : (i : ℕ) → r ≡ Some i → Reach (right_node_of t) right i
+  pub at : (i : ℕ) → r ≡ Some i → T (node_holds t x i)
+  pub missed : r ≡ None → (k : ℕ) → k < limit → T (node_holds t x (iter k (right_node_of t) right)) → ⊥
 
--- one node twice, which was in use and has an edge, or else the two that were given
-abbrev pub FingerOr : (ℕ → Node) → ℕ → Handles → Handles → Type 0
-FingerOr t len ends r = (r ≡ ends) ⊎ ((r.left ≡ r.right) × (r.right < len) × (edge_of t r.right ≢ no_edge))
+-- a node that was ever in use and has an edge
+abbrev pub InUse : (ℕ → Node) → ℕ → ℕ → Type 0
+InUse t len i = (i < len) × (edge_of t i ≢ no_edge)
 
 -- some buckets go with the nodes
 pub record ToWalkLeft (nodes : List Node) (h : Hull) (a : Float) : Type 0 where
@@ -72,5 +70,5 @@ pub record ToWalkLeft (nodes : List Node) (h : Hull) (a : Float) : Type 0 where
   pub is-angle : IsAngle a
 
 -- a node that is found is the node of x, whatever buckets go with the nodes
-abbrev pub WalkedLeft : List Node → Hull → ℕ → Walked → Type 0
-WalkedLeft nodes h x r = (buckets : List ℕ) → ToFind nodes buckets h → r.found ≡ true → NodeAt nodes buckets h x r.node
+abbrev pub WalkedLeft : List Node → Hull → ℕ → Option ℕ → Type 0
+WalkedLeft nodes h x r = (buckets : List ℕ) → ToFind nodes buckets h → (i : ℕ) → r ≡ Some i → NodeAt nodes buckets h x i

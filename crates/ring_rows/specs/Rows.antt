@@ -11,7 +11,6 @@ use Rattle.dcel.specs.Rows.{row_of}
 use Rattle.ring.specs.Ring.{full_turn, proper, at_ends}
 use Rattle.ring.specs.Sound.{Sound}
 use Rattle.ring.specs.Buckets.{within}
-use Rattle.ring.specs.Node.{NodeTable}
 use Rattle.ring.specs.Insert.{Bucketed}
 use Rattle.ring_rows.specs.declared.Node.{Node}
 use Rattle.ring_rows.specs.declared.Hull.{Hull}
@@ -89,12 +88,6 @@ pub record Got (t : ℕ → Node) (size start x : ℕ) (r : Found) : Type 0 wher
 pub record Updated (old new : List ℕ) (count from to v : ℕ) : Type 0 where
   pub each : (i : ℕ) → i < count → row_of new i ≡ cond (within i from to) v (row_of old i)
   pub past : (i : ℕ) → count ≤ i → row_of new i ≡ row_of old i
-
--- v stands from `from` up to `to`, and elsewhere what stood there
-pub record FilledRun (old new : List ℕ) (from to v : ℕ) : Type 0 where
-  pub inside : (i : ℕ) → from ≤ i → i < to → row_of new i ≡ v
-  pub before : (i : ℕ) → i < from → row_of new i ≡ row_of old i
-  pub past : (i : ℕ) → to ≤ i → row_of new i ≡ row_of old i
 
 -- node i and its right one can be read, and the buckets are there
 pub record NodeBuckets (nodes : List Node) (buckets : List ℕ) (count i : ℕ) : Type 0 where

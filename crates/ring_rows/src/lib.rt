@@ -1,16 +1,17 @@
 // The ring in the rows that the caller lends (bulk_load.rs, `Hull`, `Node`): a row of node records, each its angle, its edge,
-// its left and its right node, 24 bytes. `load`, `store`, `store_at` and the three relinks are all that touches the row;
-// everything else works with `Node` by value.
+// its left and its right node, 24 bytes. `load`, `store`, the three relinks and `clear_nodes` are all that touches the
+// row; everything else works with `Node` by value.
 #![tactic(auto)]
 
-ghost use Rattle.std.specs.Prelude.{◌≡◌, ℕ, ◌+◌, ◌%◌, ◌<◌, ◌≤◌, length, set, replicate, T};
+ghost use Rattle.std.specs.Prelude.{◌≡◌, ℕ, ◌+◌, ◌%◌, ◌<◌, ◌≤◌, length, replicate, T, IfSome};
+ghost use Rattle.std.specs.Bool.{OnTrue};
 ghost use Rattle.sums.specs.Put.{put};
 ghost use Rattle.angle.specs.Angle.{IsAngle, valid_angle, turns};
-ghost use Rattle.segment.specs.Bucket.{floor_of, width};
+ghost use Rattle.segment.specs.Bucket.{Buckets, floor_of, width};
 ghost use Rattle.ring.specs.Insert.{Bucketed};
 ghost use Rattle.dcel.specs.Rows.{row_of};
-ghost use Rattle.ring_rows.specs.Rows.{zero_node, nodes_of, with_edge, with_left, with_right, RingHeld, size_of, Got, Updated, FilledRun, right_node_of, angle_of, NodeBuckets, NodeUpdated, ToFill};
-ghost use Rattle.ring_rows.specs.Find.{node_holds, ToTest, ToWalk, WalkedBoth, FingerOr, ToFind, NodeAt, ToWalkLeft, WalkedLeft};
+ghost use Rattle.ring_rows.specs.Rows.{zero_node, nodes_of, with_edge, with_left, with_right, RingHeld, size_of, Got, Updated, right_node_of, angle_of, NodeBuckets, NodeUpdated, ToFill};
+ghost use Rattle.ring_rows.specs.Find.{node_holds, InUse, ToTest, ToWalk, WalkedBoth, ToFind, NodeAt, ToWalkLeft, WalkedLeft};
 
 use segment::Segment;
 
@@ -31,6 +32,16 @@ pub struct Hull {
     pub freed: u32,
 }
 
+impl Hull {
+    // How many nodes are in the ring.
+    pub fn size(self) -> u32
+        requires { self.freed ≤ self.nodes }
+        ensures { result ≡ size_of self }
+    {
+        self.nodes - self.freed
+    }
+}
+
 // A node, its edge, and how many nodes were passed after the first on the way to it.
 #[derive(Clone, Copy)]
 pub struct Found {
@@ -39,7 +50,8 @@ pub struct Found {
     pub passed: u32,
 }
 
-// No half-edge has this number: it is the edge of each node that is freed.
+// No half-edge has this number: it is the edge of each node that is freed. A number and no `Option`, since C lends the row of nodes, and
+// fithmoul.h gives a node's 24 bytes.
 pub const NO_EDGE: u32 = 4294967295;
 
 // Two nodes to walk from: on to the right from the one, on to the left from the other.
@@ -47,13 +59,6 @@ pub const NO_EDGE: u32 = 4294967295;
 pub struct Handles {
     pub right: u32,
     pub left: u32,
-}
-
-// The node at which a walk ended, and whether its segment is the one that was looked for.
-#[derive(Clone, Copy)]
-pub struct Walked {
-    pub node: u32,
-    pub found: bool,
 }
 
 pub fn load(nodes: &[Node], i: u32) -> Node
@@ -70,6 +75,7 @@ pub fn store(nodes: &mut [Node], i: u32, node: Node)
     nodes[i as usize] = node;
 }
 
+// The three relinks. They stay three: one with a closure for the field would be no shorter, and each has its own word in the contracts.
 pub fn set_edge(nodes: &mut [Node], i: u32, edge: u32)
     requires { i < length nodes.old }
     ensures { nodes_of nodes.new
@@ -94,12 +100,14 @@ pub fn set_right(nodes: &mut [Node], i: u32, right: u32)
     nodes[i as usize].right = right;
 }
 
-// `store` for an index that a u32 may not hold: a lent row can be that long.
-fn store_at(nodes: &mut [Node], i: usize, node: Node)
-    requires { i < length nodes.old }
-    ensures { nodes.new ≡ set nodes.old i node }
+// Whether the segment of node i holds an angle.
+fn contains_angle(nodes: &[Node], i: u32, angle: f64) -> bool
+    requires { ToTest nodes.now i angle }
+    ensures { result ≡ node_holds (nodes_of nodes.now) (turns angle) i }
 {
-    nodes[i] = node;
+    let node = load(nodes, i);
+    let next = load(nodes, node.right);
+    Segment::new(node.angle, next.angle).contains_angle(angle)
 }
 
 // The node whose segment holds an angle, from the node of the angle's bucket on to the right.
@@ -111,109 +119,77 @@ pub fn get(nodes: &[Node], buckets: &[u32], hull: Hull, angle: f64) -> Found
     let bucket = segment::floored_bucket(angle, hull.buckets as usize);
     let mut handle = buckets[bucket];
     let mut passed: u32 = 0;
-    loop {
-        let node = load(nodes, handle);
-        let next = load(nodes, node.right);
-        let segment = Segment::new(node.angle, next.angle);
-        if segment.contains_angle(angle) {
-            return Found {
-                node: handle,
-                edge: node.edge,
-                passed: passed,
-            };
-        }
-        handle = node.right;
+    while !contains_angle(nodes, handle, angle) {
+        handle = load(nodes, handle).right;
         passed += 1;
+    }
+    Found {
+        node: handle,
+        edge: load(nodes, handle).edge,
+        passed,
     }
 }
 
-// Whether the segment of node i holds an angle.
-fn contains_angle(nodes: &[Node], i: u32, angle: f64) -> bool
-    requires { ToTest nodes.now i angle }
-    ensures { result ≡ node_holds (nodes_of nodes.now) (turns angle) i }
-{
-    let node = load(nodes, i);
-    let next = load(nodes, node.right);
-    let segment = Segment::new(node.angle, next.angle);
-    segment.contains_angle(angle)
-}
-
-// To the node whose segment holds an angle, from two nodes in turn: the one goes on to the right, the other to the left. At most `limit`
-// turns.
-fn walk_both(nodes: &[Node], from: Handles, angle: f64, limit: u32) -> Walked
+// The node whose segment holds an angle, looked for from two nodes in turn: from the one on to the right, from the other to the left. At
+// most `limit` turns.
+fn walk_both(nodes: &[Node], from: Handles, angle: f64, limit: u32) -> Option<u32>
     requires { ToWalk nodes.now from.right from.left angle }
     ensures { WalkedBoth (nodes_of nodes.now) from.right (turns angle) limit result }
 {
     let mut right = from.right;
     let mut left = from.left;
-    let mut turn: u32 = 0;
-    while turn < limit {
+    for _ in 0..limit {
         if contains_angle(nodes, right, angle) {
-            return Walked {
-                node: right,
-                found: true,
-            };
+            return Some(right);
         }
         if contains_angle(nodes, left, angle) {
-            return Walked {
-                node: left,
-                found: true,
-            };
+            return Some(left);
         }
-        let here = load(nodes, right);
-        let there = load(nodes, left);
-        right = here.right;
-        left = there.left;
-        turn += 1;
+        right = load(nodes, right).right;
+        left = load(nodes, left).left;
     }
-    Walked {
-        node: right,
-        found: false,
-    }
+    None
 }
 
-// The node of the bucket after one of `count`; after the last comes the first.
+// The node of the bucket after one of `count`, a power of two; after the last comes the first.
 fn node_after(buckets: &[u32], count: usize, bucket: usize) -> u32
-    requires { (count ≤ length buckets.now) × (bucket < count) }
+    requires { (count ≤ length buckets.now) × Buckets count × (bucket < count) }
     ensures { result ≡ row_of buckets.now ((bucket + 1) % count) }
 {
-    let next = bucket + 1;
-    if next < count {
-        return buckets[next];
-    }
-    buckets[0]
+    buckets[(bucket + 1) & (count - 1)]
 }
 
-// The finger of a bucket, the node that was put into the ring last in it, for both handles; `ends` where it is not in the ring any more.
-// It stands at the far end of the row of freed nodes, behind their stack. That row is lent with any contents and the stack may grow over
-// a finger, so nothing is believed of what stands there: a node that has an edge is in the ring.
-fn finger(nodes: &[Node], freed: &[u32], hull: Hull, bucket: usize, ends: Handles) -> Handles
+// Whether a node, which may be any number, is in the ring: one that was ever in use and has an edge is.
+fn is_in_ring(nodes: &[Node], hull: Hull, i: u32) -> bool
     requires { hull.nodes ≤ length nodes.now }
-    ensures { FingerOr (nodes_of nodes.now) hull.nodes ends result }
+    ensures { OnTrue result (InUse (nodes_of nodes.now) hull.nodes i) }
 {
-    if freed.len() <= bucket {
-        return ends;
-    }
-    let node = freed[freed.len() - 1 - bucket];
-    if hull.nodes <= node {
-        return ends;
-    }
-    let kept = load(nodes, node);
-    if kept.edge == NO_EDGE {
-        return ends;
-    }
-    Handles {
-        right: node,
-        left: node,
-    }
+    i < hull.nodes && load(nodes, i).edge != NO_EDGE
+}
+
+// Where a bucket's finger stands, the node that was put into the ring last in it: at the far end of the row of freed nodes, behind their
+// stack, if the row is long enough.
+fn finger_place(freed: &[u32], bucket: usize) -> Option<usize>
+    ensures { IfSome result (λ i. i < length freed.now) }
+{
+    freed.len().checked_sub(bucket)?.checked_sub(1)
+}
+
+// A bucket's finger, if it is still in the ring. The row is lent with any contents and the stack may grow over a finger, so nothing is
+// believed of what stands there.
+fn finger(nodes: &[Node], freed: &[u32], hull: Hull, bucket: usize) -> Option<u32>
+    requires { hull.nodes ≤ length nodes.now }
+    ensures { IfSome result (InUse (nodes_of nodes.now) hull.nodes) }
+{
+    let node = freed[finger_place(freed, bucket)?];
+    is_in_ring(nodes, hull, node).then_some(node)
 }
 
 // A bucket's finger is put down, unless the stack of `top` freed nodes needs its place.
 pub fn set_finger(freed: &mut [u32], top: u32, bucket: usize, node: u32)
     ensures { (j : ℕ) → j < top → row_of freed.new j ≡ row_of freed.old j }
 {
-    if bucket < freed.len() {
-        let place = freed.len() - 1 - bucket;
+    if let Some(place) = finger_place(freed, bucket) {
         if top as usize <= place {
             freed[place] = node;
         }
@@ -231,58 +207,42 @@ pub fn find(nodes: &[Node], freed: &[u32], buckets: &[u32], hull: Hull, angle: f
     if contains_angle(nodes, first, angle) {
         return first;
     }
-    let node = load(nodes, first);
-    let last = node_after(buckets, hull.buckets as usize, bucket);
     let ends = Handles {
-        right: node.right,
-        left: last,
+        right: load(nodes, first).right,
+        left: node_after(buckets, hull.buckets as usize, bucket),
     };
-    let near = walk_both(nodes, ends, angle, 8);
-    if near.found {
-        return near.node;
+    if let Some(near) = walk_both(nodes, ends, angle, 8) {
+        return near;
     }
-    let from = finger(nodes, freed, hull, bucket, ends);
-    let far = walk_both(nodes, from, angle, hull.nodes - hull.freed);
-    far.node
+    let from = finger(nodes, freed, hull, bucket).map_or(
+        ends,
+        |node| Handles {
+            right: node,
+            left: node,
+        },
+    );
+    // A walk of as many turns as the ring has nodes meets the one of the angle.
+    walk_both(nodes, from, angle, hull.size()).unwrap()
 }
 
-// To the node of an angle, from the node `near` on to the left, as many turns as the ring has nodes. Nothing is found where `near` is not
-// in the ring.
-fn walk_left(nodes: &[Node], hull: Hull, near: u32, angle: f64) -> Walked
+// The node of an angle, looked for from the node `near` on to the left, for as many turns as the ring has nodes. Nothing is found where
+// `near` is not in the ring.
+fn walk_left(nodes: &[Node], hull: Hull, near: u32, angle: f64) -> Option<u32>
     requires { ToWalkLeft nodes.now hull angle }
     ensures { WalkedLeft nodes.now hull (turns angle) result }
 {
-    if hull.nodes <= near {
-        return Walked {
-            node: near,
-            found: false,
-        };
+    if !is_in_ring(nodes, hull, near) {
+        return None;
     }
-    let first = load(nodes, near);
-    if first.edge == NO_EDGE {
-        return Walked {
-            node: near,
-            found: false,
-        };
-    }
-    let size = hull.nodes - hull.freed;
     let mut i = near;
-    let mut turn: u32 = 0;
-    while turn < size {
+    for _ in 0..hull.size() {
         let node = load(nodes, i);
         if angle::equal(node.angle, angle) {
-            return Walked {
-                node: i,
-                found: true,
-            };
+            return Some(i);
         }
         i = node.left;
-        turn += 1;
     }
-    Walked {
-        node: i,
-        found: false,
-    }
+    None
 }
 
 // The node whose segment holds an angle, where a node of this very angle is thought to stand at `near` or a few nodes to its left. Nothing
@@ -291,23 +251,9 @@ pub fn find_left(nodes: &[Node], buckets: &[u32], hull: Hull, near: u32, angle: 
     requires { ToFind nodes.now buckets.now hull × IsAngle angle }
     ensures { NodeAt nodes.now buckets.now hull (turns angle) result }
 {
-    let walked = walk_left(nodes, hull, near, angle);
-    if walked.found {
-        return walked.node;
-    }
-    let found = get(nodes, buckets, hull, angle);
-    found.node
-}
-
-// v to the places from `from` up to `to`.
-fn fill(row: &mut [u32], from: usize, to: usize, v: u32)
-    requires { (from ≤ to) × (to ≤ length row.old) }
-    ensures { FilledRun row.old row.new from to v }
-{
-    let mut i = from;
-    while i < to {
-        row[i] = v;
-        i += 1;
+    match walk_left(nodes, hull, near, angle) {
+        Some(node) => node,
+        None => get(nodes, buckets, hull, angle).node,
     }
 }
 
@@ -317,10 +263,10 @@ pub fn update_bucket_segment(buckets: &mut [u32], count: usize, from: usize, to:
     ensures { Updated buckets.old buckets.new count from to v }
 {
     if from <= to {
-        fill(buckets, from, to, v);
+        buckets[from..to].fill(v);
     } else {
-        fill(buckets, from, count, v);
-        fill(buckets, 0, to, v);
+        buckets[from..count].fill(v);
+        buckets[..to].fill(v);
     }
 }
 
@@ -344,10 +290,8 @@ pub fn initialize_buckets(nodes: &[Node], buckets: &mut [u32], count: usize, sta
         (row_of buckets.new) count (width count) start size }
 {
     let mut i = start;
-    let mut k: u32 = 0;
-    while k < size {
+    for _ in 0..size {
         i = update_node_buckets(nodes, buckets, count, i);
-        k += 1;
     }
 }
 
@@ -355,15 +299,10 @@ pub fn initialize_buckets(nodes: &[Node], buckets: &mut [u32], count: usize, sta
 pub fn clear_nodes(nodes: &mut [Node])
     ensures { nodes.new ≡ replicate (length nodes.old) zero_node }
 {
-    let zero = Node {
+    nodes.fill(Node {
         angle: 0.0,
         edge: 0,
         left: 0,
         right: 0,
-    };
-    let mut i = 0;
-    while i < nodes.len() {
-        store_at(nodes, i, zero);
-        i += 1;
-    }
+    });
 }

@@ -1,4 +1,5 @@
 -- A run from its checks to its answer: what the checks give each call, and the calls' contracts one after another as the definition of a run has them. Assumes nothing.
+use Rattle.std.specs.Prelude.{Ok, Err}
 use mathlib.Core.Bool.{cond, ◌&&◌}
 use mathlib.Core.List.{List}
 use mathlib.Core.Path.{◌≡◌, refl, sym, ◌∙◌, ap, ap₂, subst, fun_ext}
@@ -13,13 +14,13 @@ use Rattle.dcel.specs.MeshRows.{MeshRows, mesh_rows, SameLengths}
 use Rattle.dcel.specs.Rows.{links_of, position_of, row_of, row_from_of}
 use Rattle.dcel.specs.Views.{from_entries, mesh-rows-from}
 use Rattle.finish.specs.declared.FinishAnswer.{FinishAnswer}
-use Rattle.finish.specs.declared.Finished.{Finished}
+use Rattle.finish.specs.Finished.{Finished}
 use Rattle.finish.specs.Finish.{Finishing, finished_from}
 use Rattle.finish.specs.FinishRows.{finishing_of}
 use Rattle.mesh.specs.declared.Counts.{Counts}
 use Rattle.mesh.proofs.CountsLaws.{count-edges, count-faces}
 use Rattle.mesh.specs.Good.{Good}
-use Rattle.mesh_check.specs.declared.Checked.{Checked}
+use Rattle.mesh_check.specs.Checked.{Checked}
 use Rattle.mesh_check.specs.declared.Refusal.{Refusal}
 use Rattle.mesh_check.specs.Check.{point_count, vertex_count}
 use Rattle.ring_rows.proofs.Laws.{zeros-same}
@@ -62,7 +63,7 @@ answers-from old mid new step answered count most e Z x = Z.each x ∙ at (dec_l
     at (no a) (no b) = rw (le-leb (answer_words * answered) x (omega arith), le-ltb x (answer_words * count) (omega arith)) (e x ∙ rw (le-ltb x (answer_words * answered) (omega arith)) refl)
 
 -- ---- from the steps to the answer
-module _ (l : RunLent) (e : run_checked l ≡ Checked.Accepted) where
+module _ (l : RunLent) (e : run_checked l ≡ Ok tt) where
   abbrev C : Counts
   C = l.counts
 
@@ -206,7 +207,7 @@ module _ (l : RunLent) (e : run_checked l ≡ Checked.Accepted) where
 
 -- ---- the call
 -- refused
-pub refused-run : (l : RunLent) (x : Refusal) → Checked.Refused x ≡ run_checked l
-    → ran_with (record { counts = l.counts; finished = Finished.Refused x }) l.mesh l.ring l.pending l.answers ≡ run_of l
+pub refused-run : (l : RunLent) (x : Refusal) → Err x ≡ run_checked l
+    → ran_with (record { counts = l.counts; finished = Err x }) l.mesh l.ring l.pending l.answers ≡ run_of l
 unfolding run_of run_outcome
 refused-run l x e = rw (← e) refl

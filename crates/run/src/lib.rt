@@ -5,15 +5,13 @@
 
 ghost use Rattle.std.specs.Prelude.{◌≡◌};
 ghost use Rattle.dcel.specs.MeshRows.{mesh_rows};
-ghost use Rattle.mesh_check.specs.declared.Checked.TheVariants.{Accepted};
 ghost use Rattle.ring_rows.specs.RingRows.{ring_rows};
 ghost use Rattle.sweep.specs.Run.{run_lent, ran_with, run_checked, run_of};
 ghost use Rattle.sweep.specs.Demand3.{Ran};
 
 use angle::Point2;
-use finish::{FinishAnswer, Finished};
+use finish::FinishAnswer;
 use mesh::Counts;
-use mesh_check::Checked;
 use ring_rows::Node;
 
 // What the checks accept.
@@ -32,7 +30,7 @@ pub fn run_accepted(
     points: &[i32],
 ) -> FinishAnswer
     requires { run_checked (run_lent counts (mesh_rows positions.old outs.old halves.old faces.old)
-        (ring_rows nodes.old freed.old buckets.old) pending.old answers.old center points.now) ≡ Accepted }
+        (ring_rows nodes.old freed.old buckets.old) pending.old answers.old center points.now) ≡ Ok tt }
     ensures { ran_with result (mesh_rows positions.new outs.new halves.new faces.new)
         (ring_rows nodes.new freed.new buckets.new) pending.new answers.new
         ≡ run_of (run_lent counts
@@ -81,7 +79,7 @@ pub fn run(
         (ring_rows nodes.new freed.new buckets.new) pending.new answers.new) }
 {
     let short = answers::answers_short(answers.len(), points);
-    match start::check_sweep(
+    let checked = start::check_sweep(
         points,
         short,
         counts,
@@ -94,14 +92,15 @@ pub fn run(
         buckets.len(),
         pending.len(),
         center,
-    ) {
-        Checked::Refused(refusal) => FinishAnswer {
-            counts: counts,
-            finished: Finished::Refused(refusal),
-        },
-        Checked::Accepted => run_accepted(
-            counts, positions, outs, halves, faces, nodes, freed, buckets, pending, answers,
-            center, points,
-        ),
+    );
+    if let Err(refusal) = checked {
+        return FinishAnswer {
+            counts,
+            finished: Err(refusal),
+        };
     }
+    run_accepted(
+        counts, positions, outs, halves, faces, nodes, freed, buckets, pending, answers, center,
+        points,
+    )
 }

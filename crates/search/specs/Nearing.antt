@@ -1,5 +1,5 @@
 -- The loop of `walk_to_nearest_neighbor`: to go on from here is to go on from vertex 0. Assumes nothing.
-use Rattle.std.specs.Prelude.{Bool, List, ◌≡◌, ℕ, ◌+◌, ◌*◌, ◌<◌, ℤ, length}
+use Rattle.std.specs.Prelude.{Bool, List, Option, Some, None, ◌≡◌, ℕ, ◌+◌, ◌*◌, ◌<◌, ℤ, length}
 use Rattle.std.proofs.Common.{◌∙◌, subst, arith}
 use Rattle.std.proofs.Math.Path.{ap}
 use Rattle.dcel.specs.Rows.{links_of, position_of}
@@ -13,8 +13,6 @@ use Rattle.mesh.specs.Wf.{Wf}
 use Rattle.mesh.proofs.BoundaryLaws.{first<}
 use Rattle.sums.proofs.BoundedLaws.{count-le}
 use Rattle.sums.proofs.UntilLaws.{Falls, Going, going_start, going-turn, going_less, going_end}
-use Rattle.search.specs.declared.Closer.{Closer}
-use Rattle.search.specs.declared.Closer.TheVariants.{Vertex, Nothing}
 use Rattle.search.specs.SearchRows.{NearReady, SpokesReady, CloserIs, ready-placed}
 
 -- the walk's test and its turn, with some row of faces
@@ -60,9 +58,9 @@ module _ {C : Counts} {q : List ℤ} {o h : List ℕ} {point : Point} {v : ℕ} 
   pub nearing-spokes : SpokesReady C q o h point v z
   nearing-spokes = record { near = K.near; used = K.going.claim; distance = K.distance }
 
-  module _ {r : Closer} (c : (a : List ℕ) → CloserIs C (links_of o h a) (position_of q) point v r) where
-    module _ {w : ℕ} {d : ℤ} (e : r ≡ Vertex w d) where
-      here : CloserIs C (links_of o h K.near.faces) (position_of q) point v (Vertex w d)
+  module _ {r : Option (ℕ × ℤ)} (c : (a : List ℕ) → CloserIs C (links_of o h a) (position_of q) point v r) where
+    module _ {w : ℕ} {d : ℤ} (e : r ≡ Some (w, d)) where
+      here : CloserIs C (links_of o h K.near.faces) (position_of q) point v (Some (w, d))
       here = subst (CloserIs C (links_of o h K.near.faces) (position_of q) point v) e (c K.near.faces)
 
       pub nearing-on : {u : ℤ} → u ≡ d → Nearing C q o h point w u
@@ -75,7 +73,7 @@ module _ {C : Counts} {q : List ℤ} {o h : List ℕ} {point : Point} {v : ℕ} 
       pub nearing-less : closer_count C (position_of q) point w < closer_count C (position_of q) point v
       nearing-less = rw here.1 (going_less (ends C q o h K.near.faces point) (goes C q o h K.near.faces point) falls K.going here.0)
 
-    pub nearing-end : r ≡ Nothing → (a : List ℕ) → v ≡ nearest C (links_of o h a) (position_of q) point
+    pub nearing-end : r ≡ None → (a : List ℕ) → v ≡ nearest C (links_of o h a) (position_of q) point
     unfolding nearest is_nearest nearer first_closer links_of
     nearing-end e a =
         going_end (ends C q o h K.near.faces point) (goes C q o h K.near.faces point) falls K.going

@@ -1,5 +1,5 @@
 -- The two loops of the scan: over the inner faces by number, and along the boundary. Assumes nothing.
-use Rattle.std.specs.Prelude.{Bool, true, false, List, ◌≢◌, ◌≡◌, ℤ, pos, length}
+use Rattle.std.specs.Prelude.{Bool, true, false, List, Some, None, ◌≢◌, ◌≡◌, ℤ, pos, length}
 use Rattle.std.proofs.Math.Path.{refl, sym, ap, subst}
 use Rattle.std.proofs.Common.{◌∙◌}
 use Prim.Native.Nat.{ℕ, suc, ◌+◌, ◌-◌, ◌*◌, ◌<◌, ◌≤◌}
@@ -22,7 +22,7 @@ use Rattle.sums.proofs.BoundedLaws.{first-below-is}
 use Rattle.sums.specs.Half.{rev}
 use Rattle.sums.specs.Iterate.{Inverse, iter, period_below}
 use Rattle.search.specs.Round.{steps_to, Passing, first_passing, passing-start, passing-below, passing-on, passing-less, passing-hit, passing-none}
-use Rattle.search.specs.SearchRows.{TriangleReady, ScanReady, LeftReady, ready_held, ready-placed}
+use Rattle.search.specs.SearchRows.{TriangleReady, ScanReady, HoldingIs, LeftReady, ready_held, ready-placed}
 
 -- ---- the inner faces
 -- none of 1 to f - 1 holds the point, of m faces
@@ -73,11 +73,11 @@ module _ {C : Counts} {q : List ℤ} {h a : List ℕ} {point : Point} (R : ScanR
           go o j u (yes z) w = subst T (ap (λ (g : ℕ). holds_at (links_of o h a) (position_of q) point (row_of a g)) z ∙ sym (tested o) ∙ n) w
           go o j u (no z) w = K.none o j (omega arith) w
 
-      pub holding-hit : t ≡ true → (o : List ℕ) → f ≡ first_holding C (links_of o h a) (position_of q) point + 1
-      holding-hit n o = stops o (λ u. from-true (sym (tested o) ∙ n))
+      pub holding-hit : t ≡ true → (o : List ℕ) → HoldingIs C (links_of o h a) (position_of q) point (Some f)
+      holding-hit n o = (stops o (λ u. from-true (sym (tested o) ∙ n)), l)
 
-    pub holding-end : C.faces ≤ f → (o : List ℕ) → f ≡ first_holding C (links_of o h a) (position_of q) point + 1
-    holding-end l o = stops o (λ u. absurd (omega arith))
+    pub holding-end : C.faces ≤ f → (o : List ℕ) → HoldingIs C (links_of o h a) (position_of q) point None
+    holding-end l o = let m = K.high in let z = stops o (λ u. absurd (omega arith)) in omega arith
 
 -- ---- the boundary
 -- the point is strictly left of e

@@ -1,5 +1,5 @@
 -- What the functions of point location ask of the rows, and what two of them answer. Assumes nothing.
-use Rattle.std.specs.Prelude.{true, false, List, ◌≡◌, ℕ, ◌+◌, ◌-◌, ◌*◌, ◌<◌, ℤ, length}
+use Rattle.std.specs.Prelude.{true, false, List, Option, Some, None, ◌≡◌, ℕ, ◌+◌, ◌-◌, ◌*◌, ◌<◌, ℤ, length}
 use Rattle.std.proofs.Common.{arith}
 use Rattle.circle_test.specs.GoodRows.{GoodRows, held}
 use Rattle.dcel.specs.Rows.{halves_of, links_of, position_of, There, Placed}
@@ -11,8 +11,6 @@ use Rattle.math.specs.Determinant.{InRange, length2}
 use Rattle.mesh.specs.declared.Counts.{Counts}
 use Rattle.mesh.specs.Mesh.{Links, In}
 use Rattle.sums.specs.Half.{rev}
-use Rattle.search.specs.declared.Closer.{Closer}
-use Rattle.search.specs.declared.Closer.TheVariants.{Vertex, Nothing}
 use Rattle.search.specs.declared.Corners.{Corners}
 
 -- ---- the mesh
@@ -33,9 +31,9 @@ pub record SpokesReady (C : Counts) (q : List ℤ) (o h : List ℕ) (point : Poi
   pub distance : d ≡ length2 (position_of q v) point
 
 -- what `first_closer` answers
-abbrev pub CloserIs : Counts → Links → (ℕ → Point) → Point → ℕ → Closer → Type 0
-CloserIs C L p q v (Vertex w d) = (is_nearest C L p q v ≡ false) × (w ≡ nearer C L p q v) × (d ≡ length2 (p w) q)
-CloserIs C L p q v Nothing = is_nearest C L p q v ≡ true
+abbrev pub CloserIs : Counts → Links → (ℕ → Point) → Point → ℕ → Option (ℕ × ℤ) → Type 0
+CloserIs C L p q v (Some r) = (is_nearest C L p q v ≡ false) × (r.0 ≡ nearer C L p q v) × (r.1 ≡ length2 (p r.0) q)
+CloserIs C L p q v None = is_nearest C L p q v ≡ true
 
 -- ---- one turn
 -- e is a half-edge of some mesh whose positions and half-edges the rows hold
@@ -86,6 +84,11 @@ pub record TriangleReady (q : List ℤ) (h : List ℕ) (point : Point) (a : ℕ)
 pub record ScanReady (C : Counts) (q : List ℤ) (h a : List ℕ) (point : Point) : Type 0 where
   pub outs : List ℕ
   pub ready : SearchReady C q outs h a point
+
+-- what `first_holding` answers
+abbrev pub HoldingIs : Counts → Links → (ℕ → Point) → Point → Option ℕ → Type 0
+HoldingIs C L p q (Some f) = (f ≡ first_holding C L p q + 1) × (f < C.faces)
+HoldingIs C L p q None = C.faces ≡ first_holding C L p q + 1
 
 -- and no inner face holds the point
 pub record LeftReady (C : Counts) (q : List ℤ) (h a : List ℕ) (point : Point) : Type 0 where

@@ -1,5 +1,5 @@
 -- The loop of `first_closer`, which turns about a vertex. Assumes nothing.
-use Rattle.std.specs.Prelude.{Bool, true, false, List, ◌≢◌, ◌≡◌, ℕ, ◌+◌, ◌-◌, ◌*◌, ◌<◌, ◌≤◌, ℤ, length}
+use Rattle.std.specs.Prelude.{Bool, true, false, List, Some, None, ◌≢◌, ◌≡◌, ℕ, ◌+◌, ◌-◌, ◌*◌, ◌<◌, ◌≤◌, ℤ, length}
 use Rattle.std.proofs.Math.Bool.{not}
 use Rattle.std.proofs.Math.Path.{refl, ap}
 use Rattle.std.proofs.Common.{sym, ◌∙◌, subst, arith, lt-ltb, le-ltb}
@@ -15,7 +15,6 @@ use Rattle.mesh.proofs.WfPartsLaws.{turn-inverse}
 use Rattle.sums.specs.Half.{rev}
 use Rattle.sums.proofs.HalfLaws.{rev-rev}
 use Rattle.sums.specs.Iterate.{iter, Inverse, period_below}
-use Rattle.search.specs.declared.Closer.TheVariants.{Vertex, Nothing}
 use Rattle.search.specs.Round.{steps_to, Passing, first_passing, passing-start, passing-below, passing-on, passing-less, passing-hit, passing-hit-below, passing-none}
 use Rattle.search.specs.SearchRows.{SpokesReady, CloserIs, ready_held, ready-placed}
 
@@ -111,7 +110,7 @@ module _ {C : Counts} {q : List ℤ} {o h : List ℕ} {point : Point} {v : ℕ} 
                   ∙ ap (λ (k : ℕ). iter k (turn_in_of h) start) (first-is a)
                   ∙ ap (iter (first_closer C (links_of o h a) (position_of q) point v) (turn_in_of h)) s)
 
-              pub spoke-hit : lt_z u z ≡ true → (a : List ℕ) → CloserIs C (links_of o h a) (position_of q) point v (Vertex w u)
+              pub spoke-hit : lt_z u z ≡ true → (a : List ℕ) → CloserIs C (links_of o h a) (position_of q) point v (Some (w, u))
               unfolding is_nearest nearer
               spoke-hit t a =
                   let f = first_closer C (links_of o h a) (position_of q) point v in
@@ -124,7 +123,7 @@ module _ {C : Counts} {q : List ℤ} {o h : List ℕ} {point : Point} {v : ℕ} 
                 turned : turn_in_of h (rev b) ≡ rev n
                 turned = sym (ap rev (f ∙ ap (halves_of h).prev g))
 
-                pub spoke-none : n ≡ first → (a : List ℕ) → CloserIs C (links_of o h a) (position_of q) point v Nothing
+                pub spoke-none : n ≡ first → (a : List ℕ) → CloserIs C (links_of o h a) (position_of q) point v None
                 unfolding is_nearest
                 spoke-none k a =
                     let b = passing-none inverse (end_nearer q h point z) start-in more K.passing (sym tested ∙ t) (turned ∙ ap rev (k ∙ l) ∙ rev-rev start) in

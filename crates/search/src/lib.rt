@@ -8,24 +8,17 @@
 ghost use Rattle.std.specs.Prelude.{List, ◌≡◌, ℕ, ◌+◌, ◌<◌, ◌^◌};
 ghost use Rattle.dcel.specs.Rows.{halves_of, links_of, position_of, There};
 ghost use Rattle.location.specs.Search.{beyond, across_edge, rotate_ccw, rotate_cw, on_line_of, by_side, search_turn, search_from, nearest};
-ghost use Rattle.location.specs.Scan.{holds_at, place_at_of, first_holding, first_left, scan, locate_point};
+ghost use Rattle.location.specs.Scan.{holds_at, place_at_of, first_left, scan, locate_point};
 ghost use Rattle.math.specs.declared.Point.{Point};
 ghost use Rattle.mesh.specs.Area.{hull_edge};
 ghost use Rattle.sums.specs.Half.{rev};
-ghost use Rattle.search.specs.SearchRows.{SearchReady, NearReady, SpokesReady, CloserIs};
+ghost use Rattle.search.specs.SearchRows.{SearchReady, NearReady, SpokesReady, CloserIs, HoldingIs};
 ghost use Rattle.search.specs.SearchRows.{TurnReady, EndsReady, LineReady};
 ghost use Rattle.search.specs.SearchRows.{CornersIn, CornersOf, TriangleReady, ScanReady, LeftReady};
 
 use location::{PositionInTriangulation, SearchState};
 use math::Point;
 use mesh::Counts;
-
-// The end of an out edge that is closer to the point than the vertex, with its squared distance.
-#[derive(Clone, Copy)]
-pub enum Closer {
-    Vertex(u32, i64),
-    Nothing,
-}
 
 // The half-edges after half-edge a in its triangle, the corners from a's origin on, and their positions.
 #[derive(Clone, Copy)]
@@ -41,7 +34,7 @@ pub struct Corners {
 }
 
 // The end of the first out edge of vertex v, in turning order from the stored one, that is closer to the point than v,
-// which is at this squared distance. Turning comes back to the stored edge.
+// which is at this squared distance; and the end's squared distance. Turning comes back to the stored edge.
 fn first_closer(
     positions: &[i32],
     outs: &[u32],
@@ -50,7 +43,7 @@ fn first_closer(
     v: u32,
     distance: i64,
     point: Point,
-) -> Closer
+) -> Option<(u32, i64)>
     requires { SpokesReady counts positions.now outs.now halves.now point v distance }
     ensures { (a : List ℕ)
         → CloserIs counts (links_of outs.now halves.now a) (position_of positions.now) point v result }
@@ -64,12 +57,12 @@ fn first_closer(
         let p = dcel::position(positions, w);
         let new_distance = p.distance_2(point);
         if new_distance < distance {
-            return Closer::Vertex(w, new_distance);
+            return Some((w, new_distance));
         }
         let e = dcel::rev(back);
         back = dcel::prev(halves, e);
         if back == first {
-            return Closer::Nothing;
+            return None;
         }
     }
 }
@@ -88,20 +81,13 @@ fn walk_to_nearest_neighbor(
         → result ≡ nearest counts (links_of outs.now halves.now a) (position_of positions.now) point }
 {
     let start = dcel::position(positions, 0);
-    let mut v: u32 = 0;
+    let mut v = 0;
     let mut distance = start.distance_2(point);
-    loop {
-        let closer = first_closer(positions, outs, halves, counts, v, distance, point);
-        match closer {
-            Closer::Vertex(w, d) => {
-                v = w;
-                distance = d;
-            }
-            Closer::Nothing => {
-                return v;
-            }
-        }
+    while let Some((w, d)) = first_closer(positions, outs, halves, counts, v, distance, point) {
+        v = w;
+        distance = d;
     }
+    v
 }
 
 // The point is on the line of e: on to the half-edge before it in its triangle, or in that of its reverse.
@@ -109,10 +95,8 @@ fn on_line(halves: &[u32], e: u32) -> SearchState
     requires { LineReady halves.now e }
     ensures { (o a : List ℕ) → result ≡ on_line_of (links_of o halves.now a) e }
 {
-    let f = dcel::face(halves, e);
-    if f == 0 {
-        let t = dcel::rev(e);
-        return SearchState::Onward(dcel::prev(halves, t));
+    if dcel::face(halves, e) == 0 {
+        return SearchState::Onward(dcel::prev(halves, dcel::rev(e)));
     }
     SearchState::Onward(dcel::prev(halves, e))
 }
@@ -123,8 +107,7 @@ fn beyond(halves: &[u32], e2: u32) -> SearchState
     ensures { (o a : List ℕ) → result ≡ beyond (links_of o halves.now a) e2 }
 {
     let t = dcel::rev(e2);
-    let f = dcel::face(halves, t);
-    if f == 0 {
+    if dcel::face(halves, t) == 0 {
         return SearchState::Onward(t);
     }
     SearchState::Onward(dcel::prev(halves, t))
@@ -256,10 +239,8 @@ fn search_from(
         → result ≡ search_from counts (links_of o halves.now a) (position_of positions.now) point e }
 {
     let mut current = e;
-    let mut left = 2 * counts.edges;
-    while 0 < left {
-        let state = search_turn(positions, halves, current, point);
-        match state {
+    for _ in 0..2 * counts.edges {
+        match search_turn(positions, halves, current, point) {
             SearchState::Found(x) => {
                 return SearchState::Found(x);
             }
@@ -267,7 +248,6 @@ fn search_from(
                 current = d;
             }
         }
-        left -= 1;
     }
     SearchState::Onward(current)
 }
@@ -282,11 +262,11 @@ fn corners_of(positions: &[i32], halves: &[u32], a: u32) -> Corners
     let v = dcel::origin(halves, b);
     let w = dcel::origin(halves, c);
     Corners {
-        b: b,
-        c: c,
-        u: u,
-        v: v,
-        w: w,
+        b,
+        c,
+        u,
+        v,
+        w,
         p: dcel::position(positions, u),
         q: dcel::position(positions, v),
         r: dcel::position(positions, w),
@@ -300,16 +280,13 @@ fn holds_at(positions: &[i32], halves: &[u32], a: u32, point: Point) -> bool
         → result ≡ holds_at (links_of o halves.now s) (position_of positions.now) point a }
 {
     let k = corners_of(positions, halves, a);
-    let p = k.p;
-    let q = k.q;
-    let r = k.r;
-    if math::side_query(p, q, point) < 0 {
+    if math::side_query(k.p, k.q, point) < 0 {
         return false;
     }
-    if math::side_query(q, r, point) < 0 {
+    if math::side_query(k.q, k.r, point) < 0 {
         return false;
     }
-    math::side_query(r, p, point) >= 0
+    math::side_query(k.r, k.p, point) >= 0
 }
 
 // Where in the triangle of a, which holds it, the point is.
@@ -319,53 +296,45 @@ fn place_at(positions: &[i32], halves: &[u32], a: u32, point: Point) -> Position
         → result ≡ place_at_of (links_of o halves.now s) (position_of positions.now) point a }
 {
     let k = corners_of(positions, halves, a);
-    let p = k.p;
-    let q = k.q;
-    let r = k.r;
-    if math::is_position(p, point) {
+    if math::is_position(k.p, point) {
         return PositionInTriangulation::OnVertex(k.u);
     }
-    if math::is_position(q, point) {
+    if math::is_position(k.q, point) {
         return PositionInTriangulation::OnVertex(k.v);
     }
-    if math::is_position(r, point) {
+    if math::is_position(k.r, point) {
         return PositionInTriangulation::OnVertex(k.w);
     }
-    if math::side_query(p, q, point) == 0 {
+    if math::side_query(k.p, k.q, point) == 0 {
         return PositionInTriangulation::OnEdge(a);
     }
-    if math::side_query(q, r, point) == 0 {
+    if math::side_query(k.q, k.r, point) == 0 {
         return PositionInTriangulation::OnEdge(k.b);
     }
-    if math::side_query(r, p, point) == 0 {
+    if math::side_query(k.r, k.p, point) == 0 {
         return PositionInTriangulation::OnEdge(k.c);
     }
     PositionInTriangulation::OnFace(dcel::face(halves, a))
 }
 
-// The first inner face that holds the point; the number of faces where none does.
+// The first inner face that holds the point.
 fn first_holding(
     positions: &[i32],
     halves: &[u32],
     faces: &[u32],
     counts: Counts,
     point: Point,
-) -> u32
+) -> Option<u32>
     requires { ScanReady counts positions.now halves.now faces.now point }
-    ensures { (o : List ℕ)
-        → result ≡ first_holding counts (links_of o halves.now faces.now)
-        (position_of positions.now) point + 1 }
+    ensures { (o : List ℕ) → HoldingIs counts (links_of o halves.now faces.now) (position_of positions.now) point result }
 {
-    let count = counts.faces;
-    let mut f: u32 = 1;
-    while f < count {
+    for f in 1..counts.faces {
         let a = dcel::adjacent(faces, f);
         if holds_at(positions, halves, a, point) {
-            return f;
+            return Some(f);
         }
-        f += 1;
     }
-    f
+    None
 }
 
 // The first boundary edge, from face 0's stored one on, that the point is strictly left of: there is one where no inner
@@ -403,13 +372,13 @@ fn scan(
     ensures { (o : List ℕ)
         → result ≡ scan counts (links_of o halves.now faces.now) (position_of positions.now) point }
 {
-    let f = first_holding(positions, halves, faces, counts, point);
-    if f < counts.faces {
-        let a = dcel::adjacent(faces, f);
-        return place_at(positions, halves, a, point);
+    match first_holding(positions, halves, faces, counts, point) {
+        Some(f) => place_at(positions, halves, dcel::adjacent(faces, f), point),
+        None => {
+            let e = first_left(positions, halves, faces, counts, point);
+            PositionInTriangulation::OutsideOfConvexHull(e)
+        }
     }
-    let e = first_left(positions, halves, faces, counts, point);
-    PositionInTriangulation::OutsideOfConvexHull(e)
 }
 
 // Where the point lies: by the search, or by the scan where the search has not ended.
@@ -427,8 +396,7 @@ pub fn locate_point(
 {
     let v = walk_to_nearest_neighbor(positions, outs, halves, counts, point);
     let e = dcel::out(outs, v);
-    let state = search_from(positions, halves, counts, e, point);
-    match state {
+    match search_from(positions, halves, counts, e, point) {
         SearchState::Found(x) => x,
         SearchState::Onward(_) => scan(positions, halves, faces, counts, point),
     }

@@ -1,13 +1,12 @@
 -- Laws of specs/BoundaryLoop.antt.
 use Rattle.std.proofs.Math.Bool.{Bool, true, false}
-use Rattle.std.specs.Prelude.{not, ◌&&◌, List, ◌≡◌, ℕ, suc, ◌+◌, ◌<◌, ◌≤◌, ◌^◌, ℤ, length}
+use Rattle.std.specs.Prelude.{List, ◌≡◌, ℕ, suc, ◌+◌, ◌<◌, ◌≤◌, ℤ, length}
 use Rattle.std.proofs.Math.Path.{refl, sym, ap, ap₂, subst}
 use Rattle.std.proofs.Common.{◌∙◌, add-one, arith, below_more}
 use Rattle.std.proofs.Math.Dec.{T, eqb}
 use Rattle.circle_test.specs.GoodRows.{GoodRows, held}
 use Rattle.dcel.specs.Rows.{halves_of, links_of, position_of, row_of, There}
 use Rattle.dcel.specs.MeshHeld.{there, there-rev, there-adjacent, origin-in, to_in}
-use Rattle.hull.proofs.Ready.{size_is}
 use Rattle.math.specs.declared.Point.{Point}
 use Rattle.math.specs.declared.Vector.{Vector}
 use Rattle.math.specs.Determinant.{InRange}
@@ -19,9 +18,9 @@ use Rattle.mesh.specs.Area.{boundary_length, hull_edge}
 use Rattle.mesh.proofs.BoundaryLaws.{boundary-below}
 use Rattle.mesh.proofs.CountsLaws.{faces-least}
 use Rattle.nearby.specs.Test.{is_right_turn, turns_right, is_walkable}
-use Rattle.outline.specs.Outline.{upper, direction, falls_next, count_boundary, full_circles}
+use Rattle.outline.specs.Outline.{direction, falls_next, count_boundary}
 use Rattle.sums.specs.Bit.{bit}
-use Rattle.sums.proofs.BitLaws.{is_true, is_false, from-true, and_left}
+use Rattle.sums.proofs.BitLaws.{is_true, is_false, from-true}
 use Rattle.sums.specs.Bounded.{all_below, count}
 use Rattle.sums.proofs.BoundedLaws.{all-below→, all-below←, count-suc, count-le}
 use Rattle.sums.specs.Half.{rev}

@@ -1,17 +1,15 @@
 -- The walk from near by: what a turn reads is in the rows, and where it ends is certified. Over plain values, so that the needs of the code are
 -- single applications. Assumes nothing.
-use Rattle.std.specs.Prelude.{Bool, true, false, List, ◌≢◌, ◌≡◌, ℕ, ◌+◌, ◌*◌, ◌<◌, T, ℤ, length, ◌<ℤ◌}
+use Rattle.std.specs.Prelude.{Bool, true, false, List, Option, Some, IfSome, ◌≢◌, ◌≡◌, ℕ, ◌+◌, ◌*◌, ◌<◌, T, ℤ, length, ◌<ℤ◌}
 use Rattle.std.proofs.Math.Path.{refl, sym, ap, ap₂}
 use Rattle.std.proofs.Common.{◌∙◌, subst, arith}
 use Rattle.std.proofs.Math.IntN.{pos}
-use Rattle.std.specs.Int.Signed.{lt_z, lt_z_yes}
-use Rattle.algebra.proofs.Test.{le_not_lt}
+use Rattle.std.specs.Int.Signed.{lt_z, le_z, lt_z_yes}
 use Rattle.dcel.specs.declared.handles.HalfEdgeEntry.{HalfEdgeEntry}
 use Rattle.dcel.specs.Rows.{halves_of, links_of, position_of, There, EntryOf}
 use Rattle.dcel.specs.MeshHeld.{there, there-rev, next-in, prev-in, origin-in, to_in}
-use Rattle.location.specs.declared.PositionInTriangulation.{PositionInTriangulation}
 use Rattle.location.specs.declared.PositionInTriangulation.TheVariants.{OnFace}
-use Rattle.location.specs.Place.{area_at, LeftOf, InFace}
+use Rattle.location.specs.Place.{area_at, InFace}
 use Rattle.location.proofs.PlaceLaws.{area-next, area-prev}
 use Rattle.location.specs.Scan.{locate_point}
 use Rattle.location.proofs.SearchLaws.{left-rev, in-face}
@@ -21,7 +19,7 @@ use Rattle.mesh.specs.declared.Counts.{Counts}
 use Rattle.mesh.specs.Mesh.{Links, In}
 use Rattle.mesh.specs.Triangle.{Triangle, triangle, rev-in}
 use Rattle.nearby.proofs.InsideLaws.{locate-inside}
-use Rattle.search.specs.SearchRows.{SearchReady, ready_held, ready-placed}
+use Rattle.search.specs.SearchRows.{ready_held, ready-placed}
 use Rattle.sums.proofs.BitLaws.{from-true}
 use Rattle.sums.specs.Half.{rev}
 use Rattle.sums.proofs.HalfLaws.{rev-rev}
@@ -188,21 +186,23 @@ module _ {C : Counts} {q : List ℤ} {o h a : List ℕ} {point : Point} {at : Fa
 
 -- ---- the whole
 module _ {C : Counts} {q : List ℤ} {o h a : List ℕ} {point : Point} {known : Bool} {v : ℕ} (N : NearReady C q o h a point known v) where
-  pub near-inside : known ≡ true → {f : ℕ} → 0 < f → (0 < f → InFace C (links_of o h a) (position_of q) point f)
+  pub near-inside : known ≡ true → {r : Option ℕ} → IfSome r (InFace C (links_of o h a) (position_of q) point) → {f : ℕ} → r ≡ Some f
       → OnFace f ≡ locate_point C (links_of o h a) (position_of q) point
-  near-inside k l I = sym (locate-inside N.start.ready.rows.good (N.walkable (from-true k)) (I l))
+  near-inside k I {f} i =
+      sym (locate-inside N.start.ready.rows.good (N.walkable (from-true k))
+      (subst (λ (s : Option ℕ). IfSome s (InFace C (links_of o h a) (position_of q) point)) i I))
 
 -- ---- positive, or 0 with a second that is
 module _ (a b : ℤ) where
-  pub positive-first : lt_z (pos 0) a ≡ true → true ≡ is_positive_of a b
+  pub positive-first : lt_z (pos 0) a ≡ true → lt_z (pos 0) a ≡ is_positive_of a b
   unfolding is_positive_of
   positive-first t = rw t refl
 
   module _ (f : lt_z (pos 0) a ≡ false) where
-    pub positive-not : lt_z a (pos 0) ≡ true → false ≡ is_positive_of a b
+    pub positive-second : le_z (pos 0) a ≡ true → lt_z (pos 0) b ≡ is_positive_of a b
     unfolding is_positive_of
-    positive-not t = rw (f, le_not_lt (pos 0) a, t) refl
+    positive-second t = rw (f, t) refl
 
-    pub positive-second : lt_z a (pos 0) ≡ false → lt_z (pos 0) b ≡ is_positive_of a b
+    pub positive-not : le_z (pos 0) a ≡ false → le_z (pos 0) a ≡ is_positive_of a b
     unfolding is_positive_of
-    positive-second t = rw (f, le_not_lt (pos 0) a, t) refl
+    positive-not t = rw (f, t) refl

@@ -4,7 +4,7 @@
 // A row that a function is lent and does not read stands for the contract alone.
 #![tactic(auto)]
 
-ghost use Rattle.std.specs.Prelude.{◌≡◌, ◌<◌};
+ghost use Rattle.std.specs.Prelude.{◌≡◌, ◌<◌, IfSome};
 ghost use Rattle.circle_test.specs.GoodRows.{GoodRows};
 ghost use Rattle.dcel.specs.Rows.{links_of, position_of};
 ghost use Rattle.location.specs.Place.{InFace};
@@ -66,9 +66,9 @@ fn first_edge(
         };
     }
     Facing {
-        e: e,
-        from: from,
-        to: to,
+        e,
+        from,
+        to,
         left: 0 < area,
     }
 }
@@ -86,42 +86,37 @@ fn walk_turn(
     requires { FacingReady counts positions.now outs.now halves.now faces.now point at }
     ensures { TurnedIs counts positions.now outs.now halves.now faces.now point result }
 {
-    let e = at.e;
-    let from = at.from;
-    let to = at.to;
-    let half = dcel::half_edge(halves, e);
-    let face = half.face;
-    if face == 0 {
+    let half = dcel::half_edge(halves, at.e);
+    if half.face == 0 {
         return Turned::Nowhere;
     }
-    let prev = half.prev;
-    let v = dcel::origin(halves, prev);
+    let v = dcel::origin(halves, half.prev);
     let far = dcel::position(positions, v);
-    let before = math::side_query(far, from, point);
+    let before = math::side_query(far, at.from, point);
     if before < 0 {
         return Turned::Onward(Facing {
-            e: dcel::rev(prev),
-            from: from,
+            e: dcel::rev(half.prev),
+            from: at.from,
             to: far,
             left: true,
         });
     }
-    let after = math::side_query(to, far, point);
+    let after = math::side_query(at.to, far, point);
     if after < 0 {
         return Turned::Onward(Facing {
             e: dcel::rev(half.next),
             from: far,
-            to: to,
+            to: at.to,
             left: true,
         });
     }
     if at.left && 0 < before && 0 < after {
-        return Turned::Inside(face);
+        return Turned::Inside(half.face);
     }
     Turned::Nowhere
 }
 
-// The face where the walk ends with the point strictly inside; 0 where it ends otherwise.
+// The face where the walk ends with the point strictly inside; none where it ends otherwise.
 fn walk(
     positions: &[i32],
     outs: &[u32],
@@ -130,29 +125,25 @@ fn walk(
     counts: Counts,
     start: Facing,
     point: Point,
-) -> u32
+) -> Option<u32>
     requires { FacingReady counts positions.now outs.now halves.now faces.now point start }
-    ensures { 0 < result → InFace counts
-        (links_of outs.now halves.now faces.now) (position_of positions.now) point result }
+    ensures { IfSome result (InFace counts (links_of outs.now halves.now faces.now) (position_of positions.now) point) }
 {
     let mut at = start;
-    let mut left = WALK_TURNS;
-    while 0 < left {
-        let turned = walk_turn(positions, outs, halves, faces, counts, at, point);
-        match turned {
+    for _ in 0..WALK_TURNS {
+        match walk_turn(positions, outs, halves, faces, counts, at, point) {
             Turned::Inside(f) => {
-                return f;
+                return Some(f);
             }
             Turned::Onward(next) => {
                 at = next;
             }
             Turned::Nowhere => {
-                return 0;
+                return None;
             }
         }
-        left -= 1;
     }
-    0
+    None
 }
 
 // Where the point lies: by the walk from edge u, where the mesh is known to be one to walk on and the walk ends strictly
@@ -173,8 +164,7 @@ pub fn locate_near(
 {
     if known {
         let start = first_edge(positions, outs, halves, faces, counts, u, point);
-        let f = walk(positions, outs, halves, faces, counts, start, point);
-        if 0 < f {
+        if let Some(f) = walk(positions, outs, halves, faces, counts, start, point) {
             return PositionInTriangulation::OnFace(f);
         }
     }
@@ -199,13 +189,7 @@ fn direction(positions: &[i32], halves: &[u32], e: u32) -> Vector
 fn is_positive(a: i64, b: i64) -> bool
     ensures { result ≡ is_positive_of a b }
 {
-    if 0 < a {
-        return true;
-    }
-    if a < 0 {
-        return false;
-    }
-    0 < b
+    0 < a || (0 <= a && 0 < b)
 }
 
 // Whether a direction is of the upper half-plane.
@@ -227,13 +211,7 @@ fn is_right_turn(u: Vector, v: Vector) -> bool
 fn fall(u: Vector, v: Vector) -> u32
     ensures { result ≡ fall_bit u v }
 {
-    if !is_upper(u) {
-        return 0;
-    }
-    if is_upper(v) {
-        return 0;
-    }
-    1
+    u32::from(is_upper(u) && !is_upper(v))
 }
 
 // Whether the mesh is one to walk on: once along the boundary.
@@ -251,9 +229,8 @@ pub fn is_walkable(
     let size = hull::convex_hull_size(counts);
     let mut e = dcel::adjacent(faces, 0);
     let mut from = direction(positions, halves, e);
-    let mut circles: u32 = 0;
-    let mut k: u32 = 0;
-    while k < size {
+    let mut circles = 0;
+    for _ in 0..size {
         e = dcel::next(halves, e);
         let to = direction(positions, halves, e);
         if !is_right_turn(from, to) {
@@ -261,7 +238,6 @@ pub fn is_walkable(
         }
         circles += fall(from, to);
         from = to;
-        k += 1;
     }
     circles == 1
 }

@@ -1,15 +1,12 @@
 -- One point of the seed on the rows: what its insertion and the test after it ask, and what they leave. Assumes nothing.
-use Rattle.std.specs.Prelude.{Bool, cond, not, ◌&&◌, List, ◌⊎◌, ◌≡◌, ℕ, zero, suc, ◌+◌, ◌*◌, ◌^◌, ◌<◌, ◌≤◌, ℤ, length}
+use Rattle.std.specs.Prelude.{Bool, List, ◌⊎◌, ◌≡◌, ℕ, zero, suc, ◌+◌, ◌<◌, ◌≤◌, ℤ, length}
 use Rattle.std.proofs.Math.Bool.{true, false}
-use Rattle.std.proofs.lemmas.Bool.{false≢true}
 use Rattle.std.proofs.Common.{inl, inr, sym, ◌∙◌}
 use Rattle.std.proofs.Math.Path.{refl, ap, subst, fun_ext}
 use Rattle.std.proofs.Math.Numerals.{add-one}
 use native.Mathlib.Omega.{arith}
 use Rattle.answers.specs.AnswerRows.{words_of, with_words}
-use Rattle.bulk_load.specs.Seed.{Seeding, may_start, seeded_by, grow_word}
-use Rattle.circle_test.specs.GoodRows.{GoodRows}
-use Rattle.corner.specs.Corner.{Extended}
+use Rattle.bulk_load.specs.Seed.{seeded_by, grow_word}
 use Rattle.corner.specs.CornerRows.{extended_of}
 use Rattle.dcel.specs.Rows.{links_of, position_of, row_of}
 use Rattle.grow.specs.declared.Grown.{Grown}
@@ -17,16 +14,13 @@ use Rattle.grow.specs.GrowRows.{growing_at, growing_of, GrowReady}
 use Rattle.hull_center.specs.HullCenter.{is_ready}
 use Rattle.hull_center_rows.specs.CenterRows.{CenterReady}
 use Rattle.line.specs.Grow.{Growing, grow_in_mesh, grow_on}
-use Rattle.line.specs.GrowLaws.{Phase, none, one, line, mesh, PointAt}
+use Rattle.line.specs.GrowLaws.{Phase, none, one, line, mesh}
 use Rattle.line.proofs.GrowLawsFacts.{grow-at, grow-keeps}
 use Rattle.math.specs.declared.Point.{Point}
 use Rattle.mesh.specs.declared.Counts.{Counts}
-use Rattle.mesh.specs.Mesh.{Links}
 use Rattle.mesh.proofs.CountsLaws.{count-edges, count-faces}
 use Rattle.mesh.specs.Good.{Good}
-use Rattle.sweep.specs.Run.{answer_words}
-use Rattle.seed.specs.declared.SeedEnd.{SeedEnd}
-use Rattle.seed.specs.SeedLeaves.{SeedState, state_of, state_in, seeding_at, grown_at, PointReady, PointLeaves}
+use Rattle.seed.specs.SeedLeaves.{state_of, state_in, seeding_at, grown_at, PointReady, PointLeaves}
 
 -- a point sees the mesh alone
 pub grow-same : (room : ℕ) (g : Growing) (q : Point)

@@ -1,8 +1,7 @@
 -- Rows as the states of a growing seed, and what each function asks of them and leaves. Definitions only.
-use Rattle.std.specs.Prelude.{Bool, true, false, cond, not, List, ◌≡◌, ℕ, ◌+◌, ◌*◌, ◌/◌, ◌%◌, ◌<◌, ◌≤◌, ltb, ℤ, length}
+use Rattle.std.specs.Prelude.{Bool, false, cond, List, ◌≡◌, ℕ, ◌+◌, ◌*◌, ◌/◌, ◌%◌, ◌<◌, ◌≤◌, ltb, ℤ, length}
 use Rattle.answers.specs.AnswerRows.{with_words}
-use Rattle.bulk_load.specs.Seed.{Seeding, may_start, seeded_by, seed_after, grow_at, grow_word}
-use Rattle.corner.specs.CornerRows.{MeshRoom}
+use Rattle.bulk_load.specs.Seed.{Seeding, seeded_by, seed_after, grow_at, grow_word}
 use Rattle.dcel.specs.Rows.{links_of, position_of, row_of}
 use Rattle.grow.specs.GrowRows.{growing_at, GrowReady}
 use Rattle.line.specs.Grow.{Growing, grow_on}

@@ -1,17 +1,16 @@
 -- The loop of the seed: after i points of the list the rows hold the seed of the definition and the answers of those points. Assumes nothing.
-use Rattle.std.specs.Prelude.{Bool, true, false, not, ◌||◌, List, ◌⊎◌, ◌≡◌, ℕ, zero, suc, ◌+◌, ◌-◌, ◌*◌, ◌/◌, ◌%◌, ◌^◌, ◌<◌, ◌≤◌, ltb, eqb, ℤ, length}
+use Rattle.std.specs.Prelude.{Bool, true, false, ◌||◌, List, ◌≡◌, ℕ, zero, suc, ◌+◌, ◌-◌, ◌/◌, ◌%◌, ◌<◌, ◌≤◌, ltb, eqb, ℤ, length}
 use Rattle.std.proofs.Math.Bool.{cond}
-use Rattle.std.proofs.Common.{inl, inr, sym, ◌∙◌, ap, subst, add-suc, add-zero, add-one, arith}
+use Rattle.std.proofs.Common.{sym, ◌∙◌, ap, subst, add-suc, add-zero, add-one, arith}
 use Rattle.std.proofs.Math.Path.{refl}
 use Rattle.std.proofs.Math.Decide.{ℕ_discrete, dec_lt}
 use borrow.Author.Tests.{lt-ltb, le-ltb, eq-eqb, ne_eqb}
 use Rattle.answers.specs.AnswerRows.{with_words}
-use Rattle.bulk_load.specs.Seed.{Seeding, seed_start, seeded_by, seed_point, seed_after, grow_at, grow_word}
+use Rattle.bulk_load.specs.Seed.{Seeding, seeded_by, seed_point, seed_after, grow_at, grow_word}
 use Rattle.bulk_load.proofs.SeedLaws.{SeedKeeps, seed-keeps, grown-most}
-use Rattle.corner.specs.CornerRows.{MeshRoom}
 use Rattle.dcel.specs.MeshRows.{mesh_rows, SameLengths}
 use Rattle.dcel.specs.Rows.{links_of, position_of, row_of}
-use Rattle.grow.specs.GrowRows.{growing_at, GrowReady}
+use Rattle.grow.specs.GrowRows.{growing_at}
 use Rattle.line.specs.Grow.{Growing, grow_on}
 use Rattle.line.specs.GrowLaws.{Phase}
 use Rattle.math.specs.declared.Point.{Point}
@@ -240,7 +239,11 @@ module _ {q₀ : List ℤ} {o₀ h₀ a₀ row₀ w₀ : List ℕ} {points : Lis
           most = omega arith;
         }
 
-  pub seeding-end : n ≤ i → SeedLeaves q₀ o₀ h₀ a₀ (length row₀) w₀ points n q o h a w (record { counts = C; answered = i; ready = false; full = false })
+  pub seeding-end : n ≤ i → SeedLeaves q₀ o₀ h₀ a₀ (length row₀) w₀ points n q o h a w (record { counts = C; answered = n; ready = false; full = false })
   seeding-end l =
       let k : i ≡ n = (let m = I.most in omega arith) in
-      record { is = sym I.at ∙ ap (λ (j : ℕ). state_of (list j)) k; answers-are = I.answers-are }
+      record {
+        is = ap (λ (j : ℕ). state_in q o h a (record { counts = C; answered = j; ready = false; full = false })) (sym k) ∙ sym I.at
+            ∙ ap (λ (j : ℕ). state_of (list j)) k;
+        answers-are = λ x. I.answers-are x ∙ ap (λ (j : ℕ). answers_to (word_at (length row₀) q₀ o₀ h₀ a₀ points) j (row_of w₀) x) k;
+      }

@@ -8,7 +8,7 @@ ghost use Rattle.seed.specs.SeedLeaves.{PointReady, PointLeaves, SeedReady, Seed
 use mesh::Counts;
 
 // Where the seed has come to: the mesh's counts, how many points have been answered, whether the sweep may start, and whether a flip's
-// pushes would have overfilled the pending list.
+// pushes would have overfilled the pending list. (Both stay flags: the seed's definition in the crate `bulk_load`, `Seeding`, has them.)
 #[derive(Clone, Copy)]
 pub struct SeedEnd {
     pub counts: Counts,
@@ -37,10 +37,10 @@ fn seed_point(
     let point = dcel::position(points, i);
     let done = grow::grow_on(positions, outs, halves, faces, pending, counts, point);
     let added = done.added;
-    let after = added.counts;
+    let counts = added.counts;
     if added.full {
         return SeedEnd {
-            counts: after,
+            counts,
             answered: i,
             ready: false,
             full: true,
@@ -54,11 +54,11 @@ fn seed_point(
         added.faces as u64,
         added.flips,
     );
-    let ready = hull_center_rows::is_ready(positions, halves, faces, after);
+    let ready = hull_center_rows::is_ready(positions, halves, faces, counts);
     SeedEnd {
-        counts: after,
+        counts,
         answered: i + 1,
-        ready: ready,
+        ready,
         full: false,
     }
 }
@@ -84,23 +84,18 @@ pub fn seed(
         edges: 0,
         faces: 0,
     };
-    let mut i: u32 = 0;
-    while i < count {
+    for i in 0..count {
         let done = seed_point(
             positions, outs, halves, faces, pending, answers, now, points, i,
         );
-        if done.full {
-            return done;
-        }
-        if done.ready {
+        if done.full || done.ready {
             return done;
         }
         now = done.counts;
-        i += 1;
     }
     SeedEnd {
         counts: now,
-        answered: i,
+        answered: count,
         ready: false,
         full: false,
     }

@@ -15,7 +15,7 @@ use Rattle.angle.proofs.Product.{product-exact}
 use Rattle.segment.specs.declared.Segment.{Segment}
 use Rattle.segment.specs.declared.Segment.TheVariants.{Plain, Wrapping}
 use Rattle.segment.specs.Arc.{holds}
-use Rattle.segment.specs.Segment.{pick, segment_of, EndsAreAngles, contains_angle, contains_turns}
+use Rattle.segment.specs.Segment.{segment_of, EndsAreAngles, contains_angle, contains_turns}
 use Rattle.segment.specs.Bucket.{Buckets, floor_times, ceil_times, floored_bucket, ceiled_bucket, width, floor_of, ceil_of}
 
 -- ---- containment
@@ -26,7 +26,7 @@ contains-turns (Wrapping s e) a g v = ap (λ (b : Bool). b || lt a e) (valid-le 
 pub segment-good : (s e : Float) → IsAngle s → IsAngle e → EndsAreAngles (segment_of s e)
 segment-good s e h k = go (ltb (turns s) (turns e))
   where
-    go : (t : Bool) → EndsAreAngles (pick t (Plain s e) (Wrapping s e))
+    go : (t : Bool) → EndsAreAngles (cond t (Plain s e) (Wrapping s e))
     go true = (h, k)
     go false = (h, k)
 
@@ -36,7 +36,7 @@ unfolding holds
 segment-holds s e h k = go (ltb (turns s) (turns e)) (ltb (turns e) (turns s)) (nltb→le (turns s) (turns e)) (nltb→le (turns e) (turns s))
   where
     go : (t u : Bool) → (T (not t) → turns e ≤ turns s) → (T (not u) → turns s ≤ turns e)
-        → contains_turns (pick t (Plain s e) (Wrapping s e)) k
+        → contains_turns (cond t (Plain s e) (Wrapping s e)) k
         ≡ cond t (leb (turns s) k && ltb k (turns e)) (cond u (leb (turns s) k || ltb k (turns e)) false)
     go true u a b = refl
     go false true a b = refl

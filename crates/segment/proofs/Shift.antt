@@ -1,53 +1,38 @@
--- A count of buckets, 2 ^ i, as the code reads it: its leading zeros, its mask, and shifts by a bucket's width. Assumes nothing.
-use mathlib.Core.Path.{◌≡◌, sym, ap, ◌∙◌}
+-- A count of buckets, 2 ^ i, as the code reads it: its logarithm, its mask, and shifts by a bucket's width. Assumes nothing.
+use mathlib.Core.Path.{◌≡◌, sym, ap, ◌∙◌, subst}
 use Prim.Native.Nat.{ℕ, suc, ◌+◌, ◌-◌, ◌*◌, ◌/◌, ◌%◌, ◌^◌, ◌≤◌, ◌<◌}
-use native.Mathlib.Nat.{le_refl, one-mul, mod-eq_of_lt, mod-lt, two-pow-succ}
+use native.Mathlib.Nat.{one-mul, mod-eq_of_lt, mod-lt, two-pow-succ}
 use native.Mathlib.Omega.{arith}
+use native.Mathlib.Decide.{dec_lt}
 use lib.Pow.{pow_mono, pow-lt}
 use lib.Bits.{bit_and, and_mask}
-use lib.Count.{count_leading_zeros, leading_unique}
+use Rattle.angle.proofs.Powers.{pow_le_back}
 use Rattle.segment.specs.Bucket.{Buckets, BucketShift, width, floor_of, ceil_of}
 use Rattle.segment.proofs.Laws.{bucket-digits, bucket-pos}
 
--- ---- the leading zeros
-leading-pow : (i : ℕ) → i ≤ 20 → count_leading_zeros 64 (2 ^ i) ≡ 63 - i
-leading-pow i h = sym (leading_unique 64 (2 ^ i) (63 - i) (suc i) (all i h) (pow-lt (le_refl (suc i))) (twice (2 ^ i) (2 ^ suc i) (two-pow-succ i)))
+-- ---- the logarithm
+log-is : (r i : ℕ) → 2 ^ r ≤ 2 ^ i → 2 ^ i < 2 * 2 ^ r → r ≡ i
+log-is r i l h = go (dec_lt r i)
   where
-    all : (i : ℕ) → i ≤ 20 → 63 - i + suc i ≡ 64
-    all i h = omega arith
+    go : Dec (r < i) → r ≡ i
+    go (yes m) = absurd (let p : 2 ^ suc r ≤ 2 ^ i = pow_mono m in let e = two-pow-succ r in omega arith)
+    go (no m) = let k = pow_le_back r i l in omega arith
 
-    twice : (p q : ℕ) → q ≡ p + p → q ≤ 2 * p + 1
-    twice p q e = omega arith
+pub log-digits : (r n : ℕ) (h : Buckets n) → 2 ^ r ≤ n → n < 2 * 2 ^ r → r ≡ (bucket-digits n h).0
+log-digits r n h l m =
+    let b = bucket-digits n h in log-is r b.0 (subst (λ (x : ℕ). 2 ^ r ≤ x) b.1 l) (subst (λ (x : ℕ). x < 2 * 2 ^ r) b.1 m)
 
-pub leading : (n : ℕ) (h : Buckets n) → count_leading_zeros 64 n ≡ 63 - (bucket-digits n h).0
-leading n h = let b = bucket-digits n h in ap (count_leading_zeros 64) b.1 ∙ leading-pow b.0 b.3
+pub digits_le : (r n : ℕ) → Buckets n → 2 ^ r ≤ n → n < 2 * 2 ^ r → r ≤ 53
+digits_le r n h l m = let b = bucket-digits n h in let e = log-digits r n h l m in let t = b.3 in omega arith
 
-pub leading_le : (n : ℕ) → Buckets n → count_leading_zeros 64 n ≤ 63
-leading_le n h = less (count_leading_zeros 64 n) (bucket-digits n h).0 (leading n h)
-  where
-    less : (z i : ℕ) → z ≡ 63 - i → z ≤ 63
-    less z i e = omega arith
-
-pub digits_le : (n : ℕ) → Buckets n → 63 - count_leading_zeros 64 n ≤ 53
-digits_le n h = less (count_leading_zeros 64 n) (bucket-digits n h).0 (bucket-digits n h).3 (leading n h)
-  where
-    less : (z i : ℕ) → i ≤ 20 → z ≡ 63 - i → 63 - z ≤ 53
-    less z i l e = omega arith
-
-pub shift_is : (n : ℕ) → Buckets n → BucketShift (53 - (63 - count_leading_zeros 64 n)) n
-shift_is n h =
+pub shift_is : (r n : ℕ) → Buckets n → 2 ^ r ≤ n → n < 2 * 2 ^ r → BucketShift (53 - r) n
+shift_is r n h l m =
     let b = bucket-digits n h in
-    let s : 53 - (63 - count_leading_zeros 64 n) ≡ 53 - b.0 = back (count_leading_zeros 64 n) b.0 b.3 (leading n h) in
-    record { shift = ap (λ (x : ℕ). 2 ^ x) s ∙ sym b.4; low = few (53 - (63 - count_leading_zeros 64 n)) b.0 b.2 s }
-  where
-    back : (z i : ℕ) → i ≤ 20 → z ≡ 63 - i → 53 - (63 - z) ≡ 53 - i
-    back z i l e = omega arith
-
-    few : (s i : ℕ) → 3 ≤ i → s ≡ 53 - i → s ≤ 50
-    few s i l e = omega arith
+    let e = log-digits r n h l m in
+    record { shift = ap (λ (i : ℕ). 2 ^ (53 - i)) e ∙ sym b.4; low = let t = b.2 in omega arith }
 
 -- ---- the mask
-mask : (n x : ℕ) → Buckets n → bit_and x (n - 1) ≡ x % n
+pub mask : (n x : ℕ) → Buckets n → bit_and x (n - 1) ≡ x % n
 mask n x h = let b = bucket-digits n h in ap (λ (m : ℕ). bit_and x (m - 1)) b.1 ∙ and_mask x b.0 ∙ ap (λ (m : ℕ). x % m) (sym b.1)
 
 pub floor-is : (k s n : ℕ) → Buckets n → BucketShift s n → bit_and (k / 2 ^ s) (n - 1) ≡ floor_of k n

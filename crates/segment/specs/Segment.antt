@@ -1,17 +1,13 @@
 -- What a segment holds, on floats and on whole numbers of 2 ^ -53. Definitions only.
-use Rattle.std.specs.Prelude.{ℕ, Bool, true, false, ◌&&◌, ◌||◌, ltb, leb, Float}
+use Rattle.std.specs.Prelude.{ℕ, Bool, if◌then◌else◌, ◌&&◌, ◌||◌, ltb, leb, Float}
 use Rattle.std.specs.Float.Ieee.{lt, le}
 use Rattle.angle.specs.Angle.{IsAngle, turns}
 use Rattle.segment.specs.declared.Segment.{Segment}
 use Rattle.segment.specs.declared.Segment.TheVariants.{Plain, Wrapping}
 
-abbrev pub pick : Bool → Segment → Segment → Segment
-pick true a b = a
-pick false a b = b
-
 -- 01: "A segment is either plain or wrapping, and carries its two angles": it wraps where its second is less than its first
 abbrev pub segment_of : Float → Float → Segment
-segment_of s e = pick (ltb (turns s) (turns e)) (Plain s e) (Wrapping s e)
+segment_of s e = if ltb (turns s) (turns e) then Plain s e else Wrapping s e
 
 -- both are angles
 abbrev pub EndsAreAngles : Segment → Type 0

@@ -9,6 +9,9 @@ ghost use Rattle.segment.specs.Arc.{holds, gap, wide};
 ghost use Rattle.segment.specs.Segment.{segment_of, EndsAreAngles, contains_angle, contains_turns};
 ghost use Rattle.segment.specs.Bucket.{Buckets, BucketShift, floored_bucket, ceiled_bucket, floor_of, ceil_of};
 
+// 1.0, in whole numbers of 2 ^ -53.
+const FULL_TURN: u64 = 0x20_0000_0000_0000;
+
 // From the first angle up to the second, without it; a wrapping one goes on past 1.0 at 0.0.
 #[derive(Clone, Copy)]
 pub enum Segment {
@@ -44,6 +47,7 @@ impl Segment {
 }
 
 // How far it is from one angle up to another, in whole numbers of 2 ^ -53: as floats the sum with 1.0 would round.
+#[tactic(auto, unfolding(crate::specs::Arc::gap))]
 pub fn gap_of(from: f64, to: f64) -> u64
     requires { IsAngle from × IsAngle to }
     ensures is { result ≡ gap (2 ^ 53) (turns from) (turns to) }
@@ -51,26 +55,24 @@ pub fn gap_of(from: f64, to: f64) -> u64
 {
     let a = angle::turns_of(from);
     let b = angle::turns_of(to);
-    if b < a {
-        return b + 0x20_0000_0000_0000 - a;
-    }
-    b - a
+    if b < a { b + FULL_TURN - a } else { b - a }
 }
 
 // Whether a gap is more than 3/4.
+#[tactic(auto, unfolding(crate::specs::Arc::wide))]
 pub fn is_wide(from: f64, to: f64) -> bool
     requires { IsAngle from × IsAngle to }
     ensures { result ≡ wide (2 ^ 53) (turns from) (turns to) }
 {
-    3 * 0x20_0000_0000_0000 < 4 * gap_of(from, to)
+    3 * FULL_TURN < 4 * gap_of(from, to)
 }
 
-// How far the whole number is shifted for count buckets: count is 2 ^ (63 - its leading zeros), and a bucket is 2 ^ 53 / count wide.
+// How far the whole number is shifted for count buckets, a power of two: a bucket is 2 ^ 53 / count wide.
 fn bucket_shift(count: usize) -> u32
     requires { Buckets count }
     ensures { BucketShift result count }
 {
-    53 - (63 - usize::leading_zeros(count))
+    53 - count.ilog2()
 }
 
 // The bucket that an angle falls into.

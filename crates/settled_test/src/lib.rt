@@ -40,17 +40,12 @@ fn first_spoke(
     ensures { FirstSpoke positions.now outs.now halves.now v result }
 {
     let e = dcel::out(outs, v);
-    let t = dcel::rev(e);
-    let half = dcel::half_edge(halves, t);
-    let a = half.origin;
-    let here = dcel::position(positions, a);
-    let prev = half.prev;
-    let w = dcel::origin(halves, prev);
-    let before = dcel::position(positions, w);
+    let half = dcel::half_edge(halves, dcel::rev(e));
+    let w = dcel::origin(halves, half.prev);
     Spoke {
-        e: e,
-        here: here,
-        before: before,
+        e,
+        here: dcel::position(positions, half.origin),
+        before: dcel::position(positions, w),
         face: half.face,
     }
 }
@@ -60,13 +55,7 @@ fn is_broken(center: Point, at: Spoke, face: u32, next: Point) -> bool
     requires { InRange center × InRange at.here × InRange next × InRange at.before }
     ensures { result ≡ broken_at center at face next }
 {
-    if face == 0 {
-        return false;
-    }
-    if at.face == 0 {
-        return false;
-    }
-    math::contained_in_circumference(center, at.here, next, at.before)
+    face != 0 && at.face != 0 && math::contained_in_circumference(center, at.here, next, at.before)
 }
 
 // Whether no edge that vertex v is an end of breaks the rule.
@@ -85,26 +74,23 @@ pub fn is_unbroken_at(
     let center = dcel::position(positions, v);
     let mut at = first_spoke(positions, outs, halves, faces, counts, v);
     let start = at.e;
-    let mut left = MOST_SPOKES;
-    while 0 < left {
+    for _ in 0..MOST_SPOKES {
         let half = dcel::half_edge(halves, at.e);
         let w = dcel::origin(halves, half.prev);
         let next = dcel::position(positions, w);
         if is_broken(center, at, half.face, next) {
             return false;
         }
-        let here = at.here;
         let d = dcel::rev(half.prev);
         at = Spoke {
             e: d,
             here: next,
-            before: here,
+            before: at.here,
             face: half.face,
         };
         if d == start {
             return true;
         }
-        left -= 1;
     }
     false
 }
@@ -121,7 +107,8 @@ pub fn is_settled(
     ensures { T result → Settled counts
         (links_of outs.now halves.now faces.now) (position_of positions.now) }
 {
-    let mut u: u32 = 0;
+    let mut u = 0;
+    // no `for`: u goes on by a block
     while u < counts.edges {
         let v = circle_scan::unbroken(positions, halves, u, counts.edges);
         if v <= u {

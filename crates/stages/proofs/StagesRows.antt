@@ -1,4 +1,5 @@
 -- The definitions of the two meshes, by whether the checks accept what is lent. Assumes nothing.
+use Rattle.std.specs.Prelude.{Ok, Err}
 use mathlib.Core.Bool.{false}
 use mathlib.Core.List.{List}
 use mathlib.Core.Path.{◌≡◌, refl}
@@ -14,7 +15,7 @@ use Rattle.corner.specs.CornerRows.{extended_of}
 use Rattle.dcel.specs.MeshRows.{MeshRows, links_in, places_in}
 use Rattle.finish.specs.Finish.{seed_checked}
 use Rattle.mesh.specs.declared.Counts.{Counts}
-use Rattle.mesh_check.specs.declared.Checked.{Checked}
+use Rattle.mesh_check.specs.Checked.{Checked}
 use Rattle.mesh_check.specs.declared.Refusal.{Refusal}
 use Rattle.mesh_check.specs.Check.{point_count}
 use Rattle.steps.specs.StepsRows.{sweeping_of}
@@ -22,12 +23,12 @@ use Rattle.sweep.specs.Run.{RunLent, run_checked, sweep_after, sweep_of}
 use Rattle.stages.specs.Stages.{step_count_of, stepped_of, pass_checked, passed_of}
 
 -- ---- the steps
-pub stepped-refused : (l : RunLent) (x : Refusal) → Checked.Refused x ≡ run_checked l
+pub stepped-refused : (l : RunLent) (x : Refusal) → Err x ≡ run_checked l
     → sweeping_of l.mesh (record { counts = l.counts; answered = 0; full = false }) ≡ stepped_of l
 unfolding stepped_of step_count_of sweeping_of sweep_after
 stepped-refused l x e = rw (← e) refl
 
-pub stepped-accepted : (l : RunLent) → run_checked l ≡ Checked.Accepted → sweep_of l (point_count l.points) ≡ stepped_of l
+pub stepped-accepted : (l : RunLent) → run_checked l ≡ Ok tt → sweep_of l (point_count l.points) ≡ stepped_of l
 unfolding stepped_of step_count_of
 stepped-accepted l e = rw e refl
 
@@ -41,12 +42,12 @@ module _ (C : Counts) where
   start-ready R = record { ready = record { rows = R.rows; sized = R.sized; flips = within_none; faces = omega arith }; full = refl }
 
   module _ (m : MeshRows) (pending : List ℕ) where
-    pub passed-refused : (x : Refusal) → Checked.Refused x ≡ seed_checked C m pending
+    pub passed-refused : (x : Refusal) → Err x ≡ seed_checked C m pending
         → extended_of m.outs m.halves m.faces none ≡ passed_of C m pending
     unfolding extended_of passed_of pass_checked
     passed-refused x k = rw (← k) refl
 
-    pub passed-accepted : Checked.Accepted ≡ seed_checked C m pending
+    pub passed-accepted : (Ok tt) ≡ seed_checked C m pending
         → fix_convexity (length pending) (places_in m) (extended_of m.outs m.halves m.faces none) ≡ passed_of C m pending
     unfolding extended_of passed_of pass_checked
     passed-accepted k = rw (← k) refl

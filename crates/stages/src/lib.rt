@@ -6,7 +6,6 @@
 ghost use Rattle.std.specs.Prelude.{◌≡◌};
 ghost use Rattle.corner.specs.CornerRows.{extended_of};
 ghost use Rattle.dcel.specs.MeshRows.{mesh_rows};
-ghost use Rattle.mesh_check.specs.declared.Checked.TheVariants.{Accepted};
 ghost use Rattle.mesh_check.specs.Check.{point_count};
 ghost use Rattle.ring_rows.specs.RingRows.{ring_rows};
 ghost use Rattle.steps.specs.StepsRows.{sweeping_of};
@@ -16,7 +15,6 @@ ghost use Rattle.stages.specs.Stages.{stepped_of, passed_of};
 use angle::Point2;
 use corner::Extension;
 use mesh::Counts;
-use mesh_check::Checked;
 use ring_rows::Node;
 use steps::SweepEnd;
 
@@ -36,7 +34,7 @@ fn steps_accepted(
     points: &[i32],
 ) -> SweepEnd
     requires { run_checked (run_lent counts (mesh_rows positions.old outs.old halves.old faces.old)
-        (ring_rows nodes.old freed.old buckets.old) pending.old answers.old center points.now) ≡ Accepted }
+        (ring_rows nodes.old freed.old buckets.old) pending.old answers.old center points.now) ≡ Ok tt }
     ensures { sweeping_of (mesh_rows positions.new outs.new halves.new faces.new) result
         ≡ sweep_of (run_lent counts
         (mesh_rows positions.old outs.old halves.old faces.old)
@@ -87,12 +85,12 @@ pub fn steps(
         pending.len(),
         center,
     ) {
-        Checked::Refused(refusal) => SweepEnd {
-            counts: counts,
+        Err(_) => SweepEnd {
+            counts,
             answered: 0,
             full: false,
         },
-        Checked::Accepted => steps_accepted(
+        Ok(()) => steps_accepted(
             counts, positions, outs, halves, faces, nodes, freed, buckets, pending, answers,
             center, points,
         ),
@@ -113,15 +111,13 @@ pub fn pass(
         pending.old }
 {
     let added = Extension {
-        counts: counts,
+        counts,
         faces: 0,
         flips: 0,
         full: false,
     };
     match finish::check_seed(counts, positions, outs, halves, faces, pending) {
-        Checked::Refused(refusal) => added,
-        Checked::Accepted => {
-            convexity::fix_convexity(positions, outs, halves, faces, pending, added)
-        }
+        Err(_) => added,
+        Ok(()) => { convexity::fix_convexity(positions, outs, halves, faces, pending, added) }
     }
 }

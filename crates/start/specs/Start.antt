@@ -6,7 +6,7 @@ use Rattle.dcel.specs.MeshRows.{MeshRows}
 use Rattle.locate.specs.Locate.{ring_rows_short, check_start}
 use Rattle.math.specs.declared.Point.{Point}
 use Rattle.mesh.specs.declared.Counts.{Counts}
-use Rattle.mesh_check.specs.declared.Checked.{Checked}
+use Rattle.mesh_check.specs.Checked.{Checked}
 use Rattle.mesh_check.specs.Check.{vertex_count}
 
 -- a point as a row of points: an x and a y

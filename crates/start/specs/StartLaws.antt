@@ -1,6 +1,6 @@
 -- A call that the checks let pass has a good mesh with a strict ring about its centre, and rows with room (`sweep-accepts`); building from
 -- it leaves the mesh with its ring in the rows (`ring-started`). Assumes nothing.
-use Rattle.std.specs.Prelude.{Bool, false, ◌||◌, List, ◌≡◌, ℕ, ◌-◌, ◌*◌, ◌<◌, ◌≤◌, ◌^◌, ltb, ℤ, length}
+use Rattle.std.specs.Prelude.{Bool, false, ◌||◌, List, ◌≡◌, ℕ, ◌-◌, ◌*◌, ◌<◌, ◌≤◌, ◌^◌, ltb, ℤ, length, Ok}
 use Rattle.std.proofs.Common.{◌∙◌, subst, arith, ltb-false}
 use Rattle.angle.specs.declared.Point2.{Point2}
 use Rattle.circle_test.specs.GoodRows.{GoodRows}
@@ -17,7 +17,6 @@ use Rattle.locate.specs.Start.{RingRoom, AcceptedStart}
 use Rattle.locate.proofs.StartLaws.{ring-room, start-accepts, accepted-held, accepted-placed, start-numbered}
 use Rattle.mesh.specs.declared.Counts.{Counts}
 use Rattle.mesh.specs.Area.{boundary_length}
-use Rattle.mesh_check.specs.declared.Checked.TheVariants.{Accepted}
 use Rattle.mesh_check.specs.Accepted.{AcceptedWith}
 use Rattle.mesh_check.proofs.AcceptedLaws.{or-false}
 use Rattle.mesh_check.specs.Check.{vertex_count}
@@ -37,7 +36,7 @@ pub record AcceptedSweep (points : List ℤ) (short : Bool) (C : Counts) (m : Me
   pub others : short ≡ false
 
 pub sweep-accepts : {points : List ℤ} {short : Bool} {C : Counts} {m : MeshRows} {nodes freed buckets pending : ℕ} {center : Point2}
-    → sweep_checked points short C m nodes freed buckets pending center ≡ Accepted
+    → sweep_checked points short C m nodes freed buckets pending center ≡ Ok tt
     → AcceptedSweep points short C m nodes freed buckets pending center
 unfolding sweep_checked sweep_rows_short
 sweep-accepts {points} {short} {C} {m} {nodes} {freed} {buckets} {pending} {center} e =

@@ -10,7 +10,7 @@ ghost use Rattle.start.specs.StartRows.{ToStart, Started, RowsCleared};
 
 use angle::Point2;
 use mesh::Counts;
-use mesh_check::Checked;
+use mesh_check::Refusal;
 use ring_rows::{Hull, Node};
 
 // One of the rows that are not the mesh's, given by their lengths, is too short for n vertices. `short`: another one is.
@@ -48,7 +48,7 @@ pub fn check_sweep(
     buckets: usize,
     pending: usize,
     center: Point2,
-) -> Checked
+) -> Result<(), Refusal>
     ensures { result ≡ sweep_checked points.now short
         counts (mesh_rows positions.now outs.now halves.now faces.now)
         nodes freed buckets pending center }

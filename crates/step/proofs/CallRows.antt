@@ -1,4 +1,5 @@
 -- The call in the rows: what its parts ask of rows that the checks let pass, and what it comes to. Assumes nothing.
+use Rattle.std.specs.Prelude.{Ok, Err}
 use mathlib.Core.Bool.{true, false}
 use mathlib.Core.List.{List, [], ◌∷◌}
 use mathlib.Core.Path.{◌≡◌, refl, sym, ◌∙◌, ap}
@@ -12,7 +13,7 @@ use Rattle.dcel.specs.Rows.{position_of}
 use Rattle.math.specs.declared.Point.{Point}
 use Rattle.math.specs.Determinant.{InRange}
 use Rattle.mesh.specs.declared.Counts.{Counts}
-use Rattle.mesh_check.specs.declared.Checked.{Checked}
+use Rattle.mesh_check.specs.Checked.{Checked}
 use Rattle.mesh_check.specs.declared.Refusal.{Refusal}
 use Rattle.mesh_check.specs.Check.{vertex_count, point_count}
 use Rattle.ring_rows.specs.declared.Node.{Node}
@@ -24,7 +25,7 @@ use Rattle.start.specs.StartLaws.{AcceptedSweep, sweep-accepts}
 use Rattle.start.specs.StartRows.{ToStart, Started, RowsCleared}
 use Rattle.step.specs.declared.Progress.{Progress}
 use Rattle.sweep.specs.declared.StepAnswer.{StepAnswer}
-use Rattle.sweep.specs.declared.Stepped.{Stepped}
+use Rattle.sweep.specs.Stepped.{Stepped}
 use Rattle.sweep.specs.StepCall.{answer_from, step_checked, stepped_with, step_outcome, step_of}
 use Rattle.step.specs.StepRows.{stepping_of, StepReady, StepLeaves, SweptOnce}
 use Rattle.step.specs.StepOnce.{swept-outcome}
@@ -32,12 +33,12 @@ use Rattle.step.specs.StepOnce.{swept-outcome}
 -- ---- the answer
 module _ (r : Progress) (place : ℕ) (m : MeshRows) where
   pub answer-full : r.full ≡ true
-      → record { counts = r.counts; stepped = Stepped.Refused (record { number = 9; place = place }) } ≡ answer_from place (stepping_of m r)
+      → record { counts = r.counts; stepped = Err (record { number = 9; place = place }) } ≡ answer_from place (stepping_of m r)
   unfolding answer_from stepping_of
   answer-full e = rw e
 
   pub answer-done : r.full ≡ false
-      → record { counts = r.counts; stepped = Stepped.Accepted r.answer } ≡ answer_from place (stepping_of m r)
+      → record { counts = r.counts; stepped = Ok r.answer } ≡ answer_from place (stepping_of m r)
   unfolding answer_from stepping_of
   answer-done e = rw e refl
 
@@ -119,7 +120,7 @@ swept_once K i i' j k k' l Z = record {
 
 -- ---- the call
 -- k is what the checks answer
-pub once-accepted : {k : Checked} → k ≡ Checked.Accepted
+pub once-accepted : {k : Checked} → k ≡ Ok tt
     → {C : Counts} {m : MeshRows} {nodes freed buckets pending : ℕ} {center : Point2} {v : Point}
     → k ≡ step_checked C m nodes freed buckets pending center v
     → AcceptedSweep (point_row v) false C m nodes freed buckets pending center
@@ -130,12 +131,12 @@ module _ (C : Counts) (m : MeshRows) (ring : RingRows) (pending : List ℕ) (cen
   abbrev checks : Checked
   checks = step_checked C m (length ring.nodes) (length ring.freed) (length ring.buckets) (length pending) center v
 
-  pub refused-outcome : {k : Checked} {x : Refusal} → k ≡ Checked.Refused x → k ≡ checks
-      → stepped_with (record { counts = C; stepped = Stepped.Refused x }) m ring pending ≡ step_of C m ring pending center v
+  pub refused-outcome : {k : Checked} {x : Refusal} → k ≡ Err x → k ≡ checks
+      → stepped_with (record { counts = C; stepped = Err x }) m ring pending ≡ step_of C m ring pending center v
   unfolding step_of step_outcome
   refused-outcome e f = rw (← f, e) refl
 
-  pub accepted-outcome : {k : Checked} → k ≡ Checked.Accepted → k ≡ checks
+  pub accepted-outcome : {k : Checked} → k ≡ Ok tt → k ≡ checks
       → {x : StepAnswer} {m' : MeshRows} {ring' : RingRows} {pending' : List ℕ} {r : Progress}
       → SweptOnce C m ring pending m' ring' pending' center v r → SameLengths m m' → x ≡ answer_from 0 (stepping_of m' r)
       → stepped_with x m' ring' pending' ≡ step_of C m ring pending center v

@@ -1,12 +1,12 @@
 -- The step on rows that the checks accept, by its two parts `sweep_once` and `answer_of`: it is the call's. Assumes nothing.
-use Rattle.std.specs.Prelude.{List, ◌≡◌, ℕ, length}
+use Rattle.std.specs.Prelude.{List, ◌≡◌, ℕ, length, Ok}
 use Rattle.std.proofs.Math.Path.{refl}
 use Rattle.angle.specs.declared.Point2.{Point2}
 use Rattle.dcel.specs.MeshRows.{MeshRows, SameLengths}
 use Rattle.dcel.specs.Views.{mesh-rows-from}
 use Rattle.math.specs.declared.Point.{Point}
 use Rattle.mesh.specs.declared.Counts.{Counts}
-use Rattle.mesh_check.specs.declared.Checked.{Checked}
+use Rattle.mesh_check.specs.Checked.{Checked}
 use Rattle.ring_rows.specs.RingRows.{RingRows}
 use Rattle.step.specs.declared.Progress.{Progress}
 use Rattle.step.specs.StepRows.{stepping_of, SweptOnce}
@@ -19,7 +19,7 @@ module _ (C : Counts) (m : MeshRows) (ring : RingRows) (pending : List ℕ) (cen
   outcome-is a b c d = rw (a, b, c, d) refl
 
   pub swept-outcome :
-      step_checked C m (length ring.nodes) (length ring.freed) (length ring.buckets) (length pending) center v ≡ Checked.Accepted
+      step_checked C m (length ring.nodes) (length ring.freed) (length ring.buckets) (length pending) center v ≡ Ok tt
       → {x : StepAnswer} {m' : MeshRows} {ring' : RingRows} {pending' : List ℕ} {r : Progress}
       → SweptOnce C m ring pending m' ring' pending' center v r → SameLengths m m' → x ≡ answer_from 0 (stepping_of m' r)
       → stepped_with x m' ring' pending' ≡ step_of C m ring pending center v

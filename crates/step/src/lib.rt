@@ -18,9 +18,9 @@ use corner::Extension;
 use decide::{Decision, Fate};
 use math::Point;
 use mesh::Counts;
-use mesh_check::{Checked, Refusal};
+use mesh_check::Refusal;
 use ring_rows::{Hull, Node};
-use sweep::{Answer, StepAnswer, Stepped};
+use sweep::{Answer, StepAnswer};
 
 // The mesh's counts and its ring after a step, the point's answer, and whether a flip's pushes would have overfilled the pending list.
 #[derive(Clone, Copy)]
@@ -72,12 +72,11 @@ fn is_added(fate: Fate) -> bool
 fn progress_of(added: Extension, hull: Hull, fate: Fate) -> Progress
     ensures { result ≡ progress_of added hull fate }
 {
-    let counts = added.counts;
     Progress {
-        counts: counts,
-        hull: hull,
+        counts: added.counts,
+        hull,
         answer: Answer {
-            fate: fate,
+            fate,
             faces: added.faces,
             flips: added.flips,
         },
@@ -114,7 +113,7 @@ pub fn single_bulk_insertion_step(
     let fate = decision.fate;
     if !is_added(fate) {
         let none = Extension {
-            counts: counts,
+            counts,
             faces: 0,
             flips: 0,
             full: false,
@@ -156,7 +155,7 @@ fn check_step(
     pending: usize,
     center: Point2,
     point: Point,
-) -> Checked
+) -> Result<(), Refusal>
     ensures { result ≡ step_checked counts
         (mesh_rows positions.now outs.now halves.now faces.now)
         nodes freed buckets pending center point }
@@ -202,20 +201,15 @@ pub fn sweep_once(
 pub fn answer_of(progress: Progress, place: u32) -> StepAnswer
     ensures { (m : MeshRows) → result ≡ answer_from place (stepping_of m progress) }
 {
-    let counts = progress.counts;
-    let answer = progress.answer;
     if progress.full {
         return StepAnswer {
-            counts: counts,
-            stepped: Stepped::Refused(Refusal {
-                number: 9,
-                place: place,
-            }),
+            counts: progress.counts,
+            stepped: Err(Refusal { number: 9, place }),
         };
     }
     StepAnswer {
-        counts: counts,
-        stepped: Stepped::Accepted(answer),
+        counts: progress.counts,
+        stepped: Ok(progress.answer),
     }
 }
 
@@ -240,7 +234,7 @@ pub fn step(
         (mesh_rows positions.old outs.old halves.old faces.old)
         (ring_rows nodes.old freed.old buckets.old) pending.old center point }
 {
-    match check_step(
+    let checked = check_step(
         counts,
         positions,
         outs,
@@ -252,14 +246,12 @@ pub fn step(
         pending.len(),
         center,
         point,
-    ) {
-        Checked::Accepted => {}
-        Checked::Refused(refusal) => {
-            return StepAnswer {
-                counts: counts,
-                stepped: Stepped::Refused(refusal),
-            };
-        }
+    );
+    if let Err(refusal) = checked {
+        return StepAnswer {
+            counts,
+            stepped: Err(refusal),
+        };
     }
     let progress = sweep_once(
         positions, outs, halves, faces, nodes, freed, buckets, pending, counts, center, point,

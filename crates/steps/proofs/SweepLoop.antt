@@ -218,6 +218,12 @@ module _ {q₀ : List ℤ} {o₀ h₀ a₀ row₀ : List ℕ} {nodes₀ : List N
             }
 
   pub sweeping-end : count ≤ i
-      → SweepLeaves C₀ q₀ o₀ h₀ a₀ row₀ answers₀ cx cy points count q o h a answers (record { counts = C; answered = i; full = false })
+      → SweepLeaves C₀ q₀ o₀ h₀ a₀ row₀ answers₀ cx cy points count q o h a answers (record { counts = C; answered = count; full = false })
   unfolding sweeping_of
-  sweeping-end l = let z : i ≡ count = (let m = I.most in omega arith) in record { is = sym (ap (sweep_after (length row₀) cx cy C₀ L₀ p₀ point) (sym z) ∙ I.at); answers-are = I.answers-are }
+  sweeping-end l =
+      let z : i ≡ count = (let m = I.most in omega arith) in
+      record {
+        is = sym (ap (sweep_after (length row₀) cx cy C₀ L₀ p₀ point) (sym z) ∙ I.at
+            ∙ ap (λ (k : ℕ). sweeping_of (mesh_rows q o h a) (record { counts = C; answered = k; full = false })) z);
+        answers-are = λ x. I.answers-are x ∙ ap (λ (k : ℕ). answers_below (step_at (length row₀) cx cy C₀ L₀ p₀ point) k (row_of answers₀) x) z;
+      }

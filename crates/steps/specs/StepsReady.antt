@@ -1,10 +1,10 @@
 -- What the checks of a run give the functions that it calls up to its steps. Assumes nothing.
-use Rattle.std.specs.Prelude.{Bool, List, ◌≡◌, refl, ℕ, ◌*◌, ◌^◌, ◌<◌, ltb, length}
+use Rattle.std.specs.Prelude.{Bool, List, ◌≡◌, refl, ℕ, ◌*◌, ◌^◌, ◌<◌, ltb, length, Ok}
 use Rattle.std.proofs.Common.{◌∙◌}
 use native.Mathlib.Omega.{arith}
 use borrow.Author.Tests.{ltb-false}
 use Rattle.mesh.specs.declared.Counts.{Counts}
-use Rattle.mesh_check.specs.declared.Checked.{Checked}
+use Rattle.mesh_check.specs.Checked.{Checked}
 use Rattle.mesh_check.specs.Check.{point_count, vertex_count}
 use Rattle.ring_rows.specs.declared.Node.{Node}
 use Rattle.ring_rows.specs.declared.Hull.{Hull}
@@ -22,7 +22,7 @@ pub run-checks : (l : RunLent) {short : Bool} {r : Checked} → short ≡ ltb (l
 unfolding run_checked
 run-checks l s e = e ∙ rw s refl
 
-module _ (l : RunLent) (e : run_checked l ≡ Checked.Accepted) where
+module _ (l : RunLent) (e : run_checked l ≡ Ok tt) where
   abbrev C : Counts
   C = l.counts
 

@@ -14,7 +14,7 @@ use ring_rows::{Hull, Node};
 use sweep::Answer;
 
 // Where the steps have come to: the mesh's counts, how many points have been answered, and whether a flip's pushes
-// would have overfilled the pending list.
+// would have overfilled the pending list. (`full` stays a flag: the definition of a sweep, `Sweeping` of the crate `sweep`, has it.)
 #[derive(Clone, Copy)]
 pub struct SweepEnd {
     pub counts: Counts,
@@ -27,14 +27,11 @@ fn store_answer(answers: &mut [u64], i: u32, answer: Answer)
     requires { answer_words * i + answer_words ≤ length answers.old }
     ensures { row_of answers.new ≡ with_words (row_of answers.old) i (answer_word answer) }
 {
-    let fate = answer.fate;
-    let number = decide::fate_number(fate);
-    let vertex = decide::fate_vertex(fate);
     answers::store_words(
         answers,
         i,
-        number,
-        vertex,
+        decide::fate_number(answer.fate),
+        decide::fate_vertex(answer.fate),
         answer.faces as u64,
         answer.flips,
     );
@@ -65,31 +62,26 @@ pub fn sweep(
 {
     let mut now = counts;
     let mut ring = hull;
-    let mut i: u32 = 0;
-    while i < count {
+    for i in 0..count {
         let point = dcel::position(points, i);
         let done = step::single_bulk_insertion_step(
             positions, outs, halves, faces, pending, nodes, freed, buckets, now, ring, center,
             point,
         );
-        let after = done.counts;
         if done.full {
             return SweepEnd {
-                counts: after,
+                counts: done.counts,
                 answered: i,
                 full: true,
             };
         }
-        let answer = done.answer;
-        store_answer(answers, i, answer);
-        let next = done.hull;
-        now = after;
-        ring = next;
-        i += 1;
+        store_answer(answers, i, done.answer);
+        now = done.counts;
+        ring = done.hull;
     }
     SweepEnd {
         counts: now,
-        answered: i,
+        answered: count,
         full: false,
     }
 }

@@ -1,12 +1,12 @@
 -- The answers of a run and the two stages that they come from, the steps and the skipped points: which points have fate 1, and which
 -- 6 to 9, with their vertices; and each stage's heights beside those that its answers store (`Stages`). Assumes nothing.
-use Rattle.std.specs.Prelude.{Bool, true, false, not, ◌&&◌, List, ◌≡◌, T, ltb, ℤ, length}
+use Rattle.std.specs.Prelude.{Bool, true, false, not, ◌&&◌, List, ◌≡◌, T, ltb, ℤ, length, Ok}
 use Rattle.std.proofs.Math.Path.{refl, ap}
 use Rattle.std.proofs.Common.{◌∙◌, subst, arith}
 use Prim.Native.Nat.{ℕ, zero, suc, ◌<◌}
 use Rattle.dcel.specs.Rows.{position_of}
 use Rattle.decide.specs.Decide.{fate_number, fate_vertex}
-use Rattle.mesh_check.specs.declared.Checked.{Checked}
+use Rattle.mesh_check.specs.Checked.{Checked}
 use Rattle.mesh_check.specs.Check.{point_count}
 use Rattle.skipped.specs.Insert.{position_fate, position_vertex}
 use Rattle.skipped.specs.Fill.{Filling, fill_after, insert_word, Completing}
@@ -62,7 +62,7 @@ module _ (l : RunLent) where
   filled-each z h (suc n) =
       fill-each (fill_of l n).full (skipped_of l n) (fill_of l n).counts (insert_of l n).place (z n) (filled-each z h n)
 
-module _ (l : RunLent) (e : run_checked l ≡ Checked.Accepted) where
+module _ (l : RunLent) (e : run_checked l ≡ Ok tt) where
   abbrev N : ℕ
   N = point_count l.points
 

@@ -1,11 +1,11 @@
 -- The heights that a run leaves can be had from its answers alone (`run-stored`): what the steps and the skipped points store is what their
 -- answers store, and where a point was refused a flip its height besides, at the last vertex. Assumes nothing.
-use Rattle.std.specs.Prelude.{true, false, ◌||◌, List, ◌≡◌, ℤ}
+use Rattle.std.specs.Prelude.{true, false, ◌||◌, List, ◌≡◌, ℤ, Ok}
 use Rattle.std.proofs.Math.Path.{refl}
 use Rattle.std.proofs.Common.{sym, ◌∙◌, ap, subst}
 use Prim.Native.Nat.{ℕ, suc, ◌<◌}
 use Rattle.mesh.specs.declared.Counts.{Counts}
-use Rattle.mesh_check.specs.declared.Checked.{Checked}
+use Rattle.mesh_check.specs.Checked.{Checked}
 use Rattle.mesh_check.specs.Check.{point_count}
 use Rattle.skipped.specs.Fill.{Completing}
 use Rattle.sums.specs.Put.{put}
@@ -17,7 +17,7 @@ use Rattle.surface.proofs.RunRefused.{at-step, at-passes, at-point, at-end}
 use Rattle.surface.proofs.RunRefused.{PointRefused, step-refused, point-refused, Ended, ended, made-is, place_end, place_at, vertices-are}
 use Rattle.surface.proofs.StoredLaws.{heights-end, heights-at}
 
-module _ (l : RunLent) (e : run_checked l ≡ Checked.Accepted) (z h : ℕ → ℤ) where
+module _ (l : RunLent) (e : run_checked l ≡ Ok tt) (z h : ℕ → ℤ) where
   abbrev N : ℕ
   N = point_count l.points
 

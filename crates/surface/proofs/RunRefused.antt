@@ -1,6 +1,6 @@
 -- Where a run was refused a flip, if it was, and what it then comes to: in a step or at a skipped point, which has the last vertex, in the
 -- convexity passes before or after the skipped points, or nowhere. Assumes nothing.
-use Rattle.std.specs.Prelude.{Bool, true, false, cond, ◌≡◌, ℕ, suc, ◌+◌, ◌≤◌, T, length}
+use Rattle.std.specs.Prelude.{Bool, true, false, cond, ◌≡◌, ℕ, suc, ◌+◌, ◌≤◌, T, length, Ok}
 use Rattle.std.proofs.Math.Path.{refl, subst}
 use Rattle.std.proofs.Common.{sym, ◌∙◌, ap, arith}
 use Rattle.convexity.proofs.ConvexityLawsFacts.{convexity-good}
@@ -10,7 +10,7 @@ use Rattle.finish.specs.declared.FinishAnswer.{FinishAnswer}
 use Rattle.finish.specs.Finish.{finished_from}
 use Rattle.math.specs.declared.Point.{Point}
 use Rattle.mesh.specs.Good.{Good}
-use Rattle.mesh_check.specs.declared.Checked.{Checked}
+use Rattle.mesh_check.specs.Checked.{Checked}
 use Rattle.mesh_check.specs.Check.{point_count}
 use Rattle.skipped.specs.Insert.{is_new}
 use Rattle.skipped.specs.Fill.{Filling, fill_after, Completing, enters}
@@ -33,7 +33,7 @@ use Rattle.surface.proofs.FinishCases.{full-new, fill-full, complete-passed, com
 use Rattle.surface.proofs.RunAnswers.{adds, step_vertex, insert_vertex, sweep-on, fill_on, StepStops, PointStops}
 use Rattle.surface.proofs.StoredLaws.{finished-made, finished-place, either}
 
-module _ (l : RunLent) (e : run_checked l ≡ Checked.Accepted) where
+module _ (l : RunLent) (e : run_checked l ≡ Ok tt) where
   abbrev N : ℕ
   N = point_count l.points
 

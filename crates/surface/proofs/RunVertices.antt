@@ -1,12 +1,12 @@
 -- The vertices that a run's answers name are below the number of the seed's vertices and the points together, and so is the last vertex
 -- where it is that of a point that was refused a flip: a row of so many heights has them all. Assumes nothing.
-use Rattle.std.specs.Prelude.{false, List, ◌≡◌, ℕ, ◌+◌, ◌<◌, ◌≤◌, T, ltb, length}
+use Rattle.std.specs.Prelude.{false, List, ◌≡◌, ℕ, ◌+◌, ◌<◌, ◌≤◌, T, ltb, length, Ok}
 use Rattle.std.proofs.Common.{ap, subst, arith, ltb→lt}
 use Rattle.convexity.proofs.ConvexityLawsFacts.{convexity-counts}
 use Rattle.dcel.specs.Rows.{position_of}
 use Rattle.math.specs.declared.Point.{Point}
 use Rattle.mesh.specs.declared.Counts.{Counts}
-use Rattle.mesh_check.specs.declared.Checked.{Checked}
+use Rattle.mesh_check.specs.Checked.{Checked}
 use Rattle.mesh_check.specs.Check.{point_count}
 use Rattle.skipped.specs.Fill.{Filling, Completing}
 use Rattle.skipped.proofs.FillLawsFacts.{fill-used}
@@ -19,7 +19,7 @@ use Rattle.surface.proofs.RunAnswers.{adds, fill_on, added-test, added-vertex, i
 use Rattle.surface.proofs.RunRefused.{at-step, at-passes, at-point, at-end}
 use Rattle.surface.proofs.RunRefused.{keeps, step-next, step-refused, passed-good, fill-count, point-refused, Ended, ended, vertices-are, place_end}
 
-module _ (l : RunLent) (e : run_checked l ≡ Checked.Accepted) where
+module _ (l : RunLent) (e : run_checked l ≡ Ok tt) where
   abbrev N : ℕ
   N = point_count l.points
 

@@ -1,10 +1,10 @@
 -- What `finished_heights` comes to for a run that was made: by its answer, and by whether a point was refused a flip. Assumes nothing.
-use Rattle.std.specs.Prelude.{Bool, true, false, cond, List, ◌≡◌, ℕ, suc, ◌-◌, ◌<◌, ℤ}
+use Rattle.std.specs.Prelude.{Bool, true, false, cond, List, ◌≡◌, ℕ, suc, ◌-◌, ◌<◌, ℤ, Ok, Err}
 use Rattle.std.proofs.Math.Path.{refl}
 use native.Mathlib.Omega.{arith}
 use borrow.Author.Tests.{lt-ltb, le-ltb}
 use Rattle.finish.specs.declared.FinishAnswer.{FinishAnswer}
-use Rattle.finish.specs.declared.Finished.{Finished}
+use Rattle.finish.specs.Finished.{Finished}
 use Rattle.finish.specs.Finish.{Finishing, totals_from, finished_from}
 use Rattle.sums.specs.Put.{put}
 use Rattle.surface.specs.StoredHeights.{answered_heights, is_made, place_of, finished_heights}
@@ -14,7 +14,7 @@ pub finished-made : (place : ℕ) (f : Finishing) → is_made (finished_from pla
 unfolding is_made finished_from
 finished-made place f = go f.full
   where
-    go : (b : Bool) → is_made (cond b (Finished.Refused (record { number = 9; place = place })) (Finished.Accepted (totals_from f))) ≡ true
+    go : (b : Bool) → is_made (cond b (Err (record { number = 9; place = place })) (Ok (totals_from f))) ≡ true
     go true = refl
     go false = refl
 
@@ -23,7 +23,7 @@ unfolding place_of finished_from
 finished-place n place f = go f.full
   where
     go : (b : Bool)
-        → place_of n (cond b (Finished.Refused (record { number = 9; place = place })) (Finished.Accepted (totals_from f))) ≡ cond b place n
+        → place_of n (cond b (Err (record { number = 9; place = place })) (Ok (totals_from f))) ≡ cond b place n
     go true = refl
     go false = refl
 

@@ -1,5 +1,5 @@
 -- Laws of specs/SurfaceLaws.antt.
-use Rattle.std.specs.Prelude.{Bool, false, ◌≡◌, ℕ, ◌+◌, ◌<◌, ◌≤◌, ltb, Float, ℤ, pos, length, get_or}
+use Rattle.std.specs.Prelude.{Bool, false, ◌≡◌, ℕ, ◌+◌, ◌<◌, ◌≤◌, ltb, Float, ℤ, pos, length, get_or, Ok, Err}
 use Rattle.std.proofs.Math.Bool.{cond}
 use mathlib.Core.List.{List, [], ◌∷◌}
 use Rattle.std.proofs.Math.Path.{refl, sym, ap}
@@ -13,18 +13,17 @@ use Rattle.dcel.specs.Rows.{row_from_of}
 use Rattle.dcel.specs.Views.{length_from, get_or-from, from_entries}
 use Rattle.decide.specs.declared.Fate.{Fate}
 use Rattle.decide.specs.declared.Fate.TheVariants.{Added, Dropped, NotLeft, Unsound, AtCenter}
-use Rattle.finish.specs.declared.Finished.{Finished}
+use Rattle.finish.specs.Finished.{Finished}
 use Rattle.finish.specs.Finish.{finished_with, finish_outcome, finish_of, seed_checked}
 use Rattle.heights.specs.Heights.{SurfaceRows, surface_rows, height_of, heights_in, HeightsLent, heights_lent, HeightsGiven, heights_checked, heights_tested}
 use Rattle.heights.proofs.HeightsLaws.{heights-accept, given-tested, tested-accept, own-table, own-refused}
-use Rattle.locate.specs.declared.Located.{Located}
+use Rattle.locate.specs.Located.{Located}
 use Rattle.locate.specs.Locate.{ring_short, check_ring, check_start, check_angle, located_with, locate_outcome, locate_of}
 use Rattle.math.specs.declared.Point.{Point}
 use Rattle.math.specs.Determinant.{InRange}
 use Rattle.mesh.specs.declared.Counts.{Counts}
 use Rattle.mesh.specs.Mesh.{Links}
-use Rattle.mesh_check.specs.declared.Checked.{Checked}
-use Rattle.mesh_check.specs.declared.Checked.TheVariants.{Accepted, Refused}
+use Rattle.mesh_check.specs.Checked.{Checked}
 use Rattle.mesh_check.specs.declared.Refusal.{Refusal}
 use Rattle.mesh_check.specs.Check.{and_then, check_with, point_count, vertex_count}
 use Rattle.mesh_check.proofs.CheckLawsFacts.{then-accepts}
@@ -34,7 +33,7 @@ use Rattle.sums.specs.Bit.{bit}
 use Rattle.sums.specs.Put.{put}
 use Rattle.sums.proofs.PutLaws.{put_same, put_other}
 use Rattle.sweep.specs.declared.StepAnswer.{StepAnswer}
-use Rattle.sweep.specs.declared.Stepped.{Stepped}
+use Rattle.sweep.specs.Stepped.{Stepped}
 use Rattle.sweep.proofs.Fates.{is-added}
 use Rattle.sweep.specs.Step.{Stepping, is_added, step_mesh}
 use Rattle.sweep.proofs.StepCallLawsFacts.{step-fate, step_range, step-swept}
@@ -47,15 +46,15 @@ use Rattle.surface.specs.Surface.{surface_locate, surface_finish, surface_step_c
 use Rattle.surface.specs.SurfaceLaws.{CarriedHeight}
 
 -- ---- a call's own table, which begins with the rows of its mesh
-then-alone : (c : Checked) → and_then c Accepted ≡ c
+then-alone : (c : Checked) → and_then c (Ok tt) ≡ c
 unfolding and_then
-then-alone Accepted = refl
-then-alone (Refused r) = refl
+then-alone (Ok _) = refl
+then-alone (Err r) = refl
 
 then-both : (a b c : Checked) → and_then (and_then a b) c ≡ and_then a (and_then b c)
 unfolding and_then
-then-both Accepted b c = refl
-then-both (Refused r) b c = refl
+then-both (Ok _) b c = refl
+then-both (Err r) b c = refl
 
 -- ---- locate
 module _ (C : Counts) (s : SurfaceRows) (ring : RingRows) (center : Point2) (a : Float) where
@@ -70,12 +69,12 @@ module _ (C : Counts) (s : SurfaceRows) (ring : RingRows) (center : Point2) (a :
   unfolding check_start
   locate-begins = then-both (check_with [] (ring_short C.vertices ring) C s.mesh) _ (check_angle a)
 
-  pub locate-own : heights_tested locate_lent C s ≡ Accepted → surface_locate C s ring center a ≡ locate_of C s.mesh ring center a
+  pub locate-own : heights_tested locate_lent C s ≡ Ok tt → surface_locate C s ring center a ≡ locate_of C s.mesh ring center a
   unfolding surface_locate locate_of
   locate-own e = rw (own-table locate_lent C s locate_next locate-begins e) refl
 
-  pub locate-refused : {r : Refusal} → heights_tested locate_lent C s ≡ Refused r
-      → surface_locate C s ring center a ≡ located_with (Located.Refused r) ring
+  pub locate-refused : {r : Refusal} → heights_tested locate_lent C s ≡ Err r
+      → surface_locate C s ring center a ≡ located_with (Err r) ring
   unfolding surface_locate locate_outcome
   locate-refused e = rw (own-refused locate_lent C s locate_next locate-begins e) refl
 
@@ -84,18 +83,18 @@ module _ (C : Counts) (s : SurfaceRows) (pending : List ℕ) where
   abbrev pub finish_lent : HeightsLent
   finish_lent = heights_lent [] [] (ltb (length pending) 8) false
 
-  finish-begins : seed_checked C s.mesh pending ≡ and_then (check_with [] (ltb (length pending) 8) C s.mesh) Accepted
+  finish-begins : seed_checked C s.mesh pending ≡ and_then (check_with [] (ltb (length pending) 8) C s.mesh) (Ok tt)
   unfolding seed_checked
   finish-begins = sym (then-alone _)
 
-  pub finish-own : heights_tested finish_lent C s ≡ Accepted → surface_finish C s pending ≡ finish_of C s.mesh pending
+  pub finish-own : heights_tested finish_lent C s ≡ Ok tt → surface_finish C s pending ≡ finish_of C s.mesh pending
   unfolding surface_finish finish_of
-  finish-own e = rw (own-table finish_lent C s Accepted finish-begins e) refl
+  finish-own e = rw (own-table finish_lent C s (Ok tt) finish-begins e) refl
 
-  pub finish-refused : {r : Refusal} → heights_tested finish_lent C s ≡ Refused r
-      → surface_finish C s pending ≡ finished_with (record { counts = C; finished = Finished.Refused r }) s.mesh pending
+  pub finish-refused : {r : Refusal} → heights_tested finish_lent C s ≡ Err r
+      → surface_finish C s pending ≡ finished_with (record { counts = C; finished = Err r }) s.mesh pending
   unfolding surface_finish finish_outcome
-  finish-refused e = rw (own-refused finish_lent C s Accepted finish-begins e) refl
+  finish-refused e = rw (own-refused finish_lent C s (Ok tt) finish-begins e) refl
 
 added-bit : (n : ℕ) → bit (is_added (Added n)) ≡ 1
 unfolding is_added
@@ -112,11 +111,11 @@ heights-same row row' l e = heights-from row row' l e ∙ sym (heights-from row 
 
 -- what a row is that holds h where the checks accept, and is as it was where not
 pub heights-after : (c : Checked) (row row' : List ℤ) {h : ℕ → ℤ} → length row' ≡ length row
-    → ((r : Refusal) → c ≡ Refused r → height_of row' ≡ height_of row) → (c ≡ Accepted → height_of row' ≡ h)
+    → ((r : Refusal) → c ≡ Err r → height_of row' ≡ height_of row) → (c ≡ Ok tt → height_of row' ≡ h)
     → row' ≡ heights_after c row h
 unfolding heights_after
-heights-after (Refused r) row row' l a b = heights-same row row' l (a r refl)
-heights-after Accepted row row' l a b = heights-from row row' l (b refl)
+heights-after (Err r) row row' l a b = heights-same row row' l (a r refl)
+heights-after (Ok _) row row' l a b = heights-from row row' l (b refl)
 
 -- ---- step
 -- a step adds a vertex exactly where its fate says so, the next one
@@ -140,7 +139,7 @@ module _ {cx cy : Float} {C : Counts} {L : Links} {p : ℕ → Point} (S : Swept
 
 -- there is room for the point's height
 pub step_room : (v : Point) (z : ℤ) (short : Bool) (C : Counts) (s : SurfaceRows)
-    → heights_tested (heights_lent (point_row v) (z ∷ []) short false) C s ≡ Accepted → C.vertices < length s.heights
+    → heights_tested (heights_lent (point_row v) (z ∷ []) short false) C s ≡ Ok tt → C.vertices < length s.heights
 unfolding vertex_count point_count
 step_room v z short C s e = let A = (tested-accept (heights_lent (point_row v) (z ∷ []) short false) C s e).vertices in omega arith
 
@@ -170,34 +169,34 @@ module _ (C : Counts) (s : SurfaceRows) (ring : RingRows) (pending : List ℕ) (
   abbrev made : Stepping
   made = step_mesh (length pending) center.x center.y C (links_in s.mesh) (places_in s.mesh) v
 
-  step-table : heights_tested step_lent C s ≡ Accepted → surface_step_checked C s nodes freed buckets (length pending) center v z ≡ own
+  step-table : heights_tested step_lent C s ≡ Ok tt → surface_step_checked C s nodes freed buckets (length pending) center v z ≡ own
   unfolding surface_step_checked
   step-table e = own-table step_lent C s step_next step-begins e
 
-  pub step-refused : {r : Refusal} → heights_tested step_lent C s ≡ Refused r
+  pub step-refused : {r : Refusal} → heights_tested step_lent C s ≡ Err r
       → surface_step C s ring pending center v z
-      ≡ surface_stepped (stepped_with (record { counts = C; stepped = Stepped.Refused r }) s.mesh ring pending) s.heights
+      ≡ surface_stepped (stepped_with (record { counts = C; stepped = Err r }) s.mesh ring pending) s.heights
   unfolding surface_step surface_step_checked step_outcome heights_after
   step-refused e = rw (own-refused step_lent C s step_next step-begins e) refl
 
   -- the call on the mesh alone, and its vertex's height
-  pub step-own : heights_tested step_lent C s ≡ Accepted
+  pub step-own : heights_tested step_lent C s ≡ Ok tt
       → (surface_step C s ring pending center v z).call ≡ step_of C s.mesh ring pending center v
   unfolding surface_step step_of
   step-own e = rw (step-table e) refl
 
-  pub step-heights : heights_tested step_lent C s ≡ Accepted → (y : StepAnswer) → (step_of C s.mesh ring pending center v).answer ≡ y
+  pub step-heights : heights_tested step_lent C s ≡ Ok tt → (y : StepAnswer) → (step_of C s.mesh ring pending center v).answer ≡ y
       → (row : List ℤ) → length row ≡ length s.heights → height_of row ≡ height_stored (heights_in s) C.vertices y.counts.vertices z
       → (surface_step C s ring pending center v z).heights ≡ row
   unfolding surface_step step_of step_outcome height_stored answer_from
   step-heights e y q row l h = rw (step-table e) (sym (heights-after own s.heights row l refused accepted))
     where
-      refused : (r : Refusal) → own ≡ Refused r → height_of row ≡ heights_in s
+      refused : (r : Refusal) → own ≡ Err r → height_of row ≡ heights_in s
       refused r k =
           let a : y.counts.vertices ≡ C.vertices = ap (λ (w : StepAnswer). w.counts.vertices) (sym q) ∙ rw k refl in
           h ∙ rw (le-ltb C.vertices y.counts.vertices (omega arith)) refl
 
-      accepted : own ≡ Accepted → height_of row ≡ height_added made.fate z (heights_in s)
+      accepted : own ≡ Ok tt → height_of row ≡ height_added made.fate z (heights_in s)
       accepted k =
           let a : y.counts.vertices ≡ made.mesh.counts.vertices = ap (λ (w : StepAnswer). w.counts.vertices) (sym q) ∙ rw k refl in
           h ∙ rw a (height-step (step-swept C s.mesh ring pending center v k) (step_range C s.mesh ring pending center v k)
@@ -243,15 +242,15 @@ unfolding height_of
 row-entry n f u a = get_or-from n f (pos 0) u a
 
 module _ (C : Counts) (s : SurfaceRows) (ring : RingRows) (pending : List ℕ) (center : Point2) (v : Point) (z : ℤ)
-    (e : surface_step_checked C s (length ring.nodes) (length ring.freed) (length ring.buckets) (length pending) center v z ≡ Accepted) where
+    (e : surface_step_checked C s (length ring.nodes) (length ring.freed) (length ring.buckets) (length pending) center v z ≡ Ok tt) where
   abbrev w : SurfaceStepped
   w = surface_step C s ring pending center v z
 
   abbrev q : Stepping
   q = step_mesh (length pending) center.x center.y C (links_in s.mesh) (places_in s.mesh) v
 
-  parts : (heights_checked (step_lent C s ring pending center v z) C s ≡ Accepted)
-      × (step_checked C s.mesh (length ring.nodes) (length ring.freed) (length ring.buckets) (length pending) center v ≡ Accepted)
+  parts : (heights_checked (step_lent C s ring pending center v z) C s ≡ Ok tt)
+      × (step_checked C s.mesh (length ring.nodes) (length ring.freed) (length ring.buckets) (length pending) center v ≡ Ok tt)
   unfolding surface_step_checked
   parts = then-accepts _ _ e
 

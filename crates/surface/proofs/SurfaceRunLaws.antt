@@ -1,7 +1,7 @@
 -- The call `run` with heights beside that on the mesh alone, as `SurfaceLaws` has it of the others: its table, its outcome, and the row
 -- of heights that it leaves, as the code makes it from the answers (`run-heights`) and vertex by vertex (`CarriedHeights`). Assumes
 -- nothing.
-use Rattle.std.specs.Prelude.{true, false, List, ◌≡◌, ℕ, ◌+◌, ◌*◌, ◌<◌, ◌≤◌, T, ltb, ℤ, length}
+use Rattle.std.specs.Prelude.{true, false, List, ◌≡◌, ℕ, ◌+◌, ◌*◌, ◌<◌, ◌≤◌, T, ltb, ℤ, length, Ok, Err}
 use Rattle.std.proofs.lemmas.Bool.{false≢true}
 use Rattle.std.proofs.Math.Path.{refl, sym, ap, subst⁻¹}
 use Rattle.std.proofs.Common.{◌∙◌, subst}
@@ -10,13 +10,12 @@ use borrow.Author.Tests.{ltb-false, ne_eqb}
 use Rattle.dcel.specs.MeshRows.{links_in, places_in}
 use Rattle.dcel.specs.Rows.{row_from_of}
 use Rattle.dcel.specs.Views.{length_from}
-use Rattle.finish.specs.declared.Finished.{Finished}
+use Rattle.finish.specs.Finished.{Finished}
 use Rattle.finish.specs.declared.Totals.{Totals}
 use Rattle.heights.specs.Heights.{SurfaceRows, height_of, HeightsLent, heights_lent, HeightsGiven, heights_checked, heights_tested}
 use Rattle.heights.proofs.HeightsLaws.{heights-accept, given-tested, tested-accept, own-table, own-refused}
 use Rattle.locate.specs.Locate.{check_ring, check_start}
-use Rattle.mesh_check.specs.declared.Checked.{Checked}
-use Rattle.mesh_check.specs.declared.Checked.TheVariants.{Accepted, Refused}
+use Rattle.mesh_check.specs.Checked.{Checked}
 use Rattle.mesh_check.specs.declared.Refusal.{Refusal}
 use Rattle.mesh_check.specs.Check.{and_then, check_with, point_count, vertex_count}
 use Rattle.mesh_check.specs.CheckLaws.{NumberedTo}
@@ -59,17 +58,17 @@ module _ (g : SurfaceRunLent) where
   unfolding run_checked sweep_checked check_start
   begins = refl
 
-  run-table : heights_tested run_heights_lent l.counts surface_of ≡ Accepted → surface_run_checked g ≡ run_checked l
+  run-table : heights_tested run_heights_lent l.counts surface_of ≡ Ok tt → surface_run_checked g ≡ run_checked l
   unfolding surface_run_checked
   run-table e = own-table run_heights_lent l.counts surface_of next begins e
 
-  pub run-refused : {r : Refusal} → heights_tested run_heights_lent l.counts surface_of ≡ Refused r
+  pub run-refused : {r : Refusal} → heights_tested run_heights_lent l.counts surface_of ≡ Err r
       → surface_run g
-      ≡ surface_ran (ran_with (record { counts = l.counts; finished = Finished.Refused r }) l.mesh l.ring l.pending l.answers) g.heights
+      ≡ surface_ran (ran_with (record { counts = l.counts; finished = Err r }) l.mesh l.ring l.pending l.answers) g.heights
   unfolding surface_run surface_run_checked run_outcome heights_after
   run-refused e = rw (own-refused run_heights_lent l.counts surface_of next begins e) refl
 
-  pub run-own : heights_tested run_heights_lent l.counts surface_of ≡ Accepted → (surface_run g).call ≡ run_of l
+  pub run-own : heights_tested run_heights_lent l.counts surface_of ≡ Ok tt → (surface_run g).call ≡ run_of l
   unfolding surface_run run_of
   run-own e = rw (run-table e) refl
 
@@ -84,23 +83,23 @@ module _ (g : SurfaceRunLent) where
   unfolding run_checked
   table-numbered = sweep-numbered _ _ _ _ _ _ _ _ _
 
-  refused-answer : {r : Refusal} → run_checked l ≡ Refused r → (run_of l).answer ≡ record { counts = l.counts; finished = Finished.Refused r }
+  refused-answer : {r : Refusal} → run_checked l ≡ Err r → (run_of l).answer ≡ record { counts = l.counts; finished = Err r }
   unfolding run_of run_outcome
   refused-answer k = rw k refl
 
   -- refused by the table of the call on the mesh alone: a number up to 7, and no height is stored
-  refused-made : {r : Refusal} → run_checked l ≡ Refused r → is_made (run_of l).answer.finished ≡ false
+  refused-made : {r : Refusal} → run_checked l ≡ Err r → is_made (run_of l).answer.finished ≡ false
   unfolding is_made
   refused-made {r} k = rw (refused-answer k, ne_eqb r.number 9 (λ q. let n = numbered in omega arith)) refl
     where
       numbered : r.number ≤ 7
       numbered = (numbered-at (subst (NumberedTo 7) k table-numbered)).1
 
-  refused-heights : {r : Refusal} → run_checked l ≡ Refused r → h ≡ finished_heights (run_of l).answer (run_of l).answers z h N
+  refused-heights : {r : Refusal} → run_checked l ≡ Err r → h ≡ finished_heights (run_of l).answer (run_of l).answers z h N
   unfolding finished_heights
   refused-heights k = rw (refused-made k) refl
 
-  pub run-heights : heights_tested run_heights_lent l.counts surface_of ≡ Accepted → (row : List ℤ) → length row ≡ length g.heights
+  pub run-heights : heights_tested run_heights_lent l.counts surface_of ≡ Ok tt → (row : List ℤ) → length row ≡ length g.heights
       → height_of row ≡ finished_heights (run_of l).answer (run_of l).answers z h N
       → (surface_run g).heights ≡ row
   unfolding surface_run
@@ -108,20 +107,20 @@ module _ (g : SurfaceRunLent) where
       rw (run-table e) (sym (heights-after (run_checked l) g.heights row a (λ r k. b ∙ sym (refused-heights k)) (λ k. b ∙ sym (run-stored l k z h))))
 
 -- ---- where no refusal number is answered
-module _ (g : SurfaceRunLent) (t : Totals) (q : (surface_run g).call.answer.finished ≡ Finished.Accepted t) where
-  refused-finished : {r : Refusal} → surface_run_checked g ≡ Refused r → (surface_run g).call.answer.finished ≡ Finished.Refused r
+module _ (g : SurfaceRunLent) (t : Totals) (q : (surface_run g).call.answer.finished ≡ Ok t) where
+  refused-finished : {r : Refusal} → surface_run_checked g ≡ Err r → (surface_run g).call.answer.finished ≡ Err r
   unfolding surface_run run_outcome
   refused-finished k = rw k refl
 
   -- the table accepted it, heights and all
-  checked : surface_run_checked g ≡ Accepted
+  checked : surface_run_checked g ≡ Ok tt
   checked = go (surface_run_checked g) refl
     where
-      go : (c : Checked) → surface_run_checked g ≡ c → surface_run_checked g ≡ Accepted
-      go Accepted k = k
-      go (Refused r) k = absurd (let w = sym (refused-finished k) ∙ q in let y : ◌≡◌ {A = ℕ} 0 1 = cc in omega arith)
+      go : (c : Checked) → surface_run_checked g ≡ c → surface_run_checked g ≡ Ok tt
+      go (Ok tt) k = k
+      go (Err r) k = absurd (let w = sym (refused-finished k) ∙ q in let y : ◌≡◌ {A = ℕ} 0 1 = cc in omega arith)
 
-  parts : (heights_checked (run_heights_lent g) g.run.counts (surface_of g) ≡ Accepted) × (run_checked g.run ≡ Accepted)
+  parts : (heights_checked (run_heights_lent g) g.run.counts (surface_of g) ≡ Ok tt) × (run_checked g.run ≡ Ok tt)
   unfolding surface_run_checked
   parts = then-accepts _ (run_checked g.run) checked
 
@@ -179,24 +178,24 @@ run-ignores l heights point_heights_of heights' point_heights' G G' =
     run-own (surface_run_lent l heights point_heights_of) (given-tested _ _ _ G) ∙ sym (run-own (surface_run_lent l heights' point_heights') (given-tested _ _ _ G'))
 
 -- ---- what is stored from
-module _ (g : SurfaceRunLent) (e : heights_tested (run_heights_lent g) g.run.counts (surface_of g) ≡ Accepted) where
+module _ (g : SurfaceRunLent) (e : heights_tested (run_heights_lent g) g.run.counts (surface_of g) ≡ Ok tt) where
   abbrev l₁ : RunLent
   l₁ = g.run
 
   -- the steps were made, so the table had accepted them
-  made-checked : is_made (run_of l₁).answer.finished ≡ true → run_checked l₁ ≡ Accepted
+  made-checked : is_made (run_of l₁).answer.finished ≡ true → run_checked l₁ ≡ Ok tt
   made-checked m = go (run_checked l₁) refl
     where
-      go : (c : Checked) → run_checked l₁ ≡ c → run_checked l₁ ≡ Accepted
-      go Accepted k = k
-      go (Refused r) k = absurd (false≢true (sym (refused-made g k) ∙ m))
+      go : (c : Checked) → run_checked l₁ ≡ c → run_checked l₁ ≡ Ok tt
+      go (Ok tt) k = k
+      go (Err r) k = absurd (false≢true (sym (refused-made g k) ∙ m))
 
-  answers-same : run_checked l₁ ≡ Accepted → length (run_of l₁).answers ≡ length l₁.answers
+  answers-same : run_checked l₁ ≡ Ok tt → length (run_of l₁).answers ≡ length l₁.answers
   unfolding run_of run_outcome
   answers-same k = rw k (length_from (length l₁.answers) _)
 
   -- the rows have room for what the answers name
-  rooms : (low high : ℕ) (k : run_checked l₁ ≡ Accepted)
+  rooms : (low high : ℕ) (k : run_checked l₁ ≡ Ok tt)
       → ((i : ℕ) → i < point_count l₁.points → T (is_from low high (fate_word (run_of l₁).answers i))
       → vertex_word (run_of l₁).answers i < l₁.counts.vertices + point_count l₁.points)
       → FatesRoom low high (length g.heights) (length g.point_heights_of) (run_of l₁).answers (point_count l₁.points)

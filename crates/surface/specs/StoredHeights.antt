@@ -1,8 +1,8 @@
 -- The heights after a step and after a run, as the code has them: from the counts and the answers that the call on the mesh alone gives.
 -- Definitions only. `SurfaceLaws` (`height-step`) and `RunHeights` (`run-stored`) say that they are those of `Surface`.
-use Rattle.std.specs.Prelude.{Bool, true, cond, ◌&&◌, List, ℕ, ◌-◌, ltb, leb, eqb, ℤ}
+use Rattle.std.specs.Prelude.{Bool, true, cond, ◌&&◌, List, ℕ, ◌-◌, ltb, leb, eqb, ℤ, Ok, Err}
 use Rattle.finish.specs.declared.FinishAnswer.{FinishAnswer}
-use Rattle.finish.specs.declared.Finished.{Finished}
+use Rattle.finish.specs.Finished.{Finished}
 use Rattle.sums.specs.Put.{put}
 use Rattle.sweep.specs.Run.{answer_in}
 use Rattle.surface.specs.PutEach.{put_each}
@@ -37,13 +37,13 @@ answered_heights answers z h n = stored_from 6 9 answers z (stored_from 1 1 answ
 
 -- the steps of a run were made: it is accepted, or refused 9
 unfoldable pub is_made : Finished → Bool
-is_made (Finished.Accepted t) = true
-is_made (Finished.Refused x) = eqb x.number 9
+is_made (Ok t) = true
+is_made (Err x) = eqb x.number 9
 
 -- the point at which a run of n points was refused a flip, or n
 unfoldable pub place_of : ℕ → Finished → ℕ
-place_of n (Finished.Accepted t) = n
-place_of n (Finished.Refused x) = x.place
+place_of n (Ok t) = n
+place_of n (Err x) = x.place
 
 -- the heights after a run of n points, from its answer and the answers row: the point that was refused a flip has its vertex in the mesh,
 -- the last one, and no answer

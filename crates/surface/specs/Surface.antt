@@ -3,7 +3,7 @@
 -- heights of the vertices that they add, and a run those of the skipped points that it puts in. Definitions only, and each computes;
 -- `SurfaceLaws` and `SurfaceRunLaws` say what they come to. 02, Change 1: "Every call that carries a vertex carries it through." "Links
 -- and fates keep ignoring z."
-use Rattle.std.specs.Prelude.{false, cond, ◌||◌, List, [], ◌∷◌, ℕ, zero, suc, ◌*◌, ltb, Float, ℤ, length}
+use Rattle.std.specs.Prelude.{false, cond, ◌||◌, List, [], ◌∷◌, ℕ, zero, suc, ◌*◌, ltb, Float, ℤ, length, Ok, Err}
 use Rattle.angle.specs.declared.Point2.{Point2}
 use Rattle.angle.specs.Angle.{turns}
 use Rattle.dcel.specs.MeshRows.{links_in, places_in}
@@ -17,7 +17,7 @@ use Rattle.location.specs.declared.PositionInTriangulation.{PositionInTriangulat
 use Rattle.location.specs.declared.PositionInTriangulation.TheVariants.{OnVertex, OnFace, OnEdge, OutsideOfConvexHull}
 use Rattle.math.specs.declared.Point.{Point}
 use Rattle.mesh.specs.declared.Counts.{Counts}
-use Rattle.mesh_check.specs.declared.Checked.{Checked}
+use Rattle.mesh_check.specs.Checked.{Checked}
 use Rattle.mesh_check.specs.Check.{and_then, point_count, vertex_count}
 use Rattle.ring.specs.Center.{turns_about}
 use Rattle.ring_rows.specs.RingRows.{RingRows}
@@ -59,8 +59,8 @@ height_inserted C (OnVertex v) z h = put h v z
 
 -- 01: "All but 9 change nothing lent"; the function has every entry of its row
 unfoldable pub heights_after : Checked → List ℤ → (ℕ → ℤ) → List ℤ
-heights_after (Checked.Refused r) row h = row
-heights_after Checked.Accepted row h = row_from_of (length row) h
+heights_after (Err r) row h = row
+heights_after (Ok _) row h = row_from_of (length row) h
 
 -- ---- step
 -- what the call on the mesh alone comes to, and the row of heights afterwards

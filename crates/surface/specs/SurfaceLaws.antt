@@ -16,18 +16,17 @@ use Rattle.dcel.specs.Rows.{row_from_of}
 use Rattle.dcel.specs.Views.{length_from, get_or-from, from_entries}
 use Rattle.decide.specs.declared.Fate.{Fate}
 use Rattle.decide.specs.declared.Fate.TheVariants.{Added, Dropped, NotLeft, Unsound, AtCenter}
-use Rattle.finish.specs.declared.Finished.{Finished}
+use Rattle.finish.specs.Finished.{Finished}
 use Rattle.finish.specs.Finish.{finished_with, finish_outcome, finish_of, seed_checked}
 use Rattle.heights.specs.Heights.{SurfaceRows, surface_rows, height_of, heights_in, HeightsLent, heights_lent, HeightsGiven, heights_checked, heights_tested}
 use Rattle.heights.proofs.HeightsLaws.{heights-accept, given-tested, tested-accept, own-table, own-refused}
-use Rattle.locate.specs.declared.Located.{Located}
+use Rattle.locate.specs.Located.{Located}
 use Rattle.locate.specs.Locate.{ring_short, check_ring, check_start, check_angle, located_with, locate_outcome, locate_of}
 use Rattle.math.specs.declared.Point.{Point}
 use Rattle.math.specs.Determinant.{InRange}
 use Rattle.mesh.specs.declared.Counts.{Counts}
 use Rattle.mesh.specs.Mesh.{Links}
-use Rattle.mesh_check.specs.declared.Checked.{Checked}
-use Rattle.mesh_check.specs.declared.Checked.TheVariants.{Accepted, Refused}
+use Rattle.mesh_check.specs.Checked.{Checked}
 use Rattle.mesh_check.specs.declared.Refusal.{Refusal}
 use Rattle.mesh_check.specs.Check.{and_then, check_with, point_count, vertex_count}
 use Rattle.mesh_check.proofs.CheckLawsFacts.{then-accepts}
@@ -37,7 +36,7 @@ use Rattle.sums.specs.Bit.{bit}
 use Rattle.sums.specs.Put.{put}
 use Rattle.sums.proofs.PutLaws.{put_same, put_other}
 use Rattle.sweep.specs.declared.StepAnswer.{StepAnswer}
-use Rattle.sweep.specs.declared.Stepped.{Stepped}
+use Rattle.sweep.specs.Stepped.{Stepped}
 use Rattle.sweep.proofs.Fates.{is-added}
 use Rattle.sweep.specs.Step.{Stepping, is_added, step_mesh}
 use Rattle.sweep.proofs.StepCallLawsFacts.{step-fate, step_range, step-swept}

@@ -14,7 +14,7 @@ use Rattle.finish.specs.declared.FinishAnswer.{FinishAnswer}
 use Rattle.heights.specs.Heights.{SurfaceRows, heights_lent, heights_tested}
 use Rattle.math.specs.declared.Point.{Point}
 use Rattle.mesh.specs.declared.Counts.{Counts}
-use Rattle.mesh_check.specs.declared.Checked.{Checked}
+use Rattle.mesh_check.specs.Checked.{Checked}
 use Rattle.mesh_check.specs.Check.{vertex_count}
 use Rattle.start.specs.Start.{point_row, sweep_rows_short}
 use Rattle.sums.proofs.BitLaws.{from-true}

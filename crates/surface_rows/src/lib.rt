@@ -15,10 +15,10 @@ ghost use Rattle.sweep.specs.Run.{answer_words};
 ghost use Rattle.surface.specs.StoreReady.{FateRoom, FatesRoom, StoreReady};
 ghost use Rattle.surface.specs.StoredHeights.{height_stored, fate_word, vertex_word, is_from, stored_from, is_made, place_of, finished_heights};
 
-use finish::{FinishAnswer, Finished};
+use finish::{FinishAnswer, Totals};
 use math::Point;
 use mesh::Counts;
-use mesh_check::Checked;
+use mesh_check::Refusal;
 use sweep::ANSWER_WORDS;
 
 // What the rows of the table up to 10 answer a locate that has heights, where a height may refuse (heights::check_heights). The rows of
@@ -33,7 +33,7 @@ pub fn check_locate(
     nodes: usize,
     freed: usize,
     buckets: usize,
-) -> Checked
+) -> Result<(), Refusal>
     ensures { result ≡ heights_tested (heights_lent [] [] (ring_rows_short counts.vertices nodes freed buckets) false) counts
         (surface_rows (mesh_rows positions.now outs.now halves.now faces.now)
         heights.now) }
@@ -54,7 +54,7 @@ pub fn check_finish(
     halves: &[u32],
     faces: &[u32],
     pending: usize,
-) -> Checked
+) -> Result<(), Refusal>
     ensures { result ≡ heights_tested (heights_lent [] [] (ltb pending 8) false) counts
         (surface_rows (mesh_rows positions.now outs.now halves.now faces.now)
         heights.now) }
@@ -88,7 +88,7 @@ pub fn check_step(
     pending: usize,
     point: Point,
     z: i32,
-) -> Checked
+) -> Result<(), Refusal>
     ensures { result ≡ heights_tested (heights_lent (point_row point) (z ∷ [])
         (sweep_rows_short false (vertex_count counts (point_row point)) nodes freed buckets pending) false) counts
         (surface_rows (mesh_rows positions.now outs.now halves.now faces.now)
@@ -118,7 +118,7 @@ pub fn check_run(
     buckets: usize,
     pending: usize,
     few: bool,
-) -> Checked
+) -> Result<(), Refusal>
     ensures { result ≡ heights_tested (heights_lent points.now point_heights.now
         (sweep_rows_short few (vertex_count counts points.now) nodes freed buckets pending) false) counts
         (surface_rows (mesh_rows positions.now outs.now halves.now faces.now)
@@ -194,30 +194,28 @@ fn store_fates(
     ensures { height_of heights.new ≡ stored_from low high answers.now
         (height_of point_heights.now) (height_of heights.old) n }
 {
-    let mut i: u32 = 0;
-    while i < n {
+    for i in 0..n {
         store_fate(heights, answers, point_heights, low, high, i);
-        i += 1;
     }
 }
 
 // The steps of a run were made: it is accepted, or refused 9.
-pub fn is_made(finished: Finished) -> bool
+pub fn is_made(finished: Result<Totals, Refusal>) -> bool
     ensures { result ≡ is_made finished }
 {
     match finished {
-        Finished::Accepted(totals) => true,
-        Finished::Refused(refusal) => refusal.number == 9,
+        Ok(_) => true,
+        Err(refusal) => refusal.number == 9,
     }
 }
 
 // The point at which a run of n points was refused a flip, else n.
-fn place_of(n: u32, finished: Finished) -> u32
+fn place_of(n: u32, finished: Result<Totals, Refusal>) -> u32
     ensures { result ≡ place_of n finished }
 {
     match finished {
-        Finished::Accepted(totals) => n,
-        Finished::Refused(refusal) => refusal.place,
+        Ok(_) => n,
+        Err(refusal) => refusal.place,
     }
 }
 

@@ -1,7 +1,7 @@
 -- THE THEOREM of the whole run, for every seed, centre and list of points: a run that is answered with no refusal number meets demand 3;
 -- one that is refused 9 leaves a good mesh and the answers that stand; and one that is refused another number changes nothing.
 -- One file, though a long one: all of it is about one run, whose stages are named once, at its beginning. Assumes nothing.
-use Rattle.std.specs.Prelude.{Bool, ◌&&◌, ◌⊎◌, ℕ, ◌+◌, ◌*◌, ◌<◌, ◌≤◌, ltb, eqb, ◌-ℤ◌, length, replicate, ◌≤ℤ◌}
+use Rattle.std.specs.Prelude.{Bool, ◌&&◌, ◌⊎◌, ℕ, ◌+◌, ◌*◌, ◌<◌, ◌≤◌, ltb, eqb, ◌-ℤ◌, length, replicate, ◌≤ℤ◌, Ok, Err}
 use Rattle.std.proofs.Math.Bool.{true, false, cond, not}
 use Rattle.std.proofs.lemmas.Bool.{false≢true}
 use Rattle.std.proofs.Common.{inl, inr, ◌∙◌, ap₂, subst, lt-ltb, ltb-false, eq-eqb}
@@ -18,7 +18,7 @@ use Rattle.dcel.specs.Views.{length_from}
 use Rattle.decide.specs.declared.Fate.{Fate}
 use Rattle.decide.specs.declared.Fate.TheVariants.{Added, Dropped, NotLeft, Unsound, AtCenter}
 use Rattle.decide.specs.Decide.{fate_vertex}
-use Rattle.finish.specs.declared.Finished.{Finished}
+use Rattle.finish.specs.Finished.{Finished}
 use Rattle.finish.specs.declared.Totals.{Totals}
 use Rattle.finish.specs.CallLeavesLaws.{in_rows, call-leaves}
 use Rattle.finish.specs.Finish.{totals_from, finished_from}
@@ -32,7 +32,7 @@ use Rattle.mesh.specs.Circle.{Settled}
 use Rattle.mesh.proofs.CircleLawsFacts.{settled-far}
 use Rattle.mesh.specs.FlipRun.{FlipRun}
 use Rattle.mesh.specs.Good.{Good}
-use Rattle.mesh_check.specs.declared.Checked.{Checked}
+use Rattle.mesh_check.specs.Checked.{Checked}
 use Rattle.mesh_check.specs.declared.Refusal.{Refusal}
 use Rattle.mesh_check.specs.Check.{point_count, vertex_count}
 use Rattle.mesh_check.specs.CheckLaws.{NumberedTo}
@@ -59,7 +59,7 @@ use Rattle.sweep.proofs.RunFates.{number_of, one-added, entered-new, run-fate, n
 use Rattle.skipped.proofs.CompleteLaws as complete
 
 -- ---- what the checks accept
-module _ (l : RunLent) (e : run_checked l ≡ Checked.Accepted) where
+module _ (l : RunLent) (e : run_checked l ≡ Ok tt) where
   abbrev n : ℕ
   n = point_count l.points
 
@@ -427,25 +427,25 @@ module _ (l : RunLent) (e : run_checked l ≡ Checked.Accepted) where
 -- ---- by what is answered
 module _ (l : RunLent) where
   -- DEMAND 3, with no hypothesis beyond acceptance
-  pub run-accepted : (t : Totals) → (run_of l).answer.finished ≡ Finished.Accepted t → Demand3 l (run_of l) t × RunLeaves l (run_of l)
+  pub run-accepted : (t : Totals) → (run_of l).answer.finished ≡ Ok t → Demand3 l (run_of l) t × RunLeaves l (run_of l)
   unfolding run_of run_outcome finished_from totals_from
   run-accepted t z = by (run_checked l) refl
     where
-      at : (e : run_checked l ≡ Checked.Accepted) (b : Bool) → (run_completes l).mesh.full ≡ b → Demand3 l (run_of l) t × RunLeaves l (run_of l)
+      at : (e : run_checked l ≡ Ok tt) (b : Bool) → (run_completes l).mesh.full ≡ b → Demand3 l (run_of l) t × RunLeaves l (run_of l)
       at e true f =
-          let x : Finished.Refused (record { number = 9; place = (run_completes l).place })
-          ≡ Finished.Accepted t = sym (rw (run_is l e, f) refl) ∙ z in
+          let x : Err (record { number = 9; place = (run_completes l).place })
+          ≡ Ok t = sym (rw (run_is l e, f) refl) ∙ z in
           absurd (let w : ◌≡◌ {A = ℕ} 0 1 = cc in omega arith)
       at e false f =
-          let x : Finished.Accepted (totals_from (run_completes l).mesh) ≡ Finished.Accepted t = sym (rw (run_is l e, f) refl) ∙ z in
+          let x : Ok (totals_from (run_completes l).mesh) ≡ Ok t = sym (rw (run_is l e, f) refl) ∙ z in
           let y : totals_from (run_completes l).mesh ≡ t = cc in
           subst⁻¹ (λ (r : RunOutcome). Demand3 l r t × RunLeaves l r) (run_is l e)
           (demand-3 l e f t (ap (λ (u : Totals). u.closingflips) (sym y)), leaves l e)
 
       by : (c : Checked) → run_checked l ≡ c → Demand3 l (run_of l) t × RunLeaves l (run_of l)
-      by Checked.Accepted e = at e (run_completes l).mesh.full refl
-      by (Checked.Refused x) e =
-          let y : Finished.Refused x ≡ Finished.Accepted t = rw e at z in
+      by (Ok tt) e = at e (run_completes l).mesh.full refl
+      by (Err x) e =
+          let y : Err x ≡ Ok t = rw e at z in
           absurd (let w : ◌≡◌ {A = ℕ} 0 1 = cc in omega arith)
 
   run-numbered : NumberedTo 7 (run_checked l)
@@ -453,58 +453,58 @@ module _ (l : RunLent) where
   run-numbered = sweep-numbered l.points _ l.counts l.mesh _ _ _ _ l.center
 
   -- a refusal: of the checks, numbered 1 to 7, and nothing has changed; or 9
-  pub run-refused : (x : Refusal) → (run_of l).answer.finished ≡ Finished.Refused x
-      → (NumberedTo 7 (Checked.Refused x) × (run_checked l ≡ Checked.Refused x) × (run_of l
-      ≡ ran_with (record { counts = l.counts; finished = Finished.Refused x }) l.mesh l.ring l.pending l.answers))
+  pub run-refused : (x : Refusal) → (run_of l).answer.finished ≡ Err x
+      → (NumberedTo 7 (Err x) × (run_checked l ≡ Err x) × (run_of l
+      ≡ ran_with (record { counts = l.counts; finished = Err x }) l.mesh l.ring l.pending l.answers))
       ⊎ ((x.number ≡ 9) × Full l (run_of l) x.place)
   unfolding run_of run_outcome finished_from totals_from
   run-refused x z = by (run_checked l) refl run-numbered
     where
       Wanted : Type 0
       Wanted =
-          (NumberedTo 7 (Checked.Refused x) × (run_checked l ≡ Checked.Refused x) × (run_of l
-          ≡ ran_with (record { counts = l.counts; finished = Finished.Refused x }) l.mesh l.ring l.pending l.answers))
+          (NumberedTo 7 (Err x) × (run_checked l ≡ Err x) × (run_of l
+          ≡ ran_with (record { counts = l.counts; finished = Err x }) l.mesh l.ring l.pending l.answers))
           ⊎ ((x.number ≡ 9) × Full l (run_of l) x.place)
 
-      at : (e : run_checked l ≡ Checked.Accepted) (b : Bool) → (run_completes l).mesh.full ≡ b → Wanted
+      at : (e : run_checked l ≡ Ok tt) (b : Bool) → (run_completes l).mesh.full ≡ b → Wanted
       at e true f =
-          let y : Finished.Refused (record { number = 9; place = (run_completes l).place })
-          ≡ Finished.Refused x = sym (rw (run_is l e, f) refl) ∙ z in
+          let y : Err (record { number = 9; place = (run_completes l).place })
+          ≡ Err x = sym (rw (run_is l e, f) refl) ∙ z in
           let w : record { number = 9; place = (run_completes l).place } ≡ x = cc in
           inr (
             ap (λ (r : Refusal). r.number) (sym w),
             subst⁻¹ (λ (r : RunOutcome). Full l r x.place) (run_is l e) (subst (Full l (R l e)) (ap (λ (r : Refusal). r.place) w) (full l e)),
           )
       at e false f =
-          let y : Finished.Accepted (totals_from (run_completes l).mesh) ≡ Finished.Refused x = sym (rw (run_is l e, f) refl) ∙ z in
+          let y : Ok (totals_from (run_completes l).mesh) ≡ Err x = sym (rw (run_is l e, f) refl) ∙ z in
           absurd (let w : ◌≡◌ {A = ℕ} 0 1 = cc in omega arith)
 
       by : (c : Checked) → run_checked l ≡ c → NumberedTo 7 c → Wanted
-      by Checked.Accepted e k = at e (run_completes l).mesh.full refl
-      by (Checked.Refused y) e k =
-          let u : Finished.Refused y ≡ Finished.Refused x = rw e at z in
+      by (Ok tt) e k = at e (run_completes l).mesh.full refl
+      by (Err y) e k =
+          let u : Err y ≡ Err x = rw e at z in
           let w : y ≡ x = cc in
-          inl (subst (λ (r : Refusal). NumberedTo 7 (Checked.Refused r)) w k, e ∙ ap Checked.Refused w, rw (e, w) refl)
+          inl (subst (λ (r : Refusal). NumberedTo 7 (Err r)) w k, e ∙ ap Err w, rw (e, w) refl)
 
   -- what a caller may rely on that reads the finished mesh
   pub record Finishes : Type 0 where
-    pub checked : run_checked l ≡ Checked.Accepted
+    pub checked : run_checked l ≡ Ok tt
     pub good : Good (run_of l).answer.counts (links_in (run_of l).mesh) (places_in (run_of l).mesh)
     pub most : (run_of l).answer.counts.vertices ≤ l.counts.vertices + point_count l.points
 
-  pub run-finishes : (t : Totals) → (run_of l).answer.finished ≡ Finished.Accepted t → Finishes
+  pub run-finishes : (t : Totals) → (run_of l).answer.finished ≡ Ok t → Finishes
   unfolding run_of run_outcome
   run-finishes t z = by (run_checked l) refl
     where
       by : (c : Checked) → run_checked l ≡ c → Finishes
-      by Checked.Accepted e = record {
+      by (Ok tt) e = record {
         checked = e;
         good = subst⁻¹ (λ (r : RunOutcome). Good r.answer.counts (links_in r.mesh) (places_in r.mesh)) (run_is l e) (leaves l e).leaves.good;
         most = subst⁻¹ (λ (r : RunOutcome). r.answer.counts.vertices ≤ l.counts.vertices + point_count l.points) (run_is l e)
             (keeps l e).most;
       }
-      by (Checked.Refused x) e =
-          let y : Finished.Refused x ≡ Finished.Accepted t = rw e at z in
+      by (Err x) e =
+          let y : Err x ≡ Ok t = rw e at z in
           absurd (let w : ◌≡◌ {A = ℕ} 0 1 = cc in omega arith)
 
 -- an outcome that is the defined one meets the call's contract

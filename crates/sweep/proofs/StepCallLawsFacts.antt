@@ -1,5 +1,5 @@
 -- Laws of specs/StepCallLaws.antt.
-use Rattle.std.specs.Prelude.{Bool, List, ◌⊎◌, ℕ, ◌+◌, ◌≤◌, Float, length, replicate}
+use Rattle.std.specs.Prelude.{Bool, List, ◌⊎◌, ℕ, ◌+◌, ◌≤◌, Float, length, replicate, Ok, Err}
 use Rattle.std.proofs.Math.Bool.{true, false}
 use Rattle.std.proofs.lemmas.Bool.{false≢true}
 use Rattle.std.proofs.Common.{inl, inr, ◌∙◌, arith}
@@ -23,7 +23,7 @@ use Rattle.mesh.specs.declared.Counts.{Counts}
 use Rattle.mesh.specs.Mesh.{Links}
 use Rattle.mesh.specs.FlipRun.{FlipRun}
 use Rattle.mesh.specs.Operations.{create_new_face_adjacent_to_edge, with_vertex}
-use Rattle.mesh_check.specs.declared.Checked.{Checked}
+use Rattle.mesh_check.specs.Checked.{Checked}
 use Rattle.mesh_check.specs.declared.Refusal.{Refusal}
 use Rattle.mesh_check.specs.Check.{vertex_count, point_count}
 use Rattle.mesh_check.specs.CheckLaws.{NumberedTo}
@@ -33,7 +33,7 @@ use Rattle.ring.specs.Ring.{located}
 use Rattle.ring_rows.specs.RingRows.{RingRows, ring_zeros}
 use Rattle.start.specs.StartLaws.{AcceptedSweep, sweep-accepts, sweep-numbered}
 use Rattle.sweep.specs.declared.Answer.{Answer}
-use Rattle.sweep.specs.declared.Stepped.{Stepped}
+use Rattle.sweep.specs.Stepped.{Stepped}
 use Rattle.start.specs.Start.{point_row}
 use Rattle.sweep.specs.StepCall.{StepOutcome, answer_from, step_checked, stepped_with, step_outcome, step_of}
 use Rattle.sweep.proofs.Fates.{is-added}
@@ -89,7 +89,7 @@ module _ (C : Counts) (m : MeshRows) (ring : RingRows) (pending : List ℕ) (cen
   whole = step_of C m ring pending center v
 
   -- ---- the checks accept
-  module _ (e : checks ≡ Checked.Accepted) where
+  module _ (e : checks ≡ Ok tt) where
     abbrev R : StepOutcome
     R =
         stepped_with (answer_from 0 s)
@@ -196,25 +196,25 @@ module _ (C : Counts) (m : MeshRows) (ring : RingRows) (pending : List ℕ) (cen
 
   -- ---- by what is answered
   -- accepted: the mesh is good, with the point as its next vertex where that was added
-  pub step-accepted : (x : Answer) → (step_of C m ring pending center v).answer.stepped ≡ Stepped.Accepted x
+  pub step-accepted : (x : Answer) → (step_of C m ring pending center v).answer.stepped ≡ Ok x
       → StepAccepted C m ring pending center v (step_of C m ring pending center v) x
   unfolding answer_from step_of step_outcome
   step-accepted x e = by checks refl
     where
-      at : (k : checks ≡ Checked.Accepted) → (b : Bool) → s.mesh.full ≡ b → StepAccepted C m ring pending center v whole x
+      at : (k : checks ≡ Ok tt) → (b : Bool) → s.mesh.full ≡ b → StepAccepted C m ring pending center v whole x
       at k true f =
-          let y : Stepped.Refused (record { number = 9; place = 0 }) ≡ Stepped.Accepted x = sym (rw (whole_is k, f) refl) ∙ e in
+          let y : Err (record { number = 9; place = 0 }) ≡ Ok x = sym (rw (whole_is k, f) refl) ∙ e in
           absurd (let z : ◌≡◌ {A = ℕ} 0 1 = cc in omega arith)
       at k false f =
-          let y : Stepped.Accepted (answer_of s) ≡ Stepped.Accepted x = sym (rw (whole_is k, f) refl) ∙ e in
+          let y : Ok (answer_of s) ≡ Ok x = sym (rw (whole_is k, f) refl) ∙ e in
           let z : answer_of s ≡ x = cc in
           subst (StepAccepted C m ring pending center v whole) z
           (subst⁻¹ (λ (r : StepOutcome). StepAccepted C m ring pending center v r (answer_of s)) (whole_is k) (done k f))
 
       by : (c : Checked) → checks ≡ c → StepAccepted C m ring pending center v whole x
-      by Checked.Accepted k = at k s.mesh.full refl
-      by (Checked.Refused y) k =
-          let z : Stepped.Refused y ≡ Stepped.Accepted x = rw k at e in
+      by (Ok tt) k = at k s.mesh.full refl
+      by (Err y) k =
+          let z : Err y ≡ Ok x = rw k at e in
           absurd (let w : ◌≡◌ {A = ℕ} 0 1 = cc in omega arith)
 
   numbered : NumberedTo 7 checks
@@ -222,21 +222,21 @@ module _ (C : Counts) (m : MeshRows) (ring : RingRows) (pending : List ℕ) (cen
   numbered = sweep-numbered (point_row v) false C m _ _ _ _ center
 
   -- refused: by the checks, and 01: "All but 9 change nothing lent"; or before a flip whose pushes would overfill the pending list
-  pub step-refused : (x : Refusal) → (step_of C m ring pending center v).answer.stepped ≡ Stepped.Refused x
-      → (NumberedTo 7 (Checked.Refused x) × (step_of C m ring pending center v
-      ≡ stepped_with (record { counts = C; stepped = Stepped.Refused x }) m ring pending))
+  pub step-refused : (x : Refusal) → (step_of C m ring pending center v).answer.stepped ≡ Err x
+      → (NumberedTo 7 (Err x) × (step_of C m ring pending center v
+      ≡ stepped_with (record { counts = C; stepped = Err x }) m ring pending))
       ⊎ ((x.number ≡ 9) × (x.place ≡ 0) × Stopped C m ring pending center v (step_of C m ring pending center v))
   unfolding answer_from step_of step_outcome
   step-refused x e = by checks refl numbered
     where
       Wanted : Type 0
       Wanted =
-          (NumberedTo 7 (Checked.Refused x) × (whole ≡ stepped_with (record { counts = C; stepped = Stepped.Refused x }) m ring pending))
+          (NumberedTo 7 (Err x) × (whole ≡ stepped_with (record { counts = C; stepped = Err x }) m ring pending))
           ⊎ ((x.number ≡ 9) × (x.place ≡ 0) × Stopped C m ring pending center v whole)
 
-      at : (k : checks ≡ Checked.Accepted) → (b : Bool) → s.mesh.full ≡ b → Wanted
+      at : (k : checks ≡ Ok tt) → (b : Bool) → s.mesh.full ≡ b → Wanted
       at k true f =
-          let y : Stepped.Refused (record { number = 9; place = 0 }) ≡ Stepped.Refused x = sym (rw (whole_is k, f) refl) ∙ e in
+          let y : Err (record { number = 9; place = 0 }) ≡ Err x = sym (rw (whole_is k, f) refl) ∙ e in
           let z : record { number = 9; place = 0 } ≡ x = cc in
           inr (
             ap (λ (r : Refusal). r.number) (sym z),
@@ -244,12 +244,12 @@ module _ (C : Counts) (m : MeshRows) (ring : RingRows) (pending : List ℕ) (cen
             subst⁻¹ (Stopped C m ring pending center v) (whole_is k) (stopped k f),
           )
       at k false f =
-          let y : Stepped.Accepted (answer_of s) ≡ Stepped.Refused x = sym (rw (whole_is k, f) refl) ∙ e in
+          let y : Ok (answer_of s) ≡ Err x = sym (rw (whole_is k, f) refl) ∙ e in
           absurd (let z : ◌≡◌ {A = ℕ} 0 1 = cc in omega arith)
 
       by : (c : Checked) → checks ≡ c → NumberedTo 7 c → Wanted
-      by Checked.Accepted k l = at k s.mesh.full refl
-      by (Checked.Refused y) k l =
-          let z : Stepped.Refused y ≡ Stepped.Refused x = rw k at e in
+      by (Ok tt) k l = at k s.mesh.full refl
+      by (Err y) k l =
+          let z : Err y ≡ Err x = rw k at e in
           let w : y ≡ x = cc in
-          inl (subst (λ (r : Refusal). NumberedTo 7 (Checked.Refused r)) w l, rw (k, w) refl)
+          inl (subst (λ (r : Refusal). NumberedTo 7 (Err r)) w l, rw (k, w) refl)

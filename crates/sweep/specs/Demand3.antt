@@ -1,12 +1,12 @@
 -- DEMAND 3: what a run that is answered with no refusal number leaves, one field for each of its clauses, each beside its words; and what a
 -- run leaves that is refused. Stated of the rows and the answer alone, as a caller finds them. `RunLaws` proves it for every seed, centre
 -- and list of points.
-use Rattle.std.specs.Prelude.{Bool, ◌||◌, ◌≡◌, ℕ, ◌+◌, ◌*◌, ◌<◌, ◌≤◌, T, eqb, pos, ◌-ℤ◌, length, ◌≤ℤ◌}
+use Rattle.std.specs.Prelude.{Bool, ◌||◌, ◌≡◌, ℕ, ◌+◌, ◌*◌, ◌<◌, ◌≤◌, T, eqb, pos, ◌-ℤ◌, length, ◌≤ℤ◌, Ok}
 use Rattle.closing.specs.Closing.{Closing, closing_pass}
 use Rattle.convexity.specs.Convexity.{NoLeftCorner}
 use Rattle.dcel.specs.MeshRows.{links_in, places_in}
 use Rattle.dcel.specs.Rows.{position_of, row_of}
-use Rattle.finish.specs.declared.Finished.{Finished}
+use Rattle.finish.specs.Finished.{Finished}
 use Rattle.finish.specs.declared.Totals.{Totals}
 use Rattle.finish.specs.CallLeaves.{CallLeaves}
 use Rattle.mesh.specs.Mesh.{Links}
@@ -120,4 +120,4 @@ pub record Full (l : RunLent) (r : RunOutcome) (place : ℕ) : Type 0 where
 -- ---- THE CONTRACT of the call `run`: what is defined, and demand 3 of it
 pub record Ran (l : RunLent) (r : RunOutcome) : Type 0 where
   pub is : r ≡ run_of l
-  pub demand3 : (t : Totals) → r.answer.finished ≡ Finished.Accepted t → Demand3 l r t
+  pub demand3 : (t : Totals) → r.answer.finished ≡ Ok t → Demand3 l r t

@@ -1,7 +1,7 @@
 -- The call `run`: the seed's ring, all steps in list order, the finish with the points that the steps skipped. Definitions only, and each
 -- computes; `Demand3` says what a finished run means.
 -- `point` gives each point of the list its position, by its index; `room` is the number of pending entries.
-use Rattle.std.specs.Prelude.{Bool, true, false, cond, ◌&&◌, List, ℕ, zero, suc, ◌+◌, ◌*◌, ◌/◌, ◌%◌, ltb, Float, ℤ, length, replicate}
+use Rattle.std.specs.Prelude.{Bool, true, false, cond, ◌&&◌, List, ℕ, zero, suc, ◌+◌, ◌*◌, ◌/◌, ◌%◌, ltb, Float, ℤ, length, replicate, Ok, Err}
 use Rattle.angle.specs.declared.Point2.{Point2}
 use Rattle.convexity.specs.Convexity.{convexity}
 use Rattle.corner.specs.Corner.{Extended}
@@ -11,12 +11,12 @@ use Rattle.decide.specs.declared.Fate.{Fate}
 use Rattle.decide.specs.declared.Fate.TheVariants.{Added, Dropped, NotLeft, Unsound, AtCenter}
 use Rattle.decide.specs.Decide.{fate_number, fate_vertex}
 use Rattle.finish.specs.declared.FinishAnswer.{FinishAnswer}
-use Rattle.finish.specs.declared.Finished.{Finished}
+use Rattle.finish.specs.Finished.{Finished}
 use Rattle.finish.specs.Finish.{finished_from}
 use Rattle.math.specs.declared.Point.{Point}
 use Rattle.mesh.specs.declared.Counts.{Counts}
 use Rattle.mesh.specs.Mesh.{Links}
-use Rattle.mesh_check.specs.declared.Checked.{Checked}
+use Rattle.mesh_check.specs.Checked.{Checked}
 use Rattle.mesh_check.specs.Check.{point_count}
 use Rattle.ring_rows.specs.RingRows.{RingRows, ring_zeros}
 use Rattle.skipped.specs.Insert.{Inserting}
@@ -204,9 +204,9 @@ run_answers l =
 -- names that point's index". 01: "After 9 and after every accepted call the ring, freed, bucket and pending rows hold zeros, and mesh and
 -- answer entries past the counts in use are untouched": the functions have every entry of their rows
 unfoldable pub run_outcome : RunLent → Checked → RunOutcome
-run_outcome l (Checked.Refused r) =
-    ran_with (record { counts = l.counts; finished = Finished.Refused r }) l.mesh l.ring l.pending l.answers
-run_outcome l Checked.Accepted =
+run_outcome l (Err r) =
+    ran_with (record { counts = l.counts; finished = Err r }) l.mesh l.ring l.pending l.answers
+run_outcome l (Ok _) =
     let c = run_completes l in
     ran_with (record { counts = c.mesh.counts; finished = finished_from c.place c.mesh })
     (mesh_rows_from l.mesh c.mesh.links c.positions) (ring_zeros l.ring) (replicate (length l.pending) 0)

@@ -1,16 +1,16 @@
 -- The call `step` of 01: its refusals, in the order of the table, its answer, and what it leaves in the lent rows. Definitions only, and
 -- each computes; `StepCallLaws` says what they come to. 01: "Locate and a lone step build the ring from the mesh": the ring is no part of
 -- what is defined here, which knows the mesh's boundary alone.
-use Rattle.std.specs.Prelude.{false, cond, List, ℕ, length, replicate}
+use Rattle.std.specs.Prelude.{false, cond, List, ℕ, length, replicate, Ok, Err}
 use Rattle.angle.specs.declared.Point2.{Point2}
 use Rattle.dcel.specs.MeshRows.{MeshRows, links_in, places_in, mesh_rows_from}
 use Rattle.math.specs.declared.Point.{Point}
 use Rattle.mesh.specs.declared.Counts.{Counts}
-use Rattle.mesh_check.specs.declared.Checked.{Checked}
+use Rattle.mesh_check.specs.Checked.{Checked}
 use Rattle.ring_rows.specs.RingRows.{RingRows, ring_zeros}
 use Rattle.start.specs.Start.{point_row, sweep_checked}
 use Rattle.sweep.specs.declared.StepAnswer.{StepAnswer}
-use Rattle.sweep.specs.declared.Stepped.{Stepped}
+use Rattle.sweep.specs.Stepped.{Stepped}
 use Rattle.sweep.specs.Step.{Stepping, answer_of, step_mesh}
 
 -- ---- the refusals
@@ -25,8 +25,8 @@ answer_from place s = record {
   counts = s.mesh.counts;
   stepped =
       cond s.mesh.full
-      (Stepped.Refused (record { number = 9; place = place }))
-      (Stepped.Accepted (answer_of s));
+      (Err (record { number = 9; place = place }))
+      (Ok (answer_of s));
 }
 
 -- ---- the call
@@ -44,8 +44,8 @@ stepped_with r m ring pending = record { answer = r; mesh = m; ring = ring; pend
 -- ring, freed, bucket and pending rows hold zeros, and mesh and answer entries past the counts in use are untouched": the functions of the
 -- links and positions have every entry of their rows
 unfoldable pub step_outcome : Counts → MeshRows → RingRows → List ℕ → Checked → Stepping → StepOutcome
-step_outcome C m ring pending (Checked.Refused r) s = stepped_with (record { counts = C; stepped = Stepped.Refused r }) m ring pending
-step_outcome C m ring pending Checked.Accepted s =
+step_outcome C m ring pending (Err r) s = stepped_with (record { counts = C; stepped = Err r }) m ring pending
+step_outcome C m ring pending (Ok _) s =
     stepped_with (answer_from 0 s)
     (mesh_rows_from m s.mesh.links s.positions) (ring_zeros ring) (replicate (length pending) 0)
 

@@ -25,7 +25,7 @@ use Rattle.mesh.specs.declared.Counts.{Counts}
 use Rattle.mesh.specs.Mesh.{Links}
 use Rattle.mesh.specs.FlipRun.{FlipRun}
 use Rattle.mesh.specs.Operations.{create_new_face_adjacent_to_edge, with_vertex}
-use Rattle.mesh_check.specs.declared.Checked.{Checked}
+use Rattle.mesh_check.specs.Checked.{Checked}
 use Rattle.mesh_check.specs.declared.Refusal.{Refusal}
 use Rattle.mesh_check.specs.Check.{vertex_count, point_count}
 use Rattle.mesh_check.specs.CheckLaws.{NumberedTo}
@@ -35,7 +35,7 @@ use Rattle.ring.specs.Ring.{located}
 use Rattle.ring_rows.specs.RingRows.{RingRows, ring_zeros}
 use Rattle.start.specs.StartLaws.{AcceptedSweep, sweep-accepts, sweep-numbered}
 use Rattle.sweep.specs.declared.Answer.{Answer}
-use Rattle.sweep.specs.declared.Stepped.{Stepped}
+use Rattle.sweep.specs.Stepped.{Stepped}
 use Rattle.start.specs.Start.{point_row}
 use Rattle.sweep.specs.StepCall.{StepOutcome, answer_from, step_checked, stepped_with, step_outcome, step_of}
 use Rattle.sweep.specs.Step.{Stepping, answer_of, is_added, left_alone_of, added_at, applied_by, applied, step_mesh}

@@ -16,15 +16,9 @@ pub struct Answer {
 // The words of an answer in the answers row: the fate's number, its vertex, the faces, the flips.
 pub const ANSWER_WORDS: usize = 4;
 
-#[derive(Clone, Copy)]
-pub enum Stepped {
-    Accepted(Answer),
-    Refused(Refusal),
-}
-
 // The mesh's counts after the call, and what it has done.
 #[derive(Clone, Copy)]
 pub struct StepAnswer {
     pub counts: Counts,
-    pub stepped: Stepped,
+    pub stepped: Result<Answer, Refusal>,
 }

@@ -1,249 +1,160 @@
 // The lines that the cases of several calls share.
-ghost use Rattle.std.specs.Prelude.{◌≤◌};
-ghost use Rattle.test_mesh.specs.Lent.{CoordinatesLent, RingLent};
-
-use super::{Agreed, CoordinatesLine, LONGS, Longs, Mesh, NODES, Ring, WORDS};
+use super::{COORDINATES, LEFT, LONGS, Mesh};
 use angle::Point2;
 use math::Point;
 use quote::Quote;
-use test_text::Number;
+use std::alloc::{AllocError, Global};
+use test_text::{Entry, Failure, Number, Reader, demand};
 
-#[derive(Clone, Copy)]
-pub struct RingLine {
-    pub ring: Ring,
-    pub at: usize,
-    pub is_whole: bool,
+// Two whole numbers.
+pub fn read_coordinates(text: &mut Reader) -> Result<Point, Failure> {
+    let x = text.entry()?;
+    let y = text.entry()?;
+    Ok(Point { x, y })
 }
 
-// So many entries of a row are lent.
-#[derive(Clone, Copy)]
-pub struct SevensLine {
-    pub length: usize,
-    pub at: usize,
-    pub is_whole: bool,
+// The bits of a double.
+pub fn read_double(text: &mut Reader) -> Result<f64, Failure> {
+    Ok(test_text::double(text.entry()?))
 }
 
-#[derive(Clone, Copy)]
-pub struct CenterLine {
-    pub center: Point2,
-    pub at: usize,
-    pub is_whole: bool,
-}
-
-#[derive(Clone, Copy)]
-pub struct PointLine {
-    pub point: Point,
-    pub at: usize,
-    pub is_whole: bool,
-}
-
-// A single height: a point's, or a level.
-#[derive(Clone, Copy)]
-pub struct HeightLine {
-    pub height: i32,
-    pub at: usize,
-    pub is_whole: bool,
-}
-
-#[derive(Clone, Copy)]
-pub struct ChangesLine {
-    pub changes: u32,
-    pub at: usize,
-    pub is_whole: bool,
-}
-
-#[derive(Clone, Copy)]
-pub struct QuoteLine {
-    pub quote: Quote,
-    pub at: usize,
-    pub is_whole: bool,
+// The bits of two doubles.
+pub fn read_doubles(text: &mut Reader) -> Result<Point2, Failure> {
+    let x = read_double(text)?;
+    let y = read_double(text)?;
+    Ok(Point2 { x, y })
 }
 
 // The change count of a mesh, 7 where its line `c` is missing, as rows are lent with 7.
-pub fn read_changes(text: &[u8], at: usize) -> ChangesLine {
-    if test_text::byte(text, at) == b'c' {
-        let changes = test_text::read_word(text, test_text::behind(text, at));
-        let end = changes.at;
-        return ChangesLine {
-            changes: changes.value,
-            at: test_text::behind(text, end),
-            is_whole: super::is_line(text, at, b'c', end),
-        };
+pub fn read_changes(text: &mut Reader) -> Result<u32, Failure> {
+    if text.peek() != Some(b'c') {
+        return Ok(7);
     }
-    ChangesLine {
-        changes: 7,
-        at: at,
-        is_whole: true,
-    }
+    text.take(b'c')?;
+    let changes = text.entry()?;
+    text.take(b'\n')?;
+    Ok(changes)
 }
 
-// `n nodes freed buckets`
-pub fn read_ring(text: &[u8], at: usize) -> RingLine
-    ensures { RingLent result.ring }
-{
-    let nodes = test_text::read_number(text, test_text::behind(text, at));
-    let freed = test_text::read_number(text, nodes.at);
-    let buckets = test_text::read_number(text, freed.at);
-    let end = buckets.at;
-    let ring = Ring {
-        nodes: super::within(nodes.magnitude, NODES),
-        freed: super::within(freed.magnitude, WORDS),
-        buckets: super::within(buckets.magnitude, WORDS),
-    };
-    RingLine {
-        ring: ring,
-        at: test_text::behind(text, end),
-        is_whole: super::is_line(text, at, b'n', end)
-            & is_length(nodes, ring.nodes)
-            & is_length(freed, ring.freed)
-            & is_length(buckets, ring.buckets),
-    }
-}
-
-// Whether a number is a length.
-fn is_length(n: Number, length: usize) -> bool {
-    !n.negative & (n.magnitude == length as u64)
-}
-
-// A line of a row that is lent with 7 in every entry.
-pub fn read_sevens(text: &[u8], at: usize, tag: u8, most: usize) -> SevensLine
-    ensures { result.length ≤ most }
-{
-    let start = super::read_start(text, at, tag, false, most);
-    let past = start.past;
-    let end = past.at;
-    let length = super::within(start.length, most);
-    SevensLine {
-        length: length,
-        at: test_text::behind(text, end),
-        is_whole: start.is_right
-            & (start.length == length as u64)
-            & !past.negative
-            & (past.magnitude == 7)
-            & (test_text::byte(text, end) == b'\n'),
-    }
+// A line of a row that is lent with 7 in every entry, and has none written.
+pub fn read_sevens<T: Entry + PartialEq + From<u8>>(
+    alloc: Global,
+    text: &mut Reader,
+    tag: u8,
+    most: usize,
+) -> Result<Vec<T>, Failure> {
+    text.take(tag)?;
+    let length = super::read_length(text, most)?;
+    demand(text.entry::<u64>()? == 7)?;
+    text.take(b'\n')?;
+    Ok(vec![in alloc; T::from(7); length]?)
 }
 
 // A line with a centre.
-pub fn read_center(text: &[u8], at: usize, tag: u8) -> CenterLine {
-    let c = super::read_center(text, test_text::behind(text, at));
-    let center = c.p;
-    let end = c.at;
-    CenterLine {
-        center: center,
-        at: test_text::behind(text, end),
-        is_whole: super::is_line(text, at, tag, end),
-    }
+pub fn read_center(text: &mut Reader, tag: u8) -> Result<Point2, Failure> {
+    text.take(tag)?;
+    let center = read_doubles(text)?;
+    text.take(b'\n')?;
+    Ok(center)
 }
 
 // The line `v` with a single point.
-pub fn read_point(text: &[u8], at: usize) -> PointLine {
-    let count = test_text::read_natural(text, test_text::behind(text, at));
-    let v = super::read_point(text, count.at);
-    let point = v.p;
-    let end = v.at;
-    PointLine {
-        point: point,
-        at: test_text::behind(text, end),
-        is_whole: super::is_line(text, at, b'v', end) & (count.magnitude == 1),
-    }
+pub fn read_point(text: &mut Reader) -> Result<Point, Failure> {
+    text.take(b'v')?;
+    demand(text.entry::<u64>()? == 1)?;
+    let point = read_coordinates(text)?;
+    text.take(b'\n')?;
+    Ok(point)
 }
 
-// A line with a single height.
-pub fn read_height(text: &[u8], at: usize, tag: u8) -> HeightLine {
-    let z = test_text::read_coordinate(text, test_text::behind(text, at));
-    let end = z.at;
-    HeightLine {
-        height: z.value,
-        at: test_text::behind(text, end),
-        is_whole: super::is_line(text, at, tag, end),
-    }
+// A line with a single height: a point's, or a level.
+pub fn read_height(text: &mut Reader, tag: u8) -> Result<i32, Failure> {
+    text.take(tag)?;
+    let height = text.entry()?;
+    text.take(b'\n')?;
+    Ok(height)
 }
 
 // The height of a single point, 0 where its line `y` is missing.
-pub fn read_point_height(text: &[u8], at: usize) -> HeightLine {
-    if test_text::byte(text, at) == b'y' {
-        return read_height(text, at, b'y');
-    }
-    HeightLine {
-        height: 0,
-        at: at,
-        is_whole: true,
+pub fn read_point_height(text: &mut Reader) -> Result<i32, Failure> {
+    if text.peek() == Some(b'y') {
+        read_height(text, b'y')
+    } else {
+        Ok(0)
     }
 }
 
 // A line with a quote: `changes x y z fate faces` behind its tag.
-pub fn read_quote(text: &[u8], at: usize, tag: u8) -> QuoteLine {
-    let changes = test_text::read_word(text, test_text::behind(text, at));
-    let p = super::read_point(text, changes.at);
-    let z = test_text::read_coordinate(text, p.at);
-    let fate = test_text::read_natural(text, z.at);
-    let faces = test_text::read_natural(text, fate.at);
-    let end = faces.at;
-    QuoteLine {
-        quote: Quote {
-            changes: changes.value,
-            x: p.p.x,
-            y: p.p.y,
-            z: z.value,
-            fate: fate.magnitude,
-            faces: faces.magnitude,
-        },
-        at: test_text::behind(text, end),
-        is_whole: super::is_line(text, at, tag, end),
-    }
+pub fn read_quote(text: &mut Reader, tag: u8) -> Result<Quote, Failure> {
+    text.take(tag)?;
+    let quote = Quote {
+        changes: text.entry()?,
+        x: text.entry()?,
+        y: text.entry()?,
+        z: text.entry()?,
+        fate: text.entry()?,
+        faces: text.entry()?,
+    };
+    text.take(b'\n')?;
+    Ok(quote)
 }
 
-// Whether the list says at a place what mesh the call must leave; where it does not, the call must change nothing.
-pub fn is_told(text: &[u8], at: usize) -> bool {
-    test_text::byte(text, at) == b'M'
-}
-
-// What the ring's rows and pending must hold after the call.
-pub fn cleared(text: &[u8], at: usize) -> u32 {
-    if is_told(text, at) { 0 } else { 7 }
-}
-
-// Whether a call has left the mesh as it must; the place of the line after that.
-pub fn compare_mesh(text: &[u8], lent: usize, told: usize, mesh: Mesh) -> Agreed {
-    if is_told(text, told) {
-        return super::compare_mesh(text, told, super::LEFT, mesh);
+// The coordinates of points, to the line's end.
+pub fn read_points(alloc: Global, text: &mut Reader) -> Result<Vec<i32>, Failure> {
+    let mut points = Vec::new(alloc);
+    for _ in 0..COORDINATES {
+        if text.peek() != Some(b' ') {
+            break;
+        }
+        points.push(text.entry()?).map_err(AllocError::from)?;
     }
-    let a = super::compare_mesh(text, lent, super::LENT, mesh);
-    Agreed {
-        agrees: a.agrees,
-        at: told,
-    }
+    text.take(b'\n')?;
+    Ok(points)
 }
 
 // `v count x y x y ..`; a last number that stands alone counts as a point.
-pub fn read_counted_points(text: &[u8], at: usize) -> CoordinatesLine
-    ensures { CoordinatesLent result.coordinates }
-{
-    let count = test_text::read_natural(text, test_text::behind(text, at));
-    let v = super::read_points(text, count.at);
-    let points = v.coordinates;
-    let numbers = points.length;
-    CoordinatesLine {
-        coordinates: points,
-        at: v.at,
-        is_whole: v.is_whole
-            & (test_text::byte(text, at) == b'v')
-            & (count.magnitude == (numbers / 2 + numbers % 2) as u64),
+pub fn read_counted_points(alloc: Global, text: &mut Reader) -> Result<Vec<i32>, Failure> {
+    text.take(b'v')?;
+    let count: u64 = text.entry()?;
+    let points = read_points(alloc, text)?;
+    demand(count == points.len().div_ceil(2) as u64)?;
+    Ok(points)
+}
+
+// Whether the list says here what mesh the call must leave; where it does not, the call must change nothing.
+pub fn is_told(text: &Reader) -> bool {
+    text.peek() == Some(b'M')
+}
+
+// What the ring's rows and pending must hold after the call.
+pub fn cleared(text: &Reader) -> u32 {
+    if is_told(text) { 0 } else { 7 }
+}
+
+// What the ring's rows must hold after a call that leaves the mesh in any case.
+pub fn cleared_by(refusal: u32) -> u32 {
+    if refusal == 0 { 0 } else { 7 }
+}
+
+// The mesh that a call leaves must be the one that is told here, or else the one that was lent.
+pub fn demand_mesh(
+    alloc: Global,
+    text: &mut Reader,
+    lent: &Mesh,
+    mesh: &Mesh,
+) -> Result<(), Failure> {
+    if is_told(text) {
+        demand(mesh.is(&LEFT.read(alloc, text)?))
+    } else {
+        demand(mesh.is(lent))
     }
 }
 
-// Whether the answers are those of the line `W` at a place, or untouched as in the line `w` where there is none; the place of the line
-// after that.
-pub fn compare_answers(text: &[u8], lent: usize, told: usize, answers: Longs) -> Agreed {
-    if test_text::byte(text, told) == b'W' {
-        let start = super::read_start(text, told, b'W', false, LONGS);
-        return super::compare_longs(text, start, answers);
+// The answers must be those of the line `W`, or untouched where there is none.
+pub fn demand_answers(alloc: Global, text: &mut Reader, answers: &[u64]) -> Result<(), Failure> {
+    if text.peek() != Some(b'W') {
+        return demand(answers.iter().all(|answer| *answer == 7));
     }
-    let start = super::read_start(text, lent, b'w', false, LONGS);
-    let a = super::compare_longs(text, start, answers);
-    Agreed {
-        agrees: a.agrees,
-        at: told,
-    }
+    let due: Vec<Number> = super::read_row(alloc, text, b'W', LONGS)?;
+    demand(super::are_due(answers, &due))
 }

@@ -1,266 +1,276 @@
-// Lines of a tag and decimal numbers in a text of bytes, for the program that runs lists of cases. A cursor is a place in the text; past
-// its end there is nothing to read. What is no number, or too large for where it stands, leads there.
+// Lines of a tag and decimal numbers in a text of bytes, for the programs that run lists of cases. A reader has what is left of such a
+// text; what is no number, or too large for where it stands, is a difference.
 #![tactic(auto)]
 
+ghost use Rattle.std.specs.Prelude.{◌≡◌, ◌<◌, ◌≤◌, ◌-◌, length, slice_get, OnOk};
+
+use std::alloc::{AllocError, Global};
+use std::fs::File;
+use std::io::Read;
+use std::rt::Files;
+use std::{io, str};
+
+pub mod tally;
+
+// The list of a file, as far as there is room for it.
+pub fn read_list(rt: &impl Files, alloc: Global, path: &str, most: usize) -> io::Result<Vec<u8>> {
+    let mut text = Vec::new(alloc);
+    File::open(rt, path)?
+        .take(most as u64)
+        .read_to_end(&mut text)?;
+    Ok(text)
+}
+
+// Why a case does not agree, or could not be tried.
 #[derive(Clone, Copy)]
+pub enum Failure {
+    Differs,
+    OutOfMemory(AllocError),
+}
+
+impl From<AllocError> for Failure {
+    fn from(error: AllocError) -> Failure {
+        Failure::OutOfMemory(error)
+    }
+}
+
+// What must hold for a case to agree.
+pub fn demand(holds: bool) -> Result<(), Failure> {
+    if holds { Ok(()) } else { Err(Failure::Differs) }
+}
+
+// Whether a case agrees, where it could be tried.
+pub fn agrees(outcome: Result<(), Failure>) -> Result<bool, AllocError> {
+    match outcome {
+        Ok(()) => Ok(true),
+        Err(Failure::Differs) => Ok(false),
+        Err(Failure::OutOfMemory(error)) => Err(error),
+    }
+}
+
+// The sign stands apart: a number has up to 64 bits beside it, and `-0` is not `0`.
+#[derive(Clone, Copy, PartialEq)]
 pub struct Number {
-    pub negative: bool,
+    pub is_negative: bool,
     pub magnitude: u64,
-    pub at: usize,
 }
 
-// 32 signed bits.
+impl From<u32> for Number {
+    fn from(n: u32) -> Number {
+        Number::from(u64::from(n))
+    }
+}
+
+impl From<u64> for Number {
+    fn from(magnitude: u64) -> Number {
+        Number {
+            is_negative: false,
+            magnitude,
+        }
+    }
+}
+
+impl From<i32> for Number {
+    fn from(n: i32) -> Number {
+        Number::from(i64::from(n))
+    }
+}
+
+impl From<i64> for Number {
+    fn from(n: i64) -> Number {
+        Number {
+            is_negative: n < 0,
+            magnitude: n.unsigned_abs(),
+        }
+    }
+}
+
+// What a row or a line may have for entries: a number that fits.
+pub trait Entry: Copy {
+    fn of(n: Number) -> Option<Self>;
+}
+
+impl Entry for Number {
+    fn of(n: Number) -> Option<Number> {
+        Some(n)
+    }
+}
+
+impl Entry for u64 {
+    fn of(n: Number) -> Option<u64> {
+        if n.is_negative {
+            None
+        } else {
+            Some(n.magnitude)
+        }
+    }
+}
+
+impl Entry for u32 {
+    fn of(n: Number) -> Option<u32> {
+        u32::try_from(u64::of(n)?).ok()
+    }
+}
+
+impl Entry for i32 {
+    fn of(n: Number) -> Option<i32> {
+        let magnitude = i64::try_from(n.magnitude).ok()?;
+        let value = if n.is_negative { -magnitude } else { magnitude };
+        i32::try_from(value).ok()
+    }
+}
+
+// What is left of a text.
 #[derive(Clone, Copy)]
-pub struct Coordinate {
-    pub value: i32,
-    pub at: usize,
+pub struct Reader<'a> {
+    pub rest: &'a [u8],
 }
 
-// 32 bits.
-#[derive(Clone, Copy)]
-pub struct Word {
-    pub value: u32,
-    pub at: usize,
-}
+impl<'a> Reader<'a> {
+    pub fn new(text: &'a [u8]) -> Reader<'a> {
+        Reader { rest: text }
+    }
 
-// The byte at a place, 0 past the end.
-pub fn byte(text: &[u8], at: usize) -> u8 {
-    if at < text.len() { text[at] } else { 0 }
-}
+    pub fn peek(&self) -> Option<u8>
+        ensures { result ≡ slice_get self.now.rest.now 0 }
+    {
+        self.rest.first().copied()
+    }
 
-// The place behind a byte.
-pub fn behind(text: &[u8], at: usize) -> usize {
-    if at < text.len() { at + 1 } else { at }
-}
+    // Whether the next byte is this one; then it is read.
+    fn skip(&mut self, byte: u8) -> bool
+        ensures { length self.new.rest.now ≤ length self.old.rest.now }
+    {
+        self.take(byte).is_ok()
+    }
 
-// The place behind a blank, if one stands here.
-fn skip_blank(text: &[u8], at: usize) -> usize {
-    if at < text.len() {
-        if text[at] == b' ' {
-            return at + 1;
+    // The next byte, which must be this one.
+    pub fn take(&mut self, byte: u8) -> Result<(), Failure>
+        ensures not_longer { length self.new.rest.now ≤ length self.old.rest.now }
+        ensures shorter { OnOk result (length self.new.rest.now < length self.old.rest.now) }
+    {
+        match self.rest.split_first() {
+            Some((first, rest)) if *first == byte => {
+                self.rest = rest;
+                Ok(())
+            }
+            _ => Err(Failure::Differs),
         }
     }
-    at
-}
 
-fn is_digit(b: u8) -> bool {
-    b >= b'0' && b <= b'9'
-}
+    // The bytes that a line counts, which has a tag, and a line feed behind them. The sign of their number is not looked at.
+    pub fn counted_bytes(&mut self, tag: u8) -> Result<&'a [u8], Failure>
+        ensures { OnOk result (length self.new.rest.now < length self.old.rest.now) }
+    {
+        self.take(tag)?;
+        let count = self.number()?.magnitude as usize;
+        self.take(b'\n')?;
+        let (bytes, rest) = self.rest.split_at_checked(count).ok_or(Failure::Differs)?;
+        self.rest = rest;
+        self.take(b'\n')?;
+        Ok(bytes)
+    }
 
-// Whether a byte is a digit, and the number fits with it.
-fn takes_digit(magnitude: u64, b: u8) -> bool {
-    if !is_digit(b) {
-        return false;
+    // The digits that come next.
+    fn digits(&mut self) -> &'a [u8]
+        ensures { length self.new.rest.now ≤ length self.old.rest.now }
+    {
+        let is_behind = |b: &u8| !b.is_ascii_digit();
+        let count = self
+            .rest
+            .iter()
+            .position(is_behind)
+            .unwrap_or(self.rest.len());
+        let (digits, rest) = self.rest.split_at(count);
+        self.rest = rest;
+        digits
     }
-    if magnitude == 1844674407370955161 {
-        return b <= b'5';
-    }
-    magnitude < 1844674407370955161
-}
 
-// A number with one more digit; one that it does not take leaves it as it is.
-fn with_digit(magnitude: u64, digit: u8) -> u64 {
-    if digit < b'0' {
-        return magnitude;
-    }
-    let d = digit - b'0';
-    if d > 9 {
-        return magnitude;
-    }
-    if magnitude < 1844674407370955161 {
-        return magnitude * 10 + (d as u64);
-    }
-    if magnitude > 1844674407370955161 {
-        return magnitude;
-    }
-    if d > 5 {
-        return magnitude;
-    }
-    magnitude * 10 + (d as u64)
-}
-
-// The digits from a place on, up to one with which the number would not fit.
-fn read_digits(text: &[u8], at: usize) -> Number {
-    let mut magnitude: u64 = 0;
-    let mut i = at;
-    while i < text.len() {
-        let b = text[i];
-        if !takes_digit(magnitude, b) {
-            return Number {
-                negative: false,
-                magnitude: magnitude,
-                at: i,
-            };
+    // The number that comes next, with the blank before it and a sign.
+    pub fn number(&mut self) -> Result<Number, Failure>
+        ensures { length self.new.rest.now ≤ length self.old.rest.now }
+    {
+        self.skip(b' ');
+        let is_negative = self.skip(b'-');
+        let digits = str::from_utf8(self.digits()).unwrap_or("");
+        match digits.parse::<u64>() {
+            Ok(magnitude) => Ok(Number {
+                is_negative,
+                magnitude,
+            }),
+            Err(_) => Err(Failure::Differs),
         }
-        magnitude = with_digit(magnitude, b);
-        i = i + 1;
     }
-    Number {
-        negative: false,
-        magnitude: magnitude,
-        at: i,
+
+    // The number that comes next, as an entry.
+    pub fn entry<T: Entry>(&mut self) -> Result<T, Failure> {
+        T::of(self.number()?).ok_or(Failure::Differs)
     }
-}
 
-// The number that begins here, with the blank before it and a sign. Where there is none, or none that fits, the place is the text's end:
-// no line ends there, so whoever looks for the end of the line sees it.
-pub fn read_number(text: &[u8], at: usize) -> Number {
-    let first = skip_blank(text, at);
-    let negative = byte(text, first) == b'-';
-    let start = if negative { behind(text, first) } else { first };
-    let digits = read_digits(text, start);
-    let end = digits.at;
-    let is_whole = is_digit(byte(text, start)) & !is_digit(byte(text, end));
-    Number {
-        negative: negative,
-        magnitude: digits.magnitude,
-        at: if is_whole { end } else { text.len() },
-    }
-}
-
-// A number without a sign; one with a sign is none.
-pub fn read_natural(text: &[u8], at: usize) -> Number {
-    let n = read_number(text, at);
-    Number {
-        negative: false,
-        magnitude: n.magnitude,
-        at: if n.negative { text.len() } else { n.at },
-    }
-}
-
-// The place behind the next line feed, or the text's end.
-pub fn next_line(text: &[u8], at: usize) -> usize {
-    let mut i = at;
-    while i < text.len() {
-        if text[i] == b'\n' {
-            return i + 1;
-        }
-        i = i + 1;
-    }
-    i
-}
-
-// The place behind the next line with a tag, or the text's end.
-pub fn behind_line(text: &[u8], at: usize, tag: u8) -> usize {
-    let mut is_start = true;
-    let mut i = at;
-    while i < text.len() {
-        let b = text[i];
-        if is_start && b == tag {
-            return next_line(text, i);
-        }
-        is_start = b == b'\n';
-        i += 1;
-    }
-    i
-}
-
-// Whether a line is a tag and these numbers.
-pub fn is_line_of(text: &[u8], at: usize, tag: u8, numbers: &[u64]) -> bool {
-    let mut place = behind(text, at);
-    let mut same = byte(text, at) == tag;
-    let mut i: usize = 0;
-    while i < numbers.len() {
-        let n = read_number(text, place);
-        if byte(text, place) != b' ' || n.negative || n.magnitude != numbers[i] {
-            same = false;
-        }
-        place = n.at;
-        i += 1;
-    }
-    same && byte(text, place) == b'\n'
-}
-
-// Whether a line `z` is the last one and has a number.
-fn is_closing(text: &[u8], at: usize, lines: u32) -> bool {
-    let n = read_natural(text, behind(text, at));
-    let end = n.at;
-    n.magnitude == lines as u64 && byte(text, end) == b'\n' && behind(text, end) == text.len()
-}
-
-// One more, up to the largest.
-pub fn one_more(n: u32) -> u32 {
-    if n < 4294967295 { n + 1 } else { n }
-}
-
-// Whether the text is a whole list: its last line is `z` and the number of lines before it, comments not counted.
-pub fn is_whole_list(text: &[u8]) -> bool {
-    let mut lines: u32 = 0;
-    let mut is_start = true;
-    let mut i: usize = 0;
-    while i < text.len() {
-        let b = text[i];
-        if is_start && b == b'z' {
-            return is_closing(text, i, lines);
-        }
-        if is_start && b != b'#' {
-            lines = one_more(lines);
-        }
-        is_start = b == b'\n';
-        i += 1;
-    }
-    false
-}
-
-// The number as 32 signed bits, 0 where it does not fit.
-fn signed(n: Number) -> i32 {
-    if n.magnitude > 2147483647 {
-        if n.magnitude == 2147483648 && n.negative {
-            return -2147483648;
-        }
-        return 0;
-    }
-    let m = n.magnitude as i32;
-    if n.negative { -m } else { m }
-}
-
-// The number as a coordinate; one that does not fit is none, as for `read_number`.
-pub fn as_coordinate(text: &[u8], n: Number) -> Coordinate {
-    if (n.magnitude < 2147483648) | (n.negative & (n.magnitude == 2147483648)) {
-        return Coordinate {
-            value: signed(n),
-            at: n.at,
+    // Goes on behind the next line feed, or to the text's end.
+    pub fn next_line(&mut self)
+        ensures { length self.new.rest.now ≤ length self.old.rest.now - 1 }
+    {
+        self.rest = match self.rest.iter().position(|b| *b == b'\n') {
+            Some(end) => &self.rest[end + 1..],
+            None => &[],
         };
     }
-    Coordinate {
-        value: 0,
-        at: text.len(),
-    }
-}
 
-pub fn read_coordinate(text: &[u8], at: usize) -> Coordinate {
-    as_coordinate(text, read_number(text, at))
-}
+    // Goes on behind the next line with a tag, or to the text's end.
+    pub fn behind_line(&mut self, tag: u8)
+        ensures { length self.new.rest.now ≤ length self.old.rest.now - 1 }
+    {
+        while let Some(first) = self.peek() {
+            self.next_line();
+            if first == tag {
+                return;
+            }
+        }
+    }
 
-// The number as 32 bits; one that does not fit is none, as for `read_number`.
-pub fn as_word(text: &[u8], n: Number) -> Word {
-    if n.negative {
-        return Word {
-            value: 0,
-            at: text.len(),
-        };
+    // A line that must be a tag and these numbers.
+    pub fn line_of<T: Copy + Into<Number>>(
+        &mut self,
+        tag: u8,
+        numbers: &[T],
+    ) -> Result<(), Failure> {
+        self.take(tag)?;
+        for due in numbers {
+            let due: Number = (*due).into();
+            demand(self.peek() == Some(b' ') && self.number()? == due)?;
+        }
+        self.take(b'\n')
     }
-    if n.magnitude > 4294967295 {
-        return Word {
-            value: 0,
-            at: text.len(),
-        };
-    }
-    Word {
-        value: n.magnitude as u32,
-        at: n.at,
-    }
-}
 
-pub fn read_word(text: &[u8], at: usize) -> Word {
-    as_word(text, read_number(text, at))
+    // What is left must be the line `z` with a number.
+    fn closing(&mut self, lines: u64) -> Result<(), Failure> {
+        self.take(b'z')?;
+        demand(self.entry::<u64>()? == lines)?;
+        self.take(b'\n')?;
+        demand(self.rest.is_empty())
+    }
+
+    // Whether the text is a whole list: its last line is `z` and the number of lines before it, comments not counted.
+    pub fn is_whole_list(mut self) -> bool {
+        let mut lines: u64 = 0;
+        while let Some(tag) = self.peek() {
+            if tag == b'z' {
+                return self.closing(lines).is_ok();
+            }
+            if tag != b'#' {
+                lines = lines.saturating_add(1);
+            }
+            self.next_line();
+        }
+        false
+    }
 }
 
 // A double from its 64 bits, a NaN for every pattern of one.
 pub fn double(bits: u64) -> f64 {
     if bits % 0x8000_0000_0000_0000 > 0x7ff0_0000_0000_0000 {
-        let zero = 0.0;
-        return zero / zero;
+        return f64::NAN;
     }
     f64::from_bits(bits)
 }

@@ -1,4 +1,5 @@
 -- The two numbers as they are found, and the call's answers. Assumes nothing.
+use Rattle.std.specs.Prelude.{Ok, Err}
 use mathlib.Core.Bool.{Bool, not}
 use mathlib.Core.List.{List}
 use mathlib.Core.Path.{◌≡◌, refl, sym, ◌∙◌, ap, ap₂, subst}
@@ -16,10 +17,10 @@ use Rattle.int128.specs.CubicMetres.{cubic_metres_of}
 use Rattle.int128.specs.Int128.{int128_of}
 use Rattle.int128.proofs.Int128LawsFacts.{halves_are}
 use Rattle.mesh.specs.declared.Counts.{Counts}
-use Rattle.mesh_check.specs.declared.Checked.{Checked}
+use Rattle.mesh_check.specs.Checked.{Checked}
 use Rattle.mesh_check.specs.declared.Refusal.{Refusal}
 use Rattle.volume.specs.declared.DigitSums.{DigitSums}
-use Rattle.volume.specs.declared.Measured.{Measured}
+use Rattle.volume.specs.Measured.{Measured}
 use Rattle.volume.specs.declared.Volumes.{Volumes}
 use Rattle.volume.specs.DigitSums.{whole_of, SmallSums}
 use Rattle.volume.specs.Measurable.{Measurable, face_sums}
@@ -49,16 +50,16 @@ module _ {C : Counts} {p z : List ℤ} {h a : List ℕ} {level : ℤ} (M : Measu
 
 -- ---- the call. t: the level is in range
 module _ (C : Counts) (m : MeshRows) (z : List ℤ) (level : ℤ) {t : Bool} (v : t ≡ is_valid_height level) where
-  pub refused-volume : {r : Refusal} → surface_checked (not t) C (surface_rows m z) ≡ Checked.Refused r
-      → Measured.Refused r ≡ volume_of C (surface_rows m z) level
+  pub refused-volume : {r : Refusal} → surface_checked (not t) C (surface_rows m z) ≡ Err r
+      → Err r ≡ volume_of C (surface_rows m z) level
   unfolding volume_of measured_of
   refused-volume e = rw (← v, e) refl
 
-  module _ (e : surface_checked (not t) C (surface_rows m z) ≡ Checked.Accepted) where
+  module _ (e : surface_checked (not t) C (surface_rows m z) ≡ Ok tt) where
     pub measurable : Measurable C m.positions z m.halves m.faces level
     measurable = checked-measurable C m z level (rw v at e)
 
     pub accepted-volume : {w : Volumes} → w ≡ volumes_of (six_volumes_of C (links_in m) (places_in m) (height_of z) level)
-        → Measured.Accepted w ≡ volume_of C (surface_rows m z) level
+        → Ok w ≡ volume_of C (surface_rows m z) level
     unfolding volume_of measured_of
     accepted-volume k = rw (← v, e, ← k) refl

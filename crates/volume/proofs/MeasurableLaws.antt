@@ -1,5 +1,5 @@
 -- The rows of an accepted mesh can be measured, and the sums over its faces make up six times its volume. Assumes nothing.
-use Rattle.std.specs.Prelude.{not, List, [], ◌≡◌, ℤ, pos, nat_abs, length, ◌≤ℤ◌}
+use Rattle.std.specs.Prelude.{not, List, [], ◌≡◌, ℤ, pos, nat_abs, length, ◌≤ℤ◌, Ok}
 use Rattle.std.proofs.Common.{◌∙◌, le_refl, lt_of_lt_of_le}
 use Rattle.std.proofs.Math.Path.{ap, ap₂}
 use Prim.Native.Nat.{ℕ, suc, ◌+◌, ◌-◌, ◌*◌, ◌<◌, ◌≤◌}
@@ -17,7 +17,7 @@ use Rattle.mesh.specs.declared.Counts.{Counts}
 use Rattle.mesh.specs.Area.{at_corners}
 use Rattle.mesh.proofs.CountsLaws.{halves-fit, faces-fit}
 use Rattle.mesh.specs.Mesh.{Links}
-use Rattle.mesh_check.specs.declared.Checked.{Checked}
+use Rattle.mesh_check.specs.Checked.{Checked}
 use Rattle.mesh_check.specs.Accepted.{AcceptedMesh}
 use Rattle.volume.specs.declared.DigitSums.{DigitSums}
 use Rattle.volume.specs.DigitSums.{plus_triangle, whole_of, SmallSums}
@@ -125,7 +125,7 @@ module _ {C : Counts} {m : MeshRows} (A : AcceptedMesh C m) (z : List ℤ) (leve
 
 -- where the checks refuse nothing
 module _ (C : Counts) (m : MeshRows) (z : List ℤ) (level : ℤ)
-    (e : surface_checked (not (is_valid_height level)) C (surface_rows m z) ≡ Checked.Accepted) where
+    (e : surface_checked (not (is_valid_height level)) C (surface_rows m z) ≡ Ok tt) where
   accepted : AcceptedMesh C m × HeightsAccepted (mesh_lent (not (is_valid_height level))) C (surface_rows m z)
   accepted = surface-accepts (not (is_valid_height level)) C (surface_rows m z) e
 

@@ -1,3 +1,4 @@
+pub mod Measured
 pub mod Volume
 pub mod DigitSums
 pub mod Measurable

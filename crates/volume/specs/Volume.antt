@@ -1,6 +1,6 @@
 -- Six times the signed volume between a mesh with heights and a level, and the call `volume`. Definitions only; the laws
 -- are in `VolumeLaws`.
-use Rattle.std.specs.Prelude.{not, ℕ, suc, ◌-◌, ℤ, pos, ◌+ℤ◌, ◌-ℤ◌, ◌*ℤ◌}
+use Rattle.std.specs.Prelude.{not, ℕ, suc, ◌-◌, ℤ, pos, ◌+ℤ◌, ◌-ℤ◌, ◌*ℤ◌, Ok, Err}
 use Rattle.dcel.specs.MeshRows.{links_in, places_in}
 use Rattle.heights.specs.Heights.{SurfaceRows, heights_in, is_valid_height, surface_checked}
 use Rattle.int128.specs.CubicMetres.{cubic_metres_of}
@@ -10,9 +10,9 @@ use Rattle.math.specs.Determinant.{orient2d}
 use Rattle.mesh.specs.declared.Counts.{Counts}
 use Rattle.mesh.specs.Mesh.{Links}
 use Rattle.mesh.specs.Area.{at_corners}
-use Rattle.mesh_check.specs.declared.Checked.{Checked}
+use Rattle.mesh_check.specs.Checked.{Checked}
 use Rattle.sums.specs.Sum.{sum}
-use Rattle.volume.specs.declared.Measured.{Measured}
+use Rattle.volume.specs.Measured.{Measured}
 use Rattle.volume.specs.declared.Volumes.{Volumes}
 
 -- ---- of a mesh
@@ -35,8 +35,8 @@ unfoldable pub volumes_of : ℤ → Volumes
 volumes_of six = record { six_volumes = in_halves six; cubic_metres = cubic_metres_of six }
 
 unfoldable pub measured_of : Checked → Volumes → Measured
-measured_of (Checked.Refused r) v = Measured.Refused r
-measured_of Checked.Accepted v = Measured.Accepted v
+measured_of (Err r) v = Err r
+measured_of (Ok _) v = Ok v
 
 -- the call `volume`: refusals 1, 2, 3, 10, 4 and 5, and 10 is given for "a height or level outside"
 unfoldable pub volume_of : Counts → SurfaceRows → ℤ → Measured

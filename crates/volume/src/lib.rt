@@ -15,19 +15,13 @@ ghost use Rattle.volume.specs.Volume.{above_level, six_volumes_of, volumes_of, v
 
 use int128::Int128;
 use mesh::Counts;
-use mesh_check::{Checked, Refusal};
+use mesh_check::Refusal;
 
 // Six times the volume in cubic millimetres, and the volume in cubic metres.
 #[derive(Clone, Copy)]
 pub struct Volumes {
     pub six_volumes: Int128,
     pub cubic_metres: i64,
-}
-
-#[derive(Clone, Copy)]
-pub enum Measured {
-    Accepted(Volumes),
-    Refused(Refusal),
 }
 
 // Over triangles: the heights above the level times each of the three digits, base 2 ^ 17, of the doubled area. No sum of
@@ -116,17 +110,14 @@ fn add_faces(
     ensures { (o : List ℕ) → result ≡ face_sums (counts.faces - 1) (links_of o halves.now faces.now)
         (position_of positions.now) (height_of heights.now) level }
 {
-    let count = counts.faces;
     let mut sums = DigitSums {
         low: 0,
         middle: 0,
         high: 0,
     };
-    let mut f: u32 = 1;
-    while f < count {
+    for f in 1..counts.faces {
         let a = dcel::adjacent(faces, f);
         sums = add_face(sums, positions, heights, halves, level, a);
-        f += 1;
     }
     sums
 }
@@ -171,16 +162,12 @@ pub fn volume(
     halves: &[u32],
     faces: &[u32],
     level: i32,
-) -> Measured
+) -> Result<Volumes, Refusal>
     ensures { result ≡ volume_of counts
         (surface_rows (mesh_rows positions.now outs.now halves.now faces.now)
         heights.now) level }
 {
     let outside = !heights::validate_height(level);
-    match heights::check_surface(outside, counts, positions, heights, outs, halves, faces) {
-        Checked::Refused(r) => Measured::Refused(r),
-        Checked::Accepted => Measured::Accepted(measure(
-            positions, heights, halves, faces, counts, level,
-        )),
-    }
+    heights::check_surface(outside, counts, positions, heights, outs, halves, faces)?;
+    Ok(measure(positions, heights, halves, faces, counts, level))
 }

@@ -3,8 +3,6 @@
 use mathlib.Core.Bool.{Bool, true, false, not, ◌&&◌, ◌||◌}
 use mathlib.Core.Path.{◌≡◌, refl, sym, ◌∙◌, ap}
 use Prim.Native.Nat.{ℕ, ◌+◌}
-use native.Mathlib.Omega.{arith}
-use borrow.Author.Tests.{not-true, not-false}
 use lib.Dec.{T, eqb}
 use lib.Ieee.{Float}
 use lib.IntN.{ℤ, pos}
@@ -12,14 +10,13 @@ use lib.Signed.{lt_z, le_z}
 use Rattle.algebra.proofs.Test.{le_read}
 use Rattle.angle.specs.Angle.{angle_about, at_center, turns}
 use Rattle.math.specs.declared.Point.{Point}
-use Rattle.math.specs.Determinant.{orient2d}
 use Rattle.ring.specs.Ring.{proper}
-use Rattle.ring.specs.Chain.{behind, covered_if}
+use Rattle.ring.specs.Chain.{covered_if}
 use Rattle.ring.specs.declared.Side.{Side}
 use Rattle.ring.specs.declared.Side.TheVariants.{Left, Right}
 use Rattle.sums.specs.Bit.{bit}
 use Rattle.walks.specs.declared.BoundaryVertex.{BoundaryVertex}
-use Rattle.walks.specs.Walks.{cover_test}
+use Rattle.walks.specs.Walks.{area_on, behind_on, cover_test}
 
 unseen : (x : Bool) {s : Bool} → s ≡ false → false ≡ (x && s)
 unseen true z = sym z
@@ -35,40 +32,31 @@ level {w = w} x y g = g ∙ rw (x, y) (same w)
     same true = refl
     same false = refl
 
--- the edge's area with the point, and whether the point is behind it
-abbrev area_on : Side → Point → BoundaryVertex → Point → ℤ
-area_on Left far near v = orient2d far near.position v
-area_on Right far near v = orient2d near.position far v
-
-abbrev behind_on : Side → Point → BoundaryVertex → Point → Bool
-behind_on Left far near v = behind Left far near.position v
-behind_on Right far near v = behind Right near.position far v
-
 module _ (side : Side) (far : Point) (near : BoundaryVertex) (v : Point) (a : Float) where
-  cover-is : covered_if (behind_on side far near v) (turns a) (turns near.angle) (lt_z (pos 0) (area_on side far near v))
+  cover-is : covered_if (behind_on side far near.position v) (turns a) (turns near.angle) (lt_z (pos 0) (area_on side far near.position v))
       ≡ cover_test side far near v a
   unfolding cover_test
   cover-is = go side
     where
-      go : (side : Side) → covered_if (behind_on side far near v) (turns a) (turns near.angle) (lt_z (pos 0) (area_on side far near v))
+      go : (side : Side) → covered_if (behind_on side far near.position v) (turns a) (turns near.angle) (lt_z (pos 0) (area_on side far near.position v))
           ≡ cover_test side far near v a
       go Left = refl
       go Right = refl
 
   -- the code reads the area as s, and whether the point is behind as k
-  module _ {s : ℤ} (i : s ≡ area_on side far near v) where
-    sees : {t : Bool} → le_z s (pos 0) ≡ t → lt_z (pos 0) (area_on side far near v) ≡ not t
+  module _ {s : ℤ} (i : s ≡ area_on side far near.position v) where
+    sees : {t : Bool} → le_z s (pos 0) ≡ t → lt_z (pos 0) (area_on side far near.position v) ≡ not t
     sees u = ap (lt_z (pos 0)) (sym i) ∙ le_read s (pos 0) u
 
     pub test-unseen : le_z s (pos 0) ≡ true → false ≡ cover_test side far near v a
-    test-unseen u = unseen (not (behind_on side far near v) || eqb (turns a) (turns near.angle)) (sees u) ∙ cover-is
+    test-unseen u = unseen (not (behind_on side far near.position v) || eqb (turns a) (turns near.angle)) (sees u) ∙ cover-is
 
-    module _ (u : le_z s (pos 0) ≡ false) {k : Bool} (j : k ≡ behind_on side far near v) where
-      pub test-ahead : not k ≡ true → true ≡ cover_test side far near v a
-      test-ahead w = ahead (eqb (turns a) (turns near.angle)) (sym j ∙ not-true k w) (sees u) ∙ cover-is
+    module _ (u : le_z s (pos 0) ≡ false) {k : Bool} (j : k ≡ behind_on side far near.position v) where
+      pub test-ahead : k ≡ false → true ≡ cover_test side far near v a
+      test-ahead w = ahead (eqb (turns a) (turns near.angle)) (sym j ∙ w) (sees u) ∙ cover-is
 
-      pub test-level : not k ≡ false → {t : Bool} → t ≡ eqb (turns a) (turns near.angle) → t ≡ cover_test side far near v a
-      test-level w g = level (sym j ∙ not-false k w) (sees u) g ∙ cover-is
+      pub test-level : k ≡ true → {t : Bool} → t ≡ eqb (turns a) (turns near.angle) → t ≡ cover_test side far near v a
+      test-level w g = level (sym j ∙ w) (sees u) g ∙ cover-is
 
 -- ---- the angle at a position, by the coordinates that the code reads
 module _ (p : Point) (cx cy : Float) {x y : ℤ} (x-is : x ≡ p.x) (y-is : y ≡ p.y) where
@@ -79,13 +67,6 @@ module _ (p : Point) (cx cy : Float) {x y : ℤ} (x-is : x ≡ p.x) (y-is : y �
   angle-read e = ap turns (e ∙ rw (x-is, y-is))
 
 -- ---- an edge whose ends have different angles has a node
-module _ (n x y : ℕ) {m : ℕ} {t : Bool} (e : t ≡ eqb x y) where
-  counted : m ≡ n + bit (not t) → m ≡ n + bit (proper x y)
-  unfolding proper
-  counted z = z ∙ ap (λ (b : Bool). n + bit (not b)) e
-
-  pub with_none : t ≡ true → m ≡ n → m ≡ n + bit (proper x y)
-  with_none z i = counted (let b = ap (λ (u : Bool). bit (not u)) z in omega arith)
-
-  pub with-node : t ≡ false → m ≡ n + 1 → m ≡ n + bit (proper x y)
-  with-node z i = counted (let b = ap (λ (u : Bool). bit (not u)) z in omega arith)
+pub counted : (n x y : ℕ) {m : ℕ} {t : Bool} → t ≡ eqb x y → m ≡ n + bit (not t) → m ≡ n + bit (proper x y)
+unfolding proper
+counted n x y e z = z ∙ ap (λ (b : Bool). n + bit (not b)) e

@@ -11,7 +11,7 @@ use Rattle.angle.specs.Angle.{IsAngle, turns, angle_about, valid_center}
 use Rattle.circle_test.specs.GoodRows.{GoodRows, held}
 use Rattle.dcel.specs.Rows.{halves_of, links_of, position_of, row_of, Placed}
 use Rattle.dcel.specs.MeshHeld.{there, there-rev, origin-in, to_in}
-use Rattle.hull.specs.Boundary.{AngleAt, AngledBoundary, origin_at_center, origin_turns, vertex_at_center}
+use Rattle.hull.specs.Boundary.{AngledBoundary, origin_at_center, origin_turns, vertex_at_center}
 use Rattle.hull.proofs.Ready.{angled-boundary, size_small}
 use Rattle.math.specs.declared.Point.{Point}
 use Rattle.math.specs.Determinant.{InRange}
@@ -37,7 +37,7 @@ use Rattle.sums.proofs.IterateLaws.{iter-add, iter-back, iter-last, inverse-sym}
 use Rattle.sums.specs.Tally.{tally, walk}
 use Rattle.sums.proofs.TallyLaws.{tally-add, tally-back, tally-ext, tally-first}
 use Rattle.walks.specs.declared.BoundaryVertex.{BoundaryVertex}
-use Rattle.walks.specs.Walks.{origin_position, OriginIn, EdgeAbout, ToRead, ReadAt, VertexAt, walk_test, walk_step, walk_edge}
+use Rattle.walks.specs.Walks.{origin_position, EdgeAbout, ToRead, ReadAt, VertexAt, walk_test, walk_step, walk_edge}
 use Rattle.walks.specs.Walks.{near_half, far_half, has_node, ToWalk, Covers}
 
 -- ---- a boundary vertex at the origin of a half-edge, whose position p was read

@@ -54,7 +54,17 @@ pub record VertexAt (q : List ℤ) (h : List ℕ) (cx cy : Float) (e : ℕ) (r :
   pub angle : AngleAt q h cx cy e r.angle
 
 -- ---- the tests of the two walks, for the point v and the angle a
--- where the edge's ends are read: `near` on the side of the located edge, and `far`
+-- the area of the edge between `far` and `near` with the point, and whether `far` is behind the edge between the point and `near`; `near` is
+-- the end on the side of the located edge
+abbrev pub area_on : Side → Point → Point → Point → ℤ
+area_on Left far near v = orient2d far near v
+area_on Right far near v = orient2d near far v
+
+abbrev pub behind_on : Side → Point → Point → Point → Bool
+behind_on Left far near v = behind Left far near v
+behind_on Right far near v = behind Right near far v
+
+-- where the edge's ends are read
 unfoldable pub cover_test : Side → Point → BoundaryVertex → Point → Float → Bool
 cover_test Left far near v a =
     covered_if (behind Left far near.position v) (turns a) (turns near.angle) (lt_z (pos 0) (orient2d far near.position v))

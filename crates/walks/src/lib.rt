@@ -5,12 +5,14 @@
 #![tactic(auto)]
 
 ghost use Rattle.std.specs.Prelude.{◌≡◌};
-ghost use Rattle.ring.specs.declared.Side.TheVariants.{Left, Right};
-ghost use Rattle.walks.specs.Walks.{origin_position, OriginIn, ToRead, ReadAt, ToCover, cover_test};
-ghost use Rattle.walks.specs.Walks.{ToExtend, Extended, ToWalk, WalkedTo};
+ghost use Rattle.dcel.specs.Rows.{There};
+ghost use Rattle.math.specs.Determinant.{InRange};
+ghost use Rattle.walks.specs.Walks.{origin_position, OriginIn, ToRead, ReadAt, area_on, behind_on, ToCover, cover_test};
+ghost use Rattle.walks.specs.Walks.{ToExtend, Extended, walk_step, far_half, ToWalk, WalkedTo};
 
 use angle::Point2;
 use math::Point;
+use ring::Side;
 
 // A boundary vertex as it was read: its position, and its angle about the centre.
 #[derive(Clone, Copy)]
@@ -41,39 +43,45 @@ fn boundary_vertex(position: Point, center: Point2) -> BoundaryVertex
     ensures { ReadAt position center.x center.y result }
 {
     BoundaryVertex {
-        position: position,
+        position,
         angle: angle::angle_about(position.x, position.y, center),
     }
 }
 
-// The test of the first loop, which goes against next: does a point with this angle cover the edge from `far` to `near`?
-fn covers_left(far: Point, near: BoundaryVertex, point: Point, angle: f64) -> bool
-    requires { ToCover far near point angle }
-    ensures { result ≡ cover_test Left far near point angle }
+// The side query of the point and the edge between `far` and `near`, which goes to `near` on the left and from it on the right.
+fn side_query(side: Side, far: Point, near: Point, point: Point) -> i64
+    requires { InRange far × InRange near × InRange point }
+    ensures { result ≡ area_on side far near point }
 {
-    let to = near.position;
-    if math::side_query(far, to, point) <= 0 {
+    match side {
+        Side::Left => math::side_query(far, near, point),
+        Side::Right => math::side_query(near, far, point),
+    }
+}
+
+// Whether `far` is behind the edge between the point and `near`, which goes the same way.
+fn is_behind_edge(side: Side, far: Point, near: Point, point: Point) -> bool
+    requires { InRange far × InRange near × InRange point }
+    ensures { result ≡ behind_on side far near point }
+{
+    match side {
+        Side::Left => math::is_behind_edge(point, near, far),
+        Side::Right => math::is_behind_edge(near, point, far),
+    }
+}
+
+// The test of both loops: does a point with this angle cover the edge between `far` and `near`?
+fn covers(side: Side, far: Point, near: BoundaryVertex, point: Point, angle: f64) -> bool
+    requires { ToCover far near point angle }
+    ensures { result ≡ cover_test side far near point angle }
+{
+    if side_query(side, far, near.position, point) <= 0 {
         return false;
     }
-    if !math::is_behind_edge(point, to, far) {
+    if !is_behind_edge(side, far, near.position, point) {
         return true;
     }
     // Prevents inserting the same angle twice into the hull.
-    angle::equal(angle, near.angle)
-}
-
-// The test of the second loop, which goes along next: the edge is from `near` to `far`.
-fn covers_right(far: Point, near: BoundaryVertex, point: Point, angle: f64) -> bool
-    requires { ToCover far near point angle }
-    ensures { result ≡ cover_test Right far near point angle }
-{
-    let from = near.position;
-    if math::side_query(from, far, point) <= 0 {
-        return false;
-    }
-    if !math::is_behind_edge(from, point, far) {
-        return true;
-    }
     angle::equal(angle, near.angle)
 }
 
@@ -83,21 +91,40 @@ fn extend(end: WalkEnd, far: Point, center: Point2) -> WalkEnd
     ensures { Extended end far center.x center.y result }
 {
     let vertex = boundary_vertex(far, center);
-    let near = end.vertex;
-    let nodes = if angle::equal(near.angle, vertex.angle) {
-        end.nodes
-    } else {
-        end.nodes + 1
-    };
+    let has_node = !angle::equal(end.vertex.angle, vertex.angle);
     WalkEnd {
         count: end.count + 1,
-        nodes: nodes,
-        vertex: vertex,
+        nodes: end.nodes + u32::from(has_node),
+        vertex,
     }
 }
 
-// Against next from e, at whose origin it starts: the edges that the point covers before e.
-pub fn walk_left(
+// The boundary edge after d on a walk.
+fn step(side: Side, halves: &[u32], d: u32) -> u32
+    requires { There halves.now d }
+    ensures { result ≡ walk_step side halves.now d }
+{
+    match side {
+        Side::Left => dcel::prev(halves, d),
+        Side::Right => dcel::next(halves, d),
+    }
+}
+
+// The position at the far end of an edge of a walk.
+fn far_position(side: Side, positions: &[i32], halves: &[u32], d: u32) -> Point
+    requires { OriginIn positions.now halves.now (far_half side d) }
+    ensures { result ≡ origin_position positions.now halves.now (far_half side d) }
+{
+    match side {
+        Side::Left => origin_position(positions, halves, d),
+        Side::Right => origin_position(positions, halves, dcel::rev(d)),
+    }
+}
+
+// A walk from e, on the left against next, from e's origin on, and on the right along next, from its end on: the edges on that side that
+// the point covers.
+pub fn walk(
+    side: Side,
     positions: &[i32],
     halves: &[u32],
     e: u32,
@@ -106,48 +133,20 @@ pub fn walk_left(
     angle: f64,
     center: Point2,
 ) -> WalkEnd
-    requires { ToWalk Left positions.now halves.now center.x center.y point angle e start }
-    ensures { WalkedTo Left positions.now halves.now center.x center.y point angle e result }
+    requires { ToWalk side positions.now halves.now center.x center.y point angle e start }
+    ensures { WalkedTo side positions.now halves.now center.x center.y point angle e result }
 {
     let mut end = WalkEnd {
         count: 0,
         nodes: 0,
         vertex: start,
     };
-    let mut d = dcel::prev(halves, e);
-    let mut far = origin_position(positions, halves, d);
-    while covers_left(far, end.vertex, point, angle) {
+    let mut d = step(side, halves, e);
+    let mut far = far_position(side, positions, halves, d);
+    while covers(side, far, end.vertex, point, angle) {
         end = extend(end, far, center);
-        d = dcel::prev(halves, d);
-        far = origin_position(positions, halves, d);
-    }
-    end
-}
-
-// Along next from e, at whose end it starts: the edges that the point covers after e.
-pub fn walk_right(
-    positions: &[i32],
-    halves: &[u32],
-    e: u32,
-    start: BoundaryVertex,
-    point: Point,
-    angle: f64,
-    center: Point2,
-) -> WalkEnd
-    requires { ToWalk Right positions.now halves.now center.x center.y point angle e start }
-    ensures { WalkedTo Right positions.now halves.now center.x center.y point angle e result }
-{
-    let mut end = WalkEnd {
-        count: 0,
-        nodes: 0,
-        vertex: start,
-    };
-    let mut d = dcel::next(halves, e);
-    let mut far = origin_position(positions, halves, dcel::rev(d));
-    while covers_right(far, end.vertex, point, angle) {
-        end = extend(end, far, center);
-        d = dcel::next(halves, d);
-        far = origin_position(positions, halves, dcel::rev(d));
+        d = step(side, halves, d);
+        far = far_position(side, positions, halves, d);
     }
     end
 }

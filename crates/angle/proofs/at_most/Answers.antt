@@ -1,4 +1,4 @@
--- `angle::at_most` meets its contract, by the law `angle-le` of `specs/Laws.antt`. Assumes nothing.
+-- `angle::at_most` meets its contract, by the law `angle-le`. Assumes nothing.
 use Rattle.angle.proofs.Laws.{angle-le}
 use Rattle.angle.proofs.at_most.Goals as goal
 

@@ -1,4 +1,4 @@
--- `angle::equal` meets its contract, by the law `angle-eq` of `specs/Laws.antt`. Assumes nothing.
+-- `angle::equal` meets its contract, by the law `angle-eq`. Assumes nothing.
 use Rattle.angle.proofs.Laws.{angle-eq}
 use Rattle.angle.proofs.equal.Goals as goal
 

@@ -1,4 +1,4 @@
--- `angle::less` meets its contract, by the law `angle-lt` of `specs/Laws.antt`. Assumes nothing.
+-- `angle::less` meets its contract, by the law `angle-lt`. Assumes nothing.
 use Rattle.angle.proofs.Laws.{angle-lt}
 use Rattle.angle.proofs.less.Goals as goal
 

@@ -1,5 +1,4 @@
 -- `answers::answers_short` meets its contract. Assumes nothing.
-use borrow.Author.Rules.{rules}
 use mathlib.Core.Path.{◌∙◌, ap}
 use Prim.Native.Nat.{◌/◌}
 use lib.Dec.{ltb}

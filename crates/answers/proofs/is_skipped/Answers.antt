@@ -3,7 +3,6 @@ use mathlib.Core.Path.{refl}
 use borrow.Author.Tests.{le-leb, lt-leb}
 use Rattle.dcel.specs.Rows.{row_of}
 use Rattle.answers.specs.AnswerRows.{skipped_number}
-use borrow.Author.Rules.{rules}
 use Rattle.answers.proofs.is_skipped.Goals as goal
 
 pub returns-then-fate-ge3 : goal.returns-then-fate-ge3

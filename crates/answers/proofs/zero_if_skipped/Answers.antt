@@ -1,15 +1,12 @@
 -- `answers::zero_if_skipped` meets its contract. Assumes nothing.
 use mathlib.Core.Path.{refl, ◌∙◌, sym}
-use borrow.Author.Tests.{not-true, not-false}
-use native.Mathlib.Omega.{arith}
 use Rattle.answers.specs.AnswerRows.{zeroed_at}
-use borrow.Author.Rules.{rules}
 use Rattle.answers.proofs.zero_if_skipped.Goals as goal
 
-pub returns-then-not-is_skipped : goal.returns-then-not-is_skipped
+pub returns-else-is_skipped : goal.returns-else-is_skipped
 unfolding zeroed_at
-returns-then-not-is_skipped c = rw (sym c.is_skipped.ensures ∙ not-true _ c.if-not-is_skipped.true-raw) refl
+returns-else-is_skipped c = rw (sym c.is_skipped.ensures ∙ c.if-is_skipped.false) refl
 
-pub returns : goal.returns
+pub returns-then-is_skipped : goal.returns-then-is_skipped
 unfolding zeroed_at
-returns c = c.store_words.ensures ∙ rw (sym c.is_skipped.ensures ∙ not-false _ c.if-not-is_skipped.false-raw) refl
+returns-then-is_skipped c = c.store_words.ensures ∙ rw (sym c.is_skipped.ensures ∙ c.if-is_skipped.true) refl

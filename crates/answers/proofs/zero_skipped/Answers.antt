@@ -1,8 +1,6 @@
 -- `answers::zero_skipped` meets its contract. Assumes nothing.
-use Prim.Native.Nat.{◌-◌}
-use borrow.Author.Rules.{rules}
 use native.Mathlib.Omega.{arith}
-use Rattle.answers.specs.AnswerLaws.{SkippedZeroing, skipped-starts, skipped-on, skipped-end}
+use Rattle.answers.specs.AnswerLaws.{skipped-starts, skipped-on, skipped-end}
 use Rattle.answers.proofs.zero_skipped.Goals as goal
 
 pub loop-i-init : goal.loop-i-init
@@ -11,14 +9,8 @@ loop-i-init c = skipped-starts _ c.requires.0 c.requires.1
 pub zero_if_skipped-requires : goal.zero_if_skipped-requires
 zero_if_skipped-requires c = let i = c.loop-i.invariant in omega (arith, i.room, i.same)
 
-pub overflow_add-i : goal.overflow_add-i
-overflow_add-i c = record { fits = omega arith }
-
 pub loop-i-preserved : goal.loop-i-preserved
-loop-i-preserved c = skipped-on c.loop-i.invariant c.loop-i-test.true _ c.zero_if_skipped.ensures c.zero_if_skipped.auto.answers
-
-pub shape_of-answers : goal.shape_of-answers
-shape_of-answers c = c.loop-i.invariant.same
+loop-i-preserved c = skipped-on c.loop-i.invariant (omega arith) _ c.zero_if_skipped.ensures c.zero_if_skipped.auto.answers
 
 pub returns : goal.returns
-returns c = skipped-end c.loop-i.invariant c.loop-i-test.false
+returns c = skipped-end c.loop-i.invariant (omega arith)

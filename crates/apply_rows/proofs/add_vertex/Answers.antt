@@ -1,7 +1,6 @@
 -- `apply_rows::add_vertex` meets its contract. Assumes nothing.
 use mathlib.Core.Path.{◌∙◌}
 use native.Mathlib.Omega.{arith}
-use Rattle.corner.specs.RowsLaws.{SameLengths}
 use Rattle.apply_rows.proofs.AddRows.{numbers_fit, first-ready, left-ready, right-ready, added-rows}
 use Rattle.apply_rows.proofs.add_vertex.Goals as goal
 

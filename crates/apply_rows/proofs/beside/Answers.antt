@@ -1,6 +1,4 @@
 -- `apply_rows::beside` meets its contract. Assumes nothing.
-use borrow.Author.Rules.{rules}
-use mathlib.Core.Path.{◌∙◌}
 use Rattle.apply.specs.ApplyRows.{beside_in}
 use Rattle.apply_rows.proofs.beside.Goals as goal
 

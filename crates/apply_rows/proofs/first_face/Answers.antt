@@ -1,5 +1,4 @@
 -- `apply_rows::first_face` meets its contract. Assumes nothing.
-use borrow.Author.Rules.{rules}
 use Rattle.apply_rows.proofs.FirstRows.{new-ready, legalize-first, first-row}
 use Rattle.apply_rows.proofs.first_face.Goals as goal
 

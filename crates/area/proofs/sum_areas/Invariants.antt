@@ -8,7 +8,4 @@ use Rattle.area.proofs.sum_areas.Given as goal
 
 abbrev pub invariant-loop-f : goal.invariant-loop-f
 invariant-loop-f l =
-    (0 < l.f) × (l.f ≤ l.count) × ((o : List ℕ) → l.total ≡ in_halves (areas_to (l.f - 1) l.positions o l.halves l.faces))
-
-abbrev pub decreases-loop-f : goal.decreases-loop-f
-decreases-loop-f l = l.count - l.f
+    (0 < l.f) × ((o : List ℕ) → l.total ≡ in_halves (areas_to (l.f - 1) l.positions o l.halves l.faces))

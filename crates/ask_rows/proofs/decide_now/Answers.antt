@@ -26,7 +26,7 @@ convex_hull_size-size-requires c = started-size c.requires.start
 pub located_edge-e-requires : goal.located_edge-e-requires
 located_edge-e-requires c = (
   quote-boundary c.requires.start c.adjacent-start.ensures,
-  carried c.vertex_angle.ensures.angle c.in-Angle.is,
+  carried c.vertex_angle.ensures.angle c.in-Some.is,
 )
 
 pub angle_at-from-requires : goal.angle_at-from-requires
@@ -46,7 +46,7 @@ pub decide_at-requires : goal.decide_at-requires
 decide_at-requires c =
     let px = to_z-of_z {w = w32} {z = c.args.point.x} (search rules) in
     let py = to_z-of_z {w = w32} {z = c.args.point.y} (search rules) in
-    asks_at _ _ c.vertex_angle.ensures.is px py c.in-Angle.is (carried c.vertex_angle.ensures.angle c.in-Angle.is)
+    asks_at _ _ c.vertex_angle.ensures.is px py c.in-Some.is (carried c.vertex_angle.ensures.angle c.in-Some.is)
     c.adjacent-start.ensures c.convex_hull_size-size.ensures c.located_edge-e.ensures
     c.next.ensures c.angle_at-from.ensures c.angle_at-to.ensures c.requires
 
@@ -54,5 +54,5 @@ pub returns : goal.returns
 returns c =
     let px = to_z-of_z {w = w32} {z = c.args.point.x} (search rules) in
     let py = to_z-of_z {w = w32} {z = c.args.point.y} (search rules) in
-    at-located _ _ c.vertex_angle.ensures.is px py c.in-Angle.is (carried c.vertex_angle.ensures.angle c.in-Angle.is)
+    at-located _ _ c.vertex_angle.ensures.is px py c.in-Some.is (carried c.vertex_angle.ensures.angle c.in-Some.is)
     c.adjacent-start.ensures c.convex_hull_size-size.ensures c.located_edge-e.ensures c.decide_at.ensures

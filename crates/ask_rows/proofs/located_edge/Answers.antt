@@ -8,8 +8,8 @@ use Rattle.ask_rows.proofs.located_edge.Goals as goal
 pub angle_at-from-requires : goal.angle_at-from-requires
 angle_at-from-requires c = angled 0 c.requires.0 refl
 
-pub loop-k-init : goal.loop-k-init
-loop-k-init c = record {
+pub loop-init : goal.loop-init
+loop-init c = record {
   boundary = c.requires.0;
   at = refl;
   most = omega arith;
@@ -18,29 +18,22 @@ loop-k-init c = record {
 }
 
 pub next-next-requires : goal.next-next-requires
-next-next-requires c = there c.loop-k.invariant
+next-next-requires c = there c.loop.invariant
 
 pub angle_at-to-requires : goal.angle_at-to-requires
-angle_at-to-requires c = next-angled c.loop-k.invariant c.next-next.ensures
+angle_at-to-requires c = next-angled c.loop.invariant c.next-next.ensures
 
 pub holds-requires : goal.holds-requires
 holds-requires c =
-    (c.loop-k.invariant.angle.is-angle, c.angle_at-to.ensures.is-angle, c.requires.1)
+    (c.loop.invariant.angle.is-angle, c.angle_at-to.ensures.is-angle, c.requires.1)
 
 pub returns-then-holds : goal.returns-then-holds
 returns-then-holds c =
-    found c.loop-k.invariant c.next-next.ensures c.angle_at-to.ensures c.holds.ensures c.loop-k-test.true c.if-holds.true
+    found c.loop.invariant c.next-next.ensures c.angle_at-to.ensures c.holds.ensures c.loop-test.true c.if-holds.true
 
-pub overflow_add-k : goal.overflow_add-k
-overflow_add-k c =
-    record { fits = let a = c.loop-k-test.true in let b = c.ranges.size in omega arith }
-
-pub loop-k-smaller : goal.loop-k-smaller
-loop-k-smaller c = let a = c.loop-k-test.true in omega arith
-
-pub loop-k-preserved : goal.loop-k-preserved
-loop-k-preserved c =
-    looking c.loop-k.invariant c.next-next.ensures c.angle_at-to.ensures c.holds.ensures c.loop-k-test.true c.if-holds.false
+pub loop-preserved : goal.loop-preserved
+loop-preserved c =
+    looking c.loop.invariant c.next-next.ensures c.angle_at-to.ensures c.holds.ensures c.loop-test.true c.if-holds.false
 
 pub returns : goal.returns
-returns c = not_found c.loop-k.invariant c.loop-k-test.false
+returns c = not_found c.loop.invariant c.loop-test.false

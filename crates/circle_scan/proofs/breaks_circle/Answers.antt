@@ -1,15 +1,15 @@
 -- `circle_scan::breaks_circle` meets its contract. Assumes nothing.
-use borrow.Author.Rules.{rules}
 use mathlib.Core.Path.{subst⁻¹}
 use Rattle.circle_test.specs.BreaksLaws.{outer-e, outer-t, inner}
 use Rattle.dcel.specs.Rows.{Placed}
 use Rattle.circle_scan.proofs.breaks_circle.Goals as goal
+use Rattle.circle_scan.proofs.breaks_circle.Goals.{then-face-eq0-via-then-face-eq0, then-face-eq0-via-else-face-eq0+then-face-eq0-2}
 
 pub returns-then-face-eq0 : goal.returns-then-face-eq0
-returns-then-face-eq0 c = outer-e _ _ _ c.face.ensures c.if-face-eq0.true
-
-pub returns-then-face-eq0-2 : goal.returns-then-face-eq0-2
-returns-then-face-eq0-2 c = outer-t _ _ _ c.face-2.ensures c.if-face-eq0-2.true
+returns-then-face-eq0 c = elim c.then-face-eq0.branch [
+  | then-face-eq0-via-then-face-eq0 w ↦ outer-e _ _ _ c.face.ensures w.if-face-eq0.true
+  | then-face-eq0-via-else-face-eq0+then-face-eq0-2 w ↦ outer-t _ _ _ w.face-else-face-eq0.ensures w.if-face-eq0-2.true
+]
 
 pub is_inside-requires : goal.is_inside-requires
 is_inside-requires c =
@@ -23,5 +23,5 @@ is_inside-requires c =
 pub returns : goal.returns
 returns c =
     let s = c.requires in
-    inner _ _ _ c.face.ensures c.if-face-eq0.false c.face-2.ensures c.if-face-eq0-2.false
+    inner _ _ _ c.face.ensures c.if-face-eq0.false c.face-else-face-eq0.ensures c.if-face-eq0-2.false
     c.origin-a.ensures c.origin-b.ensures s.1 s.2 c.is_inside.ensures

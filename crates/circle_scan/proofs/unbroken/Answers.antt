@@ -1,8 +1,7 @@
 -- `circle_scan::unbroken` meets its contract. Assumes nothing.
-use borrow.Author.Rules.{rules}
 use Prim.Native.Nat.{◌-◌}
 use native.Mathlib.Omega.{arith}
-use Rattle.circle_scan.specs.ScanLaws.{fars-ready, scan-part, unbroken-none}
+use Rattle.circle_scan.specs.ScanLaws.{fars-ready, unbroken-none}
 use Rattle.circle_scan.proofs.unbroken.Goals as goal
 
 pub returns-then-u-ne0 : goal.returns-then-u-ne0

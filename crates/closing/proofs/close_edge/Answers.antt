@@ -1,6 +1,5 @@
 -- `closing::close_edge` meets its contract: by whether the edge breaks the circle rule. Assumes nothing.
 use mathlib.Core.Path.{refl}
-use borrow.Author.Rules.{rules}
 use Rattle.closing.proofs.Loops.{edge-flipped, edge_kept}
 use Rattle.closing.proofs.close_edge.Goals as goal
 

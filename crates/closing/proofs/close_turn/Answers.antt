@@ -1,7 +1,6 @@
 -- `closing::close_turn` meets its contract. The loop's invariant: the edges below u are done. The measure is what is left of the edges. Assumes nothing.
-use Prim.Native.Nat.{◌-◌}
 use native.Mathlib.Omega.{arith}
-use Rattle.closing.proofs.Loops.{TurnAt, turn-starts, scannable, edge-ready, turn-over, turn_on, turn-ends}
+use Rattle.closing.proofs.Loops.{turn-starts, scannable, edge-ready, turn-over, turn_on, turn-ends}
 use Rattle.closing.proofs.close_turn.Goals as goal
 
 pub loop-u-init : goal.loop-u-init

@@ -1,7 +1,6 @@
 -- The loop of `closing::close_turn`.
 use Prim.Native.Nat.{◌-◌}
-use native.Mathlib.Omega.{arith}
-use Rattle.closing.proofs.Loops.{TurnAt, turn-starts, scannable, edge-ready, turn-over, turn_on, turn-ends}
+use Rattle.closing.proofs.Loops.{TurnAt}
 use Rattle.closing.proofs.close_turn.Given as goal
 
 abbrev pub invariant-loop-u : goal.invariant-loop-u

@@ -9,6 +9,6 @@ pub returns-then-is_counted : goal.returns-then-is_counted
 unfolding commit_changes
 returns-then-is_counted c = rw (sym c.is_counted.ensures ∙ c.if-is_counted.true) refl
 
-pub returns : goal.returns
+pub returns-else-is_counted : goal.returns-else-is_counted
 unfolding commit_changes
-returns c = rw (sym c.is_counted.ensures ∙ c.if-is_counted.false) (omega arith)
+returns-else-is_counted c = rw (sym c.is_counted.ensures ∙ c.if-is_counted.false) (omega arith)

@@ -7,11 +7,11 @@ use Rattle.commit.specs.Commit.{is_counted}
 use borrow.Author.Rules.{rules}
 use Rattle.commit.proofs.is_counted.Goals as goal
 
-pub returns-in-Accepted : goal.returns-in-Accepted
+pub returns-in-Ok : goal.returns-in-Ok
 unfolding is_counted
-returns-in-Accepted c =
-    ap (λ (n : ℕ). eqb n 1) c.fate_number.ensures ∙ number-added _ ∙ ap is_counted (sym c.in-Accepted.is)
+returns-in-Ok c =
+    ap (λ (n : ℕ). eqb n 1) c.fate_number.ensures ∙ number-added _ ∙ ap is_counted (sym c.in-Ok.is)
 
-pub returns-in-Refused : goal.returns-in-Refused
+pub returns-in-Err : goal.returns-in-Err
 unfolding is_counted
-returns-in-Refused c = ap is_counted (sym c.in-Refused.is)
+returns-in-Err c = ap is_counted (sym c.in-Err.is)

@@ -8,6 +8,6 @@ pub returns-then-is_made : goal.returns-then-is_made
 unfolding run_changes
 returns-then-is_made c = rw (sym c.is_made.ensures ∙ c.if-is_made.true) refl
 
-pub returns : goal.returns
+pub returns-else-is_made : goal.returns-else-is_made
 unfolding run_changes
-returns c = rw (sym c.is_made.ensures ∙ c.if-is_made.false) refl
+returns-else-is_made c = rw (sym c.is_made.ensures ∙ c.if-is_made.false) refl

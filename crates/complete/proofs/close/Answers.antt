@@ -1,7 +1,6 @@
 -- `complete::close` meets its contract. Assumes nothing.
 use mathlib.Core.Path.{refl}
 use Rattle.complete.proofs.CloseLaws.{close-refused, close-made}
-use borrow.Author.Rules.{rules}
 use Rattle.complete.proofs.close.Goals as goal
 
 pub returns-then-filled : goal.returns-then-filled

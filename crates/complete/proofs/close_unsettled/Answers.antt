@@ -1,5 +1,4 @@
 -- `complete::close_unsettled` meets its contract. Assumes nothing.
-use borrow.Author.Rules.{rules}
 use Rattle.sums.proofs.BitLaws.{from-true}
 use Rattle.complete.proofs.SettledLaws.{closing-left-out}
 use Rattle.complete.proofs.close_unsettled.Goals as goal

@@ -1,10 +1,8 @@
 -- `complete::complete_after` meets its contract. Assumes nothing.
-use borrow.Author.Rules.{rules}
 use mathlib.Core.Path.{◌∙◌}
 use native.Mathlib.Omega.{arith}
 use Rattle.complete.proofs.CompleteLaws.{refused-before, passes-ready, refused-in, fill-ready, zeros-ready, closed_after}
 use Rattle.complete.proofs.FillLoopLaws.{filled-rows}
-use Rattle.complete.proofs.NearLaws.{to-prepare}
 use Rattle.complete.proofs.complete_after.Goals as goal
 
 pub returns-then-full : goal.returns-then-full
@@ -16,11 +14,8 @@ convexity-passed-requires c = passes-ready (c.requires.fill c.if-full.false)
 pub returns-then-passed : goal.returns-then-passed
 returns-then-passed c = refused-in _ _ (c.requires.fill c.if-full.false) c.if-full.false _ _ _ _ c.convexity-passed.ensures c.if-passed.true c.zero_skipped-then-passed.ensures c.stopped-then-passed.ensures
 
-pub prepare-near-requires : goal.prepare-near-requires
-prepare-near-requires c = to-prepare {row = c.convexity-passed.new.pending} (fill-ready _ 0 (c.requires.fill c.if-full.false) c.if-full.false _ _ _ _ c.convexity-passed.ensures c.convexity-passed.auto.outs c.convexity-passed.auto.halves c.convexity-passed.auto.faces c.convexity-passed.auto.pending)
-
 pub fill-filled-requires : goal.fill-filled-requires
-fill-filled-requires c = (record { near = record { fill = fill-ready _ 0 (c.requires.fill c.if-full.false) c.if-full.false _ _ _ _ c.convexity-passed.ensures c.convexity-passed.auto.outs c.convexity-passed.auto.halves c.convexity-passed.auto.faces c.convexity-passed.auto.pending; walkable = c.prepare-near.ensures.1 }; unskipped = c.prepare-near.ensures.0 }, c.prepare-near.ensures.2)
+fill-filled-requires c = fill-ready _ 0 (c.requires.fill c.if-full.false) c.if-full.false _ _ _ _ c.convexity-passed.ensures c.convexity-passed.auto.outs c.convexity-passed.auto.halves c.convexity-passed.auto.faces c.convexity-passed.auto.pending
 
 pub zero_skipped-requires-2 : goal.zero_skipped-requires-2
 zero_skipped-requires-2 c = zeros-ready _ 0 (c.requires.fill c.if-full.false) c.if-full.false _ _ _ _ c.convexity-passed.ensures c.if-passed.false c.convexity-passed.auto.pending c.fill-filled.ensures.0 (let r = c.requires.answers-room in let k = c.fill-filled.auto.answers in omega arith)
@@ -39,9 +34,6 @@ shape_of-faces c = c.close.auto.faces ∙ c.fill-filled.auto.faces ∙ c.convexi
 
 pub shape_of-pending : goal.shape_of-pending
 shape_of-pending c = c.fill-filled.auto.pending ∙ c.convexity-passed.auto.pending
-
-pub shape_of-grid : goal.shape_of-grid
-shape_of-grid c = c.fill-filled.auto.grid ∙ c.prepare-near.auto.grid
 
 pub returns : goal.returns
 returns c = closed_after _ _ (c.requires.fill c.if-full.false) c.if-full.false _ _ _ _ c.convexity-passed.ensures c.if-passed.false c.convexity-passed.auto.pending c.fill-filled.ensures.0 c.zero_skipped-2.ensures _ _ _ c.close.ensures

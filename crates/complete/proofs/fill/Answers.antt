@@ -1,11 +1,16 @@
 -- `complete::fill` meets its contract. Assumes nothing.
 use borrow.Author.Rules.{rules}
-use Rattle.sums.proofs.BitLaws.{from-true}
 use Rattle.complete.proofs.NoneLaws.{none_filled}
 use Rattle.complete.proofs.fill.Goals as goal
 
-pub returns-then-near : goal.returns-then-near
-returns-then-near c = let p = c.requires in (none_filled p.0.near.fill (p.0.unskipped (from-true c.if-near.true)), λ t. absurd t)
+pub returns-then-skipped-eq0 : goal.returns-then-skipped-eq0
+returns-then-skipped-eq0 c = (none_filled c.requires (c.count_skipped-skipped.ensures c.if-skipped-eq0.true), λ t. absurd t)
+
+pub count_skipped-skipped-requires : goal.count_skipped-skipped-requires
+count_skipped-skipped-requires c = c.requires.answers-room
+
+pub prepare-near-requires : goal.prepare-near-requires
+prepare-near-requires c = (c.requires.rows, c.requires.pairs, search rules)
 
 pub fill_each-requires : goal.fill_each-requires
-fill_each-requires c = (c.requires.0.near, c.requires.1)
+fill_each-requires c = (record { fill = c.requires; walkable = c.prepare-near.ensures.0 }, c.prepare-near.ensures.1)

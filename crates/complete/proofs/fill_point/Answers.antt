@@ -1,5 +1,4 @@
 -- `complete::fill_point` meets its contract. Assumes nothing.
-use borrow.Author.Rules.{rules}
 use borrow.Author.Tests.{not-true, not-false}
 use Rattle.complete.proofs.NearLaws.{point-edges, point-near}
 use Rattle.complete.proofs.PointLaws.{not-skipped, point-refused, point-in}
@@ -15,7 +14,7 @@ pub near-u-requires : goal.near-u-requires
 near-u-requires c = point-edges c.requires c.is_skipped.ensures (not-false _ c.if-not-is_skipped.false-raw)
 
 pub insert_near-done-requires : goal.insert_near-done-requires
-insert_near-done-requires c = point-near c.requires c.is_skipped.ensures (not-false _ c.if-not-is_skipped.false-raw) c.position-point.ensures c.near-u.ensures
+insert_near-done-requires c = rw c.is_some-known.ensures (point-near c.requires c.is_skipped.ensures (not-false _ c.if-not-is_skipped.false-raw) c.position-point.ensures c.near-u.ensures)
 
 pub returns-then-added : goal.returns-then-added
 returns-then-added c = point-refused _ _ _ _ _ _ _ _ _ c.is_skipped.ensures (not-false _ c.if-not-is_skipped.false-raw) c.position-point.ensures _ _ _ _ _ c.insert_near-done.ensures c.if-added.true

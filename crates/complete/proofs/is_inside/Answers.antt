@@ -1,6 +1,5 @@
 -- `complete::is_inside` meets its contract. Assumes nothing.
 use mathlib.Core.Path.{refl}
-use borrow.Author.Rules.{rules}
 use borrow.Author.Tests.{le-leb, lt-leb}
 use Rattle.dcel.specs.Rows.{row_of}
 use Rattle.complete.specs.CompleteRows.{inside_number}

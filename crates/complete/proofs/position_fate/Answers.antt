@@ -1,6 +1,5 @@
 -- `complete::position_fate` meets its contract. Assumes nothing.
 use Rattle.skipped.specs.Insert.{position_fate}
-use borrow.Author.Rules.{rules}
 use Rattle.complete.proofs.position_fate.Goals as goal
 
 pub returns-in-OnVertex : goal.returns-in-OnVertex

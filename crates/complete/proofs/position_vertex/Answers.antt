@@ -1,6 +1,5 @@
 -- `complete::position_vertex` meets its contract. Assumes nothing.
 use Rattle.skipped.specs.Insert.{position_vertex}
-use borrow.Author.Rules.{rules}
 use Rattle.complete.proofs.position_vertex.Goals as goal
 
 pub returns-in-OnVertex : goal.returns-in-OnVertex

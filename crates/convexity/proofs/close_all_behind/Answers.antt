@@ -1,6 +1,6 @@
 -- `convexity::close_all_behind` meets its contract. The loop's invariant: to go on from here is to go on from the start. The measure is the depth. Assumes nothing.
 use native.Mathlib.Omega.{arith}
-use Rattle.convexity.proofs.InnerLoop.{ClosingAt, closing-starts, closing-behind, closing-ready, closing-two, closing-on, closing_end}
+use Rattle.convexity.proofs.InnerLoop.{closing-starts, closing-behind, closing-ready, closing-two, closing-on, closing_end}
 use Rattle.convexity.proofs.close_all_behind.Goals as goal
 
 pub loop-outs-init : goal.loop-outs-init

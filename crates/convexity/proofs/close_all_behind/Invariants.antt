@@ -1,6 +1,5 @@
 -- The loop of `convexity::close_all_behind`.
-use native.Mathlib.Omega.{arith}
-use Rattle.convexity.proofs.InnerLoop.{ClosingAt, closing-starts, closing-behind, closing-ready, closing-two, closing-on, closing_end}
+use Rattle.convexity.proofs.InnerLoop.{ClosingAt}
 use Rattle.convexity.proofs.close_all_behind.Given as goal
 
 abbrev pub invariant-loop-outs : goal.invariant-loop-outs

@@ -1,5 +1,4 @@
 -- `convexity::close_behind` meets its contract. Assumes nothing.
-use borrow.Author.Rules.{rules}
 use mathlib.Core.Path.{refl, ◌∙◌}
 use Rattle.convexity.proofs.Rows.{last-there, close-ready, closed_is}
 use Rattle.convexity.proofs.close_behind.Goals as goal

@@ -1,5 +1,4 @@
 -- `convexity::left_behind` meets its contract. Assumes nothing.
-use borrow.Author.Rules.{rules}
 use Rattle.convexity.proofs.Corners.{behind-full, behind-few, corner-ready, behind-tested}
 use Rattle.convexity.proofs.left_behind.Goals as goal
 

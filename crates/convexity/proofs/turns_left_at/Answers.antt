@@ -1,6 +1,6 @@
 -- `convexity::turns_left_at` meets its contract. Assumes nothing.
 use mathlib.Core.Path.{◌∙◌}
-use borrow.Author.Rules.{rules, sfits_of}
+use borrow.Author.Rules.{sfits_of}
 use mir.Facts.{to_z-of_z}
 use Rattle.convexity.proofs.Corners.{in-range, side_left}
 use mir.Syntax.{w64}

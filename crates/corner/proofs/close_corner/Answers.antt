@@ -1,5 +1,4 @@
 -- `corner::close_corner` meets its contract. Assumes nothing.
-use borrow.Author.Rules.{rules}
 use Rattle.corner.proofs.Rows.{single-ready, legalize-ready, faces-fit-32, closed-row}
 use Rattle.corner.proofs.close_corner.Goals as goal
 

@@ -1,14 +1,12 @@
 -- `dcel::position` meets its contract. Assumes nothing.
-use borrow.Author.Rules.{rules}
 use mathlib.Core.Path.{ap₂}
 use lib.IntN.{ℤ}
 use mir.Facts.{to_z-of_z}
-use Rattle.math.specs.declared.Point.{Point}
-use Rattle.dcel.specs.Rows.{position_of}
 use mir.Syntax.{w32}
+use Rattle.dcel.specs.Rows.{position_of}
 use Rattle.dcel.proofs.position.Goals as goal
 
 pub returns : goal.returns
 unfolding position_of
 returns c =
-    ap₂ (λ (x y : ℤ). record { x = x; y = y }) (to_z-of_z {w = w32} (record { sfits = c.x-1.given })) (to_z-of_z {w = w32} (record { sfits = c.y-1.given }))
+    ap₂ (λ (x y : ℤ). record { x = x; y = y }) (to_z-of_z {w = w32} (record { sfits = c.result-1.given })) (to_z-of_z {w = w32} (record { sfits = c.result-2-1.given }))

@@ -1,5 +1,4 @@
 -- `dcel::set_face` meets its contract. Assumes nothing.
-use borrow.Author.Rules.{rules}
 use Rattle.dcel.proofs.Rows.{store-face}
 use Rattle.dcel.proofs.set_face.Goals as goal
 

@@ -1,5 +1,4 @@
 -- `dcel::set_half_edge` meets its contract. Assumes nothing.
-use borrow.Author.Rules.{rules}
 use Rattle.dcel.proofs.set_half_edge.Goals as goal
 
 pub returns : goal.returns

@@ -1,5 +1,4 @@
 -- `dcel::set_next` meets its contract. Assumes nothing.
-use borrow.Author.Rules.{rules}
 use Rattle.dcel.proofs.Rows.{store-next}
 use Rattle.dcel.proofs.set_next.Goals as goal
 

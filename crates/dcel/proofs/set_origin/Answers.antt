@@ -1,5 +1,4 @@
 -- `dcel::set_origin` meets its contract. Assumes nothing.
-use borrow.Author.Rules.{rules}
 use Rattle.dcel.proofs.Rows.{store-origin}
 use Rattle.dcel.proofs.set_origin.Goals as goal
 

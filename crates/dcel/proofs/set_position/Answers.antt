@@ -1,5 +1,4 @@
 -- `dcel::set_position` meets its contract. Assumes nothing.
-use borrow.Author.Rules.{rules}
 use mir.Facts.{to_z-of_z}
 use Rattle.dcel.proofs.Rows.{store-position}
 use mir.Syntax.{w32}

@@ -1,5 +1,4 @@
 -- `dcel::set_prev` meets its contract. Assumes nothing.
-use borrow.Author.Rules.{rules}
 use Rattle.dcel.proofs.Rows.{store-prev}
 use Rattle.dcel.proofs.set_prev.Goals as goal
 

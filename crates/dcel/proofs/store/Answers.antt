@@ -1,5 +1,4 @@
 -- `dcel::store` meets its contract. Assumes nothing.
-use borrow.Author.Rules.{rules}
 use Rattle.dcel.proofs.Rows.{store-row}
 use Rattle.dcel.proofs.store.Goals as goal
 

@@ -1,5 +1,4 @@
 -- `dcel_operations::create_new_face_adjacent_to_edge` meets its contract. Assumes nothing.
-use borrow.Author.Rules.{rules}
 use native.Mathlib.Omega.{arith}
 use mathlib.Core.Path.{refl}
 use Rattle.dcel_operations.proofs.Stored.{new-face}

@@ -1,5 +1,4 @@
 -- `dcel_operations::create_single_face_between_edge_and_next` meets its contract. Assumes nothing.
-use borrow.Author.Rules.{rules}
 use native.Mathlib.Omega.{arith}
 use mathlib.Core.Path.{refl}
 use Rattle.dcel_operations.proofs.Stored.{after-there, single-face}

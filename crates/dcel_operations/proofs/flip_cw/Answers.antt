@@ -1,5 +1,4 @@
 -- `dcel_operations::flip_cw` meets its contract. Assumes nothing.
-use borrow.Author.Rules.{rules}
 use native.Mathlib.Omega.{arith}
 use Rattle.dcel_operations.proofs.Stored.{flipped}
 use Rattle.dcel_operations.proofs.flip_cw.Goals as goal

@@ -22,7 +22,7 @@ returns-in_default c o a S =
 
 pub find-found-requires : goal.find-found-requires
 find-found-requires c =
-    (held-find c.requires.sweep.ring, angle-valid _ (carried c.vertex_angle.ensures.angle c.in-Angle.is))
+    (held-find c.requires.sweep.ring, angle-valid _ (carried c.vertex_angle.ensures.angle c.in-Some.is))
 
 pub load-node-requires : goal.load-node-requires
 load-node-requires c =
@@ -39,12 +39,12 @@ pub decide_at-requires : goal.decide_at-requires
 decide_at-requires c =
     let px = to_z-of_z {w = w32} {z = c.args.point.x} (search rules) in
     let py = to_z-of_z {w = w32} {z = c.args.point.y} (search rules) in
-    asks_at _ _ _ c.vertex_angle.ensures.is px py c.in-Angle.is (carried c.vertex_angle.ensures.angle c.in-Angle.is)
+    asks_at _ _ _ c.vertex_angle.ensures.is px py c.in-Some.is (carried c.vertex_angle.ensures.angle c.in-Some.is)
     c.find-found.ensures c.load-node.ensures c.load-right.ensures c.requires
 
 pub returns : goal.returns
 returns c =
     let px = to_z-of_z {w = w32} {z = c.args.point.x} (search rules) in
     let py = to_z-of_z {w = w32} {z = c.args.point.y} (search rules) in
-    at-located _ _ _ c.vertex_angle.ensures.is px py c.in-Angle.is (carried c.vertex_angle.ensures.angle c.in-Angle.is)
+    at-located _ _ _ c.vertex_angle.ensures.is px py c.in-Some.is (carried c.vertex_angle.ensures.angle c.in-Some.is)
     c.find-found.ensures c.load-node.ensures c.requires.range c.decide_at.ensures

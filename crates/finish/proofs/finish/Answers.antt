@@ -10,23 +10,23 @@ use Rattle.finish.proofs.finish.Goals as goal
 pub check_seed-requires : goal.check_seed-requires
 check_seed-requires c = tt
 
-pub shape_of-outs-in-Refused : goal.shape_of-outs-in-Refused
-shape_of-outs-in-Refused c = refl
+pub shape_of-outs-in-Err : goal.shape_of-outs-in-Err
+shape_of-outs-in-Err c = refl
 
-pub shape_of-halves-in-Refused : goal.shape_of-halves-in-Refused
-shape_of-halves-in-Refused c = refl
+pub shape_of-halves-in-Err : goal.shape_of-halves-in-Err
+shape_of-halves-in-Err c = refl
 
-pub shape_of-faces-in-Refused : goal.shape_of-faces-in-Refused
-shape_of-faces-in-Refused c = refl
+pub shape_of-faces-in-Err : goal.shape_of-faces-in-Err
+shape_of-faces-in-Err c = refl
 
-pub shape_of-pending-in-Refused : goal.shape_of-pending-in-Refused
-shape_of-pending-in-Refused c = refl
+pub shape_of-pending-in-Err : goal.shape_of-pending-in-Err
+shape_of-pending-in-Err c = refl
 
-pub returns-in-Refused : goal.returns-in-Refused
-returns-in-Refused c = refused-outcome _ _ _ _ (sym c.in-Refused.is ∙ c.check_seed.ensures)
+pub returns-in-Err : goal.returns-in-Err
+returns-in-Err c = refused-outcome _ _ _ _ (sym c.in-Err.is ∙ c.check_seed.ensures)
 
 pub finish_mesh-ended-requires : goal.finish_mesh-ended-requires
-finish_mesh-ended-requires c = accepted-ready _ _ _ (sym c.in-Accepted.is ∙ c.check_seed.ensures)
+finish_mesh-ended-requires c = accepted-ready _ _ _ (sym c.in_default.is ∙ c.check_seed.ensures)
 
 pub clear-requires : goal.clear-requires
 clear-requires c = tt
@@ -48,5 +48,5 @@ shape_of-pending c = c.clear.auto.row ∙ c.finish_mesh-ended.auto.pending
 
 pub returns : goal.returns
 returns c =
-    accepted-outcome _ _ _ (sym c.in-Accepted.is ∙ c.check_seed.ensures) _ _ _ _ _ _
+    accepted-outcome _ _ _ (sym c.in_default.is ∙ c.check_seed.ensures) _ _ _ _ _ _
     c.finish_mesh-ended.ensures c.finish_mesh-ended.auto.outs c.finish_mesh-ended.auto.halves c.finish_mesh-ended.auto.faces (c.clear.ensures ∙ ap (λ (n : ℕ). replicate {A = ℕ} n 0) c.finish_mesh-ended.auto.pending) (c.answer_of.ensures _ _ _)

@@ -5,4 +5,4 @@ use borrow.Author.Rules.{rules}
 use Rattle.fithmoul.proofs.fithmoul_area_total.Goals as goal
 
 pub returns : goal.returns
-returns c = c.area_total_result.ensures ∙ ap area_total_result c.area_total.ensures
+returns c = c.from.ensures ∙ ap area_total_result c.area_total.ensures

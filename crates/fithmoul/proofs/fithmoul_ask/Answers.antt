@@ -6,14 +6,14 @@ use Rattle.fithmoul.specs.Exported.{ask-exported}
 use borrow.Author.Rules.{rules}
 use Rattle.fithmoul.proofs.fithmoul_ask.Goals as goal
 
-pub returns-in-Refused : goal.returns-in-Refused
-returns-in-Refused c =
+pub returns-in-Err : goal.returns-in-Err
+returns-in-Err c =
     let f = c.ranges in
     let e = rw (to_z-of_z f.x, to_z-of_z f.y, to_z-of_z f.z) at c.ask-asked.ensures in
-    ask-exported (ask-none _ _ _ _ _ _ _ e c.in-Refused.is) c.ask_result.ensures
+    ask-exported (ask-none _ _ _ _ _ _ _ e c.in-Err.is) c.from.ensures
 
 pub returns : goal.returns
 returns c =
     let f = c.ranges in
     let e = rw (to_z-of_z f.x, to_z-of_z f.y, to_z-of_z f.z) at c.ask-asked.ensures in
-    ask-exported (ask-made _ _ _ _ _ _ _ e c.in_default.is c.clear_ring.ensures) c.ask_result-2.ensures
+    ask-exported (ask-made _ _ _ _ _ _ _ e c.in_default.is c.clear_ring.ensures) c.from-2.ensures

@@ -5,4 +5,4 @@ use borrow.Author.Rules.{rules}
 use Rattle.fithmoul.proofs.fithmoul_check.Goals as goal
 
 pub returns : goal.returns
-returns c = c.check_result.ensures ∙ ap check_result c.check_surface.ensures
+returns c = c.from.ensures ∙ ap check_result c.check_surface.ensures

@@ -8,11 +8,11 @@ use Rattle.fithmoul.specs.Exported.{commit-exported}
 use borrow.Author.Rules.{rules}
 use Rattle.fithmoul.proofs.fithmoul_commit.Goals as goal
 
-pub returns-in-Refused : goal.returns-in-Refused
-returns-in-Refused c =
+pub returns-in-Err : goal.returns-in-Err
+returns-in-Err c =
     let f = c.ranges in
     let e = rw (to_z-of_z f.x, to_z-of_z f.y, to_z-of_z f.z) at c.check_commit-checked.ensures in
-    commit-exported (sym (commit-none _ _ _ _ _ _ _ _ _ (sym e ∙ c.in-Refused.is))) c.commit_refused.ensures
+    commit-exported (sym (commit-none _ _ _ _ _ _ _ _ _ (sym e ∙ c.in-Err.is))) c.commit_refused.ensures
 
 pub sweep_once-progress-requires : goal.sweep_once-progress-requires
 sweep_once-progress-requires c =

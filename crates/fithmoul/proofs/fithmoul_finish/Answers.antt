@@ -5,11 +5,11 @@ use Rattle.fithmoul.specs.Exported.{finish-exported}
 use borrow.Author.Rules.{rules}
 use Rattle.fithmoul.proofs.fithmoul_finish.Goals as goal
 
-pub returns-in-Refused : goal.returns-in-Refused
-returns-in-Refused c =
-    finish-exported (sym (finish-refused _ _ _ (sym c.check_finish-checked.ensures ∙ c.in-Refused.is))) c.finish_refused.ensures
+pub returns-in-Err : goal.returns-in-Err
+returns-in-Err c =
+    finish-exported (sym (finish-refused _ _ _ (sym c.check_finish-checked.ensures ∙ c.in-Err.is))) c.from.ensures
 
 pub returns : goal.returns
 returns c =
     finish-exported (c.finish-answer.ensures ∙ sym (finish-own _ _ _ (sym c.check_finish-checked.ensures ∙ c.in_default.is)))
-    c.finish_result.ensures
+    c.from-2.ensures

@@ -12,10 +12,10 @@ use Rattle.fithmoul.specs.Laws.{accepted-run}
 use borrow.Author.Rules.{rules}
 use Rattle.fithmoul.proofs.fithmoul_run.Goals as goal
 
-pub returns-in-Refused : goal.returns-in-Refused
-returns-in-Refused c =
+pub returns-in-Err : goal.returns-in-Err
+returns-in-Err c =
     let e = rw c.answers_short-few.ensures at c.check_run-checked.ensures in
-    let x = run-exported _ (sym (run-refused _ (sym e ∙ c.in-Refused.is))) c.run_refused.ensures in
+    let x = run-exported _ (sym (run-refused _ (sym e ∙ c.in-Err.is))) c.run_refused.ensures in
     (x.0, x.1, λ z. accepted-run _ _ _ x.0 z)
 
 pub store_run-requires : goal.store_run-requires

@@ -9,6 +9,6 @@ pub returns : goal.returns
 returns c =
     let f = c.ranges in
     let e = c.side_query.ensures in
-    c.side_query_result.ensures
+    c.from.ensures
     ∙ ap side_query_result
     (rw (to_z-of_z f.p1x, to_z-of_z f.p1y, to_z-of_z f.p2x, to_z-of_z f.p2y, to_z-of_z f.qx, to_z-of_z f.qy) at e)

@@ -7,11 +7,11 @@ use Rattle.fithmoul.specs.Exported.{step-exported, step-whole}
 use borrow.Author.Rules.{rules}
 use Rattle.fithmoul.proofs.fithmoul_step.Goals as goal
 
-pub returns-in-Refused : goal.returns-in-Refused
-returns-in-Refused c =
+pub returns-in-Err : goal.returns-in-Err
+returns-in-Err c =
     let f = c.ranges in
     let e = rw (to_z-of_z f.x, to_z-of_z f.y, to_z-of_z f.z) at c.check_step-checked.ensures in
-    step-exported (sym (step-refused _ _ _ _ _ _ _ (sym e ∙ c.in-Refused.is))) c.step_refused.ensures
+    step-exported (sym (step-refused _ _ _ _ _ _ _ (sym e ∙ c.in-Err.is))) c.from.ensures
 
 pub store_height-requires : goal.store_height-requires
 store_height-requires c =
@@ -29,4 +29,4 @@ returns c =
     step-exported
     (step-whole (step-own _ _ _ _ _ _ _ E) b
     (step-heights _ _ _ _ _ _ _ E _ (ap (λ (w : StepOutcome). w.answer) (sym b)) _ c.store_height.auto.heights h))
-    c.step_result.ensures
+    c.from-2.ensures

@@ -7,4 +7,4 @@ use Rattle.fithmoul.proofs.fithmoul_volume.Goals as goal
 
 pub returns : goal.returns
 returns c =
-    c.volume_result.ensures ∙ ap volume_result (rw (to_z-of_z c.ranges.level) at c.volume.ensures)
+    c.from.ensures ∙ ap volume_result (rw (to_z-of_z c.ranges.level) at c.volume.ensures)

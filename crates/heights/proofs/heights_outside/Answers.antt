@@ -11,21 +11,19 @@ use Rattle.heights.proofs.heights_outside.Goals.{then-not-validate_height, else-
 use Rattle.heights.proofs.heights_outside.Goals as goal
 
 pub loop-v-init : goal.loop-v-init
-loop-v-init c = (omega arith, sym (outside-none _))
+loop-v-init c = sym (outside-none _)
 
 pub loop-v-preserved : goal.loop-v-preserved
 loop-v-preserved c =
-    let fits = to_z-of_z {w = w32} (record { sfits = c.height_at-z.type_inv }) in
-    let at = c.height_at-z.ensures in
-    let valid = c.validate_height.ensures ∙ ap is_valid_height fits in (
-      omega arith,
-      elim c.if-not-validate_height.branch [
-        | then-not-validate_height w ↦ w.outside-is ∙ sym (outside-seen _ _ at valid (ap not w.if-not-validate_height.true))
-        | else-not-validate_height w ↦ w.outside-is ∙ c.loop-v.invariant.1 ∙ sym (outside-not _ _ at valid (ap not w.if-not-validate_height.false))
-      ],
-    )
+    let fits = to_z-of_z {w = w32} (record { sfits = c.height_at.type_inv }) in
+    let at = c.height_at.ensures in
+    let valid = c.validate_height.ensures ∙ ap is_valid_height fits in
+    elim c.if-not-validate_height.branch [
+      | then-not-validate_height w ↦ w.outside-is ∙ sym (outside-seen _ _ at valid (ap not w.if-not-validate_height.true))
+      | else-not-validate_height w ↦ w.outside-is ∙ c.loop-v.invariant ∙ sym (outside-not _ _ at valid (ap not w.if-not-validate_height.false))
+    ]
 
 pub returns : goal.returns
 returns c =
     let e : c.loop-v.v ≡ c.args.count = omega arith in
-    c.loop-v.invariant.1 ∙ ap (λ (n : ℕ). heights_outside n c.args.row.now) e
+    c.loop-v.invariant ∙ ap (λ (n : ℕ). heights_outside n c.args.row.now) e

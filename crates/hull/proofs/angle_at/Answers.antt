@@ -9,8 +9,8 @@ use Rattle.hull.proofs.angle_at.Goals as goal
 pub angle_about-requires : goal.angle_about-requires
 angle_about-requires c =
     let P = c.requires in
-    (P.valid, subst (λ (t : Bool). T (not t)) (sym (center-at _ _ _ c.origin-v.ensures c.position-p.ensures (search rules) (search rules) _ _)) P.apart)
+    (P.valid, subst (λ (t : Bool). T (not t)) (sym (center-at _ _ _ c.origin.ensures c.position-p.ensures (search rules) (search rules) _ _)) P.apart)
 
 pub returns : goal.returns
 returns c =
-    angle-is _ _ _ c.origin-v.ensures c.position-p.ensures (search rules) (search rules) c.angle_about.ensures.is c.angle_about.ensures.angle
+    angle-is _ _ _ c.origin.ensures c.position-p.ensures (search rules) (search rules) c.angle_about.ensures.is c.angle_about.ensures.angle

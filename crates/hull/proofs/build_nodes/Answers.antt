@@ -4,4 +4,4 @@ use Rattle.hull.proofs.build_nodes.Goals as goal
 
 pub loop-k-preserved : goal.loop-k-preserved
 loop-k-preserved c =
-    built-more c.loop-k.invariant c.loop-k-test.true c.angle_at-angle.ensures c.store.ensures c.store.auto.nodes c.next-e.ensures
+    built-more c.loop-k.invariant c.loop-k-test.true c.angle_at.ensures c.store.ensures c.store.auto.nodes c.next-e.ensures

@@ -1,10 +1,6 @@
 -- The loop of `hull::build_nodes`.
-use Prim.Native.Nat.{◌-◌}
 use Rattle.hull.proofs.Numbered.{Building}
 use Rattle.hull.proofs.build_nodes.Given as goal
 
 abbrev pub invariant-loop-k : goal.invariant-loop-k
 invariant-loop-k l = Building l.positions l.halves l.center.x l.center.y l.start l.size l.initial.nodes l.nodes l.e l.left l.k
-
-abbrev pub decreases-loop-k : goal.decreases-loop-k
-decreases-loop-k l = l.size - l.k

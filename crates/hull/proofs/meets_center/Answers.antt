@@ -6,11 +6,11 @@ use Rattle.hull.proofs.meets_center.Goals as goal
 
 pub returns-then-is_at_center : goal.returns-then-is_at_center
 returns-then-is_at_center c =
-    met c.loop-k.invariant (c.is_at_center.ensures ∙ center-at _ _ _ c.origin-v.ensures c.position-p.ensures (search rules) (search rules) _ _) c.loop-k-test.true c.if-is_at_center.true
+    met c.loop.invariant (c.is_at_center.ensures ∙ center-at _ _ _ c.origin.ensures c.position-p.ensures (search rules) (search rules) _ _) c.loop-test.true c.if-is_at_center.true
 
-pub loop-k-preserved : goal.loop-k-preserved
-loop-k-preserved c =
-    meeting c.loop-k.invariant (c.is_at_center.ensures ∙ center-at _ _ _ c.origin-v.ensures c.position-p.ensures (search rules) (search rules) _ _) c.loop-k-test.true c.if-is_at_center.false c.next-e.ensures
+pub loop-preserved : goal.loop-preserved
+loop-preserved c =
+    meeting c.loop.invariant (c.is_at_center.ensures ∙ center-at _ _ _ c.origin.ensures c.position-p.ensures (search rules) (search rules) _ _) c.loop-test.true c.if-is_at_center.false c.next-e.ensures
 
 pub returns : goal.returns
-returns c = unmet c.loop-k.invariant c.loop-k-test.false
+returns c = unmet c.loop.invariant c.loop-test.false

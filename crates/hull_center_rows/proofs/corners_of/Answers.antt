@@ -5,24 +5,24 @@ use Rattle.hull_center_rows.proofs.corners_of.Goals as goal
 pub next-c-requires : goal.next-c-requires
 next-c-requires c = second-there c.requires c.next-b.ensures
 
-pub origin-v-requires : goal.origin-v-requires
-origin-v-requires c =
+pub origin-requires-2 : goal.origin-requires-2
+origin-requires-2 c =
     second-there c.requires c.next-b.ensures
 
-pub origin-w-requires : goal.origin-w-requires
-origin-w-requires c =
+pub origin-requires-3 : goal.origin-requires-3
+origin-requires-3 c =
     third-there c.requires c.next-b.ensures c.next-c.ensures
 
 pub position-requires-2 : goal.position-requires-2
 position-requires-2 c =
-    second-placed c.requires c.next-b.ensures c.origin-v.ensures
+    second-placed c.requires c.next-b.ensures c.origin-2.ensures
 
 pub position-requires-3 : goal.position-requires-3
 position-requires-3 c =
-    third-placed c.requires c.next-b.ensures c.next-c.ensures c.origin-w.ensures
+    third-placed c.requires c.next-b.ensures c.next-c.ensures c.origin-3.ensures
 
 pub returns : goal.returns
 returns c =
-    corners-are c.requires c.next-b.ensures c.next-c.ensures c.origin-u.ensures c.origin-v.ensures
-    c.origin-w.ensures
+    corners-are c.requires c.next-b.ensures c.next-c.ensures c.origin.ensures c.origin-2.ensures
+    c.origin-3.ensures
     c.position.ensures c.position-2.ensures c.position-3.ensures

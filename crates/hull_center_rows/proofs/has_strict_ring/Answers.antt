@@ -1,4 +1,6 @@
 -- `hull_center_rows::has_strict_ring` meets its contract. Assumes nothing.
+use Rattle.std.specs.Prelude.{not}
+use Rattle.std.proofs.Common.{◌∙◌, ap}
 use Rattle.hull_center_rows.specs.Ready.{first-there, hull-size, boundary-in, not_valid, met-center, angled, by-strict}
 use Rattle.hull_center_rows.proofs.has_strict_ring.Goals as goal
 
@@ -16,17 +18,18 @@ pub meets_center-requires : goal.meets_center-requires
 meets_center-requires c =
     boundary-in c.requires c.args.center.x c.args.center.y c.adjacent-start.ensures c.convex_hull_size-size.ensures
 
-pub returns-then-meets_center : goal.returns-then-meets_center
-returns-then-meets_center c =
-    met-center c.requires _ _ c.adjacent-start.ensures c.convex_hull_size-size.ensures c.meets_center.ensures c.if-meets_center.true
-
 pub is_strict-requires : goal.is_strict-requires
 is_strict-requires c =
     angled c.requires _ _ c.adjacent-start.ensures c.convex_hull_size-size.ensures
-    c.validate_center.ensures c.meets_center.ensures c.if-not-validate_center.false c.if-meets_center.false
+    c.validate_center.ensures c.meets_center.ensures c.if-not-validate_center.false c.if-not-meets_center.true
 
-pub returns : goal.returns
-returns c =
+pub returns-then-not-meets_center : goal.returns-then-not-meets_center
+returns-then-not-meets_center c =
     by-strict c.requires _ _ c.adjacent-start.ensures c.convex_hull_size-size.ensures
-    c.validate_center.ensures c.meets_center.ensures c.if-not-validate_center.false c.if-meets_center.false
+    c.validate_center.ensures c.meets_center.ensures c.if-not-validate_center.false c.if-not-meets_center.true
     c.is_strict.ensures
+
+pub returns-else-not-meets_center : goal.returns-else-not-meets_center
+returns-else-not-meets_center c o =
+    ap not c.if-not-meets_center.false
+    ∙ met-center c.requires _ _ c.adjacent-start.ensures c.convex_hull_size-size.ensures c.meets_center.ensures c.if-not-meets_center.false o

@@ -1,5 +1,4 @@
--- `hull_center_rows::holds_center` meets its contract. The invariant: no face before f holds the centre. The measure is
--- how many faces are left. Assumes nothing.
+-- `hull_center_rows::holds_center` meets its contract. The invariant: no face before f holds the centre. Assumes nothing.
 use Rattle.hull_center_rows.specs.Holding.{passed_start, face-there, face-ready, passed_on, passed-hit, passed-end}
 use Rattle.hull_center_rows.proofs.holds_center.Goals as goal
 

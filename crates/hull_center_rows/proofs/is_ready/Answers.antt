@@ -1,4 +1,5 @@
 -- `hull_center_rows::is_ready` meets its contract. Assumes nothing.
+use Rattle.std.proofs.Common.{◌∙◌}
 use Rattle.hull_center_rows.specs.CenterRows.{last-three-in}
 use Rattle.hull_center_rows.specs.Ready.{no-triangle, not-accepted, by-faces}
 use Rattle.hull_center_rows.proofs.is_ready.Goals as goal
@@ -17,16 +18,17 @@ pub has_strict_ring-requires : goal.has_strict_ring-requires
 has_strict_ring-requires c =
     c.requires c.if-counts-lt2.false
 
-pub returns-then-not-has_strict_ring : goal.returns-then-not-has_strict_ring
-returns-then-not-has_strict_ring c =
-    not-accepted _ _ _ _ c.if-counts-lt2.false c.last_three-sum.ensures c.center_of-center.ensures c.has_strict_ring.ensures
-    c.if-not-has_strict_ring.true
-
 pub holds_center-requires : goal.holds_center-requires
 holds_center-requires c =
     record { mesh = c.requires c.if-counts-lt2.false; sum_is = c.last_three-sum.ensures }
 
-pub returns : goal.returns
-returns c =
+pub returns-then-has_strict_ring : goal.returns-then-has_strict_ring
+returns-then-has_strict_ring c =
     by-faces _ _ _ _ c.if-counts-lt2.false c.last_three-sum.ensures c.center_of-center.ensures c.has_strict_ring.ensures
-    c.if-not-has_strict_ring.false c.holds_center.ensures
+    c.if-has_strict_ring.true c.holds_center.ensures
+
+pub returns-else-has_strict_ring : goal.returns-else-has_strict_ring
+returns-else-has_strict_ring c o =
+    c.if-has_strict_ring.false
+    ∙ not-accepted _ _ _ _ c.if-counts-lt2.false c.last_three-sum.ensures c.center_of-center.ensures c.has_strict_ring.ensures
+    c.if-has_strict_ring.false o

@@ -1,5 +1,4 @@
 -- `insertion_operations::insert_into_triangle` meets its contract. Assumes nothing.
-use borrow.Author.Rules.{rules}
 use native.Mathlib.Omega.{arith}
 use mathlib.Core.Path.{refl}
 use Rattle.insertion_operations.proofs.Stored.{there-first, there-second, there-third, into-triangle}

@@ -1,8 +1,6 @@
 -- `insertion_operations::split_edge` meets its contract. Assumes nothing.
-use borrow.Author.Rules.{rules}
-use native.Mathlib.Omega.{arith}
 use mathlib.Core.Path.{refl}
-use Rattle.insertion_operations.proofs.Stored.{next-there, prev-there, face-there, names_at, edge-end, edge-split}
+use Rattle.insertion_operations.proofs.Stored.{prev-there, face-there, names_at, edge-split}
 use Rattle.insertion_operations.proofs.split_edge.Goals as goal
 
 pub origin-v2-requires : goal.origin-v2-requires

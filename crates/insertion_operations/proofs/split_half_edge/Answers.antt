@@ -1,8 +1,6 @@
 -- `insertion_operations::split_half_edge` meets its contract. Assumes nothing.
-use borrow.Author.Rules.{rules}
-use native.Mathlib.Omega.{arith}
 use mathlib.Core.Path.{refl}
-use Rattle.insertion_operations.proofs.Stored.{next-there, prev-there, face-there, names_at, half-edge-end, half-edge-split}
+use Rattle.insertion_operations.proofs.Stored.{half-edge-split}
 use Rattle.insertion_operations.proofs.split_half_edge.Goals as goal
 
 pub store-requires : goal.store-requires

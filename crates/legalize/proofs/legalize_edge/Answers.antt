@@ -7,28 +7,27 @@ use Rattle.legalize.specs.declared.Entry.TheVariants.{HalfEdge}
 use Rattle.legalize.specs.LegalizeRows.{plain}
 use Rattle.legalize.specs.Turns.{half-edge-in}
 use Rattle.legalize.proofs.Starting.{empty, start-ready, start-leaves}
-use borrow.Author.Rules.{rules}
 use Rattle.legalize.proofs.legalize_edge.Goals as goal
 
-pub legalize_half_edges-requires : goal.legalize_half_edges-requires
-legalize_half_edges-requires c =
+pub legalize_entries-requires : goal.legalize_entries-requires
+legalize_entries-requires c =
     start-ready HalfEdge c.requires.0 (plain c.push-n.result) (c.push-n.ensures [] (empty _)) (λ t. absurd (false≢true t)) c.push-n.auto.pending (omega arith)
     (half-edge-in c.args.counts _ c.requires.1)
 
 pub shape_of-outs : goal.shape_of-outs
-shape_of-outs c = c.legalize_half_edges.auto.outs
+shape_of-outs c = c.legalize_entries.auto.outs
 
 pub shape_of-halves : goal.shape_of-halves
-shape_of-halves c = c.legalize_half_edges.auto.halves
+shape_of-halves c = c.legalize_entries.auto.halves
 
 pub shape_of-faces : goal.shape_of-faces
-shape_of-faces c = c.legalize_half_edges.auto.faces
+shape_of-faces c = c.legalize_entries.auto.faces
 
 pub shape_of-pending : goal.shape_of-pending
 shape_of-pending c =
-    c.legalize_half_edges.auto.pending ∙ c.push-n.auto.pending
+    c.legalize_entries.auto.pending ∙ c.push-n.auto.pending
 
 pub returns : goal.returns
 returns c =
     start-leaves HalfEdge c.requires.0 (plain c.push-n.result) (c.push-n.ensures [] (empty _)) (λ t. absurd (false≢true t)) c.push-n.auto.pending (omega arith)
-    (half-edge-in c.args.counts _ c.requires.1) c.legalize_half_edges.ensures
+    (half-edge-in c.args.counts _ c.requires.1) c.legalize_entries.ensures

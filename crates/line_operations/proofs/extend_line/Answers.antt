@@ -1,5 +1,4 @@
 -- `line_operations::extend_line` meets its contract. Assumes nothing.
-use borrow.Author.Rules.{rules}
 use native.Mathlib.Omega.{arith}
 use mathlib.Core.Path.{refl}
 use Rattle.line_operations.proofs.Stored.{in-edge-there, extended}

@@ -1,5 +1,4 @@
 -- `line_operations::setup_initial_two_vertices` meets its contract. Assumes nothing.
-use borrow.Author.Rules.{rules}
 use Rattle.line_operations.proofs.Stored.{initial}
 use Rattle.line_operations.proofs.setup_initial_two_vertices.Goals as goal
 

@@ -1,5 +1,4 @@
 -- `line_operations::split_edge_when_all_vertices_on_line` meets its contract. Assumes nothing.
-use borrow.Author.Rules.{rules}
 use mathlib.Core.Path.{refl}
 use Rattle.line_operations.proofs.Stored.{split}
 use Rattle.line_operations.proofs.split_edge_when_all_vertices_on_line.Goals as goal

@@ -1,5 +1,4 @@
 -- `line_operations::split_halves` meets its contract. Assumes nothing.
-use borrow.Author.Rules.{rules}
 use native.Mathlib.Omega.{arith}
 use Rattle.line_operations.proofs.Stored.{next-there, prev-there, halves-split}
 use Rattle.line_operations.proofs.split_halves.Goals as goal

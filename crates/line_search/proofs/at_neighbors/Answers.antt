@@ -2,15 +2,17 @@
 use Rattle.line_search.specs.OnLine.{no-before, no-after, both-there, after-out}
 use Rattle.line_search.proofs.at_neighbors.Goals as goal
 
-pub returns-then-before-count : goal.returns-then-before-count
-returns-then-before-count c = no-before _ _ _ _ _ c.if-before-count.true
+pub unwrap-requires : goal.unwrap-requires
+unwrap-requires c = c.requires.found.some c.in_default.is
 
-pub returns-then-after-count : goal.returns-then-after-count
-returns-then-after-count c = no-after _ _ _ _ _ c.if-before-count.false c.if-after-count.true
+pub returns-in_default : goal.returns-in_default
+returns-in_default c = no-before c.requires c.in_default.is c.unwrap.ensures
+
+pub returns-in_default-after : goal.returns-in_default-after
+returns-in_default-after c = no-after c.requires c.in-Some.is c.in_default-after.is
 
 pub edge_from_neighbors-requires : goal.edge_from_neighbors-requires
-edge_from_neighbors-requires c =
-    after-out c.requires c.if-after-count.false
+edge_from_neighbors-requires c = after-out c.requires c.in-Some.is c.in-Some-after.is
 
 pub returns : goal.returns
-returns c = both-there _ _ _ _ _ c.if-before-count.false c.if-after-count.false c.edge_from_neighbors.ensures
+returns c = both-there c.requires c.in-Some.is c.in-Some-after.is c.edge_from_neighbors.ensures

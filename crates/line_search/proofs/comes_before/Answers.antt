@@ -1,42 +1,34 @@
--- `line_search::comes_before` meets its contract: the tests are those of the definition, on what the machine reads of the coordinates.
--- Assumes nothing.
-use mathlib.Core.Bool.{true, false}
-use mathlib.Core.Path.{◌≡◌, refl}
-use borrow.Author.Rules.{rules}
-use lib.IntN.{ℤ}
-use lib.Signed.{lt_z, le_z}
+-- `line_search::comes_before` meets its contract: the order of pairs is that of the definition. Assumes nothing.
+use Rattle.std.specs.Prelude.{Bool, true, false, not, ◌&&◌, ◌||◌, cond, Some, ◌≡◌, ℤ}
+use Rattle.std.proofs.Common.{rules, refl, sym, ap, ◌∙◌}
+use Rattle.std.specs.Ordering.{int_cmp, partial_ordering_then, is_lt, is_some_and}
+use Rattle.std.specs.declared.cmp.Ordering.TheVariants.{Less, Equal, Greater}
+use Rattle.std.specs.Int.Signed.{lt_z}
+use Rattle.algebra.proofs.Test.{le_not_lt}
 use mir.Facts.{to_z-of_z}
 use mir.Syntax.{w32}
 use Rattle.line.specs.Order.{comes_before}
 use Rattle.math.specs.declared.Point.{Point}
 use Rattle.line_search.proofs.comes_before.Goals as goal
 
-module _ (a b : Point) {u v : ℤ} (p : u ≡ a.x) (q : v ≡ b.x) where
-  by-x : lt_z u v ≡ true → lt_z u v ≡ comes_before a b
-  unfolding comes_before
-  by-x t = rw (← p, ← q, t) refl
+-- of two comparisons: the first is less, or it is equal and the second is less
+both : (p q r s : Bool) → is_some_and is_lt (partial_ordering_then (Some (cond p Less (cond q Greater Equal))) (Some (cond r Less (cond s Greater Equal))))
+    ≡ (p || (not q && r))
+both true q r s = refl
+both false true r s = refl
+both false false true s = refl
+both false false false true = refl
+both false false false false = refl
 
-  module _ (n : lt_z u v ≡ false) where
-    by-y : le_z u v ≡ true → {s t : ℤ} → s ≡ a.y → t ≡ b.y → lt_z s t ≡ comes_before a b
-    unfolding comes_before
-    by-y m i j = rw (← p, ← q, ← i, ← j, n, m) refl
+pairs : (a b : Point) {u v s t : ℤ} → u ≡ a.x → v ≡ b.x → s ≡ a.y → t ≡ b.y
+    → is_some_and is_lt (partial_ordering_then (Some (int_cmp u v)) (Some (int_cmp s t))) ≡ comes_before a b
+unfolding comes_before
+pairs a b p q i j =
+    rw (p, q, i, j) (both (lt_z a.x b.x) (lt_z b.x a.x) (lt_z a.y b.y) (lt_z b.y a.y)
+    ∙ ap (λ (n : Bool). lt_z a.x b.x || (n && lt_z a.y b.y)) (sym (le_not_lt a.x b.x)))
 
-    by-neither : le_z u v ≡ false → le_z u v ≡ comes_before a b
-    unfolding comes_before
-    by-neither m = rw (← p, ← q, n, m) refl
-
-pub returns-then-a-b : goal.returns-then-a-b
-returns-then-a-b c =
+pub returns : goal.returns
+returns c =
     let a = c.args.a in let b = c.args.b in
-    by-x _ _ (to_z-of_z {w = w32} {z = a.x} (search rules)) (to_z-of_z {w = w32} {z = b.x} (search rules)) c.if-a-b.true
-
-pub returns-then-a-b-2 : goal.returns-then-a-b-2
-returns-then-a-b-2 c =
-    let a = c.args.a in let b = c.args.b in
-    by-y _ _ (to_z-of_z {w = w32} {z = a.x} (search rules)) (to_z-of_z {w = w32} {z = b.x} (search rules)) c.if-a-b.false c.if-a-b-2.true
+    c.lt.ensures ∙ pairs a b (to_z-of_z {w = w32} {z = a.x} (search rules)) (to_z-of_z {w = w32} {z = b.x} (search rules))
     (to_z-of_z {w = w32} {z = a.y} (search rules)) (to_z-of_z {w = w32} {z = b.y} (search rules))
-
-pub returns-else-a-b-2 : goal.returns-else-a-b-2
-returns-else-a-b-2 c =
-    let a = c.args.a in let b = c.args.b in
-    by-neither _ _ (to_z-of_z {w = w32} {z = a.x} (search rules)) (to_z-of_z {w = w32} {z = b.x} (search rules)) c.if-a-b.false c.if-a-b-2.false

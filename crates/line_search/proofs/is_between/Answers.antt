@@ -10,12 +10,6 @@ both p t q = rw (← p, t, q)
 first : {x a : Bool} (b : Bool) → x ≡ a → x ≡ false → x ≡ (a && b)
 first b p t = rw (← p, t)
 
-pub comes_before-requires : goal.comes_before-requires
-comes_before-requires c = tt
-
-pub comes_before-requires-then-comes_before : goal.comes_before-requires-then-comes_before
-comes_before-requires-then-comes_before c = tt
-
 pub returns-then-comes_before : goal.returns-then-comes_before
 returns-then-comes_before c = both c.comes_before.ensures c.if-comes_before.true c.comes_before-then-comes_before.ensures
 

@@ -1,6 +1,6 @@
 -- `line_search::locate_when_all_vertices_on_line` meets its contract. Assumes nothing.
 use mathlib.Core.Path.{◌∙◌}
-use borrow.Author.Rules.{rules, sfits_of}
+use borrow.Author.Rules.{sfits_of}
 use mir.Facts.{to_z-of_z}
 use Rattle.line_search.specs.OnLine.{first-there, first_back, from-there, to-there, first_range, off-left, off-right, on_line}
 use mir.Syntax.{w64}

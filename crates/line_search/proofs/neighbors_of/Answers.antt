@@ -1,10 +1,8 @@
--- `line_search::neighbors_of` meets its contract. The invariant: no vertex before v stands between `low` and `high`. The measure is
--- how many vertices are left. Assumes nothing.
-use Prim.Native.Nat.{◌-◌}
-use borrow.Author.Rules.{rules}
-use Rattle.line_search.specs.Narrowing.{Narrowed, narrow_start, vertex-there}
-use Rattle.line_search.specs.Narrowing.{narrow-past, narrow-low, narrow_high, narrow-hit, narrow-end}
+-- `line_search::neighbors_of` meets its contract. The invariant: no vertex before v stands between `low` and `high`. Assumes nothing.
+use Rattle.line_search.specs.Narrowing.{narrow_start, vertex-there}
+use Rattle.line_search.specs.Narrowing.{narrow-past, narrow-low, narrow_high, narrow-hit, narrow-end, narrow-found}
 use Rattle.line_search.proofs.neighbors_of.Goals as goal
+use Rattle.line_search.proofs.neighbors_of.Goals.{then-is_between+then-comes_before, then-is_between+else-comes_before+then-comes_before-2, else-is_between}
 
 pub loop-v-init : goal.loop-v-init
 loop-v-init c = narrow_start c.requires
@@ -12,36 +10,29 @@ loop-v-init c = narrow_start c.requires
 pub position-p-requires : goal.position-p-requires
 position-p-requires c = vertex-there c.requires c.loop-v-test.true
 
-pub is_between-requires : goal.is_between-requires
-is_between-requires c = tt
-
-pub comes_before-requires : goal.comes_before-requires
-comes_before-requires c = tt
-
-pub comes_before-requires-else-comes_before : goal.comes_before-requires-else-comes_before
-comes_before-requires-else-comes_before c = tt
-
 pub returns-else-comes_before-2 : goal.returns-else-comes_before-2
-returns-else-comes_before-2 c =
-    narrow-hit c.requires c.loop-v.invariant c.loop-v-test.true c.position-p.ensures
-    c.is_between.ensures c.if-is_between.true c.comes_before.ensures c.if-comes_before.false
-    c.comes_before-else-comes_before.ensures c.if-comes_before-2.false
-
-pub loop-v-preserved-then-comes_before : goal.loop-v-preserved-then-comes_before
-loop-v-preserved-then-comes_before c =
-    narrow-low c.requires c.loop-v.invariant c.loop-v-test.true c.position-p.ensures
-    c.is_between.ensures c.if-is_between.true c.comes_before.ensures c.if-comes_before.true
-
-pub loop-v-preserved-then-comes_before-2 : goal.loop-v-preserved-then-comes_before-2
-loop-v-preserved-then-comes_before-2 c =
-    narrow_high c.requires c.loop-v.invariant c.loop-v-test.true c.position-p.ensures
-    c.is_between.ensures c.if-is_between.true c.comes_before.ensures c.if-comes_before.false
-    c.comes_before-else-comes_before.ensures c.if-comes_before-2.true
+returns-else-comes_before-2 c = (
+  narrow-hit c.requires c.loop-v.invariant c.loop-v-test.true c.position-p.ensures
+      c.is_between.ensures c.if-is_between.true c.comes_before.ensures c.if-comes_before.false
+      c.comes_before-else-comes_before.ensures c.if-comes_before-2.false,
+  tt,
+)
 
 pub loop-v-preserved : goal.loop-v-preserved
-loop-v-preserved c =
-    narrow-past c.requires c.loop-v.invariant c.loop-v-test.true c.position-p.ensures
-    c.is_between.ensures c.if-is_between.false
+loop-v-preserved c = elim c.if-is_between.branch [
+  | then-is_between+then-comes_before w ↦ rw (w.before-is, w.after-is, w.low-is, w.high-is)
+      (narrow-low c.requires c.loop-v.invariant c.loop-v-test.true c.position-p.ensures
+      c.is_between.ensures w.if-is_between.true w.comes_before.ensures w.if-comes_before.true)
+  | then-is_between+else-comes_before+then-comes_before-2 w ↦ rw (w.before-is, w.after-is, w.low-is, w.high-is)
+      (narrow_high c.requires c.loop-v.invariant c.loop-v-test.true c.position-p.ensures
+      c.is_between.ensures w.if-is_between.true w.comes_before.ensures w.if-comes_before.false
+      w.comes_before-else-comes_before.ensures w.if-comes_before-2.true)
+  | else-is_between w ↦ rw (w.before-is, w.after-is, w.low-is, w.high-is)
+      (narrow-past c.requires c.loop-v.invariant c.loop-v-test.true c.position-p.ensures c.is_between.ensures w.if-is_between.false)
+]
 
 pub returns : goal.returns
-returns c = narrow-end c.requires c.loop-v.invariant c.loop-v-test.false
+returns c = (
+  narrow-end c.requires c.loop-v.invariant c.loop-v-test.false,
+  narrow-found c.requires c.loop-v.invariant c.loop-v-test.false,
+)

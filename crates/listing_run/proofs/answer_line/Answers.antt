@@ -1,5 +1,4 @@
 -- `listing_run::answer_line` meets its contract. Assumes nothing.
-use borrow.Author.Rules.{rules}
 use Rattle.dcel.specs.Rows.{row_of}
 use Prim.Native.Nat.{◌+◌, ◌*◌}
 use native.Mathlib.Omega.{arith}

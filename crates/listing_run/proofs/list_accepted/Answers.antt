@@ -1,5 +1,5 @@
 -- `listing_run::list_accepted` meets its contract. Assumes nothing.
-use borrow.Author.Rules.{rules, sfits_of}
+use borrow.Author.Rules.{sfits_of}
 use Rattle.listing_run.specs.ListingRun.{point_lines}
 use Rattle.listing_run.proofs.Lengths.{totals-next-short}
 use Rattle.listing_run.proofs.Rows.{totals-next}

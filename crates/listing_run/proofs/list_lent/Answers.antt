@@ -1,5 +1,4 @@
 -- `listing_run::list_lent` meets its contract. Assumes nothing.
-use borrow.Author.Rules.{rules}
 use Rattle.listing_run.proofs.Lengths.{short-as, few-lines}
 use Rattle.listing_run.proofs.Rows.{appended-as}
 use Rattle.listing_run.proofs.Runs.{outcome-listable, listing-run}

@@ -1,5 +1,4 @@
 -- `listing_run::list_numbers` meets its contract. Assumes nothing.
-use borrow.Author.Rules.{rules}
 use Rattle.listing_run.specs.ListingRun.{lent_of}
 use Rattle.listing_run.proofs.list_numbers.Goals as goal
 

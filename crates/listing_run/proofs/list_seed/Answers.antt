@@ -1,6 +1,5 @@
 -- `listing_run::list_seed` meets its contract. Assumes nothing.
-use borrow.Author.Rules.{rules}
-use mathlib.Core.Path.{◌∙◌, ap}
+use mathlib.Core.Path.{ap}
 use Rattle.listing_run.specs.ListingRun.{lent_listing}
 use Rattle.listing_run.proofs.Lengths.{short-at}
 use Rattle.listing_run.proofs.Rows.{appended-as}

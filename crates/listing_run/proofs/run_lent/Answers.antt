@@ -1,5 +1,4 @@
 -- `listing_run::run_lent` meets its contract. Assumes nothing.
-use borrow.Author.Rules.{rules}
 use Rattle.listing_run.proofs.Runs.{ran-with-own}
 use Rattle.listing_run.proofs.run_lent.Goals as goal
 

@@ -1,6 +1,5 @@
 -- `math::is_behind_edge` meets its contract. Assumes nothing.
 use mathlib.Core.Path.{◌∙◌, ap}
-use borrow.Author.Rules.{rules}
 use Rattle.math.specs.Determinant.{is_behind}
 use Rattle.math.proofs.is_behind_edge.Goals as goal
 

@@ -1,35 +1,18 @@
--- `math::is_position` meets its contract: `==` of two signed numbers compares their bits. Assumes nothing.
-use mathlib.Core.Bool.{Bool, ◌&&◌}
-use mathlib.Core.Path.{◌≡◌, sym, ◌∙◌, ap}
-use borrow.Author.Rules.{sfits_of}
-use borrow.Author.Tests.{eq-eqb, ne_eqb}
-use lib.Dec.{eqb}
-use mir.Syntax.{w32}
-use mir.Val.{SFits, of_z}
-use Rattle.math.specs.declared.Point.{Point}
+-- `math::is_position` meets its contract: points are equal where their coordinates are. Assumes nothing.
+use Rattle.std.proofs.Common.{◌≡◌, ap₂, ◌∙◌, ◌&&◌, ℤ, int_eq}
+use Rattle.std.proofs.lemmas.Bool.Decides.{Decides-int_eq}
+use Rattle.sums.specs.Bit.{test-ext}
+use Rattle.sums.proofs.BitLaws.{is_true, from-true}
 use Rattle.math.specs.Determinant.{is_coordinate, is_position}
-use Rattle.math.proofs.Position.{coordinate-bits}
+use Rattle.math.proofs.Position.{same-coordinate, coordinate-same}
 use Rattle.math.proofs.is_position.Goals as goal
 
-module _ (a b : Point) (f : SFits w32 a.x) (g : SFits w32 b.x) where
-  first-differs : (of_z w32 a.x ≡ of_z w32 b.x → ⊥) → eqb (of_z w32 a.x) (of_z w32 b.x) ≡ is_position a b
-  unfolding is_position
-  first-differs n =
-      let e = ne_eqb (of_z w32 a.x) (of_z w32 b.x) n in
-      e ∙ ap (λ (t : Bool). t && is_coordinate a.y b.y) (sym e ∙ coordinate-bits f g)
+coordinate-equal : (a b : ℤ) → int_eq a b ≡ is_coordinate a b
+coordinate-equal a b =
+    test-ext (int_eq a b) (is_coordinate a b)
+    (λ t. coordinate-same a b ((Decides-int_eq a b).0 (is_true (int_eq a b) t)))
+    (λ t. from-true ((Decides-int_eq a b).1 (same-coordinate a b t)))
 
-  second-decides : SFits w32 a.y → SFits w32 b.y → of_z w32 a.x ≡ of_z w32 b.x
-      → eqb (of_z w32 a.y) (of_z w32 b.y) ≡ is_position a b
-  unfolding is_position
-  second-decides i j e =
-      coordinate-bits i j
-      ∙ ap (λ (t : Bool). t && is_coordinate a.y b.y) (sym (eq-eqb (of_z w32 a.x) (of_z w32 b.x) e) ∙ coordinate-bits f g)
-
-pub returns-then-a-b : goal.returns-then-a-b
-returns-then-a-b c =
-    let A = c.struct_told-1.given in let B = c.struct_told-2-1.given in
-    second-decides _ _ (sfits_of A.0.1) (sfits_of B.0.1) (sfits_of A.1.0.1) (sfits_of B.1.0.1) c.if-a-b.true
-
-pub returns-else-a-b : goal.returns-else-a-b
-returns-else-a-b c =
-    first-differs _ _ (sfits_of c.struct_told-1.given.0.1) (sfits_of c.struct_told-2-1.given.0.1) c.if-a-b.false
+pub returns : goal.returns
+unfolding is_position
+returns c = c.eq.ensures ∙ ap₂ ◌&&◌ (coordinate-equal _ _) (coordinate-equal _ _)

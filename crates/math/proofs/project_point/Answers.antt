@@ -3,7 +3,7 @@
 use mathlib.Core.Path.{◌∙◌, ap₂}
 use lib.IntN.{ℤ}
 use mir.Facts.{to_z-of_z}
-use borrow.Author.Rules.{rules, sfits_of}
+use borrow.Author.Rules.{sfits_of}
 use Rattle.math.specs.Vector.{dot_of}
 use Rattle.math.proofs.VectorLaws.{short, factor-vectors, length2-vectors}
 use mir.Syntax.{w64}

@@ -2,7 +2,7 @@
 -- Assumes nothing.
 use mathlib.Core.Path.{◌∙◌, ap₂}
 use mir.Facts.{to_z-of_z}
-use borrow.Author.Rules.{rules, sfits_of}
+use borrow.Author.Rules.{sfits_of}
 use Rattle.math.specs.Vector.{cross_of}
 use Rattle.math.proofs.VectorLaws.{short, orient2d-vectors}
 use mir.Syntax.{w64}

@@ -6,7 +6,7 @@ use lib.IntN.{ℤ}
 use mir.Syntax.{w32}
 use mir.Val.{SFits, to_z, of_z}
 use mir.Facts.{to_z-of_z}
-use borrow.Author.Rules.{rules, sfits_of}
+use borrow.Author.Rules.{sfits_of}
 use Rattle.math.specs.Determinant.{is_valid_coordinate}
 use Rattle.math.proofs.validate_vertex.Goals as goal
 
@@ -25,4 +25,4 @@ pub returns-else-validate_coordinate : goal.returns-else-validate_coordinate
 returns-else-validate_coordinate c =
     let x-is : c.validate_coordinate.result ≡ is_valid_coordinate c.args.p.x = c.validate_coordinate.ensures ∙ kept c.args.p.x (sfits_of c.struct_told-1.given.0.1) in
     let p = c.args.p in
-    ap (λ (b : Bool). b && is_valid_coordinate p.y) (sym c.if-validate_coordinate.false ∙ x-is)
+    c.if-validate_coordinate.false ∙ ap (λ (b : Bool). b && is_valid_coordinate p.y) (sym c.if-validate_coordinate.false ∙ x-is)

@@ -1,5 +1,4 @@
 -- `mesh_check::point_count` meets its contract. Assumes nothing.
-use borrow.Author.Rules.{rules}
 use native.Mathlib.Omega.{arith}
 use Rattle.mesh_check.specs.Check.{point_count}
 use Rattle.mesh_check.proofs.point_count.Goals as goal

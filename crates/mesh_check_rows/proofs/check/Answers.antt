@@ -1,5 +1,4 @@
 -- `mesh_check_rows::check` meets its contract. No points are given. Assumes nothing.
-use borrow.Author.Rules.{rules}
 use mathlib.Core.Path.{◌∙◌}
 use Rattle.mesh_check.proofs.AcceptedLaws.{with_none}
 use Rattle.mesh_check_rows.proofs.check.Goals as goal

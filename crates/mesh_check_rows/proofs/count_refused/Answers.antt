@@ -7,6 +7,6 @@ pub returns-then-n-lt3 : goal.returns-then-n-lt3
 unfolding count_refused
 returns-then-n-lt3 c = simp (lt-ltb _ _ c.if-n-lt3.true)
 
-pub returns : goal.returns
+pub returns-else-n-lt3 : goal.returns-else-n-lt3
 unfolding count_refused
-returns c = simp (le-ltb _ _ c.if-n-lt3.false)
+returns-else-n-lt3 c = simp (le-ltb _ _ c.if-n-lt3.false)

@@ -1,6 +1,6 @@
 -- `mesh_check_rows::doubled_area_at` meets its contract. Assumes nothing.
 use mir.Facts.{to_z-of_z}
-use borrow.Author.Rules.{rules, sfits_of}
+use borrow.Author.Rules.{sfits_of}
 use Rattle.mesh_check_rows.proofs.Faces.{second-there, third-there, placed_one, placed-two, placed-three, placed-range, area-is}
 use mathlib.Core.Path.{◌∙◌}
 use mir.Syntax.{w64}

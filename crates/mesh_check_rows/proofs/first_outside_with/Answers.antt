@@ -1,5 +1,4 @@
 -- `mesh_check_rows::first_outside_with` meets its contract. Assumes nothing.
-use borrow.Author.Rules.{rules}
 use native.Mathlib.Omega.{arith}
 use Rattle.mesh_check_rows.proofs.Search.{in-seed, in-points, outside-most}
 use Rattle.mesh_check_rows.proofs.first_outside_with.Goals as goal

@@ -1,5 +1,4 @@
 -- `mesh_check_rows::mesh_rows_short` meets its contract. Assumes nothing.
-use borrow.Author.Rules.{rules}
 use borrow.Author.Tests.{lt-ltb, le-ltb}
 use Rattle.mesh_check.specs.Check.{mesh_rows_short}
 use Rattle.mesh_check_rows.proofs.mesh_rows_short.Goals as goal

@@ -1,5 +1,4 @@
 -- `mesh_check_rows::rows_short` meets its contract. Assumes nothing.
-use borrow.Author.Rules.{rules}
 use mathlib.Core.Path.{◌∙◌}
 use Rattle.mesh_check.specs.Check.{rows_short}
 use Rattle.mesh_check_rows.proofs.Search.{alone, paired}

@@ -1,32 +1,15 @@
--- `mesh_rules::inner_faces_hold` meets its contract. Assumes nothing.
-use borrow.Author.Rules.{rules}
-use native.Mathlib.Omega.{arith}
-use Prim.Native.Nat.{ℕ, ◌-◌, ◌≤◌, ◌<◌}
-use mathlib.Core.Path.{◌≡◌, refl, sym, ◌∙◌}
-use mathlib.Core.List.{List}
-use lib.Dec.{T}
+-- `mesh_rules::inner_faces_hold` meets its contract: face 0 is no inner one. Assumes nothing.
+use Rattle.std.proofs.Common.{◌≡◌, refl, ◌∙◌, arith, rules, tests}
+use Rattle.std.proofs.lemmas.Iterator.{YieldsList-from_range}
+use Rattle.std.proofs.lemmas.Iterator.Search.{all_from_yields_List}
 use Rattle.dcel.specs.Rows.{links_of}
-use Rattle.mesh_rules.specs.Holds.{inner_face_holds}
-use Rattle.sums.specs.Bounded.{all_below}
-use Rattle.sums.proofs.BitLaws.{from-true}
-use borrow.Author.Tests.{not-true, not-false}
-use Rattle.mesh_rules.proofs.Passed.{passed_none, passed-more, passed-all, stopped}
+use Rattle.mesh_rules.specs.Holds.{face_holds, inner_face_holds}
+use Rattle.mesh_rules.proofs.Ranges.{all-in_range}
 use Rattle.mesh_rules.proofs.Tests.{first-face, inner-face}
 use Rattle.mesh_rules.proofs.inner_faces_hold.Goals as goal
 
-pub loop-f-init : goal.loop-f-init
-loop-f-init c = (omega arith, omega arith, refl, λ o. passed-more 0 _ (passed_none _) (first-face _ _))
-
-pub returns-then-not-face_holds : goal.returns-then-not-face_holds
-returns-then-not-face_holds c = λ o. stopped _ _ _ (omega arith) (sym (not-true _ c.if-not-face_holds.true-raw) ∙ c.face_holds.ensures o ∙ inner-face _ _ _ c.loop-f.invariant.0)
-
-pub loop-f-preserved : goal.loop-f-preserved
-loop-f-preserved c = (
-  omega arith,
-  omega arith,
-  c.loop-f.invariant.2,
-  λ o. passed-more _ _ (c.loop-f.invariant.3 o) (from-true (sym (c.face_holds.ensures o ∙ inner-face _ _ _ c.loop-f.invariant.0) ∙ not-false _ c.if-not-face_holds.false-raw)),
-)
-
 pub returns : goal.returns
-returns c = λ o. passed-all _ _ _ (omega arith) (c.loop-f.invariant.3 o)
+returns c = λ o.
+    let C = c.args.counts in let L = links_of o c.args.halves.now c.args.faces.now in
+    all_from_yields_List (face_holds C L) _ _ _ c.all.ensures.ran (YieldsList-from_range 1 C.faces _ refl refl) (λ x b q k. search (rules, tests))
+    ∙ all-in_range (face_holds C L) (inner_face_holds C L) 1 C.faces (λ i u. let e : i ≡ 0 = omega arith in rw e (first-face C L)) (λ i l. inner-face C L i l)

@@ -1,6 +1,5 @@
 -- `pending::last` meets its contract. Assumes nothing.
 use Rattle.pending.proofs.PendingLaws.{pending-last}
-use borrow.Author.Rules.{rules}
 use Rattle.pending.proofs.last.Goals as goal
 
 pub returns : goal.returns

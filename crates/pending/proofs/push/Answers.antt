@@ -1,7 +1,6 @@
 -- `pending::push` meets its contract: past the end, at the end, and with room. Assumes nothing.
 use native.Mathlib.Omega.{arith}
 use Rattle.pending.proofs.PendingLaws.{push-fits, push-over, push-past}
-use borrow.Author.Rules.{rules}
 use Rattle.pending.proofs.push.Goals as goal
 
 pub returns-then-n-pending : goal.returns-then-n-pending

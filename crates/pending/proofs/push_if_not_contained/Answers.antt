@@ -1,5 +1,4 @@
 -- `pending::push_if_not_contained` meets its contract. Assumes nothing.
-use borrow.Author.Rules.{rules}
 use Rattle.pending.proofs.push_if_not_contained.Goals as goal
 
 pub push_marking-requires : goal.push_marking-requires

@@ -1,8 +1,7 @@
 -- `pending::push_looking` meets its contract. Assumes nothing.
 use Rattle.pending.proofs.SetLaws.{pushed-by}
 use mathlib.Core.Path.{refl}
-use borrow.Author.Rules.{rules}
 use Rattle.pending.proofs.push_looking.Goals as goal
 
 pub returns : goal.returns
-returns c = λ edges. pushed-by c.push_missing-m.ensures refl refl
+returns c = λ edges. pushed-by c.push_missing.ensures refl refl

@@ -1,7 +1,6 @@
 -- `pending::push_marking` meets its contract. Assumes nothing.
 use Rattle.pending.proofs.SetLaws.{bit_in, pushed-by, set_room, set_there, set-given-up, push-bit}
 use mathlib.Core.Path.{sym, ◌∙◌}
-use borrow.Author.Rules.{rules}
 use Rattle.pending.proofs.push_marking.Goals as goal
 
 pub returns-then-x-edges : goal.returns-then-x-edges
@@ -18,10 +17,10 @@ overflow_sub-pending c = set_room c.args.list c.requires
 
 pub returns-then-pending-n : goal.returns-then-pending-n
 returns-then-pending-n c = set-given-up c.args.list c.requires _ c.if-x-edges.false (sym c.is_marked.ensures ∙ c.if-is_marked.false)
-    (pushed-by c.push-m.ensures c.list_of.ensures.0 c.list_of.ensures.1)
+    (pushed-by c.push.ensures c.list_of.ensures.0 c.list_of.ensures.1)
 
 pub mark-requires : goal.mark-requires
 mark-requires c = (bit_in c.requires c.if-x-edges.false, (sym c.is_marked.ensures ∙ c.if-is_marked.false))
 
 pub returns : goal.returns
-returns c = push-bit c.args.list c.requires _ c.if-x-edges.false (sym c.is_marked.ensures ∙ c.if-is_marked.false) c.if-pending-n.false c.mark.ensures
+returns c = push-bit c.args.list c.requires _ c.if-x-edges.false (sym c.is_marked.ensures ∙ c.if-is_marked.false) (rw c.set_words.ensures at c.if-pending-n.false) c.mark.ensures

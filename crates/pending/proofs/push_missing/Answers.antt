@@ -2,7 +2,6 @@
 use native.Mathlib.Omega.{arith}
 use Rattle.pending.proofs.PendingLaws.{push-past, push-length, pushed-contained, pushed-missing}
 use mathlib.Core.Path.{sym, ◌∙◌}
-use borrow.Author.Rules.{rules}
 use Rattle.pending.proofs.push_missing.Goals as goal
 
 pub returns-then-n-pending : goal.returns-then-n-pending

@@ -1,5 +1,4 @@
 -- `pending::push_two` meets its contract. Assumes nothing.
-use borrow.Author.Rules.{rules}
 use Rattle.pending.proofs.push_two.Goals as goal
 
 pub returns : goal.returns

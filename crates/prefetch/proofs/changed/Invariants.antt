@@ -1,13 +1,6 @@
--- The loop of `prefetch::changed`.
-use Rattle.std.proofs.Common.{◌≡◌, ◌-◌, ◌≤◌, length, arith, length-set, rules}
+-- The loop of `prefetch::changed`: the half-edges that are kept stand before the one that is looked at.
+use Rattle.std.proofs.Common.{◌≤◌}
 use Rattle.prefetch.proofs.changed.Given as goal
 
 abbrev pub invariant-loop-j : goal.invariant-loop-j
-invariant-loop-j l =
-    (l.j ≤ l.n)
-    × (l.m ≤ l.j)
-    × (length l.edge ≡ length l.initial.edge)
-    × (length l.slot ≡ length l.initial.slot)
-
-abbrev pub decreases-loop-j : goal.decreases-loop-j
-decreases-loop-j l = l.n - l.j
+invariant-loop-j l = l.count ≤ l.j

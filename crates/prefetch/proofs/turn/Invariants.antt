@@ -1,14 +1,6 @@
--- The loop of `prefetch::turn`.
-use Rattle.std.proofs.Common.{◌≡◌, ◌-◌, ◌≤◌, length, arith, length-set, rules}
+-- The loop of `prefetch::turn`: the walks that go on stand before the one that is looked at.
+use Rattle.std.proofs.Common.{◌≤◌}
 use Rattle.prefetch.proofs.turn.Given as goal
 
 abbrev pub invariant-loop-j : goal.invariant-loop-j
-invariant-loop-j l =
-    (l.j ≤ l.n)
-    × (l.m ≤ l.j)
-    × (length l.edge ≡ length l.initial.edge)
-    × (length l.slot ≡ length l.initial.slot)
-    × (length l.start ≡ length l.initial.start)
-
-abbrev pub decreases-loop-j : goal.decreases-loop-j
-decreases-loop-j l = l.n - l.j
+invariant-loop-j l = l.live ≤ l.j

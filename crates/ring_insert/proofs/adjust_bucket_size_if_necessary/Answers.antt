@@ -5,8 +5,8 @@ use Rattle.ring_insert.proofs.adjust_bucket_size_if_necessary.Goals as goal
 
 pub initialize_buckets-requires : goal.initialize_buckets-requires
 unfolding row_of
-initialize_buckets-requires c = let P = c.requires in to-refill P c.adjusted_buckets-count.ensures
+initialize_buckets-requires c = to-refill _ c.size-size.ensures c.adjusted_buckets-count.ensures c.requires
 
 pub returns : goal.returns
 unfolding row_of
-returns c = adjusted c.adjusted_buckets-count.ensures c.initialize_buckets.ensures
+returns c = adjusted _ c.size-size.ensures c.adjusted_buckets-count.ensures c.initialize_buckets.ensures

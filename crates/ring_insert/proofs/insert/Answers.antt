@@ -17,7 +17,7 @@ place-requires c =
 pub retire-requires : goal.retire-requires
 retire-requires c =
     let I = c.requires in
-    to-retire I c.find_left-found.ensures c.equal-goes.ensures c.choose-choice.ensures c.first_pushed-from.ensures c.place.auto.nodes c.choose-choice.auto.freed
+    to-retire I c.find_left-found.ensures c.equal-goes.ensures c.choose-choice.ensures c.saturating_sub-from.ensures c.place.auto.nodes c.choose-choice.auto.freed
 
 pub floored_bucket-bucket-requires : goal.floored_bucket-bucket-requires
 floored_bucket-bucket-requires c =
@@ -27,7 +27,7 @@ pub returns : goal.returns
 returns c =
     let I = c.requires in
     let G = c.find_left-found.ensures in let D = c.choose-choice.ensures in
-    let R = placed-retired c.place.ensures c.first_pushed-from.ensures c.retire.ensures in
+    let R = placed-retired c.place.ensures c.saturating_sub-from.ensures c.retire.ensures in
     record {
       left = c.find_left-found.result;
       left-on = G.on;

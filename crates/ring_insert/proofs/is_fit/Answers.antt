@@ -1,18 +1,30 @@
 -- `ring_insert::is_fit` meets its contract. Assumes nothing.
-use Rattle.ring_insert.proofs.Deciding.{same-right, wide-left, wide-right, same_left, off-left}
+use Rattle.ring_insert.proofs.Deciding.{first-asked, first-stops, next-asked, next-stops, stopped, counted}
 use Rattle.ring_insert.proofs.is_fit.Goals as goal
+use Rattle.ring_insert.proofs.is_fit.Goals.{then-not-equal, else-not-equal, then-not-is_wide, else-not-is_wide}
 
-pub returns-then-equal : goal.returns-then-equal
-returns-then-equal c = same-right _ _ _ _ _ _ c.equal.ensures c.if-equal.true
+pub returns-then-not-is_wide-2 : goal.returns-then-not-is_wide-2
+returns-then-not-is_wide-2 c =
+    counted _ _ _ _ _ _
+    (elim c.if-not-equal.branch [
+      | then-not-equal w ↦ first-asked c.equal.ensures w.if-not-equal.true w.is_wide.ensures w.value-is
+      | else-not-equal w ↦ first-stops _ c.equal.ensures w.if-not-equal.false w.value-is
+    ])
+    (elim c.if-not-is_wide.branch [
+      | then-not-is_wide w ↦ next-asked w.if-not-is_wide.true w.is_wide-then-not-is_wide.ensures w.value-is
+      | else-not-is_wide w ↦ next-stops _ w.if-not-is_wide.false w.value-is
+    ])
+    c.if-not-is_wide-2.true c.equal-then-not-is_wide-2.ensures c.from.ensures
 
-pub returns-then-is_wide : goal.returns-then-is_wide
-returns-then-is_wide c = wide-left _ _ _ _ _ _ c.equal.ensures c.if-equal.false c.is_wide.ensures c.if-is_wide.true
-
-pub returns-then-is_wide-2 : goal.returns-then-is_wide-2
-returns-then-is_wide-2 c = wide-right _ _ _ _ _ _ c.equal.ensures c.if-equal.false c.is_wide.ensures c.if-is_wide.false c.is_wide-2.ensures c.if-is_wide-2.true
-
-pub returns-then-equal-2 : goal.returns-then-equal-2
-returns-then-equal-2 c = same_left _ _ _ _ _ _ c.equal.ensures c.if-equal.false c.is_wide.ensures c.if-is_wide.false c.is_wide-2.ensures c.if-is_wide-2.false c.equal-2.ensures c.if-equal-2.true
-
-pub returns : goal.returns
-returns c = off-left _ _ _ _ _ _ c.equal.ensures c.if-equal.false c.is_wide.ensures c.if-is_wide.false c.is_wide-2.ensures c.if-is_wide-2.false c.equal-2.ensures c.if-equal-2.false
+pub returns-else-not-is_wide-2 : goal.returns-else-not-is_wide-2
+returns-else-not-is_wide-2 c =
+    stopped _ _ _ _ _ _
+    (elim c.if-not-equal.branch [
+      | then-not-equal w ↦ first-asked c.equal.ensures w.if-not-equal.true w.is_wide.ensures w.value-is
+      | else-not-equal w ↦ first-stops _ c.equal.ensures w.if-not-equal.false w.value-is
+    ])
+    (elim c.if-not-is_wide.branch [
+      | then-not-is_wide w ↦ next-asked w.if-not-is_wide.true w.is_wide-then-not-is_wide.ensures w.value-is
+      | else-not-is_wide w ↦ next-stops _ w.if-not-is_wide.false w.value-is
+    ])
+    c.if-not-is_wide-2.false

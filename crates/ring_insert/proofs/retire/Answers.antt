@@ -3,8 +3,8 @@ use Rattle.ring_insert.proofs.Retiring.{node-there, again}
 use Rattle.ring_insert.proofs.retire.Goals as goal
 
 pub set_edge-requires : goal.set_edge-requires
-set_edge-requires c = node-there c.loop-k.invariant c.loop-k-test.true
+set_edge-requires c = node-there c.loop-node.invariant c.loop-node-test.true
 
-pub loop-k-preserved : goal.loop-k-preserved
-loop-k-preserved c =
-    again c.loop-k.invariant c.loop-k-test.true c.set_edge.ensures c.set_edge.auto.nodes
+pub loop-node-preserved : goal.loop-node-preserved
+loop-node-preserved c =
+    again c.loop-node.invariant c.loop-node-test.true c.set_edge.ensures c.set_edge.auto.nodes

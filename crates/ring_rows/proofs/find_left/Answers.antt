@@ -3,9 +3,8 @@ use Rattle.angle.proofs.Bits.{angle-valid}
 use Rattle.ring_rows.proofs.Laws.{floor-below, got-at}
 use Rattle.ring_rows.proofs.find_left.Goals as goal
 
-pub get-found-requires : goal.get-found-requires
-get-found-requires c = let P = c.requires in (P.0.rows, angle-valid _ P.1)
+pub get-requires : goal.get-requires
+get-requires c = let P = c.requires in (P.0.rows, angle-valid _ P.1)
 
-pub returns : goal.returns
-returns c =
-    let R = c.requires.0.rows in got-at R (floor-below _ R.counted) c.get-found.ensures
+pub returns-in-None : goal.returns-in-None
+returns-in-None c = let R = c.requires.0.rows in got-at R (floor-below _ R.counted) c.get.ensures

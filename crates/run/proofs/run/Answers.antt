@@ -7,10 +7,10 @@ use Rattle.run.proofs.RunDone.{refused-run}
 use Rattle.run.proofs.run.Goals as goal
 
 pub run_accepted-requires : goal.run_accepted-requires
-run_accepted-requires c = sym (run-checks _ c.answers_short-short.ensures c.check_sweep.ensures) ∙ c.in-Accepted.is
+run_accepted-requires c = sym (run-checks _ c.answers_short-short.ensures c.check_sweep-checked.ensures) ∙ c.in_default.is
 
-pub returns-in-Refused : goal.returns-in-Refused
-returns-in-Refused c = run_ran _ _ (refused-run _ _ (sym c.in-Refused.is ∙ run-checks _ c.answers_short-short.ensures c.check_sweep.ensures))
+pub returns-in-Err : goal.returns-in-Err
+returns-in-Err c = run_ran _ _ (refused-run _ _ (sym c.in-Err.is ∙ run-checks _ c.answers_short-short.ensures c.check_sweep-checked.ensures))
 
-pub returns-in-Accepted : goal.returns-in-Accepted
-returns-in-Accepted c = run_ran _ _ c.run_accepted.ensures
+pub returns : goal.returns
+returns c = run_ran _ _ c.run_accepted.ensures

@@ -10,9 +10,6 @@ use Rattle.search.proofs.first_closer.Goals as goal
 pub out-start-requires : goal.out-start-requires
 out-start-requires c = out-there c.requires
 
-pub rev-first-requires : goal.rev-first-requires
-rev-first-requires c = tt
-
 pub loop-point-init : goal.loop-point-init
 loop-point-init c =
     spoke-start c.requires (to_z-of_z c.ranges.distance) c.out-start.ensures c.rev-first.ensures
@@ -35,9 +32,6 @@ returns-then-new_distance-distance c =
     spoke-hit c.requires (to_z-of_z c.ranges.distance) c.out-start.ensures c.rev-first.ensures c.loop-point.invariant c.origin-w.ensures
     c.position-p.ensures
     (to_z-of_z {w = w64} (sfits_of c.distance_2-new_distance.type_inv) ∙ c.distance_2-new_distance.ensures) c.if-new_distance-distance.true
-
-pub rev-e-requires : goal.rev-e-requires
-rev-e-requires c = tt
 
 pub prev-back-requires : goal.prev-back-requires
 prev-back-requires c =

@@ -1,5 +1,4 @@
--- `search::first_holding` meets its contract. The invariant: no face before f holds the point. The measure is how many faces
--- are left. Assumes nothing.
+-- `search::first_holding` meets its contract. The invariant: no face before f holds the point. Assumes nothing.
 use Rattle.search.specs.Scanning.{holding-start, face-there, face-ready, holding-on, holding-hit, holding-end}
 use Rattle.search.proofs.first_holding.Goals as goal
 

@@ -10,8 +10,8 @@ pub out-e-requires : goal.out-e-requires
 out-e-requires c =
     nearest-there c.requires c.walk_to_nearest_neighbor-v.ensures
 
-pub search_from-state-requires : goal.search_from-state-requires
-search_from-state-requires c =
+pub search_from-requires : goal.search_from-requires
+search_from-requires c =
     from-ready c.requires c.walk_to_nearest_neighbor-v.ensures c.out-e.ensures
 
 pub scan-requires : goal.scan-requires
@@ -20,10 +20,10 @@ scan-requires c =
 
 pub returns-in-Found : goal.returns-in-Found
 returns-in-Found c =
-    located-found c.requires c.walk_to_nearest_neighbor-v.ensures c.out-e.ensures c.search_from-state.ensures
+    located-found c.requires c.walk_to_nearest_neighbor-v.ensures c.out-e.ensures c.search_from.ensures
     c.in-Found.is
 
 pub returns-in-Onward : goal.returns-in-Onward
 returns-in-Onward c =
-    located-scanned c.requires c.walk_to_nearest_neighbor-v.ensures c.out-e.ensures c.search_from-state.ensures
+    located-scanned c.requires c.walk_to_nearest_neighbor-v.ensures c.out-e.ensures c.search_from.ensures
     c.in-Onward.is c.scan.ensures

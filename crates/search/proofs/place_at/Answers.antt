@@ -6,23 +6,14 @@ use Rattle.search.proofs.place_at.Goals as goal
 pub corners_of-k-requires : goal.corners_of-k-requires
 corners_of-k-requires c = corners-in c.requires
 
-pub is_position-requires : goal.is_position-requires
-is_position-requires c = tt
-
 pub returns-then-is_position : goal.returns-then-is_position
 returns-then-is_position c =
     place-u c.requires c.corners_of-k.ensures c.is_position.ensures c.if-is_position.true
-
-pub is_position-requires-2 : goal.is_position-requires-2
-is_position-requires-2 c = tt
 
 pub returns-then-is_position-2 : goal.returns-then-is_position-2
 returns-then-is_position-2 c =
     place-v c.requires c.corners_of-k.ensures c.is_position.ensures c.if-is_position.false
     c.is_position-2.ensures c.if-is_position-2.true
-
-pub is_position-requires-3 : goal.is_position-requires-3
-is_position-requires-3 c = tt
 
 pub returns-then-is_position-3 : goal.returns-then-is_position-3
 returns-then-is_position-3 c =

@@ -33,9 +33,6 @@ side_query-requires c = (
   (ends-range c.requires).2,
 )
 
-pub rev-requires : goal.rev-requires
-rev-requires c = tt
-
 pub returns-then-side_query-ge0 : goal.returns-then-side_query-ge0
 returns-then-side_query-ge0 c =
     ccw-on c.requires c.face-face.ensures c.if-face-eq0.false c.prev-prev.ensures c.origin-v.ensures

@@ -6,9 +6,6 @@ use Rattle.search.specs.Turns.{here-there, back-ready, prev-there, far-there, fa
 use mir.Syntax.{w64}
 use Rattle.search.proofs.rotate_cw.Goals as goal
 
-pub rev-e1-requires : goal.rev-e1-requires
-rev-e1-requires c = tt
-
 pub face-face-requires : goal.face-face-requires
 face-face-requires c = here-there (back-ready c.requires.turn c.rev-e1.ensures)
 

@@ -2,9 +2,5 @@
 use Rattle.search.specs.Searching.{Searching}
 use Rattle.search.proofs.search_from.Given as goal
 
-abbrev pub invariant-loop-left : goal.invariant-loop-left
-invariant-loop-left l =
-    Searching l.positions l.halves l.point l.initial.current l.initial.left l.current l.left
-
-abbrev pub decreases-loop-left : goal.decreases-loop-left
-decreases-loop-left l = l.left
+abbrev pub invariant-loop : goal.invariant-loop
+invariant-loop l = Searching l.positions l.halves l.point l.initial.current l.end l.current l.counter

@@ -8,9 +8,6 @@ origin-u-requires c = here-there c.requires
 pub position-from-requires : goal.position-from-requires
 position-from-requires c = (origin-placed c.requires c.origin-u.ensures).there
 
-pub is_position-requires : goal.is_position-requires
-is_position-requires c = tt
-
 pub returns-then-is_position : goal.returns-then-is_position
 returns-then-is_position c =
     at-origin c.requires c.origin-u.ensures c.position-from.ensures c.is_position.ensures c.if-is_position.true
@@ -22,9 +19,6 @@ to-w-requires c =
 pub position-to-requires : goal.position-to-requires
 position-to-requires c =
     (to-placed c.requires c.to-w.ensures).there
-
-pub is_position-requires-2 : goal.is_position-requires-2
-is_position-requires-2 c = tt
 
 pub returns-then-is_position-2 : goal.returns-then-is_position-2
 returns-then-is_position-2 c =

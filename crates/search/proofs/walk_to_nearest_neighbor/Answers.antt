@@ -18,17 +18,17 @@ pub loop-w-init : goal.loop-w-init
 loop-w-init c =
     nearing-start c.requires c.position-start.ensures (to_z-of_z {w = w64} (sfits_of c.distance_2-distance.type_inv) ∙ c.distance_2-distance.ensures)
 
-pub first_closer-closer-requires : goal.first_closer-closer-requires
-first_closer-closer-requires c = nearing-spokes c.loop-w.invariant
+pub first_closer-requires : goal.first_closer-requires
+first_closer-requires c = nearing-spokes c.loop-w.invariant
 
 pub loop-w-smaller : goal.loop-w-smaller
 loop-w-smaller c =
-    nearing-less c.loop-w.invariant c.first_closer-closer.ensures c.in-Vertex.is
+    nearing-less c.loop-w.invariant c.first_closer.ensures c.in-Some.is
 
 pub loop-w-preserved : goal.loop-w-preserved
 loop-w-preserved c =
-    nearing-on c.loop-w.invariant c.first_closer-closer.ensures c.in-Vertex.is (search rules)
+    nearing-on c.loop-w.invariant c.first_closer.ensures c.in-Some.is (search rules)
 
-pub returns-in-Nothing : goal.returns-in-Nothing
-returns-in-Nothing c =
-    nearing-end c.loop-w.invariant c.first_closer-closer.ensures c.in-Nothing.is
+pub returns : goal.returns
+returns c =
+    nearing-end c.loop-w.invariant c.first_closer.ensures c.in_default.is

@@ -1,5 +1,4 @@
 -- `search_near::direction` meets its contract. Assumes nothing.
-use borrow.Author.Rules.{rules}
 use Rattle.search_near.proofs.BoundaryLoopLaws.{direction-range, direction-is}
 use Rattle.search_near.proofs.direction.Goals as goal
 

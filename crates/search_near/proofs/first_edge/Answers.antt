@@ -1,5 +1,5 @@
 -- `search_near::first_edge` meets its contract. Assumes nothing.
-use borrow.Author.Rules.{rules, sfits_of}
+use borrow.Author.Rules.{sfits_of}
 use mir.Facts.{to_z-of_z}
 use mathlib.Core.Path.{refl, ◌∙◌}
 use Rattle.search_near.proofs.NearLaws.{start-there, start_back, start-placed, end-placed, ends-range, faces-back, faces-on}

@@ -1,5 +1,5 @@
 -- `search_near::is_right_turn` meets its contract. Assumes nothing.
-use borrow.Author.Rules.{rules, sfits_of}
+use borrow.Author.Rules.{sfits_of}
 use mathlib.Core.Path.{◌∙◌, ap₂}
 use mir.Facts.{to_z-of_z}
 use Rattle.nearby.specs.Test.{is_right_turn}

@@ -1,14 +1,7 @@
 -- The loop of `seed::seed`.
-use mathlib.Core.Path.{◌∙◌}
-use Prim.Native.Nat.{◌-◌}
-use native.Mathlib.Omega.{arith}
-use Rattle.seed.specs.SeedLoop.{SeedingOn, seeding-starts, seeding-point, seeding-full, seeding-ready, seeding-on, seeding-end}
+use Rattle.seed.specs.SeedLoop.{SeedingOn}
 use Rattle.seed.proofs.seed.Given as goal
 
 abbrev pub invariant-loop-i : goal.invariant-loop-i
 invariant-loop-i l =
     SeedingOn l.initial.positions l.initial.outs l.initial.halves l.initial.faces l.initial.pending l.initial.answers l.points l.count l.now l.positions l.outs l.halves l.faces l.pending l.answers l.i
-
-abbrev pub decreases-loop-i : goal.decreases-loop-i
-decreases-loop-i l =
-    l.count - l.i

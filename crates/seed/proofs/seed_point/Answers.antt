@@ -1,5 +1,4 @@
 -- `seed::seed_point` meets its contract. Assumes nothing.
-use borrow.Author.Rules.{rules}
 use mathlib.Core.Path.{refl}
 use Rattle.seed.specs.PointLaws.{point-ready, center-ready, point-full, point-in}
 use Rattle.seed.proofs.seed_point.Goals as goal

@@ -1,5 +1,4 @@
 -- `settled_test::first_spoke` meets its contract. Assumes nothing.
-use borrow.Author.Rules.{rules}
 use Rattle.circle_test.specs.GoodRows.{held}
 use Rattle.dcel.specs.MeshHeld.{there_out}
 use Rattle.settled_test.specs.SpokeLaws.{back-there, end-placed, back-prev, back-placed, first-spoke}
@@ -11,25 +10,25 @@ out-e-requires c = let s = c.requires in there_out (held s.0) s.1
 pub half_edge-half-requires : goal.half_edge-half-requires
 half_edge-half-requires c =
     let s = c.requires in
-    back-there s.0 s.1 c.out-e.ensures c.rev-t.ensures
+    back-there s.0 s.1 c.out-e.ensures c.rev.ensures
 
-pub position-here-requires : goal.position-here-requires
-position-here-requires c =
+pub position-requires : goal.position-requires
+position-requires c =
     let s = c.requires in
-    end-placed s.0 s.1 c.out-e.ensures c.rev-t.ensures c.half_edge-half.ensures
+    end-placed s.0 s.1 c.out-e.ensures c.rev.ensures c.half_edge-half.ensures
 
 pub origin-w-requires : goal.origin-w-requires
 origin-w-requires c =
     let s = c.requires in
-    back-prev s.0 s.1 c.out-e.ensures c.rev-t.ensures c.half_edge-half.ensures
+    back-prev s.0 s.1 c.out-e.ensures c.rev.ensures c.half_edge-half.ensures
 
-pub position-before-requires : goal.position-before-requires
-position-before-requires c =
+pub position-requires-2 : goal.position-requires-2
+position-requires-2 c =
     let s = c.requires in
-    back-placed s.0 s.1 c.out-e.ensures c.rev-t.ensures c.half_edge-half.ensures c.origin-w.ensures
+    back-placed s.0 s.1 c.out-e.ensures c.rev.ensures c.half_edge-half.ensures c.origin-w.ensures
 
 pub returns : goal.returns
 returns c =
     let s = c.requires in
-    first-spoke s.0 s.1 c.out-e.ensures c.rev-t.ensures c.half_edge-half.ensures
-    c.origin-w.ensures c.position-here.ensures c.position-before.ensures
+    first-spoke s.0 s.1 c.out-e.ensures c.rev.ensures c.half_edge-half.ensures
+    c.origin-w.ensures c.position.ensures c.position-2.ensures

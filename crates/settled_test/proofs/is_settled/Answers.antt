@@ -1,8 +1,6 @@
 -- `settled_test::is_settled` meets its contract. The loop's invariant: no edge below u breaks the rule. The measure is what is left of the
 -- edges. Assumes nothing.
-use Prim.Native.Nat.{◌-◌}
 use native.Mathlib.Omega.{arith}
-use Rattle.circle_scan.specs.Scan.{Unbroken}
 use Rattle.circle_scan.specs.ScanLaws.{scan-ready}
 use Rattle.settled_test.specs.AllLaws.{unbroken-none, unbroken-join, unbroken-settled}
 use Rattle.settled_test.proofs.is_settled.Goals as goal

@@ -1,9 +1,6 @@
 -- The loop of `settled_test::is_settled`.
 use Prim.Native.Nat.{◌-◌}
-use native.Mathlib.Omega.{arith}
 use Rattle.circle_scan.specs.Scan.{Unbroken}
-use Rattle.circle_scan.specs.ScanLaws.{scan-ready}
-use Rattle.settled_test.specs.AllLaws.{unbroken-none, unbroken-join, unbroken-settled}
 use Rattle.settled_test.proofs.is_settled.Given as goal
 
 abbrev pub invariant-loop-u : goal.invariant-loop-u

@@ -6,10 +6,10 @@ use Rattle.stages.proofs.StagesRows.{stepped-refused, stepped-accepted}
 use Rattle.stages.proofs.steps.Goals as goal
 
 pub steps_accepted-requires : goal.steps_accepted-requires
-steps_accepted-requires c = sym (run-checks _ c.answers_short-short.ensures c.check_sweep.ensures) ∙ c.in-Accepted.is
+steps_accepted-requires c = sym (run-checks _ c.answers_short-short.ensures c.check_sweep.ensures) ∙ c.in-Ok.is
 
-pub returns-in-Refused : goal.returns-in-Refused
-returns-in-Refused c = stepped-refused _ _ (sym c.in-Refused.is ∙ run-checks _ c.answers_short-short.ensures c.check_sweep.ensures)
+pub returns-in-Err : goal.returns-in-Err
+returns-in-Err c = stepped-refused _ _ (sym c.in-Err.is ∙ run-checks _ c.answers_short-short.ensures c.check_sweep.ensures)
 
-pub returns-in-Accepted : goal.returns-in-Accepted
-returns-in-Accepted c = c.steps_accepted.ensures ∙ stepped-accepted _ (sym (run-checks _ c.answers_short-short.ensures c.check_sweep.ensures) ∙ c.in-Accepted.is)
+pub returns-in-Ok : goal.returns-in-Ok
+returns-in-Ok c = c.steps_accepted.ensures ∙ stepped-accepted _ (sym (run-checks _ c.answers_short-short.ensures c.check_sweep.ensures) ∙ c.in-Ok.is)

@@ -9,7 +9,7 @@ use Rattle.angle.specs.declared.Point2.{Point2}
 use Rattle.dcel.specs.MeshRows.{MeshRows}
 use Rattle.locate.specs.Locate.{check_start}
 use Rattle.mesh.specs.declared.Counts.{Counts}
-use Rattle.mesh_check.specs.declared.Checked.{Checked}
+use Rattle.mesh_check.specs.Checked.{Checked}
 use Rattle.mesh_check.specs.Check.{vertex_count}
 use Rattle.start.specs.Start.{sweep_rows_short, sweep_checked}
 use Rattle.start.proofs.check_sweep.Goals as goal

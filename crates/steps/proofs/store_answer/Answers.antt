@@ -6,7 +6,6 @@ use Rattle.answers.specs.AnswerLaws.{answer-words}
 use Rattle.decide.specs.Decide.{fate_number, fate_vertex}
 use Rattle.sweep.specs.declared.Answer.{Answer}
 use Rattle.sweep.specs.Run.{answer_word}
-use borrow.Author.Rules.{rules}
 use Rattle.steps.proofs.store_answer.Goals as goal
 
 -- a step's answer, by its words
@@ -15,4 +14,4 @@ stored_answer : (row : ℕ → ℕ) (i : ℕ) (r : Answer) {a b : ℕ} {w : ℕ 
 stored_answer row i r e x y = e ∙ rw (x, y) (ap (with_words row i) (fun_ext (λ k. sym (answer-words r k))))
 
 pub returns : goal.returns
-returns c = stored_answer _ _ _ c.store_words.ensures c.fate_number-number.ensures c.fate_vertex-vertex.ensures
+returns c = stored_answer _ _ _ c.store_words.ensures c.fate_number.ensures c.fate_vertex.ensures

@@ -4,10 +4,10 @@ use Rattle.surface.specs.StoredHeights.{is_made}
 use borrow.Author.Rules.{rules}
 use Rattle.surface_rows.proofs.is_made.Goals as goal
 
-pub returns-in-Accepted : goal.returns-in-Accepted
+pub returns-in-Ok : goal.returns-in-Ok
 unfolding is_made
-returns-in-Accepted c = sym (ap is_made c.in-Accepted.is)
+returns-in-Ok c = sym (ap is_made c.in-Ok.is)
 
-pub returns-in-Refused : goal.returns-in-Refused
+pub returns-in-Err : goal.returns-in-Err
 unfolding is_made
-returns-in-Refused c = sym (ap is_made c.in-Refused.is)
+returns-in-Err c = sym (ap is_made c.in-Err.is)

@@ -4,10 +4,10 @@ use Rattle.surface.specs.StoredHeights.{place_of}
 use borrow.Author.Rules.{rules}
 use Rattle.surface_rows.proofs.place_of.Goals as goal
 
-pub returns-in-Accepted : goal.returns-in-Accepted
+pub returns-in-Ok : goal.returns-in-Ok
 unfolding place_of
-returns-in-Accepted c = sym (ap (place_of _) c.in-Accepted.is)
+returns-in-Ok c = sym (ap (place_of _) c.in-Ok.is)
 
-pub returns-in-Refused : goal.returns-in-Refused
+pub returns-in-Err : goal.returns-in-Err
 unfolding place_of
-returns-in-Refused c = sym (ap (place_of c.args.n) c.in-Refused.is)
+returns-in-Err c = sym (ap (place_of c.args.n) c.in-Err.is)

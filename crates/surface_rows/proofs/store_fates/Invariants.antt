@@ -10,7 +10,4 @@ use Rattle.surface_rows.proofs.store_fates.Given as goal
 
 abbrev pub invariant-loop-i : goal.invariant-loop-i
 invariant-loop-i l =
-    (l.i ≤ l.n) × (length l.heights ≡ length l.initial.heights) × (height_of l.heights ≡ stored_from l.low l.high l.answers (height_of l.point_heights) (height_of l.initial.heights) l.i)
-
-abbrev pub decreases-loop-i : goal.decreases-loop-i
-decreases-loop-i l = l.n - l.i
+    (length l.heights ≡ length l.initial.heights) × (height_of l.heights ≡ stored_from l.low l.high l.answers (height_of l.point_heights) (height_of l.initial.heights) l.i)

@@ -6,7 +6,6 @@ use lib.Dec.{T}
 use Prim.Native.Nat.{◌*◌, ◌%◌}
 use mathlib.Core.Bool.{Bool, not}
 use mathlib.Core.Path.{sym, ◌∙◌, subst}
-use borrow.Author.Rules.{rules}
 use Rattle.test_text.proofs.double.Goals as goal
 
 pub float_from_bits-result : goal.float_from_bits-result

@@ -9,7 +9,7 @@ use Rattle.volume.proofs.MeasurableLaws.{no-face, next-face, triangle-of, faces-
 use Rattle.volume.proofs.add_faces.Goals as goal
 
 pub loop-f-init : goal.loop-f-init
-loop-f-init c = let m = c.requires.some in (omega arith, omega arith, λ o. no-face _ _ _ _)
+loop-f-init c = let m = c.requires.some in (omega arith, λ o. no-face _ _ _ _)
 
 pub adjacent-a-requires : goal.adjacent-a-requires
 adjacent-a-requires c = lt_of_lt_of_le c.loop-f-test.true c.requires.faces
@@ -17,7 +17,7 @@ adjacent-a-requires c = lt_of_lt_of_le c.loop-f-test.true c.requires.faces
 pub add_face-sums-requires : goal.add_face-sums-requires
 add_face-sums-requires c =
     let i = c.loop-f.invariant in
-    rw (i.2 [], to_z-of_z c.ranges.level)
+    rw (i.1 [], to_z-of_z c.ranges.level)
     (faces-small c.requires [] _ (omega arith), triangle-of c.requires [] i.0 c.loop-f-test.true c.adjacent-a.ensures)
 
 pub loop-f-preserved : goal.loop-f-preserved
@@ -26,11 +26,10 @@ loop-f-preserved c =
     let f = c.loop-f.f in
     let i = c.loop-f.invariant in (
       omega arith,
-      omega arith,
-      λ o. next-face _ _ _ _ f i.0 (i.2 o) c.adjacent-a.ensures (c.add_face-sums.ensures o _),
+      λ o. next-face _ _ _ _ f i.0 (i.1 o) c.adjacent-a.ensures (c.add_face-sums.ensures o _),
     )
 
 pub returns : goal.returns
 returns c = λ o.
     let e : c.loop-f.f ≡ c.args.counts.faces = omega arith in
-    rw (to_z-of_z c.ranges.level, e) at (c.loop-f.invariant.2 o)
+    rw (to_z-of_z c.ranges.level, e) at (c.loop-f.invariant.1 o)

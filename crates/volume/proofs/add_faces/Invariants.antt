@@ -9,8 +9,5 @@ use Rattle.volume.proofs.add_faces.Given as goal
 
 abbrev pub invariant-loop-f : goal.invariant-loop-f
 invariant-loop-f l =
-    (0 < l.f) × (l.f ≤ l.count) × ((o : List ℕ)
+    (0 < l.f) × ((o : List ℕ)
     → l.sums ≡ face_sums (l.f - 1) (links_of o l.halves l.faces) (position_of l.positions) (height_of l.heights) l.level)
-
-abbrev pub decreases-loop-f : goal.decreases-loop-f
-decreases-loop-f l = l.count - l.f

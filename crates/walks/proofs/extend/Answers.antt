@@ -1,16 +1,21 @@
 -- `walks::extend` meets its contract. Assumes nothing.
-use mathlib.Core.Path.{refl}
-use Rattle.walks.proofs.Tests.{with_none, with-node}
+use mathlib.Core.Bool.{not}
+use mathlib.Core.Path.{refl, ap}
+use Prim.Native.Nat.{ℕ, ◌+◌}
+use native.Mathlib.Omega.{arith}
+use Rattle.sums.proofs.BitLaws.{bit_le}
+use Rattle.walks.proofs.Tests.{counted}
 use Rattle.walks.proofs.extend.Goals as goal
-use Rattle.walks.proofs.extend.Goals.{then-equal, else-equal}
+
+pub overflow_add-result-2 : goal.overflow_add-result-2
+overflow_add-result-2 c =
+    let P = c.requires in let f = P.few in let g = P.fits in let e = c.from.ensures in let m = bit_le (not c.equal-has_node.result) in
+    record { fits = omega arith }
 
 pub returns : goal.returns
 returns c =
     record {
       count = refl;
-      nodes = elim c.if-equal.branch [
-        | then-equal w ↦ with_none _ _ _ c.equal.ensures w.if-equal.true w.nodes-is
-        | else-equal w ↦ with-node _ _ _ c.equal.ensures w.if-equal.false w.nodes-is
-      ];
+      nodes = counted _ _ _ c.equal-has_node.ensures (ap (λ (k : ℕ). c.args.end.nodes + k) c.from.ensures);
       vertex = c.boundary_vertex-vertex.ensures;
     }

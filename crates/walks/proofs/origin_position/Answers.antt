@@ -1,5 +1,4 @@
 -- `walks::origin_position` meets its contract. Assumes nothing.
-use borrow.Author.Rules.{rules}
 use mathlib.Core.Path.{◌∙◌, ap}
 use Rattle.dcel.specs.Rows.{position_of}
 use Rattle.walks.proofs.origin_position.Goals as goal

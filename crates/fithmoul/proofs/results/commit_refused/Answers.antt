@@ -5,4 +5,4 @@ use borrow.Author.Rules.{rules}
 use Rattle.fithmoul.proofs.results.commit_refused.Goals as goal
 
 pub returns : goal.returns
-returns c = c.with_changes.ensures ∙ ap (with_changes _) c.step_refused-result.ensures
+returns c = c.with_changes.ensures ∙ ap (with_changes _) c.from.ensures

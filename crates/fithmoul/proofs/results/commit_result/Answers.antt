@@ -6,4 +6,4 @@ use Rattle.fithmoul.proofs.results.commit_result.Goals as goal
 
 pub returns : goal.returns
 returns c =
-    c.with_changes.ensures ∙ ap₂ with_changes c.commit_changes-after.ensures c.step_result-result.ensures
+    c.with_changes.ensures ∙ ap₂ with_changes c.commit_changes-after.ensures c.from.ensures

@@ -4,8 +4,8 @@ use Rattle.fithmoul.specs.Results.{finished_result}
 use borrow.Author.Rules.{rules}
 use Rattle.fithmoul.proofs.results.finished_result.Goals as goal
 
-pub returns-in-Accepted : goal.returns-in-Accepted
-returns-in-Accepted c = sym (ap (finished_result c.args.counts) c.in-Accepted.is)
+pub returns-in-Ok : goal.returns-in-Ok
+returns-in-Ok c = sym (ap (finished_result c.args.counts) c.in-Ok.is)
 
-pub returns-in-Refused : goal.returns-in-Refused
-returns-in-Refused c = sym (ap (finished_result c.args.counts) c.in-Refused.is)
+pub returns-in-Err : goal.returns-in-Err
+returns-in-Err c = sym (ap (finished_result c.args.counts) c.in-Err.is)

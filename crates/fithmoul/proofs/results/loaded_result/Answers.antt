@@ -4,4 +4,4 @@ use borrow.Author.Rules.{rules}
 use Rattle.fithmoul.proofs.results.loaded_result.Goals as goal
 
 pub returns : goal.returns
-returns c = load-marked c.args.line c.args.res c.line_mark.ensures
+returns c = load-marked c.args.line c.args.res c.from.ensures

@@ -6,4 +6,4 @@ use Rattle.fithmoul.proofs.results.run_result.Goals as goal
 
 pub returns : goal.returns
 returns c =
-    c.ran_with_changes.ensures ∙ ap₂ ran_with_changes c.run_changes-after.ensures c.finish_result-result.ensures
+    c.ran_with_changes.ensures ∙ ap₂ ran_with_changes c.run_changes-after.ensures c.from.ensures

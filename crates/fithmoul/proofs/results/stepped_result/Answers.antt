@@ -10,10 +10,10 @@ use Rattle.fithmoul.proofs.results.stepped_result.Goals as goal
 abbrev accepted : Counts → PointAnswer → StepResult
 accepted C a = record { refusal = 0; place = 0; vertices = C.vertices; edges = C.edges; faces = C.faces; answer = a }
 
-pub returns-in-Accepted : goal.returns-in-Accepted
-returns-in-Accepted c =
+pub returns-in-Ok : goal.returns-in-Ok
+returns-in-Ok c =
     let C = c.args.counts in
-    ap (accepted C) c.point_answer-words.ensures ∙ sym (ap (stepped_result C) c.in-Accepted.is)
+    ap (accepted C) c.from.ensures ∙ sym (ap (stepped_result C) c.in-Ok.is)
 
-pub returns-in-Refused : goal.returns-in-Refused
-returns-in-Refused c = sym (ap (stepped_result c.args.counts) c.in-Refused.is)
+pub returns-in-Err : goal.returns-in-Err
+returns-in-Err c = sym (ap (stepped_result c.args.counts) c.in-Err.is)

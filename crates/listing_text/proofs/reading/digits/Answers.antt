@@ -1,25 +1,26 @@
--- `listing_text::reading::digits` meets its contract. The invariant: the bytes passed are digits, with the capped value. Assumes nothing.
-use mathlib.Core.Path.{ap, sym}
-use Rattle.listing_text.specs.ReadingParts.{unsigned_of}
-use Rattle.listing_text.proofs.Numbers.{no-digits, counted_start, counted-below, counted-above, counted_next, counted-end}
+-- `listing_text::reading::digits` meets its contract. The invariant: the bytes passed are digits, with the value kept. Assumes nothing.
+use Rattle.std.specs.Prelude.{◌≡◌, ◌<◌, length}
+use Rattle.std.proofs.Common.{sym, ◌∙◌, ap, rules}
+use Rattle.listing_text.specs.ReadingParts.{saturated}
+use Rattle.listing_text.proofs.Numbers.{no-digits, counted_start, counted-none, counted_next, counted-end}
 use Rattle.listing_text.proofs.reading.digits.Goals as goal
 
-pub returns-then-from-field : goal.returns-then-from-field
-returns-then-from-field c = ap unsigned_of (sym (no-digits _ _ c.if-from-field.true))
+pub returns-then-is_empty : goal.returns-then-is_empty
+returns-then-is_empty c =
+    let empty : length c.args.field.now ≡ 0 = search rules in
+    ap saturated (sym (no-digits c.args.field.now empty))
 
-pub loop-i-init : goal.loop-i-init
-loop-i-init c = counted_start _ _ c.if-from-field.false
+pub loop-b-init : goal.loop-b-init
+loop-b-init c =
+    let some : 0 < length c.args.field.now = search rules in
+    counted_start c.args.field.now some
 
-pub returns-then-b-lt48 : goal.returns-then-b-lt48
-returns-then-b-lt48 c = counted-below _ _ c.loop-i.invariant c.loop-i-test.true c.if-b-lt48.true
+pub returns-then-not-is_ascii_digit : goal.returns-then-not-is_ascii_digit
+returns-then-not-is_ascii_digit c = counted-none c.loop-b.invariant c.loop-b-test.true (sym c.is_ascii_digit.ensures.value ∙ c.if-not-is_ascii_digit.true)
 
-pub returns-then-b-gt57 : goal.returns-then-b-gt57
-returns-then-b-gt57 c =
-    counted-above _ _ c.loop-i.invariant c.loop-i-test.true c.if-b-lt48.false c.if-b-gt57.true
-
-pub loop-i-preserved : goal.loop-i-preserved
-loop-i-preserved c =
-    counted_next _ _ c.loop-i.invariant c.loop-i-test.true c.if-b-lt48.false c.if-b-gt57.false c.with_digit-value.ensures
+pub loop-b-preserved : goal.loop-b-preserved
+loop-b-preserved c =
+    counted_next c.loop-b.invariant c.loop-b-test.true (sym c.is_ascii_digit.ensures.value ∙ c.if-not-is_ascii_digit.false) (search rules)
 
 pub returns : goal.returns
-returns c = counted-end _ _ c.loop-i.invariant c.loop-i-test.false
+returns c = counted-end c.loop-b.invariant c.loop-b-test.false

@@ -1,10 +1,7 @@
 -- The loop of `listing_text::reading::fields`.
-use Prim.Native.Nat.{◌-◌}
+use Rattle.std.specs.Prelude.{length}
 use Rattle.listing_text.proofs.Fields.{Filled}
 use Rattle.listing_text.proofs.reading.fields.Given as goal
 
-abbrev pub invariant-loop-k : goal.invariant-loop-k
-invariant-loop-k l = Filled l.line l.from l.count l.initial.numbers l.at l.numbers l.place l.k
-
-abbrev pub decreases-loop-k : goal.decreases-loop-k
-decreases-loop-k l = l.count - l.k
+abbrev pub invariant-loop-stored : goal.invariant-loop-stored
+invariant-loop-stored l = Filled l.line (length l.initial.stored-items) l.stored-items l.stored-index l.rest

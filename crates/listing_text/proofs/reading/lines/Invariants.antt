@@ -1,6 +1,5 @@
 -- The loop of `listing_text::reading::lines`.
-use Prim.Native.Nat.{◌-◌}
-use lib.ListN.{length}
+use Rattle.std.specs.Prelude.{◌-◌, length}
 use Rattle.listing_text.proofs.Lines.{Taken}
 use Rattle.listing_text.proofs.reading.lines.Given as goal
 

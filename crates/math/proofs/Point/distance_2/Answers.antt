@@ -1,7 +1,7 @@
 -- `math::Point::distance_2` meets its contract: the product of the difference with itself. Assumes nothing.
 use mathlib.Core.Path.{◌∙◌, ap₂}
 use mir.Facts.{to_z-of_z}
-use borrow.Author.Rules.{rules, sfits_of}
+use borrow.Author.Rules.{sfits_of}
 use Rattle.math.specs.Vector.{dot_of}
 use Rattle.math.proofs.VectorLaws.{short, length2-vectors}
 use mir.Syntax.{w64}

@@ -1,7 +1,6 @@
 -- `math::PointProjection::is_on_edge` meets its contract. Assumes nothing.
 use mathlib.Core.Path.{◌≡◌}
 use mathlib.Core.Bool.{Bool, true, not, ◌&&◌}
-use borrow.Author.Rules.{rules}
 use Rattle.math.proofs.PointProjection.is_on_edge.Goals as goal
 
 -- x and r are what the two calls answer

@@ -1,23 +1,16 @@
 -- `math::wide::sum_sign_wide` meets its contract: the four numbers' digits are multiplied out, and a large high digit or the carries give the sign.
 -- Assumes nothing.
 use mathlib.Core.Path.{◌≡◌, sym, ◌∙◌, ap, subst}
-use mathlib.Core.List.{[], ◌∷◌}
 use Prim.Native.Nat.{◌+◌, ◌/◌, ◌≤◌, ◌<◌}
-use lib.Signed.{shr_z}
 use native.Mathlib.Omega.{arith}
 use borrow.Author.Rules.{sfits_of}
-use lib.IntN.{ℤ, pos, nat_abs, ◌+ℤ◌, ◌*ℤ◌}
+use lib.IntN.{ℤ, nat_abs, ◌+ℤ◌, ◌*ℤ◌}
 use mir.Syntax.{w64}
 use mir.Val.{to_z, of_z}
 use mir.Facts.{to_z-of_z}
-use Rattle.algebra.specs.Ring.{◌⊕◌}
-use Rattle.algebra.proofs.RingLaws.{#◌, v0}
-use Rattle.algebra.proofs.Bound.{Env, []ᵉ, ◌∷ᵉ◌, fits64, reads64}
-use Rattle.algebra.proofs.Test.{lt-taken}
 use Rattle.math.specs.declared.wide.Digits.{Digits}
-use Rattle.math.proofs.Range.{abs-above}
 use Rattle.math.specs.Wide.{SplitOf, TwoDigits, sgn, wide_of, high_of, middle_of, low_of, total_of}
-use Rattle.math.proofs.WideLaws.{two_digits, high-abs, middle-abs, low-abs, products, total-small, outweighs}
+use Rattle.math.proofs.WideLaws.{two_digits, high-abs, middle-abs, low-abs, products, outweighs}
 use Rattle.math.proofs.wide.sum_sign_wide.Goals as goal
 
 pub split-a-requires : goal.split-a-requires
@@ -45,30 +38,8 @@ high-hi-requires c =
     let two : TwoDigits a × TwoDigits b × TwoDigits d × TwoDigits e = let p = c.requires in (two_digits (split1) p.0.abs, two_digits (split2) p.1.abs, two_digits (split3) p.2.abs, two_digits (split4) p.3.abs) in
     two
 
-pub magnitude-requires : goal.magnitude-requires
-magnitude-requires c =
-    let split1 : SplitOf c.args.x c.split-a.result = rw (to_z-of_z c.ranges.x) at c.split-a.ensures in
-    let split2 : SplitOf c.args.y c.split-b.result = rw (to_z-of_z c.ranges.y) at c.split-b.ensures in
-    let split3 : SplitOf c.args.z c.split-c.result = rw (to_z-of_z c.ranges.z) at c.split-c.ensures in
-    let split4 : SplitOf c.args.w c.split-d.result = rw (to_z-of_z c.ranges.w) at c.split-d.ensures in
-    let a : Digits = c.split-a.result in
-    let b : Digits = c.split-b.result in
-    let d : Digits = c.split-c.result in
-    let e : Digits = c.split-d.result in
-    let two : TwoDigits a × TwoDigits b × TwoDigits d × TwoDigits e = let p = c.requires in (two_digits (split1) p.0.abs, two_digits (split2) p.1.abs, two_digits (split3) p.2.abs, two_digits (split4) p.3.abs) in
-    let high_is : to_z w64 (of_z w64 c.high-hi.result) ≡ c.high-hi.result = to_z-of_z {w = w64} (sfits_of c.high-hi.type_inv) in
-    let t = two in
-    subst (λ (z : ℤ). nat_abs z ≤ 36028797018963968) (sym (high_is ∙ c.high-hi.ensures)) (high-abs t.0 t.1 t.2 t.3)
-
-pub overflow_add-total : goal.overflow_add-total
-overflow_add-total c =
-    let shifted : ℤ = shr_z (to_z w64 (of_z w64 c.args.total)) 67108864 in
-    let shifted-is : let a = c.args in shifted ≡ pos (total_of a.x a.y a.z a.w / 67108864) = ap (λ (z : ℤ). shr_z z 67108864) (to_z-of_z c.ranges.total ∙ c.requires.4) in
-    let env : Env (shifted ∷ []) (134217728 ∷ []) = let p = c.requires in subst (λ (z : ℤ). nat_abs z ≤ 134217728) (sym (shifted-is)) (omega (arith, total-small p.0 p.1 p.2 p.3)) ∷ᵉ []ᵉ in
-    fits64 (env) (v0 ⊕ # 6) tt
-
-pub returns-then-magnitude-total : goal.returns-then-magnitude-total
-returns-then-magnitude-total c =
+pub returns-then-unsigned_abs-total : goal.returns-then-unsigned_abs-total
+returns-then-unsigned_abs-total c =
     let split1 : SplitOf c.args.x c.split-a.result = rw (to_z-of_z c.ranges.x) at c.split-a.ensures in
     let split2 : SplitOf c.args.y c.split-b.result = rw (to_z-of_z c.ranges.y) at c.split-b.ensures in
     let split3 : SplitOf c.args.z c.split-c.result = rw (to_z-of_z c.ranges.z) at c.split-c.ensures in
@@ -79,13 +50,8 @@ returns-then-magnitude-total c =
     let e : Digits = c.split-d.result in
     let first : (h : ℤ) → h ≡ high_of a b d e → let s = c.args in total_of s.x s.y s.z s.w / 67108864 + 6 < nat_abs h → sgn h ≡ sgn (s.x *ℤ s.y +ℤ s.z *ℤ s.w) = λ h q k. let p = c.requires in outweighs (split1) (split2) (split3) (split4) p.0 p.1 p.2 p.3 h q k in
     let high_is : to_z w64 (of_z w64 c.high-hi.result) ≡ c.high-hi.result = to_z-of_z {w = w64} (sfits_of c.high-hi.type_inv) in
-    let magnitude-is : to_z w64 (of_z w64 c.magnitude.result) ≡ pos (nat_abs c.high-hi.result) = to_z-of_z {w = w64} (sfits_of c.magnitude.type_inv) ∙ c.magnitude.ensures ∙ ap (λ (z : ℤ). pos (nat_abs z)) {y = c.high-hi.result} (high_is) in
-    let shifted : ℤ = shr_z (to_z w64 (of_z w64 c.args.total)) 67108864 in
-    let shifted-is : let a = c.args in shifted ≡ pos (total_of a.x a.y a.z a.w / 67108864) = ap (λ (z : ℤ). shr_z z 67108864) (to_z-of_z c.ranges.total ∙ c.requires.4) in
-    let env : Env (shifted ∷ []) (134217728 ∷ []) = let p = c.requires in subst (λ (z : ℤ). nat_abs z ≤ 134217728) (sym (shifted-is)) (omega (arith, total-small p.0 p.1 p.2 p.3)) ∷ᵉ []ᵉ in
-    ap sgn (high_is)
-    ∙ first c.high-hi.result c.high-hi.ensures
-    (abs-above _ (lt-taken (reads64 (env) (v0 ⊕ # 6) tt ∙ ap (λ (z : ℤ). z +ℤ pos 6) (shifted-is)) (magnitude-is) c.if-magnitude-total.true))
+    let size : c.unsigned_abs.result ≡ nat_abs c.high-hi.result = rw high_is at c.unsigned_abs.ensures.value in
+    ap sgn (high_is) ∙ first c.high-hi.result c.high-hi.ensures (omega (arith, size, c.requires.4))
 
 pub middle-requires : goal.middle-requires
 middle-requires c =

@@ -1,8 +1,0 @@
--- `dcel::origin` meets its contract. Assumes nothing.
-use borrow.Author.Rules.{rules}
-use Rattle.dcel.specs.Rows.{halves_of}
-use Rattle.dcel.proofs.origin.Goals as goal
-
-pub returns : goal.returns
-unfolding halves_of
-returns c = search rules

@@ -1,9 +1,0 @@
--- `insertion_operations::half_links` meets its contract. Assumes nothing.
-use borrow.Author.Rules.{rules}
-use Rattle.insertion_operations.specs.Insert.{half_links}
-use Rattle.insertion_operations.proofs.half_links.Goals as goal
-
-pub returns : goal.returns
-unfolding half_links
-returns c =
-    rw (c.set_origin.ensures, c.set_face.ensures, c.set_next-3.ensures, c.set_next-2.ensures, c.set_prev-3.ensures, c.set_prev-2.ensures, c.set_prev.ensures, c.set_next.ensures)

@@ -1,6 +1,0 @@
--- `prefetch::find` meets its contract. The measure is what is left of them. Assumes nothing.
-use Rattle.std.proofs.Common.{◌≡◌, ◌-◌, ◌≤◌, length, arith, length-set, rules}
-use Rattle.prefetch.proofs.find.Goals as goal
-
-pub loop-j-preserved : goal.loop-j-preserved
-loop-j-preserved c = (omega arith, omega arith, simp length-set (omega arith), simp length-set (omega arith))

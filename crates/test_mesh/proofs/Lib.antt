@@ -1,2 +1,0 @@
--- Laws for the rows that are lent in part.
-pub mod Lent
