@@ -14,6 +14,10 @@ words_of fate vertex faces flips (suc (suc (suc k))) = flips
 unfoldable pub with_words : (ℕ → ℕ) → ℕ → (ℕ → ℕ) → ℕ → ℕ
 with_words row i word x = cond (eqb (x / answer_words) i) (word (x % answer_words)) (row x)
 
+-- the fate of point i, the first of its words, is from `low` to `high`
+unfoldable pub fate_in : ℕ → ℕ → (ℕ → ℕ) → ℕ → Bool
+fate_in low high row i = leb low (row (answer_words * i)) && leb (row (answer_words * i)) high
+
 -- 02, Change 2: "points of fates 3, 4 and 5"
 unfoldable pub skipped_number : ℕ → Bool
 skipped_number f = leb 3 f && leb f 5

@@ -1,11 +1,11 @@
-// The row of answers of a run, four words a point: stores into it, zeros over a part of it, and the points that it says were skipped.
+// The row of answers of a run, four words a point: stores into it, zeros over a part of it, and which fates it has for a point.
 #![tactic(auto)]
 
 ghost use Rattle.std.specs.Prelude.{◌≡◌, ◌+◌, ◌*◌, ◌<◌, ◌≤◌, ltb, length};
 ghost use Rattle.dcel.specs.Rows.{row_of};
 ghost use Rattle.mesh_check.specs.Check.{point_count};
 ghost use Rattle.sweep.specs.Run.{answer_words};
-ghost use Rattle.answers.specs.AnswerRows.{words_of, with_words, skipped_in, zeroed_at, Zeroed, SkippedZeroed};
+ghost use Rattle.answers.specs.AnswerRows.{words_of, with_words, fate_in, skipped_in, zeroed_at, Zeroed, SkippedZeroed};
 
 use sweep::ANSWER_WORDS;
 
@@ -35,13 +35,23 @@ pub fn zero_answers(answers: &mut [u64], from: u32, to: u32)
     answers[start..end].fill(0);
 }
 
+// Whether the fate of point i is from `low` to `high`.
+#[tactic(auto, unfolding(crate::specs::AnswerRows::fate_in, dcel::specs::Rows::row_of))]
+pub fn has_fate(answers: &[u64], low: u64, high: u64, i: u32) -> bool
+    requires { answer_words * i < length answers.now }
+    ensures { result ≡ fate_in low high (row_of answers.now) i }
+{
+    let fate = answers[ANSWER_WORDS * (i as usize)];
+    low <= fate && fate <= high
+}
+
 // Whether point i was skipped: its fate is 3, 4 or 5.
+#[tactic(auto, unfolding(crate::specs::AnswerRows::skipped_number, crate::specs::AnswerRows::fate_in))]
 pub fn is_skipped(answers: &[u64], i: u32) -> bool
     requires { answer_words * i < length answers.now }
     ensures { result ≡ skipped_in (row_of answers.now) i }
 {
-    let fate = answers[ANSWER_WORDS * (i as usize)];
-    3 <= fate && fate <= 5
+    has_fate(answers, 3, 5, i)
 }
 
 // Zeros for point i, if it was skipped.

@@ -12,6 +12,7 @@ use mesh_check::Refusal;
 use sweep::ANSWER_WORDS;
 
 // The row of n points, one of the mesh's, or one of the heights is too short.
+#[tactic(auto, unfolding(crate::specs::Lent::surface_short))]
 fn surface_short(
     n: usize,
     points: usize,
@@ -25,19 +26,14 @@ fn surface_short(
     requires { n ≤ 1000000 }
     ensures { result ≡ surface_short n points point_heights positions heights outs halves faces }
 {
-    if points < 2 * n {
-        return true;
-    }
-    if mesh_check_rows::mesh_rows_short(n, positions, outs, halves, faces) {
-        return true;
-    }
-    if heights < n {
-        return true;
-    }
-    point_heights < n
+    points < 2 * n
+        || mesh_check_rows::mesh_rows_short(n, positions, outs, halves, faces)
+        || heights < n
+        || point_heights < n
 }
 
 // One of the rows is too short for n points.
+#[tactic(auto, unfolding(crate::specs::Lent::load_short))]
 fn load_short(
     n: usize,
     points: usize,
@@ -57,19 +53,17 @@ fn load_short(
     ensures { result ≡ load_short n points point_heights positions heights outs halves faces nodes freed buckets pending answers }
 {
     let few = answers < ANSWER_WORDS * n;
-    if start::sweep_rows_short(few, n, nodes, freed, buckets, pending) {
-        return true;
-    }
-    surface_short(
-        n,
-        points,
-        point_heights,
-        positions,
-        heights,
-        outs,
-        halves,
-        faces,
-    )
+    start::sweep_rows_short(few, n, nodes, freed, buckets, pending)
+        || surface_short(
+            n,
+            points,
+            point_heights,
+            positions,
+            heights,
+            outs,
+            halves,
+            faces,
+        )
 }
 
 // Rows 3 and 10 of the table, for n points and their heights.

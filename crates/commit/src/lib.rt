@@ -9,6 +9,7 @@ ghost use Rattle.quote.specs.Quote.{last_change};
 ghost use Rattle.commit.specs.Commit.{commit_checked, is_counted, commit_changes, run_changes};
 
 use angle::Point2;
+use decide::Fate;
 use finish::Totals;
 use math::Point;
 use mesh::Counts;
@@ -49,11 +50,12 @@ pub fn check_commit(
 }
 
 // Whether a commit adds a vertex or is refused 9.
+#[tactic(auto, unfolding(crate::specs::Commit::is_counted, sweep::specs::Step::is_added))]
 fn is_counted(stepped: Result<Answer, Refusal>) -> bool
     ensures { result ≡ is_counted stepped }
 {
     match stepped {
-        Ok(answer) => decide::fate_number(answer.fate) == 1,
+        Ok(answer) => matches!(answer.fate, Fate::Added(_)),
         Err(refusal) => refusal.number == 9,
     }
 }

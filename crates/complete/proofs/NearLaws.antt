@@ -1,5 +1,5 @@
 -- What the search from near by asks, for one point and for the list: a mesh to walk on stays one while points go in. Assumes nothing.
-use Rattle.std.specs.Prelude.{Bool, true, List, ◌≡◌, ℕ, ◌<◌, T, ℤ, length}
+use Rattle.std.specs.Prelude.{Bool, true, List, ◌≡◌, ℕ, ◌*◌, ◌<◌, ◌≤◌, T, ℤ, length}
 use Rattle.std.proofs.Common.{sym, ◌∙◌, ap, subst, arith}
 use Rattle.answers.specs.AnswerRows.{skipped_in}
 use Rattle.circle_test.specs.GoodRows.{GoodRows}
@@ -14,8 +14,9 @@ use Rattle.nearby.proofs.TestLaws.{tested-walkable}
 use Rattle.skipped.specs.Fill.{Filling}
 use Rattle.skipped_nearby.proofs.InsertWalkable.{fill-walkable}
 use Rattle.sums.proofs.BitLaws.{from-true}
+use Rattle.sweep.specs.Run.{answer_words}
 use Rattle.walkable.specs.Walkable.{Walkable}
-use Rattle.complete.specs.CompleteRows.{PointNear, FillNear}
+use Rattle.complete.specs.CompleteRows.{PointNear, FillReady, FillNear}
 use Rattle.complete.specs.FillLoop.{FillingOn}
 use Rattle.complete.proofs.FillLoopLaws.{filling-point}
 use Rattle.complete.proofs.PointLaws.{point-ready}
@@ -36,6 +37,21 @@ module _ {C : Counts} {q : List ℤ} {o h a : List ℕ} (R : GoodRows C q o h a)
 
   pub prepared : {b : Bool} → b ≡ is_walkable C (links_of o h a) (position_of q) → b ≡ true → Walkable C (links_of o h a) (position_of q)
   prepared e t = tested-walkable R.good.wf (position_of q) (from-true (sym e ∙ t))
+
+-- what the preparation of a list reads
+pub record ToPrepare (C : Counts) (q : List ℤ) (o h a w : List ℕ) (points : List ℤ) (n : ℕ) : Type 0 where
+  pub rows : GoodRows C q o h a
+  pub pairs : 2 * n ≤ length points
+  pub answers-room : answer_words * n ≤ length w
+
+pub grid-ready : {C : Counts} {q : List ℤ} {o h a w : List ℕ} {points : List ℤ} {n : ℕ} → ToPrepare C q o h a w points n
+    → (0 < C.vertices) × (2 * C.vertices ≤ length q) × (2 * n ≤ length points)
+grid-ready R = (vertices-some R.rows, R.rows.positions, R.pairs)
+
+-- a list that is ready is so for the preparation
+pub to-prepare : {C : Counts} {q : List ℤ} {o h a row w : List ℕ} {points : List ℤ} {n : ℕ} → FillReady C q o h a row w points n
+    → ToPrepare C q o h a w points n
+to-prepare R = record { rows = R.rows; pairs = R.pairs; answers-room = R.answers-room }
 
 -- ---- the list: the mesh before point i is still one to walk on
 pub filling-near : {C₀ : Counts} {q₀ : List ℤ} {o₀ h₀ a₀ row₀ w₀ : List ℕ} {points : List ℤ} {n : ℕ} {known : Bool}

@@ -16,8 +16,7 @@ ghost use Rattle.walkable.specs.Walkable.{Walkable};
 ghost use Rattle.dcel.specs.Rows.{links_of, position_of};
 ghost use Rattle.circle_test.specs.GoodRows.{GoodRows};
 ghost use Rattle.complete.specs.CompleteRows.{filling_of, PointNear, PointLeaves, NoneSkipped, FillReady, FillNear, FillLeaves};
-ghost use Rattle.complete.specs.CompleteRows.{inside_in, StillSettled};
-ghost use Rattle.dcel.specs.Rows.{row_of};
+ghost use Rattle.complete.specs.CompleteRows.{StillSettled};
 ghost use Rattle.mesh.specs.Circle.{Settled};
 ghost use Rattle.complete.specs.CompleteRows.{stopped_at, close_fill, CloseReady, CompleteReady, CompleteLeaves};
 
@@ -27,7 +26,6 @@ use grid::{Grid, Range};
 use location::PositionInTriangulation;
 use math::Point;
 use mesh::Counts;
-use sweep::ANSWER_WORDS;
 
 // From so many vertices on a mesh is large: past what a processor's second cache holds.
 const LARGE: u32 = 65536;
@@ -282,17 +280,8 @@ fn fill_point(
     }
 }
 
-// Whether point i went into a triangle or on an edge: its fate is 6 or 7.
-fn is_inside(answers: &[u64], i: u32) -> bool
-    requires { answer_words * i < length answers.now }
-    ensures { result ≡ inside_in (row_of answers.now) i }
-{
-    let fate = answers[ANSWER_WORDS * (i as usize)];
-    6 <= fate && fate <= 7
-}
-
 // Whether it is still known that no edge breaks the circle rule, now that point i is in: it was, and the point is no new vertex, or it went
-// into a triangle or on an edge and no edge at its vertex breaks the rule.
+// into a triangle (fate 6) or on an edge (7) and no edge at its vertex breaks the rule.
 fn is_still_settled(
     positions: &[i32],
     outs: &[u32],
@@ -311,7 +300,7 @@ fn is_still_settled(
     let vertex = before.vertices;
     settled
         && (after.vertices <= vertex
-            || is_inside(answers, i)
+            || answers::has_fate(answers, 6, 7, i)
                 && settled_test::is_unbroken_at(positions, outs, halves, faces, after, vertex))
 }
 

@@ -3,7 +3,7 @@
 // (bulk_load.rs). What is left is `close_corner` of specs/Corner.antt; its laws are in specs/CornerLaws.antt.
 #![tactic(auto)]
 
-ghost use Rattle.std.specs.Prelude.{◌||◌, ◌≡◌, eqb, length};
+ghost use Rattle.std.specs.Prelude.{◌≡◌, length};
 ghost use Rattle.dcel.specs.Rows.{position_of};
 ghost use Rattle.corner.specs.Corner.{close_corner};
 ghost use Rattle.corner.specs.CornerRows.{extended_of, CloseReady};
@@ -11,6 +11,7 @@ ghost use Rattle.corner.specs.CornerRows.{extended_of, CloseReady};
 use mesh::Counts;
 
 // What has become of a mesh: its counts, the faces added, the flips, and whether a flip's pushes would have overfilled the pending list.
+// A flag and no Err: the rest stands in either case, and the definition `Extended` has them side by side.
 #[derive(Clone, Copy)]
 pub struct Extension {
     pub counts: Counts,
@@ -59,11 +60,4 @@ pub fn close_corner(
         flips: done.flips,
         full: done.full,
     }
-}
-
-// A loop of so many turns, each of which closes corners, ends after the last of them, and where a flip was refused.
-pub fn walk_ends(full: bool, left: u32) -> bool
-    ensures { result ≡ (full || eqb left 0) }
-{
-    full || left == 0
 }

@@ -200,7 +200,7 @@ pub fn decide(
         node.edge,
         node.angle,
         right.angle,
-        hull.nodes - hull.freed,
+        hull.size(),
         found,
         counts.vertices,
         point,

@@ -28,7 +28,8 @@ pub struct FinishAnswer {
     pub finished: Result<Totals, Refusal>,
 }
 
-// What was made of a mesh, and whether a flip's pushes would have overfilled the pending list.
+// What was made of a mesh, and whether a flip's pushes would have overfilled the pending list. A flag and no Err: the counts are answered in
+// either case, and the definition `Finishing` has them side by side.
 #[derive(Clone, Copy)]
 pub struct Ended {
     pub counts: Counts,
@@ -48,9 +49,8 @@ pub fn check_seed(
     ensures { result ≡ seed_checked counts
         (mesh_rows positions.now outs.now halves.now faces.now) pending.now }
 {
-    let none = &positions[0..0];
     mesh_check_rows::check_with(
-        none,
+        &[],
         pending::is_short(pending.len()),
         counts,
         positions,
@@ -107,7 +107,7 @@ pub fn answer_of(ended: Ended, place: u32) -> FinishAnswer
     if ended.full {
         return FinishAnswer {
             counts: ended.counts,
-            finished: Err(Refusal { number: 9, place }),
+            finished: Err(Refusal::at(9, place)),
         };
     }
     FinishAnswer {

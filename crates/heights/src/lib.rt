@@ -35,16 +35,11 @@ pub fn set_height(row: &mut [i32], v: u32, z: i32)
     row[v as usize] = z;
 }
 
+#[tactic(auto, unfolding(crate::specs::Heights::is_valid_height))]
 pub fn validate_height(z: i32) -> bool
     ensures { result ≡ is_valid_height z }
 {
-    if z > 1048576 {
-        return false;
-    }
-    if z < -1048576 {
-        return false;
-    }
-    true
+    z.unsigned_abs() <= 1048576
 }
 
 // One of so many heights of a row is outside. Every one is looked at, so that several can be at a time.
@@ -62,17 +57,17 @@ pub fn heights_outside(row: &[i32], count: usize) -> bool
 }
 
 // A row of heights is too short: one for each vertex, those that the points may become among them, and one for each point.
+#[tactic(auto, unfolding(crate::specs::Heights::any_heights_short))]
 fn any_heights_short(points: &[i32], point_heights: &[i32], counts: Counts, heights: &[i32]) -> bool
     ensures { (short outside : Bool)
         → result ≡ any_heights_short (heights_lent points.now point_heights.now short outside) counts heights.now }
 {
-    if heights.len() < mesh_check::vertex_count(counts, points) {
-        return true;
-    }
-    point_heights.len() < mesh_check::point_count(points)
+    heights.len() < mesh_check::vertex_count(counts, points)
+        || point_heights.len() < mesh_check::point_count(points)
 }
 
 // A height of a vertex in use or of a point is outside, or `outside`.
+#[tactic(auto, unfolding(crate::specs::Heights::any_heights_outside))]
 fn any_heights_outside(
     points: &[i32],
     point_heights: &[i32],
@@ -84,13 +79,9 @@ fn any_heights_outside(
     ensures { (short : Bool)
         → result ≡ any_heights_outside (heights_lent points.now point_heights.now short outside) counts heights.now }
 {
-    if outside {
-        return true;
-    }
-    if heights_outside(heights, counts.vertices as usize) {
-        return true;
-    }
-    heights_outside(point_heights, mesh_check::point_count(points))
+    outside
+        || heights_outside(heights, counts.vertices as usize)
+        || heights_outside(point_heights, mesh_check::point_count(points))
 }
 
 // Rows 1, 2 and 3 of the table, and then 10 where `outside`. `short`: a row is too short that is neither the mesh's nor that of the points.
@@ -115,7 +106,7 @@ fn check_ten(
 }
 
 // What rows 1, 2, 3 and 10 answer a call that has heights: its points and theirs, none or more; `short`, another of its rows is too short;
-// `outside`, a level is. Where every row of heights is long enough and nothing is outside this is `Accepted` at once: rows 1 to 3 are then
+// `outside`, a level is. Where every row of heights is long enough and nothing is outside it accepts them at once: rows 1 to 3 are then
 // those of the call's own table.
 pub fn check_heights(
     points: &[i32],
@@ -158,9 +149,17 @@ pub fn check_surface(
         (surface_rows (mesh_rows positions.now outs.now halves.now faces.now)
         heights.now) }
 {
-    let none = &positions[0..0];
     check_heights(
-        none, none, false, outside, counts, positions, heights, outs, halves, faces,
+        &[],
+        &[],
+        false,
+        outside,
+        counts,
+        positions,
+        heights,
+        outs,
+        halves,
+        faces,
     )?;
     mesh_check_rows::check(counts, positions, outs, halves, faces)
 }

@@ -27,6 +27,7 @@ pub enum Entry {
 }
 
 // The flips so far, those before the call among them, and whether the pushes of a flip would have overfilled the pending list.
+// A flag and no Err: the flips count in either case, and the loops' definitions have them side by side.
 #[derive(Clone, Copy)]
 pub struct Legalized {
     pub flips: u64,

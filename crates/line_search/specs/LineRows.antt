@@ -29,7 +29,6 @@ pub record VerticesReady (C : Counts) (q : List ℤ) (point : Point) : Type 0 wh
   pub range : {v : ℕ} → v < C.vertices → InRange (position_of q v)
   pub distinct : {u v : ℕ} → u < C.vertices → v < C.vertices → position_of q u ≡ position_of q v → u ≡ v
   pub point-range : InRange point
-  pub some : 0 < C.vertices
 
 -- a neighbour by its number, which is the number of vertices where there is none
 abbrev pub neighbor : Counts → ℕ → Option ℕ
@@ -62,10 +61,15 @@ pub record OutReady (o h : List ℕ) (v : ℕ) : Type 0 where
   pub here : There h (row_of o v)
   pub back : There h (rev (row_of o v))
 
--- the same of each vertex
-pub record NeighborsReady (C : Counts) (o h : List ℕ) (before after : Option ℕ) : Type 0 where
+-- the same of the neighbour after the point, where there is one
+pub record NeighborsReady (C : Counts) (o h : List ℕ) (after : ℕ) : Type 0 where
+  pub most : after ≤ C.vertices
+  pub out : after < C.vertices → OutReady o h after
+
+-- the two as the pass answers them
+pub record FoundReady (C : Counts) (o h : List ℕ) (before after : Option ℕ) : Type 0 where
   pub found : Neighbored C before after
-  pub out : {v : ℕ} → v < C.vertices → OutReady o h v
+  pub ready : NeighborsReady C o h (number_of C after)
 
 -- `locate_on_line` where no vertex is at the point
 unfoldable pub at_neighbors : Counts → Links → ℕ → ℕ → PositionWhenAllVerticesOnLine

@@ -202,8 +202,8 @@ module _ {C : Counts} {q : List ℤ} {point : Point} (R : VerticesReady C q poin
           ∙ rw (e, le-ltb n n (omega arith), before-is, after_is) refl
 
       -- with neither every vertex is between two positions out of range
-      pub narrow-found : Neighbored C b a
-      narrow-found = record {
+      pub narrow-found : 0 < C.vertices → Neighbored C b a
+      narrow-found l = record {
         low = λ e. (subst (λ (x : Option ℕ). StandsAt q n lowest x low) e K.at_low).0;
         high = λ e. (subst (λ (x : Option ℕ). StandsAt q n highest x high) e K.at_high).0;
         some = λ e. one e a refl;
@@ -211,6 +211,6 @@ module _ {C : Counts} {q : List ℤ} {point : Point} (R : VerticesReady C q poin
         where
           one : b ≡ None → (x : Option ℕ) → a ≡ x → IsSome x
           one e (Some v) i = refl
-          one e None i = absurd (free 0 R.some
-              (subst⁻¹ (λ (x : Point). Precedes x (p 0)) (subst (λ (x : Option ℕ). StandsAt q n lowest x low) e K.at_low) (lowest-precedes (R.range R.some)))
-              (subst⁻¹ (λ (x : Point). Precedes (p 0) x) (subst (λ (x : Option ℕ). StandsAt q n highest x high) i K.at_high) (precedes-highest (R.range R.some))))
+          one e None i = absurd (free 0 l
+              (subst⁻¹ (λ (x : Point). Precedes x (p 0)) (subst (λ (x : Option ℕ). StandsAt q n lowest x low) e K.at_low) (lowest-precedes (R.range l)))
+              (subst⁻¹ (λ (x : Point). Precedes (p 0) x) (subst (λ (x : Option ℕ). StandsAt q n highest x high) i K.at_high) (precedes-highest (R.range l))))

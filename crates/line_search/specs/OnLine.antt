@@ -21,7 +21,7 @@ use Rattle.sums.specs.Half.{rev}
 use Rattle.sums.proofs.HalfLaws.{rev-below}
 use Rattle.line_search.specs.declared.Neighbors.{Neighbors}
 use Rattle.line_search.specs.declared.Neighbors.TheVariants.{Vertex, Between}
-use Rattle.line_search.specs.LineRows.{LineReady, VerticesReady, OutReady, FoundIs, NeighborsReady, neighbor, number_of, neighbors_of, at_neighbors}
+use Rattle.line_search.specs.LineRows.{LineReady, VerticesReady, OutReady, FoundIs, NeighborsReady, FoundReady, neighbor, number_of, neighbors_of, at_neighbors}
 
 -- ---- the edge between two neighbours
 module _ (o h : List ℕ) (v u : ℕ) {e w : ℕ} (x : e ≡ row_of o v) (y : w ≡ (halves_of h).origin (rev e)) where
@@ -44,31 +44,47 @@ module _ {o h : List ℕ} {v e : ℕ} (R : OutReady o h v) (x : e ≡ row_of o v
   out-back = rw x R.back
 
 -- ---- by the two neighbours
-module _ {C : Counts} {o h : List ℕ} {b c : Option ℕ} (N : NeighborsReady C o h b c) where
-  pub no-before : b ≡ None → {v : ℕ} → c ≡ Some v → (a : List ℕ)
-      → ExtendingLine v ≡ at_neighbors C (links_of o h a) (number_of C b) (number_of C c)
+module _ (C : Counts) (o h : List ℕ) (b c : ℕ) where
+  pub no-before : b ≡ C.vertices → (a : List ℕ) → ExtendingLine c ≡ at_neighbors C (links_of o h a) b c
   unfolding at_neighbors
-  no-before x y a = rw (x, y, eq-eqb C.vertices C.vertices refl) refl
+  no-before x a = rw (eq-eqb b C.vertices x) refl
+
+  module _ (x : b ≢ C.vertices) where
+    pub no-after : c ≡ C.vertices → (a : List ℕ) → ExtendingLine b ≡ at_neighbors C (links_of o h a) b c
+    unfolding at_neighbors
+    no-after y a = rw (ne_eqb b C.vertices x, eq-eqb c C.vertices y) refl
+
+    pub both-there : c ≢ C.vertices → {e : ℕ} → ((a : List ℕ) → e ≡ edge_from_neighbors (links_of o h a) c b) → (a : List ℕ)
+        → OnEdge e ≡ at_neighbors C (links_of o h a) b c
+    unfolding at_neighbors
+    both-there y z a = rw (ne_eqb b C.vertices x, ne_eqb c C.vertices y) (ap OnEdge (z a))
+
+pub after-out : {C : Counts} {o h : List ℕ} {c : ℕ} → NeighborsReady C o h c → c ≢ C.vertices → OutReady o h c
+after-out N x = N.out (let k = N.most in omega arith)
+
+-- the same of the two as the pass answers them
+module _ {C : Counts} {o h : List ℕ} {b c : Option ℕ} (N : FoundReady C o h b c) where
+  pub none-before : b ≡ None → {v : ℕ} → c ≡ Some v → (a : List ℕ)
+      → ExtendingLine v ≡ at_neighbors C (links_of o h a) (number_of C b) (number_of C c)
+  none-before x {v} y a = rw (x, y) (no-before C o h C.vertices v refl a)
 
   module _ {u : ℕ} (x : b ≡ Some u) where
     before-used : u ≢ C.vertices
     before-used e = let l = N.found.low x in omega arith
 
-    pub no-after : c ≡ None → (a : List ℕ) → ExtendingLine u ≡ at_neighbors C (links_of o h a) (number_of C b) (number_of C c)
-    unfolding at_neighbors
-    no-after y a = rw (x, y, ne_eqb u C.vertices before-used, eq-eqb C.vertices C.vertices refl) refl
+    pub none-after : c ≡ None → (a : List ℕ) → ExtendingLine u ≡ at_neighbors C (links_of o h a) (number_of C b) (number_of C c)
+    none-after y a = rw (x, y) (no-after C o h u C.vertices before-used refl a)
 
     module _ {v : ℕ} (y : c ≡ Some v) where
       after-used : v ≢ C.vertices
       after-used e = let l = N.found.high y in omega arith
 
-      pub after-out : OutReady o h v
-      after-out = N.out (N.found.high y)
+      pub found-out : OutReady o h v
+      found-out = after-out (subst (λ (x : Option ℕ). NeighborsReady C o h (number_of C x)) y N.ready) after-used
 
-      pub both-there : {e : ℕ} → ((a : List ℕ) → e ≡ edge_from_neighbors (links_of o h a) v u) → (a : List ℕ)
+      pub both-found : {e : ℕ} → ((a : List ℕ) → e ≡ edge_from_neighbors (links_of o h a) v u) → (a : List ℕ)
           → OnEdge e ≡ at_neighbors C (links_of o h a) (number_of C b) (number_of C c)
-      unfolding at_neighbors
-      both-there z a = rw (x, y, ne_eqb u C.vertices before-used, ne_eqb v C.vertices after-used) (ap OnEdge (z a))
+      both-found z a = rw (x, y) (both-there C o h u v before-used after-used z a)
 
 -- ---- a point on the line: `locate_on_line` goes by what the pass answers
 abbrev place_of : Counts → Links → Neighbors → PositionWhenAllVerticesOnLine
@@ -96,6 +112,22 @@ place_is C L p q = go (ltb (vertex_on C p q) C.vertices)
         ap₂ (at_neighbors C L) (sym (number-is C (last_before C p q) (first-below-le C.vertices _)))
         (sym (number-is C (first_after C p q) (first-below-le C.vertices _)))
 
+after-most : (C : Counts) (p : ℕ → Point) (q : Point) {b c : Option ℕ} → Between b c ≡ neighbors_of C p q → number_of C c ≤ C.vertices
+unfolding neighbors_of first_after
+after-most C p q {b} {c} e = go (ltb (vertex_on C p q) C.vertices) (ap second e)
+  where
+    second : Neighbors → ℕ
+    second (Vertex v) = 0
+    second (Between b c) = number_of C c
+
+    go : (t : Bool) → number_of C c
+        ≡ second (cond t (Vertex (vertex_on C p q)) (Between (neighbor C (last_before C p q)) (neighbor C (first_after C p q)))) → number_of C c ≤ C.vertices
+    go true i = omega arith
+    go false i =
+        let m : first_after C p q ≤ C.vertices = first-below-le C.vertices _ in
+        let k = number-is C (first_after C p q) m in
+        rw (i, k) m
+
 module _ {C : Counts} {q : List ℤ} {o h : List ℕ} {point : Point} (R : LineReady C q o h point) where
   there : {e : ℕ} → In C e → There h e
   there l = let k = R.halves in omega arith
@@ -108,23 +140,26 @@ module _ {C : Counts} {q : List ℤ} {o h : List ℕ} {point : Point} (R : LineR
   placed l = record { there = let k = R.positions in omega arith; range = R.line.range l }
 
   pub vertices-ready : VerticesReady C q point
-  vertices-ready = record { there = R.positions; range = R.line.range; distinct = line-distinct R.line; point-range = R.range; some = (let s = R.line.chain.some in let k = origin-in {e = 0} (omega arith) in omega arith) }
+  vertices-ready = record { there = R.positions; range = R.line.range; distinct = line-distinct R.line; point-range = R.range }
+
+  pub vertices-some : 0 < C.vertices
+  vertices-some = let s = R.line.chain.some in let k = origin-in {e = 0} (omega arith) in omega arith
 
   out-ready : {v : ℕ} → v < C.vertices → OutReady o h v
   unfolding links_of
   out-ready {v} l = let i : In C (row_of o v) = R.line.chain.out< l in
       record { out = let k = R.outs in omega arith; here = there i; back = there (rev-below C.edges i) }
 
-  module _ {s : Neighbors} (g : (s ≡ neighbors_of C (position_of q) point) × FoundIs C s) where
-    x : s ≡ neighbors_of C (position_of q) point
-    x = g.0
-
+  module _ {s : Neighbors} (x : s ≡ neighbors_of C (position_of q) point) where
     pub place-vertex : {v : ℕ} → s ≡ Vertex v → (a : List ℕ) → OnVertex v ≡ locate_on_line C (links_of o h a) (position_of q) point
     place-vertex i a = sym (place_is C (links_of o h a) (position_of q) point ∙ ap (place_of C (links_of o h a)) (sym x ∙ i))
 
     module _ {b c : Option ℕ} (i : s ≡ Between b c) where
-      pub neighbors-ready : NeighborsReady C o h b c
-      neighbors-ready = record { found = subst (FoundIs C) i g.1; out = out-ready }
+      pub neighbors-ready : NeighborsReady C o h (number_of C c)
+      neighbors-ready = record { most = after-most C (position_of q) point (sym i ∙ x); out = out-ready }
+
+      pub found-ready : FoundIs C s → FoundReady C o h b c
+      found-ready g = record { found = subst (FoundIs C) i g; ready = neighbors-ready }
 
       pub place-between : {r : PositionWhenAllVerticesOnLine} → ((a : List ℕ) → r ≡ at_neighbors C (links_of o h a) (number_of C b) (number_of C c)) → (a : List ℕ)
           → r ≡ locate_on_line C (links_of o h a) (position_of q) point

@@ -5,11 +5,11 @@
 // The row of faces is not read: a contract says what it says whatever that row, a, holds.
 #![tactic(auto)]
 
-ghost use Rattle.std.specs.Prelude.{◌&&◌, List, ◌≡◌, ℕ};
+ghost use Rattle.std.specs.Prelude.{◌&&◌, List, ◌≡◌, ◌<◌, ℕ};
 ghost use Rattle.dcel.specs.Rows.{links_of, position_of};
 ghost use Rattle.line.specs.Order.{comes_before};
 ghost use Rattle.line.specs.Locate.{edge_from_neighbors, locate_on_line, locate_when_all_vertices_on_line};
-ghost use Rattle.line_search.specs.LineRows.{LineReady, VerticesReady, OutReady, neighbors_of, FoundIs, NeighborsReady, number_of, at_neighbors};
+ghost use Rattle.line_search.specs.LineRows.{LineReady, VerticesReady, OutReady, neighbors_of, FoundIs, FoundReady, number_of, at_neighbors};
 
 use line::PositionWhenAllVerticesOnLine;
 use math::Point;
@@ -38,7 +38,7 @@ fn is_between(low: Point, p: Point, high: Point) -> bool
 // One pass: `before` at `low` and `after` at `high` are the neighbours among the vertices so far. At first the two positions
 // are out of range, so that every vertex is between them. Later most vertices are not, and one test is enough for those.
 fn neighbors_of(positions: &[i32], counts: Counts, point: Point) -> Neighbors
-    requires { VerticesReady counts positions.now point }
+    requires { (0 < counts.vertices) × VerticesReady counts positions.now point }
     ensures { (result ≡ neighbors_of counts (position_of positions.now) point) × FoundIs counts result }
 {
     let mut before = None;
@@ -82,7 +82,7 @@ fn at_neighbors(
     before: Option<u32>,
     after: Option<u32>,
 ) -> PositionWhenAllVerticesOnLine
-    requires { NeighborsReady counts outs.now halves.now before after }
+    requires { FoundReady counts outs.now halves.now before after }
     ensures { (a : List ℕ)
         → result ≡ at_neighbors counts (links_of outs.now halves.now a) (number_of counts before) (number_of counts after) }
 {

@@ -23,19 +23,11 @@ pub struct Place {
 }
 
 // One of the ring's rows, given by their lengths, is too short for n vertices.
+#[tactic(auto, unfolding(crate::specs::Locate::ring_rows_short))]
 pub fn ring_rows_short(n: usize, nodes: usize, freed: usize, buckets: usize) -> bool
     ensures { result ≡ ring_rows_short n nodes freed buckets }
 {
-    if nodes <= n {
-        return true;
-    }
-    if freed <= n {
-        return true;
-    }
-    if buckets < 16 {
-        return true;
-    }
-    buckets < n
+    nodes <= n || freed <= n || buckets < 16 || buckets < n
 }
 
 // Rows 6 and 7, of a boundary of `size` half-edges from `start` on.
@@ -108,8 +100,7 @@ fn check_locate(
         (mesh_rows positions.now outs.now halves.now faces.now) center)
         (check_angle a) }
 {
-    let none = &positions[0..0];
-    check_start(none, short, counts, positions, outs, halves, faces, center)?;
+    check_start(&[], short, counts, positions, outs, halves, faces, center)?;
     check_angle(a)
 }
 

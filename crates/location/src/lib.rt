@@ -16,7 +16,8 @@ pub enum PositionInTriangulation {
     OutsideOfConvexHull(u32),
 }
 
-// Where a turn of the search has come to: the answer, which ends it, or the half-edge from which it goes on.
+// Where a turn of the search has come to: the answer, which ends it, or the half-edge from which it goes on. An enum of its own: definitions
+// of this crate, of `nearby` and of `search` have these two names for what a turn comes to.
 #[derive(Clone, Copy)]
 pub enum SearchState {
     Found(PositionInTriangulation),

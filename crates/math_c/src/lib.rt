@@ -30,17 +30,12 @@ pub extern "C" fn math_contained_in_circumference(
 pub fn circle(v1: Point, v2: Point, v3: Point, p: Point) -> u8
     ensures { result ≡ circle_answer v1 v2 v3 p }
 {
-    if math::validate_vertex(v1) {
-        if math::validate_vertex(v2) {
-            if math::validate_vertex(v3) {
-                if math::validate_vertex(p) {
-                    if math::contained_in_circumference(v1, v2, v3, p) {
-                        return 1;
-                    }
-                    return 0;
-                }
-            }
-        }
+    let valid = math::validate_vertex(v1)
+        && math::validate_vertex(v2)
+        && math::validate_vertex(v3)
+        && math::validate_vertex(p);
+    if !valid {
+        return 2;
     }
-    2
+    u8::from(math::contained_in_circumference(v1, v2, v3, p))
 }

@@ -35,7 +35,7 @@ impl Refusal {
 pub fn point_count(points: &[i32]) -> usize
     ensures { result ≡ point_count points.now }
 {
-    points.len() / 2 + points.len() % 2
+    points.len().div_ceil(2)
 }
 
 // Seed plus points.

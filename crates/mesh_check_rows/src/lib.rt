@@ -17,6 +17,7 @@ ghost use Rattle.mesh_check.specs.Readable.{Corners, Readable};
 use mesh::Counts;
 use mesh_check::Refusal;
 
+#[tactic(auto, unfolding(mesh_check::specs::Check::count_refused))]
 fn count_refused(n: usize) -> bool
     ensures { result ≡ count_refused n }
 {
@@ -24,20 +25,12 @@ fn count_refused(n: usize) -> bool
 }
 
 // One of the mesh's rows, given by their lengths, is too short for n vertices.
+#[tactic(auto, unfolding(mesh_check::specs::Check::mesh_rows_short))]
 pub fn mesh_rows_short(n: usize, positions: usize, outs: usize, halves: usize, faces: usize) -> bool
     requires { n ≤ 1000000 }
     ensures { result ≡ mesh_rows_short n positions outs halves faces }
 {
-    if positions < 2 * n {
-        return true;
-    }
-    if outs < n {
-        return true;
-    }
-    if halves < 24 * n {
-        return true;
-    }
-    faces < 2 * n
+    positions < 2 * n || outs < n || halves < 24 * n || faces < 2 * n
 }
 
 fn rows_short(
@@ -58,7 +51,7 @@ fn rows_short(
     mesh_rows_short(n, positions.len(), outs.len(), halves.len(), faces.len())
 }
 
-// The first of so many points of a row with a coordinate out of range, or their number.
+// The first of so many points of a row with a coordinate out of range, or their number, as `first_below` of the definition answers.
 pub fn first_outside(row: &[i32], count: u32) -> u32
     requires { 2 * count ≤ length row.now }
     ensures { result ≡ first_outside count (position_of row.now) }
@@ -108,7 +101,7 @@ fn turns_left(positions: &[i32], halves: &[u32], a: u32) -> bool
     doubled_area_at(positions, halves, a) > 0
 }
 
-// The lowest inner face that does not turn strictly left, or the number of faces.
+// The lowest inner face that does not turn strictly left, or the number of faces, as `first_below` of the definition answers.
 fn first_not_left(positions: &[i32], halves: &[u32], faces: &[u32], counts: Counts) -> u32
     requires { Readable counts positions.now halves.now faces.now }
     ensures { (o : List ℕ)
@@ -204,6 +197,5 @@ pub fn check(
     ensures { result ≡ check_of counts
         (mesh_rows positions.now outs.now halves.now faces.now) }
 {
-    let none = &positions[0..0];
-    check_with(none, false, counts, positions, outs, halves, faces)
+    check_with(&[], false, counts, positions, outs, halves, faces)
 }

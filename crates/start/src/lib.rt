@@ -14,6 +14,7 @@ use mesh_check::Refusal;
 use ring_rows::{Hull, Node};
 
 // One of the rows that are not the mesh's, given by their lengths, is too short for n vertices. `short`: another one is.
+#[tactic(auto, unfolding(crate::specs::Start::sweep_rows_short))]
 pub fn sweep_rows_short(
     short: bool,
     n: usize,
@@ -24,13 +25,7 @@ pub fn sweep_rows_short(
 ) -> bool
     ensures { result ≡ sweep_rows_short short n nodes freed buckets pending }
 {
-    if short {
-        return true;
-    }
-    if locate::ring_rows_short(n, nodes, freed, buckets) {
-        return true;
-    }
-    pending::is_short(pending)
+    short || locate::ring_rows_short(n, nodes, freed, buckets) || pending::is_short(pending)
 }
 
 // Rows 1 to 7 of the table, for a call that is given points, a centre, and rows for the ring and the pending list, which are given by their

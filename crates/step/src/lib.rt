@@ -23,6 +23,7 @@ use ring_rows::{Hull, Node};
 use sweep::{Answer, StepAnswer};
 
 // The mesh's counts and its ring after a step, the point's answer, and whether a flip's pushes would have overfilled the pending list.
+// A flag and no Err: counts and ring stand in either case, and the definition `Stepping` has them side by side.
 #[derive(Clone, Copy)]
 pub struct Progress {
     pub counts: Counts,
@@ -62,10 +63,11 @@ fn add_point(
 }
 
 // 01's fate 1.
+#[tactic(auto, unfolding(sweep::specs::Step::is_added))]
 fn is_added(fate: Fate) -> bool
     ensures { result ≡ is_added fate }
 {
-    decide::fate_number(fate) == 1
+    matches!(fate, Fate::Added(_))
 }
 
 // What a step of these parts comes to.
@@ -204,7 +206,7 @@ pub fn answer_of(progress: Progress, place: u32) -> StepAnswer
     if progress.full {
         return StepAnswer {
             counts: progress.counts,
-            stepped: Err(Refusal { number: 9, place }),
+            stepped: Err(Refusal::at(9, place)),
         };
     }
     StepAnswer {

@@ -1,14 +1,15 @@
 -- The checks of a step, whose point and height are rows of their own; and how a point's height is stored where its answer has the fate: one
 -- point, and one more of a list. Assumes nothing.
-use mathlib.Core.Bool.{Bool, true, false, cond}
+use mathlib.Core.Bool.{Bool, true, false, cond, ◌&&◌}
 use mathlib.Core.List.{List, [], ◌∷◌}
 use mathlib.Core.Path.{◌≡◌, refl, sym, ◌∙◌, ap, subst}
 use Prim.Native.Nat.{ℕ, suc, ◌+◌, ◌-◌, ◌*◌, ◌<◌, ◌≤◌}
 use native.Mathlib.Omega.{arith}
-use borrow.Author.Tests.{lt-ltb, le-ltb, le-leb, lt-leb}
+use borrow.Author.Tests.{lt-ltb, le-ltb}
 use lib.Dec.{leb}
 use lib.IntN.{ℤ}
 use lib.ListN.{get_or}
+use Rattle.answers.specs.AnswerRows.{fate_in}
 use Rattle.dcel.specs.Rows.{row_of}
 use Rattle.finish.specs.declared.FinishAnswer.{FinishAnswer}
 use Rattle.heights.specs.Heights.{SurfaceRows, heights_lent, heights_tested}
@@ -32,22 +33,17 @@ pub point-tested : {x y z z' : ℤ} {v : Point} → x ≡ v.x → y ≡ v.y → 
 point-tested a b c C s nodes freed buckets pending n short e = rw (← a, ← b, ← c, ← n, ← short) e
 
 -- ---- one point
--- the fate's number is the first word of an answer
-fate-read : (answers : List ℕ) (i : ℕ) → get_or answers (4 * i) 0 ≡ fate_word answers i
-unfolding row_of
-fate-read answers i = ap (λ (x : ℕ). get_or answers x 0) plain
-  where
-    plain : 4 * i ≡ 4 * i + 0
-    plain = omega arith
-
 module _ (answers : List ℕ) (low high i : ℕ) where
-  pub fate-below : get_or answers (4 * i) 0 < low → leb low (get_or answers (4 * i) 0) ≡ is_from low high (fate_word answers i)
-  unfolding is_from
-  fate-below l = rw (← fate-read answers i, lt-leb low (get_or answers (4 * i) 0) l) refl
+  -- the fate's number is the first word of an answer
+  fate-read : fate_in low high (row_of answers) i ≡ is_from low high (fate_word answers i)
+  unfolding fate_in is_from
+  fate-read = ap (λ (x : ℕ). leb low (row_of answers x) && leb (row_of answers x) high) plain
+    where
+      plain : 4 * i ≡ 4 * i + 0
+      plain = omega arith
 
-  pub fate-from : low ≤ get_or answers (4 * i) 0 → leb (get_or answers (4 * i) 0) high ≡ is_from low high (fate_word answers i)
-  unfolding is_from
-  fate-from l = rw (← fate-read answers i, le-leb low (get_or answers (4 * i) 0) l) refl
+  pub fate-known : {r b : Bool} → r ≡ fate_in low high (row_of answers) i → r ≡ b → is_from low high (fate_word answers i) ≡ b
+  fate-known e k = sym fate-read ∙ sym e ∙ k
 
 -- it has the fate, so its vertex is in the row
 pub vertex-room : {low high heights point_heights_of : ℕ} {answers : List ℕ} {i : ℕ} → FateRoom low high heights point_heights_of answers i

@@ -11,7 +11,6 @@ ghost use Rattle.locate.specs.Locate.{ring_rows_short};
 ghost use Rattle.mesh_check.specs.Check.{point_count, vertex_count};
 ghost use Rattle.start.specs.Start.{point_row, sweep_rows_short};
 ghost use Rattle.sums.specs.Put.{put};
-ghost use Rattle.sweep.specs.Run.{answer_words};
 ghost use Rattle.surface.specs.StoreReady.{FateRoom, FatesRoom, StoreReady};
 ghost use Rattle.surface.specs.StoredHeights.{height_stored, fate_word, vertex_word, is_from, stored_from, is_made, place_of, finished_heights};
 
@@ -38,10 +37,18 @@ pub fn check_locate(
         (surface_rows (mesh_rows positions.now outs.now halves.now faces.now)
         heights.now) }
 {
-    let none = &positions[0..0];
     let short = locate::ring_rows_short(counts.vertices as usize, nodes, freed, buckets);
     heights::check_heights(
-        none, none, short, false, counts, positions, heights, outs, halves, faces,
+        &[],
+        &[],
+        short,
+        false,
+        counts,
+        positions,
+        heights,
+        outs,
+        halves,
+        faces,
     )
 }
 
@@ -59,10 +66,9 @@ pub fn check_finish(
         (surface_rows (mesh_rows positions.now outs.now halves.now faces.now)
         heights.now) }
 {
-    let none = &positions[0..0];
     heights::check_heights(
-        none,
-        none,
+        &[],
+        &[],
         pending < 8,
         false,
         counts,
@@ -150,15 +156,6 @@ pub fn store_height(heights: &mut [i32], before: u32, after: u32, z: i32)
     }
 }
 
-// Whether the fate of point i is from `low` to `high`.
-fn has_fate(answers: &[u64], low: u64, high: u64, i: u32) -> bool
-    requires { answer_words * i < length answers.now }
-    ensures { result ≡ is_from low high (fate_word answers.now i) }
-{
-    let fate = answers[ANSWER_WORDS * (i as usize)];
-    low <= fate && fate <= high
-}
-
 // The height of point i for the vertex in its answer, if its fate is from `low` to `high`.
 fn store_fate(
     heights: &mut [i32],
@@ -173,7 +170,7 @@ fn store_fate(
         (put (height_of heights.old) (vertex_word answers.now i) (height_of point_heights.now i))
         (height_of heights.old) }
 {
-    if !has_fate(answers, low, high, i) {
+    if !answers::has_fate(answers, low, high, i) {
         return;
     }
     let v = answers[ANSWER_WORDS * (i as usize) + 1] as u32;

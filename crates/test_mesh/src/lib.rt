@@ -4,6 +4,9 @@
 // else.
 #![tactic(auto)]
 
+ghost use Rattle.std.specs.Prelude.{◌≡◌, ◌≤◌, length, replicate, pos, ◌↔◌, IsTrue, All, IfOk};
+ghost use Rattle.test_mesh.specs.Lent.{RingLent, RowsLent};
+
 use mesh::Counts;
 use ring_rows::Node;
 use std::alloc::Global;
@@ -74,10 +77,13 @@ pub struct Ring {
 fn read_entries<T: Entry>(
     alloc: Global,
     text: &mut Reader,
-    length: usize,
+    count: usize,
     past: T,
-) -> Result<Vec<T>, Failure> {
-    let mut row = vec![in alloc; past; length]?;
+) -> Result<Vec<T>, Failure>
+    ensures length { IfOk result (λ row. length row.items ≡ count) }
+    ensures not_longer { length text.new.rest.now ≤ length text.old.rest.now }
+{
+    let mut row = vec![in alloc; past; count]?;
     for entry in row.iter_mut() {
         if text.peek() != Some(b' ') {
             break;
@@ -93,15 +99,21 @@ pub fn read_plain_row<T: Entry>(
     alloc: Global,
     text: &mut Reader,
     tag: u8,
-    length: usize,
+    count: usize,
     past: T,
-) -> Result<Vec<T>, Failure> {
+) -> Result<Vec<T>, Failure>
+    ensures length { IfOk result (λ row. length row.items ≡ count) }
+    ensures not_longer { length text.new.rest.now ≤ length text.old.rest.now }
+{
     text.take(tag)?;
-    read_entries(alloc, text, length, past)
+    read_entries(alloc, text, count, past)
 }
 
 // The length of a row that can be lent so many entries.
-fn read_length(text: &mut Reader, most: usize) -> Result<usize, Failure> {
+fn read_length(text: &mut Reader, most: usize) -> Result<usize, Failure>
+    ensures most { IfOk result (λ n. n ≤ most) }
+    ensures not_longer { length text.new.rest.now ≤ length text.old.rest.now }
+{
     let length = text.entry::<u64>()? as usize;
     test_text::demand(length <= most)?;
     Ok(length)
@@ -113,7 +125,10 @@ pub fn read_row<T: Entry>(
     text: &mut Reader,
     tag: u8,
     most: usize,
-) -> Result<Vec<T>, Failure> {
+) -> Result<Vec<T>, Failure>
+    ensures most { IfOk result (λ row. length row.items ≤ most) }
+    ensures not_longer { length text.new.rest.now ≤ length text.old.rest.now }
+{
     text.take(tag)?;
     let length = read_length(text, most)?;
     let past = text.entry()?;
@@ -121,19 +136,26 @@ pub fn read_row<T: Entry>(
 }
 
 // Heights, whose line may be missing: then they are zeros, and more than any list needs.
-pub fn read_heights(alloc: Global, text: &mut Reader, tag: u8) -> Result<Vec<i32>, Failure> {
+pub fn read_heights(alloc: Global, text: &mut Reader, tag: u8) -> Result<Vec<i32>, Failure>
+    ensures most { IfOk result (λ row. length row.items ≤ 512) }
+    ensures not_longer { length text.new.rest.now ≤ length text.old.rest.now }
+{
     if text.peek() == Some(tag) {
         return read_row(alloc, text, tag, COORDINATES);
     }
     zero_heights(alloc)
 }
 
-pub fn zero_heights(alloc: Global) -> Result<Vec<i32>, Failure> {
+pub fn zero_heights(alloc: Global) -> Result<Vec<i32>, Failure>
+    ensures { IfOk result (λ row. row.items ≡ replicate 512 (pos 0)) }
+{
     Ok(vec![in alloc; 0; COORDINATES]?)
 }
 
 // The line with the counts.
-fn read_counts(text: &mut Reader, tag: u8) -> Result<Counts, Failure> {
+fn read_counts(text: &mut Reader, tag: u8) -> Result<Counts, Failure>
+    ensures { length text.new.rest.now ≤ length text.old.rest.now }
+{
     text.take(tag)?;
     let vertices = text.entry()?;
     let edges = text.entry()?;
@@ -153,7 +175,10 @@ impl Form {
         text: &mut Reader,
         tag: u8,
         most: usize,
-    ) -> Result<Vec<T>, Failure> {
+    ) -> Result<Vec<T>, Failure>
+        ensures most { IfOk result (λ row. length row.items ≤ most) }
+        ensures not_longer { length text.new.rest.now ≤ length text.old.rest.now }
+    {
         if self.is_plain {
             read_plain_row(alloc, text, tag, most, T::default())
         } else {
@@ -162,7 +187,10 @@ impl Form {
     }
 
     // Six lines; that of the heights may be missing.
-    pub fn read(self, alloc: Global, text: &mut Reader) -> Result<Mesh, Failure> {
+    pub fn read(self, alloc: Global, text: &mut Reader) -> Result<Mesh, Failure>
+        ensures lent { IfOk result (λ mesh. RowsLent mesh.rows) }
+        ensures not_longer { length text.new.rest.now ≤ length text.old.rest.now }
+    {
         let [m, p, e, o, h, f] = self.tags;
         Ok(Mesh {
             counts: read_counts(text, m)?,
@@ -179,7 +207,9 @@ impl Form {
 
 impl Mesh {
     // The comparison of the counts stands here, since the library has none.
-    pub fn is(&self, other: &Mesh) -> bool {
+    pub fn is(&self, other: &Mesh) -> bool
+        ensures { IsTrue result → self.now.counts ≡ other.now.counts }
+    {
         let a = self.counts;
         let b = other.counts;
         a.vertices == b.vertices
@@ -190,7 +220,9 @@ impl Mesh {
 }
 
 // Whether the answers are those of a line.
-pub fn are_due(answers: &[u64], due: &[Number]) -> bool {
+pub fn are_due(answers: &[u64], due: &[Number]) -> bool
+    ensures { IsTrue result → length answers.now ≡ length due.now }
+{
     answers.len() == due.len()
         && answers
             .iter()
@@ -199,7 +231,9 @@ pub fn are_due(answers: &[u64], due: &[Number]) -> bool {
 }
 
 // Whether each entry of a row is v.
-pub fn holds(row: &[u32], v: u32) -> bool {
+pub fn holds(row: &[u32], v: u32) -> bool
+    ensures { IsTrue result ↔ All (λ entry. entry ≡ v) row.now }
+{
     row.iter().all(|entry| *entry == v)
 }
 
@@ -214,7 +248,11 @@ impl Ring {
         nodes: usize,
         freed: usize,
         buckets: usize,
-    ) -> Result<Ring, Failure> {
+    ) -> Result<Ring, Failure>
+        ensures nodes { IfOk result (λ ring. length ring.nodes.items ≡ nodes) }
+        ensures freed { IfOk result (λ ring. ring.freed.items ≡ replicate freed 7) }
+        ensures buckets { IfOk result (λ ring. ring.buckets.items ≡ replicate buckets 7) }
+    {
         let seven = Node {
             angle: 7.0,
             edge: 7,
@@ -229,7 +267,10 @@ impl Ring {
     }
 
     // `n nodes freed buckets`
-    pub fn read(alloc: Global, text: &mut Reader) -> Result<Ring, Failure> {
+    pub fn read(alloc: Global, text: &mut Reader) -> Result<Ring, Failure>
+        ensures lent { IfOk result RingLent }
+        ensures not_longer { length text.new.rest.now ≤ length text.old.rest.now }
+    {
         text.take(b'n')?;
         let nodes = read_length(text, NODES)?;
         let freed = read_length(text, WORDS)?;

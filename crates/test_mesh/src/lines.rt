@@ -1,4 +1,6 @@
 // The lines that the cases of several calls share.
+ghost use Rattle.std.specs.Prelude.{◌≡◌, ◌≢◌, ◌≤◌, Ok, ◌==◌, if◌then◌else◌, length, slice_get, ◌↔◌, IsTrue, Some, IfOk};
+
 use super::{COORDINATES, LEFT, LONGS, Mesh};
 use angle::Point2;
 use math::Point;
@@ -7,26 +9,35 @@ use std::alloc::{AllocError, Global};
 use test_text::{Entry, Failure, Number, Reader, demand};
 
 // Two whole numbers.
-pub fn read_coordinates(text: &mut Reader) -> Result<Point, Failure> {
+pub fn read_coordinates(text: &mut Reader) -> Result<Point, Failure>
+    ensures { length text.new.rest.now ≤ length text.old.rest.now }
+{
     let x = text.entry()?;
     let y = text.entry()?;
     Ok(Point { x, y })
 }
 
 // The bits of a double.
-pub fn read_double(text: &mut Reader) -> Result<f64, Failure> {
+pub fn read_double(text: &mut Reader) -> Result<f64, Failure>
+    ensures { length text.new.rest.now ≤ length text.old.rest.now }
+{
     Ok(test_text::double(text.entry()?))
 }
 
 // The bits of two doubles.
-pub fn read_doubles(text: &mut Reader) -> Result<Point2, Failure> {
+pub fn read_doubles(text: &mut Reader) -> Result<Point2, Failure>
+    ensures { length text.new.rest.now ≤ length text.old.rest.now }
+{
     let x = read_double(text)?;
     let y = read_double(text)?;
     Ok(Point2 { x, y })
 }
 
 // The change count of a mesh, 7 where its line `c` is missing, as rows are lent with 7.
-pub fn read_changes(text: &mut Reader) -> Result<u32, Failure> {
+pub fn read_changes(text: &mut Reader) -> Result<u32, Failure>
+    ensures seven { slice_get text.old.rest.now 0 ≢ Some 99 → result ≡ Ok 7 }
+    ensures not_longer { length text.new.rest.now ≤ length text.old.rest.now }
+{
     if text.peek() != Some(b'c') {
         return Ok(7);
     }
@@ -42,7 +53,10 @@ pub fn read_sevens<T: Entry + PartialEq + From<u8>>(
     text: &mut Reader,
     tag: u8,
     most: usize,
-) -> Result<Vec<T>, Failure> {
+) -> Result<Vec<T>, Failure>
+    ensures most { IfOk result (λ row. length row.items ≤ most) }
+    ensures not_longer { length text.new.rest.now ≤ length text.old.rest.now }
+{
     text.take(tag)?;
     let length = super::read_length(text, most)?;
     demand(text.entry::<u64>()? == 7)?;
@@ -51,7 +65,9 @@ pub fn read_sevens<T: Entry + PartialEq + From<u8>>(
 }
 
 // A line with a centre.
-pub fn read_center(text: &mut Reader, tag: u8) -> Result<Point2, Failure> {
+pub fn read_center(text: &mut Reader, tag: u8) -> Result<Point2, Failure>
+    ensures { length text.new.rest.now ≤ length text.old.rest.now }
+{
     text.take(tag)?;
     let center = read_doubles(text)?;
     text.take(b'\n')?;
@@ -59,7 +75,9 @@ pub fn read_center(text: &mut Reader, tag: u8) -> Result<Point2, Failure> {
 }
 
 // The line `v` with a single point.
-pub fn read_point(text: &mut Reader) -> Result<Point, Failure> {
+pub fn read_point(text: &mut Reader) -> Result<Point, Failure>
+    ensures { length text.new.rest.now ≤ length text.old.rest.now }
+{
     text.take(b'v')?;
     demand(text.entry::<u64>()? == 1)?;
     let point = read_coordinates(text)?;
@@ -68,7 +86,9 @@ pub fn read_point(text: &mut Reader) -> Result<Point, Failure> {
 }
 
 // A line with a single height: a point's, or a level.
-pub fn read_height(text: &mut Reader, tag: u8) -> Result<i32, Failure> {
+pub fn read_height(text: &mut Reader, tag: u8) -> Result<i32, Failure>
+    ensures { length text.new.rest.now ≤ length text.old.rest.now }
+{
     text.take(tag)?;
     let height = text.entry()?;
     text.take(b'\n')?;
@@ -76,7 +96,9 @@ pub fn read_height(text: &mut Reader, tag: u8) -> Result<i32, Failure> {
 }
 
 // The height of a single point, 0 where its line `y` is missing.
-pub fn read_point_height(text: &mut Reader) -> Result<i32, Failure> {
+pub fn read_point_height(text: &mut Reader) -> Result<i32, Failure>
+    ensures { length text.new.rest.now ≤ length text.old.rest.now }
+{
     if text.peek() == Some(b'y') {
         read_height(text, b'y')
     } else {
@@ -85,7 +107,9 @@ pub fn read_point_height(text: &mut Reader) -> Result<i32, Failure> {
 }
 
 // A line with a quote: `changes x y z fate faces` behind its tag.
-pub fn read_quote(text: &mut Reader, tag: u8) -> Result<Quote, Failure> {
+pub fn read_quote(text: &mut Reader, tag: u8) -> Result<Quote, Failure>
+    ensures { length text.new.rest.now ≤ length text.old.rest.now }
+{
     text.take(tag)?;
     let quote = Quote {
         changes: text.entry()?,
@@ -100,7 +124,10 @@ pub fn read_quote(text: &mut Reader, tag: u8) -> Result<Quote, Failure> {
 }
 
 // The coordinates of points, to the line's end.
-pub fn read_points(alloc: Global, text: &mut Reader) -> Result<Vec<i32>, Failure> {
+pub fn read_points(alloc: Global, text: &mut Reader) -> Result<Vec<i32>, Failure>
+    ensures most { IfOk result (λ points. length points.items ≤ 512) }
+    ensures not_longer { length text.new.rest.now ≤ length text.old.rest.now }
+{
     let mut points = Vec::new(alloc);
     for _ in 0..COORDINATES {
         if text.peek() != Some(b' ') {
@@ -113,7 +140,10 @@ pub fn read_points(alloc: Global, text: &mut Reader) -> Result<Vec<i32>, Failure
 }
 
 // `v count x y x y ..`; a last number that stands alone counts as a point.
-pub fn read_counted_points(alloc: Global, text: &mut Reader) -> Result<Vec<i32>, Failure> {
+pub fn read_counted_points(alloc: Global, text: &mut Reader) -> Result<Vec<i32>, Failure>
+    ensures most { IfOk result (λ points. length points.items ≤ 512) }
+    ensures not_longer { length text.new.rest.now ≤ length text.old.rest.now }
+{
     text.take(b'v')?;
     let count: u64 = text.entry()?;
     let points = read_points(alloc, text)?;
@@ -122,17 +152,24 @@ pub fn read_counted_points(alloc: Global, text: &mut Reader) -> Result<Vec<i32>,
 }
 
 // Whether the list says here what mesh the call must leave; where it does not, the call must change nothing.
-pub fn is_told(text: &Reader) -> bool {
+pub fn is_told(text: &Reader) -> bool
+    ensures { IsTrue result ↔ slice_get text.now.rest.now 0 ≡ Some 77 }
+{
     text.peek() == Some(b'M')
 }
 
 // What the ring's rows and pending must hold after the call.
-pub fn cleared(text: &Reader) -> u32 {
+pub fn cleared(text: &Reader) -> u32
+    ensures told { slice_get text.now.rest.now 0 ≡ Some 77 → result ≡ 0 }
+    ensures untold { slice_get text.now.rest.now 0 ≢ Some 77 → result ≡ 7 }
+{
     if is_told(text) { 0 } else { 7 }
 }
 
 // What the ring's rows must hold after a call that leaves the mesh in any case.
-pub fn cleared_by(refusal: u32) -> u32 {
+pub fn cleared_by(refusal: u32) -> u32
+    ensures { result ≡ (if refusal == 0 then 0 else 7) }
+{
     if refusal == 0 { 0 } else { 7 }
 }
 
@@ -142,7 +179,9 @@ pub fn demand_mesh(
     text: &mut Reader,
     lent: &Mesh,
     mesh: &Mesh,
-) -> Result<(), Failure> {
+) -> Result<(), Failure>
+    ensures { length text.new.rest.now ≤ length text.old.rest.now }
+{
     if is_told(text) {
         demand(mesh.is(&LEFT.read(alloc, text)?))
     } else {
@@ -151,7 +190,9 @@ pub fn demand_mesh(
 }
 
 // The answers must be those of the line `W`, or untouched where there is none.
-pub fn demand_answers(alloc: Global, text: &mut Reader, answers: &[u64]) -> Result<(), Failure> {
+pub fn demand_answers(alloc: Global, text: &mut Reader, answers: &[u64]) -> Result<(), Failure>
+    ensures { length text.new.rest.now ≤ length text.old.rest.now }
+{
     if text.peek() != Some(b'W') {
         return demand(answers.iter().all(|answer| *answer == 7));
     }

@@ -2,7 +2,8 @@
 // text; what is no number, or too large for where it stands, is a difference.
 #![tactic(auto)]
 
-ghost use Rattle.std.specs.Prelude.{◌≡◌, ◌<◌, ◌≤◌, ◌-◌, length, slice_get, OnOk};
+ghost use lib.Ieee.{binary64};
+ghost use Rattle.std.specs.Prelude.{◌≡◌, ◌<◌, ◌≤◌, ◌-◌, length, slice_get, is_ok, from_bits, ◌%◌, IfOk, OnOk};
 
 use std::alloc::{AllocError, Global};
 use std::fs::File;
@@ -35,12 +36,16 @@ impl From<AllocError> for Failure {
 }
 
 // What must hold for a case to agree.
-pub fn demand(holds: bool) -> Result<(), Failure> {
+pub fn demand(holds: bool) -> Result<(), Failure>
+    ensures { is_ok result ≡ holds }
+{
     if holds { Ok(()) } else { Err(Failure::Differs) }
 }
 
 // Whether a case agrees, where it could be tried.
-pub fn agrees(outcome: Result<(), Failure>) -> Result<bool, AllocError> {
+pub fn agrees(outcome: Result<(), Failure>) -> Result<bool, AllocError>
+    ensures { IfOk result (λ agrees. agrees ≡ is_ok outcome) }
+{
     match outcome {
         Ok(()) => Ok(true),
         Err(Failure::Differs) => Ok(false),
@@ -127,7 +132,9 @@ pub struct Reader<'a> {
 }
 
 impl<'a> Reader<'a> {
-    pub fn new(text: &'a [u8]) -> Reader<'a> {
+    pub fn new(text: &'a [u8]) -> Reader<'a>
+        ensures { result.rest.now ≡ text.now }
+    {
         Reader { rest: text }
     }
 
@@ -160,7 +167,8 @@ impl<'a> Reader<'a> {
 
     // The bytes that a line counts, which has a tag, and a line feed behind them. The sign of their number is not looked at.
     pub fn counted_bytes(&mut self, tag: u8) -> Result<&'a [u8], Failure>
-        ensures { OnOk result (length self.new.rest.now < length self.old.rest.now) }
+        ensures not_longer { length self.new.rest.now ≤ length self.old.rest.now }
+        ensures shorter { OnOk result (length self.new.rest.now < length self.old.rest.now) }
     {
         self.take(tag)?;
         let count = self.number()?.magnitude as usize;
@@ -203,7 +211,9 @@ impl<'a> Reader<'a> {
     }
 
     // The number that comes next, as an entry.
-    pub fn entry<T: Entry>(&mut self) -> Result<T, Failure> {
+    pub fn entry<T: Entry>(&mut self) -> Result<T, Failure>
+        ensures { length self.new.rest.now ≤ length self.old.rest.now }
+    {
         T::of(self.number()?).ok_or(Failure::Differs)
     }
 
@@ -230,11 +240,10 @@ impl<'a> Reader<'a> {
     }
 
     // A line that must be a tag and these numbers.
-    pub fn line_of<T: Copy + Into<Number>>(
-        &mut self,
-        tag: u8,
-        numbers: &[T],
-    ) -> Result<(), Failure> {
+    pub fn line_of<T: Copy + Into<Number>>(&mut self, tag: u8, numbers: &[T]) -> Result<(), Failure>
+        ensures not_longer { length self.new.rest.now ≤ length self.old.rest.now }
+        ensures shorter { OnOk result (length self.new.rest.now < length self.old.rest.now) }
+    {
         self.take(tag)?;
         for due in numbers {
             let due: Number = (*due).into();
@@ -268,7 +277,9 @@ impl<'a> Reader<'a> {
 }
 
 // A double from its 64 bits, a NaN for every pattern of one.
-pub fn double(bits: u64) -> f64 {
+pub fn double(bits: u64) -> f64
+    ensures { bits % 0x8000_0000_0000_0000 ≤ 0x7ff0_0000_0000_0000 → result ≡ from_bits binary64 bits }
+{
     if bits % 0x8000_0000_0000_0000 > 0x7ff0_0000_0000_0000 {
         return f64::NAN;
     }

@@ -1,4 +1,6 @@
 // What came of the cases of a list.
+ghost use Rattle.std.specs.Prelude.{◌≡◌, true, false};
+
 use std::fmt;
 
 // How many cases agree and differ, and the byte where the first that differs begins.
@@ -11,7 +13,11 @@ pub struct Tally {
 
 impl Tally {
     // One case more, which begins at a byte.
-    pub fn count(&mut self, agrees: bool, at: usize) {
+    pub fn count(&mut self, agrees: bool, at: usize)
+        ensures agree { agrees ≡ false → self.new.agree ≡ self.old.agree }
+        ensures differ { agrees ≡ true → self.new.differ ≡ self.old.differ }
+        ensures first { agrees ≡ true → self.new.first ≡ self.old.first }
+    {
         if agrees {
             self.agree = self.agree.saturating_add(1);
         } else {

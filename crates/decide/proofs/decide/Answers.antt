@@ -39,12 +39,13 @@ pub decide_at-requires : goal.decide_at-requires
 decide_at-requires c =
     let px = to_z-of_z {w = w32} {z = c.args.point.x} (search rules) in
     let py = to_z-of_z {w = w32} {z = c.args.point.y} (search rules) in
-    asks_at _ _ _ c.vertex_angle.ensures.is px py c.in-Some.is (carried c.vertex_angle.ensures.angle c.in-Some.is)
-    c.find-found.ensures c.load-node.ensures c.load-right.ensures c.requires
+    rw c.size.ensures (asks_at _ _ _ c.vertex_angle.ensures.is px py c.in-Some.is (carried c.vertex_angle.ensures.angle c.in-Some.is)
+    c.find-found.ensures c.load-node.ensures c.load-right.ensures c.requires)
 
 pub returns : goal.returns
 returns c =
     let px = to_z-of_z {w = w32} {z = c.args.point.x} (search rules) in
     let py = to_z-of_z {w = w32} {z = c.args.point.y} (search rules) in
     at-located _ _ _ c.vertex_angle.ensures.is px py c.in-Some.is (carried c.vertex_angle.ensures.angle c.in-Some.is)
-    c.find-found.ensures c.load-node.ensures c.requires.range c.decide_at.ensures
+    c.find-found.ensures c.load-node.ensures c.requires.range
+    (λ B o a S. c.decide_at.ensures B o a (rw c.size.ensures S))
