@@ -1,6 +1,7 @@
 #!/usr/bin/env python3
-"""Which statements differ between two checkouts: contracts (a function's signature with its clauses, in src/), types (structs and enums there)
-and definitions (`record`, `data`, `abbrev` and `unfoldable` with their equations, in specs/). Laws and proofs are not compared.
+"""Which statements differ between two checkouts: contracts (in src/: a function's signature with its clauses, and the ghost items of an impl or a
+trait, by which its methods promise), types (structs and enums there, with their derives) and definitions (`record`, `data`, `abbrev` and
+`unfoldable` with their equations, in specs/). Laws and proofs are not compared.
 
     python3 tools/statements.py OLD [NEW]      NEW is this checkout where it is left out
 
@@ -11,9 +12,11 @@ import os
 import re
 import sys
 
-# a function without clauses has its brace at the end of a line, one with clauses on a line of its own
-FUNCTION = re.compile(r'^( *)((?:pub )?(?:extern "C" )?fn (\w+).*?)(?: \{$|^\1\{)', re.S | re.M)
-TYPE = re.compile(r'^(?:pub )?(?:struct|enum) (\w+) \{.*?^\}', re.S | re.M)
+# a function without clauses has its brace at the end of a line, one with clauses on a line of its own; a trait's ends with a semicolon
+FUNCTION = re.compile(r'^( *)((?:pub )?(?:extern "C" )?fn (\w+).*?)(?: \{$|^\1\{|;$)', re.S | re.M)
+BLOCK = re.compile(r'^(?:pub )?((?:impl|trait)\b[^{]*?) \{\n(.*?)^\}', re.S | re.M)
+GHOST = re.compile(r'^    ghost (\w+).*?;$', re.S | re.M)
+TYPE = re.compile(r'^(?:#\[[^\n]*\]\n)*(?:pub )?(?:struct|enum) (\w+)(?:<[^{(\n]*>)?(?: \{.*?^\}|\(.*?\);$)', re.S | re.M)
 DEFINED = re.compile(r'(?:unfoldable |abbrev )?(?:pub )?(?:record |data )?(\S+)')
 DEFINES = re.compile(r'(?:unfoldable|abbrev|record|data|pub record|pub data)\b')
 
@@ -25,11 +28,14 @@ def files(root, folder, suffix):
 
 
 def contracts(root):
-    """Text by (crate, function); an impl's functions of one name are told by their order."""
+    """Text by (crate, function), an impl's functions of one name told by their order; and by (crate, impl or trait, ghost item)."""
     found = {}
     for crate, text in files(root, 'src', '.rt'):
         for match in FUNCTION.finditer(text):
             found.setdefault((crate, match.group(3)), []).append(match.group(2))
+        for head, body in BLOCK.findall(text):
+            for item in GHOST.finditer(body):
+                found.setdefault((crate, head, item.group(1)), []).append(item.group(0))
     return {key: '\n'.join(texts) for key, texts in found.items()}
 
 
@@ -57,7 +63,7 @@ def definitions(root):
 def compare(what, old, new):
     gone = [key for key in sorted(old) if key not in new]
     come = [key for key in sorted(new) if key not in old]
-    moved = [(a, b) for a in gone for b in come if a[1] == b[1] and old[a] == new[b]]
+    moved = [(a, b) for a in gone for b in come if a[1:] == b[1:] and old[a] == new[b]]
     gone = [key for key in gone if key not in [a for a, _ in moved]]
     come = [key for key in come if key not in [b for _, b in moved]]
     changed = [key for key in sorted(old) if key in new and old[key] != new[key]]

@@ -2,7 +2,7 @@
 // each goes by the `i128` that the two halves are.
 #![tactic(auto)]
 
-ghost use Rattle.std.specs.Prelude.{◌≡◌, ◌<◌, ◌^◌, pos, ◌+ℤ◌, ◌-ℤ◌, ◌*ℤ◌, neg_ℤ, int_lt, unsigned_abs};
+ghost use Rattle.std.specs.Prelude.{◌≡◌, ◌+◌, ◌*◌, ◌<◌, ◌^◌, pos, ◌+ℤ◌, ◌-ℤ◌, ◌*ℤ◌, neg_ℤ, int_lt, unsigned_abs};
 ghost use Rattle.int128.specs.Int128.{int128_of, Fits128};
 ghost use Rattle.int128.specs.CubicMetres.{half_to_even, cubic_metres_of};
 
@@ -12,19 +12,34 @@ pub struct Int128 {
     pub low: u64,
 }
 
+// How many half cubic metres there are in six times a volume that has no sign, and what is left over: 3,000,000,000 is below 2 ^ 32, so
+// long division by digits of 32 bits takes two steps. (The quotient of two u128s would be a call from outside, which an archive for C
+// has no other need of.)
+fn half_metres(six: u128) -> (u64, u64)
+    requires { six < 2 ^ 94 }
+    ensures { (six ≡ 3000000000 * result.0 + result.1) × (result.1 < 3000000000) }
+{
+    let high = (six >> 32) as u64;
+    let last = high % 3000000000 * 4294967296 + (six % 4294967296) as u64;
+    (
+        high / 3000000000 * 4294967296 + last / 3000000000,
+        last % 3000000000,
+    )
+}
+
 // Cubic metres of six times a volume that has no sign, rounded to the nearest whole, an exact half to the even one.
 fn whole_metres(six: u128) -> u64
     requires { six < 2 ^ 94 }
     ensures value { result ≡ half_to_even six }
     ensures small { result < 2 ^ 63 }
 {
-    let metres = if six % 6000000000 == 3000000000 {
-        let below = six / 6000000000;
+    let (halves, rest) = half_metres(six);
+    if rest == 0 && halves % 2 == 1 {
+        let below = halves / 2;
         below + below % 2
     } else {
-        (six + 3000000000) / 6000000000
-    };
-    metres as u64
+        (halves + 1) / 2
+    }
 }
 
 impl Int128 {

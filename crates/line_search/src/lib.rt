@@ -5,7 +5,7 @@
 // The row of faces is not read: a contract says what it says whatever that row, a, holds.
 #![tactic(auto)]
 
-ghost use Rattle.std.specs.Prelude.{◌&&◌, List, ◌≡◌, ◌<◌, ℕ};
+ghost use Rattle.std.specs.Prelude.{◌&&◌, List, ◌≡◌, ◌<◌, ℕ, pos, ◌+ℤ◌, ◌*ℤ◌};
 ghost use Rattle.dcel.specs.Rows.{links_of, position_of};
 ghost use Rattle.line.specs.Order.{comes_before};
 ghost use Rattle.line.specs.Locate.{edge_from_neighbors, locate_on_line, locate_when_all_vertices_on_line};
@@ -22,11 +22,18 @@ pub enum Neighbors {
     Between(Option<u32>, Option<u32>),
 }
 
-// The order of positions: by x, then y.
+// A number for each position, in the order of positions: by x, then y.
+fn key(p: Point) -> i64
+    ensures { result ≡ p.x *ℤ pos 4294967296 +ℤ (p.y +ℤ pos 2147483648) }
+{
+    i64::from(p.x) * 4294967296 + (i64::from(p.y) + 2147483648)
+}
+
+// The order of positions. One number takes less time than a pair, and on a line of points this is what nearly all time goes into.
 fn comes_before(a: Point, b: Point) -> bool
     ensures { result ≡ comes_before a b }
 {
-    (a.x, a.y) < (b.x, b.y)
+    key(a) < key(b)
 }
 
 fn is_between(low: Point, p: Point, high: Point) -> bool

@@ -149,7 +149,7 @@ pub fn is_position(a: Point, b: Point) -> bool
 pub fn validate_coordinate(value: i32) -> bool
     ensures { result ≡ is_valid_coordinate value }
 {
-    value.unsigned_abs() <= 16777216
+    (-16777216..=16777216).contains(&value)
 }
 
 // Whether both coordinates are.

@@ -6,7 +6,6 @@
 
 ghost use Rattle.std.specs.Prelude.{◌≤◌, ◌-◌, length};
 
-use std::alloc::{AllocError, Global};
 use std::io;
 use std::rt::Files;
 use test_text::tally::Tally;
@@ -47,19 +46,20 @@ const LISTS: [List; 11] = [
 ];
 
 impl List {
-    fn name(self) -> &'static str {
+    // The list's file: its name, and `.txt`.
+    fn path(self) -> &'static str {
         match self {
-            List::Samples => "samples",
-            List::Check => "check",
-            List::Finish => "finish",
-            List::Locate => "locate",
-            List::Step => "step",
-            List::Run => "run",
-            List::Volume => "volume",
-            List::Ask => "ask",
-            List::Commit => "commit",
-            List::BulkLoad => "bulk_load",
-            List::Answers => "answers",
+            List::Samples => "samples.txt",
+            List::Check => "check.txt",
+            List::Finish => "finish.txt",
+            List::Locate => "locate.txt",
+            List::Step => "step.txt",
+            List::Run => "run.txt",
+            List::Volume => "volume.txt",
+            List::Ask => "ask.txt",
+            List::Commit => "commit.txt",
+            List::BulkLoad => "bulk_load.txt",
+            List::Answers => "answers.txt",
         }
     }
 
@@ -85,19 +85,19 @@ impl List {
     }
 
     // The case that begins at a line; the last line `m` is the mesh of a case of `locate`.
-    fn case(self, alloc: Global, mesh: Reader, line: Reader) -> Result<(), Failure> {
+    fn case(self, mesh: Reader, line: Reader) -> Result<(), Failure> {
         match self {
             List::Samples => sample(line),
-            List::Check => replay_calls::check_cases::agrees(alloc, line),
-            List::Finish => replay_runs::finish_cases::agrees(alloc, line),
-            List::Locate => replay_calls::locate_cases::agrees(alloc, mesh, line),
-            List::Step => replay_calls::step_cases::agrees(alloc, line),
-            List::Run => replay_runs::run_cases::agrees(alloc, line),
-            List::Volume => replay_calls::volume_cases::agrees(alloc, line),
-            List::Ask => replay_quotes::ask_cases::agrees(alloc, line),
-            List::Commit => replay_quotes::commit_cases::agrees(alloc, line),
-            List::BulkLoad => replay_loads::bulk_load_cases::agrees(alloc, line),
-            List::Answers => replay_runs::answers_cases::agrees(alloc, line),
+            List::Check => replay_calls::check_cases::agrees(line),
+            List::Finish => replay_runs::finish_cases::agrees(line),
+            List::Locate => replay_calls::locate_cases::agrees(mesh, line),
+            List::Step => replay_calls::step_cases::agrees(line),
+            List::Run => replay_runs::run_cases::agrees(line),
+            List::Volume => replay_calls::volume_cases::agrees(line),
+            List::Ask => replay_quotes::ask_cases::agrees(line),
+            List::Commit => replay_quotes::commit_cases::agrees(line),
+            List::BulkLoad => replay_loads::bulk_load_cases::agrees(line),
+            List::Answers => replay_runs::answers_cases::agrees(line),
         }
     }
 
@@ -111,7 +111,7 @@ impl List {
     }
 
     // Every case of the list.
-    fn replay(self, alloc: Global, text: &[u8]) -> Result<Tally, AllocError> {
+    fn replay(self, text: &[u8]) -> Tally {
         let mut tally = Tally::default();
         let mut rest = Reader { rest: text };
         let mut mesh = rest;
@@ -121,7 +121,7 @@ impl List {
             }
             if self.has_case(tag) {
                 let at = text.len() - rest.rest.len();
-                tally.count(test_text::agrees(self.case(alloc, mesh, rest))?, at);
+                tally.count(test_text::agrees(self.case(mesh, rest)), at);
                 self.skip_case(&mut rest);
             } else {
                 rest.next_line();
@@ -130,7 +130,7 @@ impl List {
         if !self.is_whole(text) {
             tally.count(false, text.len());
         }
-        Ok(tally)
+        tally
     }
 }
 
@@ -145,10 +145,10 @@ fn sample(line: Reader) -> Result<(), Failure> {
 
 // One line: the list's name, the totals, and where the first difference is.
 fn replay(rt: &(impl Files + AllocGlobal + Print), list: List) -> io::Result<()> {
-    let name = list.name();
-    let path = format!(in rt.alloc(); "{name}.txt")?;
-    let text = test_text::read_list(rt, rt.alloc(), &path, TEXT)?;
-    let tally = list.replay(rt.alloc(), &text)?;
+    let path = list.path();
+    let name = path.trim_end_matches(".txt");
+    let text = test_text::read_list(rt, rt.alloc(), path, TEXT)?;
+    let tally = list.replay(&text);
     println!(rt; "{name} {tally}")
 }
 

@@ -1,5 +1,5 @@
 // The cases of the exported calls but ask, commit, finish, run and bulk load: a file for each list, whose `agrees` says whether a case
-// does. The calls are made on rows that are owned here, as long as the case says. The ring's rows and pending are lent with 7 in every
+// does. The calls are made on rows that are owned here, lent as long as the case says. The ring's rows and pending are lent with 7 in every
 // entry. Each case begins where its reader stands, and the first line of it that is not as it should be is its difference.
 #![tactic(auto)]
 

@@ -4,25 +4,23 @@
 // zeros.
 use angle::Point2;
 use fithmoul::results::LocateResult;
-use std::alloc::Global;
 use test_mesh::{LENT, Mesh, Ring, lines};
 use test_text::{Failure, Reader, demand};
 
 fn locate_on(mesh: &Mesh, ring: &mut Ring, center: Point2, angle: f64) -> LocateResult {
     let counts = mesh.counts;
-    let rows = &mesh.rows;
     fithmoul::fithmoul_locate(
         counts.vertices,
         counts.edges,
         counts.faces,
-        &rows.positions,
-        &rows.heights,
-        &rows.outs,
-        &rows.halves,
-        &rows.faces,
-        &mut ring.nodes,
-        &mut ring.freed,
-        &mut ring.buckets,
+        mesh.positions.as_slice(),
+        mesh.heights.as_slice(),
+        mesh.outs.as_slice(),
+        mesh.halves.as_slice(),
+        mesh.faces.as_slice(),
+        ring.nodes.as_mut_slice(),
+        ring.freed.as_mut_slice(),
+        ring.buckets.as_mut_slice(),
         center.x,
         center.y,
         angle,
@@ -36,9 +34,9 @@ fn read_angle(mut line: Reader) -> Result<u64, Failure> {
 }
 
 // A line `l`, of the mesh whose line `m` stands where another reader is.
-pub fn agrees(alloc: Global, mut text: Reader, mut line: Reader) -> Result<(), Failure> {
-    let mesh = LENT.read(alloc, &mut text)?;
-    let mut ring = Ring::read(alloc, &mut text)?;
+pub fn agrees(mut text: Reader, mut line: Reader) -> Result<(), Failure> {
+    let mesh = LENT.read(&mut text)?;
+    let mut ring = Ring::read(&mut text)?;
     let center = lines::read_center(&mut text, b'x')?;
     let angle = read_angle(line)?;
     let r = locate_on(&mesh, &mut ring, center, test_text::double(angle));

@@ -6,14 +6,13 @@ use angle::Point2;
 use fithmoul::results::StepResult;
 use math::Point;
 use mesh::Counts;
-use std::alloc::Global;
-use test_mesh::{LENT, Mesh, Ring, WORDS, lines};
+use test_mesh::{LENT, Mesh, Ring, WORDS, Words, lines};
 use test_text::{Failure, Reader, demand};
 
 fn step_on(
     mesh: &mut Mesh,
     ring: &mut Ring,
-    pending: &mut [u32],
+    pending: &mut Words,
     center: Point2,
     point: Point,
     z: i32,
@@ -23,15 +22,15 @@ fn step_on(
         counts.vertices,
         counts.edges,
         counts.faces,
-        &mut mesh.rows.positions,
-        &mut mesh.rows.heights,
-        &mut mesh.rows.outs,
-        &mut mesh.rows.halves,
-        &mut mesh.rows.faces,
-        &mut ring.nodes,
-        &mut ring.freed,
-        &mut ring.buckets,
-        pending,
+        mesh.positions.as_mut_slice(),
+        mesh.heights.as_mut_slice(),
+        mesh.outs.as_mut_slice(),
+        mesh.halves.as_mut_slice(),
+        mesh.faces.as_mut_slice(),
+        ring.nodes.as_mut_slice(),
+        ring.freed.as_mut_slice(),
+        ring.buckets.as_mut_slice(),
+        pending.as_mut_slice(),
         center.x,
         center.y,
         point.x,
@@ -46,18 +45,18 @@ fn step_on(
     r
 }
 
-pub fn agrees(alloc: Global, mut text: Reader) -> Result<(), Failure> {
-    let lent = LENT.read(alloc, &mut text)?;
-    let mut ring = Ring::read(alloc, &mut text)?;
-    let mut pending: Vec<u32> = lines::read_sevens(alloc, &mut text, b'q', WORDS)?;
+pub fn agrees(mut text: Reader) -> Result<(), Failure> {
+    let lent = LENT.read(&mut text)?;
+    let mut ring = Ring::read(&mut text)?;
+    let mut pending = Words::sevens(lines::read_sevens(&mut text, b'q', WORDS)?);
     let center = lines::read_center(&mut text, b'x')?;
     let point = lines::read_point(&mut text)?;
     let z = lines::read_point_height(&mut text)?;
-    let mut mesh = lent.clone()?;
+    let mut mesh = lent;
     let r = step_on(&mut mesh, &mut ring, &mut pending, center, point, z);
     let cleared = lines::cleared(&text);
-    demand(ring.holds(cleared) && test_mesh::holds(&pending, cleared))?;
-    lines::demand_mesh(alloc, &mut text, &lent, &mesh)?;
+    demand(ring.holds(cleared) && test_mesh::holds(pending.as_slice(), cleared))?;
+    lines::demand_mesh(&mut text, &lent, &mesh)?;
     // Refusal, place, fate, vertex, faces and flips.
     text.line_of(
         b'r',

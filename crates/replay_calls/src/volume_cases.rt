@@ -2,44 +2,41 @@
 // heights at the limits, volumes at a half cubic metre and one beside it on both sides of zero, single heights, areas at the ends of 32
 // bits and past those of a double, oddities of the mesh, and every refusal. The mesh cannot be changed: its rows are lent to be read.
 use fithmoul::results::{AreaTotalResult, VolumeResult};
-use std::alloc::Global;
 use test_mesh::{LENT, Mesh, lines};
 use test_text::{Failure, Reader};
 
 fn volume_on(mesh: &Mesh, level: i32) -> VolumeResult {
     let counts = mesh.counts;
-    let rows = &mesh.rows;
     fithmoul::fithmoul_volume(
         counts.vertices,
         counts.edges,
         counts.faces,
-        &rows.positions,
-        &rows.heights,
-        &rows.outs,
-        &rows.halves,
-        &rows.faces,
+        mesh.positions.as_slice(),
+        mesh.heights.as_slice(),
+        mesh.outs.as_slice(),
+        mesh.halves.as_slice(),
+        mesh.faces.as_slice(),
         level,
     )
 }
 
 fn area_total_on(mesh: &Mesh) -> AreaTotalResult {
     let counts = mesh.counts;
-    let rows = &mesh.rows;
     fithmoul::fithmoul_area_total(
         counts.vertices,
         counts.edges,
         counts.faces,
-        &rows.positions,
-        &rows.heights,
-        &rows.outs,
-        &rows.halves,
-        &rows.faces,
+        mesh.positions.as_slice(),
+        mesh.heights.as_slice(),
+        mesh.outs.as_slice(),
+        mesh.halves.as_slice(),
+        mesh.faces.as_slice(),
     )
 }
 
 // The line `r` has the volume and the line `a` the area total; the cubic metres stand there by their pattern in two's complement.
-pub fn agrees(alloc: Global, mut text: Reader) -> Result<(), Failure> {
-    let mesh = LENT.read(alloc, &mut text)?;
+pub fn agrees(mut text: Reader) -> Result<(), Failure> {
+    let mesh = LENT.read(&mut text)?;
     let level = lines::read_height(&mut text, b'l')?;
     let r = volume_on(&mesh, level);
     text.line_of(

@@ -5,7 +5,6 @@
 
 ghost use Rattle.std.specs.Prelude.{◌<◌, length, OnOk};
 
-use std::alloc::{AllocError, Global};
 use std::io;
 use test_text::tally::Tally;
 use test_text::{Failure, Reader};
@@ -25,10 +24,10 @@ struct Case<'a> {
 
 impl Case<'_> {
     // Whether the listing of the input is the one that must come.
-    fn agrees(self, alloc: Global) -> Result<bool, AllocError> {
-        let mut row = vec![in alloc; 0; ROW]?;
+    fn agrees(self) -> bool {
+        let mut row = [0; ROW];
         let end = listing_run::list(self.given, &mut row);
-        Ok(&row[..end] == self.told)
+        &row[..end] == self.told
     }
 }
 
@@ -48,12 +47,12 @@ fn is_closing(mut text: Reader, tally: Tally) -> bool {
 }
 
 // Every case of the list, and whether the list is closed. Behind a case that cannot be read nothing is.
-fn run(alloc: Global, list: &[u8]) -> Result<(Tally, bool), AllocError> {
+fn run(list: &[u8]) -> (Tally, bool) {
     let mut tally = Tally::default();
     let mut rest = Reader { rest: list };
     while let Some(tag) = rest.peek() {
         if tag == b'z' {
-            return Ok((tally, is_closing(rest, tally)));
+            return (tally, is_closing(rest, tally));
         }
         if tag == b'#' {
             rest.next_line();
@@ -62,24 +61,24 @@ fn run(alloc: Global, list: &[u8]) -> Result<(Tally, bool), AllocError> {
         let at = list.len() - rest.rest.len();
         let Ok(case) = read_case(&mut rest) else {
             tally.count(false, at);
-            return Ok((tally, false));
+            return (tally, false);
         };
-        tally.count(case.agrees(alloc)?, at);
+        tally.count(case.agrees(), at);
     }
-    Ok((tally, false))
+    (tally, false)
 }
 
 // The result of a list: whether nothing of it was cut off counts too.
-fn replay(alloc: Global, list: &[u8]) -> Result<Tally, AllocError> {
-    let (mut tally, is_closed) = run(alloc, list)?;
+fn replay(list: &[u8]) -> Tally {
+    let (mut tally, is_closed) = run(list);
     if !is_closed || list.len() == LIST {
         tally.count(false, list.len());
     }
-    Ok(tally)
+    tally
 }
 
 fn main(rt: HostRuntime) -> io::Result<()> {
     let list = test_text::read_list(&rt, rt.alloc(), "listing.txt", LIST)?;
-    let tally = replay(rt.alloc(), &list)?;
+    let tally = replay(&list);
     println!(rt; "listing {tally}")
 }

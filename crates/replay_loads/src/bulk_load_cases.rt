@@ -4,32 +4,31 @@
 // them, the ring's rows, pending and the answers full of sevens.
 use fithmoul::results::BulkLoadResult;
 use mesh::Counts;
-use std::alloc::Global;
-use test_mesh::{LENT, LONGS, Mesh, Ring, WORDS, lines};
+use test_mesh::{Coordinates, LENT, LONGS, Longs, Mesh, Ring, WORDS, Words, lines};
 use test_text::{Failure, Reader, demand};
 
 // Of the mesh only the rows are lent: the call is given no counts.
 fn bulk_load_on(
     mesh: &mut Mesh,
     ring: &mut Ring,
-    pending: &mut [u32],
-    answers: &mut [u64],
-    points: &[i32],
-    point_heights: &[i32],
+    pending: &mut Words,
+    answers: &mut Longs,
+    points: &Coordinates,
+    point_heights: &Coordinates,
 ) -> BulkLoadResult {
     let r = fithmoul::fithmoul_bulk_load(
-        &mut mesh.rows.positions,
-        &mut mesh.rows.heights,
-        &mut mesh.rows.outs,
-        &mut mesh.rows.halves,
-        &mut mesh.rows.faces,
-        &mut ring.nodes,
-        &mut ring.freed,
-        &mut ring.buckets,
-        pending,
-        answers,
-        points,
-        point_heights,
+        mesh.positions.as_mut_slice(),
+        mesh.heights.as_mut_slice(),
+        mesh.outs.as_mut_slice(),
+        mesh.halves.as_mut_slice(),
+        mesh.faces.as_mut_slice(),
+        ring.nodes.as_mut_slice(),
+        ring.freed.as_mut_slice(),
+        ring.buckets.as_mut_slice(),
+        pending.as_mut_slice(),
+        answers.as_mut_slice(),
+        points.as_slice(),
+        point_heights.as_slice(),
     );
     mesh.counts = Counts {
         vertices: r.vertices,
@@ -63,15 +62,15 @@ fn demand_bare(mut text: Reader) -> Result<(), Failure> {
     text.line_of(b'm', &[0u32; 3])
 }
 
-pub fn agrees(alloc: Global, mut text: Reader) -> Result<(), Failure> {
+pub fn agrees(mut text: Reader) -> Result<(), Failure> {
     demand_bare(text)?;
-    let lent = LENT.read(alloc, &mut text)?;
-    let mut ring = Ring::read(alloc, &mut text)?;
-    let mut pending: Vec<u32> = lines::read_sevens(alloc, &mut text, b'q', WORDS)?;
-    let mut answers: Vec<u64> = lines::read_sevens(alloc, &mut text, b'w', LONGS)?;
-    let points = lines::read_counted_points(alloc, &mut text)?;
-    let point_heights = test_mesh::read_heights(alloc, &mut text, b'y')?;
-    let mut mesh = lent.clone()?;
+    let lent = LENT.read(&mut text)?;
+    let mut ring = Ring::read(&mut text)?;
+    let mut pending = Words::sevens(lines::read_sevens(&mut text, b'q', WORDS)?);
+    let mut answers = Longs::sevens(lines::read_sevens(&mut text, b'w', LONGS)?);
+    let points = lines::read_counted_points(&mut text)?;
+    let point_heights = test_mesh::read_heights(&mut text, b'y')?;
+    let mut mesh = lent;
     let r = bulk_load_on(
         &mut mesh,
         &mut ring,
@@ -81,8 +80,8 @@ pub fn agrees(alloc: Global, mut text: Reader) -> Result<(), Failure> {
         &point_heights,
     );
     let cleared = lines::cleared(&text);
-    demand(ring.holds(cleared) && test_mesh::holds(&pending, cleared))?;
-    lines::demand_mesh(alloc, &mut text, &lent, &mesh)?;
-    lines::demand_answers(alloc, &mut text, &answers)?;
+    demand(ring.holds(cleared) && test_mesh::holds(pending.as_slice(), cleared))?;
+    lines::demand_mesh(&mut text, &lent, &mesh)?;
+    lines::demand_answers(&mut text, answers.as_slice())?;
     demand_result(&mut text, r)
 }

@@ -5,7 +5,6 @@ use angle::Point2;
 use fithmoul::results::AskResult;
 use math::Point;
 use quote::Quote;
-use std::alloc::Global;
 use test_mesh::{LENT, Mesh, Ring, lines};
 use test_text::{Failure, Reader, demand};
 
@@ -28,20 +27,19 @@ fn ask_on(
     z: i32,
 ) -> AskResult {
     let counts = mesh.counts;
-    let rows = &mesh.rows;
     fithmoul::fithmoul_ask(
         counts.vertices,
         counts.edges,
         counts.faces,
         changes,
-        &rows.positions,
-        &rows.heights,
-        &rows.outs,
-        &rows.halves,
-        &rows.faces,
-        &mut ring.nodes,
-        &mut ring.freed,
-        &mut ring.buckets,
+        mesh.positions.as_slice(),
+        mesh.heights.as_slice(),
+        mesh.outs.as_slice(),
+        mesh.halves.as_slice(),
+        mesh.faces.as_slice(),
+        ring.nodes.as_mut_slice(),
+        ring.freed.as_mut_slice(),
+        ring.buckets.as_mut_slice(),
         center.x,
         center.y,
         point.x,
@@ -50,10 +48,10 @@ fn ask_on(
     )
 }
 
-pub fn agrees(alloc: Global, mut text: Reader) -> Result<(), Failure> {
-    let mesh = LENT.read(alloc, &mut text)?;
+pub fn agrees(mut text: Reader) -> Result<(), Failure> {
+    let mesh = LENT.read(&mut text)?;
     let changes = lines::read_changes(&mut text)?;
-    let mut ring = Ring::read(alloc, &mut text)?;
+    let mut ring = Ring::read(&mut text)?;
     let center = lines::read_center(&mut text, b'x')?;
     let point = lines::read_point(&mut text)?;
     let z = lines::read_point_height(&mut text)?;

@@ -7,15 +7,14 @@ use fithmoul::results::CommitResult;
 use math::Point;
 use mesh::Counts;
 use quote::Quote;
-use std::alloc::Global;
-use test_mesh::{LENT, Mesh, Ring, WORDS, lines};
+use test_mesh::{LENT, Mesh, Ring, WORDS, Words, lines};
 use test_text::{Failure, Reader, demand};
 
 fn commit_on(
     mesh: &mut Mesh,
     changes: u32,
     ring: &mut Ring,
-    pending: &mut [u32],
+    pending: &mut Words,
     center: Point2,
     point: Point,
     z: i32,
@@ -27,15 +26,15 @@ fn commit_on(
         counts.edges,
         counts.faces,
         changes,
-        &mut mesh.rows.positions,
-        &mut mesh.rows.heights,
-        &mut mesh.rows.outs,
-        &mut mesh.rows.halves,
-        &mut mesh.rows.faces,
-        &mut ring.nodes,
-        &mut ring.freed,
-        &mut ring.buckets,
-        pending,
+        mesh.positions.as_mut_slice(),
+        mesh.heights.as_mut_slice(),
+        mesh.outs.as_mut_slice(),
+        mesh.halves.as_mut_slice(),
+        mesh.faces.as_mut_slice(),
+        ring.nodes.as_mut_slice(),
+        ring.freed.as_mut_slice(),
+        ring.buckets.as_mut_slice(),
+        pending.as_mut_slice(),
         center.x,
         center.y,
         point.x,
@@ -51,16 +50,16 @@ fn commit_on(
     r
 }
 
-pub fn agrees(alloc: Global, mut text: Reader) -> Result<(), Failure> {
-    let lent = LENT.read(alloc, &mut text)?;
+pub fn agrees(mut text: Reader) -> Result<(), Failure> {
+    let lent = LENT.read(&mut text)?;
     let changes = lines::read_changes(&mut text)?;
-    let mut ring = Ring::read(alloc, &mut text)?;
-    let mut pending: Vec<u32> = lines::read_sevens(alloc, &mut text, b'q', WORDS)?;
+    let mut ring = Ring::read(&mut text)?;
+    let mut pending = Words::sevens(lines::read_sevens(&mut text, b'q', WORDS)?);
     let center = lines::read_center(&mut text, b'x')?;
     let point = lines::read_point(&mut text)?;
     let z = lines::read_point_height(&mut text)?;
     let quote = lines::read_quote(&mut text, b'g')?;
-    let mut mesh = lent.clone()?;
+    let mut mesh = lent;
     let r = commit_on(
         &mut mesh,
         changes,
@@ -72,8 +71,8 @@ pub fn agrees(alloc: Global, mut text: Reader) -> Result<(), Failure> {
         quote,
     );
     let cleared = lines::cleared(&text);
-    demand(ring.holds(cleared) && test_mesh::holds(&pending, cleared))?;
-    lines::demand_mesh(alloc, &mut text, &lent, &mesh)?;
+    demand(ring.holds(cleared) && test_mesh::holds(pending.as_slice(), cleared))?;
+    lines::demand_mesh(&mut text, &lent, &mesh)?;
     // Refusal, place, fate, vertex, faces, flips and the change count.
     text.line_of(
         b'r',

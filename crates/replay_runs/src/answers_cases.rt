@@ -4,10 +4,12 @@
 // entry of the rows. A run makes the same steps and goes on with all passes, the skipped points and the closing pass. Its answers must be
 // the Rust's too, and it must leave what a finish makes of the Rust's last mesh, with the faces and flips of the first pass and of that
 // finish added up. Where the Rust's search goes on for ever, or a later pass adds a face, there is no such mesh: then the run is accepted.
+ghost use Rattle.std.specs.Prelude.{IfOk};
+ghost use Rattle.test_mesh.specs.Lent.{CoordinatesLent};
+
 use angle::Point2;
 use fithmoul::results::{FinishResult, RunResult};
-use std::alloc::Global;
-use test_mesh::{LONGS, Mesh, NODES, PLAIN, Ring, WORDS, lines};
+use test_mesh::{Coordinates, LONGS, Longs, Mesh, NODES, PLAIN, Ring, WORDS, Words, lines};
 use test_text::{Failure, Number, Reader, demand};
 
 // What a pass of `fix_convexity` adds and flips.
@@ -25,9 +27,11 @@ fn read_number_line(text: &mut Reader) -> Result<(), Failure> {
 }
 
 // The line `q`, with the points.
-fn read_points(alloc: Global, text: &mut Reader) -> Result<Vec<i32>, Failure> {
+fn read_points(text: &mut Reader) -> Result<Coordinates, Failure>
+    ensures { IfOk result CoordinatesLent }
+{
     text.take(b'q')?;
-    lines::read_points(alloc, text)
+    lines::read_points(text)
 }
 
 // The line `g faces flips`, of the first pass.
@@ -40,86 +44,76 @@ fn read_pass(text: &mut Reader) -> Result<Pass, Failure> {
 }
 
 // The mesh must be the one that stands here. Behind the entries that are written both have zeros.
-fn demand_mesh(alloc: Global, text: &mut Reader, mesh: &Mesh) -> Result<(), Failure> {
-    demand(mesh.is(&PLAIN.read(alloc, text)?))
+fn demand_mesh(text: &mut Reader, mesh: &Mesh) -> Result<(), Failure> {
+    demand(mesh.is(&PLAIN.read(text)?))
 }
 
 // The answers must be those of the line that stands here, which has a tag, and untouched behind them.
-fn demand_answers(
-    alloc: Global,
-    text: &mut Reader,
-    tag: u8,
-    answers: &[u64],
-) -> Result<(), Failure> {
-    let due = test_mesh::read_plain_row(alloc, text, tag, LONGS, Number::from(7u32))?;
-    demand(test_mesh::are_due(answers, &due))
+fn demand_answers(text: &mut Reader, tag: u8, answers: &Longs) -> Result<(), Failure> {
+    let mut due = [Number::from(0u32); LONGS];
+    let length = test_mesh::read_plain_row(text, tag, &mut due, Number::from(7u32))?;
+    demand(test_mesh::are_due(answers.as_slice(), &due[..length]))
 }
 
 // A run that stops before its finish; its answers.
-fn steps_on(
-    alloc: Global,
-    mesh: &mut Mesh,
-    center: Point2,
-    points: &[i32],
-) -> Result<Vec<u64>, Failure> {
-    let mut ring = Ring::sevens(alloc, NODES, WORDS, WORDS)?;
-    let mut pending = vec![in alloc; 7; WORDS]?;
-    let mut answers = vec![in alloc; 7; LONGS]?;
+fn steps_on(mesh: &mut Mesh, center: Point2, points: &Coordinates) -> Longs {
+    let mut ring = Ring::sevens(NODES, WORDS, WORDS);
+    let mut pending = Words::sevens(WORDS);
+    let mut answers = Longs::sevens(LONGS);
     let end = stages::steps(
         mesh.counts,
-        &mut mesh.rows.positions,
-        &mut mesh.rows.outs,
-        &mut mesh.rows.halves,
-        &mut mesh.rows.faces,
-        &mut ring.nodes,
-        &mut ring.freed,
-        &mut ring.buckets,
-        &mut pending,
-        &mut answers,
+        mesh.positions.as_mut_slice(),
+        mesh.outs.as_mut_slice(),
+        mesh.halves.as_mut_slice(),
+        mesh.faces.as_mut_slice(),
+        ring.nodes.as_mut_slice(),
+        ring.freed.as_mut_slice(),
+        ring.buckets.as_mut_slice(),
+        pending.as_mut_slice(),
+        answers.as_mut_slice(),
         center,
-        points,
+        points.as_slice(),
     );
     mesh.counts = end.counts;
-    Ok(answers)
+    answers
 }
 
 // One pass of `fix_convexity`.
-fn pass_on(alloc: Global, mesh: &mut Mesh) -> Result<Pass, Failure> {
-    let mut pending = vec![in alloc; 7; WORDS]?;
+fn pass_on(mesh: &mut Mesh) -> Pass {
+    let mut pending = Words::sevens(WORDS);
     let added = stages::pass(
         mesh.counts,
-        &mesh.rows.positions,
-        &mut mesh.rows.outs,
-        &mut mesh.rows.halves,
-        &mut mesh.rows.faces,
-        &mut pending,
+        mesh.positions.as_slice(),
+        mesh.outs.as_mut_slice(),
+        mesh.halves.as_mut_slice(),
+        mesh.faces.as_mut_slice(),
+        pending.as_mut_slice(),
     );
     mesh.counts = added.counts;
-    Ok(Pass {
+    Pass {
         faces: u64::from(added.faces),
         flips: added.flips,
-    })
+    }
 }
 
 // A finish that must leave zeros in pending.
-fn finish_on(alloc: Global, mesh: &mut Mesh) -> Result<FinishResult, Failure> {
-    let mut pending = vec![in alloc; 7; WORDS]?;
+fn finish_on(mesh: &mut Mesh) -> Result<FinishResult, Failure> {
+    let mut pending = Words::sevens(WORDS);
     let r = super::finish_on(mesh, &mut pending);
-    demand(test_mesh::holds(&pending, 0))?;
+    demand(test_mesh::holds(pending.as_slice(), 0))?;
     Ok(r)
 }
 
 // A run on a mesh whose change count is 7, which must start the count at 0, and leave zeros in the ring's rows and pending.
 fn run_on(
-    alloc: Global,
     mesh: &mut Mesh,
-    answers: &mut [u64],
+    answers: &mut Longs,
     center: Point2,
-    points: &[i32],
+    points: &Coordinates,
 ) -> Result<RunResult, Failure> {
-    let mut ring = Ring::sevens(alloc, NODES, WORDS, WORDS)?;
-    let mut pending = vec![in alloc; 7; WORDS]?;
-    let point_heights = test_mesh::zero_heights(alloc)?;
+    let mut ring = Ring::sevens(NODES, WORDS, WORDS);
+    let mut pending = Words::sevens(WORDS);
+    let point_heights = test_mesh::zero_heights();
     let r = super::run_on(
         mesh,
         7,
@@ -130,7 +124,7 @@ fn run_on(
         points,
         &point_heights,
     );
-    demand(ring.holds(0) && test_mesh::holds(&pending, 0) && r.changes == 0)?;
+    demand(ring.holds(0) && test_mesh::holds(pending.as_slice(), 0) && r.changes == 0)?;
     Ok(r)
 }
 
@@ -150,36 +144,35 @@ fn is_last(mut text: Reader, tag: u8) -> bool {
 
 // The run must agree with the lines behind the first pass.
 fn demand_run(
-    alloc: Global,
     mut text: Reader,
     mut mesh: Mesh,
     center: Point2,
-    points: &[i32],
+    points: &Coordinates,
     pass: Pass,
 ) -> Result<(), Failure> {
-    let mut answers = vec![in alloc; 7; LONGS]?;
-    let r = run_on(alloc, &mut mesh, &mut answers, center, points)?;
+    let mut answers = Longs::sevens(LONGS);
+    let r = run_on(&mut mesh, &mut answers, center, points)?;
     if is_last(text, b'l') || is_last(text, b'b') {
         return demand(r.refusal == 0);
     }
-    demand_answers(alloc, &mut text, b'b', &answers)?;
-    let mut due = PLAIN.read(alloc, &mut text)?;
-    let rest = finish_on(alloc, &mut due)?;
+    demand_answers(&mut text, b'b', &answers)?;
+    let mut due = PLAIN.read(&mut text)?;
+    let rest = finish_on(&mut due)?;
     demand(mesh.is(&due) && add_up(r, pass, rest))?;
     text.line_of::<u64>(b'e', &[])
 }
 
-pub fn agrees(alloc: Global, mut text: Reader) -> Result<(), Failure> {
+pub fn agrees(mut text: Reader) -> Result<(), Failure> {
     read_number_line(&mut text)?;
-    let seed = PLAIN.read(alloc, &mut text)?;
+    let seed = PLAIN.read(&mut text)?;
     let center = lines::read_center(&mut text, b'c')?;
-    let points = read_points(alloc, &mut text)?;
-    let mut mesh = seed.clone()?;
-    let answers = steps_on(alloc, &mut mesh, center, &points)?;
-    demand_answers(alloc, &mut text, b'a', &answers)?;
-    demand_mesh(alloc, &mut text, &mesh)?;
-    let pass = pass_on(alloc, &mut mesh)?;
+    let points = read_points(&mut text)?;
+    let mut mesh = seed;
+    let answers = steps_on(&mut mesh, center, &points);
+    demand_answers(&mut text, b'a', &answers)?;
+    demand_mesh(&mut text, &mesh)?;
+    let pass = pass_on(&mut mesh);
     demand(read_pass(&mut text)? == pass)?;
-    demand_mesh(alloc, &mut text, &mesh)?;
-    demand_run(alloc, text, seed, center, &points, pass)
+    demand_mesh(&mut text, &mesh)?;
+    demand_run(text, seed, center, &points, pass)
 }

@@ -1,2 +1,2 @@
--- `Lent` says that no row is longer than it may be in a list.
+-- `Lent` says that no more of a row is lent than it has.
 pub mod Lent

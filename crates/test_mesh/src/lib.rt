@@ -5,14 +5,16 @@
 #![tactic(auto)]
 
 ghost use Rattle.std.specs.Prelude.{◌≡◌, ◌≤◌, length, replicate, pos, ◌↔◌, IsTrue, All, IfOk};
-ghost use Rattle.test_mesh.specs.Lent.{RingLent, RowsLent};
+ghost use Rattle.test_mesh.specs.Lent.{CoordinatesLent, MeshLent, RingLent};
 
 use mesh::Counts;
 use ring_rows::Node;
-use std::alloc::Global;
 use test_text::{Entry, Failure, Number, Reader};
 
 pub mod lines;
+pub mod rows;
+
+pub use rows::{Coordinates, Longs, Nodes, Words};
 
 // No row of a list is longer than these.
 pub const COORDINATES: usize = 512;
@@ -50,63 +52,52 @@ pub const PLAIN: Form = Form {
 };
 
 // `heights` has a number for each vertex.
-#[derive(Clone, PartialEq, Drop)]
-pub struct Rows {
-    pub positions: Vec<i32>,
-    pub heights: Vec<i32>,
-    pub outs: Vec<u32>,
-    pub halves: Vec<u32>,
-    pub faces: Vec<u32>,
-}
-
-#[derive(Clone, Drop)]
+#[derive(Clone, Copy)]
 pub struct Mesh {
     pub counts: Counts,
-    pub rows: Rows,
+    pub positions: Coordinates,
+    pub heights: Coordinates,
+    pub outs: Words,
+    pub halves: Words,
+    pub faces: Words,
 }
 
 // The rows of the ring.
-#[derive(Drop)]
+#[derive(Clone, Copy)]
 pub struct Ring {
-    pub nodes: Vec<Node>,
-    pub freed: Vec<u32>,
-    pub buckets: Vec<u32>,
+    pub nodes: Nodes,
+    pub freed: Words,
+    pub buckets: Words,
 }
 
-// The entries that are written from here to the line's end, and `past` behind them.
-fn read_entries<T: Entry>(
-    alloc: Global,
-    text: &mut Reader,
-    count: usize,
-    past: T,
-) -> Result<Vec<T>, Failure>
-    ensures length { IfOk result (λ row. length row.items ≡ count) }
+// The entries that are written from here to the line's end, and `past` behind them, in a whole row; how many it has.
+fn read_entries<T: Entry>(text: &mut Reader, row: &mut [T], past: T) -> Result<usize, Failure>
+    ensures length { IfOk result (λ n. n ≡ length row.old) }
     ensures not_longer { length text.new.rest.now ≤ length text.old.rest.now }
 {
-    let mut row = vec![in alloc; past; count]?;
     for entry in row.iter_mut() {
-        if text.peek() != Some(b' ') {
-            break;
-        }
-        *entry = text.entry()?;
+        *entry = if text.peek() == Some(b' ') {
+            text.entry()?
+        } else {
+            past
+        };
     }
     text.take(b'\n')?;
-    Ok(row)
+    Ok(row.len())
 }
 
-// A plain line of a row.
+// A plain line of a row, which has all its entries; how many these are.
 pub fn read_plain_row<T: Entry>(
-    alloc: Global,
     text: &mut Reader,
     tag: u8,
-    count: usize,
+    row: &mut [T],
     past: T,
-) -> Result<Vec<T>, Failure>
-    ensures length { IfOk result (λ row. length row.items ≡ count) }
+) -> Result<usize, Failure>
+    ensures length { IfOk result (λ n. n ≡ length row.old) }
     ensures not_longer { length text.new.rest.now ≤ length text.old.rest.now }
 {
     text.take(tag)?;
-    read_entries(alloc, text, count, past)
+    read_entries(text, row, past)
 }
 
 // The length of a row that can be lent so many entries.
@@ -119,37 +110,37 @@ fn read_length(text: &mut Reader, most: usize) -> Result<usize, Failure>
     Ok(length)
 }
 
-// A line of a row.
-pub fn read_row<T: Entry>(
-    alloc: Global,
-    text: &mut Reader,
-    tag: u8,
-    most: usize,
-) -> Result<Vec<T>, Failure>
-    ensures most { IfOk result (λ row. length row.items ≤ most) }
+// A line of a row, which has the first entries of this one; how many these are.
+pub fn read_row<T: Entry>(text: &mut Reader, tag: u8, row: &mut [T]) -> Result<usize, Failure>
+    ensures most { IfOk result (λ n. n ≤ length row.old) }
     ensures not_longer { length text.new.rest.now ≤ length text.old.rest.now }
 {
     text.take(tag)?;
-    let length = read_length(text, most)?;
+    let length = read_length(text, row.len())?;
     let past = text.entry()?;
-    read_entries(alloc, text, length, past)
+    read_entries(text, &mut row[..length], past)
 }
 
 // Heights, whose line may be missing: then they are zeros, and more than any list needs.
-pub fn read_heights(alloc: Global, text: &mut Reader, tag: u8) -> Result<Vec<i32>, Failure>
-    ensures most { IfOk result (λ row. length row.items ≤ 512) }
+pub fn read_heights(text: &mut Reader, tag: u8) -> Result<Coordinates, Failure>
+    ensures lent { IfOk result CoordinatesLent }
     ensures not_longer { length text.new.rest.now ≤ length text.old.rest.now }
 {
+    let mut heights = zero_heights();
     if text.peek() == Some(tag) {
-        return read_row(alloc, text, tag, COORDINATES);
+        heights.length = read_row(text, tag, &mut heights.row)?;
     }
-    zero_heights(alloc)
+    Ok(heights)
 }
 
-pub fn zero_heights(alloc: Global) -> Result<Vec<i32>, Failure>
-    ensures { IfOk result (λ row. row.items ≡ replicate 512 (pos 0)) }
+pub fn zero_heights() -> Coordinates
+    ensures zeros { result ≡ record { row = replicate 512 (pos 0); length = 512 } }
+    ensures lent { CoordinatesLent result }
 {
-    Ok(vec![in alloc; 0; COORDINATES]?)
+    Coordinates {
+        row: [0; COORDINATES],
+        length: COORDINATES,
+    }
 }
 
 // The line with the counts.
@@ -171,42 +162,46 @@ fn read_counts(text: &mut Reader, tag: u8) -> Result<Counts, Failure>
 impl Form {
     fn read_row<T: Entry + Default>(
         self,
-        alloc: Global,
         text: &mut Reader,
         tag: u8,
-        most: usize,
-    ) -> Result<Vec<T>, Failure>
-        ensures most { IfOk result (λ row. length row.items ≤ most) }
+        row: &mut [T],
+    ) -> Result<usize, Failure>
+        ensures most { IfOk result (λ n. n ≤ length row.old) }
         ensures not_longer { length text.new.rest.now ≤ length text.old.rest.now }
     {
         if self.is_plain {
-            read_plain_row(alloc, text, tag, most, T::default())
+            read_plain_row(text, tag, row, T::default())
         } else {
-            read_row(alloc, text, tag, most)
+            read_row(text, tag, row)
         }
     }
 
     // Six lines; that of the heights may be missing.
-    pub fn read(self, alloc: Global, text: &mut Reader) -> Result<Mesh, Failure>
-        ensures lent { IfOk result (λ mesh. RowsLent mesh.rows) }
+    pub fn read(self, text: &mut Reader) -> Result<Mesh, Failure>
+        ensures lent { IfOk result MeshLent }
         ensures not_longer { length text.new.rest.now ≤ length text.old.rest.now }
     {
         let [m, p, e, o, h, f] = self.tags;
-        Ok(Mesh {
+        let words = Words::sevens(WORDS);
+        let mut mesh = Mesh {
             counts: read_counts(text, m)?,
-            rows: Rows {
-                positions: self.read_row(alloc, text, p, COORDINATES)?,
-                heights: read_heights(alloc, text, e)?,
-                outs: self.read_row(alloc, text, o, WORDS)?,
-                halves: self.read_row(alloc, text, h, WORDS)?,
-                faces: self.read_row(alloc, text, f, WORDS)?,
-            },
-        })
+            positions: zero_heights(),
+            heights: zero_heights(),
+            outs: words,
+            halves: words,
+            faces: words,
+        };
+        mesh.positions.length = self.read_row(text, p, &mut mesh.positions.row)?;
+        mesh.heights = read_heights(text, e)?;
+        mesh.outs.length = self.read_row(text, o, &mut mesh.outs.row)?;
+        mesh.halves.length = self.read_row(text, h, &mut mesh.halves.row)?;
+        mesh.faces.length = self.read_row(text, f, &mut mesh.faces.row)?;
+        Ok(mesh)
     }
 }
 
 impl Mesh {
-    // The comparison of the counts stands here, since the library has none.
+    // Whether counts and rows are the same; of a row, what is lent.
     pub fn is(&self, other: &Mesh) -> bool
         ensures { IsTrue result → self.now.counts ≡ other.now.counts }
     {
@@ -215,7 +210,11 @@ impl Mesh {
         a.vertices == b.vertices
             && a.edges == b.edges
             && a.faces == b.faces
-            && self.rows == other.rows
+            && self.positions.as_slice() == other.positions.as_slice()
+            && self.heights.as_slice() == other.heights.as_slice()
+            && self.outs.as_slice() == other.outs.as_slice()
+            && self.halves.as_slice() == other.halves.as_slice()
+            && self.faces.as_slice() == other.faces.as_slice()
     }
 }
 
@@ -243,15 +242,10 @@ fn node_holds(node: &Node, v: u32) -> bool {
 
 impl Ring {
     // Rows that are lent with 7 in every field.
-    pub fn sevens(
-        alloc: Global,
-        nodes: usize,
-        freed: usize,
-        buckets: usize,
-    ) -> Result<Ring, Failure>
-        ensures nodes { IfOk result (λ ring. length ring.nodes.items ≡ nodes) }
-        ensures freed { IfOk result (λ ring. ring.freed.items ≡ replicate freed 7) }
-        ensures buckets { IfOk result (λ ring. ring.buckets.items ≡ replicate buckets 7) }
+    pub fn sevens(nodes: usize, freed: usize, buckets: usize) -> Ring
+        ensures nodes { result.nodes.length ≡ nodes }
+        ensures freed { result.freed ≡ record { row = replicate 6144 7; length = freed } }
+        ensures buckets { result.buckets ≡ record { row = replicate 6144 7; length = buckets } }
     {
         let seven = Node {
             angle: 7.0,
@@ -259,15 +253,18 @@ impl Ring {
             left: 7,
             right: 7,
         };
-        Ok(Ring {
-            nodes: vec![in alloc; seven; nodes]?,
-            freed: vec![in alloc; 7; freed]?,
-            buckets: vec![in alloc; 7; buckets]?,
-        })
+        Ring {
+            nodes: Nodes {
+                row: [seven; NODES],
+                length: nodes,
+            },
+            freed: Words::sevens(freed),
+            buckets: Words::sevens(buckets),
+        }
     }
 
     // `n nodes freed buckets`
-    pub fn read(alloc: Global, text: &mut Reader) -> Result<Ring, Failure>
+    pub fn read(text: &mut Reader) -> Result<Ring, Failure>
         ensures lent { IfOk result RingLent }
         ensures not_longer { length text.new.rest.now ≤ length text.old.rest.now }
     {
@@ -276,13 +273,13 @@ impl Ring {
         let freed = read_length(text, WORDS)?;
         let buckets = read_length(text, WORDS)?;
         text.take(b'\n')?;
-        Ring::sevens(alloc, nodes, freed, buckets)
+        Ok(Ring::sevens(nodes, freed, buckets))
     }
 
     // Whether the rows hold v in every entry.
     pub fn holds(&self, v: u32) -> bool {
-        self.nodes.iter().all(|node| node_holds(node, v))
-            && holds(&self.freed, v)
-            && holds(&self.buckets, v)
+        self.nodes.as_slice().iter().all(|node| node_holds(node, v))
+            && holds(self.freed.as_slice(), v)
+            && holds(self.buckets.as_slice(), v)
     }
 }

@@ -1,11 +1,11 @@
 // The lines that the cases of several calls share.
 ghost use Rattle.std.specs.Prelude.{◌≡◌, ◌≢◌, ◌≤◌, Ok, ◌==◌, if◌then◌else◌, length, slice_get, ◌↔◌, IsTrue, Some, IfOk};
+ghost use Rattle.test_mesh.specs.Lent.{CoordinatesLent};
 
-use super::{COORDINATES, LEFT, LONGS, Mesh};
+use super::{COORDINATES, Coordinates, LEFT, LONGS, Mesh};
 use angle::Point2;
 use math::Point;
 use quote::Quote;
-use std::alloc::{AllocError, Global};
 use test_text::{Entry, Failure, Number, Reader, demand};
 
 // Two whole numbers.
@@ -47,21 +47,16 @@ pub fn read_changes(text: &mut Reader) -> Result<u32, Failure>
     Ok(changes)
 }
 
-// A line of a row that is lent with 7 in every entry, and has none written.
-pub fn read_sevens<T: Entry + PartialEq + From<u8>>(
-    alloc: Global,
-    text: &mut Reader,
-    tag: u8,
-    most: usize,
-) -> Result<Vec<T>, Failure>
-    ensures most { IfOk result (λ row. length row.items ≤ most) }
+// A line of a row that is lent with 7 in every entry, and has none written; how many entries are lent.
+pub fn read_sevens(text: &mut Reader, tag: u8, most: usize) -> Result<usize, Failure>
+    ensures most { IfOk result (λ n. n ≤ most) }
     ensures not_longer { length text.new.rest.now ≤ length text.old.rest.now }
 {
     text.take(tag)?;
     let length = super::read_length(text, most)?;
     demand(text.entry::<u64>()? == 7)?;
     text.take(b'\n')?;
-    Ok(vec![in alloc; T::from(7); length]?)
+    Ok(length)
 }
 
 // A line with a centre.
@@ -124,30 +119,32 @@ pub fn read_quote(text: &mut Reader, tag: u8) -> Result<Quote, Failure>
 }
 
 // The coordinates of points, to the line's end.
-pub fn read_points(alloc: Global, text: &mut Reader) -> Result<Vec<i32>, Failure>
-    ensures most { IfOk result (λ points. length points.items ≤ 512) }
+pub fn read_points(text: &mut Reader) -> Result<Coordinates, Failure>
+    ensures lent { IfOk result CoordinatesLent }
     ensures not_longer { length text.new.rest.now ≤ length text.old.rest.now }
 {
-    let mut points = Vec::new(alloc);
-    for _ in 0..COORDINATES {
+    let mut row = [0; COORDINATES];
+    let mut length = 0;
+    for i in 0..COORDINATES {
         if text.peek() != Some(b' ') {
             break;
         }
-        points.push(text.entry()?).map_err(AllocError::from)?;
+        row[i] = text.entry()?;
+        length = i + 1;
     }
     text.take(b'\n')?;
-    Ok(points)
+    Ok(Coordinates { row, length })
 }
 
 // `v count x y x y ..`; a last number that stands alone counts as a point.
-pub fn read_counted_points(alloc: Global, text: &mut Reader) -> Result<Vec<i32>, Failure>
-    ensures most { IfOk result (λ points. length points.items ≤ 512) }
+pub fn read_counted_points(text: &mut Reader) -> Result<Coordinates, Failure>
+    ensures lent { IfOk result CoordinatesLent }
     ensures not_longer { length text.new.rest.now ≤ length text.old.rest.now }
 {
     text.take(b'v')?;
     let count: u64 = text.entry()?;
-    let points = read_points(alloc, text)?;
-    demand(count == points.len().div_ceil(2) as u64)?;
+    let points = read_points(text)?;
+    demand(count == points.length.div_ceil(2) as u64)?;
     Ok(points)
 }
 
@@ -174,28 +171,24 @@ pub fn cleared_by(refusal: u32) -> u32
 }
 
 // The mesh that a call leaves must be the one that is told here, or else the one that was lent.
-pub fn demand_mesh(
-    alloc: Global,
-    text: &mut Reader,
-    lent: &Mesh,
-    mesh: &Mesh,
-) -> Result<(), Failure>
+pub fn demand_mesh(text: &mut Reader, lent: &Mesh, mesh: &Mesh) -> Result<(), Failure>
     ensures { length text.new.rest.now ≤ length text.old.rest.now }
 {
     if is_told(text) {
-        demand(mesh.is(&LEFT.read(alloc, text)?))
+        demand(mesh.is(&LEFT.read(text)?))
     } else {
         demand(mesh.is(lent))
     }
 }
 
 // The answers must be those of the line `W`, or untouched where there is none.
-pub fn demand_answers(alloc: Global, text: &mut Reader, answers: &[u64]) -> Result<(), Failure>
+pub fn demand_answers(text: &mut Reader, answers: &[u64]) -> Result<(), Failure>
     ensures { length text.new.rest.now ≤ length text.old.rest.now }
 {
     if text.peek() != Some(b'W') {
         return demand(answers.iter().all(|answer| *answer == 7));
     }
-    let due: Vec<Number> = super::read_row(alloc, text, b'W', LONGS)?;
-    demand(super::are_due(answers, &due))
+    let mut due = [Number::from(0u32); LONGS];
+    let length = super::read_row(text, b'W', &mut due)?;
+    demand(super::are_due(answers, &due[..length]))
 }

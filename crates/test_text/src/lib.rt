@@ -3,9 +3,9 @@
 #![tactic(auto)]
 
 ghost use lib.Ieee.{binary64};
-ghost use Rattle.std.specs.Prelude.{◌≡◌, ◌<◌, ◌≤◌, ◌-◌, length, slice_get, is_ok, from_bits, ◌%◌, IfOk, OnOk};
+ghost use Rattle.std.specs.Prelude.{◌≡◌, ◌<◌, ◌≤◌, ◌-◌, length, slice_get, is_ok, from_bits, ◌%◌, OnOk};
 
-use std::alloc::{AllocError, Global};
+use std::alloc::Global;
 use std::fs::File;
 use std::io::Read;
 use std::rt::Files;
@@ -22,17 +22,10 @@ pub fn read_list(rt: &impl Files, alloc: Global, path: &str, most: usize) -> io:
     Ok(text)
 }
 
-// Why a case does not agree, or could not be tried.
+// Why a case does not agree.
 #[derive(Clone, Copy)]
 pub enum Failure {
     Differs,
-    OutOfMemory(AllocError),
-}
-
-impl From<AllocError> for Failure {
-    fn from(error: AllocError) -> Failure {
-        Failure::OutOfMemory(error)
-    }
 }
 
 // What must hold for a case to agree.
@@ -42,14 +35,13 @@ pub fn demand(holds: bool) -> Result<(), Failure>
     if holds { Ok(()) } else { Err(Failure::Differs) }
 }
 
-// Whether a case agrees, where it could be tried.
-pub fn agrees(outcome: Result<(), Failure>) -> Result<bool, AllocError>
-    ensures { IfOk result (λ agrees. agrees ≡ is_ok outcome) }
+// Whether a case agrees.
+pub fn agrees(outcome: Result<(), Failure>) -> bool
+    ensures { result ≡ is_ok outcome }
 {
     match outcome {
-        Ok(()) => Ok(true),
-        Err(Failure::Differs) => Ok(false),
-        Err(Failure::OutOfMemory(error)) => Err(error),
+        Ok(()) => true,
+        Err(Failure::Differs) => false,
     }
 }
 
