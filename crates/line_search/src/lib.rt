@@ -29,7 +29,7 @@ fn key(p: Point) -> i64
     i64::from(p.x) * 4294967296 + (i64::from(p.y) + 2147483648)
 }
 
-// The order of positions. One number takes less time than a pair, and on a line of points this is what nearly all time goes into.
+// The order of positions. One number takes fewer instructions than a pair, and on a line of points nearly all are executed for this.
 fn comes_before(a: Point, b: Point) -> bool
     ensures { result ≡ comes_before a b }
 {
